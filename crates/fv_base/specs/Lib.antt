@@ -1,3 +1,6 @@
+pub mod Failing
+pub mod Kept
 pub mod Outside
+pub mod Sent
 pub mod Store
 pub mod formers

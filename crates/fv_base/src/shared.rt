@@ -1,14 +1,33 @@
 //! That the public types may be shared among threads.
 
+use crate::files::FileFault;
 use crate::list::List;
-use crate::text::Text;
+use crate::mem_files::MemFiles;
+use crate::mem_out::MemOut;
 use crate::memory::Memory;
+use crate::out::OutFault;
+use crate::sure_files::SureFiles;
+use crate::sure_out::SureOut;
+use crate::text::Text;
 
 fn is_shared<T: Send + Sync>(_value: &T) {}
 
-/// Lists of what may be shared may be shared, and so may texts.
-pub(crate) fn are_shared<T: Send + Sync>(text: &Text, list: &List<T>, memory: &Memory) {
+/// Texts may be shared, lists of what may be shared, and faults.
+pub(crate) fn values_are_shared<T: Send + Sync>(text: &Text, list: &List<T>, memory: &Memory) {
     is_shared(text);
     is_shared(list);
     is_shared(memory);
+}
+
+pub(crate) fn faults_are_shared(file: &FileFault, out: &OutFault) {
+    is_shared(file);
+    is_shared(out);
+}
+
+/// The outside in memory may be shared too.
+pub(crate) fn outside_is_shared(sure: (&SureFiles, &SureOut), mem: (&MemFiles, &MemOut)) {
+    is_shared(sure.0);
+    is_shared(sure.1);
+    is_shared(mem.0);
+    is_shared(mem.1);
 }

@@ -2,7 +2,7 @@
 
 ghost use Rattle.std.specs.Prelude.{◌≡◌, ℕ, List, OnOk, OnErr, IfOk, Some, MatchOption, option_map};
 ghost use Rattle.fv_base.specs.Outside.{Holds, SameFiles};
-ghost use Rattle.fv_base.specs.Store.{Store, names_in};
+ghost use Rattle.fv_base.specs.Store.{Store, names_in, no_files, with_pairs};
 
 use crate::memory::Memory;
 use std::alloc::Global;
@@ -29,4 +29,15 @@ pub(crate) fn put(alloc: Global, store: &mut Store, name: &[u8], bytes: &[u8]) -
     let bytes = Vec::from_slice(alloc, bytes)?;
     store.insert(name, bytes)?;
     Ok(())
+}
+
+/// The names with what they hold; of several pairs with one name the last counts.
+pub(crate) fn from_pairs(alloc: Global, pairs: &[(String, Vec<u8>)]) -> Result<Store, Memory>
+    ensures { IfOk result (λ store. SameFiles (Some (with_pairs no_files pairs.now)) (Some (names_in store))) }
+{
+    let mut store = BTreeMap::new(alloc);
+    for (name, bytes) in pairs {
+        put(alloc, &mut store, name.as_bytes(), bytes.as_slice())?;
+    }
+    Ok(store)
 }

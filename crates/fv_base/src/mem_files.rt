@@ -1,0 +1,110 @@
+ghost use Rattle.std.specs.Prelude.{◌≡◌, ◌≤◌, ◌+◌, ◌-◌, ◌^◌, ◌↔◌, ℕ, min, if◌then◌else◌, Some, None, IsTrue, MatchOption, IfOk, OnOk, IsErrOf};
+ghost use Rattle.fv_base.specs.Outside.{Rose, ReadGives, Lacks, Holds, HoldsPart, SameFiles};
+ghost use Rattle.fv_base.specs.Failing.{is_failing};
+ghost use Rattle.fv_base.specs.Store.{no_files, with_pairs};
+
+use crate::calls::Calls;
+use crate::files::{FileFault, Files};
+use crate::memory::Memory;
+use crate::store::{self, Store};
+use std::alloc::Global;
+
+/// Files in memory whose calls of read and write are numbered from 0, and fail where their number is in a list.
+#[derive(Drop)]
+pub struct MemFiles {
+    store: Store,
+    calls: Calls,
+    misses: u64,
+}
+
+impl MemFiles {
+    ghost use Rattle.fv_base.specs.Kept.{mem_state};
+
+    /// Of several pairs with one name the last counts. `failing` has the numbers of the calls that fail.
+    pub fn new(
+        alloc: Global,
+        files: Vec<(String, Vec<u8>)>,
+        failing: Vec<u64>,
+    ) -> Result<MemFiles, Memory>
+        ensures names { IfOk result (λ f. SameFiles (Some (with_pairs no_files files.items)) (Some (mem_state f).names)) }
+        ensures failing { IfOk result (λ f. (mem_state f).failing ≡ failing.items) }
+        ensures call { IfOk result (λ f. (mem_state f).call ≡ 0) }
+        ensures faults { IfOk result (λ f. (mem_state f).faults ≡ 0) }
+        ensures misses { IfOk result (λ f. (mem_state f).misses ≡ 0) }
+    {
+        Ok(MemFiles {
+            store: store::from_pairs(alloc, files.as_slice())?,
+            calls: Calls::new(failing),
+            misses: 0,
+        })
+    }
+
+    /// What the name holds. None exactly where it isn't held.
+    pub fn get(&self, name: &str) -> Option<&[u8]>
+        ensures { MatchOption result ((mem_state self.now).names name.now ≡ None) (λ bytes. (mem_state self.now).names name.now ≡ Some bytes.now) }
+    {
+        store::look_up(&self.store, name.as_bytes())
+    }
+}
+
+impl Files for MemFiles {
+    ghost use Rattle.std.specs.Prelude.{ℕ, Some};
+    ghost use Rattle.fv_base.specs.Kept.{mem_state};
+
+    ghost held = { λ s. Some (mem_state s).names };
+
+    ghost faults = { λ s. (mem_state s).faults };
+
+    ghost misses = { λ s. (mem_state s).misses };
+
+    fn read(&mut self, alloc: Global, name: &[u8]) -> Result<Vec<u8>, FileFault>
+        ensures bytes { IfOk result (λ bytes. ReadGives (Some (mem_state self.old).names) name.now bytes.items) }
+        ensures absent { IsErrOf result FileFault.Absent → Lacks (Some (mem_state self.old).names) name.now }
+        ensures missed { IsErrOf result FileFault.Absent → Rose (mem_state self.old).misses (mem_state self.new).misses }
+        ensures failed { IsErrOf result FileFault.Failed → Rose (mem_state self.old).faults (mem_state self.new).faults }
+        ensures kept { SameFiles (Some (mem_state self.old).names) (Some (mem_state self.new).names) }
+        ensures faults_grow { (mem_state self.old).faults ≤ (mem_state self.new).faults }
+        ensures misses_grow { (mem_state self.old).misses ≤ (mem_state self.new).misses }
+
+        // The numbered call fails, whether or not the name is held, and no other call does.
+        ensures fails { IsErrOf result FileFault.Failed ↔ IsTrue (is_failing (mem_state self.old).failing (mem_state self.old).call) }
+        ensures counted { (mem_state self.new).call ≡ min ((mem_state self.old).call + 1) (2 ^ 64 - 1) }
+        ensures list_kept { (mem_state self.new).failing ≡ (mem_state self.old).failing }
+    {
+        if self.calls.begin_to_fail() {
+            return Err(FileFault::Failed);
+        }
+        let Some(bytes) = store::look_up(&self.store, name) else {
+            self.misses = self.misses.saturating_add(1);
+            return Err(FileFault::Absent);
+        };
+        match Vec::from_slice(alloc, bytes) {
+            Ok(copy) => Ok(copy),
+            Err(_) => Err(FileFault::Memory),
+        }
+    }
+
+    fn write(&mut self, alloc: Global, name: &[u8], bytes: &[u8]) -> Result<(), FileFault>
+        ensures ok { OnOk result (Holds (Some (mem_state self.old).names) (Some (mem_state self.new).names) name.now bytes.now) }
+        ensures failed { IsErrOf result FileFault.Failed → Rose (mem_state self.old).faults (mem_state self.new).faults }
+        ensures part { IsErrOf result FileFault.Failed → HoldsPart (Some (mem_state self.old).names) (Some (mem_state self.new).names) name.now bytes.now }
+        ensures memory { IsErrOf result FileFault.Memory → SameFiles (Some (mem_state self.old).names) (Some (mem_state self.new).names) }
+        ensures never_absent { IsErrOf result FileFault.Absent → ⊥ }
+        ensures faults_grow { (mem_state self.old).faults ≤ (mem_state self.new).faults }
+        ensures misses_kept { (mem_state self.new).misses ≡ (mem_state self.old).misses }
+
+        // The numbered call fails and changes no file, and no other call fails.
+        ensures fails { IsErrOf result FileFault.Failed ↔ IsTrue (is_failing (mem_state self.old).failing (mem_state self.old).call) }
+        ensures unchanged { IsErrOf result FileFault.Failed → SameFiles (Some (mem_state self.old).names) (Some (mem_state self.new).names) }
+        ensures counted { (mem_state self.new).call ≡ min ((mem_state self.old).call + 1) (2 ^ 64 - 1) }
+        ensures list_kept { (mem_state self.new).failing ≡ (mem_state self.old).failing }
+    {
+        if self.calls.begin_to_fail() {
+            return Err(FileFault::Failed);
+        }
+        match store::put(alloc, &mut self.store, name, bytes) {
+            Ok(()) => Ok(()),
+            Err(Memory) => Err(FileFault::Memory),
+        }
+    }
+}
