@@ -1,6 +1,10 @@
 pub mod Failing
 pub mod Kept
+pub mod Keyword
+pub mod Name
+pub mod Named
 pub mod Outside
 pub mod Sent
 pub mod Store
+pub mod Symbol
 pub mod formers

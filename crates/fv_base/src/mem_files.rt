@@ -99,7 +99,8 @@ impl Files for MemFiles {
         ensures counted { (mem_state self.new).call ≡ min ((mem_state self.old).call + 1) (2 ^ 64 - 1) }
         ensures list_kept { (mem_state self.new).failing ≡ (mem_state self.old).failing }
     {
-        if self.calls.begin_to_fail() {
+        let fails = self.calls.begin_to_fail();
+        if fails {
             return Err(FileFault::Failed);
         }
         match store::put(alloc, &mut self.store, name, bytes) {

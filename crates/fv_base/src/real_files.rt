@@ -12,6 +12,7 @@ const LONGEST: u64 = 1_073_741_824;
 ///
 /// A name that isn't UTF-8 isn't found by `read` and is a failed `write`. A file longer than 1,073,741,824 bytes, and
 /// a directory, is a failed read.
+#[derive(Drop)]
 pub struct RealFiles<'a, R: std::rt::Files> {
     rt: &'a R,
     faults: u64,

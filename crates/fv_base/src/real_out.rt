@@ -3,6 +3,7 @@ ghost use Rattle.std.specs.Prelude.{◌≡◌, None};
 use crate::out::{Out, OutFault};
 
 /// Standard output. What it holds isn't told, and each fault is counted. A write that takes nothing is a fault.
+#[derive(Drop)]
 pub struct RealOut<'a, R: Print> {
     rt: &'a R,
     faults: u64,

@@ -1,0 +1,9 @@
+use Rattle.std.specs.Prelude.{Bool, true}
+use Rattle.fv_base.specs.Name.{is_name}
+use Rattle.fv_base.specs.declared.kind.Kind.{Kind}
+use Rattle.fv_base.specs.declared.kind.Kind.TheVariants.{Name}
+
+-- the text of a name is a name
+abbrev pub is_well_named : Kind → Bool
+is_well_named (Name text) = is_name text
+is_well_named _ = true

@@ -1,0 +1,41 @@
+ghost use Rattle.std.specs.Prelude.{◌≡◌, ◌<◌, ◌≤◌, ◌^◌, ◌↔◌, IsSome, IfSome};
+
+/// A number of a width from 1 to 128 bits.
+#[derive(Debug, Clone, Copy, PartialEq, Eq)]
+pub struct Word {
+    pub width: u32,
+    pub value: u128,
+    pub ghost some_bits: { 1 ≤ width },
+    pub ghost few_bits: { width ≤ 128 },
+    pub ghost value_fits: { value < 2 ^ width },
+}
+
+impl Word {
+    /// None exactly where the width is 0 or above 128, or the value has more bits.
+    pub fn new(width: u32, value: u128) -> Option<Word>
+        ensures some { IsSome result ↔ ((1 ≤ width) × (width ≤ 128) × (value < 2 ^ width)) }
+        ensures width { IfSome result (λ word. word.width ≡ width) }
+        ensures value { IfSome result (λ word. word.value ≡ value) }
+    {
+        if width == 0 || width > 128 {
+            return None;
+        }
+        if width < 128 && value >> width != 0 {
+            return None;
+        }
+        Some(Word { width, value })
+    }
+
+    /// In bits, from 1 to 128.
+    pub fn width(&self) -> u32
+        ensures { result ≡ self.now.width }
+    {
+        self.width
+    }
+
+    pub fn value(&self) -> u128
+        ensures { result ≡ self.now.value }
+    {
+        self.value
+    }
+}
