@@ -1,0 +1,11 @@
+//! The first form of a file: one module without registers, read from its bytes, and what numbers for its ports violate.
+#![tactic(auto)]
+
+mod expr;
+mod fault;
+mod form;
+mod shared;
+
+pub use expr::{FirstExpr, FirstKind};
+pub use fault::FirstFault;
+pub use form::{First, FirstPort};
