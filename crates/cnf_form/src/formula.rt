@@ -1,0 +1,96 @@
+ghost use Rattle.std.specs.Prelude.{◌≡◌, ℕ, ◌<◌, ◌^◌, [], ◌∷◌, ◌++◌, length, slice_get, OnOk, OnErr, OnSome, IfSome, IsTrue, ◌↔◌};
+ghost use Rattle.std.specs.Option.{option_copied};
+ghost use Rattle.cnf_form.specs.Cnf.{Cnf, AreLiterals, AreClauses};
+
+use fv_base::{List, Memory};
+use std::alloc::Global;
+use std::marker::Model;
+
+/// A formula in conjunctive normal form: a number of variables, and clauses.
+///
+/// A clause is a list of literals, of which one has to be true: `n` for the variable `n`, and `-n` for its complement,
+/// with variables from 1 on, as in DIMACS.
+#[derive(Debug, Drop)]
+pub struct Formula {
+    alloc: Global,
+    vars: u64,
+    clauses: List<List<i64>>,
+}
+
+impl Model for Formula {
+    ghost use Rattle.std.specs.Prelude.{◌<◌, ◌^◌};
+    ghost use Rattle.cnf_form.specs.Cnf.{Cnf, AreClauses};
+
+    ghost Value = { Cnf };
+
+    ghost view = { λ f. record { vars = f.vars; clauses = f.clauses } };
+
+    ghost invariant = { λ f. (f.vars < 2 ^ 63) × AreClauses f.vars f.clauses };
+}
+
+impl Formula {
+    /// A formula without a clause.
+    pub fn new(alloc: Global, vars: u64) -> Formula
+        requires { vars < 2 ^ 63 }
+        ensures vars { result.vars ≡ vars }
+        ensures clauses { result.clauses ≡ [] }
+    {
+        Formula {
+            alloc,
+            vars,
+            clauses: List::new(alloc),
+        }
+    }
+
+    /// Adds a clause behind the others.
+    pub fn push(&mut self, lits: &[i64]) -> Result<(), Memory>
+        requires { AreLiterals self.old.vars lits.now }
+        ensures ok { OnOk result (self.new.clauses ≡ self.old.clauses ++ lits.now ∷ []) }
+        ensures vars { self.new.vars ≡ self.old.vars }
+        ensures err { OnErr result (self.new ≡ self.old) }
+    {
+        let clause = List::from_vec(Vec::from_slice(self.alloc, lits)?);
+        self.clauses.push(clause)?;
+        Ok(())
+    }
+
+    /// The number of variables. It is below `2^63`, so each variable and its complement are an `i64`.
+    pub fn vars(&self) -> u64
+        ensures value { result ≡ self.now.vars }
+        ensures small { result < 2 ^ 63 }
+    {
+        self.vars
+    }
+
+    /// The number of clauses.
+    pub fn len(&self) -> usize
+        ensures { result ≡ length self.now.clauses }
+    {
+        self.clauses.len()
+    }
+
+    pub fn is_empty(&self) -> bool
+        ensures { IsTrue result ↔ (self.now.clauses ≡ []) }
+    {
+        self.clauses.is_empty()
+    }
+
+    /// The clause at the place, from 0 on. None exactly where the index isn't below the length.
+    pub fn clause(&self, index: usize) -> Option<&[i64]>
+        ensures value { option_copied result ≡ slice_get self.now.clauses index }
+        ensures literals { IfSome result (λ lits. AreLiterals self.now.vars lits.now) }
+    {
+        match self.clauses.get(index) {
+            Some(clause) => Some(clause.as_slice()),
+            None => None,
+        }
+    }
+
+    /// All clauses in order. Their literals name variables of the formula.
+    pub fn clauses(&self) -> &[List<i64>]
+        ensures value { result.now ≡ self.now.clauses }
+        ensures literals { AreClauses self.now.vars result.now }
+    {
+        self.clauses.as_slice()
+    }
+}
