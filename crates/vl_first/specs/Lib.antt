@@ -6,3 +6,5 @@ pub mod ExprFalls
 pub mod Value
 pub mod Plain
 pub mod Violation
+pub mod Lexical
+pub mod Scan

@@ -4,7 +4,9 @@
 mod expr;
 mod fault;
 mod form;
+mod lexer;
 mod shared;
+mod token;
 
 pub use expr::{FirstExpr, FirstKind};
 pub use fault::FirstFault;
