@@ -1,8 +1,7 @@
 -- The tokens so far, and the bytes that are left.
-use Rattle.std.proofs.Common.{◌≡◌, ℕ, true, false, ◌==◌, ◌+◌, ◌<◌, List, [], ◌∷◌, ◌++◌, length, drop, Option, Some, None, refl, ap, sym, ◌∙◌, subst, append_assoc, append-nil, length-append, length-drop, arith}
+use Rattle.std.proofs.Common.{◌≡◌, ℕ, true, false, ◌==◌, ◌<◌, List, [], ◌∷◌, ◌++◌, length, None, refl, ap, sym, ◌∙◌, subst, append_assoc, append-nil, length-append, length-drop, arith}
 use Rattle.std.proofs.Math.Dec.{eqb-suc-zero}
 use Rattle.std.proofs.lemmas.Bool.{true≢false}
-use Rattle.std.specs.List.{prefix_len}
 use Rattle.vl_first.specs.Lexical.{is_blank, is_name, is_number, symbol_text, without_blanks, Spells, Begins, Next, Lexes}
 use Rattle.vl_first.specs.Scan.{token_at, OnNotFirst}
 use Rattle.vl_first.specs.declared.fault.FirstFault.{FirstFault}
@@ -11,7 +10,7 @@ use Rattle.vl_first.specs.declared.token.Token.{Token}
 use Rattle.vl_first.specs.declared.token.Token.TheVariants.{Name, Digits, Fixed}
 use Rattle.vl_first.specs.declared.token.Symbol.{Symbol}
 use Rattle.vl_first.specs.declared.token.Symbol.TheVariants as s
-use Rattle.vl_first.proofs.Options.{none_some, some_equal, pair, first_equal, second_equal}
+use Rattle.vl_first.proofs.Options.{none_some, some_equal, first_equal, second_equal}
 use Rattle.vl_first.proofs.Runs.{dropped_twice}
 use Rattle.vl_first.proofs.Words.{found}
 use Rattle.vl_first.proofs.Tokens.{token_takes, token_again}

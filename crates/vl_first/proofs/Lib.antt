@@ -4,3 +4,6 @@ pub mod Words
 pub mod Signs
 pub mod Tokens
 pub mod Lexing
+pub mod Heads
+pub mod Sequence
+pub mod Parsing

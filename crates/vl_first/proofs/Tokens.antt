@@ -1,18 +1,18 @@
 -- The token at the front of bytes: what is read is spelled so, and what is spelled so is read.
-use Rattle.std.proofs.Common.{◌≡◌, ℕ, ◌≤◌, ◌<◌, Bool, true, false, not, cond, ◌==◌, ◌&&◌, List, [], ◌∷◌, ◌++◌, Option, Some, None, option_map, ◌⊎◌, inl, inr, refl, ap, sym, ◌∙◌, subst, arith}
-use Rattle.std.proofs.lemmas.Bool.{eqb-true, not_from_false, not-true, cases_Bool}
+use Rattle.std.proofs.Common.{◌≡◌, ℕ, true, false, not, cond, ◌==◌, List, [], ◌∷◌, ◌++◌, Some, option_map, inl, inr, refl, ap, sym, ◌∙◌, subst, arith}
+use Rattle.std.proofs.lemmas.Bool.{eqb-true, not_from_false, not-true}
 use Rattle.std.proofs.lemmas.Bool.Decides.{nat_tests}
 use Rattle.std.specs.List.{list_all}
 use Rattle.vl_first.specs.Plain.{is_among}
 use Rattle.vl_first.specs.Lexical.{is_digit, is_letter, is_name_byte, stops, reserved, is_word, is_name, is_number, symbol_text, symbol_ends, Spells, Begins}
-use Rattle.vl_first.specs.Scan.{keyword_of, word_of, word_at, digits_at, sign_of, sign_at, equals_at, token_at}
+use Rattle.vl_first.specs.Scan.{pair, keyword_of, word_of, word_at, digits_at, sign_of, sign_at, equals_at, token_at}
 use Rattle.vl_first.specs.declared.token.Token.{Token}
 use Rattle.vl_first.specs.declared.token.Token.TheVariants.{Name, Digits, Fixed}
 use Rattle.vl_first.specs.declared.token.Symbol.{Symbol}
 use Rattle.vl_first.specs.declared.token.Symbol.TheVariants as s
-use Rattle.vl_first.proofs.Options.{and_true, chosen, mapped, some_equal, none_some, pair, first_equal, second_equal}
+use Rattle.vl_first.proofs.Options.{and_true, chosen, mapped, some_equal, none_some, first_equal, second_equal}
 use Rattle.vl_first.proofs.Signs.{IsSign, sign_takes}
-use Rattle.vl_first.proofs.Words.{found, with_rest, spelled_as, word_takes, word_again, digits_takes, digits_again}
+use Rattle.vl_first.proofs.Words.{found, word_takes, word_again, digits_takes, digits_again}
 
 begins_as : (t u : Token) (x y bytes : List ℕ) → pair t x ≡ pair u y → Begins t x bytes → Begins u y bytes
 begins_as t u x y bytes e h =

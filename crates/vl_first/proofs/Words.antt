@@ -1,15 +1,14 @@
 -- Words and numbers: what is read is spelled so, and what is spelled so is read.
-use Rattle.std.proofs.Common.{◌≡◌, ℕ, Bool, true, false, not, cond, ◌&&◌, List, [], ◌∷◌, ◌++◌, take, drop, Option, Some, None, option_map, ◌⊎◌, inl, inr, refl, ap, sym, ◌∙◌, subst}
+use Rattle.std.proofs.Common.{◌≡◌, ℕ, true, not, List, ◌∷◌, ◌++◌, take, drop, Option, Some, option_map, inl, inr, refl, sym, ◌∙◌, subst}
 use Rattle.std.proofs.lemmas.Bool.{not_from_false}
 use Rattle.std.proofs.lemmas.List.{take-append-drop}
 use Rattle.std.specs.List.{list_all, prefix_len}
 use Rattle.vl_first.specs.Plain.{is_among}
-use Rattle.vl_first.specs.Lexical.{is_digit, is_letter, is_name_byte, stops, reserved, is_word, is_name, is_number, symbol_text, symbol_ends, Spells, Begins}
-use Rattle.vl_first.specs.Scan.{keyword_of, word_of, word_at, digits_at}
+use Rattle.vl_first.specs.Lexical.{is_digit, is_letter, is_name_byte, stops, reserved, is_word, is_number, Spells, Begins}
+use Rattle.vl_first.specs.Scan.{pair, keyword_of, word_of, word_at, digits_at}
 use Rattle.vl_first.specs.declared.token.Token.{Token}
 use Rattle.vl_first.specs.declared.token.Token.TheVariants.{Name, Digits, Fixed}
-use Rattle.vl_first.specs.declared.token.Symbol.{Symbol}
-use Rattle.vl_first.proofs.Options.{and_true, true_and, chosen, mapped, some_equal, pair, first_equal, second_equal}
+use Rattle.vl_first.proofs.Options.{true_and, chosen, mapped, some_equal, first_equal, second_equal}
 use Rattle.vl_first.proofs.Runs.{passed, stopped, run_taken, run_dropped, first_taken}
 use Rattle.vl_first.proofs.Signs.{IsKeyword, keyword_takes}
 

@@ -1,4 +1,3 @@
-pub mod Rose
 pub mod Expr
 pub mod ExprCode
 pub mod ExprView
@@ -8,3 +7,10 @@ pub mod Plain
 pub mod Violation
 pub mod Lexical
 pub mod Scan
+pub mod Written
+pub mod WrittenCode
+pub mod WrittenView
+pub mod WrittenFalls
+pub mod Spelling
+pub mod Reading
+pub mod Parts

@@ -1,15 +1,18 @@
 -- How the lexer goes over the bytes: the first token of bytes that don't begin with a blank.
-use Rattle.std.specs.Prelude.{◌≡◌, ℕ, Bool, true, false, ◌==◌, if◌then◌else◌, List, [], ◌∷◌, take, drop, Option, Some, None, option_map, Result, Ok, Err, codes}
+use Rattle.std.specs.Prelude.{◌≡◌, ℕ, ◌==◌, if◌then◌else◌, List, [], ◌∷◌, take, drop, Option, Some, None, option_map, Result, Ok, Err, codes}
 use Rattle.std.specs.List.{prefix_len}
 use Rattle.std.specs.Str.{bytes_eq}
 use Rattle.vl_first.specs.Plain.{is_among}
-use Rattle.vl_first.specs.Lexical.{is_blank, is_digit, is_letter, is_name_byte, reserved}
+use Rattle.vl_first.specs.Lexical.{is_digit, is_letter, is_name_byte, reserved}
 use Rattle.vl_first.specs.declared.fault.FirstFault.{FirstFault}
 use Rattle.vl_first.specs.declared.fault.FirstFault.TheVariants as fault
 use Rattle.vl_first.specs.declared.token.Token.{Token}
 use Rattle.vl_first.specs.declared.token.Token.TheVariants.{Name, Digits, Fixed}
 use Rattle.vl_first.specs.declared.token.Symbol.{Symbol}
 use Rattle.vl_first.specs.declared.token.Symbol.TheVariants as s
+
+abbrev pub pair : {X Y : Type 0} → X → Y → X × Y
+pair x y = (x, y)
 
 -- a refusal has its cause; want of memory needs none
 abbrev pub OnNotFirst : FirstFault → Type 0 → Type 0

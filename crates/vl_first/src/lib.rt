@@ -5,8 +5,10 @@ mod expr;
 mod fault;
 mod form;
 mod lexer;
+mod parser;
 mod shared;
 mod token;
+mod written;
 
 pub use expr::{FirstExpr, FirstKind};
 pub use fault::FirstFault;

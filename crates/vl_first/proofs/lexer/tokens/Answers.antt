@@ -1,4 +1,4 @@
-use Rattle.std.proofs.Common.{◌≡◌, refl, None}
+use Rattle.std.proofs.Common.{◌≡◌, None}
 use Rattle.std.proofs.lemmas.Result.{err_from_is_err_and}
 use Rattle.vl_first.specs.Scan.{token_at}
 use Rattle.vl_first.proofs.Lexing.{lex_none, lex_more, lex_end, lex_one, lex_refuses, rest_shorter, has_bytes, has_none, refused_by}
