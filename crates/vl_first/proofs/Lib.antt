@@ -7,3 +7,7 @@ pub mod Lexing
 pub mod Heads
 pub mod Sequence
 pub mod Parsing
+pub mod NameLemmas
+pub mod Outcomes
+pub mod Laws
+pub mod Files

@@ -14,3 +14,6 @@ pub mod WrittenFalls
 pub mod Spelling
 pub mod Reading
 pub mod Parts
+pub mod Meaning
+pub mod FirstForm
+pub mod Steps
