@@ -1,7 +1,7 @@
 -- Expressions written as trees with labels, and read back, which tells them apart.
 use Rattle.std.specs.Prelude.{ℕ, zero, suc, ◌≡◌, List, [], ◌∷◌, refl}
 use Rattle.std.specs.Coded.{Coded, code_by, coded×, coded_ℕ}
-use Rattle.vl_first.specs.Rose.{Rose, Roses, node, none, more, coded_rose}
+use Rattle.fv_base.specs.Rose.{Rose, Roses, node, none, more, coded_rose}
 use Rattle.vl_first.specs.Expr.{Expr, number, port, complement, equal, both, differ, either, pick}
 
 -- which constructor, and the number of a leaf

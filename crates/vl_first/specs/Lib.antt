@@ -1,4 +1,3 @@
-pub mod Rose
 pub mod Expr
 pub mod ExprCode
 pub mod ExprView
@@ -6,3 +5,15 @@ pub mod ExprFalls
 pub mod Value
 pub mod Plain
 pub mod Violation
+pub mod Lexical
+pub mod Scan
+pub mod Written
+pub mod WrittenCode
+pub mod WrittenView
+pub mod WrittenFalls
+pub mod Spelling
+pub mod Reading
+pub mod Parts
+pub mod Meaning
+pub mod FirstForm
+pub mod Steps

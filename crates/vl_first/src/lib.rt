@@ -4,8 +4,17 @@
 mod expr;
 mod fault;
 mod form;
+mod judging;
+mod lexer;
+mod names;
+mod parser;
+mod plain;
+mod read;
 mod shared;
+mod token;
+mod written;
 
 pub use expr::{FirstExpr, FirstKind};
 pub use fault::FirstFault;
 pub use form::{First, FirstPort};
+pub use read::read_first;
