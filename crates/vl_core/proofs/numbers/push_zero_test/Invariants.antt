@@ -1,0 +1,8 @@
+use Rattle.std.proofs.Common.{◌≡◌, ◌+◌, ◌++◌, ltb}
+use Rattle.vl_core.specs.Bits.{is_set}
+use Rattle.vl_core.specs.Gates.{fixed_bit, copied_bit, opposite_bit, gate_bit, picked_bit, excluded_bit, each_bit, sets}
+use Rattle.vl_core.specs.Adds.{Adds}
+use Rattle.vl_core.proofs.numbers.push_zero_test.Given as goal
+
+abbrev pub invariant-loop-k : goal.invariant-loop-k
+invariant-loop-k l = Adds l.fn.formula l.formula (each_bit (λ k. excluded_bit l.z (l.a + k)) l.k)

@@ -1,0 +1,13 @@
+//! The clauses of a module of the first form: values that make them true are numbers for its ports that violate.
+#![tactic(auto)]
+
+mod encode;
+mod expr;
+mod gates;
+mod layout;
+mod numbers;
+mod place;
+mod places;
+
+pub use encode::first_clauses;
+pub use place::FirstPlace;
