@@ -8,3 +8,4 @@ pub mod EncodingLaws
 pub mod AddsLemmas
 pub mod SpanLemmas
 pub mod NamedRoom
+pub mod NumberLaws

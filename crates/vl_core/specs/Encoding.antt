@@ -1,9 +1,10 @@
 -- What a formula and its places have to do with the numbers that violate.
-use Rattle.std.specs.Prelude.{◌≡◌, ℕ, ◌+◌, Bool, true, false, cond, ◌&&◌, ◌==◌, nat_lt, nat_le, List, [], ◌∷◌, ◌++◌, zero, suc, slice_get, slice_index, count_by}
+use Rattle.std.specs.Prelude.{◌≡◌, ℕ, ◌+◌, Bool, true, false, cond, not, ◌&&◌, ◌||◌, ◌==◌, nat_lt, nat_le, List, [], ◌∷◌, ◌++◌, zero, suc, slice_get, slice_index, count_by}
 use Rattle.std.specs.List.{list_all}
 use Rattle.std.specs.Option.{option_map_or}
 use mathlib.Core.Bool.{beq}
 use Rattle.cnf_form.specs.Cnf.{Cnf, formula_true, value_of}
+use Rattle.vl_first.specs.Plain.{is_clock}
 use Rattle.vl_first.specs.Violation.{within, violates}
 use Rattle.vl_first.specs.declared.form.FirstPort.{FirstPort}
 use Rattle.vl_core.specs.declared.place.FirstPlace.{FirstPlace}
@@ -33,6 +34,11 @@ place_agrees values nums p = beq (values p.var) (is_set (slice_index nums p.port
 -- Each port has a number below 2 to its width, and the values agree with the numbers at the places.
 abbrev pub agree : List FirstPort → List FirstPlace → (ℕ → Bool) → List ℕ → Bool
 agree ports places values nums = within ports nums && list_all (place_agrees values nums) places
+
+-- the clock and the reset have 0
+abbrev pub clocks_are_low : List FirstPort → List ℕ → Bool
+clocks_are_low (p ∷ ps) (n ∷ ns) = (not (is_clock p.name) || n == 0) && clocks_are_low ps ns
+clocks_are_low ps ns = true
 
 -- Numbers violate exactly where some values that agree with them make the formula true.
 pub record Encodes (ports : List FirstPort) (formula : Cnf) (places : List FirstPlace) : Type 0 where

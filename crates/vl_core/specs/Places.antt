@@ -15,3 +15,9 @@ places_from i start (p ∷ ps) = port_places i start (bits_of p) ++ places_from 
 
 abbrev pub places_of : List FirstPort → List FirstPlace
 places_of ports = places_from 0 0 ports
+
+-- the variable of a place in the list
+abbrev pub var_at : List FirstPlace → ℕ → ℕ
+var_at [] k = 0
+var_at (p ∷ ps) zero = p.var
+var_at (p ∷ ps) (suc k) = var_at ps k

@@ -8,6 +8,8 @@ mod layout;
 mod numbers;
 mod place;
 mod places;
+mod shared;
 
 pub use encode::first_clauses;
 pub use place::FirstPlace;
+pub use places::numbers_at;
