@@ -14,9 +14,9 @@ adds_nothing f = record { behind = sym (append-nil f.clauses); vars = refl }
 -- one after the other
 pub adds_both : {f g h : Cnf} {xs ys zs : List (List ℤ)} → Adds f g xs → Adds g h ys → zs ≡ xs ++ ys → Adds f h zs
 adds_both {f} {g} {h} {xs} {ys} {zs} p q e = record {
-    behind = q.behind ∙ ap (λ l. l ++ ys) p.behind ∙ append_assoc f.clauses xs ys ∙ ap (λ l. f.clauses ++ l) (sym e);
-    vars = q.vars ∙ p.vars;
-  }
+  behind = q.behind ∙ ap (λ l. l ++ ys) p.behind ∙ append_assoc f.clauses xs ys ∙ ap (λ l. f.clauses ++ l) (sym e);
+  vars = q.vars ∙ p.vars;
+}
 
 -- the clauses of one more bit
 pub each_more : {f g h : Cnf} (clauses : ℕ → List (List ℤ)) (k : ℕ) → Adds f g (each_bit clauses k) → Adds g h (clauses k) → Adds f h (each_bit clauses (k + 1))

@@ -1,11 +1,10 @@
 -- Numbers by their bits.
-use Rattle.std.proofs.Common.{◌≡◌, ℕ, zero, suc, ◌+◌, ◌-◌, ◌*◌, ◌/◌, ◌%◌, ◌^◌, ◌<◌, ◌≤◌, Bool, true, false, cond, not, ◌&&◌, ◌||◌, eqb, ltb, refl, sym, ap, ◌∙◌, subst, arith, ⊎_elim}
-use Rattle.std.specs.Prelude.{bit_and, bit_or, bit_xor}
-use Rattle.std.proofs.lemmas.Bool.{eqb-true, eqb-false, eq-eqb, ne_eqb, cases_Bool, cases_lt, cases_eq, lt-ltb, le-ltb}
+use Rattle.std.proofs.Common.{◌≡◌, ℕ, zero, suc, ◌+◌, ◌-◌, ◌*◌, ◌/◌, ◌%◌, ◌^◌, ◌<◌, ◌≤◌, Bool, true, false, cond, not, ◌&&◌, eqb, ltb, refl, sym, ap, ◌∙◌, arith, ⊎_elim}
+use Rattle.std.proofs.lemmas.Bool.{eq-eqb, ne_eqb, cases_lt, cases_eq, lt-ltb, le-ltb}
 use Rattle.std.proofs.lemmas.Nat.{pow_pos, pow-add, and_block, or_block, xor_block, mod-pow-add}
 use Rattle.std.proofs.Math.Nat.{pow-suc, mod-eq_of_lt, mul_assoc, mul-add-mod_self_right}
 use mathlib.Core.Bool.{beq}
-use Rattle.vl_core.specs.Bits.{bit, written, is_set, number}
+use Rattle.vl_core.specs.Bits.{bit, written, is_set}
 use Rattle.vl_core.specs.declared.gates.Gate.{Gate}
 use Rattle.vl_core.specs.declared.gates.Gate.TheVariants.{And, Xor, Or}
 use Rattle.vl_core.specs.Gates.{truth, joined}
@@ -119,7 +118,7 @@ written-short f n zero h = let e : n ≡ 0 = omega arith in ap (written f) (sym 
 written-short f n (suc w) h = ⊎_elim
     (λ l. ap (λ b. bit (b && f w) * 2 ^ w + written (λ k. ltb k n && f k) w) (le-ltb w n (omega arith)) ∙ (let z : 0 * 2 ^ w + written (λ k. ltb k n && f k) w ≡ written (λ k. ltb k n && f k) w = omega arith in z) ∙ written-short f n w (omega arith))
     (λ l. let e : n ≡ suc w = omega arith in
-        written_same (λ k. ltb k n && f k) f (suc w) (λ k j. ap (λ b. b && f k) (lt-ltb k n (omega arith))) ∙ ap (written f) (sym e))
+    written_same (λ k. ltb k n && f k) f (suc w) (λ k j. ap (λ b. b && f k) (lt-ltb k n (omega arith))) ∙ ap (written f) (sym e))
     (cases_lt n (suc w))
 
 -- a number is 0 where each bit is
@@ -154,11 +153,11 @@ pub written-low : (f : ℕ → Bool) (n w : ℕ) → n ≤ w → written f w % 2
 written-low f n zero h = let e : n ≡ 0 = omega arith in ap (λ k. 0 % 2 ^ k) e ∙ ap (written f) (sym e)
 written-low f n (suc w) h = ⊎_elim
     (λ l.
-        let p : 2 ^ w ≡ 2 ^ (w - n) * 2 ^ n = ap (λ k. 2 ^ k) (omega arith) ∙ pow-add 2 (w - n) n in
-        ap (λ k. (bit (f w) * k + written f w) % 2 ^ n) p
-        ∙ ap (λ k. (k + written f w) % 2 ^ n) (sym (mul_assoc (bit (f w)) (2 ^ (w - n)) (2 ^ n)))
-        ∙ mul-add-mod_self_right (bit (f w) * 2 ^ (w - n)) (2 ^ n) (written f w)
-        ∙ written-low f n w (omega arith))
+    let p : 2 ^ w ≡ 2 ^ (w - n) * 2 ^ n = ap (λ k. 2 ^ k) (omega arith) ∙ pow-add 2 (w - n) n in
+    ap (λ k. (bit (f w) * k + written f w) % 2 ^ n) p
+    ∙ ap (λ k. (k + written f w) % 2 ^ n) (sym (mul_assoc (bit (f w)) (2 ^ (w - n)) (2 ^ n)))
+    ∙ mul-add-mod_self_right (bit (f w) * 2 ^ (w - n)) (2 ^ n) (written f w)
+    ∙ written-low f n w (omega arith))
     (λ l. let e : n ≡ suc w = omega arith in
-        ap (λ k. written f (suc w) % 2 ^ k) e ∙ mod-eq_of_lt (written_lt f (suc w)) ∙ ap (written f) (sym e))
+    ap (λ k. written f (suc w) % 2 ^ k) e ∙ mod-eq_of_lt (written_lt f (suc w)) ∙ ap (written f) (sym e))
     (cases_lt n (suc w))

@@ -1,8 +1,8 @@
 -- The clauses of an expression are true exactly where its positions have the bits of its value and of its operands'.
-use Rattle.std.proofs.Common.{lit≤, ◌≡◌, ℕ, zero, suc, ◌+◌, ◌-◌, ◌*◌, ◌^◌, ◌%◌, ◌<◌, ◌≤◌, max, Bool, true, false, cond, not, ◌&&◌, ◌||◌, eqb, ltb, List, [], ◌∷◌, ◌++◌, length, refl, sym, ap, ◌∙◌, subst, arith, append_assoc, length-append}
-use Rattle.std.specs.Prelude.{ℤ, slice_get, slice_index, bit_and, bit_or, bit_xor}
+use Rattle.std.proofs.Common.{lit≤, ◌≡◌, ℕ, ◌+◌, ◌-◌, ◌*◌, ◌^◌, ◌%◌, ◌<◌, ◌≤◌, max, Bool, true, false, cond, ◌&&◌, eqb, List, [], ◌∷◌, ◌++◌, length, refl, sym, ap, ◌∙◌, arith, length-append}
+use Rattle.std.specs.Prelude.{ℤ, slice_get, slice_index, bit_xor}
 use Rattle.std.specs.Option.{option_map_or}
-use Rattle.std.proofs.lemmas.Bool.{eqb-true, and_parts, cases_Bool}
+use Rattle.std.proofs.lemmas.Bool.{eqb-true, and_parts}
 use Rattle.std.proofs.Math.Nat.{pow-le-pow_right}
 use Rattle.std.proofs.lemmas.Nat.{pow_pos, mod_below, and_le_l, or_lt, xor_lt}
 use Rattle.std.proofs.lemmas.List.{append-nil}
@@ -15,11 +15,11 @@ use Rattle.vl_first.specs.declared.form.FirstPort.{FirstPort}
 use Rattle.vl_core.specs.Bits.{bit, written, is_set, number as number_at}
 use Rattle.vl_core.specs.declared.gates.Gate.{Gate}
 use Rattle.vl_core.specs.declared.gates.Gate.TheVariants.{And, Xor, Or}
-use Rattle.vl_core.specs.Gates.{constant, copies, opposites, gates, picks, zero_test, joined, truth}
+use Rattle.vl_core.specs.Gates.{constant, copies, opposites, gates, picks, zero_test, joined}
 use Rattle.vl_core.specs.Clauses.{span, expr_clauses}
 use Rattle.vl_core.proofs.BitsLemmas.{and-true, zero-xor, written-truth, written-fits}
 use Rattle.vl_core.proofs.GatesLemmas.{formula-append, constant_true, copies_true, opposites_true, gates_true, picks_true, zero_test_true}
-use Rattle.vl_core.proofs.Matches.{matches, block, listed, when, rev2, rev3, beq-true, and_assoc, and_swap, split, length-listed, matches-block, number-front}
+use Rattle.vl_core.proofs.Matches.{matches, block, when, rev2, rev3, beq-true, and_assoc, and_swap, split, length-listed, matches-block, number-front}
 
 -- the bits of an expression's operands, and those of the expression with them
 abbrev pub inner : List FirstPort → List ℕ → ℕ → Expr → List Bool
@@ -37,7 +37,7 @@ inner ports nums w (pick c a b) =
     let s = size ports c in
     let x = value ports nums s c in
     eqb x 0 ∷ [] ++ ((block s x ++ inner ports nums s c)
-        ++ ((block w (value ports nums w a) ++ inner ports nums w a) ++ (block w (value ports nums w b) ++ inner ports nums w b)))
+    ++ ((block w (value ports nums w a) ++ inner ports nums w a) ++ (block w (value ports nums w b) ++ inner ports nums w b)))
 
 abbrev pub content : List FirstPort → List ℕ → ℕ → Expr → List Bool
 content ports nums w e = block w (value ports nums w e) ++ inner ports nums w e
@@ -82,7 +82,7 @@ module _ (v : ℕ → Bool) where
       formula-append v ca (opposites at (at + w) w)
       ∙ ap (λ b. b && formula_true v (opposites at (at + w) w)) e
       ∙ when A (formula_true v (opposites at (at + w) w)) (matches v at (block w (2 ^ w - 1 - x)))
-          (λ t. opposites_true v at (at + w) w ∙ ap (λ n. eqb (number_at v at w) (2 ^ w - 1 - n)) (number-front v (at + w) w x xs h t) ∙ sym (matches-block v at w (2 ^ w - 1 - x) small))
+      (λ t. opposites_true v at (at + w) w ∙ ap (λ n. eqb (number_at v at w) (2 ^ w - 1 - n)) (number-front v (at + w) w x xs h t) ∙ sym (matches-block v at w (2 ^ w - 1 - x) small))
       ∙ and_swap A (matches v at (block w (2 ^ w - 1 - x)))
       ∙ sym (split v at (at + w) (block w (2 ^ w - 1 - x)) (block w x ++ xs) (ap (λ k. at + k) (sym (length-block w (2 ^ w - 1 - x)))))
 
@@ -100,10 +100,10 @@ module _ (v : ℕ → Bool) where
       ∙ ap (λ b. b && (formula_true v cb && G)) ea
       ∙ ap (λ b. A && (b && G)) eb
       ∙ when A (B && G) (B && M) (λ ta. when B G M (λ tb.
-          gates_true v g at l r w
-          ∙ ap (λ n. eqb (number_at v at w) (joined g n (number_at v r w))) (number-front v l w x xs hx ta)
-          ∙ ap (λ n. eqb (number_at v at w) (joined g x n)) (number-front v r w y ys hy tb)
-          ∙ sym (matches-block v at w (joined g x y) hz)))
+      gates_true v g at l r w
+      ∙ ap (λ n. eqb (number_at v at w) (joined g n (number_at v r w))) (number-front v l w x xs hx ta)
+      ∙ ap (λ n. eqb (number_at v at w) (joined g x n)) (number-front v r w y ys hy tb)
+      ∙ sym (matches-block v at w (joined g x y) hz)))
       ∙ sym (and_assoc A B M)
       ∙ and_swap (A && B) M
       ∙ ap (λ b. M && b) (sym (split v l r (block w x ++ xs) (block w y ++ ys) er))
@@ -125,7 +125,7 @@ module _ (v : ℕ → Bool) where
       → 1 ≤ w → x < 2 ^ s → y < 2 ^ s → l ≡ at + w + 1 + s → r ≡ l + length (block s x ++ xs)
       → formula_true v ca ≡ matches v l (block s x ++ xs) → formula_true v cb ≡ matches v r (block s y ++ ys)
       → formula_true v (ca ++ (cb ++ (gates Xor (at + w + 1) l r s ++ (zero_test (at + w) (at + w + 1) s ++ copies at (at + w) 1 w))))
-          ≡ matches v at (block w (cond (eqb x y) 1 0) ++ (eqb x y ∷ [] ++ (block s (bit_xor x y) ++ ((block s x ++ xs) ++ (block s y ++ ys)))))
+      ≡ matches v at (block w (cond (eqb x y) 1 0) ++ (eqb x y ∷ [] ++ (block s (bit_xor x y) ++ ((block s x ++ xs) ++ (block s y ++ ys)))))
   equal_case ca cb xs ys at l r w s x y hw hx hy el er ea eb =
       let A = matches v l (block s x ++ xs) in
       let B = matches v r (block s y ++ ys) in
@@ -142,19 +142,19 @@ module _ (v : ℕ → Bool) where
       ∙ ap (λ b. b && (formula_true v cb && (GD && (GZ && GC)))) ea
       ∙ ap (λ b. A && (b && (GD && (GZ && GC)))) eb
       ∙ when A (B && (GD && (GZ && GC))) (B && (D && (Q && M))) (λ ta. when B (GD && (GZ && GC)) (D && (Q && M)) (λ tb.
-          ap (λ b. b && (GZ && GC)) (gates_true v Xor (at + w + 1) l r s
-              ∙ ap (λ n. eqb (number_at v (at + w + 1) s) (bit_xor n (number_at v r s))) (number-front v l s x xs hx ta)
-              ∙ ap (λ n. eqb (number_at v (at + w + 1) s) (bit_xor x n)) (number-front v r s y ys hy tb)
-              ∙ sym (matches-block v (at + w + 1) s (bit_xor x y) hd))
-          ∙ when D (GZ && GC) (Q && M) (λ td.
-              ap (λ b. b && GC) (zero_test_true v (at + w) (at + w + 1) s
-                  ∙ ap (λ n. beq (v (at + w + 1)) (eqb n 0)) (eqb-true (number_at v (at + w + 1) s) (bit_xor x y) (sym (matches-block v (at + w + 1) s (bit_xor x y) hd) ∙ td))
-                  ∙ ap (beq (v (at + w + 1))) (xor_zero s x y hx hy)
-                  ∙ sym (and-true (beq (v (at + w + 1)) (eqb x y))))
-              ∙ when Q GC M (λ tq.
-                  copies_true v at (at + w) 1 w hw
-                  ∙ ap (eqb (number_at v at w)) (number-one (at + w) ∙ ap (λ b. cond b 1 0) (one_bit (at + w) (eqb x y) tq))
-                  ∙ sym (matches-block v at w (cond (eqb x y) 1 0) hm)))))
+      ap (λ b. b && (GZ && GC)) (gates_true v Xor (at + w + 1) l r s
+      ∙ ap (λ n. eqb (number_at v (at + w + 1) s) (bit_xor n (number_at v r s))) (number-front v l s x xs hx ta)
+      ∙ ap (λ n. eqb (number_at v (at + w + 1) s) (bit_xor x n)) (number-front v r s y ys hy tb)
+      ∙ sym (matches-block v (at + w + 1) s (bit_xor x y) hd))
+      ∙ when D (GZ && GC) (Q && M) (λ td.
+      ap (λ b. b && GC) (zero_test_true v (at + w) (at + w + 1) s
+      ∙ ap (λ n. beq (v (at + w + 1)) (eqb n 0)) (eqb-true (number_at v (at + w + 1) s) (bit_xor x y) (sym (matches-block v (at + w + 1) s (bit_xor x y) hd) ∙ td))
+      ∙ ap (beq (v (at + w + 1))) (xor_zero s x y hx hy)
+      ∙ sym (and-true (beq (v (at + w + 1)) (eqb x y))))
+      ∙ when Q GC M (λ tq.
+      copies_true v at (at + w) 1 w hw
+      ∙ ap (eqb (number_at v at w)) (number-one (at + w) ∙ ap (λ b. cond b 1 0) (one_bit (at + w) (eqb x y) tq))
+      ∙ sym (matches-block v at w (cond (eqb x y) 1 0) hm)))))
       ∙ sym (and_assoc A B (D && (Q && M)))
       ∙ rev3 (A && B) D Q M
       ∙ ap (λ b. M && (Q && (D && b))) (sym (split v l r (block s x ++ xs) (block s y ++ ys) er))
@@ -167,7 +167,7 @@ module _ (v : ℕ → Bool) where
       → formula_true v cc ≡ matches v (at + w + 1) (block s z ++ zs)
       → formula_true v ca ≡ matches v l (block w x ++ xs) → formula_true v cb ≡ matches v r (block w y ++ ys)
       → formula_true v (cc ++ (ca ++ (cb ++ (zero_test (at + w) (at + w + 1) s ++ picks (at + w) at l r w))))
-          ≡ matches v at (block w (cond (eqb z 0) y x) ++ (eqb z 0 ∷ [] ++ ((block s z ++ zs) ++ ((block w x ++ xs) ++ (block w y ++ ys)))))
+      ≡ matches v at (block w (cond (eqb z 0) y x) ++ (eqb z 0 ∷ [] ++ ((block s z ++ zs) ++ ((block w x ++ xs) ++ (block w y ++ ys)))))
   pick_case cc ca cb zs xs ys at l r w s z x y hz hx hy el er ec ea eb =
       let C = matches v (at + w + 1) (block s z ++ zs) in
       let A = matches v l (block w x ++ xs) in
@@ -182,15 +182,15 @@ module _ (v : ℕ → Bool) where
       ∙ ap (λ b. C && (b && (formula_true v cb && (GZ && GP)))) ea
       ∙ ap (λ b. C && (A && (b && (GZ && GP)))) eb
       ∙ when C (A && (B && (GZ && GP))) (A && (B && (Q && M))) (λ tc. when A (B && (GZ && GP)) (B && (Q && M)) (λ ta. when B (GZ && GP) (Q && M) (λ tb.
-          ap (λ b. b && GP) (zero_test_true v (at + w) (at + w + 1) s
-              ∙ ap (λ n. beq (v (at + w + 1)) (eqb n 0)) (number-front v (at + w + 1) s z zs hz tc)
-              ∙ sym (and-true (beq (v (at + w + 1)) (eqb z 0))))
-          ∙ when Q GP M (λ tq.
-              picks_true v (at + w) at l r w
-              ∙ ap (λ n. eqb (number_at v at w) (cond (v (at + w + 1)) (number_at v r w) n)) (number-front v l w x xs hx ta)
-              ∙ ap (λ n. eqb (number_at v at w) (cond (v (at + w + 1)) n x)) (number-front v r w y ys hy tb)
-              ∙ ap (λ b. eqb (number_at v at w) (cond b y x)) (one_bit (at + w) (eqb z 0) tq)
-              ∙ sym (matches-block v at w (cond (eqb z 0) y x) hm)))))
+      ap (λ b. b && GP) (zero_test_true v (at + w) (at + w + 1) s
+      ∙ ap (λ n. beq (v (at + w + 1)) (eqb n 0)) (number-front v (at + w + 1) s z zs hz tc)
+      ∙ sym (and-true (beq (v (at + w + 1)) (eqb z 0))))
+      ∙ when Q GP M (λ tq.
+      picks_true v (at + w) at l r w
+      ∙ ap (λ n. eqb (number_at v at w) (cond (v (at + w + 1)) (number_at v r w) n)) (number-front v l w x xs hx ta)
+      ∙ ap (λ n. eqb (number_at v at w) (cond (v (at + w + 1)) n x)) (number-front v r w y ys hy tb)
+      ∙ ap (λ b. eqb (number_at v at w) (cond b y x)) (one_bit (at + w) (eqb z 0) tq)
+      ∙ sym (matches-block v at w (cond (eqb z 0) y x) hm)))))
       ∙ ap (λ b. C && b) (sym (and_assoc A B (Q && M)))
       ∙ sym (and_assoc C (A && B) (Q && M))
       ∙ rev2 (C && (A && B)) Q M
@@ -219,7 +219,7 @@ module _ (ports : List FirstPort) (nums : List ℕ) (fits : (i : ℕ) → option
   value_lt w (either a b) t h = joined_lt Or w _ _ (value_lt w a (and_parts _ _ t).0 (omega arith)) (value_lt w b (and_parts _ _ t).1 (omega arith))
   value_lt w (pick c a b) t h =
       cond_lt (eqb (value ports nums (size ports c) c) 0) (2 ^ w) _ _
-          (value_lt w b (and_parts _ _ (and_parts _ _ t).1).1 (omega arith)) (value_lt w a (and_parts _ _ (and_parts _ _ t).1).0 (omega arith))
+      (value_lt w b (and_parts _ _ (and_parts _ _ t).1).1 (omega arith)) (value_lt w a (and_parts _ _ (and_parts _ _ t).1).0 (omega arith))
 
 module _ (ports : List FirstPort) (nums : List ℕ) where
   length-part : (w n : ℕ) (xs : List Bool) → length (block w n ++ xs) ≡ w + length xs
@@ -248,19 +248,19 @@ module _ (v : ℕ → Bool) (ports : List FirstPort) (starts nums : List ℕ) (r
       → formula_true v (expr_clauses ports starts w (at + w) a) ≡ matches v (at + w) (content ports nums w a)
       → formula_true v (expr_clauses ports starts w (at + w + span ports w a) b) ≡ matches v (at + w + span ports w a) (content ports nums w b)
       → formula_true v (expr_clauses ports starts w (at + w) a ++ (expr_clauses ports starts w (at + w + span ports w a) b ++ gates g at (at + w) (at + w + span ports w a) w))
-          ≡ matches v at (block w (joined g (value ports nums w a) (value ports nums w b)) ++ (content ports nums w a ++ content ports nums w b))
+      ≡ matches v at (block w (joined g (value ports nums w a) (value ports nums w b)) ++ (content ports nums w a ++ content ports nums w b))
   gate g w at a b ta tb ha hb ea eb =
       let x = value ports nums w a in let y = value ports nums w b in
       let hx = value_lt ports nums r.fits w a ta ha in let hy = value_lt ports nums r.fits w b tb hb in
       gate_case v g (expr_clauses ports starts w (at + w) a) (expr_clauses ports starts w (at + w + span ports w a) b) (inner ports nums w a) (inner ports nums w b)
-          at (at + w) (at + w + span ports w a) w x y hx hy (joined_lt g w x y hx hy) refl (ap (λ k. at + w + k) (sym (length-content ports nums w a))) ea eb
+      at (at + w) (at + w + span ports w a) w x y hx hy (joined_lt g w x y hx hy) refl (ap (λ k. at + w + k) (sym (length-content ports nums w a))) ea eb
 
   pub expr_true : (w at : ℕ) (e : Expr) → reads_inputs ports e ≡ true → size ports e ≤ w
       → formula_true v (expr_clauses ports starts w at e) ≡ matches v at (content ports nums w e)
   expr_true w at (number n) t h = leaf_case v (constant at n w) at w (n % 2 ^ w) (mod_below n (2 ^ w) (pow_pos w)) (constant_true v at n w)
   expr_true w at (port i) t h =
       leaf_case v (copies at (slice_index starts i) (width_at ports i) w) at w (slice_index nums i) (value_lt ports nums r.fits w (port i) t h)
-          (copies_true v at (slice_index starts i) (width_at ports i) w h ∙ ap (eqb (number_at v at w)) (r.read i t))
+      (copies_true v at (slice_index starts i) (width_at ports i) w h ∙ ap (eqb (number_at v at w)) (r.read i t))
   expr_true w at (complement a) t h =
       not_case v (expr_clauses ports starts w (at + w) a) (inner ports nums w a) at w (value ports nums w a) (value_lt ports nums r.fits w a t h) (expr_true w (at + w) a t h)
   expr_true w at (equal a b) t h =
@@ -269,9 +269,9 @@ module _ (v : ℕ → Bool) (ports : List FirstPort) (starts nums : List ℕ) (r
       let l = at + w + 1 + s in
       let q = l + span ports s a in
       equal_case v (expr_clauses ports starts s l a) (expr_clauses ports starts s q b) (inner ports nums s a) (inner ports nums s b) at l q w s (value ports nums s a) (value ports nums s b)
-          h (value_lt ports nums r.fits s a ab.0 (omega arith)) (value_lt ports nums r.fits s b ab.1 (omega arith))
-          refl (ap (λ k. l + k) (sym (length-content ports nums s a)))
-          (expr_true s l a ab.0 (omega arith)) (expr_true s q b ab.1 (omega arith))
+      h (value_lt ports nums r.fits s a ab.0 (omega arith)) (value_lt ports nums r.fits s b ab.1 (omega arith))
+      refl (ap (λ k. l + k) (sym (length-content ports nums s a)))
+      (expr_true s l a ab.0 (omega arith)) (expr_true s q b ab.1 (omega arith))
   expr_true w at (both a b) t h = gate And w at a b (and_parts _ _ t).0 (and_parts _ _ t).1 (omega arith) (omega arith)
       (expr_true w (at + w) a (and_parts _ _ t).0 (omega arith)) (expr_true w (at + w + span ports w a) b (and_parts _ _ t).1 (omega arith))
   expr_true w at (differ a b) t h = gate Xor w at a b (and_parts _ _ t).0 (and_parts _ _ t).1 (omega arith) (omega arith)
@@ -285,7 +285,7 @@ module _ (v : ℕ → Bool) (ports : List FirstPort) (starts nums : List ℕ) (r
       let l = at + w + 1 + span ports s c in
       let q = l + span ports w a in
       pick_case v (expr_clauses ports starts s (at + w + 1) c) (expr_clauses ports starts w l a) (expr_clauses ports starts w q b)
-          (inner ports nums s c) (inner ports nums w a) (inner ports nums w b) at l q w s (value ports nums s c) (value ports nums w a) (value ports nums w b)
-          (value_lt ports nums r.fits s c tc.0 (omega arith)) (value_lt ports nums r.fits w a ab.0 (omega arith)) (value_lt ports nums r.fits w b ab.1 (omega arith))
-          (ap (λ k. at + w + 1 + k) (sym (length-content ports nums s c))) (ap (λ k. l + k) (sym (length-content ports nums w a)))
-          (expr_true s (at + w + 1) c tc.0 (omega arith)) (expr_true w l a ab.0 (omega arith)) (expr_true w q b ab.1 (omega arith))
+      (inner ports nums s c) (inner ports nums w a) (inner ports nums w b) at l q w s (value ports nums s c) (value ports nums w a) (value ports nums w b)
+      (value_lt ports nums r.fits s c tc.0 (omega arith)) (value_lt ports nums r.fits w a ab.0 (omega arith)) (value_lt ports nums r.fits w b ab.1 (omega arith))
+      (ap (λ k. at + w + 1 + k) (sym (length-content ports nums s c))) (ap (λ k. l + k) (sym (length-content ports nums w a)))
+      (expr_true s (at + w + 1) c tc.0 (omega arith)) (expr_true w l a ab.0 (omega arith)) (expr_true w q b ab.1 (omega arith))

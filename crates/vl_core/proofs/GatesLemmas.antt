@@ -1,15 +1,15 @@
 -- What the clauses of gates say of the values: an equation of two tests for each, so both ways at once.
-use Rattle.std.proofs.Common.{◌≡◌, ℕ, zero, suc, ◌+◌, ◌-◌, ◌*◌, ◌^◌, ◌%◌, ◌<◌, ◌≤◌, Bool, true, false, cond, not, ◌&&◌, ◌||◌, eqb, ltb, List, [], ◌∷◌, ◌++◌, length, refl, sym, ap, ◌∙◌, subst, arith}
+use Rattle.std.proofs.Common.{◌≡◌, ℕ, zero, suc, ◌+◌, ◌-◌, ◌^◌, ◌%◌, ◌≤◌, Bool, true, false, cond, not, ◌&&◌, ◌||◌, eqb, ltb, List, [], ◌∷◌, ◌++◌, refl, sym, ap, ◌∙◌}
 use Rattle.std.specs.Prelude.{ℤ}
 use Rattle.std.specs.List.{list_any, list_all}
 use Rattle.std.proofs.lemmas.List.Folds.{list_all-append, list_any-append}
 use mathlib.Core.Bool.{beq}
 use Rattle.cnf_form.specs.Cnf.{literal_true, clause_true, formula_true}
-use Rattle.vl_core.specs.Bits.{bit, written, is_set, number}
+use Rattle.vl_core.specs.Bits.{written, is_set, number}
 use Rattle.vl_core.specs.declared.gates.Gate.{Gate}
 use Rattle.vl_core.specs.declared.gates.Gate.TheVariants.{And, Xor, Or}
-use Rattle.vl_core.specs.Gates.{set, unset, fixed_bit, copied_bit, opposite_bit, gate_bit, picked_bit, excluded_bit, each_bit, constant, copies, opposites, gates, picks, sets, zero_test, truth, joined}
-use Rattle.vl_core.proofs.BitsLemmas.{written_lt, eqb-step, and-true, and-false, written-fits, written-is_set, written-truth, written-not, written-short, zero-written, written-pick}
+use Rattle.vl_core.specs.Gates.{set, fixed_bit, copied_bit, opposite_bit, gate_bit, picked_bit, excluded_bit, each_bit, constant, copies, opposites, gates, picks, sets, zero_test, truth, joined}
+use Rattle.vl_core.proofs.BitsLemmas.{written_lt, eqb-step, written-is_set, written-truth, written-not, written-short, zero-written, written-pick}
 
 pub formula-append : (v : ℕ → Bool) (xs ys : List (List ℤ)) → formula_true v (xs ++ ys) ≡ (formula_true v xs && formula_true v ys)
 formula-append v xs ys = list_all-append (clause_true v) xs ys

@@ -1,11 +1,11 @@
 -- Values that match a list of truth values from a position on.
-use Rattle.std.proofs.Common.{◌≡◌, ℕ, zero, suc, ◌+◌, ◌-◌, ◌*◌, ◌^◌, ◌%◌, ◌<◌, ◌≤◌, Bool, true, false, cond, not, ◌&&◌, ◌||◌, eqb, ltb, List, [], ◌∷◌, ◌++◌, length, refl, sym, ap, ◌∙◌, subst, arith, append_assoc, length-append}
+use Rattle.std.proofs.Common.{◌≡◌, ℕ, zero, suc, ◌+◌, ◌-◌, ◌^◌, ◌<◌, Bool, true, false, ◌&&◌, eqb, List, [], ◌∷◌, ◌++◌, length, refl, sym, ap, ◌∙◌, arith, append_assoc, length-append}
 use Rattle.std.proofs.lemmas.Bool.{eqb-true, and_parts}
-use Rattle.std.proofs.lemmas.List.{get_or_at, append-nil}
+use Rattle.std.proofs.lemmas.List.{get_or_at}
 use mathlib.Core.Bool.{beq}
 use Rattle.cnf_form.specs.Cnf.{value_of}
-use Rattle.vl_core.specs.Bits.{bit, written, is_set, number}
-use Rattle.vl_core.proofs.BitsLemmas.{written_lt, eqb-step, and-true, and-false, written-fits}
+use Rattle.vl_core.specs.Bits.{written, is_set, number}
+use Rattle.vl_core.proofs.BitsLemmas.{written_lt, eqb-step, and-true, written-fits}
 
 abbrev pub matches : (ℕ → Bool) → ℕ → List Bool → Bool
 matches v at [] = true
@@ -90,9 +90,9 @@ matches_behind before (b ∷ bs) =
     let head : value_of (before ++ b ∷ bs) (length before + 1) ≡ b = get_or_at before b bs false (length before + 1 - 1) (omega arith) in
     let n : length before + 1 ≡ length (before ++ b ∷ []) = sym (length-append before (b ∷ [])) in
     let rest : matches (value_of (before ++ b ∷ bs)) (length before + 1) bs ≡ true =
-        ap (λ k. matches (value_of (before ++ b ∷ bs)) k bs) n
-        ∙ ap (λ l. matches (value_of l) (length (before ++ b ∷ [])) bs) (sym (append_assoc before (b ∷ []) bs))
-        ∙ matches_behind (before ++ b ∷ []) bs in
+    ap (λ k. matches (value_of (before ++ b ∷ bs)) k bs) n
+    ∙ ap (λ l. matches (value_of l) (length (before ++ b ∷ [])) bs) (sym (append_assoc before (b ∷ []) bs))
+    ∙ matches_behind (before ++ b ∷ []) bs in
     ap (λ c. beq c b && matches (value_of (before ++ b ∷ bs)) (length before + 1) bs) head
     ∙ ap (λ c. c && matches (value_of (before ++ b ∷ bs)) (length before + 1) bs) (beq-refl b)
     ∙ rest

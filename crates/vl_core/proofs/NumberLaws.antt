@@ -1,21 +1,19 @@
 -- The numbers that values give the ports at their places.
-use Rattle.std.proofs.Common.{⊎_elim, ◌≡◌, ℕ, zero, suc, ◌+◌, ◌-◌, ◌^◌, ◌<◌, ◌≤◌, Bool, true, false, cond, not, ◌&&◌, ◌||◌, eqb, ltb, List, [], ◌∷◌, ◌++◌, length, take, drop, refl, sym, ap, ◌∙◌, arith, length-append, lit≤, get_or, add-one, append_assoc, ◌*◌}
+use Rattle.std.proofs.Common.{⊎_elim, ◌≡◌, ℕ, zero, suc, ◌+◌, ◌^◌, ◌<◌, ◌≤◌, Bool, true, false, cond, not, ◌||◌, eqb, List, [], ◌∷◌, ◌++◌, length, drop, refl, sym, ap, ◌∙◌, arith, length-append, lit≤, get_or, add-one, append_assoc, ◌*◌}
 use Rattle.std.specs.Prelude.{slice_index}
-use Rattle.std.specs.List.{list_all}
-use Rattle.std.proofs.lemmas.Bool.{and_parts, and_from, lt-ltb, eq-eqb, cases_lt}
+use Rattle.std.proofs.lemmas.Bool.{and_from, lt-ltb, eq-eqb, cases_lt}
 use Rattle.std.proofs.Math.Nat.{pow-le-pow_right}
 use Rattle.std.proofs.lemmas.List.{append-nil, drop_all, drop_at, drop-drop, drop_more, length-drop}
-use Rattle.cnf_form.specs.Cnf.{value_of}
-use Rattle.vl_first.specs.Plain.{is_clock, has_width}
+use Rattle.vl_first.specs.Plain.{is_clock}
 use Rattle.vl_first.specs.Violation.{within}
 use Rattle.vl_first.specs.declared.form.FirstPort.{FirstPort}
 use Rattle.vl_core.specs.Bits.{bit, written, number}
 use Rattle.vl_core.specs.Clauses.{bits_of}
-use Rattle.vl_core.specs.Encoding.{agree, place_agrees, clocks_are_low}
+use Rattle.vl_core.specs.Encoding.{agree, clocks_are_low}
 use Rattle.vl_core.specs.Places.{port_places, places_from, places_of, var_at}
 use Rattle.vl_core.specs.declared.place.FirstPlace.{FirstPlace}
 use Rattle.vl_core.proofs.BitsLemmas.{written_lt, written_same}
-use Rattle.vl_core.proofs.Matches.{matches, block, matches-block}
+use Rattle.vl_core.proofs.Matches.{matches, matches-block}
 use Rattle.vl_core.proofs.PortLaws.{port_bits, split_port}
 use Rattle.vl_core.proofs.PlaceLaws.{places_agree}
 
@@ -139,16 +137,16 @@ module _ (ports : List FirstPort) (places : List FirstPlace) (i used bits : ℕ)
 
   pub left_next : Left ports places (i + 1) (used + bits)
   left_next = record {
-      within = left_room;
-      are = sym (drop-drop bits used places) ∙ ap (drop bits) split_left ∙ drop_at (port_places i used bits) (places_from (i + 1) (used + bits) (drop (i + 1) ports)) bits (length-port_places i used bits);
-    }
+    within = left_room;
+    are = sym (drop-drop bits used places) ∙ ap (drop bits) split_left ∙ drop_at (port_places i used bits) (places_from (i + 1) (used + bits) (drop (i + 1) ports)) bits (length-port_places i used bits);
+  }
 
   pub left_number : (v : ℕ → Bool) → written (λ k. v (var_at places (used + k))) bits ≡ number v used bits
   left_number v = written_same (λ k. v (var_at places (used + k))) (λ k. v (used + k + 1)) bits (λ k j.
       ap v (var_at-drop places used k
-          ∙ ap (λ ps. var_at ps k) split_left
-          ∙ var_at-front (port_places i used bits) (places_from (i + 1) (used + bits) (drop (i + 1) ports)) k (omega (arith, length-port_places i used bits))
-          ∙ var_at-port i used bits k j))
+      ∙ ap (λ ps. var_at ps k) split_left
+      ∙ var_at-front (port_places i used bits) (places_from (i + 1) (used + bits) (drop (i + 1) ports)) k (omega (arith, length-port_places i used bits))
+      ∙ var_at-port i used bits k j))
 
   pub left_numbers : (v : ℕ → Bool) (before after : List ℕ) (n : ℕ) → after ≡ before ++ n ∷ [] → n ≡ written (λ k. v (var_at places (used + k))) bits
       → before ++ numbers_from v used (drop i ports) ≡ numbers_from v 0 ports → after ++ numbers_from v (used + bits) (drop (i + 1) ports) ≡ numbers_from v 0 ports

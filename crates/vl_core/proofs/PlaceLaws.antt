@@ -1,9 +1,8 @@
 -- The places of the ports' bits.
-use Rattle.std.proofs.Common.{⊎_elim, ◌≡◌, ℕ, zero, suc, ◌+◌, ◌-◌, ◌*◌, ◌^◌, ◌%◌, ◌<◌, ◌≤◌, max, Bool, true, false, cond, not, ◌&&◌, ◌||◌, eqb, ltb, leb, List, [], ◌∷◌, ◌++◌, length, Option, Some, None, refl, sym, ap, ◌∙◌, subst, arith, append_assoc, length-append, lit≤}
-use Rattle.std.specs.Prelude.{slice_get, slice_index}
-use Rattle.std.specs.List.{list_all, count_by, sum_by}
-use Rattle.std.specs.Option.{option_map_or}
-use Rattle.std.proofs.lemmas.Bool.{eq-eqb, ne_eqb, lt-ltb, le-ltb, le-leb, cases_eq, cases_lt, cases_order, and_parts, and_from, cases_Bool}
+use Rattle.std.proofs.Common.{⊎_elim, ◌≡◌, ℕ, zero, suc, ◌+◌, ◌<◌, ◌≤◌, Bool, true, false, cond, ◌&&◌, eqb, ltb, List, [], ◌∷◌, refl, sym, ap, ◌∙◌, arith}
+use Rattle.std.specs.Prelude.{slice_index}
+use Rattle.std.specs.List.{list_all, count_by}
+use Rattle.std.proofs.lemmas.Bool.{eq-eqb, ne_eqb, lt-ltb, le-ltb, le-leb, cases_order, and_parts, and_from}
 use Rattle.std.proofs.lemmas.List.Folds.{list_all-append}
 use Rattle.std.proofs.lemmas.List.Sums.{sum_by-append, sum_by_push}
 use mathlib.Core.Bool.{beq}
@@ -13,9 +12,8 @@ use Rattle.vl_core.specs.Bits.{is_set}
 use Rattle.vl_core.specs.Clauses.{bits_of, end_from}
 use Rattle.vl_core.specs.Encoding.{has_bit, is_place, is_in, place_agrees}
 use Rattle.vl_core.specs.Places.{port_places, places_from}
-use Rattle.vl_core.specs.declared.place.FirstPlace.{FirstPlace}
-use Rattle.vl_core.proofs.BitsLemmas.{and-true, and-false}
-use Rattle.vl_core.proofs.Matches.{matches, block, and_assoc, split, length-listed}
+use Rattle.vl_core.proofs.BitsLemmas.{and-false}
+use Rattle.vl_core.proofs.Matches.{matches, block, split}
 use Rattle.vl_core.proofs.SpanLemmas.{end_le}
 use Rattle.vl_core.proofs.ExprLaws.{length-block}
 use Rattle.vl_core.proofs.PortLaws.{port_bits, split_port}
@@ -30,8 +28,8 @@ bits_step false k w = refl
 bits_step true k w = ⊎_elim
     (λ e. omega (arith, ap one_if (le-ltb k w (omega arith)), ap one_if (eq-eqb w k (sym e)), ap one_if (lt-ltb k (suc w) (omega arith))))
     (⊎_elim
-        (λ l. omega (arith, ap one_if (lt-ltb k w l), ap one_if (ne_eqb w k (λ e. omega arith)), ap one_if (lt-ltb k (suc w) (omega arith))))
-        (λ l. omega (arith, ap one_if (le-ltb k w (omega arith)), ap one_if (ne_eqb w k (λ e. omega arith)), ap one_if (le-ltb k (suc w) (omega arith)))))
+    (λ l. omega (arith, ap one_if (lt-ltb k w l), ap one_if (ne_eqb w k (λ e. omega arith)), ap one_if (lt-ltb k (suc w) (omega arith))))
+    (λ l. omega (arith, ap one_if (le-ltb k w (omega arith)), ap one_if (ne_eqb w k (λ e. omega arith)), ap one_if (le-ltb k (suc w) (omega arith)))))
     (cases_order k w)
 
 port_count : (i k j start w : ℕ) → count_by (is_place i k) (port_places j start w) ≡ one_if (eqb j i && ltb k w)
@@ -72,7 +70,7 @@ port_named vars i start zero h = refl
 port_named vars i start (suc w) h =
     list_all-append (is_in vars) (port_places i start w) (record { port = i; bit = w; var = start + w + 1 } ∷ [])
     ∙ and_from _ _ (port_named vars i start w (omega arith))
-        (and_from _ true (and_from _ _ (le-leb 1 (start + w + 1) (omega arith)) (le-leb (start + w + 1) vars (omega arith))) refl)
+    (and_from _ true (and_from _ _ (le-leb 1 (start + w + 1) (omega arith)) (le-leb (start + w + 1) vars (omega arith))) refl)
 
 pub named_places : (vars i start : ℕ) (ps : List FirstPort) → end_from start ps ≤ vars → list_all (is_in vars) (places_from i start ps) ≡ true
 named_places vars i start [] h = refl
@@ -98,5 +96,5 @@ places_agree v nums i start (p ∷ ps) (n ∷ ns) h e =
     list_all-append (place_agrees v nums) (port_places i start (bits_of p)) (places_from (i + 1) (start + bits_of p) ps)
     ∙ ap (λ b. b && list_all (place_agrees v nums) (places_from (i + 1) (start + bits_of p) ps)) (port_agrees v nums i n start (bits_of p) here)
     ∙ ap (λ b. matches v start (block (bits_of p) n) && b)
-        (places_agree v nums (i + 1) (start + bits_of p) ps ns (and_parts _ _ h).1 (λ d. ap (slice_index nums) (omega arith) ∙ e (suc d)))
+    (places_agree v nums (i + 1) (start + bits_of p) ps ns (and_parts _ _ h).1 (λ d. ap (slice_index nums) (omega arith) ∙ e (suc d)))
     ∙ sym (split_port v start p n (port_bits ps ns))

@@ -77,5 +77,5 @@ input_below at (p ∷ ps) (suc i) t = input_below (at + bits_of p) ps i t
 
 pub lie_below : (ports : List FirstPort) (starts : List ℕ) (end : ℕ) → starts ≡ starts_from 0 ports → end_from 0 ports ≤ end → LieBelow ports starts end
 lie_below ports starts end e h = record {
-    below = λ i t. omega (arith, input_below 0 ports i t, ap (λ l. slice_index l i) e);
-  }
+  below = λ i t. omega (arith, input_below 0 ports i t, ap (λ l. slice_index l i) e);
+}

@@ -1,7 +1,7 @@
 -- The clauses of a module of the first form. Each port but the clock and the reset has a position for each of its bits,
 -- in the order of the ports. Behind them each operand of each output's expression has a block of as many positions as
 -- its context gives it bits, before those of its own operands (rule of this project).
-use Rattle.std.specs.Prelude.{◌≡◌, ℕ, zero, suc, ◌+◌, ◌≤◌, max, true, false, cond, ℤ, List, [], ◌∷◌, ◌++◌, Option, Some, None, slice_get, slice_index, codes}
+use Rattle.std.specs.Prelude.{◌≡◌, ℕ, ◌+◌, ◌≤◌, max, true, false, cond, ℤ, List, [], ◌∷◌, ◌++◌, Option, Some, None, slice_get, slice_index, codes}
 use Rattle.std.specs.Option.{option_map_or}
 use Rattle.std.specs.Str.{bytes_eq}
 use Rattle.vl_first.specs.Expr.{Expr, number, port, complement, equal, both, differ, either, pick}
@@ -66,22 +66,22 @@ expr_clauses ports starts w at (equal a b) =
     let left = at + w + 1 + s in
     let right = left + span ports s a in
     expr_clauses ports starts s left a
-        ++ (expr_clauses ports starts s right b ++ equality at w left right s)
+    ++ (expr_clauses ports starts s right b ++ equality at w left right s)
 expr_clauses ports starts w at (both a b) =
     expr_clauses ports starts w (at + w) a
-        ++ (expr_clauses ports starts w (at + w + span ports w a) b ++ gates And at (at + w) (at + w + span ports w a) w)
+    ++ (expr_clauses ports starts w (at + w + span ports w a) b ++ gates And at (at + w) (at + w + span ports w a) w)
 expr_clauses ports starts w at (differ a b) =
     expr_clauses ports starts w (at + w) a
-        ++ (expr_clauses ports starts w (at + w + span ports w a) b ++ gates Xor at (at + w) (at + w + span ports w a) w)
+    ++ (expr_clauses ports starts w (at + w + span ports w a) b ++ gates Xor at (at + w) (at + w + span ports w a) w)
 expr_clauses ports starts w at (either a b) =
     expr_clauses ports starts w (at + w) a
-        ++ (expr_clauses ports starts w (at + w + span ports w a) b ++ gates Or at (at + w) (at + w + span ports w a) w)
+    ++ (expr_clauses ports starts w (at + w + span ports w a) b ++ gates Or at (at + w) (at + w + span ports w a) w)
 expr_clauses ports starts w at (pick c a b) =
     let s = size ports c in
     let first = at + w + 1 + span ports s c in
     let second = first + span ports w a in
     expr_clauses ports starts s (at + w + 1) c
-        ++ (expr_clauses ports starts w first a ++ (expr_clauses ports starts w second b ++ choice at w s first second))
+    ++ (expr_clauses ports starts w first a ++ (expr_clauses ports starts w second b ++ choice at w s first second))
 
 -- the size of an output's assignment: the larger of both sides' (IEEE 1364-2005, section 5.4.1)
 abbrev pub context : List FirstPort → ℕ → Expr → ℕ
@@ -101,7 +101,7 @@ abbrev pub drivers : List FirstPort → List ℕ → ℕ → ℕ → List FirstP
 drivers ports starts start at [] = []
 drivers ports starts start at (p ∷ ps) =
     driver_clauses ports starts start at p.width p.output
-        ++ drivers ports starts (start + bits_of p) (at + driver_span ports p.width p.output) ps
+    ++ drivers ports starts (start + bits_of p) (at + driver_span ports p.width p.output) ps
 
 abbrev pub drivers_end : List FirstPort → ℕ → List FirstPort → ℕ
 drivers_end ports at [] = at
@@ -120,8 +120,8 @@ failing valid insn trap rd_addr mem_wmask =
 abbrev pub failing_at : List FirstPort → List (List ℤ)
 failing_at ports =
     failing (start_named (codes "rvfi_valid") 0 ports) (start_named (codes "rvfi_insn") 0 ports)
-        (start_named (codes "rvfi_trap") 0 ports) (start_named (codes "rvfi_rd_addr") 0 ports)
-        (start_named (codes "rvfi_mem_wmask") 0 ports)
+    (start_named (codes "rvfi_trap") 0 ports) (start_named (codes "rvfi_rd_addr") 0 ports)
+    (start_named (codes "rvfi_mem_wmask") 0 ports)
 
 -- all variables, and all clauses
 abbrev pub vars_of : List FirstPort → ℕ

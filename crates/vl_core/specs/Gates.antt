@@ -33,7 +33,7 @@ gate_bit And r a b = (unset r ∷ set a ∷ []) ∷ (unset r ∷ set b ∷ []) �
 gate_bit Or r a b = (set r ∷ unset a ∷ []) ∷ (set r ∷ unset b ∷ []) ∷ (unset r ∷ set a ∷ set b ∷ []) ∷ []
 gate_bit Xor r a b =
     (unset r ∷ set a ∷ set b ∷ []) ∷ (unset r ∷ unset a ∷ unset b ∷ [])
-        ∷ (set r ∷ unset a ∷ set b ∷ []) ∷ (set r ∷ set a ∷ unset b ∷ []) ∷ []
+    ∷ (set r ∷ unset a ∷ set b ∷ []) ∷ (set r ∷ set a ∷ unset b ∷ []) ∷ []
 
 -- r is a, unless the literal is true
 abbrev pub copied_unless : ℤ → ℕ → ℕ → List (List ℤ)

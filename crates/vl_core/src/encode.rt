@@ -15,9 +15,9 @@ use crate::expr::{push_expr, size_of, span_of};
 use crate::gates::{push_clause, push_fixed_bit, push_unset};
 use crate::layout::{bits_of, end_of, start_named, starts_of};
 use crate::numbers::{push_constant, push_copies, push_sets};
-use cnf_form::Formula;
 use crate::place::FirstPlace;
 use crate::places::places_of;
+use cnf_form::Formula;
 use fv_base::{List, Memory};
 use std::alloc::Global;
 use vl_first::{First, FirstExpr, FirstPort};
@@ -64,7 +64,15 @@ fn vars_from(ports: &[FirstPort], at: u64) -> u64
 /// Pushes the clauses of a port that begins at `start`, with the positions of its expression from `at` on, and answers
 /// the position behind them.
 #[tactic(auto, using(crate::proofs::AddsLemmas::adds, crate::proofs::SpanLemmas::driver_facts))]
-fn push_driver(alloc: Global, formula: &mut Formula, ports: &[FirstPort], starts: &[u64], start: u64, at: u64, port: &FirstPort) -> Result<u64, Memory>
+fn push_driver(
+    alloc: Global,
+    formula: &mut Formula,
+    ports: &[FirstPort],
+    starts: &[u64],
+    start: u64,
+    at: u64,
+    port: &FirstPort,
+) -> Result<u64, Memory>
     requires widths { list_all plain.has_width ports.now ≡ true }
     requires width { plain.has_width port.now ≡ true }
     requires clock { plain.has_plain_clock port.now ≡ true }
@@ -77,7 +85,15 @@ fn push_driver(alloc: Global, formula: &mut Formula, ports: &[FirstPort], starts
 {
     match &port.output {
         Some(expr) => {
-            let next = push_expr(alloc, formula, ports, starts, context_of(ports, port.width, expr), at, expr)?;
+            let next = push_expr(
+                alloc,
+                formula,
+                ports,
+                starts,
+                context_of(ports, port.width, expr),
+                at,
+                expr,
+            )?;
             push_copies(formula, start, at, port.width, port.width)?;
             Ok(next)
         }
@@ -87,7 +103,13 @@ fn push_driver(alloc: Global, formula: &mut Formula, ports: &[FirstPort], starts
 
 /// Pushes the clauses of all outputs, with the positions of their expressions from `first` on.
 #[tactic(auto, using(crate::proofs::AddsLemmas::adds))]
-fn push_drivers(alloc: Global, formula: &mut Formula, ports: &[FirstPort], starts: &[u64], first: u64) -> Result<(), Memory>
+fn push_drivers(
+    alloc: Global,
+    formula: &mut Formula,
+    ports: &[FirstPort],
+    starts: &[u64],
+    first: u64,
+) -> Result<(), Memory>
     requires widths { list_all plain.has_width ports.now ≡ true }
     requires clocks { list_all plain.has_plain_clock ports.now ≡ true }
     requires reads { list_all (plain.output_reads_inputs ports.now) ports.now ≡ true }
@@ -108,7 +130,15 @@ fn push_drivers(alloc: Global, formula: &mut Formula, ports: &[FirstPort], start
 /// Pushes that an instruction is retired whose word ends in 16 zero bits, and that it doesn't trap, or writes a register
 /// or memory.
 #[tactic(auto, using(crate::proofs::AddsLemmas::adds), unfolding(crate::specs::Clauses::failing))]
-fn push_failing(alloc: Global, formula: &mut Formula, valid: u64, insn: u64, trap: u64, rd_addr: u64, mem_wmask: u64) -> Result<(), Memory>
+fn push_failing(
+    alloc: Global,
+    formula: &mut Formula,
+    valid: u64,
+    insn: u64,
+    trap: u64,
+    rd_addr: u64,
+    mem_wmask: u64,
+) -> Result<(), Memory>
     requires valid { HasRoom formula.old (valid + 1) }
     requires insn { HasRoom formula.old (insn + 32) }
     requires trap { HasRoom formula.old (trap + 1) }

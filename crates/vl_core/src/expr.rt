@@ -9,7 +9,9 @@ ghost use Rattle.vl_core.specs.Clauses.{LieBelow};
 ghost use Rattle.vl_core.specs.Adds.{Adds, HasRoom};
 
 use crate::gates::Gate;
-use crate::numbers::{push_choice, push_constant, push_copies, push_equal, push_gates, push_opposites};
+use crate::numbers::{
+    push_choice, push_constant, push_copies, push_equal, push_gates, push_opposites,
+};
 use cnf_form::Formula;
 use fv_base::Memory;
 use std::alloc::Global;
@@ -39,7 +41,10 @@ pub(crate) fn size_of(ports: &[FirstPort], expr: &FirstExpr) -> u32
         FirstKind::Port(place) => width_at(ports, *place),
         FirstKind::Not(a) => size_of(ports, a),
         FirstKind::Eq(_, _) => 1,
-        FirstKind::And(a, b) | FirstKind::Xor(a, b) | FirstKind::Or(a, b) | FirstKind::Pick(_, a, b) => size_of(ports, a).max(size_of(ports, b)),
+        FirstKind::And(a, b)
+        | FirstKind::Xor(a, b)
+        | FirstKind::Or(a, b)
+        | FirstKind::Pick(_, a, b) => size_of(ports, a).max(size_of(ports, b)),
     }
 }
 
@@ -56,11 +61,17 @@ pub(crate) fn span_of(ports: &[FirstPort], size: u32, expr: &FirstExpr) -> u64
         FirstKind::Num(_) | FirstKind::Port(_) => own,
         FirstKind::Not(a) => own + span_of(ports, size, a),
         FirstKind::Eq(a, b) => {
-            let shared = size_of(ports, a).max(size_of(ports, b));
-            own + 1 + u64::from(shared) + span_of(ports, shared, a) + span_of(ports, shared, b)
+            let larger = size_of(ports, a).max(size_of(ports, b));
+            own + 1 + u64::from(larger) + span_of(ports, larger, a) + span_of(ports, larger, b)
         }
-        FirstKind::And(a, b) | FirstKind::Xor(a, b) | FirstKind::Or(a, b) => own + span_of(ports, size, a) + span_of(ports, size, b),
-        FirstKind::Pick(c, a, b) => own + 1 + span_of(ports, size_of(ports, c), c) + span_of(ports, size, a) + span_of(ports, size, b),
+        FirstKind::And(a, b) | FirstKind::Xor(a, b) | FirstKind::Or(a, b) => own
+            + span_of(ports, size, a)
+            + span_of(ports, size, b),
+        FirstKind::Pick(c, a, b) => own
+            + 1
+            + span_of(ports, size_of(ports, c), c)
+            + span_of(ports, size, a)
+            + span_of(ports, size, b),
     }
 }
 
@@ -102,7 +113,13 @@ pub(crate) fn push_expr(
             Ok(own)
         }
         FirstKind::Port(place) => {
-            push_copies(formula, at, start_at(starts, *place), width_at(ports, *place), size)?;
+            push_copies(
+                formula,
+                at,
+                start_at(starts, *place),
+                width_at(ports, *place),
+                size,
+            )?;
             Ok(own)
         }
         FirstKind::Not(a) => {

@@ -101,7 +101,12 @@ pub(crate) fn push_fixed_bit(formula: &mut Formula, value: bool, r: u64) -> Resu
 
 /// The bit at `r` is that at `a`, or 0.
 #[tactic(auto, using(crate::proofs::AddsLemmas::adds))]
-pub(crate) fn push_copied_bit(formula: &mut Formula, is_copied: bool, r: u64, a: u64) -> Result<(), Memory>
+pub(crate) fn push_copied_bit(
+    formula: &mut Formula,
+    is_copied: bool,
+    r: u64,
+    a: u64,
+) -> Result<(), Memory>
     requires r { HasRoom formula.old (r + 1) }
     requires a { is_copied ≡ true → HasRoom formula.old (a + 1) }
     ensures { OnOk result (Adds formula.old formula.new (spec.copied_bit is_copied r a)) }
@@ -129,7 +134,13 @@ pub(crate) fn push_opposite_bit(formula: &mut Formula, r: u64, a: u64) -> Result
 
 /// The bit at `r` is the gate's answer at those at `a` and `b`.
 #[tactic(auto, using(crate::proofs::AddsLemmas::adds))]
-pub(crate) fn push_gate_bit(formula: &mut Formula, gate: Gate, r: u64, a: u64, b: u64) -> Result<(), Memory>
+pub(crate) fn push_gate_bit(
+    formula: &mut Formula,
+    gate: Gate,
+    r: u64,
+    a: u64,
+    b: u64,
+) -> Result<(), Memory>
     requires r { HasRoom formula.old (r + 1) }
     requires a { HasRoom formula.old (a + 1) }
     requires b { HasRoom formula.old (b + 1) }
@@ -171,7 +182,13 @@ fn push_copied_unless(formula: &mut Formula, lit: i64, r: u64, a: u64) -> Result
 
 /// The bit at `r` is that at `b` where the bit at `z` is 1, and else that at `a`.
 #[tactic(auto, using(crate::proofs::AddsLemmas::adds))]
-pub(crate) fn push_picked_bit(formula: &mut Formula, z: u64, r: u64, a: u64, b: u64) -> Result<(), Memory>
+pub(crate) fn push_picked_bit(
+    formula: &mut Formula,
+    z: u64,
+    r: u64,
+    a: u64,
+    b: u64,
+) -> Result<(), Memory>
     requires z { HasRoom formula.old (z + 1) }
     requires r { HasRoom formula.old (r + 1) }
     requires a { HasRoom formula.old (a + 1) }

@@ -5,7 +5,10 @@ ghost use Rattle.cnf_form.specs.Cnf.{AreLiterals};
 ghost use Rattle.vl_core.specs.Gates as spec;
 ghost use Rattle.vl_core.specs.Adds.{Adds, HasRoom};
 
-use crate::gates::{is_set, push_clause, push_copied_bit, push_excluded_bit, push_fixed_bit, push_gate_bit, push_opposite_bit, push_picked_bit, push_set, Gate};
+use crate::gates::{
+    Gate, is_set, push_clause, push_copied_bit, push_excluded_bit, push_fixed_bit, push_gate_bit,
+    push_opposite_bit, push_picked_bit, push_set,
+};
 use cnf_form::Formula;
 use fv_base::Memory;
 use std::alloc::Global;
@@ -25,7 +28,13 @@ pub(crate) fn push_constant(formula: &mut Formula, r: u64, n: u32, width: u32) -
 
 /// The bits from `r` on are the `count` bits from `a` on, and 0 behind.
 #[tactic(auto, using(crate::proofs::AddsLemmas::adds))]
-pub(crate) fn push_copies(formula: &mut Formula, r: u64, a: u64, count: u32, width: u32) -> Result<(), Memory>
+pub(crate) fn push_copies(
+    formula: &mut Formula,
+    r: u64,
+    a: u64,
+    count: u32,
+    width: u32,
+) -> Result<(), Memory>
     requires r { HasRoom formula.old (r + width) }
     requires a { HasRoom formula.old (a + count) }
     ensures { OnOk result (Adds formula.old formula.new (spec.copies r a count width)) }
@@ -39,7 +48,12 @@ pub(crate) fn push_copies(formula: &mut Formula, r: u64, a: u64, count: u32, wid
 
 /// The bits from `r` on are the opposite of those from `a` on.
 #[tactic(auto, using(crate::proofs::AddsLemmas::adds))]
-pub(crate) fn push_opposites(formula: &mut Formula, r: u64, a: u64, width: u32) -> Result<(), Memory>
+pub(crate) fn push_opposites(
+    formula: &mut Formula,
+    r: u64,
+    a: u64,
+    width: u32,
+) -> Result<(), Memory>
     requires r { HasRoom formula.old (r + width) }
     requires a { HasRoom formula.old (a + width) }
     ensures { OnOk result (Adds formula.old formula.new (spec.opposites r a width)) }
@@ -53,7 +67,14 @@ pub(crate) fn push_opposites(formula: &mut Formula, r: u64, a: u64, width: u32) 
 
 /// The bits from `r` on are the gate's answers at those from `a` and `b` on.
 #[tactic(auto, using(crate::proofs::AddsLemmas::adds))]
-pub(crate) fn push_gates(formula: &mut Formula, gate: Gate, r: u64, a: u64, b: u64, width: u32) -> Result<(), Memory>
+pub(crate) fn push_gates(
+    formula: &mut Formula,
+    gate: Gate,
+    r: u64,
+    a: u64,
+    b: u64,
+    width: u32,
+) -> Result<(), Memory>
     requires r { HasRoom formula.old (r + width) }
     requires a { HasRoom formula.old (a + width) }
     requires b { HasRoom formula.old (b + width) }
@@ -68,7 +89,14 @@ pub(crate) fn push_gates(formula: &mut Formula, gate: Gate, r: u64, a: u64, b: u
 
 /// The bits from `r` on are those from `b` on where the bit at `z` is 1, and else those from `a` on.
 #[tactic(auto, using(crate::proofs::AddsLemmas::adds))]
-pub(crate) fn push_picks(formula: &mut Formula, z: u64, r: u64, a: u64, b: u64, width: u32) -> Result<(), Memory>
+pub(crate) fn push_picks(
+    formula: &mut Formula,
+    z: u64,
+    r: u64,
+    a: u64,
+    b: u64,
+    width: u32,
+) -> Result<(), Memory>
     requires z { HasRoom formula.old (z + 1) }
     requires r { HasRoom formula.old (r + width) }
     requires a { HasRoom formula.old (a + width) }
@@ -95,7 +123,13 @@ pub(crate) fn push_sets(lits: &mut Vec<i64>, a: u64, width: u32) -> Result<(), M
 
 /// The bit at `z` is 1 exactly where the bits from `a` on are all 0.
 #[tactic(auto, using(crate::proofs::AddsLemmas::adds))]
-pub(crate) fn push_zero_test(alloc: Global, formula: &mut Formula, z: u64, a: u64, width: u32) -> Result<(), Memory>
+pub(crate) fn push_zero_test(
+    alloc: Global,
+    formula: &mut Formula,
+    z: u64,
+    a: u64,
+    width: u32,
+) -> Result<(), Memory>
     requires z { HasRoom formula.old (z + 1) }
     requires a { HasRoom formula.old (a + width) }
     ensures { OnOk result (Adds formula.old formula.new (spec.zero_test z a width)) }
@@ -113,7 +147,15 @@ pub(crate) fn push_zero_test(alloc: Global, formula: &mut Formula, z: u64, a: u6
 /// The number from `at` on is 1 where those from `left` and `right` on are equal, and else 0: their bits that differ
 /// stand behind it, and before them whether there are none.
 #[tactic(auto, using(crate::proofs::AddsLemmas::adds))]
-pub(crate) fn push_equal(alloc: Global, formula: &mut Formula, at: u64, size: u32, left: u64, right: u64, shared: u32) -> Result<(), Memory>
+pub(crate) fn push_equal(
+    alloc: Global,
+    formula: &mut Formula,
+    at: u64,
+    size: u32,
+    left: u64,
+    right: u64,
+    shared: u32,
+) -> Result<(), Memory>
     requires size { 1 ≤ size }
     requires at { HasRoom formula.old (at + size + 1 + shared) }
     requires left { HasRoom formula.old (left + shared) }
@@ -129,7 +171,15 @@ pub(crate) fn push_equal(alloc: Global, formula: &mut Formula, at: u64, size: u3
 
 /// The number from `at` on is that from `second` on where the one from `test` on is 0, and else that from `first` on.
 #[tactic(auto, using(crate::proofs::AddsLemmas::adds))]
-pub(crate) fn push_choice(alloc: Global, formula: &mut Formula, at: u64, size: u32, test: u32, first: u64, second: u64) -> Result<(), Memory>
+pub(crate) fn push_choice(
+    alloc: Global,
+    formula: &mut Formula,
+    at: u64,
+    size: u32,
+    test: u32,
+    first: u64,
+    second: u64,
+) -> Result<(), Memory>
     requires at { HasRoom formula.old (at + size + 1 + test) }
     requires first { HasRoom formula.old (first + size) }
     requires second { HasRoom formula.old (second + size) }

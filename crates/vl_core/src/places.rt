@@ -15,7 +15,12 @@ use std::alloc::Global;
 use vl_first::{First, FirstPort};
 
 /// Adds the places of a port that begins at a position, its lowest bit first.
-fn push_places(places: &mut List<FirstPlace>, port: u32, start: u64, bits: u32) -> Result<(), Memory>
+fn push_places(
+    places: &mut List<FirstPlace>,
+    port: u32,
+    start: u64,
+    bits: u32,
+) -> Result<(), Memory>
     requires { start + bits < 2 ^ 64 }
     ensures { OnOk result (places.new ≡ places.old ++ spec.port_places port start bits) }
 {
@@ -49,7 +54,10 @@ pub(crate) fn places_of(alloc: Global, ports: &[FirstPort]) -> Result<List<First
 fn value_at(values: &[bool], var: u64) -> bool
     ensures { result ≡ value_of values.now var }
 {
-    values.get(var.saturating_sub(1) as usize).copied().unwrap_or(false)
+    values
+        .get(var.saturating_sub(1) as usize)
+        .copied()
+        .unwrap_or(false)
 }
 
 /// A number with one more bit above those that it has.
@@ -78,7 +86,12 @@ fn number_at(places: &[FirstPlace], from: usize, bits: u32, values: &[bool]) -> 
 /// The numbers that values give the ports at the places, one a port. The clock and the reset have 0.
 ///
 /// The values are those of the variables from 1 on, as a search answers them.
-pub fn numbers_at(alloc: Global, first: &First, places: &[FirstPlace], values: &[bool]) -> Result<List<u32>, Memory>
+pub fn numbers_at(
+    alloc: Global,
+    first: &First,
+    places: &[FirstPlace],
+    values: &[bool],
+) -> Result<List<u32>, Memory>
     requires widths { list_all has_width first.now.ports ≡ true }
     requires places { places.now ≡ spec.places_of first.now.ports }
     ensures agree { IfOk result (λ nums. agree first.now.ports places.now (value_of values.now) nums ≡ true) }

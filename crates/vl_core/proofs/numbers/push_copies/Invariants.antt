@@ -1,6 +1,5 @@
-use Rattle.std.proofs.Common.{◌≡◌, ◌+◌, ◌++◌, ltb}
-use Rattle.vl_core.specs.Bits.{is_set}
-use Rattle.vl_core.specs.Gates.{fixed_bit, copied_bit, opposite_bit, gate_bit, picked_bit, excluded_bit, each_bit, sets}
+use Rattle.std.proofs.Common.{◌+◌, ltb}
+use Rattle.vl_core.specs.Gates.{copied_bit, each_bit}
 use Rattle.vl_core.specs.Adds.{Adds}
 use Rattle.vl_core.proofs.numbers.push_copies.Given as goal
 

@@ -1,7 +1,5 @@
-use Rattle.std.proofs.Common.{◌≡◌, ◌+◌, ◌++◌, ltb}
-use Rattle.vl_core.specs.Bits.{is_set}
-use Rattle.vl_core.specs.Gates.{fixed_bit, copied_bit, opposite_bit, gate_bit, picked_bit, excluded_bit, each_bit, sets}
-use Rattle.vl_core.specs.Adds.{Adds}
+use Rattle.std.proofs.Common.{◌≡◌, ◌++◌}
+use Rattle.vl_core.specs.Gates.{sets}
 use Rattle.vl_core.proofs.numbers.push_sets.Given as goal
 
 abbrev pub invariant-loop-k : goal.invariant-loop-k
