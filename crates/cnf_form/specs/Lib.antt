@@ -1,1 +1,4 @@
 pub mod Cnf
+pub mod Literals
+pub mod Search
+pub mod Trail

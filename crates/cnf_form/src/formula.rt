@@ -1,6 +1,6 @@
 ghost use Rattle.std.specs.Prelude.{◌≡◌, ℕ, ◌<◌, ◌^◌, [], ◌∷◌, ◌++◌, length, slice_get, OnOk, OnErr, OnSome, IfSome, IsTrue, ◌↔◌};
 ghost use Rattle.std.specs.Option.{option_copied};
-ghost use Rattle.cnf_form.specs.Cnf.{Cnf, AreLiterals, AreClauses};
+ghost use Rattle.cnf_form.specs.Cnf.{Cnf, IsLiteral, AreLiterals, AreClauses};
 
 use fv_base::{List, Memory};
 use std::alloc::Global;
@@ -93,4 +93,24 @@ impl Formula {
     {
         self.clauses.as_slice()
     }
+}
+
+/// Whether the literals may be a clause of a formula with so many variables.
+pub fn are_literals(lits: &[i64], vars: u64) -> bool
+    ensures { IsTrue result ↔ AreLiterals vars lits.now }
+{
+    for lit in lits {
+        if !is_literal(lit, vars) {
+            return false;
+        }
+    }
+    true
+}
+
+/// Whether the literal is not 0 and names one of so many variables.
+pub fn is_literal(lit: &i64, vars: u64) -> bool
+    ensures { IsTrue result ↔ IsLiteral vars lit.now }
+{
+    let var = lit.unsigned_abs();
+    0 < var && var <= vars
 }

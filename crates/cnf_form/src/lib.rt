@@ -2,5 +2,12 @@
 #![tactic(auto)]
 
 mod formula;
+mod occurrences;
+mod search;
+mod shared;
+#[cfg(test)]
+mod tests;
+mod trail;
 
-pub use formula::Formula;
+pub use formula::{Formula, are_literals, is_literal};
+pub use search::find;
