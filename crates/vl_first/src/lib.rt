@@ -11,6 +11,8 @@ mod parser;
 mod plain;
 mod read;
 mod shared;
+#[cfg(test)]
+mod tests;
 mod token;
 mod written;
 
