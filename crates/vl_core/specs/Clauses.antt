@@ -5,6 +5,7 @@ use Rattle.std.specs.Prelude.{◌≡◌, ℕ, ◌+◌, ◌≤◌, max, true, fal
 use Rattle.std.specs.Option.{option_map_or}
 use Rattle.std.specs.Str.{bytes_eq}
 use Rattle.vl_first.specs.Expr.{Expr, number, port, complement, equal, both, differ, either, pick}
+pub use Rattle.vl_first.specs.Nodes.{nodes, nodes_of}
 use Rattle.vl_first.specs.Value.{width_at, size}
 use Rattle.vl_first.specs.Plain.{is_clock, is_input}
 use Rattle.vl_first.specs.declared.form.FirstPort.{FirstPort}
@@ -28,22 +29,6 @@ pub record LieBelow (ports : List FirstPort) (starts : List ℕ) (end : ℕ) : T
 abbrev pub end_from : ℕ → List FirstPort → ℕ
 end_from at [] = at
 end_from at (p ∷ ps) = end_from (at + bits_of p) ps
-
--- how many numbers, ports and operators an expression has
-abbrev pub nodes : Expr → ℕ
-nodes (number n) = 1
-nodes (port i) = 1
-nodes (complement a) = 1 + nodes a
-nodes (equal a b) = 1 + nodes a + nodes b
-nodes (both a b) = 1 + nodes a + nodes b
-nodes (differ a b) = 1 + nodes a + nodes b
-nodes (either a b) = 1 + nodes a + nodes b
-nodes (pick c a b) = 1 + nodes c + nodes a + nodes b
-
--- and those of all outputs
-abbrev pub nodes_of : List FirstPort → ℕ
-nodes_of [] = 0
-nodes_of (p ∷ ps) = option_map_or nodes p.output 0 + nodes_of ps
 
 -- how many positions an expression has in a context of w bits
 abbrev pub span : List FirstPort → ℕ → Expr → ℕ

@@ -11,3 +11,4 @@ pub mod NameLemmas
 pub mod Outcomes
 pub mod Laws
 pub mod Files
+pub mod BoundLemmas

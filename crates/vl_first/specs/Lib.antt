@@ -2,6 +2,7 @@ pub mod Expr
 pub mod ExprCode
 pub mod ExprView
 pub mod ExprFalls
+pub mod Nodes
 pub mod Value
 pub mod Plain
 pub mod Violation

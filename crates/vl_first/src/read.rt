@@ -1,7 +1,8 @@
 //! The whole way from bytes to a module.
 
-ghost use Rattle.std.specs.Prelude.{◌≡◌, List, IfOk, IfErr};
+ghost use Rattle.std.specs.Prelude.{◌≡◌, ◌<◌, ◌^◌, List, length, IfOk, IfErr};
 ghost use Rattle.vl_first.specs.FirstForm.{IsFirst, IsNone};
+ghost use Rattle.vl_first.specs.Nodes.{nodes_of};
 ghost use Rattle.vl_first.specs.Plain.{IsPlain};
 ghost use Rattle.vl_first.specs.Scan.{OnNotFirst};
 ghost use Rattle.vl_first.specs.declared.form.FirstPort.{FirstPort};
@@ -21,6 +22,8 @@ pub fn read_first(alloc: Global, bytes: &[u8]) -> Result<First, FirstFault>
     ensures found { IfOk result (λ first. IsFirst bytes.now first.ports) }
     ensures one { IfOk result (λ first. (ports : List FirstPort) → IsFirst bytes.now ports → ports ≡ first.ports) }
     ensures plain { IfOk result (λ first. IsPlain first.ports) }
+    ensures few_ports { IfOk result (λ first. length first.ports < 2 ^ 32) }
+    ensures few_nodes { IfOk result (λ first. nodes_of first.ports < 2 ^ 32) }
     ensures none { IfErr result (λ e. OnNotFirst e (IsNone bytes.now)) }
 {
     let tokens = tokens(alloc, bytes)?;

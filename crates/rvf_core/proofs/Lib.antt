@@ -1,0 +1,4 @@
+pub mod CauseLemmas
+pub mod EndsLemmas
+pub mod PutLemmas
+pub mod RunLemmas

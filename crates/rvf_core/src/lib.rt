@@ -1,0 +1,14 @@
+//! The top call: from the words of the command line, over files and an output that may fail, to a status.
+#![tactic(auto)]
+
+mod first;
+mod line;
+mod shared;
+mod status;
+#[cfg(test)]
+mod tests;
+mod top;
+mod words;
+
+pub use status::Status;
+pub use top::run;
