@@ -172,12 +172,15 @@ fn push_property(alloc: Global, formula: &mut Formula, ports: &[FirstPort]) -> R
 }
 
 /// The formula of a module, and where the bits of its ports stand in it.
+///
+/// Its variables and clauses grow with the ports and the operands of the expressions: no operand is written twice.
 pub fn first_clauses(alloc: Global, first: &First) -> Result<(Formula, List<FirstPlace>), Memory>
     requires plain { IsPlain first.now.ports }
     requires few_ports { length first.now.ports < 2 ^ 32 }
     requires few_nodes { spec.nodes_of first.now.ports < 2 ^ 32 }
     ensures encodes { IfOk result (λ r. Encodes first.now.ports r.0 r.1) }
     ensures places { IfOk result (λ r. r.1 ≡ placed.places_of first.now.ports) }
+    ensures linear { IfOk result (λ r. r.0.vars ≤ 32 * length first.now.ports + 65 * spec.nodes_of first.now.ports) }
 {
     let ports = first.ports.as_slice();
     let starts = starts_of(alloc, ports)?;
