@@ -1,31 +1,27 @@
 -- A text has tokens or one first fault.
-use Rattle.std.proofs.Common.{◌≡◌, ℕ, ◌+◌, ◌-◌, ◌*◌, ◌≤◌, ◌<◌, Bool, true, false, not, cond, ◌&&◌, ◌||◌, List, [], ◌∷◌, ◌++◌, Option, Some, None, Result, Ok, Err, length, take, drop, refl, ap, sym, ◌∙◌, subst, arith, inl, inr, ◌⊎◌, append_assoc, append-nil, length-append, IfOk, IfErr, lit≤, suc, length-take}
-use Rattle.std.specs.Prelude.{count_by, nat_le, nat_lt}
+use Rattle.std.proofs.Common.{◌≡◌, ℕ, ◌+◌, ◌*◌, ◌≤◌, ◌<◌, Bool, true, false, cond, ◌&&◌, List, [], ◌∷◌, ◌++◌, Result, Ok, Err, length, take, drop, refl, ap, sym, ◌∙◌, subst, arith, inl, inr, ◌⊎◌, append_assoc, append-nil, length-append, IfOk, IfErr, lit≤, suc, length-take}
+use Rattle.std.specs.Prelude.{count_by, nat_le}
 use Rattle.std.specs.Global.{Vec}
 use Rattle.std.specs.List.{list_all, prefix_len}
-use Rattle.std.proofs.lemmas.Bool.{and_parts, and_from, leb-true, ltb-true, ltb-false, le-leb, lt-leb, lt-ltb, leb-false, le-ltb}
+use Rattle.std.proofs.lemmas.Bool.{and_parts, and_from, leb-true, ltb-false, le-leb, leb-false, le-ltb}
 use Rattle.std.proofs.Math.Seq.{take-append_seam}
 use Rattle.std.proofs.lemmas.List.Sums.{sum_by-cons, sum_by-append}
 use Rattle.fv_base.specs.declared.kind.Kind.{Kind}
-use Rattle.fv_base.specs.declared.kind.Kind.TheVariants as k
 use Rattle.fv_base.specs.declared.pos.Pos.{Pos}
 use Rattle.fv_base.specs.declared.token.Token.{Token}
 use Rattle.vl_token.specs.declared.fault.LexFault.{LexFault}
 use Rattle.vl_token.specs.declared.fault.LexFault.TheVariants.{NotAscii, BadNumber, OpenComment, BadChar, TooManyTokens, OpenString, Memory}
-use Rattle.vl_token.specs.Bytes.{first_is, run, behind}
-use Rattle.vl_token.specs.Numeral.{Numeral, plain, based, numeral_text}
-use Rattle.vl_token.specs.Number.{Means, is_bad}
-use Rattle.vl_token.specs.Piece.{Piece, blank, line_comment, block_comment, word, number, sign, system, tick, quoted, continue, text_of, joined, Stands, AllStand}
+use Rattle.vl_token.specs.Bytes.{first_is}
+use Rattle.vl_token.specs.Piece.{Piece, blank, line_comment, block_comment, word, number, sign, system, tick, quoted, continue, text_of, joined, AllStand}
 use Rattle.vl_token.specs.Place.{place_after, start_of}
-use Rattle.vl_token.specs.Tokens.{is_ascii, is_beyond_ascii, is_token, IsKind, IsFirstToken, Takes, AreOf, AreTokens}
-use Rattle.vl_token.specs.Fault.{HasBadNumber, HasOpenComment, HasOpenString, HasBadChar, HasToken, IsCut, HasCount, Wrong, number_of, IsAt, rank, Refuses, OnNotMemory, is_of_text, IsAnswered}
-use Rattle.vl_token.specs.Cut.{Cut, ended, piece, open_comment, open_string, bad_char, first_cut}
+use Rattle.vl_token.specs.Tokens.{is_ascii, is_beyond_ascii, is_token, IsKind, Takes, AreOf, AreTokens}
+use Rattle.vl_token.specs.Fault.{IsCut, Wrong, number_of, IsAt, rank, Refuses, OnNotMemory, is_of_text, IsAnswered}
+use Rattle.vl_token.specs.Cut.{ended, piece, open_comment, open_string, bad_char, first_cut}
 use Rattle.vl_token.specs.Steps.{HasRead, HasStopped, StopsAt}
-use Rattle.vl_token.proofs.Cuts.{Cuts, cuts, again, one_piece, open_comment_again, open_string_again}
-use Rattle.vl_token.proofs.Reading.{text_some}
-use Rattle.vl_token.proofs.Tokens.{one_list, no_blank, no_line, no_block}
+use Rattle.vl_token.proofs.Cuts.{again, open_comment_again, open_string_again}
+use Rattle.vl_token.proofs.Tokens.{no_blank, no_line, no_block}
 use Rattle.std.proofs.lemmas.List.{take-append-drop}
-use Rattle.vl_token.proofs.Order.{Later, compared, some_bytes, no_bytes, tokens_one, Shows, stops_show, bad_shows, token_shows, bad_again, piece_bad, shows_order}
+use Rattle.vl_token.proofs.Order.{Later, compared, some_bytes, tokens_one, Shows, stops_show, bad_shows, token_shows, bad_again, piece_bad, shows_order}
 
 -- a fault that stands where a piece begins
 abbrev pub IsOfPiece : LexFault → Type 0

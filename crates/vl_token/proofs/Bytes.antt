@@ -1,9 +1,9 @@
 -- Bytes that can't be two things at once.
-use Rattle.std.proofs.Common.{◌≡◌, ℕ, ◌+◌, ◌≤◌, ◌<◌, Bool, true, false, not, cond, ◌&&◌, ◌||◌, ◌==◌, List, [], ◌∷◌, ◌++◌, refl, ap, sym, ◌∙◌, subst, arith}
+use Rattle.std.proofs.Common.{◌≡◌, ℕ, ◌≤◌, Bool, true, false, cond, ◌||◌, ◌==◌, refl, ap, sym, ◌∙◌, arith}
 use Rattle.std.specs.Prelude.{nat_le}
-use Rattle.std.proofs.lemmas.Bool.{and_parts, or_cases, eqb-true, leb-true, lt-leb, ne_eqb, cases_Bool}
+use Rattle.std.proofs.lemmas.Bool.{and_parts, or_cases, eqb-true, leb-true, lt-leb, ne_eqb}
 use Rattle.std.proofs.Common.{inl, inr, ◌⊎◌}
-use Rattle.fv_base.specs.Name.{is_decimal_digit, begins_word, continues_word}
+use Rattle.fv_base.specs.Name.{is_decimal_digit, begins_word}
 use Rattle.vl_token.specs.Bytes.{is_space, is_blank, small}
 use Rattle.vl_token.specs.Numeral.{is_digit, is_base, is_sign, continues_decimal}
 use Rattle.vl_token.specs.Cut.{sort_of}

@@ -1,5 +1,5 @@
 -- The first piece of a text: what is found stands there, and what stands there is found.
-use Rattle.std.proofs.Common.{◌≡◌, ℕ, ◌+◌, ◌≤◌, Bool, true, false, not, cond, ◌&&◌, ◌||◌, ◌==◌, List, [], ◌∷◌, ◌++◌, Option, Some, None, length, drop, refl, ap, sym, ◌∙◌, subst, arith, append_assoc}
+use Rattle.std.proofs.Common.{◌≡◌, ℕ, Bool, true, false, cond, ◌&&◌, ◌||◌, ◌==◌, List, [], ◌∷◌, ◌++◌, Option, Some, None, length, drop, refl, ap, sym, ◌∙◌, subst, append_assoc}
 use Rattle.std.specs.List.{list_all}
 use Rattle.std.proofs.Math.Seq.{drop-append_seam}
 use Rattle.std.proofs.lemmas.Bool.{and_parts, and_from, eqb-true}
@@ -8,8 +8,8 @@ use Rattle.fv_base.specs.Symbol.{symbol_text}
 use Rattle.fv_base.specs.declared.symbol.Symbol.{Symbol}
 use Rattle.vl_token.specs.declared.sort.Sort.{Sort}
 use Rattle.vl_token.specs.declared.sort.Sort.TheVariants as sort
-use Rattle.vl_token.specs.Bytes.{is_space, is_blank, is_empty, is_line_end, stays_on_line, is_quotable, first_is, ends_line, run, behind}
-use Rattle.vl_token.specs.Numeral.{Format, Numeral, plain, based, numeral_text, mark_text, IsNumeral, IsFormat, IsPlain, is_size, is_decimal, continues_decimal, begins_format}
+use Rattle.vl_token.specs.Bytes.{is_space, is_empty, is_line_end, stays_on_line, is_quotable, first_is, ends_line, run, behind}
+use Rattle.vl_token.specs.Numeral.{Format, Numeral, plain, based, numeral_text, mark_text, IsNumeral, IsFormat, IsPlain, is_size, is_decimal, continues_decimal}
 use Rattle.vl_token.specs.Piece.{Piece, blank, line_comment, block_comment, word, number, sign, system, tick, quoted, continue, text_of, closes, begins_comment, IsLongest, Stands}
 use Rattle.vl_token.specs.Fault.{HasOpenComment, HasOpenString}
 use Rattle.vl_token.specs.Steps.{IsFront}

@@ -1,11 +1,10 @@
 -- Numbers by their digits, cut and capped on the way.
-use Rattle.std.proofs.Common.{◌≡◌, ℕ, ◌+◌, ◌-◌, ◌*◌, ◌%◌, ◌^◌, ◌<◌, ◌≤◌, min, Bool, true, false, not, cond, ◌==◌, List, [], ◌∷◌, ◌++◌, length, drop, get_or, zero, suc, add-one, mod-lt, refl, ap, sym, ◌∙◌, subst, arith}
-use Rattle.std.specs.Prelude.{fold, filter, replicate}
+use Rattle.std.proofs.Common.{◌≡◌, ℕ, ◌+◌, ◌*◌, ◌%◌, ◌<◌, ◌≤◌, min, Bool, true, false, not, cond, ◌==◌, List, [], ◌∷◌, length, drop, get_or, zero, suc, add-one, refl, ap, sym, ◌∙◌, subst, arith}
+use Rattle.std.specs.Prelude.{fold}
 use Rattle.std.proofs.Math.Seq.{drop-cons}
 use Rattle.std.proofs.Math.Nat.{mod-mod, mod-add-mod}
 use Rattle.std.proofs.lemmas.Nat.{mul-mod_first}
-use Rattle.std.proofs.lemmas.List.Sums.{fold-append}
-use Rattle.vl_token.specs.Number.{digits_of, worth, number_by}
+use Rattle.vl_token.specs.Number.{digits_of}
 
 abbrev pub steps : (ℕ → ℕ) → ℕ → ℕ → List ℕ → ℕ
 steps count r v ds = fold (λ n b. n * r + count b) v ds

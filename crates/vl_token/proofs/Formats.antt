@@ -1,9 +1,9 @@
 -- Numbers with a base, read and found again.
-use Rattle.std.proofs.Common.{◌≡◌, ℕ, ◌+◌, Bool, true, false, not, cond, ◌&&◌, ◌||◌, ◌==◌, List, [], ◌∷◌, ◌++◌, Option, Some, None, refl, ap, sym, ◌∙◌, subst, arith, append_assoc}
+use Rattle.std.proofs.Common.{◌≡◌, ℕ, Bool, true, false, not, cond, ◌&&◌, ◌||◌, ◌==◌, List, [], ◌∷◌, ◌++◌, Option, Some, None, refl, ap, sym, ◌∙◌, subst, append_assoc}
 use Rattle.std.specs.List.{list_all}
 use Rattle.std.proofs.lemmas.Bool.{and_parts, and_from, eqb-true}
-use Rattle.vl_token.specs.Bytes.{is_space, first_is, run, behind, is_empty}
-use Rattle.vl_token.specs.Numeral.{is_digit, is_base, is_sign, goes_on, begins_base, begins_format, is_sign_part, is_digits, ends_digits, Format, mark_text, IsFormat, is_size, is_decimal, continues_decimal}
+use Rattle.vl_token.specs.Bytes.{is_space, first_is, run, behind}
+use Rattle.vl_token.specs.Numeral.{is_digit, is_base, is_sign, goes_on, begins_format, is_sign_part, is_digits, ends_digits, Format, mark_text, IsFormat, is_size, is_decimal, continues_decimal}
 use Rattle.vl_token.specs.Cut.{format_at, mark_at, base_at, format_of, sign_front, sign_rest, digits_front, digits_rest}
 use Rattle.vl_token.proofs.Runs.{run-behind, run_all, behind_stops, run_is, behind_is, digits_join}
 use Rattle.vl_token.proofs.Bytes.{digit_no_space, base_no_sign, sign_no_base, space_no_decimal}

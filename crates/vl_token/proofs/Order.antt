@@ -1,25 +1,19 @@
 -- Which fault comes first.
-use Rattle.std.proofs.Common.{◌≡◌, ℕ, ◌+◌, ◌-◌, ◌*◌, ◌≤◌, ◌<◌, Bool, true, false, not, cond, ◌&&◌, ◌||◌, List, [], ◌∷◌, ◌++◌, Option, Some, None, Result, Ok, Err, length, take, drop, refl, ap, sym, ◌∙◌, subst, arith, inl, inr, ◌⊎◌, append_assoc, append-nil, length-append, IfOk, IfErr, lit≤}
-use Rattle.std.specs.Prelude.{count_by, nat_le, nat_lt}
-use Rattle.std.specs.Global.{Vec}
-use Rattle.std.specs.List.{list_all, prefix_len}
-use Rattle.std.proofs.lemmas.Bool.{and_parts, and_from, leb-true, ltb-true, ltb-false, le-leb, lt-leb, lt-ltb, leb-false}
-use Rattle.std.proofs.Math.Seq.{take-append_seam}
+use Rattle.std.proofs.Common.{◌≡◌, ℕ, ◌≤◌, ◌<◌, true, false, List, [], ◌∷◌, ◌++◌, length, refl, ap, sym, ◌∙◌, subst, arith, inl, inr, ◌⊎◌, append_assoc, append-nil, length-append, lit≤}
 use Rattle.fv_base.specs.declared.kind.Kind.{Kind}
 use Rattle.fv_base.specs.declared.kind.Kind.TheVariants as k
 use Rattle.fv_base.specs.declared.pos.Pos.{Pos}
 use Rattle.fv_base.specs.declared.token.Token.{Token}
 use Rattle.vl_token.specs.declared.fault.LexFault.{LexFault}
 use Rattle.vl_token.specs.declared.fault.LexFault.TheVariants.{NotAscii, BadNumber, OpenComment, BadChar, TooManyTokens, OpenString, Memory}
-use Rattle.vl_token.specs.Bytes.{first_is, run, behind}
-use Rattle.vl_token.specs.Numeral.{Numeral, plain, based, numeral_text}
-use Rattle.vl_token.specs.Number.{Means, is_bad}
-use Rattle.vl_token.specs.Piece.{Piece, blank, line_comment, block_comment, word, number, sign, system, tick, quoted, continue, text_of, joined, Stands, AllStand}
-use Rattle.vl_token.specs.Place.{place_after, start_of}
-use Rattle.vl_token.specs.Tokens.{is_ascii, is_beyond_ascii, is_token, IsKind, IsFirstToken, Takes, AreOf, AreTokens}
-use Rattle.vl_token.specs.Fault.{HasBadNumber, HasOpenComment, HasOpenString, HasBadChar, HasToken, IsCut, HasCount, Wrong, number_of, IsAt, rank, Refuses, OnNotMemory, is_of_text, IsAnswered}
+use Rattle.vl_token.specs.Numeral.{Numeral, plain, based}
+use Rattle.vl_token.specs.Number.{is_bad}
+use Rattle.vl_token.specs.Piece.{Piece, number, text_of, joined, AllStand}
+use Rattle.vl_token.specs.Place.{start_of}
+use Rattle.vl_token.specs.Tokens.{IsKind, AreOf, AreTokens}
+use Rattle.vl_token.specs.Fault.{HasBadNumber, HasBadChar, HasToken, number_of, is_of_text}
 use Rattle.vl_token.specs.Cut.{Cut, ended, piece, open_comment, open_string, bad_char, first_cut}
-use Rattle.vl_token.specs.Steps.{HasRead, HasStopped, StopsAt}
+use Rattle.vl_token.specs.Steps.{StopsAt}
 use Rattle.vl_token.proofs.Cuts.{Cuts, cuts, again, one_piece, open_comment_again, open_string_again}
 use Rattle.vl_token.proofs.Reading.{text_some}
 use Rattle.vl_token.proofs.Tokens.{one_list}

@@ -1,11 +1,8 @@
 -- A text read piece by piece.
-use Rattle.std.proofs.Common.{◌≡◌, ℕ, ◌+◌, ◌-◌, ◌*◌, ◌≤◌, ◌<◌, Bool, true, false, not, cond, ◌&&◌, ◌||◌, ◌==◌, List, [], ◌∷◌, ◌++◌, Option, Some, None, length, take, drop, refl, ap, sym, ◌∙◌, subst, arith, inl, inr, ◌⊎◌, append_assoc, append-nil, length-append, lit<}
-use Rattle.std.specs.Prelude.{count_by, is_none}
-use Rattle.std.specs.List.{list_all}
+use Rattle.std.proofs.Common.{◌≡◌, ℕ, ◌-◌, ◌≤◌, ◌<◌, Bool, true, false, List, [], ◌∷◌, ◌++◌, None, length, take, refl, ap, sym, ◌∙◌, subst, arith, append_assoc, append-nil, length-append, lit<}
 use Rattle.std.proofs.Math.Seq.{take-append_seam}
-use Rattle.std.proofs.lemmas.Bool.{and_parts, and_from}
 use Rattle.fv_base.specs.Keyword.{keyword_of}
-use Rattle.fv_base.specs.Name.{is_word, is_name, continues_word}
+use Rattle.fv_base.specs.Name.{is_word, is_name}
 use Rattle.fv_base.specs.Named.{is_well_named}
 use Rattle.fv_base.specs.Symbol.{symbol_text}
 use Rattle.fv_base.specs.declared.kind.Kind.{Kind}
@@ -16,14 +13,12 @@ use Rattle.fv_base.specs.declared.symbol.Symbol.TheVariants as s
 use Rattle.fv_base.specs.declared.token.Token.{Token}
 use Rattle.vl_token.specs.declared.fault.LexFault.{LexFault}
 use Rattle.vl_token.specs.declared.fault.LexFault.TheVariants.{NotAscii, BadNumber, OpenComment, BadChar, TooManyTokens, OpenString, Memory}
-use Rattle.vl_token.specs.Bytes.{is_empty, first_is}
-use Rattle.vl_token.specs.Numeral.{Numeral, plain, based, numeral_text, mark_text, Format, is_decimal}
-use Rattle.vl_token.specs.Number.{is_bad}
+use Rattle.vl_token.specs.Numeral.{plain, based, is_decimal}
 use Rattle.vl_token.specs.Piece.{Piece, blank, line_comment, block_comment, word, number, sign, system, tick, quoted, continue, text_of, joined, Stands, AllStand}
 use Rattle.vl_token.specs.Place.{place_after, place_behind}
 use Rattle.vl_token.specs.Tokens.{is_token, IsKind, IsFirstToken, Takes, AreOf}
 use Rattle.vl_token.specs.Meanings.{IsBadNumber}
-use Rattle.vl_token.specs.Fault.{OnNotMemory, HasBadNumber, HasOpenComment, HasOpenString, HasBadChar, HasToken}
+use Rattle.vl_token.specs.Fault.{OnNotMemory, HasBadNumber, HasOpenComment, HasOpenString, HasBadChar}
 use Rattle.vl_token.specs.Cut.{Cut, ended, piece, open_comment, open_string, bad_char, first_cut}
 use Rattle.vl_token.specs.Steps.{IsFront, Added, Adds, Advances, HasRead, HasStopped, StopsAt}
 use Rattle.vl_token.proofs.Cuts.{Cuts, cuts, again, open_comment_again, open_string_again}

@@ -1,12 +1,12 @@
 -- Runs of bytes.
-use Rattle.std.proofs.Common.{◌≡◌, ℕ, ◌+◌, ◌≤◌, Bool, true, false, cond, ◌&&◌, List, [], ◌∷◌, ◌++◌, length, take, drop, suc, refl, ap, sym, ◌∙◌, subst, arith, length-append}
+use Rattle.std.proofs.Common.{◌≡◌, ℕ, ◌+◌, ◌≤◌, Bool, true, false, cond, List, [], ◌∷◌, ◌++◌, length, take, drop, suc, refl, ap, subst, arith, length-append}
 use Rattle.std.specs.List.{prefix_len, list_all}
 use Rattle.std.proofs.Math.Seq.{take-append_seam, drop-append_seam}
 use Rattle.std.proofs.lemmas.List.Sums.{prefix_len-le-length}
-use Rattle.std.proofs.lemmas.Bool.{and_parts, and_from, cases_Bool}
+use Rattle.std.proofs.lemmas.Bool.{and_parts, and_from}
 use Rattle.vl_token.specs.Bytes.{run, behind, first_is}
 use Rattle.vl_token.specs.Numeral.{is_digit, goes_on}
-use Rattle.vl_token.specs.Cut.{digits_front, digits_rest, sign_front, sign_rest}
+use Rattle.vl_token.specs.Cut.{digits_front, digits_rest}
 
 take_step : (b : Bool) (x : ℕ) (n : ℕ) (xs ys : List ℕ) → take n xs ≡ ys → take (cond b (1 + n) 0) (x ∷ xs) ≡ cond b (x ∷ ys) []
 take_step true x n xs ys h = let e : 1 + n ≡ suc n = omega arith in rw e (ap (λ zs. x ∷ zs) h)

@@ -1,6 +1,5 @@
 -- Numbers and tokens are the same where their fields are.
-use Rattle.std.proofs.Common.{◌≡◌, ℕ, ◌^◌, ◌≤◌, ◌<◌, Bool, true, refl, ap, sym, ◌∙◌, subst, rules}
-use Rattle.std.specs.Coded.{le_prop}
+use Rattle.std.proofs.Common.{◌≡◌, ℕ, ◌^◌, ◌≤◌, ◌<◌, Bool, true, ap, ◌∙◌, subst}
 use Rattle.std.proofs.Props.{props}
 use Rattle.fv_base.specs.Named.{is_well_named}
 use Rattle.fv_base.specs.declared.kind.Kind.{Kind}

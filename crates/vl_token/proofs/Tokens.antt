@@ -1,26 +1,17 @@
 -- A text has one list of tokens, and one first fault.
-use Rattle.std.proofs.Common.{◌≡◌, ℕ, ◌+◌, ◌-◌, ◌*◌, ◌%◌, ◌^◌, ◌≤◌, ◌<◌, Bool, true, false, not, cond, ◌&&◌, ◌||◌, List, [], ◌∷◌, ◌++◌, Option, Some, None, length, take, drop, refl, ap, sym, ◌∙◌, subst, arith, inl, inr, ◌⊎◌, append_assoc, append-nil, length-append}
-use Rattle.std.specs.Prelude.{count_by, nat_le, nat_lt}
-use Rattle.std.specs.List.{list_all, prefix_len}
-use Rattle.std.proofs.lemmas.Bool.{and_parts, and_from, leb-true, ltb-false, le-leb, lt-leb, le-ltb}
-use Rattle.fv_base.specs.Keyword.{keyword_of}
+use Rattle.std.proofs.Common.{◌≡◌, ℕ, ◌%◌, ◌^◌, Bool, true, false, List, [], ◌∷◌, Some, None, refl, ap, sym, ◌∙◌}
 use Rattle.fv_base.specs.declared.kind.Kind.{Kind}
 use Rattle.fv_base.specs.declared.kind.Kind.TheVariants as k
 use Rattle.fv_base.specs.declared.number.Number.{Number}
 use Rattle.fv_base.specs.declared.pos.Pos.{Pos}
 use Rattle.fv_base.specs.declared.symbol.Symbol.{Symbol}
 use Rattle.fv_base.specs.declared.token.Token.{Token}
-use Rattle.vl_token.specs.Bytes.{first_is, run, behind}
 use Rattle.vl_token.specs.Numeral.{Numeral, plain, based, Format}
-use Rattle.vl_token.specs.Number.{Means, MeansPlain, MeansBased, is_bad, number_by, worth, radix, mark_radix, digits_of, bits_of}
+use Rattle.vl_token.specs.Number.{Means, MeansPlain, MeansBased, number_by, worth, radix, mark_radix, digits_of, bits_of}
 use Rattle.vl_token.specs.Numeral.{is_wild, is_unknown}
-use Rattle.vl_token.specs.Piece.{Piece, blank, line_comment, block_comment, word, number, sign, system, tick, quoted, continue, text_of, joined, Stands, AllStand}
-use Rattle.vl_token.specs.Place.{place_after, start_of}
-use Rattle.vl_token.specs.Tokens.{is_ascii, is_beyond_ascii, is_token, IsKind, IsFirstToken, Takes, AreOf, AreTokens}
-use Rattle.vl_token.specs.Steps.{HasRead, HasStopped}
-use Rattle.vl_token.proofs.Cuts.{one_piece}
-use Rattle.vl_token.proofs.Reading.{text_some}
-use Rattle.vl_token.proofs.Runs.{take-prefix_len, drop-prefix_len, run_all, behind_stops, run-behind}
+use Rattle.vl_token.specs.Piece.{Piece, blank, line_comment, block_comment, word, number, sign, system, tick, quoted, continue, text_of}
+use Rattle.vl_token.specs.Place.{place_after}
+use Rattle.vl_token.specs.Tokens.{is_token, IsKind, IsFirstToken, Takes, AreOf}
 use Rattle.vl_token.proofs.Same.{same_token, same_number}
 
 -- a written number means one number

@@ -1,6 +1,5 @@
 -- Bytes and runs of bytes. A byte is an ASCII code.
 use Rattle.std.specs.Prelude.{ℕ, ◌+◌, Bool, true, false, cond, ◌&&◌, ◌||◌, nat_le, ◌==◌, List, [], ◌∷◌}
-use Rattle.fv_base.specs.Name.{is_decimal_digit}
 
 -- space, tab, carriage return, line feed or form feed (IEEE 1364-2005, section 3.2, and the carriage return)
 abbrev pub is_blank : ℕ → Bool

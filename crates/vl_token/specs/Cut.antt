@@ -1,5 +1,5 @@
 -- The first piece of a text as a function. No public clause cites it: pieces are defined by what may stand.
-use Rattle.std.specs.Prelude.{ℕ, ◌+◌, Bool, true, false, cond, ◌&&◌, ◌==◌, List, [], ◌∷◌, ◌++◌, Option, Some, None, drop, length, find, nat_eq}
+use Rattle.std.specs.Prelude.{ℕ, cond, ◌&&◌, ◌==◌, List, [], ◌∷◌, Option, Some, None, drop, length, find, nat_eq}
 use Rattle.std.specs.List.{starts_with}
 use Rattle.fv_base.specs.Name.{begins_word, continues_word, is_decimal_digit}
 use Rattle.fv_base.specs.Symbol.{symbol_text}
@@ -8,7 +8,7 @@ use Rattle.fv_base.specs.declared.symbol.Symbol.TheVariants as s
 use Rattle.vl_token.specs.declared.sort.Sort.{Sort}
 use Rattle.vl_token.specs.declared.sort.Sort.TheVariants as sort
 use Rattle.vl_token.specs.Bytes.{is_blank, is_space, is_line_end, stays_on_line, is_quotable, first_is, run, behind}
-use Rattle.vl_token.specs.Numeral.{is_base, is_sign, is_digit, goes_on, continues_decimal, Format, Numeral, plain, based}
+use Rattle.vl_token.specs.Numeral.{is_base, is_sign, is_digit, goes_on, continues_decimal, Format, plain, based}
 use Rattle.vl_token.specs.Piece.{Piece, blank, line_comment, block_comment, word, number, sign, system, tick, quoted, continue}
 
 pub data Cut : Type 0 where

@@ -1,5 +1,5 @@
 -- What may be wrong in a text, and which of the faults is answered.
-use Rattle.std.specs.Prelude.{◌≡◌, ℕ, ◌+◌, ◌*◌, ◌≤◌, Bool, true, false, List, [], ◌∷◌, ◌++◌, length, count_by, Result, Ok, Err}
+use Rattle.std.specs.Prelude.{◌≡◌, ℕ, ◌+◌, ◌*◌, ◌≤◌, Bool, true, false, List, ◌∷◌, ◌++◌, length, count_by, Result, Ok, Err}
 use Rattle.std.specs.Global.{Vec}
 use Rattle.fv_base.specs.declared.token.Token.{Token}
 use Rattle.std.specs.List.{list_all}

@@ -1,5 +1,5 @@
 -- What the code finds a piece to be.
-use Rattle.std.specs.Prelude.{◌≡◌, Bool, true, false}
+use Rattle.std.specs.Prelude.{◌≡◌, true, false}
 use Rattle.vl_token.specs.declared.meaning.Meaning.{Meaning}
 use Rattle.vl_token.specs.declared.meaning.Meaning.TheVariants.{Gap, Token, BadNumber}
 use Rattle.vl_token.specs.Number.{is_bad}

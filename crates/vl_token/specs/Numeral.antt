@@ -1,6 +1,6 @@
 -- How a number is written: IEEE 1364-2005, section 3.5.1, without real numbers. Blanks inside of a number are
 -- spaces and tabs (rule of this project).
-use Rattle.std.specs.Prelude.{◌≡◌, ℕ, Bool, true, false, not, cond, ◌&&◌, ◌||◌, nat_le, ◌==◌, List, [], ◌∷◌, ◌++◌, drop}
+use Rattle.std.specs.Prelude.{◌≡◌, ℕ, Bool, true, false, not, cond, ◌&&◌, ◌||◌, nat_le, ◌==◌, List, [], ◌∷◌, ◌++◌}
 use Rattle.std.specs.List.{list_all}
 use Rattle.fv_base.specs.Name.{is_decimal_digit}
 use Rattle.vl_token.specs.Bytes.{is_space, small, is_empty, first_is, behind}

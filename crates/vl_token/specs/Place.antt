@@ -1,6 +1,6 @@
 -- Places in a text: lines and columns count from 1, columns in bytes. A number that would pass 2^32 - 1 is 2^32 - 1
 -- (rule of this project).
-use Rattle.std.specs.Prelude.{ℕ, ◌+◌, ◌-◌, ◌^◌, min, Bool, cond, ◌==◌, List, [], ◌∷◌}
+use Rattle.std.specs.Prelude.{ℕ, ◌+◌, ◌-◌, ◌^◌, min, cond, ◌==◌, List, [], ◌∷◌}
 use Rattle.fv_base.specs.declared.pos.Pos.{Pos}
 
 abbrev pub counted : ℕ → ℕ

@@ -1,5 +1,5 @@
 -- What the code keeps while it reads a text piece by piece. No public clause cites it.
-use Rattle.std.specs.Prelude.{◌≡◌, ℕ, ◌≤◌, ◌<◌, Bool, true, false, List, [], ◌∷◌, ◌++◌, length, count_by}
+use Rattle.std.specs.Prelude.{◌≡◌, ℕ, ◌≤◌, ◌<◌, Bool, true, false, List, [], ◌∷◌, ◌++◌, length}
 use Rattle.fv_base.specs.declared.kind.Kind.{Kind}
 use Rattle.fv_base.specs.declared.pos.Pos.{Pos}
 use Rattle.fv_base.specs.declared.token.Token.{Token}
@@ -9,7 +9,7 @@ use Rattle.vl_token.specs.declared.lexer.Step.{Step}
 use Rattle.vl_token.specs.declared.lexer.Step.TheVariants.{End, On, Stop}
 use Rattle.vl_token.specs.Piece.{Piece, text_of, joined, Stands, AllStand}
 use Rattle.vl_token.specs.Place.{place_after}
-use Rattle.vl_token.specs.Tokens.{is_token, IsKind, IsFirstToken, AreOf}
+use Rattle.vl_token.specs.Tokens.{is_token, IsFirstToken, AreOf}
 use Rattle.vl_token.specs.Fault.{HasBadNumber, HasOpenComment, HasOpenString, HasBadChar, HasToken}
 
 -- the piece stands at the front

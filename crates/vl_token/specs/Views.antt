@@ -1,5 +1,4 @@
 -- The parts of a text as the code has them, slices of it, seen as lists.
-use Rattle.std.specs.Prelude.{ℕ, List, Option, Some, None}
 use Rattle.vl_token.specs.declared.format.Format as source
 use Rattle.vl_token.specs.declared.format.Numeral as written
 use Rattle.vl_token.specs.declared.format.Numeral.TheVariants as n

@@ -1,7 +1,8 @@
 use fv_base::Pos;
 use thiserror::Error;
 
-/// Why a text has no tokens. The places are those of the faulty byte, or of the first byte of what is faulty.
+/// Why a text has no tokens. The places are those of the faulty byte, or of the first byte of what is faulty. Of
+/// several faults the one with the earliest place is answered, and at one place the first one in this order.
 #[derive(Debug, Clone, Copy, PartialEq, Eq, Error)]
 pub enum LexFault {
     #[error("a byte above 127 at {0:?}")]

@@ -1,5 +1,5 @@
-use Rattle.std.proofs.Common.{◌≡◌, ◌%◌, ◌^◌, sym, ◌∙◌}
-use Rattle.vl_token.specs.Number.{digits_of, radix, mark_radix, worth, number_by}
+use Rattle.std.proofs.Common.{sym, ◌∙◌}
+use Rattle.vl_token.specs.Number.{digits_of, radix, worth, number_by}
 use Rattle.vl_token.specs.Numeral.{is_wild, is_unknown}
 use Rattle.vl_token.proofs.Marks.{neither, no_items, long_in, marks_in, cut_long, wild_bits, unknown_bits}
 use Rattle.vl_token.proofs.number.based_number.Goals as goal
