@@ -1,0 +1,13 @@
+pub mod Runs
+pub mod Signs
+pub mod Closes
+pub mod Folds
+pub mod Marks
+pub mod Bytes
+pub mod Formats
+pub mod Cuts
+pub mod Reading
+pub mod Same
+pub mod Tokens
+pub mod Order
+pub mod Answer

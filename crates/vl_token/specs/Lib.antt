@@ -1,0 +1,13 @@
+pub mod Bytes
+pub mod Numeral
+pub mod Number
+pub mod Piece
+pub mod Place
+pub mod Cut
+pub mod Marks
+pub mod Meanings
+pub mod Steps
+pub mod Views
+pub mod Tokens
+pub mod Fault
+pub mod Classes

@@ -1,0 +1,20 @@
+-- Places in a text: lines and columns count from 1, columns in bytes. A number that would pass 2^32 - 1 is 2^32 - 1
+-- (rule of this project).
+use Rattle.std.specs.Prelude.{ℕ, ◌+◌, ◌-◌, ◌^◌, min, cond, ◌==◌, List, [], ◌∷◌}
+use Rattle.fv_base.specs.declared.pos.Pos.{Pos}
+
+abbrev pub counted : ℕ → ℕ
+counted n = min (n + 1) (2 ^ 32 - 1)
+
+-- the place behind a byte
+abbrev pub place_behind : Pos → ℕ → Pos
+place_behind p b = record { file = p.file; line = cond (b == 10) (counted p.line) p.line; col = cond (b == 10) 1 (counted p.col) }
+
+-- the place behind a text
+abbrev pub place_after : Pos → List ℕ → Pos
+place_after p [] = p
+place_after p (b ∷ bs) = place_after (place_behind p b) bs
+
+-- where a text begins
+abbrev pub start_of : ℕ → ℕ → Pos
+start_of file line = record { file = file; line = line; col = 1 }
