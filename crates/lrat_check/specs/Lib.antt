@@ -1,3 +1,4 @@
 pub mod Answers
 pub mod Sets
 pub mod Steps
+pub mod Store

@@ -1,3 +1,6 @@
+ghost use Rattle.std.specs.Prelude.{◌≡◌};
+ghost use Rattle.lrat_check.specs.declared.step.StepFault.TheVariants as fault;
+
 use fv_base::{List, Memory};
 use std::alloc::{AllocError, AllocFailed};
 use thiserror::Error;
@@ -58,5 +61,29 @@ impl StepFault {
             StepFault::NoEmpty => 6,
             StepFault::Memory => 0,
         }
+    }
+}
+
+impl From<Memory> for StepFault {
+    ghost from_gives = { λ _ e. e ≡ fault.Memory };
+
+    fn from(_fault: Memory) -> StepFault {
+        StepFault::Memory
+    }
+}
+
+impl From<AllocError> for StepFault {
+    ghost from_gives = { λ _ e. e ≡ fault.Memory };
+
+    fn from(_fault: AllocError) -> StepFault {
+        StepFault::Memory
+    }
+}
+
+impl<T: Drop> From<AllocFailed<T>> for StepFault {
+    ghost from_gives = { λ _ e. e ≡ fault.Memory };
+
+    fn from(_fault: AllocFailed<T>) -> StepFault {
+        StepFault::Memory
     }
 }
