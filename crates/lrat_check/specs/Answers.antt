@@ -1,5 +1,5 @@
 -- What a call answers, want of memory apart.
-use Rattle.std.specs.Prelude.{ℕ, ◌≡◌, Bool, false, List, [], ◌∷◌, ℤ, Option, Some, None, Result, Ok, Err}
+use Rattle.std.specs.Prelude.{ℕ, ◌≡◌, false, List, [], ◌∷◌, ℤ, Option, Some, None, Result, Ok, Err}
 use Rattle.lrat_check.specs.declared.step.Step.{Step}
 use Rattle.lrat_check.specs.declared.step.Refuted.{Refuted}
 use Rattle.lrat_check.specs.declared.step.StepFault.{StepFault}

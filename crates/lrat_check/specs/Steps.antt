@@ -40,12 +40,12 @@ walk held id set [] = Some (fault.NoConflict id)
 walk held id set (h ∷ hs) = elim (held (unsigned_abs h)) [
   | None ↦ Some (fault.NoClause id h)
   | Some clause ↦ elim (reading set clause) [
-      | read.True ↦ walk held id set hs
-      | read.False ↦ None
-      | read.Unit l ↦ walk held id (set ++ l ∷ []) hs
-      | read.Open ↦ Some (fault.NotUnit id h)
-    ]
+    | read.True ↦ walk held id set hs
+    | read.False ↦ None
+    | read.Unit l ↦ walk held id (set ++ l ∷ []) hs
+    | read.Open ↦ Some (fault.NotUnit id h)
   ]
+]
 
 -- why an added clause is refused: its id is not above all ids before it (top is the highest); a hint is negative; else
 -- where the hints, from its literals made false, refuse it
@@ -59,7 +59,7 @@ deleted held id [] = Ok held
 deleted held id (i ∷ ids) = elim (held i) [
   | None ↦ Err (fault.NoClause id (pos i))
   | Some clause ↦ deleted (without_clause held i) id ids
-  ]
+]
 
 -- what the steps come to: the id of the first empty clause, or the first refusal
 abbrev pub verdict : Held → ℕ → List Step → Result Refuted StepFault
@@ -67,11 +67,11 @@ verdict held top [] = Err fault.NoEmpty
 verdict held top (Add id lits hints ∷ steps) = elim (add_fault held top id lits hints) [
   | Some f ↦ Err f
   | None ↦ cond (is_empty lits) (Ok (record { id = id })) (verdict (with_clause held id lits) id steps)
-  ]
+]
 verdict held top (Delete id ids ∷ steps) = elim (deleted held id ids) [
   | Err f ↦ Err f
   | Ok rest ↦ verdict rest top steps
-  ]
+]
 
 -- the steps over the clauses of a formula
 abbrev pub judged : List (List ℤ) → List Step → Result Refuted StepFault

@@ -1,5 +1,5 @@
 -- The clauses that the checker holds, as a map from ids.
-use Rattle.std.specs.Prelude.{ℕ, ◌≡◌, List, ℤ, Option, Some, None, Bool, nat_eq, MatchBool, Result, Ok, Err, IsSome}
+use Rattle.std.specs.Prelude.{ℕ, ◌≡◌, List, ℤ, Some, None, Bool, nat_eq, MatchBool, Result, Ok, Err, IsSome}
 use Rattle.std.specs.HashMap.{get, HashMap}
 use Rattle.std.specs.declared.hash.FoldHasher.{FoldHasher}
 use Rattle.std.specs.declared.hash.BuildHasherDefault.{BuildHasherDefault}

@@ -34,8 +34,10 @@ pub fn verify(alloc: Global, formula: &Formula, steps: &[Step]) -> Result<Refute
         set: TrueSet::new(alloc),
     };
     for step in steps {
-        if let Some(refuted) = checker.take(alloc, step)? {
-            return Ok(refuted);
+        match checker.take(alloc, step) {
+            Err(fault) => return Err(fault),
+            Ok(Some(refuted)) => return Ok(refuted),
+            Ok(None) => {}
         }
     }
     Err(StepFault::NoEmpty)
@@ -49,7 +51,12 @@ impl Checker {
         ensures held { OnOk result (AreHeld (held_of self.new.held)) }
     {
         match step {
-            Step::Add { id, lits, hints } => self.add(alloc, *id, lits.as_slice(), hints.as_slice()),
+            Step::Add { id, lits, hints } => self.add(
+                alloc,
+                *id,
+                lits.as_slice(),
+                hints.as_slice(),
+            ),
             Step::Delete { id, ids } => {
                 delete(&mut self.held, *id, ids.as_slice())?;
                 Ok(None)
@@ -57,7 +64,13 @@ impl Checker {
         }
     }
 
-    fn add(&mut self, alloc: Global, id: u64, lits: &[i64], hints: &[i64]) -> Result<Option<Refuted>, StepFault>
+    fn add(
+        &mut self,
+        alloc: Global,
+        id: u64,
+        lits: &[i64],
+        hints: &[i64],
+    ) -> Result<Option<Refuted>, StepFault>
         requires held { AreHeld (held_of self.old.held) }
         requires lits { AreLits lits.now }
         ensures takes { Adds (held_of self.old.held) self.old.top (held_of self.new.held) self.new.top id lits.now hints.now result }

@@ -15,7 +15,10 @@ pub enum Step {
         hints: List<i64>,
     },
     /// The clauses with these ids are held no longer.
-    Delete { id: u64, ids: List<u64> },
+    Delete {
+        id: u64,
+        ids: List<u64>,
+    },
 }
 
 /// The steps refute the clauses: the clause with this id is empty.

@@ -53,8 +53,11 @@ fn not_held(id: u64, deleted: &u64) -> StepFault
 /// The clauses of a formula, with the ids from 1 on.
 pub(crate) fn store_of(alloc: Global, formula: &Formula) -> Result<Store, StepFault>
     ensures held { IfOk result (λ store. held_of store ≡ numbered formula.now.clauses) }
+    ensures lits { IfOk result (λ store. AreHeld (held_of store)) }
     ensures memory { OnlyMemory result }
 {
+    // Below 2^63, so each literal has a complement.
+    let _vars = formula.vars();
     let mut held = HashMap::new(alloc);
     let mut id = 0;
     for clause in formula.clauses() {
