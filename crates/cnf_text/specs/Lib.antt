@@ -1,0 +1,3 @@
+pub mod Dimacs
+pub mod Numbers
+pub mod Words
