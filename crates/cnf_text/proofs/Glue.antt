@@ -42,19 +42,20 @@ line_stop_cr b (c ∷ cs) e h =
     let p = (and_parts (b == 13) (c == 10) h).1 in
     let behind : behind_end (b ∷ c ∷ cs) ≡ cs = ap (λ x. cond x (c ∷ cs) (cond (b == 13 && c == 10) cs (b ∷ c ∷ cs))) e ∙ ap (λ x. cond x cs (b ∷ c ∷ cs)) h in
     let here : lines (b ∷ c ∷ cs) ≡ [] ∷ lines cs =
-        ap (λ x. cond x ([] ∷ lines (c ∷ cs)) (cond (b == 13 && c == 10) (lines (c ∷ cs)) (joined b (lines (c ∷ cs))))) e
-        ∙ ap (λ x. cond x (lines (c ∷ cs)) (joined b (lines (c ∷ cs)))) h
-        ∙ ap (λ x. cond x ([] ∷ lines cs) (cond (c == 13 && begins_with 10 cs) (lines cs) (joined c (lines cs)))) p in
+    ap (λ x. cond x ([] ∷ lines (c ∷ cs)) (cond (b == 13 && c == 10) (lines (c ∷ cs)) (joined b (lines (c ∷ cs))))) e
+    ∙ ap (λ x. cond x (lines (c ∷ cs)) (joined b (lines (c ∷ cs)))) h
+    ∙ ap (λ x. cond x ([] ∷ lines cs) (cond (c == 13 && begins_with 10 cs) (lines cs) (joined c (lines cs)))) p in
     (here ∙ ap (λ x. [] ∷ lines x) (sym behind), subst (λ x. length x ≤ suc (length cs)) (sym behind) (omega arith))
 
 line_stop : (b : ℕ) (bs : List ℕ) → stops (b ∷ bs) ≡ true → (lines (b ∷ bs) ≡ [] ∷ lines (behind_end (b ∷ bs))) × (length (behind_end (b ∷ bs)) ≤ length bs)
 line_stop b bs h = elim (cases_Bool (b == 10)) [
   | inl e ↦
-    let behind : behind_end (b ∷ bs) ≡ bs = ap (λ x. cond x bs (cond (b == 13 && begins_with 10 bs) (drop 1 bs) (b ∷ bs))) e in
-    (ap (λ x. cond x ([] ∷ lines bs) (cond (b == 13 && begins_with 10 bs) (lines bs) (joined b (lines bs)))) e ∙ ap (λ x. [] ∷ lines x) (sym behind),
-     subst (λ x. length x ≤ length bs) (sym behind) (omega arith))
+      let behind : behind_end (b ∷ bs) ≡ bs = ap (λ x. cond x bs (cond (b == 13 && begins_with 10 bs) (drop 1 bs) (b ∷ bs))) e in (
+        ap (λ x. cond x ([] ∷ lines bs) (cond (b == 13 && begins_with 10 bs) (lines bs) (joined b (lines bs)))) e ∙ ap (λ x. [] ∷ lines x) (sym behind),
+        subst (λ x. length x ≤ length bs) (sym behind) (omega arith),
+      )
   | inr e ↦ line_stop_cr b bs e (or_rest (b == 10) (b == 13 && begins_with 10 bs) e h)
-  ] where
+] where
   or_rest : (a b : Bool) → a ≡ false → (a || b) ≡ true → b ≡ true
   or_rest true b e h = absurd (false≢true (sym e))
   or_rest false b e h = h
@@ -66,28 +67,31 @@ not_end bytes i h = elim (cases_lt i (length bytes)) [ inl l ↦ l | inr g ↦ a
 pub line_more : (bytes : List ℕ) (i : ℕ) → i ≤ length bytes → lines bytes ≡ glue (take i bytes) (lines (drop i bytes)) → stops (drop i bytes) ≡ false → (i + 1 ≤ length bytes) × (lines bytes ≡ glue (take (i + 1) bytes) (lines (drop (i + 1) bytes)))
 line_more bytes i n g h =
     let lt = not_end bytes i h in
-    let d = drop_more bytes i 0 lt in
-    (omega arith,
-     g ∙ ap (λ x. glue (take i bytes) (lines x)) d ∙ ap (glue (take i bytes)) (line_step (get_or bytes i 0) (drop (i + 1) bytes) (ap stops (sym d) ∙ h))
-     ∙ sym (glue_more (take i bytes) (get_or bytes i 0) (lines (drop (i + 1) bytes))) ∙ ap (λ x. glue x (lines (drop (i + 1) bytes))) (sym (take_more bytes i 0 lt)))
+    let d = drop_more bytes i 0 lt in (
+      omega arith,
+      g ∙ ap (λ x. glue (take i bytes) (lines x)) d ∙ ap (glue (take i bytes)) (line_step (get_or bytes i 0) (drop (i + 1) bytes) (ap stops (sym d) ∙ h))
+          ∙ sym (glue_more (take i bytes) (get_or bytes i 0) (lines (drop (i + 1) bytes))) ∙ ap (λ x. glue x (lines (drop (i + 1) bytes))) (sym (take_more bytes i 0 lt)),
+    )
 
 -- the line ends
 pub line_ends : (bytes : List ℕ) (i : ℕ) → 0 < length bytes → i ≤ length bytes → lines bytes ≡ glue (take i bytes) (lines (drop i bytes)) → stops (drop i bytes) ≡ true → (lines bytes ≡ take i bytes ∷ lines (behind_end (drop i bytes))) × (length (behind_end (drop i bytes)) < length bytes)
 line_ends bytes i some n g h = elim (cases_lt i (length bytes)) [
   | inl lt ↦
-    let d = drop_more bytes i 0 lt in
-    let s = line_stop (get_or bytes i 0) (drop (i + 1) bytes) (ap stops (sym d) ∙ h) in
-    let k : length (drop (i + 1) bytes) ≡ length bytes - (i + 1) = length-drop (i + 1) bytes in
-    let short : length (behind_end (drop i bytes)) ≤ length (drop (i + 1) bytes) = subst (λ x. length (behind_end x) ≤ length (drop (i + 1) bytes)) (sym d) s.1 in
-    (g ∙ ap (λ x. glue (take i bytes) (lines x)) d ∙ ap (glue (take i bytes)) s.0 ∙ glue_line (take i bytes) [] (lines (behind_end (get_or bytes i 0 ∷ drop (i + 1) bytes)))
-      ∙ ap (λ x. x ∷ lines (behind_end (get_or bytes i 0 ∷ drop (i + 1) bytes))) (append-nil (take i bytes)) ∙ ap (λ x. take i bytes ∷ lines (behind_end x)) (sym d),
-     omega (arith, k, short))
+      let d = drop_more bytes i 0 lt in
+      let s = line_stop (get_or bytes i 0) (drop (i + 1) bytes) (ap stops (sym d) ∙ h) in
+      let k : length (drop (i + 1) bytes) ≡ length bytes - (i + 1) = length-drop (i + 1) bytes in
+      let short : length (behind_end (drop i bytes)) ≤ length (drop (i + 1) bytes) = subst (λ x. length (behind_end x) ≤ length (drop (i + 1) bytes)) (sym d) s.1 in (
+        g ∙ ap (λ x. glue (take i bytes) (lines x)) d ∙ ap (glue (take i bytes)) s.0 ∙ glue_line (take i bytes) [] (lines (behind_end (get_or bytes i 0 ∷ drop (i + 1) bytes)))
+            ∙ ap (λ x. x ∷ lines (behind_end (get_or bytes i 0 ∷ drop (i + 1) bytes))) (append-nil (take i bytes)) ∙ ap (λ x. take i bytes ∷ lines (behind_end x)) (sym d),
+        omega (arith, k, short),
+      )
   | inr ge ↦
-    let d : drop i bytes ≡ [] = drop_all i bytes ge in
-    let t : take i bytes ≡ bytes = take_all i bytes ge in
-    (g ∙ ap (λ x. glue (take i bytes) (lines x)) d ∙ glue_end (take i bytes) (subst (λ x. 0 < length x) (sym t) some) ∙ ap (λ x. take i bytes ∷ lines (behind_end x)) (sym d),
-     subst (λ x. length (behind_end x) < length bytes) (sym d) some)
-  ]
+      let d : drop i bytes ≡ [] = drop_all i bytes ge in
+      let t : take i bytes ≡ bytes = take_all i bytes ge in (
+        g ∙ ap (λ x. glue (take i bytes) (lines x)) d ∙ glue_end (take i bytes) (subst (λ x. 0 < length x) (sym t) some) ∙ ap (λ x. take i bytes ∷ lines (behind_end x)) (sym d),
+        subst (λ x. length (behind_end x) < length bytes) (sym d) some,
+      )
+]
 
 blank_step : (b : ℕ) (bs : List ℕ) → is_blank b ≡ true → words (b ∷ bs) ≡ words bs
 blank_step b bs h = ap (λ x. cond x (words bs) (cond (begins_word bs) (joined b (words bs)) ((b ∷ []) ∷ words bs))) h
@@ -130,10 +134,11 @@ module _ (line : List ℕ) (i : ℕ) (lt : i < length line) (w : words line ≡ 
 
   -- one byte more of the word
   pub word_more : begins_word (drop (i + 1) line) ≡ true → (i + 1 < length line) × (words line ≡ glue (take (i + 1) line) (words (drop (i + 1) line)))
-  word_more k =
-      (within_word line (i + 1) k,
-       w ∙ ap (λ x. glue (take i line) (words x)) (drop_more line i 0 lt) ∙ ap (glue (take i line)) (word_step (get_or line i 0) (drop (i + 1) line) no_blank k)
-       ∙ sym (glue_more (take i line) (get_or line i 0) (words (drop (i + 1) line))) ∙ ap (λ x. glue x (words (drop (i + 1) line))) (sym (take_more line i 0 lt)))
+  word_more k = (
+    within_word line (i + 1) k,
+    w ∙ ap (λ x. glue (take i line) (words x)) (drop_more line i 0 lt) ∙ ap (glue (take i line)) (word_step (get_or line i 0) (drop (i + 1) line) no_blank k)
+        ∙ sym (glue_more (take i line) (get_or line i 0) (words (drop (i + 1) line))) ∙ ap (λ x. glue x (words (drop (i + 1) line))) (sym (take_more line i 0 lt)),
+  )
 
   -- the word ends
   pub word_ends : begins_word (drop (i + 1) line) ≡ false → words line ≡ take (i + 1) line ∷ words (drop (i + 1) line)

@@ -1,10 +1,16 @@
 //! Clause files in the DIMACS format, and the lines and words of such texts.
 #![tactic(auto)]
 
+mod body;
+mod fault;
+mod header;
 mod lines;
 mod numbers;
+mod read;
 mod words;
 
+pub use fault::DimacsFault;
 pub use lines::next_line;
-pub use numbers::{natural, number_up_to};
+pub use numbers::{MOST, natural, number_up_to};
+pub use read::read_dimacs;
 pub use words::next_word;

@@ -15,4 +15,4 @@ returns-clause-lines c =
 pub returns-clause-shorter : goal.returns-clause-shorter
 returns-clause-shorter c =
     subst (λ x. length x < length c.args.bytes.now) (sym (c.behind_end.ensures ∙ ap behind_end (take_rest c.args.bytes.now c.loop-end.end)))
-      (line_ends c.args.bytes.now c.loop-end.end c.requires c.loop-end.invariant.0 c.loop-end.invariant.1 (ap stops (sym (take_rest c.args.bytes.now c.loop-end.end)) ∙ sym c.loop-end-test.ensures)).1
+    (line_ends c.args.bytes.now c.loop-end.end c.requires c.loop-end.invariant.0 c.loop-end.invariant.1 (ap stops (sym (take_rest c.args.bytes.now c.loop-end.end)) ∙ sym c.loop-end-test.ensures)).1
