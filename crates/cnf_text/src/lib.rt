@@ -8,9 +8,11 @@ mod lines;
 mod numbers;
 mod read;
 mod words;
+mod write;
 
 pub use fault::DimacsFault;
 pub use lines::next_line;
 pub use numbers::{MOST, natural, number_up_to};
 pub use read::read_dimacs;
 pub use words::next_word;
+pub use write::{dimacs, put_literals};
