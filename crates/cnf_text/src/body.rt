@@ -18,7 +18,8 @@ pub(crate) struct Body {
     pub last: u32,
 }
 
-pub(crate) fn next_place(line: u32) -> u32
+/// The next line's number; it stands still at `2^32 - 1`.
+pub fn next_place(line: u32) -> u32
     ensures { result ≡ next_place line }
 {
     line.saturating_add(1)

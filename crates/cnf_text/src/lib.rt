@@ -10,6 +10,7 @@ mod read;
 mod words;
 mod write;
 
+pub use body::next_place;
 pub use fault::DimacsFault;
 pub use lines::next_line;
 pub use numbers::{MOST, natural, number_up_to};

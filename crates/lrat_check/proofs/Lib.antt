@@ -1,3 +1,5 @@
+pub mod Four
+pub mod ReadSteps
 pub mod Sound
 pub mod Stores
 pub mod Takes

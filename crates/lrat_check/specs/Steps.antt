@@ -27,6 +27,11 @@ with_clause held id lits = λ i. cond (eqb id i) (Some lits) (held i)
 abbrev pub without_clause : Held → ℕ → Held
 without_clause held id = λ i. cond (eqb id i) None (held i)
 
+-- none of the ids holds a clause from here on
+abbrev pub deleted_from : Held → List ℕ → Held
+deleted_from held [] = held
+deleted_from held (i ∷ ids) = deleted_from (without_clause held i) ids
+
 abbrev pub is_negative : ℤ → Bool
 is_negative l = int_lt l (pos 0)
 
