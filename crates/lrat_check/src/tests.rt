@@ -133,3 +133,26 @@ fn writes_what_it_reads(rt: HostRuntime) -> Result<(), Fail> {
     assert_eq!(rt; written.as_slice(), proof.as_bytes());
     Ok(())
 }
+
+#[test]
+fn refuses_what_is_cut_off(rt: HostRuntime) -> Result<(), Fail> {
+    let whole = b"5 1 0 1 2 0\n6 0 5 3 4 0";
+    for end in 0..whole.len() {
+        let found = answer(rt.alloc(), FOUR.as_bytes(), &whole[..end])?;
+        assert_ne!(rt; found.as_str(), "refuted 6", "at {end}");
+    }
+    Ok(())
+}
+
+/// Each of many ids is added and deleted before the refutation.
+#[test]
+fn takes_many_ids(rt: HostRuntime) -> Result<(), Fail> {
+    let mut proof = String::new(rt.alloc());
+    for id in 5..100005u64 {
+        write!(proof, "{id} 1 0 1 2 0\n{id} d {id} 0\n")?;
+    }
+    proof.push_str("100005 1 0 1 2 0\n100006 0 100005 3 4 0\n")?;
+    let found = answer(rt.alloc(), FOUR.as_bytes(), proof.as_bytes())?;
+    assert_eq!(rt; found.as_str(), "refuted 100006");
+    Ok(())
+}
