@@ -1,7 +1,8 @@
 -- Clause files (DIMACS): which formula a text says, and why it says none. What is refused, and in which order, is a rule
 -- of this project.
-use Rattle.std.specs.Prelude.{ℕ, ◌+◌, ◌-◌, ◌^◌, ◌≡◌, min, Bool, true, false, ◌&&◌, ◌||◌, ◌==◌, cond, List, [], ◌∷◌, ◌++◌, length, flat_map, ℤ, unsigned_abs, codes, decimal, bytes_eq, Option, Some, None, Result, Ok, Err}
+use Rattle.std.specs.Prelude.{ℕ, ◌+◌, ◌-◌, ◌^◌, ◌≤◌, ◌≡◌, min, Bool, true, false, not, ◌&&◌, ◌||◌, ◌==◌, cond, List, [], ◌∷◌, ◌++◌, length, flat_map, ℤ, unsigned_abs, codes, decimal, bytes_eq, Option, Some, None, Result, Ok, Err}
 use Rattle.std.specs.Fmt.{signed_decimal}
+use Rattle.std.specs.List.{AllByRecursion, list_all}
 use Rattle.cnf_form.specs.Cnf.{Cnf}
 use Rattle.cnf_text.specs.Numbers.{number_up_to, literal_of}
 use Rattle.cnf_text.specs.Words.{begins_with, lines, words}
@@ -105,6 +106,17 @@ header_text cnf = codes "p cnf " ++ decimal cnf.vars ++ 32 ∷ [] ++ decimal (le
 
 abbrev pub dimacs_text : List (List ℕ) → Cnf → List ℕ
 dimacs_text notes cnf = flat_map note_text notes ++ header_text cnf ++ flat_map clause_text cnf.clauses
+
+-- a note has no LF
+abbrev pub HasNoEnd : List ℕ → Type 0
+HasNoEnd note = list_all (λ b. not (b == 10)) note ≡ true
+
+abbrev pub HaveNoEnd : List (List ℕ) → Type 0
+HaveNoEnd notes = AllByRecursion HasNoEnd notes
+
+-- a formula within the limits of the format is read back
+abbrev pub ReadsBack : List (List ℕ) → Cnf → List ℕ → Type 0
+ReadsBack notes cnf bytes = HaveNoEnd notes → cnf.vars ≤ 100000000 → length cnf.clauses ≤ 100000000 → formula_of bytes ≡ Ok cnf
 
 -- a fact about a refusal; want of memory says nothing
 abbrev pub OrMemory : DimacsFault → Type 0 → Type 0

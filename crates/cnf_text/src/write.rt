@@ -1,6 +1,6 @@
 ghost use Rattle.std.specs.Prelude.{◌≡◌, ◌++◌, flat_map, IfOk, OnOk};
 ghost use Rattle.std.specs.Fmt.{signed_decimal};
-ghost use Rattle.cnf_text.specs.Dimacs.{note_text, literal_text, clause_text, header_text, dimacs_text};
+ghost use Rattle.cnf_text.specs.Dimacs.{note_text, literal_text, clause_text, header_text, dimacs_text, ReadsBack};
 
 use cnf_form::Formula;
 use fv_base::{Memory, Text};
@@ -10,6 +10,7 @@ use std::alloc::Global;
 /// The clause file of a formula, with the notes as comments before the header. A note has no LF.
 pub fn dimacs(alloc: Global, formula: &Formula, notes: &[Text]) -> Result<Vec<u8>, Memory>
     ensures text { IfOk result (λ bytes. bytes.items ≡ dimacs_text notes.now formula.now) }
+    ensures read_back { IfOk result (λ bytes. ReadsBack notes.now formula.now bytes.items) }
 {
     let mut out = Vec::new(alloc);
     for note in notes {
