@@ -1,4 +1,5 @@
 pub mod Four
+pub mod ReadBack
 pub mod ReadSteps
 pub mod Sound
 pub mod Stores

@@ -1,6 +1,7 @@
 -- Proofs as texts (LRAT, without the binary form): which steps a text says, and why it says none. One step a line:
 -- `ID LITERALS 0 HINTS 0`, or `ID d IDS 0`. How long numbers may be is a rule of this project.
-use Rattle.std.specs.Prelude.{ℕ, ◌≡◌, Bool, cond, nat_le, ◌==◌, List, [], ◌∷◌, ◌++◌, length, flat_map, ℤ, codes, decimal, bytes_eq, Option, Some, None, Result, Ok, Err}
+use Rattle.std.specs.Prelude.{ℕ, ◌<◌, ◌^◌, ◌≡◌, unsigned_abs, Bool, cond, nat_le, ◌==◌, List, [], ◌∷◌, ◌++◌, length, flat_map, ℤ, codes, decimal, bytes_eq, Option, Some, None, Result, Ok, Err}
+use Rattle.std.specs.List.{AllByRecursion}
 use Rattle.cnf_text.specs.Words.{lines, words}
 use Rattle.cnf_text.specs.Numbers.{natural_of, signed}
 use Rattle.cnf_text.specs.Dimacs.{literal_text, is_nil, next_place}
@@ -98,6 +99,25 @@ step_text (Delete id ids) = id_text id ++ codes "d " ++ flat_map id_text ids ++ 
 
 abbrev pub lrat_text : List Step → List ℕ
 lrat_text steps = flat_map step_text steps
+
+-- numbers of at most 18 digits, and no literal, hint or deleted id is 0
+abbrev pub IsShortLiteral : ℤ → Type 0
+IsShortLiteral l = (0 < unsigned_abs l) × (unsigned_abs l < 10 ^ 18)
+
+abbrev pub IsShortId : ℕ → Type 0
+IsShortId id = (0 < id) × (id < 10 ^ 18)
+
+abbrev pub IsShort : Step → Type 0
+IsShort (Add id lits hints) = (id < 10 ^ 18) × AllByRecursion IsShortLiteral lits × AllByRecursion IsShortLiteral hints
+IsShort (Delete id ids) = (id < 10 ^ 18) × AllByRecursion IsShortId ids
+
+abbrev pub AreShort : List Step → Type 0
+AreShort [] = Unit {0}
+AreShort (step ∷ steps) = IsShort step × AreShort steps
+
+-- such steps are read back
+abbrev pub ReadsBack : List Step → List ℕ → Type 0
+ReadsBack steps bytes = AreShort steps → steps_of bytes ≡ Ok steps
 
 -- a fact about a refusal; want of memory says nothing
 abbrev pub OrMemory : LratFault → Type 0 → Type 0

@@ -1,5 +1,5 @@
 ghost use Rattle.std.specs.Prelude.{◌≡◌, ◌++◌, flat_map, IfOk, OnOk};
-ghost use Rattle.lrat_check.specs.Texts.{id_text, step_text, lrat_text};
+ghost use Rattle.lrat_check.specs.Texts.{id_text, step_text, lrat_text, ReadsBack};
 
 use crate::step::Step;
 use cnf_text::put_literals;
@@ -10,6 +10,7 @@ use std::alloc::Global;
 /// The text of the steps, one a line.
 pub fn lrat(alloc: Global, steps: &[Step]) -> Result<Vec<u8>, Memory>
     ensures text { IfOk result (λ bytes. bytes.items ≡ lrat_text steps.now) }
+    ensures read_back { IfOk result (λ bytes. ReadsBack steps.now bytes.items) }
 {
     let mut out = Vec::new(alloc);
     for step in steps {
