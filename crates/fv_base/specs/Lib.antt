@@ -4,6 +4,7 @@ pub mod Keyword
 pub mod Name
 pub mod Named
 pub mod Outside
+pub mod Rose
 pub mod Sent
 pub mod Store
 pub mod Symbol

@@ -1,0 +1,11 @@
+pub mod BitsLemmas
+pub mod GatesLemmas
+pub mod Matches
+pub mod ExprLaws
+pub mod PortLaws
+pub mod PlaceLaws
+pub mod EncodingLaws
+pub mod AddsLemmas
+pub mod SpanLemmas
+pub mod NamedRoom
+pub mod NumberLaws

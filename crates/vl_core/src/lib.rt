@@ -1,0 +1,17 @@
+//! The clauses of a module of the first form: values that make them true are numbers for its ports that violate.
+#![tactic(auto)]
+
+mod encode;
+mod expr;
+mod gates;
+mod layout;
+mod numbers;
+mod place;
+mod places;
+mod shared;
+#[cfg(test)]
+mod tests;
+
+pub use encode::first_clauses;
+pub use place::FirstPlace;
+pub use places::numbers_at;

@@ -1,0 +1,13 @@
+pub mod Options
+pub mod Runs
+pub mod Words
+pub mod Signs
+pub mod Tokens
+pub mod Lexing
+pub mod Heads
+pub mod Sequence
+pub mod Parsing
+pub mod NameLemmas
+pub mod Outcomes
+pub mod Laws
+pub mod Files
