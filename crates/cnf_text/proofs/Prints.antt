@@ -1,6 +1,6 @@
 -- The lines and words of printed text.
-use Rattle.std.proofs.Common.{◌≡◌, ℕ, zero, suc, ◌+◌, ◌-◌, ◌*◌, ◌^◌, ◌<◌, ◌≤◌, Bool, true, false, not, cond, ◌&&◌, ◌||◌, ◌==◌, List, [], ◌∷◌, ◌++◌, length, map, ℤ, pos, negsuc, refl, ap, sym, subst, ◌∙◌, inl, inr, append_assoc, arith}
-use Rattle.std.specs.Prelude.{nat_le, decimal, codes}
+use Rattle.std.proofs.Common.{◌≡◌, ℕ, suc, ◌^◌, ◌<◌, Bool, true, false, not, cond, ◌&&◌, ◌==◌, List, [], ◌∷◌, ◌++◌, length, map, ℤ, pos, negsuc, refl, ap, ◌∙◌, inl, inr, append_assoc, arith}
+use Rattle.std.specs.Prelude.{decimal}
 use Rattle.std.specs.Fmt.{signed_decimal}
 use Rattle.std.specs.List.{list_all, flat_map}
 use Rattle.std.proofs.lemmas.Bool.{false≢true, cases_Bool}
@@ -8,8 +8,8 @@ use Rattle.std.proofs.lemmas.Bool.Decides.{nat_tests}
 use Rattle.cnf_form.specs.Cnf.{IsLiteral, AreLiterals}
 use Rattle.cnf_text.specs.Numbers.{is_digit}
 use Rattle.cnf_text.specs.Words.{begins_with, joined, lines, is_blank, begins_word, words}
-use Rattle.cnf_text.specs.Dimacs.{literal_text, clause_text}
-use Rattle.cnf_text.proofs.Digits.{Says, decimal_says}
+use Rattle.cnf_text.specs.Dimacs.{literal_text}
+use Rattle.cnf_text.proofs.Digits.{decimal_says}
 
 and_parts : (a b : Bool) → (a && b) ≡ true → (a ≡ true) × (b ≡ true)
 and_parts true b e = (refl, e)

@@ -1,16 +1,16 @@
 -- A clause file that was written is read back.
-use Rattle.std.proofs.Common.{◌≡◌, ℕ, zero, suc, ◌+◌, ◌-◌, ◌*◌, ◌^◌, ◌<◌, ◌≤◌, Bool, true, false, not, cond, ◌&&◌, ◌||◌, ◌==◌, List, [], ◌∷◌, ◌++◌, length, drop, map, ℤ, pos, negsuc, Option, Some, None, refl, ap, sym, subst, ◌∙◌, append_assoc, arith}
-use Rattle.std.specs.Prelude.{nat_le, decimal, codes, bytes_eq, unsigned_abs, Result, Ok, Err}
+use Rattle.std.proofs.Common.{◌≡◌, ℕ, ◌^◌, ◌<◌, ◌≤◌, Bool, true, false, cond, ◌&&◌, ◌||◌, ◌==◌, List, [], ◌∷◌, ◌++◌, length, drop, map, ℤ, pos, negsuc, Option, Some, None, refl, ap, sym, ◌∙◌, append_assoc, arith}
+use Rattle.std.specs.Prelude.{nat_le, decimal, codes, unsigned_abs, Result, Ok, Err}
 use Rattle.std.specs.Fmt.{signed_decimal}
 use Rattle.std.specs.List.{list_all, flat_map}
-use Rattle.std.proofs.lemmas.Bool.{false≢true, cases_Bool}
+use Rattle.std.proofs.lemmas.Bool.{false≢true}
 use Rattle.std.proofs.lemmas.Bool.Decides.{nat_tests}
 use Rattle.std.proofs.lemmas.List.{append-nil, drop_all}
 use Rattle.cnf_form.specs.Cnf.{Cnf, IsLiteral, AreLiterals, AreClauses}
 use Rattle.cnf_text.specs.declared.fault.DimacsFault.{DimacsFault}
 use Rattle.cnf_text.specs.Numbers.{is_digit, number_up_to, literal_of}
 use Rattle.cnf_text.specs.Words.{begins_with, joined, lines, words}
-use Rattle.cnf_text.specs.Dimacs.{is_comment, is_nil, is_zero, header_of, both, next_place, Body, with_number, with_words, with_line, with_lines, finished, read_behind, read_lines, formula_of, note_text, literal_text, clause_text, header_text, dimacs_text, HasNoEnd, HaveNoEnd}
+use Rattle.cnf_text.specs.Dimacs.{is_comment, is_nil, is_zero, header_of, both, next_place, Body, with_number, with_words, with_line, with_lines, finished, read_behind, read_lines, formula_of, note_text, literal_text, clause_text, header_text, dimacs_text, HaveNoEnd}
 use Rattle.cnf_text.proofs.Digits.{Says, decimal_says, number_is, literal_is}
 use Rattle.cnf_text.proofs.Prints.{is_inner, is_plain, line_of, some_line, word_of, word_blank, decimal_plain, inners_of, all_append, literal_words, literal_inner}
 

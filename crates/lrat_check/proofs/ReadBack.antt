@@ -1,22 +1,22 @@
 -- A proof that was written is read back.
-use Rattle.std.proofs.Common.{◌≡◌, ℕ, zero, suc, ◌+◌, ◌-◌, ◌*◌, ◌^◌, ◌<◌, ◌≤◌, Bool, true, false, not, cond, ◌&&◌, ◌||◌, ◌==◌, List, [], ◌∷◌, ◌++◌, length, drop, map, ℤ, pos, negsuc, neg_ℤ, Option, Some, None, refl, ap, sym, subst, ◌∙◌, append_assoc, arith}
-use Rattle.std.specs.Prelude.{nat_le, decimal, codes, bytes_eq, unsigned_abs, option_map, Result, Ok, Err}
+use Rattle.std.proofs.Common.{◌≡◌, ℕ, suc, ◌^◌, ◌<◌, Bool, true, false, cond, ◌&&◌, ◌==◌, List, [], ◌∷◌, ◌++◌, length, map, ℤ, pos, negsuc, neg_ℤ, Option, Some, None, refl, ap, sym, ◌∙◌, append_assoc, arith}
+use Rattle.std.specs.Prelude.{nat_le, decimal, bytes_eq, option_map, Result, Ok}
 use Rattle.std.specs.Fmt.{signed_decimal}
 use Rattle.std.specs.List.{AllByRecursion, list_all, flat_map}
 use Rattle.std.proofs.lemmas.Bool.{false≢true}
 use Rattle.std.proofs.lemmas.Bool.Decides.{nat_tests}
-use Rattle.std.proofs.lemmas.List.{append-nil, drop_all}
+use Rattle.std.proofs.lemmas.List.{append-nil}
 use Rattle.std.proofs.lemmas.Fmt.{length-decimal-le}
-use Rattle.cnf_form.specs.Cnf.{IsLiteral, AreLiterals}
-use Rattle.cnf_text.specs.Numbers.{is_digit, continued, natural_of, signed}
+use Rattle.cnf_form.specs.Cnf.{AreLiterals}
+use Rattle.cnf_text.specs.Numbers.{is_digit, continued, natural_of}
 use Rattle.cnf_text.specs.Words.{lines, words}
 use Rattle.cnf_text.specs.Dimacs.{is_nil, literal_text, next_place}
 use Rattle.cnf_text.proofs.Digits.{Says, decimal_says, natural_from, unsigned}
-use Rattle.cnf_text.proofs.Prints.{is_inner, is_plain, line_of, word_blank, decimal_plain, inners_of, all_append, literal_words, literal_inner}
+use Rattle.cnf_text.proofs.Prints.{is_inner, line_of, word_blank, decimal_plain, inners_of, all_append, literal_words, literal_inner}
 use Rattle.lrat_check.specs.declared.step.Step.{Step}
 use Rattle.lrat_check.specs.declared.step.Step.TheVariants.{Add, Delete}
 use Rattle.lrat_check.specs.declared.lrat_fault.LratFault.{LratFault}
-use Rattle.lrat_check.specs.Texts.{short, nonzero, literal_of, is_end, is_delete, up_to_end, ended, add_of, delete_of, behind_id, step_of, with_line, with_lines, steps_of, id_text, step_text, lrat_text, IsShortLiteral, IsShortId, IsShort, AreShort}
+use Rattle.lrat_check.specs.Texts.{short, nonzero, literal_of, is_end, is_delete, up_to_end, add_of, delete_of, behind_id, step_of, with_line, with_lines, steps_of, id_text, step_text, lrat_text, IsShortLiteral, IsShortId, IsShort, AreShort}
 
 short_decimal : (n : ℕ) → n < 10 ^ 18 → short (decimal n) ≡ Some n
 short_decimal n h =
@@ -45,6 +45,7 @@ not_end_at n (d ∷ e ∷ es) s h = and_false (d == 48)
 not_end_at n (d ∷ []) s h = one_digit (d == 48) refl where
   some_is : (x y : ℕ) → Some x ≡ Some y → x ≡ y
   some_is x y e = cc
+
   one_digit : (b : Bool) → (d == 48) ≡ b → (b && true) ≡ false
   one_digit false e = refl
   one_digit true e =
@@ -102,9 +103,9 @@ digits_no_delete n (d ∷ ds) s =
     let p : is_digit d ≡ true = first (is_digit d) (list_all is_digit ds) s.digits in
     let no : (d == 100) ≡ false = grind (arith, nat_tests) in
     ap (λ b. b && bytes_eq ds []) no where
-  first : (a b : Bool) → (a && b) ≡ true → a ≡ true
-  first true b e = refl
-  first false b e = absurd (false≢true e)
+      first : (a b : Bool) → (a && b) ≡ true → a ≡ true
+      first true b e = refl
+      first false b e = absurd (false≢true e)
 
 -- the words behind the id of an added clause
 abbrev behind : List ℤ → List ℤ → List (List ℕ)
@@ -150,18 +151,18 @@ add_line line id lits hints rest h =
     let p = decimal_plain id (omega (arith, h.0)) in
     let shape : step_text (Add id lits hints) ++ rest ≡ text ++ 10 ∷ rest = simp append_assoc in
     let inner : list_all is_inner text ≡ true =
-      all_append is_inner (decimal id) (32 ∷ (a ++ 48 ∷ 32 ∷ (b ++ 48 ∷ []))) (inners_of (decimal id) p.0)
-        (all_append is_inner a (48 ∷ 32 ∷ (b ++ 48 ∷ [])) (literal_inner (10 ^ 18) lits (omega arith) (are_literals lits h.1))
-          (all_append is_inner b (48 ∷ []) (literal_inner (10 ^ 18) hints (omega arith) (are_literals hints h.2)) refl)) in
+    all_append is_inner (decimal id) (32 ∷ (a ++ 48 ∷ 32 ∷ (b ++ 48 ∷ []))) (inners_of (decimal id) p.0)
+    (all_append is_inner a (48 ∷ 32 ∷ (b ++ 48 ∷ [])) (literal_inner (10 ^ 18) lits (omega arith) (are_literals lits h.1))
+    (all_append is_inner b (48 ∷ []) (literal_inner (10 ^ 18) hints (omega arith) (are_literals hints h.2)) refl)) in
     let w : words text ≡ decimal id ∷ behind lits hints =
-      word_blank (decimal id) (a ++ 48 ∷ 32 ∷ (b ++ 48 ∷ [])) p.0 p.1
-      ∙ ap (λ ws. decimal id ∷ ws) (literal_words (10 ^ 18) lits (48 ∷ 32 ∷ (b ++ 48 ∷ [])) (omega arith) (are_literals lits h.1)
-          ∙ ap (λ ws. map signed_decimal lits ++ (48 ∷ []) ∷ ws) (literal_words (10 ^ 18) hints (48 ∷ []) (omega arith) (are_literals hints h.2))) in
+    word_blank (decimal id) (a ++ 48 ∷ 32 ∷ (b ++ 48 ∷ [])) p.0 p.1
+    ∙ ap (λ ws. decimal id ∷ ws) (literal_words (10 ^ 18) lits (48 ∷ 32 ∷ (b ++ 48 ∷ [])) (omega arith) (are_literals lits h.1)
+    ∙ ap (λ ws. map signed_decimal lits ++ (48 ∷ []) ∷ ws) (literal_words (10 ^ 18) hints (48 ∷ []) (omega arith) (are_literals hints h.2))) in
     record {
       text = text;
       lines_are = ap lines shape ∙ line_of text rest inner;
       says = λ steps. line_reads line steps text (decimal id) (behind lits hints) (Add id lits hints) w
-        (step_reads line id (decimal id) (behind lits hints) (Ok (Add id lits hints)) (short_decimal id h.0) (no_delete lits hints line id h.1 ∙ add_reads line id lits hints h.1 h.2))
+          (step_reads line id (decimal id) (behind lits hints) (Ok (Add id lits hints)) (short_decimal id h.0) (no_delete lits hints line id h.1 ∙ add_reads line id lits hints h.1 h.2));
     }
 
 delete_line : (line id : ℕ) (ids rest : List ℕ) → IsShort (Delete id ids) → IsLine line (Delete id ids) rest
@@ -171,14 +172,14 @@ delete_line line id ids rest h =
     let p = decimal_plain id (omega (arith, h.0)) in
     let shape : step_text (Delete id ids) ++ rest ≡ text ++ 10 ∷ rest = simp append_assoc in
     let inner : list_all is_inner text ≡ true =
-      all_append is_inner (decimal id) (32 ∷ 100 ∷ 32 ∷ (a ++ 48 ∷ [])) (inners_of (decimal id) p.0) (all_append is_inner a (48 ∷ []) (id_inner ids h.1) refl) in
+    all_append is_inner (decimal id) (32 ∷ 100 ∷ 32 ∷ (a ++ 48 ∷ [])) (inners_of (decimal id) p.0) (all_append is_inner a (48 ∷ []) (id_inner ids h.1) refl) in
     let w : words text ≡ decimal id ∷ (100 ∷ []) ∷ (map decimal ids ++ (48 ∷ []) ∷ []) =
-      word_blank (decimal id) (100 ∷ 32 ∷ (a ++ 48 ∷ [])) p.0 p.1 ∙ ap (λ ws. decimal id ∷ (100 ∷ []) ∷ ws) (id_words ids (48 ∷ []) h.1) in
+    word_blank (decimal id) (100 ∷ 32 ∷ (a ++ 48 ∷ [])) p.0 p.1 ∙ ap (λ ws. decimal id ∷ (100 ∷ []) ∷ ws) (id_words ids (48 ∷ []) h.1) in
     record {
       text = text;
       lines_are = ap lines shape ∙ line_of text rest inner;
       says = λ steps. line_reads line steps text (decimal id) ((100 ∷ []) ∷ (map decimal ids ++ (48 ∷ []) ∷ [])) (Delete id ids) w
-        (step_reads line id (decimal id) ((100 ∷ []) ∷ (map decimal ids ++ (48 ∷ []) ∷ [])) (Ok (Delete id ids)) (short_decimal id h.0) (delete_reads line id ids h.1))
+          (step_reads line id (decimal id) ((100 ∷ []) ∷ (map decimal ids ++ (48 ∷ []) ∷ [])) (Ok (Delete id ids)) (short_decimal id h.0) (delete_reads line id ids h.1));
     }
 
 line_at : (line : ℕ) (step : Step) (rest : List ℕ) → IsShort step → IsLine line step rest
