@@ -1,0 +1,4 @@
+pub mod Bodies
+pub mod Dimacs
+pub mod Numbers
+pub mod Words

@@ -1,0 +1,7 @@
+use Rattle.std.proofs.Common.{◌≡◌, take}
+use Rattle.lrat_check.specs.Steps.{numbered}
+use Rattle.lrat_check.specs.Store.{held_of}
+use Rattle.lrat_check.proofs.store.store_of.Given as goal
+
+abbrev pub invariant-loop-clause : goal.invariant-loop-clause
+invariant-loop-clause l = (l.id ≡ l.clause-index) × (held_of l.held ≡ numbered (take l.clause-index l.clause-items))

@@ -1,0 +1,6 @@
+pub mod Answers
+pub mod Resolved
+pub mod Sets
+pub mod Steps
+pub mod Store
+pub mod Texts

@@ -1,0 +1,21 @@
+//! Steps of a refutation in the LRAT format, and a checker that accepts exactly those that refute a formula.
+#![tactic(auto)]
+
+mod checker;
+mod lrat_fault;
+mod lrat_read;
+mod lrat_write;
+mod reading;
+mod shared;
+mod step;
+mod store;
+#[cfg(test)]
+mod tests;
+mod true_set;
+
+pub use checker::verify;
+pub use lrat_fault::LratFault;
+pub use lrat_read::read_lrat;
+pub use lrat_write::lrat;
+pub use reading::Reading;
+pub use step::{Refuted, Step, StepFault};
