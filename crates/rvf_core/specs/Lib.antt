@@ -1,5 +1,9 @@
+pub mod Certificate
+pub mod Command
 pub mod Ends
 pub mod Lines
 pub mod Run
 pub mod Status
+pub mod Unread
 pub mod Verdict
+pub mod View

@@ -7,7 +7,7 @@ use Rattle.vl_first.specs.Plain.{is_clock}
 use Rattle.vl_first.specs.declared.form.FirstPort.{FirstPort}
 
 abbrev pub usage_line : List ℕ
-usage_line = codes "usage: rvf run FILE\n"
+usage_line = codes "usage: rvf run FILE | lrat CNF PROOF\n"
 
 abbrev pub source_line : List ℕ
 source_line = codes "source first 1 - -\n"

@@ -1,99 +1,145 @@
 -- What an answer of the top call means: its cause, and the lines that were put. Rules of this project.
-use Rattle.std.specs.Prelude.{◌≡◌, ℕ, ◌+◌, ◌-◌, ◌^◌, Bool, true, false, ◌||◌, nat_le, min, List, [], ◌∷◌, Option, Some, None, if◌then◌else◌, bytes_eq, codes, ◌==◌}
-use Rattle.fv_base.specs.Outside.{Names, Told, Rose, ReadGives, Lacks}
+use Rattle.std.specs.Prelude.{◌≡◌, ℕ, ◌+◌, ◌-◌, ◌^◌, Bool, true, false, ◌||◌, nat_le, min, List, [], ◌∷◌, Option, Some, None, IfSome, ◌==◌}
+use Rattle.fv_base.specs.Outside.{Names, Told, Rose, ReadGives}
 use Rattle.vl_first.specs.FirstForm.{IsFirst, IsNone}
+use Rattle.vl_first.specs.Plain.{is_among}
 use Rattle.vl_first.specs.Violation.{violates}
 use Rattle.vl_first.specs.declared.form.FirstPort.{FirstPort}
-use Rattle.rvf_core.specs.Lines.{usage_line, absent_front, read_fault_front, named_line}
+use Rattle.rvf_core.specs.Certificate.{outcome}
+use Rattle.rvf_core.specs.Command.{Command, check, refute, command_of, files_of}
 use Rattle.rvf_core.specs.Ends.{Ends}
+use Rattle.rvf_core.specs.Lines.{usage_line, absent_front, read_fault_front, named_line}
 use Rattle.rvf_core.specs.Status.{code_of}
 use Rattle.rvf_core.specs.Verdict.{NoneViolate, Verdict}
 use Rattle.rvf_core.specs.declared.status.Status.{Status}
 use Rattle.rvf_core.specs.declared.status.Status.TheVariants as s
 
--- all that a run was given, and what it left
-pub record Run : Type 0 where
-  -- the words behind the program's name
-  pub words : List (List ℕ)
-  -- what is told of the files as the run began; no run of this form writes one
+-- what a run saw of the files: what is told of them as it began, and how their counts moved
+pub record Seen : Type 0 where
   pub held : Told
   pub misses : ℕ
   pub misses_now : ℕ
   pub faults : ℕ
   pub faults_now : ℕ
+
+-- all that a run was given, and what it left; no run of this form writes a file
+pub record Run : Type 0 where
+  -- the words behind the program's name
+  pub words : List (List ℕ)
+  pub seen : Seen
   pub sent : Option (List ℕ)
   pub sent_now : Option (List ℕ)
   pub out_faults : ℕ
   pub out_faults_now : ℕ
 
--- the file that the words ask to check: they are `run` and its name
-abbrev pub file_asked : List (List ℕ) → Option (List ℕ)
-file_asked (command ∷ name ∷ []) = if bytes_eq command (codes "run") then Some name else None
-file_asked words = None
+-- the file where it holds nothing, else what is found behind it
+abbrev pub lacking_or : Option (List ℕ) → List ℕ → Option (List ℕ) → Option (List ℕ)
+lacking_or None file behind = Some file
+lacking_or (Some bytes) file behind = behind
 
--- the words are other words
-pub record Misuses (r : Run) (lines : List ℕ) : Type 0 where
-  pub unasked : file_asked r.words ≡ None
-  pub line : lines ≡ usage_line
+-- the first of some files that isn't held
+abbrev pub first_lacking : Names → List (List ℕ) → Option (List ℕ)
+first_lacking names [] = None
+first_lacking names (file ∷ files) = lacking_or (names file) file (first_lacking names files)
 
--- the file asked for isn't held, which was counted
-pub record Misses (r : Run) (lines : List ℕ) : Type 0 where
+-- a file isn't held, which was counted: one of those to be read, and where files are told the first of them
+pub record Misses (files : List (List ℕ)) (seen : Seen) (lines : List ℕ) : Type 0 where
   pub name : List ℕ
-  pub asked : file_asked r.words ≡ Some name
-  pub lacks : Lacks r.held name
-  pub counted : Rose r.misses r.misses_now
+  pub among : is_among name files ≡ true
+  pub first : IfSome seen.held (λ names. first_lacking names files ≡ Some name)
+  pub counted : Rose seen.misses seen.misses_now
   pub line : lines ≡ named_line absent_front name
 
--- the file asked for could not be read, which was counted
-pub record FailsToRead (r : Run) (lines : List ℕ) : Type 0 where
+-- one of the files to be read could not be read, which was counted
+pub record FailsToRead (files : List (List ℕ)) (seen : Seen) (lines : List ℕ) : Type 0 where
   pub name : List ℕ
-  pub asked : file_asked r.words ≡ Some name
-  pub counted : Rose r.faults r.faults_now
+  pub among : is_among name files ≡ true
+  pub counted : Rose seen.faults seen.faults_now
   pub line : lines ≡ named_line read_fault_front name
 
--- the file asked for gave bytes, and the status is their verdict
-pub record Reads (status : Status) (r : Run) (lines : List ℕ) : Type 0 where
-  pub name : List ℕ
-  pub asked : file_asked r.words ≡ Some name
+-- the file gave bytes, and the status is their verdict
+pub record Reads (status : Status) (file : List ℕ) (seen : Seen) (lines : List ℕ) : Type 0 where
   pub bytes : List ℕ
-  pub gives : ReadGives r.held name bytes
+  pub gives : ReadGives seen.held file bytes
   pub verdict : Verdict status bytes lines
 
--- a status has its cause in the run, and these are its lines
-abbrev pub Says : Run → Status → List ℕ → Type 0
-Says r s.Passed lines = Reads s.Passed r lines
-Says r s.Failing lines = Reads s.Failing r lines
-Says r s.Source lines = Reads s.Source r lines
-Says r s.Usage lines = Misuses r lines
-Says r s.Absent lines = Misses r lines
-Says r s.ReadFault lines = FailsToRead r lines
-Says r status lines = ⊥
+-- status and line are what a certificate comes to
+abbrev pub Finds : List ℕ → List ℕ → Status → List ℕ → Type 0
+Finds clauses steps status lines = outcome clauses steps ≡ record { status = status; line = lines }
+
+-- both files gave bytes, and status and line are what the certificate comes to
+pub record Certifies (status : Status) (cnf proof : List ℕ) (seen : Seen) (lines : List ℕ) : Type 0 where
+  pub clauses : List ℕ
+  pub gives_clauses : ReadGives seen.held cnf clauses
+  pub steps : List ℕ
+  pub gives_steps : ReadGives seen.held proof steps
+  pub found : Finds clauses steps status lines
+
+-- `run FILE`
+abbrev pub Checks : List ℕ → Seen → Status → List ℕ → Type 0
+Checks file seen s.Passed lines = Reads s.Passed file seen lines
+Checks file seen s.Failing lines = Reads s.Failing file seen lines
+Checks file seen s.Source lines = Reads s.Source file seen lines
+Checks file seen s.Absent lines = Misses (file ∷ []) seen lines
+Checks file seen s.ReadFault lines = FailsToRead (file ∷ []) seen lines
+Checks file seen status lines = ⊥
+
+-- `lrat CNF PROOF`
+abbrev pub Refutes : List ℕ → List ℕ → Seen → Status → List ℕ → Type 0
+Refutes cnf proof seen s.Passed lines = Certifies s.Passed cnf proof seen lines
+Refutes cnf proof seen s.Refused lines = Certifies s.Refused cnf proof seen lines
+Refutes cnf proof seen s.Absent lines = Misses (cnf ∷ proof ∷ []) seen lines
+Refutes cnf proof seen s.ReadFault lines = FailsToRead (cnf ∷ proof ∷ []) seen lines
+Refutes cnf proof seen status lines = ⊥
+
+-- other words
+abbrev pub Misuses : Status → List ℕ → Type 0
+Misuses s.Usage lines = lines ≡ usage_line
+Misuses status lines = ⊥
+
+-- a status has its cause in the run, under what the words ask for, and these are its lines
+abbrev pub SaysOf : Option Command → Seen → Status → List ℕ → Type 0
+SaysOf None seen status lines = Misuses status lines
+SaysOf (Some (check file)) seen status lines = Checks file seen status lines
+SaysOf (Some (refute cnf proof)) seen status lines = Refutes cnf proof seen status lines
 
 -- what each status means of a run
 abbrev pub Answers : Status → Run → Type 0
-Answers status r = Ends (Says r) status r.sent r.sent_now r.out_faults r.out_faults_now
+Answers status r = Ends (SaysOf (command_of r.words) r.seen) status r.sent r.sent_now r.out_faults r.out_faults_now
 
 -- a count went up, or stands at its end
 abbrev pub rose : ℕ → ℕ → Bool
 rose before now = nat_le (min (before + 1) (2 ^ 64 - 1)) now
 
--- the files are told, the one asked for holds these bytes, and no read failed
-pub record Holding (r : Run) (bytes : List ℕ) : Type 0 where
-  pub name : List ℕ
-  pub asked : file_asked r.words ≡ Some name
-  pub names : Names
-  pub told : r.held ≡ Some names
-  pub held : names name ≡ Some bytes
-  pub no_fault : rose r.faults r.faults_now ≡ false
+-- the files are told, and no read failed
+pub record Knows (r : Run) (command : Command) (names : Names) : Type 0 where
+  pub asked : command_of r.words ≡ Some command
+  pub told : r.seen.held ≡ Some names
+  pub no_fault : rose r.seen.faults r.seen.faults_now ≡ false
 
--- the files are told, the one asked for isn't held, and no read failed
-pub record Lacking (r : Run) : Type 0 where
-  pub name : List ℕ
-  pub asked : file_asked r.words ≡ Some name
+-- the file of `run FILE` is held
+pub record Holding (r : Run) (bytes : List ℕ) : Type 0 where
+  pub file : List ℕ
   pub names : Names
-  pub told : r.held ≡ Some names
-  pub absent : names name ≡ None
-  pub no_fault : rose r.faults r.faults_now ≡ false
+  pub known : Knows r (check file) names
+  pub held : names file ≡ Some bytes
+
+-- both files of `lrat CNF PROOF` are held
+pub record HoldingBoth (r : Run) (clauses steps : List ℕ) : Type 0 where
+  pub cnf : List ℕ
+  pub proof : List ℕ
+  pub names : Names
+  pub known : Knows r (refute cnf proof) names
+  pub held_clauses : names cnf ≡ Some clauses
+  pub held_steps : names proof ≡ Some steps
+
+-- a file to be read isn't held
+pub record Lacking (r : Run) : Type 0 where
+  pub command : Command
+  pub names : Names
+  pub known : Knows r command names
+  pub name : List ℕ
+  pub lacks : first_lacking names (files_of command) ≡ Some name
 
 -- the wanted status came, or what may take its place: a line that could not be put (8), or want of memory (11)
 abbrev pub comes : Status → Status → Bool
@@ -101,9 +147,10 @@ comes wanted status = (code_of status == code_of wanted) || ((code_of status == 
 
 -- each cause has its status: where it is there, and nothing earlier in the order of work, the status comes
 pub record IsExact (status : Status) (r : Run) : Type 0 where
-  pub usage : file_asked r.words ≡ None → comes s.Usage status ≡ true
+  pub usage : command_of r.words ≡ None → comes s.Usage status ≡ true
   pub absent : Lacking r → comes s.Absent status ≡ true
   pub source : (bytes : List ℕ) → Holding r bytes → IsNone bytes → comes s.Source status ≡ true
   pub pass : (bytes : List ℕ) (ports : List FirstPort) → Holding r bytes → IsFirst bytes ports → NoneViolate ports → comes s.Passed status ≡ true
   pub fail : (bytes : List ℕ) (ports : List FirstPort) (numbers : List ℕ)
       → Holding r bytes → IsFirst bytes ports → violates ports numbers ≡ true → comes s.Failing status ≡ true
+  pub certificate : (clauses steps : List ℕ) → HoldingBoth r clauses steps → comes (outcome clauses steps).status status ≡ true

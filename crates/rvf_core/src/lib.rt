@@ -1,8 +1,11 @@
 //! The top call: from the words of the command line, over files and an output that may fail, to a status.
 #![tactic(auto)]
 
+mod certificate;
+mod finding;
 mod first;
 mod line;
+mod request;
 mod shared;
 mod status;
 #[cfg(test)]

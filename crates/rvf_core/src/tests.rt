@@ -14,18 +14,21 @@ const HEAD: &str = "module rvfi_wrapper (
   assign rvfi_insn = 0; assign rvfi_rd_addr = 0; assign rvfi_mem_wmask = 0;
 ";
 
-/// A run on the words, where `w.v` holds the head and then these lines; the status, and what was put.
+/// The text of a file under its name.
+fn file(alloc: Global, name: &str, front: &str, text: &str) -> Result<(String, Vec<u8>), Fail> {
+    let mut whole = String::from_str(alloc, front)?;
+    whole.push_str(text)?;
+    Ok((String::from_str(alloc, name)?, whole.into_bytes()))
+}
+
+/// A run on the words over the files: the status, and what was put.
 fn answer<R: Threads + Sync>(
     rt: &R,
     alloc: Global,
     words: &[&str],
-    lines: &str,
+    files: Vec<(String, Vec<u8>)>,
 ) -> Result<(Status, Vec<u8>), Fail> {
-    let mut text = String::from_str(alloc, HEAD)?;
-    text.push_str(lines)?;
-    text.push_str("endmodule\n")?;
-    let name = String::from_str(alloc, "w.v")?;
-    let mut files = SureFiles::new(alloc, vec![in alloc; (name, text.into_bytes())]?)?;
+    let mut files = SureFiles::new(alloc, files)?;
     let mut out = SureOut::new(alloc);
     let mut asked = Vec::new(alloc);
     for word in words {
@@ -36,24 +39,68 @@ fn answer<R: Threads + Sync>(
 }
 
 #[test]
-fn cases(rt: HostRuntime) -> Result<(), Fail> {
+fn modules(rt: HostRuntime) -> Result<(), Fail> {
     let alloc = rt.alloc();
-    let trap = "assign rvfi_valid = i; assign rvfi_trap = i;\n";
-    let idle = "assign rvfi_valid = i; assign rvfi_trap = 0;\n";
-    let wire = "assign rvfi_valid = i; assign rvfi_trap = i;\nwire w;\n";
+    let trap = "assign rvfi_valid = i; assign rvfi_trap = i;\nendmodule\n";
+    let idle = "assign rvfi_valid = i; assign rvfi_trap = 0;\nendmodule\n";
+    let wire = "assign rvfi_valid = i; assign rvfi_trap = i;\nwire w;\nendmodule\n";
     let found =
         "fail ill_ch0\ni 1\nrvfi_valid 1\nrvfi_insn 0\nrvfi_trap 0\nrvfi_rd_addr 0\nrvfi_mem_wmask 0\n";
+    let usage = "usage: rvf run FILE | lrat CNF PROOF\n";
     let cases = [
         (["run", "w.v"], trap, 0, "pass ill_ch0\n"),
         (["run", "w.v"], idle, 1, found),
         (["run", "w.v"], wire, 5, "source first 1 - -\n"),
         (["run", "v.v"], trap, 6, "absent v.v\n"),
-        (["walk", "w.v"], trap, 3, "usage: rvf run FILE\n"),
+        (["walk", "w.v"], trap, 3, usage),
     ];
     for (words, lines, code, wanted) in cases {
-        let (status, sent) = answer(&rt, alloc, words.as_slice(), lines)?;
+        let files = vec![in alloc; file(alloc, "w.v", HEAD, lines)?]?;
+        let (status, sent) = answer(&rt, alloc, words.as_slice(), files)?;
         assert_eq!(rt; status.code(), code);
         assert_eq!(rt; sent.as_slice(), wanted.as_bytes());
     }
+    Ok(())
+}
+
+#[test]
+fn certificates(rt: HostRuntime) -> Result<(), Fail> {
+    let alloc = rt.alloc();
+    let clauses = "1 2 0\n1 -2 0\n-1 2 0\n-1 -2 0\n";
+    let cases = [
+        (
+            "p cnf 2 4\n",
+            "5 1 0 1 2 0\n6 0 5 3 4 0\n",
+            0,
+            "refuted 6\n",
+        ),
+        ("p cnf 2 4\n", "5 0 1 2 0\n", 10, "refused step 2 5 1\n"),
+        ("p cnf 2 4\n", "", 10, "refused step 6 0 0\n"),
+        (
+            "p cnf 2 4\n",
+            "5 d 1 0\n5 1 0 1 2 0\n",
+            10,
+            "refused step 1 5 1\n",
+        ),
+        (
+            "p cnf 2 4\n",
+            "5 1 0 1 -2 3 0\n",
+            10,
+            "refused step 5 5 0\n",
+        ),
+        ("p cnf 2 3\n", "5 1 0 1 2 0\n", 10, "refused cnf 3 0\n"),
+        ("p cnf 2 4\n", "5 1 x 0\n", 10, "refused lrat 1 1\n"),
+    ];
+    for (header, proof, code, wanted) in cases {
+        let cnf = file(alloc, "c.cnf", header, clauses)?;
+        let files = vec![in alloc; cnf, file(alloc, "c.lrat", "", proof)?]?;
+        let (status, sent) = answer(&rt, alloc, ["lrat", "c.cnf", "c.lrat"].as_slice(), files)?;
+        assert_eq!(rt; status.code(), code);
+        assert_eq!(rt; sent.as_slice(), wanted.as_bytes());
+    }
+    let cnf = vec![in alloc; file(alloc, "c.cnf", "p cnf 2 4\n", clauses)?]?;
+    let (status, sent) = answer(&rt, alloc, ["lrat", "c.cnf", "d.lrat"].as_slice(), cnf)?;
+    assert_eq!(rt; status.code(), 6);
+    assert_eq!(rt; sent.as_slice(), b"absent d.lrat\n".as_slice());
     Ok(())
 }

@@ -1,12 +1,19 @@
 ghost use Rattle.std.specs.Prelude.{◌≡◌, map, MatchOption, Some, None, string_bytes};
-ghost use Rattle.rvf_core.specs.Run.{file_asked};
+ghost use Rattle.rvf_core.specs.Command.{command_of};
+ghost use Rattle.rvf_core.specs.View.{command};
 
-/// The file that the words ask for. None exactly where they are other words than `run` and a name.
-pub(crate) fn file_asked(words: &[String]) -> Option<&[u8]>
-    ensures { MatchOption result (file_asked (map string_bytes words.now) ≡ None) (λ name. file_asked (map string_bytes words.now) ≡ Some name.now) }
+use crate::request::Request;
+
+/// None exactly where the words are other words than `run FILE` and `lrat CNF PROOF`.
+pub(crate) fn request_of(words: &[String]) -> Option<Request<'_>>
+    ensures { MatchOption result (command_of (map string_bytes words.now) ≡ None) (λ asked. command_of (map string_bytes words.now) ≡ Some (command asked)) }
 {
     match words {
-        [command, name] if command.as_str() == "run" => Some(name.as_bytes()),
+        [word, file] if word.as_str() == "run" => Some(Request::Check(file.as_bytes())),
+        [word, cnf, proof] if word.as_str() == "lrat" => Some(Request::Refute(
+            cnf.as_bytes(),
+            proof.as_bytes(),
+        )),
         _ => None,
     }
 }

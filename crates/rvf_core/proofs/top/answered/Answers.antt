@@ -1,22 +1,41 @@
-use Rattle.std.proofs.Common.{Err, ap}
-use Rattle.rvf_core.proofs.RunLemmas.{Answers-misused, Answers-absent, Answers-read_fault, Answers-verdict}
+use Rattle.std.proofs.Common.{Some, map, string_bytes, ap, ◌∙◌}
+use Rattle.rvf_core.specs.Command.{check, refute}
+use Rattle.rvf_core.specs.Run.{Seen}
+use Rattle.rvf_core.specs.View.{command}
+use Rattle.rvf_core.proofs.RunLemmas.{Ends-asked, Ends-misused}
 use Rattle.rvf_core.proofs.top.answered.Goals as goal
 
-pub returns-in_default-clause-answer : goal.returns-in_default-clause-answer
-returns-in_default-clause-answer g c = rw c.ended.ensures (Answers-misused _ c.put_line.result (rw c.in_default.is at c.file_asked.ensures) c.put_line.ensures)
+pub returns-in-Some-Check-clause-answer : goal.returns-in-Some-Check-clause-answer
+returns-in-Some-Check-clause-answer g c =
+    let seen : Seen = record {
+      held = g.F.Files.held c.args.files.now;
+      misses = g.F.Files.misses c.args.files.now;
+      misses_now = g.F.Files.misses c.check.new.files;
+      faults = g.F.Files.faults c.args.files.now;
+      faults_now = g.F.Files.faults c.check.new.files;
+    } in
+    Ends-asked (map string_bytes c.args.words.now) (Some (check c.in-Some-Check.file.now)) seen c.check.result _ _ _ _
+    (c.in-Some-Check.ensures ∙ ap (λ asked. Some (command asked)) c.in-Some-Check.field-0-is) c.check.ensures.answer
 
-pub returns-in-Ok-clause-answer : goal.returns-in-Ok-clause-answer
-returns-in-Ok-clause-answer g c =
-    Answers-verdict _ c.judge.result c.in-Some.name.now c.in-Ok.bytes.items c.in-Some.ensures c.in-Ok.ensures.bytes (rw c.as_slice.ensures.value at c.judge.ensures)
+pub returns-in-Some-Refute-clause-answer : goal.returns-in-Some-Refute-clause-answer
+returns-in-Some-Refute-clause-answer g c =
+    let seen : Seen = record {
+      held = g.F.Files.held c.args.files.now;
+      misses = g.F.Files.misses c.args.files.now;
+      misses_now = g.F.Files.misses c.refute.new.files;
+      faults = g.F.Files.faults c.args.files.now;
+      faults_now = g.F.Files.faults c.refute.new.files;
+    } in
+    Ends-asked (map string_bytes c.args.words.now) (Some (refute c.in-Some-Refute.cnf.now c.in-Some-Refute.proof.now)) seen c.refute.result _ _ _ _
+    (c.in-Some-Refute.ensures ∙ ap (λ asked. Some (command asked)) c.in-Some-Refute.field-0-is) c.refute.ensures.answer
 
-pub returns-in-Err-Absent-clause-answer : goal.returns-in-Err-Absent-clause-answer
-returns-in-Err-Absent-clause-answer g c =
-    rw c.ended-in-Err-Absent.ensures
-    (Answers-absent _ c.put_named.result c.in-Some.name.now c.in-Some.ensures (c.in-Err-Absent.ensures.absent (ap (λ fault. Err fault) c.in-Err-Absent.field-0-is))
-    (c.in-Err-Absent.ensures.missed (ap (λ fault. Err fault) c.in-Err-Absent.field-0-is)) c.put_named.ensures)
-
-pub returns-in-Err-Failed-clause-answer : goal.returns-in-Err-Failed-clause-answer
-returns-in-Err-Failed-clause-answer g c =
-    rw c.ended-in-Err-Failed.ensures
-    (Answers-read_fault _ c.put_named-in-Err-Failed.result c.in-Some.name.now c.in-Some.ensures (c.in-Err-Failed.ensures.failed (ap (λ fault. Err fault) c.in-Err-Failed.field-0-is))
-    c.put_named-in-Err-Failed.ensures)
+pub returns-in-None-clause-answer : goal.returns-in-None-clause-answer
+returns-in-None-clause-answer g c =
+    let seen : Seen = record {
+      held = g.F.Files.held c.args.files.now;
+      misses = g.F.Files.misses c.args.files.now;
+      misses_now = g.F.Files.misses c.args.files.now;
+      faults = g.F.Files.faults c.args.files.now;
+      faults_now = g.F.Files.faults c.args.files.now;
+    } in
+    rw c.ended.ensures (Ends-misused (map string_bytes c.args.words.now) seen c.put_line.result _ _ _ _ c.in-None.ensures c.put_line.ensures)

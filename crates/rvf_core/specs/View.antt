@@ -1,0 +1,8 @@
+-- The command that the words ask for, as the program reads it.
+use Rattle.rvf_core.specs.Command.{Command, check, refute}
+use Rattle.rvf_core.specs.declared.request.Request.{Request}
+use Rattle.rvf_core.specs.declared.request.Request.TheVariants as request
+
+abbrev pub command : Request → Command
+command (request.Check file) = check file.now
+command (request.Refute cnf proof) = refute cnf.now proof.now
