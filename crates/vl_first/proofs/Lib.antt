@@ -11,3 +11,6 @@ pub mod NameLemmas
 pub mod Outcomes
 pub mod Laws
 pub mod Files
+pub mod Grouping
+pub mod Chains
+pub mod Choices
