@@ -1,11 +1,6 @@
 -- A file's bytes, its tokens and its tree.
-use Rattle.std.proofs.Common.{◌≡◌, ℕ, ◌+◌, ◌^◌, ◌<◌, ◌≤◌, true, Option, None, Some, List, [], ◌∷◌, length, ap, sym, ◌∙◌, subst, arith}
-use Rattle.vl_first.specs.Lexical.{Lexes}
-use Rattle.vl_first.specs.Plain.{IsPlain}
-use Rattle.vl_first.specs.Spelling.{listed, spell_range, spell_port, spell_ports, spell_file, spell_assigns, is_file}
-use Rattle.vl_first.specs.Meaning.{ports_of, IsLawful}
-use Rattle.vl_first.specs.FirstForm.{IsFirst, IsNone}
-use Rattle.vl_first.specs.declared.form.FirstPort.{FirstPort}
+use Rattle.std.proofs.Common.{◌≡◌, ℕ, ◌+◌, ◌^◌, ◌<◌, ◌≤◌, Option, None, Some, List, [], ◌∷◌, length, ap, arith}
+use Rattle.vl_first.specs.Spelling.{listed, spell_range, spell_port, spell_ports, spell_file, spell_assigns}
 use Rattle.vl_first.specs.declared.token.Token.{Token}
 use Rattle.vl_first.specs.declared.token.Token.TheVariants.{Name, Fixed}
 use Rattle.vl_first.specs.declared.token.Symbol.TheVariants as s
@@ -33,29 +28,3 @@ pub ports_bounded : (file : WrittenFile) (tokens : List Token) → tokens ≡ sp
 unfolding spell_file
 ports_bounded file tokens e l =
     omega (arith, ap length e, ports_longer file.ports (Fixed s.Semicolon ∷ spell_assigns file.assigns []))
-
-module _ (bytes : List ℕ) (tokens : List Token) (only : (others : List Token) → Lexes others bytes → others ≡ tokens) where
-  pub too_long : 20000 < length tokens → IsNone bytes
-  too_long l ports h = absurd (omega (arith, ap length (only (spell_file h.file) h.lexes), h.short))
-
-  pub no_file : (P : Type 0) → ((file : WrittenFile) → is_file file ≡ true → tokens ≡ spell_file file → P) → (ports : List FirstPort) → IsFirst bytes ports → P
-  no_file P refuses ports h = refuses h.file h.grammar (sym (only (spell_file h.file) h.lexes))
-
-  module _ (file : WrittenFile) (single : (other : WrittenFile) → is_file other ≡ true → tokens ≡ spell_file other → other ≡ file) where
-    the_file : (ports : List FirstPort) (h : IsFirst bytes ports) → h.file ≡ file
-    the_file ports h = single h.file h.grammar (sym (only (spell_file h.file) h.lexes))
-
-    pub one_module : (made : List FirstPort) → made ≡ ports_of file → (ports : List FirstPort) → IsFirst bytes ports → ports ≡ made
-    one_module made m ports h = h.means ∙ ap ports_of (the_file ports h) ∙ sym m
-
-    pub no_module : (IsLawful file → ⊥) → IsNone bytes
-    no_module n ports h = n (subst IsLawful (the_file ports h) h.lawful)
-
-pub found_first : (bytes : List ℕ) (tokens : List Token) (file : WrittenFile) (made : List FirstPort) → Lexes tokens bytes → length tokens ≤ 20000 → is_file file ≡ true → tokens ≡ spell_file file
-    → IsLawful file → made ≡ ports_of file → IsFirst bytes made
-found_first bytes tokens file made x l g e a m =
-    let P : List Token → Type 0 = λ ts. Lexes ts bytes in
-    record { file = file; grammar = g; lexes = subst P e x; short = omega (arith, ap length e); lawful = a; means = m }
-
-pub found_plain : (file : WrittenFile) (made : List FirstPort) → IsLawful file → made ≡ ports_of file → IsPlain made
-found_plain file made a m = subst IsPlain (sym m) a.plain

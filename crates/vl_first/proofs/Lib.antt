@@ -12,3 +12,6 @@ pub mod Outcomes
 pub mod Laws
 pub mod Files
 pub mod BoundLemmas
+pub mod Grouping
+pub mod Chains
+pub mod Choices

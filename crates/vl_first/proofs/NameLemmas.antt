@@ -1,5 +1,5 @@
 -- Names in a list: whether they are there, where, and that they differ.
-use Rattle.std.proofs.Common.{◌≡◌, ℕ, suc, ◌+◌, ◌≤◌, Bool, true, false, not, cond, ◌&&◌, ◌||◌, List, [], ◌∷◌, ◌++◌, length, drop, append_assoc, append-nil, map, inl, inr, Some, None, MatchBool, refl, ap, sym, ◌∙◌, subst, arith, ltb}
+use Rattle.std.proofs.Common.{◌≡◌, ℕ, suc, ◌+◌, ◌≤◌, Bool, true, false, not, cond, ◌&&◌, ◌||◌, List, [], ◌∷◌, ◌++◌, length, drop, append_assoc, map, inl, inr, Some, None, MatchBool, refl, ap, sym, ◌∙◌, subst, arith, ltb}
 use Rattle.std.proofs.Math.Numerals.{one-add}
 use Rattle.std.proofs.lemmas.Bool.{false≢true, not-true}
 use Rattle.std.proofs.lemmas.Bool.Decides.{nat_tests}
@@ -24,9 +24,6 @@ bytes_swap a b =
     same_tests (bytes_eq a b) (bytes_eq b a)
     (λ e. (bytes_eq-Decides b a).1 (sym ((bytes_eq-Decides a b).0 e)))
     (λ e. (bytes_eq-Decides a b).1 (sym ((bytes_eq-Decides b a).0 e)))
-
-pub bytes_same : (a : List ℕ) → bytes_eq a a ≡ true
-bytes_same a = (bytes_eq-Decides a a).1 refl
 
 abbrev pub Key : Type 0
 Key = Vec ℕ Global
@@ -147,11 +144,6 @@ pub names_twice : (ports : List WrittenPort) (names : List (List ℕ)) (i : ℕ)
     → is_among p.name names ≡ true → names_differ (written_names ports) ≡ false
 names_twice ports names i p on d a =
     ap names_differ (on.whole ∙ ap (λ x. names ++ written_names x) d) ∙ differ-twice names p.name (written_names (drop (i + 1) ports)) a
-
-pub names_end : (ports : List WrittenPort) (names : List (List ℕ)) (i : ℕ) → NamesOn ports names i → drop i ports ≡ [] → (names_differ (written_names ports) ≡ true) × (names ≡ written_names ports)
-names_end ports names i on d =
-    let same : written_names ports ≡ names = on.whole ∙ ap (λ x. names ++ written_names x) d ∙ append-nil names in
-    (ap names_differ same ∙ on.differ, sym same)
 
 pub names_step : (ports : List WrittenPort) (names new : List (List ℕ)) (i : ℕ) (p : WrittenPort) (text : List ℕ) (fresh : Bool) → NamesOn ports names i → drop i ports ≡ p ∷ drop (i + 1) ports
     → text ≡ p.name → MatchBool fresh ((is_among text names ≡ false) × (new ≡ names ++ text ∷ [])) (is_among text names ≡ true) → MatchBool fresh (NamesOn ports new (i + 1)) (names_differ (written_names ports) ≡ false)

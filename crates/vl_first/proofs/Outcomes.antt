@@ -28,15 +28,6 @@ too_large text i n d f e l =
     above_false : (a b : ℕ) → b ≤ a → ltb a b ≡ false
     above_false a b l = grind (arith, nat_tests)
 
-pub small_enough : (text : List ℕ) (i n : ℕ) → fold with_digit n (drop i text) ≡ decimal text → drop i text ≡ [] → n < 2 ^ 32 → fitting text ≡ Some n
-small_enough text i n f e l =
-    let whole : n ≡ decimal text = ap (fold with_digit n) (sym e) ∙ f in
-    let below : ltb (decimal text) (2 ^ 32) ≡ true = below_true (decimal text) (2 ^ 32) (omega (arith, whole)) in
-    rw below (ap Some (sym whole))
-  where
-    below_true : (a b : ℕ) → a < b → ltb a b ≡ true
-    below_true a b l = grind (arith, nat_tests)
-
 pub set_output : (ports : List FirstPort) (i : ℕ) (e : Expr) (d : FirstPort) → i < length ports
     → set ports i (record { name = (get_or ports i d).name; width = (get_or ports i d).width; output = Some e }) ≡ with_output ports i e
 set_output [] i e d l = absurd (omega arith)

@@ -4,21 +4,23 @@ use Rattle.std.proofs.Math.Dec.{eqb-suc-zero}
 use Rattle.std.proofs.lemmas.Bool.{true≢false}
 use Rattle.std.specs.List.{list_all}
 use Rattle.vl_first.specs.Scan.{pair, Follows, Gives}
-use Rattle.vl_first.specs.Written.{Written, digits, name, bracket, tilde, operation, choice}
-use Rattle.vl_first.specs.Reading.{◌>>=◌, after, name_at, operand_at, expression_at, port_at, head_at}
-use Rattle.vl_first.specs.Spelling.{is_grouped, is_short, is_written, is_file, has_ports, operator_symbol, listed, spell, spell_port, spell_ports, spell_assign, spell_assigns, spell_file}
+use Rattle.vl_first.specs.Written.{Written}
+use Rattle.vl_first.specs.Reading.{after, name_at, port_at, head_at}
+use Rattle.vl_first.specs.Levels.{is_grouped}
+use Rattle.vl_first.specs.Spelling.{is_short, is_written, is_file, has_ports, listed, spell, spell_port, spell_ports, spell_assign, spell_assigns, spell_file}
 use Rattle.vl_first.specs.Parts.{ReadsExpr, ReadsAssign, ReadsPorts, ReadsAssigns}
 use Rattle.vl_first.specs.declared.fault.FirstFault.{FirstFault}
 use Rattle.vl_first.specs.declared.fault.FirstFault.TheVariants as fault
 use Rattle.vl_first.specs.declared.token.Token.{Token}
-use Rattle.vl_first.specs.declared.token.Token.TheVariants.{Name, Digits, Fixed}
+use Rattle.vl_first.specs.declared.token.Token.TheVariants.{Name, Fixed}
 use Rattle.vl_first.specs.declared.token.Symbol.{Symbol}
 use Rattle.vl_first.specs.declared.token.Symbol.TheVariants as s
 use Rattle.vl_first.specs.declared.written.WrittenPort.{WrittenPort}
 use Rattle.vl_first.specs.declared.written.WrittenAssign.{WrittenAssign}
 use Rattle.vl_first.specs.declared.written.WrittenFile.{WrittenFile}
-use Rattle.vl_first.proofs.Options.{and_true, true_and, some_equal, none_some, some_none, first_equal, second_equal, bound}
+use Rattle.vl_first.proofs.Options.{and_true, true_and, some_equal, some_none, first_equal, second_equal}
 use Rattle.vl_first.proofs.Heads.{after_takes, after_none, after_same, name_takes, name_again, port_takes, port_again, head_takes, head_again}
+use Rattle.vl_first.proofs.Grouping.{spell_longer, inside_shorter}
 use Rattle.vl_first.proofs.Sequence.{On, Reads, Left, on_more, on_end, on_one, on_refuses, on_unended, same_pair}
 
 -- what a function answered where something is read
@@ -31,43 +33,6 @@ given view (Err fault.Memory) read y f e = tt
 pub taken : {X Y : Type 0} (view : X → Y) (P : Y → Type 0) (result : Result X FirstFault) (read : Option Y) → Follows view result read → ((y : Y) → read ≡ Some y → P y) → IfOk result (λ x. P (view x))
 taken view P (Ok x) read f g = g (view x) f
 taken view P (Err e) read f g = tt
-
-operand_takes : (tokens : List Token) (e : Written) (rest : List Token) → operand_at tokens ≡ Some (pair e rest) → (is_grouped e ≡ true) × (is_short e ≡ true) × (tokens ≡ spell e rest)
-unfolding operand_at
-operand_takes [] e rest h = absurd (none_some (pair e rest) h)
-operand_takes (Fixed symbol ∷ tokens) e rest h = absurd (none_some (pair e rest) h)
-operand_takes (Digits text ∷ tokens) e rest h =
-    let p = some_equal (pair (digits text) tokens) (pair e rest) h in
-    let P : Written → Type 0 = λ x. (is_grouped x ≡ true) × (is_short x ≡ true) × (Digits text ∷ tokens ≡ spell x rest) in
-    subst P (first_equal (digits text) e tokens rest p) (refl, refl, ap (λ x. Digits text ∷ x) (second_equal (digits text) e tokens rest p))
-operand_takes (Name text ∷ tokens) e rest h =
-    let p = some_equal (pair (name text) tokens) (pair e rest) h in
-    let P : Written → Type 0 = λ x. (is_grouped x ≡ true) × (is_short x ≡ true) × (Name text ∷ tokens ≡ spell x rest) in
-    subst P (first_equal (name text) e tokens rest p) (refl, refl, ap (λ x. Name text ∷ x) (second_equal (name text) e tokens rest p))
-
-pub expression_takes : (tokens : List Token) (e : Written) (rest : List Token) → expression_at tokens ≡ Some (pair e rest) → ReadsExpr tokens e rest
-unfolding expression_at
-expression_takes tokens e rest h =
-    let o = bound (λ operand. after s.Semicolon operand.1 >>= λ rest. Some (pair operand.0 rest)) (operand_at tokens) (pair e rest) h in
-    let r = bound (λ rest. Some (pair o.0.0 rest)) (after s.Semicolon o.0.1) (pair e rest) o.2 in
-    let p = some_equal (pair o.0.0 r.0) (pair e rest) r.2 in
-    let t = operand_takes tokens o.0.0 o.0.1 o.1 in
-    let E : Written → Type 0 = λ x. ReadsExpr tokens x rest in
-    let R : List Token → Type 0 = λ x. ReadsExpr tokens o.0.0 x in
-    subst E (first_equal o.0.0 e r.0 rest p) (subst R (second_equal o.0.0 e r.0 rest p)
-    (record { grouped = t.0; short = t.1; same = t.2 ∙ ap (λ x. spell o.0.0 x) (after_takes s.Semicolon o.0.1 r.0 r.1) }))
-
-spelled_again : (e : Written) (rest : List Token) → is_grouped e ≡ true → expression_at (spell e (Fixed s.Semicolon ∷ rest)) ≡ Some (pair e rest)
-unfolding expression_at operand_at after
-spelled_again (digits text) rest g = refl
-spelled_again (name text) rest g = refl
-spelled_again (bracket a) rest g = cc
-spelled_again (tilde a) rest g = cc
-spelled_again (operation op a b) rest g = cc
-spelled_again (choice c a b) rest g = cc
-
-pub expression_again : (tokens : List Token) (e : Written) (rest : List Token) → ReadsExpr tokens e rest → expression_at tokens ≡ Some (pair e rest)
-expression_again tokens e rest h = ap expression_at h.same ∙ spelled_again e rest h.grouped
 
 -- ports
 
@@ -166,20 +131,8 @@ behind_shorter tokens p rest e = rw (port_takes tokens p rest e) (port_longer p.
     port_longer output None text rest = omega arith
     port_longer output (Some high) text rest = omega arith
 
-inside_shorter : (symbol : Symbol) (rest inside : List Token) → Some inside ≡ after symbol rest → length inside < length rest
-inside_shorter symbol rest inside a = rw (after_takes symbol rest inside (sym a)) (omega arith)
-
 pub step_shorter : (symbol : Symbol) (rest inside last : List Token) → Some inside ≡ after symbol rest → length last < length inside → length last < length rest
 step_shorter symbol rest inside last a l = omega (arith, inside_shorter symbol rest inside a)
-
-spell_longer : (e : Written) (rest : List Token) → length rest < length (spell e rest)
-spell_longer (digits text) rest = omega arith
-spell_longer (name text) rest = omega arith
-spell_longer (bracket a) rest = omega (arith, spell_longer a (Fixed s.CloseParen ∷ rest))
-spell_longer (tilde a) rest = omega (arith, spell_longer a rest)
-spell_longer (operation op a b) rest = omega (arith, spell_longer b rest, spell_longer a (Fixed (operator_symbol op) ∷ spell b rest))
-spell_longer (choice c a b) rest =
-    omega (arith, spell_longer b rest, spell_longer a (Fixed s.Colon ∷ spell b rest), spell_longer c (Fixed s.Question ∷ spell a (Fixed s.Colon ∷ spell b rest)))
 
 pub assign_shorter : (tokens : List Token) (a : WrittenAssign) (rest : List Token) → ReadsAssign tokens a rest → length rest < length tokens
 assign_shorter tokens a rest h = rw h.same (omega (arith, spell_longer a.expr (Fixed s.Semicolon ∷ rest)))

@@ -12,6 +12,7 @@ pub mod Written
 pub mod WrittenCode
 pub mod WrittenView
 pub mod WrittenFalls
+pub mod Levels
 pub mod Spelling
 pub mod Reading
 pub mod Parts

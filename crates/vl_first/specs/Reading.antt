@@ -103,10 +103,3 @@ unfoldable pub operand_at : List Token → Option (Written × List Token)
 operand_at (Digits text ∷ rest) = Some (written.digits text, rest)
 operand_at (Name text ∷ rest) = Some (written.name text, rest)
 operand_at tokens = None
-
--- an expression and the semicolon behind it
-unfoldable pub expression_at : List Token → Option (Written × List Token)
-expression_at tokens = do
-  operand ← operand_at tokens
-  rest ← after s.Semicolon operand.1
-  Some (operand.0, rest)

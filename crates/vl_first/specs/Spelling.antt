@@ -2,6 +2,7 @@
 -- Each definition gives the tokens of a part in front of those behind it.
 use Rattle.std.specs.Prelude.{ℕ, Bool, true, false, ◌&&◌, nat_le, List, [], ◌∷◌, length, Option, None, Some, codes}
 use Rattle.std.specs.List.{list_all}
+use Rattle.vl_first.specs.Levels.{is_grouped}
 use Rattle.vl_first.specs.Written.{Written, digits, name, bracket, tilde, operation, choice}
 use Rattle.vl_first.specs.declared.token.Token.{Token}
 use Rattle.vl_first.specs.declared.token.Token.TheVariants.{Name, Digits, Fixed}
@@ -26,12 +27,6 @@ spell (bracket a) rest = Fixed s.OpenParen ∷ spell a (Fixed s.CloseParen ∷ r
 spell (tilde a) rest = Fixed s.Tilde ∷ spell a rest
 spell (operation op a b) rest = spell a (Fixed (operator_symbol op) ∷ spell b rest)
 spell (choice c a b) rest = spell c (Fixed s.Question ∷ spell a (Fixed s.Colon ∷ spell b rest))
-
--- The parts of an expression are those that the levels of its operators give. Up to now a number or a name stands alone.
-abbrev pub is_grouped : Written → Bool
-is_grouped (digits text) = true
-is_grouped (name text) = true
-is_grouped other = false
 
 abbrev pub direction : Bool → Symbol
 direction true = s.Output

@@ -20,7 +20,7 @@ size ports (differ a b) = max (size ports a) (size ports b)
 size ports (either a b) = max (size ports a) (size ports b)
 size ports (pick c a b) = max (size ports a) (size ports b)
 
--- The number that an expression has where its context gives it w bits, w at least its own size (section 5.4.2). The
+-- The number that an expression has where its context gives it w bits, w at least its own size (sections 5.4.1 and 5.5.2). The
 -- operands of `==` have the larger of their own sizes, the condition of `?:` its own, all else the size of the context.
 -- A port has the number at its place, filled with zeros to w bits.
 abbrev pub value : List FirstPort → List ℕ → ℕ → Expr → ℕ

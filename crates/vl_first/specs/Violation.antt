@@ -13,7 +13,7 @@ within (p ∷ ps) (n ∷ ns) = nat_lt n (2 ^ p.width) && within ps ns
 within ps ns = false
 
 -- An output has the value of its expression, at the larger of both sizes, cut to the output's width (IEEE 1364-2005,
--- section 5.5.1). An input has any number.
+-- sections 5.4.1 and 5.5.3). An input has any number.
 abbrev pub is_driven : List FirstPort → List ℕ → FirstPort → ℕ → Bool
 is_driven ports nums p n =
     option_map_or (λ e. n == value ports nums (max p.width (size ports e)) e % 2 ^ p.width) p.output true

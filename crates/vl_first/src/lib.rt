@@ -1,7 +1,9 @@
 //! The first form of a file: one module without registers, read from its bytes, and what numbers for its ports violate.
 #![tactic(auto)]
 
+mod cursor;
 mod expr;
+mod expression;
 mod fault;
 mod form;
 mod judging;

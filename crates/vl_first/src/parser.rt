@@ -5,44 +5,19 @@ ghost use Rattle.std.specs.Option.{option_copied};
 ghost use Rattle.vl_first.specs.Reading as reading;
 ghost use Rattle.vl_first.specs.Scan.{Follows, Gives, OnNotFirst, pair};
 ghost use Rattle.vl_first.specs.Spelling.{is_file, spell_file};
-ghost use Rattle.vl_first.specs.Parts.{ReadsExpr, ReadsAssign, ReadsPorts, ReadsAssigns};
-ghost use Rattle.vl_first.specs.Written.{Written};
+ghost use Rattle.vl_first.specs.Parts.{ReadsAssign, ReadsPorts, ReadsAssigns};
 ghost use Rattle.vl_first.specs.declared.token.Token.{Token};
 ghost use Rattle.vl_first.specs.declared.written.WrittenPort.{WrittenPort};
 ghost use Rattle.vl_first.specs.declared.written.WrittenAssign.{WrittenAssign};
 ghost use Rattle.vl_first.specs.declared.written.WrittenFile.{WrittenFile};
 
+use crate::cursor::{after, expect};
+use crate::expression::expression;
 use crate::fault::FirstFault;
 use crate::token::{Symbol, Token};
-use crate::written::{WrittenAssign, WrittenExpr, WrittenFile, WrittenKind, WrittenPort};
+use crate::written::{WrittenAssign, WrittenFile, WrittenPort};
 use fv_base::{List, Text};
 use std::alloc::Global;
-
-impl Symbol {
-    fn is(self, other: Symbol) -> bool
-        ensures { result ≡ reading.same self other }
-    {
-        self as u8 == other as u8
-    }
-}
-
-/// What stands behind the symbol, where the tokens begin with it.
-#[tactic(auto, unfolding(crate::specs::Reading::after))]
-fn after(tokens: &[Token], symbol: Symbol) -> Option<&[Token]>
-    ensures { option_copied result ≡ reading.after symbol tokens.now }
-{
-    let (first, rest) = tokens.split_first()?;
-    match first {
-        Token::Fixed(other) => { if other.is(symbol) { Some(rest) } else { None } }
-        Token::Name(_) | Token::Digits(_) => None,
-    }
-}
-
-fn expect(tokens: &[Token], symbol: Symbol) -> Result<&[Token], FirstFault>
-    ensures { Follows (λ rest. rest.now) result (reading.after symbol tokens.now) }
-{
-    after(tokens, symbol).ok_or(FirstFault::NotFirst)
-}
 
 #[tactic(auto, unfolding(crate::specs::Reading::name_at))]
 fn name(alloc: Global, tokens: &[Token]) -> Result<(Text, &[Token]), FirstFault>
@@ -147,44 +122,6 @@ fn head(alloc: Global, tokens: &[Token]) -> Result<&[Token], FirstFault>
     let rest = expect(tokens, Symbol::Module)?;
     let rest = wrapper(alloc, rest)?;
     expect(rest, Symbol::OpenParen)
-}
-
-/// A number or a name.
-#[tactic(auto, unfolding(crate::specs::Reading::operand_at))]
-fn operand(alloc: Global, tokens: &[Token]) -> Result<(WrittenExpr, &[Token]), FirstFault>
-    ensures { Follows (λ x. (x.0, x.1.now)) result (reading.operand_at tokens.now) }
-{
-    let Some((first, rest)) = tokens.split_first() else {
-        return Err(FirstFault::NotFirst);
-    };
-    match first {
-        Token::Digits(text) => {
-            let kind = WrittenKind::Digits(text.copied(alloc)?);
-            Ok((WrittenExpr { kind }, rest))
-        }
-        Token::Name(text) => {
-            let kind = WrittenKind::Name(text.copied(alloc)?);
-            Ok((WrittenExpr { kind }, rest))
-        }
-        Token::Fixed(_) => Err(FirstFault::NotFirst),
-    }
-}
-
-#[tactic(auto, unfolding(crate::specs::Reading::expression_at))]
-fn expression_at(alloc: Global, tokens: &[Token]) -> Result<(WrittenExpr, &[Token]), FirstFault>
-    ensures { Follows (λ x. (x.0, x.1.now)) result (reading.expression_at tokens.now) }
-{
-    let (expr, rest) = operand(alloc, tokens)?;
-    let rest = expect(rest, Symbol::Semicolon)?;
-    Ok((expr, rest))
-}
-
-/// The expression in front of a semicolon, and what stands behind that.
-fn expression(alloc: Global, tokens: &[Token]) -> Result<(WrittenExpr, &[Token]), FirstFault>
-    ensures found { IfOk result (λ x. ReadsExpr tokens.now x.0 x.1.now) }
-    ensures again { (e : Written) (rest : List Token) → ReadsExpr tokens.now e rest → Gives (λ x. pair x.0 x.1.now) result (pair e rest) }
-{
-    expression_at(alloc, tokens)
 }
 
 /// `NAME = expr ;`

@@ -1,6 +1,6 @@
 //! What no clause says: files as people write them, and that they are read.
 
-use crate::{First, FirstFault, FirstKind, read_first};
+use crate::{First, FirstExpr, FirstFault, FirstKind, read_first};
 use std::alloc::Global;
 use std::test::Fail;
 
@@ -73,6 +73,10 @@ fn tells_the_form(rt: HostRuntime) {
             "assign rvfi_trap = i; assign i = 0;",
             false,
         ),
+        ("rvfi_trap = i", "rvfi_trap = i && i", false),
+        ("rvfi_trap = i", "rvfi_trap = (i", false),
+        ("rvfi_trap = i", "rvfi_trap = i ? 1", false),
+        ("rvfi_trap = i", "rvfi_trap = i | ", false),
         ("rvfi_wrapper", "wrapper", false),
         ("endmodule", "endmodule module", false),
     ];
@@ -83,4 +87,82 @@ fn tells_the_form(rt: HostRuntime) {
             "{from} as {to}"
         );
     }
+}
+
+/// Writes the tree of an expression with a letter for each node, an operator in front of its operands.
+fn write(expr: &FirstExpr, out: &mut String) -> Result<(), FirstFault> {
+    let (sign, a, b) = match &expr.kind {
+        FirstKind::Num(_) => return Ok(out.push('n')?),
+        FirstKind::Port(_) => return Ok(out.push('p')?),
+        FirstKind::Not(a) => {
+            out.push('~')?;
+            return write(a, out);
+        }
+        FirstKind::Eq(a, b) => ('=', a, b),
+        FirstKind::And(a, b) => ('&', a, b),
+        FirstKind::Xor(a, b) => ('^', a, b),
+        FirstKind::Or(a, b) => ('|', a, b),
+        FirstKind::Pick(c, a, b) => {
+            out.push('?')?;
+            write(c, out)?;
+            write(a, out)?;
+            return write(b, out);
+        }
+    };
+    out.push(sign)?;
+    write(a, out)?;
+    write(b, out)
+}
+
+/// The tree of the expression that the trap is assigned.
+fn tree(alloc: Global, expr: &str) -> Result<String, FirstFault> {
+    let text = format!(in alloc; "rvfi_trap = {expr};")?;
+    let first = read(alloc, "rvfi_trap = i;", text.as_str())?;
+    let mut out = String::new(alloc);
+    if let Some(port) = first.ports.get(5) {
+        if let Some(expr) = &port.output {
+            write(expr, &mut out)?;
+        }
+    }
+    Ok(out)
+}
+
+#[test]
+fn groups_by_levels(rt: HostRuntime) -> Result<(), Fail> {
+    let rows = [
+        ("i & i == i", "&p=pp"),
+        ("i == i & i", "&=ppp"),
+        ("i | i ^ i & i", "|p^p&pp"),
+        ("i & i ^ i | i", "|^&pppp"),
+        ("i & i & i", "&&ppp"),
+        ("i == i == i", "==ppp"),
+        ("~i == i", "=~pp"),
+        ("i^~~i", "^p~~p"),
+        ("i & (i | i)", "&p|pp"),
+        ("i | i ? 1 : 2", "?|ppnn"),
+        ("i ? 1 : i ? 2 : 3", "?pn?pnn"),
+        ("i ? i ? 1 : 2 : 3", "?p?pnnn"),
+        ("(i ? 1 : 2) ? 3 : 4", "??pnnnn"),
+    ];
+    for (expr, wanted) in rows {
+        let found = tree(rt.alloc(), expr)?;
+        assert_eq!(rt; found.as_str(), wanted, "{expr}");
+    }
+    Ok(())
+}
+
+#[test]
+fn bounds_expressions(rt: HostRuntime) -> Result<(), Fail> {
+    for (signs, is_first) in [(255, true), (256, false)] {
+        let mut text = String::from_str(rt.alloc(), "rvfi_trap = ")?;
+        for _ in 0..signs {
+            text.push('~')?;
+        }
+        text.push_str("i;")?;
+        assert_eq!(rt;
+            read(rt.alloc(), "rvfi_trap = i;", text.as_str()).is_ok(),
+            is_first
+        );
+    }
+    Ok(())
 }
