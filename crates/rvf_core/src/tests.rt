@@ -1,7 +1,7 @@
 //! What a run answers, over files and an output in memory.
 
 use crate::{Status, run};
-use fv_base::{SureFiles, SureOut};
+use fv_base::{MemFiles, MemOut, SureFiles, SureOut};
 use std::alloc::Global;
 use std::test::Fail;
 use std::thread::Threads;
@@ -42,6 +42,11 @@ fn answer<R: Threads + Sync>(
 fn modules(rt: HostRuntime) -> Result<(), Fail> {
     let alloc = rt.alloc();
     let trap = "assign rvfi_valid = i; assign rvfi_trap = i;\nendmodule\n";
+    let either = "assign rvfi_valid = 1; assign rvfi_trap = i | ~i;\nendmodule\n";
+    let opposite = "assign rvfi_valid = 1; assign rvfi_trap = ~i;\nendmodule\n";
+    // `~i` has the 32 bits of the number, so it is never 1; `==` binds closer than `&` and `^`.
+    let wide = "assign rvfi_valid = ~i == 1; assign rvfi_trap = 0;\nendmodule\n";
+    let levels = "assign rvfi_valid = i & i == 0; assign rvfi_trap = 0;\nendmodule\n";
     let idle = "assign rvfi_valid = i; assign rvfi_trap = 0;\nendmodule\n";
     let wire = "assign rvfi_valid = i; assign rvfi_trap = i;\nwire w;\nendmodule\n";
     let found =
@@ -49,6 +54,10 @@ fn modules(rt: HostRuntime) -> Result<(), Fail> {
     let usage = "usage: rvf run FILE | lrat CNF PROOF\n";
     let cases = [
         (["run", "w.v"], trap, 0, "pass ill_ch0\n"),
+        (["run", "w.v"], either, 0, "pass ill_ch0\n"),
+        (["run", "w.v"], opposite, 1, found),
+        (["run", "w.v"], wide, 0, "pass ill_ch0\n"),
+        (["run", "w.v"], levels, 0, "pass ill_ch0\n"),
         (["run", "w.v"], idle, 1, found),
         (["run", "w.v"], wire, 5, "source first 1 - -\n"),
         (["run", "v.v"], trap, 6, "absent v.v\n"),
@@ -60,6 +69,43 @@ fn modules(rt: HostRuntime) -> Result<(), Fail> {
         assert_eq!(rt; status.code(), code);
         assert_eq!(rt; sent.as_slice(), wanted.as_bytes());
     }
+    Ok(())
+}
+
+/// A run on `run w.v` over the module, where the numbered calls on the files and on the output fail: the code and what
+/// was put.
+fn faulty<R: Threads + Sync>(
+    rt: &R,
+    alloc: Global,
+    lines: &str,
+    failing: (Vec<u64>, Vec<u64>),
+) -> Result<(u8, Vec<u8>), Fail> {
+    let held = vec![in alloc; file(alloc, "w.v", HEAD, lines)?]?;
+    let mut files = MemFiles::new(alloc, held, failing.0)?;
+    let mut out = MemOut::new(alloc, failing.1);
+    let run_word = String::from_str(alloc, "run")?;
+    let words = vec![in alloc; run_word, String::from_str(alloc, "w.v")?]?;
+    let status = run(rt, alloc, words.as_slice(), &mut files, &mut out);
+    Ok((status.code(), out.sent().to_vec(alloc)?))
+}
+
+/// The read fails; the first put fails; the third put of a failing check's lines fails, and the two before it stand.
+#[test]
+fn faults(rt: HostRuntime) -> Result<(), Fail> {
+    let alloc = rt.alloc();
+    let idle = "assign rvfi_valid = i; assign rvfi_trap = 0;\nendmodule\n";
+    let none = Vec::new(alloc);
+    let (code, sent) = faulty(&rt, alloc, idle, (vec![in alloc; 0]?, none))?;
+    assert_eq!(rt; code, 7);
+    assert_eq!(rt; sent.as_slice(), b"read fault w.v\n".as_slice());
+    let none = Vec::new(alloc);
+    let (code, sent) = faulty(&rt, alloc, idle, (none, vec![in alloc; 0]?))?;
+    assert_eq!(rt; code, 8);
+    assert!(rt; sent.is_empty());
+    let none = Vec::new(alloc);
+    let (code, sent) = faulty(&rt, alloc, idle, (none, vec![in alloc; 2]?))?;
+    assert_eq!(rt; code, 8);
+    assert_eq!(rt; sent.as_slice(), b"fail ill_ch0\ni 1\n".as_slice());
     Ok(())
 }
 
