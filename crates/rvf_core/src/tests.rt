@@ -72,6 +72,40 @@ fn modules(rt: HostRuntime) -> Result<(), Fail> {
     Ok(())
 }
 
+/// Expressions of mixed widths, whose values follow from IEEE 1364-2005, sections 5.4 and 5.5: an instruction word, a
+/// trap, a register and a byte mask, and the code. `i` is any bit.
+#[test]
+fn expressions(rt: HostRuntime) -> Result<(), Fail> {
+    let alloc = rt.alloc();
+    let cases = [
+        // `~` is taken at the 32 bits of the word, so no bit of it is 0.
+        ("~(i ^ i)", "0", "0", "0", 0),
+        ("i == i ? 65536 : 1", "0", "0", "0", 1),
+        // A register has 5 bits of the value, and a mask 4.
+        ("0", "1", "32", "0", 0),
+        ("0", "1", "33", "0", 1),
+        ("0", "1", "0", "~15", 0),
+        ("0", "1", "0", "~(i ^ i)", 1),
+        // Both sides of `==` have the size of the larger one, here 32 bits.
+        ("0", "~(i ^ i) == 1", "0", "0", 1),
+        ("0", "~(i ^ i) == 4294967295", "0", "0", 0),
+        ("0", "(2 == i) ^ 1", "0", "0", 0),
+        // Here it is one bit.
+        ("0", "i == ~i ? 0 : 1", "0", "0", 0),
+    ];
+    for (insn, trap, rd_addr, mem_wmask, code) in cases {
+        let text = format!(in alloc;
+            "module rvfi_wrapper (input i, output rvfi_valid, output [31:0] rvfi_insn, output rvfi_trap, output [4:0] rvfi_rd_addr,
+            output [3:0] rvfi_mem_wmask); assign rvfi_valid = 1; assign rvfi_insn = {insn}; assign rvfi_trap = {trap};
+            assign rvfi_rd_addr = {rd_addr}; assign rvfi_mem_wmask = {mem_wmask}; endmodule"
+        )?;
+        let files = vec![in alloc; file(alloc, "w.v", "", text.as_str())?]?;
+        let (status, _) = answer(&rt, alloc, ["run", "w.v"].as_slice(), files)?;
+        assert_eq!(rt; status.code(), code, "{insn} {trap} {rd_addr} {mem_wmask}");
+    }
+    Ok(())
+}
+
 /// A run on `run w.v` over the module, where the numbered calls on the files and on the output fail: the code and what
 /// was put.
 fn faulty<R: Threads + Sync>(
