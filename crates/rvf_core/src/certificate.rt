@@ -2,7 +2,7 @@
 
 ghost use Rattle.std.specs.Prelude.{◌≡◌, ◌++◌, ◌∷◌, [], IfOk, OnOk, codes, decimal};
 ghost use Rattle.std.specs.Fmt.{signed_decimal};
-ghost use Rattle.rvf_core.specs.Certificate.{cnf_line, lrat_line, step_line, refuted_line, two_values, three_values, refused, judgement, steps_finding, outcome};
+ghost use Rattle.rvf_core.specs.Certificate.{line_in_cnf, cnf_line, line_in_lrat, lrat_line, step_id, step_hint, step_line, refuted_line, two_values, three_values, refused, judgement, steps_finding, outcome};
 ghost use Rattle.lrat_check.specs.Steps.{AreSteps, judged};
 ghost use Rattle.lrat_check.specs.Texts.{steps_of};
 
@@ -63,42 +63,67 @@ fn line_of_id(alloc: Global, id: u64) -> Result<Text, Memory>
     ended(line, buffer.format(id).as_bytes())
 }
 
+/// The line of the clause file, 0 where there is none.
+fn line_in_cnf(fault: DimacsFault) -> u32
+    ensures { result ≡ line_in_cnf fault }
+{
+    match fault {
+        DimacsFault::Header { line } | DimacsFault::Literal { line } | DimacsFault::Open { line } =>
+            line,
+        DimacsFault::Count { .. } | DimacsFault::Memory => 0,
+    }
+}
+
 fn cnf_line(alloc: Global, fault: DimacsFault) -> Result<Text, Memory>
     ensures { IfOk result (λ line. line ≡ cnf_line fault) }
 {
-    let front = b"refused cnf".as_slice();
+    line_of_two(alloc, b"refused cnf", fault.number(), line_in_cnf(fault))
+}
+
+/// The line of the proof, 0 where there is none.
+fn line_in_lrat(fault: LratFault) -> u32
+    ensures { result ≡ line_in_lrat fault }
+{
     match fault {
-        DimacsFault::Header { line } => line_of_two(alloc, front, 1, line),
-        DimacsFault::Literal { line } => line_of_two(alloc, front, 2, line),
-        DimacsFault::Count { .. } => line_of_two(alloc, front, 3, 0),
-        DimacsFault::Open { line } => line_of_two(alloc, front, 4, line),
-        DimacsFault::Memory => Err(Memory),
+        LratFault::Literal { line } | LratFault::Open { line } => line,
+        LratFault::Memory => 0,
     }
 }
 
 fn lrat_line(alloc: Global, fault: LratFault) -> Result<Text, Memory>
     ensures { IfOk result (λ line. line ≡ lrat_line fault) }
 {
-    let front = b"refused lrat".as_slice();
+    line_of_two(alloc, b"refused lrat", fault.number(), line_in_lrat(fault))
+}
+
+/// The id of the refused step, 0 where there is none.
+fn step_id(fault: StepFault) -> u64
+    ensures { result ≡ step_id fault }
+{
     match fault {
-        LratFault::Literal { line } => line_of_two(alloc, front, 1, line),
-        LratFault::Open { line } => line_of_two(alloc, front, 2, line),
-        LratFault::Memory => Err(Memory),
+        StepFault::NoClause { id, .. }
+        | StepFault::NotUnit { id, .. }
+        | StepFault::NoConflict { id }
+        | StepFault::IdOrder { id }
+        | StepFault::Rat { id } => id,
+        StepFault::NoEmpty | StepFault::Memory => 0,
+    }
+}
+
+/// The hint that the step is refused for, 0 where there is none.
+fn step_hint(fault: StepFault) -> i128
+    ensures { result ≡ step_hint fault }
+{
+    match fault {
+        StepFault::NoClause { hint, .. } | StepFault::NotUnit { hint, .. } => hint,
+        _ => 0,
     }
 }
 
 fn step_line(alloc: Global, fault: StepFault) -> Result<Text, Memory>
     ensures { IfOk result (λ line. line ≡ step_line fault) }
 {
-    match fault {
-        StepFault::NoClause { id, hint } => line_of_three(alloc, 1, id, hint),
-        StepFault::NotUnit { id, hint } => line_of_three(alloc, 2, id, hint),
-        StepFault::NoConflict { id } => line_of_three(alloc, 3, id, 0),
-        StepFault::IdOrder { id } => line_of_three(alloc, 4, id, 0),
-        StepFault::Rat { id } => line_of_three(alloc, 5, id, 0),
-        StepFault::NoEmpty => line_of_three(alloc, 6, 0, 0),
-        StepFault::Memory => Err(Memory),
-    }
+    line_of_three(alloc, fault.number(), step_id(fault), step_hint(fault))
 }
 
 fn refused(line: Text) -> Finding
