@@ -1,5 +1,5 @@
 ghost use Rattle.std.specs.Prelude.{◌≡◌, ◌<◌, ◌≤◌, ◌^◌, ℕ, true, false, List, length, IfOk, MatchOption};
-ghost use Rattle.cnf_form.specs.Cnf.{formula_true, value_of};
+ghost use Rattle.cnf_form.specs.Cnf.{AreClauses, formula_true, value_of};
 ghost use Rattle.lrat_check.specs.Steps.{Refutes, Valid};
 ghost use Rattle.lrat_check.specs.Resolved.{Resolved, derived};
 ghost use Rattle.sat_search.specs.Trail.{lits, AllAssigned, IsOpenVar, values_of};
@@ -28,6 +28,7 @@ pub fn solve(alloc: Global, formula: &Formula, budget: u64) -> Result<Found, Mem
     ensures bound { IfOk result (λ found. IfSpent found (λ steps. budget < 3 ^ formula.now.vars)) }
     ensures added { IfOk result (λ found. IfSteps found (λ steps. AreAdded formula.now.vars steps)) }
 {
+    let vars = formula.vars();
     let mut clauses = copied(alloc, formula)?;
     if clauses.len() >= MOST_CLAUSES {
         return Err(Memory);
@@ -41,8 +42,8 @@ pub fn solve(alloc: Global, formula: &Formula, budget: u64) -> Result<Found, Mem
                 lit,
                 reason: Some(place),
             })?,
-            Scan::Settled => match first_open(formula.vars(), &trail) {
-                None => return Ok(Found::Model(values(alloc, formula.vars(), &trail)?)),
+            Scan::Settled => match first_open(vars, &trail) {
+                None => return Ok(Found::Model(values(alloc, vars, &trail)?)),
                 Some(var) => trail.push(Entry {
                     lit: var,
                     reason: None,
@@ -66,7 +67,8 @@ pub fn solve(alloc: Global, formula: &Formula, budget: u64) -> Result<Found, Mem
 
 /// A copy of the formula's clauses.
 fn copied(alloc: Global, formula: &Formula) -> Result<List<List<i64>>, Memory>
-    ensures { IfOk result (λ clauses. clauses ≡ formula.now.clauses) }
+    ensures value { IfOk result (λ clauses. clauses ≡ formula.now.clauses) }
+    ensures literals { IfOk result (λ clauses. AreClauses formula.now.vars clauses) }
 {
     let mut clauses = List::new(alloc);
     for clause in formula.clauses() {
