@@ -1,3 +1,4 @@
+pub mod Backs
 pub mod Levels
 pub mod Members
 pub mod Places
