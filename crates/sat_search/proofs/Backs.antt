@@ -1,17 +1,19 @@
 -- One entry is taken back: what its reason makes of the clause and of the hints.
 use Rattle.std.proofs.Common.{◌≡◌, ℕ, zero, suc, ◌+◌, ◌<◌, ◌^◌, Bool, true, false, List, [], ◌∷◌, ◌++◌, ℤ, pos, neg_ℤ, get_or, reverse, Option, Some, None, refl, ap, sym, subst, ◌∙◌, w64, to_z, of_z, arith}
 use Rattle.std.specs.Prelude.{unsigned_abs, slice_get}
+use Rattle.std.proofs.lemmas.Bool.{false≢true}
 use Rattle.std.proofs.lemmas.Int.{to_z-of_z, fits_signed_from_abs}
 use Rattle.std.proofs.lemmas.List.{reverse-append}
 use Rattle.std.proofs.lemmas.Option.{get_or_from_slice_get}
 use Rattle.lrat_check.specs.declared.reading.Reading.TheVariants as read
-use Rattle.lrat_check.specs.Sets.{has, without, union, reading, IsLit, AreLits}
+use Rattle.lrat_check.specs.Sets.{has, is_false, without, union, reading, IsLit, AreLits}
 use Rattle.sat_search.specs.declared.trail.Entry.{Entry}
 use Rattle.sat_search.specs.Trail.{Entries, lits, is_decision, below, Because}
 use Rattle.sat_search.specs.Propagation.{AllLits}
-use Rattle.sat_search.specs.Analysis.{Derives, Level, is_unit}
+use Rattle.sat_search.specs.Analysis.{AllFalse, Within, Derives, Level, is_unit}
+use Rattle.sat_search.proofs.Members.{has_head, has_tail}
 use Rattle.sat_search.proofs.Tracing.{begins, resolves}
-use Rattle.sat_search.proofs.Levels.{level_begins, level_resolves}
+use Rattle.sat_search.proofs.Levels.{level_begins, level_resolves, not_decision}
 
 -- a literal of the code is the number that it stands for
 pub lit_kept : (l : ℤ) → IsLit l → to_z w64 (of_z w64 l) ≡ l
@@ -65,3 +67,24 @@ module _ (clauses : List (List ℤ)) (e : Entry) (t : Entries) (r hints : List �
   pub backed_level : (older : Entries) → Derives clauses (e ∷ t) r (reverse hints) → Level older (e ∷ t) r → is_decision e ≡ false → is_unit (reading (lits (below (e ∷ t))) r) ≡ false → has r (neg_ℤ e.lit) ≡ true
     → items ≡ union (without e.lit c) (without (neg_ℤ e.lit) r) → Level older t items
   backed_level older d l n u m s = subst (Level older t) (sym s) (level_resolves clauses e t older r (reverse hints) c d l n u m)
+
+-- on an empty trail a false clause is empty
+pub none_left : (c : List ℤ) (t : Entries) → t ≡ [] → AllFalse (lits t) c → c ≡ []
+none_left [] t h a = refl
+none_left (l ∷ ls) t h a = absurd (false≢true (ap (λ z. is_false (lits z) l) (sym h) ∙ a l (has_head l ls)))
+
+-- the newest entry of a trail, before the clause is a unit below
+module _ (clauses : List (List ℤ)) (whole : Entries) (e : Entry) (t : Entries) (is : whole ≡ e ∷ t) (r : List ℤ) where
+  pub level_at : (older : Entries) → Level older whole r → Level older (e ∷ t) r
+  level_at older l = let P : Entries → Type 0 = λ z. Level older z r in subst P is l
+
+  pub not_unit_at : is_unit (reading (lits (below whole)) r) ≡ false → is_unit (reading (lits (below (e ∷ t))) r) ≡ false
+  not_unit_at u = ap (λ z. is_unit (reading (lits (below z)) r)) (sym is) ∙ u
+
+  pub part_at : (all : List ℤ) → Within (lits whole) all → Within (lits t) all
+  part_at all w x h = w x (ap (λ z. has (lits z) x) is ∙ has_tail x e.lit (lits t) h)
+
+  pub implied : (older : Entries) (hints : List ℤ) → Derives clauses whole r hints → Level older whole r → is_unit (reading (lits (below whole)) r) ≡ false → is_decision e ≡ false
+  implied older hints d l u =
+      let P : Entries → Type 0 = λ z. Derives clauses z r hints in
+      not_decision clauses e t older r hints (subst P is d) (level_at older l) (not_unit_at u)
