@@ -1,5 +1,5 @@
 -- One entry is taken back: what its reason makes of the clause and of the hints.
-use Rattle.std.proofs.Common.{◌≡◌, ℕ, zero, suc, ◌+◌, ◌<◌, ◌^◌, Bool, true, false, List, [], ◌∷◌, ◌++◌, ℤ, pos, neg_ℤ, get_or, reverse, Option, Some, None, refl, ap, sym, subst, ◌∙◌, w64, to_z, of_z, arith}
+use Rattle.std.proofs.Common.{◌≡◌, ℕ, zero, suc, ◌+◌, true, false, List, [], ◌∷◌, ◌++◌, ℤ, pos, neg_ℤ, get_or, reverse, Option, Some, None, refl, ap, sym, subst, ◌∙◌, w64, to_z, of_z, arith}
 use Rattle.std.specs.Prelude.{unsigned_abs, slice_get}
 use Rattle.std.proofs.lemmas.Bool.{false≢true}
 use Rattle.std.proofs.lemmas.Int.{to_z-of_z, fits_signed_from_abs}
@@ -12,8 +12,8 @@ use Rattle.sat_search.specs.Trail.{Entries, lits, is_decision, below, Because}
 use Rattle.sat_search.specs.Propagation.{AllLits}
 use Rattle.sat_search.specs.Analysis.{AllFalse, Within, Derives, Level, is_unit}
 use Rattle.sat_search.proofs.Members.{has_head, has_tail}
-use Rattle.sat_search.proofs.Tracing.{begins, resolves}
-use Rattle.sat_search.proofs.Levels.{level_begins, level_resolves, not_decision}
+use Rattle.sat_search.proofs.Tracing.{resolves}
+use Rattle.sat_search.proofs.Levels.{level_resolves, not_decision}
 
 -- a literal of the code is the number that it stands for
 pub lit_kept : (l : ℤ) → IsLit l → to_z w64 (of_z w64 l) ≡ l
@@ -56,16 +56,16 @@ module _ (clauses : List (List ℤ)) (e : Entry) (t : Entries) (r hints : List �
       (f.1 ∙ ap Some (sym same), ap (reading (lits t)) same ∙ f.2)
 
   pub backed : AllLits clauses → Derives clauses (e ∷ t) r (reverse hints) → has r (neg_ℤ e.lit) ≡ true → e.reason ≡ Some place → c ≡ get_or clauses place c
-    → items ≡ union (without e.lit c) (without (neg_ℤ e.lit) r) → (more : List ℤ) → more ≡ hints ++ pos (place + 1) ∷ [] → Derives clauses t items (reverse more)
+      → items ≡ union (without e.lit c) (without (neg_ℤ e.lit) r) → (more : List ℤ) → more ≡ hints ++ pos (place + 1) ∷ [] → Derives clauses t items (reverse more)
   backed k d m h g s more q =
       let a = reason_at d.stand.0.because h g in
       let P : List ℤ → Type 0 = λ z. Derives clauses t z (pos (place + 1) ∷ reverse hints) in
       let Q : List ℤ → Type 0 = λ z. Derives clauses t items z in
       subst Q (sym (ap reverse q ∙ reverse-append hints (pos (place + 1) ∷ [])))
-        (subst P (sym s) (resolves clauses e t r (reverse hints) place c d m a.0 a.1 (lits_at clauses place c k a.0)))
+      (subst P (sym s) (resolves clauses e t r (reverse hints) place c d m a.0 a.1 (lits_at clauses place c k a.0)))
 
   pub backed_level : (older : Entries) → Derives clauses (e ∷ t) r (reverse hints) → Level older (e ∷ t) r → is_decision e ≡ false → is_unit (reading (lits (below (e ∷ t))) r) ≡ false → has r (neg_ℤ e.lit) ≡ true
-    → items ≡ union (without e.lit c) (without (neg_ℤ e.lit) r) → Level older t items
+      → items ≡ union (without e.lit c) (without (neg_ℤ e.lit) r) → Level older t items
   backed_level older d l n u m s = subst (Level older t) (sym s) (level_resolves clauses e t older r (reverse hints) c d l n u m)
 
 -- on an empty trail a false clause is empty

@@ -1,18 +1,16 @@
 -- Levels of a trail while a conflict is traced back: the decision itself is never resolved on.
-use Rattle.std.proofs.Common.{◌≡◌, ℕ, zero, suc, ◌+◌, Bool, true, false, not, ◌&&◌, ◌||◌, List, [], ◌∷◌, ℤ, neg_ℤ, Option, Some, None, refl, ap, sym, subst, ◌∙◌, inl, inr, arith}
+use Rattle.std.proofs.Common.{◌≡◌, ℕ, zero, suc, Bool, true, false, ◌&&◌, ◌||◌, List, [], ◌∷◌, ℤ, neg_ℤ, Option, Some, None, refl, ap, sym, subst, ◌∙◌, inl, inr}
 use Rattle.std.specs.Prelude.{slice_get}
-use Rattle.std.specs.List.{list_any, list_all}
 use Rattle.std.specs.Ordering.{int_eq}
 use Rattle.std.proofs.lemmas.Bool.{false≢true, cases_Bool}
-use Rattle.lrat_check.specs.declared.reading.Reading.{Reading}
 use Rattle.lrat_check.specs.declared.reading.Reading.TheVariants as read
 use Rattle.lrat_check.specs.Sets.{has, is_false, without, union, reading}
 use Rattle.lrat_check.specs.Resolved.{is_open}
 use Rattle.sat_search.specs.declared.trail.Entry.{Entry}
 use Rattle.sat_search.specs.Trail.{Entries, lits, decides, is_decision, decided, below_at, below, settled, Because, Stand}
-use Rattle.sat_search.specs.Analysis.{NoneTrue, AllFalse, Within, Derives, Level, is_unit}
+use Rattle.sat_search.specs.Analysis.{AllFalse, Within, Derives, Level, is_unit}
 use Rattle.sat_search.proofs.Members.{same_is, neg_neg, has_tail, union_right, without_from}
-use Rattle.sat_search.proofs.Readings.{Alone, unit_from, false_to, false_from}
+use Rattle.sat_search.proofs.Readings.{unit_from, false_to, false_from}
 use Rattle.sat_search.proofs.Tracing.{none_true, skips, off_newest}
 
 false_from_ne_true : (b : Bool) → (b ≡ true → ⊥) → b ≡ false
@@ -35,7 +33,7 @@ alone_below clauses e t r hints older d w m f others =
       unfalse = f;
       untrue = false_from_ne_true (has older (neg_ℤ e.lit)) (λ h. false≢true (sym d.stand.0.unfalse ∙ w (neg_ℤ e.lit) h));
       others = others;
-      none = none_true clauses (e ∷ t) d.stand older r (λ x h. has_tail x e.lit (lits t) (w x h)) d.all_false
+      none = none_true clauses (e ∷ t) d.stand older r (λ x h. has_tail x e.lit (lits t) (w x h)) d.all_false;
     }))
 
 not_decision_at : (clauses : List (List ℤ)) (e : Entry) (t : Entries) (r hints : List ℤ) (reason : Option ℕ) → Derives clauses (e ∷ t) r hints → (AllFalse (lits (below_at reason t (below t))) r → ⊥) → is_unit (reading (lits (below_at reason t (below t))) r) ≡ false → decides reason ≡ false
@@ -63,7 +61,7 @@ pub level_skips : (e : Entry) (t older : Entries) (r : List ℤ) → Level older
 level_skips e t older r l n = record {
   decided = or_right_of (is_decision e) (decided t) n l.decided;
   older_is = sym (below_skips_at e.reason t (below t) n) ∙ l.older_is;
-  not_false = l.not_false
+  not_false = l.not_false;
 }
 
 pub level_resolves : (clauses : List (List ℤ)) (e : Entry) (t older : Entries) (r hints c : List ℤ) → Derives clauses (e ∷ t) r hints → Level older (e ∷ t) r → is_decision e ≡ false → is_unit (reading (lits (below (e ∷ t))) r) ≡ false → has r (neg_ℤ e.lit) ≡ true → Level older t (union (without e.lit c) (without (neg_ℤ e.lit) r))
@@ -75,14 +73,14 @@ level_resolves clauses e t older r hints c d l n u m =
       decided = s.decided;
       older_is = s.older_is;
       not_false = λ a.
-        let others : (x : ℤ) → has r x ≡ true → int_eq (neg_ℤ e.lit) x ≡ false → is_false (lits older) x ≡ true = λ x h k. a x (union_right (without e.lit c) (without (neg_ℤ e.lit) r) x (without_from (neg_ℤ e.lit) r x h k)) in
-        elim (cases_Bool (is_false (lits older) (neg_ℤ e.lit))) [
-          | inl f ↦ l.not_false (λ x h. elim (cases_Bool (int_eq (neg_ℤ e.lit) x)) [
+          let others : (x : ℤ) → has r x ≡ true → int_eq (neg_ℤ e.lit) x ≡ false → is_false (lits older) x ≡ true = λ x h k. a x (union_right (without e.lit c) (without (neg_ℤ e.lit) r) x (without_from (neg_ℤ e.lit) r x h k)) in
+          elim (cases_Bool (is_false (lits older) (neg_ℤ e.lit))) [
+            | inl f ↦ l.not_false (λ x h. elim (cases_Bool (int_eq (neg_ℤ e.lit) x)) [
               | inl k ↦ ap (is_false (lits older)) (sym (same_is (neg_ℤ e.lit) x k)) ∙ f
               | inr k ↦ others x h k
             ])
-          | inr f ↦ false≢true (sym v ∙ alone_below clauses e t r hints (lits older) d w m f others)
-        ]
+            | inr f ↦ false≢true (sym v ∙ alone_below clauses e t r hints (lits older) d w m f others)
+          ];
     }
 
 and_parts : (a b : Bool) → (a && b) ≡ true → (a ≡ true) × (b ≡ true)
@@ -113,5 +111,5 @@ pub level_begins : (clauses : List (List ℤ)) (t : Entries) (place : ℕ) (c : 
 level_begins clauses t place c s d g f = record {
   decided = d;
   older_is = refl;
-  not_false = λ a. false≢true (sym (ap is_open (false_from (lits (below t)) c a (none_true clauses t s (lits (below t)) c (below_within t) (false_to (lits t) c f).0))) ∙ settled_at clauses (lits (below t)) place c (settled_below clauses t s d) g)
+  not_false = λ a. false≢true (sym (ap is_open (false_from (lits (below t)) c a (none_true clauses t s (lits (below t)) c (below_within t) (false_to (lits t) c f).0))) ∙ settled_at clauses (lits (below t)) place c (settled_below clauses t s d) g);
 }

@@ -1,10 +1,10 @@
 -- Sets of literals by what they hold.
-use Rattle.std.proofs.Common.{◌≡◌, ℕ, Bool, true, false, not, cond, ◌&&◌, ◌||◌, List, [], ◌∷◌, ◌++◌, ℤ, pos, negsuc, neg_ℤ, filter, refl, ap, sym, subst, ◌∙◌, ◌⊎◌, inl, inr, arith}
+use Rattle.std.proofs.Common.{◌≡◌, Bool, true, false, not, cond, ◌||◌, List, [], ◌∷◌, ◌++◌, ℤ, neg_ℤ, filter, refl, ap, sym, ◌∙◌, ◌⊎◌, inl, inr, arith}
 use Rattle.std.specs.List.{list_any}
 use Rattle.std.specs.Ordering.{int_eq}
 use Rattle.std.specs.Cmp.{signed_Decides}
 use Rattle.std.proofs.lemmas.Bool.{false≢true, cases_Bool}
-use Rattle.lrat_check.specs.Sets.{has, is_false, without, union}
+use Rattle.lrat_check.specs.Sets.{has, without, union}
 
 pub same_is : (a b : ℤ) → int_eq a b ≡ true → a ≡ b
 same_is a b e = (signed_Decides a b).0 e

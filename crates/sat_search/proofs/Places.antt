@@ -1,11 +1,11 @@
 -- The places of a trail's literals after a change.
-use Rattle.std.proofs.Common.{◌≡◌, ℕ, zero, suc, ◌+◌, ◌-◌, ◌<◌, ◌≤◌, Bool, true, false, cond, ltb, ◌||◌, List, [], ◌∷◌, ℤ, length, drop, Option, Some, None, refl, ap, sym, subst, ◌∙◌, ◌⊎◌, inl, inr, arith}
+use Rattle.std.proofs.Common.{◌≡◌, ℕ, zero, suc, ◌-◌, ◌<◌, ◌≤◌, Bool, true, false, cond, ltb, ◌||◌, [], ◌∷◌, ℤ, length, drop, Option, Some, None, refl, ap, sym, ◌∙◌, ◌⊎◌, inl, inr, arith}
 use Rattle.std.specs.Ordering.{int_eq}
 use Rattle.std.specs.HashMap.{get}
 use Rattle.std.proofs.lemmas.Bool.{false≢true, cases_Bool}
 use Rattle.lrat_check.specs.Sets.{has}
 use Rattle.sat_search.specs.declared.trail.Entry.{Entry}
-use Rattle.sat_search.specs.Trail.{Entries, lits, oldest, below_at, below, Fresh, Places, lies_below, ArePlaces}
+use Rattle.sat_search.specs.Trail.{Entries, lits, oldest, below_at, below, Places, lies_below, ArePlaces}
 use Rattle.sat_search.proofs.Members.{same_is, same_self, has_tail}
 
 false_from_ne_true : (b : Bool) → (b ≡ true → ⊥) → b ≡ false
@@ -42,7 +42,7 @@ module _ (t : Entries) (e : Entry) (m now : Places) where
   push_same : ArePlaces t m → has (lits t) e.lit ≡ false → (lit : ℤ) (end : ℕ) → lit ≡ e.lit → ltb (length t) end ≡ has (lits (oldest end (e ∷ t))) lit
   push_same p f lit end s = elim (le_cases end (length t)) [
     | inl h ↦ not_below end (length t) h ∙ sym (ap (λ z. has (lits z) lit) (oldest_part e t end h)
-      ∙ false_from_ne_true (has (lits (oldest end t)) lit) (λ k. false≢true (sym f ∙ ap (has (lits t)) (sym s) ∙ in_dropped (length t - end) t lit k)))
+        ∙ false_from_ne_true (has (lits (oldest end t)) lit) (λ k. false≢true (sym f ∙ ap (has (lits t)) (sym s) ∙ in_dropped (length t - end) t lit k)))
     | inr h ↦ is_below end (length t) h ∙ sym (ap (λ z. has (lits z) lit) (oldest_whole (e ∷ t) end (omega (arith, h))) ∙ ap (λ b. b || has (lits t) lit) (same_self lit e.lit s))
   ]
 
@@ -50,7 +50,7 @@ module _ (t : Entries) (e : Entry) (m now : Places) where
   push_other p lit end s = elim (le_cases end (length t)) [
     | inl h ↦ p.at lit end ∙ sym (ap (λ z. has (lits z) lit) (oldest_part e t end h))
     | inr h ↦ p.at lit end ∙ ap (λ z. has (lits z) lit) (oldest_whole t end (omega (arith, h)))
-      ∙ sym (ap (λ z. has (lits z) lit) (oldest_whole (e ∷ t) end (omega (arith, h))) ∙ ap (λ b. b || has (lits t) lit) s)
+        ∙ sym (ap (λ z. has (lits z) lit) (oldest_whole (e ∷ t) end (omega (arith, h))) ∙ ap (λ b. b || has (lits t) lit) s)
   ]
 
   -- the newest entry's literal has the last place
@@ -60,7 +60,7 @@ module _ (t : Entries) (e : Entry) (m now : Places) where
     at = λ lit end. ap (lies_below end) (g lit) ∙ elim (cases_Bool (int_eq e.lit lit)) [
       | inl s ↦ ap (λ b. lies_below end (cond b (Some (length t)) (get int_eq m lit))) s ∙ push_same p f lit end (sym (same_is e.lit lit s))
       | inr s ↦ ap (λ b. lies_below end (cond b (Some (length t)) (get int_eq m lit))) s ∙ push_other p lit end (turned e.lit lit s)
-    ]
+    ];
   }
 
   -- and where it is taken off, none
@@ -69,15 +69,15 @@ module _ (t : Entries) (e : Entry) (m now : Places) where
     fresh = p.fresh.1;
     at = λ lit end. ap (lies_below end) (g lit) ∙ elim (cases_Bool (int_eq e.lit lit)) [
       | inl s ↦ ap (λ b. lies_below end (cond b None (get int_eq m lit))) s
-        ∙ sym (false_from_ne_true (has (lits (oldest end t)) lit) (λ k. false≢true (sym p.fresh.0 ∙ ap (has (lits t)) (same_is e.lit lit s) ∙ in_dropped (length t - end) t lit k)))
+          ∙ sym (false_from_ne_true (has (lits (oldest end t)) lit) (λ k. false≢true (sym p.fresh.0 ∙ ap (has (lits t)) (same_is e.lit lit s) ∙ in_dropped (length t - end) t lit k)))
       | inr s ↦ ap (λ b. lies_below end (cond b None (get int_eq m lit))) s ∙ p.at lit end ∙ pop_other lit end (turned e.lit lit s)
-    ]
+    ];
   } where
     pop_other : (lit : ℤ) (end : ℕ) → int_eq lit e.lit ≡ false → has (lits (oldest end (e ∷ t))) lit ≡ has (lits (oldest end t)) lit
     pop_other lit end s = elim (le_cases end (length t)) [
       | inl h ↦ ap (λ z. has (lits z) lit) (oldest_part e t end h)
       | inr h ↦ ap (λ z. has (lits z) lit) (oldest_whole (e ∷ t) end (omega (arith, h))) ∙ ap (λ b. b || has (lits t) lit) s
-        ∙ sym (ap (λ z. has (lits z) lit) (oldest_whole t end (omega (arith, h))))
+          ∙ sym (ap (λ z. has (lits z) lit) (oldest_whole t end (omega (arith, h))))
     ]
 
 below_short_at : (reason : Option ℕ) (t : Entries) → length (below t) ≤ length t → length (below_at reason t (below t)) ≤ length t

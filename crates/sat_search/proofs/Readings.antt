@@ -1,5 +1,5 @@
 -- How a clause reads, by what the set holds.
-use Rattle.std.proofs.Common.{◌≡◌, ℕ, Bool, true, false, not, cond, ◌&&◌, ◌||◌, List, [], ◌∷◌, ℤ, neg_ℤ, Option, Some, None, refl, ap, sym, subst, ◌∙◌, ◌⊎◌, inl, inr, arith}
+use Rattle.std.proofs.Common.{◌≡◌, Bool, true, false, not, cond, ◌&&◌, List, [], ◌∷◌, ℤ, Option, Some, None, refl, ap, sym, ◌∙◌, ◌⊎◌, inl, inr}
 use Rattle.std.specs.List.{list_any}
 use Rattle.std.specs.Ordering.{int_eq}
 use Rattle.std.proofs.lemmas.Bool.{false≢true, cases_Bool}
@@ -7,7 +7,7 @@ use Rattle.lrat_check.specs.declared.reading.Reading.{Reading}
 use Rattle.lrat_check.specs.declared.reading.Reading.TheVariants as read
 use Rattle.lrat_check.specs.Sets.{has, is_false, first_open, other_open, reading_of, reading}
 use Rattle.sat_search.specs.Analysis.{NoneTrue, AllFalse}
-use Rattle.sat_search.proofs.Members.{same_is, same_self, or_cases, or_left, or_right, has_head, has_tail, any_from, any_has, any_none, none_at}
+use Rattle.sat_search.proofs.Members.{same_is, same_self, or_cases, or_left, has_head, has_tail, any_from, any_has, any_none, none_at}
 
 -- one literal alone of the clause is open
 pub record Alone (set clause : List ℤ) (l : ℤ) : Type 0 where
@@ -142,7 +142,7 @@ unit_to set c l e =
       unfalse = f.1;
       untrue = p.0 l f.0;
       others = λ x h k. others_false (is_false set x) (int_eq l x) (none_at (λ m. not (is_false set m) && not (int_eq l m)) c x q.1 h) k;
-      none = p.0
+      none = p.0;
     }
 
 first_alone_at : (set : List ℤ) (m l : ℤ) (ms : List ℤ) → (is_false set m ≡ true → first_open set ms ≡ Some l) → (is_false set m ≡ false → m ≡ l) → (b : Bool) → is_false set m ≡ b → cond b (first_open set ms) (Some m) ≡ Some l

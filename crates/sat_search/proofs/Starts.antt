@@ -1,5 +1,5 @@
 -- Where the newest decision stands among the entries, which are stored the oldest first.
-use Rattle.std.proofs.Common.{◌≡◌, ℕ, suc, ◌+◌, ◌-◌, ◌<◌, ◌≤◌, Bool, true, false, List, [], ◌∷◌, length, drop, get_or, reverse, Option, Some, None, refl, ap, sym, ◌∙◌, arith, length-drop}
+use Rattle.std.proofs.Common.{◌≡◌, ℕ, suc, ◌+◌, ◌-◌, ◌<◌, ◌≤◌, true, false, ◌∷◌, length, drop, get_or, reverse, Option, Some, None, refl, ap, sym, ◌∙◌, arith, length-drop}
 use Rattle.std.specs.List.{list_any}
 use Rattle.std.specs.Option.{is_some}
 use Rattle.std.proofs.Math.Seq.{drop-cons}
@@ -57,7 +57,7 @@ module _ (xs t : Entries) (view : reverse xs ≡ t) (next : ℕ) (d : Entry) (so
   pub starts_here : is_some (get_or xs (next - 1) d).reason ≡ false → below (oldest next t) ≡ below t → next - 1 ≡ length (below t)
   starts_here n b =
       let here : below (oldest next t) ≡ oldest (next - 1) t = ap below next_is
-        ∙ below_decision (get_or xs (next - 1) d) (oldest (next - 1) t) (get_or xs (next - 1) d).reason refl (decides_none (get_or xs (next - 1) d).reason n) in
+      ∙ below_decision (get_or xs (next - 1) d) (oldest (next - 1) t) (get_or xs (next - 1) d).reason refl (decides_none (get_or xs (next - 1) d).reason n) in
       let many : length (oldest (next - 1) t) ≡ length t - (length t - (next - 1)) = length-drop (length t - (next - 1)) t in
       let whole : length (oldest (next - 1) t) ≡ next - 1 = omega (arith, many, some, within) in
       sym (ap length (sym b ∙ here) ∙ whole)

@@ -1,20 +1,19 @@
 -- A conflict is traced back along a trail: the clause stays the resolvent of its hints.
-use Rattle.std.proofs.Common.{◌≡◌, ℕ, zero, suc, ◌+◌, ◌<◌, Bool, true, false, not, cond, ◌&&◌, ◌||◌, List, [], ◌∷◌, ◌++◌, ℤ, pos, negsuc, neg_ℤ, filter, Option, Some, None, refl, ap, sym, subst, ◌∙◌, ◌⊎◌, inl, inr, arith}
+use Rattle.std.proofs.Common.{◌≡◌, ℕ, zero, suc, ◌+◌, Bool, true, false, not, cond, List, [], ◌∷◌, ◌++◌, ℤ, pos, negsuc, neg_ℤ, filter, Some, refl, ap, sym, ◌∙◌, ◌⊎◌, inl, inr, arith}
 use Rattle.std.proofs.lemmas.Bool.{le-ltb}
-use Rattle.std.specs.Prelude.{unsigned_abs, slice_get, int_lt}
-use Rattle.std.specs.List.{list_any, list_all}
+use Rattle.std.specs.Prelude.{unsigned_abs, slice_get}
+use Rattle.std.specs.List.{list_any}
 use Rattle.std.specs.Ordering.{int_eq}
 use Rattle.std.proofs.lemmas.Bool.{false≢true, cases_Bool}
-use Rattle.lrat_check.specs.declared.reading.Reading.{Reading}
 use Rattle.lrat_check.specs.declared.reading.Reading.TheVariants as read
 use Rattle.lrat_check.specs.Sets.{has, is_false, without, union, reading, IsLit, AreLits}
-use Rattle.lrat_check.specs.Steps.{Held, numbered, is_negative, is_empty}
+use Rattle.lrat_check.specs.Steps.{Held, numbered, is_negative}
 use Rattle.lrat_check.specs.Resolved.{resolvent}
 use Rattle.sat_search.specs.declared.trail.Entry.{Entry}
 use Rattle.sat_search.specs.Trail.{Entries, lits, Stand}
 use Rattle.sat_search.specs.Analysis.{NoneTrue, AllFalse, Within, Derives}
-use Rattle.sat_search.proofs.Members.{same_is, same_self, neg_neg, or_left, or_right, or_cases, or_both, has_head, has_tail, has_append, without_has, without_from, union_has, union_left, union_right}
-use Rattle.sat_search.proofs.Readings.{Alone, unit_to, unit_from, false_to, false_from}
+use Rattle.sat_search.proofs.Members.{same_is, same_self, neg_neg, or_left, or_right, or_cases, or_both, has_tail, has_append, without_has, without_from, union_has, union_left, union_right}
+use Rattle.sat_search.proofs.Readings.{unit_to, unit_from, false_to, false_from}
 
 false_from_ne_true : (b : Bool) → (b ≡ true → ⊥) → b ≡ false
 false_from_ne_true true h = absurd (h refl)
@@ -75,7 +74,7 @@ skips clauses e t r hints d m = record {
   all_false = λ x h. off_newest e t x (d.all_false x h) (false_from_ne_true (int_eq (neg_ℤ e.lit) x) (λ k. false≢true (sym m ∙ ap (has r) (same_is (neg_ℤ e.lit) x k) ∙ h)));
   all_lits = d.all_lits;
   fine = d.fine;
-  gives = λ set w a. d.gives set (λ x h. has_tail x e.lit (lits t) (w x h)) a
+  gives = λ set w a. d.gives set (λ x h. has_tail x e.lit (lits t) (w x h)) a;
 }
 
 added_false : (set : List ℤ) (l x : ℤ) → is_false set x ≡ true → is_false (set ++ l ∷ []) x ≡ true
@@ -115,7 +114,7 @@ begins clauses t place c s g f k = record {
   all_false = (false_to (lits t) c f).0;
   all_lits = k;
   fine = or_both (is_negative (pos (place + 1))) false (positive (place + 1)) refl;
-  gives = λ set w a. resolvent_last (numbered clauses) set (pos (place + 1)) c (numbered_at clauses place c g) (false_from set c a (none_true clauses t s set c w (false_to (lits t) c f).0))
+  gives = λ set w a. resolvent_last (numbered clauses) set (pos (place + 1)) c (numbered_at clauses place c g) (false_from set c a (none_true clauses t s set c w (false_to (lits t) c f).0));
 }
 
 -- where the newest entry's complement is in the clause, its reason takes the complement's place
@@ -131,17 +130,17 @@ resolves clauses e t r hints place c d m g u k =
       all_lits = all_union e.lit (neg_ℤ e.lit) c r k d.all_lits;
       fine = or_both (is_negative (pos (place + 1))) (list_any is_negative hints) (positive (place + 1)) d.fine;
       gives = λ set w a.
-        let unit : reading set c ≡ read.Unit e.lit = unit_from set c e.lit (record {
-          member = al.member;
-          unfalse = false_from_ne_true (is_false set e.lit) (λ h. false≢true (sym al.unfalse ∙ w (neg_ℤ e.lit) h));
-          untrue = false_from_ne_true (has set e.lit) (λ h. false≢true (sym al.untrue ∙ w e.lit h));
-          others = λ x h n. a x (union_left (without e.lit c) (without (neg_ℤ e.lit) r) x (without_from e.lit c x h n));
-          none = λ x h. false_from_ne_true (has set x) (λ b. false≢true (sym (al.none x h) ∙ w x b))
-        }) in
-        let rest : AllFalse (set ++ e.lit ∷ []) r = λ x h. elim (cases_Bool (int_eq (neg_ℤ e.lit) x)) [
-          | inl b ↦ added_new set e.lit x b
-          | inr b ↦ added_false set e.lit x (a x (union_right (without e.lit c) (without (neg_ℤ e.lit) r) x (without_from (neg_ℤ e.lit) r x h b)))
-        ] in
-        resolvent_more (numbered clauses) set (pos (place + 1)) hints c r e.lit (numbered_at clauses place c g) unit
-          (d.gives (set ++ e.lit ∷ []) (within_added set e t w) rest) m
+          let unit : reading set c ≡ read.Unit e.lit = unit_from set c e.lit (record {
+            member = al.member;
+            unfalse = false_from_ne_true (is_false set e.lit) (λ h. false≢true (sym al.unfalse ∙ w (neg_ℤ e.lit) h));
+            untrue = false_from_ne_true (has set e.lit) (λ h. false≢true (sym al.untrue ∙ w e.lit h));
+            others = λ x h n. a x (union_left (without e.lit c) (without (neg_ℤ e.lit) r) x (without_from e.lit c x h n));
+            none = λ x h. false_from_ne_true (has set x) (λ b. false≢true (sym (al.none x h) ∙ w x b));
+          }) in
+          let rest : AllFalse (set ++ e.lit ∷ []) r = λ x h. elim (cases_Bool (int_eq (neg_ℤ e.lit) x)) [
+            | inl b ↦ added_new set e.lit x b
+            | inr b ↦ added_false set e.lit x (a x (union_right (without e.lit c) (without (neg_ℤ e.lit) r) x (without_from (neg_ℤ e.lit) r x h b)))
+          ] in
+          resolvent_more (numbered clauses) set (pos (place + 1)) hints c r e.lit (numbered_at clauses place c g) unit
+          (d.gives (set ++ e.lit ∷ []) (within_added set e t w) rest) m;
     }

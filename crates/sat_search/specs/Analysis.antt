@@ -1,5 +1,5 @@
 -- What a clause and its hints say while a conflict is traced back along a trail. Rules of this project.
-use Rattle.std.specs.Prelude.{ℕ, ◌≡◌, Bool, true, false, List, ℤ, slice_get, Option, Some}
+use Rattle.std.specs.Prelude.{ℕ, ◌≡◌, Bool, true, false, List, ℤ, slice_get, Some}
 use Rattle.std.specs.List.{list_any}
 use Rattle.lrat_check.specs.declared.reading.Reading.{Reading}
 use Rattle.lrat_check.specs.declared.reading.Reading.TheVariants as read

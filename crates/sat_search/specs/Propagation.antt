@@ -1,5 +1,5 @@
 -- What the clauses come to under a set of true literals.
-use Rattle.std.specs.Prelude.{ℕ, ◌≡◌, true, List, ℤ, slice_get, Some}
+use Rattle.std.specs.Prelude.{◌≡◌, true, List, ℤ, slice_get, Some}
 use Rattle.std.specs.List.{AllByRecursion}
 use Rattle.lrat_check.specs.declared.reading.Reading.TheVariants as read
 use Rattle.lrat_check.specs.Sets.{reading, AreLits}

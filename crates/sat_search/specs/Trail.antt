@@ -1,6 +1,6 @@
 -- Trails, the newest entry first: what is true, why each entry stands there, and what is older than a decision.
 -- Rules of this project, after conflict-driven clause learning.
-use Rattle.std.specs.Prelude.{ℕ, zero, suc, ◌+◌, ◌-◌, ◌<◌, ◌≤◌, ◌≡◌, Bool, true, false, ltb, ◌||◌, List, [], ◌∷◌, ◌++◌, ℤ, pos, map, drop, length, unsigned_abs, slice_get, Option, Some, None}
+use Rattle.std.specs.Prelude.{ℕ, zero, suc, ◌+◌, ◌-◌, ◌<◌, ◌≡◌, Bool, true, false, ltb, ◌||◌, List, [], ◌∷◌, ◌++◌, ℤ, pos, map, drop, length, slice_get, Option, Some, None}
 use Rattle.std.specs.List.{list_any, list_all}
 use Rattle.std.specs.Ordering.{int_eq}
 use Rattle.std.specs.HashMap.{get, HashMap}
