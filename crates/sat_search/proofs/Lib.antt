@@ -1,3 +1,4 @@
+pub mod Backs
 pub mod Counts
 pub mod Jumps
 pub mod Levels
@@ -9,4 +10,6 @@ pub mod Places
 pub mod Readings
 pub mod Rounds
 pub mod Searches
+pub mod Solves
+pub mod Starts
 pub mod Tracing
