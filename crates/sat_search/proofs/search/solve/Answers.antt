@@ -1,7 +1,7 @@
 use Rattle.std.proofs.Common.{◌≡◌, ℕ, true, List, ℤ, ◌+◌, ◌-◌, ◌^◌, ◌<◌, ◌∷◌, [], ◌++◌, length, reverse, ap, sym, ◌∙◌, subst, refl, arith}
-use Rattle.cnf_form.specs.Cnf.{formula_true, value_of}
+use Rattle.cnf_form.specs.Cnf.{AreClauses, formula_true, value_of}
 use Rattle.lrat_check.specs.declared.step.Step.{Step}
-use Rattle.sat_search.specs.Trail.{Entries, lits, AllAssigned, IsOpenVar, settled}
+use Rattle.sat_search.specs.Trail.{Entries, lits, AllAssigned, IsOpenVar, settled, values_of}
 use Rattle.sat_search.specs.Analysis.{Derives}
 use Rattle.sat_search.specs.Searching.{Searching}
 use Rattle.sat_search.proofs.Models.{length_values, models}
@@ -11,7 +11,14 @@ use Rattle.sat_search.proofs.Solves.{seen_lits, conflict_at, unit_free, unit_on,
 use Rattle.sat_search.proofs.search.solve.Goals as goal
 
 pub loop-place-init : goal.loop-place-init
-loop-place-init c = ?
+loop-place-init c =
+    let P : List (List ℤ) → Type 0 = λ z. Searching c.args.formula.now.vars c.args.budget c.args.formula.now.clauses z c.new-trail.result c.new-steps.result c.args.budget in
+    let Q : Entries → Type 0 = λ z. Searching c.args.formula.now.vars c.args.budget c.args.formula.now.clauses c.args.formula.now.clauses z c.new-steps.result c.args.budget in
+    let R : List Step → Type 0 = λ z. Searching c.args.formula.now.vars c.args.budget c.args.formula.now.clauses c.args.formula.now.clauses [] z c.args.budget in
+    (subst P (sym c.in_ok-clauses.ensures.value) (subst Q (sym c.new-trail.ensures) (subst R (sym c.new-steps.ensures)
+      (begins c.args.formula.now.vars c.args.budget c.args.formula.now.clauses (subst (AreClauses c.args.formula.now.vars) c.in_ok-clauses.ensures.value c.in_ok-clauses.ensures.literals)
+        (omega (arith, ap length c.in_ok-clauses.ensures.value))))),
+     c.requires)
 
 pub survey-requires : goal.survey-requires
 survey-requires c =
@@ -45,7 +52,7 @@ returns-in-None-clause-len c =
 pub returns-in-None-clause-model : goal.returns-in-None-clause-model
 returns-in-None-clause-model c =
     let P : ℕ → Type 0 = λ n. AllAssigned n (lits c.loop-place.trail) in
-    ap (λ z. formula_true (value_of z) c.args.formula.now.clauses) (c.in_ok-values-in-None.ensures ∙ ?)
+    ap (λ z. formula_true (value_of z) c.args.formula.now.clauses) (c.in_ok-values-in-None.ensures ∙ ap (λ n. values_of n (lits c.loop-place.trail)) c.vars-vars.ensures.value)
     ∙ models c.args.formula.now.vars c.loop-place.clauses c.loop-place.trail c.loop-place.invariant.0.stand (subst P c.vars-vars.ensures.value c.in-None.ensures)
       c.args.formula.now.clauses c.loop-place.invariant.0.learnt c.loop-place.invariant.0.joined c.loop-place.invariant.0.names
       (ap (λ z. settled z (lits c.loop-place.trail)) (sym c.as_slice.ensures) ∙ c.in-Settled.ensures)
@@ -99,19 +106,36 @@ learn-requires-clause-conflict c =
       c.loop-place.invariant.0 v c.as_slice.result.now c.as_slice.ensures c.in-Conflict.place c.loop-place.clauses refl c.in-Conflict.ensures
 
 pub returns-then-left-eq0-clause-valid : goal.returns-then-left-eq0-clause-valid
-returns-then-left-eq0-clause-valid c = ?
+returns-then-left-eq0-clause-valid c =
+    let s = learnt_on c.args.formula.now.vars c.args.budget c.args.formula.now.clauses c.loop-place.clauses c.loop-place.trail c.loop-place.steps c.loop-place.left
+      c.loop-place.invariant.0 c.learn.new.clauses c.learn.new.trail c.learn.new.steps (c.loop-place.left - 1) c.in_ok-learn-in-Conflict.ensures (omega (arith, c.loop-place.invariant.1)) in
+    valid_now c.args.formula.now.vars c.args.budget c.args.formula.now.clauses c.learn.new.clauses c.learn.new.trail c.learn.new.steps (c.loop-place.left - 1) s
 
 pub returns-then-left-eq0-clause-spent : goal.returns-then-left-eq0-clause-spent
-returns-then-left-eq0-clause-spent c = ?
+returns-then-left-eq0-clause-spent c =
+    let s = learnt_on c.args.formula.now.vars c.args.budget c.args.formula.now.clauses c.loop-place.clauses c.loop-place.trail c.loop-place.steps c.loop-place.left
+      c.loop-place.invariant.0 c.learn.new.clauses c.learn.new.trail c.learn.new.steps (c.loop-place.left - 1) c.in_ok-learn-in-Conflict.ensures (omega (arith, c.loop-place.invariant.1)) in
+    let d = derived_now c.args.formula.now.vars c.args.budget c.args.formula.now.clauses c.learn.new.clauses c.learn.new.trail c.learn.new.steps (c.loop-place.left - 1) s in
+    omega (arith, d, c.if-left-eq0.true)
 
 pub returns-then-left-eq0-clause-bound : goal.returns-then-left-eq0-clause-bound
-returns-then-left-eq0-clause-bound c = ?
+returns-then-left-eq0-clause-bound c =
+    let s = learnt_on c.args.formula.now.vars c.args.budget c.args.formula.now.clauses c.loop-place.clauses c.loop-place.trail c.loop-place.steps c.loop-place.left
+      c.loop-place.invariant.0 c.learn.new.clauses c.learn.new.trail c.learn.new.steps (c.loop-place.left - 1) c.in_ok-learn-in-Conflict.ensures (omega (arith, c.loop-place.invariant.1)) in
+    bound_now c.args.formula.now.vars c.args.budget c.args.formula.now.clauses c.learn.new.clauses c.learn.new.trail c.learn.new.steps (c.loop-place.left - 1) s c.if-left-eq0.true
 
 pub returns-then-left-eq0-clause-added : goal.returns-then-left-eq0-clause-added
-returns-then-left-eq0-clause-added c = ?
+returns-then-left-eq0-clause-added c =
+    let s = learnt_on c.args.formula.now.vars c.args.budget c.args.formula.now.clauses c.loop-place.clauses c.loop-place.trail c.loop-place.steps c.loop-place.left
+      c.loop-place.invariant.0 c.learn.new.clauses c.learn.new.trail c.learn.new.steps (c.loop-place.left - 1) c.in_ok-learn-in-Conflict.ensures (omega (arith, c.loop-place.invariant.1)) in
+    added_now c.args.formula.now.vars c.args.budget c.args.formula.now.clauses c.learn.new.clauses c.learn.new.trail c.learn.new.steps (c.loop-place.left - 1) s
 
 pub loop-place-smaller : goal.loop-place-smaller
-loop-place-smaller c = ?
+loop-place-smaller c =
+    clause_falls c.args.formula.now.vars c.loop-place.left (c.loop-place.left - 1) c.learn.new.trail c.loop-place.trail (omega (arith, c.loop-place.invariant.1))
 
 pub loop-place-preserved : goal.loop-place-preserved
-loop-place-preserved c = ?
+loop-place-preserved c =
+    (learnt_on c.args.formula.now.vars c.args.budget c.args.formula.now.clauses c.loop-place.clauses c.loop-place.trail c.loop-place.steps c.loop-place.left
+      c.loop-place.invariant.0 c.learn.new.clauses c.learn.new.trail c.learn.new.steps (c.loop-place.left - 1) c.in_ok-learn-in-Conflict.ensures (omega (arith, c.loop-place.invariant.1)),
+     omega (arith, c.loop-place.invariant.1, c.if-left-eq0.false))
