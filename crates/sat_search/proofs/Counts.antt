@@ -41,8 +41,8 @@ all_part n test k c (d ∷ ds) pc tc pd h =
     let q = and_parts (differ (suc n) c d) (list_all (differ (suc n) c) ds) h in
     let r = and_parts (consistent d) (list_all consistent ds) pd in
     all_cond (differ n c) (test d) d (filter test ds)
-      (λ td. lower (agrees (at c n) (at d n) && agrees (off c n) (off d n)) (differ n c d) (k c d pc r.0 tc td) q.0)
-      (all_part n test k c ds pc tc r.1 q.1)
+    (λ td. lower (agrees (at c n) (at d n) && agrees (off c n) (off d n)) (differ n c d) (k c d pc r.0 tc td) q.0)
+    (all_part n test k c ds pc tc r.1 q.1)
 
 apart_cond : (n : ℕ) (b : Bool) (c : List ℤ) (cs : List (List ℤ)) → (b ≡ true → list_all (differ n c) cs ≡ true) → Apart n cs → Apart n (cond b (c ∷ cs) cs)
 apart_cond n true c cs h a = (h refl, a)
@@ -67,20 +67,20 @@ untrue c n p h = false_from_ne_true (at c n) (λ k. false≢true (sym (unfalse c
 tells_at : (n : ℕ) → Tells n (λ c. at c n)
 tells_at n a b p q s t =
     and_from (agrees (at a n) (at b n)) (agrees (off a n) (off b n)) (agree_same (at a n) (at b n) true s t)
-      (agree_same (off a n) (off b n) false (unfalse a n p s) (unfalse b n q t))
+    (agree_same (off a n) (off b n) false (unfalse a n p s) (unfalse b n q t))
 
 tells_off : (n : ℕ) → Tells n (λ c. off c n)
 tells_off n a b p q s t =
     and_from (agrees (at a n) (at b n)) (agrees (off a n) (off b n)) (agree_same (at a n) (at b n) false (untrue a n p s) (untrue b n q t))
-      (agree_same (off a n) (off b n) true s t)
+    (agree_same (off a n) (off b n) true s t)
 
 tells_none : (n : ℕ) → Tells n (λ c. not (at c n) && not (off c n))
 tells_none n a b p q s t =
     let x = and_parts (not (at a n)) (not (off a n)) s in
     let y = and_parts (not (at b n)) (not (off b n)) t in
     and_from (agrees (at a n) (at b n)) (agrees (off a n) (off b n))
-      (agree_same (at a n) (at b n) false (not-true (at a n) x.0) (not-true (at b n) y.0))
-      (agree_same (off a n) (off b n) false (not-true (off a n) x.1) (not-true (off b n) y.1))
+    (agree_same (at a n) (at b n) false (not-true (at a n) x.0) (not-true (at b n) y.0))
+    (agree_same (off a n) (off b n) false (not-true (off a n) x.1) (not-true (off b n) y.1))
 
 one_of : (x y : Bool) (a b d : ℕ) → 1 + (a + b + d) ≤ cond x (suc a) a + cond y (suc b) b + cond (not x && not y) (suc d) d
 one_of true true a b d = omega arith
@@ -125,9 +125,9 @@ same_at (suc m) a b d n h =
     let q = or_parts (not (agrees (at a m) (at b m) && agrees (off a m) (off b m))) (differ m a b) d in
     elim (cases_eq m n) [
       | inl e ↦
-        let p = and_parts (agrees (at a m) (at b m)) (agrees (off a m) (off b m)) (not-false (agrees (at a m) (at b m) && agrees (off a m) (off b m)) q.0) in
-        let P : ℕ → Type 0 = λ i. (at a i ≡ at b i) × (off a i ≡ off b i) in
-        subst P e (agree_is (at a m) (at b m) p.0, agree_is (off a m) (off b m) p.1)
+          let p = and_parts (agrees (at a m) (at b m)) (agrees (off a m) (off b m)) (not-false (agrees (at a m) (at b m) && agrees (off a m) (off b m)) q.0) in
+          let P : ℕ → Type 0 = λ i. (at a i ≡ at b i) × (off a i ≡ off b i) in
+          subst P e (agree_is (at a m) (at b m) p.0, agree_is (off a m) (off b m) p.1)
       | inr k ↦ same_at m a b q.1 n (omega (arith, h, k))
     ]
 
@@ -139,8 +139,8 @@ same_has vars a b d = by_variable vars (λ x. has a x ≡ has b x) (λ n k. (sam
 pub sets_differ : (vars : ℕ) (a b : List ℤ) → AreLiterals vars a → AreLiterals vars b → same_set b a ≡ false → differ vars a b ≡ true
 sets_differ vars a b j k n = true_from_ne_false (differ vars a b) (λ d.
     false≢true (sym n ∙ and_from (within b a) (within a b)
-      (all_from (has a) b (λ x h. same_has vars a b d x (literal_at vars b x k h) ∙ h))
-      (all_from (has b) a (λ x h. sym (same_has vars a b d x (literal_at vars a x j h)) ∙ h))))
+    (all_from (has a) b (λ x h. same_has vars a b d x (literal_at vars b x k h) ∙ h))
+    (all_from (has b) a (λ x h. sym (same_has vars a b d x (literal_at vars a x j h)) ∙ h))))
 
 not_within : (c : List ℤ) → is_empty c ≡ false → same_set c [] ≡ false
 not_within [] h = absurd (true≢false h)
@@ -161,6 +161,6 @@ apart_more vars [] r k j n a = (refl, tt)
 apart_more vars (c ∷ cs) r k j n a =
     let q = or_parts (same_set r c) (list_any (same_set r) cs) n in
     (all_last (differ vars c) cs r a.0 (sets_differ vars c r k.0 j q.0), apart_more vars cs r k.1 j q.1 a.1) where
-  all_last : (p : List ℤ → Bool) (cs : List (List ℤ)) (r : List ℤ) → list_all p cs ≡ true → p r ≡ true → list_all p (cs ++ r ∷ []) ≡ true
-  all_last p [] r h k = and_from (p r) true k refl
-  all_last p (d ∷ ds) r h k = let q = and_parts (p d) (list_all p ds) h in and_from (p d) (list_all p (ds ++ r ∷ [])) q.0 (all_last p ds r q.1 k)
+      all_last : (p : List ℤ → Bool) (cs : List (List ℤ)) (r : List ℤ) → list_all p cs ≡ true → p r ≡ true → list_all p (cs ++ r ∷ []) ≡ true
+      all_last p [] r h k = and_from (p r) true k refl
+      all_last p (d ∷ ds) r h k = let q = and_parts (p d) (list_all p ds) h in and_from (p d) (list_all p (ds ++ r ∷ [])) q.0 (all_last p ds r q.1 k)

@@ -33,7 +33,7 @@ another : (set c : List ℤ) → Two set c → (l : ℤ) → other_open set l c 
 another set c t l = elim (cases_Bool (int_eq l t.one)) [
   | inl s ↦ any_from (λ m. not (is_false set m) && not (int_eq l m)) c t.two t.has_two
       (and_from (not (is_false set t.two)) (not (int_eq l t.two)) (not_from_false (is_false set t.two) t.two_unfalse)
-        (not_from_false (int_eq l t.two) (ap (λ z. int_eq z t.two) (same_is l t.one s) ∙ t.differ)))
+      (not_from_false (int_eq l t.two) (ap (λ z. int_eq z t.two) (same_is l t.one s) ∙ t.differ)))
   | inr s ↦ any_from (λ m. not (is_false set m) && not (int_eq l m)) c t.one t.has_one
       (and_from (not (is_false set t.one)) (not (int_eq l t.one)) (not_from_false (is_false set t.one) t.one_unfalse) (not_from_false (int_eq l t.one) s))
 ]
@@ -56,7 +56,7 @@ two_less a b c w t = record {
   has_two = t.has_two;
   differ = t.differ;
   one_unfalse = false_from_ne_true (is_false a t.one) (λ h. false≢true (sym t.one_unfalse ∙ w (neg_ℤ t.one) h));
-  two_unfalse = false_from_ne_true (is_false a t.two) (λ h. false≢true (sym t.two_unfalse ∙ w (neg_ℤ t.two) h))
+  two_unfalse = false_from_ne_true (is_false a t.two) (λ h. false≢true (sym t.two_unfalse ∙ w (neg_ℤ t.two) h));
 }
 
 none_less : (a b c : List ℤ) → Within a b → NoneTrue b c → NoneTrue a c
@@ -136,6 +136,8 @@ joins cs r t s u stop =
     let l = unit_is (reading (lits t) r) u in
     let a = unit_to (lits t) r l.0 l.1 in
     let n = none_less (lits (below t)) (lits t) r (below_within t) a.none in
-    stand_more cs r t s (blocks_below r t (λ d.
-      (two_from (lits (below t)) r l.0 (reading (lits (below t)) r) refl a.member
-        (false_from_ne_true (is_false (lits (below t)) l.0) (λ h. false≢true (sym a.unfalse ∙ below_within t (neg_ℤ l.0) h))) n (stop d), n)))
+    stand_more cs r t s (blocks_below r t (λ d. (
+      two_from (lits (below t)) r l.0 (reading (lits (below t)) r) refl a.member
+          (false_from_ne_true (is_false (lits (below t)) l.0) (λ h. false≢true (sym a.unfalse ∙ below_within t (neg_ℤ l.0) h))) n (stop d),
+      n,
+    )))

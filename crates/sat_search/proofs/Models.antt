@@ -28,10 +28,10 @@ values_at (suc m) set n h =
     elim (cases_lt n m) [
       | inl k ↦ get_or_append_left (values_of m set) (has set (pos (m + 1)) ∷ []) false n (omega (arith, long, k)) ∙ values_at m set n k
       | inr k ↦
-        let e : n ≡ length (values_of m set) = omega (arith, long, k, h) in
-        let f : m ≡ n = omega (arith, k, h) in
-        ap (λ i. get_or (values_of m set ++ has set (pos (m + 1)) ∷ []) i false) e
-        ∙ get_or-append_seam (values_of m set) (has set (pos (m + 1))) [] false ∙ ap (λ i. has set (pos (i + 1))) f
+          let e : n ≡ length (values_of m set) = omega (arith, long, k, h) in
+          let f : m ≡ n = omega (arith, k, h) in
+          ap (λ i. get_or (values_of m set ++ has set (pos (m + 1)) ∷ []) i false) e
+          ∙ get_or-append_seam (values_of m set) (has set (pos (m + 1))) [] false ∙ ap (λ i. has set (pos (i + 1))) f
     ]
 
 value_is : (vars : ℕ) (set : List ℤ) (n : ℕ) → n < vars → value_of (values_of vars set) (n + 1) ≡ has set (pos (n + 1))
@@ -41,15 +41,15 @@ module _ (vars : ℕ) (all_clauses : List (List ℤ)) (t : Entries) (s : Stand a
   -- a true literal of the trail is true under its values
   on_trail : (x : ℤ) → IsLiteral vars x → has (lits t) x ≡ true → literal_true (value_of (values_of vars (lits t))) x ≡ true
   on_trail = by_variable vars (λ x. has (lits t) x ≡ true → literal_true (value_of (values_of vars (lits t))) x ≡ true)
-    (λ n k h. value_is vars (lits t) n k ∙ h)
-    (λ n k h. not_from_false (value_of (values_of vars (lits t)) (n + 1)) (value_is vars (lits t) n k
+      (λ n k h. value_is vars (lits t) n k ∙ h)
+      (λ n k h. not_from_false (value_of (values_of vars (lits t)) (n + 1)) (value_is vars (lits t) n k
       ∙ false_from_ne_true (has (lits t) (pos (n + 1))) (λ f. no_pair all_clauses t s (pos (n + 1)) f (ap (has (lits t)) (neg_next n) ∙ h))))
 
   -- a literal that is neither true nor false has a variable without a value
   valued : (x : ℤ) → IsLiteral vars x → has (lits t) x ≡ false → is_false (lits t) x ≡ false → ⊥
   valued = by_variable vars (λ x. has (lits t) x ≡ false → is_false (lits t) x ≡ false → ⊥)
-    (λ n k h f. false≢true (sym (or_from (has (lits t) (pos (n + 1))) (is_false (lits t) (pos (n + 1))) h f) ∙ a n k))
-    (λ n k h f.
+      (λ n k h f. false≢true (sym (or_from (has (lits t) (pos (n + 1))) (is_false (lits t) (pos (n + 1))) h f) ∙ a n k))
+      (λ n k h f.
       let e : neg_ℤ (negsuc n) ≡ pos (n + 1) = (let q : suc n ≡ n + 1 = omega arith in ap pos q) in
       false≢true (sym (or_from (has (lits t) (pos (n + 1))) (is_false (lits t) (pos (n + 1))) (ap (has (lits t)) (sym e) ∙ f) (ap (has (lits t)) (neg_next n) ∙ h)) ∙ a n k))
 
@@ -68,11 +68,11 @@ module _ (vars : ℕ) (all_clauses : List (List ℤ)) (t : Entries) (s : Stand a
   all_hold (c ∷ cs) k h =
       let p = and_parts (is_open (reading (lits t) c)) (settled cs (lits t)) h in
       and_from (clause_true (value_of (values_of vars (lits t))) c) (formula_true (value_of (values_of vars (lits t))) cs)
-        (clause_holds c (reading (lits t) c) k.0 refl p.0) (all_hold cs k.1 p.1)
+      (clause_holds c (reading (lits t) c) k.0 refl p.0) (all_hold cs k.1 p.1)
 
   -- and so the first of them
   pub models : (formula learnt : List (List ℤ)) → all_clauses ≡ formula ++ learnt → AreClauses vars all_clauses → settled all_clauses (lits t) ≡ true → formula_true (value_of (values_of vars (lits t))) formula ≡ true
   models formula learnt e k h =
       (and_parts (formula_true (value_of (values_of vars (lits t))) formula) (formula_true (value_of (values_of vars (lits t))) learnt)
-        (sym (list_all-append (clause_true (value_of (values_of vars (lits t)))) formula learnt)
-         ∙ ap (formula_true (value_of (values_of vars (lits t)))) (sym e) ∙ all_hold all_clauses k h)).0
+      (sym (list_all-append (clause_true (value_of (values_of vars (lits t)))) formula learnt)
+      ∙ ap (formula_true (value_of (values_of vars (lits t)))) (sym e) ∙ all_hold all_clauses k h)).0

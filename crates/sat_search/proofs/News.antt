@@ -74,11 +74,11 @@ strengthens clauses t r hints d k u =
       set = lits (below t);
       member = a.member;
       pairless = all_from (λ x. not (is_false (lits (below t)) x)) (lits (below t)) (λ x h.
-        not_from_false (is_false (lits (below t)) x) (false_from_ne_true (is_false (lits (below t)) x) (λ f.
+          not_from_false (is_false (lits (below t)) x) (false_from_ne_true (is_false (lits (below t)) x) (λ f.
           no_pair clauses t d.stand x (below_within t x h) (below_within t (neg_ℤ x) f))));
       others = all_from (is_false (lits (below t))) (without l.0 r) (λ x h. let p = without_has l.0 r x h in a.others x p.0 p.1);
       undecided = (a.untrue, a.unfalse);
-      stable = closed_numbered clauses (lits (below t)) (settled_below clauses t d.stand k)
+      stable = closed_numbered clauses (lits (below t)) (settled_below clauses t d.stand k);
     }
 
 true_at : (o : Option ℤ) (other : ℤ → Bool) → reading_of o other ≡ read.True → ⊥
@@ -95,7 +95,7 @@ true_cond false rest e n = absurd (n e)
 pub true_has : (set c : List ℤ) → reading set c ≡ read.True → (x : ℤ) × (has c x ≡ true) × (has set x ≡ true)
 true_has set c e =
     any_has (has set) c (true_cond (list_any (has set) c) (reading_of (first_open set c) (λ l. other_open set l c)) e
-      (true_at (first_open set c) (λ l. other_open set l c)))
+    (true_at (first_open set c) (λ l. other_open set l c)))
 
 -- a literal of such a clause that isn't false in the set is the clause's own
 only : (held : Held) (r : List ℤ) (s : Strengthens held r) (x : ℤ) → has r x ≡ true → is_false s.set x ≡ false → s.lit ≡ x

@@ -46,27 +46,27 @@ falls_at : (n : ℕ) (set : List ℤ) (l : ℤ) (m : ℕ) → m < n → is_assig
 falls_at zero set l m h e f = absurd (omega arith)
 falls_at (suc n) set l m h e f = elim (cases_eq m n) [
   | inl k ↦
-    let P : ℕ → Type 0 = λ i. cond (is_assigned (l ∷ set) (i + 1)) 0 1 < cond (is_assigned set (i + 1)) 0 1 in
-    let a = subst P k (falls_here (is_assigned set (m + 1)) (is_assigned (l ∷ set) (m + 1)) e f) in
-    let b = open_fewer n set l in
-    omega (arith, a, b)
+      let P : ℕ → Type 0 = λ i. cond (is_assigned (l ∷ set) (i + 1)) 0 1 < cond (is_assigned set (i + 1)) 0 1 in
+      let a = subst P k (falls_here (is_assigned set (m + 1)) (is_assigned (l ∷ set) (m + 1)) e f) in
+      let b = open_fewer n set l in
+      omega (arith, a, b)
   | inr k ↦
-    let a = less_at (is_assigned set (n + 1)) (is_assigned (l ∷ set) (n + 1)) (assigned_more set l (n + 1)) in
-    let b = falls_at n set l m (omega (arith, h, k)) e f in
-    omega (arith, a, b)
+      let a = less_at (is_assigned set (n + 1)) (is_assigned (l ∷ set) (n + 1)) (assigned_more set l (n + 1)) in
+      let b = falls_at n set l m (omega (arith, h, k)) e f in
+      omega (arith, a, b)
 ]
 
 -- a variable that gets its value is one fewer
 open_falls : (vars : ℕ) (set : List ℤ) (l : ℤ) → IsLiteral vars l → has set l ≡ false → is_false set l ≡ false → open_vars vars (l ∷ set) < open_vars vars set
 open_falls vars set = by_variable vars (λ l. has set l ≡ false → is_false set l ≡ false → open_vars vars (l ∷ set) < open_vars vars set)
     (λ n k h f. falls_at vars set (pos (n + 1)) n k
-      (or_from (has set (pos (n + 1))) (is_false set (pos (n + 1))) h f)
-      (or_left (has (pos (n + 1) ∷ set) (pos (n + 1))) (is_false (pos (n + 1) ∷ set) (pos (n + 1))) (has_head (pos (n + 1)) set)))
+    (or_from (has set (pos (n + 1))) (is_false set (pos (n + 1))) h f)
+    (or_left (has (pos (n + 1) ∷ set) (pos (n + 1))) (is_false (pos (n + 1) ∷ set) (pos (n + 1))) (has_head (pos (n + 1)) set)))
     (λ n k h f.
-      let e : neg_ℤ (negsuc n) ≡ pos (n + 1) = (let q : suc n ≡ n + 1 = omega arith in ap pos q) in
-      falls_at vars set (negsuc n) n k
-        (or_from (has set (pos (n + 1))) (is_false set (pos (n + 1))) (ap (has set) (sym e) ∙ f) (ap (has set) (neg_next n) ∙ h))
-        (or_right (has (negsuc n ∷ set) (pos (n + 1))) (is_false (negsuc n ∷ set) (pos (n + 1))) (ap (has (negsuc n ∷ set)) (neg_next n) ∙ has_head (negsuc n) set)))
+    let e : neg_ℤ (negsuc n) ≡ pos (n + 1) = (let q : suc n ≡ n + 1 = omega arith in ap pos q) in
+    falls_at vars set (negsuc n) n k
+    (or_from (has set (pos (n + 1))) (is_false set (pos (n + 1))) (ap (has set) (sym e) ∙ f) (ap (has set) (neg_next n) ∙ h))
+    (or_right (has (negsuc n ∷ set) (pos (n + 1))) (is_false (negsuc n ∷ set) (pos (n + 1))) (ap (has (negsuc n ∷ set)) (neg_next n) ∙ has_head (negsuc n) set)))
 
 pub value_falls : (vars left : ℕ) (e : Entry) (t whole : Entries) → whole ≡ e ∷ t → IsLiteral vars e.lit → has (lits t) e.lit ≡ false → is_false (lits t) e.lit ≡ false → rounds vars left whole < rounds vars left t
 value_falls vars left e t whole w k h f =

@@ -34,6 +34,7 @@ walks_unit : (held : Held) (id : ℕ) (set : List ℤ) (h : ℤ) (hs c r : List 
 walks_unit held id set h hs c r l None g u e k rest = absurd (none_some r (sym fails ∙ k)) where
   none_some : (x : List ℤ) → None ≡ Some x → ⊥
   none_some x e = cc
+
   fails : resolvent held set (h ∷ hs) ≡ None
   fails = grind (arith, g, u, e)
 walks_unit held id set h hs c r l (Some q) g u e k rest = steps ∙ rest q e where
@@ -44,6 +45,7 @@ walks_read : (held : Held) (id : ℕ) (set : List ℤ) (h : ℤ) (hs c r : List 
 walks_read held id set h hs c r read.True g u k rest = absurd (none_some r (sym fails ∙ k)) where
   none_some : (x : List ℤ) → None ≡ Some x → ⊥
   none_some x e = cc
+
   fails : resolvent held set (h ∷ hs) ≡ None
   fails = grind (arith, g, u)
 walks_read held id set h hs c r read.False g u k rest = grind (arith, g, u)
@@ -51,6 +53,7 @@ walks_read held id set h hs c r (read.Unit l) g u k rest = walks_unit held id se
 walks_read held id set h hs c r read.Open g u k rest = absurd (none_some r (sym fails ∙ k)) where
   none_some : (x : List ℤ) → None ≡ Some x → ⊥
   none_some x e = cc
+
   fails : resolvent held set (h ∷ hs) ≡ None
   fails = grind (arith, g, u)
 
@@ -58,6 +61,7 @@ walks_at : (held : Held) (id : ℕ) (set : List ℤ) (h : ℤ) (hs r : List ℤ)
 walks_at held id set h hs r None g k rest = absurd (none_some r (sym fails ∙ k)) where
   none_some : (x : List ℤ) → None ≡ Some x → ⊥
   none_some x e = cc
+
   fails : resolvent held set (h ∷ hs) ≡ None
   fails = grind (arith, g)
 walks_at held id set h hs r (Some c) g k rest = walks_read held id set h hs c r (reading set c) g refl k rest
@@ -80,7 +84,7 @@ tells_more : (cs : List (List ℤ)) (r hints : List ℤ) (more : List Step) → 
 tells_more cs r hints more n v k =
     let long : length cs + 1 ≡ length (cs ++ r ∷ []) = omega (arith, length-append cs (r ∷ [])) in
     verdict_adds (numbered cs) (length cs) (length cs + 1) r hints more
-      (accepted (numbered cs) (length cs) (length cs + 1) r hints (omega arith) n (walks_to (numbered cs) (length cs + 1) (negs r) hints v.0 v.1)) k
+    (accepted (numbered cs) (length cs) (length cs + 1) r hints (omega arith) n (walks_to (numbered cs) (length cs + 1) (negs r) hints v.0 v.1)) k
     ∙ ap (λ held. verdict held (length cs + 1) more) (numbered_more cs r (length cs + 1) refl)
     ∙ ap (λ top. verdict (numbered (cs ++ r ∷ [])) top more) long
 
@@ -115,7 +119,7 @@ learns_on cs more t mid cut steps longer r hints d v u w x s e f few =
       stand = (let P : List (List ℤ) → Type 0 = λ z. Stand z cut in subst P (sym e) s);
       false_there = λ y h. w (neg_ℤ y) (d.all_false y h);
       part = λ y h. w y (x y h);
-      few = few
+      few = few;
     }
 
 pub begins : (vars budget : ℕ) (formula : List (List ℤ)) → AreClauses vars formula → length formula < 2 ^ 63 - 1 → Searching vars budget formula formula [] [] budget
@@ -133,7 +137,7 @@ begins vars budget formula k few = record {
   counted = omega arith;
   some = refl;
   pairless = refl;
-  apart = tt
+  apart = tt;
 }
 
 module _ (vars budget : ℕ) (formula cs : List (List ℤ)) (t : Entries) (steps : List Step) (left : ℕ) (s : Searching vars budget formula cs t steps left) where
@@ -162,23 +166,23 @@ module _ (vars budget : ℕ) (formula cs : List (List ℤ)) (t : Entries) (steps
       learnt = s.learnt ++ r ∷ [];
       joined = ap (λ z. z ++ r ∷ []) s.joined ∙ append_assoc formula s.learnt (r ∷ []);
       tells = λ more.
-        ap (judged formula) (append_assoc steps (Add (length cs + 1) r hints ∷ []) more) ∙ s.tells (Add (length cs + 1) r hints ∷ more)
-        ∙ tells_more cs r hints more fine v some;
+          ap (judged formula) (append_assoc steps (Add (length cs + 1) r hints ∷ []) more) ∙ s.tells (Add (length cs + 1) r hints ∷ more)
+          ∙ tells_more cs r hints more fine v some;
       resolved = λ more h.
-        let P : Held → Type 0 = λ held. AllResolved held more in
-        subst (Resolved formula) (sym (append_assoc steps (Add (length cs + 1) r hints ∷ []) more))
+          let P : Held → Type 0 = λ held. AllResolved held more in
+          subst (Resolved formula) (sym (append_assoc steps (Add (length cs + 1) r hints ∷ []) more))
           (s.resolved (Add (length cs + 1) r hints ∷ more) (v, g, subst P (sym (numbered_more cs r (length cs + 1) refl)) h));
       derives = λ more.
-        ap (derived_from formula) (append_assoc steps (Add (length cs + 1) r hints ∷ []) more) ∙ s.derives (Add (length cs + 1) r hints ∷ more)
-        ∙ ap (λ z. s.learnt ++ z) (derives_more cs r hints (length cs + 1) more (is_new cs r g))
-        ∙ sym (append_assoc s.learnt (r ∷ []) (derived_from (cs ++ r ∷ []) more));
+          ap (derived_from formula) (append_assoc steps (Add (length cs + 1) r hints ∷ []) more) ∙ s.derives (Add (length cs + 1) r hints ∷ more)
+          ∙ ap (λ z. s.learnt ++ z) (derives_more cs r hints (length cs + 1) more (is_new cs r g))
+          ∙ sym (append_assoc s.learnt (r ∷ []) (derived_from (cs ++ r ∷ []) more));
       added = λ more h.
-        subst (AreAdded vars) (sym (append_assoc steps (Add (length cs + 1) r hints ∷ []) more))
+          subst (AreAdded vars) (sym (append_assoc steps (Add (length cs + 1) r hints ∷ []) more))
           (s.added (Add (length cs + 1) r hints ∷ more) (false_literals r f, false_consistent r f, h));
       counted = (let e = length-append s.learnt (r ∷ []) in let c = s.counted in omega (arith, e, c, n));
       some = all_last (λ c. not (is_empty c)) s.learnt r s.some (not_from_false (is_empty r) some);
       pairless = all_last consistent s.learnt r s.pairless (false_consistent r f);
-      apart = apart_more vars s.learnt r learnt_names (false_literals r f) (new_learnt r (is_new cs r g)) s.apart
+      apart = apart_more vars s.learnt r learnt_names (false_literals r f) (new_learnt r (is_new cs r g)) s.apart;
     }
 
   pub learnt_on : (more : List (List ℤ)) (u : Entries) (longer : List Step) (now : ℕ) → Learns cs more t u steps longer → left ≡ now + 1 → Searching vars budget formula more u longer now
@@ -187,7 +191,7 @@ module _ (vars budget : ℕ) (formula cs : List (List ℤ)) (t : Entries) (steps
       let Q : List (List ℤ) → Type 0 = λ z. Searching vars budget formula z u longer now in
       let R : List Step → Type 0 = λ z. Searching vars budget formula (cs ++ w.clause ∷ []) u z now in
       subst Q (sym w.joined) (subst R (sym w.added)
-        (learnt_one u w.clause w.hints w.resolvent w.strengthens w.some w.fine (subst P w.joined w.stand) w.false_there w.part w.few now n))
+      (learnt_one u w.clause w.hints w.resolvent w.strengthens w.some w.fine (subst P w.joined w.stand) w.false_there w.part w.few now n))
 
   -- one more literal is true
   pub pushed_on : (e : Entry) (whole : Entries) → whole ≡ e ∷ t → IsLiteral vars e.lit → Stands cs t e → Searching vars budget formula cs whole steps left
@@ -207,7 +211,7 @@ module _ (vars budget : ℕ) (formula cs : List (List ℤ)) (t : Entries) (steps
         counted = s.counted;
         some = s.some;
         pairless = s.pairless;
-        apart = s.apart
+        apart = s.apart;
       })
 
   pub valid_now : Valid formula steps
@@ -235,7 +239,7 @@ module _ (vars budget : ℕ) (formula cs : List (List ℤ)) (t : Entries) (steps
     refutes_now =
         let v = is_resolvent cs u r hints d in
         let w : walk (numbered cs) (length cs + 1) (negs []) hints ≡ None =
-          ap (λ z. walk (numbered cs) (length cs + 1) (negs z) hints) (sym empty) ∙ walks_to (numbered cs) (length cs + 1) (negs r) hints v.0 v.1 in
+        ap (λ z. walk (numbered cs) (length cs + 1) (negs z) hints) (sym empty) ∙ walks_to (numbered cs) (length cs + 1) (negs r) hints v.0 v.1 in
         ap (judged formula) longer_is ∙ s.tells (Add (length cs + 1) [] hints ∷ [])
         ∙ verdict_empty (numbered cs) (length cs) (length cs + 1) [] hints [] (accepted (numbered cs) (length cs) (length cs + 1) [] hints (omega arith) d.fine w) refl
 

@@ -33,7 +33,7 @@ module _ (vars budget : ℕ) (formula cs : List (List ℤ)) (t : Entries) (steps
         clause = h.0;
         found = found;
         false_there = h.2;
-        all_lits = lits_at other place h.0 (subst AllLits (same ∙ sym o) seen_lits) found
+        all_lits = lits_at other place h.0 (subst AllLits (same ∙ sym o) seen_lits) found;
       }
 
   module _ (place : ℕ) (l : ℤ) (h : Sees seen (lits t) (scan.Unit place l)) where

@@ -43,11 +43,19 @@ fn is_refuted(alloc: Global, formula: &Formula, steps: &List<Step>) -> bool {
 fn answer(alloc: Global, formula: &Formula, budget: u64) -> Result<String, Fail> {
     match solve(alloc, formula, budget)? {
         Found::Model(values) => {
-            let word = if all_true(&values, formula) { "model" } else { "wrong" };
+            let word = if all_true(&values, formula) {
+                "model"
+            } else {
+                "wrong"
+            };
             Ok(format!(in alloc; "{word}")?)
         }
         Found::Refuted(steps) => {
-            let word = if is_refuted(alloc, formula, &steps) { "refuted" } else { "wrong" };
+            let word = if is_refuted(alloc, formula, &steps) {
+                "refuted"
+            } else {
+                "wrong"
+            };
             let count = steps.len();
             Ok(format!(in alloc; "{word} {count}")?)
         }
