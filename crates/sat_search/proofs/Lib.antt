@@ -1,3 +1,4 @@
+pub mod Added
 pub mod Backs
 pub mod Counts
 pub mod Jumps

@@ -34,7 +34,7 @@ neg_literal vars x h =
 pub lit_of : (vars : ℕ) (x : ℤ) → vars < 2 ^ 63 → IsLiteral vars x → IsLit x
 lit_of vars x v h = (h.0, omega (arith, h.1))
 
-lits_of : (vars : ℕ) (c : List ℤ) → vars < 2 ^ 63 → AreLiterals vars c → AreLits c
+pub lits_of : (vars : ℕ) (c : List ℤ) → vars < 2 ^ 63 → AreLiterals vars c → AreLits c
 lits_of vars [] v h = tt
 lits_of vars (l ∷ ls) v h = (lit_of vars l v h.0, lits_of vars ls v h.1)
 

@@ -1,3 +1,6 @@
+ghost use Rattle.std.specs.Prelude.{◌<◌};
+ghost use Rattle.sat_search.specs.Found.{AreAdded};
+
 use crate::found::Found;
 use crate::search::solve;
 use cnf_form::{Formula, are_literals};
@@ -35,12 +38,16 @@ fn all_true(values: &List<bool>, formula: &Formula) -> bool {
     formula.clauses().iter().all(|clause| clause.as_slice().iter().any(|lit| is_true(values, *lit)))
 }
 
-fn is_refuted(alloc: Global, formula: &Formula, steps: &List<Step>) -> bool {
+fn is_refuted(alloc: Global, formula: &Formula, steps: &List<Step>) -> bool
+    requires { AreAdded formula.now.vars steps.now }
+{
     verify(alloc, formula, steps.as_slice()).is_ok()
 }
 
 /// How the search ends, with the number of steps; `wrong` where the answer doesn't hold.
-fn answer(alloc: Global, formula: &Formula, budget: u64) -> Result<String, Fail> {
+fn answer(alloc: Global, formula: &Formula, budget: u64) -> Result<String, Fail>
+    requires { 0 < budget }
+{
     match solve(alloc, formula, budget)? {
         Found::Model(values) => {
             let word = if all_true(&values, formula) {
@@ -69,7 +76,10 @@ fn answer(alloc: Global, formula: &Formula, budget: u64) -> Result<String, Fail>
 #[test]
 fn answers(rt: HostRuntime) -> Result<(), Fail> {
     let four: &[i64] = &[1, 2, 0, 1, -2, 0, -1, 2, 0, -1, -2];
-    let rows: [(u64, &[i64], u64, &str); 6] = [
+    let pigeons: &[i64] =
+        &[1, 2, 0, 3, 4, 0, 5, 6, 0, -1, -3, 0, -1, -5, 0, -3, -5, 0, -2, -4, 0, -2, -6, 0, -4, -6];
+    let rows: [(u64, &[i64], u64, &str); 7] = [
+        (6, pigeons, 99, "refuted"),
         (2, four, 1, "spent 1"),
         (2, four, 9, "refuted 2"),
         (1, &[1, 0, -1], 1, "refuted 1"),
@@ -79,41 +89,9 @@ fn answers(rt: HostRuntime) -> Result<(), Fail> {
     ];
     for (vars, numbers, budget, wanted) in rows {
         let formula = formula_of(&rt, rt.alloc(), vars, numbers)?;
+        assert!(rt; 0 < budget);
         let found = answer(rt.alloc(), &formula, budget)?;
-        assert_eq!(rt; found.as_str(), wanted, "at {numbers:?}");
-    }
-    Ok(())
-}
-
-/// So many pigeons, each in one of the holes and no two in one.
-fn pigeons(rt: &impl Abort, alloc: Global, many: i64, holes: i64) -> Result<Formula, Memory> {
-    assert!(rt; 0 < many && many < 100 && 0 < holes && holes < 100);
-    let mut formula = Formula::new(alloc, (many * holes) as u64);
-    for pigeon in 0..many {
-        let mut clause = Vec::new(alloc);
-        for hole in 0..holes {
-            clause.push(pigeon * holes + hole + 1)?;
-        }
-        assert!(rt; are_literals(&clause, formula.vars()));
-        formula.push(&clause)?;
-        for other in 0..pigeon {
-            for hole in 0..holes {
-                let pair = [-(pigeon * holes + hole + 1), -(other * holes + hole + 1)];
-                assert!(rt; are_literals(&pair, formula.vars()));
-                formula.push(&pair)?;
-            }
-        }
-    }
-    Ok(formula)
-}
-
-#[test]
-fn refutes_pigeons(rt: HostRuntime) -> Result<(), Fail> {
-    for (many, holes) in [(3, 2), (4, 3)] {
-        let formula = pigeons(&rt, rt.alloc(), many, holes)?;
-        let found = answer(rt.alloc(), &formula, 200000)?;
-        println!(rt; "{many} in {holes}: {found}")?;
-        assert!(rt; found.as_str().starts_with("refuted"));
+        assert!(rt; found.as_str().starts_with(wanted), "at {numbers:?}: {found}");
     }
     Ok(())
 }
