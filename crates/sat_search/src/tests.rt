@@ -1,4 +1,4 @@
-ghost use Rattle.std.specs.Prelude.{◌<◌};
+ghost use Rattle.std.specs.Prelude.{◌<◌, ◌^◌};
 ghost use Rattle.sat_search.specs.Found.{AreAdded};
 
 use crate::found::Found;
@@ -39,7 +39,8 @@ fn all_true(values: &List<bool>, formula: &Formula) -> bool {
 }
 
 fn is_refuted(alloc: Global, formula: &Formula, steps: &List<Step>) -> bool
-    requires { AreAdded formula.now.vars steps.now }
+    requires small { formula.now.vars < 2 ^ 63 }
+    requires added { AreAdded formula.now.vars steps.now }
 {
     verify(alloc, formula, steps.as_slice()).is_ok()
 }
@@ -48,9 +49,11 @@ fn is_refuted(alloc: Global, formula: &Formula, steps: &List<Step>) -> bool
 fn answer(alloc: Global, formula: &Formula, budget: u64) -> Result<String, Fail>
     requires { 0 < budget }
 {
+    let vars = formula.vars();
     match solve(alloc, formula, budget)? {
         Found::Model(values) => {
-            let word = if all_true(&values, formula) {
+            let holds = values.len() as u64 == vars && all_true(&values, formula);
+            let word = if holds {
                 "model"
             } else {
                 "wrong"
