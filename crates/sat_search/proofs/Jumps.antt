@@ -1,19 +1,17 @@
 -- Levels are taken off a trail until a learnt clause can join the others.
-use Rattle.std.proofs.Common.{◌≡◌, ℕ, zero, suc, ◌<◌, ◌≤◌, Bool, true, false, not, cond, ◌&&◌, ◌||◌, List, [], ◌∷◌, ◌++◌, ℤ, neg_ℤ, length, Option, Some, None, refl, ap, sym, subst, ◌∙◌, ◌⊎◌, inl, inr, arith}
+use Rattle.std.proofs.Common.{◌≡◌, ℕ, zero, suc, ◌<◌, ◌≤◌, true, false, not, cond, ◌&&◌, ◌||◌, List, [], ◌∷◌, ◌++◌, ℤ, neg_ℤ, length, Option, Some, None, refl, ap, sym, ◌∙◌, inl, inr, arith}
 use Rattle.std.specs.Prelude.{slice_get}
-use Rattle.std.specs.List.{list_any, list_all}
 use Rattle.std.specs.Ordering.{int_eq}
-use Rattle.std.proofs.lemmas.Bool.{true≢false, false≢true, cases_Bool, and_from, and_parts, and_cases, cond-true, cond-false, not_from_false, false_from_ne_true}
+use Rattle.std.proofs.lemmas.Bool.{true≢false, false≢true, cases_Bool, and_from, and_parts, cond-true, cond-false, not_from_false, false_from_ne_true}
 use Rattle.lrat_check.specs.declared.reading.Reading.{Reading}
 use Rattle.lrat_check.specs.declared.reading.Reading.TheVariants as read
 use Rattle.lrat_check.specs.Sets.{has, is_false, first_open, other_open, reading_of, reading}
 use Rattle.lrat_check.specs.Resolved.{is_open}
-use Rattle.sat_search.specs.declared.trail.Entry.{Entry}
-use Rattle.sat_search.specs.Trail.{Entries, lits, decides, is_decision, decided, below_at, below, settled, Because, Stands, Stand}
-use Rattle.sat_search.specs.Analysis.{NoneTrue, AllFalse, Within, is_unit}
-use Rattle.sat_search.proofs.Members.{same_is, or_cases, has_tail, any_from, any_has, any_none}
-use Rattle.sat_search.proofs.Readings.{Alone, Two, unit_to, false_to, open_to}
-use Rattle.sat_search.proofs.Levels.{below_within, settled_below}
+use Rattle.sat_search.specs.Trail.{Entries, lits, decides, is_decision, decided, below_at, below, settled, Because, Stand}
+use Rattle.sat_search.specs.Analysis.{NoneTrue, Within, is_unit}
+use Rattle.sat_search.proofs.Members.{same_is, or_cases, has_tail, any_from, any_none}
+use Rattle.sat_search.proofs.Readings.{Two, unit_to, false_to, open_to}
+use Rattle.sat_search.proofs.Levels.{below_within}
 use Rattle.sat_search.proofs.News.{unit_is, true_has}
 
 some_none : (l : ℤ) → Some l ≡ None → ⊥

@@ -1,12 +1,10 @@
 -- Literals that name variables, and what a set says of a variable.
-use Rattle.std.proofs.Common.{◌≡◌, ℕ, zero, suc, ◌+◌, ◌-◌, ◌^◌, ◌<◌, ◌≤◌, Bool, true, false, not, ◌&&◌, ◌||◌, List, [], ◌∷◌, ◌++◌, ℤ, pos, negsuc, neg_ℤ, Option, Some, None, refl, ap, sym, subst, ◌∙◌, ◌⊎◌, inl, inr, arith}
+use Rattle.std.proofs.Common.{◌≡◌, ℕ, zero, suc, ◌+◌, ◌^◌, ◌<◌, ◌≤◌, true, List, [], ◌∷◌, ◌++◌, ℤ, pos, negsuc, neg_ℤ, Some, None, refl, ap, sym, subst, inl, inr, arith}
 use Rattle.std.specs.Prelude.{unsigned_abs, slice_get}
-use Rattle.std.specs.List.{list_any, list_all, AllByRecursion}
 use Rattle.std.specs.Ordering.{int_eq}
-use Rattle.std.proofs.lemmas.Bool.{false≢true, or_from}
+use Rattle.std.proofs.lemmas.Bool.{false≢true}
 use Rattle.cnf_form.specs.Cnf.{IsLiteral, AreLiterals, AreClauses}
-use Rattle.lrat_check.specs.Sets.{has, is_false, IsLit, AreLits}
-use Rattle.sat_search.specs.Trail.{is_assigned, AllAssigned}
+use Rattle.lrat_check.specs.Sets.{has, IsLit, AreLits}
 use Rattle.sat_search.specs.Propagation.{AllLits}
 use Rattle.sat_search.proofs.Members.{same_is, or_cases, has_head, has_tail}
 

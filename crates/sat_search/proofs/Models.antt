@@ -1,6 +1,5 @@
 -- Where all clauses are settled and each variable has a value, the trail's values make the clauses true.
-use Rattle.std.proofs.Common.{◌≡◌, ℕ, zero, suc, ◌+◌, ◌-◌, ◌<◌, ◌≤◌, Bool, true, false, not, ◌&&◌, ◌||◌, List, [], ◌∷◌, ◌++◌, ℤ, pos, negsuc, neg_ℤ, length, get_or, refl, ap, sym, subst, ◌∙◌, ◌⊎◌, inl, inr, length-append, arith}
-use Rattle.std.specs.List.{list_any, list_all}
+use Rattle.std.proofs.Common.{◌≡◌, ℕ, zero, suc, ◌+◌, ◌-◌, ◌<◌, true, false, List, [], ◌∷◌, ◌++◌, ℤ, pos, negsuc, neg_ℤ, length, get_or, refl, ap, sym, ◌∙◌, inl, inr, length-append, arith}
 use Rattle.std.proofs.Math.Seq.{get_or-append_seam}
 use Rattle.std.proofs.lemmas.List.{get_or_append_left}
 use Rattle.std.proofs.lemmas.List.Folds.{list_all-append}
@@ -12,7 +11,7 @@ use Rattle.lrat_check.specs.Sets.{has, is_false, reading}
 use Rattle.lrat_check.specs.Resolved.{is_open}
 use Rattle.sat_search.specs.Trail.{Entries, lits, settled, Stand, AllAssigned, values_of}
 use Rattle.sat_search.proofs.Members.{any_from}
-use Rattle.sat_search.proofs.Readings.{Two, open_to}
+use Rattle.sat_search.proofs.Readings.{open_to}
 use Rattle.sat_search.proofs.Tracing.{no_pair}
 use Rattle.sat_search.proofs.News.{true_has}
 use Rattle.sat_search.proofs.Literals.{literal_at, by_variable, neg_next}

@@ -1,18 +1,18 @@
 -- What a learnt clause is: the resolvent of its hints, one that strengthens unit propagation, and new as a set.
-use Rattle.std.proofs.Common.{◌≡◌, ℕ, zero, suc, Bool, true, false, not, cond, ◌&&◌, ◌||◌, List, [], ◌∷◌, ℤ, neg_ℤ, Option, Some, None, refl, ap, sym, ◌∙◌, ◌⊎◌, inl, inr, arith}
+use Rattle.std.proofs.Common.{◌≡◌, ℕ, zero, suc, Bool, true, false, not, cond, List, [], ◌∷◌, ℤ, neg_ℤ, Option, Some, None, refl, ap, sym, ◌∙◌, inl, inr}
 use Rattle.std.specs.Prelude.{slice_get}
 use Rattle.std.specs.List.{list_any, list_all}
 use Rattle.std.specs.Ordering.{int_eq}
-use Rattle.std.proofs.lemmas.Bool.{false≢true, cases_Bool, and_from, and_parts, and_left, and_right, or_from, not_from_false, not_from_true, false_from_ne_true}
+use Rattle.std.proofs.lemmas.Bool.{false≢true, cases_Bool, and_from, and_parts, and_right, or_from, not_from_false, not_from_true, false_from_ne_true}
 use Rattle.lrat_check.specs.declared.reading.Reading.{Reading}
 use Rattle.lrat_check.specs.declared.reading.Reading.TheVariants as read
 use Rattle.lrat_check.specs.Sets.{has, is_false, within, same_set, without, negs, first_open, other_open, reading_of, reading}
 use Rattle.lrat_check.specs.Steps.{Held, numbered}
-use Rattle.lrat_check.specs.Resolved.{resolvent, IsResolvent, is_open, Closed, Strengthens}
+use Rattle.lrat_check.specs.Resolved.{IsResolvent, is_open, Closed, Strengthens}
 use Rattle.sat_search.specs.Trail.{Entries, lits, decided, below, settled}
-use Rattle.sat_search.specs.Analysis.{NoneTrue, AllFalse, Within, Derives, is_unit}
+use Rattle.sat_search.specs.Analysis.{AllFalse, Within, Derives, is_unit}
 use Rattle.sat_search.proofs.Members.{same_is, same_self, neg_neg, or_left, or_right, or_cases, has_head, has_tail, any_has, without_has, without_from}
-use Rattle.sat_search.proofs.Readings.{Alone, Two, unit_to, open_to}
+use Rattle.sat_search.proofs.Readings.{unit_to, open_to}
 use Rattle.sat_search.proofs.Tracing.{no_pair}
 use Rattle.sat_search.proofs.Levels.{below_within, settled_at, settled_below}
 

@@ -1,6 +1,5 @@
 -- What falls with each round: a variable gets its value, or one clause fewer is left to be learnt.
-use Rattle.std.proofs.Common.{◌≡◌, ℕ, zero, suc, ◌+◌, ◌*◌, ◌<◌, ◌≤◌, Bool, true, false, not, cond, ◌||◌, List, [], ◌∷◌, ℤ, pos, negsuc, neg_ℤ, refl, ap, sym, subst, ◌∙◌, ◌⊎◌, inl, inr, arith}
-use Rattle.std.specs.List.{list_any}
+use Rattle.std.proofs.Common.{◌≡◌, ℕ, zero, suc, ◌+◌, ◌<◌, ◌≤◌, Bool, true, false, cond, List, ◌∷◌, ℤ, pos, negsuc, neg_ℤ, refl, ap, sym, subst, ◌∙◌, inl, inr, arith}
 use Rattle.std.proofs.lemmas.Bool.{false≢true, cases_eq, or_from}
 use Rattle.cnf_form.specs.Cnf.{IsLiteral}
 use Rattle.lrat_check.specs.Sets.{has, is_false}

@@ -1,30 +1,28 @@
 -- What the search keeps, from one round to the next.
-use Rattle.std.proofs.Common.{◌≡◌, ℕ, zero, suc, ◌+◌, ◌*◌, ◌-◌, ◌^◌, ◌<◌, ◌≤◌, Bool, true, false, not, cond, leb, ◌&&◌, ◌||◌, List, [], ◌∷◌, ◌++◌, ℤ, pos, negsuc, neg_ℤ, length, filter, Option, Some, None, refl, ap, sym, subst, ◌∙◌, ◌⊎◌, inl, inr, append_assoc, length-append, arith}
-use Rattle.std.specs.Prelude.{slice_get, unsigned_abs, Result, Ok, Err}
+use Rattle.std.proofs.Common.{◌≡◌, ℕ, suc, ◌+◌, ◌-◌, ◌^◌, ◌<◌, ◌≤◌, Bool, true, false, not, cond, leb, List, [], ◌∷◌, ◌++◌, ℤ, neg_ℤ, length, Option, Some, None, refl, ap, sym, subst, ◌∙◌, append_assoc, length-append, arith}
+use Rattle.std.specs.Prelude.{unsigned_abs}
 use Rattle.std.specs.List.{list_any, list_all}
 use Rattle.std.proofs.lemmas.List.{append-nil}
 use Rattle.std.proofs.lemmas.List.Elements.{filter-append}
-use Rattle.std.proofs.lemmas.Bool.{false≢true, cases_Bool, and_from, and_parts, cond-true, cond-false, or_from, or_parts, not_from_false, false_from_ne_true, lt-leb}
-use Rattle.cnf_form.specs.Cnf.{IsLiteral, AreLiterals, AreClauses, formula_true, value_of}
+use Rattle.std.proofs.lemmas.Bool.{false≢true, and_from, and_parts, cond-false, or_parts, not_from_false, false_from_ne_true, lt-leb}
+use Rattle.cnf_form.specs.Cnf.{IsLiteral, AreLiterals, AreClauses}
 use Rattle.lrat_check.specs.declared.reading.Reading.{Reading}
 use Rattle.lrat_check.specs.declared.reading.Reading.TheVariants as read
 use Rattle.lrat_check.specs.declared.step.Step.{Step}
-use Rattle.lrat_check.specs.declared.step.Step.TheVariants.{Add, Delete}
-use Rattle.lrat_check.specs.declared.step.StepFault.{StepFault}
+use Rattle.lrat_check.specs.declared.step.Step.TheVariants.{Add}
 use Rattle.lrat_check.specs.declared.step.StepFault.TheVariants as fault
-use Rattle.lrat_check.specs.Sets.{has, is_false, same_set, without, union, negs, reading, IsLit}
-use Rattle.lrat_check.specs.Steps.{Held, numbered, with_clause, is_negative, is_empty, walk, add_fault, verdict, judged, Refutes, Valid}
+use Rattle.lrat_check.specs.Sets.{has, is_false, same_set, negs, reading}
+use Rattle.lrat_check.specs.Steps.{Held, numbered, is_negative, is_empty, walk, add_fault, verdict, judged, Refutes, Valid}
 use Rattle.lrat_check.specs.Resolved.{resolvent, IsResolvent, Strengthens, AllResolved, Resolved, derived_from, derived, consistent}
 use Rattle.lrat_check.proofs.Stores.{numbered_more}
 use Rattle.lrat_check.proofs.Sound.{verdict_adds, verdict_empty}
 use Rattle.sat_search.specs.declared.trail.Entry.{Entry}
-use Rattle.sat_search.specs.Trail.{Entries, lits, settled, is_decision, decided, below, Stands, Stand, is_assigned, AllAssigned, IsOpenVar, values_of}
-use Rattle.sat_search.specs.Analysis.{AllFalse, Within, Derives, Level, IsConflict, is_unit}
+use Rattle.sat_search.specs.Trail.{Entries, lits, below, Stands, Stand}
+use Rattle.sat_search.specs.Analysis.{AllFalse, Within, Derives, Level, is_unit}
 use Rattle.sat_search.specs.Learning.{Learns}
 use Rattle.sat_search.specs.Found.{nonempty, AreAdded}
-use Rattle.sat_search.specs.Searching.{open_vars, Apart, Searching, rounds}
-use Rattle.sat_search.proofs.Members.{same_is, same_self, or_left, or_right, has_head, has_tail}
-use Rattle.sat_search.proofs.Readings.{Alone, unit_to}
+use Rattle.sat_search.specs.Searching.{Searching}
+use Rattle.sat_search.proofs.Readings.{unit_to}
 use Rattle.sat_search.proofs.Tracing.{no_pair}
 use Rattle.sat_search.proofs.News.{all_from, unit_is, is_resolvent, strengthens, is_new}
 use Rattle.sat_search.proofs.Literals.{literal_at, literals_from, neg_literal, clauses_more, clauses_behind}

@@ -1,15 +1,14 @@
 -- What each round of the search owes to the calls that it makes.
-use Rattle.std.proofs.Common.{◌≡◌, ℕ, zero, suc, ◌+◌, ◌-◌, ◌^◌, ◌<◌, ◌≤◌, Bool, true, false, ◌||◌, List, [], ◌∷◌, ◌++◌, ℤ, pos, neg_ℤ, length, Option, Some, None, refl, ap, sym, subst, ◌∙◌, w64, to_z, of_z, arith}
-use Rattle.std.specs.Prelude.{slice_get, unsigned_abs}
+use Rattle.std.proofs.Common.{◌≡◌, ℕ, ◌+◌, ◌^◌, ◌<◌, true, false, List, ◌∷◌, ℤ, pos, Some, None, ap, sym, subst, ◌∙◌, w64, to_z, of_z, arith}
+use Rattle.std.specs.Prelude.{slice_get}
 use Rattle.std.proofs.lemmas.Bool.{or_parts}
 use Rattle.std.proofs.lemmas.Int.{to_z-of_z, fits_signed_from_abs}
-use Rattle.cnf_form.specs.Cnf.{IsLiteral, AreLiterals, AreClauses}
-use Rattle.lrat_check.specs.declared.reading.Reading.TheVariants as read
+use Rattle.cnf_form.specs.Cnf.{IsLiteral}
 use Rattle.lrat_check.specs.declared.step.Step.{Step}
-use Rattle.lrat_check.specs.Sets.{has, is_false, reading, IsLit}
+use Rattle.lrat_check.specs.Sets.{has, is_false}
 use Rattle.sat_search.specs.declared.trail.Entry.{Entry}
 use Rattle.sat_search.specs.declared.propagation.Scan.TheVariants as scan
-use Rattle.sat_search.specs.Trail.{Entries, lits, settled, Stands, Stand, is_assigned, IsOpenVar}
+use Rattle.sat_search.specs.Trail.{Entries, lits, settled, Stand, IsOpenVar}
 use Rattle.sat_search.specs.Propagation.{AllLits, Sees}
 use Rattle.sat_search.specs.Analysis.{IsConflict}
 use Rattle.sat_search.specs.Searching.{Searching, rounds}

@@ -5,7 +5,7 @@ use Rattle.std.specs.List.{list_all}
 use Rattle.cnf_form.specs.Cnf.{AreLiterals, AreClauses}
 use Rattle.lrat_check.specs.declared.step.Step.{Step}
 use Rattle.lrat_check.specs.Sets.{has, is_false}
-use Rattle.lrat_check.specs.Steps.{numbered, verdict, judged, is_empty}
+use Rattle.lrat_check.specs.Steps.{judged, is_empty}
 use Rattle.lrat_check.specs.Resolved.{Resolved, derived_from, consistent}
 use Rattle.sat_search.specs.Trail.{Entries, lits, Stand, is_assigned}
 use Rattle.sat_search.specs.Found.{AreAdded}

@@ -53,11 +53,7 @@ fn answer(alloc: Global, formula: &Formula, budget: u64) -> Result<String, Fail>
     match solve(alloc, formula, budget)? {
         Found::Model(values) => {
             let holds = values.len() as u64 == vars && all_true(&values, formula);
-            let word = if holds {
-                "model"
-            } else {
-                "wrong"
-            };
+            let word = if holds { "model" } else { "wrong" };
             Ok(format!(in alloc; "{word}")?)
         }
         Found::Refuted(steps) => {
@@ -79,8 +75,9 @@ fn answer(alloc: Global, formula: &Formula, budget: u64) -> Result<String, Fail>
 #[test]
 fn answers(rt: HostRuntime) -> Result<(), Fail> {
     let four: &[i64] = &[1, 2, 0, 1, -2, 0, -1, 2, 0, -1, -2];
-    let pigeons: &[i64] =
-        &[1, 2, 0, 3, 4, 0, 5, 6, 0, -1, -3, 0, -1, -5, 0, -3, -5, 0, -2, -4, 0, -2, -6, 0, -4, -6];
+    let pigeons: &[i64] = &[
+        1, 2, 0, 3, 4, 0, 5, 6, 0, -1, -3, 0, -1, -5, 0, -3, -5, 0, -2, -4, 0, -2, -6, 0, -4, -6,
+    ];
     let rows: [(u64, &[i64], u64, &str); 7] = [
         (6, pigeons, 99, "refuted"),
         (2, four, 1, "spent 1"),
@@ -94,7 +91,10 @@ fn answers(rt: HostRuntime) -> Result<(), Fail> {
         let formula = formula_of(&rt, rt.alloc(), vars, numbers)?;
         assert!(rt; 0 < budget);
         let found = answer(rt.alloc(), &formula, budget)?;
-        assert!(rt; found.as_str().starts_with(wanted), "at {numbers:?}: {found}");
+        assert!(rt;
+            found.as_str().starts_with(wanted),
+            "at {numbers:?}: {found}"
+        );
     }
     Ok(())
 }

@@ -1,4 +1,4 @@
-use Rattle.std.proofs.Common.{◌≡◌, true, false, ap, sym, ◌∙◌, subst, length, ◌<◌}
+use Rattle.std.proofs.Common.{◌≡◌, true, ap, sym, ◌∙◌, subst, length, ◌<◌}
 use Rattle.std.proofs.lemmas.Bool.{true≢false}
 use Rattle.lrat_check.specs.Sets.{reading}
 use Rattle.sat_search.specs.Trail.{Entries, lits, Stand}

@@ -1,7 +1,6 @@
-use Rattle.std.proofs.Common.{◌≡◌, ℕ, true, List, ℤ, ◌+◌, ◌-◌, ◌^◌, ◌<◌, ◌∷◌, [], ◌++◌, length, reverse, ap, sym, ◌∙◌, subst, arith}
-use Rattle.sat_search.specs.Trail.{Entries, lits, Stand}
+use Rattle.std.proofs.Common.{List, ℤ, ◌+◌, ◌-◌, ◌^◌, ◌<◌, ◌∷◌, [], ◌++◌, length, reverse, subst, arith}
+use Rattle.sat_search.specs.Trail.{Stand}
 use Rattle.sat_search.specs.Analysis.{Derives}
-use Rattle.sat_search.proofs.Rounds.{value_falls, clause_falls}
 use Rattle.sat_search.proofs.Searches.{learns_on}
 use Rattle.sat_search.proofs.learning.learn.Goals as goal
 

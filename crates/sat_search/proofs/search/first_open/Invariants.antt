@@ -1,4 +1,3 @@
-use Rattle.std.proofs.Common.{◌≡◌}
 use Rattle.sat_search.specs.Trail.{lits, AllAssigned}
 use Rattle.sat_search.proofs.search.first_open.Given as goal
 

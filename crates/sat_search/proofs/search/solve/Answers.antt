@@ -1,4 +1,4 @@
-use Rattle.std.proofs.Common.{◌≡◌, ℕ, true, List, ℤ, ◌+◌, ◌-◌, ◌^◌, ◌<◌, ◌∷◌, [], ◌++◌, length, reverse, ap, sym, ◌∙◌, subst, refl, arith}
+use Rattle.std.proofs.Common.{ℕ, List, ℤ, ◌+◌, ◌-◌, ◌^◌, ◌<◌, [], length, reverse, ap, sym, ◌∙◌, subst, refl, arith}
 use Rattle.cnf_form.specs.Cnf.{AreClauses, formula_true, value_of}
 use Rattle.lrat_check.specs.declared.step.Step.{Step}
 use Rattle.sat_search.specs.Trail.{Entries, lits, AllAssigned, IsOpenVar, settled, values_of}
@@ -7,7 +7,7 @@ use Rattle.sat_search.specs.Searching.{Searching}
 use Rattle.sat_search.proofs.Models.{length_values, models}
 use Rattle.sat_search.proofs.Rounds.{clause_falls}
 use Rattle.sat_search.proofs.Searches.{begins, learnt_on, valid_now, added_now, derived_now, bound_now, refutes_now, fewer_now}
-use Rattle.sat_search.proofs.Solves.{seen_lits, conflict_at, unit_free, unit_on, unit_falls, var_free, decision_on, decision_falls}
+use Rattle.sat_search.proofs.Solves.{seen_lits, conflict_at, unit_free, unit_on, unit_falls, decision_falls}
 use Rattle.sat_search.proofs.search.solve.Goals as goal
 
 pub loop-place-init : goal.loop-place-init
