@@ -15,6 +15,7 @@ abbrev pub open_vars : ℕ → List ℤ → ℕ
 open_vars zero set = 0
 open_vars (suc n) set = cond (is_assigned set (n + 1)) 0 1 + open_vars n set
 
+-- both or neither
 abbrev pub agrees : Bool → Bool → Bool
 agrees true other = other
 agrees false other = not other
