@@ -17,8 +17,8 @@ use std::alloc::Global;
 /// Values that make the formula true, or steps that refute it, or, where that takes more learnt clauses than the budget,
 /// the steps that learn so many.
 ///
-/// The budget is a number of learnt clauses; from 3 to the number of variables on it is never used up. The only error is
-/// want of memory, to which more than `MOST_CLAUSES` clauses belong.
+/// The budget is a number of learnt clauses, the empty one aside. With `vars` variables a budget of `3^vars` is never used up.
+/// The only error is want of memory, also where there are `MOST_CLAUSES` clauses or more.
 pub fn solve(alloc: Global, formula: &Formula, budget: u64) -> Result<Found, Memory>
     requires { 0 < budget }
     ensures len { IfOk result (λ found. IfModel found (λ values. length values ≡ formula.now.vars)) }
