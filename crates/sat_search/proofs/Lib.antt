@@ -13,4 +13,5 @@ pub mod Rounds
 pub mod Searches
 pub mod Solves
 pub mod Starts
+pub mod Surveys
 pub mod Tracing

@@ -39,12 +39,16 @@ pub fn solve(alloc: Global, formula: &Formula, budget: u64) -> Result<Found, Mem
     let mut trail = Trail::new(alloc);
     let mut steps = List::new(alloc);
     let mut left = budget;
+    let mut start = 0;
     loop {
-        match survey(clauses.as_slice(), &trail) {
-            Scan::Unit(place, lit) => trail.push(Entry {
-                lit,
-                reason: Some(place),
-            })?,
+        match survey(clauses.as_slice(), &trail, start) {
+            Scan::Unit(place, lit) => {
+                start = place;
+                trail.push(Entry {
+                    lit,
+                    reason: Some(place),
+                })?
+            }
             Scan::Settled => match first_open(vars, &trail) {
                 None => return Ok(Found::Model(values(alloc, vars, &trail)?)),
                 Some(var) => trail.push(Entry {
@@ -60,6 +64,7 @@ pub fn solve(alloc: Global, formula: &Formula, budget: u64) -> Result<Found, Mem
                 }
                 learn(alloc, &mut clauses, &mut trail, &mut steps, place)?;
                 left -= 1;
+                start = clauses.len() - 1;
                 if left == 0 {
                     return Ok(Found::Spent(steps));
                 }
