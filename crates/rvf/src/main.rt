@@ -1,9 +1,9 @@
 //! The program: the words of its command line, the system's files and standard output, and the exit code.
 #![tactic(auto)]
 
-ghost use Rattle.std.specs.Prelude.{map, string_bytes, [], IfOk, IfErr};
+ghost use Rattle.std.specs.Prelude.{◌≡◌, map, string_bytes, [], IfOk, IfErr};
 ghost use Rattle.std.specs.Process.{exit_status};
-ghost use Rattle.fv_base.specs.Outside.{SameFiles};
+ghost use Rattle.rvf_core.specs.Status.{code_of};
 ghost use Rattle.rvf.specs.Exit.{Exits};
 
 use fv_base::{Files, Out, RealFiles, RealOut};
@@ -36,43 +36,29 @@ fn exit<R: Threads + Sync, F: Files, O: Out>(
 ) -> ExitCode
     ensures answer { IfOk words (λ words. Exits (exit_status result) (record {
       words = map string_bytes words.items;
-      seen = record {
-        held = F.held files.old;
-        misses = F.misses files.old;
-        misses_now = F.misses files.new;
-        faults = F.faults files.old;
-        faults_now = F.faults files.new;
-      };
-      sent = O.sent out.old;
-      sent_now = O.sent out.new;
-      out_faults = O.faults out.old;
-      out_faults_now = O.faults out.new;
+      before = record { held = F.held files.old; misses = F.misses files.old; faults = F.faults files.old; sent = O.sent out.old; out_faults = O.faults out.old };
+      now = record { held = F.held files.new; misses = F.misses files.new; faults = F.faults files.new; sent = O.sent out.new; out_faults = O.faults out.new };
     })) }
 
     // Words that can't be had are no words of a command.
     ensures unread { IfErr words (λ fault. Exits (exit_status result) (record {
       words = [];
-      seen = record {
-        held = F.held files.old;
-        misses = F.misses files.old;
-        misses_now = F.misses files.new;
-        faults = F.faults files.old;
-        faults_now = F.faults files.new;
-      };
-      sent = O.sent out.old;
-      sent_now = O.sent out.new;
-      out_faults = O.faults out.old;
-      out_faults_now = O.faults out.new;
+      before = record { held = F.held files.old; misses = F.misses files.old; faults = F.faults files.old; sent = O.sent out.old; out_faults = O.faults out.old };
+      now = record { held = F.held files.new; misses = F.misses files.new; faults = F.faults files.new; sent = O.sent out.new; out_faults = O.faults out.new };
     })) }
-
-    ensures unwritten { SameFiles (F.held files.old) (F.held files.new) }
 {
-    let status = match words {
-        Ok(words) => run(rt, alloc, words.as_slice(), files, out),
-        Err(fault) if fault.kind() == io::ErrorKind::OutOfMemory => Status::Memory,
+    match words {
+        Ok(words) => coded(run(rt, alloc, words.as_slice(), files, out)),
+        Err(fault) if fault.kind() == io::ErrorKind::OutOfMemory => coded(Status::Memory),
         // A word that isn't UTF-8 is no word of any command.
-        Err(_) => run(rt, alloc, &[], files, out),
-    };
+        Err(_) => coded(run(rt, alloc, &[], files, out)),
+    }
+}
+
+/// The exit code of the status.
+fn coded(status: Status) -> ExitCode
+    ensures { exit_status result ≡ code_of status }
+{
     ExitCode::from(status.code())
 }
 

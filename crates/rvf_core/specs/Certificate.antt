@@ -14,7 +14,8 @@ use Rattle.lrat_check.specs.declared.step.StepFault.{StepFault}
 use Rattle.lrat_check.specs.declared.step.StepFault.TheVariants as step
 use Rattle.lrat_check.specs.declared.step.Refuted.{Refuted}
 use Rattle.lrat_check.specs.declared.step.Step.{Step}
-use Rattle.rvf_core.specs.declared.finding.Finding.{Finding}
+use Rattle.rvf_core.specs.Lines.{one_line}
+use Rattle.rvf_core.specs.declared.report.Report.{Report}
 use Rattle.rvf_core.specs.declared.status.Status.TheVariants as s
 
 -- words parted by blanks, and the end of the line
@@ -73,22 +74,22 @@ step_line fault = three_values (codes "refused step") (step_number fault) (step_
 abbrev pub refuted_line : ℕ → List ℕ
 refuted_line id = spaced (codes "refuted") (decimal id ++ (10 ∷ []))
 
-abbrev pub refused : List ℕ → Finding
-refused line = record { status = s.Refused; line = line }
+abbrev pub refused : List ℕ → Report
+refused line = one_line s.Refused line
 
-abbrev pub judgement : Result Refuted StepFault → Finding
-judgement (Ok refuted) = record { status = s.Passed; line = refuted_line refuted.id }
+abbrev pub judgement : Result Refuted StepFault → Report
+judgement (Ok refuted) = one_line s.Passed (refuted_line refuted.id)
 judgement (Err fault) = refused (step_line fault)
 
 -- over the clauses of the first file the proof is read, and then its steps are checked
-abbrev pub steps_finding : List (List ℤ) → Result (List Step) LratFault → Finding
-steps_finding clauses (Err fault) = refused (lrat_line fault)
-steps_finding clauses (Ok steps) = judgement (judged clauses steps)
+abbrev pub proof_report : List (List ℤ) → Result (List Step) LratFault → Report
+proof_report clauses (Err fault) = refused (lrat_line fault)
+proof_report clauses (Ok steps) = judgement (judged clauses steps)
 
-abbrev pub formula_finding : Result Cnf DimacsFault → List ℕ → Finding
-formula_finding (Err fault) proof = refused (cnf_line fault)
-formula_finding (Ok formula) proof = steps_finding formula.clauses (steps_of proof)
+abbrev pub formula_report : Result Cnf DimacsFault → List ℕ → Report
+formula_report (Err fault) proof = refused (cnf_line fault)
+formula_report (Ok formula) proof = proof_report formula.clauses (steps_of proof)
 
 -- the status and the line of the first refusal in this order, or that the steps refute
-abbrev pub outcome : List ℕ → List ℕ → Finding
-outcome cnf proof = formula_finding (formula_of cnf) proof
+abbrev pub outcome : List ℕ → List ℕ → Report
+outcome cnf proof = formula_report (formula_of cnf) proof
