@@ -1,0 +1,18 @@
+-- The immediates of a word, bit by bit: manual, section 2.3, 'Immediate Encoding Variants'.
+use Rattle.std.specs.Prelude.{ℕ, ◌+◌}
+use Rattle.rv_table.specs.Fields.{field, moved, sign_extended}
+
+unfoldable pub i_immediate : ℕ → ℕ
+i_immediate w = sign_extended 12 (field 31 20 w)
+
+unfoldable pub s_immediate : ℕ → ℕ
+s_immediate w = sign_extended 12 (moved 31 25 5 w + field 11 7 w)
+
+unfoldable pub b_immediate : ℕ → ℕ
+b_immediate w = sign_extended 13 (moved 31 31 12 w + moved 7 7 11 w + moved 30 25 5 w + moved 11 8 1 w)
+
+unfoldable pub u_immediate : ℕ → ℕ
+u_immediate w = moved 31 12 12 w
+
+unfoldable pub j_immediate : ℕ → ℕ
+j_immediate w = sign_extended 21 (moved 31 31 20 w + moved 19 12 12 w + moved 20 20 11 w + moved 30 21 1 w)
