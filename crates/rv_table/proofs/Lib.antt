@@ -5,3 +5,5 @@ pub mod Places
 pub mod Unique
 pub mod Lawful
 pub mod EffectLemmas
+pub mod Expansions
+pub mod LawLemmas

@@ -2,6 +2,7 @@
 use Rattle.std.proofs.Common.{subst, suc, zero, cond, find, IfSome, IfNone, ◌≡◌, ℕ, ◌+◌, ◌/◌, ◌%◌, ◌^◌, Bool, true, false, not, ◌&&◌, ◌||◌, ◌==◌, nat_eq, List, [], ◌∷◌, ◌++◌, Option, Some, None, slice_get, refl, sym, ◌∙◌, ap, arith}
 use Rattle.std.proofs.lemmas.Grind.{common_steps}
 use Rattle.std.specs.List.{list_all, list_any}
+use Rattle.rv_table.specs.declared.row.BaseRow.TheVariants.{Lui, Auipc, Jal, Jalr, Branch, Load, Store, Immediate, Register, Multiply}
 use Rattle.rv_table.specs.declared.row.RowId.{RowId}
 use Rattle.rv_table.specs.declared.row.RowId.TheVariants.{Base, Compressed}
 use Rattle.rv_table.specs.Fields.{field}
@@ -9,7 +10,7 @@ use Rattle.rv_table.specs.Rows.{base_row}
 use Rattle.rv_table.specs.Compressed.{Demand, is, isnt, some_of_six, meets}
 use Rattle.std.proofs.lemmas.Bool.{false_from_ne_true}
 use Rattle.rv_table.specs.declared.retire.Isa.{Isa}
-use Rattle.rv_table.specs.Matching.{demands, matches, has, rows, number}
+use Rattle.rv_table.specs.Matching.{demands, matches, has, is_of_m, is_of_c, rows, number}
 use Rattle.rv_table.proofs.Places.{row_at}
 use Rattle.rv_table.proofs.AssembledLemmas.{first_true, second_true}
 
@@ -167,5 +168,30 @@ row_none isa w None e = λ row held.
     false_from_ne_true (matches row w) (λ match.
         find_finds (fits isa w) rows (number row) row (row_at row) (both_true _ _ held match) (sym e))
 row_none isa w (Some other) e = tt
+
+no_m : (isa : Isa) (row : RowId) → has isa row ≡ true → isa.m ≡ false → is_of_m row ≡ false
+no_m isa (Base Lui) held without = refl
+no_m isa (Base Auipc) held without = refl
+no_m isa (Base Jal) held without = refl
+no_m isa (Base Jalr) held without = refl
+no_m isa (Base (Branch row)) held without = refl
+no_m isa (Base (Load row)) held without = refl
+no_m isa (Base (Store row)) held without = refl
+no_m isa (Base (Immediate row)) held without = refl
+no_m isa (Base (Register row)) held without = refl
+no_m isa (Base (Multiply row)) held without = cc
+no_m isa (Compressed row) held without = refl
+
+no_c : (isa : Isa) (row : RowId) → has isa row ≡ true → isa.c ≡ false → is_of_c row ≡ false
+no_c isa (Base row) held without = refl
+no_c isa (Compressed row) held without = cc
+
+pub row_without_m : (isa : Isa) (w : ℕ) (o : Option RowId) → o ≡ find (λ row. has isa row && matches row w) rows → IfSome o (λ row. isa.m ≡ false → is_of_m row ≡ false)
+row_without_m isa w None e = tt
+row_without_m isa w (Some row) e = no_m isa row (row_found isa w (Some row) e).0
+
+pub row_without_c : (isa : Isa) (w : ℕ) (o : Option RowId) → o ≡ find (λ row. has isa row && matches row w) rows → IfSome o (λ row. isa.c ≡ false → is_of_c row ≡ false)
+row_without_c isa w None e = tt
+row_without_c isa w (Some row) e = no_c isa row (row_found isa w (Some row) e).0
 
 pub ruleset search = (row_found, row_only, row_none)

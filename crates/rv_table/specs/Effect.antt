@@ -1,5 +1,5 @@
 -- What an instruction does: manual, chapters 2 (RV32I), 7 (M) and 16 (C), on whole numbers.
-use Rattle.std.specs.Prelude.{ℕ, ◌+◌, ◌-◌, ◌*◌, ◌/◌, ◌%◌, ◌^◌, Bool, true, false, not, ◌&&◌, ◌==◌, nat_lt, if◌then◌else◌, pos, ◌*ℤ◌, bit_and, bit_or, bit_xor}
+use Rattle.std.specs.Prelude.{◌≡◌, ℕ, ◌+◌, ◌-◌, ◌*◌, ◌/◌, ◌%◌, ◌^◌, Bool, true, false, not, ◌&&◌, ◌==◌, nat_lt, if◌then◌else◌, pos, ◌*ℤ◌, bit_and, bit_or, bit_xor}
 use Rattle.rv_table.specs.declared.retire.Retire.{Retire}
 use Rattle.rv_table.specs.declared.retire.Opts.{Opts}
 use Rattle.rv_table.specs.declared.retire.Effect.{Effect}
@@ -26,6 +26,7 @@ use Rattle.rv_table.specs.declared.row.RowId.TheVariants.{Base, Compressed}
 use Rattle.rv_table.specs.Fields.{field, sign_extended}
 use Rattle.rv_table.specs.Immediates.{i_immediate, s_immediate, b_immediate, u_immediate, j_immediate}
 use Rattle.rv_table.specs.Rows.{base_row}
+use Rattle.rv_table.specs.Matching.{matches}
 use Rattle.rv_table.specs.Compressed.{compressed_row, operands}
 use Rattle.rv_table.specs.Assembled.{assembled}
 use Rattle.rv_table.specs.Arithmetic.{
@@ -279,6 +280,12 @@ word_effect row w length retire opts = base_effect row (step (base_row row).patt
 -- the word that a half word of the row stands for (chapter 16)
 unfoldable pub expansion : CompressedRow → ℕ → ℕ
 expansion row half = assembled (base_row (compressed_row row).base).pattern (operands row half)
+
+-- a compressed row matches the half word, and this is the word that it stands for
+pub record IsExpansion (half w : ℕ) : Type 0 where
+  pub row : CompressedRow
+  pub match : matches (Compressed row) half ≡ true
+  pub word : w ≡ expansion row half
 
 -- a compressed row has the effect of its expansion, at its own length
 unfoldable pub effect : RowId → Retire → Opts → Effect

@@ -6,3 +6,5 @@ pub mod Compressed
 pub mod Assembled
 pub mod Matching
 pub mod Effect
+pub mod Agree
+pub mod Laws

@@ -1,5 +1,5 @@
 -- When a word matches a row, which rows an architecture has, and their order and names.
-use Rattle.std.specs.Prelude.{ℕ, Bool, true, ◌==◌, List, [], ◌∷◌, ◌++◌, Option, Some, None}
+use Rattle.std.specs.Prelude.{ℕ, Bool, true, false, ◌==◌, List, [], ◌∷◌, ◌++◌, Option, Some, None}
 use Rattle.std.specs.List.{list_all}
 use Rattle.rv_table.specs.declared.retire.Isa.{Isa}
 use Rattle.rv_table.specs.declared.row.BaseRow.{BaseRow}
@@ -91,6 +91,24 @@ has_base isa (Multiply row) = isa.m
 abbrev pub has : Isa → RowId → Bool
 has isa (Base row) = has_base isa row
 has isa (Compressed row) = isa.c
+
+-- the row is one of M, of C
+abbrev pub is_of_m : RowId → Bool
+is_of_m (Base Lui) = false
+is_of_m (Base Auipc) = false
+is_of_m (Base Jal) = false
+is_of_m (Base Jalr) = false
+is_of_m (Base (Branch row)) = false
+is_of_m (Base (Load row)) = false
+is_of_m (Base (Store row)) = false
+is_of_m (Base (Immediate row)) = false
+is_of_m (Base (Register row)) = false
+is_of_m (Base (Multiply row)) = true
+is_of_m (Compressed row) = false
+
+abbrev pub is_of_c : RowId → Bool
+is_of_c (Base row) = false
+is_of_c (Compressed row) = true
 
 abbrev pub name : RowId → List ℕ
 name (Base row) = (base_row row).name

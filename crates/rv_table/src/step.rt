@@ -129,10 +129,10 @@ impl Step {
         }
     }
 
-    fn goes_to(&self, target: u32, effect: Effect) -> Effect
-        ensures { result ≡ effect.goes_to self.now target effect }
+    fn goes_to(&self, target: u32, old: Effect) -> Effect
+        ensures { result ≡ effect.goes_to self.now target old }
     {
-        let mut moved = effect;
+        let mut moved = old;
         moved.pc_wdata = target;
         moved.trap = self.is_misaligned_target(target);
         moved
