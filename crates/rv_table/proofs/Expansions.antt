@@ -66,15 +66,15 @@ meets_funct7 o f s w form e g h = both_true _ _ (of_eq _ _ e) (both_true _ _ (of
 parts_meet_funct3 : (o low f r m h : ℕ) (form : Form) → nat_lt o 128 ≡ true → low < 32 → nat_lt f 8 ≡ true → list_all (meets (of_parts o low f r m h)) (pattern_demands (record { opcode = o; funct3 = Some f; funct7 = None; form = form })) ≡ true
 parts_meet_funct3 o low f r m h form p q s =
     meets_funct3 o f (of_parts o low f r m h) form
-        (opcode_of_parts o low f r m h (below _ _ p))
-        (funct3_of_parts o low f r m h (below _ _ p) q (below _ _ s))
+    (opcode_of_parts o low f r m h (below _ _ p))
+    (funct3_of_parts o low f r m h (below _ _ p) q (below _ _ s))
 
 parts_meet_funct7 : (o low f r m h : ℕ) (form : Form) → nat_lt o 128 ≡ true → low < 32 → nat_lt f 8 ≡ true → r < 32 → m < 32 → nat_lt h 128 ≡ true → list_all (meets (of_parts o low f r m h)) (pattern_demands (record { opcode = o; funct3 = Some f; funct7 = Some h; form = form })) ≡ true
 parts_meet_funct7 o low f r m h form p q s t u v =
     meets_funct7 o f h (of_parts o low f r m h) form
-        (opcode_of_parts o low f r m h (below _ _ p))
-        (funct3_of_parts o low f r m h (below _ _ p) q (below _ _ s))
-        (funct7_of_parts o low f r m h (below _ _ p) q (below _ _ s) t u (below _ _ v))
+    (opcode_of_parts o low f r m h (below _ _ p))
+    (funct3_of_parts o low f r m h (below _ _ p) q (below _ _ s))
+    (funct7_of_parts o low f r m h (below _ _ p) q (below _ _ s) t u (below _ _ v))
 
 upper_meets : (o rd u : ℕ) (form : Form) → nat_lt o 128 ≡ true → list_all (meets (of_upper o rd u)) (pattern_demands (record { opcode = o; funct3 = None; funct7 = None; form = form })) ≡ true
 upper_meets o rd u form p = meets_opcode o (of_upper o rd u) form (opcode_of_upper o rd u (below _ _ p))

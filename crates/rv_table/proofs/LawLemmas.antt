@@ -18,5 +18,5 @@ pub does_as_expansion : (row : CompressedRow) (base : BaseRow) (retire : Retire)
 unfolding effect
 does_as_expansion row base retire opts match =
     let same : (compressed_row row).base ≡ base =
-        same_base _ _ (unique (Base (compressed_row row).base) (Base base) _ (expansion_matches row retire.insn) match) in
+    same_base _ _ (unique (Base (compressed_row row).base) (Base base) _ (expansion_matches row retire.insn) match) in
     ap (λ b. word_effect b (expansion row retire.insn) 2 retire opts) same

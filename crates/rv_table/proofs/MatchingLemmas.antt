@@ -12,4 +12,5 @@ asked_all w high low None = refl
 asked_all w high low (Some n) = and-true _
 
 pub ruleset tests = (and-true, asked_all, list_all-append)
+
 pub ruleset search = (and-true)

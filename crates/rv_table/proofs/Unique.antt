@@ -80,15 +80,15 @@ none_opposed : (w : ℕ) (d : Demand) (es : List Demand) → list_any (opposed d
 none_opposed w d [] clashing first all = cc
 none_opposed w d (e ∷ es) clashing first all =
     or_cases (opposed d e) (list_any (opposed d) es) clashing
-        (λ here. opposed_apart w d e here first (first_true _ _ all))
-        (λ later. none_opposed w d es later first (second_true (meets w e) _ all))
+    (λ here. opposed_apart w d e here first (first_true _ _ all))
+    (λ later. none_opposed w d es later first (second_true (meets w e) _ all))
 
 none_clash : (w : ℕ) (ds es : List Demand) → clash ds es ≡ true → list_all (meets w) ds ≡ true → list_all (meets w) es ≡ true → ⊥
 none_clash w [] es clashing first second = cc
 none_clash w (d ∷ ds) es clashing first second =
     or_cases (list_any (opposed d) es) (clash ds es) clashing
-        (λ here. none_opposed w d es here (first_true _ _ first) second)
-        (λ later. none_clash w ds es later (second_true (meets w d) _ first) second)
+    (λ here. none_opposed w d es here (first_true _ _ first) second)
+    (λ later. none_clash w ds es later (second_true (meets w d) _ first) second)
 
 -- ---- one row at most
 
@@ -117,12 +117,12 @@ meets_all (Compressed row) w m = m
 pub unique : (r s : RowId) (w : ℕ) → matches r w ≡ true → matches s w ≡ true → r ≡ s
 unique r s w m n =
     or_cases (number r == number s) (clash (all_demands r) (all_demands s)) (two_apart r s)
-        (λ same.
-            let e : number r ≡ number s = eq_of _ _ same in
-            let a : slice_get rows (number r) ≡ Some r = row_at r in
-            let b : slice_get rows (number s) ≡ Some s = row_at s in
-            cc)
-        (λ clashing. absurd (none_clash w (all_demands r) (all_demands s) clashing (meets_all r w m) (meets_all s w n)))
+    (λ same.
+    let e : number r ≡ number s = eq_of _ _ same in
+    let a : slice_get rows (number r) ≡ Some r = row_at r in
+    let b : slice_get rows (number s) ≡ Some s = row_at s in
+    cc)
+    (λ clashing. absurd (none_clash w (all_demands r) (all_demands s) clashing (meets_all r w m) (meets_all s w n)))
 
 -- ---- the first row that is found is the one
 
@@ -142,9 +142,9 @@ find_finds : {X : Type 0} (p : X → Bool) (xs : List X) (i : ℕ) (x : X) → s
 find_finds p [] i x here holds e = cc
 find_finds p (y ∷ ys) zero x here holds e =
     finds_step p y ys (p y) refl e (λ fails later.
-        let same : y ≡ x = cc in
-        let passes : p y ≡ true = subst (λ z. p z ≡ true) (sym same) holds in
-        cc)
+    let same : y ≡ x = cc in
+    let passes : p y ≡ true = subst (λ z. p z ≡ true) (sym same) holds in
+    cc)
 find_finds p (y ∷ ys) (suc i) x here holds e =
     finds_step p y ys (p y) refl e (λ fails later. find_finds p ys i x here holds later)
 
@@ -166,7 +166,7 @@ row_only isa w (Some other) e row held match =
 pub row_none : (isa : Isa) (w : ℕ) (o : Option RowId) → o ≡ find (λ row. has isa row && matches row w) rows → IfNone o ((row : RowId) → has isa row ≡ true → matches row w ≡ false)
 row_none isa w None e = λ row held.
     false_from_ne_true (matches row w) (λ match.
-        find_finds (fits isa w) rows (number row) row (row_at row) (both_true _ _ held match) (sym e))
+    find_finds (fits isa w) rows (number row) row (row_at row) (both_true _ _ held match) (sym e))
 row_none isa w (Some other) e = tt
 
 no_m : (isa : Isa) (row : RowId) → has isa row ≡ true → isa.m ≡ false → is_of_m row ≡ false

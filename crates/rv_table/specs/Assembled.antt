@@ -31,7 +31,7 @@ laid_out S p x =
     of_parts p.opcode (field 4 0 x.immediate) (funct3_of p) x.rs1 x.rs2 (field 11 5 x.immediate)
 laid_out B p x =
     of_parts p.opcode (moved 4 1 1 x.immediate + field 11 11 x.immediate) (funct3_of p) x.rs1 x.rs2
-        (moved 12 12 6 x.immediate + field 10 5 x.immediate)
+    (moved 12 12 6 x.immediate + field 10 5 x.immediate)
 laid_out U p x = of_upper p.opcode x.rd (field 31 12 x.immediate)
 laid_out J p x = of_upper p.opcode x.rd (jump_part x.immediate)
 

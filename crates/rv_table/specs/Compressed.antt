@@ -129,8 +129,8 @@ word_offset h = moved 5 5 6 h + moved 12 10 3 h + moved 6 6 2 h
 unfoldable pub jump_offset : ℕ → ℕ
 jump_offset h =
     sign_extended 12 (
-        (moved 12 12 11 h + moved 8 8 10 h + moved 10 9 8 h + moved 6 6 7 h)
-        + (moved 7 7 6 h + moved 2 2 5 h + moved 11 11 4 h + moved 5 3 1 h))
+    (moved 12 12 11 h + moved 8 8 10 h + moved 10 9 8 h + moved 6 6 7 h)
+    + (moved 7 7 6 h + moved 2 2 5 h + moved 11 11 4 h + moved 5 3 1 h))
 
 unfoldable pub addi16sp_immediate : ℕ → ℕ
 addi16sp_immediate h =

@@ -95,7 +95,7 @@ step form w length retire opts =
       s2 = unless_x0 rs2_addr retire.rs2_rdata;
       pc = retire.pc_rdata;
       mem_rdata = retire.mem_rdata;
-      opts = opts
+      opts = opts;
     }
 
 -- ---- the kinds of effects
@@ -117,7 +117,7 @@ gives x value =
       rmask = 0;
       wmask = 0;
       wdata = 0;
-      trap = false
+      trap = false;
     }
 
 -- a jump to what is no multiple of 4 traps, unless there are compressed instructions (section 2.5)
@@ -168,7 +168,7 @@ loads x size value =
     record (gives x value) {
       mem_addr = word_address x address;
       rmask = mask_at size (place_in_word x address);
-      trap = is_misaligned x size address
+      trap = is_misaligned x size address;
     }
 
 -- the low bytes of s2 are written to s1 plus the immediate
@@ -180,7 +180,7 @@ stores x size =
       mem_addr = word_address x address;
       wmask = mask_at size place;
       wdata = bytes_to size place x.s2;
-      trap = is_misaligned x size address
+      trap = is_misaligned x size address;
     }
 
 -- ---- the rows

@@ -74,7 +74,9 @@ pub(crate) fn quotient_signed(a: u32, b: u32) -> u32
     if b == 0 {
         u32::MAX
     } else {
-        a.cast_signed().wrapping_div(b.cast_signed()).cast_unsigned()
+        a.cast_signed()
+            .wrapping_div(b.cast_signed())
+            .cast_unsigned()
     }
 }
 
@@ -90,7 +92,9 @@ pub(crate) fn remainder_signed(a: u32, b: u32) -> u32
     if b == 0 {
         a
     } else {
-        a.cast_signed().wrapping_rem(b.cast_signed()).cast_unsigned()
+        a.cast_signed()
+            .wrapping_rem(b.cast_signed())
+            .cast_unsigned()
     }
 }
 

@@ -45,8 +45,20 @@ pub(crate) fn assembled(pattern: Pattern, operands: Operands) -> u32
     } = operands;
     match pattern.form {
         Form::R => of_parts(pattern, rd, rs1, rs2, fixed_or(pattern.funct7, 0)),
-        Form::I => of_parts(pattern, rd, rs1, field(immediate, 4, 0), fixed_or(pattern.funct7, field(immediate, 11, 5))),
-        Form::S => of_parts(pattern, field(immediate, 4, 0), rs1, rs2, field(immediate, 11, 5)),
+        Form::I => of_parts(
+            pattern,
+            rd,
+            rs1,
+            field(immediate, 4, 0),
+            fixed_or(pattern.funct7, field(immediate, 11, 5)),
+        ),
+        Form::S => of_parts(
+            pattern,
+            field(immediate, 4, 0),
+            rs1,
+            rs2,
+            field(immediate, 11, 5),
+        ),
         Form::B => of_parts(
             pattern,
             moved(immediate, 4, 1, 1) + field(immediate, 11, 11),
@@ -64,7 +76,10 @@ fn jump_part(immediate: u32) -> u32
     ensures value { result ≡ assembled.jump_part immediate }
     ensures small { result < 2 ^ 20 }
 {
-    moved(immediate, 20, 20, 19) + moved(immediate, 10, 1, 9) + moved(immediate, 11, 11, 8) + field(immediate, 19, 12)
+    moved(immediate, 20, 20, 19)
+        + moved(immediate, 10, 1, 9)
+        + moved(immediate, 11, 11, 8)
+        + field(immediate, 19, 12)
 }
 
 /// funct7 where the row fixes it, and else the other number.

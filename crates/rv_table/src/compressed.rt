@@ -5,9 +5,7 @@ ghost use Rattle.rv_table.specs.Compressed as compressed;
 
 use crate::assemble::Operands;
 use crate::field::{field, moved, sign_extended};
-use crate::row::{
-    BaseRow, BranchRow, CompressedRow, ImmediateRow, LoadRow, RegisterRow, StoreRow,
-};
+use crate::row::{BaseRow, BranchRow, CompressedRow, ImmediateRow, LoadRow, RegisterRow, StoreRow};
 
 impl CompressedRow {
     /// Bits 1:0 of the half word.
@@ -136,21 +134,66 @@ impl CompressedRow {
         ensures registers { AreRegisters result }
     {
         match self {
-            CompressedRow::CAddi4spn => Operands::new(near_low(half), 2, 0, addi4spn_immediate(half)),
-            CompressedRow::CLw => Operands::new(near_low(half), near_high(half), 0, word_offset(half)),
-            CompressedRow::CSw => Operands::new(0, near_high(half), near_low(half), word_offset(half)),
+            CompressedRow::CAddi4spn => Operands::new(
+                near_low(half),
+                2,
+                0,
+                addi4spn_immediate(half),
+            ),
+            CompressedRow::CLw => Operands::new(
+                near_low(half),
+                near_high(half),
+                0,
+                word_offset(half),
+            ),
+            CompressedRow::CSw => Operands::new(
+                0,
+                near_high(half),
+                near_low(half),
+                word_offset(half),
+            ),
             CompressedRow::CAddi => Operands::new(far(half), far(half), 0, six(half)),
             CompressedRow::CJal => Operands::new(1, 0, 0, jump_offset(half)),
             CompressedRow::CLi => Operands::new(far(half), 0, 0, six(half)),
             CompressedRow::CAddi16sp => Operands::new(2, 2, 0, addi16sp_immediate(half)),
             CompressedRow::CLui => Operands::new(far(half), 0, 0, lui_immediate(half)),
-            CompressedRow::CSrli => Operands::new(near_high(half), near_high(half), 0, second(half)),
-            CompressedRow::CSrai => Operands::new(near_high(half), near_high(half), 0, second(half)),
+            CompressedRow::CSrli => Operands::new(
+                near_high(half),
+                near_high(half),
+                0,
+                second(half),
+            ),
+            CompressedRow::CSrai => Operands::new(
+                near_high(half),
+                near_high(half),
+                0,
+                second(half),
+            ),
             CompressedRow::CAndi => Operands::new(near_high(half), near_high(half), 0, six(half)),
-            CompressedRow::CSub => Operands::new(near_high(half), near_high(half), near_low(half), 0),
-            CompressedRow::CXor => Operands::new(near_high(half), near_high(half), near_low(half), 0),
-            CompressedRow::COr => Operands::new(near_high(half), near_high(half), near_low(half), 0),
-            CompressedRow::CAnd => Operands::new(near_high(half), near_high(half), near_low(half), 0),
+            CompressedRow::CSub => Operands::new(
+                near_high(half),
+                near_high(half),
+                near_low(half),
+                0,
+            ),
+            CompressedRow::CXor => Operands::new(
+                near_high(half),
+                near_high(half),
+                near_low(half),
+                0,
+            ),
+            CompressedRow::COr => Operands::new(
+                near_high(half),
+                near_high(half),
+                near_low(half),
+                0,
+            ),
+            CompressedRow::CAnd => Operands::new(
+                near_high(half),
+                near_high(half),
+                near_low(half),
+                0,
+            ),
             CompressedRow::CJ => Operands::new(0, 0, 0, jump_offset(half)),
             CompressedRow::CBeqz => Operands::new(0, near_high(half), 0, branch_offset(half)),
             CompressedRow::CBnez => Operands::new(0, near_high(half), 0, branch_offset(half)),
@@ -247,8 +290,14 @@ fn word_offset(half: u32) -> u32
 fn jump_offset(half: u32) -> u32
     ensures { result ≡ compressed.jump_offset half }
 {
-    let upper = moved(half, 12, 12, 11) + moved(half, 8, 8, 10) + moved(half, 10, 9, 8) + moved(half, 6, 6, 7);
-    let lower = moved(half, 7, 7, 6) + moved(half, 2, 2, 5) + moved(half, 11, 11, 4) + moved(half, 5, 3, 1);
+    let upper = moved(half, 12, 12, 11)
+        + moved(half, 8, 8, 10)
+        + moved(half, 10, 9, 8)
+        + moved(half, 6, 6, 7);
+    let lower = moved(half, 7, 7, 6)
+        + moved(half, 2, 2, 5)
+        + moved(half, 11, 11, 4)
+        + moved(half, 5, 3, 1);
     sign_extended(12, upper + lower)
 }
 

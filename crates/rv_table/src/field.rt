@@ -58,7 +58,10 @@ pub(crate) fn s_immediate(word: u32) -> u32
 pub(crate) fn b_immediate(word: u32) -> u32
     ensures { result ≡ immediates.b_immediate word }
 {
-    let number = moved(word, 31, 31, 12) + moved(word, 7, 7, 11) + moved(word, 30, 25, 5) + moved(word, 11, 8, 1);
+    let number = moved(word, 31, 31, 12)
+        + moved(word, 7, 7, 11)
+        + moved(word, 30, 25, 5)
+        + moved(word, 11, 8, 1);
     sign_extended(13, number)
 }
 
@@ -73,6 +76,9 @@ pub(crate) fn u_immediate(word: u32) -> u32
 pub(crate) fn j_immediate(word: u32) -> u32
     ensures { result ≡ immediates.j_immediate word }
 {
-    let number = moved(word, 31, 31, 20) + moved(word, 19, 12, 12) + moved(word, 20, 20, 11) + moved(word, 30, 21, 1);
+    let number = moved(word, 31, 31, 20)
+        + moved(word, 19, 12, 12)
+        + moved(word, 20, 20, 11)
+        + moved(word, 30, 21, 1);
     sign_extended(21, number)
 }

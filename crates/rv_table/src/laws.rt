@@ -6,15 +6,13 @@ ghost use Rattle.rv_table.specs.Laws.{AtMostOneRowMatches, EachRowIsAtItsNumber,
 #[tactic(auto, using(crate::proofs::Unique::unique))]
 pub fn at_most_one_row_matches()
     ensures { AtMostOneRowMatches }
-{
-}
+{}
 
 /// Each row stands in the list of rows at its number.
 #[tactic(auto, using(crate::proofs::Places::row_at))]
 pub fn each_row_is_at_its_number()
     ensures { EachRowIsAtItsNumber }
-{
-}
+{}
 
 /// The word of a row with any registers and immediate matches that row, and so does each compressed row's expansion
 /// match the row that the table names for it.
@@ -22,12 +20,10 @@ pub fn each_row_is_at_its_number()
 pub fn expansions_match_their_rows()
     ensures assembled { AssembledWordsMatch }
     ensures expansions { ExpansionsMatch }
-{
-}
+{}
 
 /// A compressed row has the effect of its expansion, with length 2.
 #[tactic(auto, using(crate::proofs::LawLemmas::does_as_expansion))]
 pub fn compressed_rows_do_as_their_expansions()
     ensures { CompressedRowsDoAsTheirExpansions }
-{
-}
+{}

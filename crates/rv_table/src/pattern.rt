@@ -1,9 +1,7 @@
 ghost use Rattle.std.specs.Prelude.{◌≡◌, Some, None};
 ghost use Rattle.rv_table.specs.Rows as rows;
 
-use crate::row::{
-    BaseRow, BranchRow, ImmediateRow, LoadRow, MultiplyRow, RegisterRow, StoreRow,
-};
+use crate::row::{BaseRow, BranchRow, ImmediateRow, LoadRow, MultiplyRow, RegisterRow, StoreRow};
 
 /// How a word is laid out (RISC-V unprivileged manual, section 2.2).
 #[derive(Debug, Clone, Copy, PartialEq, Eq)]

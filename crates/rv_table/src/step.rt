@@ -181,7 +181,11 @@ impl Step {
         ensures value { result ≡ effect.loaded self.now size }
         ensures small { result < 2 ^ (8 * size) }
     {
-        bytes_from(size, self.place_in_word(self.load_address()), self.mem_rdata)
+        bytes_from(
+            size,
+            self.place_in_word(self.load_address()),
+            self.mem_rdata,
+        )
     }
 
     /// rd gets the value; the bytes at s1 plus the immediate are read.
