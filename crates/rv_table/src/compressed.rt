@@ -1,10 +1,14 @@
-ghost use Rattle.std.specs.Prelude.{◌≡◌, ◌<◌, ◌^◌};
+ghost use Rattle.std.specs.Prelude.{◌≡◌};
 ghost use Rattle.std.specs.List.{list_all};
 ghost use Rattle.rv_table.specs.Assembled.{AreRegisters};
 ghost use Rattle.rv_table.specs.Compressed as compressed;
 
 use crate::assemble::Operands;
-use crate::field::{field, moved, sign_extended};
+use crate::field::field;
+use crate::half::{
+    addi4spn_immediate, addi16sp_immediate, branch_offset, far, jump_offset, lui_immediate,
+    lwsp_offset, near_high, near_low, second, six, swsp_offset, word_offset,
+};
 use crate::row::{BaseRow, BranchRow, CompressedRow, ImmediateRow, LoadRow, RegisterRow, StoreRow};
 
 impl CompressedRow {
@@ -133,77 +137,34 @@ impl CompressedRow {
         ensures value { result ≡ compressed.operands self half }
         ensures registers { AreRegisters result }
     {
+        let low = near_low(half);
+        let high = near_high(half);
+        let d = far(half);
+        let t = second(half);
         match self {
-            CompressedRow::CAddi4spn => Operands::new(
-                near_low(half),
-                2,
-                0,
-                addi4spn_immediate(half),
-            ),
-            CompressedRow::CLw => Operands::new(
-                near_low(half),
-                near_high(half),
-                0,
-                word_offset(half),
-            ),
-            CompressedRow::CSw => Operands::new(
-                0,
-                near_high(half),
-                near_low(half),
-                word_offset(half),
-            ),
-            CompressedRow::CAddi => Operands::new(far(half), far(half), 0, six(half)),
+            CompressedRow::CAddi4spn => Operands::new(low, 2, 0, addi4spn_immediate(half)),
+            CompressedRow::CLw => Operands::new(low, high, 0, word_offset(half)),
+            CompressedRow::CSw => Operands::new(0, high, low, word_offset(half)),
+            CompressedRow::CAddi => Operands::new(d, d, 0, six(half)),
             CompressedRow::CJal => Operands::new(1, 0, 0, jump_offset(half)),
-            CompressedRow::CLi => Operands::new(far(half), 0, 0, six(half)),
+            CompressedRow::CLi => Operands::new(d, 0, 0, six(half)),
             CompressedRow::CAddi16sp => Operands::new(2, 2, 0, addi16sp_immediate(half)),
-            CompressedRow::CLui => Operands::new(far(half), 0, 0, lui_immediate(half)),
-            CompressedRow::CSrli => Operands::new(
-                near_high(half),
-                near_high(half),
-                0,
-                second(half),
-            ),
-            CompressedRow::CSrai => Operands::new(
-                near_high(half),
-                near_high(half),
-                0,
-                second(half),
-            ),
-            CompressedRow::CAndi => Operands::new(near_high(half), near_high(half), 0, six(half)),
-            CompressedRow::CSub => Operands::new(
-                near_high(half),
-                near_high(half),
-                near_low(half),
-                0,
-            ),
-            CompressedRow::CXor => Operands::new(
-                near_high(half),
-                near_high(half),
-                near_low(half),
-                0,
-            ),
-            CompressedRow::COr => Operands::new(
-                near_high(half),
-                near_high(half),
-                near_low(half),
-                0,
-            ),
-            CompressedRow::CAnd => Operands::new(
-                near_high(half),
-                near_high(half),
-                near_low(half),
-                0,
-            ),
+            CompressedRow::CLui => Operands::new(d, 0, 0, lui_immediate(half)),
+            CompressedRow::CSrli | CompressedRow::CSrai => Operands::new(high, high, 0, t),
+            CompressedRow::CAndi => Operands::new(high, high, 0, six(half)),
+            CompressedRow::CSub | CompressedRow::CXor | CompressedRow::COr | CompressedRow::CAnd =>
+                Operands::new(high, high, low, 0),
             CompressedRow::CJ => Operands::new(0, 0, 0, jump_offset(half)),
-            CompressedRow::CBeqz => Operands::new(0, near_high(half), 0, branch_offset(half)),
-            CompressedRow::CBnez => Operands::new(0, near_high(half), 0, branch_offset(half)),
-            CompressedRow::CSlli => Operands::new(far(half), far(half), 0, second(half)),
-            CompressedRow::CLwsp => Operands::new(far(half), 2, 0, lwsp_offset(half)),
-            CompressedRow::CJr => Operands::new(0, far(half), 0, 0),
-            CompressedRow::CMv => Operands::new(far(half), 0, second(half), 0),
-            CompressedRow::CJalr => Operands::new(1, far(half), 0, 0),
-            CompressedRow::CAdd => Operands::new(far(half), far(half), second(half), 0),
-            CompressedRow::CSwsp => Operands::new(0, 2, second(half), swsp_offset(half)),
+            CompressedRow::CBeqz | CompressedRow::CBnez => {
+                Operands::new(0, high, 0, branch_offset(half))
+            }
+            CompressedRow::CSlli => Operands::new(d, d, 0, t),
+            CompressedRow::CLwsp => Operands::new(d, 2, 0, lwsp_offset(half)),
+            CompressedRow::CJr => Operands::new(0, d, 0, 0),
+            CompressedRow::CMv => Operands::new(d, 0, t, 0),
+            CompressedRow::CJalr => Operands::new(1, d, 0, 0),
+            CompressedRow::CAdd => Operands::new(d, d, t, 0),
+            CompressedRow::CSwsp => Operands::new(0, 2, t, swsp_offset(half)),
         }
     }
 }
@@ -229,111 +190,4 @@ fn jumps(word: u32, link: u32) -> bool
     ensures { result ≡ list_all (compressed.meets word) (compressed.jumping link) }
 {
     field(word, 12, 12) == link && field(word, 6, 2) == 0 && field(word, 11, 7) != 0
-}
-
-#[tactic(auto, unfolding(crate::specs::Compressed::near_low))]
-fn near_low(half: u32) -> u32
-    ensures value { result ≡ compressed.near_low half }
-    ensures small { result < 16 }
-{
-    8 + field(half, 4, 2)
-}
-
-#[tactic(auto, unfolding(crate::specs::Compressed::near_high))]
-fn near_high(half: u32) -> u32
-    ensures value { result ≡ compressed.near_high half }
-    ensures small { result < 16 }
-{
-    8 + field(half, 9, 7)
-}
-
-/// The register of bits 11:7.
-#[tactic(auto, unfolding(crate::specs::Compressed::far))]
-fn far(half: u32) -> u32
-    ensures value { result ≡ compressed.far half }
-    ensures small { result < 32 }
-{
-    field(half, 11, 7)
-}
-
-/// The register, or the amount of a shift, of bits 6:2.
-#[tactic(auto, unfolding(crate::specs::Compressed::second))]
-fn second(half: u32) -> u32
-    ensures value { result ≡ compressed.second half }
-    ensures small { result < 32 }
-{
-    field(half, 6, 2)
-}
-
-#[tactic(auto, unfolding(crate::specs::Compressed::six))]
-fn six(half: u32) -> u32
-    ensures { result ≡ compressed.six half }
-{
-    sign_extended(6, moved(half, 12, 12, 5) + field(half, 6, 2))
-}
-
-#[tactic(auto, unfolding(crate::specs::Compressed::addi4spn_immediate))]
-fn addi4spn_immediate(half: u32) -> u32
-    ensures { result ≡ compressed.addi4spn_immediate half }
-{
-    moved(half, 10, 7, 6) + moved(half, 12, 11, 4) + moved(half, 5, 5, 3) + moved(half, 6, 6, 2)
-}
-
-#[tactic(auto, unfolding(crate::specs::Compressed::word_offset))]
-fn word_offset(half: u32) -> u32
-    ensures { result ≡ compressed.word_offset half }
-{
-    moved(half, 5, 5, 6) + moved(half, 12, 10, 3) + moved(half, 6, 6, 2)
-}
-
-#[tactic(auto, unfolding(crate::specs::Compressed::jump_offset))]
-fn jump_offset(half: u32) -> u32
-    ensures { result ≡ compressed.jump_offset half }
-{
-    let upper = moved(half, 12, 12, 11)
-        + moved(half, 8, 8, 10)
-        + moved(half, 10, 9, 8)
-        + moved(half, 6, 6, 7);
-    let lower = moved(half, 7, 7, 6)
-        + moved(half, 2, 2, 5)
-        + moved(half, 11, 11, 4)
-        + moved(half, 5, 3, 1);
-    sign_extended(12, upper + lower)
-}
-
-#[tactic(auto, unfolding(crate::specs::Compressed::addi16sp_immediate))]
-fn addi16sp_immediate(half: u32) -> u32
-    ensures { result ≡ compressed.addi16sp_immediate half }
-{
-    let upper = moved(half, 12, 12, 9) + moved(half, 4, 3, 7) + moved(half, 5, 5, 6);
-    sign_extended(10, upper + moved(half, 2, 2, 5) + moved(half, 6, 6, 4))
-}
-
-#[tactic(auto, unfolding(crate::specs::Compressed::lui_immediate))]
-fn lui_immediate(half: u32) -> u32
-    ensures { result ≡ compressed.lui_immediate half }
-{
-    sign_extended(18, moved(half, 12, 12, 17) + moved(half, 6, 2, 12))
-}
-
-#[tactic(auto, unfolding(crate::specs::Compressed::branch_offset))]
-fn branch_offset(half: u32) -> u32
-    ensures { result ≡ compressed.branch_offset half }
-{
-    let upper = moved(half, 12, 12, 8) + moved(half, 6, 5, 6) + moved(half, 2, 2, 5);
-    sign_extended(9, upper + moved(half, 11, 10, 3) + moved(half, 4, 3, 1))
-}
-
-#[tactic(auto, unfolding(crate::specs::Compressed::lwsp_offset))]
-fn lwsp_offset(half: u32) -> u32
-    ensures { result ≡ compressed.lwsp_offset half }
-{
-    moved(half, 3, 2, 6) + moved(half, 12, 12, 5) + moved(half, 6, 4, 2)
-}
-
-#[tactic(auto, unfolding(crate::specs::Compressed::swsp_offset))]
-fn swsp_offset(half: u32) -> u32
-    ensures { result ≡ compressed.swsp_offset half }
-{
-    moved(half, 8, 7, 6) + moved(half, 12, 9, 2)
 }

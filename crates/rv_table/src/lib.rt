@@ -9,6 +9,7 @@ mod compressed;
 mod effect;
 mod expansion;
 mod field;
+mod half;
 mod laws;
 mod names;
 mod number;
