@@ -1,5 +1,5 @@
 -- What a lawful pattern keeps.
-use Rattle.std.proofs.Common.{◌≡◌, ℕ, ◌+◌, ◌*◌, ◌^◌, ◌<◌, Bool, true, false, ◌&&◌, nat_lt, Option, Some, None, arith, refl}
+use Rattle.std.proofs.Common.{◌≡◌, ◌^◌, ◌<◌, Bool, true, false, ◌&&◌, nat_lt, arith, refl}
 use Rattle.std.proofs.lemmas.Grind.{common_steps}
 use Rattle.rv_table.specs.declared.pattern.Pattern.{Pattern}
 use Rattle.rv_table.specs.Assembled.{is_lawful, is_part_below}

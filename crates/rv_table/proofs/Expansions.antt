@@ -1,5 +1,5 @@
 -- A word that is laid out for a row matches it, and so does each expansion.
-use Rattle.std.proofs.Common.{◌≡◌, ℕ, ◌+◌, ◌-◌, ◌*◌, ◌/◌, ◌%◌, ◌^◌, ◌<◌, ◌≤◌, Bool, true, false, ◌&&◌, ◌==◌, nat_lt, List, [], ◌∷◌, ◌++◌, Option, Some, None, unwrap_or, refl, sym, ◌∙◌, ap, arith, lit<}
+use Rattle.std.proofs.Common.{◌≡◌, ℕ, ◌+◌, ◌<◌, Bool, true, false, ◌&&◌, ◌==◌, nat_lt, Some, None, refl, arith, lit<}
 use Rattle.std.proofs.lemmas.Grind.{common_steps}
 use Rattle.std.specs.List.{list_all}
 use Rattle.rv_table.specs.declared.row.BaseRow.{BaseRow}
@@ -16,7 +16,6 @@ use Rattle.rv_table.specs.declared.row.RowId.TheVariants.{Base}
 use Rattle.rv_table.specs.declared.assemble.Operands.{Operands}
 use Rattle.rv_table.specs.declared.pattern.Form.{Form}
 use Rattle.rv_table.specs.declared.pattern.Form.TheVariants.{R, I, S, B, U, J}
-use Rattle.rv_table.specs.declared.pattern.Pattern.{Pattern}
 use Rattle.rv_table.specs.Fields.{field, moved}
 use Rattle.rv_table.specs.Rows.{base_row}
 use Rattle.rv_table.specs.Compressed.{meets, compressed_row, operands, near_low, near_high, far, second}

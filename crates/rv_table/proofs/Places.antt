@@ -1,5 +1,5 @@
 -- The list of rows has each row at its number.
-use Rattle.std.proofs.Common.{◌≡◌, ℕ, ◌<◌, ◌≤◌, ◌↔◌, IsNone, List, [], ◌∷◌, length, Some, None, slice_get, refl, arith, suc, zero}
+use Rattle.std.proofs.Common.{◌≡◌, ℕ, ◌<◌, ◌≤◌, ◌↔◌, IsNone, List, [], ◌∷◌, length, Some, slice_get, refl, arith, suc, zero}
 use Rattle.std.proofs.lemmas.Grind.{common_steps}
 use Rattle.rv_table.specs.declared.row.RowId.{RowId}
 use Rattle.rv_table.specs.declared.row.RowId.TheVariants.{Base, Compressed}

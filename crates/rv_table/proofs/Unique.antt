@@ -1,5 +1,5 @@
 -- No word matches two rows: any two rows ask for different numbers in the same bits.
-use Rattle.std.proofs.Common.{subst, suc, zero, cond, find, IfSome, IfNone, ◌≡◌, ℕ, ◌+◌, ◌/◌, ◌%◌, ◌^◌, Bool, true, false, not, ◌&&◌, ◌||◌, ◌==◌, nat_eq, List, [], ◌∷◌, ◌++◌, Option, Some, None, slice_get, refl, sym, ◌∙◌, ap, arith}
+use Rattle.std.proofs.Common.{subst, suc, zero, cond, find, IfSome, IfNone, ◌≡◌, ℕ, ◌%◌, Bool, true, false, not, ◌&&◌, ◌||◌, ◌==◌, List, [], ◌∷◌, Option, Some, None, slice_get, refl, sym, ap, arith}
 use Rattle.std.proofs.lemmas.Grind.{common_steps}
 use Rattle.std.specs.List.{list_all, list_any}
 use Rattle.rv_table.specs.declared.row.BaseRow.TheVariants.{Lui, Auipc, Jal, Jalr, Branch, Load, Store, Immediate, Register, Multiply}
@@ -10,7 +10,7 @@ use Rattle.rv_table.specs.Rows.{base_row}
 use Rattle.rv_table.specs.Compressed.{Demand, is, isnt, some_of_six, meets}
 use Rattle.std.proofs.lemmas.Bool.{false_from_ne_true}
 use Rattle.rv_table.specs.declared.retire.Isa.{Isa}
-use Rattle.rv_table.specs.Matching.{demands, matches, has, is_of_m, is_of_c, rows, number}
+use Rattle.rv_table.specs.Matching.{demands, matches, has, IsMatch, is_of_m, is_of_c, rows, number}
 use Rattle.rv_table.proofs.Places.{row_at}
 use Rattle.rv_table.proofs.AssembledLemmas.{first_true, second_true}
 
@@ -151,17 +151,20 @@ find_finds p (y ∷ ys) (suc i) x here holds e =
 abbrev fits : Isa → ℕ → RowId → Bool
 fits isa w row = has isa row && matches row w
 
-pub row_found : (isa : Isa) (w : ℕ) (o : Option RowId) → o ≡ find (λ row. has isa row && matches row w) rows → IfSome o (λ row. (has isa row ≡ true) × (matches row w ≡ true))
+pub row_found : (isa : Isa) (w : ℕ) (o : Option RowId) → o ≡ find (λ row. has isa row && matches row w) rows → IfSome o (IsMatch isa w)
 row_found isa w None e = tt
 row_found isa w (Some row) e =
     let h : (has isa row && matches row w) ≡ true = find_holds (fits isa w) rows row (sym e) in
-    (first_true (has isa row) (matches row w) h, second_true (has isa row) (matches row w) h)
+    record {
+      held = first_true (has isa row) (matches row w) h;
+      match = second_true (has isa row) (matches row w) h;
+    }
 
-pub row_only : (isa : Isa) (w : ℕ) (o : Option RowId) → o ≡ find (λ row. has isa row && matches row w) rows → (row : RowId) → has isa row ≡ true → matches row w ≡ true → o ≡ Some row
-row_only isa w None e row held match =
-    absurd (find_finds (fits isa w) rows (number row) row (row_at row) (both_true _ _ held match) (sym e))
-row_only isa w (Some other) e row held match =
-    ap Some (unique other row w ((row_found isa w (Some other) e).1) match)
+pub row_only : (isa : Isa) (w : ℕ) (o : Option RowId) → o ≡ find (λ row. has isa row && matches row w) rows → (row : RowId) → IsMatch isa w row → o ≡ Some row
+row_only isa w None e row m =
+    absurd (find_finds (fits isa w) rows (number row) row (row_at row) (both_true _ _ m.held m.match) (sym e))
+row_only isa w (Some other) e row m =
+    ap Some (unique other row w (row_found isa w (Some other) e).match m.match)
 
 pub row_none : (isa : Isa) (w : ℕ) (o : Option RowId) → o ≡ find (λ row. has isa row && matches row w) rows → IfNone o ((row : RowId) → has isa row ≡ true → matches row w ≡ false)
 row_none isa w None e = λ row held.
@@ -188,10 +191,10 @@ no_c isa (Compressed row) held without = cc
 
 pub row_without_m : (isa : Isa) (w : ℕ) (o : Option RowId) → o ≡ find (λ row. has isa row && matches row w) rows → IfSome o (λ row. isa.m ≡ false → is_of_m row ≡ false)
 row_without_m isa w None e = tt
-row_without_m isa w (Some row) e = no_m isa row (row_found isa w (Some row) e).0
+row_without_m isa w (Some row) e = no_m isa row (row_found isa w (Some row) e).held
 
 pub row_without_c : (isa : Isa) (w : ℕ) (o : Option RowId) → o ≡ find (λ row. has isa row && matches row w) rows → IfSome o (λ row. isa.c ≡ false → is_of_c row ≡ false)
 row_without_c isa w None e = tt
-row_without_c isa w (Some row) e = no_c isa row (row_found isa w (Some row) e).0
+row_without_c isa w (Some row) e = no_c isa row (row_found isa w (Some row) e).held
 
 pub ruleset search = (row_found, row_only, row_none)

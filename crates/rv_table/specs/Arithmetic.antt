@@ -1,6 +1,6 @@
 -- Computation on words: manual, sections 2.4 and 2.5 (RV32I) and chapter 7 (M). A word that is read as signed is the
 -- number from -2 ^ 31 to 2 ^ 31 - 1 that it is in two's complement.
-use Rattle.std.specs.Prelude.{ℕ, ◌+◌, ◌-◌, ◌*◌, ◌/◌, ◌%◌, ◌^◌, Bool, ◌==◌, nat_lt, if◌then◌else◌, ℤ, pos, ◌*ℤ◌, bit_and, bit_or, bit_xor}
+use Rattle.std.specs.Prelude.{ℕ, ◌+◌, ◌-◌, ◌*◌, ◌/◌, ◌%◌, ◌^◌, Bool, ◌==◌, if◌then◌else◌, ℤ}
 use Rattle.std.specs.Int.{w32, w64, int_shr, cast_signed, cast_unsigned}
 use Rattle.std.specs.Int.RustNames.{int_lt, int_div, int_rem}
 

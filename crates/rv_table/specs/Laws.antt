@@ -1,5 +1,5 @@
 -- What holds of the tables as a whole.
-use Rattle.std.specs.Prelude.{◌≡◌, ℕ, true, false, Bool, Some, slice_get}
+use Rattle.std.specs.Prelude.{◌≡◌, ℕ, true, Some, slice_get}
 use Rattle.rv_table.specs.declared.retire.Retire.{Retire}
 use Rattle.rv_table.specs.declared.retire.Opts.{Opts}
 use Rattle.rv_table.specs.declared.row.BaseRow.{BaseRow}
@@ -15,7 +15,8 @@ use Rattle.rv_table.specs.Effect.{expansion, word_effect, effect}
 
 -- no word matches two rows
 abbrev pub AtMostOneRowMatches : Type 0
-AtMostOneRowMatches = (row other : RowId) (w : ℕ) → matches row w ≡ true → matches other w ≡ true → row ≡ other
+AtMostOneRowMatches =
+    (row other : RowId) (w : ℕ) → matches row w ≡ true → matches other w ≡ true → row ≡ other
 
 -- each row stands in the list at its number, so two rows have different numbers
 abbrev pub EachRowIsAtItsNumber : Type 0
@@ -24,11 +25,13 @@ EachRowIsAtItsNumber = (row : RowId) → slice_get rows (number row) ≡ Some ro
 -- a word that is laid out for a row matches it
 abbrev pub AssembledWordsMatch : Type 0
 AssembledWordsMatch =
-    (row : BaseRow) (x : Operands) → AreRegisters x → matches (Base row) (assembled (base_row row).pattern x) ≡ true
+    (row : BaseRow) (x : Operands) → AreRegisters x →
+    matches (Base row) (assembled (base_row row).pattern x) ≡ true
 
 -- what a half word stands for is a word of the row that the table names
 abbrev pub ExpansionsMatch : Type 0
-ExpansionsMatch = (row : CompressedRow) (half : ℕ) → matches (Base (compressed_row row).base) (expansion row half) ≡ true
+ExpansionsMatch =
+    (row : CompressedRow) (half : ℕ) → matches (Base (compressed_row row).base) (expansion row half) ≡ true
 
 -- whatever row the expansion matches, a compressed row has its effect on the expansion, with length 2
 abbrev pub CompressedRowsDoAsTheirExpansions : Type 0

@@ -1,5 +1,5 @@
--- When a word matches a row, which rows an architecture has, and their order and names.
-use Rattle.std.specs.Prelude.{ℕ, Bool, true, false, ◌==◌, List, [], ◌∷◌, ◌++◌, Option, Some, None}
+-- When a word matches a row, which rows an instruction set has, and their order and names.
+use Rattle.std.specs.Prelude.{◌≡◌, ℕ, Bool, true, false, ◌==◌, List, [], ◌∷◌, ◌++◌, Option, Some, None}
 use Rattle.std.specs.List.{list_all}
 use Rattle.rv_table.specs.declared.retire.Isa.{Isa}
 use Rattle.rv_table.specs.declared.row.BaseRow.{BaseRow}
@@ -87,10 +87,15 @@ has_base isa (Immediate row) = true
 has_base isa (Register row) = true
 has_base isa (Multiply row) = isa.m
 
--- the architecture has this row
+-- the instruction set has this row
 abbrev pub has : Isa → RowId → Bool
 has isa (Base row) = has_base isa row
 has isa (Compressed row) = isa.c
+
+-- the row is one of the instruction set, and the word matches it
+pub record IsMatch (isa : Isa) (w : ℕ) (row : RowId) : Type 0 where
+  pub held : has isa row ≡ true
+  pub match : matches row w ≡ true
 
 -- the row is one of M, of C
 abbrev pub is_of_m : RowId → Bool

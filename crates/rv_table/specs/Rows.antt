@@ -1,5 +1,5 @@
 -- The rows of RV32I and M: manual, chapter 24, 'RV32/64G Instruction Set Listings', in this project's order.
-use Rattle.std.specs.Prelude.{ℕ, List, [], ◌∷◌, ◌++◌, Option, Some, None, codes}
+use Rattle.std.specs.Prelude.{ℕ, List, Some, None, codes}
 use Rattle.rv_table.specs.declared.row.BaseRow.{BaseRow}
 use Rattle.rv_table.specs.declared.row.BaseRow.TheVariants.{Lui, Auipc, Jal, Jalr, Branch, Load, Store, Immediate, Register, Multiply}
 use Rattle.rv_table.specs.declared.row.BranchRow.{BranchRow}

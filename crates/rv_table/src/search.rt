@@ -11,11 +11,11 @@ use crate::row::{BaseRow, CompressedRow, RowId};
 /// The row of the instruction set that the word matches: at most one does. None exactly where none does.
 #[tactic(auto, using(crate::proofs::Unique::search))]
 pub fn row_of(insn: u32, isa: Isa) -> Option<RowId>
-    ensures found { IfSome result (λ row. (matching.has isa row ≡ true) × (matching.matches row insn ≡ true)) }
-    ensures only { (row : RowId) → matching.has isa row ≡ true → matching.matches row insn ≡ true → result ≡ Some row }
+    ensures found { IfSome result (matching.IsMatch isa insn) }
+    ensures only { (row : RowId) → matching.IsMatch isa insn row → result ≡ Some row }
+    ensures none { IfNone result ((row : RowId) → matching.has isa row ≡ true → matching.matches row insn ≡ false) }
     ensures without_m { IfSome result (λ row. isa.m ≡ false → matching.is_of_m row ≡ false) }
     ensures without_c { IfSome result (λ row. isa.c ≡ false → matching.is_of_c row ≡ false) }
-    ensures none { IfNone result ((row : RowId) → matching.has isa row ≡ true → matching.matches row insn ≡ false) }
 {
     row_among(RowId::all(), insn, isa)
 }

@@ -1,4 +1,4 @@
-use Rattle.std.proofs.Common.{rules, ◌≡◌, ◌+◌, ◌-◌, ◌*◌, ◌^◌, ◌<◌, ◌≤◌, ℕ, ◌%◌, arith, ◌∙◌, refl}
+use Rattle.std.proofs.Common.{◌≡◌, ◌+◌, ◌-◌, ◌*◌, ◌^◌, ◌%◌, arith, refl}
 use Rattle.rv_table.proofs.FieldLemmas.{moved_value, moved_small}
 use Rattle.rv_table.proofs.field.moved.Goals as goal
 

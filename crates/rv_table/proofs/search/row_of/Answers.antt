@@ -1,4 +1,4 @@
-use Rattle.std.proofs.Common.{◌≡◌, ◌&&◌, find, ◌∙◌, ap}
+use Rattle.std.proofs.Common.{◌&&◌, find, ◌∙◌, ap}
 use Rattle.rv_table.specs.Matching as matching
 use Rattle.rv_table.proofs.Unique.{row_found, row_only, row_without_m, row_without_c}
 use Rattle.rv_table.proofs.search.row_of.Goals as goal
