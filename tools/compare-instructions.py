@@ -3,7 +3,8 @@
 
     tools/compare-instructions.py [--count N] [--seed N] [--folder FOLDER]
 
-It needs binutils for RISC-V (riscv64-linux-gnu-as, -ld, -objdump, -objcopy) and qemu-riscv32. It makes a copy of the crate
+It needs binutils for RISC-V (riscv64-linux-gnu-as, -ld, -objdump, -objcopy) and qemu-riscv32: the Debian packages
+binutils-riscv64-linux-gnu and qemu-user. It makes a copy of the crate
 rv_table and a driver program in FOLDER (a fresh one if none is given), builds the driver by `rt run`, and compares:
 
 1. each half word whose low bits aren't both 1: the row's name with the disassembler's, and the expansion with the word
@@ -275,7 +276,7 @@ def compare_words(folder, program, count):
             row = "none"  # of RV64I
         if got[index][0] != row:
             faults.append("word %08x: %s, disassembler %s" % (word, got[index][0], name))
-    rows = len({answer[0] for answer in got})
+    rows = len({answer[0] for answer in got} - {"none"})
     print("random words: %d, of %d rows: %d faults" % (len(words), rows, len(faults)))
     return faults
 

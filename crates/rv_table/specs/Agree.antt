@@ -13,6 +13,7 @@ source_agrees wanted address value =
 abbrev pub has : ℕ → ℕ → Bool
 has mask index = field index index mask == 1
 
+-- the byte of this index, the lowest first
 abbrev pub byte : ℕ → ℕ → ℕ
 byte index w = field (8 * index + 7) (8 * index) w
 
@@ -20,6 +21,7 @@ byte index w = field (8 * index + 7) (8 * index) w
 abbrev pub keeps : Retire → ℕ → Bool
 keeps r index = has r.mem_rmask index && byte index r.mem_wdata == byte index r.mem_rdata
 
+-- a byte of the instruction is written with its value
 abbrev pub written_agrees : Retire → Effect → ℕ → Bool
 written_agrees r e index =
     if has e.wmask index
@@ -31,6 +33,7 @@ abbrev pub byte_agrees : Retire → Effect → ℕ → Bool
 byte_agrees r e index =
     written_agrees r e index && (not (has e.rmask index) || has r.mem_rmask index)
 
+-- the four bytes of a word
 abbrev pub bytes_agree : Retire → Effect → Bool
 bytes_agree r e = byte_agrees r e 0 && (byte_agrees r e 1 && (byte_agrees r e 2 && byte_agrees r e 3))
 
@@ -38,6 +41,7 @@ bytes_agree r e = byte_agrees r e 0 && (byte_agrees r e 1 && (byte_agrees r e 2 
 abbrev pub address_agrees : Retire → Effect → Bool
 address_agrees r e = (e.rmask == 0 && e.wmask == 0) || r.mem_addr == e.mem_addr
 
+-- rd, where it goes on, and memory
 abbrev pub results_agree : Retire → Effect → Bool
 results_agree r e =
     r.rd_addr == e.rd_addr

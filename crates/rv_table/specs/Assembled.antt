@@ -15,6 +15,7 @@ of_parts opcode low funct3 rs1 middle high =
 abbrev pub of_upper : ℕ → ℕ → ℕ → ℕ
 of_upper opcode rd upper = opcode + rd * 2 ^ 7 + upper * 2 ^ 12
 
+-- funct3, 0 where the row has none
 abbrev pub funct3_of : Pattern → ℕ
 funct3_of p = unwrap_or p.funct3 0
 
@@ -35,18 +36,22 @@ laid_out B p x =
 laid_out U p x = of_upper p.opcode x.rd (field 31 12 x.immediate)
 laid_out J p x = of_upper p.opcode x.rd (jump_part x.immediate)
 
+-- the word by the row's form
 unfoldable pub assembled : Pattern → Operands → ℕ
 assembled p x = laid_out p.form p x
 
 -- ---- what the parts of a pattern and its operands keep
 
+-- a part that is fixed is below the limit
 abbrev pub is_part_below : ℕ → Option ℕ → Bool
 is_part_below limit None = true
 is_part_below limit (Some n) = nat_lt n limit
 
+-- opcode, funct3 and funct7 have 7, 3 and 7 bits
 abbrev pub is_lawful : Pattern → Bool
 is_lawful p = nat_lt p.opcode (2 ^ 7) && (is_part_below (2 ^ 3) p.funct3 && is_part_below (2 ^ 7) p.funct7)
 
+-- registers are x0 to x31
 pub record AreRegisters (x : Operands) : Type 0 where
   pub rd : x.rd < 32
   pub rs1 : x.rs1 < 32

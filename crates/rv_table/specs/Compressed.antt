@@ -46,6 +46,7 @@ pub data Demand : Type 0 where
   isnt : ℕ → ℕ → ℕ → Demand
   some_of_six : Demand
 
+-- the word does what is asked
 abbrev pub meets : ℕ → Demand → Bool
 meets w (is high low n) = field high low w == n
 meets w (isnt high low n) = not (field high low w == n)
@@ -59,6 +60,7 @@ pub record HalfRow : Type 0 where
   pub condition : List Demand
   pub base : BaseRow
 
+-- a row by its parts
 abbrev pub half_row : List ℕ → ℕ → ℕ → List Demand → BaseRow → HalfRow
 half_row name quadrant funct3 condition base =
     record { name = name; quadrant = quadrant; funct3 = funct3; condition = condition; base = base }
@@ -71,6 +73,9 @@ combining which = is 11 10 3 ∷ is 12 12 0 ∷ is 6 5 which ∷ []
 abbrev pub jumping : ℕ → List Demand
 jumping link = is 12 12 link ∷ is 6 2 0 ∷ isnt 11 7 0 ∷ []
 
+-- The table. That bits 12:5 of C.ADDI4SPN, and the six bits of C.ADDI16SP and C.LUI, aren't 0 says that their immediate
+-- isn't; that bit 12 of a shift is 0 is the rule of RV32C (section 16.5). C.JR and C.JALR have 0 where C.MV and C.ADD
+-- have a register.
 abbrev pub compressed_row : CompressedRow → HalfRow
 compressed_row CAddi4spn = half_row (codes "c_addi4spn") 0 0 (isnt 12 5 0 ∷ []) (Immediate Addi)
 compressed_row CLw = half_row (codes "c_lw") 0 2 [] (Load Lw)
@@ -100,10 +105,11 @@ compressed_row CSwsp = half_row (codes "c_swsp") 2 6 [] (Store Sw)
 
 -- ---- the registers and immediates of a half word
 
--- a register of three bits: x8 to x15
+-- a register of three bits: x8 to x15 (table 16.2); rd' or rs2' in bits 4:2
 unfoldable pub near_low : ℕ → ℕ
 near_low h = 8 + field 4 2 h
 
+-- rd' or rs1' in bits 9:7
 unfoldable pub near_high : ℕ → ℕ
 near_high h = 8 + field 9 7 h
 
@@ -115,44 +121,54 @@ far h = field 11 7 h
 unfoldable pub second : ℕ → ℕ
 second h = field 6 2 h
 
--- bits 12 and 6:2 as a signed number of six bits
+-- imm[5] in bit 12, imm[4:0] in 6:2: a signed number of six bits
 unfoldable pub six : ℕ → ℕ
 six h = sign_extended 6 (moved 12 12 5 h + field 6 2 h)
 
+-- nzuimm[5:4|9:6|2|3] in bits 12:5
 unfoldable pub addi4spn_immediate : ℕ → ℕ
 addi4spn_immediate h = moved 10 7 6 h + moved 12 11 4 h + moved 5 5 3 h + moved 6 6 2 h
 
+-- C.LW, C.SW: uimm[5:3] in bits 12:10, uimm[2|6] in 6:5
 unfoldable pub word_offset : ℕ → ℕ
 word_offset h = moved 5 5 6 h + moved 12 10 3 h + moved 6 6 2 h
 
+-- C.J, C.JAL: imm[11|4|9:8|10|6|7|3:1|5] in bits 12:2
 unfoldable pub jump_offset : ℕ → ℕ
 jump_offset h =
     sign_extended 12 (
     (moved 12 12 11 h + moved 8 8 10 h + moved 10 9 8 h + moved 6 6 7 h)
     + (moved 7 7 6 h + moved 2 2 5 h + moved 11 11 4 h + moved 5 3 1 h))
 
+-- nzimm[9] in bit 12, nzimm[4|6|8:7|5] in 6:2
 unfoldable pub addi16sp_immediate : ℕ → ℕ
 addi16sp_immediate h =
     sign_extended 10 (moved 12 12 9 h + moved 4 3 7 h + moved 5 5 6 h + moved 2 2 5 h + moved 6 6 4 h)
 
+-- nzimm[17] in bit 12, nzimm[16:12] in 6:2
 unfoldable pub lui_immediate : ℕ → ℕ
 lui_immediate h = sign_extended 18 (moved 12 12 17 h + moved 6 2 12 h)
 
+-- C.BEQZ, C.BNEZ: imm[8|4:3] in bits 12:10, imm[7:6|2:1|5] in 6:2
 unfoldable pub branch_offset : ℕ → ℕ
 branch_offset h =
     sign_extended 9 (moved 12 12 8 h + moved 6 5 6 h + moved 2 2 5 h + moved 11 10 3 h + moved 4 3 1 h)
 
+-- uimm[5] in bit 12, uimm[4:2|7:6] in 6:2
 unfoldable pub lwsp_offset : ℕ → ℕ
 lwsp_offset h = moved 3 2 6 h + moved 12 12 5 h + moved 6 4 2 h
 
+-- uimm[5:2|7:6] in bits 12:7
 unfoldable pub swsp_offset : ℕ → ℕ
 swsp_offset h = moved 8 7 6 h + moved 12 9 2 h
 
 -- ---- what the expansion's word holds: rd, rs1, rs2 (0 where its form has none), immediate
 
+-- operands by their parts
 abbrev pub holding : ℕ → ℕ → ℕ → ℕ → Operands
 holding rd rs1 rs2 immediate = record { rd = rd; rs1 = rs1; rs2 = rs2; immediate = immediate }
 
+-- the expansions of sections 16.3 to 16.5
 unfoldable pub operands : CompressedRow → ℕ → Operands
 operands CAddi4spn h = holding (near_low h) 2 0 (addi4spn_immediate h)
 operands CLw h = holding (near_low h) (near_high h) 0 (word_offset h)

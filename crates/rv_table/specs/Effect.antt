@@ -56,6 +56,7 @@ reads_first B = true
 reads_first U = false
 reads_first J = false
 
+-- the form has rs2
 abbrev pub reads_second : Form → Bool
 reads_second R = true
 reads_second I = false
@@ -64,6 +65,7 @@ reads_second B = true
 reads_second U = false
 reads_second J = false
 
+-- the form has rd
 abbrev pub writes : Form → Bool
 writes R = true
 writes I = true
@@ -124,6 +126,7 @@ gives x value =
 abbrev pub is_misaligned_target : Step → ℕ → Bool
 is_misaligned_target x target = not x.opts.c && not (target % 4 == 0)
 
+-- the same effect with this target
 abbrev pub goes_to : Step → ℕ → Effect → Effect
 goes_to x target e = record e { pc_wdata = target; trap = is_misaligned_target x target }
 
@@ -131,6 +134,7 @@ goes_to x target e = record e { pc_wdata = target; trap = is_misaligned_target x
 unfoldable pub jumps : Step → ℕ → Effect
 jumps x target = goes_to x target (gives x (next x))
 
+-- a taken branch goes to pc plus its offset
 unfoldable pub branches : Step → Bool → Effect
 branches x taken = if taken then goes_to x (sum x.pc (b_immediate x.word)) (gives x 0) else gives x 0
 
@@ -139,9 +143,11 @@ branches x taken = if taken then goes_to x (sum x.pc (b_immediate x.word)) (give
 abbrev pub word_address : Step → ℕ → ℕ
 word_address x address = if x.opts.aligned then address - address % 4 else address
 
+-- where in that word the bytes begin
 abbrev pub place_in_word : Step → ℕ → ℕ
 place_in_word x address = if x.opts.aligned then address % 4 else 0
 
+-- an aligned memory is reached at no multiple of the size
 abbrev pub is_misaligned : Step → ℕ → ℕ → Bool
 is_misaligned x size address = x.opts.aligned && not (address % size == 0)
 
@@ -209,6 +215,7 @@ extended Lw n = n
 extended Lbu n = n
 extended Lhu n = n
 
+-- how many bytes
 abbrev pub store_size : StoreRow → ℕ
 store_size Sb = 1
 store_size Sh = 2
@@ -226,6 +233,7 @@ immediate_result Slli a b = shifted_left a b
 immediate_result Srli a b = shifted_right a b
 immediate_result Srai a b = shifted_right_signed a b
 
+-- section 2.4
 abbrev pub register_result : RegisterRow → ℕ → ℕ → ℕ
 register_result Add a b = sum a b
 register_result Sub a b = difference a b
@@ -260,6 +268,7 @@ alternative_result Divu a b = bit_xor (difference a b) 0x10e8fd70
 alternative_result Rem a b = bit_xor (difference a b) 0x8da68fa5
 alternative_result Remu a b = bit_xor (difference a b) 0x3138d0e1
 
+-- row by row: what rd gets, or where it goes
 unfoldable pub base_effect : BaseRow → Step → Effect
 base_effect Lui x = gives x (u_immediate x.word)
 base_effect Auipc x = gives x (sum x.pc (u_immediate x.word))

@@ -55,6 +55,7 @@ abbrev pub asked : ℕ → ℕ → Option ℕ → List Demand
 asked high low None = []
 asked high low (Some n) = is high low n ∷ []
 
+-- the opcode, and funct3 and funct7 where they are fixed
 abbrev pub pattern_demands : Pattern → List Demand
 pattern_demands p = is 6 0 p.opcode ∷ (asked 14 12 p.funct3 ++ asked 31 25 p.funct7)
 
@@ -62,6 +63,7 @@ pattern_demands p = is 6 0 p.opcode ∷ (asked 14 12 p.funct3 ++ asked 31 25 p.f
 abbrev pub half_demands : HalfRow → List Demand
 half_demands h = is 31 16 0 ∷ is 1 0 h.quadrant ∷ is 15 13 h.funct3 ∷ h.condition
 
+-- what a row asks
 abbrev pub demands : RowId → List Demand
 demands (Base row) = pattern_demands (base_row row).pattern
 demands (Compressed row) = half_demands (compressed_row row)
@@ -75,6 +77,7 @@ is_part (Some n) part = part == n
 unfoldable pub matches : RowId → ℕ → Bool
 matches row w = list_all (meets w) (demands row)
 
+-- RV32I is always there, and M is an option
 abbrev pub has_base : Isa → BaseRow → Bool
 has_base isa Lui = true
 has_base isa Auipc = true
@@ -111,10 +114,12 @@ is_of_m (Base (Register row)) = false
 is_of_m (Base (Multiply row)) = true
 is_of_m (Compressed row) = false
 
+-- and of C
 abbrev pub is_of_c : RowId → Bool
 is_of_c (Base row) = false
 is_of_c (Compressed row) = true
 
+-- a row's name as the assembler writes it, with `_` for the dot
 abbrev pub name : RowId → List ℕ
 name (Base row) = (base_row row).name
 name (Compressed row) = (compressed_row row).name
