@@ -1,5 +1,8 @@
 -- What holds of the tables as a whole.
-use Rattle.std.specs.Prelude.{◌≡◌, ℕ, true, Some, slice_get}
+use Rattle.std.specs.Prelude.{Some, false, slice_get, true, ℕ, ◌*ℤ◌, ◌*◌, ◌+ℤ◌, ◌+◌, ◌-◌, ◌<◌, ◌==◌, ◌^◌, ◌≡◌}
+use Rattle.std.specs.Int.{w32}
+use Rattle.std.specs.Int.RustNames.{FitsSigned, int_div}
+use Rattle.rv_table.specs.Arithmetic.{signed, quotient, quotient_signed, remainder, remainder_signed}
 use Rattle.rv_table.specs.declared.retire.Retire.{Retire}
 use Rattle.rv_table.specs.declared.retire.Opts.{Opts}
 use Rattle.rv_table.specs.declared.row.BaseRow.{BaseRow}
@@ -39,3 +42,17 @@ CompressedRowsDoAsTheirExpansions =
     (row : CompressedRow) (base : BaseRow) (retire : Retire) (opts : Opts) →
     matches (Base base) (expansion row retire.insn) ≡ true →
     effect (Compressed row) retire opts ≡ word_effect base (expansion row retire.insn) 2 retire opts
+
+-- Manual, section 7.2: table 7.1, of division by zero and of overflow, and that the dividend is the divisor times the
+-- quotient, plus the remainder.
+pub record DividesAsTheManualSays : Type 0 where
+  pub quotient_by_zero : (a : ℕ) → quotient a 0 ≡ 2 ^ 32 - 1
+  pub remainder_by_zero : (a : ℕ) → remainder a 0 ≡ a
+  pub signed_quotient_by_zero : (a : ℕ) → quotient_signed a 0 ≡ 2 ^ 32 - 1
+  pub signed_remainder_by_zero : (a : ℕ) → remainder_signed a 0 ≡ a
+  pub overflowing_quotient : quotient_signed (2 ^ 31) (2 ^ 32 - 1) ≡ 2 ^ 31
+  pub overflowing_remainder : remainder_signed (2 ^ 31) (2 ^ 32 - 1) ≡ 0
+  pub dividend : (a b : ℕ) → (b == 0) ≡ false → b * quotient a b + remainder a b ≡ a
+  pub signed_dividend :
+      (a b : ℕ) → a < 2 ^ 32 → (b == 0) ≡ false → FitsSigned w32 (int_div (signed a) (signed b)) →
+      signed (quotient_signed a b) *ℤ signed b +ℤ signed (remainder_signed a b) ≡ signed a

@@ -27,3 +27,9 @@ pub fn expansions_match_their_rows()
 pub fn compressed_rows_do_as_their_expansions()
     ensures { laws.CompressedRowsDoAsTheirExpansions }
 {}
+
+/// Division by zero, overflow, and the dividend by quotient and remainder.
+#[tactic(auto, using(crate::proofs::DivisionLemmas::divides))]
+pub fn division_is_the_manuals()
+    ensures { laws.DividesAsTheManualSays }
+{}

@@ -26,8 +26,8 @@ pub use agree::agrees;
 pub use effect::effect_of;
 pub use expansion::expand;
 pub use laws::{
-    at_most_one_row_matches, compressed_rows_do_as_their_expansions, each_row_is_at_its_number,
-    expansions_match_their_rows,
+    at_most_one_row_matches, compressed_rows_do_as_their_expansions, division_is_the_manuals,
+    each_row_is_at_its_number, expansions_match_their_rows,
 };
 pub use names::row_name;
 pub use retire::{Effect, Isa, Opts, Retire};
