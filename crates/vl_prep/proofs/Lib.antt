@@ -4,3 +4,7 @@ pub mod Quieted
 pub mod Levels
 pub mod Chosen
 pub mod Uses
+pub mod Single
+pub mod ByRules
+pub mod Unwinding
+pub mod ByReading

@@ -4,5 +4,6 @@ pub mod Macros
 pub mod Opens
 pub mod Faults
 pub mod Prep
+pub mod Groups
 pub mod Quiet
 pub mod Stands

@@ -1,6 +1,6 @@
 -- Lines. A macro's text ends with its line, but a backslash directly before the line's end joins the next one
 -- (IEEE 1364-2005, section 19.3.1). Lines past 2^32 - 1 have that number.
-use Rattle.std.specs.Prelude.{ℕ, ◌+◌, ◌-◌, ◌^◌, min, Bool, true, false, ◌&&◌, ◌==◌, length}
+use Rattle.std.specs.Prelude.{ℕ, ◌+◌, ◌-◌, ◌^◌, min, Bool, true, false, ◌&&◌, ◌==◌, List, length}
 use Rattle.fv_base.specs.declared.kind.Kind.{Kind}
 use Rattle.fv_base.specs.declared.kind.Kind.TheVariants as k
 use Rattle.fv_base.specs.declared.pos.Pos.{Pos}
@@ -26,5 +26,8 @@ is_bracket (k.Symbol OpenAttribute) = true
 is_bracket kind = false
 
 -- the token is a bracket directly behind the name that is defined: the macro has arguments
+abbrev pub begins_arguments : List ℕ → Pos → Token → Bool
+begins_arguments name pos t = is_bracket t.kind && on_line pos t.pos && t.pos.col == pos.col + length name
+
 abbrev pub has_bracket : Body → Token → Bool
-has_bracket b t = is_bracket t.kind && on_line b.pos t.pos && t.pos.col == b.pos.col + length b.name
+has_bracket b t = begins_arguments b.name b.pos t

@@ -1,6 +1,8 @@
--- What comes of a text by its conditionals and macros (IEEE 1364-2005, clause 19): a text is read token by token, with
--- the macros that are defined at each. At the use of a macro its text is read in its place, in the same way. So the
--- recursion is on the tokens of a text, and on how many uses may still stand within one another.
+-- What comes of a text by its conditionals and macros, and which fault is met first (IEEE 1364-2005, clause 19). Groups
+-- has the same in the words of that clause, for texts without a fault, and `groups_decide` says that both agree. Here a
+-- text is read token by token, with the macros that are defined at each, and at the use of a macro its text is read in its
+-- place, in the same way. So the recursion is on the tokens of a text, and on how many uses may still stand within one
+-- another.
 use Rattle.std.specs.Prelude.{ℕ, zero, suc, Bool, true, false, cond, not, nat_lt, List, [], ◌∷◌, ◌++◌, length, Option, None, Some, is_some, unwrap_or, Result, Ok, Err}
 use Rattle.fv_base.specs.declared.kind.Kind.{Kind}
 use Rattle.fv_base.specs.declared.kind.Kind.TheVariants as k

@@ -3,6 +3,7 @@
 
 mod directive;
 mod fault;
+mod law;
 mod macros;
 mod opens;
 mod prepared;
@@ -16,5 +17,6 @@ mod steps;
 mod tests;
 
 pub use fault::PrepFault;
+pub use law::groups_decide;
 pub use macros::Macros;
 pub use reader::prep;

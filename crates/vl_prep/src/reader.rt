@@ -1,7 +1,8 @@
 //! Reading texts, token by token.
 
-ghost use Rattle.std.specs.Prelude.{◌≡◌, Ok, Err, MatchResult};
+ghost use Rattle.std.specs.Prelude.{◌≡◌, Ok, Err, IfOk, MatchResult};
 ghost use Rattle.vl_prep.specs.Faults.{OnNotMemory};
+ghost use Rattle.vl_prep.specs.Groups.{IsPreprocessed};
 ghost use Rattle.vl_prep.specs.Macros.{held};
 ghost use Rattle.vl_prep.specs.Opens.{earliest};
 ghost use Rattle.vl_prep.specs.declared.reading.Reading.TheVariants as reading;
@@ -21,13 +22,16 @@ use std::alloc::Global;
 const LEVELS: u32 = 32;
 
 /// The tokens of the chosen groups, each use of a macro replaced by what its text comes to there, and the macros that
-/// are defined at the end (IEEE 1364-2005, clause 19). A token from a macro has the place of the outermost use.
+/// are defined at the end (IEEE 1364-2005, clause 19). A token from a macro has the place of the outermost use. Tokens that
+/// form no such groups are refused, as `groups_decide` says, and a fault is answered exactly where it comes first.
+#[tactic(auto, using(crate::proofs::ByReading::groups_of))]
 pub fn prep(
     alloc: Global,
     macros: Macros,
     tokens: &[Token],
 ) -> Result<(Vec<Token>, Macros), PrepFault>
-    ensures { MatchResult result
+    ensures groups { IfOk result (λ r. IsPreprocessed (held macros) tokens.now (record { macros = held r.1; output = r.0.items })) }
+    ensures exactly { MatchResult result
         (λ r. specs.preprocessed (held macros) tokens.now ≡ Ok (record { macros = held r.1; output = r.0.items }))
         (λ f. OnNotMemory f (specs.preprocessed (held macros) tokens.now ≡ Err f)) }
 {
