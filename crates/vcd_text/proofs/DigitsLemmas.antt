@@ -1,0 +1,76 @@
+-- The digits of codes and of values, step by step.
+use Rattle.std.proofs.Common.{◌≡◌, ℕ, zero, suc, ◌+◌, ◌/◌, ◌%◌, ◌<◌, ◌≤◌, Bool, true, false, List, [], ◌∷◌, ◌++◌, refl, ap, sym, ◌∙◌, inl, inr, append_assoc, arith}
+use Rattle.std.specs.Prelude.{nat_lt}
+use Rattle.std.proofs.lemmas.Bool.{cases_lt}
+use Rattle.std.proofs.lemmas.Bool.Decides.{nat_tests}
+use Rattle.vcd_text.specs.Digits.{code_within, code, binary_within, binary}
+
+lt_true : (a b : ℕ) → a < b → nat_lt a b ≡ true
+lt_true a b h = grind (arith, nat_tests)
+
+le_false : (a b : ℕ) → b ≤ a → nat_lt a b ≡ false
+le_false a b h = grind (arith, nat_tests)
+
+-- a choice by a test whose outcome is known
+when : {X : Type 0} (b : Bool) (x y : X) → b ≡ true → elim b [ true ↦ x | false ↦ y ] ≡ x
+when true x y e = refl
+when false x y e = absurd (let h : false ≡ true = e in cc)
+
+unless : {X : Type 0} (b : Bool) (x y : X) → b ≡ false → elim b [ true ↦ x | false ↦ y ] ≡ y
+unless true x y e = absurd (let h : true ≡ false = e in cc)
+unless false x y e = refl
+
+-- more room for digits changes nothing
+code_enough : (f g n : ℕ) → n ≤ f → n ≤ g → code_within f n ≡ code_within g n
+code_enough zero zero n h k = refl
+code_enough zero (suc g) n h k = let e : n ≡ 0 = omega arith in rw e refl
+code_enough (suc f) zero n h k = let e : n ≡ 0 = omega arith in rw e refl
+code_enough (suc f) (suc g) n h k = elim (cases_lt n 94) [
+  | inl l ↦ when (nat_lt n 94) ((33 + n) ∷ []) ((33 + n % 94) ∷ code_within f (n / 94)) (lt_true n 94 l) ∙ sym (when (nat_lt n 94) ((33 + n) ∷ []) ((33 + n % 94) ∷ code_within g (n / 94)) (lt_true n 94 l))
+  | inr l ↦ unless (nat_lt n 94) ((33 + n) ∷ []) ((33 + n % 94) ∷ code_within f (n / 94)) (le_false n 94 l) ∙ ap (λ x. (33 + n % 94) ∷ x) (code_enough f g (n / 94) (omega arith) (omega arith)) ∙ sym (unless (nat_lt n 94) ((33 + n) ∷ []) ((33 + n % 94) ∷ code_within g (n / 94)) (le_false n 94 l))
+]
+
+-- the code of an index below 94 is one digit
+pub code_small : (n : ℕ) → n < 94 → code n ≡ (33 + n) ∷ []
+unfolding code
+code_small zero h = refl
+code_small (suc n) h = when (nat_lt (suc n) 94) ((33 + suc n) ∷ []) ((33 + suc n % 94) ∷ code_within n (suc n / 94)) (lt_true (suc n) 94 h)
+
+-- the code of another has one digit before the code of what is left
+pub code_more : (n : ℕ) → 94 ≤ n → code n ≡ (33 + n % 94) ∷ code (n / 94)
+unfolding code
+code_more zero h = absurd (omega arith)
+code_more (suc n) h =
+    unless (nat_lt (suc n) 94) ((33 + suc n) ∷ []) ((33 + suc n % 94) ∷ code_within n (suc n / 94)) (le_false (suc n) 94 h)
+    ∙ ap (λ x. (33 + suc n % 94) ∷ x) (code_enough n (suc n / 94) (suc n / 94) (omega arith) (omega arith))
+
+binary_enough : (f g n : ℕ) → n ≤ f → n ≤ g → binary_within f n ≡ binary_within g n
+binary_enough zero zero n h k = refl
+binary_enough zero (suc g) n h k = let e : n ≡ 0 = omega arith in rw e refl
+binary_enough (suc f) zero n h k = let e : n ≡ 0 = omega arith in rw e refl
+binary_enough (suc f) (suc g) n h k = elim (cases_lt n 2) [
+  | inl l ↦ when (nat_lt n 2) ((48 + n) ∷ []) (binary_within f (n / 2) ++ (48 + n % 2) ∷ []) (lt_true n 2 l) ∙ sym (when (nat_lt n 2) ((48 + n) ∷ []) (binary_within g (n / 2) ++ (48 + n % 2) ∷ []) (lt_true n 2 l))
+  | inr l ↦ unless (nat_lt n 2) ((48 + n) ∷ []) (binary_within f (n / 2) ++ (48 + n % 2) ∷ []) (le_false n 2 l) ∙ ap (λ x. x ++ (48 + n % 2) ∷ []) (binary_enough f g (n / 2) (omega arith) (omega arith)) ∙ sym (unless (nat_lt n 2) ((48 + n) ∷ []) (binary_within g (n / 2) ++ (48 + n % 2) ∷ []) (le_false n 2 l))
+]
+
+-- 0 and 1 are one digit
+pub binary_small : (n : ℕ) → n < 2 → binary n ≡ (48 + n) ∷ []
+unfolding binary
+binary_small zero h = refl
+binary_small (suc n) h = when (nat_lt (suc n) 2) ((48 + suc n) ∷ []) (binary_within n (suc n / 2) ++ (48 + suc n % 2) ∷ []) (lt_true (suc n) 2 h)
+
+-- another number has its last digit behind the digits of its half
+pub binary_more : (n : ℕ) → 2 ≤ n → binary n ≡ binary (n / 2) ++ (48 + n % 2) ∷ []
+unfolding binary
+binary_more zero h = absurd (omega arith)
+binary_more (suc n) h =
+    unless (nat_lt (suc n) 2) ((48 + suc n) ∷ []) (binary_within n (suc n / 2) ++ (48 + suc n % 2) ∷ []) (le_false (suc n) 2 h)
+    ∙ ap (λ x. x ++ (48 + suc n % 2) ∷ []) (binary_enough n (suc n / 2) (suc n / 2) (omega arith) (omega arith))
+
+-- the digits of a half, and the last digit behind them
+pub binary_step : (before mid after : List ℕ) (n : ℕ) → 2 ≤ n → mid ≡ before ++ binary (n / 2) → after ≡ mid ++ (48 + n % 2) ∷ [] → after ≡ before ++ binary n
+binary_step before mid after n h p q = q ∙ ap (λ x. x ++ (48 + n % 2) ∷ []) p ∙ append_assoc before (binary (n / 2)) ((48 + n % 2) ∷ []) ∙ ap (λ x. before ++ x) (sym (binary_more n h))
+
+-- one digit more of a code
+pub code_step : (before after all : List ℕ) (n : ℕ) → 94 ≤ n → before ++ code n ≡ all → after ≡ before ++ (33 + n % 94) ∷ [] → after ++ code (n / 94) ≡ all
+code_step before after all n h p q = ap (λ x. x ++ code (n / 94)) q ∙ append_assoc before ((33 + n % 94) ∷ []) (code (n / 94)) ∙ ap (λ x. before ++ x) (sym (code_more n h)) ∙ p
