@@ -1,14 +1,14 @@
 //! The verdict on the bytes of one file.
 
-ghost use Rattle.std.specs.Prelude.{◌≡◌, ◌<◌, ◌^◌, ◌∷◌, ◌++◌, [], length, true, IfOk};
-ghost use Rattle.std.specs.List.{list_all};
-ghost use Rattle.cnf_form.specs.Cnf.{formula_true, value_of};
-ghost use Rattle.vl_core.specs.Encoding.{Encodes};
+ghost use Rattle.std.specs.Prelude.{◌≡◌, ◌<◌, ◌^◌, ◌∷◌, [], ℕ, List, length, true, IfOk};
+ghost use Rattle.cnf_form.specs.Cnf.{value_of};
+ghost use Rattle.vl_core.specs.Encoding.{agree};
 ghost use Rattle.vl_core.specs.Places.{places_of};
 ghost use Rattle.vl_first.specs.Nodes.{nodes_of};
 ghost use Rattle.vl_first.specs.Plain.{IsPlain};
+ghost use Rattle.vl_first.specs.Violation.{violates};
 ghost use Rattle.rvf_core.specs.declared.report.Delivery.TheVariants.{File, Line};
-ghost use Rattle.rvf_core.specs.Verdict.{Convicts, Decision, Verdict, budget, certified, path};
+ghost use Rattle.rvf_core.specs.Verdict.{Convicts, Decision, Verdict, certified, path};
 
 use crate::lines::fail_report;
 use crate::report::{Delivery, Report};
@@ -83,21 +83,18 @@ fn certified(
     three(alloc, first, second, line_of(alloc, line)?)
 }
 
-/// The report of the numbers that the values give the ports.
+/// The report of the numbers that the values give the ports, where such numbers violate.
 fn convicted(
     alloc: Global,
     first: &First,
-    formula: &Formula,
     places: &[FirstPlace],
     values: &[bool],
 ) -> Result<List<Delivery>, Memory>
     requires plain { IsPlain first.now.ports }
-    requires encodes { Encodes first.now.ports formula.now places.now }
     requires places { places.now ≡ places_of first.now.ports }
-    requires model { formula_true (value_of values.now) formula.now.clauses ≡ true }
+    requires violating { (numbers : List ℕ) → agree first.now.ports places.now (value_of values.now) numbers ≡ true → violates first.now.ports numbers ≡ true }
     ensures { IfOk result (λ report. Convicts first.now.ports report) }
 {
-    let _formula = formula;
     let numbers = numbers_at(alloc, first, places, values)?;
     fail_report(alloc, first.ports.as_slice(), numbers.as_slice())
 }
@@ -113,7 +110,7 @@ fn decide(alloc: Global, outdir: &[u8], first: &First) -> Result<Report, Memory>
     match solve(alloc, &formula, BUDGET)? {
         Found::Model(values) => Ok(Report {
             status: Status::Failing,
-            deliveries: convicted(alloc, first, &formula, places.as_slice(), values.as_slice())?,
+            deliveries: convicted(alloc, first, places.as_slice(), values.as_slice())?,
         }),
         Found::Refuted(steps) => Ok(Report {
             status: Status::Passed,
