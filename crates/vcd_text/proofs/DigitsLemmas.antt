@@ -3,7 +3,8 @@ use Rattle.std.proofs.Common.{◌≡◌, ℕ, zero, suc, ◌+◌, ◌/◌, ◌%�
 use Rattle.std.specs.Prelude.{nat_lt}
 use Rattle.std.proofs.lemmas.Bool.{cases_lt}
 use Rattle.std.proofs.lemmas.Bool.Decides.{nat_tests}
-use Rattle.vcd_text.specs.Digits.{code_within, code, binary_within, binary}
+use Rattle.std.proofs.Math.Nat.{div-lt_self, mod-eq_of_lt}
+use Rattle.vcd_text.specs.Digits.{code_within, code, number_within, number, binary}
 
 lt_true : (a b : ℕ) → a < b → nat_lt a b ≡ true
 lt_true a b h = grind (arith, nat_tests)
@@ -12,11 +13,11 @@ le_false : (a b : ℕ) → b ≤ a → nat_lt a b ≡ false
 le_false a b h = grind (arith, nat_tests)
 
 -- a choice by a test whose outcome is known
-when : {X : Type 0} (b : Bool) (x y : X) → b ≡ true → elim b [ true ↦ x | false ↦ y ] ≡ x
+pub when : {X : Type 0} (b : Bool) (x y : X) → b ≡ true → elim b [ true ↦ x | false ↦ y ] ≡ x
 when true x y e = refl
 when false x y e = absurd (let h : false ≡ true = e in cc)
 
-unless : {X : Type 0} (b : Bool) (x y : X) → b ≡ false → elim b [ true ↦ x | false ↦ y ] ≡ y
+pub unless : {X : Type 0} (b : Bool) (x y : X) → b ≡ false → elim b [ true ↦ x | false ↦ y ] ≡ y
 unless true x y e = absurd (let h : true ≡ false = e in cc)
 unless false x y e = refl
 
@@ -44,28 +45,43 @@ code_more (suc n) h =
     unless (nat_lt (suc n) 94) ((33 + suc n) ∷ []) ((33 + suc n % 94) ∷ code_within n (suc n / 94)) (le_false (suc n) 94 h)
     ∙ ap (λ x. (33 + suc n % 94) ∷ x) (code_enough n (suc n / 94) (suc n / 94) (omega arith) (omega arith))
 
-binary_enough : (f g n : ℕ) → n ≤ f → n ≤ g → binary_within f n ≡ binary_within g n
-binary_enough zero zero n h k = refl
-binary_enough zero (suc g) n h k = let e : n ≡ 0 = omega arith in rw e refl
-binary_enough (suc f) zero n h k = let e : n ≡ 0 = omega arith in rw e refl
-binary_enough (suc f) (suc g) n h k = elim (cases_lt n 2) [
-  | inl l ↦ when (nat_lt n 2) ((48 + n) ∷ []) (binary_within f (n / 2) ++ (48 + n % 2) ∷ []) (lt_true n 2 l) ∙ sym (when (nat_lt n 2) ((48 + n) ∷ []) (binary_within g (n / 2) ++ (48 + n % 2) ∷ []) (lt_true n 2 l))
-  | inr l ↦ unless (nat_lt n 2) ((48 + n) ∷ []) (binary_within f (n / 2) ++ (48 + n % 2) ∷ []) (le_false n 2 l) ∙ ap (λ x. x ++ (48 + n % 2) ∷ []) (binary_enough f g (n / 2) (omega arith) (omega arith)) ∙ sym (unless (nat_lt n 2) ((48 + n) ∷ []) (binary_within g (n / 2) ++ (48 + n % 2) ∷ []) (le_false n 2 l))
+quotient_within : (base n k : ℕ) → 2 ≤ base → base ≤ n → n ≤ suc k → n / base ≤ k
+quotient_within base n k h l m = let p : 0 < n = omega (arith, h, l) in let q : 1 < base = omega (arith, h) in let r : n / base < n = div-lt_self p q in omega (arith, r, m)
+
+number_at_zero : (base f n : ℕ) → 2 ≤ base → n ≡ 0 → number_within base 0 n ≡ number_within base f n
+number_at_zero base zero n b e = refl
+number_at_zero base (suc f) n b e = let m : n % base ≡ n = mod-eq_of_lt (omega (arith, b, e)) in ap (λ x. (48 + x) ∷ []) m ∙ sym (when (nat_lt n base) ((48 + n) ∷ []) (number_within base f (n / base) ++ (48 + n % base) ∷ []) (lt_true n base (omega (arith, b, e))))
+
+number_enough : (base f g n : ℕ) → 2 ≤ base → n ≤ f → n ≤ g → number_within base f n ≡ number_within base g n
+number_enough base zero zero n b h k = refl
+number_enough base zero (suc g) n b h k = number_at_zero base (suc g) n b (omega (arith, h))
+number_enough base (suc f) zero n b h k = sym (number_at_zero base (suc f) n b (omega (arith, k)))
+number_enough base (suc f) (suc g) n b h k = elim (cases_lt n base) [
+  | inl l ↦ when (nat_lt n base) ((48 + n) ∷ []) (number_within base f (n / base) ++ (48 + n % base) ∷ []) (lt_true n base l) ∙ sym (when (nat_lt n base) ((48 + n) ∷ []) (number_within base g (n / base) ++ (48 + n % base) ∷ []) (lt_true n base l))
+  | inr l ↦ unless (nat_lt n base) ((48 + n) ∷ []) (number_within base f (n / base) ++ (48 + n % base) ∷ []) (le_false n base l) ∙ ap (λ x. x ++ (48 + n % base) ∷ []) (number_enough base f g (n / base) b (quotient_within base n f b l h) (quotient_within base n g b l k)) ∙ sym (unless (nat_lt n base) ((48 + n) ∷ []) (number_within base g (n / base) ++ (48 + n % base) ∷ []) (le_false n base l))
 ]
+
+-- a number below the base is one digit
+pub number_small : (base n : ℕ) → 2 ≤ base → n < base → number base n ≡ (48 + n) ∷ []
+unfolding number
+number_small base zero b h = ap (λ x. (48 + x) ∷ []) (let e : 0 % base ≡ 0 = mod-eq_of_lt h in e)
+number_small base (suc n) b h = when (nat_lt (suc n) base) ((48 + suc n) ∷ []) (number_within base n (suc n / base) ++ (48 + suc n % base) ∷ []) (lt_true (suc n) base h)
+
+-- another number has its last digit behind the digits of its quotient
+pub number_more : (base n : ℕ) → 2 ≤ base → base ≤ n → number base n ≡ number base (n / base) ++ (48 + n % base) ∷ []
+unfolding number
+number_more base zero b h = absurd (omega (arith, b, h))
+number_more base (suc n) b h =
+    unless (nat_lt (suc n) base) ((48 + suc n) ∷ []) (number_within base n (suc n / base) ++ (48 + suc n % base) ∷ []) (le_false (suc n) base h)
+    ∙ ap (λ x. x ++ (48 + suc n % base) ∷ []) (number_enough base n (suc n / base) (suc n / base) b (quotient_within base (suc n) n b h (omega arith)) (omega arith))
 
 -- 0 and 1 are one digit
 pub binary_small : (n : ℕ) → n < 2 → binary n ≡ (48 + n) ∷ []
-unfolding binary
-binary_small zero h = refl
-binary_small (suc n) h = when (nat_lt (suc n) 2) ((48 + suc n) ∷ []) (binary_within n (suc n / 2) ++ (48 + suc n % 2) ∷ []) (lt_true (suc n) 2 h)
+binary_small n h = number_small 2 n (omega arith) h
 
 -- another number has its last digit behind the digits of its half
 pub binary_more : (n : ℕ) → 2 ≤ n → binary n ≡ binary (n / 2) ++ (48 + n % 2) ∷ []
-unfolding binary
-binary_more zero h = absurd (omega arith)
-binary_more (suc n) h =
-    unless (nat_lt (suc n) 2) ((48 + suc n) ∷ []) (binary_within n (suc n / 2) ++ (48 + suc n % 2) ∷ []) (le_false (suc n) 2 h)
-    ∙ ap (λ x. x ++ (48 + suc n % 2) ∷ []) (binary_enough n (suc n / 2) (suc n / 2) (omega arith) (omega arith))
+binary_more n h = number_more 2 n (omega arith) h
 
 -- the digits of a half, and the last digit behind them
 pub binary_step : (before mid after : List ℕ) (n : ℕ) → 2 ≤ n → mid ≡ before ++ binary (n / 2) → after ≡ mid ++ (48 + n % 2) ∷ [] → after ≡ before ++ binary n

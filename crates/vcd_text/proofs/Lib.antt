@@ -1,2 +1,13 @@
+pub mod Alike
+pub mod Changes
 pub mod DigitsLemmas
+pub mod Ends
+pub mod Later
+pub mod LineEnds
+pub mod Lists
+pub mod Names
+pub mod Readers
+pub mod Steps
+pub mod Values
 pub mod WriteLemmas
+pub mod Written

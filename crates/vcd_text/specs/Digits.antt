@@ -14,14 +14,17 @@ code_within (suc more) n = elim (nat_lt n 94) [
 unfoldable pub code : ℕ → List ℕ
 code index = code_within index index
 
--- the binary digits of n, highest digit first, without leading zeros; at most so many before the last
-abbrev pub binary_within : ℕ → ℕ → List ℕ
-binary_within zero n = (48 + n % 2) ∷ []
-binary_within (suc more) n = elim (nat_lt n 2) [
+-- the digits of n in a base up to ten, highest digit first, without leading zeros; at most so many before the last
+abbrev pub number_within : ℕ → ℕ → ℕ → List ℕ
+number_within base zero n = (48 + n % base) ∷ []
+number_within base (suc more) n = elim (nat_lt n base) [
   | true ↦ (48 + n) ∷ []
-  | false ↦ binary_within more (n / 2) ++ (48 + n % 2) ∷ []
+  | false ↦ number_within base more (n / base) ++ (48 + n % base) ∷ []
 ]
 
--- the binary digits of n, `0` for 0
-unfoldable pub binary : ℕ → List ℕ
-binary n = binary_within n n
+-- the digits of n in the base, `0` for 0: n digits are always enough for n
+unfoldable pub number : ℕ → ℕ → List ℕ
+number base n = number_within base n n
+
+abbrev pub binary : ℕ → List ℕ
+binary n = number 2 n

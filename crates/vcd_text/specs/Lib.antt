@@ -1,2 +1,4 @@
 pub mod Digits
+pub mod Reached
+pub mod Reading
 pub mod Vcd

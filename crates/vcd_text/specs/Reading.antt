@@ -1,0 +1,95 @@
+-- Which traces can be read back from their dumps, and where a text first departs from all of these dumps. Rule of this
+-- project.
+use Rattle.std.specs.Prelude.{ℕ, ◌+◌, ◌-◌, ◌^◌, ◌<◌, ◌≤◌, ◌≡◌, min, Bool, true, false, not, ◌&&◌, ◌==◌, nat_lt, List, [], ◌∷◌, ◌++◌, length, take, slice_get, Option, Some, MatchOption}
+use Rattle.std.specs.List.{AllByRecursion, list_all}
+use Rattle.fv_base.specs.declared.trace.Trace.{Trace}
+use Rattle.fv_base.specs.declared.trace.TraceName.{TraceName}
+use Rattle.vcd_text.specs.declared.fault.VcdFault.{VcdFault}
+use Rattle.vcd_text.specs.declared.fault.VcdFault.TheVariants.{Line, Memory}
+use Rattle.vcd_text.specs.Digits.{code, binary}
+use Rattle.vcd_text.specs.Vcd.{IsTrace, IsWide, name_line, value_line, vcd_lines, vcd_text}
+
+-- neither a blank nor a control byte
+abbrev pub is_plain : ℕ → Bool
+is_plain b = nat_lt 32 b && not (b == 127)
+
+abbrev pub IsPlain : TraceName → Type 0
+IsPlain n = list_all is_plain n.text ≡ true
+
+-- a trace whose names have no blanks and no control bytes
+pub record IsReadable (t : Trace) : Type 0 where
+  pub trace : IsTrace t
+  pub plain : AllByRecursion IsPlain t.names
+
+-- the byte before the first of the lines; without an LF behind it, it is in no line
+abbrev pub joined : ℕ → List (List ℕ) → List (List ℕ)
+joined b [] = []
+joined b (l ∷ ls) = (b ∷ l) ∷ ls
+
+-- the lines of a text, each without its LF; what stands behind the last LF is no line
+abbrev pub whole_lines : List ℕ → List (List ℕ)
+whole_lines [] = []
+whole_lines (b ∷ bs) = elim (b == 10) [
+  | true ↦ [] ∷ whole_lines bs
+  | false ↦ joined b (whole_lines bs)
+]
+
+-- the dump of some trace that can be read begins with these lines
+pub record IsFront (lines : List (List ℕ)) : Type 0 where
+  pub whose : Trace
+  pub readable : IsReadable whose
+  pub rest : List (List ℕ)
+  pub same : vcd_lines whose ≡ lines ++ rest
+
+-- the first line that no dump has behind the lines before it; where the text ends too early, or behind its last LF, it is
+-- the line behind the last. Lines count from 1, and the count stands still at 2^32 - 1
+pub record IsFirstFault (bytes : List ℕ) (line : ℕ) : Type 0 where
+  pub before : ℕ
+  pub place : line ≡ min (before + 1) (2 ^ 32 - 1)
+  pub within : before ≤ length (whole_lines bytes)
+  pub leads : IsFront (take before (whole_lines bytes))
+  pub stops : before < length (whole_lines bytes) → IsFront (take (before + 1) (whole_lines bytes)) → ⊥
+
+-- the bytes are no dump of a trace that can be read
+abbrev pub IsNoDump : List ℕ → Type 0
+IsNoDump bytes = (t : Trace) → IsReadable t → vcd_text t ≡ bytes → ⊥
+
+-- the bytes are a dump, and of this trace alone
+pub record IsDumpOf (bytes : List ℕ) (t : Trace) : Type 0 where
+  pub readable : IsReadable t
+  pub same : vcd_text t ≡ bytes
+  pub only : (u : Trace) → IsReadable u → vcd_text u ≡ bytes → u ≡ t
+
+-- what a fault says; want of memory says nothing
+abbrev pub IsFaultOf : List ℕ → VcdFault → Type 0
+IsFaultOf bytes (Line line) = IsNoDump bytes × IsFirstFault bytes line
+IsFaultOf bytes Memory = Unit {0}
+
+-- a byte that isn't among these
+abbrev pub HasNo : ℕ → List ℕ → Type 0
+HasNo mark bytes = list_all (λ b. not (b == mark)) bytes ≡ true
+
+-- what stands before the first such byte, and behind it
+abbrev pub IsCut : ℕ → List ℕ → List ℕ → List ℕ → Type 0
+IsCut mark bytes front rest = (bytes ≡ front ++ mark ∷ rest) × HasNo mark front
+
+abbrev pub IsAt : List TraceName → ℕ → TraceName → Type 0
+IsAt names index name = slice_get names index ≡ Some name
+
+-- the parts of a line that says a value
+pub record IsValue (wide : Bool) (digits characters : List ℕ) (index value : ℕ) (name : TraceName) : Type 0 where
+  pub form : wide ≡ not (name.width == 1)
+  pub digits_are : digits ≡ binary value
+  pub code_is : characters ≡ code index
+  pub fits : value < 2 ^ name.width
+
+-- what a search for a value finds: in these parts, and in this line
+abbrev pub FindsParts : List TraceName → Bool → List ℕ → List ℕ → Option (ℕ × ℕ) → Type 0
+FindsParts names wide digits characters result = MatchOption result ((index value : ℕ) (name : TraceName) → IsAt names index name → IsValue wide digits characters index value name → ⊥) (λ x. (name : TraceName) × IsAt names x.0 name × IsValue wide digits characters x.0 x.1 name)
+
+abbrev pub FindsValue : List TraceName → List ℕ → Option (ℕ × ℕ) → Type 0
+FindsValue names line result = MatchOption result ((index value : ℕ) (name : TraceName) → IsAt names index name → value < 2 ^ name.width → line ≡ value_line index name value → ⊥) (λ x. (name : TraceName) × IsAt names x.0 name × (x.1 < 2 ^ name.width) × (line ≡ value_line x.0 name x.1))
+
+-- what a search for a name finds in this line
+abbrev pub FindsName : ℕ → List ℕ → Option (ℕ × List ℕ) → Type 0
+FindsName index line result = MatchOption result ((name : TraceName) → IsWide name → IsPlain name → line ≡ name_line index name → ⊥) (λ x. (1 ≤ x.0) × (x.0 ≤ 128) × (list_all is_plain x.1 ≡ true) × (line ≡ name_line index (record { text = x.1; width = x.0 })))
