@@ -20,14 +20,14 @@ module() {
   printf '  assign rvfi_valid = i; assign rvfi_insn = 0; assign rvfi_trap = %s; assign rvfi_rd_addr = 0; assign rvfi_mem_wmask = 0;\nendmodule\n' "$3"
 }
 
-"$here/rvf" run "$here/examples/first/pass.v" >/dev/null
+"$here/rvf" run "$here/examples/first/pass.v" "$folder" >/dev/null
 for row in "plain 380" "plain 765" "plain 1530" "wide 165" "wide 335" "wide 675"; do
   read -r kind outputs <<<"$row"
   for trap in i 0; do
     module "$kind" "$outputs" "$trap" >"$folder/m.v"
     tokens=$(grep -oE '[A-Za-z_][A-Za-z0-9_$]*|[0-9]+|==|[^A-Za-z0-9_[:space:]]' "$folder/m.v" | wc -l)
     start=$(date +%s.%N)
-    verdict=$("$here/rvf" run "$folder/m.v" | head -n 1) || true
+    verdict=$("$here/rvf" run "$folder/m.v" "$folder" | head -n 1) || true
     end=$(date +%s.%N)
     printf '%s, %d tokens: %s, %.2f s\n' "$kind" "$tokens" "$verdict" "$(echo "$end - $start" | bc)"
   done

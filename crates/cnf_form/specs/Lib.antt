@@ -1,4 +1,1 @@
 pub mod Cnf
-pub mod Literals
-pub mod Search
-pub mod Trail

@@ -118,6 +118,14 @@ HaveNoEnd notes = AllByRecursion HasNoEnd notes
 abbrev pub ReadsBack : List (List ℕ) → Cnf → List ℕ → Type 0
 ReadsBack notes cnf bytes = HaveNoEnd notes → cnf.vars ≤ 100000000 → length cnf.clauses ≤ 100000000 → formula_of bytes ≡ Ok cnf
 
+-- the number of a refusal in print; want of memory has none
+abbrev pub dimacs_number : DimacsFault → ℕ
+dimacs_number (Header line) = 1
+dimacs_number (Literal line) = 2
+dimacs_number (Count found said) = 3
+dimacs_number (Open line) = 4
+dimacs_number Memory = 0
+
 -- a fact about a refusal; want of memory says nothing
 abbrev pub OrMemory : DimacsFault → Type 0 → Type 0
 OrMemory (Header line) P = P

@@ -1,4 +1,5 @@
 ghost use Rattle.std.specs.Prelude.{◌≡◌};
+ghost use Rattle.cnf_text.specs.Dimacs.{dimacs_number};
 ghost use Rattle.cnf_text.specs.declared.fault.DimacsFault.TheVariants as fault;
 
 use fv_base::Memory;
@@ -27,7 +28,9 @@ pub enum DimacsFault {
 
 impl DimacsFault {
     /// The number in print.
-    pub fn number(self) -> u8 {
+    pub fn number(self) -> u8
+        ensures { result ≡ dimacs_number self }
+    {
         match self {
             DimacsFault::Header { .. } => 1,
             DimacsFault::Literal { .. } => 2,

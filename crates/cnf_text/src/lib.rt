@@ -7,6 +7,7 @@ mod header;
 mod lines;
 mod numbers;
 mod read;
+mod shared;
 mod words;
 mod write;
 

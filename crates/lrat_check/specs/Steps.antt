@@ -1,5 +1,7 @@
--- Steps of a refutation: which are valid, why one is refused, what is derived. After the LRAT paper; rule of this
--- project: there are no RAT steps, and a hint with a true literal is passed over.
+-- Steps of a refutation: which are valid, why one is refused, what is derived. A step's clause holds where unit propagation
+-- along its hints, from its literals made false, ends in a conflict (Cruz-Filipe, Heule, Hunt, Kaufmann, Schneider-Kamp:
+-- Efficient Certified RAT Verification). Rules of this project: there are no RAT steps, and a hint with a true literal is
+-- passed over.
 use Rattle.std.specs.Prelude.{ℕ, zero, suc, ◌≡◌, Bool, true, false, cond, leb, eqb, List, [], ◌∷◌, ◌++◌, ℤ, pos, unsigned_abs, int_lt, length, slice_get, Option, Some, None, Result, Ok, Err}
 use Rattle.std.specs.List.{list_any}
 use Rattle.lrat_check.specs.Sets.{negs, reading, AreLits}
@@ -18,6 +20,16 @@ Held = ℕ → Option (List ℤ)
 abbrev pub numbered : List (List ℤ) → Held
 numbered clauses zero = None
 numbered clauses (suc place) = slice_get clauses place
+
+-- the number of a refusal in print; want of memory has none
+abbrev pub step_number : StepFault → ℕ
+step_number (fault.NoClause id hint) = 1
+step_number (fault.NotUnit id hint) = 2
+step_number (fault.NoConflict id) = 3
+step_number (fault.IdOrder id) = 4
+step_number (fault.Rat id) = 5
+step_number fault.NoEmpty = 6
+step_number fault.Memory = 0
 
 -- the id holds the clause from here on
 abbrev pub with_clause : Held → ℕ → List ℤ → Held

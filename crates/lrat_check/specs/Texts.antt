@@ -119,6 +119,12 @@ AreShort (step ∷ steps) = IsShort step × AreShort steps
 abbrev pub ReadsBack : List Step → List ℕ → Type 0
 ReadsBack steps bytes = AreShort steps → steps_of bytes ≡ Ok steps
 
+-- the number of a refusal in print; want of memory has none
+abbrev pub lrat_number : LratFault → ℕ
+lrat_number (Literal line) = 1
+lrat_number (Open line) = 2
+lrat_number Memory = 0
+
 -- a fact about a refusal; want of memory says nothing
 abbrev pub OrMemory : LratFault → Type 0 → Type 0
 OrMemory (Literal line) P = P

@@ -1,4 +1,5 @@
 ghost use Rattle.std.specs.Prelude.{◌≡◌};
+ghost use Rattle.lrat_check.specs.Texts.{lrat_number};
 ghost use Rattle.lrat_check.specs.declared.lrat_fault.LratFault.TheVariants as fault;
 
 use fv_base::Memory;
@@ -20,7 +21,9 @@ pub enum LratFault {
 
 impl LratFault {
     /// The number in print.
-    pub fn number(self) -> u8 {
+    pub fn number(self) -> u8
+        ensures { result ≡ lrat_number self }
+    {
         match self {
             LratFault::Literal { .. } => 1,
             LratFault::Open { .. } => 2,

@@ -1,4 +1,5 @@
 ghost use Rattle.std.specs.Prelude.{◌≡◌};
+ghost use Rattle.lrat_check.specs.Steps.{step_number};
 ghost use Rattle.lrat_check.specs.declared.step.StepFault.TheVariants as fault;
 
 use fv_base::{List, Memory};
@@ -54,7 +55,9 @@ pub enum StepFault {
 
 impl StepFault {
     /// The number in print.
-    pub fn number(self) -> u8 {
+    pub fn number(self) -> u8
+        ensures { result ≡ step_number self }
+    {
         match self {
             StepFault::NoClause { .. } => 1,
             StepFault::NotUnit { .. } => 2,

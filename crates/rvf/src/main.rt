@@ -1,33 +1,64 @@
 //! The program: the words of its command line, the system's files and standard output, and the exit code.
 #![tactic(auto)]
 
-use fv_base::{RealFiles, RealOut};
+ghost use Rattle.std.specs.Prelude.{◌≡◌, map, string_bytes, [], IfOk, IfErr};
+ghost use Rattle.std.specs.Process.{exit_status};
+ghost use Rattle.rvf_core.specs.Status.{code_of};
+ghost use Rattle.rvf.specs.Exit.{Exits};
+
+use fv_base::{Files, Out, RealFiles, RealOut};
 use rvf_core::{Status, run};
 use std::alloc::Global;
 use std::env::{self, Env};
 use std::io;
 use std::process::ExitCode;
+use std::thread::Threads;
 
 fn main(rt: HostRuntime) -> ExitCode {
     let alloc = rt.alloc();
-    let status = match words(&rt, alloc) {
-        Ok(words) => run(
-            &rt,
-            alloc,
-            words.as_slice(),
-            &mut RealFiles::new(&rt),
-            &mut RealOut::new(&rt),
-        ),
-        Err(fault) if fault.kind() == io::ErrorKind::OutOfMemory => Status::Memory,
+    let words = words(&rt, alloc);
+    exit(
+        &rt,
+        alloc,
+        words,
+        &mut RealFiles::new(&rt),
+        &mut RealOut::new(&rt),
+    )
+}
+
+/// Runs on the words, and answers the exit code of how that ended.
+fn exit<R: Threads + Sync, F: Files, O: Out>(
+    rt: &R,
+    alloc: Global,
+    words: io::Result<Vec<String>>,
+    files: &mut F,
+    out: &mut O,
+) -> ExitCode
+    ensures answer { IfOk words (λ words. Exits (exit_status result) (record {
+      words = map string_bytes words.items;
+      before = record { held = F.held files.old; misses = F.misses files.old; faults = F.faults files.old; sent = O.sent out.old; out_faults = O.faults out.old };
+      now = record { held = F.held files.new; misses = F.misses files.new; faults = F.faults files.new; sent = O.sent out.new; out_faults = O.faults out.new };
+    })) }
+
+    // Words that can't be had are no words of a command.
+    ensures unread { IfErr words (λ fault. Exits (exit_status result) (record {
+      words = [];
+      before = record { held = F.held files.old; misses = F.misses files.old; faults = F.faults files.old; sent = O.sent out.old; out_faults = O.faults out.old };
+      now = record { held = F.held files.new; misses = F.misses files.new; faults = F.faults files.new; sent = O.sent out.new; out_faults = O.faults out.new };
+    })) }
+{
+    match words {
+        Ok(words) => coded(run(rt, alloc, words.as_slice(), files, out)),
+        Err(fault) if fault.kind() == io::ErrorKind::OutOfMemory => coded(Status::Memory),
         // A word that isn't UTF-8 is no word of any command.
-        Err(_) => run(
-            &rt,
-            alloc,
-            &[],
-            &mut RealFiles::new(&rt),
-            &mut RealOut::new(&rt),
-        ),
-    };
+        Err(_) => coded(run(rt, alloc, &[], files, out)),
+    }
+}
+
+/// The exit code of the status.
+fn coded(status: Status) -> ExitCode
+    ensures { exit_status result ≡ code_of status }
+{
     ExitCode::from(status.code())
 }
 

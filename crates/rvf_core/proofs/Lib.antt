@@ -1,4 +1,6 @@
-pub mod CauseLemmas
-pub mod EndsLemmas
-pub mod PutLemmas
-pub mod RunLemmas
+pub mod Deliveries
+pub mod Ports
+pub mod Judging
+pub mod Causes
+pub mod Endings
+pub mod Exact

@@ -1,34 +1,32 @@
--- How a work ends that puts lines and answers a status. Rules of this project.
-use Rattle.std.specs.Prelude.{◌≡◌, ℕ, List, [], Option, MatchOption}
-use Rattle.fv_base.specs.Outside.{Rose, Appends, AppendsPart}
+-- How a run ends that reports, where `Says` tells which cause and which report each status has. Rules of this project.
+use Rattle.std.specs.Prelude.{◌≡◌, List, [], Option, MatchOption}
+use Rattle.rvf_core.specs.Report.{Outside, Delivers, Fails, Stops}
+use Rattle.rvf_core.specs.declared.report.Delivery.{Delivery}
 use Rattle.rvf_core.specs.declared.status.Status.{Status}
 use Rattle.rvf_core.specs.declared.status.Status.TheVariants as s
 
-module _ (Says : Status → List ℕ → Type 0) (sent sent_now : Option (List ℕ)) (faults faults_now : ℕ) where
-  -- the status has its cause, and exactly its lines were put
-  pub record Answered (status : Status) : Type 0 where
-    pub lines : List ℕ
-    pub says : Says status lines
-    pub put : Appends sent sent_now lines
+module _ (Says : Status → List Delivery → Type 0) (before now : Outside) where
+  -- the status has its cause, and all of its report was delivered
+  pub record Reports (status : Status) : Type 0 where
+    pub report : List Delivery
+    pub says : Says status report
+    pub delivered : Delivers before now report
 
-  -- a line could not be put, which was counted; what was put is a prefix of the lines of a status that has its cause
-  pub record FailsToPut : Type 0 where
+  -- something of the report of a status that has its cause could not be delivered
+  pub record Breaks : Type 0 where
     pub status : Status
-    pub lines : List ℕ
-    pub says : Says status lines
-    pub put : AppendsPart sent sent_now lines
-    pub counted : Rose faults faults_now
+    pub report : List Delivery
+    pub says : Says status report
+    pub fails : Fails before now report
 
-  -- memory was wanted; what was put is nothing, or a prefix of the lines of a status that has its cause
+  -- memory was wanted, with nothing delivered; or among the deliveries of a status that has its cause
   pub record WantsMemory : Type 0 where
     pub status : Option Status
-    pub lines : List ℕ
-    pub says : MatchOption status (lines ≡ []) (λ named. Says named lines)
-    pub put : AppendsPart sent sent_now lines
+    pub report : List Delivery
+    pub says : MatchOption status (report ≡ []) (λ named. Says named report)
+    pub stops : Stops before now report
 
--- What a status means, where `Says` tells which causes and lines each status has. The last four are what was sent and
--- how many faults the output had, before and after.
-abbrev pub Ends : (Status → List ℕ → Type 0) → Status → Option (List ℕ) → Option (List ℕ) → ℕ → ℕ → Type 0
-Ends Says s.WriteFault sent sent_now faults faults_now = FailsToPut Says sent sent_now faults faults_now
-Ends Says s.Memory sent sent_now faults faults_now = WantsMemory Says sent sent_now faults faults_now
-Ends Says status sent sent_now faults faults_now = Answered Says sent sent_now faults faults_now status
+abbrev pub Ends : (Status → List Delivery → Type 0) → Status → Outside → Outside → Type 0
+Ends Says s.WriteFault before now = Breaks Says before now
+Ends Says s.Memory before now = WantsMemory Says before now
+Ends Says status before now = Reports Says before now status

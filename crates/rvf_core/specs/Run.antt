@@ -9,6 +9,9 @@ use Rattle.rvf_core.specs.Certificate.{outcome}
 use Rattle.rvf_core.specs.Command.{Command, check, refute, command_of, files_of}
 use Rattle.rvf_core.specs.Ends.{Ends}
 use Rattle.rvf_core.specs.Lines.{usage_line, absent_front, read_fault_front, named_line}
+use Rattle.rvf_core.specs.Report.{Outside}
+use Rattle.rvf_core.specs.declared.report.Delivery.{Delivery}
+use Rattle.rvf_core.specs.declared.report.Delivery.TheVariants.{Line}
 use Rattle.rvf_core.specs.Status.{code_of}
 use Rattle.rvf_core.specs.Verdict.{NoneViolate, Verdict}
 use Rattle.rvf_core.specs.declared.status.Status.{Status}
@@ -22,15 +25,21 @@ pub record Seen : Type 0 where
   pub faults : ℕ
   pub faults_now : ℕ
 
--- all that a run was given, and what it left; no run of this form writes a file
+-- all that a run was given, and what it left
 pub record Run : Type 0 where
   -- the words behind the program's name
   pub words : List (List ℕ)
-  pub seen : Seen
-  pub sent : Option (List ℕ)
-  pub sent_now : Option (List ℕ)
-  pub out_faults : ℕ
-  pub out_faults_now : ℕ
+  pub before : Outside
+  pub now : Outside
+
+abbrev pub seen_in : Run → Seen
+seen_in r = record {
+  held = r.before.held;
+  misses = r.before.misses;
+  misses_now = r.now.misses;
+  faults = r.before.faults;
+  faults_now = r.now.faults;
+}
 
 -- the file where it holds nothing, else what is found behind it
 abbrev pub lacking_or : Option (List ℕ) → List ℕ → Option (List ℕ) → Option (List ℕ)
@@ -43,85 +52,83 @@ first_lacking names [] = None
 first_lacking names (file ∷ files) = lacking_or (names file) file (first_lacking names files)
 
 -- a file isn't held, which was counted: one of those to be read, and where files are told the first of them
-pub record Misses (files : List (List ℕ)) (seen : Seen) (lines : List ℕ) : Type 0 where
+pub record Misses (files : List (List ℕ)) (seen : Seen) (report : List Delivery) : Type 0 where
   pub name : List ℕ
   pub among : is_among name files ≡ true
   pub first : IfSome seen.held (λ names. first_lacking names files ≡ Some name)
   pub counted : Rose seen.misses seen.misses_now
-  pub line : lines ≡ named_line absent_front name
+  pub report_is : report ≡ Line (named_line absent_front name) ∷ []
 
 -- one of the files to be read could not be read, which was counted
-pub record FailsToRead (files : List (List ℕ)) (seen : Seen) (lines : List ℕ) : Type 0 where
+pub record FailsToRead (files : List (List ℕ)) (seen : Seen) (report : List Delivery) : Type 0 where
   pub name : List ℕ
   pub among : is_among name files ≡ true
   pub counted : Rose seen.faults seen.faults_now
-  pub line : lines ≡ named_line read_fault_front name
+  pub report_is : report ≡ Line (named_line read_fault_front name) ∷ []
 
 -- the file gave bytes, and the status is their verdict
-pub record Reads (status : Status) (file : List ℕ) (seen : Seen) (lines : List ℕ) : Type 0 where
+pub record Reads (status : Status) (file outdir : List ℕ) (seen : Seen) (report : List Delivery) : Type 0 where
   pub bytes : List ℕ
   pub gives : ReadGives seen.held file bytes
-  pub verdict : Verdict status bytes lines
+  pub verdict : Verdict status outdir bytes report
 
--- status and line are what a certificate comes to
-abbrev pub Finds : List ℕ → List ℕ → Status → List ℕ → Type 0
-Finds clauses steps status lines = outcome clauses steps ≡ record { status = status; line = lines }
-
--- both files gave bytes, and status and line are what the certificate comes to
-pub record Certifies (status : Status) (cnf proof : List ℕ) (seen : Seen) (lines : List ℕ) : Type 0 where
+-- both files gave bytes, and status and report are what the certificate comes to
+pub record Certifies (status : Status) (cnf proof : List ℕ) (seen : Seen) (report : List Delivery) : Type 0 where
   pub clauses : List ℕ
   pub gives_clauses : ReadGives seen.held cnf clauses
   pub steps : List ℕ
   pub gives_steps : ReadGives seen.held proof steps
-  pub found : Finds clauses steps status lines
+  pub found : outcome clauses steps ≡ record { status = status; deliveries = report }
 
--- `run FILE`
-abbrev pub Checks : List ℕ → Seen → Status → List ℕ → Type 0
-Checks file seen s.Passed lines = Reads s.Passed file seen lines
-Checks file seen s.Failing lines = Reads s.Failing file seen lines
-Checks file seen s.Source lines = Reads s.Source file seen lines
-Checks file seen s.Absent lines = Misses (file ∷ []) seen lines
-Checks file seen s.ReadFault lines = FailsToRead (file ∷ []) seen lines
-Checks file seen status lines = ⊥
+-- `run FILE OUTDIR`
+abbrev pub Checks : List ℕ → List ℕ → Seen → Status → List Delivery → Type 0
+Checks file outdir seen s.Passed report = Reads s.Passed file outdir seen report
+Checks file outdir seen s.Failing report = Reads s.Failing file outdir seen report
+Checks file outdir seen s.Spent report = Reads s.Spent file outdir seen report
+Checks file outdir seen s.Source report = Reads s.Source file outdir seen report
+Checks file outdir seen s.Absent report = Misses (file ∷ []) seen report
+Checks file outdir seen s.ReadFault report = FailsToRead (file ∷ []) seen report
+Checks file outdir seen status report = ⊥
 
 -- `lrat CNF PROOF`
-abbrev pub Refutes : List ℕ → List ℕ → Seen → Status → List ℕ → Type 0
-Refutes cnf proof seen s.Passed lines = Certifies s.Passed cnf proof seen lines
-Refutes cnf proof seen s.Refused lines = Certifies s.Refused cnf proof seen lines
-Refutes cnf proof seen s.Absent lines = Misses (cnf ∷ proof ∷ []) seen lines
-Refutes cnf proof seen s.ReadFault lines = FailsToRead (cnf ∷ proof ∷ []) seen lines
-Refutes cnf proof seen status lines = ⊥
+abbrev pub Refutes : List ℕ → List ℕ → Seen → Status → List Delivery → Type 0
+Refutes cnf proof seen s.Passed report = Certifies s.Passed cnf proof seen report
+Refutes cnf proof seen s.Refused report = Certifies s.Refused cnf proof seen report
+Refutes cnf proof seen s.Absent report = Misses (cnf ∷ proof ∷ []) seen report
+Refutes cnf proof seen s.ReadFault report = FailsToRead (cnf ∷ proof ∷ []) seen report
+Refutes cnf proof seen status report = ⊥
 
 -- other words
-abbrev pub Misuses : Status → List ℕ → Type 0
-Misuses s.Usage lines = lines ≡ usage_line
-Misuses status lines = ⊥
+abbrev pub Misuses : Status → List Delivery → Type 0
+Misuses s.Usage report = report ≡ Line usage_line ∷ []
+Misuses status report = ⊥
 
--- a status has its cause in the run, under what the words ask for, and these are its lines
-abbrev pub SaysOf : Option Command → Seen → Status → List ℕ → Type 0
-SaysOf None seen status lines = Misuses status lines
-SaysOf (Some (check file)) seen status lines = Checks file seen status lines
-SaysOf (Some (refute cnf proof)) seen status lines = Refutes cnf proof seen status lines
+-- a status has its cause in the run, under what the words ask for, and this is its report
+abbrev pub SaysOf : Option Command → Seen → Status → List Delivery → Type 0
+SaysOf None seen status report = Misuses status report
+SaysOf (Some (check file outdir)) seen status report = Checks file outdir seen status report
+SaysOf (Some (refute cnf proof)) seen status report = Refutes cnf proof seen status report
 
 -- what each status means of a run
 abbrev pub Answers : Status → Run → Type 0
-Answers status r = Ends (SaysOf (command_of r.words) r.seen) status r.sent r.sent_now r.out_faults r.out_faults_now
+Answers status r = Ends (SaysOf (command_of r.words) (seen_in r)) status r.before r.now
 
 -- a count went up, or stands at its end
 abbrev pub rose : ℕ → ℕ → Bool
 rose before now = nat_le (min (before + 1) (2 ^ 64 - 1)) now
 
--- the files are told, and no read failed
+-- the files are told, and no read or write failed
 pub record Knows (r : Run) (command : Command) (names : Names) : Type 0 where
   pub asked : command_of r.words ≡ Some command
-  pub told : r.seen.held ≡ Some names
-  pub no_fault : rose r.seen.faults r.seen.faults_now ≡ false
+  pub told : r.before.held ≡ Some names
+  pub no_fault : rose r.before.faults r.now.faults ≡ false
 
--- the file of `run FILE` is held
+-- the file of `run FILE OUTDIR` is held
 pub record Holding (r : Run) (bytes : List ℕ) : Type 0 where
   pub file : List ℕ
+  pub outdir : List ℕ
   pub names : Names
-  pub known : Knows r (check file) names
+  pub known : Knows r (check file outdir) names
   pub held : names file ≡ Some bytes
 
 -- both files of `lrat CNF PROOF` are held
@@ -141,16 +148,20 @@ pub record Lacking (r : Run) : Type 0 where
   pub name : List ℕ
   pub lacks : first_lacking names (files_of command) ≡ Some name
 
--- the wanted status came, or what may take its place: a line that could not be put (8), or want of memory (11)
+-- the wanted status came, or what may take its place: a delivery that failed (8), or want of memory (11)
 abbrev pub comes : Status → Status → Bool
 comes wanted status = (code_of status == code_of wanted) || ((code_of status == 8) || (code_of status == 11))
+
+-- the wanted status came or what may take its place, or the budget was used up before (2)
+abbrev pub comes_in_budget : Status → Status → Bool
+comes_in_budget wanted status = comes wanted status || (code_of status == 2)
 
 -- each cause has its status: where it is there, and nothing earlier in the order of work, the status comes
 pub record IsExact (status : Status) (r : Run) : Type 0 where
   pub usage : command_of r.words ≡ None → comes s.Usage status ≡ true
   pub absent : Lacking r → comes s.Absent status ≡ true
   pub source : (bytes : List ℕ) → Holding r bytes → IsNone bytes → comes s.Source status ≡ true
-  pub pass : (bytes : List ℕ) (ports : List FirstPort) → Holding r bytes → IsFirst bytes ports → NoneViolate ports → comes s.Passed status ≡ true
+  pub pass : (bytes : List ℕ) (ports : List FirstPort) → Holding r bytes → IsFirst bytes ports → NoneViolate ports → comes_in_budget s.Passed status ≡ true
   pub fail : (bytes : List ℕ) (ports : List FirstPort) (numbers : List ℕ)
-      → Holding r bytes → IsFirst bytes ports → violates ports numbers ≡ true → comes s.Failing status ≡ true
+      → Holding r bytes → IsFirst bytes ports → violates ports numbers ≡ true → comes_in_budget s.Failing status ≡ true
   pub certificate : (clauses steps : List ℕ) → HoldingBoth r clauses steps → comes (outcome clauses steps).status status ≡ true

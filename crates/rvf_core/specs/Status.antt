@@ -20,7 +20,7 @@ code_of s.Heavy = 9
 code_of s.Refused = 10
 code_of s.Memory = 11
 
--- a status stands where its lines were put; a line that could not be put, and want of memory, take its place
+-- a status stands where its report was delivered; a delivery that failed, and want of memory, take its place
 abbrev pub ends : Result (Unit {0}) OutFault → Status → Status
 ends (Ok u) status = status
 ends (Err out.Failed) status = s.WriteFault

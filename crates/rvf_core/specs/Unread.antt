@@ -1,23 +1,13 @@
 -- Why a run ends without the bytes of a file. Rules of this project.
 use Rattle.std.specs.Prelude.{◌≡◌, ℕ, List}
-use Rattle.fv_base.specs.Outside.{Told, Rose, Lacks}
-use Rattle.rvf_core.specs.Lines.{absent_front, read_fault_front, named_line}
-use Rattle.rvf_core.specs.declared.status.Status.{Status}
+use Rattle.fv_base.specs.declared.files.FileFault.{FileFault}
+use Rattle.fv_base.specs.declared.files.FileFault.TheVariants as file
+use Rattle.rvf_core.specs.Lines.{absent_front, read_fault_front, named_line, one_line}
+use Rattle.rvf_core.specs.declared.report.Report.{Report}
 use Rattle.rvf_core.specs.declared.status.Status.TheVariants as s
 
--- the file isn't held, which was counted
-pub record IsLacking (held : Told) (name : List ℕ) (misses misses_now : ℕ) (lines : List ℕ) : Type 0 where
-  pub lacks : Lacks held name
-  pub counted : Rose misses misses_now
-  pub line : lines ≡ named_line absent_front name
-
--- the file could not be read, which was counted
-pub record IsFaulty (name : List ℕ) (faults faults_now : ℕ) (lines : List ℕ) : Type 0 where
-  pub counted : Rose faults faults_now
-  pub line : lines ≡ named_line read_fault_front name
-
--- what a status says of the file that could not be read, and its line
-abbrev pub Unread : Told → List ℕ → ℕ → ℕ → ℕ → ℕ → Status → List ℕ → Type 0
-Unread held name misses misses_now faults faults_now s.Absent lines = IsLacking held name misses misses_now lines
-Unread held name misses misses_now faults faults_now s.ReadFault lines = IsFaulty name faults faults_now lines
-Unread held name misses misses_now faults faults_now status lines = ⊥
+-- the report on a file that gave no bytes; want of memory has none
+abbrev pub Unread : FileFault → List ℕ → Report → Type 0
+Unread file.Absent name report = report ≡ one_line s.Absent (named_line absent_front name)
+Unread file.Failed name report = report ≡ one_line s.ReadFault (named_line read_fault_front name)
+Unread file.Memory name report = ⊥

@@ -4,5 +4,5 @@ use Rattle.rvf_core.specs.declared.request.Request.{Request}
 use Rattle.rvf_core.specs.declared.request.Request.TheVariants as request
 
 abbrev pub command : Request → Command
-command (request.Check file) = check file.now
+command (request.Check file outdir) = check file.now outdir.now
 command (request.Refute cnf proof) = refute cnf.now proof.now

@@ -2,15 +2,15 @@
 
 ghost use Rattle.std.specs.Prelude.{◌≡◌, ◌++◌, ◌∷◌, [], IfOk, OnOk, codes, decimal};
 ghost use Rattle.std.specs.Fmt.{signed_decimal};
-ghost use Rattle.rvf_core.specs.Certificate.{cnf_line, lrat_line, step_line, refuted_line, two_values, three_values, refused, judgement, steps_finding, outcome};
+ghost use Rattle.rvf_core.specs.Certificate.{line_in_cnf, cnf_line, line_in_lrat, lrat_line, step_id, step_hint, step_line, refuted_line, two_values, three_values, judgement, proof_report, outcome};
 ghost use Rattle.lrat_check.specs.Steps.{AreSteps, judged};
 ghost use Rattle.lrat_check.specs.Texts.{steps_of};
 
-use crate::finding::Finding;
+use crate::report::Report;
 use crate::status::Status;
 use cnf_form::Formula;
 use cnf_text::{DimacsFault, read_dimacs};
-use fv_base::{Memory, Text};
+use fv_base::Memory;
 use itoa::Buffer;
 use lrat_check::{LratFault, Step, StepFault, read_lrat, verify};
 use std::alloc::Global;
@@ -25,16 +25,17 @@ fn push_word(line: &mut Vec<u8>, word: &[u8]) -> Result<(), Memory>
 }
 
 /// The last word and the end of the line.
-fn ended(mut line: Vec<u8>, word: &[u8]) -> Result<Text, Memory>
-    ensures { IfOk result (λ text. text ≡ line.items ++ (word.now ++ (10 ∷ []))) }
+fn ended(begun: Vec<u8>, word: &[u8]) -> Result<Vec<u8>, Memory>
+    ensures { IfOk result (λ line. line.items ≡ begun.items ++ (word.now ++ (10 ∷ []))) }
 {
+    let mut line = begun;
     line.extend_from_slice(word)?;
     line.push(b'\n')?;
-    Ok(Text::from_vec(line))
+    Ok(line)
 }
 
-fn line_of_two(alloc: Global, front: &[u8], number: u8, value: u32) -> Result<Text, Memory>
-    ensures { IfOk result (λ line. line ≡ two_values front.now number (decimal value)) }
+fn line_of_two(alloc: Global, front: &[u8], number: u8, value: u32) -> Result<Vec<u8>, Memory>
+    ensures { IfOk result (λ line. line.items ≡ two_values front.now number (decimal value)) }
 {
     let mut buffer = Buffer::new();
     let mut line = Vec::new(alloc);
@@ -43,8 +44,8 @@ fn line_of_two(alloc: Global, front: &[u8], number: u8, value: u32) -> Result<Te
     ended(line, buffer.format(value).as_bytes())
 }
 
-fn line_of_three(alloc: Global, number: u8, id: u64, hint: i128) -> Result<Text, Memory>
-    ensures { IfOk result (λ line. line ≡ three_values (codes "refused step") number id (signed_decimal hint)) }
+fn line_of_three(alloc: Global, number: u8, id: u64, hint: i128) -> Result<Vec<u8>, Memory>
+    ensures { IfOk result (λ line. line.items ≡ three_values (codes "refused step") number id (signed_decimal hint)) }
 {
     let mut buffer = Buffer::new();
     let mut line = Vec::new(alloc);
@@ -54,8 +55,8 @@ fn line_of_three(alloc: Global, number: u8, id: u64, hint: i128) -> Result<Text,
     ended(line, buffer.format(hint).as_bytes())
 }
 
-fn line_of_id(alloc: Global, id: u64) -> Result<Text, Memory>
-    ensures { IfOk result (λ line. line ≡ refuted_line id) }
+fn line_of_id(alloc: Global, id: u64) -> Result<Vec<u8>, Memory>
+    ensures { IfOk result (λ line. line.items ≡ refuted_line id) }
 {
     let mut buffer = Buffer::new();
     let mut line = Vec::new(alloc);
@@ -63,89 +64,111 @@ fn line_of_id(alloc: Global, id: u64) -> Result<Text, Memory>
     ended(line, buffer.format(id).as_bytes())
 }
 
-fn cnf_line(alloc: Global, fault: DimacsFault) -> Result<Text, Memory>
-    ensures { IfOk result (λ line. line ≡ cnf_line fault) }
+/// The line of the clause file, 0 where there is none.
+fn line_in_cnf(fault: DimacsFault) -> u32
+    ensures { result ≡ line_in_cnf fault }
 {
-    let front = b"refused cnf".as_slice();
     match fault {
-        DimacsFault::Header { line } => line_of_two(alloc, front, 1, line),
-        DimacsFault::Literal { line } => line_of_two(alloc, front, 2, line),
-        DimacsFault::Count { .. } => line_of_two(alloc, front, 3, 0),
-        DimacsFault::Open { line } => line_of_two(alloc, front, 4, line),
-        DimacsFault::Memory => Err(Memory),
+        DimacsFault::Header { line } | DimacsFault::Literal { line } | DimacsFault::Open { line } =>
+            line,
+        DimacsFault::Count { .. } | DimacsFault::Memory => 0,
     }
 }
 
-fn lrat_line(alloc: Global, fault: LratFault) -> Result<Text, Memory>
-    ensures { IfOk result (λ line. line ≡ lrat_line fault) }
+fn cnf_line(alloc: Global, fault: DimacsFault) -> Result<Vec<u8>, Memory>
+    ensures { IfOk result (λ line. line.items ≡ cnf_line fault) }
 {
-    let front = b"refused lrat".as_slice();
+    line_of_two(alloc, b"refused cnf", fault.number(), line_in_cnf(fault))
+}
+
+/// The line of the proof, 0 where there is none.
+fn line_in_lrat(fault: LratFault) -> u32
+    ensures { result ≡ line_in_lrat fault }
+{
     match fault {
-        LratFault::Literal { line } => line_of_two(alloc, front, 1, line),
-        LratFault::Open { line } => line_of_two(alloc, front, 2, line),
-        LratFault::Memory => Err(Memory),
+        LratFault::Literal { line } | LratFault::Open { line } => line,
+        LratFault::Memory => 0,
     }
 }
 
-fn step_line(alloc: Global, fault: StepFault) -> Result<Text, Memory>
-    ensures { IfOk result (λ line. line ≡ step_line fault) }
+fn lrat_line(alloc: Global, fault: LratFault) -> Result<Vec<u8>, Memory>
+    ensures { IfOk result (λ line. line.items ≡ lrat_line fault) }
+{
+    line_of_two(alloc, b"refused lrat", fault.number(), line_in_lrat(fault))
+}
+
+/// The id of the refused step, 0 where there is none.
+fn step_id(fault: StepFault) -> u64
+    ensures { result ≡ step_id fault }
 {
     match fault {
-        StepFault::NoClause { id, hint } => line_of_three(alloc, 1, id, hint),
-        StepFault::NotUnit { id, hint } => line_of_three(alloc, 2, id, hint),
-        StepFault::NoConflict { id } => line_of_three(alloc, 3, id, 0),
-        StepFault::IdOrder { id } => line_of_three(alloc, 4, id, 0),
-        StepFault::Rat { id } => line_of_three(alloc, 5, id, 0),
-        StepFault::NoEmpty => line_of_three(alloc, 6, 0, 0),
-        StepFault::Memory => Err(Memory),
+        StepFault::NoClause { id, .. }
+        | StepFault::NotUnit { id, .. }
+        | StepFault::NoConflict { id }
+        | StepFault::IdOrder { id }
+        | StepFault::Rat { id } => id,
+        StepFault::NoEmpty | StepFault::Memory => 0,
     }
 }
 
-fn refused(line: Text) -> Finding
-    ensures { result ≡ refused line }
+/// The hint that the step is refused for, 0 where there is none.
+fn step_hint(fault: StepFault) -> i128
+    ensures { result ≡ step_hint fault }
 {
-    Finding {
-        status: Status::Refused,
-        line,
+    match fault {
+        StepFault::NoClause { hint, .. } | StepFault::NotUnit { hint, .. } => hint,
+        _ => 0,
     }
+}
+
+fn step_line(alloc: Global, fault: StepFault) -> Result<Vec<u8>, Memory>
+    ensures { IfOk result (λ line. line.items ≡ step_line fault) }
+{
+    line_of_three(alloc, fault.number(), step_id(fault), step_hint(fault))
 }
 
 /// What the steps come to over the clauses of a formula.
-fn check(alloc: Global, formula: &Formula, steps: &[Step]) -> Result<Finding, Memory>
+fn check(alloc: Global, formula: &Formula, steps: &[Step]) -> Result<Report, Memory>
     requires { AreSteps steps.now }
-    ensures { IfOk result (λ found. found ≡ judgement (judged formula.now.clauses steps.now)) }
+    ensures { IfOk result (λ report. report ≡ judgement (judged formula.now.clauses steps.now)) }
 {
     match verify(alloc, formula, steps) {
         Ok(refuted) => {
             let line = line_of_id(alloc, refuted.id)?;
-            Ok(Finding {
-                status: Status::Passed,
-                line,
-            })
+            Report::of_line(alloc, Status::Passed, line.as_slice())
         }
         Err(StepFault::Memory) => Err(Memory),
-        Err(fault) => Ok(refused(step_line(alloc, fault)?)),
+        Err(fault) => {
+            let line = step_line(alloc, fault)?;
+            Report::of_line(alloc, Status::Refused, line.as_slice())
+        }
     }
 }
 
 /// What the proof comes to over the clauses of a formula.
-fn prove(alloc: Global, formula: &Formula, proof: &[u8]) -> Result<Finding, Memory>
-    ensures { IfOk result (λ found. found ≡ steps_finding formula.now.clauses (steps_of proof.now)) }
+fn prove(alloc: Global, formula: &Formula, proof: &[u8]) -> Result<Report, Memory>
+    ensures { IfOk result (λ report. report ≡ proof_report formula.now.clauses (steps_of proof.now)) }
 {
     match read_lrat(alloc, proof) {
         Ok(steps) => check(alloc, formula, steps.as_slice()),
         Err(LratFault::Memory) => Err(Memory),
-        Err(fault) => Ok(refused(lrat_line(alloc, fault)?)),
+        Err(fault) => {
+            let line = lrat_line(alloc, fault)?;
+            Report::of_line(alloc, Status::Refused, line.as_slice())
+        }
     }
 }
 
 /// What a certificate comes to: the first refusal, or that the steps refute.
-pub(crate) fn certify(alloc: Global, cnf: &[u8], proof: &[u8]) -> Result<Finding, Memory>
-    ensures { IfOk result (λ found. found ≡ outcome cnf.now proof.now) }
+pub(crate) fn certify(alloc: Global, cnf: &[u8], proof: &[u8]) -> Result<Report, Memory>
+    ensures { IfOk result (λ report. report ≡ outcome cnf.now proof.now) }
 {
     match read_dimacs(alloc, cnf) {
         Ok(formula) => prove(alloc, &formula, proof),
         Err(DimacsFault::Memory) => Err(Memory),
-        Err(fault) => Ok(refused(cnf_line(alloc, fault)?)),
+        Err(fault) => {
+            let line = cnf_line(alloc, fault)?;
+            Report::of_line(alloc, Status::Refused, line.as_slice())
+        }
     }
 }

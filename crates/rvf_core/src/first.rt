@@ -1,61 +1,148 @@
 //! The verdict on the bytes of one file.
 
-ghost use Rattle.std.specs.Prelude.{◌≡◌, ◌<◌, ◌^◌, length, true, IfOk, MatchOption};
+ghost use Rattle.std.specs.Prelude.{◌≡◌, ◌<◌, ◌^◌, ◌∷◌, ◌++◌, [], length, true, IfOk};
+ghost use Rattle.std.specs.List.{list_all};
+ghost use Rattle.cnf_form.specs.Cnf.{formula_true, value_of};
+ghost use Rattle.vl_core.specs.Encoding.{Encodes};
+ghost use Rattle.vl_core.specs.Places.{places_of};
 ghost use Rattle.vl_first.specs.Nodes.{nodes_of};
 ghost use Rattle.vl_first.specs.Plain.{IsPlain};
-ghost use Rattle.vl_first.specs.Violation.{violates};
-ghost use Rattle.rvf_core.specs.Ends.{Ends};
-ghost use Rattle.rvf_core.specs.Verdict.{Decision, NoneViolate, Verdict};
+ghost use Rattle.rvf_core.specs.declared.report.Delivery.TheVariants.{File, Line};
+ghost use Rattle.rvf_core.specs.Verdict.{Convicts, Decision, Verdict, budget, certified, path};
 
-use crate::line::{ended, put_failure, put_line};
+use crate::lines::fail_report;
+use crate::report::{Delivery, Report};
 use crate::status::Status;
-use cnf_form::find;
-use fv_base::{List, Memory, Out};
+use cnf_form::Formula;
+use cnf_text::dimacs;
+use fv_base::{List, Memory, Text};
+use lrat_check::{Step, lrat};
+use sat_search::{Found, solve};
 use std::alloc::Global;
-use vl_core::{first_clauses, numbers_at};
+use vl_core::{FirstPlace, first_clauses, numbers_at};
 use vl_first::{First, FirstFault, read_first};
 
-/// Numbers for the ports that violate. None exactly where no numbers do.
-fn violation(alloc: Global, first: &First) -> Result<Option<List<u32>>, Memory>
+/// How many clauses a search may learn.
+const BUDGET: u64 = 200000;
+
+/// A file of a folder.
+fn path(alloc: Global, folder: &[u8], name: &[u8]) -> Result<Text, Memory>
+    ensures { IfOk result (λ text. text ≡ path folder.now name.now) }
+{
+    let mut whole = Vec::from_slice(alloc, folder)?;
+    whole.push(b'/')?;
+    whole.extend_from_slice(name)?;
+    Ok(Text::from_vec(whole))
+}
+
+/// A file of a folder that is to hold the bytes.
+fn file_of(alloc: Global, folder: &[u8], name: &[u8], bytes: Vec<u8>) -> Result<Delivery, Memory>
+    ensures { IfOk result (λ delivery. delivery ≡ File (path folder.now name.now) bytes.items) }
+{
+    Ok(Delivery::File {
+        name: path(alloc, folder, name)?,
+        bytes: Text::from_vec(bytes),
+    })
+}
+
+fn line_of(alloc: Global, line: &[u8]) -> Result<Delivery, Memory>
+    ensures { IfOk result (λ delivery. delivery ≡ Line line.now) }
+{
+    Ok(Delivery::Line(Text::from_bytes(alloc, line)?))
+}
+
+fn three(
+    alloc: Global,
+    first: Delivery,
+    second: Delivery,
+    third: Delivery,
+) -> Result<List<Delivery>, Memory>
+    ensures { IfOk result (λ deliveries. deliveries ≡ first ∷ second ∷ third ∷ []) }
+{
+    let mut deliveries = List::new(alloc);
+    deliveries.push(first)?;
+    deliveries.push(second)?;
+    deliveries.push(third)?;
+    Ok(deliveries)
+}
+
+/// The text of the formula and that of the steps, each in its file, and then the line.
+fn certified(
+    alloc: Global,
+    outdir: &[u8],
+    formula: &Formula,
+    steps: &[Step],
+    line: &[u8],
+) -> Result<List<Delivery>, Memory>
+    ensures { IfOk result (λ report. report ≡ certified outdir.now formula.now steps.now line.now) }
+{
+    let clauses = dimacs(alloc, formula, &[])?;
+    let first = file_of(alloc, outdir, b"ill_ch0.cnf", clauses)?;
+    let proof = lrat(alloc, steps)?;
+    let second = file_of(alloc, outdir, b"ill_ch0.lrat", proof)?;
+    three(alloc, first, second, line_of(alloc, line)?)
+}
+
+/// The report of the numbers that the values give the ports.
+fn convicted(
+    alloc: Global,
+    first: &First,
+    formula: &Formula,
+    places: &[FirstPlace],
+    values: &[bool],
+) -> Result<List<Delivery>, Memory>
+    requires plain { IsPlain first.now.ports }
+    requires encodes { Encodes first.now.ports formula.now places.now }
+    requires places { places.now ≡ places_of first.now.ports }
+    requires model { formula_true (value_of values.now) formula.now.clauses ≡ true }
+    ensures { IfOk result (λ report. Convicts first.now.ports report) }
+{
+    let _formula = formula;
+    let numbers = numbers_at(alloc, first, places, values)?;
+    fail_report(alloc, first.ports.as_slice(), numbers.as_slice())
+}
+
+/// Decides on the module by a search over its clauses.
+fn decide(alloc: Global, outdir: &[u8], first: &First) -> Result<Report, Memory>
     requires plain { IsPlain first.now.ports }
     requires few_ports { length first.now.ports < 2 ^ 32 }
     requires few_nodes { nodes_of first.now.ports < 2 ^ 32 }
-    ensures { IfOk result (λ found. MatchOption found (NoneViolate first.now.ports) (λ numbers. violates first.now.ports numbers ≡ true)) }
+    ensures { IfOk result (λ report. Decision report.status outdir.now first.now.ports report.deliveries) }
 {
     let (formula, places) = first_clauses(alloc, first)?;
-    match find(alloc, &formula)? {
-        Some(values) => {
-            let numbers = numbers_at(alloc, first, places.as_slice(), values.as_slice())?;
-            Ok(Some(numbers))
-        }
-        None => Ok(None),
+    match solve(alloc, &formula, BUDGET)? {
+        Found::Model(values) => Ok(Report {
+            status: Status::Failing,
+            deliveries: convicted(alloc, first, &formula, places.as_slice(), values.as_slice())?,
+        }),
+        Found::Refuted(steps) => Ok(Report {
+            status: Status::Passed,
+            deliveries: certified(alloc, outdir, &formula, steps.as_slice(), b"pass ill_ch0\n")?,
+        }),
+        Found::Spent(steps) => Ok(Report {
+            status: Status::Spent,
+            deliveries: certified(
+                alloc,
+                outdir,
+                &formula,
+                steps.as_slice(),
+                b"spent ill_ch0 200000\n",
+            )?,
+        }),
     }
 }
 
-/// Judges the module, and puts what was found.
-fn decide<O: Out>(alloc: Global, first: &First, out: &mut O) -> Status
-    requires plain { IsPlain first.now.ports }
-    requires few_ports { length first.now.ports < 2 ^ 32 }
-    requires few_nodes { nodes_of first.now.ports < 2 ^ 32 }
-    ensures { Ends (λ status lines. Decision status first.now.ports lines) result (O.sent out.old) (O.sent out.new) (O.faults out.old) (O.faults out.new) }
-{
-    match violation(alloc, first) {
-        Ok(None) => ended(put_line(out, b"pass ill_ch0\n"), Status::Passed),
-        Ok(Some(numbers)) => ended(
-            put_failure(alloc, out, first.ports.as_slice(), numbers.as_slice()),
-            Status::Failing,
-        ),
-        Err(Memory) => Status::Memory,
-    }
-}
-
-/// Reads the module, judges it, and puts what was found.
-pub(crate) fn judge<O: Out>(alloc: Global, bytes: &[u8], out: &mut O) -> Status
-    ensures { Ends (λ status lines. Verdict status bytes.now lines) result (O.sent out.old) (O.sent out.new) (O.faults out.old) (O.faults out.new) }
+/// Reads the module, and judges it.
+pub(crate) fn judge(alloc: Global, outdir: &[u8], bytes: &[u8]) -> Result<Report, Memory>
+    ensures { IfOk result (λ report. Verdict report.status outdir.now bytes.now report.deliveries) }
 {
     match read_first(alloc, bytes) {
-        Ok(first) => decide(alloc, &first, out),
-        Err(FirstFault::NotFirst) => ended(put_line(out, b"source first 1 - -\n"), Status::Source),
-        Err(FirstFault::Memory) => Status::Memory,
+        Ok(first) => decide(alloc, outdir, &first),
+        Err(FirstFault::NotFirst) => Report::of_line(
+            alloc,
+            Status::Source,
+            b"source first 1 - -\n",
+        ),
+        Err(FirstFault::Memory) => Err(Memory),
     }
 }

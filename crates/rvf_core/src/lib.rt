@@ -2,9 +2,10 @@
 #![tactic(auto)]
 
 mod certificate;
-mod finding;
+mod deliver;
 mod first;
-mod line;
+mod lines;
+mod report;
 mod request;
 mod shared;
 mod status;

@@ -29,12 +29,22 @@ fn answer<R: Threads + Sync>(
     files: Vec<(String, Vec<u8>)>,
 ) -> Result<(Status, Vec<u8>), Fail> {
     let mut files = SureFiles::new(alloc, files)?;
+    answer_over(rt, alloc, words, &mut files)
+}
+
+/// The same over files that keep what is written.
+fn answer_over<R: Threads + Sync>(
+    rt: &R,
+    alloc: Global,
+    words: &[&str],
+    files: &mut SureFiles,
+) -> Result<(Status, Vec<u8>), Fail> {
     let mut out = SureOut::new(alloc);
     let mut asked = Vec::new(alloc);
     for word in words {
         asked.push(String::from_str(alloc, word)?)?;
     }
-    let status = run(rt, alloc, asked.as_slice(), &mut files, &mut out);
+    let status = run(rt, alloc, asked.as_slice(), files, &mut out);
     Ok((status, out.sent().to_vec(alloc)?))
 }
 
@@ -51,17 +61,17 @@ fn modules(rt: HostRuntime) -> Result<(), Fail> {
     let wire = "assign rvfi_valid = i; assign rvfi_trap = i;\nwire w;\nendmodule\n";
     let found =
         "fail ill_ch0\ni 1\nrvfi_valid 1\nrvfi_insn 0\nrvfi_trap 0\nrvfi_rd_addr 0\nrvfi_mem_wmask 0\n";
-    let usage = "usage: rvf run FILE | lrat CNF PROOF\n";
+    let usage = "usage: rvf run FILE OUTDIR | lrat CNF PROOF\n";
     let cases = [
-        (["run", "w.v"], trap, 0, "pass ill_ch0\n"),
-        (["run", "w.v"], either, 0, "pass ill_ch0\n"),
-        (["run", "w.v"], opposite, 1, found),
-        (["run", "w.v"], wide, 0, "pass ill_ch0\n"),
-        (["run", "w.v"], levels, 0, "pass ill_ch0\n"),
-        (["run", "w.v"], idle, 1, found),
-        (["run", "w.v"], wire, 5, "source first 1 - -\n"),
-        (["run", "v.v"], trap, 6, "absent v.v\n"),
-        (["walk", "w.v"], trap, 3, usage),
+        (["run", "w.v", "out"], trap, 0, "pass ill_ch0\n"),
+        (["run", "w.v", "out"], either, 0, "pass ill_ch0\n"),
+        (["run", "w.v", "out"], opposite, 1, found),
+        (["run", "w.v", "out"], wide, 0, "pass ill_ch0\n"),
+        (["run", "w.v", "out"], levels, 0, "pass ill_ch0\n"),
+        (["run", "w.v", "out"], idle, 1, found),
+        (["run", "w.v", "out"], wire, 5, "source first 1 - -\n"),
+        (["run", "v.v", "out"], trap, 6, "absent v.v\n"),
+        (["walk", "w.v", "out"], trap, 3, usage),
     ];
     for (words, lines, code, wanted) in cases {
         let files = vec![in alloc; file(alloc, "w.v", HEAD, lines)?]?;
@@ -100,46 +110,96 @@ fn expressions(rt: HostRuntime) -> Result<(), Fail> {
             assign rvfi_rd_addr = {rd_addr}; assign rvfi_mem_wmask = {mem_wmask}; endmodule"
         )?;
         let files = vec![in alloc; file(alloc, "w.v", "", text.as_str())?]?;
-        let (status, _) = answer(&rt, alloc, ["run", "w.v"].as_slice(), files)?;
+        let (status, _) = answer(&rt, alloc, ["run", "w.v", "out"].as_slice(), files)?;
         assert_eq!(rt; status.code(), code, "{insn} {trap} {rd_addr} {mem_wmask}");
     }
     Ok(())
 }
 
-/// A run on `run w.v` over the module, where the numbered calls on the files and on the output fail: the code and what
-/// was put.
+/// What a pass leaves is a certificate; a check that fails writes no file.
+#[test]
+fn passes_carry_certificates(rt: HostRuntime) -> Result<(), Fail> {
+    let alloc = rt.alloc();
+    let either = "assign rvfi_valid = 1; assign rvfi_trap = i | ~i;\nendmodule\n";
+    let idle = "assign rvfi_valid = i; assign rvfi_trap = 0;\nendmodule\n";
+    let held = vec![in alloc;
+        file(alloc, "w.v", HEAD, either)?,
+        file(alloc, "f.v", HEAD, idle)?,
+    ]?;
+    let mut files = SureFiles::new(alloc, held)?;
+    let words = ["run", "f.v", "out"];
+    let (status, _) = answer_over(&rt, alloc, words.as_slice(), &mut files)?;
+    assert_eq!(rt; status.code(), 1);
+    assert!(rt; files.get("out/ill_ch0.cnf").is_none());
+    let words = ["run", "w.v", "out"];
+    let (status, sent) = answer_over(&rt, alloc, words.as_slice(), &mut files)?;
+    assert_eq!(rt; status.code(), 0);
+    assert_eq!(rt; sent.as_slice(), b"pass ill_ch0\n".as_slice());
+    let words = ["lrat", "out/ill_ch0.cnf", "out/ill_ch0.lrat"];
+    let (status, sent) = answer_over(&rt, alloc, words.as_slice(), &mut files)?;
+    assert_eq!(rt; status.code(), 0);
+    assert!(rt; sent.as_slice().starts_with(b"refuted "));
+    Ok(())
+}
+
+/// A run on `run w.v out` over the module, where the numbered calls on the files and on the output fail: the code, what
+/// was put, and which of the two files of a certificate are there.
 fn faulty<R: Threads + Sync>(
     rt: &R,
     alloc: Global,
     lines: &str,
     failing: (Vec<u64>, Vec<u64>),
-) -> Result<(u8, Vec<u8>), Fail> {
+) -> Result<(u8, Vec<u8>, (bool, bool)), Fail> {
     let held = vec![in alloc; file(alloc, "w.v", HEAD, lines)?]?;
     let mut files = MemFiles::new(alloc, held, failing.0)?;
     let mut out = MemOut::new(alloc, failing.1);
     let run_word = String::from_str(alloc, "run")?;
-    let words = vec![in alloc; run_word, String::from_str(alloc, "w.v")?]?;
+    let file_word = String::from_str(alloc, "w.v")?;
+    let words = vec![in alloc; run_word, file_word, String::from_str(alloc, "out")?]?;
     let status = run(rt, alloc, words.as_slice(), &mut files, &mut out);
-    Ok((status.code(), out.sent().to_vec(alloc)?))
+    let there = (
+        files.get("out/ill_ch0.cnf").is_some(),
+        files.get("out/ill_ch0.lrat").is_some(),
+    );
+    Ok((status.code(), out.sent().to_vec(alloc)?, there))
 }
 
-/// The read fails; the first put fails; the third put of a failing check's lines fails, and the two before it stand.
+/// The read fails; a put of a failing check's lines fails, and those before it stand; a write of a passing check fails,
+/// and nothing is put; the put behind both files fails.
 #[test]
 fn faults(rt: HostRuntime) -> Result<(), Fail> {
     let alloc = rt.alloc();
     let idle = "assign rvfi_valid = i; assign rvfi_trap = 0;\nendmodule\n";
-    let none = Vec::new(alloc);
-    let (code, sent) = faulty(&rt, alloc, idle, (vec![in alloc; 0]?, none))?;
-    assert_eq!(rt; code, 7);
-    assert_eq!(rt; sent.as_slice(), b"read fault w.v\n".as_slice());
-    let none = Vec::new(alloc);
-    let (code, sent) = faulty(&rt, alloc, idle, (none, vec![in alloc; 0]?))?;
-    assert_eq!(rt; code, 8);
-    assert!(rt; sent.is_empty());
-    let none = Vec::new(alloc);
-    let (code, sent) = faulty(&rt, alloc, idle, (none, vec![in alloc; 2]?))?;
-    assert_eq!(rt; code, 8);
-    assert_eq!(rt; sent.as_slice(), b"fail ill_ch0\ni 1\n".as_slice());
+    let either = "assign rvfi_valid = 1; assign rvfi_trap = i | ~i;\nendmodule\n";
+    // What fails of the files and of the output, and the code, what is put, and which files are there.
+    let cases: [(&str, Option<u64>, Option<u64>, u8, &str, (bool, bool)); 6] = [
+        (idle, Some(0), None, 7, "read fault w.v\n", (false, false)),
+        (idle, None, Some(0), 8, "", (false, false)),
+        (
+            idle,
+            None,
+            Some(2),
+            8,
+            "fail ill_ch0\ni 1\n",
+            (false, false),
+        ),
+        (either, Some(1), None, 8, "", (false, false)),
+        (either, Some(2), None, 8, "", (true, false)),
+        (either, None, Some(0), 8, "", (true, true)),
+    ];
+    for (lines, of_files, of_out, code, wanted, there) in cases {
+        let mut failing = (Vec::new(alloc), Vec::new(alloc));
+        if let Some(number) = of_files {
+            failing.0.push(number)?;
+        }
+        if let Some(number) = of_out {
+            failing.1.push(number)?;
+        }
+        let (found, sent, files) = faulty(&rt, alloc, lines, failing)?;
+        assert_eq!(rt; found, code);
+        assert_eq!(rt; sent.as_slice(), wanted.as_bytes());
+        assert_eq!(rt; files, there);
+    }
     Ok(())
 }
 

@@ -1,26 +1,31 @@
-ghost use Rattle.std.specs.Prelude.{◌≡◌, ◌≤◌, map, string_bytes, IfOk, IfErr, OnOk};
-ghost use Rattle.fv_base.specs.Outside.{ReadGives, SameFiles};
-ghost use Rattle.rvf_core.specs.Ends.{Ends};
-ghost use Rattle.rvf_core.specs.Run.{Answers, Checks, Finds, IsExact, Refutes};
+ghost use Rattle.std.specs.Prelude.{◌≡◌, ◌≤◌, map, string_bytes, IfOk};
+ghost use Rattle.fv_base.specs.Outside.{SameFiles};
+ghost use Rattle.rvf_core.specs.Command.{command_of};
+ghost use Rattle.rvf_core.specs.Run.{Answers, Checks, IsExact, Refutes, SaysOf};
+ghost use Rattle.rvf_core.specs.Status.{ends};
 ghost use Rattle.rvf_core.specs.Unread.{Unread};
 
 use crate::certificate::certify;
+use crate::deliver::deliver;
 use crate::first::judge;
-use crate::line::{ended, put_line, put_named};
+use crate::lines::named_line;
+use crate::report::Report;
 use crate::request::Request;
 use crate::status::Status;
 use crate::words::request_of;
-use fv_base::{FileFault, Files, Memory, Out};
+use fv_base::{FileFault, Files, Memory, Out, OutFault};
 use std::alloc::Global;
 use std::thread::Threads;
 
-/// Does what the words ask for, puts what it found, and answers how it ended.
+/// Does what the words ask for, delivers what it found, and answers how it ended.
 ///
-/// `words` are the words behind the program's name. `run FILE` checks a file of the first form, one Verilog module without
-/// registers, for `ill` of channel 0: an instruction whose word ends in 16 zero bits traps, and writes neither a register
-/// nor memory. The lines are `pass ill_ch0`; or `fail ill_ch0` and one line `NAME VALUE` for each port but `clock` and
-/// `reset`. `lrat CNF PROOF` checks that the steps of a proof refute the clauses of a file: `refuted ID`; or one of
-/// `refused cnf C LINE`, `refused lrat C LINE` and `refused step C ID HINT`. Other refusals have a line of their own.
+/// `words` are the words behind the program's name. `run FILE OUTDIR` checks a file of the first form, one Verilog module
+/// without registers, for `ill` of channel 0: an instruction whose word ends in 16 zero bits traps, and writes neither a
+/// register nor memory. `pass ill_ch0` comes behind the files `OUTDIR/ill_ch0.cnf` and `OUTDIR/ill_ch0.lrat`: clauses, and
+/// steps that refute them. So does `spent ill_ch0 200000`, with as many steps, where the search has learnt so many clauses.
+/// `fail ill_ch0` has one line `NAME VALUE` for each port but `clock` and `reset`. `lrat CNF PROOF` checks that the steps of
+/// a proof refute the clauses of a file: `refuted ID`; or one of `refused cnf C LINE`, `refused lrat C LINE` and
+/// `refused step C ID HINT`. Other refusals have a line of their own.
 pub fn run<R: Threads + Sync, F: Files, O: Out>(
     _rt: &R,
     alloc: Global,
@@ -28,152 +33,139 @@ pub fn run<R: Threads + Sync, F: Files, O: Out>(
     files: &mut F,
     out: &mut O,
 ) -> Status
-    // Each status has its cause, and exactly its lines were put.
+    // Each status has its cause, and exactly its files and lines were delivered.
     ensures answer { Answers result (record {
       words = map string_bytes words.now;
-      seen = record {
-        held = F.held files.old;
-        misses = F.misses files.old;
-        misses_now = F.misses files.new;
-        faults = F.faults files.old;
-        faults_now = F.faults files.new;
-      };
-      sent = O.sent out.old;
-      sent_now = O.sent out.new;
-      out_faults = O.faults out.old;
-      out_faults_now = O.faults out.new;
+      before = record { held = F.held files.old; misses = F.misses files.old; faults = F.faults files.old; sent = O.sent out.old; out_faults = O.faults out.old };
+      now = record { held = F.held files.new; misses = F.misses files.new; faults = F.faults files.new; sent = O.sent out.new; out_faults = O.faults out.new };
     }) }
 
     // Each cause has its status.
     ensures exact { IsExact result (record {
       words = map string_bytes words.now;
-      seen = record {
-        held = F.held files.old;
-        misses = F.misses files.old;
-        misses_now = F.misses files.new;
-        faults = F.faults files.old;
-        faults_now = F.faults files.new;
-      };
-      sent = O.sent out.old;
-      sent_now = O.sent out.new;
-      out_faults = O.faults out.old;
-      out_faults_now = O.faults out.new;
+      before = record { held = F.held files.old; misses = F.misses files.old; faults = F.faults files.old; sent = O.sent out.old; out_faults = O.faults out.old };
+      now = record { held = F.held files.new; misses = F.misses files.new; faults = F.faults files.new; sent = O.sent out.new; out_faults = O.faults out.new };
     }) }
-
-    // No file is written.
-    ensures unwritten { SameFiles (F.held files.old) (F.held files.new) }
 {
     answered(alloc, words, files, out)
 }
 
 /// Does what the words ask for.
 fn answered<F: Files, O: Out>(alloc: Global, words: &[String], files: &mut F, out: &mut O) -> Status
-    ensures answer { Answers result (record {
+    ensures { Answers result (record {
       words = map string_bytes words.now;
-      seen = record {
-        held = F.held files.old;
-        misses = F.misses files.old;
-        misses_now = F.misses files.new;
-        faults = F.faults files.old;
-        faults_now = F.faults files.new;
-      };
-      sent = O.sent out.old;
-      sent_now = O.sent out.new;
-      out_faults = O.faults out.old;
-      out_faults_now = O.faults out.new;
+      before = record { held = F.held files.old; misses = F.misses files.old; faults = F.faults files.old; sent = O.sent out.old; out_faults = O.faults out.old };
+      now = record { held = F.held files.new; misses = F.misses files.new; faults = F.faults files.new; sent = O.sent out.new; out_faults = O.faults out.new };
     }) }
-    ensures unwritten { SameFiles (F.held files.old) (F.held files.new) }
 {
-    match request_of(words) {
-        Some(Request::Check(file)) => check(alloc, file, files, out),
-        Some(Request::Refute(cnf, proof)) => refute(alloc, cnf, proof, files, out),
-        None => ended(
-            put_line(out, b"usage: rvf run FILE | lrat CNF PROOF\n"),
-            Status::Usage,
+    match report_of(alloc, words, files) {
+        Ok(report) => ended(
+            deliver(alloc, report.deliveries.as_slice(), files, out),
+            report.status,
         ),
-    }
-}
-
-/// `run FILE`
-fn check<F: Files, O: Out>(alloc: Global, file: &[u8], files: &mut F, out: &mut O) -> Status
-    ensures answer { Ends (Checks file.now (record {
-      held = F.held files.old;
-      misses = F.misses files.old;
-      misses_now = F.misses files.new;
-      faults = F.faults files.old;
-      faults_now = F.faults files.new;
-    }))
-        result (O.sent out.old) (O.sent out.new) (O.faults out.old) (O.faults out.new) }
-    ensures unwritten { SameFiles (F.held files.old) (F.held files.new) }
-{
-    match read_file(alloc, file, files, out) {
-        Ok(bytes) => judge(alloc, bytes.as_slice(), out),
-        Err(status) => status,
-    }
-}
-
-/// `lrat CNF PROOF`
-fn refute<F: Files, O: Out>(
-    alloc: Global,
-    cnf: &[u8],
-    proof: &[u8],
-    files: &mut F,
-    out: &mut O,
-) -> Status
-    ensures answer { Ends (Refutes cnf.now proof.now (record {
-      held = F.held files.old;
-      misses = F.misses files.old;
-      misses_now = F.misses files.new;
-      faults = F.faults files.old;
-      faults_now = F.faults files.new;
-    }))
-        result (O.sent out.old) (O.sent out.new) (O.faults out.old) (O.faults out.new) }
-    ensures unwritten { SameFiles (F.held files.old) (F.held files.new) }
-{
-    match read_file(alloc, cnf, files, out) {
-        Ok(clauses) => match read_file(alloc, proof, files, out) {
-            Ok(steps) => put_finding(alloc, clauses.as_slice(), steps.as_slice(), out),
-            Err(status) => status,
-        },
-        Err(status) => status,
-    }
-}
-
-/// Puts what a certificate comes to.
-fn put_finding<O: Out>(alloc: Global, cnf: &[u8], proof: &[u8], out: &mut O) -> Status
-    ensures { Ends (Finds cnf.now proof.now) result (O.sent out.old) (O.sent out.new) (O.faults out.old) (O.faults out.new) }
-{
-    match certify(alloc, cnf, proof) {
-        Ok(found) => ended(put_line(out, found.line.bytes()), found.status),
         Err(Memory) => Status::Memory,
     }
 }
 
-/// The bytes of a file; else how the run ends without them, with its line put.
-fn read_file<F: Files, O: Out>(
-    alloc: Global,
-    name: &[u8],
-    files: &mut F,
-    out: &mut O,
-) -> Result<Vec<u8>, Status>
-    ensures bytes { IfOk result (λ bytes. ReadGives (F.held files.old) name.now bytes.items) }
-    ensures quiet { OnOk result (out.new ≡ out.old) }
-    ensures unread { IfErr result (λ status. Ends (Unread (F.held files.old) name.now (F.misses files.old) (F.misses files.new) (F.faults files.old) (F.faults files.new))
-        status (O.sent out.old) (O.sent out.new) (O.faults out.old) (O.faults out.new)) }
-    ensures unwritten { SameFiles (F.held files.old) (F.held files.new) }
+/// The status, where its report was delivered; else what took its place.
+fn ended(delivered: Result<(), OutFault>, status: Status) -> Status
+    ensures { result ≡ ends delivered status }
+{
+    match delivered {
+        Ok(()) => status,
+        Err(OutFault::Failed) => Status::WriteFault,
+        Err(OutFault::Memory) => Status::Memory,
+    }
+}
+
+/// What comes of the words.
+fn report_of<F: Files>(alloc: Global, words: &[String], files: &mut F) -> Result<Report, Memory>
+    ensures says { IfOk result (λ report. SaysOf (command_of (map string_bytes words.now)) (record {
+      held = F.held files.old;
+      misses = F.misses files.old;
+      misses_now = F.misses files.new;
+      faults = F.faults files.old;
+      faults_now = F.faults files.new;
+    }) report.status report.deliveries) }
+    ensures kept { SameFiles (F.held files.old) (F.held files.new) }
     ensures misses_grow { F.misses files.old ≤ F.misses files.new }
     ensures faults_grow { F.faults files.old ≤ F.faults files.new }
 {
-    match files.read(alloc, name) {
-        Ok(bytes) => Ok(bytes),
-        Err(FileFault::Absent) => Err(ended(
-            put_named(alloc, out, b"absent ", name),
-            Status::Absent,
-        )),
-        Err(FileFault::Failed) => Err(ended(
-            put_named(alloc, out, b"read fault ", name),
-            Status::ReadFault,
-        )),
-        Err(FileFault::Memory) => Err(Status::Memory),
+    match request_of(words) {
+        Some(Request::Check(file, outdir)) => check(alloc, file, outdir, files),
+        Some(Request::Refute(cnf, proof)) => refute(alloc, cnf, proof, files),
+        None => Report::of_line(
+            alloc,
+            Status::Usage,
+            b"usage: rvf run FILE OUTDIR | lrat CNF PROOF\n",
+        ),
+    }
+}
+
+/// `run FILE OUTDIR`
+fn check<F: Files>(
+    alloc: Global,
+    file: &[u8],
+    outdir: &[u8],
+    files: &mut F,
+) -> Result<Report, Memory>
+    ensures says { IfOk result (λ report. Checks file.now outdir.now (record {
+      held = F.held files.old;
+      misses = F.misses files.old;
+      misses_now = F.misses files.new;
+      faults = F.faults files.old;
+      faults_now = F.faults files.new;
+    }) report.status report.deliveries) }
+    ensures kept { SameFiles (F.held files.old) (F.held files.new) }
+    ensures misses_grow { F.misses files.old ≤ F.misses files.new }
+    ensures faults_grow { F.faults files.old ≤ F.faults files.new }
+{
+    match files.read(alloc, file) {
+        Ok(bytes) => judge(alloc, outdir, bytes.as_slice()),
+        Err(fault) => unread(alloc, file, fault),
+    }
+}
+
+/// `lrat CNF PROOF`
+fn refute<F: Files>(
+    alloc: Global,
+    cnf: &[u8],
+    proof: &[u8],
+    files: &mut F,
+) -> Result<Report, Memory>
+    ensures says { IfOk result (λ report. Refutes cnf.now proof.now (record {
+      held = F.held files.old;
+      misses = F.misses files.old;
+      misses_now = F.misses files.new;
+      faults = F.faults files.old;
+      faults_now = F.faults files.new;
+    }) report.status report.deliveries) }
+    ensures kept { SameFiles (F.held files.old) (F.held files.new) }
+    ensures misses_grow { F.misses files.old ≤ F.misses files.new }
+    ensures faults_grow { F.faults files.old ≤ F.faults files.new }
+{
+    match files.read(alloc, cnf) {
+        Ok(clauses) => match files.read(alloc, proof) {
+            Ok(steps) => certify(alloc, clauses.as_slice(), steps.as_slice()),
+            Err(fault) => unread(alloc, proof, fault),
+        },
+        Err(fault) => unread(alloc, cnf, fault),
+    }
+}
+
+/// The report on a file that gave no bytes.
+fn unread(alloc: Global, name: &[u8], fault: FileFault) -> Result<Report, Memory>
+    ensures { IfOk result (λ report. Unread fault name.now report) }
+{
+    match fault {
+        FileFault::Absent => {
+            let line = named_line(alloc, b"absent ", name)?;
+            Report::of_line(alloc, Status::Absent, line.as_slice())
+        }
+        FileFault::Failed => {
+            let line = named_line(alloc, b"read fault ", name)?;
+            Report::of_line(alloc, Status::ReadFault, line.as_slice())
+        }
+        FileFault::Memory => Err(Memory),
     }
 }

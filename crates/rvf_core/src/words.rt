@@ -4,12 +4,15 @@ ghost use Rattle.rvf_core.specs.View.{command};
 
 use crate::request::Request;
 
-/// None exactly where the words are other words than `run FILE` and `lrat CNF PROOF`.
+/// None exactly where the words are other words than `run FILE OUTDIR` and `lrat CNF PROOF`.
 pub(crate) fn request_of(words: &[String]) -> Option<Request<'_>>
     ensures { MatchOption result (command_of (map string_bytes words.now) ≡ None) (λ asked. command_of (map string_bytes words.now) ≡ Some (command asked)) }
 {
     match words {
-        [word, file] if word.as_str() == "run" => Some(Request::Check(file.as_bytes())),
+        [word, file, outdir] if word.as_str() == "run" => Some(Request::Check(
+            file.as_bytes(),
+            outdir.as_bytes(),
+        )),
         [word, cnf, proof] if word.as_str() == "lrat" => Some(Request::Refute(
             cnf.as_bytes(),
             proof.as_bytes(),

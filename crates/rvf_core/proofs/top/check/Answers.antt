@@ -1,12 +1,11 @@
-use Rattle.rvf_core.specs.Verdict.{Verdict}
-use Rattle.rvf_core.proofs.EndsLemmas.{Ends-otherwise}
-use Rattle.rvf_core.proofs.RunLemmas.{Checks-verdict, Checks-unread}
+use Rattle.std.proofs.Common.{Err, ap}
+use Rattle.rvf_core.proofs.Causes.{if_ok, Checks-unread}
 use Rattle.rvf_core.proofs.top.check.Goals as goal
 
-pub returns-in-Ok-clause-answer : goal.returns-in-Ok-clause-answer
-returns-in-Ok-clause-answer g c =
-    Ends-otherwise (λ status lines. Verdict status c.in-Ok.bytes.items lines) _ (Checks-verdict c.args.file.now _ c.in-Ok.bytes.items c.in-Ok.ensures.bytes)
-    c.judge.result _ _ _ _ (rw (c.as_slice.ensures.value, c.in-Ok.ensures.quiet) at c.judge.ensures)
-
-pub returns-in-Err-clause-answer : goal.returns-in-Err-clause-answer
-returns-in-Err-clause-answer g c = Ends-otherwise _ _ (Checks-unread c.args.file.now _) c.in-Err.status _ _ _ _ c.in-Err.ensures.unread
+pub returns-in-Err-clause-says : goal.returns-in-Err-clause-says
+returns-in-Err-clause-says g c =
+    if_ok _ _
+    (λ report.
+    Checks-unread c.in-Err.fault c.args.file.now c.args.outdir.now _ report (λ is. c.in-Err.ensures.absent (ap (λ fault. Err fault) is))
+    (λ is. c.in-Err.ensures.missed (ap (λ fault. Err fault) is)) (λ is. c.in-Err.ensures.failed (ap (λ fault. Err fault) is)))
+    c.unread.result c.unread.ensures

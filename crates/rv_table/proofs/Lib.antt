@@ -1,0 +1,10 @@
+pub mod FieldLemmas
+pub mod AssembledLemmas
+pub mod MatchingLemmas
+pub mod Places
+pub mod Unique
+pub mod Lawful
+pub mod EffectLemmas
+pub mod Expansions
+pub mod LawLemmas
+pub mod DivisionLemmas

@@ -1,0 +1,17 @@
+pub mod Added
+pub mod Backs
+pub mod Counts
+pub mod Jumps
+pub mod Levels
+pub mod Literals
+pub mod Members
+pub mod Models
+pub mod News
+pub mod Places
+pub mod Readings
+pub mod Rounds
+pub mod Searches
+pub mod Solves
+pub mod Starts
+pub mod Surveys
+pub mod Tracing

@@ -1,0 +1,89 @@
+-- What each round of the search owes to the calls that it makes.
+use Rattle.std.proofs.Common.{◌≡◌, ℕ, ◌+◌, ◌^◌, ◌<◌, true, false, List, ◌∷◌, ℤ, pos, Some, None, ap, sym, subst, ◌∙◌, w64, to_z, of_z, arith}
+use Rattle.std.specs.Prelude.{slice_get}
+use Rattle.std.proofs.lemmas.Bool.{or_parts}
+use Rattle.std.proofs.lemmas.Int.{to_z-of_z, fits_signed_from_abs}
+use Rattle.cnf_form.specs.Cnf.{IsLiteral}
+use Rattle.lrat_check.specs.declared.step.Step.{Step}
+use Rattle.lrat_check.specs.Sets.{has, is_false}
+use Rattle.sat_search.specs.declared.trail.Entry.{Entry}
+use Rattle.sat_search.specs.declared.propagation.Scan.TheVariants as scan
+use Rattle.sat_search.specs.Trail.{Entries, lits, settled, Stand, IsOpenVar}
+use Rattle.sat_search.specs.Propagation.{AllLits, Sees}
+use Rattle.sat_search.specs.Analysis.{IsConflict}
+use Rattle.sat_search.specs.Searching.{Searching, rounds}
+use Rattle.sat_search.proofs.Readings.{Alone, unit_to}
+use Rattle.sat_search.proofs.Backs.{lits_at}
+use Rattle.sat_search.proofs.Literals.{literal_at, lit_of, all_lits, clause_at}
+use Rattle.sat_search.proofs.Searches.{pushed_on}
+use Rattle.sat_search.proofs.Rounds.{value_falls}
+
+module _ (vars budget : ℕ) (formula cs : List (List ℤ)) (t : Entries) (steps : List Step) (left : ℕ) (s : Searching vars budget formula cs t steps left) (v : vars < 2 ^ 63) (seen : List (List ℤ)) (same : seen ≡ cs) where
+  pub seen_lits : AllLits seen
+  seen_lits = subst AllLits (sym same) (all_lits vars cs v s.names)
+
+  pub conflict_at : (place : ℕ) (other : List (List ℤ)) → other ≡ cs → Sees seen (lits t) (scan.Conflict place) → IsConflict other t place
+  conflict_at place other o h =
+      let P : List (List ℤ) → Type 0 = λ z. slice_get z place ≡ Some h.0 in
+      let Q : List (List ℤ) → Type 0 = λ z. Stand z t in
+      let found : slice_get other place ≡ Some h.0 = subst P (same ∙ sym o) h.1 in
+      record {
+        stand = subst Q (sym o) s.stand;
+        clause = h.0;
+        found = found;
+        false_there = h.2;
+        all_lits = lits_at other place h.0 (subst AllLits (same ∙ sym o) seen_lits) found;
+      }
+
+  module _ (place : ℕ) (l : ℤ) (h : Sees seen (lits t) (scan.Unit place l)) where
+    unit_found : slice_get cs place ≡ Some h.0
+    unit_found = let P : List (List ℤ) → Type 0 = λ z. slice_get z place ≡ Some h.0 in subst P same h.1
+
+    unit_alone : Alone (lits t) h.0 l
+    unit_alone = unit_to (lits t) h.0 l h.2
+
+    unit_literal : IsLiteral vars l
+    unit_literal = literal_at vars h.0 l (clause_at vars cs place h.0 s.names unit_found) unit_alone.member
+
+    unit_kept : to_z w64 (of_z w64 l) ≡ l
+    unit_kept = to_z-of_z w64 l (fits_signed_from_abs w64 l (lit_of vars l v unit_literal).1)
+
+    pub unit_free : has (lits t) (to_z w64 (of_z w64 l)) ≡ false
+    unit_free = ap (has (lits t)) unit_kept ∙ unit_alone.untrue
+
+    module _ (whole : Entries) (w : whole ≡ (record { lit = to_z w64 (of_z w64 l); reason = Some place }) ∷ t) where
+      entry_is : whole ≡ (record { lit = l; reason = Some place }) ∷ t
+      entry_is = w ∙ ap (λ z. (let e : Entry = record { lit = z; reason = Some place } in e) ∷ t) unit_kept
+
+      pub unit_on : Searching vars budget formula cs whole steps left
+      unit_on = pushed_on vars budget formula cs t steps left s (record { lit = l; reason = Some place }) whole entry_is unit_literal
+          (record { lit = lit_of vars l v unit_literal; free = unit_alone.untrue; unfalse = unit_alone.unfalse; because = (h.0, unit_found, h.2) })
+
+      pub unit_falls : rounds vars left whole < rounds vars left t
+      unit_falls = value_falls vars left (record { lit = l; reason = Some place }) t whole entry_is unit_literal unit_alone.untrue unit_alone.unfalse
+
+  module _ (l : ℤ) (h : IsOpenVar vars (lits t) l) where
+    var_literal : IsLiteral vars l
+    var_literal = subst (IsLiteral vars) (sym h.2) (let k = h.1 in (omega arith, omega (arith, k)))
+
+    var_open : (has (lits t) l ≡ false) × (is_false (lits t) l ≡ false)
+    var_open =
+        let P : ℤ → Type 0 = λ z. (has (lits t) z ≡ false) × (is_false (lits t) z ≡ false) in
+        subst P (sym h.2) (or_parts (has (lits t) (pos (h.0 + 1))) (is_false (lits t) (pos (h.0 + 1))) h.3)
+
+    var_kept : to_z w64 (of_z w64 l) ≡ l
+    var_kept = to_z-of_z w64 l (fits_signed_from_abs w64 l (lit_of vars l v var_literal).1)
+
+    pub var_free : has (lits t) (to_z w64 (of_z w64 l)) ≡ false
+    var_free = ap (has (lits t)) var_kept ∙ var_open.0
+
+    module _ (whole : Entries) (w : whole ≡ (record { lit = to_z w64 (of_z w64 l); reason = None }) ∷ t) where
+      decision_is : whole ≡ (record { lit = l; reason = None }) ∷ t
+      decision_is = w ∙ ap (λ z. (let e : Entry = record { lit = z; reason = None } in e) ∷ t) var_kept
+
+      pub decision_on : settled seen (lits t) ≡ true → Searching vars budget formula cs whole steps left
+      decision_on k = pushed_on vars budget formula cs t steps left s (record { lit = l; reason = None }) whole decision_is var_literal
+          (record { lit = lit_of vars l v var_literal; free = var_open.0; unfalse = var_open.1; because = ap (λ z. settled z (lits t)) (sym same) ∙ k })
+
+      pub decision_falls : rounds vars left whole < rounds vars left t
+      decision_falls = value_falls vars left (record { lit = l; reason = None }) t whole decision_is var_literal var_open.0 var_open.1

@@ -1,0 +1,6 @@
+pub mod Analysis
+pub mod Found
+pub mod Learning
+pub mod Propagation
+pub mod Searching
+pub mod Trail

@@ -1,0 +1,16 @@
+//! A search that learns clauses: values that make a formula true, or steps that refute it, or, where the budget is used
+//! up, steps that derive as many clauses as the budget.
+#![tactic(auto)]
+
+mod analysis;
+mod found;
+mod learning;
+mod propagation;
+mod search;
+mod shared;
+#[cfg(test)]
+mod tests;
+mod trail;
+
+pub use found::Found;
+pub use search::solve;

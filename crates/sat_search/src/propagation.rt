@@ -1,0 +1,50 @@
+ghost use Rattle.std.specs.Prelude.{◌≡◌, ◌≤◌, ℕ, length};
+ghost use Rattle.lrat_check.specs.Sets.{AreLits};
+ghost use Rattle.sat_search.specs.Trail.{lits};
+ghost use Rattle.sat_search.specs.Propagation.{Sees, SeesFrom, AllLits};
+
+use crate::trail::Trail;
+use fv_base::List;
+use lrat_check::Reading;
+
+/// What the clauses come to under a trail.
+#[derive(Debug, Clone, Copy)]
+pub(crate) enum Scan {
+    /// The clause at this place is false.
+    Conflict(usize),
+    /// The clause at this place forces the literal.
+    Unit(usize, i64),
+    /// Each clause has a true literal or two open ones.
+    Settled,
+}
+
+/// A clause that is false or forces a literal: the first from `start` on, and where there is none, the first before it. Clauses
+/// that follow from one another mostly stand in a row, so a search that goes on where it was goes over few of them twice.
+pub(crate) fn survey(clauses: &[List<i64>], trail: &Trail, start: usize) -> Scan
+    requires { AllLits clauses.now }
+    ensures { Sees clauses.now (lits trail.now) result }
+{
+    let middle = start.min(clauses.len());
+    match survey_part(clauses, trail, middle, clauses.len()) {
+        Scan::Settled => survey_part(clauses, trail, 0, middle),
+        found => found,
+    }
+}
+
+/// The first clause at the places from `start` up to `end` that is false or forces a literal.
+fn survey_part(clauses: &[List<i64>], trail: &Trail, start: usize, end: usize) -> Scan
+    requires lits { AllLits clauses.now }
+    requires order { start ≤ end }
+    requires within { end ≤ length clauses.now }
+    ensures { SeesFrom clauses.now (lits trail.now) start end result }
+{
+    for place in start..end {
+        match trail.read(clauses[place].as_slice()) {
+            Reading::False => return Scan::Conflict(place),
+            Reading::Unit(lit) => return Scan::Unit(place, lit),
+            Reading::True => {}
+            Reading::Open => {}
+        }
+    }
+    Scan::Settled
+}

@@ -1,0 +1,112 @@
+ghost use Rattle.std.specs.Prelude.{◌≡◌, ◌<◌, ◌≤◌, ◌^◌, ℕ, true, false, List, length, IfOk, MatchOption};
+ghost use Rattle.cnf_form.specs.Cnf.{AreClauses, formula_true, value_of};
+ghost use Rattle.lrat_check.specs.Steps.{Refutes, Valid};
+ghost use Rattle.lrat_check.specs.Resolved.{Resolved, derived};
+ghost use Rattle.sat_search.specs.Trail.{lits, AllAssigned, IsOpenVar, values_of};
+ghost use Rattle.sat_search.specs.Found.{IfModel, IfRefuted, IfSpent, IfSteps, AreAdded, nonempty};
+
+use crate::analysis::to_empty;
+use crate::found::Found;
+use crate::learning::{MOST_CLAUSES, add, learn};
+use crate::propagation::{Scan, survey};
+use crate::trail::{Entry, Trail};
+use cnf_form::Formula;
+use fv_base::{List, Memory};
+use std::alloc::Global;
+
+/// Values that make the formula true, or steps that refute it, or, where that takes more learnt clauses than the budget,
+/// the steps that learn so many.
+///
+/// The budget is a number of learnt clauses, the empty one aside. With `vars` variables a budget of `3^vars` is never used up.
+/// The only error is want of memory, also where there are `MOST_CLAUSES` clauses or more.
+pub fn solve(alloc: Global, formula: &Formula, budget: u64) -> Result<Found, Memory>
+    requires { 0 < budget }
+    ensures len { IfOk result (λ found. IfModel found (λ values. length values ≡ formula.now.vars)) }
+    ensures model { IfOk result (λ found. IfModel found (λ values. formula_true (value_of values) formula.now.clauses ≡ true)) }
+    ensures refuted { IfOk result (λ found. IfRefuted found (λ steps. (id : ℕ) × Refutes formula.now.clauses steps id)) }
+    ensures fewer { IfOk result (λ found. IfRefuted found (λ steps. length (nonempty (derived formula.now.clauses steps)) < budget)) }
+    ensures valid { IfOk result (λ found. IfSpent found (λ steps. Valid formula.now.clauses steps)) }
+    ensures resolved { IfOk result (λ found. IfSpent found (λ steps. Resolved formula.now.clauses steps)) }
+    ensures spent { IfOk result (λ found. IfSpent found (λ steps. length (derived formula.now.clauses steps) ≡ budget)) }
+    ensures bound { IfOk result (λ found. IfSpent found (λ steps. budget < 3 ^ formula.now.vars)) }
+    ensures added { IfOk result (λ found. IfSteps found (λ steps. AreAdded formula.now.vars steps)) }
+{
+    let vars = formula.vars();
+    let mut clauses = copied(alloc, formula)?;
+    if clauses.len() >= MOST_CLAUSES {
+        return Err(Memory);
+    }
+    let mut trail = Trail::new(alloc);
+    let mut steps = List::new(alloc);
+    let mut left = budget;
+    let mut start = 0;
+    loop {
+        match survey(clauses.as_slice(), &trail, start) {
+            Scan::Unit(place, lit) => {
+                start = place;
+                trail.push(Entry {
+                    lit,
+                    reason: Some(place),
+                })?
+            }
+            Scan::Settled => match first_open(vars, &trail) {
+                None => return Ok(Found::Model(values(alloc, vars, &trail)?)),
+                Some(var) => trail.push(Entry {
+                    lit: var,
+                    reason: None,
+                })?,
+            },
+            Scan::Conflict(place) => {
+                if !trail.has_decision() {
+                    let learnt = to_empty(alloc, clauses.as_slice(), &mut trail, place)?;
+                    add(alloc, &mut clauses, &mut steps, learnt)?;
+                    return Ok(Found::Refuted(steps));
+                }
+                learn(alloc, &mut clauses, &mut trail, &mut steps, place)?;
+                left -= 1;
+                start = clauses.len() - 1;
+                if left == 0 {
+                    return Ok(Found::Spent(steps));
+                }
+            }
+        }
+    }
+}
+
+/// A copy of the formula's clauses.
+fn copied(alloc: Global, formula: &Formula) -> Result<List<List<i64>>, Memory>
+    ensures value { IfOk result (λ clauses. clauses ≡ formula.now.clauses) }
+    ensures literals { IfOk result (λ clauses. AreClauses formula.now.vars clauses) }
+{
+    let mut clauses = List::new(alloc);
+    for clause in formula.clauses() {
+        clauses.push(List::from_vec(Vec::from_slice(alloc, clause.as_slice())?))?;
+    }
+    Ok(clauses)
+}
+
+/// The first variable that has no value, as a literal.
+fn first_open(vars: u64, trail: &Trail) -> Option<i64>
+    requires { vars < 2 ^ 63 }
+    ensures { MatchOption result (AllAssigned vars (lits trail.now)) (λ lit. IsOpenVar vars (lits trail.now) lit) }
+{
+    for index in 0..vars {
+        let lit = index as i64 + 1;
+        if !trail.is_assigned(lit) {
+            return Some(lit);
+        }
+    }
+    None
+}
+
+/// Whether each variable is true on the trail, variable 1 first.
+fn values(alloc: Global, vars: u64, trail: &Trail) -> Result<List<bool>, Memory>
+    requires { vars < 2 ^ 63 }
+    ensures { IfOk result (λ values. values ≡ values_of vars (lits trail.now)) }
+{
+    let mut values = List::new(alloc);
+    for index in 0..vars {
+        values.push(trail.has(&(index as i64 + 1)))?;
+    }
+    Ok(values)
+}

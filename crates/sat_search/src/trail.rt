@@ -1,0 +1,209 @@
+ghost use Rattle.std.specs.Prelude.{◌≡◌, ◌≤◌, ◌||◌, false, List, [], ◌∷◌, length, OnOk, MatchOption};
+ghost use Rattle.std.specs.List.{list_any};
+ghost use Rattle.std.specs.Option.{option_copied};
+ghost use Rattle.lrat_check.specs.Sets.{has, is_false, first_open, other_open, reading, IsLit, AreLits};
+ghost use Rattle.sat_search.specs.Trail.{lits, oldest, below, decided};
+
+use fv_base::Memory;
+use lrat_check::Reading;
+use std::alloc::Global;
+use std::collections::HashMap;
+use std::marker::Model;
+
+/// A literal that was made true, and the place of the clause that forced it; a decision has none.
+#[derive(Debug, Clone, Copy)]
+pub(crate) struct Entry {
+    pub lit: i64,
+    pub reason: Option<usize>,
+}
+
+/// What was made true so far. Contracts see the newest entry first.
+#[derive(Drop)]
+pub(crate) struct Trail {
+    entries: Vec<Entry>,
+    /// The place of each true literal among the entries.
+    places: HashMap<i64, usize>,
+}
+
+impl Model for Trail {
+    ghost use Rattle.std.specs.Prelude.{List, reverse};
+    ghost use Rattle.sat_search.specs.Trail.{Entries, ArePlaces};
+
+    ghost Value = { Entries };
+
+    ghost view = { λ t. reverse t.entries.items };
+
+    ghost invariant = { λ t. ArePlaces (reverse t.entries.items) t.places };
+}
+
+impl Trail {
+    pub(crate) fn new(alloc: Global) -> Trail
+        ensures { result ≡ [] }
+    {
+        Trail {
+            entries: Vec::new(alloc),
+            places: HashMap::new(alloc),
+        }
+    }
+
+    pub(crate) fn push(&mut self, entry: Entry) -> Result<(), Memory>
+        requires { has (lits self.old) entry.lit ≡ false }
+        ensures { OnOk result (self.new ≡ entry ∷ self.old) }
+    {
+        let place = self.entries.len();
+        self.entries.push(entry)?;
+        match self.places.insert(entry.lit, place) {
+            Ok(_) => Ok(()),
+            Err(_) => {
+                self.entries.pop();
+                Err(Memory)
+            }
+        }
+    }
+
+    pub(crate) fn pop(&mut self) -> Option<Entry>
+        ensures { MatchOption result ((self.old ≡ []) × (self.new ≡ [])) (λ e. self.old ≡ e ∷ self.new) }
+    {
+        let entry = self.entries.pop()?;
+        self.places.remove(&entry.lit);
+        Some(entry)
+    }
+
+    pub(crate) fn has_decision(&self) -> bool
+        ensures { result ≡ decided self.now }
+    {
+        for entry in &self.entries {
+            if entry.reason.is_none() {
+                return true;
+            }
+        }
+        false
+    }
+
+    /// Takes off the newest decision and what is newer.
+    pub(crate) fn drop_level(&mut self)
+        ensures { self.new ≡ below self.old }
+    {
+        while let Some(entry) = self.pop() {
+            if entry.reason.is_none() {
+                return;
+            }
+        }
+    }
+
+    /// How many entries are older than the newest decision.
+    fn level_start(&self) -> usize
+        ensures { result ≡ length (below self.now) }
+    {
+        let mut place = self.entries.len();
+        while place > 0 {
+            place -= 1;
+            if self.entries[place].reason.is_none() {
+                return place;
+            }
+        }
+        0
+    }
+
+    /// How the clause reads.
+    pub(crate) fn read(&self, clause: &[i64]) -> Reading
+        requires { AreLits clause.now }
+        ensures { result ≡ reading (lits self.now) clause.now }
+    {
+        self.read_at(self.entries.len(), clause)
+    }
+
+    /// How the clause reads under what is older than the newest decision.
+    pub(crate) fn read_below(&self, clause: &[i64]) -> Reading
+        requires { AreLits clause.now }
+        ensures { result ≡ reading (lits (below self.now)) clause.now }
+    {
+        self.read_at(self.level_start(), clause)
+    }
+
+    /// How the clause reads under so many of the oldest entries.
+    fn read_at(&self, end: usize, clause: &[i64]) -> Reading
+        requires { AreLits clause.now }
+        ensures { result ≡ reading (lits (oldest end self.now)) clause.now }
+    {
+        if self.any_true(end, clause) {
+            return Reading::True;
+        }
+        match self.first_open(end, clause) {
+            None => Reading::False,
+            Some(lit) => {
+                if self.other_open(end, lit, clause) {
+                    Reading::Open
+                } else {
+                    Reading::Unit(*lit)
+                }
+            }
+        }
+    }
+
+    fn any_true(&self, end: usize, clause: &[i64]) -> bool
+        ensures { result ≡ list_any (has (lits (oldest end self.now))) clause.now }
+    {
+        for lit in clause {
+            if self.has_at(end, lit) {
+                return true;
+            }
+        }
+        false
+    }
+
+    fn first_open<'a>(&self, end: usize, clause: &'a [i64]) -> Option<&'a i64>
+        requires { AreLits clause.now }
+        ensures { option_copied result ≡ first_open (lits (oldest end self.now)) clause.now }
+    {
+        for lit in clause {
+            if !self.is_false_at(end, lit) {
+                return Some(lit);
+            }
+        }
+        None
+    }
+
+    fn other_open(&self, end: usize, first: &i64, clause: &[i64]) -> bool
+        requires { AreLits clause.now }
+        ensures { result ≡ other_open (lits (oldest end self.now)) first.now clause.now }
+    {
+        for lit in clause {
+            if lit != first && !self.is_false_at(end, lit) {
+                return true;
+            }
+        }
+        false
+    }
+
+    /// Whether the literal is among so many of the oldest entries.
+    fn has_at(&self, end: usize, lit: &i64) -> bool
+        ensures { result ≡ has (lits (oldest end self.now)) lit.now }
+    {
+        match self.places.get(lit) {
+            Some(place) => *place < end,
+            None => false,
+        }
+    }
+
+    fn is_false_at(&self, end: usize, lit: &i64) -> bool
+        requires { IsLit lit.now }
+        ensures { result ≡ is_false (lits (oldest end self.now)) lit.now }
+    {
+        self.has_at(end, &-*lit)
+    }
+
+    pub(crate) fn has(&self, lit: &i64) -> bool
+        ensures { result ≡ has (lits self.now) lit.now }
+    {
+        self.has_at(self.entries.len(), lit)
+    }
+
+    /// Whether the literal is true or false.
+    pub(crate) fn is_assigned(&self, lit: i64) -> bool
+        requires { IsLit lit }
+        ensures { result ≡ (has (lits self.now) lit || is_false (lits self.now) lit) }
+    {
+        self.has(&lit) || self.has(&-lit)
+    }
+}

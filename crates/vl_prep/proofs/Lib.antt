@@ -1,0 +1,10 @@
+pub mod Outermost
+pub mod Names
+pub mod Quieted
+pub mod Levels
+pub mod Chosen
+pub mod Uses
+pub mod Single
+pub mod ByRules
+pub mod Unwinding
+pub mod ByReading
