@@ -1,6 +1,0 @@
-pub mod Bits
-pub mod Entries
-pub mod Sign
-pub mod Size
-pub mod Table
-pub mod Way
