@@ -1,0 +1,6 @@
+pub mod Bits
+pub mod Entries
+pub mod Sign
+pub mod Size
+pub mod Table
+pub mod Way

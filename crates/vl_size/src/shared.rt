@@ -1,0 +1,14 @@
+//! That the public types may be shared among threads.
+
+use crate::decl::{Class, Decl};
+use crate::decls::Decls;
+use crate::way::Way;
+
+fn is_shared<T: Send + Sync>(_value: &T) {}
+
+pub(crate) fn declarations_are_shared(decls: &Decls, decl: &Decl, class: &Class, way: &Way) {
+    is_shared(decls);
+    is_shared(decl);
+    is_shared(class);
+    is_shared(way);
+}
