@@ -195,8 +195,8 @@ fn rows_are_those_of_the_instruction_set(rt: HostRuntime) -> Result<(), Fail> {
     assert!(rt; row_of(0x0000000f, ALL).is_none());
     assert!(rt; row_of(0x00000073, ALL).is_none());
     assert!(rt; row_of(0x02009193, ALL).is_none());
-    let first = RowId::new(0).ok_or("no row 0")?;
-    let last = RowId::new(69).ok_or("no row 69")?;
+    let first = RowId::new(0).ok_or("no first row")?;
+    let last = RowId::new(69).ok_or("no last row")?;
     assert!(rt; row_name(first) == "lui");
     assert!(rt; row_name(last) == "c_swsp");
     assert!(rt; RowId::new(70).is_none());
