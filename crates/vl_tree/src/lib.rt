@@ -19,6 +19,8 @@ mod spelled_source;
 mod spelled_stmt;
 mod stmt;
 #[cfg(test)]
+mod test_trees;
+#[cfg(test)]
 mod tests;
 
 pub use attribute::{Attribute, AttributeInstance};

@@ -2,6 +2,7 @@
 
 use crate::declaration::{Declaration, DeclaredName, HeaderParameter, Port};
 use crate::expr::Expr;
+use crate::item::Item;
 use crate::lval::Lval;
 use crate::part::{Assignment, Event, Instance, LoopHead};
 use crate::stmt::Stmt;
@@ -37,4 +38,8 @@ pub(crate) fn parts_are_shared(
     is_shared(head);
     is_shared(assignment);
     is_shared(declaration);
+}
+
+pub(crate) fn items_are_shared(item: &Item) {
+    is_shared(item);
 }
