@@ -6,3 +6,6 @@ pub mod Copies
 pub mod Names
 pub mod Joined
 pub mod Vectors
+pub mod RowLemmas
+pub mod Ways
+pub mod PlaceLemmas

@@ -7,8 +7,7 @@ use Rattle.std.proofs.lemmas.Bool.Decides.{nat_tests}
 use Rattle.fv_base.specs.declared.pos.Pos.{Pos}
 use Rattle.vl_tree.specs.declared.expr.Select.{Select}
 use Rattle.vl_tree.specs.declared.expr.Select.TheVariants as s
-use Rattle.vl_tree.specs.Expr.{Expr, Selects, binary, name, whole, bit, part, indexed}
-use Rattle.vl_tree.specs.declared.operator.BinaryOperator.{BinaryOperator}
+use Rattle.vl_tree.specs.Expr.{Expr, Selects, name, whole, bit, part, indexed}
 use Rattle.vl_tree.specs.ExprView.{selects}
 use Rattle.vl_size.specs.Bits.{extended}
 use Rattle.vl_size.specs.declared.decl.Decl.{Decl}
@@ -112,15 +111,6 @@ name_0 ds w t p text ss = at (named ds text)
         → with_decl o (λ d. if is_none d.words then vector_value ds no_names w t d 0 ss else word_value ds no_names w t d ss) ≡ 0
     at None = refl
     at (Some d) = by d (is_none d.words)
-
--- an operation whose operands were taken out of their boxes
-pub size_at : (ds : List Decl) (p : Pos) (op : BinaryOperator) (x y a b e : Expr) → x ≡ a → y ≡ b → binary p op a b ≡ e
-    → size ds (binary p op x y) ≡ size ds e
-size_at ds p op x y a b e h k l = (λ i. size ds (binary p op (h i) (k i))) ∙ ap (size ds) l
-
-pub value_at : (ds : List Decl) (w : ℕ) (t : Bool) (p : Pos) (op : BinaryOperator) (x y a b e : Expr) → x ≡ a → y ≡ b → binary p op a b ≡ e
-    → value ds no_names w t (binary p op x y) ≡ value ds no_names w t e
-value_at ds w t p op x y a b e h k l = (λ i. value ds no_names w t (binary p op (h i) (k i))) ∙ ap (value ds no_names w t) l
 
 -- the declared name is no memory, or it is one
 pub of_vector : {A : Type 0} (words : Option A) (b : Bool) (x y : Option ℕ) → is_some words ≡ not b → b ≡ true → x ≡ None

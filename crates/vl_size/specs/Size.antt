@@ -63,6 +63,12 @@ abbrev pub or_none : Option ℕ → ℕ
 or_none None = 0
 or_none (Some n) = n
 
+-- one bit, where both have a size
+abbrev pub both : Option ℕ → Option ℕ → Option ℕ
+both None n = None
+both (Some m) None = None
+both (Some m) (Some n) = Some 1
+
 -- of what has no size: 0
 abbrev pub with_size : Option ℕ → (ℕ → ℕ) → ℕ
 with_size None f = 0

@@ -2,11 +2,11 @@ ghost use Rattle.std.specs.Prelude.{◌<◌, ◌≤◌, ◌^◌};
 
 /// A number of at most 128 bits, at the size and the sign that it has by itself.
 #[derive(Debug, Clone, Copy)]
-pub(crate) struct Own {
+pub struct Own {
     /// In bits.
-    pub(crate) width: u32,
-    pub(crate) signed: bool,
-    pub(crate) number: u128,
-    ghost few_bits: { width ≤ 128 },
-    ghost fits: { number < 2 ^ width },
+    pub width: u32,
+    pub signed: bool,
+    pub number: u128,
+    pub ghost few_bits: { width ≤ 128 },
+    pub ghost fits: { number < 2 ^ width },
 }

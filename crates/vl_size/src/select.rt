@@ -1,16 +1,17 @@
 //! Sizes and values of selects and copies, from the numbers in them (IEEE 1364-2005, sections 4.2.1 and 5.1.14).
 ghost use Rattle.std.specs.Prelude.{◌≡◌, ◌<◌, ◌≤◌, ◌*◌, ◌+◌, ◌^◌, Some, None, IfSome, ℤ, pos, nat_abs, IsTrue, if◌then◌else◌};
-ghost use Rattle.vl_size.specs.Bits.{as_int, extended};
+ghost use Rattle.std.specs.Option.{option_map};
+ghost use Rattle.vl_size.specs.Bits.{as_int};
 ghost use Rattle.vl_size.specs.Size as spec;
 ghost use Rattle.vl_size.specs.Table as table;
 
 use crate::bits::ones;
 use crate::decl::Decl;
 use crate::own::Own;
-use crate::signed::{extended, is_below_zero};
+use crate::signed::is_below_zero;
 
 /// The sum, where it is at most 128.
-pub(crate) fn plus(m: u32, n: u32) -> Option<u32>
+pub fn plus(m: u32, n: u32) -> Option<u32>
     requires left { m ≤ 128 }
     requires right { n ≤ 128 }
     ensures value { result ≡ spec.within (m + n) }
@@ -23,7 +24,7 @@ pub(crate) fn plus(m: u32, n: u32) -> Option<u32>
 }
 
 /// At least one bit.
-pub(crate) fn some_bits(size: u32) -> Option<u32>
+pub fn some_bits(size: u32) -> Option<u32>
     ensures value { result ≡ spec.some_bits (Some size) }
     ensures same { IfSome result (λ m. (m ≡ size) × (1 ≤ m)) }
 {
@@ -34,7 +35,7 @@ pub(crate) fn some_bits(size: u32) -> Option<u32>
 }
 
 /// So many times the size, where the count is above 0 and the product is at most 128.
-pub(crate) fn times(count: Own, size: u32) -> Option<u32>
+pub fn times(count: Own, size: u32) -> Option<u32>
     requires some { 1 ≤ size }
     requires few { size ≤ 128 }
     ensures value { result ≡ spec.times (as_int count.width count.signed count.number) size }
@@ -71,7 +72,7 @@ fn bound(own: Own) -> Option<i64>
 }
 
 /// The size of the part `[left:right]`: at most 128, from left to right as the declared range goes.
-pub(crate) fn part_size(decl: &Decl, left: Own, right: Own) -> Option<u32>
+pub fn part_size(decl: &Decl, left: Own, right: Own) -> Option<u32>
     ensures value { let l = as_int left.width left.signed left.number in
         let r = as_int right.width right.signed right.number in
         result ≡ spec.part_size decl.now l r }
@@ -112,7 +113,7 @@ fn span(left: i64, right: i64) -> Option<u32>
 
 /// So many copies of a number, one behind the other.
 #[tactic(auto, using(crate::proofs::Copies::appending))]
-fn copies(count: u32, size: u32, n: u128) -> u128
+pub fn copies(count: u32, size: u32, n: u128) -> u128
     requires some { 1 ≤ size }
     requires few { count * size ≤ 128 }
     requires fits { n < 2 ^ size }
@@ -127,7 +128,7 @@ fn copies(count: u32, size: u32, n: u128) -> u128
 
 /// A number of `size` bits, and behind it one of `more` bits.
 #[tactic(auto, using(crate::proofs::Copies::appending))]
-pub(crate) fn appended(front: u128, size: u32, more: u32, n: u128) -> u128
+pub fn appended(front: u128, size: u32, more: u32, n: u128) -> u128
     requires few { size + more ≤ 128 }
     requires front { front < 2 ^ size }
     requires fits { n < 2 ^ more }
@@ -140,21 +141,17 @@ pub(crate) fn appended(front: u128, size: u32, more: u32, n: u128) -> u128
     (front << more) + n
 }
 
-/// The value of so many copies of a number where its size and sign come from the context; 0 where they have no size.
-pub(crate) fn repeated(count: Own, part: Own, width: u32, signed: bool) -> u128
-    requires some { 1 ≤ part.width }
-    requires few { width ≤ 128 }
-    ensures value { let c = as_int count.width count.signed count.number in
-        result ≡ spec.with_size (spec.times c part.width) (λ m. extended m width signed (spec.copies (nat_abs c) part.width part.number)) }
-    ensures fits { result < 2 ^ width }
+/// So many copies of a number, one behind the other. None exactly where they have no size.
+pub fn repeated(count: Own, part: Own) -> Option<Own>
+    requires { 1 ≤ part.width }
+    ensures width { option_map (λ all. all.width) result ≡ spec.times (as_int count.width count.signed count.number) part.width }
+    ensures some { IfSome result (λ all. 1 ≤ all.width) }
+    ensures number { IfSome result (λ all. all.number ≡ spec.copies (nat_abs (as_int count.width count.signed count.number)) part.width part.number) }
 {
-    match times(count, part.width) {
-        None => 0,
-        Some(size) => extended(
-            size,
-            width,
-            signed,
-            copies(count.number as u32, part.width, part.number),
-        ),
-    }
+    let width = times(count, part.width)?;
+    Some(Own {
+        width,
+        signed: false,
+        number: copies(count.number as u32, part.width, part.number),
+    })
 }

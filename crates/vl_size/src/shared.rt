@@ -2,6 +2,7 @@
 
 use crate::decl::{Class, Decl};
 use crate::decls::Decls;
+use crate::own::Own;
 use crate::way::Way;
 
 fn is_shared<T: Send + Sync>(_value: &T) {}
@@ -11,4 +12,8 @@ pub(crate) fn declarations_are_shared(decls: &Decls, decl: &Decl, class: &Class,
     is_shared(decl);
     is_shared(class);
     is_shared(way);
+}
+
+pub(crate) fn numbers_are_shared(own: &Own) {
+    is_shared(own);
 }

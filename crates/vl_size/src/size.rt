@@ -1,22 +1,24 @@
 //! The size of an expression, and the value of a constant one, which a size may need.
-ghost use Rattle.std.specs.Prelude.{◌≡◌, ◌<◌, ◌≤◌, ◌^◌, Option, IfSome, is_none, if◌then◌else◌};
+ghost use Rattle.std.specs.Prelude.{◌≡◌, ◌<◌, ◌≤◌, ◌^◌, true, false, Option, IfSome, is_none, if◌then◌else◌};
 ghost use Rattle.std.specs.Option.{option_map};
 ghost use Rattle.fv_base.specs.declared.pos.Pos.{Pos};
-ghost use Rattle.vl_tree.specs.Expr.{exprs, whole, binary};
+ghost use Rattle.vl_tree.specs.Expr.{exprs, whole, unary, binary};
 ghost use Rattle.vl_tree.specs.ExprView.{selects, with_select};
 ghost use Rattle.vl_size.specs.Sign.{sign};
 ghost use Rattle.vl_size.specs.Size as spec;
-ghost use Rattle.vl_size.specs.Size.{or_none, no_names, some_bits};
+ghost use Rattle.vl_size.specs.Size.{no_names, some_bits};
+ghost use Rattle.vl_size.specs.Way.{way};
+ghost use Rattle.vl_size.specs.Rows.{IsRow};
 
-use crate::bits::{bit, complement, negative};
+use crate::bits::bit;
 use crate::constant::is_constant;
 use crate::decl::Decl;
 use crate::decls::Decls;
-use crate::operation::{arithmetic, compared, reduced, shifted};
+use crate::numbers::Numbers;
+use crate::operation::{compared, reduced};
 use crate::own::Own;
 use crate::select::{appended, part_size, plus, repeated, some_bits, times};
 use crate::sign::sign_of;
-use crate::signed::extended;
 use crate::way::{Way, divides, keeps_size, size_by, way_of};
 use vl_tree::{BinaryOperator, Expr, ExprKind, Select, UnaryOperator};
 
@@ -48,34 +50,46 @@ pub fn size_of(expr: &Expr, decls: &Decls) -> Option<u32>
         }
         ExprKind::Concat(parts) => some_bits(sizes_of(parts.as_slice(), decls)?),
         ExprKind::Repeat(count, parts) => {
-            let width = size_of(count, decls)?;
+            let copies = own(count, decls)?;
             let size = some_bits(sizes_of(parts.as_slice(), decls)?)?;
             if !is_constant(count) {
                 return None;
             }
-            times(own(count, decls, width), size)
+            times(copies, size)
         }
         ExprKind::Cast(_, operand) => size_of(operand, decls),
     }
 }
 
-/// A quotient or a remainder needs constants, and a divisor that isn't 0 at its own size.
 #[cycle(size)]
 fn binary_size(operator: BinaryOperator, left: &Expr, right: &Expr, decls: &Decls) -> Option<u32>
     ensures value { (p : Pos) → result ≡ spec.size decls.now (binary p operator left.now right.now) }
     ensures range { IfSome result (λ m. (1 ≤ m) × (m ≤ 128)) }
 {
+    if divides(operator) {
+        return quotient_size(operator, left, right, decls);
+    }
     let m = size_of(left, decls)?;
     let n = size_of(right, decls)?;
-    if !divides(operator) {
-        return Some(size_by(way_of(operator), m, n));
-    }
+    Some(size_by(way_of(operator), m, n))
+}
+
+/// A quotient or a remainder needs constants, and a divisor that isn't 0 at its own size.
+#[cycle(size)]
+fn quotient_size(operator: BinaryOperator, left: &Expr, right: &Expr, decls: &Decls) -> Option<u32>
+    requires { spec.divides operator ≡ true }
+    ensures value { (p : Pos) → result ≡ spec.size decls.now (binary p operator left.now right.now) }
+    ensures range { IfSome result (λ m. (1 ≤ m) × (m ≤ 128)) }
+{
+    let m = size_of(left, decls)?;
+    let mut numbers = Numbers::zero();
+    let n = evaluate(right, decls, &mut numbers)?;
     if !is_constant(left) || !is_constant(right) {
         return None;
     }
     let width = m.max(n);
     let signed = sign_of(left, decls) && sign_of(right, decls);
-    if value(right, decls, width, signed) == 0 {
+    if numbers.at(width, signed) == 0 {
         return None;
     }
     Some(width)
@@ -136,162 +150,241 @@ fn select_size(decl: &Decl, select: &Select, decls: &Decls) -> Option<u32>
             Some(1)
         }
         Select::Part(_, left, right) => {
-            let m = size_of(left, decls)?;
-            let n = size_of(right, decls)?;
+            let l = own(left, decls)?;
+            let r = own(right, decls)?;
             if !is_constant(left) || !is_constant(right) {
                 return None;
             }
-            part_size(decl, own(left, decls, m), own(right, decls, n))
+            part_size(decl, l, r)
         }
         Select::Indexed(_, start, width) => {
             size_of(start, decls)?;
-            let n = size_of(width, decls)?;
+            let count = own(width, decls)?;
             if !is_constant(width) {
                 return None;
             }
-            times(own(width, decls, n), 1)
+            times(count, 1)
         }
     }
 }
 
-/// The value of a constant where its size and sign come from the context. A name counts as 0.
+/// The size of an expression by itself, and its numbers where size and sign come from the context. A name counts as 0.
 #[cycle(size)]
-fn value(expr: &Expr, decls: &Decls, width: u32, signed: bool) -> u128
-    requires { width ≤ 128 }
-    ensures value { result ≡ spec.value decls.now no_names width signed expr.now }
-    ensures fits { result < 2 ^ width }
+fn evaluate(expr: &Expr, decls: &Decls, numbers: &mut Numbers) -> Option<u32>
+    ensures value { result ≡ spec.size decls.now expr.now }
+    ensures range { IfSome result (λ m. (1 ≤ m) × (m ≤ 128)) }
+    ensures unsigned { IfSome result (λ m. IsRow numbers.new.unsigned.at (λ w. spec.value decls.now no_names w false expr.now)) }
+    ensures signed { IfSome result (λ m. IsRow numbers.new.signed.at (λ w. spec.value decls.now no_names w true expr.now)) }
 {
     match &expr.kind {
-        ExprKind::Number(number) => extended(number.width, width, signed, number.value),
-        ExprKind::Name(_, _) => 0,
-        ExprKind::Paren(inner) => value(inner, decls, width, signed),
-        ExprKind::Unary(operator, operand) => match operator {
-            UnaryOperator::Plus => value(operand, decls, width, signed),
-            UnaryOperator::Minus => negative(width, value(operand, decls, width, signed)),
-            UnaryOperator::BitwiseNot => complement(width, value(operand, decls, width, signed)),
-            _ => {
-                let own = own(operand, decls, own_size(operand, decls));
-                extended(
-                    1,
-                    width,
-                    signed,
-                    bit(reduced(*operator, own.width, own.number)),
-                )
-            }
-        },
-        ExprKind::Binary(operator, left, right) => binary_value(
-            *operator, left, right, decls, width, signed,
+        ExprKind::Number(number) => {
+            numbers.extend(number.width, number.value);
+            Some(number.width)
+        }
+        ExprKind::Name(text, all) => {
+            numbers.clear();
+            let decl = decls.named(text)?;
+            selected_size(decl, all.as_slice(), decls)
+        }
+        ExprKind::Paren(inner) => evaluate(inner, decls, numbers),
+        ExprKind::Unary(operator, operand) => evaluate_unary(*operator, operand, decls, numbers),
+        ExprKind::Binary(operator, left, right) => evaluate_binary(
+            *operator, left, right, decls, numbers,
         ),
         ExprKind::Conditional(condition, first, second) => {
-            if is_true(condition, decls) {
-                value(first, decls, width, signed)
-            } else {
-                value(second, decls, width, signed)
+            let condition = own(condition, decls)?;
+            if condition.number == 0 {
+                let m = evaluate(first, decls, numbers)?;
+                let n = evaluate(second, decls, numbers)?;
+                return Some(m.max(n));
             }
+            let n = evaluate(second, decls, numbers)?;
+            let m = evaluate(first, decls, numbers)?;
+            Some(m.max(n))
         }
-        ExprKind::Concat(parts) => match joined(parts.as_slice(), decls) {
-            None => 0,
-            Some(part) => extended(part.width, width, signed, part.number),
-        },
-        ExprKind::Repeat(count, parts) => match joined(parts.as_slice(), decls) {
-            None => 0,
-            Some(part) => repeated(
-                own(count, decls, own_size(count, decls)),
-                part,
-                width,
-                signed,
-            ),
-        },
+        ExprKind::Concat(parts) => {
+            let part = joined(parts.as_slice(), decls)?;
+            numbers.extend(part.width, part.number);
+            Some(part.width)
+        }
+        ExprKind::Repeat(count, parts) => {
+            let count_of = own(count, decls)?;
+            let part = joined(parts.as_slice(), decls)?;
+            if !is_constant(count) {
+                return None;
+            }
+            let all = repeated(count_of, part)?;
+            numbers.extend(all.width, all.number);
+            Some(all.width)
+        }
         ExprKind::Cast(_, operand) => {
-            let own = own(operand, decls, own_size(operand, decls));
-            extended(own.width, width, signed, own.number)
+            let own = own(operand, decls)?;
+            numbers.extend(own.width, own.number);
+            Some(own.width)
         }
     }
 }
 
 #[cycle(size)]
-fn binary_value(
+fn evaluate_unary(
+    operator: UnaryOperator,
+    operand: &Expr,
+    decls: &Decls,
+    numbers: &mut Numbers,
+) -> Option<u32>
+    ensures value { (p : Pos) → result ≡ spec.size decls.now (unary p operator operand.now) }
+    ensures range { IfSome result (λ m. (1 ≤ m) × (m ≤ 128)) }
+    ensures unsigned { IfSome result (λ m. (p : Pos) → IsRow numbers.new.unsigned.at (λ w. spec.value decls.now no_names w false (unary p operator operand.now))) }
+    ensures signed { IfSome result (λ m. (p : Pos) → IsRow numbers.new.signed.at (λ w. spec.value decls.now no_names w true (unary p operator operand.now))) }
+{
+    match operator {
+        UnaryOperator::Plus => evaluate(operand, decls, numbers),
+        UnaryOperator::Minus => {
+            let m = evaluate(operand, decls, numbers)?;
+            numbers.negate();
+            Some(m)
+        }
+        UnaryOperator::BitwiseNot => {
+            let m = evaluate(operand, decls, numbers)?;
+            numbers.complement();
+            Some(m)
+        }
+        _ => {
+            let own = own(operand, decls)?;
+            numbers.extend(1, bit(reduced(operator, own.width, own.number)));
+            Some(1)
+        }
+    }
+}
+
+#[cycle(size)]
+fn evaluate_binary(
     operator: BinaryOperator,
     left: &Expr,
     right: &Expr,
     decls: &Decls,
-    width: u32,
-    signed: bool,
-) -> u128
-    requires { width ≤ 128 }
-    ensures value { (p : Pos) → result ≡ spec.value decls.now no_names width signed (binary p operator left.now right.now) }
-    ensures fits { result < 2 ^ width }
+    numbers: &mut Numbers,
+) -> Option<u32>
+    ensures value { (p : Pos) → result ≡ spec.size decls.now (binary p operator left.now right.now) }
+    ensures range { IfSome result (λ m. (1 ≤ m) × (m ≤ 128)) }
+    ensures unsigned { IfSome result (λ m. (p : Pos) → IsRow numbers.new.unsigned.at (λ w. spec.value decls.now no_names w false (binary p operator left.now right.now))) }
+    ensures signed { IfSome result (λ m. (p : Pos) → IsRow numbers.new.signed.at (λ w. spec.value decls.now no_names w true (binary p operator left.now right.now))) }
 {
     match way_of(operator) {
-        Way::Larger => {
-            let m = value(left, decls, width, signed);
-            let n = value(right, decls, width, signed);
-            arithmetic(operator, width, signed, m, n)
-        }
+        Way::Larger => evaluate_arithmetic(operator, left, right, decls, numbers),
         Way::Left => {
-            let n = value(left, decls, width, signed);
-            let by = own(right, decls, own_size(right, decls));
-            shifted(operator, width, signed, n, by.number)
+            let m = evaluate(left, decls, numbers)?;
+            let by = own(right, decls)?;
+            numbers.shift(operator, by.number);
+            Some(m)
         }
-        Way::One => extended(1, width, signed, bit(tested(operator, left, right, decls))),
+        Way::One => {
+            let tested = tested(operator, left, right, decls, numbers)?;
+            numbers.extend(1, bit(tested));
+            Some(1)
+        }
     }
 }
 
-/// Both operands at the larger of their sizes, signed where both are; of `&&` and `||` each by itself.
 #[cycle(size)]
-fn tested(operator: BinaryOperator, left: &Expr, right: &Expr, decls: &Decls) -> bool
-    ensures { let x = spec.operand (spec.size decls.now left.now) (sign decls.now left.now) (λ m t. spec.value decls.now no_names m t left.now) in
+fn evaluate_arithmetic(
+    operator: BinaryOperator,
+    left: &Expr,
+    right: &Expr,
+    decls: &Decls,
+    numbers: &mut Numbers,
+) -> Option<u32>
+    requires { way operator ≡ Way.Larger }
+    ensures value { (p : Pos) → result ≡ spec.size decls.now (binary p operator left.now right.now) }
+    ensures range { IfSome result (λ m. (1 ≤ m) × (m ≤ 128)) }
+    ensures unsigned { IfSome result (λ m. (p : Pos) → IsRow numbers.new.unsigned.at (λ w. spec.value decls.now no_names w false (binary p operator left.now right.now))) }
+    ensures signed { IfSome result (λ m. (p : Pos) → IsRow numbers.new.signed.at (λ w. spec.value decls.now no_names w true (binary p operator left.now right.now))) }
+{
+    let m = evaluate(left, decls, numbers)?;
+    let mut other = Numbers::zero();
+    let n = evaluate(right, decls, &mut other)?;
+    let width = m.max(n);
+    if !divides(operator) {
+        numbers.combine(operator, &other);
+        return Some(width);
+    }
+    if !is_constant(left) || !is_constant(right) {
+        return None;
+    }
+    let signed = sign_of(left, decls) && sign_of(right, decls);
+    if other.at(width, signed) == 0 {
+        return None;
+    }
+    numbers.combine(operator, &other);
+    Some(width)
+}
+
+/// Both operands at the larger of their sizes, signed where both are; of `&&` and `||` each by itself. None exactly where
+/// one of them has no size.
+#[cycle(size)]
+fn tested(
+    operator: BinaryOperator,
+    left: &Expr,
+    right: &Expr,
+    decls: &Decls,
+    numbers: &mut Numbers,
+) -> Option<bool>
+    ensures sized { option_map (λ b. 1) result ≡ spec.both (spec.size decls.now left.now) (spec.size decls.now right.now) }
+    ensures value { let x = spec.operand (spec.size decls.now left.now) (sign decls.now left.now) (λ m t. spec.value decls.now no_names m t left.now) in
         let y = spec.operand (spec.size decls.now right.now) (sign decls.now right.now) (λ m t. spec.value decls.now no_names m t right.now) in
-        result ≡ spec.tested operator x y }
+        IfSome result (λ b. b ≡ spec.tested operator x y) }
 {
     match operator {
-        BinaryOperator::LogicalAnd => is_true(left, decls) && is_true(right, decls),
-        BinaryOperator::LogicalOr => is_true(left, decls) || is_true(right, decls),
+        BinaryOperator::LogicalAnd => {
+            let left = own(left, decls)?;
+            let right = own(right, decls)?;
+            Some(left.number != 0 && right.number != 0)
+        }
+        BinaryOperator::LogicalOr => {
+            let left = own(left, decls)?;
+            let right = own(right, decls)?;
+            Some(left.number != 0 || right.number != 0)
+        }
         _ => {
-            let width = own_size(left, decls).max(own_size(right, decls));
+            let m = evaluate(left, decls, numbers)?;
+            let mut other = Numbers::zero();
+            let n = evaluate(right, decls, &mut other)?;
+            let width = m.max(n);
             let signed = sign_of(left, decls) && sign_of(right, decls);
-            let m = value(left, decls, width, signed);
-            let n = value(right, decls, width, signed);
-            compared(operator, width, signed, m, n)
+            Some(compared(
+                operator,
+                width,
+                signed,
+                numbers.at(width, signed),
+                other.at(width, signed),
+            ))
         }
     }
 }
 
-/// The size by itself; 0 where there is none.
+/// The size, the sign and the number of a constant by itself.
 #[cycle(size)]
-fn own_size(expr: &Expr, decls: &Decls) -> u32
-    ensures value { result ≡ or_none (spec.size decls.now expr.now) }
-    ensures few { result ≤ 128 }
+fn own(expr: &Expr, decls: &Decls) -> Option<Own>
+    ensures width { option_map (λ own. own.width) result ≡ spec.size decls.now expr.now }
+    ensures some { IfSome result (λ own. 1 ≤ own.width) }
+    ensures signed { IfSome result (λ own. own.signed ≡ sign decls.now expr.now) }
+    ensures number { IfSome result (λ own. own.number ≡ spec.value decls.now no_names own.width (sign decls.now expr.now) expr.now) }
 {
-    match size_of(expr, decls) {
-        None => 0,
-        Some(size) => size,
+    if let ExprKind::Number(number) = &expr.kind {
+        return Some(Own {
+            width: number.width,
+            signed: number.signed,
+            number: number.value,
+        });
     }
-}
-
-/// Whether the value of a constant by itself isn't 0.
-#[cycle(size)]
-fn is_true(expr: &Expr, decls: &Decls) -> bool
-    ensures { result ≡ spec.is_true (spec.operand (spec.size decls.now expr.now) (sign decls.now expr.now) (λ m t. spec.value decls.now no_names m t expr.now)) }
-{
-    own(expr, decls, own_size(expr, decls)).number != 0
-}
-
-/// The value of a constant at its own sign.
-#[cycle(size)]
-fn own(expr: &Expr, decls: &Decls, width: u32) -> Own
-    requires { width ≤ 128 }
-    ensures width { result.width ≡ width }
-    ensures signed { result.signed ≡ sign decls.now expr.now }
-    ensures number { result.number ≡ spec.value decls.now no_names width (sign decls.now expr.now) expr.now }
-{
+    let mut numbers = Numbers::zero();
+    let width = evaluate(expr, decls, &mut numbers)?;
     let signed = sign_of(expr, decls);
-    let number = value(expr, decls, width, signed);
-    Own {
+    Some(Own {
         width,
         signed,
-        number,
-    }
+        number: numbers.at(width, signed),
+    })
 }
 
 /// The parts of a concatenation of constants, joined to one number. None exactly where they have no size.
@@ -305,9 +398,9 @@ fn joined(all: &[Expr], decls: &Decls) -> Option<Own>
     let mut width = 0;
     let mut number = 0;
     for part in all {
-        let more = size_of(part, decls)?;
-        let longer = plus(width, more)?;
-        number = appended(number, width, more, own(part, decls, more).number);
+        let more = own(part, decls)?;
+        let longer = plus(width, more.width)?;
+        number = appended(number, width, more.width, more.number);
         width = longer;
     }
     let width = some_bits(width)?;

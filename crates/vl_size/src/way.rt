@@ -15,7 +15,7 @@ pub enum Way {
     One,
 }
 
-pub(crate) fn way_of(operator: BinaryOperator) -> Way
+pub fn way_of(operator: BinaryOperator) -> Way
     ensures { result ≡ spec.way operator }
 {
     match operator {
@@ -47,7 +47,7 @@ pub(crate) fn way_of(operator: BinaryOperator) -> Way
 }
 
 /// Whether it keeps its operand's size and sign; else it gives one bit.
-pub(crate) fn keeps_size(operator: UnaryOperator) -> bool
+pub fn keeps_size(operator: UnaryOperator) -> bool
     ensures { result ≡ spec.keeps_size operator }
 {
     matches!(
@@ -57,7 +57,7 @@ pub(crate) fn keeps_size(operator: UnaryOperator) -> bool
 }
 
 /// The size of the operation from those of its operands.
-pub(crate) fn size_by(way: Way, m: u32, n: u32) -> u32
+pub fn size_by(way: Way, m: u32, n: u32) -> u32
     ensures { result ≡ size.size_by way m n }
 {
     match way {
@@ -68,7 +68,7 @@ pub(crate) fn size_by(way: Way, m: u32, n: u32) -> u32
 }
 
 /// Whether a divisor stands at its right.
-pub(crate) fn divides(operator: BinaryOperator) -> bool
+pub fn divides(operator: BinaryOperator) -> bool
     ensures { result ≡ size.divides operator }
 {
     matches!(operator, BinaryOperator::Divide | BinaryOperator::Remainder)

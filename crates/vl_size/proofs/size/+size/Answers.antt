@@ -1,33 +1,108 @@
-use Rattle.std.proofs.Common.{◌≡◌, ℕ, ◌+◌, ◌<◌, ◌^◌, List, [], ◌∷◌, drop, ap, sym, ◌∙◌, subst, arith, rules, Some, None}
+use Rattle.std.proofs.Common.{◌≡◌, ℕ, ◌+◌, ◌<◌, ◌^◌, List, [], ◌∷◌, drop, ap, sym, ◌∙◌, subst, arith, rules, Some, None, true, false}
 use Rattle.std.proofs.lemmas.Grind.{common_steps}
 use Rattle.std.specs.Option.{option_map}
 use Rattle.vl_tree.specs.declared.expr.ExprKind.TheVariants as k
-use Rattle.vl_tree.specs.Expr.{Expr, binary, exprs}
+use Rattle.vl_size.specs.Sign.{sign}
+use Rattle.vl_tree.specs.Expr.{Expr, unary, binary, exprs}
 use Rattle.vl_tree.specs.ExprView.{shown, selects}
-use Rattle.vl_size.specs.Size.{no_names, value, vector_size, word_size, sizes, joined, some_bits}
+use Rattle.vl_size.specs.Size.{no_names, size, value, vector_size, word_size, sizes, joined, some_bits}
 use Rattle.vl_size.proofs.Rest.{with_rest, with_rest_0, with_rest-end, with_rest-on, with_rest-None, with_rest-stops}
 use Rattle.vl_size.proofs.Joined.{Joins, joins_first, joins_end, joins_on}
-use Rattle.vl_size.proofs.Names.{size_at, value_at, name_0, two_selects, three_selects, of_vector, of_memory}
+use Rattle.vl_size.proofs.RowLemmas.{row_at, row_of_0, extended_same}
+use Rattle.vl_size.proofs.Ways.{one_size}
+use Rattle.vl_size.proofs.Names.{name_0, two_selects, three_selects, of_vector, of_memory}
 use Rattle.vl_size.proofs.size.+size.Goals as goal
 
 pub size_of-returns-in-Binary-clause-value : goal.size_of-returns-in-Binary-clause-value
 size_of-returns-in-Binary-clause-value t c =
     let left : c.deref-in-Binary.result.now ≡ c.in-Binary.left.value = search rules in
     let right : c.deref-in-Binary-2.result.now ≡ c.in-Binary.right.value = search rules in
-    let whole : shown c.expr.inside.pos (k.Binary c.in-Binary.operator c.in-Binary.left c.in-Binary.right) ≡ c.args.expr.now =
-    ap (shown c.expr.inside.pos) (sym c.in-Binary.is) ∙ c.expr.view_is in
-    c.binary_size.ensures.value c.expr.inside.pos ∙ size_at c.args.decls.now c.expr.inside.pos c.in-Binary.operator _ _ _ _ _ left right whole
+    let whole : binary c.expr.inside.pos c.in-Binary.operator c.deref-in-Binary.result.now c.deref-in-Binary-2.result.now ≡ c.args.expr.now =
+    (λ i. binary c.expr.inside.pos c.in-Binary.operator (left i) (right i)) ∙ ap (shown c.expr.inside.pos) (sym c.in-Binary.is) ∙ c.expr.view_is in
+    c.binary_size.ensures.value c.expr.inside.pos ∙ ap (size c.args.decls.now) whole
 
-pub value-returns-in-Binary-clause-value : goal.value-returns-in-Binary-clause-value
-value-returns-in-Binary-clause-value t c =
+pub evaluate-returns-in-Unary-clause-value : goal.evaluate-returns-in-Unary-clause-value
+evaluate-returns-in-Unary-clause-value t c =
+    let inner : c.deref-in-Unary.result.now ≡ c.in-Unary.operand.value = search rules in
+    let whole : unary c.expr.inside.pos c.in-Unary.operator c.deref-in-Unary.result.now ≡ c.args.expr.now =
+    (λ i. unary c.expr.inside.pos c.in-Unary.operator (inner i)) ∙ ap (shown c.expr.inside.pos) (sym c.in-Unary.is) ∙ c.expr.view_is in
+    c.evaluate_unary.ensures.value c.expr.inside.pos ∙ ap (size c.args.decls.now) whole
+
+pub evaluate-returns-in-Unary-clause-unsigned : goal.evaluate-returns-in-Unary-clause-unsigned
+evaluate-returns-in-Unary-clause-unsigned t c =
+    let inner : c.deref-in-Unary.result.now ≡ c.in-Unary.operand.value = search rules in
+    let whole : unary c.expr.inside.pos c.in-Unary.operator c.deref-in-Unary.result.now ≡ c.args.expr.now =
+    (λ i. unary c.expr.inside.pos c.in-Unary.operator (inner i)) ∙ ap (shown c.expr.inside.pos) (sym c.in-Unary.is) ∙ c.expr.view_is in
+    row_at _ _ (λ p w. value c.args.decls.now no_names w false (unary p c.in-Unary.operator c.deref-in-Unary.result.now))
+    (λ w. value c.args.decls.now no_names w false c.args.expr.now) c.expr.inside.pos (λ w. ap (value c.args.decls.now no_names w false) whole)
+    c.evaluate_unary.ensures.unsigned
+
+pub evaluate-returns-in-Unary-clause-signed : goal.evaluate-returns-in-Unary-clause-signed
+evaluate-returns-in-Unary-clause-signed t c =
+    let inner : c.deref-in-Unary.result.now ≡ c.in-Unary.operand.value = search rules in
+    let whole : unary c.expr.inside.pos c.in-Unary.operator c.deref-in-Unary.result.now ≡ c.args.expr.now =
+    (λ i. unary c.expr.inside.pos c.in-Unary.operator (inner i)) ∙ ap (shown c.expr.inside.pos) (sym c.in-Unary.is) ∙ c.expr.view_is in
+    row_at _ _ (λ p w. value c.args.decls.now no_names w true (unary p c.in-Unary.operator c.deref-in-Unary.result.now))
+    (λ w. value c.args.decls.now no_names w true c.args.expr.now) c.expr.inside.pos (λ w. ap (value c.args.decls.now no_names w true) whole)
+    c.evaluate_unary.ensures.signed
+
+pub evaluate-returns-in-Binary-clause-value : goal.evaluate-returns-in-Binary-clause-value
+evaluate-returns-in-Binary-clause-value t c =
     let left : c.deref-in-Binary.result.now ≡ c.in-Binary.left.value = search rules in
     let right : c.deref-in-Binary-2.result.now ≡ c.in-Binary.right.value = search rules in
-    let whole : shown c.expr.inside.pos (k.Binary c.in-Binary.operator c.in-Binary.left c.in-Binary.right) ≡ c.args.expr.now =
-    ap (shown c.expr.inside.pos) (sym c.in-Binary.is) ∙ c.expr.view_is in
-    ◌∙◌ {b = value c.args.decls.now no_names c.args.width c.args.signed
-    (binary c.expr.inside.pos c.in-Binary.operator c.deref-in-Binary.result.now c.deref-in-Binary-2.result.now)}
-    (c.binary_value.ensures.value c.expr.inside.pos)
-    (value_at c.args.decls.now c.args.width c.args.signed c.expr.inside.pos c.in-Binary.operator _ _ _ _ _ left right whole)
+    let whole : binary c.expr.inside.pos c.in-Binary.operator c.deref-in-Binary.result.now c.deref-in-Binary-2.result.now ≡ c.args.expr.now =
+    (λ i. binary c.expr.inside.pos c.in-Binary.operator (left i) (right i)) ∙ ap (shown c.expr.inside.pos) (sym c.in-Binary.is) ∙ c.expr.view_is in
+    c.evaluate_binary.ensures.value c.expr.inside.pos ∙ ap (size c.args.decls.now) whole
+
+pub evaluate-returns-in-Binary-clause-unsigned : goal.evaluate-returns-in-Binary-clause-unsigned
+evaluate-returns-in-Binary-clause-unsigned t c =
+    let left : c.deref-in-Binary.result.now ≡ c.in-Binary.left.value = search rules in
+    let right : c.deref-in-Binary-2.result.now ≡ c.in-Binary.right.value = search rules in
+    let whole : binary c.expr.inside.pos c.in-Binary.operator c.deref-in-Binary.result.now c.deref-in-Binary-2.result.now ≡ c.args.expr.now =
+    (λ i. binary c.expr.inside.pos c.in-Binary.operator (left i) (right i)) ∙ ap (shown c.expr.inside.pos) (sym c.in-Binary.is) ∙ c.expr.view_is in
+    row_at _ _ (λ p w. value c.args.decls.now no_names w false (binary p c.in-Binary.operator c.deref-in-Binary.result.now c.deref-in-Binary-2.result.now))
+    (λ w. value c.args.decls.now no_names w false c.args.expr.now) c.expr.inside.pos (λ w. ap (value c.args.decls.now no_names w false) whole)
+    c.evaluate_binary.ensures.unsigned
+
+pub evaluate-returns-in-Binary-clause-signed : goal.evaluate-returns-in-Binary-clause-signed
+evaluate-returns-in-Binary-clause-signed t c =
+    let left : c.deref-in-Binary.result.now ≡ c.in-Binary.left.value = search rules in
+    let right : c.deref-in-Binary-2.result.now ≡ c.in-Binary.right.value = search rules in
+    let whole : binary c.expr.inside.pos c.in-Binary.operator c.deref-in-Binary.result.now c.deref-in-Binary-2.result.now ≡ c.args.expr.now =
+    (λ i. binary c.expr.inside.pos c.in-Binary.operator (left i) (right i)) ∙ ap (shown c.expr.inside.pos) (sym c.in-Binary.is) ∙ c.expr.view_is in
+    row_at _ _ (λ p w. value c.args.decls.now no_names w true (binary p c.in-Binary.operator c.deref-in-Binary.result.now c.deref-in-Binary-2.result.now))
+    (λ w. value c.args.decls.now no_names w true c.args.expr.now) c.expr.inside.pos (λ w. ap (value c.args.decls.now no_names w true) whole)
+    c.evaluate_binary.ensures.signed
+
+pub evaluate-returns-in_ok-decl-in-Name-clause-unsigned : goal.evaluate-returns-in_ok-decl-in-Name-clause-unsigned
+evaluate-returns-in_ok-decl-in-Name-clause-unsigned t c =
+    row_of_0 _ _ (λ w. value c.args.decls.now no_names w false c.args.expr.now)
+    (λ w. sym (name_0 c.args.decls.now w false c.expr.inside.pos c.in-Name.text (selects c.in-Name.all))
+    ∙ ap (value c.args.decls.now no_names w false) (ap (shown c.expr.inside.pos) (sym c.in-Name.is) ∙ c.expr.view_is))
+    c.clear.ensures.unsigned
+
+pub evaluate-returns-in_ok-decl-in-Name-clause-signed : goal.evaluate-returns-in_ok-decl-in-Name-clause-signed
+evaluate-returns-in_ok-decl-in-Name-clause-signed t c =
+    row_of_0 _ _ (λ w. value c.args.decls.now no_names w true c.args.expr.now)
+    (λ w. sym (name_0 c.args.decls.now w true c.expr.inside.pos c.in-Name.text (selects c.in-Name.all))
+    ∙ ap (value c.args.decls.now no_names w true) (ap (shown c.expr.inside.pos) (sym c.in-Name.is) ∙ c.expr.view_is))
+    c.clear.ensures.signed
+
+pub evaluate_binary-returns-in_err-tested-in-One-clause-value : goal.evaluate_binary-returns-in_err-tested-in-One-clause-value
+evaluate_binary-returns-in_err-tested-in-One-clause-value t c p =
+    let left : c.from_residual-in_err-tested-in-One.result ≡ None = search rules in
+    left ∙ c.in_err-tested-in-One.ensures.sized ∙ one_size c.args.decls.now p c.args.operator c.args.left.now c.args.right.now (sym c.way_of.ensures ∙ c.in-One.is)
+
+pub evaluate_binary-returns-in_ok-tested-in-One-clause-value : goal.evaluate_binary-returns-in_ok-tested-in-One-clause-value
+evaluate_binary-returns-in_ok-tested-in-One-clause-value t c p =
+    c.in_ok-tested-in-One.ensures.sized ∙ one_size c.args.decls.now p c.args.operator c.args.left.now c.args.right.now (sym c.way_of.ensures ∙ c.in-One.is)
+
+pub own-returns-in-Number-clause-number : goal.own-returns-in-Number-clause-number
+own-returns-in-Number-clause-number t c =
+    let number = c.in-Number.number in
+    let whole : shown c.expr.inside.pos (k.Number number) ≡ c.args.expr.now = ap (shown c.expr.inside.pos) (sym c.in-Number.is) ∙ c.expr.view_is in
+    sym (extended_same number.width number.value number.signed number.value_fits)
+    ∙ ap (λ e. value c.args.decls.now no_names number.width (sign c.args.decls.now e) e) whole
 
 pub sizes_of-loop-part-init : goal.sizes_of-loop-part-init
 sizes_of-loop-part-init t c = (omega arith, with_rest_0 c.args.decls.now (exprs c.args.all.now))
@@ -56,7 +131,7 @@ joined-loop-part-init t c = (
 pub joined-loop-part-preserved : goal.joined-loop-part-preserved
 joined-loop-part-preserved t c =
     let front : drop c.loop-part.part-index c.args.all.now ≡ c.part-item.result ∷ drop (c.loop-part.part-index + 1) c.args.all.now = grind (arith, common_steps) in
-    let sized = sym c.in_ok-more.ensures.value in
+    let sized = sym c.in_ok-more.ensures.width in
     let rest =
     sym (with_rest-on _ c.loop-part.width _ c.in_ok-longer.longer _ _ sized (sym c.in_ok-longer.ensures.value))
     ∙ ap (λ es. with_rest c.args.decls.now c.loop-part.width (exprs es)) (sym front) ∙ c.loop-part.invariant.2 in
@@ -69,10 +144,10 @@ joined-loop-part-preserved t c =
       subst P (sym c.in_ok-longer.ensures.few.0) c.appended-number.ensures.fits,
       rest,
       subst N (sym c.appended-number.ensures.value)
-          (joins_on c.args.decls.now (sizes c.args.decls.now (exprs c.args.all.now)) c.loop-part.width c.in_ok-more.more c.in_ok-longer.longer
-          c.loop-part.number c.own.result.number (joined c.args.decls.now no_names (exprs c.args.all.now)) c.part-item.result
+          (joins_on c.args.decls.now (sizes c.args.decls.now (exprs c.args.all.now)) c.loop-part.width c.in_ok-more.more.width c.in_ok-longer.longer
+          c.loop-part.number c.in_ok-more.more.number (joined c.args.decls.now no_names (exprs c.args.all.now)) c.part-item.result
           (exprs (drop (c.loop-part.part-index + 1) c.args.all.now)) sized c.in_ok-longer.ensures.few.0 c.in_ok-longer.ensures.few.1
-          c.own.ensures.number rest (subst J front c.loop-part.invariant.3)),
+          c.in_ok-more.ensures.number rest (subst J front c.loop-part.invariant.3)),
     )
 
 pub joined-returns-in_err-more-clause-sizes : goal.joined-returns-in_err-more-clause-sizes
@@ -80,7 +155,7 @@ joined-returns-in_err-more-clause-sizes t c =
     let front : drop c.loop-part.part-index c.args.all.now ≡ c.part-item.result ∷ drop (c.loop-part.part-index + 1) c.args.all.now = grind (arith, common_steps) in
     let gone : sizes c.args.decls.now (exprs c.args.all.now) ≡ None =
     sym c.loop-part.invariant.2 ∙ ap (λ es. with_rest c.args.decls.now c.loop-part.width (exprs es)) front
-    ∙ with_rest-None _ _ _ _ (sym c.in_err-more.ensures.value) in
+    ∙ with_rest-None _ _ _ _ (sym c.in_err-more.ensures.width) in
     let left : c.from_residual.result ≡ None = search rules in
     ap (option_map (λ own. own.width)) left ∙ sym (ap some_bits gone)
 
@@ -89,7 +164,7 @@ joined-returns-in_err-longer-clause-sizes t c =
     let front : drop c.loop-part.part-index c.args.all.now ≡ c.part-item.result ∷ drop (c.loop-part.part-index + 1) c.args.all.now = grind (arith, common_steps) in
     let gone : sizes c.args.decls.now (exprs c.args.all.now) ≡ None =
     sym c.loop-part.invariant.2 ∙ ap (λ es. with_rest c.args.decls.now c.loop-part.width (exprs es)) front
-    ∙ with_rest-stops _ _ c.in_ok-more.more _ _ (sym c.in_ok-more.ensures.value) (sym c.in_err-longer.ensures.value) in
+    ∙ with_rest-stops _ _ c.in_ok-more.more.width _ _ (sym c.in_ok-more.ensures.width) (sym c.in_err-longer.ensures.value) in
     let left : c.from_residual-in_err-longer.result ≡ None = search rules in
     ap (option_map (λ own. own.width)) left ∙ sym (ap some_bits gone)
 
@@ -144,8 +219,3 @@ selected_size-returns-in_default-4-clause-value t c =
     of_memory c.args.decl.now.words c.is_none.result (vector_size c.args.decls.now c.args.decl.now (selects c.args.all.now))
     (word_size c.args.decls.now c.args.decl.now (selects c.args.all.now)) c.is_none.ensures c.if-is_none.false
     (three_selects c.args.decls.now c.args.decl.now c.args.all.now c.in_default.len_at_least)
-
-pub value-returns-in-Name-clause-value : goal.value-returns-in-Name-clause-value
-value-returns-in-Name-clause-value t c =
-    sym (name_0 c.args.decls.now c.args.width c.args.signed c.expr.inside.pos c.in-Name.field-0 (selects c.in-Name.field-1))
-    ∙ ap (value c.args.decls.now no_names c.args.width c.args.signed) (ap (shown c.expr.inside.pos) (sym c.in-Name.is) ∙ c.expr.view_is)

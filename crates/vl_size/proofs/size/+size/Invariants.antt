@@ -9,26 +9,29 @@ use Rattle.vl_size.proofs.size.+size.Given as goal
 abbrev pub decreases-size_of : goal.decreases-size_of
 decreases-size_of l = 8 * depth l.expr.now
 
-abbrev pub decreases-value : goal.decreases-value
-decreases-value l = 8 * depth l.expr.now
+abbrev pub decreases-evaluate : goal.decreases-evaluate
+decreases-evaluate l = 8 * depth l.expr.now
 
 abbrev pub decreases-own : goal.decreases-own
 decreases-own l = 8 * depth l.expr.now + 1
 
-abbrev pub decreases-own_size : goal.decreases-own_size
-decreases-own_size l = 8 * depth l.expr.now + 1
-
-abbrev pub decreases-is_true : goal.decreases-is_true
-decreases-is_true l = 8 * depth l.expr.now + 2
-
 abbrev pub decreases-tested : goal.decreases-tested
 decreases-tested l = 8 * max (depth l.left.now) (depth l.right.now) + 3
 
-abbrev pub decreases-binary_value : goal.decreases-binary_value
-decreases-binary_value l = 8 * max (depth l.left.now) (depth l.right.now) + 4
+abbrev pub decreases-evaluate_unary : goal.decreases-evaluate_unary
+decreases-evaluate_unary l = 8 * depth l.operand.now + 4
+
+abbrev pub decreases-evaluate_arithmetic : goal.decreases-evaluate_arithmetic
+decreases-evaluate_arithmetic l = 8 * max (depth l.left.now) (depth l.right.now) + 3
+
+abbrev pub decreases-evaluate_binary : goal.decreases-evaluate_binary
+decreases-evaluate_binary l = 8 * max (depth l.left.now) (depth l.right.now) + 4
+
+abbrev pub decreases-quotient_size : goal.decreases-quotient_size
+decreases-quotient_size l = 8 * max (depth l.left.now) (depth l.right.now) + 3
 
 abbrev pub decreases-binary_size : goal.decreases-binary_size
-decreases-binary_size l = 8 * max (depth l.left.now) (depth l.right.now) + 3
+decreases-binary_size l = 8 * max (depth l.left.now) (depth l.right.now) + 4
 
 abbrev pub decreases-sizes_of : goal.decreases-sizes_of
 decreases-sizes_of l = 8 * exprs_depth (exprs l.all.now) + 3
