@@ -1,0 +1,32 @@
+-- A memory as one node a word (rule of this project).
+use Rattle.std.specs.Prelude.{◌≡◌, ℕ, List, map, slice_index, bit_and}
+use Rattle.wn_net.specs.declared.parts.MemWrite.{MemWrite}
+use Rattle.wn_net.specs.Numbers.{complement}
+use Rattle.wn_net.specs.Value.{Given}
+use Rattle.wn_net.specs.Next.{written}
+use Rattle.wn_net.specs.Net.{Netlist, IsNodeOf, AreNodesOf, width_at, value_at}
+
+-- the width of the words
+abbrev pub words_width : Netlist → List ℕ → ℕ
+words_width net words = width_at net (slice_index words 0)
+
+-- all of the nodes are there, and have one width
+abbrev pub AreWords : Netlist → List ℕ → Type 0
+AreWords net words = AreNodesOf net (words_width net words) words
+
+-- the numbers of the words in a cycle
+abbrev pub numbers_of : Netlist → Given → List ℕ → List ℕ
+numbers_of net g words = map (value_at net g) words
+
+-- the numbers of the words after a write
+abbrev pub after_write : Netlist → Given → List ℕ → MemWrite → List ℕ
+after_write net g words w =
+    written (words_width net words) (numbers_of net g words) (value_at net g w.enable) (value_at net g w.addr) (value_at net g w.mask)
+    (value_at net g w.value)
+
+-- two nodes are the bits that a write writes, and the mask of the bits that it keeps
+pub record IsShared (net : Netlist) (width : ℕ) (w : MemWrite) (changed kept : ℕ) : Type 0 where
+  pub changed_there : IsNodeOf net width changed
+  pub kept_there : IsNodeOf net width kept
+  pub changed_value : (g : Given) → value_at net g changed ≡ bit_and (value_at net g w.mask) (value_at net g w.value)
+  pub kept_value : (g : Given) → value_at net g kept ≡ complement width (value_at net g w.mask)

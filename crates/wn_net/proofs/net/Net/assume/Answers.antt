@@ -1,0 +1,5 @@
+use Rattle.wn_net.proofs.Left.{assumed_kept}
+use Rattle.wn_net.proofs.net.Net.assume.Goals as goal
+
+pub invariant_of-self-2 : goal.invariant_of-self-2
+invariant_of-self-2 c = assumed_kept _ _ c.args.node _ _ c.self.invariant c.self.view_is c.requires c.in_ok-push.ensures.items

@@ -1,0 +1,8 @@
+pub mod Changes
+pub mod Given
+pub mod Names
+pub mod Net
+pub mod Next
+pub mod Numbers
+pub mod Value
+pub mod Width

@@ -1,0 +1,22 @@
+//! Word-level nets: nodes over inputs, registers and memories, with numbers of up to 128 bits.
+#![tactic(auto)]
+
+mod advance;
+mod build;
+mod eval;
+mod given;
+mod names;
+mod net;
+mod node;
+mod numbers;
+mod parts;
+mod shared;
+mod sources;
+#[cfg(test)]
+mod tests;
+mod value;
+
+pub use names::{Names, NetName, Place, Spot};
+pub use net::Net;
+pub use node::{Node, NodeId};
+pub use parts::{Init, Input, InputKind, Mem, MemWrite, Reg, State};
