@@ -1,0 +1,61 @@
+-- The numbers of a depth line: its cycles, and the conditions on them (rules of this project).
+use Rattle.std.specs.Prelude.{ℕ, ◌&&◌, min, nat_le, nat_lt, cond, List, [], ◌∷◌, Option, Some, None, option_map}
+use Rattle.cnf_text.specs.Numbers.{natural_of}
+use Rattle.ck_cfg.specs.declared.kind.CheckKind.{CheckKind}
+use Rattle.ck_cfg.specs.declared.kind.CheckKind.TheVariants.{Insn, Ill, Reg, PcFwd, PcBwd, Causal, Unique, Liveness, Imem, Dmem}
+use Rattle.ck_cfg.specs.declared.cycles.Cycles.{Cycles}
+
+-- the numbers of words of decimal digits
+abbrev pub numbers_of : List (List ℕ) → Option (List ℕ)
+numbers_of [] = Some []
+numbers_of (w ∷ ws) = elim (natural_of w) [ None ↦ None | Some n ↦ option_map (λ ns. n ∷ ns) (numbers_of ws) ]
+
+-- the start, the trigger and the cycle of the check
+abbrev pub cycles : ℕ → ℕ → ℕ → Cycles
+cycles start trig cycle = record { start = start; trig = trig; cycle = cycle }
+
+-- the cycle of the check, at least 1: the start is 1
+abbrev pub lone : List ℕ → Option Cycles
+lone (k ∷ []) = cond (nat_le 1 k) (Some (cycles 1 k k)) None
+lone ns = None
+
+-- the start, at most the cycle of the check
+abbrev pub pair : List ℕ → Option Cycles
+pair (s ∷ k ∷ []) = cond (nat_le s k) (Some (cycles s k k)) None
+pair ns = None
+
+-- the start, at most the trigger, which is below the cycle of the check
+abbrev pub triple : List ℕ → Option Cycles
+triple (s ∷ t ∷ k ∷ []) = cond (nat_le s t && nat_lt t k) (Some (cycles s t k)) None
+triple ns = None
+
+-- as `lone`; a start before it is judged and has no other effect
+abbrev pub lone_or_pair : List ℕ → Option Cycles
+lone_or_pair (k ∷ []) = lone (k ∷ [])
+lone_or_pair (s ∷ k ∷ []) = cond (nat_le s k) (lone (k ∷ [])) None
+lone_or_pair ns = None
+
+-- which numbers a kind has
+abbrev pub cycles_said : CheckKind → List ℕ → Option Cycles
+cycles_said Insn ns = lone ns
+cycles_said Ill ns = lone ns
+cycles_said Reg ns = pair ns
+cycles_said PcFwd ns = pair ns
+cycles_said PcBwd ns = pair ns
+cycles_said Causal ns = pair ns
+cycles_said Unique ns = triple ns
+cycles_said Liveness ns = triple ns
+cycles_said Imem ns = lone_or_pair ns
+cycles_said Dmem ns = pair ns
+
+-- what a rule says of the numbers that the words write
+abbrev pub said_by : (List ℕ → Option Cycles) → List (List ℕ) → Option Cycles
+said_by rule ws = elim (numbers_of ws) [ None ↦ None | Some ns ↦ rule ns ]
+
+-- the cycles that the words behind a kind say; None where their number, a number or a condition is wrong
+abbrev pub cycles_of : CheckKind → List (List ℕ) → Option Cycles
+cycles_of kind ws = said_by (cycles_said kind) ws
+
+-- no number is told beyond the most
+abbrev pub capped : ℕ → Cycles → Cycles
+capped most c = cycles (min most c.start) (min most c.trig) (min most c.cycle)

@@ -1,0 +1,64 @@
+-- The lines of `[depth]` (documentation of riscv-formal, in this project's profile).
+use Rattle.std.specs.Prelude.{ℕ, Bool, true, false, ◌&&◌, ◌||◌, ◌==◌, nat_eq, nat_lt, cond, List, [], ◌∷◌, ◌++◌, Option, Some, None, option_map, codes, Result, Ok, Err}
+use Rattle.std.specs.List.{list_any, starts_with}
+use Rattle.ck_cfg.specs.declared.kind.CheckKind.{CheckKind}
+use Rattle.ck_cfg.specs.declared.config.Depth.{Depth}
+use Rattle.ck_cfg.specs.declared.cycles.Cycles.{Cycles}
+use Rattle.ck_cfg.specs.declared.target.Target.{Target}
+use Rattle.ck_cfg.specs.declared.fault.CfgFault.{CfgFault}
+use Rattle.ck_cfg.specs.declared.fault.CfgFault.TheVariants as fault
+use Rattle.ck_cfg.specs.declared.reader.Reader.{Reader}
+use Rattle.ck_cfg.specs.Kind.{is_kind}
+use Rattle.ck_cfg.specs.Options.{is_among}
+use Rattle.ck_cfg.specs.Cycles.{cycles_of}
+use Rattle.ck_cfg.specs.Target.{target_of}
+
+-- a line that begins with this word is skipped: this profile leaves out what it asks for
+abbrev pub skipped_words : List (List ℕ)
+skipped_words = codes "hang" ∷ codes "cover" ∷ codes "fault" ∷ codes "causal_mem" ∷ codes "causal_io" ∷ []
+
+-- one of these words, or one that begins with `csr` or `bus_`
+abbrev pub is_skipped : List ℕ → Bool
+is_skipped word = is_among skipped_words word || (starts_with nat_eq word (codes "csr") || starts_with nat_eq word (codes "bus_"))
+
+-- the same channel, or none in both
+abbrev pub is_channel : Option ℕ → Option ℕ → Bool
+is_channel None None = true
+is_channel None (Some c) = false
+is_channel (Some b) None = false
+is_channel (Some b) (Some c) = b == c
+
+-- the depth is of this kind, and of this channel or of no channel alone
+abbrev pub is_for : CheckKind → Option ℕ → Depth → Bool
+is_for kind channel d = is_kind d.kind kind && is_channel d.channel channel
+
+-- the depth with this kind, channel and cycles
+abbrev pub depth_at : Target → Cycles → Depth
+depth_at t c = record { kind = t.kind; channel = t.channel; start = c.start; trig = c.trig; cycle = c.cycle }
+
+-- what the words of a line say, with so many channels; None where the kind, the channel, the number of words, a number
+-- or a condition is wrong
+abbrev pub depth_of : ℕ → List ℕ → List (List ℕ) → Option Depth
+depth_of channels word numbers = elim (target_of channels word) [ None ↦ None | Some t ↦ option_map (depth_at t) (cycles_of t.kind numbers) ]
+
+-- one skipped line more
+abbrev pub with_skip : Reader → List ℕ → Reader
+with_skip r word = record r { config = record r.config { skips = r.config.skips ++ word ∷ [] } }
+
+-- one depth more
+abbrev pub with_depth_of : Reader → Depth → Reader
+with_depth_of r d = record r { config = record r.config { depths = r.config.depths ++ d ∷ [] } }
+
+-- a depth that stands there for the second time, or is above 100, is refused
+abbrev pub with_new_depth : Reader → ℕ → List ℕ → Depth → Result Reader CfgFault
+with_new_depth r line word d =
+    cond (list_any (is_for d.kind d.channel) r.config.depths) (Err (fault.Twice line word))
+    (cond (nat_lt 100 d.cycle) (Err (fault.TooDeep line)) (Ok (with_depth_of r d)))
+
+-- a line of the section: its words
+abbrev pub with_depth : Reader → ℕ → List (List ℕ) → Result Reader CfgFault
+with_depth r line [] = Err (fault.Depth line)
+with_depth r line (word ∷ numbers) = cond (is_skipped word) (Ok (with_skip r word)) (elim (depth_of r.config.nret word numbers) [
+  | None ↦ Err (fault.Depth line)
+  | Some d ↦ with_new_depth r line word d
+])

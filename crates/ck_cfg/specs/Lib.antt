@@ -1,0 +1,14 @@
+pub mod Checks
+pub mod Cycles
+pub mod Depths
+pub mod Digits
+pub mod Faults
+pub mod Files
+pub mod Kind
+pub mod Lawful
+pub mod Line
+pub mod Options
+pub mod Reading
+pub mod Scripts
+pub mod Section
+pub mod Target

@@ -1,0 +1,113 @@
+-- What a configuration says, or why it says nothing (documentation of riscv-formal, in this project's profile). The lines
+-- are taken in order, each in its section; of several refusals the first line's is answered, and at one line the one with
+-- the lowest number.
+use Rattle.std.specs.Prelude.{ℕ, ◌&&◌, false, cond, List, [], ◌∷◌, ◌++◌, Some, None, codes, Result, Ok, Err}
+use Rattle.std.specs.Str.{is_utf8}
+use Rattle.cnf_text.specs.Words.{words}
+use Rattle.cnf_text.specs.Dimacs.{is_nil}
+use Rattle.ck_cfg.specs.declared.kind.CheckKind.{CheckKind}
+use Rattle.ck_cfg.specs.declared.config.Config.{Config}
+use Rattle.ck_cfg.specs.declared.config.Piece.{Piece}
+use Rattle.ck_cfg.specs.declared.config.KindPiece.{KindPiece}
+use Rattle.ck_cfg.specs.declared.section.Section.{Section}
+use Rattle.ck_cfg.specs.declared.section.Section.TheVariants.{Options, Depth, Defines, KindDefines, VerilogFiles, ScriptSources, Csrs, Sort, Assume}
+use Rattle.ck_cfg.specs.declared.fault.CfgFault.{CfgFault}
+use Rattle.ck_cfg.specs.declared.fault.CfgFault.TheVariants as fault
+use Rattle.ck_cfg.specs.declared.reader.Reader.{Reader}
+use Rattle.ck_cfg.specs.Line.{Line, section_begun, counted_lines}
+use Rattle.ck_cfg.specs.Section.{section_named}
+use Rattle.ck_cfg.specs.Options.{isa, is_among, with_option}
+use Rattle.ck_cfg.specs.Depths.{with_depth}
+use Rattle.ck_cfg.specs.Scripts.{with_files, with_script}
+
+-- what holds before the first line: the set RV32I, one channel, and no section
+abbrev pub empty_config : Config
+empty_config = record {
+  isa = isa false false;
+  nret = 1;
+  depths = [];
+  skips = [];
+  defines = [];
+  kind_defines = [];
+  files = [];
+  sort = [];
+  assumes = [];
+}
+
+-- what is read before the first line
+abbrev pub start : Reader
+start = record { section = None; sections = []; keys = []; config = empty_config }
+
+-- a line of text
+abbrev pub piece : ℕ → List ℕ → Piece
+piece line text = record { line = line; text = text }
+
+-- a line of text for the checks of a kind
+abbrev pub kind_piece : CheckKind → ℕ → List ℕ → KindPiece
+kind_piece kind line text = record { kind = kind; piece = piece line text }
+
+-- one line more for all checks
+abbrev pub with_define : Reader → Piece → Reader
+with_define r p = record r { config = record r.config { defines = r.config.defines ++ p ∷ [] } }
+
+-- one line more for the checks of a kind
+abbrev pub with_kind_define : Reader → KindPiece → Reader
+with_kind_define r p = record r { config = record r.config { kind_defines = r.config.kind_defines ++ p ∷ [] } }
+
+-- one name more of a check that comes first
+abbrev pub with_sort : Reader → List ℕ → Reader
+with_sort r name = record r { config = record r.config { sort = r.config.sort ++ name ∷ [] } }
+
+-- one assumption more
+abbrev pub with_assume : Reader → Piece → Reader
+with_assume r p = record r { config = record r.config { assumes = r.config.assumes ++ p ∷ [] } }
+
+-- a line of text in a section
+abbrev pub with_text_in : Section → Reader → ℕ → List ℕ → Result Reader CfgFault
+with_text_in Options r line text = with_option r line (words text)
+with_text_in Depth r line text = with_depth r line (words text)
+with_text_in Defines r line text = Ok (with_define r (piece line text))
+with_text_in (KindDefines kind) r line text = Ok (with_kind_define r (kind_piece kind line text))
+with_text_in VerilogFiles r line text = Ok (with_files r (text ∷ []))
+with_text_in ScriptSources r line text = with_script r line (words text)
+with_text_in Csrs r line text = Ok r
+with_text_in Sort r line text = Ok (with_sort r text)
+with_text_in Assume r line text = Ok (with_assume r (piece line text))
+
+-- a line of text: there is a section that it stands in
+abbrev pub with_text : Reader → ℕ → List ℕ → Result Reader CfgFault
+with_text r line text = elim r.section [ None ↦ Err (fault.Section line []) | Some s ↦ with_text_in s r line text ]
+
+-- in this section from here on
+abbrev pub in_section : Reader → Section → List ℕ → Reader
+in_section r s name = record r { section = Some s; sections = r.sections ++ name ∷ [] }
+
+-- the begin of a section: it has a name, and stands there once
+abbrev pub with_section : Reader → ℕ → List ℕ → Result Reader CfgFault
+with_section r line name = elim (section_named name) [
+  | None ↦ Err (fault.Section line name)
+  | Some s ↦ cond (is_among r.sections name) (Err (fault.Twice line name)) (Ok (in_section r s name))
+]
+
+-- a line: it begins a section, or stands in one
+abbrev pub with_line : Reader → Line → Result Reader CfgFault
+with_line r l = elim (section_begun l.text) [ None ↦ with_text r l.number l.text | Some name ↦ with_section r l.number name ]
+
+-- the lines in order, up to the first that is refused
+abbrev pub with_lines : Reader → List Line → Result Reader CfgFault
+with_lines r [] = Ok r
+with_lines r (l ∷ ls) = elim (with_line r l) [ Err e ↦ Err e | Ok s ↦ with_lines s ls ]
+
+-- the lines end: there is a depth line, and a file name
+abbrev pub finished : Reader → Result Config CfgFault
+finished r =
+    cond (is_nil r.config.depths && is_nil r.config.skips) (Err (fault.Missing (codes "depth")))
+    (cond (is_nil r.config.files) (Err (fault.Missing (codes "verilog-files"))) (Ok r.config))
+
+-- the configuration of lines, or why they have none
+abbrev pub config_of_lines : List Line → Result Config CfgFault
+config_of_lines ls = elim (with_lines start ls) [ Err e ↦ Err e | Ok r ↦ finished r ]
+
+-- the configuration of a text, or why it has none
+abbrev pub config_of : List ℕ → Result Config CfgFault
+config_of bytes = cond (is_utf8 bytes) (config_of_lines (counted_lines bytes)) (Err fault.NotUtf8)

@@ -1,0 +1,35 @@
+ghost use Rattle.std.specs.Prelude.{◌≡◌, IfOk};
+ghost use Rattle.std.specs.Str.{is_utf8};
+ghost use Rattle.ck_cfg.specs.Faults.{Answers};
+ghost use Rattle.ck_cfg.specs.Lawful.{HasLawfulChecks};
+ghost use Rattle.ck_cfg.specs.Reading.{config_of};
+
+use crate::config::Config;
+use crate::fault::CfgFault;
+use crate::reader::Reader;
+use std::alloc::Global;
+
+/// The configuration of a text.
+pub fn read_cfg(alloc: Global, bytes: &[u8]) -> Result<Config, CfgFault>
+    ensures answers { Answers result (config_of bytes.now) }
+    ensures lawful { IfOk result (λ config. HasLawfulChecks config) }
+{
+    read_text(alloc, bytes)
+}
+
+fn read_text(alloc: Global, bytes: &[u8]) -> Result<Config, CfgFault>
+    ensures { Answers result (config_of bytes.now) }
+{
+    if !is_utf8(bytes) {
+        return Err(CfgFault::NotUtf8);
+    }
+    let mut reader = Reader::new(alloc);
+    reader.take_lines(alloc, bytes)?;
+    reader.finish(alloc)
+}
+
+fn is_utf8(bytes: &[u8]) -> bool
+    ensures { result ≡ is_utf8 bytes.now }
+{
+    str::from_utf8(bytes).is_ok()
+}
