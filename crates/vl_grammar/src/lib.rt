@@ -1,0 +1,8 @@
+//! The grammar of Verilog sources as a machine, and what it has to do with trees.
+#![tactic(auto)]
+
+mod law;
+
+pub use law::{
+    a_text_has_one_tree, runs_stop_at_the_first_fault, the_grammar_has_what_trees_spell,
+};
