@@ -1,0 +1,28 @@
+-- What a design without hierarchy is made of: the parts of `Parts`, all in one scope, in which each name is a full name.
+use Rattle.std.specs.Prelude.{List, [], ◌∷◌, ◌++◌, map}
+use Rattle.vl_tree.specs.Expr.{number}
+use Rattle.vl_size.specs.declared.decl.Decl.{Decl}
+use Rattle.vl_mean.specs.declared.driver.DriverKind.{DriverKind}
+use Rattle.vl_mean.specs.declared.driver.DriverKind.TheVariants as k
+use Rattle.vl_mean.specs.declared.driver.Flat.{Flat}
+use Rattle.vl_mean.specs.declared.driver.Start.{Start}
+use Rattle.vl_mean.specs.Constants.{number_of}
+use Rattle.vl_mean.specs.Scopes.{Scope}
+use Rattle.vl_mean.specs.Parts.{Part, declares, equation, combinational, clocked, starts, here}
+
+-- the one scope
+abbrev pub flat_scopes : List Decl → List Scope
+flat_scopes ds = record { path = []; decls = ds; constants = [] } ∷ []
+
+abbrev pub driver_part : List Scope → DriverKind → Part
+driver_part ss (k.Assign l e) = equation ss l ss e
+driver_part ss (k.Comb s) = combinational ss s
+driver_part ss (k.Clocked s) = clocked ss s
+
+abbrev pub start_part : List Scope → Start → Part
+start_part ss x = starts ss x.target (number here (number_of x.value))
+
+abbrev pub flat_parts : Flat → List Part
+flat_parts f =
+    let ss = flat_scopes f.decls in
+    map (λ d. declares d) f.decls ++ map (λ x. driver_part ss x.what) f.drivers ++ map (start_part ss) f.starts

@@ -1,0 +1,13 @@
+pub mod Constants
+pub mod Scopes
+pub mod Targets
+pub mod Execution
+pub mod Declarations
+pub mod Parts
+pub mod Runs
+pub mod FlatParts
+pub mod Examples
+pub mod Params
+pub mod Env
+pub mod Near
+pub mod ConstantFaults

@@ -1,0 +1,58 @@
+-- Scopes, and what a name means in them. IEEE 1364-2005, sections 12.4, 12.5 and 12.7: a name means what the innermost scope
+-- that declares it declares, and a full name joins the names of the scopes by dots. The top module's name stays out of it: a
+-- rule of this project.
+use Rattle.std.specs.Prelude.{ℕ, ◌+◌, List, [], ◌∷◌, ◌++◌, length, take, codes, Bool, true, false, ◌&&◌, ◌||◌, not, is_none, Option, Some, None, bytes_eq, if◌then◌else◌}
+use Rattle.vl_tree.specs.Expr.{Expr}
+use Rattle.vl_size.specs.declared.decl.Decl.{Decl}
+use Rattle.vl_size.specs.Size.{Values, Operand}
+use Rattle.vl_size.specs.Table.{is_declared, named}
+use Rattle.vl_mean.specs.declared.const_number.Const.{Const}
+use Rattle.vl_mean.specs.Constants as constants
+use Rattle.vl_mean.specs.Constants.{Constants, constant_of}
+
+-- a module's instance, a generate block or a turn of a generate loop: what stands before the names in it, and what it declares
+-- under the names as they are written
+pub record Scope : Type 0 where
+  pub path : List ℕ
+  pub decls : List Decl
+  pub constants : Constants
+
+-- the name of a memory's word, as it is written with its index
+abbrev pub is_word_of : Decl → List ℕ → Bool
+is_word_of d text = not (is_none d.words) && bytes_eq (take (length d.name + 1) text) (d.name ++ codes "[")
+
+abbrev pub has_word : List Decl → List ℕ → Bool
+has_word [] text = false
+has_word (d ∷ ds) text = is_word_of d text || has_word ds text
+
+-- the full name of a name, or of a memory's word: the scopes stand with the innermost first
+abbrev pub full : List Scope → List ℕ → List ℕ
+full [] text = text
+full (s ∷ ss) text = if is_declared s.decls text || has_word s.decls text then s.path ++ text else full ss text
+
+abbrev pub constant_unless : Option Const → Bool → Option Const → Option Const
+constant_unless (Some c) hidden outer = Some c
+constant_unless None true outer = None
+constant_unless None false outer = outer
+
+-- the constant that a name means
+abbrev pub constant_in : List Scope → List ℕ → Option Const
+constant_in [] text = None
+constant_in (s ∷ ss) text = constant_unless (constant_of s.constants text) (is_declared s.decls text) (constant_in ss text)
+
+-- what is declared, the innermost first
+abbrev pub visible : List Scope → List Decl
+visible [] = []
+visible (s ∷ ss) = s.decls ++ visible ss
+
+abbrev pub unless_constant : Option Const → Option Decl → Option Decl
+unless_constant None d = d
+unless_constant (Some c) d = None
+
+-- the net or variable that a name means; None where it means a constant
+abbrev pub declared_in : List Scope → List ℕ → Option Decl
+declared_in ss text = unless_constant (constant_in ss text) (named (visible ss) text)
+
+-- an expression in scopes: its size and sign by itself, and its number in each context, over the values of full names
+abbrev pub read : List Scope → Values → Expr → Operand
+read ss v e = constants.read (constant_in ss) (visible ss) (λ text. v (full ss text)) e

@@ -1,0 +1,31 @@
+//! What a Verilog source means: values of expressions, and the maps of names to numbers that its items allow.
+#![tactic(auto)]
+
+mod const_fault;
+mod const_number;
+mod constant_of;
+mod cut;
+mod driver;
+mod earliest;
+mod env;
+mod evaluate;
+pub mod examples;
+mod first_fault;
+mod join;
+mod own;
+mod params;
+mod select;
+mod settle;
+#[cfg(test)]
+mod tests;
+mod wide;
+mod words;
+
+pub use const_fault::ConstFault;
+pub use const_number::Const;
+pub use constant_of::constant;
+pub use driver::{Driver, DriverKind, Flat, Start};
+pub use env::Env;
+pub use evaluate::value;
+pub use params::Params;
+pub use settle::settled;
