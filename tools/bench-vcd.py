@@ -4,13 +4,11 @@ temporary folder (a minute or two). Not part of the gate.
 
 Usage: tools/bench-vcd.py   Prints names, cycles, bytes, the answer and the seconds. Each value changes in each cycle.
 """
-import os
-import shutil
 import subprocess
-import tempfile
 import time
 
-HERE = os.path.join(os.path.dirname(os.path.abspath(__file__)), "..", "crates")
+import made
+
 PROGRAM = """//! Reads a value-change dump from standard input, and writes it again.
 #![tactic(auto)]
 
@@ -55,22 +53,11 @@ def dump(names, cycles):
 
 
 def main():
-    with tempfile.TemporaryDirectory() as folder:
-        crates = os.path.join(folder, "crates")
-        for crate in ["fv_base", "vcd_text"]:
-            shutil.copytree(os.path.join(HERE, crate), os.path.join(crates, crate), ignore=shutil.ignore_patterns("out"))
-        again = os.path.join(crates, "vcd_again")
-        os.makedirs(os.path.join(again, "src"))
-        with open(os.path.join(again, "src", "main.rt"), "w") as file:
-            file.write(PROGRAM)
-        with open(os.path.join(folder, "crates.txt"), "w") as file:
-            file.write("fv_base: thiserror\nvcd_text: fv_base itoa thiserror\nvcd_again: fv_base vcd_text\n")
-        subprocess.run(["git", "init", "-q"], cwd=folder, check=True)
-        subprocess.run(["rt", "run"], cwd=again, stdin=subprocess.DEVNULL, capture_output=True)
+    with made.program("vcd_again", PROGRAM, ["fv_base", "vcd_text"]) as program:
         for names, cycles in [(5000, 100), (5000, 200), (10000, 100)]:
             text = dump(names, cycles).encode()
             start = time.time()
-            ran = subprocess.run([os.path.join(again, "out", "vcd_again")], input=text, capture_output=True, check=True)
+            ran = subprocess.run([program], input=text, capture_output=True, check=True)
             print(f"{names} names, {cycles} cycles, {len(text)} bytes: {ran.stdout.decode().strip()}, {time.time() - start:.2f} s")
 
 
