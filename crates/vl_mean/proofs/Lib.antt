@@ -1,3 +1,5 @@
+pub mod FlatRefused
+pub mod Alone
 pub mod Maps
 pub mod Lookups
 pub mod SelectLemmas

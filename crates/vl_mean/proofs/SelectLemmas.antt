@@ -107,9 +107,6 @@ module _ (n w x : ℕ) (few_bits : n ≤ 128) (few : w ≤ 128) (r i : ℤ) (low
       by true = ap (λ q. bits_from n w x (i -ℤ q)) e ∙ far_down (int_lt i (pos 0)) refl far
       by false = ap (λ q. bits_from n w x (q -ℤ i)) e ∙ far_up (int_lt i (pos 0)) refl far
 
-pub one_bit : (w x : ℕ) (i : ℤ) → bits_from 1 w x i ≡ bit_at w x i
-one_bit w x i = omega arith
-
 shorter : (z w m : ℕ) → w ≤ m → z % 2 ^ m % 2 ^ w ≡ z % 2 ^ w
 shorter z w m h = let e : m - w + w ≡ m = omega arith in ap (λ j. z % 2 ^ j % 2 ^ w) (sym e) ∙ mod-mod-pow z (m - w) w
 

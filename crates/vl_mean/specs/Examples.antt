@@ -24,7 +24,7 @@ use Rattle.vl_size.specs.declared.decl.Decl.{Decl}
 use Rattle.vl_size.specs.Size.{Values, no_names}
 use Rattle.vl_mean.specs.Constants.{number_of, cut_to}
 use Rattle.vl_mean.specs.Execution.{State, begun, exec}
-use Rattle.vl_mean.specs.FlatParts.{flat_scopes}
+use Rattle.vl_mean.specs.FlatLaw.{flat_scopes}
 use Rattle.vl_mean.specs.Parts.{Part, declares, here, plain, plain_target, design}
 
 -- ---- pieces of text

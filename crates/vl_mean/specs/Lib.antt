@@ -5,8 +5,11 @@ pub mod Execution
 pub mod Declarations
 pub mod Parts
 pub mod Runs
+pub mod FlatLaw
+pub mod FlatProps
 pub mod FlatParts
 pub mod Examples
+pub mod FlatExamples
 pub mod Params
 pub mod Env
 pub mod Near

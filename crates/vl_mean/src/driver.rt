@@ -1,6 +1,5 @@
 use crate::const_number::Const;
-use fv_base::{List, Pos};
-use vl_size::Decls;
+use fv_base::Pos;
 use vl_tree::{Expr, Lval, Stmt};
 
 /// What assigns names in a design without hierarchy: the place of the item that it comes from.
@@ -25,13 +24,4 @@ pub enum DriverKind {
 pub struct Start {
     pub target: Lval,
     pub value: Const,
-}
-
-/// A design without hierarchy: names are full names, and each parameter and genvar is a number. What its maker refuses isn't
-/// kept by this type, but said by the contract of the call that makes it.
-#[derive(Drop)]
-pub struct Flat {
-    pub decls: Decls,
-    pub drivers: List<Driver>,
-    pub starts: List<Start>,
 }

@@ -12,13 +12,14 @@ ghost use Rattle.vl_mean.specs.Constants.{operand_in};
 ghost use Rattle.vl_mean.specs.Env.{values_of};
 
 use crate::env::Env;
-use crate::join::{appended, plus, repeated, some_bits};
-use crate::own::Own;
-use crate::select::{bit_at, indexed, part};
+use crate::join::repeated;
+use crate::select::{indexed, part};
 use vl_size::bits::{bit, complement, negative};
 use vl_size::operation::{arithmetic, compared, reduced, shifted};
+use vl_size::place::selected_bit;
+use vl_size::select::{appended, plus, some_bits};
 use vl_size::signed::extended;
-use vl_size::{Decl, sign_of, size_of};
+use vl_size::{Decl, Own, sign_of, size_of};
 use vl_tree::{BinaryOperator, Expr, ExprKind, Select, UnaryOperator};
 
 /// The number that the expression has where its size and sign come from its context (IEEE 1364-2005, sections 5.4 and 5.5):
@@ -267,7 +268,7 @@ fn select_value(
 {
     match select {
         Select::Bit(_, index) => {
-            let bit = bit_at(decl, number, own(index, env));
+            let bit = selected_bit(decl, number, own(index, env));
             extended(1, width, signed, bit)
         }
         Select::Part(_, left, right) => {

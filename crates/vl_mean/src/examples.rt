@@ -2,6 +2,9 @@
 ghost use Rattle.std.specs.Prelude.{◌≡◌, ◌∷◌, [], codes};
 ghost use Rattle.vl_mean.specs.Execution.{ended};
 ghost use Rattle.vl_mean.specs.Examples.{after_block, blocks_design, choice_design, chosen, counter_design, counts, declared_in, exchange_design, in_blocks, looped_design, pair, turns};
+ghost use Rattle.vl_mean.specs.FlatExamples as flat;
+ghost use Rattle.vl_mean.specs.FlatLaw.{IsLawful};
+ghost use Rattle.vl_mean.specs.Parts.{plain, plain_target};
 ghost use Rattle.vl_mean.specs.Runs.{Holds, IsAssumed, IsRun, Next};
 
 /// A register of two bits that begins at 2 and counts at the clock, over three cycles. That it isn't 0 is assumed.
@@ -58,4 +61,17 @@ pub fn a_block_runs()
     ensures word { after_block.now (codes "m[1]") ≡ 5 }
     ensures other_word { after_block.now (codes "m[2]") ≡ 0 }
     ensures assumed { after_block.seen ≡ 10 ∷ [] }
+{}
+
+/// A design without hierarchy, in which nothing is refused. A continuous assignment goes to nets by constant indices, and the
+/// clock is no number.
+#[tactic(auto, using(crate::proofs::Maps::maps))]
+pub fn a_flat_design_is_kept()
+    ensures lawful { IsLawful flat.decls flat.drivers flat.starts }
+    ensures run { IsRun flat.design 1 (flat.cycle 1 2 1 ∷ flat.cycle 0 3 1 ∷ []) }
+    ensures no_other_run { IsRun flat.design 1 (flat.cycle 1 2 0 ∷ flat.cycle 0 3 1 ∷ []) → ⊥ }
+    ensures not_a_variable { IsLawful flat.decls (flat.assigns (plain_target (codes "q")) flat.bit_of_q) [] → ⊥ }
+    ensures not_the_clock { IsLawful flat.decls (flat.assigns flat.o (plain (codes "clock"))) [] → ⊥ }
+    ensures not_varying { IsLawful flat.decls (flat.assigns flat.varying_bit_of_o flat.bit_of_q) [] → ⊥ }
+    ensures not_undeclared { IsLawful flat.decls (flat.assigns flat.o (plain (codes "p"))) [] → ⊥ }
 {}

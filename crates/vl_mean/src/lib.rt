@@ -4,6 +4,8 @@
 mod const_fault;
 mod const_number;
 mod constant_of;
+#[cfg(test)]
+mod constant_tests;
 mod cut;
 mod driver;
 mod earliest;
@@ -11,11 +13,16 @@ mod env;
 mod evaluate;
 pub mod examples;
 mod first_fault;
+mod flat;
 mod join;
-mod own;
+#[cfg(test)]
+mod operation_tests;
 mod params;
 mod select;
 mod settle;
+mod shared;
+#[cfg(test)]
+mod test_trees;
 #[cfg(test)]
 mod tests;
 mod wide;
@@ -24,8 +31,9 @@ mod words;
 pub use const_fault::ConstFault;
 pub use const_number::Const;
 pub use constant_of::constant;
-pub use driver::{Driver, DriverKind, Flat, Start};
+pub use driver::{Driver, DriverKind, Start};
 pub use env::Env;
 pub use evaluate::value;
+pub use flat::Flat;
 pub use params::Params;
 pub use settle::settled;

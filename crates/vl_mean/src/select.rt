@@ -5,10 +5,9 @@ ghost use Rattle.vl_size.specs.Size as spec;
 ghost use Rattle.vl_size.specs.Table as table;
 ghost use Rattle.vl_mean.specs.Near.{is_near};
 
-use crate::own::Own;
-use vl_size::Decl;
 use vl_size::bits::{low, shifted_left, shifted_right};
 use vl_size::signed::{is_below_zero, magnitude};
+use vl_size::{Decl, Own};
 
 /// An index read by its sign, and so many more, where that isn't far from all ranges.
 fn near(own: Own, more: u128) -> Option<i128>
@@ -107,17 +106,6 @@ fn bits_at(decl: &Decl, count: u32, number: u128, index: Own) -> u128
     ensures fits { result < 2 ^ count }
 {
     bits_after(decl, count, number, index, 0)
-}
-
-/// The bit at an index.
-#[tactic(auto, using(crate::proofs::SelectLemmas::one_bit))]
-pub(crate) fn bit_at(decl: &Decl, number: u128, index: Own) -> u128
-    requires { decl.now.width ≤ 128 }
-    ensures value { let i = as_int index.width index.signed index.number in
-        result ≡ spec.bit_at decl.now.width number (spec.place_of decl.now i) }
-    ensures fits { result < 2 ^ 1 }
-{
-    bits_at(decl, 1, number, index)
 }
 
 /// How many places lie from one bound to the other, 128 at most.

@@ -1,176 +1,168 @@
-ghost use Rattle.std.specs.Prelude.{◌≤◌, All};
-ghost use Rattle.vl_size.specs.Table.{IsVector};
+//! Contexts and selects, worked out by hand.
 
+ghost use Rattle.std.specs.Prelude.{◌≡◌};
+ghost use Rattle.vl_size.specs.Table.{IsShaped, span};
+
+use crate::test_trees::*;
 use crate::*;
-use fv_base::{List, Memory, Pos, Text};
-use std::alloc::Global;
-use std::test::Fail;
-use vl_size::bits::low;
-use vl_size::{Class, Decl, Decls, sign_of, size_of};
-use vl_tree::{BinaryOperator, Cast, Expr, ExprKind, Select};
+use std::alloc::AllocGlobal;
+use std::process::Abort;
+use vl_size::{Class, Decl, Decls};
+use vl_tree::BinaryOperator::*;
+use vl_tree::{Cast, Expr, UnaryOperator};
 
-const HERE: Pos = Pos {
-    file: 1,
-    line: 1,
-    col: 1,
-};
-
-fn expr(kind: ExprKind) -> Expr {
-    Expr { pos: HERE, kind }
+fn nothing(rt: &(impl Abort + AllocGlobal)) -> Env {
+    Env::new(rt.alloc(), Decls::new(rt.alloc()))
 }
 
-fn boxed(alloc: Global, kind: ExprKind) -> Result<Box<Expr>, Memory> {
-    Ok(Box::new(alloc, expr(kind))?)
+/// `a + b` with 200 and 100 of eight bits.
+fn sum(rt: &(impl Abort + AllocGlobal)) -> Expr {
+    binary(rt, Add, unsigned(8, 200), unsigned(8, 100))
 }
 
-/// A number with its width, its sign and its bits.
-type Literal = (u32, bool, u128);
-
-fn number_with(of: Literal) -> ExprKind {
-    ExprKind::Number(settle::number_of(&Const::cut_to(of.0, of.1, of.2)))
+/// `$signed(4'b1000) >>> 1`
+fn shift(rt: &(impl Abort + AllocGlobal)) -> Expr {
+    binary(
+        rt,
+        ArithmeticShiftRight,
+        cast(rt, Cast::Signed, unsigned(4, 8)),
+        plain(1),
+    )
 }
 
-fn binary(
-    alloc: Global,
-    operator: BinaryOperator,
-    left: ExprKind,
-    right: ExprKind,
-) -> Result<ExprKind, Memory> {
-    Ok(ExprKind::Binary(operator, boxed(alloc, left)?, boxed(alloc, right)?))
+/// The size of the context goes down to the operands, and its sign too.
+#[test]
+fn contexts_go_down(rt: HostRuntime) {
+    let env = nothing(&rt);
+    assert_eq!(rt; assigned(&sum(&rt), 8, &env), 44);
+    assert_eq!(rt; assigned(&sum(&rt), 9, &env), 300);
+    let half = binary(&rt, ShiftRight, paren(&rt, sum(&rt)), plain(1));
+    assert_eq!(rt; assigned(&half, 8, &env), 22);
+    assert_eq!(rt; assigned(&half, 9, &env), 150);
+    assert_eq!(rt; assigned(&shift(&rt), 4, &env), 12);
+    let unsigned_sum = binary(&rt, Add, paren(&rt, shift(&rt)), unsigned(4, 0));
+    assert_eq!(rt; assigned(&unsigned_sum, 4, &env), 4);
+    let below_zero = binary(
+        &rt,
+        Less,
+        unary(&rt, UnaryOperator::Minus, plain(1)),
+        unsigned(1, 0),
+    );
+    assert_eq!(rt; assigned(&below_zero, 1, &env), 0);
 }
 
-/// What a target of so many bits gets: the right side is evaluated at the larger size with its own sign.
-fn assigned(kind: ExprKind, target: u32, env: &Env) -> u128
-    requires { target ≤ 128 }
+/// A condition has a context of its own, its alternatives that of the whole; parts of a concatenation have none.
+#[test]
+fn parts_have_contexts(rt: HostRuntime) {
+    let env = nothing(&rt);
+    let chosen = conditional(&rt, unsigned(4, 2), signed(4, 15), signed(8, 1));
+    assert_eq!(rt; assigned(&chosen, 8, &env), 255);
+    let mixed = conditional(&rt, unsigned(4, 0), signed(4, 15), unsigned(4, 9));
+    assert_eq!(rt; assigned(&mixed, 8, &env), 9);
+    let joined = concat(&rt, [signed(4, 15), sum(&rt)]);
+    assert_eq!(rt; assigned(&joined, 16, &env), 0xf2c);
+    let copies = repeat(&rt, plain(3), [unsigned(2, 2)]);
+    assert_eq!(rt; assigned(&copies, 8, &env), 0b10_1010);
+    let signed_part = cast(&rt, Cast::Signed, concat(&rt, [unsigned(2, 3)]));
+    assert_eq!(rt; assigned(&signed_part, 8, &env), 255);
+    let unsigned_part = cast(&rt, Cast::Unsigned, signed(4, 15));
+    assert_eq!(rt; assigned(&unsigned_part, 8, &env), 15);
+}
+
+/// The names with one declaration, whose number is set.
+#[tactic(auto, using(crate::proofs::Alone::alone))]
+fn alone(rt: &(impl Abort + AllocGlobal), decl: Decl) -> Env
+    requires shaped { IsShaped decl }
 {
-    let right = expr(kind);
-    let size = size_of(&right, env.decls()).unwrap_or(1);
-    let signed = sign_of(&right, env.decls());
-    low(target, value(&right, size.max(target), signed, env))
+    let mut decls = Decls::new(rt.alloc());
+    decls.push(decl).expect(rt, "memory");
+    Env::new(rt.alloc(), decls)
 }
 
-#[test]
-fn operations_have_values(rt: HostRuntime) -> Result<(), Fail> {
-    let alloc = rt.alloc();
-    let env = Env::new(alloc, Decls::new(alloc));
-    for (target, wanted) in [(8, 44), (9, 300)] {
-        let sum = binary(
-            alloc,
-            BinaryOperator::Add,
-            number_with((8, false, 200)),
-            number_with((8, false, 100)),
-        )?;
-        assert_eq!(rt; assigned(sum, target, &env), wanted);
-    }
-    Ok(())
-}
-
-/// `(a + b) >> 1`, whose sum has the size of the context, and `($signed(4'b1000) >>> 1) + 4'd0`, whose shift is unsigned.
-#[test]
-fn contexts_go_down(rt: HostRuntime) -> Result<(), Fail> {
-    let alloc = rt.alloc();
-    let env = Env::new(alloc, Decls::new(alloc));
-    for (target, wanted) in [(8, 22), (9, 150)] {
-        let sum = binary(
-            alloc,
-            BinaryOperator::Add,
-            number_with((8, false, 200)),
-            number_with((8, false, 100)),
-        )?;
-        let sum = ExprKind::Paren(boxed(alloc, sum)?);
-        let half = binary(
-            alloc,
-            BinaryOperator::ShiftRight,
-            sum,
-            number_with((32, true, 1)),
-        )?;
-        assert_eq!(rt; assigned(half, target, &env), wanted);
-    }
-    let signed = ExprKind::Cast(Cast::Signed, boxed(alloc, number_with((4, false, 8)))?);
-    let shift = binary(
-        alloc,
-        BinaryOperator::ArithmeticShiftRight,
+/// `wire [left:right] a` with 8'b10000001, or `wire signed`.
+fn vector(rt: &(impl Abort + AllocGlobal), signed: bool, left: i64, right: i64) -> Env
+    requires { 8 ≡ span left right }
+{
+    let decl = Decl {
+        name: text(rt, "a"),
+        width: 8,
         signed,
-        number_with((32, true, 1)),
-    )?;
-    let shift = ExprKind::Paren(boxed(alloc, shift)?);
-    let sum = binary(
-        alloc,
-        BinaryOperator::Add,
-        shift,
-        number_with((4, false, 0)),
-    )?;
-    assert_eq!(rt; assigned(sum, 4, &env), 4);
-    Ok(())
+        left,
+        right,
+        words: None,
+        class: Class::Net,
+        output: false,
+    };
+    let mut env = alone(rt, decl);
+    env.set(&text(rt, "a"), 0x81).expect(rt, "memory");
+    env
 }
 
-/// `wire [7:0] a;` or, with words, `reg [7:0] a [0:3];`
-#[tactic(auto, using(vl_size::proofs::Vectors::vectors))]
-fn one_wire(alloc: Global) -> Result<Decls, Fail> {
-    let mut decls = Decls::new(alloc);
-    decls.push(Decl {
-        name: Text::from_bytes(alloc, b"a")?,
+/// `reg [7:0] a [3:0]` with 8'h10 in word 0 and 8'h83 in word 3.
+fn memory(rt: &(impl Abort + AllocGlobal)) -> Env {
+    let decl = Decl {
+        name: text(rt, "a"),
         width: 8,
         signed: false,
         left: 7,
         right: 0,
-        words: None,
-        class: Class::Net,
+        words: Some((3, 0)),
+        class: Class::Variable,
         output: false,
-    })?;
-    Ok(decls)
-}
-
-fn bit_of_a(alloc: Global, index: Literal) -> Result<ExprKind, Memory> {
-    let select = Select::Bit(HERE, boxed(alloc, number_with(index))?);
-    let selects = List::from_vec(Vec::from_array(alloc, [select])?);
-    Ok(ExprKind::Name(Text::from_bytes(alloc, b"a")?, selects))
-}
-
-/// With `a` 8'b10000001: an index is read by its sign, and past the range a bit is 0.
-#[test]
-fn bits_have_values(rt: HostRuntime) -> Result<(), Fail> {
-    let alloc = rt.alloc();
-    let mut env = Env::new(alloc, one_wire(alloc)?);
-    let name = Text::from_bytes(alloc, b"a")?;
-    env.set(&name, 0x81)?;
-    assert_eq!(rt; env.get(&name), 0x81);
-    for (index, wanted) in [
-        ((4, false, 0), 1),
-        ((4, false, 1), 0),
-        ((4, false, 7), 1),
-        ((4, false, 8), 0),
-        ((4, true, 8), 0),
-        ((128, false, 1 << 127), 0),
-    ] {
-        assert_eq!(rt; assigned(bit_of_a(alloc, index)?, 1, &env), wanted);
-    }
-    Ok(())
-}
-
-/// Over `P`, 8'sd200: `P + 1`, `P[7]`, `P[8]`, `Q`.
-#[test]
-fn constants_have_values(rt: HostRuntime) -> Result<(), Fail> {
-    let alloc = rt.alloc();
-    let mut params = Params::new(alloc);
-    params.set(Text::from_bytes(alloc, b"a")?, Const::cut_to(8, true, 200))?;
-    let whole = expr(ExprKind::Name(Text::from_bytes(alloc, b"a")?, List::new(alloc)));
-    let Ok(found) = constant(alloc, &whole, &params) else {
-        return Err(Fail::new("no constant"));
     };
-    assert_eq!(rt; found.width, 8);
-    assert!(rt; found.signed);
-    assert_eq!(rt; found.value, 200);
-    for (index, wanted) in [(7, 1), (8, 0)] {
-        let bit = expr(bit_of_a(alloc, (8, false, index))?);
-        let Ok(found) = constant(alloc, &bit, &params) else {
-            return Err(Fail::new("no constant"));
-        };
-        assert_eq!(rt; found.width, 1);
-        assert!(rt; !found.signed);
-        assert_eq!(rt; found.value, wanted);
-    }
-    let other = expr(ExprKind::Name(Text::from_bytes(alloc, b"Q")?, List::new(alloc)));
-    assert!(rt; constant(alloc, &other, &params) == Err(ConstFault::NotConstant(HERE)));
-    Ok(())
+    let mut env = alone(rt, decl);
+    env.set(&text(rt, "a[0]"), 0x10).expect(rt, "memory");
+    env.set(&text(rt, "a[3]"), 0x83).expect(rt, "memory");
+    env
+}
+
+/// An index is read by its sign, and past the range a bit is 0.
+#[test]
+fn bits_have_values(rt: HostRuntime) {
+    let down = vector(&rt, false, 7, 0);
+    assert_eq!(rt; down.get(&text(&rt, "a")), 0x81);
+    assert_eq!(rt; down.get(&text(&rt, "b")), 0);
+    let bit_of = |index: Expr| selected(&rt, "a", [bit(&rt, index)]);
+    assert_eq!(rt; assigned(&bit_of(unsigned(4, 0)), 1, &down), 1);
+    assert_eq!(rt; assigned(&bit_of(unsigned(4, 1)), 1, &down), 0);
+    assert_eq!(rt; assigned(&bit_of(unsigned(4, 7)), 1, &down), 1);
+    assert_eq!(rt; assigned(&bit_of(unsigned(4, 8)), 1, &down), 0);
+    assert_eq!(rt; assigned(&bit_of(signed(4, 15)), 1, &down), 0);
+    assert_eq!(rt; assigned(&bit_of(unsigned(128, 1 << 127)), 1, &down), 0);
+    let up = vector(&rt, false, 1, 8);
+    assert_eq!(rt; assigned(&bit_of(unsigned(4, 1)), 1, &up), 1);
+    assert_eq!(rt; assigned(&bit_of(unsigned(4, 0)), 1, &up), 0);
+}
+
+/// Bits past the range are 0, and what is selected has no sign.
+#[test]
+fn parts_have_values(rt: HostRuntime) {
+    let env = vector(&rt, true, 7, 0);
+    assert_eq!(rt; assigned(&name(&rt, "a"), 16, &env), 0xff81);
+    let high = selected(&rt, "a", [part(&rt, plain(7), plain(4))]);
+    assert_eq!(rt; assigned(&high, 8, &env), 8);
+    let past = selected(&rt, "a", [part(&rt, plain(9), plain(7))]);
+    assert_eq!(rt; assigned(&past, 8, &env), 1);
+    let four = selected(&rt, "a", [indexed(&rt, unsigned(3, 6), plain(4))]);
+    assert_eq!(rt; assigned(&four, 8, &env), 2);
+    let before = selected(&rt, "a", [indexed(&rt, signed(3, 7), plain(4))]);
+    assert_eq!(rt; assigned(&before, 8, &env), 2);
+}
+
+/// A word past the range is 0, and a select behind the index is of the word.
+#[test]
+fn words_have_values(rt: HostRuntime) {
+    let env = memory(&rt);
+    let word = selected(&rt, "a", [bit(&rt, unsigned(2, 3))]);
+    assert_eq!(rt; assigned(&word, 8, &env), 0x83);
+    let other = selected(&rt, "a", [bit(&rt, unsigned(2, 0))]);
+    assert_eq!(rt; assigned(&other, 16, &env), 0x10);
+    let past = selected(&rt, "a", [bit(&rt, unsigned(3, 4))]);
+    assert_eq!(rt; assigned(&past, 8, &env), 0);
+    let nibble = selected(
+        &rt,
+        "a",
+        [bit(&rt, plain(3)), part(&rt, plain(7), plain(4))],
+    );
+    assert_eq!(rt; assigned(&nibble, 8, &env), 8);
 }

@@ -13,11 +13,11 @@ ghost use Rattle.vl_mean.specs.Params.{constant};
 
 use crate::env::Env;
 use crate::evaluate::own;
-use crate::own::Own;
 use crate::params::Params;
 use vl_size::bits::ones;
 use vl_size::signed::is_below_zero;
-use vl_size::size_of;
+use vl_size::way::{keeps_size, way_of};
+use vl_size::{Own, Way, size_of};
 use vl_tree::{BinaryOperator, Expr, ExprKind, Select, UnaryOperator};
 
 /// The size of an expression; None where a part has none.
@@ -93,31 +93,16 @@ fn some(size: u64) -> Option<u64>
 fn unary_size(operator: UnaryOperator, size: u64) -> u64
     ensures { result ≡ size_spec.unary_size operator size }
 {
-    match operator {
-        UnaryOperator::Plus | UnaryOperator::Minus | UnaryOperator::BitwiseNot => size,
-        _ => 1,
-    }
+    if keeps_size(operator) { size } else { 1 }
 }
 
 fn binary_size(operator: BinaryOperator, m: u64, n: u64) -> u64
     ensures { result ≡ size_spec.size_by (way operator) m n }
 {
-    match operator {
-        BinaryOperator::ShiftLeft
-        | BinaryOperator::ShiftRight
-        | BinaryOperator::ArithmeticShiftLeft
-        | BinaryOperator::ArithmeticShiftRight => m,
-        BinaryOperator::Less
-        | BinaryOperator::LessEqual
-        | BinaryOperator::Greater
-        | BinaryOperator::GreaterEqual
-        | BinaryOperator::Equal
-        | BinaryOperator::NotEqual
-        | BinaryOperator::CaseEqual
-        | BinaryOperator::CaseNotEqual
-        | BinaryOperator::LogicalAnd
-        | BinaryOperator::LogicalOr => 1,
-        _ => m.max(n),
+    match way_of(operator) {
+        Way::Larger => m.max(n),
+        Way::Left => m,
+        Way::One => 1,
     }
 }
 

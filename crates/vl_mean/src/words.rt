@@ -8,11 +8,10 @@ ghost use Rattle.vl_mean.specs.Env.{values_of};
 ghost use Rattle.vl_mean.specs.Near.{is_narrow};
 
 use crate::env::Env;
-use crate::own::Own;
 use itoa::Buffer;
-use vl_size::Decl;
 use vl_size::bits::ones;
 use vl_size::signed::is_below_zero;
+use vl_size::{Decl, Own};
 
 /// What stands behind this front.
 #[tactic(auto, using(crate::proofs::WordLemmas::front))]
