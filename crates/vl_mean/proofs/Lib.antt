@@ -1,5 +1,4 @@
 pub mod FlatRefused
-pub mod Alone
 pub mod Maps
 pub mod Lookups
 pub mod SelectLemmas

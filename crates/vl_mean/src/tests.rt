@@ -1,7 +1,7 @@
 //! Contexts and selects, worked out by hand.
 
 ghost use Rattle.std.specs.Prelude.{◌≡◌};
-ghost use Rattle.vl_size.specs.Table.{IsShaped, span};
+ghost use Rattle.vl_size.specs.Table.{IsShaped, IsVector, span};
 
 use crate::test_trees::*;
 use crate::*;
@@ -70,9 +70,10 @@ fn parts_have_contexts(rt: HostRuntime) {
 }
 
 /// The names with one declaration, whose number is set.
-#[tactic(auto, using(crate::proofs::Alone::alone))]
+#[tactic(auto, using(vl_size::proofs::Vectors::vectors))]
 fn alone(rt: &(impl Abort + AllocGlobal), decl: Decl) -> Env
     requires shaped { IsShaped decl }
+    requires vector { IsVector decl }
 {
     let mut decls = Decls::new(rt.alloc());
     decls.push(decl).expect(rt, "memory");
@@ -95,24 +96,6 @@ fn vector(rt: &(impl Abort + AllocGlobal), signed: bool, left: i64, right: i64) 
     };
     let mut env = alone(rt, decl);
     env.set(&text(rt, "a"), 0x81).expect(rt, "memory");
-    env
-}
-
-/// `reg [7:0] a [3:0]` with 8'h10 in word 0 and 8'h83 in word 3.
-fn memory(rt: &(impl Abort + AllocGlobal)) -> Env {
-    let decl = Decl {
-        name: text(rt, "a"),
-        width: 8,
-        signed: false,
-        left: 7,
-        right: 0,
-        words: Some((3, 0)),
-        class: Class::Variable,
-        output: false,
-    };
-    let mut env = alone(rt, decl);
-    env.set(&text(rt, "a[0]"), 0x10).expect(rt, "memory");
-    env.set(&text(rt, "a[3]"), 0x83).expect(rt, "memory");
     env
 }
 
@@ -147,22 +130,4 @@ fn parts_have_values(rt: HostRuntime) {
     assert_eq!(rt; assigned(&four, 8, &env), 2);
     let before = selected(&rt, "a", [indexed(&rt, signed(3, 7), plain(4))]);
     assert_eq!(rt; assigned(&before, 8, &env), 2);
-}
-
-/// A word past the range is 0, and a select behind the index is of the word.
-#[test]
-fn words_have_values(rt: HostRuntime) {
-    let env = memory(&rt);
-    let word = selected(&rt, "a", [bit(&rt, unsigned(2, 3))]);
-    assert_eq!(rt; assigned(&word, 8, &env), 0x83);
-    let other = selected(&rt, "a", [bit(&rt, unsigned(2, 0))]);
-    assert_eq!(rt; assigned(&other, 16, &env), 0x10);
-    let past = selected(&rt, "a", [bit(&rt, unsigned(3, 4))]);
-    assert_eq!(rt; assigned(&past, 8, &env), 0);
-    let nibble = selected(
-        &rt,
-        "a",
-        [bit(&rt, plain(3)), part(&rt, plain(7), plain(4))],
-    );
-    assert_eq!(rt; assigned(&nibble, 8, &env), 8);
 }
