@@ -1,0 +1,4 @@
+pub mod Parsing
+pub mod Preparing
+pub mod Lexing
+pub mod Defining

@@ -1,0 +1,3 @@
+pub mod Predefined
+pub mod SourceText
+pub mod Faults

@@ -1,0 +1,13 @@
+//! From the bytes of a Verilog text to its tree, by all parts in their order.
+#![tactic(auto)]
+
+mod fault;
+mod macros;
+mod reading;
+mod shared;
+#[cfg(test)]
+mod tests;
+
+pub use fault::TextFault;
+pub use macros::predefined;
+pub use reading::read_source;
