@@ -3,6 +3,7 @@
 
 ghost use Rattle.std.specs.Prelude.{◌≡◌, map, string_bytes, [], IfOk, IfErr};
 ghost use Rattle.std.specs.Process.{exit_status};
+ghost use Rattle.rvf_core.specs.Report.{outside};
 ghost use Rattle.rvf_core.specs.Status.{code_of};
 ghost use Rattle.rvf.specs.Exit.{Exits};
 
@@ -36,15 +37,15 @@ fn exit<R: Threads + Sync, F: Files, O: Out>(
 ) -> ExitCode
     ensures answer { IfOk words (λ words. Exits (exit_status result) (record {
       words = map string_bytes words.items;
-      before = record { held = F.held files.old; misses = F.misses files.old; faults = F.faults files.old; sent = O.sent out.old; out_faults = O.faults out.old };
-      now = record { held = F.held files.new; misses = F.misses files.new; faults = F.faults files.new; sent = O.sent out.new; out_faults = O.faults out.new };
+      before = outside (F.held files.old) (F.misses files.old) (F.faults files.old) (O.sent out.old) (O.faults out.old);
+      now = outside (F.held files.new) (F.misses files.new) (F.faults files.new) (O.sent out.new) (O.faults out.new);
     })) }
 
     // Words that can't be had are no words of a command.
     ensures unread { IfErr words (λ fault. Exits (exit_status result) (record {
       words = [];
-      before = record { held = F.held files.old; misses = F.misses files.old; faults = F.faults files.old; sent = O.sent out.old; out_faults = O.faults out.old };
-      now = record { held = F.held files.new; misses = F.misses files.new; faults = F.faults files.new; sent = O.sent out.new; out_faults = O.faults out.new };
+      before = outside (F.held files.old) (F.misses files.old) (F.faults files.old) (O.sent out.old) (O.faults out.old);
+      now = outside (F.held files.new) (F.misses files.new) (F.faults files.new) (O.sent out.new) (O.faults out.new);
     })) }
 {
     match words {

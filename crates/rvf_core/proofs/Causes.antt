@@ -31,7 +31,7 @@ if_ok P Q f (Err e) p = tt
 
 -- a verdict on the bytes that the file gave
 pub Checks-verdict : (file outdir : List ℕ) (seen : Seen) (bytes : List ℕ) → ReadGives seen.held file bytes
-    → (status : Status) (report : List Delivery) → Verdict status outdir bytes report → Checks file outdir seen status report
+    → (status : Status) (report : List Delivery) → Verdict status file outdir bytes report → Checks file outdir seen status report
 Checks-verdict file outdir seen bytes gives s.Passed report v = record { bytes = bytes; gives = gives; verdict = v }
 Checks-verdict file outdir seen bytes gives s.Failing report v = record { bytes = bytes; gives = gives; verdict = v }
 Checks-verdict file outdir seen bytes gives s.Spent report v = record { bytes = bytes; gives = gives; verdict = v }

@@ -2,7 +2,8 @@
 use Rattle.std.proofs.Common.{◌≡◌, ℕ, Bool, true, false, ◌||◌, ◌==◌, List, [], ◌∷◌, Option, Some, None, IfSome, refl, sym, ap, ◌∙◌, subst, arith}
 use Rattle.std.proofs.lemmas.Bool.Decides.{nat_tests}
 use Rattle.fv_base.specs.Outside.{Told, Names, ReadGives, Rose}
-use Rattle.vl_first.specs.FirstForm.{IsFirst, IsNone}
+use Rattle.rvf_text.specs.declared.fault.TextFault.{TextFault}
+use Rattle.rvf_core.specs.Refusal.{IsFirst, Refuses}
 use Rattle.vl_first.specs.Violation.{violates}
 use Rattle.vl_first.specs.declared.form.FirstPort.{FirstPort}
 use Rattle.rvf_core.specs.Certificate.{outcome}
@@ -52,9 +53,9 @@ two_held : (names : Names) (first second some more : List ℕ) → names first �
 two_held names first second some more p q = rw (p, q)
 
 read_verdict : (status : Status) (file outdir : List ℕ) (seen : Seen) (names : Names) (report : List Delivery) (bytes : List ℕ) → seen.held ≡ Some names → names file ≡ Some bytes
-    → Reads status file outdir seen report → Verdict status outdir bytes report
+    → Reads status file outdir seen report → Verdict status file outdir bytes report
 read_verdict status file outdir seen names report bytes told held p =
-    subst (λ b. Verdict status outdir b report) (same_some (names file) p.bytes bytes (gives_told seen.held names file p.bytes told p.gives) held) p.verdict
+    subst (λ b. Verdict status file outdir b report) (same_some (names file) p.bytes bytes (gives_told seen.held names file p.bytes told p.gives) held) p.verdict
 
 usage_comes : (status : Status) (r : Run) → Ends (SaysOf None (seen_in r)) status r.before r.now → comes s.Usage status ≡ true
 usage_comes s.Passed r e = absurd e.says
@@ -98,19 +99,19 @@ refute_absent s.Heavy r cnf proof e names told no_fault name lacks = absurd e.sa
 refute_absent s.Refused r cnf proof e names told no_fault name lacks = absurd (not_both _ _ lacks (two_held names cnf proof e.says.clauses e.says.steps (gives_told r.before.held names cnf e.says.clauses told e.says.gives_clauses) (gives_told r.before.held names proof e.says.steps told e.says.gives_steps)))
 refute_absent s.Memory r cnf proof e names told no_fault name lacks = refl
 
-source_comes : (status : Status) (r : Run) (file outdir bytes : List ℕ) → Ends (SaysOf (Some (check file outdir)) (seen_in r)) status r.before r.now → (names : Names) → r.before.held ≡ Some names → rose r.before.faults r.now.faults ≡ false → names file ≡ Some bytes → IsNone bytes → comes s.Source status ≡ true
-source_comes s.Passed r file outdir bytes e names told no_fault held none = let v = read_verdict s.Passed file outdir (seen_in r) names e.report bytes told held e.says in absurd (none v.ports v.first)
-source_comes s.Failing r file outdir bytes e names told no_fault held none = let v = read_verdict s.Failing file outdir (seen_in r) names e.report bytes told held e.says in absurd (none v.ports v.first)
-source_comes s.Spent r file outdir bytes e names told no_fault held none = let v = read_verdict s.Spent file outdir (seen_in r) names e.report bytes told held e.says in absurd (none v.ports v.first)
-source_comes s.Usage r file outdir bytes e names told no_fault held none = absurd e.says
-source_comes s.Config r file outdir bytes e names told no_fault held none = absurd e.says
-source_comes s.Source r file outdir bytes e names told no_fault held none = refl
-source_comes s.Absent r file outdir bytes e names told no_fault held none = absurd (not_both _ _ (misses_told r.before.held names (file ∷ []) e.says.name told e.says.first) (one_held names file bytes held))
-source_comes s.ReadFault r file outdir bytes e names told no_fault held none = absurd (unrisen _ _ no_fault e.says.counted)
-source_comes s.WriteFault r file outdir bytes e names told no_fault held none = refl
-source_comes s.Heavy r file outdir bytes e names told no_fault held none = absurd e.says
-source_comes s.Refused r file outdir bytes e names told no_fault held none = absurd e.says
-source_comes s.Memory r file outdir bytes e names told no_fault held none = refl
+source_comes : (status : Status) (r : Run) (file outdir bytes : List ℕ) → Ends (SaysOf (Some (check file outdir)) (seen_in r)) status r.before r.now → (names : Names) → r.before.held ≡ Some names → rose r.before.faults r.now.faults ≡ false → names file ≡ Some bytes → (refusal : Option TextFault) → Refuses refusal bytes → comes s.Source status ≡ true
+source_comes s.Passed r file outdir bytes e names told no_fault held refusal refuses = let v = read_verdict s.Passed file outdir (seen_in r) names e.report bytes told held e.says in absurd (v.unrefused refusal refuses)
+source_comes s.Failing r file outdir bytes e names told no_fault held refusal refuses = let v = read_verdict s.Failing file outdir (seen_in r) names e.report bytes told held e.says in absurd (v.unrefused refusal refuses)
+source_comes s.Spent r file outdir bytes e names told no_fault held refusal refuses = let v = read_verdict s.Spent file outdir (seen_in r) names e.report bytes told held e.says in absurd (v.unrefused refusal refuses)
+source_comes s.Usage r file outdir bytes e names told no_fault held refusal refuses = absurd e.says
+source_comes s.Config r file outdir bytes e names told no_fault held refusal refuses = absurd e.says
+source_comes s.Source r file outdir bytes e names told no_fault held refusal refuses = refl
+source_comes s.Absent r file outdir bytes e names told no_fault held refusal refuses = absurd (not_both _ _ (misses_told r.before.held names (file ∷ []) e.says.name told e.says.first) (one_held names file bytes held))
+source_comes s.ReadFault r file outdir bytes e names told no_fault held refusal refuses = absurd (unrisen _ _ no_fault e.says.counted)
+source_comes s.WriteFault r file outdir bytes e names told no_fault held refusal refuses = refl
+source_comes s.Heavy r file outdir bytes e names told no_fault held refusal refuses = absurd e.says
+source_comes s.Refused r file outdir bytes e names told no_fault held refusal refuses = absurd e.says
+source_comes s.Memory r file outdir bytes e names told no_fault held refusal refuses = refl
 
 -- numbers that violate are numbers of the only ports that the bytes declare
 violates_moved : (outdir bytes : List ℕ) (report : List Delivery) (ports : List FirstPort) (status : Status) (numbers : List ℕ) (v : Decides status outdir bytes report)
@@ -197,8 +198,8 @@ pub IsExact-answers : (r : Run) (status : Status) → Answers status r → IsExa
 IsExact-answers r status a = record {
   usage = λ none. usage_comes status r (under r None status none a);
   absent = λ h. absent_comes status r h.command h.names h.known a h.name h.lacks;
-  source = λ bytes h.
-      source_comes status r h.file h.outdir bytes (under r (Some (check h.file h.outdir)) status h.known.asked a) h.names h.known.told h.known.no_fault h.held;
+  source = λ bytes refusal h.
+      source_comes status r h.file h.outdir bytes (under r (Some (check h.file h.outdir)) status h.known.asked a) h.names h.known.told h.known.no_fault h.held refusal;
   pass = λ bytes ports h.
       pass_comes status r h.file h.outdir bytes ports (under r (Some (check h.file h.outdir)) status h.known.asked a) h.names h.known.told h.known.no_fault h.held;
   fail = λ bytes ports numbers h.

@@ -1,5 +1,5 @@
 -- From what a search comes to, to the verdict on a module.
-use Rattle.std.proofs.Common.{◌≡◌, ℕ, suc, ◌<◌, ◌^◌, Bool, true, false, ◌&&◌, List, [], ◌∷◌, Result, Ok, Err, IfOk, ℤ, length, arith, refl, sym, ap, ◌∙◌, codes}
+use Rattle.std.proofs.Common.{◌≡◌, ℕ, suc, ◌<◌, ◌^◌, Bool, true, false, ◌&&◌, List, [], ◌∷◌, Option, Some, None, Result, Ok, Err, IfOk, ℤ, length, arith, refl, sym, ap, subst, ◌∙◌, codes}
 use Rattle.std.proofs.lemmas.Bool.{false≢true}
 use Rattle.fv_base.specs.declared.memory.Memory.{Memory}
 use Rattle.cnf_form.specs.Cnf.{Cnf, value_of, IsLiteral, AreLiterals, AreClauses}
@@ -14,12 +14,18 @@ use Rattle.lrat_check.proofs.Stores.{numbered_held}
 use Rattle.sat_search.specs.Found.{AreAdded}
 use Rattle.vl_core.specs.Encoding.{Encodes, agree}
 use Rattle.vl_core.specs.declared.place.FirstPlace.{FirstPlace}
-use Rattle.vl_first.specs.FirstForm.{IsFirst}
+use Rattle.vl_first.specs.FirstForm.{first_of}
 use Rattle.vl_first.specs.Violation.{within, violates}
 use Rattle.vl_first.specs.declared.form.FirstPort.{FirstPort}
-use Rattle.rvf_core.specs.Lines.{pass_line}
-use Rattle.rvf_core.specs.Verdict.{Approves, Decision, Verdict, certified, path}
+use Rattle.vl_tree.specs.declared.source.Source.{Source}
+use Rattle.rvf_text.specs.SourceText.{IsSourceOf, IsRefused, Takes, Turns, Reads}
+use Rattle.rvf_text.specs.declared.fault.TextFault.{TextFault}
+use Rattle.rvf_text.specs.declared.fault.TextFault.TheVariants as text
+use Rattle.rvf_core.specs.Lines.{pass_line, one_line}
+use Rattle.rvf_core.specs.Refusal.{IsFirst, Refuses, Reports, refusal_line}
+use Rattle.rvf_core.specs.Verdict.{Approves, Decides, Decision, Refused, Verdict, certified, path}
 use Rattle.rvf_core.specs.declared.report.Delivery.{Delivery}
+use Rattle.rvf_core.specs.declared.report.Report.{Report}
 use Rattle.rvf_core.specs.declared.report.Delivery.TheVariants.{File, Line}
 use Rattle.rvf_core.specs.declared.status.Status.{Status}
 use Rattle.rvf_core.specs.declared.status.Status.TheVariants as s
@@ -82,18 +88,102 @@ approves outdir ports formula places steps report encodes small clauses added re
   report_is = is;
 }
 
--- a decision on the ports that the bytes declare is a verdict on the bytes
-pub Verdict-decision : (outdir bytes : List ℕ) (ports : List FirstPort) → IsFirst bytes ports → ((others : List FirstPort) → IsFirst bytes others → others ≡ ports)
-    → (status : Status) (report : List Delivery) → Decision status outdir ports report → Verdict status outdir bytes report
-Verdict-decision outdir bytes ports first only s.Passed report d = record { ports = ports; first = first; only = only; decision = d }
-Verdict-decision outdir bytes ports first only s.Failing report d = record { ports = ports; first = first; only = only; decision = d }
-Verdict-decision outdir bytes ports first only s.Spent report d = record { ports = ports; first = first; only = only; decision = d }
-Verdict-decision outdir bytes ports first only s.Usage report d = absurd d
-Verdict-decision outdir bytes ports first only s.Config report d = absurd d
-Verdict-decision outdir bytes ports first only s.Source report d = absurd d
-Verdict-decision outdir bytes ports first only s.Absent report d = absurd d
-Verdict-decision outdir bytes ports first only s.ReadFault report d = absurd d
-Verdict-decision outdir bytes ports first only s.WriteFault report d = absurd d
-Verdict-decision outdir bytes ports first only s.Heavy report d = absurd d
-Verdict-decision outdir bytes ports first only s.Refused report d = absurd d
-Verdict-decision outdir bytes ports first only s.Memory report d = absurd d
+-- what the text is taken for
+
+apart : (found : Option (List FirstPort)) (ports : List FirstPort) → found ≡ Some ports → found ≡ None → ⊥
+apart found ports p q = cc
+
+decides : (bytes : List ℕ) (tree : Source) (ports : List FirstPort) (status : Status) (outdir : List ℕ) (report : List Delivery)
+    → Takes (IsSourceOf bytes) (IsRefused bytes) tree → first_of tree ≡ Some ports → ((others : List FirstPort) → IsFirst bytes others → others ≡ ports)
+    → ((other : Option TextFault) → Refuses other bytes → ⊥) → Decision status outdir ports report → Decides status outdir bytes report
+decides bytes tree ports status outdir report taken first only unrefused d =
+    record { ports = ports; first = record { tree = tree; source = taken.is; first = first }; only = only; unrefused = unrefused; decision = d }
+
+-- the ports of the only tree, and its refusal
+module _ (bytes : List ℕ) (tree : Source) (taken : Takes (IsSourceOf bytes) (IsRefused bytes) tree) where
+  first_of-same : (other : Source) → IsSourceOf bytes other → first_of other ≡ first_of tree
+  first_of-same other source = ap first_of (taken.only other source)
+
+  ports_only : (ports others : List FirstPort) → first_of tree ≡ Some ports → IsFirst bytes others → others ≡ ports
+  ports_only ports others first h = one (first_of tree) others ports (sym (first_of-same h.tree h.source) ∙ h.first) first
+    where
+      one : (found : Option (List FirstPort)) (a b : List FirstPort) → found ≡ Some a → found ≡ Some b → a ≡ b
+      one found a b p q = cc
+
+  first_unrefused : (ports : List FirstPort) → first_of tree ≡ Some ports → (other : Option TextFault) → Refuses other bytes → ⊥
+  first_unrefused ports first (Some fault) refuses = taken.unrefused fault refuses
+  first_unrefused ports first None h = apart (first_of tree) ports first (sym (first_of-same h.tree h.source) ∙ h.none)
+
+  decided : (ports : List FirstPort) → first_of tree ≡ Some ports → (status : Status) (outdir : List ℕ) (report : List Delivery) → Decision status outdir ports report
+      → Decides status outdir bytes report
+  decided ports first status outdir report d =
+      decides bytes tree ports status outdir report taken first (λ others h. ports_only ports others first h) (λ other h. first_unrefused ports first other h) d
+
+  -- a decision on the ports that the text declares is a verdict on the bytes
+  pub Verdict-decision : (name outdir : List ℕ) (ports : List FirstPort) → first_of tree ≡ Some ports
+      → (status : Status) (report : List Delivery) → Decision status outdir ports report → Verdict status name outdir bytes report
+  Verdict-decision name outdir ports first s.Passed report d = decided ports first s.Passed outdir report d
+  Verdict-decision name outdir ports first s.Failing report d = decided ports first s.Failing outdir report d
+  Verdict-decision name outdir ports first s.Spent report d = decided ports first s.Spent outdir report d
+  Verdict-decision name outdir ports first s.Usage report d = absurd d
+  Verdict-decision name outdir ports first s.Config report d = absurd d
+  Verdict-decision name outdir ports first s.Source report d = absurd d
+  Verdict-decision name outdir ports first s.Absent report d = absurd d
+  Verdict-decision name outdir ports first s.ReadFault report d = absurd d
+  Verdict-decision name outdir ports first s.WriteFault report d = absurd d
+  Verdict-decision name outdir ports first s.Heavy report d = absurd d
+  Verdict-decision name outdir ports first s.Refused report d = absurd d
+  Verdict-decision name outdir ports first s.Memory report d = absurd d
+
+  pub Refused-first : (name : List ℕ) (report : List Delivery) → first_of tree ≡ None → report ≡ Line (refusal_line name None) ∷ [] → Refused name bytes report
+  Refused-first name report none is = record {
+    refusal = None;
+    refuses = record { tree = tree; source = taken.is; none = none };
+    only = λ other refuses. only other refuses;
+    none = λ ports h. apart (first_of tree) ports (sym (first_of-same h.tree h.source) ∙ h.first) none;
+    report_is = is;
+  }
+    where
+      only : (other : Option TextFault) → Refuses other bytes → other ≡ None
+      only (Some fault) refuses = absurd (taken.unrefused fault refuses)
+      only None refuses = refl
+
+  pub judged_some : (name outdir : List ℕ) (ports : List FirstPort) (r : Result Report Memory) → first_of tree ≡ Some ports
+      → IfOk r (λ report. Decision report.status outdir ports report.deliveries) → IfOk r (λ report. Verdict report.status name outdir bytes report.deliveries)
+  judged_some name outdir ports (Ok report) first d = Verdict-decision name outdir ports first report.status report.deliveries d
+  judged_some name outdir ports (Err fault) first d = tt
+
+  pub judged_none : (name outdir : List ℕ) (r : Result Report Memory) → first_of tree ≡ None → IfOk r (λ report. report ≡ one_line s.Source (refusal_line name None))
+      → IfOk r (λ report. Verdict report.status name outdir bytes report.deliveries)
+  judged_none name outdir (Ok report) none is = subst (λ r. Verdict r.status name outdir bytes r.deliveries) (sym is) (Refused-first name _ none refl)
+  judged_none name outdir (Err fault) none is = tt
+
+pub Refused-turned : (bytes name : List ℕ) (fault : TextFault) (report : List Delivery) → Turns (IsSourceOf bytes) (IsRefused bytes) fault
+    → report ≡ Line (refusal_line name (Some fault)) ∷ [] → Refused name bytes report
+Refused-turned bytes name fault report turned is = record {
+  refusal = Some fault;
+  refuses = turned.is;
+  only = λ other refuses. only other refuses;
+  none = λ ports h. turned.none h.tree h.source;
+  report_is = is;
+}
+  where
+    only : (other : Option TextFault) → Refuses other bytes → other ≡ Some fault
+    only (Some f) refuses = ap (λ x. Some x) (turned.only f refuses)
+    only None h = absurd (turned.none h.tree h.source)
+
+-- a report on what is refused is a verdict on the bytes
+pub Verdict-refused : (bytes name outdir : List ℕ) (fault : TextFault) (report : Report) → Reads (IsSourceOf bytes) (IsRefused bytes) (Err fault)
+    → Reports fault name report → Verdict report.status name outdir bytes report.deliveries
+Verdict-refused bytes name outdir (text.Lex f) report turned is =
+    subst (λ r. Verdict r.status name outdir bytes r.deliveries) (sym is) (Refused-turned bytes name (text.Lex f) _ turned refl)
+Verdict-refused bytes name outdir (text.Prep f) report turned is =
+    subst (λ r. Verdict r.status name outdir bytes r.deliveries) (sym is) (Refused-turned bytes name (text.Prep f) _ turned refl)
+Verdict-refused bytes name outdir (text.Parse f) report turned is =
+    subst (λ r. Verdict r.status name outdir bytes r.deliveries) (sym is) (Refused-turned bytes name (text.Parse f) _ turned refl)
+Verdict-refused bytes name outdir text.Memory report turned is = absurd is
+
+pub judged_refused : (bytes name outdir : List ℕ) (fault : TextFault) (r : Result Report Memory) → Reads (IsSourceOf bytes) (IsRefused bytes) (Err fault)
+    → IfOk r (λ report. Reports fault name report) → IfOk r (λ report. Verdict report.status name outdir bytes report.deliveries)
+judged_refused bytes name outdir fault (Ok report) turned is = Verdict-refused bytes name outdir fault report turned is
+judged_refused bytes name outdir fault (Err e) turned is = tt

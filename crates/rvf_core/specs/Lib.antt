@@ -2,6 +2,7 @@ pub mod Certificate
 pub mod Command
 pub mod Ends
 pub mod Lines
+pub mod Refusal
 pub mod Report
 pub mod Run
 pub mod Status

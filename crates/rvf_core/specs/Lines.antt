@@ -10,9 +10,6 @@ use Rattle.rvf_core.specs.declared.status.Status.{Status}
 abbrev pub usage_line : List ℕ
 usage_line = codes "usage: rvf run FILE OUTDIR | lrat CNF PROOF\n"
 
-abbrev pub source_line : List ℕ
-source_line = codes "source first 1 - -\n"
-
 abbrev pub pass_line : List ℕ
 pass_line = codes "pass ill_ch0\n"
 

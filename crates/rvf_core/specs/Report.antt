@@ -15,6 +15,9 @@ pub record Outside : Type 0 where
   pub sent : Option (List ℕ)
   pub out_faults : ℕ
 
+abbrev pub outside : Told → ℕ → ℕ → Option (List ℕ) → ℕ → Outside
+outside held misses faults sent out_faults = record { held = held; misses = misses; faults = faults; sent = sent; out_faults = out_faults }
+
 -- what is told of the files once the name holds these bytes
 abbrev pub told_with : Told → List ℕ → List ℕ → Told
 told_with None name bytes = None

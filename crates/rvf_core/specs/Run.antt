@@ -1,7 +1,6 @@
--- What an answer of the top call means: its cause, and the lines that were put. Rules of this project.
+-- What an answer of the top call means: its cause, and its report. Rules of this project.
 use Rattle.std.specs.Prelude.{◌≡◌, ℕ, ◌+◌, ◌-◌, ◌^◌, Bool, true, false, ◌||◌, nat_le, min, List, [], ◌∷◌, Option, Some, None, IfSome, ◌==◌}
 use Rattle.fv_base.specs.Outside.{Names, Told, Rose, ReadGives}
-use Rattle.vl_first.specs.FirstForm.{IsFirst, IsNone}
 use Rattle.vl_first.specs.Plain.{is_among}
 use Rattle.vl_first.specs.Violation.{violates}
 use Rattle.vl_first.specs.declared.form.FirstPort.{FirstPort}
@@ -9,6 +8,8 @@ use Rattle.rvf_core.specs.Certificate.{outcome}
 use Rattle.rvf_core.specs.Command.{Command, check, refute, command_of, files_of}
 use Rattle.rvf_core.specs.Ends.{Ends}
 use Rattle.rvf_core.specs.Lines.{usage_line, absent_front, read_fault_front, named_line}
+use Rattle.rvf_text.specs.declared.fault.TextFault.{TextFault}
+use Rattle.rvf_core.specs.Refusal.{IsFirst, Refuses}
 use Rattle.rvf_core.specs.Report.{Outside}
 use Rattle.rvf_core.specs.declared.report.Delivery.{Delivery}
 use Rattle.rvf_core.specs.declared.report.Delivery.TheVariants.{Line}
@@ -70,7 +71,7 @@ pub record FailsToRead (files : List (List ℕ)) (seen : Seen) (report : List De
 pub record Reads (status : Status) (file outdir : List ℕ) (seen : Seen) (report : List Delivery) : Type 0 where
   pub bytes : List ℕ
   pub gives : ReadGives seen.held file bytes
-  pub verdict : Verdict status outdir bytes report
+  pub verdict : Verdict status file outdir bytes report
 
 -- both files gave bytes, and status and report are what the certificate comes to
 pub record Certifies (status : Status) (cnf proof : List ℕ) (seen : Seen) (report : List Delivery) : Type 0 where
@@ -160,7 +161,7 @@ comes_in_budget wanted status = comes wanted status || (code_of status == 2)
 pub record IsExact (status : Status) (r : Run) : Type 0 where
   pub usage : command_of r.words ≡ None → comes s.Usage status ≡ true
   pub absent : Lacking r → comes s.Absent status ≡ true
-  pub source : (bytes : List ℕ) → Holding r bytes → IsNone bytes → comes s.Source status ≡ true
+  pub source : (bytes : List ℕ) (refusal : Option TextFault) → Holding r bytes → Refuses refusal bytes → comes s.Source status ≡ true
   pub pass : (bytes : List ℕ) (ports : List FirstPort) → Holding r bytes → IsFirst bytes ports → NoneViolate ports → comes_in_budget s.Passed status ≡ true
   pub fail : (bytes : List ℕ) (ports : List FirstPort) (numbers : List ℕ)
       → Holding r bytes → IsFirst bytes ports → violates ports numbers ≡ true → comes_in_budget s.Failing status ≡ true

@@ -1,5 +1,5 @@
 -- The verdict on the bytes of a file, with what it reports. Rules of this project.
-use Rattle.std.specs.Prelude.{◌≡◌, ℕ, ◌<◌, ◌^◌, true, false, List, [], ◌∷◌, ◌++◌, length, codes}
+use Rattle.std.specs.Prelude.{◌≡◌, ℕ, ◌<◌, ◌^◌, true, false, Option, List, [], ◌∷◌, ◌++◌, length, codes}
 use Rattle.cnf_form.specs.Cnf.{Cnf}
 use Rattle.cnf_text.specs.Dimacs.{dimacs_text}
 use Rattle.lrat_check.specs.Resolved.{Resolved, derived}
@@ -8,10 +8,11 @@ use Rattle.lrat_check.specs.Texts.{lrat_text}
 use Rattle.lrat_check.specs.declared.step.Step.{Step}
 use Rattle.vl_core.specs.Encoding.{Encodes}
 use Rattle.vl_core.specs.declared.place.FirstPlace.{FirstPlace}
-use Rattle.vl_first.specs.FirstForm.{IsFirst, IsNone}
 use Rattle.vl_first.specs.Violation.{violates}
 use Rattle.vl_first.specs.declared.form.FirstPort.{FirstPort}
-use Rattle.rvf_core.specs.Lines.{source_line, pass_line, spent_line, fail_report}
+use Rattle.rvf_text.specs.declared.fault.TextFault.{TextFault}
+use Rattle.rvf_core.specs.Refusal.{IsFirst, Refuses, refusal_line}
+use Rattle.rvf_core.specs.Lines.{pass_line, spent_line, fail_report}
 use Rattle.rvf_core.specs.declared.report.Delivery.{Delivery}
 use Rattle.rvf_core.specs.declared.report.Delivery.TheVariants.{File, Line}
 use Rattle.rvf_core.specs.declared.status.Status.{Status}
@@ -75,22 +76,26 @@ Decision s.Failing outdir ports report = Convicts ports report
 Decision s.Spent outdir ports report = Exhausts outdir ports report
 Decision status outdir ports report = ⊥
 
--- the bytes are a module of the first form and of no other ports, and the status decides on its ports
+-- the bytes are a text of the first form with these ports and no others, nothing refuses it, and the status decides on its ports
 pub record Decides (status : Status) (outdir bytes : List ℕ) (report : List Delivery) : Type 0 where
   pub ports : List FirstPort
   pub first : IsFirst bytes ports
   pub only : (others : List FirstPort) → IsFirst bytes others → others ≡ ports
+  pub unrefused : (other : Option TextFault) → Refuses other bytes → ⊥
   pub decision : Decision status outdir ports report
 
--- the bytes aren't of the first form
-pub record Refuses (bytes : List ℕ) (report : List Delivery) : Type 0 where
-  pub none : IsNone bytes
-  pub report_is : report ≡ Line source_line ∷ []
+-- the bytes are refused, for this and nothing else
+pub record Refused (name bytes : List ℕ) (report : List Delivery) : Type 0 where
+  pub refusal : Option TextFault
+  pub refuses : Refuses refusal bytes
+  pub only : (other : Option TextFault) → Refuses other bytes → other ≡ refusal
+  pub none : (ports : List FirstPort) → IsFirst bytes ports → ⊥
+  pub report_is : report ≡ Line (refusal_line name refusal) ∷ []
 
--- what a status says of the bytes, and its report
-abbrev pub Verdict : Status → List ℕ → List ℕ → List Delivery → Type 0
-Verdict s.Passed outdir bytes report = Decides s.Passed outdir bytes report
-Verdict s.Failing outdir bytes report = Decides s.Failing outdir bytes report
-Verdict s.Spent outdir bytes report = Decides s.Spent outdir bytes report
-Verdict s.Source outdir bytes report = Refuses bytes report
-Verdict status outdir bytes report = ⊥
+-- what a status says of the bytes of a file with a name, and its report
+abbrev pub Verdict : Status → List ℕ → List ℕ → List ℕ → List Delivery → Type 0
+Verdict s.Passed name outdir bytes report = Decides s.Passed outdir bytes report
+Verdict s.Failing name outdir bytes report = Decides s.Failing outdir bytes report
+Verdict s.Spent name outdir bytes report = Decides s.Spent outdir bytes report
+Verdict s.Source name outdir bytes report = Refused name bytes report
+Verdict status name outdir bytes report = ⊥

@@ -16,7 +16,7 @@ use lrat_check::{LratFault, Step, StepFault, read_lrat, verify};
 use std::alloc::Global;
 
 /// A word and a blank behind what is there.
-fn push_word(line: &mut Vec<u8>, word: &[u8]) -> Result<(), Memory>
+pub(crate) fn push_word(line: &mut Vec<u8>, word: &[u8]) -> Result<(), Memory>
     ensures { OnOk result (line.new.items ≡ line.old.items ++ (word.now ++ (32 ∷ []))) }
 {
     line.extend_from_slice(word)?;
@@ -25,7 +25,7 @@ fn push_word(line: &mut Vec<u8>, word: &[u8]) -> Result<(), Memory>
 }
 
 /// The last word and the end of the line.
-fn ended(begun: Vec<u8>, word: &[u8]) -> Result<Vec<u8>, Memory>
+pub(crate) fn ended(begun: Vec<u8>, word: &[u8]) -> Result<Vec<u8>, Memory>
     ensures { IfOk result (λ line. line.items ≡ begun.items ++ (word.now ++ (10 ∷ []))) }
 {
     let mut line = begun;

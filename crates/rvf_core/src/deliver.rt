@@ -1,7 +1,7 @@
 //! Files and lines, delivered one after the other.
 
 ghost use Rattle.std.specs.Prelude.{◌≡◌, ◌≤◌};
-ghost use Rattle.rvf_core.specs.Report.{IsDelivered, IsDone, IsWritten, IsPut};
+ghost use Rattle.rvf_core.specs.Report.{outside, IsDelivered, IsDone, IsWritten, IsPut};
 
 use crate::report::Delivery;
 use fv_base::{FileFault, Files, Out, OutFault};
@@ -15,8 +15,8 @@ pub(crate) fn deliver<F: Files, O: Out>(
     out: &mut O,
 ) -> Result<(), OutFault>
     ensures delivered { IsDelivered result
-        (record { held = F.held files.old; misses = F.misses files.old; faults = F.faults files.old; sent = O.sent out.old; out_faults = O.faults out.old })
-        (record { held = F.held files.new; misses = F.misses files.new; faults = F.faults files.new; sent = O.sent out.new; out_faults = O.faults out.new })
+        (outside (F.held files.old) (F.misses files.old) (F.faults files.old) (O.sent out.old) (O.faults out.old))
+        (outside (F.held files.new) (F.misses files.new) (F.faults files.new) (O.sent out.new) (O.faults out.new))
         deliveries.now }
     ensures misses_kept { F.misses files.new ≡ F.misses files.old }
     ensures faults_grow { F.faults files.old ≤ F.faults files.new }
@@ -36,8 +36,8 @@ fn deliver_one<F: Files, O: Out>(
     out: &mut O,
 ) -> Result<(), OutFault>
     ensures done { IsDone result
-        (record { held = F.held files.old; misses = F.misses files.old; faults = F.faults files.old; sent = O.sent out.old; out_faults = O.faults out.old })
-        (record { held = F.held files.new; misses = F.misses files.new; faults = F.faults files.new; sent = O.sent out.new; out_faults = O.faults out.new })
+        (outside (F.held files.old) (F.misses files.old) (F.faults files.old) (O.sent out.old) (O.faults out.old))
+        (outside (F.held files.new) (F.misses files.new) (F.faults files.new) (O.sent out.new) (O.faults out.new))
         delivery.now }
     ensures misses_kept { F.misses files.new ≡ F.misses files.old }
     ensures faults_grow { F.faults files.old ≤ F.faults files.new }

@@ -4,23 +4,26 @@ ghost use Rattle.std.specs.Prelude.{◌≡◌, ◌<◌, ◌^◌, ◌∷◌, [], 
 ghost use Rattle.cnf_form.specs.Cnf.{value_of};
 ghost use Rattle.vl_core.specs.Encoding.{agree};
 ghost use Rattle.vl_core.specs.Places.{places_of};
-ghost use Rattle.vl_first.specs.Nodes.{nodes_of};
 ghost use Rattle.vl_first.specs.Plain.{IsPlain};
 ghost use Rattle.vl_first.specs.Violation.{violates};
 ghost use Rattle.rvf_core.specs.declared.report.Delivery.TheVariants.{File, Line};
+ghost use Rattle.rvf_text.specs.SourceText.{IsSourceOf, IsRefused, Takes};
 ghost use Rattle.rvf_core.specs.Verdict.{Convicts, Decision, Verdict, certified, path};
 
 use crate::lines::fail_report;
+use crate::refusal::refuse;
 use crate::report::{Delivery, Report};
 use crate::status::Status;
 use cnf_form::Formula;
 use cnf_text::dimacs;
 use fv_base::{List, Memory, Text};
 use lrat_check::{Step, lrat};
+use rvf_text::read_source;
 use sat_search::{Found, solve};
 use std::alloc::Global;
-use vl_core::{FirstPlace, first_clauses, numbers_at};
-use vl_first::{First, FirstFault, read_first};
+use vl_core::{FirstPlace, first_clauses, first_of, numbers_at};
+use vl_first::First;
+use vl_tree::Source;
 
 /// How many clauses a search may learn.
 const BUDGET: u64 = 200000;
@@ -101,9 +104,7 @@ fn convicted(
 
 /// Decides on the module by a search over its clauses.
 fn decide(alloc: Global, outdir: &[u8], first: &First) -> Result<Report, Memory>
-    requires plain { IsPlain first.now.ports }
-    requires few_ports { length first.now.ports < 2 ^ 32 }
-    requires few_nodes { nodes_of first.now.ports < 2 ^ 32 }
+    requires { IsPlain first.now.ports }
     ensures { IfOk result (λ report. Decision report.status outdir.now first.now.ports report.deliveries) }
 {
     let (formula, places) = first_clauses(alloc, first)?;
@@ -129,17 +130,34 @@ fn decide(alloc: Global, outdir: &[u8], first: &First) -> Result<Report, Memory>
     }
 }
 
-/// Reads the module, and judges it.
-pub(crate) fn judge(alloc: Global, outdir: &[u8], bytes: &[u8]) -> Result<Report, Memory>
-    ensures { IfOk result (λ report. Verdict report.status outdir.now bytes.now report.deliveries) }
+/// Judges a text by its tree.
+fn judge_tree(
+    alloc: Global,
+    name: &[u8],
+    outdir: &[u8],
+    tree: &Source,
+    bytes: &[u8],
+) -> Result<Report, Memory>
+    requires { Takes (IsSourceOf bytes.now) (IsRefused bytes.now) tree.now }
+    ensures { IfOk result (λ report. Verdict report.status name.now outdir.now bytes.now report.deliveries) }
 {
-    match read_first(alloc, bytes) {
-        Ok(first) => decide(alloc, outdir, &first),
-        Err(FirstFault::NotFirst) => Report::of_line(
-            alloc,
-            Status::Source,
-            b"source first 1 - -\n",
-        ),
-        Err(FirstFault::Memory) => Err(Memory),
+    match first_of(alloc, tree)? {
+        Some(first) => decide(alloc, outdir, &first),
+        None => Report::of_line(alloc, Status::Source, b"source first 1 - -\n"),
+    }
+}
+
+/// Reads the text of a file, and judges it.
+pub(crate) fn judge(
+    alloc: Global,
+    name: &[u8],
+    outdir: &[u8],
+    bytes: &[u8],
+) -> Result<Report, Memory>
+    ensures { IfOk result (λ report. Verdict report.status name.now outdir.now bytes.now report.deliveries) }
+{
+    match read_source(alloc, bytes) {
+        Ok(tree) => judge_tree(alloc, name, outdir, &tree, bytes),
+        Err(fault) => refuse(alloc, name, &fault),
     }
 }

@@ -5,6 +5,7 @@ mod certificate;
 mod deliver;
 mod first;
 mod lines;
+mod refusal;
 mod report;
 mod request;
 mod shared;

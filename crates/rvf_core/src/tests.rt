@@ -59,6 +59,10 @@ fn modules(rt: HostRuntime) -> Result<(), Fail> {
     let levels = "assign rvfi_valid = i & i == 0; assign rvfi_trap = 0;\nendmodule\n";
     let idle = "assign rvfi_valid = i; assign rvfi_trap = 0;\nendmodule\n";
     let wire = "assign rvfi_valid = i; assign rvfi_trap = i;\nwire w;\nendmodule\n";
+    let comment = "assign rvfi_valid = i; /* ~ */ assign rvfi_trap = i; // ~\nendmodule\n";
+    let macros = "assign rvfi_valid = i & `RISCV_FORMAL_NRET, rvfi_trap = i;\nendmodule\n";
+    let sized = "assign rvfi_valid = i; assign rvfi_trap = 1'b1;\nendmodule\n";
+    let twice = "assign rvfi_valid = i; assign rvfi_trap = i, rvfi_trap = i;\nendmodule\n";
     let found =
         "fail ill_ch0\ni 1\nrvfi_valid 1\nrvfi_insn 0\nrvfi_trap 0\nrvfi_rd_addr 0\nrvfi_mem_wmask 0\n";
     let usage = "usage: rvf run FILE OUTDIR | lrat CNF PROOF\n";
@@ -70,6 +74,10 @@ fn modules(rt: HostRuntime) -> Result<(), Fail> {
         (["run", "w.v", "out"], levels, 0, "pass ill_ch0\n"),
         (["run", "w.v", "out"], idle, 1, found),
         (["run", "w.v", "out"], wire, 5, "source first 1 - -\n"),
+        (["run", "w.v", "out"], comment, 0, "pass ill_ch0\n"),
+        (["run", "w.v", "out"], macros, 0, "pass ill_ch0\n"),
+        (["run", "w.v", "out"], sized, 5, "source first 1 - -\n"),
+        (["run", "w.v", "out"], twice, 5, "source first 1 - -\n"),
         (["run", "v.v", "out"], trap, 6, "absent v.v\n"),
         (["walk", "w.v", "out"], trap, 3, usage),
     ];
@@ -79,6 +87,72 @@ fn modules(rt: HostRuntime) -> Result<(), Fail> {
         assert_eq!(rt; status.code(), code);
         assert_eq!(rt; sent.as_slice(), wanted.as_bytes());
     }
+    Ok(())
+}
+
+const FIELDS: [&str; 21] = [
+    "rvfi_valid",
+    "rvfi_order",
+    "rvfi_insn",
+    "rvfi_trap",
+    "rvfi_halt",
+    "rvfi_intr",
+    "rvfi_mode",
+    "rvfi_ixl",
+    "rvfi_rs1_addr",
+    "rvfi_rs2_addr",
+    "rvfi_rs1_rdata",
+    "rvfi_rs2_rdata",
+    "rvfi_rd_addr",
+    "rvfi_rd_wdata",
+    "rvfi_pc_rdata",
+    "rvfi_pc_wdata",
+    "rvfi_mem_addr",
+    "rvfi_mem_rmask",
+    "rvfi_mem_wmask",
+    "rvfi_mem_rdata",
+    "rvfi_mem_wdata",
+];
+
+/// The module whose outputs are the fields of RVFI, each 0, with this line behind its head.
+fn silent(alloc: Global, line: &str) -> Result<String, Fail> {
+    let mut text = String::from_str(
+        alloc,
+        "module rvfi_wrapper (input clock, input reset, `RVFI_OUTPUTS);\n",
+    )?;
+    text.push_str(line)?;
+    for field in FIELDS {
+        text.push_str(format!(in alloc; "\n  assign {field} = 0;")?.as_str())?;
+    }
+    text.push_str("\nendmodule\n")?;
+    Ok(text)
+}
+
+/// Each part refuses what is on the second line; a text that no part refuses isn't of the form.
+#[test]
+fn refusals(rt: HostRuntime) -> Result<(), Fail> {
+    let alloc = rt.alloc();
+    let cases = [
+        ("inout x;", "source parse 3 w.v:2:1 inout\n"),
+        ("assign = 1;", "source parse 1 w.v:2:8 -\n"),
+        ("`nope", "source prep 1 w.v:2:1 nope\n"),
+        ("wire q = 1'b;", "source lex 2 w.v:2:10 -\n"),
+        ("wire q = 1;", "source first 1 - -\n"),
+        ("", "source first 1 - -\n"),
+    ];
+    for (line, wanted) in cases {
+        let text = silent(alloc, line)?;
+        let files = vec![in alloc; file(alloc, "w.v", "", text.as_str())?]?;
+        let (status, sent) = answer(&rt, alloc, ["run", "w.v", "out"].as_slice(), files)?;
+        assert_eq!(rt; status.code(), 5);
+        assert_eq!(rt; sent.as_slice(), wanted.as_bytes());
+    }
+    let files = vec![in alloc; file(alloc, "a/b.v", "", "module m;")?]?;
+    let (_, sent) = answer(&rt, alloc, ["run", "a/b.v", "out"].as_slice(), files)?;
+    assert_eq!(rt; sent.as_slice(), b"source parse 1 a/b.v:1:9 -\n".as_slice());
+    let files = vec![in alloc; file(alloc, "w.v", "", "")?]?;
+    let (_, sent) = answer(&rt, alloc, ["run", "w.v", "out"].as_slice(), files)?;
+    assert_eq!(rt; sent.as_slice(), b"source first 1 - -\n".as_slice());
     Ok(())
 }
 

@@ -1,6 +1,7 @@
 ghost use Rattle.std.specs.Prelude.{◌≡◌, ◌≤◌, map, string_bytes, IfOk};
 ghost use Rattle.fv_base.specs.Outside.{SameFiles};
 ghost use Rattle.rvf_core.specs.Command.{command_of};
+ghost use Rattle.rvf_core.specs.Report.{outside};
 ghost use Rattle.rvf_core.specs.Run.{Answers, Checks, IsExact, Refutes, SaysOf};
 ghost use Rattle.rvf_core.specs.Status.{ends};
 ghost use Rattle.rvf_core.specs.Unread.{Unread};
@@ -36,15 +37,15 @@ pub fn run<R: Threads + Sync, F: Files, O: Out>(
     // Each status has its cause, and exactly its files and lines were delivered.
     ensures answer { Answers result (record {
       words = map string_bytes words.now;
-      before = record { held = F.held files.old; misses = F.misses files.old; faults = F.faults files.old; sent = O.sent out.old; out_faults = O.faults out.old };
-      now = record { held = F.held files.new; misses = F.misses files.new; faults = F.faults files.new; sent = O.sent out.new; out_faults = O.faults out.new };
+      before = outside (F.held files.old) (F.misses files.old) (F.faults files.old) (O.sent out.old) (O.faults out.old);
+      now = outside (F.held files.new) (F.misses files.new) (F.faults files.new) (O.sent out.new) (O.faults out.new);
     }) }
 
     // Each cause has its status.
     ensures exact { IsExact result (record {
       words = map string_bytes words.now;
-      before = record { held = F.held files.old; misses = F.misses files.old; faults = F.faults files.old; sent = O.sent out.old; out_faults = O.faults out.old };
-      now = record { held = F.held files.new; misses = F.misses files.new; faults = F.faults files.new; sent = O.sent out.new; out_faults = O.faults out.new };
+      before = outside (F.held files.old) (F.misses files.old) (F.faults files.old) (O.sent out.old) (O.faults out.old);
+      now = outside (F.held files.new) (F.misses files.new) (F.faults files.new) (O.sent out.new) (O.faults out.new);
     }) }
 {
     answered(alloc, words, files, out)
@@ -54,8 +55,8 @@ pub fn run<R: Threads + Sync, F: Files, O: Out>(
 fn answered<F: Files, O: Out>(alloc: Global, words: &[String], files: &mut F, out: &mut O) -> Status
     ensures { Answers result (record {
       words = map string_bytes words.now;
-      before = record { held = F.held files.old; misses = F.misses files.old; faults = F.faults files.old; sent = O.sent out.old; out_faults = O.faults out.old };
-      now = record { held = F.held files.new; misses = F.misses files.new; faults = F.faults files.new; sent = O.sent out.new; out_faults = O.faults out.new };
+      before = outside (F.held files.old) (F.misses files.old) (F.faults files.old) (O.sent out.old) (O.faults out.old);
+      now = outside (F.held files.new) (F.misses files.new) (F.faults files.new) (O.sent out.new) (O.faults out.new);
     }) }
 {
     match report_of(alloc, words, files) {
@@ -121,7 +122,7 @@ fn check<F: Files>(
     ensures faults_grow { F.faults files.old ≤ F.faults files.new }
 {
     match files.read(alloc, file) {
-        Ok(bytes) => judge(alloc, outdir, bytes.as_slice()),
+        Ok(bytes) => judge(alloc, file, outdir, bytes.as_slice()),
         Err(fault) => unread(alloc, file, fault),
     }
 }

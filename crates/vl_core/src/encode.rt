@@ -12,6 +12,7 @@ ghost use Rattle.vl_core.specs.Encoding.{Encodes};
 ghost use Rattle.vl_core.specs.Places as placed;
 
 use crate::expr::{push_expr, size_of, span_of};
+use crate::few::are_few;
 use crate::gates::{push_clause, push_fixed_bit, push_unset};
 use crate::layout::{bits_of, end_of, start_named, starts_of};
 use crate::numbers::{push_constant, push_copies, push_sets};
@@ -171,10 +172,8 @@ fn push_property(alloc: Global, formula: &mut Formula, ports: &[FirstPort]) -> R
     push_failing(alloc, formula, valid, insn, trap, rd_addr, mem_wmask)
 }
 
-/// The formula of a module, and where the bits of its ports stand in it.
-///
-/// Its variables and clauses grow with the ports and the operands of the expressions: no operand is written twice.
-pub fn first_clauses(alloc: Global, first: &First) -> Result<(Formula, List<FirstPlace>), Memory>
+/// The formula of a module that is small enough, and where the bits of its ports stand in it.
+fn encoded(alloc: Global, first: &First) -> Result<(Formula, List<FirstPlace>), Memory>
     requires plain { IsPlain first.now.ports }
     requires few_ports { length first.now.ports < 2 ^ 32 }
     requires few_nodes { spec.nodes_of first.now.ports < 2 ^ 32 }
@@ -190,4 +189,20 @@ pub fn first_clauses(alloc: Global, first: &First) -> Result<(Formula, List<Firs
     push_property(alloc, &mut formula, ports)?;
     let places = places_of(alloc, ports)?;
     Ok((formula, places))
+}
+
+/// The formula of a module, and where the bits of its ports stand in it.
+///
+/// Its variables and clauses grow with the ports and the operands of the expressions: no operand is written twice. A module
+/// of `2^32` ports or nodes wants memory, since a port's place has 32 bits and the variables' numbers are kept in 64.
+pub fn first_clauses(alloc: Global, first: &First) -> Result<(Formula, List<FirstPlace>), Memory>
+    requires { IsPlain first.now.ports }
+    ensures encodes { IfOk result (λ r. Encodes first.now.ports r.0 r.1) }
+    ensures places { IfOk result (λ r. r.1 ≡ placed.places_of first.now.ports) }
+    ensures linear { IfOk result (λ r. r.0.vars ≤ 32 * length first.now.ports + 65 * spec.nodes_of first.now.ports) }
+{
+    if !are_few(first.ports.as_slice()) {
+        return Err(Memory);
+    }
+    encoded(alloc, first)
 }

@@ -3,6 +3,7 @@
 
 mod encode;
 mod expr;
+mod few;
 mod gates;
 mod layout;
 mod numbers;
@@ -15,3 +16,4 @@ mod tests;
 pub use encode::first_clauses;
 pub use place::FirstPlace;
 pub use places::numbers_at;
+pub use vl_first::first_of;

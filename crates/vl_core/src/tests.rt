@@ -107,9 +107,7 @@ fn named(
 }
 
 fn module(alloc: Global) -> Result<First, Memory>
-    ensures plain { IfOk result (λ f. IsPlain f.ports) }
-    ensures ports { IfOk result (λ f. length f.ports < 2 ^ 32) }
-    ensures nodes { IfOk result (λ f. nodes_of f.ports < 2 ^ 32) }
+    ensures { IfOk result (λ f. IsPlain f.ports) }
 {
     let clock = named(alloc, b"clock".as_slice(), 1, None)?;
     let reset = named(alloc, b"reset".as_slice(), 1, None)?;

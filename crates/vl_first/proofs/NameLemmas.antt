@@ -10,8 +10,8 @@ use Rattle.std.specs.Str.{bytes_eq}
 use Rattle.std.specs.declared.alloc.Global.{Global}
 use Rattle.std.specs.Prelude.{Vec}
 use Rattle.vl_first.specs.Plain.{is_among, names_differ}
-use Rattle.vl_first.specs.Meaning.{place_of, written_names}
-use Rattle.vl_first.specs.declared.written.WrittenPort.{WrittenPort}
+use Rattle.vl_first.specs.FirstForm.{head_names, place_of}
+use Rattle.vl_first.specs.declared.head.Head.{Head}
 use Rattle.vl_first.proofs.Options.{and_true, or_false, or_true, some_equal, none_some, some_none, chosen}
 
 pub same_tests : (x y : Bool) → (x ≡ true → y ≡ true) → (y ≡ true → x ≡ true) → x ≡ y
@@ -127,29 +127,29 @@ differ-twice (n ∷ front) text rest a =
     ]
 
 -- the names so far, and those that are left
-pub record NamesOn (ports : List WrittenPort) (names : List (List ℕ)) (i : ℕ) : Type 0 where
+pub record NamesOn (heads : List Head) (names : List (List ℕ)) (i : ℕ) : Type 0 where
   pub differ : names_differ names ≡ true
-  pub whole : written_names ports ≡ names ++ written_names (drop i ports)
+  pub whole : head_names heads ≡ names ++ head_names (drop i heads)
 
-pub names_more : (ports : List WrittenPort) (names new : List (List ℕ)) (i : ℕ) (p : WrittenPort) → NamesOn ports names i → drop i ports ≡ p ∷ drop (i + 1) ports
-    → is_among p.name names ≡ false → new ≡ names ++ p.name ∷ [] → NamesOn ports new (i + 1)
-names_more ports names new i p on d a n =
-    let P : List (List ℕ) → Type 0 = λ x. NamesOn ports x (i + 1) in
+pub names_more : (heads : List Head) (names new : List (List ℕ)) (i : ℕ) (p : Head) → NamesOn heads names i → drop i heads ≡ p ∷ drop (i + 1) heads
+    → is_among p.name names ≡ false → new ≡ names ++ p.name ∷ [] → NamesOn heads new (i + 1)
+names_more heads names new i p on d a n =
+    let P : List (List ℕ) → Type 0 = λ x. NamesOn heads x (i + 1) in
     subst P (sym n) (record {
       differ = differ-push names p.name on.differ a;
-      whole = on.whole ∙ ap (λ x. names ++ written_names x) d ∙ sym (append_assoc names (p.name ∷ []) (written_names (drop (i + 1) ports)));
+      whole = on.whole ∙ ap (λ x. names ++ head_names x) d ∙ sym (append_assoc names (p.name ∷ []) (head_names (drop (i + 1) heads)));
     })
 
-pub names_twice : (ports : List WrittenPort) (names : List (List ℕ)) (i : ℕ) (p : WrittenPort) → NamesOn ports names i → drop i ports ≡ p ∷ drop (i + 1) ports
-    → is_among p.name names ≡ true → names_differ (written_names ports) ≡ false
-names_twice ports names i p on d a =
-    ap names_differ (on.whole ∙ ap (λ x. names ++ written_names x) d) ∙ differ-twice names p.name (written_names (drop (i + 1) ports)) a
+pub names_twice : (heads : List Head) (names : List (List ℕ)) (i : ℕ) (p : Head) → NamesOn heads names i → drop i heads ≡ p ∷ drop (i + 1) heads
+    → is_among p.name names ≡ true → names_differ (head_names heads) ≡ false
+names_twice heads names i p on d a =
+    ap names_differ (on.whole ∙ ap (λ x. names ++ head_names x) d) ∙ differ-twice names p.name (head_names (drop (i + 1) heads)) a
 
-pub names_step : (ports : List WrittenPort) (names new : List (List ℕ)) (i : ℕ) (p : WrittenPort) (text : List ℕ) (fresh : Bool) → NamesOn ports names i → drop i ports ≡ p ∷ drop (i + 1) ports
-    → text ≡ p.name → MatchBool fresh ((is_among text names ≡ false) × (new ≡ names ++ text ∷ [])) (is_among text names ≡ true) → MatchBool fresh (NamesOn ports new (i + 1)) (names_differ (written_names ports) ≡ false)
-names_step ports names new i p text true on d t m =
-    names_more ports names new i p on d (ap (λ x. is_among x names) (sym t) ∙ m.0) (m.1 ∙ ap (λ x. names ++ x ∷ []) t)
-names_step ports names new i p text false on d t m = names_twice ports names i p on d (ap (λ x. is_among x names) (sym t) ∙ m)
+pub names_step : (heads : List Head) (names new : List (List ℕ)) (i : ℕ) (p : Head) (text : List ℕ) (fresh : Bool) → NamesOn heads names i → drop i heads ≡ p ∷ drop (i + 1) heads
+    → text ≡ p.name → MatchBool fresh ((is_among text names ≡ false) × (new ≡ names ++ text ∷ [])) (is_among text names ≡ true) → MatchBool fresh (NamesOn heads new (i + 1)) (names_differ (head_names heads) ≡ false)
+names_step heads names new i p text true on d t m =
+    names_more heads names new i p on d (ap (λ x. is_among x names) (sym t) ∙ m.0) (m.1 ∙ ap (λ x. names ++ x ∷ []) t)
+names_step heads names new i p text false on d t m = names_twice heads names i p on d (ap (λ x. is_among x names) (sym t) ∙ m)
 
 pub at_true : (b : Bool) (P Q : Type 0) → b ≡ true → MatchBool b P Q → P
 at_true true P Q e m = m

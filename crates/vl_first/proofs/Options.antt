@@ -1,6 +1,5 @@
 -- Tests and options, taken apart.
-use Rattle.std.proofs.Common.{◌≡◌, Bool, true, false, ◌&&◌, ◌||◌, cond, Option, Some, None, option_map, option_and_then, ◌⊎◌, inl, inr, refl, ap}
-use Rattle.vl_first.specs.Scan.{pair}
+use Rattle.std.proofs.Common.{◌≡◌, Bool, true, false, ◌&&◌, ◌||◌, cond, Option, Some, None, option_and_then, ◌⊎◌, inl, inr, refl}
 
 pub and_true : (a b : Bool) → (a && b) ≡ true → (a ≡ true) × (b ≡ true)
 and_true true b e = (refl, e)
@@ -30,16 +29,6 @@ none_some x e = cc
 
 pub some_none : {X : Type 0} (x : X) → Some x ≡ None → ⊥
 some_none x e = cc
-
-pub mapped : {X Y : Type 0} (f : X → Y) (o : Option X) (y : Y) → option_map f o ≡ Some y → (x : X) × (o ≡ Some x) × (f x ≡ y)
-mapped f None y e = absurd (none_some y e)
-mapped f (Some x) y e = (x, refl, some_equal (f x) y e)
-
-pub first_equal : {X Y : Type 0} (a b : X) (x y : Y) → pair a x ≡ pair b y → a ≡ b
-first_equal {X} {Y} a b x y e = let f : X × Y → X = λ p. p.0 in ap f e
-
-pub second_equal : {X Y : Type 0} (a b : X) (x y : Y) → pair a x ≡ pair b y → x ≡ y
-second_equal {X} {Y} a b x y e = let f : X × Y → Y = λ p. p.1 in ap f e
 
 pub bound : {X Y : Type 0} (f : X → Option Y) (o : Option X) (y : Y) → option_and_then f o ≡ Some y → (x : X) × (o ≡ Some x) × (f x ≡ Some y)
 bound f None y e = absurd (none_some y e)

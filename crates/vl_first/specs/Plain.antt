@@ -51,6 +51,17 @@ has_plain_clock p = not (is_clock p.name) || (is_none p.output && (p.width == 1)
 abbrev pub has_output : List FirstPort → List ℕ → ℕ → Bool
 has_output ports name width = list_any (λ p. bytes_eq p.name name && ((p.width == width) && is_some p.output)) ports
 
+-- what the property `ill` speaks of
+abbrev pub has_ill_outputs : List FirstPort → Bool
+has_ill_outputs ports =
+    has_output ports (codes "rvfi_valid") 1
+    && (has_output ports (codes "rvfi_insn") 32
+    && (has_output ports (codes "rvfi_trap") 1 && (has_output ports (codes "rvfi_rd_addr") 5 && has_output ports (codes "rvfi_mem_wmask") 4)))
+
+-- expressions read inputs, clocks are inputs of one bit, and the outputs of `ill` are there
+abbrev pub is_plain : List FirstPort → Bool
+is_plain ports = list_all (output_reads_inputs ports) ports && (list_all has_plain_clock ports && has_ill_outputs ports)
+
 pub record IsPlain (ports : List FirstPort) : Type 0 where
   pub widths : list_all has_width ports ≡ true
   pub names : names_differ (names_of ports) ≡ true

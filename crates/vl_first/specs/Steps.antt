@@ -1,41 +1,28 @@
--- How a written file is judged, a step at a time.
-use Rattle.std.specs.Prelude.{ℕ, zero, suc, ◌+◌, ◌^◌, Bool, false, ◌&&◌, nat_le, nat_lt, if◌then◌else◌, List, [], ◌∷◌, Option, None, Some, is_none, slice_get, codes}
-use Rattle.std.specs.List.{list_all}
+-- How the assignments are put to the outputs, a step at a time.
+use Rattle.std.specs.Prelude.{ℕ, zero, suc, Bool, false, ◌&&◌, ◌||◌, not, nat_le, if◌then◌else◌, List, [], ◌∷◌, Option, None, Some, is_some, is_none, slice_get}
+use Rattle.std.specs.List.{list_all, zip}
 use Rattle.std.specs.Option.{option_map_or}
-use Rattle.vl_first.specs.Expr.{Expr, number, port, complement, pick}
-use Rattle.vl_first.specs.Plain.{has_plain_clock, output_reads_inputs, has_output}
-use Rattle.vl_first.specs.Written.{Written, digits, name, bracket, tilde, operation, choice}
-use Rattle.vl_first.specs.Reading.{◌>>=◌}
-use Rattle.vl_first.specs.Meaning.{decimal, place_of, joined, has_lawful_clock}
+use Rattle.vl_tree.specs.Expr as tree
+use Rattle.vl_tree.specs.Item.{Item}
+use Rattle.vl_tree.specs.Lval.{Lval}
+use Rattle.vl_tree.specs.declared.part.Assignment.{Assignment}
+use Rattle.vl_first.specs.Expr.{Expr}
+use Rattle.vl_first.specs.FirstForm.{Assigned, assigned_to, own_assignments, place_of}
+use Rattle.vl_first.specs.Options.{◌>>=◌}
 use Rattle.vl_first.specs.declared.form.FirstPort.{FirstPort}
-use Rattle.vl_first.specs.declared.written.WrittenPort.{WrittenPort}
-use Rattle.vl_first.specs.declared.written.WrittenAssign.{WrittenAssign}
+use Rattle.vl_first.specs.declared.head.Head.{Head}
 
--- the number of 32 bits that the digits stand for
-abbrev pub fitting : List ℕ → Option ℕ
-fitting text = if nat_lt (decimal text) (2 ^ 32) then Some (decimal text) else None
+-- from 1 to 32 bits
+abbrev pub has_width : Head → Bool
+has_width h = nat_le 1 h.width && nat_le h.width 32
 
-unfoldable pub resolved : List (List ℕ) → Written → Option Expr
-resolved names (digits text) = fitting text >>= λ n. Some (number n)
-resolved names (name text) = Some (port (place_of names text))
-resolved names (bracket a) = resolved names a
-resolved names (tilde a) = resolved names a >>= λ x. Some (complement x)
-resolved names (operation o a b) = resolved names a >>= λ x. resolved names b >>= λ y. Some (joined o x y)
-resolved names (choice c a b) = resolved names c >>= λ z. resolved names a >>= λ x. resolved names b >>= λ y. Some (pick z x y)
+abbrev pub Step : Type 0
+Step = List FirstPort → Option (List FirstPort)
 
--- the width of a range, where it is lawful
-unfoldable pub width_at : Option (List ℕ) → Option ℕ
-width_at None = Some 1
-width_at (Some high) = if nat_le (decimal high) 31 then Some (decimal high + 1) else None
-
--- a port with no expression yet
-unfoldable pub bare_port : WrittenPort → Option FirstPort
-bare_port p =
-    width_at p.range >>= λ width. if has_lawful_clock p then Some (record { name = p.name; width = width; output = None }) else None
-
-unfoldable pub bare_ports : List WrittenPort → Option (List FirstPort)
-bare_ports [] = Some []
-bare_ports (p ∷ ps) = bare_port p >>= λ x. bare_ports ps >>= λ xs. Some (x ∷ xs)
+-- one step for each item, in order
+unfoldable pub each : {X : Type 0} → (X → Step) → List X → Step
+each step [] ports = Some ports
+each step (x ∷ xs) ports = step x ports >>= each step xs
 
 -- the ports with an expression at a place
 abbrev pub with_output : List FirstPort → ℕ → Expr → List FirstPort
@@ -44,21 +31,22 @@ with_output (p ∷ ps) zero e = record { name = p.name; width = p.width; output 
 with_output (p ∷ ps) (suc i) e = p ∷ with_output ps i e
 
 -- an output stands at the place, and it has no expression yet
-abbrev pub is_open : List WrittenPort → List FirstPort → ℕ → Bool
-is_open written ports i = option_map_or (λ p. p.is_output) (slice_get written i) false && option_map_or (λ p. is_none p.output) (slice_get ports i) false
+abbrev pub is_open : List Head → List FirstPort → ℕ → Bool
+is_open heads ports i = option_map_or (λ h. h.is_output) (slice_get heads i) false && option_map_or (λ p. is_none p.output) (slice_get ports i) false
 
-unfoldable pub put_all : List (List ℕ) → List WrittenPort → List FirstPort → List WrittenAssign → Option (List FirstPort)
-put_all names written ports [] = Some ports
-put_all names written ports (a ∷ more) =
-    let place = place_of names a.name in
-    if is_open written ports place then (resolved names a.expr >>= λ e. put_all names written (with_output ports place e) more) else None
+unfoldable pub put : List (List ℕ) → List Head → Assigned → Step
+put names heads a ports =
+    let place = place_of names a.name in if is_open heads ports place then Some (with_output ports place a.expr) else None
 
-abbrev pub has_ill_outputs : List FirstPort → Bool
-has_ill_outputs ports =
-    has_output ports (codes "rvfi_valid") 1
-    && (has_output ports (codes "rvfi_insn") 32
-    && (has_output ports (codes "rvfi_trap") 1 && (has_output ports (codes "rvfi_rd_addr") 5 && has_output ports (codes "rvfi_mem_wmask") 4)))
+unfoldable pub put_to : List (List ℕ) → List Head → Lval → tree.Expr → Step
+put_to names heads target e ports = assigned_to names target e >>= λ a. put names heads a ports
 
--- what of plain ports the rules of the written file don't give
-abbrev pub is_plain : List FirstPort → Bool
-is_plain ports = list_all (output_reads_inputs ports) ports && (list_all has_plain_clock ports && has_ill_outputs ports)
+abbrev pub put_assignment : List (List ℕ) → List Head → Assignment → Step
+put_assignment names heads x ports = put_to names heads x.target x.value ports
+
+unfoldable pub put_item : List (List ℕ) → List Head → Item → Step
+put_item names heads item ports = own_assignments item >>= λ xs. each (put_assignment names heads) xs ports
+
+-- each output has an expression
+abbrev pub outputs_assigned : List Head → List FirstPort → Bool
+outputs_assigned heads ports = list_all (λ x. not x.0.is_output || is_some x.1.output) (zip heads ports)

@@ -1,14 +1,11 @@
 use fv_base::Memory as NoMemory;
 use std::alloc::{AllocError, AllocFailed};
-use thiserror::Error;
 
-/// Why a file was not read.
-#[derive(Debug, Clone, Copy, PartialEq, Eq, Error)]
-pub enum FirstFault {
-    /// The bytes are not of the first form.
-    #[error("the file is not of the first form")]
+/// Why a tree gives no module.
+#[derive(Clone, Copy)]
+pub(crate) enum FirstFault {
+    /// It isn't of the first form.
     NotFirst,
-    #[error("no memory is left")]
     Memory,
 }
 

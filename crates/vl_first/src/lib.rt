@@ -1,24 +1,19 @@
-//! The first form of a file: one module without registers, read from its bytes, and what numbers for its ports violate.
+//! The first form of a source: one module without registers, read off its tree, and what numbers for its ports violate.
 #![tactic(auto)]
 
-mod cursor;
+mod assigning;
 mod expr;
 mod expression;
 mod fault;
+mod first;
 mod form;
-mod judging;
-mod lexer;
+mod head;
 mod names;
-mod parser;
 mod plain;
-mod read;
 mod shared;
 #[cfg(test)]
 mod tests;
-mod token;
-mod written;
 
 pub use expr::{FirstExpr, FirstKind};
-pub use fault::FirstFault;
+pub use first::first_of;
 pub use form::{First, FirstPort};
-pub use read::read_first;

@@ -1,12 +1,12 @@
 //! The names of the ports, with a fast look-up.
 
 ghost use Rattle.std.specs.Prelude.{◌≡◌, ◌≤◌, true, false, [], ◌∷◌, ◌++◌, length, IfOk, IfErr, MatchBool};
+ghost use Rattle.vl_first.specs.FirstForm.{head_names, place_of};
+ghost use Rattle.vl_first.specs.Outcome.{OnNotFirst};
 ghost use Rattle.vl_first.specs.Plain.{is_among, names_differ};
-ghost use Rattle.vl_first.specs.Meaning.{written_names, place_of};
-ghost use Rattle.vl_first.specs.Scan.{OnNotFirst};
 
 use crate::fault::FirstFault;
-use crate::written::WrittenPort;
+use crate::head::Head;
 use fv_base::Memory;
 use indexmap::IndexSet;
 use std::alloc::Global;
@@ -56,14 +56,14 @@ impl Names {
     }
 }
 
-/// The names of the ports. Where one stands twice, the file is refused.
-pub(crate) fn port_names(alloc: Global, ports: &[WrittenPort]) -> Result<Names, FirstFault>
-    ensures found { IfOk result (λ names. (names_differ (written_names ports.now) ≡ true) × (names ≡ written_names ports.now)) }
-    ensures none { IfErr result (λ e. OnNotFirst e (names_differ (written_names ports.now) ≡ false)) }
+/// The names of the ports. Where one stands twice, the source is refused.
+pub(crate) fn port_names(alloc: Global, heads: &[Head]) -> Result<Names, FirstFault>
+    ensures found { IfOk result (λ names. (names_differ (head_names heads.now) ≡ true) × (names ≡ head_names heads.now)) }
+    ensures none { IfErr result (λ e. OnNotFirst e (names_differ (head_names heads.now) ≡ false)) }
 {
     let mut names = Names::new(alloc);
-    for port in ports {
-        if !names.add(alloc, port.name.bytes())? {
+    for head in heads {
+        if !names.add(alloc, head.name.bytes())? {
             return Err(FirstFault::NotFirst);
         }
     }

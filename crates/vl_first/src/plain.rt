@@ -3,7 +3,6 @@
 ghost use Rattle.std.specs.Prelude.{◌≡◌, ◌==◌, ◌&&◌, ◌||◌, not};
 ghost use Rattle.std.specs.List.{list_all};
 ghost use Rattle.vl_first.specs.Plain as plain;
-ghost use Rattle.vl_first.specs.Steps as steps;
 
 use crate::expr::{FirstExpr, FirstKind};
 use crate::form::FirstPort;
@@ -66,7 +65,7 @@ fn has_output(ports: &[FirstPort], name: &[u8], width: u32) -> bool
 
 /// Whether the outputs that the check `ill` speaks of are there.
 fn has_ill_outputs(ports: &[FirstPort]) -> bool
-    ensures { result ≡ steps.has_ill_outputs ports.now }
+    ensures { result ≡ plain.has_ill_outputs ports.now }
 {
     has_output(ports, b"rvfi_valid", 1)
         && has_output(ports, b"rvfi_insn", 32)
@@ -89,7 +88,7 @@ fn have_plain_clocks(ports: &[FirstPort]) -> bool
 
 /// Whether the ports keep the rules that don't follow from how they are written.
 pub(crate) fn is_plain(ports: &[FirstPort]) -> bool
-    ensures { result ≡ steps.is_plain ports.now }
+    ensures { result ≡ plain.is_plain ports.now }
 {
     all_read_inputs(ports) && have_plain_clocks(ports) && has_ill_outputs(ports)
 }

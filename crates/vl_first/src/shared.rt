@@ -1,15 +1,13 @@
 //! That the public types may be shared among threads.
 
 use crate::expr::FirstExpr;
-use crate::fault::FirstFault;
 use crate::form::{First, FirstPort};
 
 fn is_shared<T: Send + Sync>(_value: &T) {}
 
 /// Each public type of this crate may be shared.
-pub(crate) fn are_shared(first: &First, port: &FirstPort, expr: &FirstExpr, fault: &FirstFault) {
+pub(crate) fn are_shared(first: &First, port: &FirstPort, expr: &FirstExpr) {
     is_shared(first);
     is_shared(port);
     is_shared(expr);
-    is_shared(fault);
 }

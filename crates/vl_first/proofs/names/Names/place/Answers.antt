@@ -1,5 +1,5 @@
 use Rattle.std.proofs.Common.{ap, ◌∙◌}
-use Rattle.vl_first.specs.Meaning.{place_of}
+use Rattle.vl_first.specs.FirstForm.{place_of}
 use Rattle.vl_first.proofs.NameLemmas.{place_found, place_lost}
 use Rattle.vl_first.proofs.names.Names.place.Goals as goal
 
