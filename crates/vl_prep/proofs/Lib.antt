@@ -8,3 +8,4 @@ pub mod Single
 pub mod ByRules
 pub mod Unwinding
 pub mod ByReading
+pub mod Places

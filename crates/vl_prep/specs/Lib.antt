@@ -7,3 +7,4 @@ pub mod Prep
 pub mod Groups
 pub mod Quiet
 pub mod Stands
+pub mod Places

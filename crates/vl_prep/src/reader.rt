@@ -5,6 +5,7 @@ ghost use Rattle.vl_prep.specs.Faults.{OnNotMemory};
 ghost use Rattle.vl_prep.specs.Groups.{IsPreprocessed};
 ghost use Rattle.vl_prep.specs.Macros.{held};
 ghost use Rattle.vl_prep.specs.Opens.{earliest};
+ghost use Rattle.vl_prep.specs.Places.{IsPlaced, IsPlacedFault};
 ghost use Rattle.vl_prep.specs.declared.reading.Reading.TheVariants as reading;
 ghost use Rattle.vl_prep.specs.Prep as specs;
 ghost use Rattle.vl_prep.specs.Stands.{done_of, stand_of, Goes, Comes, IsAllClosed, OnOkFresh};
@@ -24,7 +25,7 @@ const LEVELS: u32 = 32;
 /// The tokens of the chosen groups, each use of a macro replaced by what its text comes to there, and the macros that
 /// are defined at the end (IEEE 1364-2005, clause 19). A token from a macro has the place of the outermost use. Tokens that
 /// form no such groups are refused, as `groups_decide` says, and a fault is answered exactly where it comes first.
-#[tactic(auto, using(crate::proofs::ByReading::groups_of))]
+#[tactic(auto, using(crate::proofs::ByReading::groups_of, crate::proofs::Places::placed_output, crate::proofs::Places::placed_fault))]
 pub fn prep(
     alloc: Global,
     macros: Macros,
@@ -34,6 +35,7 @@ pub fn prep(
     ensures exactly { MatchResult result
         (λ r. specs.preprocessed (held macros) tokens.now ≡ Ok (record { macros = held r.1; output = r.0.items }))
         (λ f. OnNotMemory f (specs.preprocessed (held macros) tokens.now ≡ Err f)) }
+    ensures placed { MatchResult result (λ r. IsPlaced tokens.now r.0.items) (λ f. IsPlacedFault tokens.now f) }
 {
     let mut prepared = Prepared::new(alloc, macros);
     let site = Site {
