@@ -19,6 +19,7 @@ use Rattle.vl_first.specs.Violation.{within, violates}
 use Rattle.vl_first.specs.declared.form.FirstPort.{FirstPort}
 use Rattle.vl_tree.specs.declared.source.Source.{Source}
 use Rattle.rvf_text.specs.SourceText.{IsSourceOf, IsRefused, Takes, Turns, Reads}
+use Rattle.rvf_text.proofs.Placing.{refused_in}
 use Rattle.rvf_text.specs.declared.fault.TextFault.{TextFault}
 use Rattle.rvf_text.specs.declared.fault.TextFault.TheVariants as text
 use Rattle.rvf_core.specs.Lines.{pass_line, one_line}
@@ -139,6 +140,7 @@ module _ (bytes : List ℕ) (tree : Source) (taken : Takes (IsSourceOf bytes) (I
   Refused-first name report none is = record {
     refusal = None;
     refuses = record { tree = tree; source = taken.is; none = none };
+    placed = tt;
     only = λ other refuses. only other refuses;
     none = λ ports h. apart (first_of tree) ports (sym (first_of-same h.tree h.source) ∙ h.first) none;
     report_is = is;
@@ -163,6 +165,7 @@ pub Refused-turned : (bytes name : List ℕ) (fault : TextFault) (report : List 
 Refused-turned bytes name fault report turned is = record {
   refusal = Some fault;
   refuses = turned.is;
+  placed = refused_in bytes fault turned.is;
   only = λ other refuses. only other refuses;
   none = λ ports h. turned.none h.tree h.source;
   report_is = is;

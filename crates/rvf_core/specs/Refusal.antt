@@ -7,11 +7,13 @@ use Rattle.vl_token.specs.declared.fault.LexFault.TheVariants as lex
 use Rattle.vl_token.specs.Fault.{number_of}
 use Rattle.vl_prep.specs.declared.fault.PrepFault.{PrepFault}
 use Rattle.vl_prep.specs.declared.fault.PrepFault.TheVariants as prep
+use Rattle.vl_prep.specs.Places.{fault_place}
 use Rattle.vl_parse.specs.declared.fault.ParseFault.{ParseFault}
 use Rattle.vl_parse.specs.declared.fault.ParseFault.TheVariants as parse
 use Rattle.vl_tree.specs.declared.source.Source.{Source}
 use Rattle.vl_first.specs.FirstForm.{first_of}
 use Rattle.vl_first.specs.declared.form.FirstPort.{FirstPort}
+use Rattle.rvf_text.specs.Places.{lex_place, parse_place, IsPlacedIn}
 use Rattle.rvf_text.specs.SourceText.{IsSourceOf, IsRefused}
 use Rattle.rvf_text.specs.declared.fault.TextFault.{TextFault}
 use Rattle.rvf_text.specs.declared.fault.TextFault.TheVariants.{Lex, Prep, Parse, Memory}
@@ -37,6 +39,11 @@ abbrev pub Refuses : Option TextFault → List ℕ → Type 0
 Refuses (Some fault) bytes = IsRefused bytes fault
 Refuses None bytes = IsNotFirst bytes
 
+-- a part's fault is at a place in the bytes; that the tree isn't of the first form has no place
+abbrev pub IsPlaced : List ℕ → Option TextFault → Type 0
+IsPlaced bytes (Some fault) = IsPlacedIn bytes fault
+IsPlaced bytes None = Unit {0}
+
 abbrev pub prep_number : PrepFault → ℕ
 prep_number (prep.UnknownMacro name at) = 1
 prep_number (prep.UnbalancedIf at) = 2
@@ -52,31 +59,6 @@ parse_number (parse.Syntax at) = 1
 parse_number (parse.TooDeep at) = 2
 parse_number (parse.Outside at word) = 3
 parse_number parse.Memory = 4
-
-abbrev pub lex_place : LexFault → Option Pos
-lex_place (lex.NotAscii at) = Some at
-lex_place (lex.BadNumber at) = Some at
-lex_place (lex.OpenComment at) = Some at
-lex_place (lex.BadChar at) = Some at
-lex_place (lex.TooManyTokens at) = Some at
-lex_place (lex.OpenString at) = Some at
-lex_place lex.Memory = None
-
-abbrev pub prep_place : PrepFault → Option Pos
-prep_place (prep.UnknownMacro name at) = Some at
-prep_place (prep.UnbalancedIf at) = Some at
-prep_place (prep.MacroArgs at) = Some at
-prep_place (prep.MacroDepth at) = Some at
-prep_place (prep.Include at) = Some at
-prep_place (prep.TooManyTokens at) = Some at
-prep_place (prep.NoName at) = Some at
-prep_place prep.Memory = None
-
-abbrev pub parse_place : ParseFault → Option Pos
-parse_place (parse.Syntax at) = Some at
-parse_place (parse.TooDeep at) = Some at
-parse_place (parse.Outside at word) = Some at
-parse_place parse.Memory = None
 
 -- what a refusal says besides its place
 abbrev pub prep_detail : PrepFault → List ℕ
@@ -99,7 +81,7 @@ abbrev pub lex_line : List ℕ → LexFault → List ℕ
 lex_line name fault = source_line (codes "source lex") (number_of fault) (place_text name (lex_place fault)) (codes "-")
 
 abbrev pub prep_line : List ℕ → PrepFault → List ℕ
-prep_line name fault = source_line (codes "source prep") (prep_number fault) (place_text name (prep_place fault)) (prep_detail fault)
+prep_line name fault = source_line (codes "source prep") (prep_number fault) (place_text name (fault_place fault)) (prep_detail fault)
 
 abbrev pub parse_line : List ℕ → ParseFault → List ℕ
 parse_line name fault = source_line (codes "source parse") (parse_number fault) (place_text name (parse_place fault)) (parse_detail fault)

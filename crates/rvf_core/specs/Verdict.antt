@@ -11,7 +11,7 @@ use Rattle.vl_core.specs.declared.place.FirstPlace.{FirstPlace}
 use Rattle.vl_first.specs.Violation.{violates}
 use Rattle.vl_first.specs.declared.form.FirstPort.{FirstPort}
 use Rattle.rvf_text.specs.declared.fault.TextFault.{TextFault}
-use Rattle.rvf_core.specs.Refusal.{IsFirst, Refuses, refusal_line}
+use Rattle.rvf_core.specs.Refusal.{IsFirst, Refuses, IsPlaced, refusal_line}
 use Rattle.rvf_core.specs.Lines.{pass_line, spent_line, fail_report}
 use Rattle.rvf_core.specs.declared.report.Delivery.{Delivery}
 use Rattle.rvf_core.specs.declared.report.Delivery.TheVariants.{File, Line}
@@ -84,10 +84,11 @@ pub record Decides (status : Status) (outdir bytes : List ℕ) (report : List De
   pub unrefused : (other : Option TextFault) → Refuses other bytes → ⊥
   pub decision : Decision status outdir ports report
 
--- the bytes are refused, for this and nothing else
+-- the bytes are refused, for this and nothing else, at a place in them
 pub record Refused (name bytes : List ℕ) (report : List Delivery) : Type 0 where
   pub refusal : Option TextFault
   pub refuses : Refuses refusal bytes
+  pub placed : IsPlaced bytes refusal
   pub only : (other : Option TextFault) → Refuses other bytes → other ≡ refusal
   pub none : (ports : List FirstPort) → IsFirst bytes ports → ⊥
   pub report_is : report ≡ Line (refusal_line name refusal) ∷ []

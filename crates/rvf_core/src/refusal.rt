@@ -2,6 +2,8 @@
 
 ghost use Rattle.std.specs.Prelude.{◌≡◌, IfOk};
 ghost use Rattle.vl_token.specs.Fault.{number_of};
+ghost use Rattle.rvf_text.specs.Places as places;
+ghost use Rattle.vl_prep.specs.Places.{fault_place};
 ghost use Rattle.rvf_core.specs.Refusal as spec;
 
 use crate::certificate::{ended, push_word};
@@ -56,7 +58,7 @@ fn parse_number(fault: &ParseFault) -> u8
 }
 
 fn lex_place(fault: LexFault) -> Option<Pos>
-    ensures { result ≡ spec.lex_place fault }
+    ensures { result ≡ places.lex_place fault }
 {
     match fault {
         LexFault::NotAscii(at)
@@ -70,7 +72,7 @@ fn lex_place(fault: LexFault) -> Option<Pos>
 }
 
 fn prep_place(fault: &PrepFault) -> Option<Pos>
-    ensures { result ≡ spec.prep_place fault.now }
+    ensures { result ≡ fault_place fault.now }
 {
     match fault {
         PrepFault::UnknownMacro(_, at)
@@ -85,7 +87,7 @@ fn prep_place(fault: &PrepFault) -> Option<Pos>
 }
 
 fn parse_place(fault: &ParseFault) -> Option<Pos>
-    ensures { result ≡ spec.parse_place fault.now }
+    ensures { result ≡ places.parse_place fault.now }
 {
     match fault {
         ParseFault::Syntax(at) | ParseFault::TooDeep(at) | ParseFault::Outside(at, _) => Some(*at),

@@ -1,3 +1,4 @@
 pub mod Predefined
 pub mod SourceText
 pub mod Faults
+pub mod Places

@@ -1,7 +1,8 @@
 //! From the bytes of a text to its tree.
 
-ghost use Rattle.std.specs.Prelude.{◌≡◌};
+ghost use Rattle.std.specs.Prelude.{◌≡◌, IfErr};
 ghost use Rattle.rvf_text.specs.Faults as faults;
+ghost use Rattle.rvf_text.specs.Places.{IsPlacedIn};
 ghost use Rattle.rvf_text.specs.SourceText.{HasTree, IsRefused, IsSourceOf, IsTree, ParseRefuses, PrepRefuses, Reads};
 
 use crate::fault::TextFault;
@@ -67,7 +68,8 @@ fn prepared(alloc: Global, tokens: &[Token]) -> Result<Source, TextFault>
 ///
 /// A fault is that of the first of these parts that refuses.
 pub fn read_source(alloc: Global, bytes: &[u8]) -> Result<Source, TextFault>
-    ensures { Reads (IsSourceOf bytes.now) (IsRefused bytes.now) result }
+    ensures exactly { Reads (IsSourceOf bytes.now) (IsRefused bytes.now) result }
+    ensures placed { IfErr result (λ fault. IsPlacedIn bytes.now fault) }
 {
     match lex(alloc, bytes, 1, 1) {
         Ok(tokens) => prepared(alloc, tokens.as_slice()),
