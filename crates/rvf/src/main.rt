@@ -11,19 +11,39 @@ use fv_base::{Files, Out, RealFiles, RealOut};
 use rvf_core::{Status, run};
 use std::alloc::Global;
 use std::env::{self, Env};
-use std::io;
 use std::process::ExitCode;
-use std::thread::Threads;
+use std::thread::{self, Builder, Threads};
+use std::{io, rt};
+
+/// The bytes of the stack that the work gets, where they are to be had. A tree is dropped part by part, and regions of
+/// `generate` may stand in one another as deep as a text is long.
+const STACK: usize = 1 << 32;
 
 fn main(rt: HostRuntime) -> ExitCode {
     let alloc = rt.alloc();
-    let words = words(&rt, alloc);
+    thread::scope(thread::scope_env(), &rt, |scope| {
+        let worker = Builder::new()
+            .stack_size(STACK)
+            .spawn_scoped(scope, move || work(&rt, alloc));
+        match worker {
+            Ok(worker) => worker.join(&rt),
+            Err(_) => work(&rt, alloc),
+        }
+    })
+}
+
+/// The whole work, over the system's files and standard output.
+fn work<R: Threads + Sync + rt::Files + Print + Env + Alloc<A = Global>>(
+    rt: &R,
+    alloc: Global,
+) -> ExitCode {
+    let words = words(rt, alloc);
     exit(
-        &rt,
+        rt,
         alloc,
         words,
-        &mut RealFiles::new(&rt),
-        &mut RealOut::new(&rt),
+        &mut RealFiles::new(rt),
+        &mut RealOut::new(rt),
     )
 }
 
