@@ -1,64 +1,41 @@
 #!/usr/bin/env python3
-"""Times the parser on one flat module of assigns in a row, over a program that is made, proved and built in a temporary
-folder (some minutes). Not part of the gate.
+"""Times the parser on one flat module of assigns in a row, by runs of the proved program. Not part of the gate.
 
-Usage: tools/bench-parse.py   Prints the tokens, whether the answer is right, the seconds of the parser alone and the memory
-of the whole run. The seconds are those of the text less those of the same text behind a semicolon, which is refused at its
-first token.
+Usage: tools/bench-parse.py   Prints for each number of tokens whether the answers are right, the processor seconds of the
+parser, and those of the whole run with its memory. The parser's are those of the run less those of a run on the same text
+behind a semicolon, which the parser refuses at its first token. The fastest of three runs counts.
 """
 import os
 import subprocess
-import time
+import tempfile
 
-import made
-
-PROGRAM = """//! Reads a Verilog text from standard input, and says how many modules it has.
-#![tactic(auto)]
-
-use std::io::{self, Read};
-use vl_parse::{ParseFault, parse};
-use vl_token::lex;
-
-fn main(rt: HostRuntime) -> io::Result<()> {
-    let alloc = rt.alloc();
-    let mut bytes = Vec::new(alloc);
-    rt.stdin().read_to_end(&mut bytes)?;
-    let Ok(tokens) = lex(alloc, bytes.as_slice(), 1, 1) else {
-        println!(rt; "no tokens")?;
-        return Ok(());
-    };
-    match parse(alloc, tokens.as_slice()) {
-        Ok(source) => {
-            let count = source.modules.len();
-            println!(rt; "{count} modules")?;
-        }
-        Err(ParseFault::Syntax(_)) => println!(rt; "syntax")?,
-        Err(_) => println!(rt; "refused")?,
-    }
-    Ok(())
-}
-"""
+PROGRAM = os.path.join(os.path.dirname(os.path.abspath(__file__)), "..", "rvf")
 
 
-def run(program, text):
-    """Returns what the program says, its seconds, and its memory in megabytes."""
-    start = time.time()
-    process = subprocess.Popen([program], stdin=subprocess.PIPE, stdout=subprocess.PIPE)
-    process.stdin.write(text.encode())
-    process.stdin.close()
-    said = process.stdout.read().decode().strip()
-    usage = os.wait4(process.pid, 0)[2]
-    return said, time.time() - start, usage.ru_maxrss // 1024
+def run(text):
+    """Returns the line of `rvf run` on the text, its processor seconds, and its memory in megabytes."""
+    with tempfile.TemporaryDirectory() as folder:
+        with open(os.path.join(folder, "m.v"), "w") as file:
+            file.write(text)
+        process = subprocess.Popen([PROGRAM, "run", "m.v", "."], cwd=folder, stdout=subprocess.PIPE)
+        line = process.stdout.read().decode()
+        usage = os.wait4(process.pid, 0)[2]
+        return line, usage.ru_utime + usage.ru_stime, usage.ru_maxrss // 1024
+
+
+def fastest(text):
+    """Returns the fastest of three runs on the text."""
+    return min((run(text) for _ in range(3)), key=lambda found: found[1])
 
 
 def main():
-    with made.program("parsed", PROGRAM, ["vl_parse", "vl_token"]) as program:
-        for tokens in [500_000, 1_000_000, 2_000_000]:
-            text = "module m;\n" + "assign a = b;\n" * ((tokens - 4) // 5) + "endmodule\n"
-            refused, before, _ = run(program, ";" + text)
-            said, whole, memory = run(program, text)
-            right = (refused, said) == ("syntax", "1 modules")
-            print(f"{tokens} tokens: {'right' if right else 'WRONG'}, {whole - before:.2f} s, {memory} MB")
+    run("")
+    for tokens in [500_000, 1_000_000, 2_000_000]:
+        text = "module m;\n" + "assign a = b;\n" * ((tokens - 5) // 5) + "endmodule\n"
+        refused, before, _ = fastest(";" + text)
+        taken, whole, memory = fastest(text)
+        right = (refused, taken) == ("source parse 1 m.v:1:1 -\n", "source first 1 - -\n")
+        print(f"{tokens} tokens: {'right' if right else 'WRONG'}, parser {whole - before:.2f} s, run {whole:.2f} s, {memory} MB")
 
 
 main()
