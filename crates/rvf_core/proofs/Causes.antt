@@ -1,25 +1,14 @@
 -- From what was read to the report of a run.
-use Rattle.std.proofs.Common.{◌≡◌, ℕ, ◌≤◌, Bool, true, false, ◌||◌, List, [], ◌∷◌, Option, Some, None, Result, Ok, Err, IfOk, IfSome, ℤ, refl, sym, ap, ◌∙◌, subst, bytes_eq, arith}
+use Rattle.std.proofs.Common.{◌≡◌, ℕ, ◌≤◌, Bool, true, false, ◌||◌, List, [], ◌∷◌, Option, Some, None, Result, Ok, Err, IfOk, IfSome, refl, sym, ◌∙◌, subst, bytes_eq, arith}
 use Rattle.std.proofs.lemmas.Cmp.{nat_list_eq_equiv}
 use Rattle.fv_base.specs.Outside.{Told, ReadGives, Lacks, Rose, SameFiles}
 use Rattle.fv_base.specs.declared.files.FileFault.{FileFault}
 use Rattle.fv_base.specs.declared.files.FileFault.TheVariants as fault_of
-use Rattle.cnf_form.specs.Cnf.{Cnf}
-use Rattle.cnf_text.specs.Dimacs.{formula_of}
-use Rattle.cnf_text.specs.declared.fault.DimacsFault.{DimacsFault}
-use Rattle.lrat_check.specs.Steps.{judged}
-use Rattle.lrat_check.specs.Texts.{steps_of}
-use Rattle.lrat_check.specs.declared.lrat_fault.LratFault.{LratFault}
-use Rattle.lrat_check.specs.declared.step.Refuted.{Refuted}
-use Rattle.lrat_check.specs.declared.step.Step.{Step}
-use Rattle.lrat_check.specs.declared.step.StepFault.{StepFault}
 use Rattle.vl_first.specs.Plain.{is_among}
-use Rattle.rvf_core.specs.Certificate.{outcome, formula_report, proof_report, judgement}
 use Rattle.rvf_core.specs.Command.{Command, check, refute}
 use Rattle.rvf_core.specs.Lines.{absent_front, read_fault_front, named_line, one_line}
 use Rattle.rvf_core.specs.Run.{Seen, SaysOf, Checks, Refutes, Misses, FailsToRead, first_lacking}
 use Rattle.rvf_core.specs.Unread.{Unread}
-use Rattle.rvf_core.specs.Verdict.{Verdict}
 use Rattle.rvf_core.specs.declared.report.Delivery.{Delivery}
 use Rattle.rvf_core.specs.declared.report.Report.{Report}
 use Rattle.rvf_core.specs.declared.status.Status.{Status}
@@ -28,22 +17,6 @@ use Rattle.rvf_core.specs.declared.status.Status.TheVariants as s
 pub if_ok : {A E : Type 0} (P Q : A → Type 0) → ((a : A) → P a → Q a) → (r : Result A E) → IfOk r P → IfOk r Q
 if_ok P Q f (Ok a) p = f a p
 if_ok P Q f (Err e) p = tt
-
--- a verdict on the bytes that the file gave
-pub Checks-verdict : (file outdir : List ℕ) (seen : Seen) (bytes : List ℕ) → ReadGives seen.held file bytes
-    → (status : Status) (report : List Delivery) → Verdict status file outdir bytes report → Checks file outdir seen status report
-Checks-verdict file outdir seen bytes gives s.Passed report v = record { bytes = bytes; gives = gives; verdict = v }
-Checks-verdict file outdir seen bytes gives s.Failing report v = record { bytes = bytes; gives = gives; verdict = v }
-Checks-verdict file outdir seen bytes gives s.Spent report v = record { bytes = bytes; gives = gives; verdict = v }
-Checks-verdict file outdir seen bytes gives s.Usage report v = absurd v
-Checks-verdict file outdir seen bytes gives s.Config report v = absurd v
-Checks-verdict file outdir seen bytes gives s.Source report v = record { bytes = bytes; gives = gives; verdict = v }
-Checks-verdict file outdir seen bytes gives s.Absent report v = absurd v
-Checks-verdict file outdir seen bytes gives s.ReadFault report v = absurd v
-Checks-verdict file outdir seen bytes gives s.WriteFault report v = absurd v
-Checks-verdict file outdir seen bytes gives s.Heavy report v = absurd v
-Checks-verdict file outdir seen bytes gives s.Refused report v = absurd v
-Checks-verdict file outdir seen bytes gives s.Memory report v = absurd v
 
 same_bytes : (bytes : List ℕ) → bytes_eq bytes bytes ≡ true
 same_bytes bytes = nat_list_eq_equiv.refl bytes
@@ -71,11 +44,6 @@ lacks-earlier : (old new : Told) (name : List ℕ) → SameFiles old new → Lac
 lacks-earlier None new name same lacks = tt
 lacks-earlier (Some f) (Some g) name same lacks = sym (same name) ∙ lacks
 lacks-earlier (Some f) None name same lacks = absurd same
-
-pub gives-earlier : (old new : Told) (name bytes : List ℕ) → SameFiles old new → ReadGives new name bytes → ReadGives old name bytes
-gives-earlier None new name bytes same gives = tt
-gives-earlier (Some f) (Some g) name bytes same gives = sym (same name) ∙ gives
-gives-earlier (Some f) None name bytes same gives = absurd same
 
 -- the file is the first of some that gave no bytes, with its fault
 first_misses : (name : List ℕ) (more : List (List ℕ)) (seen : Seen) → Lacks seen.held name → Rose seen.misses seen.misses_now
@@ -133,50 +101,6 @@ Refutes-second_unread fault_of.Failed cnf proof bytes seen held misses faults re
       report_is = refl;
     })
 Refutes-second_unread fault_of.Memory cnf proof bytes seen held misses faults report gives same more_misses more_faults lacks missed failed u = absurd u
-
--- a certificate passes or is refused
-is_found : Status → Bool
-is_found s.Passed = true
-is_found s.Refused = true
-is_found status = false
-
-judgement-found : (verdict : Result Refuted StepFault) → is_found (judgement verdict).status ≡ true
-unfolding is_found
-judgement-found (Ok refuted) = refl
-judgement-found (Err fault) = refl
-
-proof-found : (clauses : List (List ℤ)) (steps : Result (List Step) LratFault) → is_found (proof_report clauses steps).status ≡ true
-unfolding is_found
-proof-found clauses (Err fault) = refl
-proof-found clauses (Ok steps) = judgement-found (judged clauses steps)
-
-formula-found : (formula : Result Cnf DimacsFault) (proof : List ℕ) → is_found (formula_report formula proof).status ≡ true
-unfolding is_found
-formula-found (Err fault) proof = refl
-formula-found (Ok formula) proof = proof-found formula.clauses (steps_of proof)
-
-by_status : (cnf proof : List ℕ) (seen : Seen) (clauses steps : List ℕ) → ReadGives seen.held cnf clauses → ReadGives seen.held proof steps
-    → (status : Status) (deliveries : List Delivery) → is_found status ≡ true → outcome clauses steps ≡ record { status = status; deliveries = deliveries }
-    → Refutes cnf proof seen status deliveries
-unfolding is_found
-by_status cnf proof seen clauses steps gives also s.Passed deliveries found p = record { clauses = clauses; gives_clauses = gives; steps = steps; gives_steps = also; found = p }
-by_status cnf proof seen clauses steps gives also s.Failing deliveries found p = cc
-by_status cnf proof seen clauses steps gives also s.Spent deliveries found p = cc
-by_status cnf proof seen clauses steps gives also s.Usage deliveries found p = cc
-by_status cnf proof seen clauses steps gives also s.Config deliveries found p = cc
-by_status cnf proof seen clauses steps gives also s.Source deliveries found p = cc
-by_status cnf proof seen clauses steps gives also s.Absent deliveries found p = cc
-by_status cnf proof seen clauses steps gives also s.ReadFault deliveries found p = cc
-by_status cnf proof seen clauses steps gives also s.WriteFault deliveries found p = cc
-by_status cnf proof seen clauses steps gives also s.Heavy deliveries found p = cc
-by_status cnf proof seen clauses steps gives also s.Refused deliveries found p = record { clauses = clauses; gives_clauses = gives; steps = steps; gives_steps = also; found = p }
-by_status cnf proof seen clauses steps gives also s.Memory deliveries found p = cc
-
--- what a certificate comes to, of the bytes that both files gave
-pub Refutes-found : (cnf proof : List ℕ) (seen : Seen) (clauses steps : List ℕ) → ReadGives seen.held cnf clauses → ReadGives seen.held proof steps
-    → (report : Report) → report ≡ outcome clauses steps → Refutes cnf proof seen report.status report.deliveries
-Refutes-found cnf proof seen clauses steps gives also report is =
-    by_status cnf proof seen clauses steps gives also report.status report.deliveries (ap (λ r. is_found r.status) is ∙ formula-found (formula_of clauses) steps) (sym is)
 
 -- counts that went up may go on
 abbrev pub later : Seen → ℕ → ℕ → Seen

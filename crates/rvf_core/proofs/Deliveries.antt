@@ -4,7 +4,7 @@ use Rattle.std.proofs.lemmas.List.{append-nil}
 use Rattle.fv_base.specs.Outside.{Told, Rose, SameFiles, Holds, HoldsSome, HoldsPart, Appends}
 use Rattle.fv_base.specs.declared.out.OutFault.{OutFault}
 use Rattle.fv_base.specs.declared.out.OutFault.TheVariants as out
-use Rattle.rvf_core.specs.Report.{Outside, told_with, held_after, lines_of, Delivers, PutsPart, LeavesPart, IsDelivered, IsDone, IsWritten, IsPut}
+use Rattle.rvf_core.specs.Report.{Outside, told_with, held_after, lines_of, Delivers, PutsPart, LeavesPart, IsDelivered, IsDone}
 use Rattle.rvf_core.specs.declared.report.Delivery.{Delivery}
 use Rattle.rvf_core.specs.declared.report.Delivery.TheVariants.{File, Line}
 
@@ -145,14 +145,6 @@ pub record SoFar (a b : Outside) (index : ℕ) (ds : List Delivery) : Type 0 whe
   pub faults : a.faults ≤ b.faults
   pub out_faults : a.out_faults ≤ b.out_faults
 
-pub SoFar-nothing : (a : Outside) (ds : List Delivery) → SoFar a a 0 ds
-SoFar-nothing a ds = record {
-  delivered = record { files = SameFiles-refl a.held; lines = Appends-nothing a.sent };
-  misses = refl;
-  faults = omega arith;
-  out_faults = omega arith;
-}
-
 take-next : {A : Type 0} (index : ℕ) (xs : List A) (x : A) → index < length xs → x ≡ get_or xs index x → take index xs ++ x ∷ [] ≡ take (index + 1) xs
 take-next index [] x lt p = absurd (omega arith)
 take-next zero (y ∷ ys) x lt p = rw p
@@ -197,33 +189,4 @@ SoFar-stops out.Memory a b c index ds d lt at so_far q = record {
   rest = drop index ds;
   order = ap (λ l. l ++ drop index ds) (append-nil (take index ds)) ∙ take-drop index ds;
   delivered = Delivers-behind a b c (take index ds) [] so_far.delivered q;
-}
-
-pub SoFar-ends : (a b : Outside) (index : ℕ) (ds : List Delivery) (u : Unit {0}) → length ds ≤ index → SoFar a b index ds → IsDelivered (Ok u) a b ds
-SoFar-ends a b index ds u all so_far = subst (λ l. Delivers a b l) (take-all index ds all) so_far.delivered
-
--- a file that was written or not, and a line that was put or not
-pub IsDone-file : (put : Result (Unit {0}) OutFault) (a b : Outside) (name bytes : List ℕ) → b.sent ≡ a.sent
-    → IsWritten put a.held b.held a.faults b.faults name bytes → IsDone put a b (File name bytes)
-IsDone-file (Ok u) a b name bytes sent p = record {
-  files = Holds-with a.held b.held name bytes p;
-  lines = subst (λ s. Appends a.sent s []) (sym sent) (Appends-nothing a.sent);
-}
-IsDone-file (Err out.Failed) a b name bytes sent p = (p.0, subst (λ s. Appends a.sent s []) (sym sent) (Appends-nothing a.sent), p.1)
-IsDone-file (Err out.Memory) a b name bytes sent p = record { files = p; lines = subst (λ s. Appends a.sent s []) (sym sent) (Appends-nothing a.sent) }
-
-pub IsDone-line : (put : Result (Unit {0}) OutFault) (a b : Outside) (bytes : List ℕ) → b.held ≡ a.held
-    → IsPut put a.sent b.sent a.out_faults b.out_faults bytes → IsDone put a b (Line bytes)
-IsDone-line (Ok u) a b bytes held p = record {
-  files = subst (λ h. SameFiles a.held h) (sym held) (SameFiles-refl a.held);
-  lines = subst (λ l. Appends a.sent b.sent l) (sym (append-nil bytes)) p;
-}
-IsDone-line (Err out.Failed) a b bytes held p = (
-  subst (λ h. SameFiles a.held h) (sym held) (SameFiles-refl a.held),
-  record { part = p.0.part; is_part = p.0.is_part; put = p.0.now },
-  p.1,
-)
-IsDone-line (Err out.Memory) a b bytes held p = record {
-  files = subst (λ h. SameFiles a.held h) (sym held) (SameFiles-refl a.held);
-  lines = subst (λ s. Appends a.sent s []) (sym p) (Appends-nothing a.sent);
 }

@@ -16,9 +16,6 @@ module _ (text : List ℕ) (tokens : List Token) (empty macros : Held) (output :
   defined : preprocessed none tokens ≡ Ok (record { macros = macros; output = output })
   defined = ap (λ m. preprocessed m tokens) (sym empty_is) ∙ prepared
 
-  pub defined_here : ArePredefined macros
-  defined_here = record { tokens = tokens; lexes = subst (λ t. AreTokens 0 1 t tokens) is lexes; output = output; defined = defined }
-
   pub defined_once : (other : Held) → ArePredefined other → other ≡ macros
   defined_once other p =
       let same : p.tokens ≡ tokens = one p.tokens (subst (λ t. AreTokens 0 1 t p.tokens) (sym is) p.lexes) in

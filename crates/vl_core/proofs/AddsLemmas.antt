@@ -1,15 +1,11 @@
 -- A formula that grows.
 use Rattle.std.proofs.Common.{◌≡◌, ℕ, zero, suc, ◌≤◌, List, ◌++◌, [], refl, sym, ap, ◌∙◌, arith, append_assoc, ◌+◌, ◌∷◌, add-one}
 use Rattle.std.specs.Prelude.{ℤ}
-use Rattle.std.proofs.lemmas.List.{append-nil}
 use Rattle.cnf_form.specs.Cnf.{Cnf, IsLiteral, AreLiterals}
 use Rattle.vl_core.specs.Adds.{Adds, HasRoom}
 use Rattle.vl_first.specs.declared.form.FirstPort.{FirstPort}
 use Rattle.vl_core.specs.Clauses.{LieBelow}
-use Rattle.vl_core.specs.Gates.{set, unset, sets, each_bit}
-
-pub adds_nothing : (f : Cnf) → Adds f f []
-adds_nothing f = record { behind = sym (append-nil f.clauses); vars = refl }
+use Rattle.vl_core.specs.Gates.{set, sets, each_bit}
 
 -- one after the other
 pub adds_both : {f g h : Cnf} {xs ys zs : List (List ℤ)} → Adds f g xs → Adds g h ys → zs ≡ xs ++ ys → Adds f h zs
@@ -21,9 +17,6 @@ adds_both {f} {g} {h} {xs} {ys} {zs} p q e = record {
 -- the clauses of one more bit
 pub each_more : {f g h : Cnf} (clauses : ℕ → List (List ℤ)) (k : ℕ) → Adds f g (each_bit clauses k) → Adds g h (clauses k) → Adds f h (each_bit clauses (k + 1))
 each_more clauses k p q = adds_both p q (rw (add-one k) refl)
-
-pub sets_more : (lits more : List ℤ) (a k : ℕ) → more ≡ (lits ++ sets a k) ++ set (a + k) ∷ [] → more ≡ lits ++ sets a (k + 1)
-sets_more lits more a k e = e ∙ append_assoc lits (sets a k) (set (a + k) ∷ []) ∙ ap (λ n. lits ++ sets a n) (sym (add-one k))
 
 -- room stays
 pub room_stays : {f g : Cnf} {xs : List (List ℤ)} {end : ℕ} → Adds f g xs → HasRoom f end → HasRoom g end
@@ -39,9 +32,6 @@ literals_append vars (x ∷ xs) ys p q = (p.0, literals_append vars xs ys p.1 q)
 
 pub set_literal : (vars at : ℕ) → at + 1 ≤ vars → IsLiteral vars (set at)
 set_literal vars at h = (omega arith, omega arith)
-
-pub unset_literal : (vars at : ℕ) → at + 1 ≤ vars → IsLiteral vars (unset at)
-unset_literal vars at h = (omega arith, omega arith)
 
 pub sets_literals : (vars a w : ℕ) → a + w ≤ vars → AreLiterals vars (sets a w)
 sets_literals vars a zero h = tt

@@ -9,16 +9,6 @@ use Rattle.vl_core.specs.declared.gates.Gate.{Gate}
 use Rattle.vl_core.specs.declared.gates.Gate.TheVariants.{And, Xor, Or}
 use Rattle.vl_core.specs.Gates.{truth, joined}
 
-pub bit_le : (b : Bool) → bit b ≤ 1
-bit_le true = omega arith
-bit_le false = omega arith
-
-pub eqb-bit : (x y : Bool) → eqb (bit x) (bit y) ≡ beq x y
-eqb-bit true true = refl
-eqb-bit true false = refl
-eqb-bit false true = refl
-eqb-bit false false = refl
-
 -- one more bit, at the top
 pub step_lt : (b : Bool) (p n : ℕ) → n < p → bit b * p + n < 2 * p
 step_lt true p n h = omega arith
