@@ -1,9 +1,9 @@
 #!/usr/bin/env python3
-"""Times the building of a net of many nodes and one evaluation of it, over a program that is made, proved and
-built in a temporary folder (a minute or two). Not part of the gate.
+"""Times the building of a net of many nodes, one evaluation of it, and a copy of it that is evaluated, over a program that is
+made, proved and built in a temporary folder (some minutes). Not part of the gate.
 
-Usage: tools/bench-net.py   Prints the nodes, the last value and the seconds and the memory of the whole run. The value is
-compared with one that is computed here.
+Usage: tools/bench-net.py   Prints the nodes, and the seconds and the memory of each whole run: of building alone, with an
+evaluation, and with a copy that is evaluated. The value is compared with one that is computed here.
 """
 import os
 import subprocess
@@ -11,17 +11,22 @@ import time
 
 import made
 
-PROGRAM = """//! Builds a net of as many nodes as standard input says, and evaluates it once.
+PROGRAM = """//! Builds a net of as many nodes as standard input says, and evaluates it, or a copy, once.
 #![tactic(auto)]
 
 use fv_base::{List, Memory};
+use std::alloc::Global;
 use std::io::Read;
 use std::process::Abort;
 use wn_net::{InputKind, Net, NodeId, State};
 
+/// The number before a blank or the end.
 fn count(bytes: &[u8]) -> u64 {
     let mut number: u64 = 0;
     for byte in bytes {
+        if *byte == b' ' {
+            return number;
+        }
         if *byte >= b'0' && *byte <= b'9' {
             number = number.wrapping_mul(10).wrapping_add((*byte - b'0') as u64);
         }
@@ -54,6 +59,20 @@ fn main(rt: HostRuntime) -> Result<(), std::test::Fail> {
         a = b;
         b = next;
     }
+    if bytes.as_slice().ends_with(b"copied") {
+        let copy = net.copy()?;
+        let value = evaluated(&rt, alloc, &copy, b)?;
+        println!(rt; "{value}")?;
+    }
+    if bytes.as_slice().ends_with(b"evaluated") {
+        let value = evaluated(&rt, alloc, &net, b)?;
+        println!(rt; "{value}")?;
+    }
+    Ok(())
+}
+
+/// The value of a node.
+fn evaluated(rt: &impl Abort, alloc: Global, net: &Net, node: NodeId) -> Result<u128, std::test::Fail> {
     let state = State {
         regs: List::new(alloc),
         mems: List::new(alloc),
@@ -61,10 +80,8 @@ fn main(rt: HostRuntime) -> Result<(), std::test::Fail> {
     let mut values = vec![in alloc; 0u128; net.nodes().len()]?;
     assert!(rt; net.admits(&[3, 5], &state));
     net.eval(&[3, 5], &state, &mut values);
-    if let Some(value) = values.get(b as usize) {
-        println!(rt; "{}", *value)?;
-    }
-    Ok(())
+    assert!(rt; (node as usize) < values.len());
+    Ok(values[node as usize])
 }
 
 fn input(rt: &impl Abort, net: &mut Net) -> Result<NodeId, Memory> {
@@ -84,16 +101,17 @@ def last(nodes):
 
 def main():
     with made.program("many_nodes", PROGRAM, ["wn_net", "fv_base"]) as program:
-        for nodes in [1250000, 2500000, 5000000]:
-            start = time.time()
-            process = subprocess.Popen([program], stdin=subprocess.PIPE, stdout=subprocess.PIPE)
-            process.stdin.write(str(nodes).encode())
-            process.stdin.close()
-            value = process.stdout.read().decode().strip()
-            usage = os.wait4(process.pid, 0)[2]
-            seconds = time.time() - start
-            same = value == str(last(nodes))
-            print(f"{nodes} nodes: {'right' if same else 'WRONG'}, {seconds:.2f} s, {usage.ru_maxrss // 1024} MB")
+        for nodes in [2500000, 5000000, 10000000]:
+            for work in ["built", "evaluated", "copied"]:
+                start = time.time()
+                process = subprocess.Popen([program], stdin=subprocess.PIPE, stdout=subprocess.PIPE)
+                process.stdin.write(f"{nodes} {work}".encode())
+                process.stdin.close()
+                value = process.stdout.read().decode().strip()
+                usage = os.wait4(process.pid, 0)[2]
+                seconds = time.time() - start
+                same = value == ("" if work == "built" else str(last(nodes)))
+                print(f"{nodes} nodes {work}: {'right' if same else 'WRONG'}, {seconds:.2f} s, {usage.ru_maxrss // 1024} MB")
 
 
 main()

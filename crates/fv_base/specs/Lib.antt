@@ -8,4 +8,5 @@ pub mod Rose
 pub mod Sent
 pub mod Store
 pub mod Symbol
+pub mod Word
 pub mod formers

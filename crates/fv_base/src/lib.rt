@@ -20,8 +20,6 @@ mod store;
 mod sure_files;
 mod sure_out;
 mod symbol;
-#[cfg(test)]
-mod tests;
 mod text;
 mod token;
 mod token_shared;

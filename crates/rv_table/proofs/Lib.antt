@@ -1,6 +1,5 @@
 pub mod FieldLemmas
 pub mod AssembledLemmas
-pub mod MatchingLemmas
 pub mod Places
 pub mod Unique
 pub mod Lawful

@@ -7,7 +7,9 @@ use Rattle.rv_table.specs.declared.row.RowId.{RowId}
 use Rattle.rv_table.specs.declared.row.RowId.TheVariants.{Base, Compressed}
 use Rattle.rv_table.specs.Fields.{field}
 use Rattle.rv_table.specs.Rows.{base_row}
-use Rattle.rv_table.specs.Compressed.{Demand, is, isnt, some_of_six, meets}
+use Rattle.rv_table.specs.declared.demand.Demand.{Demand}
+use Rattle.rv_table.specs.declared.demand.Demand.TheVariants.{Is, Isnt, SomeOfSix}
+use Rattle.rv_table.specs.Compressed.{meets}
 use Rattle.std.proofs.lemmas.Bool.{false_from_ne_true}
 use Rattle.rv_table.specs.declared.retire.Isa.{Isa}
 use Rattle.rv_table.specs.Matching.{demands, matches, has, IsMatch, is_of_m, is_of_c, rows, number}
@@ -16,20 +18,20 @@ use Rattle.rv_table.proofs.AssembledLemmas.{first_true, second_true}
 
 -- no word meets both
 abbrev opposed : Demand → Demand → Bool
-opposed (is h l n) (is k m o) = h == k && (l == m && not (n == o))
-opposed (is h l n) (isnt k m o) = h == k && (l == m && n == o)
-opposed (is h l n) some_of_six = false
-opposed (isnt h l n) (is k m o) = h == k && (l == m && n == o)
-opposed (isnt h l n) (isnt k m o) = false
-opposed (isnt h l n) some_of_six = false
-opposed some_of_six e = false
+opposed (Is h l n) (Is k m o) = h == k && (l == m && not (n == o))
+opposed (Is h l n) (Isnt k m o) = h == k && (l == m && n == o)
+opposed (Is h l n) SomeOfSix = false
+opposed (Isnt h l n) (Is k m o) = h == k && (l == m && n == o)
+opposed (Isnt h l n) (Isnt k m o) = false
+opposed (Isnt h l n) SomeOfSix = false
+opposed SomeOfSix e = false
 
 abbrev clash : List Demand → List Demand → Bool
 clash ds es = list_any (λ d. list_any (opposed d) es) ds
 
 -- a whole word ends in two ones
 abbrev all_demands : RowId → List Demand
-all_demands (Base row) = is 1 0 3 ∷ demands (Base row)
+all_demands (Base row) = Is 1 0 3 ∷ demands (Base row)
 all_demands (Compressed row) = demands (Compressed row)
 
 abbrev apart : RowId → RowId → Bool
@@ -64,13 +66,13 @@ opcode_ends r = all_get ends_in_ones rows (number r) r all_end_in_ones (row_at r
 -- ---- demands that clash
 
 opposed_apart : (w : ℕ) (d e : Demand) → opposed d e ≡ true → meets w d ≡ true → meets w e ≡ true → ⊥
-opposed_apart w (is h l n) (is k m o) clashing first second = grind (arith, common_steps)
-opposed_apart w (is h l n) (isnt k m o) clashing first second = grind (arith, common_steps)
-opposed_apart w (is h l n) some_of_six clashing first second = cc
-opposed_apart w (isnt h l n) (is k m o) clashing first second = grind (arith, common_steps)
-opposed_apart w (isnt h l n) (isnt k m o) clashing first second = cc
-opposed_apart w (isnt h l n) some_of_six clashing first second = cc
-opposed_apart w some_of_six e clashing first second = cc
+opposed_apart w (Is h l n) (Is k m o) clashing first second = grind (arith, common_steps)
+opposed_apart w (Is h l n) (Isnt k m o) clashing first second = grind (arith, common_steps)
+opposed_apart w (Is h l n) SomeOfSix clashing first second = cc
+opposed_apart w (Isnt h l n) (Is k m o) clashing first second = grind (arith, common_steps)
+opposed_apart w (Isnt h l n) (Isnt k m o) clashing first second = cc
+opposed_apart w (Isnt h l n) SomeOfSix clashing first second = cc
+opposed_apart w SomeOfSix e clashing first second = cc
 
 or_cases : {P : Type 0} (a b : Bool) → (a || b) ≡ true → (a ≡ true → P) → (b ≡ true → P) → P
 or_cases true b e f g = f refl

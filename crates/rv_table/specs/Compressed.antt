@@ -36,21 +36,16 @@ use Rattle.rv_table.specs.declared.row.CompressedRow.TheVariants.{
   CAdd,
   CSwsp,
 }
+use Rattle.rv_table.specs.declared.demand.Demand.{Demand}
+use Rattle.rv_table.specs.declared.demand.Demand.TheVariants.{Is, Isnt, SomeOfSix}
 use Rattle.rv_table.specs.declared.assemble.Operands.{Operands}
 use Rattle.rv_table.specs.Fields.{field, moved, sign_extended}
 
--- what a row asks of a word: that its bits high:low are a number, or are another one, or that the six bits 12 and 6:2
--- aren't all 0
-pub data Demand : Type 0 where
-  is : ℕ → ℕ → ℕ → Demand
-  isnt : ℕ → ℕ → ℕ → Demand
-  some_of_six : Demand
-
 -- the word does what is asked
 abbrev pub meets : ℕ → Demand → Bool
-meets w (is high low n) = field high low w == n
-meets w (isnt high low n) = not (field high low w == n)
-meets w some_of_six = not (field 12 12 w == 0) || not (field 6 2 w == 0)
+meets w (Is high low n) = field high low w == n
+meets w (Isnt high low n) = not (field high low w == n)
+meets w SomeOfSix = not (field 12 12 w == 0) || not (field 6 2 w == 0)
 
 -- a name; the bits 1:0 and 15:13; what else the row asks; and the row of its expansion
 pub record HalfRow : Type 0 where
@@ -67,27 +62,27 @@ half_row name quadrant funct3 condition base =
 
 -- a row that combines two of the registers x8 to x15, by its bits 6:5
 abbrev pub combining : ℕ → List Demand
-combining which = is 11 10 3 ∷ is 12 12 0 ∷ is 6 5 which ∷ []
+combining which = Is 11 10 3 ∷ Is 12 12 0 ∷ Is 6 5 which ∷ []
 
 -- a row that jumps to a register, by its bit 12
 abbrev pub jumping : ℕ → List Demand
-jumping link = is 12 12 link ∷ is 6 2 0 ∷ isnt 11 7 0 ∷ []
+jumping link = Is 12 12 link ∷ Is 6 2 0 ∷ Isnt 11 7 0 ∷ []
 
 -- The table. That bits 12:5 of C.ADDI4SPN, and the six bits of C.ADDI16SP and C.LUI, aren't 0 says that their immediate
--- isn't; that bit 12 of a shift is 0 is the rule of RV32C (section 16.5). C.JR and C.JALR have 0 where C.MV and C.ADD
+-- isn't; that bit 12 of a shift Is 0 is the rule of RV32C (section 16.5). C.JR and C.JALR have 0 where C.MV and C.ADD
 -- have a register.
 abbrev pub compressed_row : CompressedRow → HalfRow
-compressed_row CAddi4spn = half_row (codes "c_addi4spn") 0 0 (isnt 12 5 0 ∷ []) (Immediate Addi)
+compressed_row CAddi4spn = half_row (codes "c_addi4spn") 0 0 (Isnt 12 5 0 ∷ []) (Immediate Addi)
 compressed_row CLw = half_row (codes "c_lw") 0 2 [] (Load Lw)
 compressed_row CSw = half_row (codes "c_sw") 0 6 [] (Store Sw)
 compressed_row CAddi = half_row (codes "c_addi") 1 0 [] (Immediate Addi)
 compressed_row CJal = half_row (codes "c_jal") 1 1 [] Jal
 compressed_row CLi = half_row (codes "c_li") 1 2 [] (Immediate Addi)
-compressed_row CAddi16sp = half_row (codes "c_addi16sp") 1 3 (is 11 7 2 ∷ some_of_six ∷ []) (Immediate Addi)
-compressed_row CLui = half_row (codes "c_lui") 1 3 (isnt 11 7 2 ∷ some_of_six ∷ []) Lui
-compressed_row CSrli = half_row (codes "c_srli") 1 4 (is 11 10 0 ∷ is 12 12 0 ∷ []) (Immediate Srli)
-compressed_row CSrai = half_row (codes "c_srai") 1 4 (is 11 10 1 ∷ is 12 12 0 ∷ []) (Immediate Srai)
-compressed_row CAndi = half_row (codes "c_andi") 1 4 (is 11 10 2 ∷ []) (Immediate Andi)
+compressed_row CAddi16sp = half_row (codes "c_addi16sp") 1 3 (Is 11 7 2 ∷ SomeOfSix ∷ []) (Immediate Addi)
+compressed_row CLui = half_row (codes "c_lui") 1 3 (Isnt 11 7 2 ∷ SomeOfSix ∷ []) Lui
+compressed_row CSrli = half_row (codes "c_srli") 1 4 (Is 11 10 0 ∷ Is 12 12 0 ∷ []) (Immediate Srli)
+compressed_row CSrai = half_row (codes "c_srai") 1 4 (Is 11 10 1 ∷ Is 12 12 0 ∷ []) (Immediate Srai)
+compressed_row CAndi = half_row (codes "c_andi") 1 4 (Is 11 10 2 ∷ []) (Immediate Andi)
 compressed_row CSub = half_row (codes "c_sub") 1 4 (combining 0) (Register Sub)
 compressed_row CXor = half_row (codes "c_xor") 1 4 (combining 1) (Register Xor)
 compressed_row COr = half_row (codes "c_or") 1 4 (combining 2) (Register Or)
@@ -95,12 +90,12 @@ compressed_row CAnd = half_row (codes "c_and") 1 4 (combining 3) (Register And)
 compressed_row CJ = half_row (codes "c_j") 1 5 [] Jal
 compressed_row CBeqz = half_row (codes "c_beqz") 1 6 [] (Branch Beq)
 compressed_row CBnez = half_row (codes "c_bnez") 1 7 [] (Branch Bne)
-compressed_row CSlli = half_row (codes "c_slli") 2 0 (is 12 12 0 ∷ []) (Immediate Slli)
-compressed_row CLwsp = half_row (codes "c_lwsp") 2 2 (isnt 11 7 0 ∷ []) (Load Lw)
+compressed_row CSlli = half_row (codes "c_slli") 2 0 (Is 12 12 0 ∷ []) (Immediate Slli)
+compressed_row CLwsp = half_row (codes "c_lwsp") 2 2 (Isnt 11 7 0 ∷ []) (Load Lw)
 compressed_row CJr = half_row (codes "c_jr") 2 4 (jumping 0) Jalr
-compressed_row CMv = half_row (codes "c_mv") 2 4 (is 12 12 0 ∷ isnt 6 2 0 ∷ []) (Register Add)
+compressed_row CMv = half_row (codes "c_mv") 2 4 (Is 12 12 0 ∷ Isnt 6 2 0 ∷ []) (Register Add)
 compressed_row CJalr = half_row (codes "c_jalr") 2 4 (jumping 1) Jalr
-compressed_row CAdd = half_row (codes "c_add") 2 4 (is 12 12 1 ∷ isnt 6 2 0 ∷ []) (Register Add)
+compressed_row CAdd = half_row (codes "c_add") 2 4 (Is 12 12 1 ∷ Isnt 6 2 0 ∷ []) (Register Add)
 compressed_row CSwsp = half_row (codes "c_swsp") 2 6 [] (Store Sw)
 
 -- ---- the registers and immediates of a half word

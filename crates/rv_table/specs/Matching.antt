@@ -1,5 +1,5 @@
 -- When a word matches a row, which rows an instruction set has, and their order and names.
-use Rattle.std.specs.Prelude.{◌≡◌, ℕ, Bool, true, false, ◌==◌, List, [], ◌∷◌, ◌++◌, Option, Some, None}
+use Rattle.std.specs.Prelude.{◌≡◌, ℕ, Bool, true, false, List, [], ◌∷◌, ◌++◌, Option, Some, None}
 use Rattle.std.specs.List.{list_all}
 use Rattle.rv_table.specs.declared.retire.Isa.{Isa}
 use Rattle.rv_table.specs.declared.row.BaseRow.{BaseRow}
@@ -48,30 +48,27 @@ use Rattle.rv_table.specs.declared.row.RowId.{RowId}
 use Rattle.rv_table.specs.declared.row.RowId.TheVariants.{Base, Compressed}
 use Rattle.rv_table.specs.declared.pattern.Pattern.{Pattern}
 use Rattle.rv_table.specs.Rows.{base_row}
-use Rattle.rv_table.specs.Compressed.{HalfRow, Demand, is, meets, compressed_row}
+use Rattle.rv_table.specs.declared.demand.Demand.{Demand}
+use Rattle.rv_table.specs.declared.demand.Demand.TheVariants.{Is}
+use Rattle.rv_table.specs.Compressed.{HalfRow, meets, compressed_row}
 
 -- a part that the row fixes
 abbrev pub asked : ℕ → ℕ → Option ℕ → List Demand
 asked high low None = []
-asked high low (Some n) = is high low n ∷ []
+asked high low (Some n) = Is high low n ∷ []
 
 -- the opcode, and funct3 and funct7 where they are fixed
 abbrev pub pattern_demands : Pattern → List Demand
-pattern_demands p = is 6 0 p.opcode ∷ (asked 14 12 p.funct3 ++ asked 31 25 p.funct7)
+pattern_demands p = Is 6 0 p.opcode ∷ (asked 14 12 p.funct3 ++ asked 31 25 p.funct7)
 
 -- 16 zeros stand above the half word
 abbrev pub half_demands : HalfRow → List Demand
-half_demands h = is 31 16 0 ∷ is 1 0 h.quadrant ∷ is 15 13 h.funct3 ∷ h.condition
+half_demands h = Is 31 16 0 ∷ Is 1 0 h.quadrant ∷ Is 15 13 h.funct3 ∷ h.condition
 
 -- what a row asks
 abbrev pub demands : RowId → List Demand
 demands (Base row) = pattern_demands (base_row row).pattern
 demands (Compressed row) = half_demands (compressed_row row)
-
--- a part of a word is what the row fixes, if it fixes it
-abbrev pub is_part : Option ℕ → ℕ → Bool
-is_part None part = true
-is_part (Some n) part = part == n
 
 -- the word meets each demand of the row
 unfoldable pub matches : RowId → ℕ → Bool

@@ -1,10 +1,8 @@
 ghost use Rattle.std.specs.Prelude.{◌≡◌};
-ghost use Rattle.std.specs.List.{list_all};
 ghost use Rattle.rv_table.specs.Assembled.{AreRegisters};
 ghost use Rattle.rv_table.specs.Compressed as compressed;
 
 use crate::assemble::Operands;
-use crate::field::field;
 use crate::half::{
     addi4spn_immediate, addi16sp_immediate, branch_offset, far, jump_offset, lui_immediate,
     lwsp_offset, near_high, near_low, second, six, swsp_offset, word_offset,
@@ -12,99 +10,8 @@ use crate::half::{
 use crate::row::{BaseRow, BranchRow, CompressedRow, ImmediateRow, LoadRow, RegisterRow, StoreRow};
 
 impl CompressedRow {
-    /// Bits 1:0 of the half word.
-    pub(crate) fn quadrant(self) -> u32
-        ensures { result ≡ (compressed.compressed_row self).quadrant }
-    {
-        match self {
-            CompressedRow::CAddi4spn | CompressedRow::CLw | CompressedRow::CSw => 0,
-            CompressedRow::CAddi
-            | CompressedRow::CJal
-            | CompressedRow::CLi
-            | CompressedRow::CAddi16sp
-            | CompressedRow::CLui
-            | CompressedRow::CSrli
-            | CompressedRow::CSrai
-            | CompressedRow::CAndi
-            | CompressedRow::CSub
-            | CompressedRow::CXor
-            | CompressedRow::COr
-            | CompressedRow::CAnd
-            | CompressedRow::CJ
-            | CompressedRow::CBeqz
-            | CompressedRow::CBnez => 1,
-            CompressedRow::CSlli
-            | CompressedRow::CLwsp
-            | CompressedRow::CJr
-            | CompressedRow::CMv
-            | CompressedRow::CJalr
-            | CompressedRow::CAdd
-            | CompressedRow::CSwsp => 2,
-        }
-    }
-
-    /// Bits 15:13 of the half word.
-    pub(crate) fn funct3(self) -> u32
-        ensures { result ≡ (compressed.compressed_row self).funct3 }
-    {
-        match self {
-            CompressedRow::CAddi4spn | CompressedRow::CAddi | CompressedRow::CSlli => 0,
-            CompressedRow::CJal => 1,
-            CompressedRow::CLw | CompressedRow::CLi | CompressedRow::CLwsp => 2,
-            CompressedRow::CAddi16sp | CompressedRow::CLui => 3,
-            CompressedRow::CSrli
-            | CompressedRow::CSrai
-            | CompressedRow::CAndi
-            | CompressedRow::CSub
-            | CompressedRow::CXor
-            | CompressedRow::COr
-            | CompressedRow::CAnd
-            | CompressedRow::CJr
-            | CompressedRow::CMv
-            | CompressedRow::CJalr
-            | CompressedRow::CAdd => 4,
-            CompressedRow::CJ => 5,
-            CompressedRow::CSw | CompressedRow::CBeqz | CompressedRow::CSwsp => 6,
-            CompressedRow::CBnez => 7,
-        }
-    }
-
-    /// What the row asks of the other bits.
-    #[tactic(auto, using(crate::proofs::MatchingLemmas::tests))]
-    pub(crate) fn meets_condition(self, word: u32) -> bool
-        ensures { result ≡ list_all (compressed.meets word) (compressed.compressed_row self).condition }
-    {
-        match self {
-            CompressedRow::CAddi4spn => field(word, 12, 5) != 0,
-            CompressedRow::CAddi16sp => field(word, 11, 7) == 2 && has_some_of_six(word),
-            CompressedRow::CLui => field(word, 11, 7) != 2 && has_some_of_six(word),
-            CompressedRow::CSrli => field(word, 11, 10) == 0 && field(word, 12, 12) == 0,
-            CompressedRow::CSrai => field(word, 11, 10) == 1 && field(word, 12, 12) == 0,
-            CompressedRow::CAndi => field(word, 11, 10) == 2,
-            CompressedRow::CSub => combines(word, 0),
-            CompressedRow::CXor => combines(word, 1),
-            CompressedRow::COr => combines(word, 2),
-            CompressedRow::CAnd => combines(word, 3),
-            CompressedRow::CSlli => field(word, 12, 12) == 0,
-            CompressedRow::CLwsp => field(word, 11, 7) != 0,
-            CompressedRow::CJr => jumps(word, 0),
-            CompressedRow::CMv => field(word, 12, 12) == 0 && field(word, 6, 2) != 0,
-            CompressedRow::CJalr => jumps(word, 1),
-            CompressedRow::CAdd => field(word, 12, 12) == 1 && field(word, 6, 2) != 0,
-            CompressedRow::CLw
-            | CompressedRow::CSw
-            | CompressedRow::CAddi
-            | CompressedRow::CJal
-            | CompressedRow::CLi
-            | CompressedRow::CJ
-            | CompressedRow::CBeqz
-            | CompressedRow::CBnez
-            | CompressedRow::CSwsp => true,
-        }
-    }
-
     /// The row of the expansion.
-    pub(crate) fn base(self) -> BaseRow
+    pub fn base(self) -> BaseRow
         ensures { result ≡ (compressed.compressed_row self).base }
     {
         match self {
@@ -167,27 +74,4 @@ impl CompressedRow {
             CompressedRow::CSwsp => Operands::new(0, 2, t, swsp_offset(half)),
         }
     }
-}
-
-/// Bits 12 and 6:2 aren't all 0.
-fn has_some_of_six(word: u32) -> bool
-    ensures { result ≡ compressed.meets word compressed.some_of_six }
-{
-    field(word, 12, 12) != 0 || field(word, 6, 2) != 0
-}
-
-/// A row that combines two near registers, by its bits 6:5.
-#[tactic(auto, using(crate::proofs::MatchingLemmas::tests))]
-fn combines(word: u32, which: u32) -> bool
-    ensures { result ≡ list_all (compressed.meets word) (compressed.combining which) }
-{
-    field(word, 11, 10) == 3 && field(word, 12, 12) == 0 && field(word, 6, 5) == which
-}
-
-/// A row that jumps to a register, by its bit 12.
-#[tactic(auto, using(crate::proofs::MatchingLemmas::tests))]
-fn jumps(word: u32, link: u32) -> bool
-    ensures { result ≡ list_all (compressed.meets word) (compressed.jumping link) }
-{
-    field(word, 12, 12) == link && field(word, 6, 2) == 0 && field(word, 11, 7) != 0
 }

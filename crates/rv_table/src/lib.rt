@@ -6,6 +6,7 @@ mod agree;
 mod arithmetic;
 mod assemble;
 mod compressed;
+mod demand;
 mod effect;
 mod expansion;
 mod field;
@@ -19,10 +20,10 @@ mod row;
 mod search;
 mod shared;
 mod step;
-#[cfg(test)]
-mod tests;
+mod table;
 
 pub use agree::agrees;
+pub use demand::Demand;
 pub use effect::effect_of;
 pub use expansion::expand;
 pub use laws::{
@@ -30,9 +31,11 @@ pub use laws::{
     each_row_is_at_its_number, expansions_match_their_rows,
 };
 pub use names::row_name;
+pub use pattern::{Form, Pattern};
 pub use retire::{Effect, Isa, Opts, Retire};
 pub use row::{
     BaseRow, BranchRow, CompressedRow, ImmediateRow, LoadRow, MultiplyRow, RegisterRow, RowId,
     StoreRow,
 };
 pub use search::{matches, row_of};
+pub use table::demands;

@@ -154,7 +154,8 @@ impl MultiplyRow {
 }
 
 impl BaseRow {
-    pub(crate) fn pattern(self) -> Pattern
+    /// What a word of the row holds.
+    pub fn pattern(self) -> Pattern
         ensures { result ≡ (rows.base_row self).pattern }
     {
         match self {

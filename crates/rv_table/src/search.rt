@@ -1,12 +1,9 @@
 ghost use Rattle.std.specs.Prelude.{◌≡◌, ◌&&◌, true, false, find, IfSome, IfNone, Some};
-ghost use Rattle.std.specs.List.{list_all};
-ghost use Rattle.rv_table.specs.Compressed.{meets, compressed_row};
 ghost use Rattle.rv_table.specs.Matching as matching;
 
-use crate::field::field;
-use crate::pattern::Pattern;
 use crate::retire::Isa;
-use crate::row::{BaseRow, CompressedRow, RowId};
+use crate::row::{BaseRow, RowId};
+use crate::table::demands;
 
 /// The row of the instruction set that the word matches: at most one does. None exactly where none does.
 #[tactic(auto, using(crate::proofs::Unique::search))]
@@ -28,16 +25,12 @@ fn row_among(rows: &[RowId], insn: u32, isa: Isa) -> Option<RowId>
         .find(|row| isa.has(*row) && matches(*row, insn))
 }
 
-/// The word meets what the row asks: its opcode, and funct3 and funct7 where they are fixed; for a compressed row, 16
-/// zeros above a half word with the row's bits 1:0 and 15:13 and its condition.
-#[tactic(auto, using(crate::proofs::MatchingLemmas::tests), unfolding(crate::specs::Matching::matches))]
+/// The word meets all that the row asks.
+#[tactic(auto, unfolding(crate::specs::Matching::matches))]
 pub fn matches(row: RowId, insn: u32) -> bool
     ensures { result ≡ matching.matches row insn }
 {
-    match row {
-        RowId::Base(base) => base.pattern().fits(insn),
-        RowId::Compressed(compressed) => compressed.fits(insn),
-    }
+    demands(row).iter().all(|demand| demand.is_met(insn))
 }
 
 impl Isa {
@@ -50,37 +43,5 @@ impl Isa {
             RowId::Base(_) => true,
             RowId::Compressed(_) => self.c,
         }
-    }
-}
-
-impl Pattern {
-    #[tactic(auto, using(crate::proofs::MatchingLemmas::tests))]
-    fn fits(self, word: u32) -> bool
-        ensures { result ≡ list_all (meets word) (matching.pattern_demands self) }
-    {
-        field(word, 6, 0) == self.opcode
-            && is_part(self.funct3, field(word, 14, 12))
-            && is_part(self.funct7, field(word, 31, 25))
-    }
-}
-
-impl CompressedRow {
-    fn fits(self, word: u32) -> bool
-        ensures { result ≡ list_all (meets word) (matching.half_demands (compressed_row self)) }
-    {
-        field(word, 31, 16) == 0
-            && field(word, 1, 0) == self.quadrant()
-            && field(word, 15, 13) == self.funct3()
-            && self.meets_condition(word)
-    }
-}
-
-/// A part of a word is what the row fixes, if it fixes it.
-fn is_part(fixed: Option<u32>, part: u32) -> bool
-    ensures { result ≡ matching.is_part fixed part }
-{
-    match fixed {
-        Some(value) => part == value,
-        None => true,
     }
 }

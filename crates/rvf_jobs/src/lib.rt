@@ -5,8 +5,6 @@ mod batch;
 mod gate;
 mod job;
 mod shared;
-#[cfg(test)]
-mod tests;
 
 pub use batch::run_jobs;
 pub use gate::{Gate, OpenGate};

@@ -4,7 +4,7 @@ use Rattle.std.proofs.Common.{ap, sym, ◌∙◌, arith, subst}
 use Rattle.std.proofs.lemmas.Bool.Decides.{nat_tests}
 use Rattle.std.proofs.lemmas.List.{take_more, length-take-le, length-map, get_or_push, map_push, get_or-map, set_at, set_past}
 use Rattle.wn_net.specs.declared.parts.MemWrite.{MemWrite}
-use Rattle.wn_net.specs.Numbers.{bit, masked, complement}
+use Rattle.fv_bits.specs.Bits.{bit, masked, complement}
 use Rattle.wn_net.specs.Value.{Given, word_at}
 use Rattle.wn_net.specs.Next.{written}
 use Rattle.wn_net.specs.Net.{Netlist, IsNet, IsNodeOf, IsWriteOf, AreNodesOf, width_at, value_at}
@@ -15,6 +15,7 @@ use Rattle.wn_net.proofs.Stays.{HasMore, write_stays}
 use Rattle.wn_net.proofs.Moved.{value_below}
 use Rattle.wn_mem.specs.Words.{IsShared, words_width, numbers_of}
 use Rattle.wn_mem.proofs.Chosen.{beside}
+use Rattle.wn_mem.proofs.Tree.{numbers_on}
 
 -- one more word, at a write elsewhere
 set_beside : (xs : List ℕ) (x a y k : ℕ) → k ≡ length xs → (a ≡ k → ⊥) → slice_set (xs ++ x ∷ []) a y ≡ slice_set xs a y ++ x ∷ []
@@ -67,6 +68,14 @@ never_acts net g e addr k m x whole given large = not_both (e == 1) (value_at ne
         let same : value_at net g addr ≡ k = grind (arith, nat_tests, e) in
         absurd (large (let P : ℕ → Type 0 = λ m. m < 2 ^ width_at net addr in subst P same (value_below net g whole given addr)))
 
+-- an address that is another number
+pub other_acts : (e a k m x : ℕ) → (a ≡ k → ⊥) → x ≡ (if (e == 1) && (a == k) then m else x)
+other_acts e a k m x other = not_both (e == 1) (a == k) m x (by (a == k) refl)
+  where
+    by : (b : Bool) → (a == k) ≡ b → (a == k) ≡ false
+    by false t = t
+    by true t = absurd (other (grind (arith, nat_tests, t)))
+
 -- the value of a word after a write, by those of what it reads
 pub word_value : (w r acts changed x e a k k0 word word1 mask number written kept : ℕ) → e < 2
     → r ≡ (if acts == 1 then changed else x) → acts ≡ bit_and e (bit (a == k)) → k ≡ k0 → changed ≡ bit_or written (bit_and kept word1)
@@ -106,16 +115,6 @@ shared_on old new w v write changed kept h own s e =
           value_on old new g kept h s.kept_there.0 ∙ s.kept_value g
           ∙ ap (complement w) (sym (value_on old new g write.mask h own.mask.0));
     })
-
-numbers_on : (old new : Netlist) (w : ℕ) (g : Given) (ids : List ℕ) → AddsNodes old new → AreNodesOf old w ids
-    → numbers_of new g ids ≡ numbers_of old g ids
-numbers_on old new w g [] h own = refl
-numbers_on old new w g (id ∷ ids) h own =
-    (λ i. value_on old new g id h own.0.0 i ∷ numbers_on old new w g ids h own.1 i)
-
-pub push_node : (net : Netlist) (w : ℕ) (ids : List ℕ) (id : ℕ) → AreNodesOf net w ids → IsNodeOf net w id → AreNodesOf net w (ids ++ id ∷ [])
-push_node net w [] id h k = (k, tt)
-push_node net w (x ∷ xs) id h k = (h.0, push_node net w xs id h.1 k)
 
 -- the words that are made so far, and one more
 pub made_next : (net now new : Netlist) (g : Given) (words made : List ℕ) (write : MemWrite) (i word r : ℕ) → AddsNodes net now → AddsNodes now new

@@ -1,10 +1,10 @@
 -- A memory as one node a word (rule of this project).
-use Rattle.std.specs.Prelude.{◌≡◌, ℕ, List, map, slice_index, bit_and}
+use Rattle.std.specs.Prelude.{◌≡◌, ℕ, ◌+◌, ◌*◌, ◌^◌, List, [], ◌∷◌, length, map, slice_index, bit_and}
 use Rattle.wn_net.specs.declared.parts.MemWrite.{MemWrite}
-use Rattle.wn_net.specs.Numbers.{complement}
+use Rattle.fv_bits.specs.Bits.{complement}
 use Rattle.wn_net.specs.Value.{Given}
 use Rattle.wn_net.specs.Next.{written}
-use Rattle.wn_net.specs.Net.{Netlist, IsNodeOf, AreNodesOf, width_at, value_at}
+use Rattle.wn_net.specs.Net.{Netlist, IsNode, IsNodeOf, AreNodesOf, width_at, value_at}
 
 -- the width of the words
 abbrev pub words_width : Netlist → List ℕ → ℕ
@@ -30,3 +30,13 @@ pub record IsShared (net : Netlist) (width : ℕ) (w : MemWrite) (changed kept :
   pub kept_there : IsNodeOf net width kept
   pub changed_value : (g : Given) → value_at net g changed ≡ bit_and (value_at net g w.mask) (value_at net g w.value)
   pub kept_value : (g : Given) → value_at net g kept ≡ complement width (value_at net g w.mask)
+
+-- the number with these bits, the highest first
+abbrev pub number_of : List ℕ → ℕ
+number_of [] = 0
+number_of (b ∷ bs) = b * 2 ^ length bs + number_of bs
+
+-- a node is there that is 0 in every cycle
+pub record IsZero (net : Netlist) (id : ℕ) : Type 0 where
+  pub there : IsNode net id
+  pub value : (g : Given) → value_at net g id ≡ 0

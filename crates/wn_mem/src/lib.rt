@@ -1,9 +1,8 @@
 //! Memories of a net as one node a word.
 #![tactic(auto)]
 
+mod bits;
 mod read;
-#[cfg(test)]
-mod tests;
 mod write;
 
 pub use read::read_after;

@@ -1,36 +1,120 @@
-ghost use Rattle.std.specs.Prelude.{◌≡◌, ◌==◌, if◌then◌else◌, ◌<◌, ◌≤◌, ◌^◌, length, map, take, slice_index, IfOk, OnErr};
+//! One read of a memory: a tree over the bits of the address.
+#![tactic(auto, using(wn_net::proofs::Laws::additions))]
+
+ghost use Rattle.std.specs.Prelude.{◌≡◌, ◌==◌, ◌/◌, if◌then◌else◌, ◌<◌, ◌≤◌, ◌^◌, length, slice_index, IfOk, OnErr};
 ghost use Rattle.wn_net.specs.Value.{Given, word_at};
-ghost use Rattle.wn_net.specs.Net.{IsNode, IsNodeOf, IsNet, value_at, width_at};
+ghost use Rattle.wn_net.specs.Net.{IsNode, IsNodeOf, AreNodesOf, value_at, width_at};
 ghost use Rattle.wn_net.specs.Given.{IsGiven};
 ghost use Rattle.wn_net.specs.Changes.{AddsNodes};
-ghost use Rattle.wn_mem.specs.Words.{AreWords, words_width, numbers_of};
+ghost use Rattle.wn_mem.specs.Words.{AreWords, IsZero, words_width, numbers_of, number_of};
 
+use crate::bits::{address_bits, bits_for, constant_of, reached};
 use fv_base::{Memory, Word};
 use wn_net::{Net, NodeId};
 
-/// The word where the address is this number, and else the other. An address that is too narrow for the number never is it.
-fn word_or(
+/// The number 0 in the width of a node.
+fn zero_of(net: &mut Net, id: NodeId) -> Result<NodeId, Memory>
+    requires { IsNode net.old id }
+    ensures adds { AddsNodes net.old net.new }
+    ensures there { IfOk result (IsNodeOf net.new (width_at net.old id)) }
+    ensures zero { IfOk result (IsZero net.new) }
+{
+    let Some(zero) = Word::new(net.width(id), 0) else {
+        return Ok(id);
+    };
+    let zero = net.konst(zero)?;
+    Ok(zero)
+}
+
+/// The word at the address with these bits, the highest first, and else the node that is 0: halves of the words, of which
+/// the highest bit takes one.
+fn word_among(
+    net: &mut Net,
+    words: &[NodeId],
+    bits: &[NodeId],
+    zero: NodeId,
+) -> Result<NodeId, Memory>
+    requires words { AreNodesOf net.old (width_at net.old zero) words.now }
+    requires bits { AreNodesOf net.old 1 bits.now }
+    requires zero { IsZero net.old zero }
+    requires few { length bits.now ≤ 63 }
+    requires enough { length words.now ≤ 2 ^ length bits.now }
+    ensures adds { AddsNodes net.old net.new }
+    ensures there { IfOk result (IsNodeOf net.new (width_at net.old zero)) }
+    ensures value { IfOk result (λ id. (g : Given) → IsGiven net.old g
+        → value_at net.new g id ≡ word_at (numbers_of net.old g words.now) (number_of (numbers_of net.old g bits.now))) }
+{
+    let Some(first) = words.first() else {
+        return Ok(zero);
+    };
+    let Some((top, rest)) = bits.split_first() else {
+        return Ok(*first);
+    };
+    let _ = net.width(zero);
+    let half = reached(words.len(), rest.len());
+    let (front, back) = words.split_at(half);
+    let low = word_among(net, front, rest, zero)?;
+    let high = word_among(net, back, rest, zero)?;
+    let found = net.mux(*top, high, low)?;
+    Ok(found)
+}
+
+/// The node where the bits of the address from `count` on are 0, and else the node that is 0.
+fn where_low(
     net: &mut Net,
     addr: NodeId,
-    number: u64,
-    word: NodeId,
-    other: NodeId,
+    count: u32,
+    found: NodeId,
+    zero: NodeId,
 ) -> Result<NodeId, Memory>
     requires addr { IsNode net.old addr }
-    requires word { IsNode net.old word }
-    requires other { IsNodeOf net.old (width_at net.old word) other }
+    requires zero { IsZero net.old zero }
+    requires found { IsNodeOf net.old (width_at net.old zero) found }
     ensures adds { AddsNodes net.old net.new }
-    ensures there { IfOk result (IsNodeOf net.new (width_at net.old word)) }
-    ensures value { IfOk result (λ id. (g : Given) → IsGiven net.old g
-        → value_at net.new g id ≡ (if value_at net.old g addr == number then value_at net.old g word else value_at net.old g other)) }
+    ensures there { IfOk result (IsNodeOf net.new (width_at net.old zero)) }
+    ensures value { IfOk result (λ id. (g : Given) → IsGiven net.old g → value_at net.new g id
+        ≡ (if value_at net.old g addr / 2 ^ count == 0 then value_at net.old g found else 0)) }
 {
-    let Some(number) = Word::new(net.width(addr), u128::from(number)) else {
-        return Ok(other);
-    };
-    let number = net.konst(number)?;
-    let hit = net.eq(addr, number)?;
-    let chosen = net.mux(hit, word, other)?;
+    let width = net.width(addr);
+    if width <= count {
+        return Ok(found);
+    }
+    let high = net.slice(addr, count, width - count)?;
+    let none = zero_of(net, high)?;
+    let is_low = net.eq(high, none)?;
+    let chosen = net.mux(is_low, found, zero)?;
     Ok(chosen)
+}
+
+/// The word at an address that isn't constant.
+fn read_tree(net: &mut Net, words: &[NodeId], addr: NodeId, zero: NodeId) -> Result<NodeId, Memory>
+    requires words { AreNodesOf net.old (width_at net.old zero) words.now }
+    requires addr { IsNode net.old addr }
+    requires zero { IsZero net.old zero }
+    ensures adds { AddsNodes net.old net.new }
+    ensures there { IfOk result (IsNodeOf net.new (width_at net.old zero)) }
+    ensures value { IfOk result (λ id. (g : Given) → IsGiven net.old g
+        → value_at net.new g id ≡ word_at (numbers_of net.old g words.now) (value_at net.old g addr)) }
+{
+    let mut bits = [0u64; 63];
+    let count = bits_for(words.len()).min(net.width(addr) as usize);
+    let (front, _) = words.split_at(reached(words.len(), count));
+    let bits = &mut bits[..count];
+    address_bits(net, addr, bits)?;
+    let found = word_among(net, front, bits, zero)?;
+    let chosen = where_low(net, addr, count as u32, found, zero)?;
+    Ok(chosen)
+}
+
+/// The word with a number, and else the node that is 0.
+fn word_with(words: &[NodeId], number: u128, zero: NodeId) -> NodeId
+    ensures within { number < length words.now → result ≡ slice_index words.now number }
+    ensures past { length words.now ≤ number → result ≡ zero }
+{
+    if number >= words.len() as u128 {
+        return zero;
+    }
+    words[number as usize]
 }
 
 /// The word at the address among the words, without giving nodes back where no memory is left.
@@ -44,25 +128,11 @@ fn read_words(net: &mut Net, words: &[NodeId], addr: NodeId) -> Result<NodeId, M
         → value_at net.new g id ≡ word_at (numbers_of net.old g words.now) (value_at net.old g addr)) }
 {
     let zero = zero_of(net, words[0])?;
-    let mut found = zero;
-    for (number, word) in words.iter().enumerate() {
-        found = word_or(net, addr, number as u64, *word, found)?;
+    if let Some(number) = constant_of(net, addr) {
+        return Ok(word_with(words, number, zero));
     }
+    let found = read_tree(net, words, addr, zero)?;
     Ok(found)
-}
-
-/// The number 0 in the width of a node.
-fn zero_of(net: &mut Net, id: NodeId) -> Result<NodeId, Memory>
-    requires { IsNode net.old id }
-    ensures adds { AddsNodes net.old net.new }
-    ensures there { IfOk result (IsNodeOf net.new (width_at net.old id)) }
-    ensures value { IfOk result (λ zero. (g : Given) → value_at net.new g zero ≡ 0) }
-{
-    let Some(zero) = Word::new(net.width(id), 0) else {
-        return Ok(id);
-    };
-    let zero = net.konst(zero)?;
-    Ok(zero)
 }
 
 /// The word at the address, 0 past the last word.

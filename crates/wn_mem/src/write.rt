@@ -2,13 +2,15 @@
 #![tactic(auto, using(wn_net::proofs::Laws::additions))]
 
 ghost use Rattle.std.specs.Prelude.{◌≡◌, ◌==◌, ◌&&◌, bit_and, bit_or, if◌then◌else◌, ◌<◌, ◌≤◌, ◌^◌, length, map, slice_index, IfOk, OnOk, OnErr};
-ghost use Rattle.wn_net.specs.Numbers.{bit, masked};
+ghost use Rattle.fv_base.specs.Word as kept_word;
+ghost use Rattle.fv_bits.specs.Bits.{bit, masked};
 ghost use Rattle.wn_net.specs.Value.{Given};
 ghost use Rattle.wn_net.specs.Net.{IsNode, IsNodeOf, AreNodesOf, IsWriteOf, value_at, width_at};
 ghost use Rattle.wn_net.specs.Given.{IsGiven};
 ghost use Rattle.wn_net.specs.Changes.{AddsNodes};
 ghost use Rattle.wn_mem.specs.Words.{AreWords, IsShared, words_width, numbers_of, after_write};
 
+use crate::bits::is_other;
 use fv_base::{Memory, Word};
 use std::alloc::Global;
 use wn_net::{MemWrite, Net, NodeId};
@@ -40,7 +42,7 @@ fn acts_on(net: &mut Net, write: &MemWrite, number: Word) -> Result<NodeId, Memo
     ensures adds { AddsNodes net.old net.new }
     ensures there { IfOk result (IsNodeOf net.new 1) }
     ensures value { IfOk result (λ id. (g : Given) → value_at net.new g id
-        ≡ bit_and (value_at net.old g write.now.enable) (bit (value_at net.old g write.now.addr == number.value))) }
+        ≡ bit_and (value_at net.old g write.now.enable) (bit (value_at net.old g write.now.addr == kept_word.number number))) }
 {
     let number = net.konst(number)?;
     let hit = net.eq(write.addr, number)?;
@@ -81,6 +83,9 @@ fn word_after(
         then masked (width_at net.old word) (value_at net.old g write.now.mask) (value_at net.old g word) (value_at net.old g write.now.value)
         else value_at net.old g word)) }
 {
+    if is_other(net, write.addr, number) {
+        return Ok(word);
+    }
     let Some(number) = Word::new(net.width(write.addr), u128::from(number)) else {
         return Ok(word);
     };

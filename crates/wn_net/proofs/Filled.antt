@@ -1,6 +1,6 @@
 -- Values that are filled in one by one.
-use Rattle.std.specs.Prelude.{◌≡◌, refl, ℕ, ◌+◌, ◌<◌, ◌^◌, List, [], ◌∷◌, ◌++◌, length, slice_index, slice_index_or, slice_set, take, drop}
-use Rattle.std.proofs.Common.{ap, sym, ◌∙◌, arith, subst, lit<}
+use Rattle.std.specs.Prelude.{◌≡◌, ℕ, ◌+◌, ◌<◌, ◌^◌, List, [], ◌∷◌, ◌++◌, length, slice_index, slice_index_or, slice_set, take, drop}
+use Rattle.std.proofs.Common.{ap, sym, ◌∙◌, arith, subst}
 use Rattle.std.proofs.lemmas.List.{length_push, take_more_set, drop_more, length-take-le}
 use Rattle.wn_net.specs.declared.node.Node.{Node}
 use Rattle.wn_net.specs.Width.{Shape, width, widths, IsFitting, AreFitting}
@@ -8,7 +8,7 @@ use Rattle.wn_net.specs.Value.{Given, value, values}
 use Rattle.wn_net.specs.Net.{Netlist, IsNet, IsKept, shape_of, widths_of, values_of}
 use Rattle.wn_net.specs.Given.{IsGiven}
 use Rattle.wn_net.proofs.Small.{AreWidths, AreSmall, width_small, widths_push, value_fits, numbers_push, HasWidths, has_widths}
-use Rattle.wn_net.proofs.Kept.{is_small, no_widths, widths_first}
+use Rattle.wn_net.proofs.Kept.{is_small, widths_first}
 
 -- Behind nodes with these widths and values the nodes that are left have all widths and all values.
 pub record Leaves (s : Shape) (g : Given) (ws vs : List ℕ) (left : List Node) (all_widths all_values : List ℕ) : Type 0 where
@@ -18,16 +18,6 @@ pub record Leaves (s : Shape) (g : Given) (ws vs : List ℕ) (left : List Node) 
   pub each : length vs ≡ length ws
   pub small : AreWidths ws
   pub below : (i : ℕ) → slice_index vs i < 2 ^ slice_index ws i
-
-pub leaves_all : (net : Netlist) (g : Given) → IsNet net → Leaves (shape_of net) g [] [] net.nodes (widths_of net) (values_of net g)
-leaves_all net g h = record {
-  fitting = h.nodes;
-  widths = refl;
-  values = refl;
-  each = refl;
-  small = no_widths;
-  below = λ i. lit< tt;
-}
 
 pub leaves_next : (s : Shape) (g : Given) (ws vs : List ℕ) (x : Node) (left : List Node) (aw av : List ℕ) → AreSmall s → HasWidths s g
     → Leaves s g ws vs (x ∷ left) aw av → Leaves s g (ws ++ width s ws x ∷ []) (vs ++ value g ws vs x ∷ []) left aw av

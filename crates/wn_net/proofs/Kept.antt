@@ -38,6 +38,7 @@ widths_of_small net h = widths_small (shape_of net) [] net.nodes (is_small net h
 -- what is stored for a node is its width
 pub stored_width : (shown net : Netlist) (stored : List ℕ) (id r : ℕ) → IsKept shown stored → shown ≡ net
     → id < length net.nodes → r ≡ slice_index_or stored id r → r ≡ width_at net id
+unfolding width_at
 stored_width shown net stored id r h e below read =
     let long : id < length stored = omega (arith, ap length h.widths, length-widths_of shown, ap (λ n. length n.nodes) e) in
     read ∙ get_or_default stored id r 0 long ∙ ap (λ ws. slice_index ws id) h.widths ∙ ap (λ n. width_at n id) e
@@ -47,6 +48,7 @@ stored_long shown net stored h e = ap length h.widths ∙ length-widths_of shown
 
 pub width_at_small : (shown net : Netlist) (stored : List ℕ) (id : ℕ) → IsKept shown stored → shown ≡ net
     → id < length net.nodes → IsWidth (width_at net id)
+unfolding width_at
 width_at_small shown net stored id h e below =
     let P : Netlist → Type 0 = λ n. IsWidth (width_at n id) in
     subst P e (widths_of_small shown h.whole id (omega (arith, length-widths_of shown, ap (λ n. length n.nodes) e)))

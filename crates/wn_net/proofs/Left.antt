@@ -11,9 +11,9 @@ use Rattle.wn_net.specs.declared.parts.MemWrite.{MemWrite}
 use Rattle.wn_net.specs.declared.parts.Input.{Input}
 use Rattle.wn_net.specs.Width.{IsWidth}
 use Rattle.wn_net.specs.Net.{Netlist, IsNet, IsKept, IsNode, IsNodeOf, IsInitOf, IsWriteOf, widths_of}
-use Rattle.wn_net.specs.Changes.{Keeps, BuildsInput, BuildsReg, with_mem, with_next, with_write, reg_width, mem_width}
+use Rattle.wn_net.specs.Changes.{Keeps, Grows, BuildsInput, BuildsReg, with_mem, with_next, with_write, reg_width, mem_width}
 use Rattle.wn_net.proofs.Stays.{widths_of-with_node}
-use Rattle.wn_net.proofs.Widened.{widened_widths, more_inputs, with_input, inputs_widened, with_input_whole, with_input_builds, more_regs, with_reg, regs_widened, with_reg_whole, with_reg_builds, mems_widened, with_mem_whole, with_mem_keeps, next_set, next_widened, next_set_whole, next_set_keeps, write_added, write_widened, write_added_whole, write_added_keeps, assumed_whole, last_mapped}
+use Rattle.wn_net.proofs.Widened.{widened_widths, more_inputs, with_input, inputs_widened, with_input_whole, with_input_builds, more_regs, with_reg, regs_widened, with_reg_whole, with_reg_builds, mems_widened, with_mem_whole, with_mem_grows, next_set, next_widened, next_set_whole, next_set_keeps, next_set_grows, write_added, write_widened, write_added_whole, write_added_keeps, write_added_grows, assumed_whole, assumed_keeps, assumed_grows, assumed, last_mapped}
 
 whole_by : (shown net : Netlist) → shown ≡ net → IsNet shown → IsNet net
 whole_by shown net e h = subst IsNet e h
@@ -102,12 +102,12 @@ mem_kept shown net m ms stored h e wide words each init none few mems_are =
       widths = h.widths ∙ sym (widened_widths shown (with_mem shown m) (mems_widened shown m) h.whole);
     })
 
-pub mem_keeps : (shown net : Netlist) (m : Mem) (ms : List Mem) → IsNet shown → shown ≡ net → ms ≡ shown.mems ++ m ∷ []
-    → Keeps net (record shown { mems = ms })
-mem_keeps shown net m ms h e mems_are =
-    let P : List Mem → Type 0 = λ ms. Keeps net (record shown { mems = ms }) in
-    let Q : Netlist → Type 0 = λ net. Keeps net (with_mem shown m) in
-    subst P (sym mems_are) (subst Q e (with_mem_keeps shown m h))
+pub mem_grows : (shown net : Netlist) (m : Mem) (ms : List Mem) → IsNet shown → shown ≡ net → ms ≡ shown.mems ++ m ∷ []
+    → Grows net (record shown { mems = ms })
+mem_grows shown net m ms h e mems_are =
+    let P : List Mem → Type 0 = λ ms. Grows net (record shown { mems = ms }) in
+    let Q : Netlist → Type 0 = λ net. Grows net (with_mem shown m) in
+    subst P (sym mems_are) (subst Q e (with_mem_grows shown m h))
 
 -- the next value of a register
 abbrev renexted : Reg → ℕ → Reg
@@ -185,3 +185,30 @@ assumed_kept shown net id ids stored h e own ids_are =
       whole = assumed_whole shown id h.whole (omega (arith, ap (λ net. length net.nodes) e, own));
       widths = h.widths;
     })
+
+-- no call but those of inputs and registers takes a node's number, and nothing goes
+pub next_grows : (shown net : Netlist) (i next : ℕ) (rs : List Reg) → IsNet shown → shown ≡ net → rs ≡ with_next i next shown.regs
+    → Grows net (record shown { regs = rs })
+next_grows shown net i next rs h e regs_are =
+    let P : Netlist → Type 0 = λ new. Grows net new in
+    subst P (sym (next_is shown net i next rs e regs_are)) (next_set_grows net i next (whole_by shown net e h))
+
+pub write_grows : (shown net : Netlist) (i : ℕ) (w : MemWrite) (ms : List Mem) → IsNet shown → shown ≡ net → ms ≡ with_write i w shown.mems
+    → Grows net (record shown { mems = ms })
+write_grows shown net i w ms h e mems_are =
+    let P : Netlist → Type 0 = λ new. Grows net new in
+    subst P (sym (write_is shown net i w ms e mems_are)) (write_added_grows net i w (whole_by shown net e h))
+
+assumed_is : (shown net : Netlist) (id : ℕ) (ids : List ℕ) → shown ≡ net → ids ≡ shown.assumes ++ id ∷ []
+    → record shown { assumes = ids } ≡ assumed net id
+assumed_is shown net id ids e ids_are = ap (λ us. record shown { assumes = us }) ids_are ∙ ap (λ n. assumed n id) e
+
+pub assume_keeps : (shown net : Netlist) (id : ℕ) (ids : List ℕ) → shown ≡ net → ids ≡ shown.assumes ++ id ∷ []
+    → Keeps net (record shown { assumes = ids })
+assume_keeps shown net id ids e ids_are =
+    let P : Netlist → Type 0 = λ new. Keeps net new in subst P (sym (assumed_is shown net id ids e ids_are)) (assumed_keeps net id)
+
+pub assume_grows : (shown net : Netlist) (id : ℕ) (ids : List ℕ) → shown ≡ net → ids ≡ shown.assumes ++ id ∷ []
+    → Grows net (record shown { assumes = ids })
+assume_grows shown net id ids e ids_are =
+    let P : Netlist → Type 0 = λ new. Grows net new in subst P (sym (assumed_is shown net id ids e ids_are)) (assumed_grows net id)

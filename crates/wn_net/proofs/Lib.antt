@@ -1,10 +1,10 @@
+pub mod Begun
 pub mod Filled
 pub mod Grows
 pub mod Kept
 pub mod Laws
 pub mod Left
 pub mod Moved
-pub mod NumberLemmas
 pub mod Small
 pub mod Stays
 pub mod Sweep

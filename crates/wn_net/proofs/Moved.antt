@@ -9,7 +9,7 @@ use Rattle.wn_net.specs.declared.parts.MemWrite.{MemWrite}
 use Rattle.wn_net.specs.declared.parts.State.{State}
 use Rattle.wn_net.specs.Value.{Given, word_at, words_at}
 use Rattle.wn_net.specs.Net.{Netlist, IsNet, IsRegOf, IsWriteOf, IsMemOf, IsNodeOf, shape_of, values_of, width_at, value_at}
-use Rattle.wn_net.specs.Numbers.{masked}
+use Rattle.fv_bits.specs.Bits.{masked}
 use Rattle.wn_net.specs.Given.{AreMemsOf, IsGiven, IsStateOf}
 use Rattle.wn_net.specs.Next.{written, write, write_each, next_mems, next_state, IsWriteIn, IsMemIn}
 use Rattle.wn_net.proofs.Small.{values_fit, has_widths, words_below, mems_alike}
@@ -18,10 +18,11 @@ use Rattle.wn_net.proofs.Written.{written_below}
 
 -- each value of a net is below 2 to its width
 pub value_below : (net : Netlist) (g : Given) → IsNet net → IsGiven net g → (id : ℕ) → value_at net g id < 2 ^ width_at net id
+unfolding value_at width_at
 value_below net g whole given id =
     values_fit (shape_of net) g [] [] net.nodes (has_widths net g given) refl (λ i. lit< tt) whole.nodes id
 
-value_within : (net : Netlist) (g : Given) (width id : ℕ) → IsNet net → IsGiven net g → IsNodeOf net width id → value_at net g id < 2 ^ width
+pub value_within : (net : Netlist) (g : Given) (width id : ℕ) → IsNet net → IsGiven net g → IsNodeOf net width id → value_at net g id < 2 ^ width
 value_within net g width id whole given h =
     let P : ℕ → Type 0 = λ w. value_at net g id < 2 ^ w in subst P h.1 (value_below net g whole given id)
 
@@ -33,6 +34,7 @@ nexts_there net g (r ∷ rs) h = (omega (arith, length-values_of net g, h.0.next
 
 nexts_below : (net : Netlist) (g : Given) (rs : List Reg) → IsNet net → IsGiven net g → AllByRecursion (IsRegOf net) rs
     → (i : ℕ) → slice_index (map (λ r. value_at net g r.next) rs) i < 2 ^ slice_index (map (λ r. r.width) rs) i
+unfolding value_at
 nexts_below net g [] whole given h i = lit< tt
 nexts_below net g (r ∷ rs) whole given h zero = value_within net g r.width r.next whole given h.0.next
 nexts_below net g (r ∷ rs) whole given h (suc i) = nexts_below net g rs whole given h.1 i
@@ -40,6 +42,7 @@ nexts_below net g (r ∷ rs) whole given h (suc i) = nexts_below net g rs whole 
 -- writes
 pub write_is_in : (net : Netlist) (g : Given) (width : ℕ) (w : MemWrite) → IsNet net → IsGiven net g → IsWriteOf net width w
     → IsWriteIn (values_of net g) width w
+unfolding value_at
 write_is_in net g width w whole given h = record {
   enable = omega (arith, length-values_of net g, h.enable.0);
   addr = omega (arith, length-values_of net g, h.addr);
@@ -97,6 +100,7 @@ next_mems_are vs [] (n ∷ ns) h k = absurd k
 next_mems_are vs (x ∷ ms) [] h k = absurd k
 
 pub next_is_state : (net : Netlist) (g : Given) → IsNet net → IsGiven net g → IsStateOf net (next_state net g)
+unfolding value_at
 next_is_state net g whole given = record {
   regs = record {
     each = length-map net.regs (λ r. value_at net g r.next) ∙ sym (length-map net.regs (λ r. r.width));

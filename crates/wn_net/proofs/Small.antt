@@ -6,12 +6,12 @@ use Rattle.std.proofs.lemmas.List.{get_or_append_left, length_push, get_or_push}
 use Rattle.wn_net.specs.declared.node.Node.{Node}
 use Rattle.wn_net.specs.declared.node.Node.TheVariants as n
 use Rattle.wn_net.specs.declared.parts.Mem.{Mem}
-use Rattle.wn_net.specs.Numbers.{low, complement, is_negative, bit}
+use Rattle.fv_bits.specs.Bits.{low, complement, is_negative, bit}
 use Rattle.wn_net.specs.Width.{Shape, IsWidth, width, widths, IsFitting, AreFitting}
 use Rattle.wn_net.specs.Value.{Given, value, values, word_at, words_at, words_of}
 use Rattle.wn_net.specs.Net.{Netlist, shape_of}
 use Rattle.wn_net.specs.Given.{AreNumbersOf, AreMemsOf, IsGiven}
-use Rattle.wn_net.proofs.NumberLemmas.{joined_fits, wider_le}
+use Rattle.fv_bits.proofs.Limits.{joined_fits, wider_le}
 
 -- each width is from 1 to 128; past the end stands 0
 abbrev pub AreWidths : List ℕ → Type 0

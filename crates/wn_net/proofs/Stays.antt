@@ -9,7 +9,7 @@ use Rattle.wn_net.specs.declared.parts.Mem.{Mem}
 use Rattle.wn_net.specs.declared.parts.MemWrite.{MemWrite}
 use Rattle.wn_net.specs.Width.{width, IsFitting}
 use Rattle.wn_net.specs.Value.{Given}
-use Rattle.wn_net.specs.Net.{Netlist, IsNet, IsNodeOf, IsRegOf, IsWriteOf, IsMemOf, AreNodes, shape_of, widths_of, values_of, width_at}
+use Rattle.wn_net.specs.Net.{Netlist, IsNet, IsNodeOf, IsRegOf, IsWriteOf, IsMemOf, AreNodes, shape_of, widths_of, values_of, width_at, value_at}
 use Rattle.wn_net.specs.Changes.{Keeps, Builds, width_in, value_in, with_node}
 use Rattle.wn_net.proofs.Sweep.{widths-append, values-append, length-widths, length-values, widths_begin, values_begin, fitting_both}
 
@@ -72,6 +72,7 @@ pub values_of-with_node : (net : Netlist) (g : Given) (x : Node) → values_of (
 values_of-with_node net g x = values-append (shape_of net) g [] [] net.nodes (x ∷ [])
 
 pub with_node_has_more : (net : Netlist) (x : Node) → HasMore net (with_node net x)
+unfolding width_at
 with_node_has_more net x = record {
   longer = omega (arith, length_push net.nodes x);
   widths = λ id h.
@@ -81,8 +82,11 @@ with_node_has_more net x = record {
 }
 
 pub with_node_keeps : (net : Netlist) (x : Node) → Keeps net (with_node net x)
+unfolding value_at
 with_node_keeps net x = record {
+  longer = (with_node_has_more net x).longer;
   widths = (with_node_has_more net x).widths;
+  given = λ g h. record { inputs = h.inputs; state = record { regs = h.state.regs; mems = h.state.mems } };
   values = λ g id h.
       let less : id < length (values_of net g) = omega (arith, length-values_of net g, h) in
       ap (λ vs. slice_index vs id) (values-append (shape_of net) g [] [] net.nodes (x ∷ []))
@@ -104,6 +108,7 @@ with_node_whole net x h fits =
     }
 
 pub with_node_builds : (net : Netlist) (x : Node) → Builds net (with_node net x) x (width_in net x) (λ g. value_in net g x) (length net.nodes)
+unfolding width_at value_at
 with_node_builds net x = record {
   last = refl;
   nodes = refl;

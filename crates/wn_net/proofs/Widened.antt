@@ -1,5 +1,5 @@
 -- Nets with one more input, register or memory, or with a register or a memory changed.
-use Rattle.std.specs.Prelude.{◌≡◌, refl, ℕ, zero, suc, ◌-◌, ◌<◌, ◌^◌, List, [], ◌∷◌, ◌++◌, length, map, slice_index}
+use Rattle.std.specs.Prelude.{◌≡◌, refl, ℕ, zero, suc, ◌-◌, ◌<◌, ◌≤◌, ◌^◌, List, [], ◌∷◌, ◌++◌, length, map, slice_index}
 use Rattle.std.specs.List.{AllByRecursion}
 use Rattle.std.proofs.Common.{ap, sym, ◌∙◌, arith, subst}
 use Rattle.std.proofs.lemmas.List.{length_push, get_or_push, map_push, length-map}
@@ -9,10 +9,12 @@ use Rattle.wn_net.specs.declared.parts.Reg.{Reg}
 use Rattle.wn_net.specs.declared.parts.Mem.{Mem}
 use Rattle.wn_net.specs.declared.parts.MemWrite.{MemWrite}
 use Rattle.wn_net.specs.declared.parts.Input.{Input}
-use Rattle.wn_net.specs.Width.{Shape, IsWidth, widths, AreFitting}
+use Rattle.wn_net.specs.Width.{IsWidth, widths, AreFitting}
 use Rattle.wn_net.specs.Value.{Given, values}
-use Rattle.wn_net.specs.Net.{Netlist, IsNet, IsNode, IsNodeOf, IsInitOf, IsRegOf, IsWriteOf, IsMemOf, shape_of, widths_of, values_of}
-use Rattle.wn_net.specs.Changes.{Keeps, BuildsInput, BuildsReg, with_node, with_mem, with_next, with_write}
+use Rattle.wn_net.specs.Net.{Netlist, IsNet, IsNode, IsNodeOf, IsInitOf, IsRegOf, IsWriteOf, IsMemOf, shape_of, widths_of, values_of, width_at, value_at}
+use Rattle.wn_net.specs.Given.{AreNumbersOf, AreMemsOf}
+use Rattle.wn_net.specs.Changes.{Keeps, Grows, BuildsInput, BuildsReg, with_node, with_mem, with_next, with_write}
+use Rattle.wn_net.proofs.Begun.{begun_self, begun_more, begun_same, begun_map}
 use Rattle.wn_net.proofs.Sweep.{fitting_both}
 use Rattle.wn_net.proofs.Grows.{Extends, IsWider, extends_self, extends_more, all_wider, widths_wider, values_wider}
 use Rattle.wn_net.proofs.Stays.{HasMore, regs_stay, mems_stay, nodes_stay, with_node_has_more, with_node_whole, with_node_builds}
@@ -35,17 +37,22 @@ pub widened_values : (old new : Netlist) (g : Given) → IsWidened old new → I
 widened_values old new g w h =
     ap (values (shape_of new) g [] []) w.nodes ∙ values_wider (shape_of old) (shape_of new) g [] [] old.nodes w.shape h.nodes
 
-pub widened_has_more : (old new : Netlist) → IsWidened old new → IsNet old → HasMore old new
-widened_has_more old new w h = record {
-  longer = omega (arith, ap length w.nodes);
-  widths = λ id below. ap (λ ws. slice_index ws id) (widened_widths old new w h);
-}
+-- there are as many nodes or more, and those that were there have kept their widths and values
+pub record NodesStay (old new : Netlist) : Type 0 where
+  pub longer : length old.nodes ≤ length new.nodes
+  pub widths : (id : ℕ) → id < length old.nodes → width_at new id ≡ width_at old id
+  pub values : (g : Given) (id : ℕ) → id < length old.nodes → value_at new g id ≡ value_at old g id
 
-pub widened_keeps : (old new : Netlist) → IsWidened old new → IsNet old → Keeps old new
-widened_keeps old new w h = record {
+pub widened_stay : (old new : Netlist) → IsWidened old new → IsNet old → NodesStay old new
+unfolding width_at value_at
+widened_stay old new w h = record {
+  longer = omega (arith, ap length w.nodes);
   widths = λ id below. ap (λ ws. slice_index ws id) (widened_widths old new w h);
   values = λ g id below. ap (λ vs. slice_index vs id) (widened_values old new g w h);
 }
+
+pub widened_has_more : (old new : Netlist) → IsWidened old new → IsNet old → HasMore old new
+widened_has_more old new w h = let s = widened_stay old new w h in record { longer = s.longer; widths = s.widths }
 
 extends_push : {A : Type 0} (f : A → ℕ) (xs : List A) (x : A) → Extends (map f xs) (map f (xs ++ x ∷ []))
 extends_push f xs x =
@@ -55,17 +62,16 @@ extends_push f xs x =
 extends_same : (xs ys : List ℕ) → ys ≡ xs → Extends xs ys
 extends_same xs ys e = let P : List ℕ → Type 0 = λ zs. Extends xs zs in subst P (sym e) (extends_self xs)
 
-same_shape : (s : Shape) → IsWider s s
-same_shape s = record { inputs = extends_self s.inputs; regs = extends_self s.regs; mems = extends_self s.mems }
-
 all_push : {A : Type 0} (P : A → Type 0) (xs : List A) (x : A) → AllByRecursion P xs → P x → AllByRecursion P (xs ++ x ∷ [])
 all_push P [] x h k = (k, tt)
 all_push P (y ∷ ys) x h k = (h.0, all_push P ys x h.1 k)
 
-keeps_on : (a b c : Netlist) → Keeps a b → HasMore a b → Keeps b c → Keeps a c
-keeps_on a b c h more k = record {
-  widths = λ id below. k.widths id (omega (arith, more.longer)) ∙ h.widths id below;
-  values = λ g id below. k.values g id (omega (arith, more.longer)) ∙ h.values g id below;
+-- and then more nodes
+stay_on : (a b c : Netlist) → NodesStay a b → Keeps b c → NodesStay a c
+stay_on a b c h k = record {
+  longer = omega (arith, h.longer, k.longer);
+  widths = λ id below. k.widths id (omega (arith, h.longer)) ∙ h.widths id below;
+  values = λ g id below. k.values g id (omega (arith, h.longer)) ∙ h.values g id below;
 }
 
 more_on : (a b c : Netlist) → HasMore a b → HasMore b c → HasMore a c
@@ -118,7 +124,7 @@ pub with_input_builds : (net : Netlist) (i : Input) → IsNet net → BuildsInpu
 with_input_builds net i h =
     let mid = more_inputs net i in
     let built = with_node_builds mid (n.Input (length net.inputs)) in
-    let wide = inputs_widened net i in
+    let stay = stay_on net mid (with_input net i) (widened_stay net mid (inputs_widened net i) h) built.adds.keeps in
     record {
       last = refl;
       nodes = refl;
@@ -128,7 +134,18 @@ with_input_builds net i h =
       assumes = refl;
       width = built.width ∙ last_mapped (λ i. i.width) net.inputs i;
       value = built.value;
-      keeps = keeps_on net mid (with_input net i) (widened_keeps net mid wide h) (widened_has_more net mid wide h) built.adds.keeps;
+      grows = record {
+        nodes = begun_more net.nodes (n.Input (length net.inputs) ∷ []);
+        inputs = begun_more net.inputs (i ∷ []);
+        assumes = begun_self net.assumes;
+        reg_widths = begun_self (map (λ r. r.width) net.regs);
+        reg_starts = begun_self (map (λ r. r.init) net.regs);
+        mem_widths = begun_self (map (λ m. m.width) net.mems);
+        mem_words = begun_self (map (λ m. m.words) net.mems);
+        mem_starts = begun_self (map (λ m. m.init) net.mems);
+        widths = stay.widths;
+        values = stay.values;
+      };
     }
 
 -- a register
@@ -179,7 +196,7 @@ pub with_reg_builds : (net : Netlist) (r : Reg) → IsNet net → BuildsReg net 
 with_reg_builds net r h =
     let mid = more_regs net r in
     let built = with_node_builds mid (n.Reg (length net.regs)) in
-    let wide = regs_widened net r in
+    let stay = stay_on net mid (with_reg net r) (widened_stay net mid (regs_widened net r) h) built.adds.keeps in
     record {
       last = refl;
       nodes = refl;
@@ -189,7 +206,18 @@ with_reg_builds net r h =
       assumes = refl;
       width = built.width ∙ last_mapped (λ r. r.width) net.regs r;
       value = built.value;
-      keeps = keeps_on net mid (with_reg net r) (widened_keeps net mid wide h) (widened_has_more net mid wide h) built.adds.keeps;
+      grows = record {
+        nodes = begun_more net.nodes (n.Reg (length net.regs) ∷ []);
+        inputs = begun_self net.inputs;
+        assumes = begun_self net.assumes;
+        reg_widths = begun_map (λ r. r.width) net.regs (net.regs ++ r ∷ []) (begun_more net.regs (r ∷ []));
+        reg_starts = begun_map (λ r. r.init) net.regs (net.regs ++ r ∷ []) (begun_more net.regs (r ∷ []));
+        mem_widths = begun_self (map (λ m. m.width) net.mems);
+        mem_words = begun_self (map (λ m. m.words) net.mems);
+        mem_starts = begun_self (map (λ m. m.init) net.mems);
+        widths = stay.widths;
+        values = stay.values;
+      };
     }
 
 -- a memory
@@ -203,8 +231,22 @@ mems_widened net m = record {
   };
 }
 
-pub with_mem_keeps : (net : Netlist) (m : Mem) → IsNet net → Keeps net (with_mem net m)
-with_mem_keeps net m h = widened_keeps net (with_mem net m) (mems_widened net m) h
+pub with_mem_grows : (net : Netlist) (m : Mem) → IsNet net → Grows net (with_mem net m)
+with_mem_grows net m h =
+    let stay = widened_stay net (with_mem net m) (mems_widened net m) h in
+    let more = begun_more net.mems (m ∷ []) in
+    record {
+      nodes = begun_self net.nodes;
+      inputs = begun_self net.inputs;
+      assumes = begun_self net.assumes;
+      reg_widths = begun_self (map (λ r. r.width) net.regs);
+      reg_starts = begun_self (map (λ r. r.init) net.regs);
+      mem_widths = begun_map (λ m. m.width) net.mems (net.mems ++ m ∷ []) more;
+      mem_words = begun_map (λ m. m.words) net.mems (net.mems ++ m ∷ []) more;
+      mem_starts = begun_map (λ m. m.init) net.mems (net.mems ++ m ∷ []) more;
+      widths = stay.widths;
+      values = stay.values;
+    }
 
 pub with_mem_whole : (net : Netlist) (m : Mem) → IsNet net → IsMemOf (with_mem net m) m → length net.mems < 2 ^ 32 - 1 → IsNet (with_mem net m)
 with_mem_whole net m h own few =
@@ -251,8 +293,41 @@ regs_with_next net i next [] h k = tt
 regs_with_next net zero next (r ∷ rs) h k = (record { width = h.0.width; init = h.0.init; next = k }, h.1)
 regs_with_next net (suc i) next (r ∷ rs) h k = (h.0, regs_with_next net i next rs h.1 k)
 
+starts-with_next : (i next : ℕ) (rs : List Reg) → map (λ r. r.init) (with_next i next rs) ≡ map (λ r. r.init) rs
+starts-with_next i next [] = refl
+starts-with_next zero next (r ∷ rs) = refl
+starts-with_next (suc i) next (r ∷ rs) = ap (λ ws. r.init ∷ ws) (starts-with_next i next rs)
+
 pub next_set_keeps : (net : Netlist) (i next : ℕ) → IsNet net → Keeps net (next_set net i next)
-next_set_keeps net i next h = widened_keeps net (next_set net i next) (next_widened net i next) h
+next_set_keeps net i next h =
+    let stay = widened_stay net (next_set net i next) (next_widened net i next) h in
+    record {
+      longer = stay.longer;
+      widths = stay.widths;
+      values = stay.values;
+      given = λ g k.
+          let P : List ℕ → Type 0 = λ ws. AreNumbersOf ws g.state.regs in
+          record {
+            inputs = k.inputs;
+            state = record { regs = subst P (sym (widths-with_next i next net.regs)) k.state.regs; mems = k.state.mems };
+          };
+    }
+
+pub next_set_grows : (net : Netlist) (i next : ℕ) → IsNet net → Grows net (next_set net i next)
+next_set_grows net i next h =
+    let stay = widened_stay net (next_set net i next) (next_widened net i next) h in
+    record {
+      nodes = begun_self net.nodes;
+      inputs = begun_self net.inputs;
+      assumes = begun_self net.assumes;
+      reg_widths = begun_same _ _ (widths-with_next i next net.regs);
+      reg_starts = begun_same _ _ (starts-with_next i next net.regs);
+      mem_widths = begun_self (map (λ m. m.width) net.mems);
+      mem_words = begun_self (map (λ m. m.words) net.mems);
+      mem_starts = begun_self (map (λ m. m.init) net.mems);
+      widths = stay.widths;
+      values = stay.values;
+    }
 
 pub next_set_whole : (net : Netlist) (i next : ℕ) → IsNet net → IsNodeOf net (slice_index (map (λ r. r.width) net.regs) i) next
     → IsNet (next_set net i next)
@@ -309,8 +384,52 @@ mems_with_write net zero w (m ∷ ms) h k = (
 )
 mems_with_write net (suc i) w (m ∷ ms) h k = (h.0, mems_with_write net i w ms h.1 k)
 
+words-with_write : (i : ℕ) (w : MemWrite) (ms : List Mem) → map (λ m. m.words) (with_write i w ms) ≡ map (λ m. m.words) ms
+words-with_write i w [] = refl
+words-with_write zero w (m ∷ ms) = refl
+words-with_write (suc i) w (m ∷ ms) = ap (λ ws. m.words ∷ ws) (words-with_write i w ms)
+
+starts-with_write : (i : ℕ) (w : MemWrite) (ms : List Mem) → map (λ m. m.init) (with_write i w ms) ≡ map (λ m. m.init) ms
+starts-with_write i w [] = refl
+starts-with_write zero w (m ∷ ms) = refl
+starts-with_write (suc i) w (m ∷ ms) = ap (λ ws. m.init ∷ ws) (starts-with_write i w ms)
+
+mems_of-with_write : (i : ℕ) (w : MemWrite) (ms : List Mem) (ns : List (List ℕ)) → AreMemsOf ms ns → AreMemsOf (with_write i w ms) ns
+mems_of-with_write i w [] [] h = tt
+mems_of-with_write zero w (m ∷ ms) (n ∷ ns) h = (record { each = h.0.each; below = h.0.below }, h.1)
+mems_of-with_write (suc i) w (m ∷ ms) (n ∷ ns) h = (h.0, mems_of-with_write i w ms ns h.1)
+mems_of-with_write i w [] (n ∷ ns) h = absurd h
+mems_of-with_write i w (m ∷ ms) [] h = absurd h
+
 pub write_added_keeps : (net : Netlist) (i : ℕ) (w : MemWrite) → IsNet net → Keeps net (write_added net i w)
-write_added_keeps net i w h = widened_keeps net (write_added net i w) (write_widened net i w) h
+write_added_keeps net i w h =
+    let stay = widened_stay net (write_added net i w) (write_widened net i w) h in
+    record {
+      longer = stay.longer;
+      widths = stay.widths;
+      values = stay.values;
+      given = λ g k.
+          record {
+            inputs = k.inputs;
+            state = record { regs = k.state.regs; mems = mems_of-with_write i w net.mems g.state.mems k.state.mems };
+          };
+    }
+
+pub write_added_grows : (net : Netlist) (i : ℕ) (w : MemWrite) → IsNet net → Grows net (write_added net i w)
+write_added_grows net i w h =
+    let stay = widened_stay net (write_added net i w) (write_widened net i w) h in
+    record {
+      nodes = begun_self net.nodes;
+      inputs = begun_self net.inputs;
+      assumes = begun_self net.assumes;
+      reg_widths = begun_self (map (λ r. r.width) net.regs);
+      reg_starts = begun_self (map (λ r. r.init) net.regs);
+      mem_widths = begun_same _ _ (widths-with_write i w net.mems);
+      mem_words = begun_same _ _ (words-with_write i w net.mems);
+      mem_starts = begun_same _ _ (starts-with_write i w net.mems);
+      widths = stay.widths;
+      values = stay.values;
+    }
 
 pub write_added_whole : (net : Netlist) (i : ℕ) (w : MemWrite) → IsNet net → IsWriteOf net (slice_index (map (λ m. m.width) net.mems) i) w
     → IsNet (write_added net i w)
@@ -333,6 +452,7 @@ abbrev pub assumed : Netlist → ℕ → Netlist
 assumed net id = record net { assumes = net.assumes ++ id ∷ [] }
 
 assumed_more : (net : Netlist) (id : ℕ) → HasMore net (assumed net id)
+unfolding width_at
 assumed_more net id = record { longer = omega arith; widths = λ i below. refl }
 
 pub assumed_whole : (net : Netlist) (id : ℕ) → IsNet net → IsNode net id → IsNet (assumed net id)
@@ -350,7 +470,26 @@ assumed_whole net id h own =
     }
 
 pub assumed_keeps : (net : Netlist) (id : ℕ) → Keeps net (assumed net id)
-assumed_keeps net id = record { widths = λ i below. refl; values = λ g i below. refl }
+unfolding width_at value_at
+assumed_keeps net id = record {
+  longer = omega arith;
+  widths = λ i below. refl;
+  values = λ g i below. refl;
+  given = λ g h. record { inputs = h.inputs; state = record { regs = h.state.regs; mems = h.state.mems } };
+}
 
-pub keeps_self : (net : Netlist) → Keeps net net
-keeps_self net = record { widths = λ i below. refl; values = λ g i below. refl }
+pub assumed_grows : (net : Netlist) (id : ℕ) → Grows net (assumed net id)
+assumed_grows net id =
+    let keeps = assumed_keeps net id in
+    record {
+      nodes = begun_self net.nodes;
+      inputs = begun_self net.inputs;
+      assumes = begun_more net.assumes (id ∷ []);
+      reg_widths = begun_self (map (λ r. r.width) net.regs);
+      reg_starts = begun_self (map (λ r. r.init) net.regs);
+      mem_widths = begun_self (map (λ m. m.width) net.mems);
+      mem_words = begun_self (map (λ m. m.words) net.mems);
+      mem_starts = begun_self (map (λ m. m.init) net.mems);
+      widths = keeps.widths;
+      values = keeps.values;
+    }

@@ -2,7 +2,7 @@
 use Rattle.std.specs.Prelude.{ℕ, zero, suc, ◌<◌, ◌^◌, ◌==◌, Bool, true, false, List, [], ◌∷◌, slice_set, if◌then◌else◌, bit_and}
 use Rattle.std.proofs.Common.{arith}
 use Rattle.std.proofs.lemmas.Nat.{or_lt, and_le_r}
-use Rattle.wn_net.specs.Numbers.{masked, complement}
+use Rattle.fv_bits.specs.Bits.{masked, complement}
 use Rattle.wn_net.specs.Value.{word_at}
 use Rattle.wn_net.specs.Next.{written}
 

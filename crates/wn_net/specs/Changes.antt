@@ -1,5 +1,5 @@
 -- What a call may do to a net (rule of this project).
-use Rattle.std.specs.Prelude.{◌≡◌, ℕ, zero, suc, ◌<◌, List, [], ◌∷◌, ◌++◌, length, take, slice_index}
+use Rattle.std.specs.Prelude.{◌≡◌, ℕ, zero, suc, ◌<◌, ◌≤◌, List, [], ◌∷◌, ◌++◌, length, take, map, slice_index}
 use Rattle.wn_net.specs.declared.node.Node.{Node}
 use Rattle.wn_net.specs.declared.node.Node.TheVariants as n
 use Rattle.wn_net.specs.declared.parts.Reg.{Reg}
@@ -8,14 +8,41 @@ use Rattle.wn_net.specs.declared.parts.MemWrite.{MemWrite}
 use Rattle.wn_net.specs.declared.parts.Input.{Input}
 use Rattle.wn_net.specs.Width.{width}
 use Rattle.wn_net.specs.Value.{Given, value}
-use Rattle.wn_net.specs.Net.{Netlist, shape_of, widths_of, values_of, width_at, value_at}
+use Rattle.wn_net.specs.Given.{IsGiven}
+use Rattle.wn_net.specs.Net.{Netlist, IsNodeOf, shape_of, widths_of, values_of, width_at, value_at}
 
 -- the second list begins with the first
 abbrev pub IsBegun : {A : Type 0} → List A → List A → Type 0
 IsBegun xs ys = take (length xs) ys ≡ xs
 
--- each node that was there has its width and its values
+-- Each node that was there has its width and its values, and the numbers of the old net's cycles are numbers of the new one's.
 pub record Keeps (old new : Netlist) : Type 0 where
+  pub longer : length old.nodes ≤ length new.nodes
+  pub widths : (id : ℕ) → id < length old.nodes → width_at new id ≡ width_at old id
+  pub values : (g : Given) (id : ℕ) → id < length old.nodes → value_at new g id ≡ value_at old g id
+  pub given : (g : Given) → IsGiven old g → IsGiven new g
+
+-- Nothing goes: nodes, inputs and assumptions are added behind those that were there, and each register and memory that was
+-- there has its width and its start. Next nodes and writes may have changed.
+pub record Grows (old new : Netlist) : Type 0 where
+  pub nodes : IsBegun old.nodes new.nodes
+  pub inputs : IsBegun old.inputs new.inputs
+  pub assumes : IsBegun old.assumes new.assumes
+  pub reg_widths : IsBegun (map (λ r. r.width) old.regs) (map (λ r. r.width) new.regs)
+  pub reg_starts : IsBegun (map (λ r. r.init) old.regs) (map (λ r. r.init) new.regs)
+  pub mem_widths : IsBegun (map (λ m. m.width) old.mems) (map (λ m. m.width) new.mems)
+  pub mem_words : IsBegun (map (λ m. m.words) old.mems) (map (λ m. m.words) new.mems)
+  pub mem_starts : IsBegun (map (λ m. m.init) old.mems) (map (λ m. m.init) new.mems)
+  pub widths : (id : ℕ) → id < length old.nodes → width_at new id ≡ width_at old id
+  pub values : (g : Given) (id : ℕ) → id < length old.nodes → value_at new g id ≡ value_at old g id
+
+-- nodes and registers are added, each old register has its next node, and nothing else is changed
+pub record AddsRegs (old new : Netlist) : Type 0 where
+  pub nodes : IsBegun old.nodes new.nodes
+  pub regs : IsBegun old.regs new.regs
+  pub mems : new.mems ≡ old.mems
+  pub inputs : new.inputs ≡ old.inputs
+  pub assumes : new.assumes ≡ old.assumes
   pub widths : (id : ℕ) → id < length old.nodes → width_at new id ≡ width_at old id
   pub values : (g : Given) (id : ℕ) → id < length old.nodes → value_at new g id ≡ value_at old g id
 
@@ -35,6 +62,12 @@ pub record Builds (old new : Netlist) (node : Node) (bits : ℕ) (meaning : Give
   pub width : width_at new id ≡ bits
   pub value : (g : Given) → value_at new g id ≡ meaning g
   pub adds : AddsNodes old new
+
+-- The node is there with this width, and has this number in each cycle of the old net: what a function that adds several
+-- nodes promises of the one that it answers.
+pub record Shows (old new : Netlist) (bits : ℕ) (meaning : Given → ℕ) (id : ℕ) : Type 0 where
+  pub node : IsNodeOf new bits id
+  pub value : (g : Given) → IsGiven old g → value_at new g id ≡ meaning g
 
 -- the width and the value that a node has behind those of the net
 abbrev pub width_in : Netlist → Node → ℕ
@@ -60,7 +93,7 @@ pub record BuildsInput (old new : Netlist) (input : Input) (id : ℕ) : Type 0 w
   pub assumes : new.assumes ≡ old.assumes
   pub width : width_at new id ≡ input.width
   pub value : (g : Given) → value_at new g id ≡ slice_index g.inputs (length old.inputs)
-  pub keeps : Keeps old new
+  pub grows : Grows old new
 
 -- a register is added, and the node that reads it, with this number
 pub record BuildsReg (old new : Netlist) (reg : Reg) (id : ℕ) : Type 0 where
@@ -72,7 +105,7 @@ pub record BuildsReg (old new : Netlist) (reg : Reg) (id : ℕ) : Type 0 where
   pub assumes : new.assumes ≡ old.assumes
   pub width : width_at new id ≡ reg.width
   pub value : (g : Given) → value_at new g id ≡ slice_index g.state.regs (length old.regs)
-  pub keeps : Keeps old new
+  pub grows : Grows old new
 
 -- a memory is added
 abbrev pub with_mem : Netlist → Mem → Netlist

@@ -3,6 +3,5 @@ pub mod Given
 pub mod Names
 pub mod Net
 pub mod Next
-pub mod Numbers
 pub mod Value
 pub mod Width

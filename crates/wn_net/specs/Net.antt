@@ -29,14 +29,15 @@ shape_of net = record {
 abbrev pub widths_of : Netlist → List ℕ
 widths_of net = widths (shape_of net) [] net.nodes
 
-abbrev pub width_at : Netlist → ℕ → ℕ
+-- a contract knows it by laws alone, and a proof by its body where it says so
+unfoldable pub width_at : Netlist → ℕ → ℕ
 width_at net id = slice_index (widths_of net) id
 
 -- the value of each node in a cycle
 abbrev pub values_of : Netlist → Given → List ℕ
 values_of net g = values (shape_of net) g [] [] net.nodes
 
-abbrev pub value_at : Netlist → Given → ℕ → ℕ
+unfoldable pub value_at : Netlist → Given → ℕ → ℕ
 value_at net g id = slice_index (values_of net g) id
 
 -- The condition that a number is one of this net: it names a node that is there.

@@ -4,7 +4,7 @@ use Rattle.std.specs.List.{AllByRecursion}
 use Rattle.wn_net.specs.declared.parts.State.{State}
 use Rattle.wn_net.specs.declared.parts.Mem.{Mem}
 use Rattle.wn_net.specs.declared.parts.MemWrite.{MemWrite}
-use Rattle.wn_net.specs.Numbers.{masked}
+use Rattle.fv_bits.specs.Bits.{masked}
 use Rattle.wn_net.specs.Value.{Given, word_at}
 use Rattle.wn_net.specs.Net.{Netlist, values_of}
 

@@ -3,7 +3,8 @@ use Rattle.std.specs.Prelude.{ℕ, ◌==◌, List, [], ◌∷◌, ◌++◌, bit_
 use Rattle.wn_net.specs.declared.node.Node.{Node}
 use Rattle.wn_net.specs.declared.node.Node.TheVariants as n
 use Rattle.wn_net.specs.declared.parts.State.{State}
-use Rattle.wn_net.specs.Numbers.{complement, is_less_signed, bit, sum, difference, product, shifted_left, shifted_right, arithmetic_right, sign_extended, part, joined}
+use Rattle.fv_base.specs.Word.{number}
+use Rattle.fv_bits.specs.Bits.{complement, is_less_signed, bit, sum, difference, product, shifted_left, shifted_right, arithmetic_right, sign_extended, part, joined}
 use Rattle.wn_net.specs.Width.{Shape, width}
 
 -- the numbers of a cycle: of the inputs, and those that registers and memories have in it
@@ -24,7 +25,7 @@ words_of g m = words_at g.state.mems m
 
 -- the value of a node, by the widths and the values of those before it
 abbrev pub value : Given → List ℕ → List ℕ → Node → ℕ
-value g ws vs (n.Konst word) = word.value
+value g ws vs (n.Konst word) = number word
 value g ws vs (n.Input i) = slice_index g.inputs i
 value g ws vs (n.Reg i) = slice_index g.state.regs i
 value g ws vs (n.Read m a) = word_at (words_of g m) (slice_index vs a)

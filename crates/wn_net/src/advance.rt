@@ -5,10 +5,10 @@ ghost use Rattle.wn_net.specs.Value.{word_at, words_at};
 ghost use Rattle.wn_net.specs.Next as spec;
 ghost use Rattle.wn_net.specs.Next.{IsWriteIn, IsMemIn};
 
-use crate::numbers::masked;
 use crate::parts::{Mem, MemWrite, Reg};
 use crate::value::{at, number_at};
 use fv_base::List;
+use fv_bits::masked;
 
 /// Puts the number at the place.
 fn set_number(numbers: &mut List<u128>, index: usize, number: u128)

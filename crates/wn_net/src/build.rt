@@ -1,8 +1,9 @@
 //! The builders of nodes.
-#![tactic(auto, using(crate::proofs::Stays::theres))]
+#![tactic(auto, using(crate::proofs::Stays::theres), unfolding(crate::specs::Net::width_at, crate::specs::Net::value_at))]
 
 ghost use Rattle.std.specs.Prelude.{◌≡◌, ◌==◌, nat_lt, bit_and, bit_or, bit_xor, if◌then◌else◌, ◌+◌, ◌<◌, ◌≤◌, ◌^◌, [], ◌++◌, ◌∷◌, length, IfOk, OnOk, OnErr};
-ghost use Rattle.wn_net.specs.Numbers as num;
+ghost use Rattle.fv_base.specs.Word.{number};
+ghost use Rattle.fv_bits.specs.Bits as num;
 ghost use Rattle.wn_net.specs.Width.{IsFitting};
 ghost use Rattle.wn_net.specs.Net.{IsNode, IsNodeOf, shape_of, widths_of, width_at, value_at};
 ghost use Rattle.wn_net.specs.Changes.{Builds, width_in, value_in};
@@ -190,7 +191,7 @@ impl Net {
     /// A number.
     pub fn konst(&mut self, word: Word) -> Result<NodeId, Memory>
         ensures built { IfOk result (Builds self.old self.new (node.Konst word) word.width
-            (λ g. word.value)) }
+            (λ g. number word)) }
         ensures same { OnErr result (self.new ≡ self.old) }
     {
         self.push(Node::Konst(word), word.width())

@@ -6,16 +6,7 @@ ghost use Rattle.wn_net.specs.Given.{AreNumbersOf, AreMemsOf, IsGiven, HasWords,
 use crate::net::Net;
 use crate::parts::{Input, Mem, Reg, State};
 use fv_base::List;
-
-/// Whether the number has so many bits or fewer.
-fn fits(width: u32, number: u128) -> bool
-    ensures { IsTrue result ↔ (number < 2 ^ width) }
-{
-    if width >= 128 {
-        return true;
-    }
-    number >> width == 0
-}
+use fv_bits::fits;
 
 fn inputs_fit(inputs: &[Input], numbers: &[u128]) -> bool
     ensures { IsTrue result ↔ AreNumbersOf (map (λ i. i.width) inputs.now) numbers.now }

@@ -3,17 +3,15 @@
 
 mod advance;
 mod build;
+mod copy;
 mod eval;
 mod given;
 mod names;
 mod net;
 mod node;
-mod numbers;
 mod parts;
 mod shared;
 mod sources;
-#[cfg(test)]
-mod tests;
 mod value;
 
 pub use names::{Names, NetName, Place, Spot};

@@ -1,9 +1,11 @@
 //! The builders of inputs, registers and memories, and what changes them.
+#![tactic(auto, using(crate::proofs::Begun::unchanged))]
+
 ghost use Rattle.std.specs.Prelude.{◌≡◌, ◌+◌, ◌-◌, ◌<◌, ◌≤◌, ◌^◌, [], ◌++◌, ◌∷◌, length, IfOk, OnOk, OnErr};
 ghost use Rattle.std.specs.List.{AllByRecursion};
 ghost use Rattle.wn_net.specs.Value.{word_at, words_of};
 ghost use Rattle.wn_net.specs.Net.{IsNode, IsNodeOf, IsInitOf, IsWriteOf, width_at, value_at};
-ghost use Rattle.wn_net.specs.Changes.{Keeps, Builds, BuildsInput, BuildsReg, with_mem, with_next, with_write, reg_width, mem_width};
+ghost use Rattle.wn_net.specs.Changes.{Keeps, Grows, Builds, BuildsInput, BuildsReg, with_mem, with_next, with_write, reg_width, mem_width};
 ghost use Rattle.wn_net.specs.declared.node.Node.TheVariants as node;
 
 use crate::build::push_node;
@@ -64,6 +66,7 @@ impl Net {
     }
 
     /// The word of a memory at an address; 0 past the last word.
+    #[tactic(auto, unfolding(crate::specs::Net::width_at, crate::specs::Net::value_at))]
     pub fn read(&mut self, mem: u32, addr: NodeId) -> Result<NodeId, Memory>
         requires mem { mem < length self.old.mems }
         requires addr { IsNode self.old addr }
@@ -81,6 +84,7 @@ impl Net {
         requires next { IsNodeOf self.old (reg_width self.old reg) next }
         ensures new { self.new ≡ record self.old { regs = with_next reg next self.old.regs } }
         ensures keeps { Keeps self.old self.new }
+        ensures grows { Grows self.old self.new }
     {
         self.regs[reg as usize].next = next;
     }
@@ -95,7 +99,7 @@ impl Net {
         requires room { length self.old.mems < 2 ^ 32 - 1 }
         ensures last { IfOk result (λ m. m ≡ length self.old.mems) }
         ensures new { OnOk result (self.new ≡ with_mem self.old (record { width = width; words = words; init = init; writes = [] })) }
-        ensures keeps { Keeps self.old self.new }
+        ensures grows { Grows self.old self.new }
         ensures same { OnErr result (self.new ≡ self.old) }
     {
         let count = self.mems.len();
@@ -115,6 +119,7 @@ impl Net {
         requires write { IsWriteOf self.old (mem_width self.old mem) write }
         ensures new { OnOk result (self.new ≡ record self.old { mems = with_write mem write self.old.mems }) }
         ensures keeps { Keeps self.old self.new }
+        ensures grows { Grows self.old self.new }
         ensures same { OnErr result (self.new ≡ self.old) }
     {
         let changed = &mut self.mems[mem as usize];
@@ -127,6 +132,7 @@ impl Net {
         requires { IsNode self.old node }
         ensures new { OnOk result (self.new ≡ record self.old { assumes = self.old.assumes ++ node ∷ [] }) }
         ensures keeps { Keeps self.old self.new }
+        ensures grows { Grows self.old self.new }
         ensures same { OnErr result (self.new ≡ self.old) }
     {
         self.assumes.push(node)?;

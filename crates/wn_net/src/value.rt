@@ -6,12 +6,12 @@ ghost use Rattle.wn_net.specs.Value.{word_at};
 ghost use Rattle.wn_net.specs.Given.{given};
 
 use crate::node::{Node, NodeId};
-use crate::numbers::{
+use crate::parts::State;
+use fv_base::List;
+use fv_bits::{
     arithmetic_right, bit, complement, difference, is_less_signed, joined, part, product,
     shifted_left, shifted_right, sign_extended, sum,
 };
-use crate::parts::State;
-use fv_base::List;
 
 /// The number at the place; 0 past the end.
 pub(crate) fn number_at(numbers: &List<u128>, place: u128) -> u128

@@ -1,8 +1,9 @@
 use Rattle.std.specs.Prelude.{◌≡◌, true, false}
 use Rattle.std.proofs.Common.{◌∙◌}
+use Rattle.fv_base.specs.Word.{number}
 use Rattle.wn_net.specs.Net.{IsNode, width_at, value_at}
 use Rattle.wn_net.proofs.Laws.{adds_on, value_on, there_on, built_node}
-use Rattle.wn_mem.proofs.After.{never_acts, word_value, enable_small}
+use Rattle.wn_mem.proofs.After.{never_acts, other_acts, word_value, enable_small}
 use Rattle.wn_mem.proofs.write.word_after.Goals as goal
 
 pub returns-in_default-clause-value : goal.returns-in_default-clause-value
@@ -33,7 +34,7 @@ returns-clause-value c = λ g given.
     let here : IsNode one c.args.word = there_on net one c.args.word first c.requires.word in
     word_value (width_at net c.args.word) (value_at c.mux.new.self g c.in_ok-chosen.chosen) (value_at two g c.in_ok-acts.acts)
     (value_at two g c.in_ok-changed.changed) (value_at two g c.args.word) (value_at net g w.enable) (value_at net g w.addr)
-    c.in-Some.number.value c.args.number (value_at net g c.args.word) (value_at one g c.args.word) (value_at net g w.mask)
+    (number c.in-Some.number) c.args.number (value_at net g c.args.word) (value_at one g c.args.word) (value_at net g w.mask)
     (value_at net g w.value) (value_at one g c.args.shared.written) (value_at one g c.args.shared.kept)
     (enable_small net g w.enable c.width.ensures.whole given c.requires.write.enable)
     (c.in_ok-chosen.ensures.built.value g)
@@ -44,3 +45,6 @@ returns-clause-value c = λ g given.
     (value_on one two g c.args.word second here ∙ value_on net one g c.args.word first c.requires.word)
     (value_on net one g c.args.shared.written first shared.changed_there.0 ∙ shared.changed_value g)
     (value_on net one g c.args.shared.kept first shared.kept_there.0 ∙ shared.kept_value g)
+
+pub returns-then-is_other-clause-value : goal.returns-then-is_other-clause-value
+returns-then-is_other-clause-value c = λ g given. other_acts _ _ c.args.number _ _ (c.is_other.ensures c.if-is_other.true g)

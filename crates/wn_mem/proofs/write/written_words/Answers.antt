@@ -6,7 +6,8 @@ use Rattle.wn_net.specs.Next.{written}
 use Rattle.wn_net.proofs.Laws.{adds_on, given_on, nodes_on}
 use Rattle.wn_mem.specs.Words.{words_width, numbers_of}
 use Rattle.wn_mem.proofs.Chosen.{word_here}
-use Rattle.wn_mem.proofs.After.{write_on, shared_on, push_node, made_next}
+use Rattle.wn_mem.proofs.After.{write_on, shared_on, made_next}
+use Rattle.wn_mem.proofs.Tree.{push_node}
 use Rattle.wn_mem.proofs.write.written_words.Goals as goal
 
 pub returns-in_err-push-clause-adds : goal.returns-in_err-push-clause-adds

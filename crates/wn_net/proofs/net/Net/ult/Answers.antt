@@ -1,8 +1,10 @@
 use Rattle.std.proofs.Common.{sym}
+use Rattle.wn_net.specs.Net.{width_at}
 use Rattle.wn_net.proofs.Stays.{is_there}
 use Rattle.wn_net.proofs.net.Net.ult.Goals as goal
 
 pub push-requires-clause-fits : goal.push-requires-clause-fits
+unfolding width_at
 push-requires-clause-fits c = (
   is_there c.args.self.now c.args.a c.requires.left,
   is_there c.args.self.now c.args.b c.requires.right.0,

@@ -1,6 +1,8 @@
+use Rattle.wn_net.specs.Net.{width_at}
 use Rattle.wn_net.proofs.Stays.{is_there}
 use Rattle.wn_net.proofs.net.Net.zext.Goals as goal
 
 pub push-requires-clause-fits : goal.push-requires-clause-fits
+unfolding width_at
 push-requires-clause-fits c =
     (is_there c.args.self.now c.args.a c.requires.there, c.requires.wider, c.requires.few)

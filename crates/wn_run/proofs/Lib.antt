@@ -1,0 +1,5 @@
+pub mod Alike
+pub mod Chosen
+pub mod Given
+pub mod OldRun
+pub mod Own
