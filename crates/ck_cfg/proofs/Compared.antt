@@ -4,8 +4,8 @@ use Rattle.std.specs.Prelude.{nat_le, nat_lt, ◌⊎◌, min, option_map, MatchO
 use Rattle.std.specs.List.{list_all}
 use Rattle.std.proofs.lemmas.Bool.{false≢true, cases_Bool, cases_lt}
 use Rattle.std.proofs.lemmas.Bool.Decides.{nat_tests}
-use Rattle.cnf_text.specs.declared.numbers.TheConstants.{MOST}
-use Rattle.cnf_text.specs.Numbers.{is_digit, continued, natural_of}
+use Rattle.fv_lines.specs.declared.numbers.TheConstants.{MOST}
+use Rattle.fv_lines.specs.Numbers.{is_digit, continued, natural_of}
 use Rattle.ck_cfg.specs.Digits.{continued_value, value, significant}
 
 and_parts : (a b : Bool) → (a && b) ≡ true → (a ≡ true) × (b ≡ true)

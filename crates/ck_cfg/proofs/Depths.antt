@@ -1,6 +1,6 @@
 -- The depth lines that were read are deep.
 use Rattle.std.proofs.Common.{◌≡◌, ℕ, ◌<◌, ◌≤◌, Bool, true, false, cond, ◌&&◌, List, [], ◌∷◌, Option, Some, None, Result, Ok, Err, refl, subst, arith}
-use Rattle.std.specs.Prelude.{option_map, nat_le, nat_lt, codes, IfOk}
+use Rattle.std.specs.Prelude.{option_map, option_and_then, nat_le, nat_lt, codes, IfOk}
 use Rattle.std.specs.List.{AllByRecursion, list_any}
 use Rattle.std.specs.Str.{bytes_eq, is_utf8}
 use Rattle.std.proofs.lemmas.Bool.{false≢true}
@@ -16,18 +16,17 @@ use Rattle.ck_cfg.specs.declared.reader.Reader.{Reader}
 use Rattle.ck_cfg.specs.declared.section.Section.{Section}
 use Rattle.ck_cfg.specs.declared.section.Section.TheVariants as s
 use Rattle.ck_cfg.specs.declared.target.Target.{Target}
-use Rattle.cnf_text.specs.Words.{words}
-use Rattle.cnf_text.specs.Dimacs.{is_nil}
+use Rattle.fv_lines.specs.Words.{is_nil, words}
 use Rattle.rv_table.specs.declared.retire.Isa.{Isa}
 use Rattle.ck_cfg.specs.Cycles.{numbers_of, lone, pair, triple, lone_or_pair, cycles_said, cycles_of}
 use Rattle.ck_cfg.specs.Target.{target_of}
-use Rattle.ck_cfg.specs.Depths.{is_skipped, is_for, depth_at, depth_of, with_skip, with_depth_of, with_new_depth, with_depth}
-use Rattle.ck_cfg.specs.Options.{is_among, isa_named, idle_keys, with_key, once, with_isa_of, with_isa, with_nret, with_option}
-use Rattle.ck_cfg.specs.Scripts.{names_read, with_files, with_script}
+use Rattle.ck_cfg.specs.Depths.{is_skipped, is_for, depth_at, depth_with, depth_of, with_skip, with_depth_of, with_new_depth, with_depth_read, with_depth}
+use Rattle.ck_cfg.specs.Options.{is_among, isa_named, idle_keys, with_key, once, with_isa_of, with_isa_named, with_isa, with_nret, with_option}
+use Rattle.ck_cfg.specs.Scripts.{names_read, with_names, with_script}
 use Rattle.ck_cfg.specs.Section.{section_named}
 use Rattle.ck_cfg.specs.Line.{Line, section_begun, counted_lines}
-use Rattle.ck_cfg.specs.Faults.{Answers}
-use Rattle.ck_cfg.specs.Reading.{start, in_section, with_text_in, with_text, with_section, with_line, with_lines, finished, config_of_lines, config_of}
+use Rattle.ck_cfg.specs.Faults.{and_then, Answers}
+use Rattle.ck_cfg.specs.Reading.{start, in_section, with_text_in, with_text_at, with_text, with_section_named, with_section, with_line_begun, with_line, with_lines, finished, config_of_lines, config_of}
 use Rattle.ck_cfg.specs.Lawful.{least_cycle, HasLawfulChecks}
 use Rattle.ck_cfg.proofs.Lawfulness.{IsDeep, all_append, deep_is_lawful}
 
@@ -94,7 +93,7 @@ said_in_order Dmem ns = pair_in_order Dmem (omega arith) ns
 
 in_order : (kind : CheckKind) (ws : List (List ℕ)) → OnSome (InOrder kind) (cycles_of kind ws)
 in_order kind ws = step (numbers_of ws) where
-  step : (o : Option (List ℕ)) → OnSome (InOrder kind) (elim o [ None ↦ None | Some ns ↦ cycles_said kind ns ])
+  step : (o : Option (List ℕ)) → OnSome (InOrder kind) (option_and_then (cycles_said kind) o)
   step None = tt
   step (Some ns) = said_in_order kind ns
 
@@ -110,7 +109,7 @@ depth_ordered channels word ws = step (target_of channels word) where
   at t None h = tt
   at t (Some c) h = record { start = h.start; trig = h.trig; least = h.least }
 
-  step : (o : Option Target) → OnSome IsOrdered (elim o [ None ↦ None | Some t ↦ option_map (depth_at t) (cycles_of t.kind ws) ])
+  step : (o : Option Target) → OnSome IsOrdered (option_and_then (depth_with ws) o)
   step None = tt
   step (Some t) = at t (cycles_of t.kind ws) (in_order t.kind ws)
 
@@ -137,8 +136,8 @@ new_sound r line word d h o =
 
 depth_sound : (r : Reader) (line : ℕ) (ws : List (List ℕ)) → IsSound r → Sound (with_depth r line ws)
 depth_sound r line [] h = tt
-depth_sound r line (w ∷ ws) h = sound_where (is_skipped w) (Ok (with_skip r w)) (elim (depth_of r.config.nret w ws) [ None ↦ Err (fault.Depth line) | Some d ↦ with_new_depth r line w d ]) h (step (depth_of r.config.nret w ws) (depth_ordered r.config.nret w ws)) where
-  step : (o : Option Depth) → OnSome IsOrdered o → Sound (elim o [ None ↦ Err (fault.Depth line) | Some d ↦ with_new_depth r line w d ])
+depth_sound r line (w ∷ ws) h = sound_where (is_skipped w) (Ok (with_skip r w)) (with_depth_read r line w (depth_of r.config.nret w ws)) h (step (depth_of r.config.nret w ws) (depth_ordered r.config.nret w ws)) where
+  step : (o : Option Depth) → OnSome IsOrdered o → Sound (with_depth_read r line w o)
   step None k = tt
   step (Some d) k = new_sound r line w d h k
 
@@ -148,7 +147,7 @@ once_sound r line key h = sound_where (is_among r.keys key) (Err (fault.Twice li
 isa_sound : (r : Reader) (line : ℕ) (key : List ℕ) (vs : List (List ℕ)) → IsSound r → Sound (with_isa r line key vs)
 isa_sound r line key [] h = tt
 isa_sound r line key (v ∷ []) h = step (isa_named v) where
-  step : (o : Option Isa) → Sound (elim o [ None ↦ Err (fault.Isa line v) | Some i ↦ once (with_isa_of i r) line key ])
+  step : (o : Option Isa) → Sound (with_isa_named r line key v o)
   step None = tt
   step (Some i) = once_sound (with_isa_of i r) line key h
 isa_sound r line key (v ∷ w ∷ ws) h = tt
@@ -169,7 +168,7 @@ option_sound r line (key ∷ vs) h =
 
 script_sound : (r : Reader) (line : ℕ) (ws : List (List ℕ)) → IsSound r → Sound (with_script r line ws)
 script_sound r line ws h = step (names_read ws) where
-  step : (o : Option (List (List ℕ))) → Sound (elim o [ None ↦ Err (fault.Script line) | Some names ↦ Ok (with_files r names) ])
+  step : (o : Option (List (List ℕ))) → Sound (with_names r line o)
   step None = tt
   step (Some names) = h
 
@@ -186,26 +185,26 @@ in_sound s.Assume r line text h = h
 
 text_sound : (r : Reader) (line : ℕ) (text : List ℕ) → IsSound r → Sound (with_text r line text)
 text_sound r line text h = step r.section where
-  step : (o : Option Section) → Sound (elim o [ None ↦ Err (fault.Section line []) | Some s ↦ with_text_in s r line text ])
+  step : (o : Option Section) → Sound (with_text_at o r line text)
   step None = tt
   step (Some s) = in_sound s r line text h
 
 section_sound : (r : Reader) (line : ℕ) (name : List ℕ) → IsSound r → Sound (with_section r line name)
 section_sound r line name h = step (section_named name) where
-  step : (o : Option Section) → Sound (elim o [ None ↦ Err (fault.Section line name) | Some s ↦ cond (is_among r.sections name) (Err (fault.Twice line name)) (Ok (in_section r s name)) ])
+  step : (o : Option Section) → Sound (with_section_named o r line name)
   step None = tt
   step (Some s) = sound_where (is_among r.sections name) (Err (fault.Twice line name)) (Ok (in_section r s name)) tt h
 
 line_sound : (r : Reader) (l : Line) → IsSound r → Sound (with_line r l)
 line_sound r l h = step (section_begun l.text) where
-  step : (o : Option (List ℕ)) → Sound (elim o [ None ↦ with_text r l.number l.text | Some name ↦ with_section r l.number name ])
+  step : (o : Option (List ℕ)) → Sound (with_line_begun o r l)
   step None = text_sound r l.number l.text h
   step (Some name) = section_sound r l.number name h
 
 lines_sound : (ls : List Line) (r : Reader) → IsSound r → Sound (with_lines r ls)
 lines_sound [] r h = h
 lines_sound (l ∷ ls) r h = step (with_line r l) (line_sound r l h) (λ s k. lines_sound ls s k) where
-  step : (o : Result Reader CfgFault) → Sound o → ((s : Reader) → IsSound s → Sound (with_lines s ls)) → Sound (elim o [ Err e ↦ Err e | Ok s ↦ with_lines s ls ])
+  step : (o : Result Reader CfgFault) → Sound o → ((s : Reader) → IsSound s → Sound (with_lines s ls)) → Sound (and_then o (λ s. with_lines s ls))
   step (Err e) k f = tt
   step (Ok s) k f = f s k
 
@@ -222,7 +221,7 @@ finish_sound r h = step (is_nil r.config.depths && is_nil r.config.skips) (is_ni
 
 all_sound : (ls : List Line) → IsRead (config_of_lines ls)
 all_sound ls = step (with_lines start ls) (lines_sound ls start tt) where
-  step : (o : Result Reader CfgFault) → Sound o → IsRead (elim o [ Err e ↦ Err e | Ok r ↦ finished r ])
+  step : (o : Result Reader CfgFault) → Sound o → IsRead (and_then o finished)
   step (Err e) k = tt
   step (Ok r) k = finish_sound r k
 

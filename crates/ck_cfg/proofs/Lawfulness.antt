@@ -1,6 +1,6 @@
 -- The checks of a configuration are lawful.
 use Rattle.std.proofs.Common.{◌≡◌, ℕ, zero, suc, ◌+◌, ◌<◌, ◌≤◌, Bool, true, false, not, cond, ◌&&◌, List, [], ◌∷◌, ◌++◌, Option, Some, None, refl, ap, sym, subst, ◌∙◌, arith}
-use Rattle.std.specs.Prelude.{map, find, bytes_eq}
+use Rattle.std.specs.Prelude.{map, find, bytes_eq, option_map, option_to_list}
 use Rattle.std.specs.List.{AllByRecursion, filter, flat_map, range_with_len}
 use Rattle.std.proofs.lemmas.Bool.{false≢true}
 use Rattle.std.proofs.lemmas.Slice.Eq.{bytes_eq-Decides}
@@ -12,7 +12,7 @@ use Rattle.ck_cfg.specs.declared.config.Config.{Config}
 use Rattle.ck_cfg.specs.declared.check.Check.{Check}
 use Rattle.ck_cfg.specs.Kind.{kind_name, kinds, is_kind}
 use Rattle.ck_cfg.specs.Depths.{is_channel, is_for}
-use Rattle.ck_cfg.specs.Checks.{depth_for, check_at, channel_check, channel_checks, isa_rows, kind_rows, kind_checks, listed_checks, is_named, moved}
+use Rattle.ck_cfg.specs.Checks.{or_else, depth_for, check_at, channel_check, channel_checks, isa_rows, kind_rows, kind_checks, listed_checks, is_named, moved}
 use Rattle.ck_cfg.specs.Lawful.{RowFits, least_cycle, IsCheck, HasLawfulChecks}
 use Rattle.ck_cfg.proofs.Places.{find_passes}
 
@@ -93,13 +93,13 @@ found_by depths kind channel d a e =
 
 depth_found : (depths : List Depth) (kind : CheckKind) (channel : ℕ) (d : Depth) → AllByRecursion IsDeep depths → depth_for depths kind channel ≡ Some d → IsFound kind d
 depth_found depths kind channel d a e = step (find (is_for kind (Some channel)) depths) (λ f g. found_by depths kind (Some channel) f a g) e where
-  step : (o : Option Depth) → ((f : Depth) → o ≡ Some f → IsFound kind f) → elim o [ None ↦ find (is_for kind None) depths | Some f ↦ Some f ] ≡ Some d → IsFound kind d
+  step : (o : Option Depth) → ((f : Depth) → o ≡ Some f → IsFound kind f) → or_else o (find (is_for kind None) depths) ≡ Some d → IsFound kind d
   step None h g = found_by depths kind None d a g
   step (Some f) h g = h d g
 
 channel_lawful : (c : Config) (kind : CheckKind) (row : Option RowId) (channel : ℕ) → AllByRecursion IsDeep c.depths → RowFits kind row → channel < c.nret → AllByRecursion (IsCheck c.nret) (channel_check c.depths kind row channel)
 channel_lawful c kind row channel a r lt = step (depth_for c.depths kind channel) (λ d e. depth_found c.depths kind channel d a e) where
-  step : (o : Option Depth) → ((d : Depth) → o ≡ Some d → IsFound kind d) → AllByRecursion (IsCheck c.nret) (elim o [ None ↦ [] | Some d ↦ check_at kind row channel d ∷ [] ])
+  step : (o : Option Depth) → ((d : Depth) → o ≡ Some d → IsFound kind d) → AllByRecursion (IsCheck c.nret) (option_to_list (option_map (check_at kind row channel) o))
   step None h = tt
   step (Some d) h =
       let f = h d refl in (

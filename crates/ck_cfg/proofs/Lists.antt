@@ -13,7 +13,7 @@ use Rattle.ck_cfg.specs.declared.config.Config.{Config}
 use Rattle.ck_cfg.specs.declared.check.Check.{Check}
 use Rattle.rv_table.specs.Matching.{has, rows}
 use Rattle.ck_cfg.specs.Kind.{kind_name, is_kind}
-use Rattle.ck_cfg.specs.Checks.{channel_checks, kind_checks, is_named, moved}
+use Rattle.ck_cfg.specs.Checks.{channel_checks, row_checks, kind_checks, is_named, moved}
 
 range_more : (a n k : ℕ) → n ≡ suc k → range_with_len a n ≡ a ∷ range_with_len (a + 1) k
 range_more a n k e = ap (range_with_len a) e
@@ -33,8 +33,8 @@ where_kept p f (x ∷ xs) = step (p x) (where_kept p f xs) where
   step false e = e
 
 -- the rows of the instruction set
-pub row_checks : (c : Config) → flat_map (λ row. cond (has c.isa row) (channel_checks c Insn (Some row)) []) rows ≡ kind_checks c Insn
-row_checks c = where_kept (has c.isa) (channel_checks c Insn) rows
+pub rows_kept : (c : Config) → flat_map (row_checks c) rows ≡ kind_checks c Insn
+rows_kept c = where_kept (has c.isa) (channel_checks c Insn) rows
 
 -- insn is the one kind with rows
 pub is_insn : (kind : CheckKind) → is_kind kind Insn ≡ true → kind ≡ Insn

@@ -1,5 +1,5 @@
 -- The checks of a configuration and their order (documentation of riscv-formal, in this project's profile).
-use Rattle.std.specs.Prelude.{ℕ, Bool, not, List, [], ◌∷◌, ◌++◌, Option, Some, None, map, find, codes, decimal}
+use Rattle.std.specs.Prelude.{ℕ, Bool, not, if◌then◌else◌, List, [], ◌∷◌, ◌++◌, Option, Some, None, option_map, option_to_list, map, find, codes, decimal}
 use Rattle.std.specs.List.{filter, flat_map, range_with_len}
 use Rattle.std.specs.Str.{bytes_eq}
 use Rattle.rv_table.specs.declared.retire.Isa.{Isa}
@@ -13,9 +13,14 @@ use Rattle.ck_cfg.specs.declared.check.Check.{Check}
 use Rattle.ck_cfg.specs.Kind.{kind_name, kinds}
 use Rattle.ck_cfg.specs.Depths.{is_for}
 
+-- the first of two, where it is there, or else the other
+abbrev pub or_else : Option Depth → Option Depth → Option Depth
+or_else (Some d) other = Some d
+or_else None other = other
+
 -- the depth of a kind at a channel: the channel's own line comes before the line without a channel
 abbrev pub depth_for : List Depth → CheckKind → ℕ → Option Depth
-depth_for depths kind channel = elim (find (is_for kind (Some channel)) depths) [ None ↦ find (is_for kind None) depths | Some d ↦ Some d ]
+depth_for depths kind channel = or_else (find (is_for kind (Some channel)) depths) (find (is_for kind None) depths)
 
 -- `_ROW` where there is a row
 abbrev pub row_part : Option RowId → List ℕ
@@ -40,11 +45,16 @@ check_at kind row channel d = record {
 
 -- the check at a channel, where it has a depth
 abbrev pub channel_check : List Depth → CheckKind → Option RowId → ℕ → List Check
-channel_check depths kind row channel = elim (depth_for depths kind channel) [ None ↦ [] | Some d ↦ check_at kind row channel d ∷ [] ]
+channel_check depths kind row channel =
+    option_to_list (option_map (check_at kind row channel) (depth_for depths kind channel))
 
 -- the checks at all channels, in their order
 abbrev pub channel_checks : Config → CheckKind → Option RowId → List Check
 channel_checks c kind row = flat_map (channel_check c.depths kind row) (range_with_len 0 c.nret)
+
+-- the checks of a row, if the instruction set has it
+abbrev pub row_checks : Config → RowId → List Check
+row_checks c row = if matching.has c.isa row then channel_checks c Insn (Some row) else []
 
 -- the rows of the instruction set, in their order
 abbrev pub isa_rows : Isa → List RowId

@@ -1,5 +1,5 @@
 -- The lines of `[depth]` (documentation of riscv-formal, in this project's profile).
-use Rattle.std.specs.Prelude.{ℕ, Bool, true, false, ◌&&◌, ◌||◌, ◌==◌, nat_eq, nat_lt, cond, List, [], ◌∷◌, ◌++◌, Option, Some, None, option_map, codes, Result, Ok, Err}
+use Rattle.std.specs.Prelude.{ℕ, Bool, true, false, ◌&&◌, ◌||◌, ◌==◌, nat_eq, nat_lt, if◌then◌else◌, List, [], ◌∷◌, ◌++◌, Option, Some, None, option_map, option_and_then, codes, Result, Ok, Err}
 use Rattle.std.specs.List.{list_any, starts_with}
 use Rattle.ck_cfg.specs.declared.kind.CheckKind.{CheckKind}
 use Rattle.ck_cfg.specs.declared.config.Depth.{Depth}
@@ -19,7 +19,8 @@ skipped_words = codes "hang" ∷ codes "cover" ∷ codes "fault" ∷ codes "caus
 
 -- one of these words, or one that begins with `csr` or `bus_`
 abbrev pub is_skipped : List ℕ → Bool
-is_skipped word = is_among skipped_words word || (starts_with nat_eq word (codes "csr") || starts_with nat_eq word (codes "bus_"))
+is_skipped word =
+    is_among skipped_words word || (starts_with nat_eq word (codes "csr") || starts_with nat_eq word (codes "bus_"))
 
 -- the same channel, or none in both
 abbrev pub is_channel : Option ℕ → Option ℕ → Bool
@@ -36,10 +37,14 @@ is_for kind channel d = is_kind d.kind kind && is_channel d.channel channel
 abbrev pub depth_at : Target → Cycles → Depth
 depth_at t c = record { kind = t.kind; channel = t.channel; start = c.start; trig = c.trig; cycle = c.cycle }
 
+-- the depth of this kind and channel, with the cycles that the words say
+abbrev pub depth_with : List (List ℕ) → Target → Option Depth
+depth_with numbers t = option_map (depth_at t) (cycles_of t.kind numbers)
+
 -- what the words of a line say, with so many channels; None where the kind, the channel, the number of words, a number
 -- or a condition is wrong
 abbrev pub depth_of : ℕ → List ℕ → List (List ℕ) → Option Depth
-depth_of channels word numbers = elim (target_of channels word) [ None ↦ None | Some t ↦ option_map (depth_at t) (cycles_of t.kind numbers) ]
+depth_of channels word numbers = option_and_then (depth_with numbers) (target_of channels word)
 
 -- one skipped line more
 abbrev pub with_skip : Reader → List ℕ → Reader
@@ -52,13 +57,18 @@ with_depth_of r d = record r { config = record r.config { depths = r.config.dept
 -- a depth that stands there for the second time, or is above 100, is refused
 abbrev pub with_new_depth : Reader → ℕ → List ℕ → Depth → Result Reader CfgFault
 with_new_depth r line word d =
-    cond (list_any (is_for d.kind d.channel) r.config.depths) (Err (fault.Twice line word))
-    (cond (nat_lt 100 d.cycle) (Err (fault.TooDeep line)) (Ok (with_depth_of r d)))
+    if list_any (is_for d.kind d.channel) r.config.depths then Err (fault.Twice line word)
+    else if nat_lt 100 d.cycle then Err (fault.TooDeep line)
+    else Ok (with_depth_of r d)
+
+-- what a line says, or that it says nothing right
+abbrev pub with_depth_read : Reader → ℕ → List ℕ → Option Depth → Result Reader CfgFault
+with_depth_read r line word None = Err (fault.Depth line)
+with_depth_read r line word (Some d) = with_new_depth r line word d
 
 -- a line of the section: its words
 abbrev pub with_depth : Reader → ℕ → List (List ℕ) → Result Reader CfgFault
 with_depth r line [] = Err (fault.Depth line)
-with_depth r line (word ∷ numbers) = cond (is_skipped word) (Ok (with_skip r word)) (elim (depth_of r.config.nret word numbers) [
-  | None ↦ Err (fault.Depth line)
-  | Some d ↦ with_new_depth r line word d
-])
+with_depth r line (word ∷ numbers) =
+    if is_skipped word then Ok (with_skip r word)
+    else with_depth_read r line word (depth_of r.config.nret word numbers)

@@ -1,5 +1,5 @@
 -- Numbers in decimal digits, as they are compared.
-use Rattle.std.specs.Prelude.{ℕ, ◌+◌, ◌-◌, ◌*◌, ◌==◌, cond, List, [], ◌∷◌}
+use Rattle.std.specs.Prelude.{ℕ, ◌+◌, ◌-◌, ◌*◌, ◌==◌, if◌then◌else◌, List, [], ◌∷◌}
 
 -- the number that digits continue
 abbrev pub continued_value : ℕ → List ℕ → ℕ
@@ -13,4 +13,4 @@ value ds = continued_value 0 ds
 -- without leading zeros
 abbrev pub significant : List ℕ → List ℕ
 significant [] = []
-significant (d ∷ ds) = cond (d == 48) (significant ds) (d ∷ ds)
+significant (d ∷ ds) = if d == 48 then significant ds else d ∷ ds

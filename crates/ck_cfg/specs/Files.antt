@@ -1,5 +1,5 @@
 -- The names of the Verilog files.
-use Rattle.std.specs.Prelude.{ℕ, zero, suc, cond, nat_eq, List, [], ◌∷◌, ◌++◌, map, codes}
+use Rattle.std.specs.Prelude.{ℕ, zero, suc, if◌then◌else◌, nat_eq, List, [], ◌∷◌, ◌++◌, map, codes}
 use Rattle.std.specs.List.{starts_with}
 use Rattle.ck_cfg.specs.declared.config.Config.{Config}
 
@@ -9,9 +9,9 @@ abbrev pub filled_behind : List ℕ → List ℕ → ℕ → List ℕ → List �
 filled_behind core basedir n [] = []
 filled_behind core basedir (suc n) (b ∷ bs) = filled_behind core basedir n bs
 filled_behind core basedir zero (b ∷ bs) =
-    cond (starts_with nat_eq (b ∷ bs) (codes "@basedir@")) (basedir ++ filled_behind core basedir 8 bs)
-    (cond (starts_with nat_eq (b ∷ bs) (codes "@core@")) (core ++ filled_behind core basedir 5 bs)
-    (b ∷ filled_behind core basedir 0 bs))
+    if starts_with nat_eq (b ∷ bs) (codes "@basedir@") then basedir ++ filled_behind core basedir 8 bs
+    else if starts_with nat_eq (b ∷ bs) (codes "@core@") then core ++ filled_behind core basedir 5 bs
+    else b ∷ filled_behind core basedir 0 bs
 
 -- a name with the base folder and the core's name put in
 abbrev pub filled : List ℕ → List ℕ → List ℕ → List ℕ

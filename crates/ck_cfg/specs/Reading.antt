@@ -1,10 +1,9 @@
 -- What a configuration says, or why it says nothing (documentation of riscv-formal, in this project's profile). The lines
 -- are taken in order, each in its section; of several refusals the first line's is answered, and at one line the one with
 -- the lowest number.
-use Rattle.std.specs.Prelude.{ℕ, ◌&&◌, false, cond, List, [], ◌∷◌, ◌++◌, Some, None, codes, Result, Ok, Err}
+use Rattle.std.specs.Prelude.{ℕ, ◌&&◌, false, if◌then◌else◌, List, [], ◌∷◌, ◌++◌, Option, Some, None, codes, Result, Ok, Err}
 use Rattle.std.specs.Str.{is_utf8}
-use Rattle.cnf_text.specs.Words.{words}
-use Rattle.cnf_text.specs.Dimacs.{is_nil}
+use Rattle.fv_lines.specs.Words.{is_nil, words}
 use Rattle.ck_cfg.specs.declared.kind.CheckKind.{CheckKind}
 use Rattle.ck_cfg.specs.declared.config.Config.{Config}
 use Rattle.ck_cfg.specs.declared.config.Piece.{Piece}
@@ -14,6 +13,7 @@ use Rattle.ck_cfg.specs.declared.section.Section.TheVariants.{Options, Depth, De
 use Rattle.ck_cfg.specs.declared.fault.CfgFault.{CfgFault}
 use Rattle.ck_cfg.specs.declared.fault.CfgFault.TheVariants as fault
 use Rattle.ck_cfg.specs.declared.reader.Reader.{Reader}
+use Rattle.ck_cfg.specs.Faults.{and_then}
 use Rattle.ck_cfg.specs.Line.{Line, section_begun, counted_lines}
 use Rattle.ck_cfg.specs.Section.{section_named}
 use Rattle.ck_cfg.specs.Options.{isa, is_among, with_option}
@@ -74,40 +74,54 @@ with_text_in Csrs r line text = Ok r
 with_text_in Sort r line text = Ok (with_sort r text)
 with_text_in Assume r line text = Ok (with_assume r (piece line text))
 
+-- a line of text, which stands in this section, or in none
+abbrev pub with_text_at : Option Section → Reader → ℕ → List ℕ → Result Reader CfgFault
+with_text_at None r line text = Err (fault.Section line [])
+with_text_at (Some s) r line text = with_text_in s r line text
+
 -- a line of text: there is a section that it stands in
 abbrev pub with_text : Reader → ℕ → List ℕ → Result Reader CfgFault
-with_text r line text = elim r.section [ None ↦ Err (fault.Section line []) | Some s ↦ with_text_in s r line text ]
+with_text r line text = with_text_at r.section r line text
 
 -- in this section from here on
 abbrev pub in_section : Reader → Section → List ℕ → Reader
 in_section r s name = record r { section = Some s; sections = r.sections ++ name ∷ [] }
 
--- the begin of a section: it has a name, and stands there once
+-- the begin of the section of a name, if there is one: it stands there once
+abbrev pub with_section_named : Option Section → Reader → ℕ → List ℕ → Result Reader CfgFault
+with_section_named None r line name = Err (fault.Section line name)
+with_section_named (Some s) r line name =
+    if is_among r.sections name then Err (fault.Twice line name) else Ok (in_section r s name)
+
+-- the begin of a section
 abbrev pub with_section : Reader → ℕ → List ℕ → Result Reader CfgFault
-with_section r line name = elim (section_named name) [
-  | None ↦ Err (fault.Section line name)
-  | Some s ↦ cond (is_among r.sections name) (Err (fault.Twice line name)) (Ok (in_section r s name))
-]
+with_section r line name = with_section_named (section_named name) r line name
+
+-- a line that begins the section of this name, or none
+abbrev pub with_line_begun : Option (List ℕ) → Reader → Line → Result Reader CfgFault
+with_line_begun None r l = with_text r l.number l.text
+with_line_begun (Some name) r l = with_section r l.number name
 
 -- a line: it begins a section, or stands in one
 abbrev pub with_line : Reader → Line → Result Reader CfgFault
-with_line r l = elim (section_begun l.text) [ None ↦ with_text r l.number l.text | Some name ↦ with_section r l.number name ]
+with_line r l = with_line_begun (section_begun l.text) r l
 
 -- the lines in order, up to the first that is refused
 abbrev pub with_lines : Reader → List Line → Result Reader CfgFault
 with_lines r [] = Ok r
-with_lines r (l ∷ ls) = elim (with_line r l) [ Err e ↦ Err e | Ok s ↦ with_lines s ls ]
+with_lines r (l ∷ ls) = and_then (with_line r l) (λ s. with_lines s ls)
 
 -- the lines end: there is a depth line, and a file name
 abbrev pub finished : Reader → Result Config CfgFault
 finished r =
-    cond (is_nil r.config.depths && is_nil r.config.skips) (Err (fault.Missing (codes "depth")))
-    (cond (is_nil r.config.files) (Err (fault.Missing (codes "verilog-files"))) (Ok r.config))
+    if is_nil r.config.depths && is_nil r.config.skips then Err (fault.Missing (codes "depth"))
+    else if is_nil r.config.files then Err (fault.Missing (codes "verilog-files"))
+    else Ok r.config
 
 -- the configuration of lines, or why they have none
 abbrev pub config_of_lines : List Line → Result Config CfgFault
-config_of_lines ls = elim (with_lines start ls) [ Err e ↦ Err e | Ok r ↦ finished r ]
+config_of_lines ls = and_then (with_lines start ls) finished
 
 -- the configuration of a text, or why it has none
 abbrev pub config_of : List ℕ → Result Config CfgFault
-config_of bytes = cond (is_utf8 bytes) (config_of_lines (counted_lines bytes)) (Err fault.NotUtf8)
+config_of bytes = if is_utf8 bytes then config_of_lines (counted_lines bytes) else Err fault.NotUtf8

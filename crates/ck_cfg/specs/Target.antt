@@ -1,8 +1,8 @@
 -- The first word of a depth line: what it is for.
-use Rattle.std.specs.Prelude.{ℕ, ◌-◌, cond, nat_eq, List, [], ◌∷◌, drop, length, Option, Some, None, option_map, find, codes}
+use Rattle.std.specs.Prelude.{ℕ, ◌-◌, if◌then◌else◌, nat_eq, List, [], ◌∷◌, drop, length, Option, Some, None, option_map, option_and_then, find, codes}
 use Rattle.std.specs.List.{starts_with}
 use Rattle.std.specs.Str.{bytes_eq}
-use Rattle.cnf_text.specs.Numbers.{number_up_to}
+use Rattle.fv_lines.specs.Numbers.{number_up_to}
 use Rattle.ck_cfg.specs.declared.kind.CheckKind.{CheckKind}
 use Rattle.ck_cfg.specs.declared.target.Target.{Target}
 use Rattle.ck_cfg.specs.Kind.{kind_name, kinds}
@@ -15,12 +15,16 @@ kind_begun word = find (λ k. starts_with nat_eq word (kind_name k)) kinds
 abbrev pub channel_behind : ℕ → List ℕ → Option (Option ℕ)
 channel_behind channels [] = Some None
 channel_behind channels (a ∷ b ∷ c ∷ ds) =
-    cond (bytes_eq (a ∷ b ∷ c ∷ []) (codes "_ch")) (option_map (λ n. Some n) (number_up_to (channels - 1) ds)) None
+    if bytes_eq (a ∷ b ∷ c ∷ []) (codes "_ch") then option_map (λ n. Some n) (number_up_to (channels - 1) ds)
+    else None
 channel_behind channels rest = None
+
+-- this kind, and the channel that stands behind it
+abbrev pub target_from : ℕ → List ℕ → CheckKind → Option Target
+target_from channels word kind =
+    option_map (λ channel. record { kind = kind; channel = channel })
+    (channel_behind channels (drop (length (kind_name kind)) word))
 
 -- the kind and the channel of a word; None where the kind or the channel is wrong
 abbrev pub target_of : ℕ → List ℕ → Option Target
-target_of channels word = elim (kind_begun word) [
-  | None ↦ None
-  | Some kind ↦ option_map (λ channel. record { kind = kind; channel = channel }) (channel_behind channels (drop (length (kind_name kind)) word))
-]
+target_of channels word = option_and_then (target_from channels word) (kind_begun word)

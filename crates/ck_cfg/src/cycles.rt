@@ -1,16 +1,14 @@
 //! The numbers of a depth line.
 
-ghost use Rattle.std.specs.Prelude.{◌≡◌, ◌≤◌, min, true, None, Some, option_map, IfSome, MatchOption};
-ghost use Rattle.std.specs.List.{list_all};
-ghost use Rattle.cnf_text.specs.Numbers.{is_digit, natural_of};
-ghost use Rattle.cnf_text.specs.Words.{words};
-ghost use Rattle.cnf_text.specs.declared.numbers.TheConstants.{MOST};
-ghost use Rattle.ck_cfg.specs.Digits.{value};
-ghost use Rattle.ck_cfg.specs.Cycles.{lone, pair, triple, lone_or_pair, said_by, cycles_of, capped};
+ghost use Rattle.std.specs.Prelude.{◌≡◌, ◌≤◌, None, option_map, IfSome, MatchOption};
+ghost use Rattle.fv_lines.specs.Numbers.{natural_of};
+ghost use Rattle.fv_lines.specs.Words.{words};
+ghost use Rattle.fv_lines.specs.declared.numbers.TheConstants.{MOST};
+ghost use Rattle.ck_cfg.specs.Cycles.{lone, pair, triple, lone_or_pair, said_by, cycles_of, IsNumber, capped};
 
 use crate::digits::is_at_most;
 use crate::kind::CheckKind;
-use cnf_text::{natural, next_word};
+use fv_lines::{natural, next_word};
 
 /// The cycles that a depth line names. Each stands still at `MOST`.
 #[derive(Debug, Clone, Copy, PartialEq, Eq)]
@@ -39,7 +37,7 @@ pub(crate) fn read_cycles(kind: CheckKind, numbers: &[u8]) -> Option<Cycles>
 
 /// The number of a word, or `MOST` where it is more. None where it isn't of digits alone.
 fn number(word: &[u8]) -> Option<u64>
-    ensures { MatchOption result (natural_of word.now ≡ None) (λ n. (natural_of word.now ≡ Some (value word.now)) × (list_all is_digit word.now ≡ true) × (n ≡ min MOST (value word.now))) }
+    ensures { MatchOption result (natural_of word.now ≡ None) (IsNumber MOST word.now) }
 {
     natural(word)
 }

@@ -2,7 +2,7 @@
 
 ghost use Rattle.std.specs.Prelude.{◌≡◌, ◌≤◌, ◌<◌, MatchOption};
 ghost use Rattle.std.specs.List.{list_any};
-ghost use Rattle.cnf_text.specs.Words.{words};
+ghost use Rattle.fv_lines.specs.Words.{words};
 ghost use Rattle.ck_cfg.specs.Faults.{Goes};
 ghost use Rattle.ck_cfg.specs.Depths.{is_skipped, is_channel, is_for, depth_at, with_skip, with_depth};
 
@@ -12,8 +12,8 @@ use crate::fault::CfgFault;
 use crate::kind::CheckKind;
 use crate::reader::Reader;
 use crate::target::Target;
-use cnf_text::next_word;
 use fv_base::Text;
+use fv_lines::next_word;
 use std::alloc::Global;
 
 /// No cycle of a check is above this one.

@@ -2,7 +2,7 @@
 
 ghost use Rattle.std.specs.Prelude.{◌≡◌, nat_le, true};
 ghost use Rattle.std.specs.List.{list_all};
-ghost use Rattle.cnf_text.specs.Numbers.{is_digit};
+ghost use Rattle.fv_lines.specs.Numbers.{is_digit};
 ghost use Rattle.ck_cfg.specs.Digits.{value, significant};
 
 /// Whether the first number is at most the second, however long they are.

@@ -21,8 +21,6 @@ mod section;
 mod shared;
 mod sort;
 mod target;
-#[cfg(test)]
-mod tests;
 
 pub use check::Check;
 pub use config::{Config, Depth, KindPiece, Piece};

@@ -1,8 +1,9 @@
 //! What stands in a line.
 
 ghost use Rattle.std.specs.Prelude.{◌≡◌, option_map};
-ghost use Rattle.cnf_text.specs.Words.{is_blank};
 ghost use Rattle.ck_cfg.specs.Line.{front_trimmed, end_trimmed, trimmed, is_dropped, before_bracket, section_begun};
+
+use fv_lines::is_blank;
 
 /// The line without the blanks at both ends.
 pub(crate) fn trimmed(line: &[u8]) -> &[u8]
@@ -33,12 +34,6 @@ fn end_trimmed(line: &[u8]) -> &[u8]
         rest = before;
     }
     rest
-}
-
-fn is_blank(byte: u8) -> bool
-    ensures { result ≡ is_blank byte }
-{
-    byte == b' ' || byte == b'\t'
 }
 
 /// Whether the line is empty, or a comment.

@@ -1,9 +1,8 @@
 //! The list of checks.
 
-ghost use Rattle.std.specs.Prelude.{◌≡◌, ◌++◌, OnOk, IfOk, cond, [], find};
-ghost use Rattle.rv_table.specs.Matching as matching;
+ghost use Rattle.std.specs.Prelude.{◌≡◌, ◌++◌, OnOk, IfOk, find};
 ghost use Rattle.ck_cfg.specs.Depths.{is_for};
-ghost use Rattle.ck_cfg.specs.Checks.{depth_for, row_part, check_name, channel_check, channel_checks, kind_checks, checks_of};
+ghost use Rattle.ck_cfg.specs.Checks.{depth_for, row_part, check_name, channel_check, channel_checks, row_checks, kind_checks, checks_of};
 ghost use Rattle.ck_cfg.specs.declared.kind.CheckKind.TheVariants.{Insn};
 
 use crate::check::Check;
@@ -58,7 +57,7 @@ fn put_row(
     row: RowId,
     checks: &mut List<Check>,
 ) -> Result<(), Memory>
-    ensures { OnOk result (checks.new ≡ checks.old ++ cond (matching.has config.now.isa row) (channel_checks config.now Insn (Some row)) []) }
+    ensures { OnOk result (checks.new ≡ checks.old ++ row_checks config.now row) }
 {
     if !config.isa.has(row) {
         return Ok(());

@@ -1,15 +1,15 @@
 //! The lines of `[options]`.
 
 ghost use Rattle.std.specs.Prelude.{◌≡◌, MatchOption, [], ◌∷◌, List, ℕ};
-ghost use Rattle.cnf_text.specs.Words.{words};
+ghost use Rattle.fv_lines.specs.Words.{words};
 ghost use Rattle.ck_cfg.specs.Faults.{Goes};
 ghost use Rattle.ck_cfg.specs.Options.{is_among, idle_keys, once, with_isa, with_nret, with_option};
 
 use crate::fault::CfgFault;
 use crate::isa::isa_named;
 use crate::reader::{Reader, is_among};
-use cnf_text::next_word;
 use fv_base::Text;
+use fv_lines::next_word;
 use std::alloc::Global;
 
 impl Reader {

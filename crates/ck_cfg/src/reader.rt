@@ -1,5 +1,5 @@
 ghost use Rattle.std.specs.Prelude.{◌≡◌, IfOk, None};
-ghost use Rattle.cnf_text.specs.Words.{words};
+ghost use Rattle.fv_lines.specs.Words.{words};
 ghost use Rattle.ck_cfg.specs.Faults.{Goes, Answers};
 ghost use Rattle.ck_cfg.specs.Line.{counted, counted_lines};
 ghost use Rattle.ck_cfg.specs.Options.{is_among};
@@ -9,8 +9,8 @@ use crate::config::{Config, KindPiece, Piece};
 use crate::fault::CfgFault;
 use crate::line::{is_dropped, section_begun, trimmed};
 use crate::section::Section;
-use cnf_text::{next_line, next_place};
 use fv_base::{List, Memory, Text};
+use fv_lines::{next_line, next_place};
 use rv_table::Isa;
 use std::alloc::Global;
 

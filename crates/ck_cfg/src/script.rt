@@ -2,15 +2,15 @@
 
 ghost use Rattle.std.specs.Prelude.{◌≡◌, option_map, OnOk};
 ghost use Rattle.std.specs.List.{list_any};
-ghost use Rattle.cnf_text.specs.Words.{words, begins_with};
+ghost use Rattle.fv_lines.specs.Words.{words, begins_with};
 ghost use Rattle.ck_cfg.specs.Faults.{Goes};
 ghost use Rattle.ck_cfg.specs.Options.{is_among};
 ghost use Rattle.ck_cfg.specs.Scripts.{script_options, names_behind, names_read, with_files, with_script};
 
 use crate::fault::CfgFault;
 use crate::reader::Reader;
-use cnf_text::next_word;
 use fv_base::{Memory, Text};
+use fv_lines::next_word;
 use std::alloc::Global;
 
 impl Reader {

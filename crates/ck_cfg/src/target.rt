@@ -4,7 +4,7 @@ ghost use Rattle.ck_cfg.specs.Kind.{kind_name};
 ghost use Rattle.ck_cfg.specs.Target.{kind_begun, channel_behind, target_of};
 
 use crate::kind::CheckKind;
-use cnf_text::number_up_to;
+use fv_lines::number_up_to;
 
 /// What a depth line is for.
 #[derive(Debug, Clone, Copy, PartialEq, Eq)]

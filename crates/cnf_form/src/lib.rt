@@ -3,7 +3,5 @@
 
 mod formula;
 mod shared;
-#[cfg(test)]
-mod tests;
 
 pub use formula::{Formula, are_literals, is_literal};

@@ -8,11 +8,12 @@ use Rattle.std.proofs.lemmas.Bool.Decides.{nat_tests}
 use Rattle.std.proofs.lemmas.List.{append-nil, drop_all}
 use Rattle.cnf_form.specs.Cnf.{Cnf, IsLiteral, AreLiterals, AreClauses}
 use Rattle.cnf_text.specs.declared.fault.DimacsFault.{DimacsFault}
-use Rattle.cnf_text.specs.Numbers.{is_digit, number_up_to, literal_of}
-use Rattle.cnf_text.specs.Words.{begins_with, joined, lines, words}
-use Rattle.cnf_text.specs.Dimacs.{is_comment, is_nil, is_zero, header_of, both, next_place, Body, with_number, with_words, with_line, with_lines, finished, read_behind, read_lines, formula_of, note_text, literal_text, clause_text, header_text, dimacs_text, HaveNoEnd}
-use Rattle.cnf_text.proofs.Digits.{Says, decimal_says, number_is, literal_is}
-use Rattle.cnf_text.proofs.Prints.{is_inner, is_plain, line_of, some_line, word_of, word_blank, decimal_plain, inners_of, all_append, literal_words, literal_inner}
+use Rattle.fv_lines.specs.Numbers.{is_digit, number_up_to}
+use Rattle.cnf_text.specs.Dimacs.{literal_of, is_comment, is_zero, header_of, both, Body, with_number, with_words, with_line, with_lines, finished, read_behind, read_lines, formula_of, note_text, literal_text, clause_text, header_text, dimacs_text, HaveNoEnd}
+use Rattle.fv_lines.specs.Words.{begins_with, joined, lines, words, is_nil, next_place}
+use Rattle.fv_lines.proofs.Digits.{Says, decimal_says, number_is}
+use Rattle.cnf_text.proofs.Prints.{literal_is, literal_words, literal_inner}
+use Rattle.fv_lines.proofs.Prints.{is_inner, is_plain, line_of, some_line, word_of, word_blank, decimal_plain, inners_of, all_append}
 
 module _ (vars : ℕ) (v : vars ≤ 100000000) where
   small : vars < 2 ^ 63

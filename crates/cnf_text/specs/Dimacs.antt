@@ -1,11 +1,11 @@
 -- Clause files (DIMACS): which formula a text says, and why it says none. What is refused, and in which order, is a rule
 -- of this project.
-use Rattle.std.specs.Prelude.{ℕ, ◌+◌, ◌-◌, ◌^◌, ◌≤◌, ◌≡◌, min, Bool, true, false, not, ◌&&◌, ◌||◌, ◌==◌, cond, List, [], ◌∷◌, ◌++◌, length, flat_map, ℤ, unsigned_abs, codes, decimal, bytes_eq, Option, Some, None, Result, Ok, Err}
+use Rattle.std.specs.Prelude.{ℕ, ◌≤◌, ◌≡◌, Bool, true, false, not, ◌&&◌, ◌||◌, ◌==◌, if◌then◌else◌, List, [], ◌∷◌, ◌++◌, length, flat_map, ℤ, unsigned_abs, codes, decimal, bytes_eq, Option, Some, None, Result, Ok, Err}
 use Rattle.std.specs.Fmt.{signed_decimal}
 use Rattle.std.specs.List.{AllByRecursion, list_all}
 use Rattle.cnf_form.specs.Cnf.{Cnf}
-use Rattle.cnf_text.specs.Numbers.{number_up_to, literal_of}
-use Rattle.cnf_text.specs.Words.{begins_with, lines, words}
+use Rattle.fv_lines.specs.Numbers.{number_up_to, signed}
+use Rattle.fv_lines.specs.Words.{is_nil, next_place, begins_with, lines, words}
 use Rattle.cnf_text.specs.declared.fault.DimacsFault.{DimacsFault}
 use Rattle.cnf_text.specs.declared.fault.DimacsFault.TheVariants.{Header, Literal, Count, Open, Memory}
 
@@ -14,10 +14,6 @@ abbrev pub is_comment : List (List ℕ) → Bool
 is_comment [] = false
 is_comment (w ∷ ws) = begins_with 99 w
 
-abbrev pub is_nil : {X : Type 0} → List X → Bool
-is_nil [] = true
-is_nil (x ∷ xs) = false
-
 -- the numbers of variables and clauses of a header, `p cnf VARIABLES CLAUSES`, each at most a hundred million
 abbrev pub both : Option ℕ → Option ℕ → Option (ℕ × ℕ)
 both None c = None
@@ -25,12 +21,10 @@ both (Some v) None = None
 both (Some v) (Some c) = Some (v, c)
 
 abbrev pub header_of : List (List ℕ) → Option (ℕ × ℕ)
-header_of (p ∷ f ∷ v ∷ c ∷ []) = cond (bytes_eq p (codes "p") && bytes_eq f (codes "cnf")) (both (number_up_to 100000000 v) (number_up_to 100000000 c)) None
+header_of (p ∷ f ∷ v ∷ c ∷ []) =
+    if bytes_eq p (codes "p") && bytes_eq f (codes "cnf") then both (number_up_to 100000000 v) (number_up_to 100000000 c)
+    else None
 header_of ws = None
-
--- lines count from 1, and the count stands still at 2^32 - 1
-abbrev pub next_place : ℕ → ℕ
-next_place line = min (line + 1) (2 ^ 32 - 1)
 
 -- what was read behind the header: the whole clauses, the literals of the open one, and the line of the last of them
 pub record Body : Type 0 where
@@ -38,14 +32,18 @@ pub record Body : Type 0 where
   pub clause : List ℤ
   pub last : ℕ
 
+-- a literal of one of the variables from 1 to vars, or 0
+abbrev pub literal_of : ℕ → List ℕ → Option ℤ
+literal_of vars word = signed (number_up_to vars) word
+
 abbrev pub is_zero : ℤ → Bool
 is_zero l = unsigned_abs l == 0
 
 -- one number more: 0 ends the clause
 abbrev pub with_number : Body → ℕ → ℤ → Body
-with_number b line l = cond (is_zero l)
-    (record { clauses = b.clauses ++ b.clause ∷ []; clause = []; last = b.last })
-    (record { clauses = b.clauses; clause = b.clause ++ l ∷ []; last = line })
+with_number b line l =
+    if is_zero l then record { clauses = b.clauses ++ b.clause ∷ []; clause = []; last = b.last }
+    else record { clauses = b.clauses; clause = b.clause ++ l ∷ []; last = line }
 
 -- the words of a line: each is a literal of the variables, or 0
 abbrev pub with_words : ℕ → ℕ → Body → List (List ℕ) → Result Body DimacsFault
@@ -57,7 +55,7 @@ with_words vars line b (w ∷ ws) = elim (literal_of vars w) [
 
 -- a comment says nothing
 abbrev pub with_line : ℕ → ℕ → Body → List ℕ → Result Body DimacsFault
-with_line vars line b l = cond (is_comment (words l)) (Ok b) (with_words vars line b (words l))
+with_line vars line b l = if is_comment (words l) then Ok b else with_words vars line b (words l)
 
 -- the lines behind the header
 abbrev pub with_lines : ℕ → ℕ → Body → List (List ℕ) → Result Body DimacsFault
@@ -69,9 +67,10 @@ with_lines vars line b (l ∷ ls) = elim (with_line vars line b l) [
 
 -- the text ends: first an open clause is refused, then another number of clauses than the header's
 abbrev pub finished : ℕ → ℕ → Body → Result Cnf DimacsFault
-finished vars count b = cond (is_nil b.clause)
-    (cond (length b.clauses == count) (Ok (record { vars = vars; clauses = b.clauses })) (Err (Count (length b.clauses) count)))
-    (Err (Open b.last))
+finished vars count b =
+    if not (is_nil b.clause) then Err (Open b.last)
+    else if length b.clauses == count then Ok (record { vars = vars; clauses = b.clauses })
+    else Err (Count (length b.clauses) count)
 
 abbrev pub read_behind : ℕ × ℕ → ℕ → List (List ℕ) → Result Cnf DimacsFault
 read_behind header line ls = elim (with_lines header.0 line (record { clauses = []; clause = []; last = 0 }) ls) [
@@ -82,10 +81,12 @@ read_behind header line ls = elim (with_lines header.0 line (record { clauses = 
 -- the first line that isn't blank and no comment is the header
 abbrev pub read_lines : ℕ → List (List ℕ) → Result Cnf DimacsFault
 read_lines line [] = Err (Header line)
-read_lines line (l ∷ ls) = cond (is_nil (words l) || is_comment (words l)) (read_lines (next_place line) ls) (elim (header_of (words l)) [
-  | None ↦ Err (Header line)
-  | Some header ↦ read_behind header (next_place line) ls
-])
+read_lines line (l ∷ ls) =
+    if is_nil (words l) || is_comment (words l) then read_lines (next_place line) ls
+    else elim (header_of (words l)) [
+      | None ↦ Err (Header line)
+      | Some header ↦ read_behind header (next_place line) ls
+    ]
 
 -- the formula of a text, or why it has none
 abbrev pub formula_of : List ℕ → Result Cnf DimacsFault

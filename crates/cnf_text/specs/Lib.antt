@@ -1,4 +1,2 @@
 pub mod Bodies
 pub mod Dimacs
-pub mod Numbers
-pub mod Words

@@ -1,13 +1,12 @@
 ghost use Rattle.std.specs.Prelude.{◌≡◌, ◌≤◌, ◌<◌, ◌^◌, min, ◌+◌, [], unsigned_abs, IfOk, OnOk};
-ghost use Rattle.cnf_text.specs.Words.{lines, words};
-ghost use Rattle.cnf_text.specs.Dimacs.{next_place, with_number, with_words, with_line, with_lines, finished, Answers};
+ghost use Rattle.fv_lines.specs.Words.{lines, words};
+ghost use Rattle.cnf_text.specs.Dimacs.{with_number, with_words, with_line, with_lines, finished, Answers};
 
 use crate::fault::DimacsFault;
 use crate::header::is_comment;
-use crate::lines::next_line;
-use crate::numbers::literal;
-use crate::words::next_word;
+use crate::literal::literal;
 use cnf_form::Formula;
+use fv_lines::{next_line, next_place, next_word};
 use std::alloc::Global;
 
 /// What was read behind the header: the whole clauses, the literals of the open one, and the line of the last of them.
@@ -16,13 +15,6 @@ pub(crate) struct Body {
     pub formula: Formula,
     pub clause: Vec<i64>,
     pub last: u32,
-}
-
-/// The next line's number; it stands still at `2^32 - 1`.
-pub fn next_place(line: u32) -> u32
-    ensures { result ≡ next_place line }
-{
-    line.saturating_add(1)
 }
 
 impl Body {

@@ -1,9 +1,8 @@
 ghost use Rattle.std.specs.Prelude.{◌≡◌, ◌≤◌, ◌||◌, IfSome, option_map};
-ghost use Rattle.cnf_text.specs.Words.{words, begins_with};
-ghost use Rattle.cnf_text.specs.Dimacs.{is_comment, is_nil, header_of};
+ghost use Rattle.fv_lines.specs.Words.{words, begins_with, is_nil};
+ghost use Rattle.cnf_text.specs.Dimacs.{is_comment, header_of};
 
-use crate::numbers::number_up_to;
-use crate::words::next_word;
+use fv_lines::{next_word, number_up_to};
 
 /// A header names no more variables or clauses.
 const MOST_NAMED: u64 = 100000000;

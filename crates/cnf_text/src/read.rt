@@ -1,13 +1,13 @@
 ghost use Rattle.std.specs.Prelude.{◌≡◌, ◌≤◌};
-ghost use Rattle.cnf_text.specs.Words.{lines};
+ghost use Rattle.fv_lines.specs.Words.{lines};
 ghost use Rattle.cnf_text.specs.Dimacs.{read_behind, formula_of, Answers};
 ghost use Rattle.cnf_text.specs.Bodies.{sizes_of};
 
-use crate::body::{Body, next_place};
+use crate::body::Body;
 use crate::fault::DimacsFault;
 use crate::header::{Sizes, is_skipped};
-use crate::lines::next_line;
 use cnf_form::Formula;
+use fv_lines::{next_line, next_place};
 use std::alloc::Global;
 
 /// The formula of a clause file.

@@ -4,9 +4,8 @@ use Rattle.std.specs.Prelude.{Err}
 use Rattle.lrat_check.specs.declared.step.Step.{Step}
 use Rattle.lrat_check.specs.declared.step.Step.TheVariants.{Add, Delete}
 use Rattle.lrat_check.specs.declared.step.StepFault.TheVariants as fault
-use Rattle.lrat_check.specs.Steps.{judged, Refutes, Valid}
+use Rattle.lrat_check.specs.Steps.{judged, Refutes, Valid, numbered}
 use Rattle.lrat_check.specs.Resolved.{derived, IsResolvent}
-use Rattle.lrat_check.specs.Steps.{numbered}
 
 abbrev four : List (List ℤ)
 four = (pos 1 ∷ pos 2 ∷ []) ∷ (pos 1 ∷ negsuc 1 ∷ []) ∷ (negsuc 0 ∷ pos 2 ∷ []) ∷ (negsuc 0 ∷ negsuc 1 ∷ []) ∷ []

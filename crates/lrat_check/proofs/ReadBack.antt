@@ -8,11 +8,12 @@ use Rattle.std.proofs.lemmas.Bool.Decides.{nat_tests}
 use Rattle.std.proofs.lemmas.List.{append-nil}
 use Rattle.std.proofs.lemmas.Fmt.{length-decimal-le}
 use Rattle.cnf_form.specs.Cnf.{AreLiterals}
-use Rattle.cnf_text.specs.Numbers.{is_digit, continued, natural_of}
-use Rattle.cnf_text.specs.Words.{lines, words}
-use Rattle.cnf_text.specs.Dimacs.{is_nil, literal_text, next_place}
-use Rattle.cnf_text.proofs.Digits.{Says, decimal_says, natural_from, unsigned}
-use Rattle.cnf_text.proofs.Prints.{is_inner, line_of, word_blank, decimal_plain, inners_of, all_append, literal_words, literal_inner}
+use Rattle.fv_lines.specs.Numbers.{is_digit, continued, natural_of}
+use Rattle.fv_lines.specs.Words.{lines, words, is_nil, next_place}
+use Rattle.cnf_text.specs.Dimacs.{literal_text}
+use Rattle.fv_lines.proofs.Digits.{Says, decimal_says, natural_from, unsigned}
+use Rattle.fv_lines.proofs.Prints.{is_inner, line_of, word_blank, decimal_plain, inners_of, all_append}
+use Rattle.cnf_text.proofs.Prints.{literal_words, literal_inner}
 use Rattle.lrat_check.specs.declared.step.Step.{Step}
 use Rattle.lrat_check.specs.declared.step.Step.TheVariants.{Add, Delete}
 use Rattle.lrat_check.specs.declared.lrat_fault.LratFault.{LratFault}

@@ -3,7 +3,7 @@ use Rattle.std.proofs.Common.{◌≡◌, ℕ, zero, suc, ◌+◌, ◌-◌, ◌*�
 use Rattle.std.specs.Prelude.{option_map, nat_le}
 use Rattle.std.proofs.lemmas.Bool.{cases_Bool}
 use Rattle.std.proofs.lemmas.Bool.Decides.{nat_tests}
-use Rattle.cnf_text.specs.Numbers.{is_digit, continued, natural_of}
+use Rattle.fv_lines.specs.Numbers.{is_digit, continued, natural_of}
 use Rattle.lrat_check.specs.declared.step.Step.{Step}
 use Rattle.lrat_check.specs.Steps.{IsStep, AreSteps}
 use Rattle.lrat_check.specs.Texts.{short}

@@ -1,6 +1,6 @@
 -- Where hints are accepted, no values make the held clauses true and the step's literals false.
 use Rattle.std.proofs.Common.{◌≡◌, ℕ, zero, suc, ◌+◌, Bool, true, false, not, cond, ◌&&◌, ◌||◌, List, [], ◌∷◌, ◌++◌, ℤ, pos, negsuc, neg_ℤ, Option, Some, None, refl, ap, sym, subst, ◌∙◌, inl, inr, arith}
-use Rattle.std.specs.Prelude.{Result, Ok, Err, unsigned_abs, eqb}
+use Rattle.std.specs.Prelude.{Result, Ok, Err, unsigned_abs, eqb, slice_get, leb, length}
 use Rattle.std.specs.List.{list_any}
 use Rattle.std.specs.Ordering.{int_eq}
 use Rattle.std.specs.Cmp.{signed_Decides}
@@ -14,7 +14,6 @@ use Rattle.lrat_check.specs.declared.step.Refuted.{Refuted}
 use Rattle.lrat_check.specs.declared.step.StepFault.{StepFault}
 use Rattle.lrat_check.specs.declared.step.StepFault.TheVariants as fault
 use Rattle.lrat_check.specs.Sets.{has, is_false, first_open, other_open, reading_of, reading, negs, IsLit, AreLits}
-use Rattle.std.specs.Prelude.{slice_get, leb, length}
 use Rattle.lrat_check.proofs.Stores.{with_held, deleted_held, deleted_one, none_some}
 use Rattle.lrat_check.specs.Steps.{Held, walk, numbered, add_fault, deleted, verdict, judged, is_negative, is_empty, with_clause, without_clause, AreSteps}
 use Rattle.lrat_check.specs.Store.{AreHeld}

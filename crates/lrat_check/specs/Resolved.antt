@@ -1,5 +1,5 @@
 -- What steps derive, and when each added clause is a resolvent that strengthens unit propagation.
-use Rattle.std.specs.Prelude.{ℕ, ◌≡◌, Bool, true, false, not, cond, List, [], ◌∷◌, ◌++◌, ℤ, neg_ℤ, unsigned_abs, Option, Some, None}
+use Rattle.std.specs.Prelude.{ℕ, ◌≡◌, Bool, true, false, not, if◌then◌else◌, List, [], ◌∷◌, ◌++◌, ℤ, neg_ℤ, unsigned_abs, Option, Some, None}
 use Rattle.std.specs.List.{list_any, list_all}
 use Rattle.lrat_check.specs.Sets.{has, is_false, same_set, without, union, negs, reading}
 use Rattle.lrat_check.specs.declared.reading.Reading.{Reading}
@@ -11,7 +11,9 @@ use Rattle.lrat_check.specs.Steps.{Held, numbered, with_clause, deleted_from, is
 -- the added clauses that are, as sets of literals, none of those seen, each once
 abbrev pub derived_from : List (List ℤ) → List Step → List (List ℤ)
 derived_from seen [] = []
-derived_from seen (Add id lits hints ∷ steps) = cond (list_any (same_set lits) seen) (derived_from seen steps) (lits ∷ derived_from (seen ++ lits ∷ []) steps)
+derived_from seen (Add id lits hints ∷ steps) =
+    if list_any (same_set lits) seen then derived_from seen steps
+    else lits ∷ derived_from (seen ++ lits ∷ []) steps
 derived_from seen (Delete id ids ∷ steps) = derived_from seen steps
 
 -- those that are no clauses of the formula
@@ -27,10 +29,10 @@ resolvent held set (h ∷ hs) = elim (held (unsigned_abs h)) [
   | None ↦ None
   | Some clause ↦ elim (reading set clause) [
     | read.True ↦ None
-    | read.False ↦ cond (is_empty hs) (Some clause) None
+    | read.False ↦ if is_empty hs then Some clause else None
     | read.Unit l ↦ elim (resolvent held (set ++ l ∷ []) hs) [
       | None ↦ None
-      | Some r ↦ cond (has r (neg_ℤ l)) (Some (union (without l clause) (without (neg_ℤ l) r))) None
+      | Some r ↦ if has r (neg_ℤ l) then Some (union (without l clause) (without (neg_ℤ l) r)) else None
     ]
     | read.Open ↦ None
   ]

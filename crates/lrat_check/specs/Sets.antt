@@ -1,7 +1,7 @@
 -- Sets of literals, as lists that are read by what they hold, and how a clause reads under a set of true literals.
 -- A literal is true where the set holds it, and false where the set holds its complement: a partial assignment, as unit
 -- propagation reads clauses (Cruz-Filipe, Heule, Hunt, Kaufmann, Schneider-Kamp: Efficient Certified RAT Verification).
-use Rattle.std.specs.Prelude.{◌<◌, ◌^◌, Bool, not, ◌&&◌, cond, List, [], ◌∷◌, ◌++◌, filter, map, ℤ, neg_ℤ, unsigned_abs, Option, Some, None}
+use Rattle.std.specs.Prelude.{◌<◌, ◌^◌, Bool, not, ◌&&◌, if◌then◌else◌, List, [], ◌∷◌, ◌++◌, filter, map, ℤ, neg_ℤ, unsigned_abs, Option, Some, None}
 use Rattle.std.specs.Ordering.{int_eq}
 use Rattle.std.specs.List.{AllByRecursion, list_any, list_all}
 use Rattle.lrat_check.specs.declared.reading.Reading.{Reading}
@@ -43,7 +43,7 @@ negs lits = map neg_ℤ lits
 -- the first literal that is not false
 abbrev pub first_open : List ℤ → List ℤ → Option ℤ
 first_open set [] = None
-first_open set (l ∷ ls) = cond (is_false set l) (first_open set ls) (Some l)
+first_open set (l ∷ ls) = if is_false set l then first_open set ls else Some l
 
 -- a literal other than l is not false
 abbrev pub other_open : List ℤ → ℤ → List ℤ → Bool
@@ -52,9 +52,11 @@ other_open set l clause = list_any (λ m. not (is_false set m) && not (int_eq l 
 -- a clause without a true literal, by its first open literal and whether there is another one
 abbrev pub reading_of : Option ℤ → (ℤ → Bool) → Reading
 reading_of None other = read.False
-reading_of (Some l) other = cond (other l) read.Open (read.Unit l)
+reading_of (Some l) other = if other l then read.Open else read.Unit l
 
 -- a clause reads True where a literal is true; else False where all are false, Unit where exactly one is not, Open
 -- where two different ones are not
 abbrev pub reading : List ℤ → List ℤ → Reading
-reading set clause = cond (list_any (has set) clause) read.True (reading_of (first_open set clause) (λ l. other_open set l clause))
+reading set clause =
+    if list_any (has set) clause then read.True
+    else reading_of (first_open set clause) (λ l. other_open set l clause)

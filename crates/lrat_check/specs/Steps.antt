@@ -2,7 +2,7 @@
 -- along its hints, from its literals made false, ends in a conflict (Cruz-Filipe, Heule, Hunt, Kaufmann, Schneider-Kamp:
 -- Efficient Certified RAT Verification). Rules of this project: there are no RAT steps, and a hint with a true literal is
 -- passed over.
-use Rattle.std.specs.Prelude.{ℕ, zero, suc, ◌≡◌, Bool, true, false, cond, leb, eqb, List, [], ◌∷◌, ◌++◌, ℤ, pos, unsigned_abs, int_lt, length, slice_get, Option, Some, None, Result, Ok, Err}
+use Rattle.std.specs.Prelude.{ℕ, zero, suc, ◌≡◌, Bool, true, false, if◌then◌else◌, leb, eqb, List, [], ◌∷◌, ◌++◌, ℤ, pos, unsigned_abs, int_lt, length, slice_get, Option, Some, None, Result, Ok, Err}
 use Rattle.std.specs.List.{list_any}
 use Rattle.lrat_check.specs.Sets.{negs, reading, AreLits}
 use Rattle.lrat_check.specs.declared.reading.Reading.TheVariants as read
@@ -33,11 +33,11 @@ step_number fault.Memory = 0
 
 -- the id holds the clause from here on
 abbrev pub with_clause : Held → ℕ → List ℤ → Held
-with_clause held id lits = λ i. cond (eqb id i) (Some lits) (held i)
+with_clause held id lits = λ i. if eqb id i then Some lits else held i
 
 -- the id holds none from here on
 abbrev pub without_clause : Held → ℕ → Held
-without_clause held id = λ i. cond (eqb id i) None (held i)
+without_clause held id = λ i. if eqb id i then None else held i
 
 -- none of the ids holds a clause from here on
 abbrev pub deleted_from : Held → List ℕ → Held
@@ -68,7 +68,9 @@ walk held id set (h ∷ hs) = elim (held (unsigned_abs h)) [
 -- where the hints, from its literals made false, refuse it
 abbrev pub add_fault : Held → ℕ → ℕ → List ℤ → List ℤ → Option StepFault
 add_fault held top id lits hints =
-    cond (leb id top) (Some (fault.IdOrder id)) (cond (list_any is_negative hints) (Some (fault.Rat id)) (walk held id (negs lits) hints))
+    if leb id top then Some (fault.IdOrder id)
+    else if list_any is_negative hints then Some (fault.Rat id)
+    else walk held id (negs lits) hints
 
 -- what is held after a deletion, or that an id of it was not held; an id's own number is not judged
 abbrev pub deleted : Held → ℕ → List ℕ → Result Held StepFault
@@ -83,7 +85,7 @@ abbrev pub verdict : Held → ℕ → List Step → Result Refuted StepFault
 verdict held top [] = Err fault.NoEmpty
 verdict held top (Add id lits hints ∷ steps) = elim (add_fault held top id lits hints) [
   | Some f ↦ Err f
-  | None ↦ cond (is_empty lits) (Ok (record { id = id })) (verdict (with_clause held id lits) id steps)
+  | None ↦ if is_empty lits then Ok (record { id = id }) else verdict (with_clause held id lits) id steps
 ]
 verdict held top (Delete id ids ∷ steps) = elim (deleted held id ids) [
   | Err f ↦ Err f

@@ -1,10 +1,10 @@
 -- Proofs as texts (LRAT, without the binary form): which steps a text says, and why it says none. One step a line:
 -- `ID LITERALS 0 HINTS 0`, or `ID d IDS 0`. How long numbers may be is a rule of this project.
-use Rattle.std.specs.Prelude.{ℕ, ◌<◌, ◌^◌, ◌≡◌, unsigned_abs, Bool, cond, nat_le, ◌==◌, List, [], ◌∷◌, ◌++◌, length, flat_map, ℤ, codes, decimal, bytes_eq, Option, Some, None, Result, Ok, Err}
+use Rattle.std.specs.Prelude.{ℕ, ◌<◌, ◌^◌, ◌≡◌, unsigned_abs, Bool, if◌then◌else◌, nat_le, ◌==◌, List, [], ◌∷◌, ◌++◌, length, flat_map, ℤ, codes, decimal, bytes_eq, Option, Some, None, Result, Ok, Err}
 use Rattle.std.specs.List.{AllByRecursion}
-use Rattle.cnf_text.specs.Words.{lines, words}
-use Rattle.cnf_text.specs.Numbers.{natural_of, signed}
-use Rattle.cnf_text.specs.Dimacs.{literal_text, is_nil, next_place}
+use Rattle.fv_lines.specs.Words.{lines, words, is_nil, next_place}
+use Rattle.fv_lines.specs.Numbers.{natural_of, signed}
+use Rattle.cnf_text.specs.Dimacs.{literal_text}
 use Rattle.lrat_check.specs.declared.step.Step.{Step}
 use Rattle.lrat_check.specs.declared.step.Step.TheVariants.{Add, Delete}
 use Rattle.lrat_check.specs.declared.lrat_fault.LratFault.{LratFault}
@@ -12,11 +12,11 @@ use Rattle.lrat_check.specs.declared.lrat_fault.LratFault.TheVariants.{Literal, 
 
 -- a number of 1 to 18 digits
 abbrev pub short : List ℕ → Option ℕ
-short word = cond (nat_le (length word) 18) (natural_of word) None
+short word = if nat_le (length word) 18 then natural_of word else None
 
 abbrev pub nonzero : Option ℕ → Option ℕ
 nonzero None = None
-nonzero (Some n) = cond (n == 0) None (Some n)
+nonzero (Some n) = if n == 0 then None else Some n
 
 -- a literal or a hint: 1 to 18 digits, with or without `-`, not zero
 abbrev pub literal_of : List ℕ → Option ℤ
@@ -33,7 +33,7 @@ is_delete word = bytes_eq word (codes "d")
 -- the numbers up to the word `0`, and the words behind it
 abbrev pub up_to_end : {X : Type 0} → (List ℕ → Option X) → ℕ → List X → List (List ℕ) → Result (List X × List (List ℕ)) LratFault
 up_to_end number line xs [] = Err (Open line)
-up_to_end number line xs (w ∷ ws) = cond (is_end w) (Ok (xs, ws)) (elim (number w) [
+up_to_end number line xs (w ∷ ws) = if is_end w then Ok (xs, ws) else (elim (number w) [
   | None ↦ Err (Literal line)
   | Some x ↦ up_to_end number line (xs ++ x ∷ []) ws
 ])
@@ -61,7 +61,7 @@ delete_of line id ws = elim (up_to_end (λ w. nonzero (short w)) line [] ws) [
 -- `d` in the second place makes it a deletion
 abbrev pub behind_id : ℕ → ℕ → List (List ℕ) → Result Step LratFault
 behind_id line id [] = Err (Open line)
-behind_id line id (w ∷ ws) = cond (is_delete w) (delete_of line id ws) (add_of line id (w ∷ ws))
+behind_id line id (w ∷ ws) = if is_delete w then delete_of line id ws else add_of line id (w ∷ ws)
 
 -- the step of a line's words
 abbrev pub step_of : ℕ → List (List ℕ) → Result Step LratFault
@@ -73,7 +73,7 @@ step_of line (w ∷ ws) = elim (short w) [
 
 -- a blank line says nothing
 abbrev pub with_line : ℕ → List Step → List ℕ → Result (List Step) LratFault
-with_line line steps l = cond (is_nil (words l)) (Ok steps) (elim (step_of line (words l)) [
+with_line line steps l = if is_nil (words l) then Ok steps else (elim (step_of line (words l)) [
   | Err e ↦ Err e
   | Ok step ↦ Ok (steps ++ step ∷ [])
 ])

@@ -9,8 +9,6 @@ mod reading;
 mod shared;
 mod step;
 mod store;
-#[cfg(test)]
-mod tests;
 mod true_set;
 
 pub use checker::verify;

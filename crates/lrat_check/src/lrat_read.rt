@@ -1,14 +1,13 @@
 ghost use Rattle.std.specs.Prelude.{◌≡◌, ◌<◌, ◌≤◌, ◌^◌, [], List, ℕ, ℤ, unsigned_abs, option_map, IfOk, IfSome, OnOk};
-ghost use Rattle.cnf_text.specs.Words.{lines, words};
-ghost use Rattle.cnf_text.specs.Dimacs.{next_place};
+ghost use Rattle.fv_lines.specs.Words.{lines, words, next_place};
 ghost use Rattle.lrat_check.specs.Sets.{AreLits, IsLit};
 ghost use Rattle.lrat_check.specs.Steps.{IsStep, AreSteps};
 ghost use Rattle.lrat_check.specs.Texts.{short, nonzero, literal_of, is_end, is_delete, up_to_end, ended, add_of, delete_of, behind_id, step_of, with_line, with_lines, steps_of, OrMemory, Answers, Goes};
 
 use crate::lrat_fault::LratFault;
 use crate::step::Step;
-use cnf_text::{natural, next_line, next_place, next_word};
 use fv_base::List;
+use fv_lines::{natural, next_line, next_place, next_word};
 use std::alloc::Global;
 
 /// Numbers have at most so many digits.

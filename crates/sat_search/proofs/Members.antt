@@ -40,9 +40,6 @@ has_head x c = or_left (int_eq x x) (has c x) (same_self x x refl)
 pub has_tail : (x y : ℤ) (c : List ℤ) → has c x ≡ true → has (y ∷ c) x ≡ true
 has_tail x y c h = or_right (int_eq x y) (has c x) h
 
-pub has_nothing : (x : ℤ) → has [] x ≡ true → ⊥
-has_nothing x h = false≢true h
-
 pub any_from : (p : ℤ → Bool) (c : List ℤ) (x : ℤ) → has c x ≡ true → p x ≡ true → list_any p c ≡ true
 any_from p [] x h k = h
 any_from p (l ∷ ls) x h k = elim (or_cases (int_eq x l) (has ls x) h) [

@@ -7,7 +7,7 @@ use Rattle.lrat_check.specs.declared.reading.Reading.{Reading}
 use Rattle.lrat_check.specs.declared.reading.Reading.TheVariants as read
 use Rattle.lrat_check.specs.Sets.{has, is_false, first_open, other_open, reading_of, reading}
 use Rattle.sat_search.specs.Analysis.{NoneTrue, AllFalse}
-use Rattle.sat_search.proofs.Members.{same_is, same_self, or_cases, or_left, has_head, has_tail, any_from, any_has, any_none, none_at}
+use Rattle.sat_search.proofs.Members.{same_is, same_self, or_cases, or_left, has_head, has_tail, any_has, any_none, none_at}
 
 -- one literal alone of the clause is open
 pub record Alone (set clause : List ℤ) (l : ℤ) : Type 0 where
@@ -104,9 +104,6 @@ cond_untrue false rest r e n = (refl, e)
 untrue : (set c : List ℤ) (r : Reading) → reading set c ≡ r → (read.True ≡ r → ⊥) → NoneTrue set c × (reading_of (first_open set c) (λ l. other_open set l c) ≡ r)
 untrue set c r e n = let p = cond_untrue (list_any (has set) c) (reading_of (first_open set c) (λ l. other_open set l c)) r e n in
     (λ x h. none_at (has set) c x p.0 h, p.1)
-
-pub true_from : (set c : List ℤ) (x : ℤ) → has c x ≡ true → has set x ≡ true → reading set c ≡ read.True
-true_from set c x h k = ap (λ b. cond b read.True (reading_of (first_open set c) (λ l. other_open set l c))) (any_from (has set) c x h k)
 
 from_untrue : (set c : List ℤ) → NoneTrue set c → reading set c ≡ reading_of (first_open set c) (λ l. other_open set l c)
 from_untrue set c n = ap (λ b. cond b read.True (reading_of (first_open set c) (λ l. other_open set l c))) (any_none (has set) c n)

@@ -1,5 +1,5 @@
 -- What each round of the search owes to the calls that it makes.
-use Rattle.std.proofs.Common.{◌≡◌, ℕ, ◌+◌, ◌^◌, ◌<◌, true, false, List, ◌∷◌, ℤ, pos, Some, None, ap, sym, subst, ◌∙◌, w64, to_z, of_z, arith}
+use Rattle.std.proofs.Common.{◌≡◌, ℕ, ◌+◌, ◌^◌, ◌<◌, false, List, ◌∷◌, ℤ, pos, Some, None, ap, sym, subst, ◌∙◌, w64, to_z, of_z, arith}
 use Rattle.std.specs.Prelude.{slice_get}
 use Rattle.std.proofs.lemmas.Bool.{or_parts}
 use Rattle.std.proofs.lemmas.Int.{to_z-of_z, fits_signed_from_abs}
@@ -8,7 +8,7 @@ use Rattle.lrat_check.specs.declared.step.Step.{Step}
 use Rattle.lrat_check.specs.Sets.{has, is_false}
 use Rattle.sat_search.specs.declared.trail.Entry.{Entry}
 use Rattle.sat_search.specs.declared.propagation.Scan.TheVariants as scan
-use Rattle.sat_search.specs.Trail.{Entries, lits, settled, Stand, IsOpenVar}
+use Rattle.sat_search.specs.Trail.{Entries, lits, Stand, IsOpenVar}
 use Rattle.sat_search.specs.Propagation.{AllLits, Sees}
 use Rattle.sat_search.specs.Analysis.{IsConflict}
 use Rattle.sat_search.specs.Searching.{Searching, rounds}
@@ -74,16 +74,9 @@ module _ (vars budget : ℕ) (formula cs : List (List ℤ)) (t : Entries) (steps
     var_kept : to_z w64 (of_z w64 l) ≡ l
     var_kept = to_z-of_z w64 l (fits_signed_from_abs w64 l (lit_of vars l v var_literal).1)
 
-    pub var_free : has (lits t) (to_z w64 (of_z w64 l)) ≡ false
-    var_free = ap (has (lits t)) var_kept ∙ var_open.0
-
     module _ (whole : Entries) (w : whole ≡ (record { lit = to_z w64 (of_z w64 l); reason = None }) ∷ t) where
       decision_is : whole ≡ (record { lit = l; reason = None }) ∷ t
       decision_is = w ∙ ap (λ z. (let e : Entry = record { lit = z; reason = None } in e) ∷ t) var_kept
-
-      pub decision_on : settled seen (lits t) ≡ true → Searching vars budget formula cs whole steps left
-      decision_on k = pushed_on vars budget formula cs t steps left s (record { lit = l; reason = None }) whole decision_is var_literal
-          (record { lit = lit_of vars l v var_literal; free = var_open.0; unfalse = var_open.1; because = ap (λ z. settled z (lits t)) (sym same) ∙ k })
 
       pub decision_falls : rounds vars left whole < rounds vars left t
       decision_falls = value_falls vars left (record { lit = l; reason = None }) t whole decision_is var_literal var_open.0 var_open.1

@@ -3,7 +3,7 @@ use Rattle.std.proofs.Common.{◌≡◌, ℕ, suc, ◌+◌, ◌-◌, ◌<◌, �
 use Rattle.std.specs.List.{list_any}
 use Rattle.std.specs.Option.{is_some}
 use Rattle.std.proofs.Math.Seq.{drop-cons}
-use Rattle.std.proofs.lemmas.List.{get_or-reverse, length-reverse, drop_all}
+use Rattle.std.proofs.lemmas.List.{get_or-reverse, length-reverse}
 use Rattle.std.proofs.lemmas.List.Sorted.{list_any-IsPermutation, IsPermutation-reverse}
 use Rattle.sat_search.specs.declared.trail.Entry.{Entry}
 use Rattle.sat_search.specs.Trail.{Entries, oldest, decides, is_decision, decided, below_at, below}
@@ -66,7 +66,3 @@ module _ (xs t : Entries) (view : reverse xs ≡ t) (next : ℕ) (d : Entry) (so
   pub starts_below : is_some (get_or xs (next - 1) d).reason ≡ true → below (oldest next t) ≡ below t → below (oldest (next - 1) t) ≡ below t
   starts_below n b = sym (ap below next_is
       ∙ below_implied (get_or xs (next - 1) d) (oldest (next - 1) t) (get_or xs (next - 1) d).reason refl (decides_some (get_or xs (next - 1) d).reason n)) ∙ b
-
--- none of the entries is a decision
-pub starts_nowhere : (xs : Entries) → below (oldest 0 (reverse xs)) ≡ below (reverse xs) → 0 ≡ length (below (reverse xs))
-starts_nowhere xs b = sym (ap length (sym b) ∙ ap (λ t. length (below t)) (drop_all (length (reverse xs) - 0) (reverse xs) (omega arith)))

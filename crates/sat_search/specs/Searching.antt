@@ -1,6 +1,6 @@
 -- What the search keeps: how the trail stands, what the steps so far come to, and what falls with each round.
 -- Rules of this project.
-use Rattle.std.specs.Prelude.{ℕ, zero, suc, ◌+◌, ◌*◌, ◌-◌, ◌^◌, ◌<◌, ◌≡◌, Bool, true, false, not, ◌&&◌, ◌||◌, cond, List, [], ◌∷◌, ◌++◌, ℤ, pos, length}
+use Rattle.std.specs.Prelude.{ℕ, zero, suc, ◌+◌, ◌*◌, ◌-◌, ◌^◌, ◌<◌, ◌≡◌, Bool, true, false, not, ◌&&◌, ◌||◌, if◌then◌else◌, List, [], ◌∷◌, ◌++◌, ℤ, pos, length}
 use Rattle.std.specs.List.{list_all}
 use Rattle.cnf_form.specs.Cnf.{AreLiterals, AreClauses}
 use Rattle.lrat_check.specs.declared.step.Step.{Step}
@@ -13,7 +13,7 @@ use Rattle.sat_search.specs.Found.{AreAdded}
 -- how many of the variables up to one have no value
 abbrev pub open_vars : ℕ → List ℤ → ℕ
 open_vars zero set = 0
-open_vars (suc n) set = cond (is_assigned set (n + 1)) 0 1 + open_vars n set
+open_vars (suc n) set = (if is_assigned set (n + 1) then 0 else 1) + open_vars n set
 
 -- both or neither
 abbrev pub agrees : Bool → Bool → Bool

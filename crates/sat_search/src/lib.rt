@@ -8,8 +8,6 @@ mod learning;
 mod propagation;
 mod search;
 mod shared;
-#[cfg(test)]
-mod tests;
 mod trail;
 
 pub use found::Found;

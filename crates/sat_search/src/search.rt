@@ -1,6 +1,6 @@
 ghost use Rattle.std.specs.Prelude.{◌≡◌, ◌<◌, ◌≤◌, ◌^◌, ℕ, true, false, List, length, IfOk, MatchOption};
 ghost use Rattle.cnf_form.specs.Cnf.{AreClauses, formula_true, value_of};
-ghost use Rattle.lrat_check.specs.Steps.{Refutes, Valid};
+ghost use Rattle.lrat_check.specs.Steps.{Refutes, Valid, AreSteps};
 ghost use Rattle.lrat_check.specs.Resolved.{Resolved, derived};
 ghost use Rattle.sat_search.specs.Trail.{lits, AllAssigned, IsOpenVar, values_of};
 ghost use Rattle.sat_search.specs.Found.{IfModel, IfRefuted, IfSpent, IfSteps, AreAdded, nonempty};
@@ -30,6 +30,7 @@ pub fn solve(alloc: Global, formula: &Formula, budget: u64) -> Result<Found, Mem
     ensures spent { IfOk result (λ found. IfSpent found (λ steps. length (derived formula.now.clauses steps) ≡ budget)) }
     ensures bound { IfOk result (λ found. IfSpent found (λ steps. budget < 3 ^ formula.now.vars)) }
     ensures added { IfOk result (λ found. IfSteps found (λ steps. AreAdded formula.now.vars steps)) }
+    ensures steps { IfOk result (λ found. IfSteps found AreSteps) }
 {
     let vars = formula.vars();
     let mut clauses = copied(alloc, formula)?;

@@ -1,5 +1,5 @@
 -- The digits of codes and of values, step by step.
-use Rattle.std.proofs.Common.{◌≡◌, ℕ, zero, suc, ◌+◌, ◌/◌, ◌%◌, ◌<◌, ◌≤◌, Bool, true, false, List, [], ◌∷◌, ◌++◌, refl, ap, sym, ◌∙◌, inl, inr, append_assoc, arith}
+use Rattle.std.proofs.Common.{◌≡◌, ℕ, zero, suc, ◌+◌, ◌/◌, ◌%◌, ◌<◌, ◌≤◌, Bool, true, false, cond, List, [], ◌∷◌, ◌++◌, refl, ap, sym, ◌∙◌, inl, inr, append_assoc, arith}
 use Rattle.std.specs.Prelude.{nat_lt}
 use Rattle.std.proofs.lemmas.Bool.{cases_lt}
 use Rattle.std.proofs.lemmas.Bool.Decides.{nat_tests}
@@ -13,11 +13,11 @@ le_false : (a b : ℕ) → b ≤ a → nat_lt a b ≡ false
 le_false a b h = grind (arith, nat_tests)
 
 -- a choice by a test whose outcome is known
-pub when : {X : Type 0} (b : Bool) (x y : X) → b ≡ true → elim b [ true ↦ x | false ↦ y ] ≡ x
+pub when : {X : Type 0} (b : Bool) (x y : X) → b ≡ true → cond b x y ≡ x
 when true x y e = refl
 when false x y e = absurd (let h : false ≡ true = e in cc)
 
-pub unless : {X : Type 0} (b : Bool) (x y : X) → b ≡ false → elim b [ true ↦ x | false ↦ y ] ≡ y
+pub unless : {X : Type 0} (b : Bool) (x y : X) → b ≡ false → cond b x y ≡ y
 unless true x y e = absurd (let h : true ≡ false = e in cc)
 unless false x y e = refl
 

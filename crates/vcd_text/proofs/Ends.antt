@@ -7,12 +7,14 @@ use Rattle.fv_base.specs.declared.trace.TraceName.{TraceName}
 use Rattle.vcd_text.specs.declared.reader.Part.{Part}
 use Rattle.vcd_text.specs.declared.reader.Part.TheVariants.{Scale, Scope, Names, Definitions, Start, Dump, Values, Changes}
 use Rattle.vcd_text.specs.declared.reader.Reader.{Reader}
-use Rattle.vcd_text.specs.Reading.{IsReadable, IsFront, IsFirstFault, IsNoDump, IsDumpOf, IsCut, HasNo, whole_lines}
+use Rattle.vcd_text.specs.Reading.{IsReadable, IsFront, IsFirstFault, IsNoDump, IsDumpOf}
+use Rattle.fv_lines.specs.Cuts.{IsCut, HasNo, whole_lines}
+use Rattle.fv_lines.proofs.Parts.{whole_cut, whole_none}
 use Rattle.vcd_text.specs.Reached.{AreLeft, AreFirst, AreNames, IsReached, IsSound, Awaits, Takes, Finishes}
 use Rattle.vcd_text.specs.Vcd.{AreValues, with_end, text_of, name_lines, header_lines, value_lines, change_lines, time_line, later_lines, cycle_lines, vcd_lines, vcd_text}
 use Rattle.vcd_text.proofs.WriteLemmas.{text_of-append}
 use Rattle.vcd_text.proofs.Lists.{all_append, no_lines, first_none, eq_same, differs}
-use Rattle.vcd_text.proofs.LineEnds.{whole_cut, whole_none, dump_lines}
+use Rattle.vcd_text.proofs.LineEnds.{dump_lines}
 
 -- zeros for the names without a value
 zeros : List TraceName → List ℕ → List ℕ
@@ -113,8 +115,8 @@ no_end Changes ns cs vs k d t r h = elim h.1 [
 ]
 
 -- where it may, and for which trace alone
-abbrev EndsAs : Part → List TraceName → List (List ℕ) → List ℕ → ℕ → Trace → Type 0
-EndsAs part ns cs vs k trace = IsReadable trace × AreLeft part ns cs vs k trace.names trace.cycles [] × ((t : Trace) → IsReadable t → AreLeft part ns cs vs k t.names t.cycles [] → t ≡ trace)
+abbrev EndsWith : Part → List TraceName → List (List ℕ) → List ℕ → ℕ → Trace → Type 0
+EndsWith part ns cs vs k trace = IsReadable trace × AreLeft part ns cs vs k trace.names trace.cycles [] × ((t : Trace) → IsReadable t → AreLeft part ns cs vs k t.names t.cycles [] → t ≡ trace)
 
 some_whole : (cs : List (List ℕ)) → 0 < length cs → cs ≡ [] → ⊥
 some_whole cs l e = let z : length cs ≡ length {A = List ℕ} [] = ap length e in omega (arith, z, l)
@@ -122,7 +124,7 @@ some_whole cs l e = let z : length cs ≡ length {A = List ℕ} [] = ap length e
 abbrev trace_of : List TraceName → List (List ℕ) → Trace
 trace_of ns cs = record { names = ns; cycles = cs }
 
-pub an_end : (part : Part) (ns : List TraceName) (cs : List (List ℕ)) (vs : List ℕ) (k : ℕ) → 0 < length cs → k ≡ 0 → IsReached part ns cs vs k → EndsAs part ns cs vs k (record { names = ns; cycles = cs })
+pub an_end : (part : Part) (ns : List TraceName) (cs : List (List ℕ)) (vs : List ℕ) (k : ℕ) → 0 < length cs → k ≡ 0 → IsReached part ns cs vs k → EndsWith part ns cs vs k (record { names = ns; cycles = cs })
 an_end Scale ns cs vs k l z s = absurd (some_whole cs l s.1.none)
 an_end Scope ns cs vs k l z s = absurd (some_whole cs l s.1.none)
 an_end Names ns cs vs k l z s = absurd (some_whole cs l s.1.none)
@@ -147,9 +149,6 @@ pub record IsRead (bytes rest : List ℕ) (place : ℕ) (r : Reader) : Type 0 wh
   pub place_is : place ≡ min (length before + 1) (2 ^ 32 - 1)
   pub sound : IsSound r
   pub awaits : (t : Trace) (more : List (List ℕ)) → IsReadable t → Awaits r t more ↔ (vcd_lines t ≡ before ++ more)
-
-pub read_none : (bytes : List ℕ) (place : ℕ) (r : Reader) → place ≡ 1 → IsSound r → ((t : Trace) (more : List (List ℕ)) → IsReadable t → Awaits r t more ↔ (vcd_lines t ≡ more)) → IsRead bytes bytes place r
-read_none bytes place r p s a = record { before = []; bytes_are = refl; lines_are = refl; place_is = omega (arith, p); sound = s; awaits = a }
 
 pub read_line : (bytes rest line behind : List ℕ) (place next : ℕ) (old new : Reader) → IsRead bytes rest place old → IsCut 10 rest line behind → Takes old line true new → next ≡ min (place + 1) (2 ^ 32 - 1) → IsRead bytes behind next new
 read_line bytes rest line behind place next old new i c t n =
@@ -235,10 +234,10 @@ reads_all bytes rest place r trace i z f =
       only = λ t d h. f.2 t d ((i.awaits t [] d).1 (whole_so_far bytes rest place r i n t d h));
     }
 
-pub ends_as : (r : Reader) (names : List TraceName) (cycles : List (List ℕ)) → names ≡ r.names.items → cycles ≡ r.cycles.items → 0 < length r.cycles.items → r.next ≡ 0 → IsSound r → EndsAs r.part r.names.items r.cycles.items r.values.items r.next (record { names = names; cycles = cycles })
+pub ends_as : (r : Reader) (names : List TraceName) (cycles : List (List ℕ)) → names ≡ r.names.items → cycles ≡ r.cycles.items → 0 < length r.cycles.items → r.next ≡ 0 → IsSound r → EndsWith r.part r.names.items r.cycles.items r.values.items r.next (record { names = names; cycles = cycles })
 ends_as r names cycles e f l z s =
-    subst (λ x. EndsAs r.part r.names.items r.cycles.items r.values.items r.next (trace_of x cycles)) (sym e)
-    (subst (λ x. EndsAs r.part r.names.items r.cycles.items r.values.items r.next (trace_of r.names.items x)) (sym f)
+    subst (λ x. EndsWith r.part r.names.items r.cycles.items r.values.items r.next (trace_of x cycles)) (sym e)
+    (subst (λ x. EndsWith r.part r.names.items r.cycles.items r.values.items r.next (trace_of r.names.items x)) (sym f)
     (an_end r.part r.names.items r.cycles.items r.values.items r.next l z s))
 
 -- whether there is a whole cycle

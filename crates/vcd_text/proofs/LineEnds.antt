@@ -1,5 +1,5 @@
 -- No line of a dump has an LF, so that the lines of its text are its lines.
-use Rattle.std.proofs.Common.{◌≡◌, ℕ, zero, suc, ◌+◌, ◌/◌, ◌%◌, ◌≤◌, Bool, true, false, not, ◌==◌, ◌&&◌, nat_lt, if◌then◌else◌, codes, decimal, List, [], ◌∷◌, ◌++◌, refl, ap, sym, subst, ◌∙◌, inl, inr, append_assoc, arith}
+use Rattle.std.proofs.Common.{◌≡◌, ℕ, zero, suc, ◌+◌, ◌/◌, ◌%◌, ◌≤◌, Bool, true, false, not, cond, ◌==◌, ◌&&◌, nat_lt, if◌then◌else◌, codes, decimal, List, [], ◌∷◌, ◌++◌, refl, ap, sym, subst, ◌∙◌, inl, inr, append_assoc, arith}
 use Rattle.std.proofs.lemmas.Bool.{cases_Bool, false≢true}
 use Rattle.std.proofs.lemmas.Bool.Decides.{nat_tests}
 use Rattle.std.proofs.lemmas.List.Folds.{list_all-append}
@@ -8,7 +8,9 @@ use Rattle.std.specs.List.{AllByRecursion, list_all}
 use Rattle.fv_base.specs.declared.trace.Trace.{Trace}
 use Rattle.fv_base.specs.declared.trace.TraceName.{TraceName}
 use Rattle.vcd_text.specs.Digits.{code, binary}
-use Rattle.vcd_text.specs.Reading.{HasNo, is_plain, IsPlain, IsReadable, joined, whole_lines}
+use Rattle.fv_lines.specs.Cuts.{HasNo, whole_lines}
+use Rattle.fv_lines.proofs.Parts.{whole_cut}
+use Rattle.vcd_text.specs.Reading.{is_plain, IsPlain, IsReadable}
 use Rattle.vcd_text.specs.Vcd.{text_of, name_line, name_lines, header_lines, value_of, value_line, value_lines, change_line, change_lines, time_line, later_lines, first_lines, cycle_lines, vcd_lines, vcd_text}
 use Rattle.vcd_text.proofs.DigitsLemmas.{when, unless}
 use Rattle.vcd_text.proofs.Values.{true_and, number_no}
@@ -82,7 +84,7 @@ value_lines_are i (n ∷ ns) (v ∷ vs) = (value_is_line i n v, value_lines_are 
 
 change_line_is : (i : ℕ) (n : TraceName) (b v : ℕ) → AreLines (change_line i n b v)
 change_line_is i n b v = choice (b == v) (value_line i n v) (value_is_line i n v) where
-  choice : (t : Bool) (l : List ℕ) → IsLine l → AreLines (elim t [ true ↦ [] | false ↦ l ∷ [] ])
+  choice : (t : Bool) (l : List ℕ) → IsLine l → AreLines (cond t [] (l ∷ []))
   choice true l h = tt
   choice false l h = (h, tt)
 
@@ -108,25 +110,6 @@ cycle_lines_are ns (c ∷ cycles) = all_append IsLine (first_lines ns c) (later_
 
 header_lines_are : (ns : List TraceName) → AllByRecursion IsPlain ns → AreLines (header_lines ns)
 header_lines_are ns p = (refl, (refl, all_append IsLine (name_lines 0 ns) (codes "$upscope $end" ∷ codes "$enddefinitions $end" ∷ []) (name_lines_are 0 ns p) (refl, (refl, tt))))
-
--- the first line of a text
-pub whole_cut : (line rest : List ℕ) → IsLine line → whole_lines (line ++ 10 ∷ rest) ≡ line ∷ whole_lines rest
-whole_cut [] rest h = refl
-whole_cut (c ∷ line) rest h =
-    let p = parts (c == 10) (list_all (λ z. not (z == 10)) line) h in
-    unless (c == 10) ([] ∷ whole_lines (line ++ 10 ∷ rest)) (joined c (whole_lines (line ++ 10 ∷ rest))) p.0 ∙ ap (joined c) (whole_cut line rest p.1) where
-      parts : (a b : Bool) → (not a && b) ≡ true → (a ≡ false) × (b ≡ true)
-      parts true b h = absurd (false≢true h)
-      parts false b h = (refl, h)
-
-pub whole_none : (bytes : List ℕ) → IsLine bytes → whole_lines bytes ≡ []
-whole_none [] h = refl
-whole_none (c ∷ bytes) h =
-    let p = parts (c == 10) (list_all (λ z. not (z == 10)) bytes) h in
-    unless (c == 10) ([] ∷ whole_lines bytes) (joined c (whole_lines bytes)) p.0 ∙ ap (joined c) (whole_none bytes p.1) where
-      parts : (a b : Bool) → (not a && b) ≡ true → (a ≡ false) × (b ≡ true)
-      parts true b h = absurd (false≢true h)
-      parts false b h = (refl, h)
 
 whole_text : (ls : List (List ℕ)) → AreLines ls → whole_lines (text_of ls) ≡ ls
 whole_text [] h = refl

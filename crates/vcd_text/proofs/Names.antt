@@ -1,27 +1,17 @@
 -- Lines that declare a name.
-use Rattle.std.proofs.Common.{◌≡◌, ℕ, zero, suc, ◌+◌, ◌-◌, ◌/◌, ◌%◌, ◌^◌, ◌<◌, ◌≤◌, Bool, true, false, not, eqb, ◌==◌, codes, decimal, List, [], ◌∷◌, ◌++◌, length, take, drop, refl, ap, sym, subst, ◌∙◌, inl, inr, append_assoc, length-append, arith}
-use Rattle.std.proofs.lemmas.Bool.{cases_lt, false≢true}
+use Rattle.std.proofs.Common.{◌≡◌, ℕ, zero, suc, ◌+◌, ◌/◌, ◌%◌, ◌^◌, ◌<◌, ◌≤◌, true, false, not, ◌==◌, codes, decimal, List, [], ◌∷◌, ◌++◌, refl, ap, sym, subst, ◌∙◌, inl, inr, append_assoc, arith}
+use Rattle.std.proofs.lemmas.Bool.{cases_lt}
 use Rattle.std.proofs.lemmas.Bool.Decides.{nat_tests}
-use lib.Pointwise.{pointwise, bytes_decides}
-use Rattle.std.proofs.lemmas.List.{take_at, drop_at, append_cancel_left, append_cancel_right}
+use Rattle.std.proofs.lemmas.List.{append_cancel_left, append_cancel_right}
 use Rattle.std.specs.List.{list_all}
 use Rattle.std.proofs.lemmas.Fmt.{decimal_by_steps}
 use Rattle.fv_base.specs.declared.trace.TraceName.{TraceName}
 use Rattle.vcd_text.specs.Digits.{code, number}
-use Rattle.vcd_text.specs.Reading.{HasNo, IsCut}
+use Rattle.fv_lines.specs.Cuts.{HasNo, IsCut}
 use Rattle.vcd_text.specs.Vcd.{name_line}
 use Rattle.vcd_text.proofs.DigitsLemmas.{code_small, code_more, number_small, number_more}
 use Rattle.vcd_text.proofs.Written.{number_writes, written_same}
 use Rattle.vcd_text.proofs.Values.{cut_same, number_no, true_and}
-
-pub front_of : (bytes front rest : List ℕ) → bytes ≡ front ++ rest → take (length front) bytes ≡ front
-front_of bytes front rest e = ap (take (length front)) e ∙ take_at front rest (length front) refl
-
-pub end_of : (bytes start end : List ℕ) → bytes ≡ start ++ end → drop (length bytes - length end) bytes ≡ end
-end_of bytes start end e =
-    let l : length bytes ≡ length start + length end = ap length e ∙ length-append start end in
-    let k : length bytes - length end ≡ length start = omega (arith, l) in
-    ap (λ n. drop n bytes) k ∙ ap (drop (length start)) e ∙ drop_at start end (length start) refl
 
 -- the digits of a width
 pub decimal_is : (n : ℕ) → n < 2 ^ 64 → decimal n ≡ number 10 n
@@ -75,12 +65,3 @@ code_cut index n rest2 characters rest3 k e = cut_same 32 characters (code index
 
 pub text_is : (n : TraceName) (rest3 text : List ℕ) → rest3 ≡ text ++ codes " $end" → rest3 ≡ n.text ++ codes " $end" → text ≡ n.text
 text_is n rest3 text p e = append_cancel_right text n.text (codes " $end") (sym p ∙ e)
-
-pub is_same : (xs ys : List ℕ) (b : Bool) → b ≡ pointwise eqb xs ys → b ≡ false → xs ≡ ys → ⊥
-is_same xs ys b e f s = false≢true (sym f ∙ e ∙ (bytes_decides xs ys).1 s)
-
--- the line of these parts
-pub name_line_of : (index : ℕ) (line rest digits rest2 characters rest3 text : List ℕ) (w : ℕ) → line ≡ codes "$var wire " ++ rest → IsCut 32 rest digits rest2 → IsCut 32 rest2 characters rest3 → rest3 ≡ text ++ codes " $end" → digits ≡ decimal w → characters ≡ code index → line ≡ name_line index (record { text = text; width = w })
-name_line_of index line rest digits rest2 characters rest3 text w p k m t d c =
-    p ∙ ap (λ x. codes "$var wire " ++ x) (k.0 ∙ ap (λ x. digits ++ 32 ∷ x) (m.0 ∙ ap (λ x. characters ++ 32 ∷ x) t) ∙ ap (λ x. x ++ 32 ∷ (characters ++ 32 ∷ (text ++ codes " $end"))) d ∙ ap (λ x. decimal w ++ 32 ∷ (x ++ 32 ∷ (text ++ codes " $end"))) c)
-    ∙ sym (name_line_is index (record { text = text; width = w }))

@@ -8,7 +8,8 @@ use Rattle.std.proofs.lemmas.List.Folds.{list_all-append}
 use Rattle.std.proofs.Math.Nat.{div-lt_self}
 use Rattle.fv_base.specs.declared.trace.TraceName.{TraceName}
 use Rattle.vcd_text.specs.Digits.{code, number, binary}
-use Rattle.vcd_text.specs.Reading.{HasNo, IsCut, IsAt, IsValue, FindsParts, FindsValue}
+use Rattle.fv_lines.specs.Cuts.{HasNo, IsCut}
+use Rattle.vcd_text.specs.Reading.{IsAt, IsValue, FindsParts, FindsValue}
 use Rattle.vcd_text.specs.Vcd.{value_of, value_line}
 use Rattle.vcd_text.proofs.DigitsLemmas.{when, unless, number_small, number_more}
 use Rattle.vcd_text.proofs.Written.{code_writes, written_same, cons_same, not_nil}

@@ -9,32 +9,49 @@ use Rattle.vcd_text.specs.declared.reader.Reader.{Reader}
 use Rattle.vcd_text.specs.Reading.{IsPlain, IsReadable}
 use Rattle.vcd_text.specs.Vcd.{IsWide, AreValues, name_lines, header_lines, value_lines, change_lines, later_lines, cycle_lines}
 
+-- the lines from the end of the scope on
+abbrev pub behind_names : List TraceName → List (List ℕ) → List (List ℕ)
+behind_names all cycles = codes "$upscope $end" ∷ codes "$enddefinitions $end" ∷ cycle_lines all cycles
+
+-- the lines from the end of the values at time 0 on
+abbrev pub behind_values : List TraceName → List ℕ → List (List ℕ) → List (List ℕ)
+behind_values names first later = codes "$end" ∷ later_lines names 1 first later
+
 -- the names behind those that were read, and the lines from the next name's on
 pub record AreNamesLeft (names all : List TraceName) (cycles rest : List (List ℕ)) : Type 0 where
   pub others : List TraceName
   pub all_are : all ≡ names ++ others
-  pub left : rest ≡ name_lines (length names) others ++ codes "$upscope $end" ∷ codes "$enddefinitions $end" ∷ cycle_lines all cycles
+  pub left : rest ≡ name_lines (length names) others ++ behind_names all cycles
 
 -- the values at time 0, and the lines from `$dumpvars` on
 pub record IsDumpLeft (names : List TraceName) (cycles rest : List (List ℕ)) : Type 0 where
   pub first : List ℕ
   pub later : List (List ℕ)
   pub cycles_are : cycles ≡ first ∷ later
-  pub left : rest ≡ codes "$dumpvars" ∷ (value_lines 0 names first ++ codes "$end" ∷ later_lines names 1 first later)
+  pub left : rest ≡ codes "$dumpvars" ∷ (value_lines 0 names first ++ behind_values names first later)
 
 -- the values at time 0 behind those that were read, and the lines from the next value's on
 pub record AreValuesLeft (names : List TraceName) (values : List ℕ) (cycles rest : List (List ℕ)) : Type 0 where
   pub others : List ℕ
   pub later : List (List ℕ)
   pub cycles_are : cycles ≡ (values ++ others) ∷ later
-  pub left : rest ≡ value_lines (length values) (drop (length values) names) others ++ codes "$end" ∷ later_lines names 1 (values ++ others) later
+  pub left :
+      rest ≡ value_lines (length values) (drop (length values) names) others
+      ++ behind_values names (values ++ others) later
 
 -- behind the whole cycles a cycle is open: below `next` its values are known, from there on those of the cycle before are
-pub record IsCycleLeft (names : List TraceName) (whole : List (List ℕ)) (values : List ℕ) (next : ℕ) (cycles rest : List (List ℕ)) : Type 0 where
+pub record IsCycleLeft
+    (names : List TraceName)
+    (whole : List (List ℕ))
+    (values : List ℕ)
+    (next : ℕ)
+    (cycles rest : List (List ℕ)) : Type 0 where
   pub others : List ℕ
   pub later : List (List ℕ)
   pub cycles_are : cycles ≡ whole ++ (take next values ++ others) ∷ later
-  pub left : rest ≡ change_lines next (drop next names) (drop next values) others ++ later_lines names (length whole + 1) (take next values ++ others) later
+  pub left :
+      rest ≡ change_lines next (drop next names) (drop next values) others
+      ++ later_lines names (length whole + 1) (take next values ++ others) later
 
 -- the last line was that of the last time
 pub record IsNoneLeft (whole : List (List ℕ)) (next : ℕ) (cycles rest : List (List ℕ)) : Type 0 where
@@ -45,15 +62,20 @@ pub record IsNoneLeft (whole : List (List ℕ)) (next : ℕ) (cycles rest : List
 
 -- by the part that was reached, and the names, the whole cycles, the values and the next name so far: which lines of the
 -- dump of all these names and cycles are still to come
-abbrev pub AreLeft : Part → List TraceName → List (List ℕ) → List ℕ → ℕ → List TraceName → List (List ℕ) → List (List ℕ) → Type 0
+abbrev pub AreLeft :
+    Part → List TraceName → List (List ℕ) → List ℕ → ℕ
+    → List TraceName → List (List ℕ) → List (List ℕ) → Type 0
 AreLeft Scale names whole values next all cycles rest = rest ≡ header_lines all ++ cycle_lines all cycles
-AreLeft Scope names whole values next all cycles rest = rest ≡ codes "$scope module rvfi_wrapper $end" ∷ (name_lines 0 all ++ codes "$upscope $end" ∷ codes "$enddefinitions $end" ∷ cycle_lines all cycles)
+AreLeft Scope names whole values next all cycles rest =
+    rest ≡ codes "$scope module rvfi_wrapper $end" ∷ (name_lines 0 all ++ behind_names all cycles)
 AreLeft Names names whole values next all cycles rest = AreNamesLeft names all cycles rest
-AreLeft Definitions names whole values next all cycles rest = (all ≡ names) × (rest ≡ codes "$enddefinitions $end" ∷ cycle_lines names cycles)
+AreLeft Definitions names whole values next all cycles rest =
+    (all ≡ names) × (rest ≡ codes "$enddefinitions $end" ∷ cycle_lines names cycles)
 AreLeft Start names whole values next all cycles rest = (all ≡ names) × (rest ≡ cycle_lines names cycles)
 AreLeft Dump names whole values next all cycles rest = (all ≡ names) × IsDumpLeft names cycles rest
 AreLeft Values names whole values next all cycles rest = (all ≡ names) × AreValuesLeft names values cycles rest
-AreLeft Changes names whole values next all cycles rest = (all ≡ names) × (IsCycleLeft names whole values next cycles rest ⊎ IsNoneLeft whole next cycles rest)
+AreLeft Changes names whole values next all cycles rest =
+    (all ≡ names) × (IsCycleLeft names whole values next cycles rest ⊎ IsNoneLeft whole next cycles rest)
 
 -- the first values, one for each of the first names
 abbrev pub AreFirst : List TraceName → List ℕ → Type 0
@@ -90,22 +112,34 @@ IsReached Values names whole values next = AreNames names × (whole ≡ []) × A
 IsReached Changes names whole values next = AreNames names × AreCycles names whole values next
 
 -- what a line makes of that: it goes on with exactly the dumps that have the line here
-abbrev pub GoesOn : Part → List TraceName → List (List ℕ) → List ℕ → ℕ → List ℕ → Part → List TraceName → List (List ℕ) → List ℕ → ℕ → Type 0
-GoesOn part names whole values next line part2 names2 whole2 values2 next2 = IsReached part2 names2 whole2 values2 next2 × ((t : Trace) (rest : List (List ℕ)) → IsReadable t → AreLeft part2 names2 whole2 values2 next2 t.names t.cycles rest ↔ AreLeft part names whole values next t.names t.cycles (line ∷ rest))
+abbrev pub GoesOn :
+    Part → List TraceName → List (List ℕ) → List ℕ → ℕ → List ℕ
+    → Part → List TraceName → List (List ℕ) → List ℕ → ℕ → Type 0
+GoesOn part names whole values next line part2 names2 whole2 values2 next2 =
+    IsReached part2 names2 whole2 values2 next2
+    × ((t : Trace) (rest : List (List ℕ)) → IsReadable t
+    → AreLeft part2 names2 whole2 values2 next2 t.names t.cycles rest
+    ↔ AreLeft part names whole values next t.names t.cycles (line ∷ rest))
 
 -- no dump has the line here
 abbrev pub StopsAt : Part → List TraceName → List (List ℕ) → List ℕ → ℕ → List ℕ → Type 0
-StopsAt part names whole values next line = (t : Trace) (rest : List (List ℕ)) → IsReadable t → AreLeft part names whole values next t.names t.cycles (line ∷ rest) → ⊥
+StopsAt part names whole values next line =
+    (t : Trace) (rest : List (List ℕ)) → IsReadable t
+    → AreLeft part names whole values next t.names t.cycles (line ∷ rest) → ⊥
 
--- the same of a reader
+-- what a reader keeps
 abbrev pub IsSound : Reader → Type 0
 IsSound r = IsReached r.part r.names.items r.cycles.items r.values.items r.next
 
+-- the lines of a trace's dump that a reader still awaits
 abbrev pub Awaits : Reader → Trace → List (List ℕ) → Type 0
 Awaits r t rest = AreLeft r.part r.names.items r.cycles.items r.values.items r.next t.names t.cycles rest
 
+-- what a reader makes of a line
 abbrev pub Takes : Reader → List ℕ → Bool → Reader → Type 0
-Takes old line true new = GoesOn old.part old.names.items old.cycles.items old.values.items old.next line new.part new.names.items new.cycles.items new.values.items new.next
+Takes old line true new =
+    GoesOn old.part old.names.items old.cycles.items old.values.items old.next line
+    new.part new.names.items new.cycles.items new.values.items new.next
 Takes old line false new = StopsAt old.part old.names.items old.cycles.items old.values.items old.next line
 
 -- one wanted line, and the part behind it
@@ -121,6 +155,13 @@ pub record IsClosed (old new : Reader) : Type 0 where
   pub values_are : new.values.items ≡ old.values.items
   pub next_is : new.next ≡ 0
 
+-- the dump of this trace alone ends here, and of none
+abbrev pub EndsAs : Reader → Trace → Type 0
+EndsAs r trace = IsReadable trace × Awaits r trace [] × ((t : Trace) → IsReadable t → Awaits r t [] → t ≡ trace)
+
+abbrev pub EndsNowhere : Reader → Type 0
+EndsNowhere r = (t : Trace) → IsReadable t → Awaits r t [] → ⊥
+
 -- the one trace whose dump ends here, or that there is none
 abbrev pub Finishes : Reader → Option Trace → Type 0
-Finishes r result = MatchOption result ((t : Trace) → IsReadable t → Awaits r t [] → ⊥) (λ trace. IsReadable trace × Awaits r trace [] × ((t : Trace) → IsReadable t → Awaits r t [] → t ≡ trace))
+Finishes r result = MatchOption result (EndsNowhere r) (EndsAs r)

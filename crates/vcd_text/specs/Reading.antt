@@ -1,9 +1,10 @@
 -- Which traces can be read back from their dumps, and where a text first departs from all of these dumps. Rule of this
 -- project.
-use Rattle.std.specs.Prelude.{ℕ, ◌+◌, ◌-◌, ◌^◌, ◌<◌, ◌≤◌, ◌≡◌, min, Bool, true, false, not, ◌&&◌, ◌==◌, nat_lt, List, [], ◌∷◌, ◌++◌, length, take, slice_get, Option, Some, MatchOption}
+use Rattle.std.specs.Prelude.{ℕ, ◌+◌, ◌-◌, ◌^◌, ◌<◌, ◌≤◌, ◌≡◌, min, Bool, true, not, ◌&&◌, ◌==◌, nat_lt, decimal, List, ◌++◌, length, take, slice_get, Option, Some, MatchOption}
 use Rattle.std.specs.List.{AllByRecursion, list_all}
 use Rattle.fv_base.specs.declared.trace.Trace.{Trace}
 use Rattle.fv_base.specs.declared.trace.TraceName.{TraceName}
+use Rattle.fv_lines.specs.Cuts.{whole_lines}
 use Rattle.vcd_text.specs.declared.fault.VcdFault.{VcdFault}
 use Rattle.vcd_text.specs.declared.fault.VcdFault.TheVariants.{Line, Memory}
 use Rattle.vcd_text.specs.Digits.{code, binary}
@@ -20,19 +21,6 @@ IsPlain n = list_all is_plain n.text ≡ true
 pub record IsReadable (t : Trace) : Type 0 where
   pub trace : IsTrace t
   pub plain : AllByRecursion IsPlain t.names
-
--- the byte before the first of the lines; without an LF behind it, it is in no line
-abbrev pub joined : ℕ → List (List ℕ) → List (List ℕ)
-joined b [] = []
-joined b (l ∷ ls) = (b ∷ l) ∷ ls
-
--- the lines of a text, each without its LF; what stands behind the last LF is no line
-abbrev pub whole_lines : List ℕ → List (List ℕ)
-whole_lines [] = []
-whole_lines (b ∷ bs) = elim (b == 10) [
-  | true ↦ [] ∷ whole_lines bs
-  | false ↦ joined b (whole_lines bs)
-]
 
 -- the dump of some trace that can be read begins with these lines
 pub record IsFront (lines : List (List ℕ)) : Type 0 where
@@ -65,14 +53,7 @@ abbrev pub IsFaultOf : List ℕ → VcdFault → Type 0
 IsFaultOf bytes (Line line) = IsNoDump bytes × IsFirstFault bytes line
 IsFaultOf bytes Memory = Unit {0}
 
--- a byte that isn't among these
-abbrev pub HasNo : ℕ → List ℕ → Type 0
-HasNo mark bytes = list_all (λ b. not (b == mark)) bytes ≡ true
-
--- what stands before the first such byte, and behind it
-abbrev pub IsCut : ℕ → List ℕ → List ℕ → List ℕ → Type 0
-IsCut mark bytes front rest = (bytes ≡ front ++ mark ∷ rest) × HasNo mark front
-
+-- the name has this index
 abbrev pub IsAt : List TraceName → ℕ → TraceName → Type 0
 IsAt names index name = slice_get names index ≡ Some name
 
@@ -83,13 +64,59 @@ pub record IsValue (wide : Bool) (digits characters : List ℕ) (index value : �
   pub code_is : characters ≡ code index
   pub fits : value < 2 ^ name.width
 
--- what a search for a value finds: in these parts, and in this line
-abbrev pub FindsParts : List TraceName → Bool → List ℕ → List ℕ → Option (ℕ × ℕ) → Type 0
-FindsParts names wide digits characters result = MatchOption result ((index value : ℕ) (name : TraceName) → IsAt names index name → IsValue wide digits characters index value name → ⊥) (λ x. (name : TraceName) × IsAt names x.0 name × IsValue wide digits characters x.0 x.1 name)
+-- the digits of a width from 1 to 128, and of none
+abbrev pub IsWidth : List ℕ → ℕ → Type 0
+IsWidth digits width = (1 ≤ width) × (width ≤ 128) × (digits ≡ decimal width)
 
+abbrev pub IsNoWidth : List ℕ → Type 0
+IsNoWidth digits = (width : ℕ) → 1 ≤ width → width ≤ 128 → digits ≡ decimal width → ⊥
+
+-- the form and the digits of a value of this name, and of none
+abbrev pub IsValueFor : Bool → List ℕ → TraceName → ℕ → Type 0
+IsValueFor wide digits name value =
+    (wide ≡ not (name.width == 1)) × (digits ≡ binary value) × (value < 2 ^ name.width)
+
+abbrev pub IsNoValueFor : Bool → List ℕ → TraceName → Type 0
+IsNoValueFor wide digits name =
+    (value : ℕ) → wide ≡ not (name.width == 1) → digits ≡ binary value → value < 2 ^ name.width → ⊥
+
+-- the parts of a line are those of this value of the name with this index, and of none
+abbrev pub IsIn : List TraceName → Bool → List ℕ → List ℕ → ℕ × ℕ → Type 0
+IsIn names wide digits characters found =
+    (name : TraceName) × IsAt names found.0 name × IsValue wide digits characters found.0 found.1 name
+
+abbrev pub IsNoneIn : List TraceName → Bool → List ℕ → List ℕ → Type 0
+IsNoneIn names wide digits characters =
+    (index value : ℕ) (name : TraceName) → IsAt names index name → IsValue wide digits characters index value name → ⊥
+
+-- what a search for a value finds in these parts
+abbrev pub FindsParts : List TraceName → Bool → List ℕ → List ℕ → Option (ℕ × ℕ) → Type 0
+FindsParts names wide digits characters result =
+    MatchOption result (IsNoneIn names wide digits characters) (IsIn names wide digits characters)
+
+-- the line of this value of the name with this index, and of none
+abbrev pub IsValueLine : List TraceName → List ℕ → ℕ × ℕ → Type 0
+IsValueLine names line found =
+    (name : TraceName) × IsAt names found.0 name × (found.1 < 2 ^ name.width) × (line ≡ value_line found.0 name found.1)
+
+abbrev pub IsNoValueLine : List TraceName → List ℕ → Type 0
+IsNoValueLine names line =
+    (index value : ℕ) (name : TraceName) → IsAt names index name → value < 2 ^ name.width
+    → line ≡ value_line index name value → ⊥
+
+-- what a search for a value finds in this line
 abbrev pub FindsValue : List TraceName → List ℕ → Option (ℕ × ℕ) → Type 0
-FindsValue names line result = MatchOption result ((index value : ℕ) (name : TraceName) → IsAt names index name → value < 2 ^ name.width → line ≡ value_line index name value → ⊥) (λ x. (name : TraceName) × IsAt names x.0 name × (x.1 < 2 ^ name.width) × (line ≡ value_line x.0 name x.1))
+FindsValue names line result = MatchOption result (IsNoValueLine names line) (IsValueLine names line)
+
+-- the line declares a name of this width and text, and none
+abbrev pub IsNameLine : ℕ → List ℕ → ℕ × List ℕ → Type 0
+IsNameLine index line found =
+    (1 ≤ found.0) × (found.0 ≤ 128) × (list_all is_plain found.1 ≡ true)
+    × (line ≡ name_line index (record { text = found.1; width = found.0 }))
+
+abbrev pub IsNoNameLine : ℕ → List ℕ → Type 0
+IsNoNameLine index line = (name : TraceName) → IsWide name → IsPlain name → line ≡ name_line index name → ⊥
 
 -- what a search for a name finds in this line
 abbrev pub FindsName : ℕ → List ℕ → Option (ℕ × List ℕ) → Type 0
-FindsName index line result = MatchOption result ((name : TraceName) → IsWide name → IsPlain name → line ≡ name_line index name → ⊥) (λ x. (1 ≤ x.0) × (x.0 ≤ 128) × (list_all is_plain x.1 ≡ true) × (line ≡ name_line index (record { text = x.1; width = x.0 })))
+FindsName index line result = MatchOption result (IsNoNameLine index line) (IsNameLine index line)

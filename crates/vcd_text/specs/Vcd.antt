@@ -1,6 +1,6 @@
 -- The value-change dump of a trace (IEEE 1364-2005, 18.2), line by line. The order of its parts, the one scope, and the
 -- last line are rules of this project.
-use Rattle.std.specs.Prelude.{ℕ, ◌+◌, ◌^◌, ◌<◌, ◌≤◌, true, false, ◌==◌, List, [], ◌∷◌, ◌++◌, length, flat_map, codes, decimal}
+use Rattle.std.specs.Prelude.{ℕ, ◌+◌, ◌^◌, ◌<◌, ◌≤◌, if◌then◌else◌, ◌==◌, List, [], ◌∷◌, ◌++◌, length, flat_map, codes, decimal}
 use Rattle.std.specs.List.{AllByRecursion}
 use Rattle.fv_base.specs.declared.trace.Trace.{Trace}
 use Rattle.fv_base.specs.declared.trace.TraceName.{TraceName}
@@ -33,7 +33,8 @@ text_of lines = flat_map with_end lines
 
 -- the line that says a name's width and code
 abbrev pub name_line : ℕ → TraceName → List ℕ
-name_line index n = codes "$var wire " ++ decimal n.width ++ 32 ∷ [] ++ code index ++ 32 ∷ [] ++ n.text ++ codes " $end"
+name_line index n =
+    codes "$var wire " ++ decimal n.width ++ 32 ∷ [] ++ code index ++ 32 ∷ [] ++ n.text ++ codes " $end"
 
 -- a line for each name, the first of which has this index
 abbrev pub name_lines : ℕ → List TraceName → List (List ℕ)
@@ -42,10 +43,7 @@ name_lines index (n ∷ ns) = name_line index n ∷ name_lines (index + 1) ns
 
 -- a value: one digit for a width of 1, else `b`, the binary digits and a blank
 abbrev pub value_of : ℕ → ℕ → List ℕ
-value_of width v = elim (width == 1) [
-  | true ↦ binary v
-  | false ↦ codes "b" ++ binary v ++ 32 ∷ []
-]
+value_of width v = if width == 1 then binary v else codes "b" ++ binary v ++ 32 ∷ []
 
 -- the value of a name, with the name's code behind it
 abbrev pub value_line : ℕ → TraceName → ℕ → List ℕ
@@ -59,10 +57,7 @@ value_lines index (n ∷ ns) (v ∷ vs) = value_line index n v ∷ value_lines (
 
 -- the value of a name, where it isn't the one before
 abbrev pub change_line : ℕ → TraceName → ℕ → ℕ → List (List ℕ)
-change_line index n before v = elim (before == v) [
-  | true ↦ []
-  | false ↦ value_line index n v ∷ []
-]
+change_line index n before v = if before == v then [] else value_line index n v ∷ []
 
 -- the values that changed
 abbrev pub change_lines : ℕ → List TraceName → List ℕ → List ℕ → List (List ℕ)
@@ -71,13 +66,15 @@ change_lines index (n ∷ ns) [] vs = []
 change_lines index (n ∷ ns) (b ∷ bs) [] = []
 change_lines index (n ∷ ns) (b ∷ bs) (v ∷ vs) = change_line index n b v ++ change_lines (index + 1) ns bs vs
 
+-- the line of a time
 abbrev pub time_line : ℕ → List ℕ
 time_line t = codes "#" ++ decimal t
 
 -- the cycles from time t on, with the values before them; the last line is the number of all cycles
 abbrev pub later_lines : List TraceName → ℕ → List ℕ → List (List ℕ) → List (List ℕ)
 later_lines ns t before [] = time_line t ∷ []
-later_lines ns t before (vs ∷ cycles) = time_line t ∷ (change_lines 0 ns before vs ++ later_lines ns (t + 1) vs cycles)
+later_lines ns t before (vs ∷ cycles) =
+    time_line t ∷ (change_lines 0 ns before vs ++ later_lines ns (t + 1) vs cycles)
 
 -- time 0 with all values
 abbrev pub first_lines : List TraceName → List ℕ → List (List ℕ)
@@ -90,8 +87,11 @@ cycle_lines ns (vs ∷ cycles) = first_lines ns vs ++ later_lines ns 1 vs cycles
 
 -- the one scope with all names
 abbrev pub header_lines : List TraceName → List (List ℕ)
-header_lines ns = codes "$timescale 1 ns $end" ∷ codes "$scope module rvfi_wrapper $end" ∷ (name_lines 0 ns ++ codes "$upscope $end" ∷ codes "$enddefinitions $end" ∷ [])
+header_lines ns =
+    codes "$timescale 1 ns $end" ∷ codes "$scope module rvfi_wrapper $end"
+    ∷ (name_lines 0 ns ++ codes "$upscope $end" ∷ codes "$enddefinitions $end" ∷ [])
 
+-- all lines
 abbrev pub vcd_lines : Trace → List (List ℕ)
 vcd_lines t = header_lines t.names ++ cycle_lines t.names t.cycles
 

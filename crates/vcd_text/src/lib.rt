@@ -2,14 +2,12 @@
 #![tactic(auto)]
 
 mod digits;
+mod examples;
 mod fault;
 mod name_line;
 mod read;
 mod reader;
 mod shared;
-#[cfg(test)]
-mod tests;
-mod text_line;
 mod words;
 mod write;
 

@@ -1,12 +1,12 @@
 //! The line that declares a name.
 
-ghost use Rattle.std.specs.Prelude.{◌≡◌, ◌≤◌, ◌↔◌, ℕ, decimal, option_map, IsTrue, MatchOption};
+ghost use Rattle.std.specs.Prelude.{◌≡◌, ◌↔◌, option_map, IsTrue, MatchOption};
 ghost use Rattle.std.specs.List.{list_all};
 ghost use Rattle.vcd_text.specs.Digits.{code};
-ghost use Rattle.vcd_text.specs.Reading.{FindsName, is_plain};
+ghost use Rattle.vcd_text.specs.Reading.{FindsName, IsWidth, IsNoWidth, is_plain};
 
-use crate::text_line::{before, behind, cut_at};
 use crate::words::{index_up_to, number_up_to};
+use fv_lines::{before, behind, cut_at};
 
 /// The width and the text of the name that the line declares, if its code is that of this index.
 pub(crate) fn name_at(line: &[u8], index: usize) -> Option<(u32, &[u8])>
@@ -38,7 +38,7 @@ pub(crate) fn name_at(line: &[u8], index: usize) -> Option<(u32, &[u8])>
 
 /// The width from 1 to 128 that these digits write.
 fn width_of(digits: &[u8]) -> Option<u32>
-    ensures { MatchOption result ((width : ℕ) → 1 ≤ width → width ≤ 128 → digits.now ≡ decimal width → ⊥) (λ width. (1 ≤ width) × (width ≤ 128) × (digits.now ≡ decimal width)) }
+    ensures { MatchOption result (IsNoWidth digits.now) (IsWidth digits.now) }
 {
     let Some(width) = number_up_to(digits, 10, 128) else {
         return None;

@@ -3,8 +3,8 @@ ghost use Rattle.vcd_text.specs.Reading.{IsDumpOf, IsFaultOf};
 
 use crate::fault::VcdFault;
 use crate::reader::Reader;
-use crate::text_line::next_line;
 use fv_base::Trace;
+use fv_lines::cut_at;
 use std::alloc::Global;
 
 /// The trace of a value-change dump as `vcd` writes it, whose names have no blanks and no control bytes. `Line` is the
@@ -16,7 +16,7 @@ pub fn read_vcd(alloc: Global, bytes: &[u8]) -> Result<Trace, VcdFault>
     let mut reader = Reader::new(alloc);
     let mut rest = bytes;
     let mut place: u32 = 1;
-    while let Some((line, behind)) = next_line(rest) {
+    while let Some((line, behind)) = cut_at(rest, b'\n') {
         if !reader.take(line)? {
             return Err(VcdFault::Line(place));
         }

@@ -3,9 +3,9 @@ ghost use Rattle.vcd_text.specs.Reading.{FindsName};
 ghost use Rattle.vcd_text.specs.Vcd.{time_line};
 
 use crate::name_line::name_at;
-use crate::text_line::behind;
 use crate::words::value_at;
 use fv_base::{List, Memory, Text, Trace, TraceName};
+use fv_lines::behind;
 use itoa::Buffer;
 use std::alloc::Global;
 

@@ -2,19 +2,19 @@
 
 ghost use Rattle.std.specs.Prelude.{◌≡◌, ◌+◌, ◌^◌, ◌<◌, ◌≤◌, ℕ, not, ◌==◌, MatchOption};
 ghost use Rattle.std.specs.List.{AllByRecursion};
-ghost use Rattle.vcd_text.specs.Digits.{code, number, binary};
-ghost use Rattle.vcd_text.specs.Reading.{FindsParts, FindsValue};
+ghost use Rattle.vcd_text.specs.Digits.{Writes, WritesNone, Codes, CodesNone};
+ghost use Rattle.vcd_text.specs.Reading.{FindsParts, FindsValue, IsValueFor, IsNoValueFor};
 ghost use Rattle.vcd_text.specs.Vcd.{IsWide};
 
-use crate::text_line::cut_at;
 use fv_base::TraceName;
+use fv_lines::cut_at;
 
 /// The number that these digits write in the base, without leading zeros, if it is at most `most`. Each level of the
 /// recursion divides `most` by the base.
 pub(crate) fn number_up_to(digits: &[u8], base: u128, most: u128) -> Option<u128>
     requires low { 2 ≤ base }
     requires high { base ≤ 10 }
-    ensures { MatchOption result ((n : ℕ) → n ≤ most → digits.now ≡ number base n → ⊥) (λ n. (n ≤ most) × (digits.now ≡ number base n)) }
+    ensures { MatchOption result (WritesNone base most digits.now) (Writes base most digits.now) }
 {
     let Some((digit, higher)) = digits.split_last() else {
         return None;
@@ -54,7 +54,7 @@ fn digit_up_to(character: u8, zero: u8, base: u128, most: u128) -> Option<u128>
 
 /// The index at most `most` that has this code. Each level of the recursion divides `most` by 94.
 pub(crate) fn index_up_to(characters: &[u8], most: u128) -> Option<u128>
-    ensures { MatchOption result ((n : ℕ) → n ≤ most → characters.now ≡ code n → ⊥) (λ n. (n ≤ most) × (characters.now ≡ code n)) }
+    ensures { MatchOption result (CodesNone most characters.now) (Codes most characters.now) }
 {
     let Some((digit, higher)) = characters.split_first() else {
         return None;
@@ -130,7 +130,7 @@ fn value_of(
 
 fn value_for(wide: bool, digits: &[u8], name: &TraceName) -> Option<u128>
     requires { IsWide name.now }
-    ensures { MatchOption result ((value : ℕ) → wide ≡ not (name.now.width == 1) → digits.now ≡ binary value → value < 2 ^ name.now.width → ⊥) (λ value. (wide ≡ not (name.now.width == 1)) × (digits.now ≡ binary value) × (value < 2 ^ name.now.width)) }
+    ensures { MatchOption result (IsNoValueFor wide digits.now name.now) (IsValueFor wide digits.now name.now) }
 {
     if wide == (name.width == 1) {
         return None;

@@ -1,6 +1,6 @@
 use Rattle.std.proofs.Common.{◌≡◌, length}
 use Rattle.std.specs.List.{list_any}
-use Rattle.cnf_text.specs.Words.{words, begins_with}
+use Rattle.fv_lines.specs.Words.{words, begins_with}
 use Rattle.ck_cfg.proofs.script.has_dash.Given as goal
 
 abbrev pub invariant-loop-word : goal.invariant-loop-word

@@ -1,5 +1,5 @@
 use Rattle.std.proofs.Common.{◌≡◌, length}
-use Rattle.cnf_text.specs.Words.{words}
+use Rattle.fv_lines.specs.Words.{words}
 use Rattle.ck_cfg.specs.Scripts.{names_behind}
 use Rattle.ck_cfg.proofs.script.names_behind.Given as goal
 

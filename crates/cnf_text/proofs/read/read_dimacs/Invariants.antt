@@ -1,5 +1,5 @@
 use Rattle.std.proofs.Common.{◌≡◌, length}
-use Rattle.cnf_text.specs.Words.{lines}
+use Rattle.fv_lines.specs.Words.{lines}
 use Rattle.cnf_text.specs.Dimacs.{read_lines, formula_of}
 use Rattle.cnf_text.proofs.read.read_dimacs.Given as goal
 

@@ -1,5 +1,5 @@
 use Rattle.std.proofs.Common.{◌≡◌, [], length}
-use Rattle.cnf_text.specs.Words.{words}
+use Rattle.fv_lines.specs.Words.{words}
 use Rattle.lrat_check.specs.Texts.{up_to_end, nonzero, short}
 use Rattle.lrat_check.proofs.lrat_read.deleted.Given as goal
 

@@ -1,5 +1,5 @@
 use Rattle.std.proofs.Common.{◌≡◌, length}
-use Rattle.cnf_text.specs.Words.{lines}
+use Rattle.fv_lines.specs.Words.{lines}
 use Rattle.lrat_check.specs.Steps.{AreSteps}
 use Rattle.lrat_check.specs.Texts.{with_lines, steps_of}
 use Rattle.lrat_check.proofs.lrat_read.read_lrat.Given as goal

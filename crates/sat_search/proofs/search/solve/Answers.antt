@@ -4,9 +4,10 @@ use Rattle.lrat_check.specs.declared.step.Step.{Step}
 use Rattle.sat_search.specs.Trail.{Entries, lits, AllAssigned, IsOpenVar, settled, values_of}
 use Rattle.sat_search.specs.Analysis.{Derives}
 use Rattle.sat_search.specs.Searching.{Searching}
+use Rattle.sat_search.proofs.Added.{are_steps}
 use Rattle.sat_search.proofs.Models.{length_values, models}
 use Rattle.sat_search.proofs.Rounds.{clause_falls}
-use Rattle.sat_search.proofs.Searches.{begins, learnt_on, valid_now, added_now, derived_now, bound_now, refutes_now, fewer_now}
+use Rattle.sat_search.proofs.Searches.{begins, learnt_on, valid_now, added_now, derived_now, bound_now, refutes_now, fewer_now, refuted_added}
 use Rattle.sat_search.proofs.Solves.{seen_lits, conflict_at, unit_free, unit_on, unit_falls, decision_falls}
 use Rattle.sat_search.proofs.search.solve.Goals as goal
 
@@ -132,6 +133,24 @@ returns-then-left-eq0-clause-added c =
     let s = learnt_on c.args.formula.now.vars c.args.budget c.args.formula.now.clauses c.loop-place.clauses c.loop-place.trail c.loop-place.steps c.loop-place.left
     c.loop-place.invariant.0 c.learn.new.clauses c.learn.new.trail c.learn.new.steps (c.loop-place.left - 1) c.in_ok-learn-in-Conflict.ensures (omega (arith, c.loop-place.invariant.1)) in
     added_now c.args.formula.now.vars c.args.budget c.args.formula.now.clauses c.learn.new.clauses c.learn.new.trail c.learn.new.steps (c.loop-place.left - 1) s
+
+pub returns-then-not-has_decision-clause-steps : goal.returns-then-not-has_decision-clause-steps
+returns-then-not-has_decision-clause-steps c =
+    let v : c.args.formula.now.vars < 2 ^ 63 = omega (arith, c.vars-vars.ensures.value, c.vars-vars.ensures.small) in
+    let P : List (List ℤ) → Type 0 = λ z. Derives z c.to_empty.new.trail c.in_ok-learnt-in-Conflict.learnt.lits.items (reverse c.in_ok-learnt-in-Conflict.learnt.hints.items) in
+    are_steps c.args.formula.now.vars c.add.new.steps v
+    (refuted_added c.args.formula.now.vars c.args.budget c.args.formula.now.clauses c.loop-place.clauses c.loop-place.trail c.loop-place.steps c.loop-place.left
+    c.loop-place.invariant.0 c.to_empty.new.trail c.in_ok-learnt-in-Conflict.learnt.lits.items (reverse c.in_ok-learnt-in-Conflict.learnt.hints.items)
+    (subst P c.as_slice-then-not-has_decision.ensures c.in_ok-learnt-in-Conflict.ensures.derives) c.in_ok-learnt-in-Conflict.ensures.empty
+    c.add.new.steps c.in_ok-add-in-Conflict.ensures.steps)
+
+pub returns-then-left-eq0-clause-steps : goal.returns-then-left-eq0-clause-steps
+returns-then-left-eq0-clause-steps c =
+    let v : c.args.formula.now.vars < 2 ^ 63 = omega (arith, c.vars-vars.ensures.value, c.vars-vars.ensures.small) in
+    let s = learnt_on c.args.formula.now.vars c.args.budget c.args.formula.now.clauses c.loop-place.clauses c.loop-place.trail c.loop-place.steps c.loop-place.left
+    c.loop-place.invariant.0 c.learn.new.clauses c.learn.new.trail c.learn.new.steps (c.loop-place.left - 1) c.in_ok-learn-in-Conflict.ensures (omega (arith, c.loop-place.invariant.1)) in
+    are_steps c.args.formula.now.vars c.learn.new.steps v
+    (added_now c.args.formula.now.vars c.args.budget c.args.formula.now.clauses c.learn.new.clauses c.learn.new.trail c.learn.new.steps (c.loop-place.left - 1) s)
 
 pub loop-place-smaller : goal.loop-place-smaller
 loop-place-smaller c =

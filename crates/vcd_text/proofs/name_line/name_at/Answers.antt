@@ -1,7 +1,8 @@
 use Rattle.std.proofs.Common.{◌++◌, codes, subst, ap, ◌∙◌, ◌≡◌, true, rules}
 use Rattle.std.specs.List.{list_all}
 use Rattle.vcd_text.specs.Digits.{code}
-use Rattle.vcd_text.specs.Reading.{HasNo, is_plain}
+use Rattle.fv_lines.specs.Cuts.{HasNo}
+use Rattle.vcd_text.specs.Reading.{is_plain}
 use Rattle.vcd_text.proofs.Values.{has_mark}
 use Rattle.vcd_text.proofs.Names.{width_cut, code_cut, text_is}
 use Rattle.vcd_text.proofs.name_line.name_at.Goals as goal

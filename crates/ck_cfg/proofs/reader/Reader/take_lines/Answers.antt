@@ -1,6 +1,6 @@
 use Rattle.std.proofs.Common.{ap, ◌∙◌}
 use Rattle.std.proofs.lemmas.Result.{err_from_is_err_and}
-use Rattle.cnf_text.specs.Words.{lines}
+use Rattle.fv_lines.specs.Words.{lines}
 use Rattle.ck_cfg.specs.Line.{counted_from, counted_lines}
 use Rattle.ck_cfg.specs.Reading.{with_lines}
 use Rattle.ck_cfg.proofs.Reading.{line_more, line_refused}

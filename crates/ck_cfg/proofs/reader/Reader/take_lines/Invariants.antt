@@ -1,5 +1,5 @@
 use Rattle.std.proofs.Common.{◌≡◌, length}
-use Rattle.cnf_text.specs.Words.{lines}
+use Rattle.fv_lines.specs.Words.{lines}
 use Rattle.ck_cfg.specs.Line.{counted_from, counted_lines}
 use Rattle.ck_cfg.specs.Reading.{with_lines}
 use Rattle.ck_cfg.proofs.reader.Reader.take_lines.Given as goal

@@ -1,5 +1,5 @@
 use Rattle.std.proofs.Common.{◌≡◌, length}
-use Rattle.cnf_text.specs.Words.{lines}
+use Rattle.fv_lines.specs.Words.{lines}
 use Rattle.cnf_text.specs.Dimacs.{with_lines}
 use Rattle.cnf_text.specs.Bodies.{body_of, IsBody}
 use Rattle.cnf_text.proofs.body.Body.take_lines.Given as goal

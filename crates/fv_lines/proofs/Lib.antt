@@ -1,0 +1,5 @@
+pub mod Digits
+pub mod Glue
+pub mod Naturals
+pub mod Parts
+pub mod Prints

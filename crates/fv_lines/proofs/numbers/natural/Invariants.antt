@@ -1,0 +1,8 @@
+use Rattle.std.proofs.Common.{◌≡◌, ◌≤◌, min, drop}
+use Rattle.std.specs.Prelude.{option_map}
+use Rattle.fv_lines.specs.declared.numbers.TheConstants.{MOST}
+use Rattle.fv_lines.specs.Numbers.{continued}
+use Rattle.fv_lines.proofs.numbers.natural.Given as goal
+
+abbrev pub invariant-loop-digit : goal.invariant-loop-digit
+invariant-loop-digit l = (l.value ≤ MOST) × (option_map (min MOST) (continued l.value (drop l.digit-index l.digits)) ≡ option_map (min MOST) (continued 0 l.digits))
