@@ -1,62 +1,76 @@
 #!/usr/bin/env python3
-"""Asks Icarus Verilog for the values that the table of operations in the tests of `vl_mean` has. Not part of the gate.
+"""Asks Icarus Verilog for the values and sizes that the cases of `meaning_cases` have. Not part of the gate.
 
-Usage: tools/compare-values.py   Prints each row with another value, and how many rows there are. Wants `iverilog`.
+Usage: tools/compare-values.py   Prints each case with another answer, and how many there are. Wants `iverilog`.
+A value with unknown bits, as that of a bit past its range, is passed over: here such a bit is 0.
 """
 import os
 import re
 import subprocess
 import tempfile
 
-TABLE = os.path.join(os.path.dirname(os.path.abspath(__file__)), "..", "crates", "vl_mean", "src", "operation_tests.rt")
-
-BINARY = {
-    "Multiply": "*", "Divide": "/", "Remainder": "%", "Add": "+", "Subtract": "-", "ShiftLeft": "<<", "ShiftRight": ">>",
-    "ArithmeticShiftLeft": "<<<", "ArithmeticShiftRight": ">>>", "Less": "<", "LessEqual": "<=", "Greater": ">",
-    "GreaterEqual": ">=", "Equal": "==", "NotEqual": "!=", "CaseEqual": "===", "CaseNotEqual": "!==", "BitwiseAnd": "&",
-    "BitwiseXor": "^", "BitwiseXnor": "~^", "BitwiseXnorCaretFirst": "^~", "BitwiseOr": "|", "LogicalAnd": "&&", "LogicalOr": "||",
-}
-UNARY = {
-    "Plus": "+", "Minus": "-", "LogicalNot": "!", "BitwiseNot": "~", "ReductionAnd": "&", "ReductionNand": "~&",
-    "ReductionOr": "|", "ReductionNor": "~|", "ReductionXor": "^", "ReductionXnor": "~^",
-}
-NUMBER = r"(unsigned|signed)\((\d+), (\w+)\)"
-ROW = re.compile(r"gives\(&rt, (\w+), " + NUMBER + ", " + NUMBER + r", (\d+)\), (\w+)\)|gives_of\(&rt, (\w+), " + NUMBER + r", (\d+)\), (\w+)\)")
+CASES = os.path.join(os.path.dirname(os.path.abspath(__file__)), "..", "crates", "meaning_cases")
 
 
-def number(sort, width, value):
-    """Returns a constant of Verilog."""
-    return f"{width}'{'s' if sort == 'signed' else ''}d{int(value.replace('_', ''), 0)}"
+def lines(name):
+    """Returns the lines of one of the two files."""
+    with open(os.path.join(CASES, name)) as file:
+        return file.read().splitlines()
 
 
-def rows():
-    """Returns each row's expression, the width of its target and its value."""
-    with open(TABLE) as file:
-        text = re.sub(r" ?([()]) ?", r"\1", re.sub(r"\s+", " ", file.read())).replace(",)", ")")
-    for found in ROW.finditer(text):
-        row = found.groups()
-        if row[0]:
-            yield f"{number(*row[1:4])} {BINARY[row[0]]} {number(*row[4:7])}", int(row[7]), int(row[8].replace("_", ""), 0)
-        else:
-            yield f"{UNARY[row[9]]} {number(*row[10:13])}", int(row[13]), int(row[14].replace("_", ""), 0)
+def groups():
+    """Returns, for each list of names, its items, the numbers that are set and the questions with their answers."""
+    items, numbers, questions = "", [], []
+    for line, answered in zip(lines("stdin"), lines("stdout"), strict=True):
+        word, _, rest = line.partition(" ")
+        answer = answered.rsplit(": ", 1)[-1]
+        if word == "names":
+            yield items, numbers, questions
+            items, numbers, questions = rest, [], []
+        elif word == "set":
+            if questions:
+                yield items, list(numbers), questions
+                questions = []
+            numbers.append(rest.split(" ", 1))
+        elif word == "into" and "`" not in line:
+            width, _, expression = rest.partition(" ")
+            questions.append((expression, int(width), answer))
+        elif word == "constant" and re.fullmatch(r"\d+ (un)?signed \d+", answer):
+            questions.append((rest, int(answer.split()[0]), answer.split()[-1]))
+        elif word == "size" and re.fullmatch(r"\d+ (un)?signed", answer) and "`" not in line:
+            questions.append((f"$bits({rest})", 32, answer.split()[0]))
+    yield items, numbers, questions
+
+
+def text_of(index, items, numbers, questions):
+    """Returns a module that prints the answers."""
+    declared = re.sub(r"\bwire\b", "reg", items)
+    shown = []
+    for place, (expression, width, _) in enumerate(questions):
+        shown.append(f"    begin : b{place} reg [{width - 1}:0] answer; answer = {expression}; $display(\"%0d\", answer); end")
+    set_first = [f"    {name} = {value};" for name, value in numbers]
+    return "\n".join([f"module m{index};", "  " + declared, "  initial begin", f"    #{index + 1};"] + set_first + shown + ["  end", "endmodule", ""])
 
 
 def main():
-    table = list(rows())
-    lines = [f'  wire [{width - 1}:0] r{index} = {expression};' for index, (expression, width, _) in enumerate(table)]
-    shown = [f'    $display("%0d", r{index});' for index in range(len(table))]
+    all_groups = [group for group in groups() if group[2]]
+    text = "".join(text_of(index, *group) for index, group in enumerate(all_groups))
+    text += "module top;\n" + "".join(f"  m{index} i{index}();\n" for index in range(len(all_groups))) + "endmodule\n"
     with tempfile.TemporaryDirectory() as folder:
         source, program = os.path.join(folder, "m.v"), os.path.join(folder, "m")
         with open(source, "w") as file:
-            file.write("\n".join(["module m;"] + lines + ["  initial begin", "    #1;"] + shown + ["  end", "endmodule", ""]))
-        subprocess.run(["iverilog", "-g2005", "-o", program, source], check=True)
+            file.write(text)
+        subprocess.run(["iverilog", "-g2012", "-s", "top", "-o", program, source], check=True)
         said = subprocess.run(["vvp", program], capture_output=True, text=True, check=True).stdout.split()
-    others = 0
-    for (expression, width, value), found in zip(table, said, strict=True):
-        if str(value) != found:
+    questions = [question for group in all_groups for question in group[2]]
+    others, unknown = 0, 0
+    for (expression, width, value), found in zip(questions, said, strict=True):
+        if not found.isdigit():
+            unknown += 1
+        elif value != found:
             others += 1
-            print(f"{expression} into {width} bits: {value} in the table, {found} by Icarus")
-    print(f"{len(table)} rows, {others} with another value")
+            print(f"{expression} into {width} bits: {value} in the cases, {found} by Icarus")
+    print(f"{len(questions)} cases, {others} with another answer, {unknown} with unknown bits")
 
 
 main()

@@ -121,10 +121,6 @@ module _ {A : Type 0} (one : A → Phrase) (Good : A → Type 0) (tail : Rule) (
       ∙ ap (measured (one x) room 0 (onto (with_commas one vs) (close ∷ ts))) (tail_run vs room xs ts (All-tail Good x vs w))
       ∙ behind (one x) (with_commas one vs) room (close ∷ ts) (run (closing room xs) ts) (closed x 0)
 
-  pub between_closed : (vs : List A) (n : ℕ) → open_after (between_commas one vs) n ≡ n
-  between_closed [] n = refl
-  between_closed (x ∷ vs) n = ap (open_after (with_commas one vs)) (closed x n) ∙ commas_closed vs n
-
 -- targets
 mutual
   pub target_closed : (l : Lval) (n : ℕ) → open_after (lval.spell l) n ≡ n

@@ -26,10 +26,6 @@ first_head (t ∷ ts) = refl
 pub spelled_onto : (a : Phrase) (ts rest : List Token) → Spells a ts rest → kinds_of ts ≡ onto a (kinds_of rest)
 spelled_onto a ts rest h = spelled a ts rest h ∙ sym (onto_kinds a (kinds_of rest))
 
-pub next_kinds : (kind : Kind) (ts rest : List Token) → IsNext kind ts rest → kinds_of ts ≡ kind ∷ kinds_of rest
-next_kinds kind [] rest h = absurd h
-next_kinds kind (t ∷ ts) rest h = λ i. h.0 i ∷ kinds_of (h.1 i)
-
 pub first_of : (a : Phrase) (ts rest : List Token) (kind : Kind) (ks : List Kind) → Spells a ts rest → onto a (kinds_of rest) ≡ kind ∷ ks
     → first ts ≡ kind
 first_of a ts rest kind ks h e = first_head ts ∙ ap head (spelled_onto a ts rest h ∙ e)

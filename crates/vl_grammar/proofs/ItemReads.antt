@@ -1,5 +1,5 @@
 -- What well formed items spell is read as items; an `else` is read for the nearest `if`.
-use Rattle.std.proofs.Common.{◌≡◌, ℕ, Bool, true, false, List, [], ◌∷◌, ◌++◌, Option, Some, None, refl, sym, ap, ◌∙◌, subst, arith}
+use Rattle.std.proofs.Common.{◌≡◌, ℕ, zero, suc, Bool, true, false, List, [], ◌∷◌, ◌++◌, Option, Some, None, refl, sym, ap, ◌∙◌, subst, arith}
 use Rattle.std.specs.Prelude.{All}
 use Rattle.std.proofs.lemmas.Slice.Eq.{bytes_eq-Decides}
 use Rattle.fv_base.specs.declared.keyword.Keyword.TheVariants as word
@@ -12,6 +12,7 @@ use Rattle.vl_tree.specs.declared.declaration.NetKind.TheVariants as n
 use Rattle.vl_tree.specs.declared.declaration.ParameterKind.{ParameterKind}
 use Rattle.vl_tree.specs.declared.declaration.ParameterKind.TheVariants as q
 use Rattle.vl_tree.specs.declared.declaration.Shape.{Shape}
+use Rattle.vl_tree.specs.declared.item.RegionMark.TheVariants as mark
 use Rattle.vl_tree.specs.declared.part.Assignment.{Assignment}
 use Rattle.vl_tree.specs.declared.part.Connection.{Connection}
 use Rattle.vl_tree.specs.declared.part.EventKind.{EventKind}
@@ -51,6 +52,7 @@ use Rattle.vl_tree.specs.Item.{
   no_items,
   more_items,
   begin,
+  region,
   single,
 }
 use Rattle.vl_tree.specs.ItemSpelling.{spell, spell_all, spell_block, spell_head, spell_assignment, spell_event_kind, spell_optional, spell_connection, spell_connections, spell_overrides}
@@ -63,7 +65,7 @@ use Rattle.vl_tree.specs.Stmt.{Stmt, Stmts, no_stmts, more_stmts}
 use Rattle.vl_tree.specs.StmtSpelling as stmt_spelling
 use Rattle.vl_tree.specs.StmtSpelling.{spell_label}
 use Rattle.vl_tree.specs.StmtWellFormed as stmt_well
-use Rattle.vl_tree.specs.WellFormed.{IsAssignment, IsConnection, AreOverrides, IsHead, attributes_of, ends_open, block_ends_open, IsWellFormed, AreWellFormed, IsBlock}
+use Rattle.vl_tree.specs.WellFormed.{IsAssignment, IsConnection, AreOverrides, IsHead, attributes_of, mark_of, ends_open, block_ends_open, open_behind, AreBalanced, IsWellFormed, AreWellFormed, IsBlock}
 use Rattle.vl_grammar.specs.Machine.{Row, take, pop, bad, symbols}
 use Rattle.vl_grammar.specs.Grammar as g
 use Rattle.vl_grammar.specs.Grammar.{
@@ -107,6 +109,7 @@ use Rattle.vl_grammar.specs.Grammar.{
   on_generate_otherwise,
 }
 use Rattle.vl_grammar.proofs.Onto.{onto}
+use Rattle.vl_grammar.proofs.Regions.{NoClose, some_none, no_open, no_mark, never, first_opens}
 use Rattle.vl_grammar.proofs.Steps as steps
 use Rattle.vl_grammar.proofs.Steps.{is_pop, apart}
 use Rattle.vl_grammar.proofs.Words.{ending_word}
@@ -265,7 +268,7 @@ behind_attributes (assign attrs p xs) = spell (assign [] p xs)
 behind_attributes (always attrs p event x) = spell (always [] p event x)
 behind_attributes (initial attrs p x) = spell (initial [] p x)
 behind_attributes (instance attrs p x) = spell (instance [] p x)
-behind_attributes (generate attrs p xs) = spell (generate [] p xs)
+behind_attributes (generate attrs p m) = spell (generate [] p m)
 behind_attributes (for_loop attrs p head b) = spell (for_loop [] p head b)
 behind_attributes (if_only attrs p c b) = spell (if_only [] p c b)
 behind_attributes (if_else attrs p c b d) = spell (if_else [] p c b d)
@@ -279,28 +282,29 @@ split (assign attrs p xs) ts = refl
 split (always attrs p event x) ts = refl
 split (initial attrs p x) ts = refl
 split (instance attrs p x) ts = refl
-split (generate attrs p xs) ts = refl
+split (generate attrs p m) ts = refl
 split (for_loop attrs p head b) ts = refl
 split (if_only attrs p c b) ts = refl
 split (if_else attrs p c b d) ts = refl
 
-pub bare_front : (x : Item) (ts : List Kind) → BareFront (onto (behind_attributes x) ts)
-bare_front (declaration attrs p d) ts = bare (k.Keyword (net_word d.net)) _ (net_front d.net)
-bare_front (integer attrs p xs) ts = bare (k.Keyword word.Integer) _ by_integer
-bare_front (genvar attrs p xs) ts = bare (k.Keyword word.Genvar) _ by_genvar
-bare_front (parameter attrs p kind xs) ts = bare (k.Keyword (parameter_word kind)) _ (parameter_front kind)
-bare_front (assign attrs p xs) ts = bare (k.Keyword word.Assign) _ by_assign
-bare_front (always attrs p event x) ts = bare (k.Keyword word.Always) _ by_always
-bare_front (initial attrs p x) ts = bare (k.Keyword word.Initial) _ by_initial
-bare_front (instance attrs p x) ts = bare (k.Name x.definition) _ (by_text x.definition)
-bare_front (generate attrs p xs) ts = bare (k.Keyword word.Generate) _ by_generate
-bare_front (for_loop attrs p head b) ts = bare (k.Keyword word.For) _ by_for
-bare_front (if_only attrs p c b) ts = bare (k.Keyword word.If) _ by_if
-bare_front (if_else attrs p c b d) ts = bare (k.Keyword word.If) _ by_if
+pub bare_front : (x : Item) (ts : List Kind) → NoClose x → BareFront (onto (behind_attributes x) ts)
+bare_front (declaration attrs p d) ts h = bare (k.Keyword (net_word d.net)) _ (net_front d.net)
+bare_front (integer attrs p xs) ts h = bare (k.Keyword word.Integer) _ by_integer
+bare_front (genvar attrs p xs) ts h = bare (k.Keyword word.Genvar) _ by_genvar
+bare_front (parameter attrs p kind xs) ts h = bare (k.Keyword (parameter_word kind)) _ (parameter_front kind)
+bare_front (assign attrs p xs) ts h = bare (k.Keyword word.Assign) _ by_assign
+bare_front (always attrs p event x) ts h = bare (k.Keyword word.Always) _ by_always
+bare_front (initial attrs p x) ts h = bare (k.Keyword word.Initial) _ by_initial
+bare_front (instance attrs p x) ts h = bare (k.Name x.definition) _ (by_text x.definition)
+bare_front (generate attrs p mark.Open) ts h = bare (k.Keyword word.Generate) _ by_generate
+bare_front (generate attrs p mark.Close) ts h = absurd h
+bare_front (for_loop attrs p head b) ts h = bare (k.Keyword word.For) _ by_for
+bare_front (if_only attrs p c b) ts h = bare (k.Keyword word.If) _ by_if
+bare_front (if_else attrs p c b d) ts h = bare (k.Keyword word.If) _ by_if
 
-pub item_front : (x : Item) (ts : List Kind) → ItemFront (onto (spell x) ts)
-item_front x ts =
-    let f = with_attributes (attributes_of x) (onto (behind_attributes x) ts) (bare_front x ts) in
+pub item_front : (x : Item) (ts : List Kind) → NoClose x → ItemFront (onto (spell x) ts)
+item_front x ts h =
+    let f = with_attributes (attributes_of x) (onto (behind_attributes x) ts) (bare_front x ts h) in
     record { attributed = f.attributed; head = f.head; tail = f.tail; same = split x ts ∙ f.same; begins = f.begins }
 
 in_items : (ending : Ending) (b : Bool) (t : Kind) → BeginsItem b t → (xs : List Rule) (ts : List Kind)
@@ -328,10 +332,16 @@ pub no_else : (b : Bool) (t : Kind) → BeginsItem b t → (is_pop (on_otherwise
 no_else _ _ by_wire = (refl, refl)
 no_else b t h = (refl, refl)
 
-item_leaves : (x : Item) (ts : List Kind) → NoElse (onto (spell x) ts)
-item_leaves x ts =
-    let f = item_front x ts in
+front_leaves : (x : Item) (ts : List Kind) → NoClose x → NoElse (onto (spell x) ts)
+front_leaves x ts h =
+    let f = item_front x ts h in
     subst NoElse (sym f.same) (no_else f.attributed f.head f.begins)
+
+item_leaves : (x : Item) (ts : List Kind) → NoElse (onto (spell x) ts)
+item_leaves (generate [] p mark.Close) ts = (refl, refl)
+item_leaves (generate (i ∷ attrs) p mark.Close) ts = (refl, refl)
+item_leaves (generate attrs p mark.Open) ts = front_leaves (generate attrs p mark.Open) ts tt
+item_leaves x ts = front_leaves x ts tt
 
 ending_leaves : (ending : Ending) (ts : List Kind) → NoElse (k.Keyword (ending_word ending) ∷ ts)
 ending_leaves endmodule ts = (refl, refl)
@@ -452,32 +462,32 @@ head_read x xs ts w =
     (k.Symbol s.Equal ∷ onto (expr.spell x.next) (k.Symbol s.CloseParen ∷ ts)) w.1
     ∙ whole_read x.next (sign s.CloseParen ∷ xs) (k.Symbol s.CloseParen ∷ ts) w.4 (refl, refl)
 
-as_items : (xs : List Rule) (x : Items) (ts : List Kind)
+as_items : (xs : List Rule) (x : Items) (ts : List Kind) → AreBalanced x
     → accepts (generate_block_label ∷ xs) (onto (spell_all x) (k.Keyword word.End ∷ ts)) ≡ accepts (g.items end ∷ xs) (onto (spell_all x) (k.Keyword word.End ∷ ts))
-as_items xs no_items ts = refl
-as_items xs (more_items x zs) ts =
-    (let f = item_front x (onto (spell_all zs) (k.Keyword word.End ∷ ts)) in
+as_items xs no_items ts h = refl
+as_items xs (more_items x zs) ts h =
+    (let f = item_front x (onto (spell_all zs) (k.Keyword word.End ∷ ts)) (first_opens x zs h) in
     ap (λ us. accepts (generate_block_label ∷ xs) us) f.same ∙ in_label f.attributed f.head f.begins xs f.tail
     ∙ ap (λ us. accepts (g.items end ∷ xs) us) (sym f.same))
 
-label_read : (label : Option (List ℕ)) (x : Items) (xs : List Rule) (ts : List Kind)
+label_read : (label : Option (List ℕ)) (x : Items) (xs : List Rule) (ts : List Kind) → AreBalanced x
     → accepts (generate_block_label ∷ xs) (onto (spell_label label) (onto (spell_all x) (k.Keyword word.End ∷ ts)))
     ≡ accepts (g.items end ∷ xs) (onto (spell_all x) (k.Keyword word.End ∷ ts))
-label_read None x xs ts = as_items xs x ts
-label_read (Some text) x xs ts = refl
+label_read None x xs ts h = as_items xs x ts h
+label_read (Some text) x xs ts h = refl
 
-in_list : (ending : Ending) (x : Item) (xs : List Rule) (ts : List Kind)
+in_list : (ending : Ending) (x : Item) (xs : List Rule) (ts : List Kind) → NoClose x
     → accepts (g.items ending ∷ xs) (onto (spell x) ts) ≡ accepts (item ∷ g.items ending ∷ xs) (onto (spell x) ts)
-in_list ending x xs ts =
-    (let f = item_front x ts in
+in_list ending x xs ts h =
+    (let f = item_front x ts h in
     ap (λ us. accepts (g.items ending ∷ xs) us) f.same ∙ in_items ending f.attributed f.head f.begins xs f.tail
     ∙ ap (λ us. accepts (item ∷ g.items ending ∷ xs) us) (sym f.same))
 
 -- an item without attributes is a block
-as_block : (x : Item) (xs : List Rule) (ts : List Kind) → attributes_of x ≡ []
+as_block : (x : Item) (xs : List Rule) (ts : List Kind) → NoClose x → attributes_of x ≡ []
     → accepts (generate_block ∷ xs) (onto (spell x) ts) ≡ accepts (item ∷ xs) (onto (spell x) ts)
-as_block x xs ts h =
-    (let f = bare_front x ts in
+as_block x xs ts c h =
+    (let f = bare_front x ts c in
     let same : onto (spell x) ts ≡ f.head ∷ f.tail =
     split x ts ∙ ap (λ vs. onto (spell_attributes vs) (onto (behind_attributes x) ts)) h ∙ f.same in
     ap (λ us. accepts (generate_block ∷ xs) us) same ∙ in_generate_block f.head f.begins xs f.tail
@@ -488,48 +498,87 @@ read_ending endmodule xs ts = refl
 read_ending endgenerate xs ts = refl
 read_ending end xs ts = refl
 
+-- what the list ends with that is read, where so many regions are open in a list with the ending
+abbrev pub current : ℕ → Ending → Ending
+current zero ending = ending
+current (suc n) ending = endgenerate
+
+-- and what is to come behind it
+abbrev around : ℕ → Ending → List Rule → List Rule
+around zero ending xs = xs
+around (suc n) ending xs = g.items (current n ending) ∷ around n ending xs
+
+-- what an item leaves open
+abbrev opened_by : Item → List Rule → List Rule
+opened_by (generate attrs p mark.Open) xs = g.items endgenerate ∷ xs
+opened_by x xs = xs
+
+opened_none : (x : Item) (xs : List Rule) → mark_of x ≡ None → opened_by x xs ≡ xs
+opened_none (generate attrs p m) xs h = some_none m h
+opened_none x xs h = refl
+
 mutual
-  pub item_reads : (x : Item) (xs : List Rule) (ts : List Kind) → IsWellFormed x → (ends_open x ≡ true → NoElse ts)
-      → accepts (item ∷ xs) (onto (spell x) ts) ≡ accepts xs ts
-  item_reads (declaration attrs p d) xs ts w o =
+  item_reads : (x : Item) (xs : List Rule) (ts : List Kind) → NoClose x → IsWellFormed x → (ends_open x ≡ true → NoElse ts)
+      → accepts (item ∷ xs) (onto (spell x) ts) ≡ accepts (opened_by x xs) ts
+  item_reads (declaration attrs p d) xs ts z w o =
       attributes_read item refl attrs xs _ w.0
       ∙ declaration_at d.net xs (onto (spell_shape d.shape) (onto (between_commas spell_declared_name d.names) (k.Symbol s.Semicolon ∷ ts)))
       ∙ names_read d.shape d.names xs ts w.1.0 w.1.1
-  item_reads (integer attrs p es) xs ts w o = attributes_read item refl attrs xs _ w.0 ∙ declared_names_read es xs ts w.1
-  item_reads (genvar attrs p es) xs ts w o = attributes_read item refl attrs xs _ w.0 ∙ genvars_read es xs ts w.1
-  item_reads (parameter attrs p kind es) xs ts w o =
+  item_reads (integer attrs p es) xs ts z w o = attributes_read item refl attrs xs _ w.0 ∙ declared_names_read es xs ts w.1
+  item_reads (genvar attrs p es) xs ts z w o = attributes_read item refl attrs xs _ w.0 ∙ genvars_read es xs ts w.1
+  item_reads (parameter attrs p kind es) xs ts z w o =
       attributes_read item refl attrs xs _ w.0
       ∙ parameter_at kind xs (onto (between_commas spell_parameter es) (k.Symbol s.Semicolon ∷ ts)) ∙ parameters_read es xs ts w.1
-  item_reads (assign attrs p es) xs ts w o = attributes_read item refl attrs xs _ w.0 ∙ assignments_read es xs ts w.1
-  item_reads (always attrs p event x) xs ts w o =
+  item_reads (assign attrs p es) xs ts z w o = attributes_read item refl attrs xs _ w.0 ∙ assignments_read es xs ts w.1
+  item_reads (always attrs p event x) xs ts z w o =
       attributes_read item refl attrs xs _ w.0 ∙ event_read event.kind (stmt ∷ xs) (onto (stmt_spelling.spell x) ts)
       ∙ stmt_reads x xs ts w.2 (λ e. (o e).0)
-  item_reads (initial attrs p x) xs ts w o = attributes_read item refl attrs xs _ w.0 ∙ initial_reads x xs ts w.1 w.2
-  item_reads (instance attrs p x) xs ts w o =
+  item_reads (initial attrs p x) xs ts z w o = attributes_read item refl attrs xs _ w.0 ∙ initial_reads x xs ts w.1 w.2
+  item_reads (instance attrs p x) xs ts z w o =
       attributes_read item refl attrs xs _ w.0 ∙ overrides_read x.overrides x.name x.connections xs ts w.1.1 w.1.3
-  item_reads (generate attrs p x) xs ts w o = attributes_read item refl attrs xs _ w.0 ∙ items_read x endgenerate xs ts w.1
-  item_reads (for_loop attrs p head b) xs ts w o =
+  item_reads (generate attrs p mark.Open) xs ts z w o = attributes_read item refl attrs xs _ w.0
+  item_reads (generate attrs p mark.Close) xs ts z w o = absurd z
+  item_reads (for_loop attrs p head b) xs ts z w o =
       attributes_read item refl attrs xs _ w.0 ∙ head_read head (generate_block ∷ xs) (onto (spell_block b) ts) w.1
       ∙ block_reads b xs ts w.2 o
-  item_reads (if_only attrs p c b) xs ts w o =
+  item_reads (if_only attrs p c b) xs ts z w o =
       attributes_read item refl attrs xs _ w.0
       ∙ parens_read c (generate_block ∷ generate_otherwise ∷ xs) (onto (spell_block b) ts) w.1
       ∙ block_reads b (generate_otherwise ∷ xs) ts w.2 (λ e. o refl) ∙ leaves generate_otherwise xs ts (o refl).1
-  item_reads (if_else attrs p c b d) xs ts w o =
+  item_reads (if_else attrs p c b d) xs ts z w o =
       attributes_read item refl attrs xs _ w.0
       ∙ parens_read c (generate_block ∷ generate_otherwise ∷ xs) (onto (spell_block b) (k.Keyword word.Else ∷ onto (spell_block d) ts)) w.1
       ∙ block_reads b (generate_otherwise ∷ xs) (k.Keyword word.Else ∷ onto (spell_block d) ts) w.3 (λ e. apart (sym w.2 ∙ e))
       ∙ block_reads d xs ts w.4 o
 
-  pub items_read : (x : Items) (ending : Ending) (xs : List Rule) (ts : List Kind) → AreWellFormed x
-      → accepts (g.items ending ∷ xs) (onto (spell_all x) (k.Keyword (ending_word ending) ∷ ts)) ≡ accepts xs ts
-  items_read no_items ending xs ts w = read_ending ending xs ts
-  items_read (more_items x zs) ending xs ts w =
-      in_list ending x xs (onto (spell_all zs) (k.Keyword (ending_word ending) ∷ ts))
-      ∙ item_reads x (g.items ending ∷ xs) (onto (spell_all zs) (k.Keyword (ending_word ending) ∷ ts)) w.0 (λ e. items_leave zs ending ts)
-      ∙ items_read zs ending xs ts w.1
+  -- the items of a list in which so many regions are open
+  items_reads : (x : Items) (n : ℕ) (ending : Ending) (xs : List Rule) (ts : List Kind) → open_behind x (Some n) ≡ Some 0 → AreWellFormed x
+      → accepts (g.items (current n ending) ∷ around n ending xs) (onto (spell_all x) (k.Keyword (ending_word ending) ∷ ts)) ≡ accepts xs ts
+  items_reads no_items zero ending xs ts h w = read_ending ending xs ts
+  items_reads no_items (suc n) ending xs ts h w = no_open n h
+  items_reads (more_items (generate attrs p mark.Open) zs) n ending xs ts h w =
+      in_list (current n ending) (generate attrs p mark.Open) (around n ending xs) (onto (spell_all zs) (k.Keyword (ending_word ending) ∷ ts)) tt
+      ∙ item_reads (generate attrs p mark.Open) (g.items (current n ending) ∷ around n ending xs) (onto (spell_all zs) (k.Keyword (ending_word ending) ∷ ts))
+      tt w.0 (λ e. items_leave zs ending ts)
+      ∙ items_reads zs (suc n) ending xs ts h w.1
+  items_reads (more_items (generate attrs p mark.Close) zs) zero ending xs ts h w = never zs 0 h
+  items_reads (more_items (generate attrs p mark.Close) zs) (suc n) ending xs ts h w =
+      (λ i. accepts (g.items endgenerate ∷ around (suc n) ending xs)
+      (onto (spell (generate (w.0.1 i) p mark.Close)) (onto (spell_all zs) (k.Keyword (ending_word ending) ∷ ts))))
+      ∙ items_reads zs n ending xs ts h w.1
+  items_reads (more_items x zs) n ending xs ts h w =
+      in_list (current n ending) x (around n ending xs) (onto (spell_all zs) (k.Keyword (ending_word ending) ∷ ts)) tt
+      ∙ item_reads x (g.items (current n ending) ∷ around n ending xs) (onto (spell_all zs) (k.Keyword (ending_word ending) ∷ ts)) tt w.0
+      (λ e. items_leave zs ending ts)
+      ∙ items_reads zs n ending xs ts h w.1
 
   block_reads : (b : Block) (xs : List Rule) (ts : List Kind) → IsBlock b → (block_ends_open b ≡ true → NoElse ts)
       → accepts (generate_block ∷ xs) (onto (spell_block b) ts) ≡ accepts xs ts
-  block_reads (begin p label x) xs ts w o = label_read label x xs ts ∙ items_read x end xs ts w.1
-  block_reads (single x) xs ts w o = as_block x xs ts w.0 ∙ item_reads x xs ts w.1 o
+  block_reads (begin p label x) xs ts w o = label_read label x xs ts w.1 ∙ items_reads x 0 end xs ts w.1 w.2
+  block_reads (region p x) xs ts w o = items_reads x 0 endgenerate xs ts w.0 w.1
+  block_reads (single x) xs ts w o = as_block x xs ts (no_mark x w.1) w.0 ∙ item_reads x xs ts (no_mark x w.1) w.2 o
+      ∙ ap (λ ys. accepts ys ts) (opened_none x xs w.1)
+
+pub items_read : (x : Items) (ending : Ending) (xs : List Rule) (ts : List Kind) → AreBalanced x → AreWellFormed x
+    → accepts (g.items ending ∷ xs) (onto (spell_all x) (k.Keyword (ending_word ending) ∷ ts)) ≡ accepts xs ts
+items_read x ending xs ts h w = items_reads x 0 ending xs ts h w

@@ -11,8 +11,10 @@ use Rattle.vl_tree.specs.declared.declaration.NetKind.{NetKind}
 use Rattle.vl_tree.specs.declared.declaration.NetKind.TheVariants as n
 use Rattle.vl_tree.specs.declared.declaration.ParameterKind.{ParameterKind}
 use Rattle.vl_tree.specs.declared.declaration.ParameterKind.TheVariants as q
-use Rattle.vl_tree.specs.DeclarationSpelling.{spell_instance, spell_shape, spell_parameter, net_word, parameter_word}
-use Rattle.vl_tree.specs.DeclarationWellFormed.{IsInstance, IsParameter}
+use Rattle.vl_tree.specs.declared.item.RegionMark.TheVariants as mark
+use Rattle.vl_tree.specs.Attributes.{Attributes}
+use Rattle.vl_tree.specs.DeclarationSpelling.{spell_attributes, spell_instance, spell_shape, spell_parameter, net_word, parameter_word}
+use Rattle.vl_tree.specs.DeclarationWellFormed.{AreAttributes, IsInstance, IsParameter}
 use Rattle.vl_tree.specs.Expr.{Expr}
 use Rattle.vl_tree.specs.ExprSpelling as expr
 use Rattle.vl_tree.specs.ExprWellFormed as expr_well
@@ -35,13 +37,14 @@ use Rattle.vl_tree.specs.Item.{
   no_items,
   more_items,
   begin,
+  region,
   single,
 }
 use Rattle.vl_tree.specs.ItemSpelling.{spell, spell_all, spell_block, spell_head, spell_event_kind}
 use Rattle.vl_tree.specs.StmtSpelling as stmt_spelling
 use Rattle.vl_tree.specs.StmtSpelling.{spell_label}
 use Rattle.vl_tree.specs.StmtWellFormed.{IsOptionalName}
-use Rattle.vl_tree.specs.WellFormed.{attributes_of, ends_open, block_ends_open, IsWellFormed, AreWellFormed, IsBlock}
+use Rattle.vl_tree.specs.WellFormed.{attributes_of, mark_of, ends_open, block_ends_open, AreBalanced, IsWellFormed, AreWellFormed, IsBlock}
 use Rattle.vl_grammar.specs.Grammar as g
 use Rattle.vl_grammar.specs.Grammar.{
   Rule,
@@ -64,6 +67,7 @@ use Rattle.vl_grammar.specs.Grammar.{
 }
 use Rattle.vl_grammar.proofs.Named.{Named, Derives, plain}
 use Rattle.vl_grammar.proofs.Onto.{onto}
+use Rattle.vl_grammar.proofs.Regions.{some_none, joined, joined_spelled, joined_formed, region_behind, unmarked_behind}
 use Rattle.vl_grammar.proofs.Steps.{apart}
 use Rattle.vl_grammar.proofs.Words.{ending_word}
 use Rattle.vl_grammar.proofs.ExprReads.{Leaves}
@@ -80,19 +84,38 @@ pub record FoundBare (ts ks : List Kind) : Type 0 where
   pub tree : Item
   pub same : ts ≡ onto (spell tree) ks
   pub bare : attributes_of tree ≡ []
+  pub unmarked : mark_of tree ≡ None
   pub formed : IsWellFormed tree
   pub closed : ends_open tree ≡ true → NoElse ks
 
 pub record FoundItem (ts ks : List Kind) : Type 0 where
   pub tree : Item
   pub same : ts ≡ onto (spell tree) ks
+  pub unmarked : mark_of tree ≡ None
   pub formed : IsWellFormed tree
   pub closed : ends_open tree ≡ true → NoElse ks
 
 pub record FoundItems (ending : Ending) (ts ks : List Kind) : Type 0 where
   pub trees : Items
   pub same : ts ≡ onto (spell_all trees) (k.Keyword (ending_word ending) ∷ ks)
+  pub balanced : AreBalanced trees
   pub formed : AreWellFormed trees
+
+-- a region behind attributes
+record FoundRegion (attrs : Attributes) (ts ks : List Kind) : Type 0 where
+  trees : Items
+  same : ts ≡ onto (spell_attributes attrs) (k.Keyword word.Generate ∷ onto (spell_all trees) (k.Keyword word.Endgenerate ∷ ks))
+  balanced : AreBalanced trees
+  formed : AreWellFormed trees
+
+-- what the grammar has as one item, without attributes
+data FoundOne (ts ks : List Kind) : Type 0 where
+  an_item : FoundBare ts ks → FoundOne ts ks
+  a_region : FoundRegion [] ts ks → FoundOne ts ks
+
+data FoundNext (ts ks : List Kind) : Type 0 where
+  an_item : FoundItem ts ks → FoundNext ts ks
+  a_region : (attrs : Attributes) → AreAttributes attrs → FoundRegion attrs ts ks → FoundNext ts ks
 
 record FoundBlock (ts ks : List Kind) : Type 0 where
   tree : Block
@@ -105,6 +128,7 @@ record FoundNamed (ts ks : List Kind) : Type 0 where
   trees : Items
   same : ts ≡ onto (spell_label name) (onto (spell_all trees) (k.Keyword word.End ∷ ks))
   named : IsOptionalName name
+  balanced : AreBalanced trees
   formed : AreWellFormed trees
 
 data Otherwise (ts ks : List Kind) : Type 0 where
@@ -113,7 +137,7 @@ data Otherwise (ts ks : List Kind) : Type 0 where
       → Otherwise ts ks
 
 abbrev ItemAt : ℕ → Type 0
-ItemAt d = (ts rest : List Named) → Derives d item ts rest → FoundItem (plain ts) (plain rest)
+ItemAt d = (ts rest : List Named) → Derives d item ts rest → FoundNext (plain ts) (plain rest)
 
 abbrev ItemsAt : ℕ → Type 0
 ItemsAt d = (ending : Ending) (ts rest : List Named) → Derives d (items ending) ts rest → FoundItems ending (plain ts) (plain rest)
@@ -137,7 +161,7 @@ with_instance i (assign attrs p xs) = assign (i ∷ attrs) p xs
 with_instance i (always attrs p e x) = always (i ∷ attrs) p e x
 with_instance i (initial attrs p x) = initial (i ∷ attrs) p x
 with_instance i (instance attrs p x) = instance (i ∷ attrs) p x
-with_instance i (generate attrs p xs) = generate (i ∷ attrs) p xs
+with_instance i (generate attrs p m) = generate (i ∷ attrs) p m
 with_instance i (for_loop attrs p head b) = for_loop (i ∷ attrs) p head b
 with_instance i (if_only attrs p x b) = if_only (i ∷ attrs) p x b
 with_instance i (if_else attrs p x b d) = if_else (i ∷ attrs) p x b d
@@ -151,24 +175,24 @@ instance_spelled i (assign attrs p xs) ks = refl
 instance_spelled i (always attrs p e x) ks = refl
 instance_spelled i (initial attrs p x) ks = refl
 instance_spelled i (instance attrs p x) ks = refl
-instance_spelled i (generate attrs p xs) ks = refl
+instance_spelled i (generate attrs p m) ks = refl
 instance_spelled i (for_loop attrs p head b) ks = refl
 instance_spelled i (if_only attrs p x b) ks = refl
 instance_spelled i (if_else attrs p x b d) ks = refl
 
-instance_formed : (i : AttributeInstance) (x : Item) → IsInstance i → IsWellFormed x → IsWellFormed (with_instance i x)
-instance_formed i (declaration attrs p d) h w = (All-cons IsInstance i attrs h w.0, w.1)
-instance_formed i (integer attrs p xs) h w = (All-cons IsInstance i attrs h w.0, w.1)
-instance_formed i (genvar attrs p xs) h w = (All-cons IsInstance i attrs h w.0, w.1)
-instance_formed i (parameter attrs p kind xs) h w = (All-cons IsInstance i attrs h w.0, w.1)
-instance_formed i (assign attrs p xs) h w = (All-cons IsInstance i attrs h w.0, w.1)
-instance_formed i (always attrs p e x) h w = (All-cons IsInstance i attrs h w.0, w.1, w.2)
-instance_formed i (initial attrs p x) h w = (All-cons IsInstance i attrs h w.0, w.1, w.2)
-instance_formed i (instance attrs p x) h w = (All-cons IsInstance i attrs h w.0, w.1)
-instance_formed i (generate attrs p xs) h w = (All-cons IsInstance i attrs h w.0, w.1)
-instance_formed i (for_loop attrs p head b) h w = (All-cons IsInstance i attrs h w.0, w.1, w.2)
-instance_formed i (if_only attrs p x b) h w = (All-cons IsInstance i attrs h w.0, w.1, w.2)
-instance_formed i (if_else attrs p x b d) h w = (All-cons IsInstance i attrs h w.0, w.1, w.2, w.3, w.4)
+instance_formed : (i : AttributeInstance) (x : Item) → mark_of x ≡ None → IsInstance i → IsWellFormed x → IsWellFormed (with_instance i x)
+instance_formed i (declaration attrs p d) n h w = (All-cons IsInstance i attrs h w.0, w.1)
+instance_formed i (integer attrs p xs) n h w = (All-cons IsInstance i attrs h w.0, w.1)
+instance_formed i (genvar attrs p xs) n h w = (All-cons IsInstance i attrs h w.0, w.1)
+instance_formed i (parameter attrs p kind xs) n h w = (All-cons IsInstance i attrs h w.0, w.1)
+instance_formed i (assign attrs p xs) n h w = (All-cons IsInstance i attrs h w.0, w.1)
+instance_formed i (always attrs p e x) n h w = (All-cons IsInstance i attrs h w.0, w.1, w.2)
+instance_formed i (initial attrs p x) n h w = (All-cons IsInstance i attrs h w.0, w.1, w.2)
+instance_formed i (instance attrs p x) n h w = (All-cons IsInstance i attrs h w.0, w.1)
+instance_formed i (generate attrs p m) n h w = some_none m n
+instance_formed i (for_loop attrs p head b) n h w = (All-cons IsInstance i attrs h w.0, w.1, w.2)
+instance_formed i (if_only attrs p x b) n h w = (All-cons IsInstance i attrs h w.0, w.1, w.2)
+instance_formed i (if_else attrs p x b d) n h w = (All-cons IsInstance i attrs h w.0, w.1, w.2, w.3, w.4)
 
 instance_open : (i : AttributeInstance) (x : Item) → ends_open (with_instance i x) ≡ ends_open x
 instance_open i (declaration attrs p d) = refl
@@ -179,10 +203,14 @@ instance_open i (assign attrs p xs) = refl
 instance_open i (always attrs p e x) = refl
 instance_open i (initial attrs p x) = refl
 instance_open i (instance attrs p x) = refl
-instance_open i (generate attrs p xs) = refl
+instance_open i (generate attrs p m) = refl
 instance_open i (for_loop attrs p head b) = refl
 instance_open i (if_only attrs p x b) = refl
 instance_open i (if_else attrs p x b d) = refl
+
+instance_mark : (i : AttributeInstance) (x : Item) → mark_of (with_instance i x) ≡ mark_of x
+instance_mark i (generate attrs p m) = refl
+instance_mark i x = refl
 
 -- both rules for `else` are left out at the same tokens
 both_leave : (ks : List Kind) → Leaves otherwise ks → NoElse ks
@@ -200,6 +228,7 @@ declared_by d kind ts rest (m, h, others) =
       tree = declaration [] nowhere (record { net = kind; shape = x.tree; names = xs.trees });
       same = ap (λ u. k.Keyword (net_word kind) ∷ u) (x.same ∙ ap (onto (spell_shape x.tree)) xs.same);
       bare = refl;
+      unmarked = refl;
       formed = (no_attributes, (x.formed, xs.formed));
       closed = λ r. apart r;
     }
@@ -211,6 +240,7 @@ parameter_by d kind ts rest xs = record {
   tree = parameter [] nowhere kind xs.trees;
   same = ap (λ u. k.Keyword (parameter_word kind) ∷ u) xs.same;
   bare = refl;
+  unmarked = refl;
   formed = (no_attributes, xs.formed);
   closed = λ r. apart r;
 }
@@ -223,6 +253,7 @@ if_by ts m m2 ks x b e w f v o (no_else i n) = record {
   tree = if_only [] nowhere x b;
   same = ap (λ u. k.Keyword word.If ∷ u) (e ∙ ap (λ u. k.Symbol s.OpenParen ∷ onto (expr.spell x) (k.Symbol s.CloseParen ∷ u)) (f ∙ ap (onto (spell_block b)) i));
   bare = refl;
+  unmarked = refl;
   formed = (no_attributes, w, v);
   closed = λ r. n;
 }
@@ -230,130 +261,165 @@ if_by ts m m2 ks x b e w f v o (an_else z i u n) = record {
   tree = if_else [] nowhere x b z;
   same = ap (λ u. k.Keyword word.If ∷ u) (e ∙ ap (λ u. k.Symbol s.OpenParen ∷ onto (expr.spell x) (k.Symbol s.CloseParen ∷ u)) (f ∙ ap (onto (spell_block b)) i));
   bare = refl;
+  unmarked = refl;
   formed = (no_attributes, w, not_open (block_ends_open b) (λ r. subst (λ us. Leaves otherwise us) i (o r).0), v, u);
   closed = n;
 }
 
 word_by : (d : ℕ) → ItemsAt d → BlockAt d → OtherwiseAt d → (y : Keyword) (t : Named) (ts rest : List Named) → Moved d t ts rest (on_item_word y)
-    → FoundBare (k.Keyword y ∷ plain ts) (plain rest)
-word_by d all blocks others word.Wire t ts rest h = declared_by d n.Wire ts rest h
-word_by d all blocks others word.Reg t ts rest h = declared_by d n.Reg ts rest h
+    → FoundOne (k.Keyword y ∷ plain ts) (plain rest)
+word_by d all blocks others word.Wire t ts rest h = an_item (declared_by d n.Wire ts rest h)
+word_by d all blocks others word.Reg t ts rest h = an_item (declared_by d n.Reg ts rest h)
 word_by d all blocks others word.Integer t ts rest h =
     let xs = declared_names_tree d ts rest h in
-    record {
+    an_item (record {
       tree = integer [] nowhere xs.trees;
       same = ap (λ u. k.Keyword word.Integer ∷ u) xs.same;
       bare = refl;
+      unmarked = refl;
       formed = (no_attributes, xs.formed);
       closed = λ r. apart r;
-    }
+    })
 word_by d all blocks others word.Genvar t ts rest h =
     let xs = names_tree d ts rest h in
-    record {
+    an_item (record {
       tree = genvar [] nowhere xs.trees;
       same = ap (λ u. k.Keyword word.Genvar ∷ u) xs.same;
       bare = refl;
+      unmarked = refl;
       formed = (no_attributes, xs.formed);
       closed = λ r. apart r;
-    }
-word_by d all blocks others word.Parameter t ts rest h = parameter_by d q.Parameter ts rest (parameters_tree d ts rest h)
-word_by d all blocks others word.Localparam t ts rest h = parameter_by d q.Localparam ts rest (parameters_tree d ts rest h)
+    })
+word_by d all blocks others word.Parameter t ts rest h = an_item (parameter_by d q.Parameter ts rest (parameters_tree d ts rest h))
+word_by d all blocks others word.Localparam t ts rest h = an_item (parameter_by d q.Localparam ts rest (parameters_tree d ts rest h))
 word_by d all blocks others word.Assign t ts rest h =
     let xs = assignments_tree d ts rest h in
-    record {
+    an_item (record {
       tree = assign [] nowhere xs.trees;
       same = ap (λ u. k.Keyword word.Assign ∷ u) xs.same;
       bare = refl;
+      unmarked = refl;
       formed = (no_attributes, xs.formed);
       closed = λ r. apart r;
-    }
+    })
 word_by d all blocks others word.Always t ts rest (m, h, (m2, i, (m3, j, l))) =
     let e = event_tree d m m2 i in
     let x = stmt_tree d m2 m3 j in
-    record {
+    an_item (record {
       tree = always [] nowhere (record { pos = nowhere; kind = e.kind }) x.tree;
       same = ap (λ u. k.Keyword word.Always ∷ u) (sign_tree d s.At ts m h ∙ ap (λ u. k.Symbol s.At ∷ u)
           (e.same ∙ ap (onto (spell_event_kind e.kind)) (x.same ∙ ap (λ r. onto (stmt_spelling.spell x.tree) (plain r)) l)));
       bare = refl;
+      unmarked = refl;
       formed = (no_attributes, e.formed, x.formed);
       closed = λ r. subst (λ us. NoElse (plain us)) l (both_leave (plain m3) (x.closed r));
-    }
+    })
 word_by d all blocks others word.Initial t ts rest (m, h, j) =
     let x = initial_tree d ts m h in
-    record {
+    an_item (record {
       tree = initial [] nowhere x.tree;
       same = ap (λ u. k.Keyword word.Initial ∷ u) (x.same ∙ ap (λ r. onto (stmt_spelling.spell x.tree) (plain r)) j);
       bare = refl;
+      unmarked = refl;
       formed = (no_attributes, x.initial, x.formed);
       closed = λ r. apart r;
-    }
+    })
 word_by d all blocks others word.Generate t ts rest (m, h, j) =
     let xs = all endgenerate ts m h in
-    record {
-      tree = generate [] nowhere xs.trees;
+    a_region (record {
+      trees = xs.trees;
       same = ap (λ u. k.Keyword word.Generate ∷ u) (xs.same ∙ ap (λ r. onto (spell_all xs.trees) (k.Keyword word.Endgenerate ∷ plain r)) j);
-      bare = refl;
-      formed = (no_attributes, xs.formed);
-      closed = λ r. apart r;
-    }
+      balanced = xs.balanced;
+      formed = xs.formed;
+    })
 word_by d all blocks others word.For t ts rest (m, h, (m2, i, j)) =
     let x = head_tree d ts m h in
     let b = blocks m m2 i in
-    record {
+    an_item (record {
       tree = for_loop [] nowhere x.tree b.tree;
       same = ap (λ u. k.Keyword word.For ∷ u) (x.same ∙ ap (onto (spell_head x.tree)) (b.same ∙ ap (λ r. onto (spell_block b.tree) (plain r)) j));
       bare = refl;
+      unmarked = refl;
       formed = (no_attributes, x.formed, b.formed);
       closed = λ r. subst (λ us. NoElse (plain us)) j (b.closed r);
-    }
+    })
 word_by d all blocks others word.If t ts rest (m, h, (m2, i, (m3, j, l))) =
     let x = parens_tree d ts m h in
     let b = blocks m m2 i in
-    subst (λ r. FoundBare (k.Keyword word.If ∷ plain ts) (plain r)) l
-    (if_by (plain ts) (plain m) (plain m2) (plain m3) x.tree b.tree x.same x.formed b.same b.formed b.closed (others m2 m3 j))
+    an_item (subst (λ r. FoundBare (k.Keyword word.If ∷ plain ts) (plain r)) l
+    (if_by (plain ts) (plain m) (plain m2) (plain m3) x.tree b.tree x.same x.formed b.same b.formed b.closed (others m2 m3 j)))
 word_by d all blocks others y t ts rest h = absurd h
 
 bare_by : (d : ℕ) → ItemsAt d → BlockAt d → OtherwiseAt d → (t : Named) (ts rest : List Named) → Moved d t ts rest (on_bare_item t.0)
-    → FoundBare (plain (t ∷ ts)) (plain rest)
+    → FoundOne (plain (t ∷ ts)) (plain rest)
 bare_by d all blocks others (k.Keyword y, w) ts rest h = word_by d all blocks others y (k.Keyword y, w) ts rest h
 bare_by d all blocks others (k.Name text, w) ts rest (m, h, j) =
     let x = overrides_tree d ts m h in
-    subst (λ r. FoundBare (k.Name text ∷ plain ts) (plain r)) j
+    an_item (subst (λ r. FoundBare (k.Name text ∷ plain ts) (plain r)) j
     (record {
       tree = instance [] nowhere (record { definition = text; overrides = x.overrides; name = x.name; connections = x.connections });
       same = ap (λ u. k.Name text ∷ u) x.same;
       bare = refl;
+      unmarked = refl;
       formed = (no_attributes, (w, x.formed.0, x.formed.1, x.formed.2));
       closed = λ r. apart r;
-    })
+    }))
 bare_by d all blocks others t ts rest h = absurd h
 
-as_item : (ts ks : List Kind) → FoundBare ts ks → FoundItem ts ks
-as_item ts ks x = record { tree = x.tree; same = x.same; formed = x.formed; closed = x.closed }
+as_item : (ts ks : List Kind) → FoundOne ts ks → FoundNext ts ks
+as_item ts ks (an_item x) = an_item (record { tree = x.tree; same = x.same; unmarked = x.unmarked; formed = x.formed; closed = x.closed })
+as_item ts ks (a_region x) = a_region [] no_attributes x
+
+-- attributes before what the grammar has as one item
+attributed_by : (i : AttributeInstance) (ts us ks : List Kind) → ts ≡ onto (spell_instance i) us → IsInstance i → FoundNext us ks → FoundNext ts ks
+attributed_by i ts us ks e h (an_item x) = an_item (record {
+  tree = with_instance i x.tree;
+  same = e ∙ ap (onto (spell_instance i)) x.same ∙ instance_spelled i x.tree ks;
+  unmarked = instance_mark i x.tree ∙ x.unmarked;
+  formed = instance_formed i x.tree x.unmarked h x.formed;
+  closed = λ r. x.closed (sym (instance_open i x.tree) ∙ r);
+})
+attributed_by i ts us ks e h (a_region attrs w x) = a_region (i ∷ attrs) (All-cons IsInstance i attrs h w) (record {
+  trees = x.trees;
+  same = e ∙ ap (onto (spell_instance i)) x.same;
+  balanced = x.balanced;
+  formed = x.formed;
+})
 
 item_by : (d : ℕ) → ItemAt d → ItemsAt d → BlockAt d → OtherwiseAt d → ItemAt (suc d)
 item_by d one all blocks others ((k.Symbol s.OpenAttribute, w) ∷ ts) rest h =
     let i = attributed_tree d item ts rest h in
-    let x = one i.middle rest i.others in
-    record {
-      tree = with_instance i.instance x.tree;
-      same = i.same ∙ ap (onto (spell_instance i.instance)) x.same ∙ instance_spelled i.instance x.tree (plain rest);
-      formed = instance_formed i.instance x.tree i.formed x.formed;
-      closed = λ r. x.closed (sym (instance_open i.instance x.tree) ∙ r);
-    }
+    attributed_by i.instance (plain ((k.Symbol s.OpenAttribute, w) ∷ ts)) (plain i.middle) (plain rest) i.same i.formed (one i.middle rest i.others)
 item_by d one all blocks others [] rest h = apart h.0
 item_by d one all blocks others ((k.Symbol y, w) ∷ ts) rest h = absurd h
 item_by d one all blocks others (t ∷ ts) rest h = as_item (plain (t ∷ ts)) (plain rest) (bare_by d all blocks others t ts rest h)
 
+-- an item, or a region as two marks with its items between, before the others of a list
+before_items : (ending : Ending) (ts us ks : List Kind) → FoundNext ts us → FoundItems ending us ks → FoundItems ending ts ks
+before_items ending ts us ks (an_item x) xs = record {
+  trees = more_items x.tree xs.trees;
+  same = x.same ∙ ap (onto (spell x.tree)) xs.same;
+  balanced = unmarked_behind x.tree xs.trees (Some 0) x.unmarked ∙ xs.balanced;
+  formed = (x.formed, xs.formed);
+}
+before_items ending ts us ks (a_region attrs w x) xs =
+    let behind = more_items (generate [] nowhere mark.Close) xs.trees in
+    record {
+      trees = more_items (generate attrs nowhere mark.Open) (joined x.trees behind);
+      same = x.same ∙ ap (λ u. onto (spell_attributes attrs) (k.Keyword word.Generate ∷ u))
+          (ap (λ u. onto (spell_all x.trees) (k.Keyword word.Endgenerate ∷ u)) xs.same
+          ∙ sym (joined_spelled x.trees behind (k.Keyword (ending_word ending) ∷ ks)));
+      balanced = region_behind x.trees behind x.balanced ∙ xs.balanced;
+      formed = ((w, tt), joined_formed x.trees behind x.formed ((no_attributes, refl), xs.formed));
+    }
+
 one_more : (d : ℕ) → ItemAt (suc d) → ItemsAt d → (ending : Ending) (t : Named) (ts rest : List Named) → Split d (items ending) t ts rest (on_item t.0)
     → FoundItems ending (plain (t ∷ ts)) (plain rest)
 one_more d one all ending t ts rest f =
-    let x = one (t ∷ ts) f.middle f.first in
-    let xs = all ending f.middle rest f.others in
-    record { trees = more_items x.tree xs.trees; same = x.same ∙ ap (onto (spell x.tree)) xs.same; formed = (x.formed, xs.formed) }
+    before_items ending (plain (t ∷ ts)) (plain f.middle) (plain rest) (one (t ∷ ts) f.middle f.first) (all ending f.middle rest f.others)
 
 at_ending : (ending : Ending) (ts rest : List Named) → ts ≡ rest → FoundItems ending (k.Keyword (ending_word ending) ∷ plain ts) (plain rest)
-at_ending ending ts rest h = record { trees = no_items; same = ap (λ r. k.Keyword (ending_word ending) ∷ plain r) h; formed = tt }
+at_ending ending ts rest h = record { trees = no_items; same = ap (λ r. k.Keyword (ending_word ending) ∷ plain r) h; balanced = refl; formed = tt }
 
 items_by : (d : ℕ) → ItemAt (suc d) → ItemsAt d → ItemsAt (suc d)
 items_by d one all endmodule ((k.Keyword word.Endmodule, w) ∷ ts) rest h = at_ending endmodule ts rest h
@@ -365,7 +431,7 @@ items_by d one all ending ((k.Keyword y, w) ∷ ts) rest h =
 items_by d one all ending (t ∷ ts) rest h = one_more d one all ending t ts rest (many_split d (items ending) t ts rest (on_item t.0) h)
 
 unnamed : (ts ks : List Kind) → FoundItems end ts ks → FoundNamed ts ks
-unnamed ts ks b = record { name = None; trees = b.trees; same = b.same; named = tt; formed = b.formed }
+unnamed ts ks b = record { name = None; trees = b.trees; same = b.same; named = tt; balanced = b.balanced; formed = b.formed }
 
 label_by : (d : ℕ) → ItemsAt d → ItemsAt (suc d) → LabelAt (suc d)
 label_by d all same_level ((k.Symbol s.Colon, w) ∷ ts) rest (m, h, others) =
@@ -376,6 +442,7 @@ label_by d all same_level ((k.Symbol s.Colon, w) ∷ ts) rest (m, h, others) =
       trees = xs.trees;
       same = ap (λ u. k.Symbol s.Colon ∷ u) (x.same ∙ ap (λ u. k.Name x.text ∷ u) xs.same);
       named = x.fine;
+      balanced = xs.balanced;
       formed = xs.formed;
     }
 label_by d all same_level [] rest h = apart h.0
@@ -383,8 +450,10 @@ label_by d all same_level ((k.Symbol y, w) ∷ ts) rest h =
     unnamed (plain ((k.Symbol y, w) ∷ ts)) (plain rest) (same_level end ((k.Symbol y, w) ∷ ts) rest h)
 label_by d all same_level (t ∷ ts) rest h = unnamed (plain (t ∷ ts)) (plain rest) (same_level end (t ∷ ts) rest h)
 
-as_block : (ts ks : List Kind) → FoundBare ts ks → FoundBlock ts ks
-as_block ts ks x = record { tree = single x.tree; same = x.same; formed = (x.bare, x.formed); closed = x.closed }
+as_block : (ts ks : List Kind) → FoundOne ts ks → FoundBlock ts ks
+as_block ts ks (an_item x) = record { tree = single x.tree; same = x.same; formed = (x.bare, x.unmarked, x.formed); closed = x.closed }
+as_block ts ks (a_region x) =
+    record { tree = region nowhere x.trees; same = x.same; formed = (x.balanced, x.formed); closed = λ r. apart r }
 
 block_by : (d : ℕ) → ItemsAt d → BlockAt d → OtherwiseAt d → LabelAt d → BlockAt (suc d)
 block_by d all blocks others labelled ((k.Keyword word.Begin, w) ∷ ts) rest (m, h, j) =
@@ -393,7 +462,7 @@ block_by d all blocks others labelled ((k.Keyword word.Begin, w) ∷ ts) rest (m
       tree = begin nowhere b.name b.trees;
       same = ap (λ u. k.Keyword word.Begin ∷ u)
           (b.same ∙ ap (λ r. onto (spell_label b.name) (onto (spell_all b.trees) (k.Keyword word.End ∷ plain r))) j);
-      formed = (b.named, b.formed);
+      formed = (b.named, b.balanced, b.formed);
       closed = λ r. apart r;
     }
 block_by d all blocks others labelled [] rest h = apart h.0

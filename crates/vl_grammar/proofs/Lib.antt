@@ -8,6 +8,7 @@ pub mod Completions
 pub mod StmtRowsFit
 pub mod RowsFit
 pub mod Onto
+pub mod Regions
 pub mod ExprReads
 pub mod DeclarationReads
 pub mod StmtReads

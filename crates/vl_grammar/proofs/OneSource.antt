@@ -70,7 +70,7 @@ module_same x y ts us r q e w v (g, (m, h, (m2, i, (m3, j, (m4, l, (m5, c, (m6, 
     let (parameters, head) = parameters_same x.parameters y.parameters m2 o2 m3 o3 (one_rest _ _ m o m2 o2 start i i2) w.1 v.1 j j2
     (ports_no_hash x.ports m3 m4 m5 l c) (ports_no_hash y.ports o3 o4 o5 l2 c2) in
     let (ports, body) = ports_same x.ports y.ports m3 o3 m4 o4 m5 o5 head w.2 v.2 l l2 c c2 in
-    let (all, end) = one_items (items x.items) (items y.items) endmodule m5 o5 m6 o6 r q body w.3 v.3 t t2 d d2 in (
+    let (all, end) = one_items (items x.items) (items y.items) (Some 0) endmodule m5 o5 m6 o6 r q body w.3 v.3 w.4 v.4 t t2 d d2 in (
       (λ z. record {
         pos = one_place x.pos y.pos ts us e g g2 z;
         name = name_same x.name y.name (one_kind _ _ m o m2 o2 start i i2) z;

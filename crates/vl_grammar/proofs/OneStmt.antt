@@ -239,9 +239,6 @@ plain_number : (n : Number) (x : Expr) (ts us m r : List Token) → IsNext (k.Nu
 plain_number n x ts us m r h e w i =
     subst Plain (sym (ap first e) ∙ next_first (k.Number n) ts m h) (expr_first x us r w i)
 
-label_formed : (x : Expr) → IsLabel c.Case x → expr_well.IsWellFormed x
-label_formed x w = w
-
 casez_one : (x y : Expr) (ts us r q : List Token) → ts ≡ us → IsLabel c.Casez x → IsLabel c.Casez y → Spells (expr.spell x) ts r
     → Spells (expr.spell y) us q → Closed r → Closed q → (x ≡ y) × (r ≡ q)
 casez_one (tree.number p x) (tree.number p2 y) ts us r q e w v (g, h) (g2, i) f f2 =

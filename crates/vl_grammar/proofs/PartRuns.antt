@@ -42,6 +42,7 @@ use Rattle.vl_tree.specs.Item.{
   no_items,
   more_items,
   begin,
+  region,
   single,
 }
 use Rattle.vl_tree.specs.ItemSpelling.{spell_step, spell, spell_all, spell_block, spell_head, spell_assignment, spell_event_kind, spell_optional, spell_connection, spell_connections, spell_overrides}
@@ -55,7 +56,7 @@ use Rattle.vl_tree.specs.Stmt.{Stmt, Stmts, no_stmts, more_stmts}
 use Rattle.vl_tree.specs.StmtSpelling as stmt_spelling
 use Rattle.vl_tree.specs.StmtSpelling.{spell_label}
 use Rattle.vl_tree.specs.StmtWellFormed as stmt_well
-use Rattle.vl_tree.specs.WellFormed.{IsAssignment, IsConnection, AreOverrides, IsHead, attributes_of}
+use Rattle.vl_tree.specs.WellFormed.{IsAssignment, IsConnection, AreOverrides, IsHead, attributes_of, AreBalanced}
 use Rattle.vl_grammar.specs.Machine.{Row, take, pop, bad, fits, left, placed, taken}
 use Rattle.vl_grammar.specs.Grammar as g
 use Rattle.vl_grammar.specs.Grammar.{
@@ -99,6 +100,7 @@ use Rattle.vl_grammar.specs.Grammar.{
   on_generate_otherwise,
 }
 use Rattle.vl_grammar.proofs.Onto.{onto}
+use Rattle.vl_grammar.proofs.Regions.{NoClose, first_opens}
 use Rattle.vl_grammar.proofs.Steps.{is_pop, apart}
 use Rattle.vl_grammar.proofs.Words.{ending_word}
 use Rattle.vl_grammar.proofs.DeclarationReads.{Behind, behind_target}
@@ -383,7 +385,7 @@ mutual
       ∙ event_closed event.kind (open_after (spell_attributes attrs) m) ∙ attributes_closed attrs m
   item_closed (initial attrs p x) m = stmt_closed x (open_after (spell_attributes attrs) m) ∙ attributes_closed attrs m
   item_closed (instance attrs p x) m = overrides_closed x.overrides (open_after (spell_attributes attrs) m) ∙ attributes_closed attrs m
-  item_closed (generate attrs p xs) m = items_closed xs (open_after (spell_attributes attrs) m) ∙ attributes_closed attrs m
+  item_closed (generate attrs p x) m = attributes_closed attrs m
   item_closed (for_loop attrs p head b) m = attributes_closed attrs m
   item_closed (if_only attrs p c b) m = attributes_closed attrs m
   item_closed (if_else attrs p c b d) m = attributes_closed attrs m
@@ -394,31 +396,32 @@ mutual
 
 pub block_closed : (b : Block) (m : ℕ) → open_after (spell_block b) m ≡ m
 block_closed (begin p label xs) m = refl
+block_closed (region p xs) m = items_closed xs m
 block_closed (single x) m = item_closed x m
 
-pub label_by : (label : Option (List ℕ)) (x : Items) (room : ℕ) (xs : Row Rule) (ts : List Kind) (out : Ran)
+pub label_by : (label : Option (List ℕ)) (x : Items) (room : ℕ) (xs : Row Rule) (ts : List Kind) (out : Ran) → AreBalanced x
     → run ((g.items end, room) ∷ xs) (onto (spell_all x) (k.Keyword word.End ∷ ts)) ≡ measured (spell_all x) room 0 (k.Keyword word.End ∷ ts) out
     → run ((generate_block_label, room) ∷ xs) (onto (spell_label label) (onto (spell_all x) (k.Keyword word.End ∷ ts)))
     ≡ measured (spell_label label ▸ spell_all x) room 0 (k.Keyword word.End ∷ ts) out
-label_by (Some text) x room xs ts out h = h
-label_by None no_items room xs ts out h = h
-label_by None (more_items x zs) room xs ts out h =
-    (let f = item_front x (onto (spell_all zs) (k.Keyword word.End ∷ ts)) in
+label_by (Some text) x room xs ts out c h = h
+label_by None no_items room xs ts out c h = h
+label_by None (more_items x zs) room xs ts out c h =
+    (let f = item_front x (onto (spell_all zs) (k.Keyword word.End ∷ ts)) (first_opens x zs c) in
     ap (λ us. run ((generate_block_label, room) ∷ xs) us) f.same ∙ in_label f.attributed f.head f.begins room xs f.tail
     ∙ ap (λ us. run ((g.items end, room) ∷ xs) us) (sym f.same))
     ∙ h
 
-pub in_list : (ending : Ending) (x : Item) (room : ℕ) (xs : Row Rule) (ts : List Kind)
+pub in_list : (ending : Ending) (x : Item) (room : ℕ) (xs : Row Rule) (ts : List Kind) → NoClose x
     → run ((g.items ending, room) ∷ xs) (onto (spell x) ts) ≡ run ((item, room) ∷ (g.items ending, room) ∷ xs) (onto (spell x) ts)
-in_list ending x room xs ts =
-    (let f = item_front x ts in
+in_list ending x room xs ts c =
+    (let f = item_front x ts c in
     ap (λ us. run ((g.items ending, room) ∷ xs) us) f.same ∙ in_items ending f.attributed f.head f.begins room xs f.tail
     ∙ ap (λ us. run ((item, room) ∷ (g.items ending, room) ∷ xs) us) (sym f.same))
 
-pub as_block : (x : Item) (room : ℕ) (xs : Row Rule) (ts : List Kind) → attributes_of x ≡ []
+pub as_block : (x : Item) (room : ℕ) (xs : Row Rule) (ts : List Kind) → NoClose x → attributes_of x ≡ []
     → run ((generate_block, room) ∷ xs) (onto (spell x) ts) ≡ run ((item, room) ∷ xs) (onto (spell x) ts)
-as_block x room xs ts h =
-    (let f = bare_front x ts in
+as_block x room xs ts c h =
+    (let f = bare_front x ts c in
     let same : onto (spell x) ts ≡ f.head ∷ f.tail =
     split x ts ∙ ap (λ vs. onto (spell_attributes vs) (onto (behind_attributes x) ts)) h ∙ f.same in
     ap (λ us. run ((generate_block, room) ∷ xs) us) same ∙ in_generate_block f.head f.begins room xs f.tail

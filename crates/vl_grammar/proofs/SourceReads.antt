@@ -70,7 +70,7 @@ module_read : (m : Module) (xs : List Rule) (ts : List Kind) → IsModule m
     → accepts (modules ∷ xs) (onto (spell_module m) ts) ≡ accepts (modules ∷ xs) ts
 module_read m xs ts w =
     module_head_read m.parameters m.ports (g.items endmodule ∷ modules ∷ xs) (onto (spell_all (items m.items)) (k.Keyword word.Endmodule ∷ ts)) w.1 w.2
-    ∙ items_read (items m.items) endmodule (modules ∷ xs) ts w.3
+    ∙ items_read (items m.items) endmodule (modules ∷ xs) ts w.3 w.4
 
 modules_read : (ms : List Module) → All IsModule ms → accepts (modules ∷ []) (onto (each spell_module ms) []) ≡ true
 modules_read [] w = refl

@@ -113,7 +113,7 @@ module_run : (m : Module) (room : ℕ) (xs : Row Rule) (ts : List Kind) → IsMo
     → run ((modules, room) ∷ xs) (onto (spell_module m) ts) ≡ measured (spell_module m) room 0 ts (run ((modules, room) ∷ xs) ts)
 module_run m room xs ts w =
     module_head_run m.parameters m.ports room ((g.items endmodule, room) ∷ (modules, room) ∷ xs) ts (spell_all (items m.items) ▸ phrase.word word.Endmodule)
-    (run ((modules, room) ∷ xs) ts) w.1 w.2 (items_run (items m.items) endmodule room ((modules, room) ∷ xs) ts w.3)
+    (run ((modules, room) ∷ xs) ts) w.1 w.2 (items_run (items m.items) endmodule room ((modules, room) ∷ xs) ts w.3 w.4)
 
 modules_run : (ms : List Module) (room : ℕ) → All IsModule ms
     → run ((modules, room) ∷ []) (onto (each spell_module ms) []) ≡ measured (each spell_module ms) room 0 [] (Ok tt)

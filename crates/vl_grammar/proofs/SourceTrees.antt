@@ -14,7 +14,7 @@ use Rattle.vl_tree.specs.DeclarationSpelling.{spell_header_parameter, spell_port
 use Rattle.vl_tree.specs.Item.{Item, Items, no_items, more_items, items}
 use Rattle.vl_tree.specs.ItemSpelling.{spell_all, spell_parameters, spell_ports, spell_module, spell_source}
 use Rattle.vl_tree.specs.Phrase.{between_commas, each}
-use Rattle.vl_tree.specs.WellFormed.{AreWellFormed, AreOptionalParameters, AreOptionalPorts, IsModule, IsSource}
+use Rattle.vl_tree.specs.WellFormed.{AreBalanced, AreWellFormed, AreOptionalParameters, AreOptionalPorts, IsModule, IsSource}
 use Rattle.vl_grammar.specs.Grammar.{Rule, endmodule, sign, first_port, modules, module_head, module_ports}
 use Rattle.vl_grammar.specs.Grammar as g
 use Rattle.vl_grammar.proofs.Named.{Named, on, Derives, plain, accepts}
@@ -111,8 +111,13 @@ modules_tree (suc d) ((k.Keyword word.Module, w) ∷ ts) rest (m, h, (m2, i, (m3
           (body.same ∙ (λ v. onto (spell_all (sym (items_of_list body.trees) v)) (k.Keyword word.Endmodule ∷ plain m3))
           ∙ ap (λ u. onto (spell_all (items (list_of_items body.trees))) (k.Keyword word.Endmodule ∷ u))
           (others.same ∙ ap (λ r. onto (each spell_module others.trees) (plain r)) e))));
-      formed = All-cons IsModule one others.trees
-          (x.fine, head.formed.0, head.formed.1, subst AreWellFormed (sym (items_of_list body.trees)) body.formed) others.formed;
+      formed = All-cons IsModule one others.trees (
+        x.fine,
+        head.formed.0,
+        head.formed.1,
+        subst AreBalanced (sym (items_of_list body.trees)) body.balanced,
+        subst AreWellFormed (sym (items_of_list body.trees)) body.formed,
+      ) others.formed;
     }
 modules_tree (suc d) [] rest h = record { trees = []; same = ap plain (sym h.1); formed = All-nil IsModule }
 modules_tree (suc d) ((k.Keyword y, w) ∷ ts) rest h = absurd h

@@ -54,10 +54,6 @@ sign_back x = refl
 pub sign_same : (x y : Symbol) → same_sign x y ≡ true → x ≡ y
 sign_same x y h = sym (sign_back x) ∙ ap (λ n. get_or signs n s.OpenParen) (eqb-true (place x) (place y) h) ∙ sign_back y
 
-cast_name_of : Option Cast → List ℕ → List ℕ
-cast_name_of (Some to) text = cast_name to
-cast_name_of None text = text
-
 pub cast_text : (text : List ℕ) (to : Cast) → cast_of text ≡ Some to → text ≡ cast_name to
 cast_text text to e = by_signed (bytes_eq text (cast_name c.Signed)) (bytes_eq text (cast_name c.Unsigned)) refl refl e
   where

@@ -12,12 +12,15 @@ use Rattle.vl_size.specs.declared.way.Way.{Way}
 use Rattle.vl_size.specs.declared.way.Way.TheVariants as ways
 use Rattle.vl_size.specs.Way.{way, keeps_size}
 use Rattle.vl_size.specs.Sign.{sign}
+use Rattle.vl_size.specs.declared.context.Context.{Context}
+use Rattle.vl_size.specs.Divisors.{if_none, own_context, left_context, right_context, zero_divisor, parts_zero_divisor, own_zero_divisor, valid_size}
+use Rattle.vl_size.specs.Places.{is_earlier, earlier_place}
 use Rattle.vl_size.specs.Size.{◌>>=◌, within, some_bits, or_none, is_constant, are_constant, no_names, size_by, unary_size, divides, operation_size, only_if, index_of, operand, times, size, sizes, value}
 use Rattle.vl_size.proofs.Rest.{within_near, within_far}
 use Rattle.vl_mean.specs.declared.const_number.Const.{Const}
 use Rattle.vl_mean.specs.declared.const_fault.ConstFault.{ConstFault}
 use Rattle.vl_mean.specs.declared.const_fault.ConstFault.TheVariants as f
-use Rattle.vl_mean.specs.ConstantFaults.{earlier, comes_before, capped, wide_times, too_wide, zero_divisor_fault, range_unless, or_range, if_sized, wide, wides, fault, faults, name_fault, selects_fault}
+use Rattle.vl_mean.specs.ConstantFaults.{earlier, comes_before, capped, index, wide_times, too_wide, divisor_fault, range_unless, or_range, if_sized, wide, wides, count_fault, fault, faults, first_fault, name_fault, selects_fault}
 
 -- ---- the earlier of two
 
@@ -90,10 +93,9 @@ by_range ways.Left m n h k i j = (h, k)
 by_range ways.One m n h k i j = (omega arith, omega arith)
 
 -- an operation on operands with sizes
-operated : (p : Pos) (op : BinaryOperator) (m n d : ℕ) → 1 ≤ m → m ≤ 128 → 1 ≤ n → n ≤ 128
-    → Agree (operation_size op m n true d) (earlier (if divides op then zero_divisor_fault p d else None) (too_wide p (Some (size_by (way op) m n))))
-    (Some (size_by (way op) m n)) true
-operated p op m n d h k i j = by op d
+operated : (p : Pos) (op : BinaryOperator) (m n : ℕ) → 1 ≤ m → m ≤ 128 → 1 ≤ n → n ≤ 128
+    → Agree (operation_size op m n true) (too_wide p (Some (size_by (way op) m n))) (Some (size_by (way op) m n)) true
+operated p op m n h k i j = by op
   where
     range : (how : Way) → (1 ≤ size_by how m n) × (size_by how m n ≤ 128)
     range how = by_range how m n h k i j
@@ -101,57 +103,48 @@ operated p op m n d h k i j = by op d
     kept : (how : Way) → Agree (Some (size_by how m n)) (too_wide p (Some (size_by how m n))) (Some (size_by how m n)) true
     kept how = (not_wide p (size_by how m n) (range how).1, refl, refl, (range how).0, (range how).1)
 
-    not_zero : (d : ℕ) → (suc d == 0) ≡ false
-    not_zero d = grind (arith, nat_tests)
+    divided : Agree (only_if true (max m n)) (too_wide p (Some (max m n))) (Some (max m n)) true
+    divided =
+        transport (λ i. Agree (sym (within_near (max m n) (range ways.Larger).1) i) (too_wide p (Some (max m n))) (Some (max m n)) true) (kept ways.Larger)
 
-    divided : (d : ℕ) → Agree (only_if (not (d == 0)) (max m n)) (earlier (zero_divisor_fault p d) (too_wide p (Some (max m n)))) (Some (max m n)) true
-    divided zero = first_of (Some (f.ZeroDivisor p)) (too_wide p (Some (max m n))) tt
-    divided (suc d) =
-        transport (λ i. Agree ((sym (within_near (max m n) (range ways.Larger).1) ∙ sym (ap (λ t. only_if (not t) (max m n)) (not_zero d))) i) (too_wide p (Some (max m n))) (Some (max m n)) true) (kept ways.Larger)
+    by : (op : BinaryOperator) → Agree (operation_size op m n true) (too_wide p (Some (size_by (way op) m n))) (Some (size_by (way op) m n)) true
+    by b.Divide = divided
+    by b.Remainder = divided
+    by b.Multiply = kept ways.Larger
+    by b.Add = kept ways.Larger
+    by b.Subtract = kept ways.Larger
+    by b.BitwiseAnd = kept ways.Larger
+    by b.BitwiseXor = kept ways.Larger
+    by b.BitwiseXnor = kept ways.Larger
+    by b.BitwiseXnorCaretFirst = kept ways.Larger
+    by b.BitwiseOr = kept ways.Larger
+    by b.ShiftLeft = kept ways.Left
+    by b.ShiftRight = kept ways.Left
+    by b.ArithmeticShiftLeft = kept ways.Left
+    by b.ArithmeticShiftRight = kept ways.Left
+    by b.Less = kept ways.One
+    by b.LessEqual = kept ways.One
+    by b.Greater = kept ways.One
+    by b.GreaterEqual = kept ways.One
+    by b.Equal = kept ways.One
+    by b.NotEqual = kept ways.One
+    by b.CaseEqual = kept ways.One
+    by b.CaseNotEqual = kept ways.One
+    by b.LogicalAnd = kept ways.One
+    by b.LogicalOr = kept ways.One
 
-    by : (op : BinaryOperator) (d : ℕ)
-        → Agree (operation_size op m n true d) (earlier (if divides op then zero_divisor_fault p d else None) (too_wide p (Some (size_by (way op) m n))))
-        (Some (size_by (way op) m n)) true
-    by b.Divide d = divided d
-    by b.Remainder d = divided d
-    by b.Multiply d = kept ways.Larger
-    by b.Add d = kept ways.Larger
-    by b.Subtract d = kept ways.Larger
-    by b.BitwiseAnd d = kept ways.Larger
-    by b.BitwiseXor d = kept ways.Larger
-    by b.BitwiseXnor d = kept ways.Larger
-    by b.BitwiseXnorCaretFirst d = kept ways.Larger
-    by b.BitwiseOr d = kept ways.Larger
-    by b.ShiftLeft d = kept ways.Left
-    by b.ShiftRight d = kept ways.Left
-    by b.ArithmeticShiftLeft d = kept ways.Left
-    by b.ArithmeticShiftRight d = kept ways.Left
-    by b.Less d = kept ways.One
-    by b.LessEqual d = kept ways.One
-    by b.Greater d = kept ways.One
-    by b.GreaterEqual d = kept ways.One
-    by b.Equal d = kept ways.One
-    by b.NotEqual d = kept ways.One
-    by b.CaseEqual d = kept ways.One
-    by b.CaseNotEqual d = kept ways.One
-    by b.LogicalAnd d = kept ways.One
-    by b.LogicalOr d = kept ways.One
-
-binary_agrees : (p : Pos) (op : BinaryOperator) (d : ℕ → ℕ) (o : Option ℕ) (g : Option ConstFault) (w : Option ℕ) (t : Bool)
+binary_agrees : (p : Pos) (op : BinaryOperator) (o : Option ℕ) (g : Option ConstFault) (w : Option ℕ) (t : Bool)
     (o' : Option ℕ) (g' : Option ConstFault) (w' : Option ℕ) (t' : Bool) → Agree o g w t → Agree o' g' w' t'
-    → Agree (o >>= λ m. o' >>= λ n. operation_size op m n (t && t') (d (max m n)))
-    (earlier (earlier g g')
-    (earlier (if divides op then if_sized o (if_sized o' (zero_divisor_fault p (d (max (or_none o) (or_none o'))))) else None)
-    (too_wide p (w >>= λ m. w' >>= λ n. Some (size_by (way op) m n)))))
+    → Agree (o >>= λ m. o' >>= λ n. operation_size op m n (t && t'))
+    (earlier (earlier g g') (too_wide p (w >>= λ m. w' >>= λ n. Some (size_by (way op) m n))))
     (w >>= λ m. w' >>= λ n. Some (size_by (way op) m n)) (t && t')
-binary_agrees p op d None g w t o' g' w' t' h k = first_of (earlier g g') _ (first_of g g' h)
-binary_agrees p op d (Some m) g w t None g' w' t' h k = first_of (earlier g g') _ (second_of g g' k)
-binary_agrees p op d (Some m) g w t (Some n) g' w' t' h k =
-    transport (λ i. Agree (operation_size op m n (sym h.2 i && sym k.2 i) (d (max m n)))
-    (earlier (earlier (sym h.0 i) (sym k.0 i)) (earlier (if divides op then zero_divisor_fault p (d (max m n)) else None)
-    (too_wide p (sym h.1 i >>= λ m. sym k.1 i >>= λ n. Some (size_by (way op) m n)))))
+binary_agrees p op None g w t o' g' w' t' h k = first_of (earlier g g') _ (first_of g g' h)
+binary_agrees p op (Some m) g w t None g' w' t' h k = first_of (earlier g g') _ (second_of g g' k)
+binary_agrees p op (Some m) g w t (Some n) g' w' t' h k =
+    transport (λ i. Agree (operation_size op m n (sym h.2 i && sym k.2 i))
+    (earlier (earlier (sym h.0 i) (sym k.0 i)) (too_wide p (sym h.1 i >>= λ m. sym k.1 i >>= λ n. Some (size_by (way op) m n))))
     (sym h.1 i >>= λ m. sym k.1 i >>= λ n. Some (size_by (way op) m n)) (sym h.2 i && sym k.2 i))
-    (operated p op m n (d (max m n)) h.3 h.4 k.3 k.4)
+    (operated p op m n h.3 h.4 k.3 k.4)
 
 conditional_agrees : (p : Pos) (o₀ : Option ℕ) (g₀ : Option ConstFault) (w₀ : Option ℕ) (t₀ : Bool)
     (o : Option ℕ) (g : Option ConstFault) (w : Option ℕ) (t : Bool) (o' : Option ℕ) (g' : Option ConstFault) (w' : Option ℕ) (t' : Bool)
@@ -306,44 +299,103 @@ ranged : (p : Pos) (g : Option ConstFault) → IsFault (or_range p g)
 ranged p None = tt
 ranged p (Some g) = tt
 
--- ---- all expressions
+-- ---- no division by 0
+
+some_none : (p : Pos) → Some p ≡ None → ⊥
+some_none p h = cc
+
+both_none : (p q : Option Pos) → earlier_place p q ≡ None → (p ≡ None) × (q ≡ None)
+both_none None q h = (refl, h)
+both_none (Some p) None h = absurd (some_none p h)
+both_none (Some p) (Some q) h = by (is_earlier q p) h
+  where
+    by : (t : Bool) → (if t then Some q else Some p) ≡ None → (Some p ≡ None) × (Some q ≡ None)
+    by true h = absurd (some_none q h)
+    by false h = absurd (some_none p h)
+
+-- ---- all expressions in which there is none
 
 module _ (c : List ℕ → Option Const) where
   name_faulty : (p : Pos) (o : Option Const) (ss : Selects) (inner : Option ConstFault) → IsFault (name_fault [] no_names p o ss inner)
   name_faulty p None ss inner = second_of inner (Some (f.NotConstant p)) tt
   name_faulty p (Some a) ss inner = ranged p _
 
+  counted : (p : Pos) (n : Expr) (es : Exprs) → own_zero_divisor [] n ≡ None
+      → Agree (size [] n >>= λ k. some_bits (sizes [] es) >>= λ m. if is_constant n then times (index_of (operand (Some k) (sign [] n) (λ j t. value [] no_names j t n))) m else None)
+      (earlier (earlier (fault c [] no_names n) (faults c [] no_names es))
+      (earlier (if_sized (size [] n) (range_unless p (wide_times (index [] no_names n) 1)))
+      (too_wide p (some_bits (wides c [] no_names es) >>= λ m. if_sized (size [] n) (wide_times (index [] no_names n) m)))))
+      (some_bits (wides c [] no_names es) >>= λ m. if_sized (size [] n) (wide_times (index [] no_names n) m)) (is_constant n && are_constant es)
+      → Agree (size [] n >>= λ k. some_bits (sizes [] es) >>= λ m. if is_constant n then times (index_of (operand (Some k) (sign [] n) (λ j t. value [] no_names j t n))) m else None)
+      (earlier (earlier (fault c [] no_names n) (faults c [] no_names es))
+      (earlier (count_fault [] no_names p n)
+      (too_wide p (some_bits (wides c [] no_names es) >>= λ m. if_sized (valid_size [] n) (wide_times (index [] no_names n) m)))))
+      (some_bits (wides c [] no_names es) >>= λ m. if_sized (valid_size [] n) (wide_times (index [] no_names n) m)) (is_constant n && are_constant es)
+  counted p n es h =
+      let valid : size [] n ≡ valid_size [] n = ap (λ o. if_none o (size [] n)) (sym h) in
+      transport (λ i. Agree (size [] n >>= λ k. some_bits (sizes [] es) >>= λ m. if is_constant n then times (index_of (operand (Some k) (sign [] n) (λ j t. value [] no_names j t n))) m else None)
+      (earlier (earlier (fault c [] no_names n) (faults c [] no_names es))
+      (earlier (if_sized (valid i) (range_unless p (wide_times (index [] no_names n) 1)))
+      (too_wide p (some_bits (wides c [] no_names es) >>= λ m. if_sized (valid i) (wide_times (index [] no_names n) m)))))
+      (some_bits (wides c [] no_names es) >>= λ m. if_sized (valid i) (wide_times (index [] no_names n) m)) (is_constant n && are_constant es))
+
   mutual
-    agrees : (e : Expr) → Agree (size [] e) (fault c [] no_names e) (wide c [] no_names e) (is_constant e)
-    agrees (number p n) = (refl, refl, refl, n.some_bits, n.few_bits)
-    agrees (name p text ss) = name_faulty p (c text) ss (selects_fault c [] no_names ss)
-    agrees (paren p x) = same_agrees p _ _ _ _ (agrees x)
-    agrees (unary p op x) = unary_agrees p op _ _ _ _ (agrees x)
-    agrees (binary p op x y) = binary_agrees p op (λ m. value [] no_names m (sign [] x && sign [] y) y) _ _ _ _ _ _ _ _ (agrees x) (agrees y)
-    agrees (conditional p k x y) = conditional_agrees p _ _ _ _ _ _ _ _ _ _ _ _ (agrees k) (agrees x) (agrees y)
-    agrees (concat p none) = tt
-    agrees (concat p (more e es)) = concat_agrees p _ _ _ _ (parts (more e es))
-    agrees (repeat p n none) =
+    agrees : (k : Context) (e : Expr) → zero_divisor [] k e ≡ None → Agree (size [] e) (fault c [] no_names e) (wide c [] no_names e) (is_constant e)
+    agrees k (number p n) h = (refl, refl, refl, n.some_bits, n.few_bits)
+    agrees k (name p text ss) h = name_faulty p (c text) ss (selects_fault c [] no_names ss)
+    agrees k (paren p x) h = same_agrees p _ _ _ _ (agrees k x h)
+    agrees k (unary p op x) h = unary_agrees p op _ _ _ _ (agrees (if keeps_size op then k else own_context [] x) x h)
+    agrees k (binary p op x y) h =
+        let inner = (both_none _ _ (both_none _ _ h).1) in
+        binary_agrees p op _ _ _ _ _ _ _ _ (agrees (left_context [] (way op) op k x y) x inner.0) (agrees (right_context [] (way op) op k x y) y inner.1)
+    agrees k (conditional p b x y) h =
+        let inner = both_none _ _ h in let both = both_none _ _ inner.1 in
+        conditional_agrees p _ _ _ _ _ _ _ _ _ _ _ _ (agrees (own_context [] b) b inner.0) (agrees k x both.0) (agrees k y both.1)
+    agrees k (concat p none) h = tt
+    agrees k (concat p (more e es)) h = concat_agrees p _ _ _ _ (parts (more e es) h)
+    agrees k (repeat p n none) h =
         transport (λ i. Agree (no_bind (size [] n) i) (fault c [] no_names (repeat p n none)) None (is_constant n && true))
         (second_of (earlier (fault c [] no_names n) None) _ (first_of (Some (f.Range p)) _ tt))
-    agrees (repeat p n (more e es)) =
-        repeat_agrees p (λ o. index_of (operand o (sign [] n) (λ m t. value [] no_names m t n))) _ _ _ _ _ _ _ _ (agrees n) (parts (more e es))
-    agrees (cast p to x) = same_agrees p _ _ _ _ (agrees x)
+    agrees k (repeat p n (more e es)) h =
+        let inner = both_none _ _ h in
+        counted p n (more e es) inner.0
+        (repeat_agrees p (λ o. index_of (operand o (sign [] n) (λ m t. value [] no_names m t n))) _ _ _ _ _ _ _ _
+        (agrees (own_context [] n) n inner.0) (parts (more e es) inner.1))
+    agrees k (cast p to x) h = same_agrees p _ _ _ _ (agrees (own_context [] x) x h)
 
-    parts : (es : Exprs) → Parts (least es) (sizes [] es) (faults c [] no_names es) (wides c [] no_names es) (are_constant es)
-    parts none = (0, refl, refl, refl, omega arith)
-    parts (more e es) = more_agree (least es) _ _ _ _ _ _ _ _ (agrees e) (parts es)
+    parts : (es : Exprs) → parts_zero_divisor [] es ≡ None
+        → Parts (least es) (sizes [] es) (faults c [] no_names es) (wides c [] no_names es) (are_constant es)
+    parts none h = (0, refl, refl, refl, omega arith)
+    parts (more e es) h =
+        let inner = both_none _ _ h in
+        more_agree (least es) _ _ _ _ _ _ _ _ (agrees (own_context [] e) e inner.0) (parts es inner.1)
 
   fault_there : (g : Option ConstFault) → IsFault g → (f : ConstFault) × (g ≡ Some f)
   fault_there None h = absurd h
   fault_there (Some f) h = (f, refl)
 
+  sized : (e : Expr) → own_zero_divisor [] e ≡ None → valid_size [] e ≡ size [] e
+  sized e h = ap (λ o. if_none o (size [] e)) h
+
   -- what has no size has a fault
-  pub faulty : (e : Expr) → size [] e ≡ None → (f : ConstFault) × (fault c [] no_names e ≡ Some f)
-  faulty e h =
-      fault_there (fault c [] no_names e)
-      (transport (λ i. Agree (h i) (fault c [] no_names e) (wide c [] no_names e) (is_constant e)) (agrees e))
+  pub faulty : (e : Expr) → valid_size [] e ≡ None → (f : ConstFault) × (first_fault c [] no_names e ≡ Some f)
+  faulty e h = fault_there (first_fault c [] no_names e) (by (own_zero_divisor [] e) refl)
+    where
+      by : (o : Option Pos) → own_zero_divisor [] e ≡ o → IsFault (earlier (fault c [] no_names e) (divisor_fault o))
+      by (Some p) k = second_of (fault c [] no_names e) (Some (f.ZeroDivisor p)) tt
+      by None k =
+          first_of (fault c [] no_names e) None
+          (transport (λ i. Agree ((sym (sized e k) ∙ h) i) (fault c [] no_names e) (wide c [] no_names e) (is_constant e)) (agrees (own_context [] e) e k))
 
   -- and what has one has none
-  pub faultless : (e : Expr) (m : ℕ) → size [] e ≡ Some m → fault c [] no_names e ≡ None
-  faultless e m h = (transport (λ i. Agree (h i) (fault c [] no_names e) (wide c [] no_names e) (is_constant e)) (agrees e)).0
+  pub faultless : (e : Expr) (m : ℕ) → valid_size [] e ≡ Some m → first_fault c [] no_names e ≡ None
+  faultless e m h = by (own_zero_divisor [] e) refl
+    where
+      none_some : None ≡ Some m → ⊥
+      none_some e = cc
+
+      by : (o : Option Pos) → own_zero_divisor [] e ≡ o → earlier (fault c [] no_names e) (divisor_fault o) ≡ None
+      by (Some p) k = absurd (none_some (sym (ap (λ o. if_none o (size [] e)) k) ∙ h))
+      by None k =
+          ap (λ g. earlier g None)
+          (transport (λ i. Agree ((sym (sized e k) ∙ h) i) (fault c [] no_names e) (wide c [] no_names e) (is_constant e)) (agrees (own_context [] e) e k)).0

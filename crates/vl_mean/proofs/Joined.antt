@@ -7,32 +7,11 @@ use Rattle.vl_tree.specs.Expr.{Expr, Selects, whole, exprs, depth, exprs_depth, 
 use Rattle.vl_tree.specs.ExprView.{selects, with_select}
 use Rattle.vl_size.specs.declared.decl.Decl.{Decl}
 use Rattle.vl_size.specs.Sign.{sign}
+use Rattle.vl_size.proofs.Rest.{part_depth}
+use Rattle.vl_size.proofs.Falls.{select_depth}
 use Rattle.vl_mean.specs.declared.const_number.Const.{Const}
 use Rattle.vl_mean.specs.ConstantFaults.{wide, wides, capped}
-use Rattle.vl_size.specs.Size.{◌>>=◌, Values, within, size, sizes, value, operand, index_of, vector_value, word_value, word_at}
-
--- a part is no deeper than its list
-pub part_depth : (es : List Expr) (i : ℕ) (e : Expr) → i < length es → e ≡ get_or es i e → depth e ≤ exprs_depth (exprs es)
-part_depth [] i e h k = absurd (omega arith)
-part_depth (f ∷ es) zero e h k = let p : depth e ≤ depth f = omega (arith, ap depth k) in omega (arith, p)
-part_depth (f ∷ es) (suc i) e h k = omega (arith, part_depth es i e (omega arith) k)
-
--- and a select no deeper than the list of selects
-first_depth : (x : Select) (ss : Selects) → selects_depth (with_select x whole) ≤ selects_depth (with_select x ss)
-first_depth (s.Bit p i) ss = omega arith
-first_depth (s.Part p l r) ss = omega arith
-first_depth (s.Indexed p i n) ss = omega arith
-
-rest_depth : (x : Select) (ss : Selects) → selects_depth ss ≤ selects_depth (with_select x ss)
-rest_depth (s.Bit p i) ss = omega arith
-rest_depth (s.Part p l r) ss = omega arith
-rest_depth (s.Indexed p i n) ss = omega arith
-
-pub select_depth : (ss : List Select) (i : ℕ) (x : Select) → i < length ss → x ≡ get_or ss i x
-    → selects_depth (with_select x whole) ≤ selects_depth (selects ss)
-select_depth [] i x h k = absurd (omega arith)
-select_depth (y ∷ ss) zero x h k = omega (arith, ap (λ z. selects_depth (with_select z whole)) k, first_depth y (selects ss))
-select_depth (y ∷ ss) (suc i) x h k = omega (arith, select_depth ss i x (omega arith) k, rest_depth y (selects ss))
+use Rattle.vl_size.specs.Size.{◌>>=◌, Cells, within, size, sizes, value, operand, index_of, vector_value, word_value, word_at}
 
 -- where a part has no size, the whole has none
 bind_none : (o : Option ℕ) (f : ℕ → ℕ → Option ℕ) → (o >>= λ m. None >>= f m) ≡ None
@@ -58,7 +37,7 @@ sizes_at ds es rest i m n o e front h k l =
 pub ruleset parts = (part_depth, select_depth)
 
 -- a vector has one select at most, and a memory two
-pub two_values : (ds : List Decl) (v : Values) (w : ℕ) (t : Bool) (d : Decl) (x : ℕ) (ss : List Select) → 2 ≤ length ss
+pub two_values : (ds : List Decl) (v : Cells) (w : ℕ) (t : Bool) (d : Decl) (x : ℕ) (ss : List Select) → 2 ≤ length ss
     → vector_value ds v w t d x (selects ss) ≡ 0
 two_values ds v w t d x [] h = absurd (omega arith)
 two_values ds v w t d x (a ∷ []) h = absurd (omega arith)
@@ -72,7 +51,7 @@ two_values ds v w t d x (s.Indexed p i l ∷ s.Bit q j ∷ ss) h = refl
 two_values ds v w t d x (s.Indexed p i l ∷ s.Part q j k ∷ ss) h = refl
 two_values ds v w t d x (s.Indexed p i l ∷ s.Indexed q j k ∷ ss) h = refl
 
-pub three_values : (ds : List Decl) (v : Values) (w : ℕ) (t : Bool) (d : Decl) (ss : List Select) → 3 ≤ length ss
+pub three_values : (ds : List Decl) (v : Cells) (w : ℕ) (t : Bool) (d : Decl) (ss : List Select) → 3 ≤ length ss
     → word_value ds v w t d (selects ss) ≡ 0
 three_values ds v w t d [] h = absurd (omega arith)
 three_values ds v w t d (s.Bit p i ∷ ss) h =
@@ -92,7 +71,7 @@ of_memory None b x y e t h = absurd (true≢false (sym (e ∙ ap not t)))
 of_memory (Some w) b x y e t h = sym h
 
 -- sizes without a limit: where a part has none, the whole has none
-module _ (c : List ℕ → Option Const) (ds : List Decl) (v : Values) where
+module _ (c : List ℕ → Option Const) (ds : List Decl) (v : Cells) where
   wides_from : (es : List Expr) (i : ℕ) → wides c ds v (exprs (drop i es)) ≡ None → wides c ds v (exprs es) ≡ None
   wides_from es zero h = h
   wides_from [] (suc i) h = h

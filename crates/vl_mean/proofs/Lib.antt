@@ -1,5 +1,6 @@
 pub mod FlatRefused
 pub mod Maps
+pub mod DesignMaps
 pub mod Lookups
 pub mod SelectLemmas
 pub mod WordLemmas

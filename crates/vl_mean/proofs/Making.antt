@@ -7,9 +7,10 @@ use Rattle.vl_tree.specs.declared.expr.Select.TheVariants as s
 use Rattle.vl_tree.specs.Expr.{Expr, Exprs, Selects, number, name, none, more, whole, exprs}
 use Rattle.vl_tree.specs.ExprView.{selects, with_select}
 use Rattle.vl_size.specs.declared.decl.Decl.{Decl}
-use Rattle.vl_size.specs.Size.{Values, size, value}
+use Rattle.vl_size.specs.Divisors.{valid_size}
+use Rattle.vl_size.specs.Size.{Cells, cells_in, value}
 use Rattle.vl_mean.specs.declared.const_number.Const.{Const}
-use Rattle.vl_mean.specs.Constants.{cut_to, number_of, vector_of, values_at, with_number, selected_constant, named_constant, settled, settled_exprs, settled_selects}
+use Rattle.vl_mean.specs.Constants.{cut_to, number_of, vector_of, values_at, number_or, selected_constant, named_constant, settled, settled_exprs, settled_selects}
 
 -- what is made, and then what is left
 abbrev pub before : List Expr → Exprs → Exprs
@@ -39,17 +40,17 @@ selects_before-push (y ∷ xs) x ss = ap (with_select y) (selects_before-push xs
 pub ruleset parts = (before-none, before-push, selects_before-whole, selects_before-push)
 
 -- a select of a constant, over a table of its name alone
-pub none_selected : (p : Pos) (text : List ℕ) (x : Expr) (c : Const) (ds : List Decl) → ds ≡ vector_of text c ∷ [] → None ≡ size ds x
+pub none_selected : (p : Pos) (text : List ℕ) (x : Expr) (c : Const) (ds : List Decl) → ds ≡ vector_of text c ∷ [] → None ≡ valid_size ds x
     → x ≡ selected_constant p text x c
 none_selected p text x c ds e h =
-    ap (λ o. with_number p o x (λ n. value (vector_of text c ∷ []) (values_at text c) n false x)) (h ∙ ap (λ ds. size ds x) e)
+    ap (λ o. number_or p o x (λ n. value (vector_of text c ∷ []) (cells_in (values_at text c)) n false x)) (h ∙ ap (λ ds. valid_size ds x) e)
 
-pub some_selected : (p : Pos) (text : List ℕ) (x : Expr) (c : Const) (es ds : List Decl) (v : Values) (n number_is : ℕ)
-    → es ≡ vector_of text c ∷ [] → ds ≡ vector_of text c ∷ [] → v ≡ values_at text c → Some n ≡ size es x → number_is ≡ value ds v n false x
+pub some_selected : (p : Pos) (text : List ℕ) (x : Expr) (c : Const) (es ds : List Decl) (v : Cells) (n number_is : ℕ)
+    → es ≡ vector_of text c ∷ [] → ds ≡ vector_of text c ∷ [] → v ≡ cells_in (values_at text c) → Some n ≡ valid_size es x → number_is ≡ value ds v n false x
     → number p (number_of (cut_to n false number_is)) ≡ selected_constant p text x c
 some_selected p text x c es ds v n m d e f h k =
     ap (λ m. number p (number_of (cut_to n false m))) (k ∙ (λ i. value (e i) (f i) n false x))
-    ∙ ap (λ o. with_number p o x (λ n. value (vector_of text c ∷ []) (values_at text c) n false x)) (h ∙ ap (λ ds. size ds x) d)
+    ∙ ap (λ o. number_or p o x (λ n. value (vector_of text c ∷ []) (cells_in (values_at text c)) n false x)) (h ∙ ap (λ ds. valid_size ds x) d)
 
 module _ (c : List ℕ → Option Const) where
   pub settled_on : (old new all : List Expr) (x e : Expr) (i : ℕ) (all_of : Exprs) → drop i all ≡ e ∷ drop (i + 1) all → new ≡ old ++ x ∷ []

@@ -8,11 +8,11 @@ use Rattle.std.proofs.lemmas.Nat.{mod-pow-add, pow_pos, pow-add, div-mul-add}
 use Rattle.std.proofs.lemmas.Int.{to_z-of_z}
 use mir.Val.{SFits, of_z, to_z}
 use mir.Syntax.{w128}
-use Rattle.vl_size.proofs.BitsLemmas.{low_of_shifted}
-use Rattle.vl_size.specs.Bits.{extended, is_negative, is_below_zero}
+use Rattle.fv_bits.proofs.Limits.{low_of_shifted}
+use Rattle.fv_bits.specs.Bits.{extended, is_negative, is_below_zero}
 use Rattle.vl_size.specs.declared.decl.Decl.{Decl}
 use Rattle.vl_size.specs.Size.{bit_at, bits_from, place_of, descends}
-use Rattle.vl_mean.specs.Near.{is_near}
+use Rattle.vl_size.specs.Place.{is_near}
 
 next_negative : (k : ℕ) → negsuc (suc k) +ℤ pos 1 ≡ negsuc k
 next_negative k = grind arith

@@ -27,8 +27,9 @@ use Rattle.vl_tree.specs.Expr.{
   indexed,
 }
 use Rattle.vl_size.specs.declared.decl.Decl.{Decl}
-use Rattle.vl_size.specs.Sign.{sign}
-use Rattle.vl_size.specs.Size.{◌>>=◌, Values, size, value, or_none, some_bits, unary_size, size_by, divides, is_bound, index_of}
+use Rattle.vl_size.specs.Divisors.{valid_size, own_zero_divisor, selects_zero_divisor}
+use Rattle.vl_size.specs.Places.{is_earlier}
+use Rattle.vl_size.specs.Size.{◌>>=◌, Cells, some_bits, unary_size, size_by, is_bound, index_of}
 use Rattle.vl_size.specs.Table.{span}
 use Rattle.vl_size.specs.Way.{way}
 use Rattle.vl_mean.specs.declared.const_number.Const.{Const}
@@ -43,16 +44,12 @@ UnlessMemory g P = P
 
 -- ---- the earliest
 
--- places compare by file, then line, then column
-abbrev pub is_earlier : Pos → Pos → Bool
-is_earlier p q = nat_lt p.file q.file || ((p.file == q.file) && (nat_lt p.line q.line || ((p.line == q.line) && nat_lt p.col q.col)))
-
-abbrev pub place_of : ConstFault → Pos
-place_of (f.NotConstant p) = p
-place_of (f.ZeroDivisor p) = p
-place_of (f.TooWide p n) = p
-place_of (f.Range p) = p
-place_of f.Memory = record { file = 0; line = 0; col = 0 }
+abbrev pub fault_place : ConstFault → Pos
+fault_place (f.NotConstant p) = p
+fault_place (f.ZeroDivisor p) = p
+fault_place (f.TooWide p n) = p
+fault_place (f.Range p) = p
+fault_place f.Memory = record { file = 0; line = 0; col = 0 }
 
 abbrev pub rank : ConstFault → ℕ
 rank (f.NotConstant p) = 1
@@ -63,7 +60,7 @@ rank f.Memory = 5
 
 -- the second comes before the first
 abbrev pub comes_before : ConstFault → ConstFault → Bool
-comes_before g h = is_earlier (place_of g) (place_of h) || (not (is_earlier (place_of h) (place_of g)) && nat_lt (rank g) (rank h))
+comes_before g h = is_earlier (fault_place g) (fault_place h) || (not (is_earlier (fault_place h) (fault_place g)) && nat_lt (rank g) (rank h))
 
 -- of two alike the first stays: it is the inner one
 abbrev pub earlier : Option ConstFault → Option ConstFault → Option ConstFault
@@ -92,9 +89,14 @@ too_wide p (Some n) = if nat_le n 128 then None else Some (f.TooWide p n)
 
 -- ---- faults
 
-abbrev pub zero_divisor_fault : Pos → ℕ → Option ConstFault
-zero_divisor_fault p zero = Some (f.ZeroDivisor p)
-zero_divisor_fault p (suc n) = None
+-- a division by 0, where there is one
+abbrev pub divisor_fault : Option Pos → Option ConstFault
+divisor_fault None = None
+divisor_fault (Some p) = Some (f.ZeroDivisor p)
+
+-- a bound past 32 signed bits
+abbrev pub far_fault : Pos → ℤ → Option ConstFault
+far_fault q i = if is_bound i then None else Some (f.Range q)
 
 -- what has no size isn't right
 abbrev pub range_unless : Pos → Option ℕ → Option ConstFault
@@ -122,30 +124,32 @@ abbrev pub if_sized : {A : Type 0} → Option ℕ → Option A → Option A
 if_sized None x = None
 if_sized (Some n) x = x
 
-module _ (ds : List Decl) (v : Values) where
+module _ (ds : List Decl) (v : Cells) where
   abbrev pub index : Expr → ℤ
   index e = index_of (operand_in ds v e)
 
   -- of a constant's first select
   abbrev pub wide_select : Selects → Option ℕ
-  wide_select (part q l r ss) = if_sized (size ds l) (if_sized (size ds r) (wide_part (index l) (index r)))
-  wide_select (indexed q s n ss) = if_sized (size ds s) (if_sized (size ds n) (wide_times (index n) 1))
+  wide_select (part q l r ss) = if_sized (valid_size ds l) (if_sized (valid_size ds r) (wide_part (index l) (index r)))
+  wide_select (indexed q s n ss) = if_sized (valid_size ds s) (if_sized (valid_size ds n) (wide_times (index n) 1))
   wide_select ss = None
 
-  -- a constant's first select against its direction, or of width below 1
+  -- a bound past 32 signed bits, whatever the other one is
+  abbrev pub bound_fault : Pos → Expr → Option ConstFault
+  bound_fault q e = if_sized (valid_size ds e) (far_fault q (index e))
+
+  -- of two bounds
+  abbrev pub part_fault : Pos → Expr → Expr → Option ConstFault
+  part_fault q l r = if_sized (valid_size ds l) (if_sized (valid_size ds r) (range_unless q (wide_part (index l) (index r))))
+
+  -- a constant's first select past 32 signed bits, against its direction, or of width below 1
   abbrev pub range_fault : Selects → Option ConstFault
-  range_fault (part q l r ss) = if_sized (size ds l) (if_sized (size ds r) (range_unless q (wide_part (index l) (index r))))
-  range_fault (indexed q s n ss) = if_sized (size ds n) (range_unless q (wide_times (index n) 1))
+  range_fault (part q l r ss) = earlier (earlier (bound_fault q l) (bound_fault q r)) (part_fault q l r)
+  range_fault (indexed q s n ss) = if_sized (valid_size ds n) (range_unless q (wide_times (index n) 1))
   range_fault ss = None
 
-  abbrev pub zero_divisor : Pos → BinaryOperator → Expr → Expr → Option ConstFault
-  zero_divisor p op x y =
-      let w = max (or_none (size ds x)) (or_none (size ds y)) in
-      let found = if_sized (size ds x) (if_sized (size ds y) (zero_divisor_fault p (value ds v w (sign ds x && sign ds y) y))) in
-      if divides op then found else None
-
   abbrev pub count_fault : Pos → Expr → Option ConstFault
-  count_fault p n = if_sized (size ds n) (range_unless p (wide_times (index n) 1))
+  count_fault p n = if_sized (valid_size ds n) (range_unless p (wide_times (index n) 1))
 
   abbrev pub wide_name : Option Const → Selects → Option ℕ
   wide_name None ss = None
@@ -153,9 +157,10 @@ module _ (ds : List Decl) (v : Values) where
 
   abbrev pub name_fault : Pos → Option Const → Selects → Option ConstFault → Option ConstFault
   name_fault p None ss inner = earlier inner (Some (f.NotConstant p))
-  name_fault p (Some c) ss inner = or_range p (earlier inner (earlier (range_fault ss) (too_wide p (wide_select ss))))
+  name_fault p (Some c) ss inner =
+      or_range p (earlier inner (earlier (divisor_fault (selects_zero_divisor ds ss)) (earlier (range_fault ss) (too_wide p (wide_select ss)))))
 
-module _ (constant : List ℕ → Option Const) (ds : List Decl) (v : Values) where
+module _ (constant : List ℕ → Option Const) (ds : List Decl) (v : Cells) where
   -- the size of an expression without a limit; None where a part has none
   abbrev mutual
     pub wide : Expr → Option ℕ
@@ -166,14 +171,14 @@ module _ (constant : List ℕ → Option Const) (ds : List Decl) (v : Values) wh
     wide (binary p op x y) = wide x >>= λ m. wide y >>= λ n. Some (size_by (way op) m n)
     wide (conditional p c x y) = wide x >>= λ m. wide y >>= λ n. Some (max m n)
     wide (concat p es) = some_bits (wides es)
-    wide (repeat p n es) = some_bits (wides es) >>= λ m. if_sized (size ds n) (wide_times (index ds v n) m)
+    wide (repeat p n es) = some_bits (wides es) >>= λ m. if_sized (valid_size ds n) (wide_times (index ds v n) m)
     wide (cast p to x) = wide x
 
     pub wides : Exprs → Option ℕ
     wides none = Some 0
     wides (more e es) = wide e >>= λ m. wides es >>= λ n. Some (capped (m + n))
 
-  -- ---- the earliest fault in an expression
+  -- ---- the earliest fault in an expression, but for its divisors
 
   abbrev mutual
     pub fault : Expr → Option ConstFault
@@ -181,8 +186,7 @@ module _ (constant : List ℕ → Option Const) (ds : List Decl) (v : Values) wh
     fault (name p text ss) = name_fault ds v p (constant text) ss (selects_fault ss)
     fault (paren p x) = earlier (fault x) (too_wide p (wide x))
     fault (unary p op x) = earlier (fault x) (too_wide p (wide (unary p op x)))
-    fault (binary p op x y) =
-        earlier (earlier (fault x) (fault y)) (earlier (zero_divisor ds v p op x y) (too_wide p (wide (binary p op x y))))
+    fault (binary p op x y) = earlier (earlier (fault x) (fault y)) (too_wide p (wide (binary p op x y)))
     fault (conditional p c x y) = earlier (earlier (fault c) (earlier (fault x) (fault y))) (too_wide p (wide (conditional p c x y)))
     fault (concat p es) = earlier (faults es) (earlier (no_part p es) (too_wide p (wide (concat p es))))
     fault (repeat p n es) =
@@ -210,3 +214,7 @@ module _ (constant : List ℕ → Option Const) (ds : List Decl) (v : Values) wh
   select_fault (s.Bit q i) = fault i.value
   select_fault (s.Part q l r) = earlier (fault l.value) (fault r.value)
   select_fault (s.Indexed q i n) = earlier (fault i.value) (fault n.value)
+
+  -- of a whole expression: also a division by 0, where its divisors have the size and the sign that it has by itself
+  abbrev pub first_fault : Expr → Option ConstFault
+  first_fault e = earlier (fault e) (divisor_fault (own_zero_divisor ds e))

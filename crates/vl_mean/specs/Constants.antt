@@ -27,7 +27,8 @@ use Rattle.vl_tree.specs.Expr.{
 use Rattle.vl_size.specs.declared.decl.Decl.{Decl}
 use Rattle.vl_size.specs.declared.decl.Class.TheVariants as class
 use Rattle.vl_size.specs.Sign.{sign}
-use Rattle.vl_size.specs.Size.{Values, Operand, size, value, operand, no_names}
+use Rattle.vl_size.specs.Divisors.{valid_size}
+use Rattle.vl_size.specs.Size.{Values, Cells, Operand, size, value, operand, no_names, cells_in}
 use Rattle.vl_mean.specs.declared.const_number.Const.{Const}
 
 -- names with their constants; the first one of a name counts
@@ -99,14 +100,14 @@ vector_of text c = record {
 abbrev pub values_at : List ℕ → Const → Values
 values_at text c other = cond (bytes_eq text other) c.value 0
 
--- a select of a constant by constants is an unsigned number; another one stays
-abbrev pub with_number : Pos → Option ℕ → Expr → (ℕ → ℕ) → Expr
-with_number p None x value = x
-with_number p (Some n) x value = number p (number_of (cut_to n false (value n)))
+-- a select of a constant by constants is an unsigned number; another one stays, as does one in which a divisor is 0
+abbrev pub number_or : Pos → Option ℕ → Expr → (ℕ → ℕ) → Expr
+number_or p None x value = x
+number_or p (Some n) x value = number p (number_of (cut_to n false (value n)))
 
 abbrev pub selected_constant : Pos → List ℕ → Expr → Const → Expr
 selected_constant p text x c =
-    let ds = vector_of text c ∷ [] in with_number p (size ds x) x (λ n. value ds (values_at text c) n false x)
+    let ds = vector_of text c ∷ [] in number_or p (valid_size ds x) x (λ n. value ds (cells_in (values_at text c)) n false x)
 
 abbrev pub named_constant : Pos → List ℕ → Selects → Option Const → Expr
 named_constant p text ss None = name p text ss
@@ -138,13 +139,13 @@ module _ (constant : List ℕ → Option Const) where
     settled_selects (indexed p s n ss) = indexed p (settled s) (settled n) (settled_selects ss)
 
 -- an expression over declarations and values: its size and sign by itself, and its number in each context
-abbrev pub operand_in : List Decl → Values → Expr → Operand
+abbrev pub operand_in : List Decl → Cells → Expr → Operand
 operand_in ds v e = operand (size ds e) (sign ds e) (λ w s. value ds v w s e)
 
 -- the same over constants too
-abbrev pub read : (List ℕ → Option Const) → List Decl → Values → Expr → Operand
-read constant ds v e = operand_in ds v (settled constant e)
+abbrev pub settled_operand : (List ℕ → Option Const) → List Decl → Cells → Expr → Operand
+settled_operand constant ds v e = operand_in ds v (settled constant e)
 
 -- over constants alone
 abbrev pub read_constant : (List ℕ → Option Const) → Expr → Operand
-read_constant constant e = read constant [] no_names e
+read_constant constant e = settled_operand constant [] no_names e

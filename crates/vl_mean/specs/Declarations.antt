@@ -18,13 +18,14 @@ use Rattle.vl_tree.specs.declared.declaration.Range.{Range}
 use Rattle.vl_tree.specs.declared.declaration.Shape.{Shape}
 use Rattle.vl_tree.specs.Attributes.{Attributes}
 use Rattle.vl_tree.specs.Expr.{Expr}
-use Rattle.vl_tree.specs.Item.{Item, Items, Block, declaration, integer, genvar, parameter, instance, generate, for_loop, if_only, if_else, no_items, more_items, begin, single}
+use Rattle.vl_tree.specs.Item.{Item, Items, Block, declaration, integer, genvar, parameter, instance, for_loop, if_only, if_else, no_items, more_items, begin, region, single}
 use Rattle.vl_size.specs.declared.decl.Class.{Class}
 use Rattle.vl_size.specs.declared.decl.Class.TheVariants as class
 use Rattle.vl_size.specs.declared.decl.Decl.{Decl}
 use Rattle.vl_size.specs.Size.{Operand, own, index_of}
 use Rattle.vl_size.specs.Table.{span}
 use Rattle.vl_mean.specs.declared.const_number.Const.{Const}
+use Rattle.vl_mean.specs.Cells.{contains_name}
 use Rattle.vl_mean.specs.Constants.{Constants, cut_to, read_constant}
 use Rattle.vl_mean.specs.Scopes.{Scope, constant_in}
 
@@ -79,17 +80,15 @@ abbrev pub header_parameters : List HeaderParameter → List Parameter
 header_parameters [] = []
 header_parameters (x ∷ xs) = x.parameter ∷ header_parameters xs
 
--- a `localparam` isn't overridden; a generate region is no scope
-abbrev mutual
-  pub with_item_parameters : Overrides → List Scope → Constants → Item → Constants
-  with_item_parameters os ss cs (parameter attrs p k.Parameter xs) = with_parameters os ss cs xs
-  with_item_parameters os ss cs (parameter attrs p k.Localparam xs) = with_parameters [] ss cs xs
-  with_item_parameters os ss cs (generate attrs p xs) = with_items_parameters os ss cs xs
-  with_item_parameters os ss cs x = cs
+-- a `localparam` isn't overridden
+abbrev pub with_item_parameters : Overrides → List Scope → Constants → Item → Constants
+with_item_parameters os ss cs (parameter attrs p k.Parameter xs) = with_parameters os ss cs xs
+with_item_parameters os ss cs (parameter attrs p k.Localparam xs) = with_parameters [] ss cs xs
+with_item_parameters os ss cs x = cs
 
-  pub with_items_parameters : Overrides → List Scope → Constants → Items → Constants
-  with_items_parameters os ss cs no_items = cs
-  with_items_parameters os ss cs (more_items x xs) = with_items_parameters os ss (with_item_parameters os ss cs x) xs
+abbrev pub with_items_parameters : Overrides → List Scope → Constants → Items → Constants
+with_items_parameters os ss cs no_items = cs
+with_items_parameters os ss cs (more_items x xs) = with_items_parameters os ss (with_item_parameters os ss cs x) xs
 
 -- ---- names of nets and variables
 
@@ -142,17 +141,15 @@ declared_integers ss c [] = []
 declared_integers ss c (x ∷ xs) = integer_decl ss c x ∷ declared_integers ss c xs
 
 -- what an item declares in its scope
-abbrev mutual
-  pub declared_by : List Scope → Item → List Decl
-  declared_by ss (declaration attrs p d) =
-      declared_names ss (class_of_attributes (class_of_kind d.net) (joined_attributes attrs)) d.shape d.names
-  declared_by ss (integer attrs p xs) = declared_integers ss (class_of_attributes class.Variable (joined_attributes attrs)) xs
-  declared_by ss (generate attrs p xs) = declared ss xs
-  declared_by ss x = []
+abbrev pub declared_by : List Scope → Item → List Decl
+declared_by ss (declaration attrs p d) =
+    declared_names ss (class_of_attributes (class_of_kind d.net) (joined_attributes attrs)) d.shape d.names
+declared_by ss (integer attrs p xs) = declared_integers ss (class_of_attributes class.Variable (joined_attributes attrs)) xs
+declared_by ss x = []
 
-  pub declared : List Scope → Items → List Decl
-  declared ss no_items = []
-  declared ss (more_items x xs) = declared_by ss x ++ declared ss xs
+abbrev pub declared : List Scope → Items → List Decl
+declared ss no_items = []
+declared ss (more_items x xs) = declared_by ss x ++ declared ss xs
 
 -- ---- ports: section 12.3
 
@@ -199,6 +196,7 @@ is_if x = false
 
 abbrev pub label_of : Block → Option (List ℕ)
 label_of (begin p label xs) = label
+label_of (region p xs) = None
 label_of (single x) = None
 
 -- the written labels of a generate construct's blocks, chosen or not; an `if` alone in a block of another `if` is directly
@@ -212,38 +210,27 @@ abbrev mutual
 
   pub block_labels : Block → List (List ℕ)
   block_labels (begin p label xs) = option_to_list label
+  block_labels (region p xs) = []
   block_labels (single x) = let inner = labels_of x in if is_if x then inner else []
 
-abbrev mutual
-  pub names_of : Item → List (List ℕ)
-  names_of (declaration attrs p d) = map (λ x. x.name) d.names
-  names_of (integer attrs p xs) = map (λ x. x.name) xs
-  names_of (genvar attrs p xs) = xs
-  names_of (parameter attrs p kind xs) = map (λ x. x.name) xs
-  names_of (instance attrs p x) = x.name ∷ []
-  names_of (generate attrs p xs) = all_names xs
-  names_of x = labels_of x
+abbrev pub names_of : Item → List (List ℕ)
+names_of (declaration attrs p d) = map (λ x. x.name) d.names
+names_of (integer attrs p xs) = map (λ x. x.name) xs
+names_of (genvar attrs p xs) = xs
+names_of (parameter attrs p kind xs) = map (λ x. x.name) xs
+names_of (instance attrs p x) = x.name ∷ []
+names_of x = labels_of x
 
-  pub all_names : Items → List (List ℕ)
-  all_names no_items = []
-  all_names (more_items x xs) = names_of x ++ all_names xs
+abbrev pub all_names : Items → List (List ℕ)
+all_names no_items = []
+all_names (more_items x xs) = names_of x ++ all_names xs
 
--- how many generate constructs an item is to its scope
-abbrev mutual
-  pub constructs : Item → ℕ
-  constructs (for_loop attrs p head b) = 1
-  constructs (if_only attrs p c b) = 1
-  constructs (if_else attrs p c b d) = 1
-  constructs (generate attrs p xs) = all_constructs xs
-  constructs x = 0
-
-  pub all_constructs : Items → ℕ
-  all_constructs no_items = 0
-  all_constructs (more_items x xs) = constructs x + all_constructs xs
-
-abbrev pub contains_name : List (List ℕ) → List ℕ → Bool
-contains_name [] text = false
-contains_name (n ∷ ns) text = bytes_eq text n || contains_name ns text
+-- how many generate constructs an item is to its scope; a mark of a region is none
+abbrev pub constructs : Item → ℕ
+constructs (for_loop attrs p head b) = 1
+constructs (if_only attrs p c b) = 1
+constructs (if_else attrs p c b d) = 1
+constructs x = 0
 
 -- `genblk`, zeros, and the number
 abbrev pub genblk : ℕ → ℕ → List ℕ

@@ -21,10 +21,11 @@ use Rattle.vl_tree.specs.Stmt.{Stmt, stmts, labels, default, no_arms}
 use Rattle.vl_tree.specs.Item.{Item, declaration, always, assign, genvar, parameter, instance, for_loop, if_only, if_else, no_items, more_items, begin, single}
 use Rattle.vl_size.specs.declared.decl.Class.TheVariants as class
 use Rattle.vl_size.specs.declared.decl.Decl.{Decl}
-use Rattle.vl_size.specs.Size.{Values, no_names}
+use Rattle.vl_size.specs.Size.{Values}
 use Rattle.vl_mean.specs.Constants.{number_of, cut_to}
 use Rattle.vl_mean.specs.Execution.{State, begun, exec}
 use Rattle.vl_mean.specs.FlatLaw.{flat_scopes}
+use Rattle.vl_mean.specs.Scopes.{no_values}
 use Rattle.vl_mean.specs.Parts.{Part, declares, here, plain, plain_target, design}
 
 -- ---- pieces of text
@@ -252,10 +253,10 @@ abbrev pub blocks_design : List Part
 blocks_design = design (blocks ∷ []) (codes "blocks")
 
 -- the full names of all
-abbrev pub declared_in : List Part → List (List ℕ)
-declared_in [] = []
-declared_in (declares d ∷ ps) = d.name ∷ declared_in ps
-declared_in (p ∷ ps) = declared_in ps
+abbrev pub full_names : List Part → List (List ℕ)
+full_names [] = []
+full_names (declares d ∷ ps) = d.name ∷ full_names ps
+full_names (p ∷ ps) = full_names ps
 
 abbrev pub in_blocks : ℕ → Values
 in_blocks c text =
@@ -312,4 +313,4 @@ block = stmt.begin [] here None (stmts (
 
 -- what it makes of the values that are all 0
 abbrev pub after_block : State
-after_block = exec (flat_scopes block_decls) block (begun no_names)
+after_block = exec (flat_scopes block_decls) block (begun no_values)

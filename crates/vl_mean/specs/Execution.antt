@@ -23,9 +23,9 @@ use Rattle.vl_tree.specs.Stmt.{
   labels,
   default,
 }
-use Rattle.vl_size.specs.Bits.{extended}
-use Rattle.vl_size.specs.Size.{Values, own, is_true, no_names}
-use Rattle.vl_mean.specs.Scopes.{Scope, read}
+use Rattle.fv_bits.specs.Bits.{extended}
+use Rattle.vl_size.specs.Size.{Values, own, is_true}
+use Rattle.vl_mean.specs.Scopes.{Scope, read, no_values}
 use Rattle.vl_mean.specs.Targets.{Write, spots, written, put_all, may_change}
 
 -- in the midst of a block: the values of full names, the bits that wait for the block's end, and what was assumed
@@ -58,11 +58,11 @@ module _ (ss : List Scope) where
   -- the largest size, and whether all are signed; neither needs values
   abbrev pub labels_size : List Expr → ℕ
   labels_size [] = 0
-  labels_size (e ∷ es) = max (read ss no_names e).size (labels_size es)
+  labels_size (e ∷ es) = max (read ss no_values e).size (labels_size es)
 
   abbrev pub labels_sign : List Expr → Bool
   labels_sign [] = true
-  labels_sign (e ∷ es) = (read ss no_names e).sign && labels_sign es
+  labels_sign (e ∷ es) = (read ss no_values e).sign && labels_sign es
 
   abbrev pub arms_size : Arms → ℕ
   arms_size no_arms = 0
@@ -113,7 +113,7 @@ module _ (ss : List Scope) where
     otherwise (labels p es x arms) t = otherwise arms t
     otherwise (default p colon x arms) t = exec x t
 
-  -- ---- some assignment of the statement may change a bit of the declared name
+  -- ---- some assignment of the statement may change a bit of a cell
 
   abbrev mutual
     pub assigns : Stmt → List ℕ → ℕ → Bool

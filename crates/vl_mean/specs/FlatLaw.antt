@@ -1,7 +1,7 @@
 -- What a design without hierarchy keeps: nothing in it is refused, so each name, select and target in it has a meaning. What
 -- may be assigned where is IEEE 1364-2005, sections 6.1, 6.2 and 9.2, and which parts are constant sections 4.2.1 and 5.2; the
 -- limits, the clock that is no number, and what a memory may be are rules of this project.
-use Rattle.std.specs.Prelude.{◌≡◌, ℕ, ◌+◌, ◌≤◌, List, [], ◌∷◌, ◌++◌, All, IsSome, Bool, true, false, ◌&&◌, ◌||◌, not, nat_lt, ◌==◌, Option, Some, None, ℤ}
+use Rattle.std.specs.Prelude.{◌≡◌, ℕ, ◌+◌, ◌≤◌, List, [], ◌∷◌, ◌++◌, All, IsSome, Bool, true, false, ◌&&◌, ◌||◌, not, nat_lt, ◌==◌, max, is_none, Option, Some, None, ℤ}
 use Rattle.vl_tree.specs.Expr.{
   Expr,
   Exprs,
@@ -44,6 +44,9 @@ use Rattle.vl_tree.specs.StmtWellFormed.{default_count}
 use Rattle.vl_size.specs.declared.decl.Class.{Class}
 use Rattle.vl_size.specs.declared.decl.Class.TheVariants as class
 use Rattle.vl_size.specs.declared.decl.Decl.{Decl}
+use Rattle.vl_size.specs.declared.context.Context.{Context}
+use Rattle.vl_size.specs.Divisors.{own_context, zero_divisor}
+use Rattle.vl_size.specs.Sign.{sign}
 use Rattle.vl_size.specs.Size.{size, or_none, is_bound}
 use Rattle.vl_size.specs.Table as table
 use Rattle.vl_size.specs.Table.{span}
@@ -51,6 +54,7 @@ use Rattle.vl_mean.specs.declared.driver.Driver.{Driver}
 use Rattle.vl_mean.specs.declared.driver.DriverKind.{DriverKind}
 use Rattle.vl_mean.specs.declared.driver.DriverKind.TheVariants as k
 use Rattle.vl_mean.specs.declared.driver.Start.{Start}
+use Rattle.vl_mean.specs.Execution.{arms_size, arms_sign}
 use Rattle.vl_mean.specs.Parts.{is_clock_decl}
 use Rattle.vl_mean.specs.Scopes.{Scope}
 use Rattle.vl_mean.specs.Targets.{is_decl, are_fixed}
@@ -191,10 +195,15 @@ node_count (d ∷ ds) xs = driver_nodes d.what + node_count ds xs
 
 -- ---- what is read and assigned
 
--- an expression with a size, in which the clock doesn't stand
-pub record IsRead (ds : List Decl) (e : Expr) : Type 0 where
+-- an expression with a size, in which no divisor is 0 in its context, and the clock doesn't stand
+pub record IsReadIn (ds : List Decl) (c : Context) (e : Expr) : Type 0 where
   pub sized : IsSome (size ds e)
+  pub divided : is_none (zero_divisor ds c e) ≡ true
   pub clockless : All (λ text. is_clock_decl (table.named ds text) ≡ false) (names_in e)
+
+-- one that has its own size and sign
+abbrev pub IsRead : List Decl → Expr → Type 0
+IsRead ds e = IsReadIn ds (own_context ds e) e
 
 module _ (ds : List Decl) where
   -- each name is one that may be assigned there, and has constant indices where they have to be
@@ -220,13 +229,26 @@ module _ (ds : List Decl) where
   abbrev pub IsAssigned : (Decl → Bool) → Bool → Lval → Type 0
   IsAssigned may fixed l = IsTarget may fixed l × (target_size l ≤ 128)
 
+  -- the right side of an assignment has the larger of both sizes, and its own sign: section 5.4
+  abbrev pub assigned_context : Lval → Expr → Context
+  assigned_context l e = record { size = Some (max (target_size l) (or_none (size ds e))); signed = sign ds e }
+
+  -- the expression and the labels of a case have the largest size, and are signed where all are: section 9.5
+  abbrev pub case_context : Expr → Arms → Context
+  case_context e arms =
+      let ss = flat_scopes ds in record {
+        size = Some (max (or_none (size ds e)) (arms_size ss arms));
+        signed = sign ds e && arms_sign ss arms;
+      }
+
   abbrev mutual
     pub IsBlock : Stmt → Type 0
     IsBlock (begin attrs p label xs) = AreBlocks xs
     IsBlock (if_only attrs p e x) = IsRead ds e × IsBlock x
     IsBlock (if_else attrs p e x y) = IsRead ds e × (IsBlock x × IsBlock y)
-    IsBlock (case attrs p kind e arms) = IsRead ds e × ((default_count arms ≤ 1) × AreArms arms)
-    IsBlock (assign attrs p l kind e) = IsAssigned is_variable false l × IsRead ds e
+    IsBlock (case attrs p kind e arms) =
+        IsReadIn ds (case_context e arms) e × ((default_count arms ≤ 1) × AreArms (case_context e arms) arms)
+    IsBlock (assign attrs p l kind e) = IsAssigned is_variable false l × IsReadIn ds (assigned_context l e) e
     IsBlock (assume attrs p e) = IsRead ds e
     IsBlock (empty attrs p) = Unit {0}
 
@@ -234,13 +256,13 @@ module _ (ds : List Decl) where
     AreBlocks no_stmts = Unit {0}
     AreBlocks (more_stmts x xs) = IsBlock x × AreBlocks xs
 
-    pub AreArms : Arms → Type 0
-    AreArms no_arms = Unit {0}
-    AreArms (labels p es x arms) = All (IsRead ds) es × (IsBlock x × AreArms arms)
-    AreArms (default p colon x arms) = IsBlock x × AreArms arms
+    pub AreArms : Context → Arms → Type 0
+    AreArms c no_arms = Unit {0}
+    AreArms c (labels p es x arms) = All (IsReadIn ds c) es × (IsBlock x × AreArms c arms)
+    AreArms c (default p colon x arms) = IsBlock x × AreArms c arms
 
   abbrev pub IsDriver : DriverKind → Type 0
-  IsDriver (k.Assign l e) = IsAssigned is_net true l × IsRead ds e
+  IsDriver (k.Assign l e) = IsAssigned is_net true l × IsReadIn ds (assigned_context l e) e
   IsDriver (k.Comb s) = IsBlock s
   IsDriver (k.Clocked s) = IsBlock s
 

@@ -1,3 +1,4 @@
+pub mod Cells
 pub mod Constants
 pub mod Scopes
 pub mod Targets
@@ -9,6 +10,7 @@ pub mod FlatLaw
 pub mod FlatProps
 pub mod FlatParts
 pub mod Examples
+pub mod DesignExamples
 pub mod FlatExamples
 pub mod Params
 pub mod Env

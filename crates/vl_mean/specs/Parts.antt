@@ -40,16 +40,17 @@ use Rattle.vl_tree.specs.Item.{
   no_items,
   more_items,
   begin,
+  region,
   single,
   items,
 }
-use Rattle.vl_size.specs.Bits.{as_int}
+use Rattle.fv_bits.specs.Bits.{as_int}
 use Rattle.vl_size.specs.declared.decl.Class.{Class}
 use Rattle.vl_size.specs.declared.decl.Class.TheVariants as class
 use Rattle.vl_size.specs.declared.decl.Decl.{Decl}
 use Rattle.vl_size.specs.Size.{◌>>=◌, Operand, is_true}
 use Rattle.vl_mean.specs.declared.const_number.Const.{Const}
-use Rattle.vl_mean.specs.Constants.{cut_to, read_constant}
+use Rattle.vl_mean.specs.Constants.{Constants, cut_to, read_constant}
 use Rattle.vl_mean.specs.Scopes.{Scope, constant_in, declared_in}
 use Rattle.vl_mean.specs.Declarations.{Overrides, with_constants, with_parameters, with_items_parameters, header_parameters, declared, declared_by, declared_ports, port_decl, ports_of, port_named, is_if, label_of, all_names, constructs, block_name}
 
@@ -66,8 +67,10 @@ pub data Part : Type 0 where
 
 -- ---- where items stand
 
--- the scopes around, the innermost first, the path of the innermost, and the names that are explicitly declared in it
+-- the scopes over which the bounds in its declarations are read, the scopes in which all else is, the innermost first, the path
+-- of the innermost, and the names that are explicitly declared in it
 pub record Place : Type 0 where
+  pub around : List Scope
   pub scopes : List Scope
   pub path : List ℕ
   pub names : List (List ℕ)
@@ -139,16 +142,24 @@ header_of (Some xs) = xs
 abbrev pub parameter_names : List HeaderParameter → List (List ℕ)
 parameter_names xs = map (λ x. x.parameter.name) xs
 
+-- the constants of a module's instance
+abbrev pub module_constants : Module → Use → Constants
+module_constants m u =
+    let header = with_parameters u.overrides [] [] (header_parameters (header_of m.parameters)) in
+    with_items_parameters u.overrides [] header (items m.items)
+
+-- over which its bounds are read
+abbrev pub module_around : Module → Use → List Scope
+module_around m u = with_constants (module_constants m u) []
+
 -- the scope of a module's instance
 abbrev pub module_scope : Module → Use → List ℕ → Scope
 module_scope m u path =
-    let header = with_parameters u.overrides [] [] (header_parameters (header_of m.parameters)) in
-    let cs = with_items_parameters u.overrides [] header (items m.items) in
-    let ss = with_constants cs [] in
+    let ss = module_around m u in
     record {
       path = path;
       decls = declared_ports ss u.is_top u.input (ports_of m.ports) ++ declared ss (items m.items);
-      constants = cs;
+      constants = module_constants m u;
     }
 
 abbrev pub module_names : Module → List (List ℕ)
@@ -224,9 +235,9 @@ abbrev pub connection_parts : List Scope → List Scope → List FullPort → Li
 connection_parts ss inside ps [] = []
 connection_parts ss inside ps (x ∷ xs) = port_part ss inside (port_named ps x.port) x.value ++ connection_parts ss inside ps xs
 
--- what a module means where it is used so, under a path
+-- what a module means where it is used so, under a path, behind the parts of its connections
 abbrev pub Meaning : Type 0
-Meaning = Module → Use → List ℕ → List Part
+Meaning = Module → Use → List ℕ → List Part → List Part
 
 abbrev pub with_module : Option Module → (Module → List Part) → List Part
 with_module None f = []
@@ -236,7 +247,7 @@ abbrev pub instance_parts : List Module → Meaning → List Scope → List ℕ 
 instance_parts ms inner ss path x =
     let u = use_of ss x in let inside = path ++ x.name ++ codes "." in
     with_module (module_named ms x.definition) (λ m.
-    connection_parts ss (module_scope m u inside ∷ []) (ports_of m.ports) x.connections ++ inner m u inside)
+    inner m u inside (connection_parts ss (module_scope m u inside ∷ []) (ports_of m.ports) x.connections))
 
 -- ---- generate constructs: section 12.4
 
@@ -268,6 +279,7 @@ turn_path path label c = path ++ label ++ codes "[" ++ signed_decimal (as_int c.
 abbrev pub block_place : List Scope → List ℕ → Items → Place
 block_place ss path xs =
     let cs = with_items_parameters [] ss [] xs in record {
+      around = with_constants cs ss;
       scopes = record { path = path; decls = declared (with_constants cs ss) xs; constants = cs } ∷ ss;
       path = path;
       names = all_names xs;
@@ -288,16 +300,16 @@ module _ (ms : List Module) (inner : Meaning) where
     -- an item in its place; n numbers the generate constructs of the scope
     pub item_parts : Item → Place → ℕ → List Part
     item_parts (declaration attrs p d) at n =
-        declares_all at.path (declared_by at.scopes (declaration attrs p d)) ++ values_of at.scopes d.net d.names
+        declares_all at.path (declared_by at.around (declaration attrs p d)) ++ values_of at.scopes d.net d.names
     item_parts (integer attrs p xs) at n =
-        declares_all at.path (declared_by at.scopes (integer attrs p xs)) ++ values_of at.scopes net.Reg xs
+        declares_all at.path (declared_by at.around (integer attrs p xs)) ++ values_of at.scopes net.Reg xs
     item_parts (genvar attrs p xs) at n = []
     item_parts (parameter attrs p kind xs) at n = []
     item_parts (assign attrs p xs) at n = assignments at.scopes xs
     item_parts (always attrs p event s) at n = block_part at.scopes event.kind s ∷ []
     item_parts (initial attrs p s) at n = initial_parts at.scopes s
     item_parts (instance attrs p x) at n = instance_parts ms inner at.scopes at.path x
-    item_parts (generate attrs p xs) at n = items_parts xs at n
+    item_parts (generate attrs p mark) at n = []
     item_parts (for_loop attrs p head b) at n =
         let label = block_name at.names n (label_of b) in
         loop_turns head at.scopes (λ c. turn_parts b (with_genvar head.variable c at.scopes) (turn_path at.path label c))
@@ -315,11 +327,13 @@ module _ (ms : List Module) (inner : Meaning) where
     -- a turn of a loop
     pub turn_parts : Block → List Scope → List ℕ → List Part
     turn_parts (begin p label xs) ss path = items_parts xs (block_place ss path xs) 1
+    turn_parts (region p xs) ss path = items_parts xs (block_place ss path xs) 1
     turn_parts (single x) ss path = item_parts x (block_place ss path (more_items x no_items)) 1
 
     -- the chosen block of an `if`
     pub block_parts : Block → Place → ℕ → List Part
     block_parts (begin p label xs) at n = items_parts xs (block_place at.scopes (block_path at (block_name at.names n label)) xs) 1
+    block_parts (region p xs) at n = items_parts xs (block_place at.scopes (block_path at (block_name at.names n None)) xs) 1
     block_parts (single x) at n = item_parts x (single_place at n x) (single_number n x)
 
 -- ---- modules
@@ -328,20 +342,20 @@ abbrev pub port_kind : Option NetKind → NetKind
 port_kind None = net.Wire
 port_kind (Some kind) = kind
 
-abbrev pub port_parts : List Scope → List ℕ → Use → List FullPort → List Part
-port_parts ss path u [] = []
-port_parts ss path u (p ∷ ps) =
-    declares_all path (port_decl ss u.is_top u.input p ∷ []) ++ optional_value ss (port_kind p.net) p.name p.value
-    ++ port_parts ss path u ps
+abbrev pub port_parts : List Scope → List Scope → List ℕ → Use → List FullPort → List Part
+port_parts around ss path u [] = []
+port_parts around ss path u (p ∷ ps) =
+    declares_all path (port_decl around u.is_top u.input p ∷ []) ++ optional_value ss (port_kind p.net) p.name p.value
+    ++ port_parts around ss path u ps
 
--- with instances no deeper than the number
+-- with instances no deeper than the number: a deeper one drops its connections with it
 abbrev pub unfolded : ℕ → List Module → Meaning
-unfolded zero ms m u path = []
-unfolded (suc n) ms m u path =
+unfolded zero ms m u path connections = []
+unfolded (suc n) ms m u path connections =
     let ss = module_scope m u path ∷ [] in
-    port_parts ss path u (ports_of m.ports)
-    ++ items_parts ms (λ m u path. unfolded n ms m u path) (items m.items)
-    (record { scopes = ss; path = path; names = module_names m }) 1
+    connections ++ port_parts (module_around m u) ss path u (ports_of m.ports)
+    ++ items_parts ms (λ m u path connections. unfolded n ms m u path connections) (items m.items)
+    (record { around = module_around m u; scopes = ss; path = path; names = module_names m }) 1
 
 -- an input of the top module is the clock, the reset, or free
 abbrev pub top_input : List ℕ → Class
@@ -352,4 +366,4 @@ top_input text = if bytes_eq text (codes "clock") then class.Clock else if bytes
 abbrev pub design : List Module → List ℕ → List Part
 design ms top =
     with_module (module_named ms top) (λ m.
-    unfolded (length ms) ms m (record { is_top = true; overrides = []; input = top_input }) [])
+    unfolded (length ms) ms m (record { is_top = true; overrides = []; input = top_input }) [] [])

@@ -1,14 +1,14 @@
 -- Which maps of full names to numbers a design allows, from cycle to cycle. IEEE 1364-2005, sections 6.1, 9.2, 9.7.5, 9.9 and
 -- 12.3; that a net or variable holds a number in place of four-valued bits, `assume`, and the free names are rules of this
 -- project.
-use Rattle.std.specs.Prelude.{◌≡◌, ℕ, zero, suc, ◌+◌, ◌^◌, ◌<◌, ◌==◌, List, [], ◌∷◌, ◌++◌, length, Bool, true, false, ◌&&◌, ◌||◌, not, Option, Some, None, ℤ, pos, ◌+ℤ◌, ◌-ℤ◌, int_le, bytes_eq, if◌then◌else◌}
+use Rattle.std.specs.Prelude.{◌≡◌, ℕ, zero, suc, ◌+◌, ◌^◌, ◌<◌, ◌==◌, List, [], ◌∷◌, ◌++◌, length, Bool, true, false, ◌&&◌, ◌||◌, not, Option, Some, None, bytes_eq, if◌then◌else◌}
 use Rattle.vl_tree.specs.Stmt.{Stmt}
 use Rattle.vl_size.specs.declared.decl.Class.{Class}
 use Rattle.vl_size.specs.declared.decl.Class.TheVariants as class
 use Rattle.vl_size.specs.declared.decl.Decl.{Decl}
-use Rattle.vl_size.specs.Size.{Values, no_names}
-use Rattle.vl_size.specs.Table.{span, word_name}
-use Rattle.vl_mean.specs.Scopes.{Scope}
+use Rattle.vl_size.specs.Size.{Values}
+use Rattle.vl_mean.specs.Cells.{cells}
+use Rattle.vl_mean.specs.Scopes.{Scope, no_values}
 use Rattle.vl_mean.specs.Targets.{Write, bit_of}
 use Rattle.vl_mean.specs.Execution.{begun, ended, assigned, exec, assigns}
 use Rattle.vl_mean.specs.Parts.{Part, declares, equation, combinational, clocked, starts}
@@ -44,21 +44,9 @@ abbrev pub OnlyIf : Bool → Type 0 → Type 0
 OnlyIf true P = P
 OnlyIf false P = Unit {0}
 
--- ---- the names that hold numbers: a vector, or each word of a memory, from the left bound on
+-- ---- each bit of each name
 
--- names of n words, upwards or downwards from an index
-abbrev pub words_from : List ℕ → ℕ → Bool → ℤ → List (List ℕ)
-words_from memory zero up i = []
-words_from memory (suc n) up i = word_name memory i ∷ words_from memory n up (if up then i +ℤ pos 1 else i -ℤ pos 1)
-
-abbrev pub cells_of : List ℕ → Option (ℤ × ℤ) → List (List ℕ)
-cells_of text None = text ∷ []
-cells_of text (Some bounds) = words_from text (span bounds.0 bounds.1) (int_le bounds.0 bounds.1) bounds.0
-
-abbrev pub cells : Decl → List (List ℕ)
-cells d = cells_of d.name d.words
-
--- P of each bit of each of them
+-- P of each bit of each cell
 abbrev pub EachBit : (List ℕ → ℕ → Type 0) → Decl → Type 0
 EachBit P d = Each (λ text. EachBelow (λ k. P text k) d.width) (cells d)
 
@@ -74,9 +62,14 @@ EachDeclared P [] = Unit {0}
 EachDeclared P (declares d ∷ ps) = P d × EachDeclared P ps
 EachDeclared P (p ∷ ps) = EachDeclared P ps
 
--- both have one number for each declared name
+-- both have one number for each cell; the clock has none
+abbrev pub AgreesAt : Values → Values → Decl → Class → Type 0
+AgreesAt u v d class.Clock = Unit {0}
+AgreesAt u v d c = Each (λ text. u text ≡ v text) (cells d)
+
+-- the maps are one on all declared names but the clock
 abbrev pub Agrees : List Part → Values → Values → Type 0
-Agrees ps u v = EachDeclared (λ d. Each (λ text. u text ≡ v text) (cells d)) ps
+Agrees ps u v = EachDeclared (λ d. AgreesAt u v d d.class) ps
 
 -- numbers of the declared width; the clock has none
 abbrev pub InRange : Values → Decl → Class → Type 0
@@ -117,17 +110,34 @@ abbrev pub is_assigned : List Part → List ℕ → ℕ → Bool
 is_assigned [] n k = false
 is_assigned (p ∷ ps) n k = is_assigned_by p n k || is_assigned ps n k
 
+-- ---- what is free in a map
+
+-- a bit that nothing in the cycle gives: of an input, the reset, a name that is free in each cycle or once, and of a variable
+-- where no combinational block drives it
+abbrev pub is_chosen : List Part → Class → List ℕ → ℕ → Bool
+is_chosen ps class.Input n k = true
+is_chosen ps class.Reset n k = true
+is_chosen ps class.EachCycle n k = true
+is_chosen ps class.Once n k = true
+is_chosen ps class.Variable n k = not (is_driven ps n k)
+is_chosen ps class.Net n k = false
+is_chosen ps class.Clock n k = false
+
+-- the maps make the same choice
+abbrev pub ChoosesAlike : List Part → Values → Values → Type 0
+ChoosesAlike ps u v = EachDeclared (λ d. EachBit (λ text k. OnlyIf (is_chosen ps d.class text k) (bit_of (u text) k ≡ bit_of (v text) k)) d) ps
+
 -- ---- the next values
 
 -- what the block assigns has the value that stands at the block's end
 abbrev pub Clocks : List Part → Values → Values → List Scope → Stmt → Type 0
 Clocks ps v u ss s =
     let after = ended (exec ss s (begun v)) in
-    EachDeclared (λ d. EachBit (λ text k. OnlyIf (assigns ss s d.name k) (bit_of (u text) k ≡ bit_of (after text) k)) d) ps
+    EachDeclared (λ d. EachBit (λ text k. OnlyIf (assigns ss s text k) (bit_of (u text) k ≡ bit_of (after text) k)) d) ps
 
 -- a bit of a variable that no block assigns keeps its value
 abbrev pub Keeps : List Part → Values → Values → Decl → Class → Type 0
-Keeps ps v u d class.Variable = EachBit (λ text k. OnlyIf (not (is_assigned ps d.name k)) (bit_of (u text) k ≡ bit_of (v text) k)) d
+Keeps ps v u d class.Variable = EachBit (λ text k. OnlyIf (not (is_assigned ps text k)) (bit_of (u text) k ≡ bit_of (v text) k)) d
 Keeps ps v u d c = Unit {0}
 
 abbrev pub PartSteps : List Part → Values → Values → Part → Type 0
@@ -144,7 +154,7 @@ Next ps v u = Each (PartSteps ps v u) ps
 -- initial values are constant
 abbrev pub initial_writes : List Part → List Write
 initial_writes [] = []
-initial_writes (starts ss l e ∷ ps) = assigned ss l ss e no_names ++ initial_writes ps
+initial_writes (starts ss l e ∷ ps) = assigned ss l ss e no_values ++ initial_writes ps
 initial_writes (p ∷ ps) = initial_writes ps
 
 abbrev pub is_spot : Write → List ℕ → ℕ → Bool
@@ -166,7 +176,7 @@ Begins (Some y) x = x ≡ y
 abbrev pub PartBegins : List Part → Values → Part → Type 0
 PartBegins ps v (declares d) =
     EachBit (λ text k.
-    OnlyIf (not (is_driven ps d.name k)) (Begins (last_value (initial_writes ps) text k) (bit_of (v text) k))) d
+    OnlyIf (not (is_driven ps text k)) (Begins (last_value (initial_writes ps) text k) (bit_of (v text) k))) d
 PartBegins ps v p = Unit {0}
 
 -- each bit with an initial value has it, but for those that a combinational block drives

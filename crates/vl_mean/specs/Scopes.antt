@@ -1,14 +1,13 @@
 -- Scopes, and what a name means in them. IEEE 1364-2005, sections 12.4, 12.5 and 12.7: a name means what the innermost scope
 -- that declares it declares, and a full name joins the names of the scopes by dots. The top module's name stays out of it: a
 -- rule of this project.
-use Rattle.std.specs.Prelude.{ℕ, ◌+◌, List, [], ◌∷◌, ◌++◌, length, take, codes, Bool, true, false, ◌&&◌, ◌||◌, not, is_none, Option, Some, None, bytes_eq, if◌then◌else◌}
+use Rattle.std.specs.Prelude.{ℕ, List, [], ◌∷◌, ◌++◌, Bool, true, false, Option, Some, None, if◌then◌else◌}
 use Rattle.vl_tree.specs.Expr.{Expr}
 use Rattle.vl_size.specs.declared.decl.Decl.{Decl}
-use Rattle.vl_size.specs.Size.{Values, Operand}
+use Rattle.vl_size.specs.Size.{Values, Operand, cell_name}
 use Rattle.vl_size.specs.Table.{is_declared, named}
 use Rattle.vl_mean.specs.declared.const_number.Const.{Const}
-use Rattle.vl_mean.specs.Constants as constants
-use Rattle.vl_mean.specs.Constants.{Constants, constant_of}
+use Rattle.vl_mean.specs.Constants.{Constants, constant_of, settled_operand}
 
 -- a module's instance, a generate block or a turn of a generate loop: what stands before the names in it, and what it declares
 -- under the names as they are written
@@ -17,18 +16,10 @@ pub record Scope : Type 0 where
   pub decls : List Decl
   pub constants : Constants
 
--- the name of a memory's word, as it is written with its index
-abbrev pub is_word_of : Decl → List ℕ → Bool
-is_word_of d text = not (is_none d.words) && bytes_eq (take (length d.name + 1) text) (d.name ++ codes "[")
-
-abbrev pub has_word : List Decl → List ℕ → Bool
-has_word [] text = false
-has_word (d ∷ ds) text = is_word_of d text || has_word ds text
-
--- the full name of a name, or of a memory's word: the scopes stand with the innermost first
+-- the full name of a name: the scopes stand with the innermost first
 abbrev pub full : List Scope → List ℕ → List ℕ
 full [] text = text
-full (s ∷ ss) text = if is_declared s.decls text || has_word s.decls text then s.path ++ text else full ss text
+full (s ∷ ss) text = if is_declared s.decls text then s.path ++ text else full ss text
 
 abbrev pub constant_unless : Option Const → Bool → Option Const → Option Const
 constant_unless (Some c) hidden outer = Some c
@@ -53,6 +44,11 @@ unless_constant (Some c) d = None
 abbrev pub declared_in : List Scope → List ℕ → Option Decl
 declared_in ss text = unless_constant (constant_in ss text) (named (visible ss) text)
 
--- an expression in scopes: its size and sign by itself, and its number in each context, over the values of full names
+-- each name has the number 0
+abbrev pub no_values : Values
+no_values text = 0
+
+-- an expression in scopes: its size and sign by itself, and its number in each context, over the values of full names; a
+-- memory's word has the index behind the memory's full name
 abbrev pub read : List Scope → Values → Expr → Operand
-read ss v e = constants.read (constant_in ss) (visible ss) (λ text. v (full ss text)) e
+read ss v e = settled_operand (constant_in ss) (visible ss) (λ text index. v (cell_name (full ss text) index)) e

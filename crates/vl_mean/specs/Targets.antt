@@ -4,10 +4,11 @@ use Rattle.std.specs.Prelude.{ℕ, zero, suc, ◌+◌, ◌-◌, ◌*◌, ◌/◌
 use Rattle.vl_tree.specs.Expr.{Selects, whole, bit, part, indexed}
 use Rattle.vl_tree.specs.Lval.{Lval, Lvals, named, joined, no_lvals, more_lvals}
 use Rattle.vl_size.specs.declared.decl.Decl.{Decl}
-use Rattle.vl_size.specs.Size.{Values, index_of, place_of, start_of, is_constant, no_names}
+use Rattle.vl_size.specs.Size.{Values, index_of, place_of, start_of, is_constant}
 use Rattle.vl_size.specs.Table.{span, is_between, word_name}
 use Rattle.vl_mean.specs.Constants.{settled}
-use Rattle.vl_mean.specs.Scopes.{Scope, full, constant_in, declared_in, read}
+use Rattle.vl_mean.specs.Cells.{is_cell}
+use Rattle.vl_mean.specs.Scopes.{Scope, full, constant_in, declared_in, read, no_values}
 
 -- a bit of a full name, counted from its lowest
 pub record Spot : Type 0 where
@@ -48,18 +49,19 @@ abbrev pub spots_from : ℕ → ℕ → Option (List ℕ) → ℤ → List (Opti
 spots_from zero w text i = []
 spots_from (suc n) w text i = spot_at w text (i +ℤ pos n) ∷ spots_from n w text i
 
--- the word of a memory at an index, where there is one
-abbrev pub word_at : Decl → Option (ℤ × ℤ) → ℤ → Option (List ℕ)
-word_at d None i = None
-word_at d (Some bounds) i = if is_between bounds.0 bounds.1 i then Some (word_name d.name i) else None
+-- the index of a word, where it lies between the bounds
+abbrev pub word_index : Option (ℤ × ℤ) → ℤ → Option ℤ
+word_index None i = None
+word_index (Some bounds) i = if is_between bounds.0 bounds.1 i then Some i else None
 
-abbrev pub full_word : List Scope → Option (List ℕ) → Option (List ℕ)
-full_word ss None = None
-full_word ss (Some text) = Some (full ss text)
+-- the word of a memory, by its full name
+abbrev pub full_word : List ℕ → Option ℤ → Option (List ℕ)
+full_word memory None = None
+full_word memory (Some i) = Some (word_name memory i)
 
-abbrev pub with_decl : Option Decl → (Decl → List (Option Spot)) → List (Option Spot)
-with_decl None f = []
-with_decl (Some d) f = f d
+abbrev pub spots_of : Option Decl → (Decl → List (Option Spot)) → List (Option Spot)
+spots_of None f = []
+spots_of (Some d) f = f d
 
 abbrev pub is_decl : Option Decl → (Decl → Bool) → Bool
 is_decl None f = false
@@ -71,10 +73,11 @@ written [] x = []
 written (None ∷ spots) x = written spots x
 written (Some s ∷ spots) x = record { spot = s; value = bit_of x (length spots) } ∷ written spots x
 
-abbrev pub has_bit : ℕ → List (Option Spot) → Bool
-has_bit k [] = false
-has_bit k (None ∷ spots) = has_bit k spots
-has_bit k (Some s ∷ spots) = (k == s.bit) || has_bit k spots
+-- the bit of the cell is among them
+abbrev pub has_spot : List ℕ → ℕ → List (Option Spot) → Bool
+has_spot n k [] = false
+has_spot n k (None ∷ spots) = has_spot n k spots
+has_spot n k (Some s ∷ spots) = (bytes_eq n s.name && (k == s.bit)) || has_spot n k spots
 
 module _ (ss : List Scope) where
   -- of a vector
@@ -90,12 +93,12 @@ module _ (ss : List Scope) where
 
   -- of a memory: a word, or a part of it
   abbrev pub word_spots : Values → Decl → Selects → List (Option Spot)
-  word_spots v d (bit p i xs) = vector_spots v d (full_word ss (word_at d d.words (index_of (read ss v i)))) xs
+  word_spots v d (bit p i xs) = vector_spots v d (full_word (full ss d.name) (word_index d.words (index_of (read ss v i)))) xs
   word_spots v d xs = []
 
   abbrev pub name_spots : Values → List ℕ → Selects → List (Option Spot)
   name_spots v text xs =
-      with_decl (declared_in ss text) (λ d.
+      spots_of (declared_in ss text) (λ d.
       if is_none d.words then vector_spots v d (Some (full ss text)) xs else word_spots v d xs)
 
   abbrev mutual
@@ -116,16 +119,17 @@ module _ (ss : List Scope) where
   are_fixed (part p l r xs) = are_fixed xs
   are_fixed (indexed p s n xs) = is_constant (settled (constant_in ss) s) && are_fixed xs
 
-  -- the bits that its selects name, where they are constant, and else all; of a memory all bits of all words
-  abbrev pub name_may_change : List ℕ → Selects → ℕ → Bool
-  name_may_change text xs k =
+  -- the bits that its selects name, where they are constant; where an index varies, each bit of the vector, or of each word of
+  -- the memory
+  abbrev pub name_may_change : List ℕ → Selects → List ℕ → ℕ → Bool
+  name_may_change text xs n k =
       is_decl (declared_in ss text) (λ d.
-      not (is_none d.words) || (if are_fixed xs then has_bit k (name_spots no_names text xs) else nat_lt k d.width))
+      if are_fixed xs then has_spot n k (name_spots no_values text xs) else is_cell (full ss text) d.words n && nat_lt k d.width)
 
-  -- a bit of the declared name, the full one
+  -- a bit of a cell, by its full name
   abbrev mutual
     pub may_change : Lval → List ℕ → ℕ → Bool
-    may_change (named p text xs) n k = bytes_eq (full ss text) n && name_may_change text xs k
+    may_change (named p text xs) n k = name_may_change text xs n k
     may_change (joined p ls) n k = any_may_change ls n k
 
     pub any_may_change : Lvals → List ℕ → ℕ → Bool

@@ -2,7 +2,7 @@ ghost use Rattle.std.specs.Prelude.{◌≡◌};
 ghost use Rattle.vl_mean.specs.Constants as spec;
 
 use crate::const_number::Const;
-use vl_size::bits::low;
+use fv_bits::low;
 
 impl Const {
     /// The lowest bits of a number; a width counts as one from 1 to 128.

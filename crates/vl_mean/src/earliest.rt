@@ -4,6 +4,7 @@ ghost use Rattle.vl_mean.specs.ConstantFaults as spec;
 
 use crate::const_fault::ConstFault;
 use fv_base::Pos;
+use vl_size::earlier::is_earlier;
 
 /// The one at the earlier place, or at one place the first in the order of faults; of two alike the first.
 pub(crate) fn earlier(first: Option<ConstFault>, second: Option<ConstFault>) -> Option<ConstFault>
@@ -23,28 +24,16 @@ pub(crate) fn earlier(first: Option<ConstFault>, second: Option<ConstFault>) -> 
 fn comes_before(first: &ConstFault, second: &ConstFault) -> bool
     ensures { result ≡ spec.comes_before first.now second.now }
 {
-    let p = place_of(first);
-    let q = place_of(second);
+    let p = fault_place(first);
+    let q = fault_place(second);
     if is_earlier(p, q) {
         return true;
     }
     !is_earlier(q, p) && rank(first) < rank(second)
 }
 
-fn is_earlier(p: Pos, q: Pos) -> bool
-    ensures { result ≡ spec.is_earlier p q }
-{
-    if p.file != q.file {
-        return p.file < q.file;
-    }
-    if p.line != q.line {
-        return p.line < q.line;
-    }
-    p.col < q.col
-}
-
-fn place_of(fault: &ConstFault) -> Pos
-    ensures { result ≡ spec.place_of fault.now }
+fn fault_place(fault: &ConstFault) -> Pos
+    ensures { result ≡ spec.fault_place fault.now }
 {
     match fault {
         ConstFault::NotConstant(pos) | ConstFault::ZeroDivisor(pos) | ConstFault::Range(pos) =>

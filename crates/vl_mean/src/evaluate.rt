@@ -3,23 +3,22 @@ ghost use Rattle.std.specs.Prelude.{◌≡◌, ◌<◌, ◌≤◌, ◌^◌, IfSo
 ghost use Rattle.std.specs.Option.{option_map};
 ghost use Rattle.vl_tree.specs.Expr.{exprs, whole};
 ghost use Rattle.vl_tree.specs.ExprView.{selects, with_select};
-ghost use Rattle.vl_size.specs.Bits.{as_int};
+ghost use Rattle.fv_bits.specs.Bits.{as_int};
 ghost use Rattle.vl_size.specs.Sign.{sign};
 ghost use Rattle.vl_size.specs.Size as spec;
 ghost use Rattle.vl_size.specs.Size.{or_none, some_bits};
 ghost use Rattle.vl_size.specs.Way.{way};
 ghost use Rattle.vl_mean.specs.Constants.{operand_in};
-ghost use Rattle.vl_mean.specs.Env.{values_of};
+ghost use Rattle.vl_mean.specs.Env.{cells_of};
 
 use crate::env::Env;
 use crate::join::repeated;
 use crate::select::{indexed, part};
-use vl_size::bits::{bit, complement, negative};
+use fv_bits::{bit, complement, extended, negative};
 use vl_size::operation::{arithmetic, compared, reduced, shifted};
 use vl_size::place::selected_bit;
 use vl_size::select::{appended, plus, some_bits};
-use vl_size::signed::extended;
-use vl_size::{Decl, Own, sign_of, size_of};
+use vl_size::{Decl, Own, self_size, sign_of};
 use vl_tree::{BinaryOperator, Expr, ExprKind, Select, UnaryOperator};
 
 /// The number that the expression has where its size and sign come from its context (IEEE 1364-2005, sections 5.4 and 5.5):
@@ -29,7 +28,7 @@ use vl_tree::{BinaryOperator, Expr, ExprKind, Select, UnaryOperator};
 #[tactic(auto, using(vl_tree::specs::ExprFalls::parts_fall))]
 pub fn value(expr: &Expr, width: u32, signed: bool, env: &Env) -> u128
     requires { width ≤ 128 }
-    ensures value { result ≡ spec.value env.now.decls (values_of env.now) width signed expr.now }
+    ensures value { result ≡ spec.value env.now.decls (cells_of env.now) width signed expr.now }
     ensures fits { result < 2 ^ width }
 {
     match &expr.kind {
@@ -68,7 +67,7 @@ pub fn value(expr: &Expr, width: u32, signed: bool, env: &Env) -> u128
 #[cycle(value)]
 fn unary_value(operator: UnaryOperator, operand: &Expr, width: u32, signed: bool, env: &Env) -> u128
     requires { width ≤ 128 }
-    ensures value { let x = operand_in env.now.decls (values_of env.now) operand.now in
+    ensures value { let x = operand_in env.now.decls (cells_of env.now) operand.now in
         result ≡ spec.unary_number operator width signed x }
     ensures fits { result < 2 ^ width }
 {
@@ -98,8 +97,8 @@ fn binary_value(
     env: &Env,
 ) -> u128
     requires { width ≤ 128 }
-    ensures value { let x = operand_in env.now.decls (values_of env.now) left.now in
-        let y = operand_in env.now.decls (values_of env.now) right.now in
+    ensures value { let x = operand_in env.now.decls (cells_of env.now) left.now in
+        let y = operand_in env.now.decls (cells_of env.now) right.now in
         result ≡ spec.binary_number (way operator) operator width signed x y }
     ensures fits { result < 2 ^ width }
 {
@@ -137,8 +136,8 @@ fn binary_value(
 /// Both operands at the larger of their sizes, signed where both are; of `&&` and `||` each by itself.
 #[cycle(value)]
 fn tested(operator: BinaryOperator, left: &Expr, right: &Expr, env: &Env) -> bool
-    ensures { let x = operand_in env.now.decls (values_of env.now) left.now in
-        let y = operand_in env.now.decls (values_of env.now) right.now in
+    ensures { let x = operand_in env.now.decls (cells_of env.now) left.now in
+        let y = operand_in env.now.decls (cells_of env.now) right.now in
         result ≡ spec.tested operator x y }
 {
     match operator {
@@ -159,7 +158,7 @@ pub(crate) fn own_size(expr: &Expr, env: &Env) -> u32
     ensures value { result ≡ or_none (spec.size env.now.decls expr.now) }
     ensures few { result ≤ 128 }
 {
-    match size_of(expr, &env.decls) {
+    match self_size(expr, &env.decls) {
         None => 0,
         Some(size) => size,
     }
@@ -168,7 +167,7 @@ pub(crate) fn own_size(expr: &Expr, env: &Env) -> u32
 /// Whether the value by itself isn't 0.
 #[cycle(value)]
 fn is_true(expr: &Expr, env: &Env) -> bool
-    ensures { result ≡ spec.is_true (operand_in env.now.decls (values_of env.now) expr.now) }
+    ensures { result ≡ spec.is_true (operand_in env.now.decls (cells_of env.now) expr.now) }
 {
     own(expr, env).number != 0
 }
@@ -178,8 +177,8 @@ fn is_true(expr: &Expr, env: &Env) -> bool
 pub(crate) fn own(expr: &Expr, env: &Env) -> Own
     ensures width { result.width ≡ or_none (spec.size env.now.decls expr.now) }
     ensures signed { result.signed ≡ sign env.now.decls expr.now }
-    ensures number { result.number ≡ spec.value env.now.decls (values_of env.now) result.width result.signed expr.now }
-    ensures index { as_int result.width result.signed result.number ≡ spec.index_of (operand_in env.now.decls (values_of env.now) expr.now) }
+    ensures number { result.number ≡ spec.value env.now.decls (cells_of env.now) result.width result.signed expr.now }
+    ensures index { as_int result.width result.signed result.number ≡ spec.index_of (operand_in env.now.decls (cells_of env.now) expr.now) }
 {
     let width = own_size(expr, env);
     let signed = sign_of(expr, &env.decls);
@@ -196,7 +195,7 @@ pub(crate) fn own(expr: &Expr, env: &Env) -> Own
 #[tactic(auto, using(crate::proofs::Joined::parts))]
 fn joined(all: &[Expr], env: &Env) -> Option<Own>
     ensures sizes { option_map (λ own. own.width) result ≡ some_bits (spec.sizes env.now.decls (exprs all.now)) }
-    ensures value { IfSome result (λ own. own.number ≡ spec.joined env.now.decls (values_of env.now) (exprs all.now)) }
+    ensures value { IfSome result (λ own. own.number ≡ spec.joined env.now.decls (cells_of env.now) (exprs all.now)) }
     ensures some { IfSome result (λ own. 1 ≤ own.width) }
 {
     let mut width = 0;
@@ -204,7 +203,7 @@ fn joined(all: &[Expr], env: &Env) -> Option<Own>
     let mut place = all.len();
     while place > 0 {
         place -= 1;
-        let more = size_of(&all[place], &env.decls)?;
+        let more = self_size(&all[place], &env.decls)?;
         let longer = plus(more, width)?;
         number = appended(own(&all[place], env).number, more, width, number);
         width = longer;
@@ -223,9 +222,9 @@ fn name_value(decl: &Decl, all: &[Select], width: u32, signed: bool, env: &Env) 
     requires few { width ≤ 128 }
     requires decl { decl.now.width ≤ 128 }
     ensures value { let ds = env.now.decls in
-        let v = values_of env.now in
+        let v = cells_of env.now in
         let ss = selects all.now in
-        result ≡ (if is_none decl.now.words then spec.vector_value ds v width signed decl.now (v decl.now.name) ss else spec.word_value ds v width signed decl.now ss) }
+        result ≡ (if is_none decl.now.words then spec.vector_value ds v width signed decl.now (v decl.now.name None) ss else spec.word_value ds v width signed decl.now ss) }
     ensures fits { result < 2 ^ width }
 {
     if decl.words.is_none() {
@@ -263,7 +262,7 @@ fn select_value(
 ) -> u128
     requires few { width ≤ 128 }
     requires decl { decl.now.width ≤ 128 }
-    ensures value { result ≡ spec.vector_value env.now.decls (values_of env.now) width signed decl.now number (with_select select.now whole) }
+    ensures value { result ≡ spec.vector_value env.now.decls (cells_of env.now) width signed decl.now number (with_select select.now whole) }
     ensures fits { result < 2 ^ width }
 {
     match select {

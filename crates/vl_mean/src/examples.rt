@@ -1,7 +1,7 @@
 //! Small designs with maps that hold and maps that don't: what the definitions say of them.
 ghost use Rattle.std.specs.Prelude.{◌≡◌, ◌∷◌, [], codes};
 ghost use Rattle.vl_mean.specs.Execution.{ended};
-ghost use Rattle.vl_mean.specs.Examples.{after_block, blocks_design, choice_design, chosen, counter_design, counts, declared_in, exchange_design, in_blocks, looped_design, pair, turns};
+ghost use Rattle.vl_mean.specs.Examples.{after_block, blocks_design, choice_design, chosen, counter_design, counts, full_names, exchange_design, in_blocks, looped_design, pair, turns};
 ghost use Rattle.vl_mean.specs.FlatExamples as flat;
 ghost use Rattle.vl_mean.specs.FlatLaw.{IsLawful};
 ghost use Rattle.vl_mean.specs.Parts.{plain, plain_target};
@@ -34,7 +34,7 @@ pub fn two_blocks_exchange()
 /// Each turn of a generate loop has an instance of its own, with the loop's variable as its parameter.
 #[tactic(auto, using(crate::proofs::Maps::maps))]
 pub fn a_loop_makes_instances()
-    ensures names { declared_in looped_design ≡ codes "o" ∷ codes "g[0].u.y" ∷ codes "g[0].u.w" ∷ codes "g[1].u.y" ∷ codes "g[1].u.w" ∷ [] }
+    ensures names { full_names looped_design ≡ codes "o" ∷ codes "g[0].u.y" ∷ codes "g[0].u.w" ∷ codes "g[1].u.y" ∷ codes "g[1].u.w" ∷ [] }
     ensures holds { Holds looped_design (turns 2 0 1) }
     ensures not_turned { Holds looped_design (turns 1 1 0) → ⊥ }
     ensures not_apart { Holds looped_design (turns 1 0 1) → ⊥ }
@@ -44,7 +44,7 @@ pub fn a_loop_makes_instances()
 /// `if` makes no scope.
 #[tactic(auto, using(crate::proofs::Maps::maps))]
 pub fn blocks_without_labels_have_names()
-    ensures names { declared_in blocks_design ≡ codes "genblk1.a" ∷ codes "genblk2.genblk1.b" ∷ codes "genblk3" ∷ codes "genblk03.c" ∷ [] }
+    ensures names { full_names blocks_design ≡ codes "genblk1.a" ∷ codes "genblk2.genblk1.b" ∷ codes "genblk3" ∷ codes "genblk03.c" ∷ [] }
     ensures holds { Holds blocks_design (in_blocks 1) }
     ensures not_zero { Holds blocks_design (in_blocks 0) → ⊥ }
 {}

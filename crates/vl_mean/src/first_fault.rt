@@ -1,30 +1,46 @@
 //! The earliest fault in an expression that isn't a constant.
-ghost use Rattle.std.specs.Prelude.{◌≡◌, ◌&&◌};
+ghost use Rattle.std.specs.Prelude.{◌≡◌};
 ghost use Rattle.fv_base.specs.declared.pos.Pos.{Pos};
 ghost use Rattle.vl_tree.specs.Expr as tree;
 ghost use Rattle.vl_tree.specs.Expr.{exprs};
 ghost use Rattle.vl_tree.specs.ExprView.{selects, with_select};
-ghost use Rattle.vl_size.specs.Sign.{sign};
-ghost use Rattle.vl_size.specs.Size as size_spec;
+ghost use Rattle.fv_bits.specs.Bits.{as_int};
 ghost use Rattle.vl_mean.specs.ConstantFaults as spec;
-ghost use Rattle.vl_mean.specs.Env.{values_of};
+ghost use Rattle.vl_mean.specs.Env.{cells_of};
 ghost use Rattle.vl_mean.specs.Params.{constant};
 
 use crate::const_fault::ConstFault;
 use crate::earliest::earlier;
 use crate::env::Env;
-use crate::evaluate::{own, own_size, value};
+use crate::evaluate::own;
 use crate::params::Params;
-use crate::wide::{wide, wide_part, wide_select, wide_times};
+use crate::wide::{bound, wide, wide_part, wide_select, wide_times};
 use fv_base::{Pos, Text};
-use vl_size::{sign_of, size_of};
-use vl_tree::{BinaryOperator, Expr, ExprKind, Select};
+use vl_size::{Own, own_zero_divisor, selects_zero_divisor, size_of};
+use vl_tree::{Expr, ExprKind, Select};
 
-/// The earliest fault in an expression, in which numbers stand in place of constants.
+/// The earliest fault in a whole expression, in which numbers stand in place of constants.
+pub(crate) fn first_fault(expr: &Expr, params: &Params, env: &Env) -> Option<ConstFault>
+    ensures { result ≡ spec.first_fault (constant params.now) env.now.decls (cells_of env.now) expr.now }
+{
+    let divisor = divisor_fault(own_zero_divisor(expr, env.decls()));
+    earlier(fault(expr, params, env), divisor)
+}
+
+fn divisor_fault(place: Option<Pos>) -> Option<ConstFault>
+    ensures { result ≡ spec.divisor_fault place }
+{
+    match place {
+        None => None,
+        Some(pos) => Some(ConstFault::ZeroDivisor(pos)),
+    }
+}
+
+/// The earliest fault in an expression, but for its divisors.
 #[cycle(fault)]
 #[tactic(auto, using(vl_tree::specs::ExprFalls::parts_fall))]
-pub(crate) fn fault(expr: &Expr, params: &Params, env: &Env) -> Option<ConstFault>
-    ensures { result ≡ spec.fault (constant params.now) env.now.decls (values_of env.now) expr.now }
+fn fault(expr: &Expr, params: &Params, env: &Env) -> Option<ConstFault>
+    ensures { result ≡ spec.fault (constant params.now) env.now.decls (cells_of env.now) expr.now }
 {
     let too_wide = too_wide(expr.pos, wide(expr, params, env));
     match &expr.kind {
@@ -37,10 +53,9 @@ pub(crate) fn fault(expr: &Expr, params: &Params, env: &Env) -> Option<ConstFaul
             fault(inner, params, env),
             too_wide,
         ),
-        ExprKind::Binary(operator, left, right) => {
+        ExprKind::Binary(_, left, right) => {
             let inner = earlier(fault(left, params, env), fault(right, params, env));
-            let own = zero_divisor(expr.pos, *operator, left, right, env);
-            earlier(inner, earlier(own, too_wide))
+            earlier(inner, too_wide)
         }
         ExprKind::Conditional(condition, first, second) => {
             let both = earlier(fault(first, params, env), fault(second, params, env));
@@ -66,7 +81,7 @@ pub(crate) fn fault(expr: &Expr, params: &Params, env: &Env) -> Option<ConstFaul
 #[cycle(fault)]
 #[tactic(auto, using(crate::proofs::Joined::parts))]
 fn faults(all: &[Expr], params: &Params, env: &Env) -> Option<ConstFault>
-    ensures { result ≡ spec.faults (constant params.now) env.now.decls (values_of env.now) (exprs all.now) }
+    ensures { result ≡ spec.faults (constant params.now) env.now.decls (cells_of env.now) (exprs all.now) }
 {
     let mut found = None;
     let mut place = all.len();
@@ -81,7 +96,7 @@ fn faults(all: &[Expr], params: &Params, env: &Env) -> Option<ConstFault>
 #[cycle(fault)]
 #[tactic(auto, using(crate::proofs::Joined::parts))]
 fn selects_fault(all: &[Select], params: &Params, env: &Env) -> Option<ConstFault>
-    ensures { result ≡ spec.selects_fault (constant params.now) env.now.decls (values_of env.now) (selects all.now) }
+    ensures { result ≡ spec.selects_fault (constant params.now) env.now.decls (cells_of env.now) (selects all.now) }
 {
     let mut found = None;
     let mut place = all.len();
@@ -112,7 +127,7 @@ fn bracket(select: &Select) -> Pos
 /// The earliest fault within a select.
 #[cycle(fault)]
 fn select_fault(select: &Select, params: &Params, env: &Env) -> Option<ConstFault>
-    ensures { result ≡ spec.select_fault (constant params.now) env.now.decls (values_of env.now) select.now }
+    ensures { result ≡ spec.select_fault (constant params.now) env.now.decls (cells_of env.now) select.now }
 {
     match select {
         Select::Bit(_, index) => fault(index, params, env),
@@ -131,22 +146,24 @@ fn name_fault(
     params: &Params,
     env: &Env,
 ) -> Option<ConstFault>
-    ensures { result ≡ spec.name_fault env.now.decls (values_of env.now) pos (constant params.now text.now) (selects all.now) inner }
+    ensures { result ≡ spec.name_fault env.now.decls (cells_of env.now) pos (constant params.now text.now) (selects all.now) inner }
 {
     if params.get(text).is_none() {
         return earlier(inner, Some(ConstFault::NotConstant(pos)));
     }
-    let Some(found) = earlier(inner, first_fault(pos, all, env)) else {
+    let divisor = divisor_fault(selects_zero_divisor(all, env.decls()));
+    let own = earlier(divisor, first_select_fault(pos, all, env));
+    let Some(found) = earlier(inner, own) else {
         return Some(ConstFault::Range(pos));
     };
     Some(found)
 }
 
 /// What is wrong with a constant's first select.
-fn first_fault(pos: Pos, all: &[Select], env: &Env) -> Option<ConstFault>
+fn first_select_fault(pos: Pos, all: &[Select], env: &Env) -> Option<ConstFault>
     ensures { let ss = selects all.now in
         let ds = env.now.decls in
-        let v = values_of env.now in
+        let v = cells_of env.now in
         result ≡ spec.earlier (spec.range_fault ds v ss) (spec.too_wide pos (spec.wide_select ds v ss)) }
 {
     match all {
@@ -158,22 +175,46 @@ fn first_fault(pos: Pos, all: &[Select], env: &Env) -> Option<ConstFault>
     }
 }
 
-/// A part against the direction, or of a width below 1.
+/// A bound past 32 signed bits, a part against the direction, or one of a width below 1.
 fn range_fault(select: &Select, env: &Env) -> Option<ConstFault>
-    ensures { (rest : tree.Selects) → result ≡ spec.range_fault env.now.decls (values_of env.now) (with_select select.now rest) }
+    ensures { (rest : tree.Selects) → result ≡ spec.range_fault env.now.decls (cells_of env.now) (with_select select.now rest) }
 {
     match select {
         Select::Bit(_, _) => None,
         Select::Part(pos, left, right) => {
-            let size = wide_part(own(left, env), own(right, env));
-            let found = if_sized(size_of(right, env.decls()), range_unless(*pos, size));
-            if_sized(size_of(left, env.decls()), found)
+            let bounds = earlier(bound_fault(*pos, left, env), bound_fault(*pos, right, env));
+            earlier(bounds, part_fault(*pos, left, right, env))
         }
         Select::Indexed(pos, _, width) => {
             let size = wide_times(own(width, env), 1);
             if_sized(size_of(width, env.decls()), range_unless(*pos, size))
         }
     }
+}
+
+/// A bound past 32 signed bits, whatever the other one is.
+fn bound_fault(pos: Pos, bound: &Expr, env: &Env) -> Option<ConstFault>
+    ensures { result ≡ spec.bound_fault env.now.decls (cells_of env.now) pos bound.now }
+{
+    if_sized(size_of(bound, env.decls()), far_fault(pos, own(bound, env)))
+}
+
+fn far_fault(pos: Pos, index: Own) -> Option<ConstFault>
+    ensures { let i = as_int index.width index.signed index.number in result ≡ spec.far_fault pos i }
+{
+    match bound(index) {
+        None => Some(ConstFault::Range(pos)),
+        Some(_) => None,
+    }
+}
+
+/// Of two bounds.
+fn part_fault(pos: Pos, left: &Expr, right: &Expr, env: &Env) -> Option<ConstFault>
+    ensures { result ≡ spec.part_fault env.now.decls (cells_of env.now) pos left.now right.now }
+{
+    let size = wide_part(own(left, env), own(right, env));
+    let found = if_sized(size_of(right, env.decls()), range_unless(pos, size));
+    if_sized(size_of(left, env.decls()), found)
 }
 
 /// Where there is a size.
@@ -218,48 +259,8 @@ fn too_wide(pos: Pos, size: Option<u64>) -> Option<ConstFault>
     }
 }
 
-fn zero_divisor(
-    pos: Pos,
-    operator: BinaryOperator,
-    left: &Expr,
-    right: &Expr,
-    env: &Env,
-) -> Option<ConstFault>
-    ensures { result ≡ spec.zero_divisor env.now.decls (values_of env.now) pos operator left.now right.now }
-{
-    if divides(operator) {
-        let width = own_size(left, env).max(own_size(right, env));
-        let divisor = value(right, width, are_signed(left, right, env), env);
-        let found = zero_divisor_fault(pos, divisor);
-        let found = if_sized(size_of(right, env.decls()), found);
-        return if_sized(size_of(left, env.decls()), found);
-    }
-    None
-}
-
-fn divides(operator: BinaryOperator) -> bool
-    ensures { result ≡ size_spec.divides operator }
-{
-    matches!(operator, BinaryOperator::Divide | BinaryOperator::Remainder)
-}
-
-fn are_signed(left: &Expr, right: &Expr, env: &Env) -> bool
-    ensures { result ≡ (sign env.now.decls left.now && sign env.now.decls right.now) }
-{
-    sign_of(left, env.decls()) && sign_of(right, env.decls())
-}
-
-fn zero_divisor_fault(pos: Pos, divisor: u128) -> Option<ConstFault>
-    ensures { result ≡ spec.zero_divisor_fault pos divisor }
-{
-    if divisor == 0 {
-        return Some(ConstFault::ZeroDivisor(pos));
-    }
-    None
-}
-
 fn count_fault(pos: Pos, count: &Expr, env: &Env) -> Option<ConstFault>
-    ensures { result ≡ spec.count_fault env.now.decls (values_of env.now) pos count.now }
+    ensures { result ≡ spec.count_fault env.now.decls (cells_of env.now) pos count.now }
 {
     let found = range_unless(pos, wide_times(own(count, env), 1));
     if_sized(size_of(count, env.decls()), found)

@@ -1,11 +1,11 @@
 //! Copies of a number, one behind the other, in a context (IEEE 1364-2005, section 5.1.14).
 ghost use Rattle.std.specs.Prelude.{◌≡◌, ◌<◌, ◌≤◌, ◌^◌, nat_abs};
-ghost use Rattle.vl_size.specs.Bits.{as_int, extended};
+ghost use Rattle.fv_bits.specs.Bits.{as_int, extended};
 ghost use Rattle.vl_size.specs.Size as spec;
 
+use fv_bits::extended;
 use vl_size::Own;
 use vl_size::select::{copies, times};
-use vl_size::signed::extended;
 
 /// The value of so many copies of a number where its size and sign come from the context; 0 where they have no size.
 pub(crate) fn repeated(count: Own, part: Own, width: u32, signed: bool) -> u128

@@ -4,9 +4,8 @@
 mod const_fault;
 mod const_number;
 mod constant_of;
-#[cfg(test)]
-mod constant_tests;
 mod cut;
+pub mod designs;
 mod driver;
 mod earliest;
 mod env;
@@ -15,16 +14,10 @@ pub mod examples;
 mod first_fault;
 mod flat;
 mod join;
-#[cfg(test)]
-mod operation_tests;
 mod params;
 mod select;
 mod settle;
 mod shared;
-#[cfg(test)]
-mod test_trees;
-#[cfg(test)]
-mod tests;
 mod wide;
 mod words;
 

@@ -1,12 +1,11 @@
 //! Bits of a vector, and indices of its bits (IEEE 1364-2005, section 5.2.1).
 ghost use Rattle.std.specs.Prelude.{◌≡◌, ◌<◌, ◌≤◌, ◌≤ℤ◌, ◌<ℤ◌, ◌^◌, min, Some, None, IfSome, ℤ, pos, neg_ℤ, nat_abs, ◌+ℤ◌, ◌+◌, if◌then◌else◌};
-ghost use Rattle.vl_size.specs.Bits.{as_int};
+ghost use Rattle.fv_bits.specs.Bits.{as_int};
 ghost use Rattle.vl_size.specs.Size as spec;
 ghost use Rattle.vl_size.specs.Table as table;
-ghost use Rattle.vl_mean.specs.Near.{is_near};
+ghost use Rattle.vl_size.specs.Place.{is_near};
 
-use vl_size::bits::{low, shifted_left, shifted_right};
-use vl_size::signed::{is_below_zero, magnitude};
+use fv_bits::{is_below_zero, low, magnitude, shifted_left, shifted_right};
 use vl_size::{Decl, Own};
 
 /// An index read by its sign, and so many more, where that isn't far from all ranges.

@@ -3,19 +3,18 @@ ghost use Rattle.std.specs.Prelude.{◌≡◌, ◌+◌, ◌*◌, Some, None, if�
 ghost use Rattle.vl_tree.specs.Expr as tree;
 ghost use Rattle.vl_tree.specs.Expr.{exprs};
 ghost use Rattle.vl_tree.specs.ExprView.{selects, with_select};
-ghost use Rattle.vl_size.specs.Bits.{as_int};
+ghost use Rattle.fv_bits.specs.Bits.{as_int};
 ghost use Rattle.vl_size.specs.Size as size_spec;
 ghost use Rattle.vl_size.specs.Size.{some_bits};
 ghost use Rattle.vl_size.specs.Way.{way};
 ghost use Rattle.vl_mean.specs.ConstantFaults as spec;
-ghost use Rattle.vl_mean.specs.Env.{values_of};
+ghost use Rattle.vl_mean.specs.Env.{cells_of};
 ghost use Rattle.vl_mean.specs.Params.{constant};
 
 use crate::env::Env;
 use crate::evaluate::own;
 use crate::params::Params;
-use vl_size::bits::ones;
-use vl_size::signed::is_below_zero;
+use fv_bits::{is_below_zero, ones};
 use vl_size::way::{keeps_size, way_of};
 use vl_size::{Own, Way, size_of};
 use vl_tree::{BinaryOperator, Expr, ExprKind, Select, UnaryOperator};
@@ -24,7 +23,7 @@ use vl_tree::{BinaryOperator, Expr, ExprKind, Select, UnaryOperator};
 #[cycle(wide)]
 #[tactic(auto, using(vl_tree::specs::ExprFalls::parts_fall))]
 pub(crate) fn wide(expr: &Expr, params: &Params, env: &Env) -> Option<u64>
-    ensures { result ≡ spec.wide (constant params.now) env.now.decls (values_of env.now) expr.now }
+    ensures { result ≡ spec.wide (constant params.now) env.now.decls (cells_of env.now) expr.now }
 {
     match &expr.kind {
         ExprKind::Number(number) => Some(u64::from(number.width)),
@@ -63,7 +62,7 @@ pub(crate) fn wide(expr: &Expr, params: &Params, env: &Env) -> Option<u64>
 #[cycle(wide)]
 #[tactic(auto, using(crate::proofs::Joined::parts))]
 fn wides(all: &[Expr], params: &Params, env: &Env) -> Option<u64>
-    ensures { result ≡ spec.wides (constant params.now) env.now.decls (values_of env.now) (exprs all.now) }
+    ensures { result ≡ spec.wides (constant params.now) env.now.decls (cells_of env.now) (exprs all.now) }
 {
     let mut sum = 0;
     let mut place = all.len();
@@ -108,7 +107,7 @@ fn binary_size(operator: BinaryOperator, m: u64, n: u64) -> u64
 
 /// The size of a constant's first select.
 fn wide_first(all: &[Select], env: &Env) -> Option<u64>
-    ensures { result ≡ spec.wide_select env.now.decls (values_of env.now) (selects all.now) }
+    ensures { result ≡ spec.wide_select env.now.decls (cells_of env.now) (selects all.now) }
 {
     match all {
         [] => None,
@@ -117,7 +116,7 @@ fn wide_first(all: &[Select], env: &Env) -> Option<u64>
 }
 
 pub(crate) fn wide_select(select: &Select, env: &Env) -> Option<u64>
-    ensures { (rest : tree.Selects) → result ≡ spec.wide_select env.now.decls (values_of env.now) (with_select select.now rest) }
+    ensures { (rest : tree.Selects) → result ≡ spec.wide_select env.now.decls (cells_of env.now) (with_select select.now rest) }
 {
     match select {
         Select::Bit(_, _) => None,
@@ -159,7 +158,7 @@ pub(crate) fn wide_part(left: Own, right: Own) -> Option<u64>
 }
 
 /// A bound, where it has 32 signed bits.
-fn bound(own: Own) -> Option<i64>
+pub(crate) fn bound(own: Own) -> Option<i64>
     ensures { let i = as_int own.width own.signed own.number in
         result ≡ (if size_spec.is_bound i then Some i else None) }
 {

@@ -1,16 +1,15 @@
 //! Numbers of the words of memories, by their printed names.
 ghost use Rattle.std.specs.Prelude.{◌≡◌, ◌++◌, ℕ, List, Some, None, IfSome, IfNone, codes, bytes_eq, false, if◌then◌else◌, int_le, int_lt, ◌&&◌, ◌^◌, ◌-◌, pos, negsuc};
 ghost use Rattle.std.specs.Fmt.{signed_decimal};
-ghost use Rattle.vl_size.specs.Bits.{as_int};
+ghost use Rattle.fv_bits.specs.Bits.{as_int};
 ghost use Rattle.vl_size.specs.Size as spec;
 ghost use Rattle.vl_size.specs.Table.{is_between, word_name};
-ghost use Rattle.vl_mean.specs.Env.{values_of};
+ghost use Rattle.vl_mean.specs.Env.{cells_of, values_of};
 ghost use Rattle.vl_mean.specs.Near.{is_narrow};
 
 use crate::env::Env;
+use fv_bits::{is_below_zero, ones};
 use itoa::Buffer;
-use vl_size::bits::ones;
-use vl_size::signed::is_below_zero;
 use vl_size::{Decl, Own};
 
 /// What stands behind this front.
@@ -62,7 +61,7 @@ impl Env {
     /// The number of a memory's word; 0 past its bounds.
     pub(crate) fn word(&self, memory: &Decl, index: Own) -> u128
         ensures { let i = as_int index.width index.signed index.number in
-            result ≡ spec.word_at (values_of self.now) memory.now memory.now.words i }
+            result ≡ spec.word_at (cells_of self.now) memory.now memory.now.words i }
     {
         let Some((left, right)) = memory.words else {
             return 0;

@@ -10,14 +10,14 @@ use Rattle.vl_tree.specs.declared.part.LoopHead.{LoopHead}
 use Rattle.vl_tree.specs.Phrase.{Spells, BeginsAt, word, parens, ◌▸◌}
 use Rattle.vl_tree.specs.Expr.{Expr}
 use Rattle.vl_tree.specs.ExprSpelling as expr
-use Rattle.vl_tree.specs.Item.{Items, Block, generate, for_loop, if_only, if_else}
+use Rattle.vl_tree.specs.Item.{Items, Block, region, for_loop, if_only, if_else}
 use Rattle.vl_tree.specs.ItemSpelling.{spell, spell_all, spell_block, spell_head}
 use Rattle.vl_parse.specs.Items.{LeavesElse}
-use Rattle.vl_parse.specs.Next.{IsOther}
+use Rattle.vl_expr.specs.Next.{IsOther}
 
-pub generate_found : (xs : Items) (p : Pos) (start tokens rest : List Token) → BeginsAt p start → Spells (word w.Generate) start tokens
-    → Spells (spell_all xs ▸ word w.Endgenerate) tokens rest → Spells (spell (generate [] p xs)) start rest
-generate_found xs p start tokens rest here h i = (start, refl, (here, (tokens, h, i)))
+pub region_found : (xs : Items) (p : Pos) (start tokens rest : List Token) → BeginsAt p start → Spells (word w.Generate) start tokens
+    → Spells (spell_all xs ▸ word w.Endgenerate) tokens rest → Spells (spell_block (region p xs)) start rest
+region_found xs p start tokens rest here h i = (here, (tokens, h, i))
 
 pub for_found : (head : LoopHead) (b : Block) (p : Pos) (start tokens middle rest : List Token) → BeginsAt p start → Spells (word w.For) start tokens
     → Spells (spell_head head) tokens middle → Spells (spell_block b) middle rest → Spells (spell (for_loop [] p head b)) start rest
@@ -37,6 +37,8 @@ pub not_open : (b : Bool) (ts rest : List Kind) → LeavesElse b ts → ts ≡ k
 not_open false ts rest h e = refl
 not_open true ts rest h e = absurd (subst (λ q. IsOther (k.Keyword w.Else) q) e (h refl) refl)
 
-pub ruleset item_spelled = (generate_found, for_found)
+pub ruleset item_spelled = (for_found)
+
+pub ruleset block_spelled = (region_found)
 
 pub ruleset if_spelled = (not_open, if_found, if_else_found)

@@ -1,30 +1,31 @@
--- What lists of items spell that are still open, and what is read of them.
-use Rattle.std.proofs.Common.{◌≡◌, ℕ, suc, ◌+◌, ◌≤◌, ◌<◌, List, [], ◌∷◌, ◌++◌, length, refl, sym, ap, ◌∙◌, subst, arith}
-use Rattle.std.specs.Prelude.{Ok, Err, All, Option, Some, None}
-use Rattle.std.proofs.lemmas.List.Elements.{All-push, All-pop}
+-- What lists of items spell in which regions are open, and what is read of them.
+use Rattle.std.proofs.Common.{◌≡◌, ℕ, zero, suc, ◌+◌, ◌-◌, ◌<◌, List, [], ◌∷◌, ◌++◌, refl, sym, ap, ◌∙◌, subst, arith}
+use Rattle.std.specs.Prelude.{Ok, Err, Option, Some, None}
+use Rattle.std.proofs.lemmas.List.Elements.{All-nil}
 use Rattle.fv_base.specs.declared.kind.Kind.{Kind}
 use Rattle.fv_base.specs.declared.kind.Kind.TheVariants as k
 use Rattle.fv_base.specs.declared.keyword.Keyword.TheVariants as w
 use Rattle.fv_base.specs.declared.pos.Pos.{Pos}
 use Rattle.fv_base.specs.declared.token.Token.{Token}
 use Rattle.vl_tree.specs.Attributes.{Attributes}
-use Rattle.vl_tree.specs.Phrase.{Phrase, Spells, IsNext, BeginsAt, each, at, word, ◌▸◌}
+use Rattle.vl_tree.specs.Phrase.{Phrase, Spells, BeginsAt, word, ◌▸◌}
 use Rattle.vl_tree.specs.DeclarationSpelling.{spell_attributes}
-use Rattle.vl_tree.specs.DeclarationWellFormed.{AreAttributes}
+use Rattle.vl_tree.specs.DeclarationWellFormed.{AreAttributes, IsInstance}
 use Rattle.vl_tree.specs.ItemSpelling.{spell, spell_all}
-use Rattle.vl_tree.specs.WellFormed.{IsWellFormed, AreWellFormed, attributes_of}
+use Rattle.vl_tree.specs.WellFormed.{mark_of, open_behind_mark, open_behind, AreBalanced, IsWellFormed, AreWellFormed, attributes_of}
 use Rattle.vl_tree.specs.Item.{Item, items, declaration, integer, genvar, parameter, assign, always, initial, instance, generate, for_loop, if_only, if_else}
+use Rattle.vl_tree.specs.declared.item.RegionMark.TheVariants as mark
 use Rattle.vl_tree.specs.declared.item.ItemKind.{ItemKind}
 use Rattle.vl_tree.specs.declared.item.ItemKind.TheVariants as kind
 use Rattle.vl_tree.specs.ItemView.{shown}
+use Rattle.vl_grammar.proofs.Regions.{some_none}
 use Rattle.vl_grammar.specs.Machine.{then}
 use Rattle.vl_grammar.specs.Grammar as grammar
 use Rattle.vl_grammar.specs.Grammar.{Outcome, read}
 use Rattle.vl_parse.specs.declared.item.Ending.{Ending}
 use Rattle.vl_parse.specs.declared.item.Ending.TheVariants as e
-use Rattle.vl_parse.specs.declared.item.Opened.{Opened}
-use Rattle.vl_parse.specs.Items.{word_of, ending_of, innermost, still, spell_opened, IsOpened, with_attributes}
-use Rattle.vl_parse.specs.Next.{IsOther}
+use Rattle.vl_parse.specs.Items.{word_of, ending_of, innermost, still, AreOpen, LeavesElse, with_attributes}
+use Rattle.vl_expr.specs.Next.{IsOther}
 use Rattle.vl_parse.proofs.ItemRows.{items_end, items_more}
 
 -- trees
@@ -38,69 +39,38 @@ pub items_formed : (xs : List Item) (x : Item) → AreWellFormed (items xs) → 
 items_formed [] x h i = (i, tt)
 items_formed (y ∷ xs) x h i = (h.0, items_formed xs x h.1 i)
 
-module _ {A : Type 0} (one : A → Phrase) where
-  each_pushed : (xs : List A) (x : A) (start middle rest : List Token) → Spells (each one xs) start middle → Spells (one x) middle rest
-      → Spells (each one (xs ++ x ∷ [])) start rest
-  each_pushed [] x start middle rest h i = (rest, subst (λ ts. Spells (one x) ts rest) (sym h) i, refl)
-  each_pushed (y ∷ xs) x start middle rest (m, h, j) i = (m, h, each_pushed xs x m middle rest j i)
+behind_pushed : (xs : List Item) (x : Item) (n : Option ℕ) → open_behind (items (xs ++ x ∷ [])) n ≡ open_behind_mark (mark_of x) (open_behind (items xs) n)
+behind_pushed [] x n = refl
+behind_pushed (y ∷ xs) x n = behind_pushed xs x (open_behind_mark (mark_of y) n)
 
-  each_popped : (xs : List A) (x : A) (start rest : List Token) → Spells (each one (xs ++ x ∷ [])) start rest
-      → (middle : List Token) × Spells (each one xs) start middle × Spells (one x) middle rest
-  each_popped [] x start rest (m, h, i) = (start, refl, subst (λ ts. Spells (one x) start ts) i h)
-  each_popped (y ∷ xs) x start rest (m, h, j) = (let (n, i, l) = each_popped xs x m rest j in (n, (m, h, i), l))
+-- an item more, by which the number of open regions changes like this
+are_open : (xs : List Item) (x : Item) (n m : ℕ) → open_behind_mark (mark_of x) (Some n) ≡ Some m → AreOpen xs n → IsWellFormed x → AreOpen (xs ++ x ∷ []) m
+are_open xs x n m e h i = (behind_pushed xs x (Some 0) ∙ ap (open_behind_mark (mark_of x)) h.0 ∙ e, items_formed xs x h.1 i)
 
-all_pushed : {A : Type 0} (Fits : A → Type 0) (xs : List A) (x : A) → All Fits xs → Fits x → All Fits (xs ++ x ∷ [])
-all_pushed Fits xs x h i = All-push Fits xs x h i
+pub with_item_open : (xs : List Item) (x : Item) (n : ℕ) → AreOpen xs n → mark_of x ≡ None → IsWellFormed x → AreOpen (xs ++ x ∷ []) n
+with_item_open xs x n h e i = are_open xs x n n (ap (λ m. open_behind_mark m (Some n)) e) h i
 
-all_popped : {A : Type 0} (Fits : A → Type 0) (xs : List A) (x : A) → All Fits (xs ++ x ∷ []) → All Fits xs × Fits x
-all_popped Fits xs x h = All-pop Fits (xs ++ x ∷ []) xs (Some x) refl h
+pub with_generate_open : (xs : List Item) (attrs : Attributes) (p : Pos) (n : ℕ) → AreOpen xs n → AreAttributes attrs
+    → AreOpen (xs ++ generate attrs p mark.Open ∷ []) (n + 1)
+with_generate_open xs attrs p n h i = are_open xs (generate attrs p mark.Open) n (n + 1) (ap Some (omega arith)) h (i, tt)
 
-abbrev opened : List Item → Attributes → Pos → Opened
-opened xs attrs p = record { before = xs; attributes = attrs; pos = p }
+pub closed_open : (xs : List Item) (p : Pos) (n : ℕ) → AreOpen xs n → 0 < n → AreOpen (xs ++ generate [] p mark.Close ∷ []) (n - 1)
+closed_open xs p zero h l = absurd (omega (arith, l))
+closed_open xs p (suc n) h l =
+    are_open xs (generate [] p mark.Close) (suc n) (suc n - 1) (ap Some (omega arith)) h (All-nil IsInstance, refl)
 
--- an item more
-pub with_item_found : (os : List Opened) (xs : List Item) (x : Item) (start middle rest : List Token)
-    → Spells (each spell_opened os ▸ spell_all (items xs)) start middle → Spells (spell x) middle rest
-    → Spells (each spell_opened os ▸ spell_all (items (xs ++ x ∷ []))) start rest
-with_item_found os xs x start middle rest (m, h, i) j = (m, h, items_pushed xs x m middle rest i j)
+-- the end of a region behind items
+pub closed_found : (xs : List Item) (p : Pos) (start middle rest : List Token) → Spells (spell_all (items xs)) start middle → BeginsAt p middle
+    → Spells (word w.Endgenerate) middle rest → Spells (spell_all (items (xs ++ generate [] p mark.Close ∷ []))) start rest
+closed_found xs p start middle rest h here i = items_pushed xs (generate [] p mark.Close) start middle rest h (middle, refl, (here, i))
 
--- a `generate` more
-pub with_generate_found : (os : List Opened) (xs : List Item) (attrs : Attributes) (p : Pos) (start middle rest : List Token)
-    → Spells (each spell_opened os ▸ spell_all (items xs)) start middle → Spells (spell_attributes attrs ▸ at p (word w.Generate)) middle rest
-    → Spells (each spell_opened (os ++ opened xs attrs p ∷ []) ▸ spell_all (items [])) start rest
-with_generate_found os xs attrs p start middle rest (m, h, i) j =
-    (rest, each_pushed spell_opened os (opened xs attrs p) start m rest h (middle, i, j), refl)
+pub whole_found : (xs : List Item) (n : ℕ) (outer : Ending) (start middle rest : List Token) → n ≡ 0 → Spells (spell_all (items xs)) start middle
+    → Spells (word (word_of (innermost n outer))) middle rest → Spells (spell_all (items xs) ▸ word (word_of outer)) start rest
+whole_found xs zero outer start middle rest e h j = (middle, h, j)
+whole_found xs (suc n) outer start middle rest e h j = absurd (omega (arith, e))
 
-pub with_generate_formed : (os : List Opened) (xs : List Item) (attrs : Attributes) (p : Pos) → All IsOpened os → AreWellFormed (items xs)
-    → AreAttributes attrs → All IsOpened (os ++ opened xs attrs p ∷ [])
-with_generate_formed os xs attrs p h i j = all_pushed IsOpened os (opened xs attrs p) h (i, j)
-
--- the last `generate` ends
-pub closed_found : (os : List Opened) (o : Opened) (xs : List Item) (start middle rest : List Token)
-    → Spells (each spell_opened (os ++ o ∷ []) ▸ spell_all (items xs)) start middle → Spells (word w.Endgenerate) middle rest
-    → Spells (each spell_opened os ▸ spell_all (items (o.before ++ generate o.attributes o.pos (items xs) ∷ []))) start rest
-closed_found os o xs start middle rest (m, h, i) j =
-    let (n, before, (front, spelled, (behind, attributes, (here, word)))) = each_popped spell_opened os o start m h in (
-      n,
-      before,
-      items_pushed o.before (generate o.attributes o.pos (items xs)) n front rest spelled
-          (behind, attributes, (here, (m, word, (middle, i, j)))),
-    )
-
-pub closed_formed : (os : List Opened) (o : Opened) (xs : List Item) → All IsOpened (os ++ o ∷ []) → AreWellFormed (items xs)
-    → All IsOpened os × AreWellFormed (items (o.before ++ generate o.attributes o.pos (items xs) ∷ []))
-closed_formed os o xs h i =
-    let (outer, last) = all_popped IsOpened os o h in
-    (outer, items_formed o.before (generate o.attributes o.pos (items xs)) last.0 (last.1, i))
-
-pub whole_found : (os : List Opened) (xs : List Item) (outer : Ending) (start middle rest : List Token) → os ≡ []
-    → Spells (each spell_opened os ▸ spell_all (items xs)) start middle → Spells (word (word_of (innermost os outer))) middle rest
-    → Spells (spell_all (items xs) ▸ word (word_of outer)) start rest
-whole_found [] xs outer start middle rest e (m, h, i) j = (middle, subst (λ ts. Spells (spell_all (items xs)) ts middle) (sym h) i, j)
-whole_found (o ∷ os) xs outer start middle rest e h j = absurd (no e)
-  where
-    no : o ∷ os ≡ [] → ⊥
-    no h = cc
+pub whole_balanced : (xs : List Item) (n : ℕ) → AreOpen xs n → n ≡ 0 → AreBalanced (items xs)
+whole_balanced xs n h e = h.0 ∙ ap Some e
 
 -- readings
 
@@ -108,46 +78,43 @@ then_then : (a : Outcome) (f g : List Kind → Outcome) → then (then a f) g �
 then_then (Ok r) f g = refl
 then_then (Err e) f g = refl
 
-pub still_more : (os : List Opened) (outer : Ending) (n : ℕ) (ts : List Kind) → IsOther (k.Keyword (word_of (innermost os outer))) ts
-    → still os outer n ts ≡ then (read grammar.item n ts) (λ r. still os outer n r)
-still_more [] outer n ts h = items_more outer n ts h
-still_more (o ∷ os) outer n ts h =
-    ap (λ a. then a (λ r. still os outer n r)) (items_more e.Endgenerate n ts h)
-    ∙ then_then (read grammar.item n ts) (λ r. read (grammar.items grammar.endgenerate) n r) (λ r. still os outer n r)
+pub still_more : (m : ℕ) (outer : Ending) (n : ℕ) (ts : List Kind) → IsOther (k.Keyword (word_of (innermost m outer))) ts
+    → still m outer n ts ≡ then (read grammar.item n ts) (λ r. still m outer n r)
+still_more zero outer n ts h = items_more outer n ts h
+still_more (suc m) outer n ts h =
+    ap (λ a. then a (λ r. still m outer n r)) (items_more e.Endgenerate n ts h)
+    ∙ then_then (read grammar.item n ts) (λ r. read (grammar.items grammar.endgenerate) n r) (λ r. still m outer n r)
 
-pub still_pushed : (os : List Opened) (o : Opened) (outer : Ending) (n : ℕ) (ts : List Kind)
-    → then (read (grammar.items grammar.endgenerate) n ts) (λ r. still os outer n r) ≡ still (os ++ o ∷ []) outer n ts
-still_pushed [] o outer n ts = refl
-still_pushed (p ∷ os) o outer n ts = ap (λ f. then (read (grammar.items grammar.endgenerate) n ts) f) (λ i r. still_pushed os o outer n r i)
-
-pub still_closed : (os : List Opened) (o : Opened) (outer : Ending) (n : ℕ) (ts : List Kind)
-    → still (os ++ o ∷ []) outer n (k.Keyword w.Endgenerate ∷ ts) ≡ still os outer n ts
-still_closed os o outer n ts =
-    sym (still_pushed os o outer n (k.Keyword w.Endgenerate ∷ ts))
-    ∙ ap (λ a. then a (λ r. still os outer n r)) (items_end e.Endgenerate n ts)
-
-pub still_whole : (os : List Opened) (outer : Ending) (n : ℕ) (ts : List Kind) → os ≡ []
-    → still os outer n (k.Keyword (word_of (innermost os outer)) ∷ ts) ≡ Ok ts
-still_whole [] outer n ts e = items_end outer n ts
-still_whole (o ∷ os) outer n ts e = absurd (no e)
+-- a region more, and one that ends
+pub still_opened : (m l : ℕ) (outer : Ending) (n : ℕ) (ts : List Kind) → l ≡ m + 1
+    → then (read (grammar.items grammar.endgenerate) n ts) (λ r. still m outer n r) ≡ still l outer n ts
+still_opened m l outer n ts h = ap (λ l. still l outer n ts) (sym (h ∙ plus_one m))
   where
-    no : o ∷ os ≡ [] → ⊥
-    no h = cc
+    plus_one : (m : ℕ) → m + 1 ≡ suc m
+    plus_one m = omega arith
 
-pub inner_word : (os : List Opened) (outer : Ending) → (os ≡ [] → ⊥) → word_of (innermost os outer) ≡ w.Endgenerate
-inner_word [] outer h = absurd (h refl)
-inner_word (o ∷ os) outer h = refl
+pub still_closed : (m l : ℕ) (outer : Ending) (n : ℕ) (ts : List Kind) → l ≡ m + 1
+    → still l outer n (k.Keyword w.Endgenerate ∷ ts) ≡ still m outer n ts
+still_closed m l outer n ts h =
+    sym (still_opened m l outer n (k.Keyword w.Endgenerate ∷ ts) h)
+    ∙ ap (λ a. then a (λ r. still m outer n r)) (items_end e.Endgenerate n ts)
 
-pub innermost_outer : (os : List Opened) (outer : Ending) → os ≡ [] → innermost os outer ≡ outer
-innermost_outer [] outer h = refl
-innermost_outer (o ∷ os) outer h = absurd (no h)
-  where
-    no : o ∷ os ≡ [] → ⊥
-    no h = cc
+pub still_whole : (m : ℕ) (outer : Ending) (n : ℕ) (ts : List Kind) → m ≡ 0
+    → still m outer n (k.Keyword (word_of (innermost m outer)) ∷ ts) ≡ Ok ts
+still_whole zero outer n ts e = items_end outer n ts
+still_whole (suc m) outer n ts e = absurd (omega (arith, e))
 
-pub innermost_inner : (os : List Opened) (outer : Ending) → (os ≡ [] → ⊥) → innermost os outer ≡ e.Endgenerate
-innermost_inner [] outer h = absurd (h refl)
-innermost_inner (o ∷ os) outer h = refl
+pub inner_word : (m : ℕ) (outer : Ending) → 0 < m → word_of (innermost m outer) ≡ w.Endgenerate
+inner_word zero outer h = absurd (omega (arith, h))
+inner_word (suc m) outer h = refl
+
+pub innermost_outer : (m : ℕ) (outer : Ending) → m ≡ 0 → innermost m outer ≡ outer
+innermost_outer zero outer h = refl
+innermost_outer (suc m) outer h = absurd (omega (arith, h))
+
+pub innermost_inner : (m : ℕ) (outer : Ending) → (m ≡ 0 → ⊥) → innermost m outer ≡ e.Endgenerate
+innermost_inner zero outer h = absurd (h refl)
+innermost_inner (suc m) outer h = refl
 
 -- attributes
 
@@ -176,19 +143,23 @@ with_attributes_found attrs x start middle rest e h i =
     subst (λ q. Spells q start rest) (sym (with_body attrs x))
     (middle, h, without (attributes_of x) (behind (spell x)) middle rest e (subst (λ q. Spells q middle rest) (has_body x) i))
 
-pub with_attributes_formed : (attrs : Attributes) (x : Item) → AreAttributes attrs → IsWellFormed x → IsWellFormed (with_attributes attrs x)
-with_attributes_formed attrs (declaration old p d) h g = (h, g.1)
-with_attributes_formed attrs (integer old p xs) h g = (h, g.1)
-with_attributes_formed attrs (genvar old p xs) h g = (h, g.1)
-with_attributes_formed attrs (parameter old p kind xs) h g = (h, g.1)
-with_attributes_formed attrs (assign old p xs) h g = (h, g.1)
-with_attributes_formed attrs (always old p event x) h (g, i, j) = (h, i, j)
-with_attributes_formed attrs (initial old p x) h (g, i, j) = (h, i, j)
-with_attributes_formed attrs (instance old p x) h g = (h, g.1)
-with_attributes_formed attrs (generate old p xs) h g = (h, g.1)
-with_attributes_formed attrs (for_loop old p head b) h (g, i, j) = (h, i, j)
-with_attributes_formed attrs (if_only old p c b) h (g, i, j) = (h, i, j)
-with_attributes_formed attrs (if_else old p c b d) h (g, i, j, l, m) = (h, i, j, l, m)
+pub with_attributes_formed : (attrs : Attributes) (x : Item) → AreAttributes attrs → mark_of x ≡ None → IsWellFormed x → IsWellFormed (with_attributes attrs x)
+with_attributes_formed attrs (declaration old p d) h n g = (h, g.1)
+with_attributes_formed attrs (integer old p xs) h n g = (h, g.1)
+with_attributes_formed attrs (genvar old p xs) h n g = (h, g.1)
+with_attributes_formed attrs (parameter old p kind xs) h n g = (h, g.1)
+with_attributes_formed attrs (assign old p xs) h n g = (h, g.1)
+with_attributes_formed attrs (always old p event x) h n (g, i, j) = (h, i, j)
+with_attributes_formed attrs (initial old p x) h n (g, i, j) = (h, i, j)
+with_attributes_formed attrs (instance old p x) h n g = (h, g.1)
+with_attributes_formed attrs (generate old p m) h n g = some_none m n
+with_attributes_formed attrs (for_loop old p head b) h n (g, i, j) = (h, i, j)
+with_attributes_formed attrs (if_only old p c b) h n (g, i, j) = (h, i, j)
+with_attributes_formed attrs (if_else old p c b d) h n (g, i, j, l, m) = (h, i, j, l, m)
+
+pub with_attributes_mark : (attrs : Attributes) (x : Item) → mark_of x ≡ None → mark_of (with_attributes attrs x) ≡ None
+with_attributes_mark attrs (declaration old p d) h = refl
+with_attributes_mark attrs x h = h
 
 pub shown_with : (attrs old : Attributes) (p : Pos) (kind : ItemKind) → with_attributes attrs (shown old p kind) ≡ shown attrs p kind
 shown_with attrs old p (kind.If c first None) = refl
@@ -197,10 +168,10 @@ shown_with attrs old p x = refl
 
 pub ruleset innermost_read = (innermost_outer, innermost_inner)
 
-pub ruleset with_found = (with_attributes_found, with_attributes_formed)
+pub ruleset with_found = (with_attributes_found, with_attributes_mark, with_attributes_formed)
 
-pub ruleset still_read = (still_more, still_whole, inner_word)
+pub ruleset still_read = (still_more, still_whole, inner_word, whole_balanced)
 
 pub ruleset whole_read = (whole_found)
 
-pub ruleset items_spelled = (with_item_found, with_generate_found, with_generate_formed, closed_found, closed_formed, items_formed, still_pushed, still_closed)
+pub ruleset items_spelled = (with_item_open, with_generate_open, closed_open, closed_found, items_pushed, still_opened, still_closed)

@@ -8,10 +8,10 @@ use Rattle.vl_tree.specs.Phrase.{Spells, each}
 use Rattle.vl_tree.specs.ItemSpelling.{spell_module, spell_modules}
 use Rattle.vl_tree.specs.WellFormed.{IsModule, HasPlace}
 use Rattle.vl_grammar.specs.Grammar.{read, modules}
-use Rattle.vl_parse.specs.Next.{kinds_in}
+use Rattle.vl_expr.specs.Next.{kinds_in}
 use Rattle.vl_parse.specs.Sources.{IsStart}
 use Rattle.vl_parse.proofs.ItemRows.{modules_end}
-use Rattle.vl_parse.proofs.ListLaws.{all_pushed}
+use Rattle.vl_part.proofs.ListLaws.{all_pushed}
 
 pub modules_pushed : (ms : List Module) (x : Module) (start middle rest : List Token) → Spells (each spell_module ms) start middle
     → Spells (spell_module x) middle rest → Spells (each spell_module (ms ++ x ∷ [])) start rest

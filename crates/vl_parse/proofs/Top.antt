@@ -10,7 +10,7 @@ use Rattle.vl_grammar.proofs.InParts as parts
 use Rattle.vl_parse.specs.declared.fault.ParseFault.{ParseFault}
 use Rattle.vl_parse.specs.declared.fault.ParseFault.TheVariants as f
 use Rattle.vl_parse.specs.Faults.{Answers, IsMemoryOr, fault_of, place_at}
-use Rattle.vl_parse.specs.Next.{kinds_in}
+use Rattle.vl_expr.specs.Next.{kinds_in}
 
 kinds_same : (ts : List Token) → kinds_of ts ≡ kinds_in ts
 kinds_same [] = refl

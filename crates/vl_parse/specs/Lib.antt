@@ -1,17 +1,5 @@
-pub mod Goes
-pub mod Next
-pub mod Lead
-pub mod Levels
-pub mod Before
-pub mod StmtLead
-pub mod Statements
-pub mod Parts
-pub mod Tails
 pub mod Faults
-pub mod Arms
 pub mod ItemLead
 pub mod Items
-pub mod LoopHead
-pub mod Lists
 pub mod Sources
 pub mod Refusals

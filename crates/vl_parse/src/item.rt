@@ -1,6 +1,6 @@
 //! Items of a module, and blocks of generate constructs (IEEE 1364-2005, sections A.1.4 and A.4.2).
 
-ghost use Rattle.std.specs.Prelude.{◌≡◌, ◌+◌, ◌<◌, ◌≤◌, ℕ, [], ◌∷◌, ◌++◌, Ok, List, length, IfOk, IfErr};
+ghost use Rattle.std.specs.Prelude.{◌≡◌, ◌+◌, ◌<◌, ◌≤◌, ℕ, [], ◌∷◌, ◌++◌, None, Ok, List, length, IfOk, IfErr};
 ghost use Rattle.fv_base.specs.declared.kind.Kind.{Kind};
 ghost use Rattle.vl_parse.specs.declared.item.Ending.{Ending};
 ghost use Rattle.fv_base.specs.declared.kind.Kind.TheVariants as k;
@@ -17,23 +17,23 @@ ghost use Rattle.vl_tree.specs.StmtWellFormed.{IsOptionalName};
 ghost use Rattle.vl_tree.specs.WellFormed as formed;
 ghost use Rattle.vl_grammar.specs.Machine.{then};
 ghost use Rattle.vl_grammar.specs.Grammar as grammar;
-ghost use Rattle.vl_parse.specs.Goes.{Goes, IsMemory};
-ghost use Rattle.vl_parse.specs.Next.{kinds_in, IsOther};
+ghost use Rattle.vl_expr.specs.Goes.{Goes, IsMemory};
+ghost use Rattle.vl_expr.specs.Next.{kinds_in, IsOther};
 ghost use Rattle.vl_parse.specs.ItemLead as lead;
 ghost use Rattle.vl_parse.specs.Items as items;
 
-use crate::attribute::{Before, read_attributes};
-use crate::declaration::read_shape;
-use crate::expr::read_parens;
-use crate::list::read_list;
-use crate::make::add;
-use crate::part::{read_event, read_head, read_instance};
-use crate::stmt::{read_initial, read_stmt};
-use crate::stop::Stop;
-use crate::take::{enter, first_place, next, past_sign, past_word, read_name, read_sign};
 use fv_base::{Keyword, Kind, List, Pos, Symbol, Text, Token};
 use std::alloc::Global;
-use vl_tree::{AttributeInstance, Block, Declaration, Item, ItemKind, NetKind, ParameterKind};
+use vl_expr::{
+    Stop, add, enter, first_place, next, past_sign, past_word, read_name, read_parens, read_sign,
+};
+use vl_part::{
+    Before, read_attributes, read_event, read_head, read_instance, read_list, read_shape,
+};
+use vl_stmt::{read_initial, read_stmt};
+use vl_tree::{
+    AttributeInstance, Block, Declaration, Item, ItemKind, NetKind, ParameterKind, RegionMark,
+};
 
 /// What a token begins as the first of an item that has no items in it, behind its attributes.
 #[derive(Clone, Copy)]
@@ -87,16 +87,18 @@ fn bare(alloc: Global, pos: Pos, kind: ItemKind) -> Item
     }
 }
 
-/// An item behind its attributes.
+/// An item behind its attributes, which isn't a region.
 #[cycle(item)]
-#[tactic(auto, using(crate::proofs::ItemRows::of_item, crate::proofs::ItemSpelled::item_spelled, crate::proofs::DeclarationRows::basics))]
+#[tactic(auto, using(crate::proofs::ItemRows::of_item, crate::proofs::ItemSpelled::item_spelled, vl_part::proofs::DeclarationRows::basics))]
 pub(crate) fn read_item(
     alloc: Global,
     room: u32,
     tokens: &[Token],
 ) -> Result<(Item, &[Token]), Stop>
     requires bare { IsOther (k.Symbol s.OpenAttribute) (kinds_in tokens.now) }
+    requires no_generate { IsOther (k.Keyword Keyword.Generate) (kinds_in tokens.now) }
     ensures bare { IfOk result (λ x. formed.attributes_of x.0 ≡ []) }
+    ensures unmarked { IfOk result (λ x. formed.mark_of x.0 ≡ None) }
     ensures found { IfOk result (λ x. Spells (spec.spell x.0) tokens.now x.1.now) }
     ensures formed { IfOk result (λ x. formed.IsWellFormed x.0) }
     ensures no_else { IfOk result (λ x. items.LeavesElse (formed.ends_open x.0) (kinds_in x.1.now)) }
@@ -112,30 +114,7 @@ pub(crate) fn read_item(
         let inside = enter(room, tokens)?;
         return read_for(alloc, pos, inside, rest);
     }
-    match past_word(Keyword::Generate, tokens) {
-        Some(rest) => read_generate(alloc, pos, room, rest),
-        None => read_plain(alloc, room, tokens),
-    }
-}
-
-/// What is behind the `generate` of a region.
-#[cycle(item)]
-#[tactic(auto, using(crate::proofs::ItemSpelled::item_spelled))]
-fn read_generate(
-    alloc: Global,
-    pos: Pos,
-    room: u32,
-    tokens: &[Token],
-) -> Result<(Item, &[Token]), Stop>
-    ensures bare { IfOk result (λ x. formed.attributes_of x.0 ≡ []) }
-    ensures found { IfOk result (λ x. (start : List Token) → BeginsAt pos start → Spells (word Keyword.Generate) start tokens.now → Spells (spec.spell x.0) start x.1.now) }
-    ensures formed { IfOk result (λ x. formed.IsWellFormed x.0) }
-    ensures no_else { IfOk result (λ x. items.LeavesElse (formed.ends_open x.0) (kinds_in x.1.now)) }
-    ensures shorter { IfOk result (λ x. length x.1.now < length tokens.now) }
-    ensures goes { Goes (λ x. Ok (kinds_in x.1.now)) result (grammar.read (grammar.items grammar.endgenerate) room (kinds_in tokens.now)) }
-{
-    let (all, rest) = read_items(alloc, room, Ending::Endgenerate, tokens)?;
-    Ok((bare(alloc, pos, ItemKind::Generate(all)), rest))
+    read_plain(alloc, room, tokens)
 }
 
 /// What is behind the `for` of a generate construct.
@@ -143,6 +122,7 @@ fn read_generate(
 #[tactic(auto, using(crate::proofs::ItemSpelled::item_spelled))]
 fn read_for(alloc: Global, pos: Pos, room: u32, tokens: &[Token]) -> Result<(Item, &[Token]), Stop>
     ensures bare { IfOk result (λ x. formed.attributes_of x.0 ≡ []) }
+    ensures unmarked { IfOk result (λ x. formed.mark_of x.0 ≡ None) }
     ensures found { IfOk result (λ x. (start : List Token) → BeginsAt pos start → Spells (word Keyword.For) start tokens.now → Spells (spec.spell x.0) start x.1.now) }
     ensures formed { IfOk result (λ x. formed.IsWellFormed x.0) }
     ensures no_else { IfOk result (λ x. items.LeavesElse (formed.ends_open x.0) (kinds_in x.1.now)) }
@@ -155,13 +135,14 @@ fn read_for(alloc: Global, pos: Pos, room: u32, tokens: &[Token]) -> Result<(Ite
 }
 
 /// An item that has no items in it.
-#[tactic(auto, using(crate::proofs::ItemLeads::item_leads, crate::proofs::ItemLeads::item_kinds, crate::specs::Tails::tails, crate::proofs::DeclarationRows::basics))]
+#[tactic(auto, using(crate::proofs::ItemLeads::item_leads, crate::proofs::ItemLeads::item_kinds, vl_part::specs::Tails::tails, vl_part::proofs::DeclarationRows::basics))]
 fn read_plain(alloc: Global, room: u32, tokens: &[Token]) -> Result<(Item, &[Token]), Stop>
     requires bare { IsOther (k.Symbol s.OpenAttribute) (kinds_in tokens.now) }
     requires no_if { IsOther (k.Keyword Keyword.If) (kinds_in tokens.now) }
     requires no_for { IsOther (k.Keyword Keyword.For) (kinds_in tokens.now) }
     requires no_generate { IsOther (k.Keyword Keyword.Generate) (kinds_in tokens.now) }
     ensures bare { IfOk result (λ x. formed.attributes_of x.0 ≡ []) }
+    ensures unmarked { IfOk result (λ x. formed.mark_of x.0 ≡ None) }
     ensures found { IfOk result (λ x. Spells (spec.spell x.0) tokens.now x.1.now) }
     ensures formed { IfOk result (λ x. formed.IsWellFormed x.0) }
     ensures no_else { IfOk result (λ x. items.LeavesElse (formed.ends_open x.0) (kinds_in x.1.now)) }
@@ -211,7 +192,7 @@ fn read_plain(alloc: Global, room: u32, tokens: &[Token]) -> Result<(Item, &[Tok
     }
 }
 
-#[tactic(auto, using(crate::specs::Tails::tails, crate::proofs::DeclarationRows::basics))]
+#[tactic(auto, using(vl_part::specs::Tails::tails, vl_part::proofs::DeclarationRows::basics))]
 fn read_declaration(
     alloc: Global,
     net: NetKind,
@@ -231,9 +212,10 @@ fn read_declaration(
 
 /// What is behind the `if` of a generate construct. An `else` belongs to the nearest one.
 #[cycle(item)]
-#[tactic(auto, using(crate::proofs::ItemRows::of_generate_otherwise, crate::proofs::ItemSpelled::if_spelled, crate::proofs::DeclarationRows::basics))]
+#[tactic(auto, using(crate::proofs::ItemRows::of_generate_otherwise, crate::proofs::ItemSpelled::if_spelled, vl_part::proofs::DeclarationRows::basics))]
 fn read_if(alloc: Global, pos: Pos, room: u32, tokens: &[Token]) -> Result<(Item, &[Token]), Stop>
     ensures bare { IfOk result (λ x. formed.attributes_of x.0 ≡ []) }
+    ensures unmarked { IfOk result (λ x. formed.mark_of x.0 ≡ None) }
     ensures found { IfOk result (λ x. (start : List Token) → BeginsAt pos start → Spells (word Keyword.If) start tokens.now → Spells (spec.spell x.0) start x.1.now) }
     ensures formed { IfOk result (λ x. formed.IsWellFormed x.0) }
     ensures no_else { IfOk result (λ x. items.LeavesElse (formed.ends_open x.0) (kinds_in x.1.now)) }
@@ -253,7 +235,7 @@ fn read_if(alloc: Global, pos: Pos, room: u32, tokens: &[Token]) -> Result<(Item
 }
 
 /// What a list of items ends with.
-#[derive(Debug, Clone, Copy, PartialEq, Eq)]
+#[derive(Clone, Copy)]
 pub(crate) enum Ending {
     Endmodule,
     Endgenerate,
@@ -272,22 +254,25 @@ impl Ending {
     }
 }
 
-/// A `generate` whose end is still to come: the items before it, and what stands before and at the word.
-#[derive(Drop)]
-struct Opened {
-    before: List<Item>,
-    attributes: List<AttributeInstance>,
-    pos: Pos,
+/// More regions than can be counted want memory.
+fn one_more(regions: usize) -> Result<usize, Stop>
+    ensures more { IfOk result (λ n. n ≡ regions + 1) }
+    ensures memory { IfErr result (λ e. IsMemory e) }
+{
+    match regions.checked_add(1) {
+        Some(regions) => Ok(regions),
+        None => Err(Stop::Memory),
+    }
 }
 
-/// The items that were read last, and each `generate` around them.
+/// The items that were read, and how many regions among them are still open.
 #[derive(Drop)]
 struct Reading {
-    around: List<Opened>,
     all: List<Item>,
+    regions: usize,
 }
 
-/// What a list of items goes on with: an item, or the first word of a generate region with what stands before it.
+/// What a list of items goes on with: an item, or the first word of a region with what stands before it.
 #[derive(Drop)]
 enum Front {
     Item(Item),
@@ -295,12 +280,12 @@ enum Front {
 }
 
 impl Reading {
-    /// What the innermost list ends with.
+    /// What the list goes on to, up to the end of its innermost region.
     #[tactic(auto, using(crate::proofs::ItemsSpelled::innermost_read))]
     fn ending(&self, outer: Ending) -> Ending
-        ensures { result ≡ items.innermost self.now.around outer }
+        ensures { result ≡ items.innermost self.now.regions outer }
     {
-        if self.around.is_empty() {
+        if self.regions == 0 {
             outer
         } else {
             Ending::Endgenerate
@@ -310,53 +295,48 @@ impl Reading {
     #[tactic(auto, using(crate::proofs::ItemsSpelled::items_spelled))]
     fn with_item(self, item: Item) -> Result<Reading, Stop>
         requires formed { items.IsReading self }
+        requires unmarked { formed.mark_of item ≡ None }
         requires item { formed.IsWellFormed item }
         ensures formed { IfOk result (λ x. items.IsReading x) }
         ensures found { IfOk result (λ x. (start middle rest : List Token) → Spells (items.spell_reading self) start middle → Spells (spec.spell item) middle rest → Spells (items.spell_reading x) start rest) }
-        ensures around { IfOk result (λ x. x.around ≡ self.around) }
+        ensures regions { IfOk result (λ x. x.regions ≡ self.regions) }
         ensures memory { IfErr result (λ e. IsMemory e) }
     {
         let mut all = self.all;
         add(&mut all, item)?;
         Ok(Reading {
-            around: self.around,
             all,
+            regions: self.regions,
         })
     }
 
+    /// One region more is open.
     #[tactic(auto, using(crate::proofs::ItemsSpelled::items_spelled))]
-    fn with_generate(
-        self,
-        alloc: Global,
-        attributes: List<AttributeInstance>,
-        pos: Pos,
-    ) -> Result<Reading, Stop>
+    fn with_generate(self, attributes: List<AttributeInstance>, pos: Pos) -> Result<Reading, Stop>
         requires formed { items.IsReading self }
         requires attributes { declared_formed.AreAttributes attributes }
         ensures formed { IfOk result (λ x. items.IsReading x) }
         ensures found { IfOk result (λ x. (start middle rest : List Token) → Spells (items.spell_reading self) start middle → Spells (declared.spell_attributes attributes ▸ at pos (word Keyword.Generate)) middle rest → Spells (items.spell_reading x) start rest) }
-        ensures goes { IfOk result (λ x. (outer : Ending) (room : ℕ) (ts : List Kind) → then (grammar.read (grammar.items grammar.endgenerate) room ts) (λ r. items.still self.around outer room r) ≡ items.still x.around outer room ts) }
+        ensures regions { IfOk result (λ x. x.regions ≡ self.regions + 1) }
         ensures memory { IfErr result (λ e. IsMemory e) }
     {
-        let mut around = self.around;
-        let opened = Opened {
-            before: self.all,
+        let regions = one_more(self.regions)?;
+        let mut all = self.all;
+        let mark = Item {
             attributes,
             pos,
+            kind: ItemKind::Generate(RegionMark::Open),
         };
-        add(&mut around, opened)?;
-        Ok(Reading {
-            around,
-            all: List::new(alloc),
-        })
+        add(&mut all, mark)?;
+        Ok(Reading { all, regions })
     }
 
-    fn with_front(self, alloc: Global, front: Front) -> Result<Reading, Stop>
+    fn with_front(self, front: Front) -> Result<Reading, Stop>
         requires formed { items.IsReading self }
         requires front { items.IsFront front }
         ensures formed { IfOk result (λ x. items.IsReading x) }
         ensures found { IfOk result (λ x. (start middle rest : List Token) → Spells (items.spell_reading self) start middle → Spells (items.spell_front front) middle rest → Spells (items.spell_reading x) start rest) }
-        ensures goes { IfOk result (λ x. (outer : Ending) (room : ℕ) (ts : List Kind) → then (items.behind_front front room ts) (λ r. items.still self.around outer room r) ≡ items.still x.around outer room ts) }
+        ensures goes { IfOk result (λ x. (outer : Ending) (room : ℕ) (ts : List Kind) → then (items.behind_front front room ts) (λ r. items.still self.regions outer room r) ≡ items.still x.regions outer room ts) }
         ensures memory { IfErr result (λ e. IsMemory e) }
     {
         match front {
@@ -364,43 +344,38 @@ impl Reading {
                 let reading = self.with_item(item)?;
                 Ok(reading)
             }
-            Front::Generate(attributes, pos) => self.with_generate(alloc, attributes, pos),
-        }
-    }
-
-    /// The items before the last `generate`, and it with its items.
-    #[tactic(auto, using(crate::proofs::ItemsSpelled::items_spelled))]
-    fn closed(self) -> Result<Reading, Stop>
-        requires formed { items.IsReading self }
-        requires within { self.around ≡ [] → ⊥ }
-        ensures formed { IfOk result (λ x. items.IsReading x) }
-        ensures found { IfOk result (λ x. (start middle rest : List Token) → Spells (items.spell_reading self) start middle → Spells (word Keyword.Endgenerate) middle rest → Spells (items.spell_reading x) start rest) }
-        ensures goes { IfOk result (λ x. (outer : Ending) (room : ℕ) (ts : List Kind) → items.still self.around outer room (k.Keyword Keyword.Endgenerate ∷ ts) ≡ items.still x.around outer room ts) }
-        ensures memory { IfErr result (λ e. IsMemory e) }
-    {
-        let mut around = self.around.into_vec();
-        match around.pop() {
-            None => unreachable!(),
-            Some(opened) => {
-                let mut all = opened.before;
-                let item = Item {
-                    attributes: opened.attributes,
-                    pos: opened.pos,
-                    kind: ItemKind::Generate(self.all),
-                };
-                add(&mut all, item)?;
-                Ok(Reading {
-                    around: List::from_vec(around),
-                    all,
-                })
+            Front::Generate(attributes, pos) => {
+                let reading = self.with_generate(attributes, pos)?;
+                Ok(reading)
             }
         }
     }
+
+    /// The region that was opened last ends, at the place.
+    #[tactic(auto, using(crate::proofs::ItemsSpelled::items_spelled))]
+    fn closed(self, alloc: Global, pos: Pos) -> Result<Reading, Stop>
+        requires formed { items.IsReading self }
+        requires within { 0 < self.regions }
+        ensures formed { IfOk result (λ x. items.IsReading x) }
+        ensures found { IfOk result (λ x. (start middle rest : List Token) → Spells (items.spell_reading self) start middle → BeginsAt pos middle → Spells (word Keyword.Endgenerate) middle rest → Spells (items.spell_reading x) start rest) }
+        ensures regions { IfOk result (λ x. self.regions ≡ x.regions + 1) }
+        ensures memory { IfErr result (λ e. IsMemory e) }
+    {
+        let mut all = self.all;
+        add(
+            &mut all,
+            bare(alloc, pos, ItemKind::Generate(RegionMark::Close)),
+        )?;
+        Ok(Reading {
+            all,
+            regions: self.regions - 1,
+        })
+    }
 }
 
-/// Items up to the closing word. A `generate` within is no open construct, so it is read without recursion.
+/// Items up to the closing word. A region within is two marks, so it is read without recursion.
 #[cycle(item)]
-#[tactic(auto, using(crate::proofs::ItemsSpelled::still_read, crate::proofs::ItemsSpelled::whole_read, crate::proofs::DeclarationRows::basics))]
+#[tactic(auto, using(crate::proofs::ItemsSpelled::still_read, crate::proofs::ItemsSpelled::whole_read, vl_part::proofs::DeclarationRows::basics))]
 pub(crate) fn read_items(
     alloc: Global,
     room: u32,
@@ -408,25 +383,27 @@ pub(crate) fn read_items(
     tokens: &[Token],
 ) -> Result<(List<Item>, &[Token]), Stop>
     ensures found { IfOk result (λ x. Spells (spec.spell_all (tree.items x.0) ▸ word (items.word_of ending)) tokens.now x.1.now) }
+    ensures balanced { IfOk result (λ x. formed.AreBalanced (tree.items x.0)) }
     ensures formed { IfOk result (λ x. formed.AreWellFormed (tree.items x.0)) }
     ensures shorter { IfOk result (λ x. length x.1.now < length tokens.now) }
     ensures goes { Goes (λ x. Ok (kinds_in x.1.now)) result (grammar.read (grammar.items (items.ending_of ending)) room (kinds_in tokens.now)) }
 {
     let mut reading = Reading {
-        around: List::new(alloc),
         all: List::new(alloc),
+        regions: 0,
     };
     let mut rest = tokens;
     loop {
         if let Some(behind) = past_word(reading.ending(ending).word(), rest) {
-            if reading.around.is_empty() {
+            if reading.regions == 0 {
                 return Ok((reading.all, behind));
             }
-            reading = reading.closed()?;
+            let pos = first_place(rest)?;
+            reading = reading.closed(alloc, pos)?;
             rest = behind;
         } else {
             let (front, behind) = read_front(alloc, room, rest)?;
-            reading = reading.with_front(alloc, front)?;
+            reading = reading.with_front(front)?;
             rest = behind;
         }
     }
@@ -434,7 +411,7 @@ pub(crate) fn read_items(
 
 /// An item with its attributes, or what begins a generate region.
 #[cycle(item)]
-#[tactic(auto, using(crate::proofs::ItemRows::of_front, crate::proofs::ItemsSpelled::with_found, crate::proofs::DeclarationRows::basics))]
+#[tactic(auto, using(crate::proofs::ItemRows::of_front, crate::proofs::ItemsSpelled::with_found, vl_part::proofs::DeclarationRows::basics))]
 fn read_front(alloc: Global, room: u32, tokens: &[Token]) -> Result<(Front, &[Token]), Stop>
     ensures found { IfOk result (λ x. Spells (items.spell_front x.0) tokens.now x.1.now) }
     ensures formed { IfOk result (λ x. items.IsFront x.0) }
@@ -467,7 +444,7 @@ fn with_attributes(attributes: List<AttributeInstance>, item: Item) -> Item
 
 /// `: label`, where it is there, and items up to `end`.
 #[cycle(item)]
-#[tactic(auto, using(crate::proofs::ItemRows::of_generate_block_label, crate::proofs::DeclarationRows::basics))]
+#[tactic(auto, using(crate::proofs::ItemRows::of_generate_block_label, vl_part::proofs::DeclarationRows::basics))]
 fn read_labelled(
     alloc: Global,
     room: u32,
@@ -475,6 +452,7 @@ fn read_labelled(
 ) -> Result<(Option<Text>, List<Item>, &[Token]), Stop>
     ensures found { IfOk result (λ x. Spells ((spell_label x.0 ▸ spec.spell_all (tree.items x.1)) ▸ word Keyword.End) tokens.now x.2.now) }
     ensures label { IfOk result (λ x. IsOptionalName x.0) }
+    ensures balanced { IfOk result (λ x. formed.AreBalanced (tree.items x.1)) }
     ensures formed { IfOk result (λ x. formed.AreWellFormed (tree.items x.1)) }
     ensures shorter { IfOk result (λ x. length x.2.now < length tokens.now) }
     ensures goes { Goes (λ x. Ok (kinds_in x.2.now)) result (grammar.read grammar.generate_block_label room (kinds_in tokens.now)) }
@@ -494,7 +472,7 @@ fn read_labelled(
 
 /// A block of a generate construct. No attributes stand before its one item.
 #[cycle(item)]
-#[tactic(auto, using(crate::proofs::ItemRows::of_generate_block, crate::proofs::DeclarationRows::basics))]
+#[tactic(auto, using(crate::proofs::ItemRows::of_generate_block, vl_part::proofs::DeclarationRows::basics))]
 pub(crate) fn read_block(
     alloc: Global,
     room: u32,
@@ -513,14 +491,31 @@ pub(crate) fn read_block(
             let (label, all, rest) = read_labelled(alloc, inside, rest)?;
             Ok((Block::Begin(pos, label, all), rest))
         }
-        None => {
-            if past_sign(Symbol::OpenAttribute, tokens).is_some() {
-                return Err(Stop::Wrong(tokens.len()));
-            }
-            let (item, rest) = read_item(alloc, room, tokens)?;
-            Ok((Block::Single(boxed(alloc, item)?), rest))
-        }
+        None => read_short_block(alloc, room, tokens),
     }
+}
+
+/// A block without `begin`: a region, or one item.
+#[cycle(item)]
+#[tactic(auto, using(crate::proofs::ItemRows::of_short_block, crate::proofs::ItemSpelled::block_spelled, vl_part::proofs::DeclarationRows::basics))]
+fn read_short_block(alloc: Global, room: u32, tokens: &[Token]) -> Result<(Block, &[Token]), Stop>
+    requires no_begin { IsOther (k.Keyword Keyword.Begin) (kinds_in tokens.now) }
+    ensures found { IfOk result (λ x. Spells (spec.spell_block (block x.0)) tokens.now x.1.now) }
+    ensures formed { IfOk result (λ x. formed.IsBlock (block x.0)) }
+    ensures no_else { IfOk result (λ x. items.LeavesElse (formed.block_ends_open (block x.0)) (kinds_in x.1.now)) }
+    ensures shorter { IfOk result (λ x. length x.1.now < length tokens.now) }
+    ensures goes { Goes (λ x. Ok (kinds_in x.1.now)) result (grammar.read grammar.generate_block room (kinds_in tokens.now)) }
+{
+    if let Some(rest) = past_word(Keyword::Generate, tokens) {
+        let pos = first_place(tokens)?;
+        let (all, rest) = read_items(alloc, room, Ending::Endgenerate, rest)?;
+        return Ok((Block::Region(pos, all), rest));
+    }
+    if past_sign(Symbol::OpenAttribute, tokens).is_some() {
+        return Err(Stop::Wrong(tokens.len()));
+    }
+    let (item, rest) = read_item(alloc, room, tokens)?;
+    Ok((Block::Single(boxed(alloc, item)?), rest))
 }
 
 fn boxed(alloc: Global, item: Item) -> Result<Box<Item>, Stop>

@@ -21,9 +21,9 @@ ghost use Rattle.vl_parse.specs.Refusals.{
 use crate::fault::ParseFault;
 use crate::outside::outside_word;
 use crate::source::{START, read_source};
-use crate::stop::Stop;
 use fv_base::{Pos, Token};
 use std::alloc::Global;
+use vl_expr::Stop;
 use vl_tree::Source;
 
 /// How many constructs may be open at a token.

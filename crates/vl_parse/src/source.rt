@@ -6,17 +6,15 @@ ghost use Rattle.vl_tree.specs.ItemSpelling as spec;
 ghost use Rattle.vl_tree.specs.WellFormed as formed;
 ghost use Rattle.vl_grammar.specs.Machine.{then};
 ghost use Rattle.vl_grammar.specs.Grammar as grammar;
-ghost use Rattle.vl_parse.specs.Goes.{Goes};
-ghost use Rattle.vl_parse.specs.Next.{kinds_in};
+ghost use Rattle.vl_expr.specs.Goes.{Goes};
+ghost use Rattle.vl_expr.specs.Next.{kinds_in};
 ghost use Rattle.vl_parse.specs.Sources.{IsStart};
 
 use crate::item::{Ending, read_items};
-use crate::make::add;
-use crate::port::{read_parameters, read_ports};
-use crate::stop::Stop;
-use crate::take::{first_place, next, read_name, read_word};
 use fv_base::{Keyword, List, Pos, Token};
 use std::alloc::Global;
+use vl_expr::{Stop, add, first_place, next, read_name, read_word};
+use vl_part::{read_parameters, read_ports};
 use vl_tree::{Module, Source};
 
 /// The place of a source without tokens.
@@ -64,7 +62,7 @@ fn read_modules(alloc: Global, room: u32, tokens: &[Token]) -> Result<List<Modul
     Ok(modules)
 }
 
-#[tactic(auto, using(crate::proofs::HeadSpelled::module_spelled, crate::proofs::ItemRows::of_modules, crate::proofs::DeclarationRows::basics))]
+#[tactic(auto, using(vl_part::proofs::HeadSpelled::module_spelled, crate::proofs::ItemRows::of_modules, vl_part::proofs::DeclarationRows::basics))]
 fn read_module(alloc: Global, room: u32, tokens: &[Token]) -> Result<(Module, &[Token]), Stop>
     requires { tokens.now ≡ [] → ⊥ }
     ensures found { IfOk result (λ x. Spells (spec.spell_module x.0) tokens.now x.1.now) }

@@ -46,10 +46,6 @@ pub AreKeyed-append : (es : List Entry) (k : Vec ℕ Global) (d : Decl) → AreK
 AreKeyed-append [] k d h p = (p, tt)
 AreKeyed-append (e ∷ es) k d h p = (h.0, AreKeyed-append es k d h.1 p)
 
-swap : (xs ys : List ℕ) → bytes_eq xs ys ≡ bytes_eq ys xs
-swap xs ys =
-    same_from_decides (bytes_eq xs ys) (bytes_eq ys xs) (bytes_eq-Decides xs ys) (Decides-like (bytes_eq ys xs) (λ e. sym e) (λ e. sym e) (bytes_eq-Decides ys xs))
-
 or_false : (b c : Bool) → b ≡ false → c ≡ false → (b || c) ≡ false
 or_false b c p q = ap (λ d. d || c) p ∙ q
 

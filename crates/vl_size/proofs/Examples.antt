@@ -1,5 +1,5 @@
 -- Sizes and values that were worked out by hand. IEEE 1364-2005, sections 5.4.2 and 5.5.
-use Rattle.std.specs.Prelude.{◌≡◌, refl, ℕ, List, [], ◌∷◌, true, false, Some, None, pos, codes, bytes_eq, if◌then◌else◌}
+use Rattle.std.specs.Prelude.{◌≡◌, refl, ℕ, ◌<◌, ◌^◌, List, [], ◌∷◌, true, false, Some, None, pos, codes, bytes_eq, if◌then◌else◌}
 use Rattle.std.proofs.Common.{lit≤, lit<}
 use Rattle.fv_base.specs.declared.pos.Pos.{Pos}
 use Rattle.fv_base.specs.declared.number.Number.{Number}
@@ -10,7 +10,9 @@ use Rattle.vl_tree.specs.Expr.{Expr, number, name, paren, unary, binary, concat,
 use Rattle.vl_size.specs.declared.decl.Class.TheVariants as class
 use Rattle.vl_size.specs.declared.decl.Decl.{Decl}
 use Rattle.vl_size.specs.Sign.{sign}
-use Rattle.vl_size.specs.Size.{Values, size, value}
+use Rattle.vl_size.specs.Size.{Cells, size, value}
+use Rattle.vl_size.specs.declared.context.Context.{Context}
+use Rattle.vl_size.specs.Divisors.{valid_size, zero_divisor}
 
 abbrev here : Pos
 here = record { file = 1; line = 1; col = 1 }
@@ -22,8 +24,8 @@ eight text = record { name = text; width = 8; signed = false; left = pos 7; righ
 abbrev decls : List Decl
 decls = eight (codes "a") ∷ eight (codes "b") ∷ []
 
-abbrev values : Values
-values text = if bytes_eq text (codes "a") then 200 else 100
+abbrev values : Cells
+values text index = if bytes_eq text (codes "a") then 200 else 100
 
 abbrev a : Expr
 a = name here (codes "a") whole
@@ -154,7 +156,7 @@ pub unsigned_shift : value [] values 4 false with_zero ≡ 4
 unsigned_shift = refl
 
 -- `1 / 1'b0`
-pub quotient_size : size [] (binary here b.Divide (number here one) (number here bit_0)) ≡ None
+pub quotient_size : valid_size [] (binary here b.Divide (number here one) (number here bit_0)) ≡ None
 quotient_size = refl
 
 pub copies_size : size decls (repeat here (number here one) (more a (more second none))) ≡ Some 16
@@ -162,3 +164,50 @@ copies_size = refl
 
 pub no_copies : size decls (repeat here (number here bit_0) (more a none)) ≡ None
 no_copies = refl
+
+-- ---- a divisor has the size of its context: `8'd200 / (8'd255 + 8'd1)` in eight bits and in nine, and
+-- `8'd200 / (8'd1 - ((8'd255 + 8'd1) >> 8))`
+
+abbrev eight_bits : (n : ℕ) → n < 2 ^ 8 → Expr
+eight_bits n fits = number here (record {
+  sized = true;
+  signed = false;
+  width = 8;
+  value = n;
+  wild = 0;
+  unknown = 0;
+  some_bits = lit≤ tt;
+  few_bits = lit≤ tt;
+  value_fits = fits;
+  wild_fits = lit< tt;
+  unknown_fits = lit< tt;
+})
+
+abbrev carry : Expr
+carry = binary here b.Add (eight_bits 255 (lit< tt)) (eight_bits 1 (lit< tt))
+
+abbrev by_carry : Expr
+by_carry = binary here b.Divide (eight_bits 200 (lit< tt)) (paren here carry)
+
+abbrev by_rest : Expr
+by_rest =
+    binary here b.Divide (eight_bits 200 (lit< tt)) (paren here (binary here b.Subtract (eight_bits 1 (lit< tt)) (paren here (
+    binary here b.ShiftRight (paren here carry) (eight_bits 8 (lit< tt))))))
+
+abbrev bits : ℕ → Context
+bits n = record { size = Some n; signed = false }
+
+pub carry_in_eight : zero_divisor [] (bits 8) by_carry ≡ Some here
+carry_in_eight = refl
+
+pub carry_in_nine : zero_divisor [] (bits 9) by_carry ≡ None
+carry_in_nine = refl
+
+pub rest_in_eight : zero_divisor [] (bits 8) by_rest ≡ None
+rest_in_eight = refl
+
+pub rest_in_nine : zero_divisor [] (bits 9) by_rest ≡ Some here
+rest_in_nine = refl
+
+pub carry_by_itself : valid_size [] by_carry ≡ None
+carry_by_itself = refl

@@ -1,11 +1,11 @@
 pub mod Entries
 pub mod Examples
-pub mod BitsLemmas
 pub mod Rest
 pub mod Copies
 pub mod Names
 pub mod Joined
-pub mod Vectors
 pub mod RowLemmas
 pub mod Ways
 pub mod PlaceLemmas
+pub mod Plain
+pub mod Falls

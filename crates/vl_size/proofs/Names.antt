@@ -9,7 +9,7 @@ use Rattle.vl_tree.specs.declared.expr.Select.{Select}
 use Rattle.vl_tree.specs.declared.expr.Select.TheVariants as s
 use Rattle.vl_tree.specs.Expr.{Expr, Selects, name, whole, bit, part, indexed}
 use Rattle.vl_tree.specs.ExprView.{selects}
-use Rattle.vl_size.specs.Bits.{extended}
+use Rattle.fv_bits.specs.Bits.{extended}
 use Rattle.vl_size.specs.declared.decl.Decl.{Decl}
 use Rattle.vl_size.specs.Table.{named, span, is_between}
 use Rattle.vl_size.specs.Sign.{sign}

@@ -4,7 +4,7 @@ use Rattle.std.proofs.Common.{ap, sym, ◌∙◌, arith}
 use Rattle.std.proofs.lemmas.Int.{ints}
 use Rattle.std.proofs.lemmas.Bool.Decides.{nat_tests}
 use Rattle.vl_size.specs.Place.{is_far}
-use Rattle.vl_size.proofs.BitsLemmas as b
+use Rattle.fv_bits.proofs.Limits as b
 use Rattle.vl_size.specs.Size.{bit_at, bits_from}
 
 pub bits_from_0 : (n w x : ℕ) (i : ℤ) → n ≡ 0 → bits_from n w x i ≡ 0

@@ -1,4 +1,3 @@
-pub mod Bits
 pub mod Entries
 pub mod Sign
 pub mod Size
@@ -6,3 +5,5 @@ pub mod Place
 pub mod Rows
 pub mod Table
 pub mod Way
+pub mod Places
+pub mod Divisors

@@ -26,8 +26,8 @@ use Rattle.vl_tree.specs.Expr.{
   part,
   indexed,
 }
-use Rattle.vl_size.specs.Bits as bits
-use Rattle.vl_size.specs.Bits.{low, ones, extended, as_int, is_less}
+use Rattle.fv_bits.specs.Bits as bits
+use Rattle.fv_bits.specs.Bits.{low, ones, extended, as_int, is_less}
 use Rattle.vl_size.specs.declared.decl.Decl.{Decl}
 use Rattle.vl_size.specs.declared.way.Way.{Way}
 use Rattle.vl_size.specs.declared.way.Way.TheVariants as w
@@ -35,9 +35,21 @@ use Rattle.vl_size.specs.Way.{way, keeps_size}
 use Rattle.vl_size.specs.Sign.{sign}
 use Rattle.vl_size.specs.Table.{named, span, is_between, word_name}
 
--- numbers of names; of a memory, of the printed names of its words
+-- numbers by name; of a memory, by the names of its words
 abbrev pub Values : Type 0
 Values = List ℕ → ℕ
+
+-- numbers of names, and of a memory's words by their index
+abbrev pub Cells : Type 0
+Cells = List ℕ → Option ℤ → ℕ
+
+-- the name of what has a number: of a memory's word, the memory's with the index behind it
+abbrev pub cell_name : List ℕ → Option ℤ → List ℕ
+cell_name text None = text
+cell_name text (Some i) = word_name text i
+
+abbrev pub cells_in : Values → Cells
+cells_in v text index = v (cell_name text index)
 
 infixl 20 ◌>>=◌
 abbrev pub ◌>>=◌ : {A B : Type 0} → Option A → (A → Option B) → Option B
@@ -93,8 +105,8 @@ abbrev mutual
   are_constant (more e es) = is_constant e && are_constant es
 
 -- what a constant is evaluated over
-abbrev pub no_names : Values
-no_names text = 0
+abbrev pub no_names : Cells
+no_names text index = 0
 
 -- ---- sizes of operations: table 5-22
 
@@ -111,9 +123,9 @@ divides b.Divide = true
 divides b.Remainder = true
 divides op = false
 
--- a quotient or a remainder needs constants, and a divisor that isn't 0 at its own size
-abbrev pub operation_size : BinaryOperator → ℕ → ℕ → Bool → ℕ → Option ℕ
-operation_size op m n constant divisor = if divides op then only_if (constant && not (divisor == 0)) (max m n) else Some (size_by (way op) m n)
+-- a quotient and a remainder are of constants; whether the divisor is 0 goes by its context: Divisors
+abbrev pub operation_size : BinaryOperator → ℕ → ℕ → Bool → Option ℕ
+operation_size op m n constant = if divides op then only_if constant (max m n) else Some (size_by (way op) m n)
 
 -- a bound of a part has 32 signed bits at most
 abbrev pub is_bound : ℤ → Bool
@@ -158,9 +170,9 @@ abbrev pub start_of : Decl → ℤ → ℕ → ℤ
 start_of d s n = if descends d then place_of d s else place_of d (s +ℤ pos (n - 1))
 
 -- a memory's word; past its bounds it is 0
-abbrev pub word_at : Values → Decl → Option (ℤ × ℤ) → ℤ → ℕ
+abbrev pub word_at : Cells → Decl → Option (ℤ × ℤ) → ℤ → ℕ
 word_at v d None i = 0
-word_at v d (Some bounds) i = if is_between bounds.0 bounds.1 i then v (word_name d.name i) else 0
+word_at v d (Some bounds) i = if is_between bounds.0 bounds.1 i then v d.name (Some i) else 0
 
 -- ---- operations on values
 
@@ -199,7 +211,7 @@ arithmetic op w s m n = 0
 
 abbrev pub shifted : BinaryOperator → ℕ → Bool → ℕ → ℕ → ℕ
 shifted b.ShiftRight w s m k = bits.shifted_right m k
-shifted b.ArithmeticShiftRight w s m k = bits.arithmetic_right w s m k
+shifted b.ArithmeticShiftRight w s m k = bits.right_by_sign w s m k
 shifted op w s m k = bits.shifted_left w m k
 
 -- both at the larger of their sizes, signed where both are
@@ -258,9 +270,7 @@ module _ (ds : List Decl) where
     size (name p text ss) = named ds text >>= λ d. if is_none d.words then vector_size d ss else word_size d ss
     size (paren p x) = size x
     size (unary p op x) = size x >>= λ m. Some (unary_size op m)
-    size (binary p op x y) =
-        size x >>= λ m. size y >>= λ n.
-        operation_size op m n (is_constant x && is_constant y) (value no_names (max m n) (sign ds x && sign ds y) y)
+    size (binary p op x y) = size x >>= λ m. size y >>= λ n. operation_size op m n (is_constant x && is_constant y)
     size (conditional p c x y) = size c >>= λ k. size x >>= λ m. size y >>= λ n. Some (max m n)
     size (concat p es) = some_bits (sizes es)
     size (repeat p n es) =
@@ -294,10 +304,10 @@ module _ (ds : List Decl) where
     vector_size d ss = None
 
     -- the number below 2 ^ w that the expression has where size w and sign s come from its context
-    pub value : Values → ℕ → Bool → Expr → ℕ
+    pub value : Cells → ℕ → Bool → Expr → ℕ
     value v w s (number p n) = extended n.width w s n.value
     value v w s (name p text ss) =
-        with_decl (named ds text) (λ d. if is_none d.words then vector_value v w s d (v d.name) ss else word_value v w s d ss)
+        with_decl (named ds text) (λ d. if is_none d.words then vector_value v w s d (v d.name None) ss else word_value v w s d ss)
     value v w s (paren p x) = value v w s x
     value v w s (unary p op x) = unary_number op w s (operand (size x) (sign ds x) (λ m t. value v m t x))
     value v w s (binary p op x y) =
@@ -314,18 +324,18 @@ module _ (ds : List Decl) where
     value v w s (cast p to x) = let m = or_none (size x) in extended m w s (value v m (sign ds x) x)
 
     -- the bits of each before those of the next
-    pub joined : Values → Exprs → ℕ
+    pub joined : Cells → Exprs → ℕ
     joined v none = 0
     joined v (more e es) = own (operand (size e) (sign ds e) (λ m t. value v m t e)) * 2 ^ or_none (sizes es) + joined v es
 
     -- of a memory: a word, or a part of it
-    pub word_value : Values → ℕ → Bool → Decl → Selects → ℕ
+    pub word_value : Cells → ℕ → Bool → Decl → Selects → ℕ
     word_value v w s d (bit p i ss) =
         vector_value v w s d (word_at v d d.words (index_of (operand (size i) (sign ds i) (λ m t. value v m t i)))) ss
     word_value v w s d ss = 0
 
     -- of a vector with the number x
-    pub vector_value : Values → ℕ → Bool → Decl → ℕ → Selects → ℕ
+    pub vector_value : Cells → ℕ → Bool → Decl → ℕ → Selects → ℕ
     vector_value v w s d x whole = extended d.width w s x
     vector_value v w s d x (bit p i whole) =
         extended 1 w s (bit_at d.width x (place_of d (index_of (operand (size i) (sign ds i) (λ m t. value v m t i)))))

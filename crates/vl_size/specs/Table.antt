@@ -1,5 +1,6 @@
 -- Declarations in order. Rules of this project, but that names of one scope differ: IEEE 1364-2005, section 12.7.
-use Rattle.std.specs.Prelude.{◌≡◌, ℕ, ◌+◌, ◌≤◌, List, [], ◌∷◌, ◌++◌, Bool, true, false, ◌||◌, ◌&&◌, Option, Some, None, All, find, position, bytes_eq, ℤ, ◌-ℤ◌, nat_abs, codes, int_le}
+use Rattle.std.specs.Prelude.{◌≡◌, ℕ, ◌+◌, ◌≤◌, List, [], ◌∷◌, ◌++◌, Bool, true, false, ◌||◌, ◌&&◌, Option, Some, None, All, find, position, bytes_eq, ℤ, ◌-ℤ◌, nat_abs, codes, int_le, not, ◌==◌}
+use Rattle.std.specs.List.{list_all}
 use Rattle.std.specs.Fmt.{signed_decimal}
 use Rattle.vl_size.specs.declared.decl.Decl.{Decl}
 
@@ -33,9 +34,12 @@ HasNoWord ds d = All (λ e. IsNoWordIn d.words d.name e.name) ds
 abbrev pub AreApart : List Decl → Type 0
 AreApart ds = All (HasNoWord ds) ds
 
--- a name that is no memory
-abbrev pub IsVector : Decl → Type 0
-IsVector d = d.words ≡ None
+-- no bracket stands in a name of the source: section 3.7
+abbrev pub is_plain : List ℕ → Bool
+is_plain name = list_all (λ c. not (c == 91)) name
+
+abbrev pub IsPlain : Decl → Type 0
+IsPlain d = is_plain d.name ≡ true
 
 abbrev pub is_declared : List Decl → List ℕ → Bool
 is_declared [] name = false

@@ -1,6 +1,6 @@
 //! The numbers of a constant in all contexts, so that none of its parts is evaluated again for another one.
 ghost use Rattle.std.specs.Prelude.{◌≡◌, ◌<◌, ◌≤◌, ◌^◌, get_or, true, false, if◌then◌else◌};
-ghost use Rattle.vl_size.specs.Bits as bits;
+ghost use Rattle.fv_bits.specs.Bits as bits;
 ghost use Rattle.vl_size.specs.Size as spec;
 ghost use Rattle.vl_size.specs.Rows.{IsRow};
 

@@ -2,14 +2,14 @@
 ghost use Rattle.std.specs.Prelude.{◌≡◌, ◌<◌, ◌≤◌, ◌^◌};
 ghost use Rattle.vl_size.specs.Size as spec;
 
-use crate::bits::{
-    complement, difference, ones, parity, product, shifted_left, shifted_right, sum,
+use fv_bits::{
+    complement, difference, is_less, ones, parity, product, quotient, remainder, right_by_sign,
+    shifted_left, shifted_right, sum,
 };
-use crate::signed::{arithmetic_right, is_less, quotient, remainder};
 use vl_tree::{BinaryOperator, UnaryOperator};
 
 /// Of the operators whose operands both come from the context.
-#[tactic(auto, using(crate::proofs::BitsLemmas::bitwise))]
+#[tactic(auto, using(fv_bits::proofs::Limits::bitwise))]
 pub fn arithmetic(operator: BinaryOperator, width: u32, signed: bool, m: u128, n: u128) -> u128
     requires few { width ≤ 128 }
     requires left { m < 2 ^ width }
@@ -35,7 +35,7 @@ pub fn arithmetic(operator: BinaryOperator, width: u32, signed: bool, m: u128, n
 }
 
 /// Of the shifts; another operator counts as a shift to the left.
-#[tactic(auto, using(crate::proofs::BitsLemmas::bits))]
+#[tactic(auto, using(fv_bits::proofs::Limits::bits))]
 pub fn shifted(operator: BinaryOperator, width: u32, signed: bool, n: u128, by: u128) -> u128
     requires few { width ≤ 128 }
     requires fits { n < 2 ^ width }
@@ -44,7 +44,7 @@ pub fn shifted(operator: BinaryOperator, width: u32, signed: bool, n: u128, by: 
 {
     match operator {
         BinaryOperator::ShiftRight => shifted_right(n, by),
-        BinaryOperator::ArithmeticShiftRight => arithmetic_right(width, signed, n, by),
+        BinaryOperator::ArithmeticShiftRight => right_by_sign(width, signed, n, by),
         _ => shifted_left(width, n, by),
     }
 }

@@ -1,14 +1,13 @@
 //! Bits and words at an index, which is read by its own sign (IEEE 1364-2005, sections 4.2.1, 4.2.2 and 4.9.3).
 ghost use Rattle.std.specs.Prelude.{◌≡◌, ◌+◌, ◌<◌, ◌≤◌, ◌-◌, ◌^◌, false, Some, None, IfSome, IsTrue, ℤ, pos, negsuc, ◌+ℤ◌, ◌≤ℤ◌, if◌then◌else◌};
-ghost use Rattle.vl_size.specs.Bits.{as_int};
+ghost use Rattle.fv_bits.specs.Bits.{as_int};
 ghost use Rattle.vl_size.specs.Size as spec;
 ghost use Rattle.vl_size.specs.Place.{is_near, is_far};
 ghost use Rattle.vl_size.specs.Table as table;
 
-use crate::bits::ones;
 use crate::decl::Decl;
 use crate::own::Own;
-use crate::signed::is_below_zero;
+use fv_bits::{is_below_zero, ones};
 
 /// The bit at a place of a vector with the number `x`, counted from its lowest bit; 0 past the vector.
 #[tactic(auto, using(crate::proofs::PlaceLemmas::bits))]

@@ -1,12 +1,11 @@
 //! A number for each width, made at all widths at once.
 ghost use Rattle.std.specs.Prelude.{◌≡◌, ◌<◌, ◌≤◌, ◌^◌, get_or};
-ghost use Rattle.vl_size.specs.Bits as bits;
+ghost use Rattle.fv_bits.specs.Bits as bits;
 ghost use Rattle.vl_size.specs.Size as spec;
 ghost use Rattle.vl_size.specs.Rows.{AreFit, IsRow};
 
-use crate::bits::{complement, negative};
 use crate::operation::{arithmetic, shifted};
-use crate::signed::extended;
+use fv_bits::{complement, extended, negative};
 use vl_tree::BinaryOperator;
 
 /// A number for each width from 0 to 128.

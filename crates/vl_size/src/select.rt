@@ -1,14 +1,13 @@
 //! Sizes and values of selects and copies, from the numbers in them (IEEE 1364-2005, sections 4.2.1 and 5.1.14).
 ghost use Rattle.std.specs.Prelude.{◌≡◌, ◌<◌, ◌≤◌, ◌*◌, ◌+◌, ◌^◌, Some, None, IfSome, ℤ, pos, nat_abs, IsTrue, if◌then◌else◌};
 ghost use Rattle.std.specs.Option.{option_map};
-ghost use Rattle.vl_size.specs.Bits.{as_int};
+ghost use Rattle.fv_bits.specs.Bits.{as_int};
 ghost use Rattle.vl_size.specs.Size as spec;
 ghost use Rattle.vl_size.specs.Table as table;
 
-use crate::bits::ones;
 use crate::decl::Decl;
 use crate::own::Own;
-use crate::signed::is_below_zero;
+use fv_bits::{is_below_zero, ones};
 
 /// The sum, where it is at most 128.
 pub fn plus(m: u32, n: u32) -> Option<u32>

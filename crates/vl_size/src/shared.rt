@@ -1,5 +1,6 @@
 //! That the public types may be shared among threads.
 
+use crate::context::Context;
 use crate::decl::{Class, Decl};
 use crate::decls::Decls;
 use crate::own::Own;
@@ -14,6 +15,7 @@ pub(crate) fn declarations_are_shared(decls: &Decls, decl: &Decl, class: &Class,
     is_shared(way);
 }
 
-pub(crate) fn numbers_are_shared(own: &Own) {
+pub(crate) fn numbers_are_shared(own: &Own, context: &Context) {
     is_shared(own);
+    is_shared(context);
 }

@@ -10,7 +10,6 @@ ghost use Rattle.vl_size.specs.Size.{no_names, some_bits};
 ghost use Rattle.vl_size.specs.Way.{way};
 ghost use Rattle.vl_size.specs.Rows.{IsRow};
 
-use crate::bits::bit;
 use crate::constant::is_constant;
 use crate::decl::Decl;
 use crate::decls::Decls;
@@ -20,13 +19,15 @@ use crate::own::Own;
 use crate::select::{appended, part_size, plus, repeated, some_bits, times};
 use crate::sign::sign_of;
 use crate::way::{Way, divides, keeps_size, size_by, way_of};
+use fv_bits::bit;
 use vl_tree::{BinaryOperator, Expr, ExprKind, Select, UnaryOperator};
 
-/// The size of the expression by itself, from 1 to 128 bits (IEEE 1364-2005, section 5.4). None exactly where a name in it
-/// isn't declared, a node in it isn't valid by itself or a size is above 128.
+/// The size that an expression or a part of one has by itself, from 1 to 128 bits (IEEE 1364-2005, section 5.4), whatever
+/// its divisors are. None exactly where a name in it isn't declared, a node in it isn't valid by itself or a size is above
+/// 128.
 #[cycle(size)]
 #[tactic(auto, using(vl_tree::specs::ExprFalls::parts_fall))]
-pub fn size_of(expr: &Expr, decls: &Decls) -> Option<u32>
+pub fn self_size(expr: &Expr, decls: &Decls) -> Option<u32>
     ensures value { result ≡ spec.size decls.now expr.now }
     ensures range { IfSome result (λ m. (1 ≤ m) × (m ≤ 128)) }
 {
@@ -36,16 +37,16 @@ pub fn size_of(expr: &Expr, decls: &Decls) -> Option<u32>
             let decl = decls.named(text)?;
             selected_size(decl, all.as_slice(), decls)
         }
-        ExprKind::Paren(inner) => size_of(inner, decls),
+        ExprKind::Paren(inner) => self_size(inner, decls),
         ExprKind::Unary(operator, operand) => {
-            let size = size_of(operand, decls)?;
+            let size = self_size(operand, decls)?;
             Some(if keeps_size(*operator) { size } else { 1 })
         }
         ExprKind::Binary(operator, left, right) => binary_size(*operator, left, right, decls),
         ExprKind::Conditional(condition, first, second) => {
-            size_of(condition, decls)?;
-            let m = size_of(first, decls)?;
-            let n = size_of(second, decls)?;
+            self_size(condition, decls)?;
+            let m = self_size(first, decls)?;
+            let n = self_size(second, decls)?;
             Some(m.max(n))
         }
         ExprKind::Concat(parts) => some_bits(sizes_of(parts.as_slice(), decls)?),
@@ -57,7 +58,7 @@ pub fn size_of(expr: &Expr, decls: &Decls) -> Option<u32>
             }
             times(copies, size)
         }
-        ExprKind::Cast(_, operand) => size_of(operand, decls),
+        ExprKind::Cast(_, operand) => self_size(operand, decls),
     }
 }
 
@@ -69,30 +70,24 @@ fn binary_size(operator: BinaryOperator, left: &Expr, right: &Expr, decls: &Decl
     if divides(operator) {
         return quotient_size(operator, left, right, decls);
     }
-    let m = size_of(left, decls)?;
-    let n = size_of(right, decls)?;
+    let m = self_size(left, decls)?;
+    let n = self_size(right, decls)?;
     Some(size_by(way_of(operator), m, n))
 }
 
-/// A quotient or a remainder needs constants, and a divisor that isn't 0 at its own size.
+/// A quotient and a remainder are of constants.
 #[cycle(size)]
 fn quotient_size(operator: BinaryOperator, left: &Expr, right: &Expr, decls: &Decls) -> Option<u32>
     requires { spec.divides operator ≡ true }
     ensures value { (p : Pos) → result ≡ spec.size decls.now (binary p operator left.now right.now) }
     ensures range { IfSome result (λ m. (1 ≤ m) × (m ≤ 128)) }
 {
-    let m = size_of(left, decls)?;
-    let mut numbers = Numbers::zero();
-    let n = evaluate(right, decls, &mut numbers)?;
+    let m = self_size(left, decls)?;
+    let n = self_size(right, decls)?;
     if !is_constant(left) || !is_constant(right) {
         return None;
     }
-    let width = m.max(n);
-    let signed = sign_of(left, decls) && sign_of(right, decls);
-    if numbers.at(width, signed) == 0 {
-        return None;
-    }
-    Some(width)
+    Some(m.max(n))
 }
 
 /// The sum of the sizes of the parts.
@@ -104,7 +99,7 @@ fn sizes_of(all: &[Expr], decls: &Decls) -> Option<u32>
 {
     let mut sum = 0;
     for part in all {
-        sum = plus(sum, size_of(part, decls)?)?;
+        sum = plus(sum, self_size(part, decls)?)?;
     }
     Some(sum)
 }
@@ -127,11 +122,11 @@ fn selected_size(decl: &Decl, all: &[Select], decls: &Decls) -> Option<u32>
     }
     match all {
         [Select::Bit(_, index)] => {
-            size_of(index, decls)?;
+            self_size(index, decls)?;
             Some(decl.width)
         }
         [Select::Bit(_, index), select] => {
-            size_of(index, decls)?;
+            self_size(index, decls)?;
             select_size(decl, select, decls)
         }
         _ => None,
@@ -146,7 +141,7 @@ fn select_size(decl: &Decl, select: &Select, decls: &Decls) -> Option<u32>
 {
     match select {
         Select::Bit(_, index) => {
-            size_of(index, decls)?;
+            self_size(index, decls)?;
             Some(1)
         }
         Select::Part(_, left, right) => {
@@ -158,7 +153,7 @@ fn select_size(decl: &Decl, select: &Select, decls: &Decls) -> Option<u32>
             part_size(decl, l, r)
         }
         Select::Indexed(_, start, width) => {
-            size_of(start, decls)?;
+            self_size(start, decls)?;
             let count = own(width, decls)?;
             if !is_constant(width) {
                 return None;
@@ -170,7 +165,7 @@ fn select_size(decl: &Decl, select: &Select, decls: &Decls) -> Option<u32>
 
 /// The size of an expression by itself, and its numbers where size and sign come from the context. A name counts as 0.
 #[cycle(size)]
-fn evaluate(expr: &Expr, decls: &Decls, numbers: &mut Numbers) -> Option<u32>
+pub(crate) fn evaluate(expr: &Expr, decls: &Decls, numbers: &mut Numbers) -> Option<u32>
     ensures value { result ≡ spec.size decls.now expr.now }
     ensures range { IfSome result (λ m. (1 ≤ m) × (m ≤ 128)) }
     ensures unsigned { IfSome result (λ m. IsRow numbers.new.unsigned.at (λ w. spec.value decls.now no_names w false expr.now)) }
@@ -309,10 +304,6 @@ fn evaluate_arithmetic(
         return Some(width);
     }
     if !is_constant(left) || !is_constant(right) {
-        return None;
-    }
-    let signed = sign_of(left, decls) && sign_of(right, decls);
-    if other.at(width, signed) == 0 {
         return None;
     }
     numbers.combine(operator, &other);

@@ -17,6 +17,7 @@ use Rattle.vl_tree.proofs.declaration.ParameterKind.TheSendSync as ParameterKind
 use Rattle.vl_tree.proofs.declaration.Direction.TheSendSync as DirectionCrosses
 use Rattle.vl_tree.proofs.expr.Expr.TheLaws.TheKnot as ExprKnot
 use Rattle.vl_tree.proofs.item.Item.TheLaws.TheKnot as ItemKnot
+use Rattle.vl_tree.proofs.item.RegionMark.TheSendSync as RegionMarkCrosses
 use Rattle.vl_tree.proofs.lval.Lval.TheLaws.TheKnot as LvalKnot
 use Rattle.vl_tree.proofs.operator.BinaryOperator.TheSendSync as BinaryOperatorCrosses
 use Rattle.vl_tree.proofs.operator.Cast.TheSendSync as CastCrosses
@@ -97,6 +98,10 @@ pub ruleset crossings = (
   CaseKindCrosses.the_send,
   CaseKindCrosses.the_field_sync,
   CaseKindCrosses.the_sync,
+  RegionMarkCrosses.the_field_send,
+  RegionMarkCrosses.the_send,
+  RegionMarkCrosses.the_field_sync,
+  RegionMarkCrosses.the_sync,
   Crossing.crosses,
   ExprKnot.crosses,
   LvalKnot.crosses,
@@ -142,9 +147,13 @@ item_send = ItemKnot.both_send-Item
     (search items depth 60 fits 40000)
     (search items depth 60 fits 40000)
     (search items depth 60 fits 40000)
+    (search items depth 60 fits 40000)
+    (search items depth 60 fits 40000)
 
 pub item_sync : Send.IsSync Parts.hole-Item
 item_sync = ItemKnot.both_sync-Item
+    (search items depth 60 fits 40000)
+    (search items depth 60 fits 40000)
     (search items depth 60 fits 40000)
     (search items depth 60 fits 40000)
     (search items depth 60 fits 40000)

@@ -1,11 +1,12 @@
--- Items as plain trees, each with the attributes before it and the place of its first token behind them. IEEE
--- 1364-2005, sections A.1 to A.4.
+-- Items as plain trees, each with the attributes before it and the place of its first token behind them. A region is two
+-- marks among items, or a block. IEEE 1364-2005, sections A.1 to A.4.
 use Rattle.std.specs.Prelude.{ℕ, ◌+◌, max, List, [], ◌∷◌, Option}
 use Rattle.fv_base.specs.declared.pos.Pos.{Pos}
 use Rattle.vl_tree.specs.declared.declaration.Declaration.{Declaration}
 use Rattle.vl_tree.specs.declared.declaration.DeclaredName.{DeclaredName}
 use Rattle.vl_tree.specs.declared.declaration.Parameter.{Parameter}
 use Rattle.vl_tree.specs.declared.declaration.ParameterKind.{ParameterKind}
+use Rattle.vl_tree.specs.declared.item.RegionMark.{RegionMark}
 use Rattle.vl_tree.specs.declared.part.Assignment.{Assignment}
 use Rattle.vl_tree.specs.declared.part.Event.{Event}
 use Rattle.vl_tree.specs.declared.part.Instance.{Instance}
@@ -24,7 +25,8 @@ mutual
     always : Attributes → Pos → Event → Stmt → Item
     initial : Attributes → Pos → Stmt → Item
     instance : Attributes → Pos → Instance → Item
-    generate : Attributes → Pos → Items → Item
+    -- `generate`, or `endgenerate`
+    generate : Attributes → Pos → RegionMark → Item
     for_loop : Attributes → Pos → LoopHead → Block → Item
     if_only : Attributes → Pos → Expr → Block → Item
     if_else : Attributes → Pos → Expr → Block → Block → Item
@@ -33,9 +35,10 @@ mutual
     no_items : Items
     more_items : Item → Items → Items
 
-  -- a block of a generate construct, with the place of its `begin`
+  -- a block of a generate construct, with the place of its `begin` or `generate`
   pub data Block : Type 0 where
     begin : Pos → Option (List ℕ) → Items → Block
+    region : Pos → Items → Block
     single : Item → Block
 
 abbrev pub items : List Item → Items
@@ -52,7 +55,7 @@ abbrev mutual
   depth (always attrs p event s) = 0
   depth (initial attrs p s) = 0
   depth (instance attrs p x) = 0
-  depth (generate attrs p xs) = items_depth xs + 1
+  depth (generate attrs p mark) = 0
   depth (for_loop attrs p head b) = block_depth b + 1
   depth (if_only attrs p c a) = block_depth a + 1
   depth (if_else attrs p c a b) = max (block_depth a) (block_depth b) + 1
@@ -63,4 +66,5 @@ abbrev mutual
 
   pub block_depth : Block → ℕ
   block_depth (begin p label xs) = items_depth xs
+  block_depth (region p xs) = items_depth xs
   block_depth (single x) = depth x

@@ -18,6 +18,7 @@ most_le-items_depth (x ∷ xs) = omega (arith, most_le-items_depth xs)
 
 pub deep_le-block_depth : (x : declared.Block) → deep-Block x ≤ block_depth (block x) + 1
 deep_le-block_depth (b.Begin p label xs) = omega (arith, most_le-items_depth xs)
+deep_le-block_depth (b.Region p xs) = omega (arith, most_le-items_depth xs)
 deep_le-block_depth (b.Single x) = omega arith
 
 pub falls : (attrs : Attributes) (p : Pos) (x : ItemKind) → deep-ItemKind x ≤ depth (shown attrs p x)
@@ -29,7 +30,7 @@ falls attrs p (k.Assign xs) = omega arith
 falls attrs p (k.Always event s) = omega arith
 falls attrs p (k.Initial s) = omega arith
 falls attrs p (k.Instance x) = omega arith
-falls attrs p (k.Generate xs) = omega (arith, most_le-items_depth xs)
+falls attrs p (k.Generate mark) = omega arith
 falls attrs p (k.For head body) = omega (arith, deep_le-block_depth body)
 falls attrs p (k.If c first None) = omega (arith, deep_le-block_depth first)
 falls attrs p (k.If c first (Some second)) = omega (arith, deep_le-block_depth first, deep_le-block_depth second)
@@ -46,5 +47,8 @@ most_size (x ∷ xs) = omega (arith, most_size xs)
 pub begin_falls : (x : declared.Block) (p : Pos) (label : Option (List ℕ)) (xs ys : List Item)
     → x ≡ b.Begin p label xs → ys ≡ xs → most (λ y. size-Item y) ys + 1 ≤ size-Block x
 begin_falls x p label xs ys e f = rw (e, f) (omega (arith, most_size xs))
+
+pub region_falls : (x : declared.Block) (p : Pos) (xs ys : List Item) → x ≡ b.Region p xs → ys ≡ xs → most (λ y. size-Item y) ys + 1 ≤ size-Block x
+region_falls x p xs ys e f = rw (e, f) (omega (arith, most_size xs))
 
 pub ruleset parts_fall = (most_le-size, deep_le-block_depth)

@@ -2,11 +2,14 @@
 -- subset.
 use Rattle.std.specs.Prelude.{ℕ, List, [], ◌∷◌, Option, Some, None}
 use Rattle.fv_base.specs.declared.pos.Pos.{Pos}
+use Rattle.fv_base.specs.declared.keyword.Keyword.{Keyword}
 use Rattle.fv_base.specs.declared.keyword.Keyword.TheVariants as w
 use Rattle.fv_base.specs.declared.symbol.Symbol.TheVariants as s
 use Rattle.vl_tree.specs.declared.declaration.Declaration.{Declaration}
 use Rattle.vl_tree.specs.declared.declaration.HeaderParameter.{HeaderParameter}
 use Rattle.vl_tree.specs.declared.declaration.Port.{Port}
+use Rattle.vl_tree.specs.declared.item.RegionMark.{RegionMark}
+use Rattle.vl_tree.specs.declared.item.RegionMark.TheVariants as mark
 use Rattle.vl_tree.specs.declared.part.Assignment.{Assignment}
 use Rattle.vl_tree.specs.declared.part.Connection.{Connection}
 use Rattle.vl_tree.specs.declared.part.Event.{Event}
@@ -50,6 +53,7 @@ use Rattle.vl_tree.specs.Item.{
   no_items,
   more_items,
   begin,
+  region,
   single,
   items,
 }
@@ -99,6 +103,10 @@ unfoldable pub spell_head : LoopHead → Phrase
 spell_head x = parens (spell_step x.variable x.start ▸ sign s.Semicolon ▸ level (expr.spell x.condition) ▸ sign s.Semicolon
     ▸ spell_step x.next_variable x.next)
 
+abbrev pub mark_word : RegionMark → Keyword
+mark_word mark.Open = w.Generate
+mark_word mark.Close = w.Endgenerate
+
 abbrev mutual
   pub spell : Item → Phrase
   spell (declaration attrs p d) = spell_attributes attrs ▸ at p (spell_declaration d)
@@ -110,7 +118,7 @@ abbrev mutual
   spell (always attrs p event x) = spell_attributes attrs ▸ at p (word w.Always ▸ sign s.At ▸ spell_event event ▸ stmt.spell x)
   spell (initial attrs p x) = spell_attributes attrs ▸ at p (word w.Initial ▸ stmt.spell x)
   spell (instance attrs p x) = spell_attributes attrs ▸ at p (spell_instance x)
-  spell (generate attrs p xs) = spell_attributes attrs ▸ at p (word w.Generate ▸ spell_all xs ▸ word w.Endgenerate)
+  spell (generate attrs p mark) = spell_attributes attrs ▸ at p (word (mark_word mark))
   spell (for_loop attrs p head b) = spell_attributes attrs ▸ at p (within (word w.For ▸ spell_head head ▸ spell_block b))
   spell (if_only attrs p c b) = spell_attributes attrs ▸ at p (within (word w.If ▸ parens (expr.spell c) ▸ spell_block b))
   spell (if_else attrs p c b d) =
@@ -122,6 +130,7 @@ abbrev mutual
 
   pub spell_block : Block → Phrase
   spell_block (begin p label xs) = at p (within (word w.Begin ▸ spell_label label ▸ spell_all xs) ▸ word w.End)
+  spell_block (region p xs) = at p (word w.Generate ▸ spell_all xs ▸ word w.Endgenerate)
   spell_block (single x) = spell x
 
 abbrev pub spell_parameters : Option (List HeaderParameter) → Phrase

@@ -22,12 +22,14 @@ use Rattle.vl_tree.specs.Item.{
   if_only,
   if_else,
   begin,
+  region,
   single,
   items,
 }
 
 abbrev pub block : declared.Block → Block
 block (b.Begin p label xs) = begin p label (items xs)
+block (b.Region p xs) = region p (items xs)
 block (b.Single x) = single x.value
 
 abbrev pub shown : Attributes → Pos → ItemKind → Item
@@ -39,7 +41,7 @@ shown attrs p (k.Assign xs) = assign attrs p xs
 shown attrs p (k.Always event s) = always attrs p event s
 shown attrs p (k.Initial s) = initial attrs p s
 shown attrs p (k.Instance x) = instance attrs p x
-shown attrs p (k.Generate xs) = generate attrs p (items xs)
+shown attrs p (k.Generate mark) = generate attrs p mark
 shown attrs p (k.For head body) = for_loop attrs p head (block body)
 shown attrs p (k.If c first None) = if_only attrs p c (block first)
 shown attrs p (k.If c first (Some second)) = if_else attrs p c (block first) (block second)

@@ -26,3 +26,4 @@ pub mod Stmt
 pub mod StmtCode
 pub mod StmtFalls
 pub mod StmtView
+pub mod Examples

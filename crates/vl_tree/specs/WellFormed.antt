@@ -1,10 +1,13 @@
 -- Well formed items, modules and sources: names are names, an `else` belongs to the nearest `if`, both names in the head of
--- a loop are equal, and each list has an element where the grammar wants one. IEEE 1364-2005, sections 12.4 and A.1 to A.4.
-use Rattle.std.specs.Prelude.{◌≡◌, All, Bool, true, false, List, [], ◌∷◌, Option, Some, None}
+-- a loop are equal, each region ends in the list that it begins in, and each list has an element where the grammar wants
+-- one. IEEE 1364-2005, sections 12.4 and A.1 to A.4.
+use Rattle.std.specs.Prelude.{◌≡◌, ℕ, suc, All, Bool, true, false, List, [], ◌∷◌, Option, Some, None}
 use Rattle.fv_base.specs.declared.pos.Pos.{Pos}
 use Rattle.vl_tree.specs.declared.declaration.Declaration.{Declaration}
 use Rattle.vl_tree.specs.declared.declaration.HeaderParameter.{HeaderParameter}
 use Rattle.vl_tree.specs.declared.declaration.Port.{Port}
+use Rattle.vl_tree.specs.declared.item.RegionMark.{RegionMark}
+use Rattle.vl_tree.specs.declared.item.RegionMark.TheVariants as mark
 use Rattle.vl_tree.specs.declared.part.Assignment.{Assignment}
 use Rattle.vl_tree.specs.declared.part.Connection.{Connection}
 use Rattle.vl_tree.specs.declared.part.EventKind.{EventKind}
@@ -47,6 +50,7 @@ use Rattle.vl_tree.specs.Item.{
   no_items,
   more_items,
   begin,
+  region,
   single,
   items,
 }
@@ -84,10 +88,35 @@ attributes_of (assign attrs p xs) = attrs
 attributes_of (always attrs p event x) = attrs
 attributes_of (initial attrs p x) = attrs
 attributes_of (instance attrs p x) = attrs
-attributes_of (generate attrs p xs) = attrs
+attributes_of (generate attrs p mark) = attrs
 attributes_of (for_loop attrs p head b) = attrs
 attributes_of (if_only attrs p c b) = attrs
 attributes_of (if_else attrs p c b d) = attrs
+
+abbrev pub mark_of : Item → Option RegionMark
+mark_of (generate attrs p mark) = Some mark
+mark_of x = None
+
+-- how many regions are open behind a mark, where so many are before it; None from where one is ended that isn't open
+abbrev pub open_behind_mark : Option RegionMark → Option ℕ → Option ℕ
+open_behind_mark None n = n
+open_behind_mark (Some mark.Open) None = None
+open_behind_mark (Some mark.Open) (Some n) = Some (suc n)
+open_behind_mark (Some mark.Close) (Some (suc n)) = Some n
+open_behind_mark (Some mark.Close) n = None
+
+abbrev pub open_behind : Items → Option ℕ → Option ℕ
+open_behind no_items n = n
+open_behind (more_items x xs) n = open_behind xs (open_behind_mark (mark_of x) n)
+
+-- each region that begins in the list ends in it
+abbrev pub AreBalanced : Items → Type 0
+AreBalanced xs = open_behind xs (Some 0) ≡ Some 0
+
+-- no attributes stand in front of `endgenerate`
+abbrev pub IsMarked : RegionMark → Attributes → Type 0
+IsMarked mark.Open attrs = Unit {0}
+IsMarked mark.Close attrs = attrs ≡ []
 
 -- an `else` behind it would belong to an `if` in it
 abbrev mutual
@@ -100,6 +129,7 @@ abbrev mutual
 
   pub block_ends_open : Block → Bool
   block_ends_open (begin p label xs) = false
+  block_ends_open (region p xs) = false
   block_ends_open (single x) = ends_open x
 
 abbrev mutual
@@ -112,7 +142,7 @@ abbrev mutual
   IsWellFormed (always attrs p event x) = AreAttributes attrs × IsEvent event.kind × stmt.IsWellFormed x
   IsWellFormed (initial attrs p x) = AreAttributes attrs × stmt.IsInitial x × stmt.IsWellFormed x
   IsWellFormed (instance attrs p x) = AreAttributes attrs × IsInstance x
-  IsWellFormed (generate attrs p xs) = AreAttributes attrs × AreWellFormed xs
+  IsWellFormed (generate attrs p mark) = AreAttributes attrs × IsMarked mark attrs
   IsWellFormed (for_loop attrs p head b) = AreAttributes attrs × IsHead head × IsBlock b
   IsWellFormed (if_only attrs p c b) = AreAttributes attrs × expr.IsWellFormed c × IsBlock b
   IsWellFormed (if_else attrs p c b d) =
@@ -122,10 +152,11 @@ abbrev mutual
   AreWellFormed no_items = Unit {0}
   AreWellFormed (more_items x xs) = IsWellFormed x × AreWellFormed xs
 
-  -- no attributes stand before the one item of a block without `begin`
+  -- no attributes stand before the one item of a block without `begin`, and it is no mark
   pub IsBlock : Block → Type 0
-  IsBlock (begin p label xs) = IsOptionalName label × AreWellFormed xs
-  IsBlock (single x) = (attributes_of x ≡ []) × IsWellFormed x
+  IsBlock (begin p label xs) = IsOptionalName label × AreBalanced xs × AreWellFormed xs
+  IsBlock (region p xs) = AreBalanced xs × AreWellFormed xs
+  IsBlock (single x) = (attributes_of x ≡ []) × (mark_of x ≡ None) × IsWellFormed x
 
 abbrev pub AreOptionalParameters : Option (List HeaderParameter) → Type 0
 AreOptionalParameters None = Unit {0}
@@ -136,7 +167,8 @@ AreOptionalPorts None = Unit {0}
 AreOptionalPorts (Some xs) = ArePorts xs
 
 abbrev pub IsModule : Module → Type 0
-IsModule m = IsName m.name × AreOptionalParameters m.parameters × AreOptionalPorts m.ports × AreWellFormed (items m.items)
+IsModule m = IsName m.name × AreOptionalParameters m.parameters × AreOptionalPorts m.ports × AreBalanced (items m.items)
+    × AreWellFormed (items m.items)
 
 -- a source without modules has the place 1:1 of file 1
 abbrev pub HasPlace : Pos → List Module → Type 0

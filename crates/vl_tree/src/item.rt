@@ -34,12 +34,22 @@ pub enum ItemKind {
     /// `initial stmt`, a blocking assignment or a block of them without label
     Initial(Stmt),
     Instance(Instance),
-    /// `generate .. endgenerate`
-    Generate(List<Item>),
+    /// `generate`, or `endgenerate`: a region is two marks among the items around it, so that regions in one another
+    /// make no tree deeper. In front of `endgenerate` are no attributes.
+    Generate(RegionMark),
     /// `for (head) block`
     For(LoopHead, Block),
     /// `if (condition) first else second`
     If(Expr, Block, Option<Block>),
+}
+
+/// An end of a region of generate constructs (IEEE 1364-2005, section 12.4).
+#[derive(Debug, Clone, Copy, PartialEq, Eq)]
+pub enum RegionMark {
+    /// `generate`
+    Open,
+    /// `endgenerate`
+    Close,
 }
 
 /// A block of a generate construct.
@@ -48,6 +58,9 @@ pub enum ItemKind {
 pub enum Block {
     /// `begin : label .. end`, with the place of the `begin`
     Begin(Pos, Option<Text>, List<Item>),
+    /// `generate .. endgenerate`, with the place of the `generate`; regions in it are marks
+    Region(Pos, List<Item>),
+    /// Any other item, without attributes
     Single(Box<Item>),
 }
 

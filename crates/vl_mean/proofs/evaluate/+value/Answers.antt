@@ -4,7 +4,7 @@ use Rattle.std.specs.Option.{option_map}
 use Rattle.vl_tree.specs.Expr.{exprs}
 use Rattle.vl_tree.specs.ExprView.{selects}
 use Rattle.vl_size.specs.Size.{sizes, some_bits, vector_value, word_value}
-use Rattle.vl_mean.specs.Env.{values_of}
+use Rattle.vl_mean.specs.Env.{cells_of}
 use Rattle.vl_mean.proofs.Joined.{none_from, none_at, sizes_at, two_values, three_values, of_vector, of_memory}
 use Rattle.vl_mean.proofs.evaluate.+value.Goals as goal
 
@@ -40,15 +40,15 @@ joined-returns-clause-sizes t c =
 
 pub name_value-returns-in-len2-up-clause-value : goal.name_value-returns-in-len2-up-clause-value
 name_value-returns-in-len2-up-clause-value t c =
-    let ds = c.args.env.now.decls in let v = values_of c.args.env.now in
+    let ds = c.args.env.now.decls in let v = cells_of c.args.env.now in
     of_vector c.args.decl.now.words c.is_none.result _ (word_value ds v c.args.width c.args.signed c.args.decl.now (selects c.args.all.now))
     c.is_none.ensures c.if-is_none.true
-    (two_values ds v c.args.width c.args.signed c.args.decl.now (v c.args.decl.now.name) c.args.all.now c.in-len2-up.len_at_least)
+    (two_values ds v c.args.width c.args.signed c.args.decl.now (v c.args.decl.now.name None) c.args.all.now c.in-len2-up.len_at_least)
 
 pub name_value-returns-in-Bit-3-clause-value : goal.name_value-returns-in-Bit-3-clause-value
 name_value-returns-in-Bit-3-clause-value t c =
     let ds = c.args.env.now.decls in
-    let v = values_of c.args.env.now in
+    let v = cells_of c.args.env.now in
     of_memory c.args.decl.now.words c.is_none.result
-    (vector_value ds v c.args.width c.args.signed c.args.decl.now (v c.args.decl.now.name) (selects c.args.all.now)) _ c.is_none.ensures
+    (vector_value ds v c.args.width c.args.signed c.args.decl.now (v c.args.decl.now.name None) (selects c.args.all.now)) _ c.is_none.ensures
     c.if-is_none.false (three_values ds v c.args.width c.args.signed c.args.decl.now c.args.all.now c.in-Bit-3.len_at_least)

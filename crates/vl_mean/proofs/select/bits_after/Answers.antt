@@ -1,7 +1,7 @@
 use Rattle.std.proofs.Common.{rules, sym, ◌∙◌, ◌+ℤ◌, pos}
 use mir.Val.{SFits}
 use mir.Syntax.{w128}
-use Rattle.vl_size.specs.Bits.{as_int}
+use Rattle.fv_bits.specs.Bits.{as_int}
 use Rattle.vl_mean.proofs.SelectLemmas.{far_place, not_near, is_index, through_bits}
 use Rattle.vl_mean.proofs.select.bits_after.Goals as goal
 

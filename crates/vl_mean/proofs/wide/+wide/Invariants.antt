@@ -2,7 +2,7 @@ use Rattle.std.proofs.Common.{◌≡◌, ◌≤◌, ◌*◌, ◌+◌, length, So
 use Rattle.std.specs.Prelude.{drop}
 use Rattle.vl_tree.specs.Expr.{exprs, depth, exprs_depth}
 use Rattle.vl_mean.specs.ConstantFaults.{wides}
-use Rattle.vl_mean.specs.Env.{values_of}
+use Rattle.vl_mean.specs.Env.{cells_of}
 use Rattle.vl_mean.specs.Params.{constant}
 use Rattle.vl_mean.proofs.wide.+wide.Given as goal
 
@@ -15,7 +15,7 @@ decreases-wides l = 4 * exprs_depth (exprs l.all.now) + 1
 abbrev pub invariant-wides-loop-place : goal.invariant-wides-loop-place
 invariant-wides-loop-place l =
     (l.place ≤ length l.all)
-    × (wides (constant l.params) l.env.decls (values_of l.env) (exprs (drop l.place l.all)) ≡ Some l.sum)
+    × (wides (constant l.params) l.env.decls (cells_of l.env) (exprs (drop l.place l.all)) ≡ Some l.sum)
 
 abbrev pub decreases-wides-loop-place : goal.decreases-wides-loop-place
 decreases-wides-loop-place l = l.place

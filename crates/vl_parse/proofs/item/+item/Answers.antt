@@ -1,25 +1,19 @@
-use Rattle.std.proofs.Common.{◌≡◌, [], ◌∷◌, List, refl, sym, ap, ◌∙◌, subst, rules, arith}
+use Rattle.std.proofs.Common.{◌≡◌, ℕ, ◌<◌, [], ◌∷◌, refl, sym, ap, ◌∙◌, subst, rules, arith}
 use Rattle.std.proofs.lemmas.Grind.{common_steps}
 use Rattle.fv_base.specs.declared.kind.Kind.TheVariants as k
 use Rattle.fv_base.specs.declared.keyword.Keyword.{Keyword}
 use Rattle.fv_base.specs.declared.keyword.Keyword.TheVariants as w
-use Rattle.vl_tree.specs.Phrase.{Spells, each, word, ◌▸◌}
+use Rattle.vl_tree.specs.Phrase.{Spells, word}
 use Rattle.vl_tree.specs.Item.{items}
 use Rattle.vl_tree.specs.ItemSpelling.{spell, spell_all}
 use Rattle.vl_tree.specs.ItemView.{block}
 use Rattle.vl_grammar.specs.Machine.{then}
 use Rattle.vl_parse.specs.declared.item.Ending.{Ending}
-use Rattle.vl_parse.specs.declared.item.Opened.{Opened}
-use Rattle.vl_parse.specs.Items.{word_of, innermost, still, spell_opened}
-use Rattle.vl_parse.specs.Next.{kinds_in, IsOther}
-use Rattle.vl_parse.proofs.ItemSpelled.{generate_found, for_found, if_found, if_else_found}
-use Rattle.vl_parse.proofs.ItemsSpelled.{inner_word, still_more}
+use Rattle.vl_parse.specs.Items.{word_of, innermost, still, AreOpen}
+use Rattle.vl_expr.specs.Next.{kinds_in, IsOther}
+use Rattle.vl_parse.proofs.ItemSpelled.{for_found, if_found, if_else_found}
+use Rattle.vl_parse.proofs.ItemsSpelled.{inner_word, still_more, still_closed}
 use Rattle.vl_parse.proofs.item.+item.Goals as goal
-
-pub read_generate-returns-clause-found : goal.read_generate-returns-clause-found
-read_generate-returns-clause-found n c start here word =
-    subst (λ x. Spells (spell x) start c.in_ok-all.rest.now) (sym c.bare.ensures)
-    (generate_found (items c.in_ok-all.all) c.args.pos start c.args.tokens.now c.in_ok-all.rest.now here word c.in_ok-all.ensures.found)
 
 pub read_for-returns-clause-found : goal.read_for-returns-clause-found
 read_for-returns-clause-found n c start here word =
@@ -40,44 +34,42 @@ read_if-returns-in_ok-second-in-Some-clause-found n c start here word =
     c.in_ok-condition.rest.now c.in_ok-first.rest.now c.in-Some.rest.now c.in_ok-second-in-Some.rest.now here word c.in_ok-condition.ensures.found
     c.in_ok-first.ensures.found c.in-Some.ensures.found c.in_ok-second-in-Some.ensures.found)
 
--- the word that ends a `generate` that is still open
-word_inside : (os : List Opened) (outer inner : Ending) (found : Keyword) → inner ≡ innermost os outer → found ≡ word_of inner → (os ≡ [] → ⊥)
-    → found ≡ w.Endgenerate
-word_inside os outer inner found e f h = f ∙ ap word_of e ∙ inner_word os outer h
+-- the word that ends a region that is still open
+word_inside : (m : ℕ) (outer inner : Ending) (found : Keyword) → inner ≡ innermost m outer → found ≡ word_of inner → 0 < m → found ≡ w.Endgenerate
+word_inside m outer inner found e f h = f ∙ ap word_of e ∙ inner_word m outer h
 
 pub read_items-loop-behind-init : goal.read_items-loop-behind-init
 read_items-loop-behind-init n c =
     let tokens = c.args.tokens.now in
     record {
-      found = subst (λ os. Spells (each spell_opened os ▸ spell_all (items c.new-2.result)) tokens tokens) (sym c.new.ensures)
-          (subst (λ xs. Spells (each spell_opened [] ▸ spell_all (items xs)) tokens tokens) (sym c.new-2.ensures) (tokens, refl, refl));
-      formed = grind (arith, common_steps);
+      found = subst (λ xs. Spells (spell_all (items xs)) tokens tokens) (sym c.new.ensures) refl;
+      formed = subst (λ xs. AreOpen xs 0) (sym c.new.ensures) (refl, tt);
       shorter = omega arith;
-      goes = ap (λ os. still os c.args.ending c.args.room (kinds_in tokens)) (sym c.new.ensures);
+      goes = refl;
     }
 
 pub read_items-loop-behind-preserved-in-Some : goal.read_items-loop-behind-preserved-in-Some
 read_items-loop-behind-preserved-in-Some n c =
-    let around = c.loop-behind.reading.around in
+    let regions = c.loop-behind.reading.regions in
     let outer = c.args.ending in
     let room = c.args.room in
     let rest = c.loop-behind.rest.now in
     let behind = c.in-Some.behind.now in
-    let some : around ≡ [] → ⊥ = grind (arith, common_steps) in
-    let same = word_inside around outer c.ending.result c.word.result c.ending.ensures c.word.ensures some in
+    let some : 0 < regions = grind (arith, common_steps) in
+    let same = word_inside regions outer c.ending.result c.word.result c.ending.ensures c.word.ensures some in
     record {
-      found = c.in_ok-reading.ensures.found c.args.tokens.now rest behind c.loop-behind.invariant.found
+      found = c.in_ok-reading.ensures.found c.args.tokens.now rest behind c.loop-behind.invariant.found c.in_ok-pos.ensures.here
           (subst (λ q. Spells (word q) rest behind) same c.in-Some.ensures.found);
       formed = c.in_ok-reading.ensures.formed;
       shorter = omega (arith, c.loop-behind.invariant.shorter, c.in-Some.ensures.shorter);
       goes = c.loop-behind.invariant.goes
-          ∙ ap (λ ts. still around outer room ts) (c.in-Some.ensures.read ∙ ap (λ q. k.Keyword q ∷ kinds_in behind) same)
-          ∙ c.in_ok-reading.ensures.goes outer room (kinds_in behind);
+          ∙ ap (λ ts. still regions outer room ts) (c.in-Some.ensures.read ∙ ap (λ q. k.Keyword q ∷ kinds_in behind) same)
+          ∙ still_closed c.in_ok-reading.reading.regions regions outer room (kinds_in behind) c.in_ok-reading.ensures.regions;
     }
 
 pub read_items-loop-behind-preserved : goal.read_items-loop-behind-preserved
 read_items-loop-behind-preserved n c =
-    let around = c.loop-behind.reading.around in
+    let regions = c.loop-behind.reading.regions in
     let outer = c.args.ending in
     let room = c.args.room in
     let rest = c.loop-behind.rest.now in
@@ -88,8 +80,8 @@ read_items-loop-behind-preserved n c =
       formed = c.in_ok-reading-2.ensures.formed;
       shorter = omega (arith, c.loop-behind.invariant.shorter, c.in_ok-front.ensures.shorter);
       goes = c.loop-behind.invariant.goes
-          ∙ still_more around outer room (kinds_in rest)
+          ∙ still_more regions outer room (kinds_in rest)
           (subst (λ q. IsOther (k.Keyword q) (kinds_in rest)) (c.word.ensures ∙ ap word_of c.ending.ensures) none)
-          ∙ ap (λ o. then o (λ r. still around outer room r)) c.in_ok-front.ensures.goes
+          ∙ ap (λ o. then o (λ r. still regions outer room r)) c.in_ok-front.ensures.goes
           ∙ c.in_ok-reading-2.ensures.goes outer room (kinds_in behind);
     }

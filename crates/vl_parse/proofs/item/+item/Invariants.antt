@@ -2,7 +2,7 @@ use Rattle.std.proofs.Common.{◌≡◌, ℕ, ◌+◌, ◌*◌, ◌≤◌, lengt
 use Rattle.vl_tree.specs.Phrase.{Spells}
 use Rattle.vl_grammar.specs.Grammar as grammar
 use Rattle.vl_parse.specs.Items as items
-use Rattle.vl_parse.specs.Next.{kinds_in}
+use Rattle.vl_expr.specs.Next.{kinds_in}
 use Rattle.vl_parse.proofs.item.+item.Given as goal
 
 abbrev pub decreases-read_item : goal.decreases-read_item
@@ -14,11 +14,11 @@ decreases-read_if l = 5 * length l.tokens.now
 abbrev pub decreases-read_for : goal.decreases-read_for
 decreases-read_for l = 5 * length l.tokens.now
 
-abbrev pub decreases-read_generate : goal.decreases-read_generate
-decreases-read_generate l = 5 * length l.tokens.now + 3
-
 abbrev pub decreases-read_block : goal.decreases-read_block
-decreases-read_block l = 5 * length l.tokens.now + 1
+decreases-read_block l = 5 * length l.tokens.now + 2
+
+abbrev pub decreases-read_short_block : goal.decreases-read_short_block
+decreases-read_short_block l = 5 * length l.tokens.now + 1
 
 abbrev pub decreases-read_front : goal.decreases-read_front
 decreases-read_front l = 5 * length l.tokens.now + 1
@@ -35,7 +35,7 @@ invariant-read_items-loop-behind l = record {
   formed : items.IsReading l.reading;
   shorter : length l.rest ≤ length l.fn.tokens;
   goes : grammar.read (grammar.items (items.ending_of l.fn.ending)) l.fn.room (kinds_in l.fn.tokens)
-      ≡ items.still l.reading.around l.fn.ending l.fn.room (kinds_in l.rest);
+      ≡ items.still l.reading.regions l.fn.ending l.fn.room (kinds_in l.rest);
 }
 
 abbrev pub decreases-read_items-loop-behind : goal.decreases-read_items-loop-behind

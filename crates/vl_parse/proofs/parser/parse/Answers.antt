@@ -5,8 +5,8 @@ use Rattle.vl_tree.specs.Phrase.{kinds_of}
 use Rattle.vl_grammar.specs.Grammar.{read, modules, run}
 use Rattle.vl_parse.specs.declared.fault.ParseFault.TheVariants as f
 use Rattle.vl_parse.specs.Faults.{Answers}
-use Rattle.vl_parse.specs.Goes.{Ends}
-use Rattle.vl_parse.specs.Next.{kinds_in}
+use Rattle.vl_expr.specs.Goes.{Ends}
+use Rattle.vl_expr.specs.Next.{kinds_in}
 use Rattle.vl_parse.proofs.Top.{answers_ok, answers_wrong, answers_deep}
 use Rattle.vl_parse.proofs.Refusals.{shallow, one, gives, fault_of_tokens, refuses_faulty, refuses_deep}
 use Rattle.vl_parse.proofs.parser.parse.Goals as goal

@@ -13,8 +13,8 @@ use Rattle.vl_size.proofs.Ways.{one_size}
 use Rattle.vl_size.proofs.Names.{name_0, two_selects, three_selects, of_vector, of_memory}
 use Rattle.vl_size.proofs.size.+size.Goals as goal
 
-pub size_of-returns-in-Binary-clause-value : goal.size_of-returns-in-Binary-clause-value
-size_of-returns-in-Binary-clause-value t c =
+pub self_size-returns-in-Binary-clause-value : goal.self_size-returns-in-Binary-clause-value
+self_size-returns-in-Binary-clause-value t c =
     let left : c.deref-in-Binary.result.now ≡ c.in-Binary.left.value = search rules in
     let right : c.deref-in-Binary-2.result.now ≡ c.in-Binary.right.value = search rules in
     let whole : binary c.expr.inside.pos c.in-Binary.operator c.deref-in-Binary.result.now c.deref-in-Binary-2.result.now ≡ c.args.expr.now =
@@ -111,7 +111,7 @@ pub sizes_of-loop-part-preserved : goal.sizes_of-loop-part-preserved
 sizes_of-loop-part-preserved t c =
     let front : drop c.loop-part.part-index c.args.all.now ≡ c.part-item.result ∷ drop (c.loop-part.part-index + 1) c.args.all.now = grind (arith, common_steps) in (
       c.in_ok-sum.ensures.few.1,
-      sym (with_rest-on _ c.loop-part.sum _ c.in_ok-sum.sum _ _ (sym c.in_ok-size_of.ensures.value) (sym c.in_ok-sum.ensures.value))
+      sym (with_rest-on _ c.loop-part.sum _ c.in_ok-sum.sum _ _ (sym c.in_ok-self_size.ensures.value) (sym c.in_ok-sum.ensures.value))
           ∙ ap (λ es. with_rest c.args.decls.now c.loop-part.sum (exprs es)) (sym front) ∙ c.loop-part.invariant.1,
     )
 
@@ -192,13 +192,13 @@ joined-returns-clause-value t c =
     joins_end c.args.decls.now (sizes c.args.decls.now (exprs c.args.all.now)) c.loop-part.width c.loop-part.number
     (joined c.args.decls.now no_names (exprs c.args.all.now)) (subst W gone c.loop-part.invariant.2) (subst J gone c.loop-part.invariant.3)
 
-pub sizes_of-returns-in_err-size_of-clause-value : goal.sizes_of-returns-in_err-size_of-clause-value
-sizes_of-returns-in_err-size_of-clause-value t c =
+pub sizes_of-returns-in_err-self_size-clause-value : goal.sizes_of-returns-in_err-self_size-clause-value
+sizes_of-returns-in_err-self_size-clause-value t c =
     let front : drop c.loop-part.part-index c.args.all.now ≡ c.part-item.result ∷ drop (c.loop-part.part-index + 1) c.args.all.now = grind (arith, common_steps) in
     let left : c.from_residual.result ≡ None = search rules in
     left
     ∙ sym (sym c.loop-part.invariant.1 ∙ ap (λ es. with_rest c.args.decls.now c.loop-part.sum (exprs es)) front
-    ∙ with_rest-None _ _ _ _ (sym c.in_err-size_of.ensures.value))
+    ∙ with_rest-None _ _ _ _ (sym c.in_err-self_size.ensures.value))
 
 pub sizes_of-returns-in_err-sum-clause-value : goal.sizes_of-returns-in_err-sum-clause-value
 sizes_of-returns-in_err-sum-clause-value t c =
@@ -206,7 +206,7 @@ sizes_of-returns-in_err-sum-clause-value t c =
     let left : c.from_residual-in_err-sum.result ≡ None = search rules in
     left
     ∙ sym (sym c.loop-part.invariant.1 ∙ ap (λ es. with_rest c.args.decls.now c.loop-part.sum (exprs es)) front
-    ∙ with_rest-stops _ _ c.in_ok-size_of.field-0 _ _ (sym c.in_ok-size_of.ensures.value) (sym c.in_err-sum.ensures.value))
+    ∙ with_rest-stops _ _ c.in_ok-self_size.field-0 _ _ (sym c.in_ok-self_size.ensures.value) (sym c.in_err-sum.ensures.value))
 
 pub selected_size-returns-in-len2-up-clause-value : goal.selected_size-returns-in-len2-up-clause-value
 selected_size-returns-in-len2-up-clause-value t c =

@@ -6,8 +6,8 @@ use Rattle.vl_size.proofs.Joined.{Joins}
 use Rattle.vl_size.proofs.Rest.{with_rest}
 use Rattle.vl_size.proofs.size.+size.Given as goal
 
-abbrev pub decreases-size_of : goal.decreases-size_of
-decreases-size_of l = 8 * depth l.expr.now
+abbrev pub decreases-self_size : goal.decreases-self_size
+decreases-self_size l = 8 * depth l.expr.now
 
 abbrev pub decreases-evaluate : goal.decreases-evaluate
 decreases-evaluate l = 8 * depth l.expr.now

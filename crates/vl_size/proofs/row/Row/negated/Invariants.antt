@@ -1,5 +1,5 @@
 use Rattle.std.proofs.Common.{◌≡◌, ◌<◌, ◌^◌, get_or, ℕ, length}
-use Rattle.vl_size.specs.Bits.{negative}
+use Rattle.fv_bits.specs.Bits.{negative}
 use Rattle.vl_size.proofs.row.Row.negated.Given as goal
 
 abbrev pub invariant-loop-width : goal.invariant-loop-width

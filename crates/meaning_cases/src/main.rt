@@ -1,0 +1,22 @@
+//! Reads lines of standard input, and prints what they say of sizes, signs, values and constants.
+#![tactic(auto)]
+
+mod bench;
+mod line;
+mod names;
+mod read;
+mod show;
+
+use crate::bench::Bench;
+use anyhow::Result;
+
+fn main(rt: HostRuntime) -> Result<()> {
+    let alloc = rt.alloc();
+    let mut bench = Bench::new(alloc);
+    for line in rt.lines(alloc) {
+        let line = line?;
+        let answer = bench.answer(line.as_str())?;
+        println!(rt; "{answer}")?;
+    }
+    Ok(())
+}

@@ -1,0 +1,47 @@
+//! Answers as text.
+
+use fv_base::Pos;
+use std::alloc::{AllocError, Global};
+use vl_mean::{Const, ConstFault};
+
+fn sign(signed: bool) -> &'static str {
+    if signed { "signed" } else { "unsigned" }
+}
+
+/// A size with a sign, or that there is none.
+pub fn size(alloc: Global, size: Option<u32>, signed: bool) -> Result<String, AllocError> {
+    match size {
+        None => String::from_str(alloc, "none"),
+        Some(width) => {
+            let sign = sign(signed);
+            format!(in alloc; "{width} {sign}")
+        }
+    }
+}
+
+/// A constant with its size and sign.
+pub fn constant(alloc: Global, found: &Const) -> Result<String, AllocError> {
+    let width = found.width;
+    let value = found.value;
+    let sign = sign(found.signed);
+    format!(in alloc; "{width} {sign} {value}")
+}
+
+fn at(alloc: Global, what: &str, pos: Pos) -> Result<String, AllocError> {
+    let col = pos.col;
+    format!(in alloc; "{what} at {col}")
+}
+
+/// A refusal, with the column of its place.
+pub fn fault(alloc: Global, fault: &ConstFault) -> Result<String, AllocError> {
+    match fault {
+        ConstFault::NotConstant(pos) => at(alloc, "not constant", *pos),
+        ConstFault::ZeroDivisor(pos) => at(alloc, "zero divisor", *pos),
+        ConstFault::TooWide(pos, bits) => {
+            let col = pos.col;
+            format!(in alloc; "{bits} bits at {col}")
+        }
+        ConstFault::Range(pos) => at(alloc, "range", *pos),
+        ConstFault::Memory => String::from_str(alloc, "no memory"),
+    }
+}

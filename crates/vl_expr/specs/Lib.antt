@@ -1,0 +1,5 @@
+pub mod Goes
+pub mod Next
+pub mod Lead
+pub mod Levels
+pub mod Parts

@@ -1,9 +1,0 @@
--- What attributes stand before, as a rule of the grammar. IEEE 1364-2005, section 3.8.
-use Rattle.vl_grammar.specs.Grammar as grammar
-use Rattle.vl_parse.specs.declared.attribute.Before.{Before}
-use Rattle.vl_parse.specs.declared.attribute.Before.TheVariants as b
-
-abbrev pub rule_of : Before → grammar.Rule
-rule_of b.Item = grammar.item
-rule_of b.Stmt = grammar.stmt
-rule_of b.Port = grammar.full_port

@@ -1,0 +1,9 @@
+pub mod DeclarationRows
+pub mod LvalSpelled
+pub mod ListLaws
+pub mod PartRows
+pub mod ConnectionRows
+pub mod PortLaws
+pub mod PartSpelled
+pub mod HeadSpelled
+pub mod EndRows

@@ -1,0 +1,4 @@
+pub mod Before
+pub mod Tails
+pub mod LoopHead
+pub mod Lists

@@ -1,0 +1,5 @@
+pub mod StmtRows
+pub mod StmtSpelled
+pub mod StmtLeads
+pub mod ArmRows
+pub mod StmtNodes

@@ -1,0 +1,3 @@
+pub mod StmtLead
+pub mod Statements
+pub mod Arms
