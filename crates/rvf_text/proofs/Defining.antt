@@ -3,11 +3,12 @@ use Rattle.std.proofs.Common.{◌≡◌, ℕ, List, None, Ok, sym, ap, ◌∙◌
 use Rattle.fv_base.specs.declared.token.Token.{Token}
 use Rattle.vl_token.specs.Tokens.{AreTokens}
 use Rattle.vl_prep.specs.Macros.{Held}
-use Rattle.vl_prep.specs.Prep.{Done, preprocessed}
-use Rattle.rvf_text.specs.Predefined.{prologue, none, ArePredefined}
+use Rattle.vl_prep.specs.Prep.{Outcome, preprocessed}
+use Rattle.rvf_text.specs.Predefined.{prologue, none, ArePredefinedFor}
+use Rattle.rvf_text.specs.declared.macros.Core.{Core}
 use Rattle.rvf_text.proofs.Preparing.{ok_same}
 
-module _ (text : List ℕ) (tokens : List Token) (empty macros : Held) (output : List Token) (is : text ≡ prologue) (lexes : AreTokens 0 1 text tokens)
+module _ (core : Core) (text : List ℕ) (tokens : List Token) (empty macros : Held) (output : List Token) (is : text ≡ prologue core) (lexes : AreTokens 0 1 text tokens)
     (one : (us : List Token) → AreTokens 0 1 text us → us ≡ tokens) (nothing : (name : List ℕ) → empty name ≡ None)
     (prepared : preprocessed empty tokens ≡ Ok (record { macros = macros; output = output })) where
   empty_is : empty ≡ none
@@ -16,12 +17,12 @@ module _ (text : List ℕ) (tokens : List Token) (empty macros : Held) (output :
   defined : preprocessed none tokens ≡ Ok (record { macros = macros; output = output })
   defined = ap (λ m. preprocessed m tokens) (sym empty_is) ∙ prepared
 
-  pub defined_once : (other : Held) → ArePredefined other → other ≡ macros
+  pub defined_once : (other : Held) → ArePredefinedFor core other → other ≡ macros
   defined_once other p =
       let same : p.tokens ≡ tokens = one p.tokens (subst (λ t. AreTokens 0 1 t p.tokens) (sym is) p.lexes) in
       let done : record_of other p.output ≡ record_of macros output =
       ok_same (preprocessed none tokens) (record_of other p.output) (record_of macros output) (ap (preprocessed none) (sym same) ∙ p.defined) defined in
       ap (λ d. d.macros) done
     where
-      record_of : Held → List Token → Done
+      record_of : Held → List Token → Outcome
       record_of m o = record { macros = m; output = o }

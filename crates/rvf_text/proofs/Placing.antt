@@ -14,7 +14,7 @@ use Rattle.vl_token.specs.Tokens.{AreTokens, AreOf, Takes, is_token}
 use Rattle.vl_token.specs.declared.fault.LexFault.{LexFault}
 use Rattle.vl_token.specs.declared.fault.LexFault.TheVariants as lex
 use Rattle.vl_prep.specs.Places.{places, fault_place, IsPlaced}
-use Rattle.vl_prep.specs.Prep.{Done, preprocessed}
+use Rattle.vl_prep.specs.Prep.{Outcome, preprocessed}
 use Rattle.vl_prep.specs.declared.fault.PrepFault.{PrepFault}
 use Rattle.vl_prep.proofs.Places.{placed_output, placed_at}
 use Rattle.vl_tree.specs.declared.source.Source.{Source}
@@ -113,7 +113,7 @@ module _ (bytes : List ℕ) where
   refused_in (Prep f) r =
       prepared r.tokens f (tokens_in r.tokens r.lexes) (placed_at r.refuses.macros r.tokens f r.refuses.refused)
   refused_in (Parse f) r =
-      let done : Done = r.refuses.done in
+      let done : Outcome = r.refuses.done in
       parsed done.output
       (output_in r.tokens done.output (tokens_in r.tokens r.lexes) (placed_output r.refuses.prepared.macros r.tokens done r.refuses.prepared.prepared)) f r.refuses.misparsed
   refused_in Memory r = tt

@@ -3,7 +3,7 @@ use Rattle.std.proofs.Common.{◌≡◌, List, Result, Ok, Err, sym, ap, ◌∙�
 use Rattle.fv_base.specs.declared.token.Token.{Token}
 use Rattle.vl_prep.specs.Faults.{OnNotMemory}
 use Rattle.vl_prep.specs.Macros.{Held}
-use Rattle.vl_prep.specs.Prep.{Done, preprocessed}
+use Rattle.vl_prep.specs.Prep.{Outcome, preprocessed}
 use Rattle.vl_prep.specs.declared.fault.PrepFault.{PrepFault}
 use Rattle.vl_prep.specs.declared.fault.PrepFault.TheVariants as prep
 use Rattle.vl_tree.specs.declared.source.Source.{Source}
@@ -18,11 +18,11 @@ pub ok_same : {A E : Type 0} (r : Result A E) (a b : A) → r ≡ Ok a → r ≡
 ok_same r a b p q = cc
 
 module _ (tokens : List Token) (macros : Held) (predefined : ArePredefined macros) (one : (other : Held) → ArePredefined other → other ≡ macros) where
-  module _ (done : Done) (prepared : preprocessed macros tokens ≡ Ok done) where
+  module _ (done : Outcome) (prepared : preprocessed macros tokens ≡ Ok done) where
     here : ArePrepared tokens done
     here = record { macros = macros; predefined = predefined; prepared = prepared }
 
-    same_done : (other : Done) → ArePrepared tokens other → other ≡ done
+    same_done : (other : Outcome) → ArePrepared tokens other → other ≡ done
     same_done other p =
         ok_same (preprocessed macros tokens) other done (ap (λ m. preprocessed m tokens) (sym (one p.macros p.predefined)) ∙ p.prepared) prepared
 
@@ -58,7 +58,7 @@ module _ (tokens : List Token) (macros : Held) (predefined : ArePredefined macro
     none = λ tree h. not_done h.done h.prepared;
   }
     where
-      not_done : (done : Done) → ArePrepared tokens done → ⊥
+      not_done : (done : Outcome) → ArePrepared tokens done → ⊥
       not_done done p = both_ways (preprocessed macros tokens) done fault (ap (λ m. preprocessed m tokens) (sym (one p.macros p.predefined)) ∙ p.prepared) refused
 
       only : (other : TextFault) → PrepRefuses tokens other → other ≡ Prep fault

@@ -1,10 +1,13 @@
--- The macros that are defined before a text is read, for RV32I. Names and widths of RVFI are those of riscv-formal, the rest
+-- The macros that are defined before a text is read. Names and widths of RVFI are those of riscv-formal, the rest
 -- is a rule of this project.
-use Rattle.std.specs.Prelude.{◌≡◌, ℕ, List, [], ◌∷◌, ◌++◌, None, Ok, codes}
+use Rattle.std.specs.Prelude.{◌≡◌, ℕ, List, [], ◌∷◌, ◌++◌, cond, false, None, Ok, codes}
 use Rattle.fv_base.specs.declared.token.Token.{Token}
 use Rattle.vl_token.specs.Tokens.{AreTokens}
 use Rattle.vl_prep.specs.Macros.{Held}
 use Rattle.vl_prep.specs.Prep.{preprocessed}
+use Rattle.rvf_text.specs.declared.macros.Core.{Core}
+use Rattle.rvf_text.specs.declared.macros.Retirements.{Retirements}
+use Rattle.rvf_text.specs.declared.macros.Retirements.TheVariants.{One}
 
 abbrev Field : Type 0
 Field = List ℕ × List ℕ
@@ -58,11 +61,22 @@ joined between written (f ∷ fs) = written f ++ (between ++ joined between writ
 abbrev define : List ℕ → List ℕ → List ℕ
 define name text = codes "`define " ++ (name ++ (codes " " ++ (text ++ codes "\n")))
 
--- the text that defines the macros
-unfoldable pub prologue : List ℕ
-prologue =
-    define (codes "RISCV_FORMAL") []
-    ++ (define (codes "RISCV_FORMAL_NRET") (codes "1")
+-- what is defined for an instruction set with C alone
+abbrev pub define_compressed : List ℕ
+define_compressed = codes "`define RISCV_FORMAL_COMPRESSED \n"
+
+abbrev pub define_retirements : List ℕ
+define_retirements = codes "`define RISCV_FORMAL_NRET "
+
+-- how many instructions retire in a cycle
+abbrev pub digits_of : Retirements → List ℕ
+digits_of One = codes "1"
+
+-- what is defined for each core, behind the number of retirements
+unfoldable pub common : List ℕ
+common =
+    codes "\n"
+    ++ (define (codes "RISCV_FORMAL") []
     ++ (define (codes "RISCV_FORMAL_XLEN") (codes "32")
     ++ (define (codes "RISCV_FORMAL_ILEN") (codes "32")
     ++ (define (codes "rvformal_rand_reg") (codes "(* anyseq *) reg")
@@ -71,12 +85,23 @@ prologue =
     ++ (define (codes "RVFI_OUTPUTS") (joined (codes ", ") output fields)
     ++ (define (codes "RVFI_WIRES") (joined (codes " ") wire fields) ++ define (codes "RVFI_CONN") (joined (codes ", ") connected fields)))))))))
 
+-- the text that defines the macros
+abbrev pub prologue : Core → List ℕ
+prologue core = cond core.compressed define_compressed [] ++ define_retirements ++ digits_of core.retirements ++ common
+
 abbrev pub none : Held
 none name = None
 
 -- the macros are those that the text defines, in file 0
-pub record ArePredefined (macros : Held) : Type 0 where
+pub record ArePredefinedFor (core : Core) (macros : Held) : Type 0 where
   pub tokens : List Token
-  pub lexes : AreTokens 0 1 prologue tokens
+  pub lexes : AreTokens 0 1 (prologue core) tokens
   pub output : List Token
   pub defined : preprocessed none tokens ≡ Ok (record { macros = macros; output = output })
+
+-- without C, and with one retirement in a cycle
+abbrev pub rv32i : Core
+rv32i = record { compressed = false; retirements = One }
+
+abbrev pub ArePredefined : Held → Type 0
+ArePredefined macros = ArePredefinedFor rv32i macros

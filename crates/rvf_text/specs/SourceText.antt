@@ -4,7 +4,7 @@ use Rattle.fv_base.specs.declared.token.Token.{Token}
 use Rattle.vl_token.specs.Fault as lexer
 use Rattle.vl_token.specs.Tokens.{AreTokens}
 use Rattle.vl_prep.specs.Macros.{Held}
-use Rattle.vl_prep.specs.Prep.{Done, preprocessed}
+use Rattle.vl_prep.specs.Prep.{Outcome, preprocessed}
 use Rattle.vl_prep.specs.declared.fault.PrepFault.{PrepFault}
 use Rattle.vl_tree.specs.declared.source.Source.{Source}
 use Rattle.vl_parse.specs.Refusals.{IsTreeOf, IsShallow, IsFaultOf}
@@ -29,7 +29,7 @@ ParseRefuses tokens (Parse fault) = IsMisparsed tokens fault
 ParseRefuses tokens fault = ⊥
 
 -- with the predefined macros the tokens come to these
-pub record ArePrepared (tokens : List Token) (done : Done) : Type 0 where
+pub record ArePrepared (tokens : List Token) (done : Outcome) : Type 0 where
   pub macros : Held
   pub predefined : ArePredefined macros
   pub prepared : preprocessed macros tokens ≡ Ok done
@@ -41,13 +41,13 @@ pub record IsMisprepared (tokens : List Token) (fault : PrepFault) : Type 0 wher
 
 -- what the tokens come to is this tree
 pub record HasTree (tokens : List Token) (tree : Source) : Type 0 where
-  pub done : Done
+  pub done : Outcome
   pub prepared : ArePrepared tokens done
   pub tree_is : IsTree done.output tree
 
 -- or is refused
 pub record HasMisparse (tokens : List Token) (fault : ParseFault) : Type 0 where
-  pub done : Done
+  pub done : Outcome
   pub prepared : ArePrepared tokens done
   pub misparsed : IsMisparsed done.output fault
 

@@ -5,9 +5,7 @@ mod fault;
 mod macros;
 mod reading;
 mod shared;
-#[cfg(test)]
-mod tests;
 
 pub use fault::TextFault;
-pub use macros::predefined;
+pub use macros::{Core, Retirements, predefined};
 pub use reading::read_source;

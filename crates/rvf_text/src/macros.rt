@@ -1,15 +1,45 @@
 ghost use Rattle.std.specs.Prelude.{◌≡◌, IfOk};
 ghost use Rattle.vl_prep.specs.Macros.{Held, held};
-ghost use Rattle.rvf_text.specs.Predefined.{prologue, ArePredefined};
+ghost use Rattle.rvf_text.specs.Predefined.{common, define_compressed, define_retirements, digits_of, prologue, ArePredefinedFor};
 
 use fv_base::Memory;
 use std::alloc::Global;
 use vl_prep::{Macros, prep};
 use vl_token::lex;
 
-/// The text that defines the macros.
-const PROLOGUE: &[u8] = b"`define RISCV_FORMAL \n\
-`define RISCV_FORMAL_NRET 1\n\
+/// What the predefined macros say of the core.
+#[derive(Debug, Clone, Copy, PartialEq, Eq)]
+pub struct Core {
+    /// Whether its instruction set has the extension C.
+    pub compressed: bool,
+    pub retirements: Retirements,
+}
+
+/// How many instructions retire in a cycle.
+#[derive(Debug, Clone, Copy, PartialEq, Eq)]
+pub enum Retirements {
+    One,
+}
+
+impl Retirements {
+    fn digits(self) -> &'static [u8]
+        ensures { result.now ≡ digits_of self }
+    {
+        match self {
+            Retirements::One => b"1",
+        }
+    }
+}
+
+/// What is defined for an instruction set with C alone.
+const COMPRESSED: &[u8] = b"`define RISCV_FORMAL_COMPRESSED \n";
+
+/// What stands before the number of retirements.
+const FRONT: &[u8] = b"`define RISCV_FORMAL_NRET ";
+
+/// What is defined for each core.
+const COMMON: &[u8] = b"\n\
+`define RISCV_FORMAL \n\
 `define RISCV_FORMAL_XLEN 32\n\
 `define RISCV_FORMAL_ILEN 32\n\
 `define rvformal_rand_reg (* anyseq *) reg\n\
@@ -79,21 +109,57 @@ wire [`RISCV_FORMAL_NRET * 32 - 1 : 0] rvfi_mem_wdata;\n\
 .rvfi_mem_rdata(rvfi_mem_rdata), \
 .rvfi_mem_wdata(rvfi_mem_wdata)\n";
 
-#[tactic(auto, unfolding(crate::specs::Predefined::prologue))]
-fn text() -> &'static [u8]
-    ensures { result.now ≡ prologue }
+fn for_compressed() -> &'static [u8]
+    ensures { result.now ≡ define_compressed }
 {
-    PROLOGUE
+    COMPRESSED
 }
 
-/// The macros that are defined before a text is read, for RV32I (riscv-formal).
-///
-/// The text that defines them is fixed, and no part refuses it: a test reads it.
-pub fn predefined(alloc: Global) -> Result<Macros, Memory>
-    ensures found { IfOk result (λ macros. ArePredefined (held macros)) }
-    ensures one { IfOk result (λ macros. (other : Held) → ArePredefined other → other ≡ held macros) }
+fn before_retirements() -> &'static [u8]
+    ensures { result.now ≡ define_retirements }
 {
-    let Ok(tokens) = lex(alloc, text(), 0, 1) else {
+    FRONT
+}
+
+#[tactic(auto, unfolding(crate::specs::Predefined::common))]
+fn for_each_core() -> &'static [u8]
+    ensures { result.now ≡ common }
+{
+    COMMON
+}
+
+/// The text that defines the macros.
+fn text(alloc: Global, core: Core) -> Result<Vec<u8>, Memory>
+    ensures { IfOk result (λ text. text.items ≡ prologue core) }
+{
+    let mut text = Vec::new(alloc);
+    if core.compressed {
+        text.extend_from_slice(for_compressed())?;
+    }
+    text.extend_from_slice(before_retirements())?;
+    text.extend_from_slice(core.retirements.digits())?;
+    text.extend_from_slice(for_each_core())?;
+    Ok(text)
+}
+
+/// The macros that are defined before a text is read (riscv-formal).
+///
+/// The text that defines them is fixed for each core, and no part refuses it: a test reads it.
+pub fn predefined(alloc: Global, core: Core) -> Result<Macros, Memory>
+    ensures found { IfOk result (λ macros. ArePredefinedFor core (held macros)) }
+    ensures one { IfOk result (λ macros. (other : Held) → ArePredefinedFor core other → other ≡ held macros) }
+{
+    let text = text(alloc, core)?;
+    defined_by(alloc, core, text.as_slice())
+}
+
+/// The macros that the text defines.
+fn defined_by(alloc: Global, core: Core, text: &[u8]) -> Result<Macros, Memory>
+    requires { text.now ≡ prologue core }
+    ensures found { IfOk result (λ macros. ArePredefinedFor core (held macros)) }
+    ensures one { IfOk result (λ macros. (other : Held) → ArePredefinedFor core other → other ≡ held macros) }
+{
+    let Ok(tokens) = lex(alloc, text, 0, 1) else {
         return Err(Memory);
     };
     match prep(alloc, Macros::empty(alloc), tokens.as_slice()) {

@@ -6,13 +6,19 @@ ghost use Rattle.rvf_text.specs.Places.{IsPlacedIn};
 ghost use Rattle.rvf_text.specs.SourceText.{HasTree, IsRefused, IsSourceOf, IsTree, ParseRefuses, PrepRefuses, Reads};
 
 use crate::fault::TextFault;
-use crate::macros::predefined;
+use crate::macros::{Core, Retirements, predefined};
 use fv_base::Token;
 use std::alloc::Global;
 use vl_parse::{ParseFault, parse};
 use vl_prep::{PrepFault, prep};
 use vl_token::{LexFault, lex};
 use vl_tree::Source;
+
+/// The core whose macros are predefined.
+const RV32I: Core = Core {
+    compressed: false,
+    retirements: Retirements::One,
+};
 
 fn of_lex(fault: LexFault) -> TextFault
     ensures { result ≡ faults.of_lex fault }
@@ -55,7 +61,7 @@ fn parsed(alloc: Global, tokens: &[Token]) -> Result<Source, TextFault>
 fn prepared(alloc: Global, tokens: &[Token]) -> Result<Source, TextFault>
     ensures { Reads (HasTree tokens.now) (PrepRefuses tokens.now) result }
 {
-    let Ok(macros) = predefined(alloc) else {
+    let Ok(macros) = predefined(alloc, RV32I) else {
         return Err(TextFault::Memory);
     };
     match prep(alloc, macros, tokens) {

@@ -1,11 +1,9 @@
-pub mod Outermost
+pub mod Ended
 pub mod Names
 pub mod Quieted
-pub mod Levels
-pub mod Chosen
-pub mod Uses
 pub mod Single
 pub mod ByRules
-pub mod Unwinding
-pub mod ByReading
+pub mod Total
+pub mod Whole
+pub mod Uses
 pub mod Places

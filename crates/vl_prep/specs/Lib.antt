@@ -1,6 +1,7 @@
 pub mod Directive
 pub mod Lines
 pub mod Macros
+pub mod Refusals
 pub mod Opens
 pub mod Faults
 pub mod Prep

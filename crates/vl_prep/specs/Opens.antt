@@ -1,13 +1,9 @@
 -- Conditionals and their groups (IEEE 1364-2005, section 19.4). A list of them has the innermost first.
-use Rattle.std.specs.Prelude.{◌≡◌, ℕ, zero, suc, Bool, true, false, cond, List, [], ◌∷◌, Option, None, Some}
+use Rattle.std.specs.Prelude.{Bool, true, false, not, List, [], ◌∷◌, Option, Some, None}
 use Rattle.fv_base.specs.declared.pos.Pos.{Pos}
-use Rattle.fv_base.specs.declared.token.Token.{Token}
-use Rattle.vl_prep.specs.declared.directive.Directive.{Directive}
-use Rattle.vl_prep.specs.declared.directive.Directive.TheVariants.{IfDef, IfNotDef, EndIf}
 use Rattle.vl_prep.specs.declared.opens.Group.{Group}
 use Rattle.vl_prep.specs.declared.opens.Group.TheVariants.{Chosen, Waiting, Passed}
 use Rattle.vl_prep.specs.declared.opens.Open.{Open}
-use Rattle.vl_prep.specs.Directive.{directive_at}
 
 abbrev pub is_chosen : Group → Bool
 is_chosen Chosen = true
@@ -18,58 +14,41 @@ abbrev pub are_chosen : List Open → Bool
 are_chosen [] = true
 are_chosen (o ∷ os) = is_chosen o.group
 
-abbrev pub first_group : Bool → Group
-first_group true = Waiting
-first_group false = Passed
+-- the first group, where the conditional stands in chosen groups or doesn't, and its name decides for it or doesn't
+abbrev pub first_group : Bool → Bool → Group
+first_group true true = Chosen
+first_group true false = Waiting
+first_group false decided = Passed
 
--- one more is open, of which no group is chosen yet
-abbrev pub opened : Pos → List Open → List Open
-opened place os = record { place = place; group = first_group (are_chosen os); last = false } ∷ os
+-- a further group, behind one of this kind: at most one is chosen
+abbrev pub next_group : Group → Bool → Group
+next_group Waiting true = Chosen
+next_group Waiting false = Waiting
+next_group group decided = Passed
 
--- of a conditional at most one group is chosen
-abbrev pub next_group : Group → Group
-next_group Waiting = Waiting
-next_group group = Passed
+-- one more is open at a place
+abbrev pub opened : Pos → Bool → List Open → List Open
+opened place decided os = record { place = place; group = first_group (are_chosen os) decided; last = false } ∷ os
 
--- the next group of the innermost conditional, behind `else the last one. There is none where no conditional is open,
--- or where its last group is there already
-abbrev pub turned : Bool → List Open → Option (List Open)
-turned last [] = None
-turned last (o ∷ os) = cond o.last None (Some (record { place = o.place; group = next_group o.group; last = last } ∷ os))
+-- a conditional is open
+abbrev pub is_open : List Open → Bool
+is_open [] = false
+is_open (o ∷ os) = true
 
-abbrev pub chosen_group : Group → Group
-chosen_group Waiting = Chosen
-chosen_group group = group
+-- another group can begin: a conditional is open, and its last group, behind `else, isn't there already
+abbrev pub can_turn : List Open → Bool
+can_turn [] = false
+can_turn (o ∷ os) = not o.last
 
--- the innermost group is chosen, where none of its conditional was before
-abbrev pub chosen : List Open → List Open
-chosen [] = []
-chosen (o ∷ os) = record { place = o.place; group = chosen_group o.group; last = o.last } ∷ os
+-- the next group of the innermost conditional, behind `else the last one
+abbrev pub turned : Bool → Bool → List Open → List Open
+turned last decided [] = []
+turned last decided (o ∷ os) = record { place = o.place; group = next_group o.group decided; last = last } ∷ os
 
-abbrev pub closed : List Open → Option (List Open)
-closed [] = None
-closed (o ∷ os) = Some os
+abbrev pub closed : List Open → List Open
+closed [] = []
+closed (o ∷ os) = os
 
--- the place of the outermost one
-abbrev pub earliest : List Open → Option Pos
-earliest [] = None
-earliest (o ∷ []) = Some o.place
-earliest (o ∷ p ∷ os) = earliest (p ∷ os)
-
--- how many are open behind a directive
-abbrev pub opens_behind : ℕ → Option Directive → ℕ
-opens_behind n (Some IfDef) = suc n
-opens_behind n (Some IfNotDef) = suc n
-opens_behind (suc n) (Some EndIf) = n
-opens_behind n d = n
-
--- the tokens have the ends of so many conditionals, beside those that they open themselves
-abbrev pub are_closed : ℕ → List Token → Bool
-are_closed zero ts = true
-are_closed (suc n) [] = false
-are_closed (suc n) (t ∷ ts) = are_closed (opens_behind (suc n) (directive_at t.kind)) ts
-
--- the answer of a method that changes the list, or leaves it as it is and says so
-abbrev pub Answers : Option (List Open) → List Open → Bool → List Open → Type 0
-Answers None old ok new = (ok ≡ false) × (new ≡ old)
-Answers (Some os) old ok new = (ok ≡ true) × (new ≡ os)
+abbrev pub innermost_place : List Open → Option Pos
+innermost_place [] = None
+innermost_place (o ∷ os) = Some o.place

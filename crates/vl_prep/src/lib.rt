@@ -10,11 +10,10 @@ mod prepared;
 mod quiet;
 mod reader;
 mod reading;
+mod refusal;
 mod scope;
 mod shared;
 mod steps;
-#[cfg(test)]
-mod tests;
 
 pub use fault::PrepFault;
 pub use law::groups_decide;

@@ -1,4 +1,5 @@
 ghost use Rattle.std.specs.Prelude.{◌≡◌, ℕ, None, Some, List, is_some, IfOk, OnOk, OnErr, MatchOption};
+ghost use Rattle.std.specs.Bool.{OnTrue};
 ghost use Rattle.std.specs.Option.{option_map};
 ghost use Rattle.vl_prep.specs.Macros.{held, with_text};
 
@@ -46,6 +47,16 @@ impl Macros {
         matches!(self.texts.get(name), Some(Some(_)))
     }
 
+    /// Whether the macro is defined with this text.
+    pub(crate) fn has_text(&self, name: &[u8], text: &[Token]) -> bool
+        ensures { OnTrue result (held self.now name.now ≡ Some text.now) }
+    {
+        match self.texts.get(name) {
+            Some(Some(known)) => are_same(known.as_slice(), text),
+            _ => false,
+        }
+    }
+
     /// The text of a macro, which stays as it is where the macro is defined anew.
     pub(crate) fn text(&self, name: &[u8]) -> Result<Option<Arc<List<Token>>>, Memory>
         ensures { IfOk result (λ found. MatchOption found (held self.now name.now ≡ None) (λ text. held self.now name.now ≡ Some text.value)) }
@@ -73,4 +84,23 @@ impl Macros {
         self.texts.insert(name.into_vec(), text)?;
         Ok(())
     }
+}
+
+/// Whether the tokens are the same, with their places.
+fn are_same(tokens: &[Token], others: &[Token]) -> bool
+    ensures { OnTrue result (tokens.now ≡ others.now) }
+{
+    let mut left = tokens;
+    let mut right = others;
+    while let (Some((token, behind)), Some((other, behind_other))) = (
+        left.split_first(),
+        right.split_first(),
+    ) {
+        if !token.is(other) {
+            return false;
+        }
+        left = behind;
+        right = behind_other;
+    }
+    left.is_empty() && right.is_empty()
 }

@@ -1,6 +1,6 @@
 //! The conditionals that are open in a text.
 
-ghost use Rattle.std.specs.Prelude.{◌≡◌, ◌≤◌, ◌^◌, [], length, OnOk};
+ghost use Rattle.std.specs.Prelude.{◌≡◌, [], OnOk};
 ghost use Rattle.vl_prep.specs.Opens as specs;
 
 use fv_base::{Memory, Pos};
@@ -56,16 +56,6 @@ impl Opens {
         }
     }
 
-    pub(crate) fn len(&self) -> usize
-        ensures len { result ≡ length self.now }
-        ensures small { result ≤ 2 ^ 63 }
-    {
-        match self.innermost {
-            Some(_) => self.outer.len().saturating_add(1),
-            None => 0,
-        }
-    }
-
     /// Whether what stands here is in chosen groups alone.
     pub(crate) fn are_chosen(&self) -> bool
         ensures { result ≡ specs.are_chosen self.now }
@@ -76,25 +66,28 @@ impl Opens {
         }
     }
 
-    /// The place of the outermost one.
-    pub(crate) fn earliest(&self) -> Option<Pos>
-        ensures { result ≡ specs.earliest self.now }
+    /// Whether one is open.
+    pub(crate) fn is_open(&self) -> bool
+        ensures { result ≡ specs.is_open self.now }
     {
-        match self.outer.first() {
-            Some(open) => Some(open.place),
-            None => self.innermost.map(|open| open.place),
+        self.innermost.is_some()
+    }
+
+    /// Whether another group of the innermost one can begin.
+    pub(crate) fn can_turn(&self) -> bool
+        ensures { result ≡ specs.can_turn self.now }
+    {
+        match self.innermost {
+            Some(open) => !open.last,
+            None => false,
         }
     }
 
-    /// Opens one more, of which no group is chosen yet.
-    pub(crate) fn open(&mut self, place: Pos) -> Result<(), Memory>
-        ensures { OnOk result (self.new ≡ specs.opened place self.old) }
+    /// Opens one more, whose name decides for its first group, or doesn't.
+    pub(crate) fn open(&mut self, place: Pos, decided: bool) -> Result<(), Memory>
+        ensures { OnOk result (self.new ≡ specs.opened place decided self.old) }
     {
-        let group = if self.are_chosen() {
-            Group::Waiting
-        } else {
-            Group::Passed
-        };
+        let group = first_group(self.are_chosen(), decided);
         if let Some(open) = self.innermost {
             self.outer.push(open)?;
         }
@@ -106,51 +99,48 @@ impl Opens {
         Ok(())
     }
 
-    /// Closes the innermost one. False where none is open.
-    pub(crate) fn close(&mut self) -> bool
-        ensures { specs.Answers (specs.closed self.old) self.old result self.new }
+    /// Closes the innermost one, and answers its place. None where none is open.
+    pub(crate) fn close(&mut self) -> Option<Pos>
+        ensures left { self.new ≡ specs.closed self.old }
+        ensures place { result ≡ specs.innermost_place self.old }
     {
-        let was_open = self.innermost.is_some();
+        let place = self.innermost.map(|open| open.place);
         self.innermost = self.outer.pop();
-        was_open
+        place
     }
 
-    /// Ends the innermost group and begins another, which isn't chosen yet. False, and nothing is changed, where none
-    /// is open, or its last group is being read.
-    pub(crate) fn turn(&mut self, last: bool) -> bool
-        ensures { specs.Answers (specs.turned last self.old) self.old result self.new }
-    {
-        match self.innermost {
-            Some(open) if !open.last => {
-                let group = match open.group {
-                    Group::Waiting => Group::Waiting,
-                    Group::Chosen | Group::Passed => Group::Passed,
-                };
-                self.innermost = Some(Open {
-                    place: open.place,
-                    group,
-                    last,
-                });
-                true
-            }
-            _ => false,
-        }
-    }
-
-    /// Chooses the innermost group, where none was chosen before.
-    pub(crate) fn choose(&mut self)
-        ensures { self.new ≡ specs.chosen self.old }
+    /// Ends the innermost group and begins another, for which its name decides, or doesn't.
+    pub(crate) fn turn(&mut self, last: bool, decided: bool)
+        ensures { self.new ≡ specs.turned last decided self.old }
     {
         if let Some(open) = self.innermost {
-            let group = match open.group {
-                Group::Waiting | Group::Chosen => Group::Chosen,
-                Group::Passed => Group::Passed,
-            };
             self.innermost = Some(Open {
                 place: open.place,
-                group,
-                last: open.last,
+                group: next_group(open.group, decided),
+                last,
             });
         }
+    }
+}
+
+/// The first group of a conditional that stands in chosen groups, or doesn't.
+fn first_group(is_in_chosen: bool, decided: bool) -> Group
+    ensures { result ≡ specs.first_group is_in_chosen decided }
+{
+    match (is_in_chosen, decided) {
+        (true, true) => Group::Chosen,
+        (true, false) => Group::Waiting,
+        (false, _) => Group::Passed,
+    }
+}
+
+/// The group behind one of this kind. At most one group of a conditional is chosen.
+fn next_group(group: Group, decided: bool) -> Group
+    ensures { result ≡ specs.next_group group decided }
+{
+    match group {
+        Group::Waiting if decided => Group::Chosen,
+        Group::Waiting => Group::Waiting,
+        Group::Chosen | Group::Passed => Group::Passed,
     }
 }

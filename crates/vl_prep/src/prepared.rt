@@ -1,10 +1,11 @@
-//! What preprocessing has come to: the macros, and what was put out.
+//! What preprocessing has come to: the macros, what was put out, and the refusal that is answered.
 
 ghost use Rattle.vl_prep.specs.Macros.{held};
 ghost use Rattle.vl_prep.specs.Quiet.{AreQuiet};
 
 use crate::macros::Macros;
 use crate::quiet::Quiet;
+use crate::refusal::Refusal;
 use fv_base::{List, Token};
 use std::alloc::Global;
 
@@ -13,8 +14,10 @@ pub(crate) struct Prepared {
     pub alloc: Global,
     pub macros: Macros,
     pub output: List<Token>,
+    /// The least of the refusals that were met.
+    pub refusal: Option<Refusal>,
     pub quiet: Quiet,
-    /// Whether nothing was put out, and no macro changed, since this was last set to true.
+    /// Whether nothing of the above has changed since this was last set to true.
     pub fresh: bool,
-    ghost are_quiet: { AreQuiet quiet (record { macros = held macros; output = output }) },
+    ghost are_quiet: { AreQuiet quiet (record { macros = held macros; output = output; refusal = refusal }) },
 }

@@ -1,37 +1,43 @@
 //! Reading texts, token by token.
 
-ghost use Rattle.std.specs.Prelude.{◌≡◌, Ok, Err, IfOk, MatchResult};
+ghost use Rattle.std.specs.Prelude.{◌≡◌, ◌<◌, Some, Ok, Err, IfOk, IfErr, OnOk, MatchResult};
 ghost use Rattle.vl_prep.specs.Faults.{OnNotMemory};
-ghost use Rattle.vl_prep.specs.Groups.{IsPreprocessed};
+ghost use Rattle.vl_prep.specs.Groups.{IsPreprocessed, IsRefused};
 ghost use Rattle.vl_prep.specs.Macros.{held};
-ghost use Rattle.vl_prep.specs.Opens.{earliest};
 ghost use Rattle.vl_prep.specs.Places.{IsPlaced, IsPlacedFault};
 ghost use Rattle.vl_prep.specs.declared.reading.Reading.TheVariants as reading;
 ghost use Rattle.vl_prep.specs.Prep as specs;
-ghost use Rattle.vl_prep.specs.Stands.{done_of, stand_of, Goes, Comes, IsAllClosed, OnOkFresh};
+ghost use Rattle.vl_prep.specs.Stands.{done_of, stand_of, Goes, KeepsFresh, OnOkFresh};
 
 use crate::directive::Directive;
 use crate::fault::PrepFault;
 use crate::macros::Macros;
+use crate::opens::Opens;
 use crate::prepared::Prepared;
 use crate::reading::{Body, Reading, on_line};
+use crate::refusal::Cause;
 use crate::scope::{Scope, Site};
-use fv_base::{Kind, List, Pos, Text, Token};
+use crate::steps::Use;
+use fv_base::{Kind, List, Memory, Pos, Text, Token};
 use std::alloc::Global;
 
 /// How many uses of macros may stand within one another.
 const LEVELS: u32 = 32;
 
 /// The tokens of the chosen groups, each use of a macro replaced by what its text comes to there, and the macros that
-/// are defined at the end (IEEE 1364-2005, clause 19). A token from a macro has the place of the outermost use. Tokens that
-/// form no such groups are refused, as `groups_decide` says, and a fault is answered exactly where it comes first.
-#[tactic(auto, using(crate::proofs::ByReading::groups_of, crate::proofs::Places::placed_output, crate::proofs::Places::placed_fault))]
+/// are defined at the end (IEEE 1364-2005, clause 19). A token from a macro has the place of the outermost use.
+///
+/// Reading goes on behind what is refused. Of all refusals the one at the least place is answered, by file, line and
+/// column, and at one place the one with the lowest number: the first in the order of `PrepFault`.
+
+#[tactic(auto, using(crate::proofs::Whole::groups_of, crate::proofs::Whole::refusal_of, crate::proofs::Places::placed_output, crate::proofs::Places::placed_fault))]
 pub fn prep(
     alloc: Global,
     macros: Macros,
     tokens: &[Token],
 ) -> Result<(Vec<Token>, Macros), PrepFault>
     ensures groups { IfOk result (λ r. IsPreprocessed (held macros) tokens.now (record { macros = held r.1; output = r.0.items })) }
+    ensures refused { IfErr result (λ f. OnNotMemory f (IsRefused (held macros) tokens.now f)) }
     ensures exactly { MatchResult result
         (λ r. specs.preprocessed (held macros) tokens.now ≡ Ok (record { macros = held r.1; output = r.0.items }))
         (λ f. OnNotMemory f (specs.preprocessed (held macros) tokens.now ≡ Err f)) }
@@ -43,45 +49,53 @@ pub fn prep(
         levels: LEVELS,
     };
     read_text(&mut prepared, site, tokens)?;
-    Ok((prepared.output.into_vec(), prepared.macros))
+    let Prepared {
+        macros,
+        output,
+        refusal,
+        ..
+    } = prepared;
+    match refusal {
+        Some(refusal) => Err(refusal.into_fault()),
+        None => Ok((output.into_vec(), macros)),
+    }
 }
 
 #[cycle(read)]
-fn read_text(prepared: &mut Prepared, site: Site, text: &[Token]) -> Result<(), PrepFault>
-    ensures comes { Comes (specs.read_from site.at (specs.expand site.levels) (specs.started (done_of prepared.old)) text.now) result prepared.new }
+fn read_text(prepared: &mut Prepared, site: Site, text: &[Token]) -> Result<(), Memory>
+    ensures comes { OnOk result (done_of prepared.new ≡ specs.read_from site.at (specs.expand site.levels) (specs.started (done_of prepared.old)) text.now) }
     ensures fresh { OnOkFresh result prepared.old prepared.new }
 {
     let mut scope = Scope::new(prepared.alloc);
-    for (index, token) in text.iter().enumerate() {
-        match read_token(prepared, &mut scope, site, token) {
-            Ok(()) => {}
-            Err(fault) => return Err(scope.judge(fault, &text[index..])),
-        }
+    for token in text {
+        read_token(prepared, &mut scope, site, token)?;
     }
     end_text(prepared, scope, site)
 }
 
-fn end_text(prepared: &mut Prepared, scope: Scope, site: Site) -> Result<(), PrepFault>
-    ensures comes { Comes (specs.at_end site.at (stand_of (done_of prepared.old) scope) scope.reading) result prepared.new }
+fn end_text(prepared: &mut Prepared, scope: Scope, site: Site) -> Result<(), Memory>
+    ensures comes { OnOk result (done_of prepared.new ≡ specs.at_end site.at (stand_of (done_of prepared.old) scope)) }
     ensures fresh { OnOkFresh result prepared.old prepared.new }
 {
-    let mut scope = scope;
-    match scope.take_reading() {
-        Reading::Named(_, pos) => Err(scope.judge(PrepFault::NoName(site.place(pos)), &[])),
-        Reading::Body(body) => {
-            prepared.define(body.name, body.tokens)?;
-            all_closed(scope)
-        }
-        _ => all_closed(scope),
+    let Scope { opens, reading } = scope;
+    match reading {
+        Reading::Named(_, pos) => prepared.refuse(site.place(pos), Cause::NoName),
+        Reading::Body(body) => prepared.define(body.name, body.tokens)?,
+        _ => {}
     }
+    refuse_opens(prepared, opens);
+    Ok(())
 }
 
-fn all_closed(scope: Scope) -> Result<(), PrepFault>
-    ensures { IsAllClosed result (earliest scope.opens) }
+/// The conditionals that are open at the end of a text have no partners.
+#[tactic(auto, using(crate::proofs::Ended::one_less, crate::proofs::Ended::one_refused, crate::proofs::Ended::none_refused))]
+fn refuse_opens(prepared: &mut Prepared, opens: Opens)
+    ensures refused { done_of prepared.new ≡ specs.all_refused opens (done_of prepared.old) }
+    ensures fresh { KeepsFresh prepared.old prepared.new }
 {
-    match scope.opens.earliest() {
-        Some(place) => Err(PrepFault::UnbalancedIf(place)),
-        None => Ok(()),
+    let mut opens = opens;
+    while let Some(place) = opens.close() {
+        prepared.refuse(place, Cause::UnbalancedIf);
     }
 }
 
@@ -91,8 +105,8 @@ fn read_token(
     scope: &mut Scope,
     site: Site,
     token: &Token,
-) -> Result<(), PrepFault>
-    ensures goes { Goes (specs.at_token site.at (specs.expand site.levels) (stand_of (done_of prepared.old) scope.old) token.now scope.old.reading) result scope.old (done_of prepared.new) scope.new }
+) -> Result<(), Memory>
+    ensures goes { Goes (specs.at_token site.at (specs.expand site.levels) (stand_of (done_of prepared.old) scope.old) token.now scope.old.reading) result prepared.new scope.new }
     ensures fresh { OnOkFresh result prepared.old prepared.new }
 {
     match scope.take_reading() {
@@ -110,22 +124,26 @@ fn read_token(
 }
 
 /// Behind a directive that needs a name.
+#[cycle(read)]
 fn read_name(
     prepared: &mut Prepared,
     scope: &mut Scope,
     site: Site,
     begun: (Directive, Pos),
     token: &Token,
-) -> Result<(), PrepFault>
+) -> Result<(), Memory>
     requires { scope.old.reading ≡ reading.Plain }
-    ensures goes { Goes (specs.at_named site.at (stand_of (done_of prepared.old) scope.old) begun.0 begun.1 token.now token.now.kind) result scope.old (done_of prepared.new) scope.new }
+    ensures goes { Goes (specs.at_named site.at (specs.expand site.levels) (stand_of (done_of prepared.old) scope.old) begun.0 begun.1 token.now token.now.kind) result prepared.new scope.new }
     ensures fresh { OnOkFresh result prepared.old prepared.new }
 {
     match &token.kind {
         Kind::Name(name) if on_line(begun.1, token.pos) => {
-            do_named(prepared, scope, begun.0, name, token.pos)
+            do_named(prepared, scope, site, begun, name, token.pos)
         }
-        _ => Err(PrepFault::NoName(site.place(begun.1))),
+        _ => {
+            prepared.refuse(site.place(begun.1), Cause::NoName);
+            read_plain(prepared, scope, site, token)
+        }
     }
 }
 
@@ -133,15 +151,16 @@ fn read_name(
 fn do_named(
     prepared: &mut Prepared,
     scope: &mut Scope,
-    directive: Directive,
+    site: Site,
+    begun: (Directive, Pos),
     name: &Text,
     pos: Pos,
-) -> Result<(), PrepFault>
+) -> Result<(), Memory>
     requires { scope.old.reading ≡ reading.Plain }
-    ensures goes { Goes (Ok (specs.named (stand_of (done_of prepared.old) scope.old) directive name.now pos)) result scope.old (done_of prepared.new) scope.new }
+    ensures goes { Goes (specs.named site.at (stand_of (done_of prepared.old) scope.old) begun.0 begun.1 name.now pos) result prepared.new scope.new }
     ensures fresh { OnOkFresh result prepared.old prepared.new }
 {
-    match directive {
+    match begun.0 {
         Directive::Define => {
             scope.reading = Reading::Body(Body {
                 name: name.copied(prepared.alloc)?,
@@ -151,8 +170,17 @@ fn do_named(
             });
         }
         Directive::Undef => prepared.undefine(name)?,
-        Directive::IfNotDef => scope.decide(!prepared.macros.is_defined(name.bytes())),
-        _ => scope.decide(prepared.macros.is_defined(name.bytes())),
+        Directive::ElseIf => scope
+            .opens
+            .turn(false, prepared.macros.is_defined(name.bytes())),
+        Directive::IfNotDef => {
+            let decided = !prepared.macros.is_defined(name.bytes());
+            scope.opens.open(site.place(begun.1), decided)?;
+        }
+        _ => {
+            let decided = prepared.macros.is_defined(name.bytes());
+            scope.opens.open(site.place(begun.1), decided)?;
+        }
     }
     Ok(())
 }
@@ -165,9 +193,9 @@ fn read_body(
     site: Site,
     body: Body,
     token: &Token,
-) -> Result<(), PrepFault>
+) -> Result<(), Memory>
     requires { scope.old.reading ≡ reading.Plain }
-    ensures goes { Goes (specs.at_body site.at (specs.expand site.levels) (stand_of (done_of prepared.old) scope.old) body token.now) result scope.old (done_of prepared.new) scope.new }
+    ensures goes { Goes (specs.at_token site.at (specs.expand site.levels) (stand_of (done_of prepared.old) scope.old) token.now (reading.Body body)) result prepared.new scope.new }
     ensures fresh { OnOkFresh result prepared.old prepared.new }
 {
     if !body.goes_on(token.pos) {
@@ -175,7 +203,7 @@ fn read_body(
         return read_plain(prepared, scope, site, token);
     }
     if body.has_bracket(token) {
-        return Err(PrepFault::MacroArgs(site.place(token.pos)));
+        prepared.refuse(site.place(token.pos), Cause::MacroArgs);
     }
     scope.reading = Reading::Body(body.with(prepared.alloc, token)?);
     Ok(())
@@ -188,18 +216,67 @@ fn read_plain(
     scope: &mut Scope,
     site: Site,
     token: &Token,
-) -> Result<(), PrepFault>
+) -> Result<(), Memory>
     requires { scope.old.reading ≡ reading.Plain }
-    ensures goes { Goes (specs.at_plain site.at (specs.expand site.levels) (stand_of (done_of prepared.old) scope.old) token.now token.now.kind) result scope.old (done_of prepared.new) scope.new }
+    ensures goes { Goes (specs.at_plain site.at (specs.expand site.levels) (stand_of (done_of prepared.old) scope.old) token.now token.now.kind) result prepared.new scope.new }
     ensures fresh { OnOkFresh result prepared.old prepared.new }
 {
     match &token.kind {
         Kind::Tick(name) => match Directive::of_text(name.bytes()) {
-            Some(directive) => scope.do_directive(site, directive, token.pos),
+            Some(directive) => {
+                do_directive(prepared, scope, site, directive, token.pos);
+                Ok(())
+            }
             None => read_use(prepared, scope, site, name, token.pos),
         },
         Kind::Continue => Ok(()),
         _ => put_token(prepared, scope, site, token),
+    }
+}
+
+fn do_directive(
+    prepared: &mut Prepared,
+    scope: &mut Scope,
+    site: Site,
+    directive: Directive,
+    pos: Pos,
+)
+    requires { scope.old.reading ≡ reading.Plain }
+    ensures goes { stand_of (done_of prepared.new) scope.new ≡ specs.at_directive site.at (stand_of (done_of prepared.old) scope.old) directive pos }
+    ensures fresh { KeepsFresh prepared.old prepared.new }
+{
+    match directive {
+        Directive::IfDef | Directive::IfNotDef => scope.reading = Reading::Named(directive, pos),
+        Directive::ElseIf if scope.opens.can_turn() => scope.reading = Reading::Named(
+            directive, pos,
+        ),
+        Directive::Else if scope.opens.can_turn() => scope.opens.turn(true, true),
+        Directive::ElseIf | Directive::Else => {
+            prepared.refuse(site.place(pos), Cause::UnbalancedIf);
+        }
+        Directive::EndIf => {
+            if scope.opens.close().is_none() {
+                prepared.refuse(site.place(pos), Cause::UnbalancedIf);
+            }
+        }
+        _ => {
+            if scope.opens.are_chosen() {
+                do_chosen(prepared, scope, site, directive, pos);
+            }
+        }
+    }
+}
+
+/// The directives that count in chosen groups alone.
+fn do_chosen(prepared: &mut Prepared, scope: &mut Scope, site: Site, directive: Directive, pos: Pos)
+    requires { scope.old.reading ≡ reading.Plain }
+    ensures goes { stand_of (done_of prepared.new) scope.new ≡ specs.in_chosen site.at (stand_of (done_of prepared.old) scope.old) directive pos }
+    ensures fresh { KeepsFresh prepared.old prepared.new }
+{
+    match directive {
+        Directive::Define | Directive::Undef => scope.reading = Reading::Named(directive, pos),
+        Directive::Include => prepared.refuse(site.place(pos), Cause::Include),
+        _ => scope.reading = Reading::Dropped(pos),
     }
 }
 
@@ -208,9 +285,9 @@ fn put_token(
     scope: &Scope,
     site: Site,
     token: &Token,
-) -> Result<(), PrepFault>
+) -> Result<(), Memory>
     requires { scope.now.reading ≡ reading.Plain }
-    ensures goes { Goes (specs.put_chosen site.at (stand_of (done_of prepared.old) scope.now) token.now) result scope.now (done_of prepared.new) scope.now }
+    ensures goes { Goes (specs.put_chosen site.at (stand_of (done_of prepared.old) scope.now) token.now) result prepared.new scope.now }
     ensures fresh { OnOkFresh result prepared.old prepared.new }
 {
     if scope.opens.are_chosen() {
@@ -221,34 +298,59 @@ fn put_token(
 
 /// The use of a macro, for which its text stands.
 #[cycle(read)]
+#[tactic(auto, using(crate::proofs::Uses::too_deep))]
 fn read_use(
     prepared: &mut Prepared,
     scope: &Scope,
     site: Site,
     name: &Text,
     pos: Pos,
-) -> Result<(), PrepFault>
+) -> Result<(), Memory>
     requires { scope.now.reading ≡ reading.Plain }
-    ensures goes { Goes (specs.at_use site.at (specs.expand site.levels) (stand_of (done_of prepared.old) scope.now) name.now pos) result scope.now (done_of prepared.new) scope.now }
+    ensures goes { Goes (specs.at_use site.at (specs.expand site.levels) (stand_of (done_of prepared.old) scope.now) name.now pos) result prepared.new scope.now }
     ensures fresh { OnOkFresh result prepared.old prepared.new }
 {
     if !scope.opens.are_chosen() {
         return Ok(());
     }
     let place = site.place(pos);
-    let text = match prepared.text_at_use(name, place, site.levels) {
-        Ok(Some(text)) => text,
-        Ok(None) => return Ok(()),
-        Err(fault) => return Err(fault),
-    };
+    match prepared.text_at_use(name.bytes(), place, site.levels)? {
+        Use::Text(text) => read_macro(prepared, site.levels, name, place, text.as_slice()),
+        Use::Unknown => {
+            let name = name.copied(prepared.alloc)?;
+            prepared.refuse(place, Cause::UnknownMacro(name));
+            Ok(())
+        }
+        Use::TooDeep => {
+            prepared.refuse(place, Cause::MacroDepth);
+            Ok(())
+        }
+        Use::Quiet => Ok(()),
+    }
+}
+
+/// The text of a macro, which is used at a place.
+#[cycle(read)]
+#[tactic(auto, using(crate::proofs::Uses::one_level, crate::proofs::Uses::quiet_use))]
+fn read_macro(
+    prepared: &mut Prepared,
+    levels: u32,
+    name: &Text,
+    place: Pos,
+    text: &[Token],
+) -> Result<(), Memory>
+    requires held { held prepared.old.macros name.now ≡ Some text.now }
+    requires levels { 0 < levels }
+    ensures comes { OnOk result (done_of prepared.new ≡ specs.expand levels place text.now (done_of prepared.old)) }
+    ensures fresh { OnOkFresh result prepared.old prepared.new }
+{
     let fresh = prepared.fresh;
     prepared.fresh = true;
     let inner = Site {
         at: Some(place),
-        levels: site.levels - 1,
+        levels: levels - 1,
     };
-    match read_text(prepared, inner, text.as_slice()) {
-        Ok(()) => Ok(prepared.note_use(name, place, site.levels, fresh)?),
-        Err(fault) => Err(fault),
-    }
+    read_text(prepared, inner, text)?;
+    prepared.note_use(name, place, levels, fresh)?;
+    Ok(())
 }

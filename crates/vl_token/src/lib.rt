@@ -12,8 +12,6 @@ mod place;
 mod shared;
 mod sign;
 mod sort;
-#[cfg(test)]
-mod tests;
 
 pub use fault::LexFault;
 pub use lexer::lex;

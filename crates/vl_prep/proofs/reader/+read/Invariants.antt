@@ -9,6 +9,9 @@ decreases-read_text l = l.site.levels * 8 + 5
 abbrev pub decreases-read_token : goal.decreases-read_token
 decreases-read_token l = l.site.levels * 8 + 4
 
+abbrev pub decreases-read_name : goal.decreases-read_name
+decreases-read_name l = l.site.levels * 8 + 3
+
 abbrev pub decreases-read_body : goal.decreases-read_body
 decreases-read_body l = l.site.levels * 8 + 3
 
@@ -18,7 +21,10 @@ decreases-read_plain l = l.site.levels * 8 + 2
 abbrev pub decreases-read_use : goal.decreases-read_use
 decreases-read_use l = l.site.levels * 8 + 1
 
-abbrev pub invariant-read_text-loop-index : goal.invariant-read_text-loop-index
-invariant-read_text-loop-index l =
-    (specs.read_from l.site.at (specs.expand l.site.levels) (stand_of (done_of l.prepared) l.scope) (drop l.index l.text) ≡ specs.read_from l.site.at (specs.expand l.site.levels) (specs.started (done_of l.fn.prepared)) l.text)
+abbrev pub decreases-read_macro : goal.decreases-read_macro
+decreases-read_macro l = l.levels * 8
+
+abbrev pub invariant-read_text-loop-token : goal.invariant-read_text-loop-token
+invariant-read_text-loop-token l =
+    (specs.read_from l.site.at (specs.expand l.site.levels) (stand_of (done_of l.prepared) l.scope) (drop l.token-index l.text) ≡ specs.read_from l.site.at (specs.expand l.site.levels) (specs.started (done_of l.fn.prepared)) l.text)
     × KeepsFresh l.fn.prepared l.prepared
