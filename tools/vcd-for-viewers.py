@@ -1,7 +1,7 @@
 #!/usr/bin/env python3
-"""Shows that a written value-change dump is one for a viewer: the text that the test of `vcd_text` compares with what `vcd`
-writes is read by `vcd2fst` of gtkwave (Debian's package `gtkwave`), and what `fst2vcd` gives back says the same names,
-widths, values and times. Not part of the gate.
+"""Shows that a written value-change dump is one for a viewer: the dump of two names among the cases of `file_cases`, which
+is what `vcd` writes, is read by `vcd2fst` of gtkwave (Debian's package `gtkwave`), and what `fst2vcd` gives back says the
+same names, widths, values and times. Not part of the gate.
 """
 import os
 import re
@@ -12,10 +12,10 @@ HERE = os.path.join(os.path.dirname(os.path.abspath(__file__)), "..")
 
 
 def written():
-    """The text in the test, with its escapes read."""
-    with open(os.path.join(HERE, "crates", "vcd_text", "src", "tests.rt")) as file:
-        text = re.search(r'TWO_NAMES: &str =\s*"((?:[^"\\]|\\.)*)"', file.read()).group(1)
-    return text.replace("\\n", "\n").replace('\\"', '"')
+    """The text of the case, with its escapes read."""
+    with open(os.path.join(HERE, "crates", "file_cases", "stdin")) as file:
+        text = re.search(r"^cut-dump (.*)$", file.read(), re.MULTILINE).group(1)
+    return text.replace("\\n", "\n")
 
 
 def meaning(text):

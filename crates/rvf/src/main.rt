@@ -12,7 +12,7 @@ use rvf_core::{Status, run};
 use std::alloc::Global;
 use std::env::{self, Env};
 use std::process::ExitCode;
-use std::thread::{self, Builder, Threads};
+use std::thread::{Builder, Threads};
 use std::{io, rt};
 
 /// The bytes of the stack that the work gets, where they are to be had. A tree is dropped part by part, and regions of
@@ -21,15 +21,13 @@ const STACK: usize = 1 << 32;
 
 fn main(rt: HostRuntime) -> ExitCode {
     let alloc = rt.alloc();
-    thread::scope(thread::scope_env(), &rt, |scope| {
-        let worker = Builder::new()
-            .stack_size(STACK)
-            .spawn_scoped(scope, move || work(&rt, alloc));
-        match worker {
-            Ok(worker) => worker.join(&rt),
-            Err(_) => work(&rt, alloc),
-        }
-    })
+    let worker = Builder::new()
+        .stack_size(STACK)
+        .spawn(&rt, move || work(&rt, alloc));
+    match worker {
+        Ok(worker) => worker.join(&rt),
+        Err(_) => work(&rt, alloc),
+    }
 }
 
 /// The whole work, over the system's files and standard output.

@@ -10,8 +10,6 @@ mod report;
 mod request;
 mod shared;
 mod status;
-#[cfg(test)]
-mod tests;
 mod top;
 mod words;
 

@@ -10,8 +10,6 @@ mod numbers;
 mod place;
 mod places;
 mod shared;
-#[cfg(test)]
-mod tests;
 
 pub use encode::first_clauses;
 pub use place::FirstPlace;

@@ -11,8 +11,6 @@ mod head;
 mod names;
 mod plain;
 mod shared;
-#[cfg(test)]
-mod tests;
 
 pub use expr::{FirstExpr, FirstKind};
 pub use first::first_of;

@@ -1,0 +1,183 @@
+//! The files of a case, and runs over them.
+
+use crate::line::{Line, line_of};
+use anyhow::Result;
+use fv_base::{MemFiles, MemOut};
+use rvf_core::run;
+use std::alloc::{AllocError, Global};
+use std::thread::Threads;
+
+/// A text under its name.
+#[derive(Drop)]
+struct Named {
+    name: String,
+    text: String,
+}
+
+/// A run that is asked for.
+#[derive(Drop)]
+pub struct Asked {
+    words: Vec<String>,
+    in_brief: bool,
+}
+
+/// Where a line of text goes.
+#[derive(Clone, Copy)]
+enum Target {
+    Piece,
+    File,
+}
+
+/// The pieces of text so far, and the files of the case.
+#[derive(Drop)]
+pub struct Bench {
+    alloc: Global,
+    pieces: Vec<Named>,
+    files: Vec<Named>,
+    failing_files: Vec<u64>,
+    failing_puts: Vec<u64>,
+    target: Target,
+    /// The files once a run has begun.
+    held: Option<MemFiles>,
+}
+
+impl Bench {
+    pub fn new(alloc: Global) -> Bench {
+        Bench {
+            alloc,
+            pieces: Vec::new(alloc),
+            files: Vec::new(alloc),
+            failing_files: Vec::new(alloc),
+            failing_puts: Vec::new(alloc),
+            target: Target::Piece,
+            held: None,
+        }
+    }
+
+    /// Takes a line, and answers the run that it asks for, if it does.
+    pub fn take(&mut self, text: &str) -> Result<Option<Asked>, AllocError> {
+        match line_of(text) {
+            Line::Piece(name) => self.begin(Target::Piece, name)?,
+            Line::File(name) => self.begin(Target::File, name)?,
+            Line::Use(name) => self.use_piece(name)?,
+            Line::FailingFile(call) => self.failing_files.push(call)?,
+            Line::FailingPut(call) => self.failing_puts.push(call)?,
+            Line::Run(words) => return Ok(Some(self.asked(words, false)?)),
+            Line::RunInBrief(words) => return Ok(Some(self.asked(words, true)?)),
+            Line::End => self.end(),
+            Line::Comment => {}
+            Line::Text(text) => {
+                self.append(text)?;
+                self.append("\n")?;
+            }
+        }
+        Ok(None)
+    }
+
+    fn begin(&mut self, target: Target, name: &str) -> Result<(), AllocError> {
+        let named = Named {
+            name: String::from_str(self.alloc, name)?,
+            text: String::new(self.alloc),
+        };
+        match target {
+            Target::Piece => self.pieces.push(named)?,
+            Target::File => self.files.push(named)?,
+        }
+        self.target = target;
+        Ok(())
+    }
+
+    fn append(&mut self, text: &str) -> Result<(), AllocError> {
+        match self.target {
+            Target::Piece => append_to_last(&mut self.pieces, text),
+            Target::File => append_to_last(&mut self.files, text),
+        }
+    }
+
+    fn use_piece(&mut self, name: &str) -> Result<(), AllocError> {
+        let mut text = String::new(self.alloc);
+        for piece in self.pieces.iter() {
+            if piece.name.as_str() == name {
+                text.push_str(piece.text.as_str())?;
+            }
+        }
+        self.append(text.as_str())
+    }
+
+    fn asked(&self, words: &str, in_brief: bool) -> Result<Asked, AllocError> {
+        let mut all = Vec::new(self.alloc);
+        for word in words.split_whitespace() {
+            all.push(String::from_str(self.alloc, word)?)?;
+        }
+        Ok(Asked {
+            words: all,
+            in_brief,
+        })
+    }
+
+    fn end(&mut self) {
+        self.files = Vec::new(self.alloc);
+        self.failing_files = Vec::new(self.alloc);
+        self.failing_puts = Vec::new(self.alloc);
+        self.held = None;
+    }
+
+    /// The case's files in memory, with what earlier runs of the case wrote.
+    fn held(&mut self) -> Result<MemFiles> {
+        if let Some(files) = self.held.take() {
+            return Ok(files);
+        }
+        let mut pairs = Vec::new(self.alloc);
+        for file in self.files.iter() {
+            let bytes = file.text.as_bytes().to_vec(self.alloc)?;
+            pairs.push((file.name.clone()?, bytes))?;
+        }
+        Ok(MemFiles::new(self.alloc, pairs, self.failing_files.clone()?)?)
+    }
+
+    /// Makes the run: its words, what was put, the code, and each file of a certificate that is there.
+    pub fn run<R: Threads + Sync>(&mut self, rt: &R, asked: &Asked) -> Result<String> {
+        let mut files = self.held()?;
+        let mut out = MemOut::new(self.alloc, self.failing_puts.clone()?);
+        let status = run(rt, self.alloc, asked.words.as_slice(), &mut files, &mut out);
+        let mut told = String::from_str(self.alloc, "$")?;
+        for word in asked.words.iter() {
+            told.push(' ')?;
+            told.push_str(word.as_str())?;
+        }
+        told.push('\n')?;
+        put(&mut told, out.sent(), asked.in_brief)?;
+        let code = status.code();
+        told.push_str(format!(in self.alloc; "= {code}\n")?.as_str())?;
+        for name in ["out/ill_ch0.cnf", "out/ill_ch0.lrat"] {
+            if files.get(name).is_some() {
+                told.push_str(format!(in self.alloc; "+ {name}\n")?.as_str())?;
+            }
+        }
+        self.held = Some(files);
+        Ok(told)
+    }
+}
+
+fn append_to_last(all: &mut Vec<Named>, text: &str) -> Result<(), AllocError> {
+    if let Some(named) = all.last_mut() {
+        named.text.push_str(text)?;
+    }
+    Ok(())
+}
+
+/// Tells what was put; in brief the first word of each line.
+fn put(told: &mut String, sent: &[u8], in_brief: bool) -> Result<(), AllocError> {
+    let mut passes = false;
+    for byte in sent {
+        if *byte == b'\n' {
+            passes = false;
+        } else if *byte == b' ' && in_brief {
+            passes = true;
+        }
+        if !passes {
+            told.push(char::from(*byte))?;
+        }
+    }
+    Ok(())
+}

@@ -1,0 +1,61 @@
+//! What a line of the cases says.
+
+/// A line of the cases, by its first characters.
+#[derive(Clone, Copy)]
+pub enum Line<'a> {
+    /// `% NAME`: the lines that follow are a piece of text.
+    Piece(&'a str),
+    /// `%NAME`: the piece stands here.
+    Use(&'a str),
+    /// `@ NAME`: the lines that follow are a file.
+    File(&'a str),
+    /// `! file N`: call N on the files fails.
+    FailingFile(u64),
+    /// `! put N`: call N on the output fails.
+    FailingPut(u64),
+    /// `$ WORDS`: a run over the files.
+    Run(&'a str),
+    /// `? WORDS`: a run of whose lines the first words alone are told.
+    RunInBrief(&'a str),
+    /// `.`: the files go.
+    End,
+    /// `# ..`
+    Comment,
+    Text(&'a str),
+}
+
+/// The number that the text is, or the one that no call reaches.
+fn number(text: &str) -> u64 {
+    text.parse::<u64>().unwrap_or(u64::MAX)
+}
+
+pub fn line_of(text: &str) -> Line<'_> {
+    if let Some(name) = text.strip_prefix("% ") {
+        return Line::Piece(name);
+    }
+    if let Some(name) = text.strip_prefix("%") {
+        return Line::Use(name);
+    }
+    if let Some(name) = text.strip_prefix("@ ") {
+        return Line::File(name);
+    }
+    if let Some(call) = text.strip_prefix("! file ") {
+        return Line::FailingFile(number(call));
+    }
+    if let Some(call) = text.strip_prefix("! put ") {
+        return Line::FailingPut(number(call));
+    }
+    if let Some(words) = text.strip_prefix("$ ") {
+        return Line::Run(words);
+    }
+    if let Some(words) = text.strip_prefix("? ") {
+        return Line::RunInBrief(words);
+    }
+    if text.starts_with("# ") {
+        return Line::Comment;
+    }
+    if text == "." {
+        return Line::End;
+    }
+    Line::Text(text)
+}
