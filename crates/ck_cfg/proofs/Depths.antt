@@ -1,12 +1,14 @@
 -- The depth lines that were read are deep.
-use Rattle.std.proofs.Common.{◌≡◌, ℕ, ◌<◌, ◌≤◌, Bool, true, false, cond, ◌&&◌, List, [], ◌∷◌, Option, Some, None, Result, Ok, Err, refl, subst, arith}
+use Rattle.std.proofs.Common.{◌≡◌, ℕ, ◌<◌, ◌≤◌, Bool, true, false, cond, ◌&&◌, List, [], ◌∷◌, Option, Some, None}
+use Rattle.std.proofs.Common.{Result, Ok, Err, refl, subst, arith}
 use Rattle.std.specs.Prelude.{option_map, option_and_then, nat_le, nat_lt, codes, IfOk}
 use Rattle.std.specs.List.{AllByRecursion, list_any}
 use Rattle.std.specs.Str.{bytes_eq, is_utf8}
 use Rattle.std.proofs.lemmas.Bool.{false≢true}
 use Rattle.std.proofs.lemmas.Bool.Decides.{nat_tests}
 use Rattle.ck_cfg.specs.declared.kind.CheckKind.{CheckKind}
-use Rattle.ck_cfg.specs.declared.kind.CheckKind.TheVariants.{Insn, Ill, Reg, PcFwd, PcBwd, Causal, Unique, Liveness, Imem, Dmem}
+use Rattle.ck_cfg.specs.declared.kind.CheckKind.TheVariants.{Insn, Ill, Reg, PcFwd, PcBwd, Causal, Unique, Liveness}
+use Rattle.ck_cfg.specs.declared.kind.CheckKind.TheVariants.{Imem, Dmem}
 use Rattle.ck_cfg.specs.declared.config.Depth.{Depth}
 use Rattle.ck_cfg.specs.declared.config.Config.{Config}
 use Rattle.ck_cfg.specs.declared.cycles.Cycles.{Cycles}
@@ -20,13 +22,17 @@ use Rattle.fv_lines.specs.Words.{is_nil, words}
 use Rattle.rv_table.specs.declared.retire.Isa.{Isa}
 use Rattle.ck_cfg.specs.Cycles.{numbers_of, lone, pair, triple, lone_or_pair, cycles_said, cycles_of}
 use Rattle.ck_cfg.specs.Target.{target_of}
-use Rattle.ck_cfg.specs.Depths.{is_skipped, is_for, depth_at, depth_with, depth_of, with_skip, with_depth_of, with_new_depth, with_depth_read, with_depth}
-use Rattle.ck_cfg.specs.Options.{is_among, isa_named, idle_keys, with_key, once, with_isa_of, with_isa_named, with_isa, with_nret, with_option}
+use Rattle.ck_cfg.specs.Depths.{is_skipped, is_for, depth_at, depth_with, depth_of, with_skip, with_depth_of}
+use Rattle.ck_cfg.specs.Depths.{with_new_depth, with_depth_read, with_depth}
+use Rattle.ck_cfg.specs.Options.{is_among, isa_named, idle_keys, with_key, once, with_isa_of, with_isa_named}
+use Rattle.ck_cfg.specs.Options.{with_isa, with_nret, with_option}
 use Rattle.ck_cfg.specs.Scripts.{names_read, with_names, with_script}
 use Rattle.ck_cfg.specs.Section.{section_named}
 use Rattle.ck_cfg.specs.Line.{Line, section_begun, counted_lines}
 use Rattle.ck_cfg.specs.Faults.{and_then, Answers}
-use Rattle.ck_cfg.specs.Reading.{start, in_section, with_text_in, with_text_at, with_text, with_section_named, with_section, with_line_begun, with_line, with_lines, finished, config_of_lines, config_of}
+use Rattle.ck_cfg.specs.Reading.{start, in_section, with_text_in, with_text_at, with_text, with_section_named}
+use Rattle.ck_cfg.specs.Reading.{with_section, with_line_begun, with_line, with_lines, finished, config_of_lines}
+use Rattle.ck_cfg.specs.Reading.{config_of}
 use Rattle.ck_cfg.specs.Lawful.{least_cycle, HasLawfulChecks}
 use Rattle.ck_cfg.proofs.Lawfulness.{IsDeep, all_append, deep_is_lawful}
 
@@ -41,7 +47,8 @@ abbrev pub OnSome : {X : Type 0} → (X → Type 0) → Option X → Type 0
 OnSome P None = Unit {0}
 OnSome P (Some x) = P x
 
-some_where : {X : Type 0} (P : X → Type 0) (b : Bool) (o : Option X) → (b ≡ true → OnSome P o) → OnSome P (cond b o None)
+some_where : {X : Type 0} (P : X → Type 0) (b : Bool) (o : Option X) → (b ≡ true → OnSome P o)
+    → OnSome P (cond b o None)
 some_where P true o f = f refl
 some_where P false o f = tt
 
@@ -57,26 +64,34 @@ below a b t = grind (arith, nat_tests)
 
 lone_in_order : (kind : CheckKind) → least_cycle kind ≤ 1 → (ns : List ℕ) → OnSome (InOrder kind) (lone ns)
 lone_in_order kind h [] = tt
-lone_in_order kind h (k ∷ []) = some_where (InOrder kind) (nat_le 1 k) (Some (record { start = 1; trig = k; cycle = k })) (λ t. let l = at_most 1 k t in record { start = l; trig = omega arith; least = omega arith })
+lone_in_order kind h (k ∷ []) = some_where (InOrder kind) (nat_le 1 k)
+    (Some (record { start = 1; trig = k; cycle = k }))
+    (λ t. let l = at_most 1 k t in record { start = l; trig = omega arith; least = omega arith })
 lone_in_order kind h (k ∷ n ∷ ns) = tt
 
 pair_in_order : (kind : CheckKind) → least_cycle kind ≤ 0 → (ns : List ℕ) → OnSome (InOrder kind) (pair ns)
 pair_in_order kind h [] = tt
 pair_in_order kind h (k ∷ []) = tt
-pair_in_order kind h (s ∷ k ∷ []) = some_where (InOrder kind) (nat_le s k) (Some (record { start = s; trig = k; cycle = k })) (λ t. let l = at_most s k t in record { start = l; trig = omega arith; least = omega arith })
+pair_in_order kind h (s ∷ k ∷ []) = some_where (InOrder kind) (nat_le s k)
+    (Some (record { start = s; trig = k; cycle = k }))
+    (λ t. let l = at_most s k t in record { start = l; trig = omega arith; least = omega arith })
 pair_in_order kind h (s ∷ k ∷ n ∷ ns) = tt
 
 triple_in_order : (kind : CheckKind) → least_cycle kind ≤ 0 → (ns : List ℕ) → OnSome (InOrder kind) (triple ns)
 triple_in_order kind h [] = tt
 triple_in_order kind h (k ∷ []) = tt
 triple_in_order kind h (s ∷ k ∷ []) = tt
-triple_in_order kind h (s ∷ t ∷ k ∷ []) = some_where (InOrder kind) (nat_le s t && nat_lt t k) (Some (record { start = s; trig = t; cycle = k })) (λ e. let p = and_parts (nat_le s t) (nat_lt t k) e in let l = at_most s t p.0 in let m = below t k p.1 in record { start = l; trig = omega arith; least = omega arith })
+triple_in_order kind h (s ∷ t ∷ k ∷ []) = some_where (InOrder kind) (nat_le s t && nat_lt t k)
+    (Some (record { start = s; trig = t; cycle = k }))
+    (λ e. let p = and_parts (nat_le s t) (nat_lt t k) e in let l = at_most s t p.0 in let m = below t k p.1
+    in record { start = l; trig = omega arith; least = omega arith })
 triple_in_order kind h (s ∷ t ∷ k ∷ n ∷ ns) = tt
 
 either_in_order : (kind : CheckKind) → least_cycle kind ≤ 1 → (ns : List ℕ) → OnSome (InOrder kind) (lone_or_pair ns)
 either_in_order kind h [] = tt
 either_in_order kind h (k ∷ []) = lone_in_order kind h (k ∷ [])
-either_in_order kind h (s ∷ k ∷ []) = some_where (InOrder kind) (nat_le s k) (lone (k ∷ [])) (λ t. lone_in_order kind h (k ∷ []))
+either_in_order kind h (s ∷ k ∷ []) =
+    some_where (InOrder kind) (nat_le s k) (lone (k ∷ [])) (λ t. lone_in_order kind h (k ∷ []))
 either_in_order kind h (s ∷ k ∷ n ∷ ns) = tt
 
 said_in_order : (kind : CheckKind) (ns : List ℕ) → OnSome (InOrder kind) (cycles_said kind ns)
@@ -125,21 +140,27 @@ sound_where : (b : Bool) (x y : Result Reader CfgFault) → Sound x → Sound y 
 sound_where true x y h k = h
 sound_where false x y h k = k
 
-new_sound : (r : Reader) (line : ℕ) (word : List ℕ) (d : Depth) → IsSound r → IsOrdered d → Sound (with_new_depth r line word d)
+new_sound : (r : Reader) (line : ℕ) (word : List ℕ) (d : Depth) → IsSound r → IsOrdered d
+    → Sound (with_new_depth r line word d)
 new_sound r line word d h o =
-    sound_where (list_any (is_for d.kind d.channel) r.config.depths) (Err (fault.Twice line word)) (cond (nat_lt 100 d.cycle) (Err (fault.TooDeep line)) (Ok (with_depth_of r d))) tt (step (nat_lt 100 d.cycle) refl) where
+    sound_where (list_any (is_for d.kind d.channel) r.config.depths) (Err (fault.Twice line word))
+    (cond (nat_lt 100 d.cycle) (Err (fault.TooDeep line)) (Ok (with_depth_of r d))) tt
+    (step (nat_lt 100 d.cycle) refl) where
       step : (b : Bool) → nat_lt 100 d.cycle ≡ b → Sound (cond b (Err (fault.TooDeep line)) (Ok (with_depth_of r d)))
       step true e = tt
       step false e =
           let m : d.cycle ≤ 100 = grind (arith, nat_tests) in
-          all_append IsDeep r.config.depths (d ∷ []) h (record { start = o.start; trig = o.trig; least = o.least; most = m }, tt)
+          all_append IsDeep r.config.depths (d ∷ []) h
+          (record { start = o.start; trig = o.trig; least = o.least; most = m }, tt)
 
 depth_sound : (r : Reader) (line : ℕ) (ws : List (List ℕ)) → IsSound r → Sound (with_depth r line ws)
 depth_sound r line [] h = tt
-depth_sound r line (w ∷ ws) h = sound_where (is_skipped w) (Ok (with_skip r w)) (with_depth_read r line w (depth_of r.config.nret w ws)) h (step (depth_of r.config.nret w ws) (depth_ordered r.config.nret w ws)) where
-  step : (o : Option Depth) → OnSome IsOrdered o → Sound (with_depth_read r line w o)
-  step None k = tt
-  step (Some d) k = new_sound r line w d h k
+depth_sound r line (w ∷ ws) h = sound_where (is_skipped w) (Ok (with_skip r w))
+    (with_depth_read r line w (depth_of r.config.nret w ws)) h
+    (step (depth_of r.config.nret w ws) (depth_ordered r.config.nret w ws)) where
+      step : (o : Option Depth) → OnSome IsOrdered o → Sound (with_depth_read r line w o)
+      step None k = tt
+      step (Some d) k = new_sound r line w d h k
 
 once_sound : (r : Reader) (line : ℕ) (key : List ℕ) → IsSound r → Sound (once r line key)
 once_sound r line key h = sound_where (is_among r.keys key) (Err (fault.Twice line key)) (Ok (with_key r key)) tt h
@@ -155,15 +176,19 @@ isa_sound r line key (v ∷ w ∷ ws) h = tt
 nret_sound : (r : Reader) (line : ℕ) (key : List ℕ) (vs : List (List ℕ)) → IsSound r → Sound (with_nret r line key vs)
 nret_sound r line key [] h = tt
 nret_sound r line key (v ∷ []) h =
-    sound_where (is_among r.keys key) (Err (fault.Twice line key)) (cond (bytes_eq v (codes "1")) (Ok (with_key r key)) (Err (fault.Nret line))) tt
+    sound_where (is_among r.keys key) (Err (fault.Twice line key))
+    (cond (bytes_eq v (codes "1")) (Ok (with_key r key)) (Err (fault.Nret line))) tt
     (sound_where (bytes_eq v (codes "1")) (Ok (with_key r key)) (Err (fault.Nret line)) h tt)
 nret_sound r line key (v ∷ w ∷ ws) h = tt
 
 option_sound : (r : Reader) (line : ℕ) (ws : List (List ℕ)) → IsSound r → Sound (with_option r line ws)
 option_sound r line [] h = tt
 option_sound r line (key ∷ vs) h =
-    sound_where (bytes_eq key (codes "isa")) (with_isa r line key vs) (cond (bytes_eq key (codes "nret")) (with_nret r line key vs) (cond (is_among idle_keys key) (once r line key) (Err (fault.Option line key)))) (isa_sound r line key vs h)
-    (sound_where (bytes_eq key (codes "nret")) (with_nret r line key vs) (cond (is_among idle_keys key) (once r line key) (Err (fault.Option line key))) (nret_sound r line key vs h)
+    sound_where (bytes_eq key (codes "isa")) (with_isa r line key vs)
+    (cond (bytes_eq key (codes "nret")) (with_nret r line key vs)
+    (cond (is_among idle_keys key) (once r line key) (Err (fault.Option line key)))) (isa_sound r line key vs h)
+    (sound_where (bytes_eq key (codes "nret")) (with_nret r line key vs)
+    (cond (is_among idle_keys key) (once r line key) (Err (fault.Option line key))) (nret_sound r line key vs h)
     (sound_where (is_among idle_keys key) (once r line key) (Err (fault.Option line key)) (once_sound r line key h) tt))
 
 script_sound : (r : Reader) (line : ℕ) (ws : List (List ℕ)) → IsSound r → Sound (with_script r line ws)
@@ -204,7 +229,8 @@ line_sound r l h = step (section_begun l.text) where
 lines_sound : (ls : List Line) (r : Reader) → IsSound r → Sound (with_lines r ls)
 lines_sound [] r h = h
 lines_sound (l ∷ ls) r h = step (with_line r l) (line_sound r l h) (λ s k. lines_sound ls s k) where
-  step : (o : Result Reader CfgFault) → Sound o → ((s : Reader) → IsSound s → Sound (with_lines s ls)) → Sound (and_then o (λ s. with_lines s ls))
+  step : (o : Result Reader CfgFault) → Sound o → ((s : Reader) → IsSound s → Sound (with_lines s ls))
+      → Sound (and_then o (λ s. with_lines s ls))
   step (Err e) k f = tt
   step (Ok s) k f = f s k
 
@@ -214,7 +240,8 @@ IsRead (Err e) = Unit {0}
 
 finish_sound : (r : Reader) → IsSound r → IsRead (finished r)
 finish_sound r h = step (is_nil r.config.depths && is_nil r.config.skips) (is_nil r.config.files) where
-  step : (a b : Bool) → IsRead (cond a (Err (fault.Missing (codes "depth"))) (cond b (Err (fault.Missing (codes "verilog-files"))) (Ok r.config)))
+  step : (a b : Bool) → IsRead (cond a (Err (fault.Missing (codes "depth")))
+      (cond b (Err (fault.Missing (codes "verilog-files"))) (Ok r.config)))
   step true b = tt
   step false true = tt
   step false false = h
@@ -232,6 +259,7 @@ read_sound bytes = step (is_utf8 bytes) where
   step false = tt
 
 -- a configuration that was read has lawful checks
-pub read_is_lawful : (bytes : List ℕ) (r : Result Config CfgFault) → Answers r (config_of bytes) → IfOk r (λ c. HasLawfulChecks c)
+pub read_is_lawful : (bytes : List ℕ) (r : Result Config CfgFault) → Answers r (config_of bytes)
+    → IfOk r (λ c. HasLawfulChecks c)
 read_is_lawful bytes (Ok c) e = deep_is_lawful c (subst IsRead e (read_sound bytes))
 read_is_lawful bytes (Err f) e = tt

@@ -1,18 +1,21 @@
 -- The checks of a configuration are lawful.
-use Rattle.std.proofs.Common.{◌≡◌, ℕ, zero, suc, ◌+◌, ◌<◌, ◌≤◌, Bool, true, false, not, cond, ◌&&◌, List, [], ◌∷◌, ◌++◌, Option, Some, None, refl, ap, sym, subst, ◌∙◌, arith}
+use Rattle.std.proofs.Common.{◌≡◌, ℕ, zero, suc, ◌+◌, ◌<◌, ◌≤◌, Bool, true, false, not, cond, ◌&&◌, List, [], ◌∷◌}
+use Rattle.std.proofs.Common.{◌++◌, Option, Some, None, refl, ap, sym, subst, ◌∙◌, arith}
 use Rattle.std.specs.Prelude.{map, find, bytes_eq, option_map, option_to_list}
 use Rattle.std.specs.List.{AllByRecursion, filter, flat_map, range_with_len}
 use Rattle.std.proofs.lemmas.Bool.{false≢true}
 use Rattle.std.proofs.lemmas.Slice.Eq.{bytes_eq-Decides}
 use Rattle.rv_table.specs.declared.row.RowId.{RowId}
 use Rattle.ck_cfg.specs.declared.kind.CheckKind.{CheckKind}
-use Rattle.ck_cfg.specs.declared.kind.CheckKind.TheVariants.{Insn, Ill, Reg, PcFwd, PcBwd, Causal, Unique, Liveness, Imem, Dmem}
+use Rattle.ck_cfg.specs.declared.kind.CheckKind.TheVariants.{Insn, Ill, Reg, PcFwd, PcBwd, Causal, Unique, Liveness}
+use Rattle.ck_cfg.specs.declared.kind.CheckKind.TheVariants.{Imem, Dmem}
 use Rattle.ck_cfg.specs.declared.config.Depth.{Depth}
 use Rattle.ck_cfg.specs.declared.config.Config.{Config}
 use Rattle.ck_cfg.specs.declared.check.Check.{Check}
 use Rattle.ck_cfg.specs.Kind.{kind_name, kinds, is_kind}
 use Rattle.ck_cfg.specs.Depths.{is_channel, is_for}
-use Rattle.ck_cfg.specs.Checks.{or_else, depth_for, check_at, channel_check, channel_checks, isa_rows, kind_rows, kind_checks, listed_checks, is_named, moved}
+use Rattle.ck_cfg.specs.Checks.{or_else, depth_for, check_at, channel_check, channel_checks, isa_rows, kind_rows}
+use Rattle.ck_cfg.specs.Checks.{kind_checks, listed_checks, is_named, moved}
 use Rattle.ck_cfg.specs.Lawful.{RowFits, least_cycle, IsCheck, HasLawfulChecks}
 use Rattle.ck_cfg.proofs.Places.{find_passes}
 
@@ -35,7 +38,8 @@ module _ {X : Type 0} (P : X → Type 0) where
     step true f g = let one : y ≡ x = cc in subst P one a.0
     step false f g = f g
 
-all_flat : {X Y : Type 0} (P : X → Type 0) (Q : Y → Type 0) (f : X → List Y) (xs : List X) → ((x : X) → P x → AllByRecursion Q (f x)) → AllByRecursion P xs → AllByRecursion Q (flat_map f xs)
+all_flat : {X Y : Type 0} (P : X → Type 0) (Q : Y → Type 0) (f : X → List Y) (xs : List X)
+    → ((x : X) → P x → AllByRecursion Q (f x)) → AllByRecursion P xs → AllByRecursion Q (flat_map f xs)
 all_flat P Q f [] g a = tt
 all_flat P Q f (x ∷ xs) g a = all_append Q (f x) (flat_map f xs) (g x a.0) (all_flat P Q f xs g a.1)
 
@@ -83,7 +87,8 @@ and_first : (a b : Bool) → (a && b) ≡ true → a ≡ true
 and_first true b e = refl
 and_first false b e = absurd (false≢true e)
 
-found_by : (depths : List Depth) (kind : CheckKind) (channel : Option ℕ) (d : Depth) → AllByRecursion IsDeep depths → find (is_for kind channel) depths ≡ Some d → IsFound kind d
+found_by : (depths : List Depth) (kind : CheckKind) (channel : Option ℕ) (d : Depth) → AllByRecursion IsDeep depths
+    → find (is_for kind channel) depths ≡ Some d → IsFound kind d
 found_by depths kind channel d a e =
     let t = find_passes (is_for kind channel) depths d e in
     record {
@@ -91,52 +96,64 @@ found_by depths kind channel d a e =
       kind_is = same_kind d.kind kind (and_first (is_kind d.kind kind) (is_channel d.channel channel) t);
     }
 
-depth_found : (depths : List Depth) (kind : CheckKind) (channel : ℕ) (d : Depth) → AllByRecursion IsDeep depths → depth_for depths kind channel ≡ Some d → IsFound kind d
-depth_found depths kind channel d a e = step (find (is_for kind (Some channel)) depths) (λ f g. found_by depths kind (Some channel) f a g) e where
-  step : (o : Option Depth) → ((f : Depth) → o ≡ Some f → IsFound kind f) → or_else o (find (is_for kind None) depths) ≡ Some d → IsFound kind d
-  step None h g = found_by depths kind None d a g
-  step (Some f) h g = h d g
+depth_found : (depths : List Depth) (kind : CheckKind) (channel : ℕ) (d : Depth) → AllByRecursion IsDeep depths
+    → depth_for depths kind channel ≡ Some d → IsFound kind d
+depth_found depths kind channel d a e =
+    step (find (is_for kind (Some channel)) depths) (λ f g. found_by depths kind (Some channel) f a g) e where
+      step : (o : Option Depth) → ((f : Depth) → o ≡ Some f → IsFound kind f)
+          → or_else o (find (is_for kind None) depths) ≡ Some d → IsFound kind d
+      step None h g = found_by depths kind None d a g
+      step (Some f) h g = h d g
 
-channel_lawful : (c : Config) (kind : CheckKind) (row : Option RowId) (channel : ℕ) → AllByRecursion IsDeep c.depths → RowFits kind row → channel < c.nret → AllByRecursion (IsCheck c.nret) (channel_check c.depths kind row channel)
-channel_lawful c kind row channel a r lt = step (depth_for c.depths kind channel) (λ d e. depth_found c.depths kind channel d a e) where
-  step : (o : Option Depth) → ((d : Depth) → o ≡ Some d → IsFound kind d) → AllByRecursion (IsCheck c.nret) (option_to_list (option_map (check_at kind row channel) o))
-  step None h = tt
-  step (Some d) h =
-      let f = h d refl in (
-        record {
-          lawful = record {
-            row = r;
-            start = f.deep.start;
-            trig = f.deep.trig;
-            least = subst (λ k. least_cycle k ≤ d.cycle) f.kind_is f.deep.least;
-            most = f.deep.most;
-          };
-          channel = lt;
-        },
-        tt,
-      )
+channel_lawful : (c : Config) (kind : CheckKind) (row : Option RowId) (channel : ℕ) → AllByRecursion IsDeep c.depths
+    → RowFits kind row → channel < c.nret → AllByRecursion (IsCheck c.nret) (channel_check c.depths kind row channel)
+channel_lawful c kind row channel a r lt =
+    step (depth_for c.depths kind channel) (λ d e. depth_found c.depths kind channel d a e) where
+      step : (o : Option Depth) → ((d : Depth) → o ≡ Some d → IsFound kind d)
+          → AllByRecursion (IsCheck c.nret) (option_to_list (option_map (check_at kind row channel) o))
+      step None h = tt
+      step (Some d) h =
+          let f = h d refl in (
+            record {
+              lawful = record {
+                row = r;
+                start = f.deep.start;
+                trig = f.deep.trig;
+                least = subst (λ k. least_cycle k ≤ d.cycle) f.kind_is f.deep.least;
+                most = f.deep.most;
+              };
+              channel = lt;
+            },
+            tt,
+          )
 
 rows_fit : (xs : List RowId) → AllByRecursion (RowFits Insn) (map (λ row. Some row) xs)
 rows_fit [] = tt
 rows_fit (x ∷ xs) = (tt, rows_fit xs)
 
-kind_lawful : (c : Config) (kind : CheckKind) → AllByRecursion IsDeep c.depths → AllByRecursion (IsCheck c.nret) (kind_checks c kind)
-kind_lawful c kind a = all_flat (RowFits kind) (IsCheck c.nret) (channel_checks c kind) (kind_rows c.isa kind) (λ row r. all_flat (λ i. i < c.nret) (IsCheck c.nret) (channel_check c.depths kind row) (range_with_len 0 c.nret) (λ i lt. channel_lawful c kind row i a r lt) (all_within c.nret 0 c.nret (omega arith))) (fit kind) where
-  fit : (k : CheckKind) → AllByRecursion (RowFits k) (kind_rows c.isa k)
-  fit Insn = rows_fit (isa_rows c.isa)
-  fit Ill = (refl, tt)
-  fit Reg = (refl, tt)
-  fit PcFwd = (refl, tt)
-  fit PcBwd = (refl, tt)
-  fit Causal = (refl, tt)
-  fit Unique = (refl, tt)
-  fit Liveness = (refl, tt)
-  fit Imem = (refl, tt)
-  fit Dmem = (refl, tt)
+kind_lawful : (c : Config) (kind : CheckKind) → AllByRecursion IsDeep c.depths
+    → AllByRecursion (IsCheck c.nret) (kind_checks c kind)
+kind_lawful c kind a = all_flat (RowFits kind) (IsCheck c.nret) (channel_checks c kind) (kind_rows c.isa kind)
+    (λ row r. all_flat (λ i. i < c.nret) (IsCheck c.nret) (channel_check c.depths kind row) (range_with_len 0 c.nret)
+    (λ i lt. channel_lawful c kind row i a r lt) (all_within c.nret 0 c.nret (omega arith))) (fit kind) where
+      fit : (k : CheckKind) → AllByRecursion (RowFits k) (kind_rows c.isa k)
+      fit Insn = rows_fit (isa_rows c.isa)
+      fit Ill = (refl, tt)
+      fit Reg = (refl, tt)
+      fit PcFwd = (refl, tt)
+      fit PcBwd = (refl, tt)
+      fit Causal = (refl, tt)
+      fit Unique = (refl, tt)
+      fit Liveness = (refl, tt)
+      fit Imem = (refl, tt)
+      fit Dmem = (refl, tt)
 
-moved_lawful : (P : Check → Type 0) (names : List (List ℕ)) (cs : List Check) → AllByRecursion P cs → AllByRecursion P (moved names cs)
+moved_lawful : (P : Check → Type 0) (names : List (List ℕ)) (cs : List Check) → AllByRecursion P cs
+    → AllByRecursion P (moved names cs)
 moved_lawful P [] cs a = a
-moved_lawful P (n ∷ ns) cs a = all_append P (filter (is_named n) cs) (moved ns (filter (λ c. not (is_named n c)) cs)) (all_filter P (is_named n) cs a) (moved_lawful P ns (filter (λ c. not (is_named n c)) cs) (all_filter P (λ c. not (is_named n c)) cs a))
+moved_lawful P (n ∷ ns) cs a = all_append P (filter (is_named n) cs) (moved ns (filter (λ c. not (is_named n c)) cs))
+    (all_filter P (is_named n) cs a) (moved_lawful P ns (filter (λ c. not (is_named n c)) cs)
+    (all_filter P (λ c. not (is_named n c)) cs a))
 
 all_kinds : (ks : List CheckKind) → AllByRecursion (λ k. Unit {0}) ks
 all_kinds [] = tt
@@ -145,4 +162,5 @@ all_kinds (k ∷ ks) = (tt, all_kinds ks)
 -- deep lines have lawful checks
 pub deep_is_lawful : (c : Config) → AllByRecursion IsDeep c.depths → HasLawfulChecks c
 deep_is_lawful c a =
-    moved_lawful (IsCheck c.nret) c.sort (listed_checks c) (all_flat (λ k. Unit {0}) (IsCheck c.nret) (kind_checks c) kinds (λ k u. kind_lawful c k a) (all_kinds kinds))
+    moved_lawful (IsCheck c.nret) c.sort (listed_checks c)
+    (all_flat (λ k. Unit {0}) (IsCheck c.nret) (kind_checks c) kinds (λ k u. kind_lawful c k a) (all_kinds kinds))

@@ -1,12 +1,14 @@
 -- The checks of a configuration and their order (documentation of riscv-formal, in this project's profile).
-use Rattle.std.specs.Prelude.{ℕ, Bool, not, if◌then◌else◌, List, [], ◌∷◌, ◌++◌, Option, Some, None, option_map, option_to_list, map, find, codes, decimal}
+use Rattle.std.specs.Prelude.{ℕ, Bool, not, if◌then◌else◌, List, [], ◌∷◌, ◌++◌, Option, Some, None, option_map}
+use Rattle.std.specs.Prelude.{option_to_list, map, find, codes, decimal}
 use Rattle.std.specs.List.{filter, flat_map, range_with_len}
 use Rattle.std.specs.Str.{bytes_eq}
 use Rattle.rv_table.specs.declared.retire.Isa.{Isa}
 use Rattle.rv_table.specs.declared.row.RowId.{RowId}
 use Rattle.rv_table.specs.Matching as matching
 use Rattle.ck_cfg.specs.declared.kind.CheckKind.{CheckKind}
-use Rattle.ck_cfg.specs.declared.kind.CheckKind.TheVariants.{Insn, Ill, Reg, PcFwd, PcBwd, Causal, Unique, Liveness, Imem, Dmem}
+use Rattle.ck_cfg.specs.declared.kind.CheckKind.TheVariants.{Insn, Ill, Reg, PcFwd, PcBwd, Causal, Unique, Liveness}
+use Rattle.ck_cfg.specs.declared.kind.CheckKind.TheVariants.{Imem, Dmem}
 use Rattle.ck_cfg.specs.declared.config.Depth.{Depth}
 use Rattle.ck_cfg.specs.declared.config.Config.{Config}
 use Rattle.ck_cfg.specs.declared.check.Check.{Check}

@@ -1,7 +1,8 @@
 -- The numbers of the refusals, and how clauses speak of them.
 use Rattle.std.specs.Prelude.{ℕ, ◌≡◌, Result, Ok, Err}
 use Rattle.ck_cfg.specs.declared.fault.CfgFault.{CfgFault}
-use Rattle.ck_cfg.specs.declared.fault.CfgFault.TheVariants.{Section, Option, Depth, Isa, Missing, Twice, TooDeep, NotUtf8, Nret, Script, Memory}
+use Rattle.ck_cfg.specs.declared.fault.CfgFault.TheVariants.{Section, Option, Depth, Isa, Missing, Twice, TooDeep}
+use Rattle.ck_cfg.specs.declared.fault.CfgFault.TheVariants.{NotUtf8, Nret, Script, Memory}
 
 -- the number of a refusal in print; want of memory has none
 abbrev pub number_of : CfgFault → ℕ

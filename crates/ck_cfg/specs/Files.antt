@@ -3,8 +3,8 @@ use Rattle.std.specs.Prelude.{ℕ, zero, suc, if◌then◌else◌, nat_eq, List,
 use Rattle.std.specs.List.{starts_with}
 use Rattle.ck_cfg.specs.declared.config.Config.{Config}
 
--- a name behind so many bytes that were read already: `@basedir@` is the base folder and `@core@` the core's name, taken
--- from left to right; what is put in isn't read
+-- a name behind so many bytes that were read already: `@basedir@` is the base folder and `@core@` the core's name,
+-- taken from left to right; what is put in isn't read
 abbrev pub filled_behind : List ℕ → List ℕ → ℕ → List ℕ → List ℕ
 filled_behind core basedir n [] = []
 filled_behind core basedir (suc n) (b ∷ bs) = filled_behind core basedir n bs

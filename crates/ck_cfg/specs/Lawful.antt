@@ -3,7 +3,8 @@ use Rattle.std.specs.Prelude.{ℕ, ◌≡◌, ◌≤◌, ◌<◌, Option, Some, 
 use Rattle.std.specs.List.{AllByRecursion}
 use Rattle.rv_table.specs.declared.row.RowId.{RowId}
 use Rattle.ck_cfg.specs.declared.kind.CheckKind.{CheckKind}
-use Rattle.ck_cfg.specs.declared.kind.CheckKind.TheVariants.{Insn, Ill, Reg, PcFwd, PcBwd, Causal, Unique, Liveness, Imem, Dmem}
+use Rattle.ck_cfg.specs.declared.kind.CheckKind.TheVariants.{Insn, Ill, Reg, PcFwd, PcBwd, Causal, Unique, Liveness}
+use Rattle.ck_cfg.specs.declared.kind.CheckKind.TheVariants.{Imem, Dmem}
 use Rattle.ck_cfg.specs.declared.config.Config.{Config}
 use Rattle.ck_cfg.specs.declared.check.Check.{Check}
 use Rattle.ck_cfg.specs.Checks.{checks_of}

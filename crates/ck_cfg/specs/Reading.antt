@@ -1,7 +1,8 @@
--- What a configuration says, or why it says nothing (documentation of riscv-formal, in this project's profile). The lines
--- are taken in order, each in its section; of several refusals the first line's is answered, and at one line the one with
--- the lowest number.
-use Rattle.std.specs.Prelude.{ℕ, ◌&&◌, false, if◌then◌else◌, List, [], ◌∷◌, ◌++◌, Option, Some, None, codes, Result, Ok, Err}
+-- What a configuration says, or why it says nothing (documentation of riscv-formal, in this project's profile). The
+-- lines are taken in order, each in its section; of several refusals the first line's is answered, and at one line
+-- the one with the lowest number.
+use Rattle.std.specs.Prelude.{ℕ, ◌&&◌, false, if◌then◌else◌, List, [], ◌∷◌, ◌++◌, Option, Some, None, codes, Result}
+use Rattle.std.specs.Prelude.{Ok, Err}
 use Rattle.std.specs.Str.{is_utf8}
 use Rattle.fv_lines.specs.Words.{is_nil, words}
 use Rattle.ck_cfg.specs.declared.kind.CheckKind.{CheckKind}
@@ -9,7 +10,8 @@ use Rattle.ck_cfg.specs.declared.config.Config.{Config}
 use Rattle.ck_cfg.specs.declared.config.Piece.{Piece}
 use Rattle.ck_cfg.specs.declared.config.KindPiece.{KindPiece}
 use Rattle.ck_cfg.specs.declared.section.Section.{Section}
-use Rattle.ck_cfg.specs.declared.section.Section.TheVariants.{Options, Depth, Defines, KindDefines, VerilogFiles, ScriptSources, Csrs, Sort, Assume}
+use Rattle.ck_cfg.specs.declared.section.Section.TheVariants.{Options, Depth, Defines, KindDefines, VerilogFiles}
+use Rattle.ck_cfg.specs.declared.section.Section.TheVariants.{ScriptSources, Csrs, Sort, Assume}
 use Rattle.ck_cfg.specs.declared.fault.CfgFault.{CfgFault}
 use Rattle.ck_cfg.specs.declared.fault.CfgFault.TheVariants as fault
 use Rattle.ck_cfg.specs.declared.reader.Reader.{Reader}

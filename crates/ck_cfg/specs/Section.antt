@@ -1,9 +1,11 @@
 -- The sections of a configuration and their names (documentation of riscv-formal, in this project's profile).
 use Rattle.std.specs.Prelude.{ℕ, List, [], ◌∷◌, ◌++◌, Option, find, codes}
 use Rattle.std.specs.Str.{bytes_eq}
-use Rattle.ck_cfg.specs.declared.kind.CheckKind.TheVariants.{Insn, Ill, Reg, PcFwd, PcBwd, Causal, Unique, Liveness, Imem, Dmem}
+use Rattle.ck_cfg.specs.declared.kind.CheckKind.TheVariants.{Insn, Ill, Reg, PcFwd, PcBwd, Causal, Unique, Liveness}
+use Rattle.ck_cfg.specs.declared.kind.CheckKind.TheVariants.{Imem, Dmem}
 use Rattle.ck_cfg.specs.declared.section.Section.{Section}
-use Rattle.ck_cfg.specs.declared.section.Section.TheVariants.{Options, Depth, Defines, KindDefines, VerilogFiles, ScriptSources, Csrs, Sort, Assume}
+use Rattle.ck_cfg.specs.declared.section.Section.TheVariants.{Options, Depth, Defines, KindDefines, VerilogFiles}
+use Rattle.ck_cfg.specs.declared.section.Section.TheVariants.{ScriptSources, Csrs, Sort, Assume}
 use Rattle.ck_cfg.specs.Kind.{kind_name}
 
 -- the name between the brackets

@@ -43,7 +43,8 @@ fn put_part<'a>(
     basedir: &[u8],
 ) -> Result<&'a [u8], Memory>
     requires { 0 < length name.now }
-    ensures same { IfOk result (λ rest. out.new.items ++ filled core.now basedir.now rest.now ≡ out.old.items ++ filled core.now basedir.now name.now) }
+    ensures same { IfOk result (λ rest. out.new.items ++ filled core.now basedir.now rest.now ≡ out.old.items
+        ++ filled core.now basedir.now name.now) }
     ensures shorter { IfOk result (λ rest. length rest.now < length name.now) }
 {
     if let Some(rest) = name.strip_prefix(b"@basedir@".as_slice()) {

@@ -2,7 +2,8 @@
 
 ghost use Rattle.std.specs.Prelude.{◌≡◌, ◌++◌, OnOk, IfOk, find};
 ghost use Rattle.ck_cfg.specs.Depths.{is_for};
-ghost use Rattle.ck_cfg.specs.Checks.{depth_for, row_part, check_name, channel_check, channel_checks, row_checks, kind_checks, checks_of};
+ghost use Rattle.ck_cfg.specs.Checks.{depth_for, row_part, check_name, channel_check, channel_checks, row_checks};
+ghost use Rattle.ck_cfg.specs.Checks.{kind_checks, checks_of};
 ghost use Rattle.ck_cfg.specs.declared.kind.CheckKind.TheVariants.{Insn};
 
 use crate::check::Check;

@@ -105,7 +105,8 @@ fn is_idle(key: &[u8]) -> bool
 
 /// The word, if there is one alone.
 fn lone_word(text: &[u8]) -> Option<&[u8]>
-    ensures { MatchOption result ((word : List ℕ) → words text.now ≡ word ∷ [] → ⊥) (λ word. words text.now ≡ word.now ∷ []) }
+    ensures { MatchOption result ((word : List ℕ) → words text.now ≡ word ∷ [] → ⊥)
+        (λ word. words text.now ≡ word.now ∷ []) }
 {
     let (word, rest) = next_word(text)?;
     if next_word(rest).is_some() {

@@ -3,7 +3,8 @@ ghost use Rattle.fv_lines.specs.Words.{words};
 ghost use Rattle.ck_cfg.specs.Faults.{Goes, Answers};
 ghost use Rattle.ck_cfg.specs.Line.{counted, counted_lines};
 ghost use Rattle.ck_cfg.specs.Options.{is_among};
-ghost use Rattle.ck_cfg.specs.Reading.{start, piece, with_text_in, with_text, with_section, with_line, with_lines, finished};
+ghost use Rattle.ck_cfg.specs.Reading.{start, piece, with_text_in, with_text, with_section, with_line, with_lines};
+ghost use Rattle.ck_cfg.specs.Reading.{finished};
 
 use crate::config::{Config, KindPiece, Piece};
 use crate::fault::CfgFault;

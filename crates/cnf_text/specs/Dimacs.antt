@@ -1,6 +1,8 @@
--- Clause files (DIMACS): which formula a text says, and why it says none. What is refused, and in which order, is a rule
--- of this project.
-use Rattle.std.specs.Prelude.{ℕ, ◌≤◌, ◌≡◌, Bool, true, false, not, ◌&&◌, ◌||◌, ◌==◌, if◌then◌else◌, List, [], ◌∷◌, ◌++◌, length, flat_map, ℤ, unsigned_abs, codes, decimal, bytes_eq, Option, Some, None, Result, Ok, Err}
+-- Clause files (DIMACS): which formula a text says, and why it says none. What is refused, and in which order, is a
+-- rule of this project.
+use Rattle.std.specs.Prelude.{ℕ, ◌≤◌, ◌≡◌, Bool, true, false, not, ◌&&◌, ◌||◌, ◌==◌, if◌then◌else◌, List, [], ◌∷◌}
+use Rattle.std.specs.Prelude.{◌++◌, length, flat_map, ℤ, unsigned_abs, codes, decimal, bytes_eq, Option, Some, None}
+use Rattle.std.specs.Prelude.{Result, Ok, Err}
 use Rattle.std.specs.Fmt.{signed_decimal}
 use Rattle.std.specs.List.{AllByRecursion, list_all}
 use Rattle.cnf_form.specs.Cnf.{Cnf}
@@ -22,7 +24,8 @@ both (Some v) (Some c) = Some (v, c)
 
 abbrev pub header_of : List (List ℕ) → Option (ℕ × ℕ)
 header_of (p ∷ f ∷ v ∷ c ∷ []) =
-    if bytes_eq p (codes "p") && bytes_eq f (codes "cnf") then both (number_up_to 100000000 v) (number_up_to 100000000 c)
+    if bytes_eq p (codes "p") && bytes_eq f (codes "cnf")
+    then both (number_up_to 100000000 v) (number_up_to 100000000 c)
     else None
 header_of ws = None
 
@@ -117,7 +120,8 @@ HaveNoEnd notes = AllByRecursion HasNoEnd notes
 
 -- a formula within the limits of the format is read back
 abbrev pub ReadsBack : List (List ℕ) → Cnf → List ℕ → Type 0
-ReadsBack notes cnf bytes = HaveNoEnd notes → cnf.vars ≤ 100000000 → length cnf.clauses ≤ 100000000 → formula_of bytes ≡ Ok cnf
+ReadsBack notes cnf bytes =
+    HaveNoEnd notes → cnf.vars ≤ 100000000 → length cnf.clauses ≤ 100000000 → formula_of bytes ≡ Ok cnf
 
 -- the number of a refusal in print; want of memory has none
 abbrev pub dimacs_number : DimacsFault → ℕ

@@ -12,7 +12,8 @@ use std::alloc::Global;
 
 /// The formula of a clause file.
 ///
-/// Comment lines, whose first word begins with `c`, stand anywhere; blank lines too; a clause may go over several lines.
+/// Comment lines, whose first word begins with `c`, stand anywhere; blank lines too; a clause may go over several
+/// lines.
 pub fn read_dimacs(alloc: Global, bytes: &[u8]) -> Result<Formula, DimacsFault>
     ensures { Answers (λ f. f) result (formula_of bytes.now) }
 {

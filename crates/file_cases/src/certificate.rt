@@ -7,8 +7,8 @@ use fv_base::{Memory, Text};
 use lrat_check::{lrat, read_lrat, verify};
 use std::alloc::Global;
 
-/// What `CLAUSES|PROOF` comes to: `refuted` and the id of the empty clause, or which part is refused with which number and
-/// message.
+/// What `CLAUSES|PROOF` comes to: `refuted` and the id of the empty clause, or which part is refused with which
+/// number and message.
 pub(crate) fn judged(alloc: Global, text: &[u8]) -> Result<String, Memory> {
     let (cnf, proof) = escape::parted(text);
     answer(alloc, cnf, proof)

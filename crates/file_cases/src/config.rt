@@ -115,7 +115,8 @@ pub(crate) fn file(alloc: Global, text: &[u8]) -> Result<String, Memory> {
     Ok(out)
 }
 
-/// A section whose name has 100,000 letters, in line 2: the number and the line of its refusal, and how long its name is.
+/// A section whose name has 100,000 letters, in line 2: the number and the line of its refusal, and how long its name
+/// is.
 pub(crate) fn long_section(alloc: Global) -> Result<String, Memory> {
     let mut text = Vec::from_slice(alloc, b"# a comment\n[")?;
     for _ in 0..100000u32 {

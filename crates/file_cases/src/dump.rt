@@ -5,8 +5,8 @@ use fv_base::{Memory, Trace};
 use std::alloc::Global;
 use vcd_text::{VcdFault, read_vcd, vcd};
 
-/// The names of a dump with their widths and their values in each cycle, and whether it is written again as it stood; or
-/// the faulty line.
+/// The names of a dump with their widths and their values in each cycle, and whether it is written again as it stood;
+/// or the faulty line.
 pub(crate) fn reading(alloc: Global, text: &[u8]) -> Result<String, Memory> {
     let mut out = String::new(alloc);
     match read_vcd(alloc, text) {

@@ -1,4 +1,5 @@
-ghost use Rattle.std.specs.Prelude.{◌≡◌, [], ◌∷◌, ◌++◌, ◌<◌, length, slice_get, slice_set, OnOk, OnErr, OnSome, IsTrue, ◌↔◌};
+ghost use Rattle.std.specs.Prelude.{◌≡◌, [], ◌∷◌, ◌++◌, ◌<◌, length, slice_get, slice_set, OnOk, OnErr, OnSome};
+ghost use Rattle.std.specs.Prelude.{IsTrue, ◌↔◌};
 ghost use Rattle.std.specs.Option.{option_copied, option_copied_mut};
 ghost use Rattle.std.specs.Borrow.{LendsIf, sem};
 ghost use Rattle.fv_base.specs.contracts.list.List.{the_row};
@@ -76,7 +77,8 @@ impl<T> List<T> {
     /// Lends that item for writing and changes no other. None exactly where the index isn't below the length.
     pub fn get_mut(&mut self, index: usize) -> Option<&mut T>
         ensures value { option_copied_mut result ≡ slice_get self.old index }
-        ensures* lends { sem 𝓛 (LendsIf (the_row T.row) T.row self.entry result (λ w. slice_set self.old index w) self.old) }
+        ensures* lends { sem 𝓛 (LendsIf (the_row T.row) T.row self.entry result
+            (λ w. slice_set self.old index w) self.old) }
     {
         self.items.get_mut(index)
     }

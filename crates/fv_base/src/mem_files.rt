@@ -1,4 +1,5 @@
-ghost use Rattle.std.specs.Prelude.{◌≡◌, ◌≤◌, ◌+◌, ◌-◌, ◌^◌, ◌↔◌, ℕ, min, if◌then◌else◌, Some, None, IsTrue, MatchOption, IfOk, OnOk, IsErrOf};
+ghost use Rattle.std.specs.Prelude.{◌≡◌, ◌≤◌, ◌+◌, ◌-◌, ◌^◌, ◌↔◌, ℕ, min, if◌then◌else◌, Some, None, IsTrue};
+ghost use Rattle.std.specs.Prelude.{MatchOption, IfOk, OnOk, IsErrOf};
 ghost use Rattle.fv_base.specs.Outside.{Rose, ReadGives, Lacks, Holds, HoldsPart, SameFiles};
 ghost use Rattle.fv_base.specs.Failing.{is_failing};
 ghost use Rattle.fv_base.specs.Store.{no_files, with_pairs};
@@ -26,7 +27,8 @@ impl MemFiles {
         files: Vec<(String, Vec<u8>)>,
         failing: Vec<u64>,
     ) -> Result<MemFiles, Memory>
-        ensures names { IfOk result (λ f. SameFiles (Some (with_pairs no_files files.items)) (Some (mem_state f).names)) }
+        ensures names { IfOk result (λ f. SameFiles (Some (with_pairs no_files files.items))
+            (Some (mem_state f).names)) }
         ensures failing { IfOk result (λ f. (mem_state f).failing ≡ failing.items) }
         ensures call { IfOk result (λ f. (mem_state f).call ≡ 0) }
         ensures faults { IfOk result (λ f. (mem_state f).faults ≡ 0) }
@@ -41,7 +43,8 @@ impl MemFiles {
 
     /// What the name holds. None exactly where it isn't held.
     pub fn get(&self, name: &str) -> Option<&[u8]>
-        ensures { MatchOption result ((mem_state self.now).names name.now ≡ None) (λ bytes. (mem_state self.now).names name.now ≡ Some bytes.now) }
+        ensures { MatchOption result ((mem_state self.now).names name.now ≡ None)
+            (λ bytes. (mem_state self.now).names name.now ≡ Some bytes.now) }
     {
         store::look_up(&self.store, name.as_bytes())
     }
@@ -60,14 +63,17 @@ impl Files for MemFiles {
     fn read(&mut self, alloc: Global, name: &[u8]) -> Result<Vec<u8>, FileFault>
         ensures bytes { IfOk result (λ bytes. ReadGives (Some (mem_state self.old).names) name.now bytes.items) }
         ensures absent { IsErrOf result FileFault.Absent → Lacks (Some (mem_state self.old).names) name.now }
-        ensures missed { IsErrOf result FileFault.Absent → Rose (mem_state self.old).misses (mem_state self.new).misses }
-        ensures failed { IsErrOf result FileFault.Failed → Rose (mem_state self.old).faults (mem_state self.new).faults }
+        ensures missed { IsErrOf result FileFault.Absent
+            → Rose (mem_state self.old).misses (mem_state self.new).misses }
+        ensures failed { IsErrOf result FileFault.Failed
+            → Rose (mem_state self.old).faults (mem_state self.new).faults }
         ensures kept { SameFiles (Some (mem_state self.old).names) (Some (mem_state self.new).names) }
         ensures faults_grow { (mem_state self.old).faults ≤ (mem_state self.new).faults }
         ensures misses_grow { (mem_state self.old).misses ≤ (mem_state self.new).misses }
 
         // The numbered call fails, whether or not the name is held, and no other call does.
-        ensures fails { IsErrOf result FileFault.Failed ↔ IsTrue (is_failing (mem_state self.old).failing (mem_state self.old).call) }
+        ensures fails { IsErrOf result FileFault.Failed
+            ↔ IsTrue (is_failing (mem_state self.old).failing (mem_state self.old).call) }
         ensures counted { (mem_state self.new).call ≡ min ((mem_state self.old).call + 1) (2 ^ 64 - 1) }
         ensures list_kept { (mem_state self.new).failing ≡ (mem_state self.old).failing }
     {
@@ -85,17 +91,23 @@ impl Files for MemFiles {
     }
 
     fn write(&mut self, alloc: Global, name: &[u8], bytes: &[u8]) -> Result<(), FileFault>
-        ensures ok { OnOk result (Holds (Some (mem_state self.old).names) (Some (mem_state self.new).names) name.now bytes.now) }
-        ensures failed { IsErrOf result FileFault.Failed → Rose (mem_state self.old).faults (mem_state self.new).faults }
-        ensures part { IsErrOf result FileFault.Failed → HoldsPart (Some (mem_state self.old).names) (Some (mem_state self.new).names) name.now bytes.now }
-        ensures memory { IsErrOf result FileFault.Memory → SameFiles (Some (mem_state self.old).names) (Some (mem_state self.new).names) }
+        ensures ok { OnOk result (Holds (Some (mem_state self.old).names)
+            (Some (mem_state self.new).names) name.now bytes.now) }
+        ensures failed { IsErrOf result FileFault.Failed
+            → Rose (mem_state self.old).faults (mem_state self.new).faults }
+        ensures part { IsErrOf result FileFault.Failed
+            → HoldsPart (Some (mem_state self.old).names) (Some (mem_state self.new).names) name.now bytes.now }
+        ensures memory { IsErrOf result FileFault.Memory
+            → SameFiles (Some (mem_state self.old).names) (Some (mem_state self.new).names) }
         ensures never_absent { IsErrOf result FileFault.Absent → ⊥ }
         ensures faults_grow { (mem_state self.old).faults ≤ (mem_state self.new).faults }
         ensures misses_kept { (mem_state self.new).misses ≡ (mem_state self.old).misses }
 
         // The numbered call fails and changes no file, and no other call fails.
-        ensures fails { IsErrOf result FileFault.Failed ↔ IsTrue (is_failing (mem_state self.old).failing (mem_state self.old).call) }
-        ensures unchanged { IsErrOf result FileFault.Failed → SameFiles (Some (mem_state self.old).names) (Some (mem_state self.new).names) }
+        ensures fails { IsErrOf result FileFault.Failed
+            ↔ IsTrue (is_failing (mem_state self.old).failing (mem_state self.old).call) }
+        ensures unchanged { IsErrOf result FileFault.Failed
+            → SameFiles (Some (mem_state self.old).names) (Some (mem_state self.new).names) }
         ensures counted { (mem_state self.new).call ≡ min ((mem_state self.old).call + 1) (2 ^ 64 - 1) }
         ensures list_kept { (mem_state self.new).failing ≡ (mem_state self.old).failing }
     {

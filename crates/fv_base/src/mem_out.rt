@@ -1,4 +1,5 @@
-ghost use Rattle.std.specs.Prelude.{◌≡◌, ◌≤◌, ◌+◌, ◌-◌, ◌^◌, ◌++◌, ◌↔◌, ℕ, [], min, max, length, if◌then◌else◌, Some, is_ok, IsOk, IsTrue, OnOk, OnErr, IsErrOf};
+ghost use Rattle.std.specs.Prelude.{◌≡◌, ◌≤◌, ◌+◌, ◌-◌, ◌^◌, ◌++◌, ◌↔◌, ℕ, [], min, max, length, if◌then◌else◌, Some};
+ghost use Rattle.std.specs.Prelude.{is_ok, IsOk, IsTrue, OnOk, OnErr, IsErrOf};
 ghost use Rattle.fv_base.specs.Outside.{Rose, Appends, AppendsPart};
 ghost use Rattle.fv_base.specs.Failing.{is_failing};
 
@@ -95,7 +96,8 @@ impl Out for MemOut {
     fn put(&mut self, bytes: &[u8]) -> Result<(), OutFault>
         ensures ok { OnOk result (Appends (Some self.old.sent) (Some self.new.sent) bytes.now) }
         ensures failed { IsErrOf result OutFault.Failed → Rose self.old.faults self.new.faults }
-        ensures part { IsErrOf result OutFault.Failed → AppendsPart (Some self.old.sent) (Some self.new.sent) bytes.now }
+        ensures part { IsErrOf result OutFault.Failed
+            → AppendsPart (Some self.old.sent) (Some self.new.sent) bytes.now }
         ensures memory { IsErrOf result OutFault.Memory → Some self.new.sent ≡ Some self.old.sent }
         ensures grow { self.old.faults ≤ self.new.faults }
 

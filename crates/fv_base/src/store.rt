@@ -12,7 +12,8 @@ pub(crate) type Store = BTreeMap<Vec<u8>, Vec<u8>>;
 
 /// What the name holds.
 pub(crate) fn look_up<'a>(store: &'a Store, name: &[u8]) -> Option<&'a [u8]>
-    ensures { MatchOption result (names_in store.now name.now ≡ None) (λ bytes. names_in store.now name.now ≡ Some bytes.now) }
+    ensures { MatchOption result (names_in store.now name.now ≡ None)
+        (λ bytes. names_in store.now name.now ≡ Some bytes.now) }
 {
     match store.get(name) {
         None => None,

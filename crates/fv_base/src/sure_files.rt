@@ -29,7 +29,8 @@ impl SureFiles {
 
     /// What the name holds. None exactly where it isn't held.
     pub fn get(&self, name: &str) -> Option<&[u8]>
-        ensures { MatchOption result (sure_names self.now name.now ≡ None) (λ bytes. sure_names self.now name.now ≡ Some bytes.now) }
+        ensures { MatchOption result (sure_names self.now name.now ≡ None)
+            (λ bytes. sure_names self.now name.now ≡ Some bytes.now) }
     {
         store::look_up(&self.store, name.as_bytes())
     }

@@ -1,9 +1,12 @@
 -- Numbers of 128 bits against numbers of fewer.
-use Rattle.std.specs.Prelude.{◌≡◌, refl, ℕ, zero, suc, ◌+◌, ◌-◌, ◌*◌, ◌/◌, ◌%◌, ◌^◌, ◌<◌, ◌≤◌, ◌==◌, false, not, if◌then◌else◌, ℤ, pos, negsuc, neg_ℤ, nat_abs, int_div, int_rem}
+use Rattle.std.specs.Prelude.{◌≡◌, refl, ℕ, zero, suc, ◌+◌, ◌-◌, ◌*◌, ◌/◌, ◌%◌, ◌^◌, ◌<◌, ◌≤◌, ◌==◌, false, not}
+use Rattle.std.specs.Prelude.{if◌then◌else◌, ℤ, pos, negsuc, neg_ℤ, nat_abs, int_div, int_rem}
 use Rattle.std.proofs.Common.{ap, sym, ◌∙◌, arith}
 use Rattle.std.proofs.Math.Pow.{mod-mod-pow, pow_mono}
-use Rattle.std.proofs.Math.Nat.{mul-le-mul_right, mul_assoc, mul-mod_left, div-eq_of_lt, mod-eq_of_lt, mod_self, add-mod-mod, mod-le, div-le_self}
-use Rattle.std.proofs.lemmas.Nat.{and_mask, pow_pos, pow-add, shr_le, and_le_l, or_lt, xor_lt, shl_whole, shr_split, mod_below}
+use Rattle.std.proofs.Math.Nat.{mul-le-mul_right, mul_assoc, mul-mod_left, div-eq_of_lt, mod-eq_of_lt, mod_self}
+use Rattle.std.proofs.Math.Nat.{add-mod-mod, mod-le, div-le_self}
+use Rattle.std.proofs.lemmas.Nat.{and_mask, pow_pos, pow-add, shr_le, and_le_l, or_lt, xor_lt, shl_whole, shr_split}
+use Rattle.std.proofs.lemmas.Nat.{mod_below}
 use Rattle.fv_bits.specs.Bits.{of_int, is_below_zero, is_one_below_zero, negative, parity}
 
 pub low_of_128 : (n w : ℕ) → w ≤ 128 → n % 2 ^ 128 % 2 ^ w ≡ n % 2 ^ w
@@ -70,13 +73,15 @@ pub ruleset wholes = (bits, joined_fits, joined_whole)
 pub ruleset bitwise = (bits, and_le_l, or_lt, xor_lt)
 
 -- quotients and remainders of magnitudes
-pub quotient_of : (a b : ℤ) → int_div a b ≡ (if is_one_below_zero a b then neg_ℤ (pos (nat_abs a / nat_abs b)) else pos (nat_abs a / nat_abs b))
+pub quotient_of : (a b : ℤ) → int_div a b
+    ≡ (if is_one_below_zero a b then neg_ℤ (pos (nat_abs a / nat_abs b)) else pos (nat_abs a / nat_abs b))
 quotient_of (pos a) (pos b) = refl
 quotient_of (pos a) (negsuc b) = refl
 quotient_of (negsuc a) (pos b) = refl
 quotient_of (negsuc a) (negsuc b) = refl
 
-pub remainder_of : (a b : ℤ) → int_rem a b ≡ (if is_below_zero a then neg_ℤ (pos (nat_abs a % nat_abs b)) else pos (nat_abs a % nat_abs b))
+pub remainder_of : (a b : ℤ) → int_rem a b
+    ≡ (if is_below_zero a then neg_ℤ (pos (nat_abs a % nat_abs b)) else pos (nat_abs a % nat_abs b))
 remainder_of (pos a) b = refl
 remainder_of (negsuc a) b = refl
 
@@ -86,7 +91,8 @@ pub parity_of_0 : (w n : ℕ) → w ≡ 0 → parity w n ≡ false
 parity_of_0 zero n e = refl
 parity_of_0 (suc w) n e = absurd (omega arith)
 
-pub parity_next : (w n : ℕ) → 0 < w → parity w n ≡ (if n % 2 == 1 then not (parity (w - 1) (n / 2)) else parity (w - 1) (n / 2))
+pub parity_next : (w n : ℕ) → 0 < w → parity w n
+    ≡ (if n % 2 == 1 then not (parity (w - 1) (n / 2)) else parity (w - 1) (n / 2))
 parity_next zero n h = absurd (omega arith)
 parity_next (suc w) n h =
     let e : suc w - 1 ≡ w = omega arith in

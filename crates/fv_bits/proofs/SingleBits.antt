@@ -1,12 +1,16 @@
--- Single bits of what operators make of numbers: bit i of n is `bit_at n i`. Of `bit_and`, `bit_or` and `bit_xor` std has them.
-use Rattle.std.specs.Prelude.{◌≡◌, refl, ℕ, zero, suc, ◌+◌, ◌-◌, ◌*◌, ◌/◌, ◌%◌, ◌^◌, ◌<◌, ◌≤◌, nat_le, Bool, true, false, if◌then◌else◌}
+-- Single bits of what operators make of numbers: bit i of n is `bit_at n i`. Of `bit_and`, `bit_or` and `bit_xor` std
+-- has them.
+use Rattle.std.specs.Prelude.{◌≡◌, refl, ℕ, zero, suc, ◌+◌, ◌-◌, ◌*◌, ◌/◌, ◌%◌, ◌^◌, ◌<◌, ◌≤◌, nat_le, Bool, true}
+use Rattle.std.specs.Prelude.{false, if◌then◌else◌}
 use Rattle.std.specs.Int.{bit_at}
 use Rattle.std.proofs.Common.{ap, sym, ◌∙◌, arith}
 use Rattle.std.proofs.Math.Nat.{div-eq_of_lt, div-one}
 use Rattle.std.proofs.lemmas.Bool.Decides.{nat_tests}
 use Rattle.std.proofs.lemmas.Nat.{pow_pos, pow-add, mod_below, shr-shr, div-add-mod', div-mul-add, mod-pow-add}
-use Rattle.std.proofs.lemmas.Nat.Bits.{bit_at-zero, bit_at-suc, bit_at_above, bit_at_ones, bit_at_cat_low, bit_at_cat_high}
-use Rattle.fv_bits.specs.Bits.{low, part, joined, sum, carry, complement, is_negative, sign_extended, shifted_left, shifted_right}
+use Rattle.std.proofs.lemmas.Nat.Bits.{bit_at-zero, bit_at-suc, bit_at_above, bit_at_ones, bit_at_cat_low}
+use Rattle.std.proofs.lemmas.Nat.Bits.{bit_at_cat_high}
+use Rattle.fv_bits.specs.Bits.{low, part, joined, sum, carry, complement, is_negative, sign_extended, shifted_left}
+use Rattle.fv_bits.specs.Bits.{shifted_right}
 
 pub bit_at_low : (w n i : ℕ) → i < w → bit_at (low w n) i ≡ bit_at n i
 bit_at_low w n i h = sym (bit_at_cat_low (n / 2 ^ w) w (n % 2 ^ w) i h) ∙ ap (λ m. bit_at m i) (div-add-mod' n (2 ^ w))
@@ -33,7 +37,8 @@ bit_at_left w n k i within h =
 pub bit_at_joined_low : (w high behind i : ℕ) → i < w → bit_at (joined w high behind) i ≡ bit_at behind i
 bit_at_joined_low w high behind i h = bit_at_cat_low high w behind i h
 
-pub bit_at_joined_high : (w high behind i : ℕ) → behind < 2 ^ w → w ≤ i → bit_at (joined w high behind) i ≡ bit_at high (i - w)
+pub bit_at_joined_high : (w high behind i : ℕ) → behind < 2 ^ w → w ≤ i
+    → bit_at (joined w high behind) i ≡ bit_at high (i - w)
 bit_at_joined_high w high behind i fits h = bit_at_cat_high high w behind i fits h
 
 pub bit_at_complement : (w n i : ℕ) → n < 2 ^ w → i < w → bit_at (complement w n) i ≡ 1 - bit_at n i
@@ -72,7 +77,8 @@ sign_bit m n some fits = by (nat_le (2 ^ (m - 1)) n) refl
 
 extended_is : (m w n : ℕ) → m ≤ w → n + (2 ^ w - 2 ^ m) ≡ (2 ^ (w - m) - 1) * 2 ^ m + n
 extended_is m w n h =
-    let e : 2 ^ w ≡ 2 ^ (w - m) * 2 ^ m = (let f : w ≡ w - m + m = omega arith in ap (λ j. 2 ^ j) f ∙ pow-add 2 (w - m) m) in
+    let e : 2 ^ w ≡ 2 ^ (w - m) * 2 ^ m = (let f : w ≡ w - m + m = omega arith in ap (λ j. 2 ^ j) f
+    ∙ pow-add 2 (w - m) m) in
     let q = 2 ^ (w - m) - 1 in
     let p : 2 ^ (w - m) ≡ q + 1 = omega (arith, pow_pos (w - m)) in
     let f : 2 ^ w ≡ (q + 1) * 2 ^ m = e ∙ ap (λ x. x * 2 ^ m) p in
@@ -86,7 +92,8 @@ bit_at_extended_low m w n i h within = by (is_negative m n)
     by false = refl
 
 -- the bits above are 1 exactly where the number is negative
-pub bit_at_extended_high : (m w n i : ℕ) → n < 2 ^ m → m ≤ i → i < w → bit_at (sign_extended m w n) i ≡ (if is_negative m n then 1 else 0)
+pub bit_at_extended_high : (m w n i : ℕ) → n < 2 ^ m → m ≤ i → i < w
+    → bit_at (sign_extended m w n) i ≡ (if is_negative m n then 1 else 0)
 bit_at_extended_high m w n i fits h within = by (is_negative m n)
   where
     by : (b : Bool) → bit_at (if b then n + (2 ^ w - 2 ^ m) else n) i ≡ (if b then 1 else 0)
@@ -107,7 +114,8 @@ parts_divided q p r some =
 pub sum_divided : (i c m n : ℕ) → (m + n + c) / 2 ^ i ≡ m / 2 ^ i + n / 2 ^ i + carry i c m n
 sum_divided i c m n =
     let p = 2 ^ i in
-    let whole : m + n + c ≡ (m / p + n / p) * p + (m % p + n % p + c) = omega (arith, div-add-mod' m p, div-add-mod' n p) in
+    let whole : m + n + c ≡ (m / p + n / p) * p
+    + (m % p + n % p + c) = omega (arith, div-add-mod' m p, div-add-mod' n p) in
     ap (λ x. x / p) whole ∙ parts_divided (m / p + n / p) p (m % p + n % p + c) (pow_pos i)
 
 -- a bit of a sum is that of three bits, of which one is carried
@@ -123,7 +131,8 @@ carry_next i c m n =
     let e : 1 + i ≡ i + 1 = omega arith in
     let ms : m % 2 ^ (i + 1) ≡ m / p % 2 * p + m % p = ap (λ k. m % 2 ^ k) (sym e) ∙ mod-pow-add m 1 i in
     let ns : n % 2 ^ (i + 1) ≡ n / p % 2 * p + n % p = ap (λ k. n % 2 ^ k) (sym e) ∙ mod-pow-add n 1 i in
-    let whole : m % 2 ^ (i + 1) + n % 2 ^ (i + 1) + c ≡ (m / p % 2 + n / p % 2) * p + (m % p + n % p + c) = omega (arith, ms, ns) in
+    let whole : m % 2 ^ (i + 1) + n % 2 ^ (i + 1) + c ≡ (m / p % 2 + n / p % 2) * p
+    + (m % p + n % p + c) = omega (arith, ms, ns) in
     ap (λ x. x / 2 ^ (i + 1)) whole
     ∙ sym (shr-shr ((m / p % 2 + n / p % 2) * p + (m % p + n % p + c)) i 1)
     ∙ ap (λ x. x / 2) (parts_divided (m / p % 2 + n / p % 2) p (m % p + n % p + c) (pow_pos i))

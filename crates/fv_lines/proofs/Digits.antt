@@ -1,5 +1,7 @@
 -- What printed numbers are as words.
-use Rattle.std.proofs.Common.{◌≡◌, ℕ, ◌+◌, ◌-◌, ◌*◌, ◌/◌, ◌%◌, ◌^◌, ◌<◌, ◌≤◌, Bool, true, false, cond, ◌&&◌, ◌==◌, List, [], ◌∷◌, ◌++◌, length, pos, neg_ℤ, Option, Some, None, refl, ap, sym, ◌∙◌, inl, inr, arith}
+use Rattle.std.proofs.Common.{◌≡◌, ℕ, ◌+◌, ◌-◌, ◌*◌, ◌/◌, ◌%◌, ◌^◌, ◌<◌, ◌≤◌, Bool, true, false, cond, ◌&&◌, ◌==◌}
+use Rattle.std.proofs.Common.{List, [], ◌∷◌, ◌++◌, length, pos, neg_ℤ, Option, Some, None, refl, ap, sym, ◌∙◌, inl}
+use Rattle.std.proofs.Common.{inr, arith}
 use Rattle.std.specs.Prelude.{option_map, nat_le, decimal}
 use Rattle.std.specs.List.{list_all}
 use Rattle.std.proofs.lemmas.Bool.{false≢true, cases_Bool}
@@ -8,14 +10,17 @@ use Rattle.std.proofs.lemmas.List.{length-append}
 use Rattle.std.proofs.lemmas.Fmt.{decimal_by_steps}
 use Rattle.fv_lines.specs.Numbers.{is_digit, continued, natural_of, at_most, number_up_to, signed}
 
-continued_push : (m d n : ℕ) (ds : List ℕ) → continued m ds ≡ Some n → is_digit d ≡ true → continued m (ds ++ d ∷ []) ≡ Some (10 * n + (d - 48))
-continued_push m d n [] e h = ap (λ b. cond b (Some (10 * m + (d - 48))) None) h ∙ ap (λ x. Some (10 * x + (d - 48))) (some_is m n e) where
-  some_is : (x y : ℕ) → Some x ≡ Some y → x ≡ y
-  some_is x y e = cc
+continued_push : (m d n : ℕ) (ds : List ℕ) → continued m ds ≡ Some n → is_digit d ≡ true
+    → continued m (ds ++ d ∷ []) ≡ Some (10 * n + (d - 48))
+continued_push m d n [] e h =
+    ap (λ b. cond b (Some (10 * m + (d - 48))) None) h ∙ ap (λ x. Some (10 * x + (d - 48))) (some_is m n e) where
+      some_is : (x y : ℕ) → Some x ≡ Some y → x ≡ y
+      some_is x y e = cc
 continued_push m d n (c ∷ cs) e h = elim (cases_Bool (is_digit c)) [
   | inl k ↦
       ap (λ b. cond b (continued (10 * m + (c - 48)) (cs ++ d ∷ [])) None) k
-      ∙ continued_push (10 * m + (c - 48)) d n cs (sym (ap (λ b. cond b (continued (10 * m + (c - 48)) cs) None) k) ∙ e) h
+      ∙ continued_push (10 * m + (c - 48)) d n cs
+      (sym (ap (λ b. cond b (continued (10 * m + (c - 48)) cs) None) k) ∙ e) h
   | inr k ↦ absurd (none_some n (sym (ap (λ b. cond b (continued (10 * m + (c - 48)) cs) None) k) ∙ e))
 ] where
   none_some : (x : ℕ) → None ≡ Some x → ⊥
@@ -30,7 +35,8 @@ pub record Says (n : ℕ) (ds : List ℕ) : Type 0 where
 digit_is : (d : ℕ) → d < 10 → is_digit (48 + d) ≡ true
 digit_is d h = grind (arith, nat_tests)
 
-all_push : (ds : List ℕ) (d : ℕ) → list_all is_digit ds ≡ true → is_digit d ≡ true → list_all is_digit (ds ++ d ∷ []) ≡ true
+all_push : (ds : List ℕ) (d : ℕ) → list_all is_digit ds ≡ true → is_digit d ≡ true
+    → list_all is_digit (ds ++ d ∷ []) ≡ true
 all_push [] d a h = ap (λ b. b && true) h
 all_push (c ∷ cs) d a h =
     let p = and_parts (is_digit c) (list_all is_digit cs) a in
@@ -43,7 +49,8 @@ says_one : (n : ℕ) → n < 10 → Says n ((48 + n) ∷ [])
 says_one n h = record {
   some = omega arith;
   digits = ap (λ b. b && true) (digit_is n h);
-  value = ap (λ b. cond b (Some (10 * 0 + (48 + n - 48))) None) (digit_is n h) ∙ ap (λ x. Some x) (let e : 10 * 0 + (48 + n - 48) ≡ n = omega arith in e);
+  value = ap (λ b. cond b (Some (10 * 0 + (48 + n - 48))) None) (digit_is n h)
+      ∙ ap (λ x. Some x) (let e : 10 * 0 + (48 + n - 48) ≡ n = omega arith in e);
 }
 
 says_more : (n : ℕ) (ds : List ℕ) → 10 ≤ n → Says (n / 10) ds → Says n (ds ++ ((48 + n % 10) ∷ []))
@@ -69,7 +76,8 @@ number_is limit n ds s h =
     ap (at_most limit) (natural_from n ds s) ∙ ap (λ b. cond b (Some n) None) le
 
 -- a word of digits has no sign
-pub unsigned : (number : List ℕ → Option ℕ) (n : ℕ) (ds : List ℕ) → Says n ds → signed number ds ≡ option_map pos (number ds)
+pub unsigned : (number : List ℕ → Option ℕ) (n : ℕ) (ds : List ℕ) → Says n ds
+    → signed number ds ≡ option_map pos (number ds)
 unsigned number n [] s = absurd (omega (arith, s.some))
 unsigned number n (d ∷ ds) s =
     let p : is_digit d ≡ true = first (is_digit d) (list_all is_digit ds) s.digits in

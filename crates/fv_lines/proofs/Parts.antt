@@ -1,5 +1,6 @@
 -- What stands before and behind a part of a text.
-use Rattle.std.proofs.Common.{◌≡◌, ℕ, ◌+◌, ◌-◌, Bool, true, false, not, cond, eqb, ◌==◌, ◌&&◌, List, [], ◌∷◌, ◌++◌, length, take, drop, refl, ap, sym, ◌∙◌, length-append, arith}
+use Rattle.std.proofs.Common.{◌≡◌, ℕ, ◌+◌, ◌-◌, Bool, true, false, not, cond, eqb, ◌==◌, ◌&&◌, List, [], ◌∷◌, ◌++◌}
+use Rattle.std.proofs.Common.{length, take, drop, refl, ap, sym, ◌∙◌, length-append, arith}
 use Rattle.std.proofs.lemmas.Bool.{false≢true}
 use lib.Pointwise.{pointwise, bytes_decides}
 use Rattle.std.proofs.lemmas.List.{take_at, drop_at}
@@ -23,7 +24,8 @@ pub whole_cut : (line rest : List ℕ) → HasNo 10 line → whole_lines (line +
 whole_cut [] rest h = refl
 whole_cut (c ∷ line) rest h =
     let p = parts (c == 10) (list_all (λ z. not (z == 10)) line) h in
-    ap (λ b. cond b ([] ∷ whole_lines (line ++ 10 ∷ rest)) (with_first c (whole_lines (line ++ 10 ∷ rest)))) p.0 ∙ ap (with_first c) (whole_cut line rest p.1) where
+    ap (λ b. cond b ([] ∷ whole_lines (line ++ 10 ∷ rest)) (with_first c (whole_lines (line ++ 10 ∷ rest)))) p.0
+    ∙ ap (with_first c) (whole_cut line rest p.1) where
       parts : (a b : Bool) → (not a && b) ≡ true → (a ≡ false) × (b ≡ true)
       parts true b h = absurd (false≢true h)
       parts false b h = (refl, h)
@@ -32,7 +34,8 @@ pub whole_none : (bytes : List ℕ) → HasNo 10 bytes → whole_lines bytes ≡
 whole_none [] h = refl
 whole_none (c ∷ bytes) h =
     let p = parts (c == 10) (list_all (λ z. not (z == 10)) bytes) h in
-    ap (λ b. cond b ([] ∷ whole_lines bytes) (with_first c (whole_lines bytes))) p.0 ∙ ap (with_first c) (whole_none bytes p.1) where
+    ap (λ b. cond b ([] ∷ whole_lines bytes) (with_first c (whole_lines bytes))) p.0
+    ∙ ap (with_first c) (whole_none bytes p.1) where
       parts : (a b : Bool) → (not a && b) ≡ true → (a ≡ false) × (b ≡ true)
       parts true b h = absurd (false≢true h)
       parts false b h = (refl, h)

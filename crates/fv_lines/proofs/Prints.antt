@@ -1,5 +1,6 @@
 -- The lines and words of printed text.
-use Rattle.std.proofs.Common.{◌≡◌, ℕ, ◌^◌, ◌<◌, Bool, true, false, not, cond, ◌&&◌, ◌==◌, List, [], ◌∷◌, ◌++◌, length, refl, ap, ◌∙◌, inl, inr, arith}
+use Rattle.std.proofs.Common.{◌≡◌, ℕ, ◌^◌, ◌<◌, Bool, true, false, not, cond, ◌&&◌, ◌==◌, List, [], ◌∷◌, ◌++◌, length}
+use Rattle.std.proofs.Common.{refl, ap, ◌∙◌, inl, inr, arith}
 use Rattle.std.specs.Prelude.{decimal}
 use Rattle.std.specs.List.{list_all}
 use Rattle.std.proofs.lemmas.Bool.{false≢true, cases_Bool}
@@ -38,7 +39,8 @@ is_inner b = not (b == 10) && not (b == 13)
 inner_step : (b : ℕ) (bs : List ℕ) → is_inner b ≡ true → lines (b ∷ bs) ≡ joined b (lines bs)
 inner_step b bs h =
     let p = and_parts (not (b == 10)) (not (b == 13)) h in
-    ap (λ x. cond x ([] ∷ lines bs) (cond (b == 13 && begins_with 10 bs) (lines bs) (joined b (lines bs)))) (true_not (b == 10) p.0)
+    ap (λ x. cond x ([] ∷ lines bs) (cond (b == 13 && begins_with 10 bs) (lines bs) (joined b (lines bs))))
+    (true_not (b == 10) p.0)
     ∙ ap (λ x. cond (x && begins_with 10 bs) (lines bs) (joined b (lines bs))) (true_not (b == 13) p.1)
 
 -- bytes of a line, and its end
@@ -49,33 +51,45 @@ line_of (b ∷ bs) rest h =
     inner_step b (bs ++ 10 ∷ rest) p.0 ∙ ap (joined b) (line_of bs rest p.1)
 
 -- a line without LF, of which an end may be a CR
-pub some_line : (a rest : List ℕ) → list_all (λ b. not (b == 10)) a ≡ true → (l : List ℕ) × (lines (a ++ 10 ∷ rest) ≡ l ∷ lines rest)
+pub some_line : (a rest : List ℕ) → list_all (λ b. not (b == 10)) a ≡ true → (l : List ℕ)
+    × (lines (a ++ 10 ∷ rest) ≡ l ∷ lines rest)
 some_line [] rest h = ([], refl)
 some_line (b ∷ bs) rest h =
     let p = and_parts (not (b == 10)) (list_all (λ x. not (x == 10)) bs) h in
     let r = some_line bs rest p.1 in
-    let e : lines (b ∷ (bs ++ 10 ∷ rest)) ≡ cond (b == 13 && begins_with 10 (bs ++ 10 ∷ rest)) (lines (bs ++ 10 ∷ rest)) (joined b (lines (bs ++ 10 ∷ rest))) =
-    ap (λ x. cond x ([] ∷ lines (bs ++ 10 ∷ rest)) (cond (b == 13 && begins_with 10 (bs ++ 10 ∷ rest)) (lines (bs ++ 10 ∷ rest)) (joined b (lines (bs ++ 10 ∷ rest))))) (true_not (b == 10) p.0) in
+    let e : lines (b ∷ (bs ++ 10 ∷ rest)) ≡ cond (b == 13 && begins_with 10 (bs ++ 10 ∷ rest))
+    (lines (bs ++ 10 ∷ rest)) (joined b (lines (bs ++ 10 ∷ rest))) =
+    ap (λ x. cond x ([] ∷ lines (bs ++ 10 ∷ rest))
+    (cond (b == 13 && begins_with 10 (bs ++ 10 ∷ rest)) (lines (bs ++ 10 ∷ rest))
+    (joined b (lines (bs ++ 10 ∷ rest))))) (true_not (b == 10) p.0) in
     elim (cases_Bool (b == 13 && begins_with 10 (bs ++ 10 ∷ rest))) [
       | inl k ↦ (r.0, e ∙ ap (λ x. cond x (lines (bs ++ 10 ∷ rest)) (joined b (lines (bs ++ 10 ∷ rest)))) k ∙ r.1)
-      | inr k ↦ (b ∷ r.0, e ∙ ap (λ x. cond x (lines (bs ++ 10 ∷ rest)) (joined b (lines (bs ++ 10 ∷ rest)))) k ∙ ap (joined b) r.1)
+      | inr k ↦ (
+        b ∷ r.0,
+        e ∙ ap (λ x. cond x (lines (bs ++ 10 ∷ rest)) (joined b (lines (bs ++ 10 ∷ rest)))) k
+            ∙ ap (joined b) r.1,
+      )
     ]
 
 begun : (a : List ℕ) (rest : List ℕ) → list_all is_plain a ≡ true → 0 < length a → begins_word (a ++ rest) ≡ true
 begun [] rest h s = absurd (omega arith)
 begun (b ∷ bs) rest h s = ap not (plain_parts b (and_parts (is_plain b) (list_all is_plain bs) h).0).blank
 
-word_step : (b : ℕ) (bs : List ℕ) → is_blank b ≡ false → (k : Bool) → begins_word bs ≡ k → words (b ∷ bs) ≡ cond k (joined b (words bs)) ((b ∷ []) ∷ words bs)
+word_step : (b : ℕ) (bs : List ℕ) → is_blank b ≡ false → (k : Bool) → begins_word bs ≡ k
+    → words (b ∷ bs) ≡ cond k (joined b (words bs)) ((b ∷ []) ∷ words bs)
 word_step b bs h k e =
-    ap (λ x. cond x (words bs) (cond (begins_word bs) (joined b (words bs)) ((b ∷ []) ∷ words bs))) h ∙ ap (λ x. cond x (joined b (words bs)) ((b ∷ []) ∷ words bs)) e
+    ap (λ x. cond x (words bs) (cond (begins_word bs) (joined b (words bs)) ((b ∷ []) ∷ words bs))) h
+    ∙ ap (λ x. cond x (joined b (words bs)) ((b ∷ []) ∷ words bs)) e
 
 -- a word, and what does not go on with it
-pub word_of : (a rest : List ℕ) → list_all is_plain a ≡ true → 0 < length a → begins_word rest ≡ false → words (a ++ rest) ≡ a ∷ words rest
+pub word_of : (a rest : List ℕ) → list_all is_plain a ≡ true → 0 < length a → begins_word rest ≡ false
+    → words (a ++ rest) ≡ a ∷ words rest
 word_of [] rest h s n = absurd (omega arith)
 word_of (b ∷ []) rest h s n = word_step b rest (plain_parts b (and_parts (is_plain b) true h).0).blank false n
 word_of (b ∷ c ∷ cs) rest h s n =
     let p = and_parts (is_plain b) (list_all is_plain (c ∷ cs)) h in
-    word_step b ((c ∷ cs) ++ rest) (plain_parts b p.0).blank true (begun (c ∷ cs) rest p.1 (omega arith)) ∙ ap (joined b) (word_of (c ∷ cs) rest p.1 (omega arith) n)
+    word_step b ((c ∷ cs) ++ rest) (plain_parts b p.0).blank true (begun (c ∷ cs) rest p.1 (omega arith))
+    ∙ ap (joined b) (word_of (c ∷ cs) rest p.1 (omega arith) n)
 
 -- a word and a blank
 pub word_blank : (a rest : List ℕ) → list_all is_plain a ≡ true → 0 < length a → words (a ++ 32 ∷ rest) ≡ a ∷ words rest

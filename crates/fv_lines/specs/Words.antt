@@ -1,6 +1,7 @@
 -- The lines of a text and the words of a line, for clause files, proofs and configurations. What ends a line and what
 -- parts words is a rule of this project.
-use Rattle.std.specs.Prelude.{ℕ, ◌+◌, ◌-◌, ◌^◌, min, Bool, true, false, not, ◌&&◌, ◌||◌, if◌then◌else◌, ◌==◌, List, [], ◌∷◌, drop}
+use Rattle.std.specs.Prelude.{ℕ, ◌+◌, ◌-◌, ◌^◌, min, Bool, true, false, not, ◌&&◌, ◌||◌, if◌then◌else◌, ◌==◌, List}
+use Rattle.std.specs.Prelude.{[], ◌∷◌, drop}
 
 -- there is none
 abbrev pub is_nil : {X : Type 0} → List X → Bool

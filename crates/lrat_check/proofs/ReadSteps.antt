@@ -1,5 +1,6 @@
 -- Numbers of few digits, and steps that are read.
-use Rattle.std.proofs.Common.{◌≡◌, ℕ, zero, suc, ◌+◌, ◌-◌, ◌*◌, ◌^◌, ◌<◌, ◌≤◌, min, true, cond, List, [], ◌∷◌, ◌++◌, length, Option, Some, None, IfSome, pow-suc, refl, ap, sym, subst, ◌∙◌, inl, inr, arith}
+use Rattle.std.proofs.Common.{◌≡◌, ℕ, zero, suc, ◌+◌, ◌-◌, ◌*◌, ◌^◌, ◌<◌, ◌≤◌, min, true, cond, List, [], ◌∷◌, ◌++◌}
+use Rattle.std.proofs.Common.{length, Option, Some, None, IfSome, pow-suc, refl, ap, sym, subst, ◌∙◌, inl, inr, arith}
 use Rattle.std.specs.Prelude.{option_map, nat_le}
 use Rattle.std.proofs.lemmas.Bool.{cases_Bool}
 use Rattle.std.proofs.lemmas.Bool.Decides.{nat_tests}
@@ -24,9 +25,11 @@ continued_small : (n v : ℕ) (ds : List ℕ) → continued n ds ≡ Some v → 
 continued_small n v [] e = let k = some_is n v e in omega (arith, k)
 continued_small n v (d ∷ ds) e = elim (cases_Bool (is_digit d)) [
   | inl h ↦
-      let f : continued (10 * n + (d - 48)) ds ≡ Some v = sym (ap (λ b. cond b (continued (10 * n + (d - 48)) ds) None) h) ∙ e in
+      let f : continued (10 * n + (d - 48)) ds
+      ≡ Some v = sym (ap (λ b. cond b (continued (10 * n + (d - 48)) ds) None) h) ∙ e in
       let p : 10 ^ suc (length ds) ≡ 10 * 10 ^ length ds = grind (arith, pow-suc) in
-      subst (λ x. v + 1 ≤ (n + 1) * x) (sym p) (next_small n (d - 48) (10 ^ length ds) v (digit_small d h) (continued_small (10 * n + (d - 48)) v ds f))
+      subst (λ x. v + 1 ≤ (n + 1) * x) (sym p)
+      (next_small n (d - 48) (10 ^ length ds) v (digit_small d h) (continued_small (10 * n + (d - 48)) v ds f))
   | inr h ↦ absurd (none_some v (sym (ap (λ b. cond b (continued (10 * n + (d - 48)) ds) None) h) ∙ e))
 ]
 
@@ -56,7 +59,8 @@ capped : (o : Option ℕ) → ((v : ℕ) → o ≡ Some v → v < 10 ^ 18) → o
 capped None h = refl
 capped (Some v) h = ap (λ x. Some x) (min_same v (h v refl))
 
-pub short_is : (o : Option ℕ) (ds : List ℕ) → length ds ≤ 18 → o ≡ option_map (min (10 ^ 18)) (natural_of ds) → o ≡ short ds
+pub short_is : (o : Option ℕ) (ds : List ℕ) → length ds ≤ 18 → o ≡ option_map (min (10 ^ 18)) (natural_of ds)
+    → o ≡ short ds
 short_is o ds h e =
     let le : nat_le (length ds) 18 ≡ true = grind (arith, nat_tests) in
     e ∙ capped (natural_of ds) (λ v k. natural_small v ds h k) ∙ sym (ap (λ b. cond b (natural_of ds) None) le)
@@ -65,8 +69,10 @@ small_at : (o : Option ℕ) → ((v : ℕ) → o ≡ Some v → v < 10 ^ 18) →
 small_at None h = tt
 small_at (Some v) h = h v refl
 
-pub short_small : (o : Option ℕ) (ds : List ℕ) → length ds ≤ 18 → o ≡ option_map (min (10 ^ 18)) (natural_of ds) → IfSome o (λ n. n < 10 ^ 18)
-short_small o ds h e = small_at o (λ v k. natural_small v ds h (sym (e ∙ capped (natural_of ds) (λ x q. natural_small x ds h q)) ∙ k))
+pub short_small : (o : Option ℕ) (ds : List ℕ) → length ds ≤ 18 → o ≡ option_map (min (10 ^ 18)) (natural_of ds)
+    → IfSome o (λ n. n < 10 ^ 18)
+short_small o ds h e =
+    small_at o (λ v k. natural_small v ds h (sym (e ∙ capped (natural_of ds) (λ x q. natural_small x ds h q)) ∙ k))
 
 pub steps_push : (steps : List Step) (step : Step) → AreSteps steps → IsStep step → AreSteps (steps ++ step ∷ [])
 steps_push [] step a s = (s, tt)

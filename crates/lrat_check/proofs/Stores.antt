@@ -1,5 +1,7 @@
 -- What a store holds after a change.
-use Rattle.std.proofs.Common.{◌≡◌, ℕ, zero, suc, ◌+◌, ◌^◌, ◌<◌, ◌≤◌, Bool, true, false, cond, eqb, List, [], ◌∷◌, ◌++◌, ℤ, length, pos, take, drop, get_or, Option, Some, None, refl, ap, sym, subst, ◌∙◌, inl, inr, arith}
+use Rattle.std.proofs.Common.{◌≡◌, ℕ, zero, suc, ◌+◌, ◌^◌, ◌<◌, ◌≤◌, Bool, true, false, cond, eqb, List, [], ◌∷◌}
+use Rattle.std.proofs.Common.{◌++◌, ℤ, length, pos, take, drop, get_or, Option, Some, None, refl, ap, sym, subst, ◌∙◌}
+use Rattle.std.proofs.Common.{inl, inr, arith}
 use Rattle.std.specs.Prelude.{slice_get, IsSome, Result, Ok, Err}
 use Rattle.std.proofs.lemmas.Bool.{cases_eq, false≢true}
 use Rattle.std.proofs.lemmas.List.{take_more, length-take-le, take_all, drop_more, get_or_read}
@@ -30,20 +32,25 @@ eqb_apart : (a b : ℕ) → (a ≡ b → ⊥) → eqb a b ≡ false
 eqb_apart a b n = grind arith
 
 -- one more clause has the next id
-pub numbered_more : (cs : List (List ℤ)) (c : List ℤ) (n : ℕ) → n ≡ length cs + 1 → with_clause (numbered cs) n c ≡ numbered (cs ++ c ∷ [])
+pub numbered_more : (cs : List (List ℤ)) (c : List ℤ) (n : ℕ) → n ≡ length cs + 1
+    → with_clause (numbered cs) n c ≡ numbered (cs ++ c ∷ [])
 numbered_more cs c n e = fun_ext (λ i. at i) where
   at : (i : ℕ) → with_clause (numbered cs) n c i ≡ numbered (cs ++ c ∷ []) i
   at zero = ap (λ b. cond b (Some c) None) (eqb_apart n zero (λ k. omega arith))
   at (suc p) = elim (cases_eq p (length cs)) [
     | inl k ↦ ap (λ b. cond b (Some c) (slice_get cs p)) (eqb_self n (suc p) (omega arith)) ∙ sym (last_get cs c p k)
-    | inr k ↦ ap (λ b. cond b (Some c) (slice_get cs p)) (eqb_apart n (suc p) (λ q. k (omega arith))) ∙ same_get cs c p k
+    | inr k ↦ ap (λ b. cond b (Some c) (slice_get cs p)) (eqb_apart n (suc p) (λ q. k (omega arith)))
+        ∙ same_get cs c p k
   ]
 
-pub numbered_step : (cs : List (List ℤ)) (i : ℕ) (c : List ℤ) → i < length cs → c ≡ get_or cs i [] → with_clause (numbered (take i cs)) (i + 1) c ≡ numbered (take (i + 1) cs)
-numbered_step cs i c h e = numbered_more (take i cs) c (i + 1) (omega (arith, length-take-le i cs (omega arith))) ∙ ap (λ x. numbered (take i cs ++ x ∷ [])) e ∙ ap numbered (sym (take_more cs i [] h))
+pub numbered_step : (cs : List (List ℤ)) (i : ℕ) (c : List ℤ) → i < length cs → c ≡ get_or cs i []
+    → with_clause (numbered (take i cs)) (i + 1) c ≡ numbered (take (i + 1) cs)
+numbered_step cs i c h e = numbered_more (take i cs) c (i + 1) (omega (arith, length-take-le i cs (omega arith)))
+    ∙ ap (λ x. numbered (take i cs ++ x ∷ [])) e ∙ ap numbered (sym (take_more cs i [] h))
 
 -- each clause of the formula is held
-pub held_all : (clauses items : List (List ℤ)) (i n : ℕ) (held : Held) → held ≡ numbered (take i items) → length items ≤ i → items ≡ clauses → held ≡ numbered clauses
+pub held_all : (clauses items : List (List ℤ)) (i n : ℕ) (held : Held) → held ≡ numbered (take i items)
+    → length items ≤ i → items ≡ clauses → held ≡ numbered clauses
 held_all clauses items i n held e h k = e ∙ ap numbered (take_all i items h ∙ k)
 
 lit_is : (vars : ℕ) (l : ℤ) → vars < 2 ^ 63 → IsLiteral vars l → IsLit l
@@ -59,24 +66,29 @@ some_is x y e = cc
 pub none_some : {X : Type 0} (x : X) → None ≡ Some x → ⊥
 none_some x e = cc
 
-get_are : (vars : ℕ) (clauses : List (List ℤ)) (p : ℕ) (clause : List ℤ) → vars < 2 ^ 63 → AreClauses vars clauses → slice_get clauses p ≡ Some clause → AreLits clause
+get_are : (vars : ℕ) (clauses : List (List ℤ)) (p : ℕ) (clause : List ℤ) → vars < 2 ^ 63 → AreClauses vars clauses
+    → slice_get clauses p ≡ Some clause → AreLits clause
 get_are vars [] p clause v h e = absurd (none_some clause e)
 get_are vars (c ∷ cs) zero clause v h e = subst AreLits (some_is c clause e) (lits_are vars c v h.0)
 get_are vars (c ∷ cs) (suc p) clause v h e = get_are vars cs p clause v h.1 e
 
 -- the literals of a formula's clauses have complements
-pub numbered_held : (vars : ℕ) (clauses : List (List ℤ)) → vars < 2 ^ 63 → AreClauses vars clauses → AreHeld (numbered clauses)
+pub numbered_held : (vars : ℕ) (clauses : List (List ℤ)) → vars < 2 ^ 63 → AreClauses vars clauses
+    → AreHeld (numbered clauses)
 numbered_held vars clauses v h zero clause e = absurd (none_some clause e)
 numbered_held vars clauses v h (suc p) clause e = get_are vars clauses p clause v h e
 
-held_at : (held : Held) (id i : ℕ) (lits clause : List ℤ) (b : Bool) → AreHeld held → AreLits lits → cond b (Some lits) (held i) ≡ Some clause → AreLits clause
+held_at : (held : Held) (id i : ℕ) (lits clause : List ℤ) (b : Bool) → AreHeld held → AreLits lits
+    → cond b (Some lits) (held i) ≡ Some clause → AreLits clause
 held_at held id i lits clause true h k e = subst AreLits (some_is lits clause e) k
 held_at held id i lits clause false h k e = h i clause e
 
-pub with_held : (held : Held) (id : ℕ) (lits : List ℤ) → AreHeld held → AreLits lits → AreHeld (with_clause held id lits)
+pub with_held : (held : Held) (id : ℕ) (lits : List ℤ) → AreHeld held → AreLits lits
+    → AreHeld (with_clause held id lits)
 with_held held id lits h k i clause e = held_at held id i lits clause (eqb id i) h k e
 
-kept_at : (held : Held) (i : ℕ) (clause : List ℤ) (b : Bool) → AreHeld held → cond b None (held i) ≡ Some clause → AreLits clause
+kept_at : (held : Held) (i : ℕ) (clause : List ℤ) (b : Bool) → AreHeld held → cond b None (held i) ≡ Some clause
+    → AreLits clause
 kept_at held i clause true h e = absurd (none_some clause e)
 kept_at held i clause false h e = h i clause e
 
@@ -89,30 +101,41 @@ ok_err f x e = cc
 ok_is : {X : Type 0} (x y : X) → (let r : Result X StepFault = Ok x in r) ≡ Ok y → x ≡ y
 ok_is x y e = cc
 
-deleted_not : (held : Held) (id i : ℕ) (ids : List ℕ) → held i ≡ None → deleted held id (i ∷ ids) ≡ Err (fault.NoClause id (pos i))
+deleted_not : (held : Held) (id i : ℕ) (ids : List ℕ) → held i ≡ None
+    → deleted held id (i ∷ ids) ≡ Err (fault.NoClause id (pos i))
 deleted_not held id i ids k = grind (arith, k)
 
-deleted_on : (held : Held) (id i : ℕ) (ids : List ℕ) (c : List ℤ) → held i ≡ Some c → deleted held id (i ∷ ids) ≡ deleted (without_clause held i) id ids
+deleted_on : (held : Held) (id i : ℕ) (ids : List ℕ) (c : List ℤ) → held i ≡ Some c
+    → deleted held id (i ∷ ids) ≡ deleted (without_clause held i) id ids
 deleted_on held id i ids c k = grind (arith, k)
 
-pub deleted_one : (held : Held) (id i : ℕ) (ids : List ℕ) (now : Held) (o : Option (List ℤ)) → held i ≡ o → deleted held id (i ∷ ids) ≡ Ok now → deleted (without_clause held i) id ids ≡ Ok now
-deleted_one held id i ids now None k e = absurd (ok_err (fault.NoClause id (pos i)) now (sym (deleted_not held id i ids k) ∙ e))
+pub deleted_one : (held : Held) (id i : ℕ) (ids : List ℕ) (now : Held) (o : Option (List ℤ)) → held i ≡ o
+    → deleted held id (i ∷ ids) ≡ Ok now → deleted (without_clause held i) id ids ≡ Ok now
+deleted_one held id i ids now None k e =
+    absurd (ok_err (fault.NoClause id (pos i)) now (sym (deleted_not held id i ids k) ∙ e))
 deleted_one held id i ids now (Some c) k e = sym (deleted_on held id i ids c k) ∙ e
 
-pub deleted_held : (id : ℕ) (now : Held) (held : Held) (ids : List ℕ) → AreHeld held → deleted held id ids ≡ Ok now → AreHeld now
+pub deleted_held : (id : ℕ) (now : Held) (held : Held) (ids : List ℕ) → AreHeld held → deleted held id ids ≡ Ok now
+    → AreHeld now
 deleted_held id now held [] h e = subst AreHeld (ok_is held now e) h
-deleted_held id now held (i ∷ ids) h e = deleted_held id now (without_clause held i) ids (without_held held i h) (deleted_one held id i ids now (held i) refl e)
+deleted_held id now held (i ∷ ids) h e = deleted_held id now (without_clause held i) ids (without_held held i h)
+    (deleted_one held id i ids now (held i) refl e)
 
-deleted_some : (held now : Held) (id i : ℕ) (ids : List ℕ) (o : Option (List ℤ)) → held i ≡ o → IsSome o → now ≡ without_clause held i → deleted now id ids ≡ deleted held id (i ∷ ids)
+deleted_some : (held now : Held) (id i : ℕ) (ids : List ℕ) (o : Option (List ℤ)) → held i ≡ o → IsSome o
+    → now ≡ without_clause held i → deleted now id ids ≡ deleted held id (i ∷ ids)
 deleted_some held now id i ids None k s e = absurd (false≢true s)
 deleted_some held now id i ids (Some c) k s e = ap (λ h. deleted h id ids) e ∙ sym (deleted_on held id i ids c k)
 
 -- one id is deleted
-pub deleted_step : (held now : Held) (id : ℕ) (ids : List ℕ) (k i : ℕ) → k < length ids → i ≡ get_or ids k 0 → IsSome (held i) × (now ≡ without_clause held i) → deleted now id (drop (k + 1) ids) ≡ deleted held id (drop k ids)
+pub deleted_step : (held now : Held) (id : ℕ) (ids : List ℕ) (k i : ℕ) → k < length ids → i ≡ get_or ids k 0
+    → IsSome (held i) × (now ≡ without_clause held i) → deleted now id (drop (k + 1) ids) ≡ deleted held id (drop k ids)
 deleted_step held now id ids k i h e r =
-    deleted_some held now id i (drop (k + 1) ids) (held i) refl r.0 r.1 ∙ ap (λ x. deleted held id (x ∷ drop (k + 1) ids)) e ∙ ap (deleted held id) (sym (drop_more ids k 0 h))
+    deleted_some held now id i (drop (k + 1) ids) (held i) refl r.0 r.1
+    ∙ ap (λ x. deleted held id (x ∷ drop (k + 1) ids)) e ∙ ap (deleted held id) (sym (drop_more ids k 0 h))
 
-pub store_step : (held now : Held) (items : List (List ℤ)) (i id : ℕ) (item clause : List ℤ) → held ≡ numbered (take i items) → now ≡ with_clause held (id + 1) clause → id ≡ i → i < length items → item ≡ get_or items i item → clause ≡ item → now ≡ numbered (take (i + 1) items)
+pub store_step : (held now : Held) (items : List (List ℤ)) (i id : ℕ) (item clause : List ℤ)
+    → held ≡ numbered (take i items) → now ≡ with_clause held (id + 1) clause → id ≡ i → i < length items
+    → item ≡ get_or items i item → clause ≡ item → now ≡ numbered (take (i + 1) items)
 store_step held now items i id item clause h n e lt is k =
     n ∙ ap (λ x. with_clause x (id + 1) clause) h ∙ ap (λ j. with_clause (numbered (take i items)) (j + 1) clause) e
     ∙ numbered_step items i clause lt (k ∙ get_or_read items i item lt is [])

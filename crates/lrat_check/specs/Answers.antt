@@ -3,7 +3,8 @@ use Rattle.std.specs.Prelude.{ℕ, ◌≡◌, false, List, [], ◌∷◌, ℤ, O
 use Rattle.lrat_check.specs.declared.step.Step.{Step}
 use Rattle.lrat_check.specs.declared.step.Refuted.{Refuted}
 use Rattle.lrat_check.specs.declared.step.StepFault.{StepFault}
-use Rattle.lrat_check.specs.declared.step.StepFault.TheVariants.{NoClause, NotUnit, NoConflict, IdOrder, Rat, NoEmpty, Memory}
+use Rattle.lrat_check.specs.declared.step.StepFault.TheVariants.{NoClause, NotUnit, NoConflict, IdOrder, Rat, NoEmpty}
+use Rattle.lrat_check.specs.declared.step.StepFault.TheVariants.{Memory}
 use Rattle.lrat_check.specs.Steps.{Held, verdict, add_fault, is_empty, with_clause}
 
 -- a fact about a refusal; want of memory says nothing
@@ -34,6 +35,8 @@ Takes held top now high step (Err e) = OrMemory e ((steps : List Step) → verdi
 
 -- an added clause is taken
 abbrev pub Adds : Held → ℕ → Held → ℕ → ℕ → List ℤ → List ℤ → Result (Option Refuted) StepFault → Type 0
-Adds held top now high id lits hints (Ok (Some refuted)) = (add_fault held top id lits hints ≡ None) × (lits ≡ []) × (refuted ≡ record { id = id })
-Adds held top now high id lits hints (Ok None) = (add_fault held top id lits hints ≡ None) × (is_empty lits ≡ false) × (now ≡ with_clause held id lits) × (high ≡ id)
+Adds held top now high id lits hints (Ok (Some refuted)) =
+    (add_fault held top id lits hints ≡ None) × (lits ≡ []) × (refuted ≡ record { id = id })
+Adds held top now high id lits hints (Ok None) = (add_fault held top id lits hints ≡ None) × (is_empty lits ≡ false)
+    × (now ≡ with_clause held id lits) × (high ≡ id)
 Adds held top now high id lits hints (Err e) = OrMemory e (add_fault held top id lits hints ≡ Some e)

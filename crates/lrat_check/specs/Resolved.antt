@@ -1,5 +1,6 @@
 -- What steps derive, and when each added clause is a resolvent that strengthens unit propagation.
-use Rattle.std.specs.Prelude.{ℕ, ◌≡◌, Bool, true, false, not, if◌then◌else◌, List, [], ◌∷◌, ◌++◌, ℤ, neg_ℤ, unsigned_abs, Option, Some, None}
+use Rattle.std.specs.Prelude.{ℕ, ◌≡◌, Bool, true, false, not, if◌then◌else◌, List, [], ◌∷◌, ◌++◌, ℤ, neg_ℤ}
+use Rattle.std.specs.Prelude.{unsigned_abs, Option, Some, None}
 use Rattle.std.specs.List.{list_any, list_all}
 use Rattle.lrat_check.specs.Sets.{has, is_false, same_set, without, union, negs, reading}
 use Rattle.lrat_check.specs.declared.reading.Reading.{Reading}
@@ -70,7 +71,8 @@ pub record Strengthens (held : Held) (lits : List ℤ) : Type 0 where
 -- each added clause is the resolvent of its hints, and strengthens unit propagation
 abbrev pub AllResolved : Held → List Step → Type 0
 AllResolved held [] = Unit {0}
-AllResolved held (Add id lits hints ∷ steps) = IsResolvent held lits hints × Strengthens held lits × AllResolved (with_clause held id lits) steps
+AllResolved held (Add id lits hints ∷ steps) =
+    IsResolvent held lits hints × Strengthens held lits × AllResolved (with_clause held id lits) steps
 AllResolved held (Delete id ids ∷ steps) = AllResolved (deleted_from held ids) steps
 
 abbrev pub Resolved : List (List ℤ) → List Step → Type 0

@@ -1,8 +1,9 @@
--- Steps of a refutation: which are valid, why one is refused, what is derived. A step's clause holds where unit propagation
--- along its hints, from its literals made false, ends in a conflict (Cruz-Filipe, Heule, Hunt, Kaufmann, Schneider-Kamp:
--- Efficient Certified RAT Verification). Rules of this project: there are no RAT steps, and a hint with a true literal is
--- passed over.
-use Rattle.std.specs.Prelude.{ℕ, zero, suc, ◌≡◌, Bool, true, false, if◌then◌else◌, leb, eqb, List, [], ◌∷◌, ◌++◌, ℤ, pos, unsigned_abs, int_lt, length, slice_get, Option, Some, None, Result, Ok, Err}
+-- Steps of a refutation: which are valid, why one is refused, what is derived. A step's clause holds where unit
+-- propagation along its hints, from its literals made false, ends in a conflict (Cruz-Filipe, Heule, Hunt, Kaufmann,
+-- Schneider-Kamp: Efficient Certified RAT Verification). Rules of this project: there are no RAT steps, and a hint
+-- with a true literal is passed over.
+use Rattle.std.specs.Prelude.{ℕ, zero, suc, ◌≡◌, Bool, true, false, if◌then◌else◌, leb, eqb, List, [], ◌∷◌, ◌++◌, ℤ}
+use Rattle.std.specs.Prelude.{pos, unsigned_abs, int_lt, length, slice_get, Option, Some, None, Result, Ok, Err}
 use Rattle.std.specs.List.{list_any}
 use Rattle.lrat_check.specs.Sets.{negs, reading, AreLits}
 use Rattle.lrat_check.specs.declared.reading.Reading.TheVariants as read

@@ -1,6 +1,7 @@
 -- Proofs as texts (LRAT, without the binary form): which steps a text says, and why it says none. One step a line:
 -- `ID LITERALS 0 HINTS 0`, or `ID d IDS 0`. How long numbers may be is a rule of this project.
-use Rattle.std.specs.Prelude.{ℕ, ◌<◌, ◌^◌, ◌≡◌, unsigned_abs, Bool, if◌then◌else◌, nat_le, ◌==◌, List, [], ◌∷◌, ◌++◌, length, flat_map, ℤ, codes, decimal, bytes_eq, Option, Some, None, Result, Ok, Err}
+use Rattle.std.specs.Prelude.{ℕ, ◌<◌, ◌^◌, ◌≡◌, unsigned_abs, Bool, if◌then◌else◌, nat_le, ◌==◌, List, [], ◌∷◌, ◌++◌}
+use Rattle.std.specs.Prelude.{length, flat_map, ℤ, codes, decimal, bytes_eq, Option, Some, None, Result, Ok, Err}
 use Rattle.std.specs.List.{AllByRecursion}
 use Rattle.fv_lines.specs.Words.{lines, words, is_nil, next_place}
 use Rattle.fv_lines.specs.Numbers.{natural_of, signed}
@@ -31,7 +32,8 @@ abbrev pub is_delete : List ℕ → Bool
 is_delete word = bytes_eq word (codes "d")
 
 -- the numbers up to the word `0`, and the words behind it
-abbrev pub up_to_end : {X : Type 0} → (List ℕ → Option X) → ℕ → List X → List (List ℕ) → Result (List X × List (List ℕ)) LratFault
+abbrev pub up_to_end : {X : Type 0} → (List ℕ → Option X) → ℕ → List X → List (List ℕ)
+    → Result (List X × List (List ℕ)) LratFault
 up_to_end number line xs [] = Err (Open line)
 up_to_end number line xs (w ∷ ws) = if is_end w then Ok (xs, ws) else (elim (number w) [
   | None ↦ Err (Literal line)
@@ -94,7 +96,8 @@ abbrev pub id_text : ℕ → List ℕ
 id_text id = decimal id ++ 32 ∷ []
 
 abbrev pub step_text : Step → List ℕ
-step_text (Add id lits hints) = id_text id ++ flat_map literal_text lits ++ codes "0 " ++ flat_map literal_text hints ++ codes "0\n"
+step_text (Add id lits hints) =
+    id_text id ++ flat_map literal_text lits ++ codes "0 " ++ flat_map literal_text hints ++ codes "0\n"
 step_text (Delete id ids) = id_text id ++ codes "d " ++ flat_map id_text ids ++ codes "0\n"
 
 abbrev pub lrat_text : List Step → List ℕ

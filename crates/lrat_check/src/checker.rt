@@ -47,7 +47,8 @@ impl Checker {
     fn take(&mut self, alloc: Global, step: &Step) -> Result<Option<Refuted>, StepFault>
         requires held { AreHeld (held_of self.old.held) }
         requires step { IsStep step.now }
-        ensures takes { Takes (held_of self.old.held) self.old.top (held_of self.new.held) self.new.top step.now result }
+        ensures takes { Takes (held_of self.old.held) self.old.top
+            (held_of self.new.held) self.new.top step.now result }
         ensures held { OnOk result (AreHeld (held_of self.new.held)) }
     {
         match step {
@@ -73,7 +74,8 @@ impl Checker {
     ) -> Result<Option<Refuted>, StepFault>
         requires held { AreHeld (held_of self.old.held) }
         requires lits { AreLits lits.now }
-        ensures takes { Adds (held_of self.old.held) self.old.top (held_of self.new.held) self.new.top id lits.now hints.now result }
+        ensures takes { Adds (held_of self.old.held) self.old.top
+            (held_of self.new.held) self.new.top id lits.now hints.now result }
         ensures held { OnOk result (AreHeld (held_of self.new.held)) }
     {
         self.judge(id, lits, hints)?;

@@ -2,7 +2,9 @@ ghost use Rattle.std.specs.Prelude.{◌≡◌, ◌<◌, ◌≤◌, ◌^◌, [], 
 ghost use Rattle.fv_lines.specs.Words.{lines, words, next_place};
 ghost use Rattle.lrat_check.specs.Sets.{AreLits, IsLit};
 ghost use Rattle.lrat_check.specs.Steps.{IsStep, AreSteps};
-ghost use Rattle.lrat_check.specs.Texts.{short, nonzero, literal_of, is_end, is_delete, up_to_end, ended, add_of, delete_of, behind_id, step_of, with_line, with_lines, steps_of, OrMemory, Answers, Goes};
+ghost use Rattle.lrat_check.specs.Texts.{short, nonzero, literal_of, is_end, is_delete, up_to_end, ended, add_of};
+ghost use Rattle.lrat_check.specs.Texts.{delete_of, behind_id, step_of, with_line, with_lines, steps_of, OrMemory};
+ghost use Rattle.lrat_check.specs.Texts.{Answers, Goes};
 
 use crate::lrat_fault::LratFault;
 use crate::step::Step;

@@ -134,8 +134,8 @@ impl Bench {
     }
 }
 
-/// What a target of so many bits gets: the right side is evaluated at the larger size with its own sign, and cut. None where it
-/// has no size, or a divisor in it is 0 there.
+/// What a target of so many bits gets: the right side is evaluated at the larger size with its own sign, and cut.
+/// None where it has no size, or a divisor in it is 0 there.
 fn assigned(right: &Expr, target: u32, env: &Env) -> Option<u128>
     requires { target ≤ 128 }
 {

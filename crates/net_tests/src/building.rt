@@ -1,5 +1,5 @@
-//! Ten nodes by three functions, each of which says what it adds and what the node that it answers shows. None has a proof
-//! file: the rule set `additions` of `wn_net` carries nodes, their widths and their values over each call.
+//! Ten nodes by three functions, each of which says what it adds and what the node that it answers shows. None has a
+//! proof file: the rule set `additions` of `wn_net` carries nodes, their widths and their values over each call.
 #![tactic(auto, using(wn_net::proofs::Laws::additions))]
 
 ghost use Rattle.std.specs.Prelude.{◌≡◌, ◌+◌, ◌==◌, nat_lt, bit_and, bit_or, bit_xor, if◌then◌else◌, IfOk};
@@ -24,7 +24,8 @@ pub fn unmasked_difference(
     requires mask { IsNodeOf net.old 32 mask }
     ensures adds { AddsNodes net.old net.new }
     ensures shows { IfOk result (Shows net.old net.new 32 (λ g.
-        bit_and (bit_xor (value_at net.old g a) (value_at net.old g b)) (bits.complement 32 (value_at net.old g mask)))) }
+        bit_and (bit_xor (value_at net.old g a) (value_at net.old g b))
+        (bits.complement 32 (value_at net.old g mask)))) }
 {
     let differ = net.xor(a, b)?;
     let kept = net.not(mask)?;
@@ -38,7 +39,8 @@ pub fn larger(net: &mut Net, a: NodeId, b: NodeId) -> Result<NodeId, Memory>
     requires b { IsNodeOf net.old 32 b }
     ensures adds { AddsNodes net.old net.new }
     ensures shows { IfOk result (Shows net.old net.new 32 (λ g.
-        if bits.bit (nat_lt (value_at net.old g a) (value_at net.old g b)) == 1 then value_at net.old g b else value_at net.old g a)) }
+        if bits.bit (nat_lt (value_at net.old g a) (value_at net.old g b)) == 1 then value_at net.old g b
+        else value_at net.old g a)) }
 {
     let less = net.ult(a, b)?;
     let found = net.mux(less, b, a)?;
@@ -68,8 +70,10 @@ pub fn mixed(net: &mut Net, a: NodeId, b: NodeId, mask: NodeId) -> Result<NodeId
     ensures shows { IfOk result (Shows net.old net.new 32 (λ g.
         bits.sum 32 (bits.sum 32
         (bit_and (bit_xor (value_at net.old g a) (value_at net.old g b)) (bits.complement 32 (value_at net.old g mask)))
-        (bit_and (bit_xor (value_at net.old g b) (value_at net.old g mask)) (bits.complement 32 (value_at net.old g a))))
-        (if bits.bit (nat_lt (value_at net.old g a) (value_at net.old g b)) == 1 then value_at net.old g b else value_at net.old g a))) }
+        (bit_and (bit_xor (value_at net.old g b) (value_at net.old g mask))
+        (bits.complement 32 (value_at net.old g a))))
+        (if bits.bit (nat_lt (value_at net.old g a) (value_at net.old g b)) == 1 then value_at net.old g b
+        else value_at net.old g a))) }
 {
     let one = unmasked_difference(net, a, b, mask)?;
     let other = unmasked_difference(net, b, mask, a)?;

@@ -1,5 +1,5 @@
-//! Tests of nets, of memories as words, and of the instruction table, over what those crates show; and examples of how a
-//! caller states what it adds to a net.
+//! Tests of nets, of memories as words, and of the instruction table, over what those crates show; and examples of
+//! how a caller states what it adds to a net.
 #![tactic(auto)]
 
 pub mod building;

@@ -39,7 +39,8 @@ pub fn run_twice(net: &Net, first: &[u128], second: &[u128], state: &mut State, 
     requires start { IsStateOf net.now state.old }
     requires room { length values.old ≡ length net.now.nodes }
     ensures state { state.new ≡ state_at net.now (λ k. if k == 0 then first.now else second.now) state.old 2 }
-    ensures values { values.new ≡ values_of net.now (cycle_at net.now (λ k. if k == 0 then first.now else second.now) state.old 1) }
+    ensures values { values.new ≡ values_of net.now
+        (cycle_at net.now (λ k. if k == 0 then first.now else second.now) state.old 1) }
 {
     net.step(first, state, values);
     net.step(second, state, values);

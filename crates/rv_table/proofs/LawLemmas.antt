@@ -14,7 +14,9 @@ use Rattle.rv_table.proofs.Expansions.{expansion_matches}
 same_base : (a b : BaseRow) → Base a ≡ Base b → a ≡ b
 same_base a b e = cc
 
-pub does_as_expansion : (row : CompressedRow) (base : BaseRow) (retire : Retire) (opts : Opts) → matches (Base base) (expansion row retire.insn) ≡ true → effect (Compressed row) retire opts ≡ word_effect base (expansion row retire.insn) 2 retire opts
+pub does_as_expansion : (row : CompressedRow) (base : BaseRow) (retire : Retire) (opts : Opts)
+    → matches (Base base) (expansion row retire.insn) ≡ true
+    → effect (Compressed row) retire opts ≡ word_effect base (expansion row retire.insn) 2 retire opts
 unfolding effect
 does_as_expansion row base retire opts match =
     let same : (compressed_row row).base ≡ base =

@@ -1,7 +1,8 @@
 -- Each row's pattern keeps its parts within their bits.
 use Rattle.std.proofs.Common.{◌≡◌, true, refl}
 use Rattle.rv_table.specs.declared.row.BaseRow.{BaseRow}
-use Rattle.rv_table.specs.declared.row.BaseRow.TheVariants.{Lui, Auipc, Jal, Jalr, Branch, Load, Store, Immediate, Register, Multiply}
+use Rattle.rv_table.specs.declared.row.BaseRow.TheVariants.{Lui, Auipc, Jal, Jalr, Branch, Load, Store, Immediate}
+use Rattle.rv_table.specs.declared.row.BaseRow.TheVariants.{Register, Multiply}
 use Rattle.rv_table.specs.declared.row.BranchRow.TheVariants.{Beq, Bne, Blt, Bge, Bltu, Bgeu}
 use Rattle.rv_table.specs.declared.row.LoadRow.TheVariants.{Lb, Lh, Lw, Lbu, Lhu}
 use Rattle.rv_table.specs.declared.row.StoreRow.TheVariants.{Sb, Sh, Sw}

@@ -1,16 +1,21 @@
 -- The list of rows has each row at its number.
-use Rattle.std.proofs.Common.{◌≡◌, ℕ, ◌<◌, ◌≤◌, ◌↔◌, IsNone, List, [], ◌∷◌, length, Some, slice_get, refl, arith, suc, zero}
+use Rattle.std.proofs.Common.{◌≡◌, ℕ, ◌<◌, ◌≤◌, ◌↔◌, IsNone, List, [], ◌∷◌, length, Some, slice_get, refl, arith, suc}
+use Rattle.std.proofs.Common.{zero}
 use Rattle.std.proofs.lemmas.Grind.{common_steps}
 use Rattle.rv_table.specs.declared.row.RowId.{RowId}
 use Rattle.rv_table.specs.declared.row.RowId.TheVariants.{Base, Compressed}
-use Rattle.rv_table.specs.declared.row.BaseRow.TheVariants.{Lui, Auipc, Jal, Jalr, Branch, Load, Store, Immediate, Register, Multiply}
+use Rattle.rv_table.specs.declared.row.BaseRow.TheVariants.{Lui, Auipc, Jal, Jalr, Branch, Load, Store, Immediate}
+use Rattle.rv_table.specs.declared.row.BaseRow.TheVariants.{Register, Multiply}
 use Rattle.rv_table.specs.declared.row.BranchRow.TheVariants.{Beq, Bne, Blt, Bge, Bltu, Bgeu}
 use Rattle.rv_table.specs.declared.row.LoadRow.TheVariants.{Lb, Lh, Lw, Lbu, Lhu}
 use Rattle.rv_table.specs.declared.row.StoreRow.TheVariants.{Sb, Sh, Sw}
 use Rattle.rv_table.specs.declared.row.ImmediateRow.TheVariants.{Addi, Slti, Sltiu, Xori, Ori, Andi, Slli, Srli, Srai}
 use Rattle.rv_table.specs.declared.row.RegisterRow.TheVariants.{Add, Sub, Sll, Slt, Sltu, Xor, Srl, Sra, Or, And}
 use Rattle.rv_table.specs.declared.row.MultiplyRow.TheVariants.{Mul, Mulh, Mulhsu, Mulhu, Div, Divu, Rem, Remu}
-use Rattle.rv_table.specs.declared.row.CompressedRow.TheVariants.{CAddi4spn, CLw, CSw, CAddi, CJal, CLi, CAddi16sp, CLui, CSrli, CSrai, CAndi, CSub, CXor, COr, CAnd, CJ, CBeqz, CBnez, CSlli, CLwsp, CJr, CMv, CJalr, CAdd, CSwsp}
+use Rattle.rv_table.specs.declared.row.CompressedRow.TheVariants.{CAddi4spn, CLw, CSw, CAddi, CJal, CLi, CAddi16sp}
+use Rattle.rv_table.specs.declared.row.CompressedRow.TheVariants.{CLui, CSrli, CSrai, CAndi, CSub, CXor, COr, CAnd}
+use Rattle.rv_table.specs.declared.row.CompressedRow.TheVariants.{CJ, CBeqz, CBnez, CSlli, CLwsp, CJr, CMv, CJalr}
+use Rattle.rv_table.specs.declared.row.CompressedRow.TheVariants.{CAdd, CSwsp}
 use Rattle.rv_table.specs.Matching.{rows, number}
 
 pub row_at : (r : RowId) → slice_get rows (number r) ≡ Some r

@@ -1,8 +1,10 @@
 -- No word matches two rows: any two rows ask for different numbers in the same bits.
-use Rattle.std.proofs.Common.{subst, suc, zero, cond, find, IfSome, IfNone, ◌≡◌, ℕ, ◌%◌, Bool, true, false, not, ◌&&◌, ◌||◌, ◌==◌, List, [], ◌∷◌, Option, Some, None, slice_get, refl, sym, ap, arith}
+use Rattle.std.proofs.Common.{subst, suc, zero, cond, find, IfSome, IfNone, ◌≡◌, ℕ, ◌%◌, Bool, true, false, not, ◌&&◌}
+use Rattle.std.proofs.Common.{◌||◌, ◌==◌, List, [], ◌∷◌, Option, Some, None, slice_get, refl, sym, ap, arith}
 use Rattle.std.proofs.lemmas.Grind.{common_steps}
 use Rattle.std.specs.List.{list_all, list_any}
-use Rattle.rv_table.specs.declared.row.BaseRow.TheVariants.{Lui, Auipc, Jal, Jalr, Branch, Load, Store, Immediate, Register, Multiply}
+use Rattle.rv_table.specs.declared.row.BaseRow.TheVariants.{Lui, Auipc, Jal, Jalr, Branch, Load, Store, Immediate}
+use Rattle.rv_table.specs.declared.row.BaseRow.TheVariants.{Register, Multiply}
 use Rattle.rv_table.specs.declared.row.RowId.{RowId}
 use Rattle.rv_table.specs.declared.row.RowId.TheVariants.{Base, Compressed}
 use Rattle.rv_table.specs.Fields.{field}
@@ -49,7 +51,8 @@ all_end_in_ones = refl
 
 -- ---- what is computed of the list holds of each row
 
-all_get : {X : Type 0} (p : X → Bool) (xs : List X) (i : ℕ) (x : X) → list_all p xs ≡ true → slice_get xs i ≡ Some x → p x ≡ true
+all_get : {X : Type 0} (p : X → Bool) (xs : List X) (i : ℕ) (x : X) → list_all p xs ≡ true → slice_get xs i ≡ Some x
+    → p x ≡ true
 all_get p [] i x all here = cc
 all_get p (y ∷ ys) zero x all here =
     let e : y ≡ x = cc in subst (λ z. p z ≡ true) e (first_true _ _ all)
@@ -57,7 +60,8 @@ all_get p (y ∷ ys) (suc i) x all here = all_get p ys i x (second_true (p y) _ 
 
 two_apart : (r s : RowId) → apart r s ≡ true
 two_apart r s =
-    let each : list_all (apart r) rows ≡ true = all_get (λ x. list_all (apart x) rows) rows (number r) r all_apart (row_at r) in
+    let each : list_all (apart r) rows ≡ true = all_get (λ x. list_all (apart x) rows) rows (number r) r all_apart
+    (row_at r) in
     all_get (apart r) rows (number s) s each (row_at s)
 
 opcode_ends : (r : RowId) → ends_in_ones r ≡ true
@@ -78,14 +82,16 @@ or_cases : {P : Type 0} (a b : Bool) → (a || b) ≡ true → (a ≡ true → P
 or_cases true b e f g = f refl
 or_cases false b e f g = g e
 
-none_opposed : (w : ℕ) (d : Demand) (es : List Demand) → list_any (opposed d) es ≡ true → meets w d ≡ true → list_all (meets w) es ≡ true → ⊥
+none_opposed : (w : ℕ) (d : Demand) (es : List Demand) → list_any (opposed d) es ≡ true → meets w d ≡ true
+    → list_all (meets w) es ≡ true → ⊥
 none_opposed w d [] clashing first all = cc
 none_opposed w d (e ∷ es) clashing first all =
     or_cases (opposed d e) (list_any (opposed d) es) clashing
     (λ here. opposed_apart w d e here first (first_true _ _ all))
     (λ later. none_opposed w d es later first (second_true (meets w e) _ all))
 
-none_clash : (w : ℕ) (ds es : List Demand) → clash ds es ≡ true → list_all (meets w) ds ≡ true → list_all (meets w) es ≡ true → ⊥
+none_clash : (w : ℕ) (ds es : List Demand) → clash ds es ≡ true → list_all (meets w) ds ≡ true
+    → list_all (meets w) es ≡ true → ⊥
 none_clash w [] es clashing first second = cc
 none_clash w (d ∷ ds) es clashing first second =
     or_cases (list_any (opposed d) es) (clash ds es) clashing
@@ -128,7 +134,8 @@ unique r s w m n =
 
 -- ---- the first row that is found is the one
 
-find_step : {X : Type 0} (p : X → Bool) (y x : X) (ys : List X) (b : Bool) → p y ≡ b → cond b (Some y) (find p ys) ≡ Some x → (find p ys ≡ Some x → p x ≡ true) → p x ≡ true
+find_step : {X : Type 0} (p : X → Bool) (y x : X) (ys : List X) (b : Bool) → p y ≡ b
+    → cond b (Some y) (find p ys) ≡ Some x → (find p ys ≡ Some x → p x ≡ true) → p x ≡ true
 find_step p y x ys true passes e later = let same : y ≡ x = cc in subst (λ z. p z ≡ true) same passes
 find_step p y x ys false fails e later = later e
 
@@ -136,11 +143,13 @@ find_holds : {X : Type 0} (p : X → Bool) (xs : List X) (x : X) → find p xs �
 find_holds p [] x e = cc
 find_holds p (y ∷ ys) x e = find_step p y x ys (p y) refl e (find_holds p ys x)
 
-finds_step : {X : Type 0} (p : X → Bool) (y : X) (ys : List X) (b : Bool) → p y ≡ b → cond b (Some y) (find p ys) ≡ None → (p y ≡ false → find p ys ≡ None → ⊥) → ⊥
+finds_step : {X : Type 0} (p : X → Bool) (y : X) (ys : List X) (b : Bool) → p y ≡ b
+    → cond b (Some y) (find p ys) ≡ None → (p y ≡ false → find p ys ≡ None → ⊥) → ⊥
 finds_step p y ys true passes e later = cc
 finds_step p y ys false fails e later = later fails e
 
-find_finds : {X : Type 0} (p : X → Bool) (xs : List X) (i : ℕ) (x : X) → slice_get xs i ≡ Some x → p x ≡ true → find p xs ≡ None → ⊥
+find_finds : {X : Type 0} (p : X → Bool) (xs : List X) (i : ℕ) (x : X) → slice_get xs i ≡ Some x → p x ≡ true
+    → find p xs ≡ None → ⊥
 find_finds p [] i x here holds e = cc
 find_finds p (y ∷ ys) zero x here holds e =
     finds_step p y ys (p y) refl e (λ fails later.
@@ -153,7 +162,8 @@ find_finds p (y ∷ ys) (suc i) x here holds e =
 abbrev fits : Isa → ℕ → RowId → Bool
 fits isa w row = has isa row && matches row w
 
-pub row_found : (isa : Isa) (w : ℕ) (o : Option RowId) → o ≡ find (λ row. has isa row && matches row w) rows → IfSome o (IsMatch isa w)
+pub row_found : (isa : Isa) (w : ℕ) (o : Option RowId) → o ≡ find (λ row. has isa row && matches row w) rows
+    → IfSome o (IsMatch isa w)
 row_found isa w None e = tt
 row_found isa w (Some row) e =
     let h : (has isa row && matches row w) ≡ true = find_holds (fits isa w) rows row (sym e) in
@@ -162,13 +172,15 @@ row_found isa w (Some row) e =
       match = second_true (has isa row) (matches row w) h;
     }
 
-pub row_only : (isa : Isa) (w : ℕ) (o : Option RowId) → o ≡ find (λ row. has isa row && matches row w) rows → (row : RowId) → IsMatch isa w row → o ≡ Some row
+pub row_only : (isa : Isa) (w : ℕ) (o : Option RowId) → o ≡ find (λ row. has isa row && matches row w) rows
+    → (row : RowId) → IsMatch isa w row → o ≡ Some row
 row_only isa w None e row m =
     absurd (find_finds (fits isa w) rows (number row) row (row_at row) (both_true _ _ m.held m.match) (sym e))
 row_only isa w (Some other) e row m =
     ap Some (unique other row w (row_found isa w (Some other) e).match m.match)
 
-pub row_none : (isa : Isa) (w : ℕ) (o : Option RowId) → o ≡ find (λ row. has isa row && matches row w) rows → IfNone o ((row : RowId) → has isa row ≡ true → matches row w ≡ false)
+pub row_none : (isa : Isa) (w : ℕ) (o : Option RowId) → o ≡ find (λ row. has isa row && matches row w) rows
+    → IfNone o ((row : RowId) → has isa row ≡ true → matches row w ≡ false)
 row_none isa w None e = λ row held.
     false_from_ne_true (matches row w) (λ match.
     find_finds (fits isa w) rows (number row) row (row_at row) (both_true _ _ held match) (sym e))
@@ -191,11 +203,13 @@ no_c : (isa : Isa) (row : RowId) → has isa row ≡ true → isa.c ≡ false �
 no_c isa (Base row) held without = refl
 no_c isa (Compressed row) held without = cc
 
-pub row_without_m : (isa : Isa) (w : ℕ) (o : Option RowId) → o ≡ find (λ row. has isa row && matches row w) rows → IfSome o (λ row. isa.m ≡ false → is_of_m row ≡ false)
+pub row_without_m : (isa : Isa) (w : ℕ) (o : Option RowId) → o ≡ find (λ row. has isa row && matches row w) rows
+    → IfSome o (λ row. isa.m ≡ false → is_of_m row ≡ false)
 row_without_m isa w None e = tt
 row_without_m isa w (Some row) e = no_m isa row (row_found isa w (Some row) e).held
 
-pub row_without_c : (isa : Isa) (w : ℕ) (o : Option RowId) → o ≡ find (λ row. has isa row && matches row w) rows → IfSome o (λ row. isa.c ≡ false → is_of_c row ≡ false)
+pub row_without_c : (isa : Isa) (w : ℕ) (o : Option RowId) → o ≡ find (λ row. has isa row && matches row w) rows
+    → IfSome o (λ row. isa.c ≡ false → is_of_c row ≡ false)
 row_without_c isa w None e = tt
 row_without_c isa w (Some row) e = no_c isa row (row_found isa w (Some row) e).held
 

@@ -1,4 +1,5 @@
--- When a retirement agrees with an effect: rule of this project, after the documentation of the RISC-V Formal Interface.
+-- When a retirement agrees with an effect: rule of this project, after the documentation of the RISC-V Formal
+-- Interface.
 use Rattle.std.specs.Prelude.{ℕ, ◌+◌, ◌*◌, Bool, not, ◌&&◌, ◌||◌, ◌==◌, if◌then◌else◌}
 use Rattle.rv_table.specs.declared.retire.Retire.{Retire}
 use Rattle.rv_table.specs.declared.retire.Effect.{Effect}

@@ -1,5 +1,6 @@
 -- What an instruction does: manual, chapters 2 (RV32I), 7 (M) and 16 (C), on whole numbers.
-use Rattle.std.specs.Prelude.{◌≡◌, ℕ, ◌-◌, ◌*◌, ◌/◌, ◌%◌, ◌^◌, Bool, true, false, not, ◌&&◌, ◌==◌, nat_lt, if◌then◌else◌, pos, ◌*ℤ◌, bit_and, bit_or, bit_xor}
+use Rattle.std.specs.Prelude.{◌≡◌, ℕ, ◌-◌, ◌*◌, ◌/◌, ◌%◌, ◌^◌, Bool, true, false, not, ◌&&◌, ◌==◌, nat_lt}
+use Rattle.std.specs.Prelude.{if◌then◌else◌, pos, ◌*ℤ◌, bit_and, bit_or, bit_xor}
 use Rattle.rv_table.specs.declared.retire.Retire.{Retire}
 use Rattle.rv_table.specs.declared.retire.Opts.{Opts}
 use Rattle.rv_table.specs.declared.retire.Effect.{Effect}
@@ -7,7 +8,8 @@ use Rattle.rv_table.specs.declared.step.Step.{Step}
 use Rattle.rv_table.specs.declared.pattern.Form.{Form}
 use Rattle.rv_table.specs.declared.pattern.Form.TheVariants.{R, I, S, B, U, J}
 use Rattle.rv_table.specs.declared.row.BaseRow.{BaseRow}
-use Rattle.rv_table.specs.declared.row.BaseRow.TheVariants.{Lui, Auipc, Jal, Jalr, Branch, Load, Store, Immediate, Register, Multiply}
+use Rattle.rv_table.specs.declared.row.BaseRow.TheVariants.{Lui, Auipc, Jal, Jalr, Branch, Load, Store, Immediate}
+use Rattle.rv_table.specs.declared.row.BaseRow.TheVariants.{Register, Multiply}
 use Rattle.rv_table.specs.declared.row.BranchRow.{BranchRow}
 use Rattle.rv_table.specs.declared.row.BranchRow.TheVariants.{Beq, Bne, Blt, Bge, Bltu, Bgeu}
 use Rattle.rv_table.specs.declared.row.LoadRow.{LoadRow}

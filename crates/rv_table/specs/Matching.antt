@@ -3,7 +3,8 @@ use Rattle.std.specs.Prelude.{◌≡◌, ℕ, Bool, true, false, List, [], ◌�
 use Rattle.std.specs.List.{list_all}
 use Rattle.rv_table.specs.declared.retire.Isa.{Isa}
 use Rattle.rv_table.specs.declared.row.BaseRow.{BaseRow}
-use Rattle.rv_table.specs.declared.row.BaseRow.TheVariants.{Lui, Auipc, Jal, Jalr, Branch, Load, Store, Immediate, Register, Multiply}
+use Rattle.rv_table.specs.declared.row.BaseRow.TheVariants.{Lui, Auipc, Jal, Jalr, Branch, Load, Store, Immediate}
+use Rattle.rv_table.specs.declared.row.BaseRow.TheVariants.{Register, Multiply}
 use Rattle.rv_table.specs.declared.row.BranchRow.{BranchRow}
 use Rattle.rv_table.specs.declared.row.BranchRow.TheVariants.{Beq, Bne, Blt, Bge, Bltu, Bgeu}
 use Rattle.rv_table.specs.declared.row.LoadRow.{LoadRow}

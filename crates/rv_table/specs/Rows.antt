@@ -1,7 +1,8 @@
 -- The rows of RV32I and M: manual, chapter 24, 'RV32/64G Instruction Set Listings', in this project's order.
 use Rattle.std.specs.Prelude.{ℕ, List, Some, None, codes}
 use Rattle.rv_table.specs.declared.row.BaseRow.{BaseRow}
-use Rattle.rv_table.specs.declared.row.BaseRow.TheVariants.{Lui, Auipc, Jal, Jalr, Branch, Load, Store, Immediate, Register, Multiply}
+use Rattle.rv_table.specs.declared.row.BaseRow.TheVariants.{Lui, Auipc, Jal, Jalr, Branch, Load, Store, Immediate}
+use Rattle.rv_table.specs.declared.row.BaseRow.TheVariants.{Register, Multiply}
 use Rattle.rv_table.specs.declared.row.BranchRow.{BranchRow}
 use Rattle.rv_table.specs.declared.row.BranchRow.TheVariants.{Beq, Bne, Blt, Bge, Bltu, Bgeu}
 use Rattle.rv_table.specs.declared.row.LoadRow.{LoadRow}
@@ -34,7 +35,15 @@ with_funct3 name opcode form funct3 =
 
 abbrev pub with_funct7 : List ℕ → ℕ → Form → ℕ → ℕ → Row
 with_funct7 name opcode form funct3 funct7 =
-    record { name = name; pattern = record { opcode = opcode; funct3 = Some funct3; funct7 = Some funct7; form = form } }
+    record {
+      name = name;
+      pattern = record {
+        opcode = opcode;
+        funct3 = Some funct3;
+        funct7 = Some funct7;
+        form = form;
+      };
+    }
 
 -- section 2.5
 abbrev pub branch_row : BranchRow → Row

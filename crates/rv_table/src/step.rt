@@ -48,8 +48,8 @@ fn unless_x0(address: u32, value: u32) -> u32
     if address == 0 { 0 } else { value }
 }
 
-/// An instruction as it finds its sources: its word, its length in bytes, the addresses and values of its registers, and
-/// the word that memory gave.
+/// An instruction as it finds its sources: its word, its length in bytes, the addresses and values of its registers,
+/// and the word that memory gave.
 #[derive(Debug, Clone, Copy, PartialEq, Eq)]
 pub struct Step {
     pub word: u32,

@@ -14,7 +14,8 @@ abbrev nothing_done : Outside → Run
 nothing_done outside = record { words = []; before = outside; now = outside }
 
 memory_answers : (outside : Outside) → Answers s.Memory (nothing_done outside)
-memory_answers outside = Ends-memory (SaysOf (command_of []) (seen_in (nothing_done outside))) outside outside (SameFiles-refl outside.held) refl
+memory_answers outside = Ends-memory (SaysOf (command_of []) (seen_in (nothing_done outside))) outside outside
+    (SameFiles-refl outside.held) refl
 
 -- the code of want of memory, where nothing was done
 pub memory_exits : {A E : Type 0} (words : Result A E) (code : ℕ) (outside : Outside) → code ≡ code_of s.Memory

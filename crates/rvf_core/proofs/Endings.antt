@@ -11,7 +11,8 @@ use Rattle.rvf_core.specs.declared.status.Status.{Status}
 use Rattle.rvf_core.specs.declared.status.Status.TheVariants as s
 use Rattle.rvf_core.proofs.Deliveries.{Appends-nothing}
 
-module _ (Says : Status → List Delivery → Type 0) (before now : Outside) (report : List Delivery) (not_write : Says s.WriteFault report → ⊥) (not_memory : Says s.Memory report → ⊥) where
+module _ (Says : Status → List Delivery → Type 0) (before now : Outside) (report : List Delivery)
+    (not_write : Says s.WriteFault report → ⊥) (not_memory : Says s.Memory report → ⊥) where
   Ends-reported : (status : Status) → Says status report → Delivers before now report → Ends Says status before now
   Ends-reported s.Passed says delivered = record { report = report; says = says; delivered = delivered }
   Ends-reported s.Failing says delivered = record { report = report; says = says; delivered = delivered }
@@ -27,13 +28,16 @@ module _ (Says : Status → List Delivery → Type 0) (before now : Outside) (re
   Ends-reported s.Memory says delivered = absurd (not_memory says)
 
   -- a status with its cause, after its report was delivered or not
-  pub Ends-delivered : (put : Result (Unit {0}) OutFault) (status : Status) → Says status report → IsDelivered put before now report → Ends Says (ends put status) before now
+  pub Ends-delivered : (put : Result (Unit {0}) OutFault) (status : Status) → Says status report
+      → IsDelivered put before now report → Ends Says (ends put status) before now
   Ends-delivered (Ok u) status says p = Ends-reported status says p
   Ends-delivered (Err out.Failed) status says p = record { status = status; report = report; says = says; fails = p }
-  Ends-delivered (Err out.Memory) status says p = record { status = Some status; report = report; says = says; stops = p }
+  Ends-delivered (Err out.Memory) status says p =
+      record { status = Some status; report = report; says = says; stops = p }
 
 -- memory was wanted before there was a report
-pub Ends-memory : (Says : Status → List Delivery → Type 0) (before now : Outside) → SameFiles before.held now.held → before.sent ≡ now.sent → Ends Says s.Memory before now
+pub Ends-memory : (Says : Status → List Delivery → Type 0) (before now : Outside) → SameFiles before.held now.held
+    → before.sent ≡ now.sent → Ends Says s.Memory before now
 Ends-memory Says before now same sent = record {
   status = None;
   report = [];
@@ -42,6 +46,7 @@ Ends-memory Says before now same sent = record {
     done = [];
     rest = [];
     order = refl;
-    delivered = record { files = same; lines = subst (λ x. Appends before.sent x []) sent (Appends-nothing before.sent) };
+    delivered =
+        record { files = same; lines = subst (λ x. Appends before.sent x []) sent (Appends-nothing before.sent) };
   };
 }

@@ -1,5 +1,6 @@
 -- From what a search comes to, to the verdict on a module.
-use Rattle.std.proofs.Common.{◌≡◌, ℕ, suc, ◌<◌, ◌^◌, Bool, true, false, ◌&&◌, List, [], ◌∷◌, Option, Some, None, Result, Ok, Err, IfOk, ℤ, length, arith, refl, sym, ap, subst, ◌∙◌, codes}
+use Rattle.std.proofs.Common.{◌≡◌, ℕ, suc, ◌<◌, ◌^◌, Bool, true, false, ◌&&◌, List, [], ◌∷◌, Option, Some, None}
+use Rattle.std.proofs.Common.{Result, Ok, Err, IfOk, ℤ, length, arith, refl, sym, ap, subst, ◌∙◌, codes}
 use Rattle.std.proofs.lemmas.Bool.{false≢true}
 use Rattle.fv_base.specs.declared.memory.Memory.{Memory}
 use Rattle.cnf_form.specs.Cnf.{Cnf, value_of, IsLiteral, AreLiterals, AreClauses}
@@ -32,9 +33,12 @@ use Rattle.rvf_core.specs.declared.status.Status.{Status}
 use Rattle.rvf_core.specs.declared.status.Status.TheVariants as s
 
 -- two files and a line are what a certificate is
-pub certified-three : (three : Result (List Delivery) Memory) (first second third : Delivery) (outdir clauses proof line : List ℕ) (formula : Cnf) (steps : List Step)
-    → first ≡ File (path outdir (codes "ill_ch0.cnf")) clauses → clauses ≡ dimacs_text [] formula → second ≡ File (path outdir (codes "ill_ch0.lrat")) proof
-    → proof ≡ lrat_text steps → third ≡ Line line → IfOk three (λ ds. ds ≡ first ∷ second ∷ third ∷ []) → IfOk three (λ report. report ≡ certified outdir formula steps line)
+pub certified-three : (three : Result (List Delivery) Memory) (first second third : Delivery)
+    (outdir clauses proof line : List ℕ) (formula : Cnf) (steps : List Step)
+    → first ≡ File (path outdir (codes "ill_ch0.cnf")) clauses → clauses ≡ dimacs_text [] formula
+    → second ≡ File (path outdir (codes "ill_ch0.lrat")) proof
+    → proof ≡ lrat_text steps → third ≡ Line line → IfOk three (λ ds. ds ≡ first ∷ second ∷ third ∷ [])
+    → IfOk three (λ report. report ≡ certified outdir formula steps line)
 certified-three (Err fault) first second third outdir clauses proof line formula steps a b c d e p = tt
 certified-three (Ok ds) first second third outdir clauses proof line formula steps a b c d e p = p ∙ all
   where
@@ -46,14 +50,16 @@ both_true true true p = (refl, refl)
 both_true true false p = cc
 both_true false b p = cc
 
-within-length : (ports : List FirstPort) (numbers : List ℕ) → within ports numbers ≡ true → length ports ≡ length numbers
+within-length : (ports : List FirstPort) (numbers : List ℕ) → within ports numbers ≡ true
+    → length ports ≡ length numbers
 within-length [] [] p = refl
 within-length (port ∷ ports) (number ∷ numbers) p = ap suc (within-length ports numbers (both_true _ _ p).1)
 within-length [] (number ∷ numbers) p = cc
 within-length (port ∷ ports) [] p = cc
 
 -- numbers that agree with values are one for each port
-pub agree-length : (ports : List FirstPort) (places : List FirstPlace) (values : ℕ → Bool) (numbers : List ℕ) → agree ports places values numbers ≡ true → length ports ≡ length numbers
+pub agree-length : (ports : List FirstPort) (places : List FirstPlace) (values : ℕ → Bool) (numbers : List ℕ)
+    → agree ports places values numbers ≡ true → length ports ≡ length numbers
 agree-length ports places values numbers p = within-length ports numbers (both_true _ _ p).0
 
 lits-small : (vars : ℕ) (lits : List ℤ) → vars < 2 ^ 63 → AreLiterals vars lits → AreLits lits
@@ -65,7 +71,8 @@ lits-small vars (l ∷ ls) small p = (one vars l small p.0, lits-small vars ls s
 
 steps-small : (vars : ℕ) (steps : List Step) → vars < 2 ^ 63 → AreAdded vars steps → AreSteps steps
 steps-small vars [] small p = tt
-steps-small vars (Add id lits hints ∷ steps) small p = (lits-small vars lits small p.0, steps-small vars steps small p.2)
+steps-small vars (Add id lits hints ∷ steps) small p =
+    (lits-small vars lits small p.0, steps-small vars steps small p.2)
 steps-small vars (Delete id ids ∷ steps) small p = (tt, steps-small vars steps small p)
 
 not_true : (a : Bool) → (a ≡ true → ⊥) → a ≡ false
@@ -73,13 +80,17 @@ not_true true h = absurd (h refl)
 not_true false h = refl
 
 -- where steps refute a formula of the numbers that violate, none do
-pub approves : (outdir : List ℕ) (ports : List FirstPort) (formula : Cnf) (places : List FirstPlace) (steps : List Step) (report : List Delivery)
-    → Encodes ports formula places → formula.vars < 2 ^ 63 → AreClauses formula.vars formula.clauses → AreAdded formula.vars steps
-    → ((id : ℕ) × Refutes formula.clauses steps id) → report ≡ certified outdir formula steps pass_line → Approves outdir ports report
+pub approves : (outdir : List ℕ) (ports : List FirstPort) (formula : Cnf) (places : List FirstPlace)
+    (steps : List Step) (report : List Delivery)
+    → Encodes ports formula places → formula.vars < 2 ^ 63 → AreClauses formula.vars formula.clauses
+    → AreAdded formula.vars steps
+    → ((id : ℕ) × Refutes formula.clauses steps id) → report ≡ certified outdir formula steps pass_line
+    → Approves outdir ports report
 approves outdir ports formula places steps report encodes small clauses added refuted is = record {
   none = λ numbers. not_true (violates ports numbers) (λ violating.
       let model = encodes.reached numbers violating in
-      false≢true (sym (judged_sound (value_of model.0) (record { id = refuted.0 }) formula.clauses steps (numbered_held formula.vars formula.clauses small clauses)
+      false≢true (sym (judged_sound (value_of model.0) (record { id = refuted.0 }) formula.clauses steps
+      (numbered_held formula.vars formula.clauses small clauses)
       (steps-small formula.vars steps small added) refuted.1) ∙ model.1));
   formula = formula;
   describes = record { places = places; encodes = encodes };
@@ -94,11 +105,20 @@ approves outdir ports formula places steps report encodes small clauses added re
 apart : (found : Option (List FirstPort)) (ports : List FirstPort) → found ≡ Some ports → found ≡ None → ⊥
 apart found ports p q = cc
 
-decides : (bytes : List ℕ) (tree : Source) (ports : List FirstPort) (status : Status) (outdir : List ℕ) (report : List Delivery)
-    → Takes (IsSourceOf bytes) (IsRefused bytes) tree → first_of tree ≡ Some ports → ((others : List FirstPort) → IsFirst bytes others → others ≡ ports)
-    → ((other : Option TextFault) → Refuses other bytes → ⊥) → Decision status outdir ports report → Decides status outdir bytes report
+decides : (bytes : List ℕ) (tree : Source) (ports : List FirstPort) (status : Status) (outdir : List ℕ)
+    (report : List Delivery)
+    → Takes (IsSourceOf bytes) (IsRefused bytes) tree → first_of tree ≡ Some ports
+    → ((others : List FirstPort) → IsFirst bytes others → others ≡ ports)
+    → ((other : Option TextFault) → Refuses other bytes → ⊥) → Decision status outdir ports report
+    → Decides status outdir bytes report
 decides bytes tree ports status outdir report taken first only unrefused d =
-    record { ports = ports; first = record { tree = tree; source = taken.is; first = first }; only = only; unrefused = unrefused; decision = d }
+    record {
+      ports = ports;
+      first = record { tree = tree; source = taken.is; first = first };
+      only = only;
+      unrefused = unrefused;
+      decision = d;
+    }
 
 -- the ports of the only tree, and its refusal
 module _ (bytes : List ℕ) (tree : Source) (taken : Takes (IsSourceOf bytes) (IsRefused bytes) tree) where
@@ -106,23 +126,28 @@ module _ (bytes : List ℕ) (tree : Source) (taken : Takes (IsSourceOf bytes) (I
   first_of-same other source = ap first_of (taken.only other source)
 
   ports_only : (ports others : List FirstPort) → first_of tree ≡ Some ports → IsFirst bytes others → others ≡ ports
-  ports_only ports others first h = one (first_of tree) others ports (sym (first_of-same h.tree h.source) ∙ h.first) first
+  ports_only ports others first h =
+      one (first_of tree) others ports (sym (first_of-same h.tree h.source) ∙ h.first) first
     where
       one : (found : Option (List FirstPort)) (a b : List FirstPort) → found ≡ Some a → found ≡ Some b → a ≡ b
       one found a b p q = cc
 
-  first_unrefused : (ports : List FirstPort) → first_of tree ≡ Some ports → (other : Option TextFault) → Refuses other bytes → ⊥
+  first_unrefused : (ports : List FirstPort) → first_of tree ≡ Some ports → (other : Option TextFault)
+      → Refuses other bytes → ⊥
   first_unrefused ports first (Some fault) refuses = taken.unrefused fault refuses
   first_unrefused ports first None h = apart (first_of tree) ports first (sym (first_of-same h.tree h.source) ∙ h.none)
 
-  decided : (ports : List FirstPort) → first_of tree ≡ Some ports → (status : Status) (outdir : List ℕ) (report : List Delivery) → Decision status outdir ports report
+  decided : (ports : List FirstPort) → first_of tree ≡ Some ports
+      → (status : Status) (outdir : List ℕ) (report : List Delivery) → Decision status outdir ports report
       → Decides status outdir bytes report
   decided ports first status outdir report d =
-      decides bytes tree ports status outdir report taken first (λ others h. ports_only ports others first h) (λ other h. first_unrefused ports first other h) d
+      decides bytes tree ports status outdir report taken first (λ others h. ports_only ports others first h)
+      (λ other h. first_unrefused ports first other h) d
 
   -- a decision on the ports that the text declares is a verdict on the bytes
   pub Verdict-decision : (name outdir : List ℕ) (ports : List FirstPort) → first_of tree ≡ Some ports
-      → (status : Status) (report : List Delivery) → Decision status outdir ports report → Verdict status name outdir bytes report
+      → (status : Status) (report : List Delivery) → Decision status outdir ports report
+      → Verdict status name outdir bytes report
   Verdict-decision name outdir ports first s.Passed report d = decided ports first s.Passed outdir report d
   Verdict-decision name outdir ports first s.Failing report d = decided ports first s.Failing outdir report d
   Verdict-decision name outdir ports first s.Spent report d = decided ports first s.Spent outdir report d
@@ -136,7 +161,8 @@ module _ (bytes : List ℕ) (tree : Source) (taken : Takes (IsSourceOf bytes) (I
   Verdict-decision name outdir ports first s.Refused report d = absurd d
   Verdict-decision name outdir ports first s.Memory report d = absurd d
 
-  pub Refused-first : (name : List ℕ) (report : List Delivery) → first_of tree ≡ None → report ≡ Line (refusal_line name None) ∷ [] → Refused name bytes report
+  pub Refused-first : (name : List ℕ) (report : List Delivery) → first_of tree ≡ None
+      → report ≡ Line (refusal_line name None) ∷ [] → Refused name bytes report
   Refused-first name report none is = record {
     refusal = None;
     refuses = record { tree = tree; source = taken.is; none = none };
@@ -150,17 +176,23 @@ module _ (bytes : List ℕ) (tree : Source) (taken : Takes (IsSourceOf bytes) (I
       only (Some fault) refuses = absurd (taken.unrefused fault refuses)
       only None refuses = refl
 
-  pub judged_some : (name outdir : List ℕ) (ports : List FirstPort) (r : Result Report Memory) → first_of tree ≡ Some ports
-      → IfOk r (λ report. Decision report.status outdir ports report.deliveries) → IfOk r (λ report. Verdict report.status name outdir bytes report.deliveries)
-  judged_some name outdir ports (Ok report) first d = Verdict-decision name outdir ports first report.status report.deliveries d
+  pub judged_some : (name outdir : List ℕ) (ports : List FirstPort) (r : Result Report Memory)
+      → first_of tree ≡ Some ports
+      → IfOk r (λ report. Decision report.status outdir ports report.deliveries)
+      → IfOk r (λ report. Verdict report.status name outdir bytes report.deliveries)
+  judged_some name outdir ports (Ok report) first d =
+      Verdict-decision name outdir ports first report.status report.deliveries d
   judged_some name outdir ports (Err fault) first d = tt
 
-  pub judged_none : (name outdir : List ℕ) (r : Result Report Memory) → first_of tree ≡ None → IfOk r (λ report. report ≡ one_line s.Source (refusal_line name None))
+  pub judged_none : (name outdir : List ℕ) (r : Result Report Memory) → first_of tree ≡ None
+      → IfOk r (λ report. report ≡ one_line s.Source (refusal_line name None))
       → IfOk r (λ report. Verdict report.status name outdir bytes report.deliveries)
-  judged_none name outdir (Ok report) none is = subst (λ r. Verdict r.status name outdir bytes r.deliveries) (sym is) (Refused-first name _ none refl)
+  judged_none name outdir (Ok report) none is =
+      subst (λ r. Verdict r.status name outdir bytes r.deliveries) (sym is) (Refused-first name _ none refl)
   judged_none name outdir (Err fault) none is = tt
 
-pub Refused-turned : (bytes name : List ℕ) (fault : TextFault) (report : List Delivery) → Turns (IsSourceOf bytes) (IsRefused bytes) fault
+pub Refused-turned : (bytes name : List ℕ) (fault : TextFault) (report : List Delivery)
+    → Turns (IsSourceOf bytes) (IsRefused bytes) fault
     → report ≡ Line (refusal_line name (Some fault)) ∷ [] → Refused name bytes report
 Refused-turned bytes name fault report turned is = record {
   refusal = Some fault;
@@ -176,17 +208,23 @@ Refused-turned bytes name fault report turned is = record {
     only None h = absurd (turned.none h.tree h.source)
 
 -- a report on what is refused is a verdict on the bytes
-pub Verdict-refused : (bytes name outdir : List ℕ) (fault : TextFault) (report : Report) → Reads (IsSourceOf bytes) (IsRefused bytes) (Err fault)
+pub Verdict-refused : (bytes name outdir : List ℕ) (fault : TextFault) (report : Report)
+    → Reads (IsSourceOf bytes) (IsRefused bytes) (Err fault)
     → Reports fault name report → Verdict report.status name outdir bytes report.deliveries
 Verdict-refused bytes name outdir (text.Lex f) report turned is =
-    subst (λ r. Verdict r.status name outdir bytes r.deliveries) (sym is) (Refused-turned bytes name (text.Lex f) _ turned refl)
+    subst (λ r. Verdict r.status name outdir bytes r.deliveries) (sym is)
+    (Refused-turned bytes name (text.Lex f) _ turned refl)
 Verdict-refused bytes name outdir (text.Prep f) report turned is =
-    subst (λ r. Verdict r.status name outdir bytes r.deliveries) (sym is) (Refused-turned bytes name (text.Prep f) _ turned refl)
+    subst (λ r. Verdict r.status name outdir bytes r.deliveries) (sym is)
+    (Refused-turned bytes name (text.Prep f) _ turned refl)
 Verdict-refused bytes name outdir (text.Parse f) report turned is =
-    subst (λ r. Verdict r.status name outdir bytes r.deliveries) (sym is) (Refused-turned bytes name (text.Parse f) _ turned refl)
+    subst (λ r. Verdict r.status name outdir bytes r.deliveries) (sym is)
+    (Refused-turned bytes name (text.Parse f) _ turned refl)
 Verdict-refused bytes name outdir text.Memory report turned is = absurd is
 
-pub judged_refused : (bytes name outdir : List ℕ) (fault : TextFault) (r : Result Report Memory) → Reads (IsSourceOf bytes) (IsRefused bytes) (Err fault)
-    → IfOk r (λ report. Reports fault name report) → IfOk r (λ report. Verdict report.status name outdir bytes report.deliveries)
+pub judged_refused : (bytes name outdir : List ℕ) (fault : TextFault) (r : Result Report Memory)
+    → Reads (IsSourceOf bytes) (IsRefused bytes) (Err fault)
+    → IfOk r (λ report. Reports fault name report)
+    → IfOk r (λ report. Verdict report.status name outdir bytes report.deliveries)
 judged_refused bytes name outdir fault (Ok report) turned is = Verdict-refused bytes name outdir fault report turned is
 judged_refused bytes name outdir fault (Err e) turned is = tt

@@ -69,7 +69,8 @@ step_hint fault = pos 0
 
 -- the line that is put where a step is refused
 abbrev pub step_line : StepFault → List ℕ
-step_line fault = three_values (codes "refused step") (step_number fault) (step_id fault) (signed_decimal (step_hint fault))
+step_line fault =
+    three_values (codes "refused step") (step_number fault) (step_id fault) (signed_decimal (step_hint fault))
 
 abbrev pub refuted_line : ℕ → List ℕ
 refuted_line id = spaced (codes "refuted") (decimal id ++ (10 ∷ []))

@@ -1,5 +1,5 @@
--- Why a text is no module of the first form, and the line that says so: the part, its number for the refusal, the place and
--- the other values. Rules of this project.
+-- Why a text is no module of the first form, and the line that says so: the part, its number for the refusal, the
+-- place and the other values. Rules of this project.
 use Rattle.std.specs.Prelude.{◌≡◌, ℕ, List, [], ◌∷◌, ◌++◌, Option, None, Some, codes, decimal}
 use Rattle.fv_base.specs.declared.pos.Pos.{Pos}
 use Rattle.vl_token.specs.declared.fault.LexFault.{LexFault}
@@ -81,10 +81,12 @@ abbrev pub lex_line : List ℕ → LexFault → List ℕ
 lex_line name fault = source_line (codes "source lex") (number_of fault) (place_text name (lex_place fault)) (codes "-")
 
 abbrev pub prep_line : List ℕ → PrepFault → List ℕ
-prep_line name fault = source_line (codes "source prep") (prep_number fault) (place_text name (fault_place fault)) (prep_detail fault)
+prep_line name fault =
+    source_line (codes "source prep") (prep_number fault) (place_text name (fault_place fault)) (prep_detail fault)
 
 abbrev pub parse_line : List ℕ → ParseFault → List ℕ
-parse_line name fault = source_line (codes "source parse") (parse_number fault) (place_text name (parse_place fault)) (parse_detail fault)
+parse_line name fault =
+    source_line (codes "source parse") (parse_number fault) (place_text name (parse_place fault)) (parse_detail fault)
 
 -- want of memory has no line
 abbrev pub fault_line : List ℕ → TextFault → List ℕ

@@ -1,5 +1,5 @@
--- What a run delivers, in the order of its work: files that are made to hold bytes, and lines on the output; and how far
--- it came with them. Rules of this project.
+-- What a run delivers, in the order of its work: files that are made to hold bytes, and lines on the output; and how
+-- far it came with them. Rules of this project.
 use Rattle.std.specs.Prelude.{◌≡◌, ℕ, List, [], ◌∷◌, ◌++◌, Option, Some, None, Result, Ok, Err}
 use Rattle.fv_base.specs.Outside.{Told, Rose, IsPrefix, SameFiles, Holds, HoldsPart, Appends, AppendsPart, with_file}
 use Rattle.fv_base.specs.declared.out.OutFault.{OutFault}
@@ -16,7 +16,8 @@ pub record Outside : Type 0 where
   pub out_faults : ℕ
 
 abbrev pub outside : Told → ℕ → ℕ → Option (List ℕ) → ℕ → Outside
-outside held misses faults sent out_faults = record { held = held; misses = misses; faults = faults; sent = sent; out_faults = out_faults }
+outside held misses faults sent out_faults =
+    record { held = held; misses = misses; faults = faults; sent = sent; out_faults = out_faults }
 
 -- what is told of the files once the name holds these bytes
 abbrev pub told_with : Told → List ℕ → List ℕ → Told
@@ -46,13 +47,15 @@ pub record PutsPart (sent sent_now : Option (List ℕ)) (lines line : List ℕ) 
   pub is_part : IsPrefix part line
   pub put : Appends sent sent_now (lines ++ part)
 
--- Those that are done came through. The next one failed, which was counted: the file holds what it held or a prefix of the
--- bytes, or a prefix of the line was put; and nothing else changed.
+-- Those that are done came through. The next one failed, which was counted: the file holds what it held or a prefix
+-- of the bytes, or a prefix of the line was put; and nothing else changed.
 abbrev pub LeavesPart : Outside → Outside → List Delivery → Delivery → Type 0
 LeavesPart before now done (File name bytes) =
-    HoldsPart (held_after before.held done) now.held name bytes × Appends before.sent now.sent (lines_of done) × Rose before.faults now.faults
+    HoldsPart (held_after before.held done) now.held name bytes × Appends before.sent now.sent (lines_of done)
+    × Rose before.faults now.faults
 LeavesPart before now done (Line bytes) =
-    SameFiles (held_after before.held done) now.held × PutsPart before.sent now.sent (lines_of done) bytes × Rose before.out_faults now.out_faults
+    SameFiles (held_after before.held done) now.held × PutsPart before.sent now.sent (lines_of done) bytes
+    × Rose before.out_faults now.out_faults
 
 -- one of them failed, and none behind it was begun
 pub record Fails (before now : Outside) (deliveries : List Delivery) : Type 0 where
@@ -84,7 +87,8 @@ IsDone (Err out.Memory) before now delivery = Delivers before now []
 -- what a call left that writes a file
 abbrev pub IsWritten : Result (Unit {0}) OutFault → Told → Told → ℕ → ℕ → List ℕ → List ℕ → Type 0
 IsWritten (Ok u) held held_now faults faults_now name bytes = Holds held held_now name bytes
-IsWritten (Err out.Failed) held held_now faults faults_now name bytes = HoldsPart held held_now name bytes × Rose faults faults_now
+IsWritten (Err out.Failed) held held_now faults faults_now name bytes =
+    HoldsPart held held_now name bytes × Rose faults faults_now
 IsWritten (Err out.Memory) held held_now faults faults_now name bytes = SameFiles held held_now
 
 -- what a call left that puts a line

@@ -1,5 +1,6 @@
 -- What an answer of the top call means: its cause, and its report. Rules of this project.
-use Rattle.std.specs.Prelude.{◌≡◌, ℕ, ◌+◌, ◌-◌, ◌^◌, Bool, true, false, ◌||◌, nat_le, min, List, [], ◌∷◌, Option, Some, None, IfSome, ◌==◌}
+use Rattle.std.specs.Prelude.{◌≡◌, ℕ, ◌+◌, ◌-◌, ◌^◌, Bool, true, false, ◌||◌, nat_le, min, List, [], ◌∷◌, Option}
+use Rattle.std.specs.Prelude.{Some, None, IfSome, ◌==◌}
 use Rattle.fv_base.specs.Outside.{Names, Told, Rose, ReadGives}
 use Rattle.vl_first.specs.Plain.{is_among}
 use Rattle.vl_first.specs.Violation.{violates}
@@ -161,8 +162,11 @@ comes_in_budget wanted status = comes wanted status || (code_of status == 2)
 pub record IsExact (status : Status) (r : Run) : Type 0 where
   pub usage : command_of r.words ≡ None → comes s.Usage status ≡ true
   pub absent : Lacking r → comes s.Absent status ≡ true
-  pub source : (bytes : List ℕ) (refusal : Option TextFault) → Holding r bytes → Refuses refusal bytes → comes s.Source status ≡ true
-  pub pass : (bytes : List ℕ) (ports : List FirstPort) → Holding r bytes → IsFirst bytes ports → NoneViolate ports → comes_in_budget s.Passed status ≡ true
+  pub source : (bytes : List ℕ) (refusal : Option TextFault) → Holding r bytes → Refuses refusal bytes
+      → comes s.Source status ≡ true
+  pub pass : (bytes : List ℕ) (ports : List FirstPort) → Holding r bytes → IsFirst bytes ports → NoneViolate ports
+      → comes_in_budget s.Passed status ≡ true
   pub fail : (bytes : List ℕ) (ports : List FirstPort) (numbers : List ℕ)
       → Holding r bytes → IsFirst bytes ports → violates ports numbers ≡ true → comes_in_budget s.Failing status ≡ true
-  pub certificate : (clauses steps : List ℕ) → HoldingBoth r clauses steps → comes (outcome clauses steps).status status ≡ true
+  pub certificate : (clauses steps : List ℕ) → HoldingBoth r clauses steps
+      → comes (outcome clauses steps).status status ≡ true

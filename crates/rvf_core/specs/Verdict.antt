@@ -29,7 +29,8 @@ path folder name = folder ++ (47 ∷ name)
 -- the text of the formula in one file, that of the steps in a second one, and then a line
 abbrev pub certified : List ℕ → Cnf → List Step → List ℕ → List Delivery
 certified outdir formula steps line =
-    File (path outdir (codes "ill_ch0.cnf")) (dimacs_text [] formula) ∷ File (path outdir (codes "ill_ch0.lrat")) (lrat_text steps) ∷ Line line ∷ []
+    File (path outdir (codes "ill_ch0.cnf")) (dimacs_text [] formula)
+    ∷ File (path outdir (codes "ill_ch0.lrat")) (lrat_text steps) ∷ Line line ∷ []
 
 -- no numbers for the ports violate
 abbrev pub NoneViolate : List FirstPort → Type 0
@@ -50,9 +51,9 @@ pub record Approves (outdir : List ℕ) (ports : List FirstPort) (report : List 
   pub refutes : Refutes formula.clauses steps id
   pub report_is : report ≡ certified outdir formula steps pass_line
 
--- The budget is used up: the files hold a formula of the numbers that violate, and steps each of which is valid, a resolvent
--- of its hints and new to unit propagation, none of them empty, whose different added clauses that aren't the formula's are
--- as many as the budget. This takes a formula of so many variables.
+-- The budget is used up: the files hold a formula of the numbers that violate, and steps each of which is valid, a
+-- resolvent of its hints and new to unit propagation, none of them empty, whose different added clauses that aren't
+-- the formula's are as many as the budget. This takes a formula of so many variables.
 pub record Exhausts (outdir : List ℕ) (ports : List FirstPort) (report : List Delivery) : Type 0 where
   pub formula : Cnf
   pub describes : Describes formula ports
@@ -76,7 +77,8 @@ Decision s.Failing outdir ports report = Convicts ports report
 Decision s.Spent outdir ports report = Exhausts outdir ports report
 Decision status outdir ports report = ⊥
 
--- the bytes are a text of the first form with these ports and no others, nothing refuses it, and the status decides on its ports
+-- the bytes are a text of the first form with these ports and no others, nothing refuses it, and the status decides
+-- on its ports
 pub record Decides (status : Status) (outdir bytes : List ℕ) (report : List Delivery) : Type 0 where
   pub ports : List FirstPort
   pub first : IsFirst bytes ports

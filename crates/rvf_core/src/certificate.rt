@@ -2,7 +2,9 @@
 
 ghost use Rattle.std.specs.Prelude.{◌≡◌, ◌++◌, ◌∷◌, [], IfOk, OnOk, codes, decimal};
 ghost use Rattle.std.specs.Fmt.{signed_decimal};
-ghost use Rattle.rvf_core.specs.Certificate.{line_in_cnf, cnf_line, line_in_lrat, lrat_line, step_id, step_hint, step_line, refuted_line, two_values, three_values, judgement, proof_report, outcome};
+ghost use Rattle.rvf_core.specs.Certificate.{line_in_cnf, cnf_line, line_in_lrat, lrat_line, step_id, step_hint};
+ghost use Rattle.rvf_core.specs.Certificate.{step_line, refuted_line, two_values, three_values, judgement};
+ghost use Rattle.rvf_core.specs.Certificate.{proof_report, outcome};
 ghost use Rattle.lrat_check.specs.Steps.{AreSteps, judged};
 ghost use Rattle.lrat_check.specs.Texts.{steps_of};
 

@@ -51,7 +51,8 @@ fn deliver_one<F: Files, O: Out>(
 
 /// Makes the file hold the bytes.
 fn write<F: Files>(alloc: Global, name: &[u8], bytes: &[u8], files: &mut F) -> Result<(), OutFault>
-    ensures written { IsWritten result (F.held files.old) (F.held files.new) (F.faults files.old) (F.faults files.new) name.now bytes.now }
+    ensures written { IsWritten result (F.held files.old) (F.held files.new) (F.faults files.old)
+        (F.faults files.new) name.now bytes.now }
     ensures misses_kept { F.misses files.new ≡ F.misses files.old }
     ensures faults_grow { F.faults files.old ≤ F.faults files.new }
 {

@@ -20,12 +20,14 @@ use std::thread::Threads;
 
 /// Does what the words ask for, delivers what it found, and answers how it ended.
 ///
-/// `words` are the words behind the program's name. `run FILE OUTDIR` checks a file of the first form, one Verilog module
-/// without registers, for `ill` of channel 0: an instruction whose word ends in 16 zero bits traps, and writes neither a
-/// register nor memory. `pass ill_ch0` comes behind the files `OUTDIR/ill_ch0.cnf` and `OUTDIR/ill_ch0.lrat`: clauses, and
-/// steps that refute them. So does `spent ill_ch0 200000`, with as many steps, where the search has learnt so many clauses.
-/// `fail ill_ch0` has one line `NAME VALUE` for each port but `clock` and `reset`. `lrat CNF PROOF` checks that the steps of
-/// a proof refute the clauses of a file: `refuted ID`; or one of `refused cnf C LINE`, `refused lrat C LINE` and
+/// `words` are the words behind the program's name. `run FILE OUTDIR` checks a file of the first form, one Verilog
+/// module without registers, for `ill` of channel 0: an instruction whose word ends in 16 zero bits traps, and writes
+/// neither a register nor memory. `pass ill_ch0` comes behind the files `OUTDIR/ill_ch0.cnf` and
+/// `OUTDIR/ill_ch0.lrat`: clauses, and steps that refute them. So does `spent ill_ch0 200000`, with as many steps,
+/// where the search has learnt so many clauses.
+/// `fail ill_ch0` has one line `NAME VALUE` for each port but `clock` and `reset`. `lrat CNF PROOF` checks that the
+/// steps of a proof refute the clauses of a file: `refuted ID`; or one of `refused cnf C LINE`, `refused lrat C LINE`
+/// and
 /// `refused step C ID HINT`. Other refusals have a line of their own.
 pub fn run<R: Threads + Sync, F: Files, O: Out>(
     _rt: &R,

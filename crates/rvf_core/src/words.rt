@@ -6,7 +6,8 @@ use crate::request::Request;
 
 /// None exactly where the words are other words than `run FILE OUTDIR` and `lrat CNF PROOF`.
 pub(crate) fn request_of(words: &[String]) -> Option<Request<'_>>
-    ensures { MatchOption result (command_of (map string_bytes words.now) ≡ None) (λ asked. command_of (map string_bytes words.now) ≡ Some (command asked)) }
+    ensures { MatchOption result (command_of (map string_bytes words.now) ≡ None)
+        (λ asked. command_of (map string_bytes words.now) ≡ Some (command asked)) }
 {
     match words {
         [word, file, outdir] if word.as_str() == "run" => Some(Request::Check(

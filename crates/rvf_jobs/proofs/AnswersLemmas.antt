@@ -1,5 +1,6 @@
 -- From the results of jobs that are all done to their answers.
-use Rattle.std.proofs.Common.{◌≡◌, ℕ, zero, suc, ◌+◌, ◌<◌, List, [], ◌∷◌, length, map, Some, Result, Ok, IfOk, slice_get, get_or, refl, sym, ap, ◌∙◌, subst, arith}
+use Rattle.std.proofs.Common.{◌≡◌, ℕ, zero, suc, ◌+◌, ◌<◌, List, [], ◌∷◌, length, map, Some, Result, Ok, IfOk}
+use Rattle.std.proofs.Common.{slice_get, get_or, refl, sym, ap, ◌∙◌, subst, arith}
 use Rattle.rvf_jobs.specs.Answers.{AreAnswers}
 
 module _ {A : Type 0} (E : Type 0) where
@@ -15,7 +16,8 @@ module _ {A : Type 0} (E : Type 0) where
   done_at (a ∷ answers) (suc i) answer d found = let h = done_at answers i answer d found in (omega (arith, h.0), h.1)
 
   pub AreAnswers-of_results : (P : ℕ → A → Type 0) (first count : ℕ) (results : List (Result A E)) (answers : List A)
-      → length results ≡ count → ((i : ℕ) (d : Result A E) → i < count → IfOk (get_or results i d) (λ answer. P (first + i) answer))
+      → length results ≡ count → ((i : ℕ) (d : Result A E) → i < count
+      → IfOk (get_or results i d) (λ answer. P (first + i) answer))
       → map (λ answer. Ok answer) answers ≡ results → AreAnswers P first count answers
   AreAnswers-of_results P first count results answers whole each all = record {
     whole = sym (length-done answers) ∙ ap length all ∙ whole;

@@ -34,7 +34,8 @@ fn results<R: Threads + Sync, J: Job>(
 ) -> Result<Vec<Result<J::Answer, Memory>>, Memory>
     requires { first + count < 2 ^ 32 }
     ensures len { IfOk result (λ results. length results.items ≡ count) }
-    ensures each { IfOk result (λ results. (i : ℕ) (d : _) → i < count → IfOk (slice_index_or results.items i d) (λ answer. J.is_answer job.now (first + i) answer)) }
+    ensures each { IfOk result (λ results. (i : ℕ) (d : _) → i < count
+        → IfOk (slice_index_or results.items i d) (λ answer. J.is_answer job.now (first + i) answer)) }
 {
     Ok(thread::map_indices(
         rt,

@@ -8,7 +8,8 @@ use Rattle.rvf_text.specs.Predefined.{prologue, none, ArePredefinedFor}
 use Rattle.rvf_text.specs.declared.macros.Core.{Core}
 use Rattle.rvf_text.proofs.Preparing.{ok_same}
 
-module _ (core : Core) (text : List ℕ) (tokens : List Token) (empty macros : Held) (output : List Token) (is : text ≡ prologue core) (lexes : AreTokens 0 1 text tokens)
+module _ (core : Core) (text : List ℕ) (tokens : List Token) (empty macros : Held) (output : List Token)
+    (is : text ≡ prologue core) (lexes : AreTokens 0 1 text tokens)
     (one : (us : List Token) → AreTokens 0 1 text us → us ≡ tokens) (nothing : (name : List ℕ) → empty name ≡ None)
     (prepared : preprocessed empty tokens ≡ Ok (record { macros = macros; output = output })) where
   empty_is : empty ≡ none
@@ -21,7 +22,8 @@ module _ (core : Core) (text : List ℕ) (tokens : List Token) (empty macros : H
   defined_once other p =
       let same : p.tokens ≡ tokens = one p.tokens (subst (λ t. AreTokens 0 1 t p.tokens) (sym is) p.lexes) in
       let done : record_of other p.output ≡ record_of macros output =
-      ok_same (preprocessed none tokens) (record_of other p.output) (record_of macros output) (ap (preprocessed none) (sym same) ∙ p.defined) defined in
+      ok_same (preprocessed none tokens) (record_of other p.output) (record_of macros output)
+      (ap (preprocessed none) (sym same) ∙ p.defined) defined in
       ap (λ d. d.macros) done
     where
       record_of : Held → List Token → Outcome

@@ -12,7 +12,8 @@ use Rattle.rvf_text.specs.declared.fault.TextFault.{TextFault}
 use Rattle.rvf_text.specs.declared.fault.TextFault.TheVariants.{Lex, Prep, Parse, Memory}
 
 module _ (bytes : List ℕ) where
-  module _ (tokens : List Token) (lexes : AreTokens 1 1 bytes tokens) (one : (us : List Token) → AreTokens 1 1 bytes us → us ≡ tokens)
+  module _ (tokens : List Token) (lexes : AreTokens 1 1 bytes tokens)
+      (one : (us : List Token) → AreTokens 1 1 bytes us → us ≡ tokens)
       (unrefused : (f : LexFault) → Refuses f 1 1 bytes → ⊥) where
     tree_there : (tree : Source) → IsSourceOf bytes tree → HasTree tokens tree
     tree_there tree h = subst (λ us. HasTree us tree) (one h.tokens h.lexes) h.has_tree
@@ -23,7 +24,8 @@ module _ (bytes : List ℕ) where
     refused_there (Parse f) p = subst (λ us. PrepRefuses us (Parse f)) (one p.tokens p.lexes) p.refuses
     refused_there Memory p = p
 
-    pub lex_ok : (r : Result Source TextFault) → Reads (HasTree tokens) (PrepRefuses tokens) r → Reads (IsSourceOf bytes) (IsRefused bytes) r
+    pub lex_ok : (r : Result Source TextFault) → Reads (HasTree tokens) (PrepRefuses tokens) r
+        → Reads (IsSourceOf bytes) (IsRefused bytes) r
     lex_ok (Ok tree) t = record {
       is = record { tokens = tokens; lexes = lexes; has_tree = t.is };
       only = λ other h. t.only other (tree_there other h);
@@ -42,7 +44,8 @@ module _ (bytes : List ℕ) where
     }
     lex_ok (Err Memory) t = tt
 
-  turned : (fault : LexFault) → Refuses fault 1 1 bytes → ((us : List Token) → AreTokens 1 1 bytes us → ⊥) → ((g : LexFault) → Refuses g 1 1 bytes → fault ≡ g)
+  turned : (fault : LexFault) → Refuses fault 1 1 bytes → ((us : List Token) → AreTokens 1 1 bytes us → ⊥)
+      → ((g : LexFault) → Refuses g 1 1 bytes → fault ≡ g)
       → Turns (IsSourceOf bytes) (IsRefused bytes) (Lex fault)
   turned fault refuses none one = record {
     is = refuses;
@@ -56,8 +59,10 @@ module _ (bytes : List ℕ) where
       only (Parse f) p = absurd (none p.tokens p.lexes)
       only Memory p = absurd p
 
-  pub lex_err : (fault : LexFault) → OnNotMemory fault (Refuses fault 1 1 bytes) → OnNotMemory fault ((us : List Token) → AreTokens 1 1 bytes us → ⊥)
-      → ((g : LexFault) → Refuses g 1 1 bytes → OnNotMemory fault (fault ≡ g)) → Reads (IsSourceOf bytes) (IsRefused bytes) (Err (of_lex fault))
+  pub lex_err : (fault : LexFault) → OnNotMemory fault (Refuses fault 1 1 bytes)
+      → OnNotMemory fault ((us : List Token) → AreTokens 1 1 bytes us → ⊥)
+      → ((g : LexFault) → Refuses g 1 1 bytes → OnNotMemory fault (fault ≡ g))
+      → Reads (IsSourceOf bytes) (IsRefused bytes) (Err (of_lex fault))
   lex_err (lex.NotAscii at) refuses none one = turned (lex.NotAscii at) refuses none one
   lex_err (lex.BadNumber at) refuses none one = turned (lex.BadNumber at) refuses none one
   lex_err (lex.OpenComment at) refuses none one = turned (lex.OpenComment at) refuses none one

@@ -36,12 +36,14 @@ record IsStopped (ts : List Token) (fault : ParseFault) : Type 0 where
   fault_is : fault ≡ fault_of ts stop
 
 by_faulty : (ts : List Token) (fault : ParseFault) → IsOfFaulty ts fault → IsStopped ts fault
-by_faulty ts fault m = record { stop = syntax m.left; stops = only_syntax ts m.left m.faulty m.shallow; fault_is = m.named }
+by_faulty ts fault m =
+    record { stop = syntax m.left; stops = only_syntax ts m.left m.faulty m.shallow; fault_is = m.named }
 
 stopped : (ts : List Token) (fault : ParseFault) → IsMisparsed ts fault → IsStopped ts fault
 stopped ts (parse.Syntax p) m = by_faulty ts (parse.Syntax p) m
 stopped ts (parse.Outside p word) m = by_faulty ts (parse.Outside p word) m
-stopped ts (parse.TooDeep p) m = record { stop = deep m.left; stops = only_deep (kinds_of ts) m.left m.deep; fault_is = m.placed }
+stopped ts (parse.TooDeep p) m =
+    record { stop = deep m.left; stops = only_deep (kinds_of ts) m.left m.deep; fault_is = m.placed }
 stopped ts parse.Memory m = absurd m
 
 pub parse_ok : (ts : List Token) (tree : Source) → Spells (spell_source tree) ts [] → IsSource tree → IsShallow tree
@@ -63,7 +65,8 @@ parse_ok ts tree spelled formed shallow one = record {
     unrefused (Prep f) p = p
     unrefused Memory p = p
 
-misparse : (ts : List Token) (fault : ParseFault) → IsMisparsed ts fault → Turns (IsTree ts) (ParseRefuses ts) (Parse fault)
+misparse : (ts : List Token) (fault : ParseFault) → IsMisparsed ts fault
+    → Turns (IsTree ts) (ParseRefuses ts) (Parse fault)
 misparse ts fault m = record {
   is = m;
   only = λ other p. only other p;
@@ -82,7 +85,8 @@ misparse ts fault m = record {
     only (Prep f) p = absurd p
     only Memory p = absurd p
 
-pub parse_err : (ts : List Token) (fault : ParseFault) → IsFaultOf ts fault → Reads (IsTree ts) (ParseRefuses ts) (Err (of_parse fault))
+pub parse_err : (ts : List Token) (fault : ParseFault) → IsFaultOf ts fault
+    → Reads (IsTree ts) (ParseRefuses ts) (Err (of_parse fault))
 parse_err ts (parse.Syntax p) m = misparse ts (parse.Syntax p) m
 parse_err ts (parse.TooDeep p) m = misparse ts (parse.TooDeep p) m
 parse_err ts (parse.Outside p w) m = misparse ts (parse.Outside p w) m

@@ -46,15 +46,18 @@ module _ (bytes : List ℕ) where
   abbrev behind : List ℕ → Pos
   behind front = place_after (start_of 1 1) front
 
-  one_more : (p : Piece) (ps : List Piece) (front : List ℕ) (ts : List Token) → AreOf ps (place_after (behind front) (text_of p)) ts → AreOf ps (behind (front ++ text_of p)) ts
+  one_more : (p : Piece) (ps : List Piece) (front : List ℕ) (ts : List Token)
+      → AreOf ps (place_after (behind front) (text_of p)) ts → AreOf ps (behind (front ++ text_of p)) ts
   one_more p ps front ts h = subst (λ q. AreOf ps q ts) (sym (place_after_both (start_of 1 1) front (text_of p))) h
 
-  pieces_in : (ps : List Piece) (front : List ℕ) → bytes ≡ front ++ joined ps → (ts : List Token) → AreOf ps (behind front) ts → AreIn ts
+  pieces_in : (ps : List Piece) (front : List ℕ) → bytes ≡ front ++ joined ps → (ts : List Token)
+      → AreOf ps (behind front) ts → AreIn ts
   pieces_in [] front e ts h = subst AreIn (sym h) (All-nil (IsPlaceIn bytes))
   pieces_in (p ∷ ps) front e ts h =
       taken (is_token p) p (behind front) (AreOf ps (place_after (behind front) (text_of p))) ts
       (record { front = front; rest = joined (p ∷ ps); same = e; at_is = refl })
-      (λ us g. pieces_in ps (front ++ text_of p) (e ∙ sym (append_assoc front (text_of p) (joined ps))) us (one_more p ps front us g)) h
+      (λ us g. pieces_in ps (front ++ text_of p) (e ∙ sym (append_assoc front (text_of p) (joined ps))) us
+      (one_more p ps front us g)) h
 
   tokens_in : (ts : List Token) → AreTokens 1 1 bytes ts → AreIn ts
   tokens_in ts h = pieces_in h.pieces [] h.same ts h.tokens
@@ -70,7 +73,8 @@ module _ (bytes : List ℕ) where
   lexed lex.Memory r = tt
 
   -- where the preprocessor does
-  prepared : (ts : List Token) (f : PrepFault) → AreIn ts → IfSome (fault_place f) (λ at. Contains (places ts) at) → IsPlacedIn bytes (Prep f)
+  prepared : (ts : List Token) (f : PrepFault) → AreIn ts → IfSome (fault_place f) (λ at. Contains (places ts) at)
+      → IsPlacedIn bytes (Prep f)
   prepared ts f h c = IfSome_then (fault_place f) c (λ at i. All-contains (IsPlaceIn bytes) (places ts) at h i)
 
   output_in : (ts output : List Token) → AreIn ts → IsPlaced ts output → All (λ t. IsPlaceIn bytes t.pos) output
@@ -81,16 +85,20 @@ module _ (bytes : List ℕ) where
   start_in = record { front = []; rest = bytes; same = refl; at_is = refl }
 
   module _ (output : List Token) (outputs : All (λ t. IsPlaceIn bytes t.pos) output) where
-    place_or : (o : Option Token) (p : Pos) (i : ℕ) → slice_get output i ≡ o → IsPlaceIn bytes p → IsPlaceIn bytes (parser.place_of o p)
+    place_or : (o : Option Token) (p : Pos) (i : ℕ) → slice_get output i ≡ o → IsPlaceIn bytes p
+        → IsPlaceIn bytes (parser.place_of o p)
     place_or None p i e h = h
     place_or (Some t) p i e h =
-        subst (λ u. IsPlaceIn bytes u.pos) (get_or_from_slice_get output i t t e) (outputs i t (slice_get_within output i t e))
+        subst (λ u. IsPlaceIn bytes u.pos) (get_or_from_slice_get output i t t e)
+        (outputs i t (slice_get_within output i t e))
 
     place_in : (left : ℕ) → IsPlaceIn bytes (place_at output left)
     place_in left =
-        place_or (token_at output left) _ (length output - left) refl (place_or (token_at output 1) parser.start (length output - 1) refl start_in)
+        place_or (token_at output left) _ (length output - left) refl
+        (place_or (token_at output 1) parser.start (length output - 1) refl start_in)
 
-    wrong_in : (p : Pos) (word : Option (List ℕ)) → IsPlaceIn bytes p → IfSome (parse_place (wrong_at p word)) (IsPlaceIn bytes)
+    wrong_in : (p : Pos) (word : Option (List ℕ)) → IsPlaceIn bytes p
+        → IfSome (parse_place (wrong_at p word)) (IsPlaceIn bytes)
     wrong_in p None h = h
     wrong_in p (Some word) h = h
 
@@ -100,7 +108,8 @@ module _ (bytes : List ℕ) where
 
     faulty_in : (f : ParseFault) (left : ℕ) → f ≡ parser.wrong_token output left → IsPlacedIn bytes (Parse f)
     faulty_in f left e =
-        subst (λ g. IfSome (parse_place g) (IsPlaceIn bytes)) (sym e) (named_in (place_at output left) (token_at output left) (place_in left))
+        subst (λ g. IfSome (parse_place g) (IsPlaceIn bytes)) (sym e)
+        (named_in (place_at output left) (token_at output left) (place_in left))
 
     parsed : (f : ParseFault) → IsMisparsed output f → IsPlacedIn bytes (Parse f)
     parsed (parse.Syntax p) m = faulty_in (parse.Syntax p) m.left m.named
@@ -115,10 +124,12 @@ module _ (bytes : List ℕ) where
   refused_in (Parse f) r =
       let done : Outcome = r.refuses.done in
       parsed done.output
-      (output_in r.tokens done.output (tokens_in r.tokens r.lexes) (placed_output r.refuses.prepared.macros r.tokens done r.refuses.prepared.prepared)) f r.refuses.misparsed
+      (output_in r.tokens done.output (tokens_in r.tokens r.lexes)
+      (placed_output r.refuses.prepared.macros r.tokens done r.refuses.prepared.prepared)) f r.refuses.misparsed
   refused_in Memory r = tt
 
-  pub answer_in : (r : Result Source TextFault) → Reads (IsSourceOf bytes) (IsRefused bytes) r → IfErr r (λ fault. IsPlacedIn bytes fault)
+  pub answer_in : (r : Result Source TextFault) → Reads (IsSourceOf bytes) (IsRefused bytes) r
+      → IfErr r (λ fault. IsPlacedIn bytes fault)
   answer_in (Ok tree) t = tt
   answer_in (Err (Lex f)) t = refused_in (Lex f) t.is
   answer_in (Err (Prep f)) t = refused_in (Prep f) t.is

@@ -17,14 +17,16 @@ use Rattle.rvf_text.proofs.Parsing.{err_same, both_ways}
 pub ok_same : {A E : Type 0} (r : Result A E) (a b : A) → r ≡ Ok a → r ≡ Ok b → a ≡ b
 ok_same r a b p q = cc
 
-module _ (tokens : List Token) (macros : Held) (predefined : ArePredefined macros) (one : (other : Held) → ArePredefined other → other ≡ macros) where
+module _ (tokens : List Token) (macros : Held) (predefined : ArePredefined macros)
+    (one : (other : Held) → ArePredefined other → other ≡ macros) where
   module _ (done : Outcome) (prepared : preprocessed macros tokens ≡ Ok done) where
     here : ArePrepared tokens done
     here = record { macros = macros; predefined = predefined; prepared = prepared }
 
     same_done : (other : Outcome) → ArePrepared tokens other → other ≡ done
     same_done other p =
-        ok_same (preprocessed macros tokens) other done (ap (λ m. preprocessed m tokens) (sym (one p.macros p.predefined)) ∙ p.prepared) prepared
+        ok_same (preprocessed macros tokens) other done
+        (ap (λ m. preprocessed m tokens) (sym (one p.macros p.predefined)) ∙ p.prepared) prepared
 
     tree_there : (tree : Source) → HasTree tokens tree → IsTree done.output tree
     tree_there tree h = subst (λ d. IsTree d.output tree) (same_done h.done h.prepared) h.tree_is
@@ -32,11 +34,13 @@ module _ (tokens : List Token) (macros : Held) (predefined : ArePredefined macro
     refused_there : (fault : TextFault) → PrepRefuses tokens fault → ParseRefuses done.output fault
     refused_there (Lex f) p = p
     refused_there (Prep f) p =
-        absurd (both_ways (preprocessed macros tokens) done f prepared (ap (λ m. preprocessed m tokens) (sym (one p.macros p.predefined)) ∙ p.refused))
+        absurd (both_ways (preprocessed macros tokens) done f prepared
+        (ap (λ m. preprocessed m tokens) (sym (one p.macros p.predefined)) ∙ p.refused))
     refused_there (Parse f) p = subst (λ d. ParseRefuses d.output (Parse f)) (same_done p.done p.prepared) p.misparsed
     refused_there Memory p = p
 
-    pub prep_ok : (r : Result Source TextFault) → Reads (IsTree done.output) (ParseRefuses done.output) r → Reads (HasTree tokens) (PrepRefuses tokens) r
+    pub prep_ok : (r : Result Source TextFault) → Reads (IsTree done.output) (ParseRefuses done.output) r
+        → Reads (HasTree tokens) (PrepRefuses tokens) r
     prep_ok (Ok tree) t = record {
       is = record { done = done; prepared = here; tree_is = t.is };
       only = λ other h. t.only other (tree_there other h);
@@ -51,7 +55,8 @@ module _ (tokens : List Token) (macros : Held) (predefined : ArePredefined macro
     }
     prep_ok (Err Memory) t = tt
 
-  turned : (fault : PrepFault) → preprocessed macros tokens ≡ Err fault → Turns (HasTree tokens) (PrepRefuses tokens) (Prep fault)
+  turned : (fault : PrepFault) → preprocessed macros tokens ≡ Err fault
+      → Turns (HasTree tokens) (PrepRefuses tokens) (Prep fault)
   turned fault refused = record {
     is = record { macros = macros; predefined = predefined; refused = refused };
     only = λ other p. only other p;
@@ -59,16 +64,19 @@ module _ (tokens : List Token) (macros : Held) (predefined : ArePredefined macro
   }
     where
       not_done : (done : Outcome) → ArePrepared tokens done → ⊥
-      not_done done p = both_ways (preprocessed macros tokens) done fault (ap (λ m. preprocessed m tokens) (sym (one p.macros p.predefined)) ∙ p.prepared) refused
+      not_done done p = both_ways (preprocessed macros tokens) done fault
+          (ap (λ m. preprocessed m tokens) (sym (one p.macros p.predefined)) ∙ p.prepared) refused
 
       only : (other : TextFault) → PrepRefuses tokens other → other ≡ Prep fault
       only (Lex f) p = absurd p
       only (Prep f) p =
-          ap (λ x. Prep x) (err_same (preprocessed macros tokens) f fault (ap (λ m. preprocessed m tokens) (sym (one p.macros p.predefined)) ∙ p.refused) refused)
+          ap (λ x. Prep x) (err_same (preprocessed macros tokens) f fault
+          (ap (λ m. preprocessed m tokens) (sym (one p.macros p.predefined)) ∙ p.refused) refused)
       only (Parse f) p = absurd (not_done p.done p.prepared)
       only Memory p = absurd p
 
-  pub prep_err : (fault : PrepFault) → OnNotMemory fault (preprocessed macros tokens ≡ Err fault) → Reads (HasTree tokens) (PrepRefuses tokens) (Err (of_prep fault))
+  pub prep_err : (fault : PrepFault) → OnNotMemory fault (preprocessed macros tokens ≡ Err fault)
+      → Reads (HasTree tokens) (PrepRefuses tokens) (Err (of_prep fault))
   prep_err (prep.UnknownMacro name at) p = turned (prep.UnknownMacro name at) p
   prep_err (prep.UnbalancedIf at) p = turned (prep.UnbalancedIf at) p
   prep_err (prep.MacroArgs at) p = turned (prep.MacroArgs at) p

@@ -83,7 +83,8 @@ common =
     ++ (define (codes "rvformal_const_rand_reg") (codes "(* anyconst *) reg")
     ++ (define (codes "rvformal_rand_const_reg") (codes "(* anyconst *) reg")
     ++ (define (codes "RVFI_OUTPUTS") (joined (codes ", ") output fields)
-    ++ (define (codes "RVFI_WIRES") (joined (codes " ") wire fields) ++ define (codes "RVFI_CONN") (joined (codes ", ") connected fields)))))))))
+    ++ (define (codes "RVFI_WIRES") (joined (codes " ") wire fields)
+    ++ define (codes "RVFI_CONN") (joined (codes ", ") connected fields)))))))))
 
 -- the text that defines the macros
 abbrev pub prologue : Core → List ℕ

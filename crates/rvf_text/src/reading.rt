@@ -70,7 +70,8 @@ fn prepared(alloc: Global, tokens: &[Token]) -> Result<Source, TextFault>
     }
 }
 
-/// The tree of a Verilog text, which is lexed as file 1, preprocessed with the macros that are predefined for RV32I, and parsed.
+/// The tree of a Verilog text, which is lexed as file 1, preprocessed with the macros that are predefined for RV32I,
+/// and parsed.
 ///
 /// A fault is that of the first of these parts that refuses.
 pub fn read_source(alloc: Global, bytes: &[u8]) -> Result<Source, TextFault>

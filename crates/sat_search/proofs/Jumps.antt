@@ -1,13 +1,16 @@
 -- Levels are taken off a trail until a learnt clause can join the others.
-use Rattle.std.proofs.Common.{◌≡◌, ℕ, zero, suc, ◌<◌, ◌≤◌, true, false, not, cond, ◌&&◌, ◌||◌, List, [], ◌∷◌, ◌++◌, ℤ, neg_ℤ, length, Option, Some, None, refl, ap, sym, ◌∙◌, inl, inr, arith}
+use Rattle.std.proofs.Common.{◌≡◌, ℕ, zero, suc, ◌<◌, ◌≤◌, true, false, not, cond, ◌&&◌, ◌||◌, List, [], ◌∷◌, ◌++◌, ℤ}
+use Rattle.std.proofs.Common.{neg_ℤ, length, Option, Some, None, refl, ap, sym, ◌∙◌, inl, inr, arith}
 use Rattle.std.specs.Prelude.{slice_get}
 use Rattle.std.specs.Ordering.{int_eq}
-use Rattle.std.proofs.lemmas.Bool.{true≢false, false≢true, cases_Bool, and_from, and_parts, cond-true, cond-false, not_from_false, false_from_ne_true}
+use Rattle.std.proofs.lemmas.Bool.{true≢false, false≢true, cases_Bool, and_from, and_parts, cond-true, cond-false}
+use Rattle.std.proofs.lemmas.Bool.{not_from_false, false_from_ne_true}
 use Rattle.lrat_check.specs.declared.reading.Reading.{Reading}
 use Rattle.lrat_check.specs.declared.reading.Reading.TheVariants as read
 use Rattle.lrat_check.specs.Sets.{has, is_false, first_open, other_open, reading_of, reading}
 use Rattle.lrat_check.specs.Resolved.{is_open}
-use Rattle.sat_search.specs.Trail.{Entries, lits, decides, is_decision, decided, below_at, below, settled, Because, Stand}
+use Rattle.sat_search.specs.Trail.{Entries, lits, decides, is_decision, decided, below_at, below, settled, Because}
+use Rattle.sat_search.specs.Trail.{Stand}
 use Rattle.sat_search.specs.Analysis.{NoneTrue, Within, is_unit}
 use Rattle.sat_search.proofs.Members.{same_is, or_cases, has_tail, any_from, any_none}
 use Rattle.sat_search.proofs.Readings.{Two, unit_to, false_to, open_to}
@@ -33,10 +36,12 @@ another set c t l = elim (cases_Bool (int_eq l t.one)) [
       (and_from (not (is_false set t.two)) (not (int_eq l t.two)) (not_from_false (is_false set t.two) t.two_unfalse)
       (not_from_false (int_eq l t.two) (ap (λ z. int_eq z t.two) (same_is l t.one s) ∙ t.differ)))
   | inr s ↦ any_from (λ m. not (is_false set m) && not (int_eq l m)) c t.one t.has_one
-      (and_from (not (is_false set t.one)) (not (int_eq l t.one)) (not_from_false (is_false set t.one) t.one_unfalse) (not_from_false (int_eq l t.one) s))
+      (and_from (not (is_false set t.one)) (not (int_eq l t.one)) (not_from_false (is_false set t.one) t.one_unfalse)
+      (not_from_false (int_eq l t.one) s))
 ]
 
-open_first : (set c : List ℤ) (t : Two set c) (o : Option ℤ) → first_open set c ≡ o → reading_of o (λ l. other_open set l c) ≡ read.Open
+open_first : (set c : List ℤ) (t : Two set c) (o : Option ℤ) → first_open set c ≡ o
+    → reading_of o (λ l. other_open set l c) ≡ read.Open
 open_first set c t None e = absurd (some_open set c t.one t.has_one t.one_unfalse e)
 open_first set c t (Some l) e = ap (λ b. cond b read.Open (read.Unit l)) (another set c t l)
 
@@ -73,36 +78,54 @@ blocks_open r (e ∷ t) w n =
     let n2 = none_less (lits t) (lits (e ∷ t)) r inside n in
     (λ d. ap is_open (open_from (lits t) r w2 n2), blocks_open r t w2 n2)
 
-blocks_below_at : (r : List ℤ) (reason : Option ℕ) (t : Entries) → ((decides reason || decided t) ≡ true → Two (lits (below_at reason t (below t))) r × NoneTrue (lits (below_at reason t (below t))) r) → ((decided t ≡ true → Two (lits (below t)) r × NoneTrue (lits (below t)) r) → Blocks r t) → (decides reason ≡ true → is_open (reading (lits t) r) ≡ true) × Blocks r t
-blocks_below_at r None t h rest = let p = h refl in (λ d. ap is_open (open_from (lits t) r p.0 p.1), blocks_open r t p.0 p.1)
+blocks_below_at : (r : List ℤ) (reason : Option ℕ) (t : Entries)
+    → ((decides reason || decided t) ≡ true → Two (lits (below_at reason t (below t))) r
+    × NoneTrue (lits (below_at reason t (below t))) r)
+    → ((decided t ≡ true → Two (lits (below t)) r × NoneTrue (lits (below t)) r) → Blocks r t)
+    → (decides reason ≡ true → is_open (reading (lits t) r) ≡ true) × Blocks r t
+blocks_below_at r None t h rest =
+    let p = h refl in (λ d. ap is_open (open_from (lits t) r p.0 p.1), blocks_open r t p.0 p.1)
 blocks_below_at r (Some place) t h rest = (λ d. absurd (false≢true d), rest h)
 
-blocks_below : (r : List ℤ) (t : Entries) → (decided t ≡ true → Two (lits (below t)) r × NoneTrue (lits (below t)) r) → Blocks r t
+blocks_below : (r : List ℤ) (t : Entries) → (decided t ≡ true → Two (lits (below t)) r × NoneTrue (lits (below t)) r)
+    → Blocks r t
 blocks_below r [] h = tt
 blocks_below r (e ∷ t) h = blocks_below_at r e.reason t h (blocks_below r t)
 
 none_some : (c : List ℤ) → None ≡ Some c → ⊥
 none_some c e = cc
 
-get_more : (cs : List (List ℤ)) (r : List ℤ) (place : ℕ) (c : List ℤ) → slice_get cs place ≡ Some c → slice_get (cs ++ r ∷ []) place ≡ Some c
+get_more : (cs : List (List ℤ)) (r : List ℤ) (place : ℕ) (c : List ℤ) → slice_get cs place ≡ Some c
+    → slice_get (cs ++ r ∷ []) place ≡ Some c
 get_more [] r place c e = absurd (none_some c e)
 get_more (d ∷ ds) r zero c e = e
 get_more (d ∷ ds) r (suc place) c e = get_more ds r place c e
 
-settled_more : (cs : List (List ℤ)) (r set : List ℤ) → settled cs set ≡ true → is_open (reading set r) ≡ true → settled (cs ++ r ∷ []) set ≡ true
+settled_more : (cs : List (List ℤ)) (r set : List ℤ) → settled cs set ≡ true → is_open (reading set r) ≡ true
+    → settled (cs ++ r ∷ []) set ≡ true
 settled_more [] r set s o = and_from (is_open (reading set r)) true o refl
-settled_more (c ∷ cs) r set s o = let p = and_parts (is_open (reading set c)) (settled cs set) s in and_from (is_open (reading set c)) (settled (cs ++ r ∷ []) set) p.0 (settled_more cs r set p.1 o)
+settled_more (c ∷ cs) r set s o = let p = and_parts (is_open (reading set c)) (settled cs set) s
+    in and_from (is_open (reading set c)) (settled (cs ++ r ∷ []) set) p.0 (settled_more cs r set p.1 o)
 
-because_more : (cs : List (List ℤ)) (r set : List ℤ) (lit : ℤ) (reason : Option ℕ) → Because cs set lit reason → (decides reason ≡ true → is_open (reading set r) ≡ true) → Because (cs ++ r ∷ []) set lit reason
+because_more : (cs : List (List ℤ)) (r set : List ℤ) (lit : ℤ) (reason : Option ℕ) → Because cs set lit reason
+    → (decides reason ≡ true → is_open (reading set r) ≡ true) → Because (cs ++ r ∷ []) set lit reason
 because_more cs r set lit None b o = settled_more cs r set b (o refl)
 because_more cs r set lit (Some place) b o = (b.0, get_more cs r place b.0 b.1, b.2)
 
 stand_more : (cs : List (List ℤ)) (r : List ℤ) (t : Entries) → Stand cs t → Blocks r t → Stand (cs ++ r ∷ []) t
 stand_more cs r [] s b = tt
-stand_more cs r (e ∷ t) s b =
-    (record { lit = s.0.lit; free = s.0.free; unfalse = s.0.unfalse; because = because_more cs r (lits t) e.lit e.reason s.0.because b.0 }, stand_more cs r t s.1 b.1)
+stand_more cs r (e ∷ t) s b = (
+  record {
+    lit = s.0.lit;
+    free = s.0.free;
+    unfalse = s.0.unfalse;
+    because = because_more cs r (lits t) e.lit e.reason s.0.because b.0;
+  },
+  stand_more cs r t s.1 b.1,
+)
 
-stand_below_at : (cs : List (List ℤ)) (reason : Option ℕ) (t : Entries) → Stand cs t → Stand cs (below t) → Stand cs (below_at reason t (below t))
+stand_below_at : (cs : List (List ℤ)) (reason : Option ℕ) (t : Entries) → Stand cs t → Stand cs (below t)
+    → Stand cs (below_at reason t (below t))
 stand_below_at cs None t s b = s
 stand_below_at cs (Some place) t s b = b
 
@@ -110,7 +133,8 @@ pub stand_below : (cs : List (List ℤ)) (t : Entries) → Stand cs t → Stand 
 stand_below cs [] s = tt
 stand_below cs (e ∷ t) s = stand_below_at cs e.reason t s.1 (stand_below cs t s.1)
 
-shorter_at : (reason : Option ℕ) (t : Entries) → length (below t) ≤ length t → length (below_at reason t (below t)) ≤ length t
+shorter_at : (reason : Option ℕ) (t : Entries) → length (below t) ≤ length t
+    → length (below_at reason t (below t)) ≤ length t
 shorter_at None t h = omega arith
 shorter_at (Some place) t h = h
 
@@ -122,20 +146,23 @@ pub below_shorter : (t : Entries) → decided t ≡ true → length (below t) < 
 below_shorter [] d = absurd (false≢true d)
 below_shorter (e ∷ t) d = let h = shorter_at e.reason t (below_short t) in omega (arith, h)
 
-two_from : (u r : List ℤ) (l : ℤ) (now : Reading) → reading u r ≡ now → has r l ≡ true → is_false u l ≡ false → NoneTrue u r → is_unit now ≡ false → Two u r
+two_from : (u r : List ℤ) (l : ℤ) (now : Reading) → reading u r ≡ now → has r l ≡ true → is_false u l ≡ false
+    → NoneTrue u r → is_unit now ≡ false → Two u r
 two_from u r l read.True e h f n k = let x = true_has u r e in absurd (false≢true (sym (n x.0 x.1) ∙ x.2))
 two_from u r l read.False e h f n k = absurd (false≢true (sym f ∙ (false_to u r e).0 l h))
 two_from u r l (read.Unit m) e h f n k = absurd (true≢false k)
 two_from u r l read.Open e h f n k = (open_to u r e).0
 
 -- where the levels are taken off as far as the clause stays a unit, it can join the others
-pub joins : (cs : List (List ℤ)) (r : List ℤ) (t : Entries) → Stand cs t → is_unit (reading (lits t) r) ≡ true → (decided t ≡ true → is_unit (reading (lits (below t)) r) ≡ false) → Stand (cs ++ r ∷ []) t
+pub joins : (cs : List (List ℤ)) (r : List ℤ) (t : Entries) → Stand cs t → is_unit (reading (lits t) r) ≡ true
+    → (decided t ≡ true → is_unit (reading (lits (below t)) r) ≡ false) → Stand (cs ++ r ∷ []) t
 joins cs r t s u stop =
     let l = unit_is (reading (lits t) r) u in
     let a = unit_to (lits t) r l.0 l.1 in
     let n = none_less (lits (below t)) (lits t) r (below_within t) a.none in
     stand_more cs r t s (blocks_below r t (λ d. (
       two_from (lits (below t)) r l.0 (reading (lits (below t)) r) refl a.member
-          (false_from_ne_true (is_false (lits (below t)) l.0) (λ h. false≢true (sym a.unfalse ∙ below_within t (neg_ℤ l.0) h))) n (stop d),
+          (false_from_ne_true (is_false (lits (below t)) l.0)
+          (λ h. false≢true (sym a.unfalse ∙ below_within t (neg_ℤ l.0) h))) n (stop d),
       n,
     )))

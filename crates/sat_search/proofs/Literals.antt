@@ -1,5 +1,6 @@
 -- Literals that name variables, and what a set says of a variable.
-use Rattle.std.proofs.Common.{◌≡◌, ℕ, zero, suc, ◌+◌, ◌^◌, ◌<◌, ◌≤◌, true, List, [], ◌∷◌, ◌++◌, ℤ, pos, negsuc, neg_ℤ, Some, None, refl, ap, sym, subst, inl, inr, arith}
+use Rattle.std.proofs.Common.{◌≡◌, ℕ, zero, suc, ◌+◌, ◌^◌, ◌<◌, ◌≤◌, true, List, [], ◌∷◌, ◌++◌, ℤ, pos, negsuc, neg_ℤ}
+use Rattle.std.proofs.Common.{Some, None, refl, ap, sym, subst, inl, inr, arith}
 use Rattle.std.specs.Prelude.{unsigned_abs, slice_get}
 use Rattle.std.specs.Ordering.{int_eq}
 use Rattle.std.proofs.lemmas.Bool.{false≢true}
@@ -47,12 +48,14 @@ none_some c e = cc
 some_is : (c d : List ℤ) → Some c ≡ Some d → c ≡ d
 some_is c d e = cc
 
-pub clause_at : (vars : ℕ) (cs : List (List ℤ)) (place : ℕ) (c : List ℤ) → AreClauses vars cs → slice_get cs place ≡ Some c → AreLiterals vars c
+pub clause_at : (vars : ℕ) (cs : List (List ℤ)) (place : ℕ) (c : List ℤ) → AreClauses vars cs
+    → slice_get cs place ≡ Some c → AreLiterals vars c
 clause_at vars [] place c h e = absurd (none_some c e)
 clause_at vars (d ∷ ds) zero c h e = subst (AreLiterals vars) (some_is d c e) h.0
 clause_at vars (d ∷ ds) (suc place) c h e = clause_at vars ds place c h.1 e
 
-pub clauses_more : (vars : ℕ) (cs : List (List ℤ)) (r : List ℤ) → AreClauses vars cs → AreLiterals vars r → AreClauses vars (cs ++ r ∷ [])
+pub clauses_more : (vars : ℕ) (cs : List (List ℤ)) (r : List ℤ) → AreClauses vars cs → AreLiterals vars r
+    → AreClauses vars (cs ++ r ∷ [])
 clauses_more vars [] r h k = (k, tt)
 clauses_more vars (c ∷ cs) r h k = (h.0, clauses_more vars cs r h.1 k)
 
@@ -67,7 +70,8 @@ pub neg_next : (n : ℕ) → neg_ℤ (pos (n + 1)) ≡ negsuc n
 neg_next n = ap (λ m. neg_ℤ (pos m)) (next n)
 
 -- what holds of each variable and its complement holds of each literal
-pub by_variable : (vars : ℕ) (P : ℤ → Type 0) → ((n : ℕ) → n < vars → P (pos (n + 1))) → ((n : ℕ) → n < vars → P (negsuc n)) → (x : ℤ) → IsLiteral vars x → P x
+pub by_variable : (vars : ℕ) (P : ℤ → Type 0) → ((n : ℕ) → n < vars → P (pos (n + 1)))
+    → ((n : ℕ) → n < vars → P (negsuc n)) → (x : ℤ) → IsLiteral vars x → P x
 by_variable vars P p q (pos zero) h = absurd (omega (arith, h.0))
 by_variable vars P p q (pos (suc n)) h =
     let Q : ℕ → Type 0 = λ m. P (pos m) in

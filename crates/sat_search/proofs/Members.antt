@@ -1,5 +1,6 @@
 -- Sets of literals by what they hold.
-use Rattle.std.proofs.Common.{◌≡◌, Bool, true, false, not, cond, ◌||◌, List, [], ◌∷◌, ◌++◌, ℤ, neg_ℤ, filter, refl, ap, sym, ◌∙◌, ◌⊎◌, inl, inr, arith}
+use Rattle.std.proofs.Common.{◌≡◌, Bool, true, false, not, cond, ◌||◌, List, [], ◌∷◌, ◌++◌, ℤ, neg_ℤ, filter, refl}
+use Rattle.std.proofs.Common.{ap, sym, ◌∙◌, ◌⊎◌, inl, inr, arith}
 use Rattle.std.specs.List.{list_any}
 use Rattle.std.specs.Ordering.{int_eq}
 use Rattle.std.specs.Cmp.{signed_Decides}
@@ -56,7 +57,8 @@ any_has p (l ∷ ls) h = elim (or_cases (p l) (list_any p ls) h) [
 
 pub any_none : (p : ℤ → Bool) (c : List ℤ) → ((x : ℤ) → has c x ≡ true → p x ≡ false) → list_any p c ≡ false
 any_none p [] h = refl
-any_none p (l ∷ ls) h = or_both (p l) (list_any p ls) (h l (has_head l ls)) (any_none p ls (λ x k. h x (has_tail x l ls k)))
+any_none p (l ∷ ls) h =
+    or_both (p l) (list_any p ls) (h l (has_head l ls)) (any_none p ls (λ x k. h x (has_tail x l ls k)))
 
 pub none_at : (p : ℤ → Bool) (c : List ℤ) (x : ℤ) → list_any p c ≡ false → has c x ≡ true → p x ≡ false
 none_at p [] x h k = absurd (false≢true k)
@@ -73,7 +75,8 @@ pub has_append : (a b : List ℤ) (x : ℤ) → has (a ++ b) x ≡ (has a x || h
 has_append [] b x = refl
 has_append (l ∷ ls) b x = ap (λ z. int_eq x l || z) (has_append ls b x) ∙ or_assoc (int_eq x l) (has ls x) (has b x)
 
-cond_has : (b : Bool) (l x : ℤ) (c : List ℤ) → has (cond b (l ∷ c) c) x ≡ true → ((b ≡ true) × (int_eq x l ≡ true)) ⊎ (has c x ≡ true)
+cond_has : (b : Bool) (l x : ℤ) (c : List ℤ) → has (cond b (l ∷ c) c) x ≡ true → ((b ≡ true) × (int_eq x l ≡ true))
+    ⊎ (has c x ≡ true)
 cond_has true l x c h = elim (or_cases (int_eq x l) (has c x) h) [ inl e ↦ inl (refl, e) | inr e ↦ inr e ]
 cond_has false l x c h = inr h
 
@@ -110,16 +113,19 @@ pub without_from : (l : ℤ) (c : List ℤ) (x : ℤ) → has c x ≡ true → i
 without_from l c x h e = filter_from (λ m. not (int_eq l m)) c x h (ap not e)
 
 pub union_has : (a b : List ℤ) (x : ℤ) → has (union a b) x ≡ true → (has a x ≡ true) ⊎ (has b x ≡ true)
-union_has a b x h = elim (or_cases (has (filter (λ l. not (has b l)) a) x) (has b x) (sym (has_append (filter (λ l. not (has b l)) a) b x) ∙ h)) [
-  | inl e ↦ inl (filter_has (λ l. not (has b l)) a x e).0
-  | inr e ↦ inr e
-]
+union_has a b x h = elim (or_cases (has (filter (λ l. not (has b l)) a) x) (has b x)
+    (sym (has_append (filter (λ l. not (has b l)) a) b x) ∙ h)) [
+      | inl e ↦ inl (filter_has (λ l. not (has b l)) a x e).0
+      | inr e ↦ inr e
+    ]
 
 pub union_right : (a b : List ℤ) (x : ℤ) → has b x ≡ true → has (union a b) x ≡ true
-union_right a b x h = has_append (filter (λ l. not (has b l)) a) b x ∙ or_right (has (filter (λ l. not (has b l)) a) x) (has b x) h
+union_right a b x h =
+    has_append (filter (λ l. not (has b l)) a) b x ∙ or_right (has (filter (λ l. not (has b l)) a) x) (has b x) h
 
 pub union_left : (a b : List ℤ) (x : ℤ) → has a x ≡ true → has (union a b) x ≡ true
 union_left a b x h = elim (cases_Bool (has b x)) [
   | inl e ↦ union_right a b x e
-  | inr e ↦ has_append (filter (λ l. not (has b l)) a) b x ∙ or_left (has (filter (λ l. not (has b l)) a) x) (has b x) (filter_from (λ l. not (has b l)) a x h (ap not e))
+  | inr e ↦ has_append (filter (λ l. not (has b l)) a) b x
+      ∙ or_left (has (filter (λ l. not (has b l)) a) x) (has b x) (filter_from (λ l. not (has b l)) a x h (ap not e))
 ]

@@ -1,9 +1,11 @@
 -- Where all clauses are settled and each variable has a value, the trail's values make the clauses true.
-use Rattle.std.proofs.Common.{◌≡◌, ℕ, zero, suc, ◌+◌, ◌-◌, ◌<◌, true, false, List, [], ◌∷◌, ◌++◌, ℤ, pos, negsuc, neg_ℤ, length, get_or, refl, ap, sym, ◌∙◌, inl, inr, length-append, arith}
+use Rattle.std.proofs.Common.{◌≡◌, ℕ, zero, suc, ◌+◌, ◌-◌, ◌<◌, true, false, List, [], ◌∷◌, ◌++◌, ℤ, pos, negsuc}
+use Rattle.std.proofs.Common.{neg_ℤ, length, get_or, refl, ap, sym, ◌∙◌, inl, inr, length-append, arith}
 use Rattle.std.proofs.Math.Seq.{get_or-append_seam}
 use Rattle.std.proofs.lemmas.List.{get_or_append_left}
 use Rattle.std.proofs.lemmas.List.Folds.{list_all-append}
-use Rattle.std.proofs.lemmas.Bool.{false≢true, cases_lt, and_from, and_parts, or_from, not_from_false, false_from_ne_true}
+use Rattle.std.proofs.lemmas.Bool.{false≢true, cases_lt, and_from, and_parts, or_from, not_from_false}
+use Rattle.std.proofs.lemmas.Bool.{false_from_ne_true}
 use Rattle.cnf_form.specs.Cnf.{IsLiteral, AreLiterals, AreClauses, literal_true, clause_true, formula_true, value_of}
 use Rattle.lrat_check.specs.declared.reading.Reading.{Reading}
 use Rattle.lrat_check.specs.declared.reading.Reading.TheVariants as read
@@ -18,14 +20,16 @@ use Rattle.sat_search.proofs.Literals.{literal_at, by_variable, neg_next}
 
 pub length_values : (vars : ℕ) (set : List ℤ) → length (values_of vars set) ≡ vars
 length_values zero set = refl
-length_values (suc n) set = let e = length-append (values_of n set) (has set (pos (n + 1)) ∷ []) in let h = length_values n set in omega (arith, e, h)
+length_values (suc n) set = let e = length-append (values_of n set) (has set (pos (n + 1)) ∷ [])
+    in let h = length_values n set in omega (arith, e, h)
 
 values_at : (vars : ℕ) (set : List ℤ) (n : ℕ) → n < vars → get_or (values_of vars set) n false ≡ has set (pos (n + 1))
 values_at zero set n h = absurd (omega arith)
 values_at (suc m) set n h =
     let long = length_values m set in
     elim (cases_lt n m) [
-      | inl k ↦ get_or_append_left (values_of m set) (has set (pos (m + 1)) ∷ []) false n (omega (arith, long, k)) ∙ values_at m set n k
+      | inl k ↦ get_or_append_left (values_of m set) (has set (pos (m + 1)) ∷ []) false n (omega (arith, long, k))
+          ∙ values_at m set n k
       | inr k ↦
           let e : n ≡ length (values_of m set) = omega (arith, long, k, h) in
           let f : m ≡ n = omega (arith, k, h) in
@@ -34,15 +38,19 @@ values_at (suc m) set n h =
     ]
 
 value_is : (vars : ℕ) (set : List ℤ) (n : ℕ) → n < vars → value_of (values_of vars set) (n + 1) ≡ has set (pos (n + 1))
-value_is vars set n h = let e : n + 1 - 1 ≡ n = omega arith in ap (λ i. get_or (values_of vars set) i false) e ∙ values_at vars set n h
+value_is vars set n h =
+    let e : n + 1 - 1 ≡ n = omega arith in ap (λ i. get_or (values_of vars set) i false) e ∙ values_at vars set n h
 
-module _ (vars : ℕ) (all_clauses : List (List ℤ)) (t : Entries) (s : Stand all_clauses t) (a : AllAssigned vars (lits t)) where
+module _ (vars : ℕ) (all_clauses : List (List ℤ)) (t : Entries) (s : Stand all_clauses t)
+    (a : AllAssigned vars (lits t)) where
   -- a true literal of the trail is true under its values
-  on_trail : (x : ℤ) → IsLiteral vars x → has (lits t) x ≡ true → literal_true (value_of (values_of vars (lits t))) x ≡ true
+  on_trail : (x : ℤ) → IsLiteral vars x → has (lits t) x ≡ true
+      → literal_true (value_of (values_of vars (lits t))) x ≡ true
   on_trail = by_variable vars (λ x. has (lits t) x ≡ true → literal_true (value_of (values_of vars (lits t))) x ≡ true)
       (λ n k h. value_is vars (lits t) n k ∙ h)
       (λ n k h. not_from_false (value_of (values_of vars (lits t)) (n + 1)) (value_is vars (lits t) n k
-      ∙ false_from_ne_true (has (lits t) (pos (n + 1))) (λ f. no_pair all_clauses t s (pos (n + 1)) f (ap (has (lits t)) (neg_next n) ∙ h))))
+      ∙ false_from_ne_true (has (lits t) (pos (n + 1)))
+      (λ f. no_pair all_clauses t s (pos (n + 1)) f (ap (has (lits t)) (neg_next n) ∙ h))))
 
   -- a literal that is neither true nor false has a variable without a value
   valued : (x : ℤ) → IsLiteral vars x → has (lits t) x ≡ false → is_false (lits t) x ≡ false → ⊥
@@ -50,28 +58,35 @@ module _ (vars : ℕ) (all_clauses : List (List ℤ)) (t : Entries) (s : Stand a
       (λ n k h f. false≢true (sym (or_from (has (lits t) (pos (n + 1))) (is_false (lits t) (pos (n + 1))) h f) ∙ a n k))
       (λ n k h f.
       let e : neg_ℤ (negsuc n) ≡ pos (n + 1) = (let q : suc n ≡ n + 1 = omega arith in ap pos q) in
-      false≢true (sym (or_from (has (lits t) (pos (n + 1))) (is_false (lits t) (pos (n + 1))) (ap (has (lits t)) (sym e) ∙ f) (ap (has (lits t)) (neg_next n) ∙ h)) ∙ a n k))
+      false≢true (sym (or_from (has (lits t) (pos (n + 1))) (is_false (lits t) (pos (n + 1)))
+      (ap (has (lits t)) (sym e) ∙ f) (ap (has (lits t)) (neg_next n) ∙ h)) ∙ a n k))
 
-  clause_holds : (c : List ℤ) (now : Reading) → AreLiterals vars c → reading (lits t) c ≡ now → is_open now ≡ true → clause_true (value_of (values_of vars (lits t))) c ≡ true
+  clause_holds : (c : List ℤ) (now : Reading) → AreLiterals vars c → reading (lits t) c ≡ now → is_open now ≡ true
+      → clause_true (value_of (values_of vars (lits t))) c ≡ true
   clause_holds c read.True k e o =
       let x = true_has (lits t) c e in
-      any_from (literal_true (value_of (values_of vars (lits t)))) c x.0 x.1 (on_trail x.0 (literal_at vars c x.0 k x.1) x.2)
+      any_from (literal_true (value_of (values_of vars (lits t)))) c x.0 x.1
+      (on_trail x.0 (literal_at vars c x.0 k x.1) x.2)
   clause_holds c read.False k e o = absurd (false≢true o)
   clause_holds c (read.Unit l) k e o = absurd (false≢true o)
   clause_holds c read.Open k e o =
       let p = open_to (lits t) c e in
       absurd (valued p.0.one (literal_at vars c p.0.one k p.0.has_one) (p.1 p.0.one p.0.has_one) p.0.one_unfalse)
 
-  all_hold : (cs : List (List ℤ)) → AreClauses vars cs → settled cs (lits t) ≡ true → formula_true (value_of (values_of vars (lits t))) cs ≡ true
+  all_hold : (cs : List (List ℤ)) → AreClauses vars cs → settled cs (lits t) ≡ true
+      → formula_true (value_of (values_of vars (lits t))) cs ≡ true
   all_hold [] k h = refl
   all_hold (c ∷ cs) k h =
       let p = and_parts (is_open (reading (lits t) c)) (settled cs (lits t)) h in
-      and_from (clause_true (value_of (values_of vars (lits t))) c) (formula_true (value_of (values_of vars (lits t))) cs)
+      and_from (clause_true (value_of (values_of vars (lits t))) c)
+      (formula_true (value_of (values_of vars (lits t))) cs)
       (clause_holds c (reading (lits t) c) k.0 refl p.0) (all_hold cs k.1 p.1)
 
   -- and so the first of them
-  pub models : (formula learnt : List (List ℤ)) → all_clauses ≡ formula ++ learnt → AreClauses vars all_clauses → settled all_clauses (lits t) ≡ true → formula_true (value_of (values_of vars (lits t))) formula ≡ true
+  pub models : (formula learnt : List (List ℤ)) → all_clauses ≡ formula ++ learnt → AreClauses vars all_clauses
+      → settled all_clauses (lits t) ≡ true → formula_true (value_of (values_of vars (lits t))) formula ≡ true
   models formula learnt e k h =
-      (and_parts (formula_true (value_of (values_of vars (lits t))) formula) (formula_true (value_of (values_of vars (lits t))) learnt)
+      (and_parts (formula_true (value_of (values_of vars (lits t))) formula)
+      (formula_true (value_of (values_of vars (lits t))) learnt)
       (sym (list_all-append (clause_true (value_of (values_of vars (lits t)))) formula learnt)
       ∙ ap (formula_true (value_of (values_of vars (lits t)))) (sym e) ∙ all_hold all_clauses k h)).0

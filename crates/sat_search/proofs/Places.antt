@@ -1,5 +1,6 @@
 -- The places of a trail's literals after a change.
-use Rattle.std.proofs.Common.{◌≡◌, ℕ, zero, suc, ◌-◌, ◌<◌, ◌≤◌, Bool, true, false, cond, ltb, ◌||◌, [], ◌∷◌, ℤ, length, drop, Option, Some, None, refl, ap, sym, ◌∙◌, ◌⊎◌, inl, inr, arith}
+use Rattle.std.proofs.Common.{◌≡◌, ℕ, zero, suc, ◌-◌, ◌<◌, ◌≤◌, Bool, true, false, cond, ltb, ◌||◌, [], ◌∷◌, ℤ}
+use Rattle.std.proofs.Common.{length, drop, Option, Some, None, refl, ap, sym, ◌∙◌, ◌⊎◌, inl, inr, arith}
 use Rattle.std.specs.Ordering.{int_eq}
 use Rattle.std.specs.HashMap.{get}
 use Rattle.std.proofs.lemmas.Bool.{false≢true, cases_Bool}
@@ -39,48 +40,65 @@ le_cases (suc a) zero = inr (omega arith)
 le_cases (suc a) (suc b) = elim (le_cases a b) [ inl h ↦ inl (omega (arith, h)) | inr h ↦ inr (omega (arith, h)) ]
 
 module _ (t : Entries) (e : Entry) (m now : Places) where
-  push_same : ArePlaces t m → has (lits t) e.lit ≡ false → (lit : ℤ) (end : ℕ) → lit ≡ e.lit → ltb (length t) end ≡ has (lits (oldest end (e ∷ t))) lit
+  push_same : ArePlaces t m → has (lits t) e.lit ≡ false → (lit : ℤ) (end : ℕ) → lit ≡ e.lit
+      → ltb (length t) end ≡ has (lits (oldest end (e ∷ t))) lit
   push_same p f lit end s = elim (le_cases end (length t)) [
     | inl h ↦ not_below end (length t) h ∙ sym (ap (λ z. has (lits z) lit) (oldest_part e t end h)
-        ∙ false_from_ne_true (has (lits (oldest end t)) lit) (λ k. false≢true (sym f ∙ ap (has (lits t)) (sym s) ∙ in_dropped (length t - end) t lit k)))
-    | inr h ↦ is_below end (length t) h ∙ sym (ap (λ z. has (lits z) lit) (oldest_whole (e ∷ t) end (omega (arith, h))) ∙ ap (λ b. b || has (lits t) lit) (same_self lit e.lit s))
+        ∙ false_from_ne_true (has (lits (oldest end t)) lit)
+        (λ k. false≢true (sym f ∙ ap (has (lits t)) (sym s) ∙ in_dropped (length t - end) t lit k)))
+    | inr h ↦ is_below end (length t) h ∙ sym
+        (ap (λ z. has (lits z) lit) (oldest_whole (e ∷ t) end (omega (arith, h)))
+        ∙ ap (λ b. b || has (lits t) lit) (same_self lit e.lit s))
   ]
 
-  push_other : ArePlaces t m → (lit : ℤ) (end : ℕ) → int_eq lit e.lit ≡ false → lies_below end (get int_eq m lit) ≡ has (lits (oldest end (e ∷ t))) lit
+  push_other : ArePlaces t m → (lit : ℤ) (end : ℕ) → int_eq lit e.lit ≡ false
+      → lies_below end (get int_eq m lit) ≡ has (lits (oldest end (e ∷ t))) lit
   push_other p lit end s = elim (le_cases end (length t)) [
     | inl h ↦ p.at lit end ∙ sym (ap (λ z. has (lits z) lit) (oldest_part e t end h))
     | inr h ↦ p.at lit end ∙ ap (λ z. has (lits z) lit) (oldest_whole t end (omega (arith, h)))
-        ∙ sym (ap (λ z. has (lits z) lit) (oldest_whole (e ∷ t) end (omega (arith, h))) ∙ ap (λ b. b || has (lits t) lit) s)
+        ∙ sym (ap (λ z. has (lits z) lit) (oldest_whole (e ∷ t) end (omega (arith, h)))
+        ∙ ap (λ b. b || has (lits t) lit) s)
   ]
 
   -- the newest entry's literal has the last place
-  pub pushed : ArePlaces t m → has (lits t) e.lit ≡ false → ((lit : ℤ) → get int_eq now lit ≡ cond (int_eq e.lit lit) (Some (length t)) (get int_eq m lit)) → ArePlaces (e ∷ t) now
+  pub pushed : ArePlaces t m → has (lits t) e.lit ≡ false
+      → ((lit : ℤ) → get int_eq now lit ≡ cond (int_eq e.lit lit) (Some (length t)) (get int_eq m lit))
+      → ArePlaces (e ∷ t) now
   pushed p f g = record {
     fresh = (f, p.fresh);
     at = λ lit end. ap (lies_below end) (g lit) ∙ elim (cases_Bool (int_eq e.lit lit)) [
-      | inl s ↦ ap (λ b. lies_below end (cond b (Some (length t)) (get int_eq m lit))) s ∙ push_same p f lit end (sym (same_is e.lit lit s))
-      | inr s ↦ ap (λ b. lies_below end (cond b (Some (length t)) (get int_eq m lit))) s ∙ push_other p lit end (turned e.lit lit s)
+      | inl s ↦ ap (λ b. lies_below end (cond b (Some (length t)) (get int_eq m lit))) s
+          ∙ push_same p f lit end (sym (same_is e.lit lit s))
+      | inr s ↦ ap (λ b. lies_below end (cond b (Some (length t)) (get int_eq m lit))) s
+          ∙ push_other p lit end (turned e.lit lit s)
     ];
   }
 
   -- and where it is taken off, none
-  pub popped : ArePlaces (e ∷ t) m → ((lit : ℤ) → get int_eq now lit ≡ cond (int_eq e.lit lit) None (get int_eq m lit)) → ArePlaces t now
+  pub popped : ArePlaces (e ∷ t) m → ((lit : ℤ)
+      → get int_eq now lit ≡ cond (int_eq e.lit lit) None (get int_eq m lit)) → ArePlaces t now
   popped p g = record {
     fresh = p.fresh.1;
     at = λ lit end. ap (lies_below end) (g lit) ∙ elim (cases_Bool (int_eq e.lit lit)) [
       | inl s ↦ ap (λ b. lies_below end (cond b None (get int_eq m lit))) s
-          ∙ sym (false_from_ne_true (has (lits (oldest end t)) lit) (λ k. false≢true (sym p.fresh.0 ∙ ap (has (lits t)) (same_is e.lit lit s) ∙ in_dropped (length t - end) t lit k)))
-      | inr s ↦ ap (λ b. lies_below end (cond b None (get int_eq m lit))) s ∙ p.at lit end ∙ pop_other lit end (turned e.lit lit s)
+          ∙ sym (false_from_ne_true (has (lits (oldest end t)) lit)
+          (λ k. false≢true (sym p.fresh.0 ∙ ap (has (lits t)) (same_is e.lit lit s)
+          ∙ in_dropped (length t - end) t lit k)))
+      | inr s ↦ ap (λ b. lies_below end (cond b None (get int_eq m lit))) s ∙ p.at lit end
+          ∙ pop_other lit end (turned e.lit lit s)
     ];
   } where
-    pop_other : (lit : ℤ) (end : ℕ) → int_eq lit e.lit ≡ false → has (lits (oldest end (e ∷ t))) lit ≡ has (lits (oldest end t)) lit
+    pop_other : (lit : ℤ) (end : ℕ) → int_eq lit e.lit ≡ false
+        → has (lits (oldest end (e ∷ t))) lit ≡ has (lits (oldest end t)) lit
     pop_other lit end s = elim (le_cases end (length t)) [
       | inl h ↦ ap (λ z. has (lits z) lit) (oldest_part e t end h)
-      | inr h ↦ ap (λ z. has (lits z) lit) (oldest_whole (e ∷ t) end (omega (arith, h))) ∙ ap (λ b. b || has (lits t) lit) s
+      | inr h ↦ ap (λ z. has (lits z) lit) (oldest_whole (e ∷ t) end (omega (arith, h)))
+          ∙ ap (λ b. b || has (lits t) lit) s
           ∙ sym (ap (λ z. has (lits z) lit) (oldest_whole t end (omega (arith, h))))
     ]
 
-below_short_at : (reason : Option ℕ) (t : Entries) → length (below t) ≤ length t → length (below_at reason t (below t)) ≤ length t
+below_short_at : (reason : Option ℕ) (t : Entries) → length (below t) ≤ length t
+    → length (below_at reason t (below t)) ≤ length t
 below_short_at None t h = omega arith
 below_short_at (Some place) t h = h
 
@@ -88,7 +106,8 @@ pub below_short : (t : Entries) → length (below t) ≤ length t
 below_short [] = omega arith
 below_short (e ∷ t) = let h = below_short_at e.reason t (below_short t) in omega (arith, h)
 
-oldest_below_at : (reason : Option ℕ) (e : Entry) (t : Entries) → oldest (length (below t)) t ≡ below t → oldest (length (below_at reason t (below t))) (e ∷ t) ≡ below_at reason t (below t)
+oldest_below_at : (reason : Option ℕ) (e : Entry) (t : Entries) → oldest (length (below t)) t ≡ below t
+    → oldest (length (below_at reason t (below t))) (e ∷ t) ≡ below_at reason t (below t)
 oldest_below_at None e t h = oldest_part e t (length t) (omega arith) ∙ oldest_whole t (length t) (omega arith)
 oldest_below_at (Some place) e t h = oldest_part e t (length (below t)) (below_short t) ∙ h
 

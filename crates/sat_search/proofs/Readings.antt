@@ -1,5 +1,6 @@
 -- How a clause reads, by what the set holds.
-use Rattle.std.proofs.Common.{◌≡◌, Bool, true, false, not, cond, ◌&&◌, List, [], ◌∷◌, ℤ, Option, Some, None, refl, ap, sym, ◌∙◌, ◌⊎◌, inl, inr}
+use Rattle.std.proofs.Common.{◌≡◌, Bool, true, false, not, cond, ◌&&◌, List, [], ◌∷◌, ℤ, Option, Some, None, refl, ap}
+use Rattle.std.proofs.Common.{sym, ◌∙◌, ◌⊎◌, inl, inr}
 use Rattle.std.specs.List.{list_any}
 use Rattle.std.specs.Ordering.{int_eq}
 use Rattle.std.proofs.lemmas.Bool.{false≢true, cases_Bool}
@@ -7,7 +8,8 @@ use Rattle.lrat_check.specs.declared.reading.Reading.{Reading}
 use Rattle.lrat_check.specs.declared.reading.Reading.TheVariants as read
 use Rattle.lrat_check.specs.Sets.{has, is_false, first_open, other_open, reading_of, reading}
 use Rattle.sat_search.specs.Analysis.{NoneTrue, AllFalse}
-use Rattle.sat_search.proofs.Members.{same_is, same_self, or_cases, or_left, has_head, has_tail, any_has, any_none, none_at}
+use Rattle.sat_search.proofs.Members.{same_is, same_self, or_cases, or_left, has_head, has_tail, any_has, any_none}
+use Rattle.sat_search.proofs.Members.{none_at}
 
 -- one literal alone of the clause is open
 pub record Alone (set clause : List ℤ) (l : ℤ) : Type 0 where
@@ -36,7 +38,8 @@ none_some l e = cc
 some_is : (l m : ℤ) → Some l ≡ Some m → l ≡ m
 some_is l m e = cc
 
-first_cond : (b : Bool) (rest : Option ℤ) (m l : ℤ) → cond b rest (Some m) ≡ Some l → ((b ≡ true) × (rest ≡ Some l)) ⊎ ((b ≡ false) × (m ≡ l))
+first_cond : (b : Bool) (rest : Option ℤ) (m l : ℤ) → cond b rest (Some m) ≡ Some l → ((b ≡ true) × (rest ≡ Some l))
+    ⊎ ((b ≡ false) × (m ≡ l))
 first_cond true rest m l e = inl (refl, e)
 first_cond false rest m l e = inr (refl, some_is m l e)
 
@@ -53,14 +56,16 @@ first_is set (m ∷ ms) l e = elim (first_cond (is_false set m) (first_open set 
 
 none_is : (set c : List ℤ) → first_open set c ≡ None → AllFalse set c
 none_is set [] e x h = absurd (false≢true h)
-none_is set (m ∷ ms) e x h = let r = none_cond (is_false set m) (first_open set ms) m e in elim (or_cases (int_eq x m) (has ms x) h) [
-  | inl k ↦ ap (is_false set) (same_is x m k) ∙ r.0
-  | inr k ↦ none_is set ms r.1 x k
-]
+none_is set (m ∷ ms) e x h =
+    let r = none_cond (is_false set m) (first_open set ms) m e in elim (or_cases (int_eq x m) (has ms x) h) [
+      | inl k ↦ ap (is_false set) (same_is x m k) ∙ r.0
+      | inr k ↦ none_is set ms r.1 x k
+    ]
 
 none_from : (set c : List ℤ) → AllFalse set c → first_open set c ≡ None
 none_from set [] a = refl
-none_from set (m ∷ ms) a = ap (λ b. cond b (first_open set ms) (Some m)) (a m (has_head m ms)) ∙ none_from set ms (λ x h. a x (has_tail x m ms h))
+none_from set (m ∷ ms) a = ap (λ b. cond b (first_open set ms) (Some m)) (a m (has_head m ms))
+    ∙ none_from set ms (λ x h. a x (has_tail x m ms h))
 
 cond_unit : (b : Bool) (m l : ℤ) → cond b read.Open (read.Unit m) ≡ read.Unit l → (m ≡ l) × (b ≡ false)
 cond_unit true m l e = absurd (open_unit l e) where
@@ -80,7 +85,8 @@ cond_false : (b : Bool) (m : ℤ) → cond b read.Open (read.Unit m) ≡ read.Fa
 cond_false true m e = cc
 cond_false false m e = cc
 
-unit_parts : (o : Option ℤ) (other : ℤ → Bool) (l : ℤ) → reading_of o other ≡ read.Unit l → (o ≡ Some l) × (other l ≡ false)
+unit_parts : (o : Option ℤ) (other : ℤ → Bool) (l : ℤ) → reading_of o other ≡ read.Unit l → (o ≡ Some l)
+    × (other l ≡ false)
 unit_parts None other l e = absurd (false_unit l e) where
   false_unit : (l : ℤ) → read.False ≡ read.Unit l → ⊥
   false_unit l e = cc
@@ -90,7 +96,8 @@ false_parts : (o : Option ℤ) (other : ℤ → Bool) → reading_of o other ≡
 false_parts None other e = refl
 false_parts (Some m) other e = absurd (cond_false (other m) m e)
 
-open_parts : (o : Option ℤ) (other : ℤ → Bool) → reading_of o other ≡ read.Open → (l : ℤ) × (o ≡ Some l) × (other l ≡ true)
+open_parts : (o : Option ℤ) (other : ℤ → Bool) → reading_of o other ≡ read.Open → (l : ℤ) × (o ≡ Some l)
+    × (other l ≡ true)
 open_parts None other e = absurd (false_open e) where
   false_open : read.False ≡ read.Open → ⊥
   false_open e = cc
@@ -101,12 +108,16 @@ cond_untrue true rest r e n = absurd (n e)
 cond_untrue false rest r e n = (refl, e)
 
 -- where a reading isn't True, no literal is true
-untrue : (set c : List ℤ) (r : Reading) → reading set c ≡ r → (read.True ≡ r → ⊥) → NoneTrue set c × (reading_of (first_open set c) (λ l. other_open set l c) ≡ r)
-untrue set c r e n = let p = cond_untrue (list_any (has set) c) (reading_of (first_open set c) (λ l. other_open set l c)) r e n in
+untrue : (set c : List ℤ) (r : Reading) → reading set c ≡ r → (read.True ≡ r → ⊥) → NoneTrue set c
+    × (reading_of (first_open set c) (λ l. other_open set l c) ≡ r)
+untrue set c r e n =
+    let p = cond_untrue (list_any (has set) c) (reading_of (first_open set c) (λ l. other_open set l c)) r e n in
     (λ x h. none_at (has set) c x p.0 h, p.1)
 
-from_untrue : (set c : List ℤ) → NoneTrue set c → reading set c ≡ reading_of (first_open set c) (λ l. other_open set l c)
-from_untrue set c n = ap (λ b. cond b read.True (reading_of (first_open set c) (λ l. other_open set l c))) (any_none (has set) c n)
+from_untrue : (set c : List ℤ) → NoneTrue set c
+    → reading set c ≡ reading_of (first_open set c) (λ l. other_open set l c)
+from_untrue set c n =
+    ap (λ b. cond b read.True (reading_of (first_open set c) (λ l. other_open set l c))) (any_none (has set) c n)
 
 true_false : read.True ≡ read.False → ⊥
 true_false e = cc
@@ -138,15 +149,18 @@ unit_to set c l e =
       member = f.0;
       unfalse = f.1;
       untrue = p.0 l f.0;
-      others = λ x h k. others_false (is_false set x) (int_eq l x) (none_at (λ m. not (is_false set m) && not (int_eq l m)) c x q.1 h) k;
+      others = λ x h k. others_false (is_false set x) (int_eq l x)
+          (none_at (λ m. not (is_false set m) && not (int_eq l m)) c x q.1 h) k;
       none = p.0;
     }
 
-first_alone_at : (set : List ℤ) (m l : ℤ) (ms : List ℤ) → (is_false set m ≡ true → first_open set ms ≡ Some l) → (is_false set m ≡ false → m ≡ l) → (b : Bool) → is_false set m ≡ b → cond b (first_open set ms) (Some m) ≡ Some l
+first_alone_at : (set : List ℤ) (m l : ℤ) (ms : List ℤ) → (is_false set m ≡ true → first_open set ms ≡ Some l)
+    → (is_false set m ≡ false → m ≡ l) → (b : Bool) → is_false set m ≡ b → cond b (first_open set ms) (Some m) ≡ Some l
 first_alone_at set m l ms rest here true e = rest e
 first_alone_at set m l ms rest here false e = ap Some (here e)
 
-first_alone : (set c : List ℤ) (l : ℤ) → has c l ≡ true → is_false set l ≡ false → ((x : ℤ) → has c x ≡ true → int_eq l x ≡ false → is_false set x ≡ true) → first_open set c ≡ Some l
+first_alone : (set c : List ℤ) (l : ℤ) → has c l ≡ true → is_false set l ≡ false
+    → ((x : ℤ) → has c x ≡ true → int_eq l x ≡ false → is_false set x ≡ true) → first_open set c ≡ Some l
 first_alone set [] l h u o = absurd (false≢true h)
 first_alone set (m ∷ ms) l h u o = first_alone_at set m l ms
     (λ f. first_alone set ms l (elim (or_cases (int_eq l m) (has ms l) h) [
@@ -168,7 +182,9 @@ pub unit_from : (set c : List ℤ) (l : ℤ) → Alone set c l → reading set c
 unit_from set c l a =
     from_untrue set c a.none
     ∙ ap (λ o. reading_of o (λ m. other_open set m c)) (first_alone set c l a.member a.unfalse a.others)
-    ∙ ap (λ b. cond b read.Open (read.Unit l)) (any_none (λ m. not (is_false set m) && not (int_eq l m)) c (λ x h. no_other_at (is_false set x) (int_eq l x) (a.others x h)))
+    ∙ ap (λ b. cond b read.Open (read.Unit l))
+    (any_none (λ m. not (is_false set m) && not (int_eq l m)) c
+    (λ x h. no_other_at (is_false set x) (int_eq l x) (a.others x h)))
 
 open_pair : (a b : Bool) → (not a && not b) ≡ true → (a ≡ false) × (b ≡ false)
 open_pair true b h = absurd (false≢true h)
@@ -181,5 +197,15 @@ open_to set c e =
     let q = open_parts (first_open set c) (λ m. other_open set m c) p.1 in
     let f = first_is set c q.0 q.1 in
     let s = any_has (λ m. not (is_false set m) && not (int_eq q.0 m)) c q.2 in
-    let t = open_pair (is_false set s.0) (int_eq q.0 s.0) s.2 in
-    (record { one = q.0; two = s.0; has_one = f.0; has_two = s.1; differ = t.1; one_unfalse = f.1; two_unfalse = t.0 }, p.0)
+    let t = open_pair (is_false set s.0) (int_eq q.0 s.0) s.2 in (
+      record {
+        one = q.0;
+        two = s.0;
+        has_one = f.0;
+        has_two = s.1;
+        differ = t.1;
+        one_unfalse = f.1;
+        two_unfalse = t.0;
+      },
+      p.0,
+    )

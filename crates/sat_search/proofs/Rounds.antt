@@ -1,5 +1,6 @@
 -- What falls with each round: a variable gets its value, or one clause fewer is left to be learnt.
-use Rattle.std.proofs.Common.{◌≡◌, ℕ, zero, suc, ◌+◌, ◌<◌, ◌≤◌, Bool, true, false, cond, List, ◌∷◌, ℤ, pos, negsuc, neg_ℤ, refl, ap, sym, subst, ◌∙◌, inl, inr, arith}
+use Rattle.std.proofs.Common.{◌≡◌, ℕ, zero, suc, ◌+◌, ◌<◌, ◌≤◌, Bool, true, false, cond, List, ◌∷◌, ℤ, pos, negsuc}
+use Rattle.std.proofs.Common.{neg_ℤ, refl, ap, sym, subst, ◌∙◌, inl, inr, arith}
 use Rattle.std.proofs.lemmas.Bool.{false≢true, cases_eq, or_from}
 use Rattle.cnf_form.specs.Cnf.{IsLiteral}
 use Rattle.lrat_check.specs.Sets.{has, is_false}
@@ -41,7 +42,8 @@ open_few : (n : ℕ) (set : List ℤ) → open_vars n set ≤ n
 open_few zero set = omega arith
 open_few (suc n) set = let a = at_most_one (is_assigned set (n + 1)) in let b = open_few n set in omega (arith, a, b)
 
-falls_at : (n : ℕ) (set : List ℤ) (l : ℤ) (m : ℕ) → m < n → is_assigned set (m + 1) ≡ false → is_assigned (l ∷ set) (m + 1) ≡ true → open_vars n (l ∷ set) < open_vars n set
+falls_at : (n : ℕ) (set : List ℤ) (l : ℤ) (m : ℕ) → m < n → is_assigned set (m + 1) ≡ false
+    → is_assigned (l ∷ set) (m + 1) ≡ true → open_vars n (l ∷ set) < open_vars n set
 falls_at zero set l m h e f = absurd (omega arith)
 falls_at (suc n) set l m h e f = elim (cases_eq m n) [
   | inl k ↦
@@ -56,18 +58,24 @@ falls_at (suc n) set l m h e f = elim (cases_eq m n) [
 ]
 
 -- a variable that gets its value is one fewer
-open_falls : (vars : ℕ) (set : List ℤ) (l : ℤ) → IsLiteral vars l → has set l ≡ false → is_false set l ≡ false → open_vars vars (l ∷ set) < open_vars vars set
-open_falls vars set = by_variable vars (λ l. has set l ≡ false → is_false set l ≡ false → open_vars vars (l ∷ set) < open_vars vars set)
+open_falls : (vars : ℕ) (set : List ℤ) (l : ℤ) → IsLiteral vars l → has set l ≡ false → is_false set l ≡ false
+    → open_vars vars (l ∷ set) < open_vars vars set
+open_falls vars set =
+    by_variable vars (λ l. has set l ≡ false → is_false set l ≡ false → open_vars vars (l ∷ set) < open_vars vars set)
     (λ n k h f. falls_at vars set (pos (n + 1)) n k
     (or_from (has set (pos (n + 1))) (is_false set (pos (n + 1))) h f)
-    (or_left (has (pos (n + 1) ∷ set) (pos (n + 1))) (is_false (pos (n + 1) ∷ set) (pos (n + 1))) (has_head (pos (n + 1)) set)))
+    (or_left (has (pos (n + 1) ∷ set) (pos (n + 1))) (is_false (pos (n + 1) ∷ set) (pos (n + 1)))
+    (has_head (pos (n + 1)) set)))
     (λ n k h f.
     let e : neg_ℤ (negsuc n) ≡ pos (n + 1) = (let q : suc n ≡ n + 1 = omega arith in ap pos q) in
     falls_at vars set (negsuc n) n k
-    (or_from (has set (pos (n + 1))) (is_false set (pos (n + 1))) (ap (has set) (sym e) ∙ f) (ap (has set) (neg_next n) ∙ h))
-    (or_right (has (negsuc n ∷ set) (pos (n + 1))) (is_false (negsuc n ∷ set) (pos (n + 1))) (ap (has (negsuc n ∷ set)) (neg_next n) ∙ has_head (negsuc n) set)))
+    (or_from (has set (pos (n + 1))) (is_false set (pos (n + 1))) (ap (has set) (sym e) ∙ f)
+    (ap (has set) (neg_next n) ∙ h))
+    (or_right (has (negsuc n ∷ set) (pos (n + 1))) (is_false (negsuc n ∷ set) (pos (n + 1)))
+    (ap (has (negsuc n ∷ set)) (neg_next n) ∙ has_head (negsuc n) set)))
 
-pub value_falls : (vars left : ℕ) (e : Entry) (t whole : Entries) → whole ≡ e ∷ t → IsLiteral vars e.lit → has (lits t) e.lit ≡ false → is_false (lits t) e.lit ≡ false → rounds vars left whole < rounds vars left t
+pub value_falls : (vars left : ℕ) (e : Entry) (t whole : Entries) → whole ≡ e ∷ t → IsLiteral vars e.lit
+    → has (lits t) e.lit ≡ false → is_false (lits t) e.lit ≡ false → rounds vars left whole < rounds vars left t
 value_falls vars left e t whole w k h f =
     let a = open_falls vars (lits t) e.lit k h f in
     let P : Entries → Type 0 = λ z. rounds vars left z < rounds vars left t in

@@ -1,10 +1,13 @@
 -- What the search keeps, from one round to the next.
-use Rattle.std.proofs.Common.{◌≡◌, ℕ, suc, ◌+◌, ◌-◌, ◌^◌, ◌<◌, ◌≤◌, Bool, true, false, not, cond, leb, List, [], ◌∷◌, ◌++◌, ℤ, neg_ℤ, length, Option, Some, None, refl, ap, sym, subst, ◌∙◌, append_assoc, length-append, arith}
+use Rattle.std.proofs.Common.{◌≡◌, ℕ, suc, ◌+◌, ◌-◌, ◌^◌, ◌<◌, ◌≤◌, Bool, true, false, not, cond, leb, List, [], ◌∷◌}
+use Rattle.std.proofs.Common.{◌++◌, ℤ, neg_ℤ, length, Option, Some, None, refl, ap, sym, subst, ◌∙◌, append_assoc}
+use Rattle.std.proofs.Common.{length-append, arith}
 use Rattle.std.specs.Prelude.{unsigned_abs}
 use Rattle.std.specs.List.{list_any, list_all}
 use Rattle.std.proofs.lemmas.List.{append-nil}
 use Rattle.std.proofs.lemmas.List.Elements.{filter-append}
-use Rattle.std.proofs.lemmas.Bool.{false≢true, and_from, and_parts, cond-false, or_parts, not_from_false, false_from_ne_true, lt-leb}
+use Rattle.std.proofs.lemmas.Bool.{false≢true, and_from, and_parts, cond-false, or_parts, not_from_false}
+use Rattle.std.proofs.lemmas.Bool.{false_from_ne_true, lt-leb}
 use Rattle.cnf_form.specs.Cnf.{IsLiteral, AreLiterals, AreClauses}
 use Rattle.lrat_check.specs.declared.reading.Reading.{Reading}
 use Rattle.lrat_check.specs.declared.reading.Reading.TheVariants as read
@@ -12,8 +15,10 @@ use Rattle.lrat_check.specs.declared.step.Step.{Step}
 use Rattle.lrat_check.specs.declared.step.Step.TheVariants.{Add}
 use Rattle.lrat_check.specs.declared.step.StepFault.TheVariants as fault
 use Rattle.lrat_check.specs.Sets.{has, is_false, same_set, negs, reading}
-use Rattle.lrat_check.specs.Steps.{Held, numbered, is_negative, is_empty, walk, add_fault, verdict, judged, Refutes, Valid}
-use Rattle.lrat_check.specs.Resolved.{resolvent, IsResolvent, Strengthens, AllResolved, Resolved, derived_from, derived, consistent}
+use Rattle.lrat_check.specs.Steps.{Held, numbered, is_negative, is_empty, walk, add_fault, verdict, judged, Refutes}
+use Rattle.lrat_check.specs.Steps.{Valid}
+use Rattle.lrat_check.specs.Resolved.{resolvent, IsResolvent, Strengthens, AllResolved, Resolved, derived_from}
+use Rattle.lrat_check.specs.Resolved.{derived, consistent}
 use Rattle.lrat_check.proofs.Stores.{numbered_more}
 use Rattle.lrat_check.proofs.Sound.{verdict_adds, verdict_empty}
 use Rattle.sat_search.specs.declared.trail.Entry.{Entry}
@@ -28,7 +33,11 @@ use Rattle.sat_search.proofs.News.{all_from, unit_is, is_resolvent, strengthens,
 use Rattle.sat_search.proofs.Literals.{literal_at, literals_from, neg_literal, clauses_more, clauses_behind}
 use Rattle.sat_search.proofs.Counts.{fewer_clauses, apart_more}
 
-walks_unit : (held : Held) (id : ℕ) (set : List ℤ) (h : ℤ) (hs c r : List ℤ) (l : ℤ) (o : Option (List ℤ)) → held (unsigned_abs h) ≡ Some c → reading set c ≡ read.Unit l → resolvent held (set ++ l ∷ []) hs ≡ o → resolvent held set (h ∷ hs) ≡ Some r → ((q : List ℤ) → resolvent held (set ++ l ∷ []) hs ≡ Some q → walk held id (set ++ l ∷ []) hs ≡ None) → walk held id set (h ∷ hs) ≡ None
+walks_unit : (held : Held) (id : ℕ) (set : List ℤ) (h : ℤ) (hs c r : List ℤ) (l : ℤ) (o : Option (List ℤ))
+    → held (unsigned_abs h) ≡ Some c → reading set c ≡ read.Unit l → resolvent held (set ++ l ∷ []) hs ≡ o
+    → resolvent held set (h ∷ hs) ≡ Some r →
+    ((q : List ℤ) → resolvent held (set ++ l ∷ []) hs ≡ Some q → walk held id (set ++ l ∷ []) hs ≡ None)
+    → walk held id set (h ∷ hs) ≡ None
 walks_unit held id set h hs c r l None g u e k rest = absurd (none_some r (sym fails ∙ k)) where
   none_some : (x : List ℤ) → None ≡ Some x → ⊥
   none_some x e = cc
@@ -39,7 +48,9 @@ walks_unit held id set h hs c r l (Some q) g u e k rest = steps ∙ rest q e whe
   steps : walk held id set (h ∷ hs) ≡ walk held id (set ++ l ∷ []) hs
   steps = grind (arith, g, u)
 
-walks_read : (held : Held) (id : ℕ) (set : List ℤ) (h : ℤ) (hs c r : List ℤ) (now : Reading) → held (unsigned_abs h) ≡ Some c → reading set c ≡ now → resolvent held set (h ∷ hs) ≡ Some r → ((s q : List ℤ) → resolvent held s hs ≡ Some q → walk held id s hs ≡ None) → walk held id set (h ∷ hs) ≡ None
+walks_read : (held : Held) (id : ℕ) (set : List ℤ) (h : ℤ) (hs c r : List ℤ) (now : Reading)
+    → held (unsigned_abs h) ≡ Some c → reading set c ≡ now → resolvent held set (h ∷ hs) ≡ Some r
+    → ((s q : List ℤ) → resolvent held s hs ≡ Some q → walk held id s hs ≡ None) → walk held id set (h ∷ hs) ≡ None
 walks_read held id set h hs c r read.True g u k rest = absurd (none_some r (sym fails ∙ k)) where
   none_some : (x : List ℤ) → None ≡ Some x → ⊥
   none_some x e = cc
@@ -47,7 +58,8 @@ walks_read held id set h hs c r read.True g u k rest = absurd (none_some r (sym 
   fails : resolvent held set (h ∷ hs) ≡ None
   fails = grind (arith, g, u)
 walks_read held id set h hs c r read.False g u k rest = grind (arith, g, u)
-walks_read held id set h hs c r (read.Unit l) g u k rest = walks_unit held id set h hs c r l (resolvent held (set ++ l ∷ []) hs) g u refl k (λ q e. rest (set ++ l ∷ []) q e)
+walks_read held id set h hs c r (read.Unit l) g u k rest =
+    walks_unit held id set h hs c r l (resolvent held (set ++ l ∷ []) hs) g u refl k (λ q e. rest (set ++ l ∷ []) q e)
 walks_read held id set h hs c r read.Open g u k rest = absurd (none_some r (sym fails ∙ k)) where
   none_some : (x : List ℤ) → None ≡ Some x → ⊥
   none_some x e = cc
@@ -55,7 +67,9 @@ walks_read held id set h hs c r read.Open g u k rest = absurd (none_some r (sym 
   fails : resolvent held set (h ∷ hs) ≡ None
   fails = grind (arith, g, u)
 
-walks_at : (held : Held) (id : ℕ) (set : List ℤ) (h : ℤ) (hs r : List ℤ) (o : Option (List ℤ)) → held (unsigned_abs h) ≡ o → resolvent held set (h ∷ hs) ≡ Some r → ((s q : List ℤ) → resolvent held s hs ≡ Some q → walk held id s hs ≡ None) → walk held id set (h ∷ hs) ≡ None
+walks_at : (held : Held) (id : ℕ) (set : List ℤ) (h : ℤ) (hs r : List ℤ) (o : Option (List ℤ))
+    → held (unsigned_abs h) ≡ o → resolvent held set (h ∷ hs) ≡ Some r
+    → ((s q : List ℤ) → resolvent held s hs ≡ Some q → walk held id s hs ≡ None) → walk held id set (h ∷ hs) ≡ None
 walks_at held id set h hs r None g k rest = absurd (none_some r (sym fails ∙ k)) where
   none_some : (x : List ℤ) → None ≡ Some x → ⊥
   none_some x e = cc
@@ -68,30 +82,41 @@ none_some : (x : List ℤ) → None ≡ Some x → ⊥
 none_some x e = cc
 
 -- hints with a resolvent are accepted
-walks_to : (held : Held) (id : ℕ) (set hints r : List ℤ) → resolvent held set hints ≡ Some r → walk held id set hints ≡ None
+walks_to : (held : Held) (id : ℕ) (set hints r : List ℤ) → resolvent held set hints ≡ Some r
+    → walk held id set hints ≡ None
 walks_to held id set [] r e = absurd (none_some r e)
-walks_to held id set (h ∷ hs) r e = walks_at held id set h hs r (held (unsigned_abs h)) refl e (λ s q k. walks_to held id s hs q k)
+walks_to held id set (h ∷ hs) r e =
+    walks_at held id set h hs r (held (unsigned_abs h)) refl e (λ s q k. walks_to held id s hs q k)
 
-accepted : (held : Held) (top id : ℕ) (lits hints : List ℤ) → top < id → list_any is_negative hints ≡ false → walk held id (negs lits) hints ≡ None → add_fault held top id lits hints ≡ None
+accepted : (held : Held) (top id : ℕ) (lits hints : List ℤ) → top < id → list_any is_negative hints ≡ false
+    → walk held id (negs lits) hints ≡ None → add_fault held top id lits hints ≡ None
 accepted held top id lits hints h n w =
-    cond-false (leb id top) (Some (fault.IdOrder id)) (cond (list_any is_negative hints) (Some (fault.Rat id)) (walk held id (negs lits) hints)) (lt-leb id top h)
+    cond-false (leb id top) (Some (fault.IdOrder id))
+    (cond (list_any is_negative hints) (Some (fault.Rat id)) (walk held id (negs lits) hints)) (lt-leb id top h)
     ∙ cond-false (list_any is_negative hints) (Some (fault.Rat id)) (walk held id (negs lits) hints) n ∙ w
 
 -- a clause that is added with its hints joins the others
-tells_more : (cs : List (List ℤ)) (r hints : List ℤ) (more : List Step) → list_any is_negative hints ≡ false → IsResolvent (numbered cs) r hints → is_empty r ≡ false → judged cs (Add (length cs + 1) r hints ∷ more) ≡ judged (cs ++ r ∷ []) more
+tells_more : (cs : List (List ℤ)) (r hints : List ℤ) (more : List Step) → list_any is_negative hints ≡ false
+    → IsResolvent (numbered cs) r hints → is_empty r ≡ false
+    → judged cs (Add (length cs + 1) r hints ∷ more) ≡ judged (cs ++ r ∷ []) more
 tells_more cs r hints more n v k =
     let long : length cs + 1 ≡ length (cs ++ r ∷ []) = omega (arith, length-append cs (r ∷ [])) in
     verdict_adds (numbered cs) (length cs) (length cs + 1) r hints more
-    (accepted (numbered cs) (length cs) (length cs + 1) r hints (omega arith) n (walks_to (numbered cs) (length cs + 1) (negs r) hints v.0 v.1)) k
+    (accepted (numbered cs) (length cs) (length cs + 1) r hints (omega arith) n
+    (walks_to (numbered cs) (length cs + 1) (negs r) hints v.0 v.1)) k
     ∙ ap (λ held. verdict held (length cs + 1) more) (numbered_more cs r (length cs + 1) refl)
     ∙ ap (λ top. verdict (numbered (cs ++ r ∷ [])) top more) long
 
-derives_more : (cs : List (List ℤ)) (r hints : List ℤ) (id : ℕ) (more : List Step) → list_any (same_set r) cs ≡ false → derived_from cs (Add id r hints ∷ more) ≡ r ∷ derived_from (cs ++ r ∷ []) more
-derives_more cs r hints id more n = cond-false (list_any (same_set r) cs) (derived_from cs more) (r ∷ derived_from (cs ++ r ∷ []) more) n
+derives_more : (cs : List (List ℤ)) (r hints : List ℤ) (id : ℕ) (more : List Step) → list_any (same_set r) cs ≡ false
+    → derived_from cs (Add id r hints ∷ more) ≡ r ∷ derived_from (cs ++ r ∷ []) more
+derives_more cs r hints id more n =
+    cond-false (list_any (same_set r) cs) (derived_from cs more) (r ∷ derived_from (cs ++ r ∷ []) more) n
 
-all_last : (p : List ℤ → Bool) (cs : List (List ℤ)) (r : List ℤ) → list_all p cs ≡ true → p r ≡ true → list_all p (cs ++ r ∷ []) ≡ true
+all_last : (p : List ℤ → Bool) (cs : List (List ℤ)) (r : List ℤ) → list_all p cs ≡ true → p r ≡ true
+    → list_all p (cs ++ r ∷ []) ≡ true
 all_last p [] r h k = and_from (p r) true k refl
-all_last p (d ∷ ds) r h k = let q = and_parts (p d) (list_all p ds) h in and_from (p d) (list_all p (ds ++ r ∷ [])) q.0 (all_last p ds r q.1 k)
+all_last p (d ∷ ds) r h k = let q = and_parts (p d) (list_all p ds) h
+    in and_from (p d) (list_all p (ds ++ r ∷ [])) q.0 (all_last p ds r q.1 k)
 
 none_behind : (p : List ℤ → Bool) (a b : List (List ℤ)) → list_any p (a ++ b) ≡ false → list_any p b ≡ false
 none_behind p [] b h = h
@@ -102,7 +127,11 @@ some_at [] l h = absurd (false≢true h)
 some_at (m ∷ r) l h = refl
 
 -- one clause is learnt, where it is traced back until one literal alone is open, and then joins the others
-pub learns_on : (cs more : List (List ℤ)) (t mid cut : Entries) (steps longer : List Step) (r hints : List ℤ) → Derives cs mid r hints → Level (below t) mid r → is_unit (reading (lits (below mid)) r) ≡ true → Within (lits mid) (lits t) → Within (lits cut) (lits mid) → Stand (cs ++ r ∷ []) cut → more ≡ cs ++ r ∷ [] → longer ≡ steps ++ Add (length cs + 1) r hints ∷ [] → length cs + 1 < 2 ^ 63 - 1 → Learns cs more t cut steps longer
+pub learns_on : (cs more : List (List ℤ)) (t mid cut : Entries) (steps longer : List Step) (r hints : List ℤ)
+    → Derives cs mid r hints → Level (below t) mid r → is_unit (reading (lits (below mid)) r) ≡ true
+    → Within (lits mid) (lits t) → Within (lits cut) (lits mid) → Stand (cs ++ r ∷ []) cut → more ≡ cs ++ r ∷ []
+    → longer ≡ steps ++ Add (length cs + 1) r hints ∷ [] → length cs + 1 < 2 ^ 63 - 1
+    → Learns cs more t cut steps longer
 learns_on cs more t mid cut steps longer r hints d v u w x s e f few =
     let l = unit_is (reading (lits (below mid)) r) u in
     record {
@@ -120,7 +149,8 @@ learns_on cs more t mid cut steps longer r hints d v u w x s e f few =
       few = few;
     }
 
-pub begins : (vars budget : ℕ) (formula : List (List ℤ)) → AreClauses vars formula → length formula < 2 ^ 63 - 1 → Searching vars budget formula formula [] [] budget
+pub begins : (vars budget : ℕ) (formula : List (List ℤ)) → AreClauses vars formula → length formula < 2 ^ 63 - 1
+    → Searching vars budget formula formula [] [] budget
 begins vars budget formula k few = record {
   stand = tt;
   names = k;
@@ -138,13 +168,16 @@ begins vars budget formula k few = record {
   apart = tt;
 }
 
-module _ (vars budget : ℕ) (formula cs : List (List ℤ)) (t : Entries) (steps : List Step) (left : ℕ) (s : Searching vars budget formula cs t steps left) where
+module _ (vars budget : ℕ) (formula cs : List (List ℤ)) (t : Entries) (steps : List Step) (left : ℕ)
+    (s : Searching vars budget formula cs t steps left) where
   -- the literals of a clause that is false on the trail name variables, and no two of them are complements
   false_literals : (r : List ℤ) → AllFalse (lits t) r → AreLiterals vars r
-  false_literals r f = literals_from vars r (λ x h. neg_literal vars x (literal_at vars (lits t) (neg_ℤ x) s.known (f x h)))
+  false_literals r f =
+      literals_from vars r (λ x h. neg_literal vars x (literal_at vars (lits t) (neg_ℤ x) s.known (f x h)))
 
   false_consistent : (r : List ℤ) → AllFalse (lits t) r → consistent r ≡ true
-  false_consistent r f = all_from (λ x. not (is_false r x)) r (λ x h. not_from_false (is_false r x) (false_from_ne_true (is_false r x) (λ k.
+  false_consistent r f = all_from (λ x. not (is_false r x)) r
+      (λ x h. not_from_false (is_false r x) (false_from_ne_true (is_false r x) (λ k.
       no_pair cs t s.stand (neg_ℤ x) (f x h) (f (neg_ℤ x) k))))
 
   learnt_names : AreClauses vars s.learnt
@@ -153,7 +186,10 @@ module _ (vars budget : ℕ) (formula cs : List (List ℤ)) (t : Entries) (steps
   new_learnt : (r : List ℤ) → list_any (same_set r) cs ≡ false → list_any (same_set r) s.learnt ≡ false
   new_learnt r n = none_behind (same_set r) formula s.learnt (ap (list_any (same_set r)) (sym s.joined) ∙ n)
 
-  module _ (u : Entries) (r hints : List ℤ) (v : IsResolvent (numbered cs) r hints) (g : Strengthens (numbered cs) r) (some : is_empty r ≡ false) (fine : list_any is_negative hints ≡ false) (stand : Stand (cs ++ r ∷ []) u) (f : AllFalse (lits t) r) (part : Within (lits u) (lits t)) (few : length cs + 1 < 2 ^ 63 - 1) (now : ℕ) (n : left ≡ now + 1) where
+  module _ (u : Entries) (r hints : List ℤ) (v : IsResolvent (numbered cs) r hints) (g : Strengthens (numbered cs) r)
+      (some : is_empty r ≡ false) (fine : list_any is_negative hints ≡ false) (stand : Stand (cs ++ r ∷ []) u)
+      (f : AllFalse (lits t) r) (part : Within (lits u) (lits t)) (few : length cs + 1 < 2 ^ 63 - 1) (now : ℕ)
+      (n : left ≡ now + 1) where
     -- a learnt clause joins the others, and the count of what is left falls
     learnt_one : Searching vars budget formula (cs ++ r ∷ []) u (steps ++ Add (length cs + 1) r hints ∷ []) now
     learnt_one = record {
@@ -164,14 +200,17 @@ module _ (vars budget : ℕ) (formula cs : List (List ℤ)) (t : Entries) (steps
       learnt = s.learnt ++ r ∷ [];
       joined = ap (λ z. z ++ r ∷ []) s.joined ∙ append_assoc formula s.learnt (r ∷ []);
       tells = λ more.
-          ap (judged formula) (append_assoc steps (Add (length cs + 1) r hints ∷ []) more) ∙ s.tells (Add (length cs + 1) r hints ∷ more)
+          ap (judged formula) (append_assoc steps (Add (length cs + 1) r hints ∷ []) more)
+          ∙ s.tells (Add (length cs + 1) r hints ∷ more)
           ∙ tells_more cs r hints more fine v some;
       resolved = λ more h.
           let P : Held → Type 0 = λ held. AllResolved held more in
           subst (Resolved formula) (sym (append_assoc steps (Add (length cs + 1) r hints ∷ []) more))
-          (s.resolved (Add (length cs + 1) r hints ∷ more) (v, g, subst P (sym (numbered_more cs r (length cs + 1) refl)) h));
+          (s.resolved (Add (length cs + 1) r hints ∷ more)
+          (v, g, subst P (sym (numbered_more cs r (length cs + 1) refl)) h));
       derives = λ more.
-          ap (derived_from formula) (append_assoc steps (Add (length cs + 1) r hints ∷ []) more) ∙ s.derives (Add (length cs + 1) r hints ∷ more)
+          ap (derived_from formula) (append_assoc steps (Add (length cs + 1) r hints ∷ []) more)
+          ∙ s.derives (Add (length cs + 1) r hints ∷ more)
           ∙ ap (λ z. s.learnt ++ z) (derives_more cs r hints (length cs + 1) more (is_new cs r g))
           ∙ sym (append_assoc s.learnt (r ∷ []) (derived_from (cs ++ r ∷ []) more));
       added = λ more h.
@@ -183,16 +222,19 @@ module _ (vars budget : ℕ) (formula cs : List (List ℤ)) (t : Entries) (steps
       apart = apart_more vars s.learnt r learnt_names (false_literals r f) (new_learnt r (is_new cs r g)) s.apart;
     }
 
-  pub learnt_on : (more : List (List ℤ)) (u : Entries) (longer : List Step) (now : ℕ) → Learns cs more t u steps longer → left ≡ now + 1 → Searching vars budget formula more u longer now
+  pub learnt_on : (more : List (List ℤ)) (u : Entries) (longer : List Step) (now : ℕ)
+      → Learns cs more t u steps longer → left ≡ now + 1 → Searching vars budget formula more u longer now
   learnt_on more u longer now w n =
       let P : List (List ℤ) → Type 0 = λ z. Stand z u in
       let Q : List (List ℤ) → Type 0 = λ z. Searching vars budget formula z u longer now in
       let R : List Step → Type 0 = λ z. Searching vars budget formula (cs ++ w.clause ∷ []) u z now in
       subst Q (sym w.joined) (subst R (sym w.added)
-      (learnt_one u w.clause w.hints w.resolvent w.strengthens w.some w.fine (subst P w.joined w.stand) w.false_there w.part w.few now n))
+      (learnt_one u w.clause w.hints w.resolvent w.strengthens w.some w.fine
+      (subst P w.joined w.stand) w.false_there w.part w.few now n))
 
   -- one more literal is true
-  pub pushed_on : (e : Entry) (whole : Entries) → whole ≡ e ∷ t → IsLiteral vars e.lit → Stands cs t e → Searching vars budget formula cs whole steps left
+  pub pushed_on : (e : Entry) (whole : Entries) → whole ≡ e ∷ t → IsLiteral vars e.lit → Stands cs t e
+      → Searching vars budget formula cs whole steps left
   pushed_on e whole w k st =
       let Q : Entries → Type 0 = λ z. Searching vars budget formula cs z steps left in
       subst Q (sym w) (record {
@@ -220,12 +262,15 @@ module _ (vars budget : ℕ) (formula cs : List (List ℤ)) (t : Entries) (steps
 
   pub derived_now : length (derived formula steps) + left ≡ budget
   derived_now =
-      ap (λ z. length z + left) (ap (derived_from formula) (sym (append-nil steps)) ∙ s.derives [] ∙ append-nil s.learnt) ∙ s.counted
+      ap (λ z. length z + left) (ap (derived_from formula) (sym (append-nil steps)) ∙ s.derives []
+      ∙ append-nil s.learnt) ∙ s.counted
 
   pub bound_now : left ≡ 0 → budget < 3 ^ vars
-  bound_now e = let h = fewer_clauses vars s.learnt learnt_names s.some s.pairless s.apart in let c = s.counted in omega (arith, h, c, e)
+  bound_now e = let h = fewer_clauses vars s.learnt learnt_names s.some s.pairless s.apart in let c = s.counted
+      in omega (arith, h, c, e)
 
-  module _ (u : Entries) (r hints : List ℤ) (d : Derives cs u r hints) (empty : r ≡ []) (longer : List Step) (f : longer ≡ steps ++ Add (length cs + 1) r hints ∷ []) where
+  module _ (u : Entries) (r hints : List ℤ) (d : Derives cs u r hints) (empty : r ≡ []) (longer : List Step)
+      (f : longer ≡ steps ++ Add (length cs + 1) r hints ∷ []) where
     longer_is : longer ≡ steps ++ Add (length cs + 1) [] hints ∷ []
     longer_is = f ∙ ap (λ z. steps ++ Add (length cs + 1) z hints ∷ []) empty
 
@@ -234,9 +279,11 @@ module _ (vars budget : ℕ) (formula cs : List (List ℤ)) (t : Entries) (steps
     refutes_now =
         let v = is_resolvent cs u r hints d in
         let w : walk (numbered cs) (length cs + 1) (negs []) hints ≡ None =
-        ap (λ z. walk (numbered cs) (length cs + 1) (negs z) hints) (sym empty) ∙ walks_to (numbered cs) (length cs + 1) (negs r) hints v.0 v.1 in
+        ap (λ z. walk (numbered cs) (length cs + 1) (negs z) hints) (sym empty)
+        ∙ walks_to (numbered cs) (length cs + 1) (negs r) hints v.0 v.1 in
         ap (judged formula) longer_is ∙ s.tells (Add (length cs + 1) [] hints ∷ [])
-        ∙ verdict_empty (numbered cs) (length cs) (length cs + 1) [] hints [] (accepted (numbered cs) (length cs) (length cs + 1) [] hints (omega arith) d.fine w) refl
+        ∙ verdict_empty (numbered cs) (length cs) (length cs + 1) [] hints []
+        (accepted (numbered cs) (length cs) (length cs + 1) [] hints (omega arith) d.fine w) refl
 
     none_left : (b : Bool) → nonempty (cond b [] ([] ∷ [])) ≡ []
     none_left true = refl
@@ -244,11 +291,13 @@ module _ (vars budget : ℕ) (formula cs : List (List ℤ)) (t : Entries) (steps
 
     nonempty_is : nonempty (derived formula longer) ≡ nonempty s.learnt
     nonempty_is =
-        ap (λ z. nonempty (derived_from formula z)) longer_is ∙ ap nonempty (s.derives (Add (length cs + 1) [] hints ∷ []))
+        ap (λ z. nonempty (derived_from formula z)) longer_is
+        ∙ ap nonempty (s.derives (Add (length cs + 1) [] hints ∷ []))
         ∙ filter-append (λ c. not (is_empty c)) s.learnt (derived_from cs (Add (length cs + 1) [] hints ∷ []))
         ∙ ap (λ z. nonempty s.learnt ++ z) (none_left (list_any (same_set []) cs)) ∙ append-nil (nonempty s.learnt)
 
-    length_cond : (b : Bool) (c : List ℤ) (ds : List (List ℤ)) (n : ℕ) → length ds ≤ n → length (cond b (c ∷ ds) ds) ≤ suc n
+    length_cond : (b : Bool) (c : List ℤ) (ds : List (List ℤ)) (n : ℕ) → length ds ≤ n
+        → length (cond b (c ∷ ds) ds) ≤ suc n
     length_cond true c ds n h = omega (arith, h)
     length_cond false c ds n h = omega (arith, h)
 
@@ -257,7 +306,8 @@ module _ (vars budget : ℕ) (formula cs : List (List ℤ)) (t : Entries) (steps
     no_more (c ∷ ds) = length_cond (not (is_empty c)) c (nonempty ds) (length ds) (no_more ds)
 
     pub fewer_now : 0 < left → length (nonempty (derived formula longer)) < budget
-    fewer_now h = let m = no_more s.learnt in let c = s.counted in let e = ap length nonempty_is in omega (arith, m, c, e, h)
+    fewer_now h =
+        let m = no_more s.learnt in let c = s.counted in let e = ap length nonempty_is in omega (arith, m, c, e, h)
 
     pub refuted_added : AreAdded vars longer
     refuted_added = subst (AreAdded vars) (sym longer_is) (s.added (Add (length cs + 1) [] hints ∷ []) (tt, refl, tt))

@@ -1,5 +1,6 @@
 -- What each round of the search owes to the calls that it makes.
-use Rattle.std.proofs.Common.{◌≡◌, ℕ, ◌+◌, ◌^◌, ◌<◌, false, List, ◌∷◌, ℤ, pos, Some, None, ap, sym, subst, ◌∙◌, w64, to_z, of_z, arith}
+use Rattle.std.proofs.Common.{◌≡◌, ℕ, ◌+◌, ◌^◌, ◌<◌, false, List, ◌∷◌, ℤ, pos, Some, None, ap, sym, subst, ◌∙◌, w64}
+use Rattle.std.proofs.Common.{to_z, of_z, arith}
 use Rattle.std.specs.Prelude.{slice_get}
 use Rattle.std.proofs.lemmas.Bool.{or_parts}
 use Rattle.std.proofs.lemmas.Int.{to_z-of_z, fits_signed_from_abs}
@@ -18,11 +19,14 @@ use Rattle.sat_search.proofs.Literals.{literal_at, lit_of, all_lits, clause_at}
 use Rattle.sat_search.proofs.Searches.{pushed_on}
 use Rattle.sat_search.proofs.Rounds.{value_falls}
 
-module _ (vars budget : ℕ) (formula cs : List (List ℤ)) (t : Entries) (steps : List Step) (left : ℕ) (s : Searching vars budget formula cs t steps left) (v : vars < 2 ^ 63) (seen : List (List ℤ)) (same : seen ≡ cs) where
+module _ (vars budget : ℕ) (formula cs : List (List ℤ)) (t : Entries) (steps : List Step) (left : ℕ)
+    (s : Searching vars budget formula cs t steps left) (v : vars < 2 ^ 63) (seen : List (List ℤ))
+    (same : seen ≡ cs) where
   pub seen_lits : AllLits seen
   seen_lits = subst AllLits (sym same) (all_lits vars cs v s.names)
 
-  pub conflict_at : (place : ℕ) (other : List (List ℤ)) → other ≡ cs → Sees seen (lits t) (scan.Conflict place) → IsConflict other t place
+  pub conflict_at : (place : ℕ) (other : List (List ℤ)) → other ≡ cs → Sees seen (lits t) (scan.Conflict place)
+      → IsConflict other t place
   conflict_at place other o h =
       let P : List (List ℤ) → Type 0 = λ z. slice_get z place ≡ Some h.0 in
       let Q : List (List ℤ) → Type 0 = λ z. Stand z t in
@@ -56,11 +60,20 @@ module _ (vars budget : ℕ) (formula cs : List (List ℤ)) (t : Entries) (steps
       entry_is = w ∙ ap (λ z. (let e : Entry = record { lit = z; reason = Some place } in e) ∷ t) unit_kept
 
       pub unit_on : Searching vars budget formula cs whole steps left
-      unit_on = pushed_on vars budget formula cs t steps left s (record { lit = l; reason = Some place }) whole entry_is unit_literal
-          (record { lit = lit_of vars l v unit_literal; free = unit_alone.untrue; unfalse = unit_alone.unfalse; because = (h.0, unit_found, h.2) })
+      unit_on = pushed_on vars budget formula cs t steps left s
+          (record { lit = l; reason = Some place }) whole entry_is unit_literal
+          (record {
+            lit = lit_of vars l v unit_literal;
+            free = unit_alone.untrue;
+            unfalse = unit_alone.unfalse;
+            because = (h.0, unit_found, h.2);
+          })
 
       pub unit_falls : rounds vars left whole < rounds vars left t
-      unit_falls = value_falls vars left (record { lit = l; reason = Some place }) t whole entry_is unit_literal unit_alone.untrue unit_alone.unfalse
+      unit_falls = value_falls vars left (record {
+        lit = l;
+        reason = Some place;
+      }) t whole entry_is unit_literal unit_alone.untrue unit_alone.unfalse
 
   module _ (l : ℤ) (h : IsOpenVar vars (lits t) l) where
     var_literal : IsLiteral vars l
@@ -79,4 +92,7 @@ module _ (vars budget : ℕ) (formula cs : List (List ℤ)) (t : Entries) (steps
       decision_is = w ∙ ap (λ z. (let e : Entry = record { lit = z; reason = None } in e) ∷ t) var_kept
 
       pub decision_falls : rounds vars left whole < rounds vars left t
-      decision_falls = value_falls vars left (record { lit = l; reason = None }) t whole decision_is var_literal var_open.0 var_open.1
+      decision_falls = value_falls vars left (record {
+        lit = l;
+        reason = None;
+      }) t whole decision_is var_literal var_open.0 var_open.1

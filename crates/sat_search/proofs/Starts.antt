@@ -1,5 +1,6 @@
 -- Where the newest decision stands among the entries, which are stored the oldest first.
-use Rattle.std.proofs.Common.{◌≡◌, ℕ, suc, ◌+◌, ◌-◌, ◌<◌, ◌≤◌, true, false, ◌∷◌, length, drop, get_or, reverse, Option, Some, None, refl, ap, sym, ◌∙◌, arith, length-drop}
+use Rattle.std.proofs.Common.{◌≡◌, ℕ, suc, ◌+◌, ◌-◌, ◌<◌, ◌≤◌, true, false, ◌∷◌, length, drop, get_or, reverse}
+use Rattle.std.proofs.Common.{Option, Some, None, refl, ap, sym, ◌∙◌, arith, length-drop}
 use Rattle.std.specs.List.{list_any}
 use Rattle.std.specs.Option.{is_some}
 use Rattle.std.proofs.Math.Seq.{drop-cons}
@@ -25,7 +26,8 @@ pub decided_stored : (items xs t : Entries) → items ≡ xs → reverse xs ≡ 
 decided_stored items xs t h k = ap (list_any is_decision) h ∙ decided_reverse xs ∙ ap decided k
 
 -- one more of the oldest entries
-oldest_next : (xs : Entries) (place : ℕ) (e : Entry) → place < length xs → oldest (place + 1) (reverse xs) ≡ get_or xs place e ∷ oldest place (reverse xs)
+oldest_next : (xs : Entries) (place : ℕ) (e : Entry) → place < length xs
+    → oldest (place + 1) (reverse xs) ≡ get_or xs place e ∷ oldest place (reverse xs)
 oldest_next xs place e h =
     let r : length (reverse xs) ≡ length xs = length-reverse xs in
     let k : length (reverse xs) - (place + 1) ≡ length xs - 1 - place = omega (arith, r) in
@@ -34,35 +36,46 @@ oldest_next xs place e h =
     ap (λ n. drop n (reverse xs)) k
     ∙ drop-cons (reverse xs) (length xs - 1 - place) e (omega (arith, r, h))
     ∙ ap (λ n. get_or (reverse xs) (length xs - 1 - place) e ∷ drop n (reverse xs)) s
-    ∙ ap (λ x. x ∷ oldest place (reverse xs)) (get_or-reverse xs (length xs - 1 - place) e (omega (arith, h)) ∙ ap (λ n. get_or xs n e) q)
+    ∙ ap (λ x. x ∷ oldest place (reverse xs))
+    (get_or-reverse xs (length xs - 1 - place) e (omega (arith, h)) ∙ ap (λ n. get_or xs n e) q)
 
-below_decision : (e : Entry) (older : Entries) (reason : Option ℕ) → e.reason ≡ reason → decides reason ≡ true → below (e ∷ older) ≡ older
+below_decision : (e : Entry) (older : Entries) (reason : Option ℕ) → e.reason ≡ reason → decides reason ≡ true
+    → below (e ∷ older) ≡ older
 below_decision e older None h d = ap (λ r. below_at r older (below older)) h
 below_decision e older (Some place) h d = absurd (cc)
 
-below_implied : (e : Entry) (older : Entries) (reason : Option ℕ) → e.reason ≡ reason → decides reason ≡ false → below (e ∷ older) ≡ below older
+below_implied : (e : Entry) (older : Entries) (reason : Option ℕ) → e.reason ≡ reason → decides reason ≡ false
+    → below (e ∷ older) ≡ below older
 below_implied e older None h d = absurd (cc)
 below_implied e older (Some place) h d = ap (λ r. below_at r older (below older)) h
 
 -- the entries as they are stored, and as contracts see them
-module _ (xs t : Entries) (view : reverse xs ≡ t) (next : ℕ) (d : Entry) (some : 0 < next) (within : next ≤ length t) where
+module _ (xs t : Entries) (view : reverse xs ≡ t) (next : ℕ) (d : Entry) (some : 0 < next)
+    (within : next ≤ length t) where
   next_is : oldest next t ≡ get_or xs (next - 1) d ∷ oldest (next - 1) t
   next_is =
       let n : next ≡ next - 1 + 1 = omega (arith, some) in
       let r : length (reverse xs) ≡ length xs = length-reverse xs in
       let w : length (reverse xs) ≡ length t = ap length view in
-      ap (λ n. oldest n t) n ∙ ap (oldest (next - 1 + 1)) (sym view) ∙ oldest_next xs (next - 1) d (omega (arith, r, w, some, within)) ∙ ap (λ z. get_or xs (next - 1) d ∷ oldest (next - 1) z) view
+      ap (λ n. oldest n t) n ∙ ap (oldest (next - 1 + 1)) (sym view)
+      ∙ oldest_next xs (next - 1) d (omega (arith, r, w, some, within))
+      ∙ ap (λ z. get_or xs (next - 1) d ∷ oldest (next - 1) z) view
 
   -- how many entries are older than a decision that is the newest of so many entries
-  pub starts_here : is_some (get_or xs (next - 1) d).reason ≡ false → below (oldest next t) ≡ below t → next - 1 ≡ length (below t)
+  pub starts_here : is_some (get_or xs (next - 1) d).reason ≡ false → below (oldest next t) ≡ below t
+      → next - 1 ≡ length (below t)
   starts_here n b =
       let here : below (oldest next t) ≡ oldest (next - 1) t = ap below next_is
-      ∙ below_decision (get_or xs (next - 1) d) (oldest (next - 1) t) (get_or xs (next - 1) d).reason refl (decides_none (get_or xs (next - 1) d).reason n) in
-      let many : length (oldest (next - 1) t) ≡ length t - (length t - (next - 1)) = length-drop (length t - (next - 1)) t in
+      ∙ below_decision (get_or xs (next - 1) d) (oldest (next - 1) t) (get_or xs (next - 1) d).reason refl
+      (decides_none (get_or xs (next - 1) d).reason n) in
+      let many : length (oldest (next - 1) t) ≡ length t - (length t - (next - 1)) = length-drop
+      (length t - (next - 1)) t in
       let whole : length (oldest (next - 1) t) ≡ next - 1 = omega (arith, many, some, within) in
       sym (ap length (sym b ∙ here) ∙ whole)
 
   -- an implied entry does not change what is older than the newest decision
-  pub starts_below : is_some (get_or xs (next - 1) d).reason ≡ true → below (oldest next t) ≡ below t → below (oldest (next - 1) t) ≡ below t
+  pub starts_below : is_some (get_or xs (next - 1) d).reason ≡ true → below (oldest next t) ≡ below t
+      → below (oldest (next - 1) t) ≡ below t
   starts_below n b = sym (ap below next_is
-      ∙ below_implied (get_or xs (next - 1) d) (oldest (next - 1) t) (get_or xs (next - 1) d).reason refl (decides_some (get_or xs (next - 1) d).reason n)) ∙ b
+      ∙ below_implied (get_or xs (next - 1) d) (oldest (next - 1) t) (get_or xs (next - 1) d).reason refl
+      (decides_some (get_or xs (next - 1) d).reason n)) ∙ b

@@ -1,5 +1,6 @@
 -- A conflict is traced back along a trail: the clause stays the resolvent of its hints.
-use Rattle.std.proofs.Common.{◌≡◌, ℕ, zero, suc, ◌+◌, Bool, true, false, not, cond, List, [], ◌∷◌, ◌++◌, ℤ, pos, negsuc, neg_ℤ, filter, Some, refl, ap, sym, ◌∙◌, ◌⊎◌, inl, inr, arith}
+use Rattle.std.proofs.Common.{◌≡◌, ℕ, zero, suc, ◌+◌, Bool, true, false, not, cond, List, [], ◌∷◌, ◌++◌, ℤ, pos}
+use Rattle.std.proofs.Common.{negsuc, neg_ℤ, filter, Some, refl, ap, sym, ◌∙◌, ◌⊎◌, inl, inr, arith}
 use Rattle.std.proofs.lemmas.Bool.{le-ltb}
 use Rattle.std.specs.Prelude.{unsigned_abs, slice_get}
 use Rattle.std.specs.List.{list_any}
@@ -12,21 +13,26 @@ use Rattle.lrat_check.specs.Resolved.{resolvent}
 use Rattle.sat_search.specs.declared.trail.Entry.{Entry}
 use Rattle.sat_search.specs.Trail.{Entries, lits, Stand}
 use Rattle.sat_search.specs.Analysis.{NoneTrue, AllFalse, Within, Derives}
-use Rattle.sat_search.proofs.Members.{same_is, same_self, neg_neg, or_left, or_right, or_cases, or_both, has_tail, has_append, without_has, without_from, union_has, union_left, union_right}
+use Rattle.sat_search.proofs.Members.{same_is, same_self, neg_neg, or_left, or_right, or_cases, or_both, has_tail}
+use Rattle.sat_search.proofs.Members.{has_append, without_has, without_from, union_has, union_left, union_right}
 use Rattle.sat_search.proofs.Readings.{unit_to, unit_from, false_to, false_from}
 
 false_from_ne_true : (b : Bool) → (b ≡ true → ⊥) → b ≡ false
 false_from_ne_true true h = absurd (h refl)
 false_from_ne_true false h = refl
 
-pub resolvent_last : (held : Held) (set : List ℤ) (h : ℤ) (c : List ℤ) → held (unsigned_abs h) ≡ Some c → reading set c ≡ read.False → resolvent held set (h ∷ []) ≡ Some c
+pub resolvent_last : (held : Held) (set : List ℤ) (h : ℤ) (c : List ℤ) → held (unsigned_abs h) ≡ Some c
+    → reading set c ≡ read.False → resolvent held set (h ∷ []) ≡ Some c
 resolvent_last held set h c g f = grind (arith, g, f)
 
-pub resolvent_more : (held : Held) (set : List ℤ) (h : ℤ) (hs c r : List ℤ) (l : ℤ) → held (unsigned_abs h) ≡ Some c → reading set c ≡ read.Unit l → resolvent held (set ++ l ∷ []) hs ≡ Some r → has r (neg_ℤ l) ≡ true → resolvent held set (h ∷ hs) ≡ Some (union (without l c) (without (neg_ℤ l) r))
+pub resolvent_more : (held : Held) (set : List ℤ) (h : ℤ) (hs c r : List ℤ) (l : ℤ) → held (unsigned_abs h) ≡ Some c
+    → reading set c ≡ read.Unit l → resolvent held (set ++ l ∷ []) hs ≡ Some r → has r (neg_ℤ l) ≡ true
+    → resolvent held set (h ∷ hs) ≡ Some (union (without l c) (without (neg_ℤ l) r))
 resolvent_more held set h hs c r l g u e m = grind (arith, g, u, e, m)
 
 -- the place's clause has the next id
-pub numbered_at : (clauses : List (List ℤ)) (place : ℕ) (c : List ℤ) → slice_get clauses place ≡ Some c → numbered clauses (unsigned_abs (pos (place + 1))) ≡ Some c
+pub numbered_at : (clauses : List (List ℤ)) (place : ℕ) (c : List ℤ) → slice_get clauses place ≡ Some c
+    → numbered clauses (unsigned_abs (pos (place + 1))) ≡ Some c
 numbered_at clauses place c g = ap (numbered clauses) at ∙ g where
   at : unsigned_abs (pos (place + 1)) ≡ suc place
   at = omega arith
@@ -35,7 +41,8 @@ neg_lit : (l x : ℤ) → int_eq l x ≡ true → IsLit l → l ≡ neg_ℤ x �
 neg_lit l x e h k = grind (arith, same_is l x e, k, h.0)
 
 head_or_tail : (e : Entry) (t : Entries) (x : ℤ) → has (lits (e ∷ t)) x ≡ true → (x ≡ e.lit) ⊎ (has (lits t) x ≡ true)
-head_or_tail e t x h = elim (or_cases (int_eq x e.lit) (has (lits t) x) h) [ inl k ↦ inl (same_is x e.lit k) | inr k ↦ inr k ]
+head_or_tail e t x h =
+    elim (or_cases (int_eq x e.lit) (has (lits t) x) h) [ inl k ↦ inl (same_is x e.lit k) | inr k ↦ inr k ]
 
 neg_apart : (l : ℤ) → IsLit l → neg_ℤ l ≡ l → ⊥
 neg_apart (pos zero) h e = absurd (omega (arith, h.0))
@@ -43,7 +50,8 @@ neg_apart (pos (suc n)) h e = cc
 neg_apart (negsuc n) h e = cc
 
 -- a trail has no complementary pair
-pub no_pair : (clauses : List (List ℤ)) (t : Entries) → Stand clauses t → (l : ℤ) → has (lits t) l ≡ true → is_false (lits t) l ≡ true → ⊥
+pub no_pair : (clauses : List (List ℤ)) (t : Entries) → Stand clauses t → (l : ℤ) → has (lits t) l ≡ true
+    → is_false (lits t) l ≡ true → ⊥
 no_pair clauses [] s l h k = false≢true h
 no_pair clauses (e ∷ t) s l h k = elim (head_or_tail e t l h) [
   | inl a ↦ elim (head_or_tail e t (neg_ℤ l) k) [
@@ -51,27 +59,33 @@ no_pair clauses (e ∷ t) s l h k = elim (head_or_tail e t l h) [
     | inr b ↦ false≢true (sym s.0.unfalse ∙ ap (λ x. has (lits t) (neg_ℤ x)) (sym a) ∙ b)
   ]
   | inr a ↦ elim (head_or_tail e t (neg_ℤ l) k) [
-    | inl b ↦ false≢true (sym s.0.unfalse ∙ ap (λ x. has (lits t) (neg_ℤ x)) (sym b) ∙ ap (has (lits t)) (neg_neg l) ∙ a)
+    | inl b ↦ false≢true (sym s.0.unfalse ∙ ap (λ x. has (lits t) (neg_ℤ x)) (sym b) ∙ ap (has (lits t)) (neg_neg l)
+        ∙ a)
     | inr b ↦ no_pair clauses t s.1 l a b
   ]
 ]
 
 -- what is false on a trail isn't true on a part of it
-pub none_true : (clauses : List (List ℤ)) (t : Entries) → Stand clauses t → (set c : List ℤ) → Within set (lits t) → AllFalse (lits t) c → NoneTrue set c
+pub none_true : (clauses : List (List ℤ)) (t : Entries) → Stand clauses t → (set c : List ℤ) → Within set (lits t)
+    → AllFalse (lits t) c → NoneTrue set c
 none_true clauses t s set c w a x h = false_from_ne_true (has set x) (λ k. no_pair clauses t s x (w x k) (a x h))
 
 -- a literal that the newest entry alone makes false is its complement
-pub off_newest : (e : Entry) (t : Entries) (x : ℤ) → is_false (lits (e ∷ t)) x ≡ true → int_eq (neg_ℤ e.lit) x ≡ false → is_false (lits t) x ≡ true
+pub off_newest : (e : Entry) (t : Entries) (x : ℤ) → is_false (lits (e ∷ t)) x ≡ true
+    → int_eq (neg_ℤ e.lit) x ≡ false → is_false (lits t) x ≡ true
 off_newest e t x h n = elim (head_or_tail e t (neg_ℤ x) h) [
   | inl k ↦ absurd (false≢true (sym n ∙ same_self (neg_ℤ e.lit) x (ap neg_ℤ (sym k) ∙ neg_neg x)))
   | inr k ↦ k
 ]
 
 -- where the newest entry's complement isn't in the clause, the entry is left out
-pub skips : (clauses : List (List ℤ)) (e : Entry) (t : Entries) (r hints : List ℤ) → Derives clauses (e ∷ t) r hints → has r (neg_ℤ e.lit) ≡ false → Derives clauses t r hints
+pub skips : (clauses : List (List ℤ)) (e : Entry) (t : Entries) (r hints : List ℤ) → Derives clauses (e ∷ t) r hints
+    → has r (neg_ℤ e.lit) ≡ false → Derives clauses t r hints
 skips clauses e t r hints d m = record {
   stand = d.stand.1;
-  all_false = λ x h. off_newest e t x (d.all_false x h) (false_from_ne_true (int_eq (neg_ℤ e.lit) x) (λ k. false≢true (sym m ∙ ap (has r) (same_is (neg_ℤ e.lit) x k) ∙ h)));
+  all_false = λ x h. off_newest e t x (d.all_false x h)
+      (false_from_ne_true (int_eq (neg_ℤ e.lit) x)
+      (λ k. false≢true (sym m ∙ ap (has r) (same_is (neg_ℤ e.lit) x k) ∙ h)));
   all_lits = d.all_lits;
   fine = d.fine;
   gives = λ set w a. d.gives set (λ x h. has_tail x e.lit (lits t) (w x h)) a;
@@ -81,13 +95,18 @@ added_false : (set : List ℤ) (l x : ℤ) → is_false set x ≡ true → is_fa
 added_false set l x h = has_append set (l ∷ []) (neg_ℤ x) ∙ or_left (has set (neg_ℤ x)) (has (l ∷ []) (neg_ℤ x)) h
 
 added_new : (set : List ℤ) (l x : ℤ) → int_eq (neg_ℤ l) x ≡ true → is_false (set ++ l ∷ []) x ≡ true
-added_new set l x h = has_append set (l ∷ []) (neg_ℤ x) ∙ or_right (has set (neg_ℤ x)) (has (l ∷ []) (neg_ℤ x)) (or_left (int_eq (neg_ℤ x) l) false (same_self (neg_ℤ x) l (ap neg_ℤ (sym (same_is (neg_ℤ l) x h)) ∙ neg_neg l)))
+added_new set l x h = has_append set (l ∷ []) (neg_ℤ x)
+    ∙ or_right (has set (neg_ℤ x)) (has (l ∷ []) (neg_ℤ x))
+    (or_left (int_eq (neg_ℤ x) l) false (same_self (neg_ℤ x) l (ap neg_ℤ (sym (same_is (neg_ℤ l) x h)) ∙ neg_neg l)))
 
-within_added : (set : List ℤ) (e : Entry) (t : Entries) → Within set (lits t) → Within (set ++ e.lit ∷ []) (lits (e ∷ t))
-within_added set e t w x h = elim (or_cases (has set x) (has (e.lit ∷ []) x) (sym (has_append set (e.lit ∷ []) x) ∙ h)) [
-  | inl k ↦ has_tail x e.lit (lits t) (w x k)
-  | inr k ↦ or_left (int_eq x e.lit) (has (lits t) x) (elim (or_cases (int_eq x e.lit) false k) [ inl a ↦ a | inr a ↦ absurd (false≢true a) ])
-]
+within_added : (set : List ℤ) (e : Entry) (t : Entries) → Within set (lits t)
+    → Within (set ++ e.lit ∷ []) (lits (e ∷ t))
+within_added set e t w x h =
+    elim (or_cases (has set x) (has (e.lit ∷ []) x) (sym (has_append set (e.lit ∷ []) x) ∙ h)) [
+      | inl k ↦ has_tail x e.lit (lits t) (w x k)
+      | inr k ↦ or_left (int_eq x e.lit) (has (lits t) x)
+          (elim (or_cases (int_eq x e.lit) false k) [ inl a ↦ a | inr a ↦ absurd (false≢true a) ])
+    ]
 
 lits_cond : (b : Bool) (l : ℤ) (c : List ℤ) → IsLit l → AreLits c → AreLits (cond b (l ∷ c) c)
 lits_cond true l c h k = (h, k)
@@ -102,23 +121,31 @@ all_append [] b h k = k
 all_append (l ∷ ls) b h k = (h.0, all_append ls b h.1 k)
 
 pub all_union : (l m : ℤ) (c r : List ℤ) → AreLits c → AreLits r → AreLits (union (without l c) (without m r))
-all_union l m c r h k = all_append (filter (λ x. not (has (without m r) x)) (without l c)) (without m r) (all_filter (λ x. not (has (without m r) x)) (without l c) (all_filter (λ x. not (int_eq l x)) c h)) (all_filter (λ x. not (int_eq m x)) r k)
+all_union l m c r h k = all_append (filter (λ x. not (has (without m r) x)) (without l c)) (without m r)
+    (all_filter (λ x. not (has (without m r) x)) (without l c) (all_filter (λ x. not (int_eq l x)) c h))
+    (all_filter (λ x. not (int_eq m x)) r k)
 
 positive : (n : ℕ) → is_negative (pos n) ≡ false
 positive n = le-ltb n 0 (omega arith)
 
 -- a false clause is what its own hint derives
-pub begins : (clauses : List (List ℤ)) (t : Entries) (place : ℕ) (c : List ℤ) → Stand clauses t → slice_get clauses place ≡ Some c → reading (lits t) c ≡ read.False → AreLits c → Derives clauses t c (pos (place + 1) ∷ [])
+pub begins : (clauses : List (List ℤ)) (t : Entries) (place : ℕ) (c : List ℤ) → Stand clauses t
+    → slice_get clauses place ≡ Some c → reading (lits t) c ≡ read.False → AreLits c
+    → Derives clauses t c (pos (place + 1) ∷ [])
 begins clauses t place c s g f k = record {
   stand = s;
   all_false = (false_to (lits t) c f).0;
   all_lits = k;
   fine = or_both (is_negative (pos (place + 1))) false (positive (place + 1)) refl;
-  gives = λ set w a. resolvent_last (numbered clauses) set (pos (place + 1)) c (numbered_at clauses place c g) (false_from set c a (none_true clauses t s set c w (false_to (lits t) c f).0));
+  gives = λ set w a. resolvent_last (numbered clauses) set (pos (place + 1)) c (numbered_at clauses place c g)
+      (false_from set c a (none_true clauses t s set c w (false_to (lits t) c f).0));
 }
 
 -- where the newest entry's complement is in the clause, its reason takes the complement's place
-pub resolves : (clauses : List (List ℤ)) (e : Entry) (t : Entries) (r hints : List ℤ) (place : ℕ) (c : List ℤ) → Derives clauses (e ∷ t) r hints → has r (neg_ℤ e.lit) ≡ true → slice_get clauses place ≡ Some c → reading (lits t) c ≡ read.Unit e.lit → AreLits c → Derives clauses t (union (without e.lit c) (without (neg_ℤ e.lit) r)) (pos (place + 1) ∷ hints)
+pub resolves : (clauses : List (List ℤ)) (e : Entry) (t : Entries) (r hints : List ℤ) (place : ℕ) (c : List ℤ)
+    → Derives clauses (e ∷ t) r hints → has r (neg_ℤ e.lit) ≡ true → slice_get clauses place ≡ Some c
+    → reading (lits t) c ≡ read.Unit e.lit → AreLits c
+    → Derives clauses t (union (without e.lit c) (without (neg_ℤ e.lit) r)) (pos (place + 1) ∷ hints)
 resolves clauses e t r hints place c d m g u k =
     let al = unit_to (lits t) c e.lit u in
     record {
@@ -134,12 +161,14 @@ resolves clauses e t r hints place c d m g u k =
             member = al.member;
             unfalse = false_from_ne_true (is_false set e.lit) (λ h. false≢true (sym al.unfalse ∙ w (neg_ℤ e.lit) h));
             untrue = false_from_ne_true (has set e.lit) (λ h. false≢true (sym al.untrue ∙ w e.lit h));
-            others = λ x h n. a x (union_left (without e.lit c) (without (neg_ℤ e.lit) r) x (without_from e.lit c x h n));
+            others =
+                λ x h n. a x (union_left (without e.lit c) (without (neg_ℤ e.lit) r) x (without_from e.lit c x h n));
             none = λ x h. false_from_ne_true (has set x) (λ b. false≢true (sym (al.none x h) ∙ w x b));
           }) in
           let rest : AllFalse (set ++ e.lit ∷ []) r = λ x h. elim (cases_Bool (int_eq (neg_ℤ e.lit) x)) [
             | inl b ↦ added_new set e.lit x b
-            | inr b ↦ added_false set e.lit x (a x (union_right (without e.lit c) (without (neg_ℤ e.lit) r) x (without_from (neg_ℤ e.lit) r x h b)))
+            | inr b ↦ added_false set e.lit x (a x (union_right (without e.lit c) (without (neg_ℤ e.lit) r) x
+                (without_from (neg_ℤ e.lit) r x h b)))
           ] in
           resolvent_more (numbered clauses) set (pos (place + 1)) hints c r e.lit (numbered_at clauses place c g) unit
           (d.gives (set ++ e.lit ∷ []) (within_added set e t w) rest) m;

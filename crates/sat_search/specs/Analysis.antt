@@ -26,7 +26,8 @@ pub record Derives (clauses : List (List ℤ)) (trail : Entries) (clause hints :
   pub all_false : AllFalse (lits trail) clause
   pub all_lits : AreLits clause
   pub fine : list_any is_negative hints ≡ false
-  pub gives : (set : List ℤ) → Within set (lits trail) → AllFalse set clause → resolvent (numbered clauses) set hints ≡ Some clause
+  pub gives : (set : List ℤ) → Within set (lits trail) → AllFalse set clause
+      → resolvent (numbered clauses) set hints ≡ Some clause
 
 -- what is older than the newest decision doesn't make the clause false
 pub record Level (older trail : Entries) (clause : List ℤ) : Type 0 where

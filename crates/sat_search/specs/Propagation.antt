@@ -14,13 +14,16 @@ AllLits clauses = AllByRecursion AreLits clauses
 
 -- the clause at a place is false, or forces the literal, or all are settled
 abbrev pub Sees : List (List ℤ) → List ℤ → Scan → Type 0
-Sees clauses set (scan.Conflict place) = (clause : List ℤ) × (slice_get clauses place ≡ Some clause) × (reading set clause ≡ read.False)
-Sees clauses set (scan.Unit place lit) = (clause : List ℤ) × (slice_get clauses place ≡ Some clause) × (reading set clause ≡ read.Unit lit)
+Sees clauses set (scan.Conflict place) =
+    (clause : List ℤ) × (slice_get clauses place ≡ Some clause) × (reading set clause ≡ read.False)
+Sees clauses set (scan.Unit place lit) =
+    (clause : List ℤ) × (slice_get clauses place ≡ Some clause) × (reading set clause ≡ read.Unit lit)
 Sees clauses set scan.Settled = settled clauses set ≡ true
 
 -- the clauses at these places are settled
 abbrev pub SettledFrom : List (List ℤ) → List ℤ → ℕ → ℕ → Type 0
-SettledFrom clauses set start end = (place : ℕ) (clause : List ℤ) → start ≤ place → place < end → slice_get clauses place ≡ Some clause → is_open (reading set clause) ≡ true
+SettledFrom clauses set start end = (place : ℕ) (clause : List ℤ) → start ≤ place → place < end
+    → slice_get clauses place ≡ Some clause → is_open (reading set clause) ≡ true
 
 -- the clause at a place is false, or forces the literal, or all at places from `start` up to `end` are settled
 abbrev pub SeesFrom : List (List ℤ) → List ℤ → ℕ → ℕ → Scan → Type 0

@@ -1,6 +1,7 @@
 -- What the search keeps: how the trail stands, what the steps so far come to, and what falls with each round.
 -- Rules of this project.
-use Rattle.std.specs.Prelude.{ℕ, zero, suc, ◌+◌, ◌*◌, ◌-◌, ◌^◌, ◌<◌, ◌≡◌, Bool, true, false, not, ◌&&◌, ◌||◌, if◌then◌else◌, List, [], ◌∷◌, ◌++◌, ℤ, pos, length}
+use Rattle.std.specs.Prelude.{ℕ, zero, suc, ◌+◌, ◌*◌, ◌-◌, ◌^◌, ◌<◌, ◌≡◌, Bool, true, false, not, ◌&&◌, ◌||◌}
+use Rattle.std.specs.Prelude.{if◌then◌else◌, List, [], ◌∷◌, ◌++◌, ℤ, pos, length}
 use Rattle.std.specs.List.{list_all}
 use Rattle.cnf_form.specs.Cnf.{AreLiterals, AreClauses}
 use Rattle.lrat_check.specs.declared.step.Step.{Step}
@@ -23,7 +24,8 @@ agrees false other = not other
 -- one of so many variables, or its complement, is in one of the clauses alone
 abbrev pub differ : ℕ → List ℤ → List ℤ → Bool
 differ zero a b = false
-differ (suc n) a b = not (agrees (has a (pos (n + 1))) (has b (pos (n + 1))) && agrees (is_false a (pos (n + 1))) (is_false b (pos (n + 1)))) || differ n a b
+differ (suc n) a b = not (agrees (has a (pos (n + 1))) (has b (pos (n + 1)))
+    && agrees (is_false a (pos (n + 1))) (is_false b (pos (n + 1)))) || differ n a b
 
 -- each two of the clauses differ so
 abbrev pub Apart : ℕ → List (List ℤ) → Type 0
@@ -31,7 +33,8 @@ Apart vars [] = Unit {0}
 Apart vars (c ∷ cs) = (list_all (differ vars c) cs ≡ true) × Apart vars cs
 
 -- the clauses are those of the formula and then the learnt ones; whatever more steps come, they go on from here
-pub record Searching (vars budget : ℕ) (formula clauses : List (List ℤ)) (trail : Entries) (steps : List Step) (left : ℕ) : Type 0 where
+pub record Searching (vars budget : ℕ) (formula clauses : List (List ℤ)) (trail : Entries) (steps : List Step)
+    (left : ℕ) : Type 0 where
   pub stand : Stand clauses trail
   pub names : AreClauses vars clauses
   pub known : AreLiterals vars (lits trail)

@@ -1,6 +1,7 @@
 -- Trails, the newest entry first: what is true, why each entry stands there, and what is older than a decision.
 -- Rules of this project, after conflict-driven clause learning.
-use Rattle.std.specs.Prelude.{ℕ, zero, suc, ◌+◌, ◌-◌, ◌<◌, ◌≡◌, Bool, true, false, ltb, ◌||◌, List, [], ◌∷◌, ◌++◌, ℤ, pos, map, drop, length, slice_get, Option, Some, None}
+use Rattle.std.specs.Prelude.{ℕ, zero, suc, ◌+◌, ◌-◌, ◌<◌, ◌≡◌, Bool, true, false, ltb, ◌||◌, List, [], ◌∷◌, ◌++◌, ℤ}
+use Rattle.std.specs.Prelude.{pos, map, drop, length, slice_get, Option, Some, None}
 use Rattle.std.specs.List.{list_any, list_all}
 use Rattle.std.specs.Ordering.{int_eq}
 use Rattle.std.specs.HashMap.{get, HashMap}
@@ -50,7 +51,8 @@ settled clauses set = list_all (λ c. is_open (reading set c)) clauses
 -- a decision comes where the clauses are settled; else the clause at the place forces the literal
 abbrev pub Because : List (List ℤ) → List ℤ → ℤ → Option ℕ → Type 0
 Because clauses set lit None = settled clauses set ≡ true
-Because clauses set lit (Some place) = (clause : List ℤ) × (slice_get clauses place ≡ Some clause) × (reading set clause ≡ read.Unit lit)
+Because clauses set lit (Some place) =
+    (clause : List ℤ) × (slice_get clauses place ≡ Some clause) × (reading set clause ≡ read.Unit lit)
 
 -- why an entry stands on what is older: its literal was open
 pub record Stands (clauses : List (List ℤ)) (older : Entries) (e : Entry) : Type 0 where

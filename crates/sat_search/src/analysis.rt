@@ -1,4 +1,5 @@
-ghost use Rattle.std.specs.Prelude.{◌≡◌, ◌<◌, ◌+◌, ◌-◌, ◌^◌, [], ◌∷◌, ◌++◌, true, false, cond, pos, length, reverse, neg_ℤ, not, IfOk, OnOk};
+ghost use Rattle.std.specs.Prelude.{◌≡◌, ◌<◌, ◌+◌, ◌-◌, ◌^◌, [], ◌∷◌, ◌++◌, true, false, cond, pos, length, reverse};
+ghost use Rattle.std.specs.Prelude.{neg_ℤ, not, IfOk, OnOk};
 ghost use Rattle.lrat_check.specs.Sets.{has, without, union, reading, IsLit, AreLits};
 ghost use Rattle.sat_search.specs.Trail.{Entries, lits, below, decided, is_decision};
 ghost use Rattle.sat_search.specs.Propagation.{AllLits};
@@ -127,7 +128,9 @@ fn back(
     requires derives { Derives clauses.now (entry ∷ trail.now) learnt.lits.items (reverse learnt.hints.items) }
     requires implied { is_decision entry ≡ false }
     ensures derives { IfOk result (λ l. Derives clauses.now trail.now l.lits.items (reverse l.hints.items)) }
-    ensures level { IfOk result (λ l. (older : Entries) → Level older (entry ∷ trail.now) learnt.lits.items → is_unit (reading (lits (below (entry ∷ trail.now))) learnt.lits.items) ≡ false → Level older trail.now l.lits.items) }
+    ensures level { IfOk result (λ l. (older : Entries) → Level older (entry ∷ trail.now) learnt.lits.items
+        → is_unit (reading (lits (below (entry ∷ trail.now))) learnt.lits.items) ≡ false
+        → Level older trail.now l.lits.items) }
 {
     if !has(&learnt.lits, complement(entry.lit)) {
         return Ok(learnt);

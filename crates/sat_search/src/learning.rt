@@ -38,7 +38,8 @@ pub(crate) fn add(
 ) -> Result<(), Memory>
     requires few { length clauses.old < 2 ^ 63 - 1 }
     ensures clauses { OnOk result (clauses.new ≡ clauses.old ++ learnt.lits.items ∷ []) }
-    ensures steps { OnOk result (steps.new ≡ steps.old ++ Step.Add (length clauses.old + 1) learnt.lits.items (reverse learnt.hints.items) ∷ []) }
+    ensures steps { OnOk result (steps.new ≡ steps.old
+        ++ Step.Add (length clauses.old + 1) learnt.lits.items (reverse learnt.hints.items) ∷ []) }
 {
     let id = clauses.len() as u64 + 1;
     let Learnt { lits, mut hints } = learnt;

@@ -18,8 +18,9 @@ pub(crate) enum Scan {
     Settled,
 }
 
-/// A clause that is false or forces a literal: the first from `start` on, and where there is none, the first before it. Clauses
-/// that follow from one another mostly stand in a row, so a search that goes on where it was goes over few of them twice.
+/// A clause that is false or forces a literal: the first from `start` on, and where there is none, the first before
+/// it. Clauses that follow from one another mostly stand in a row, so a search that goes on where it was goes over
+/// few of them twice.
 pub(crate) fn survey(clauses: &[List<i64>], trail: &Trail, start: usize) -> Scan
     requires { AllLits clauses.now }
     ensures { Sees clauses.now (lits trail.now) result }

@@ -1,5 +1,5 @@
-//! Cases of Verilog texts: reads a case a line, and prints what is answered of it. The first word of a line says what is
-//! asked, and behind it stand the texts, as `parts.rt` reads them.
+//! Cases of Verilog texts: reads a case a line, and prints what is answered of it. The first word of a line says what
+//! is asked, and behind it stand the texts, as `parts.rt` reads them.
 //!
 //! | word | behind it | what is printed |
 //! |---|---|---|
@@ -7,13 +7,15 @@
 //! | `prepare` | a text | what it comes to behind a macro `one`, which stands for `1` |
 //! | `files` | configuration lines, then a text for each file | what they come to |
 //! | `defined` | a text, then names | which of the names are macros behind the text |
-//! | `predefined`, `compressed` | a text | how many tokens it comes to by the macros that are predefined without C, or with it, and the first one |
+//! | `predefined`, `compressed` | a text | how many tokens it comes to by the macros that are predefined without C,
+//! or with it, and the first one |
 //! | `parse` | a text | `ok`, or the refusal |
 //! | `items` | items of a module, which stand on its second line | the same |
 //! | `nest` | a count, a front, what opens, the middle, what closes, and the end of such items | the same |
 //! | `shape` | a text | ports and items of its first module |
 //! | `lexed` | a count | how many tokens so many semicolons are |
-//! | `tower`, `towers` | a count and a text | what so many macros come to, each of which uses the one before once, or twice |
+//! | `tower`, `towers` | a count and a text | what so many macros come to, each of which uses the one before once, or
+//! twice |
 //! | `room` | a count | what so many tokens behind 1,999,999 others come to |
 #![tactic(auto)]
 

@@ -1,5 +1,5 @@
-//! The texts of a line. In each `\n`, `\r`, `\t` and `\f` stand for a line's end, a return, a tab and a form feed, `\\` for a
-//! backslash, and `\|` ends one text and begins the next.
+//! The texts of a line. In each `\n`, `\r`, `\t` and `\f` stand for a line's end, a return, a tab and a form feed,
+//! `\\` for a backslash, and `\|` ends one text and begins the next.
 
 use std::alloc::{AllocError, Global};
 

@@ -1,5 +1,5 @@
-//! The shapes of trees, where the text alone doesn't show them: expressions with all their brackets, and statements with
-//! brackets around each `if`.
+//! The shapes of trees, where the text alone doesn't show them: expressions with all their brackets, and statements
+//! with brackets around each `if`.
 
 use crate::shown;
 use anyhow::Result;

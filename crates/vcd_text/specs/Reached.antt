@@ -1,13 +1,16 @@
 -- How far a dump was read, and which lines of a trace's dump are still to come there. Rule of this project.
-use Rattle.std.specs.Prelude.{ℕ, ◌+◌, ◌<◌, ◌≤◌, ◌≡◌, ◌^◌, ◌⊎◌, ◌↔◌, Bool, true, false, List, [], ◌∷◌, ◌++◌, length, take, drop, codes, Option, MatchOption}
+use Rattle.std.specs.Prelude.{ℕ, ◌+◌, ◌<◌, ◌≤◌, ◌≡◌, ◌^◌, ◌⊎◌, ◌↔◌, Bool, true, false, List, [], ◌∷◌, ◌++◌, length}
+use Rattle.std.specs.Prelude.{take, drop, codes, Option, MatchOption}
 use Rattle.std.specs.List.{AllByRecursion}
 use Rattle.fv_base.specs.declared.trace.Trace.{Trace}
 use Rattle.fv_base.specs.declared.trace.TraceName.{TraceName}
 use Rattle.vcd_text.specs.declared.reader.Part.{Part}
-use Rattle.vcd_text.specs.declared.reader.Part.TheVariants.{Scale, Scope, Names, Definitions, Start, Dump, Values, Changes}
+use Rattle.vcd_text.specs.declared.reader.Part.TheVariants.{Scale, Scope, Names, Definitions, Start, Dump, Values}
+use Rattle.vcd_text.specs.declared.reader.Part.TheVariants.{Changes}
 use Rattle.vcd_text.specs.declared.reader.Reader.{Reader}
 use Rattle.vcd_text.specs.Reading.{IsPlain, IsReadable}
-use Rattle.vcd_text.specs.Vcd.{IsWide, AreValues, name_lines, header_lines, value_lines, change_lines, later_lines, cycle_lines}
+use Rattle.vcd_text.specs.Vcd.{IsWide, AreValues, name_lines, header_lines, value_lines, change_lines, later_lines}
+use Rattle.vcd_text.specs.Vcd.{cycle_lines}
 
 -- the lines from the end of the scope on
 abbrev pub behind_names : List TraceName → List (List ℕ) → List (List ℕ)
@@ -39,7 +42,8 @@ pub record AreValuesLeft (names : List TraceName) (values : List ℕ) (cycles re
       rest ≡ value_lines (length values) (drop (length values) names) others
       ++ behind_values names (values ++ others) later
 
--- behind the whole cycles a cycle is open: below `next` its values are known, from there on those of the cycle before are
+-- behind the whole cycles a cycle is open: below `next` its values are known, from there on those of the cycle before
+-- are
 pub record IsCycleLeft
     (names : List TraceName)
     (whole : List (List ℕ))
@@ -60,8 +64,8 @@ pub record IsNoneLeft (whole : List (List ℕ)) (next : ℕ) (cycles rest : List
   pub cycles_are : cycles ≡ whole
   pub left : rest ≡ []
 
--- by the part that was reached, and the names, the whole cycles, the values and the next name so far: which lines of the
--- dump of all these names and cycles are still to come
+-- by the part that was reached, and the names, the whole cycles, the values and the next name so far: which lines of
+-- the dump of all these names and cycles are still to come
 abbrev pub AreLeft :
     Part → List TraceName → List (List ℕ) → List ℕ → ℕ
     → List TraceName → List (List ℕ) → List (List ℕ) → Type 0

@@ -1,6 +1,7 @@
 -- Which traces can be read back from their dumps, and where a text first departs from all of these dumps. Rule of this
 -- project.
-use Rattle.std.specs.Prelude.{ℕ, ◌+◌, ◌-◌, ◌^◌, ◌<◌, ◌≤◌, ◌≡◌, min, Bool, true, not, ◌&&◌, ◌==◌, nat_lt, decimal, List, ◌++◌, length, take, slice_get, Option, Some, MatchOption}
+use Rattle.std.specs.Prelude.{ℕ, ◌+◌, ◌-◌, ◌^◌, ◌<◌, ◌≤◌, ◌≡◌, min, Bool, true, not, ◌&&◌, ◌==◌, nat_lt, decimal}
+use Rattle.std.specs.Prelude.{List, ◌++◌, length, take, slice_get, Option, Some, MatchOption}
 use Rattle.std.specs.List.{AllByRecursion, list_all}
 use Rattle.fv_base.specs.declared.trace.Trace.{Trace}
 use Rattle.fv_base.specs.declared.trace.TraceName.{TraceName}
@@ -29,8 +30,8 @@ pub record IsFront (lines : List (List ℕ)) : Type 0 where
   pub rest : List (List ℕ)
   pub same : vcd_lines whose ≡ lines ++ rest
 
--- the first line that no dump has behind the lines before it; where the text ends too early, or behind its last LF, it is
--- the line behind the last. Lines count from 1, and the count stands still at 2^32 - 1
+-- the first line that no dump has behind the lines before it; where the text ends too early, or behind its last LF,
+-- it is the line behind the last. Lines count from 1, and the count stands still at 2^32 - 1
 pub record IsFirstFault (bytes : List ℕ) (line : ℕ) : Type 0 where
   pub before : ℕ
   pub place : line ≡ min (before + 1) (2 ^ 32 - 1)

@@ -45,7 +45,8 @@ impl Reader {
 
     pub(crate) fn new(alloc: Global) -> Reader
         ensures sound { IsSound result }
-        ensures awaits { (t : Trace) (more : List (List ℕ)) → IsReadable t → Awaits result t more ↔ (vcd_lines t ≡ more) }
+        ensures awaits { (t : Trace) (more : List (List ℕ)) → IsReadable t → Awaits result t more
+            ↔ (vcd_lines t ≡ more) }
     {
         Reader {
             alloc,

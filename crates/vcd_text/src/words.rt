@@ -39,7 +39,8 @@ pub(crate) fn number_up_to(digits: &[u8], base: u128, most: u128) -> Option<u128
 
 /// The digit of a character, where `zero` is the character of 0, if it is below the base and at most `most`.
 fn digit_up_to(character: u8, zero: u8, base: u128, most: u128) -> Option<u128>
-    ensures { MatchOption result ((d : ℕ) → d < base → d ≤ most → character ≡ zero + d → ⊥) (λ d. (d < base) × (d ≤ most) × (character ≡ zero + d)) }
+    ensures { MatchOption result ((d : ℕ) → d < base → d ≤ most → character ≡ zero + d → ⊥)
+        (λ d. (d < base) × (d ≤ most) × (character ≡ zero + d)) }
 {
     if character < zero {
         return None;

@@ -1,6 +1,8 @@
 ghost use Rattle.std.specs.Prelude.{◌≡◌, ◌++◌, IfOk, OnOk};
 ghost use Rattle.std.specs.List.{AllByRecursion};
-ghost use Rattle.vcd_text.specs.Vcd.{IsTrace, AreValues, text_of, with_end, name_line, name_lines, value_of, value_line, value_lines, change_line, change_lines, time_line, later_lines, first_lines, cycle_lines, header_lines, vcd_text};
+ghost use Rattle.vcd_text.specs.Vcd.{IsTrace, AreValues, text_of, with_end, name_line, name_lines, value_of};
+ghost use Rattle.vcd_text.specs.Vcd.{value_line, value_lines, change_line, change_lines, time_line, later_lines};
+ghost use Rattle.vcd_text.specs.Vcd.{first_lines, cycle_lines, header_lines, vcd_text};
 
 use crate::digits::{put_binary, put_code};
 use fv_base::{List, Memory, Trace, TraceName};

@@ -1,5 +1,6 @@
 -- Numbers by their bits.
-use Rattle.std.proofs.Common.{◌≡◌, ℕ, zero, suc, ◌+◌, ◌-◌, ◌*◌, ◌/◌, ◌%◌, ◌^◌, ◌<◌, ◌≤◌, Bool, true, false, cond, not, ◌&&◌, eqb, ltb, refl, sym, ap, ◌∙◌, arith, ⊎_elim}
+use Rattle.std.proofs.Common.{◌≡◌, ℕ, zero, suc, ◌+◌, ◌-◌, ◌*◌, ◌/◌, ◌%◌, ◌^◌, ◌<◌, ◌≤◌, Bool, true, false, cond, not}
+use Rattle.std.proofs.Common.{◌&&◌, eqb, ltb, refl, sym, ap, ◌∙◌, arith, ⊎_elim}
 use Rattle.std.proofs.lemmas.Bool.{eq-eqb, ne_eqb, cases_lt, cases_eq, lt-ltb, le-ltb}
 use Rattle.std.proofs.lemmas.Nat.{pow_pos, pow-add, and_block, or_block, xor_block, mod-pow-add}
 use Rattle.std.proofs.Math.Nat.{pow-suc, mod-eq_of_lt, mul_assoc, mul-add-mod_self_right}
@@ -28,18 +29,22 @@ and-false false = refl
 
 -- two tests of numbers agree where the equations do
 pub eqb-eqb : (a b c d : ℕ) → (a ≡ b → c ≡ d) → (c ≡ d → a ≡ b) → eqb a b ≡ eqb c d
-eqb-eqb a b c d forth back = ⊎_elim (λ e. eq-eqb a b (back e) ∙ sym (eq-eqb c d e)) (λ ne. ne_eqb a b (λ e. ne (forth e)) ∙ sym (ne_eqb c d ne)) (cases_eq c d)
+eqb-eqb a b c d forth back = ⊎_elim (λ e. eq-eqb a b (back e) ∙ sym (eq-eqb c d e))
+    (λ ne. ne_eqb a b (λ e. ne (forth e)) ∙ sym (ne_eqb c d ne)) (cases_eq c d)
 
 -- two numbers with one more bit each are equal where the rest and the bit are
 pub eqb-step : (x y : Bool) (p m n : ℕ) → m < p → n < p → eqb (bit x * p + m) (bit y * p + n) ≡ (eqb m n && beq x y)
-eqb-step true true p m n h k = eqb-eqb (1 * p + m) (1 * p + n) m n (λ e. omega arith) (λ e. omega arith) ∙ sym (and-true (eqb m n))
-eqb-step false false p m n h k = eqb-eqb (0 * p + m) (0 * p + n) m n (λ e. omega arith) (λ e. omega arith) ∙ sym (and-true (eqb m n))
+eqb-step true true p m n h k =
+    eqb-eqb (1 * p + m) (1 * p + n) m n (λ e. omega arith) (λ e. omega arith) ∙ sym (and-true (eqb m n))
+eqb-step false false p m n h k =
+    eqb-eqb (0 * p + m) (0 * p + n) m n (λ e. omega arith) (λ e. omega arith) ∙ sym (and-true (eqb m n))
 eqb-step true false p m n h k = ne_eqb (1 * p + m) (0 * p + n) (λ e. omega arith) ∙ sym (and-false (eqb m n))
 eqb-step false true p m n h k = ne_eqb (0 * p + m) (1 * p + n) (λ e. omega arith) ∙ sym (and-false (eqb m n))
 
 pub written_same : (f g : ℕ → Bool) (w : ℕ) → ((k : ℕ) → k < w → f k ≡ g k) → written f w ≡ written g w
 written_same f g zero h = refl
-written_same f g (suc w) h = ap (λ b. bit b * 2 ^ w + written f w) (h w (omega arith)) ∙ ap (λ n. bit (g w) * 2 ^ w + n) (written_same f g w (λ k l. h k (omega arith)))
+written_same f g (suc w) h = ap (λ b. bit b * 2 ^ w + written f w) (h w (omega arith))
+    ∙ ap (λ n. bit (g w) * 2 ^ w + n) (written_same f g w (λ k l. h k (omega arith)))
 
 -- the bits of a number
 half_cases : (n : ℕ) → bit (eqb (n % 2) 1) ≡ n % 2
@@ -73,7 +78,8 @@ bits_joined Xor true false = refl
 bits_joined Xor false true = refl
 bits_joined Xor false false = refl
 
-joined-block : (g : Gate) (k a b r s : ℕ) → r < 2 ^ k → s < 2 ^ k → joined g (a * 2 ^ k + r) (b * 2 ^ k + s) ≡ joined g a b * 2 ^ k + joined g r s
+joined-block : (g : Gate) (k a b r s : ℕ) → r < 2 ^ k → s < 2 ^ k
+    → joined g (a * 2 ^ k + r) (b * 2 ^ k + s) ≡ joined g a b * 2 ^ k + joined g r s
 joined-block And k a b r s h j = and_block k a b r s h j
 joined-block Or k a b r s h j = or_block k a b r s h j
 joined-block Xor k a b r s h j = xor_block k a b r s h j
@@ -83,7 +89,8 @@ joined-zero And = refl
 joined-zero Or = refl
 joined-zero Xor = refl
 
-pub written-truth : (g : Gate) (f h : ℕ → Bool) (w : ℕ) → written (λ k. truth g (f k) (h k)) w ≡ joined g (written f w) (written h w)
+pub written-truth : (g : Gate) (f h : ℕ → Bool) (w : ℕ)
+    → written (λ k. truth g (f k) (h k)) w ≡ joined g (written f w) (written h w)
 written-truth g f h zero = sym (joined-zero g)
 written-truth g f h (suc w) =
     ap (λ n. bit (truth g (f w) (h w)) * 2 ^ w + n) (written-truth g f h w)
@@ -106,9 +113,12 @@ written-not f (suc w) =
 pub written-short : (f : ℕ → Bool) (n w : ℕ) → n ≤ w → written (λ k. ltb k n && f k) w ≡ written f n
 written-short f n zero h = let e : n ≡ 0 = omega arith in ap (written f) (sym e)
 written-short f n (suc w) h = ⊎_elim
-    (λ l. ap (λ b. bit (b && f w) * 2 ^ w + written (λ k. ltb k n && f k) w) (le-ltb w n (omega arith)) ∙ (let z : 0 * 2 ^ w + written (λ k. ltb k n && f k) w ≡ written (λ k. ltb k n && f k) w = omega arith in z) ∙ written-short f n w (omega arith))
+    (λ l. ap (λ b. bit (b && f w) * 2 ^ w + written (λ k. ltb k n && f k) w) (le-ltb w n (omega arith))
+    ∙ (let z : 0 * 2 ^ w + written (λ k. ltb k n && f k) w ≡ written (λ k. ltb k n && f k) w = omega arith in z)
+    ∙ written-short f n w (omega arith))
     (λ l. let e : n ≡ suc w = omega arith in
-    written_same (λ k. ltb k n && f k) f (suc w) (λ k j. ap (λ b. b && f k) (lt-ltb k n (omega arith))) ∙ ap (written f) (sym e))
+    written_same (λ k. ltb k n && f k) f (suc w) (λ k j. ap (λ b. b && f k) (lt-ltb k n (omega arith)))
+    ∙ ap (written f) (sym e))
     (cases_lt n (suc w))
 
 -- a number is 0 where each bit is
@@ -119,7 +129,8 @@ zero-step false p n h = eqb-eqb (0 * p + n) 0 n 0 (λ e. omega arith) (λ e. ome
 pub zero-written : (f : ℕ → Bool) (w : ℕ) → eqb (written f (suc w)) 0 ≡ (eqb (written f w) 0 && not (f w))
 zero-written f w = zero-step (f w) (2 ^ w) (written f w) (pow_pos w)
 
-pub written-pick : (z : Bool) (f g : ℕ → Bool) (w : ℕ) → written (λ k. cond z (g k) (f k)) w ≡ cond z (written g w) (written f w)
+pub written-pick : (z : Bool) (f g : ℕ → Bool) (w : ℕ)
+    → written (λ k. cond z (g k) (f k)) w ≡ cond z (written g w) (written f w)
 written-pick true f g w = refl
 written-pick false f g w = refl
 
@@ -130,7 +141,8 @@ xor_bits true false = refl
 xor_bits false true = refl
 xor_bits false false = refl
 
-pub zero-xor : (f g : ℕ → Bool) (w : ℕ) → eqb (written (λ k. truth Xor (f k) (g k)) w) 0 ≡ eqb (written f w) (written g w)
+pub zero-xor : (f g : ℕ → Bool) (w : ℕ) → eqb (written (λ k. truth Xor (f k) (g k)) w) 0
+    ≡ eqb (written f w) (written g w)
 zero-xor f g zero = refl
 zero-xor f g (suc w) =
     zero-written (λ k. truth Xor (f k) (g k)) w

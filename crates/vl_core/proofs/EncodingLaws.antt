@@ -1,5 +1,6 @@
 -- The formula of a plain module is what its places and clauses were made for.
-use Rattle.std.proofs.Common.{◌≡◌, ℕ, ◌+◌, Bool, true, not, ◌&&◌, List, [], ◌∷◌, ◌++◌, length, sym, ap, ◌∙◌, subst, arith, length-append}
+use Rattle.std.proofs.Common.{◌≡◌, ℕ, ◌+◌, Bool, true, not, ◌&&◌, List, [], ◌∷◌, ◌++◌, length, sym, ap, ◌∙◌, subst}
+use Rattle.std.proofs.Common.{arith, length-append}
 use Rattle.std.specs.Prelude.{slice_index, codes}
 use Rattle.std.proofs.lemmas.Bool.{and_parts, and_from}
 use Rattle.cnf_form.specs.Cnf.{Cnf, formula_true, value_of}
@@ -18,11 +19,18 @@ use Rattle.vl_core.proofs.ExprLaws.{length-block}
 use Rattle.vl_core.proofs.PortLaws.{port_bits, all_driver_bits, reads, drivers_true, named_true, failing_true}
 use Rattle.vl_core.proofs.PlaceLaws.{each_place, named_places, places_agree}
 
-end-bits : (at : ℕ) (ps : List FirstPort) (ns : List ℕ) → within ps ns ≡ true → end_from at ps ≡ at + length (port_bits ps ns)
+end-bits : (at : ℕ) (ps : List FirstPort) (ns : List ℕ) → within ps ns ≡ true
+    → end_from at ps ≡ at + length (port_bits ps ns)
 end-bits at [] ns h = omega arith
 end-bits at (p ∷ ps) [] h = cc
 end-bits at (p ∷ ps) (n ∷ ns) h =
-    omega (arith, end-bits (at + bits_of p) ps ns (and_parts _ _ h).1, length-block (bits_of p) n, length-append (block (bits_of p) n) (port_bits ps ns))
+    omega (
+      arith,
+      end-bits (at + bits_of p) ps ns (and_parts _ _ h).1,
+      length-block (bits_of p) n,
+      length-append
+          (block (bits_of p) n) (port_bits ps ns),
+    )
 
 from_zero : (nums : List ℕ) (d : ℕ) → slice_index nums (0 + d) ≡ slice_index nums d
 from_zero nums d = ap (slice_index nums) (omega arith)
@@ -40,15 +48,19 @@ module _ (ports : List FirstPort) (plain : IsPlain ports) where
 
   clauses_true : (v : ℕ → Bool) (nums : List ℕ) → within ports nums ≡ true → matches v 0 (port_bits ports nums) ≡ true
       → formula_true v (clauses_of ports)
-      ≡ (matches v (end_from 0 ports) (all_driver_bits ports nums ports) && are_driven ports nums ports nums && (retires_zero ports nums && not (traps_idle ports nums)))
+      ≡ (matches v (end_from 0 ports) (all_driver_bits ports nums ports) && are_driven ports nums ports nums
+      && (retires_zero ports nums && not (traps_idle ports nums)))
   clauses_true v nums h m =
       formula-append v (drivers ports (starts_from 0 ports) 0 (end_from 0 ports) ports) (failing_at ports)
       ∙ ap (λ b. b && formula_true v (failing_at ports))
-      (drivers_true v ports (starts_from 0 ports) nums (reads v ports nums h m) ports nums 0 (end_from 0 ports) plain.reads plain.clocks h m)
-      ∙ ap (λ b. matches v (end_from 0 ports) (all_driver_bits ports nums ports) && are_driven ports nums ports nums && b) (property_true v nums h m)
+      (drivers_true v ports (starts_from 0 ports) nums (reads v ports nums h m) ports nums 0
+      (end_from 0 ports) plain.reads plain.clocks h m)
+      ∙ ap (λ b. matches v (end_from 0 ports) (all_driver_bits ports nums ports) && are_driven ports nums ports nums
+      && b) (property_true v nums h m)
 
   module _ (f : Cnf) (cs : f.clauses ≡ clauses_of ports) where
-    sound : (v : ℕ → Bool) (nums : List ℕ) → formula_true v f.clauses ≡ true → agree ports (places_of ports) v nums ≡ true → violates ports nums ≡ true
+    sound : (v : ℕ → Bool) (nums : List ℕ) → formula_true v f.clauses ≡ true
+        → agree ports (places_of ports) v nums ≡ true → violates ports nums ≡ true
     unfolding violates
     sound v nums t a =
         let h : within ports nums ≡ true = (and_parts _ _ a).0 in
@@ -57,25 +69,31 @@ module _ (ports : List FirstPort) (plain : IsPlain ports) where
         let bits = matches v (end_from 0 ports) (all_driver_bits ports nums ports) in
         let driven = are_driven ports nums ports nums in
         let fails = retires_zero ports nums && not (traps_idle ports nums) in
-        let parts = and_parts (bits && driven) fails (sym (clauses_true v nums h m) ∙ ap (formula_true v) (sym cs) ∙ t) in
-        and_from (within ports nums) (driven && fails) h (and_from driven fails (and_parts bits driven parts.0).1 parts.1)
+        let parts = and_parts (bits && driven) fails
+        (sym (clauses_true v nums h m) ∙ ap (formula_true v) (sym cs) ∙ t) in
+        and_from (within ports nums) (driven && fails) h
+        (and_from driven fails (and_parts bits driven parts.0).1 parts.1)
 
     reached : (nums : List ℕ) → violates ports nums ≡ true
-        → (values : List Bool) × (formula_true (value_of values) f.clauses ≡ true) × (agree ports (places_of ports) (value_of values) nums ≡ true)
+        → (values : List Bool) × (formula_true (value_of values) f.clauses ≡ true)
+        × (agree ports (places_of ports) (value_of values) nums ≡ true)
     unfolding violates
     reached nums t =
         let h : within ports nums ≡ true = (and_parts _ _ t).0 in
-        let right : (are_driven ports nums ports nums ≡ true) × ((retires_zero ports nums && not (traps_idle ports nums)) ≡ true) = and_parts _ _ (and_parts _ _ t).1 in
+        let right : (are_driven ports nums ports nums ≡ true)
+        × ((retires_zero ports nums && not (traps_idle ports nums)) ≡ true) = and_parts _ _ (and_parts _ _ t).1 in
         let front = port_bits ports nums in
         let back = all_driver_bits ports nums ports in
         let v : ℕ → Bool = value_of (front ++ back) in
-        let parts = and_parts _ _ (sym (split v 0 (end_from 0 ports) front back (end-bits 0 ports nums h)) ∙ matches_self (front ++ back)) in (
+        let parts = and_parts _ _ (sym (split v 0 (end_from 0 ports) front back (end-bits 0 ports nums h))
+        ∙ matches_self (front ++ back)) in (
           front ++ back,
           ap (formula_true v) cs ∙ clauses_true v nums h parts.0 ∙ and_from _ _ (and_from _ _ parts.1 right.0) right.1,
           and_from _ _ h (places_agree v nums 0 0 ports nums h (from_zero nums) ∙ parts.0),
         )
 
-  pub encodes : (f : Cnf) → f.vars ≡ vars_of ports → f.clauses ≡ clauses_of ports → (places : List FirstPlace) → places ≡ places_of ports → Encodes ports f places
+  pub encodes : (f : Cnf) → f.vars ≡ vars_of ports → f.clauses ≡ clauses_of ports → (places : List FirstPlace)
+      → places ≡ places_of ports → Encodes ports f places
   encodes f vs cs places e =
       let P : List FirstPlace → Type 0 = λ ps. Encodes ports f ps in
       subst P (sym e) (record {
@@ -88,9 +106,11 @@ module _ (ports : List FirstPort) (plain : IsPlain ports) where
       })
 
 -- what the parts that were pushed one after the other come to
-pub made : {f g h : Cnf} (ports sliced : List FirstPort) (starts : List ℕ) (end : ℕ) (places : List FirstPlace) → IsPlain ports → sliced ≡ ports
+pub made : {f g h : Cnf} (ports sliced : List FirstPort) (starts : List ℕ) (end : ℕ) (places : List FirstPlace)
+    → IsPlain ports → sliced ≡ ports
     → f.vars ≡ drivers_end sliced end sliced → f.clauses ≡ [] → starts ≡ starts_from 0 sliced → end ≡ end_from 0 sliced
-    → Adds f g (drivers sliced starts 0 end sliced) → Adds g h (failing_at sliced) → places ≡ places_of sliced → Encodes ports h places
+    → Adds f g (drivers sliced starts 0 end sliced) → Adds g h (failing_at sliced) → places ≡ places_of sliced
+    → Encodes ports h places
 made {f} {g} {h} ports sliced starts end places plain same vs cs ss es p q e =
     let P : List FirstPort → Type 0 = λ ps. IsPlain ps in
     let Q : List FirstPort → Type 0 = λ ps. Encodes ps h places in

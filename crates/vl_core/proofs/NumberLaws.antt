@@ -1,5 +1,7 @@
 -- The numbers that values give the ports at their places.
-use Rattle.std.proofs.Common.{⊎_elim, ◌≡◌, ℕ, zero, suc, ◌+◌, ◌^◌, ◌<◌, ◌≤◌, Bool, true, false, cond, not, ◌||◌, eqb, List, [], ◌∷◌, ◌++◌, length, drop, refl, sym, ap, ◌∙◌, arith, length-append, lit≤, get_or, add-one, append_assoc, ◌*◌}
+use Rattle.std.proofs.Common.{⊎_elim, ◌≡◌, ℕ, zero, suc, ◌+◌, ◌^◌, ◌<◌, ◌≤◌, Bool, true, false, cond, not, ◌||◌, eqb}
+use Rattle.std.proofs.Common.{List, [], ◌∷◌, ◌++◌, length, drop, refl, sym, ap, ◌∙◌, arith, length-append, lit≤}
+use Rattle.std.proofs.Common.{get_or, add-one, append_assoc, ◌*◌}
 use Rattle.std.specs.Prelude.{slice_index}
 use Rattle.std.proofs.lemmas.Bool.{and_from, lt-ltb, eq-eqb, cases_lt}
 use Rattle.std.proofs.Math.Nat.{pow-le-pow_right}
@@ -25,7 +27,8 @@ numbers_from v start (p ∷ ps) = number v start (bits_of p) ∷ numbers_from v 
 pub length-port_places : (i start w : ℕ) → length (port_places i start w) ≡ w
 length-port_places i start zero = refl
 length-port_places i start (suc w) =
-    length-append (port_places i start w) (record { port = i; bit = w; var = start + w + 1 } ∷ []) ∙ omega (arith, length-port_places i start w)
+    length-append (port_places i start w) (record { port = i; bit = w; var = start + w + 1 } ∷ [])
+    ∙ omega (arith, length-port_places i start w)
 
 var_at-front : (xs ys : List FirstPlace) (k : ℕ) → k < length xs → var_at (xs ++ ys) k ≡ var_at xs k
 var_at-front [] ys k h = absurd (omega arith)
@@ -43,7 +46,8 @@ var_at-port i start zero k h = absurd (omega arith)
 var_at-port i start (suc w) k h =
     let last : FirstPlace = record { port = i; bit = w; var = start + w + 1 } in
     ⊎_elim
-    (λ l. var_at-front (port_places i start w) (last ∷ []) k (omega (arith, length-port_places i start w)) ∙ var_at-port i start w k l)
+    (λ l. var_at-front (port_places i start w) (last ∷ []) k (omega (arith, length-port_places i start w))
+    ∙ var_at-port i start w k l)
     (λ g. var_at-last (port_places i start w) last k (omega (arith, length-port_places i start w)) ∙ omega arith)
     (cases_lt k w)
 
@@ -60,22 +64,28 @@ within_numbers v start [] = refl
 within_numbers v start (p ∷ ps) =
     let small = written_lt (λ k. v (start + k + 1)) (bits_of p) in
     let more : 2 ^ bits_of p ≤ 2 ^ p.width = pow-le-pow_right (lit≤ tt) (bits_le p) in
-    and_from _ _ (lt-ltb (number v start (bits_of p)) (2 ^ p.width) (omega arith)) (within_numbers v (start + bits_of p) ps)
+    and_from _ _ (lt-ltb (number v start (bits_of p)) (2 ^ p.width) (omega arith))
+    (within_numbers v (start + bits_of p) ps)
 
-match_numbers : (v : ℕ → Bool) (start : ℕ) (ps : List FirstPort) → matches v start (port_bits ps (numbers_from v start ps)) ≡ true
+match_numbers : (v : ℕ → Bool) (start : ℕ) (ps : List FirstPort)
+    → matches v start (port_bits ps (numbers_from v start ps)) ≡ true
 match_numbers v start [] = refl
 match_numbers v start (p ∷ ps) =
     let n = number v start (bits_of p) in
     split_port v start p n (port_bits ps (numbers_from v (start + bits_of p) ps))
-    ∙ and_from _ _ (matches-block v start (bits_of p) n (written_lt (λ k. v (start + k + 1)) (bits_of p)) ∙ eq-eqb n n refl) (match_numbers v (start + bits_of p) ps)
+    ∙ and_from _ _ (matches-block v start (bits_of p) n (written_lt (λ k. v (start + k + 1)) (bits_of p))
+    ∙ eq-eqb n n refl) (match_numbers v (start + bits_of p) ps)
 
-pub numbers_agree : (ports : List FirstPort) (places : List FirstPlace) (v : ℕ → Bool) (nums : List ℕ) → places ≡ places_of ports → nums ≡ numbers_from v 0 ports
+pub numbers_agree : (ports : List FirstPort) (places : List FirstPlace) (v : ℕ → Bool) (nums : List ℕ)
+    → places ≡ places_of ports → nums ≡ numbers_from v 0 ports
     → agree ports places v nums ≡ true
 numbers_agree ports places v nums e q =
     let all = numbers_from v 0 ports in
     ap (λ ps. agree ports ps v nums) e
     ∙ ap (agree ports (places_of ports) v) q
-    ∙ and_from _ _ (within_numbers v 0 ports) (places_agree v all 0 0 ports all (within_numbers v 0 ports) (λ d. ap (slice_index all) (let z : 0 + d ≡ d = omega arith in z)) ∙ match_numbers v 0 ports)
+    ∙ and_from _ _ (within_numbers v 0 ports)
+    (places_agree v all 0 0 ports all (within_numbers v 0 ports)
+    (λ d. ap (slice_index all) (let z : 0 + d ≡ d = omega arith in z)) ∙ match_numbers v 0 ports)
 
 low_numbers : (v : ℕ → Bool) (start : ℕ) (ps : List FirstPort) → clocks_are_low ps (numbers_from v start ps) ≡ true
 low_numbers v start [] = refl
@@ -86,7 +96,8 @@ low_numbers v start (p ∷ ps) =
     one true w = refl
     one false w = refl
 
-pub clocks_low : (ports : List FirstPort) (v : ℕ → Bool) (nums : List ℕ) → nums ≡ numbers_from v 0 ports → clocks_are_low ports nums ≡ true
+pub clocks_low : (ports : List FirstPort) (v : ℕ → Bool) (nums : List ℕ) → nums ≡ numbers_from v 0 ports
+    → clocks_are_low ports nums ≡ true
 clocks_low ports v nums q = ap (clocks_are_low ports) q ∙ low_numbers v 0 ports
 
 -- ---- one place more
@@ -95,7 +106,8 @@ var_at-get_or [] k d h = absurd (omega arith)
 var_at-get_or (p ∷ ps) zero d h = refl
 var_at-get_or (p ∷ ps) (suc k) d h = var_at-get_or ps k d (omega arith)
 
-pub one_more : (v : ℕ → Bool) (ps : List FirstPlace) (d : FirstPlace) (from k n m : ℕ) (b : Bool) → from + k < length ps → n ≡ written (λ j. v (var_at ps (from + j))) k
+pub one_more : (v : ℕ → Bool) (ps : List FirstPlace) (d : FirstPlace) (from k n m : ℕ) (b : Bool)
+    → from + k < length ps → n ≡ written (λ j. v (var_at ps (from + j))) k
     → b ≡ v (get_or ps (from + k) d).var → m ≡ bit b * 2 ^ k + n → m ≡ written (λ j. v (var_at ps (from + j))) (k + 1)
 one_more v ps d from k n m b h e q r =
     r
@@ -103,7 +115,8 @@ one_more v ps d from k n m b h e q r =
     ∙ ap (λ c. bit (v (var_at ps (from + k))) * 2 ^ k + c) e
     ∙ ap (written (λ j. v (var_at ps (from + j)))) (sym (add-one k))
 
-pub below_power : (v : ℕ → Bool) (ps : List FirstPlace) (from k n : ℕ) → n ≡ written (λ j. v (var_at ps (from + j))) k → n < 2 ^ k
+pub below_power : (v : ℕ → Bool) (ps : List FirstPlace) (from k n : ℕ)
+    → n ≡ written (λ j. v (var_at ps (from + j))) k → n < 2 ^ k
 below_power v ps from k n e = omega (arith, e, written_lt (λ j. v (var_at ps (from + j))) k)
 
 -- ---- the places that are left begin with those of the next port
@@ -118,7 +131,8 @@ var_at-drop (p ∷ ps) (suc n) k = ap (var_at (p ∷ ps)) (suc-add n k) ∙ var_
     suc-add : (n k : ℕ) → suc n + k ≡ suc (n + k)
     suc-add n k = omega arith
 
-port_front : (ports : List FirstPort) (i : ℕ) (p : FirstPort) → i < length ports → p ≡ get_or ports i p → drop i ports ≡ p ∷ drop (i + 1) ports
+port_front : (ports : List FirstPort) (i : ℕ) (p : FirstPort) → i < length ports → p ≡ get_or ports i p
+    → drop i ports ≡ p ∷ drop (i + 1) ports
 port_front ports i p h e = drop_more ports i p h ∙ ap (λ q. q ∷ drop (i + 1) ports) (sym e)
 
 -- the places that are left, from one port on
@@ -126,30 +140,45 @@ pub record Left (ports : List FirstPort) (places : List FirstPlace) (i used : �
   pub within : used ≤ length places
   pub are : drop used places ≡ places_from i used (drop i ports)
 
-module _ (ports : List FirstPort) (places : List FirstPlace) (i used bits : ℕ) (p : FirstPort) (h : i < length ports) (e : p ≡ get_or ports i p) (b : bits ≡ bits_of p) (l : Left ports places i used) where
+module _ (ports : List FirstPort) (places : List FirstPlace) (i used bits : ℕ) (p : FirstPort) (h : i < length ports)
+    (e : p ≡ get_or ports i p) (b : bits ≡ bits_of p) (l : Left ports places i used) where
   split_left : drop used places ≡ port_places i used bits ++ places_from (i + 1) (used + bits) (drop (i + 1) ports)
   split_left =
       l.are ∙ ap (places_from i used) (port_front ports i p h e)
       ∙ ap (λ n. port_places i used n ++ places_from (i + 1) (used + n) (drop (i + 1) ports)) (sym b)
 
   pub left_room : used + bits ≤ length places
-  left_room = omega (arith, l.within, length-drop used places, ap length split_left, length-append (port_places i used bits) (places_from (i + 1) (used + bits) (drop (i + 1) ports)), length-port_places i used bits)
+  left_room = omega (
+    arith,
+    l.within,
+    length-drop used places,
+    ap length split_left,
+    length-append
+        (port_places i used bits) (places_from (i + 1) (used + bits)
+        (drop (i + 1) ports)),
+    length-port_places i used bits,
+  )
 
   pub left_next : Left ports places (i + 1) (used + bits)
   left_next = record {
     within = left_room;
-    are = sym (drop-drop bits used places) ∙ ap (drop bits) split_left ∙ drop_at (port_places i used bits) (places_from (i + 1) (used + bits) (drop (i + 1) ports)) bits (length-port_places i used bits);
+    are = sym (drop-drop bits used places) ∙ ap (drop bits) split_left
+        ∙ drop_at (port_places i used bits) (places_from (i + 1) (used + bits) (drop (i + 1) ports)) bits
+        (length-port_places i used bits);
   }
 
   pub left_number : (v : ℕ → Bool) → written (λ k. v (var_at places (used + k))) bits ≡ number v used bits
   left_number v = written_same (λ k. v (var_at places (used + k))) (λ k. v (used + k + 1)) bits (λ k j.
       ap v (var_at-drop places used k
       ∙ ap (λ ps. var_at ps k) split_left
-      ∙ var_at-front (port_places i used bits) (places_from (i + 1) (used + bits) (drop (i + 1) ports)) k (omega (arith, length-port_places i used bits))
+      ∙ var_at-front (port_places i used bits) (places_from (i + 1) (used + bits) (drop (i + 1) ports)) k
+      (omega (arith, length-port_places i used bits))
       ∙ var_at-port i used bits k j))
 
-  pub left_numbers : (v : ℕ → Bool) (before after : List ℕ) (n : ℕ) → after ≡ before ++ n ∷ [] → n ≡ written (λ k. v (var_at places (used + k))) bits
-      → before ++ numbers_from v used (drop i ports) ≡ numbers_from v 0 ports → after ++ numbers_from v (used + bits) (drop (i + 1) ports) ≡ numbers_from v 0 ports
+  pub left_numbers : (v : ℕ → Bool) (before after : List ℕ) (n : ℕ) → after ≡ before ++ n ∷ []
+      → n ≡ written (λ k. v (var_at places (used + k))) bits
+      → before ++ numbers_from v used (drop i ports) ≡ numbers_from v 0 ports
+      → after ++ numbers_from v (used + bits) (drop (i + 1) ports) ≡ numbers_from v 0 ports
   left_numbers v before after n q m all =
       ap (λ l. l ++ numbers_from v (used + bits) (drop (i + 1) ports)) q
       ∙ append_assoc before (n ∷ []) (numbers_from v (used + bits) (drop (i + 1) ports))
@@ -158,7 +187,8 @@ module _ (ports : List FirstPort) (places : List FirstPlace) (i used bits : ℕ)
       ∙ ap (λ ps. before ++ numbers_from v used ps) (sym (port_front ports i p h e))
       ∙ all
 
-pub all_numbers : (v : ℕ → Bool) (items ports : List FirstPort) (i used : ℕ) (nums : List ℕ) → items ≡ ports → length items ≤ i
+pub all_numbers : (v : ℕ → Bool) (items ports : List FirstPort) (i used : ℕ) (nums : List ℕ) → items ≡ ports
+    → length items ≤ i
     → nums ++ numbers_from v used (drop i items) ≡ numbers_from v 0 items → nums ≡ numbers_from v 0 ports
 all_numbers v items ports i used nums same h all =
     sym (append-nil nums)

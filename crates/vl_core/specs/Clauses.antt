@@ -1,7 +1,8 @@
 -- The clauses of a module of the first form. Each port but the clock and the reset has a position for each of its bits,
 -- in the order of the ports. Behind them each operand of each output's expression has a block of as many positions as
 -- its context gives it bits, before those of its own operands (rule of this project).
-use Rattle.std.specs.Prelude.{◌≡◌, ℕ, ◌+◌, ◌≤◌, max, true, false, cond, ℤ, List, [], ◌∷◌, ◌++◌, Option, Some, None, slice_get, slice_index, codes}
+use Rattle.std.specs.Prelude.{◌≡◌, ℕ, ◌+◌, ◌≤◌, max, true, false, cond, ℤ, List, [], ◌∷◌, ◌++◌, Option, Some, None}
+use Rattle.std.specs.Prelude.{slice_get, slice_index, codes}
 use Rattle.std.specs.Option.{option_map_or}
 use Rattle.std.specs.Str.{bytes_eq}
 use Rattle.vl_first.specs.Expr.{Expr, number, port, complement, equal, both, differ, either, pick}
@@ -23,7 +24,8 @@ starts_from at (p ∷ ps) = at ∷ starts_from (at + bits_of p) ps
 
 -- The positions of each input that expressions may read lie below `end`.
 pub record LieBelow (ports : List FirstPort) (starts : List ℕ) (end : ℕ) : Type 0 where
-  pub below : (i : ℕ) → option_map_or is_input (slice_get ports i) false ≡ true → slice_index starts i + width_at ports i ≤ end
+  pub below : (i : ℕ) → option_map_or is_input (slice_get ports i) false ≡ true
+      → slice_index starts i + width_at ports i ≤ end
 
 -- the position behind those of the ports
 abbrev pub end_from : ℕ → List FirstPort → ℕ
@@ -41,7 +43,8 @@ span ports w (differ a b) = w + span ports w a + span ports w b
 span ports w (either a b) = w + span ports w a + span ports w b
 span ports w (pick c a b) = w + 1 + span ports (size ports c) c + span ports w a + span ports w b
 
--- The clauses of an expression in a context of w bits, with its positions from `at` on and those of the ports at `starts`.
+-- The clauses of an expression in a context of w bits, with its positions from `at` on and those of the ports at
+-- `starts`.
 abbrev pub expr_clauses : List FirstPort → List ℕ → ℕ → ℕ → Expr → List (List ℤ)
 expr_clauses ports starts w at (number n) = constant at n w
 expr_clauses ports starts w at (port i) = copies at (slice_index starts i) (width_at ports i) w
@@ -75,7 +78,8 @@ context ports width e = max width (size ports e)
 -- an output is its expression's value, cut to its width; an input is free
 abbrev pub driver_clauses : List FirstPort → List ℕ → ℕ → ℕ → ℕ → Option Expr → List (List ℤ)
 driver_clauses ports starts start at width None = []
-driver_clauses ports starts start at width (Some e) = expr_clauses ports starts (context ports width e) at e ++ copies start at width width
+driver_clauses ports starts start at width (Some e) =
+    expr_clauses ports starts (context ports width e) at e ++ copies start at width width
 
 abbrev pub driver_span : List FirstPort → ℕ → Option Expr → ℕ
 driver_span ports width None = 0

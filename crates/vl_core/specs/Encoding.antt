@@ -1,5 +1,6 @@
 -- What a formula and its places have to do with the numbers that violate.
-use Rattle.std.specs.Prelude.{◌≡◌, ℕ, Bool, true, false, cond, not, ◌&&◌, ◌||◌, ◌==◌, nat_lt, nat_le, List, ◌∷◌, slice_get, slice_index, count_by}
+use Rattle.std.specs.Prelude.{◌≡◌, ℕ, Bool, true, false, cond, not, ◌&&◌, ◌||◌, ◌==◌, nat_lt, nat_le, List, ◌∷◌}
+use Rattle.std.specs.Prelude.{slice_get, slice_index, count_by}
 use Rattle.std.specs.List.{list_all}
 use Rattle.std.specs.Option.{option_map_or}
 use mathlib.Core.Bool.{beq}
@@ -46,4 +47,5 @@ pub record Encodes (ports : List FirstPort) (formula : Cnf) (places : List First
   pub sound : (values : ℕ → Bool) (nums : List ℕ) → formula_true values formula.clauses ≡ true
       → agree ports places values nums ≡ true → violates ports nums ≡ true
   pub reached : (nums : List ℕ) → violates ports nums ≡ true
-      → (values : List Bool) × (formula_true (value_of values) formula.clauses ≡ true) × (agree ports places (value_of values) nums ≡ true)
+      → (values : List Bool) × (formula_true (value_of values) formula.clauses ≡ true)
+      × (agree ports places (value_of values) nums ≡ true)

@@ -1,6 +1,7 @@
 -- Clauses of gates over numbered positions, one variable a position (Tseitin's encoding). The position `at` is that
 -- of the variable at + 1.
-use Rattle.std.specs.Prelude.{ℕ, zero, suc, ◌+◌, Bool, true, false, ◌&&◌, ◌||◌, not, ℤ, pos, negsuc, List, [], ◌∷◌, ◌++◌, nat_lt, bit_and, bit_or, bit_xor}
+use Rattle.std.specs.Prelude.{ℕ, zero, suc, ◌+◌, Bool, true, false, ◌&&◌, ◌||◌, not, ℤ, pos, negsuc, List, [], ◌∷◌}
+use Rattle.std.specs.Prelude.{◌++◌, nat_lt, bit_and, bit_or, bit_xor}
 use Rattle.vl_core.specs.declared.gates.Gate.{Gate}
 use Rattle.vl_core.specs.declared.gates.Gate.TheVariants.{And, Xor, Or}
 use Rattle.vl_core.specs.Bits.{is_set}
@@ -78,10 +79,11 @@ sets a (suc width) = sets a width ++ set (a + width) ∷ []
 abbrev pub zero_test : ℕ → ℕ → ℕ → List (List ℤ)
 zero_test z a width = each_bit (λ k. excluded_bit z (a + k)) width ++ (set z ∷ sets a width) ∷ []
 
--- The number of w bits from `at` on is 1 where those of s bits from `left` and `right` on are equal, and else 0. Behind it
--- stand whether they are equal, and then the bits in which they differ.
+-- The number of w bits from `at` on is 1 where those of s bits from `left` and `right` on are equal, and else 0.
+-- Behind it stand whether they are equal, and then the bits in which they differ.
 abbrev pub equality : ℕ → ℕ → ℕ → ℕ → ℕ → List (List ℤ)
-equality at w left right s = gates Xor (at + w + 1) left right s ++ (zero_test (at + w) (at + w + 1) s ++ copies at (at + w) 1 w)
+equality at w left right s =
+    gates Xor (at + w + 1) left right s ++ (zero_test (at + w) (at + w + 1) s ++ copies at (at + w) 1 w)
 
 -- The number of w bits from `at` on is that from `second` on where the number of s bits behind is 0, and else that from
 -- `first` on. Between them stands whether it is 0.

@@ -82,7 +82,8 @@ fn push_driver(
     requires own { HasRoom formula.old (start + spec.bits_of port.now) }
     requires room { HasRoom formula.old (at + spec.driver_span ports.now port.now.width port.now.output) }
     ensures next { IfOk result (λ next. next ≡ at + spec.driver_span ports.now port.now.width port.now.output) }
-    ensures ok { OnOk result (Adds formula.old formula.new (spec.driver_clauses ports.now starts.now start at port.now.width port.now.output)) }
+    ensures ok { OnOk result (Adds formula.old formula.new
+        (spec.driver_clauses ports.now starts.now start at port.now.width port.now.output)) }
 {
     match &port.output {
         Some(expr) => {
@@ -128,8 +129,8 @@ fn push_drivers(
     Ok(())
 }
 
-/// Pushes that an instruction is retired whose word ends in 16 zero bits, and that it doesn't trap, or writes a register
-/// or memory.
+/// Pushes that an instruction is retired whose word ends in 16 zero bits, and that it doesn't trap, or writes a
+/// register or memory.
 #[tactic(auto, using(crate::proofs::AddsLemmas::adds), unfolding(crate::specs::Clauses::failing))]
 fn push_failing(
     alloc: Global,
@@ -193,8 +194,9 @@ fn encoded(alloc: Global, first: &First) -> Result<(Formula, List<FirstPlace>), 
 
 /// The formula of a module, and where the bits of its ports stand in it.
 ///
-/// Its variables and clauses grow with the ports and the operands of the expressions: no operand is written twice. A module
-/// of `2^32` ports or nodes wants memory, since a port's place has 32 bits and the variables' numbers are kept in 64.
+/// Its variables and clauses grow with the ports and the operands of the expressions: no operand is written twice. A
+/// module of `2^32` ports or nodes wants memory, since a port's place has 32 bits and the variables' numbers are kept
+/// in 64.
 pub fn first_clauses(alloc: Global, first: &First) -> Result<(Formula, List<FirstPlace>), Memory>
     requires { IsPlain first.now.ports }
     ensures encodes { IfOk result (λ r. Encodes first.now.ports r.0 r.1) }

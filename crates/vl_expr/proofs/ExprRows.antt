@@ -1,5 +1,6 @@
 -- What is read of expressions, row by row.
-use Rattle.std.proofs.Common.{◌≡◌, ℕ, zero, suc, ◌+◌, ◌-◌, ◌≤◌, ◌<◌, Bool, true, false, List, [], ◌∷◌, length, refl, sym, ap, ◌∙◌, arith}
+use Rattle.std.proofs.Common.{◌≡◌, ℕ, zero, suc, ◌+◌, ◌-◌, ◌≤◌, ◌<◌, Bool, true, false, List, [], ◌∷◌, length, refl}
+use Rattle.std.proofs.Common.{sym, ap, ◌∙◌, arith}
 use Rattle.std.specs.Prelude.{Ok, Err, Option, Some, None}
 use Rattle.fv_base.specs.declared.kind.Kind.{Kind}
 use Rattle.fv_base.specs.declared.kind.Kind.TheVariants as k
@@ -12,12 +13,15 @@ use Rattle.vl_tree.specs.declared.operator.Cast.{Cast}
 use Rattle.vl_grammar.specs.Machine as machine
 use Rattle.vl_grammar.specs.Machine.{Move, take, bad, syntax, deep, then}
 use Rattle.vl_grammar.specs.Operators.{unary_of, binary_of, cast_of}
-use Rattle.vl_grammar.specs.Grammar.{Rule, Stand, plain, first_in_braces, Outcome, expand, read, sign, expr, operand, more, selects, select_end, parts, in_parens, is_known, if_known, on_operand, on_operand_sign, on_unary, on_cast, on_binary}
+use Rattle.vl_grammar.specs.Grammar.{Rule, Stand, plain, first_in_braces, Outcome, expand, read, sign, expr, operand}
+use Rattle.vl_grammar.specs.Grammar.{more, selects, select_end, parts, in_parens, is_known, if_known, on_operand}
+use Rattle.vl_grammar.specs.Grammar.{on_operand_sign, on_unary, on_cast, on_binary}
 use Rattle.vl_expr.specs.declared.lead.Lead.{Lead}
 use Rattle.vl_expr.specs.declared.lead.Lead.TheVariants as lead
 use Rattle.vl_expr.specs.declared.lead.Joint.{Joint}
 use Rattle.vl_expr.specs.declared.lead.Joint.TheVariants as joint
-use Rattle.vl_expr.specs.Lead.{lead_of, lead_of_number, lead_of_unary, lead_of_sign, lead_of_cast, joint_of, joint_of_binary, joint_of_sign}
+use Rattle.vl_expr.specs.Lead.{lead_of, lead_of_number, lead_of_unary, lead_of_sign, lead_of_cast, joint_of}
+use Rattle.vl_expr.specs.Lead.{joint_of_binary, joint_of_sign}
 use Rattle.vl_expr.specs.Levels.{Rests, RestsAt}
 use Rattle.vl_expr.specs.Next.{IsOther, behind, behind_name}
 use Rattle.vl_tree.specs.declared.operator.BinaryOperator.TheVariants as b
@@ -101,20 +105,23 @@ name_sign w h = by_unary (unary_of w) h
     by_unary (Some op) h = cc
 
 pub operand_name : (st : Stand) (c o n : ℕ) (t : Kind) (ts : List Kind) → lead_of t ≡ lead.Name
-    → read (operand st c o) n (t ∷ ts) ≡ then (behind_name (t ∷ ts)) (λ u. then (read selects (n - o) u) (λ r. read (more st c o) n r))
+    → read (operand st c o) n (t ∷ ts) ≡ then (behind_name (t ∷ ts))
+    (λ u. then (read selects (n - o) u) (λ r. read (more st c o) n r))
 operand_name st c o n (k.Name text) ts h = name_after st c o n text ts
     ∙ ap (λ a. then a (λ u. then (read selects (n - o) u) (λ r. read (more st c o) n r))) (sym (name_here text ts))
 operand_name st c o n (k.Symbol w) ts h = absurd (name_sign w h)
 operand_name st c o n (k.Number m) ts h = by_known (is_known m) h
   where
     by_known : (b : Bool) → lead_of_number b m ≡ lead.Name
-        → read (operand st c o) n (k.Number m ∷ ts) ≡ then (behind_name (k.Number m ∷ ts)) (λ u. then (read selects (n - o) u) (λ r. read (more st c o) n r))
+        → read (operand st c o) n (k.Number m ∷ ts) ≡
+        then (behind_name (k.Number m ∷ ts)) (λ u. then (read selects (n - o) u) (λ r. read (more st c o) n r))
     by_known true h = cc
     by_known false h = cc
 operand_name st c o n (k.System text) ts h = by_cast (cast_of text) h
   where
     by_cast : (to : Option Cast) → lead_of_cast to ≡ lead.Name
-        → read (operand st c o) n (k.System text ∷ ts) ≡ then (behind_name (k.System text ∷ ts)) (λ u. then (read selects (n - o) u) (λ r. read (more st c o) n r))
+        → read (operand st c o) n (k.System text ∷ ts) ≡
+        then (behind_name (k.System text ∷ ts)) (λ u. then (read selects (n - o) u) (λ r. read (more st c o) n r))
     by_cast None h = cc
     by_cast (Some to) h = cc
 operand_name st c o n t ts h = cc
@@ -123,10 +130,12 @@ pub operand_cast : (st : Stand) (c o n : ℕ) (t : Kind) (ts : List Kind) (to : 
     → read (operand st c o) n (t ∷ ts) ≡ then (read in_parens (n - o) ts) (λ r. read (more st c o) n r)
 operand_cast st c zero n t ts to h = row_read (operand st c 0) n t ts 0 _ (made st c 0 t _ h) (omega arith)
     ∙ ap (λ m. then (read in_parens m ts) (λ r. read (more st c 0) n r)) (omega arith)
-operand_cast st c (suc o) n t ts to h = row_read (operand st c (suc o)) n t ts 0 _ (made st c (suc o) t _ h) (omega arith)
+operand_cast st c (suc o) n t ts to h =
+    row_read (operand st c (suc o)) n t ts 0 _ (made st c (suc o) t _ h) (omega arith)
 
 pub operand_brace : (st : Stand) (c o n : ℕ) (t : Kind) (ts : List Kind) → lead_of t ≡ lead.Brace → 0 < n - o
-    → read (operand st c o) n (t ∷ ts) ≡ then (read (operand first_in_braces 0 0) (n - o - 1) ts) (λ r. read (more st c o) n r)
+    → read (operand st c o) n (t ∷ ts) ≡ then (read (operand first_in_braces 0 0) (n - o - 1) ts)
+    (λ r. read (more st c o) n r)
 operand_brace st c o n t ts h l = row_read (operand st c o) n t ts (suc o) _ (made st c o t _ h) (omega (arith, l))
     ∙ ap (λ m. then (read (operand first_in_braces 0 0) m ts) (λ r. read (more st c o) n r)) (omega (arith, l))
 
@@ -146,12 +155,14 @@ unary_move st c o t lead.Nothing e h = cc
 
 pub operand_unary : (st : Stand) (c o n : ℕ) (t : Kind) (ts : List Kind) → is_unary (lead_of t) ≡ true → o < n
     → read (operand st c o) n (t ∷ ts) ≡ read (operand st c (o + 1)) n ts
-operand_unary st c o n t ts h l = row_read (operand st c o) n t ts (suc o) _ (unary_move st c o t (lead_of t) refl h) (omega (arith, l))
+operand_unary st c o n t ts h l =
+    row_read (operand st c o) n t ts (suc o) _ (unary_move st c o t (lead_of t) refl h) (omega (arith, l))
     ∙ ap (λ m. read (operand st c m) n ts) (omega arith)
 
 pub operand_unary_deep : (st : Stand) (c o n : ℕ) (t : Kind) (ts : List Kind) → is_unary (lead_of t) ≡ true → o ≡ n
     → read (operand st c o) n (t ∷ ts) ≡ Err (deep (suc (length ts)))
-operand_unary_deep st c o n t ts h l = row_deep (operand st c o) n t ts (suc o) _ (unary_move st c o t (lead_of t) refl h) (omega (arith, l))
+operand_unary_deep st c o n t ts h l =
+    row_deep (operand st c o) n t ts (suc o) _ (unary_move st c o t (lead_of t) refl h) (omega (arith, l))
 
 pub operand_wrong : (st : Stand) (c o n : ℕ) (t : Kind) (ts : List Kind) → lead_of t ≡ lead.Nothing
     → read (operand st c o) n (t ∷ ts) ≡ Err (syntax (suc (length ts)))
@@ -163,10 +174,12 @@ pub parens_row : (n : ℕ) (ts : List Kind) → 0 < n
     → read in_parens n (k.Symbol s.OpenParen ∷ ts) ≡ then (read expr (n - 1) ts) (λ r. read (sign s.CloseParen) n r)
 parens_row n ts h = row_read in_parens n (k.Symbol s.OpenParen) ts 1 _ refl h
 
-pub parens_deep : (n : ℕ) (ts : List Kind) → n ≡ 0 → read in_parens n (k.Symbol s.OpenParen ∷ ts) ≡ Err (deep (suc (length ts)))
+pub parens_deep : (n : ℕ) (ts : List Kind) → n ≡ 0
+    → read in_parens n (k.Symbol s.OpenParen ∷ ts) ≡ Err (deep (suc (length ts)))
 parens_deep n ts h = row_deep in_parens n (k.Symbol s.OpenParen) ts 1 _ refl (omega (arith, h))
 
-pub parens_wrong : (n : ℕ) (ts : List Kind) → IsOther (k.Symbol s.OpenParen) ts → read in_parens n ts ≡ Err (syntax (length ts))
+pub parens_wrong : (n : ℕ) (ts : List Kind) → IsOther (k.Symbol s.OpenParen) ts
+    → read in_parens n ts ≡ Err (syntax (length ts))
 unfolding read machine.reads
 parens_wrong n [] h = refl
 parens_wrong n (k.Symbol s.OpenParen ∷ ts) h = absurd (h refl)
@@ -199,22 +212,27 @@ sign_room : (w : Symbol) (m n : ℕ) (ts : List Kind) → read (sign w) m ts ≡
 sign_room w m n ts = sign_row w m ts ∙ sym (sign_row w n ts)
 
 paren_room : (st : Stand) (c o n : ℕ) (ts : List Kind) → 0 < n - o
-    → read (operand st c o) n (k.Symbol s.OpenParen ∷ ts) ≡ then (read in_parens (n - o) (k.Symbol s.OpenParen ∷ ts)) (λ r. read (more st c o) n r)
+    → read (operand st c o) n (k.Symbol s.OpenParen ∷ ts) ≡
+    then (read in_parens (n - o) (k.Symbol s.OpenParen ∷ ts)) (λ r. read (more st c o) n r)
 paren_room st c o n ts l =
     row_read (operand st c o) n (k.Symbol s.OpenParen) ts (suc o) _ refl (omega (arith, l))
-    ∙ ap (λ m. then (read expr m ts) (λ r. then (read (sign s.CloseParen) n r) (λ q. read (more st c o) n q))) (omega (arith, l))
-    ∙ ap (λ f. then (read expr (n - o - 1) ts) f) (λ i r. then (sign_room s.CloseParen n (n - o) r i) (λ q. read (more st c o) n q))
+    ∙ ap (λ m. then (read expr m ts) (λ r. then (read (sign s.CloseParen) n r) (λ q. read (more st c o) n q)))
+    (omega (arith, l))
+    ∙ ap (λ f. then (read expr (n - o - 1) ts) f)
+    (λ i r. then (sign_room s.CloseParen n (n - o) r i) (λ q. read (more st c o) n q))
     ∙ sym (then_then (read expr (n - o - 1) ts) (λ r. read (sign s.CloseParen) (n - o) r) (λ r. read (more st c o) n r))
     ∙ ap (λ a. then a (λ r. read (more st c o) n r)) (sym (parens_row (n - o) ts l))
 
 paren_full : (st : Stand) (c o n : ℕ) (ts : List Kind) → n - o ≡ 0
-    → read (operand st c o) n (k.Symbol s.OpenParen ∷ ts) ≡ then (read in_parens (n - o) (k.Symbol s.OpenParen ∷ ts)) (λ r. read (more st c o) n r)
+    → read (operand st c o) n (k.Symbol s.OpenParen ∷ ts) ≡
+    then (read in_parens (n - o) (k.Symbol s.OpenParen ∷ ts)) (λ r. read (more st c o) n r)
 paren_full st c o n ts l =
     row_deep (operand st c o) n (k.Symbol s.OpenParen) ts (suc o) _ refl (omega (arith, l))
     ∙ ap (λ a. then a (λ r. read (more st c o) n r)) (sym (parens_deep (n - o) ts l))
 
 paren_left : (m : ℕ) (st : Stand) (c o n : ℕ) (ts : List Kind) → n - o ≡ m
-    → read (operand st c o) n (k.Symbol s.OpenParen ∷ ts) ≡ then (read in_parens (n - o) (k.Symbol s.OpenParen ∷ ts)) (λ r. read (more st c o) n r)
+    → read (operand st c o) n (k.Symbol s.OpenParen ∷ ts) ≡
+    then (read in_parens (n - o) (k.Symbol s.OpenParen ∷ ts)) (λ r. read (more st c o) n r)
 paren_left zero st c o n ts e = paren_full st c o n ts e
 paren_left (suc m) st c o n ts e = paren_room st c o n ts (omega (arith, e))
 
@@ -247,12 +265,14 @@ binary_move st c o t joint.Nothing e h = cc
 
 pub more_binary : (st : Stand) (c o n : ℕ) (t : Kind) (ts : List Kind) → is_binary (joint_of t) ≡ true → o < n
     → read (more st c o) n (t ∷ ts) ≡ read (operand st c (o + 1)) n ts
-more_binary st c o n t ts h l = row_read (more st c o) n t ts (suc o) _ (binary_move st c o t (joint_of t) refl h) (omega (arith, l))
+more_binary st c o n t ts h l =
+    row_read (more st c o) n t ts (suc o) _ (binary_move st c o t (joint_of t) refl h) (omega (arith, l))
     ∙ ap (λ m. read (operand st c m) n ts) (omega arith)
 
 pub more_binary_deep : (st : Stand) (c o n : ℕ) (t : Kind) (ts : List Kind) → is_binary (joint_of t) ≡ true → o ≡ n
     → read (more st c o) n (t ∷ ts) ≡ Err (deep (suc (length ts)))
-more_binary_deep st c o n t ts h l = row_deep (more st c o) n t ts (suc o) _ (binary_move st c o t (joint_of t) refl h) (omega (arith, l))
+more_binary_deep st c o n t ts h l =
+    row_deep (more st c o) n t ts (suc o) _ (binary_move st c o t (joint_of t) refl h) (omega (arith, l))
 
 question_found : (found : Option BinaryOperator) → joint_of_binary found ≡ joint.Question → ⊥
 question_found None h = absurd (differ h)
@@ -276,11 +296,13 @@ question_made st c o t h = cc
 pub more_question : (st : Stand) (c o n : ℕ) (t : Kind) (ts : List Kind) → joint_of t ≡ joint.Question → o < n
     → read (more st c o) n (t ∷ ts) ≡ read (operand st (c + 1) (o + 1)) n ts
 more_question st c o n t ts h l = row_read (more st c o) n t ts (suc o) _ (question_made st c o t h) (omega (arith, l))
-    ∙ ap (λ m. read (operand st m (suc o)) n ts) (omega arith) ∙ ap (λ m. read (operand st (c + 1) m) n ts) (omega arith)
+    ∙ ap (λ m. read (operand st m (suc o)) n ts) (omega arith)
+    ∙ ap (λ m. read (operand st (c + 1) m) n ts) (omega arith)
 
 pub more_question_deep : (st : Stand) (c o n : ℕ) (t : Kind) (ts : List Kind) → joint_of t ≡ joint.Question → o ≡ n
     → read (more st c o) n (t ∷ ts) ≡ Err (deep (suc (length ts)))
-more_question_deep st c o n t ts h l = row_deep (more st c o) n t ts (suc o) _ (question_made st c o t h) (omega (arith, l))
+more_question_deep st c o n t ts h l =
+    row_deep (more st c o) n t ts (suc o) _ (question_made st c o t h) (omega (arith, l))
 
 colon_wait : (st : Stand) (c o n : ℕ) (ts : List Kind) → Rests 0 ts
     → read (more st (suc c) o) n ts ≡ then (behind s.Colon ts) (λ r. read (operand st c o) n r)
@@ -380,7 +402,8 @@ rest_row o n (k.Symbol s.Comma ∷ ts) h = refl
 rest_row o n (t ∷ ts) h = refl
 
 -- the first expression in braces was no count
-pub first_row : (o n : ℕ) (ts : List Kind) → Rests 0 ts → IsOther (k.Symbol s.OpenBrace) ts → read (more first_in_braces 0 o) n ts ≡ read parts n ts
+pub first_row : (o n : ℕ) (ts : List Kind) → Rests 0 ts → IsOther (k.Symbol s.OpenBrace) ts
+    → read (more first_in_braces 0 o) n ts ≡ read parts n ts
 unfolding read machine.reads
 first_row o n [] h i = refl
 first_row o n (k.Symbol s.Star ∷ ts) h i = absurd (omega (arith, h))
@@ -417,13 +440,15 @@ pub count_row : (o n : ℕ) (ts : List Kind) → 0 < n - o
     → read (more first_in_braces 0 o) n (k.Symbol s.OpenBrace ∷ ts)
     ≡ then (read expr (n - o - 1) ts) (λ r. then (read parts (n - o - 1) r) (λ q. read (sign s.CloseBrace) n q))
 count_row o n ts l = row_read (more first_in_braces 0 o) n (k.Symbol s.OpenBrace) ts (suc o) _ refl (omega (arith, l))
-    ∙ ap (λ m. then (read expr m ts) (λ r. then (read parts m r) (λ q. read (sign s.CloseBrace) n q))) (omega (arith, l))
+    ∙ ap (λ m. then (read expr m ts) (λ r. then (read parts m r) (λ q. read (sign s.CloseBrace) n q)))
+    (omega (arith, l))
 
 pub count_deep : (o n : ℕ) (ts : List Kind) → n - o ≡ 0
     → read (more first_in_braces 0 o) n (k.Symbol s.OpenBrace ∷ ts) ≡ Err (deep (suc (length ts)))
 count_deep o n ts l = row_deep (more first_in_braces 0 o) n (k.Symbol s.OpenBrace) ts (suc o) _ refl (omega (arith, l))
 
-pub parts_comma : (n : ℕ) (ts : List Kind) → read parts n (k.Symbol s.Comma ∷ ts) ≡ then (read expr n ts) (λ r. read parts n r)
+pub parts_comma : (n : ℕ) (ts : List Kind)
+    → read parts n (k.Symbol s.Comma ∷ ts) ≡ then (read expr n ts) (λ r. read parts n r)
 parts_comma n ts = row_read parts n (k.Symbol s.Comma) ts 0 _ refl (omega arith)
 
 pub parts_end : (n : ℕ) (ts : List Kind) → IsOther (k.Symbol s.Comma) ts → read parts n ts ≡ behind s.CloseBrace ts
@@ -436,10 +461,12 @@ parts_end n (t ∷ ts) h = refl
 -- selects
 
 pub selects_row : (n : ℕ) (ts : List Kind) → 0 < n
-    → read selects n (k.Symbol s.OpenBracket ∷ ts) ≡ then (read expr (n - 1) ts) (λ r. then (read select_end (n - 1) r) (λ q. read selects n q))
+    → read selects n (k.Symbol s.OpenBracket ∷ ts) ≡
+    then (read expr (n - 1) ts) (λ r. then (read select_end (n - 1) r) (λ q. read selects n q))
 selects_row n ts l = row_read selects n (k.Symbol s.OpenBracket) ts 1 _ refl l
 
-pub selects_deep : (n : ℕ) (ts : List Kind) → n ≡ 0 → read selects n (k.Symbol s.OpenBracket ∷ ts) ≡ Err (deep (suc (length ts)))
+pub selects_deep : (n : ℕ) (ts : List Kind) → n ≡ 0
+    → read selects n (k.Symbol s.OpenBracket ∷ ts) ≡ Err (deep (suc (length ts)))
 selects_deep n ts l = row_deep selects n (k.Symbol s.OpenBracket) ts 1 _ refl (omega (arith, l))
 
 pub selects_end : (n : ℕ) (ts : List Kind) → IsOther (k.Symbol s.OpenBracket) ts → read selects n ts ≡ Ok ts
@@ -448,13 +475,16 @@ selects_end n [] h = refl
 selects_end n (k.Symbol s.OpenBracket ∷ ts) h = absurd (h refl)
 selects_end n (t ∷ ts) h = refl
 
-pub select_part : (n : ℕ) (ts : List Kind) → read select_end n (k.Symbol s.Colon ∷ ts) ≡ then (read expr n ts) (λ r. read (sign s.CloseBracket) n r)
+pub select_part : (n : ℕ) (ts : List Kind)
+    → read select_end n (k.Symbol s.Colon ∷ ts) ≡ then (read expr n ts) (λ r. read (sign s.CloseBracket) n r)
 select_part n ts = row_read select_end n (k.Symbol s.Colon) ts 0 _ refl (omega arith)
 
-pub select_indexed : (n : ℕ) (ts : List Kind) → read select_end n (k.Symbol s.PlusColon ∷ ts) ≡ then (read expr n ts) (λ r. read (sign s.CloseBracket) n r)
+pub select_indexed : (n : ℕ) (ts : List Kind)
+    → read select_end n (k.Symbol s.PlusColon ∷ ts) ≡ then (read expr n ts) (λ r. read (sign s.CloseBracket) n r)
 select_indexed n ts = row_read select_end n (k.Symbol s.PlusColon) ts 0 _ refl (omega arith)
 
-pub select_bit : (n : ℕ) (ts : List Kind) → IsOther (k.Symbol s.Colon) ts → IsOther (k.Symbol s.PlusColon) ts → read select_end n ts ≡ behind s.CloseBracket ts
+pub select_bit : (n : ℕ) (ts : List Kind) → IsOther (k.Symbol s.Colon) ts → IsOther (k.Symbol s.PlusColon) ts
+    → read select_end n ts ≡ behind s.CloseBracket ts
 unfolding behind read machine.reads
 select_bit n [] h i = refl
 select_bit n (k.Symbol s.Colon ∷ ts) h i = absurd (h refl)
@@ -482,7 +512,19 @@ pub ruleset of_chain = (rests_high, kinds_length)
 
 pub ruleset of_climb = (more_binary, more_binary_deep, more_question, more_question_deep, colon_row, kinds_length)
 
-pub ruleset of_operand = (operand_end, operand_number, operand_name, operand_cast, operand_brace, operand_brace_deep, operand_unary, operand_unary_deep, operand_wrong, operand_paren, kinds_length)
+pub ruleset of_operand = (
+  operand_end,
+  operand_number,
+  operand_name,
+  operand_cast,
+  operand_brace,
+  operand_brace_deep,
+  operand_unary,
+  operand_unary_deep,
+  operand_wrong,
+  operand_paren,
+  kinds_length,
+)
 
 pub ruleset of_read_parens = (parens_row, parens_deep, parens_wrong, sign_row, kinds_length)
 

@@ -12,7 +12,8 @@ use Rattle.vl_tree.specs.declared.operator.BinaryOperator.TheVariants as b
 use Rattle.vl_tree.specs.declared.expr.Select.{Select}
 use Rattle.vl_tree.specs.declared.expr.Select.TheVariants as v
 use Rattle.vl_tree.specs.Phrase.{Spells, IsNext, BeginsAt, sign, ◌▸◌, operator}
-use Rattle.vl_tree.specs.Expr.{Expr, Exprs, Selects, number, name, paren, unary, binary, conditional, concat, repeat, cast, none, more, whole, bit, part, indexed, exprs}
+use Rattle.vl_tree.specs.Expr.{Expr, Exprs, Selects, number, name, paren, unary, binary, conditional, concat, repeat}
+use Rattle.vl_tree.specs.Expr.{cast, none, more, whole, bit, part, indexed, exprs}
 use Rattle.vl_tree.specs.ExprView.{selects, with_select}
 use Rattle.vl_tree.specs.ExprSpelling.{spell, spell_parts, spell_more, spell_selects, binary_sign}
 use Rattle.vl_tree.specs.ExprWellFormed.{IsWellFormed, AreWellFormed, AreSelects, IsSome}
@@ -38,11 +39,14 @@ begins (concat p es) ts rest h = h.0
 begins (repeat p n es) ts rest h = h.0
 begins (cast p to a) ts rest h = h.0
 
-pub binary_spelled : (op : BinaryOperator) (a b : Expr) (start middle behind rest : List Token) → Spells (spell a) start middle
-    → IsNext (k.Symbol (binary_sign op)) middle behind → Spells (spell b) behind rest → Spells (spell (binary (place a) op a b)) start rest
+pub binary_spelled : (op : BinaryOperator) (a b : Expr) (start middle behind rest : List Token)
+    → Spells (spell a) start middle
+    → IsNext (k.Symbol (binary_sign op)) middle behind → Spells (spell b) behind rest
+    → Spells (spell (binary (place a) op a b)) start rest
 binary_spelled op a b start middle behind rest h i j = (begins a start middle h, (middle, h, (behind, i, j)))
 
-pub conditional_spelled : (c a b : Expr) (start middle first colon second rest : List Token) → Spells (spell c) start middle
+pub conditional_spelled : (c a b : Expr) (start middle first colon second rest : List Token)
+    → Spells (spell c) start middle
     → IsNext (k.Symbol s.Question) middle first → Spells (spell a) first colon → IsNext (k.Symbol s.Colon) colon second
     → Spells (spell b) second rest → Spells (spell (conditional (place c) c a b)) start rest
 conditional_spelled c a b start middle first colon second rest h i j l m =
@@ -50,20 +54,28 @@ conditional_spelled c a b start middle first colon second rest h i j l m =
 
 -- the lists so far, and one more
 
-more_pushed : (es : List Expr) (e : Expr) (start middle behind rest : List Token) → Spells (spell_more (exprs es)) start middle
-    → IsNext (k.Symbol s.Comma) middle behind → Spells (spell e) behind rest → Spells (spell_more (exprs (es ++ e ∷ []))) start rest
-more_pushed [] e start middle behind rest h i j = (behind, subst (λ ts. IsNext (k.Symbol s.Comma) ts behind) (sym h) i, (rest, j, refl))
-more_pushed (x ∷ es) e start middle behind rest (m, h, (n, i, j)) l o = (m, h, (n, i, more_pushed es e n middle behind rest j l o))
+more_pushed : (es : List Expr) (e : Expr) (start middle behind rest : List Token)
+    → Spells (spell_more (exprs es)) start middle
+    → IsNext (k.Symbol s.Comma) middle behind → Spells (spell e) behind rest
+    → Spells (spell_more (exprs (es ++ e ∷ []))) start rest
+more_pushed [] e start middle behind rest h i j =
+    (behind, subst (λ ts. IsNext (k.Symbol s.Comma) ts behind) (sym h) i, (rest, j, refl))
+more_pushed (x ∷ es) e start middle behind rest (m, h, (n, i, j)) l o =
+    (m, h, (n, i, more_pushed es e n middle behind rest j l o))
 
-pub parts_pushed : (es : List Expr) (e : Expr) (start middle behind rest : List Token) → IsSome (exprs es) → Spells (spell_parts (exprs es)) start middle
-    → IsNext (k.Symbol s.Comma) middle behind → Spells (spell e) behind rest → Spells (spell_parts (exprs (es ++ e ∷ []))) start rest
+pub parts_pushed : (es : List Expr) (e : Expr) (start middle behind rest : List Token) → IsSome (exprs es)
+    → Spells (spell_parts (exprs es)) start middle
+    → IsNext (k.Symbol s.Comma) middle behind → Spells (spell e) behind rest
+    → Spells (spell_parts (exprs (es ++ e ∷ []))) start rest
 parts_pushed [] e start middle behind rest n h i j = absurd n
 parts_pushed (x ∷ es) e start middle behind rest n (m, h, l) i j = (m, h, more_pushed es e m middle behind rest l i j)
 
-pub parts_first : (e : Expr) (start rest : List Token) → Spells (spell e) start rest → Spells (spell_parts (exprs (e ∷ []))) start rest
+pub parts_first : (e : Expr) (start rest : List Token) → Spells (spell e) start rest
+    → Spells (spell_parts (exprs (e ∷ []))) start rest
 parts_first e start rest h = (rest, h, refl)
 
-pub exprs_pushed : (es : List Expr) (e : Expr) → AreWellFormed (exprs es) → IsWellFormed e → AreWellFormed (exprs (es ++ e ∷ []))
+pub exprs_pushed : (es : List Expr) (e : Expr) → AreWellFormed (exprs es) → IsWellFormed e
+    → AreWellFormed (exprs (es ++ e ∷ []))
 exprs_pushed [] e h i = (i, tt)
 exprs_pushed (x ∷ es) e h i = (h.0, exprs_pushed es e h.1 i)
 
@@ -71,33 +83,43 @@ pub exprs_some : (es : List Expr) (e : Expr) → IsSome (exprs (es ++ e ∷ []))
 exprs_some [] e = tt
 exprs_some (x ∷ es) e = tt
 
-pub selects_pushed : (ss : List Select) (x : Select) (start middle rest : List Token) → Spells (spell_selects (selects ss)) start middle
+pub selects_pushed : (ss : List Select) (x : Select) (start middle rest : List Token)
+    → Spells (spell_selects (selects ss)) start middle
     → Spells (spell_selects (selects (x ∷ []))) middle rest → Spells (spell_selects (selects (ss ++ x ∷ []))) start rest
 selects_pushed [] x start middle rest h i = subst (λ ts. Spells (spell_selects (selects (x ∷ []))) ts rest) (sym h) i
 selects_pushed (v.Bit p a ∷ ss) x start middle rest (m, h, j) i = (m, h, selects_pushed ss x m middle rest j i)
 selects_pushed (v.Part p a b ∷ ss) x start middle rest (m, h, j) i = (m, h, selects_pushed ss x m middle rest j i)
 selects_pushed (v.Indexed p a b ∷ ss) x start middle rest (m, h, j) i = (m, h, selects_pushed ss x m middle rest j i)
 
-pub selects_formed : (ss : List Select) (x : Select) → AreSelects (selects ss) → AreSelects (selects (x ∷ [])) → AreSelects (selects (ss ++ x ∷ []))
+pub selects_formed : (ss : List Select) (x : Select) → AreSelects (selects ss) → AreSelects (selects (x ∷ []))
+    → AreSelects (selects (ss ++ x ∷ []))
 selects_formed [] x h i = i
 selects_formed (v.Bit p a ∷ ss) x h i = (h.0, selects_formed ss x h.1 i)
 selects_formed (v.Part p a b ∷ ss) x h i = (h.0, h.1, selects_formed ss x h.2 i)
 selects_formed (v.Indexed p a b ∷ ss) x h i = (h.0, h.1, selects_formed ss x h.2 i)
 
-pub concat_spelled : (p : Pos) (es : Exprs) (start inside rest : List Token) → BeginsAt p start → IsNext (k.Symbol s.OpenBrace) start inside
+pub concat_spelled : (p : Pos) (es : Exprs) (start inside rest : List Token) → BeginsAt p start
+    → IsNext (k.Symbol s.OpenBrace) start inside
     → Spells (spell_parts es ▸ sign s.CloseBrace) inside rest → Spells (spell (concat p es)) start rest
 concat_spelled p es start inside rest at o (m, h, i) = (at, (m, (inside, o, h), i))
 
-pub repeat_spelled : (p : Pos) (n : Expr) (es : Exprs) (start inside middle inner behind rest : List Token) → BeginsAt p start
-    → IsNext (k.Symbol s.OpenBrace) start inside → Spells (spell n) inside middle → IsNext (k.Symbol s.OpenBrace) middle inner
-    → Spells (spell_parts es ▸ sign s.CloseBrace) inner behind → IsNext (k.Symbol s.CloseBrace) behind rest → Spells (spell (repeat p n es)) start rest
-repeat_spelled p n es start inside middle inner behind rest at o h q (m, i, j) l = (at, (behind, (inside, o, (middle, h, (m, (inner, q, i), j))), l))
+pub repeat_spelled : (p : Pos) (n : Expr) (es : Exprs) (start inside middle inner behind rest : List Token)
+    → BeginsAt p start
+    → IsNext (k.Symbol s.OpenBrace) start inside → Spells (spell n) inside middle
+    → IsNext (k.Symbol s.OpenBrace) middle inner
+    → Spells (spell_parts es ▸ sign s.CloseBrace) inner behind → IsNext (k.Symbol s.CloseBrace) behind rest
+    → Spells (spell (repeat p n es)) start rest
+repeat_spelled p n es start inside middle inner behind rest at o h q (m, i, j) l =
+    (at, (behind, (inside, o, (middle, h, (m, (inner, q, i), j))), l))
 
-pub bit_spelled : (p : Pos) (a : Expr) (start inside close rest : List Token) → BeginsAt p start → IsNext (k.Symbol s.OpenBracket) start inside
-    → Spells (spell a) inside close → IsNext (k.Symbol s.CloseBracket) close rest → Spells (spell_selects (bit p a whole)) start rest
+pub bit_spelled : (p : Pos) (a : Expr) (start inside close rest : List Token) → BeginsAt p start
+    → IsNext (k.Symbol s.OpenBracket) start inside
+    → Spells (spell a) inside close → IsNext (k.Symbol s.CloseBracket) close rest
+    → Spells (spell_selects (bit p a whole)) start rest
 bit_spelled p a start inside close rest at o h i = (rest, (at, (close, (inside, o, h), i)), refl)
 
-joint_binary : (w : Symbol) (op : BinaryOperator) → joint_of_sign w ≡ joint.Binary op → k.Symbol w ≡ k.Symbol (binary_sign op)
+joint_binary : (w : Symbol) (op : BinaryOperator) → joint_of_sign w ≡ joint.Binary op
+    → k.Symbol w ≡ k.Symbol (binary_sign op)
 joint_binary s.Star b.Multiply h = refl
 joint_binary s.Slash b.Divide h = refl
 joint_binary s.Percent b.Remainder h = refl
@@ -140,18 +162,25 @@ pub question_kind : (t : Kind) → joint_of t ≡ joint.Question → t ≡ k.Sym
 question_kind (k.Symbol w) h = question_sign w h
 question_kind t h = cc
 
-next_of : (kind : Kind) (t : Token) (tokens rest : List Token) → tokens ≡ t ∷ rest → t.kind ≡ kind → IsNext kind tokens rest
+next_of : (kind : Kind) (t : Token) (tokens rest : List Token) → tokens ≡ t ∷ rest → t.kind ≡ kind
+    → IsNext kind tokens rest
 next_of kind t tokens rest e h = subst (λ ts. IsNext kind ts rest) (sym e) (h, refl)
 
-pub binary_found : (op : BinaryOperator) (a b : Expr) (t : Token) (start tokens behind rest : List Token) → Spells (spell a) start tokens
-    → tokens ≡ t ∷ behind → joint_of t.kind ≡ joint.Binary op → Spells (spell b) behind rest → Spells (spell (binary (place a) op a b)) start rest
+pub binary_found : (op : BinaryOperator) (a b : Expr) (t : Token) (start tokens behind rest : List Token)
+    → Spells (spell a) start tokens
+    → tokens ≡ t ∷ behind → joint_of t.kind ≡ joint.Binary op → Spells (spell b) behind rest
+    → Spells (spell (binary (place a) op a b)) start rest
 binary_found op a b t start tokens behind rest h e j i =
     binary_spelled op a b start tokens behind rest h (next_of _ t tokens behind e (binary_kind t.kind op j)) i
 
-pub conditional_found : (c a b : Expr) (t : Token) (start tokens behind colon second rest : List Token) → Spells (spell c) start tokens
-    → tokens ≡ t ∷ behind → joint_of t.kind ≡ joint.Question → Spells (spell a) behind colon → Spells (sign s.Colon) colon second
+pub conditional_found : (c a b : Expr) (t : Token) (start tokens behind colon second rest : List Token)
+    → Spells (spell c) start tokens
+    → tokens ≡ t ∷ behind → joint_of t.kind ≡ joint.Question → Spells (spell a) behind colon
+    → Spells (sign s.Colon) colon second
     → Spells (spell b) second rest → Spells (spell (conditional (place c) c a b)) start rest
 conditional_found c a b t start tokens behind colon second rest h e j i o l =
-    conditional_spelled c a b start tokens behind colon second rest h (next_of _ t tokens behind e (question_kind t.kind j)) i o l
+    conditional_spelled c a b start tokens behind colon second rest h
+    (next_of _ t tokens behind e (question_kind t.kind j)) i o l
 
-pub ruleset expr_spelled = (parts_pushed, parts_first, exprs_pushed, exprs_some, selects_pushed, selects_formed, bit_spelled)
+pub ruleset expr_spelled =
+    (parts_pushed, parts_first, exprs_pushed, exprs_some, selects_pushed, selects_formed, bit_spelled)

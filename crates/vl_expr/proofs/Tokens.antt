@@ -1,5 +1,6 @@
 -- What is read of signs, of names, and at the end.
-use Rattle.std.proofs.Common.{◌≡◌, ℕ, zero, suc, ◌==◌, Bool, true, false, List, [], ◌∷◌, length, refl, sym, ap, ◌∙◌, arith}
+use Rattle.std.proofs.Common.{◌≡◌, ℕ, zero, suc, ◌==◌, Bool, true, false, List, [], ◌∷◌, length, refl, sym, ap, ◌∙◌}
+use Rattle.std.proofs.Common.{arith}
 use Rattle.std.specs.Prelude.{Result, Ok, Err}
 use Rattle.fv_base.specs.declared.kind.Kind.{Kind}
 use Rattle.fv_base.specs.declared.kind.Kind.TheVariants as k
@@ -26,7 +27,12 @@ sign_in (w ∷ ws) zero = w
 sign_in (w ∷ ws) (suc n) = sign_in ws n
 
 sign_at : ℕ → Symbol
-sign_at n = sign_in (s.OpenParen ∷ s.CloseParen ∷ s.OpenBracket ∷ s.CloseBracket ∷ s.OpenBrace ∷ s.CloseBrace ∷ s.OpenAttribute ∷ s.CloseAttribute ∷ s.Semicolon ∷ s.Colon ∷ s.Comma ∷ s.Dot ∷ s.Hash ∷ s.At ∷ s.Equal ∷ s.Question ∷ s.Plus ∷ s.Minus ∷ s.Star ∷ s.Slash ∷ s.Percent ∷ s.StarStar ∷ s.Bang ∷ s.Tilde ∷ s.And ∷ s.Or ∷ s.Caret ∷ s.TildeAnd ∷ s.TildeOr ∷ s.TildeCaret ∷ s.CaretTilde ∷ s.AndAnd ∷ s.OrOr ∷ s.Less ∷ s.LessEqual ∷ s.Greater ∷ s.GreaterEqual ∷ s.EqualEqual ∷ s.BangEqual ∷ s.EqualEqualEqual ∷ s.BangEqualEqual ∷ s.LessLess ∷ s.GreaterGreater ∷ s.LessLessLess ∷ s.GreaterGreaterGreater ∷ s.PlusColon ∷ s.MinusColon ∷ []) n
+sign_at n = sign_in (s.OpenParen ∷ s.CloseParen ∷ s.OpenBracket ∷ s.CloseBracket ∷ s.OpenBrace ∷ s.CloseBrace
+    ∷ s.OpenAttribute ∷ s.CloseAttribute ∷ s.Semicolon ∷ s.Colon ∷ s.Comma ∷ s.Dot ∷ s.Hash ∷ s.At ∷ s.Equal
+    ∷ s.Question ∷ s.Plus ∷ s.Minus ∷ s.Star ∷ s.Slash ∷ s.Percent ∷ s.StarStar ∷ s.Bang ∷ s.Tilde ∷ s.And ∷ s.Or
+    ∷ s.Caret ∷ s.TildeAnd ∷ s.TildeOr ∷ s.TildeCaret ∷ s.CaretTilde ∷ s.AndAnd ∷ s.OrOr ∷ s.Less ∷ s.LessEqual
+    ∷ s.Greater ∷ s.GreaterEqual ∷ s.EqualEqual ∷ s.BangEqual ∷ s.EqualEqualEqual ∷ s.BangEqualEqual ∷ s.LessLess
+    ∷ s.GreaterGreater ∷ s.LessLessLess ∷ s.GreaterGreaterGreater ∷ s.PlusColon ∷ s.MinusColon ∷ []) n
 
 sign_at_place : (w : Symbol) → sign_at (place w) ≡ w
 unfolding sign_at sign_in
@@ -39,12 +45,14 @@ place_same a b h = sym (sign_at_place b) ∙ ap sign_at (sym (equal_same (place 
 sign_here : (w : Symbol) (room : ℕ) (ts : List Kind) → read (sign w) room (k.Symbol w ∷ ts) ≡ Ok ts
 sign_here w room ts = row_read (sign w) room (k.Symbol w) ts 0 [] (ap take_if (equal_here (place w))) (omega arith)
 
-sign_other : (w found : Symbol) (room : ℕ) (ts : List Kind) (b : Bool) → same_sign w found ≡ b → (k.Symbol found ≡ k.Symbol w → ⊥)
+sign_other : (w found : Symbol) (room : ℕ) (ts : List Kind) (b : Bool) → same_sign w found ≡ b
+    → (k.Symbol found ≡ k.Symbol w → ⊥)
     → read (sign w) room (k.Symbol found ∷ ts) ≡ Err (syntax (suc (length ts)))
 sign_other w found room ts true e h = absurd (h (ap k.Symbol (place_same w found e)))
 sign_other w found room ts false e h = row_bad (sign w) room (k.Symbol found) ts (ap take_if e)
 
-sign_wrong : (w : Symbol) (room : ℕ) (ts : List Kind) → IsOther (k.Symbol w) ts → read (sign w) room ts ≡ Err (syntax (length ts))
+sign_wrong : (w : Symbol) (room : ℕ) (ts : List Kind) → IsOther (k.Symbol w) ts
+    → read (sign w) room ts ≡ Err (syntax (length ts))
 unfolding read machine.reads
 sign_wrong w room [] h = refl
 sign_wrong w room (k.Symbol found ∷ ts) h = sign_other w found room ts (same_sign w found) refl h
@@ -55,9 +63,12 @@ unfolding behind
 sign_row w room [] = sign_wrong w room [] tt ∙ sym (sign_wrong w 0 [] tt)
 sign_row w room (k.Symbol found ∷ ts) = by_same (same_sign w found) refl
   where
-    by_same : (b : Bool) → same_sign w found ≡ b → read (sign w) room (k.Symbol found ∷ ts) ≡ read (sign w) 0 (k.Symbol found ∷ ts)
-    by_same true e = row_read (sign w) room (k.Symbol found) ts 0 [] (ap take_if e) (omega arith) ∙ sym (row_read (sign w) 0 (k.Symbol found) ts 0 [] (ap take_if e) (omega arith))
-    by_same false e = row_bad (sign w) room (k.Symbol found) ts (ap take_if e) ∙ sym (row_bad (sign w) 0 (k.Symbol found) ts (ap take_if e))
+    by_same : (b : Bool) → same_sign w found ≡ b
+        → read (sign w) room (k.Symbol found ∷ ts) ≡ read (sign w) 0 (k.Symbol found ∷ ts)
+    by_same true e = row_read (sign w) room (k.Symbol found) ts 0 [] (ap take_if e) (omega arith)
+        ∙ sym (row_read (sign w) 0 (k.Symbol found) ts 0 [] (ap take_if e) (omega arith))
+    by_same false e = row_bad (sign w) room (k.Symbol found) ts (ap take_if e)
+        ∙ sym (row_bad (sign w) 0 (k.Symbol found) ts (ap take_if e))
 sign_row w room (t ∷ ts) = row_bad (sign w) room t ts refl ∙ sym (row_bad (sign w) 0 t ts refl)
 
 pub behind_here : (w : Symbol) (ts : List Kind) → behind w (k.Symbol w ∷ ts) ≡ Ok ts
@@ -80,7 +91,8 @@ pub kinds_length : (ts : List Token) → length (kinds_in ts) ≡ length ts
 kinds_length [] = refl
 kinds_length (t ∷ ts) = ap suc (kinds_length ts)
 
-pub name_wrong : (t : Kind) (ts : List Kind) → ((text : List ℕ) → t ≡ k.Name text → ⊥) → behind_name (t ∷ ts) ≡ Err (syntax (suc (length ts)))
+pub name_wrong : (t : Kind) (ts : List Kind) → ((text : List ℕ) → t ≡ k.Name text → ⊥)
+    → behind_name (t ∷ ts) ≡ Err (syntax (suc (length ts)))
 unfolding behind_name
 name_wrong (k.Name text) ts h = absurd (h text refl)
 name_wrong t ts h = row_bad name 0 t ts refl

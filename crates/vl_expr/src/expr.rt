@@ -1,5 +1,5 @@
-//! Expressions (IEEE 1364-2005, sections 5.1 and A.8). `room` is the number of constructs that may still open; operators
-//! stay open up to the end of their brackets, so what reads within them answers the level that is reached.
+//! Expressions (IEEE 1364-2005, sections 5.1 and A.8). `room` is the number of constructs that may still open;
+//! operators stay open up to the end of their brackets, so what reads within them answers the level that is reached.
 
 ghost use Rattle.std.specs.Prelude.{◌≡◌, ◌+◌, ◌-◌, ◌<◌, ◌≤◌, ◌∷◌, [], Ok, List, length, IfOk};
 ghost use Rattle.fv_base.specs.declared.kind.Kind.TheVariants as k;
@@ -59,7 +59,8 @@ fn chain(
     ensures tight { IfOk result (λ x. least ≤ formed.level x.0) }
     ensures rests { IfOk result (λ x. Rests least (kinds_in x.2.now)) }
     ensures shorter { IfOk result (λ x. length x.2.now < length tokens.now) }
-    ensures goes { Goes (λ x. more_at level x.1 (kinds_in x.2.now)) result (operand_at level opened (kinds_in tokens.now)) }
+    ensures goes { Goes (λ x. more_at level x.1 (kinds_in x.2.now)) result
+        (operand_at level opened (kinds_in tokens.now)) }
 {
     let (left, opened, rest) = operand(alloc, level, opened, tokens)?;
     climb(alloc, level, opened, least, left, rest)
@@ -84,12 +85,14 @@ fn climb(
     requires behind { Rests (formed.level left + 1) (kinds_in tokens.now) }
     ensures opened { IfOk result (λ x. opened ≤ x.1) }
     ensures room { IfOk result (λ x. x.1 ≤ level.room) }
-    ensures found { IfOk result (λ x. (start : List Token) → Spells (spec.spell left) start tokens.now → Spells (spec.spell x.0) start x.2.now) }
+    ensures found { IfOk result (λ x. (start : List Token) → Spells (spec.spell left) start tokens.now
+        → Spells (spec.spell x.0) start x.2.now) }
     ensures formed { IfOk result (λ x. formed.IsWellFormed x.0) }
     ensures tight { IfOk result (λ x. least ≤ formed.level x.0) }
     ensures rests { IfOk result (λ x. Rests least (kinds_in x.2.now)) }
     ensures shorter { IfOk result (λ x. length x.2.now ≤ length tokens.now) }
-    ensures goes { Goes (λ x. more_at level x.1 (kinds_in x.2.now)) result (more_at level opened (kinds_in tokens.now)) }
+    ensures goes { Goes (λ x. more_at level x.1 (kinds_in x.2.now)) result
+        (more_at level opened (kinds_in tokens.now)) }
 {
     let Some((first, rest)) = next(tokens) else {
         return Ok((left, opened, tokens));
@@ -135,7 +138,8 @@ fn operand(
     ensures formed { IfOk result (λ x. formed.IsWellFormed x.0) }
     ensures tight { IfOk result (λ x. 11 ≤ formed.level x.0) }
     ensures shorter { IfOk result (λ x. length x.2.now < length tokens.now) }
-    ensures goes { Goes (λ x. more_at level x.1 (kinds_in x.2.now)) result (operand_at level opened (kinds_in tokens.now)) }
+    ensures goes { Goes (λ x. more_at level x.1 (kinds_in x.2.now)) result
+        (operand_at level opened (kinds_in tokens.now)) }
 {
     let Some((first, rest)) = next(tokens) else {
         return Err(Stop::Wrong(0));
@@ -177,7 +181,8 @@ pub fn read_parens(alloc: Global, room: u32, tokens: &[Token]) -> Result<(Expr, 
     ensures found { IfOk result (λ x. Spells (parens (spec.spell x.0)) tokens.now x.1.now) }
     ensures formed { IfOk result (λ x. formed.IsWellFormed x.0) }
     ensures shorter { IfOk result (λ x. length x.1.now < length tokens.now) }
-    ensures goes { Goes (λ x. Ok (kinds_in x.1.now)) result (grammar.read grammar.in_parens room (kinds_in tokens.now)) }
+    ensures goes { Goes (λ x. Ok (kinds_in x.1.now)) result
+        (grammar.read grammar.in_parens room (kinds_in tokens.now)) }
 {
     let rest = read_sign(Symbol::OpenParen, tokens)?;
     let inside = enter(room, tokens)?;
@@ -191,11 +196,13 @@ pub fn read_parens(alloc: Global, room: u32, tokens: &[Token]) -> Result<(Expr, 
 #[cycle(expr)]
 #[tactic(auto, using(crate::proofs::ExprRows::of_braces))]
 fn braces(alloc: Global, pos: Pos, room: u32, tokens: &[Token]) -> Result<(Expr, &[Token]), Stop>
-    ensures found { IfOk result (λ x. (start : List Token) → BeginsAt pos start → Spells (sign Symbol.OpenBrace) start tokens.now → Spells (spec.spell x.0) start x.1.now) }
+    ensures found { IfOk result (λ x. (start : List Token) → BeginsAt pos start
+        → Spells (sign Symbol.OpenBrace) start tokens.now → Spells (spec.spell x.0) start x.1.now) }
     ensures formed { IfOk result (λ x. formed.IsWellFormed x.0) }
     ensures tight { IfOk result (λ x. formed.level x.0 ≡ 12) }
     ensures shorter { IfOk result (λ x. length x.1.now < length tokens.now) }
-    ensures goes { Goes (λ x. Ok (kinds_in x.1.now)) result (grammar.read (grammar.operand grammar.first_in_braces 0 0) room (kinds_in tokens.now)) }
+    ensures goes { Goes (λ x. Ok (kinds_in x.1.now)) result
+        (grammar.read (grammar.operand grammar.first_in_braces 0 0) room (kinds_in tokens.now)) }
 {
     let level = Level::new(Stand::FirstInBraces, room);
     let (first, opened, rest) = chain(alloc, level, 0, 0, tokens)?;
@@ -224,7 +231,8 @@ fn parts_behind(
     tokens: &[Token],
 ) -> Result<(List<Expr>, &[Token]), Stop>
     requires formed { formed.IsWellFormed first }
-    ensures found { IfOk result (λ x. (start : List Token) → Spells (spec.spell first) start tokens.now → Spells (spec.spell_parts (exprs x.0) ▸ sign Symbol.CloseBrace) start x.1.now) }
+    ensures found { IfOk result (λ x. (start : List Token) → Spells (spec.spell first) start tokens.now
+        → Spells (spec.spell_parts (exprs x.0) ▸ sign Symbol.CloseBrace) start x.1.now) }
     ensures some { IfOk result (λ x. formed.IsSome (exprs x.0)) }
     ensures formed { IfOk result (λ x. formed.AreWellFormed (exprs x.0)) }
     ensures shorter { IfOk result (λ x. length x.1.now < length tokens.now) }
@@ -280,7 +288,8 @@ fn read_select<'a>(
     ensures found { IfOk result (λ x. Spells (spec.spell_selects (selects (x.0 ∷ []))) tokens.entry.now x.1.now) }
     ensures formed { IfOk result (λ x. formed.AreSelects (selects (x.0 ∷ []))) }
     ensures shorter { IfOk result (λ x. length x.1.now < length tokens.entry.now) }
-    ensures goes { Goes (λ x. grammar.read grammar.selects room (kinds_in x.1.now)) result (grammar.read grammar.selects room (kinds_in tokens.entry.now)) }
+    ensures goes { Goes (λ x. grammar.read grammar.selects room (kinds_in x.1.now)) result
+        (grammar.read grammar.selects room (kinds_in tokens.entry.now)) }
 {
     let pos = first_place(tokens)?;
     let inside = enter(room, tokens)?;
@@ -299,10 +308,13 @@ fn read_select_end(
     tokens: &[Token],
 ) -> Result<(Select, &[Token]), Stop>
     requires formed { formed.IsWellFormed first }
-    ensures found { IfOk result (λ x. (start inside : List Token) → BeginsAt pos start → Spells (sign Symbol.OpenBracket) start inside → Spells (spec.spell first) inside tokens.now → Spells (spec.spell_selects (selects (x.0 ∷ []))) start x.1.now) }
+    ensures found { IfOk result (λ x. (start inside : List Token) → BeginsAt pos start
+        → Spells (sign Symbol.OpenBracket) start inside → Spells (spec.spell first) inside tokens.now
+        → Spells (spec.spell_selects (selects (x.0 ∷ []))) start x.1.now) }
     ensures formed { IfOk result (λ x. formed.AreSelects (selects (x.0 ∷ []))) }
     ensures shorter { IfOk result (λ x. length x.1.now < length tokens.now) }
-    ensures goes { Goes (λ x. Ok (kinds_in x.1.now)) result (grammar.read grammar.select_end room (kinds_in tokens.now)) }
+    ensures goes { Goes (λ x. Ok (kinds_in x.1.now)) result
+        (grammar.read grammar.select_end room (kinds_in tokens.now)) }
 {
     if let Some(rest) = past_sign(Symbol::Colon, tokens) {
         let (right, rest) = read_expr(alloc, room, rest)?;

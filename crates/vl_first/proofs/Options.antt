@@ -1,5 +1,6 @@
 -- Tests and options, taken apart.
-use Rattle.std.proofs.Common.{◌≡◌, Bool, true, false, ◌&&◌, ◌||◌, cond, Option, Some, None, option_and_then, ◌⊎◌, inl, inr, refl}
+use Rattle.std.proofs.Common.{◌≡◌, Bool, true, false, ◌&&◌, ◌||◌, cond, Option, Some, None, option_and_then, ◌⊎◌, inl}
+use Rattle.std.proofs.Common.{inr, refl}
 
 pub and_true : (a b : Bool) → (a && b) ≡ true → (a ≡ true) × (b ≡ true)
 and_true true b e = (refl, e)
@@ -30,6 +31,7 @@ none_some x e = cc
 pub some_none : {X : Type 0} (x : X) → Some x ≡ None → ⊥
 some_none x e = cc
 
-pub bound : {X Y : Type 0} (f : X → Option Y) (o : Option X) (y : Y) → option_and_then f o ≡ Some y → (x : X) × (o ≡ Some x) × (f x ≡ Some y)
+pub bound : {X Y : Type 0} (f : X → Option Y) (o : Option X) (y : Y) → option_and_then f o ≡ Some y → (x : X)
+    × (o ≡ Some x) × (f x ≡ Some y)
 bound f None y e = absurd (none_some y e)
 bound f (Some x) y e = (x, refl, e)

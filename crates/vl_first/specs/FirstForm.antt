@@ -1,6 +1,7 @@
--- The first form of a source, read off its tree: one module without registers, its ports, and one expression over its inputs
--- for each output. Rules of this project.
-use Rattle.std.specs.Prelude.{ℕ, suc, ◌+◌, ◌^◌, Bool, true, false, ◌&&◌, ◌||◌, not, ◌==◌, nat_le, nat_lt, if◌then◌else◌, List, [], ◌∷◌, ◌++◌, Option, None, Some, is_none, map, codes}
+-- The first form of a source, read off its tree: one module without registers, its ports, and one expression over its
+-- inputs for each output. Rules of this project.
+use Rattle.std.specs.Prelude.{ℕ, suc, ◌+◌, ◌^◌, Bool, true, false, ◌&&◌, ◌||◌, not, ◌==◌, nat_le, nat_lt}
+use Rattle.std.specs.Prelude.{if◌then◌else◌, List, [], ◌∷◌, ◌++◌, Option, None, Some, is_none, map, codes}
 use Rattle.std.specs.List.{list_any, list_all}
 use Rattle.std.specs.Str.{bytes_eq}
 use Rattle.fv_base.specs.declared.number.Number.{Number}
@@ -59,7 +60,8 @@ is_bare p = is_none p.net && (not p.shape.signed && (is_none p.value && has_lawf
 
 unfoldable pub full_head : FullPort → Option Head
 full_head p =
-    if is_bare p then (width_of p.shape.range >>= λ width. Some (record { name = p.name; width = width; is_output = is_output p.direction })) else None
+    if is_bare p then (width_of p.shape.range >>= λ width. Some
+    (record { name = p.name; width = width; is_output = is_output p.direction })) else None
 
 -- a port has its own direction
 abbrev pub head_of : PortKind → Option Head
@@ -93,14 +95,16 @@ abbrev pub is_whole : Selects → Bool
 is_whole whole = true
 is_whole ss = false
 
--- an expression of plain numbers, names without selects, brackets, and `~ == & ^ | ?:`, where the ports have these names
+-- an expression of plain numbers, names without selects, brackets, and `~ == & ^ | ?:`, where the ports have these
+-- names
 unfoldable pub resolved : List (List ℕ) → tree.Expr → Option Expr
 resolved names (number p n) = plain n >>= λ k. Some (first.number k)
 resolved names (name p text ss) = if is_whole ss then Some (port (place_of names text)) else None
 resolved names (paren p a) = resolved names a
 resolved names (unary p op a) = resolved names a >>= complemented op
 resolved names (binary p op a b) = resolved names a >>= λ x. resolved names b >>= joined op x
-resolved names (conditional p c a b) = resolved names c >>= λ z. resolved names a >>= λ x. resolved names b >>= λ y. Some (pick z x y)
+resolved names (conditional p c a b) =
+    resolved names c >>= λ z. resolved names a >>= λ x. resolved names b >>= λ y. Some (pick z x y)
 resolved names e = None
 
 -- an output, and the expression that it is assigned
@@ -110,7 +114,8 @@ pub record Assigned : Type 0 where
 
 -- a target is a whole output
 abbrev pub assigned_to : List (List ℕ) → Lval → tree.Expr → Option Assigned
-assigned_to names (named p text ss) e = if is_whole ss then (resolved names e >>= λ x. Some (record { name = text; expr = x })) else None
+assigned_to names (named p text ss) e =
+    if is_whole ss then (resolved names e >>= λ x. Some (record { name = text; expr = x })) else None
 assigned_to names target e = None
 
 abbrev pub assigned_of : List (List ℕ) → Assignment → Option Assigned
@@ -166,7 +171,8 @@ module_of ports items = heads_of ports >>= λ heads. assembled heads items
 -- `module rvfi_wrapper ( ports )`, without parameters
 unfoldable pub wrapper_of : Module → Option (List FirstPort)
 wrapper_of m =
-    if bytes_eq m.name (codes "rvfi_wrapper") && is_none m.parameters then (m.ports >>= λ ports. module_of ports m.items) else None
+    if bytes_eq m.name (codes "rvfi_wrapper")
+    && is_none m.parameters then (m.ports >>= λ ports. module_of ports m.items) else None
 
 unfoldable pub first_in : List Module → Option (List FirstPort)
 first_in (m ∷ []) = wrapper_of m

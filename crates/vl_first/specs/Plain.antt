@@ -1,5 +1,6 @@
 -- What the ports of a module of the first form keep (rules of this project).
-use Rattle.std.specs.Prelude.{◌≡◌, ℕ, Bool, true, false, ◌&&◌, ◌||◌, not, ◌==◌, nat_le, List, [], ◌∷◌, is_some, is_none, slice_get, codes}
+use Rattle.std.specs.Prelude.{◌≡◌, ℕ, Bool, true, false, ◌&&◌, ◌||◌, not, ◌==◌, nat_le, List, [], ◌∷◌, is_some}
+use Rattle.std.specs.Prelude.{is_none, slice_get, codes}
 use Rattle.std.specs.List.{list_any, list_all}
 use Rattle.std.specs.Option.{option_map_or}
 use Rattle.std.specs.Str.{bytes_eq}
@@ -56,7 +57,8 @@ abbrev pub has_ill_outputs : List FirstPort → Bool
 has_ill_outputs ports =
     has_output ports (codes "rvfi_valid") 1
     && (has_output ports (codes "rvfi_insn") 32
-    && (has_output ports (codes "rvfi_trap") 1 && (has_output ports (codes "rvfi_rd_addr") 5 && has_output ports (codes "rvfi_mem_wmask") 4)))
+    && (has_output ports (codes "rvfi_trap") 1
+    && (has_output ports (codes "rvfi_rd_addr") 5 && has_output ports (codes "rvfi_mem_wmask") 4)))
 
 -- expressions read inputs, clocks are inputs of one bit, and the outputs of `ill` are there
 abbrev pub is_plain : List FirstPort → Bool

@@ -1,5 +1,6 @@
 -- How the assignments are put to the outputs, a step at a time.
-use Rattle.std.specs.Prelude.{ℕ, zero, suc, Bool, false, ◌&&◌, ◌||◌, not, nat_le, if◌then◌else◌, List, [], ◌∷◌, Option, None, Some, is_some, is_none, slice_get}
+use Rattle.std.specs.Prelude.{ℕ, zero, suc, Bool, false, ◌&&◌, ◌||◌, not, nat_le, if◌then◌else◌, List, [], ◌∷◌}
+use Rattle.std.specs.Prelude.{Option, None, Some, is_some, is_none, slice_get}
 use Rattle.std.specs.List.{list_all, zip}
 use Rattle.std.specs.Option.{option_map_or}
 use Rattle.vl_tree.specs.Expr as tree
@@ -32,11 +33,13 @@ with_output (p ∷ ps) (suc i) e = p ∷ with_output ps i e
 
 -- an output stands at the place, and it has no expression yet
 abbrev pub is_open : List Head → List FirstPort → ℕ → Bool
-is_open heads ports i = option_map_or (λ h. h.is_output) (slice_get heads i) false && option_map_or (λ p. is_none p.output) (slice_get ports i) false
+is_open heads ports i = option_map_or (λ h. h.is_output) (slice_get heads i) false
+    && option_map_or (λ p. is_none p.output) (slice_get ports i) false
 
 unfoldable pub put : List (List ℕ) → List Head → Assigned → Step
 put names heads a ports =
-    let place = place_of names a.name in if is_open heads ports place then Some (with_output ports place a.expr) else None
+    let place = place_of names a.name in if is_open heads ports place then Some (with_output ports place a.expr)
+    else None
 
 unfoldable pub put_to : List (List ℕ) → List Head → Lval → tree.Expr → Step
 put_to names heads target e ports = assigned_to names target e >>= λ a. put names heads a ports

@@ -1,6 +1,7 @@
--- The size and the value of an expression (IEEE 1364-2005, sections 5.1, 5.4 and 5.5). Numbers are whole numbers; this form
--- has no signs.
-use Rattle.std.specs.Prelude.{ℕ, ◌-◌, ◌^◌, ◌%◌, max, List, ◌==◌, if◌then◌else◌, slice_index, slice_get, bit_and, bit_or, bit_xor}
+-- The size and the value of an expression (IEEE 1364-2005, sections 5.1, 5.4 and 5.5). Numbers are whole numbers;
+-- this form has no signs.
+use Rattle.std.specs.Prelude.{ℕ, ◌-◌, ◌^◌, ◌%◌, max, List, ◌==◌, if◌then◌else◌, slice_index, slice_get, bit_and}
+use Rattle.std.specs.Prelude.{bit_or, bit_xor}
 use Rattle.std.specs.Option.{option_map_or}
 use Rattle.vl_first.specs.Expr.{Expr, number, port, complement, equal, both, differ, either, pick}
 use Rattle.vl_first.specs.declared.form.FirstPort.{FirstPort}
@@ -20,9 +21,9 @@ size ports (differ a b) = max (size ports a) (size ports b)
 size ports (either a b) = max (size ports a) (size ports b)
 size ports (pick c a b) = max (size ports a) (size ports b)
 
--- The number that an expression has where its context gives it w bits, w at least its own size (sections 5.4.1 and 5.5.2). The
--- operands of `==` have the larger of their own sizes, the condition of `?:` its own, all else the size of the context.
--- A port has the number at its place, filled with zeros to w bits.
+-- The number that an expression has where its context gives it w bits, w at least its own size (sections 5.4.1 and
+-- 5.5.2). The operands of `==` have the larger of their own sizes, the condition of `?:` its own, all else the size
+-- of the context. A port has the number at its place, filled with zeros to w bits.
 abbrev pub value : List FirstPort → List ℕ → ℕ → Expr → ℕ
 value ports nums w (number n) = n % 2 ^ w
 value ports nums w (port i) = slice_index nums i

@@ -1,6 +1,7 @@
--- When numbers for the ports of a module violate the check `ill` (riscv-formal): they are what the module gives, and the
--- property of the check fails.
-use Rattle.std.specs.Prelude.{ℕ, ◌^◌, ◌%◌, max, Bool, true, false, ◌&&◌, not, ◌==◌, nat_lt, if◌then◌else◌, List, [], ◌∷◌, codes}
+-- When numbers for the ports of a module violate the check `ill` (riscv-formal): they are what the module gives, and
+-- the property of the check fails.
+use Rattle.std.specs.Prelude.{ℕ, ◌^◌, ◌%◌, max, Bool, true, false, ◌&&◌, not, ◌==◌, nat_lt, if◌then◌else◌, List, []}
+use Rattle.std.specs.Prelude.{◌∷◌, codes}
 use Rattle.std.specs.Option.{option_map_or}
 use Rattle.std.specs.Str.{bytes_eq}
 use Rattle.vl_first.specs.Value.{size, value}
@@ -37,7 +38,8 @@ retires_zero ports nums =
 abbrev pub traps_idle : List FirstPort → List ℕ → Bool
 traps_idle ports nums =
     (number_named (codes "rvfi_trap") ports nums == 1)
-    && ((number_named (codes "rvfi_rd_addr") ports nums == 0) && (number_named (codes "rvfi_mem_wmask") ports nums == 0))
+    && ((number_named (codes "rvfi_rd_addr") ports nums == 0)
+    && (number_named (codes "rvfi_mem_wmask") ports nums == 0))
 
 unfoldable pub violates : List FirstPort → List ℕ → Bool
 violates ports nums =

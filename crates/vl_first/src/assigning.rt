@@ -45,7 +45,8 @@ fn put(
     name: &Text,
     expr: FirstExpr,
 ) -> Result<(), FirstFault>
-    ensures { Changes result ports.new.items (steps.put names.now heads.now (record { name = name.now; expr = expr }) ports.old.items) }
+    ensures { Changes result ports.new.items
+        (steps.put names.now heads.now (record { name = name.now; expr = expr }) ports.old.items) }
 {
     let place = names.place(name.bytes());
     if !is_open(heads, ports.as_slice(), place) {
@@ -89,7 +90,8 @@ fn put_each(
     assignments: &[Assignment],
 ) -> Result<(), FirstFault>
     requires { length names.now < 2 ^ 32 }
-    ensures { Changes result ports.new.items (steps.each (steps.put_assignment names.now heads.now) assignments.now ports.old.items) }
+    ensures { Changes result ports.new.items
+        (steps.each (steps.put_assignment names.now heads.now) assignments.now ports.old.items) }
 {
     for assignment in assignments {
         put_to(
@@ -136,7 +138,8 @@ pub(crate) fn put_items(
     items: &[Item],
 ) -> Result<(), FirstFault>
     requires { length names.now < 2 ^ 32 }
-    ensures { Changes result ports.new.items (steps.each (steps.put_item names.now heads.now) items.now ports.old.items) }
+    ensures { Changes result ports.new.items
+        (steps.each (steps.put_item names.now heads.now) items.now ports.old.items) }
 {
     for item in items {
         put_item(alloc, names, heads, ports, item)?;

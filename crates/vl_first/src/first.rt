@@ -69,7 +69,8 @@ fn wrapper_of(alloc: Global, declared: &Module) -> Result<First, FirstFault>
     }
 }
 
-/// The module of the first form that a source is; None exactly where it isn't of this form. The time is linear in the tree.
+/// The module of the first form that a source is; None exactly where it isn't of this form. The time is linear in the
+/// tree.
 ///
 /// A source of `2^32` ports or more wants memory, since a port's place in an expression has 32 bits.
 #[tactic(auto, unfolding(crate::specs::FirstForm::first_in))]

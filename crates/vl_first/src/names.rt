@@ -58,7 +58,8 @@ impl Names {
 
 /// The names of the ports. Where one stands twice, the source is refused.
 pub(crate) fn port_names(alloc: Global, heads: &[Head]) -> Result<Names, FirstFault>
-    ensures found { IfOk result (λ names. (names_differ (head_names heads.now) ≡ true) × (names ≡ head_names heads.now)) }
+    ensures found { IfOk result (λ names. (names_differ (head_names heads.now) ≡ true)
+        × (names ≡ head_names heads.now)) }
     ensures none { IfErr result (λ e. OnNotFirst e (names_differ (head_names heads.now) ≡ false)) }
 {
     let mut names = Names::new(alloc);

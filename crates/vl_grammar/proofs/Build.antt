@@ -1,6 +1,7 @@
--- A well formed expression is built again from its flat list of prefixes, atoms and operators, so that it is the only one
--- with this list.
-use Rattle.std.proofs.Common.{◌≡◌, ℕ, zero, suc, ◌+◌, ◌≤◌, Bool, true, false, List, [], ◌∷◌, Option, Some, None, refl, sym, ap, ◌∙◌, arith}
+-- A well formed expression is built again from its flat list of prefixes, atoms and operators, so that it is the only
+-- one with this list.
+use Rattle.std.proofs.Common.{◌≡◌, ℕ, zero, suc, ◌+◌, ◌≤◌, Bool, true, false, List, [], ◌∷◌, Option, Some, None, refl}
+use Rattle.std.proofs.Common.{sym, ap, ◌∙◌, arith}
 use Rattle.fv_base.specs.declared.pos.Pos.{Pos}
 use Rattle.vl_tree.specs.declared.operator.UnaryOperator.{UnaryOperator}
 use Rattle.vl_tree.specs.declared.operator.BinaryOperator.{BinaryOperator}
@@ -112,12 +113,20 @@ upto_false (suc m) (suc n) h = upto_false m n (omega (arith, h))
 left_true : (l : ℕ) (y x : Expr) (op : BinaryOperator) (p : Waiting) → upto l (binds op) ≡ true
     → reduced l (left y op p) x ≡ reduced l p (binary (place_of y) op y x)
 left_true l y x op p h =
-    ap (λ b. elim b as (λ _. Waiting × Expr) [ true ↦ reduced l p (binary (place_of y) op y x) | false ↦ (left y op p, x) ]) h
+    ap (λ b. elim b as (λ _. Waiting × Expr) [
+      | true ↦ reduced l p (binary (place_of y) op y x)
+      | false ↦
+          (left y op p, x)
+    ]) h
 
 left_false : (l : ℕ) (y x : Expr) (op : BinaryOperator) (p : Waiting) → upto l (binds op) ≡ false
     → reduced l (left y op p) x ≡ (left y op p, x)
 left_false l y x op p h =
-    ap (λ b. elim b as (λ _. Waiting × Expr) [ true ↦ reduced l p (binary (place_of y) op y x) | false ↦ (left y op p, x) ]) h
+    ap (λ b. elim b as (λ _. Waiting × Expr) [
+      | true ↦ reduced l p (binary (place_of y) op y x)
+      | false ↦
+          (left y op p, x)
+    ]) h
 
 -- nothing is applied
 stays : (l : ℕ) (p : Waiting) (x : Expr) → 1 ≤ l → l ≤ 10 → floor p ≤ l → reduced l p x ≡ (p, x)
@@ -139,7 +148,8 @@ applied op y x p (colon ∷ r) n = refl
 applied op y x p (prefix_at q o ∷ r) n = refl
 applied op y x p (atom z ∷ r) n = refl
 
-prefixed : (q : Pos) (op : UnaryOperator) (x : Expr) (p : Waiting) (r : List Elem) → more (prefix q op p) x r ≡ more p (unary q op x) r
+prefixed : (q : Pos) (op : UnaryOperator) (x : Expr) (p : Waiting) (r : List Elem)
+    → more (prefix q op p) x r ≡ more p (unary q op x) r
 prefixed q op x p [] = refl
 prefixed q op x p (operation o ∷ r) = refl
 prefixed q op x p (question ∷ r) = refl
@@ -173,7 +183,8 @@ built (binary q op x y) p r w i f h =
     ∙ applied op x y p r h ∙ ap (λ v. more p (binary v op x y) r) (sym i.0)
 built (conditional q x y z) p r w i f h =
     built x p (question ∷ flat y (colon ∷ flat z r)) w.1 i.1 (omega (arith, f)) w.0
-    ∙ ap (λ n. operand (ask n.1 n.0) (flat y (colon ∷ flat z r))) (stays 1 p x (omega arith) (omega arith) (omega (arith, f)))
+    ∙ ap (λ n. operand (ask n.1 n.0) (flat y (colon ∷ flat z r)))
+    (stays 1 p x (omega arith) (omega arith) (omega (arith, f)))
     ∙ built y (ask x p) (colon ∷ flat z r) w.2 i.2 (omega arith) tt
     ∙ built z (choice x y p) r w.3 i.3 (omega arith) (next_more 0 (level z) r (omega arith) h)
     ∙ chosen x y z p r h ∙ ap (λ v. more p (conditional v x y z) r) (sym i.0)
@@ -182,6 +193,8 @@ some_same : (x y : Expr) → Some x ≡ Some y → x ≡ y
 some_same x y h = cc
 
 -- one list, one well formed expression
-pub one_of_list : (x y : Expr) → IsWellFormed x → IsWellFormed y → IsPlaced x → IsPlaced y → flat x [] ≡ flat y [] → x ≡ y
+pub one_of_list : (x y : Expr) → IsWellFormed x → IsWellFormed y → IsPlaced x → IsPlaced y → flat x [] ≡ flat y []
+    → x ≡ y
 one_of_list x y w v i j h =
-    some_same x y (sym (built x start [] w i (omega arith) tt) ∙ ap (operand start) h ∙ built y start [] v j (omega arith) tt)
+    some_same x y (sym (built x start [] w i (omega arith) tt) ∙ ap (operand start) h
+    ∙ built y start [] v j (omega arith) tt)

@@ -1,5 +1,6 @@
 -- Each word is read as its rule.
-use Rattle.std.proofs.Common.{◌≡◌, ℕ, zero, suc, Bool, true, false, List, [], ◌∷◌, ◌++◌, Option, Some, None, refl, sym, ap, ◌∙◌}
+use Rattle.std.proofs.Common.{◌≡◌, ℕ, zero, suc, Bool, true, false, List, [], ◌∷◌, ◌++◌, Option, Some, None, refl}
+use Rattle.std.proofs.Common.{sym, ap, ◌∙◌}
 use Rattle.std.proofs.lemmas.Slice.Eq.{bytes_eq-Decides}
 use Rattle.fv_base.specs.Name.{is_name}
 use Rattle.fv_base.specs.declared.keyword.Keyword.TheVariants as w
@@ -55,7 +56,8 @@ use Rattle.vl_grammar.proofs.Named.{Named, on, accepts}
 use Rattle.vl_grammar.proofs.Viable as viable
 use Rattle.vl_grammar.proofs.Steps.{apart, is_pop, popped, took}
 use Rattle.vl_grammar.proofs.Viable.{both}
-use Rattle.vl_grammar.proofs.Words.{word, name_word, behind, left_out, follow, follow_expr, sound, ending_word, a_is_name}
+use Rattle.vl_grammar.proofs.Words.{word, name_word, behind, left_out, follow, follow_expr, sound, ending_word}
+use Rattle.vl_grammar.proofs.Words.{a_is_name}
 
 abbrev pub Lets : ℕ → List Named → Type 0
 Lets c ts = viable.Lets on ends word follow left_out sound c ts
@@ -78,10 +80,12 @@ pub lets_below : (n : ℕ) (ts : List Named) → Lets (suc n) ts → Lets n ts
 lets_below n [] h = tt
 lets_below n (t ∷ ts) h = (both (is_pop (on (left_out n) t)) (viable.lets on ends word follow left_out sound n t) h).1
 
-more_pops : (opened : ℕ) (t : Kind) → is_pop (grammar.on_more plain 0 0 t) ≡ true → is_pop (grammar.on_more plain 0 opened t) ≡ true
+more_pops : (opened : ℕ) (t : Kind) → is_pop (grammar.on_more plain 0 0 t) ≡ true
+    → is_pop (grammar.on_more plain 0 opened t) ≡ true
 more_pops opened (k.Symbol x) h = by_operator (binary_of x) h (λ g. by_question x g)
   where
-    by_question : (x : Symbol) → is_pop (grammar.on_no_operator plain 0 0 x) ≡ true → is_pop (grammar.on_no_operator plain 0 opened x) ≡ true
+    by_question : (x : Symbol) → is_pop (grammar.on_no_operator plain 0 0 x) ≡ true
+        → is_pop (grammar.on_no_operator plain 0 opened x) ≡ true
     by_question s.Question h = h
     by_question x h = refl
 
@@ -93,11 +97,13 @@ more_pops opened (k.Symbol x) h = by_operator (binary_of x) h (λ g. by_question
 more_pops opened t h = refl
 
 -- what is left out where no operator is open is left out where some are
-more_out : (opened : ℕ) (xs : List Rule) (ts : List Named) → Lets 2 ts → accepts (more plain 0 opened ∷ xs) ts ≡ accepts xs ts
+more_out : (opened : ℕ) (xs : List Rule) (ts : List Named) → Lets 2 ts
+    → accepts (more plain 0 opened ∷ xs) ts ≡ accepts xs ts
 more_out opened xs [] h = refl
 more_out opened xs (t ∷ ts) h =
     popped on ends (more plain 0 opened) xs t ts
-    (more_pops opened t.0 (both (is_pop (on (more plain 0 0) t)) (viable.lets on ends word follow left_out sound 1 t) h).0)
+    (more_pops opened t.0 (both (is_pop (on (more plain 0 0) t))
+    (viable.lets on ends word follow left_out sound 1 t) h).0)
 
 never_modules : (t : Kind) → is_pop (on_modules t) ≡ false
 never_modules (k.Keyword w.Module) = refl
@@ -107,9 +113,11 @@ never_modules t = refl
 modules_end : (xs : List Rule) (ts : List Named) → Lets 10 ts → accepts (modules ∷ xs) ts ≡ accepts xs ts
 modules_end xs [] h = refl
 modules_end xs (t ∷ ts) h =
-    apart (sym (never_modules t.0) ∙ (both (is_pop (on modules t)) (viable.lets on ends word follow left_out sound 9 t) h).0)
+    apart (sym (never_modules t.0) ∙ (both (is_pop (on modules t))
+    (viable.lets on ends word follow left_out sound 9 t) h).0)
 
-read_sign : (x : Symbol) (xs : List Rule) (ts : List Named) → accepts (sign x ∷ xs) ((k.Symbol x, refl) ∷ ts) ≡ accepts xs ts
+read_sign : (x : Symbol) (xs : List Rule) (ts : List Named)
+    → accepts (sign x ∷ xs) ((k.Symbol x, refl) ∷ ts) ≡ accepts xs ts
 read_sign s.OpenParen xs ts = refl
 read_sign x xs ts = refl
 

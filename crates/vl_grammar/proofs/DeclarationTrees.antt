@@ -1,5 +1,7 @@
--- What the machine reads as targets, attributes, ranges, declared names, parameters and ports is spelled by well formed trees.
-use Rattle.std.proofs.Common.{◌≡◌, ℕ, zero, suc, true, false, List, [], ◌∷◌, ◌++◌, Option, Some, None, refl, sym, ap, ◌∙◌, subst, arith}
+-- What the machine reads as targets, attributes, ranges, declared names, parameters and ports is spelled by well
+-- formed trees.
+use Rattle.std.proofs.Common.{◌≡◌, ℕ, zero, suc, true, false, List, [], ◌∷◌, ◌++◌, Option, Some, None, refl, sym, ap}
+use Rattle.std.proofs.Common.{◌∙◌, subst, arith}
 use Rattle.std.specs.Prelude.{All}
 use Rattle.std.proofs.lemmas.List.Elements.{All-cons, All-nil}
 use Rattle.fv_base.specs.declared.keyword.Keyword.TheVariants as word
@@ -20,8 +22,10 @@ use Rattle.vl_tree.specs.Lval.{Lval, Lvals, named, joined, no_lvals, more_lvals}
 use Rattle.vl_tree.specs.LvalSpelling as lval
 use Rattle.vl_tree.specs.LvalWellFormed as target_well
 use Rattle.vl_tree.specs.Phrase.{Phrase, a_name, with_commas, between_commas}
-use Rattle.vl_tree.specs.DeclarationSpelling.{spell_attribute, spell_instance, spell_optional_range, spell_shape, spell_declared_name, spell_parameter, spell_header_parameter}
-use Rattle.vl_tree.specs.DeclarationWellFormed.{AreSome, IsAttribute, IsInstance, IsOptionalRange, IsShape, IsDeclaredName, IsParameter, IsHeaderParameter, AreHeaderParameters}
+use Rattle.vl_tree.specs.DeclarationSpelling.{spell_attribute, spell_instance, spell_optional_range, spell_shape}
+use Rattle.vl_tree.specs.DeclarationSpelling.{spell_declared_name, spell_parameter, spell_header_parameter}
+use Rattle.vl_tree.specs.DeclarationWellFormed.{AreSome, IsAttribute, IsInstance, IsOptionalRange, IsShape}
+use Rattle.vl_tree.specs.DeclarationWellFormed.{IsDeclaredName, IsParameter, IsHeaderParameter, AreHeaderParameters}
 use Rattle.vl_grammar.specs.Grammar as g
 use Rattle.vl_grammar.specs.Grammar.{
   Rule,
@@ -77,12 +81,14 @@ pub record InRow (d : ℕ) (x : Rule) (row : Row Rule) (us rest : List Named) : 
   pub first : Turn d (symbols row) us middle
   pub others : Derives d x middle rest
 
-pub in_row : (d : ℕ) (x : Rule) (row : Row Rule) (us rest : List Named) → Turn d (symbols (row ++ (x, 0) ∷ [])) us rest → InRow d x row us rest
+pub in_row : (d : ℕ) (x : Rule) (row : Row Rule) (us rest : List Named)
+    → Turn d (symbols (row ++ (x, 0) ∷ [])) us rest → InRow d x row us rest
 in_row d x [] us rest (m, h, j) = record { middle = us; first = refl; others = subst (λ r. Derives d x us r) j h }
 in_row d x (y ∷ row) us rest (m, h, j) =
     (let f = in_row d x row m rest j in record { middle = f.middle; first = (m, h, f.first); others = f.others })
 
-pub many_split : (d : ℕ) (x : Rule) (t : Named) (ts rest : List Named) (m : Moves) → Moved d t ts rest (many x m) → Split d x t ts rest m
+pub many_split : (d : ℕ) (x : Rule) (t : Named) (ts rest : List Named) (m : Moves) → Moved d t ts rest (many x m)
+    → Split d x t ts rest m
 many_split d x t ts rest (take opened row) h =
     (let f = in_row d x row ts rest h in record { middle = f.middle; first = f.first; others = f.others })
 many_split d x t ts rest pop h = absurd h
@@ -100,12 +106,14 @@ module _ {A : Type 0} (one : A → Phrase) (Good : A → Type 0) (tail : Rule) (
     pub same : ts ≡ onto (with_commas one trees) (close ∷ ks)
     pub formed : All Good trees
 
-  pub tail_tree : ((d : ℕ) (ts rest : List Named) → Derives (suc d) tail ts rest → Tail d ts rest) → (d : ℕ) (ts rest : List Named)
+  pub tail_tree : ((d : ℕ) (ts rest : List Named) → Derives (suc d) tail ts rest → Tail d ts rest)
+      → (d : ℕ) (ts rest : List Named)
       → Derives d tail ts rest → Trees (plain ts) (plain rest)
   tail_tree view zero ts rest h = absurd h
   tail_tree view (suc d) ts rest h = by_view (view d ts rest h) (λ m f. tail_tree view d m rest f)
     where
-      by_view : Tail d ts rest → ((m : List Named) → Derives d tail m rest → Trees (plain m) (plain rest)) → Trees (plain ts) (plain rest)
+      by_view : Tail d ts rest → ((m : List Named) → Derives d tail m rest → Trees (plain m) (plain rest))
+          → Trees (plain ts) (plain rest)
       by_view (closes e) next = record { trees = []; same = e; formed = All-nil Good }
       by_view (goes_on x m e w f) next =
           let r = next m f in
@@ -184,7 +192,8 @@ attribute_tail d ((k.Symbol s.Comma, w) ∷ ts) rest (m, h, (m2, i, (m3, j, l)))
     let x = name_tree d ts m h in
     let v = value_tree d m m2 i in
     goes_on (record { pos = nowhere; name = x.text; value = v.tree }) m2
-    (ap (λ u. k.Symbol s.Comma ∷ u) (x.same ∙ ap (λ u. k.Name x.text ∷ u) v.same)) (x.fine, v.formed) (subst (λ r. Derives d attributes m2 r) l j)
+    (ap (λ u. k.Symbol s.Comma ∷ u) (x.same ∙ ap (λ u. k.Name x.text ∷ u) v.same)) (x.fine, v.formed)
+    (subst (λ r. Derives d attributes m2 r) l j)
 attribute_tail d ((k.Symbol s.CloseAttribute, w) ∷ ts) rest h = closes (ap (λ r. k.Symbol s.CloseAttribute ∷ plain r) h)
 attribute_tail d [] rest h = apart h.0
 attribute_tail d ((k.Symbol y, w) ∷ ts) rest h = absurd h
@@ -198,12 +207,14 @@ pub record Attributed (d : ℕ) (x : Rule) (ts rest : List Named) : Type 0 where
   pub formed : IsInstance instance
   pub others : Derives d x middle rest
 
-pub attributed_tree : (d : ℕ) (x : Rule) (ts rest : List Named) → Turn d (name ∷ value ∷ attributes ∷ x ∷ []) ts rest → Attributed d x ts rest
+pub attributed_tree : (d : ℕ) (x : Rule) (ts rest : List Named) → Turn d (name ∷ value ∷ attributes ∷ x ∷ []) ts rest
+    → Attributed d x ts rest
 attributed_tree d x ts rest (m, h, (m2, i, (m3, j, (m4, l, e)))) =
     let first = name_tree d ts m h in
     let v = value_tree d m m2 i in
     let one : Attribute = record { pos = nowhere; name = first.text; value = v.tree } in
-    let others = tail_tree spell_attribute IsAttribute attributes (k.Symbol s.CloseAttribute) attribute_tail d m2 m3 j in
+    let others = tail_tree spell_attribute IsAttribute attributes
+    (k.Symbol s.CloseAttribute) attribute_tail d m2 m3 j in
     record {
       instance = record { pos = nowhere; attributes = one ∷ others.trees };
       middle = m3;
@@ -269,7 +280,8 @@ pub record FoundName (ts ks : List Kind) : Type 0 where
   pub same : ts ≡ onto (spell_declared_name tree) ks
   pub formed : IsDeclaredName tree
 
-pub declared_name_tree : (d : ℕ) (ts rest : List Named) → Derives d declared_name ts rest → FoundName (plain ts) (plain rest)
+pub declared_name_tree : (d : ℕ) (ts rest : List Named) → Derives d declared_name ts rest
+    → FoundName (plain ts) (plain rest)
 declared_name_tree zero ts rest h = absurd h
 declared_name_tree (suc d) ((k.Name text, w) ∷ ts) rest (m, h, (m2, i, j)) =
     let r = range_tree d ts m h in
@@ -294,12 +306,14 @@ declared_tail d ((k.Symbol y, w) ∷ ts) rest h = absurd h
 declared_tail d (t ∷ ts) rest h = absurd h
 
 -- one or more elements, and what closes their list
-pub record FoundList {A : Type 0} (one : A → Phrase) (Good : A → Type 0) (close : Kind) (ts ks : List Kind) : Type 0 where
+pub record FoundList {A : Type 0} (one : A → Phrase) (Good : A → Type 0) (close : Kind)
+    (ts ks : List Kind) : Type 0 where
   pub trees : List A
   pub same : ts ≡ onto (between_commas one trees) (close ∷ ks)
   pub formed : AreSome Good trees
 
-pub list_of : {A : Type 0} (one : A → Phrase) (Good : A → Type 0) (tail : Rule) (close : Kind) (ts us ks : List Kind) (x : A)
+pub list_of : {A : Type 0} (one : A → Phrase) (Good : A → Type 0) (tail : Rule) (close : Kind) (ts us ks : List Kind)
+    (x : A)
     → ts ≡ onto (one x) us → Good x → Trees one Good tail close us ks → FoundList one Good close ts ks
 list_of one Good tail close ts us ks x e w r = record {
   trees = x ∷ r.trees;
@@ -311,11 +325,14 @@ pub declared_names_tree : (d : ℕ) (ts rest : List Named) → Turn d (declared_
     → FoundList spell_declared_name IsDeclaredName (k.Symbol s.Semicolon) (plain ts) (plain rest)
 declared_names_tree d ts rest (m, h, (m2, i, j)) =
     let x = declared_name_tree d ts m h in
-    let others = tail_tree spell_declared_name IsDeclaredName declared_names (k.Symbol s.Semicolon) declared_tail d m m2 i in
+    let others = tail_tree spell_declared_name IsDeclaredName declared_names
+    (k.Symbol s.Semicolon) declared_tail d m m2 i in
     subst (λ r. FoundList spell_declared_name IsDeclaredName (k.Symbol s.Semicolon) (plain ts) (plain r)) j
-    (list_of spell_declared_name IsDeclaredName declared_names (k.Symbol s.Semicolon) (plain ts) (plain m) (plain m2) x.tree x.same x.formed others)
+    (list_of spell_declared_name IsDeclaredName declared_names (k.Symbol s.Semicolon) (plain ts) (plain m)
+    (plain m2) x.tree x.same x.formed others)
 
-names_tail : (d : ℕ) (ts rest : List Named) → Derives (suc d) names ts rest → Tail a_name IsName names (k.Symbol s.Semicolon) d ts rest
+names_tail : (d : ℕ) (ts rest : List Named) → Derives (suc d) names ts rest
+    → Tail a_name IsName names (k.Symbol s.Semicolon) d ts rest
 names_tail d ((k.Symbol s.Comma, w) ∷ ts) rest (m, h, (m2, i, j)) =
     let x = name_tree d ts m h in
     goes_on x.text m (ap (λ u. k.Symbol s.Comma ∷ u) x.same) x.fine (subst (λ r. Derives d names m r) j i)
@@ -340,7 +357,8 @@ pub record FoundParameter (d : ℕ) (xs : List Rule) (ts rest : List Named) : Ty
   pub formed : IsParameter tree
   pub others : Turn d xs middle rest
 
-pub parameter_tree : (d : ℕ) (xs : List Rule) (ts rest : List Named) → Turn d (parameter ++ xs) ts rest → FoundParameter d xs ts rest
+pub parameter_tree : (d : ℕ) (xs : List Rule) (ts rest : List Named) → Turn d (parameter ++ xs) ts rest
+    → FoundParameter d xs ts rest
 parameter_tree d xs ts rest (m, h, (m2, i, (m3, j, (m4, l, others)))) =
     let x = shape_tree d ts m h in
     let y = name_tree d m m2 i in
@@ -358,7 +376,8 @@ parameters_tail : (d : ℕ) (ts rest : List Named) → Derives (suc d) parameter
     → Tail spell_parameter IsParameter parameters (k.Symbol s.Semicolon) d ts rest
 parameters_tail d ((k.Symbol s.Comma, w) ∷ ts) rest h =
     let x = parameter_tree d (parameters ∷ []) ts rest h in
-    goes_on x.tree x.middle (ap (λ u. k.Symbol s.Comma ∷ u) x.same) x.formed (last_of d parameters x.middle rest x.others)
+    goes_on x.tree x.middle (ap (λ u. k.Symbol s.Comma ∷ u) x.same) x.formed
+    (last_of d parameters x.middle rest x.others)
 parameters_tail d ((k.Symbol s.Semicolon, w) ∷ ts) rest h = closes (ap (λ r. k.Symbol s.Semicolon ∷ plain r) h)
 parameters_tail d [] rest h = apart h.0
 parameters_tail d ((k.Symbol y, w) ∷ ts) rest h = absurd h
@@ -368,23 +387,30 @@ pub parameters_tree : (d : ℕ) (ts rest : List Named) → Turn d (parameter ++ 
     → FoundList spell_parameter IsParameter (k.Symbol s.Semicolon) (plain ts) (plain rest)
 parameters_tree d ts rest h =
     let x = parameter_tree d (parameters ∷ []) ts rest h in
-    list_of spell_parameter IsParameter parameters (k.Symbol s.Semicolon) (plain ts) (plain x.middle) (plain rest) x.tree x.same x.formed
-    (tail_tree spell_parameter IsParameter parameters (k.Symbol s.Semicolon) parameters_tail d x.middle rest (last_of d parameters x.middle rest x.others))
+    list_of spell_parameter IsParameter parameters (k.Symbol s.Semicolon) (plain ts) (plain x.middle)
+    (plain rest) x.tree x.same x.formed
+    (tail_tree spell_parameter IsParameter parameters (k.Symbol s.Semicolon) parameters_tail d x.middle rest
+    (last_of d parameters x.middle rest x.others))
 
 -- parameters in the head of a module
-header_tree : (d : ℕ) (ts rest : List Named) → Turn d (optional_parameter ∷ parameter ++ more_header_parameters ∷ []) ts rest
-    → Tail spell_header_parameter IsHeaderParameter more_header_parameters (k.Symbol s.CloseParen) d ((k.Symbol s.Comma, refl) ∷ ts) rest
+header_tree : (d : ℕ) (ts rest : List Named)
+    → Turn d (optional_parameter ∷ parameter ++ more_header_parameters ∷ []) ts rest
+    → Tail spell_header_parameter IsHeaderParameter more_header_parameters (k.Symbol s.CloseParen) d
+    ((k.Symbol s.Comma, refl) ∷ ts) rest
 header_tree d ts rest (m, h, others) = by_word d ts h
   where
     without : (ts : List Named) → m ≡ ts
-        → Tail spell_header_parameter IsHeaderParameter more_header_parameters (k.Symbol s.CloseParen) d ((k.Symbol s.Comma, refl) ∷ ts) rest
+        → Tail spell_header_parameter IsHeaderParameter more_header_parameters (k.Symbol s.CloseParen) d
+        ((k.Symbol s.Comma, refl) ∷ ts) rest
     without ts e =
         let x = parameter_tree d (more_header_parameters ∷ []) m rest others in
         goes_on (record { keyword = false; parameter = x.tree }) x.middle
-        (ap (λ u. k.Symbol s.Comma ∷ u) (ap plain (sym e) ∙ x.same)) x.formed (last_of d more_header_parameters x.middle rest x.others)
+        (ap (λ u. k.Symbol s.Comma ∷ u) (ap plain (sym e) ∙ x.same)) x.formed
+        (last_of d more_header_parameters x.middle rest x.others)
 
     by_word : (b : ℕ) (ts : List Named) → Derives b optional_parameter ts m
-        → Tail spell_header_parameter IsHeaderParameter more_header_parameters (k.Symbol s.CloseParen) d ((k.Symbol s.Comma, refl) ∷ ts) rest
+        → Tail spell_header_parameter IsHeaderParameter more_header_parameters (k.Symbol s.CloseParen) d
+        ((k.Symbol s.Comma, refl) ∷ ts) rest
     by_word zero ts h = absurd h
     by_word (suc b) ((k.Keyword word.Parameter, w) ∷ ts) h =
         let x = parameter_tree d (more_header_parameters ∷ []) m rest others in
@@ -399,8 +425,10 @@ header_tail : (d : ℕ) (ts rest : List Named) → Derives (suc d) more_header_p
     → Tail spell_header_parameter IsHeaderParameter more_header_parameters (k.Symbol s.CloseParen) d ts rest
 header_tail d ((k.Symbol s.Comma, w) ∷ ts) rest h = by_tail (header_tree d ts rest h)
   where
-    by_tail : Tail spell_header_parameter IsHeaderParameter more_header_parameters (k.Symbol s.CloseParen) d ((k.Symbol s.Comma, refl) ∷ ts) rest
-        → Tail spell_header_parameter IsHeaderParameter more_header_parameters (k.Symbol s.CloseParen) d ((k.Symbol s.Comma, w) ∷ ts) rest
+    by_tail : Tail spell_header_parameter IsHeaderParameter more_header_parameters (k.Symbol s.CloseParen) d
+        ((k.Symbol s.Comma, refl) ∷ ts) rest
+        → Tail spell_header_parameter IsHeaderParameter more_header_parameters (k.Symbol s.CloseParen) d
+        ((k.Symbol s.Comma, w) ∷ ts) rest
     by_tail (closes e) = closes e
     by_tail (goes_on x m e v f) = goes_on x m e v f
 header_tail d ((k.Symbol s.CloseParen, w) ∷ ts) rest h = closes (ap (λ r. k.Symbol s.CloseParen ∷ plain r) h)
@@ -413,11 +441,13 @@ pub record FoundHeader (ts ks : List Kind) : Type 0 where
   pub same : ts ≡ k.Symbol s.OpenParen ∷ onto (between_commas spell_header_parameter trees) (k.Symbol s.CloseParen ∷ ks)
   pub formed : AreHeaderParameters trees
 
-pub header_parameters_tree : (d : ℕ) (ts rest : List Named) → Derives d header_parameters ts rest → FoundHeader (plain ts) (plain rest)
+pub header_parameters_tree : (d : ℕ) (ts rest : List Named) → Derives d header_parameters ts rest
+    → FoundHeader (plain ts) (plain rest)
 header_parameters_tree zero ts rest h = absurd h
 header_parameters_tree (suc d) ((k.Symbol s.OpenParen, w) ∷ ts) rest (m, h, others) =
     let x = parameter_tree d (more_header_parameters ∷ []) m rest others in
-    let more = tail_tree spell_header_parameter IsHeaderParameter more_header_parameters (k.Symbol s.CloseParen) header_tail d x.middle rest
+    let more = tail_tree spell_header_parameter IsHeaderParameter more_header_parameters
+    (k.Symbol s.CloseParen) header_tail d x.middle rest
     (last_of d more_header_parameters x.middle rest x.others) in
     let one : HeaderParameter = record { keyword = true; parameter = x.tree } in
     record {

@@ -1,5 +1,6 @@
 -- A run over a text is cut off exactly where too many constructs are open.
-use Rattle.std.proofs.Common.{◌≡◌, ℕ, zero, suc, ◌+◌, ◌≤◌, ◌<◌, Bool, true, false, List, [], ◌∷◌, ◌++◌, length, Some, refl, sym, ap, ◌∙◌, arith, le-leb}
+use Rattle.std.proofs.Common.{◌≡◌, ℕ, zero, suc, ◌+◌, ◌≤◌, ◌<◌, Bool, true, false, List, [], ◌∷◌, ◌++◌, length, Some}
+use Rattle.std.proofs.Common.{refl, sym, ap, ◌∙◌, arith, le-leb}
 use Rattle.std.proofs.lemmas.Bool.{lt-leb}
 use Rattle.std.specs.Prelude.{nat_le, if◌then◌else◌, Ok, Err}
 use Rattle.std.proofs.lemmas.List.{length-append}
@@ -81,21 +82,25 @@ none_opened nothing n h = refl
 none_opened (token kind) n h = refl
 none_opened (operator kind) n h = apart (sym h)
 none_opened (a ▸ b) n h =
-    (let (f, g) = both_false (has_token a) (has_token b) h in ap (open_behind b) (none_opened a n f) ∙ none_opened b n g)
+    (let (f, g) = both_false (has_token a) (has_token b) h in ap (open_behind b) (none_opened a n f)
+    ∙ none_opened b n g)
 none_opened (at p a) n h = none_opened a n h
 none_opened (within a) n h = refl
 none_opened (level a) n h = refl
 
-none_measured : (a : Phrase) (room n : ℕ) (rest : List Kind) (out : Ran) → has_token a ≡ false → measured a room n rest out ≡ out
+none_measured : (a : Phrase) (room n : ℕ) (rest : List Kind) (out : Ran) → has_token a ≡ false
+    → measured a room n rest out ≡ out
 none_measured nothing room n rest out h = refl
 none_measured (token kind) room n rest out h = apart (sym h)
 none_measured (operator kind) room n rest out h = apart (sym h)
 none_measured (a ▸ b) room n rest out h =
     (let (f, g) = both_false (has_token a) (has_token b) h in
-    none_measured a room n (onto b rest) (measured b room (open_after a n) rest out) f ∙ none_measured b room (open_after a n) rest out g)
+    none_measured a room n (onto b rest) (measured b room (open_after a n) rest out) f
+    ∙ none_measured b room (open_after a n) rest out g)
 none_measured (at p a) room n rest out h = none_measured a room n rest out h
 none_measured (within a) room n rest out h =
-    ap (λ b. opening b (fits (suc n) room) (length (onto a rest)) (measured a room (suc n) rest out)) h ∙ none_measured a room (suc n) rest out h
+    ap (λ b. opening b (fits (suc n) room) (length (onto a rest)) (measured a room (suc n) rest out)) h
+    ∙ none_measured a room (suc n) rest out h
 none_measured (level a) room n rest out h = none_measured a room n rest out h
 
 held_false : (b : Bool) (l : ℕ) (out : Ran) → b ≡ false → held b l out ≡ Err (deep l)
@@ -109,24 +114,29 @@ cut (token kind) room n l out h f = held_false (fits n room) (1 + l) out f
 cut (operator kind) room n l out h f = held_false (fits (n + 1) room) (1 + l) out (fits_next n room f)
 cut (a ▸ b) room n l out h f =
     checked_both room (open_at a n) (open_at b (open_behind a n)) l out
-    ∙ by_token (has_token a) refl h (cut a room n (length (open_at b (open_behind a n)) + l) (checked room (open_at b (open_behind a n)) l out))
+    ∙ by_token (has_token a) refl h (cut a room n (length (open_at b (open_behind a n)) + l)
+    (checked room (open_at b (open_behind a n)) l out))
     (cut b room (open_behind a n) l out)
     ∙ ap (λ m. Err (deep m)) lengths
   where
-    lengths : length (open_at a n) + (length (open_at b (open_behind a n)) + l) ≡ length (open_at a n ++ open_at b (open_behind a n)) + l
+    lengths : length (open_at a n) + (length (open_at b (open_behind a n)) + l)
+        ≡ length (open_at a n ++ open_at b (open_behind a n)) + l
     lengths = omega (arith, length-append (open_at a n) (open_at b (open_behind a n)))
 
     by_token : (c : Bool) → has_token a ≡ c → either c (has_token b) ≡ true
         → (has_token a ≡ true → fits n room ≡ false
-        → checked room (open_at a n) (length (open_at b (open_behind a n)) + l) (checked room (open_at b (open_behind a n)) l out)
+        → checked room (open_at a n) (length (open_at b (open_behind a n)) + l)
+        (checked room (open_at b (open_behind a n)) l out)
         ≡ Err (deep (length (open_at a n) + (length (open_at b (open_behind a n)) + l))))
         → (has_token b ≡ true → fits (open_behind a n) room ≡ false
         → checked room (open_at b (open_behind a n)) l out ≡ Err (deep (length (open_at b (open_behind a n)) + l)))
-        → checked room (open_at a n) (length (open_at b (open_behind a n)) + l) (checked room (open_at b (open_behind a n)) l out)
+        → checked room (open_at a n) (length (open_at b (open_behind a n)) + l)
+        (checked room (open_at b (open_behind a n)) l out)
         ≡ Err (deep (length (open_at a n) + (length (open_at b (open_behind a n)) + l)))
     by_token true e g first second = first e f
     by_token false e g first second =
-        ap (λ ns. checked room ns (length (open_at b (open_behind a n)) + l) (checked room (open_at b (open_behind a n)) l out)) (no_numbers a n e)
+        ap (λ ns. checked room ns (length (open_at b (open_behind a n)) + l)
+        (checked room (open_at b (open_behind a n)) l out)) (no_numbers a n e)
         ∙ second g (ap (λ m. fits m room) (none_opened a n e) ∙ f)
         ∙ ap (λ m. Err (deep m))
         (let z : length (open_at a n) ≡ 0 = ap length (no_numbers a n e) in omega (arith, z))
@@ -142,10 +152,13 @@ by_numbers (operator kind) room n rest out h =
     (let e : suc (length rest) ≡ 1 + length rest = omega arith in
     λ i. held (fits (sym (add_one n) i) room) (e i) out)
 by_numbers (a ▸ b) room n rest out h =
-    inner a room n (onto b rest) (measured b room (open_after a n) rest out) (checked room (open_at b (open_behind a n)) (length rest) out) h
-    (λ e. by_numbers b room (open_after a n) rest out e ∙ ap (λ m. checked room (open_at b m) (length rest) out) (sym (open_same a n)))
+    inner a room n (onto b rest) (measured b room (open_after a n) rest out)
+    (checked room (open_at b (open_behind a n)) (length rest) out) h
+    (λ e. by_numbers b room (open_after a n) rest out e
+    ∙ ap (λ m. checked room (open_at b m) (length rest) out) (sym (open_same a n)))
     ∙ by_numbers a room n (onto b rest) (checked room (open_at b (open_behind a n)) (length rest) out) h
-    ∙ ap (λ m. checked room (open_at a n) m (checked room (open_at b (open_behind a n)) (length rest) out)) (long b (open_behind a n) rest)
+    ∙ ap (λ m. checked room (open_at a n) m (checked room (open_at b (open_behind a n)) (length rest) out))
+    (long b (open_behind a n) rest)
     ∙ sym (checked_both room (open_at a n) (open_at b (open_behind a n)) (length rest) out)
 by_numbers (at p a) room n rest out h = by_numbers a room n rest out h
 by_numbers (level a) room n rest out h = by_numbers a room n rest out h
@@ -153,10 +166,13 @@ by_numbers (within a) room n rest out h =
     by_token (has_token a) refl (fits (suc n) room) refl (λ e. by_numbers a room (suc n) rest out e)
   where
     by_token : (b : Bool) → has_token a ≡ b → (c : Bool) → fits (suc n) room ≡ c
-        → (fits (suc n) room ≡ true → measured a room (suc n) rest out ≡ checked room (open_at a (suc n)) (length rest) out)
-        → opening b c (length (onto a rest)) (measured a room (suc n) rest out) ≡ checked room (open_at a (n + 1)) (length rest) out
+        → (fits (suc n) room ≡ true → measured a room (suc n) rest out
+        ≡ checked room (open_at a (suc n)) (length rest) out)
+        → opening b c (length (onto a rest)) (measured a room (suc n) rest out)
+        ≡ checked room (open_at a (n + 1)) (length rest) out
     by_token false e c f next =
-        none_measured a room (suc n) rest out e ∙ ap (λ ns. checked room ns (length rest) out) (sym (no_numbers a (n + 1) e))
+        none_measured a room (suc n) rest out e ∙ ap (λ ns. checked room ns (length rest) out)
+        (sym (no_numbers a (n + 1) e))
     by_token true e true f next = next f ∙ ap (λ m. checked room (open_at a m) (length rest) out) (sym (add_one n))
     by_token true e false f next =
         ap (λ m. Err (deep m)) (long a (n + 1) rest)

@@ -12,8 +12,10 @@ use Rattle.vl_tree.specs.declared.operator.BinaryOperator.TheVariants as b
 use Rattle.vl_tree.specs.declared.operator.Cast.{Cast}
 use Rattle.vl_tree.specs.declared.operator.Cast.TheVariants as c
 use Rattle.vl_tree.specs.Expr as tree
-use Rattle.vl_tree.specs.Expr.{Expr, Exprs, Selects, number, paren, unary, binary, conditional, concat, repeat, cast, none, whole, bit, part, indexed}
-use Rattle.vl_tree.specs.ExprSpelling.{spell, spell_more, spell_selects, spell_value, unary_sign, binary_sign, cast_name}
+use Rattle.vl_tree.specs.Expr.{Expr, Exprs, Selects, number, paren, unary, binary, conditional, concat, repeat, cast}
+use Rattle.vl_tree.specs.Expr.{none, whole, bit, part, indexed}
+use Rattle.vl_tree.specs.ExprSpelling.{spell, spell_more, spell_selects, spell_value, unary_sign, binary_sign}
+use Rattle.vl_tree.specs.ExprSpelling.{cast_name}
 use Rattle.vl_tree.specs.ExprWellFormed.{IsWellFormed, AreWellFormed, AreSelects, IsKnown, IsValue}
 use Rattle.vl_grammar.specs.Machine.{take}
 use Rattle.vl_grammar.specs.Operators.{cast_of, binary_of}
@@ -61,12 +63,14 @@ pub known : (n : Number) → IsKnown n → is_known n ≡ true
 known n h = λ i. (h.0 i == 0) && (h.1 i == 0)
 
 pub unary_row : (stand : Stand) (colons opened : ℕ) (op : UnaryOperator)
-    → on_operand_sign stand colons opened (unary_sign op) ≡ take (suc opened) ((operand stand colons (suc opened), 0) ∷ [])
+    → on_operand_sign stand colons opened (unary_sign op)
+    ≡ take (suc opened) ((operand stand colons (suc opened), 0) ∷ [])
 unary_row stand colons opened u.Plus = refl
 unary_row stand colons opened op = refl
 
 pub binary_row : (stand : Stand) (colons opened : ℕ) (op : BinaryOperator)
-    → on_more stand colons opened (k.Symbol (binary_sign op)) ≡ take (suc opened) ((operand stand colons (suc opened), 0) ∷ [])
+    → on_more stand colons opened (k.Symbol (binary_sign op))
+    ≡ take (suc opened) ((operand stand colons (suc opened), 0) ∷ [])
 binary_row stand colons opened b.Multiply = refl
 binary_row stand colons opened op = refl
 
@@ -85,7 +89,8 @@ leaves x xs ts h = steps.leaves expand ends x xs ts h
 more_pops : (opened : ℕ) (t : Kind) → is_pop (on_more plain 0 0 t) ≡ true → is_pop (on_more plain 0 opened t) ≡ true
 more_pops opened (k.Symbol x) h = by_operator (binary_of x) h (λ g. by_question x g)
   where
-    by_question : (x : Symbol) → is_pop (on_no_operator plain 0 0 x) ≡ true → is_pop (on_no_operator plain 0 opened x) ≡ true
+    by_question : (x : Symbol) → is_pop (on_no_operator plain 0 0 x) ≡ true
+        → is_pop (on_no_operator plain 0 opened x) ≡ true
     by_question s.Question h = h
     by_question x h = refl
 
@@ -110,7 +115,8 @@ ended : (e : Expr) (xs : List Rule) (rest : List Kind) → Ends rest
     → accepts (expr ∷ xs) (onto (spell e) rest) ≡ accepts xs rest
 ended e xs rest h same = same ∙ leaves (more plain 0 (after e 0)) xs rest (more_leaves (after e 0) rest h.1)
 
-pub select_behind : (es : Exprs) (rest : List Kind) → Leaves selects (onto (spell_more es) (k.Symbol s.CloseBrace ∷ rest))
+pub select_behind : (es : Exprs) (rest : List Kind)
+    → Leaves selects (onto (spell_more es) (k.Symbol s.CloseBrace ∷ rest))
 select_behind none rest = refl
 select_behind (tree.more x es) rest = refl
 
@@ -121,14 +127,17 @@ part_behind (tree.more x es) rest = (refl, refl)
 mutual
   pub expr_reads : (e : Expr) (stand : Stand) (colons opened : ℕ) (xs : List Rule) (rest : List Kind) → IsWellFormed e
       → Leaves selects rest
-      → accepts (operand stand colons opened ∷ xs) (onto (spell e) rest) ≡ accepts (more stand colons (after e opened) ∷ xs) rest
+      → accepts (operand stand colons opened ∷ xs) (onto (spell e) rest)
+      ≡ accepts (more stand colons (after e opened) ∷ xs) rest
   expr_reads (number p n) stand colons opened xs rest w h =
       steps.took expand ends (operand stand colons opened) xs (k.Number n) rest 0 ((more stand colons opened, 0) ∷ [])
       (ap (λ b. if_known b (take 0 ((more stand colons opened, 0) ∷ []))) (known n w))
   expr_reads (tree.name p text ss) stand colons opened xs rest w h =
       selects_read ss (more stand colons opened ∷ xs) rest w.1 ∙ leaves selects (more stand colons opened ∷ xs) rest h
   expr_reads (paren p x) stand colons opened xs rest w h =
-      ended x (sign s.CloseParen ∷ more stand colons opened ∷ xs) (k.Symbol s.CloseParen ∷ rest) (refl, refl) (expr_reads x plain 0 0 (sign s.CloseParen ∷ more stand colons opened ∷ xs) (k.Symbol s.CloseParen ∷ rest) w refl)
+      ended x (sign s.CloseParen ∷ more stand colons opened ∷ xs) (k.Symbol s.CloseParen ∷ rest) (refl, refl)
+      (expr_reads x plain 0 0 (sign s.CloseParen ∷ more stand colons opened ∷ xs)
+      (k.Symbol s.CloseParen ∷ rest) w refl)
   expr_reads (unary p op x) stand colons opened xs rest w h =
       steps.took expand ends (operand stand colons opened) xs (k.Symbol (unary_sign op)) (onto (spell x) rest)
       (suc opened) ((operand stand colons (suc opened), 0) ∷ []) (unary_row stand colons opened op)
@@ -136,56 +145,84 @@ mutual
   expr_reads (binary p op x y) stand colons opened xs rest w h =
       expr_reads x stand colons opened xs (k.Symbol (binary_sign op) ∷ onto (spell y) rest) w.2 (no_select op)
       ∙ steps.took expand ends (more stand colons (after x opened)) xs (k.Symbol (binary_sign op)) (onto (spell y) rest)
-      (suc (after x opened)) ((operand stand colons (suc (after x opened)), 0) ∷ []) (binary_row stand colons (after x opened) op)
+      (suc (after x opened)) ((operand stand colons (suc (after x opened)), 0) ∷ [])
+      (binary_row stand colons (after x opened) op)
       ∙ expr_reads y stand colons (suc (after x opened)) xs rest w.3 h
   expr_reads (conditional p x y z) stand colons opened xs rest w h =
-      expr_reads x stand colons opened xs (k.Symbol s.Question ∷ onto (spell y) (k.Symbol s.Colon ∷ onto (spell z) rest)) w.1 refl
+      expr_reads x stand colons opened xs (k.Symbol s.Question
+      ∷ onto (spell y) (k.Symbol s.Colon ∷ onto (spell z) rest)) w.1 refl
       ∙ expr_reads y stand (suc colons) (suc (after x opened)) xs (k.Symbol s.Colon ∷ onto (spell z) rest) w.2 refl
       ∙ expr_reads z stand colons (after y (suc (after x opened))) xs rest w.3 h
   expr_reads (concat p (tree.more x es)) stand colons opened xs rest w h =
-      expr_reads x first_in_braces 0 0 (more stand colons opened ∷ xs) (onto (spell_more es) (k.Symbol s.CloseBrace ∷ rest))
+      expr_reads x first_in_braces 0 0 (more stand colons opened ∷ xs)
+      (onto (spell_more es) (k.Symbol s.CloseBrace ∷ rest))
       w.1.0 (select_behind es rest)
       ∙ first_read es (after x 0) (more stand colons opened ∷ xs) rest w.1.1
   expr_reads (concat p none) stand colons opened xs rest w h = absurd w.0
   expr_reads (repeat p x (tree.more y es)) stand colons opened xs rest w h =
       expr_reads x first_in_braces 0 0 (more stand colons opened ∷ xs)
-      (k.Symbol s.OpenBrace ∷ onto (spell y) (onto (spell_more es) (k.Symbol s.CloseBrace ∷ k.Symbol s.CloseBrace ∷ rest))) w.0 refl
-      ∙ ended y (parts ∷ sign s.CloseBrace ∷ more stand colons opened ∷ xs) (onto (spell_more es) (k.Symbol s.CloseBrace ∷ k.Symbol s.CloseBrace ∷ rest)) (part_behind es (k.Symbol s.CloseBrace ∷ rest)) (expr_reads y plain 0 0 (parts ∷ sign s.CloseBrace ∷ more stand colons opened ∷ xs) (onto (spell_more es) (k.Symbol s.CloseBrace ∷ k.Symbol s.CloseBrace ∷ rest)) w.2.0 (part_behind es (k.Symbol s.CloseBrace ∷ rest)).0)
+      (k.Symbol s.OpenBrace ∷ onto (spell y) (onto (spell_more es)
+      (k.Symbol s.CloseBrace ∷ k.Symbol s.CloseBrace ∷ rest))) w.0 refl
+      ∙ ended y (parts ∷ sign s.CloseBrace ∷ more stand colons opened ∷ xs)
+      (onto (spell_more es) (k.Symbol s.CloseBrace ∷ k.Symbol s.CloseBrace ∷ rest))
+      (part_behind es (k.Symbol s.CloseBrace ∷ rest))
+      (expr_reads y plain 0 0 (parts ∷ sign s.CloseBrace ∷ more stand colons opened ∷ xs)
+      (onto (spell_more es) (k.Symbol s.CloseBrace ∷ k.Symbol s.CloseBrace ∷ rest)) w.2.0
+      (part_behind es (k.Symbol s.CloseBrace ∷ rest)).0)
       ∙ parts_read es (sign s.CloseBrace ∷ more stand colons opened ∷ xs) (k.Symbol s.CloseBrace ∷ rest) w.2.1
   expr_reads (repeat p x none) stand colons opened xs rest w h = absurd w.1
   expr_reads (cast p to x) stand colons opened xs rest w h =
       steps.took expand ends (operand stand colons opened) xs (k.System (cast_name to))
       (k.Symbol s.OpenParen ∷ onto (spell x) (k.Symbol s.CloseParen ∷ rest))
       0 ((in_parens, opened) ∷ (more stand colons opened, 0) ∷ []) (ap (on_cast stand colons opened) (cast_same to))
-      ∙ ended x (sign s.CloseParen ∷ more stand colons opened ∷ xs) (k.Symbol s.CloseParen ∷ rest) (refl, refl) (expr_reads x plain 0 0 (sign s.CloseParen ∷ more stand colons opened ∷ xs) (k.Symbol s.CloseParen ∷ rest) w refl)
+      ∙ ended x (sign s.CloseParen ∷ more stand colons opened ∷ xs) (k.Symbol s.CloseParen ∷ rest) (refl, refl)
+      (expr_reads x plain 0 0 (sign s.CloseParen ∷ more stand colons opened ∷ xs)
+      (k.Symbol s.CloseParen ∷ rest) w refl)
 
   first_read : (es : Exprs) (opened : ℕ) (xs : List Rule) (rest : List Kind) → AreWellFormed es
-      → accepts (more first_in_braces 0 opened ∷ xs) (onto (spell_more es) (k.Symbol s.CloseBrace ∷ rest)) ≡ accepts xs rest
+      → accepts (more first_in_braces 0 opened ∷ xs) (onto (spell_more es) (k.Symbol s.CloseBrace ∷ rest))
+      ≡ accepts xs rest
   first_read none opened xs rest w = refl
   first_read (tree.more x es) opened xs rest w =
-      ended x (parts ∷ xs) (onto (spell_more es) (k.Symbol s.CloseBrace ∷ rest)) (part_behind es rest) (expr_reads x plain 0 0 (parts ∷ xs) (onto (spell_more es) (k.Symbol s.CloseBrace ∷ rest)) w.0 (part_behind es rest).0)
+      ended x (parts ∷ xs) (onto (spell_more es) (k.Symbol s.CloseBrace ∷ rest)) (part_behind es rest)
+      (expr_reads x plain 0 0 (parts ∷ xs) (onto (spell_more es) (k.Symbol s.CloseBrace ∷ rest)) w.0
+      (part_behind es rest).0)
       ∙ parts_read es xs rest w.1
 
   parts_read : (es : Exprs) (xs : List Rule) (rest : List Kind) → AreWellFormed es
       → accepts (parts ∷ xs) (onto (spell_more es) (k.Symbol s.CloseBrace ∷ rest)) ≡ accepts xs rest
   parts_read none xs rest w = refl
   parts_read (tree.more x es) xs rest w =
-      ended x (parts ∷ xs) (onto (spell_more es) (k.Symbol s.CloseBrace ∷ rest)) (part_behind es rest) (expr_reads x plain 0 0 (parts ∷ xs) (onto (spell_more es) (k.Symbol s.CloseBrace ∷ rest)) w.0 (part_behind es rest).0)
+      ended x (parts ∷ xs) (onto (spell_more es) (k.Symbol s.CloseBrace ∷ rest)) (part_behind es rest)
+      (expr_reads x plain 0 0 (parts ∷ xs) (onto (spell_more es) (k.Symbol s.CloseBrace ∷ rest)) w.0
+      (part_behind es rest).0)
       ∙ parts_read es xs rest w.1
 
   pub selects_read : (ss : Selects) (xs : List Rule) (rest : List Kind) → AreSelects ss
       → accepts (selects ∷ xs) (onto (spell_selects ss) rest) ≡ accepts (selects ∷ xs) rest
   selects_read whole xs rest w = refl
   selects_read (bit p x ss) xs rest w =
-      ended x (select_end ∷ selects ∷ xs) (k.Symbol s.CloseBracket ∷ onto (spell_selects ss) rest) (refl, refl) (expr_reads x plain 0 0 (select_end ∷ selects ∷ xs) (k.Symbol s.CloseBracket ∷ onto (spell_selects ss) rest) w.0 refl)
+      ended x (select_end ∷ selects ∷ xs) (k.Symbol s.CloseBracket ∷ onto (spell_selects ss) rest) (refl, refl)
+      (expr_reads x plain 0 0 (select_end ∷ selects ∷ xs)
+      (k.Symbol s.CloseBracket ∷ onto (spell_selects ss) rest) w.0 refl)
       ∙ selects_read ss xs rest w.1
   selects_read (part p x y ss) xs rest w =
-      ended x (select_end ∷ selects ∷ xs) (k.Symbol s.Colon ∷ onto (spell y) (k.Symbol s.CloseBracket ∷ onto (spell_selects ss) rest)) (refl, refl) (expr_reads x plain 0 0 (select_end ∷ selects ∷ xs) (k.Symbol s.Colon ∷ onto (spell y) (k.Symbol s.CloseBracket ∷ onto (spell_selects ss) rest)) w.0 refl)
-      ∙ ended y (sign s.CloseBracket ∷ selects ∷ xs) (k.Symbol s.CloseBracket ∷ onto (spell_selects ss) rest) (refl, refl) (expr_reads y plain 0 0 (sign s.CloseBracket ∷ selects ∷ xs) (k.Symbol s.CloseBracket ∷ onto (spell_selects ss) rest) w.1 refl)
+      ended x (select_end ∷ selects ∷ xs) (k.Symbol s.Colon
+      ∷ onto (spell y) (k.Symbol s.CloseBracket ∷ onto (spell_selects ss) rest)) (refl, refl)
+      (expr_reads x plain 0 0 (select_end ∷ selects ∷ xs)
+      (k.Symbol s.Colon ∷ onto (spell y) (k.Symbol s.CloseBracket ∷ onto (spell_selects ss) rest)) w.0 refl)
+      ∙ ended y (sign s.CloseBracket ∷ selects ∷ xs) (k.Symbol s.CloseBracket ∷ onto (spell_selects ss) rest)
+      (refl, refl) (expr_reads y plain 0 0 (sign s.CloseBracket ∷ selects ∷ xs)
+      (k.Symbol s.CloseBracket ∷ onto (spell_selects ss) rest) w.1 refl)
       ∙ selects_read ss xs rest w.2
   selects_read (indexed p x y ss) xs rest w =
-      ended x (select_end ∷ selects ∷ xs) (k.Symbol s.PlusColon ∷ onto (spell y) (k.Symbol s.CloseBracket ∷ onto (spell_selects ss) rest)) (refl, refl) (expr_reads x plain 0 0 (select_end ∷ selects ∷ xs) (k.Symbol s.PlusColon ∷ onto (spell y) (k.Symbol s.CloseBracket ∷ onto (spell_selects ss) rest)) w.0 refl)
-      ∙ ended y (sign s.CloseBracket ∷ selects ∷ xs) (k.Symbol s.CloseBracket ∷ onto (spell_selects ss) rest) (refl, refl) (expr_reads y plain 0 0 (sign s.CloseBracket ∷ selects ∷ xs) (k.Symbol s.CloseBracket ∷ onto (spell_selects ss) rest) w.1 refl)
+      ended x (select_end ∷ selects ∷ xs) (k.Symbol s.PlusColon
+      ∷ onto (spell y) (k.Symbol s.CloseBracket ∷ onto (spell_selects ss) rest)) (refl, refl)
+      (expr_reads x plain 0 0 (select_end ∷ selects ∷ xs)
+      (k.Symbol s.PlusColon ∷ onto (spell y) (k.Symbol s.CloseBracket ∷ onto (spell_selects ss) rest)) w.0 refl)
+      ∙ ended y (sign s.CloseBracket ∷ selects ∷ xs) (k.Symbol s.CloseBracket ∷ onto (spell_selects ss) rest)
+      (refl, refl) (expr_reads y plain 0 0 (sign s.CloseBracket ∷ selects ∷ xs)
+      (k.Symbol s.CloseBracket ∷ onto (spell_selects ss) rest) w.1 refl)
       ∙ selects_read ss xs rest w.2
 
 -- an expression up to where it ends

@@ -1,12 +1,14 @@
 -- The faulty token, said of trees alone.
-use Rattle.std.proofs.Common.{◌≡◌, ℕ, suc, Bool, true, false, List, [], ◌∷◌, ◌++◌, length, Option, Some, None, refl, sym, ap, ◌∙◌, subst}
+use Rattle.std.proofs.Common.{◌≡◌, ℕ, suc, Bool, true, false, List, [], ◌∷◌, ◌++◌, length, Option, Some, None, refl}
+use Rattle.std.proofs.Common.{sym, ap, ◌∙◌, subst}
 use Rattle.std.specs.Prelude.{Result, Ok, Err, map}
 use Rattle.fv_base.specs.declared.kind.Kind.{Kind}
 use Rattle.fv_base.specs.declared.token.Token.{Token}
 use Rattle.vl_tree.specs.Phrase.{kinds, kinds_of}
 use Rattle.vl_tree.specs.ItemSpelling.{spell_source}
 use Rattle.vl_grammar.specs.Machine as machine
-use Rattle.vl_grammar.specs.Machine.{Row, Move, take, pop, bad, Fault, syntax, deep, Stepped, stuck, emptied, over, goes, fits, placed, taken, symbols, step, free_step, IsStuck}
+use Rattle.vl_grammar.specs.Machine.{Row, Move, take, pop, bad, Fault, syntax, deep, Stepped, stuck, emptied, over}
+use Rattle.vl_grammar.specs.Machine.{goes, fits, placed, taken, symbols, step, free_step, IsStuck}
 use Rattle.vl_grammar.specs.Grammar as grammar
 use Rattle.vl_grammar.specs.Grammar.{Rule, Moves, expand, ends, modules, start}
 use Rattle.vl_grammar.specs.Text.{IsText, IsFaulty}
@@ -66,7 +68,8 @@ run_plain xs (t ∷ ts) =
     ∙ by_step (step expand xs t.0) (λ j. run_plain j ts)
     ∙ ap (λ n. ran (λ j. machine.run expand ends j (plain ts)) (suc n) (step expand xs t.0)) (sym (length_plain ts))
   where
-    by_step : (found : Stepped Rule) → ((j : Row Rule) → machine.run on ends j ts ≡ machine.run expand ends j (plain ts))
+    by_step : (found : Stepped Rule) → ((j : Row Rule)
+        → machine.run on ends j ts ≡ machine.run expand ends j (plain ts))
         → ran (λ j. machine.run on ends j ts) (suc (length ts)) found
         ≡ ran (λ j. machine.run expand ends j (plain ts)) (suc (length ts)) found
     by_step stuck h = refl
@@ -74,13 +77,16 @@ run_plain xs (t ∷ ts) =
     by_step over h = refl
     by_step (goes j) h = h j
 
-pub after_plain : (xs : List Rule) (ts : List Named) → machine.free_after on xs ts ≡ machine.free_after expand xs (plain ts)
+pub after_plain : (xs : List Rule) (ts : List Named)
+    → machine.free_after on xs ts ≡ machine.free_after expand xs (plain ts)
 after_plain xs [] = refl
 after_plain xs (t ∷ ts) =
-    ap (λ o. elim o as (λ _. Option (List Rule)) [ None ↦ None | Some j ↦ machine.free_after on j ts ]) (step_plain xs t)
+    ap (λ o. elim o as (λ _. Option (List Rule)) [ None ↦ None | Some j ↦ machine.free_after on j ts ])
+    (step_plain xs t)
     ∙ by_step (free_step expand xs t.0) (λ j. after_plain j ts)
   where
-    by_step : (o : Option (List Rule)) → ((j : List Rule) → machine.free_after on j ts ≡ machine.free_after expand j (plain ts))
+    by_step : (o : Option (List Rule)) → ((j : List Rule)
+        → machine.free_after on j ts ≡ machine.free_after expand j (plain ts))
         → elim o as (λ _. Option (List Rule)) [ None ↦ None | Some j ↦ machine.free_after on j ts ]
         ≡ elim o as (λ _. Option (List Rule)) [ None ↦ None | Some j ↦ machine.free_after expand j (plain ts) ]
     by_step None h = refl
@@ -113,7 +119,8 @@ goes_somewhere : (before : List Named) (j : List Rule) → machine.free_after on
 goes_somewhere before j h =
     subst IsText (plain_both before (viable.finish on ends word follow left_out sound j))
     (accepted_text (before ++ viable.finish on ends word follow left_out sound j)
-    (runs.reached on ends (modules ∷ []) j before (viable.finish on ends word follow left_out sound j) h ∙ goes_on before j h))
+    (runs.reached on ends (modules ∷ []) j before (viable.finish on ends word follow left_out sound j) h
+    ∙ goes_on before j h))
 
 none_true : {A : Type 0} → true ≡ false → A
 none_true h = absurd (no h)
@@ -127,7 +134,8 @@ stack = modules ∷ []
 -- where the machine stops for a wrong token, the token is faulty
 at_stop : (ts : List Named) (l : ℕ) → runs.Stops on ends stack ts l → IsFaulty (plain ts) l
 at_stop ts l w =
-    let here : machine.free_after expand stack (plain w.before) ≡ Some w.state = sym (after_plain stack w.before) ∙ w.here in
+    let here : machine.free_after expand stack (plain w.before) ≡ Some w.state = sym (after_plain stack w.before)
+    ∙ w.here in
     record {
       before = plain w.before;
       behind = plain w.behind;
@@ -147,12 +155,15 @@ at_stop ts l w =
 
 after_both : (xs : List Rule) (before ts : List Named) (j : List Rule) → machine.free_after on xs before ≡ Some j
     → machine.free_after on xs (before ++ ts) ≡ machine.free_after on j ts
-after_both xs [] ts j h = (let e : Some xs ≡ Some j = h in let f : xs ≡ j = cc in ap (λ i. machine.free_after on i ts) f)
+after_both xs [] ts j h =
+    (let e : Some xs ≡ Some j = h in let f : xs ≡ j = cc in ap (λ i. machine.free_after on i ts) f)
 after_both xs (u ∷ us) ts j h = by_first (free_step on xs u) h (λ i. after_both i us ts j)
   where
     by_first : (o : Option (List Rule)) → elim o [ None ↦ None | Some i ↦ machine.free_after on i us ] ≡ Some j
-        → ((i : List Rule) → machine.free_after on i us ≡ Some j → machine.free_after on i (us ++ ts) ≡ machine.free_after on j ts)
-        → elim o as (λ _. Option (List Rule)) [ None ↦ None | Some i ↦ machine.free_after on i (us ++ ts) ] ≡ machine.free_after on j ts
+        → ((i : List Rule) → machine.free_after on i us ≡ Some j
+        → machine.free_after on i (us ++ ts) ≡ machine.free_after on j ts)
+        → elim o as (λ _. Option (List Rule)) [ None ↦ None | Some i ↦ machine.free_after on i (us ++ ts) ]
+        ≡ machine.free_after on j ts
     by_first None h next = (let e : None ≡ Some j = h in cc)
     by_first (Some i) h next = next i h
 
@@ -170,7 +181,8 @@ at_deep ts l w =
       long = ap suc (length_plain w.behind) ∙ w.long;
       rest = plain (viable.finish on ends word follow left_out sound w.next);
       goes_on = subst IsText
-          (ap (λ r. r ++ plain (viable.finish on ends word follow left_out sound w.next)) (plain_both w.before (w.token ∷ []))
+          (ap (λ r. r ++ plain (viable.finish on ends word follow left_out sound w.next))
+          (plain_both w.before (w.token ∷ []))
           ∙ assoc (plain w.before) w.token.0 (plain (viable.finish on ends word follow left_out sound w.next)))
           (goes_somewhere (w.before ++ w.token ∷ []) w.next here);
     }
@@ -185,26 +197,31 @@ run_named ts = run_plain start (named ts) ∙ ap grammar.run (named_kinds ts)
 pub faulty : (ts : List Token) (l : ℕ) → grammar.run (kinds_of ts) ≡ Err (syntax l) → IsFaulty (kinds_of ts) l
 faulty ts l h =
     subst (λ ks. IsFaulty ks l) (named_kinds ts)
-    (at_stop (named ts) l (subst (λ o. runs.At on ends stack (named ts) o) (run_named ts ∙ h) (runs.run_at on ends start (named ts))))
+    (at_stop (named ts) l (subst (λ o. runs.At on ends stack (named ts) o) (run_named ts ∙ h)
+    (runs.run_at on ends start (named ts))))
 
 pub right : (ts : List Token) (l : ℕ) → grammar.run (kinds_of ts) ≡ Err (deep l) → IsRight (kinds_of ts) l
 right ts l h =
     subst (λ ks. IsRight ks l) (named_kinds ts)
-    (at_deep (named ts) l (subst (λ o. runs.At on ends stack (named ts) o) (run_named ts ∙ h) (runs.run_at on ends start (named ts))))
+    (at_deep (named ts) l (subst (λ o. runs.At on ends stack (named ts) o) (run_named ts ∙ h)
+    (runs.run_at on ends start (named ts))))
 
 pub whole : (ts : List Token) → grammar.run (kinds_of ts) ≡ Ok tt → IsText (kinds_of ts)
 whole ts h =
     subst IsText (named_kinds ts)
-    (accepted_text (named ts) (subst (λ o. runs.At on ends stack (named ts) o) (run_named ts ∙ h) (runs.run_at on ends start (named ts))))
+    (accepted_text (named ts) (subst (λ o. runs.At on ends stack (named ts) o) (run_named ts ∙ h)
+    (runs.run_at on ends start (named ts))))
 
 -- a text is refused for a construct too many alone
 pub never_faulty : (ks : List Kind) (l : ℕ) → IsText ks → grammar.run ks ≡ Err (syntax l) → ⊥
 never_faulty ks l x h =
     by_stop (subst (λ o. runs.At expand ends stack ks o) h (runs.run_at expand ends start ks))
   where
-    by_end : (state : List Rule) (behind : List Kind) → IsStuck expand ends state behind → machine.accepts expand ends state behind ≡ false
+    by_end : (state : List Rule) (behind : List Kind) → IsStuck expand ends state behind
+        → machine.accepts expand ends state behind ≡ false
     by_end state [] w = w
-    by_end state (t ∷ us) w = ap (λ o. elim o as (λ _. Bool) [ None ↦ false | Some i ↦ machine.accepts expand ends i us ]) w
+    by_end state (t ∷ us) w =
+        ap (λ o. elim o as (λ _. Bool) [ None ↦ false | Some i ↦ machine.accepts expand ends i us ]) w
 
     by_stop : runs.Stops expand ends stack ks l → ⊥
     by_stop w =
@@ -214,4 +231,5 @@ never_faulty ks l x h =
 pub spelled_text : (ts : List Token) → grammar.accepts (modules ∷ []) (kinds_of ts) ≡ true → IsText (kinds_of ts)
 spelled_text ts h =
     subst IsText (named_kinds ts)
-    (accepted_text (named ts) (accepts_plain (modules ∷ []) (named ts) ∙ ap (grammar.accepts (modules ∷ [])) (named_kinds ts) ∙ h))
+    (accepted_text (named ts) (accepts_plain (modules ∷ []) (named ts)
+    ∙ ap (grammar.accepts (modules ∷ [])) (named_kinds ts) ∙ h))

@@ -26,12 +26,14 @@ first_head (t ∷ ts) = refl
 pub spelled_onto : (a : Phrase) (ts rest : List Token) → Spells a ts rest → kinds_of ts ≡ onto a (kinds_of rest)
 spelled_onto a ts rest h = spelled a ts rest h ∙ sym (onto_kinds a (kinds_of rest))
 
-pub first_of : (a : Phrase) (ts rest : List Token) (kind : Kind) (ks : List Kind) → Spells a ts rest → onto a (kinds_of rest) ≡ kind ∷ ks
+pub first_of : (a : Phrase) (ts rest : List Token) (kind : Kind) (ks : List Kind) → Spells a ts rest
+    → onto a (kinds_of rest) ≡ kind ∷ ks
     → first ts ≡ kind
 first_of a ts rest kind ks h e = first_head ts ∙ ap head (spelled_onto a ts rest h ∙ e)
 
 -- an expression begins with what an expression may begin with
-pub expr_first : (x : Expr) (ts rest : List Token) → expr_well.IsWellFormed x → Spells (expr.spell x) ts rest → Plain (first ts)
+pub expr_first : (x : Expr) (ts rest : List Token) → expr_well.IsWellFormed x → Spells (expr.spell x) ts rest
+    → Plain (first ts)
 expr_first x ts rest w h =
     let f = expr_front x (kinds_of rest) w in
     subst Plain (sym (first_of (expr.spell x) ts rest f.head f.tail h f.same)) f.fine

@@ -1,5 +1,6 @@
 -- Rules are read one behind the other, and each row as the machine says.
-use Rattle.std.proofs.Common.{◌≡◌, ℕ, zero, suc, ◌≤◌, ◌<◌, ◌-◌, Bool, true, false, List, [], ◌∷◌, ◌++◌, length, refl, sym, ap, ◌∙◌, arith}
+use Rattle.std.proofs.Common.{◌≡◌, ℕ, zero, suc, ◌≤◌, ◌<◌, ◌-◌, Bool, true, false, List, [], ◌∷◌, ◌++◌, length, refl}
+use Rattle.std.proofs.Common.{sym, ap, ◌∙◌, arith}
 use Rattle.std.specs.Prelude.{Result, Ok, Err}
 use Rattle.vl_grammar.specs.Machine.{
   Row,
@@ -59,8 +60,12 @@ module _ {S T : Type 0} (expand : S → T → Move S) (ends : S → Bool) where
   taken_onto false room row j k t = refl
 
   step_move : (x : S × ℕ) (j k : Row S) (t : T) (m : Move S) → step expand (j ++ k) t ≡ onwards (step expand j t) k t
-      → elim m as (λ _. Stepped S)
-      [ take opened row ↦ taken (fits opened x.1) (placed x.1 row (j ++ k)) | pop ↦ step expand (j ++ k) t | bad ↦ stuck ]
+      → elim m as (λ _. Stepped S) [
+        | take opened row ↦ taken (fits opened x.1) (placed x.1 row (j ++ k))
+        | pop ↦ step expand
+            (j ++ k) t
+        | bad ↦ stuck
+      ]
       ≡ onwards (elim m as (λ _. Stepped S)
       [ take opened row ↦ taken (fits opened x.1) (placed x.1 row j) | pop ↦ step expand j t | bad ↦ stuck ]) k t
   step_move x j k t (take opened row) h = taken_onto (fits opened x.1) x.1 row j k t
@@ -115,13 +120,16 @@ module _ {S T : Type 0} (expand : S → T → Move S) (ends : S → Bool) where
       by_end true = refl
       by_end false = refl
 
-  end_onto : (j k : Row S) → at_end (all_end ends (j ++ k)) ≡ then (at_end (all_end ends j)) (λ rest. reads expand ends k rest)
+  end_onto : (j k : Row S) → at_end (all_end ends (j ++ k)) ≡
+      then (at_end (all_end ends j)) (λ rest. reads expand ends k rest)
   end_onto [] k = sym (reads_end k)
   end_onto (x ∷ j) k = by_end (ends x.0) (end_onto j k)
     where
-      by_end : (b : Bool) → at_end (all_end ends (j ++ k)) ≡ then (at_end (all_end ends j)) (λ rest. reads expand ends k rest)
+      by_end : (b : Bool) → at_end (all_end ends (j ++ k)) ≡
+          then (at_end (all_end ends j)) (λ rest. reads expand ends k rest)
           → at_end (elim b as (λ _. Bool) [ true ↦ all_end ends (j ++ k) | false ↦ false ])
-          ≡ then (at_end (elim b as (λ _. Bool) [ true ↦ all_end ends j | false ↦ false ])) (λ rest. reads expand ends k rest)
+          ≡ then (at_end (elim b as (λ _. Bool) [ true ↦ all_end ends j | false ↦ false ]))
+          (λ rest. reads expand ends k rest)
       by_end true h = h
       by_end false h = refl
 
@@ -176,7 +184,8 @@ module _ {S T : Type 0} (expand : S → T → Move S) (ends : S → Bool) where
           ≡ then (at_end b) at_the_end
       by_end true = refl
       by_end false = refl
-  run_reads k (t ∷ ts) = by_step (step expand k t) (λ j. run_reads j ts) ∙ ap (λ r. then r at_the_end) (sym (reads_on k t ts))
+  run_reads k (t ∷ ts) =
+      by_step (step expand k t) (λ j. run_reads j ts) ∙ ap (λ r. then r at_the_end) (sym (reads_on k t ts))
     where
       by_step : (found : Stepped S) → ((j : Row S) → run expand ends j ts ≡ then (reads expand ends j ts) at_the_end)
           → elim found as (λ _. Result (Unit {0}) Fault) [

@@ -1,5 +1,6 @@
 -- What well formed items spell is read as items; an `else` is read for the nearest `if`.
-use Rattle.std.proofs.Common.{◌≡◌, ℕ, zero, suc, Bool, true, false, List, [], ◌∷◌, ◌++◌, Option, Some, None, refl, sym, ap, ◌∙◌, subst, arith}
+use Rattle.std.proofs.Common.{◌≡◌, ℕ, zero, suc, Bool, true, false, List, [], ◌∷◌, ◌++◌, Option, Some, None, refl}
+use Rattle.std.proofs.Common.{sym, ap, ◌∙◌, subst, arith}
 use Rattle.std.specs.Prelude.{All}
 use Rattle.std.proofs.lemmas.Slice.Eq.{bytes_eq-Decides}
 use Rattle.fv_base.specs.declared.keyword.Keyword.TheVariants as word
@@ -55,7 +56,8 @@ use Rattle.vl_tree.specs.Item.{
   region,
   single,
 }
-use Rattle.vl_tree.specs.ItemSpelling.{spell, spell_all, spell_block, spell_head, spell_assignment, spell_event_kind, spell_optional, spell_connection, spell_connections, spell_overrides}
+use Rattle.vl_tree.specs.ItemSpelling.{spell, spell_all, spell_block, spell_head, spell_assignment, spell_event_kind}
+use Rattle.vl_tree.specs.ItemSpelling.{spell_optional, spell_connection, spell_connections, spell_overrides}
 use Rattle.vl_tree.specs.Lval.{Lval, named, joined, no_lvals, more_lvals}
 use Rattle.vl_tree.specs.LvalSpelling as lval
 use Rattle.vl_tree.specs.LvalWellFormed as lval_well
@@ -65,7 +67,9 @@ use Rattle.vl_tree.specs.Stmt.{Stmt, Stmts, no_stmts, more_stmts}
 use Rattle.vl_tree.specs.StmtSpelling as stmt_spelling
 use Rattle.vl_tree.specs.StmtSpelling.{spell_label}
 use Rattle.vl_tree.specs.StmtWellFormed as stmt_well
-use Rattle.vl_tree.specs.WellFormed.{IsAssignment, IsConnection, AreOverrides, IsHead, attributes_of, mark_of, ends_open, block_ends_open, open_behind, AreBalanced, IsWellFormed, AreWellFormed, IsBlock}
+use Rattle.vl_tree.specs.WellFormed.{IsAssignment, IsConnection, AreOverrides, IsHead, attributes_of, mark_of}
+use Rattle.vl_tree.specs.WellFormed.{ends_open, block_ends_open, open_behind, AreBalanced, IsWellFormed}
+use Rattle.vl_tree.specs.WellFormed.{AreWellFormed, IsBlock}
 use Rattle.vl_grammar.specs.Machine.{Row, take, pop, bad, symbols}
 use Rattle.vl_grammar.specs.Grammar as g
 use Rattle.vl_grammar.specs.Grammar.{
@@ -143,7 +147,12 @@ pub target_front : (l : Lval) (ts : List Kind) → InitialFront (onto (lval.spel
 target_front (named p text ss) ts =
     record { head = k.Name text; tail = onto (expr.spell_selects ss) ts; same = refl; begins = by_name text }
 target_front (joined p ls) ts =
-    record { head = k.Symbol s.OpenBrace; tail = onto (lval.spell_parts ls) (k.Symbol s.CloseBrace ∷ ts); same = refl; begins = by_brace }
+    record {
+      head = k.Symbol s.OpenBrace;
+      tail = onto (lval.spell_parts ls) (k.Symbol s.CloseBrace ∷ ts);
+      same = refl;
+      begins = by_brace;
+    }
 
 pub initial_front : (x : Stmt) (ts : List Kind) → stmt_well.IsInitial x → InitialFront (onto (stmt_spelling.spell x) ts)
 initial_front (stmt_tree.begin attrs p label x) ts i = record {
@@ -153,7 +162,8 @@ initial_front (stmt_tree.begin attrs p label x) ts i = record {
   begins = by_begin;
 }
 initial_front (stmt_tree.assign attrs p l kind x) ts i =
-    let f = target_front l (k.Symbol (stmt_spelling.assign_sign kind) ∷ onto (expr.spell x) (k.Symbol s.Semicolon ∷ ts)) in
+    let f = target_front l (k.Symbol (stmt_spelling.assign_sign kind)
+    ∷ onto (expr.spell x) (k.Symbol s.Semicolon ∷ ts)) in
     record {
       head = f.head;
       tail = f.tail;
@@ -173,12 +183,14 @@ in_initial_stmts _ (by_name text) xs ts = refl
 in_initial_stmts _ by_brace xs ts = refl
 
 initial_target : (l : Lval) (xs : List Rule) (ts : List Kind) → lval_well.IsWellFormed l
-    → accepts (initial_stmt ∷ xs) (onto (lval.spell l) (k.Symbol s.Equal ∷ ts)) ≡ accepts (g.expr ∷ sign s.Semicolon ∷ xs) ts
+    → accepts (initial_stmt ∷ xs) (onto (lval.spell l) (k.Symbol s.Equal ∷ ts))
+    ≡ accepts (g.expr ∷ sign s.Semicolon ∷ xs) ts
 initial_target (named p text ss) xs ts w =
     selects_read ss (sign s.Equal ∷ g.expr ∷ sign s.Semicolon ∷ xs) (k.Symbol s.Equal ∷ ts) w.1
 initial_target (joined p no_lvals) xs ts w = absurd w.0
 initial_target (joined p (more_lvals l ls)) xs ts w =
-    target_read l (targets ∷ sign s.Equal ∷ g.expr ∷ sign s.Semicolon ∷ xs) (onto (lval.spell_more ls) (k.Symbol s.CloseBrace ∷ k.Symbol s.Equal ∷ ts))
+    target_read l (targets ∷ sign s.Equal ∷ g.expr ∷ sign s.Semicolon ∷ xs)
+    (onto (lval.spell_more ls) (k.Symbol s.CloseBrace ∷ k.Symbol s.Equal ∷ ts))
     w.1.0 (behind_target ls (k.Symbol s.Equal ∷ ts))
     ∙ targets_read ls (sign s.Equal ∷ g.expr ∷ sign s.Semicolon ∷ xs) (k.Symbol s.Equal ∷ ts) w.1.1
 
@@ -186,7 +198,8 @@ mutual
   initial_reads : (x : Stmt) (xs : List Rule) (ts : List Kind) → stmt_well.IsInitial x → stmt_well.IsWellFormed x
       → accepts (initial_stmt ∷ xs) (onto (stmt_spelling.spell x) ts) ≡ accepts xs ts
   initial_reads (stmt_tree.begin attrs p label x) xs ts i w =
-      (λ j. accepts (initial_stmt ∷ xs) (onto (stmt_spelling.spell (stmt_tree.begin (i.0 j) p (i.1 j) x)) ts)) ∙ initial_all x xs ts i.2 w.2
+      (λ j. accepts (initial_stmt ∷ xs) (onto (stmt_spelling.spell (stmt_tree.begin (i.0 j) p (i.1 j) x)) ts))
+      ∙ initial_all x xs ts i.2 w.2
   initial_reads (stmt_tree.assign attrs p l kind x) xs ts i w =
       (λ j. accepts (initial_stmt ∷ xs) (onto (stmt_spelling.spell (stmt_tree.assign (i.0 j) p l (i.1 j) x)) ts))
       ∙ initial_target l xs (onto (expr.spell x) (k.Symbol s.Semicolon ∷ ts)) w.1
@@ -273,7 +286,8 @@ behind_attributes (for_loop attrs p head b) = spell (for_loop [] p head b)
 behind_attributes (if_only attrs p c b) = spell (if_only [] p c b)
 behind_attributes (if_else attrs p c b d) = spell (if_else [] p c b d)
 
-pub split : (x : Item) (ts : List Kind) → onto (spell x) ts ≡ onto (spell_attributes (attributes_of x)) (onto (behind_attributes x) ts)
+pub split : (x : Item) (ts : List Kind) → onto (spell x) ts
+    ≡ onto (spell_attributes (attributes_of x)) (onto (behind_attributes x) ts)
 split (declaration attrs p d) ts = refl
 split (integer attrs p xs) ts = refl
 split (genvar attrs p xs) ts = refl
@@ -328,7 +342,8 @@ in_generate_block t h xs ts = refl
 abbrev pub NoElse : List Kind → Type 0
 NoElse ts = Leaves otherwise ts × Leaves generate_otherwise ts
 
-pub no_else : (b : Bool) (t : Kind) → BeginsItem b t → (is_pop (on_otherwise t) ≡ true) × (is_pop (on_generate_otherwise t) ≡ true)
+pub no_else : (b : Bool) (t : Kind) → BeginsItem b t → (is_pop (on_otherwise t) ≡ true)
+    × (is_pop (on_generate_otherwise t) ≡ true)
 no_else _ _ by_wire = (refl, refl)
 no_else b t h = (refl, refl)
 
@@ -348,12 +363,14 @@ ending_leaves endmodule ts = (refl, refl)
 ending_leaves endgenerate ts = (refl, refl)
 ending_leaves end ts = (refl, refl)
 
-pub items_leave : (xs : Items) (ending : Ending) (ts : List Kind) → NoElse (onto (spell_all xs) (k.Keyword (ending_word ending) ∷ ts))
+pub items_leave : (xs : Items) (ending : Ending) (ts : List Kind)
+    → NoElse (onto (spell_all xs) (k.Keyword (ending_word ending) ∷ ts))
 items_leave no_items ending ts = ending_leaves ending ts
 items_leave (more_items x xs) ending ts = item_leaves x (onto (spell_all xs) (k.Keyword (ending_word ending) ∷ ts))
 
 -- declarations
-names_read : (d : Shape) (es : List DeclaredName) (xs : List Rule) (ts : List Kind) → IsShape d → AreSome IsDeclaredName es
+names_read : (d : Shape) (es : List DeclaredName) (xs : List Rule) (ts : List Kind) → IsShape d
+    → AreSome IsDeclaredName es
     → accepts (shape ∷ declared_name ∷ declared_names ∷ xs)
     (onto (spell_shape d) (onto (between_commas spell_declared_name es) (k.Symbol s.Semicolon ∷ ts))) ≡ accepts xs ts
 names_read d [] xs ts w v = absurd (omega (arith, v.0))
@@ -374,7 +391,8 @@ genvars_read : (es : List (List ℕ)) (xs : List Rule) (ts : List Kind) → AreS
     → accepts (name ∷ g.names ∷ xs) (onto (between_commas a_name es) (k.Symbol s.Semicolon ∷ ts)) ≡ accepts xs ts
 genvars_read [] xs ts w = absurd (omega (arith, w.0))
 genvars_read (x ∷ es) xs ts w =
-    list_read a_name IsName g.names (name ∷ []) [] (k.Symbol s.Semicolon) (λ ys us. refl) (λ ys us. refl) (λ us. (refl, refl, refl, refl))
+    list_read a_name IsName g.names (name ∷ []) [] (k.Symbol s.Semicolon) (λ ys us. refl) (λ ys us. refl)
+    (λ us. (refl, refl, refl, refl))
     (λ y ys us v h. refl) x es xs ts w.1
 
 assignment_read : (x : Assignment) (xs : List Rule) (ts : List Kind) → IsAssignment x → Behind ts
@@ -384,13 +402,16 @@ assignment_read x xs ts w h =
     ∙ whole_read x.value xs ts w.1 (h.0, h.1)
 
 assignments_read : (es : List Assignment) (xs : List Rule) (ts : List Kind) → AreSome IsAssignment es
-    → accepts (g.assignment ++ g.assignments ∷ xs) (onto (between_commas spell_assignment es) (k.Symbol s.Semicolon ∷ ts)) ≡ accepts xs ts
+    → accepts (g.assignment ++ g.assignments ∷ xs)
+    (onto (between_commas spell_assignment es) (k.Symbol s.Semicolon ∷ ts)) ≡ accepts xs ts
 assignments_read [] xs ts w = absurd (omega (arith, w.0))
 assignments_read (x ∷ es) xs ts w =
-    list_read spell_assignment IsAssignment g.assignments g.assignment [] (k.Symbol s.Semicolon) (λ ys us. refl) (λ ys us. refl)
+    list_read spell_assignment IsAssignment g.assignments g.assignment [] (k.Symbol s.Semicolon) (λ ys us. refl)
+    (λ ys us. refl)
     (λ us. (refl, refl, refl, refl)) assignment_read x es xs ts w.1
 
-event_read : (kind : EventKind) (xs : List Rule) (ts : List Kind) → accepts (g.event ∷ xs) (onto (spell_event_kind kind) ts) ≡ accepts xs ts
+event_read : (kind : EventKind) (xs : List Rule) (ts : List Kind)
+    → accepts (g.event ∷ xs) (onto (spell_event_kind kind) ts) ≡ accepts xs ts
 event_read v.Bare xs ts = refl
 event_read v.Spaced xs ts = refl
 event_read v.OpenJoined xs ts = refl
@@ -398,11 +419,13 @@ event_read v.CloseJoined xs ts = refl
 event_read (v.Posedge text) xs ts = refl
 
 -- instances
-many_symbols : (x : Rule) (row : Row Rule) (xs : List Rule) → symbols (row ++ (x, 0) ∷ []) ++ xs ≡ symbols row ++ (x ∷ xs)
+many_symbols : (x : Rule) (row : Row Rule) (xs : List Rule)
+    → symbols (row ++ (x, 0) ∷ []) ++ xs ≡ symbols row ++ (x ∷ xs)
 many_symbols x [] xs = refl
 many_symbols x (y ∷ row) xs = ap (λ r. y.0 ∷ r) (many_symbols x row xs)
 
-many_move : (x : Rule) (xs : List Rule) (t : Kind) (m : Moves) → is_pop m ≡ false → stepped xs t (many x m) ≡ stepped (x ∷ xs) t m
+many_move : (x : Rule) (xs : List Rule) (t : Kind) (m : Moves) → is_pop m ≡ false
+    → stepped xs t (many x m) ≡ stepped (x ∷ xs) t m
 many_move x xs t (take opened row) h = ap Some (many_symbols x row xs)
 many_move x xs t pop h = apart (sym h)
 many_move x xs t bad h = refl
@@ -410,9 +433,12 @@ many_move x xs t bad h = refl
 in_value : (t : Kind) → Plain t → (xs : List Rule) (ts : List Kind)
     → accepts (connected_value ∷ xs) (t ∷ ts) ≡ accepts (g.expr ∷ sign s.CloseParen ∷ xs) (t ∷ ts)
 in_value (k.Symbol s.CloseParen) h xs ts = absurd h
-in_value (k.Symbol x) h xs ts = ap (on_step ts) (many_move (sign s.CloseParen) xs (k.Symbol x) (on_operand plain 0 0 (k.Symbol x)) (never_operand (k.Symbol x)))
-in_value (k.Number x) h xs ts = ap (on_step ts) (many_move (sign s.CloseParen) xs (k.Number x) (on_operand plain 0 0 (k.Number x)) (never_operand (k.Number x)))
-in_value (k.System x) h xs ts = ap (on_step ts) (many_move (sign s.CloseParen) xs (k.System x) (on_operand plain 0 0 (k.System x)) (never_operand (k.System x)))
+in_value (k.Symbol x) h xs ts = ap (on_step ts)
+    (many_move (sign s.CloseParen) xs (k.Symbol x) (on_operand plain 0 0 (k.Symbol x)) (never_operand (k.Symbol x)))
+in_value (k.Number x) h xs ts = ap (on_step ts)
+    (many_move (sign s.CloseParen) xs (k.Number x) (on_operand plain 0 0 (k.Number x)) (never_operand (k.Number x)))
+in_value (k.System x) h xs ts = ap (on_step ts)
+    (many_move (sign s.CloseParen) xs (k.System x) (on_operand plain 0 0 (k.System x)) (never_operand (k.System x)))
 in_value t h xs ts = refl
 
 value_by : (o : Option Expr) (xs : List Rule) (ts : List Kind) → expr_well.IsValue o
@@ -432,15 +458,18 @@ connections_read : (es : List Connection) (xs : List Rule) (ts : List Kind) → 
     → accepts (connections ∷ xs) (onto (spell_connections es) ts) ≡ accepts xs ts
 connections_read [] xs ts w = refl
 connections_read (x ∷ es) xs ts w =
-    list_read spell_connection IsConnection more_connections (connection ∷ []) [] (k.Symbol s.CloseParen) (λ ys us. refl) (λ ys us. refl)
+    list_read spell_connection IsConnection more_connections (connection ∷ []) [] (k.Symbol s.CloseParen)
+    (λ ys us. refl) (λ ys us. refl)
     (λ us. (refl, refl, refl, refl)) connection_read x es xs ts w
 
 overrides_read : (o : Option (List Connection)) (text : List ℕ) (es : List Connection) (xs : List Rule) (ts : List Kind)
     → AreOverrides o → All IsConnection es
-    → accepts (g.overrides ∷ xs) (onto (spell_overrides o) (k.Name text ∷ onto (spell_connections es) (k.Symbol s.Semicolon ∷ ts))) ≡ accepts xs ts
+    → accepts (g.overrides ∷ xs) (onto (spell_overrides o)
+    (k.Name text ∷ onto (spell_connections es) (k.Symbol s.Semicolon ∷ ts))) ≡ accepts xs ts
 overrides_read None text es xs ts w v = connections_read es (sign s.Semicolon ∷ xs) (k.Symbol s.Semicolon ∷ ts) v
 overrides_read (Some os) text es xs ts w v =
-    connections_read os (name ∷ connections ∷ sign s.Semicolon ∷ xs) (k.Name text ∷ onto (spell_connections es) (k.Symbol s.Semicolon ∷ ts)) w
+    connections_read os (name ∷ connections ∷ sign s.Semicolon ∷ xs)
+    (k.Name text ∷ onto (spell_connections es) (k.Symbol s.Semicolon ∷ ts)) w
     ∙ connections_read es (sign s.Semicolon ∷ xs) (k.Symbol s.Semicolon ∷ ts) v
 
 -- heads of loops
@@ -453,17 +482,21 @@ head_read : (x : LoopHead) (xs : List Rule) (ts : List Kind) → IsHead x
     → accepts (g.loop_head ∷ xs) (onto (spell_head x) ts) ≡ accepts xs ts
 unfolding spell_head
 head_read x xs ts w =
-    whole_read x.start (sign s.Semicolon ∷ g.expr ∷ sign s.Semicolon ∷ this_name x.variable ∷ sign s.Equal ∷ g.expr ∷ sign s.CloseParen ∷ xs)
-    (k.Symbol s.Semicolon ∷ onto (expr.spell x.condition) (k.Symbol s.Semicolon ∷ k.Name x.next_variable ∷ k.Symbol s.Equal
+    whole_read x.start (sign s.Semicolon ∷ g.expr ∷ sign s.Semicolon ∷ this_name x.variable ∷ sign s.Equal ∷ g.expr
+    ∷ sign s.CloseParen ∷ xs)
+    (k.Symbol s.Semicolon ∷ onto (expr.spell x.condition)
+    (k.Symbol s.Semicolon ∷ k.Name x.next_variable ∷ k.Symbol s.Equal
     ∷ onto (expr.spell x.next) (k.Symbol s.CloseParen ∷ ts))) w.2 (refl, refl)
     ∙ whole_read x.condition (sign s.Semicolon ∷ this_name x.variable ∷ sign s.Equal ∷ g.expr ∷ sign s.CloseParen ∷ xs)
-    (k.Symbol s.Semicolon ∷ k.Name x.next_variable ∷ k.Symbol s.Equal ∷ onto (expr.spell x.next) (k.Symbol s.CloseParen ∷ ts)) w.3 (refl, refl)
+    (k.Symbol s.Semicolon ∷ k.Name x.next_variable ∷ k.Symbol s.Equal
+    ∷ onto (expr.spell x.next) (k.Symbol s.CloseParen ∷ ts)) w.3 (refl, refl)
     ∙ again x.next_variable x.variable (sign s.Equal ∷ g.expr ∷ sign s.CloseParen ∷ xs)
     (k.Symbol s.Equal ∷ onto (expr.spell x.next) (k.Symbol s.CloseParen ∷ ts)) w.1
     ∙ whole_read x.next (sign s.CloseParen ∷ xs) (k.Symbol s.CloseParen ∷ ts) w.4 (refl, refl)
 
 as_items : (xs : List Rule) (x : Items) (ts : List Kind) → AreBalanced x
-    → accepts (generate_block_label ∷ xs) (onto (spell_all x) (k.Keyword word.End ∷ ts)) ≡ accepts (g.items end ∷ xs) (onto (spell_all x) (k.Keyword word.End ∷ ts))
+    → accepts (generate_block_label ∷ xs) (onto (spell_all x) (k.Keyword word.End ∷ ts))
+    ≡ accepts (g.items end ∷ xs) (onto (spell_all x) (k.Keyword word.End ∷ ts))
 as_items xs no_items ts h = refl
 as_items xs (more_items x zs) ts h =
     (let f = item_front x (onto (spell_all zs) (k.Keyword word.End ∷ ts)) (first_opens x zs h) in
@@ -493,7 +526,8 @@ as_block x xs ts c h =
     ap (λ us. accepts (generate_block ∷ xs) us) same ∙ in_generate_block f.head f.begins xs f.tail
     ∙ ap (λ us. accepts (item ∷ xs) us) (sym same))
 
-read_ending : (ending : Ending) (xs : List Rule) (ts : List Kind) → accepts (g.items ending ∷ xs) (k.Keyword (ending_word ending) ∷ ts) ≡ accepts xs ts
+read_ending : (ending : Ending) (xs : List Rule) (ts : List Kind)
+    → accepts (g.items ending ∷ xs) (k.Keyword (ending_word ending) ∷ ts) ≡ accepts xs ts
 read_ending endmodule xs ts = refl
 read_ending endgenerate xs ts = refl
 read_ending end xs ts = refl
@@ -518,17 +552,21 @@ opened_none (generate attrs p m) xs h = some_none m h
 opened_none x xs h = refl
 
 mutual
-  item_reads : (x : Item) (xs : List Rule) (ts : List Kind) → NoClose x → IsWellFormed x → (ends_open x ≡ true → NoElse ts)
+  item_reads : (x : Item) (xs : List Rule) (ts : List Kind) → NoClose x → IsWellFormed x
+      → (ends_open x ≡ true → NoElse ts)
       → accepts (item ∷ xs) (onto (spell x) ts) ≡ accepts (opened_by x xs) ts
   item_reads (declaration attrs p d) xs ts z w o =
       attributes_read item refl attrs xs _ w.0
-      ∙ declaration_at d.net xs (onto (spell_shape d.shape) (onto (between_commas spell_declared_name d.names) (k.Symbol s.Semicolon ∷ ts)))
+      ∙ declaration_at d.net xs (onto (spell_shape d.shape)
+      (onto (between_commas spell_declared_name d.names) (k.Symbol s.Semicolon ∷ ts)))
       ∙ names_read d.shape d.names xs ts w.1.0 w.1.1
-  item_reads (integer attrs p es) xs ts z w o = attributes_read item refl attrs xs _ w.0 ∙ declared_names_read es xs ts w.1
+  item_reads (integer attrs p es) xs ts z w o =
+      attributes_read item refl attrs xs _ w.0 ∙ declared_names_read es xs ts w.1
   item_reads (genvar attrs p es) xs ts z w o = attributes_read item refl attrs xs _ w.0 ∙ genvars_read es xs ts w.1
   item_reads (parameter attrs p kind es) xs ts z w o =
       attributes_read item refl attrs xs _ w.0
-      ∙ parameter_at kind xs (onto (between_commas spell_parameter es) (k.Symbol s.Semicolon ∷ ts)) ∙ parameters_read es xs ts w.1
+      ∙ parameter_at kind xs (onto (between_commas spell_parameter es) (k.Symbol s.Semicolon ∷ ts))
+      ∙ parameters_read es xs ts w.1
   item_reads (assign attrs p es) xs ts z w o = attributes_read item refl attrs xs _ w.0 ∙ assignments_read es xs ts w.1
   item_reads (always attrs p event x) xs ts z w o =
       attributes_read item refl attrs xs _ w.0 ∙ event_read event.kind (stmt ∷ xs) (onto (stmt_spelling.spell x) ts)
@@ -547,18 +585,24 @@ mutual
       ∙ block_reads b (generate_otherwise ∷ xs) ts w.2 (λ e. o refl) ∙ leaves generate_otherwise xs ts (o refl).1
   item_reads (if_else attrs p c b d) xs ts z w o =
       attributes_read item refl attrs xs _ w.0
-      ∙ parens_read c (generate_block ∷ generate_otherwise ∷ xs) (onto (spell_block b) (k.Keyword word.Else ∷ onto (spell_block d) ts)) w.1
-      ∙ block_reads b (generate_otherwise ∷ xs) (k.Keyword word.Else ∷ onto (spell_block d) ts) w.3 (λ e. apart (sym w.2 ∙ e))
+      ∙ parens_read c (generate_block ∷ generate_otherwise ∷ xs)
+      (onto (spell_block b) (k.Keyword word.Else ∷ onto (spell_block d) ts)) w.1
+      ∙ block_reads b (generate_otherwise ∷ xs) (k.Keyword word.Else ∷ onto (spell_block d) ts) w.3
+      (λ e. apart (sym w.2 ∙ e))
       ∙ block_reads d xs ts w.4 o
 
   -- the items of a list in which so many regions are open
-  items_reads : (x : Items) (n : ℕ) (ending : Ending) (xs : List Rule) (ts : List Kind) → open_behind x (Some n) ≡ Some 0 → AreWellFormed x
-      → accepts (g.items (current n ending) ∷ around n ending xs) (onto (spell_all x) (k.Keyword (ending_word ending) ∷ ts)) ≡ accepts xs ts
+  items_reads : (x : Items) (n : ℕ) (ending : Ending) (xs : List Rule) (ts : List Kind)
+      → open_behind x (Some n) ≡ Some 0 → AreWellFormed x
+      → accepts (g.items (current n ending) ∷ around n ending xs)
+      (onto (spell_all x) (k.Keyword (ending_word ending) ∷ ts)) ≡ accepts xs ts
   items_reads no_items zero ending xs ts h w = read_ending ending xs ts
   items_reads no_items (suc n) ending xs ts h w = no_open n h
   items_reads (more_items (generate attrs p mark.Open) zs) n ending xs ts h w =
-      in_list (current n ending) (generate attrs p mark.Open) (around n ending xs) (onto (spell_all zs) (k.Keyword (ending_word ending) ∷ ts)) tt
-      ∙ item_reads (generate attrs p mark.Open) (g.items (current n ending) ∷ around n ending xs) (onto (spell_all zs) (k.Keyword (ending_word ending) ∷ ts))
+      in_list (current n ending) (generate attrs p mark.Open) (around n ending xs)
+      (onto (spell_all zs) (k.Keyword (ending_word ending) ∷ ts)) tt
+      ∙ item_reads (generate attrs p mark.Open) (g.items (current n ending) ∷ around n ending xs)
+      (onto (spell_all zs) (k.Keyword (ending_word ending) ∷ ts))
       tt w.0 (λ e. items_leave zs ending ts)
       ∙ items_reads zs (suc n) ending xs ts h w.1
   items_reads (more_items (generate attrs p mark.Close) zs) zero ending xs ts h w = never zs 0 h
@@ -568,7 +612,8 @@ mutual
       ∙ items_reads zs n ending xs ts h w.1
   items_reads (more_items x zs) n ending xs ts h w =
       in_list (current n ending) x (around n ending xs) (onto (spell_all zs) (k.Keyword (ending_word ending) ∷ ts)) tt
-      ∙ item_reads x (g.items (current n ending) ∷ around n ending xs) (onto (spell_all zs) (k.Keyword (ending_word ending) ∷ ts)) tt w.0
+      ∙ item_reads x (g.items (current n ending) ∷ around n ending xs)
+      (onto (spell_all zs) (k.Keyword (ending_word ending) ∷ ts)) tt w.0
       (λ e. items_leave zs ending ts)
       ∙ items_reads zs n ending xs ts h w.1
 

@@ -13,7 +13,8 @@ use Rattle.vl_tree.specs.declared.declaration.ParameterKind.{ParameterKind}
 use Rattle.vl_tree.specs.declared.declaration.ParameterKind.TheVariants as q
 use Rattle.vl_tree.specs.declared.item.RegionMark.TheVariants as mark
 use Rattle.vl_tree.specs.Attributes.{Attributes}
-use Rattle.vl_tree.specs.DeclarationSpelling.{spell_attributes, spell_instance, spell_shape, spell_parameter, net_word, parameter_word}
+use Rattle.vl_tree.specs.DeclarationSpelling.{spell_attributes, spell_instance, spell_shape, spell_parameter}
+use Rattle.vl_tree.specs.DeclarationSpelling.{net_word, parameter_word}
 use Rattle.vl_tree.specs.DeclarationWellFormed.{AreAttributes, IsInstance, IsParameter}
 use Rattle.vl_tree.specs.Expr.{Expr}
 use Rattle.vl_tree.specs.ExprSpelling as expr
@@ -44,7 +45,8 @@ use Rattle.vl_tree.specs.ItemSpelling.{spell, spell_all, spell_block, spell_head
 use Rattle.vl_tree.specs.StmtSpelling as stmt_spelling
 use Rattle.vl_tree.specs.StmtSpelling.{spell_label}
 use Rattle.vl_tree.specs.StmtWellFormed.{IsOptionalName}
-use Rattle.vl_tree.specs.WellFormed.{attributes_of, mark_of, ends_open, block_ends_open, AreBalanced, IsWellFormed, AreWellFormed, IsBlock}
+use Rattle.vl_tree.specs.WellFormed.{attributes_of, mark_of, ends_open, block_ends_open, AreBalanced, IsWellFormed}
+use Rattle.vl_tree.specs.WellFormed.{AreWellFormed, IsBlock}
 use Rattle.vl_grammar.specs.Grammar as g
 use Rattle.vl_grammar.specs.Grammar.{
   Rule,
@@ -75,7 +77,8 @@ use Rattle.vl_grammar.proofs.ItemReads.{NoElse}
 use Rattle.vl_grammar.proofs.Spine.{nowhere}
 use Rattle.vl_grammar.proofs.TokenTrees.{Moved, sign_tree, name_tree}
 use Rattle.vl_grammar.proofs.ExprTrees.{parens_tree}
-use Rattle.vl_grammar.proofs.DeclarationTrees.{Turn, Split, many_split, last_of, attributed_tree, FoundList, shape_tree, declared_names_tree, names_tree, parameters_tree}
+use Rattle.vl_grammar.proofs.DeclarationTrees.{Turn, Split, many_split, last_of, attributed_tree, FoundList}
+use Rattle.vl_grammar.proofs.DeclarationTrees.{shape_tree, declared_names_tree, names_tree, parameters_tree}
 use Rattle.vl_grammar.proofs.StmtTrees.{no_attributes, not_open, stmt_tree}
 use Rattle.vl_grammar.proofs.PartTrees.{initial_tree, assignments_tree, event_tree, overrides_tree, head_tree}
 
@@ -104,7 +107,8 @@ pub record FoundItems (ending : Ending) (ts ks : List Kind) : Type 0 where
 -- a region behind attributes
 record FoundRegion (attrs : Attributes) (ts ks : List Kind) : Type 0 where
   trees : Items
-  same : ts ≡ onto (spell_attributes attrs) (k.Keyword word.Generate ∷ onto (spell_all trees) (k.Keyword word.Endgenerate ∷ ks))
+  same : ts ≡ onto (spell_attributes attrs)
+      (k.Keyword word.Generate ∷ onto (spell_all trees) (k.Keyword word.Endgenerate ∷ ks))
   balanced : AreBalanced trees
   formed : AreWellFormed trees
 
@@ -133,14 +137,16 @@ record FoundNamed (ts ks : List Kind) : Type 0 where
 
 data Otherwise (ts ks : List Kind) : Type 0 where
   no_else : ts ≡ ks → NoElse ks → Otherwise ts ks
-  an_else : (b : Block) → ts ≡ k.Keyword word.Else ∷ onto (spell_block b) ks → IsBlock b → (block_ends_open b ≡ true → NoElse ks)
+  an_else : (b : Block) → ts ≡ k.Keyword word.Else ∷ onto (spell_block b) ks → IsBlock b
+      → (block_ends_open b ≡ true → NoElse ks)
       → Otherwise ts ks
 
 abbrev ItemAt : ℕ → Type 0
 ItemAt d = (ts rest : List Named) → Derives d item ts rest → FoundNext (plain ts) (plain rest)
 
 abbrev ItemsAt : ℕ → Type 0
-ItemsAt d = (ending : Ending) (ts rest : List Named) → Derives d (items ending) ts rest → FoundItems ending (plain ts) (plain rest)
+ItemsAt d = (ending : Ending) (ts rest : List Named) → Derives d (items ending) ts rest
+    → FoundItems ending (plain ts) (plain rest)
 
 abbrev BlockAt : ℕ → Type 0
 BlockAt d = (ts rest : List Named) → Derives d generate_block ts rest → FoundBlock (plain ts) (plain rest)
@@ -166,7 +172,8 @@ with_instance i (for_loop attrs p head b) = for_loop (i ∷ attrs) p head b
 with_instance i (if_only attrs p x b) = if_only (i ∷ attrs) p x b
 with_instance i (if_else attrs p x b d) = if_else (i ∷ attrs) p x b d
 
-instance_spelled : (i : AttributeInstance) (x : Item) (ks : List Kind) → onto (spell_instance i) (onto (spell x) ks) ≡ onto (spell (with_instance i x)) ks
+instance_spelled : (i : AttributeInstance) (x : Item) (ks : List Kind)
+    → onto (spell_instance i) (onto (spell x) ks) ≡ onto (spell (with_instance i x)) ks
 instance_spelled i (declaration attrs p d) ks = refl
 instance_spelled i (integer attrs p xs) ks = refl
 instance_spelled i (genvar attrs p xs) ks = refl
@@ -180,7 +187,8 @@ instance_spelled i (for_loop attrs p head b) ks = refl
 instance_spelled i (if_only attrs p x b) ks = refl
 instance_spelled i (if_else attrs p x b d) ks = refl
 
-instance_formed : (i : AttributeInstance) (x : Item) → mark_of x ≡ None → IsInstance i → IsWellFormed x → IsWellFormed (with_instance i x)
+instance_formed : (i : AttributeInstance) (x : Item) → mark_of x ≡ None → IsInstance i → IsWellFormed x
+    → IsWellFormed (with_instance i x)
 instance_formed i (declaration attrs p d) n h w = (All-cons IsInstance i attrs h w.0, w.1)
 instance_formed i (integer attrs p xs) n h w = (All-cons IsInstance i attrs h w.0, w.1)
 instance_formed i (genvar attrs p xs) n h w = (All-cons IsInstance i attrs h w.0, w.1)
@@ -219,7 +227,8 @@ both_leave (k.Keyword word.Else ∷ ks) h = apart h
 both_leave (k.Keyword y ∷ ks) h = (refl, refl)
 both_leave (t ∷ ks) h = (refl, refl)
 
-declared_by : (d : ℕ) (kind : NetKind) (ts rest : List Named) → Turn d (g.shape ∷ g.declared_name ∷ g.declared_names ∷ []) ts rest
+declared_by : (d : ℕ) (kind : NetKind) (ts rest : List Named)
+    → Turn d (g.shape ∷ g.declared_name ∷ g.declared_names ∷ []) ts rest
     → FoundBare (k.Keyword (net_word kind) ∷ plain ts) (plain rest)
 declared_by d kind ts rest (m, h, others) =
     let x = shape_tree d ts m h in
@@ -246,12 +255,15 @@ parameter_by d kind ts rest xs = record {
 }
 
 -- an `if`, where what is behind its block is known
-if_by : (ts m m2 ks : List Kind) (x : Expr) (b : Block) → ts ≡ k.Symbol s.OpenParen ∷ onto (expr.spell x) (k.Symbol s.CloseParen ∷ m)
+if_by : (ts m m2 ks : List Kind) (x : Expr) (b : Block)
+    → ts ≡ k.Symbol s.OpenParen ∷ onto (expr.spell x) (k.Symbol s.CloseParen ∷ m)
     → expr_well.IsWellFormed x → m ≡ onto (spell_block b) m2 → IsBlock b → (block_ends_open b ≡ true → NoElse m2)
     → Otherwise m2 ks → FoundBare (k.Keyword word.If ∷ ts) ks
 if_by ts m m2 ks x b e w f v o (no_else i n) = record {
   tree = if_only [] nowhere x b;
-  same = ap (λ u. k.Keyword word.If ∷ u) (e ∙ ap (λ u. k.Symbol s.OpenParen ∷ onto (expr.spell x) (k.Symbol s.CloseParen ∷ u)) (f ∙ ap (onto (spell_block b)) i));
+  same = ap (λ u. k.Keyword word.If ∷ u) (e
+      ∙ ap (λ u. k.Symbol s.OpenParen ∷ onto (expr.spell x) (k.Symbol s.CloseParen ∷ u))
+      (f ∙ ap (onto (spell_block b)) i));
   bare = refl;
   unmarked = refl;
   formed = (no_attributes, w, v);
@@ -259,14 +271,17 @@ if_by ts m m2 ks x b e w f v o (no_else i n) = record {
 }
 if_by ts m m2 ks x b e w f v o (an_else z i u n) = record {
   tree = if_else [] nowhere x b z;
-  same = ap (λ u. k.Keyword word.If ∷ u) (e ∙ ap (λ u. k.Symbol s.OpenParen ∷ onto (expr.spell x) (k.Symbol s.CloseParen ∷ u)) (f ∙ ap (onto (spell_block b)) i));
+  same = ap (λ u. k.Keyword word.If ∷ u) (e
+      ∙ ap (λ u. k.Symbol s.OpenParen ∷ onto (expr.spell x) (k.Symbol s.CloseParen ∷ u))
+      (f ∙ ap (onto (spell_block b)) i));
   bare = refl;
   unmarked = refl;
   formed = (no_attributes, w, not_open (block_ends_open b) (λ r. subst (λ us. Leaves otherwise us) i (o r).0), v, u);
   closed = n;
 }
 
-word_by : (d : ℕ) → ItemsAt d → BlockAt d → OtherwiseAt d → (y : Keyword) (t : Named) (ts rest : List Named) → Moved d t ts rest (on_item_word y)
+word_by : (d : ℕ) → ItemsAt d → BlockAt d → OtherwiseAt d → (y : Keyword) (t : Named) (ts rest : List Named)
+    → Moved d t ts rest (on_item_word y)
     → FoundOne (k.Keyword y ∷ plain ts) (plain rest)
 word_by d all blocks others word.Wire t ts rest h = an_item (declared_by d n.Wire ts rest h)
 word_by d all blocks others word.Reg t ts rest h = an_item (declared_by d n.Reg ts rest h)
@@ -290,8 +305,10 @@ word_by d all blocks others word.Genvar t ts rest h =
       formed = (no_attributes, xs.formed);
       closed = λ r. apart r;
     })
-word_by d all blocks others word.Parameter t ts rest h = an_item (parameter_by d q.Parameter ts rest (parameters_tree d ts rest h))
-word_by d all blocks others word.Localparam t ts rest h = an_item (parameter_by d q.Localparam ts rest (parameters_tree d ts rest h))
+word_by d all blocks others word.Parameter t ts rest h =
+    an_item (parameter_by d q.Parameter ts rest (parameters_tree d ts rest h))
+word_by d all blocks others word.Localparam t ts rest h =
+    an_item (parameter_by d q.Localparam ts rest (parameters_tree d ts rest h))
 word_by d all blocks others word.Assign t ts rest h =
     let xs = assignments_tree d ts rest h in
     an_item (record {
@@ -308,7 +325,8 @@ word_by d all blocks others word.Always t ts rest (m, h, (m2, i, (m3, j, l))) =
     an_item (record {
       tree = always [] nowhere (record { pos = nowhere; kind = e.kind }) x.tree;
       same = ap (λ u. k.Keyword word.Always ∷ u) (sign_tree d s.At ts m h ∙ ap (λ u. k.Symbol s.At ∷ u)
-          (e.same ∙ ap (onto (spell_event_kind e.kind)) (x.same ∙ ap (λ r. onto (stmt_spelling.spell x.tree) (plain r)) l)));
+          (e.same ∙ ap (onto (spell_event_kind e.kind))
+          (x.same ∙ ap (λ r. onto (stmt_spelling.spell x.tree) (plain r)) l)));
       bare = refl;
       unmarked = refl;
       formed = (no_attributes, e.formed, x.formed);
@@ -328,7 +346,8 @@ word_by d all blocks others word.Generate t ts rest (m, h, j) =
     let xs = all endgenerate ts m h in
     a_region (record {
       trees = xs.trees;
-      same = ap (λ u. k.Keyword word.Generate ∷ u) (xs.same ∙ ap (λ r. onto (spell_all xs.trees) (k.Keyword word.Endgenerate ∷ plain r)) j);
+      same = ap (λ u. k.Keyword word.Generate ∷ u)
+          (xs.same ∙ ap (λ r. onto (spell_all xs.trees) (k.Keyword word.Endgenerate ∷ plain r)) j);
       balanced = xs.balanced;
       formed = xs.formed;
     })
@@ -337,7 +356,8 @@ word_by d all blocks others word.For t ts rest (m, h, (m2, i, j)) =
     let b = blocks m m2 i in
     an_item (record {
       tree = for_loop [] nowhere x.tree b.tree;
-      same = ap (λ u. k.Keyword word.For ∷ u) (x.same ∙ ap (onto (spell_head x.tree)) (b.same ∙ ap (λ r. onto (spell_block b.tree) (plain r)) j));
+      same = ap (λ u. k.Keyword word.For ∷ u) (x.same
+          ∙ ap (onto (spell_head x.tree)) (b.same ∙ ap (λ r. onto (spell_block b.tree) (plain r)) j));
       bare = refl;
       unmarked = refl;
       formed = (no_attributes, x.formed, b.formed);
@@ -347,17 +367,24 @@ word_by d all blocks others word.If t ts rest (m, h, (m2, i, (m3, j, l))) =
     let x = parens_tree d ts m h in
     let b = blocks m m2 i in
     an_item (subst (λ r. FoundBare (k.Keyword word.If ∷ plain ts) (plain r)) l
-    (if_by (plain ts) (plain m) (plain m2) (plain m3) x.tree b.tree x.same x.formed b.same b.formed b.closed (others m2 m3 j)))
+    (if_by (plain ts) (plain m) (plain m2) (plain m3) x.tree b.tree x.same x.formed b.same b.formed b.closed
+    (others m2 m3 j)))
 word_by d all blocks others y t ts rest h = absurd h
 
-bare_by : (d : ℕ) → ItemsAt d → BlockAt d → OtherwiseAt d → (t : Named) (ts rest : List Named) → Moved d t ts rest (on_bare_item t.0)
+bare_by : (d : ℕ) → ItemsAt d → BlockAt d → OtherwiseAt d → (t : Named) (ts rest : List Named)
+    → Moved d t ts rest (on_bare_item t.0)
     → FoundOne (plain (t ∷ ts)) (plain rest)
 bare_by d all blocks others (k.Keyword y, w) ts rest h = word_by d all blocks others y (k.Keyword y, w) ts rest h
 bare_by d all blocks others (k.Name text, w) ts rest (m, h, j) =
     let x = overrides_tree d ts m h in
     an_item (subst (λ r. FoundBare (k.Name text ∷ plain ts) (plain r)) j
     (record {
-      tree = instance [] nowhere (record { definition = text; overrides = x.overrides; name = x.name; connections = x.connections });
+      tree = instance [] nowhere (record {
+        definition = text;
+        overrides = x.overrides;
+        name = x.name;
+        connections = x.connections;
+      });
       same = ap (λ u. k.Name text ∷ u) x.same;
       bare = refl;
       unmarked = refl;
@@ -367,11 +394,13 @@ bare_by d all blocks others (k.Name text, w) ts rest (m, h, j) =
 bare_by d all blocks others t ts rest h = absurd h
 
 as_item : (ts ks : List Kind) → FoundOne ts ks → FoundNext ts ks
-as_item ts ks (an_item x) = an_item (record { tree = x.tree; same = x.same; unmarked = x.unmarked; formed = x.formed; closed = x.closed })
+as_item ts ks (an_item x) =
+    an_item (record { tree = x.tree; same = x.same; unmarked = x.unmarked; formed = x.formed; closed = x.closed })
 as_item ts ks (a_region x) = a_region [] no_attributes x
 
 -- attributes before what the grammar has as one item
-attributed_by : (i : AttributeInstance) (ts us ks : List Kind) → ts ≡ onto (spell_instance i) us → IsInstance i → FoundNext us ks → FoundNext ts ks
+attributed_by : (i : AttributeInstance) (ts us ks : List Kind) → ts ≡ onto (spell_instance i) us → IsInstance i
+    → FoundNext us ks → FoundNext ts ks
 attributed_by i ts us ks e h (an_item x) = an_item (record {
   tree = with_instance i x.tree;
   same = e ∙ ap (onto (spell_instance i)) x.same ∙ instance_spelled i x.tree ks;
@@ -389,13 +418,16 @@ attributed_by i ts us ks e h (a_region attrs w x) = a_region (i ∷ attrs) (All-
 item_by : (d : ℕ) → ItemAt d → ItemsAt d → BlockAt d → OtherwiseAt d → ItemAt (suc d)
 item_by d one all blocks others ((k.Symbol s.OpenAttribute, w) ∷ ts) rest h =
     let i = attributed_tree d item ts rest h in
-    attributed_by i.instance (plain ((k.Symbol s.OpenAttribute, w) ∷ ts)) (plain i.middle) (plain rest) i.same i.formed (one i.middle rest i.others)
+    attributed_by i.instance (plain ((k.Symbol s.OpenAttribute, w) ∷ ts)) (plain i.middle)
+    (plain rest) i.same i.formed (one i.middle rest i.others)
 item_by d one all blocks others [] rest h = apart h.0
 item_by d one all blocks others ((k.Symbol y, w) ∷ ts) rest h = absurd h
-item_by d one all blocks others (t ∷ ts) rest h = as_item (plain (t ∷ ts)) (plain rest) (bare_by d all blocks others t ts rest h)
+item_by d one all blocks others (t ∷ ts) rest h =
+    as_item (plain (t ∷ ts)) (plain rest) (bare_by d all blocks others t ts rest h)
 
 -- an item, or a region as two marks with its items between, before the others of a list
-before_items : (ending : Ending) (ts us ks : List Kind) → FoundNext ts us → FoundItems ending us ks → FoundItems ending ts ks
+before_items : (ending : Ending) (ts us ks : List Kind) → FoundNext ts us → FoundItems ending us ks
+    → FoundItems ending ts ks
 before_items ending ts us ks (an_item x) xs = record {
   trees = more_items x.tree xs.trees;
   same = x.same ∙ ap (onto (spell x.tree)) xs.same;
@@ -413,13 +445,21 @@ before_items ending ts us ks (a_region attrs w x) xs =
       formed = ((w, tt), joined_formed x.trees behind x.formed ((no_attributes, refl), xs.formed));
     }
 
-one_more : (d : ℕ) → ItemAt (suc d) → ItemsAt d → (ending : Ending) (t : Named) (ts rest : List Named) → Split d (items ending) t ts rest (on_item t.0)
+one_more : (d : ℕ) → ItemAt (suc d) → ItemsAt d → (ending : Ending) (t : Named) (ts rest : List Named)
+    → Split d (items ending) t ts rest (on_item t.0)
     → FoundItems ending (plain (t ∷ ts)) (plain rest)
 one_more d one all ending t ts rest f =
-    before_items ending (plain (t ∷ ts)) (plain f.middle) (plain rest) (one (t ∷ ts) f.middle f.first) (all ending f.middle rest f.others)
+    before_items ending (plain (t ∷ ts)) (plain f.middle) (plain rest) (one (t ∷ ts) f.middle f.first)
+    (all ending f.middle rest f.others)
 
-at_ending : (ending : Ending) (ts rest : List Named) → ts ≡ rest → FoundItems ending (k.Keyword (ending_word ending) ∷ plain ts) (plain rest)
-at_ending ending ts rest h = record { trees = no_items; same = ap (λ r. k.Keyword (ending_word ending) ∷ plain r) h; balanced = refl; formed = tt }
+at_ending : (ending : Ending) (ts rest : List Named) → ts ≡ rest
+    → FoundItems ending (k.Keyword (ending_word ending) ∷ plain ts) (plain rest)
+at_ending ending ts rest h = record {
+  trees = no_items;
+  same = ap (λ r. k.Keyword (ending_word ending) ∷ plain r) h;
+  balanced = refl;
+  formed = tt;
+}
 
 items_by : (d : ℕ) → ItemAt (suc d) → ItemsAt d → ItemsAt (suc d)
 items_by d one all endmodule ((k.Keyword word.Endmodule, w) ∷ ts) rest h = at_ending endmodule ts rest h
@@ -427,11 +467,14 @@ items_by d one all endgenerate ((k.Keyword word.Endgenerate, w) ∷ ts) rest h =
 items_by d one all end ((k.Keyword word.End, w) ∷ ts) rest h = at_ending end ts rest h
 items_by d one all ending [] rest h = apart h.0
 items_by d one all ending ((k.Keyword y, w) ∷ ts) rest h =
-    one_more d one all ending (k.Keyword y, w) ts rest (many_split d (items ending) (k.Keyword y, w) ts rest (on_item (k.Keyword y)) h)
-items_by d one all ending (t ∷ ts) rest h = one_more d one all ending t ts rest (many_split d (items ending) t ts rest (on_item t.0) h)
+    one_more d one all ending (k.Keyword y, w) ts rest
+    (many_split d (items ending) (k.Keyword y, w) ts rest (on_item (k.Keyword y)) h)
+items_by d one all ending (t ∷ ts) rest h =
+    one_more d one all ending t ts rest (many_split d (items ending) t ts rest (on_item t.0) h)
 
 unnamed : (ts ks : List Kind) → FoundItems end ts ks → FoundNamed ts ks
-unnamed ts ks b = record { name = None; trees = b.trees; same = b.same; named = tt; balanced = b.balanced; formed = b.formed }
+unnamed ts ks b =
+    record { name = None; trees = b.trees; same = b.same; named = tt; balanced = b.balanced; formed = b.formed }
 
 label_by : (d : ℕ) → ItemsAt d → ItemsAt (suc d) → LabelAt (suc d)
 label_by d all same_level ((k.Symbol s.Colon, w) ∷ ts) rest (m, h, others) =
@@ -451,7 +494,8 @@ label_by d all same_level ((k.Symbol y, w) ∷ ts) rest h =
 label_by d all same_level (t ∷ ts) rest h = unnamed (plain (t ∷ ts)) (plain rest) (same_level end (t ∷ ts) rest h)
 
 as_block : (ts ks : List Kind) → FoundOne ts ks → FoundBlock ts ks
-as_block ts ks (an_item x) = record { tree = single x.tree; same = x.same; formed = (x.bare, x.unmarked, x.formed); closed = x.closed }
+as_block ts ks (an_item x) =
+    record { tree = single x.tree; same = x.same; formed = (x.bare, x.unmarked, x.formed); closed = x.closed }
 as_block ts ks (a_region x) =
     record { tree = region nowhere x.trees; same = x.same; formed = (x.balanced, x.formed); closed = λ r. apart r }
 
@@ -468,15 +512,18 @@ block_by d all blocks others labelled ((k.Keyword word.Begin, w) ∷ ts) rest (m
 block_by d all blocks others labelled [] rest h = apart h.0
 block_by d all blocks others labelled ((k.Keyword y, w) ∷ ts) rest h =
     as_block (plain ((k.Keyword y, w) ∷ ts)) (plain rest) (bare_by d all blocks others (k.Keyword y, w) ts rest h)
-block_by d all blocks others labelled (t ∷ ts) rest h = as_block (plain (t ∷ ts)) (plain rest) (bare_by d all blocks others t ts rest h)
+block_by d all blocks others labelled (t ∷ ts) rest h =
+    as_block (plain (t ∷ ts)) (plain rest) (bare_by d all blocks others t ts rest h)
 
 otherwise_by : (d : ℕ) → BlockAt d → OtherwiseAt (suc d)
 otherwise_by d one ((k.Keyword word.Else, w) ∷ ts) rest (m, h, j) =
     let b = one ts m h in
-    an_else b.tree (ap (λ u. k.Keyword word.Else ∷ u) (b.same ∙ ap (λ r. onto (spell_block b.tree) (plain r)) j)) b.formed
+    an_else b.tree (ap (λ u. k.Keyword word.Else ∷ u)
+    (b.same ∙ ap (λ r. onto (spell_block b.tree) (plain r)) j)) b.formed
     (λ r. subst (λ us. NoElse (plain us)) j (b.closed r))
 otherwise_by d one [] rest h = no_else (ap plain (sym h.1)) (subst (λ us. NoElse (plain us)) (sym h.1) (refl, refl))
-otherwise_by d one ((k.Keyword y, w) ∷ ts) rest h = no_else (ap plain (sym h)) (subst (λ us. NoElse (plain us)) (sym h) (refl, refl))
+otherwise_by d one ((k.Keyword y, w) ∷ ts) rest h =
+    no_else (ap plain (sym h)) (subst (λ us. NoElse (plain us)) (sym h) (refl, refl))
 otherwise_by d one (t ∷ ts) rest h = no_else (ap plain (sym h)) (subst (λ us. NoElse (plain us)) (sym h) (refl, refl))
 
 mutual
@@ -487,7 +534,8 @@ mutual
   pub items_tree : (d : ℕ) → ItemsAt d
   items_tree zero ending ts rest h = absurd h
   items_tree (suc d) ending ts rest h =
-      items_by d (item_by d (item_tree d) (items_tree d) (block_tree d) (otherwise_tree d)) (items_tree d) ending ts rest h
+      items_by d (item_by d (item_tree d) (items_tree d) (block_tree d) (otherwise_tree d))
+      (items_tree d) ending ts rest h
 
   block_tree : (d : ℕ) → BlockAt d
   block_tree zero ts rest h = absurd h

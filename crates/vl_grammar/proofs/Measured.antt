@@ -1,11 +1,12 @@
--- A phrase along which a run is cut off where a construct too many opens. The room is the number of constructs that may be
--- open, and so many of them are open before the phrase.
+-- A phrase along which a run is cut off where a construct too many opens. The room is the number of constructs that
+-- may be open, and so many of them are open before the phrase.
 use Rattle.std.proofs.Common.{◌≡◌, ℕ, zero, suc, Bool, true, false, List, [], ◌∷◌, length, refl, sym, ap, ◌∙◌}
 use Rattle.std.specs.Prelude.{Result, Ok, Err}
 use Rattle.fv_base.specs.declared.kind.Kind.{Kind}
 use Rattle.vl_tree.specs.Phrase.{Phrase, nothing, token, operator, ◌▸◌, at, within, level}
 use Rattle.vl_grammar.specs.Machine as machine
-use Rattle.vl_grammar.specs.Machine.{Row, Move, take, pop, bad, Fault, syntax, deep, Stepped, stuck, emptied, over, goes, fits, left, placed, taken, step, all_end}
+use Rattle.vl_grammar.specs.Machine.{Row, Move, take, pop, bad, Fault, syntax, deep, Stepped, stuck, emptied, over}
+use Rattle.vl_grammar.specs.Machine.{goes, fits, left, placed, taken, step, all_end}
 use Rattle.vl_grammar.specs.Grammar.{Rule, Moves, expand, ends}
 use Rattle.vl_grammar.proofs.Onto.{onto}
 use Rattle.vl_grammar.proofs.Steps as steps
@@ -96,15 +97,19 @@ on_step ts found = elim found as (λ _. Ran) [
   | goes j ↦ run j ts
 ]
 
-pub took_run : (x : Rule) (room : ℕ) (xs : Row Rule) (t : Kind) (ts : List Kind) (d : ℕ) (row : Row Rule) (out : Ran) → expand x t ≡ take d row
-    → (fits d room ≡ true → run (placed room row xs) ts ≡ out) → run ((x, room) ∷ xs) (t ∷ ts) ≡ held (fits d room) (suc (length ts)) out
+pub took_run : (x : Rule) (room : ℕ) (xs : Row Rule) (t : Kind) (ts : List Kind) (d : ℕ) (row : Row Rule) (out : Ran)
+    → expand x t ≡ take d row
+    → (fits d room ≡ true → run (placed room row xs) ts ≡ out)
+    → run ((x, room) ∷ xs) (t ∷ ts) ≡ held (fits d room) (suc (length ts)) out
 took_run x room xs t ts d row out e h =
     ap (λ m. on_step ts (moved xs room t m)) e ∙ opened_run d room (placed room row xs) ts out h
 
 -- a rule that is left out
-pub leaves_run : (x : Rule) (room : ℕ) (xs : Row Rule) (ts : List Kind) → steps.Leaves expand ends x ts → run ((x, room) ∷ xs) ts ≡ run xs ts
+pub leaves_run : (x : Rule) (room : ℕ) (xs : Row Rule) (ts : List Kind) → steps.Leaves expand ends x ts
+    → run ((x, room) ∷ xs) ts ≡ run xs ts
 leaves_run x room xs [] h =
-    ap (λ b. elim (elim b as (λ _. Bool) [ true ↦ all_end ends xs | false ↦ false ]) as (λ _. Ran) [ true ↦ Ok tt | false ↦ Err (syntax 0) ]) h
+    ap (λ b. elim (elim b as (λ _. Bool) [ true ↦ all_end ends xs | false ↦ false ]) as
+    (λ _. Ran) [ true ↦ Ok tt | false ↦ Err (syntax 0) ]) h
 leaves_run x room xs (t ∷ ts) h = by_move (expand x t) h
   where
     by_move : (m : Moves) → is_pop m ≡ true → on_step ts (moved xs room t m) ≡ on_step ts (step expand xs t)
@@ -175,7 +180,8 @@ none (a ▸ b) room n rest out h =
     none a room n (onto b rest) (measured b room (open_after a n) rest out) f ∙ none b room (open_after a n) rest out g)
 none (at p a) room n rest out h = none a room n rest out h
 none (within a) room n rest out h =
-    ap (λ b. opening b (fits (suc n) room) (length (onto a rest)) (measured a room (suc n) rest out)) h ∙ none a room (suc n) rest out h
+    ap (λ b. opening b (fits (suc n) room) (length (onto a rest)) (measured a room (suc n) rest out)) h
+    ∙ none a room (suc n) rest out h
 none (level a) room n rest out h = none a room n rest out h
 
 -- what comes behind the phrase matters only where there is room up to its end
@@ -185,7 +191,8 @@ inner nothing room n rest out other h next = next h
 inner (token kind) room n rest out other h next = next h
 inner (operator kind) room n rest out other h next = held_same (fits (suc n) room) (suc (length rest)) out other next
 inner (a ▸ b) room n rest out other h next =
-    inner a room n (onto b rest) (measured b room (open_after a n) rest out) (measured b room (open_after a n) rest other) h
+    inner a room n (onto b rest) (measured b room (open_after a n) rest out)
+    (measured b room (open_after a n) rest other) h
     (λ e. inner b room (open_after a n) rest out other e next)
 inner (at p a) room n rest out other h next = inner a room n rest out other h next
 inner (level a) room n rest out other h next = inner a room n rest out other h (λ e. next h)

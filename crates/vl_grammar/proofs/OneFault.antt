@@ -38,17 +38,25 @@ places : (m n o q : List Kind) → m ++ n ≡ o ++ q → Places m n o q
 places [] n [] q h = same (ap length h)
 places [] n (x ∷ o) q h = before (record { kind = x; rest = o ++ q; gap = o; first = h; others = refl })
 places (x ∷ m) n [] q h = after (record { kind = x; rest = m ++ n; gap = m; first = sym h; others = refl })
-places (x ∷ m) n (y ∷ o) q h = by_tail (head_same x y (m ++ n) (o ++ q) h) (places m n o q (tail_same x y (m ++ n) (o ++ q) h))
+places (x ∷ m) n (y ∷ o) q h =
+    by_tail (head_same x y (m ++ n) (o ++ q) h) (places m n o q (tail_same x y (m ++ n) (o ++ q) h))
   where
     by_tail : x ≡ y → Places m n o q → Places (x ∷ m) n (y ∷ o) q
     by_tail e (same f) = same f
     by_tail e (before f) =
-        before (record { kind = f.kind; rest = f.rest; gap = f.gap; first = f.first; others = λ i. sym e i ∷ f.others i })
+        before (record {
+          kind = f.kind;
+          rest = f.rest;
+          gap = f.gap;
+          first = f.first;
+          others = λ i. sym e i ∷ f.others i;
+        })
     by_tail e (after f) =
         after (record { kind = f.kind; rest = f.rest; gap = f.gap; first = f.first; others = λ i. e i ∷ f.others i })
 
 -- an earlier token is not faulty
-clash : {A : Type 0} (ks : List Kind) (l m : ℕ) (x : IsFaulty ks l) (y : IsFaulty ks m) → Earlier x.before x.behind y.before → A
+clash : {A : Type 0} (ks : List Kind) (l m : ℕ) (x : IsFaulty ks l) (y : IsFaulty ks m)
+    → Earlier x.before x.behind y.before → A
 clash ks l m x y f =
     absurd (x.no_token f.kind f.rest (f.gap ++ y.rest) f.first
     (subst IsText (ap (λ r. r ++ y.rest) f.others ∙ append_assoc x.before (f.kind ∷ f.gap) y.rest) y.goes_on))

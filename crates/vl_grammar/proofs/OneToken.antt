@@ -47,7 +47,8 @@ pub one_place : (p q : Pos) (ts us : List Token) → ts ≡ us → BeginsAt p ts
 one_place p q ts us e h i = sym (begins_place p ts h) ∙ ap place e ∙ begins_place q us i
 
 -- no token is of both kinds
-pub differ : {A : Type 0} (test : Kind → Bool) (a b : Kind) (ts us m o : List Token) → ts ≡ us → IsNext a ts m → IsNext b us o
+pub differ : {A : Type 0} (test : Kind → Bool) (a b : Kind) (ts us m o : List Token) → ts ≡ us → IsNext a ts m
+    → IsNext b us o
     → test a ≡ true → test b ≡ false → A
 differ test a b ts us m o e h i g f = apart (sym f ∙ sym (ap test (one_kind a b ts us m o e h i)) ∙ g)
 

@@ -18,7 +18,8 @@ onto_kinds nothing rest = refl
 onto_kinds (token kind) rest = refl
 onto_kinds (operator kind) rest = refl
 onto_kinds (a ▸ b) rest =
-    onto_kinds a (onto b rest) ∙ ap (λ r. kinds a ++ r) (onto_kinds b rest) ∙ sym (append_assoc (kinds a) (kinds b) rest)
+    onto_kinds a (onto b rest) ∙ ap (λ r. kinds a ++ r) (onto_kinds b rest)
+    ∙ sym (append_assoc (kinds a) (kinds b) rest)
 onto_kinds (at p a) rest = onto_kinds a rest
 onto_kinds (within a) rest = onto_kinds a rest
 onto_kinds (level a) rest = onto_kinds a rest

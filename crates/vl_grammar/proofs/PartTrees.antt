@@ -1,4 +1,5 @@
--- What the machine reads as the parts of items is spelled by well formed trees: initial blocks, events, instances, heads of loops.
+-- What the machine reads as the parts of items is spelled by well formed trees: initial blocks, events, instances,
+-- heads of loops.
 use Rattle.std.proofs.Common.{◌≡◌, ℕ, zero, suc, List, [], ◌∷◌, ◌++◌, Option, Some, None, refl, ap, ◌∙◌}
 use Rattle.std.specs.Prelude.{All}
 use Rattle.std.proofs.lemmas.List.Elements.{All-cons, All-nil}
@@ -60,7 +61,8 @@ use Rattle.vl_grammar.proofs.Steps.{apart}
 use Rattle.vl_grammar.proofs.Spine.{nowhere}
 use Rattle.vl_grammar.proofs.TokenTrees.{sign_tree, name_tree, again_tree}
 use Rattle.vl_grammar.proofs.ExprTrees.{expr_tree, selects_tree}
-use Rattle.vl_grammar.proofs.DeclarationTrees.{Turn, Split, many_split, last_of, Tail, closes, goes_on, tail_tree, FoundList, list_of, target_tree, targets_tree}
+use Rattle.vl_grammar.proofs.DeclarationTrees.{Turn, Split, many_split, last_of, Tail, closes, goes_on, tail_tree}
+use Rattle.vl_grammar.proofs.DeclarationTrees.{FoundList, list_of, target_tree, targets_tree}
 use Rattle.vl_grammar.proofs.StmtTrees.{no_attributes}
 
 -- behind `initial`
@@ -82,14 +84,16 @@ InitialAt d = (ts rest : List Named) → Derives d initial_stmt ts rest → Foun
 abbrev InitialsAt : ℕ → Type 0
 InitialsAt d = (ts rest : List Named) → Derives d initial_stmts ts rest → AllInitial (plain ts) (plain rest)
 
-assigned_by : (d : ℕ) (l : Lval) (ts : List Kind) (us rest : List Named) → ts ≡ onto (lval.spell l) (plain us) → lval_well.IsWellFormed l
+assigned_by : (d : ℕ) (l : Lval) (ts : List Kind) (us rest : List Named) → ts ≡ onto (lval.spell l) (plain us)
+    → lval_well.IsWellFormed l
     → Turn d (sign s.Equal ∷ g.expr ∷ sign s.Semicolon ∷ []) us rest → FoundInitial ts (plain rest)
 assigned_by d l ts us rest e w (m, h, (m2, i, (m3, j, f))) =
     let x = expr_tree d m m2 i in
     record {
       tree = assign [] nowhere l a.Blocking x.tree;
       same = e ∙ ap (onto (lval.spell l)) (sign_tree d s.Equal us m h ∙ ap (λ u. k.Symbol s.Equal ∷ u)
-          (x.same ∙ ap (onto (expr.spell x.tree)) (sign_tree d s.Semicolon m2 m3 j ∙ ap (λ r. k.Symbol s.Semicolon ∷ plain r) f)));
+          (x.same ∙ ap (onto (expr.spell x.tree)) (sign_tree d s.Semicolon m2 m3 j
+          ∙ ap (λ r. k.Symbol s.Semicolon ∷ plain r) f)));
       initial = (refl, refl);
       formed = (no_attributes, w, x.formed);
     }
@@ -99,24 +103,28 @@ initial_by d all ((k.Keyword word.Begin, w) ∷ ts) rest (m, h, j) =
     let xs = all ts m h in
     record {
       tree = begin [] nowhere None xs.trees;
-      same = ap (λ u. k.Keyword word.Begin ∷ u) (xs.same ∙ ap (λ r. onto (spell_all xs.trees) (k.Keyword word.End ∷ plain r)) j);
+      same = ap (λ u. k.Keyword word.Begin ∷ u)
+          (xs.same ∙ ap (λ r. onto (spell_all xs.trees) (k.Keyword word.End ∷ plain r)) j);
       initial = (refl, refl, xs.initial);
       formed = (no_attributes, tt, xs.formed);
     }
 initial_by d all ((k.Name text, w) ∷ ts) rest (m, h, others) =
     let ss = selects_tree d ts m h in
-    assigned_by d (named nowhere text ss.trees) (k.Name text ∷ plain ts) m rest (ap (λ u. k.Name text ∷ u) ss.same) (w, ss.formed) others
+    assigned_by d (named nowhere text ss.trees) (k.Name text ∷ plain ts) m rest (ap (λ u. k.Name text ∷ u) ss.same)
+    (w, ss.formed) others
 initial_by d all ((k.Symbol s.OpenBrace, w) ∷ ts) rest (m, h, (m2, i, others)) =
     let x = target_tree d ts m h in
     let xs = targets_tree d m m2 i in
     assigned_by d (joined nowhere (more_lvals x.tree xs.trees)) (k.Symbol s.OpenBrace ∷ plain ts) m2 rest
-    (ap (λ u. k.Symbol s.OpenBrace ∷ u) (x.same ∙ ap (onto (lval.spell x.tree)) xs.same)) (tt, (x.formed, xs.formed)) others
+    (ap (λ u. k.Symbol s.OpenBrace ∷ u) (x.same ∙ ap (onto (lval.spell x.tree)) xs.same))
+    (tt, (x.formed, xs.formed)) others
 initial_by d all [] rest h = apart h.0
 initial_by d all ((k.Symbol y, w) ∷ ts) rest h = absurd h
 initial_by d all ((k.Keyword y, w) ∷ ts) rest h = absurd h
 initial_by d all (t ∷ ts) rest h = absurd h
 
-one_more : (d : ℕ) → InitialAt (suc d) → InitialsAt d → (t : Named) (ts rest : List Named) → Split d initial_stmts t ts rest (on_initial_stmt t.0)
+one_more : (d : ℕ) → InitialAt (suc d) → InitialsAt d → (t : Named) (ts rest : List Named)
+    → Split d initial_stmts t ts rest (on_initial_stmt t.0)
     → AllInitial (plain (t ∷ ts)) (plain rest)
 one_more d one all t ts rest f =
     let x = one (t ∷ ts) f.middle f.first in
@@ -133,8 +141,10 @@ initials_by d one all ((k.Keyword word.End, w) ∷ ts) rest h =
     record { trees = no_stmts; same = ap (λ r. k.Keyword word.End ∷ plain r) h; initial = tt; formed = tt }
 initials_by d one all [] rest h = apart h.0
 initials_by d one all ((k.Keyword y, w) ∷ ts) rest h =
-    one_more d one all (k.Keyword y, w) ts rest (many_split d initial_stmts (k.Keyword y, w) ts rest (on_initial_stmt (k.Keyword y)) h)
-initials_by d one all (t ∷ ts) rest h = one_more d one all t ts rest (many_split d initial_stmts t ts rest (on_initial_stmt t.0) h)
+    one_more d one all (k.Keyword y, w) ts rest
+    (many_split d initial_stmts (k.Keyword y, w) ts rest (on_initial_stmt (k.Keyword y)) h)
+initials_by d one all (t ∷ ts) rest h =
+    one_more d one all t ts rest (many_split d initial_stmts t ts rest (on_initial_stmt t.0) h)
 
 mutual
   pub initial_tree : (d : ℕ) → InitialAt d
@@ -153,14 +163,16 @@ record FoundAssignment (d : ℕ) (xs : List Rule) (ts rest : List Named) : Type 
   formed : IsAssignment tree
   others : Turn d xs middle rest
 
-assignment_tree : (d : ℕ) (xs : List Rule) (ts rest : List Named) → Turn d (assignment ++ xs) ts rest → FoundAssignment d xs ts rest
+assignment_tree : (d : ℕ) (xs : List Rule) (ts rest : List Named) → Turn d (assignment ++ xs) ts rest
+    → FoundAssignment d xs ts rest
 assignment_tree d xs ts rest (m, h, (m2, i, (m3, j, others))) =
     let l = target_tree d ts m h in
     let x = expr_tree d m2 m3 j in
     record {
       tree = record { target = l.tree; value = x.tree };
       middle = m3;
-      same = l.same ∙ ap (onto (lval.spell l.tree)) (sign_tree d s.Equal m m2 i ∙ ap (λ u. k.Symbol s.Equal ∷ u) x.same);
+      same =
+          l.same ∙ ap (onto (lval.spell l.tree)) (sign_tree d s.Equal m m2 i ∙ ap (λ u. k.Symbol s.Equal ∷ u) x.same);
       formed = (l.formed, x.formed);
       others = others;
     }
@@ -169,7 +181,8 @@ assignments_tail : (d : ℕ) (ts rest : List Named) → Derives (suc d) assignme
     → Tail spell_assignment IsAssignment assignments (k.Symbol s.Semicolon) d ts rest
 assignments_tail d ((k.Symbol s.Comma, w) ∷ ts) rest h =
     let x = assignment_tree d (assignments ∷ []) ts rest h in
-    goes_on x.tree x.middle (ap (λ u. k.Symbol s.Comma ∷ u) x.same) x.formed (last_of d assignments x.middle rest x.others)
+    goes_on x.tree x.middle (ap (λ u. k.Symbol s.Comma ∷ u) x.same) x.formed
+    (last_of d assignments x.middle rest x.others)
 assignments_tail d ((k.Symbol s.Semicolon, w) ∷ ts) rest h = closes (ap (λ r. k.Symbol s.Semicolon ∷ plain r) h)
 assignments_tail d [] rest h = apart h.0
 assignments_tail d ((k.Symbol y, w) ∷ ts) rest h = absurd h
@@ -179,7 +192,8 @@ pub assignments_tree : (d : ℕ) (ts rest : List Named) → Turn d (assignment +
     → FoundList spell_assignment IsAssignment (k.Symbol s.Semicolon) (plain ts) (plain rest)
 assignments_tree d ts rest h =
     let x = assignment_tree d (assignments ∷ []) ts rest h in
-    list_of spell_assignment IsAssignment assignments (k.Symbol s.Semicolon) (plain ts) (plain x.middle) (plain rest) x.tree x.same x.formed
+    list_of spell_assignment IsAssignment assignments (k.Symbol s.Semicolon) (plain ts) (plain x.middle)
+    (plain rest) x.tree x.same x.formed
     (tail_tree spell_assignment IsAssignment assignments (k.Symbol s.Semicolon) assignments_tail d x.middle rest
     (last_of d assignments x.middle rest x.others))
 
@@ -189,11 +203,13 @@ pub record FoundEvent (ts ks : List Kind) : Type 0 where
   pub same : ts ≡ onto (spell_event_kind kind) ks
   pub formed : IsEvent kind
 
-inside_tree : (d : ℕ) (ts rest : List Named) → Derives d event_inside ts rest → FoundEvent (k.Symbol s.OpenParen ∷ plain ts) (plain rest)
+inside_tree : (d : ℕ) (ts rest : List Named) → Derives d event_inside ts rest
+    → FoundEvent (k.Symbol s.OpenParen ∷ plain ts) (plain rest)
 inside_tree zero ts rest h = absurd h
 inside_tree (suc d) ((k.Symbol s.Star, w) ∷ ts) rest (m, h, j) = record {
   kind = v.Spaced;
-  same = ap (λ u. k.Symbol s.OpenParen ∷ k.Symbol s.Star ∷ u) (sign_tree d s.CloseParen ts m h ∙ ap (λ r. k.Symbol s.CloseParen ∷ plain r) j);
+  same = ap (λ u. k.Symbol s.OpenParen ∷ k.Symbol s.Star ∷ u)
+      (sign_tree d s.CloseParen ts m h ∙ ap (λ r. k.Symbol s.CloseParen ∷ plain r) j);
   formed = tt;
 }
 inside_tree (suc d) ((k.Symbol s.CloseAttribute, w) ∷ ts) rest h = record {
@@ -216,10 +232,12 @@ inside_tree (suc d) (t ∷ ts) rest h = absurd h
 
 pub event_tree : (d : ℕ) (ts rest : List Named) → Derives d event ts rest → FoundEvent (plain ts) (plain rest)
 event_tree zero ts rest h = absurd h
-event_tree (suc d) ((k.Symbol s.Star, w) ∷ ts) rest h = record { kind = v.Bare; same = ap (λ r. k.Symbol s.Star ∷ plain r) h; formed = tt }
+event_tree (suc d) ((k.Symbol s.Star, w) ∷ ts) rest h =
+    record { kind = v.Bare; same = ap (λ r. k.Symbol s.Star ∷ plain r) h; formed = tt }
 event_tree (suc d) ((k.Symbol s.OpenAttribute, w) ∷ ts) rest (m, h, j) = record {
   kind = v.OpenJoined;
-  same = ap (λ u. k.Symbol s.OpenAttribute ∷ u) (sign_tree d s.CloseParen ts m h ∙ ap (λ r. k.Symbol s.CloseParen ∷ plain r) j);
+  same = ap (λ u. k.Symbol s.OpenAttribute ∷ u)
+      (sign_tree d s.CloseParen ts m h ∙ ap (λ r. k.Symbol s.CloseParen ∷ plain r) j);
   formed = tt;
 }
 event_tree (suc d) ((k.Symbol s.OpenParen, w) ∷ ts) rest h = inside_tree d ts rest (last_of d event_inside ts rest h)
@@ -233,7 +251,8 @@ record FoundOptional (ts ks : List Kind) : Type 0 where
   same : ts ≡ onto (spell_optional tree) (k.Symbol s.CloseParen ∷ ks)
   formed : IsValue tree
 
-in_value : (d : ℕ) (t : Named) (ts rest : List Named) → Split d (sign s.CloseParen) t ts rest (on_operand g.plain 0 0 t.0)
+in_value : (d : ℕ) (t : Named) (ts rest : List Named)
+    → Split d (sign s.CloseParen) t ts rest (on_operand g.plain 0 0 t.0)
     → FoundOptional (plain (t ∷ ts)) (plain rest)
 in_value d t ts rest f =
     let x = expr_tree (suc d) (t ∷ ts) f.middle f.first in
@@ -243,13 +262,15 @@ in_value d t ts rest f =
       formed = x.formed;
     }
 
-value_in_parens : (d : ℕ) (ts rest : List Named) → Derives d connected_value ts rest → FoundOptional (plain ts) (plain rest)
+value_in_parens : (d : ℕ) (ts rest : List Named) → Derives d connected_value ts rest
+    → FoundOptional (plain ts) (plain rest)
 value_in_parens zero ts rest h = absurd h
 value_in_parens (suc d) ((k.Symbol s.CloseParen, w) ∷ ts) rest h =
     record { tree = None; same = ap (λ r. k.Symbol s.CloseParen ∷ plain r) h; formed = tt }
 value_in_parens (suc d) [] rest h = apart h.0
 value_in_parens (suc d) ((k.Symbol y, w) ∷ ts) rest h =
-    in_value d (k.Symbol y, w) ts rest (many_split d (sign s.CloseParen) (k.Symbol y, w) ts rest (on_operand g.plain 0 0 (k.Symbol y)) h)
+    in_value d (k.Symbol y, w) ts rest (many_split d (sign s.CloseParen) (k.Symbol y, w) ts rest
+    (on_operand g.plain 0 0 (k.Symbol y)) h)
 value_in_parens (suc d) (t ∷ ts) rest h =
     in_value d t ts rest (many_split d (sign s.CloseParen) t ts rest (on_operand g.plain 0 0 t.0) h)
 
@@ -274,7 +295,8 @@ record FoundConnection (d : ℕ) (xs : List Rule) (ts rest : List Named) : Type 
   formed : IsConnection tree
   others : Turn d xs middle rest
 
-behind_dot : (d : ℕ) (xs : List Rule) (ts rest : List Named) → Turn d (name ∷ connected ∷ xs) ts rest → FoundConnection d xs ts rest
+behind_dot : (d : ℕ) (xs : List Rule) (ts rest : List Named) → Turn d (name ∷ connected ∷ xs) ts rest
+    → FoundConnection d xs ts rest
 behind_dot d xs ts rest (m, h, (m2, i, others)) =
     let x = name_tree d ts m h in
     let y = connected_tree d m m2 i in
@@ -295,7 +317,11 @@ connection_tree : (d : ℕ) (ts rest : List Named) → Derives d connection ts r
 connection_tree zero ts rest h = absurd h
 connection_tree (suc d) ((k.Symbol s.Dot, w) ∷ ts) rest h =
     let x = behind_dot d [] ts rest h in
-    record { tree = x.tree; same = x.same ∙ ap (λ r. onto (spell_connection x.tree) (plain r)) x.others; formed = x.formed }
+    record {
+      tree = x.tree;
+      same = x.same ∙ ap (λ r. onto (spell_connection x.tree) (plain r)) x.others;
+      formed = x.formed;
+    }
 connection_tree (suc d) [] rest h = apart h.0
 connection_tree (suc d) ((k.Symbol y, w) ∷ ts) rest h = absurd h
 connection_tree (suc d) (t ∷ ts) rest h = absurd h
@@ -315,7 +341,8 @@ record FoundConnections (ts ks : List Kind) : Type 0 where
   same : ts ≡ onto (spell_connections trees) ks
   formed : All IsConnection trees
 
-behind_bracket : (d : ℕ) (ts rest : List Named) → Derives d first_connection ts rest → FoundConnections (k.Symbol s.OpenParen ∷ plain ts) (plain rest)
+behind_bracket : (d : ℕ) (ts rest : List Named) → Derives d first_connection ts rest
+    → FoundConnections (k.Symbol s.OpenParen ∷ plain ts) (plain rest)
 behind_bracket zero ts rest h = absurd h
 behind_bracket (suc d) ((k.Symbol s.CloseParen, w) ∷ ts) rest h = record {
   trees = [];
@@ -324,7 +351,8 @@ behind_bracket (suc d) ((k.Symbol s.CloseParen, w) ∷ ts) rest h = record {
 }
 behind_bracket (suc d) ((k.Symbol s.Dot, w) ∷ ts) rest h =
     let x = behind_dot d (more_connections ∷ []) ts rest h in
-    let xs = tail_tree spell_connection IsConnection more_connections (k.Symbol s.CloseParen) connections_tail d x.middle rest
+    let xs = tail_tree spell_connection IsConnection more_connections
+    (k.Symbol s.CloseParen) connections_tail d x.middle rest
     (last_of d more_connections x.middle rest x.others) in
     record {
       trees = x.tree ∷ xs.trees;
@@ -335,9 +363,11 @@ behind_bracket (suc d) [] rest h = apart h.0
 behind_bracket (suc d) ((k.Symbol y, w) ∷ ts) rest h = absurd h
 behind_bracket (suc d) (t ∷ ts) rest h = absurd h
 
-connections_tree : (d : ℕ) (ts rest : List Named) → Derives d connections ts rest → FoundConnections (plain ts) (plain rest)
+connections_tree : (d : ℕ) (ts rest : List Named) → Derives d connections ts rest
+    → FoundConnections (plain ts) (plain rest)
 connections_tree zero ts rest h = absurd h
-connections_tree (suc d) ((k.Symbol s.OpenParen, w) ∷ ts) rest h = behind_bracket d ts rest (last_of d first_connection ts rest h)
+connections_tree (suc d) ((k.Symbol s.OpenParen, w) ∷ ts) rest h =
+    behind_bracket d ts rest (last_of d first_connection ts rest h)
 connections_tree (suc d) [] rest h = apart h.0
 connections_tree (suc d) ((k.Symbol y, w) ∷ ts) rest h = absurd h
 connections_tree (suc d) (t ∷ ts) rest h = absurd h
@@ -347,10 +377,12 @@ pub record FoundInstance (ts ks : List Kind) : Type 0 where
   pub overrides : Option (List Connection)
   pub name : List ℕ
   pub connections : List Connection
-  pub same : ts ≡ onto (spell_overrides overrides) (k.Name name ∷ onto (spell_connections connections) (k.Symbol s.Semicolon ∷ ks))
+  pub same : ts ≡ onto (spell_overrides overrides)
+      (k.Name name ∷ onto (spell_connections connections) (k.Symbol s.Semicolon ∷ ks))
   pub formed : AreOverrides overrides × IsName name × All IsConnection connections
 
-pub overrides_tree : (d : ℕ) (ts rest : List Named) → Derives d overrides ts rest → FoundInstance (plain ts) (plain rest)
+pub overrides_tree : (d : ℕ) (ts rest : List Named) → Derives d overrides ts rest
+    → FoundInstance (plain ts) (plain rest)
 overrides_tree zero ts rest h = absurd h
 overrides_tree (suc d) ((k.Symbol s.Hash, w) ∷ ts) rest (m, h, (m2, i, (m3, j, (m4, l, e)))) =
     let os = connections_tree d ts m h in
@@ -360,8 +392,10 @@ overrides_tree (suc d) ((k.Symbol s.Hash, w) ∷ ts) rest (m, h, (m2, i, (m3, j,
       overrides = Some os.trees;
       name = x.text;
       connections = cs.trees;
-      same = ap (λ u. k.Symbol s.Hash ∷ u) (os.same ∙ ap (onto (spell_connections os.trees)) (x.same ∙ ap (λ u. k.Name x.text ∷ u)
-          (cs.same ∙ ap (onto (spell_connections cs.trees)) (sign_tree d s.Semicolon m3 m4 l ∙ ap (λ r. k.Symbol s.Semicolon ∷ plain r) e))));
+      same = ap (λ u. k.Symbol s.Hash ∷ u) (os.same
+          ∙ ap (onto (spell_connections os.trees)) (x.same ∙ ap (λ u. k.Name x.text ∷ u)
+          (cs.same ∙ ap (onto (spell_connections cs.trees))
+          (sign_tree d s.Semicolon m3 m4 l ∙ ap (λ r. k.Symbol s.Semicolon ∷ plain r) e))));
       formed = (os.formed, x.fine, cs.formed);
     }
 overrides_tree (suc d) ((k.Name text, w) ∷ ts) rest (m, h, (m2, i, j)) =
@@ -384,20 +418,33 @@ pub record FoundHead (ts ks : List Kind) : Type 0 where
   pub same : ts ≡ onto (spell_head tree) ks
   pub formed : IsHead tree
 
-in_head : (d : ℕ) (ts rest : List Named) → Derives d loop_variable ts rest → FoundHead (k.Symbol s.OpenParen ∷ plain ts) (plain rest)
+in_head : (d : ℕ) (ts rest : List Named) → Derives d loop_variable ts rest
+    → FoundHead (k.Symbol s.OpenParen ∷ plain ts) (plain rest)
 unfolding spell_head
 in_head zero ts rest h = absurd h
-in_head (suc d) ((k.Name text, w) ∷ ts) rest (m, h, (m2, i, (m3, j, (m4, l, (m5, f, (m6, e, (m7, o, (m8, q, (m9, r, y))))))))) =
+in_head (suc d) ((k.Name text, w) ∷ ts) rest
+    (m, h, (m2, i, (m3, j, (m4, l, (m5, f, (m6, e, (m7, o, (m8, q, (m9, r, y))))))))) =
     let first = expr_tree d m m2 i in
     let second = expr_tree d m3 m4 l in
     let third = expr_tree d m7 m8 q in
     record {
-      tree = record { variable = text; start = first.tree; condition = second.tree; next_variable = text; next = third.tree };
-      same = ap (λ u. k.Symbol s.OpenParen ∷ k.Name text ∷ u) (sign_tree d s.Equal ts m h ∙ ap (λ u. k.Symbol s.Equal ∷ u)
-          (first.same ∙ ap (onto (expr.spell first.tree)) (sign_tree d s.Semicolon m2 m3 j ∙ ap (λ u. k.Symbol s.Semicolon ∷ u)
-          (second.same ∙ ap (onto (expr.spell second.tree)) (sign_tree d s.Semicolon m4 m5 f ∙ ap (λ u. k.Symbol s.Semicolon ∷ u)
-          (again_tree d text m5 m6 e ∙ ap (λ u. k.Name text ∷ u) (sign_tree d s.Equal m6 m7 o ∙ ap (λ u. k.Symbol s.Equal ∷ u)
-          (third.same ∙ ap (onto (expr.spell third.tree)) (sign_tree d s.CloseParen m8 m9 r ∙ ap (λ u. k.Symbol s.CloseParen ∷ plain u) y)))))))));
+      tree = record {
+        variable = text;
+        start = first.tree;
+        condition = second.tree;
+        next_variable = text;
+        next = third.tree;
+      };
+      same = ap (λ u. k.Symbol s.OpenParen ∷ k.Name text ∷ u)
+          (sign_tree d s.Equal ts m h ∙ ap (λ u. k.Symbol s.Equal ∷ u)
+          (first.same ∙ ap (onto (expr.spell first.tree))
+          (sign_tree d s.Semicolon m2 m3 j ∙ ap (λ u. k.Symbol s.Semicolon ∷ u)
+          (second.same ∙ ap (onto (expr.spell second.tree))
+          (sign_tree d s.Semicolon m4 m5 f ∙ ap (λ u. k.Symbol s.Semicolon ∷ u)
+          (again_tree d text m5 m6 e ∙ ap (λ u. k.Name text ∷ u)
+          (sign_tree d s.Equal m6 m7 o ∙ ap (λ u. k.Symbol s.Equal ∷ u)
+          (third.same ∙ ap (onto (expr.spell third.tree))
+          (sign_tree d s.CloseParen m8 m9 r ∙ ap (λ u. k.Symbol s.CloseParen ∷ plain u) y)))))))));
       formed = (w, refl, first.formed, second.formed, third.formed);
     }
 in_head (suc d) [] rest h = apart h.0

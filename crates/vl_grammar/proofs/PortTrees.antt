@@ -31,7 +31,8 @@ use Rattle.vl_grammar.proofs.Steps.{apart}
 use Rattle.vl_grammar.proofs.Spine.{nowhere}
 use Rattle.vl_grammar.proofs.TokenTrees.{name_tree}
 use Rattle.vl_grammar.proofs.ExprTrees.{value_tree}
-use Rattle.vl_grammar.proofs.DeclarationTrees.{Turn, Split, many_split, last_of, Tail, closes, goes_on, tail_tree, attributed_tree, shape_tree}
+use Rattle.vl_grammar.proofs.DeclarationTrees.{Turn, Split, many_split, last_of, Tail, closes, goes_on, tail_tree}
+use Rattle.vl_grammar.proofs.DeclarationTrees.{attributed_tree, shape_tree}
 
 record FoundNet (ts ks : List Kind) : Type 0 where
   tree : Option NetKind
@@ -42,8 +43,10 @@ no_net ts rest h = record { tree = None; same = ap plain (sym h) }
 
 net_tree : (d : ℕ) (ts rest : List Named) → Derives d net ts rest → FoundNet (plain ts) (plain rest)
 net_tree zero ts rest h = absurd h
-net_tree (suc d) ((k.Keyword word.Wire, w) ∷ ts) rest h = record { tree = Some n.Wire; same = ap (λ r. k.Keyword word.Wire ∷ plain r) h }
-net_tree (suc d) ((k.Keyword word.Reg, w) ∷ ts) rest h = record { tree = Some n.Reg; same = ap (λ r. k.Keyword word.Reg ∷ plain r) h }
+net_tree (suc d) ((k.Keyword word.Wire, w) ∷ ts) rest h =
+    record { tree = Some n.Wire; same = ap (λ r. k.Keyword word.Wire ∷ plain r) h }
+net_tree (suc d) ((k.Keyword word.Reg, w) ∷ ts) rest h =
+    record { tree = Some n.Reg; same = ap (λ r. k.Keyword word.Reg ∷ plain r) h }
 net_tree (suc d) [] rest h = no_net [] rest h.1
 net_tree (suc d) ((k.Keyword y, w) ∷ ts) rest h = no_net ((k.Keyword y, w) ∷ ts) rest h
 net_tree (suc d) (t ∷ ts) rest h = no_net (t ∷ ts) rest h
@@ -65,7 +68,8 @@ behind_direction d q ts rest (m, h, (m2, i, (m3, j, (m4, l, e)))) =
     let v = value_tree d m3 m4 l in
     record {
       tree = record { attributes = []; direction = q; net = kind.tree; shape = x.tree; name = y.text; value = v.tree };
-      same = ap (λ u. k.Keyword (direction_word q) ∷ u) (kind.same ∙ ap (onto (spell_net kind.tree)) (x.same ∙ ap (onto (spell_shape x.tree))
+      same = ap (λ u. k.Keyword (direction_word q) ∷ u)
+          (kind.same ∙ ap (onto (spell_net kind.tree)) (x.same ∙ ap (onto (spell_shape x.tree))
           (y.same ∙ ap (λ u. k.Name y.text ∷ u) (v.same ∙ ap (λ r. onto (spell_value v.tree) (plain r)) e))));
       formed = (All-nil IsInstance, x.formed, y.fine, v.formed);
     }
@@ -84,7 +88,8 @@ full_by d one ((k.Symbol s.OpenAttribute, w) ∷ ts) rest h =
         value = x.tree.value;
       };
       same = i.same ∙ ap (onto (spell_instance i.instance)) x.same;
-      formed = (All-cons IsInstance i.instance x.tree.attributes i.formed x.formed.0, x.formed.1, x.formed.2, x.formed.3);
+      formed =
+          (All-cons IsInstance i.instance x.tree.attributes i.formed x.formed.0, x.formed.1, x.formed.2, x.formed.3);
     }
 full_by d one ((k.Keyword word.Input, w) ∷ ts) rest h = behind_direction d dir.Input ts rest h
 full_by d one ((k.Keyword word.Output, w) ∷ ts) rest h = behind_direction d dir.Output ts rest h
@@ -117,7 +122,8 @@ port_tree (suc d) ((k.Name text, w) ∷ ts) rest (m, h, j) =
 port_tree (suc d) [] rest h = apart h.0
 port_tree (suc d) (t ∷ ts) rest h = as_port (plain (t ∷ ts)) (plain rest) (full_tree (suc d) (t ∷ ts) rest h)
 
-ports_tail : (d : ℕ) (ts rest : List Named) → Derives (suc d) more_ports ts rest → Tail spell_port IsPort more_ports (k.Symbol s.CloseParen) d ts rest
+ports_tail : (d : ℕ) (ts rest : List Named) → Derives (suc d) more_ports ts rest
+    → Tail spell_port IsPort more_ports (k.Symbol s.CloseParen) d ts rest
 ports_tail d ((k.Symbol s.Comma, w) ∷ ts) rest (m, h, others) =
     let x = port_tree d ts m h in
     goes_on x.tree m (ap (λ u. k.Symbol s.Comma ∷ u) x.same) x.formed (last_of d more_ports m rest others)
@@ -131,7 +137,8 @@ pub record FoundPorts (ts ks : List Kind) : Type 0 where
   pub same : ts ≡ onto (between_commas spell_port trees) (k.Symbol s.CloseParen ∷ ks)
   pub formed : ArePorts trees
 
-first_by : (d : ℕ) (t : Named) (ts rest : List Named) → Split d more_ports t ts rest (on_full_port t.0) → FoundPorts (plain (t ∷ ts)) (plain rest)
+first_by : (d : ℕ) (t : Named) (ts rest : List Named) → Split d more_ports t ts rest (on_full_port t.0)
+    → FoundPorts (plain (t ∷ ts)) (plain rest)
 first_by d t ts rest f =
     let x = full_tree (suc d) (t ∷ ts) f.middle f.first in
     let others = tail_tree spell_port IsPort more_ports (k.Symbol s.CloseParen) ports_tail d f.middle rest f.others in

@@ -56,7 +56,8 @@ abbrev pub joined : Items → Items → Items
 joined no_items ys = ys
 joined (more_items x xs) ys = more_items x (joined xs ys)
 
-pub joined_spelled : (xs ys : Items) (ks : List Kind) → onto (spell_all (joined xs ys)) ks ≡ onto (spell_all xs) (onto (spell_all ys) ks)
+pub joined_spelled : (xs ys : Items) (ks : List Kind)
+    → onto (spell_all (joined xs ys)) ks ≡ onto (spell_all xs) (onto (spell_all ys) ks)
 joined_spelled no_items ys ks = refl
 joined_spelled (more_items x xs) ys ks = ap (onto (spell x)) (joined_spelled xs ys ks)
 
@@ -85,5 +86,6 @@ pub region_behind : (xs ys : Items) → AreBalanced xs → open_behind (joined x
 region_behind xs ys h = joined_behind xs ys (Some 1) ∙ ap (open_behind ys) (deeper xs 0 0 h)
 
 -- an item that is no mark
-pub unmarked_behind : (x : Item) (xs : Items) (n : Option ℕ) → mark_of x ≡ None → open_behind (more_items x xs) n ≡ open_behind xs n
+pub unmarked_behind : (x : Item) (xs : Items) (n : Option ℕ) → mark_of x ≡ None
+    → open_behind (more_items x xs) n ≡ open_behind xs n
 unmarked_behind x xs n h = ap (λ m. open_behind xs (open_behind_mark m n)) h

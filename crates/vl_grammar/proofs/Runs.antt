@@ -1,7 +1,11 @@
--- What holds of every grammar that is given as a machine: where its runs stop, and that what it accepts is made of parts.
-use Rattle.std.proofs.Common.{◌≡◌, ℕ, zero, suc, ◌≤◌, Bool, true, false, List, [], ◌∷◌, ◌++◌, length, Option, Some, None, refl, sym, ap, ◌∙◌, arith}
+-- What holds of every grammar that is given as a machine: where its runs stop, and that what it accepts is made of
+-- parts.
+use Rattle.std.proofs.Common.{◌≡◌, ℕ, zero, suc, ◌≤◌, Bool, true, false, List, [], ◌∷◌, ◌++◌, length, Option, Some}
+use Rattle.std.proofs.Common.{None, refl, sym, ap, ◌∙◌, arith}
 use Rattle.std.specs.Prelude.{Result, Ok, Err}
-use Rattle.vl_grammar.specs.Machine.{Row, Move, take, pop, bad, Fault, syntax, deep, Stepped, stuck, emptied, over, goes, fits, placed, taken, step, all_end, run, symbols, free_step, free_after, all_may_end, accepts, IsStuck}
+use Rattle.vl_grammar.specs.Machine.{Row, Move, take, pop, bad, Fault, syntax, deep, Stepped, stuck, emptied, over}
+use Rattle.vl_grammar.specs.Machine.{goes, fits, placed, taken, step, all_end, run, symbols, free_step, free_after}
+use Rattle.vl_grammar.specs.Machine.{all_may_end, accepts, IsStuck}
 
 -- rules in turn, each from some tokens up to others
 abbrev pub InTurn : {S T : Type 0} → (S → List T → List T → Type 0) → List S → List T → List T → Type 0
@@ -31,12 +35,18 @@ module _ {S T : Type 0} (expand : S → T → Move S) (ends : S → Bool) where
   placed_symbols room [] k = refl
   placed_symbols room (x ∷ row) k = ap (λ r. x.0 ∷ r) (placed_symbols room row k)
 
-  taken_like : (b : Bool) (room : ℕ) (row k : Row S) → Like (taken b (placed room row k)) (Some (symbols row ++ symbols k))
+  taken_like : (b : Bool) (room : ℕ) (row k : Row S)
+      → Like (taken b (placed room row k)) (Some (symbols row ++ symbols k))
   taken_like true room row k = ap Some (sym (placed_symbols room row k))
   taken_like false room row k = (symbols row ++ symbols k, refl)
 
   by_move : (x : S × ℕ) (k : Row S) (t : T) (m : Move S) → Like (step expand k t) (free_step expand (symbols k) t)
-      → Like (elim m [ take opened row ↦ taken (fits opened x.1) (placed x.1 row k) | pop ↦ step expand k t | bad ↦ stuck ])
+      → Like (elim m [
+        | take opened row ↦ taken (fits opened x.1)
+            (placed x.1 row k)
+        | pop ↦ step expand k t
+        | bad ↦ stuck
+      ])
       (elim m [ take opened row ↦ Some (symbols row ++ symbols k) | pop ↦ free_step expand (symbols k) t | bad ↦ None ])
   by_move x k t (take opened row) h = taken_like (fits opened x.1) x.1 row k
   by_move x k t pop h = h
@@ -151,7 +161,8 @@ module _ {S T : Type 0} (expand : S → T → Move S) (ends : S → Bool) where
   reached k j (u ∷ us) ts h = by_first (free_step expand k u) h (λ i. reached i j us ts)
     where
       by_first : (o : Option (List S)) → elim o [ None ↦ None | Some i ↦ free_after expand i us ] ≡ Some j
-          → ((i : List S) → free_after expand i us ≡ Some j → accepts expand ends i (us ++ ts) ≡ accepts expand ends j ts)
+          → ((i : List S) → free_after expand i us ≡ Some j
+          → accepts expand ends i (us ++ ts) ≡ accepts expand ends j ts)
           → elim o [ None ↦ false | Some i ↦ accepts expand ends i (us ++ ts) ] ≡ accepts expand ends j ts
       by_first None h next = (let e : None ≡ Some j = h in cc)
       by_first (Some i) h next = next i h
@@ -174,8 +185,10 @@ module _ {S T : Type 0} (expand : S → T → Move S) (ends : S → Bool) where
       × (accepts expand ends k rest ≡ true) × (length rest ≤ length ts)
 
   in_turn : (m : ℕ)
-      → ((x : S) (k : List S) (ts : List T) → length ts ≤ m → accepts expand ends (x ∷ k) ts ≡ true → Read (suc m) x k ts)
-      → (row k : List S) (ts : List T) → length ts ≤ m → accepts expand ends (row ++ k) ts ≡ true → ReadAll (suc m) row k ts
+      → ((x : S) (k : List S) (ts : List T) → length ts ≤ m → accepts expand ends (x ∷ k) ts ≡ true
+      → Read (suc m) x k ts)
+      → (row k : List S) (ts : List T) → length ts ≤ m → accepts expand ends (row ++ k) ts ≡ true
+      → ReadAll (suc m) row k ts
   in_turn m one [] k ts short h = (ts, refl, h, omega arith)
   in_turn m one (x ∷ row) k ts short h =
       let (middle, first, on, less) = one x (row ++ k) ts short h in

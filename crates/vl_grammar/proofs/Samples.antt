@@ -28,36 +28,44 @@ sum = refl
 
 -- {a + b {a, b}}
 replication : accepts (expr ∷ [])
-    (sign s.OpenBrace ∷ a ∷ sign s.Plus ∷ b ∷ sign s.OpenBrace ∷ a ∷ sign s.Comma ∷ b ∷ sign s.CloseBrace ∷ sign s.CloseBrace ∷ []) ≡ true
+    (sign s.OpenBrace ∷ a ∷ sign s.Plus ∷ b ∷ sign s.OpenBrace ∷ a ∷ sign s.Comma ∷ b ∷ sign s.CloseBrace
+    ∷ sign s.CloseBrace ∷ []) ≡ true
 replication = refl
 
 -- not {a {b}, a}
 no_part_behind : accepts (expr ∷ [])
-    (sign s.OpenBrace ∷ a ∷ sign s.OpenBrace ∷ b ∷ sign s.CloseBrace ∷ sign s.Comma ∷ a ∷ sign s.CloseBrace ∷ []) ≡ false
+    (sign s.OpenBrace ∷ a ∷ sign s.OpenBrace ∷ b ∷ sign s.CloseBrace ∷ sign s.Comma ∷ a ∷ sign s.CloseBrace ∷ [])
+    ≡ false
 no_part_behind = refl
 
 -- not case (a) default ; default ; endcase
 no_second_default : accepts (stmt ∷ [])
-    (word w.Case ∷ sign s.OpenParen ∷ a ∷ sign s.CloseParen ∷ word w.Default ∷ sign s.Semicolon ∷ word w.Default ∷ sign s.Semicolon
+    (word w.Case ∷ sign s.OpenParen ∷ a ∷ sign s.CloseParen ∷ word w.Default ∷ sign s.Semicolon ∷ word w.Default
+    ∷ sign s.Semicolon
     ∷ word w.Endcase ∷ []) ≡ false
 no_second_default = refl
 
 -- module a; always @* if (a) b[a] = a; else ; endmodule
 always : run
-    (word w.Module ∷ a ∷ sign s.Semicolon ∷ word w.Always ∷ sign s.At ∷ sign s.Star ∷ word w.If ∷ sign s.OpenParen ∷ a ∷ sign s.CloseParen
-    ∷ b ∷ sign s.OpenBracket ∷ a ∷ sign s.CloseBracket ∷ sign s.Equal ∷ a ∷ sign s.Semicolon ∷ word w.Else ∷ sign s.Semicolon
+    (word w.Module ∷ a ∷ sign s.Semicolon ∷ word w.Always ∷ sign s.At ∷ sign s.Star ∷ word w.If ∷ sign s.OpenParen
+    ∷ a ∷ sign s.CloseParen
+    ∷ b ∷ sign s.OpenBracket ∷ a ∷ sign s.CloseBracket ∷ sign s.Equal ∷ a ∷ sign s.Semicolon ∷ word w.Else
+    ∷ sign s.Semicolon
     ∷ word w.Endmodule ∷ []) ≡ Ok tt
 always = refl
 
 -- module a; for (a = a; a; a = a) b a (.b()); endmodule
 loop : run
-    (word w.Module ∷ a ∷ sign s.Semicolon ∷ word w.For ∷ sign s.OpenParen ∷ a ∷ sign s.Equal ∷ a ∷ sign s.Semicolon ∷ a ∷ sign s.Semicolon
-    ∷ a ∷ sign s.Equal ∷ a ∷ sign s.CloseParen ∷ b ∷ a ∷ sign s.OpenParen ∷ sign s.Dot ∷ b ∷ sign s.OpenParen ∷ sign s.CloseParen
+    (word w.Module ∷ a ∷ sign s.Semicolon ∷ word w.For ∷ sign s.OpenParen ∷ a ∷ sign s.Equal ∷ a ∷ sign s.Semicolon
+    ∷ a ∷ sign s.Semicolon
+    ∷ a ∷ sign s.Equal ∷ a ∷ sign s.CloseParen ∷ b ∷ a ∷ sign s.OpenParen ∷ sign s.Dot ∷ b ∷ sign s.OpenParen
+    ∷ sign s.CloseParen
     ∷ sign s.CloseParen ∷ sign s.Semicolon ∷ word w.Endmodule ∷ []) ≡ Ok tt
 loop = refl
 
 -- module a; for (a = a; a; b .. is wrong at the b, the last of the tokens
 other_variable : run
-    (word w.Module ∷ a ∷ sign s.Semicolon ∷ word w.For ∷ sign s.OpenParen ∷ a ∷ sign s.Equal ∷ a ∷ sign s.Semicolon ∷ a ∷ sign s.Semicolon
+    (word w.Module ∷ a ∷ sign s.Semicolon ∷ word w.For ∷ sign s.OpenParen ∷ a ∷ sign s.Equal ∷ a ∷ sign s.Semicolon
+    ∷ a ∷ sign s.Semicolon
     ∷ b ∷ []) ≡ Err (syntax 1)
 other_variable = refl

@@ -1,5 +1,6 @@
 -- A text is accepted exactly where a well formed tree spells it.
-use Rattle.std.proofs.Common.{◌≡◌, ℕ, zero, suc, true, List, [], ◌∷◌, length, Option, Some, None, refl, sym, ap, ◌∙◌, subst, arith}
+use Rattle.std.proofs.Common.{◌≡◌, ℕ, zero, suc, true, List, [], ◌∷◌, length, Option, Some, None, refl, sym, ap, ◌∙◌}
+use Rattle.std.proofs.Common.{subst, arith}
 use Rattle.std.specs.Prelude.{All}
 use Rattle.std.proofs.lemmas.List.Elements.{All-cons, All-nil}
 use Rattle.fv_base.specs.declared.keyword.Keyword.TheVariants as word
@@ -14,7 +15,8 @@ use Rattle.vl_tree.specs.DeclarationSpelling.{spell_header_parameter, spell_port
 use Rattle.vl_tree.specs.Item.{Item, Items, no_items, more_items, items}
 use Rattle.vl_tree.specs.ItemSpelling.{spell_all, spell_parameters, spell_ports, spell_module, spell_source}
 use Rattle.vl_tree.specs.Phrase.{between_commas, each}
-use Rattle.vl_tree.specs.WellFormed.{AreBalanced, AreWellFormed, AreOptionalParameters, AreOptionalPorts, IsModule, IsSource}
+use Rattle.vl_tree.specs.WellFormed.{AreBalanced, AreWellFormed, AreOptionalParameters, AreOptionalPorts, IsModule}
+use Rattle.vl_tree.specs.WellFormed.{IsSource}
 use Rattle.vl_grammar.specs.Grammar.{Rule, endmodule, sign, first_port, modules, module_head, module_ports}
 use Rattle.vl_grammar.specs.Grammar as g
 use Rattle.vl_grammar.proofs.Named.{Named, on, Derives, plain, accepts}
@@ -32,12 +34,14 @@ record FoundPorts (ts ks : List Kind) : Type 0 where
   same : ts ≡ onto (spell_ports tree) (k.Symbol s.Semicolon ∷ ks)
   formed : AreOptionalPorts tree
 
-in_ports : (d : ℕ) (ts rest : List Named) → Turn d (first_port ∷ sign s.Semicolon ∷ []) ts rest → FoundPorts (k.Symbol s.OpenParen ∷ plain ts) (plain rest)
+in_ports : (d : ℕ) (ts rest : List Named) → Turn d (first_port ∷ sign s.Semicolon ∷ []) ts rest
+    → FoundPorts (k.Symbol s.OpenParen ∷ plain ts) (plain rest)
 in_ports d ts rest (m, h, (m2, i, j)) =
     let xs = ports_tree d ts m h in
     record {
       tree = Some xs.trees;
-      same = ap (λ u. k.Symbol s.OpenParen ∷ u) (xs.same ∙ ap (λ u. onto (between_commas spell_port xs.trees) (k.Symbol s.CloseParen ∷ u))
+      same = ap (λ u. k.Symbol s.OpenParen ∷ u)
+          (xs.same ∙ ap (λ u. onto (between_commas spell_port xs.trees) (k.Symbol s.CloseParen ∷ u))
           (sign_tree d s.Semicolon m m2 i ∙ ap (λ r. k.Symbol s.Semicolon ∷ plain r) j));
       formed = xs.formed;
     }
@@ -65,12 +69,19 @@ module_head_tree (suc d) ((k.Symbol s.Hash, w) ∷ ts) rest (m, h, (m2, i, j)) =
     record {
       parameters = Some xs.trees;
       ports = ys.tree;
-      same = ap (λ u. k.Symbol s.Hash ∷ u) (xs.same ∙ ap (λ u. k.Symbol s.OpenParen ∷ onto (between_commas spell_header_parameter xs.trees) (k.Symbol s.CloseParen ∷ u))
+      same = ap (λ u. k.Symbol s.Hash ∷ u) (xs.same
+          ∙ ap (λ u. k.Symbol s.OpenParen ∷ onto (between_commas spell_header_parameter xs.trees)
+          (k.Symbol s.CloseParen ∷ u))
           (ys.same ∙ ap (λ r. onto (spell_ports ys.tree) (k.Symbol s.Semicolon ∷ plain r)) j));
       formed = (xs.formed, ys.formed);
     }
 module_head_tree (suc d) ((k.Symbol s.OpenParen, w) ∷ ts) rest h =
-    (let ys = in_ports d ts rest h in record { parameters = None; ports = ys.tree; same = ys.same; formed = (tt, ys.formed) })
+    (let ys = in_ports d ts rest h in record {
+      parameters = None;
+      ports = ys.tree;
+      same = ys.same;
+      formed = (tt, ys.formed);
+    })
 module_head_tree (suc d) ((k.Symbol s.Semicolon, w) ∷ ts) rest h =
     record { parameters = None; ports = None; same = ap (λ r. k.Symbol s.Semicolon ∷ plain r) h; formed = (tt, tt) }
 module_head_tree (suc d) [] rest h = apart h.0
@@ -107,7 +118,8 @@ modules_tree (suc d) ((k.Keyword word.Module, w) ∷ ts) rest (m, h, (m2, i, (m3
     record {
       trees = one ∷ others.trees;
       same = ap (λ u. k.Keyword word.Module ∷ u) (x.same ∙ ap (λ u. k.Name x.text ∷ u)
-          (head.same ∙ ap (λ u. onto (spell_parameters head.parameters) (onto (spell_ports head.ports) (k.Symbol s.Semicolon ∷ u)))
+          (head.same ∙ ap (λ u. onto (spell_parameters head.parameters)
+          (onto (spell_ports head.ports) (k.Symbol s.Semicolon ∷ u)))
           (body.same ∙ (λ v. onto (spell_all (sym (items_of_list body.trees) v)) (k.Keyword word.Endmodule ∷ plain m3))
           ∙ ap (λ u. onto (spell_all (items (list_of_items body.trees))) (k.Keyword word.Endmodule ∷ u))
           (others.same ∙ ap (λ r. onto (each spell_module others.trees) (plain r)) e))));
@@ -140,4 +152,5 @@ pub source_tree : (ts : List Named) → accepts (modules ∷ []) ts ≡ true →
 source_tree ts h =
     let (rest, first, on_end, less) = runs.read on g.ends (length ts) modules [] ts (omega arith) h in
     let x = modules_tree (suc (length ts)) ts rest first in
-    source_of x.trees (plain ts) (x.same ∙ ap (λ r. onto (each spell_module x.trees) (plain r)) (no_more rest on_end)) x.formed
+    source_of x.trees (plain ts) (x.same ∙ ap (λ r. onto (each spell_module x.trees) (plain r))
+    (no_more rest on_end)) x.formed

@@ -12,11 +12,13 @@ use Rattle.vl_grammar.specs.Text.{IsText}
 use Rattle.vl_grammar.proofs.Onto.{all_of}
 use Rattle.vl_grammar.proofs.TooDeep.{text_run}
 
-pub spelled_kinds : (tree : Source) (tokens : List Token) → Spells (spell_source tree) tokens [] → kinds (spell_source tree) ≡ kinds_of tokens
+pub spelled_kinds : (tree : Source) (tokens : List Token) → Spells (spell_source tree) tokens []
+    → kinds (spell_source tree) ≡ kinds_of tokens
 spelled_kinds tree tokens h = sym (spelled (spell_source tree) tokens [] h ∙ all_of (kinds (spell_source tree)))
 
 -- tokens that a tree spells are a text
-pub spelled_text : (tree : Source) (tokens : List Token) → IsSource tree → Spells (spell_source tree) tokens [] → IsText (kinds_of tokens)
+pub spelled_text : (tree : Source) (tokens : List Token) → IsSource tree → Spells (spell_source tree) tokens []
+    → IsText (kinds_of tokens)
 spelled_text tree tokens w h = record { tree = tree; formed = w; spelled = spelled_kinds tree tokens h }
 
 -- and a run reads them, up to the first token at which 257 constructs of the tree are open

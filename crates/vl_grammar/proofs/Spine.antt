@@ -93,16 +93,20 @@ pub record Reduced (l q : ℕ) (ts ks : List Kind) : Type 0 where
   pub tight : l ≤ level x
   pub waiting : waits p ≡ q
 
-pub reduce : (l : ℕ) (p : Spine) (x : Expr) (ts ks : List Kind) → l ≤ 10 → l ≤ level x → State p x ts ks → Reduced l (waits p) ts ks
+pub reduce : (l : ℕ) (p : Spine) (x : Expr) (ts ks : List Kind) → l ≤ 10 → l ≤ level x → State p x ts ks
+    → Reduced l (waits p) ts ks
 reduce l start x ts ks small h w = record { p = start; x = x; now = w; low = omega arith; tight = h; waiting = refl }
-reduce l (ask y p) x ts ks small h w = record { p = ask y p; x = x; now = w; low = omega arith; tight = h; waiting = refl }
-reduce l (choice y z p) x ts ks small h w = record { p = choice y z p; x = x; now = w; low = omega arith; tight = h; waiting = refl }
+reduce l (ask y p) x ts ks small h w =
+    record { p = ask y p; x = x; now = w; low = omega arith; tight = h; waiting = refl }
+reduce l (choice y z p) x ts ks small h w =
+    record { p = choice y z p; x = x; now = w; low = omega arith; tight = h; waiting = refl }
 reduce l (prefix op p) x ts ks small h w =
     reduce l p (unary nowhere op x) ts ks small (omega (arith, small))
     (record { same = w.same; formed = (w.fits, w.formed); spine = w.spine; fits = floor_range p })
 reduce l (left y op p) x ts ks small h w = by_level (at_most l (binds op)) (λ z f v. reduce l p z ts ks small f v)
   where
-    by_level : (l ≤ binds op) ⊎ (binds op + 1 ≤ l) → ((z : Expr) → l ≤ level z → State p z ts ks → Reduced l (waits p) ts ks)
+    by_level : (l ≤ binds op) ⊎ (binds op + 1 ≤ l)
+        → ((z : Expr) → l ≤ level z → State p z ts ks → Reduced l (waits p) ts ks)
         → Reduced l (waits p) ts ks
     by_level (inr f) next = record { p = left y op p; x = x; now = w; low = f; tight = h; waiting = refl }
     by_level (inl f) next =

@@ -41,6 +41,7 @@ module _ {S T : Type 0} (expand : S → T → Move S) (ends : S → Bool) where
   Leaves x [] = ends x ≡ true
   Leaves x (t ∷ ts) = is_pop (expand x t) ≡ true
 
-  pub leaves : (x : S) (k : List S) (ts : List T) → Leaves x ts → accepts expand ends (x ∷ k) ts ≡ accepts expand ends k ts
+  pub leaves : (x : S) (k : List S) (ts : List T) → Leaves x ts
+      → accepts expand ends (x ∷ k) ts ≡ accepts expand ends k ts
   leaves x k [] h = ap (λ b. elim b [ true ↦ all_may_end ends k | false ↦ false ]) h
   leaves x k (t ∷ ts) h = popped x k t ts h

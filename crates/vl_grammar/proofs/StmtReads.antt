@@ -1,5 +1,6 @@
 -- What well formed statements spell is read as statements; an `else` is read for the nearest `if`.
-use Rattle.std.proofs.Common.{◌≡◌, ℕ, ◌+◌, ◌≤◌, Bool, true, false, ◌==◌, ◌&&◌, List, [], ◌∷◌, ◌++◌, Option, Some, None, refl, sym, ap, ◌∙◌, subst, arith, eq-eqb}
+use Rattle.std.proofs.Common.{◌≡◌, ℕ, ◌+◌, ◌≤◌, Bool, true, false, ◌==◌, ◌&&◌, List, [], ◌∷◌, ◌++◌, Option, Some}
+use Rattle.std.proofs.Common.{None, refl, sym, ap, ◌∙◌, subst, arith, eq-eqb}
 use Rattle.std.proofs.lemmas.List.Elements.{All-head}
 use Rattle.fv_base.specs.declared.keyword.Keyword.TheVariants as word
 use Rattle.fv_base.specs.declared.kind.Kind.{Kind}
@@ -41,8 +42,10 @@ use Rattle.vl_tree.specs.Stmt.{
   labels,
   default,
 }
-use Rattle.vl_tree.specs.StmtSpelling.{spell, spell_all, spell_arms, spell_label, spell_one_label, spell_colon, assign_sign, case_word}
-use Rattle.vl_tree.specs.StmtWellFormed.{IsWellFormed, AreWellFormed, AreArms, AreArmsSome, IsLabel, ends_open, default_count}
+use Rattle.vl_tree.specs.StmtSpelling.{spell, spell_all, spell_arms, spell_label, spell_one_label, spell_colon}
+use Rattle.vl_tree.specs.StmtSpelling.{assign_sign, case_word}
+use Rattle.vl_tree.specs.StmtWellFormed.{IsWellFormed, AreWellFormed, AreArms, AreArmsSome, IsLabel, ends_open}
+use Rattle.vl_tree.specs.StmtWellFormed.{default_count}
 use Rattle.vl_grammar.specs.Machine.{Row, take, pop, bad, symbols, free_step}
 use Rattle.vl_grammar.specs.Operators.{cast_of, unary_of}
 use Rattle.vl_grammar.specs.Grammar as g
@@ -82,7 +85,8 @@ use Rattle.vl_grammar.specs.Grammar.{
 use Rattle.vl_grammar.proofs.Onto.{onto}
 use Rattle.vl_grammar.proofs.Steps.{is_pop, apart}
 use Rattle.vl_grammar.proofs.ExprReads.{Leaves, leaves, whole_read, parens_read, selects_read}
-use Rattle.vl_grammar.proofs.DeclarationReads.{Behind, attributes_read, target_read, targets_read, behind_target, list_read}
+use Rattle.vl_grammar.proofs.DeclarationReads.{Behind, attributes_read, target_read, targets_read, behind_target}
+use Rattle.vl_grammar.proofs.DeclarationReads.{list_read}
 
 -- what an expression may begin with
 abbrev pub Plain : Kind → Type 0
@@ -106,7 +110,12 @@ expr_front (number p n) ts w = record { head = k.Number n; tail = ts; same = ref
 expr_front (e.name p text ss) ts w =
     record { head = k.Name text; tail = onto (expr.spell_selects ss) ts; same = refl; fine = tt }
 expr_front (paren p x) ts w =
-    record { head = k.Symbol s.OpenParen; tail = onto (expr.spell x) (k.Symbol s.CloseParen ∷ ts); same = refl; fine = tt }
+    record {
+      head = k.Symbol s.OpenParen;
+      tail = onto (expr.spell x) (k.Symbol s.CloseParen ∷ ts);
+      same = refl;
+      fine = tt;
+    }
 expr_front (unary p op x) ts w =
     record { head = k.Symbol (expr.unary_sign op); tail = onto (expr.spell x) ts; same = refl; fine = plain_unary op }
 expr_front (binary p op x y) ts w = expr_front x (k.Symbol (expr.binary_sign op) ∷ onto (expr.spell y) ts) w.2
@@ -120,7 +129,8 @@ expr_front (concat p es) ts w = record {
 }
 expr_front (repeat p x es) ts w = record {
   head = k.Symbol s.OpenBrace;
-  tail = onto (expr.spell x) (k.Symbol s.OpenBrace ∷ onto (expr.spell_parts es) (k.Symbol s.CloseBrace ∷ k.Symbol s.CloseBrace ∷ ts));
+  tail = onto (expr.spell x) (k.Symbol s.OpenBrace
+      ∷ onto (expr.spell_parts es) (k.Symbol s.CloseBrace ∷ k.Symbol s.CloseBrace ∷ ts));
   same = refl;
   fine = tt;
 }
@@ -166,7 +176,12 @@ lval_front : (l : Lval) (ts : List Kind) → Front (onto (lval.spell l) ts)
 lval_front (named p text ss) ts =
     record { head = k.Name text; tail = onto (expr.spell_selects ss) ts; same = refl; begins = by_name text }
 lval_front (joined p ls) ts =
-    record { head = k.Symbol s.OpenBrace; tail = onto (lval.spell_parts ls) (k.Symbol s.CloseBrace ∷ ts); same = refl; begins = by_brace }
+    record {
+      head = k.Symbol s.OpenBrace;
+      tail = onto (lval.spell_parts ls) (k.Symbol s.CloseBrace ∷ ts);
+      same = refl;
+      begins = by_brace;
+    }
 
 pub stmt_front : (x : Stmt) (ts : List Kind) → Front (onto (spell x) ts)
 stmt_front (begin attrs p name xs) ts = behind_attributes attrs _ (record {
@@ -183,7 +198,8 @@ stmt_front (if_only attrs p x y) ts = behind_attributes attrs _ (record {
 })
 stmt_front (if_else attrs p x y z) ts = behind_attributes attrs _ (record {
   head = k.Keyword word.If;
-  tail = k.Symbol s.OpenParen ∷ onto (expr.spell x) (k.Symbol s.CloseParen ∷ onto (spell y) (k.Keyword word.Else ∷ onto (spell z) ts));
+  tail = k.Symbol s.OpenParen ∷ onto (expr.spell x)
+      (k.Symbol s.CloseParen ∷ onto (spell y) (k.Keyword word.Else ∷ onto (spell z) ts));
   same = refl;
   begins = by_if;
 })
@@ -200,7 +216,8 @@ stmt_front (empty attrs p) ts =
 
 -- a rule that goes on as others do wherever a statement begins
 abbrev Stands : Rule → List Rule → Type 0
-Stands x row = (t : Kind) → Begins t → (xs : List Rule) (ts : List Kind) → accepts (x ∷ xs) (t ∷ ts) ≡ accepts (row ++ xs) (t ∷ ts)
+Stands x row = (t : Kind) → Begins t → (xs : List Rule) (ts : List Kind)
+    → accepts (x ∷ xs) (t ∷ ts) ≡ accepts (row ++ xs) (t ∷ ts)
 
 in_stmts : Stands stmts (stmt ∷ stmts ∷ [])
 in_stmts _ by_begin xs ts = refl
@@ -285,7 +302,8 @@ never_label c.Casez (k.System text) = never_operand (k.System text)
 never_label c.Casez (k.Symbol x) = never_operand (k.Symbol x)
 never_label c.Casez t = refl
 
-inside_symbols : (row zs : Row Rule) (xs : List Rule) → symbols (inside row ++ zs) ++ xs ≡ symbols row ++ (symbols zs ++ xs)
+inside_symbols : (row zs : Row Rule) (xs : List Rule)
+    → symbols (inside row ++ zs) ++ xs ≡ symbols row ++ (symbols zs ++ xs)
 inside_symbols [] zs xs = refl
 inside_symbols (x ∷ row) zs xs = ap (λ r. x.0 ∷ r) (inside_symbols row zs xs)
 
@@ -309,13 +327,20 @@ NoWord t = Unit {0}
 in_arms : (kind : CaseKind) (d : Bool) (t : Kind) → NoWord t → (xs : List Rule) (ts : List Kind)
     → accepts (arms kind d ∷ xs) (t ∷ ts) ≡ accepts (label kind ∷ g.labels kind ∷ arms kind d ∷ xs) (t ∷ ts)
 in_arms kind d (k.Keyword x) h xs ts = absurd h
-in_arms kind d (k.Name text) h xs ts = ap (on_step ts) (arm_move kind d xs (k.Name text) (on_label kind (k.Name text)) (never_label kind (k.Name text)))
-in_arms kind d (k.Symbol x) h xs ts = ap (on_step ts) (arm_move kind d xs (k.Symbol x) (on_label kind (k.Symbol x)) (never_label kind (k.Symbol x)))
-in_arms kind d (k.Number n) h xs ts = ap (on_step ts) (arm_move kind d xs (k.Number n) (on_label kind (k.Number n)) (never_label kind (k.Number n)))
-in_arms kind d (k.System text) h xs ts = ap (on_step ts) (arm_move kind d xs (k.System text) (on_label kind (k.System text)) (never_label kind (k.System text)))
-in_arms kind d (k.Tick text) h xs ts = ap (on_step ts) (arm_move kind d xs (k.Tick text) (on_label kind (k.Tick text)) (never_label kind (k.Tick text)))
-in_arms kind d k.Quoted h xs ts = ap (on_step ts) (arm_move kind d xs k.Quoted (on_label kind k.Quoted) (never_label kind k.Quoted))
-in_arms kind d k.Continue h xs ts = ap (on_step ts) (arm_move kind d xs k.Continue (on_label kind k.Continue) (never_label kind k.Continue))
+in_arms kind d (k.Name text) h xs ts =
+    ap (on_step ts) (arm_move kind d xs (k.Name text) (on_label kind (k.Name text)) (never_label kind (k.Name text)))
+in_arms kind d (k.Symbol x) h xs ts =
+    ap (on_step ts) (arm_move kind d xs (k.Symbol x) (on_label kind (k.Symbol x)) (never_label kind (k.Symbol x)))
+in_arms kind d (k.Number n) h xs ts =
+    ap (on_step ts) (arm_move kind d xs (k.Number n) (on_label kind (k.Number n)) (never_label kind (k.Number n)))
+in_arms kind d (k.System text) h xs ts = ap (on_step ts)
+    (arm_move kind d xs (k.System text) (on_label kind (k.System text)) (never_label kind (k.System text)))
+in_arms kind d (k.Tick text) h xs ts =
+    ap (on_step ts) (arm_move kind d xs (k.Tick text) (on_label kind (k.Tick text)) (never_label kind (k.Tick text)))
+in_arms kind d k.Quoted h xs ts =
+    ap (on_step ts) (arm_move kind d xs k.Quoted (on_label kind k.Quoted) (never_label kind k.Quoted))
+in_arms kind d k.Continue h xs ts =
+    ap (on_step ts) (arm_move kind d xs k.Continue (on_label kind k.Continue) (never_label kind k.Continue))
 
 -- the first arm is as the others
 in_first : (kind : CaseKind) (t : Kind) → NoWord t → (xs : List Rule) (ts : List Kind)
@@ -338,10 +363,13 @@ pub record LabelFront (ts : List Kind) : Type 0 where
   pub same : ts ≡ head ∷ tail
   pub fine : NoWord head
 
-pub label_front : (kind : CaseKind) (x : Expr) (ts : List Kind) → IsLabel kind x → LabelFront (onto (spell_one_label x) ts)
+pub label_front : (kind : CaseKind) (x : Expr) (ts : List Kind) → IsLabel kind x
+    → LabelFront (onto (spell_one_label x) ts)
 label_front c.Casez (number p n) ts h = record { head = k.Number n; tail = ts; same = refl; fine = tt }
-label_front c.Case x ts h = (let f = expr_front x ts h in record { head = f.head; tail = f.tail; same = f.same; fine = no_word f.head f.fine })
-label_front c.Casez x ts h = (let f = expr_front x ts h in record { head = f.head; tail = f.tail; same = f.same; fine = no_word f.head f.fine })
+label_front c.Case x ts h = (let f = expr_front x ts h
+    in record { head = f.head; tail = f.tail; same = f.same; fine = no_word f.head f.fine })
+label_front c.Casez x ts h = (let f = expr_front x ts h
+    in record { head = f.head; tail = f.tail; same = f.same; fine = no_word f.head f.fine })
 
 -- an expression stands where a label does
 as_label : (kind : CaseKind) (t : Kind) → Plain t → (xs : List Rule) (ts : List Kind)
@@ -363,7 +391,8 @@ label_by kind x xs ts w h =
 wild_read : (n : Number) (b : Bool) → (n.wild == 0) ≡ b → (xs : List Rule) (ts : List Kind) → n.unknown ≡ 0 → Behind ts
     → on_step ts (stepped xs (k.Number n) (on_casez_number b n)) ≡ accepts xs ts
 wild_read n true e xs ts h f =
-    ap (λ b. on_step ts (stepped xs (k.Number n) (if_known b (take 0 ((more plain 0 0, 0) ∷ []))))) (λ i. e i && eq-eqb n.unknown 0 h i)
+    ap (λ b. on_step ts (stepped xs (k.Number n) (if_known b (take 0 ((more plain 0 0, 0) ∷ [])))))
+    (λ i. e i && eq-eqb n.unknown 0 h i)
     ∙ leaves (more plain 0 0) xs ts f.1
 wild_read n false e xs ts h f =
     ap (λ b. on_step ts (stepped xs (k.Number n) (if_known b (take 0 [])))) (eq-eqb n.unknown 0 h)
@@ -375,19 +404,24 @@ label_read c.Case x xs ts w h = label_by c.Case x xs ts w h
 label_read c.Casez x xs ts w h = label_by c.Casez x xs ts w h
 
 labels_read : (kind : CaseKind) (es : List Expr) (xs : List Rule) (ts : List Kind) → AreSome (λ x. IsLabel kind x) es
-    → accepts (label kind ∷ g.labels kind ∷ xs) (onto (between_commas spell_one_label es) (k.Symbol s.Colon ∷ ts)) ≡ accepts (stmt ∷ xs) ts
+    → accepts (label kind ∷ g.labels kind ∷ xs) (onto (between_commas spell_one_label es) (k.Symbol s.Colon ∷ ts))
+    ≡ accepts (stmt ∷ xs) ts
 labels_read kind [] xs ts w = absurd (omega (arith, w.0))
 labels_read kind (x ∷ es) xs ts w =
-    list_read spell_one_label (λ y. IsLabel kind y) (g.labels kind) (label kind ∷ []) (stmt ∷ []) (k.Symbol s.Colon) (λ ys us. refl) (λ ys us. refl)
+    list_read spell_one_label (λ y. IsLabel kind y) (g.labels kind) (label kind ∷ []) (stmt ∷ []) (k.Symbol s.Colon)
+    (λ ys us. refl) (λ ys us. refl)
     (λ us. (refl, refl, refl, refl)) (label_read kind) x es xs ts w.1
 
 pub labels_front : (kind : CaseKind) (es : List Expr) (ts : List Kind) → AreSome (λ x. IsLabel kind x) es
     → LabelFront (onto (between_commas spell_one_label es) ts)
 labels_front kind [] ts w = absurd (omega (arith, w.0))
-labels_front kind (x ∷ es) ts w = label_front kind x (onto (with_commas spell_one_label es) ts) (All-head (λ y. IsLabel kind y) x es w.1)
+labels_front kind (x ∷ es) ts w =
+    label_front kind x (onto (with_commas spell_one_label es) ts) (All-head (λ y. IsLabel kind y) x es w.1)
 
-arm_read : (kind : CaseKind) (d : Bool) (es : List Expr) (xs : List Rule) (ts : List Kind) → AreSome (λ x. IsLabel kind x) es
-    → accepts (arms kind d ∷ xs) (onto (between_commas spell_one_label es) (k.Symbol s.Colon ∷ ts)) ≡ accepts (stmt ∷ arms kind d ∷ xs) ts
+arm_read : (kind : CaseKind) (d : Bool) (es : List Expr) (xs : List Rule) (ts : List Kind)
+    → AreSome (λ x. IsLabel kind x) es
+    → accepts (arms kind d ∷ xs) (onto (between_commas spell_one_label es) (k.Symbol s.Colon ∷ ts))
+    ≡ accepts (stmt ∷ arms kind d ∷ xs) ts
 arm_read kind d es xs ts w =
     (let f = labels_front kind es (k.Symbol s.Colon ∷ ts) w in
     ap (λ us. accepts (arms kind d ∷ xs) us) f.same ∙ in_arms kind d f.head f.fine xs f.tail
@@ -395,10 +429,12 @@ arm_read kind d es xs ts w =
     ∙ labels_read kind es (arms kind d ∷ xs) ts w
 
 -- no `else` comes before an arm or behind the last one
-pub arms_leave : (kind : CaseKind) (x : Arms) (ts : List Kind) → AreArms kind x → Leaves otherwise (onto (spell_arms x) (k.Keyword word.Endcase ∷ ts))
+pub arms_leave : (kind : CaseKind) (x : Arms) (ts : List Kind) → AreArms kind x
+    → Leaves otherwise (onto (spell_arms x) (k.Keyword word.Endcase ∷ ts))
 arms_leave kind no_arms ts w = refl
 arms_leave kind (labels p es x xs) ts w =
-    (let f = labels_front kind es (k.Symbol s.Colon ∷ onto (spell x) (onto (spell_arms xs) (k.Keyword word.Endcase ∷ ts))) w.0 in
+    (let f = labels_front kind es (k.Symbol s.Colon
+    ∷ onto (spell x) (onto (spell_arms xs) (k.Keyword word.Endcase ∷ ts))) w.0 in
     subst (λ us. Leaves otherwise us) (sym f.same) (no_word_else f.head f.fine))
 arms_leave kind (default p colon x xs) ts w = refl
 
@@ -409,7 +445,8 @@ stmts_leave (more_stmts x xs) ts =
     subst (λ us. Leaves otherwise us) (sym f.same) (no_else f.head f.begins))
 
 assigned : (kind : AssignKind) (x : Expr) (xs : List Rule) (ts : List Kind) → expr_well.IsWellFormed x
-    → accepts (g.assign_sign ∷ xs) (k.Symbol (assign_sign kind) ∷ onto (expr.spell x) (k.Symbol s.Semicolon ∷ ts)) ≡ accepts xs ts
+    → accepts (g.assign_sign ∷ xs) (k.Symbol (assign_sign kind) ∷ onto (expr.spell x) (k.Symbol s.Semicolon ∷ ts))
+    ≡ accepts xs ts
 assigned a.Blocking x xs ts w = whole_read x (sign s.Semicolon ∷ xs) (k.Symbol s.Semicolon ∷ ts) w (refl, refl)
 assigned a.Nonblocking x xs ts w = whole_read x (sign s.Semicolon ∷ xs) (k.Symbol s.Semicolon ∷ ts) w (refl, refl)
 
@@ -420,10 +457,12 @@ no_bracket a.Nonblocking ts = refl
 -- a statement that begins with a target
 assign_read : (l : Lval) (xs : List Rule) (ts : List Kind) → lval_well.IsWellFormed l → Leaves selects ts
     → accepts (stmt ∷ xs) (onto (lval.spell l) ts) ≡ accepts (g.assign_sign ∷ xs) ts
-assign_read (named p text ss) xs ts w h = selects_read ss (g.assign_sign ∷ xs) ts w.1 ∙ leaves selects (g.assign_sign ∷ xs) ts h
+assign_read (named p text ss) xs ts w h =
+    selects_read ss (g.assign_sign ∷ xs) ts w.1 ∙ leaves selects (g.assign_sign ∷ xs) ts h
 assign_read (joined p no_lvals) xs ts w h = absurd w.0
 assign_read (joined p (more_lvals l ls)) xs ts w h =
-    target_read l (targets ∷ g.assign_sign ∷ xs) (onto (lval.spell_more ls) (k.Symbol s.CloseBrace ∷ ts)) w.1.0 (behind_target ls ts)
+    target_read l (targets ∷ g.assign_sign ∷ xs) (onto (lval.spell_more ls) (k.Symbol s.CloseBrace ∷ ts)) w.1.0
+    (behind_target ls ts)
     ∙ targets_read ls (g.assign_sign ∷ xs) ts w.1.1
 
 -- whether a default came already
@@ -455,12 +494,14 @@ block_read None (more_stmts x zs) xs ts =
     stands block (stmt ∷ stmts ∷ []) in_block xs _ f ∙ sym (stands stmts (stmt ∷ stmts ∷ []) in_stmts xs _ f))
 
 colon_read : (colon : Bool) (x : Stmt) (xs : List Rule) (ts : List Kind)
-    → accepts (behind_default ∷ xs) (onto (spell_colon colon) (onto (spell x) ts)) ≡ accepts (stmt ∷ xs) (onto (spell x) ts)
+    → accepts (behind_default ∷ xs) (onto (spell_colon colon) (onto (spell x) ts))
+    ≡ accepts (stmt ∷ xs) (onto (spell x) ts)
 colon_read true x xs ts = refl
 colon_read false x xs ts = stands behind_default (stmt ∷ []) in_default xs _ (stmt_front x ts)
 
 mutual
-  pub stmt_reads : (x : Stmt) (xs : List Rule) (ts : List Kind) → IsWellFormed x → (ends_open x ≡ true → Leaves otherwise ts)
+  pub stmt_reads : (x : Stmt) (xs : List Rule) (ts : List Kind) → IsWellFormed x
+      → (ends_open x ≡ true → Leaves otherwise ts)
       → accepts (stmt ∷ xs) (onto (spell x) ts) ≡ accepts xs ts
   stmt_reads (begin attrs p name x) xs ts w n =
       attributes_read stmt refl attrs xs _ w.0 ∙ block_read name x xs ts ∙ stmts_read x xs ts w.2
@@ -473,11 +514,16 @@ mutual
       ∙ stmt_reads y (otherwise ∷ xs) (k.Keyword word.Else ∷ onto (spell z) ts) w.3 (λ o. apart (sym w.2 ∙ o))
       ∙ stmt_reads z xs ts w.4 n
   stmt_reads (case attrs p kind x zs) xs ts w n =
-      attributes_read stmt refl attrs xs _ w.0 ∙ case_at kind xs (k.Symbol s.OpenParen ∷ onto (expr.spell x) (k.Symbol s.CloseParen ∷ onto (spell_arms zs) (k.Keyword word.Endcase ∷ ts)))
+      attributes_read stmt refl attrs xs _ w.0
+      ∙ case_at kind xs (k.Symbol s.OpenParen ∷ onto (expr.spell x)
+      (k.Symbol s.CloseParen ∷ onto (spell_arms zs) (k.Keyword word.Endcase ∷ ts)))
       ∙ parens_read x (first_arm kind ∷ xs) (onto (spell_arms zs) (k.Keyword word.Endcase ∷ ts)) w.1
-      ∙ as_first kind zs xs (k.Keyword word.Endcase ∷ ts) w.4 w.2 ∙ arms_read zs kind false xs ts w.4 (omega (arith, w.3))
+      ∙ as_first kind zs xs (k.Keyword word.Endcase ∷ ts) w.4 w.2
+      ∙ arms_read zs kind false xs ts w.4 (omega (arith, w.3))
   stmt_reads (assign attrs p l kind x) xs ts w n =
-      attributes_read stmt refl attrs xs _ w.0 ∙ assign_read l xs _ w.1 (no_bracket kind (onto (expr.spell x) (k.Symbol s.Semicolon ∷ ts))) ∙ assigned kind x xs ts w.2
+      attributes_read stmt refl attrs xs _ w.0
+      ∙ assign_read l xs _ w.1 (no_bracket kind (onto (expr.spell x) (k.Symbol s.Semicolon ∷ ts)))
+      ∙ assigned kind x xs ts w.2
   stmt_reads (assume attrs p x) xs ts w n =
       attributes_read stmt refl attrs xs _ w.0 ∙ parens_read x (sign s.Semicolon ∷ xs) (k.Symbol s.Semicolon ∷ ts) w.1
   stmt_reads (empty attrs p) xs ts w n = attributes_read stmt refl attrs xs _ w
@@ -490,15 +536,18 @@ mutual
       ∙ stmt_reads x (stmts ∷ xs) (onto (spell_all zs) (k.Keyword word.End ∷ ts)) w.0 (λ o. stmts_leave zs ts)
       ∙ stmts_read zs xs ts w.1
 
-  arms_read : (x : Arms) (kind : CaseKind) (d : Bool) (xs : List Rule) (ts : List Kind) → AreArms kind x → default_count x + seen d ≤ 1
+  arms_read : (x : Arms) (kind : CaseKind) (d : Bool) (xs : List Rule) (ts : List Kind) → AreArms kind x
+      → default_count x + seen d ≤ 1
       → accepts (arms kind d ∷ xs) (onto (spell_arms x) (k.Keyword word.Endcase ∷ ts)) ≡ accepts xs ts
   arms_read no_arms kind d xs ts w h = refl
   arms_read (labels p es x zs) kind d xs ts w h =
       arm_read kind d es xs (onto (spell x) (onto (spell_arms zs) (k.Keyword word.Endcase ∷ ts))) w.0
-      ∙ stmt_reads x (arms kind d ∷ xs) (onto (spell_arms zs) (k.Keyword word.Endcase ∷ ts)) w.1 (λ o. arms_leave kind zs ts w.2)
+      ∙ stmt_reads x (arms kind d ∷ xs) (onto (spell_arms zs) (k.Keyword word.Endcase ∷ ts)) w.1
+      (λ o. arms_leave kind zs ts w.2)
       ∙ arms_read zs kind d xs ts w.2 h
   arms_read (default p colon x zs) kind true xs ts w h = absurd (omega (arith, h))
   arms_read (default p colon x zs) kind false xs ts w h =
       colon_read colon x (arms kind true ∷ xs) (onto (spell_arms zs) (k.Keyword word.Endcase ∷ ts))
-      ∙ stmt_reads x (arms kind true ∷ xs) (onto (spell_arms zs) (k.Keyword word.Endcase ∷ ts)) w.0 (λ o. arms_leave kind zs ts w.1)
+      ∙ stmt_reads x (arms kind true ∷ xs) (onto (spell_arms zs) (k.Keyword word.Endcase ∷ ts)) w.0
+      (λ o. arms_leave kind zs ts w.1)
       ∙ arms_read zs kind true xs ts w.1 (omega (arith, h))

@@ -119,7 +119,8 @@ fit_this_name wanted (k.Name text) = fit_if (bytes_eq text wanted) 0
 fit_this_name wanted t = tt
 
 -- behind an operand
-pub fit_more_only : (stand : Stand) (colons opened n : ℕ) → Fit (take n ((more stand colons opened, 0) ∷ [])) (follow_expr stand)
+pub fit_more_only : (stand : Stand) (colons opened n : ℕ)
+    → Fit (take n ((more stand colons opened, 0) ∷ [])) (follow_expr stand)
 fit_more_only plain colons opened n = refl
 fit_more_only first_in_braces colons opened n = refl
 
@@ -130,20 +131,24 @@ fit_name_operand plain (suc colons) opened = refl
 fit_name_operand first_in_braces zero opened = refl
 fit_name_operand first_in_braces (suc colons) opened = refl
 
-pub fit_operand_only : (stand : Stand) (colons opened n : ℕ) → Fit (take n ((operand stand colons opened, 0) ∷ [])) (follow_expr stand)
+pub fit_operand_only : (stand : Stand) (colons opened n : ℕ)
+    → Fit (take n ((operand stand colons opened, 0) ∷ [])) (follow_expr stand)
 fit_operand_only plain colons opened n = refl
 fit_operand_only first_in_braces colons opened n = refl
 
-pub fit_cast : (stand : Stand) (colons opened : ℕ) (o : Option Cast) → Fit (g.on_cast stand colons opened o) (follow_expr stand)
+pub fit_cast : (stand : Stand) (colons opened : ℕ) (o : Option Cast)
+    → Fit (g.on_cast stand colons opened o) (follow_expr stand)
 fit_cast plain colons opened (Some cast) = refl
 fit_cast first_in_braces colons opened (Some cast) = refl
 fit_cast stand colons opened None = tt
 
-pub fit_unary : (stand : Stand) (colons opened : ℕ) (o : Option UnaryOperator) → Fit (g.on_unary stand colons opened o) (follow_expr stand)
+pub fit_unary : (stand : Stand) (colons opened : ℕ) (o : Option UnaryOperator)
+    → Fit (g.on_unary stand colons opened o) (follow_expr stand)
 fit_unary stand colons opened (Some op) = fit_operand_only stand colons (suc opened) (suc opened)
 fit_unary stand colons opened None = tt
 
-pub fit_operand_sign : (stand : Stand) (colons opened : ℕ) (x : Symbol) → Fit (g.on_operand_sign stand colons opened x) (follow_expr stand)
+pub fit_operand_sign : (stand : Stand) (colons opened : ℕ) (x : Symbol)
+    → Fit (g.on_operand_sign stand colons opened x) (follow_expr stand)
 fit_operand_sign plain colons opened s.OpenParen = refl
 fit_operand_sign first_in_braces colons opened s.OpenParen = refl
 fit_operand_sign plain colons opened s.OpenBrace = refl
@@ -154,9 +159,11 @@ pub fit_known : (b : Bool) (m : Moves) (c : ℕ) → Fit m c → Fit (g.if_known
 fit_known true m c h = h
 fit_known false m c h = tt
 
-pub fit_operand : (stand : Stand) (colons opened : ℕ) (t : Kind) → Fit (g.on_operand stand colons opened t) (follow_expr stand)
+pub fit_operand : (stand : Stand) (colons opened : ℕ) (t : Kind)
+    → Fit (g.on_operand stand colons opened t) (follow_expr stand)
 fit_operand stand colons opened (k.Number n) =
-    fit_known (g.is_known n) (take 0 ((more stand colons opened, 0) ∷ [])) (follow_expr stand) (fit_more_only stand colons opened 0)
+    fit_known (g.is_known n) (take 0 ((more stand colons opened, 0) ∷ [])) (follow_expr stand)
+    (fit_more_only stand colons opened 0)
 fit_operand stand colons opened (k.Name text) = fit_name_operand stand colons opened
 fit_operand stand colons opened (k.System text) = fit_cast stand colons opened (cast_of text)
 fit_operand stand colons opened (k.Symbol x) = fit_operand_sign stand colons opened x
@@ -169,7 +176,8 @@ fit_end first_in_braces opened s.CloseBrace = refl
 fit_end first_in_braces opened s.OpenBrace = refl
 fit_end first_in_braces opened x = tt
 
-pub fit_no_operator : (stand : Stand) (colons opened : ℕ) (x : Symbol) → Fit (g.on_no_operator stand colons opened x) (follow_expr stand)
+pub fit_no_operator : (stand : Stand) (colons opened : ℕ) (x : Symbol)
+    → Fit (g.on_no_operator stand colons opened x) (follow_expr stand)
 fit_no_operator stand colons opened s.Question = fit_operand_only stand (suc colons) (suc opened) (suc opened)
 fit_no_operator stand (suc colons) opened s.Colon = fit_operand_only stand colons opened 0
 fit_no_operator stand (suc colons) opened x = tt
@@ -180,7 +188,8 @@ pub fit_binary : (stand : Stand) (colons opened : ℕ) (x : Symbol) (o : Option 
 fit_binary stand colons opened x (Some op) = fit_operand_only stand colons (suc opened) (suc opened)
 fit_binary stand colons opened x None = fit_no_operator stand colons opened x
 
-pub fit_more : (stand : Stand) (colons opened : ℕ) (t : Kind) → Fit (g.on_more stand colons opened t) (follow_expr stand)
+pub fit_more : (stand : Stand) (colons opened : ℕ) (t : Kind)
+    → Fit (g.on_more stand colons opened t) (follow_expr stand)
 fit_more stand colons opened (k.Symbol x) = fit_binary stand colons opened x (binary_of x)
 fit_more plain zero opened t = tt
 fit_more plain (suc colons) opened t = tt

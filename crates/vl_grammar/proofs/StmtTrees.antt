@@ -1,5 +1,6 @@
 -- What the machine reads as a statement is spelled by a well formed tree; an `else` goes to the nearest `if`.
-use Rattle.std.proofs.Common.{◌≡◌, ℕ, zero, suc, ◌+◌, ◌≤◌, Bool, true, false, ◌==◌, List, [], ◌∷◌, ◌++◌, Option, Some, None, refl, sym, ap, ◌∙◌, subst, arith, eqb-true}
+use Rattle.std.proofs.Common.{◌≡◌, ℕ, zero, suc, ◌+◌, ◌≤◌, Bool, true, false, ◌==◌, List, [], ◌∷◌, ◌++◌, Option, Some}
+use Rattle.std.proofs.Common.{None, refl, sym, ap, ◌∙◌, subst, arith, eqb-true}
 use Rattle.std.specs.Prelude.{All}
 use Rattle.std.proofs.lemmas.List.Elements.{All-cons, All-nil}
 use Rattle.fv_base.specs.declared.keyword.Keyword.TheVariants as word
@@ -24,9 +25,12 @@ use Rattle.vl_tree.specs.LvalSpelling as lval
 use Rattle.vl_tree.specs.LvalWellFormed as lval_well
 use Rattle.vl_tree.specs.Phrase.{with_commas}
 use Rattle.vl_tree.specs.Stmt as tree
-use Rattle.vl_tree.specs.Stmt.{Stmt, Stmts, Arms, begin, if_only, if_else, case, assign, assume, empty, no_stmts, more_stmts}
-use Rattle.vl_tree.specs.StmtSpelling.{spell, spell_all, spell_arms, spell_label, spell_one_label, spell_colon, assign_sign, case_word}
-use Rattle.vl_tree.specs.StmtWellFormed.{IsWellFormed, AreWellFormed, AreArms, AreArmsSome, IsLabel, IsOptionalName, ends_open, default_count}
+use Rattle.vl_tree.specs.Stmt.{Stmt, Stmts, Arms, begin, if_only, if_else, case, assign, assume, empty, no_stmts}
+use Rattle.vl_tree.specs.Stmt.{more_stmts}
+use Rattle.vl_tree.specs.StmtSpelling.{spell, spell_all, spell_arms, spell_label, spell_one_label, spell_colon}
+use Rattle.vl_tree.specs.StmtSpelling.{assign_sign, case_word}
+use Rattle.vl_tree.specs.StmtWellFormed.{IsWellFormed, AreWellFormed, AreArms, AreArmsSome, IsLabel, IsOptionalName}
+use Rattle.vl_tree.specs.StmtWellFormed.{ends_open, default_count}
 use Rattle.vl_grammar.specs.Machine.{Row, take, pop, bad, symbols}
 use Rattle.vl_grammar.specs.Grammar as g
 use Rattle.vl_grammar.specs.Grammar.{
@@ -61,7 +65,8 @@ use Rattle.vl_grammar.proofs.StmtReads.{seen}
 use Rattle.vl_grammar.proofs.Spine.{nowhere}
 use Rattle.vl_grammar.proofs.TokenTrees.{Moved, sign_tree, name_tree}
 use Rattle.vl_grammar.proofs.ExprTrees.{expr_tree, selects_tree, parens_tree}
-use Rattle.vl_grammar.proofs.DeclarationTrees.{Turn, Split, many_split, last_of, attributed_tree, target_tree, targets_tree}
+use Rattle.vl_grammar.proofs.DeclarationTrees.{Turn, Split, many_split, last_of, attributed_tree, target_tree}
+use Rattle.vl_grammar.proofs.DeclarationTrees.{targets_tree}
 
 pub record FoundStmt (ts ks : List Kind) : Type 0 where
   pub tree : Stmt
@@ -83,7 +88,8 @@ record FoundBlock (ts ks : List Kind) : Type 0 where
 
 data Otherwise (ts ks : List Kind) : Type 0 where
   no_else : ts ≡ ks → Leaves otherwise ks → Otherwise ts ks
-  an_else : (x : Stmt) → ts ≡ k.Keyword word.Else ∷ onto (spell x) ks → IsWellFormed x → (ends_open x ≡ true → Leaves otherwise ks)
+  an_else : (x : Stmt) → ts ≡ k.Keyword word.Else ∷ onto (spell x) ks → IsWellFormed x
+      → (ends_open x ≡ true → Leaves otherwise ks)
       → Otherwise ts ks
 
 record FoundArms (kind : CaseKind) (d : Bool) (ts ks : List Kind) : Type 0 where
@@ -131,16 +137,19 @@ abbrev OtherwiseAt : ℕ → Type 0
 OtherwiseAt d = (ts rest : List Named) → Derives d otherwise ts rest → Otherwise (plain ts) (plain rest)
 
 abbrev ArmsAt : ℕ → Type 0
-ArmsAt d = (kind : CaseKind) (b : Bool) (ts rest : List Named) → Derives d (arms kind b) ts rest → FoundArms kind b (plain ts) (plain rest)
+ArmsAt d = (kind : CaseKind) (b : Bool) (ts rest : List Named) → Derives d (arms kind b) ts rest
+    → FoundArms kind b (plain ts) (plain rest)
 
 abbrev FirstAt : ℕ → Type 0
-FirstAt d = (kind : CaseKind) (ts rest : List Named) → Derives d (first_arm kind) ts rest → FirstArms kind (plain ts) (plain rest)
+FirstAt d = (kind : CaseKind) (ts rest : List Named) → Derives d (first_arm kind) ts rest
+    → FirstArms kind (plain ts) (plain rest)
 
 abbrev DefaultAt : ℕ → Type 0
 DefaultAt d = (ts rest : List Named) → Derives d behind_default ts rest → FoundDefault (plain ts) (plain rest)
 
 abbrev LabelsAt : ℕ → Type 0
-LabelsAt d = (kind : CaseKind) (ts rest : List Named) → Derives d (labels kind) ts rest → FoundLabels kind (plain ts) (plain rest)
+LabelsAt d = (kind : CaseKind) (ts rest : List Named) → Derives d (labels kind) ts rest
+    → FoundLabels kind (plain ts) (plain rest)
 
 -- attributes before a statement
 abbrev with_instance : AttributeInstance → Stmt → Stmt
@@ -152,7 +161,8 @@ with_instance i (assign attrs p l kind x) = assign (i ∷ attrs) p l kind x
 with_instance i (assume attrs p x) = assume (i ∷ attrs) p x
 with_instance i (empty attrs p) = empty (i ∷ attrs) p
 
-instance_spelled : (i : AttributeInstance) (x : Stmt) (ks : List Kind) → onto (spell_instance i) (onto (spell x) ks) ≡ onto (spell (with_instance i x)) ks
+instance_spelled : (i : AttributeInstance) (x : Stmt) (ks : List Kind)
+    → onto (spell_instance i) (onto (spell x) ks) ≡ onto (spell (with_instance i x)) ks
 instance_spelled i (begin attrs p name xs) ks = refl
 instance_spelled i (if_only attrs p x y) ks = refl
 instance_spelled i (if_else attrs p x y z) ks = refl
@@ -187,23 +197,28 @@ not_open true h = apart (h refl)
 not_open false h = refl
 
 -- an `if`, where what is behind its statement is known
-if_by : (d : ℕ) (ts m m2 rest : List Named) (x : Expr) (y : Stmt) → plain ts ≡ k.Symbol s.OpenParen ∷ onto (expr.spell x) (k.Symbol s.CloseParen ∷ plain m)
-    → expr_well.IsWellFormed x → plain m ≡ onto (spell y) (plain m2) → IsWellFormed y → (ends_open y ≡ true → Leaves otherwise (plain m2))
+if_by : (d : ℕ) (ts m m2 rest : List Named) (x : Expr) (y : Stmt)
+    → plain ts ≡ k.Symbol s.OpenParen ∷ onto (expr.spell x) (k.Symbol s.CloseParen ∷ plain m)
+    → expr_well.IsWellFormed x → plain m ≡ onto (spell y) (plain m2) → IsWellFormed y
+    → (ends_open y ≡ true → Leaves otherwise (plain m2))
     → Otherwise (plain m2) (plain rest) → FoundStmt (k.Keyword word.If ∷ plain ts) (plain rest)
 if_by d ts m m2 rest x y e w f v o (no_else i n) = record {
   tree = if_only [] nowhere x y;
-  same = ap (λ u. k.Keyword word.If ∷ u) (e ∙ ap (λ u. k.Symbol s.OpenParen ∷ onto (expr.spell x) (k.Symbol s.CloseParen ∷ u)) (f ∙ ap (onto (spell y)) i));
+  same = ap (λ u. k.Keyword word.If ∷ u) (e
+      ∙ ap (λ u. k.Symbol s.OpenParen ∷ onto (expr.spell x) (k.Symbol s.CloseParen ∷ u)) (f ∙ ap (onto (spell y)) i));
   formed = (no_attributes, w, v);
   closed = λ r. n;
 }
 if_by d ts m m2 rest x y e w f v o (an_else z i u n) = record {
   tree = if_else [] nowhere x y z;
-  same = ap (λ u. k.Keyword word.If ∷ u) (e ∙ ap (λ u. k.Symbol s.OpenParen ∷ onto (expr.spell x) (k.Symbol s.CloseParen ∷ u)) (f ∙ ap (onto (spell y)) i));
+  same = ap (λ u. k.Keyword word.If ∷ u) (e
+      ∙ ap (λ u. k.Symbol s.OpenParen ∷ onto (expr.spell x) (k.Symbol s.CloseParen ∷ u)) (f ∙ ap (onto (spell y)) i));
   formed = (no_attributes, w, not_open (ends_open y) (λ r. subst (λ us. Leaves otherwise us) i (o r)), v, u);
   closed = n;
 }
 
-case_by : (d : ℕ) → FirstAt d → (kind : CaseKind) (ts rest : List Named) → Turn d (g.in_parens ∷ first_arm kind ∷ []) ts rest
+case_by : (d : ℕ) → FirstAt d → (kind : CaseKind) (ts rest : List Named)
+    → Turn d (g.in_parens ∷ first_arm kind ∷ []) ts rest
     → FoundStmt (k.Keyword (case_word kind) ∷ plain ts) (plain rest)
 case_by d first kind ts rest (m, h, (m2, i, j)) =
     let x = parens_tree d ts m h in
@@ -218,7 +233,8 @@ case_by d first kind ts rest (m, h, (m2, i, j)) =
     }
 
 data Assigned (ts ks : List Kind) : Type 0 where
-  assigned : (kind : AssignKind) (x : Expr) → ts ≡ k.Symbol (assign_sign kind) ∷ onto (expr.spell x) (k.Symbol s.Semicolon ∷ ks)
+  assigned : (kind : AssignKind) (x : Expr)
+      → ts ≡ k.Symbol (assign_sign kind) ∷ onto (expr.spell x) (k.Symbol s.Semicolon ∷ ks)
       → expr_well.IsWellFormed x → Assigned ts ks
 
 in_assigned : (d : ℕ) (kind : AssignKind) (ts rest : List Named) → Turn d (g.expr ∷ sign s.Semicolon ∷ []) ts rest
@@ -227,7 +243,8 @@ in_assigned d kind ts rest (m, h, (m2, i, j)) =
     let x = expr_tree d ts m h in
     assigned kind x.tree
     (ap (λ u. k.Symbol (assign_sign kind) ∷ u)
-    (x.same ∙ ap (onto (expr.spell x.tree)) (sign_tree d s.Semicolon m m2 i ∙ ap (λ r. k.Symbol s.Semicolon ∷ plain r) j)))
+    (x.same ∙ ap (onto (expr.spell x.tree)) (sign_tree d s.Semicolon m m2 i
+    ∙ ap (λ r. k.Symbol s.Semicolon ∷ plain r) j)))
     x.formed
 
 assigned_tree : (d : ℕ) (ts rest : List Named) → Derives d g.assign_sign ts rest → Assigned (plain ts) (plain rest)
@@ -238,7 +255,8 @@ assigned_tree (suc d) [] rest h = apart h.0
 assigned_tree (suc d) ((k.Symbol y, w) ∷ ts) rest h = absurd h
 assigned_tree (suc d) (t ∷ ts) rest h = absurd h
 
-assign_by : (l : Lval) (ts us ks : List Kind) → ts ≡ onto (lval.spell l) us → lval_well.IsWellFormed l → Assigned us ks → FoundStmt ts ks
+assign_by : (l : Lval) (ts us ks : List Kind) → ts ≡ onto (lval.spell l) us → lval_well.IsWellFormed l
+    → Assigned us ks → FoundStmt ts ks
 assign_by l ts us ks e w (assigned kind x f v) = record {
   tree = assign [] nowhere l kind x;
   same = e ∙ ap (onto (lval.spell l)) f;
@@ -267,11 +285,13 @@ stmt_by d one blocks others first ((k.Symbol s.OpenBrace, w) ∷ ts) rest (m, h,
     let xs = targets_tree d m m2 i in
     subst (λ r. FoundStmt (k.Symbol s.OpenBrace ∷ plain ts) (plain r)) l
     (assign_by (joined nowhere (more_lvals x.tree xs.trees)) (k.Symbol s.OpenBrace ∷ plain ts) (plain m2) (plain m3)
-    (ap (λ u. k.Symbol s.OpenBrace ∷ u) (x.same ∙ ap (onto (lval.spell x.tree)) xs.same)) (tt, (x.formed, xs.formed)) (assigned_tree d m2 m3 j))
+    (ap (λ u. k.Symbol s.OpenBrace ∷ u) (x.same ∙ ap (onto (lval.spell x.tree)) xs.same)) (tt, (x.formed, xs.formed))
+    (assigned_tree d m2 m3 j))
 stmt_by d one blocks others first ((k.Name text, w) ∷ ts) rest (m, h, (m2, i, j)) =
     let ss = selects_tree d ts m h in
     subst (λ r. FoundStmt (k.Name text ∷ plain ts) (plain r)) j
-    (assign_by (named nowhere text ss.trees) (k.Name text ∷ plain ts) (plain m) (plain m2) (ap (λ u. k.Name text ∷ u) ss.same) (w, ss.formed)
+    (assign_by (named nowhere text ss.trees) (k.Name text ∷ plain ts) (plain m) (plain m2)
+    (ap (λ u. k.Name text ∷ u) ss.same) (w, ss.formed)
     (assigned_tree d m m2 i))
 stmt_by d one blocks others first ((k.Keyword word.Begin, w) ∷ ts) rest (m, h, j) =
     let b = blocks ts m h in
@@ -305,12 +325,17 @@ stmt_by d one blocks others first ((k.Keyword y, w) ∷ ts) rest h = absurd h
 stmt_by d one blocks others first (t ∷ ts) rest h = absurd h
 
 -- the list goes on with a statement
-one_more : (d : ℕ) → StmtAt (suc d) → StmtsAt d → (t : Named) (ts rest : List Named) → Split d stmts t ts rest (on_stmt t.0)
+one_more : (d : ℕ) → StmtAt (suc d) → StmtsAt d → (t : Named) (ts rest : List Named)
+    → Split d stmts t ts rest (on_stmt t.0)
     → FoundStmts (plain (t ∷ ts)) (plain rest)
 one_more d one all t ts rest f =
     let x = one (t ∷ ts) f.middle f.first in
     let xs = all f.middle rest f.others in
-    record { trees = more_stmts x.tree xs.trees; same = x.same ∙ ap (onto (spell x.tree)) xs.same; formed = (x.formed, xs.formed) }
+    record {
+      trees = more_stmts x.tree xs.trees;
+      same = x.same ∙ ap (onto (spell x.tree)) xs.same;
+      formed = (x.formed, xs.formed);
+    }
 
 stmts_by : (d : ℕ) → StmtAt (suc d) → StmtsAt d → StmtsAt (suc d)
 stmts_by d one all ((k.Keyword word.End, w) ∷ ts) rest h =
@@ -345,7 +370,8 @@ otherwise_by d one ((k.Keyword word.Else, w) ∷ ts) rest (m, h, j) =
     an_else x.tree (ap (λ u. k.Keyword word.Else ∷ u) (x.same ∙ ap (λ r. onto (spell x.tree) (plain r)) j)) x.formed
     (λ r. subst (λ us. Leaves otherwise (plain us)) j (x.closed r))
 otherwise_by d one [] rest h = no_else (ap plain (sym h.1)) (subst (λ us. Leaves otherwise (plain us)) (sym h.1) refl)
-otherwise_by d one ((k.Keyword y, w) ∷ ts) rest h = no_else (ap plain (sym h)) (subst (λ us. Leaves otherwise (plain us)) (sym h) refl)
+otherwise_by d one ((k.Keyword y, w) ∷ ts) rest h =
+    no_else (ap plain (sym h)) (subst (λ us. Leaves otherwise (plain us)) (sym h) refl)
 otherwise_by d one (t ∷ ts) rest h = no_else (ap plain (sym h)) (subst (λ us. Leaves otherwise (plain us)) (sym h) refl)
 
 default_by : (d : ℕ) → StmtAt d → StmtAt (suc d) → DefaultAt (suc d)
@@ -359,7 +385,8 @@ default_by d one same_level ((k.Symbol s.Colon, w) ∷ ts) rest (m, h, j) =
     }
 default_by d one same_level [] rest h = apart h.0
 default_by d one same_level ((k.Symbol y, w) ∷ ts) rest h =
-    (let x = same_level ((k.Symbol y, w) ∷ ts) rest h in record { colon = false; tree = x.tree; same = x.same; formed = x.formed })
+    (let x = same_level ((k.Symbol y, w) ∷ ts) rest h
+    in record { colon = false; tree = x.tree; same = x.same; formed = x.formed })
 default_by d one same_level (t ∷ ts) rest h =
     (let x = same_level (t ∷ ts) rest h in record { colon = false; tree = x.tree; same = x.same; formed = x.formed })
 
@@ -369,22 +396,26 @@ is_label c.Case x w = w
 is_label c.Casez (e.number p n) w = w.1
 is_label c.Casez x w = w
 
-by_expr : (d : ℕ) (kind : CaseKind) (ts rest : List Named) → Derives d g.expr ts rest → FoundLabel kind (plain ts) (plain rest)
+by_expr : (d : ℕ) (kind : CaseKind) (ts rest : List Named) → Derives d g.expr ts rest
+    → FoundLabel kind (plain ts) (plain rest)
 by_expr d kind ts rest h =
     (let x = expr_tree d ts rest h in record { tree = x.tree; same = x.same; formed = is_label kind x.tree x.formed })
 
-wild_by : (d : ℕ) (n : Number) (t : Named) (ts rest : List Named) (b : Bool) → (n.unknown == 0) ≡ b → Moved d t ts rest (if_known b (take 0 []))
+wild_by : (d : ℕ) (n : Number) (t : Named) (ts rest : List Named) (b : Bool) → (n.unknown == 0) ≡ b
+    → Moved d t ts rest (if_known b (take 0 []))
     → FoundLabel c.Casez (k.Number n ∷ plain ts) (plain rest)
 wild_by d n t ts rest true i h =
     record { tree = e.number nowhere n; same = ap (λ r. k.Number n ∷ plain r) h; formed = eqb-true n.unknown 0 i }
 wild_by d n t ts rest false i h = absurd h
 
-number_label : (d : ℕ) (n : Number) (w : _) (ts rest : List Named) (b : Bool) → Moved d (k.Number n, w) ts rest (on_casez_number b n)
+number_label : (d : ℕ) (n : Number) (w : _) (ts rest : List Named) (b : Bool)
+    → Moved d (k.Number n, w) ts rest (on_casez_number b n)
     → FoundLabel c.Casez (k.Number n ∷ plain ts) (plain rest)
 number_label d n w ts rest true h = by_expr (suc d) c.Casez ((k.Number n, w) ∷ ts) rest h
 number_label d n w ts rest false h = wild_by d n (k.Number n, w) ts rest (n.unknown == 0) refl h
 
-label_tree : (d : ℕ) (kind : CaseKind) (ts rest : List Named) → Derives d (label kind) ts rest → FoundLabel kind (plain ts) (plain rest)
+label_tree : (d : ℕ) (kind : CaseKind) (ts rest : List Named) → Derives d (label kind) ts rest
+    → FoundLabel kind (plain ts) (plain rest)
 label_tree zero kind ts rest h = absurd h
 label_tree (suc d) kind [] rest h = apart h.0
 label_tree (suc d) c.Case (t ∷ ts) rest h = by_expr (suc d) c.Case (t ∷ ts) rest h
@@ -438,7 +469,8 @@ in_arm d kind b (y ∷ row) us rest (m, h, j) =
     (let f = in_arm d kind b row m rest j in
     record { middle = f.middle; behind = f.behind; first = (m, h, f.first); second = f.second; others = f.others })
 
-arm_split : (d : ℕ) (kind : CaseKind) (b : Bool) (t : Named) (ts rest : List Named) (m : Moves) → Moved d t ts rest (arm_with kind b m)
+arm_split : (d : ℕ) (kind : CaseKind) (b : Bool) (t : Named) (ts rest : List Named) (m : Moves)
+    → Moved d t ts rest (arm_with kind b m)
     → ArmSplit d kind b t ts rest m
 arm_split d kind b t ts rest (take opened row) h =
     (let f = in_arm d kind b row ts rest h in
@@ -463,9 +495,11 @@ label_arm d labelled all kind b t ts rest f =
     record {
       trees = tree.labels nowhere (x.tree ∷ xs.others) xs.tree others.trees;
       same = x.same ∙ ap (onto (expr.spell x.tree))
-          (xs.same ∙ ap (λ u. onto (with_commas spell_one_label xs.others) (k.Symbol s.Colon ∷ onto (spell xs.tree) u)) others.same);
+          (xs.same ∙ ap (λ u. onto (with_commas spell_one_label xs.others)
+          (k.Symbol s.Colon ∷ onto (spell xs.tree) u)) others.same);
       some = tt;
-      formed = ((omega arith, All-cons (λ y. IsLabel kind y) x.tree xs.others x.formed xs.fine), xs.formed, others.formed);
+      formed =
+          ((omega arith, All-cons (λ y. IsLabel kind y) x.tree xs.others x.formed xs.fine), xs.formed, others.formed);
       few = others.few;
     }
 
@@ -476,7 +510,8 @@ arm_by d defaults labelled all kind false (k.Keyword word.Default, w) ts rest (m
     let xs = all kind true m rest (last_of d (arms kind true) m rest others) in
     record {
       trees = tree.default nowhere x.colon x.tree xs.trees;
-      same = ap (λ u. k.Keyword word.Default ∷ u) (x.same ∙ ap (λ u. onto (spell_colon x.colon) (onto (spell x.tree) u)) xs.same);
+      same = ap (λ u. k.Keyword word.Default ∷ u)
+          (x.same ∙ ap (λ u. onto (spell_colon x.colon) (onto (spell x.tree) u)) xs.same);
       some = tt;
       formed = (x.formed, xs.formed);
       few = omega (arith, xs.few);
@@ -501,7 +536,8 @@ arms_by d defaults labelled all kind b ((k.Keyword word.Endcase, w) ∷ ts) rest
 }
 arms_by d defaults labelled all kind b [] rest h = apart h.0
 arms_by d defaults labelled all kind b ((k.Keyword y, w) ∷ ts) rest h =
-    as_arms kind b (plain ((k.Keyword y, w) ∷ ts)) (plain rest) (arm_by d defaults labelled all kind b (k.Keyword y, w) ts rest h)
+    as_arms kind b (plain ((k.Keyword y, w) ∷ ts)) (plain rest)
+    (arm_by d defaults labelled all kind b (k.Keyword y, w) ts rest h)
 arms_by d defaults labelled all kind b (t ∷ ts) rest h =
     as_arms kind b (plain (t ∷ ts)) (plain rest) (arm_by d defaults labelled all kind b t ts rest h)
 
@@ -524,7 +560,8 @@ mutual
   block_tree : (d : ℕ) → BlockAt d
   block_tree zero ts rest h = absurd h
   block_tree (suc d) ts rest h =
-      block_by d (stmts_tree d) (stmts_by d (stmt_by d (stmt_tree d) (block_tree d) (otherwise_tree d) (first_tree d)) (stmts_tree d)) ts rest h
+      block_by d (stmts_tree d) (stmts_by d (stmt_by d (stmt_tree d) (block_tree d) (otherwise_tree d)
+      (first_tree d)) (stmts_tree d)) ts rest h
 
   otherwise_tree : (d : ℕ) → OtherwiseAt d
   otherwise_tree zero ts rest h = absurd h

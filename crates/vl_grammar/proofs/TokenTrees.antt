@@ -1,5 +1,6 @@
 -- What single tokens are that the machine takes.
-use Rattle.std.proofs.Common.{◌≡◌, ℕ, zero, suc, Bool, true, false, ◌==◌, List, [], ◌∷◌, Option, Some, None, refl, sym, ap, ◌∙◌, eqb-true}
+use Rattle.std.proofs.Common.{◌≡◌, ℕ, zero, suc, Bool, true, false, ◌==◌, List, [], ◌∷◌, Option, Some, None, refl}
+use Rattle.std.proofs.Common.{sym, ap, ◌∙◌, eqb-true}
 use Rattle.std.specs.Prelude.{get_or, bytes_eq}
 use Rattle.std.proofs.lemmas.Slice.Eq.{bytes_eq-Decides}
 use Rattle.fv_base.specs.declared.kind.Kind.TheVariants as k
@@ -40,10 +41,14 @@ binary_same x op e = sym (binary_back x) ∙ ap (λ o. elim o as (λ _. Symbol) 
 
 -- all signs, in order
 abbrev signs : List Symbol
-signs = s.OpenParen ∷ s.CloseParen ∷ s.OpenBracket ∷ s.CloseBracket ∷ s.OpenBrace ∷ s.CloseBrace ∷ s.OpenAttribute ∷ s.CloseAttribute
-    ∷ s.Semicolon ∷ s.Colon ∷ s.Comma ∷ s.Dot ∷ s.Hash ∷ s.At ∷ s.Equal ∷ s.Question ∷ s.Plus ∷ s.Minus ∷ s.Star ∷ s.Slash ∷ s.Percent
-    ∷ s.StarStar ∷ s.Bang ∷ s.Tilde ∷ s.And ∷ s.Or ∷ s.Caret ∷ s.TildeAnd ∷ s.TildeOr ∷ s.TildeCaret ∷ s.CaretTilde ∷ s.AndAnd ∷ s.OrOr
-    ∷ s.Less ∷ s.LessEqual ∷ s.Greater ∷ s.GreaterEqual ∷ s.EqualEqual ∷ s.BangEqual ∷ s.EqualEqualEqual ∷ s.BangEqualEqual ∷ s.LessLess
+signs = s.OpenParen ∷ s.CloseParen ∷ s.OpenBracket ∷ s.CloseBracket ∷ s.OpenBrace ∷ s.CloseBrace ∷ s.OpenAttribute
+    ∷ s.CloseAttribute
+    ∷ s.Semicolon ∷ s.Colon ∷ s.Comma ∷ s.Dot ∷ s.Hash ∷ s.At ∷ s.Equal ∷ s.Question ∷ s.Plus ∷ s.Minus ∷ s.Star
+    ∷ s.Slash ∷ s.Percent
+    ∷ s.StarStar ∷ s.Bang ∷ s.Tilde ∷ s.And ∷ s.Or ∷ s.Caret ∷ s.TildeAnd ∷ s.TildeOr ∷ s.TildeCaret ∷ s.CaretTilde
+    ∷ s.AndAnd ∷ s.OrOr
+    ∷ s.Less ∷ s.LessEqual ∷ s.Greater ∷ s.GreaterEqual ∷ s.EqualEqual ∷ s.BangEqual ∷ s.EqualEqualEqual
+    ∷ s.BangEqualEqual ∷ s.LessLess
     ∷ s.GreaterGreater ∷ s.LessLessLess ∷ s.GreaterGreaterGreater ∷ s.PlusColon ∷ s.MinusColon ∷ []
 
 sign_back : (x : Symbol) → get_or signs (place x) s.OpenParen ≡ x
@@ -52,7 +57,8 @@ sign_back x = refl
 
 -- signs are compared rightly
 pub sign_same : (x y : Symbol) → same_sign x y ≡ true → x ≡ y
-sign_same x y h = sym (sign_back x) ∙ ap (λ n. get_or signs n s.OpenParen) (eqb-true (place x) (place y) h) ∙ sign_back y
+sign_same x y h =
+    sym (sign_back x) ∙ ap (λ n. get_or signs n s.OpenParen) (eqb-true (place x) (place y) h) ∙ sign_back y
 
 pub cast_text : (text : List ℕ) (to : Cast) → cast_of text ≡ Some to → text ≡ cast_name to
 cast_text text to e = by_signed (bytes_eq text (cast_name c.Signed)) (bytes_eq text (cast_name c.Unsigned)) refl refl e
@@ -66,18 +72,21 @@ cast_text text to e = by_signed (bytes_eq text (cast_name c.Signed)) (bytes_eq t
     by_signed : (x y : Bool) → bytes_eq text (cast_name c.Signed) ≡ x → bytes_eq text (cast_name c.Unsigned) ≡ y
         → cast_unless (cast_unless None y c.Unsigned) x c.Signed ≡ Some to → text ≡ cast_name to
     by_signed true y h i e = (bytes_eq-Decides text (cast_name c.Signed)).0 h ∙ ap cast_name (some_same c.Signed to e)
-    by_signed false true h i e = (bytes_eq-Decides text (cast_name c.Unsigned)).0 i ∙ ap cast_name (some_same c.Unsigned to e)
+    by_signed false true h i e =
+        (bytes_eq-Decides text (cast_name c.Unsigned)).0 i ∙ ap cast_name (some_same c.Unsigned to e)
     by_signed false false h i e = absurd (none_some to e)
 
 pub known_number : (n : Number) → is_known n ≡ true → IsKnown n
 known_number n h =
     (let (e, f) = both (n.wild == 0) (n.unknown == 0) h in (eqb-true n.wild 0 e, eqb-true n.unknown 0 f))
 
-if_taken : (d : ℕ) (t : Named) (ts rest : List Named) (b : Bool) → Moved d t ts rest (take_if b) → (b ≡ true) × (ts ≡ rest)
+if_taken : (d : ℕ) (t : Named) (ts rest : List Named) (b : Bool) → Moved d t ts rest (take_if b) → (b ≡ true)
+    × (ts ≡ rest)
 if_taken d t ts rest true h = (refl, h)
 if_taken d t ts rest false h = absurd h
 
-pub sign_tree : (d : ℕ) (x : Symbol) (ts rest : List Named) → Derives d (sign x) ts rest → plain ts ≡ k.Symbol x ∷ plain rest
+pub sign_tree : (d : ℕ) (x : Symbol) (ts rest : List Named) → Derives d (sign x) ts rest
+    → plain ts ≡ k.Symbol x ∷ plain rest
 sign_tree zero x ts rest h = absurd h
 sign_tree (suc d) x [] rest h = apart h.0
 sign_tree (suc d) x ((k.Symbol y, n) ∷ ts) rest h =
@@ -98,7 +107,8 @@ name_tree (suc d) ((k.Name text, n) ∷ ts) rest h =
 name_tree (suc d) (t ∷ ts) rest h = absurd h
 
 -- the name that has to come again
-pub again_tree : (d : ℕ) (text : List ℕ) (ts rest : List Named) → Derives d (this_name text) ts rest → plain ts ≡ k.Name text ∷ plain rest
+pub again_tree : (d : ℕ) (text : List ℕ) (ts rest : List Named) → Derives d (this_name text) ts rest
+    → plain ts ≡ k.Name text ∷ plain rest
 again_tree zero text ts rest h = absurd h
 again_tree (suc d) text [] rest h = apart h.0
 again_tree (suc d) text ((k.Name other, n) ∷ ts) rest h =
@@ -110,6 +120,7 @@ pub parameter_word_tree : (d : ℕ) (ts rest : List Named) → Derives d the_par
     → plain ts ≡ k.Keyword word.Parameter ∷ plain rest
 parameter_word_tree zero ts rest h = absurd h
 parameter_word_tree (suc d) [] rest h = apart h.0
-parameter_word_tree (suc d) ((k.Keyword word.Parameter, n) ∷ ts) rest h = ap (λ us. k.Keyword word.Parameter ∷ plain us) h
+parameter_word_tree (suc d) ((k.Keyword word.Parameter, n) ∷ ts) rest h =
+    ap (λ us. k.Keyword word.Parameter ∷ plain us) h
 parameter_word_tree (suc d) ((k.Keyword x, n) ∷ ts) rest h = absurd h
 parameter_word_tree (suc d) (t ∷ ts) rest h = absurd h

@@ -1,5 +1,6 @@
 -- Where a run stops for a construct too many, 257 constructs of a text are open for the first time.
-use Rattle.std.proofs.Common.{◌≡◌, ℕ, suc, ◌+◌, ◌≤◌, List, [], ◌∷◌, ◌++◌, length, Option, Some, None, refl, sym, ap, ◌∙◌, subst, arith}
+use Rattle.std.proofs.Common.{◌≡◌, ℕ, suc, ◌+◌, ◌≤◌, List, [], ◌∷◌, ◌++◌, length, Option, Some, None, refl, sym, ap}
+use Rattle.std.proofs.Common.{◌∙◌, subst, arith}
 use Rattle.std.specs.Prelude.{Ok, Err}
 use Rattle.std.proofs.lemmas.List.{length-append}
 use Rattle.fv_base.specs.declared.kind.Kind.{Kind}
@@ -21,7 +22,8 @@ use Rattle.vl_grammar.proofs.Depth.{by_first}
 use Rattle.vl_grammar.proofs.FirstFault.{right}
 
 -- a text is read, or cut off where 257 constructs are open
-pub text_run : (tree : Source) → IsSource tree → grammar.run (kinds (spell_source tree)) ≡ unless_too_deep (too_deep_at tree)
+pub text_run : (tree : Source) → IsSource tree
+    → grammar.run (kinds (spell_source tree)) ≡ unless_too_deep (too_deep_at tree)
 text_run tree w =
     ap grammar.run (sym (onto_kinds (spell_source tree) [] ∙ all_of (kinds (spell_source tree))))
     ∙ source_runs tree 256 w ∙ by_first (spell_source tree) 256
@@ -48,7 +50,8 @@ bound xs ts l h =
   where
     by_stop : runs.TooDeep expand ends (machine.symbols xs) ts l → l ≤ length ts
     by_stop w =
-        (let e : length ts ≡ length w.before + suc (length w.behind) = ap length w.same ∙ length-append w.before (w.token ∷ w.behind) in
+        (let e : length ts ≡ length w.before + suc (length w.behind) = ap length w.same
+        ∙ length-append w.before (w.token ∷ w.behind) in
         omega (arith, e, w.long))
 
 abbrev on : Stepped Rule → List Kind → Ran
@@ -61,10 +64,12 @@ on found ts = elim found as (λ _. Ran) [
 
 -- what is behind the token at which a run is cut off does not matter
 pub same_stop : (xs : Row Rule) (before : List Kind) (t : Kind) (behind other : List Kind)
-    → run xs (before ++ t ∷ behind) ≡ Err (deep (suc (length behind))) → run xs (before ++ t ∷ other) ≡ Err (deep (suc (length other)))
+    → run xs (before ++ t ∷ behind) ≡ Err (deep (suc (length behind)))
+    → run xs (before ++ t ∷ other) ≡ Err (deep (suc (length other)))
 same_stop xs [] t behind other h = by_step (step expand xs t) h
   where
-    by_step : (found : Stepped Rule) → on found behind ≡ Err (deep (suc (length behind))) → on found other ≡ Err (deep (suc (length other)))
+    by_step : (found : Stepped Rule) → on found behind ≡ Err (deep (suc (length behind)))
+        → on found other ≡ Err (deep (suc (length other)))
     by_step stuck h = clash _ _ h
     by_step emptied h = clash _ _ h
     by_step over h = refl
@@ -72,7 +77,8 @@ same_stop xs [] t behind other h = by_step (step expand xs t) h
 same_stop xs (u ∷ us) t behind other h = by_step (step expand xs u) h (λ j. same_stop j us t behind other)
   where
     by_step : (found : Stepped Rule) → on found (us ++ t ∷ behind) ≡ Err (deep (suc (length behind)))
-        → ((j : Row Rule) → run j (us ++ t ∷ behind) ≡ Err (deep (suc (length behind))) → run j (us ++ t ∷ other) ≡ Err (deep (suc (length other))))
+        → ((j : Row Rule) → run j (us ++ t ∷ behind) ≡ Err (deep (suc (length behind)))
+        → run j (us ++ t ∷ other) ≡ Err (deep (suc (length other))))
         → on found (us ++ t ∷ other) ≡ Err (deep (suc (length other)))
     by_step stuck h next = clash _ _ h
     by_step emptied h next = clash _ _ h
@@ -102,5 +108,6 @@ too_deep ts l h =
       rest = r.rest;
       spelled = x.spelled;
       first = first_of (too_deep_at x.tree) (suc (length r.rest))
-          (sym (text_run x.tree x.formed) ∙ ap grammar.run x.spelled ∙ same_stop start r.before r.token r.behind r.rest here);
+          (sym (text_run x.tree x.formed) ∙ ap grammar.run x.spelled
+          ∙ same_stop start r.before r.token r.behind r.rest here);
     }

@@ -1,5 +1,6 @@
 -- Each state that is reached can be brought to its end.
-use Rattle.std.proofs.Common.{◌≡◌, ℕ, zero, suc, Bool, true, false, ◌&&◌, List, [], ◌∷◌, ◌++◌, Option, Some, None, refl, sym, ap, ◌∙◌, subst, inl, inr}
+use Rattle.std.proofs.Common.{◌≡◌, ℕ, zero, suc, Bool, true, false, ◌&&◌, List, [], ◌∷◌, ◌++◌, Option, Some, None}
+use Rattle.std.proofs.Common.{refl, sym, ap, ◌∙◌, subst, inl, inr}
 use Rattle.std.specs.Prelude.{◌⊎◌}
 use Rattle.vl_grammar.proofs.Steps.{is_pop, apart}
 use Rattle.vl_grammar.specs.Machine.{Move, take, pop, bad, symbols, free_step, accepts, free_after}
@@ -16,7 +17,8 @@ upto (suc m) (suc n) = upto m n
 
 -- A word for each rule; how many of the rules that may be left out have to be left out at the token behind it, in their
 -- order; and which rules may come up at all.
-module _ {S T : Type 0} (expand : S → T → Move S) (ends : S → Bool) (word : S → List T) (follow : S → ℕ) (left_out : ℕ → S)
+module _ {S T : Type 0} (expand : S → T → Move S) (ends : S → Bool) (word : S → List T) (follow : S → ℕ)
+    (left_out : ℕ → S)
     (sound : S → Bool) where
   -- the tokens at which the first rules that may be left out are left out
   abbrev pub lets : ℕ → T → Bool

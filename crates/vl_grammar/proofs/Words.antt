@@ -173,7 +173,8 @@ word connection = mark s.Dot ∷ a ∷ mark s.OpenParen ∷ mark s.CloseParen �
 word more_connections = mark s.CloseParen ∷ []
 word connected = mark s.OpenParen ∷ mark s.CloseParen ∷ []
 word connected_value = mark s.CloseParen ∷ []
-word loop_head = mark s.OpenParen ∷ a ∷ mark s.Equal ∷ null ∷ mark s.Semicolon ∷ null ∷ mark s.Semicolon ∷ a ∷ mark s.Equal ∷ null
+word loop_head =
+    mark s.OpenParen ∷ a ∷ mark s.Equal ∷ null ∷ mark s.Semicolon ∷ null ∷ mark s.Semicolon ∷ a ∷ mark s.Equal ∷ null
     ∷ mark s.CloseParen ∷ []
 word loop_variable = a ∷ mark s.Equal ∷ null ∷ mark s.Semicolon ∷ null ∷ mark s.Semicolon ∷ a ∷ mark s.Equal ∷ null
     ∷ mark s.CloseParen ∷ []

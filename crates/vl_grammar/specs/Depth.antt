@@ -1,5 +1,6 @@
 -- Where too many constructs are open. Rule of this project: no more than 256 may be open at a token.
-use Rattle.std.specs.Prelude.{◌≡◌, ℕ, nat_le, List, [], ◌∷◌, ◌++◌, length, Option, Some, None, Result, Ok, Err, if◌then◌else◌}
+use Rattle.std.specs.Prelude.{◌≡◌, ℕ, nat_le, List, [], ◌∷◌, ◌++◌, length, Option, Some, None, Result, Ok, Err}
+use Rattle.std.specs.Prelude.{if◌then◌else◌}
 use Rattle.fv_base.specs.declared.kind.Kind.{Kind}
 use Rattle.vl_tree.specs.declared.source.Source.{Source}
 use Rattle.vl_tree.specs.ItemSpelling.{spell_source}
@@ -20,8 +21,8 @@ abbrev pub unless_too_deep : Option ℕ → Result (Unit {0}) Fault
 unless_too_deep None = Ok tt
 unless_too_deep (Some left) = Err (deep left)
 
--- The token with so many tokens from it on is right, and it is the first one at which 257 constructs are open: so it is in a
--- text that begins with the tokens up to it.
+-- The token with so many tokens from it on is right, and it is the first one at which 257 constructs are open: so it
+-- is in a text that begins with the tokens up to it.
 pub record IsTooDeep (ks : List Kind) (left : ℕ) : Type 0 where
   pub before : List Kind
   pub token : Kind

@@ -1,9 +1,11 @@
 -- The grammar of this project's subset of Verilog as rows: what each rule makes of the next token, alternative by
 -- alternative. IEEE 1364-2005, annex A, cut to the subset. The levels of operators are no part of it: an expression is
--- operands with operators between them. What a text is is defined by the spelling of trees (`ItemSpelling` and its parts,
+-- operands with operators between them. What a text is is defined by the spelling of trees (`ItemSpelling` and its
+-- parts,
 -- `Text.IsText`); these rows are another way to say it, in which texts are read, and the law
 -- `the_grammar_has_what_trees_spell` shows that they have the same texts.
-use Rattle.std.specs.Prelude.{ℕ, zero, suc, Bool, true, false, ◌&&◌, ◌==◌, List, [], ◌∷◌, ◌++◌, map, Result, Option, Some, None, bytes_eq}
+use Rattle.std.specs.Prelude.{ℕ, zero, suc, Bool, true, false, ◌&&◌, ◌==◌, List, [], ◌∷◌, ◌++◌, map, Result, Option}
+use Rattle.std.specs.Prelude.{Some, None, bytes_eq}
 use Rattle.fv_base.specs.declared.keyword.Keyword.{Keyword}
 use Rattle.fv_base.specs.declared.keyword.Keyword.TheVariants as w
 use Rattle.fv_base.specs.declared.kind.Kind.{Kind}
@@ -33,8 +35,8 @@ pub data Ending : Type 0 where
   endgenerate : Ending
   end : Ending
 
--- What may be still to come. Numbers: how many colons of conditionals are to come in these brackets, and how many operators
--- are open there.
+-- What may be still to come. Numbers: how many colons of conditionals are to come in these brackets, and how many
+-- operators are open there.
 pub data Rule : Type 0 where
   -- tokens
   sign : Symbol → Rule
@@ -347,7 +349,8 @@ inside (x ∷ xs) = (x.0, suc x.1) ∷ inside xs
 
 -- an arm is open from the first token of its first label
 abbrev pub arm_with : CaseKind → Bool → Moves → Moves
-arm_with kind has_default (take opened xs) = take (suc opened) (inside xs ++ (labels kind, 1) ∷ (arms kind has_default, 0) ∷ [])
+arm_with kind has_default (take opened xs) =
+    take (suc opened) (inside xs ++ (labels kind, 1) ∷ (arms kind has_default, 0) ∷ [])
 arm_with kind has_default pop = bad
 arm_with kind has_default bad = bad
 
@@ -482,7 +485,8 @@ on_loop_head t = bad
 
 -- both names in the head of a loop are equal
 abbrev pub behind_variable : List ℕ → List Rule
-behind_variable text = sign s.Equal ∷ expr ∷ sign s.Semicolon ∷ expr ∷ sign s.Semicolon ∷ this_name text ∷ sign s.Equal ∷ expr
+behind_variable text =
+    sign s.Equal ∷ expr ∷ sign s.Semicolon ∷ expr ∷ sign s.Semicolon ∷ this_name text ∷ sign s.Equal ∷ expr
     ∷ sign s.CloseParen ∷ []
 
 abbrev pub on_loop_variable : Kind → Moves
@@ -524,11 +528,13 @@ on_module_ports t = bad
 -- "(" "parameter" pdef {"," ["parameter"] pdef} ")"
 abbrev pub on_header_parameters : Kind → Moves
 on_header_parameters (k.Symbol s.OpenParen) =
-    take 1 ((the_parameter, 1) ∷ (shape, 1) ∷ (name, 1) ∷ (sign s.Equal, 1) ∷ (expr, 1) ∷ (more_header_parameters, 1) ∷ [])
+    take 1 ((the_parameter, 1) ∷ (shape, 1) ∷ (name, 1) ∷ (sign s.Equal, 1) ∷ (expr, 1) ∷ (more_header_parameters, 1)
+    ∷ [])
 on_header_parameters t = bad
 
 abbrev pub on_more_header_parameters : Kind → Moves
-on_more_header_parameters (k.Symbol s.Comma) = take 0 (row (optional_parameter ∷ parameter ++ more_header_parameters ∷ []))
+on_more_header_parameters (k.Symbol s.Comma) =
+    take 0 (row (optional_parameter ∷ parameter ++ more_header_parameters ∷ []))
 on_more_header_parameters (k.Symbol s.CloseParen) = take 0 []
 on_more_header_parameters t = bad
 

@@ -1,7 +1,7 @@
--- A grammar as a machine with a stack of symbols that are still to come, the next one first. A token either takes the place
--- of the next symbol by a row of symbols, or the symbol is left out, or the token is wrong. Each symbol on the stack has a
--- room, the number of constructs that may still open there. Rule of this project: a predictive parser with one token of
--- lookahead.
+-- A grammar as a machine with a stack of symbols that are still to come, the next one first. A token either takes the
+-- place of the next symbol by a row of symbols, or the symbol is left out, or the token is wrong. Each symbol on the
+-- stack has a room, the number of constructs that may still open there. Rule of this project: a predictive parser
+-- with one token of lookahead.
 use Rattle.std.specs.Prelude.{
   ◌≡◌,
   ℕ,
@@ -29,8 +29,8 @@ Row S = List (S × ℕ)
 
 -- what the next symbol makes of a token
 pub data Move (S : Type 0) : Type 0 where
-  -- so many constructs are open at the token beyond those around the symbol, where it opens one, and 0 where it opens none;
-  -- of these so many stay open around each symbol of the row
+  -- so many constructs are open at the token beyond those around the symbol, where it opens one, and 0 where it opens
+  -- none; of these so many stay open around each symbol of the row
   take : ℕ → Row S → Move S
   -- the symbol is left out before the token
   pop : Move S
@@ -74,7 +74,12 @@ module _ {S T : Type 0} (expand : S → T → Move S) where
   abbrev pub step : Row S → T → Stepped S
   step [] t = emptied
   step (x ∷ k) t =
-      elim (expand x.0 t) [ take opened row ↦ taken (fits opened x.1) (placed x.1 row k) | pop ↦ step k t | bad ↦ stuck ]
+      elim (expand x.0 t) [
+        | take opened row ↦ taken (fits opened x.1)
+            (placed x.1 row k)
+        | pop ↦ step k t
+        | bad ↦ stuck
+      ]
 
 -- all symbols may be left out at the end of the text
 abbrev pub all_end : {S : Type 0} → (S → Bool) → Row S → Bool

@@ -57,4 +57,5 @@ cast_unless other Bool.false cast = other
 -- the cast with this name, written without its `$`
 abbrev pub cast_of : List ℕ → Option Cast
 cast_of text =
-    cast_unless (cast_unless None (bytes_eq text (codes "unsigned")) c.Unsigned) (bytes_eq text (codes "signed")) c.Signed
+    cast_unless (cast_unless None (bytes_eq text (codes "unsigned")) c.Unsigned)
+    (bytes_eq text (codes "signed")) c.Signed

@@ -12,8 +12,8 @@ pub record IsText (ks : List Kind) : Type 0 where
   pub formed : IsSource tree
   pub spelled : kinds (spell_source tree) ≡ ks
 
--- The token with so many tokens from it on, or the end of the text where there are none, is the faulty one: no text has it
--- behind the tokens before it, and some text begins with these.
+-- The token with so many tokens from it on, or the end of the text where there are none, is the faulty one: no text
+-- has it behind the tokens before it, and some text begins with these.
 pub record IsFaulty (ks : List Kind) (left : ℕ) : Type 0 where
   pub before : List Kind
   pub behind : List Kind

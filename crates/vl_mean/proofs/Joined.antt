@@ -1,5 +1,6 @@
 -- Parts that are joined from the last one on.
-use Rattle.std.specs.Prelude.{◌≡◌, refl, ℕ, zero, suc, ◌+◌, ◌≤◌, ◌<◌, Bool, true, false, not, is_some, is_none, if◌then◌else◌, List, [], ◌∷◌, length, get_or, drop, Option, Some, None}
+use Rattle.std.specs.Prelude.{◌≡◌, refl, ℕ, zero, suc, ◌+◌, ◌≤◌, ◌<◌, Bool, true, false, not, is_some, is_none}
+use Rattle.std.specs.Prelude.{if◌then◌else◌, List, [], ◌∷◌, length, get_or, drop, Option, Some, None}
 use Rattle.std.proofs.Common.{ap, sym, ◌∙◌, true≢false, arith}
 use Rattle.vl_tree.specs.declared.expr.Select.{Select}
 use Rattle.vl_tree.specs.declared.expr.Select.TheVariants as s
@@ -11,24 +12,30 @@ use Rattle.vl_size.proofs.Rest.{part_depth}
 use Rattle.vl_size.proofs.Falls.{select_depth}
 use Rattle.vl_mean.specs.declared.const_number.Const.{Const}
 use Rattle.vl_mean.specs.ConstantFaults.{wide, wides, capped}
-use Rattle.vl_size.specs.Size.{◌>>=◌, Cells, within, size, sizes, value, operand, index_of, vector_value, word_value, word_at}
+use Rattle.vl_size.specs.Size.{◌>>=◌, Cells, within, size, sizes, value, operand, index_of, vector_value, word_value}
+use Rattle.vl_size.specs.Size.{word_at}
 
 -- where a part has no size, the whole has none
 bind_none : (o : Option ℕ) (f : ℕ → ℕ → Option ℕ) → (o >>= λ m. None >>= f m) ≡ None
 bind_none None f = refl
 bind_none (Some m) f = refl
 
-pub none_from : (ds : List Decl) (es : List Expr) (i : ℕ) → sizes ds (exprs (drop i es)) ≡ None → sizes ds (exprs es) ≡ None
+pub none_from : (ds : List Decl) (es : List Expr) (i : ℕ) → sizes ds (exprs (drop i es)) ≡ None
+    → sizes ds (exprs es) ≡ None
 none_from ds es zero h = h
 none_from ds [] (suc i) h = h
 none_from ds (e ∷ es) (suc i) h =
-    ap (λ o. size ds e >>= λ m. o >>= λ n. within (m + n)) (none_from ds es i h) ∙ bind_none (size ds e) (λ m n. within (m + n))
+    ap (λ o. size ds e >>= λ m. o >>= λ n. within (m + n)) (none_from ds es i h)
+    ∙ bind_none (size ds e) (λ m n. within (m + n))
 
-pub none_at : (ds : List Decl) (es rest : List Expr) (i : ℕ) (e : Expr) → drop i es ≡ e ∷ rest → size ds e ≡ None → sizes ds (exprs es) ≡ None
+pub none_at : (ds : List Decl) (es rest : List Expr) (i : ℕ) (e : Expr) → drop i es ≡ e ∷ rest → size ds e ≡ None
+    → sizes ds (exprs es) ≡ None
 none_at ds es rest i e front h =
-    none_from ds es i (ap (λ l. sizes ds (exprs l)) front ∙ ap (λ o. o >>= λ m. sizes ds (exprs rest) >>= λ n. within (m + n)) h)
+    none_from ds es i (ap (λ l. sizes ds (exprs l)) front
+    ∙ ap (λ o. o >>= λ m. sizes ds (exprs rest) >>= λ n. within (m + n)) h)
 
-pub sizes_at : (ds : List Decl) (es rest : List Expr) (i m n : ℕ) (o : Option ℕ) (e : Expr) → drop i es ≡ e ∷ rest → size ds e ≡ Some m
+pub sizes_at : (ds : List Decl) (es rest : List Expr) (i m n : ℕ) (o : Option ℕ) (e : Expr) → drop i es ≡ e ∷ rest
+    → size ds e ≡ Some m
     → sizes ds (exprs rest) ≡ Some n → within (m + n) ≡ o → sizes ds (exprs (drop i es)) ≡ o
 sizes_at ds es rest i m n o e front h k l =
     ap (λ l. sizes ds (exprs l)) front ∙ ap (λ o. o >>= λ m. sizes ds (exprs rest) >>= λ n. within (m + n)) h
@@ -55,7 +62,8 @@ pub three_values : (ds : List Decl) (v : Cells) (w : ℕ) (t : Bool) (d : Decl) 
     → word_value ds v w t d (selects ss) ≡ 0
 three_values ds v w t d [] h = absurd (omega arith)
 three_values ds v w t d (s.Bit p i ∷ ss) h =
-    two_values ds v w t d (word_at v d d.words (index_of (operand (size ds i.value) (sign ds i.value) (λ m t. value ds v m t i.value)))) ss (omega arith)
+    two_values ds v w t d (word_at v d d.words
+    (index_of (operand (size ds i.value) (sign ds i.value) (λ m t. value ds v m t i.value)))) ss (omega arith)
 three_values ds v w t d (s.Part p i j ∷ ss) h = refl
 three_values ds v w t d (s.Indexed p i j ∷ ss) h = refl
 
@@ -76,8 +84,11 @@ module _ (c : List ℕ → Option Const) (ds : List Decl) (v : Cells) where
   wides_from es zero h = h
   wides_from [] (suc i) h = h
   wides_from (e ∷ es) (suc i) h =
-      ap (λ o. wide c ds v e >>= λ m. o >>= λ n. Some (capped (m + n))) (wides_from es i h) ∙ bind_none (wide c ds v e) (λ m n. Some (capped (m + n)))
+      ap (λ o. wide c ds v e >>= λ m. o >>= λ n. Some (capped (m + n))) (wides_from es i h)
+      ∙ bind_none (wide c ds v e) (λ m n. Some (capped (m + n)))
 
-  pub wides_at : (es rest : List Expr) (i : ℕ) (e : Expr) → drop i es ≡ e ∷ rest → wide c ds v e ≡ None → wides c ds v (exprs es) ≡ None
+  pub wides_at : (es rest : List Expr) (i : ℕ) (e : Expr) → drop i es ≡ e ∷ rest → wide c ds v e ≡ None
+      → wides c ds v (exprs es) ≡ None
   wides_at es rest i e front h =
-      wides_from es i (ap (λ l. wides c ds v (exprs l)) front ∙ ap (λ o. o >>= λ m. wides c ds v (exprs rest) >>= λ n. Some (capped (m + n))) h)
+      wides_from es i (ap (λ l. wides c ds v (exprs l)) front
+      ∙ ap (λ o. o >>= λ m. wides c ds v (exprs rest) >>= λ n. Some (capped (m + n))) h)

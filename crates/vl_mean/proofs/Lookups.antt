@@ -11,13 +11,15 @@ use Rattle.vl_size.specs.Size.{or_none}
 
 pub bytes_eq-swap : (xs ys : List ℕ) → bytes_eq xs ys ≡ bytes_eq ys xs
 bytes_eq-swap xs ys =
-    same_from_decides (bytes_eq xs ys) (bytes_eq ys xs) (bytes_eq-Decides xs ys) (Decides-like (bytes_eq ys xs) (λ e. sym e) (λ e. sym e) (bytes_eq-Decides ys xs))
+    same_from_decides (bytes_eq xs ys) (bytes_eq ys xs) (bytes_eq-Decides xs ys)
+    (Decides-like (bytes_eq ys xs) (λ e. sym e) (λ e. sym e) (bytes_eq-Decides ys xs))
 
 once : {X : Type 0} (b : Bool) (x y z : X) → cond b x z ≡ cond b x (cond b y z)
 once true x y z = refl
 once false x y z = refl
 
-apart : {X : Type 0} (b c : Bool) (x y z : X) → (b ≡ true → c ≡ true → ⊥) → cond b y (cond c x z) ≡ cond c x (cond b y z)
+apart : {X : Type 0} (b c : Bool) (x y z : X) → (b ≡ true → c ≡ true → ⊥)
+    → cond b y (cond c x z) ≡ cond c x (cond b y z)
 apart true true x y z h = absurd (h refl refl)
 apart true false x y z h = refl
 apart false true x y z h = refl
@@ -26,28 +28,37 @@ apart false false x y z h = refl
 module _ {K X : Type 0} (bytes : K → List ℕ) (k : K) (v : X) (other : List ℕ) where
   -- what the map has at the bytes, once a value is put at a key
   pub lookup-insert_entry : (es : List (K × X)) →
-      lookup (λ q. bytes_eq other (bytes q)) (insert_entry (λ a b. bytes_eq (bytes a) (bytes b)) es k v) ≡ cond (bytes_eq (bytes k) other) (Some v) (lookup (λ q. bytes_eq other (bytes q)) es)
+      lookup (λ q. bytes_eq other (bytes q)) (insert_entry (λ a b. bytes_eq (bytes a) (bytes b)) es k v)
+      ≡ cond (bytes_eq (bytes k) other) (Some v) (lookup (λ q. bytes_eq other (bytes q)) es)
   lookup-insert_entry [] = ap (λ b. cond b (Some v) None) (bytes_eq-swap other (bytes k))
   lookup-insert_entry (e ∷ es) = by (bytes_eq (bytes k) (bytes e.0)) refl (lookup-insert_entry es)
     where
       by : (b : Bool) → bytes_eq (bytes k) (bytes e.0) ≡ b →
-          lookup (λ q. bytes_eq other (bytes q)) (insert_entry (λ a b. bytes_eq (bytes a) (bytes b)) es k v) ≡ cond (bytes_eq (bytes k) other) (Some v) (lookup (λ q. bytes_eq other (bytes q)) es) →
-          lookup (λ q. bytes_eq other (bytes q)) (cond b ((e.0, v) ∷ es) (e ∷ insert_entry (λ a b. bytes_eq (bytes a) (bytes b)) es k v))
-          ≡ cond (bytes_eq (bytes k) other) (Some v) (cond (bytes_eq other (bytes e.0)) (Some e.1) (lookup (λ q. bytes_eq other (bytes q)) es))
+          lookup (λ q. bytes_eq other (bytes q)) (insert_entry (λ a b. bytes_eq (bytes a) (bytes b)) es k v)
+          ≡ cond (bytes_eq (bytes k) other) (Some v) (lookup (λ q. bytes_eq other (bytes q)) es) →
+          lookup (λ q. bytes_eq other (bytes q)) (cond b ((e.0, v) ∷ es)
+          (e ∷ insert_entry (λ a b. bytes_eq (bytes a) (bytes b)) es k v))
+          ≡ cond (bytes_eq (bytes k) other) (Some v)
+          (cond (bytes_eq other (bytes e.0)) (Some e.1) (lookup (λ q. bytes_eq other (bytes q)) es))
       by true h others =
           once (bytes_eq other (bytes e.0)) (Some v) (Some e.1) (lookup (λ q. bytes_eq other (bytes q)) es)
-          ∙ ap (λ c. cond c (Some v) (cond (bytes_eq other (bytes e.0)) (Some e.1) (lookup (λ q. bytes_eq other (bytes q)) es)))
-          (bytes_eq-swap other (bytes e.0) ∙ ap (λ l. bytes_eq l other) (sym ((bytes_eq-Decides (bytes k) (bytes e.0)).0 h)))
+          ∙ ap (λ c. cond c (Some v) (cond (bytes_eq other (bytes e.0)) (Some e.1)
+          (lookup (λ q. bytes_eq other (bytes q)) es)))
+          (bytes_eq-swap other (bytes e.0) ∙ ap (λ l. bytes_eq l other)
+          (sym ((bytes_eq-Decides (bytes k) (bytes e.0)).0 h)))
       by false h others =
           ap (λ r. cond (bytes_eq other (bytes e.0)) (Some e.1) r) others
-          ∙ apart (bytes_eq other (bytes e.0)) (bytes_eq (bytes k) other) (Some v) (Some e.1) (lookup (λ q. bytes_eq other (bytes q)) es)
+          ∙ apart (bytes_eq other (bytes e.0)) (bytes_eq (bytes k) other) (Some v) (Some e.1)
+          (lookup (λ q. bytes_eq other (bytes q)) es)
           (λ s t. not_from_Decides (bytes_eq (bytes k) (bytes e.0)) (bytes_eq-Decides (bytes k) (bytes e.0)) h
           ((bytes_eq-Decides (bytes k) other).0 t ∙ (bytes_eq-Decides other (bytes e.0)).0 s))
 
 -- what a map has at each name, once a value is put at a name
-pub lookup_after : {K X : Type 0} (bytes : K → List ℕ) (k : K) (w : X) (other : List ℕ) (old new : List (K × X)) (name : List ℕ) →
+pub lookup_after : {K X : Type 0} (bytes : K → List ℕ) (k : K) (w : X) (other : List ℕ) (old new : List (K × X))
+    (name : List ℕ) →
     new ≡ insert_entry (λ a b. bytes_eq (bytes a) (bytes b)) old k w → bytes k ≡ name →
-    lookup (λ q. bytes_eq other (bytes q)) new ≡ cond (bytes_eq name other) (Some w) (lookup (λ q. bytes_eq other (bytes q)) old)
+    lookup (λ q. bytes_eq other (bytes q)) new
+    ≡ cond (bytes_eq name other) (Some w) (lookup (λ q. bytes_eq other (bytes q)) old)
 lookup_after bytes k w other old new name e n =
     ap (λ es. lookup (λ q. bytes_eq other (bytes q)) es) e
     ∙ lookup-insert_entry bytes k w other old
@@ -58,17 +69,22 @@ of_cond true n l = refl
 of_cond false n l = refl
 
 -- where a name without a number has 0
-pub number_after : {K : Type 0} (bytes : K → List ℕ) (k : K) (n : ℕ) (other : List ℕ) (old new : List (K × ℕ)) (name : List ℕ) →
+pub number_after : {K : Type 0} (bytes : K → List ℕ) (k : K) (n : ℕ) (other : List ℕ) (old new : List (K × ℕ))
+    (name : List ℕ) →
     new ≡ insert_entry (λ a b. bytes_eq (bytes a) (bytes b)) old k n → bytes k ≡ name →
-    or_none (lookup (λ q. bytes_eq other (bytes q)) new) ≡ cond (bytes_eq name other) n (or_none (lookup (λ q. bytes_eq other (bytes q)) old))
+    or_none (lookup (λ q. bytes_eq other (bytes q)) new)
+    ≡ cond (bytes_eq name other) n (or_none (lookup (λ q. bytes_eq other (bytes q)) old))
 number_after bytes k n other old new name e same =
-    ap or_none (lookup_after bytes k n other old new name e same) ∙ of_cond (bytes_eq name other) n (lookup (λ q. bytes_eq other (bytes q)) old)
+    ap or_none (lookup_after bytes k n other old new name e same)
+    ∙ of_cond (bytes_eq name other) n (lookup (λ q. bytes_eq other (bytes q)) old)
 
 -- an entry under another name is passed over
-pub lookup-past : {K : Type 0} (test : K → Bool) (es : List (K × ℕ)) (i : ℕ) (e : K × ℕ) → Some e ≡ slice_get es i → test e.0 ≡ false
+pub lookup-past : {K : Type 0} (test : K → Bool) (es : List (K × ℕ)) (i : ℕ) (e : K × ℕ) → Some e ≡ slice_get es i
+    → test e.0 ≡ false
     → lookup test (drop (i + 1) es) ≡ lookup test (drop i es)
 lookup-past test [] i e h f = cc
-lookup-past test (x ∷ es) zero e h f = ap (λ b. cond b (Some x.1) (lookup test es)) (sym (ap test (ap (λ p. p.0) (same_Some x e (sym h))) ∙ f))
+lookup-past test (x ∷ es) zero e h f =
+    ap (λ b. cond b (Some x.1) (lookup test es)) (sym (ap test (ap (λ p. p.0) (same_Some x e (sym h))) ∙ f))
 lookup-past test (x ∷ es) (suc i) e h f =
     let next : suc i + 1 ≡ suc (i + 1) = omega arith in
     ap (λ j. lookup test (drop j (x ∷ es))) next ∙ lookup-past test es i e h f

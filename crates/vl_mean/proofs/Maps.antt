@@ -5,7 +5,8 @@ use Rattle.std.proofs.Common.{arith}
 use Rattle.vl_mean.specs.Examples.{after_block, blocks_design, full_names, in_blocks, looped_design, turns}
 use Rattle.vl_mean.specs.Runs.{Holds}
 
-pub looped_names : full_names looped_design ≡ codes "o" ∷ codes "g[0].u.y" ∷ codes "g[0].u.w" ∷ codes "g[1].u.y" ∷ codes "g[1].u.w" ∷ []
+pub looped_names : full_names looped_design ≡ codes "o" ∷ codes "g[0].u.y" ∷ codes "g[0].u.w" ∷ codes "g[1].u.y"
+    ∷ codes "g[1].u.w" ∷ []
 unfolding digits
 looped_names = refl
 
@@ -21,7 +22,8 @@ pub looped_apart : Holds looped_design (turns 1 0 1) → ⊥
 unfolding digits
 looped_apart h = omega arith
 
-pub blocks_names : full_names blocks_design ≡ codes "genblk1.a" ∷ codes "genblk2.genblk1.b" ∷ codes "genblk3" ∷ codes "genblk03.c" ∷ []
+pub blocks_names : full_names blocks_design ≡ codes "genblk1.a" ∷ codes "genblk2.genblk1.b" ∷ codes "genblk3"
+    ∷ codes "genblk03.c" ∷ []
 unfolding digits
 blocks_names = refl
 

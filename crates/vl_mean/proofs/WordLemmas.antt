@@ -1,5 +1,6 @@
 -- Texts with a front.
-use Rattle.std.specs.Prelude.{◌≡◌, refl, ℕ, List, [], ◌∷◌, ◌++◌, length, take, drop, Bool, true, false, ◌&&◌, nat_eq, bytes_eq}
+use Rattle.std.specs.Prelude.{◌≡◌, refl, ℕ, List, [], ◌∷◌, ◌++◌, length, take, drop, Bool, true, false, ◌&&◌, nat_eq}
+use Rattle.std.specs.Prelude.{bytes_eq}
 use Rattle.std.proofs.Common.{ap, ◌∙◌, arith}
 
 and_assoc : (a b c : Bool) → (a && (b && c)) ≡ ((a && b) && c)
@@ -19,7 +20,8 @@ front_law (x ∷ f) r (y ∷ k) =
 pub not_front : (f r k : List ℕ) → bytes_eq (take (length f) k) f ≡ false → bytes_eq (f ++ r) k ≡ false
 not_front f r k h = front_law f r k ∙ ap (λ b. b && bytes_eq r (drop (length f) k)) h
 
-pub has_front : (f r k : List ℕ) → bytes_eq (take (length f) k) f ≡ true → bytes_eq (f ++ r) k ≡ bytes_eq r (drop (length f) k)
+pub has_front : (f r k : List ℕ) → bytes_eq (take (length f) k) f ≡ true
+    → bytes_eq (f ++ r) k ≡ bytes_eq r (drop (length f) k)
 has_front f r k h = front_law f r k ∙ ap (λ b. b && bytes_eq r (drop (length f) k)) h
 
 pub ruleset front = (not_front, has_front)

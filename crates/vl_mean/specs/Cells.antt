@@ -1,5 +1,6 @@
 -- What holds numbers: vectors, and the words of memories, each under its name. IEEE 1364-2005, section 4.9.3.
-use Rattle.std.specs.Prelude.{ℕ, zero, suc, List, [], ◌∷◌, Bool, false, ◌||◌, Option, Some, None, ℤ, pos, ◌+ℤ◌, ◌-ℤ◌, int_le, bytes_eq, if◌then◌else◌}
+use Rattle.std.specs.Prelude.{ℕ, zero, suc, List, [], ◌∷◌, Bool, false, ◌||◌, Option, Some, None, ℤ, pos, ◌+ℤ◌, ◌-ℤ◌}
+use Rattle.std.specs.Prelude.{int_le, bytes_eq, if◌then◌else◌}
 use Rattle.vl_size.specs.declared.decl.Decl.{Decl}
 use Rattle.vl_size.specs.Table.{span, word_name}
 

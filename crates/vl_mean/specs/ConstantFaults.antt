@@ -1,7 +1,8 @@
--- Why an expression isn't a constant: the earliest fault in it, and of several at one place the first of their order. Over
--- expressions in which numbers stand in place of constants. Rules of this project; what a constant expression is, is IEEE
--- 1364-2005, section 4.2.1.
-use Rattle.std.specs.Prelude.{ℕ, zero, suc, ◌+◌, ◌*◌, ◌-◌, ◌^◌, ◌==◌, max, min, List, Bool, ◌&&◌, ◌||◌, not, nat_le, nat_lt, Option, Some, None, ℤ, pos, negsuc, int_le, if◌then◌else◌}
+-- Why an expression isn't a constant: the earliest fault in it, and of several at one place the first of their order.
+-- Over expressions in which numbers stand in place of constants. Rules of this project; what a constant expression
+-- is, is IEEE 1364-2005, section 4.2.1.
+use Rattle.std.specs.Prelude.{ℕ, zero, suc, ◌+◌, ◌*◌, ◌-◌, ◌^◌, ◌==◌, max, min, List, Bool, ◌&&◌, ◌||◌, not, nat_le}
+use Rattle.std.specs.Prelude.{nat_lt, Option, Some, None, ℤ, pos, negsuc, int_le, if◌then◌else◌}
 use Rattle.fv_base.specs.declared.pos.Pos.{Pos}
 use Rattle.vl_tree.specs.declared.expr.Select.{Select}
 use Rattle.vl_tree.specs.declared.expr.Select.TheVariants as s
@@ -60,7 +61,8 @@ rank f.Memory = 5
 
 -- the second comes before the first
 abbrev pub comes_before : ConstFault → ConstFault → Bool
-comes_before g h = is_earlier (fault_place g) (fault_place h) || (not (is_earlier (fault_place h) (fault_place g)) && nat_lt (rank g) (rank h))
+comes_before g h = is_earlier (fault_place g) (fault_place h)
+    || (not (is_earlier (fault_place h) (fault_place g)) && nat_lt (rank g) (rank h))
 
 -- of two alike the first stays: it is the inner one
 abbrev pub earlier : Option ConstFault → Option ConstFault → Option ConstFault
@@ -140,7 +142,8 @@ module _ (ds : List Decl) (v : Cells) where
 
   -- of two bounds
   abbrev pub part_fault : Pos → Expr → Expr → Option ConstFault
-  part_fault q l r = if_sized (valid_size ds l) (if_sized (valid_size ds r) (range_unless q (wide_part (index l) (index r))))
+  part_fault q l r =
+      if_sized (valid_size ds l) (if_sized (valid_size ds r) (range_unless q (wide_part (index l) (index r))))
 
   -- a constant's first select past 32 signed bits, against its direction, or of width below 1
   abbrev pub range_fault : Selects → Option ConstFault
@@ -158,7 +161,8 @@ module _ (ds : List Decl) (v : Cells) where
   abbrev pub name_fault : Pos → Option Const → Selects → Option ConstFault → Option ConstFault
   name_fault p None ss inner = earlier inner (Some (f.NotConstant p))
   name_fault p (Some c) ss inner =
-      or_range p (earlier inner (earlier (divisor_fault (selects_zero_divisor ds ss)) (earlier (range_fault ss) (too_wide p (wide_select ss)))))
+      or_range p (earlier inner (earlier (divisor_fault (selects_zero_divisor ds ss))
+      (earlier (range_fault ss) (too_wide p (wide_select ss)))))
 
 module _ (constant : List ℕ → Option Const) (ds : List Decl) (v : Cells) where
   -- the size of an expression without a limit; None where a part has none
@@ -187,10 +191,12 @@ module _ (constant : List ℕ → Option Const) (ds : List Decl) (v : Cells) whe
     fault (paren p x) = earlier (fault x) (too_wide p (wide x))
     fault (unary p op x) = earlier (fault x) (too_wide p (wide (unary p op x)))
     fault (binary p op x y) = earlier (earlier (fault x) (fault y)) (too_wide p (wide (binary p op x y)))
-    fault (conditional p c x y) = earlier (earlier (fault c) (earlier (fault x) (fault y))) (too_wide p (wide (conditional p c x y)))
+    fault (conditional p c x y) =
+        earlier (earlier (fault c) (earlier (fault x) (fault y))) (too_wide p (wide (conditional p c x y)))
     fault (concat p es) = earlier (faults es) (earlier (no_part p es) (too_wide p (wide (concat p es))))
     fault (repeat p n es) =
-        earlier (earlier (fault n) (faults es)) (earlier (no_part p es) (earlier (count_fault ds v p n) (too_wide p (wide (repeat p n es)))))
+        earlier (earlier (fault n) (faults es)) (earlier (no_part p es)
+        (earlier (count_fault ds v p n) (too_wide p (wide (repeat p n es)))))
     fault (cast p to x) = earlier (fault x) (too_wide p (wide x))
 
     pub faults : Exprs → Option ConstFault

@@ -1,6 +1,8 @@
--- Constants: parameters and genvars, and expressions in which they are replaced by their numbers. IEEE 1364-2005, sections
--- 3.11, 4.2.1 and 12.4.1; that a constant's select counts as one of `[width - 1 : 0]` is a rule of this project.
-use Rattle.std.specs.Prelude.{ℕ, ◌-◌, ◌%◌, ◌^◌, ◌<◌, ◌≤◌, max, min, cond, List, [], ◌∷◌, Bool, true, false, Option, Some, None, pos, bytes_eq, if◌then◌else◌}
+-- Constants: parameters and genvars, and expressions in which they are replaced by their numbers. IEEE 1364-2005,
+-- sections 3.11, 4.2.1 and 12.4.1; that a constant's select counts as one of `[width - 1 : 0]` is a rule of this
+-- project.
+use Rattle.std.specs.Prelude.{ℕ, ◌-◌, ◌%◌, ◌^◌, ◌<◌, ◌≤◌, max, min, cond, List, [], ◌∷◌, Bool, true, false, Option}
+use Rattle.std.specs.Prelude.{Some, None, pos, bytes_eq, if◌then◌else◌}
 use Rattle.std.proofs.Common.{arith, mod-lt, pow_pos}
 use Rattle.fv_base.specs.declared.pos.Pos.{Pos}
 use Rattle.fv_base.specs.declared.number.Number.{Number}
@@ -107,7 +109,8 @@ number_or p (Some n) x value = number p (number_of (cut_to n false (value n)))
 
 abbrev pub selected_constant : Pos → List ℕ → Expr → Const → Expr
 selected_constant p text x c =
-    let ds = vector_of text c ∷ [] in number_or p (valid_size ds x) x (λ n. value ds (cells_in (values_at text c)) n false x)
+    let ds = vector_of text c ∷ [] in number_or p (valid_size ds x) x
+    (λ n. value ds (cells_in (values_at text c)) n false x)
 
 abbrev pub named_constant : Pos → List ℕ → Selects → Option Const → Expr
 named_constant p text ss None = name p text ss

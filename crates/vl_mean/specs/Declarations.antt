@@ -1,6 +1,9 @@
--- What declarations declare. IEEE 1364-2005, sections 3.2, 3.3, 3.9, 3.11, 12.2 and 12.3. That the inputs `clock` and `reset` of
--- the top module have a meaning of their own, and the attributes `anyseq` and `anyconst`, are rules of this project.
-use Rattle.std.specs.Prelude.{ℕ, zero, suc, ◌+◌, max, List, [], ◌∷◌, ◌++◌, map, find, length, replicate, decimal, option_to_list, Bool, true, false, ◌&&◌, ◌||◌, Option, Some, None, ℤ, pos, codes, bytes_eq, if◌then◌else◌}
+-- What declarations declare. IEEE 1364-2005, sections 3.2, 3.3, 3.9, 3.11, 12.2 and 12.3. That the inputs `clock` and
+-- `reset` of the top module have a meaning of their own, and the attributes `anyseq` and `anyconst`, are rules of
+-- this project.
+use Rattle.std.specs.Prelude.{ℕ, zero, suc, ◌+◌, max, List, [], ◌∷◌, ◌++◌, map, find, length, replicate, decimal}
+use Rattle.std.specs.Prelude.{option_to_list, Bool, true, false, ◌&&◌, ◌||◌, Option, Some, None, ℤ, pos, codes}
+use Rattle.std.specs.Prelude.{bytes_eq, if◌then◌else◌}
 use Rattle.vl_tree.specs.declared.attribute.Attribute.{Attribute}
 use Rattle.vl_tree.specs.declared.declaration.DeclaredName.{DeclaredName}
 use Rattle.vl_tree.specs.declared.declaration.Direction.{Direction}
@@ -18,7 +21,8 @@ use Rattle.vl_tree.specs.declared.declaration.Range.{Range}
 use Rattle.vl_tree.specs.declared.declaration.Shape.{Shape}
 use Rattle.vl_tree.specs.Attributes.{Attributes}
 use Rattle.vl_tree.specs.Expr.{Expr}
-use Rattle.vl_tree.specs.Item.{Item, Items, Block, declaration, integer, genvar, parameter, instance, for_loop, if_only, if_else, no_items, more_items, begin, region, single}
+use Rattle.vl_tree.specs.Item.{Item, Items, Block, declaration, integer, genvar, parameter, instance, for_loop}
+use Rattle.vl_tree.specs.Item.{if_only, if_else, no_items, more_items, begin, region, single}
 use Rattle.vl_size.specs.declared.decl.Class.{Class}
 use Rattle.vl_size.specs.declared.decl.Class.TheVariants as class
 use Rattle.vl_size.specs.declared.decl.Decl.{Decl}
@@ -49,11 +53,12 @@ word_bounds ss (Some r) = Some (bounds_of ss r)
 
 -- ---- parameters: sections 3.11 and 12.2
 
--- without a range it has the size of its value, and the sign of its value unless it is declared `signed`; with a range its
--- value counts as assigned to it
+-- without a range it has the size of its value, and the sign of its value unless it is declared `signed`; with a
+-- range its value counts as assigned to it
 abbrev pub of_range : List Scope → Bool → Operand → Option Range → Const
 of_range ss signed x None = cut_to x.size (signed || x.sign) (own x)
-of_range ss signed x (Some r) = let n = span (bound_of ss r.left) (bound_of ss r.right) in cut_to n signed (x.at (max n x.size) x.sign)
+of_range ss signed x (Some r) =
+    let n = span (bound_of ss r.left) (bound_of ss r.right) in cut_to n signed (x.at (max n x.size) x.sign)
 
 -- the values of another instance's parameters, as they are given at an instance
 abbrev pub Overrides : Type 0
@@ -68,7 +73,8 @@ abbrev pub with_constants : Constants → List Scope → List Scope
 with_constants cs ss = record { path = []; decls = []; constants = cs } ∷ ss
 
 abbrev pub parameter_value : Overrides → List Scope → Parameter → Const
-parameter_value os ss x = of_range ss x.shape.signed (override_or os x.name (read_constant (constant_in ss) x.value)) x.shape.range
+parameter_value os ss x =
+    of_range ss x.shape.signed (override_or os x.name (read_constant (constant_in ss) x.value)) x.shape.range
 
 -- a parameter may use those before it
 abbrev pub with_parameters : Overrides → List Scope → Constants → List Parameter → Constants
@@ -95,7 +101,8 @@ with_items_parameters os ss cs (more_items x xs) = with_items_parameters os ss (
 abbrev pub class_of_attributes : Class → List Attribute → Class
 class_of_attributes c [] = c
 class_of_attributes c (a ∷ rest) =
-    if bytes_eq a.name (codes "anyseq") then class.EachCycle else if bytes_eq a.name (codes "anyconst") then class.Once else class_of_attributes c rest
+    if bytes_eq a.name (codes "anyseq") then class.EachCycle
+    else if bytes_eq a.name (codes "anyconst") then class.Once else class_of_attributes c rest
 
 -- all attributes before an item, in order
 abbrev pub joined_attributes : Attributes → List Attribute
@@ -144,7 +151,8 @@ declared_integers ss c (x ∷ xs) = integer_decl ss c x ∷ declared_integers ss
 abbrev pub declared_by : List Scope → Item → List Decl
 declared_by ss (declaration attrs p d) =
     declared_names ss (class_of_attributes (class_of_kind d.net) (joined_attributes attrs)) d.shape d.names
-declared_by ss (integer attrs p xs) = declared_integers ss (class_of_attributes class.Variable (joined_attributes attrs)) xs
+declared_by ss (integer attrs p xs) =
+    declared_integers ss (class_of_attributes class.Variable (joined_attributes attrs)) xs
 declared_by ss x = []
 
 abbrev pub declared : List Scope → Items → List Decl
@@ -179,7 +187,8 @@ is_output direction.Output = true
 
 -- only the outputs of the top module count as outputs of the design
 abbrev pub port_decl : List Scope → Bool → (List ℕ → Class) → FullPort → Decl
-port_decl ss is_top input p = vector ss (class_of_port input p p.direction p.net) (is_top && is_output p.direction) p.shape p.name None
+port_decl ss is_top input p =
+    vector ss (class_of_port input p p.direction p.net) (is_top && is_output p.direction) p.shape p.name None
 
 abbrev pub declared_ports : List Scope → Bool → (List ℕ → Class) → List FullPort → List Decl
 declared_ports ss is_top input ps = map (λ p. port_decl ss is_top input p) ps
@@ -199,8 +208,8 @@ label_of (begin p label xs) = label
 label_of (region p xs) = None
 label_of (single x) = None
 
--- the written labels of a generate construct's blocks, chosen or not; an `if` alone in a block of another `if` is directly
--- nested, and its blocks belong to the scope around both
+-- the written labels of a generate construct's blocks, chosen or not; an `if` alone in a block of another `if` is
+-- directly nested, and its blocks belong to the scope around both
 abbrev mutual
   pub labels_of : Item → List (List ℕ)
   labels_of (for_loop attrs p head b) = option_to_list (label_of b)
@@ -240,7 +249,8 @@ genblk zeros n = codes "genblk" ++ replicate zeros 48 ++ decimal n
 abbrev pub unused_genblk : ℕ → ℕ → List (List ℕ) → ℕ → List ℕ
 unused_genblk zero zeros names n = genblk zeros n
 unused_genblk (suc more) zeros names n =
-    let next = unused_genblk more (zeros + 1) names n in if contains_name names (genblk zeros n) then next else genblk zeros n
+    let next = unused_genblk more (zeros + 1) names n in if contains_name names (genblk zeros n) then next
+    else genblk zeros n
 
 -- the name of the blocks without label of construct n of a scope with these names
 abbrev pub unlabelled : List (List ℕ) → ℕ → List ℕ

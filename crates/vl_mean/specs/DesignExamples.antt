@@ -1,4 +1,5 @@
--- Small designs, one for each place where a meaning is easily got wrong, with maps for them that were worked out by hand.
+-- Small designs, one for each place where a meaning is easily got wrong, with maps for them that were worked out by
+-- hand.
 use Rattle.std.specs.Prelude.{ℕ, List, [], ◌∷◌, true, false, Option, Some, None, codes, bytes_eq, if◌then◌else◌}
 use Rattle.vl_tree.specs.declared.attribute.AttributeInstance.{AttributeInstance}
 use Rattle.vl_tree.specs.declared.declaration.Direction.TheVariants as direction
@@ -16,7 +17,8 @@ use Rattle.vl_tree.specs.Stmt as stmt
 use Rattle.vl_tree.specs.Stmt.{stmts}
 use Rattle.vl_tree.specs.Item.{Item, declaration, always, initial, instance, if_only, no_items, more_items, begin}
 use Rattle.vl_size.specs.Size.{Values}
-use Rattle.vl_mean.specs.Examples.{literal, decimal, scalar, bits, input, vector_input, output, declares_name, at_clock, at_any_change, later, now, plus, connection, assigns, module_of}
+use Rattle.vl_mean.specs.Examples.{literal, decimal, scalar, bits, input, vector_input, output, declares_name}
+use Rattle.vl_mean.specs.Examples.{at_clock, at_any_change, later, now, plus, connection, assigns, module_of}
 use Rattle.vl_mean.specs.Parts.{Part, here, plain, plain_target, design}
 
 -- ---- pieces
@@ -28,16 +30,19 @@ numbers (x ∷ xs) text = if bytes_eq text x.0 then x.1 else numbers xs text
 
 -- `[left:right]`
 abbrev pub range : ℕ → ℕ → Shape
-range left right = record { signed = false; range = Some (record { pos = here; left = decimal left; right = decimal right }) }
+range left right =
+    record { signed = false; range = Some (record { pos = here; left = decimal left; right = decimal right }) }
 
 abbrev pub signed_bits : ℕ → Shape
-signed_bits left = record { signed = true; range = Some (record { pos = here; left = decimal left; right = decimal 0 }) }
+signed_bits left =
+    record { signed = true; range = Some (record { pos = here; left = decimal left; right = decimal 0 }) }
 
 abbrev pub short : List ℕ → Port
 short text = record { pos = here; kind = port.Short text None }
 
 abbrev pub used : List ℕ → List ℕ → List Connection → Item
-used definition text connections = instance [] here (record { definition = definition; overrides = None; name = text; connections = connections })
+used definition text connections =
+    instance [] here (record { definition = definition; overrides = None; name = text; connections = connections })
 
 -- the design of modules, of which the first is the top
 abbrev pub design_of : Module → List Module → List Part
@@ -101,7 +106,8 @@ free attribute text = declaration (marked attribute) here (record {
 })
 
 abbrev pub free_design : List Part
-free_design = design_of (module_of (codes "free") [] (free (codes "anyconst") (codes "once") ∷ free (codes "anyseq") (codes "each") ∷ [])) []
+free_design = design_of (module_of (codes "free") []
+    (free (codes "anyconst") (codes "once") ∷ free (codes "anyseq") (codes "each") ∷ [])) []
 
 abbrev pub choices : ℕ → ℕ → Values
 choices once each = numbers ((codes "once", once) ∷ (codes "each", each) ∷ [])
@@ -111,18 +117,21 @@ choices once each = numbers ((codes "once", once) ∷ (codes "each", each) ∷ [
 -- `module sum(input narrow, input [3:0] wide, output [3:0] o); assign o = wide + narrow; endmodule`
 
 abbrev pub sized_design : List Part
-sized_design = design_of (module_of (codes "sized") (vector_input (signed_bits 1) (codes "a") ∷ output (bits 3) (codes "o") ∷ []) (
+sized_design = design_of (module_of (codes "sized")
+    (vector_input (signed_bits 1) (codes "a") ∷ output (bits 3) (codes "o") ∷ []) (
     used (codes "sum") (codes "u") (
     connection (codes "narrow") (plain (codes "a")) ∷ connection (codes "wide") (plain (codes "a"))
     ∷ connection (codes "o") (plain (codes "o")) ∷ [])
     ∷ [])) (
-    module_of (codes "sum") (input (codes "narrow") ∷ vector_input (bits 3) (codes "wide") ∷ output (bits 3) (codes "o") ∷ [])
+    module_of (codes "sum") (input (codes "narrow") ∷ vector_input (bits 3) (codes "wide")
+    ∷ output (bits 3) (codes "o") ∷ [])
     (assigns (codes "o") (plus (plain (codes "wide")) (plain (codes "narrow"))) ∷ [])
     ∷ [])
 
 abbrev pub sized : ℕ → ℕ → ℕ → ℕ → Values
 sized a narrow wide o =
-    numbers ((codes "a", a) ∷ (codes "u.narrow", narrow) ∷ (codes "u.wide", wide) ∷ (codes "u.o", o) ∷ (codes "o", o) ∷ [])
+    numbers ((codes "a", a) ∷ (codes "u.narrow", narrow) ∷ (codes "u.wide", wide) ∷ (codes "u.o", o) ∷ (codes "o", o)
+    ∷ [])
 
 -- ---- a clock that is handed down under another name:
 -- `module clocked(input clock, input a); step u (.edge_(clock), .d(a)); endmodule`
@@ -130,7 +139,8 @@ sized a narrow wide o =
 
 abbrev pub handed_design : List Part
 handed_design = design_of (module_of (codes "clocked") (input (codes "clock") ∷ input (codes "a") ∷ []) (
-    used (codes "step") (codes "u") (connection (codes "edge_") (plain (codes "clock")) ∷ connection (codes "d") (plain (codes "a")) ∷ [])
+    used (codes "step") (codes "u") (connection (codes "edge_") (plain (codes "clock"))
+    ∷ connection (codes "d") (plain (codes "a")) ∷ [])
     ∷ [])) (
     module_of (codes "step") (input (codes "edge_") ∷ input (codes "d") ∷ []) (
     declares_name net.Reg scalar (codes "q") None
@@ -143,7 +153,8 @@ abbrev pub handed : ℕ → ℕ → ℕ → Values
 handed edge a q = numbers ((codes "u.edge_", edge) ∷ (codes "a", a) ∷ (codes "u.d", a) ∷ (codes "u.q", q) ∷ [])
 
 -- ---- an output that is joined to a concatenation:
--- `module parted(output [1:0] high, low); nine u (.o({high, low})); endmodule module nine(output [3:0] o); assign o = 9; endmodule`
+-- `module parted(output [1:0] high, low); nine u (.o({high, low})); endmodule module nine(output [3:0] o); assign o =
+-- 9; endmodule`
 
 abbrev pub parted_design : List Part
 parted_design = design_of (module_of (codes "parted") (output (bits 1) (codes "high") ∷ short (codes "low") ∷ []) (
@@ -172,7 +183,8 @@ targets a b v = numbers ((codes "a", a) ∷ (codes "b", b) ∷ (codes "v", v) �
 -- ---- a port that is written short: `module ports(input [1:0] a, b, output o); assign o = b[1]; endmodule`
 
 abbrev pub ports_design : List Part
-ports_design = design_of (module_of (codes "ports") (vector_input (bits 1) (codes "a") ∷ short (codes "b") ∷ output scalar (codes "o") ∷ []) (
+ports_design = design_of (module_of (codes "ports")
+    (vector_input (bits 1) (codes "a") ∷ short (codes "b") ∷ output scalar (codes "o") ∷ []) (
     assigns (codes "o") (name here (codes "b") (bit here (decimal 1) whole)) ∷ [])) []
 
 abbrev pub ports : ℕ → ℕ → ℕ → Values
@@ -214,7 +226,8 @@ given o = numbers ((codes "u.o", o) ∷ (codes "o", o) ∷ [])
 -- `module hidden(input a, output o, p); if (1) begin : g wire a = 1; assign o = a; end assign p = a; endmodule`
 
 abbrev pub hidden_design : List Part
-hidden_design = design_of (module_of (codes "hidden") (input (codes "a") ∷ output scalar (codes "o") ∷ short (codes "p") ∷ []) (
+hidden_design =
+    design_of (module_of (codes "hidden") (input (codes "a") ∷ output scalar (codes "o") ∷ short (codes "p") ∷ []) (
     if_only [] here (decimal 1) (begin here (Some (codes "g")) (
     more_items (declares_name net.Wire scalar (codes "a") (Some (decimal 1))) (
     more_items (assigns (codes "o") (plain (codes "a"))) no_items)))
@@ -224,7 +237,8 @@ hidden_design = design_of (module_of (codes "hidden") (input (codes "a") ∷ out
 abbrev pub hidden : ℕ → ℕ → ℕ → Values
 hidden a o p = numbers ((codes "a", a) ∷ (codes "g.a", 1) ∷ (codes "o", o) ∷ (codes "p", p) ∷ [])
 
--- ---- an assumption in a clocked block: `module sure(input clock, input a); always @(posedge clock) assume (a); endmodule`
+-- ---- an assumption in a clocked block: `module sure(input clock, input a); always @(posedge clock) assume (a);
+-- endmodule`
 
 abbrev pub sure_design : List Part
 sure_design = design_of (module_of (codes "sure") (input (codes "clock") ∷ input (codes "a") ∷ []) (

@@ -1,5 +1,6 @@
 -- Small designs, and maps for them that were worked out by hand.
-use Rattle.std.specs.Prelude.{ℕ, ◌^◌, ◌<◌, List, [], ◌∷◌, pos, true, false, ◌||◌, Option, Some, None, codes, bytes_eq, if◌then◌else◌}
+use Rattle.std.specs.Prelude.{ℕ, ◌^◌, ◌<◌, List, [], ◌∷◌, pos, true, false, ◌||◌, Option, Some, None, codes, bytes_eq}
+use Rattle.std.specs.Prelude.{if◌then◌else◌}
 use Rattle.std.proofs.Common.{lit≤, lit<}
 use Rattle.vl_tree.specs.declared.operator.BinaryOperator.TheVariants as b
 use Rattle.vl_tree.specs.declared.declaration.Direction.TheVariants as direction
@@ -18,7 +19,8 @@ use Rattle.vl_tree.specs.Expr.{Expr, number, name, binary, whole, bit}
 use Rattle.vl_tree.specs.Lval.{Lval, named, joined, no_lvals, more_lvals}
 use Rattle.vl_tree.specs.Stmt as stmt
 use Rattle.vl_tree.specs.Stmt.{Stmt, stmts, labels, default, no_arms}
-use Rattle.vl_tree.specs.Item.{Item, declaration, always, assign, genvar, parameter, instance, for_loop, if_only, if_else, no_items, more_items, begin, single}
+use Rattle.vl_tree.specs.Item.{Item, declaration, always, assign, genvar, parameter, instance, for_loop, if_only}
+use Rattle.vl_tree.specs.Item.{if_else, no_items, more_items, begin, single}
 use Rattle.vl_size.specs.declared.decl.Class.TheVariants as class
 use Rattle.vl_size.specs.declared.decl.Decl.{Decl}
 use Rattle.vl_size.specs.Size.{Values}
@@ -60,7 +62,11 @@ input text = record {
 
 abbrev pub declares_name : NetKind → Shape → List ℕ → Option Expr → Item
 declares_name kind shape text value =
-    declaration [] here (record { net = kind; shape = shape; names = record { pos = here; name = text; words = None; value = value } ∷ [] })
+    declaration [] here (record {
+      net = kind;
+      shape = shape;
+      names = record { pos = here; name = text; words = None; value = value } ∷ [];
+    })
 
 -- `always @(posedge clock) s`
 abbrev pub at_clock : Stmt → Item
@@ -97,7 +103,8 @@ counter_design = design (counter ∷ []) (codes "counter")
 abbrev pub counts : ℕ → ℕ → Values
 counts reset q text = if bytes_eq text (codes "q") then q else if bytes_eq text (codes "reset") then reset else 0
 
--- ---- a choice: `module choice(input c, input [1:0] x); reg [1:0] y; always @* begin y = 1; if (c) y = x; end endmodule`
+-- ---- a choice: `module choice(input c, input [1:0] x); reg [1:0] y; always @* begin y = 1; if (c) y = x; end
+-- endmodule`
 
 abbrev pub now : Lval → Expr → Stmt
 now l e = stmt.assign [] here l a.Blocking e
@@ -128,9 +135,11 @@ abbrev pub choice_design : List Part
 choice_design = design (choice ∷ []) (codes "choice")
 
 abbrev pub chosen : ℕ → ℕ → ℕ → Values
-chosen c x y text = if bytes_eq text (codes "c") then c else if bytes_eq text (codes "x") then x else if bytes_eq text (codes "y") then y else 0
+chosen c x y text = if bytes_eq text (codes "c") then c else if bytes_eq text (codes "x") then x
+    else if bytes_eq text (codes "y") then y else 0
 
--- ---- two blocks that exchange their values: `reg a, b; always @(posedge clock) a <= b; always @(posedge clock) b <= a;`
+-- ---- two blocks that exchange their values: `reg a, b; always @(posedge clock) a <= b; always @(posedge clock) b <=
+-- a;`
 
 abbrev pub exchange : Module
 exchange = module_of (codes "exchange") (input (codes "clock") ∷ []) (
@@ -147,7 +156,8 @@ abbrev pub pair : ℕ → ℕ → Values
 pair x y text = if bytes_eq text (codes "a") then x else if bytes_eq text (codes "b") then y else 0
 
 -- ---- an instance in a generate loop:
--- `module top(output [1:0] o); genvar i; for (i = 0; i < 2; i = i + 1) begin : g is_one #(.K(i)) u (.y(o[i])); end endmodule`
+-- `module top(output [1:0] o); genvar i; for (i = 0; i < 2; i = i + 1) begin : g is_one #(.K(i)) u (.y(o[i])); end
+-- endmodule`
 -- `module is_one #(parameter K = 0) (output y); wire w; assign w = K == 1; assign y = w; endmodule`
 
 abbrev pub equal : Expr → Expr → Expr
@@ -260,15 +270,26 @@ full_names (p ∷ ps) = full_names ps
 
 abbrev pub in_blocks : ℕ → Values
 in_blocks c text =
-    if bytes_eq text (codes "genblk1.a") || bytes_eq text (codes "genblk2.genblk1.b") || bytes_eq text (codes "genblk3") then 1
+    if bytes_eq text (codes "genblk1.a") || bytes_eq text (codes "genblk2.genblk1.b")
+    || bytes_eq text (codes "genblk3") then 1
     else if bytes_eq text (codes "genblk03.c") then c
     else 0
 
--- ---- a block: `reg [3:0] a, b, c, d; reg [7:0] m [0:3]; always @* begin {a, b} = 8'ha7; c <= a; c <= c + b; casez (b) 4'b1???: d = 1;`
+-- ---- a block: `reg [3:0] a, b, c, d; reg [7:0] m [0:3]; always @* begin {a, b} = 8'ha7; c <= a; c <= c + b; casez
+-- (b) 4'b1???: d = 1;`
 -- `default: d = 2; 4'b01??: d = 3; endcase m[a - 9] = 5; assume (a); end`
 
 abbrev pub nibble : List ℕ → Decl
-nibble text = record { name = text; width = 4; signed = false; left = pos 3; right = pos 0; words = None; class = class.Variable; output = false }
+nibble text = record {
+  name = text;
+  width = 4;
+  signed = false;
+  left = pos 3;
+  right = pos 0;
+  words = None;
+  class = class.Variable;
+  output = false;
+}
 
 abbrev pub block_decls : List Decl
 block_decls = nibble (codes "a") ∷ nibble (codes "b") ∷ nibble (codes "c") ∷ nibble (codes "d") ∷ record {
@@ -300,7 +321,8 @@ wild value w value_fits wild_fits = number here (record {
 
 abbrev pub block : Stmt
 block = stmt.begin [] here None (stmts (
-    now (joined here (more_lvals (plain_target (codes "a")) (more_lvals (plain_target (codes "b")) no_lvals))) (literal 8 0xa7)
+    now (joined here (more_lvals (plain_target (codes "a")) (more_lvals (plain_target (codes "b")) no_lvals)))
+    (literal 8 0xa7)
     ∷ later (codes "c") (plain (codes "a"))
     ∷ later (codes "c") (plus (plain (codes "c")) (plain (codes "b")))
     ∷ stmt.case [] here kind.Casez (plain (codes "b")) (

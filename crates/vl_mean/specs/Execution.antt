@@ -1,6 +1,7 @@
 -- What a statement does: the values after it, the bits that it leaves pending, and the numbers that it assumes. IEEE
 -- 1364-2005, clause 9; `assume`, and that values have no unknown bits, are rules of this project.
-use Rattle.std.specs.Prelude.{ℕ, ◌==◌, max, List, [], ◌∷◌, ◌++◌, length, Bool, true, false, ◌&&◌, ◌||◌, bit_or, if◌then◌else◌}
+use Rattle.std.specs.Prelude.{ℕ, ◌==◌, max, List, [], ◌∷◌, ◌++◌, length, Bool, true, false, ◌&&◌, ◌||◌, bit_or}
+use Rattle.std.specs.Prelude.{if◌then◌else◌}
 use Rattle.vl_tree.specs.declared.stmt.CaseKind.{CaseKind}
 use Rattle.vl_tree.specs.declared.stmt.CaseKind.TheVariants as c
 use Rattle.vl_tree.specs.declared.stmt.AssignKind.TheVariants as a
@@ -47,10 +48,11 @@ abbrev pub wild_bits : CaseKind → ℕ → Bool → Expr → ℕ
 wild_bits c.Casez w s (number p n) = extended n.width w s n.wild
 wild_bits kind w s e = 0
 
--- the bits of the target, in its scopes, get those of the expression, in its own, which has its own sign and the larger of both
--- sizes: section 5.4
+-- the bits of the target, in its scopes, get those of the expression, in its own, which has its own sign and the
+-- larger of both sizes: section 5.4
 abbrev pub assigned : List Scope → Lval → List Scope → Expr → Values → List Write
-assigned ts l ss e v = let bits = spots ts v l in let x = read ss v e in written bits (x.at (max (length bits) x.size) x.sign)
+assigned ts l ss e v =
+    let bits = spots ts v l in let x = read ss v e in written bits (x.at (max (length bits) x.size) x.sign)
 
 module _ (ss : List Scope) where
   -- ---- labels of a case: section 9.5
@@ -85,7 +87,8 @@ module _ (ss : List Scope) where
     pub exec : Stmt → State → State
     exec (begin attrs p label xs) t = exec_all xs t
     exec (if_only attrs p e x) t = let done = exec x t in if is_true (read ss t.now e) then done else t
-    exec (if_else attrs p e x y) t = let first = exec x t in let second = exec y t in if is_true (read ss t.now e) then first else second
+    exec (if_else attrs p e x y) t =
+        let first = exec x t in let second = exec y t in if is_true (read ss t.now e) then first else second
     exec (case attrs p kind e arms) t =
         let x = read ss t.now e in
         let w = max x.size (arms_size arms) in

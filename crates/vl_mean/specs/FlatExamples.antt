@@ -1,4 +1,5 @@
--- A small design without hierarchy, and what such a design doesn't keep: `input clock, reset; reg [1:0] q = 2; wire o = q[1];`
+-- A small design without hierarchy, and what such a design doesn't keep: `input clock, reset; reg [1:0] q = 2; wire o
+-- = q[1];`
 -- `always @(posedge clock) q <= q + 1;`
 use Rattle.std.specs.Prelude.{ℕ, ◌+◌, List, [], ◌∷◌, pos, false, None, codes, bytes_eq, if◌then◌else◌}
 use Rattle.vl_tree.specs.Expr.{Expr, name, whole, bit}
@@ -18,7 +19,16 @@ use Rattle.vl_mean.specs.Parts.{Part, here, plain, plain_target}
 
 -- `[left:0]`
 abbrev vector : Class → ℕ → List ℕ → Decl
-vector c left text = record { name = text; width = left + 1; signed = false; left = pos left; right = pos 0; words = None; class = c; output = false }
+vector c left text = record {
+  name = text;
+  width = left + 1;
+  signed = false;
+  left = pos left;
+  right = pos 0;
+  words = None;
+  class = c;
+  output = false;
+}
 
 abbrev pub decls : List Decl
 decls =

@@ -1,7 +1,9 @@
--- What a design without hierarchy keeps: nothing in it is refused, so each name, select and target in it has a meaning. What
--- may be assigned where is IEEE 1364-2005, sections 6.1, 6.2 and 9.2, and which parts are constant sections 4.2.1 and 5.2; the
--- limits, the clock that is no number, and what a memory may be are rules of this project.
-use Rattle.std.specs.Prelude.{◌≡◌, ℕ, ◌+◌, ◌≤◌, List, [], ◌∷◌, ◌++◌, All, IsSome, Bool, true, false, ◌&&◌, ◌||◌, not, nat_lt, ◌==◌, max, is_none, Option, Some, None, ℤ}
+-- What a design without hierarchy keeps: nothing in it is refused, so each name, select and target in it has a
+-- meaning. What may be assigned where is IEEE 1364-2005, sections 6.1, 6.2 and 9.2, and which parts are constant
+-- sections 4.2.1 and 5.2; the limits, the clock that is no number, and what a memory may be are rules of this
+-- project.
+use Rattle.std.specs.Prelude.{◌≡◌, ℕ, ◌+◌, ◌≤◌, List, [], ◌∷◌, ◌++◌, All, IsSome, Bool, true, false, ◌&&◌, ◌||◌, not}
+use Rattle.std.specs.Prelude.{nat_lt, ◌==◌, max, is_none, Option, Some, None, ℤ}
 use Rattle.vl_tree.specs.Expr.{
   Expr,
   Exprs,
@@ -86,7 +88,8 @@ is_graphic c = nat_lt 32 c && not (c == 127)
 -- each word of a memory is a variable
 abbrev pub IsMemory : Option (ℤ × ℤ) → Decl → Type 0
 IsMemory None d = Unit {0}
-IsMemory (Some bounds) d = (is_bound bounds.0 ≡ true) × (is_bound bounds.1 ≡ true) × (is_variable d ≡ true) × (d.output ≡ false)
+IsMemory (Some bounds) d =
+    (is_bound bounds.0 ≡ true) × (is_bound bounds.1 ≡ true) × (is_variable d ≡ true) × (d.output ≡ false)
 
 pub record IsKept (d : Decl) : Type 0 where
   pub graphic : All (λ c. is_graphic c ≡ true) d.name
@@ -210,7 +213,8 @@ module _ (ds : List Decl) where
   abbrev mutual
     pub IsTarget : (Decl → Bool) → Bool → Lval → Type 0
     IsTarget may fixed (named p text ss) =
-        IsRead ds (name p text ss) × (is_decl (table.named ds text) may ≡ true) × ((not fixed || are_fixed (flat_scopes ds) ss) ≡ true)
+        IsRead ds (name p text ss) × (is_decl (table.named ds text) may ≡ true)
+        × ((not fixed || are_fixed (flat_scopes ds) ss) ≡ true)
     IsTarget may fixed (joined p ls) = AreTargets may fixed ls
 
     pub AreTargets : (Decl → Bool) → Bool → Lvals → Type 0

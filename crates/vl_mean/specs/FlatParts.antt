@@ -1,4 +1,5 @@
--- What a design without hierarchy is made of: the parts of `Parts`, all in one scope, in which each name is a full name.
+-- What a design without hierarchy is made of: the parts of `Parts`, all in one scope, in which each name is a full
+-- name.
 use Rattle.std.specs.Prelude.{List, [], ◌∷◌, ◌++◌, map}
 use Rattle.vl_tree.specs.Expr.{number}
 use Rattle.vl_size.specs.declared.decl.Decl.{Decl}
@@ -22,7 +23,8 @@ start_part ss x = starts ss x.target (number here (number_of x.value))
 
 abbrev pub parts_of : List Decl → List Driver → List Start → List Part
 parts_of ds drivers xs =
-    let ss = flat_scopes ds in map (λ d. declares d) ds ++ map (λ x. driver_part ss x.what) drivers ++ map (start_part ss) xs
+    let ss = flat_scopes ds in map (λ d. declares d) ds ++ map (λ x. driver_part ss x.what) drivers
+    ++ map (start_part ss) xs
 
 abbrev pub flat_parts : Flat → List Part
 flat_parts f = parts_of f.decls f.drivers f.starts

@@ -27,7 +27,8 @@ use Rattle.vl_mean.specs.declared.driver.Driver.{Driver}
 use Rattle.vl_mean.specs.declared.driver.DriverKind.{DriverKind}
 use Rattle.vl_mean.specs.declared.driver.DriverKind.TheVariants as k
 use Rattle.vl_mean.specs.declared.driver.Start.{Start}
-use Rattle.vl_mean.specs.FlatLaw.{IsMemory, IsReadIn, IsTarget, AreTargets, IsAssigned, IsBlock, AreBlocks, AreArms, IsDriver, IsLawful, is_variable}
+use Rattle.vl_mean.specs.FlatLaw.{IsMemory, IsReadIn, IsTarget, AreTargets, IsAssigned, IsBlock, AreBlocks, AreArms}
+use Rattle.vl_mean.specs.FlatLaw.{IsDriver, IsLawful, is_variable}
 
 is_memory_prop : (words : Option (ℤ × ℤ)) (d : Decl) → IsProp (IsMemory words d)
 is_memory_prop None d = Unit-prop

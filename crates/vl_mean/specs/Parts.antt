@@ -1,6 +1,7 @@
--- What a design is made of, once its instances and generate blocks are unfolded: each part as it is written, with the scopes in
--- which its names are read. IEEE 1364-2005, sections 6.1, 9.2, 9.9 and 12.
-use Rattle.std.specs.Prelude.{ℕ, zero, suc, ◌+◌, max, List, [], ◌∷◌, ◌++◌, map, find, length, codes, Bool, true, false, Option, Some, None, bytes_eq, if◌then◌else◌}
+-- What a design is made of, once its instances and generate blocks are unfolded: each part as it is written, with the
+-- scopes in which its names are read. IEEE 1364-2005, sections 6.1, 9.2, 9.9 and 12.
+use Rattle.std.specs.Prelude.{ℕ, zero, suc, ◌+◌, max, List, [], ◌∷◌, ◌++◌, map, find, length, codes, Bool, true}
+use Rattle.std.specs.Prelude.{false, Option, Some, None, bytes_eq, if◌then◌else◌}
 use Rattle.std.specs.Fmt.{signed_decimal}
 use Rattle.fv_base.specs.declared.pos.Pos.{Pos}
 use Rattle.vl_tree.specs.declared.declaration.DeclaredName.{DeclaredName}
@@ -52,7 +53,9 @@ use Rattle.vl_size.specs.Size.{◌>>=◌, Operand, is_true}
 use Rattle.vl_mean.specs.declared.const_number.Const.{Const}
 use Rattle.vl_mean.specs.Constants.{Constants, cut_to, read_constant}
 use Rattle.vl_mean.specs.Scopes.{Scope, constant_in, declared_in}
-use Rattle.vl_mean.specs.Declarations.{Overrides, with_constants, with_parameters, with_items_parameters, header_parameters, declared, declared_by, declared_ports, port_decl, ports_of, port_named, is_if, label_of, all_names, constructs, block_name}
+use Rattle.vl_mean.specs.Declarations.{Overrides, with_constants, with_parameters, with_items_parameters}
+use Rattle.vl_mean.specs.Declarations.{header_parameters, declared, declared_by, declared_ports, port_decl, ports_of}
+use Rattle.vl_mean.specs.Declarations.{port_named, is_if, label_of, all_names, constructs, block_name}
 
 pub data Part : Type 0 where
   -- a name is declared; it stands under its full name
@@ -67,8 +70,8 @@ pub data Part : Type 0 where
 
 -- ---- where items stand
 
--- the scopes over which the bounds in its declarations are read, the scopes in which all else is, the innermost first, the path
--- of the innermost, and the names that are explicitly declared in it
+-- the scopes over which the bounds in its declarations are read, the scopes in which all else is, the innermost
+-- first, the path of the innermost, and the names that are explicitly declared in it
 pub record Place : Type 0 where
   pub around : List Scope
   pub scopes : List Scope
@@ -163,7 +166,8 @@ module_scope m u path =
     }
 
 abbrev pub module_names : Module → List (List ℕ)
-module_names m = parameter_names (header_of m.parameters) ++ map (λ p. p.name) (ports_of m.ports) ++ all_names (items m.items)
+module_names m =
+    parameter_names (header_of m.parameters) ++ map (λ p. p.name) (ports_of m.ports) ++ all_names (items m.items)
 
 -- the target that an output is joined to: a name with its selects, or a concatenation of such
 abbrev mutual
@@ -221,10 +225,13 @@ abbrev pub with_target : Option Lval → (Lval → List Part) → List Part
 with_target None f = []
 with_target (Some l) f = f l
 
--- an input has the value of what it is joined to, but the clock, which has none; what an output is joined to has its value
+-- an input has the value of what it is joined to, but the clock, which has none; what an output is joined to has its
+-- value
 abbrev pub connection_part : List Scope → List Scope → Direction → List ℕ → Expr → List Part
-connection_part ss inside direction.Input text e = if is_clock ss (Some e) then [] else equation inside (plain_target text) ss e ∷ []
-connection_part ss inside direction.Output text e = with_target (target_of e) (λ l. equation ss l inside (plain text) ∷ [])
+connection_part ss inside direction.Input text e =
+    if is_clock ss (Some e) then [] else equation inside (plain_target text) ss e ∷ []
+connection_part ss inside direction.Output text e =
+    with_target (target_of e) (λ l. equation ss l inside (plain text) ∷ [])
 
 abbrev pub port_part : List Scope → List Scope → Option FullPort → Option Expr → List Part
 port_part ss inside None value = []
@@ -233,7 +240,8 @@ port_part ss inside (Some p) (Some e) = connection_part ss inside p.direction p.
 
 abbrev pub connection_parts : List Scope → List Scope → List FullPort → List Connection → List Part
 connection_parts ss inside ps [] = []
-connection_parts ss inside ps (x ∷ xs) = port_part ss inside (port_named ps x.port) x.value ++ connection_parts ss inside ps xs
+connection_parts ss inside ps (x ∷ xs) =
+    port_part ss inside (port_named ps x.port) x.value ++ connection_parts ss inside ps xs
 
 -- what a module means where it is used so, under a path, behind the parts of its connections
 abbrev pub Meaning : Type 0
@@ -290,7 +298,8 @@ block_path at label = at.path ++ label ++ codes "."
 
 -- an `if` alone in a block of another `if` makes no scope
 abbrev pub single_place : Place → ℕ → Item → Place
-single_place at n x = let inside = block_place at.scopes (block_path at (block_name at.names n None)) (more_items x no_items) in if is_if x then at else inside
+single_place at n x = let inside = block_place at.scopes (block_path at (block_name at.names n None))
+    (more_items x no_items) in if is_if x then at else inside
 
 abbrev pub single_number : ℕ → Item → ℕ
 single_number n x = if is_if x then n else 1
@@ -312,7 +321,8 @@ module _ (ms : List Module) (inner : Meaning) where
     item_parts (generate attrs p mark) at n = []
     item_parts (for_loop attrs p head b) at n =
         let label = block_name at.names n (label_of b) in
-        loop_turns head at.scopes (λ c. turn_parts b (with_genvar head.variable c at.scopes) (turn_path at.path label c))
+        loop_turns head at.scopes (λ c. turn_parts b (with_genvar head.variable c at.scopes)
+        (turn_path at.path label c))
     item_parts (if_only attrs p c b) at n =
         let chosen = block_parts b at n in
         if is_true (read_constant (constant_in at.scopes) c) then chosen else []
@@ -332,8 +342,10 @@ module _ (ms : List Module) (inner : Meaning) where
 
     -- the chosen block of an `if`
     pub block_parts : Block → Place → ℕ → List Part
-    block_parts (begin p label xs) at n = items_parts xs (block_place at.scopes (block_path at (block_name at.names n label)) xs) 1
-    block_parts (region p xs) at n = items_parts xs (block_place at.scopes (block_path at (block_name at.names n None)) xs) 1
+    block_parts (begin p label xs) at n =
+        items_parts xs (block_place at.scopes (block_path at (block_name at.names n label)) xs) 1
+    block_parts (region p xs) at n =
+        items_parts xs (block_place at.scopes (block_path at (block_name at.names n None)) xs) 1
     block_parts (single x) at n = item_parts x (single_place at n x) (single_number n x)
 
 -- ---- modules
@@ -359,10 +371,11 @@ unfolded (suc n) ms m u path connections =
 
 -- an input of the top module is the clock, the reset, or free
 abbrev pub top_input : List ℕ → Class
-top_input text = if bytes_eq text (codes "clock") then class.Clock else if bytes_eq text (codes "reset") then class.Reset else class.Input
+top_input text = if bytes_eq text (codes "clock") then class.Clock
+    else if bytes_eq text (codes "reset") then class.Reset else class.Input
 
--- all parts of the design with this top module, in the order of the text; no instance stands within its own module, so they
--- are no deeper than there are modules
+-- all parts of the design with this top module, in the order of the text; no instance stands within its own module,
+-- so they are no deeper than there are modules
 abbrev pub design : List Module → List ℕ → List Part
 design ms top =
     with_module (module_named ms top) (λ m.

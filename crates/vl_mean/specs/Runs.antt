@@ -1,7 +1,8 @@
--- Which maps of full names to numbers a design allows, from cycle to cycle. IEEE 1364-2005, sections 6.1, 9.2, 9.7.5, 9.9 and
--- 12.3; that a net or variable holds a number in place of four-valued bits, `assume`, and the free names are rules of this
--- project.
-use Rattle.std.specs.Prelude.{◌≡◌, ℕ, zero, suc, ◌+◌, ◌^◌, ◌<◌, ◌==◌, List, [], ◌∷◌, ◌++◌, length, Bool, true, false, ◌&&◌, ◌||◌, not, Option, Some, None, bytes_eq, if◌then◌else◌}
+-- Which maps of full names to numbers a design allows, from cycle to cycle. IEEE 1364-2005, sections 6.1, 9.2, 9.7.5,
+-- 9.9 and 12.3; that a net or variable holds a number in place of four-valued bits, `assume`, and the free names are
+-- rules of this project.
+use Rattle.std.specs.Prelude.{◌≡◌, ℕ, zero, suc, ◌+◌, ◌^◌, ◌<◌, ◌==◌, List, [], ◌∷◌, ◌++◌, length, Bool, true, false}
+use Rattle.std.specs.Prelude.{◌&&◌, ◌||◌, not, Option, Some, None, bytes_eq, if◌then◌else◌}
 use Rattle.vl_tree.specs.Stmt.{Stmt}
 use Rattle.vl_size.specs.declared.decl.Class.{Class}
 use Rattle.vl_size.specs.declared.decl.Class.TheVariants as class
@@ -83,9 +84,9 @@ PartHolds ps v (combinational ss s) = Agrees ps (exec ss s (begun v)).now v
 PartHolds ps v (clocked ss s) = Unit {0}
 PartHolds ps v (starts ss l e) = Unit {0}
 
--- The map meets each part. What is refused elsewhere has some meaning here too: a net without a driver and an input without a
--- connection are free, two drivers of a bit have to agree, a loop of drivers may have no map or several, and a module that isn't
--- there has no parts.
+-- The map meets each part. What is refused elsewhere has some meaning here too: a net without a driver and an input
+-- without a connection are free, two drivers of a bit have to agree, a loop of drivers may have no map or several,
+-- and a module that isn't there has no parts.
 abbrev pub Holds : List Part → Values → Type 0
 Holds ps v = Each (PartHolds ps v) ps
 
@@ -112,8 +113,8 @@ is_assigned (p ∷ ps) n k = is_assigned_by p n k || is_assigned ps n k
 
 -- ---- what is free in a map
 
--- a bit that nothing in the cycle gives: of an input, the reset, a name that is free in each cycle or once, and of a variable
--- where no combinational block drives it
+-- a bit that nothing in the cycle gives: of an input, the reset, a name that is free in each cycle or once, and of a
+-- variable where no combinational block drives it
 abbrev pub is_chosen : List Part → Class → List ℕ → ℕ → Bool
 is_chosen ps class.Input n k = true
 is_chosen ps class.Reset n k = true
@@ -125,7 +126,8 @@ is_chosen ps class.Clock n k = false
 
 -- the maps make the same choice
 abbrev pub ChoosesAlike : List Part → Values → Values → Type 0
-ChoosesAlike ps u v = EachDeclared (λ d. EachBit (λ text k. OnlyIf (is_chosen ps d.class text k) (bit_of (u text) k ≡ bit_of (v text) k)) d) ps
+ChoosesAlike ps u v = EachDeclared (λ d. EachBit
+    (λ text k. OnlyIf (is_chosen ps d.class text k) (bit_of (u text) k ≡ bit_of (v text) k)) d) ps
 
 -- ---- the next values
 
@@ -133,11 +135,13 @@ ChoosesAlike ps u v = EachDeclared (λ d. EachBit (λ text k. OnlyIf (is_chosen 
 abbrev pub Clocks : List Part → Values → Values → List Scope → Stmt → Type 0
 Clocks ps v u ss s =
     let after = ended (exec ss s (begun v)) in
-    EachDeclared (λ d. EachBit (λ text k. OnlyIf (assigns ss s text k) (bit_of (u text) k ≡ bit_of (after text) k)) d) ps
+    EachDeclared (λ d. EachBit (λ text k. OnlyIf (assigns ss s text k)
+    (bit_of (u text) k ≡ bit_of (after text) k)) d) ps
 
 -- a bit of a variable that no block assigns keeps its value
 abbrev pub Keeps : List Part → Values → Values → Decl → Class → Type 0
-Keeps ps v u d class.Variable = EachBit (λ text k. OnlyIf (not (is_assigned ps text k)) (bit_of (u text) k ≡ bit_of (v text) k)) d
+Keeps ps v u d class.Variable =
+    EachBit (λ text k. OnlyIf (not (is_assigned ps text k)) (bit_of (u text) k ≡ bit_of (v text) k)) d
 Keeps ps v u d c = Unit {0}
 
 abbrev pub PartSteps : List Part → Values → Values → Part → Type 0

@@ -1,6 +1,6 @@
--- Scopes, and what a name means in them. IEEE 1364-2005, sections 12.4, 12.5 and 12.7: a name means what the innermost scope
--- that declares it declares, and a full name joins the names of the scopes by dots. The top module's name stays out of it: a
--- rule of this project.
+-- Scopes, and what a name means in them. IEEE 1364-2005, sections 12.4, 12.5 and 12.7: a name means what the
+-- innermost scope that declares it declares, and a full name joins the names of the scopes by dots. The top module's
+-- name stays out of it: a rule of this project.
 use Rattle.std.specs.Prelude.{ℕ, List, [], ◌∷◌, ◌++◌, Bool, true, false, Option, Some, None, if◌then◌else◌}
 use Rattle.vl_tree.specs.Expr.{Expr}
 use Rattle.vl_size.specs.declared.decl.Decl.{Decl}
@@ -9,8 +9,8 @@ use Rattle.vl_size.specs.Table.{is_declared, named}
 use Rattle.vl_mean.specs.declared.const_number.Const.{Const}
 use Rattle.vl_mean.specs.Constants.{Constants, constant_of, settled_operand}
 
--- a module's instance, a generate block or a turn of a generate loop: what stands before the names in it, and what it declares
--- under the names as they are written
+-- a module's instance, a generate block or a turn of a generate loop: what stands before the names in it, and what it
+-- declares under the names as they are written
 pub record Scope : Type 0 where
   pub path : List ℕ
   pub decls : List Decl
@@ -29,7 +29,8 @@ constant_unless None false outer = outer
 -- the constant that a name means
 abbrev pub constant_in : List Scope → List ℕ → Option Const
 constant_in [] text = None
-constant_in (s ∷ ss) text = constant_unless (constant_of s.constants text) (is_declared s.decls text) (constant_in ss text)
+constant_in (s ∷ ss) text =
+    constant_unless (constant_of s.constants text) (is_declared s.decls text) (constant_in ss text)
 
 -- what is declared, the innermost first
 abbrev pub visible : List Scope → List Decl
@@ -48,7 +49,7 @@ declared_in ss text = unless_constant (constant_in ss text) (named (visible ss) 
 abbrev pub no_values : Values
 no_values text = 0
 
--- an expression in scopes: its size and sign by itself, and its number in each context, over the values of full names; a
--- memory's word has the index behind the memory's full name
+-- an expression in scopes: its size and sign by itself, and its number in each context, over the values of full
+-- names; a memory's word has the index behind the memory's full name
 abbrev pub read : List Scope → Values → Expr → Operand
 read ss v e = settled_operand (constant_in ss) (visible ss) (λ text index. v (cell_name (full ss text) index)) e

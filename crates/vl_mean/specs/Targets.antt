@@ -1,6 +1,8 @@
--- Targets of assignments, bit by bit. IEEE 1364-2005, sections 4.2.1, 5.2 and 9.2. What lies past the range is dropped. That
--- the bits of a target are assigned from left to right is a rule of this project.
-use Rattle.std.specs.Prelude.{ℕ, zero, suc, ◌+◌, ◌-◌, ◌*◌, ◌/◌, ◌%◌, ◌^◌, ◌==◌, List, [], ◌∷◌, ◌++◌, length, Bool, true, false, ◌&&◌, ◌||◌, not, nat_lt, is_none, Option, Some, None, ℤ, pos, negsuc, ◌+ℤ◌, nat_abs, bytes_eq, if◌then◌else◌}
+-- Targets of assignments, bit by bit. IEEE 1364-2005, sections 4.2.1, 5.2 and 9.2. What lies past the range is
+-- dropped. That the bits of a target are assigned from left to right is a rule of this project.
+use Rattle.std.specs.Prelude.{ℕ, zero, suc, ◌+◌, ◌-◌, ◌*◌, ◌/◌, ◌%◌, ◌^◌, ◌==◌, List, [], ◌∷◌, ◌++◌, length, Bool}
+use Rattle.std.specs.Prelude.{true, false, ◌&&◌, ◌||◌, not, nat_lt, is_none, Option, Some, None, ℤ, pos, negsuc, ◌+ℤ◌}
+use Rattle.std.specs.Prelude.{nat_abs, bytes_eq, if◌then◌else◌}
 use Rattle.vl_tree.specs.Expr.{Selects, whole, bit, part, indexed}
 use Rattle.vl_tree.specs.Lval.{Lval, Lvals, named, joined, no_lvals, more_lvals}
 use Rattle.vl_size.specs.declared.decl.Decl.{Decl}
@@ -93,7 +95,8 @@ module _ (ss : List Scope) where
 
   -- of a memory: a word, or a part of it
   abbrev pub word_spots : Values → Decl → Selects → List (Option Spot)
-  word_spots v d (bit p i xs) = vector_spots v d (full_word (full ss d.name) (word_index d.words (index_of (read ss v i)))) xs
+  word_spots v d (bit p i xs) =
+      vector_spots v d (full_word (full ss d.name) (word_index d.words (index_of (read ss v i)))) xs
   word_spots v d xs = []
 
   abbrev pub name_spots : Values → List ℕ → Selects → List (Option Spot)
@@ -119,12 +122,12 @@ module _ (ss : List Scope) where
   are_fixed (part p l r xs) = are_fixed xs
   are_fixed (indexed p s n xs) = is_constant (settled (constant_in ss) s) && are_fixed xs
 
-  -- the bits that its selects name, where they are constant; where an index varies, each bit of the vector, or of each word of
-  -- the memory
+  -- the bits that its selects name, where they are constant; where an index varies, each bit of the vector, or of
+  -- each word of the memory
   abbrev pub name_may_change : List ℕ → Selects → List ℕ → ℕ → Bool
   name_may_change text xs n k =
-      is_decl (declared_in ss text) (λ d.
-      if are_fixed xs then has_spot n k (name_spots no_values text xs) else is_cell (full ss text) d.words n && nat_lt k d.width)
+      is_decl (declared_in ss text) (λ d. if are_fixed xs then has_spot n k (name_spots no_values text xs)
+      else is_cell (full ss text) d.words n && nat_lt k d.width)
 
   -- a bit of a cell, by its full name
   abbrev mutual

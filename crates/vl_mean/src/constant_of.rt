@@ -18,15 +18,21 @@ use std::alloc::Global;
 use vl_size::{Decls, sign_of, size_of};
 use vl_tree::Expr;
 
-/// The value of an expression in which each name is that of a constant, at its own size and sign (IEEE 1364-2005, section
-/// 4.2.1). It is refused exactly where it has no size by itself, with the earliest fault in it.
+/// The value of an expression in which each name is that of a constant, at its own size and sign (IEEE 1364-2005,
+/// section 4.2.1). It is refused exactly where it has no size by itself, with the earliest fault in it.
 pub fn constant(alloc: Global, expr: &Expr, params: &Params) -> Result<Const, ConstFault>
-    ensures size { IfOk result (λ c. Some c.width ≡ valid_size [] (settled (params_spec.constant params.now) expr.now)) }
+    ensures size { IfOk result (λ c. Some c.width
+        ≡ valid_size [] (settled (params_spec.constant params.now) expr.now)) }
     ensures sign { IfOk result (λ c. c.signed ≡ sign [] (settled (params_spec.constant params.now) expr.now)) }
-    ensures value { IfOk result (λ c. c.value ≡ value [] no_names c.width c.signed (settled (params_spec.constant params.now) expr.now)) }
-    ensures refused { IfErr result (λ f. UnlessMemory f (valid_size [] (settled (params_spec.constant params.now) expr.now) ≡ None)) }
-    ensures faultless { IfOk result (λ c. fault_of (params_spec.constant params.now) [] no_names (settled (params_spec.constant params.now) expr.now) ≡ None) }
-    ensures fault { IfErr result (λ f. UnlessMemory f (fault_of (params_spec.constant params.now) [] no_names (settled (params_spec.constant params.now) expr.now) ≡ Some f)) }
+    ensures value { IfOk result (λ c. c.value
+        ≡ value [] no_names c.width c.signed (settled (params_spec.constant params.now) expr.now)) }
+    ensures refused { IfErr result (λ f. UnlessMemory f
+        (valid_size [] (settled (params_spec.constant params.now) expr.now) ≡ None)) }
+    ensures faultless { IfOk result (λ c. fault_of (params_spec.constant params.now) [] no_names
+        (settled (params_spec.constant params.now) expr.now) ≡ None) }
+    ensures fault { IfErr result (λ f. UnlessMemory f
+        (fault_of (params_spec.constant params.now) [] no_names (settled (params_spec.constant params.now) expr.now)
+        ≡ Some f)) }
 {
     let expr = settled(alloc, expr, params)?;
     let env = Env::new(alloc, Decls::new(alloc));

@@ -1,6 +1,9 @@
 //! Small designs, one for each place where a meaning is easily got wrong, with maps that hold and maps that don't.
 ghost use Rattle.std.specs.Prelude.{◌≡◌, ◌∷◌, [], codes};
-ghost use Rattle.vl_mean.specs.DesignExamples.{begun, begun_design, choices, free_design, given, given_design, handed, handed_design, hidden, hidden_design, kept, kept_design, parted, parted_design, ports, ports_design, sized, sized_design, sure, sure_design, targets, targets_design, words, words_design};
+ghost use Rattle.vl_mean.specs.DesignExamples.{begun, begun_design, choices, free_design, given, given_design};
+ghost use Rattle.vl_mean.specs.DesignExamples.{handed, handed_design, hidden, hidden_design, kept, kept_design};
+ghost use Rattle.vl_mean.specs.DesignExamples.{parted, parted_design, ports, ports_design, sized, sized_design, sure};
+ghost use Rattle.vl_mean.specs.DesignExamples.{sure_design, targets, targets_design, words, words_design};
 ghost use Rattle.vl_mean.specs.Runs.{ChoosesAlike, Holds, Init, IsAssumed, IsRun, Next};
 
 /// A bit of a variable that no block assigns keeps its value, beside one that a block drives.

@@ -7,7 +7,8 @@ use indexmap::IndexMap;
 use std::alloc::Global;
 use vl_size::Decls;
 
-/// Declarations, and numbers of their names: of a memory those of its words, whose names are printed with their index, as
+/// Declarations, and numbers of their names: of a memory those of its words, whose names are printed with their
+/// index, as
 /// `m[3]`. Seen as a map from full names to numbers: `values_of` of specs/Env.
 #[derive(Drop)]
 pub struct Env {
@@ -32,7 +33,8 @@ impl Env {
     /// Sets the number of a name, or of a memory's word by its printed name.
     pub fn set(&mut self, name: &Text, value: u128) -> Result<(), Memory>
         ensures decls { self.new.decls ≡ self.old.decls }
-        ensures ok { OnOk result ((other : List ℕ) → values_of self.new other ≡ with_number name.now value (values_of self.old) other) }
+        ensures ok { OnOk result ((other : List ℕ)
+            → values_of self.new other ≡ with_number name.now value (values_of self.old) other) }
         ensures err { OnErr result ((other : List ℕ) → values_of self.new other ≡ values_of self.old other) }
     {
         let key = name.copied(self.alloc)?;

@@ -21,9 +21,9 @@ use vl_size::select::{appended, plus, some_bits};
 use vl_size::{Decl, Own, self_size, sign_of};
 use vl_tree::{BinaryOperator, Expr, ExprKind, Select, UnaryOperator};
 
-/// The number that the expression has where its size and sign come from its context (IEEE 1364-2005, sections 5.4 and 5.5):
-/// below `2 ^ width`. A context is at least as wide as the expression is by itself; what has no size by itself has no
-/// meaning.
+/// The number that the expression has where its size and sign come from its context (IEEE 1364-2005, sections 5.4 and
+/// 5.5): below `2 ^ width`. A context is at least as wide as the expression is by itself; what has no size by itself
+/// has no meaning.
 #[cycle(value)]
 #[tactic(auto, using(vl_tree::specs::ExprFalls::parts_fall))]
 pub fn value(expr: &Expr, width: u32, signed: bool, env: &Env) -> u128
@@ -178,7 +178,8 @@ pub(crate) fn own(expr: &Expr, env: &Env) -> Own
     ensures width { result.width ≡ or_none (spec.size env.now.decls expr.now) }
     ensures signed { result.signed ≡ sign env.now.decls expr.now }
     ensures number { result.number ≡ spec.value env.now.decls (cells_of env.now) result.width result.signed expr.now }
-    ensures index { as_int result.width result.signed result.number ≡ spec.index_of (operand_in env.now.decls (cells_of env.now) expr.now) }
+    ensures index { as_int result.width result.signed result.number
+        ≡ spec.index_of (operand_in env.now.decls (cells_of env.now) expr.now) }
 {
     let width = own_size(expr, env);
     let signed = sign_of(expr, &env.decls);
@@ -224,7 +225,8 @@ fn name_value(decl: &Decl, all: &[Select], width: u32, signed: bool, env: &Env) 
     ensures value { let ds = env.now.decls in
         let v = cells_of env.now in
         let ss = selects all.now in
-        result ≡ (if is_none decl.now.words then spec.vector_value ds v width signed decl.now (v decl.now.name None) ss else spec.word_value ds v width signed decl.now ss) }
+        result ≡ (if is_none decl.now.words then spec.vector_value ds v width signed decl.now
+        (v decl.now.name None) ss else spec.word_value ds v width signed decl.now ss) }
     ensures fits { result < 2 ^ width }
 {
     if decl.words.is_none() {
@@ -262,7 +264,8 @@ fn select_value(
 ) -> u128
     requires few { width ≤ 128 }
     requires decl { decl.now.width ≤ 128 }
-    ensures value { result ≡ spec.vector_value env.now.decls (cells_of env.now) width signed decl.now number (with_select select.now whole) }
+    ensures value { result ≡ spec.vector_value env.now.decls (cells_of env.now) width signed decl.now number
+        (with_select select.now whole) }
     ensures fits { result < 2 ^ width }
 {
     match select {

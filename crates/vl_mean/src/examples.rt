@@ -1,7 +1,8 @@
 //! Small designs with maps that hold and maps that don't: what the definitions say of them.
 ghost use Rattle.std.specs.Prelude.{◌≡◌, ◌∷◌, [], codes};
 ghost use Rattle.vl_mean.specs.Execution.{ended};
-ghost use Rattle.vl_mean.specs.Examples.{after_block, blocks_design, choice_design, chosen, counter_design, counts, full_names, exchange_design, in_blocks, looped_design, pair, turns};
+ghost use Rattle.vl_mean.specs.Examples.{after_block, blocks_design, choice_design, chosen, counter_design, counts};
+ghost use Rattle.vl_mean.specs.Examples.{full_names, exchange_design, in_blocks, looped_design, pair, turns};
 ghost use Rattle.vl_mean.specs.FlatExamples as flat;
 ghost use Rattle.vl_mean.specs.FlatLaw.{IsLawful};
 ghost use Rattle.vl_mean.specs.Parts.{plain, plain_target};
@@ -34,17 +35,20 @@ pub fn two_blocks_exchange()
 /// Each turn of a generate loop has an instance of its own, with the loop's variable as its parameter.
 #[tactic(auto, using(crate::proofs::Maps::maps))]
 pub fn a_loop_makes_instances()
-    ensures names { full_names looped_design ≡ codes "o" ∷ codes "g[0].u.y" ∷ codes "g[0].u.w" ∷ codes "g[1].u.y" ∷ codes "g[1].u.w" ∷ [] }
+    ensures names { full_names looped_design ≡ codes "o" ∷ codes "g[0].u.y" ∷ codes "g[0].u.w" ∷ codes "g[1].u.y"
+        ∷ codes "g[1].u.w" ∷ [] }
     ensures holds { Holds looped_design (turns 2 0 1) }
     ensures not_turned { Holds looped_design (turns 1 1 0) → ⊥ }
     ensures not_apart { Holds looped_design (turns 1 0 1) → ⊥ }
 {}
 
-/// Blocks without labels are named by their construct's number, with a zero where that name is taken; an `if` alone in an
+/// Blocks without labels are named by their construct's number, with a zero where that name is taken; an `if` alone
+/// in an
 /// `if` makes no scope.
 #[tactic(auto, using(crate::proofs::Maps::maps))]
 pub fn blocks_without_labels_have_names()
-    ensures names { full_names blocks_design ≡ codes "genblk1.a" ∷ codes "genblk2.genblk1.b" ∷ codes "genblk3" ∷ codes "genblk03.c" ∷ [] }
+    ensures names { full_names blocks_design ≡ codes "genblk1.a" ∷ codes "genblk2.genblk1.b" ∷ codes "genblk3"
+        ∷ codes "genblk03.c" ∷ [] }
     ensures holds { Holds blocks_design (in_blocks 1) }
     ensures not_zero { Holds blocks_design (in_blocks 0) → ⊥ }
 {}
@@ -63,8 +67,8 @@ pub fn a_block_runs()
     ensures assumed { after_block.seen ≡ 10 ∷ [] }
 {}
 
-/// A design without hierarchy, in which nothing is refused. A continuous assignment goes to nets by constant indices, and the
-/// clock is no number.
+/// A design without hierarchy, in which nothing is refused. A continuous assignment goes to nets by constant indices,
+/// and the clock is no number.
 #[tactic(auto, using(crate::proofs::Maps::maps))]
 pub fn a_flat_design_is_kept()
     ensures lawful { IsLawful flat.decls flat.drivers flat.starts }

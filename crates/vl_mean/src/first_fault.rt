@@ -146,7 +146,8 @@ fn name_fault(
     params: &Params,
     env: &Env,
 ) -> Option<ConstFault>
-    ensures { result ≡ spec.name_fault env.now.decls (cells_of env.now) pos (constant params.now text.now) (selects all.now) inner }
+    ensures { result ≡ spec.name_fault env.now.decls (cells_of env.now) pos (constant params.now text.now)
+        (selects all.now) inner }
 {
     if params.get(text).is_none() {
         return earlier(inner, Some(ConstFault::NotConstant(pos)));
@@ -177,7 +178,8 @@ fn first_select_fault(pos: Pos, all: &[Select], env: &Env) -> Option<ConstFault>
 
 /// A bound past 32 signed bits, a part against the direction, or one of a width below 1.
 fn range_fault(select: &Select, env: &Env) -> Option<ConstFault>
-    ensures { (rest : tree.Selects) → result ≡ spec.range_fault env.now.decls (cells_of env.now) (with_select select.now rest) }
+    ensures { (rest : tree.Selects) → result
+        ≡ spec.range_fault env.now.decls (cells_of env.now) (with_select select.now rest) }
 {
     match select {
         Select::Bit(_, _) => None,

@@ -5,8 +5,9 @@ use crate::driver::{Driver, Start};
 use fv_base::List;
 use vl_size::Decls;
 
-/// A design without hierarchy: names are full names, and each parameter and genvar is a number. Nothing in it is refused: each
-/// name is declared, each expression has a size, and each target is one that may be assigned there, by specs/FlatLaw.
+/// A design without hierarchy: names are full names, and each parameter and genvar is a number. Nothing in it is
+/// refused: each name is declared, each expression has a size, and each target is one that may be assigned there, by
+/// specs/FlatLaw.
 #[derive(Drop)]
 pub struct Flat {
     pub decls: Decls,

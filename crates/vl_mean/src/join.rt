@@ -12,7 +12,8 @@ pub(crate) fn repeated(count: Own, part: Own, width: u32, signed: bool) -> u128
     requires some { 1 ≤ part.width }
     requires few { width ≤ 128 }
     ensures value { let c = as_int count.width count.signed count.number in
-        result ≡ spec.with_size (spec.times c part.width) (λ m. extended m width signed (spec.copies (nat_abs c) part.width part.number)) }
+        result ≡ spec.with_size (spec.times c part.width)
+        (λ m. extended m width signed (spec.copies (nat_abs c) part.width part.number)) }
     ensures fits { result < 2 ^ width }
 {
     match times(count, part.width) {

@@ -24,7 +24,8 @@ impl Params {
 
     /// Sets the constant of a name, in place of one that it has.
     pub fn set(&mut self, name: Text, value: Const) -> Result<(), Memory>
-        ensures ok { OnOk result ((other : List ℕ) → constant self.new other ≡ with_constant name value (constant self.old) other) }
+        ensures ok { OnOk result ((other : List ℕ)
+            → constant self.new other ≡ with_constant name value (constant self.old) other) }
         ensures err { OnErr result ((other : List ℕ) → constant self.new other ≡ constant self.old other) }
     {
         self.map.insert(name.into_vec(), value)?;

@@ -16,8 +16,8 @@ use std::alloc::Global;
 use vl_size::{Class, Decl, Decls, size_of};
 use vl_tree::{Expr, ExprKind, Select};
 
-/// The expression with the number of each constant in its place (IEEE 1364-2005, sections 3.11 and 12.4.1). A select of a
-/// constant by constants is one number.
+/// The expression with the number of each constant in its place (IEEE 1364-2005, sections 3.11 and 12.4.1). A select
+/// of a constant by constants is one number.
 #[cycle(settled)]
 #[tactic(auto, using(vl_tree::specs::ExprFalls::parts_fall))]
 pub fn settled(alloc: Global, expr: &Expr, params: &Params) -> Result<Expr, Memory>
@@ -122,7 +122,9 @@ fn settled_selects(alloc: Global, all: &[Select], params: &Params) -> Result<Lis
 
 #[cycle(settled)]
 fn settled_select(alloc: Global, select: &Select, params: &Params) -> Result<Select, Memory>
-    ensures { IfOk result (λ s. (rest : tree.Selects) → with_select s (spec.settled_selects (constant params.now) rest) ≡ spec.settled_selects (constant params.now) (with_select select.now rest)) }
+    ensures { IfOk result (λ s. (rest : tree.Selects)
+        → with_select s (spec.settled_selects (constant params.now) rest)
+        ≡ spec.settled_selects (constant params.now) (with_select select.now rest)) }
 {
     match select {
         Select::Bit(pos, index) => {

@@ -116,7 +116,8 @@ fn wide_first(all: &[Select], env: &Env) -> Option<u64>
 }
 
 pub(crate) fn wide_select(select: &Select, env: &Env) -> Option<u64>
-    ensures { (rest : tree.Selects) → result ≡ spec.wide_select env.now.decls (cells_of env.now) (with_select select.now rest) }
+    ensures { (rest : tree.Selects) → result
+        ≡ spec.wide_select env.now.decls (cells_of env.now) (with_select select.now rest) }
 {
     match select {
         Select::Bit(_, _) => None,

@@ -1,5 +1,6 @@
 //! Numbers of the words of memories, by their printed names.
-ghost use Rattle.std.specs.Prelude.{◌≡◌, ◌++◌, ℕ, List, Some, None, IfSome, IfNone, codes, bytes_eq, false, if◌then◌else◌, int_le, int_lt, ◌&&◌, ◌^◌, ◌-◌, pos, negsuc};
+ghost use Rattle.std.specs.Prelude.{◌≡◌, ◌++◌, ℕ, List, Some, None, IfSome, IfNone, codes, bytes_eq, false};
+ghost use Rattle.std.specs.Prelude.{if◌then◌else◌, int_le, int_lt, ◌&&◌, ◌^◌, ◌-◌, pos, negsuc};
 ghost use Rattle.std.specs.Fmt.{signed_decimal};
 ghost use Rattle.fv_bits.specs.Bits.{as_int};
 ghost use Rattle.vl_size.specs.Size as spec;

@@ -15,22 +15,30 @@ use Rattle.vl_tree.specs.ItemSpelling.{spell, spell_all, spell_block, spell_head
 use Rattle.vl_parse.specs.Items.{LeavesElse}
 use Rattle.vl_expr.specs.Next.{IsOther}
 
-pub region_found : (xs : Items) (p : Pos) (start tokens rest : List Token) → BeginsAt p start → Spells (word w.Generate) start tokens
+pub region_found : (xs : Items) (p : Pos) (start tokens rest : List Token) → BeginsAt p start
+    → Spells (word w.Generate) start tokens
     → Spells (spell_all xs ▸ word w.Endgenerate) tokens rest → Spells (spell_block (region p xs)) start rest
 region_found xs p start tokens rest here h i = (here, (tokens, h, i))
 
-pub for_found : (head : LoopHead) (b : Block) (p : Pos) (start tokens middle rest : List Token) → BeginsAt p start → Spells (word w.For) start tokens
-    → Spells (spell_head head) tokens middle → Spells (spell_block b) middle rest → Spells (spell (for_loop [] p head b)) start rest
+pub for_found : (head : LoopHead) (b : Block) (p : Pos) (start tokens middle rest : List Token) → BeginsAt p start
+    → Spells (word w.For) start tokens
+    → Spells (spell_head head) tokens middle → Spells (spell_block b) middle rest
+    → Spells (spell (for_loop [] p head b)) start rest
 for_found head b p start tokens middle rest here h i j = (start, refl, (here, (tokens, h, (middle, i, j))))
 
-pub if_found : (c : Expr) (b : Block) (p : Pos) (start tokens middle rest : List Token) → BeginsAt p start → Spells (word w.If) start tokens
-    → Spells (parens (expr.spell c)) tokens middle → Spells (spell_block b) middle rest → Spells (spell (if_only [] p c b)) start rest
+pub if_found : (c : Expr) (b : Block) (p : Pos) (start tokens middle rest : List Token) → BeginsAt p start
+    → Spells (word w.If) start tokens
+    → Spells (parens (expr.spell c)) tokens middle → Spells (spell_block b) middle rest
+    → Spells (spell (if_only [] p c b)) start rest
 if_found c b p start tokens middle rest here h i j = (start, refl, (here, (tokens, h, (middle, i, j))))
 
-pub if_else_found : (c : Expr) (b d : Block) (p : Pos) (start tokens middle other second rest : List Token) → BeginsAt p start → Spells (word w.If) start tokens
-    → Spells (parens (expr.spell c)) tokens middle → Spells (spell_block b) middle other → Spells (word w.Else) other second
+pub if_else_found : (c : Expr) (b d : Block) (p : Pos) (start tokens middle other second rest : List Token)
+    → BeginsAt p start → Spells (word w.If) start tokens
+    → Spells (parens (expr.spell c)) tokens middle → Spells (spell_block b) middle other
+    → Spells (word w.Else) other second
     → Spells (spell_block d) second rest → Spells (spell (if_else [] p c b d)) start rest
-if_else_found c b d p start tokens middle other second rest here h i j l m = (start, refl, (here, (tokens, h, (middle, i, (other, j, (second, l, m))))))
+if_else_found c b d p start tokens middle other second rest here h i j l m =
+    (start, refl, (here, (tokens, h, (middle, i, (other, j, (second, l, m))))))
 
 -- an `else` that comes is of no `if` before it
 pub not_open : (b : Bool) (ts rest : List Kind) → LeavesElse b ts → ts ≡ k.Keyword w.Else ∷ rest → b ≡ false

@@ -12,8 +12,10 @@ use Rattle.vl_tree.specs.Phrase.{Phrase, Spells, BeginsAt, word, ◌▸◌}
 use Rattle.vl_tree.specs.DeclarationSpelling.{spell_attributes}
 use Rattle.vl_tree.specs.DeclarationWellFormed.{AreAttributes, IsInstance}
 use Rattle.vl_tree.specs.ItemSpelling.{spell, spell_all}
-use Rattle.vl_tree.specs.WellFormed.{mark_of, open_behind_mark, open_behind, AreBalanced, IsWellFormed, AreWellFormed, attributes_of}
-use Rattle.vl_tree.specs.Item.{Item, items, declaration, integer, genvar, parameter, assign, always, initial, instance, generate, for_loop, if_only, if_else}
+use Rattle.vl_tree.specs.WellFormed.{mark_of, open_behind_mark, open_behind, AreBalanced, IsWellFormed, AreWellFormed}
+use Rattle.vl_tree.specs.WellFormed.{attributes_of}
+use Rattle.vl_tree.specs.Item.{Item, items, declaration, integer, genvar, parameter, assign, always, initial}
+use Rattle.vl_tree.specs.Item.{instance, generate, for_loop, if_only, if_else}
 use Rattle.vl_tree.specs.declared.item.RegionMark.TheVariants as mark
 use Rattle.vl_tree.specs.declared.item.ItemKind.{ItemKind}
 use Rattle.vl_tree.specs.declared.item.ItemKind.TheVariants as kind
@@ -30,42 +32,55 @@ use Rattle.vl_parse.proofs.ItemRows.{items_end, items_more}
 
 -- trees
 
-pub items_pushed : (xs : List Item) (x : Item) (start middle rest : List Token) → Spells (spell_all (items xs)) start middle
+pub items_pushed : (xs : List Item) (x : Item) (start middle rest : List Token)
+    → Spells (spell_all (items xs)) start middle
     → Spells (spell x) middle rest → Spells (spell_all (items (xs ++ x ∷ []))) start rest
 items_pushed [] x start middle rest h i = (rest, subst (λ ts. Spells (spell x) ts rest) (sym h) i, refl)
 items_pushed (y ∷ xs) x start middle rest (m, h, j) i = (m, h, items_pushed xs x m middle rest j i)
 
-pub items_formed : (xs : List Item) (x : Item) → AreWellFormed (items xs) → IsWellFormed x → AreWellFormed (items (xs ++ x ∷ []))
+pub items_formed : (xs : List Item) (x : Item) → AreWellFormed (items xs) → IsWellFormed x
+    → AreWellFormed (items (xs ++ x ∷ []))
 items_formed [] x h i = (i, tt)
 items_formed (y ∷ xs) x h i = (h.0, items_formed xs x h.1 i)
 
-behind_pushed : (xs : List Item) (x : Item) (n : Option ℕ) → open_behind (items (xs ++ x ∷ [])) n ≡ open_behind_mark (mark_of x) (open_behind (items xs) n)
+behind_pushed : (xs : List Item) (x : Item) (n : Option ℕ)
+    → open_behind (items (xs ++ x ∷ [])) n ≡ open_behind_mark (mark_of x) (open_behind (items xs) n)
 behind_pushed [] x n = refl
 behind_pushed (y ∷ xs) x n = behind_pushed xs x (open_behind_mark (mark_of y) n)
 
 -- an item more, by which the number of open regions changes like this
-are_open : (xs : List Item) (x : Item) (n m : ℕ) → open_behind_mark (mark_of x) (Some n) ≡ Some m → AreOpen xs n → IsWellFormed x → AreOpen (xs ++ x ∷ []) m
-are_open xs x n m e h i = (behind_pushed xs x (Some 0) ∙ ap (open_behind_mark (mark_of x)) h.0 ∙ e, items_formed xs x h.1 i)
+are_open : (xs : List Item) (x : Item) (n m : ℕ) → open_behind_mark (mark_of x) (Some n) ≡ Some m → AreOpen xs n
+    → IsWellFormed x → AreOpen (xs ++ x ∷ []) m
+are_open xs x n m e h i =
+    (behind_pushed xs x (Some 0) ∙ ap (open_behind_mark (mark_of x)) h.0 ∙ e, items_formed xs x h.1 i)
 
-pub with_item_open : (xs : List Item) (x : Item) (n : ℕ) → AreOpen xs n → mark_of x ≡ None → IsWellFormed x → AreOpen (xs ++ x ∷ []) n
+pub with_item_open : (xs : List Item) (x : Item) (n : ℕ) → AreOpen xs n → mark_of x ≡ None → IsWellFormed x
+    → AreOpen (xs ++ x ∷ []) n
 with_item_open xs x n h e i = are_open xs x n n (ap (λ m. open_behind_mark m (Some n)) e) h i
 
 pub with_generate_open : (xs : List Item) (attrs : Attributes) (p : Pos) (n : ℕ) → AreOpen xs n → AreAttributes attrs
     → AreOpen (xs ++ generate attrs p mark.Open ∷ []) (n + 1)
-with_generate_open xs attrs p n h i = are_open xs (generate attrs p mark.Open) n (n + 1) (ap Some (omega arith)) h (i, tt)
+with_generate_open xs attrs p n h i =
+    are_open xs (generate attrs p mark.Open) n (n + 1) (ap Some (omega arith)) h (i, tt)
 
-pub closed_open : (xs : List Item) (p : Pos) (n : ℕ) → AreOpen xs n → 0 < n → AreOpen (xs ++ generate [] p mark.Close ∷ []) (n - 1)
+pub closed_open : (xs : List Item) (p : Pos) (n : ℕ) → AreOpen xs n → 0 < n
+    → AreOpen (xs ++ generate [] p mark.Close ∷ []) (n - 1)
 closed_open xs p zero h l = absurd (omega (arith, l))
 closed_open xs p (suc n) h l =
     are_open xs (generate [] p mark.Close) (suc n) (suc n - 1) (ap Some (omega arith)) h (All-nil IsInstance, refl)
 
 -- the end of a region behind items
-pub closed_found : (xs : List Item) (p : Pos) (start middle rest : List Token) → Spells (spell_all (items xs)) start middle → BeginsAt p middle
-    → Spells (word w.Endgenerate) middle rest → Spells (spell_all (items (xs ++ generate [] p mark.Close ∷ []))) start rest
-closed_found xs p start middle rest h here i = items_pushed xs (generate [] p mark.Close) start middle rest h (middle, refl, (here, i))
+pub closed_found : (xs : List Item) (p : Pos) (start middle rest : List Token)
+    → Spells (spell_all (items xs)) start middle → BeginsAt p middle
+    → Spells (word w.Endgenerate) middle rest
+    → Spells (spell_all (items (xs ++ generate [] p mark.Close ∷ []))) start rest
+closed_found xs p start middle rest h here i =
+    items_pushed xs (generate [] p mark.Close) start middle rest h (middle, refl, (here, i))
 
-pub whole_found : (xs : List Item) (n : ℕ) (outer : Ending) (start middle rest : List Token) → n ≡ 0 → Spells (spell_all (items xs)) start middle
-    → Spells (word (word_of (innermost n outer))) middle rest → Spells (spell_all (items xs) ▸ word (word_of outer)) start rest
+pub whole_found : (xs : List Item) (n : ℕ) (outer : Ending) (start middle rest : List Token) → n ≡ 0
+    → Spells (spell_all (items xs)) start middle
+    → Spells (word (word_of (innermost n outer))) middle rest
+    → Spells (spell_all (items xs) ▸ word (word_of outer)) start rest
 whole_found xs zero outer start middle rest e h j = (middle, h, j)
 whole_found xs (suc n) outer start middle rest e h j = absurd (omega (arith, e))
 
@@ -78,7 +93,8 @@ then_then : (a : Outcome) (f g : List Kind → Outcome) → then (then a f) g �
 then_then (Ok r) f g = refl
 then_then (Err e) f g = refl
 
-pub still_more : (m : ℕ) (outer : Ending) (n : ℕ) (ts : List Kind) → IsOther (k.Keyword (word_of (innermost m outer))) ts
+pub still_more : (m : ℕ) (outer : Ending) (n : ℕ) (ts : List Kind)
+    → IsOther (k.Keyword (word_of (innermost m outer))) ts
     → still m outer n ts ≡ then (read grammar.item n ts) (λ r. still m outer n r)
 still_more zero outer n ts h = items_more outer n ts h
 still_more (suc m) outer n ts h =
@@ -126,24 +142,32 @@ has_body : (x : Item) → spell x ≡ spell_attributes (attributes_of x) ▸ beh
 has_body (declaration attrs p d) = refl
 has_body x = refl
 
-with_body : (attrs : Attributes) (x : Item) → spell (with_attributes attrs x) ≡ spell_attributes attrs ▸ behind (spell x)
+with_body : (attrs : Attributes) (x : Item)
+    → spell (with_attributes attrs x) ≡ spell_attributes attrs ▸ behind (spell x)
 with_body attrs (declaration old p d) = refl
 with_body attrs x = refl
 
-without : (old : Attributes) (b : Phrase) (start rest : List Token) → old ≡ [] → Spells (spell_attributes old ▸ b) start rest → Spells b start rest
+without : (old : Attributes) (b : Phrase) (start rest : List Token) → old ≡ []
+    → Spells (spell_attributes old ▸ b) start rest → Spells b start rest
 without [] b start rest e (m, h, i) = subst (λ ts. Spells b ts rest) (sym h) i
 without (o ∷ os) b start rest e h = absurd (no e)
   where
     no : o ∷ os ≡ [] → ⊥
     no h = cc
 
-pub with_attributes_found : (attrs : Attributes) (x : Item) (start middle rest : List Token) → attributes_of x ≡ [] → Spells (spell_attributes attrs) start middle
+pub with_attributes_found : (attrs : Attributes) (x : Item) (start middle rest : List Token) → attributes_of x ≡ []
+    → Spells (spell_attributes attrs) start middle
     → Spells (spell x) middle rest → Spells (spell (with_attributes attrs x)) start rest
 with_attributes_found attrs x start middle rest e h i =
-    subst (λ q. Spells q start rest) (sym (with_body attrs x))
-    (middle, h, without (attributes_of x) (behind (spell x)) middle rest e (subst (λ q. Spells q middle rest) (has_body x) i))
+    subst (λ q. Spells q start rest) (sym (with_body attrs x)) (
+      middle,
+      h,
+      without (attributes_of x) (behind (spell x)) middle rest e
+          (subst (λ q. Spells q middle rest) (has_body x) i),
+    )
 
-pub with_attributes_formed : (attrs : Attributes) (x : Item) → AreAttributes attrs → mark_of x ≡ None → IsWellFormed x → IsWellFormed (with_attributes attrs x)
+pub with_attributes_formed : (attrs : Attributes) (x : Item) → AreAttributes attrs → mark_of x ≡ None
+    → IsWellFormed x → IsWellFormed (with_attributes attrs x)
 with_attributes_formed attrs (declaration old p d) h n g = (h, g.1)
 with_attributes_formed attrs (integer old p xs) h n g = (h, g.1)
 with_attributes_formed attrs (genvar old p xs) h n g = (h, g.1)
@@ -161,7 +185,8 @@ pub with_attributes_mark : (attrs : Attributes) (x : Item) → mark_of x ≡ Non
 with_attributes_mark attrs (declaration old p d) h = refl
 with_attributes_mark attrs x h = h
 
-pub shown_with : (attrs old : Attributes) (p : Pos) (kind : ItemKind) → with_attributes attrs (shown old p kind) ≡ shown attrs p kind
+pub shown_with : (attrs old : Attributes) (p : Pos) (kind : ItemKind)
+    → with_attributes attrs (shown old p kind) ≡ shown attrs p kind
 shown_with attrs old p (kind.If c first None) = refl
 shown_with attrs old p (kind.If c first (Some second)) = refl
 shown_with attrs old p x = refl
@@ -174,4 +199,5 @@ pub ruleset still_read = (still_more, still_whole, inner_word, whole_balanced)
 
 pub ruleset whole_read = (whole_found)
 
-pub ruleset items_spelled = (with_item_open, with_generate_open, closed_open, closed_found, items_pushed, still_opened, still_closed)
+pub ruleset items_spelled =
+    (with_item_open, with_generate_open, closed_open, closed_found, items_pushed, still_opened, still_closed)

@@ -18,7 +18,8 @@ use Rattle.vl_grammar.proofs.OneSource.{one_source}
 use Rattle.vl_grammar.proofs.Spelled.{spelled_run}
 use Rattle.vl_parse.specs.declared.fault.ParseFault.{ParseFault}
 use Rattle.vl_parse.specs.declared.fault.ParseFault.TheVariants as f
-use Rattle.vl_parse.specs.Faults.{Answers, IsMemoryOr, token_at, place_at, wrong_token, wrong_at, named_at, outside_word}
+use Rattle.vl_parse.specs.Faults.{Answers, IsMemoryOr, token_at, place_at, wrong_token, wrong_at, named_at}
+use Rattle.vl_parse.specs.Faults.{outside_word}
 use Rattle.vl_parse.specs.Refusals.{IsTreeOf, IsShallow, NoneIsTooDeep, IsOfFaulty, IsFaultOf, Gives, Refuses}
 
 abbrev Ran : Type 0
@@ -44,14 +45,16 @@ deep_named : (p q : Pos) (o : Option Token) → f.TooDeep p ≡ named_at q o →
 deep_named p q None h = cc
 deep_named p q (Some t) h = deep_wrong p q (outside_word t.kind) h
 
-pub shallow : (ts : List Token) (tree : Source) → IsSource tree → Spells (spell_source tree) ts [] → Answers ts (Ok tree) (run (kinds_of ts)) → IsShallow tree
+pub shallow : (ts : List Token) (tree : Source) → IsSource tree → Spells (spell_source tree) ts []
+    → Answers ts (Ok tree) (run (kinds_of ts)) → IsShallow tree
 shallow ts tree w h a = by_depth (too_deep_at tree) (subst (λ r. Answers ts (Ok tree) r) (spelled_run tree ts w h) a)
   where
     by_depth : (o : Option ℕ) → Answers ts (Ok tree) (unless_too_deep o) → o ≡ None
     by_depth None a = refl
     by_depth (Some l) a = absurd a
 
-of_faulty : (ts : List Token) (fault : ParseFault) (left : ℕ) → run (kinds_of ts) ≡ Err (syntax left) → fault ≡ wrong_token ts left → IsOfFaulty ts fault
+of_faulty : (ts : List Token) (fault : ParseFault) (left : ℕ) → run (kinds_of ts) ≡ Err (syntax left)
+    → fault ≡ wrong_token ts left → IsOfFaulty ts fault
 of_faulty ts fault l e h = record {
   left = l;
   faulty = faulty ts l e;
@@ -59,7 +62,8 @@ of_faulty ts fault l e h = record {
   named = h;
 }
 
-pub fault_of_tokens : (ts : List Token) (fault : ParseFault) → Answers ts (Err fault) (run (kinds_of ts)) → IsFaultOf ts fault
+pub fault_of_tokens : (ts : List Token) (fault : ParseFault) → Answers ts (Err fault) (run (kinds_of ts))
+    → IsFaultOf ts fault
 fault_of_tokens ts fault a = by_run fault (run (kinds_of ts)) refl a
   where
     by_run : (fault : ParseFault) (o : Ran) → run (kinds_of ts) ≡ o → Answers ts (Err fault) o → IsFaultOf ts fault
@@ -75,11 +79,13 @@ fault_of_tokens ts fault a = by_run fault (run (kinds_of ts)) refl a
     by_run (f.TooDeep p) (Err (deep l)) e a = record { left = l; deep = too_deep ts l e; placed = a }
 
 -- where reading stops, that fault is answered
-refuses : (ts : List Token) (r : Answer) (e : Fault) (wanted : ParseFault) → Answers ts r (Err e) → ((found : ParseFault) → Answers ts (Err found) (Err e) → IsMemoryOr wanted found) → Refuses wanted r
+refuses : (ts : List Token) (r : Answer) (e : Fault) (wanted : ParseFault) → Answers ts r (Err e)
+    → ((found : ParseFault) → Answers ts (Err found) (Err e) → IsMemoryOr wanted found) → Refuses wanted r
 refuses ts (Ok tree) e wanted a g = absurd a
 refuses ts (Err found) e wanted a g = g found a
 
-pub refuses_faulty : (ts : List Token) (r : Answer) → Answers ts r (run (kinds_of ts)) → (left : ℕ) → IsFaulty (kinds_of ts) left → NoneIsTooDeep ts → Refuses (wrong_token ts left) r
+pub refuses_faulty : (ts : List Token) (r : Answer) → Answers ts r (run (kinds_of ts)) → (left : ℕ)
+    → IsFaulty (kinds_of ts) left → NoneIsTooDeep ts → Refuses (wrong_token ts left) r
 refuses_faulty ts r a l x none =
     refuses ts r (syntax l) (wrong_token ts l) (subst (λ o. Answers ts r o) (only_syntax ts l x none) a) by_found
   where
@@ -89,11 +95,14 @@ refuses_faulty ts r a l x none =
     by_found (f.Outside p word) a = a
     by_found (f.TooDeep p) a = a
 
-pub refuses_deep : (ts : List Token) (r : Answer) → Answers ts r (run (kinds_of ts)) → (left : ℕ) → IsTooDeep (kinds_of ts) left → Refuses (f.TooDeep (place_at ts left)) r
+pub refuses_deep : (ts : List Token) (r : Answer) → Answers ts r (run (kinds_of ts)) → (left : ℕ)
+    → IsTooDeep (kinds_of ts) left → Refuses (f.TooDeep (place_at ts left)) r
 refuses_deep ts r a l x =
-    refuses ts r (deep l) (f.TooDeep (place_at ts l)) (subst (λ o. Answers ts r o) (only_deep (kinds_of ts) l x) a) by_found
+    refuses ts r (deep l) (f.TooDeep (place_at ts l))
+    (subst (λ o. Answers ts r o) (only_deep (kinds_of ts) l x) a) by_found
   where
-    by_found : (found : ParseFault) → Answers ts (Err found) (Err (deep l)) → IsMemoryOr (f.TooDeep (place_at ts l)) found
+    by_found : (found : ParseFault) → Answers ts (Err found) (Err (deep l))
+        → IsMemoryOr (f.TooDeep (place_at ts l)) found
     by_found f.Memory a = tt
     by_found (f.Syntax p) a = a
     by_found (f.Outside p word) a = a
@@ -103,7 +112,8 @@ pub one : (ts : List Token) (tree : Source) → IsTreeOf ts tree → (other : So
 one ts tree h other i = one_source other tree ts i.0 h.0 i.1 h.1
 
 -- a shallow tree is answered
-pub gives : (ts : List Token) (fault : ParseFault) → Answers ts (Err fault) (run (kinds_of ts)) → (tree : Source) → IsTreeOf ts tree → IsShallow tree → Gives tree (Err fault)
+pub gives : (ts : List Token) (fault : ParseFault) → Answers ts (Err fault) (run (kinds_of ts)) → (tree : Source)
+    → IsTreeOf ts tree → IsShallow tree → Gives tree (Err fault)
 gives ts fault a tree h s =
     by_fault fault (subst (λ o. Answers ts (Err fault) o) (spelled_run tree ts h.0 h.1 ∙ ap unless_too_deep s) a)
   where

@@ -13,7 +13,8 @@ use Rattle.vl_parse.specs.Sources.{IsStart}
 use Rattle.vl_parse.proofs.ItemRows.{modules_end}
 use Rattle.vl_part.proofs.ListLaws.{all_pushed}
 
-pub modules_pushed : (ms : List Module) (x : Module) (start middle rest : List Token) → Spells (each spell_module ms) start middle
+pub modules_pushed : (ms : List Module) (x : Module) (start middle rest : List Token)
+    → Spells (each spell_module ms) start middle
     → Spells (spell_module x) middle rest → Spells (each spell_module (ms ++ x ∷ [])) start rest
 modules_pushed [] x start middle rest h i = (rest, subst (λ ts. Spells (spell_module x) ts rest) (sym h) i, refl)
 modules_pushed (y ∷ ms) x start middle rest (m, h, j) i = (m, h, modules_pushed ms x m middle rest j i)
@@ -33,12 +34,14 @@ pub none_left : (ts : List Token) → length ts ≡ 0 → ts ≡ []
 none_left [] h = refl
 none_left (t ∷ ts) h = no_token t ts h
 
-pub source_found : (p : Pos) (ms : List Module) (ts : List Token) → IsStart p ts → Spells (each spell_module ms) ts [] → Spells (spell_modules p ms) ts []
+pub source_found : (p : Pos) (ms : List Module) (ts : List Token) → IsStart p ts
+    → Spells (each spell_module ms) ts [] → Spells (spell_modules p ms) ts []
 source_found p [] ts b h = h
 source_found p (m ∷ ms) [] b (n, h, i) = absurd h.0
 source_found p (m ∷ ms) (t ∷ ts) b h = (b, h)
 
-pub source_placed : (p : Pos) (ms : List Module) (ts : List Token) → IsStart p ts → Spells (each spell_module ms) ts [] → HasPlace p ms
+pub source_placed : (p : Pos) (ms : List Module) (ts : List Token) → IsStart p ts
+    → Spells (each spell_module ms) ts [] → HasPlace p ms
 source_placed p [] [] b h = b
 source_placed p [] (t ∷ ts) b h = absurd (no h)
   where

@@ -20,21 +20,28 @@ whole : (ts : List Token) → run (kinds_of ts) ≡ then (read modules 256 (kind
 unfolding read
 whole ts = ap run (kinds_same ts) ∙ parts.run_reads expand ends start (kinds_in ts)
 
-pub answers_ok : (ts : List Token) (tree : Source) → read modules 256 (kinds_in ts) ≡ Ok [] → Answers ts (Ok tree) (run (kinds_of ts))
-answers_ok ts tree h = subst (λ r. Answers ts (Ok tree) r) (sym (whole ts ∙ ap (λ a. then a (parts.at_the_end expand ends)) h)) tt
+pub answers_ok : (ts : List Token) (tree : Source) → read modules 256 (kinds_in ts) ≡ Ok []
+    → Answers ts (Ok tree) (run (kinds_of ts))
+answers_ok ts tree h =
+    subst (λ r. Answers ts (Ok tree) r) (sym (whole ts ∙ ap (λ a. then a (parts.at_the_end expand ends)) h)) tt
 
-pub answers_deep : (ts : List Token) (left : ℕ) → read modules 256 (kinds_in ts) ≡ Err (deep left) → Answers ts (Err (f.TooDeep (place_at ts left))) (run (kinds_of ts))
-answers_deep ts left h = subst (λ r. Answers ts (Err (f.TooDeep (place_at ts left))) r) (sym (whole ts ∙ ap (λ a. then a (parts.at_the_end expand ends)) h)) refl
+pub answers_deep : (ts : List Token) (left : ℕ) → read modules 256 (kinds_in ts) ≡ Err (deep left)
+    → Answers ts (Err (f.TooDeep (place_at ts left))) (run (kinds_of ts))
+answers_deep ts left h = subst (λ r. Answers ts (Err (f.TooDeep (place_at ts left))) r)
+    (sym (whole ts ∙ ap (λ a. then a (parts.at_the_end expand ends)) h)) refl
 
-by_fault : (ts : List Token) (left : ℕ) (found : ParseFault) → IsMemoryOr (fault_of ts (syntax left)) found → Answers ts (Err found) (Err (syntax left))
+by_fault : (ts : List Token) (left : ℕ) (found : ParseFault) → IsMemoryOr (fault_of ts (syntax left)) found
+    → Answers ts (Err found) (Err (syntax left))
 by_fault ts left f.Memory h = tt
 by_fault ts left (f.Syntax p) h = h
 by_fault ts left (f.TooDeep p) h = h
 by_fault ts left (f.Outside p word) h = h
 
-pub answers_wrong : (ts : List Token) (left : ℕ) (found : ParseFault) → read modules 256 (kinds_in ts) ≡ Err (syntax left)
+pub answers_wrong : (ts : List Token) (left : ℕ) (found : ParseFault)
+    → read modules 256 (kinds_in ts) ≡ Err (syntax left)
     → IsMemoryOr (fault_of ts (syntax left)) found → Answers ts (Err found) (run (kinds_of ts))
 answers_wrong ts left found h i =
-    subst (λ r. Answers ts (Err found) r) (sym (whole ts ∙ ap (λ a. then a (parts.at_the_end expand ends)) h)) (by_fault ts left found i)
+    subst (λ r. Answers ts (Err found) r) (sym (whole ts ∙ ap (λ a. then a (parts.at_the_end expand ends)) h))
+    (by_fault ts left found i)
 
 pub ruleset top = (answers_ok, answers_deep, answers_wrong)

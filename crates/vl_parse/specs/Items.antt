@@ -1,5 +1,5 @@
--- What lists of items end with, what an item leaves behind it, and lists in which regions are still open. IEEE 1364-2005, sections 12.4 and
--- A.1.4.
+-- What lists of items end with, what an item leaves behind it, and lists in which regions are still open. IEEE
+-- 1364-2005, sections 12.4 and A.1.4.
 use Rattle.std.specs.Prelude.{◌≡◌, ℕ, zero, suc, Bool, true, List, [], ◌∷◌, Ok, Option, Some, None}
 use Rattle.fv_base.specs.declared.kind.Kind.{Kind}
 use Rattle.fv_base.specs.declared.kind.Kind.TheVariants as k
@@ -12,7 +12,8 @@ use Rattle.vl_tree.specs.DeclarationSpelling.{spell_attributes}
 use Rattle.vl_tree.specs.DeclarationWellFormed.{AreAttributes}
 use Rattle.vl_tree.specs.ItemSpelling.{spell, spell_all}
 use Rattle.vl_tree.specs.WellFormed.{mark_of, open_behind, IsWellFormed, AreWellFormed}
-use Rattle.vl_tree.specs.Item.{Item, items, declaration, integer, genvar, parameter, assign, always, initial, instance, generate, for_loop, if_only, if_else}
+use Rattle.vl_tree.specs.Item.{Item, items, declaration, integer, genvar, parameter, assign, always, initial}
+use Rattle.vl_tree.specs.Item.{instance, generate, for_loop, if_only, if_else}
 use Rattle.vl_grammar.specs.Machine.{then}
 use Rattle.vl_grammar.specs.Grammar as grammar
 use Rattle.vl_parse.specs.declared.item.Ending.{Ending}
@@ -59,7 +60,8 @@ innermost (suc n) outer = e.Endgenerate
 -- what is behind the whole list: it goes on behind each region that is open
 abbrev pub still : ℕ → Ending → ℕ → List Kind → grammar.Outcome
 still zero outer room ts = grammar.read (grammar.items (ending_of outer)) room ts
-still (suc n) outer room ts = then (grammar.read (grammar.items grammar.endgenerate) room ts) (λ r. still n outer room r)
+still (suc n) outer room ts =
+    then (grammar.read (grammar.items grammar.endgenerate) room ts) (λ r. still n outer room r)
 
 abbrev pub spell_reading : Reading → Phrase
 spell_reading x = spell_all (items x.all)

@@ -1,8 +1,8 @@
 use fv_base::{Memory, Pos, Text};
 use thiserror::Error;
 
-/// Why tokens have no tree. The faulty token is the first one that no source has behind the tokens before it; the end of
-/// the tokens counts as one, at the place of the last, or at 1:1 of file 1 where there is none.
+/// Why tokens have no tree. The faulty token is the first one that no source has behind the tokens before it; the end
+/// of the tokens counts as one, at the place of the last, or at 1:1 of file 1 where there is none.
 #[derive(Debug, Drop, Error)]
 pub enum ParseFault {
     /// At the faulty token, one that the subset speaks of.
@@ -11,8 +11,8 @@ pub enum ParseFault {
     /// At the first token at which 257 constructs are open.
     #[error("constructs too deep at {0:?}")]
     TooDeep(Pos),
-    /// At the faulty token, one outside of the subset, as it is written; `string` stands for a string and `number` for a
-    /// number.
+    /// At the faulty token, one outside of the subset, as it is written; `string` stands for a string and `number`
+    /// for a number.
     #[error("a token outside of the subset at {0:?}: {1:?}")]
     Outside(Pos, Text),
     #[error("no memory is left")]

@@ -123,11 +123,14 @@ pub(crate) fn read_item(
 fn read_for(alloc: Global, pos: Pos, room: u32, tokens: &[Token]) -> Result<(Item, &[Token]), Stop>
     ensures bare { IfOk result (λ x. formed.attributes_of x.0 ≡ []) }
     ensures unmarked { IfOk result (λ x. formed.mark_of x.0 ≡ None) }
-    ensures found { IfOk result (λ x. (start : List Token) → BeginsAt pos start → Spells (word Keyword.For) start tokens.now → Spells (spec.spell x.0) start x.1.now) }
+    ensures found { IfOk result (λ x. (start : List Token) → BeginsAt pos start
+        → Spells (word Keyword.For) start tokens.now → Spells (spec.spell x.0) start x.1.now) }
     ensures formed { IfOk result (λ x. formed.IsWellFormed x.0) }
     ensures no_else { IfOk result (λ x. items.LeavesElse (formed.ends_open x.0) (kinds_in x.1.now)) }
     ensures shorter { IfOk result (λ x. length x.1.now < length tokens.now) }
-    ensures goes { Goes (λ x. Ok (kinds_in x.1.now)) result (then (grammar.read grammar.loop_head room (kinds_in tokens.now)) (λ r. grammar.read grammar.generate_block room r)) }
+    ensures goes { Goes (λ x. Ok (kinds_in x.1.now)) result
+        (then (grammar.read grammar.loop_head room (kinds_in tokens.now))
+        (λ r. grammar.read grammar.generate_block room r)) }
 {
     let (head, rest) = read_head(alloc, room, tokens)?;
     let (body, rest) = read_block(alloc, room, rest)?;
@@ -199,11 +202,15 @@ fn read_declaration(
     room: u32,
     tokens: &[Token],
 ) -> Result<(Declaration, &[Token]), Stop>
-    ensures found { IfOk result (λ x. Spells (declared.spell_shape x.0.shape ▸ between_commas declared.spell_declared_name x.0.names ▸ sign Symbol.Semicolon) tokens.now x.1.now) }
+    ensures found { IfOk result (λ x. Spells
+        (declared.spell_shape x.0.shape ▸ between_commas declared.spell_declared_name x.0.names ▸ sign
+        Symbol.Semicolon) tokens.now x.1.now) }
     ensures net { IfOk result (λ x. x.0.net ≡ net) }
     ensures formed { IfOk result (λ x. formed.IsDeclaration x.0) }
     ensures shorter { IfOk result (λ x. length x.1.now < length tokens.now) }
-    ensures goes { Goes (λ x. Ok (kinds_in x.1.now)) result (then (grammar.read grammar.shape room (kinds_in tokens.now)) (λ r. then (grammar.read grammar.declared_name room r) (λ q. grammar.read grammar.declared_names room q))) }
+    ensures goes { Goes (λ x. Ok (kinds_in x.1.now)) result
+        (then (grammar.read grammar.shape room (kinds_in tokens.now))
+        (λ r. then (grammar.read grammar.declared_name room r) (λ q. grammar.read grammar.declared_names room q))) }
 {
     let (shape, rest) = read_shape(alloc, room, tokens)?;
     let (names, rest) = read_list(alloc, room, Symbol::Semicolon, rest)?;
@@ -216,11 +223,15 @@ fn read_declaration(
 fn read_if(alloc: Global, pos: Pos, room: u32, tokens: &[Token]) -> Result<(Item, &[Token]), Stop>
     ensures bare { IfOk result (λ x. formed.attributes_of x.0 ≡ []) }
     ensures unmarked { IfOk result (λ x. formed.mark_of x.0 ≡ None) }
-    ensures found { IfOk result (λ x. (start : List Token) → BeginsAt pos start → Spells (word Keyword.If) start tokens.now → Spells (spec.spell x.0) start x.1.now) }
+    ensures found { IfOk result (λ x. (start : List Token) → BeginsAt pos start
+        → Spells (word Keyword.If) start tokens.now → Spells (spec.spell x.0) start x.1.now) }
     ensures formed { IfOk result (λ x. formed.IsWellFormed x.0) }
     ensures no_else { IfOk result (λ x. items.LeavesElse (formed.ends_open x.0) (kinds_in x.1.now)) }
     ensures shorter { IfOk result (λ x. length x.1.now < length tokens.now) }
-    ensures goes { Goes (λ x. Ok (kinds_in x.1.now)) result (then (grammar.read grammar.in_parens room (kinds_in tokens.now)) (λ r. then (grammar.read grammar.generate_block room r) (λ q. grammar.read grammar.generate_otherwise room q))) }
+    ensures goes { Goes (λ x. Ok (kinds_in x.1.now)) result
+        (then (grammar.read grammar.in_parens room (kinds_in tokens.now))
+        (λ r. then (grammar.read grammar.generate_block room r)
+        (λ q. grammar.read grammar.generate_otherwise room q))) }
 {
     let (condition, rest) = read_parens(alloc, room, tokens)?;
     let (first, rest) = read_block(alloc, room, rest)?;
@@ -298,7 +309,9 @@ impl Reading {
         requires unmarked { formed.mark_of item ≡ None }
         requires item { formed.IsWellFormed item }
         ensures formed { IfOk result (λ x. items.IsReading x) }
-        ensures found { IfOk result (λ x. (start middle rest : List Token) → Spells (items.spell_reading self) start middle → Spells (spec.spell item) middle rest → Spells (items.spell_reading x) start rest) }
+        ensures found { IfOk result (λ x. (start middle rest : List Token)
+            → Spells (items.spell_reading self) start middle → Spells (spec.spell item) middle rest
+            → Spells (items.spell_reading x) start rest) }
         ensures regions { IfOk result (λ x. x.regions ≡ self.regions) }
         ensures memory { IfErr result (λ e. IsMemory e) }
     {
@@ -316,7 +329,10 @@ impl Reading {
         requires formed { items.IsReading self }
         requires attributes { declared_formed.AreAttributes attributes }
         ensures formed { IfOk result (λ x. items.IsReading x) }
-        ensures found { IfOk result (λ x. (start middle rest : List Token) → Spells (items.spell_reading self) start middle → Spells (declared.spell_attributes attributes ▸ at pos (word Keyword.Generate)) middle rest → Spells (items.spell_reading x) start rest) }
+        ensures found { IfOk result (λ x. (start middle rest : List Token)
+            → Spells (items.spell_reading self) start middle
+            → Spells (declared.spell_attributes attributes ▸ at pos (word Keyword.Generate)) middle rest
+            → Spells (items.spell_reading x) start rest) }
         ensures regions { IfOk result (λ x. x.regions ≡ self.regions + 1) }
         ensures memory { IfErr result (λ e. IsMemory e) }
     {
@@ -335,8 +351,12 @@ impl Reading {
         requires formed { items.IsReading self }
         requires front { items.IsFront front }
         ensures formed { IfOk result (λ x. items.IsReading x) }
-        ensures found { IfOk result (λ x. (start middle rest : List Token) → Spells (items.spell_reading self) start middle → Spells (items.spell_front front) middle rest → Spells (items.spell_reading x) start rest) }
-        ensures goes { IfOk result (λ x. (outer : Ending) (room : ℕ) (ts : List Kind) → then (items.behind_front front room ts) (λ r. items.still self.regions outer room r) ≡ items.still x.regions outer room ts) }
+        ensures found { IfOk result (λ x. (start middle rest : List Token)
+            → Spells (items.spell_reading self) start middle → Spells (items.spell_front front) middle rest
+            → Spells (items.spell_reading x) start rest) }
+        ensures goes { IfOk result (λ x. (outer : Ending) (room : ℕ) (ts : List Kind)
+            → then (items.behind_front front room ts) (λ r. items.still self.regions outer room r)
+            ≡ items.still x.regions outer room ts) }
         ensures memory { IfErr result (λ e. IsMemory e) }
     {
         match front {
@@ -357,7 +377,9 @@ impl Reading {
         requires formed { items.IsReading self }
         requires within { 0 < self.regions }
         ensures formed { IfOk result (λ x. items.IsReading x) }
-        ensures found { IfOk result (λ x. (start middle rest : List Token) → Spells (items.spell_reading self) start middle → BeginsAt pos middle → Spells (word Keyword.Endgenerate) middle rest → Spells (items.spell_reading x) start rest) }
+        ensures found { IfOk result (λ x. (start middle rest : List Token)
+            → Spells (items.spell_reading self) start middle → BeginsAt pos middle
+            → Spells (word Keyword.Endgenerate) middle rest → Spells (items.spell_reading x) start rest) }
         ensures regions { IfOk result (λ x. self.regions ≡ x.regions + 1) }
         ensures memory { IfErr result (λ e. IsMemory e) }
     {
@@ -382,11 +404,13 @@ pub(crate) fn read_items(
     ending: Ending,
     tokens: &[Token],
 ) -> Result<(List<Item>, &[Token]), Stop>
-    ensures found { IfOk result (λ x. Spells (spec.spell_all (tree.items x.0) ▸ word (items.word_of ending)) tokens.now x.1.now) }
+    ensures found { IfOk result (λ x. Spells
+        (spec.spell_all (tree.items x.0) ▸ word (items.word_of ending)) tokens.now x.1.now) }
     ensures balanced { IfOk result (λ x. formed.AreBalanced (tree.items x.0)) }
     ensures formed { IfOk result (λ x. formed.AreWellFormed (tree.items x.0)) }
     ensures shorter { IfOk result (λ x. length x.1.now < length tokens.now) }
-    ensures goes { Goes (λ x. Ok (kinds_in x.1.now)) result (grammar.read (grammar.items (items.ending_of ending)) room (kinds_in tokens.now)) }
+    ensures goes { Goes (λ x. Ok (kinds_in x.1.now)) result
+        (grammar.read (grammar.items (items.ending_of ending)) room (kinds_in tokens.now)) }
 {
     let mut reading = Reading {
         all: List::new(alloc),
@@ -416,7 +440,8 @@ fn read_front(alloc: Global, room: u32, tokens: &[Token]) -> Result<(Front, &[To
     ensures found { IfOk result (λ x. Spells (items.spell_front x.0) tokens.now x.1.now) }
     ensures formed { IfOk result (λ x. items.IsFront x.0) }
     ensures shorter { IfOk result (λ x. length x.1.now < length tokens.now) }
-    ensures goes { Goes (λ x. items.behind_front x.0 room (kinds_in x.1.now)) result (grammar.read grammar.item room (kinds_in tokens.now)) }
+    ensures goes { Goes (λ x. items.behind_front x.0 room (kinds_in x.1.now)) result
+        (grammar.read grammar.item room (kinds_in tokens.now)) }
 {
     let (attributes, front) = read_attributes(alloc, Before::Item, room, tokens)?;
     match past_word(Keyword::Generate, front) {
@@ -450,12 +475,14 @@ fn read_labelled(
     room: u32,
     tokens: &[Token],
 ) -> Result<(Option<Text>, List<Item>, &[Token]), Stop>
-    ensures found { IfOk result (λ x. Spells ((spell_label x.0 ▸ spec.spell_all (tree.items x.1)) ▸ word Keyword.End) tokens.now x.2.now) }
+    ensures found { IfOk result (λ x. Spells
+        ((spell_label x.0 ▸ spec.spell_all (tree.items x.1)) ▸ word Keyword.End) tokens.now x.2.now) }
     ensures label { IfOk result (λ x. IsOptionalName x.0) }
     ensures balanced { IfOk result (λ x. formed.AreBalanced (tree.items x.1)) }
     ensures formed { IfOk result (λ x. formed.AreWellFormed (tree.items x.1)) }
     ensures shorter { IfOk result (λ x. length x.2.now < length tokens.now) }
-    ensures goes { Goes (λ x. Ok (kinds_in x.2.now)) result (grammar.read grammar.generate_block_label room (kinds_in tokens.now)) }
+    ensures goes { Goes (λ x. Ok (kinds_in x.2.now)) result
+        (grammar.read grammar.generate_block_label room (kinds_in tokens.now)) }
 {
     match past_sign(Symbol::Colon, tokens) {
         Some(rest) => {
@@ -482,7 +509,8 @@ pub(crate) fn read_block(
     ensures formed { IfOk result (λ x. formed.IsBlock (block x.0)) }
     ensures no_else { IfOk result (λ x. items.LeavesElse (formed.block_ends_open (block x.0)) (kinds_in x.1.now)) }
     ensures shorter { IfOk result (λ x. length x.1.now < length tokens.now) }
-    ensures goes { Goes (λ x. Ok (kinds_in x.1.now)) result (grammar.read grammar.generate_block room (kinds_in tokens.now)) }
+    ensures goes { Goes (λ x. Ok (kinds_in x.1.now)) result
+        (grammar.read grammar.generate_block room (kinds_in tokens.now)) }
 {
     match past_word(Keyword::Begin, tokens) {
         Some(rest) => {
@@ -504,7 +532,8 @@ fn read_short_block(alloc: Global, room: u32, tokens: &[Token]) -> Result<(Block
     ensures formed { IfOk result (λ x. formed.IsBlock (block x.0)) }
     ensures no_else { IfOk result (λ x. items.LeavesElse (formed.block_ends_open (block x.0)) (kinds_in x.1.now)) }
     ensures shorter { IfOk result (λ x. length x.1.now < length tokens.now) }
-    ensures goes { Goes (λ x. Ok (kinds_in x.1.now)) result (grammar.read grammar.generate_block room (kinds_in tokens.now)) }
+    ensures goes { Goes (λ x. Ok (kinds_in x.1.now)) result
+        (grammar.read grammar.generate_block room (kinds_in tokens.now)) }
 {
     if let Some(rest) = past_word(Keyword::Generate, tokens) {
         let pos = first_place(tokens)?;

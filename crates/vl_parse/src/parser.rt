@@ -30,8 +30,8 @@ use vl_tree::Source;
 const MOST_OPEN: u32 = 256;
 
 /// The tree that the tokens spell, whole (IEEE 1364-2005, annex A, cut to this project's subset). A tree comes exactly
-/// where the tokens have one in which no more than 256 constructs are open at once, and else the fault that they have, but
-/// for want of memory.
+/// where the tokens have one in which no more than 256 constructs are open at once, and else the fault that they
+/// have, but for want of memory.
 pub fn parse(alloc: Global, tokens: &[Token]) -> Result<Source, ParseFault>
     ensures found { IfOk result (λ tree. Spells (spell_source tree) tokens.now []) }
     ensures formed { IfOk result (λ tree. IsSource tree) }
@@ -39,8 +39,10 @@ pub fn parse(alloc: Global, tokens: &[Token]) -> Result<Source, ParseFault>
     ensures one { IfOk result (λ tree. (other : declared.Source) → IsTreeOf tokens.now other → other ≡ tree) }
     ensures refused { IfErr result (λ fault. IsFaultOf tokens.now fault) }
     ensures each_tree { (tree : declared.Source) → IsTreeOf tokens.now tree → IsShallow tree → Gives tree result }
-    ensures each_faulty_token { (left : ℕ) → IsFaulty (kinds_of tokens.now) left → NoneIsTooDeep tokens.now → Refuses (wrong_token tokens.now left) result }
-    ensures each_deep_token { (left : ℕ) → IsTooDeep (kinds_of tokens.now) left → Refuses (ParseFault.TooDeep (place_at tokens.now left)) result }
+    ensures each_faulty_token { (left : ℕ) → IsFaulty (kinds_of tokens.now) left → NoneIsTooDeep tokens.now
+        → Refuses (wrong_token tokens.now left) result }
+    ensures each_deep_token { (left : ℕ) → IsTooDeep (kinds_of tokens.now) left
+        → Refuses (ParseFault.TooDeep (place_at tokens.now left)) result }
     // The same by the grammar: a tree comes exactly where a run reads the tokens to their end.
     ensures answers { Answers tokens.now result (run (kinds_of tokens.now)) }
 {

@@ -68,7 +68,8 @@ fn read_module(alloc: Global, room: u32, tokens: &[Token]) -> Result<(Module, &[
     ensures found { IfOk result (λ x. Spells (spec.spell_module x.0) tokens.now x.1.now) }
     ensures formed { IfOk result (λ x. formed.IsModule x.0) }
     ensures shorter { IfOk result (λ x. length x.1.now < length tokens.now) }
-    ensures goes { Goes (λ x. grammar.read grammar.modules room (kinds_in x.1.now)) result (grammar.read grammar.modules room (kinds_in tokens.now)) }
+    ensures goes { Goes (λ x. grammar.read grammar.modules room (kinds_in x.1.now)) result
+        (grammar.read grammar.modules room (kinds_in tokens.now)) }
 {
     let pos = first_place(tokens)?;
     let rest = read_word(Keyword::Module, tokens)?;

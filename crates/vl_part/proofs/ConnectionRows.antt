@@ -6,7 +6,8 @@ use Rattle.fv_base.specs.declared.kind.Kind.TheVariants as k
 use Rattle.fv_base.specs.declared.symbol.Symbol.TheVariants as s
 use Rattle.vl_grammar.specs.Machine as machine
 use Rattle.vl_grammar.specs.Machine.{then}
-use Rattle.vl_grammar.specs.Grammar.{Outcome, read, read_all, name, first_connection, connection, more_connections, connected}
+use Rattle.vl_grammar.specs.Grammar.{Outcome, read, read_all, name, first_connection, connection, more_connections}
+use Rattle.vl_grammar.specs.Grammar.{connected}
 use Rattle.vl_expr.specs.Next.{IsOther}
 use Rattle.vl_part.specs.Tails.{more_connections_all}
 use Rattle.vl_part.proofs.PartRows.{first_connection_dot, connection_row}
@@ -15,7 +16,8 @@ then_two : (a : Outcome) (f g : List Kind → Outcome) → then a (λ r. then (f
 then_two (Ok r) f g = refl
 then_two (Err e) f g = refl
 
-one_first : (n : ℕ) (ts : List Kind) → IsOther (k.Symbol s.CloseParen) ts → read first_connection n ts ≡ then (read connection n ts) (λ r. read more_connections n r)
+one_first : (n : ℕ) (ts : List Kind) → IsOther (k.Symbol s.CloseParen) ts
+    → read first_connection n ts ≡ then (read connection n ts) (λ r. read more_connections n r)
 unfolding read machine.reads
 one_first n [] h = refl
 one_first n (k.Symbol s.Dot ∷ ts) h =
@@ -26,6 +28,7 @@ one_first n (t ∷ ts) h = refl
 
 pub connections_listed : (n : ℕ) (ts : List Kind) → IsOther (k.Symbol s.CloseParen) ts
     → read first_connection n ts ≡ then (read_all (connection ∷ []) n ts) (λ r. read more_connections n r)
-connections_listed n ts h = one_first n ts h ∙ ap (λ a. then a (λ r. read more_connections n r)) (sym (more_connections_all n ts))
+connections_listed n ts h =
+    one_first n ts h ∙ ap (λ a. then a (λ r. read more_connections n r)) (sym (more_connections_all n ts))
 
 pub ruleset of_connection_list = (connections_listed)

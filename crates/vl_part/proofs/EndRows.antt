@@ -7,7 +7,8 @@ use Rattle.vl_grammar.specs.Machine.{syntax, then}
 use Rattle.vl_grammar.specs.Grammar.{read, read_all, sign, name, expr, shape, parameter}
 use Rattle.vl_part.specs.Tails.{parameters_all}
 
-in_turn_end : (n : ℕ) → then (read shape n []) (λ r. then (read name n r) (λ q. then (read (sign s.Equal) n q) (λ u. read expr n u))) ≡ Err (syntax 0)
+in_turn_end : (n : ℕ) → then (read shape n [])
+    (λ r. then (read name n r) (λ q. then (read (sign s.Equal) n q) (λ u. read expr n u))) ≡ Err (syntax 0)
 unfolding read machine.reads
 in_turn_end n = refl
 

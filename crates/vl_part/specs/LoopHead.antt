@@ -11,11 +11,13 @@ step room ts = then (read (sign s.Equal) room ts) (λ r. read expr room r)
 
 -- `; expr ;`
 abbrev pub condition : ℕ → List Kind → Outcome
-condition room ts = then (read (sign s.Semicolon) room ts) (λ r. then (read expr room r) (λ q. read (sign s.Semicolon) room q))
+condition room ts =
+    then (read (sign s.Semicolon) room ts) (λ r. then (read expr room r) (λ q. read (sign s.Semicolon) room q))
 
 -- `variable = expr)`
 abbrev pub last_step : List ℕ → ℕ → List Kind → Outcome
-last_step variable room ts = then (read (this_name variable) room ts) (λ r. then (step room r) (λ q. read (sign s.CloseParen) room q))
+last_step variable room ts =
+    then (read (this_name variable) room ts) (λ r. then (step room r) (λ q. read (sign s.CloseParen) room q))
 
 -- what is behind the variable
 abbrev pub steps : List ℕ → ℕ → List Kind → Outcome

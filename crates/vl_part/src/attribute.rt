@@ -89,7 +89,8 @@ pub fn read_attributes(
     ensures formed { IfOk result (λ x. formed.AreAttributes x.0) }
     ensures none { IfOk result (λ x. IsOther (k.Symbol s.OpenAttribute) (kinds_in x.1.now)) }
     ensures shorter { IfOk result (λ x. length x.1.now ≤ length tokens.now) }
-    ensures goes { Goes (λ x. grammar.read (rule_of before) room (kinds_in x.1.now)) result (grammar.read (rule_of before) room (kinds_in tokens.now)) }
+    ensures goes { Goes (λ x. grammar.read (rule_of before) room (kinds_in x.1.now)) result
+        (grammar.read (rule_of before) room (kinds_in tokens.now)) }
 {
     let mut all = List::new(alloc);
     let mut rest = tokens;
@@ -116,7 +117,8 @@ fn read_instance<'a>(
     ensures found { IfOk result (λ x. Spells (spec.spell_instance x.0) tokens.entry.now x.1.now) }
     ensures formed { IfOk result (λ x. formed.IsInstance x.0) }
     ensures shorter { IfOk result (λ x. length x.1.now < length tokens.entry.now) }
-    ensures goes { Goes (λ x. grammar.read (rule_of before) room (kinds_in x.1.now)) result (grammar.read (rule_of before) room (kinds_in tokens.entry.now)) }
+    ensures goes { Goes (λ x. grammar.read (rule_of before) room (kinds_in x.1.now)) result
+        (grammar.read (rule_of before) room (kinds_in tokens.entry.now)) }
 {
     let pos = first_place(tokens)?;
     let inside = enter(room, tokens)?;

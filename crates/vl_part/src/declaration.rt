@@ -55,7 +55,8 @@ pub fn read_shape(alloc: Global, room: u32, tokens: &[Token]) -> Result<(Shape, 
 fn read_signed(tokens: &[Token]) -> (bool, &[Token])
     ensures found { Spells (spec.spell_if result.0 Keyword.Signed) tokens.now result.1.now }
     ensures shorter { length result.1.now ≤ length tokens.now }
-    ensures goes { (room : ℕ) → grammar.read grammar.shape room (kinds_in tokens.now) ≡ grammar.read grammar.range room (kinds_in result.1.now) }
+    ensures goes { (room : ℕ) → grammar.read grammar.shape room (kinds_in tokens.now)
+        ≡ grammar.read grammar.range room (kinds_in result.1.now) }
 {
     match past_word(Keyword::Signed, tokens) {
         Some(rest) => (true, rest),

@@ -43,7 +43,8 @@ pub trait Element: Drop {
         ensures shorter { IfOk result (λ x. length x.1.now < length tokens.now) }
         ensures goes { Goes (λ x. Ok (kinds_in x.1.now)) result (grammar.read_all rules room (kinds_in tokens.now)) };
 
-    ghost comma: { (n : ℕ) (ts : List Kind) → read tail n (k.Symbol s.Comma ∷ ts) ≡ machine.then (read_all rules n ts) (λ r. read tail n r) };
+    ghost comma: { (n : ℕ) (ts : List Kind) → read tail n (k.Symbol s.Comma ∷ ts)
+        ≡ machine.then (read_all rules n ts) (λ r. read tail n r) };
 
     ghost ending: { (n : ℕ) (ts : List Kind) → IsOther (k.Symbol s.Comma) ts → read tail n ts ≡ behind closing ts };
 }
@@ -60,7 +61,8 @@ pub fn read_list<T: Element>(
     ensures found { IfOk result (λ x. Spells (between_commas T.phrase x.0 ▸ sign closing) tokens.now x.1.now) }
     ensures formed { IfOk result (λ x. AreSome T.fits x.0) }
     ensures shorter { IfOk result (λ x. length x.1.now < length tokens.now) }
-    ensures goes { Goes (λ x. Ok (kinds_in x.1.now)) result (then (grammar.read_all T.rules room (kinds_in tokens.now)) (λ r. grammar.read T.tail room r)) }
+    ensures goes { Goes (λ x. Ok (kinds_in x.1.now)) result
+        (then (grammar.read_all T.rules room (kinds_in tokens.now)) (λ r. grammar.read T.tail room r)) }
 {
     let (first, rest) = T::read(alloc, room, tokens)?;
     read_list_behind(alloc, room, closing, first, rest)
@@ -78,7 +80,8 @@ pub(crate) fn read_list_behind<T: Element>(
     requires closing { closing ≡ T.closing }
     requires formed { T.fits first }
     ensures first { IfOk result (λ x. BeginsWith first x.0) }
-    ensures found { IfOk result (λ x. (start : List Token) → Spells (T.phrase first) start tokens.now → Spells (between_commas T.phrase x.0 ▸ sign closing) start x.1.now) }
+    ensures found { IfOk result (λ x. (start : List Token) → Spells (T.phrase first) start tokens.now
+        → Spells (between_commas T.phrase x.0 ▸ sign closing) start x.1.now) }
     ensures formed { IfOk result (λ x. AreSome T.fits x.0) }
     ensures shorter { IfOk result (λ x. length x.1.now < length tokens.now) }
     ensures goes { Goes (λ x. Ok (kinds_in x.1.now)) result (grammar.read T.tail room (kinds_in tokens.now)) }

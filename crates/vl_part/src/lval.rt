@@ -44,11 +44,13 @@ pub fn read_lval(alloc: Global, room: u32, tokens: &[Token]) -> Result<(Lval, &[
 #[cycle(lval)]
 #[tactic(auto, using(crate::proofs::DeclarationRows::of_targets, crate::proofs::LvalSpelled::lval_spelled, crate::proofs::DeclarationRows::basics))]
 fn read_lvals(alloc: Global, room: u32, tokens: &[Token]) -> Result<(List<Lval>, &[Token]), Stop>
-    ensures found { IfOk result (λ x. Spells (spec.spell_parts (lvals x.0) ▸ sign Symbol.CloseBrace) tokens.now x.1.now) }
+    ensures found { IfOk result (λ x. Spells
+        (spec.spell_parts (lvals x.0) ▸ sign Symbol.CloseBrace) tokens.now x.1.now) }
     ensures some { IfOk result (λ x. formed.IsSome (lvals x.0)) }
     ensures formed { IfOk result (λ x. formed.AreWellFormed (lvals x.0)) }
     ensures shorter { IfOk result (λ x. length x.1.now < length tokens.now) }
-    ensures goes { Goes (λ x. Ok (kinds_in x.1.now)) result (then (grammar.read grammar.target room (kinds_in tokens.now)) (λ r. grammar.read grammar.targets room r)) }
+    ensures goes { Goes (λ x. Ok (kinds_in x.1.now)) result
+        (then (grammar.read grammar.target room (kinds_in tokens.now)) (λ r. grammar.read grammar.targets room r)) }
 {
     let (first, behind) = read_lval(alloc, room, tokens)?;
     let mut all = List::new(alloc);

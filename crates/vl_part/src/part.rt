@@ -63,7 +63,8 @@ fn read_connected(
     ensures found { IfOk result (λ x. Spells (spec.spell_optional x.0 ▸ sign Symbol.CloseParen) tokens.now x.1.now) }
     ensures formed { IfOk result (λ x. IsValue x.0) }
     ensures shorter { IfOk result (λ x. length x.1.now < length tokens.now) }
-    ensures goes { Goes (λ x. Ok (kinds_in x.1.now)) result (grammar.read grammar.connected_value room (kinds_in tokens.now)) }
+    ensures goes { Goes (λ x. Ok (kinds_in x.1.now)) result
+        (grammar.read grammar.connected_value room (kinds_in tokens.now)) }
 {
     match past_sign(Symbol::CloseParen, tokens) {
         Some(rest) => Ok((None, rest)),
@@ -117,7 +118,8 @@ fn read_connections(
     ensures found { IfOk result (λ x. Spells (spec.spell_connections x.0) tokens.now x.1.now) }
     ensures formed { IfOk result (λ x. All formed.IsConnection x.0) }
     ensures shorter { IfOk result (λ x. length x.1.now < length tokens.now) }
-    ensures goes { Goes (λ x. Ok (kinds_in x.1.now)) result (grammar.read grammar.connections room (kinds_in tokens.now)) }
+    ensures goes { Goes (λ x. Ok (kinds_in x.1.now)) result
+        (grammar.read grammar.connections room (kinds_in tokens.now)) }
 {
     let rest = read_sign(Symbol::OpenParen, tokens)?;
     let inside = enter(room, tokens)?;
@@ -131,10 +133,12 @@ fn read_connections_inside(
     room: u32,
     tokens: &[Token],
 ) -> Result<(List<Connection>, &[Token]), Stop>
-    ensures found { IfOk result (λ x. Spells (between_commas spec.spell_connection x.0 ▸ sign Symbol.CloseParen) tokens.now x.1.now) }
+    ensures found { IfOk result (λ x. Spells
+        (between_commas spec.spell_connection x.0 ▸ sign Symbol.CloseParen) tokens.now x.1.now) }
     ensures formed { IfOk result (λ x. All formed.IsConnection x.0) }
     ensures shorter { IfOk result (λ x. length x.1.now < length tokens.now) }
-    ensures goes { Goes (λ x. Ok (kinds_in x.1.now)) result (grammar.read grammar.first_connection room (kinds_in tokens.now)) }
+    ensures goes { Goes (λ x. Ok (kinds_in x.1.now)) result
+        (grammar.read grammar.first_connection room (kinds_in tokens.now)) }
 {
     match past_sign(Symbol::CloseParen, tokens) {
         Some(rest) => Ok((List::new(alloc), rest)),
@@ -151,7 +155,9 @@ fn read_overrides(
     ensures found { IfOk result (λ x. Spells (spec.spell_overrides x.0) tokens.now x.1.now) }
     ensures formed { IfOk result (λ x. formed.AreOverrides x.0) }
     ensures shorter { IfOk result (λ x. length x.1.now ≤ length tokens.now) }
-    ensures goes { Goes (λ x. then (behind_name (kinds_in x.1.now)) (λ r. then (grammar.read grammar.connections room r) (λ q. behind Symbol.Semicolon q))) result (grammar.read grammar.overrides room (kinds_in tokens.now)) }
+    ensures goes { Goes (λ x. then (behind_name (kinds_in x.1.now))
+        (λ r. then (grammar.read grammar.connections room r) (λ q. behind Symbol.Semicolon q))) result
+        (grammar.read grammar.overrides room (kinds_in tokens.now)) }
 {
     match past_sign(Symbol::Hash, tokens) {
         None => Ok((None, tokens)),
@@ -172,7 +178,8 @@ pub fn read_instance(
     ensures found { IfOk result (λ x. Spells (spec.spell_instance x.0) tokens.now x.1.now) }
     ensures formed { IfOk result (λ x. formed.IsInstance x.0) }
     ensures shorter { IfOk result (λ x. length x.1.now < length tokens.now) }
-    ensures goes { Goes (λ x. Ok (kinds_in x.1.now)) result (then (behind_name (kinds_in tokens.now)) (λ r. grammar.read grammar.overrides room r)) }
+    ensures goes { Goes (λ x. Ok (kinds_in x.1.now)) result
+        (then (behind_name (kinds_in tokens.now)) (λ r. grammar.read grammar.overrides room r)) }
 {
     let (definition, rest) = read_name(alloc, tokens)?;
     let (overrides, rest) = read_overrides(alloc, room, rest)?;
@@ -230,10 +237,12 @@ fn read_event_kind(
 /// What stands behind the bracket of an event.
 #[tactic(auto, using(crate::proofs::PartRows::of_event_inside, crate::proofs::DeclarationRows::basics))]
 fn read_event_behind(alloc: Global, tokens: &[Token]) -> Result<(EventKind, &[Token]), Stop>
-    ensures found { IfOk result (λ x. (start : List Token) → Spells (sign Symbol.OpenParen) start tokens.now → Spells (spec.spell_event_kind x.0) start x.1.now) }
+    ensures found { IfOk result (λ x. (start : List Token) → Spells (sign Symbol.OpenParen) start tokens.now
+        → Spells (spec.spell_event_kind x.0) start x.1.now) }
     ensures formed { IfOk result (λ x. formed.IsEvent x.0) }
     ensures shorter { IfOk result (λ x. length x.1.now < length tokens.now) }
-    ensures goes { (room : ℕ) → Goes (λ x. Ok (kinds_in x.1.now)) result (grammar.read grammar.event_inside room (kinds_in tokens.now)) }
+    ensures goes { (room : ℕ) → Goes (λ x. Ok (kinds_in x.1.now)) result
+        (grammar.read grammar.event_inside room (kinds_in tokens.now)) }
 {
     if let Some(rest) = past_sign(Symbol::CloseAttribute, tokens) {
         return Ok((EventKind::CloseJoined, rest));
@@ -254,7 +263,8 @@ pub fn read_head(alloc: Global, room: u32, tokens: &[Token]) -> Result<(LoopHead
     ensures found { IfOk result (λ x. Spells (spec.spell_head x.0) tokens.now x.1.now) }
     ensures formed { IfOk result (λ x. formed.IsHead x.0) }
     ensures shorter { IfOk result (λ x. length x.1.now < length tokens.now) }
-    ensures goes { Goes (λ x. Ok (kinds_in x.1.now)) result (grammar.read grammar.loop_head room (kinds_in tokens.now)) }
+    ensures goes { Goes (λ x. Ok (kinds_in x.1.now)) result
+        (grammar.read grammar.loop_head room (kinds_in tokens.now)) }
 {
     let rest = read_sign(Symbol::OpenParen, tokens)?;
     let inside = enter(room, tokens)?;
@@ -264,10 +274,12 @@ pub fn read_head(alloc: Global, room: u32, tokens: &[Token]) -> Result<(LoopHead
 /// What stands behind the bracket of a loop's head.
 #[tactic(auto, using(crate::proofs::PartRows::of_loop_variable, crate::proofs::DeclarationRows::basics))]
 fn read_variable(alloc: Global, room: u32, tokens: &[Token]) -> Result<(LoopHead, &[Token]), Stop>
-    ensures found { IfOk result (λ x. (start : List Token) → Spells (sign Symbol.OpenParen) start tokens.now → Spells (spec.spell_head x.0) start x.1.now) }
+    ensures found { IfOk result (λ x. (start : List Token) → Spells (sign Symbol.OpenParen) start tokens.now
+        → Spells (spec.spell_head x.0) start x.1.now) }
     ensures formed { IfOk result (λ x. formed.IsHead x.0) }
     ensures shorter { IfOk result (λ x. length x.1.now < length tokens.now) }
-    ensures goes { Goes (λ x. Ok (kinds_in x.1.now)) result (grammar.read grammar.loop_variable room (kinds_in tokens.now)) }
+    ensures goes { Goes (λ x. Ok (kinds_in x.1.now)) result
+        (grammar.read grammar.loop_variable room (kinds_in tokens.now)) }
 {
     match past_name(alloc, tokens)? {
         None => Err(Stop::Wrong(tokens.len())),
@@ -284,7 +296,8 @@ fn read_steps(
     tokens: &[Token],
 ) -> Result<(LoopHead, &[Token]), Stop>
     requires name { IsName variable }
-    ensures found { IfOk result (λ x. (start name : List Token) → Spells (sign Symbol.OpenParen) start name → Spells (a_name variable) name tokens.now → Spells (spec.spell_head x.0) start x.1.now) }
+    ensures found { IfOk result (λ x. (start name : List Token) → Spells (sign Symbol.OpenParen) start name
+        → Spells (a_name variable) name tokens.now → Spells (spec.spell_head x.0) start x.1.now) }
     ensures formed { IfOk result (λ x. formed.IsHead x.0) }
     ensures shorter { IfOk result (λ x. length x.1.now < length tokens.now) }
     ensures goes { Goes (λ x. Ok (kinds_in x.1.now)) result (steps variable room (kinds_in tokens.now)) }
@@ -319,7 +332,8 @@ fn read_step(alloc: Global, room: u32, tokens: &[Token]) -> Result<(Expr, &[Toke
 /// `; expr ;`
 #[tactic(auto, using(crate::proofs::DeclarationRows::basics))]
 fn read_condition(alloc: Global, room: u32, tokens: &[Token]) -> Result<(Expr, &[Token]), Stop>
-    ensures found { IfOk result (λ x. Spells (sign Symbol.Semicolon ▸ level (spell x.0) ▸ sign Symbol.Semicolon) tokens.now x.1.now) }
+    ensures found { IfOk result (λ x. Spells
+        (sign Symbol.Semicolon ▸ level (spell x.0) ▸ sign Symbol.Semicolon) tokens.now x.1.now) }
     ensures formed { IfOk result (λ x. IsWellFormed x.0) }
     ensures shorter { IfOk result (λ x. length x.1.now < length tokens.now) }
     ensures goes { Goes (λ x. Ok (kinds_in x.1.now)) result (condition room (kinds_in tokens.now)) }
@@ -338,7 +352,8 @@ fn read_last_step<'a>(
     variable: &Text,
     tokens: &'a [Token],
 ) -> Result<(Text, Expr, &'a [Token]), Stop>
-    ensures found { IfOk result (λ x. Spells (spec.spell_step x.0 x.1 ▸ sign Symbol.CloseParen) tokens.entry.now x.2.now) }
+    ensures found { IfOk result (λ x. Spells
+        (spec.spell_step x.0 x.1 ▸ sign Symbol.CloseParen) tokens.entry.now x.2.now) }
     ensures same { IfOk result (λ x. x.0 ≡ variable.now) }
     ensures formed { IfOk result (λ x. IsWellFormed x.1) }
     ensures shorter { IfOk result (λ x. length x.2.now < length tokens.entry.now) }
@@ -360,7 +375,8 @@ fn read_this_name<'a>(
     ensures found { IfOk result (λ x. Spells (a_name wanted.now) tokens.entry.now x.1.now) }
     ensures same { IfOk result (λ x. x.0 ≡ wanted.now) }
     ensures shorter { IfOk result (λ x. length x.1.now < length tokens.entry.now) }
-    ensures goes { (room : ℕ) → Goes (λ x. Ok (kinds_in x.1.now)) result (grammar.read (grammar.this_name wanted.now) room (kinds_in tokens.entry.now)) }
+    ensures goes { (room : ℕ) → Goes (λ x. Ok (kinds_in x.1.now)) result
+        (grammar.read (grammar.this_name wanted.now) room (kinds_in tokens.entry.now)) }
 {
     let Some((first, rest)) = next(tokens) else {
         return Err(Stop::Wrong(0));

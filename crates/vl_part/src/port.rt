@@ -59,7 +59,8 @@ impl Element for HeaderParameter {
 fn read_keyword(tokens: &[Token]) -> (bool, &[Token])
     ensures found { Spells (spec.spell_if result.0 Keyword.Parameter) tokens.now result.1.now }
     ensures shorter { length result.1.now ≤ length tokens.now }
-    ensures goes { (room : ℕ) → grammar.read grammar.optional_parameter room (kinds_in tokens.now) ≡ Ok (kinds_in result.1.now) }
+    ensures goes { (room : ℕ) → grammar.read grammar.optional_parameter room (kinds_in tokens.now)
+        ≡ Ok (kinds_in result.1.now) }
 {
     match past_word(Keyword::Parameter, tokens) {
         Some(rest) => (true, rest),
@@ -78,7 +79,9 @@ fn read_first_parameter(
     ensures found { IfOk result (λ x. Spells (spec.spell_header_parameter x.0) tokens.now x.1.now) }
     ensures formed { IfOk result (λ x. formed.IsHeaderParameter x.0) }
     ensures shorter { IfOk result (λ x. length x.1.now < length tokens.now) }
-    ensures goes { Goes (λ x. Ok (kinds_in x.1.now)) result (then (grammar.read grammar.the_parameter room (kinds_in tokens.now)) (λ r. grammar.read_all grammar.parameter room r)) }
+    ensures goes { Goes (λ x. Ok (kinds_in x.1.now)) result
+        (then (grammar.read grammar.the_parameter room (kinds_in tokens.now))
+        (λ r. grammar.read_all grammar.parameter room r)) }
 {
     let rest = read_word(Keyword::Parameter, tokens)?;
     let (parameter, rest) = Parameter::read(alloc, room, rest)?;
@@ -101,7 +104,8 @@ pub fn read_parameters(
     ensures found { IfOk result (λ x. Spells (spell_parameters x.0) tokens.now x.1.now) }
     ensures formed { IfOk result (λ x. AreOptionalParameters x.0) }
     ensures shorter { IfOk result (λ x. length x.1.now ≤ length tokens.now) }
-    ensures goes { Goes (λ x. grammar.read grammar.module_ports room (kinds_in x.1.now)) result (grammar.read grammar.module_head room (kinds_in tokens.now)) }
+    ensures goes { Goes (λ x. grammar.read grammar.module_ports room (kinds_in x.1.now)) result
+        (grammar.read grammar.module_head room (kinds_in tokens.now)) }
 {
     match past_sign(Symbol::Hash, tokens) {
         None => Ok((None, tokens)),
@@ -119,10 +123,12 @@ fn read_bracket(
     room: u32,
     tokens: &[Token],
 ) -> Result<(List<HeaderParameter>, &[Token]), Stop>
-    ensures found { IfOk result (λ x. Spells (parens (between_commas spec.spell_header_parameter x.0)) tokens.now x.1.now) }
+    ensures found { IfOk result (λ x. Spells
+        (parens (between_commas spec.spell_header_parameter x.0)) tokens.now x.1.now) }
     ensures formed { IfOk result (λ x. formed.AreHeaderParameters x.0) }
     ensures shorter { IfOk result (λ x. length x.1.now < length tokens.now) }
-    ensures goes { Goes (λ x. Ok (kinds_in x.1.now)) result (grammar.read grammar.header_parameters room (kinds_in tokens.now)) }
+    ensures goes { Goes (λ x. Ok (kinds_in x.1.now)) result
+        (grammar.read grammar.header_parameters room (kinds_in tokens.now)) }
 {
     let rest = read_sign(Symbol::OpenParen, tokens)?;
     let inside = enter(room, tokens)?;
@@ -136,10 +142,13 @@ fn read_parameters_inside(
     room: u32,
     tokens: &[Token],
 ) -> Result<(List<HeaderParameter>, &[Token]), Stop>
-    ensures found { IfOk result (λ x. Spells (between_commas spec.spell_header_parameter x.0 ▸ sign Symbol.CloseParen) tokens.now x.1.now) }
+    ensures found { IfOk result (λ x. Spells
+        (between_commas spec.spell_header_parameter x.0 ▸ sign Symbol.CloseParen) tokens.now x.1.now) }
     ensures formed { IfOk result (λ x. formed.AreHeaderParameters x.0) }
     ensures shorter { IfOk result (λ x. length x.1.now < length tokens.now) }
-    ensures goes { Goes (λ x. Ok (kinds_in x.1.now)) result (then (then (grammar.read grammar.the_parameter room (kinds_in tokens.now)) (λ r. grammar.read_all grammar.parameter room r)) (λ q. grammar.read grammar.more_header_parameters room q)) }
+    ensures goes { Goes (λ x. Ok (kinds_in x.1.now)) result
+        (then (then (grammar.read grammar.the_parameter room (kinds_in tokens.now))
+        (λ r. grammar.read_all grammar.parameter room r)) (λ q. grammar.read grammar.more_header_parameters room q)) }
 {
     let (first, rest) = read_first_parameter(alloc, room, tokens)?;
     read_list_behind(alloc, room, Symbol::CloseParen, first, rest)
@@ -150,7 +159,10 @@ fn read_direction(tokens: &[Token]) -> Result<(Direction, &[Token]), Stop>
     requires { IsOther (k.Symbol Symbol.OpenAttribute) (kinds_in tokens.now) }
     ensures found { IfOk result (λ x. Spells (word (spec.direction_word x.0)) tokens.now x.1.now) }
     ensures shorter { IfOk result (λ x. length x.1.now < length tokens.now) }
-    ensures goes { (room : ℕ) → Goes (λ x. then (grammar.read grammar.net room (kinds_in x.1.now)) (λ r. then (grammar.read grammar.shape room r) (λ q. then (grammar.read grammar.name room q) (λ u. grammar.read grammar.value room u)))) result (grammar.read grammar.full_port room (kinds_in tokens.now)) }
+    ensures goes { (room : ℕ) → Goes (λ x. then (grammar.read grammar.net room (kinds_in x.1.now))
+        (λ r. then (grammar.read grammar.shape room r)
+        (λ q. then (grammar.read grammar.name room q) (λ u. grammar.read grammar.value room u)))) result
+        (grammar.read grammar.full_port room (kinds_in tokens.now)) }
 {
     if let Some(rest) = past_word(Keyword::Input, tokens) {
         return Ok((Direction::Input, rest));
@@ -183,7 +195,8 @@ fn read_full_port(alloc: Global, room: u32, tokens: &[Token]) -> Result<(Port, &
     ensures formed { IfOk result (λ x. formed.IsPort x.0) }
     ensures shorter { IfOk result (λ x. length x.1.now < length tokens.now) }
     ensures full { IfOk result (λ x. formed.IsFull x.0.kind) }
-    ensures goes { Goes (λ x. Ok (kinds_in x.1.now)) result (grammar.read grammar.full_port room (kinds_in tokens.now)) }
+    ensures goes { Goes (λ x. Ok (kinds_in x.1.now)) result
+        (grammar.read grammar.full_port room (kinds_in tokens.now)) }
 {
     let (attributes, tokens) = read_attributes(alloc, Before::Port, room, tokens)?;
     let pos = first_place(tokens)?;
@@ -253,7 +266,8 @@ pub fn read_ports(
     ensures found { IfOk result (λ x. Spells (spell_ports x.0 ▸ sign Symbol.Semicolon) tokens.now x.1.now) }
     ensures formed { IfOk result (λ x. AreOptionalPorts x.0) }
     ensures shorter { IfOk result (λ x. length x.1.now < length tokens.now) }
-    ensures goes { Goes (λ x. Ok (kinds_in x.1.now)) result (grammar.read grammar.module_ports room (kinds_in tokens.now)) }
+    ensures goes { Goes (λ x. Ok (kinds_in x.1.now)) result
+        (grammar.read grammar.module_ports room (kinds_in tokens.now)) }
 {
     match past_sign(Symbol::OpenParen, tokens) {
         None => {
@@ -276,10 +290,12 @@ fn read_ports_inside(
     room: u32,
     tokens: &[Token],
 ) -> Result<(List<Port>, &[Token]), Stop>
-    ensures found { IfOk result (λ x. Spells (between_commas spec.spell_port x.0 ▸ sign Symbol.CloseParen) tokens.now x.1.now) }
+    ensures found { IfOk result (λ x. Spells
+        (between_commas spec.spell_port x.0 ▸ sign Symbol.CloseParen) tokens.now x.1.now) }
     ensures formed { IfOk result (λ x. formed.ArePorts x.0) }
     ensures shorter { IfOk result (λ x. length x.1.now < length tokens.now) }
-    ensures goes { Goes (λ x. Ok (kinds_in x.1.now)) result (grammar.read grammar.first_port room (kinds_in tokens.now)) }
+    ensures goes { Goes (λ x. Ok (kinds_in x.1.now)) result
+        (grammar.read grammar.first_port room (kinds_in tokens.now)) }
 {
     match past_sign(Symbol::CloseParen, tokens) {
         Some(rest) => Ok((List::new(alloc), rest)),

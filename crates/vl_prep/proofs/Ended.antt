@@ -12,9 +12,11 @@ pub one_less : (os : List Open) (p : Pos) → innermost_place os ≡ Some p → 
 one_less [] p e = absurd (none-some p e)
 one_less (o ∷ os) p e = omega arith
 
-pub one_refused : (os : List Open) (p : Pos) (done : Done) → innermost_place os ≡ Some p → all_refused (closed os) (refused p cause.UnbalancedIf done) ≡ all_refused os done
+pub one_refused : (os : List Open) (p : Pos) (done : Done) → innermost_place os ≡ Some p
+    → all_refused (closed os) (refused p cause.UnbalancedIf done) ≡ all_refused os done
 one_refused [] p done e = absurd (none-some p e)
-one_refused (o ∷ os) p done e = ap (λ q. all_refused os (refused q cause.UnbalancedIf done)) (sym (same_Some o.place p e))
+one_refused (o ∷ os) p done e =
+    ap (λ q. all_refused os (refused q cause.UnbalancedIf done)) (sym (same_Some o.place p e))
 
 pub none_refused : (os : List Open) (done : Done) → innermost_place os ≡ None → all_refused os done ≡ done
 none_refused [] done e = refl

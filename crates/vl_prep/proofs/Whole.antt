@@ -24,22 +24,31 @@ abbrev OnAnswer : Held → List Token → Result Outcome PrepFault → Type 0
 OnAnswer macros tokens (Ok r) = IsPreprocessed macros tokens r
 OnAnswer macros tokens (Err f) = IsRefused macros tokens f
 
-answered : (macros : Held) (tokens : List Token) (done : Done) (o : Option Refusal) → done.refusal ≡ o → IsRead macros tokens done → OnAnswer macros tokens (answer_of done o)
-answered macros tokens done None e h = subst (λ z. IsRead macros tokens (record { macros = done.macros; output = done.output; refusal = z })) e h
+answered : (macros : Held) (tokens : List Token) (done : Done) (o : Option Refusal) → done.refusal ≡ o
+    → IsRead macros tokens done → OnAnswer macros tokens (answer_of done o)
+answered macros tokens done None e h =
+    subst (λ z. IsRead macros tokens (record { macros = done.macros; output = done.output; refusal = z })) e h
 answered macros tokens done (Some r) e h = record { done = done; reads = h; refusal = r; met = e; answered = refl }
 
 on_answer : (macros : Held) (tokens : List Token) → OnAnswer macros tokens (preprocessed macros tokens)
-on_answer macros tokens = answered macros tokens (comes macros tokens) (comes macros tokens).refusal refl (is_read macros tokens)
+on_answer macros tokens =
+    answered macros tokens (comes macros tokens) (comes macros tokens).refusal refl (is_read macros tokens)
 
-pub groups_of : (macros : Held) (tokens : List Token) (r : Outcome) → preprocessed macros tokens ≡ Ok r → IsPreprocessed macros tokens r
+pub groups_of : (macros : Held) (tokens : List Token) (r : Outcome) → preprocessed macros tokens ≡ Ok r
+    → IsPreprocessed macros tokens r
 groups_of macros tokens r e = subst (OnAnswer macros tokens) e (on_answer macros tokens)
 
-pub refusal_of : (macros : Held) (tokens : List Token) (f : PrepFault) → preprocessed macros tokens ≡ Err f → IsRefused macros tokens f
+pub refusal_of : (macros : Held) (tokens : List Token) (f : PrepFault) → preprocessed macros tokens ≡ Err f
+    → IsRefused macros tokens f
 refusal_of macros tokens f e = subst (OnAnswer macros tokens) e (on_answer macros tokens)
 
-pub only_preprocessed : (macros : Held) (tokens : List Token) (r : Outcome) → IsPreprocessed macros tokens r → preprocessed macros tokens ≡ Ok r
-only_preprocessed macros tokens r h = ap answer (only_groups macros tokens (record { macros = r.macros; output = r.output; refusal = None }) h)
+pub only_preprocessed : (macros : Held) (tokens : List Token) (r : Outcome) → IsPreprocessed macros tokens r
+    → preprocessed macros tokens ≡ Ok r
+only_preprocessed macros tokens r h =
+    ap answer (only_groups macros tokens (record { macros = r.macros; output = r.output; refusal = None }) h)
 
-pub only_refused : (macros : Held) (tokens : List Token) (f : PrepFault) → IsRefused macros tokens f → preprocessed macros tokens ≡ Err f
+pub only_refused : (macros : Held) (tokens : List Token) (f : PrepFault) → IsRefused macros tokens f
+    → preprocessed macros tokens ≡ Err f
 only_refused macros tokens f h =
-    ap answer (only_groups macros tokens h.done h.reads) ∙ ap (answer_of h.done) h.met ∙ ap (λ z. Err z) (sym h.answered)
+    ap answer (only_groups macros tokens h.done h.reads) ∙ ap (answer_of h.done) h.met
+    ∙ ap (λ z. Err z) (sym h.answered)

@@ -1,6 +1,7 @@
 -- Where clauses speak of a fault.
 use Rattle.vl_prep.specs.declared.fault.PrepFault.{PrepFault}
-use Rattle.vl_prep.specs.declared.fault.PrepFault.TheVariants.{UnknownMacro, UnbalancedIf, MacroArgs, MacroDepth, Include, TooManyTokens, NoName, Memory}
+use Rattle.vl_prep.specs.declared.fault.PrepFault.TheVariants.{UnknownMacro, UnbalancedIf, MacroArgs, MacroDepth}
+use Rattle.vl_prep.specs.declared.fault.PrepFault.TheVariants.{Include, TooManyTokens, NoName, Memory}
 
 -- by cases on the fault: want of memory says nothing
 abbrev pub OnNotMemory : PrepFault → Type 0 → Type 0

@@ -16,7 +16,8 @@ joined (Some x) = x
 
 -- the text of each macro that is defined
 abbrev pub held : Macros → Held
-held macros name = option_map (λ text. arc_value text) (joined (lookup (λ key. bytes_eq name key.items) macros.texts.entries))
+held macros name =
+    option_map (λ text. arc_value text) (joined (lookup (λ key. bytes_eq name key.items) macros.texts.entries))
 
 -- the same macros but for this name, which has this text, or none
 abbrev pub with_text : List ℕ → Option (List Token) → Held → Held

@@ -4,7 +4,8 @@ use Rattle.std.specs.List.{All, Contains}
 use Rattle.fv_base.specs.declared.pos.Pos.{Pos}
 use Rattle.fv_base.specs.declared.token.Token.{Token}
 use Rattle.vl_prep.specs.declared.fault.PrepFault.{PrepFault}
-use Rattle.vl_prep.specs.declared.fault.PrepFault.TheVariants.{UnknownMacro, UnbalancedIf, MacroArgs, MacroDepth, Include, TooManyTokens, NoName, Memory}
+use Rattle.vl_prep.specs.declared.fault.PrepFault.TheVariants.{UnknownMacro, UnbalancedIf, MacroArgs, MacroDepth}
+use Rattle.vl_prep.specs.declared.fault.PrepFault.TheVariants.{Include, TooManyTokens, NoName, Memory}
 
 -- the places of tokens
 abbrev pub places : List Token → List Pos

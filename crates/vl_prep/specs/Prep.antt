@@ -1,11 +1,13 @@
 -- What comes of tokens, read one by one. `groups_decide` ties it to nested groups.
-use Rattle.std.specs.Prelude.{ℕ, zero, suc, Bool, true, false, cond, not, nat_lt, List, [], ◌∷◌, ◌++◌, length, Option, None, Some, is_some, unwrap_or, Result, Ok, Err}
+use Rattle.std.specs.Prelude.{ℕ, zero, suc, Bool, true, false, cond, not, nat_lt, List, [], ◌∷◌, ◌++◌, length, Option}
+use Rattle.std.specs.Prelude.{None, Some, is_some, unwrap_or, Result, Ok, Err}
 use Rattle.fv_base.specs.declared.kind.Kind.{Kind}
 use Rattle.fv_base.specs.declared.kind.Kind.TheVariants as k
 use Rattle.fv_base.specs.declared.pos.Pos.{Pos}
 use Rattle.fv_base.specs.declared.token.Token.{Token}
 use Rattle.vl_prep.specs.declared.directive.Directive.{Directive}
-use Rattle.vl_prep.specs.declared.directive.Directive.TheVariants.{Define, Undef, IfDef, IfNotDef, ElseIf, Else, EndIf, Include}
+use Rattle.vl_prep.specs.declared.directive.Directive.TheVariants.{Define, Undef, IfDef, IfNotDef, ElseIf, Else}
+use Rattle.vl_prep.specs.declared.directive.Directive.TheVariants.{EndIf, Include}
 use Rattle.vl_prep.specs.declared.fault.PrepFault.{PrepFault}
 use Rattle.vl_prep.specs.declared.opens.Open.{Open}
 use Rattle.vl_prep.specs.declared.reading.Reading.{Reading}
@@ -41,7 +43,8 @@ abbrev pub at_first : Held → Done
 at_first macros = record { macros = macros; output = []; refusal = None }
 
 abbrev pub redefined : List ℕ → Option (List Token) → Done → Done
-redefined name text done = record { macros = with_text name text done.macros; output = done.output; refusal = done.refusal }
+redefined name text done =
+    record { macros = with_text name text done.macros; output = done.output; refusal = done.refusal }
 
 abbrev pub moved : Token → Pos → Token
 moved t pos = record { kind = t.kind; pos = pos; named = t.named }
@@ -51,7 +54,8 @@ put_out done t = record { macros = done.macros; output = done.output ++ t ∷ []
 
 -- one more refusal is met
 abbrev pub refused : Pos → Cause → Done → Done
-refused place cause done = record { macros = done.macros; output = done.output; refusal = Some (least done.refusal (refusal place cause)) }
+refused place cause done =
+    record { macros = done.macros; output = done.output; refusal = Some (least done.refusal (refusal place cause)) }
 
 abbrev pub is_defined : Done → List ℕ → Bool
 is_defined done name = is_some (done.macros name)
@@ -106,8 +110,10 @@ module _ (at : Option Pos) where
   at_directive s IfDef pos = begun s (Named IfDef pos)
   at_directive s IfNotDef pos = begun s (Named IfNotDef pos)
   at_directive s ElseIf pos = cond (can_turn s.opens) (begun s (Named ElseIf pos)) (refused_at s pos cause.UnbalancedIf)
-  at_directive s Else pos = cond (can_turn s.opens) (with_opens s (turned true true s.opens)) (refused_at s pos cause.UnbalancedIf)
-  at_directive s EndIf pos = cond (is_open s.opens) (with_opens s (closed s.opens)) (refused_at s pos cause.UnbalancedIf)
+  at_directive s Else pos =
+      cond (can_turn s.opens) (with_opens s (turned true true s.opens)) (refused_at s pos cause.UnbalancedIf)
+  at_directive s EndIf pos =
+      cond (is_open s.opens) (with_opens s (closed s.opens)) (refused_at s pos cause.UnbalancedIf)
   at_directive s d pos = cond (are_chosen s.opens) (in_chosen s d pos) (begun s Plain)
 
   -- a directive at a place, its name, and the name's place
@@ -143,7 +149,8 @@ module _ (at : Option Pos) (expand : Pos → List Token → Done → Done) where
   use_of done name pos (Some text) = expand (place at pos) text done
 
   abbrev pub at_use : Stand → List ℕ → Pos → Stand
-  at_use s name pos = cond (are_chosen s.opens) (with_done s (use_of s.done name pos (s.done.macros name))) (begun s Plain)
+  at_use s name pos =
+      cond (are_chosen s.opens) (with_done s (use_of s.done name pos (s.done.macros name))) (begun s Plain)
 
   abbrev pub at_tick : Stand → List ℕ → Pos → Option Directive → Stand
   at_tick s word pos (Some d) = at_directive at s d pos
@@ -157,7 +164,8 @@ module _ (at : Option Pos) (expand : Pos → List Token → Done → Done) where
 
   -- the token behind a directive that needs a name. Where it is none, the directive is passed over
   abbrev pub at_named : Stand → Directive → Pos → Token → Kind → Stand
-  at_named s d pos t (k.Name name) = cond (on_line pos t.pos) (named at s d pos name t.pos) (at_plain (refused_at at s pos cause.NoName) t t.kind)
+  at_named s d pos t (k.Name name) =
+      cond (on_line pos t.pos) (named at s d pos name t.pos) (at_plain (refused_at at s pos cause.NoName) t t.kind)
   at_named s d pos t kind = at_plain (refused_at at s pos cause.NoName) t t.kind
 
   abbrev pub at_token : Stand → Token → Reading → Stand

@@ -33,7 +33,8 @@ pub record KeepsPlace (old : Quiet) (place : Pos) (new : Quiet) : Type 0 where
 -- with the one more, nothing else is remembered that was not before
 pub record NotesOne (old : Quiet) (name : List ℕ) (place : Pos) (levels : ℕ) (new : Quiet) : Type 0 where
   pub there : new.place ≡ Some place
-  pub same : (other : List ℕ) (n : ℕ) → (bytes_eq name other && levels == n) ≡ false → WasSeen new other n → (old.place ≡ Some place) × WasSeen old other n
+  pub same : (other : List ℕ) (n : ℕ) → (bytes_eq name other && levels == n) ≡ false → WasSeen new other n
+      → (old.place ≡ Some place) × WasSeen old other n
 
 -- each use that is remembered changes nothing
 pub record AreQuiet (q : Quiet) (done : Done) : Type 0 where

@@ -1,11 +1,12 @@
--- The refusals of a text, and which of them is answered: the one at the least place, by file, line and column, and at one
--- place the one with the lowest number. Rule of this project.
+-- The refusals of a text, and which of them is answered: the one at the least place, by file, line and column, and at
+-- one place the one with the lowest number. Rule of this project.
 use Rattle.std.specs.Prelude.{ℕ, Bool, cond, ◌&&◌, ◌==◌, nat_lt, Option, None, Some}
 use Rattle.fv_base.specs.declared.pos.Pos.{Pos}
 use Rattle.vl_prep.specs.declared.fault.PrepFault.{PrepFault}
 use Rattle.vl_prep.specs.declared.fault.PrepFault.TheVariants as fault
 use Rattle.vl_prep.specs.declared.refusal.Cause.{Cause}
-use Rattle.vl_prep.specs.declared.refusal.Cause.TheVariants.{UnknownMacro, UnbalancedIf, MacroArgs, MacroDepth, Include, TooManyTokens, NoName}
+use Rattle.vl_prep.specs.declared.refusal.Cause.TheVariants.{UnknownMacro, UnbalancedIf, MacroArgs, MacroDepth}
+use Rattle.vl_prep.specs.declared.refusal.Cause.TheVariants.{Include, TooManyTokens, NoName}
 use Rattle.vl_prep.specs.declared.refusal.Refusal.{Refusal}
 
 abbrev pub number : Cause → ℕ
@@ -19,7 +20,8 @@ number NoName = 7
 
 -- the place stands before the other
 abbrev pub is_sooner : Pos → Pos → Bool
-is_sooner p q = cond (p.file == q.file) (cond (p.line == q.line) (nat_lt p.col q.col) (nat_lt p.line q.line)) (nat_lt p.file q.file)
+is_sooner p q = cond (p.file == q.file) (cond (p.line == q.line) (nat_lt p.col q.col) (nat_lt p.line q.line))
+    (nat_lt p.file q.file)
 
 abbrev pub is_place : Pos → Pos → Bool
 is_place p q = p.file == q.file && p.line == q.line && p.col == q.col

@@ -18,7 +18,8 @@ stand_of done s = record { done = done; opens = s.opens; reading = s.reading }
 
 -- a use of the macro at the place changes nothing
 abbrev pub IsQuietUse : List ℕ → Pos → ℕ → Done → Type 0
-IsQuietUse name place levels done = (text : List Token) → done.macros name ≡ Some text → expand levels place text done ≡ done
+IsQuietUse name place levels done =
+    (text : List Token) → done.macros name ≡ Some text → expand levels place text done ≡ done
 
 pub record IsQuietNow (name : List ℕ) (place : Pos) (levels : ℕ) (done : Done) : Type 0 where
   pub text : List Token

@@ -28,7 +28,8 @@ impl Macros {
 
     /// Defines a macro, in place of one of the same name.
     pub fn set(&mut self, name: Text, body: Vec<Token>) -> Result<(), Memory>
-        ensures ok { OnOk result ((other : List ℕ) → held self.new other ≡ with_text name (Some body.items) (held self.old) other) }
+        ensures ok { OnOk result ((other : List ℕ)
+            → held self.new other ≡ with_text name (Some body.items) (held self.old) other) }
         ensures err { OnErr result ((other : List ℕ) → held self.new other ≡ held self.old other) }
     {
         let text = Arc::new(self.alloc, List::from_vec(body))?;
@@ -59,7 +60,8 @@ impl Macros {
 
     /// The text of a macro, which stays as it is where the macro is defined anew.
     pub(crate) fn text(&self, name: &[u8]) -> Result<Option<Arc<List<Token>>>, Memory>
-        ensures { IfOk result (λ found. MatchOption found (held self.now name.now ≡ None) (λ text. held self.now name.now ≡ Some text.value)) }
+        ensures { IfOk result (λ found. MatchOption found (held self.now name.now ≡ None)
+            (λ text. held self.now name.now ≡ Some text.value)) }
     {
         match self.texts.get(name) {
             Some(Some(text)) => Ok(Some(text.clone()?)),
@@ -69,7 +71,8 @@ impl Macros {
 
     /// Takes the definition of a macro back, if there is one.
     pub(crate) fn unset(&mut self, name: &Text) -> Result<(), Memory>
-        ensures ok { OnOk result ((other : List ℕ) → held self.new other ≡ with_text name.now None (held self.old) other) }
+        ensures ok { OnOk result ((other : List ℕ)
+            → held self.new other ≡ with_text name.now None (held self.old) other) }
     {
         if self.is_defined(name.bytes()) {
             self.put(name.copied(self.alloc)?, None)?;
@@ -78,7 +81,8 @@ impl Macros {
     }
 
     fn put(&mut self, name: Text, text: Option<Arc<List<Token>>>) -> Result<(), Memory>
-        ensures ok { OnOk result ((other : List ℕ) → held self.new other ≡ with_text name (option_map (λ t. t.value) text) (held self.old) other) }
+        ensures ok { OnOk result ((other : List ℕ)
+            → held self.new other ≡ with_text name (option_map (λ t. t.value) text) (held self.old) other) }
         ensures err { OnErr result ((other : List ℕ) → held self.new other ≡ held self.old other) }
     {
         self.texts.insert(name.into_vec(), text)?;

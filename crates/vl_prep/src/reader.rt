@@ -36,7 +36,8 @@ pub fn prep(
     macros: Macros,
     tokens: &[Token],
 ) -> Result<(Vec<Token>, Macros), PrepFault>
-    ensures groups { IfOk result (λ r. IsPreprocessed (held macros) tokens.now (record { macros = held r.1; output = r.0.items })) }
+    ensures groups { IfOk result (λ r. IsPreprocessed (held macros) tokens.now
+        (record { macros = held r.1; output = r.0.items })) }
     ensures refused { IfErr result (λ f. OnNotMemory f (IsRefused (held macros) tokens.now f)) }
     ensures exactly { MatchResult result
         (λ r. specs.preprocessed (held macros) tokens.now ≡ Ok (record { macros = held r.1; output = r.0.items }))
@@ -63,7 +64,8 @@ pub fn prep(
 
 #[cycle(read)]
 fn read_text(prepared: &mut Prepared, site: Site, text: &[Token]) -> Result<(), Memory>
-    ensures comes { OnOk result (done_of prepared.new ≡ specs.read_from site.at (specs.expand site.levels) (specs.started (done_of prepared.old)) text.now) }
+    ensures comes { OnOk result (done_of prepared.new
+        ≡ specs.read_from site.at (specs.expand site.levels) (specs.started (done_of prepared.old)) text.now) }
     ensures fresh { OnOkFresh result prepared.old prepared.new }
 {
     let mut scope = Scope::new(prepared.alloc);
@@ -106,7 +108,8 @@ fn read_token(
     site: Site,
     token: &Token,
 ) -> Result<(), Memory>
-    ensures goes { Goes (specs.at_token site.at (specs.expand site.levels) (stand_of (done_of prepared.old) scope.old) token.now scope.old.reading) result prepared.new scope.new }
+    ensures goes { Goes (specs.at_token site.at (specs.expand site.levels)
+        (stand_of (done_of prepared.old) scope.old) token.now scope.old.reading) result prepared.new scope.new }
     ensures fresh { OnOkFresh result prepared.old prepared.new }
 {
     match scope.take_reading() {
@@ -133,7 +136,9 @@ fn read_name(
     token: &Token,
 ) -> Result<(), Memory>
     requires { scope.old.reading ≡ reading.Plain }
-    ensures goes { Goes (specs.at_named site.at (specs.expand site.levels) (stand_of (done_of prepared.old) scope.old) begun.0 begun.1 token.now token.now.kind) result prepared.new scope.new }
+    ensures goes { Goes (specs.at_named site.at (specs.expand site.levels)
+        (stand_of (done_of prepared.old) scope.old) begun.0 begun.1 token.now token.now.kind) result prepared.new
+        scope.new }
     ensures fresh { OnOkFresh result prepared.old prepared.new }
 {
     match &token.kind {
@@ -157,7 +162,8 @@ fn do_named(
     pos: Pos,
 ) -> Result<(), Memory>
     requires { scope.old.reading ≡ reading.Plain }
-    ensures goes { Goes (specs.named site.at (stand_of (done_of prepared.old) scope.old) begun.0 begun.1 name.now pos) result prepared.new scope.new }
+    ensures goes { Goes (specs.named site.at
+        (stand_of (done_of prepared.old) scope.old) begun.0 begun.1 name.now pos) result prepared.new scope.new }
     ensures fresh { OnOkFresh result prepared.old prepared.new }
 {
     match begun.0 {
@@ -195,7 +201,8 @@ fn read_body(
     token: &Token,
 ) -> Result<(), Memory>
     requires { scope.old.reading ≡ reading.Plain }
-    ensures goes { Goes (specs.at_token site.at (specs.expand site.levels) (stand_of (done_of prepared.old) scope.old) token.now (reading.Body body)) result prepared.new scope.new }
+    ensures goes { Goes (specs.at_token site.at (specs.expand site.levels)
+        (stand_of (done_of prepared.old) scope.old) token.now (reading.Body body)) result prepared.new scope.new }
     ensures fresh { OnOkFresh result prepared.old prepared.new }
 {
     if !body.goes_on(token.pos) {
@@ -218,7 +225,8 @@ fn read_plain(
     token: &Token,
 ) -> Result<(), Memory>
     requires { scope.old.reading ≡ reading.Plain }
-    ensures goes { Goes (specs.at_plain site.at (specs.expand site.levels) (stand_of (done_of prepared.old) scope.old) token.now token.now.kind) result prepared.new scope.new }
+    ensures goes { Goes (specs.at_plain site.at (specs.expand site.levels)
+        (stand_of (done_of prepared.old) scope.old) token.now token.now.kind) result prepared.new scope.new }
     ensures fresh { OnOkFresh result prepared.old prepared.new }
 {
     match &token.kind {
@@ -242,7 +250,8 @@ fn do_directive(
     pos: Pos,
 )
     requires { scope.old.reading ≡ reading.Plain }
-    ensures goes { stand_of (done_of prepared.new) scope.new ≡ specs.at_directive site.at (stand_of (done_of prepared.old) scope.old) directive pos }
+    ensures goes { stand_of (done_of prepared.new) scope.new
+        ≡ specs.at_directive site.at (stand_of (done_of prepared.old) scope.old) directive pos }
     ensures fresh { KeepsFresh prepared.old prepared.new }
 {
     match directive {
@@ -270,7 +279,8 @@ fn do_directive(
 /// The directives that count in chosen groups alone.
 fn do_chosen(prepared: &mut Prepared, scope: &mut Scope, site: Site, directive: Directive, pos: Pos)
     requires { scope.old.reading ≡ reading.Plain }
-    ensures goes { stand_of (done_of prepared.new) scope.new ≡ specs.in_chosen site.at (stand_of (done_of prepared.old) scope.old) directive pos }
+    ensures goes { stand_of (done_of prepared.new) scope.new
+        ≡ specs.in_chosen site.at (stand_of (done_of prepared.old) scope.old) directive pos }
     ensures fresh { KeepsFresh prepared.old prepared.new }
 {
     match directive {
@@ -287,7 +297,8 @@ fn put_token(
     token: &Token,
 ) -> Result<(), Memory>
     requires { scope.now.reading ≡ reading.Plain }
-    ensures goes { Goes (specs.put_chosen site.at (stand_of (done_of prepared.old) scope.now) token.now) result prepared.new scope.now }
+    ensures goes { Goes (specs.put_chosen site.at
+        (stand_of (done_of prepared.old) scope.now) token.now) result prepared.new scope.now }
     ensures fresh { OnOkFresh result prepared.old prepared.new }
 {
     if scope.opens.are_chosen() {
@@ -307,7 +318,8 @@ fn read_use(
     pos: Pos,
 ) -> Result<(), Memory>
     requires { scope.now.reading ≡ reading.Plain }
-    ensures goes { Goes (specs.at_use site.at (specs.expand site.levels) (stand_of (done_of prepared.old) scope.now) name.now pos) result prepared.new scope.now }
+    ensures goes { Goes (specs.at_use site.at (specs.expand site.levels)
+        (stand_of (done_of prepared.old) scope.now) name.now pos) result prepared.new scope.now }
     ensures fresh { OnOkFresh result prepared.old prepared.new }
 {
     if !scope.opens.are_chosen() {

@@ -1,5 +1,7 @@
 -- The table of declarations against the entries of its map.
-use Rattle.std.specs.Prelude.{◌≡◌, refl, ℕ, ◌+◌, ◌<◌, List, [], ◌∷◌, ◌++◌, length, Bool, true, false, cond, not, ◌||◌, nat_lt, Option, Some, None, is_some, position, Vec, bytes_eq, All, IfSome, Result, Ok, Err, OnOk, OnErr, ◌^◌, ◌-◌, zero, suc}
+use Rattle.std.specs.Prelude.{◌≡◌, refl, ℕ, ◌+◌, ◌<◌, List, [], ◌∷◌, ◌++◌, length, Bool, true, false, cond, not, ◌||◌}
+use Rattle.std.specs.Prelude.{nat_lt, Option, Some, None, is_some, position, Vec, bytes_eq, All, IfSome, Result, Ok}
+use Rattle.std.specs.Prelude.{Err, OnOk, OnErr, ◌^◌, ◌-◌, zero, suc}
 use Rattle.std.proofs.Common.{ap, sym, ◌∙◌, subst, true≢false, Bor, arith}
 use Rattle.std.specs.List.{position_or_len, AllByRecursion, IsDistinct}
 use Rattle.std.specs.Map.{keys_of, lookup}
@@ -18,9 +20,11 @@ abbrev bytes_of : Vec ℕ Global → List ℕ
 bytes_of k = k.items
 
 position_or_len-keyed : (name : List ℕ) (es : List Entry) → AreKeyed es
-    → position_or_len (λ k. bytes_eq name (bytes_of k)) (keys_of es) ≡ position_or_len (λ d. bytes_eq name d.name) (decls_of es)
+    → position_or_len (λ k. bytes_eq name (bytes_of k)) (keys_of es)
+    ≡ position_or_len (λ d. bytes_eq name d.name) (decls_of es)
 position_or_len-keyed name [] h = refl
-position_or_len-keyed name (e ∷ es) h = λ i. cond (not (bytes_eq name (h.0 i))) (1 + position_or_len-keyed name es h.1 i) 0
+position_or_len-keyed name (e ∷ es) h =
+    λ i. cond (not (bytes_eq name (h.0 i))) (1 + position_or_len-keyed name es h.1 i) 0
 
 -- the place of a name among the keys is its place among the declarations
 pub place-keyed : (name : List ℕ) (es : List Entry) → AreKeyed es
@@ -34,15 +38,18 @@ place-keyed name es h =
 pub lookup-fresh : (name : List ℕ) (es : List Entry) → AreKeyed es → is_declared (decls_of es) name ≡ false
     → lookup (λ k. bytes_eq name (bytes_of k)) es ≡ None
 lookup-fresh name [] h fresh = refl
-lookup-fresh name (e ∷ es) h fresh = by (bytes_eq name e.1.name) (bytes_eq name (bytes_of e.0)) (ap (λ k. bytes_eq name k) h.0) fresh (lookup-fresh name es h.1)
+lookup-fresh name (e ∷ es) h fresh = by (bytes_eq name e.1.name) (bytes_eq name (bytes_of e.0))
+    (ap (λ k. bytes_eq name k) h.0) fresh (lookup-fresh name es h.1)
   where
     by : (b c : Bool) → c ≡ b → (b || is_declared (decls_of es) name) ≡ false
         → (is_declared (decls_of es) name ≡ false → lookup (λ k. bytes_eq name (bytes_of k)) es ≡ None)
         → cond c (Some e.1) (lookup (λ k. bytes_eq name (bytes_of k)) es) ≡ None
     by true c p fresh others = absurd (true≢false fresh)
-    by false c p fresh others = ap (λ d. cond d (Some e.1) (lookup (λ k. bytes_eq name (bytes_of k)) es)) p ∙ others fresh
+    by false c p fresh others =
+        ap (λ d. cond d (Some e.1) (lookup (λ k. bytes_eq name (bytes_of k)) es)) p ∙ others fresh
 
-pub AreKeyed-append : (es : List Entry) (k : Vec ℕ Global) (d : Decl) → AreKeyed es → k.items ≡ d.name → AreKeyed (es ++ (k, d) ∷ [])
+pub AreKeyed-append : (es : List Entry) (k : Vec ℕ Global) (d : Decl) → AreKeyed es → k.items ≡ d.name
+    → AreKeyed (es ++ (k, d) ∷ [])
 AreKeyed-append [] k d h p = (p, tt)
 AreKeyed-append (e ∷ es) k d h p = (h.0, AreKeyed-append es k d h.1 p)
 
@@ -51,17 +58,21 @@ or_false b c p q = ap (λ d. d || c) p ∙ q
 
 -- a key that is equal to no other is the name of one declaration
 undeclared : (k : Vec ℕ Global) (es : List Entry) → AreKeyed es
-    → AllByRecursion (λ j. bytes_eq (bytes_of k) (bytes_of j) ≡ false) (keys_of es) → is_declared (decls_of es) (bytes_of k) ≡ false
+    → AllByRecursion (λ j. bytes_eq (bytes_of k) (bytes_of j) ≡ false) (keys_of es)
+    → is_declared (decls_of es) (bytes_of k) ≡ false
 undeclared k [] h p = refl
 undeclared k (e ∷ es) h p = or_false _ _ (ap (λ n. bytes_eq (bytes_of k) n) (sym h.0) ∙ p.0) (undeclared k es h.1 p.1)
 
-pub different : (es : List Entry) → AreKeyed es → IsDistinct (λ j k. bytes_eq (bytes_of j) (bytes_of k)) (keys_of es) → AreDifferent (decls_of es)
+pub different : (es : List Entry) → AreKeyed es → IsDistinct (λ j k. bytes_eq (bytes_of j) (bytes_of k)) (keys_of es)
+    → AreDifferent (decls_of es)
 unfolding IsDistinct
 different [] h p = tt
-different (e ∷ es) h p = (subst (λ n. is_declared (decls_of es) n ≡ false) h.0 (undeclared e.0 es h.1 p.0), different es h.1 p.1)
+different (e ∷ es) h p =
+    (subst (λ n. is_declared (decls_of es) n ≡ false) h.0 (undeclared e.0 es h.1 p.0), different es h.1 p.1)
 
 -- the declaration of an entry that was lent
-pub seconds : (r : Option (Bor (Vec ℕ Global) × Bor Decl)) → option_map (λ p. p.1.now) r ≡ option_map (λ e. e.1) (option_map deref_pair r)
+pub seconds : (r : Option (Bor (Vec ℕ Global) × Bor Decl))
+    → option_map (λ p. p.1.now) r ≡ option_map (λ e. e.1) (option_map deref_pair r)
 seconds None = refl
 seconds (Some p) = refl
 
@@ -69,7 +80,8 @@ one_of : (P : Decl → Type 0) (d : Decl) → P d → All P (d ∷ [])
 one_of P d h zero e k = h
 one_of P d h (suc n) e k = absurd (omega (arith, k))
 
-pub decls_of-append : (es : List Entry) (k : Vec ℕ Global) (d : Decl) → decls_of (es ++ (k, d) ∷ []) ≡ decls_of es ++ d ∷ []
+pub decls_of-append : (es : List Entry) (k : Vec ℕ Global) (d : Decl)
+    → decls_of (es ++ (k, d) ∷ []) ≡ decls_of es ++ d ∷ []
 decls_of-append es k d = map-append (λ (e : Entry). e.1) es ((k, d) ∷ [])
 
 -- a table with one more entry
@@ -79,7 +91,8 @@ table-append es k d t named shaped apart few =
     let same = decls_of-append es k d in
     record {
       keyed = AreKeyed-append es k d t.keyed named;
-      shaped = subst (λ ds. All IsShaped ds) (sym same) (All-append IsShaped (decls_of es) (d ∷ []) t.shaped (one_of IsShaped d shaped));
+      shaped = subst (λ ds. All IsShaped ds) (sym same)
+          (All-append IsShaped (decls_of es) (d ∷ []) t.shaped (one_of IsShaped d shaped));
       apart = subst AreApart (sym same) apart;
       short = omega (arith, few, length-map es (λ (e : Entry). e.1), length-append es ((k, d) ∷ []));
     }
@@ -100,7 +113,8 @@ pub named_declared : (ds : List Decl) (name : List ℕ) → is_some (named ds na
 named_declared [] name = refl
 named_declared (d ∷ ds) name = by (bytes_eq name d.name) (named_declared ds name)
   where
-    by : (b : Bool) → is_some (named ds name) ≡ is_declared ds name → is_some (cond b (Some d) (named ds name)) ≡ (b || is_declared ds name)
+    by : (b : Bool) → is_some (named ds name) ≡ is_declared ds name
+        → is_some (cond b (Some d) (named ds name)) ≡ (b || is_declared ds name)
     by true h = refl
     by false h = h
 
@@ -111,7 +125,8 @@ copied_some (Some x) = refl
 -- what holds of each declaration holds of that of a name
 pub named_shaped : (name : List ℕ) (ds : List Decl) → All IsShaped ds → IfSome (named ds name) IsShaped
 named_shaped name [] h = tt
-named_shaped name (d ∷ ds) h = by (bytes_eq name d.name) (All-head IsShaped d ds h) (named_shaped name ds (All-tail IsShaped d ds h))
+named_shaped name (d ∷ ds) h =
+    by (bytes_eq name d.name) (All-head IsShaped d ds h) (named_shaped name ds (All-tail IsShaped d ds h))
   where
     by : (b : Bool) → IsShaped d → IfSome (named ds name) IsShaped → IfSome (cond b (Some d) (named ds name)) IsShaped
     by true h k = h

@@ -1,12 +1,14 @@
 -- Sizes and values that were worked out by hand. IEEE 1364-2005, sections 5.4.2 and 5.5.
-use Rattle.std.specs.Prelude.{◌≡◌, refl, ℕ, ◌<◌, ◌^◌, List, [], ◌∷◌, true, false, Some, None, pos, codes, bytes_eq, if◌then◌else◌}
+use Rattle.std.specs.Prelude.{◌≡◌, refl, ℕ, ◌<◌, ◌^◌, List, [], ◌∷◌, true, false, Some, None, pos, codes, bytes_eq}
+use Rattle.std.specs.Prelude.{if◌then◌else◌}
 use Rattle.std.proofs.Common.{lit≤, lit<}
 use Rattle.fv_base.specs.declared.pos.Pos.{Pos}
 use Rattle.fv_base.specs.declared.number.Number.{Number}
 use Rattle.vl_tree.specs.declared.operator.UnaryOperator.TheVariants as u
 use Rattle.vl_tree.specs.declared.operator.BinaryOperator.TheVariants as b
 use Rattle.vl_tree.specs.declared.operator.Cast.TheVariants as c
-use Rattle.vl_tree.specs.Expr.{Expr, number, name, paren, unary, binary, concat, repeat, cast, none, more, whole, bit, part}
+use Rattle.vl_tree.specs.Expr.{Expr, number, name, paren, unary, binary, concat, repeat, cast, none, more, whole, bit}
+use Rattle.vl_tree.specs.Expr.{part}
 use Rattle.vl_size.specs.declared.decl.Class.TheVariants as class
 use Rattle.vl_size.specs.declared.decl.Decl.{Decl}
 use Rattle.vl_size.specs.Sign.{sign}
@@ -19,7 +21,16 @@ here = record { file = 1; line = 1; col = 1 }
 
 -- `wire [7:0] a, b;`
 abbrev eight : List ℕ → Decl
-eight text = record { name = text; width = 8; signed = false; left = pos 7; right = pos 0; words = None; class = class.Net; output = false }
+eight text = record {
+  name = text;
+  width = 8;
+  signed = false;
+  left = pos 7;
+  right = pos 0;
+  words = None;
+  class = class.Net;
+  output = false;
+}
 
 abbrev decls : List Decl
 decls = eight (codes "a") ∷ eight (codes "b") ∷ []
@@ -133,7 +144,8 @@ pub half_wide : value decls values 9 false half ≡ 150
 half_wide = refl
 
 -- `-1 < 1'b0` compares unsigned numbers
-pub unsigned_less : value [] values 1 false (binary here b.Less (unary here u.Minus (number here one)) (number here bit_0)) ≡ 0
+pub unsigned_less : value [] values 1 false
+    (binary here b.Less (unary here u.Minus (number here one)) (number here bit_0)) ≡ 0
 unsigned_less = refl
 
 -- `$signed(4'b1000) >>> 1` is signed, and with `4'd0` added it isn't
@@ -191,7 +203,8 @@ by_carry = binary here b.Divide (eight_bits 200 (lit< tt)) (paren here carry)
 
 abbrev by_rest : Expr
 by_rest =
-    binary here b.Divide (eight_bits 200 (lit< tt)) (paren here (binary here b.Subtract (eight_bits 1 (lit< tt)) (paren here (
+    binary here b.Divide (eight_bits 200 (lit< tt))
+    (paren here (binary here b.Subtract (eight_bits 1 (lit< tt)) (paren here (
     binary here b.ShiftRight (paren here carry) (eight_bits 8 (lit< tt))))))
 
 abbrev bits : ℕ → Context

@@ -25,7 +25,8 @@ rest_depth (s.Indexed p i n) ss = omega arith
 pub select_depth : (ss : List Select) (i : ℕ) (x : Select) → i < length ss → x ≡ get_or ss i x
     → selects_depth (with_select x whole) ≤ selects_depth (selects ss)
 select_depth [] i x h k = absurd (omega arith)
-select_depth (y ∷ ss) zero x h k = omega (arith, ap (λ z. selects_depth (with_select z whole)) k, first_depth y (selects ss))
+select_depth (y ∷ ss) zero x h k =
+    omega (arith, ap (λ z. selects_depth (with_select z whole)) k, first_depth y (selects ss))
 select_depth (y ∷ ss) (suc i) x h k = omega (arith, select_depth ss i x (omega arith) k, rest_depth y (selects ss))
 
 pub selects_next : (ds : List Decl) (x : Select) (ss : Selects)

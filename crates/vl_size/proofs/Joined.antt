@@ -17,7 +17,8 @@ pub joins_first : (ds : List Decl) (all : Option ℕ) (es : Exprs) → Joins ds 
 joins_first ds None es = tt
 joins_first ds (Some m) es = omega arith
 
-pub joins_end : (ds : List Decl) (all : Option ℕ) (s number whole : ℕ) → with_rest ds s none ≡ all → Joins ds all number none whole → number ≡ whole
+pub joins_end : (ds : List Decl) (all : Option ℕ) (s number whole : ℕ) → with_rest ds s none ≡ all
+    → Joins ds all number none whole → number ≡ whole
 joins_end ds None s number whole h j = absurd (some_none (sym (with_rest-end ds s) ∙ h))
   where
     some_none : Some s ≡ None → ⊥
@@ -25,16 +26,19 @@ joins_end ds None s number whole h j = absurd (some_none (sym (with_rest-end ds 
 joins_end ds (Some m) s number whole h j = omega (arith, j)
 
 -- sizes that are left, and a part before them, are at most 128 bits
-left_sizes : (ds : List Decl) (k t : ℕ) (es : Exprs) (o : Option ℕ) → sizes ds es ≡ o → k ≤ 128 → with_rest ds k es ≡ Some t
+left_sizes : (ds : List Decl) (k t : ℕ) (es : Exprs) (o : Option ℕ) → sizes ds es ≡ o → k ≤ 128
+    → with_rest ds k es ≡ Some t
     → (n : ℕ) × (o ≡ Some n) × (k + n ≤ 128)
-left_sizes ds k t es None e few h = absurd (none_some (sym (with_rest_is ds k es few ∙ ap (λ o. o >>= λ n. within (k + n)) e) ∙ h))
+left_sizes ds k t es None e few h =
+    absurd (none_some (sym (with_rest_is ds k es few ∙ ap (λ o. o >>= λ n. within (k + n)) e) ∙ h))
   where
     none_some : None ≡ Some t → ⊥
     none_some e = cc
 left_sizes ds k t es (Some n) e few h =
     (n, refl, (within_some (k + n) t (sym (with_rest_is ds k es few ∙ ap (λ o. o >>= λ n. within (k + n)) e) ∙ h)).0)
 
-moved : (number x own m n rest : ℕ) → own ≡ x → (number * 2 ^ m + x) * 2 ^ n + rest ≡ number * 2 ^ (m + n) + (own * 2 ^ n + rest)
+moved : (number x own m n rest : ℕ) → own ≡ x
+    → (number * 2 ^ m + x) * 2 ^ n + rest ≡ number * 2 ^ (m + n) + (own * 2 ^ n + rest)
 moved number x own m n rest e =
     let shifts = ap (λ p. number * p) (pow-add 2 m n) ∙ sym (mul_assoc number (2 ^ m) (2 ^ n)) in
     let spread = spread_out (number * 2 ^ m) x (2 ^ n) in
@@ -45,17 +49,20 @@ moved number x own m n rest e =
 
 joins_on_some : (ds : List Decl) (t s m k number x whole : ℕ) (e : Expr) (es : Exprs)
     → size ds e ≡ Some m → k ≡ s + m → k ≤ 128 → x ≡ value ds no_names m (sign ds e) e
-    → with_rest ds k es ≡ Some t → Joins ds (Some t) number (more e es) whole → Joins ds (Some t) (number * 2 ^ m + x) es whole
+    → with_rest ds k es ≡ Some t → Joins ds (Some t) number (more e es) whole
+    → Joins ds (Some t) (number * 2 ^ m + x) es whole
 joins_on_some ds t s m k number x whole e es sized k_is few x_is h j =
     let left = left_sizes ds k t es (sizes ds es) refl few h in
     let n = left.0 in
-    let own_is : value ds no_names (or_none (size ds e)) (sign ds e) e ≡ x = ap (λ o. value ds no_names (or_none o) (sign ds e) e) sized ∙ sym x_is in
+    let own_is : value ds no_names (or_none (size ds e)) (sign ds e) e
+    ≡ x = ap (λ o. value ds no_names (or_none o) (sign ds e) e) sized ∙ sym x_is in
     let all_is : sizes ds (more e es) ≡ Some (m + n) =
     ap (λ o. o >>= λ m. sizes ds es >>= λ n. within (m + n)) sized ∙ ap (λ o. o >>= λ n. within (m + n)) left.1
     ∙ within_near (m + n) (omega (arith, left.2)) in
     ap (λ o. (number * 2 ^ m + x) * 2 ^ or_none o + joined ds no_names es) left.1
     ∙ moved number x (value ds no_names (or_none (size ds e)) (sign ds e) e) m n (joined ds no_names es) own_is
-    ∙ ap (λ o. number * 2 ^ (m + n) + (value ds no_names (or_none (size ds e)) (sign ds e) e * 2 ^ or_none o + joined ds no_names es)) (sym left.1)
+    ∙ ap (λ o. number * 2 ^ (m + n) + (value ds no_names (or_none (size ds e)) (sign ds e) e * 2 ^ or_none o
+    + joined ds no_names es)) (sym left.1)
     ∙ ap (λ o. number * 2 ^ or_none o + joined ds no_names (more e es)) (sym all_is)
     ∙ j
 

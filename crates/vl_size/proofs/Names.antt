@@ -1,5 +1,7 @@
 -- Names in sizes and values: too many selects have no size, and over no names each value of a name is 0.
-use Rattle.std.specs.Prelude.{◌≡◌, refl, ℕ, zero, suc, ◌+◌, ◌-◌, ◌/◌, ◌%◌, ◌^◌, ◌≤◌, Bool, true, false, not, is_some, is_none, nat_abs, nat_le, if◌then◌else◌, List, [], ◌∷◌, length, Option, Some, None, ℤ, pos, negsuc, ◌+ℤ◌}
+use Rattle.std.specs.Prelude.{◌≡◌, refl, ℕ, zero, suc, ◌+◌, ◌-◌, ◌/◌, ◌%◌, ◌^◌, ◌≤◌, Bool, true, false, not, is_some}
+use Rattle.std.specs.Prelude.{is_none, nat_abs, nat_le, if◌then◌else◌, List, [], ◌∷◌, length, Option, Some, None, ℤ}
+use Rattle.std.specs.Prelude.{pos, negsuc, ◌+ℤ◌}
 use Rattle.std.proofs.Common.{ap, sym, ◌∙◌, true≢false, arith}
 use Rattle.std.proofs.Math.Nat.{zero-mod, zero-div}
 use Rattle.std.proofs.lemmas.Nat.{pow_pos}
@@ -13,7 +15,8 @@ use Rattle.fv_bits.specs.Bits.{extended}
 use Rattle.vl_size.specs.declared.decl.Decl.{Decl}
 use Rattle.vl_size.specs.Table.{named, span, is_between}
 use Rattle.vl_size.specs.Sign.{sign}
-use Rattle.vl_size.specs.Size.{◌>>=◌, with_decl, no_names, bit_at, bits_from, word_at, index_of, operand, place_of, start_of, size, vector_size, word_size, value, vector_value, word_value}
+use Rattle.vl_size.specs.Size.{◌>>=◌, with_decl, no_names, bit_at, bits_from, word_at, index_of, operand, place_of}
+use Rattle.vl_size.specs.Size.{start_of, size, vector_size, word_size, value, vector_value, word_value}
 
 pub two_selects : (ds : List Decl) (d : Decl) (ss : List Select) → 2 ≤ length ss → vector_size ds d (selects ss) ≡ None
 two_selects ds d [] h = absurd (omega arith)
@@ -34,7 +37,8 @@ bind_None (Some n) p h = h
 
 pub three_selects : (ds : List Decl) (d : Decl) (ss : List Select) → 3 ≤ length ss → word_size ds d (selects ss) ≡ None
 three_selects ds d [] h = absurd (omega arith)
-three_selects ds d (s.Bit p i ∷ ss) h = bind_None (size ds i.value) (vector_size ds d (selects ss)) (two_selects ds d ss (omega arith))
+three_selects ds d (s.Bit p i ∷ ss) h =
+    bind_None (size ds i.value) (vector_size ds d (selects ss)) (two_selects ds d ss (omega arith))
 three_selects ds d (s.Part p i j ∷ ss) h = refl
 three_selects ds d (s.Indexed p i j ∷ ss) h = refl
 
@@ -74,7 +78,8 @@ vector_0 ds w t d (part p l r whole) =
     extended_of_0 n w t (bits_from n d.width 0 (place_of d (idx ds r))) (bits_from_0 n d.width (place_of d (idx ds r)))
 vector_0 ds w t d (indexed p i n whole) =
     let k = nat_abs (idx ds n) in
-    extended_of_0 k w t (bits_from k d.width 0 (start_of d (idx ds i) k)) (bits_from_0 k d.width (start_of d (idx ds i) k))
+    extended_of_0 k w t (bits_from k d.width 0 (start_of d (idx ds i) k))
+    (bits_from_0 k d.width (start_of d (idx ds i) k))
 vector_0 ds w t d (bit p i (bit q j ss)) = refl
 vector_0 ds w t d (bit p i (part q j k ss)) = refl
 vector_0 ds w t d (bit p i (indexed q j k ss)) = refl
@@ -95,30 +100,36 @@ word_at_0 d (Some bounds) i = by (is_between bounds.0 bounds.1 i) 0 refl
 
 word_0 : (ds : List Decl) (w : ℕ) (t : Bool) (d : Decl) (ss : Selects) → word_value ds no_names w t d ss ≡ 0
 word_0 ds w t d whole = refl
-word_0 ds w t d (bit p i ss) = ap (λ n. vector_value ds no_names w t d n ss) (word_at_0 d d.words (idx ds i)) ∙ vector_0 ds w t d ss
+word_0 ds w t d (bit p i ss) =
+    ap (λ n. vector_value ds no_names w t d n ss) (word_at_0 d d.words (idx ds i)) ∙ vector_0 ds w t d ss
 word_0 ds w t d (part p l r ss) = refl
 word_0 ds w t d (indexed p l r ss) = refl
 
 -- a name counts as 0
-pub name_0 : (ds : List Decl) (w : ℕ) (t : Bool) (p : Pos) (text : List ℕ) (ss : Selects) → value ds no_names w t (name p text ss) ≡ 0
+pub name_0 : (ds : List Decl) (w : ℕ) (t : Bool) (p : Pos) (text : List ℕ) (ss : Selects)
+    → value ds no_names w t (name p text ss) ≡ 0
 name_0 ds w t p text ss = at (named ds text)
   where
-    by : (d : Decl) (b : Bool) → (if b then vector_value ds no_names w t d 0 ss else word_value ds no_names w t d ss) ≡ 0
+    by : (d : Decl) (b : Bool) → (if b then vector_value ds no_names w t d 0 ss else word_value ds no_names w t d ss)
+        ≡ 0
     by d true = vector_0 ds w t d ss
     by d false = word_0 ds w t d ss
 
     at : (o : Option Decl)
-        → with_decl o (λ d. if is_none d.words then vector_value ds no_names w t d 0 ss else word_value ds no_names w t d ss) ≡ 0
+        → with_decl o (λ d. if is_none d.words then vector_value ds no_names w t d 0 ss
+        else word_value ds no_names w t d ss) ≡ 0
     at None = refl
     at (Some d) = by d (is_none d.words)
 
 -- the declared name is no memory, or it is one
-pub of_vector : {A : Type 0} (words : Option A) (b : Bool) (x y : Option ℕ) → is_some words ≡ not b → b ≡ true → x ≡ None
+pub of_vector : {A : Type 0} (words : Option A) (b : Bool) (x y : Option ℕ) → is_some words ≡ not b → b ≡ true
+    → x ≡ None
     → None ≡ (if is_none words then x else y)
 of_vector None b x y e t h = sym h
 of_vector (Some w) b x y e t h = absurd (true≢false (e ∙ ap not t))
 
-pub of_memory : {A : Type 0} (words : Option A) (b : Bool) (x y : Option ℕ) → is_some words ≡ not b → b ≡ false → y ≡ None
+pub of_memory : {A : Type 0} (words : Option A) (b : Bool) (x y : Option ℕ) → is_some words ≡ not b → b ≡ false
+    → y ≡ None
     → None ≡ (if is_none words then x else y)
 of_memory None b x y e t h = absurd (true≢false (sym (e ∙ ap not t)))
 of_memory (Some w) b x y e t h = sym h

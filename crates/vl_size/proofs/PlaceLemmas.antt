@@ -1,5 +1,6 @@
 -- Bits at a place.
-use Rattle.std.specs.Prelude.{◌≡◌, refl, ℕ, zero, suc, ◌+◌, ◌-◌, ◌*◌, ◌/◌, ◌%◌, ◌^◌, ◌<◌, ◌≤◌, ℤ, pos, negsuc, ◌+ℤ◌, Bool, true, false, IsTrue, nat_le, if◌then◌else◌}
+use Rattle.std.specs.Prelude.{◌≡◌, refl, ℕ, zero, suc, ◌+◌, ◌-◌, ◌*◌, ◌/◌, ◌%◌, ◌^◌, ◌<◌, ◌≤◌, ℤ, pos, negsuc, ◌+ℤ◌}
+use Rattle.std.specs.Prelude.{Bool, true, false, IsTrue, nat_le, if◌then◌else◌}
 use Rattle.std.proofs.Common.{ap, sym, ◌∙◌, arith}
 use Rattle.std.proofs.lemmas.Int.{ints}
 use Rattle.std.proofs.lemmas.Bool.Decides.{nat_tests}
@@ -11,7 +12,8 @@ pub bits_from_0 : (n w x : ℕ) (i : ℤ) → n ≡ 0 → bits_from n w x i ≡ 
 bits_from_0 zero w x i h = refl
 bits_from_0 (suc n) w x i h = absurd (omega (arith, h))
 
-pub bits_from_next : (n w x : ℕ) (i : ℤ) → 0 < n → bits_from n w x i ≡ bit_at w x i + 2 * bits_from (n - 1) w x (i +ℤ pos 1)
+pub bits_from_next : (n w x : ℕ) (i : ℤ) → 0 < n
+    → bits_from n w x i ≡ bit_at w x i + 2 * bits_from (n - 1) w x (i +ℤ pos 1)
 bits_from_next zero w x i h = absurd (omega (arith, h))
 bits_from_next (suc n) w x i h =
     let e : suc n - 1 ≡ n = omega arith in
@@ -49,7 +51,8 @@ far_down (suc zero) w x zero h = refl
 far_down (suc (suc n)) w x zero h = absurd (omega (arith, h))
 far_down (suc n) w x (suc k) h =
     let e : negsuc (suc k) +ℤ pos 1 ≡ negsuc k = omega (arith, ints) in
-    let next : bits_from n w x (negsuc (suc k) +ℤ pos 1) ≡ 0 = ap (bits_from n w x) e ∙ far_down n w x k (omega (arith, h)) in
+    let next : bits_from n w x (negsuc (suc k) +ℤ pos 1) ≡ 0 = ap (bits_from n w x) e
+    ∙ far_down n w x k (omega (arith, h)) in
     omega (arith, next)
 
 pub far_bits : (n w x : ℕ) (i : ℤ) → n ≤ 128 → w ≤ 128 → IsTrue (is_far i) → bits_from n w x i ≡ 0

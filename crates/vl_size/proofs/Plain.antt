@@ -1,5 +1,6 @@
 -- Names in which no bracket stands: none of them is that of a memory's word.
-use Rattle.std.specs.Prelude.{◌≡◌, refl, ℕ, List, [], ◌∷◌, ◌++◌, Bool, true, false, ◌&&◌, not, ◌==◌, Option, Some, None, All, ℤ, codes}
+use Rattle.std.specs.Prelude.{◌≡◌, refl, ℕ, List, [], ◌∷◌, ◌++◌, Bool, true, false, ◌&&◌, not, ◌==◌, Option, Some}
+use Rattle.std.specs.Prelude.{None, All, ℤ, codes}
 use Rattle.std.specs.List.{list_all}
 use Rattle.std.specs.Fmt.{signed_decimal}
 use Rattle.std.proofs.Common.{ap, sym, ◌∙◌, true≢false}
@@ -20,7 +21,8 @@ bracketed memory i =
     list_all-append other (memory ++ codes "[" ++ signed_decimal i) (codes "]")
     ∙ ap (λ b. b && list_all other (codes "]")) (
     list_all-append other (memory ++ codes "[") (signed_decimal i)
-    ∙ ap (λ b. b && list_all other (signed_decimal i)) (list_all-append other memory (codes "[") ∙ and_false (list_all other memory)))
+    ∙ ap (λ b. b && list_all other (signed_decimal i))
+    (list_all-append other memory (codes "[") ∙ and_false (list_all other memory)))
 
 no_word : (words : Option (ℤ × ℤ)) (memory name : List ℕ) → is_plain name ≡ true → IsNoWordIn words memory name
 no_word None memory name h = tt
@@ -28,7 +30,8 @@ no_word (Some bounds) memory name h = λ i b e. true≢false (sym h ∙ ap is_pl
 
 pub plain_apart : (ds : List Decl) → All IsPlain ds → AreApart ds
 plain_apart ds h =
-    All-weaker IsPlain (HasNoWord ds) (λ d p. All-weaker IsPlain (λ e. IsNoWordIn d.words d.name e.name) (λ e q. no_word d.words d.name e.name q) ds h) ds h
+    All-weaker IsPlain (HasNoWord ds) (λ d p. All-weaker IsPlain (λ e. IsNoWordIn d.words d.name e.name)
+    (λ e q. no_word d.words d.name e.name q) ds h) ds h
 
 pub one_more_plain : (ds : List Decl) (d : Decl) → IsPlain d → All IsPlain ds → All IsPlain (ds ++ d ∷ [])
 one_more_plain ds d h all = All-push IsPlain ds d all h

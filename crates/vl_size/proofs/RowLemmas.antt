@@ -1,5 +1,6 @@
 -- Rows of zeros, and rows of a tree that was taken out of its box.
-use Rattle.std.specs.Prelude.{◌≡◌, ℕ, ◌+◌, ◌-◌, ◌%◌, ◌<◌, ◌≤◌, ◌^◌, List, Option, Some, None, IfSome, Bool, true, false, ◌&&◌, if◌then◌else◌, get_or, replicate}
+use Rattle.std.specs.Prelude.{◌≡◌, ℕ, ◌+◌, ◌-◌, ◌%◌, ◌<◌, ◌≤◌, ◌^◌, List, Option, Some, None, IfSome, Bool, true}
+use Rattle.std.specs.Prelude.{false, ◌&&◌, if◌then◌else◌, get_or, replicate}
 use Rattle.std.proofs.Common.{ap, ◌∙◌, arith}
 use Rattle.std.proofs.Math.Nat.{mod-eq_of_lt}
 use Rattle.std.proofs.lemmas.List.{get_or-replicate}
@@ -22,7 +23,8 @@ pub row_at : (o : Option ℕ) (ns : List ℕ) (f : Pos → ℕ → ℕ) (g : ℕ
 row_at None ns f g p e h = tt
 row_at (Some m) ns f g p e h = λ w k. h p w k ∙ e w
 
-pub row_of_0 : (o : Option ℕ) (ns : List ℕ) (g : ℕ → ℕ) → ((w : ℕ) → 0 ≡ g w) → IsRow ns (λ w. 0) → IfSome o (λ m. IsRow ns g)
+pub row_of_0 : (o : Option ℕ) (ns : List ℕ) (g : ℕ → ℕ) → ((w : ℕ) → 0 ≡ g w) → IsRow ns (λ w. 0)
+    → IfSome o (λ m. IsRow ns g)
 row_of_0 None ns g e h = tt
 row_of_0 (Some m) ns g e h = λ w k. h w k ∙ e w
 

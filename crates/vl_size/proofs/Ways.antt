@@ -36,7 +36,8 @@ one_bit b.CaseNotEqual m n c h = refl
 one_bit b.LogicalAnd m n c h = refl
 one_bit b.LogicalOr m n c h = refl
 
-joined_bits : (o p : Option ℕ) (f : ℕ → ℕ → Option ℕ) → ((m n : ℕ) → Some 1 ≡ f m n) → both o p ≡ (o >>= λ m. p >>= λ n. f m n)
+joined_bits : (o p : Option ℕ) (f : ℕ → ℕ → Option ℕ) → ((m n : ℕ) → Some 1 ≡ f m n)
+    → both o p ≡ (o >>= λ m. p >>= λ n. f m n)
 joined_bits None p f h = refl
 joined_bits (Some m) None f h = refl
 joined_bits (Some m) (Some n) f h = h m n

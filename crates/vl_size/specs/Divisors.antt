@@ -1,6 +1,7 @@
--- Divisors that are 0. A divisor has the size and the sign of its context, which go down as those of a value do: in nine bits
--- `8'd255 + 8'd1` isn't 0. IEEE 1364-2005, sections 5.1.5, 5.4 and 5.5; that a division by 0 is refused, also in a branch that
--- isn't taken, is a rule of this project.
+-- Divisors that are 0. A divisor has the size and the sign of its context, which go down as those of a value do: in
+-- nine bits
+-- `8'd255 + 8'd1` isn't 0. IEEE 1364-2005, sections 5.1.5, 5.4 and 5.5; that a division by 0 is refused, also in a
+-- branch that isn't taken, is a rule of this project.
 use Rattle.std.specs.Prelude.{ℕ, ◌==◌, max, List, Bool, true, false, ◌&&◌, Option, Some, None, if◌then◌else◌}
 use Rattle.fv_base.specs.declared.pos.Pos.{Pos}
 use Rattle.vl_tree.specs.declared.expr.Select.{Select}
@@ -90,7 +91,8 @@ module _ (ds : List Decl) where
     zero_divisor c (unary p op x) = zero_divisor (if keeps_size op then c else own_context x) x
     zero_divisor c (binary p op x y) =
         earlier_place (place_if (divides op && is_zero c y) p)
-        (earlier_place (zero_divisor (left_context (way op) op c x y) x) (zero_divisor (right_context (way op) op c x y) y))
+        (earlier_place (zero_divisor (left_context (way op) op c x y) x)
+        (zero_divisor (right_context (way op) op c x y) y))
     zero_divisor c (conditional p k x y) =
         earlier_place (zero_divisor (own_context k) k) (earlier_place (zero_divisor c x) (zero_divisor c y))
     zero_divisor c (concat p es) = parts_zero_divisor es
@@ -105,9 +107,11 @@ module _ (ds : List Decl) where
     selects_zero_divisor whole = None
     selects_zero_divisor (bit p i ss) = earlier_place (zero_divisor (own_context i) i) (selects_zero_divisor ss)
     selects_zero_divisor (part p l r ss) =
-        earlier_place (earlier_place (zero_divisor (own_context l) l) (zero_divisor (own_context r) r)) (selects_zero_divisor ss)
+        earlier_place (earlier_place (zero_divisor (own_context l) l) (zero_divisor (own_context r) r))
+        (selects_zero_divisor ss)
     selects_zero_divisor (indexed p i n ss) =
-        earlier_place (earlier_place (zero_divisor (own_context i) i) (zero_divisor (own_context n) n)) (selects_zero_divisor ss)
+        earlier_place (earlier_place (zero_divisor (own_context i) i) (zero_divisor (own_context n) n))
+        (selects_zero_divisor ss)
 
   -- by itself
   abbrev pub own_zero_divisor : Expr → Option Pos

@@ -4,7 +4,8 @@ use Rattle.fv_base.specs.declared.pos.Pos.{Pos}
 
 -- places compare by file, then line, then column
 abbrev pub is_earlier : Pos → Pos → Bool
-is_earlier p q = nat_lt p.file q.file || ((p.file == q.file) && (nat_lt p.line q.line || ((p.line == q.line) && nat_lt p.col q.col)))
+is_earlier p q = nat_lt p.file q.file ||
+    ((p.file == q.file) && (nat_lt p.line q.line || ((p.line == q.line) && nat_lt p.col q.col)))
 
 -- the earlier of two places that may be there
 abbrev pub earlier_place : Option Pos → Option Pos → Option Pos

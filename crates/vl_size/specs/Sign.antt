@@ -5,7 +5,8 @@ use Rattle.vl_size.specs.declared.way.Way.TheVariants as w
 use Rattle.vl_size.specs.Way.{way, keeps_size}
 use Rattle.vl_tree.specs.declared.operator.Cast.{Cast}
 use Rattle.vl_tree.specs.declared.operator.Cast.TheVariants as c
-use Rattle.vl_tree.specs.Expr.{Expr, Selects, number, name, paren, unary, binary, conditional, concat, repeat, cast, whole, bit}
+use Rattle.vl_tree.specs.Expr.{Expr, Selects, number, name, paren, unary, binary, conditional, concat, repeat, cast}
+use Rattle.vl_tree.specs.Expr.{whole, bit}
 use Rattle.vl_size.specs.declared.decl.Decl.{Decl}
 use Rattle.vl_size.specs.Table.{named}
 

@@ -1,7 +1,9 @@
--- The size of an expression by itself, and its value in a context: one block, since a size may need the value of a constant
--- (a count of copies, the bounds of a part), and a value the sizes of parts. IEEE 1364-2005, sections 4.2, 5.1, 5.2, 5.4 and
--- 5.5; that sizes end at 128 bits, and which expressions have none, are rules of this project.
-use Rattle.std.specs.Prelude.{ℕ, zero, suc, ◌+◌, ◌-◌, ◌*◌, ◌/◌, ◌%◌, ◌^◌, ◌==◌, max, Bool, true, false, ◌&&◌, ◌||◌, not, is_none, nat_le, if◌then◌else◌, List, Option, Some, None, ℤ, pos, negsuc, ◌+ℤ◌, ◌-ℤ◌, nat_abs, int_le, int_lt, bit_and, bit_or, bit_xor}
+-- The size of an expression by itself, and its value in a context: one block, since a size may need the value of a
+-- constant (a count of copies, the bounds of a part), and a value the sizes of parts. IEEE 1364-2005, sections 4.2,
+-- 5.1, 5.2, 5.4 and 5.5; that sizes end at 128 bits, and which expressions have none, are rules of this project.
+use Rattle.std.specs.Prelude.{ℕ, zero, suc, ◌+◌, ◌-◌, ◌*◌, ◌/◌, ◌%◌, ◌^◌, ◌==◌, max, Bool, true, false, ◌&&◌, ◌||◌}
+use Rattle.std.specs.Prelude.{not, is_none, nat_le, if◌then◌else◌, List, Option, Some, None, ℤ, pos, negsuc, ◌+ℤ◌}
+use Rattle.std.specs.Prelude.{◌-ℤ◌, nat_abs, int_le, int_lt, bit_and, bit_or, bit_xor}
 use Rattle.vl_tree.specs.declared.operator.UnaryOperator.{UnaryOperator}
 use Rattle.vl_tree.specs.declared.operator.UnaryOperator.TheVariants as u
 use Rattle.vl_tree.specs.declared.operator.BinaryOperator.{BinaryOperator}
@@ -307,7 +309,8 @@ module _ (ds : List Decl) where
     pub value : Cells → ℕ → Bool → Expr → ℕ
     value v w s (number p n) = extended n.width w s n.value
     value v w s (name p text ss) =
-        with_decl (named ds text) (λ d. if is_none d.words then vector_value v w s d (v d.name None) ss else word_value v w s d ss)
+        with_decl (named ds text) (λ d. if is_none d.words then vector_value v w s d (v d.name None) ss
+        else word_value v w s d ss)
     value v w s (paren p x) = value v w s x
     value v w s (unary p op x) = unary_number op w s (operand (size x) (sign ds x) (λ m t. value v m t x))
     value v w s (binary p op x y) =
@@ -326,7 +329,8 @@ module _ (ds : List Decl) where
     -- the bits of each before those of the next
     pub joined : Cells → Exprs → ℕ
     joined v none = 0
-    joined v (more e es) = own (operand (size e) (sign ds e) (λ m t. value v m t e)) * 2 ^ or_none (sizes es) + joined v es
+    joined v (more e es) =
+        own (operand (size e) (sign ds e) (λ m t. value v m t e)) * 2 ^ or_none (sizes es) + joined v es
 
     -- of a memory: a word, or a part of it
     pub word_value : Cells → ℕ → Bool → Decl → Selects → ℕ
@@ -345,5 +349,6 @@ module _ (ds : List Decl) where
         extended n w s (bits_from n d.width x (place_of d low_end))
     vector_value v w s d x (indexed p i n whole) =
         let k = nat_abs (index_of (operand (size n) (sign ds n) (λ m t. value v m t n))) in
-        extended k w s (bits_from k d.width x (start_of d (index_of (operand (size i) (sign ds i) (λ m t. value v m t i))) k))
+        extended k w s (bits_from k d.width x (start_of d
+        (index_of (operand (size i) (sign ds i) (λ m t. value v m t i))) k))
     vector_value v w s d x ss = 0

@@ -1,5 +1,6 @@
 -- Declarations in order. Rules of this project, but that names of one scope differ: IEEE 1364-2005, section 12.7.
-use Rattle.std.specs.Prelude.{◌≡◌, ℕ, ◌+◌, ◌≤◌, List, [], ◌∷◌, ◌++◌, Bool, true, false, ◌||◌, ◌&&◌, Option, Some, None, All, find, position, bytes_eq, ℤ, ◌-ℤ◌, nat_abs, codes, int_le, not, ◌==◌}
+use Rattle.std.specs.Prelude.{◌≡◌, ℕ, ◌+◌, ◌≤◌, List, [], ◌∷◌, ◌++◌, Bool, true, false, ◌||◌, ◌&&◌, Option, Some}
+use Rattle.std.specs.Prelude.{None, All, find, position, bytes_eq, ℤ, ◌-ℤ◌, nat_abs, codes, int_le, not, ◌==◌}
 use Rattle.std.specs.List.{list_all}
 use Rattle.std.specs.Fmt.{signed_decimal}
 use Rattle.vl_size.specs.declared.decl.Decl.{Decl}

@@ -18,9 +18,9 @@ use crate::way::{Way, divides, keeps_size, way_of};
 use fv_base::Pos;
 use vl_tree::{BinaryOperator, Expr, ExprKind, Select};
 
-/// The size of a whole expression by itself, from 1 to 128 bits (IEEE 1364-2005, section 5.4). None exactly where a name in it
-/// isn't declared, a node in it isn't valid by itself, a size is above 128, or a divisor is 0 at the size and the sign that it
-/// has there.
+/// The size of a whole expression by itself, from 1 to 128 bits (IEEE 1364-2005, section 5.4). None exactly where a
+/// name in it isn't declared, a node in it isn't valid by itself, a size is above 128, or a divisor is 0 at the size
+/// and the sign that it has there.
 pub fn size_of(expr: &Expr, decls: &Decls) -> Option<u32>
     ensures value { result ≡ spec.valid_size decls.now expr.now }
     ensures range { IfSome result (λ m. (1 ≤ m) × (m ≤ 128)) }
@@ -31,8 +31,8 @@ pub fn size_of(expr: &Expr, decls: &Decls) -> Option<u32>
     }
 }
 
-/// The earliest division by 0 in an expression, which has the size and the sign of the context; at the division's first token.
-/// None where there is none.
+/// The earliest division by 0 in an expression, which has the size and the sign of the context; at the division's
+/// first token. None where there is none.
 #[cycle(divisor)]
 #[tactic(auto, using(vl_tree::specs::ExprFalls::parts_fall))]
 pub fn zero_divisor(expr: &Expr, context: Context, decls: &Decls) -> Option<Pos>
@@ -138,7 +138,8 @@ fn operands_zero_divisor(
     requires { IfSome context.size (λ w. w ≤ 128) }
     ensures { let l = spec.left_context decls.now (way operator) operator context left.now right.now in
         let r = spec.right_context decls.now (way operator) operator context left.now right.now in
-        result ≡ places.earlier_place (spec.zero_divisor decls.now l left.now) (spec.zero_divisor decls.now r right.now) }
+        result ≡ places.earlier_place (spec.zero_divisor decls.now l left.now)
+        (spec.zero_divisor decls.now r right.now) }
 {
     match way_of(operator) {
         Way::Larger => {
@@ -177,7 +178,8 @@ fn is_zero(divisor: &Expr, context: Context, decls: &Decls) -> bool
 
 fn is_zero_at(divisor: &Expr, width: u32, signed: bool, decls: &Decls) -> bool
     requires { width ≤ 128 }
-    ensures { result ≡ spec.holds_of (size_spec.size decls.now divisor.now) (λ n. size_spec.value decls.now size_spec.no_names width signed divisor.now == 0) }
+    ensures { result ≡ spec.holds_of (size_spec.size decls.now divisor.now)
+        (λ n. size_spec.value decls.now size_spec.no_names width signed divisor.now == 0) }
 {
     let mut numbers = Numbers::zero();
     match evaluate(divisor, decls, &mut numbers) {

@@ -24,7 +24,8 @@ impl Numbers {
 
     pub(crate) fn at(&self, width: u32, signed: bool) -> u128
         requires { width ≤ 128 }
-        ensures value { result ≡ (if signed then get_or self.now.signed.at width 0 else get_or self.now.unsigned.at width 0) }
+        ensures value { result ≡ (if signed then get_or self.now.signed.at width 0
+            else get_or self.now.unsigned.at width 0) }
         ensures fits { result < 2 ^ width }
     {
         if signed {
@@ -70,16 +71,21 @@ impl Numbers {
 
     /// With the numbers of the operand at the right.
     pub(crate) fn combine(&mut self, operator: BinaryOperator, right: &Numbers)
-        ensures unsigned { IsRow self.new.unsigned.at (λ w. spec.arithmetic operator w false (get_or self.old.unsigned.at w 0) (get_or right.now.unsigned.at w 0)) }
-        ensures signed { IsRow self.new.signed.at (λ w. spec.arithmetic operator w true (get_or self.old.signed.at w 0) (get_or right.now.signed.at w 0)) }
+        ensures unsigned { IsRow self.new.unsigned.at
+            (λ w. spec.arithmetic operator w false (get_or self.old.unsigned.at w 0)
+            (get_or right.now.unsigned.at w 0)) }
+        ensures signed { IsRow self.new.signed.at
+            (λ w. spec.arithmetic operator w true (get_or self.old.signed.at w 0) (get_or right.now.signed.at w 0)) }
     {
         self.unsigned = self.unsigned.combined(operator, false, &right.unsigned);
         self.signed = self.signed.combined(operator, true, &right.signed);
     }
 
     pub(crate) fn shift(&mut self, operator: BinaryOperator, by: u128)
-        ensures unsigned { IsRow self.new.unsigned.at (λ w. spec.shifted operator w false (get_or self.old.unsigned.at w 0) by) }
-        ensures signed { IsRow self.new.signed.at (λ w. spec.shifted operator w true (get_or self.old.signed.at w 0) by) }
+        ensures unsigned { IsRow self.new.unsigned.at
+            (λ w. spec.shifted operator w false (get_or self.old.unsigned.at w 0) by) }
+        ensures signed { IsRow self.new.signed.at
+            (λ w. spec.shifted operator w true (get_or self.old.signed.at w 0) by) }
     {
         self.unsigned = self.unsigned.shifted(operator, false, by);
         self.signed = self.signed.shifted(operator, true, by);

@@ -1,5 +1,6 @@
 //! Bits and words at an index, which is read by its own sign (IEEE 1364-2005, sections 4.2.1, 4.2.2 and 4.9.3).
-ghost use Rattle.std.specs.Prelude.{◌≡◌, ◌+◌, ◌<◌, ◌≤◌, ◌-◌, ◌^◌, false, Some, None, IfSome, IsTrue, ℤ, pos, negsuc, ◌+ℤ◌, ◌≤ℤ◌, if◌then◌else◌};
+ghost use Rattle.std.specs.Prelude.{◌≡◌, ◌+◌, ◌<◌, ◌≤◌, ◌-◌, ◌^◌, false, Some, None, IfSome, IsTrue, ℤ, pos, negsuc};
+ghost use Rattle.std.specs.Prelude.{◌+ℤ◌, ◌≤ℤ◌, if◌then◌else◌};
 ghost use Rattle.fv_bits.specs.Bits.{as_int};
 ghost use Rattle.vl_size.specs.Size as spec;
 ghost use Rattle.vl_size.specs.Place.{is_near, is_far};
@@ -55,7 +56,8 @@ fn place_at(decl: &Decl, index: i128) -> i128
 fn place_of(decl: &Decl, index: Own) -> Option<i128>
     ensures value { IfSome result (λ p. p ≡ spec.place_of decl.now (as_int index.width index.signed index.number)) }
     ensures most { IfSome result (λ p. p ≤ℤ pos (2 ^ 102)) }
-    ensures far { result ≡ None → IsTrue (is_far (spec.place_of decl.now (as_int index.width index.signed index.number))) }
+    ensures far { result ≡ None → IsTrue (is_far
+        (spec.place_of decl.now (as_int index.width index.signed index.number))) }
 {
     // Read before the index, whose place is far by this bound's range.
     let _right = decl.right;
@@ -67,7 +69,8 @@ fn place_of(decl: &Decl, index: Own) -> Option<i128>
 #[tactic(auto, using(crate::proofs::PlaceLemmas::far))]
 pub fn selected_bit(decl: &Decl, x: u128, index: Own) -> u128
     requires { decl.now.width ≤ 128 }
-    ensures value { result ≡ spec.bit_at decl.now.width x (spec.place_of decl.now (as_int index.width index.signed index.number)) }
+    ensures value { result ≡ spec.bit_at decl.now.width x
+        (spec.place_of decl.now (as_int index.width index.signed index.number)) }
     ensures fits { result < 2 }
 {
     match place_of(decl, index) {
@@ -81,7 +84,8 @@ pub fn selected_bit(decl: &Decl, x: u128, index: Own) -> u128
 pub fn selected_part(decl: &Decl, x: u128, right: Own, count: u32) -> u128
     requires few { decl.now.width ≤ 128 }
     requires count { count ≤ 128 }
-    ensures value { result ≡ spec.bits_from count decl.now.width x (spec.place_of decl.now (as_int right.width right.signed right.number)) }
+    ensures value { result ≡ spec.bits_from count decl.now.width x
+        (spec.place_of decl.now (as_int right.width right.signed right.number)) }
     ensures fits { result < 2 ^ count }
 {
     match place_of(decl, right) {
@@ -105,9 +109,11 @@ fn last_of(first: i128, count: u32) -> i128
 /// Where the part `[start +: count]` begins, counted from the lowest bit. None where it is past every vector.
 fn start_of(decl: &Decl, start: Own, count: u32) -> Option<i128>
     requires { count ≤ 128 }
-    ensures value { IfSome result (λ p. p ≡ spec.start_of decl.now (as_int start.width start.signed start.number) count) }
+    ensures value { IfSome result (λ p. p ≡ spec.start_of decl.now
+        (as_int start.width start.signed start.number) count) }
     ensures most { IfSome result (λ p. p ≤ℤ pos (2 ^ 102)) }
-    ensures far { result ≡ None → IsTrue (is_far (spec.start_of decl.now (as_int start.width start.signed start.number) count)) }
+    ensures far { result ≡ None → IsTrue (is_far
+        (spec.start_of decl.now (as_int start.width start.signed start.number) count)) }
 {
     let descends = decl.right <= decl.left;
     let start = near(start)?;
@@ -122,7 +128,8 @@ fn start_of(decl: &Decl, start: Own, count: u32) -> Option<i128>
 pub fn selected_from(decl: &Decl, x: u128, start: Own, count: u32) -> u128
     requires few { decl.now.width ≤ 128 }
     requires count { count ≤ 128 }
-    ensures value { result ≡ spec.bits_from count decl.now.width x (spec.start_of decl.now (as_int start.width start.signed start.number) count) }
+    ensures value { result ≡ spec.bits_from count decl.now.width x
+        (spec.start_of decl.now (as_int start.width start.signed start.number) count) }
     ensures fits { result < 2 ^ count }
 {
     match start_of(decl, start, count) {

@@ -65,7 +65,8 @@ impl Row {
 
     /// With the row of the operand at the right.
     pub(crate) fn combined(&self, operator: BinaryOperator, signed: bool, right: &Row) -> Row
-        ensures { IsRow result.at (λ w. spec.arithmetic operator w signed (get_or self.now.at w 0) (get_or right.now.at w 0)) }
+        ensures { IsRow result.at (λ w. spec.arithmetic operator w signed (get_or self.now.at w 0)
+            (get_or right.now.at w 0)) }
     {
         let mut at = [0u128; 129];
         for width in 0..129u32 {

@@ -1,5 +1,6 @@
 //! Sizes and values of selects and copies, from the numbers in them (IEEE 1364-2005, sections 4.2.1 and 5.1.14).
-ghost use Rattle.std.specs.Prelude.{◌≡◌, ◌<◌, ◌≤◌, ◌*◌, ◌+◌, ◌^◌, Some, None, IfSome, ℤ, pos, nat_abs, IsTrue, if◌then◌else◌};
+ghost use Rattle.std.specs.Prelude.{◌≡◌, ◌<◌, ◌≤◌, ◌*◌, ◌+◌, ◌^◌, Some, None, IfSome, ℤ, pos, nat_abs, IsTrue};
+ghost use Rattle.std.specs.Prelude.{if◌then◌else◌};
 ghost use Rattle.std.specs.Option.{option_map};
 ghost use Rattle.fv_bits.specs.Bits.{as_int};
 ghost use Rattle.vl_size.specs.Size as spec;
@@ -143,9 +144,11 @@ pub fn appended(front: u128, size: u32, more: u32, n: u128) -> u128
 /// So many copies of a number, one behind the other. None exactly where they have no size.
 pub fn repeated(count: Own, part: Own) -> Option<Own>
     requires { 1 ≤ part.width }
-    ensures width { option_map (λ all. all.width) result ≡ spec.times (as_int count.width count.signed count.number) part.width }
+    ensures width { option_map (λ all. all.width) result
+        ≡ spec.times (as_int count.width count.signed count.number) part.width }
     ensures some { IfSome result (λ all. 1 ≤ all.width) }
-    ensures number { IfSome result (λ all. all.number ≡ spec.copies (nat_abs (as_int count.width count.signed count.number)) part.width part.number) }
+    ensures number { IfSome result (λ all. all.number
+        ≡ spec.copies (nat_abs (as_int count.width count.signed count.number)) part.width part.number) }
 {
     let width = times(count, part.width)?;
     Some(Own {

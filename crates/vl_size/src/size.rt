@@ -22,9 +22,9 @@ use crate::way::{Way, divides, keeps_size, size_by, way_of};
 use fv_bits::bit;
 use vl_tree::{BinaryOperator, Expr, ExprKind, Select, UnaryOperator};
 
-/// The size that an expression or a part of one has by itself, from 1 to 128 bits (IEEE 1364-2005, section 5.4), whatever
-/// its divisors are. None exactly where a name in it isn't declared, a node in it isn't valid by itself or a size is above
-/// 128.
+/// The size that an expression or a part of one has by itself, from 1 to 128 bits (IEEE 1364-2005, section 5.4),
+/// whatever its divisors are. None exactly where a name in it isn't declared, a node in it isn't valid by itself or a
+/// size is above 128.
 #[cycle(size)]
 #[tactic(auto, using(vl_tree::specs::ExprFalls::parts_fall))]
 pub fn self_size(expr: &Expr, decls: &Decls) -> Option<u32>
@@ -110,7 +110,8 @@ fn selected_size(decl: &Decl, all: &[Select], decls: &Decls) -> Option<u32>
     requires some { 1 ≤ decl.now.width }
     requires few { decl.now.width ≤ 128 }
     ensures value { let ss = selects all.now in
-        result ≡ (if is_none decl.now.words then spec.vector_size decls.now decl.now ss else spec.word_size decls.now decl.now ss) }
+        result ≡ (if is_none decl.now.words then spec.vector_size decls.now decl.now ss
+        else spec.word_size decls.now decl.now ss) }
     ensures range { IfSome result (λ m. (1 ≤ m) × (m ≤ 128)) }
 {
     if decl.words.is_none() {
@@ -168,8 +169,10 @@ fn select_size(decl: &Decl, select: &Select, decls: &Decls) -> Option<u32>
 pub(crate) fn evaluate(expr: &Expr, decls: &Decls, numbers: &mut Numbers) -> Option<u32>
     ensures value { result ≡ spec.size decls.now expr.now }
     ensures range { IfSome result (λ m. (1 ≤ m) × (m ≤ 128)) }
-    ensures unsigned { IfSome result (λ m. IsRow numbers.new.unsigned.at (λ w. spec.value decls.now no_names w false expr.now)) }
-    ensures signed { IfSome result (λ m. IsRow numbers.new.signed.at (λ w. spec.value decls.now no_names w true expr.now)) }
+    ensures unsigned { IfSome result (λ m. IsRow numbers.new.unsigned.at
+        (λ w. spec.value decls.now no_names w false expr.now)) }
+    ensures signed { IfSome result (λ m. IsRow numbers.new.signed.at
+        (λ w. spec.value decls.now no_names w true expr.now)) }
 {
     match &expr.kind {
         ExprKind::Number(number) => {
@@ -229,8 +232,10 @@ fn evaluate_unary(
 ) -> Option<u32>
     ensures value { (p : Pos) → result ≡ spec.size decls.now (unary p operator operand.now) }
     ensures range { IfSome result (λ m. (1 ≤ m) × (m ≤ 128)) }
-    ensures unsigned { IfSome result (λ m. (p : Pos) → IsRow numbers.new.unsigned.at (λ w. spec.value decls.now no_names w false (unary p operator operand.now))) }
-    ensures signed { IfSome result (λ m. (p : Pos) → IsRow numbers.new.signed.at (λ w. spec.value decls.now no_names w true (unary p operator operand.now))) }
+    ensures unsigned { IfSome result (λ m. (p : Pos)
+        → IsRow numbers.new.unsigned.at (λ w. spec.value decls.now no_names w false (unary p operator operand.now))) }
+    ensures signed { IfSome result (λ m. (p : Pos)
+        → IsRow numbers.new.signed.at (λ w. spec.value decls.now no_names w true (unary p operator operand.now))) }
 {
     match operator {
         UnaryOperator::Plus => evaluate(operand, decls, numbers),
@@ -262,8 +267,12 @@ fn evaluate_binary(
 ) -> Option<u32>
     ensures value { (p : Pos) → result ≡ spec.size decls.now (binary p operator left.now right.now) }
     ensures range { IfSome result (λ m. (1 ≤ m) × (m ≤ 128)) }
-    ensures unsigned { IfSome result (λ m. (p : Pos) → IsRow numbers.new.unsigned.at (λ w. spec.value decls.now no_names w false (binary p operator left.now right.now))) }
-    ensures signed { IfSome result (λ m. (p : Pos) → IsRow numbers.new.signed.at (λ w. spec.value decls.now no_names w true (binary p operator left.now right.now))) }
+    ensures unsigned { IfSome result (λ m. (p : Pos)
+        → IsRow numbers.new.unsigned.at (λ w. spec.value decls.now no_names w false
+        (binary p operator left.now right.now))) }
+    ensures signed { IfSome result (λ m. (p : Pos)
+        → IsRow numbers.new.signed.at (λ w. spec.value decls.now no_names w true
+        (binary p operator left.now right.now))) }
 {
     match way_of(operator) {
         Way::Larger => evaluate_arithmetic(operator, left, right, decls, numbers),
@@ -292,8 +301,12 @@ fn evaluate_arithmetic(
     requires { way operator ≡ Way.Larger }
     ensures value { (p : Pos) → result ≡ spec.size decls.now (binary p operator left.now right.now) }
     ensures range { IfSome result (λ m. (1 ≤ m) × (m ≤ 128)) }
-    ensures unsigned { IfSome result (λ m. (p : Pos) → IsRow numbers.new.unsigned.at (λ w. spec.value decls.now no_names w false (binary p operator left.now right.now))) }
-    ensures signed { IfSome result (λ m. (p : Pos) → IsRow numbers.new.signed.at (λ w. spec.value decls.now no_names w true (binary p operator left.now right.now))) }
+    ensures unsigned { IfSome result (λ m. (p : Pos)
+        → IsRow numbers.new.unsigned.at (λ w. spec.value decls.now no_names w false
+        (binary p operator left.now right.now))) }
+    ensures signed { IfSome result (λ m. (p : Pos)
+        → IsRow numbers.new.signed.at (λ w. spec.value decls.now no_names w true
+        (binary p operator left.now right.now))) }
 {
     let m = evaluate(left, decls, numbers)?;
     let mut other = Numbers::zero();
@@ -310,8 +323,8 @@ fn evaluate_arithmetic(
     Some(width)
 }
 
-/// Both operands at the larger of their sizes, signed where both are; of `&&` and `||` each by itself. None exactly where
-/// one of them has no size.
+/// Both operands at the larger of their sizes, signed where both are; of `&&` and `||` each by itself. None exactly
+/// where one of them has no size.
 #[cycle(size)]
 fn tested(
     operator: BinaryOperator,
@@ -320,9 +333,12 @@ fn tested(
     decls: &Decls,
     numbers: &mut Numbers,
 ) -> Option<bool>
-    ensures sized { option_map (λ b. 1) result ≡ spec.both (spec.size decls.now left.now) (spec.size decls.now right.now) }
-    ensures value { let x = spec.operand (spec.size decls.now left.now) (sign decls.now left.now) (λ m t. spec.value decls.now no_names m t left.now) in
-        let y = spec.operand (spec.size decls.now right.now) (sign decls.now right.now) (λ m t. spec.value decls.now no_names m t right.now) in
+    ensures sized { option_map (λ b. 1) result
+        ≡ spec.both (spec.size decls.now left.now) (spec.size decls.now right.now) }
+    ensures value { let x = spec.operand (spec.size decls.now left.now) (sign decls.now left.now)
+        (λ m t. spec.value decls.now no_names m t left.now) in
+        let y = spec.operand (spec.size decls.now right.now) (sign decls.now right.now)
+        (λ m t. spec.value decls.now no_names m t right.now) in
         IfSome result (λ b. b ≡ spec.tested operator x y) }
 {
     match operator {
@@ -359,7 +375,8 @@ fn own(expr: &Expr, decls: &Decls) -> Option<Own>
     ensures width { option_map (λ own. own.width) result ≡ spec.size decls.now expr.now }
     ensures some { IfSome result (λ own. 1 ≤ own.width) }
     ensures signed { IfSome result (λ own. own.signed ≡ sign decls.now expr.now) }
-    ensures number { IfSome result (λ own. own.number ≡ spec.value decls.now no_names own.width (sign decls.now expr.now) expr.now) }
+    ensures number { IfSome result (λ own. own.number
+        ≡ spec.value decls.now no_names own.width (sign decls.now expr.now) expr.now) }
 {
     if let ExprKind::Number(number) = &expr.kind {
         return Some(Own {

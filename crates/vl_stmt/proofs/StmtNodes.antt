@@ -29,23 +29,33 @@ use Rattle.vl_expr.specs.Next.{IsOther, kinds_in}
 use Rattle.vl_stmt.specs.Statements.{HasNoAttributes, LeavesElse}
 use Rattle.vl_stmt.proofs.StmtLeads.{lead_case}
 
-pub block_found : (p : Pos) (label : Option (List ℕ)) (ss : Stmts) (start inside rest : List Token) → BeginsAt p start → IsNext (k.Keyword w.Begin) start inside
-    → Spells ((spell_label label ▸ spell_all ss) ▸ word w.End) inside rest → Spells (spell (begin [] p label ss)) start rest
+pub block_found : (p : Pos) (label : Option (List ℕ)) (ss : Stmts) (start inside rest : List Token)
+    → BeginsAt p start → IsNext (k.Keyword w.Begin) start inside
+    → Spells ((spell_label label ▸ spell_all ss) ▸ word w.End) inside rest
+    → Spells (spell (begin [] p label ss)) start rest
 block_found p label ss start inside rest here h (m, both, e) = (start, refl, (here, (m, (inside, h, both), e)))
 
-pub if_found : (p : Pos) (c : Expr) (x : Stmt) (start inside body rest : List Token) → BeginsAt p start → IsNext (k.Keyword w.If) start inside
-    → Spells (parens (expr.spell c)) inside body → Spells (spell x) body rest → Spells (spell (if_only [] p c x)) start rest
+pub if_found : (p : Pos) (c : Expr) (x : Stmt) (start inside body rest : List Token) → BeginsAt p start
+    → IsNext (k.Keyword w.If) start inside
+    → Spells (parens (expr.spell c)) inside body → Spells (spell x) body rest
+    → Spells (spell (if_only [] p c x)) start rest
 if_found p c x start inside body rest here h i j = (start, refl, (here, (inside, h, (body, i, j))))
 
-pub if_else_found : (p : Pos) (c : Expr) (x y : Stmt) (start inside body behind other rest : List Token) → BeginsAt p start → IsNext (k.Keyword w.If) start inside
-    → Spells (parens (expr.spell c)) inside body → Spells (spell x) body behind → IsNext (k.Keyword w.Else) behind other → Spells (spell y) other rest
+pub if_else_found : (p : Pos) (c : Expr) (x y : Stmt) (start inside body behind other rest : List Token)
+    → BeginsAt p start → IsNext (k.Keyword w.If) start inside
+    → Spells (parens (expr.spell c)) inside body → Spells (spell x) body behind
+    → IsNext (k.Keyword w.Else) behind other → Spells (spell y) other rest
     → Spells (spell (if_else [] p c x y)) start rest
-if_else_found p c x y start inside body behind other rest here h i j l m = (start, refl, (here, (inside, h, (body, i, (behind, j, (other, l, m))))))
+if_else_found p c x y start inside body behind other rest here h i j l m =
+    (start, refl, (here, (inside, h, (body, i, (behind, j, (other, l, m))))))
 
-pub case_found : (p : Pos) (kind : CaseKind) (e : Expr) (xs : Arms) (start inside body rest : List Token) → BeginsAt p start
-    → IsNext (k.Keyword (case_word kind)) start inside → Spells (parens (expr.spell e)) inside body → Spells (spell_arms xs ▸ word w.Endcase) body rest
+pub case_found : (p : Pos) (kind : CaseKind) (e : Expr) (xs : Arms) (start inside body rest : List Token)
+    → BeginsAt p start
+    → IsNext (k.Keyword (case_word kind)) start inside → Spells (parens (expr.spell e)) inside body
+    → Spells (spell_arms xs ▸ word w.Endcase) body rest
     → Spells (spell (case [] p kind e xs)) start rest
-case_found p kind e xs start inside body rest here h i (m, j, l) = (start, refl, (here, (m, (inside, h, (body, i, j)), l)))
+case_found p kind e xs start inside body rest here h i (m, j, l) =
+    (start, refl, (here, (m, (inside, h, (body, i, j)), l)))
 
 pub begins_here : (t : Token) (ts us : List Token) → us ≡ t ∷ ts → BeginsAt t.pos us
 begins_here t ts us e = subst (λ vs. BeginsAt t.pos vs) (sym e) refl
@@ -62,18 +72,22 @@ not_open x ts rest h e = by_open (ends_open x) refl
     by_open true f = absurd (subst (λ q. IsOther (k.Keyword w.Else) q) e (h f) refl)
 
 -- attributes before a statement that has none
-pub attributed : (attrs old : Attributes) (p : Pos) (x : StmtKind) (start middle rest : List Token) → HasNoAttributes (shown old p x)
-    → Spells (spell_attributes attrs) start middle → Spells (spell (shown old p x)) middle rest → Spells (spell (shown attrs p x)) start rest
+pub attributed : (attrs old : Attributes) (p : Pos) (x : StmtKind) (start middle rest : List Token)
+    → HasNoAttributes (shown old p x)
+    → Spells (spell_attributes attrs) start middle → Spells (spell (shown old p x)) middle rest
+    → Spells (spell (shown attrs p x)) start rest
 attributed attrs old p x start middle rest = by_kind x
   where
     same : (m : List Token) → old ≡ [] → Spells (spell_attributes old) middle m → middle ≡ m
     same m n h = subst (λ a. Spells (spell_attributes a) middle m) n h
 
-    moved : (m : List Token) → old ≡ [] → Spells (spell_attributes attrs) start middle → Spells (spell_attributes old) middle m
+    moved : (m : List Token) → old ≡ [] → Spells (spell_attributes attrs) start middle
+        → Spells (spell_attributes old) middle m
         → Spells (spell_attributes attrs) start m
     moved m n h i = subst (λ ts. Spells (spell_attributes attrs) start ts) (same m n i) h
 
-    by_kind : (x : StmtKind) → HasNoAttributes (shown old p x) → Spells (spell_attributes attrs) start middle → Spells (spell (shown old p x)) middle rest
+    by_kind : (x : StmtKind) → HasNoAttributes (shown old p x) → Spells (spell_attributes attrs) start middle
+        → Spells (spell (shown old p x)) middle rest
         → Spells (spell (shown attrs p x)) start rest
     by_kind (kind.Begin label ss) n h (m, i, j) = (m, moved m n h i, j)
     by_kind (kind.If c first None) n h (m, i, j) = (m, moved m n h i, j)
@@ -84,7 +98,8 @@ attributed attrs old p x start middle rest = by_kind x
     by_kind kind.Empty n h (m, i, j) = (m, moved m n h i, j)
 
 -- what is read of a `case`
-pub case_row : (n inside : ℕ) (t : Token) (ts us : List Token) (c : CaseKind) → us ≡ t ∷ ts → stmt_lead_of t.kind ≡ lead.Case c → 0 < n → inside ≡ n - 1
+pub case_row : (n inside : ℕ) (t : Token) (ts us : List Token) (c : CaseKind) → us ≡ t ∷ ts
+    → stmt_lead_of t.kind ≡ lead.Case c → 0 < n → inside ≡ n - 1
     → read stmt n (kinds_in us) ≡ then (read in_parens inside (kinds_in ts)) (λ r. read (first_arm c) inside r)
 case_row n inside t ts us c e h l i =
     ap (λ vs. read stmt n (kinds_in vs)) e

@@ -1,5 +1,5 @@
--- Labels and arms of a case. IEEE 1364-2005, sections 9.5 and A.6.7; that wild bits stand in labels of a `casez` alone is a
--- rule of this project.
+-- Labels and arms of a case. IEEE 1364-2005, sections 9.5 and A.6.7; that wild bits stand in labels of a `casez`
+-- alone is a rule of this project.
 use Rattle.std.specs.Prelude.{ℕ, ◌==◌, Bool, true, false, Option, Some, None}
 use Rattle.fv_base.specs.declared.kind.Kind.{Kind}
 use Rattle.fv_base.specs.declared.kind.Kind.TheVariants as k

@@ -21,7 +21,8 @@ use vl_tree::{CaseKind, Expr};
 pub(crate) fn read_colon(tokens: &[Token]) -> (bool, &[Token])
     ensures found { Spells (spec.spell_colon result.0) tokens.now result.1.now }
     ensures shorter { length result.1.now ≤ length tokens.now }
-    ensures goes { (room : ℕ) → grammar.read grammar.behind_default room (kinds_in tokens.now) ≡ grammar.read grammar.stmt room (kinds_in result.1.now) }
+    ensures goes { (room : ℕ) → grammar.read grammar.behind_default room (kinds_in tokens.now)
+        ≡ grammar.read grammar.stmt room (kinds_in result.1.now) }
 {
     match past_sign(Symbol::Colon, tokens) {
         Some(rest) => (true, rest),
@@ -65,10 +66,13 @@ pub(crate) fn read_labels(
     kind: CaseKind,
     tokens: &[Token],
 ) -> Result<(List<Expr>, &[Token]), Stop>
-    ensures found { IfOk result (λ x. Spells (between_commas spec.spell_one_label x.0 ▸ sign Symbol.Colon) tokens.now x.1.now) }
+    ensures found { IfOk result (λ x. Spells
+        (between_commas spec.spell_one_label x.0 ▸ sign Symbol.Colon) tokens.now x.1.now) }
     ensures formed { IfOk result (λ x. AreSome (λ e. formed.IsLabel kind e) x.0) }
     ensures shorter { IfOk result (λ x. length x.1.now < length tokens.now) }
-    ensures goes { Goes (λ x. grammar.read grammar.stmt room (kinds_in x.1.now)) result (then (grammar.read (grammar.label kind) room (kinds_in tokens.now)) (λ r. grammar.read (grammar.labels kind) room r)) }
+    ensures goes { Goes (λ x. grammar.read grammar.stmt room (kinds_in x.1.now)) result
+        (then (grammar.read (grammar.label kind) room (kinds_in tokens.now))
+        (λ r. grammar.read (grammar.labels kind) room r)) }
 {
     let mut all = List::new(alloc);
     let (first, mut rest) = read_case_label(alloc, room, kind, tokens)?;
@@ -92,7 +96,8 @@ fn read_case_label(
     ensures found { IfOk result (λ x. Spells (spec.spell_one_label x.0) tokens.now x.1.now) }
     ensures formed { IfOk result (λ x. formed.IsLabel kind x.0) }
     ensures shorter { IfOk result (λ x. length x.1.now < length tokens.now) }
-    ensures goes { Goes (λ x. Ok (kinds_in x.1.now)) result (grammar.read (grammar.label kind) room (kinds_in tokens.now)) }
+    ensures goes { Goes (λ x. Ok (kinds_in x.1.now)) result
+        (grammar.read (grammar.label kind) room (kinds_in tokens.now)) }
 {
     let Some((first, rest)) = next(tokens) else {
         return Err(Stop::Wrong(0));

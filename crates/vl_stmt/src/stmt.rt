@@ -1,6 +1,7 @@
 //! Statements (IEEE 1364-2005, section A.6).
 
-ghost use Rattle.std.specs.Prelude.{◌≡◌, ◌+◌, ◌<◌, ◌≤◌, [], ◌∷◌, Ok, Some, None, Option, List, length, IfOk, IfErr, false, ℕ};
+ghost use Rattle.std.specs.Prelude.{◌≡◌, ◌+◌, ◌<◌, ◌≤◌, [], ◌∷◌, Ok, Some, None, Option, List, length, IfOk, IfErr};
+ghost use Rattle.std.specs.Prelude.{false, ℕ};
 ghost use Rattle.fv_base.specs.declared.kind.Kind.TheVariants as k;
 ghost use Rattle.fv_base.specs.declared.symbol.Symbol.TheVariants as s;
 ghost use Rattle.fv_base.specs.declared.token.Token.{Token};
@@ -143,11 +144,14 @@ fn read_bare(alloc: Global, room: u32, tokens: &[Token]) -> Result<(Stmt, &[Toke
 #[tactic(auto, using(crate::proofs::StmtRows::of_otherwise, vl_part::proofs::DeclarationRows::basics))]
 fn read_if(alloc: Global, pos: Pos, room: u32, tokens: &[Token]) -> Result<(Stmt, &[Token]), Stop>
     ensures bare { IfOk result (λ x. HasNoAttributes x.0) }
-    ensures found { IfOk result (λ x. (start : List Token) → BeginsAt pos start → Spells (word Keyword.If) start tokens.now → Spells (spec.spell x.0) start x.1.now) }
+    ensures found { IfOk result (λ x. (start : List Token) → BeginsAt pos start
+        → Spells (word Keyword.If) start tokens.now → Spells (spec.spell x.0) start x.1.now) }
     ensures formed { IfOk result (λ x. formed.IsWellFormed x.0) }
     ensures no_else { IfOk result (λ x. LeavesElse x.0 (kinds_in x.1.now)) }
     ensures shorter { IfOk result (λ x. length x.1.now < length tokens.now) }
-    ensures goes { Goes (λ x. Ok (kinds_in x.1.now)) result (then (grammar.read grammar.in_parens room (kinds_in tokens.now)) (λ r. then (grammar.read grammar.stmt room r) (λ q. grammar.read grammar.otherwise room q))) }
+    ensures goes { Goes (λ x. Ok (kinds_in x.1.now)) result
+        (then (grammar.read grammar.in_parens room (kinds_in tokens.now))
+        (λ r. then (grammar.read grammar.stmt room r) (λ q. grammar.read grammar.otherwise room q))) }
 {
     let (condition, rest) = read_parens(alloc, room, tokens)?;
     let (first, rest) = read_stmt(alloc, room, rest)?;
@@ -171,7 +175,8 @@ fn read_labelled(
     room: u32,
     tokens: &[Token],
 ) -> Result<(Option<Text>, List<Stmt>, &[Token]), Stop>
-    ensures found { IfOk result (λ x. Spells ((spec.spell_label x.0 ▸ spec.spell_all (tree.stmts x.1)) ▸ word Keyword.End) tokens.now x.2.now) }
+    ensures found { IfOk result (λ x. Spells
+        ((spec.spell_label x.0 ▸ spec.spell_all (tree.stmts x.1)) ▸ word Keyword.End) tokens.now x.2.now) }
     ensures label { IfOk result (λ x. formed.IsOptionalName x.0) }
     ensures formed { IfOk result (λ x. formed.AreWellFormed (tree.stmts x.1)) }
     ensures shorter { IfOk result (λ x. length x.2.now < length tokens.now) }
@@ -225,7 +230,8 @@ fn read_arms(
     ensures single { IfOk result (λ x. formed.default_count (arms x.0) ≤ 1) }
     ensures formed { IfOk result (λ x. formed.AreArms kind (arms x.0)) }
     ensures shorter { IfOk result (λ x. length x.1.now < length tokens.now) }
-    ensures goes { Goes (λ x. Ok (kinds_in x.1.now)) result (grammar.read (grammar.first_arm kind) room (kinds_in tokens.now)) }
+    ensures goes { Goes (λ x. Ok (kinds_in x.1.now)) result
+        (grammar.read (grammar.first_arm kind) room (kinds_in tokens.now)) }
 {
     if past_word(Keyword::Endcase, tokens).is_some() {
         return Err(Stop::Wrong(tokens.len()));
@@ -256,10 +262,12 @@ fn read_arm(
 ) -> Result<(Arm, bool, &[Token]), Stop>
     requires more { IsOther (k.Keyword w.Endcase) (kinds_in tokens.now) }
     ensures found { IfOk result (λ x. Spells (spec.spell_arms (arms (x.0 ∷ []))) tokens.now x.2.now) }
-    ensures counted { IfOk result (λ x. labels.number_of has_default + formed.default_count (arms (x.0 ∷ [])) ≡ labels.number_of x.1) }
+    ensures counted { IfOk result (λ x. labels.number_of has_default + formed.default_count (arms (x.0 ∷ []))
+        ≡ labels.number_of x.1) }
     ensures formed { IfOk result (λ x. formed.AreArms kind (arms (x.0 ∷ []))) }
     ensures shorter { IfOk result (λ x. length x.2.now < length tokens.now) }
-    ensures goes { Goes (λ x. grammar.read (grammar.arms kind x.1) room (kinds_in x.2.now)) result (grammar.read (grammar.arms kind has_default) room (kinds_in tokens.now)) }
+    ensures goes { Goes (λ x. grammar.read (grammar.arms kind x.1) room (kinds_in x.2.now)) result
+        (grammar.read (grammar.arms kind has_default) room (kinds_in tokens.now)) }
 {
     let Some((first, _)) = next(tokens) else {
         return Err(Stop::Wrong(0));
@@ -305,7 +313,8 @@ fn read_assignment(
     ensures found { IfOk result (λ x. Spells (spec.spell x.0) tokens.now x.1.now) }
     ensures formed { IfOk result (λ x. formed.IsWellFormed x.0) }
     ensures shorter { IfOk result (λ x. length x.1.now < length tokens.now) }
-    ensures goes { Goes (λ x. Ok (kinds_in x.1.now)) result (then (grammar.read grammar.target room (kinds_in tokens.now)) (λ r. grammar.read grammar.assign_sign room r)) }
+    ensures goes { Goes (λ x. Ok (kinds_in x.1.now)) result
+        (then (grammar.read grammar.target room (kinds_in tokens.now)) (λ r. grammar.read grammar.assign_sign room r)) }
 {
     let (target, rest) = read_lval(alloc, room, tokens)?;
     let (kind, rest) = read_assign_sign(rest)?;
@@ -321,7 +330,9 @@ fn read_assignment(
 fn read_assign_sign(tokens: &[Token]) -> Result<(AssignKind, &[Token]), Stop>
     ensures found { IfOk result (λ x. Spells (sign (spec.assign_sign x.0)) tokens.now x.1.now) }
     ensures shorter { IfOk result (λ x. length x.1.now < length tokens.now) }
-    ensures goes { (room : ℕ) → Goes (λ x. then (grammar.read grammar.expr room (kinds_in x.1.now)) (λ r. grammar.read (grammar.sign s.Semicolon) room r)) result (grammar.read grammar.assign_sign room (kinds_in tokens.now)) }
+    ensures goes { (room : ℕ) → Goes (λ x. then (grammar.read grammar.expr room (kinds_in x.1.now))
+        (λ r. grammar.read (grammar.sign s.Semicolon) room r)) result
+        (grammar.read grammar.assign_sign room (kinds_in tokens.now)) }
 {
     if let Some(rest) = past_sign(Symbol::Equal, tokens) {
         return Ok((AssignKind::Blocking, rest));
@@ -338,7 +349,8 @@ pub fn read_initial(alloc: Global, room: u32, tokens: &[Token]) -> Result<(Stmt,
     ensures formed { IfOk result (λ x. formed.IsWellFormed x.0) }
     ensures initial { IfOk result (λ x. formed.IsInitial x.0) }
     ensures shorter { IfOk result (λ x. length x.1.now < length tokens.now) }
-    ensures goes { Goes (λ x. Ok (kinds_in x.1.now)) result (grammar.read grammar.initial_stmt room (kinds_in tokens.now)) }
+    ensures goes { Goes (λ x. Ok (kinds_in x.1.now)) result
+        (grammar.read grammar.initial_stmt room (kinds_in tokens.now)) }
 {
     let pos = first_place(tokens)?;
     match past_word(Keyword::Begin, tokens) {
@@ -366,7 +378,8 @@ fn read_initials(alloc: Global, room: u32, tokens: &[Token]) -> Result<(List<Stm
     ensures formed { IfOk result (λ x. formed.AreWellFormed (tree.stmts x.0)) }
     ensures initial { IfOk result (λ x. formed.AreInitial (tree.stmts x.0)) }
     ensures shorter { IfOk result (λ x. length x.1.now < length tokens.now) }
-    ensures goes { Goes (λ x. Ok (kinds_in x.1.now)) result (grammar.read grammar.initial_stmts room (kinds_in tokens.now)) }
+    ensures goes { Goes (λ x. Ok (kinds_in x.1.now)) result
+        (grammar.read grammar.initial_stmts room (kinds_in tokens.now)) }
 {
     let mut all = List::new(alloc);
     let mut rest = tokens;

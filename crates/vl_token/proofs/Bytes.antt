@@ -24,13 +24,15 @@ not_at : (p : ℕ → Bool) (b n : ℕ) → p n ≡ false → p b ≡ true → (
 not_at p b n e f = ne_eqb b n (λ z. let g : true ≡ false = sym f ∙ (ap p z ∙ e) in let h : ⊥ = cc in h)
 
 pub digit_no_space : (b : ℕ) → is_digit b ≡ true → is_space b ≡ false
-digit_no_space b e = let one : (b == 32) ≡ false = not_at is_digit b 32 refl e in let two : (b == 9) ≡ false = not_at is_digit b 9 refl e in rw (one, two) refl
+digit_no_space b e = let one : (b == 32) ≡ false = not_at is_digit b 32 refl e
+    in let two : (b == 9) ≡ false = not_at is_digit b 9 refl e in rw (one, two) refl
 
 pub base_no_sign : (b : ℕ) → is_base b ≡ true → is_sign b ≡ false
 base_no_sign b e = not_at (λ n. n == 98 || n == 111 || n == 100 || n == 104) (small b) 115 refl e
 
 pub sign_no_base : (b : ℕ) → is_sign b ≡ true → is_base b ≡ false
-sign_no_base b e = let same : small b ≡ 115 = eqb-true (small b) 115 e in ap (λ n. n == 98 || n == 111 || n == 100 || n == 104) same
+sign_no_base b e =
+    let same : small b ≡ 115 = eqb-true (small b) 115 e in ap (λ n. n == 98 || n == 111 || n == 100 || n == 104) same
 
 pub space_no_decimal : (b : ℕ) → is_space b ≡ true → continues_decimal b ≡ false
 space_no_decimal b e = by (or_cases (b == 32) (b == 9) e)
@@ -89,6 +91,10 @@ at_mark b n e = eqb-true b n e
 
 pub sort_facts : (b : ℕ) → IsSort (sort_of b) b
 sort_facts b =
-    choose b sort.Word _ (begins_word b) (λ e. e) (choose b sort.Digit _ (is_decimal_digit b) (λ e. e) (choose b sort.Blank _ (is_blank b) (λ e. e)
-    (choose b sort.Slash _ (b == 47) (at_mark b 47) (choose b sort.Apostrophe _ (b == 39) (at_mark b 39) (choose b sort.Dollar _ (b == 36) (at_mark b 36)
-    (choose b sort.Backquote _ (b == 96) (at_mark b 96) (choose b sort.Quote _ (b == 34) (at_mark b 34) (choose b sort.Backslash sort.Other (b == 92) (at_mark b 92) tt))))))))
+    choose b sort.Word _ (begins_word b) (λ e. e)
+    (choose b sort.Digit _ (is_decimal_digit b) (λ e. e) (choose b sort.Blank _ (is_blank b) (λ e. e)
+    (choose b sort.Slash _ (b == 47) (at_mark b 47)
+    (choose b sort.Apostrophe _ (b == 39) (at_mark b 39) (choose b sort.Dollar _ (b == 36) (at_mark b 36)
+    (choose b sort.Backquote _ (b == 96) (at_mark b 96)
+    (choose b sort.Quote _ (b == 34) (at_mark b 34)
+    (choose b sort.Backslash sort.Other (b == 92) (at_mark b 92) tt))))))))

@@ -1,5 +1,6 @@
 -- The first `*/` of a text.
-use Rattle.std.proofs.Common.{◌≡◌, ℕ, ◌-◌, true, false, ◌&&◌, ◌==◌, List, [], ◌∷◌, ◌++◌, Option, Some, None, length, take, drop, refl, ap, sym, ◌∙◌, subst, arith, length-append, append_assoc, append-nil}
+use Rattle.std.proofs.Common.{◌≡◌, ℕ, ◌-◌, true, false, ◌&&◌, ◌==◌, List, [], ◌∷◌, ◌++◌, Option, Some, None, length}
+use Rattle.std.proofs.Common.{take, drop, refl, ap, sym, ◌∙◌, subst, arith, length-append, append_assoc, append-nil}
 use Rattle.std.proofs.Math.Seq.{take-append_seam}
 use Rattle.vl_token.specs.Bytes.{first_is}
 use Rattle.vl_token.specs.Cut.{close_of, more_inside}
@@ -21,27 +22,35 @@ further_none (Some x) = refl
 pub closes_start : (bytes : List ℕ) → ClosesOn bytes bytes
 closes_start bytes = record { before = []; same = refl; close = further_none (close_of bytes) }
 
-further_more : (before : List ℕ) (b : ℕ) (o : Option (List ℕ × List ℕ)) → further (before ++ (b ∷ [])) o ≡ further before (more_inside b o)
+further_more : (before : List ℕ) (b : ℕ) (o : Option (List ℕ × List ℕ))
+    → further (before ++ (b ∷ [])) o ≡ further before (more_inside b o)
 further_more before b None = refl
-further_more before b (Some x) = let e : (before ++ (b ∷ [])) ++ x.0 ≡ before ++ (b ∷ x.0) = append_assoc before (b ∷ []) x.0 in rw e refl
+further_more before b (Some x) =
+    let e : (before ++ (b ∷ [])) ++ x.0 ≡ before ++ (b ∷ x.0) = append_assoc before (b ∷ []) x.0 in rw e refl
 
-pub closes_on : (bytes rest bs : List ℕ) (b : ℕ) → rest ≡ b ∷ bs → (b == 42 && first_is (λ c. c == 47) bs) ≡ false → ClosesOn bytes rest → ClosesOn bytes bs
+pub closes_on : (bytes rest bs : List ℕ) (b : ℕ) → rest ≡ b ∷ bs → (b == 42 && first_is (λ c. c == 47) bs) ≡ false
+    → ClosesOn bytes rest → ClosesOn bytes bs
 closes_on bytes rest bs b e test on =
     let here : close_of rest ≡ more_inside b (close_of bs) = rw (e, test) refl in
-    let moved : (on.before ++ (b ∷ [])) ++ bs ≡ on.before ++ rest = append_assoc on.before (b ∷ []) bs ∙ ap (λ zs. on.before ++ zs) (sym e) in
+    let moved : (on.before ++ (b ∷ [])) ++ bs ≡ on.before ++ rest = append_assoc on.before (b ∷ []) bs
+    ∙ ap (λ zs. on.before ++ zs) (sym e) in
     record {
       before = on.before ++ (b ∷ []);
       same = moved ∙ on.same;
       close = further_more on.before b (close_of bs) ∙ (ap (λ o. further on.before o) (sym here) ∙ on.close);
     }
 
-pub closes_here : (bytes rest bs : List ℕ) (b : ℕ) → rest ≡ b ∷ bs → (b == 42 && first_is (λ c. c == 47) bs) ≡ true → ClosesOn bytes rest
+pub closes_here : (bytes rest bs : List ℕ) (b : ℕ) → rest ≡ b ∷ bs → (b == 42 && first_is (λ c. c == 47) bs) ≡ true
+    → ClosesOn bytes rest
     → close_of bytes ≡ Some (take (length bytes - length rest) bytes, drop 1 bs)
 closes_here bytes rest bs b e test on =
     let here : close_of rest ≡ Some ([], drop 1 bs) = rw (e, test) refl in
-    let long : length bytes - length rest ≡ length on.before = rw (← on.same) (omega (arith, length-append on.before rest)) in
-    let front : take (length on.before) bytes ≡ on.before = subst (λ zs. take (length on.before) zs ≡ on.before) on.same (take-append_seam on.before rest) in
-    let there : close_of bytes ≡ Some (on.before ++ [], drop 1 bs) = sym on.close ∙ ap (λ o. further on.before o) here in
+    let long : length bytes - length rest ≡ length on.before = rw (← on.same)
+    (omega (arith, length-append on.before rest)) in
+    let front : take (length on.before) bytes
+    ≡ on.before = subst (λ zs. take (length on.before) zs ≡ on.before) on.same (take-append_seam on.before rest) in
+    let there : close_of bytes ≡ Some (on.before ++ [], drop 1 bs) = sym on.close
+    ∙ ap (λ o. further on.before o) here in
     let none : on.before ++ [] ≡ take (length bytes - length rest) bytes = simp (long, front) (append-nil on.before) in
     there ∙ ap (λ (zs : List ℕ). Some (zs, drop 1 bs)) none
 

@@ -1,11 +1,13 @@
 -- Which fault comes first.
-use Rattle.std.proofs.Common.{◌≡◌, ℕ, ◌≤◌, ◌<◌, true, false, List, [], ◌∷◌, ◌++◌, length, refl, ap, sym, ◌∙◌, subst, arith, inl, inr, ◌⊎◌, append_assoc, append-nil, length-append, lit≤}
+use Rattle.std.proofs.Common.{◌≡◌, ℕ, ◌≤◌, ◌<◌, true, false, List, [], ◌∷◌, ◌++◌, length, refl, ap, sym, ◌∙◌, subst}
+use Rattle.std.proofs.Common.{arith, inl, inr, ◌⊎◌, append_assoc, append-nil, length-append, lit≤}
 use Rattle.fv_base.specs.declared.kind.Kind.{Kind}
 use Rattle.fv_base.specs.declared.kind.Kind.TheVariants as k
 use Rattle.fv_base.specs.declared.pos.Pos.{Pos}
 use Rattle.fv_base.specs.declared.token.Token.{Token}
 use Rattle.vl_token.specs.declared.fault.LexFault.{LexFault}
-use Rattle.vl_token.specs.declared.fault.LexFault.TheVariants.{NotAscii, BadNumber, OpenComment, BadChar, TooManyTokens, OpenString, Memory}
+use Rattle.vl_token.specs.declared.fault.LexFault.TheVariants.{NotAscii, BadNumber, OpenComment, BadChar}
+use Rattle.vl_token.specs.declared.fault.LexFault.TheVariants.{TooManyTokens, OpenString, Memory}
 use Rattle.vl_token.specs.Numeral.{Numeral, plain, based}
 use Rattle.vl_token.specs.Number.{is_bad}
 use Rattle.vl_token.specs.Piece.{Piece, number, text_of, joined, AllStand}
@@ -26,17 +28,26 @@ pub record Later (ps : List Piece) (r : List ℕ) (qs : List Piece) (s : List �
   pub stand : AllStand more s
 
 later_more : (p q : Piece) (ps qs : List Piece) (r s : List ℕ) → p ≡ q → Later ps r qs s → Later (p ∷ ps) r (q ∷ qs) s
-later_more p q ps qs r s e l = record { more = l.more; same = ap (λ z. z ∷ qs) (sym e) ∙ ap (λ z. p ∷ z) l.same; rest_is = l.rest_is; stand = l.stand }
+later_more p q ps qs r s e l = record {
+  more = l.more;
+  same = ap (λ z. z ∷ qs) (sym e) ∙ ap (λ z. p ∷ z) l.same;
+  rest_is = l.rest_is;
+  stand = l.stand;
+}
 
-either_more : (p q : Piece) (ps qs : List Piece) (r s : List ℕ) → p ≡ q → Later ps r qs s ⊎ Later qs s ps r → Later (p ∷ ps) r (q ∷ qs) s ⊎ Later (q ∷ qs) s (p ∷ ps) r
+either_more : (p q : Piece) (ps qs : List Piece) (r s : List ℕ) → p ≡ q → Later ps r qs s ⊎ Later qs s ps r
+    → Later (p ∷ ps) r (q ∷ qs) s ⊎ Later (q ∷ qs) s (p ∷ ps) r
 either_more p q ps qs r s e (inl l) = inl (later_more p q ps qs r s e l)
 either_more p q ps qs r s e (inr l) = inr (later_more q p qs ps s r (sym e) l)
 
-pub compared : (ps qs : List Piece) (r s : List ℕ) → AllStand ps r → AllStand qs s → joined ps ++ r ≡ joined qs ++ s → Later ps r qs s ⊎ Later qs s ps r
+pub compared : (ps qs : List Piece) (r s : List ℕ) → AllStand ps r → AllStand qs s → joined ps ++ r ≡ joined qs ++ s
+    → Later ps r qs s ⊎ Later qs s ps r
 compared [] qs r s a b e = inl (record { more = qs; same = refl; rest_is = e; stand = b })
 compared (p ∷ ps) [] r s a b e = inr (record { more = p ∷ ps; same = refl; rest_is = sym e; stand = a })
 compared (p ∷ ps) (q ∷ qs) r s a b e =
-    let f : text_of p ++ (joined ps ++ r) ≡ text_of q ++ (joined qs ++ s) = sym (append_assoc (text_of p) (joined ps) r) ∙ (e ∙ append_assoc (text_of q) (joined qs) s) in
+    let f : text_of p ++ (joined ps ++ r) ≡ text_of q
+    ++ (joined qs ++ s) = sym (append_assoc (text_of p) (joined ps) r)
+    ∙ (e ∙ append_assoc (text_of q) (joined qs) s) in
     let one = one_piece p q (joined ps ++ r) (joined qs ++ s) a.0 b.0 f in
     either_more p q ps qs r s one.0 (compared ps qs r s a.1 b.1 one.1)
 
@@ -63,7 +74,8 @@ whole_same : (ps qs : List Piece) → AllStand ps [] → AllStand qs [] → join
 whole_same ps qs a b e = either_whole ps qs (compared ps qs [] [] a b (ap (λ z. z ++ []) e))
 
 -- a text has one list of tokens
-pub tokens_one : (file line : ℕ) (bytes : List ℕ) (us ts : List Token) → AreTokens file line bytes us → AreTokens file line bytes ts → us ≡ ts
+pub tokens_one : (file line : ℕ) (bytes : List ℕ) (us ts : List Token) → AreTokens file line bytes us
+    → AreTokens file line bytes ts → us ≡ ts
 tokens_one file line bytes us ts a b =
     let e : a.pieces ≡ b.pieces = whole_same b.pieces a.pieces b.stand a.stand (sym b.same ∙ a.same) in
     one_list b.pieces (start_of file line) us ts (subst (λ z. AreOf z (start_of file line) us) e a.tokens) b.tokens
@@ -73,7 +85,8 @@ abbrev pub Shows : LexFault → List ℕ → Type 0
 Shows (BadNumber at) b = (m : Numeral) × (after : List ℕ) × (first_cut b ≡ piece (number m) after) × (is_bad m ≡ true)
 Shows (OpenComment at) b = first_cut b ≡ open_comment
 Shows (BadChar at) b = first_cut b ≡ bad_char
-Shows (TooManyTokens at) b = (p : Piece) × (after : List ℕ) × (kind : Kind) × (first_cut b ≡ piece p after) × IsKind p kind
+Shows (TooManyTokens at) b =
+    (p : Piece) × (after : List ℕ) × (kind : Kind) × (first_cut b ≡ piece p after) × IsKind p kind
 Shows (OpenString at) b = first_cut b ≡ open_string
 Shows f b = ⊥
 
@@ -93,7 +106,8 @@ bad_shows at b h = (h.number, h.after, ap first_cut h.same ∙ again (number h.n
 pub token_shows : (at : Pos) (b : List ℕ) → HasToken b → Shows (TooManyTokens at) b
 token_shows at b h = (h.piece, h.after, h.kind, ap first_cut h.same ∙ again h.piece h.after h.stands, h.is)
 
-pub stops_show : (f : LexFault) (b : List ℕ) (count : ℕ) (pos : Pos) → is_of_text f ≡ true → StopsAt f b count pos → Shows f b
+pub stops_show : (f : LexFault) (b : List ℕ) (count : ℕ) (pos : Pos) → is_of_text f ≡ true → StopsAt f b count pos
+    → Shows f b
 stops_show (NotAscii at) b count pos e s = s
 stops_show (BadNumber at) b count pos e s = bad_shows at b s.0
 stops_show (OpenComment at) b count pos e s = open_comment_again b s.0
@@ -124,25 +138,36 @@ shows_order (BadNumber x) (OpenComment y) b h s = lit≤ tt
 shows_order (BadNumber x) (BadChar y) b h s = lit≤ tt
 shows_order (BadNumber x) (TooManyTokens y) b h s = lit≤ tt
 shows_order (BadNumber x) (OpenString y) b h s = lit≤ tt
-shows_order (OpenComment x) (BadNumber y) b h s = absurd (let e : open_comment ≡ piece (number s.0) s.1 = sym (h) ∙ s.2 in let d : ⊥ = cc in d)
+shows_order (OpenComment x) (BadNumber y) b h s =
+    absurd (let e : open_comment ≡ piece (number s.0) s.1 = sym (h) ∙ s.2 in let d : ⊥ = cc in d)
 shows_order (OpenComment x) (OpenComment y) b h s = lit≤ tt
 shows_order (OpenComment x) (BadChar y) b h s = lit≤ tt
 shows_order (OpenComment x) (TooManyTokens y) b h s = lit≤ tt
 shows_order (OpenComment x) (OpenString y) b h s = lit≤ tt
-shows_order (BadChar x) (BadNumber y) b h s = absurd (let e : bad_char ≡ piece (number s.0) s.1 = sym (h) ∙ s.2 in let d : ⊥ = cc in d)
-shows_order (BadChar x) (OpenComment y) b h s = absurd (let e : bad_char ≡ open_comment = sym (h) ∙ s in let d : ⊥ = cc in d)
+shows_order (BadChar x) (BadNumber y) b h s =
+    absurd (let e : bad_char ≡ piece (number s.0) s.1 = sym (h) ∙ s.2 in let d : ⊥ = cc in d)
+shows_order (BadChar x) (OpenComment y) b h s =
+    absurd (let e : bad_char ≡ open_comment = sym (h) ∙ s in let d : ⊥ = cc in d)
 shows_order (BadChar x) (BadChar y) b h s = lit≤ tt
 shows_order (BadChar x) (TooManyTokens y) b h s = lit≤ tt
 shows_order (BadChar x) (OpenString y) b h s = lit≤ tt
-shows_order (TooManyTokens x) (BadNumber y) b h s = absurd (let e : piece h.0 h.1 ≡ piece (number s.0) s.1 = sym h.3 ∙ s.2 in let d : h.0 ≡ number s.0 = cc in piece_bad h.0 s.0 h.2 d s.3 h.4)
-shows_order (TooManyTokens x) (OpenComment y) b h s = absurd (let e : piece h.0 h.1 ≡ open_comment = sym (h.3) ∙ s in let d : ⊥ = cc in d)
-shows_order (TooManyTokens x) (BadChar y) b h s = absurd (let e : piece h.0 h.1 ≡ bad_char = sym (h.3) ∙ s in let d : ⊥ = cc in d)
+shows_order (TooManyTokens x) (BadNumber y) b h s = absurd
+    (let e : piece h.0 h.1 ≡ piece (number s.0) s.1 = sym h.3 ∙ s.2 in let d : h.0 ≡ number s.0 = cc
+    in piece_bad h.0 s.0 h.2 d s.3 h.4)
+shows_order (TooManyTokens x) (OpenComment y) b h s =
+    absurd (let e : piece h.0 h.1 ≡ open_comment = sym (h.3) ∙ s in let d : ⊥ = cc in d)
+shows_order (TooManyTokens x) (BadChar y) b h s =
+    absurd (let e : piece h.0 h.1 ≡ bad_char = sym (h.3) ∙ s in let d : ⊥ = cc in d)
 shows_order (TooManyTokens x) (TooManyTokens y) b h s = lit≤ tt
 shows_order (TooManyTokens x) (OpenString y) b h s = lit≤ tt
-shows_order (OpenString x) (BadNumber y) b h s = absurd (let e : open_string ≡ piece (number s.0) s.1 = sym (h) ∙ s.2 in let d : ⊥ = cc in d)
-shows_order (OpenString x) (OpenComment y) b h s = absurd (let e : open_string ≡ open_comment = sym (h) ∙ s in let d : ⊥ = cc in d)
-shows_order (OpenString x) (BadChar y) b h s = absurd (let e : open_string ≡ bad_char = sym (h) ∙ s in let d : ⊥ = cc in d)
-shows_order (OpenString x) (TooManyTokens y) b h s = absurd (let e : open_string ≡ piece s.0 s.1 = sym (h) ∙ s.3 in let d : ⊥ = cc in d)
+shows_order (OpenString x) (BadNumber y) b h s =
+    absurd (let e : open_string ≡ piece (number s.0) s.1 = sym (h) ∙ s.2 in let d : ⊥ = cc in d)
+shows_order (OpenString x) (OpenComment y) b h s =
+    absurd (let e : open_string ≡ open_comment = sym (h) ∙ s in let d : ⊥ = cc in d)
+shows_order (OpenString x) (BadChar y) b h s =
+    absurd (let e : open_string ≡ bad_char = sym (h) ∙ s in let d : ⊥ = cc in d)
+shows_order (OpenString x) (TooManyTokens y) b h s =
+    absurd (let e : open_string ≡ piece s.0 s.1 = sym (h) ∙ s.3 in let d : ⊥ = cc in d)
 shows_order (OpenString x) (OpenString y) b h s = lit≤ tt
 shows_order (NotAscii x) g b h s = absurd h
 shows_order Memory g b h s = absurd h

@@ -1,5 +1,6 @@
 -- A text read piece by piece.
-use Rattle.std.proofs.Common.{◌≡◌, ℕ, ◌-◌, ◌≤◌, ◌<◌, Bool, true, false, List, [], ◌∷◌, ◌++◌, None, length, take, refl, ap, sym, ◌∙◌, subst, arith, append_assoc, append-nil, length-append, lit<}
+use Rattle.std.proofs.Common.{◌≡◌, ℕ, ◌-◌, ◌≤◌, ◌<◌, Bool, true, false, List, [], ◌∷◌, ◌++◌, None, length, take, refl}
+use Rattle.std.proofs.Common.{ap, sym, ◌∙◌, subst, arith, append_assoc, append-nil, length-append, lit<}
 use Rattle.std.proofs.Math.Seq.{take-append_seam}
 use Rattle.fv_base.specs.Keyword.{keyword_of}
 use Rattle.fv_base.specs.Name.{is_word, is_name}
@@ -12,9 +13,11 @@ use Rattle.fv_base.specs.declared.symbol.Symbol.{Symbol}
 use Rattle.fv_base.specs.declared.symbol.Symbol.TheVariants as s
 use Rattle.fv_base.specs.declared.token.Token.{Token}
 use Rattle.vl_token.specs.declared.fault.LexFault.{LexFault}
-use Rattle.vl_token.specs.declared.fault.LexFault.TheVariants.{NotAscii, BadNumber, OpenComment, BadChar, TooManyTokens, OpenString, Memory}
+use Rattle.vl_token.specs.declared.fault.LexFault.TheVariants.{NotAscii, BadNumber, OpenComment, BadChar}
+use Rattle.vl_token.specs.declared.fault.LexFault.TheVariants.{TooManyTokens, OpenString, Memory}
 use Rattle.vl_token.specs.Numeral.{plain, based, is_decimal}
-use Rattle.vl_token.specs.Piece.{Piece, blank, line_comment, block_comment, word, number, sign, system, tick, quoted, continue, text_of, joined, Stands, AllStand}
+use Rattle.vl_token.specs.Piece.{Piece, blank, line_comment, block_comment, word, number, sign, system, tick, quoted}
+use Rattle.vl_token.specs.Piece.{continue, text_of, joined, Stands, AllStand}
 use Rattle.vl_token.specs.Place.{place_after, place_behind}
 use Rattle.vl_token.specs.Tokens.{is_token, IsKind, IsFirstToken, Takes, AreOf}
 use Rattle.vl_token.specs.Meanings.{IsBadNumber}
@@ -49,7 +52,8 @@ cut_bad (b ∷ bs) e = record {
   byte = b;
   after = bs;
   same = refl;
-  no_piece = λ p rest same stands. let g : bad_char ≡ piece p rest = e ∙ (ap first_cut same ∙ again p rest stands) in let f : ⊥ = cc in f;
+  no_piece = λ p rest same stands. let g : bad_char ≡ piece p rest = e ∙ (ap first_cut same ∙ again p rest stands)
+      in let f : ⊥ = cc in f;
   no_comment = λ h. let g : bad_char ≡ open_comment = e ∙ open_comment_again (b ∷ bs) h in let f : ⊥ = cc in f;
   no_string = λ h. let g : bad_char ≡ open_string = e ∙ open_string_again (b ∷ bs) h in let f : ⊥ = cc in f;
 }
@@ -118,7 +122,8 @@ bad_number (quoted x) bytes rest h b = absurd b
 bad_number continue bytes rest h b = absurd b
 
 -- what a piece takes of the text
-pub front_text : (bytes : List ℕ) (p : Piece) (rest : List ℕ) → IsFront bytes p rest → take (length bytes - length rest) bytes ≡ text_of p
+pub front_text : (bytes : List ℕ) (p : Piece) (rest : List ℕ) → IsFront bytes p rest
+    → take (length bytes - length rest) bytes ≡ text_of p
 front_text bytes p rest h =
     let long : length bytes - length rest ≡ length (text_of p) = ap (λ z. length z - length rest) h.same ∙ less in
     ap (λ n. take n bytes) long ∙ (ap (λ z. take (length (text_of p)) z) h.same ∙ take-append_seam (text_of p) rest)
@@ -130,10 +135,12 @@ pub front_fits : (bytes : List ℕ) (p : Piece) (rest : List ℕ) → IsFront by
 front_fits bytes p rest h = rw (h.same) (omega (arith, length-append (text_of p) rest))
 
 -- the place behind a piece
-pub place_front : (bytes : List ℕ) (p : Piece) (rest : List ℕ) (pos next : Pos) → IsFront bytes p rest → next ≡ place_after pos (take (length bytes - length rest) bytes) → next ≡ place_after pos (text_of p)
+pub place_front : (bytes : List ℕ) (p : Piece) (rest : List ℕ) (pos next : Pos) → IsFront bytes p rest
+    → next ≡ place_after pos (take (length bytes - length rest) bytes) → next ≡ place_after pos (text_of p)
 place_front bytes p rest pos next h e = e ∙ ap (λ z. place_after pos z) (front_text bytes p rest h)
 
-pub gap_on : (rest : List ℕ) (p : Piece) (after : List ℕ) (pos next : Pos) (old new : List Token) → IsFront rest p after → is_token p ≡ false
+pub gap_on : (rest : List ℕ) (p : Piece) (after : List ℕ) (pos next : Pos) (old new : List Token)
+    → IsFront rest p after → is_token p ≡ false
     → next ≡ place_after pos (take (length rest - length after) rest) → new ≡ old → Advances rest after pos next old new
 gap_on rest p after pos next old new h gap e same = record {
   piece = p;
@@ -142,11 +149,14 @@ gap_on rest p after pos next old new h gap e same = record {
   adds = subst (λ z. Adds z p pos old new) (sym gap) same;
 }
 
-token_first : (p : Piece) (kind : Kind) (pos : Pos) (old new : List Token) (a : Added kind pos old new) → IsKind p kind → IsFirstToken p pos a.token
+token_first : (p : Piece) (kind : Kind) (pos : Pos) (old new : List Token) (a : Added kind pos old new)
+    → IsKind p kind → IsFirstToken p pos a.token
 token_first p kind pos old new a i = record { kind = subst (λ z. IsKind p z) (sym a.kind_is) i; pos = a.pos_is }
 
-pub token_on : (rest : List ℕ) (p : Piece) (after : List ℕ) (pos next : Pos) (kind : Kind) (old new : List Token) → IsFront rest p after → is_token p ≡ true → IsKind p kind
-    → next ≡ place_after pos (take (length rest - length after) rest) → Added kind pos old new → Advances rest after pos next old new
+pub token_on : (rest : List ℕ) (p : Piece) (after : List ℕ) (pos next : Pos) (kind : Kind) (old new : List Token)
+    → IsFront rest p after → is_token p ≡ true → IsKind p kind
+    → next ≡ place_after pos (take (length rest - length after) rest) → Added kind pos old new
+    → Advances rest after pos next old new
 token_on rest p after pos next kind old new h token i e a = record {
   piece = p;
   front = h;
@@ -154,7 +164,8 @@ token_on rest p after pos next kind old new h token i e a = record {
   adds = subst (λ z. Adds z p pos old new) (sym token) (a.token, a.more, token_first p kind pos old new a i, a.room);
 }
 
-pub added : (t : Token) (old new : List Token) → new ≡ old ++ (t ∷ []) → length old < 2000000 → Added t.kind t.pos old new
+pub added : (t : Token) (old new : List Token) → new ≡ old ++ (t ∷ []) → length old < 2000000
+    → Added t.kind t.pos old new
 added t old new e room = record { token = t; kind_is = refl; pos_is = refl; more = e; room = room }
 
 -- a piece is not empty
@@ -235,7 +246,8 @@ text_some (tick w) rest h = tail_some 96 w
 text_some (quoted body) rest h = tail_some 34 (body ++ (34 ∷ []))
 text_some continue rest h = tail_some 92 []
 
-pub advance_falls : (rest after : List ℕ) (pos next : Pos) (old new : List Token) → Advances rest after pos next old new → length after < length rest
+pub advance_falls : (rest after : List ℕ) (pos next : Pos) (old new : List Token)
+    → Advances rest after pos next old new → length after < length rest
 advance_falls rest after pos next old new a =
     let some = text_some a.piece after a.front.stands in
     rw (a.front.same) (omega (arith, length-append (text_of a.piece) after))
@@ -243,15 +255,18 @@ advance_falls rest after pos next old new a =
 -- pieces and one more
 joined-append : (ps qs : List Piece) → joined (ps ++ qs) ≡ joined ps ++ joined qs
 joined-append [] qs = refl
-joined-append (p ∷ ps) qs = ap (λ z. text_of p ++ z) (joined-append ps qs) ∙ sym (append_assoc (text_of p) (joined ps) (joined qs))
+joined-append (p ∷ ps) qs =
+    ap (λ z. text_of p ++ z) (joined-append ps qs) ∙ sym (append_assoc (text_of p) (joined ps) (joined qs))
 
 joined_one : (ps : List Piece) (p : Piece) → joined (ps ++ (p ∷ [])) ≡ joined ps ++ text_of p
 joined_one ps p = joined-append ps (p ∷ []) ∙ ap (λ z. joined ps ++ z) (append-nil (text_of p))
 
-stand_more : (ps : List Piece) (p : Piece) (rest : List ℕ) → AllStand ps (text_of p ++ rest) → Stands p rest → AllStand (ps ++ (p ∷ [])) rest
+stand_more : (ps : List Piece) (p : Piece) (rest : List ℕ) → AllStand ps (text_of p ++ rest) → Stands p rest
+    → AllStand (ps ++ (p ∷ [])) rest
 stand_more [] p rest a h = (h, tt)
 stand_more (q ∷ ps) p rest a h =
-    let e : joined ps ++ (text_of p ++ rest) ≡ joined (ps ++ (p ∷ [])) ++ rest = sym (append_assoc (joined ps) (text_of p) rest) ∙ ap (λ z. z ++ rest) (sym (joined_one ps p)) in
+    let e : joined ps ++ (text_of p ++ rest) ≡ joined (ps ++ (p ∷ []))
+    ++ rest = sym (append_assoc (joined ps) (text_of p) rest) ∙ ap (λ z. z ++ rest) (sym (joined_one ps p)) in
     (subst (λ z. Stands q z) e a.0, stand_more ps p rest a.1 h)
 
 place-append : (at : Pos) (xs ys : List ℕ) → place_after at (xs ++ ys) ≡ place_after (place_after at xs) ys
@@ -259,38 +274,49 @@ place-append at [] ys = refl
 place-append at (x ∷ xs) ys = place-append (place_behind at x) xs ys
 
 -- tokens and one more, or none
-takes_more : (c : Bool) (q : Piece) (at : Pos) (P R : List Token → Type 0) (old new : List Token) (t : Token) → new ≡ old ++ (t ∷ []) → ((us vs : List Token) → vs ≡ us ++ (t ∷ []) → P us → R vs)
+takes_more : (c : Bool) (q : Piece) (at : Pos) (P R : List Token → Type 0) (old new : List Token) (t : Token)
+    → new ≡ old ++ (t ∷ []) → ((us vs : List Token) → vs ≡ us ++ (t ∷ []) → P us → R vs)
     → Takes c q at P old → Takes c q at R new
 takes_more false q at P R old new t e f h = f old new e h
 takes_more true q at P R [] new t e f h = absurd h
-takes_more true q at P R (o ∷ old) new t e f h = subst (λ z. Takes true q at R z) (sym e) (h.0, f old (old ++ (t ∷ [])) refl h.1)
+takes_more true q at P R (o ∷ old) new t e f h =
+    subst (λ z. Takes true q at R z) (sym e) (h.0, f old (old ++ (t ∷ [])) refl h.1)
 
-of_more : (ps : List Piece) (p : Piece) (at pos : Pos) (old new : List Token) (t : Token) → pos ≡ place_after at (joined ps) → is_token p ≡ true → IsFirstToken p pos t → new ≡ old ++ (t ∷ [])
+of_more : (ps : List Piece) (p : Piece) (at pos : Pos) (old new : List Token) (t : Token)
+    → pos ≡ place_after at (joined ps) → is_token p ≡ true → IsFirstToken p pos t → new ≡ old ++ (t ∷ [])
     → AreOf ps at old → AreOf (ps ++ (p ∷ [])) at new
 of_more [] p at pos old new t ep token first e h =
     let one : new ≡ t ∷ [] = e ∙ ap (λ z. z ++ (t ∷ [])) h in
     let here : IsFirstToken p at t = subst (λ z. IsFirstToken p z t) ep first in
-    subst (λ z. Takes (is_token p) p at (AreOf [] (place_after at (text_of p))) z) (sym one) (subst (λ c. Takes c p at (AreOf [] (place_after at (text_of p))) (t ∷ [])) (sym token) (here, refl))
+    subst (λ z. Takes (is_token p) p at (AreOf [] (place_after at (text_of p))) z) (sym one)
+    (subst (λ c. Takes c p at (AreOf [] (place_after at (text_of p))) (t ∷ [])) (sym token) (here, refl))
 of_more (q ∷ ps) p at pos old new t ep token first e h =
-    takes_more (is_token q) q at (AreOf ps (place_after at (text_of q))) (AreOf (ps ++ (p ∷ [])) (place_after at (text_of q))) old new t e
-    (λ us vs f a. of_more ps p (place_after at (text_of q)) pos us vs t (ep ∙ place-append at (text_of q) (joined ps)) token first f a) h
+    takes_more (is_token q) q at (AreOf ps (place_after at (text_of q)))
+    (AreOf (ps ++ (p ∷ [])) (place_after at (text_of q))) old new t e
+    (λ us vs f a. of_more ps p (place_after at (text_of q)) pos us vs t
+    (ep ∙ place-append at (text_of q) (joined ps)) token first f a) h
 
-takes_same : (c : Bool) (q : Piece) (at : Pos) (P R : List Token → Type 0) (ts : List Token) → ((us : List Token) → P us → R us) → Takes c q at P ts → Takes c q at R ts
+takes_same : (c : Bool) (q : Piece) (at : Pos) (P R : List Token → Type 0) (ts : List Token)
+    → ((us : List Token) → P us → R us) → Takes c q at P ts → Takes c q at R ts
 takes_same false q at P R ts f h = f ts h
 takes_same true q at P R [] f h = absurd h
 takes_same true q at P R (t ∷ ts) f h = (h.0, f ts h.1)
 
-of_gap : (ps : List Piece) (p : Piece) (at : Pos) (ts : List Token) → is_token p ≡ false → AreOf ps at ts → AreOf (ps ++ (p ∷ [])) at ts
+of_gap : (ps : List Piece) (p : Piece) (at : Pos) (ts : List Token) → is_token p ≡ false → AreOf ps at ts
+    → AreOf (ps ++ (p ∷ [])) at ts
 of_gap [] p at ts gap h = subst (λ c. Takes c p at (AreOf [] (place_after at (text_of p))) ts) (sym gap) h
 of_gap (q ∷ ps) p at ts gap h =
-    takes_same (is_token q) q at (AreOf ps (place_after at (text_of q))) (AreOf (ps ++ (p ∷ [])) (place_after at (text_of q))) ts
+    takes_same (is_token q) q at (AreOf ps (place_after at (text_of q)))
+    (AreOf (ps ++ (p ∷ [])) (place_after at (text_of q))) ts
     (λ us a. of_gap ps p (place_after at (text_of q)) us gap a) h
 
-adds_of : (c : Bool) (ps : List Piece) (p : Piece) (at pos : Pos) (old new : List Token) → is_token p ≡ c → pos ≡ place_after at (joined ps) → Adds c p pos old new → AreOf ps at old → AreOf (ps ++ (p ∷ [])) at new
+adds_of : (c : Bool) (ps : List Piece) (p : Piece) (at pos : Pos) (old new : List Token) → is_token p ≡ c
+    → pos ≡ place_after at (joined ps) → Adds c p pos old new → AreOf ps at old → AreOf (ps ++ (p ∷ [])) at new
 adds_of true ps p at pos old new e ep a h = of_more ps p at pos old new a.0 ep e a.2 a.1 h
 adds_of false ps p at pos old new e ep a h = subst (λ z. AreOf (ps ++ (p ∷ [])) at z) (sym a) (of_gap ps p at old e h)
 
-adds_few : (c : Bool) (p : Piece) (pos : Pos) (old new : List Token) → Adds c p pos old new → length old ≤ 2000000 → length new ≤ 2000000
+adds_few : (c : Bool) (p : Piece) (pos : Pos) (old new : List Token) → Adds c p pos old new → length old ≤ 2000000
+    → length new ≤ 2000000
 adds_few true p pos old new a h = let room = a.3 in rw (a.1) (omega (arith, length-append old (a.0 ∷ []), one_long a.0))
   where
     one_long : (t : Token) → length (t ∷ []) ≡ 1
@@ -300,14 +326,19 @@ adds_few false p pos old new a h = rw a h
 pub read_start : (bytes : List ℕ) (start : Pos) → HasRead bytes start bytes start []
 read_start bytes start = record { pieces = []; same = refl; stand = tt; place = refl; tokens = refl; few = omega arith }
 
-pub read_on : (bytes : List ℕ) (start : Pos) (rest : List ℕ) (pos : Pos) (old : List Token) (after : List ℕ) (next : Pos) (new : List Token)
+pub read_on : (bytes : List ℕ) (start : Pos) (rest : List ℕ) (pos : Pos) (old : List Token) (after : List ℕ)
+    (next : Pos) (new : List Token)
     → HasRead bytes start rest pos old → Advances rest after pos next old new → HasRead bytes start after next new
 read_on bytes start rest pos old after next new r a =
     let p = a.piece in
     let e : joined r.pieces ++ rest ≡ joined (r.pieces ++ (p ∷ [])) ++ after =
-    ap (λ z. joined r.pieces ++ z) a.front.same ∙ (sym (append_assoc (joined r.pieces) (text_of p) after) ∙ ap (λ z. z ++ after) (sym (joined_one r.pieces p))) in
+    ap (λ z. joined r.pieces ++ z) a.front.same
+    ∙ (sym (append_assoc (joined r.pieces) (text_of p) after)
+    ∙ ap (λ z. z ++ after) (sym (joined_one r.pieces p))) in
     let there : place_after pos (text_of p) ≡ place_after start (joined (r.pieces ++ (p ∷ []))) =
-    ap (λ z. place_after z (text_of p)) r.place ∙ (sym (place-append start (joined r.pieces) (text_of p)) ∙ ap (λ z. place_after start z) (sym (joined_one r.pieces p))) in
+    ap (λ z. place_after z (text_of p)) r.place
+    ∙ (sym (place-append start (joined r.pieces) (text_of p))
+    ∙ ap (λ z. place_after start z) (sym (joined_one r.pieces p))) in
     record {
       pieces = r.pieces ++ (p ∷ []);
       same = r.same ∙ e;
@@ -317,20 +348,25 @@ read_on bytes start rest pos old after next new r a =
       few = adds_few (is_token p) p pos old new a.adds r.few;
     }
 
-pub read_far : (bytes : List ℕ) (start : Pos) (rest : List ℕ) (pos : Pos) (ts : List Token) (r : HasRead bytes start rest pos ts) → length (joined r.pieces) ≡ length bytes - length rest
+pub read_far : (bytes : List ℕ) (start : Pos) (rest : List ℕ) (pos : Pos) (ts : List Token)
+    (r : HasRead bytes start rest pos ts) → length (joined r.pieces) ≡ length bytes - length rest
 read_far bytes start rest pos ts r = less ∙ ap (λ z. length z - length rest) (sym r.same)
   where
     less : length (joined r.pieces) ≡ length (joined r.pieces ++ rest) - length rest
     less = omega (arith, length-append (joined r.pieces) rest)
 
-pub read_fits : (bytes : List ℕ) (start : Pos) (rest : List ℕ) (pos : Pos) (ts : List Token) → HasRead bytes start rest pos ts → length rest ≤ length bytes
+pub read_fits : (bytes : List ℕ) (start : Pos) (rest : List ℕ) (pos : Pos) (ts : List Token)
+    → HasRead bytes start rest pos ts → length rest ≤ length bytes
 read_fits bytes start rest pos ts r = rw (r.same) (omega (arith, length-append (joined r.pieces) rest))
 
-stopped_at : (fault : LexFault) (bytes : List ℕ) (start : Pos) (rest : List ℕ) (pos : Pos) (ts : List Token) → HasRead bytes start rest pos ts → StopsAt fault rest (length ts) pos
+stopped_at : (fault : LexFault) (bytes : List ℕ) (start : Pos) (rest : List ℕ) (pos : Pos) (ts : List Token)
+    → HasRead bytes start rest pos ts → StopsAt fault rest (length ts) pos
     → HasStopped fault (length bytes - length rest) bytes start
-stopped_at fault bytes start rest pos ts r s = record { rest = rest; pos = pos; ts = ts; read = r; far = read_far bytes start rest pos ts r; stops = s }
+stopped_at fault bytes start rest pos ts r s =
+    record { rest = rest; pos = pos; ts = ts; read = r; far = read_far bytes start rest pos ts r; stops = s }
 
-pub stop_on : (fault : LexFault) (bytes : List ℕ) (start : Pos) (rest : List ℕ) (pos : Pos) (ts : List Token) → HasRead bytes start rest pos ts → StopsAt fault rest (length ts) pos
+pub stop_on : (fault : LexFault) (bytes : List ℕ) (start : Pos) (rest : List ℕ) (pos : Pos) (ts : List Token)
+    → HasRead bytes start rest pos ts → StopsAt fault rest (length ts) pos
     → OnNotMemory fault (HasStopped fault (length bytes - length rest) bytes start)
 stop_on (NotAscii at) bytes start rest pos ts r s = absurd s
 stop_on (BadNumber at) bytes start rest pos ts r s = stopped_at (BadNumber at) bytes start rest pos ts r s

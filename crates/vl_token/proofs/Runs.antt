@@ -1,5 +1,6 @@
 -- Runs of bytes.
-use Rattle.std.proofs.Common.{◌≡◌, ℕ, ◌+◌, ◌≤◌, Bool, true, false, cond, List, [], ◌∷◌, ◌++◌, length, take, drop, suc, refl, ap, subst, arith, length-append}
+use Rattle.std.proofs.Common.{◌≡◌, ℕ, ◌+◌, ◌≤◌, Bool, true, false, cond, List, [], ◌∷◌, ◌++◌, length, take, drop, suc}
+use Rattle.std.proofs.Common.{refl, ap, subst, arith, length-append}
 use Rattle.std.specs.List.{prefix_len, list_all}
 use Rattle.std.proofs.Math.Seq.{take-append_seam, drop-append_seam}
 use Rattle.std.proofs.lemmas.List.Sums.{prefix_len-le-length}
@@ -8,11 +9,13 @@ use Rattle.vl_token.specs.Bytes.{run, behind, first_is}
 use Rattle.vl_token.specs.Numeral.{is_digit, goes_on}
 use Rattle.vl_token.specs.Cut.{digits_front, digits_rest}
 
-take_step : (b : Bool) (x : ℕ) (n : ℕ) (xs ys : List ℕ) → take n xs ≡ ys → take (cond b (1 + n) 0) (x ∷ xs) ≡ cond b (x ∷ ys) []
+take_step : (b : Bool) (x : ℕ) (n : ℕ) (xs ys : List ℕ) → take n xs ≡ ys
+    → take (cond b (1 + n) 0) (x ∷ xs) ≡ cond b (x ∷ ys) []
 take_step true x n xs ys h = let e : 1 + n ≡ suc n = omega arith in rw e (ap (λ zs. x ∷ zs) h)
 take_step false x n xs ys h = refl
 
-drop_step : (b : Bool) (x : ℕ) (n : ℕ) (xs ys : List ℕ) → drop n xs ≡ ys → drop (cond b (1 + n) 0) (x ∷ xs) ≡ cond b ys (x ∷ xs)
+drop_step : (b : Bool) (x : ℕ) (n : ℕ) (xs ys : List ℕ) → drop n xs ≡ ys
+    → drop (cond b (1 + n) 0) (x ∷ xs) ≡ cond b ys (x ∷ xs)
 drop_step true x n xs ys h = let e : 1 + n ≡ suc n = omega arith in rw e h
 drop_step false x n xs ys h = refl
 
@@ -38,7 +41,8 @@ pub run-behind : (p : ℕ → Bool) (xs : List ℕ) → run p xs ++ behind p xs 
 run-behind p [] = refl
 run-behind p (x ∷ xs) = join_step (p x) x xs (run p xs) (behind p xs) (run-behind p xs)
 
-all_step : (p : ℕ → Bool) (b : Bool) (x : ℕ) (ys : List ℕ) → p x ≡ b → list_all p ys ≡ true → list_all p (cond b (x ∷ ys) []) ≡ true
+all_step : (p : ℕ → Bool) (b : Bool) (x : ℕ) (ys : List ℕ) → p x ≡ b → list_all p ys ≡ true
+    → list_all p (cond b (x ∷ ys) []) ≡ true
 all_step p true x ys e h = and_from (p x) (list_all p ys) e h
 all_step p false x ys e h = refl
 
@@ -46,7 +50,8 @@ pub run_all : (p : ℕ → Bool) (xs : List ℕ) → list_all p (run p xs) ≡ t
 run_all p [] = refl
 run_all p (x ∷ xs) = all_step p (p x) x (run p xs) refl (run_all p xs)
 
-stop_step : (p : ℕ → Bool) (b : Bool) (x : ℕ) (xs ys : List ℕ) → p x ≡ b → first_is p ys ≡ false → first_is p (cond b ys (x ∷ xs)) ≡ false
+stop_step : (p : ℕ → Bool) (b : Bool) (x : ℕ) (xs ys : List ℕ) → p x ≡ b → first_is p ys ≡ false
+    → first_is p (cond b ys (x ∷ xs)) ≡ false
 stop_step p true x xs ys e h = h
 stop_step p false x xs ys e h = e
 
@@ -63,12 +68,14 @@ behind_none : (p : ℕ → Bool) (rest : List ℕ) → first_is p rest ≡ false
 behind_none p [] h = refl
 behind_none p (x ∷ xs) h = rw h refl
 
-pub run_is : (p : ℕ → Bool) (xs rest : List ℕ) → list_all p xs ≡ true → first_is p rest ≡ false → run p (xs ++ rest) ≡ xs
+pub run_is : (p : ℕ → Bool) (xs rest : List ℕ) → list_all p xs ≡ true → first_is p rest ≡ false
+    → run p (xs ++ rest) ≡ xs
 run_is p [] rest all stops = run_none p rest stops
 run_is p (x ∷ xs) rest all stops =
     let both = and_parts (p x) (list_all p xs) all in rw both.0 (ap (λ ys. x ∷ ys) (run_is p xs rest both.1 stops))
 
-pub behind_is : (p : ℕ → Bool) (xs rest : List ℕ) → list_all p xs ≡ true → first_is p rest ≡ false → behind p (xs ++ rest) ≡ rest
+pub behind_is : (p : ℕ → Bool) (xs rest : List ℕ) → list_all p xs ≡ true → first_is p rest ≡ false
+    → behind p (xs ++ rest) ≡ rest
 behind_is p [] rest all stops = behind_none p rest stops
 behind_is p (x ∷ xs) rest all stops =
     let both = and_parts (p x) (list_all p xs) all in rw both.0 (behind_is p xs rest both.1 stops)
@@ -89,7 +96,8 @@ digits_step false x xs ys zs h = refl
 
 pub digits_join : (base : ℕ) (xs : List ℕ) → digits_front base xs ++ digits_rest base xs ≡ xs
 digits_join base [] = refl
-digits_join base (x ∷ xs) = digits_step (is_digit x) x xs (run (goes_on base) xs) (behind (goes_on base) xs) (run-behind (goes_on base) xs)
+digits_join base (x ∷ xs) =
+    digits_step (is_digit x) x xs (run (goes_on base) xs) (behind (goes_on base) xs) (run-behind (goes_on base) xs)
 
 pub take_digits : (base : ℕ) (xs : List ℕ) → take (length (digits_front base xs)) xs ≡ digits_front base xs
 take_digits base xs = take_seam xs (digits_front base xs) (digits_rest base xs) (digits_join base xs)

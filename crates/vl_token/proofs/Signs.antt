@@ -1,5 +1,7 @@
 -- The longest sign at the front of a text.
-use Rattle.std.proofs.Common.{◌≡◌, ℕ, ◌≤◌, Bool, true, false, cond, ◌&&◌, ◌||◌, ◌==◌, leb, inl, inr, ◌⊎◌, List, [], ◌∷◌, ◌++◌, Option, Some, length, take, drop, refl, ap, sym, ◌∙◌, subst, arith, length-append, nat_eq}
+use Rattle.std.proofs.Common.{◌≡◌, ℕ, ◌≤◌, Bool, true, false, cond, ◌&&◌, ◌||◌, ◌==◌, leb, inl, inr, ◌⊎◌, List, []}
+use Rattle.std.proofs.Common.{◌∷◌, ◌++◌, Option, Some, length, take, drop, refl, ap, sym, ◌∙◌, subst, arith}
+use Rattle.std.proofs.Common.{length-append, nat_eq}
 use Rattle.std.specs.Prelude.{find, bytes_eq}
 use Rattle.std.specs.List.{starts_with}
 use Rattle.std.proofs.lemmas.Bool.{and_parts, leb-true}
@@ -12,7 +14,8 @@ use Rattle.fv_base.specs.declared.symbol.Symbol.TheVariants as s
 use Rattle.vl_token.specs.Piece.{begins_comment}
 use Rattle.vl_token.specs.Cut.{sign_at, signs, sign_cut, slash_cut, first_cut}
 
-find_step : (b : Bool) (p : Symbol → Bool) (x t : Symbol) (o : Option Symbol) → p x ≡ b → (o ≡ Some t → p t ≡ true) → cond b (Some x) o ≡ Some t → p t ≡ true
+find_step : (b : Bool) (p : Symbol → Bool) (x t : Symbol) (o : Option Symbol) → p x ≡ b → (o ≡ Some t → p t ≡ true)
+    → cond b (Some x) o ≡ Some t → p t ≡ true
 find_step true p x t o e h same = let one : x ≡ t = cc in subst (λ y. p y ≡ true) one e
 find_step false p x t o e h same = h same
 
@@ -20,18 +23,21 @@ pub find_passes : (p : Symbol → Bool) (xs : List Symbol) (t : Symbol) → find
 find_passes p [] t e = absurd (let f : ⊥ = cc in f)
 find_passes p (x ∷ xs) t e = find_step (p x) p x t (find p xs) refl (find_passes p xs t) e
 
-pub sign_begins : (bytes : List ℕ) (t : Symbol) → sign_at bytes ≡ Some t → starts_with nat_eq bytes (symbol_text t) ≡ true
+pub sign_begins : (bytes : List ℕ) (t : Symbol) → sign_at bytes ≡ Some t
+    → starts_with nat_eq bytes (symbol_text t) ≡ true
 unfolding sign_at
 sign_begins bytes t e = find_passes (λ u. starts_with nat_eq bytes (symbol_text u)) signs t e
 
 -- a text that begins with another
-pub begins_split : (bytes front : List ℕ) → starts_with nat_eq bytes front ≡ true → bytes ≡ front ++ drop (length front) bytes
+pub begins_split : (bytes front : List ℕ) → starts_with nat_eq bytes front ≡ true
+    → bytes ≡ front ++ drop (length front) bytes
 begins_split bytes front e = (starts_is Decides-eqb bytes front (starts_with nat_eq bytes front) refl).0 e
 
 pub begins_front : (bytes front rest : List ℕ) → bytes ≡ front ++ rest → starts_with nat_eq bytes front ≡ true
 begins_front bytes front rest e = (starts_is Decides-eqb bytes front (starts_with nat_eq bytes front) refl).1 rest e
 
-pub sign_splits : (bytes : List ℕ) (t : Symbol) → sign_at bytes ≡ Some t → bytes ≡ symbol_text t ++ drop (length (symbol_text t)) bytes
+pub sign_splits : (bytes : List ℕ) (t : Symbol) → sign_at bytes ≡ Some t
+    → bytes ≡ symbol_text t ++ drop (length (symbol_text t)) bytes
 sign_splits bytes t e = begins_split bytes (symbol_text t) (sign_begins bytes t e)
 
 front_fits : (bytes front rest : List ℕ) → bytes ≡ front ++ rest → length front ≤ length bytes
@@ -46,53 +52,142 @@ In t [] = ⊥
 In t (x ∷ xs) = (t ≡ x) ⊎ In t xs
 
 pub all_in : (t : Symbol) → In t signs
-all_in s.OpenParen = inr (inr (inr (inr (inr (inr (inr (inr (inr (inr (inr (inr (inr (inr (inr (inr (inr (inr (inr (inr (inr (inl refl)))))))))))))))))))))
-all_in s.CloseParen = inr (inr (inr (inr (inr (inr (inr (inr (inr (inr (inr (inr (inr (inr (inr (inr (inr (inr (inr (inr (inr (inr (inl refl))))))))))))))))))))))
-all_in s.OpenBracket = inr (inr (inr (inr (inr (inr (inr (inr (inr (inr (inr (inr (inr (inr (inr (inr (inr (inr (inr (inr (inr (inr (inr (inl refl)))))))))))))))))))))))
-all_in s.CloseBracket = inr (inr (inr (inr (inr (inr (inr (inr (inr (inr (inr (inr (inr (inr (inr (inr (inr (inr (inr (inr (inr (inr (inr (inr (inl refl))))))))))))))))))))))))
-all_in s.OpenBrace = inr (inr (inr (inr (inr (inr (inr (inr (inr (inr (inr (inr (inr (inr (inr (inr (inr (inr (inr (inr (inr (inr (inr (inr (inr (inl refl)))))))))))))))))))))))))
-all_in s.CloseBrace = inr (inr (inr (inr (inr (inr (inr (inr (inr (inr (inr (inr (inr (inr (inr (inr (inr (inr (inr (inr (inr (inr (inr (inr (inr (inr (inl refl))))))))))))))))))))))))))
+all_in s.OpenParen = inr (inr (inr (inr
+    (inr (inr (inr (inr (inr (inr (inr (inr (inr (inr (inr (inr (inr (inr (inr (inr (inr (inl refl)))))))))))))))))))))
+all_in s.CloseParen = inr (inr (inr (inr
+    (inr (inr (inr (inr (inr (inr (inr (inr
+    (inr (inr (inr (inr (inr (inr (inr (inr (inr (inr (inl refl))))))))))))))))))))))
+all_in s.OpenBracket = inr (inr (inr (inr
+    (inr (inr (inr (inr (inr (inr (inr (inr
+    (inr (inr (inr (inr (inr (inr (inr (inr (inr (inr (inr (inl refl)))))))))))))))))))))))
+all_in s.CloseBracket = inr (inr (inr (inr
+    (inr (inr (inr (inr (inr (inr (inr (inr
+    (inr (inr (inr (inr (inr (inr (inr (inr (inr (inr (inr (inr (inl refl))))))))))))))))))))))))
+all_in s.OpenBrace = inr (inr (inr (inr
+    (inr (inr (inr (inr (inr (inr (inr (inr
+    (inr (inr (inr (inr (inr (inr (inr (inr (inr (inr (inr (inr (inr (inl refl)))))))))))))))))))))))))
+all_in s.CloseBrace = inr (inr (inr (inr
+    (inr (inr (inr (inr (inr (inr (inr (inr
+    (inr (inr (inr (inr (inr (inr (inr (inr (inr (inr (inr (inr (inr (inr (inl refl))))))))))))))))))))))))))
 all_in s.OpenAttribute = inr (inr (inr (inr (inl refl))))
 all_in s.CloseAttribute = inr (inr (inr (inr (inr (inl refl)))))
-all_in s.Semicolon = inr (inr (inr (inr (inr (inr (inr (inr (inr (inr (inr (inr (inr (inr (inr (inr (inr (inr (inr (inr (inr (inr (inr (inr (inr (inr (inr (inl refl)))))))))))))))))))))))))))
-all_in s.Colon = inr (inr (inr (inr (inr (inr (inr (inr (inr (inr (inr (inr (inr (inr (inr (inr (inr (inr (inr (inr (inr (inr (inr (inr (inr (inr (inr (inr (inl refl))))))))))))))))))))))))))))
-all_in s.Comma = inr (inr (inr (inr (inr (inr (inr (inr (inr (inr (inr (inr (inr (inr (inr (inr (inr (inr (inr (inr (inr (inr (inr (inr (inr (inr (inr (inr (inr (inl refl)))))))))))))))))))))))))))))
-all_in s.Dot = inr (inr (inr (inr (inr (inr (inr (inr (inr (inr (inr (inr (inr (inr (inr (inr (inr (inr (inr (inr (inr (inr (inr (inr (inr (inr (inr (inr (inr (inr (inl refl))))))))))))))))))))))))))))))
-all_in s.Hash = inr (inr (inr (inr (inr (inr (inr (inr (inr (inr (inr (inr (inr (inr (inr (inr (inr (inr (inr (inr (inr (inr (inr (inr (inr (inr (inr (inr (inr (inr (inr (inl refl)))))))))))))))))))))))))))))))
-all_in s.At = inr (inr (inr (inr (inr (inr (inr (inr (inr (inr (inr (inr (inr (inr (inr (inr (inr (inr (inr (inr (inr (inr (inr (inr (inr (inr (inr (inr (inr (inr (inr (inr (inl refl))))))))))))))))))))))))))))))))
-all_in s.Equal = inr (inr (inr (inr (inr (inr (inr (inr (inr (inr (inr (inr (inr (inr (inr (inr (inr (inr (inr (inr (inr (inr (inr (inr (inr (inr (inr (inr (inr (inr (inr (inr (inr (inl refl)))))))))))))))))))))))))))))))))
-all_in s.Question = inr (inr (inr (inr (inr (inr (inr (inr (inr (inr (inr (inr (inr (inr (inr (inr (inr (inr (inr (inr (inr (inr (inr (inr (inr (inr (inr (inr (inr (inr (inr (inr (inr (inr (inl refl))))))))))))))))))))))))))))))))))
-all_in s.Plus = inr (inr (inr (inr (inr (inr (inr (inr (inr (inr (inr (inr (inr (inr (inr (inr (inr (inr (inr (inr (inr (inr (inr (inr (inr (inr (inr (inr (inr (inr (inr (inr (inr (inr (inr (inl refl)))))))))))))))))))))))))))))))))))
-all_in s.Minus = inr (inr (inr (inr (inr (inr (inr (inr (inr (inr (inr (inr (inr (inr (inr (inr (inr (inr (inr (inr (inr (inr (inr (inr (inr (inr (inr (inr (inr (inr (inr (inr (inr (inr (inr (inr (inl refl))))))))))))))))))))))))))))))))))))
-all_in s.Star = inr (inr (inr (inr (inr (inr (inr (inr (inr (inr (inr (inr (inr (inr (inr (inr (inr (inr (inr (inr (inr (inr (inr (inr (inr (inr (inr (inr (inr (inr (inr (inr (inr (inr (inr (inr (inr (inl refl)))))))))))))))))))))))))))))))))))))
-all_in s.Slash = inr (inr (inr (inr (inr (inr (inr (inr (inr (inr (inr (inr (inr (inr (inr (inr (inr (inr (inr (inr (inr (inr (inr (inr (inr (inr (inr (inr (inr (inr (inr (inr (inr (inr (inr (inr (inr (inr (inl refl))))))))))))))))))))))))))))))))))))))
-all_in s.Percent = inr (inr (inr (inr (inr (inr (inr (inr (inr (inr (inr (inr (inr (inr (inr (inr (inr (inr (inr (inr (inr (inr (inr (inr (inr (inr (inr (inr (inr (inr (inr (inr (inr (inr (inr (inr (inr (inr (inr (inl refl)))))))))))))))))))))))))))))))))))))))
+all_in s.Semicolon = inr (inr (inr (inr
+    (inr (inr (inr (inr (inr (inr (inr (inr
+    (inr (inr (inr (inr (inr (inr (inr (inr (inr (inr (inr (inr (inr (inr (inr (inl refl)))))))))))))))))))))))))))
+all_in s.Colon = inr (inr (inr (inr (inr
+    (inr (inr (inr (inr (inr (inr (inr (inr
+    (inr (inr (inr (inr (inr (inr (inr (inr (inr (inr (inr (inr (inr (inr (inr (inl refl))))))))))))))))))))))))))))
+all_in s.Comma = inr (inr (inr (inr (inr
+    (inr (inr (inr (inr (inr (inr (inr (inr
+    (inr (inr (inr (inr (inr (inr (inr (inr
+    (inr (inr (inr (inr (inr (inr (inr (inr (inl refl)))))))))))))))))))))))))))))
+all_in s.Dot = inr (inr (inr (inr (inr (inr
+    (inr (inr (inr (inr (inr (inr (inr (inr
+    (inr (inr (inr (inr (inr (inr (inr (inr
+    (inr (inr (inr (inr (inr (inr (inr (inr (inl refl))))))))))))))))))))))))))))))
+all_in s.Hash = inr (inr (inr (inr (inr
+    (inr (inr (inr (inr (inr (inr (inr (inr
+    (inr (inr (inr (inr (inr (inr (inr (inr
+    (inr (inr (inr (inr (inr (inr (inr (inr (inr (inr (inl refl)))))))))))))))))))))))))))))))
+all_in s.At = inr (inr (inr (inr (inr (inr
+    (inr (inr (inr (inr (inr (inr (inr (inr
+    (inr (inr (inr (inr (inr (inr (inr (inr
+    (inr (inr (inr (inr (inr (inr (inr (inr (inr (inr (inl refl))))))))))))))))))))))))))))))))
+all_in s.Equal = inr (inr (inr (inr (inr
+    (inr (inr (inr (inr (inr (inr (inr (inr
+    (inr (inr (inr (inr (inr (inr (inr (inr
+    (inr (inr (inr (inr (inr (inr (inr (inr (inr (inr (inr (inr (inl refl)))))))))))))))))))))))))))))))))
+all_in s.Question = inr (inr (inr (inr (inr
+    (inr (inr (inr (inr (inr (inr (inr (inr
+    (inr (inr (inr (inr (inr (inr (inr (inr
+    (inr (inr (inr (inr (inr (inr (inr (inr (inr (inr (inr (inr (inr (inl refl))))))))))))))))))))))))))))))))))
+all_in s.Plus = inr (inr (inr (inr (inr
+    (inr (inr (inr (inr (inr (inr (inr (inr
+    (inr (inr (inr (inr (inr (inr (inr (inr
+    (inr (inr (inr (inr (inr (inr (inr (inr (inr (inr (inr (inr (inr (inr (inl refl)))))))))))))))))))))))))))))))))))
+all_in s.Minus = inr (inr (inr (inr (inr
+    (inr (inr (inr (inr (inr (inr (inr (inr
+    (inr (inr (inr (inr (inr (inr (inr (inr
+    (inr (inr (inr (inr (inr (inr (inr (inr
+    (inr (inr (inr (inr (inr (inr (inr (inl refl))))))))))))))))))))))))))))))))))))
+all_in s.Star = inr (inr (inr (inr (inr
+    (inr (inr (inr (inr (inr (inr (inr (inr
+    (inr (inr (inr (inr (inr (inr (inr (inr
+    (inr (inr (inr (inr (inr (inr (inr (inr
+    (inr (inr (inr (inr (inr (inr (inr (inr (inl refl)))))))))))))))))))))))))))))))))))))
+all_in s.Slash = inr (inr (inr (inr (inr
+    (inr (inr (inr (inr (inr (inr (inr (inr
+    (inr (inr (inr (inr (inr (inr (inr (inr
+    (inr (inr (inr (inr (inr (inr (inr (inr
+    (inr (inr (inr (inr (inr (inr (inr (inr (inr (inl refl))))))))))))))))))))))))))))))))))))))
+all_in s.Percent = inr (inr (inr (inr (inr
+    (inr (inr (inr (inr (inr (inr (inr (inr
+    (inr (inr (inr (inr (inr (inr (inr (inr
+    (inr (inr (inr (inr (inr (inr (inr (inr
+    (inr (inr (inr (inr (inr (inr (inr (inr (inr (inr (inl refl)))))))))))))))))))))))))))))))))))))))
 all_in s.StarStar = inr (inr (inr (inr (inr (inr (inl refl))))))
-all_in s.Bang = inr (inr (inr (inr (inr (inr (inr (inr (inr (inr (inr (inr (inr (inr (inr (inr (inr (inr (inr (inr (inr (inr (inr (inr (inr (inr (inr (inr (inr (inr (inr (inr (inr (inr (inr (inr (inr (inr (inr (inr (inl refl))))))))))))))))))))))))))))))))))))))))
-all_in s.Tilde = inr (inr (inr (inr (inr (inr (inr (inr (inr (inr (inr (inr (inr (inr (inr (inr (inr (inr (inr (inr (inr (inr (inr (inr (inr (inr (inr (inr (inr (inr (inr (inr (inr (inr (inr (inr (inr (inr (inr (inr (inr (inl refl)))))))))))))))))))))))))))))))))))))))))
-all_in s.And = inr (inr (inr (inr (inr (inr (inr (inr (inr (inr (inr (inr (inr (inr (inr (inr (inr (inr (inr (inr (inr (inr (inr (inr (inr (inr (inr (inr (inr (inr (inr (inr (inr (inr (inr (inr (inr (inr (inr (inr (inr (inr (inl refl))))))))))))))))))))))))))))))))))))))))))
-all_in s.Or = inr (inr (inr (inr (inr (inr (inr (inr (inr (inr (inr (inr (inr (inr (inr (inr (inr (inr (inr (inr (inr (inr (inr (inr (inr (inr (inr (inr (inr (inr (inr (inr (inr (inr (inr (inr (inr (inr (inr (inr (inr (inr (inr (inl refl)))))))))))))))))))))))))))))))))))))))))))
-all_in s.Caret = inr (inr (inr (inr (inr (inr (inr (inr (inr (inr (inr (inr (inr (inr (inr (inr (inr (inr (inr (inr (inr (inr (inr (inr (inr (inr (inr (inr (inr (inr (inr (inr (inr (inr (inr (inr (inr (inr (inr (inr (inr (inr (inr (inr (inl refl))))))))))))))))))))))))))))))))))))))))))))
+all_in s.Bang = inr (inr (inr (inr (inr
+    (inr (inr (inr (inr (inr (inr (inr (inr
+    (inr (inr (inr (inr (inr (inr (inr (inr
+    (inr (inr (inr (inr (inr (inr (inr (inr
+    (inr (inr (inr (inr (inr (inr (inr (inr (inr (inr (inr (inl refl))))))))))))))))))))))))))))))))))))))))
+all_in s.Tilde = inr (inr (inr (inr (inr
+    (inr (inr (inr (inr (inr (inr (inr (inr
+    (inr (inr (inr (inr (inr (inr (inr (inr
+    (inr (inr (inr (inr (inr (inr (inr (inr
+    (inr (inr (inr (inr (inr (inr (inr (inr (inr (inr (inr (inr (inl refl)))))))))))))))))))))))))))))))))))))))))
+all_in s.And = inr (inr (inr (inr (inr (inr
+    (inr (inr (inr (inr (inr (inr (inr (inr
+    (inr (inr (inr (inr (inr (inr (inr (inr
+    (inr (inr (inr (inr (inr (inr (inr (inr
+    (inr (inr (inr (inr (inr (inr (inr (inr (inr (inr (inr (inr (inl refl))))))))))))))))))))))))))))))))))))))))))
+all_in s.Or = inr (inr (inr (inr (inr (inr
+    (inr (inr (inr (inr (inr (inr (inr (inr
+    (inr (inr (inr (inr (inr (inr (inr (inr
+    (inr (inr (inr (inr (inr (inr (inr (inr
+    (inr (inr (inr (inr (inr (inr (inr (inr
+    (inr (inr (inr (inr (inr (inl refl)))))))))))))))))))))))))))))))))))))))))))
+all_in s.Caret = inr (inr (inr (inr (inr
+    (inr (inr (inr (inr (inr (inr (inr (inr
+    (inr (inr (inr (inr (inr (inr (inr (inr
+    (inr (inr (inr (inr (inr (inr (inr (inr
+    (inr (inr (inr (inr (inr (inr (inr (inr
+    (inr (inr (inr (inr (inr (inr (inr (inl refl))))))))))))))))))))))))))))))))))))))))))))
 all_in s.TildeAnd = inr (inr (inr (inr (inr (inr (inr (inl refl)))))))
 all_in s.TildeOr = inr (inr (inr (inr (inr (inr (inr (inr (inl refl))))))))
 all_in s.TildeCaret = inr (inr (inr (inr (inr (inr (inr (inr (inr (inl refl)))))))))
 all_in s.CaretTilde = inr (inr (inr (inr (inr (inr (inr (inr (inr (inr (inl refl))))))))))
 all_in s.AndAnd = inr (inr (inr (inr (inr (inr (inr (inr (inr (inr (inr (inl refl)))))))))))
 all_in s.OrOr = inr (inr (inr (inr (inr (inr (inr (inr (inr (inr (inr (inr (inl refl))))))))))))
-all_in s.Less = inr (inr (inr (inr (inr (inr (inr (inr (inr (inr (inr (inr (inr (inr (inr (inr (inr (inr (inr (inr (inr (inr (inr (inr (inr (inr (inr (inr (inr (inr (inr (inr (inr (inr (inr (inr (inr (inr (inr (inr (inr (inr (inr (inr (inr (inl refl)))))))))))))))))))))))))))))))))))))))))))))
+all_in s.Less = inr (inr (inr (inr (inr
+    (inr (inr (inr (inr (inr (inr (inr (inr
+    (inr (inr (inr (inr (inr (inr (inr (inr
+    (inr (inr (inr (inr (inr (inr (inr (inr
+    (inr (inr (inr (inr (inr (inr (inr (inr
+    (inr (inr (inr (inr (inr (inr (inr (inr (inl refl)))))))))))))))))))))))))))))))))))))))))))))
 all_in s.LessEqual = inr (inr (inr (inr (inr (inr (inr (inr (inr (inr (inr (inr (inr (inl refl)))))))))))))
-all_in s.Greater = inr (inr (inr (inr (inr (inr (inr (inr (inr (inr (inr (inr (inr (inr (inr (inr (inr (inr (inr (inr (inr (inr (inr (inr (inr (inr (inr (inr (inr (inr (inr (inr (inr (inr (inr (inr (inr (inr (inr (inr (inr (inr (inr (inr (inr (inr (inl refl))))))))))))))))))))))))))))))))))))))))))))))
+all_in s.Greater = inr (inr (inr (inr (inr
+    (inr (inr (inr (inr (inr (inr (inr (inr
+    (inr (inr (inr (inr (inr (inr (inr (inr
+    (inr (inr (inr (inr (inr (inr (inr (inr
+    (inr (inr (inr (inr (inr (inr (inr (inr
+    (inr (inr (inr (inr (inr (inr (inr (inr (inr (inl refl))))))))))))))))))))))))))))))))))))))))))))))
 all_in s.GreaterEqual = inr (inr (inr (inr (inr (inr (inr (inr (inr (inr (inr (inr (inr (inr (inl refl))))))))))))))
 all_in s.EqualEqual = inr (inr (inr (inr (inr (inr (inr (inr (inr (inr (inr (inr (inr (inr (inr (inl refl)))))))))))))))
-all_in s.BangEqual = inr (inr (inr (inr (inr (inr (inr (inr (inr (inr (inr (inr (inr (inr (inr (inr (inl refl))))))))))))))))
+all_in s.BangEqual =
+    inr (inr (inr (inr (inr (inr (inr (inr (inr (inr (inr (inr (inr (inr (inr (inr (inl refl))))))))))))))))
 all_in s.EqualEqualEqual = inl refl
 all_in s.BangEqualEqual = inr (inl refl)
-all_in s.LessLess = inr (inr (inr (inr (inr (inr (inr (inr (inr (inr (inr (inr (inr (inr (inr (inr (inr (inl refl)))))))))))))))))
-all_in s.GreaterGreater = inr (inr (inr (inr (inr (inr (inr (inr (inr (inr (inr (inr (inr (inr (inr (inr (inr (inr (inl refl))))))))))))))))))
+all_in s.LessLess =
+    inr (inr (inr (inr (inr (inr (inr (inr (inr (inr (inr (inr (inr (inr (inr (inr (inr (inl refl)))))))))))))))))
+all_in s.GreaterGreater = inr (inr (inr (inr
+    (inr (inr (inr (inr (inr (inr (inr (inr (inr (inr (inr (inr (inr (inr (inl refl))))))))))))))))))
 all_in s.LessLessLess = inr (inr (inl refl))
 all_in s.GreaterGreaterGreater = inr (inr (inr (inl refl)))
-all_in s.PlusColon = inr (inr (inr (inr (inr (inr (inr (inr (inr (inr (inr (inr (inr (inr (inr (inr (inr (inr (inr (inl refl)))))))))))))))))))
-all_in s.MinusColon = inr (inr (inr (inr (inr (inr (inr (inr (inr (inr (inr (inr (inr (inr (inr (inr (inr (inr (inr (inr (inl refl))))))))))))))))))))
+all_in s.PlusColon = inr (inr (inr (inr
+    (inr (inr (inr (inr (inr (inr (inr (inr (inr (inr (inr (inr (inr (inr (inr (inl refl)))))))))))))))))))
+all_in s.MinusColon = inr (inr (inr (inr
+    (inr (inr (inr (inr (inr (inr (inr (inr (inr (inr (inr (inr (inr (inr (inr (inr (inl refl))))))))))))))))))))
 
 -- longer ones first, none longer than n
 abbrev pub falls : ℕ → List Symbol → Bool
@@ -110,33 +205,42 @@ in_falls n (x ∷ xs) t e (inr later) =
     let low = in_falls (length (symbol_text x)) xs t both.1 later in
     omega arith
 
-mutual_step : (p : Symbol → Bool) (x t u : Symbol) (n : ℕ) (xs : List Symbol) (c : Bool) → p x ≡ c → falls n (x ∷ xs) ≡ true
+mutual_step : (p : Symbol → Bool) (x t u : Symbol) (n : ℕ) (xs : List Symbol) (c : Bool) → p x ≡ c
+    → falls n (x ∷ xs) ≡ true
     → (find p xs ≡ Some t → In u xs → length (symbol_text u) ≤ length (symbol_text t))
-    → cond c (Some x) (find p xs) ≡ Some t → (u ≡ x) ⊎ In u xs → p u ≡ true → length (symbol_text u) ≤ length (symbol_text t)
+    → cond c (Some x) (find p xs) ≡ Some t → (u ≡ x) ⊎ In u xs → p u ≡ true
+    → length (symbol_text u) ≤ length (symbol_text t)
 mutual_step p x t u n xs true e f h same (inl first) pass =
-    let one : x ≡ t = cc in subst (λ z. length (symbol_text z) ≤ length (symbol_text t)) (sym first) (subst (λ z. length (symbol_text x) ≤ length (symbol_text z)) one (omega arith))
+    let one : x ≡ t = cc in subst (λ z. length (symbol_text z) ≤ length (symbol_text t)) (sym first)
+    (subst (λ z. length (symbol_text x) ≤ length (symbol_text z)) one (omega arith))
 mutual_step p x t u n xs true e f h same (inr later) pass =
     let one : x ≡ t = cc in
     let both = and_parts (leb (length (symbol_text x)) n) (falls (length (symbol_text x)) xs) f in
-    subst (λ z. length (symbol_text u) ≤ length (symbol_text z)) one (in_falls (length (symbol_text x)) xs u both.1 later)
+    subst (λ z. length (symbol_text u) ≤ length (symbol_text z)) one
+    (in_falls (length (symbol_text x)) xs u both.1 later)
 mutual_step p x t u n xs false e f h same (inl first) pass =
     absurd (let g : true ≡ false = sym pass ∙ (ap p first ∙ e) in let k : ⊥ = cc in k)
 mutual_step p x t u n xs false e f h same (inr later) pass = h same later
 
-found_longest : (p : Symbol → Bool) (n : ℕ) (xs : List Symbol) (t u : Symbol) → falls n xs ≡ true → find p xs ≡ Some t → In u xs → p u ≡ true
+found_longest : (p : Symbol → Bool) (n : ℕ) (xs : List Symbol) (t u : Symbol) → falls n xs ≡ true
+    → find p xs ≡ Some t → In u xs → p u ≡ true
     → length (symbol_text u) ≤ length (symbol_text t)
 found_longest p n [] t u f e i pass = absurd i
 found_longest p n (x ∷ xs) t u f e i pass =
     let both = and_parts (leb (length (symbol_text x)) n) (falls (length (symbol_text x)) xs) f in
-    mutual_step p x t u n xs (p x) refl f (λ same later. found_longest p (length (symbol_text x)) xs t u both.1 same later pass) e i pass
+    mutual_step p x t u n xs (p x) refl f (λ same later. found_longest p
+    (length (symbol_text x)) xs t u both.1 same later pass) e i pass
 
-find_step_some : (p : Symbol → Bool) (x u : Symbol) (xs : List Symbol) (c : Bool) → p x ≡ c → (In u xs → (t : Symbol) × (find p xs ≡ Some t)) → (u ≡ x) ⊎ In u xs → p u ≡ true
+find_step_some : (p : Symbol → Bool) (x u : Symbol) (xs : List Symbol) (c : Bool) → p x ≡ c
+    → (In u xs → (t : Symbol) × (find p xs ≡ Some t)) → (u ≡ x) ⊎ In u xs → p u ≡ true
     → (t : Symbol) × (cond c (Some x) (find p xs) ≡ Some t)
 find_step_some p x u xs true e h i pass = (x, refl)
-find_step_some p x u xs false e h (inl first) pass = absurd (let g : true ≡ false = sym pass ∙ (ap p first ∙ e) in let k : ⊥ = cc in k)
+find_step_some p x u xs false e h (inl first) pass =
+    absurd (let g : true ≡ false = sym pass ∙ (ap p first ∙ e) in let k : ⊥ = cc in k)
 find_step_some p x u xs false e h (inr later) pass = h later
 
-find_some : (p : Symbol → Bool) (xs : List Symbol) (u : Symbol) → In u xs → p u ≡ true → (t : Symbol) × (find p xs ≡ Some t)
+find_some : (p : Symbol → Bool) (xs : List Symbol) (u : Symbol) → In u xs → p u ≡ true → (t : Symbol)
+    × (find p xs ≡ Some t)
 find_some p [] u i pass = absurd i
 find_some p (x ∷ xs) u i pass = find_step_some p x u xs (p x) refl (λ later. find_some p xs u later pass) i pass
 
@@ -144,11 +248,14 @@ signs_fall : falls 3 signs ≡ true
 unfolding symbol_text
 signs_fall = refl
 
-pub sign_longest : (bytes : List ℕ) (t u : Symbol) → sign_at bytes ≡ Some t → starts_with nat_eq bytes (symbol_text u) ≡ true → length (symbol_text u) ≤ length (symbol_text t)
+pub sign_longest : (bytes : List ℕ) (t u : Symbol) → sign_at bytes ≡ Some t
+    → starts_with nat_eq bytes (symbol_text u) ≡ true → length (symbol_text u) ≤ length (symbol_text t)
 unfolding sign_at
-sign_longest bytes t u e pass = found_longest (λ v. starts_with nat_eq bytes (symbol_text v)) 3 signs t u signs_fall e (all_in u) pass
+sign_longest bytes t u e pass =
+    found_longest (λ v. starts_with nat_eq bytes (symbol_text v)) 3 signs t u signs_fall e (all_in u) pass
 
-sign_some : (bytes : List ℕ) (u : Symbol) → starts_with nat_eq bytes (symbol_text u) ≡ true → (t : Symbol) × (sign_at bytes ≡ Some t)
+sign_some : (bytes : List ℕ) (u : Symbol) → starts_with nat_eq bytes (symbol_text u) ≡ true → (t : Symbol)
+    × (sign_at bytes ≡ Some t)
 unfolding sign_at
 sign_some bytes u pass = find_some (λ v. starts_with nat_eq bytes (symbol_text v)) signs u (all_in u) pass
 
@@ -210,14 +317,18 @@ pub one_sign : (t u : Symbol) → symbol_text t ≡ symbol_text u → t ≡ u
 one_sign t u e = let f : Some t ≡ Some u = sym (symbol_again t) ∙ (ap symbol_of e ∙ symbol_again u) in cc
 
 -- two fronts of one length are the same
-one_front : (bytes front other : List ℕ) → bytes ≡ front ++ drop (length front) bytes → bytes ≡ other ++ drop (length other) bytes → length front ≡ length other → front ≡ other
+one_front : (bytes front other : List ℕ) → bytes ≡ front ++ drop (length front) bytes
+    → bytes ≡ other ++ drop (length other) bytes → length front ≡ length other → front ≡ other
 one_front bytes front other e f long =
-    let a : take (length front) bytes ≡ front = ap (λ z. take (length front) z) e ∙ take-append_seam front (drop (length front) bytes) in
-    let b : take (length other) bytes ≡ other = ap (λ z. take (length other) z) f ∙ take-append_seam other (drop (length other) bytes) in
+    let a : take (length front) bytes ≡ front = ap (λ z. take (length front) z) e
+    ∙ take-append_seam front (drop (length front) bytes) in
+    let b : take (length other) bytes ≡ other = ap (λ z. take (length other) z) f
+    ∙ take-append_seam other (drop (length other) bytes) in
     sym a ∙ (ap (λ n. take n bytes) long ∙ b)
 
 pub sign_again : (bytes : List ℕ) (u : Symbol) (rest : List ℕ) → bytes ≡ symbol_text u ++ rest
-    → ((t : Symbol) → starts_with nat_eq bytes (symbol_text t) ≡ true → length (symbol_text t) ≤ length (symbol_text u)) → sign_at bytes ≡ Some u
+    → ((t : Symbol) → starts_with nat_eq bytes (symbol_text t) ≡ true
+    → length (symbol_text t) ≤ length (symbol_text u)) → sign_at bytes ≡ Some u
 sign_again bytes u rest e longest =
     let pass = begins_front bytes (symbol_text u) rest e in
     let found = sign_some bytes u pass in
@@ -225,10 +336,12 @@ sign_again bytes u rest e longest =
     let up = sign_longest bytes t u found.1 pass in
     let down = longest t (sign_begins bytes t found.1) in
     let long : length (symbol_text t) ≡ length (symbol_text u) = omega arith in
-    let same : t ≡ u = one_sign t u (one_front bytes (symbol_text t) (symbol_text u) (sign_splits bytes t found.1) (begins_split bytes (symbol_text u) pass) long) in
+    let same : t ≡ u = one_sign t u (one_front bytes (symbol_text t) (symbol_text u) (sign_splits bytes t found.1)
+    (begins_split bytes (symbol_text u) pass) long) in
     found.1 ∙ ap (λ (z : Symbol). Some z) same
 
-slash_on : (rest : List ℕ) → begins_comment (47 ∷ rest) ≡ false → slash_cut rest ≡ sign_cut (47 ∷ rest) (sign_at (47 ∷ rest))
+slash_on : (rest : List ℕ) → begins_comment (47 ∷ rest) ≡ false
+    → slash_cut rest ≡ sign_cut (47 ∷ rest) (sign_at (47 ∷ rest))
 slash_on [] e = refl
 slash_on (b ∷ bs) e =
     let one = or_false_left (b == 47) (b == 42) e in

@@ -7,9 +7,11 @@ use Rattle.fv_base.specs.declared.pos.Pos.{Pos}
 use Rattle.fv_base.specs.declared.symbol.Symbol.{Symbol}
 use Rattle.fv_base.specs.declared.token.Token.{Token}
 use Rattle.vl_token.specs.Numeral.{Numeral, plain, based, Format}
-use Rattle.vl_token.specs.Number.{Means, MeansPlain, MeansBased, number_by, worth, radix, mark_radix, digits_of, bits_of}
+use Rattle.vl_token.specs.Number.{Means, MeansPlain, MeansBased, number_by, worth, radix, mark_radix, digits_of}
+use Rattle.vl_token.specs.Number.{bits_of}
 use Rattle.vl_token.specs.Numeral.{is_wild, is_unknown}
-use Rattle.vl_token.specs.Piece.{Piece, blank, line_comment, block_comment, word, number, sign, system, tick, quoted, continue, text_of}
+use Rattle.vl_token.specs.Piece.{Piece, blank, line_comment, block_comment, word, number, sign, system, tick, quoted}
+use Rattle.vl_token.specs.Piece.{continue, text_of}
 use Rattle.vl_token.specs.Place.{place_after}
 use Rattle.vl_token.specs.Tokens.{is_token, IsKind, IsFirstToken, Takes, AreOf}
 use Rattle.vl_token.proofs.Same.{same_token, same_number}
@@ -25,7 +27,8 @@ one_based f m n a b =
 
 one_plain : (ds : List ℕ) (m n : Number) → MeansPlain ds m → MeansPlain ds n → m ≡ n
 one_plain ds m n a b =
-    same_number m n (a.sized ∙ sym b.sized) (a.signed ∙ sym b.signed) (a.width ∙ sym b.width) (a.value ∙ sym b.value) (a.wild ∙ sym b.wild) (a.unknown ∙ sym b.unknown)
+    same_number m n (a.sized ∙ sym b.sized) (a.signed ∙ sym b.signed) (a.width ∙ sym b.width) (a.value ∙ sym b.value)
+    (a.wild ∙ sym b.wild) (a.unknown ∙ sym b.unknown)
 
 one_number : (w : Numeral) (m n : Number) → Means w m → Means w n → m ≡ n
 one_number (plain ds) m n a b = one_plain ds m n a.1 b.1
@@ -36,7 +39,8 @@ word_kind : (w : List ℕ) (i j : Kind) → IsKind (word w) i → IsKind (word w
 word_kind w (k.Name a) (k.Name b) h g = ap (λ z. k.Name z) (h.0 ∙ sym g.0)
 word_kind w (k.Name a) (k.Keyword b) h g = absurd (let e : None ≡ Some b = sym h.1 ∙ g in let f : ⊥ = cc in f)
 word_kind w (k.Keyword a) (k.Name b) h g = absurd (let e : None ≡ Some a = sym g.1 ∙ h in let f : ⊥ = cc in f)
-word_kind w (k.Keyword a) (k.Keyword b) h g = let e : Some a ≡ Some b = sym h ∙ g in let f : a ≡ b = cc in ap (λ z. k.Keyword z) f
+word_kind w (k.Keyword a) (k.Keyword b) h g =
+    let e : Some a ≡ Some b = sym h ∙ g in let f : a ≡ b = cc in ap (λ z. k.Keyword z) f
 word_kind w i (k.Symbol b) h g = absurd g
 word_kind w i (k.Number b) h g = absurd g
 word_kind w i (k.System b) h g = absurd g
@@ -157,7 +161,8 @@ one_kind (block_comment b) i j h g = absurd (no_block b i h)
 one_first : (p : Piece) (at : Pos) (t u : Token) → IsFirstToken p at t → IsFirstToken p at u → t ≡ u
 one_first p at t u h g = same_token t u (one_kind p t.kind u.kind h.kind g.kind) (h.pos ∙ sym g.pos)
 
-takes_one : (c : Bool) (p : Piece) (at : Pos) (P : List Token → Type 0) (us ts : List Token) → ((xs ys : List Token) → P xs → P ys → xs ≡ ys) → Takes c p at P us → Takes c p at P ts → us ≡ ts
+takes_one : (c : Bool) (p : Piece) (at : Pos) (P : List Token → Type 0) (us ts : List Token)
+    → ((xs ys : List Token) → P xs → P ys → xs ≡ ys) → Takes c p at P us → Takes c p at P ts → us ≡ ts
 takes_one false p at P us ts f h g = f us ts h g
 takes_one true p at P [] ts f h g = absurd h
 takes_one true p at P (u ∷ us) [] f h g = absurd g
@@ -166,4 +171,5 @@ takes_one true p at P (u ∷ us) (t ∷ ts) f h g =
 
 pub one_list : (ps : List Piece) (at : Pos) (us ts : List Token) → AreOf ps at us → AreOf ps at ts → us ≡ ts
 one_list [] at us ts h g = h ∙ sym g
-one_list (p ∷ ps) at us ts h g = takes_one (is_token p) p at (AreOf ps (place_after at (text_of p))) us ts (λ xs ys a b. one_list ps (place_after at (text_of p)) xs ys a b) h g
+one_list (p ∷ ps) at us ts h g = takes_one (is_token p) p at (AreOf ps (place_after at (text_of p))) us ts
+    (λ xs ys a b. one_list ps (place_after at (text_of p)) xs ys a b) h g

@@ -9,7 +9,8 @@ use Rattle.vl_token.specs.declared.sort.Sort.{Sort}
 use Rattle.vl_token.specs.declared.sort.Sort.TheVariants as sort
 use Rattle.vl_token.specs.Bytes.{is_blank, is_space, is_line_end, stays_on_line, is_quotable, first_is, run, behind}
 use Rattle.vl_token.specs.Numeral.{is_base, is_sign, is_digit, goes_on, continues_decimal, Format, plain, based}
-use Rattle.vl_token.specs.Piece.{Piece, blank, line_comment, block_comment, word, number, sign, system, tick, quoted, continue}
+use Rattle.vl_token.specs.Piece.{Piece, blank, line_comment, block_comment, word, number, sign, system, tick, quoted}
+use Rattle.vl_token.specs.Piece.{continue}
 
 pub data Cut : Type 0 where
   ended : Cut
@@ -21,10 +22,13 @@ pub data Cut : Type 0 where
 -- by the first byte, which piece may begin
 abbrev pub sort_of_mark : ℕ → Sort
 sort_of_mark b =
-    cond (b == 47) sort.Slash (cond (b == 39) sort.Apostrophe (cond (b == 36) sort.Dollar (cond (b == 96) sort.Backquote (cond (b == 34) sort.Quote (cond (b == 92) sort.Backslash sort.Other)))))
+    cond (b == 47) sort.Slash (cond (b == 39) sort.Apostrophe
+    (cond (b == 36) sort.Dollar (cond (b == 96) sort.Backquote
+    (cond (b == 34) sort.Quote (cond (b == 92) sort.Backslash sort.Other)))))
 
 abbrev pub sort_of : ℕ → Sort
-sort_of b = cond (begins_word b) sort.Word (cond (is_decimal_digit b) sort.Digit (cond (is_blank b) sort.Blank (sort_of_mark b)))
+sort_of b = cond (begins_word b) sort.Word
+    (cond (is_decimal_digit b) sort.Digit (cond (is_blank b) sort.Blank (sort_of_mark b)))
 
 -- an `s` at the front, and what stands behind it
 abbrev pub sign_front : List ℕ → List ℕ
@@ -46,7 +50,14 @@ digits_rest base (b ∷ bs) = cond (is_digit b) (behind (goes_on base) bs) (b �
 
 abbrev pub format_of : List ℕ → List ℕ → List ℕ → ℕ → List ℕ → Format
 format_of size before mark base bytes =
-    record { size = size; before = before; sign = mark; base = base; behind = run is_space bytes; digits = digits_front base (behind is_space bytes) }
+    record {
+      size = size;
+      before = before;
+      sign = mark;
+      base = base;
+      behind = run is_space bytes;
+      digits = digits_front base (behind is_space bytes);
+    }
 
 abbrev pub base_at : List ℕ → List ℕ → List ℕ → List ℕ → Option (Format × List ℕ)
 base_at size before mark [] = None
@@ -105,7 +116,8 @@ block_cut (Some x) = piece (block_comment x.0) x.1
 abbrev pub slash_cut : List ℕ → Cut
 slash_cut [] = sign_cut (47 ∷ []) (sign_at (47 ∷ []))
 slash_cut (b ∷ bs) =
-    cond (b == 47) (piece (line_comment (run stays_on_line bs)) (behind stays_on_line bs)) (cond (b == 42) (block_cut (close_of bs)) (sign_cut (47 ∷ (b ∷ bs)) (sign_at (47 ∷ (b ∷ bs)))))
+    cond (b == 47) (piece (line_comment (run stays_on_line bs)) (behind stays_on_line bs))
+    (cond (b == 42) (block_cut (close_of bs)) (sign_cut (47 ∷ (b ∷ bs)) (sign_at (47 ∷ (b ∷ bs)))))
 
 abbrev pub system_cut : List ℕ → List ℕ → Cut
 system_cut [] rest = bad_char
@@ -124,7 +136,8 @@ quoted_cut body (b ∷ bs) = cond (b == 34) (piece (quoted body) bs) open_string
 abbrev pub cut_by : Sort → ℕ → List ℕ → Cut
 cut_by sort.Word b bs = piece (word (run continues_word (b ∷ bs))) (behind continues_word (b ∷ bs))
 cut_by sort.Digit b bs =
-    decimal_cut (run continues_decimal (b ∷ bs)) (behind continues_decimal (b ∷ bs)) (format_at (run continues_decimal (b ∷ bs)) (behind continues_decimal (b ∷ bs)))
+    decimal_cut (run continues_decimal (b ∷ bs)) (behind continues_decimal (b ∷ bs))
+    (format_at (run continues_decimal (b ∷ bs)) (behind continues_decimal (b ∷ bs)))
 cut_by sort.Blank b bs = piece (blank b) bs
 cut_by sort.Slash b bs = slash_cut bs
 cut_by sort.Apostrophe b bs = based_cut (format_at [] (b ∷ bs))

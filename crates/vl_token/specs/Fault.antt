@@ -1,12 +1,14 @@
 -- What may be wrong in a text, and which of the faults is answered.
-use Rattle.std.specs.Prelude.{◌≡◌, ℕ, ◌+◌, ◌*◌, ◌≤◌, Bool, true, false, List, ◌∷◌, ◌++◌, length, count_by, Result, Ok, Err}
+use Rattle.std.specs.Prelude.{◌≡◌, ℕ, ◌+◌, ◌*◌, ◌≤◌, Bool, true, false, List, ◌∷◌, ◌++◌, length, count_by, Result, Ok}
+use Rattle.std.specs.Prelude.{Err}
 use Rattle.std.specs.Global.{Vec}
 use Rattle.fv_base.specs.declared.token.Token.{Token}
 use Rattle.std.specs.List.{list_all}
 use Rattle.fv_base.specs.declared.kind.Kind.{Kind}
 use Rattle.fv_base.specs.declared.pos.Pos.{Pos}
 use Rattle.vl_token.specs.declared.fault.LexFault.{LexFault}
-use Rattle.vl_token.specs.declared.fault.LexFault.TheVariants.{NotAscii, BadNumber, OpenComment, BadChar, TooManyTokens, OpenString, Memory}
+use Rattle.vl_token.specs.declared.fault.LexFault.TheVariants.{NotAscii, BadNumber, OpenComment, BadChar}
+use Rattle.vl_token.specs.declared.fault.LexFault.TheVariants.{TooManyTokens, OpenString, Memory}
 use Rattle.vl_token.specs.Bytes.{first_is, ends_line, is_quotable}
 use Rattle.vl_token.specs.Numeral.{Numeral, numeral_text, IsNumeral}
 use Rattle.vl_token.specs.Number.{is_bad}

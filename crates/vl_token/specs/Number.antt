@@ -1,11 +1,13 @@
 -- What a written number means: IEEE 1364-2005, section 3.5.1. A number without size has 32 bits (rule of this
 -- project), and no number has more than 128.
-use Rattle.std.specs.Prelude.{◌≡◌, ℕ, ◌+◌, ◌-◌, ◌*◌, ◌%◌, ◌^◌, Bool, true, false, not, cond, ◌&&◌, ◌||◌, nat_le, nat_lt, ◌==◌, List, [], ◌∷◌, ◌++◌, length, fold, filter, replicate}
+use Rattle.std.specs.Prelude.{◌≡◌, ℕ, ◌+◌, ◌-◌, ◌*◌, ◌%◌, ◌^◌, Bool, true, false, not, cond, ◌&&◌, ◌||◌, nat_le}
+use Rattle.std.specs.Prelude.{nat_lt, ◌==◌, List, [], ◌∷◌, ◌++◌, length, fold, filter, replicate}
 use Rattle.std.specs.List.{list_all, list_any}
 use Rattle.fv_base.specs.Name.{is_decimal_digit}
 use Rattle.fv_base.specs.declared.number.Number.{Number}
 use Rattle.vl_token.specs.Bytes.{small, is_empty}
-use Rattle.vl_token.specs.Numeral.{is_mark, is_unknown, is_wild, is_hex_letter, is_decimal_base, Format, Numeral, plain, based}
+use Rattle.vl_token.specs.Numeral.{is_mark, is_unknown, is_wild, is_hex_letter, is_decimal_base, Format, Numeral}
+use Rattle.vl_token.specs.Numeral.{plain, based}
 
 -- digits without the `_` among them
 abbrev pub digits_of : List ℕ → List ℕ
@@ -45,7 +47,8 @@ is_mixed base digits = is_decimal_base base && (list_any is_mark digits && nat_l
 -- no digits, a digit that isn't of the base, or a mixture
 abbrev pub is_misspelt : Format → Bool
 is_misspelt f =
-    is_empty f.digits || not (list_all (is_digit_in (radix f.base)) (digits_of f.digits)) || is_mixed f.base (digits_of f.digits)
+    is_empty f.digits || not (list_all (is_digit_in (radix f.base)) (digits_of f.digits))
+    || is_mixed f.base (digits_of f.digits)
 
 -- wrong digits, or a misfit
 abbrev pub is_bad : Numeral → Bool

@@ -50,7 +50,8 @@ begins_comment (b ∷ bs) = b == 47 && first_is (λ c. c == 47 || c == 42) bs
 
 -- of the signs that fit here no one is longer, and no comment begins here
 pub record IsLongest (s : Symbol) (bytes : List ℕ) : Type 0 where
-  pub longest : (t : Symbol) → starts_with nat_eq bytes (symbol_text t) ≡ true → length (symbol_text t) ≤ length (symbol_text s)
+  pub longest : (t : Symbol) → starts_with nat_eq bytes (symbol_text t) ≡ true
+      → length (symbol_text t) ≤ length (symbol_text s)
   pub no_comment : begins_comment bytes ≡ false
 
 -- the piece stands before `rest`, and is the longest that fits there
@@ -61,7 +62,8 @@ Stands (block_comment body) rest = closes body ≡ false
 Stands (word w) rest = (is_word w ≡ true) × (first_is continues_word rest ≡ false)
 Stands (number m) rest = IsNumeral m rest
 Stands (sign s) rest = IsLongest s (symbol_text s ++ rest)
-Stands (system w) rest = (is_empty w ≡ false) × (list_all continues_word w ≡ true) × (first_is continues_word rest ≡ false)
+Stands (system w) rest =
+    (is_empty w ≡ false) × (list_all continues_word w ≡ true) × (first_is continues_word rest ≡ false)
 Stands (tick w) rest = (is_word w ≡ true) × (first_is continues_word rest ≡ false)
 Stands (quoted body) rest = list_all is_quotable body ≡ true
 Stands continue rest = first_is is_line_end rest ≡ true

@@ -8,7 +8,8 @@ counted n = min (n + 1) (2 ^ 32 - 1)
 
 -- the place behind a byte
 abbrev pub place_behind : Pos → ℕ → Pos
-place_behind p b = record { file = p.file; line = cond (b == 10) (counted p.line) p.line; col = cond (b == 10) 1 (counted p.col) }
+place_behind p b =
+    record { file = p.file; line = cond (b == 10) (counted p.line) p.line; col = cond (b == 10) 1 (counted p.col) }
 
 -- the place behind a text
 abbrev pub place_after : Pos → List ℕ → Pos

@@ -4,7 +4,8 @@ use Rattle.fv_base.specs.declared.kind.Kind.{Kind}
 use Rattle.fv_base.specs.declared.pos.Pos.{Pos}
 use Rattle.fv_base.specs.declared.token.Token.{Token}
 use Rattle.vl_token.specs.declared.fault.LexFault.{LexFault}
-use Rattle.vl_token.specs.declared.fault.LexFault.TheVariants.{NotAscii, BadNumber, OpenComment, BadChar, TooManyTokens, OpenString, Memory}
+use Rattle.vl_token.specs.declared.fault.LexFault.TheVariants.{NotAscii, BadNumber, OpenComment, BadChar}
+use Rattle.vl_token.specs.declared.fault.LexFault.TheVariants.{TooManyTokens, OpenString, Memory}
 use Rattle.vl_token.specs.declared.lexer.Step.{Step}
 use Rattle.vl_token.specs.declared.lexer.Step.TheVariants.{End, On, Stop}
 use Rattle.vl_token.specs.Piece.{Piece, text_of, joined, Stands, AllStand}

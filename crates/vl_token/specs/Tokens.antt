@@ -7,7 +7,8 @@ use Rattle.fv_base.specs.declared.kind.Kind.TheVariants as k
 use Rattle.fv_base.specs.declared.pos.Pos.{Pos}
 use Rattle.fv_base.specs.declared.token.Token.{Token}
 use Rattle.vl_token.specs.Number.{Means}
-use Rattle.vl_token.specs.Piece.{Piece, blank, line_comment, block_comment, word, number, sign, system, tick, quoted, continue, text_of, joined, AllStand}
+use Rattle.vl_token.specs.Piece.{Piece, blank, line_comment, block_comment, word, number, sign, system, tick, quoted}
+use Rattle.vl_token.specs.Piece.{continue, text_of, joined, AllStand}
 use Rattle.vl_token.specs.Place.{place_after, start_of}
 
 abbrev pub is_ascii : ℕ → Bool

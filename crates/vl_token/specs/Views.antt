@@ -7,12 +7,20 @@ use Rattle.vl_token.specs.declared.piece.Piece.TheVariants as p
 use Rattle.vl_token.specs.declared.piece.Cut as slice
 use Rattle.vl_token.specs.declared.piece.Cut.TheVariants as c
 use Rattle.vl_token.specs.Numeral.{Format, Numeral, plain, based}
-use Rattle.vl_token.specs.Piece.{Piece, blank, line_comment, block_comment, word, number, sign, system, tick, quoted, continue}
+use Rattle.vl_token.specs.Piece.{Piece, blank, line_comment, block_comment, word, number, sign, system, tick, quoted}
+use Rattle.vl_token.specs.Piece.{continue}
 use Rattle.vl_token.specs.Cut.{Cut, ended, piece, open_comment, open_string, bad_char}
 
 abbrev pub view_format : source.Format → Format
 view_format f =
-    record { size = f.size.now; before = f.before.now; sign = f.sign.now; base = f.base; behind = f.behind.now; digits = f.digits.now }
+    record {
+      size = f.size.now;
+      before = f.before.now;
+      sign = f.sign.now;
+      base = f.base;
+      behind = f.behind.now;
+      digits = f.digits.now;
+    }
 
 abbrev pub view_numeral : written.Numeral → Numeral
 view_numeral (n.Plain digits) = plain digits.now

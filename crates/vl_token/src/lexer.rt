@@ -1,4 +1,5 @@
-ghost use Rattle.std.specs.Prelude.{◌≡◌, ◌&&◌, nat_le, ◌-◌, ◌≤◌, true, List, [], length, take, IfOk, IfErr, MatchResult};
+ghost use Rattle.std.specs.Prelude.{◌≡◌, ◌&&◌, nat_le, ◌-◌, ◌≤◌, true, List, [], length, take, IfOk, IfErr};
+ghost use Rattle.std.specs.Prelude.{MatchResult};
 ghost use Rattle.std.specs.List.{prefix_len};
 ghost use Rattle.fv_base.specs.Named.{is_well_named};
 ghost use Rattle.fv_base.specs.declared.token.Token.{Token};
@@ -144,7 +145,8 @@ fn take_piece<'a>(
 
 fn add_token(tokens: &mut List<Token>, kind: Kind, pos: Pos) -> Result<(), LexFault>
     requires { is_well_named kind ≡ true }
-    ensures { MatchResult result (λ _. Added kind pos tokens.old tokens.new) (λ e. IsAddFault e pos (length tokens.old)) }
+    ensures { MatchResult result (λ _. Added kind pos tokens.old tokens.new)
+        (λ e. IsAddFault e pos (length tokens.old)) }
 {
     if tokens.len() >= MOST_TOKENS {
         return Err(LexFault::TooManyTokens(pos));

@@ -1,7 +1,9 @@
-ghost use Rattle.std.specs.Prelude.{◌≡◌, ◌+◌, ◌-◌, ◌*◌, ◌%◌, ◌^◌, ◌==◌, ◌<◌, ◌≤◌, Bool, true, false, min, not, cond, length, find, fold, MatchOption};
+ghost use Rattle.std.specs.Prelude.{◌≡◌, ◌+◌, ◌-◌, ◌*◌, ◌%◌, ◌^◌, ◌==◌, ◌<◌, ◌≤◌, Bool, true, false, min, not, cond};
+ghost use Rattle.std.specs.Prelude.{length, find, fold, MatchOption};
 ghost use Rattle.std.specs.List.{list_all, list_any};
 ghost use Rattle.vl_token.specs.Number as means;
-ghost use Rattle.vl_token.specs.Number.{Means, digits_of, number_by, is_bad, is_misfit, is_mixed, MeansPlain, MeansBased};
+ghost use Rattle.vl_token.specs.Number.{Means, digits_of, number_by, is_bad, is_misfit, is_mixed, MeansPlain};
+ghost use Rattle.vl_token.specs.Number.{MeansBased};
 ghost use Rattle.vl_token.specs.Bytes.{first_is};
 ghost use Rattle.vl_token.specs.Numeral.{is_mark, plain, based};
 ghost use Rattle.vl_token.specs.Marks.{test_of, all_bits, mark_worth};
@@ -44,7 +46,8 @@ fn plain_number(digits: &[u8]) -> Option<Number>
 }
 
 fn based_number(format: &Format) -> Option<Number>
-    ensures { MatchOption result (is_bad (based (view_format format.now)) ≡ true) (λ n. Means (based (view_format format.now)) n) }
+    ensures { MatchOption result (is_bad (based (view_format format.now)) ≡ true)
+        (λ n. Means (based (view_format format.now)) n) }
 {
     if is_misspelt(format) {
         return None;
@@ -73,7 +76,9 @@ fn is_misspelt(format: &Format) -> bool
 
 /// None exactly where the size is out of range, or without size the value is.
 fn width_of(format: &Format) -> Option<u32>
-    ensures fits { MatchOption result (is_misfit (view_format format.now) format.now.size.now ≡ true) (λ w. (is_misfit (view_format format.now) format.now.size.now ≡ false) × (w ≡ means.width_of format.now.size.now)) }
+    ensures fits { MatchOption result (is_misfit (view_format format.now) format.now.size.now ≡ true)
+        (λ w. (is_misfit (view_format format.now) format.now.size.now ≡ false)
+        × (w ≡ means.width_of format.now.size.now)) }
     ensures range { MatchOption result (true ≡ true) (λ w. (1 ≤ w) × (w ≤ 128)) }
 {
     if format.size.is_empty() {
@@ -246,7 +251,8 @@ impl Mark {
 /// where it has the mark.
 fn mark_bits(mark: Mark, radix: u8, digits: &[u8]) -> u128
     requires { 1 ≤ radix }
-    ensures { result ≡ fold (λ n b. n * radix + mark_worth (test_of mark) radix b) (all_bits (test_of mark) (digits_of digits.now)) (digits_of digits.now) % 2 ^ 128 }
+    ensures { result ≡ fold (λ n b. n * radix + mark_worth (test_of mark) radix b)
+        (all_bits (test_of mark) (digits_of digits.now)) (digits_of digits.now) % 2 ^ 128 }
 {
     let mut bits = first_bits(mark, digits);
     for byte in digits {

@@ -1,7 +1,8 @@
 ghost use Rattle.std.specs.Prelude.{◌≡◌, ◌==◌, ◌&&◌, [], ◌∷◌, option_map};
 ghost use Rattle.fv_base.specs.Name.{continues_word};
 ghost use Rattle.vl_token.specs.Bytes.{run, behind, first_is, stays_on_line, is_quotable};
-ghost use Rattle.vl_token.specs.Cut.{piece, first_cut, decimal_cut, format_at, based_cut, system_cut, tick_cut, quoted_cut, continue_cut, sign_cut, sign_at, slash_cut, block_cut, close_of};
+ghost use Rattle.vl_token.specs.Cut.{piece, first_cut, decimal_cut, format_at, based_cut, system_cut, tick_cut};
+ghost use Rattle.vl_token.specs.Cut.{quoted_cut, continue_cut, sign_cut, sign_at, slash_cut, block_cut, close_of};
 ghost use Rattle.vl_token.specs.Numeral.{continues_decimal};
 ghost use Rattle.vl_token.specs.Piece.{word, line_comment};
 ghost use Rattle.vl_token.specs.Views.{view_cut};
@@ -59,14 +60,17 @@ pub(crate) fn first_cut(bytes: &[u8]) -> Cut<'_>
 }
 
 fn word_cut(bytes: &[u8]) -> Cut<'_>
-    ensures { view_cut result ≡ piece (word (run continues_word bytes.entry.now)) (behind continues_word bytes.entry.now) }
+    ensures { view_cut result ≡ piece (word (run continues_word bytes.entry.now))
+        (behind continues_word bytes.entry.now) }
 {
     let (word, rest) = split_run(Class::Word, bytes);
     Cut::Piece(Piece::Word(word), rest)
 }
 
 fn decimal_cut(bytes: &[u8]) -> Cut<'_>
-    ensures { view_cut result ≡ decimal_cut (run continues_decimal bytes.entry.now) (behind continues_decimal bytes.entry.now) (format_at (run continues_decimal bytes.entry.now) (behind continues_decimal bytes.entry.now)) }
+    ensures { view_cut result ≡ decimal_cut (run continues_decimal bytes.entry.now)
+        (behind continues_decimal bytes.entry.now)
+        (format_at (run continues_decimal bytes.entry.now) (behind continues_decimal bytes.entry.now)) }
 {
     let (size, rest) = split_run(Class::Decimal, bytes);
     match format_at(size, rest) {
@@ -85,7 +89,8 @@ fn unsized_cut(bytes: &[u8]) -> Cut<'_>
 }
 
 fn system_cut(bytes: &[u8]) -> Cut<'_>
-    ensures { view_cut result ≡ system_cut (run continues_word bytes.entry.now) (behind continues_word bytes.entry.now) }
+    ensures { view_cut result ≡ system_cut (run continues_word bytes.entry.now)
+        (behind continues_word bytes.entry.now) }
 {
     let (name, rest) = split_run(Class::Word, bytes);
     if name.is_empty() {
@@ -149,7 +154,8 @@ fn slash_cut<'a>(bytes: &'a [u8], others: &'a [u8]) -> Cut<'a>
 }
 
 fn line_cut(bytes: &[u8]) -> Cut<'_>
-    ensures { view_cut result ≡ piece (line_comment (run stays_on_line bytes.entry.now)) (behind stays_on_line bytes.entry.now) }
+    ensures { view_cut result ≡ piece (line_comment (run stays_on_line bytes.entry.now))
+        (behind stays_on_line bytes.entry.now) }
 {
     let (body, rest) = split_run(Class::Line, bytes);
     Cut::Piece(Piece::LineComment(body), rest)

@@ -31,7 +31,8 @@ spelled nothing ts rest h = ap kinds_of h
 spelled (token kind) ts rest h = next kind ts rest h
 spelled (operator kind) ts rest h = next kind ts rest h
 spelled (a ▸ b) ts rest h =
-    spelled a ts h.0 h.1 ∙ ap (λ ks. kinds a ++ ks) (spelled b h.0 rest h.2) ∙ sym (append_assoc (kinds a) (kinds b) (kinds_of rest))
+    spelled a ts h.0 h.1 ∙ ap (λ ks. kinds a ++ ks) (spelled b h.0 rest h.2)
+    ∙ sym (append_assoc (kinds a) (kinds b) (kinds_of rest))
 spelled (at p a) ts rest h = spelled a ts rest h.1
 spelled (within a) ts rest h = spelled a ts rest h
 spelled (level a) ts rest h = spelled a ts rest h

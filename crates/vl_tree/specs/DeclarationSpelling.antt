@@ -1,5 +1,5 @@
--- What attributes, ranges, declared names, parameters and ports spell. IEEE 1364-2005, sections A.1.3, A.2 and A.9.1, cut
--- to this project's subset.
+-- What attributes, ranges, declared names, parameters and ports spell. IEEE 1364-2005, sections A.1.3, A.2 and A.9.1,
+-- cut to this project's subset.
 use Rattle.std.specs.Prelude.{Option, Some, None, Bool, true, false}
 use Rattle.fv_base.specs.declared.pos.Pos.{Pos}
 use Rattle.fv_base.specs.declared.keyword.Keyword.{Keyword}
@@ -25,14 +25,16 @@ use Rattle.vl_tree.specs.declared.declaration.FullPort.{FullPort}
 use Rattle.vl_tree.specs.Attributes.{Attributes}
 use Rattle.vl_tree.specs.ExprSpelling as expr
 use Rattle.vl_tree.specs.ExprSpelling.{spell_value}
-use Rattle.vl_tree.specs.Phrase.{Phrase, nothing, ◌▸◌, at, within, level, sign, word, a_name, square, each, between_commas}
+use Rattle.vl_tree.specs.Phrase.{Phrase, nothing, ◌▸◌, at, within, level, sign, word, a_name, square, each}
+use Rattle.vl_tree.specs.Phrase.{between_commas}
 
 abbrev pub spell_attribute : Attribute → Phrase
 spell_attribute a = at a.pos (a_name a.name ▸ spell_value a.value)
 
 -- `(* name = value, name *)`
 abbrev pub spell_instance : AttributeInstance → Phrase
-spell_instance i = at i.pos (within (sign s.OpenAttribute ▸ between_commas spell_attribute i.attributes) ▸ sign s.CloseAttribute)
+spell_instance i =
+    at i.pos (within (sign s.OpenAttribute ▸ between_commas spell_attribute i.attributes) ▸ sign s.CloseAttribute)
 
 abbrev pub spell_attributes : Attributes → Phrase
 spell_attributes is = each spell_instance is

@@ -1,4 +1,5 @@
--- Small trees that together have each alternative of the grammar, and texts: words and signs with one blank between two.
+-- Small trees that together have each alternative of the grammar, and texts: words and signs with one blank between
+-- two.
 use Rattle.std.specs.Prelude.{ℕ, true, false, List, [], ◌∷◌, ◌++◌, map, Option, None, Some, codes}
 use Rattle.fv_base.specs.Keyword.{keyword_text}
 use Rattle.fv_base.specs.Symbol.{symbol_text}
@@ -27,7 +28,8 @@ use Rattle.vl_tree.specs.declared.source.Module.{Module}
 use Rattle.vl_tree.specs.declared.stmt.AssignKind.TheVariants as assign
 use Rattle.vl_tree.specs.declared.stmt.CaseKind.TheVariants as case
 use Rattle.vl_tree.specs.Attributes.{Attributes}
-use Rattle.vl_tree.specs.Expr.{Expr, name, paren, unary, binary, conditional, concat, repeat, cast as to_sign, exprs, whole, bit, part, indexed}
+use Rattle.vl_tree.specs.Expr.{Expr, name, paren, unary, binary, conditional, concat, repeat, cast as to_sign, exprs}
+use Rattle.vl_tree.specs.Expr.{whole, bit, part, indexed}
 use Rattle.vl_tree.specs.ExprSpelling as expr
 use Rattle.vl_tree.specs.Item as item
 use Rattle.vl_tree.specs.Lval.{Lval, named, joined, lvals}
@@ -65,14 +67,17 @@ to_a = named here (codes "a") whole
 -- each operator between two operands
 abbrev pub binary_texts : List (List ℕ)
 binary_texts = map (λ op. written (expr.spell (binary here op a z)))
-    (b.Multiply ∷ b.Divide ∷ b.Remainder ∷ b.Add ∷ b.Subtract ∷ b.ShiftLeft ∷ b.ShiftRight ∷ b.ArithmeticShiftLeft ∷ b.ArithmeticShiftRight
+    (b.Multiply ∷ b.Divide ∷ b.Remainder ∷ b.Add ∷ b.Subtract ∷ b.ShiftLeft ∷ b.ShiftRight ∷ b.ArithmeticShiftLeft
+    ∷ b.ArithmeticShiftRight
     ∷ b.Less ∷ b.LessEqual ∷ b.Greater ∷ b.GreaterEqual ∷ b.Equal ∷ b.NotEqual ∷ b.CaseEqual ∷ b.CaseNotEqual
-    ∷ b.BitwiseAnd ∷ b.BitwiseXor ∷ b.BitwiseXnor ∷ b.BitwiseXnorCaretFirst ∷ b.BitwiseOr ∷ b.LogicalAnd ∷ b.LogicalOr ∷ [])
+    ∷ b.BitwiseAnd ∷ b.BitwiseXor ∷ b.BitwiseXnor ∷ b.BitwiseXnorCaretFirst ∷ b.BitwiseOr ∷ b.LogicalAnd
+    ∷ b.LogicalOr ∷ [])
 
 -- and before one
 abbrev pub unary_texts : List (List ℕ)
 unary_texts = map (λ op. written (expr.spell (unary here op a)))
-    (u.Plus ∷ u.Minus ∷ u.LogicalNot ∷ u.BitwiseNot ∷ u.ReductionAnd ∷ u.ReductionNand ∷ u.ReductionOr ∷ u.ReductionNor ∷ u.ReductionXor
+    (u.Plus ∷ u.Minus ∷ u.LogicalNot ∷ u.BitwiseNot ∷ u.ReductionAnd ∷ u.ReductionNand ∷ u.ReductionOr
+    ∷ u.ReductionNor ∷ u.ReductionXor
     ∷ u.ReductionXnor ∷ u.ReductionXnorCaretFirst ∷ [])
 
 abbrev pub primary : Expr
@@ -87,7 +92,11 @@ target = joined here (lvals (to_a ∷ named here (codes "z") (bit here a whole) 
 
 -- `(* x = a, y *) (* z *)`
 abbrev pub attributes : Attributes
-attributes = record { pos = here; attributes = record { pos = here; name = codes "x"; value = Some a } ∷ record { pos = here; name = codes "y"; value = None } ∷ [] }
+attributes = record {
+  pos = here;
+  attributes = record { pos = here; name = codes "x"; value = Some a }
+      ∷ record { pos = here; name = codes "y"; value = None } ∷ [];
+}
     ∷ record { pos = here; attributes = record { pos = here; name = codes "z"; value = None } ∷ [] } ∷ []
 
 abbrev pub empty : Stmt
@@ -104,7 +113,8 @@ statement = stmt.begin attributes here (Some (codes "l")) (stmt.stmts (
     stmt.if_else [] here a now (stmt.if_only [] here z later)
     ∷ stmt.assume [] here a ∷ stmt.begin [] here None stmt.no_stmts ∷ empty
     ∷ stmt.case [] here case.Case a (stmt.labels here (a ∷ z ∷ []) empty (stmt.default here true empty stmt.no_arms))
-    ∷ stmt.case [] here case.Casez z (stmt.default here false empty (stmt.labels here (z ∷ []) empty stmt.no_arms)) ∷ []))
+    ∷ stmt.case [] here case.Casez z (stmt.default here false empty (stmt.labels here (z ∷ []) empty stmt.no_arms))
+    ∷ []))
 
 abbrev pub range : Range
 range = record { pos = here; left = a; right = z }
@@ -138,7 +148,11 @@ closes = item.generate [] here mark.Close
 
 abbrev pub body : List item.Item
 body =
-    item.declaration attributes here (record { net = net.Reg; shape = vector; names = declares (codes "a") (Some range) None ∷ declares (codes "z") None (Some a) ∷ [] })
+    item.declaration attributes here (record {
+      net = net.Reg;
+      shape = vector;
+      names = declares (codes "a") (Some range) None ∷ declares (codes "z") None (Some a) ∷ [];
+    })
     ∷ item.integer [] here (declares (codes "i") None None ∷ declares (codes "j") None (Some a) ∷ [])
     ∷ item.genvar [] here (codes "g" ∷ codes "h" ∷ [])
     ∷ item.parameter [] here kind.Parameter (parameter scalar (codes "p") ∷ [])
@@ -147,26 +161,53 @@ body =
     ∷ on event.Bare ∷ on event.Spaced ∷ on event.OpenJoined ∷ on event.CloseJoined ∷ on (event.Posedge (codes "c"))
     ∷ item.initial [] here now
     ∷ item.instance [] here (record { definition = codes "n"; overrides = None; name = codes "u"; connections = [] })
-    ∷ item.instance [] here (record { definition = codes "n"; overrides = Some (connection (codes "x") None ∷ connection (codes "y") (Some a) ∷ []); name = codes "u"; connections = connection (codes "x") None ∷ [] })
+    ∷ item.instance [] here (record {
+      definition = codes "n";
+      overrides = Some (connection (codes "x") None ∷ connection (codes "y") (Some a) ∷ []);
+      name = codes "u";
+      connections = connection (codes "x") None ∷ [];
+    })
     ∷ item.generate attributes here mark.Open ∷ wire ∷ opens ∷ closes ∷ closes
-    ∷ item.for_loop [] here (record { variable = codes "g"; start = a; condition = z; next_variable = codes "g"; next = a }) (item.begin here (Some (codes "l")) (item.items (wire ∷ [])))
+    ∷ item.for_loop [] here (record {
+      variable = codes "g";
+      start = a;
+      condition = z;
+      next_variable = codes "g";
+      next = a;
+    }) (item.begin here (Some (codes "l")) (item.items (wire ∷ [])))
     ∷ item.if_only [] here a (item.single wire)
     ∷ item.if_only [] here z (item.region here (item.items (wire ∷ [])))
     ∷ item.if_else [] here a (item.begin here None item.no_items) (item.single wire)
     ∷ []
 
 abbrev pub module_of : Option (List HeaderParameter) → Option (List Port) → List item.Item → Module
-module_of parameters ports all = record { pos = here; name = codes "m"; parameters = parameters; ports = ports; items = all }
+module_of parameters ports all =
+    record { pos = here; name = codes "m"; parameters = parameters; ports = ports; items = all }
 
 abbrev pub port_of : PortKind → Port
 port_of kind = record { pos = here; kind = kind }
 
 abbrev pub head : Module
 head = module_of
-    (Some (record { keyword = true; parameter = parameter scalar (codes "p") } ∷ record { keyword = false; parameter = parameter vector (codes "q") }
+    (Some (record { keyword = true; parameter = parameter scalar (codes "p") }
+    ∷ record { keyword = false; parameter = parameter vector (codes "q") }
     ∷ record { keyword = true; parameter = parameter scalar (codes "r") } ∷ []))
-    (Some (port_of (port.Full (record { attributes = attributes; direction = direction.Input; net = Some net.Wire; shape = vector; name = codes "a"; value = None }))
+    (Some (port_of (port.Full (record {
+      attributes = attributes;
+      direction = direction.Input;
+      net = Some net.Wire;
+      shape = vector;
+      name = codes "a";
+      value = None;
+    }))
     ∷ port_of (port.Short (codes "b") (Some a))
-    ∷ port_of (port.Full (record { attributes = []; direction = direction.Output; net = Some net.Reg; shape = scalar; name = codes "c"; value = Some z }))
+    ∷ port_of (port.Full (record {
+      attributes = [];
+      direction = direction.Output;
+      net = Some net.Reg;
+      shape = scalar;
+      name = codes "c";
+      value = Some z;
+    }))
     ∷ port_of (port.Short (codes "d") None) ∷ []))
     []

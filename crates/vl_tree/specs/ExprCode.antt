@@ -44,7 +44,8 @@ Label = Pos × What
 
 abbrev label_code : Coded Label
 label_code = coded× pos.the_row.coded
-    (coded⊎ num.the_row.coded (coded⊎ (coded_list coded_ℕ) (coded⊎ un.the_row.coded (coded⊎ bin.the_row.coded (coded⊎ cas.the_row.coded coded_ℕ)))))
+    (coded⊎ num.the_row.coded (coded⊎ (coded_list coded_ℕ)
+    (coded⊎ un.the_row.coded (coded⊎ bin.the_row.coded (coded⊎ cas.the_row.coded coded_ℕ)))))
 
 abbrev one : Rose Label → Roses Label
 one a = r.more a r.none
@@ -85,7 +86,8 @@ abbrev mutual
   back (node (p, inr (inr (inr (inl op)))) (r.more a (r.more b ts))) = binary p op (back a) (back b)
   back (node (p, inr (inr (inr (inr (inl c))))) (r.more a ts)) = cast p c (back a)
   back (node (p, inr (inr (inr (inr (inr zero))))) (r.more a ts)) = paren p (back a)
-  back (node (p, inr (inr (inr (inr (inr (suc zero)))))) (r.more c (r.more a (r.more b ts)))) = conditional p (back c) (back a) (back b)
+  back (node (p, inr (inr (inr (inr (inr (suc zero)))))) (r.more c (r.more a (r.more b ts)))) =
+      conditional p (back c) (back a) (back b)
   back (node (p, inr (inr (inr (inr (inr (suc (suc (suc n)))))))) (r.more a ts)) = repeat p (back a) (backs ts)
   back (node (p, what) ts) = concat p (backs ts)
 
@@ -95,8 +97,10 @@ abbrev mutual
 
   back_selects : Roses Label → Selects
   back_selects (r.more (node (p, inr (inr (inr (inr (inr zero))))) (r.more a us)) ts) = bit p (back a) (back_selects ts)
-  back_selects (r.more (node (p, inr (inr (inr (inr (inr (suc zero)))))) (r.more a (r.more b us))) ts) = part p (back a) (back b) (back_selects ts)
-  back_selects (r.more (node (p, inr (inr (inr (inr (inr (suc (suc n))))))) (r.more a (r.more b us))) ts) = indexed p (back a) (back b) (back_selects ts)
+  back_selects (r.more (node (p, inr (inr (inr (inr (inr (suc zero)))))) (r.more a (r.more b us))) ts) =
+      part p (back a) (back b) (back_selects ts)
+  back_selects (r.more (node (p, inr (inr (inr (inr (inr (suc (suc n))))))) (r.more a (r.more b us))) ts) =
+      indexed p (back a) (back b) (back_selects ts)
   back_selects ts = whole
 
 mutual

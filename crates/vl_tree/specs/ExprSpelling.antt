@@ -1,4 +1,5 @@
--- What expressions spell, alternative by alternative. IEEE 1364-2005, sections 5.1 and A.8, cut to this project's subset.
+-- What expressions spell, alternative by alternative. IEEE 1364-2005, sections 5.1 and A.8, cut to this project's
+-- subset.
 use Rattle.std.specs.Prelude.{ℕ, List, Option, Some, None, codes}
 use Rattle.fv_base.specs.declared.kind.Kind.TheVariants as k
 use Rattle.fv_base.specs.declared.symbol.Symbol.{Symbol}

@@ -1,5 +1,5 @@
--- Well formed expressions: names are names, numbers have no wild and no unknown bits, and each operand stands at its level
--- of the grammar. IEEE 1364-2005, section 5.1.2; that numbers are known is a rule of this project.
+-- Well formed expressions: names are names, numbers have no wild and no unknown bits, and each operand stands at its
+-- level of the grammar. IEEE 1364-2005, section 5.1.2; that numbers are known is a rule of this project.
 use Rattle.std.specs.Prelude.{◌≡◌, ℕ, ◌<◌, ◌≤◌, true, List, Option, Some, None}
 use Rattle.fv_base.specs.Name.{is_name}
 use Rattle.fv_base.specs.declared.number.Number.{Number}

@@ -80,7 +80,8 @@ abbrev around_code : Coded Around
 around_code = coded⊎ heads.the_row.coded expr_code
 
 abbrev label_code : Coded Label
-label_code = coded⊎ (coded× attributes_code (coded× pos.the_row.coded (coded⊎ declared_code (coded⊎ leaf_code around_code))))
+label_code =
+    coded⊎ (coded× attributes_code (coded× pos.the_row.coded (coded⊎ declared_code (coded⊎ leaf_code around_code))))
     (coded⊎ (coded× pos.the_row.coded (coded_option (coded_list coded_ℕ))) (coded⊎ pos.the_row.coded coded_unit))
 
 abbrev one : Rose Label → Roses Label
@@ -138,7 +139,8 @@ abbrev mutual
   back (node (inl (attrs, (p, inr (inl x)))) ts) = back_leaf attrs p x
   back (node (inl (attrs, (p, inr (inr (inl head))))) (r.more b ts)) = for_loop attrs p head (back_block b)
   back (node (inl (attrs, (p, inr (inr (inr c))))) (r.more a r.none)) = if_only attrs p c (back_block a)
-  back (node (inl (attrs, (p, inr (inr (inr c))))) (r.more a (r.more b ts))) = if_else attrs p c (back_block a) (back_block b)
+  back (node (inl (attrs, (p, inr (inr (inr c))))) (r.more a (r.more b ts))) =
+      if_else attrs p c (back_block a) (back_block b)
   back t = genvar [] (record { file = 0; line = 0; col = 0 }) []
 
   backs : Roses Label → Items

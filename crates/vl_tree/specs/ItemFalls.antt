@@ -48,7 +48,8 @@ pub begin_falls : (x : declared.Block) (p : Pos) (label : Option (List ℕ)) (xs
     → x ≡ b.Begin p label xs → ys ≡ xs → most (λ y. size-Item y) ys + 1 ≤ size-Block x
 begin_falls x p label xs ys e f = rw (e, f) (omega (arith, most_size xs))
 
-pub region_falls : (x : declared.Block) (p : Pos) (xs ys : List Item) → x ≡ b.Region p xs → ys ≡ xs → most (λ y. size-Item y) ys + 1 ≤ size-Block x
+pub region_falls : (x : declared.Block) (p : Pos) (xs ys : List Item) → x ≡ b.Region p xs → ys ≡ xs
+    → most (λ y. size-Item y) ys + 1 ≤ size-Block x
 region_falls x p xs ys e f = rw (e, f) (omega (arith, most_size xs))
 
 pub ruleset parts_fall = (most_le-size, deep_le-block_depth)

@@ -57,10 +57,12 @@ use Rattle.vl_tree.specs.Item.{
   single,
   items,
 }
-use Rattle.vl_tree.specs.Phrase.{Phrase, nothing, ◌▸◌, at, within, level, sign, word, a_name, parens, each, between_commas}
+use Rattle.vl_tree.specs.Phrase.{Phrase, nothing, ◌▸◌, at, within, level, sign, word, a_name, parens, each}
+use Rattle.vl_tree.specs.Phrase.{between_commas}
 
 abbrev pub spell_declaration : Declaration → Phrase
-spell_declaration d = word (net_word d.net) ▸ spell_shape d.shape ▸ between_commas spell_declared_name d.names ▸ sign s.Semicolon
+spell_declaration d =
+    word (net_word d.net) ▸ spell_shape d.shape ▸ between_commas spell_declared_name d.names ▸ sign s.Semicolon
 
 abbrev pub spell_assignment : Assignment → Phrase
 spell_assignment x = lval.spell x.target ▸ sign s.Equal ▸ level (expr.spell x.value)
@@ -92,7 +94,8 @@ spell_overrides (Some xs) = sign s.Hash ▸ spell_connections xs
 
 abbrev pub spell_instance : Instance → Phrase
 spell_instance x =
-    a_name x.definition ▸ spell_overrides x.overrides ▸ a_name x.name ▸ spell_connections x.connections ▸ sign s.Semicolon
+    a_name x.definition ▸ spell_overrides x.overrides ▸ a_name x.name ▸ spell_connections x.connections ▸ sign
+    s.Semicolon
 
 -- `name = expr`
 abbrev pub spell_step : List ℕ → Expr → Phrase
@@ -100,7 +103,8 @@ spell_step name e = a_name name ▸ sign s.Equal ▸ level (expr.spell e)
 
 -- `(x = start; condition; x = next)`
 unfoldable pub spell_head : LoopHead → Phrase
-spell_head x = parens (spell_step x.variable x.start ▸ sign s.Semicolon ▸ level (expr.spell x.condition) ▸ sign s.Semicolon
+spell_head x =
+    parens (spell_step x.variable x.start ▸ sign s.Semicolon ▸ level (expr.spell x.condition) ▸ sign s.Semicolon
     ▸ spell_step x.next_variable x.next)
 
 abbrev pub mark_word : RegionMark → Keyword
@@ -110,19 +114,26 @@ mark_word mark.Close = w.Endgenerate
 abbrev mutual
   pub spell : Item → Phrase
   spell (declaration attrs p d) = spell_attributes attrs ▸ at p (spell_declaration d)
-  spell (integer attrs p xs) = spell_attributes attrs ▸ at p (word w.Integer ▸ between_commas spell_declared_name xs ▸ sign s.Semicolon)
-  spell (genvar attrs p xs) = spell_attributes attrs ▸ at p (word w.Genvar ▸ between_commas a_name xs ▸ sign s.Semicolon)
+  spell (integer attrs p xs) =
+      spell_attributes attrs ▸ at p (word w.Integer ▸ between_commas spell_declared_name xs ▸ sign s.Semicolon)
+  spell (genvar attrs p xs) =
+      spell_attributes attrs ▸ at p (word w.Genvar ▸ between_commas a_name xs ▸ sign s.Semicolon)
   spell (parameter attrs p kind xs) =
       spell_attributes attrs ▸ at p (word (parameter_word kind) ▸ between_commas spell_parameter xs ▸ sign s.Semicolon)
-  spell (assign attrs p xs) = spell_attributes attrs ▸ at p (word w.Assign ▸ between_commas spell_assignment xs ▸ sign s.Semicolon)
-  spell (always attrs p event x) = spell_attributes attrs ▸ at p (word w.Always ▸ sign s.At ▸ spell_event event ▸ stmt.spell x)
+  spell (assign attrs p xs) =
+      spell_attributes attrs ▸ at p (word w.Assign ▸ between_commas spell_assignment xs ▸ sign s.Semicolon)
+  spell (always attrs p event x) =
+      spell_attributes attrs ▸ at p (word w.Always ▸ sign s.At ▸ spell_event event ▸ stmt.spell x)
   spell (initial attrs p x) = spell_attributes attrs ▸ at p (word w.Initial ▸ stmt.spell x)
   spell (instance attrs p x) = spell_attributes attrs ▸ at p (spell_instance x)
   spell (generate attrs p mark) = spell_attributes attrs ▸ at p (word (mark_word mark))
-  spell (for_loop attrs p head b) = spell_attributes attrs ▸ at p (within (word w.For ▸ spell_head head ▸ spell_block b))
-  spell (if_only attrs p c b) = spell_attributes attrs ▸ at p (within (word w.If ▸ parens (expr.spell c) ▸ spell_block b))
+  spell (for_loop attrs p head b) =
+      spell_attributes attrs ▸ at p (within (word w.For ▸ spell_head head ▸ spell_block b))
+  spell (if_only attrs p c b) =
+      spell_attributes attrs ▸ at p (within (word w.If ▸ parens (expr.spell c) ▸ spell_block b))
   spell (if_else attrs p c b d) =
-      spell_attributes attrs ▸ at p (within (word w.If ▸ parens (expr.spell c) ▸ spell_block b ▸ word w.Else ▸ spell_block d))
+      spell_attributes attrs ▸ at p (within (word w.If ▸ parens
+      (expr.spell c) ▸ spell_block b ▸ word w.Else ▸ spell_block d))
 
   pub spell_all : Items → Phrase
   spell_all no_items = nothing
@@ -142,7 +153,8 @@ spell_ports None = nothing
 spell_ports (Some xs) = parens (between_commas spell_port xs)
 
 abbrev pub spell_module : Module → Phrase
-spell_module m = at m.pos (word w.Module ▸ a_name m.name ▸ spell_parameters m.parameters ▸ spell_ports m.ports ▸ sign s.Semicolon
+spell_module m =
+    at m.pos (word w.Module ▸ a_name m.name ▸ spell_parameters m.parameters ▸ spell_ports m.ports ▸ sign s.Semicolon
     ▸ spell_all (items m.items) ▸ word w.Endmodule)
 
 abbrev pub spell_modules : Pos → List Module → Phrase

@@ -1,6 +1,6 @@
--- What a part of a text spells: tokens in order, where its nodes begin, and what is open around them. A phrase has three
--- readings: the list of its kinds of tokens, the tokens that it is spelled by with their places, and the number of
--- constructs that are open at each token. Rule of this project.
+-- What a part of a text spells: tokens in order, where its nodes begin, and what is open around them. A phrase has
+-- three readings: the list of its kinds of tokens, the tokens that it is spelled by with their places, and the number
+-- of constructs that are open at each token. Rule of this project.
 use Rattle.std.specs.Prelude.{◌≡◌, ℕ, ◌+◌, Bool, true, false, List, [], ◌∷◌, ◌++◌, map}
 use Rattle.fv_base.specs.declared.pos.Pos.{Pos}
 use Rattle.fv_base.specs.declared.kind.Kind.{Kind}

@@ -1,6 +1,6 @@
--- Well formed items, modules and sources: names are names, an `else` belongs to the nearest `if`, both names in the head of
--- a loop are equal, each region ends in the list that it begins in, and each list has an element where the grammar wants
--- one. IEEE 1364-2005, sections 12.4 and A.1 to A.4.
+-- Well formed items, modules and sources: names are names, an `else` belongs to the nearest `if`, both names in the
+-- head of a loop are equal, each region ends in the list that it begins in, and each list has an element where the
+-- grammar wants one. IEEE 1364-2005, sections 12.4 and A.1 to A.4.
 use Rattle.std.specs.Prelude.{◌≡◌, ℕ, suc, All, Bool, true, false, List, [], ◌∷◌, Option, Some, None}
 use Rattle.fv_base.specs.declared.pos.Pos.{Pos}
 use Rattle.vl_tree.specs.declared.declaration.Declaration.{Declaration}
@@ -76,7 +76,8 @@ abbrev pub IsInstance : Instance → Type 0
 IsInstance x = IsName x.definition × AreOverrides x.overrides × IsName x.name × All IsConnection x.connections
 
 abbrev pub IsHead : LoopHead → Type 0
-IsHead x = IsName x.variable × (x.next_variable ≡ x.variable) × expr.IsWellFormed x.start × expr.IsWellFormed x.condition
+IsHead x =
+    IsName x.variable × (x.next_variable ≡ x.variable) × expr.IsWellFormed x.start × expr.IsWellFormed x.condition
     × expr.IsWellFormed x.next
 
 abbrev pub attributes_of : Item → Attributes

@@ -8,7 +8,8 @@ ghost use Rattle.vl_tree.specs.ItemSpelling as spec;
 
 /// Tokens that spell a tree, each at its place, are of the kinds that the tree spells.
 pub fn spelled_tokens_have_the_kinds()
-    ensures { (tree : Source) (tokens : List Token) → Spells (spec.spell_source tree) tokens [] → kinds_of tokens ≡ kinds (spec.spell_source tree) }
+    ensures { (tree : Source) (tokens : List Token) → Spells (spec.spell_source tree) tokens []
+        → kinds_of tokens ≡ kinds (spec.spell_source tree) }
 {}
 
 /// Each token that a tree spells has its number of open constructs.

@@ -11,7 +11,8 @@ beside (y ∷ ys) x zero k e n = refl
 beside (y ∷ ys) x (suc a) k e n = beside ys x a (length ys) refl (λ p. n (ap suc p ∙ sym e))
 
 -- a word among the words
-pub word_here : (net : Netlist) (w : ℕ) (words : List ℕ) (i x : ℕ) → AreNodesOf net w words → i < length words → x ≡ slice_index words i
+pub word_here : (net : Netlist) (w : ℕ) (words : List ℕ) (i x : ℕ) → AreNodesOf net w words → i < length words
+    → x ≡ slice_index words i
     → IsNodeOf net w x
 word_here net w [] i x h below e = absurd (omega arith)
 word_here net w (y ∷ ys) zero x h below e = let P : ℕ → Type 0 = λ k. IsNodeOf net w k in subst P (sym e) h.0

@@ -1,9 +1,12 @@
 -- Words by the bits of an address, the highest first.
-use Rattle.std.specs.Prelude.{◌≡◌, refl, ℕ, zero, suc, ◌+◌, ◌-◌, ◌*◌, ◌/◌, ◌%◌, ◌<◌, ◌≤◌, ◌^◌, ◌==◌, nat_lt, min, Bool, true, false, if◌then◌else◌, List, [], ◌∷◌, ◌++◌, length, take, drop, slice_index_or, slice_get, slice_set, Some}
+use Rattle.std.specs.Prelude.{◌≡◌, refl, ℕ, zero, suc, ◌+◌, ◌-◌, ◌*◌, ◌/◌, ◌%◌, ◌<◌, ◌≤◌, ◌^◌, ◌==◌, nat_lt, min}
+use Rattle.std.specs.Prelude.{Bool, true, false, if◌then◌else◌, List, [], ◌∷◌, ◌++◌, length, take, drop}
+use Rattle.std.specs.Prelude.{slice_index_or, slice_get, slice_set, Some}
 use Rattle.std.specs.List.{AllByRecursion}
 use Rattle.std.proofs.Common.{ap, sym, ◌∙◌, arith, subst, add-one}
 use Rattle.std.proofs.lemmas.Bool.Decides.{nat_tests}
-use Rattle.std.proofs.lemmas.List.{get_or-take, get_or-drop, get_or_past, take_all, take_more_set, map_push, take-map, drop-map, length-map, length_push, length-drop}
+use Rattle.std.proofs.lemmas.List.{get_or-take, get_or-drop, get_or_past, take_all, take_more_set, map_push, take-map}
+use Rattle.std.proofs.lemmas.List.{drop-map, length-map, length_push, length-drop}
 use Rattle.std.proofs.lemmas.Nat.{pow_pos, mod_below, shr-shr, div-add-mod', mod-mul-add}
 use Rattle.std.proofs.Math.Nat.{mod-eq_of_lt}
 use Rattle.std.proofs.Math.Pow.{pow_mono, shr_mod}
@@ -31,7 +34,8 @@ below xs first m past = by (nat_lt m first) refl
     by false e = ap (λ ys. word_at ys m) (take_all first xs (past (grind (arith, nat_tests, e))))
 
 -- the words behind them
-above : (xs : List ℕ) (h first m : ℕ) → first ≤ h → (first < h → length xs ≤ first) → word_at (drop first xs) m ≡ word_at xs (1 * h + m)
+above : (xs : List ℕ) (h first m : ℕ) → first ≤ h → (first < h → length xs ≤ first)
+    → word_at (drop first xs) m ≡ word_at xs (1 * h + m)
 above xs h first m within past = by (nat_lt first h) refl
   where
     by : (b : Bool) → nat_lt first h ≡ b → word_at (drop first xs) m ≡ word_at xs (1 * h + m)
@@ -40,10 +44,12 @@ above xs h first m within past = by (nat_lt first h) refl
         get_or-drop first xs m 0 ∙ ap (word_at xs) same
     by true e =
         let short : length xs ≤ first = past (grind (arith, nat_tests, e)) in
-        get_or-drop first xs m 0 ∙ get_or_past xs (first + m) 0 (omega (arith, short)) ∙ sym (get_or_past xs (1 * h + m) 0 (omega (arith, short, within)))
+        get_or-drop first xs m 0 ∙ get_or_past xs (first + m) 0 (omega (arith, short))
+        ∙ sym (get_or_past xs (1 * h + m) 0 (omega (arith, short, within)))
 
 -- the highest bit says in which half a word is; a half may be shorter
-pub halved : (xs : List ℕ) (h first b m : ℕ) → first ≤ h → first ≤ length xs → (first < h → length xs ≤ first) → b < 2 → m < h
+pub halved : (xs : List ℕ) (h first b m : ℕ) → first ≤ h → first ≤ length xs → (first < h → length xs ≤ first)
+    → b < 2 → m < h
     → word_at xs (b * h + m) ≡ (if b == 1 then word_at (drop first xs) m else word_at (take first xs) m)
 halved xs h first zero m within most past small less =
     let e : 0 * h + m ≡ m = omega arith in
@@ -95,15 +101,18 @@ zero_on old new id h z = record {
 }
 
 -- the words at two halves of the bits
-pub among_value : (old one two new : Netlist) (g : Given) (words bits : List ℕ) (w top : ℕ) (rest front back : List ℕ) (half low high found : ℕ)
-    → front ≡ take half words → back ≡ drop half words → IsNet old → IsGiven old g → bits ≡ top ∷ rest → AreNodesOf old 1 bits → AreNodesOf old w words
+pub among_value : (old one two new : Netlist) (g : Given) (words bits : List ℕ) (w top : ℕ)
+    (rest front back : List ℕ) (half low high found : ℕ)
+    → front ≡ take half words → back ≡ drop half words → IsNet old → IsGiven old g → bits ≡ top ∷ rest
+    → AreNodesOf old 1 bits → AreNodesOf old w words
     → half ≤ 2 ^ length rest → half ≤ length words → (half < 2 ^ length rest → length words ≤ half)
     → AddsNodes old one → AddsNodes one two → IsNode one low
     → value_at one g low ≡ word_at (numbers_of old g front) (number_of (numbers_of old g rest))
     → value_at two g high ≡ word_at (numbers_of one g back) (number_of (numbers_of one g rest))
     → value_at new g found ≡ (if value_at two g top == 1 then value_at two g high else value_at two g low)
     → value_at new g found ≡ word_at (numbers_of old g words) (number_of (numbers_of old g bits))
-among_value old one two new g words bits w top rest front back half low high found front_is back_is whole given split own words_own within most past first second low_own low_is high_is found_is =
+among_value old one two new g words bits w top rest front back half low high found front_is back_is whole given split
+    own words_own within most past first second low_own low_is high_is found_is =
     let nums = numbers_of old g words in
     let h = 2 ^ length rest in
     let P : List ℕ → Type 0 = λ ids. AreNodesOf old 1 ids in
@@ -113,13 +122,15 @@ among_value old one two new g words bits w top rest front back half low high fou
     let small : b < 2 ^ 1 = value_within old g 1 top whole given both.0 in
     let less0 = number_below (numbers_of old g rest) (bits_below old g rest whole given both.1) in
     let less : m < h = omega (arith, less0, ap (λ k. 2 ^ k) (length-map rest (value_at old g))) in
-    let top_is : value_at two g top ≡ b = value_on one two g top second (there_on old one top first both.0.0) ∙ value_on old one g top first both.0.0 in
+    let top_is : value_at two g top ≡ b = value_on one two g top second (there_on old one top first both.0.0)
+    ∙ value_on old one g top first both.0.0 in
     let low_now : value_at two g low ≡ word_at (take half nums) m =
     value_on one two g low second low_own ∙ low_is ∙ ap (λ ids. word_at (numbers_of old g ids) m) front_is
     ∙ ap (λ xs. word_at xs m) (sym (take-map (value_at old g) half words)) in
     let high_now : value_at two g high ≡ word_at (drop half nums) m =
     high_is ∙ ap (λ ids. word_at (numbers_of one g ids) (number_of (numbers_of one g rest))) back_is
-    ∙ (λ i. word_at (numbers_on old one w g (drop half words) first (last_nodes old w half words words_own) i) (number_of (numbers_on old one 1 g rest first both.1 i)))
+    ∙ (λ i. word_at (numbers_on old one w g (drop half words) first (last_nodes old w half words words_own) i)
+    (number_of (numbers_on old one 1 g rest first both.1 i)))
     ∙ ap (λ xs. word_at xs m) (sym (drop-map (value_at old g) half words)) in
     found_is
     ∙ (λ i. if top_is i == 1 then high_now i else low_now i)
@@ -163,16 +174,19 @@ bits_next v count i b n below b_is n_is =
     ∙ low_next (v / 2 ^ k) i
     ∙ ap (λ c. v / 2 ^ c % 2 ^ (i + 1)) (sym f)
 
-pub push_node : (net : Netlist) (w : ℕ) (ids : List ℕ) (id : ℕ) → AreNodesOf net w ids → IsNodeOf net w id → AreNodesOf net w (ids ++ id ∷ [])
+pub push_node : (net : Netlist) (w : ℕ) (ids : List ℕ) (id : ℕ) → AreNodesOf net w ids → IsNodeOf net w id
+    → AreNodesOf net w (ids ++ id ∷ [])
 push_node net w [] id h k = (k, tt)
 push_node net w (x ∷ xs) id h k = (h.0, push_node net w xs id h.1 k)
 
 -- one more bit of the address
-pub next_bit : (old now new : Netlist) (g : Given) (bits : List ℕ) (addr count i bit : ℕ) → AddsNodes old now → AddsNodes now new → IsNode old addr
+pub next_bit : (old now new : Netlist) (g : Given) (bits : List ℕ) (addr count i bit : ℕ) → AddsNodes old now
+    → AddsNodes now new → IsNode old addr
     → AreNodesOf now 1 (take i bits) → i < length bits → i < count
     → number_of (numbers_of now g (take i bits)) ≡ value_at old g addr / 2 ^ (count - i) % 2 ^ i
     → value_at new g bit ≡ part (count - 1 - i) 1 (value_at now g addr)
-    → number_of (numbers_of new g (take (i + 1) (slice_set bits i bit))) ≡ value_at old g addr / 2 ^ (count - (i + 1)) % 2 ^ (i + 1)
+    → number_of (numbers_of new g (take (i + 1) (slice_set bits i bit)))
+    ≡ value_at old g addr / 2 ^ (count - (i + 1)) % 2 ^ (i + 1)
 next_bit old now new g bits addr count i bit first second there own room below so_far is =
     ap (λ ids. number_of (numbers_of new g ids)) (take_more_set bits i bit room)
     ∙ ap number_of (map_push (value_at new g) (take i bits) bit)
@@ -182,11 +196,13 @@ next_bit old now new g bits addr count i bit first second there own room below s
     (is ∙ ap (λ v. part (count - 1 - i) 1 v) (value_on old now g addr first there)) so_far
 
 -- a constant's value
-pub constant_value : (net : Netlist) (g : Given) (nodes : List Node) (id : ℕ) (word : Word) (d : Node) → IsNet net → nodes ≡ net.nodes
+pub constant_value : (net : Netlist) (g : Given) (nodes : List Node) (id : ℕ) (word : Word) (d : Node) → IsNet net
+    → nodes ≡ net.nodes
     → id < length net.nodes → slice_index_or nodes id d ≡ n.Konst word → value_at net g id ≡ number word
 constant_value net g nodes id word d whole nodes_are below read =
     let P : List Node → Type 0 = λ xs. slice_get xs id ≡ Some (n.Konst word) in
-    each_value net g id (n.Konst word) whole (subst P nodes_are (found nodes id d (n.Konst word) (omega (arith, ap length nodes_are, below)) read))
+    each_value net g id (n.Konst word) whole
+    (subst P nodes_are (found nodes id d (n.Konst word) (omega (arith, ap length nodes_are, below)) read))
   where
     found : (xs : List Node) (i : ℕ) (y z : Node) → i < length xs → slice_index_or xs i y ≡ z → slice_get xs i ≡ Some z
     found [] i y z h e = absurd (omega arith)
@@ -207,7 +223,8 @@ narrow net g addr count x whole given few =
     ap (λ q. if q == 0 then x else 0) (sym none)
 
 -- a choice by a test of these bits
-pub low_choice : (r l h n f z v count rest f0 : ℕ) → r ≡ (if l == 1 then f else z) → l ≡ bit (h == n) → h ≡ part count rest v → n ≡ 0
+pub low_choice : (r l h n f z v count rest f0 : ℕ) → r ≡ (if l == 1 then f else z) → l ≡ bit (h == n)
+    → h ≡ part count rest v → n ≡ 0
     → f ≡ f0 → z ≡ 0 → v < 2 ^ (rest + count) → r ≡ (if v / 2 ^ count == 0 then f0 else 0)
 low_choice r l h n f z v count rest f0 r_is l_is h_is n_is f_is z_is fits =
     r_is
@@ -216,7 +233,8 @@ low_choice r l h n f z v count rest f0 r_is l_is h_is n_is f_is z_is fits =
     ∙ (λ i. if h_is i == n_is i then f0 else 0)
     ∙ ap (λ q. if q == 0 then f0 else 0) (shr_mod rest count fits)
 
-pub address_fits : (net : Netlist) (g : Given) (addr count rest : ℕ) → IsNet net → IsGiven net g → rest + count ≡ width_at net addr
+pub address_fits : (net : Netlist) (g : Given) (addr count rest : ℕ) → IsNet net → IsGiven net g
+    → rest + count ≡ width_at net addr
     → value_at net g addr < 2 ^ (rest + count)
 address_fits net g addr count rest whole given e =
     let P : ℕ → Type 0 = λ w. value_at net g addr < 2 ^ w in subst P (sym e) (value_below net g whole given addr)
@@ -231,7 +249,8 @@ back_own old one z half words back adds there own e =
     subst Q (sym e) (subst P (sym (adds.keeps.widths z there))
     (nodes_on old one (width_at old z) (drop half words) adds (last_nodes old (width_at old z) half words own)))
 
-pub rest_own : (old one : Netlist) (bits rest : List ℕ) (top : ℕ) → AddsNodes old one → bits ≡ top ∷ rest → AreNodesOf old 1 bits → AreNodesOf one 1 rest
+pub rest_own : (old one : Netlist) (bits rest : List ℕ) (top : ℕ) → AddsNodes old one → bits ≡ top ∷ rest
+    → AreNodesOf old 1 bits → AreNodesOf one 1 rest
 rest_own old one bits rest top adds e own =
     let P : List ℕ → Type 0 = λ ids. AreNodesOf old 1 ids in
     nodes_on old one 1 rest adds (let both : AreNodesOf old 1 (top ∷ rest) = subst P e own in both.1)
@@ -245,21 +264,26 @@ back_short words back bits rest top half e enough half_is back_is =
 
 -- ---- the whole tree
 
-pub tree_word : (xs : List ℕ) (v count reached r : ℕ) → reached ≡ min (length xs) (2 ^ count) → (2 ^ count < length xs → v < 2 ^ count)
+pub tree_word : (xs : List ℕ) (v count reached r : ℕ) → reached ≡ min (length xs) (2 ^ count)
+    → (2 ^ count < length xs → v < 2 ^ count)
     → r ≡ (if v / 2 ^ count == 0 then word_at (take reached xs) (low count v) else 0) → r ≡ word_at xs v
 tree_word xs v count reached r reached_is long e = e ∙ by (v / 2 ^ count == 0) refl
   where
-    by : (b : Bool) → (v / 2 ^ count == 0) ≡ b → (if b then word_at (take reached xs) (low count v) else 0) ≡ word_at xs v
+    by : (b : Bool) → (v / 2 ^ count == 0) ≡ b
+        → (if b then word_at (take reached xs) (low count v) else 0) ≡ word_at xs v
     by true t =
         let none : v / 2 ^ count ≡ 0 = grind (arith, nat_tests, t) in
         let fits : v < 2 ^ count = none_left v count none in
-        ap (word_at (take reached xs)) (mod-eq_of_lt fits) ∙ below xs reached v (λ k. omega (arith, reached_is, fits, k))
+        ap (word_at (take reached xs)) (mod-eq_of_lt fits)
+        ∙ below xs reached v (λ k. omega (arith, reached_is, fits, k))
     by false t =
         let some : v / 2 ^ count ≡ 0 → ⊥ = grind (arith, nat_tests, t) in
         sym (get_or_past xs v 0 (over some (nat_lt v (2 ^ count)) refl (nat_lt (2 ^ count) (length xs)) refl))
       where
-        over : (v / 2 ^ count ≡ 0 → ⊥) → (b : Bool) → nat_lt v (2 ^ count) ≡ b → (d : Bool) → nat_lt (2 ^ count) (length xs) ≡ d → length xs ≤ v
-        over some true t d u = absurd (some (left_of_fits v count (let less : v < 2 ^ count = grind (arith, nat_tests, t) in less)))
+        over : (v / 2 ^ count ≡ 0 → ⊥) → (b : Bool) → nat_lt v (2 ^ count) ≡ b → (d : Bool)
+            → nat_lt (2 ^ count) (length xs) ≡ d → length xs ≤ v
+        over some true t d u =
+            absurd (some (left_of_fits v count (let less : v < 2 ^ count = grind (arith, nat_tests, t) in less)))
         over some false t true u =
             let more : 2 ^ count < length xs = grind (arith, nat_tests, u) in
             absurd (some (left_of_fits v count (long more)))
@@ -268,20 +292,24 @@ tree_word xs v count reached r reached_is long e = e ∙ by (v / 2 ^ count == 0)
             let past : 2 ^ count ≤ v = grind (arith, nat_tests, t) in
             omega (arith, most, past)
 
-pub tree_value : (old one two new : Netlist) (g : Given) (words front bits : List ℕ) (w addr count reached found chosen : ℕ) → IsNet old → IsGiven old g
+pub tree_value : (old one two new : Netlist) (g : Given) (words front bits : List ℕ)
+    (w addr count reached found chosen : ℕ) → IsNet old → IsGiven old g
     → AddsNodes old one → AddsNodes one two → IsNode old addr → AreNodesOf old w words → front ≡ take reached words
     → reached ≡ min (length words) (2 ^ count) → (2 ^ count < length words → width_at old addr ≤ count)
     → number_of (numbers_of one g bits) ≡ low count (value_at old g addr)
     → value_at two g found ≡ word_at (numbers_of one g front) (number_of (numbers_of one g bits))
     → value_at new g chosen ≡ (if value_at two g addr / 2 ^ count == 0 then value_at two g found else 0)
     → value_at new g chosen ≡ word_at (numbers_of old g words) (value_at old g addr)
-tree_value old one two new g words front bits w addr count reached found chosen whole given first second there own front_is reached_is narrow_if bits_are found_is chosen_is =
+tree_value old one two new g words front bits w addr count reached found chosen whole given first second there own
+    front_is reached_is narrow_if bits_are found_is chosen_is =
     let nums = numbers_of old g words in
     let v = value_at old g addr in
     let long : length nums ≡ length words = length-map words (value_at old g) in
-    let addr_is : value_at two g addr ≡ v = value_on one two g addr second (there_on old one addr first there) ∙ value_on old one g addr first there in
+    let addr_is : value_at two g addr ≡ v = value_on one two g addr second (there_on old one addr first there)
+    ∙ value_on old one g addr first there in
     let front_are : numbers_of one g front ≡ take reached nums =
-    ap (numbers_of one g) front_is ∙ numbers_on old one w g (take reached words) first (first_nodes old w reached words own)
+    ap (numbers_of one g) front_is ∙ numbers_on old one w g (take reached words) first
+    (first_nodes old w reached words own)
     ∙ sym (take-map (value_at old g) reached words) in
     let found_now : value_at two g found ≡ word_at (take reached nums) (low count v) =
     found_is ∙ (λ i. word_at (front_are i) (bits_are i)) in

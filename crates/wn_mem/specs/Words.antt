@@ -21,7 +21,8 @@ numbers_of net g words = map (value_at net g) words
 -- the numbers of the words after a write
 abbrev pub after_write : Netlist → Given → List ℕ → MemWrite → List ℕ
 after_write net g words w =
-    written (words_width net words) (numbers_of net g words) (value_at net g w.enable) (value_at net g w.addr) (value_at net g w.mask)
+    written (words_width net words) (numbers_of net g words) (value_at net g w.enable) (value_at net g w.addr)
+    (value_at net g w.mask)
     (value_at net g w.value)
 
 -- two nodes are the bits that a write writes, and the mask of the bits that it keeps

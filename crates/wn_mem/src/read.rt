@@ -26,8 +26,8 @@ fn zero_of(net: &mut Net, id: NodeId) -> Result<NodeId, Memory>
     Ok(zero)
 }
 
-/// The word at the address with these bits, the highest first, and else the node that is 0: halves of the words, of which
-/// the highest bit takes one.
+/// The word at the address with these bits, the highest first, and else the node that is 0: halves of the words, of
+/// which the highest bit takes one.
 fn word_among(
     net: &mut Net,
     words: &[NodeId],
@@ -42,7 +42,8 @@ fn word_among(
     ensures adds { AddsNodes net.old net.new }
     ensures there { IfOk result (IsNodeOf net.new (width_at net.old zero)) }
     ensures value { IfOk result (λ id. (g : Given) → IsGiven net.old g
-        → value_at net.new g id ≡ word_at (numbers_of net.old g words.now) (number_of (numbers_of net.old g bits.now))) }
+        → value_at net.new g id ≡ word_at (numbers_of net.old g words.now)
+        (number_of (numbers_of net.old g bits.now))) }
 {
     let Some(first) = words.first() else {
         return Ok(zero);

@@ -1,7 +1,8 @@
 //! One write to a memory.
 #![tactic(auto, using(wn_net::proofs::Laws::additions))]
 
-ghost use Rattle.std.specs.Prelude.{◌≡◌, ◌==◌, ◌&&◌, bit_and, bit_or, if◌then◌else◌, ◌<◌, ◌≤◌, ◌^◌, length, map, slice_index, IfOk, OnOk, OnErr};
+ghost use Rattle.std.specs.Prelude.{◌≡◌, ◌==◌, ◌&&◌, bit_and, bit_or, if◌then◌else◌, ◌<◌, ◌≤◌, ◌^◌, length, map};
+ghost use Rattle.std.specs.Prelude.{slice_index, IfOk, OnOk, OnErr};
 ghost use Rattle.fv_base.specs.Word as kept_word;
 ghost use Rattle.fv_bits.specs.Bits.{bit, masked};
 ghost use Rattle.wn_net.specs.Value.{Given};
@@ -42,7 +43,8 @@ fn acts_on(net: &mut Net, write: &MemWrite, number: Word) -> Result<NodeId, Memo
     ensures adds { AddsNodes net.old net.new }
     ensures there { IfOk result (IsNodeOf net.new 1) }
     ensures value { IfOk result (λ id. (g : Given) → value_at net.new g id
-        ≡ bit_and (value_at net.old g write.now.enable) (bit (value_at net.old g write.now.addr == kept_word.number number))) }
+        ≡ bit_and (value_at net.old g write.now.enable)
+        (bit (value_at net.old g write.now.addr == kept_word.number number))) }
 {
     let number = net.konst(number)?;
     let hit = net.eq(write.addr, number)?;
@@ -58,7 +60,8 @@ fn changed_word(net: &mut Net, word: NodeId, shared: Shared) -> Result<NodeId, M
     ensures adds { AddsNodes net.old net.new }
     ensures there { IfOk result (IsNodeOf net.new (width_at net.old word)) }
     ensures value { IfOk result (λ id. (g : Given) → value_at net.new g id
-        ≡ bit_or (value_at net.old g shared.written) (bit_and (value_at net.old g shared.kept) (value_at net.old g word))) }
+        ≡ bit_or (value_at net.old g shared.written)
+        (bit_and (value_at net.old g shared.kept) (value_at net.old g word))) }
 {
     let kept = net.and(shared.kept, word)?;
     let changed = net.or(shared.written, kept)?;
@@ -79,8 +82,10 @@ fn word_after(
     ensures adds { AddsNodes net.old net.new }
     ensures there { IfOk result (IsNodeOf net.new (width_at net.old word)) }
     ensures value { IfOk result (λ id. (g : Given) → IsGiven net.old g
-        → value_at net.new g id ≡ (if (value_at net.old g write.now.enable == 1) && (value_at net.old g write.now.addr == number)
-        then masked (width_at net.old word) (value_at net.old g write.now.mask) (value_at net.old g word) (value_at net.old g write.now.value)
+        → value_at net.new g id ≡ (if (value_at net.old g write.now.enable == 1)
+        && (value_at net.old g write.now.addr == number)
+        then masked (width_at net.old word) (value_at net.old g write.now.mask) (value_at net.old g word)
+        (value_at net.old g write.now.value)
         else value_at net.old g word)) }
 {
     if is_other(net, write.addr, number) {

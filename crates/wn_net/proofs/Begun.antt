@@ -16,7 +16,8 @@ begun_same {A} xs ys e = let P : List A → Type 0 = λ zs. IsBegun xs zs in sub
 
 pub begun_push : {A : Type 0} (f : A → ℕ) (xs : List A) (x : A) → IsBegun (map f xs) (map f (xs ++ x ∷ []))
 begun_push f xs x =
-    let P : List ℕ → Type 0 = λ zs. IsBegun (map f xs) zs in subst P (sym (map_push f xs x)) (begun_more (map f xs) (f x ∷ []))
+    let P : List ℕ → Type 0 = λ zs. IsBegun (map f xs) zs
+    in subst P (sym (map_push f xs x)) (begun_more (map f xs) (f x ∷ []))
 
 pub longer_begun : {A : Type 0} (xs ys : List A) → IsBegun xs ys → length xs ≤ length ys
 longer_begun xs ys h = omega (arith, length-take (length xs) ys, ap length h)
@@ -41,7 +42,8 @@ begun_at (x ∷ xs) (y ∷ ys) (suc i) h below = begun_at xs ys i (tail h) (omeg
 
 -- a net that is left as it is
 pub keeps_none : (net : Netlist) → Keeps net net
-keeps_none net = record { longer = omega arith; widths = λ id below. refl; values = λ g id below. refl; given = λ g h. h }
+keeps_none net =
+    record { longer = omega arith; widths = λ id below. refl; values = λ g id below. refl; given = λ g h. h }
 
 pub grows_none : (net : Netlist) → Grows net net
 grows_none net = record {

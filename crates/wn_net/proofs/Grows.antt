@@ -46,7 +46,8 @@ all_wider s t ws (x ∷ xs) g fits =
       subst P (sym (width_wider s t ws x g fits.0)) (all_wider s t (ws ++ width s ws x ∷ []) xs g fits.1),
     )
 
-pub widths_wider : (s t : Shape) (ws : List ℕ) (xs : List Node) → IsWider s t → AreFitting s ws xs → widths t ws xs ≡ widths s ws xs
+pub widths_wider : (s t : Shape) (ws : List ℕ) (xs : List Node) → IsWider s t → AreFitting s ws xs
+    → widths t ws xs ≡ widths s ws xs
 widths_wider s t ws [] g fits = refl
 widths_wider s t ws (x ∷ xs) g fits =
     ap (λ w. widths t (ws ++ w ∷ []) xs) (width_wider s t ws x g fits.0)

@@ -1,8 +1,10 @@
 -- What a net keeps beside what it shows, and what it hands out.
-use Rattle.std.specs.Prelude.{◌≡◌, refl, ℕ, zero, suc, ◌<◌, ◌≤◌, List, [], ◌∷◌, ◌++◌, length, slice_index, slice_index_or, map, take, drop}
+use Rattle.std.specs.Prelude.{◌≡◌, refl, ℕ, zero, suc, ◌<◌, ◌≤◌, List, [], ◌∷◌, ◌++◌, length, slice_index}
+use Rattle.std.specs.Prelude.{slice_index_or, map, take, drop}
 use Rattle.std.specs.List.{AllByRecursion}
 use Rattle.std.proofs.Common.{ap, sym, ◌∙◌, arith, subst}
-use Rattle.std.proofs.lemmas.List.{length_push, take_at, take_all, take-take, take-append-drop, take-map, length-take-le, get_or_default}
+use Rattle.std.proofs.lemmas.List.{length_push, take_at, take_all, take-take, take-append-drop, take-map}
+use Rattle.std.proofs.lemmas.List.{length-take-le, get_or_default}
 use Rattle.wn_net.specs.declared.node.Node.{Node}
 use Rattle.wn_net.specs.Width.{Shape, IsWidth, width, widths, IsFitting}
 use Rattle.wn_net.specs.Net.{Netlist, IsNet, IsKept, shape_of, widths_of, width_at}
@@ -13,7 +15,8 @@ use Rattle.wn_net.proofs.Small.{AreWidths, AreSmall, widths_small}
 use Rattle.wn_net.proofs.Stays.{with_node_whole, widths_of-with_node, length-widths_of}
 
 -- the widths of a net are from 1 to 128
-pub each : {A : Type 0} (P Q : A → Type 0) (xs : List A) → ((x : A) → P x → Q x) → AllByRecursion P xs → AllByRecursion Q xs
+pub each : {A : Type 0} (P Q : A → Type 0) (xs : List A) → ((x : A) → P x → Q x) → AllByRecursion P xs
+    → AllByRecursion Q xs
 each P Q [] f h = tt
 each P Q (x ∷ xs) f h = (f x h.0, each P Q xs f h.1)
 
@@ -40,10 +43,17 @@ pub stored_width : (shown net : Netlist) (stored : List ℕ) (id r : ℕ) → Is
     → id < length net.nodes → r ≡ slice_index_or stored id r → r ≡ width_at net id
 unfolding width_at
 stored_width shown net stored id r h e below read =
-    let long : id < length stored = omega (arith, ap length h.widths, length-widths_of shown, ap (λ n. length n.nodes) e) in
+    let long : id < length stored = omega (
+      arith,
+      ap length h.widths,
+      length-widths_of shown,
+      ap
+          (λ n. length n.nodes) e,
+    ) in
     read ∙ get_or_default stored id r 0 long ∙ ap (λ ws. slice_index ws id) h.widths ∙ ap (λ n. width_at n id) e
 
-pub stored_long : (shown net : Netlist) (stored : List ℕ) → IsKept shown stored → shown ≡ net → length stored ≡ length net.nodes
+pub stored_long : (shown net : Netlist) (stored : List ℕ) → IsKept shown stored → shown ≡ net
+    → length stored ≡ length net.nodes
 stored_long shown net stored h e = ap length h.widths ∙ length-widths_of shown ∙ ap (λ n. length n.nodes) e
 
 pub width_at_small : (shown net : Netlist) (stored : List ℕ) (id : ℕ) → IsKept shown stored → shown ≡ net
@@ -54,8 +64,10 @@ width_at_small shown net stored id h e below =
     subst P e (widths_of_small shown h.whole id (omega (arith, length-widths_of shown, ap (λ n. length n.nodes) e)))
 
 -- one more node
-pub kept_with_node : (shown net : Netlist) (x : Node) (w : ℕ) (ns : List Node) (ws stored : List ℕ) → IsKept shown stored → shown ≡ net
-    → IsFitting (shape_of net) (widths_of net) x → w ≡ width_in net x → ns ≡ shown.nodes ++ x ∷ [] → ws ≡ stored ++ w ∷ []
+pub kept_with_node : (shown net : Netlist) (x : Node) (w : ℕ) (ns : List Node) (ws stored : List ℕ)
+    → IsKept shown stored → shown ≡ net
+    → IsFitting (shape_of net) (widths_of net) x → w ≡ width_in net x → ns ≡ shown.nodes ++ x ∷ []
+    → ws ≡ stored ++ w ∷ []
     → IsKept (record shown { nodes = ns }) ws
 kept_with_node shown net x w ns ws stored h e fits wide nodes_are widths_are =
     let P : List Node → Type 0 = λ ns. IsKept (record shown { nodes = ns }) ws in
@@ -63,7 +75,8 @@ kept_with_node shown net x w ns ws stored h e fits wide nodes_are widths_are =
     subst P (sym nodes_are) (record {
       whole = with_node_whole shown x h.whole (subst F (sym e) fits);
       widths =
-          widths_are ∙ ap (λ us. us ++ w ∷ []) h.widths ∙ ap (λ v. widths_of shown ++ v ∷ []) (wide ∙ ap (λ n. width_in n x) (sym e))
+          widths_are ∙ ap (λ us. us ++ w ∷ []) h.widths
+          ∙ ap (λ v. widths_of shown ++ v ∷ []) (wide ∙ ap (λ n. width_in n x) (sym e))
           ∙ sym (widths_of-with_node shown x);
     })
 
@@ -111,7 +124,8 @@ kept_cut nodes regs net stored h within whole =
           ∙ widths_wider (shape_of (cut_to nodes regs net)) (shape_of net) [] (take nodes net.nodes) wider whole.nodes;
     }
 
-pub kept_cut_by : (nodes regs : ℕ) (shown net : Netlist) (stored : List ℕ) → IsKept shown stored → shown ≡ net → nodes ≤ length net.nodes
+pub kept_cut_by : (nodes regs : ℕ) (shown net : Netlist) (stored : List ℕ) → IsKept shown stored → shown ≡ net
+    → nodes ≤ length net.nodes
     → IsNet (cut_to nodes regs net) → IsKept (cut_to nodes regs shown) (take nodes stored)
 kept_cut_by nodes regs shown net stored h e within whole =
     let P : Netlist → Type 0 = λ n. (nodes ≤ length n.nodes) × IsNet (cut_to nodes regs n) in
@@ -120,4 +134,5 @@ kept_cut_by nodes regs shown net stored h e within whole =
 
 pub shown_with_node : (shown net : Netlist) (x : Node) (ns : List Node) → shown ≡ net → ns ≡ shown.nodes ++ x ∷ []
     → record shown { nodes = ns } ≡ with_node net x
-shown_with_node shown net x ns e nodes_are = ap (λ us. record shown { nodes = us }) nodes_are ∙ ap (λ n. with_node n x) e
+shown_with_node shown net x ns e nodes_are =
+    ap (λ us. record shown { nodes = us }) nodes_are ∙ ap (λ n. with_node n x) e

@@ -1,5 +1,6 @@
 -- What a caller of several builders needs: nodes that were there stay, and one change follows another.
-use Rattle.std.specs.Prelude.{◌≡◌, refl, ℕ, zero, suc, ◌<◌, ◌≤◌, List, [], ◌∷◌, length, take, map, slice_index, Bool, Option, MatchOption, ℤ}
+use Rattle.std.specs.Prelude.{◌≡◌, refl, ℕ, zero, suc, ◌<◌, ◌≤◌, List, [], ◌∷◌, length, take, map, slice_index, Bool}
+use Rattle.std.specs.Prelude.{Option, MatchOption, ℤ}
 use Rattle.std.specs.List.{AllByRecursion}
 use Rattle.std.proofs.Common.{ap, sym, ◌∙◌, arith, subst}
 use Rattle.std.proofs.lemmas.List.{length_push, length-map}
@@ -16,7 +17,8 @@ use Rattle.wn_net.specs.declared.names.Spot.{Spot}
 use Rattle.wn_net.specs.Value.{Given}
 use Rattle.wn_net.specs.Net.{Netlist, IsNode, IsNodeOf, AreNodesOf, value_at}
 use Rattle.wn_net.specs.Given.{IsGiven}
-use Rattle.wn_net.specs.Changes.{IsBegun, Keeps, Grows, AddsNodes, AddsRegs, Builds, BuildsInput, BuildsReg, with_next, cut_to}
+use Rattle.wn_net.specs.Changes.{IsBegun, Keeps, Grows, AddsNodes, AddsRegs, Builds, BuildsInput, BuildsReg}
+use Rattle.wn_net.specs.Changes.{with_next, cut_to}
 use Rattle.wn_net.specs.Names.{IsRangeOf, IsPlaced, IsNameOf, AreSpotsOf, AreNamesOf}
 use Rattle.wn_net.proofs.Begun.{begun_self, begun_more, begun_on, begun_map, begun_at, longer_begun, begun_same}
 
@@ -63,15 +65,18 @@ node_on old new w id h own = (omega (arith, h.keeps.longer, own.0), h.keeps.widt
 pub there_on : (old new : Netlist) (id : ℕ) → AddsNodes old new → IsNode old id → IsNode new id
 there_on old new id h own = omega (arith, h.keeps.longer, own)
 
-pub nodes_on : (old new : Netlist) (w : ℕ) (ids : List ℕ) → AddsNodes old new → AreNodesOf old w ids → AreNodesOf new w ids
+pub nodes_on : (old new : Netlist) (w : ℕ) (ids : List ℕ) → AddsNodes old new → AreNodesOf old w ids
+    → AreNodesOf new w ids
 nodes_on old new w [] h own = tt
 nodes_on old new w (id ∷ ids) h own = (node_on old new w id h own.0, nodes_on old new w ids h own.1)
 
-pub value_on : (old new : Netlist) (g : Given) (id : ℕ) → AddsNodes old new → IsNode old id → value_at new g id ≡ value_at old g id
+pub value_on : (old new : Netlist) (g : Given) (id : ℕ) → AddsNodes old new → IsNode old id
+    → value_at new g id ≡ value_at old g id
 value_on old new g id h own = h.keeps.values g id own
 
 -- the node that is built is there
-pub built_node : (old new : Netlist) (x : Node) (w : ℕ) (m : Given → ℕ) (id : ℕ) → Builds old new x w m id → IsNodeOf new w id
+pub built_node : (old new : Netlist) (x : Node) (w : ℕ) (m : Given → ℕ) (id : ℕ) → Builds old new x w m id
+    → IsNodeOf new w id
 built_node old new x w m id h = (omega (arith, ap length h.nodes, length_push old.nodes x, h.last), h.width)
 
 -- the numbers of a cycle stay those of a cycle
@@ -122,10 +127,12 @@ built_reg old new r id h =
     }
 
 pub built_reg_node : (old new : Netlist) (r : Reg) (id : ℕ) → BuildsReg old new r id → IsNodeOf new r.width id
-built_reg_node old new r id h = (omega (arith, ap length h.nodes, length_push old.nodes (n.Reg (length old.regs)), h.last), h.width)
+built_reg_node old new r id h =
+    (omega (arith, ap length h.nodes, length_push old.nodes (n.Reg (length old.regs)), h.last), h.width)
 
 pub built_input_node : (old new : Netlist) (i : Input) (id : ℕ) → BuildsInput old new i id → IsNodeOf new i.width id
-built_input_node old new i id h = (omega (arith, ap length h.nodes, length_push old.nodes (n.Input (length old.inputs)), h.last), h.width)
+built_input_node old new i id h =
+    (omega (arith, ap length h.nodes, length_push old.nodes (n.Input (length old.inputs)), h.last), h.width)
 
 first_regs : (i next k : ℕ) (rs : List Reg) → k ≤ i → take k (with_next i next rs) ≡ take k rs
 first_regs i next k [] h = refl
@@ -134,7 +141,8 @@ first_regs zero next (suc k) (r ∷ rs) h = absurd (omega arith)
 first_regs (suc i) next (suc k) (r ∷ rs) h = ap (λ us. r ∷ us) (first_regs i next k rs (omega arith))
 
 -- a register that was added gets another next node
-pub next_on : (a b c : Netlist) (i next : ℕ) → AddsRegs a b → length a.regs ≤ i → c ≡ record b { regs = with_next i next b.regs } → Keeps b c
+pub next_on : (a b c : Netlist) (i next : ℕ) → AddsRegs a b → length a.regs ≤ i
+    → c ≡ record b { regs = with_next i next b.regs } → Keeps b c
     → AddsRegs a c
 next_on a b c i next h new e k =
     let more = longer_begun a.nodes b.nodes h.nodes in
@@ -150,7 +158,8 @@ next_on a b c i next h new e k =
     }
 
 pub regs_node_on : (old new : Netlist) (w id : ℕ) → AddsRegs old new → IsNodeOf old w id → IsNodeOf new w id
-regs_node_on old new w id h own = (omega (arith, longer_begun old.nodes new.nodes h.nodes, own.0), h.widths id own.0 ∙ own.1)
+regs_node_on old new w id h own =
+    (omega (arith, longer_begun old.nodes new.nodes h.nodes, own.0), h.widths id own.0 ∙ own.1)
 
 -- cut to the nodes and registers that were there, the net is as it was
 pub cut_back : (old new : Netlist) → AddsRegs old new → cut_to (length old.nodes) (length old.regs) new ≡ old
@@ -202,16 +211,19 @@ grows_on a b c h k =
     }
 
 pub grown_node : (old new : Netlist) (w id : ℕ) → Grows old new → IsNodeOf old w id → IsNodeOf new w id
-grown_node old new w id h own = (omega (arith, longer_begun old.nodes new.nodes h.nodes, own.0), h.widths id own.0 ∙ own.1)
+grown_node old new w id h own =
+    (omega (arith, longer_begun old.nodes new.nodes h.nodes, own.0), h.widths id own.0 ∙ own.1)
 
 pub grown_there : (old new : Netlist) (id : ℕ) → Grows old new → IsNode old id → IsNode new id
 grown_there old new id h own = omega (arith, longer_begun old.nodes new.nodes h.nodes, own)
 
-pub grown_nodes : (old new : Netlist) (w : ℕ) (ids : List ℕ) → Grows old new → AreNodesOf old w ids → AreNodesOf new w ids
+pub grown_nodes : (old new : Netlist) (w : ℕ) (ids : List ℕ) → Grows old new → AreNodesOf old w ids
+    → AreNodesOf new w ids
 grown_nodes old new w [] h own = tt
 grown_nodes old new w (id ∷ ids) h own = (grown_node old new w id h own.0, grown_nodes old new w ids h own.1)
 
-pub grown_value : (old new : Netlist) (g : Given) (id : ℕ) → Grows old new → IsNode old id → value_at new g id ≡ value_at old g id
+pub grown_value : (old new : Netlist) (g : Given) (id : ℕ) → Grows old new → IsNode old id
+    → value_at new g id ≡ value_at old g id
 grown_value old new g id h own = h.values g id own
 
 -- ---- names
@@ -221,8 +233,10 @@ place_on : (old new : Netlist) (w : ℕ) (output : Bool) (words : Option (ℤ ×
     → IsPlaced old w output words at → IsPlaced new w output words at
 place_on old new w output words (place.Node id) h own = (grown_node old new w id h own.0, own.1)
 place_on old new w output words (place.Mem m) h own =
-    let few : m < length (map (λ m. m.width) old.mems) = omega (arith, length-map old.mems (λ (m : Mem). m.width), own.0) in
-    let some : m < length (map (λ m. m.words) old.mems) = omega (arith, length-map old.mems (λ (m : Mem). m.words), own.0) in
+    let few : m < length (map (λ m. m.width) old.mems) = omega
+    (arith, length-map old.mems (λ (m : Mem). m.width), own.0) in
+    let some : m < length (map (λ m. m.words) old.mems) = omega
+    (arith, length-map old.mems (λ (m : Mem). m.words), own.0) in
     let more = longer_begun (map (λ m. m.width) old.mems) (map (λ m. m.width) new.mems) h.mem_widths in
     let P : ℕ → Type 0 = λ count. MatchOption words ⊥ (IsRangeOf count) in (
       omega (arith, few, more, length-map new.mems (λ (m : Mem). m.width)),
@@ -237,7 +251,8 @@ placed_on old new [] h own = tt
 placed_on old new (x ∷ xs) h own =
     (place_on old new x.width x.output x.words x.place h own.0, placed_on old new xs h own.1)
 
-spots_on : (names : Names) (ws vs : List ℕ) (spots : List Spot) → IsBegun ws vs → AreSpotsOf names ws spots → AreSpotsOf names vs spots
+spots_on : (names : Names) (ws vs : List ℕ) (spots : List Spot) → IsBegun ws vs → AreSpotsOf names ws spots
+    → AreSpotsOf names vs spots
 spots_on names ws vs [] h own = tt
 spots_on names [] vs (s ∷ ss) h own = absurd own
 spots_on names (w ∷ ws) [] (s ∷ ss) h own = absurd (omega (arith, longer_begun (w ∷ ws) [] h))
@@ -256,7 +271,14 @@ names_grow old new names h own = record {
   regs = spots_on names _ _ names.regs h.reg_widths own.regs;
   mems = own.mems;
   few_mems =
-      omega (arith, own.few_mems, longer_begun _ _ h.mem_widths, length-map old.mems (λ (m : Mem). m.width), length-map new.mems (λ (m : Mem). m.width));
+      omega (
+        arith,
+        own.few_mems,
+        longer_begun _ _ h.mem_widths,
+        length-map old.mems
+            (λ (m : Mem). m.width),
+        length-map new.mems (λ (m : Mem). m.width),
+      );
 }
 
 pub names_on : (old new : Netlist) (names : Names) → AddsNodes old new → AreNamesOf old names → AreNamesOf new names

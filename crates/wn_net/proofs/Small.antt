@@ -1,5 +1,6 @@
 -- Widths are from 1 to 128, and each value is below 2 to its width.
-use Rattle.std.specs.Prelude.{◌≡◌, refl, ℕ, zero, suc, ◌/◌, ◌^◌, ◌<◌, ◌≤◌, ◌==◌, Bool, true, false, List, [], ◌∷◌, ◌++◌, length, map, slice_index, if◌then◌else◌, nat_lt}
+use Rattle.std.specs.Prelude.{◌≡◌, refl, ℕ, zero, suc, ◌/◌, ◌^◌, ◌<◌, ◌≤◌, ◌==◌, Bool, true, false, List, [], ◌∷◌}
+use Rattle.std.specs.Prelude.{◌++◌, length, map, slice_index, if◌then◌else◌, nat_lt}
 use Rattle.std.proofs.Common.{ap, sym, arith, subst, lit<, lit≤}
 use Rattle.std.proofs.lemmas.Nat.{pow_pos, shr_le, and_le_l, or_lt, xor_lt, mod_below}
 use Rattle.std.proofs.lemmas.List.{get_or_append_left, length_push, get_or_push}
@@ -39,14 +40,16 @@ mems_alike [] (n ∷ ns) h = absurd h
 mems_alike (x ∷ ms) [] h = absurd h
 
 pub has_widths : (net : Netlist) (g : Given) → IsGiven net g → HasWidths (shape_of net) g
-has_widths net g h = record { inputs = h.inputs; regs = h.state.regs; words = words_below net.mems g.state.mems h.state.mems }
+has_widths net g h =
+    record { inputs = h.inputs; regs = h.state.regs; words = words_below net.mems g.state.mems h.state.mems }
 
 pub record AreSmall (s : Shape) : Type 0 where
   pub inputs : AreWidths s.inputs
   pub regs : AreWidths s.regs
   pub mems : AreWidths s.mems
 
-pub width_small : (s : Shape) (ws : List ℕ) (x : Node) → AreSmall s → AreWidths ws → IsFitting s ws x → IsWidth (width s ws x)
+pub width_small : (s : Shape) (ws : List ℕ) (x : Node) → AreSmall s → AreWidths ws → IsFitting s ws x
+    → IsWidth (width s ws x)
 width_small s ws (n.Konst word) small h fits = (word.some_bits, word.few_bits)
 width_small s ws (n.Input i) small h fits = small.inputs i fits
 width_small s ws (n.Reg i) small h fits = small.regs i fits
@@ -84,10 +87,12 @@ widths_push ws w h k i below = by (nat_lt i (length ws)) refl
         let same : length ws ≡ i = grind (arith, e, below, length_push ws w) in
         subst P (sym (get_or_push ws w 0 i same)) k
 
-pub widths_small : (s : Shape) (ws : List ℕ) (xs : List Node) → AreSmall s → AreWidths ws → AreFitting s ws xs → AreWidths (widths s ws xs)
+pub widths_small : (s : Shape) (ws : List ℕ) (xs : List Node) → AreSmall s → AreWidths ws → AreFitting s ws xs
+    → AreWidths (widths s ws xs)
 widths_small s ws [] small h fits = h
 widths_small s ws (x ∷ xs) small h fits =
-    widths_small s (ws ++ width s ws x ∷ []) xs small (widths_push ws (width s ws x) h (width_small s ws x small h fits.0)) fits.1
+    widths_small s (ws ++ width s ws x ∷ []) xs small
+    (widths_push ws (width s ws x) h (width_small s ws x small h fits.0)) fits.1
 
 -- numbers of w bits
 low_fits : (w n : ℕ) → low w n < 2 ^ w
@@ -126,22 +131,26 @@ value_fits s g ws vs (n.Eq a b) given h fits = bit_fits _
 value_fits s g ws vs (n.Ult a b) given h fits = bit_fits _
 value_fits s g ws vs (n.Slt a b) given h fits = bit_fits _
 value_fits s g ws vs (n.Shl a b) given h fits = low_fits (slice_index ws a) _
-value_fits s g ws vs (n.Lshr a b) given h fits = shifted_fits (slice_index ws a) (slice_index vs a) (slice_index vs b) (h a)
+value_fits s g ws vs (n.Lshr a b) given h fits =
+    shifted_fits (slice_index ws a) (slice_index vs a) (slice_index vs b) (h a)
 value_fits s g ws vs (n.Ashr a b) given h fits =
     either_fits (is_negative (slice_index ws a) (slice_index vs a)) _ _ (slice_index ws a)
     (complement_fits (slice_index ws a) _) (shifted_fits (slice_index ws a) (slice_index vs a) (slice_index vs b) (h a))
 value_fits s g ws vs (n.Concat a b) given h fits =
     joined_fits (slice_index ws a) (slice_index ws b) (slice_index vs a) (slice_index vs b) (h a) (h b)
 value_fits s g ws vs (n.Mux c a b) given h fits =
-    either_fits (slice_index vs c == 1) (slice_index vs a) (slice_index vs b) (slice_index ws a) (h a) (rw fits.2.2 (h b))
+    either_fits (slice_index vs c == 1) (slice_index vs a) (slice_index vs b) (slice_index ws a) (h a)
+    (rw fits.2.2 (h b))
 value_fits s g ws vs (n.Slice a at w) given h fits = low_fits w _
 value_fits s g ws vs (n.Zext a w) given h fits = omega (arith, h a, wider_le (slice_index ws a) w fits.1)
 value_fits s g ws vs (n.Sext a w) given h fits =
     let few = wider_le (slice_index ws a) w fits.1 in
-    either_fits (is_negative (slice_index ws a) (slice_index vs a)) _ _ w (omega (arith, h a, few)) (omega (arith, h a, few))
+    either_fits (is_negative (slice_index ws a) (slice_index vs a)) _ _ w (omega (arith, h a, few))
+    (omega (arith, h a, few))
 
 -- one more number, below 2 to one more width
-pub numbers_push : (ws vs : List ℕ) (w v : ℕ) → length ws ≡ length vs → ((i : ℕ) → slice_index vs i < 2 ^ slice_index ws i) → v < 2 ^ w
+pub numbers_push : (ws vs : List ℕ) (w v : ℕ) → length ws ≡ length vs
+    → ((i : ℕ) → slice_index vs i < 2 ^ slice_index ws i) → v < 2 ^ w
     → (i : ℕ) → slice_index (vs ++ v ∷ []) i < 2 ^ slice_index (ws ++ w ∷ []) i
 numbers_push [] [] w v e h k zero = k
 numbers_push [] [] w v e h k (suc i) = lit< tt
@@ -165,4 +174,5 @@ pub within_below : (ns : List ℕ) (w count : ℕ) → ((i : ℕ) → i < count 
 within_below [] w count h long i = pow_pos w
 within_below (n ∷ ns) w zero h long i = absurd (omega arith)
 within_below (n ∷ ns) w (suc count) h long zero = h 0 (omega arith)
-within_below (n ∷ ns) w (suc count) h long (suc i) = within_below ns w count (λ i b. h (suc i) (omega arith)) (omega arith) i
+within_below (n ∷ ns) w (suc count) h long (suc i) =
+    within_below ns w count (λ i b. h (suc i) (omega arith)) (omega arith) i

@@ -9,9 +9,11 @@ use Rattle.wn_net.specs.declared.parts.Mem.{Mem}
 use Rattle.wn_net.specs.declared.parts.MemWrite.{MemWrite}
 use Rattle.wn_net.specs.Width.{width, IsFitting}
 use Rattle.wn_net.specs.Value.{Given}
-use Rattle.wn_net.specs.Net.{Netlist, IsNet, IsNodeOf, IsRegOf, IsWriteOf, IsMemOf, AreNodes, shape_of, widths_of, values_of, width_at, value_at}
+use Rattle.wn_net.specs.Net.{Netlist, IsNet, IsNodeOf, IsRegOf, IsWriteOf, IsMemOf, AreNodes, shape_of, widths_of}
+use Rattle.wn_net.specs.Net.{values_of, width_at, value_at}
 use Rattle.wn_net.specs.Changes.{Keeps, Builds, width_in, value_in, with_node}
-use Rattle.wn_net.proofs.Sweep.{widths-append, values-append, length-widths, length-values, widths_begin, values_begin, fitting_both}
+use Rattle.wn_net.proofs.Sweep.{widths-append, values-append, length-widths, length-values, widths_begin}
+use Rattle.wn_net.proofs.Sweep.{values_begin, fitting_both}
 
 -- there are as many nodes or more, and those that were there have kept their widths
 pub record HasMore (old new : Netlist) : Type 0 where
@@ -26,13 +28,16 @@ nodes_stay old new [] more h = tt
 nodes_stay old new (id ∷ ids) more h = (omega (arith, more.longer, h.0), nodes_stay old new ids more h.1)
 
 pub reg_stays : (old new : Netlist) (r : Reg) → HasMore old new → IsRegOf old r → IsRegOf new r
-reg_stays old new r more h = record { width = h.width; init = h.init; next = node_stays old new r.width r.next more h.next }
+reg_stays old new r more h =
+    record { width = h.width; init = h.init; next = node_stays old new r.width r.next more h.next }
 
-pub regs_stay : (old new : Netlist) (rs : List Reg) → HasMore old new → AllByRecursion (IsRegOf old) rs → AllByRecursion (IsRegOf new) rs
+pub regs_stay : (old new : Netlist) (rs : List Reg) → HasMore old new → AllByRecursion (IsRegOf old) rs
+    → AllByRecursion (IsRegOf new) rs
 regs_stay old new [] more h = tt
 regs_stay old new (r ∷ rs) more h = (reg_stays old new r more h.0, regs_stay old new rs more h.1)
 
-pub write_stays : (old new : Netlist) (width : ℕ) (w : MemWrite) → HasMore old new → IsWriteOf old width w → IsWriteOf new width w
+pub write_stays : (old new : Netlist) (width : ℕ) (w : MemWrite) → HasMore old new → IsWriteOf old width w
+    → IsWriteOf new width w
 write_stays old new width w more h = record {
   enable = node_stays old new 1 w.enable more h.enable;
   addr = omega (arith, more.longer, h.addr);
@@ -40,10 +45,12 @@ write_stays old new width w more h = record {
   value = node_stays old new width w.value more h.value;
 }
 
-pub writes_stay : (old new : Netlist) (width : ℕ) (ws : List MemWrite) → HasMore old new → AllByRecursion (IsWriteOf old width) ws
+pub writes_stay : (old new : Netlist) (width : ℕ) (ws : List MemWrite) → HasMore old new
+    → AllByRecursion (IsWriteOf old width) ws
     → AllByRecursion (IsWriteOf new width) ws
 writes_stay old new width [] more h = tt
-writes_stay old new width (w ∷ ws) more h = (write_stays old new width w more h.0, writes_stay old new width ws more h.1)
+writes_stay old new width (w ∷ ws) more h =
+    (write_stays old new width w more h.0, writes_stay old new width ws more h.1)
 
 pub mem_stays : (old new : Netlist) (m : Mem) → HasMore old new → IsMemOf old m → IsMemOf new m
 mem_stays old new m more h = record {
@@ -54,7 +61,8 @@ mem_stays old new m more h = record {
   writes = writes_stay old new m.width m.writes more h.writes;
 }
 
-pub mems_stay : (old new : Netlist) (ms : List Mem) → HasMore old new → AllByRecursion (IsMemOf old) ms → AllByRecursion (IsMemOf new) ms
+pub mems_stay : (old new : Netlist) (ms : List Mem) → HasMore old new → AllByRecursion (IsMemOf old) ms
+    → AllByRecursion (IsMemOf new) ms
 mems_stay old new [] more h = tt
 mems_stay old new (m ∷ ms) more h = (mem_stays old new m more h.0, mems_stay old new ms more h.1)
 
@@ -65,10 +73,12 @@ length-widths_of net = omega (arith, length-widths (shape_of net) [] net.nodes)
 pub length-values_of : (net : Netlist) (g : Given) → length (values_of net g) ≡ length net.nodes
 length-values_of net g = omega (arith, length-values (shape_of net) g [] [] net.nodes)
 
-pub widths_of-with_node : (net : Netlist) (x : Node) → widths_of (with_node net x) ≡ widths_of net ++ width_in net x ∷ []
+pub widths_of-with_node : (net : Netlist) (x : Node)
+    → widths_of (with_node net x) ≡ widths_of net ++ width_in net x ∷ []
 widths_of-with_node net x = widths-append (shape_of net) [] net.nodes (x ∷ [])
 
-pub values_of-with_node : (net : Netlist) (g : Given) (x : Node) → values_of (with_node net x) g ≡ values_of net g ++ value_in net g x ∷ []
+pub values_of-with_node : (net : Netlist) (g : Given) (x : Node)
+    → values_of (with_node net x) g ≡ values_of net g ++ value_in net g x ∷ []
 values_of-with_node net g x = values-append (shape_of net) g [] [] net.nodes (x ∷ [])
 
 pub with_node_has_more : (net : Netlist) (x : Node) → HasMore net (with_node net x)
@@ -93,7 +103,8 @@ with_node_keeps net x = record {
       ∙ values_begin (shape_of net) g (widths_of net) (values_of net g) (x ∷ []) id less;
 }
 
-pub with_node_whole : (net : Netlist) (x : Node) → IsNet net → IsFitting (shape_of net) (widths_of net) x → IsNet (with_node net x)
+pub with_node_whole : (net : Netlist) (x : Node) → IsNet net → IsFitting (shape_of net) (widths_of net) x
+    → IsNet (with_node net x)
 with_node_whole net x h fits =
     let more = with_node_has_more net x in
     record {
@@ -107,7 +118,8 @@ with_node_whole net x h fits =
       few_inputs = h.few_inputs;
     }
 
-pub with_node_builds : (net : Netlist) (x : Node) → Builds net (with_node net x) x (width_in net x) (λ g. value_in net g x) (length net.nodes)
+pub with_node_builds : (net : Netlist) (x : Node)
+    → Builds net (with_node net x) x (width_in net x) (λ g. value_in net g x) (length net.nodes)
 unfolding width_at value_at
 with_node_builds net x = record {
   last = refl;

@@ -6,7 +6,8 @@ use Rattle.wn_net.specs.declared.node.Node.{Node}
 use Rattle.wn_net.specs.Width.{Shape, width, widths, AreFitting}
 use Rattle.wn_net.specs.Value.{Given, value, values}
 
-pub widths-append : (s : Shape) (ws : List ℕ) (xs ys : List Node) → widths s ws (xs ++ ys) ≡ widths s (widths s ws xs) ys
+pub widths-append : (s : Shape) (ws : List ℕ) (xs ys : List Node)
+    → widths s ws (xs ++ ys) ≡ widths s (widths s ws xs) ys
 widths-append s ws [] ys = refl
 widths-append s ws (x ∷ xs) ys = widths-append s (ws ++ width s ws x ∷ []) xs ys
 
@@ -24,7 +25,12 @@ pub length-values : (s : Shape) (g : Given) (ws vs : List ℕ) (xs : List Node)
     → length (values s g ws vs xs) ≡ length vs + length xs
 length-values s g ws vs [] = omega arith
 length-values s g ws vs (x ∷ xs) =
-    omega (arith, length-values s g (ws ++ width s ws x ∷ []) (vs ++ value g ws vs x ∷ []) xs, length_push vs (value g ws vs x))
+    omega (
+      arith,
+      length-values s g (ws ++ width s ws x ∷ []) (vs ++ value g ws vs x ∷ []) xs,
+      length_push vs
+          (value g ws vs x),
+    )
 
 -- those before have kept theirs
 pub widths_begin : (s : Shape) (ws : List ℕ) (xs : List Node) (i : ℕ) → i < length ws
@@ -38,7 +44,8 @@ pub values_begin : (s : Shape) (g : Given) (ws vs : List ℕ) (xs : List Node) (
     → slice_index (values s g ws vs xs) i ≡ slice_index vs i
 values_begin s g ws vs [] i h = refl
 values_begin s g ws vs (x ∷ xs) i h =
-    values_begin s g (ws ++ width s ws x ∷ []) (vs ++ value g ws vs x ∷ []) xs i (omega (arith, length_push vs (value g ws vs x)))
+    values_begin s g (ws ++ width s ws x ∷ []) (vs ++ value g ws vs x ∷ []) xs i
+    (omega (arith, length_push vs (value g ws vs x)))
     ∙ get_or_append_left vs (value g ws vs x ∷ []) 0 i h
 
 pub fitting_both : (s : Shape) (ws : List ℕ) (xs ys : List Node) → AreFitting s ws xs → AreFitting s (widths s ws xs) ys

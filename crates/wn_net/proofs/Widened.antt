@@ -1,5 +1,6 @@
 -- Nets with one more input, register or memory, or with a register or a memory changed.
-use Rattle.std.specs.Prelude.{◌≡◌, refl, ℕ, zero, suc, ◌-◌, ◌<◌, ◌≤◌, ◌^◌, List, [], ◌∷◌, ◌++◌, length, map, slice_index}
+use Rattle.std.specs.Prelude.{◌≡◌, refl, ℕ, zero, suc, ◌-◌, ◌<◌, ◌≤◌, ◌^◌, List, [], ◌∷◌, ◌++◌, length, map}
+use Rattle.std.specs.Prelude.{slice_index}
 use Rattle.std.specs.List.{AllByRecursion}
 use Rattle.std.proofs.Common.{ap, sym, ◌∙◌, arith, subst}
 use Rattle.std.proofs.lemmas.List.{length_push, get_or_push, map_push, length-map}
@@ -11,13 +12,15 @@ use Rattle.wn_net.specs.declared.parts.MemWrite.{MemWrite}
 use Rattle.wn_net.specs.declared.parts.Input.{Input}
 use Rattle.wn_net.specs.Width.{IsWidth, widths, AreFitting}
 use Rattle.wn_net.specs.Value.{Given, values}
-use Rattle.wn_net.specs.Net.{Netlist, IsNet, IsNode, IsNodeOf, IsInitOf, IsRegOf, IsWriteOf, IsMemOf, shape_of, widths_of, values_of, width_at, value_at}
+use Rattle.wn_net.specs.Net.{Netlist, IsNet, IsNode, IsNodeOf, IsInitOf, IsRegOf, IsWriteOf, IsMemOf, shape_of}
+use Rattle.wn_net.specs.Net.{widths_of, values_of, width_at, value_at}
 use Rattle.wn_net.specs.Given.{AreNumbersOf, AreMemsOf}
 use Rattle.wn_net.specs.Changes.{Keeps, Grows, BuildsInput, BuildsReg, with_node, with_mem, with_next, with_write}
 use Rattle.wn_net.proofs.Begun.{begun_self, begun_more, begun_same, begun_map}
 use Rattle.wn_net.proofs.Sweep.{fitting_both}
 use Rattle.wn_net.proofs.Grows.{Extends, IsWider, extends_self, extends_more, all_wider, widths_wider, values_wider}
-use Rattle.wn_net.proofs.Stays.{HasMore, regs_stay, mems_stay, nodes_stay, with_node_has_more, with_node_whole, with_node_builds}
+use Rattle.wn_net.proofs.Stays.{HasMore, regs_stay, mems_stay, nodes_stay, with_node_has_more, with_node_whole}
+use Rattle.wn_net.proofs.Stays.{with_node_builds}
 
 -- the same nodes over more inputs, registers or memories
 pub record IsWidened (old new : Netlist) : Type 0 where
@@ -35,7 +38,8 @@ widened_widths old new w h =
 
 pub widened_values : (old new : Netlist) (g : Given) → IsWidened old new → IsNet old → values_of new g ≡ values_of old g
 widened_values old new g w h =
-    ap (values (shape_of new) g [] []) w.nodes ∙ values_wider (shape_of old) (shape_of new) g [] [] old.nodes w.shape h.nodes
+    ap (values (shape_of new) g [] []) w.nodes
+    ∙ values_wider (shape_of old) (shape_of new) g [] [] old.nodes w.shape h.nodes
 
 -- there are as many nodes or more, and those that were there have kept their widths and values
 pub record NodesStay (old new : Netlist) : Type 0 where
@@ -62,7 +66,8 @@ extends_push f xs x =
 extends_same : (xs ys : List ℕ) → ys ≡ xs → Extends xs ys
 extends_same xs ys e = let P : List ℕ → Type 0 = λ zs. Extends xs zs in subst P (sym e) (extends_self xs)
 
-all_push : {A : Type 0} (P : A → Type 0) (xs : List A) (x : A) → AllByRecursion P xs → P x → AllByRecursion P (xs ++ x ∷ [])
+all_push : {A : Type 0} (P : A → Type 0) (xs : List A) (x : A) → AllByRecursion P xs → P x
+    → AllByRecursion P (xs ++ x ∷ [])
 all_push P [] x h k = (k, tt)
 all_push P (y ∷ ys) x h k = (h.0, all_push P ys x h.1 k)
 
@@ -97,7 +102,8 @@ inputs_widened net i = record {
   };
 }
 
-more_inputs_whole : (net : Netlist) (i : Input) → IsNet net → IsWidth i.width → length net.inputs < 2 ^ 32 - 1 → IsNet (more_inputs net i)
+more_inputs_whole : (net : Netlist) (i : Input) → IsNet net → IsWidth i.width → length net.inputs < 2 ^ 32 - 1
+    → IsNet (more_inputs net i)
 more_inputs_whole net i h wide few =
     let more = widened_has_more net (more_inputs net i) (inputs_widened net i) h in
     record {
@@ -113,14 +119,17 @@ more_inputs_whole net i h wide few =
 
 pub last_mapped : {A : Type 0} (f : A → ℕ) (xs : List A) (x : A) → slice_index (map f (xs ++ x ∷ [])) (length xs) ≡ f x
 last_mapped f xs x =
-    ap (λ ys. slice_index ys (length xs)) (map_push f xs x) ∙ get_or_push (map f xs) (f x) 0 (length xs) (length-map xs f)
+    ap (λ ys. slice_index ys (length xs)) (map_push f xs x)
+    ∙ get_or_push (map f xs) (f x) 0 (length xs) (length-map xs f)
 
-pub with_input_whole : (net : Netlist) (i : Input) → IsNet net → IsWidth i.width → length net.inputs < 2 ^ 32 - 1 → IsNet (with_input net i)
+pub with_input_whole : (net : Netlist) (i : Input) → IsNet net → IsWidth i.width → length net.inputs < 2 ^ 32 - 1
+    → IsNet (with_input net i)
 with_input_whole net i h wide few =
     with_node_whole (more_inputs net i) (n.Input (length net.inputs)) (more_inputs_whole net i h wide few)
     (omega (arith, length-map (net.inputs ++ i ∷ []) (λ (i : Input). i.width), length_push net.inputs i))
 
-pub with_input_builds : (net : Netlist) (i : Input) → IsNet net → BuildsInput net (with_input net i) i (length net.nodes)
+pub with_input_builds : (net : Netlist) (i : Input) → IsNet net
+    → BuildsInput net (with_input net i) i (length net.nodes)
 with_input_builds net i h =
     let mid = more_inputs net i in
     let built = with_node_builds mid (n.Input (length net.inputs)) in
@@ -165,7 +174,8 @@ regs_widened net r = record {
   };
 }
 
-pub with_reg_whole : (net : Netlist) (r : Reg) → IsNet net → IsWidth r.width → IsInitOf r.width r.init → r.next ≡ length net.nodes
+pub with_reg_whole : (net : Netlist) (r : Reg) → IsNet net → IsWidth r.width → IsInitOf r.width r.init
+    → r.next ≡ length net.nodes
     → length net.regs < 2 ^ 32 - 1 → IsNet (with_reg net r)
 with_reg_whole net r h wide init next few =
     let mid = more_regs net r in
@@ -248,7 +258,8 @@ with_mem_grows net m h =
       values = stay.values;
     }
 
-pub with_mem_whole : (net : Netlist) (m : Mem) → IsNet net → IsMemOf (with_mem net m) m → length net.mems < 2 ^ 32 - 1 → IsNet (with_mem net m)
+pub with_mem_whole : (net : Netlist) (m : Mem) → IsNet net → IsMemOf (with_mem net m) m
+    → length net.mems < 2 ^ 32 - 1 → IsNet (with_mem net m)
 with_mem_whole net m h own few =
     let new = with_mem net m in
     let more = widened_has_more net new (mems_widened net m) h in
@@ -282,7 +293,8 @@ next_widened net i next = record {
   nodes = refl;
   shape = record {
     inputs = extends_self (map (λ i. i.width) net.inputs);
-    regs = extends_same (map (λ r. r.width) net.regs) (map (λ r. r.width) (with_next i next net.regs)) (widths-with_next i next net.regs);
+    regs = extends_same (map (λ r. r.width) net.regs) (map (λ r. r.width) (with_next i next net.regs))
+        (widths-with_next i next net.regs);
     mems = extends_self (map (λ m. m.width) net.mems);
   };
 }
@@ -309,7 +321,8 @@ next_set_keeps net i next h =
           let P : List ℕ → Type 0 = λ ws. AreNumbersOf ws g.state.regs in
           record {
             inputs = k.inputs;
-            state = record { regs = subst P (sym (widths-with_next i next net.regs)) k.state.regs; mems = k.state.mems };
+            state =
+                record { regs = subst P (sym (widths-with_next i next net.regs)) k.state.regs; mems = k.state.mems };
           };
     }
 
@@ -329,7 +342,8 @@ next_set_grows net i next h =
       values = stay.values;
     }
 
-pub next_set_whole : (net : Netlist) (i next : ℕ) → IsNet net → IsNodeOf net (slice_index (map (λ r. r.width) net.regs) i) next
+pub next_set_whole : (net : Netlist) (i next : ℕ) → IsNet net
+    → IsNodeOf net (slice_index (map (λ r. r.width) net.regs) i) next
     → IsNet (next_set net i next)
 next_set_whole net i next h own =
     let new = next_set net i next in
@@ -349,7 +363,8 @@ next_set_whole net i next h own =
 abbrev pub write_added : Netlist → ℕ → MemWrite → Netlist
 write_added net i w = record net { mems = with_write i w net.mems }
 
-widths-with_write : (i : ℕ) (w : MemWrite) (ms : List Mem) → map (λ m. m.width) (with_write i w ms) ≡ map (λ m. m.width) ms
+widths-with_write : (i : ℕ) (w : MemWrite) (ms : List Mem)
+    → map (λ m. m.width) (with_write i w ms) ≡ map (λ m. m.width) ms
 widths-with_write i w [] = refl
 widths-with_write zero w (m ∷ ms) = refl
 widths-with_write (suc i) w (m ∷ ms) = ap (λ ws. m.width ∷ ws) (widths-with_write i w ms)
@@ -365,7 +380,8 @@ write_widened net i w = record {
   shape = record {
     inputs = extends_self (map (λ i. i.width) net.inputs);
     regs = extends_self (map (λ r. r.width) net.regs);
-    mems = extends_same (map (λ m. m.width) net.mems) (map (λ m. m.width) (with_write i w net.mems)) (widths-with_write i w net.mems);
+    mems = extends_same (map (λ m. m.width) net.mems) (map (λ m. m.width) (with_write i w net.mems))
+        (widths-with_write i w net.mems);
   };
 }
 
@@ -384,17 +400,20 @@ mems_with_write net zero w (m ∷ ms) h k = (
 )
 mems_with_write net (suc i) w (m ∷ ms) h k = (h.0, mems_with_write net i w ms h.1 k)
 
-words-with_write : (i : ℕ) (w : MemWrite) (ms : List Mem) → map (λ m. m.words) (with_write i w ms) ≡ map (λ m. m.words) ms
+words-with_write : (i : ℕ) (w : MemWrite) (ms : List Mem)
+    → map (λ m. m.words) (with_write i w ms) ≡ map (λ m. m.words) ms
 words-with_write i w [] = refl
 words-with_write zero w (m ∷ ms) = refl
 words-with_write (suc i) w (m ∷ ms) = ap (λ ws. m.words ∷ ws) (words-with_write i w ms)
 
-starts-with_write : (i : ℕ) (w : MemWrite) (ms : List Mem) → map (λ m. m.init) (with_write i w ms) ≡ map (λ m. m.init) ms
+starts-with_write : (i : ℕ) (w : MemWrite) (ms : List Mem)
+    → map (λ m. m.init) (with_write i w ms) ≡ map (λ m. m.init) ms
 starts-with_write i w [] = refl
 starts-with_write zero w (m ∷ ms) = refl
 starts-with_write (suc i) w (m ∷ ms) = ap (λ ws. m.init ∷ ws) (starts-with_write i w ms)
 
-mems_of-with_write : (i : ℕ) (w : MemWrite) (ms : List Mem) (ns : List (List ℕ)) → AreMemsOf ms ns → AreMemsOf (with_write i w ms) ns
+mems_of-with_write : (i : ℕ) (w : MemWrite) (ms : List Mem) (ns : List (List ℕ)) → AreMemsOf ms ns
+    → AreMemsOf (with_write i w ms) ns
 mems_of-with_write i w [] [] h = tt
 mems_of-with_write zero w (m ∷ ms) (n ∷ ns) h = (record { each = h.0.each; below = h.0.below }, h.1)
 mems_of-with_write (suc i) w (m ∷ ms) (n ∷ ns) h = (h.0, mems_of-with_write i w ms ns h.1)
@@ -431,7 +450,8 @@ write_added_grows net i w h =
       values = stay.values;
     }
 
-pub write_added_whole : (net : Netlist) (i : ℕ) (w : MemWrite) → IsNet net → IsWriteOf net (slice_index (map (λ m. m.width) net.mems) i) w
+pub write_added_whole : (net : Netlist) (i : ℕ) (w : MemWrite) → IsNet net
+    → IsWriteOf net (slice_index (map (λ m. m.width) net.mems) i) w
     → IsNet (write_added net i w)
 write_added_whole net i w h own =
     let new = write_added net i w in
@@ -463,7 +483,8 @@ assumed_whole net id h own =
       regs = regs_stay net (assumed net id) net.regs more h.regs;
       mems = mems_stay net (assumed net id) net.mems more h.mems;
       inputs = h.inputs;
-      assumes = nodes_stay net (assumed net id) (net.assumes ++ id ∷ []) more (all_push (IsNode net) net.assumes id h.assumes own);
+      assumes = nodes_stay net (assumed net id) (net.assumes ++ id ∷ []) more
+          (all_push (IsNode net) net.assumes id h.assumes own);
       few_regs = h.few_regs;
       few_mems = h.few_mems;
       few_inputs = h.few_inputs;

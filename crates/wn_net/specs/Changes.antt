@@ -15,15 +15,16 @@ use Rattle.wn_net.specs.Net.{Netlist, IsNodeOf, shape_of, widths_of, values_of, 
 abbrev pub IsBegun : {A : Type 0} → List A → List A → Type 0
 IsBegun xs ys = take (length xs) ys ≡ xs
 
--- Each node that was there has its width and its values, and the numbers of the old net's cycles are numbers of the new one's.
+-- Each node that was there has its width and its values, and the numbers of the old net's cycles are numbers of the
+-- new one's.
 pub record Keeps (old new : Netlist) : Type 0 where
   pub longer : length old.nodes ≤ length new.nodes
   pub widths : (id : ℕ) → id < length old.nodes → width_at new id ≡ width_at old id
   pub values : (g : Given) (id : ℕ) → id < length old.nodes → value_at new g id ≡ value_at old g id
   pub given : (g : Given) → IsGiven old g → IsGiven new g
 
--- Nothing goes: nodes, inputs and assumptions are added behind those that were there, and each register and memory that was
--- there has its width and its start. Next nodes and writes may have changed.
+-- Nothing goes: nodes, inputs and assumptions are added behind those that were there, and each register and memory
+-- that was there has its width and its start. Next nodes and writes may have changed.
 pub record Grows (old new : Netlist) : Type 0 where
   pub nodes : IsBegun old.nodes new.nodes
   pub inputs : IsBegun old.inputs new.inputs
@@ -63,8 +64,8 @@ pub record Builds (old new : Netlist) (node : Node) (bits : ℕ) (meaning : Give
   pub value : (g : Given) → value_at new g id ≡ meaning g
   pub adds : AddsNodes old new
 
--- The node is there with this width, and has this number in each cycle of the old net: what a function that adds several
--- nodes promises of the one that it answers.
+-- The node is there with this width, and has this number in each cycle of the old net: what a function that adds
+-- several nodes promises of the one that it answers.
 pub record Shows (old new : Netlist) (bits : ℕ) (meaning : Given → ℕ) (id : ℕ) : Type 0 where
   pub node : IsNodeOf new bits id
   pub value : (g : Given) → IsGiven old g → value_at new g id ≡ meaning g

@@ -1,5 +1,6 @@
 -- When names are those of a net (rule of this project).
-use Rattle.std.specs.Prelude.{◌≡◌, ℕ, ◌+◌, ◌<◌, ◌≤◌, ◌==◌, Bool, false, Option, None, Some, MatchOption, List, [], ◌∷◌, map, length, slice_index, slice_get, ℤ, ◌-ℤ◌, nat_abs}
+use Rattle.std.specs.Prelude.{◌≡◌, ℕ, ◌+◌, ◌<◌, ◌≤◌, ◌==◌, Bool, false, Option, None, Some, MatchOption, List, []}
+use Rattle.std.specs.Prelude.{◌∷◌, map, length, slice_index, slice_get, ℤ, ◌-ℤ◌, nat_abs}
 use Rattle.std.specs.List.{AllByRecursion, IsDistinct}
 use Rattle.std.specs.Str.{bytes_eq}
 use Rattle.wn_net.specs.declared.names.Place.{Place}
@@ -23,13 +24,14 @@ words_in net m = slice_index (map (λ m. m.words) net.mems) m
 abbrev pub IsPlaced : Netlist → ℕ → Bool → Option (ℤ × ℤ) → Place → Type 0
 IsPlaced net width output words (place.Node id) = IsNodeOf net width id × (words ≡ None)
 IsPlaced net width output words (place.Mem m) =
-    (m < length net.mems) × (mem_width net m ≡ width) × (output ≡ false) × MatchOption words ⊥ (IsRangeOf (words_in net m))
+    (m < length net.mems) × (mem_width net m ≡ width) × (output ≡ false)
+    × MatchOption words ⊥ (IsRangeOf (words_in net m))
 
 abbrev pub IsNameOf : Netlist → NetName → Type 0
 IsNameOf net name = IsPlaced net name.width name.output name.words name.place
 
--- A spot says which bits of an entry that is there an input or a register of this width is: as many bits as that has, each
--- below the entry's width, none twice.
+-- A spot says which bits of an entry that is there an input or a register of this width is: as many bits as that has,
+-- each below the entry's width, none twice.
 pub record IsSpotOf (names : Names) (width : ℕ) (spot : Spot) : Type 0 where
   pub name : NetName
   pub there : slice_get names.list spot.name ≡ Some name

@@ -8,8 +8,8 @@ use Rattle.fv_bits.specs.Bits.{masked}
 use Rattle.wn_net.specs.Value.{Given, word_at}
 use Rattle.wn_net.specs.Net.{Netlist, values_of}
 
--- A write to words of a width: where it acts, the word at the address takes the bits of the mask. Past the last word it does
--- nothing.
+-- A write to words of a width: where it acts, the word at the address takes the bits of the mask. Past the last word
+-- it does nothing.
 abbrev pub written : ℕ → List ℕ → ℕ → ℕ → ℕ → ℕ → List ℕ
 written width words enable address mask number =
     if enable == 1 then slice_set words address (masked width mask (word_at words address) number) else words
@@ -17,7 +17,8 @@ written width words enable address mask number =
 -- the same by the values of nodes
 abbrev pub write : List ℕ → ℕ → List ℕ → MemWrite → List ℕ
 write vs width words w =
-    written width words (slice_index vs w.enable) (slice_index vs w.addr) (slice_index vs w.mask) (slice_index vs w.value)
+    written width words (slice_index vs w.enable) (slice_index vs w.addr) (slice_index vs w.mask)
+    (slice_index vs w.value)
 
 -- one write after the other, so a later one wins
 abbrev pub write_each : List ℕ → ℕ → List ℕ → List MemWrite → List ℕ

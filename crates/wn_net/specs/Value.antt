@@ -1,10 +1,13 @@
--- The values of nodes: bit vectors as numbers (rule of this project; the operators are those of IEEE 1364-2005, section 5).
-use Rattle.std.specs.Prelude.{ℕ, ◌==◌, List, [], ◌∷◌, ◌++◌, bit_and, bit_or, bit_xor, nat_lt, if◌then◌else◌, slice_index, slice_index_or}
+-- The values of nodes: bit vectors as numbers (rule of this project; the operators are those of IEEE 1364-2005,
+-- section 5).
+use Rattle.std.specs.Prelude.{ℕ, ◌==◌, List, [], ◌∷◌, ◌++◌, bit_and, bit_or, bit_xor, nat_lt, if◌then◌else◌}
+use Rattle.std.specs.Prelude.{slice_index, slice_index_or}
 use Rattle.wn_net.specs.declared.node.Node.{Node}
 use Rattle.wn_net.specs.declared.node.Node.TheVariants as n
 use Rattle.wn_net.specs.declared.parts.State.{State}
 use Rattle.fv_base.specs.Word.{number}
-use Rattle.fv_bits.specs.Bits.{complement, is_less_signed, bit, sum, difference, product, shifted_left, shifted_right, arithmetic_right, sign_extended, part, joined}
+use Rattle.fv_bits.specs.Bits.{complement, is_less_signed, bit, sum, difference, product, shifted_left, shifted_right}
+use Rattle.fv_bits.specs.Bits.{arithmetic_right, sign_extended, part, joined}
 use Rattle.wn_net.specs.Width.{Shape, width}
 
 -- the numbers of a cycle: of the inputs, and those that registers and memories have in it

@@ -73,7 +73,8 @@ fn move_mem(mems: &mut List<List<u128>>, index: usize, mem: &Mem, values: &[u128
     requires few { mem.now.width ≤ 128 }
     requires writes { AllByRecursion (IsWriteIn values.now mem.now.width) mem.now.writes }
     requires words { (i : ℕ) → word_at (words_at mems.old index) i < 2 ^ mem.now.width }
-    ensures { mems.new ≡ slice_set mems.old index (spec.write_each values.now mem.now.width (words_at mems.old index) mem.now.writes) }
+    ensures { mems.new ≡ slice_set mems.old index
+        (spec.write_each values.now mem.now.width (words_at mems.old index) mem.now.writes) }
 {
     if let Some(words) = mems.get_mut(index) {
         do_writes(words, mem, values);

@@ -1,7 +1,8 @@
 //! The builders of nodes.
 #![tactic(auto, using(crate::proofs::Stays::theres), unfolding(crate::specs::Net::width_at, crate::specs::Net::value_at))]
 
-ghost use Rattle.std.specs.Prelude.{◌≡◌, ◌==◌, nat_lt, bit_and, bit_or, bit_xor, if◌then◌else◌, ◌+◌, ◌<◌, ◌≤◌, ◌^◌, [], ◌++◌, ◌∷◌, length, IfOk, OnOk, OnErr};
+ghost use Rattle.std.specs.Prelude.{◌≡◌, ◌==◌, nat_lt, bit_and, bit_or, bit_xor, if◌then◌else◌, ◌+◌, ◌<◌, ◌≤◌, ◌^◌};
+ghost use Rattle.std.specs.Prelude.{[], ◌++◌, ◌∷◌, length, IfOk, OnOk, OnErr};
 ghost use Rattle.fv_base.specs.Word.{number};
 ghost use Rattle.fv_bits.specs.Bits as num;
 ghost use Rattle.wn_net.specs.Width.{IsFitting};
@@ -40,7 +41,8 @@ impl Net {
     pub(crate) fn push(&mut self, node: Node, width: u32) -> Result<NodeId, Memory>
         requires fits { IsFitting (shape_of self.old) (widths_of self.old) node }
         requires width { width ≡ width_in self.old node }
-        ensures built { IfOk result (Builds self.old self.new node (width_in self.old node) (λ g. value_in self.old g node)) }
+        ensures built { IfOk result (Builds self.old self.new node (width_in self.old node)
+            (λ g. value_in self.old g node)) }
         ensures same { OnErr result (self.new ≡ self.old) }
     {
         let id = push_node(&mut self.nodes, &mut self.widths, node, width)?;
@@ -213,7 +215,8 @@ impl Net {
         requires left { IsNode self.old a }
         requires right { IsNode self.old b }
         requires few { width_at self.old a + width_at self.old b ≤ 128 }
-        ensures built { IfOk result (Builds self.old self.new (node.Concat a b) (width_at self.old a + width_at self.old b)
+        ensures built { IfOk result (Builds self.old self.new (node.Concat a b)
+            (width_at self.old a + width_at self.old b)
             (λ g. num.joined (width_at self.old b) (value_at self.old g a) (value_at self.old g b))) }
         ensures same { OnErr result (self.new ≡ self.old) }
     {

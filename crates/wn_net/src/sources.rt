@@ -5,7 +5,8 @@ ghost use Rattle.std.specs.Prelude.{◌≡◌, ◌+◌, ◌-◌, ◌<◌, ◌≤
 ghost use Rattle.std.specs.List.{AllByRecursion};
 ghost use Rattle.wn_net.specs.Value.{word_at, words_of};
 ghost use Rattle.wn_net.specs.Net.{IsNode, IsNodeOf, IsInitOf, IsWriteOf, width_at, value_at};
-ghost use Rattle.wn_net.specs.Changes.{Keeps, Grows, Builds, BuildsInput, BuildsReg, with_mem, with_next, with_write, reg_width, mem_width};
+ghost use Rattle.wn_net.specs.Changes.{Keeps, Grows, Builds, BuildsInput, BuildsReg, with_mem, with_next, with_write};
+ghost use Rattle.wn_net.specs.Changes.{reg_width, mem_width};
 ghost use Rattle.wn_net.specs.declared.node.Node.TheVariants as node;
 
 use crate::build::push_node;
@@ -45,7 +46,8 @@ impl Net {
         requires few { width ≤ 128 }
         requires init { IsInitOf width init }
         requires room { length self.old.regs < 2 ^ 32 - 1 }
-        ensures built { IfOk result (BuildsReg self.old self.new (record { width = width; init = init; next = length self.old.nodes })) }
+        ensures built { IfOk result (BuildsReg self.old self.new
+            (record { width = width; init = init; next = length self.old.nodes })) }
         ensures same { OnErr result (self.new ≡ self.old) }
     {
         let count = self.regs.len();
@@ -98,7 +100,8 @@ impl Net {
         requires init { AllByRecursion (IsInitOf width) init }
         requires room { length self.old.mems < 2 ^ 32 - 1 }
         ensures last { IfOk result (λ m. m ≡ length self.old.mems) }
-        ensures new { OnOk result (self.new ≡ with_mem self.old (record { width = width; words = words; init = init; writes = [] })) }
+        ensures new { OnOk result (self.new ≡ with_mem self.old
+            (record { width = width; words = words; init = init; writes = [] })) }
         ensures grows { Grows self.old self.new }
         ensures same { OnErr result (self.new ≡ self.old) }
     {

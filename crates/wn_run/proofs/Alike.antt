@@ -18,7 +18,8 @@ record SameIn (s : Shape) (g h : Given) : Type 0 where
   regs : (i : ℕ) → i < length s.regs → slice_index g.state.regs i ≡ slice_index h.state.regs i
   words : (m : ℕ) → m < length s.mems → (a : ℕ) → word_at (words_of g m) a ≡ word_at (words_of h m) a
 
-value_alike : (s : Shape) (g h : Given) (ws vs : List ℕ) (x : Node) → SameIn s g h → IsFitting s ws x → value g ws vs x ≡ value h ws vs x
+value_alike : (s : Shape) (g h : Given) (ws vs : List ℕ) (x : Node) → SameIn s g h → IsFitting s ws x
+    → value g ws vs x ≡ value h ws vs x
 value_alike s g h ws vs (n.Input i) same fits = same.inputs i fits
 value_alike s g h ws vs (n.Reg i) same fits = same.regs i fits
 value_alike s g h ws vs (n.Read m a) same fits = same.words m fits.0 (slice_index vs a)

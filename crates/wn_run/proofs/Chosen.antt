@@ -1,5 +1,6 @@
 -- Choices for a net with more registers.
-use Rattle.std.specs.Prelude.{◌≡◌, refl, ℕ, zero, suc, ◌+◌, ◌<◌, ◌≤◌, ◌^◌, Bool, true, false, nat_lt, if◌then◌else◌, List, [], ◌∷◌, length, map, take, slice_index}
+use Rattle.std.specs.Prelude.{◌≡◌, refl, ℕ, zero, suc, ◌+◌, ◌<◌, ◌≤◌, ◌^◌, Bool, true, false, nat_lt, if◌then◌else◌}
+use Rattle.std.specs.Prelude.{List, [], ◌∷◌, length, map, take, slice_index}
 use Rattle.std.proofs.Common.{ap, ◌∙◌, arith}
 use Rattle.std.proofs.lemmas.Bool.Decides.{nat_tests}
 use Rattle.std.proofs.lemmas.Nat.{pow_pos}
@@ -10,7 +11,8 @@ use Rattle.wn_net.proofs.Begun.{begun_map, begun_at}
 use Rattle.wn_run.specs.Runs.{Choices, AreChoicesOf, inputs_from, reset_at, start_number, regs_from, mems_from}
 use Rattle.wn_run.specs.Laws.{OldPartsBeginAsOldRuns, RunsExtend}
 
-take_regs : (choices : ℕ → ℕ) (i n : ℕ) (rs : List Reg) → take n (regs_from choices i rs) ≡ regs_from choices i (take n rs)
+take_regs : (choices : ℕ → ℕ) (i n : ℕ) (rs : List Reg)
+    → take n (regs_from choices i rs) ≡ regs_from choices i (take n rs)
 take_regs choices i zero rs = refl
 take_regs choices i (suc n) [] = refl
 take_regs choices i (suc n) (r ∷ rs) = ap (λ ns. start_number (choices i) r.init ∷ ns) (take_regs choices (i + 1) n rs)
@@ -67,11 +69,15 @@ extends old new ch adds own =
             rw adds.inputs (own.once i (omega (arith, e, below)));
         regs = λ i below.
             more_fit n i (slice_index (map (λ r. r.width) new.regs) i) ch.regs
-            (λ less. rw (begun_at _ _ i widths (omega (arith, less, length-map old.regs (λ (r : Reg). r.width)))) (own.regs i less));
+            (λ less. rw (begun_at _ _ i widths (omega (arith, less, length-map old.regs (λ (r : Reg). r.width))))
+            (own.regs i less));
         words = λ m i below.
             let e : length new.mems ≡ length old.mems = ap length adds.mems in
             rw adds.mems (own.words m i (omega (arith, e, below)));
       };
       inputs = begins.inputs;
-      start = begins.start ∙ (λ j. record { regs = same_regs n 0 ch.regs old.regs (omega arith) j; mems = mems_from ch.words 0 old.mems });
+      start = begins.start ∙ (λ j. record {
+        regs = same_regs n 0 ch.regs old.regs (omega arith) j;
+        mems = mems_from ch.words 0 old.mems;
+      });
     }

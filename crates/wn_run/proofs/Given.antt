@@ -19,7 +19,8 @@ use Rattle.wn_net.specs.Value.{word_at}
 use Rattle.wn_net.specs.Net.{Netlist, IsNet, IsInitOf, IsRegOf, IsMemOf}
 use Rattle.wn_net.specs.Given.{AreMemsOf, IsStateOf}
 use Rattle.wn_net.proofs.Moved.{next_is_state}
-use Rattle.wn_run.specs.Runs.{IsRun, by_kind, inputs_from, reset_at, start_number, regs_from, words_from, mems_from, state_at, cycle_at}
+use Rattle.wn_run.specs.Runs.{IsRun, by_kind, inputs_from, reset_at, start_number, regs_from, words_from, mems_from}
+use Rattle.wn_run.specs.Runs.{state_at, cycle_at}
 use Rattle.wn_run.specs.Laws.{CyclesAreGiven, ChoicesMakeRuns}
 
 state_is : (net : Netlist) (inputs : ℕ → List ℕ) (start : State) (k : ℕ) → IsNet net → IsRun net inputs start
@@ -30,7 +31,8 @@ state_is net inputs start (suc k) whole run =
     (record { inputs = run.inputs k; state = state_is net inputs start k whole run })
 
 pub cycles_given : CyclesAreGiven
-cycles_given net inputs start k whole run = record { inputs = run.inputs k; state = state_is net inputs start k whole run }
+cycles_given net inputs start k whole run =
+    record { inputs = run.inputs k; state = state_is net inputs start k whole run }
 
 -- ---- by choices
 
@@ -43,16 +45,19 @@ at_first f i m h = let e : i + 0 ≡ i = omega arith in let P : ℕ → Type 0 =
 one_fits : (r w : ℕ) → r ≤ 1 → 1 ≤ w → r < 2 ^ w
 one_fits r w h k = let p : 2 ^ 1 ≤ 2 ^ w = pow_mono k in omega (arith, p)
 
-kind_fits : (each once reset w : ℕ) (kind : InputKind) → each < 2 ^ w → once < 2 ^ w → reset < 2 ^ w → by_kind each once reset kind < 2 ^ w
+kind_fits : (each once reset w : ℕ) (kind : InputKind) → each < 2 ^ w → once < 2 ^ w → reset < 2 ^ w
+    → by_kind each once reset kind < 2 ^ w
 kind_fits each once reset w EachCycle h k l = h
 kind_fits each once reset w Once h k l = k
 kind_fits each once reset w Reset h k l = l
 
-length-inputs_from : (each once : ℕ → ℕ) (reset i : ℕ) (xs : List Input) → length (inputs_from each once reset i xs) ≡ length xs
+length-inputs_from : (each once : ℕ → ℕ) (reset i : ℕ) (xs : List Input)
+    → length (inputs_from each once reset i xs) ≡ length xs
 length-inputs_from each once reset i [] = refl
 length-inputs_from each once reset i (x ∷ xs) = ap suc (length-inputs_from each once reset (i + 1) xs)
 
-inputs_below : (each once : ℕ → ℕ) (reset i : ℕ) (xs : List Input) → reset ≤ 1 → AllByRecursion (λ x. IsWidth x.width) xs
+inputs_below : (each once : ℕ → ℕ) (reset i : ℕ) (xs : List Input) → reset ≤ 1
+    → AllByRecursion (λ x. IsWidth x.width) xs
     → ((j : ℕ) → j < length xs → each (i + j) < 2 ^ slice_index (map (λ x. x.width) xs) j)
     → ((j : ℕ) → j < length xs → once (i + j) < 2 ^ slice_index (map (λ x. x.width) xs) j)
     → (j : ℕ) → slice_index (inputs_from each once reset i xs) j < 2 ^ slice_index (map (λ x. x.width) xs) j
@@ -85,7 +90,8 @@ length-words_from : (choices : ℕ → ℕ) (i : ℕ) (xs : List Init) → lengt
 length-words_from choices i [] = refl
 length-words_from choices i (x ∷ xs) = ap suc (length-words_from choices (i + 1) xs)
 
-words_below : (choices : ℕ → ℕ) (i w : ℕ) (xs : List Init) → AllByRecursion (IsInitOf w) xs → ((j : ℕ) → choices j < 2 ^ w)
+words_below : (choices : ℕ → ℕ) (i w : ℕ) (xs : List Init) → AllByRecursion (IsInitOf w) xs
+    → ((j : ℕ) → choices j < 2 ^ w)
     → (j : ℕ) → word_at (words_from choices i xs) j < 2 ^ w
 words_below choices i w [] own h j = pow_pos w
 words_below choices i w (x ∷ xs) own h zero = init_fits (choices i) w x (h i) own.0
@@ -104,7 +110,8 @@ mems_are net choices i [] own h = tt
 mems_are net choices i (m ∷ ms) own h = (
   record {
     each = length-words_from (choices i) 0 m.init ∙ own.0.each;
-    below = words_below (choices i) 0 m.width m.init own.0.init (λ a. first_mem choices i a (2 ^ m.width) (h 0 a (omega arith)));
+    below = words_below (choices i) 0 m.width m.init own.0.init
+        (λ a. first_mem choices i a (2 ^ m.width) (h 0 a (omega arith)));
   },
   mems_are net choices (i + 1) ms own.1 (λ j a below. next_mem choices i j a _ (h (suc j) a (omega arith))),
 )
@@ -121,10 +128,12 @@ plain_mem f j a m h = let e : j ≡ 0 + j = omega arith in let P : ℕ → Type 
 pub choices_run : ChoicesMakeRuns
 choices_run net ch whole own = record {
   inputs = λ k. record {
-    each = length-inputs_from (ch.each_cycle k) ch.once (reset_at k) 0 net.inputs ∙ sym (length-map net.inputs (λ i. i.width));
+    each = length-inputs_from (ch.each_cycle k) ch.once (reset_at k) 0 net.inputs
+        ∙ sym (length-map net.inputs (λ i. i.width));
     below =
         inputs_below (ch.each_cycle k) ch.once (reset_at k) 0 net.inputs (reset_small k) whole.inputs
-        (λ j below. plain (ch.each_cycle k) j _ (own.each_cycle k j below)) (λ j below. plain ch.once j _ (own.once j below));
+        (λ j below. plain (ch.each_cycle k) j _ (own.each_cycle k j below))
+        (λ j below. plain ch.once j _ (own.once j below));
   };
   start = record {
     regs = record {

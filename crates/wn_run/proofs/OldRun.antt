@@ -29,10 +29,12 @@ writes_same : (net : Netlist) (us vs : List ℕ) (w : ℕ) (ws : List MemWrite) 
 writes_same net us vs w [] words same own = refl
 writes_same net us vs w (x ∷ xs) words same own =
     ap (λ ns. write_each us w ns xs)
-    (λ i. written w words (same x.enable own.0.enable.0 i) (same x.addr own.0.addr i) (same x.mask own.0.mask.0 i) (same x.value own.0.value.0 i))
+    (λ i. written w words (same x.enable own.0.enable.0 i) (same x.addr own.0.addr i) (same x.mask own.0.mask.0 i)
+    (same x.value own.0.value.0 i))
     ∙ writes_same net us vs w xs _ same own.1
 
-mems_same : (net : Netlist) (us vs : List ℕ) (ms : List Mem) (ns : List (List ℕ)) → AreSame net us vs → AllByRecursion (IsMemOf net) ms
+mems_same : (net : Netlist) (us vs : List ℕ) (ms : List Mem) (ns : List (List ℕ)) → AreSame net us vs
+    → AllByRecursion (IsMemOf net) ms
     → next_mems us ms ns ≡ next_mems vs ms ns
 mems_same net us vs [] ns same own = refl
 mems_same net us vs (m ∷ ms) [] same own = refl
@@ -54,22 +56,27 @@ alike old inputs s t e = record {
   words = λ m below a. ap (λ (u : State). word_at (words_at u.mems m) a) e;
 }
 
-values_same : (old new : Netlist) (inputs : List ℕ) (s t : State) → IsNet old → AddsRegs old new → first_regs (length old.regs) s ≡ t
-    → AreSame old (values_of new (record { inputs = inputs; state = s })) (values_of old (record { inputs = inputs; state = t }))
+values_same : (old new : Netlist) (inputs : List ℕ) (s t : State) → IsNet old → AddsRegs old new
+    → first_regs (length old.regs) s ≡ t
+    → AreSame old (values_of new (record { inputs = inputs; state = s }))
+    (values_of old (record { inputs = inputs; state = t }))
 unfolding value_at
 values_same old new inputs s t whole adds e id below =
     adds.values (record { inputs = inputs; state = s }) id below
     ∙ ap (λ vs. slice_index vs id)
-    (values_alike old (record { inputs = inputs; state = s }) (record { inputs = inputs; state = t }) whole (alike old inputs s t e))
+    (values_alike old (record { inputs = inputs; state = s }) (record { inputs = inputs; state = t }) whole
+    (alike old inputs s t e))
 
-next_same : (old new : Netlist) (inputs : List ℕ) (s t : State) → IsNet old → AddsRegs old new → first_regs (length old.regs) s ≡ t
+next_same : (old new : Netlist) (inputs : List ℕ) (s t : State) → IsNet old → AddsRegs old new
+    → first_regs (length old.regs) s ≡ t
     → first_regs (length old.regs) (next_state new (record { inputs = inputs; state = s }))
     ≡ next_state old (record { inputs = inputs; state = t })
 next_same old new inputs s t whole adds e =
     let us = values_of new (record { inputs = inputs; state = s }) in
     let vs = values_of old (record { inputs = inputs; state = t }) in
     let same : AreSame old us vs = values_same old new inputs s t whole adds e in
-    let regs : take (length old.regs) (map (λ r. slice_index us r.next) new.regs) ≡ map (λ r. slice_index vs r.next) old.regs =
+    let regs : take (length old.regs) (map (λ r. slice_index us r.next) new.regs)
+    ≡ map (λ r. slice_index vs r.next) old.regs =
     take-map (λ r. slice_index us r.next) (length old.regs) new.regs
     ∙ ap (map (λ r. slice_index us r.next)) adds.regs ∙ nexts_same old us vs old.regs same whole.regs in
     let mems : next_mems us new.mems s.mems ≡ next_mems vs old.mems t.mems =
@@ -78,20 +85,26 @@ next_same old new inputs s t whole adds e =
     λ i. record { regs = regs i; mems = mems i }
 
 state_same : (old new : Netlist) (inputs : ℕ → List ℕ) (start : State) (k : ℕ) → IsNet old → AddsRegs old new
-    → first_regs (length old.regs) (state_at new inputs start k) ≡ state_at old inputs (first_regs (length old.regs) start) k
+    → first_regs (length old.regs) (state_at new inputs start k)
+    ≡ state_at old inputs (first_regs (length old.regs) start) k
 state_same old new inputs start zero whole adds = refl
 state_same old new inputs start (suc k) whole adds =
-    next_same old new (inputs k) (state_at new inputs start k) (state_at old inputs (first_regs (length old.regs) start) k) whole adds
+    next_same old new (inputs k) (state_at new inputs start k)
+    (state_at old inputs (first_regs (length old.regs) start) k) whole adds
     (state_same old new inputs start k whole adds)
 
-value_same : (old new : Netlist) (inputs : ℕ → List ℕ) (start : State) (k id : ℕ) → IsNet old → AddsRegs old new → IsNode old id
-    → value_at new (cycle_at new inputs start k) id ≡ value_at old (cycle_at old inputs (first_regs (length old.regs) start) k) id
+value_same : (old new : Netlist) (inputs : ℕ → List ℕ) (start : State) (k id : ℕ) → IsNet old → AddsRegs old new
+    → IsNode old id
+    → value_at new (cycle_at new inputs start k) id
+    ≡ value_at old (cycle_at old inputs (first_regs (length old.regs) start) k) id
 unfolding value_at
 value_same old new inputs start k id whole adds below =
-    values_same old new (inputs k) (state_at new inputs start k) (state_at old inputs (first_regs (length old.regs) start) k) whole adds
+    values_same old new (inputs k) (state_at new inputs start k)
+    (state_at old inputs (first_regs (length old.regs) start) k) whole adds
     (state_same old new inputs start k whole adds) id below
 
-met_same : (old new : Netlist) (g h : Given) (ids : List ℕ) → ((id : ℕ) → IsNode old id → value_at new g id ≡ value_at old h id)
+met_same : (old new : Netlist) (g h : Given) (ids : List ℕ)
+    → ((id : ℕ) → IsNode old id → value_at new g id ≡ value_at old h id)
     → AreNodes old ids
     → AllByRecursion (λ id. value_at new g id ≡ 0 → ⊥) ids ↔ AllByRecursion (λ id. value_at old h id ≡ 0 → ⊥) ids
 met_same old new g h [] same own = (λ m. tt, λ m. tt)
@@ -110,5 +123,6 @@ old_run old new inputs start k whole adds =
     record {
       state = state_same old new inputs start k whole adds;
       value = λ id below. same id whole adds below;
-      met = subst P (sym adds.assumes) (met_same old new g h old.assumes (λ id below. same id whole adds below) whole.assumes);
+      met = subst P (sym adds.assumes) (met_same old new g h old.assumes
+          (λ id below. same id whole adds below) whole.assumes);
     }

@@ -1,5 +1,6 @@
 -- Each node's value and width, in its own net.
-use Rattle.std.specs.Prelude.{◌≡◌, refl, ℕ, zero, suc, ◌+◌, ◌<◌, List, [], ◌∷◌, ◌++◌, length, Some, slice_index, slice_get}
+use Rattle.std.specs.Prelude.{◌≡◌, refl, ℕ, zero, suc, ◌+◌, ◌<◌, List, [], ◌∷◌, ◌++◌, length, Some, slice_index}
+use Rattle.std.specs.Prelude.{slice_get}
 use Rattle.std.proofs.Common.{ap, sym, ◌∙◌, arith, subst}
 use Rattle.std.proofs.lemmas.List.{length_push, get_or_push}
 use Rattle.wn_net.specs.declared.node.Node.{Node}
@@ -56,7 +57,8 @@ node_value s g ws vs (y ∷ ys) zero x each fits at =
     let ws2 = ws ++ width s ws y ∷ [] in
     let vs2 = vs ++ value g ws vs y ∷ [] in
     let long : length vs < length vs2 = omega (arith, length_push vs (value g ws vs y)) in
-    let P : Node → Type 0 = λ z. slice_index (values s g ws vs (y ∷ ys)) (length vs) ≡ value g (widths s ws (y ∷ ys)) (values s g ws vs (y ∷ ys)) z in
+    let P : Node → Type 0 = λ z. slice_index (values s g ws vs (y ∷ ys)) (length vs)
+    ≡ value g (widths s ws (y ∷ ys)) (values s g ws vs (y ∷ ys)) z in
     let e : length vs + 0 ≡ length vs = omega arith in
     ap (slice_index (values s g ws vs (y ∷ ys))) e ∙ subst P (inj at) (values_begin s g ws2 vs2 ys (length vs) long
     ∙ get_or_push vs (value g ws vs y) 0 (length vs) refl
@@ -71,7 +73,8 @@ node_value s g ws vs (y ∷ ys) zero x each fits at =
 node_value s g ws vs (y ∷ ys) (suc i) x each fits at =
     let ws2 = ws ++ width s ws y ∷ [] in
     let vs2 = vs ++ value g ws vs y ∷ [] in
-    let long : length vs2 ≡ length ws2 = omega (arith, each, length_push vs (value g ws vs y), length_push ws (width s ws y)) in
+    let long : length vs2 ≡ length ws2 = omega
+    (arith, each, length_push vs (value g ws vs y), length_push ws (width s ws y)) in
     let e : length vs2 + i ≡ length vs + suc i = omega (arith, length_push vs (value g ws vs y)) in
     ap (slice_index (values s g ws vs (y ∷ ys))) (sym e) ∙ node_value s g ws2 vs2 ys i x long fits.1 at
 
@@ -83,7 +86,8 @@ each_value net g id x whole at =
     ∙ node_value (shape_of net) g [] [] net.nodes id x refl whole.nodes at
 
 -- widths, where more stand behind
-width_more : (s : Shape) (ws aw : List ℕ) (x : Node) → ((i : ℕ) → i < length ws → slice_index aw i ≡ slice_index ws i) → IsFitting s ws x
+width_more : (s : Shape) (ws aw : List ℕ) (x : Node)
+    → ((i : ℕ) → i < length ws → slice_index aw i ≡ slice_index ws i) → IsFitting s ws x
     → width s aw x ≡ width s ws x
 width_more s ws aw (n.Konst word) m fits = refl
 width_more s ws aw (n.Input i) m fits = refl
@@ -108,7 +112,8 @@ width_more s ws aw (n.Slice a at w) m fits = refl
 width_more s ws aw (n.Zext a w) m fits = refl
 width_more s ws aw (n.Sext a w) m fits = refl
 
-node_width : (s : Shape) (ws : List ℕ) (xs : List Node) (i : ℕ) (x : Node) → AreFitting s ws xs → slice_get xs i ≡ Some x
+node_width : (s : Shape) (ws : List ℕ) (xs : List Node) (i : ℕ) (x : Node) → AreFitting s ws xs
+    → slice_get xs i ≡ Some x
     → slice_index (widths s ws xs) (length ws + i) ≡ width s (widths s ws xs) x
 node_width s ws [] zero x fits at = absurd (ne at)
   where

@@ -38,19 +38,24 @@ CyclesAreGiven =
 
 -- choices make a run
 abbrev pub ChoicesMakeRuns : Type 0
-ChoicesMakeRuns = (net : Netlist) (ch : Choices) → IsNet net → AreChoicesOf net ch → IsRun net (inputs_at net ch) (start_of net ch)
+ChoicesMakeRuns =
+    (net : Netlist) (ch : Choices) → IsNet net → AreChoicesOf net ch → IsRun net (inputs_at net ch) (start_of net ch)
 
--- After more nodes and registers the old part of a run is the old run: the first registers and the memories in each cycle, the
--- value of each old node, and whether the assumptions are met.
+-- After more nodes and registers the old part of a run is the old run: the first registers and the memories in each
+-- cycle, the value of each old node, and whether the assumptions are met.
 pub record HasOldRun (old new : Netlist) (inputs : ℕ → List ℕ) (start : State) (k : ℕ) : Type 0 where
-  pub state : first_regs (length old.regs) (state_at new inputs start k) ≡ state_at old inputs (first_regs (length old.regs) start) k
+  pub state : first_regs (length old.regs) (state_at new inputs start k)
+      ≡ state_at old inputs (first_regs (length old.regs) start) k
   pub value : (id : ℕ) → IsNode old id
-      → value_at new (cycle_at new inputs start k) id ≡ value_at old (cycle_at old inputs (first_regs (length old.regs) start) k) id
-  pub met : IsMet new (cycle_at new inputs start k) ↔ IsMet old (cycle_at old inputs (first_regs (length old.regs) start) k)
+      → value_at new (cycle_at new inputs start k) id
+      ≡ value_at old (cycle_at old inputs (first_regs (length old.regs) start) k) id
+  pub met : IsMet new (cycle_at new inputs start k)
+      ↔ IsMet old (cycle_at old inputs (first_regs (length old.regs) start) k)
 
 abbrev pub OldPartsAreOldRuns : Type 0
 OldPartsAreOldRuns =
-    (old new : Netlist) (inputs : ℕ → List ℕ) (start : State) (k : ℕ) → IsNet old → AddsRegs old new → HasOldRun old new inputs start k
+    (old new : Netlist) (inputs : ℕ → List ℕ) (start : State) (k : ℕ) → IsNet old → AddsRegs old new
+    → HasOldRun old new inputs start k
 
 -- the inputs are those of the old net, and the starts of its registers too
 pub record BeginsAs (old new : Netlist) (ch : Choices) : Type 0 where

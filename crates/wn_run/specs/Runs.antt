@@ -1,5 +1,6 @@
 -- Runs of a net: its numbers, cycle by cycle (rule of this project).
-use Rattle.std.specs.Prelude.{◌≡◌, ℕ, zero, suc, ◌+◌, ◌<◌, ◌≤◌, ◌^◌, ◌==◌, if◌then◌else◌, List, [], ◌∷◌, length, map, take, slice_index}
+use Rattle.std.specs.Prelude.{◌≡◌, ℕ, zero, suc, ◌+◌, ◌<◌, ◌≤◌, ◌^◌, ◌==◌, if◌then◌else◌, List, [], ◌∷◌, length, map}
+use Rattle.std.specs.Prelude.{take, slice_index}
 use Rattle.std.specs.List.{AllByRecursion}
 use Rattle.wn_net.specs.declared.parts.Input.{Input}
 use Rattle.wn_net.specs.declared.parts.InputKind.{InputKind}
@@ -16,8 +17,8 @@ use Rattle.wn_net.specs.Next.{next_state}
 
 -- ---- choices
 
--- What is free in a run, by numbers of inputs, registers and memories: an input's number in a cycle, or once; what a register
--- begins with; what each word of a memory does.
+-- What is free in a run, by numbers of inputs, registers and memories: an input's number in a cycle, or once; what a
+-- register begins with; what each word of a memory does.
 pub record Choices : Type 0 where
   pub each_cycle : ℕ → ℕ → ℕ
   pub once : ℕ → ℕ
@@ -69,7 +70,8 @@ start_of net ch = record { regs = regs_from ch.regs 0 net.regs; mems = mems_from
 
 -- choices have the widths of what they are for
 pub record AreChoicesOf (net : Netlist) (ch : Choices) : Type 0 where
-  pub each_cycle : (k i : ℕ) → i < length net.inputs → ch.each_cycle k i < 2 ^ slice_index (map (λ x. x.width) net.inputs) i
+  pub each_cycle : (k i : ℕ) → i < length net.inputs
+      → ch.each_cycle k i < 2 ^ slice_index (map (λ x. x.width) net.inputs) i
   pub once : (i : ℕ) → i < length net.inputs → ch.once i < 2 ^ slice_index (map (λ x. x.width) net.inputs) i
   pub regs : (i : ℕ) → i < length net.regs → ch.regs i < 2 ^ slice_index (map (λ r. r.width) net.regs) i
   pub words : (m i : ℕ) → m < length net.mems → ch.words m i < 2 ^ slice_index (map (λ m. m.width) net.mems) m

@@ -37,7 +37,8 @@ fn shift_register(rt: &impl Abort, net: &mut Net) -> Result<NodeId, Memory> {
     Ok(bits)
 }
 
-/// Memory 0, of four words, in which each cycle writes 16 more than the count at the count's low bits; what is read at 1.
+/// Memory 0, of four words, in which each cycle writes 16 more than the count at the count's low bits; what is read
+/// at 1.
 fn memory(rt: &impl Abort, alloc: Global, net: &mut Net, count: NodeId) -> Result<NodeId, Memory> {
     let init = List::from_vec(Vec::from_array(alloc, [Init::Free; 4])?);
     assert!(rt; net.mems().is_empty());

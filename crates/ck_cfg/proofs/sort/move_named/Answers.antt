@@ -7,7 +7,8 @@ use Rattle.ck_cfg.proofs.sort.move_named.Goals as goal
 
 pub loop-index-preserved : goal.loop-index-preserved
 loop-index-preserved c =
-    let t = taken (is_named c.args.name.now) c.loop-index.rest.items c.in-Some.index c.remove.result c.loop-index.front.items c.push.new.self.items c.remove.new.self.items
+    let t = taken (is_named c.args.name.now) c.loop-index.rest.items c.in-Some.index c.remove.result
+    c.loop-index.front.items c.push.new.self.items c.remove.new.self.items
     (c.in-Some.ensures ∙ ap (position (is_named c.args.name.now)) c.as_slice.ensures.value)
     c.remove.ensures.value
     c.in_ok-push.ensures.items
@@ -20,10 +21,13 @@ loop-index-preserved c =
 
 pub returns-clause-front : goal.returns-clause-front
 returns-clause-front c =
-    let n = none_left (is_named c.args.name.now) c.loop-index.rest.items (c.in_default.ensures ∙ ap (position (is_named c.args.name.now)) c.as_slice.ensures.value) in
-    sym (append-nil c.loop-index.front.items) ∙ ap (λ t. c.loop-index.front.items ++ t) (sym n.0) ∙ c.loop-index.invariant.moved
+    let n = none_left (is_named c.args.name.now) c.loop-index.rest.items
+    (c.in_default.ensures ∙ ap (position (is_named c.args.name.now)) c.as_slice.ensures.value) in
+    sym (append-nil c.loop-index.front.items) ∙ ap (λ t. c.loop-index.front.items ++ t) (sym n.0)
+    ∙ c.loop-index.invariant.moved
 
 pub returns-clause-rest : goal.returns-clause-rest
 returns-clause-rest c =
-    let n = none_left (is_named c.args.name.now) c.loop-index.rest.items (c.in_default.ensures ∙ ap (position (is_named c.args.name.now)) c.as_slice.ensures.value) in
+    let n = none_left (is_named c.args.name.now) c.loop-index.rest.items
+    (c.in_default.ensures ∙ ap (position (is_named c.args.name.now)) c.as_slice.ensures.value) in
     sym n.1 ∙ c.loop-index.invariant.left

@@ -35,23 +35,29 @@ the_empty = []
 abbrev pub the_items : (Item : Type 0) → List Item → List Item
 the_items Item items = items
 
-pub the_items_listed : (Item : Type 0) (items : List Item) → listed _ (children (the_former this) Item items) ≡ the_items Item items
+pub the_items_listed : (Item : Type 0) (items : List Item)
+    → listed _ (children (the_former this) Item items) ≡ the_items Item items
 the_items_listed Item items = list-listed Item items
 
 -- the fields: one vector of the items
 abbrev vector : Former {0}
-vector = via (vec.the_former this Global) Inside (λ Item fields. fields.items) (λ Item items. record { items = items }) (λ Item fields. refl) (λ Item items. refl)
+vector = via (vec.the_former this Global) Inside (λ Item fields. fields.items)
+    (λ Item items. record { items = items }) (λ Item fields. refl) (λ Item items. refl)
 
 -- two types whose values are laid out alike have lists that are laid out alike
 module _ (From To : RattleType) (renamed : From.Denot → To.Denot) where
-  pub the_places : Alike From To renamed → Alike (whole.the_row From) (whole.the_row To) ((the_former this).map From.Denot To.Denot renamed)
+  pub the_places : Alike From To renamed → Alike (whole.the_row From) (whole.the_row To)
+      ((the_former this).map From.Denot To.Denot renamed)
   the_places alike =
-      view_places vector (list this) view (λ Item Other k fields. refl) (λ Item fields. refl) From.Denot To.Denot renamed
+      view_places vector (list this) view (λ Item Other k fields. refl)
+      (λ Item fields. refl) From.Denot To.Denot renamed
       (whole.the_row From).coded (whole.the_row To).coded (invariant From.Denot) (invariant To.Denot)
       (λ fields p q. refl) (λ fields p q. refl) (λ fields e. tt) (λ fields e. tt)
       (over (inside.the_row From)) (over (inside.the_row To))
       (struct_places (inside.the_type From) (inside.the_type To) (vec.mapped renamed, tt) _ (λ d. refl) refl
       (laid _ _ _ (vec.the_places global.the_row ghosts From To renamed alike), tt))
 
-  pub the_codes_placed : Recodes From To renamed → Recodes (whole.the_row From) (whole.the_row To) ((the_former this).map From.Denot To.Denot renamed)
-  the_codes_placed recodes items = sym (code_map From.coded.code To.coded.code renamed (λ item. sym (recodes item)) items)
+  pub the_codes_placed : Recodes From To renamed
+      → Recodes (whole.the_row From) (whole.the_row To) ((the_former this).map From.Denot To.Denot renamed)
+  the_codes_placed recodes items =
+      sym (code_map From.coded.code To.coded.code renamed (λ item. sym (recodes item)) items)

@@ -5,7 +5,8 @@ use Rattle.fv_bits.proofs.Limits.{within_wide, none_left, left_of_fits}
 use Rattle.fv_bits.proofs.parts.fits.Goals as goal
 
 pub returns-then-width-ge128 : goal.returns-then-width-ge128
-returns-then-width-ge128 c = (λ e. within_wide c.args.number c.args.width c.ranges.number.fits c.if-width-ge128.true, λ h. refl)
+returns-then-width-ge128 c =
+    (λ e. within_wide c.args.number c.args.width c.ranges.number.fits c.if-width-ge128.true, λ h. refl)
 
 pub returns : goal.returns
 returns c = (

@@ -5,4 +5,6 @@ use Rattle.fv_lines.specs.Numbers.{continued}
 use Rattle.fv_lines.proofs.numbers.natural.Given as goal
 
 abbrev pub invariant-loop-digit : goal.invariant-loop-digit
-invariant-loop-digit l = (l.value ≤ MOST) × (option_map (min MOST) (continued l.value (drop l.digit-index l.digits)) ≡ option_map (min MOST) (continued 0 l.digits))
+invariant-loop-digit l = (l.value ≤ MOST)
+    × (option_map (min MOST) (continued l.value (drop l.digit-index l.digits))
+    ≡ option_map (min MOST) (continued 0 l.digits))

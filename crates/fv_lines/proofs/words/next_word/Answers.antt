@@ -5,4 +5,5 @@ use Rattle.fv_lines.proofs.Glue.{blank_more}
 use Rattle.fv_lines.proofs.words.next_word.Goals as goal
 
 pub loop-start-preserved : goal.loop-start-preserved
-loop-start-preserved c = blank_more c.args.line.now c.loop-start.start c.loop-start.invariant.1 (ap begins_blank (sym (take_rest c.args.line.now c.loop-start.start)) ∙ sym c.loop-start-test.ensures)
+loop-start-preserved c = blank_more c.args.line.now c.loop-start.start c.loop-start.invariant.1
+    (ap begins_blank (sym (take_rest c.args.line.now c.loop-start.start)) ∙ sym c.loop-start-test.ensures)

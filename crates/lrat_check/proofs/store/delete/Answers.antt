@@ -5,4 +5,6 @@ use Rattle.lrat_check.proofs.store.delete.Goals as goal
 
 pub loop-old-preserved : goal.loop-old-preserved
 loop-old-preserved c =
-    deleted_step (held_of c.loop-old.held) (held_of c.remove.new.held) c.args.id c.args.ids.now c.loop-old.old-index (get_or c.args.ids.now c.loop-old.old-index 0) c.loop-old-test.true refl c.if-not-remove.ensures ∙ c.loop-old.invariant
+    deleted_step (held_of c.loop-old.held) (held_of c.remove.new.held) c.args.id c.args.ids.now c.loop-old.old-index
+    (get_or c.args.ids.now c.loop-old.old-index 0) c.loop-old-test.true refl c.if-not-remove.ensures
+    ∙ c.loop-old.invariant

@@ -7,14 +7,25 @@ use Rattle.lrat_check.proofs.store.store_of.Goals as goal
 pub loop-clause-preserved : goal.loop-clause-preserved
 loop-clause-preserved c = (
   omega (arith, c.loop-clause.invariant.0),
-  store_step (held_of c.loop-clause.held) (held_of c.put.new.held) c.clauses-clause-items.result.now c.loop-clause.clause-index c.loop-clause.id c.clause-item.result c.as_slice.result.now
-      c.loop-clause.invariant.1 c.in_ok-put.ensures.ok c.loop-clause.invariant.0 c.loop-clause-test.true c.clause-item.is c.as_slice.ensures,
+  store_step (held_of c.loop-clause.held)
+      (held_of c.put.new.held) c.clauses-clause-items.result.now c.loop-clause.clause-index c.loop-clause.id
+      c.clause-item.result c.as_slice.result.now
+      c.loop-clause.invariant.1 c.in_ok-put.ensures.ok c.loop-clause.invariant.0 c.loop-clause-test.true
+      c.clause-item.is c.as_slice.ensures,
 )
 
 pub returns-clause-held : goal.returns-clause-held
-returns-clause-held c = held_all c.args.formula.now.clauses c.clauses-clause-items.result.now c.loop-clause.clause-index 0 (held_of c.loop-clause.held) c.loop-clause.invariant.1 c.loop-clause-test.false c.clauses-clause-items.ensures.value
+returns-clause-held c = held_all c.args.formula.now.clauses c.clauses-clause-items.result.now
+    c.loop-clause.clause-index 0
+    (held_of c.loop-clause.held) c.loop-clause.invariant.1 c.loop-clause-test.false c.clauses-clause-items.ensures.value
 
 pub returns-clause-lits : goal.returns-clause-lits
 returns-clause-lits c =
-    subst AreHeld (sym (held_all c.args.formula.now.clauses c.clauses-clause-items.result.now c.loop-clause.clause-index 0 (held_of c.loop-clause.held) c.loop-clause.invariant.1 c.loop-clause-test.false c.clauses-clause-items.ensures.value))
-    (numbered_held c.args.formula.now.vars c.args.formula.now.clauses (omega (arith, c.vars-vars.ensures.value, c.vars-vars.ensures.small)) (subst (AreClauses c.args.formula.now.vars) c.clauses-clause-items.ensures.value c.clauses-clause-items.ensures.literals))
+    subst AreHeld (sym (held_all c.args.formula.now.clauses c.clauses-clause-items.result.now
+    c.loop-clause.clause-index 0
+    (held_of c.loop-clause.held) c.loop-clause.invariant.1 c.loop-clause-test.false
+    c.clauses-clause-items.ensures.value))
+    (numbered_held c.args.formula.now.vars c.args.formula.now.clauses
+    (omega (arith, c.vars-vars.ensures.value, c.vars-vars.ensures.small))
+    (subst (AreClauses c.args.formula.now.vars) c.clauses-clause-items.ensures.value
+    c.clauses-clause-items.ensures.literals))

@@ -21,7 +21,8 @@ at_most n m k small e = by (nat_le k 128) refl
         let q : n < 2 ^ 128 = omega arith in
         ap (λ j. n % 2 ^ j) most ∙ mod-eq_of_lt q ∙ sym (mod-eq_of_lt (omega (arith, p, q)))
 
-by_parts : (r high low word m k n : ℕ) → r ≡ n / 2 ^ low % 2 ^ m → n ≡ word → m ≡ min k 128 → k ≡ high + 1 - low → word < 2 ^ 32
+by_parts : (r high low word m k n : ℕ) → r ≡ n / 2 ^ low % 2 ^ m → n ≡ word → m ≡ min k 128 → k ≡ high + 1 - low
+    → word < 2 ^ 32
     → r ≡ field high low word
 unfolding field
 by_parts r high low word m k n r_is n_is m_is k_is small =

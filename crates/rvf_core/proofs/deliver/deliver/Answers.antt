@@ -3,10 +3,13 @@ use Rattle.rvf_core.proofs.deliver.deliver.Goals as goal
 
 pub returns-in-Err-clause-delivered : goal.returns-in-Err-clause-delivered
 returns-in-Err-clause-delivered g c =
-    SoFar-stops c.in-Err.fault _ _ _ c.loop-delivery.delivery-index c.args.deliveries.now c.delivery-item.result c.loop-delivery-test.true c.delivery-item.is
+    SoFar-stops c.in-Err.fault _ _ _ c.loop-delivery.delivery-index c.args.deliveries.now c.delivery-item.result
+    c.loop-delivery-test.true c.delivery-item.is
     c.loop-delivery.invariant c.in-Err.ensures.done
 
 pub loop-delivery-preserved : goal.loop-delivery-preserved
 loop-delivery-preserved g c =
-    SoFar-more _ _ _ c.loop-delivery.delivery-index c.args.deliveries.now c.delivery-item.result c.in_default.field-0 c.loop-delivery-test.true c.delivery-item.is
-    c.loop-delivery.invariant c.in_default.ensures.done c.in_default.ensures.misses_kept c.in_default.ensures.faults_grow c.in_default.ensures.out_faults_grow
+    SoFar-more _ _ _ c.loop-delivery.delivery-index c.args.deliveries.now c.delivery-item.result c.in_default.field-0
+    c.loop-delivery-test.true c.delivery-item.is
+    c.loop-delivery.invariant c.in_default.ensures.done c.in_default.ensures.misses_kept
+    c.in_default.ensures.faults_grow c.in_default.ensures.out_faults_grow

@@ -4,4 +4,5 @@ use Rattle.rvf_core.proofs.lines.fail_report.Given as goal
 
 -- the lines so far, and those of the ports that are left
 abbrev pub invariant-loop-index : goal.invariant-loop-index
-invariant-loop-index l = l.deliveries ++ port_reports (drop l.index l.ports) (drop l.index l.numbers) ≡ fail_report l.ports l.numbers
+invariant-loop-index l =
+    l.deliveries ++ port_reports (drop l.index l.ports) (drop l.index l.numbers) ≡ fail_report l.ports l.numbers

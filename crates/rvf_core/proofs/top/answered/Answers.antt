@@ -30,8 +30,12 @@ returns-in-Ok g c =
     let misses = g.F.Files.misses c.deliver.new.files in
     let faults = g.F.Files.faults c.deliver.new.files in
     rw c.ended.ensures
-    (Ends-delivered (SaysOf asked (later seen misses faults)) before _ c.in-Ok.report.deliveries (never_WriteFault asked (later seen misses faults) c.in-Ok.report.deliveries)
+    (Ends-delivered (SaysOf asked (later seen misses faults)) before _ c.in-Ok.report.deliveries
+    (never_WriteFault asked (later seen misses faults) c.in-Ok.report.deliveries)
     (never_Memory asked (later seen misses faults) c.in-Ok.report.deliveries) c.deliver.result c.in-Ok.report.status
-    (SaysOf-later asked seen misses faults (same_count _ _ c.deliver.ensures.misses_kept) c.deliver.ensures.faults_grow c.in-Ok.report.status c.in-Ok.report.deliveries c.in-Ok.ensures.says)
-    (IsDelivered-later c.deliver.result before _ _ c.in-Ok.report.deliveries c.in-Ok.ensures.kept refl c.in-Ok.ensures.faults_grow (omega arith)
+    (SaysOf-later asked seen misses faults
+    (same_count _ _ c.deliver.ensures.misses_kept) c.deliver.ensures.faults_grow c.in-Ok.report.status
+    c.in-Ok.report.deliveries c.in-Ok.ensures.says)
+    (IsDelivered-later c.deliver.result before _ _ c.in-Ok.report.deliveries c.in-Ok.ensures.kept refl
+    c.in-Ok.ensures.faults_grow (omega arith)
     (rw c.as_slice.ensures at c.deliver.ensures.delivered)))

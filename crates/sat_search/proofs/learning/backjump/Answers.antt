@@ -9,17 +9,25 @@ use Rattle.sat_search.proofs.learning.backjump.Goals as goal
 
 pub loop-trail-init : goal.loop-trail-init
 loop-trail-init c =
-    let P : Entries → Type 0 = λ t. Stand c.args.clauses.now t × (is_unit (reading (lits t) c.args.lits.now) ≡ true) × Within (lits t) (lits c.args.trail.now) in
-    subst P (sym c.drop_level.ensures) (stand_below c.args.clauses.now c.args.trail.now c.requires.stand, c.requires.unit, below_within c.args.trail.now)
+    let P : Entries → Type 0 = λ t. Stand c.args.clauses.now t × (is_unit (reading (lits t) c.args.lits.now) ≡ true)
+    × Within (lits t) (lits c.args.trail.now) in
+    subst P (sym c.drop_level.ensures) (
+      stand_below c.args.clauses.now c.args.trail.now c.requires.stand,
+      c.requires.unit,
+      below_within
+          c.args.trail.now,
+    )
 
 pub loop-trail-smaller : goal.loop-trail-smaller
 loop-trail-smaller c =
     let P : Entries → Type 0 = λ t. length t < length c.loop-trail.trail in
-    subst P (sym c.drop_level-in-loop-trail.ensures) (below_shorter c.loop-trail.trail (sym c.has_decision.ensures ∙ c.loop-trail-test.true))
+    subst P (sym c.drop_level-in-loop-trail.ensures)
+    (below_shorter c.loop-trail.trail (sym c.has_decision.ensures ∙ c.loop-trail-test.true))
 
 pub loop-trail-preserved : goal.loop-trail-preserved
 loop-trail-preserved c =
-    let P : Entries → Type 0 = λ t. Stand c.args.clauses.now t × (is_unit (reading (lits t) c.args.lits.now) ≡ true) × Within (lits t) (lits c.args.trail.now) in
+    let P : Entries → Type 0 = λ t. Stand c.args.clauses.now t × (is_unit (reading (lits t) c.args.lits.now) ≡ true)
+    × Within (lits t) (lits c.args.trail.now) in
     subst P (sym c.drop_level-in-loop-trail.ensures) (
       stand_below c.args.clauses.now c.loop-trail.trail c.loop-trail.invariant.0,
       ap is_unit (sym c.read_below.ensures) ∙ sym c.is_unit.ensures ∙ c.if-is_unit.true,

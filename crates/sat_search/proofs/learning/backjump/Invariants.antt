@@ -5,7 +5,8 @@ use Rattle.sat_search.specs.Analysis.{Within, is_unit}
 use Rattle.sat_search.proofs.learning.backjump.Given as goal
 
 abbrev pub invariant-loop-trail : goal.invariant-loop-trail
-invariant-loop-trail l = Stand l.clauses l.trail × (is_unit (reading (lits l.trail) l.lits) ≡ true) × Within (lits l.trail) (lits l.fn.trail)
+invariant-loop-trail l = Stand l.clauses l.trail × (is_unit (reading (lits l.trail) l.lits) ≡ true)
+    × Within (lits l.trail) (lits l.fn.trail)
 
 abbrev pub decreases-loop-trail : goal.decreases-loop-trail
 decreases-loop-trail l = length l.trail

@@ -7,17 +7,26 @@ use Rattle.sat_search.specs.Searching.{Searching}
 use Rattle.sat_search.proofs.Added.{are_steps}
 use Rattle.sat_search.proofs.Models.{length_values, models}
 use Rattle.sat_search.proofs.Rounds.{clause_falls}
-use Rattle.sat_search.proofs.Searches.{begins, learnt_on, valid_now, added_now, derived_now, bound_now, refutes_now, fewer_now, refuted_added}
+use Rattle.sat_search.proofs.Searches.{begins, learnt_on, valid_now, added_now, derived_now, bound_now, refutes_now}
+use Rattle.sat_search.proofs.Searches.{fewer_now, refuted_added}
 use Rattle.sat_search.proofs.Solves.{seen_lits, conflict_at, unit_free, unit_on, unit_falls, decision_falls}
 use Rattle.sat_search.proofs.search.solve.Goals as goal
 
 pub loop-place-init : goal.loop-place-init
 loop-place-init c =
-    let P : List (List ℤ) → Type 0 = λ z. Searching c.args.formula.now.vars c.args.budget c.args.formula.now.clauses z c.new-trail.result c.new-steps.result c.args.budget in
-    let Q : Entries → Type 0 = λ z. Searching c.args.formula.now.vars c.args.budget c.args.formula.now.clauses c.args.formula.now.clauses z c.new-steps.result c.args.budget in
-    let R : List Step → Type 0 = λ z. Searching c.args.formula.now.vars c.args.budget c.args.formula.now.clauses c.args.formula.now.clauses [] z c.args.budget in (
+    let P : List (List ℤ) → Type 0 =
+    λ z. Searching c.args.formula.now.vars c.args.budget c.args.formula.now.clauses z c.new-trail.result
+    c.new-steps.result c.args.budget in
+    let Q : Entries → Type 0 =
+    λ z. Searching c.args.formula.now.vars c.args.budget c.args.formula.now.clauses c.args.formula.now.clauses z
+    c.new-steps.result c.args.budget in
+    let R : List Step → Type 0 =
+    λ z. Searching c.args.formula.now.vars c.args.budget c.args.formula.now.clauses c.args.formula.now.clauses []
+    z c.args.budget in (
       subst P (sym c.in_ok-clauses.ensures.value) (subst Q (sym c.new-trail.ensures) (subst R (sym c.new-steps.ensures)
-          (begins c.args.formula.now.vars c.args.budget c.args.formula.now.clauses (subst (AreClauses c.args.formula.now.vars) c.in_ok-clauses.ensures.value c.in_ok-clauses.ensures.literals)
+          (begins c.args.formula.now.vars c.args.budget c.args.formula.now.clauses
+          (subst (AreClauses c.args.formula.now.vars) c.in_ok-clauses.ensures.value
+          c.in_ok-clauses.ensures.literals)
           (omega (arith, ap length c.in_ok-clauses.ensures.value))))),
       c.requires,
     )
@@ -25,140 +34,188 @@ loop-place-init c =
 pub survey-requires : goal.survey-requires
 survey-requires c =
     let v : c.args.formula.now.vars < 2 ^ 63 = omega (arith, c.vars-vars.ensures.value, c.vars-vars.ensures.small) in
-    seen_lits c.args.formula.now.vars c.args.budget c.args.formula.now.clauses c.loop-place.clauses c.loop-place.trail c.loop-place.steps c.loop-place.left
+    seen_lits c.args.formula.now.vars c.args.budget c.args.formula.now.clauses c.loop-place.clauses
+    c.loop-place.trail c.loop-place.steps c.loop-place.left
     c.loop-place.invariant.0 v c.as_slice.result.now c.as_slice.ensures
 
 pub push-requires : goal.push-requires
 push-requires c =
     let v : c.args.formula.now.vars < 2 ^ 63 = omega (arith, c.vars-vars.ensures.value, c.vars-vars.ensures.small) in
-    unit_free c.args.formula.now.vars c.args.budget c.args.formula.now.clauses c.loop-place.clauses c.loop-place.trail c.loop-place.steps c.loop-place.left
+    unit_free c.args.formula.now.vars c.args.budget c.args.formula.now.clauses c.loop-place.clauses
+    c.loop-place.trail c.loop-place.steps c.loop-place.left
     c.loop-place.invariant.0 v c.as_slice.result.now c.as_slice.ensures c.in-Unit.place c.in-Unit.lit c.in-Unit.ensures
 
 pub loop-place-smaller-in_ok-push-in-Unit : goal.loop-place-smaller-in_ok-push-in-Unit
 loop-place-smaller-in_ok-push-in-Unit c =
     let v : c.args.formula.now.vars < 2 ^ 63 = omega (arith, c.vars-vars.ensures.value, c.vars-vars.ensures.small) in
-    unit_falls c.args.formula.now.vars c.args.budget c.args.formula.now.clauses c.loop-place.clauses c.loop-place.trail c.loop-place.steps c.loop-place.left
-    c.loop-place.invariant.0 v c.as_slice.result.now c.as_slice.ensures c.in-Unit.place c.in-Unit.lit c.in-Unit.ensures c.push.new.self c.in_ok-push-in-Unit.ensures
+    unit_falls c.args.formula.now.vars c.args.budget c.args.formula.now.clauses c.loop-place.clauses
+    c.loop-place.trail c.loop-place.steps c.loop-place.left
+    c.loop-place.invariant.0 v c.as_slice.result.now c.as_slice.ensures c.in-Unit.place c.in-Unit.lit
+    c.in-Unit.ensures c.push.new.self c.in_ok-push-in-Unit.ensures
 
 pub loop-place-preserved-in_ok-push-in-Unit : goal.loop-place-preserved-in_ok-push-in-Unit
 loop-place-preserved-in_ok-push-in-Unit c =
     let v : c.args.formula.now.vars < 2 ^ 63 = omega (arith, c.vars-vars.ensures.value, c.vars-vars.ensures.small) in (
-      unit_on c.args.formula.now.vars c.args.budget c.args.formula.now.clauses c.loop-place.clauses c.loop-place.trail c.loop-place.steps c.loop-place.left
-          c.loop-place.invariant.0 v c.as_slice.result.now c.as_slice.ensures c.in-Unit.place c.in-Unit.lit c.in-Unit.ensures c.push.new.self c.in_ok-push-in-Unit.ensures,
+      unit_on c.args.formula.now.vars c.args.budget c.args.formula.now.clauses c.loop-place.clauses
+          c.loop-place.trail c.loop-place.steps c.loop-place.left
+          c.loop-place.invariant.0 v c.as_slice.result.now c.as_slice.ensures c.in-Unit.place c.in-Unit.lit
+          c.in-Unit.ensures c.push.new.self c.in_ok-push-in-Unit.ensures,
       c.loop-place.invariant.1,
     )
 
 pub returns-in-None-clause-len : goal.returns-in-None-clause-len
 returns-in-None-clause-len c =
-    ap length c.in_ok-values-in-None.ensures ∙ length_values c.vars-vars.result (lits c.loop-place.trail) ∙ c.vars-vars.ensures.value
+    ap length c.in_ok-values-in-None.ensures ∙ length_values c.vars-vars.result (lits c.loop-place.trail)
+    ∙ c.vars-vars.ensures.value
 
 pub returns-in-None-clause-model : goal.returns-in-None-clause-model
 returns-in-None-clause-model c =
     let P : ℕ → Type 0 = λ n. AllAssigned n (lits c.loop-place.trail) in
-    ap (λ z. formula_true (value_of z) c.args.formula.now.clauses) (c.in_ok-values-in-None.ensures ∙ ap (λ n. values_of n (lits c.loop-place.trail)) c.vars-vars.ensures.value)
-    ∙ models c.args.formula.now.vars c.loop-place.clauses c.loop-place.trail c.loop-place.invariant.0.stand (subst P c.vars-vars.ensures.value c.in-None.ensures)
-    c.args.formula.now.clauses c.loop-place.invariant.0.learnt c.loop-place.invariant.0.joined c.loop-place.invariant.0.names
+    ap (λ z. formula_true (value_of z) c.args.formula.now.clauses)
+    (c.in_ok-values-in-None.ensures ∙ ap (λ n. values_of n (lits c.loop-place.trail)) c.vars-vars.ensures.value)
+    ∙ models c.args.formula.now.vars c.loop-place.clauses c.loop-place.trail c.loop-place.invariant.0.stand
+    (subst P c.vars-vars.ensures.value c.in-None.ensures)
+    c.args.formula.now.clauses c.loop-place.invariant.0.learnt c.loop-place.invariant.0.joined
+    c.loop-place.invariant.0.names
     (ap (λ z. settled z (lits c.loop-place.trail)) (sym c.as_slice.ensures) ∙ c.in-Settled.ensures)
 
 pub loop-place-smaller-in_ok-push-in-Some : goal.loop-place-smaller-in_ok-push-in-Some
 loop-place-smaller-in_ok-push-in-Some c =
     let v : c.args.formula.now.vars < 2 ^ 63 = omega (arith, c.vars-vars.ensures.value, c.vars-vars.ensures.small) in
     let P : ℕ → Type 0 = λ n. IsOpenVar n (lits c.loop-place.trail) c.in-Some.var in
-    decision_falls c.args.formula.now.vars c.args.budget c.args.formula.now.clauses c.loop-place.clauses c.loop-place.trail c.loop-place.steps c.loop-place.left
-    c.loop-place.invariant.0 v c.as_slice.result.now c.as_slice.ensures c.in-Some.var (subst P c.vars-vars.ensures.value c.in-Some.ensures) c.push-in-Some.new.self c.in_ok-push-in-Some.ensures
+    decision_falls c.args.formula.now.vars c.args.budget c.args.formula.now.clauses c.loop-place.clauses
+    c.loop-place.trail c.loop-place.steps c.loop-place.left
+    c.loop-place.invariant.0 v c.as_slice.result.now c.as_slice.ensures c.in-Some.var
+    (subst P c.vars-vars.ensures.value c.in-Some.ensures) c.push-in-Some.new.self c.in_ok-push-in-Some.ensures
 
 pub to_empty-requires-clause-lits : goal.to_empty-requires-clause-lits
 to_empty-requires-clause-lits c =
     let v : c.args.formula.now.vars < 2 ^ 63 = omega (arith, c.vars-vars.ensures.value, c.vars-vars.ensures.small) in
-    seen_lits c.args.formula.now.vars c.args.budget c.args.formula.now.clauses c.loop-place.clauses c.loop-place.trail c.loop-place.steps c.loop-place.left
+    seen_lits c.args.formula.now.vars c.args.budget c.args.formula.now.clauses c.loop-place.clauses
+    c.loop-place.trail c.loop-place.steps c.loop-place.left
     c.loop-place.invariant.0 v c.as_slice-then-not-has_decision.result.now c.as_slice-then-not-has_decision.ensures
 
 pub to_empty-requires-clause-conflict : goal.to_empty-requires-clause-conflict
 to_empty-requires-clause-conflict c =
     let v : c.args.formula.now.vars < 2 ^ 63 = omega (arith, c.vars-vars.ensures.value, c.vars-vars.ensures.small) in
-    conflict_at c.args.formula.now.vars c.args.budget c.args.formula.now.clauses c.loop-place.clauses c.loop-place.trail c.loop-place.steps c.loop-place.left
-    c.loop-place.invariant.0 v c.as_slice.result.now c.as_slice.ensures c.in-Conflict.place c.as_slice-then-not-has_decision.result.now c.as_slice-then-not-has_decision.ensures c.in-Conflict.ensures
+    conflict_at c.args.formula.now.vars c.args.budget c.args.formula.now.clauses c.loop-place.clauses
+    c.loop-place.trail c.loop-place.steps c.loop-place.left
+    c.loop-place.invariant.0 v c.as_slice.result.now c.as_slice.ensures c.in-Conflict.place
+    c.as_slice-then-not-has_decision.result.now c.as_slice-then-not-has_decision.ensures c.in-Conflict.ensures
 
 pub returns-then-not-has_decision-clause-refuted : goal.returns-then-not-has_decision-clause-refuted
 returns-then-not-has_decision-clause-refuted c =
-    let P : List (List ℤ) → Type 0 = λ z. Derives z c.to_empty.new.trail c.in_ok-learnt-in-Conflict.learnt.lits.items (reverse c.in_ok-learnt-in-Conflict.learnt.hints.items) in (
+    let P : List (List ℤ) → Type 0 = λ z. Derives z c.to_empty.new.trail c.in_ok-learnt-in-Conflict.learnt.lits.items
+    (reverse c.in_ok-learnt-in-Conflict.learnt.hints.items) in (
       length c.loop-place.clauses + 1,
-      refutes_now c.args.formula.now.vars c.args.budget c.args.formula.now.clauses c.loop-place.clauses c.loop-place.trail c.loop-place.steps c.loop-place.left
-          c.loop-place.invariant.0 c.to_empty.new.trail c.in_ok-learnt-in-Conflict.learnt.lits.items (reverse c.in_ok-learnt-in-Conflict.learnt.hints.items)
-          (subst P c.as_slice-then-not-has_decision.ensures c.in_ok-learnt-in-Conflict.ensures.derives) c.in_ok-learnt-in-Conflict.ensures.empty
+      refutes_now c.args.formula.now.vars c.args.budget c.args.formula.now.clauses c.loop-place.clauses
+          c.loop-place.trail c.loop-place.steps c.loop-place.left
+          c.loop-place.invariant.0 c.to_empty.new.trail c.in_ok-learnt-in-Conflict.learnt.lits.items
+          (reverse c.in_ok-learnt-in-Conflict.learnt.hints.items)
+          (subst P c.as_slice-then-not-has_decision.ensures c.in_ok-learnt-in-Conflict.ensures.derives)
+          c.in_ok-learnt-in-Conflict.ensures.empty
           c.add.new.steps c.in_ok-add-in-Conflict.ensures.steps,
     )
 
 pub returns-then-not-has_decision-clause-fewer : goal.returns-then-not-has_decision-clause-fewer
 returns-then-not-has_decision-clause-fewer c =
-    let P : List (List ℤ) → Type 0 = λ z. Derives z c.to_empty.new.trail c.in_ok-learnt-in-Conflict.learnt.lits.items (reverse c.in_ok-learnt-in-Conflict.learnt.hints.items) in
-    fewer_now c.args.formula.now.vars c.args.budget c.args.formula.now.clauses c.loop-place.clauses c.loop-place.trail c.loop-place.steps c.loop-place.left
-    c.loop-place.invariant.0 c.to_empty.new.trail c.in_ok-learnt-in-Conflict.learnt.lits.items (reverse c.in_ok-learnt-in-Conflict.learnt.hints.items)
-    (subst P c.as_slice-then-not-has_decision.ensures c.in_ok-learnt-in-Conflict.ensures.derives) c.in_ok-learnt-in-Conflict.ensures.empty
+    let P : List (List ℤ) → Type 0 = λ z. Derives z c.to_empty.new.trail c.in_ok-learnt-in-Conflict.learnt.lits.items
+    (reverse c.in_ok-learnt-in-Conflict.learnt.hints.items) in
+    fewer_now c.args.formula.now.vars c.args.budget c.args.formula.now.clauses c.loop-place.clauses
+    c.loop-place.trail c.loop-place.steps c.loop-place.left
+    c.loop-place.invariant.0 c.to_empty.new.trail c.in_ok-learnt-in-Conflict.learnt.lits.items
+    (reverse c.in_ok-learnt-in-Conflict.learnt.hints.items)
+    (subst P c.as_slice-then-not-has_decision.ensures c.in_ok-learnt-in-Conflict.ensures.derives)
+    c.in_ok-learnt-in-Conflict.ensures.empty
     c.add.new.steps c.in_ok-add-in-Conflict.ensures.steps c.loop-place.invariant.1
 
 pub learn-requires-clause-lits : goal.learn-requires-clause-lits
 learn-requires-clause-lits c =
     let v : c.args.formula.now.vars < 2 ^ 63 = omega (arith, c.vars-vars.ensures.value, c.vars-vars.ensures.small) in
-    seen_lits c.args.formula.now.vars c.args.budget c.args.formula.now.clauses c.loop-place.clauses c.loop-place.trail c.loop-place.steps c.loop-place.left
+    seen_lits c.args.formula.now.vars c.args.budget c.args.formula.now.clauses c.loop-place.clauses
+    c.loop-place.trail c.loop-place.steps c.loop-place.left
     c.loop-place.invariant.0 v c.loop-place.clauses refl
 
 pub learn-requires-clause-conflict : goal.learn-requires-clause-conflict
 learn-requires-clause-conflict c =
     let v : c.args.formula.now.vars < 2 ^ 63 = omega (arith, c.vars-vars.ensures.value, c.vars-vars.ensures.small) in
-    conflict_at c.args.formula.now.vars c.args.budget c.args.formula.now.clauses c.loop-place.clauses c.loop-place.trail c.loop-place.steps c.loop-place.left
-    c.loop-place.invariant.0 v c.as_slice.result.now c.as_slice.ensures c.in-Conflict.place c.loop-place.clauses refl c.in-Conflict.ensures
+    conflict_at c.args.formula.now.vars c.args.budget c.args.formula.now.clauses c.loop-place.clauses
+    c.loop-place.trail c.loop-place.steps c.loop-place.left
+    c.loop-place.invariant.0 v c.as_slice.result.now c.as_slice.ensures c.in-Conflict.place c.loop-place.clauses refl
+    c.in-Conflict.ensures
 
 pub returns-then-left-eq0-clause-valid : goal.returns-then-left-eq0-clause-valid
 returns-then-left-eq0-clause-valid c =
-    let s = learnt_on c.args.formula.now.vars c.args.budget c.args.formula.now.clauses c.loop-place.clauses c.loop-place.trail c.loop-place.steps c.loop-place.left
-    c.loop-place.invariant.0 c.learn.new.clauses c.learn.new.trail c.learn.new.steps (c.loop-place.left - 1) c.in_ok-learn-in-Conflict.ensures (omega (arith, c.loop-place.invariant.1)) in
-    valid_now c.args.formula.now.vars c.args.budget c.args.formula.now.clauses c.learn.new.clauses c.learn.new.trail c.learn.new.steps (c.loop-place.left - 1) s
+    let s = learnt_on c.args.formula.now.vars c.args.budget c.args.formula.now.clauses c.loop-place.clauses
+    c.loop-place.trail c.loop-place.steps c.loop-place.left
+    c.loop-place.invariant.0 c.learn.new.clauses c.learn.new.trail c.learn.new.steps
+    (c.loop-place.left - 1) c.in_ok-learn-in-Conflict.ensures (omega (arith, c.loop-place.invariant.1)) in
+    valid_now c.args.formula.now.vars c.args.budget c.args.formula.now.clauses c.learn.new.clauses c.learn.new.trail
+    c.learn.new.steps (c.loop-place.left - 1) s
 
 pub returns-then-left-eq0-clause-spent : goal.returns-then-left-eq0-clause-spent
 returns-then-left-eq0-clause-spent c =
-    let s = learnt_on c.args.formula.now.vars c.args.budget c.args.formula.now.clauses c.loop-place.clauses c.loop-place.trail c.loop-place.steps c.loop-place.left
-    c.loop-place.invariant.0 c.learn.new.clauses c.learn.new.trail c.learn.new.steps (c.loop-place.left - 1) c.in_ok-learn-in-Conflict.ensures (omega (arith, c.loop-place.invariant.1)) in
-    let d = derived_now c.args.formula.now.vars c.args.budget c.args.formula.now.clauses c.learn.new.clauses c.learn.new.trail c.learn.new.steps (c.loop-place.left - 1) s in
+    let s = learnt_on c.args.formula.now.vars c.args.budget c.args.formula.now.clauses c.loop-place.clauses
+    c.loop-place.trail c.loop-place.steps c.loop-place.left
+    c.loop-place.invariant.0 c.learn.new.clauses c.learn.new.trail c.learn.new.steps
+    (c.loop-place.left - 1) c.in_ok-learn-in-Conflict.ensures (omega (arith, c.loop-place.invariant.1)) in
+    let d = derived_now c.args.formula.now.vars c.args.budget c.args.formula.now.clauses c.learn.new.clauses
+    c.learn.new.trail c.learn.new.steps (c.loop-place.left - 1) s in
     omega (arith, d, c.if-left-eq0.true)
 
 pub returns-then-left-eq0-clause-bound : goal.returns-then-left-eq0-clause-bound
 returns-then-left-eq0-clause-bound c =
-    let s = learnt_on c.args.formula.now.vars c.args.budget c.args.formula.now.clauses c.loop-place.clauses c.loop-place.trail c.loop-place.steps c.loop-place.left
-    c.loop-place.invariant.0 c.learn.new.clauses c.learn.new.trail c.learn.new.steps (c.loop-place.left - 1) c.in_ok-learn-in-Conflict.ensures (omega (arith, c.loop-place.invariant.1)) in
-    bound_now c.args.formula.now.vars c.args.budget c.args.formula.now.clauses c.learn.new.clauses c.learn.new.trail c.learn.new.steps (c.loop-place.left - 1) s c.if-left-eq0.true
+    let s = learnt_on c.args.formula.now.vars c.args.budget c.args.formula.now.clauses c.loop-place.clauses
+    c.loop-place.trail c.loop-place.steps c.loop-place.left
+    c.loop-place.invariant.0 c.learn.new.clauses c.learn.new.trail c.learn.new.steps
+    (c.loop-place.left - 1) c.in_ok-learn-in-Conflict.ensures (omega (arith, c.loop-place.invariant.1)) in
+    bound_now c.args.formula.now.vars c.args.budget c.args.formula.now.clauses c.learn.new.clauses c.learn.new.trail
+    c.learn.new.steps (c.loop-place.left - 1) s c.if-left-eq0.true
 
 pub returns-then-left-eq0-clause-added : goal.returns-then-left-eq0-clause-added
 returns-then-left-eq0-clause-added c =
-    let s = learnt_on c.args.formula.now.vars c.args.budget c.args.formula.now.clauses c.loop-place.clauses c.loop-place.trail c.loop-place.steps c.loop-place.left
-    c.loop-place.invariant.0 c.learn.new.clauses c.learn.new.trail c.learn.new.steps (c.loop-place.left - 1) c.in_ok-learn-in-Conflict.ensures (omega (arith, c.loop-place.invariant.1)) in
-    added_now c.args.formula.now.vars c.args.budget c.args.formula.now.clauses c.learn.new.clauses c.learn.new.trail c.learn.new.steps (c.loop-place.left - 1) s
+    let s = learnt_on c.args.formula.now.vars c.args.budget c.args.formula.now.clauses c.loop-place.clauses
+    c.loop-place.trail c.loop-place.steps c.loop-place.left
+    c.loop-place.invariant.0 c.learn.new.clauses c.learn.new.trail c.learn.new.steps
+    (c.loop-place.left - 1) c.in_ok-learn-in-Conflict.ensures (omega (arith, c.loop-place.invariant.1)) in
+    added_now c.args.formula.now.vars c.args.budget c.args.formula.now.clauses c.learn.new.clauses c.learn.new.trail
+    c.learn.new.steps (c.loop-place.left - 1) s
 
 pub returns-then-not-has_decision-clause-steps : goal.returns-then-not-has_decision-clause-steps
 returns-then-not-has_decision-clause-steps c =
     let v : c.args.formula.now.vars < 2 ^ 63 = omega (arith, c.vars-vars.ensures.value, c.vars-vars.ensures.small) in
-    let P : List (List ℤ) → Type 0 = λ z. Derives z c.to_empty.new.trail c.in_ok-learnt-in-Conflict.learnt.lits.items (reverse c.in_ok-learnt-in-Conflict.learnt.hints.items) in
+    let P : List (List ℤ) → Type 0 = λ z. Derives z c.to_empty.new.trail c.in_ok-learnt-in-Conflict.learnt.lits.items
+    (reverse c.in_ok-learnt-in-Conflict.learnt.hints.items) in
     are_steps c.args.formula.now.vars c.add.new.steps v
-    (refuted_added c.args.formula.now.vars c.args.budget c.args.formula.now.clauses c.loop-place.clauses c.loop-place.trail c.loop-place.steps c.loop-place.left
-    c.loop-place.invariant.0 c.to_empty.new.trail c.in_ok-learnt-in-Conflict.learnt.lits.items (reverse c.in_ok-learnt-in-Conflict.learnt.hints.items)
-    (subst P c.as_slice-then-not-has_decision.ensures c.in_ok-learnt-in-Conflict.ensures.derives) c.in_ok-learnt-in-Conflict.ensures.empty
+    (refuted_added c.args.formula.now.vars c.args.budget c.args.formula.now.clauses c.loop-place.clauses
+    c.loop-place.trail c.loop-place.steps c.loop-place.left
+    c.loop-place.invariant.0 c.to_empty.new.trail c.in_ok-learnt-in-Conflict.learnt.lits.items
+    (reverse c.in_ok-learnt-in-Conflict.learnt.hints.items)
+    (subst P c.as_slice-then-not-has_decision.ensures c.in_ok-learnt-in-Conflict.ensures.derives)
+    c.in_ok-learnt-in-Conflict.ensures.empty
     c.add.new.steps c.in_ok-add-in-Conflict.ensures.steps)
 
 pub returns-then-left-eq0-clause-steps : goal.returns-then-left-eq0-clause-steps
 returns-then-left-eq0-clause-steps c =
     let v : c.args.formula.now.vars < 2 ^ 63 = omega (arith, c.vars-vars.ensures.value, c.vars-vars.ensures.small) in
-    let s = learnt_on c.args.formula.now.vars c.args.budget c.args.formula.now.clauses c.loop-place.clauses c.loop-place.trail c.loop-place.steps c.loop-place.left
-    c.loop-place.invariant.0 c.learn.new.clauses c.learn.new.trail c.learn.new.steps (c.loop-place.left - 1) c.in_ok-learn-in-Conflict.ensures (omega (arith, c.loop-place.invariant.1)) in
+    let s = learnt_on c.args.formula.now.vars c.args.budget c.args.formula.now.clauses c.loop-place.clauses
+    c.loop-place.trail c.loop-place.steps c.loop-place.left
+    c.loop-place.invariant.0 c.learn.new.clauses c.learn.new.trail c.learn.new.steps
+    (c.loop-place.left - 1) c.in_ok-learn-in-Conflict.ensures (omega (arith, c.loop-place.invariant.1)) in
     are_steps c.args.formula.now.vars c.learn.new.steps v
-    (added_now c.args.formula.now.vars c.args.budget c.args.formula.now.clauses c.learn.new.clauses c.learn.new.trail c.learn.new.steps (c.loop-place.left - 1) s)
+    (added_now c.args.formula.now.vars c.args.budget c.args.formula.now.clauses c.learn.new.clauses c.learn.new.trail
+    c.learn.new.steps (c.loop-place.left - 1) s)
 
 pub loop-place-smaller : goal.loop-place-smaller
 loop-place-smaller c =
-    clause_falls c.args.formula.now.vars c.loop-place.left (c.loop-place.left - 1) c.learn.new.trail c.loop-place.trail (omega (arith, c.loop-place.invariant.1))
+    clause_falls c.args.formula.now.vars c.loop-place.left
+    (c.loop-place.left - 1) c.learn.new.trail c.loop-place.trail (omega (arith, c.loop-place.invariant.1))
 
 pub loop-place-preserved : goal.loop-place-preserved
 loop-place-preserved c = (
-  learnt_on c.args.formula.now.vars c.args.budget c.args.formula.now.clauses c.loop-place.clauses c.loop-place.trail c.loop-place.steps c.loop-place.left
-      c.loop-place.invariant.0 c.learn.new.clauses c.learn.new.trail c.learn.new.steps (c.loop-place.left - 1) c.in_ok-learn-in-Conflict.ensures (omega (arith, c.loop-place.invariant.1)),
+  learnt_on c.args.formula.now.vars c.args.budget c.args.formula.now.clauses c.loop-place.clauses c.loop-place.trail
+      c.loop-place.steps c.loop-place.left
+      c.loop-place.invariant.0 c.learn.new.clauses c.learn.new.trail c.learn.new.steps
+      (c.loop-place.left - 1) c.in_ok-learn-in-Conflict.ensures (omega (arith, c.loop-place.invariant.1)),
   omega (arith, c.loop-place.invariant.1, c.if-left-eq0.false),
 )

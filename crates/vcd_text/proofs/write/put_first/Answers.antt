@@ -15,5 +15,7 @@ returns c =
     let l3 = codes "$end" in
     let vs = value_lines 0 c.args.names.now c.args.values.now in
     lines_put o0 o3 o4 (l1 ∷ l2 ∷ vs) (l3 ∷ [])
-    (lines_put o0 o2 o3 (l1 ∷ l2 ∷ []) vs (lines_put o0 o1 o2 (l1 ∷ []) (l2 ∷ []) (line_put o0 o1 l1 c.in_ok-put_line.ensures) (line_put o1 o2 l2 c.in_ok-put_line-2.ensures)) c.in_ok-put_values.ensures)
+    (lines_put o0 o2 o3 (l1 ∷ l2 ∷ []) vs (lines_put o0 o1 o2 (l1 ∷ []) (l2 ∷ [])
+    (line_put o0 o1 l1 c.in_ok-put_line.ensures)
+    (line_put o1 o2 l2 c.in_ok-put_line-2.ensures)) c.in_ok-put_values.ensures)
     (line_put o3 o4 l3 c.in_ok-put_line-3.ensures)

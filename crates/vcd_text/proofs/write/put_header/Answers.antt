@@ -17,5 +17,8 @@ returns c =
     let l4 = codes "$enddefinitions $end" in
     let ns = name_lines 0 c.args.names.now in
     lines_put o0 o3 o5 (l1 ∷ l2 ∷ ns) (l3 ∷ l4 ∷ [])
-    (lines_put o0 o2 o3 (l1 ∷ l2 ∷ []) ns (lines_put o0 o1 o2 (l1 ∷ []) (l2 ∷ []) (line_put o0 o1 l1 c.in_ok-put_line.ensures) (line_put o1 o2 l2 c.in_ok-put_line-2.ensures)) c.in_ok-put_names.ensures)
-    (lines_put o3 o4 o5 (l3 ∷ []) (l4 ∷ []) (line_put o3 o4 l3 c.in_ok-put_line-3.ensures) (line_put o4 o5 l4 c.in_ok-put_line-4.ensures))
+    (lines_put o0 o2 o3 (l1 ∷ l2 ∷ []) ns (lines_put o0 o1 o2 (l1 ∷ []) (l2 ∷ [])
+    (line_put o0 o1 l1 c.in_ok-put_line.ensures)
+    (line_put o1 o2 l2 c.in_ok-put_line-2.ensures)) c.in_ok-put_names.ensures)
+    (lines_put o3 o4 o5 (l3 ∷ []) (l4 ∷ []) (line_put o3 o4 l3 c.in_ok-put_line-3.ensures)
+    (line_put o4 o5 l4 c.in_ok-put_line-4.ensures))

@@ -4,4 +4,8 @@ use Rattle.vcd_text.proofs.WriteLemmas.{values_step}
 use Rattle.vcd_text.proofs.write.put_values.Goals as goal
 
 pub loop-index-preserved : goal.loop-index-preserved
-loop-index-preserved c = values_step c.loop-index.out.items c.put_value.new.out.items (c.args.out.now.items ++ text_of (value_lines 0 c.args.names.now c.args.values.now)) c.loop-index.index c.args.names.now c.index-names-index.result c.args.values.now c.loop-index-test.true c.index-names-index.is c.requires c.loop-index.invariant c.in_ok-put_value.ensures
+loop-index-preserved c = values_step c.loop-index.out.items c.put_value.new.out.items
+    (c.args.out.now.items ++ text_of
+    (value_lines 0 c.args.names.now c.args.values.now)) c.loop-index.index c.args.names.now
+    c.index-names-index.result c.args.values.now c.loop-index-test.true c.index-names-index.is c.requires
+    c.loop-index.invariant c.in_ok-put_value.ensures

@@ -6,7 +6,8 @@ use Rattle.vl_core.specs.Gates.{set, sets}
 use Rattle.vl_core.proofs.AddsLemmas.{set_literal, sets_literals}
 use Rattle.vl_core.proofs.numbers.push_zero_test.Goals as goal
 
-literals : (vars z a w : ℕ) (first all : List ℤ) → first ≡ [] ++ set z ∷ [] → all ≡ first ++ sets a w → z + 1 ≤ vars → a + w ≤ vars → AreLiterals vars all
+literals : (vars z a w : ℕ) (first all : List ℤ) → first ≡ [] ++ set z ∷ [] → all ≡ first ++ sets a w → z + 1 ≤ vars
+    → a + w ≤ vars → AreLiterals vars all
 literals vars z a w first all e f hz ha =
     let P : List ℤ → Type 0 = λ l. AreLiterals vars l in
     subst P (sym (f ∙ ap (λ l. l ++ sets a w) e)) (set_literal vars z hz, sets_literals vars a w ha)

@@ -9,5 +9,6 @@ with_bit-number-requires-clause-number c =
 
 pub loop-k-preserved : goal.loop-k-preserved
 loop-k-preserved c =
-    one_more (value_of c.args.values.now) c.args.places.now (record { port = 0; bit = 0; var = 0 }) c.args.from c.loop-k.k c.loop-k.number c.with_bit-number.result
+    one_more (value_of c.args.values.now) c.args.places.now
+    (record { port = 0; bit = 0; var = 0 }) c.args.from c.loop-k.k c.loop-k.number c.with_bit-number.result
     c.value_at.result (omega arith) c.loop-k.invariant c.value_at.ensures c.with_bit-number.ensures

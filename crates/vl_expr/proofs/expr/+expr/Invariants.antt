@@ -41,11 +41,13 @@ decreases-read_selects l = 4 * length l.tokens.now + 1
 
 abbrev pub invariant-parts_behind-loop-behind : goal.invariant-parts_behind-loop-behind
 invariant-parts_behind-loop-behind l = record {
-  found : (start : List Token) → Spells (spec.spell l.fn.first) start l.fn.tokens → Spells (spec.spell_parts (exprs l.parts)) start l.rest;
+  found : (start : List Token) → Spells (spec.spell l.fn.first) start l.fn.tokens
+      → Spells (spec.spell_parts (exprs l.parts)) start l.rest;
   some : formed.IsSome (exprs l.parts);
   formed : formed.AreWellFormed (exprs l.parts);
   shorter : length l.rest ≤ length l.fn.tokens;
-  goes : grammar.read grammar.parts l.fn.room (kinds_in l.fn.tokens) ≡ grammar.read grammar.parts l.fn.room (kinds_in l.rest);
+  goes : grammar.read grammar.parts l.fn.room (kinds_in l.fn.tokens)
+      ≡ grammar.read grammar.parts l.fn.room (kinds_in l.rest);
 }
 
 abbrev pub decreases-parts_behind-loop-behind : goal.decreases-parts_behind-loop-behind
@@ -56,7 +58,8 @@ invariant-read_selects-loop-behind l = record {
   found : Spells (spec.spell_selects (selects l.all)) l.fn.tokens l.rest;
   formed : formed.AreSelects (selects l.all);
   shorter : length l.rest ≤ length l.fn.tokens;
-  goes : grammar.read grammar.selects l.fn.room (kinds_in l.fn.tokens) ≡ grammar.read grammar.selects l.fn.room (kinds_in l.rest);
+  goes : grammar.read grammar.selects l.fn.room (kinds_in l.fn.tokens)
+      ≡ grammar.read grammar.selects l.fn.room (kinds_in l.rest);
 }
 
 abbrev pub decreases-read_selects-loop-behind : goal.decreases-read_selects-loop-behind

@@ -4,4 +4,5 @@ use Rattle.vl_first.proofs.assigning.put_items.Given as goal
 
 abbrev pub invariant-loop-item : goal.invariant-loop-item
 invariant-loop-item l =
-    each (put_item l.names l.heads) (drop l.item-index l.items) l.ports.items ≡ each (put_item l.names l.heads) l.items l.fn.ports.items
+    each (put_item l.names l.heads) (drop l.item-index l.items) l.ports.items
+    ≡ each (put_item l.names l.heads) l.items l.fn.ports.items

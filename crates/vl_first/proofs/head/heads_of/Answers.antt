@@ -17,12 +17,15 @@ loop-port-init c = all_of-none read _ _ c.new-heads.ensures.items
 pub returns-in_err-head_of-clause-found : goal.returns-in_err-head_of-clause-found
 returns-in_err-head_of-clause-found c =
     let p = err_from_is_err_and c.from_residual.result c.from_residual.ensures.1 in
-    let front : drop c.loop-port.port-index c.args.ports.now ≡ c.port-item.result ∷ drop (c.loop-port.port-index + 1) c.args.ports.now = grind (arith, common_steps) in
-    rw (p.1, p.2) (refused_by _ (read c.port-item.result ≡ None) _ (λ n. all_of-stops read _ _ _ _ c.loop-port.invariant front n) c.in_err-head_of.ensures)
+    let front : drop c.loop-port.port-index c.args.ports.now ≡ c.port-item.result
+    ∷ drop (c.loop-port.port-index + 1) c.args.ports.now = grind (arith, common_steps) in
+    rw (p.1, p.2) (refused_by _ (read c.port-item.result ≡ None) _
+    (λ n. all_of-stops read _ _ _ _ c.loop-port.invariant front n) c.in_err-head_of.ensures)
 
 pub loop-port-preserved : goal.loop-port-preserved
 loop-port-preserved c =
-    let front : drop c.loop-port.port-index c.args.ports.now ≡ c.port-item.result ∷ drop (c.loop-port.port-index + 1) c.args.ports.now = grind (arith, common_steps) in
+    let front : drop c.loop-port.port-index c.args.ports.now ≡ c.port-item.result
+    ∷ drop (c.loop-port.port-index + 1) c.args.ports.now = grind (arith, common_steps) in
     all_of-more read _ _ _ _ _ _ c.loop-port.invariant front c.in_ok-head_of.ensures c.in_ok-push.ensures.items
 
 pub returns-clause-found : goal.returns-clause-found

@@ -17,14 +17,17 @@ returns-clause-refused c =
 pub returns-in-Some-clause-size : goal.returns-in-Some-clause-size
 returns-in-Some-clause-size c =
     let none : c.decls.result.now ≡ [] = c.decls.ensures ∙ c.new-env.ensures.decls ∙ c.new.ensures in
-    ap Some c.const_of.ensures.width ∙ sym c.in-Some.is ∙ c.size_of.ensures.value ∙ (λ i. valid_size (none i) (c.in_ok-expr.ensures i))
+    ap Some c.const_of.ensures.width ∙ sym c.in-Some.is ∙ c.size_of.ensures.value
+    ∙ (λ i. valid_size (none i) (c.in_ok-expr.ensures i))
 
 pub returns-in-Some-clause-value : goal.returns-in-Some-clause-value
 returns-in-Some-clause-value c =
     let none : c.new-env.result.decls ≡ [] = c.new-env.ensures.decls ∙ c.new.ensures in
-    let zeros : cells_of c.new-env.result ≡ no_names = λ i name index. c.new-env.ensures.numbers (cell_name name index) i in
+    let zeros : cells_of c.new-env.result ≡ no_names = λ i name index. c.new-env.ensures.numbers
+    (cell_name name index) i in
     c.const_of.ensures.value
-    ∙ (λ i. value (none i) (zeros i) (sym c.const_of.ensures.width i) (sym c.const_of.ensures.signed i) (c.in_ok-expr.ensures i))
+    ∙ (λ i. value (none i) (zeros i) (sym c.const_of.ensures.width i) (sym c.const_of.ensures.signed i)
+    (c.in_ok-expr.ensures i))
 
 pub returns-in-Some-clause-faultless : goal.returns-in-Some-clause-faultless
 returns-in-Some-clause-faultless c =
@@ -35,4 +38,5 @@ returns-in-Some-clause-faultless c =
 pub refusal-requires-clause-refused : goal.refusal-requires-clause-refused
 refusal-requires-clause-refused c =
     let none : c.decls.result.now ≡ [] = c.decls.ensures ∙ c.new-env.ensures.decls ∙ c.new.ensures in
-    sym (sym c.in-None.is ∙ c.size_of.ensures.value ∙ (λ i. valid_size (none i) (c.in_ok-expr.ensures i)) ∙ ap (valid_size []) (sym c.in_ok-expr.ensures))
+    sym (sym c.in-None.is ∙ c.size_of.ensures.value ∙ (λ i. valid_size (none i) (c.in_ok-expr.ensures i))
+    ∙ ap (valid_size []) (sym c.in_ok-expr.ensures))

@@ -13,7 +13,9 @@ pub unreachable-requires : goal.unreachable-requires
 unreachable-requires c =
     let there = faulty (constant c.args.params.now) c.args.expr.now c.requires.refused in
     none_some _ there.0
-    (sym c.in-None.is ∙ c.first_fault.ensures ∙ (λ i. first_fault (constant c.args.params.now) (c.requires.no_decls i) (c.requires.no_values i) c.args.expr.now)) there.1
+    (sym c.in-None.is ∙ c.first_fault.ensures
+    ∙ (λ i. first_fault (constant c.args.params.now) (c.requires.no_decls i)
+    (c.requires.no_values i) c.args.expr.now)) there.1
 
 pub returns : goal.returns
 returns c =

@@ -7,8 +7,10 @@ use Rattle.vl_mean.proofs.settle.+settled.Goals as goal
 
 pub settled_parts-loop-part-preserved : goal.settled_parts-loop-part-preserved
 settled_parts-loop-part-preserved t c =
-    let front : drop c.loop-part.part-index c.args.all.now ≡ c.part-item.result ∷ drop (c.loop-part.part-index + 1) c.args.all.now = grind (arith, common_steps) in
-    settled_on (constant c.args.params.now) _ _ c.args.all.now _ _ c.loop-part.part-index _ front c.in_ok-push.ensures.ok c.in_ok-settled.ensures
+    let front : drop c.loop-part.part-index c.args.all.now ≡ c.part-item.result
+    ∷ drop (c.loop-part.part-index + 1) c.args.all.now = grind (arith, common_steps) in
+    settled_on (constant c.args.params.now) _ _ c.args.all.now _ _ c.loop-part.part-index _ front
+    c.in_ok-push.ensures.ok c.in_ok-settled.ensures
     c.loop-part.invariant
 
 pub settled_parts-returns : goal.settled_parts-returns
@@ -18,8 +20,10 @@ settled_parts-returns t c =
 
 pub settled_selects-loop-select-preserved : goal.settled_selects-loop-select-preserved
 settled_selects-loop-select-preserved t c =
-    let front : drop c.loop-select.select-index c.args.all.now ≡ c.select-item.result ∷ drop (c.loop-select.select-index + 1) c.args.all.now = grind (arith, common_steps) in
-    selects_on (constant c.args.params.now) _ _ c.args.all.now _ _ c.loop-select.select-index _ front c.in_ok-push.ensures.ok
+    let front : drop c.loop-select.select-index c.args.all.now ≡ c.select-item.result
+    ∷ drop (c.loop-select.select-index + 1) c.args.all.now = grind (arith, common_steps) in
+    selects_on (constant c.args.params.now) _ _ c.args.all.now _ _ c.loop-select.select-index _ front
+    c.in_ok-push.ensures.ok
     c.in_ok-settled_select.ensures c.loop-select.invariant
 
 pub settled_selects-returns : goal.settled_selects-returns

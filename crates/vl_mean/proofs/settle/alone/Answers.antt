@@ -4,4 +4,5 @@ use Rattle.vl_mean.proofs.settle.alone.Goals as goal
 
 pub returns-clause-numbers : goal.returns-clause-numbers
 returns-clause-numbers c = λ i other.
-    (c.in_ok-set.ensures.ok other ∙ ap (λ n. cond (bytes_eq c.args.text.now other) c.args.value.now.value n) (c.new-env.ensures.numbers other)) i
+    (c.in_ok-set.ensures.ok other ∙ ap (λ n. cond (bytes_eq c.args.text.now other) c.args.value.now.value n)
+    (c.new-env.ensures.numbers other)) i

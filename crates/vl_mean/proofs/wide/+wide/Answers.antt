@@ -13,9 +13,11 @@ use Rattle.vl_mean.proofs.wide.+wide.Goals as goal
 
 pub wides-returns-in_err-wide : goal.wides-returns-in_err-wide
 wides-returns-in_err-wide t c =
-    let front : drop (c.loop-place.place - 1) c.args.all.now ≡ c.index-all-place.result ∷ drop c.loop-place.place c.args.all.now = grind (arith, common_steps) in
+    let front : drop (c.loop-place.place - 1) c.args.all.now ≡ c.index-all-place.result
+    ∷ drop c.loop-place.place c.args.all.now = grind (arith, common_steps) in
     let left : c.from_residual.result ≡ None = search rules in
-    left ∙ sym (wides_at (constant c.args.params.now) c.args.env.now.decls (cells_of c.args.env.now) c.args.all.now _ _ _ front (sym c.in_err-wide.ensures))
+    left ∙ sym (wides_at (constant c.args.params.now) c.args.env.now.decls
+    (cells_of c.args.env.now) c.args.all.now _ _ _ front (sym c.in_err-wide.ensures))
 
 pub wide-returns-in_ok-size-in-Repeat : goal.wide-returns-in_ok-size-in-Repeat
 wide-returns-in_ok-size-in-Repeat t c =
@@ -23,7 +25,10 @@ wide-returns-in_ok-size-in-Repeat t c =
     let sized : c.deref-in-Repeat.result.now ≡ c.in-Repeat.count.value = search rules in
     let whole : shown c.expr.inside.pos (k.Repeat c.in-Repeat.count c.in-Repeat.parts) ≡ c.args.expr.now =
     ap (shown c.expr.inside.pos) (sym c.in-Repeat.is) ∙ c.expr.view_is in
-    repeat_sized (constant c.args.params.now) c.args.env.now.decls (cells_of c.args.env.now) c.args.expr.now c.in-Repeat.count.value c.expr.inside.pos
-    c.deref-in-Repeat.result.now c.deref-in-Repeat-2.result.now c.as_slice-in-Repeat.result.now _ _ _ _ _ _ _ whole (ap exprs c.as_slice-in-Repeat.ensures) sized counted
+    repeat_sized (constant c.args.params.now) c.args.env.now.decls
+    (cells_of c.args.env.now) c.args.expr.now c.in-Repeat.count.value c.expr.inside.pos
+    c.deref-in-Repeat.result.now c.deref-in-Repeat-2.result.now c.as_slice-in-Repeat.result.now _ _ _ _ _ _ _ whole
+    (ap exprs c.as_slice-in-Repeat.ensures) sized counted
     c.in_ok-wides-in-Repeat.ensures c.in_ok-size-in-Repeat.ensures
-    (c.size_of.ensures.value ∙ (λ i. valid_size (c.decls.ensures i) c.deref-in-Repeat.result.now)) c.own.ensures.index c.wide_times.ensures c.if_sized.ensures
+    (c.size_of.ensures.value ∙ (λ i. valid_size
+    (c.decls.ensures i) c.deref-in-Repeat.result.now)) c.own.ensures.index c.wide_times.ensures c.if_sized.ensures

@@ -18,24 +18,30 @@ use Rattle.vl_parse.proofs.item.+item.Goals as goal
 pub read_for-returns-clause-found : goal.read_for-returns-clause-found
 read_for-returns-clause-found n c start here word =
     subst (λ x. Spells (spell x) start c.in_ok-body.rest.now) (sym c.bare.ensures)
-    (for_found c.in_ok-head.head (block c.in_ok-body.body) c.args.pos start c.args.tokens.now c.in_ok-head.rest.now c.in_ok-body.rest.now here word
+    (for_found c.in_ok-head.head
+    (block c.in_ok-body.body) c.args.pos start c.args.tokens.now c.in_ok-head.rest.now c.in_ok-body.rest.now here
+    word
     c.in_ok-head.ensures.found c.in_ok-body.ensures.found)
 
 pub read_if-returns-in-None-clause-found : goal.read_if-returns-in-None-clause-found
 read_if-returns-in-None-clause-found n c start here word =
     subst (λ x. Spells (spell x) start c.in_ok-first.rest.now) (sym c.bare.ensures)
-    (if_found c.in_ok-condition.condition (block c.in_ok-first.first) c.args.pos start c.args.tokens.now c.in_ok-condition.rest.now c.in_ok-first.rest.now
+    (if_found c.in_ok-condition.condition
+    (block c.in_ok-first.first) c.args.pos start c.args.tokens.now c.in_ok-condition.rest.now c.in_ok-first.rest.now
     here word c.in_ok-condition.ensures.found c.in_ok-first.ensures.found)
 
 pub read_if-returns-in_ok-second-in-Some-clause-found : goal.read_if-returns-in_ok-second-in-Some-clause-found
 read_if-returns-in_ok-second-in-Some-clause-found n c start here word =
     subst (λ x. Spells (spell x) start c.in_ok-second-in-Some.rest.now) (sym c.bare-in-Some.ensures)
-    (if_else_found c.in_ok-condition.condition (block c.in_ok-first.first) (block c.in_ok-second-in-Some.second) c.args.pos start c.args.tokens.now
-    c.in_ok-condition.rest.now c.in_ok-first.rest.now c.in-Some.rest.now c.in_ok-second-in-Some.rest.now here word c.in_ok-condition.ensures.found
+    (if_else_found c.in_ok-condition.condition (block c.in_ok-first.first)
+    (block c.in_ok-second-in-Some.second) c.args.pos start c.args.tokens.now
+    c.in_ok-condition.rest.now c.in_ok-first.rest.now c.in-Some.rest.now c.in_ok-second-in-Some.rest.now here word
+    c.in_ok-condition.ensures.found
     c.in_ok-first.ensures.found c.in-Some.ensures.found c.in_ok-second-in-Some.ensures.found)
 
 -- the word that ends a region that is still open
-word_inside : (m : ℕ) (outer inner : Ending) (found : Keyword) → inner ≡ innermost m outer → found ≡ word_of inner → 0 < m → found ≡ w.Endgenerate
+word_inside : (m : ℕ) (outer inner : Ending) (found : Keyword) → inner ≡ innermost m outer → found ≡ word_of inner
+    → 0 < m → found ≡ w.Endgenerate
 word_inside m outer inner found e f h = f ∙ ap word_of e ∙ inner_word m outer h
 
 pub read_items-loop-behind-init : goal.read_items-loop-behind-init
@@ -58,13 +64,16 @@ read_items-loop-behind-preserved-in-Some n c =
     let some : 0 < regions = grind (arith, common_steps) in
     let same = word_inside regions outer c.ending.result c.word.result c.ending.ensures c.word.ensures some in
     record {
-      found = c.in_ok-reading.ensures.found c.args.tokens.now rest behind c.loop-behind.invariant.found c.in_ok-pos.ensures.here
+      found = c.in_ok-reading.ensures.found c.args.tokens.now rest behind c.loop-behind.invariant.found
+          c.in_ok-pos.ensures.here
           (subst (λ q. Spells (word q) rest behind) same c.in-Some.ensures.found);
       formed = c.in_ok-reading.ensures.formed;
       shorter = omega (arith, c.loop-behind.invariant.shorter, c.in-Some.ensures.shorter);
       goes = c.loop-behind.invariant.goes
-          ∙ ap (λ ts. still regions outer room ts) (c.in-Some.ensures.read ∙ ap (λ q. k.Keyword q ∷ kinds_in behind) same)
-          ∙ still_closed c.in_ok-reading.reading.regions regions outer room (kinds_in behind) c.in_ok-reading.ensures.regions;
+          ∙ ap (λ ts. still regions outer room ts)
+          (c.in-Some.ensures.read ∙ ap (λ q. k.Keyword q ∷ kinds_in behind) same)
+          ∙ still_closed c.in_ok-reading.reading.regions regions outer room
+          (kinds_in behind) c.in_ok-reading.ensures.regions;
     }
 
 pub read_items-loop-behind-preserved : goal.read_items-loop-behind-preserved
@@ -76,7 +85,8 @@ read_items-loop-behind-preserved n c =
     let behind = c.in_ok-front.behind.now in
     let none : IsOther (k.Keyword c.word.result) (kinds_in rest) = search rules in
     record {
-      found = c.in_ok-reading-2.ensures.found c.args.tokens.now rest behind c.loop-behind.invariant.found c.in_ok-front.ensures.found;
+      found = c.in_ok-reading-2.ensures.found c.args.tokens.now rest behind c.loop-behind.invariant.found
+          c.in_ok-front.ensures.found;
       formed = c.in_ok-reading-2.ensures.formed;
       shorter = omega (arith, c.loop-behind.invariant.shorter, c.in_ok-front.ensures.shorter);
       goes = c.loop-behind.invariant.goes

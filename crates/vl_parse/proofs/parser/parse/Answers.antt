@@ -33,8 +33,10 @@ pub returns-in-Err-Wrong : goal.returns-in-Err-Wrong
 returns-in-Err-Wrong c =
     let ts = c.args.tokens.now in
     let found = c.wrong.result in
-    let goes = subst (λ e. Ends e (read modules 256 (kinds_in ts))) c.in-Err-Wrong.field-0-is c.in-Err-Wrong.ensures.goes in
-    let a : Answers ts (Err found) (run (kinds_of ts)) = answers_wrong ts c.in-Err-Wrong.left found goes c.wrong.ensures in
+    let goes = subst (λ e. Ends e (read modules 256
+    (kinds_in ts))) c.in-Err-Wrong.field-0-is c.in-Err-Wrong.ensures.goes in
+    let a : Answers ts (Err found) (run
+    (kinds_of ts)) = answers_wrong ts c.in-Err-Wrong.left found goes c.wrong.ensures in
     record {
       found = tt;
       formed = tt;
@@ -51,9 +53,11 @@ pub returns-in-Err-TooDeep : goal.returns-in-Err-TooDeep
 returns-in-Err-TooDeep c =
     let ts = c.args.tokens.now in
     let found = f.TooDeep c.place.result in
-    let goes = subst (λ e. Ends e (read modules 256 (kinds_in ts))) c.in-Err-TooDeep.field-0-is c.in-Err-TooDeep.ensures.goes in
+    let goes = subst (λ e. Ends e (read modules 256
+    (kinds_in ts))) c.in-Err-TooDeep.field-0-is c.in-Err-TooDeep.ensures.goes in
     let a : Answers ts (Err found) (run (kinds_of ts)) =
-    subst (λ p. Answers ts (Err (f.TooDeep p)) (run (kinds_of ts))) (sym c.place.ensures) (answers_deep ts c.in-Err-TooDeep.left goes) in
+    subst (λ p. Answers ts (Err (f.TooDeep p)) (run (kinds_of ts))) (sym c.place.ensures)
+    (answers_deep ts c.in-Err-TooDeep.left goes) in
     record {
       found = tt;
       formed = tt;

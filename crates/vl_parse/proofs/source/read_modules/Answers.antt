@@ -17,7 +17,8 @@ loop-rest-preserved c =
     record {
       found = subst (λ ms. Spells (each spell_module ms) c.args.tokens.now rest) (sym added)
           (modules_pushed all x c.args.tokens.now c.loop-rest.rest.now rest before.found c.in_ok-module.ensures.found);
-      formed = subst (λ ms. All IsModule ms) (sym added) (modules_formed all x before.formed c.in_ok-module.ensures.formed);
+      formed = subst (λ ms. All IsModule ms) (sym added)
+          (modules_formed all x before.formed c.in_ok-module.ensures.formed);
       shorter = omega (arith, before.shorter, c.in_ok-module.ensures.shorter);
       goes = before.goes ∙ c.in_ok-module.ensures.goes;
     }
@@ -26,7 +27,8 @@ pub returns : goal.returns
 returns c =
     let over : length c.loop-rest.rest.now ≡ 0 = grind (arith, c.is_empty.ensures, c.loop-rest-test.false) in
     record {
-      found = subst (λ ts. Spells (each spell_module c.loop-rest.modules) c.args.tokens.now ts) (none_left c.loop-rest.rest.now over) c.loop-rest.invariant.found;
+      found = subst (λ ts. Spells (each spell_module c.loop-rest.modules) c.args.tokens.now ts)
+          (none_left c.loop-rest.rest.now over) c.loop-rest.invariant.found;
       formed = c.loop-rest.invariant.formed;
       goes = c.loop-rest.invariant.goes ∙ modules_over c.args.room c.loop-rest.rest.now over;
     }

@@ -12,7 +12,8 @@ invariant-loop-rest l = record {
   found : Spells (each spec.spell_module l.modules) l.fn.tokens l.rest;
   formed : All formed.IsModule l.modules;
   shorter : length l.rest ≤ length l.fn.tokens;
-  goes : grammar.read grammar.modules l.fn.room (kinds_in l.fn.tokens) ≡ grammar.read grammar.modules l.fn.room (kinds_in l.rest);
+  goes : grammar.read grammar.modules l.fn.room (kinds_in l.fn.tokens)
+      ≡ grammar.read grammar.modules l.fn.room (kinds_in l.rest);
 }
 
 abbrev pub decreases-loop-rest : goal.decreases-loop-rest

@@ -12,7 +12,8 @@ invariant-loop-inside l = record {
   found : Spells (spec.spell_attributes l.all) l.fn.tokens l.rest;
   formed : formed.AreAttributes l.all;
   shorter : length l.rest ≤ length l.fn.tokens;
-  goes : grammar.read (rule_of l.fn.before) l.fn.room (kinds_in l.fn.tokens) ≡ grammar.read (rule_of l.fn.before) l.fn.room (kinds_in l.rest);
+  goes : grammar.read (rule_of l.fn.before) l.fn.room (kinds_in l.fn.tokens)
+      ≡ grammar.read (rule_of l.fn.before) l.fn.room (kinds_in l.rest);
 }
 
 abbrev pub decreases-loop-inside : goal.decreases-loop-inside

@@ -19,10 +19,12 @@ loop-behind-preserved g c =
     let added : c.add-in-Some.new.items ≡ all ++ x ∷ [] = c.in_ok-add-2.ensures.added in
     record {
       found = λ start h. subst (λ xs. Spells (between_commas T.phrase xs) start rest) (sym added)
-          (between_pushed T.phrase all x start c.loop-behind.rest.now c.in-Some.behind.now rest before.formed.0 (before.found start h)
+          (between_pushed T.phrase all x start c.loop-behind.rest.now c.in-Some.behind.now rest before.formed.0
+          (before.found start h)
           c.in-Some.ensures.found c.in_ok-element.ensures.found);
       first = subst (λ xs. BeginsWith c.args.first xs) (sym added) (begins_pushed c.args.first all x before.first);
-      formed = subst (λ xs. AreSome T.fits xs) (sym added) (some_pushed T.fits all x before.formed c.in_ok-element.ensures.formed);
+      formed = subst (λ xs. AreSome T.fits xs) (sym added)
+          (some_pushed T.fits all x before.formed c.in_ok-element.ensures.formed);
       shorter = omega (arith, before.shorter, c.in-Some.ensures.shorter, c.in_ok-element.ensures.shorter);
       goes = before.goes
           ∙ ap (λ ts. grammar.read T.tail c.args.room ts) c.in-Some.ensures.read

@@ -20,7 +20,8 @@ invariant-read_lvals-loop-behind l = record {
   some : formed.IsSome (lvals l.all);
   formed : formed.AreWellFormed (lvals l.all);
   shorter : length l.rest ≤ length l.fn.tokens;
-  goes : then (grammar.read grammar.target l.fn.room (kinds_in l.fn.tokens)) (λ r. grammar.read grammar.targets l.fn.room r)
+  goes : then (grammar.read grammar.target l.fn.room (kinds_in l.fn.tokens))
+      (λ r. grammar.read grammar.targets l.fn.room r)
       ≡ grammar.read grammar.targets l.fn.room (kinds_in l.rest);
 }
 

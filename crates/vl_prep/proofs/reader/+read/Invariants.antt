@@ -26,5 +26,7 @@ decreases-read_macro l = l.levels * 8
 
 abbrev pub invariant-read_text-loop-token : goal.invariant-read_text-loop-token
 invariant-read_text-loop-token l =
-    (specs.read_from l.site.at (specs.expand l.site.levels) (stand_of (done_of l.prepared) l.scope) (drop l.token-index l.text) ≡ specs.read_from l.site.at (specs.expand l.site.levels) (specs.started (done_of l.fn.prepared)) l.text)
+    (specs.read_from l.site.at (specs.expand l.site.levels) (stand_of (done_of l.prepared) l.scope)
+    (drop l.token-index l.text) ≡ specs.read_from l.site.at (specs.expand l.site.levels)
+    (specs.started (done_of l.fn.prepared)) l.text)
     × KeepsFresh l.fn.prepared l.prepared

@@ -3,4 +3,5 @@ use Rattle.indexmap.proofs.CallerLemmas.{insert_entry-new}
 use Rattle.vl_size.proofs.decls.put.Goals as goal
 
 pub returns-in-Ok-clause-ok : goal.returns-in-Ok-clause-ok
-returns-in-Ok-clause-ok c = c.in-Ok.ensures.entries ∙ insert_entry-new _ c.args.map.now c.args.key c.args.decl c.requires
+returns-in-Ok-clause-ok c =
+    c.in-Ok.ensures.entries ∙ insert_entry-new _ c.args.map.now c.args.key c.args.decl c.requires

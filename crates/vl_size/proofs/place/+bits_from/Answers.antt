@@ -10,4 +10,9 @@ overflow_mul-result t c =
 pub overflow_add-result : goal.overflow_add-result
 overflow_add-result t c =
     let some : 0 < c.args.count = grind (arith, c.if-count-eq0.false) in
-    omega (arith, c.bit_at.ensures.fits, next_fits_128 c.args.count c.bits_from.result some c.requires.count c.bits_from.ensures.fits)
+    omega (
+      arith,
+      c.bit_at.ensures.fits,
+      next_fits_128 c.args.count c.bits_from.result some c.requires.count
+          c.bits_from.ensures.fits,
+    )

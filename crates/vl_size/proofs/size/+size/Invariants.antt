@@ -53,4 +53,5 @@ abbrev pub invariant-joined-loop-part : goal.invariant-joined-loop-part
 invariant-joined-loop-part l =
     (l.width ≤ 128) × (l.number < 2 ^ l.width)
     × (with_rest l.decls l.width (exprs (drop l.part-index l.all)) ≡ sizes l.decls (exprs l.all))
-    × Joins l.decls (sizes l.decls (exprs l.all)) l.number (exprs (drop l.part-index l.all)) (joined l.decls no_names (exprs l.all))
+    × Joins l.decls (sizes l.decls (exprs l.all)) l.number (exprs (drop l.part-index l.all))
+    (joined l.decls no_names (exprs l.all))

@@ -20,7 +20,8 @@ loop-behind-preserved c =
     let added : c.add-in-Some.new.items ≡ all ++ x ∷ [] = c.in_ok-add-2.ensures.added in
     record {
       found = subst (λ xs. Spells (between_commas spec.spell_one_label xs) c.args.tokens.now rest) (sym added)
-          (between_pushed spec.spell_one_label all x c.args.tokens.now c.loop-behind.rest.now c.in-Some.behind.now rest before.formed.0 before.found
+          (between_pushed spec.spell_one_label all x c.args.tokens.now c.loop-behind.rest.now c.in-Some.behind.now
+          rest before.formed.0 before.found
           c.in-Some.ensures.found c.in_ok-label.ensures.found);
       formed = subst (λ xs. AreSome (λ e. formed.IsLabel c.args.kind e) xs) (sym added)
           (some_pushed (λ e. formed.IsLabel c.args.kind e) all x before.formed c.in_ok-label.ensures.formed);

@@ -13,7 +13,8 @@ invariant-loop-behind l = record {
   found : Spells (between_commas spec.spell_one_label l.all) l.fn.tokens l.rest;
   formed : AreSome (λ e. formed.IsLabel l.fn.kind e) l.all;
   shorter : length l.rest < length l.fn.tokens;
-  goes : then (grammar.read (grammar.label l.fn.kind) l.fn.room (kinds_in l.fn.tokens)) (λ r. grammar.read (grammar.labels l.fn.kind) l.fn.room r)
+  goes : then (grammar.read (grammar.label l.fn.kind) l.fn.room (kinds_in l.fn.tokens))
+      (λ r. grammar.read (grammar.labels l.fn.kind) l.fn.room r)
       ≡ grammar.read (grammar.labels l.fn.kind) l.fn.room (kinds_in l.rest);
 }
 

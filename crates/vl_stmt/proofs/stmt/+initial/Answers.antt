@@ -11,5 +11,6 @@ read_initial-returns-in_ok-all-in-Some-clause-found t c =
     let all = c.in_ok-all-in-Some.all in
     let rest = c.in_ok-all-in-Some.rest.now in
     subst (λ x. Spells (spec.spell x) c.args.tokens.now rest) (sym c.bare.ensures)
-    (bare_block c.in_ok-pos.pos (tree.stmts all) c.args.tokens.now c.in-Some.rest.now rest c.in_ok-pos.ensures.here c.in-Some.ensures.found
+    (bare_block c.in_ok-pos.pos
+    (tree.stmts all) c.args.tokens.now c.in-Some.rest.now rest c.in_ok-pos.ensures.here c.in-Some.ensures.found
     c.in_ok-all-in-Some.ensures.found)

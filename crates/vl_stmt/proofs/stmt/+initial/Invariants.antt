@@ -19,7 +19,8 @@ invariant-read_initials-loop-behind l = record {
   initial : formed.AreInitial (tree.stmts l.all);
   formed : formed.AreWellFormed (tree.stmts l.all);
   shorter : length l.rest ≤ length l.fn.tokens;
-  goes : grammar.read grammar.initial_stmts l.fn.room (kinds_in l.fn.tokens) ≡ grammar.read grammar.initial_stmts l.fn.room (kinds_in l.rest);
+  goes : grammar.read grammar.initial_stmts l.fn.room (kinds_in l.fn.tokens)
+      ≡ grammar.read grammar.initial_stmts l.fn.room (kinds_in l.rest);
 }
 
 abbrev pub decreases-read_initials-loop-behind : goal.decreases-read_initials-loop-behind

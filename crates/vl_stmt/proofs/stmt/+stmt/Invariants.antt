@@ -29,7 +29,8 @@ invariant-read_stmts-loop-behind l = record {
   found : Spells (spec.spell_all (tree.stmts l.all)) l.fn.tokens l.rest;
   formed : formed.AreWellFormed (tree.stmts l.all);
   shorter : length l.rest ≤ length l.fn.tokens;
-  goes : grammar.read grammar.stmts l.fn.room (kinds_in l.fn.tokens) ≡ grammar.read grammar.stmts l.fn.room (kinds_in l.rest);
+  goes : grammar.read grammar.stmts l.fn.room (kinds_in l.fn.tokens)
+      ≡ grammar.read grammar.stmts l.fn.room (kinds_in l.rest);
 }
 
 abbrev pub decreases-read_stmts-loop-behind : goal.decreases-read_stmts-loop-behind
@@ -48,7 +49,8 @@ invariant-read_arms-loop-behind l = record {
   counted : number_of l.has_default ≡ formed.default_count (arms l.all);
   formed : formed.AreArms l.fn.kind (arms l.all);
   shorter : length l.rest ≤ length l.fn.tokens;
-  goes : grammar.read (grammar.first_arm l.fn.kind) l.fn.room (kinds_in l.fn.tokens) ≡ grammar.read (grammar.arms l.fn.kind l.has_default) l.fn.room (kinds_in l.rest);
+  goes : grammar.read (grammar.first_arm l.fn.kind) l.fn.room (kinds_in l.fn.tokens)
+      ≡ grammar.read (grammar.arms l.fn.kind l.has_default) l.fn.room (kinds_in l.rest);
 }
 
 abbrev pub decreases-read_arms-loop-behind : goal.decreases-read_arms-loop-behind

@@ -2,7 +2,8 @@ use Rattle.vl_token.proofs.Reading.{well_named, token_on}
 use Rattle.vl_token.proofs.lexer.take_piece.Goals as goal
 
 pub add_token-requires : goal.add_token-requires
-add_token-requires c = let m = rw c.in-Ok-Token.field-0-is at c.in-Ok-Token.ensures in well_named _ _ _ c.requires.stands m.1
+add_token-requires c =
+    let m = rw c.in-Ok-Token.field-0-is at c.in-Ok-Token.ensures in well_named _ _ _ c.requires.stands m.1
 
 pub returns-in-Ok : goal.returns-in-Ok
 returns-in-Ok c =

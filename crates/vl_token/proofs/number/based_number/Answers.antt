@@ -14,8 +14,12 @@ returns c =
         sized = no_items _ _ c.is_empty.ensures;
         signed = no_items _ _ c.is_empty-2.ensures;
         width = c.in_ok-width.ensures.fits.1;
-        value = cut_long (number_by worth (radix base) ds) _ _ _ small (long_in _ _ _ ds c.radix-radix.ensures.value c.long_value.ensures) c.cut_to.ensures.value;
-        wild = wild_bits base _ _ _ ds small (marks_in is_wild _ _ _ ds c.mark_radix-marks.ensures.value c.mark_bits.ensures) c.cut_to-2.ensures.value;
-        unknown = unknown_bits base _ _ _ ds small (marks_in is_unknown _ _ _ ds c.mark_radix-marks.ensures.value c.mark_bits-2.ensures) c.cut_to-3.ensures.value;
+        value = cut_long (number_by worth (radix base) ds) _ _ _ small
+            (long_in _ _ _ ds c.radix-radix.ensures.value c.long_value.ensures) c.cut_to.ensures.value;
+        wild = wild_bits base _ _ _ ds small
+            (marks_in is_wild _ _ _ ds c.mark_radix-marks.ensures.value c.mark_bits.ensures) c.cut_to-2.ensures.value;
+        unknown = unknown_bits base _ _ _ ds small
+            (marks_in is_unknown _ _ _ ds c.mark_radix-marks.ensures.value c.mark_bits-2.ensures)
+            c.cut_to-3.ensures.value;
       },
     )

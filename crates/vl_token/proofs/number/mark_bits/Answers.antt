@@ -7,6 +7,7 @@ pub loop-byte-preserved : goal.loop-byte-preserved
 loop-byte-preserved c = record {
   small = long_small _ _ _ (2 ^ 128) _ c.loop-byte.invariant.small c.long_step-bits.ensures;
   same =
-      long_more (mark_worth (test_of c.args.mark) c.args.radix) c.args.radix _ _ _ (2 ^ 128) _ _ c.loop-byte-test.true c.worth.ensures c.long_step-bits.ensures
+      long_more (mark_worth (test_of c.args.mark) c.args.radix) c.args.radix _ _ _
+      (2 ^ 128) _ _ c.loop-byte-test.true c.worth.ensures c.long_step-bits.ensures
       ∙ c.loop-byte.invariant.same;
 }

@@ -6,5 +6,6 @@ use Rattle.vl_token.proofs.number.short_value.Given as goal
 abbrev pub invariant-loop-byte : goal.invariant-loop-byte
 invariant-loop-byte l = record {
   small : l.value ≤ 2 ^ 32;
-  same : min (steps worth l.radix l.value (digits_of (drop l.byte-index l.digits))) (2 ^ 32) ≡ min (steps worth l.radix 0 (digits_of l.digits)) (2 ^ 32);
+  same : min (steps worth l.radix l.value (digits_of (drop l.byte-index l.digits))) (2 ^ 32)
+      ≡ min (steps worth l.radix 0 (digits_of l.digits)) (2 ^ 32);
 }

@@ -18,8 +18,10 @@ loop-index-preserved c =
       long = length-set bits i c.in_ok-bit.bit ∙ inv.long;
       nodes =
           subst P (sym (take_more_set bits i c.in_ok-bit.bit (omega (arith, inv.long))))
-          (push_node _ 1 (take i bits) c.in_ok-bit.bit (nodes_on _ _ 1 (take i bits) built.adds inv.nodes) (built_node _ _ _ _ _ _ built));
+          (push_node _ 1 (take i bits) c.in_ok-bit.bit (nodes_on _ _ 1 (take i bits) built.adds inv.nodes)
+          (built_node _ _ _ _ _ _ built));
       value = λ g.
-          next_bit c.args.net.now c.loop-index.net c.slice.new.self g bits c.args.addr _ i c.in_ok-bit.bit inv.adds built.adds c.requires.addr inv.nodes
+          next_bit c.args.net.now c.loop-index.net c.slice.new.self g bits c.args.addr _ i c.in_ok-bit.bit inv.adds
+          built.adds c.requires.addr inv.nodes
           (omega (arith, inv.long)) (omega arith) (inv.value g) (built.value g);
     }

@@ -11,4 +11,6 @@ returns-clause-value c = λ g given.
     let one = c.zero_of.new.net in
     let adds = c.in_ok-zero.ensures.adds in
     c.in_ok-found.ensures.value g (given_on net one g adds given)
-    ∙ (λ i. word_at (numbers_on net one (words_width net c.args.words.now) g c.args.words.now adds c.requires.words i) (value_on net one g c.args.addr adds c.requires.addr i))
+    ∙ (λ i. word_at (numbers_on net one
+    (words_width net c.args.words.now) g c.args.words.now adds c.requires.words i)
+    (value_on net one g c.args.addr adds c.requires.addr i))

@@ -33,13 +33,16 @@ loop-number-preserved c =
     record {
       adds = adds_on net now new adds more;
       shared =
-          shared_on now new w w c.args.write.now _ _ more (write_on net now w w c.args.write.now adds c.requires.write refl)
+          shared_on now new w w c.args.write.now _ _ more
+          (write_on net now w w c.args.write.now adds c.requires.write refl)
           c.loop-number.invariant.shared refl;
       there = subst P pushed (push_node new w _ _ (nodes_on now new w _ more c.loop-number.invariant.there) there);
-      each = subst Q pushed (omega (arith, length_push c.loop-number.made.items c.in_ok-next.next, c.loop-number.invariant.each));
+      each = subst Q pushed (omega
+          (arith, length_push c.loop-number.made.items c.in_ok-next.next, c.loop-number.invariant.each));
       value = λ g given.
           ap (numbers_of new g) c.in_ok-push.ensures.items
-          ∙ made_next net now new g words c.loop-number.made.items c.args.write.now c.loop-number.number word c.in_ok-next.next adds more given own
+          ∙ made_next net now new g words c.loop-number.made.items c.args.write.now c.loop-number.number word
+          c.in_ok-next.next adds more given own
           c.requires.write c.loop-number.invariant.there below refl (c.loop-number.invariant.value g given)
           (c.in_ok-next.ensures.value g (given_on net now g adds given));
     }
@@ -49,5 +52,7 @@ returns-clause-value c = λ g given.
     let net = c.args.net.now in
     let w = c.args.write.now in
     c.loop-number.invariant.value g given
-    ∙ ap (λ xs. written (words_width net c.args.words.now) xs (value_at net g w.enable) (value_at net g w.addr) (value_at net g w.mask) (value_at net g w.value))
-    (take_all c.loop-number.number (numbers_of net g c.args.words.now) (omega (arith, length-map c.args.words.now (value_at net g))))
+    ∙ ap (λ xs. written (words_width net c.args.words.now) xs (value_at net g w.enable) (value_at net g w.addr)
+    (value_at net g w.mask) (value_at net g w.value))
+    (take_all c.loop-number.number (numbers_of net g c.args.words.now)
+    (omega (arith, length-map c.args.words.now (value_at net g))))

@@ -18,6 +18,7 @@ invariant-loop-number l =
       each : length l.made.items ≡ l.number;
       value : (g : Given) → IsGiven net g
           → numbers_of l.net g l.made.items
-          ≡ written width (take l.number (numbers_of net g l.words)) (value_at net g l.write.enable) (value_at net g l.write.addr)
+          ≡ written width (take l.number (numbers_of net g l.words)) (value_at net g l.write.enable)
+          (value_at net g l.write.addr)
           (value_at net g l.write.mask) (value_at net g l.write.value);
     }

@@ -6,7 +6,8 @@ pub returns : goal.returns
 returns c = (
   λ e. record {
     each = omega arith;
-    below = within_below c.args.words.now c.args.mem.now.width c.loop-word.word-index c.loop-word.invariant (omega arith);
+    below =
+        within_below c.args.words.now c.args.mem.now.width c.loop-word.word-index c.loop-word.invariant (omega arith);
   },
   λ h. refl,
 )

@@ -4,4 +4,5 @@ use Rattle.sat_search.specs.Trail.{lits, oldest}
 use Rattle.sat_search.proofs.trail.Trail.first_open.Given as goal
 
 abbrev pub invariant-loop-lit : goal.invariant-loop-lit
-invariant-loop-lit l = first_open (lits (oldest l.end l.self)) (drop l.lit-index l.clause) ≡ first_open (lits (oldest l.end l.self)) l.clause
+invariant-loop-lit l = first_open (lits (oldest l.end l.self)) (drop l.lit-index l.clause)
+    ≡ first_open (lits (oldest l.end l.self)) l.clause

@@ -8,10 +8,14 @@ use Rattle.sat_search.proofs.trail.Trail.has_decision.Goals as goal
 
 pub returns : goal.returns
 returns c =
-    sym (at_drop_all (list_any is_decision) c.deref-entry-items.result.now c.loop-entry.entry-index c.loop-entry-test.false) ∙ c.loop-entry.invariant
-    ∙ decided_stored c.deref-entry-items.result.now c.self.inside.entries.items c.args.self.now c.deref-entry-items.ensures.value c.self.view_is
+    sym (at_drop_all (list_any is_decision) c.deref-entry-items.result.now c.loop-entry.entry-index
+    c.loop-entry-test.false) ∙ c.loop-entry.invariant
+    ∙ decided_stored c.deref-entry-items.result.now c.self.inside.entries.items c.args.self.now
+    c.deref-entry-items.ensures.value c.self.view_is
 
 pub returns-then-is_none : goal.returns-then-is_none
 returns-then-is_none c =
-    sym (list_any_at is_decision c.deref-entry-items.result.now c.loop-entry.entry-index _ c.loop-entry-test.true (decides_none _ c.if-is_none.ensures))
-    ∙ decided_stored c.deref-entry-items.result.now c.self.inside.entries.items c.args.self.now c.deref-entry-items.ensures.value c.self.view_is
+    sym (list_any_at is_decision c.deref-entry-items.result.now c.loop-entry.entry-index _ c.loop-entry-test.true
+    (decides_none _ c.if-is_none.ensures))
+    ∙ decided_stored c.deref-entry-items.result.now c.self.inside.entries.items c.args.self.now
+    c.deref-entry-items.ensures.value c.self.view_is

@@ -8,5 +8,6 @@ pub invariant_of-self-2 : goal.invariant_of-self-2
 invariant_of-self-2 c =
     popped (reverse c.pop.new.self.items) c.in_ok-entry.entry c.self.inside.places c.remove.new.self
     (let P : Entries → Type 0 = λ t. ArePlaces t c.self.inside.places in
-    subst P (ap reverse c.in_ok-entry.ensures.items ∙ reverse-append c.pop.new.self.items (c.in_ok-entry.entry ∷ [])) c.self.invariant)
+    subst P (ap reverse c.in_ok-entry.ensures.items
+    ∙ reverse-append c.pop.new.self.items (c.in_ok-entry.entry ∷ [])) c.self.invariant)
     c.remove.ensures.updates.0

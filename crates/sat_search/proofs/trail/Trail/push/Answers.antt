@@ -9,7 +9,10 @@ pub invariant_of-self-in-Ok : goal.invariant_of-self-in-Ok
 invariant_of-self-in-Ok c =
     let P : Entries → Type 0 = λ t. ArePlaces t c.insert.new.self in
     let Q : Entries → Type 0 = λ t. has (lits t) c.args.entry.lit ≡ false in
-    let place : c.len-place.result ≡ length (reverse c.self.inside.entries.items) = c.len-place.ensures ∙ c.self.inside.entries.ok.0 ∙ sym (length-reverse c.self.inside.entries.items) in
-    subst P (sym (ap reverse c.in_ok-push.ensures.items ∙ reverse-append c.self.inside.entries.items (c.args.entry ∷ [])))
-    (pushed (reverse c.self.inside.entries.items) c.args.entry c.self.inside.places c.insert.new.self c.self.invariant (subst Q (sym c.self.view_is) c.requires)
+    let place : c.len-place.result ≡ length (reverse c.self.inside.entries.items) = c.len-place.ensures
+    ∙ c.self.inside.entries.ok.0 ∙ sym (length-reverse c.self.inside.entries.items) in
+    subst P (sym (ap reverse c.in_ok-push.ensures.items
+    ∙ reverse-append c.self.inside.entries.items (c.args.entry ∷ [])))
+    (pushed (reverse c.self.inside.entries.items) c.args.entry c.self.inside.places c.insert.new.self
+    c.self.invariant (subst Q (sym c.self.view_is) c.requires)
     (λ q. let u = c.in-Ok.ensures.updates.0 q in grind (arith, u, place)))

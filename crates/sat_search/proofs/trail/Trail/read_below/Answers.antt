@@ -6,4 +6,5 @@ use Rattle.sat_search.proofs.trail.Trail.read_below.Goals as goal
 
 pub returns : goal.returns
 returns c =
-    c.read_at.ensures ∙ ap (λ t. reading (lits t) c.args.clause.now) (ap (λ n. oldest n c.args.self.now) c.level_start.ensures ∙ oldest_below c.args.self.now)
+    c.read_at.ensures ∙ ap (λ t. reading (lits t) c.args.clause.now)
+    (ap (λ n. oldest n c.args.self.now) c.level_start.ensures ∙ oldest_below c.args.self.now)

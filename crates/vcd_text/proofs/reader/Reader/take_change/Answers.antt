@@ -7,4 +7,5 @@ pub returns-then-is_time : goal.returns-then-is_time
 returns-then-is_time c =
     let s = c.args.self.now in
     let l : c.len.result ≡ length s.cycles.items = omega (arith, s.cycles.ok.0) in
-    takes_time s c.close_cycle.new.self c.args.line.now c.requires.part c.requires.sound (c.is_time.ensures.0 c.if-is_time.true ∙ ap (λ x. time_line (x + 1)) l) c.in_ok-close_cycle.ensures
+    takes_time s c.close_cycle.new.self c.args.line.now c.requires.part c.requires.sound
+    (c.is_time.ensures.0 c.if-is_time.true ∙ ap (λ x. time_line (x + 1)) l) c.in_ok-close_cycle.ensures

@@ -16,4 +16,5 @@ pub returns-clause-formed : goal.returns-clause-formed
 returns-clause-formed c =
     subst (λ n. AreOpen c.add.new.items n) (sym c.in_ok-regions.ensures.more)
     (subst (λ xs. AreOpen xs (c.args.self.regions + 1)) (sym c.in_ok-add.ensures.added)
-    (with_generate_open c.args.self.all c.args.attributes c.args.pos c.args.self.regions c.requires.formed c.requires.attributes))
+    (with_generate_open c.args.self.all c.args.attributes c.args.pos c.args.self.regions c.requires.formed
+    c.requires.attributes))

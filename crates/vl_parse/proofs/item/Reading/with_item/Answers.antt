@@ -14,4 +14,5 @@ returns-clause-found c start middle rest h i =
 pub returns-clause-formed : goal.returns-clause-formed
 returns-clause-formed c =
     subst (λ xs. AreOpen xs c.args.self.regions) (sym c.in_ok-add.ensures.added)
-    (with_item_open c.args.self.all c.args.item c.args.self.regions c.requires.formed c.requires.unmarked c.requires.item)
+    (with_item_open c.args.self.all c.args.item c.args.self.regions c.requires.formed c.requires.unmarked
+    c.requires.item)

@@ -7,5 +7,8 @@ pub returns-clause-ok : goal.returns-clause-ok
 returns-clause-ok c =
     record {
       there = c.keep.ensures.there;
-      same = λ other n e l. c.keep.ensures.same other n (seen_before c.keep.new.self _ other c.args.levels n _ _ _ (lookup_after (λ key. key.items) _ _ other _ _ _ c.in_ok-insert.ensures.entries (c.into_vec.ensures ∙ c.in_ok-name.ensures)) c.seen.ensures c.with_level-seen.ensures e l);
+      same = λ other n e l. c.keep.ensures.same other n
+          (seen_before c.keep.new.self _ other c.args.levels n _ _ _
+          (lookup_after (λ key. key.items) _ _ other _ _ _ c.in_ok-insert.ensures.entries
+          (c.into_vec.ensures ∙ c.in_ok-name.ensures)) c.seen.ensures c.with_level-seen.ensures e l);
     }

@@ -9,10 +9,12 @@ use Rattle.vl_size.proofs.decls.Decls.named.Goals as goal
 pub returns-clause-value : goal.returns-clause-value
 returns-clause-value c =
     c.get.ensures.value ∙ named-keyed c.bytes.result.now c.self.inside.map.entries c.self.invariant.keyed
-    ∙ ap (λ n. named (decls_of c.self.inside.map.entries) n) c.bytes.ensures ∙ ap (λ ds. named ds c.args.name.now) c.self.view_is
+    ∙ ap (λ n. named (decls_of c.self.inside.map.entries) n) c.bytes.ensures
+    ∙ ap (λ ds. named ds c.args.name.now) c.self.view_is
 
 pub returns-clause-shaped : goal.returns-clause-shaped
 returns-clause-shaped c =
     let P : Option Decl → Type 0 = λ r. IfSome r IsShaped in
     let Q : List Decl → Type 0 = λ ds. All IsShaped ds in
-    subst P (sym (returns-clause-value c)) (named_shaped c.args.name.now c.args.self.now (subst Q c.self.view_is c.self.invariant.shaped))
+    subst P (sym (returns-clause-value c)) (named_shaped c.args.name.now c.args.self.now
+    (subst Q c.self.view_is c.self.invariant.shaped))

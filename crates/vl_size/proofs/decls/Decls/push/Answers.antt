@@ -15,7 +15,9 @@ pub invariant_of-self : goal.invariant_of-self
 invariant_of-self c =
     let P : List Decl → Type 0 = λ ds. AreApart (ds ++ c.args.decl ∷ []) in
     let Q : List Decl → Type 0 = λ ds. length ds < 2 ^ 32 - 1 in
-    table-after c.put.result c.self.inside.map.entries c.put.new.map.entries (c.in-Ok.key, c.args.decl) c.put.ensures.ok c.put.ensures.err
+    table-after c.put.result c.self.inside.map.entries c.put.new.map.entries
+    (c.in-Ok.key, c.args.decl) c.put.ensures.ok c.put.ensures.err
     c.self.invariant
-    (table-append c.self.inside.map.entries c.in-Ok.key c.args.decl c.self.invariant (c.in-Ok.ensures.items ∙ c.bytes.ensures) c.requires.shaped
+    (table-append c.self.inside.map.entries c.in-Ok.key c.args.decl c.self.invariant
+    (c.in-Ok.ensures.items ∙ c.bytes.ensures) c.requires.shaped
     (subst P (sym c.self.view_is) c.requires.apart) (subst Q (sym c.self.view_is) c.requires.few))

@@ -4,4 +4,5 @@ use Rattle.vl_size.proofs.row.Row.complemented.Given as goal
 
 abbrev pub invariant-loop-width : goal.invariant-loop-width
 invariant-loop-width l =
-    (length l.at ≡ 129) × ((k : ℕ) → k < l.width → get_or l.at k 0 ≡ complement k (get_or l.self.at k 0)) × ((k : ℕ) → k < l.width → get_or l.at k 0 < 2 ^ k)
+    (length l.at ≡ 129) × ((k : ℕ) → k < l.width → get_or l.at k 0 ≡ complement k (get_or l.self.at k 0))
+    × ((k : ℕ) → k < l.width → get_or l.at k 0 < 2 ^ k)

@@ -9,6 +9,7 @@ invariant-loop-index l =
     let g = given l.inputs l.state in
     record {
       room : length l.values ≡ length l.self.nodes;
-      leaves : Leaves (shape_of l.self) g (take l.index (widths_of l.self)) (take l.index l.values) (drop l.index l.self.nodes)
+      leaves : Leaves (shape_of l.self) g (take l.index (widths_of l.self)) (take l.index l.values)
+          (drop l.index l.self.nodes)
           (widths_of l.self) (values_of l.self g);
     }

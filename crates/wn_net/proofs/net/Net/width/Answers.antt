@@ -12,11 +12,13 @@ returns-clause-value c =
 pub returns-clause-some : goal.returns-clause-some
 returns-clause-some c =
     let small = width_at_small _ _ _ c.args.id c.self.invariant c.self.view_is c.requires in
-    let read = stored_width _ _ _ c.args.id c.index.result.now c.self.invariant c.self.view_is c.requires c.index.ensures in
+    let read = stored_width _ _ _ c.args.id c.index.result.now c.self.invariant c.self.view_is c.requires
+    c.index.ensures in
     omega (arith, small.0, read)
 
 pub returns-clause-few : goal.returns-clause-few
 returns-clause-few c =
     let small = width_at_small _ _ _ c.args.id c.self.invariant c.self.view_is c.requires in
-    let read = stored_width _ _ _ c.args.id c.index.result.now c.self.invariant c.self.view_is c.requires c.index.ensures in
+    let read = stored_width _ _ _ c.args.id c.index.result.now c.self.invariant c.self.view_is c.requires
+    c.index.ensures in
     omega (arith, small.1, read)
