@@ -1,5 +1,5 @@
 -- What nodes of expressions spell, and what loops over their lists keep.
-use Rattle.std.proofs.Common.{◌≡◌, ℕ, suc, ◌+◌, ◌≤◌, ◌<◌, List, [], ◌∷◌, ◌++◌, length, refl, sym, ap, ◌∙◌, subst, arith}
+use Rattle.std.proofs.Common.{◌≡◌, List, [], ◌∷◌, ◌++◌, refl, sym, subst}
 use Rattle.std.specs.Prelude.{Option, Some, None, Result, Ok, Err, IfOk}
 use Rattle.fv_base.specs.declared.pos.Pos.{Pos}
 use Rattle.fv_base.specs.declared.kind.Kind.{Kind}
@@ -11,16 +11,15 @@ use Rattle.vl_tree.specs.declared.operator.BinaryOperator.{BinaryOperator}
 use Rattle.vl_tree.specs.declared.operator.BinaryOperator.TheVariants as b
 use Rattle.vl_tree.specs.declared.expr.Select.{Select}
 use Rattle.vl_tree.specs.declared.expr.Select.TheVariants as v
-use Rattle.vl_tree.specs.Phrase.{Spells, IsNext, BeginsAt, sign, ◌▸◌, operator}
-use Rattle.vl_tree.specs.Expr.{Expr, Exprs, Selects, number, name, paren, unary, binary, conditional, concat, repeat}
-use Rattle.vl_tree.specs.Expr.{cast, none, more, whole, bit, part, indexed, exprs}
-use Rattle.vl_tree.specs.ExprView.{selects, with_select}
+use Rattle.vl_tree.specs.Phrase.{Spells, IsNext, BeginsAt, sign, ◌▸◌}
+use Rattle.vl_tree.specs.Expr.{Expr, Exprs, number, name, paren, unary, binary, conditional, concat, repeat}
+use Rattle.vl_tree.specs.Expr.{cast, whole, bit, exprs}
+use Rattle.vl_tree.specs.ExprView.{selects}
 use Rattle.vl_tree.specs.ExprSpelling.{spell, spell_parts, spell_more, spell_selects, binary_sign}
 use Rattle.vl_tree.specs.ExprWellFormed.{IsWellFormed, AreWellFormed, AreSelects, IsSome}
-use Rattle.vl_expr.specs.declared.lead.Joint.{Joint}
-use Rattle.vl_expr.specs.declared.lead.Joint.TheVariants as joint
+use Rattle.vl_take.specs.declared.lead.Joint.TheVariants as joint
 use Rattle.vl_grammar.specs.Operators.{binary_of}
-use Rattle.vl_expr.specs.Lead.{joint_of, joint_of_sign, joint_of_binary}
+use Rattle.vl_take.specs.Lead.{joint_of, joint_of_sign, joint_of_binary}
 use Rattle.vl_expr.specs.Levels.{place}
 
 -- a fact of the value of a result, from another

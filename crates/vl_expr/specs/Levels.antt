@@ -1,4 +1,4 @@
--- Where reading stands within an expression. IEEE 1364-2005, section 5.1.2.
+-- What the public calls promise. Where reading stands within an expression. IEEE 1364-2005, section 5.1.2.
 use Rattle.std.specs.Prelude.{ℕ, ◌<◌, List, [], ◌∷◌}
 use Rattle.fv_base.specs.declared.kind.Kind.{Kind}
 use Rattle.fv_base.specs.declared.pos.Pos.{Pos}
@@ -6,12 +6,12 @@ use Rattle.vl_tree.specs.Expr.{Expr, number, name, paren, unary, binary, conditi
 use Rattle.vl_tree.specs.ExprWellFormed.{binds}
 use Rattle.vl_grammar.specs.Grammar as grammar
 use Rattle.vl_grammar.specs.Grammar.{Outcome, read, operand, more}
-use Rattle.vl_expr.specs.declared.lead.Joint.{Joint}
-use Rattle.vl_expr.specs.declared.lead.Joint.TheVariants as joint
+use Rattle.vl_take.specs.declared.lead.Joint.{Joint}
+use Rattle.vl_take.specs.declared.lead.Joint.TheVariants as joint
 use Rattle.vl_expr.specs.declared.level.Level.{Level}
 use Rattle.vl_expr.specs.declared.level.Stand.{Stand}
 use Rattle.vl_expr.specs.declared.level.Stand.TheVariants as stand
-use Rattle.vl_expr.specs.Lead.{joint_of}
+use Rattle.vl_take.specs.Lead.{joint_of}
 
 -- the place of its first token
 abbrev pub place : Expr → Pos

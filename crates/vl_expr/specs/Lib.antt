@@ -1,5 +1,1 @@
-pub mod Goes
-pub mod Next
-pub mod Lead
 pub mod Levels
-pub mod Parts

@@ -11,17 +11,18 @@ ghost use Rattle.vl_tree.specs.ExprView.{selects};
 ghost use Rattle.vl_tree.specs.ExprSpelling as spec;
 ghost use Rattle.vl_tree.specs.ExprWellFormed as formed;
 ghost use Rattle.vl_grammar.specs.Grammar as grammar;
-ghost use Rattle.vl_expr.specs.Goes.{Goes};
+ghost use Rattle.vl_take.specs.Goes.{Goes};
 ghost use Rattle.vl_expr.specs.Levels.{operand_at, more_at, Rests};
-ghost use Rattle.vl_expr.specs.Next.{kinds_in};
+ghost use Rattle.vl_take.specs.Next.{kinds_in};
 
-use crate::lead::{Joint, Lead, binds, joint_of, lead_of};
 use crate::level::{Level, Stand};
 use crate::make;
-use crate::stop::Stop;
-use crate::take::{enter, first_place, next, past_sign, read_name, read_sign};
 use fv_base::{List, Pos, Symbol, Token};
 use std::alloc::Global;
+use vl_take::{
+    Joint, Lead, Stop, add, binds, enter, first_place, joint_of, lead_of, next, past_sign,
+    read_name, read_sign,
+};
 use vl_tree::{Expr, Select};
 
 /// An expression.
@@ -239,11 +240,11 @@ fn parts_behind(
     ensures goes { Goes (λ x. Ok (kinds_in x.1.now)) result (grammar.read grammar.parts room (kinds_in tokens.now)) }
 {
     let mut parts = List::new(alloc);
-    make::add(&mut parts, first)?;
+    add(&mut parts, first)?;
     let mut rest = tokens;
     while let Some(behind) = past_sign(Symbol::Comma, rest) {
         let (part, behind) = read_expr(alloc, room, behind)?;
-        make::add(&mut parts, part)?;
+        add(&mut parts, part)?;
         rest = behind;
     }
     let rest = read_sign(Symbol::CloseBrace, rest)?;
@@ -267,7 +268,7 @@ pub fn read_selects(
     let mut rest = tokens;
     while let Some(behind) = past_sign(Symbol::OpenBracket, rest) {
         let (select, behind) = read_select(alloc, room, rest, behind)?;
-        make::add(&mut all, select)?;
+        add(&mut all, select)?;
         rest = behind;
     }
     Ok((all, rest))

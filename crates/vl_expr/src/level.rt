@@ -1,9 +1,9 @@
 //! Where reading stands within the brackets around an operator.
 
-use crate::stop::Stop;
 use fv_base::Token;
+use vl_take::Stop;
 
-#[derive(Debug, Clone, Copy, PartialEq, Eq)]
+#[derive(Clone, Copy)]
 pub(crate) enum Stand {
     Plain,
     /// The first expression in braces, which may turn out to be the count of a replication.
@@ -11,7 +11,7 @@ pub(crate) enum Stand {
 }
 
 /// The brackets around an expression.
-#[derive(Debug, Clone, Copy, PartialEq, Eq)]
+#[derive(Clone, Copy)]
 pub(crate) struct Level {
     pub stand: Stand,
     /// How many constructs may open in these brackets.
@@ -23,7 +23,7 @@ pub(crate) struct Level {
 impl Level {
     ghost use Rattle.std.specs.Prelude.{◌≡◌, ◌+◌, ◌<◌, ◌≤◌, ◌^◌, Err, length, IfOk, IfErr};
     ghost use Rattle.vl_grammar.specs.Machine.{deep};
-    ghost use Rattle.vl_expr.specs.Goes.{Means};
+    ghost use Rattle.vl_take.specs.Goes.{Means};
 
     pub(crate) fn new(stand: Stand, room: u32) -> Level
         ensures stand { result.stand ≡ stand }

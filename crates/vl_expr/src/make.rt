@@ -1,14 +1,14 @@
 //! Nodes of expressions, each at the place of its first token.
 
-ghost use Rattle.std.specs.Prelude.{◌≡◌, ◌∷◌, ◌++◌, [], IfOk, IfErr, OnOk};
+ghost use Rattle.std.specs.Prelude.{◌≡◌, ◌∷◌, [], IfOk, IfErr};
 ghost use Rattle.vl_tree.specs.Expr as tree;
 ghost use Rattle.vl_tree.specs.ExprView.{selects};
 ghost use Rattle.vl_expr.specs.Levels.{place};
-ghost use Rattle.vl_expr.specs.Goes.{IsMemory};
+ghost use Rattle.vl_take.specs.Goes.{IsMemory};
 
-use crate::stop::Stop;
 use fv_base::{List, Number, Pos, Text};
 use std::alloc::Global;
+use vl_take::Stop;
 use vl_tree::{BinaryOperator, Cast, Expr, ExprKind, Select, UnaryOperator};
 
 fn boxed(alloc: Global, expr: Expr) -> Result<Box<Expr>, Stop>
@@ -17,17 +17,6 @@ fn boxed(alloc: Global, expr: Expr) -> Result<Box<Expr>, Stop>
 {
     match Box::new(alloc, expr) {
         Ok(expr) => Ok(expr),
-        Err(_) => Err(Stop::Memory),
-    }
-}
-
-/// Adds the item at the end.
-pub fn add<T: Drop>(items: &mut List<T>, item: T) -> Result<(), Stop>
-    ensures added { OnOk result (items.new ≡ items.old ++ item ∷ []) }
-    ensures memory { IfErr result (λ e. IsMemory e) }
-{
-    match items.push(item) {
-        Ok(()) => Ok(()),
         Err(_) => Err(Stop::Memory),
     }
 }

@@ -21,9 +21,9 @@ use Rattle.vl_grammar.specs.Grammar.{loop_head, generate_block, generate_otherwi
 use Rattle.vl_parse.specs.declared.item.ItemLead.{ItemLead}
 use Rattle.vl_parse.specs.declared.item.ItemLead.TheVariants as lead
 use Rattle.vl_parse.specs.ItemLead.{item_lead_of}
-use Rattle.vl_expr.specs.Next.{IsOther, behind_name}
-use Rattle.vl_expr.specs.Parts.{row_read, row_deep, row_bad, list_row}
-use Rattle.vl_expr.proofs.Tokens.{name_here}
+use Rattle.vl_take.specs.Next.{IsOther, behind_name}
+use Rattle.vl_take.specs.Parts.{row_read, row_deep, row_bad, list_row}
+use Rattle.vl_take.proofs.Tokens.{name_here}
 use Rattle.vl_parse.proofs.ItemRows.{item_wire, item_reg, item_always, item_initial, item_name}
 
 pub kind_integer : (t : Kind) → item_lead_of t ≡ lead.Integer → t ≡ k.Keyword w.Integer

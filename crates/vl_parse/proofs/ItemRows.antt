@@ -14,8 +14,8 @@ use Rattle.vl_grammar.specs.Grammar.{generate_block_label, generate_otherwise, m
 use Rattle.vl_parse.specs.declared.item.Ending as block
 use Rattle.vl_parse.specs.declared.item.Ending.TheVariants as e
 use Rattle.vl_parse.specs.Items.{word_of, ending_of}
-use Rattle.vl_expr.specs.Next.{IsOther}
-use Rattle.vl_expr.specs.Parts.{row_read, row_deep, row_bad, same_row, many_read}
+use Rattle.vl_take.specs.Next.{IsOther}
+use Rattle.vl_take.specs.Parts.{row_read, row_deep, row_bad, same_row, many_read}
 
 pub item_wire : (n : ℕ) (ts : List Kind)
     → read item n (k.Keyword w.Wire ∷ ts) ≡ then (read shape n ts)

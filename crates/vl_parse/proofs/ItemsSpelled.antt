@@ -27,7 +27,7 @@ use Rattle.vl_grammar.specs.Grammar.{Outcome, read}
 use Rattle.vl_parse.specs.declared.item.Ending.{Ending}
 use Rattle.vl_parse.specs.declared.item.Ending.TheVariants as e
 use Rattle.vl_parse.specs.Items.{word_of, ending_of, innermost, still, AreOpen, LeavesElse, with_attributes}
-use Rattle.vl_expr.specs.Next.{IsOther}
+use Rattle.vl_take.specs.Next.{IsOther}
 use Rattle.vl_parse.proofs.ItemRows.{items_end, items_more}
 
 -- trees

@@ -1,7 +1,6 @@
 -- Which tree is answered and which refusal, from what reading by the grammar comes to.
-use Rattle.std.proofs.Common.{◌≡◌, ℕ, List, [], refl, sym, ap, ◌∙◌, subst}
+use Rattle.std.proofs.Common.{◌≡◌, ◌⊎◌, inl, inr, ℕ, List, [], refl, sym, ap, ◌∙◌, subst}
 use Rattle.std.specs.Prelude.{Option, Some, None, Result, Ok, Err}
-use Rattle.fv_base.specs.declared.pos.Pos.{Pos}
 use Rattle.fv_base.specs.declared.token.Token.{Token}
 use Rattle.vl_tree.specs.declared.source.Source.{Source}
 use Rattle.vl_tree.specs.ItemSpelling.{spell_source}
@@ -18,9 +17,9 @@ use Rattle.vl_grammar.proofs.OneSource.{one_source}
 use Rattle.vl_grammar.proofs.Spelled.{spelled_run}
 use Rattle.vl_parse.specs.declared.fault.ParseFault.{ParseFault}
 use Rattle.vl_parse.specs.declared.fault.ParseFault.TheVariants as f
-use Rattle.vl_parse.specs.Faults.{Answers, IsMemoryOr, token_at, place_at, wrong_token, wrong_at, named_at}
-use Rattle.vl_parse.specs.Faults.{outside_word}
-use Rattle.vl_parse.specs.Refusals.{IsTreeOf, IsShallow, NoneIsTooDeep, IsOfFaulty, IsFaultOf, Gives, Refuses}
+use Rattle.vl_parse.specs.Faults.{Answers, IsMemoryOr, wrong_token, deep_fault}
+use Rattle.vl_parse.specs.Refusals.{IsTreeOf, IsShallow, NoneIsTooDeep, IsOfFaulty, IsOfTooDeep, IsFaultOf, Gives}
+use Rattle.vl_parse.specs.Refusals.{Refuses}
 
 abbrev Ran : Type 0
 Ran = Result (Unit {0}) Fault
@@ -30,20 +29,6 @@ Answer = Result Source ParseFault
 
 syntax_not_deep : (l m : ℕ) → ◌≡◌ {A = Ran} (Err (syntax l)) (Err (deep m)) → ⊥
 syntax_not_deep l m h = cc
-
-named_deep : (p q : Pos) → f.Syntax p ≡ f.TooDeep q → ⊥
-named_deep p q h = cc
-
-outside_deep : (p q : Pos) (word : List ℕ) → f.Outside p word ≡ f.TooDeep q → ⊥
-outside_deep p q word h = cc
-
-deep_wrong : (p q : Pos) (word : Option (List ℕ)) → f.TooDeep p ≡ wrong_at q word → ⊥
-deep_wrong p q None h = cc
-deep_wrong p q (Some text) h = cc
-
-deep_named : (p q : Pos) (o : Option Token) → f.TooDeep p ≡ named_at q o → ⊥
-deep_named p q None h = cc
-deep_named p q (Some t) h = deep_wrong p q (outside_word t.kind) h
 
 pub shallow : (ts : List Token) (tree : Source) → IsSource tree → Spells (spell_source tree) ts []
     → Answers ts (Ok tree) (run (kinds_of ts)) → IsShallow tree
@@ -62,6 +47,10 @@ of_faulty ts fault l e h = record {
   named = h;
 }
 
+of_too_deep : (ts : List Token) (fault : ParseFault) (left : ℕ) → run (kinds_of ts) ≡ Err (deep left)
+    → fault ≡ deep_fault ts left → IsOfTooDeep ts fault
+of_too_deep ts fault l e h = record { left = l; deep = too_deep ts l e; named = h }
+
 pub fault_of_tokens : (ts : List Token) (fault : ParseFault) → Answers ts (Err fault) (run (kinds_of ts))
     → IsFaultOf ts fault
 fault_of_tokens ts fault a = by_run fault (run (kinds_of ts)) refl a
@@ -69,14 +58,14 @@ fault_of_tokens ts fault a = by_run fault (run (kinds_of ts)) refl a
     by_run : (fault : ParseFault) (o : Ran) → run (kinds_of ts) ≡ o → Answers ts (Err fault) o → IsFaultOf ts fault
     by_run f.Memory o e a = tt
     by_run (f.Syntax p) (Ok u) e a = absurd a
-    by_run (f.Syntax p) (Err (syntax l)) e a = of_faulty ts (f.Syntax p) l e a
-    by_run (f.Syntax p) (Err (deep l)) e a = absurd (named_deep p (place_at ts l) a)
+    by_run (f.Syntax p) (Err (syntax l)) e a = inl (of_faulty ts (f.Syntax p) l e a)
+    by_run (f.Syntax p) (Err (deep l)) e a = inr (of_too_deep ts (f.Syntax p) l e a)
     by_run (f.Outside p word) (Ok u) e a = absurd a
-    by_run (f.Outside p word) (Err (syntax l)) e a = of_faulty ts (f.Outside p word) l e a
-    by_run (f.Outside p word) (Err (deep l)) e a = absurd (outside_deep p (place_at ts l) word a)
+    by_run (f.Outside p word) (Err (syntax l)) e a = inl (of_faulty ts (f.Outside p word) l e a)
+    by_run (f.Outside p word) (Err (deep l)) e a = inr (of_too_deep ts (f.Outside p word) l e a)
     by_run (f.TooDeep p) (Ok u) e a = absurd a
-    by_run (f.TooDeep p) (Err (syntax l)) e a = absurd (deep_named p (place_at ts l) (token_at ts l) a)
-    by_run (f.TooDeep p) (Err (deep l)) e a = record { left = l; deep = too_deep ts l e; placed = a }
+    by_run (f.TooDeep p) (Err (syntax l)) e a = inl (of_faulty ts (f.TooDeep p) l e a)
+    by_run (f.TooDeep p) (Err (deep l)) e a = inr (of_too_deep ts (f.TooDeep p) l e a)
 
 -- where reading stops, that fault is answered
 refuses : (ts : List Token) (r : Answer) (e : Fault) (wanted : ParseFault) → Answers ts r (Err e)
@@ -96,13 +85,11 @@ refuses_faulty ts r a l x none =
     by_found (f.TooDeep p) a = a
 
 pub refuses_deep : (ts : List Token) (r : Answer) → Answers ts r (run (kinds_of ts)) → (left : ℕ)
-    → IsTooDeep (kinds_of ts) left → Refuses (f.TooDeep (place_at ts left)) r
+    → IsTooDeep (kinds_of ts) left → Refuses (deep_fault ts left) r
 refuses_deep ts r a l x =
-    refuses ts r (deep l) (f.TooDeep (place_at ts l))
-    (subst (λ o. Answers ts r o) (only_deep (kinds_of ts) l x) a) by_found
+    refuses ts r (deep l) (deep_fault ts l) (subst (λ o. Answers ts r o) (only_deep (kinds_of ts) l x) a) by_found
   where
-    by_found : (found : ParseFault) → Answers ts (Err found) (Err (deep l))
-        → IsMemoryOr (f.TooDeep (place_at ts l)) found
+    by_found : (found : ParseFault) → Answers ts (Err found) (Err (deep l)) → IsMemoryOr (deep_fault ts l) found
     by_found f.Memory a = tt
     by_found (f.Syntax p) a = a
     by_found (f.Outside p word) a = a

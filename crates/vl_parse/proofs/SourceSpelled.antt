@@ -8,7 +8,7 @@ use Rattle.vl_tree.specs.Phrase.{Spells, each}
 use Rattle.vl_tree.specs.ItemSpelling.{spell_module, spell_modules}
 use Rattle.vl_tree.specs.WellFormed.{IsModule, HasPlace}
 use Rattle.vl_grammar.specs.Grammar.{read, modules}
-use Rattle.vl_expr.specs.Next.{kinds_in}
+use Rattle.vl_take.specs.Next.{kinds_in}
 use Rattle.vl_parse.specs.Sources.{IsStart}
 use Rattle.vl_parse.proofs.ItemRows.{modules_end}
 use Rattle.vl_part.proofs.ListLaws.{all_pushed}

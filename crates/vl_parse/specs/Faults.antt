@@ -95,10 +95,15 @@ named_at p (Some t) = wrong_at p (outside_word t.kind)
 abbrev pub wrong_token : List Token → ℕ → ParseFault
 wrong_token ts left = named_at (place_at ts left) (token_at ts left)
 
+-- what is answered of the token at which 257 constructs are open: the last token too deep is a wrong end
+abbrev pub deep_fault : List Token → ℕ → ParseFault
+deep_fault ts (suc zero) = wrong_token ts 0
+deep_fault ts left = f.TooDeep (place_at ts left)
+
 -- what is answered of a text that reading by the grammar refuses
 abbrev pub fault_of : List Token → Fault → ParseFault
 fault_of ts (syntax left) = wrong_token ts left
-fault_of ts (deep left) = f.TooDeep (place_at ts left)
+fault_of ts (deep left) = deep_fault ts left
 
 -- that fault, or want of memory
 abbrev pub IsMemoryOr : ParseFault → ParseFault → Type 0

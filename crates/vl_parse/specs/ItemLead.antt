@@ -1,5 +1,5 @@
--- What a token begins as the first of an item that has no items in it, behind its attributes. IEEE 1364-2005,
--- sections A.1.4 and A.4.2.
+-- What functions promise each other, and what they stand on. What a token begins as the first of an item that has no
+-- items in it, behind its attributes. IEEE 1364-2005, sections A.1.4 and A.4.2.
 use Rattle.fv_base.specs.declared.kind.Kind.{Kind}
 use Rattle.fv_base.specs.declared.kind.Kind.TheVariants as k
 use Rattle.fv_base.specs.declared.keyword.Keyword.{Keyword}

@@ -1,5 +1,5 @@
--- What lists of items end with, what an item leaves behind it, and lists in which regions are still open. IEEE
--- 1364-2005, sections 12.4 and A.1.4.
+-- What functions promise each other, and what they stand on. What lists of items end with, what an item leaves behind
+-- it, and lists in which regions are still open. IEEE 1364-2005, sections 12.4 and A.1.4.
 use Rattle.std.specs.Prelude.{◌≡◌, ℕ, zero, suc, Bool, true, List, [], ◌∷◌, Ok, Option, Some, None}
 use Rattle.fv_base.specs.declared.kind.Kind.{Kind}
 use Rattle.fv_base.specs.declared.kind.Kind.TheVariants as k
@@ -21,7 +21,7 @@ use Rattle.vl_parse.specs.declared.item.Ending.TheVariants as e
 use Rattle.vl_parse.specs.declared.item.Front.{Front}
 use Rattle.vl_parse.specs.declared.item.Front.TheVariants as f
 use Rattle.vl_parse.specs.declared.item.Reading.{Reading}
-use Rattle.vl_expr.specs.Next.{IsOther}
+use Rattle.vl_take.specs.Next.{IsOther}
 
 abbrev pub word_of : Ending → Keyword
 word_of e.Endmodule = w.Endmodule

@@ -1,5 +1,6 @@
--- Which tree is answered and which refusal, in terms of trees alone. Rule of this project.
-use Rattle.std.specs.Prelude.{◌≡◌, ℕ, List, [], None, Result, Ok, Err}
+-- What the public calls promise. Which tree is answered and which refusal, in terms of trees alone. Rule of this
+-- project.
+use Rattle.std.specs.Prelude.{◌≡◌, ◌⊎◌, ℕ, List, [], None, Result, Ok, Err}
 use Rattle.fv_base.specs.declared.token.Token.{Token}
 use Rattle.vl_tree.specs.declared.source.Source.{Source}
 use Rattle.vl_tree.specs.ItemSpelling.{spell_source}
@@ -9,7 +10,7 @@ use Rattle.vl_grammar.specs.Depth.{too_deep_at, IsTooDeep}
 use Rattle.vl_grammar.specs.Text.{IsFaulty}
 use Rattle.vl_parse.specs.declared.fault.ParseFault.{ParseFault}
 use Rattle.vl_parse.specs.declared.fault.ParseFault.TheVariants as f
-use Rattle.vl_parse.specs.Faults.{place_at, wrong_token, IsMemoryOr}
+use Rattle.vl_parse.specs.Faults.{wrong_token, deep_fault, IsMemoryOr}
 
 -- it is well formed, and the tokens are its spelling
 abbrev pub IsTreeOf : List Token → Source → Type 0
@@ -34,13 +35,12 @@ pub record IsOfFaulty (ts : List Token) (fault : ParseFault) : Type 0 where
 pub record IsOfTooDeep (ts : List Token) (fault : ParseFault) : Type 0 where
   pub left : ℕ
   pub deep : IsTooDeep (kinds_of ts) left
-  pub placed : fault ≡ f.TooDeep (place_at ts left)
+  pub named : fault ≡ deep_fault ts left
 
 -- the tokens have what the fault says; want of memory is no fault of theirs
 abbrev pub IsFaultOf : List Token → ParseFault → Type 0
 IsFaultOf ts f.Memory = Unit {0}
-IsFaultOf ts (f.TooDeep p) = IsOfTooDeep ts (f.TooDeep p)
-IsFaultOf ts found = IsOfFaulty ts found
+IsFaultOf ts found = IsOfFaulty ts found ⊎ IsOfTooDeep ts found
 
 -- the tree is answered, but for want of memory
 abbrev pub Gives : Source → Result Source ParseFault → Type 0

@@ -1,4 +1,4 @@
--- Where a source begins. Rule of this project.
+-- What functions promise each other, and what they stand on. Where a source begins. Rule of this project.
 use Rattle.std.specs.Prelude.{◌≡◌, List, [], ◌∷◌}
 use Rattle.fv_base.specs.declared.pos.Pos.{Pos}
 use Rattle.fv_base.specs.declared.token.Token.{Token}

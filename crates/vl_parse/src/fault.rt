@@ -8,7 +8,7 @@ pub enum ParseFault {
     /// At the faulty token, one that the subset speaks of.
     #[error("a token out of place at {0:?}")]
     Syntax(Pos),
-    /// At the first token at which 257 constructs are open.
+    /// At the first token at which 257 constructs are open, if another one is behind it; else the end is out of place.
     #[error("constructs too deep at {0:?}")]
     TooDeep(Pos),
     /// At the faulty token, one outside of the subset, as it is written; `string` stands for a string and `number`

@@ -17,20 +17,19 @@ ghost use Rattle.vl_tree.specs.StmtWellFormed.{IsOptionalName};
 ghost use Rattle.vl_tree.specs.WellFormed as formed;
 ghost use Rattle.vl_grammar.specs.Machine.{then};
 ghost use Rattle.vl_grammar.specs.Grammar as grammar;
-ghost use Rattle.vl_expr.specs.Goes.{Goes, IsMemory};
-ghost use Rattle.vl_expr.specs.Next.{kinds_in, IsOther};
+ghost use Rattle.vl_take.specs.Goes.{Goes, IsMemory};
+ghost use Rattle.vl_take.specs.Next.{kinds_in, IsOther};
 ghost use Rattle.vl_parse.specs.ItemLead as lead;
 ghost use Rattle.vl_parse.specs.Items as items;
 
 use fv_base::{Keyword, Kind, List, Pos, Symbol, Text, Token};
 use std::alloc::Global;
-use vl_expr::{
-    Stop, add, enter, first_place, next, past_sign, past_word, read_name, read_parens, read_sign,
-};
+use vl_expr::read_parens;
 use vl_part::{
     Before, read_attributes, read_event, read_head, read_instance, read_list, read_shape,
 };
 use vl_stmt::{read_initial, read_stmt};
+use vl_take::{Stop, add, enter, first_place, next, past_sign, past_word, read_name, read_sign};
 use vl_tree::{
     AttributeInstance, Block, Declaration, Item, ItemKind, NetKind, ParameterKind, RegionMark,
 };

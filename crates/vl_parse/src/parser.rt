@@ -8,7 +8,7 @@ ghost use Rattle.vl_grammar.specs.Depth.{IsTooDeep};
 ghost use Rattle.vl_grammar.specs.Grammar.{run};
 ghost use Rattle.vl_grammar.specs.Text.{IsFaulty};
 ghost use Rattle.vl_parse.specs.Faults as faults;
-ghost use Rattle.vl_parse.specs.Faults.{Answers, wrong_token, place_at};
+ghost use Rattle.vl_parse.specs.Faults.{Answers, wrong_token, deep_fault};
 ghost use Rattle.vl_parse.specs.Refusals.{
   IsTreeOf,
   IsShallow,
@@ -23,7 +23,7 @@ use crate::outside::outside_word;
 use crate::source::{START, read_source};
 use fv_base::{Pos, Token};
 use std::alloc::Global;
-use vl_expr::Stop;
+use vl_take::Stop;
 use vl_tree::Source;
 
 /// How many constructs may be open at a token.
@@ -42,14 +42,14 @@ pub fn parse(alloc: Global, tokens: &[Token]) -> Result<Source, ParseFault>
     ensures each_faulty_token { (left : ℕ) → IsFaulty (kinds_of tokens.now) left → NoneIsTooDeep tokens.now
         → Refuses (wrong_token tokens.now left) result }
     ensures each_deep_token { (left : ℕ) → IsTooDeep (kinds_of tokens.now) left
-        → Refuses (ParseFault.TooDeep (place_at tokens.now left)) result }
+        → Refuses (deep_fault tokens.now left) result }
     // The same by the grammar: a tree comes exactly where a run reads the tokens to their end.
     ensures answers { Answers tokens.now result (run (kinds_of tokens.now)) }
 {
     match read_source(alloc, MOST_OPEN, tokens) {
         Ok(source) => Ok(source),
         Err(Stop::Wrong(left)) => Err(wrong(alloc, tokens, left)),
-        Err(Stop::TooDeep(left)) => Err(ParseFault::TooDeep(place(tokens, left))),
+        Err(Stop::TooDeep(left)) => Err(too_deep(tokens, left)),
         Err(Stop::Memory) => Err(ParseFault::Memory),
     }
 }
@@ -66,6 +66,18 @@ fn wrong(alloc: Global, tokens: &[Token], left: usize) -> ParseFault
         Ok(None) => ParseFault::Syntax(pos),
         Ok(Some(word)) => ParseFault::Outside(pos, word),
         Err(_) => ParseFault::Memory,
+    }
+}
+
+/// The fault where that token is the first one at which 257 constructs are open. The end of the text has the place of
+/// the last token, and is wrong where constructs are open: of these two the lower refusal counts.
+#[tactic(auto, using(crate::proofs::Top::deep_faults))]
+fn too_deep(tokens: &[Token], left: usize) -> ParseFault
+    ensures { result ≡ deep_fault tokens.now left }
+{
+    match left {
+        1 => ParseFault::Syntax(place(tokens, 0)),
+        _ => ParseFault::TooDeep(place(tokens, left)),
     }
 }
 

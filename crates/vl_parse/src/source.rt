@@ -6,15 +6,15 @@ ghost use Rattle.vl_tree.specs.ItemSpelling as spec;
 ghost use Rattle.vl_tree.specs.WellFormed as formed;
 ghost use Rattle.vl_grammar.specs.Machine.{then};
 ghost use Rattle.vl_grammar.specs.Grammar as grammar;
-ghost use Rattle.vl_expr.specs.Goes.{Goes};
-ghost use Rattle.vl_expr.specs.Next.{kinds_in};
+ghost use Rattle.vl_take.specs.Goes.{Goes};
+ghost use Rattle.vl_take.specs.Next.{kinds_in};
 ghost use Rattle.vl_parse.specs.Sources.{IsStart};
 
 use crate::item::{Ending, read_items};
 use fv_base::{Keyword, List, Pos, Token};
 use std::alloc::Global;
-use vl_expr::{Stop, add, first_place, next, read_name, read_word};
 use vl_part::{read_parameters, read_ports};
+use vl_take::{Stop, add, first_place, next, read_name, read_word};
 use vl_tree::{Module, Source};
 
 /// The place of a source without tokens.

@@ -8,7 +8,7 @@ use Rattle.vl_grammar.specs.Machine as machine
 use Rattle.vl_grammar.specs.Machine.{then}
 use Rattle.vl_grammar.specs.Grammar.{Outcome, read, read_all, name, first_connection, connection, more_connections}
 use Rattle.vl_grammar.specs.Grammar.{connected}
-use Rattle.vl_expr.specs.Next.{IsOther}
+use Rattle.vl_take.specs.Next.{IsOther}
 use Rattle.vl_part.specs.Tails.{more_connections_all}
 use Rattle.vl_part.proofs.PartRows.{first_connection_dot, connection_row}
 

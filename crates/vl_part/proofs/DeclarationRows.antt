@@ -20,9 +20,9 @@ use Rattle.vl_part.specs.declared.attribute.Before.{Before}
 use Rattle.vl_part.specs.declared.attribute.Before.TheVariants as before
 use Rattle.vl_part.specs.Before.{rule_of}
 use Rattle.vl_part.specs.Tails.{attributes_all}
-use Rattle.vl_expr.specs.Next.{IsOther, IsNoName, behind, behind_name}
-use Rattle.vl_expr.specs.Parts.{row_read, row_deep, row_popped, row_bad, same_row, in_turn, less, many_read}
-use Rattle.vl_expr.proofs.Tokens.{sign_row, name_row, name_end, behind_here, behind_wrong, kinds_length}
+use Rattle.vl_take.specs.Next.{IsOther, IsNoName, behind, behind_name}
+use Rattle.vl_take.specs.Parts.{row_read, row_deep, row_popped, row_bad, same_row, in_turn, less, many_read}
+use Rattle.vl_take.proofs.Tokens.{sign_row, name_row, name_end, behind_here, behind_wrong, kinds_length}
 
 pub target_brace : (n : ℕ) (ts : List Kind) → 0 < n
     → read target n (k.Symbol s.OpenBrace ∷ ts) ≡ then (read target (n - 1) ts) (λ r. read targets (n - 1) r)

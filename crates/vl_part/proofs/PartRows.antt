@@ -13,13 +13,13 @@ use Rattle.vl_grammar.specs.Grammar.{overrides, connections, first_connection, c
 use Rattle.vl_grammar.specs.Grammar.{connected, connected_value, loop_head, loop_variable, on_operand, plain, take_if}
 use Rattle.std.specs.Prelude.{bytes_eq}
 use Rattle.std.proofs.lemmas.Slice.Eq.{bytes_eq-Decides}
-use Rattle.vl_expr.specs.declared.lead.Lead.{Lead}
-use Rattle.vl_expr.specs.declared.lead.Lead.TheVariants as lead
-use Rattle.vl_expr.specs.Lead.{lead_of}
+use Rattle.vl_take.specs.declared.lead.Lead.{Lead}
+use Rattle.vl_take.specs.declared.lead.Lead.TheVariants as lead
+use Rattle.vl_take.specs.Lead.{lead_of}
 use Rattle.vl_expr.proofs.ExprRows.{by_lead, lead_made}
 use Rattle.vl_part.specs.LoopHead.{step, condition, steps}
-use Rattle.vl_expr.specs.Next.{IsOther, IsNoName, behind_name}
-use Rattle.vl_expr.specs.Parts.{row_read, row_deep, row_bad, many_read}
+use Rattle.vl_take.specs.Next.{IsOther, IsNoName, behind_name}
+use Rattle.vl_take.specs.Parts.{row_read, row_deep, row_bad, many_read}
 
 pub event_star : (n : ℕ) (ts : List Kind) → read event n (k.Symbol s.Star ∷ ts) ≡ Ok ts
 event_star n ts = row_read event n (k.Symbol s.Star) ts 0 _ refl (omega arith)

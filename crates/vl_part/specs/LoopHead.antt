@@ -1,4 +1,5 @@
--- The parts of a loop's head, as rules of the grammar that are read in turn. IEEE 1364-2005, section A.4.2.
+-- What functions promise each other, and what they stand on. The parts of a loop's head, as rules of the grammar that
+-- are read in turn. IEEE 1364-2005, section A.4.2.
 use Rattle.std.specs.Prelude.{ℕ, List}
 use Rattle.fv_base.specs.declared.kind.Kind.{Kind}
 use Rattle.fv_base.specs.declared.symbol.Symbol.TheVariants as s

@@ -1,4 +1,5 @@
--- Lists with commas, as rules of the grammar: an element, and what stands behind one.
+-- What functions promise each other, and what they stand on. Lists with commas, as rules of the grammar: an element,
+-- and what stands behind one.
 use Rattle.std.proofs.Common.{◌≡◌, ℕ, zero, suc, ◌+◌, ◌-◌, ◌≤◌, ◌<◌, Bool, true, false, List, [], ◌∷◌, ◌++◌, length}
 use Rattle.std.proofs.Common.{refl, sym, ap, ◌∙◌, arith}
 use Rattle.std.specs.Prelude.{Result, Ok, Err, Option, Some, None, map}
@@ -14,8 +15,8 @@ use Rattle.vl_grammar.specs.Grammar.{Rule, Outcome, expand, ends, read, read_all
 use Rattle.vl_grammar.specs.Grammar.{attributes, range, shape, declared_name, declared_names, names, parameters}
 use Rattle.vl_grammar.specs.Grammar.{parameter, assignment, assignments, connection, more_connections}
 use Rattle.vl_grammar.specs.Grammar.{optional_parameter, more_header_parameters, port, more_ports, label, labels}
-use Rattle.vl_expr.specs.Next.{IsOther, behind}
-use Rattle.vl_expr.specs.Parts.{tail_comma, read_all_turn}
+use Rattle.vl_take.specs.Next.{IsOther, behind}
+use Rattle.vl_take.specs.Parts.{tail_comma, read_all_turn}
 
 pub attributes_comma_all : (n : ℕ) (ts : List Kind)
     → read attributes n (k.Symbol s.Comma ∷ ts) ≡ then (read_all (name ∷ value ∷ []) n ts) (λ r. read attributes n r)

@@ -10,13 +10,14 @@ ghost use Rattle.fv_base.specs.declared.kind.Kind.TheVariants as k;
 ghost use Rattle.fv_base.specs.declared.symbol.Symbol.TheVariants as s;
 ghost use Rattle.vl_tree.specs.DeclarationWellFormed as formed;
 ghost use Rattle.vl_grammar.specs.Grammar as grammar;
-ghost use Rattle.vl_expr.specs.Goes.{Goes};
-ghost use Rattle.vl_expr.specs.Next.{kinds_in, IsOther};
+ghost use Rattle.vl_take.specs.Goes.{Goes};
+ghost use Rattle.vl_take.specs.Next.{kinds_in, IsOther};
 
 use crate::list::{Element, read_list};
 use fv_base::{List, Symbol, Token};
 use std::alloc::Global;
-use vl_expr::{Stop, add, enter, first_place, past_sign, read_expr, read_name};
+use vl_expr::read_expr;
+use vl_take::{Stop, add, enter, first_place, past_sign, read_name};
 use vl_tree::{Attribute, AttributeInstance, Expr};
 
 /// `= expr`, where it is there.

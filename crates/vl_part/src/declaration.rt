@@ -6,14 +6,15 @@ ghost use Rattle.vl_tree.specs.DeclarationSpelling as spec;
 ghost use Rattle.vl_tree.specs.DeclarationWellFormed as formed;
 ghost use Rattle.fv_base.specs.declared.symbol.Symbol.TheVariants as s;
 ghost use Rattle.vl_grammar.specs.Grammar as grammar;
-ghost use Rattle.vl_expr.specs.Goes.{Goes};
-ghost use Rattle.vl_expr.specs.Next.{kinds_in, IsOther};
+ghost use Rattle.vl_take.specs.Goes.{Goes};
+ghost use Rattle.vl_take.specs.Next.{kinds_in, IsOther};
 
 use crate::attribute::read_value;
 use crate::list::Element;
 use fv_base::{Keyword, Symbol, Text, Token};
 use std::alloc::Global;
-use vl_expr::{Stop, enter, first_place, past_sign, past_word, read_expr, read_name, read_sign};
+use vl_expr::read_expr;
+use vl_take::{Stop, enter, first_place, past_sign, past_word, read_name, read_sign};
 use vl_tree::{DeclaredName, Parameter, Range, Shape};
 
 /// `[left : right]`, where it is there.

@@ -6,13 +6,13 @@ ghost use Rattle.vl_tree.specs.DeclarationWellFormed.{AreSome};
 ghost use Rattle.vl_tree.specs.Phrase.{Spells, sign, between_commas, ◌▸◌};
 ghost use Rattle.vl_grammar.specs.Machine.{then};
 ghost use Rattle.vl_grammar.specs.Grammar as grammar;
-ghost use Rattle.vl_expr.specs.Goes.{Goes};
+ghost use Rattle.vl_take.specs.Goes.{Goes};
 ghost use Rattle.vl_part.specs.Lists.{BeginsWith};
-ghost use Rattle.vl_expr.specs.Next.{kinds_in};
+ghost use Rattle.vl_take.specs.Next.{kinds_in};
 
 use fv_base::{List, Symbol, Token};
 use std::alloc::Global;
-use vl_expr::{Stop, add, past_sign, read_sign};
+use vl_take::{Stop, add, past_sign, read_sign};
 
 /// What such a list has as an element.
 pub trait Element: Drop {
@@ -24,7 +24,7 @@ pub trait Element: Drop {
     ghost use Rattle.vl_tree.specs.Phrase.{Phrase};
     ghost use Rattle.vl_grammar.specs.Machine as machine;
     ghost use Rattle.vl_grammar.specs.Grammar.{Rule, read, read_all};
-    ghost use Rattle.vl_expr.specs.Next.{IsOther, behind};
+    ghost use Rattle.vl_take.specs.Next.{IsOther, behind};
 
     ghost phrase: { Self → Phrase };
 

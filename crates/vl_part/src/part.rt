@@ -9,8 +9,8 @@ ghost use Rattle.vl_tree.specs.ItemSpelling as spec;
 ghost use Rattle.vl_tree.specs.WellFormed as formed;
 ghost use Rattle.fv_base.specs.declared.symbol.Symbol.TheVariants as s;
 ghost use Rattle.vl_grammar.specs.Grammar as grammar;
-ghost use Rattle.vl_expr.specs.Goes.{Goes};
-ghost use Rattle.vl_expr.specs.Next.{kinds_in, behind, behind_name};
+ghost use Rattle.vl_take.specs.Goes.{Goes};
+ghost use Rattle.vl_take.specs.Next.{kinds_in, behind, behind_name};
 ghost use Rattle.vl_grammar.specs.Machine.{then};
 ghost use Rattle.vl_part.specs.LoopHead.{step, condition, last_step, steps};
 
@@ -18,9 +18,9 @@ use crate::list::{Element, read_list};
 use crate::lval::read_lval;
 use fv_base::{Keyword, Kind, List, Symbol, Text, Token};
 use std::alloc::Global;
-use vl_expr::{
-    Stop, copied, enter, first_place, next, past_name, past_sign, read_expr, read_name, read_sign,
-    read_word,
+use vl_expr::read_expr;
+use vl_take::{
+    Stop, copied, enter, first_place, next, past_name, past_sign, read_name, read_sign, read_word,
 };
 use vl_tree::{Assignment, Connection, Event, EventKind, Expr, Instance, LoopHead};
 

@@ -10,15 +10,15 @@ ghost use Rattle.vl_tree.specs.WellFormed.{AreOptionalParameters, AreOptionalPor
 ghost use Rattle.vl_grammar.specs.Machine.{then};
 ghost use Rattle.fv_base.specs.declared.symbol.Symbol.TheVariants as s;
 ghost use Rattle.vl_grammar.specs.Grammar as grammar;
-ghost use Rattle.vl_expr.specs.Goes.{Goes};
-ghost use Rattle.vl_expr.specs.Next.{kinds_in, IsOther};
+ghost use Rattle.vl_take.specs.Goes.{Goes};
+ghost use Rattle.vl_take.specs.Next.{kinds_in, IsOther};
 
 use crate::attribute::{Before, read_attributes, read_value};
 use crate::declaration::read_shape;
 use crate::list::{Element, read_list_behind};
 use fv_base::{Keyword, List, Symbol, Token};
 use std::alloc::Global;
-use vl_expr::{
+use vl_take::{
     Stop, enter, first_place, past_name, past_sign, past_word, read_name, read_sign, read_word,
 };
 use vl_tree::{Direction, FullPort, HeaderParameter, NetKind, Parameter, Port, PortKind};

@@ -1,6 +1,6 @@
 -- The refusals of a text, and which of them is answered: the one at the least place, by file, line and column, and at
 -- one place the one with the lowest number. Rule of this project.
-use Rattle.std.specs.Prelude.{ℕ, Bool, cond, ◌&&◌, ◌==◌, nat_lt, Option, None, Some}
+use Rattle.std.specs.Prelude.{ℕ, Bool, ◌&&◌, ◌==◌, nat_lt, Option, None, Some, if◌then◌else◌}
 use Rattle.fv_base.specs.declared.pos.Pos.{Pos}
 use Rattle.vl_prep.specs.declared.fault.PrepFault.{PrepFault}
 use Rattle.vl_prep.specs.declared.fault.PrepFault.TheVariants as fault
@@ -20,20 +20,22 @@ number NoName = 7
 
 -- the place stands before the other
 abbrev pub is_sooner : Pos → Pos → Bool
-is_sooner p q = cond (p.file == q.file) (cond (p.line == q.line) (nat_lt p.col q.col) (nat_lt p.line q.line))
-    (nat_lt p.file q.file)
+is_sooner p q =
+    if p.file == q.file then if p.line == q.line then nat_lt p.col q.col else nat_lt p.line q.line
+    else nat_lt p.file q.file
 
 abbrev pub is_place : Pos → Pos → Bool
 is_place p q = p.file == q.file && p.line == q.line && p.col == q.col
 
 -- the refusal is answered where the other is there too
 abbrev pub is_before : Refusal → Refusal → Bool
-is_before r s = cond (is_place r.place s.place) (nat_lt (number r.cause) (number s.cause)) (is_sooner r.place s.place)
+is_before r s =
+    if is_place r.place s.place then nat_lt (number r.cause) (number s.cause) else is_sooner r.place s.place
 
 -- of what is answered so far, and one more refusal
 abbrev pub least : Option Refusal → Refusal → Refusal
 least None r = r
-least (Some s) r = cond (is_before r s) r s
+least (Some s) r = if is_before r s then r else s
 
 abbrev pub refusal : Pos → Cause → Refusal
 refusal place cause = record { place = place; cause = cause }

@@ -19,3 +19,4 @@ pub use fault::PrepFault;
 pub use law::groups_decide;
 pub use macros::Macros;
 pub use reader::prep;
+pub use refusal::is_sooner;

@@ -70,7 +70,7 @@ impl Refusal {
 }
 
 /// Whether a place stands before the other, by file, line and column.
-fn is_sooner(pos: Pos, other: Pos) -> bool
+pub fn is_sooner(pos: Pos, other: Pos) -> bool
     ensures { result ≡ specs.is_sooner pos other }
 {
     if pos.file != other.file {

@@ -17,12 +17,12 @@ use Rattle.vl_grammar.specs.Grammar.{Rule, Outcome, expand, ends, read, sign, ex
 use Rattle.vl_grammar.specs.Grammar.{first_arm, arms, label, labels, behind_default, on_label, on_arm, on_operand}
 use Rattle.vl_grammar.specs.Grammar.{arm_with, inside, on_casez_number, if_known}
 use Rattle.vl_grammar.proofs.InParts as parts
-use Rattle.vl_expr.specs.declared.lead.Lead.{Lead}
-use Rattle.vl_expr.specs.declared.lead.Lead.TheVariants as lead
-use Rattle.vl_expr.specs.Lead.{lead_of}
+use Rattle.vl_take.specs.declared.lead.Lead.{Lead}
+use Rattle.vl_take.specs.declared.lead.Lead.TheVariants as lead
+use Rattle.vl_take.specs.Lead.{lead_of}
 use Rattle.vl_stmt.specs.Arms.{wild_if, wild_label, is_something, begins, begins_label}
-use Rattle.vl_expr.specs.Next.{IsOther}
-use Rattle.vl_expr.specs.Parts.{row_read, row_deep, row_bad, same_row, fits_true, fits_false}
+use Rattle.vl_take.specs.Next.{IsOther}
+use Rattle.vl_take.specs.Parts.{row_read, row_deep, row_bad, same_row, fits_true, fits_false}
 use Rattle.vl_expr.proofs.ExprRows.{by_lead, lead_made}
 
 number_wild : (b d : Bool) (n m : Number) → n.wild == 0 ≡ b → n.unknown == 0 ≡ d → wild_if b d n ≡ Some m

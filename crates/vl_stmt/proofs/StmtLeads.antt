@@ -18,8 +18,8 @@ use Rattle.vl_grammar.specs.Grammar.{stmt, block, otherwise, assign_sign, first_
 use Rattle.vl_stmt.specs.declared.stmt.StmtLead.{StmtLead}
 use Rattle.vl_stmt.specs.declared.stmt.StmtLead.TheVariants as lead
 use Rattle.vl_stmt.specs.StmtLead.{stmt_lead_of}
-use Rattle.vl_expr.specs.Next.{IsOther}
-use Rattle.vl_expr.specs.Parts.{row_read, row_deep, row_bad}
+use Rattle.vl_take.specs.Next.{IsOther}
+use Rattle.vl_take.specs.Parts.{row_read, row_deep, row_bad}
 use Rattle.vl_stmt.proofs.StmtRows.{stmt_begin, stmt_begin_deep, stmt_if, stmt_if_deep, stmt_case, stmt_case_deep}
 use Rattle.vl_stmt.proofs.StmtRows.{stmt_casez, stmt_casez_deep, stmt_assume, stmt_semicolon}
 

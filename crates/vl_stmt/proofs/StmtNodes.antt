@@ -21,12 +21,13 @@ use Rattle.vl_tree.specs.StmtWellFormed.{ends_open}
 use Rattle.vl_grammar.specs.Machine.{then}
 use Rattle.vl_grammar.specs.Grammar.{Outcome, read, in_parens, stmt, first_arm}
 use Rattle.vl_stmt.specs.declared.stmt.StmtLead.TheVariants as lead
-use Rattle.vl_expr.specs.declared.stop.Stop.{Stop}
-use Rattle.vl_expr.specs.declared.stop.Stop.TheVariants as stop
-use Rattle.vl_expr.specs.Goes.{Ends}
+use Rattle.vl_take.specs.declared.stop.Stop.{Stop}
+use Rattle.vl_take.specs.declared.stop.Stop.TheVariants as stop
+use Rattle.vl_take.specs.Goes.{Ends}
 use Rattle.vl_stmt.specs.StmtLead.{stmt_lead_of}
-use Rattle.vl_expr.specs.Next.{IsOther, kinds_in}
-use Rattle.vl_stmt.specs.Statements.{HasNoAttributes, LeavesElse}
+use Rattle.vl_take.specs.Next.{IsOther, kinds_in}
+use Rattle.vl_stmt.specs.Bare.{HasNoAttributes}
+use Rattle.vl_stmt.specs.Statements.{LeavesElse}
 use Rattle.vl_stmt.proofs.StmtLeads.{lead_case}
 
 pub block_found : (p : Pos) (label : Option (List ℕ)) (ss : Stmts) (start inside rest : List Token)

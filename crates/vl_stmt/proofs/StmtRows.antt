@@ -17,9 +17,9 @@ use Rattle.vl_grammar.specs.Grammar.{Rule, Outcome, expand, ends, read, sign, na
 use Rattle.vl_grammar.specs.Grammar.{targets, stmt, stmts, block, otherwise, assign_sign, first_arm, arms, label}
 use Rattle.vl_grammar.specs.Grammar.{labels, behind_default, initial_stmt, initial_stmts, on_stmt, on_arm, on_label}
 use Rattle.vl_grammar.specs.Grammar.{on_initial_stmt}
-use Rattle.vl_expr.specs.Next.{IsOther, behind, behind_name}
-use Rattle.vl_expr.specs.Parts.{row_read, row_deep, row_popped, row_bad, same_row, in_turn, less, many_read}
-use Rattle.vl_expr.proofs.Tokens.{sign_row, name_row, behind_here, behind_wrong, kinds_length}
+use Rattle.vl_take.specs.Next.{IsOther, behind, behind_name}
+use Rattle.vl_take.specs.Parts.{row_read, row_deep, row_popped, row_bad, same_row, in_turn, less, many_read}
+use Rattle.vl_take.proofs.Tokens.{sign_row, name_row, behind_here, behind_wrong, kinds_length}
 use Rattle.vl_grammar.specs.Grammar.{many}
 
 then_then : (a : Outcome) (f g : List Kind → Outcome) → then (then a f) g ≡ then a (λ r. then (f r) g)

@@ -1,14 +1,14 @@
--- Labels and arms of a case. IEEE 1364-2005, sections 9.5 and A.6.7; that wild bits stand in labels of a `casez`
--- alone is a rule of this project.
+-- What functions promise each other, and what they stand on. Labels and arms of a case. IEEE 1364-2005, sections 9.5
+-- and A.6.7; that wild bits stand in labels of a `casez` alone is a rule of this project.
 use Rattle.std.specs.Prelude.{ℕ, ◌==◌, Bool, true, false, Option, Some, None}
 use Rattle.fv_base.specs.declared.kind.Kind.{Kind}
 use Rattle.fv_base.specs.declared.kind.Kind.TheVariants as k
 use Rattle.fv_base.specs.declared.number.Number.{Number}
 use Rattle.vl_tree.specs.declared.stmt.CaseKind.{CaseKind}
 use Rattle.vl_tree.specs.declared.stmt.CaseKind.TheVariants as c
-use Rattle.vl_expr.specs.declared.lead.Lead.{Lead}
-use Rattle.vl_expr.specs.declared.lead.Lead.TheVariants as lead
-use Rattle.vl_expr.specs.Lead.{lead_of}
+use Rattle.vl_take.specs.declared.lead.Lead.{Lead}
+use Rattle.vl_take.specs.declared.lead.Lead.TheVariants as lead
+use Rattle.vl_take.specs.Lead.{lead_of}
 
 abbrev pub wild_if : Bool → Bool → Number → Option Number
 wild_if false true n = Some n

@@ -1,3 +1,4 @@
 pub mod StmtLead
+pub mod Bare
 pub mod Statements
 pub mod Arms

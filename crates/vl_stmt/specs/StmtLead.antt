@@ -1,4 +1,5 @@
--- What a token begins as the first of a statement behind its attributes. IEEE 1364-2005, section A.6.4.
+-- What functions promise each other, and what they stand on. What a token begins as the first of a statement behind
+-- its attributes. IEEE 1364-2005, section A.6.4.
 use Rattle.fv_base.specs.declared.kind.Kind.{Kind}
 use Rattle.fv_base.specs.declared.kind.Kind.TheVariants as k
 use Rattle.fv_base.specs.declared.keyword.Keyword.TheVariants as w

@@ -8,12 +8,13 @@ ghost use Rattle.vl_tree.specs.StmtWellFormed as formed;
 ghost use Rattle.vl_grammar.specs.Machine.{then};
 ghost use Rattle.vl_grammar.specs.Grammar as grammar;
 ghost use Rattle.vl_stmt.specs.Arms as labels;
-ghost use Rattle.vl_expr.specs.Goes.{Goes};
-ghost use Rattle.vl_expr.specs.Next.{kinds_in};
+ghost use Rattle.vl_take.specs.Goes.{Goes};
+ghost use Rattle.vl_take.specs.Next.{kinds_in};
 
 use fv_base::{Kind, List, Number, Symbol, Token};
 use std::alloc::Global;
-use vl_expr::{Lead, Stop, add, lead_of, next, number, past_sign, read_expr, read_sign};
+use vl_expr::{number, read_expr};
+use vl_take::{Lead, Stop, add, lead_of, next, past_sign, read_sign};
 use vl_tree::{CaseKind, Expr};
 
 /// A colon, where it is there.

@@ -14,21 +14,20 @@ ghost use Rattle.vl_tree.specs.StmtSpelling as spec;
 ghost use Rattle.vl_tree.specs.StmtWellFormed as formed;
 ghost use Rattle.vl_grammar.specs.Machine.{then};
 ghost use Rattle.vl_grammar.specs.Grammar as grammar;
-ghost use Rattle.vl_expr.specs.Goes.{Goes, IsMemory};
-ghost use Rattle.vl_expr.specs.Next.{kinds_in, IsOther};
+ghost use Rattle.vl_take.specs.Goes.{Goes, IsMemory};
+ghost use Rattle.vl_take.specs.Next.{kinds_in, IsOther};
 ghost use Rattle.fv_base.specs.declared.keyword.Keyword.TheVariants as w;
 ghost use Rattle.vl_stmt.specs.Arms as labels;
 ghost use Rattle.vl_stmt.specs.StmtLead as lead;
-ghost use Rattle.vl_stmt.specs.Statements.{HasNoAttributes, LeavesElse};
+ghost use Rattle.vl_stmt.specs.Bare.{HasNoAttributes};
+ghost use Rattle.vl_stmt.specs.Statements.{LeavesElse};
 
 use crate::arm::{begins_label, read_colon, read_labels};
 use fv_base::{Keyword, Kind, List, Pos, Symbol, Text, Token};
 use std::alloc::Global;
-use vl_expr::{
-    Stop, add, enter, first_place, next, past_sign, past_word, read_expr, read_name, read_parens,
-    read_sign,
-};
+use vl_expr::{read_expr, read_parens};
 use vl_part::{Before, read_attributes, read_lval};
+use vl_take::{Stop, add, enter, first_place, next, past_sign, past_word, read_name, read_sign};
 use vl_tree::{Arm, AssignKind, CaseKind, Stmt, StmtKind};
 
 /// What a token begins as the first of a statement behind its attributes.

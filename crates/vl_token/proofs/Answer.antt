@@ -475,22 +475,6 @@ refuse_before (OpenString x) n m file line bytes at en e place h =
     refuse_before_by (OpenString x) n m file line bytes at refl en e place h
 refuse_before Memory n m file line bytes at en e place h = absurd (let f : ⊥ = cc in f)
 
-pub below_end : (f : LexFault) (n m : ℕ) (bytes : List ℕ) (start : Pos) → (is_of_text f && nat_le n m) ≡ true
-    → OnNotMemory f (HasStopped f m bytes start) → n ≤ length bytes
-below_end (NotAscii x) n m bytes start e h =
-    let le = leb-true n m e in let lt = stop_inside (NotAscii x) m bytes start refl h in omega arith
-below_end (BadNumber x) n m bytes start e h =
-    let le = leb-true n m e in let lt = stop_inside (BadNumber x) m bytes start refl h in omega arith
-below_end (OpenComment x) n m bytes start e h =
-    let le = leb-true n m e in let lt = stop_inside (OpenComment x) m bytes start refl h in omega arith
-below_end (BadChar x) n m bytes start e h =
-    let le = leb-true n m e in let lt = stop_inside (BadChar x) m bytes start refl h in omega arith
-below_end (TooManyTokens x) n m bytes start e h =
-    let le = leb-true n m e in let lt = stop_inside (TooManyTokens x) m bytes start refl h in omega arith
-below_end (OpenString x) n m bytes start e h =
-    let le = leb-true n m e in let lt = stop_inside (OpenString x) m bytes start refl h in omega arith
-below_end Memory n m bytes start e h = absurd (let f : ⊥ = cc in f)
-
 pub read_tokens : (n file line : ℕ) (bytes : List ℕ) (pos : Pos) (ts : List Token) → n ≡ prefix_len is_ascii bytes
     → length bytes ≤ n → HasRead bytes (start_of file line) [] pos ts → AreTokens file line bytes ts
 read_tokens n file line bytes pos ts en le r = record {

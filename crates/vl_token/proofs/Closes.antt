@@ -15,13 +15,6 @@ pub record ClosesOn (bytes rest : List ℕ) : Type 0 where
   pub same : before ++ rest ≡ bytes
   pub close : further before (close_of rest) ≡ close_of bytes
 
-further_none : (o : Option (List ℕ × List ℕ)) → further [] o ≡ o
-further_none None = refl
-further_none (Some x) = refl
-
-pub closes_start : (bytes : List ℕ) → ClosesOn bytes bytes
-closes_start bytes = record { before = []; same = refl; close = further_none (close_of bytes) }
-
 further_more : (before : List ℕ) (b : ℕ) (o : Option (List ℕ × List ℕ))
     → further (before ++ (b ∷ [])) o ≡ further before (more_inside b o)
 further_more before b None = refl
@@ -39,20 +32,3 @@ closes_on bytes rest bs b e test on =
       same = moved ∙ on.same;
       close = further_more on.before b (close_of bs) ∙ (ap (λ o. further on.before o) (sym here) ∙ on.close);
     }
-
-pub closes_here : (bytes rest bs : List ℕ) (b : ℕ) → rest ≡ b ∷ bs → (b == 42 && first_is (λ c. c == 47) bs) ≡ true
-    → ClosesOn bytes rest
-    → close_of bytes ≡ Some (take (length bytes - length rest) bytes, drop 1 bs)
-closes_here bytes rest bs b e test on =
-    let here : close_of rest ≡ Some ([], drop 1 bs) = rw (e, test) refl in
-    let long : length bytes - length rest ≡ length on.before = rw (← on.same)
-    (omega (arith, length-append on.before rest)) in
-    let front : take (length on.before) bytes
-    ≡ on.before = subst (λ zs. take (length on.before) zs ≡ on.before) on.same (take-append_seam on.before rest) in
-    let there : close_of bytes ≡ Some (on.before ++ [], drop 1 bs) = sym on.close
-    ∙ ap (λ o. further on.before o) here in
-    let none : on.before ++ [] ≡ take (length bytes - length rest) bytes = simp (long, front) (append-nil on.before) in
-    there ∙ ap (λ (zs : List ℕ). Some (zs, drop 1 bs)) none
-
-pub closes_none : (bytes rest : List ℕ) → rest ≡ [] → ClosesOn bytes rest → close_of bytes ≡ None
-closes_none bytes rest e on = sym on.close ∙ rw e refl

@@ -108,19 +108,6 @@ well_named (tick w) rest kind h i = other_named (tick w) kind (λ v e. cc) i
 well_named (quoted body) rest kind h i = other_named (quoted body) kind (λ w e. cc) i
 well_named continue rest kind h i = other_named continue kind (λ w e. cc) i
 
--- a wrong number stands
-pub bad_number : (p : Piece) (bytes rest : List ℕ) → IsFront bytes p rest → IsBadNumber p → HasBadNumber bytes
-bad_number (number m) bytes rest h b = record { number = m; after = rest; same = h.same; stands = h.stands; bad = b }
-bad_number (blank x) bytes rest h b = absurd b
-bad_number (line_comment x) bytes rest h b = absurd b
-bad_number (block_comment x) bytes rest h b = absurd b
-bad_number (word x) bytes rest h b = absurd b
-bad_number (sign x) bytes rest h b = absurd b
-bad_number (system x) bytes rest h b = absurd b
-bad_number (tick x) bytes rest h b = absurd b
-bad_number (quoted x) bytes rest h b = absurd b
-bad_number continue bytes rest h b = absurd b
-
 -- what a piece takes of the text
 pub front_text : (bytes : List ℕ) (p : Piece) (rest : List ℕ) → IsFront bytes p rest
     → take (length bytes - length rest) bytes ≡ text_of p
@@ -138,16 +125,6 @@ front_fits bytes p rest h = rw (h.same) (omega (arith, length-append (text_of p)
 pub place_front : (bytes : List ℕ) (p : Piece) (rest : List ℕ) (pos next : Pos) → IsFront bytes p rest
     → next ≡ place_after pos (take (length bytes - length rest) bytes) → next ≡ place_after pos (text_of p)
 place_front bytes p rest pos next h e = e ∙ ap (λ z. place_after pos z) (front_text bytes p rest h)
-
-pub gap_on : (rest : List ℕ) (p : Piece) (after : List ℕ) (pos next : Pos) (old new : List Token)
-    → IsFront rest p after → is_token p ≡ false
-    → next ≡ place_after pos (take (length rest - length after) rest) → new ≡ old → Advances rest after pos next old new
-gap_on rest p after pos next old new h gap e same = record {
-  piece = p;
-  front = h;
-  place = place_front rest p after pos next h e;
-  adds = subst (λ z. Adds z p pos old new) (sym gap) same;
-}
 
 token_first : (p : Piece) (kind : Kind) (pos : Pos) (old new : List Token) (a : Added kind pos old new)
     → IsKind p kind → IsFirstToken p pos a.token
@@ -323,9 +300,6 @@ adds_few true p pos old new a h = let room = a.3 in rw (a.1) (omega (arith, leng
     one_long t = refl
 adds_few false p pos old new a h = rw a h
 
-pub read_start : (bytes : List ℕ) (start : Pos) → HasRead bytes start bytes start []
-read_start bytes start = record { pieces = []; same = refl; stand = tt; place = refl; tokens = refl; few = omega arith }
-
 pub read_on : (bytes : List ℕ) (start : Pos) (rest : List ℕ) (pos : Pos) (old : List Token) (after : List ℕ)
     (next : Pos) (new : List Token)
     → HasRead bytes start rest pos old → Advances rest after pos next old new → HasRead bytes start after next new
@@ -354,10 +328,6 @@ read_far bytes start rest pos ts r = less ∙ ap (λ z. length z - length rest) 
   where
     less : length (joined r.pieces) ≡ length (joined r.pieces ++ rest) - length rest
     less = omega (arith, length-append (joined r.pieces) rest)
-
-pub read_fits : (bytes : List ℕ) (start : Pos) (rest : List ℕ) (pos : Pos) (ts : List Token)
-    → HasRead bytes start rest pos ts → length rest ≤ length bytes
-read_fits bytes start rest pos ts r = rw (r.same) (omega (arith, length-append (joined r.pieces) rest))
 
 stopped_at : (fault : LexFault) (bytes : List ℕ) (start : Pos) (rest : List ℕ) (pos : Pos) (ts : List Token)
     → HasRead bytes start rest pos ts → StopsAt fault rest (length ts) pos

@@ -10,4 +10,5 @@ pub mod Steps
 pub mod Views
 pub mod Tokens
 pub mod Fault
+pub mod FaultPlace
 pub mod Classes

@@ -21,3 +21,39 @@ pub enum LexFault {
     #[error("no memory is left")]
     Memory,
 }
+
+impl LexFault {
+    ghost use Rattle.std.specs.Prelude.{◌≡◌};
+    ghost use Rattle.vl_token.specs.Fault.{number_of};
+    ghost use Rattle.vl_token.specs.FaultPlace.{fault_place};
+
+    /// The number of the refusal, from 1 on in the order of the variants.
+    pub fn number(self) -> u8
+        ensures { result ≡ number_of self }
+    {
+        match self {
+            LexFault::NotAscii(_) => 1,
+            LexFault::BadNumber(_) => 2,
+            LexFault::OpenComment(_) => 3,
+            LexFault::BadChar(_) => 4,
+            LexFault::TooManyTokens(_) => 5,
+            LexFault::OpenString(_) => 6,
+            LexFault::Memory => 7,
+        }
+    }
+
+    /// None exactly for want of memory.
+    pub fn place(self) -> Option<Pos>
+        ensures { result ≡ fault_place self }
+    {
+        match self {
+            LexFault::NotAscii(at)
+            | LexFault::BadNumber(at)
+            | LexFault::OpenComment(at)
+            | LexFault::BadChar(at)
+            | LexFault::TooManyTokens(at)
+            | LexFault::OpenString(at) => Some(at),
+            LexFault::Memory => None,
+        }
+    }
+}

@@ -1,4 +1,4 @@
-use Rattle.std.proofs.Common.{◌≡◌, ◌∙◌, sym, subst}
+use Rattle.std.proofs.Common.{◌∙◌, sym, subst}
 use Rattle.vl_tree.specs.Expr.{exprs}
 use Rattle.vl_tree.specs.ExprSpelling.{spell}
 use Rattle.vl_tree.specs.Phrase.{Spells}

@@ -1,4 +1,4 @@
-use Rattle.std.proofs.Common.{◌≡◌, ℕ, ◌+◌, ◌*◌, ◌≤◌, List, length}
+use Rattle.std.proofs.Common.{◌≡◌, ◌+◌, ◌*◌, ◌≤◌, List, length}
 use Rattle.fv_base.specs.declared.token.Token.{Token}
 use Rattle.vl_tree.specs.Phrase.{Spells}
 use Rattle.vl_tree.specs.Expr.{exprs}
@@ -6,7 +6,7 @@ use Rattle.vl_tree.specs.ExprView.{selects}
 use Rattle.vl_tree.specs.ExprSpelling as spec
 use Rattle.vl_tree.specs.ExprWellFormed as formed
 use Rattle.vl_grammar.specs.Grammar as grammar
-use Rattle.vl_expr.specs.Next.{kinds_in}
+use Rattle.vl_take.specs.Next.{kinds_in}
 use Rattle.vl_expr.proofs.expr.+expr.Given as goal
 
 abbrev pub decreases-braces : goal.decreases-braces

@@ -10,7 +10,7 @@ use Rattle.vl_tree.specs.ItemView.{block}
 use Rattle.vl_grammar.specs.Machine.{then}
 use Rattle.vl_parse.specs.declared.item.Ending.{Ending}
 use Rattle.vl_parse.specs.Items.{word_of, innermost, still, AreOpen}
-use Rattle.vl_expr.specs.Next.{kinds_in, IsOther}
+use Rattle.vl_take.specs.Next.{kinds_in, IsOther}
 use Rattle.vl_parse.proofs.ItemSpelled.{for_found, if_found, if_else_found}
 use Rattle.vl_parse.proofs.ItemsSpelled.{inner_word, still_more, still_closed}
 use Rattle.vl_parse.proofs.item.+item.Goals as goal

@@ -2,7 +2,7 @@ use Rattle.std.proofs.Common.{◌≡◌, ℕ, ◌+◌, ◌*◌, ◌≤◌, lengt
 use Rattle.vl_tree.specs.Phrase.{Spells}
 use Rattle.vl_grammar.specs.Grammar as grammar
 use Rattle.vl_parse.specs.Items as items
-use Rattle.vl_expr.specs.Next.{kinds_in}
+use Rattle.vl_take.specs.Next.{kinds_in}
 use Rattle.vl_parse.proofs.item.+item.Given as goal
 
 abbrev pub decreases-read_item : goal.decreases-read_item

@@ -2,12 +2,12 @@
 use Rattle.std.proofs.Common.{sym, subst}
 use Rattle.std.specs.Prelude.{Ok, Err}
 use Rattle.vl_tree.specs.Phrase.{kinds_of}
+use Rattle.vl_grammar.specs.Machine.{syntax, deep}
 use Rattle.vl_grammar.specs.Grammar.{read, modules, run}
-use Rattle.vl_parse.specs.declared.fault.ParseFault.TheVariants as f
-use Rattle.vl_parse.specs.Faults.{Answers}
-use Rattle.vl_expr.specs.Goes.{Ends}
-use Rattle.vl_expr.specs.Next.{kinds_in}
-use Rattle.vl_parse.proofs.Top.{answers_ok, answers_wrong, answers_deep}
+use Rattle.vl_parse.specs.Faults.{Answers, deep_fault}
+use Rattle.vl_take.specs.Goes.{Ends}
+use Rattle.vl_take.specs.Next.{kinds_in}
+use Rattle.vl_parse.proofs.Top.{answers_ok, answers_stop, memory_or}
 use Rattle.vl_parse.proofs.Refusals.{shallow, one, gives, fault_of_tokens, refuses_faulty, refuses_deep}
 use Rattle.vl_parse.proofs.parser.parse.Goals as goal
 
@@ -35,8 +35,8 @@ returns-in-Err-Wrong c =
     let found = c.wrong.result in
     let goes = subst (λ e. Ends e (read modules 256
     (kinds_in ts))) c.in-Err-Wrong.field-0-is c.in-Err-Wrong.ensures.goes in
-    let a : Answers ts (Err found) (run
-    (kinds_of ts)) = answers_wrong ts c.in-Err-Wrong.left found goes c.wrong.ensures in
+    let a : Answers ts (Err found) (run (kinds_of ts)) = answers_stop ts
+    (syntax c.in-Err-Wrong.left) found goes c.wrong.ensures in
     record {
       found = tt;
       formed = tt;
@@ -52,12 +52,12 @@ returns-in-Err-Wrong c =
 pub returns-in-Err-TooDeep : goal.returns-in-Err-TooDeep
 returns-in-Err-TooDeep c =
     let ts = c.args.tokens.now in
-    let found = f.TooDeep c.place.result in
+    let found = c.too_deep.result in
+    let left = c.in-Err-TooDeep.left in
     let goes = subst (λ e. Ends e (read modules 256
     (kinds_in ts))) c.in-Err-TooDeep.field-0-is c.in-Err-TooDeep.ensures.goes in
     let a : Answers ts (Err found) (run (kinds_of ts)) =
-    subst (λ p. Answers ts (Err (f.TooDeep p)) (run (kinds_of ts))) (sym c.place.ensures)
-    (answers_deep ts c.in-Err-TooDeep.left goes) in
+    answers_stop ts (deep left) found goes (memory_or (deep_fault ts left) found c.too_deep.ensures) in
     record {
       found = tt;
       formed = tt;

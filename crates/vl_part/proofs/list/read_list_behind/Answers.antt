@@ -5,7 +5,7 @@ use Rattle.vl_tree.specs.Phrase.{Spells, between_commas}
 use Rattle.vl_grammar.specs.Machine.{then}
 use Rattle.vl_grammar.specs.Grammar as grammar
 use Rattle.vl_part.specs.Lists.{BeginsWith}
-use Rattle.vl_expr.specs.Next.{kinds_in}
+use Rattle.vl_take.specs.Next.{kinds_in}
 use Rattle.vl_part.proofs.ListLaws.{between_pushed, begins_pushed, some_pushed}
 use Rattle.vl_part.proofs.list.read_list_behind.Goals as goal
 

@@ -4,7 +4,7 @@ use Rattle.vl_tree.specs.DeclarationWellFormed.{AreSome}
 use Rattle.vl_tree.specs.Phrase.{Spells, between_commas}
 use Rattle.vl_grammar.specs.Grammar as grammar
 use Rattle.vl_part.specs.Lists.{BeginsWith}
-use Rattle.vl_expr.specs.Next.{kinds_in}
+use Rattle.vl_take.specs.Next.{kinds_in}
 use Rattle.vl_part.proofs.list.read_list_behind.Given as goal
 
 abbrev pub invariant-loop-behind : goal.invariant-loop-behind

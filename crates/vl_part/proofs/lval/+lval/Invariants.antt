@@ -5,7 +5,7 @@ use Rattle.vl_tree.specs.LvalSpelling as spec
 use Rattle.vl_tree.specs.LvalWellFormed as formed
 use Rattle.vl_grammar.specs.Machine.{then}
 use Rattle.vl_grammar.specs.Grammar as grammar
-use Rattle.vl_expr.specs.Next.{kinds_in}
+use Rattle.vl_take.specs.Next.{kinds_in}
 use Rattle.vl_part.proofs.lval.+lval.Given as goal
 
 abbrev pub decreases-read_lval : goal.decreases-read_lval

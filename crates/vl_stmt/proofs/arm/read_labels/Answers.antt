@@ -6,7 +6,7 @@ use Rattle.vl_tree.specs.StmtSpelling as spec
 use Rattle.vl_tree.specs.StmtWellFormed as formed
 use Rattle.vl_grammar.specs.Machine.{then}
 use Rattle.vl_grammar.specs.Grammar as grammar
-use Rattle.vl_expr.specs.Next.{kinds_in}
+use Rattle.vl_take.specs.Next.{kinds_in}
 use Rattle.vl_stmt.proofs.ArmRows.{labels_comma}
 use Rattle.vl_part.proofs.ListLaws.{between_pushed, some_pushed}
 use Rattle.vl_stmt.proofs.arm.read_labels.Goals as goal

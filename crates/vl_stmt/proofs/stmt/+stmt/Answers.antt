@@ -9,9 +9,9 @@ use Rattle.vl_tree.specs.StmtSpelling as spec
 use Rattle.vl_tree.specs.StmtView.{arms}
 use Rattle.vl_grammar.specs.Machine.{then}
 use Rattle.vl_grammar.specs.Grammar as grammar
-use Rattle.vl_expr.specs.Goes.{Ends}
-use Rattle.vl_expr.specs.Next.{kinds_in}
-use Rattle.vl_stmt.specs.Statements.{HasNoAttributes}
+use Rattle.vl_take.specs.Goes.{Ends}
+use Rattle.vl_take.specs.Next.{kinds_in}
+use Rattle.vl_stmt.specs.Bare.{HasNoAttributes}
 use Rattle.vl_stmt.proofs.StmtLeads.{kind_begin, kind_case}
 use Rattle.vl_stmt.proofs.StmtNodes.{block_found, case_found, begins_here, next_is, attributed, case_row, ends_then}
 use Rattle.vl_stmt.proofs.stmt.+stmt.Goals as goal

@@ -6,7 +6,7 @@ use Rattle.vl_tree.specs.StmtWellFormed as formed
 use Rattle.vl_grammar.specs.Grammar as grammar
 use Rattle.vl_tree.specs.StmtView.{arms}
 use Rattle.vl_stmt.specs.Arms.{number_of}
-use Rattle.vl_expr.specs.Next.{kinds_in}
+use Rattle.vl_take.specs.Next.{kinds_in}
 use Rattle.vl_stmt.proofs.stmt.+stmt.Given as goal
 
 abbrev pub decreases-read_stmt : goal.decreases-read_stmt

@@ -1,4 +1,4 @@
--- Which kind of token comes next. Rule of this project.
+-- What the public calls promise. Which kind of token comes next. Rule of this project.
 use Rattle.std.specs.Prelude.{◌≡◌, List, [], ◌∷◌}
 use Rattle.fv_base.specs.declared.kind.Kind.{Kind}
 use Rattle.fv_base.specs.declared.kind.Kind.TheVariants as k

@@ -1,7 +1,7 @@
--- Rules are read one behind the other.
+-- For the proofs of reading: rules are read one behind the other.
 use Rattle.std.proofs.Common.{◌≡◌, ℕ, zero, suc, ◌-◌, ◌≤◌, ◌<◌, Bool, true, false, List, [], ◌∷◌, ◌++◌, length, refl}
 use Rattle.std.proofs.Common.{sym, ap, ◌∙◌, arith}
-use Rattle.std.specs.Prelude.{Result, Ok, Err, map}
+use Rattle.std.specs.Prelude.{Ok, Err, map}
 use Rattle.fv_base.specs.declared.kind.Kind.{Kind}
 use Rattle.vl_grammar.specs.Machine as machine
 use Rattle.vl_grammar.specs.Machine.{Row, Move, take, pop, bad, syntax, deep, placed, left, then}

@@ -4,13 +4,13 @@ ghost use Rattle.std.specs.Prelude.{◌≡◌};
 ghost use Rattle.vl_tree.specs.ExprWellFormed as formed;
 ghost use Rattle.vl_grammar.specs.Operators as operators;
 ghost use Rattle.vl_grammar.specs.Grammar as grammar;
-ghost use Rattle.vl_expr.specs.Lead as spec;
+ghost use Rattle.vl_take.specs.Lead as spec;
 
 use fv_base::{Kind, Number, Symbol, Text};
 use vl_tree::{BinaryOperator, Cast, UnaryOperator};
 
 /// What a token begins as the first of an operand.
-#[derive(Debug, Clone, Copy, PartialEq, Eq)]
+#[derive(Debug, Clone, Copy)]
 pub enum Lead {
     Number(Number),
     Name,
@@ -75,7 +75,7 @@ pub fn cast_of(text: &Text) -> Option<Cast>
 }
 
 /// The operator before one operand that the sign is.
-pub(crate) fn unary_of(symbol: Symbol) -> Option<UnaryOperator>
+fn unary_of(symbol: Symbol) -> Option<UnaryOperator>
     ensures { result ≡ operators.unary_of symbol }
 {
     match symbol {
@@ -95,7 +95,7 @@ pub(crate) fn unary_of(symbol: Symbol) -> Option<UnaryOperator>
 }
 
 /// The operator between two operands that the sign is.
-pub(crate) fn binary_of(symbol: Symbol) -> Option<BinaryOperator>
+fn binary_of(symbol: Symbol) -> Option<BinaryOperator>
     ensures { result ≡ operators.binary_of symbol }
 {
     match symbol {
@@ -128,7 +128,7 @@ pub(crate) fn binary_of(symbol: Symbol) -> Option<BinaryOperator>
 }
 
 /// How strongly an operator binds its operands (IEEE 1364-2005, table 5-4): 1 the least, 10 the most.
-pub(crate) fn binds(operator: BinaryOperator) -> u32
+pub fn binds(operator: BinaryOperator) -> u32
     ensures { result ≡ formed.binds operator }
 {
     match operator {
@@ -157,14 +157,14 @@ pub(crate) fn binds(operator: BinaryOperator) -> u32
 }
 
 /// What a token joins to the operand before it.
-#[derive(Debug, Clone, Copy, PartialEq, Eq)]
+#[derive(Debug, Clone, Copy)]
 pub enum Joint {
     Binary(BinaryOperator),
     Question,
     Nothing,
 }
 
-pub(crate) fn joint_of(kind: &Kind) -> Joint
+pub fn joint_of(kind: &Kind) -> Joint
     ensures { result ≡ spec.joint_of kind.now }
 {
     match kind {

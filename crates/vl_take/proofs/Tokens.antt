@@ -1,7 +1,7 @@
 -- What is read of signs, of names, and at the end.
 use Rattle.std.proofs.Common.{◌≡◌, ℕ, zero, suc, ◌==◌, Bool, true, false, List, [], ◌∷◌, length, refl, sym, ap, ◌∙◌}
 use Rattle.std.proofs.Common.{arith}
-use Rattle.std.specs.Prelude.{Result, Ok, Err}
+use Rattle.std.specs.Prelude.{Ok, Err}
 use Rattle.fv_base.specs.declared.kind.Kind.{Kind}
 use Rattle.fv_base.specs.declared.kind.Kind.TheVariants as k
 use Rattle.fv_base.specs.declared.symbol.Symbol.{Symbol}
@@ -9,10 +9,10 @@ use Rattle.fv_base.specs.declared.symbol.Symbol.TheVariants as s
 use Rattle.vl_grammar.specs.Machine as machine
 use Rattle.vl_grammar.specs.Machine.{take, bad, syntax}
 use Rattle.vl_grammar.specs.Signs.{place, same_sign}
-use Rattle.vl_grammar.specs.Grammar.{Rule, Outcome, expand, ends, read, sign, name, take_if}
+use Rattle.vl_grammar.specs.Grammar.{read, sign, name, take_if}
 use Rattle.fv_base.specs.declared.token.Token.{Token}
-use Rattle.vl_expr.specs.Next.{IsOther, behind, behind_name, kinds_in}
-use Rattle.vl_expr.specs.Parts.{row_read, row_bad}
+use Rattle.vl_take.specs.Next.{IsOther, behind, behind_name, kinds_in}
+use Rattle.vl_take.specs.Parts.{row_read, row_bad}
 
 equal_here : (n : ℕ) → (n == n) ≡ true
 equal_here n = grind arith

@@ -1,0 +1,4 @@
+pub mod Goes
+pub mod Next
+pub mod Lead
+pub mod Parts
