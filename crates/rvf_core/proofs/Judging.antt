@@ -19,8 +19,8 @@ use Rattle.vl_first.specs.FirstForm.{first_of}
 use Rattle.vl_first.specs.Violation.{within, violates}
 use Rattle.vl_first.specs.declared.form.FirstPort.{FirstPort}
 use Rattle.vl_tree.specs.declared.source.Source.{Source}
-use Rattle.rvf_text.specs.SourceText.{IsSourceOf, IsRefused, Takes, Turns, Reads}
-use Rattle.rvf_text.proofs.Placing.{refused_in}
+use Rattle.rvf_text.specs.OneFile.{one_file, IsSourceOf, IsRefused, Takes, Turns, Reads}
+use Rattle.rvf_text.specs.Places.{IsPlacedIn}
 use Rattle.rvf_text.specs.declared.fault.TextFault.{TextFault}
 use Rattle.rvf_text.specs.declared.fault.TextFault.TheVariants as text
 use Rattle.rvf_core.specs.Lines.{pass_line, one_line}
@@ -192,12 +192,12 @@ module _ (bytes : List ℕ) (tree : Source) (taken : Takes (IsSourceOf bytes) (I
   judged_none name outdir (Err fault) none is = tt
 
 pub Refused-turned : (bytes name : List ℕ) (fault : TextFault) (report : List Delivery)
-    → Turns (IsSourceOf bytes) (IsRefused bytes) fault
+    → Turns (IsSourceOf bytes) (IsRefused bytes) fault → IsPlacedIn (one_file bytes) fault
     → report ≡ Line (refusal_line name (Some fault)) ∷ [] → Refused name bytes report
-Refused-turned bytes name fault report turned is = record {
+Refused-turned bytes name fault report turned placed is = record {
   refusal = Some fault;
   refuses = turned.is;
-  placed = refused_in bytes fault turned.is;
+  placed = placed;
   only = λ other refuses. only other refuses;
   none = λ ports h. turned.none h.tree h.source;
   report_is = is;
@@ -209,22 +209,23 @@ Refused-turned bytes name fault report turned is = record {
 
 -- a report on what is refused is a verdict on the bytes
 pub Verdict-refused : (bytes name outdir : List ℕ) (fault : TextFault) (report : Report)
-    → Reads (IsSourceOf bytes) (IsRefused bytes) (Err fault)
+    → Reads (IsSourceOf bytes) (IsRefused bytes) (Err fault) → IsPlacedIn (one_file bytes) fault
     → Reports fault name report → Verdict report.status name outdir bytes report.deliveries
-Verdict-refused bytes name outdir (text.Lex f) report turned is =
+Verdict-refused bytes name outdir (text.Lex f) report turned placed is =
     subst (λ r. Verdict r.status name outdir bytes r.deliveries) (sym is)
-    (Refused-turned bytes name (text.Lex f) _ turned refl)
-Verdict-refused bytes name outdir (text.Prep f) report turned is =
+    (Refused-turned bytes name (text.Lex f) _ turned placed refl)
+Verdict-refused bytes name outdir (text.Prep f) report turned placed is =
     subst (λ r. Verdict r.status name outdir bytes r.deliveries) (sym is)
-    (Refused-turned bytes name (text.Prep f) _ turned refl)
-Verdict-refused bytes name outdir (text.Parse f) report turned is =
+    (Refused-turned bytes name (text.Prep f) _ turned placed refl)
+Verdict-refused bytes name outdir (text.Parse f) report turned placed is =
     subst (λ r. Verdict r.status name outdir bytes r.deliveries) (sym is)
-    (Refused-turned bytes name (text.Parse f) _ turned refl)
-Verdict-refused bytes name outdir text.Memory report turned is = absurd is
+    (Refused-turned bytes name (text.Parse f) _ turned placed refl)
+Verdict-refused bytes name outdir text.Memory report turned placed is = absurd is
 
 pub judged_refused : (bytes name outdir : List ℕ) (fault : TextFault) (r : Result Report Memory)
-    → Reads (IsSourceOf bytes) (IsRefused bytes) (Err fault)
+    → Reads (IsSourceOf bytes) (IsRefused bytes) (Err fault) → IsPlacedIn (one_file bytes) fault
     → IfOk r (λ report. Reports fault name report)
     → IfOk r (λ report. Verdict report.status name outdir bytes report.deliveries)
-judged_refused bytes name outdir fault (Ok report) turned is = Verdict-refused bytes name outdir fault report turned is
-judged_refused bytes name outdir fault (Err e) turned is = tt
+judged_refused bytes name outdir fault (Ok report) turned placed is =
+    Verdict-refused bytes name outdir fault report turned placed is
+judged_refused bytes name outdir fault (Err e) turned placed is = tt

@@ -1,5 +1,6 @@
 pub mod Deliveries
 pub mod Ports
+pub mod OneFile
 pub mod Judging
 pub mod Causes
 pub mod Endings

@@ -5,6 +5,7 @@ use Rattle.fv_base.specs.declared.pos.Pos.{Pos}
 use Rattle.vl_token.specs.declared.fault.LexFault.{LexFault}
 use Rattle.vl_token.specs.declared.fault.LexFault.TheVariants as lex
 use Rattle.vl_token.specs.Fault.{number_of}
+use Rattle.vl_token.specs.FaultPlace.{fault_place as lex_place}
 use Rattle.vl_prep.specs.declared.fault.PrepFault.{PrepFault}
 use Rattle.vl_prep.specs.declared.fault.PrepFault.TheVariants as prep
 use Rattle.vl_prep.specs.Places.{fault_place}
@@ -13,8 +14,8 @@ use Rattle.vl_parse.specs.declared.fault.ParseFault.TheVariants as parse
 use Rattle.vl_tree.specs.declared.source.Source.{Source}
 use Rattle.vl_first.specs.FirstForm.{first_of}
 use Rattle.vl_first.specs.declared.form.FirstPort.{FirstPort}
-use Rattle.rvf_text.specs.Places.{lex_place, parse_place, IsPlacedIn}
-use Rattle.rvf_text.specs.SourceText.{IsSourceOf, IsRefused}
+use Rattle.rvf_text.specs.OneFile.{one_file, IsSourceOf, IsRefused}
+use Rattle.rvf_text.specs.Places.{parse_place, IsPlacedIn}
 use Rattle.rvf_text.specs.declared.fault.TextFault.{TextFault}
 use Rattle.rvf_text.specs.declared.fault.TextFault.TheVariants.{Lex, Prep, Parse, Memory}
 use Rattle.rvf_core.specs.Certificate.{spaced}
@@ -41,7 +42,7 @@ Refuses None bytes = IsNotFirst bytes
 
 -- a part's fault is at a place in the bytes; that the tree isn't of the first form has no place
 abbrev pub IsPlaced : List ℕ → Option TextFault → Type 0
-IsPlaced bytes (Some fault) = IsPlacedIn bytes fault
+IsPlaced bytes (Some fault) = IsPlacedIn (one_file bytes) fault
 IsPlaced bytes None = Unit {0}
 
 abbrev pub prep_number : PrepFault → ℕ

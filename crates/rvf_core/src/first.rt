@@ -7,7 +7,7 @@ ghost use Rattle.vl_core.specs.Places.{places_of};
 ghost use Rattle.vl_first.specs.Plain.{IsPlain};
 ghost use Rattle.vl_first.specs.Violation.{violates};
 ghost use Rattle.rvf_core.specs.declared.report.Delivery.TheVariants.{File, Line};
-ghost use Rattle.rvf_text.specs.SourceText.{IsSourceOf, IsRefused, Takes};
+ghost use Rattle.rvf_text.specs.OneFile.{IsSourceOf, IsRefused, Takes};
 ghost use Rattle.rvf_core.specs.Verdict.{Convicts, Decision, Verdict, certified, path};
 
 use crate::lines::fail_report;
@@ -18,7 +18,7 @@ use cnf_form::Formula;
 use cnf_text::dimacs;
 use fv_base::{List, Memory, Text};
 use lrat_check::{Step, lrat};
-use rvf_text::read_source;
+use rvf_text::{Core, Retirements, SourceText, read_source};
 use sat_search::{Found, solve};
 use std::alloc::Global;
 use vl_core::{FirstPlace, first_clauses, first_of, numbers_at};
@@ -27,6 +27,12 @@ use vl_tree::Source;
 
 /// How many clauses a search may learn.
 const BUDGET: u64 = 200000;
+
+/// The core whose macros are predefined.
+const RV32I: Core = Core {
+    compressed: false,
+    retirements: Retirements::One,
+};
 
 /// A file of a folder.
 fn path(alloc: Global, folder: &[u8], name: &[u8]) -> Result<Text, Memory>
@@ -157,8 +163,13 @@ pub(crate) fn judge(
 ) -> Result<Report, Memory>
     ensures { IfOk result (λ report. Verdict report.status name.now outdir.now bytes.now report.deliveries) }
 {
-    match read_source(alloc, bytes) {
-        Ok(tree) => judge_tree(alloc, name, outdir, &tree, bytes),
+    let text = SourceText {
+        file: 1,
+        line: 1,
+        bytes,
+    };
+    match read_source(alloc, RV32I, &[text], &[]) {
+        Ok((tree, _macros)) => judge_tree(alloc, name, outdir, &tree, bytes),
         Err(fault) => refuse(alloc, name, &fault),
     }
 }

@@ -1,7 +1,6 @@
 //! The lines of texts that are refused.
 
 ghost use Rattle.std.specs.Prelude.{◌≡◌, IfOk};
-ghost use Rattle.vl_token.specs.Fault.{number_of};
 ghost use Rattle.rvf_text.specs.Places as places;
 ghost use Rattle.vl_prep.specs.Places.{fault_place};
 ghost use Rattle.rvf_core.specs.Refusal as spec;
@@ -16,20 +15,6 @@ use std::alloc::Global;
 use vl_parse::ParseFault;
 use vl_prep::PrepFault;
 use vl_token::LexFault;
-
-fn lex_number(fault: LexFault) -> u8
-    ensures { result ≡ number_of fault }
-{
-    match fault {
-        LexFault::NotAscii(_) => 1,
-        LexFault::BadNumber(_) => 2,
-        LexFault::OpenComment(_) => 3,
-        LexFault::BadChar(_) => 4,
-        LexFault::TooManyTokens(_) => 5,
-        LexFault::OpenString(_) => 6,
-        LexFault::Memory => 7,
-    }
-}
 
 fn prep_number(fault: &PrepFault) -> u8
     ensures { result ≡ spec.prep_number fault.now }
@@ -54,20 +39,6 @@ fn parse_number(fault: &ParseFault) -> u8
         ParseFault::TooDeep(_) => 2,
         ParseFault::Outside(_, _) => 3,
         ParseFault::Memory => 4,
-    }
-}
-
-fn lex_place(fault: LexFault) -> Option<Pos>
-    ensures { result ≡ places.lex_place fault }
-{
-    match fault {
-        LexFault::NotAscii(at)
-        | LexFault::BadNumber(at)
-        | LexFault::OpenComment(at)
-        | LexFault::BadChar(at)
-        | LexFault::TooManyTokens(at)
-        | LexFault::OpenString(at) => Some(at),
-        LexFault::Memory => None,
     }
 }
 
@@ -152,14 +123,8 @@ fn source_line(
 fn lex_line(alloc: Global, name: &[u8], fault: LexFault) -> Result<Vec<u8>, Memory>
     ensures { IfOk result (λ line. line.items ≡ spec.lex_line name.now fault) }
 {
-    let place = place_text(alloc, name, lex_place(fault))?;
-    source_line(
-        alloc,
-        b"source lex",
-        lex_number(fault),
-        place.as_slice(),
-        b"-",
-    )
+    let place = place_text(alloc, name, fault.place())?;
+    source_line(alloc, b"source lex", fault.number(), place.as_slice(), b"-")
 }
 
 fn prep_line(alloc: Global, name: &[u8], fault: &PrepFault) -> Result<Vec<u8>, Memory>

@@ -1,5 +1,11 @@
+pub mod Answering
 pub mod Parsing
 pub mod Preparing
-pub mod Lexing
+pub mod OneText
+pub mod Laying
+pub mod Sorting
+pub mod Counting
 pub mod Defining
+pub mod Standing
+pub mod Faulty
 pub mod Placing

@@ -1,93 +1,86 @@
--- What the parser answers is the tree, or the refusal, that is there.
-use Rattle.std.proofs.Common.{◌≡◌, ℕ, List, [], Result, Ok, Err, refl, sym, ap, ◌∙◌}
+-- What the parser answers is the tree, or the refusal, that is there: from what `parse` promises.
+use Rattle.std.proofs.Common.{◌≡◌, ◌⊎◌, inl, inr, ℕ, List, [], Result, Ok, Err, refl, sym, ap, ◌∙◌}
 use Rattle.fv_base.specs.declared.token.Token.{Token}
 use Rattle.vl_tree.specs.Phrase.{Spells, kinds_of}
 use Rattle.vl_tree.specs.ItemSpelling.{spell_source}
 use Rattle.vl_tree.specs.WellFormed.{IsSource}
 use Rattle.vl_tree.specs.declared.source.Source.{Source}
-use Rattle.vl_grammar.specs.Depth.{unless_too_deep}
-use Rattle.vl_grammar.specs.Grammar.{run}
-use Rattle.vl_grammar.specs.Machine.{Fault, syntax, deep}
-use Rattle.vl_grammar.proofs.OneFault.{only_syntax, only_deep}
-use Rattle.vl_grammar.proofs.Spelled.{spelled_run}
-use Rattle.vl_parse.specs.Faults.{fault_of}
-use Rattle.vl_parse.specs.Refusals.{IsTreeOf, IsShallow, IsOfFaulty, IsOfTooDeep, IsFaultOf}
+use Rattle.vl_grammar.specs.Depth.{IsTooDeep}
+use Rattle.vl_grammar.specs.Text.{IsFaulty}
+use Rattle.vl_parse.specs.Faults.{wrong_token, deep_fault, IsMemoryOr}
+use Rattle.vl_parse.specs.Refusals.{IsTreeOf, IsShallow, NoneIsTooDeep, IsOfFaulty, IsOfTooDeep, IsFaultOf, Gives}
 use Rattle.vl_parse.specs.declared.fault.ParseFault.{ParseFault}
 use Rattle.vl_parse.specs.declared.fault.ParseFault.TheVariants as parse
 use Rattle.rvf_text.specs.Faults.{of_parse}
-use Rattle.rvf_text.specs.SourceText.{IsTree, IsMisparsed, ParseRefuses, Takes, Turns, Reads}
+use Rattle.rvf_text.specs.SourceText.{IsMisparsed, AreParsed, Only, Answers}
 use Rattle.rvf_text.specs.declared.fault.TextFault.{TextFault}
 use Rattle.rvf_text.specs.declared.fault.TextFault.TheVariants.{Lex, Prep, Parse, Memory}
 
-pub err_same : {A E : Type 0} (r : Result A E) (e f : E) → r ≡ Err e → r ≡ Err f → e ≡ f
-err_same r e f p q = cc
+module _ (ts : List Token) where
+  abbrev Answer : Type 0
+  Answer = Result Source TextFault
 
-pub both_ways : {A E : Type 0} (r : Result A E) (a : A) (e : E) → r ≡ Ok a → r ≡ Err e → ⊥
-both_ways r a e p q = cc
+  pub parse_ok : (tree : Source) → Spells (spell_source tree) ts [] → IsSource tree → IsShallow tree
+      → ((other : Source) → IsTreeOf ts other → other ≡ tree)
+      → ((left : ℕ) → IsFaulty (kinds_of ts) left → NoneIsTooDeep ts → ⊥)
+      → ((left : ℕ) → IsTooDeep (kinds_of ts) left → ⊥) → Only (AreParsed ts) (Ok tree)
+  parse_ok tree spelled formed shallow one no_faulty no_deep = record {
+    is = record { tree_of = (formed, spelled); shallow = shallow };
+    only = λ other h. only other h;
+  }
+    where
+      none : (fault : ParseFault) → IsOfFaulty ts fault ⊎ IsOfTooDeep ts fault → ⊥
+      none fault (inl m) = no_faulty m.left m.faulty m.shallow
+      none fault (inr m) = no_deep m.left m.deep
 
--- reading by the grammar comes to the end of a tree's tokens
-read_whole : (ts : List Token) (tree : Source) → IsTree ts tree → run (kinds_of ts) ≡ Ok tt
-read_whole ts tree t = spelled_run tree ts t.tree_of.0 t.tree_of.1 ∙ ap unless_too_deep t.shallow
+      unrefused : (fault : ParseFault) → IsMisparsed ts fault → ⊥
+      unrefused (parse.Syntax p) m = none (parse.Syntax p) m
+      unrefused (parse.TooDeep p) m = none (parse.TooDeep p) m
+      unrefused (parse.Outside p word) m = none (parse.Outside p word) m
+      unrefused parse.Memory m = m
 
--- and stops where they have a fault
-record IsStopped (ts : List Token) (fault : ParseFault) : Type 0 where
-  stop : Fault
-  stops : run (kinds_of ts) ≡ Err stop
-  fault_is : fault ≡ fault_of ts stop
+      only : (other : Answer) → AreParsed ts other → other ≡ Ok tree
+      only (Ok t) h = ap (λ x. Ok x) (one t h.tree_of)
+      only (Err (Parse f)) m = absurd (unrefused f m)
+      only (Err (Lex f)) p = absurd p
+      only (Err (Prep f)) p = absurd p
+      only (Err Memory) p = absurd p
 
-by_faulty : (ts : List Token) (fault : ParseFault) → IsOfFaulty ts fault → IsStopped ts fault
-by_faulty ts fault m =
-    record { stop = syntax m.left; stops = only_syntax ts m.left m.faulty m.shallow; fault_is = m.named }
+  -- the fault is there, and `parse` refuses for what is there
+  module _ (fault : ParseFault) (is : IsMisparsed ts fault) (not_memory : fault ≡ parse.Memory → ⊥)
+      (same : (wanted : ParseFault) → IsMemoryOr wanted fault → fault ≡ wanted)
+      (tree_gives : (tree : Source) → IsTreeOf ts tree → IsShallow tree → fault ≡ parse.Memory)
+      (faulty : (left : ℕ) → IsFaulty (kinds_of ts) left → NoneIsTooDeep ts → IsMemoryOr (wrong_token ts left) fault)
+      (deep : (left : ℕ) → IsTooDeep (kinds_of ts) left → IsMemoryOr (deep_fault ts left) fault) where
+    one_fault : (other : ParseFault) → IsOfFaulty ts other ⊎ IsOfTooDeep ts other → other ≡ fault
+    one_fault other (inl m) = m.named ∙ sym (same (wrong_token ts m.left) (faulty m.left m.faulty m.shallow))
+    one_fault other (inr m) = m.named ∙ sym (same (deep_fault ts m.left) (deep m.left m.deep))
 
-stopped : (ts : List Token) (fault : ParseFault) → IsMisparsed ts fault → IsStopped ts fault
-stopped ts (parse.Syntax p) m = by_faulty ts (parse.Syntax p) m
-stopped ts (parse.Outside p word) m = by_faulty ts (parse.Outside p word) m
-stopped ts (parse.TooDeep p) m =
-    record { stop = deep m.left; stops = only_deep (kinds_of ts) m.left m.deep; fault_is = m.placed }
-stopped ts parse.Memory m = absurd m
+    one_misparse : (other : ParseFault) → IsMisparsed ts other → other ≡ fault
+    one_misparse (parse.Syntax p) m = one_fault (parse.Syntax p) m
+    one_misparse (parse.TooDeep p) m = one_fault (parse.TooDeep p) m
+    one_misparse (parse.Outside p word) m = one_fault (parse.Outside p word) m
+    one_misparse parse.Memory m = absurd m
 
-pub parse_ok : (ts : List Token) (tree : Source) → Spells (spell_source tree) ts [] → IsSource tree → IsShallow tree
-    → ((other : Source) → IsTreeOf ts other → other ≡ tree) → Takes (IsTree ts) (ParseRefuses ts) tree
-parse_ok ts tree spelled formed shallow one = record {
-  is = is;
-  only = λ other t. one other t.tree_of;
-  unrefused = λ fault refuses. unrefused fault refuses;
-}
-  where
-    is : IsTree ts tree
-    is = record { tree_of = (formed, spelled); shallow = shallow }
+    only_fault : (other : Answer) → AreParsed ts other → other ≡ Err (Parse fault)
+    only_fault (Ok t) h = absurd (not_memory (tree_gives t h.tree_of h.shallow))
+    only_fault (Err (Parse f)) m = ap (λ x. Err (Parse x)) (one_misparse f m)
+    only_fault (Err (Lex f)) p = absurd p
+    only_fault (Err (Prep f)) p = absurd p
+    only_fault (Err Memory) p = absurd p
 
-    unrefused : (fault : TextFault) → ParseRefuses ts fault → ⊥
-    unrefused (Parse f) m =
-        let s = stopped ts f m in
-        both_ways (run (kinds_of ts)) tt s.stop (read_whole ts tree is) s.stops
-    unrefused (Lex f) p = p
-    unrefused (Prep f) p = p
-    unrefused Memory p = p
+    misparse : Only (AreParsed ts) (Err (Parse fault))
+    misparse = record { is = is; only = λ other h. only_fault other h }
 
-misparse : (ts : List Token) (fault : ParseFault) → IsMisparsed ts fault
-    → Turns (IsTree ts) (ParseRefuses ts) (Parse fault)
-misparse ts fault m = record {
-  is = m;
-  only = λ other p. only other p;
-  none = λ tree t. both_ways (run (kinds_of ts)) tt here.stop (read_whole ts tree t) here.stops;
-}
-  where
-    here : IsStopped ts fault
-    here = stopped ts fault m
-
-    only : (other : TextFault) → ParseRefuses ts other → other ≡ Parse fault
-    only (Parse f) p =
-        let there = stopped ts f p in
-        let stop : there.stop ≡ here.stop = err_same (run (kinds_of ts)) there.stop here.stop there.stops here.stops in
-        ap (λ x. Parse x) (there.fault_is ∙ ap (fault_of ts) stop ∙ sym here.fault_is)
-    only (Lex f) p = absurd p
-    only (Prep f) p = absurd p
-    only Memory p = absurd p
-
-pub parse_err : (ts : List Token) (fault : ParseFault) → IsFaultOf ts fault
-    → Reads (IsTree ts) (ParseRefuses ts) (Err (of_parse fault))
-parse_err ts (parse.Syntax p) m = misparse ts (parse.Syntax p) m
-parse_err ts (parse.TooDeep p) m = misparse ts (parse.TooDeep p) m
-parse_err ts (parse.Outside p w) m = misparse ts (parse.Outside p w) m
-parse_err ts parse.Memory m = tt
+  pub parse_err : (fault : ParseFault) → IsFaultOf ts fault
+      → ((tree : Source) → IsTreeOf ts tree → IsShallow tree → Gives tree (Err fault))
+      → ((left : ℕ) → IsFaulty (kinds_of ts) left → NoneIsTooDeep ts → IsMemoryOr (wrong_token ts left) fault)
+      → ((left : ℕ) → IsTooDeep (kinds_of ts) left → IsMemoryOr (deep_fault ts left) fault)
+      → Answers (AreParsed ts) (Err (of_parse fault))
+  parse_err (parse.Syntax p) m gives faulty deep =
+      misparse (parse.Syntax p) m (λ e. cc) (λ w h. h) gives faulty deep
+  parse_err (parse.TooDeep p) m gives faulty deep =
+      misparse (parse.TooDeep p) m (λ e. cc) (λ w h. h) gives faulty deep
+  parse_err (parse.Outside p word) m gives faulty deep =
+      misparse (parse.Outside p word) m (λ e. cc) (λ w h. h) gives faulty deep
+  parse_err parse.Memory m gives faulty deep = tt

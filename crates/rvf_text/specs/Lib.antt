@@ -1,4 +1,8 @@
 pub mod Predefined
+pub mod Texts
+pub mod Assumptions
 pub mod SourceText
-pub mod Faults
+pub mod OneFile
 pub mod Places
+pub mod Faults
+pub mod Steps

@@ -1,35 +1,34 @@
--- Where a text is refused: at a place in it. Rule of this project.
-use Rattle.std.specs.Prelude.{◌≡◌, ℕ, List, ◌++◌, Option, Some, None, IfSome}
+-- Where texts are refused, and where the nodes of their tree stand: at places of the texts. Rule of this project.
+use Rattle.std.specs.Prelude.{◌≡◌, ℕ, List, [], ◌∷◌, ◌++◌, Ok, Option, Some, None, IfSome}
+use Rattle.std.specs.List.{All, Contains}
 use Rattle.fv_base.specs.declared.pos.Pos.{Pos}
+use Rattle.fv_base.specs.declared.token.Token.{Token}
+use Rattle.vl_token.specs.FaultPlace.{fault_place as lex_place}
 use Rattle.vl_token.specs.Place.{place_after, start_of}
-use Rattle.vl_token.specs.declared.fault.LexFault.{LexFault}
-use Rattle.vl_token.specs.declared.fault.LexFault.TheVariants as lex
-use Rattle.vl_prep.specs.Places.{fault_place}
+use Rattle.vl_prep.specs.Places.{fault_place, places}
+use Rattle.vl_tree.specs.ItemSpelling.{spell_source}
+use Rattle.vl_tree.specs.Phrase.{Phrase, nothing, token, operator, ◌▸◌, at, within, level}
+use Rattle.vl_tree.specs.declared.source.Source.{Source}
 use Rattle.vl_parse.specs.declared.fault.ParseFault.{ParseFault}
 use Rattle.vl_parse.specs.declared.fault.ParseFault.TheVariants as parse
+use Rattle.rvf_text.specs.SourceText.{AreLaid}
+use Rattle.rvf_text.specs.Texts.{Text, lexed_bytes}
 use Rattle.rvf_text.specs.declared.fault.TextFault.{TextFault}
 use Rattle.rvf_text.specs.declared.fault.TextFault.TheVariants.{Lex, Prep, Parse, Memory}
 
--- the place behind a front of the bytes, which are file 1 from line 1 on: that of the byte there, or of the end
-pub record IsPlaceIn (bytes : List ℕ) (at : Pos) : Type 0 where
+-- the place behind a front of one of the texts: that of the byte there, or of its end
+pub record IsPlaceIn (texts : List Text) (place : Pos) : Type 0 where
+  pub text : Text
+  pub among : Contains texts text
   pub front : List ℕ
   pub rest : List ℕ
-  pub same : bytes ≡ front ++ rest
-  pub at_is : at ≡ place_after (start_of 1 1) front
-
-abbrev pub lex_place : LexFault → Option Pos
-lex_place (lex.NotAscii at) = Some at
-lex_place (lex.BadNumber at) = Some at
-lex_place (lex.OpenComment at) = Some at
-lex_place (lex.BadChar at) = Some at
-lex_place (lex.TooManyTokens at) = Some at
-lex_place (lex.OpenString at) = Some at
-lex_place lex.Memory = None
+  pub same : lexed_bytes text ≡ front ++ rest
+  pub place_is : place ≡ place_after (start_of text.file text.line) front
 
 abbrev pub parse_place : ParseFault → Option Pos
-parse_place (parse.Syntax at) = Some at
-parse_place (parse.TooDeep at) = Some at
-parse_place (parse.Outside at word) = Some at
+parse_place (parse.Syntax place) = Some place
+parse_place (parse.TooDeep place) = Some place
+parse_place (parse.Outside place word) = Some place
 parse_place parse.Memory = None
 
 -- the place that a fault names; want of memory has none
@@ -39,6 +38,30 @@ place_of (Prep fault) = fault_place fault
 place_of (Parse fault) = parse_place fault
 place_of Memory = None
 
--- the fault is at a place in the bytes
-abbrev pub IsPlacedIn : List ℕ → TextFault → Type 0
-IsPlacedIn bytes fault = IfSome (place_of fault) (λ at. IsPlaceIn bytes at)
+-- the fault is at a place in one of the texts
+abbrev pub IsPlacedIn : List Text → TextFault → Type 0
+IsPlacedIn texts fault = IfSome (place_of fault) (λ place. IsPlaceIn texts place)
+
+-- the fault is at the place of one of the tokens
+abbrev pub IsAtToken : List Token → TextFault → Type 0
+IsAtToken tokens fault = IfSome (place_of fault) (λ place. Contains (places tokens) place)
+
+-- where the nodes of a text begin
+abbrev pub node_places : Phrase → List Pos
+node_places nothing = []
+node_places (token kind) = []
+node_places (operator kind) = []
+node_places (a ▸ b) = node_places a ++ node_places b
+node_places (at place a) = place ∷ node_places a
+node_places (within a) = node_places a
+node_places (level a) = node_places a
+
+-- each node of the tree has the place of one of the tokens
+abbrev pub AreAtTokens : List Token → Source → Type 0
+AreAtTokens tokens tree = All (λ place. Contains (places tokens) place) (node_places (spell_source tree))
+
+-- each node has the place of a token of the texts and lines of assumptions
+pub record HasTokenPlaces (texts lines : List Text) (tree : Source) : Type 0 where
+  pub tokens : List Token
+  pub laid : AreLaid texts lines (Ok tokens)
+  pub nodes : AreAtTokens tokens tree

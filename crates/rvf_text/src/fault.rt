@@ -1,11 +1,15 @@
+ghost use Rattle.std.specs.Prelude.{◌≡◌};
+
+use fv_base::Memory;
 use thiserror::Error;
 use vl_parse::ParseFault;
 use vl_prep::PrepFault;
 use vl_token::LexFault;
 
-/// Why a Verilog text has no tree: which part refuses it, the first in this order.
+/// Why Verilog texts have no tree: which part refuses them, the first in this order.
 #[derive(Debug, Drop, Error)]
 pub enum TextFault {
+    /// Of the texts that the lexer refuses the one with the earliest place counts, by file, line and column.
     #[error("{0}")]
     Lex(LexFault),
     #[error("{0}")]
@@ -14,4 +18,14 @@ pub enum TextFault {
     Parse(ParseFault),
     #[error("no memory is left")]
     Memory,
+}
+
+impl From<Memory> for TextFault {
+    ghost use Rattle.rvf_text.specs.declared.fault.TextFault.TheVariants as fault;
+
+    ghost from_gives = { λ _ e. e ≡ fault.Memory };
+
+    fn from(_fault: Memory) -> TextFault {
+        TextFault::Memory
+    }
 }

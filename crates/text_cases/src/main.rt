@@ -13,6 +13,7 @@
 //! | `items` | items of a module, which stand on its second line | the same |
 //! | `nest` | a count, a front, what opens, the middle, what closes, and the end of such items | the same |
 //! | `shape` | a text | ports and items of its first module |
+//! | `source` | texts, as `source.rt` reads them | names and shapes of all modules, and options that are defined |
 //! | `lexed` | a count | how many tokens so many semicolons are |
 //! | `tower`, `towers` | a count and a text | what so many macros come to, each of which uses the one before once, or
 //! twice |
@@ -23,6 +24,7 @@ mod large;
 mod parts;
 mod shape;
 mod shown;
+mod source;
 mod text;
 
 use anyhow::Result;
@@ -43,6 +45,7 @@ fn answer(alloc: Global, line: &str) -> Result<String> {
         "items" => text::items(alloc, part(&parts, 0)),
         "nest" => large::nest(alloc, parts.as_slice()),
         "shape" => text::shape(alloc, part(&parts, 0)),
+        "source" => source::read(alloc, parts.as_slice()),
         "lexed" => large::lexed(alloc, part(&parts, 0)),
         "tower" => large::tower(alloc, parts.as_slice(), false),
         "towers" => large::tower(alloc, parts.as_slice(), true),

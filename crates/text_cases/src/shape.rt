@@ -72,8 +72,11 @@ fn stmt(alloc: Global, statement: &Stmt, out: &mut String) -> Result<()> {
         StmtKind::Begin(_, _) => out.push_str("begin")?,
         StmtKind::Case(_, _, _) => out.push_str("case")?,
         StmtKind::Assign(_, _, _) => out.push_str("assign")?,
-        StmtKind::Assume(_) => out.push_str("assume")?,
         StmtKind::Empty => out.push_str("empty")?,
+        StmtKind::Assume(value) => {
+            out.push_str("assume ")?;
+            expr(alloc, value, out)?;
+        }
         StmtKind::If(condition, first, second) => {
             out.push_str("(if ")?;
             expr(alloc, condition, out)?;

@@ -2,6 +2,7 @@
 
 use anyhow::Result;
 use fv_base::{Kind, Number, Pos, Text, Token};
+use rvf_text::TextFault;
 use std::alloc::Global;
 use vl_parse::ParseFault;
 use vl_prep::PrepFault;
@@ -132,5 +133,14 @@ pub(crate) fn parse_fault(alloc: Global, fault: &ParseFault) -> Result<String> {
         ParseFault::TooDeep(pos) => refused(alloc, "deep", *pos),
         ParseFault::Outside(pos, text) => refused_word(alloc, "outside", text, *pos),
         ParseFault::Memory => word(alloc, "no memory", b""),
+    }
+}
+
+pub(crate) fn text_fault(alloc: Global, fault: &TextFault) -> Result<String> {
+    match fault {
+        TextFault::Lex(fault) => lex_fault(alloc, *fault),
+        TextFault::Prep(fault) => prep_fault(alloc, fault),
+        TextFault::Parse(fault) => parse_fault(alloc, fault),
+        TextFault::Memory => word(alloc, "no memory", b""),
     }
 }

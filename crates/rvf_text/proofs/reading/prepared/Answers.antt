@@ -1,24 +1,20 @@
-use Rattle.std.proofs.Common.{◌≡◌, Ok}
 use Rattle.vl_prep.specs.Macros.{held}
-use Rattle.vl_prep.specs.Prep.{preprocessed}
-use Rattle.rvf_text.specs.SourceText.{IsTree, ParseRefuses, Reads}
+use Rattle.rvf_text.proofs.Faulty.{prep_at}
 use Rattle.rvf_text.proofs.Preparing.{prep_ok, prep_err}
 use Rattle.rvf_text.proofs.reading.prepared.Goals as goal
 
-pub returns-in-Ok-prep : goal.returns-in-Ok-prep
-returns-in-Ok-prep c =
-    let e : preprocessed (held c.in-Ok.macros) c.args.tokens.now
-    ≡ Ok (record {
-      macros = held c.in-Ok-prep._macros;
-      output = c.in-Ok-prep.output.items;
-    }) = c.in-Ok-prep.ensures.exactly in
-    let reads : Reads (IsTree c.in-Ok-prep.output.items)
-    (ParseRefuses c.in-Ok-prep.output.items) c.parsed.result = rw c.as_slice.ensures.value at c.parsed.ensures in
-    prep_ok c.args.tokens.now (held c.in-Ok.macros) c.in-Ok.ensures.found c.in-Ok.ensures.one
-    (record { macros = held c.in-Ok-prep._macros; output = c.in-Ok-prep.output.items }) e c.parsed.result reads
+pub returns-in-Ok-clause-exactly : goal.returns-in-Ok-clause-exactly
+returns-in-Ok-clause-exactly c =
+    prep_ok c.args.core c.args.tokens.now (held c.in_ok-macros.macros) c.in_ok-macros.ensures.found
+    c.in_ok-macros.ensures.one (record { macros = held c.in-Ok.behind; output = c.in-Ok.output.items })
+    c.in-Ok.ensures.exactly
 
-pub returns-in-Err : goal.returns-in-Err
-returns-in-Err c =
-    rw c.of_prep.ensures
-    (prep_err c.args.tokens.now
-    (held c.in-Ok.macros) c.in-Ok.ensures.found c.in-Ok.ensures.one c.in-Err.fault c.in-Err.ensures.exactly)
+pub returns-in-Err-clause-exactly : goal.returns-in-Err-clause-exactly
+returns-in-Err-clause-exactly c =
+    rw (c.of_prep.ensures)
+    (prep_err c.args.core c.args.tokens.now (held c.in_ok-macros.macros) c.in_ok-macros.ensures.found
+    c.in_ok-macros.ensures.one c.in-Err.fault c.in-Err.ensures.exactly)
+
+pub returns-in-Err-clause-placed : goal.returns-in-Err-clause-placed
+returns-in-Err-clause-placed c =
+    rw (c.of_prep.ensures) (prep_at c.args.tokens.now c.in-Err.fault c.in-Err.ensures.placed)

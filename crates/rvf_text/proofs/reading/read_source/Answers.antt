@@ -1,34 +1,33 @@
-use Rattle.std.proofs.Common.{Err}
-use Rattle.rvf_text.specs.Faults.{of_lex}
-use Rattle.rvf_text.specs.SourceText.{HasTree, PrepRefuses, IsSourceOf, IsRefused, Reads}
-use Rattle.rvf_text.proofs.Lexing.{lex_ok, lex_err}
-use Rattle.rvf_text.proofs.Placing.{answer_in}
+use Rattle.std.proofs.Common.{subst, sym}
+use Rattle.rvf_text.specs.Places.{IsAtToken, AreAtTokens}
+use Rattle.rvf_text.specs.SourceText.{Answers, AreLaid, FromTokens, reading_seen}
+use Rattle.rvf_text.specs.Texts.{texts_seen, lines_seen}
+use Rattle.rvf_text.proofs.Answering.{answer_behind, answer_stopped}
+use Rattle.rvf_text.proofs.Placing.{placed_behind, nodes_behind, placed_lexing}
 use Rattle.rvf_text.proofs.reading.read_source.Goals as goal
 
 pub returns-in-Ok-clause-exactly : goal.returns-in-Ok-clause-exactly
 returns-in-Ok-clause-exactly c =
-    let reads : Reads (HasTree c.in-Ok.tokens.items)
-    (PrepRefuses c.in-Ok.tokens.items) c.prepared.result = rw c.as_slice.ensures.value at c.prepared.ensures in
-    lex_ok c.args.bytes.now c.in-Ok.tokens.items c.in-Ok.ensures.found c.in-Ok.ensures.one
-    (λ f refuses. c.in-Ok.ensures.answered f refuses) c.prepared.result reads
+    answer_behind (AreLaid (texts_seen c.args.texts.now) (lines_seen c.args.assumptions.now))
+    (FromTokens c.args.core (lines_seen c.args.assumptions.now)) c.in-Ok.tokens c.in-Ok.ensures
+    (reading_seen c.read_tokens.result)
+    (rw (c.as_slice.ensures) at c.read_tokens.ensures.exactly)
+
+pub returns-in-Ok-clause-nodes : goal.returns-in-Ok-clause-nodes
+returns-in-Ok-clause-nodes c =
+    nodes_behind (texts_seen c.args.texts.now) (lines_seen c.args.assumptions.now) c.in-Ok.tokens c.in-Ok.ensures
+    c.read_tokens.result (rw (c.as_slice.ensures) at c.read_tokens.ensures.placed)
 
 pub returns-in-Ok-clause-placed : goal.returns-in-Ok-clause-placed
 returns-in-Ok-clause-placed c =
-    let reads : Reads (HasTree c.in-Ok.tokens.items)
-    (PrepRefuses c.in-Ok.tokens.items) c.prepared.result = rw c.as_slice.ensures.value at c.prepared.ensures in
-    answer_in c.args.bytes.now c.prepared.result
-    (lex_ok c.args.bytes.now c.in-Ok.tokens.items c.in-Ok.ensures.found c.in-Ok.ensures.one
-    (λ f refuses. c.in-Ok.ensures.answered f refuses) c.prepared.result reads)
+    placed_behind (texts_seen c.args.texts.now) (lines_seen c.args.assumptions.now) c.in-Ok.tokens c.in-Ok.ensures
+    c.read_tokens.result (rw (c.as_slice.ensures) at c.read_tokens.ensures.placed)
 
 pub returns-in-Err-clause-exactly : goal.returns-in-Err-clause-exactly
 returns-in-Err-clause-exactly c =
-    rw c.of_lex.ensures
-    (lex_err c.args.bytes.now c.in-Err.fault c.in-Err.ensures.refused c.in-Err.ensures.none
-    (λ g refuses. c.in-Err.ensures.answered g refuses))
+    answer_stopped (AreLaid (texts_seen c.args.texts.now) (lines_seen c.args.assumptions.now))
+    (FromTokens c.args.core (lines_seen c.args.assumptions.now)) c.in-Err.fault c.in-Err.ensures
 
 pub returns-in-Err-clause-placed : goal.returns-in-Err-clause-placed
 returns-in-Err-clause-placed c =
-    let reads : Reads (IsSourceOf c.args.bytes.now) (IsRefused c.args.bytes.now) (Err (of_lex c.in-Err.fault)) =
-    lex_err c.args.bytes.now c.in-Err.fault c.in-Err.ensures.refused c.in-Err.ensures.none
-    (λ g refuses. c.in-Err.ensures.answered g refuses) in
-    rw c.of_lex.ensures (answer_in c.args.bytes.now (Err (of_lex c.in-Err.fault)) reads)
+    placed_lexing (texts_seen c.args.texts.now) (lines_seen c.args.assumptions.now) c.in-Err.fault c.in-Err.ensures

@@ -1,0 +1,26 @@
+use Rattle.vl_prep.specs.Macros.{held}
+use Rattle.vl_prep.specs.Prep.{Outcome}
+use Rattle.rvf_text.specs.SourceText.{ArePrepared, AreRead, with_macros}
+use Rattle.rvf_text.specs.Texts.{lines_seen}
+use Rattle.rvf_text.proofs.Answering.{answer_behind, answer_stopped, read_answer}
+use Rattle.rvf_text.proofs.Standing.{answer_among, pair_at}
+use Rattle.rvf_text.proofs.reading.read_tokens.Goals as goal
+
+pub returns-in-Ok-clause-exactly : goal.returns-in-Ok-clause-exactly
+returns-in-Ok-clause-exactly c =
+    let done : Outcome = record { macros = held c.in-Ok.macros; output = c.in-Ok.output.items } in
+    rw (c.beside.ensures.seen)
+    (answer_behind (ArePrepared c.args.core c.args.tokens.now) (AreRead (lines_seen c.args.assumptions.now)) done
+    c.in-Ok.ensures.exactly (with_macros (held c.in-Ok.macros) c.parsed_with.result)
+    (read_answer (lines_seen c.args.assumptions.now) done c.parsed_with.result c.parsed_with.ensures.exactly))
+
+pub returns-in-Ok-clause-placed : goal.returns-in-Ok-clause-placed
+returns-in-Ok-clause-placed c =
+    pair_at c.args.tokens.now c.beside.result c.parsed_with.result c.beside.ensures.tree
+    (answer_among c.args.tokens.now c.in-Ok.output.items c.parsed_with.result c.in-Ok.ensures.placed
+    c.parsed_with.ensures.placed)
+
+pub returns-in-Err-clause-exactly : goal.returns-in-Err-clause-exactly
+returns-in-Err-clause-exactly c =
+    answer_stopped (ArePrepared c.args.core c.args.tokens.now) (AreRead (lines_seen c.args.assumptions.now))
+    c.in-Err.fault c.in-Err.ensures.exactly
