@@ -3,6 +3,7 @@ use Rattle.std.proofs.Common.{◌≡◌, ℕ, ◌^◌, ◌<◌, ◌≤◌, Bool,
 use Rattle.std.proofs.Common.{length, drop, map, ℤ, pos, negsuc, Option, Some, None, refl, ap, sym, ◌∙◌, append_assoc}
 use Rattle.std.proofs.Common.{arith}
 use Rattle.std.specs.Prelude.{nat_le, decimal, codes, unsigned_abs, Result, Ok, Err}
+use Rattle.std.specs.Option.{ok_or}
 use Rattle.std.specs.Fmt.{signed_decimal}
 use Rattle.std.specs.List.{list_all, flat_map}
 use Rattle.std.proofs.lemmas.Bool.{false≢true}
@@ -11,9 +12,10 @@ use Rattle.std.proofs.lemmas.List.{append-nil, drop_all}
 use Rattle.cnf_form.specs.Cnf.{Cnf, IsLiteral, AreLiterals, AreClauses}
 use Rattle.cnf_text.specs.declared.fault.DimacsFault.{DimacsFault}
 use Rattle.fv_lines.specs.Numbers.{is_digit, number_up_to}
-use Rattle.cnf_text.specs.Dimacs.{literal_of, is_comment, is_zero, header_of, both, Body, with_number, with_words}
-use Rattle.cnf_text.specs.Dimacs.{with_line, with_lines, finished, read_behind, read_lines, formula_of, note_text}
-use Rattle.cnf_text.specs.Dimacs.{literal_text, clause_text, header_text, dimacs_text, HaveNoEnd}
+use Rattle.cnf_text.specs.declared.fault.DimacsFault.TheVariants.{Header, Literal}
+use Rattle.cnf_text.specs.Dimacs.{and_then, literal_of, is_comment, is_zero, header_of, both, Body, with_number}
+use Rattle.cnf_text.specs.Dimacs.{with_words, with_line, with_lines, finished, read_behind, read_lines, formula_of}
+use Rattle.cnf_text.specs.Dimacs.{note_text, literal_text, clause_text, header_text, dimacs_text, HaveNoEnd}
 use Rattle.fv_lines.specs.Words.{begins_with, joined, lines, words, is_nil, next_place}
 use Rattle.fv_lines.proofs.Digits.{Says, decimal_says, number_is}
 use Rattle.cnf_text.proofs.Prints.{literal_is, literal_words, literal_inner}
@@ -33,7 +35,8 @@ module _ (vars : ℕ) (v : vars ≤ 100000000) where
 
   step_words : (line : ℕ) (b : Body) (w : List ℕ) (ws : List (List ℕ)) (l : ℤ) → literal_of vars w ≡ Some l
       → with_words vars line b (w ∷ ws) ≡ with_words vars line (with_number b line l) ws
-  step_words line b w ws l e = grind (arith, e)
+  step_words line b w ws l e =
+      ap (λ o. and_then (ok_or o (Literal line)) (λ k. with_words vars line (with_number b line k) ws)) e
 
   not_zero : (l : ℤ) → IsLiteral vars l → is_zero l ≡ false
   not_zero l h = let some : 0 < unsigned_abs l = h.0 in grind (arith, nat_tests)
@@ -102,7 +105,7 @@ module _ (vars : ℕ) (v : vars ≤ 100000000) where
 
   step_lines : (line : ℕ) (b c : Body) (l : List ℕ) (ls : List (List ℕ)) → with_line vars line b l ≡ Ok c
       → with_lines vars line b (l ∷ ls) ≡ with_lines vars (next_place line) c ls
-  step_lines line b c l ls e = grind (arith, e)
+  step_lines line b c l ls e = ap (λ o. and_then o (λ d. with_lines vars (next_place line) d ls)) e
 
   read_clauses : (line : ℕ) (done clauses : List (List ℤ)) (last : ℕ) → AreClauses vars clauses → (k : ℕ)
       × (with_lines vars line (record { clauses = done; clause = []; last = last })
@@ -128,13 +131,9 @@ module _ (vars : ℕ) (v : vars ≤ 100000000) where
   all_behind count line clauses h e =
       let r = read_clauses line [] clauses 0 h in
       let same : (length clauses == count) ≡ true = grind (arith, nat_tests) in
-      behind_is (with_lines vars line (record { clauses = []; clause = []; last = 0 })
-      (lines (flat_map clause_text clauses))) (record { clauses = clauses; clause = []; last = r.0 }) r.1
+      ap (λ o. and_then o (finished vars count)) r.1
       ∙ ap (λ b. cond b (Ok (record { vars = vars; clauses = clauses }))
-      (Err (DimacsFault.Count (length clauses) count))) same where
-        behind_is : (o : Result Body DimacsFault) (b : Body) → o ≡ Ok b
-            → elim o [ Err e ↦ Err e | Ok c ↦ finished vars count c ] ≡ finished vars count b
-        behind_is o b e = rw e refl
+      (Err (DimacsFault.Count (length clauses) count))) same
 
 header_shape : (d c rest : List ℕ) → (codes "p cnf " ++ d ++ 32 ∷ [] ++ c ++ 10 ∷ []) ++ rest
     ≡ (codes "p cnf " ++ (d ++ 32 ∷ c)) ++ 10 ∷ rest
@@ -157,9 +156,10 @@ read_header : (line : ℕ) (l : List ℕ) (ls ws : List (List ℕ)) (header : �
     → (is_nil ws || is_comment ws) ≡ false → header_of ws ≡ Some header
     → read_lines line (l ∷ ls) ≡ read_behind header (next_place line) ls
 read_header line l ls ws header w n h =
-    let a : (is_nil (words l) || is_comment (words l)) ≡ false = ap (λ x. is_nil x || is_comment x) w ∙ n in
-    let b : header_of (words l) ≡ Some header = ap header_of w ∙ h in
-    grind (arith, a, b)
+    ap (λ b. cond b (read_lines (next_place line) ls)
+    (and_then (ok_or (header_of (words l)) (Header line)) (λ k. read_behind k (next_place line) ls)))
+    (ap (λ x. is_nil x || is_comment x) w ∙ n)
+    ∙ ap (λ o. and_then (ok_or o (Header line)) (λ k. read_behind k (next_place line) ls)) (ap header_of w ∙ h)
 
 skipped : (line : ℕ) (l : List ℕ) (ls : List (List ℕ)) → (is_nil (words l) || is_comment (words l)) ≡ true
     → read_lines line (l ∷ ls) ≡ read_lines (next_place line) ls

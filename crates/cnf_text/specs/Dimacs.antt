@@ -3,6 +3,7 @@
 use Rattle.std.specs.Prelude.{ℕ, ◌≤◌, ◌≡◌, Bool, true, false, not, ◌&&◌, ◌||◌, ◌==◌, if◌then◌else◌, List, [], ◌∷◌}
 use Rattle.std.specs.Prelude.{◌++◌, length, flat_map, ℤ, unsigned_abs, codes, decimal, bytes_eq, Option, Some, None}
 use Rattle.std.specs.Prelude.{Result, Ok, Err}
+use Rattle.std.specs.Option.{ok_or}
 use Rattle.std.specs.Fmt.{signed_decimal}
 use Rattle.std.specs.List.{AllByRecursion, list_all}
 use Rattle.cnf_form.specs.Cnf.{Cnf}
@@ -10,6 +11,11 @@ use Rattle.fv_lines.specs.Numbers.{number_up_to, signed}
 use Rattle.fv_lines.specs.Words.{is_nil, next_place, begins_with, lines, words}
 use Rattle.cnf_text.specs.declared.fault.DimacsFault.{DimacsFault}
 use Rattle.cnf_text.specs.declared.fault.DimacsFault.TheVariants.{Header, Literal, Count, Open, Memory}
+
+-- what comes of an answer that is no refusal
+abbrev pub and_then : {X Y : Type 0} → Result X DimacsFault → (X → Result Y DimacsFault) → Result Y DimacsFault
+and_then (Ok x) next = next x
+and_then (Err e) next = Err e
 
 -- a comment: its first word begins with `c`
 abbrev pub is_comment : List (List ℕ) → Bool
@@ -51,10 +57,8 @@ with_number b line l =
 -- the words of a line: each is a literal of the variables, or 0
 abbrev pub with_words : ℕ → ℕ → Body → List (List ℕ) → Result Body DimacsFault
 with_words vars line b [] = Ok b
-with_words vars line b (w ∷ ws) = elim (literal_of vars w) [
-  | None ↦ Err (Literal line)
-  | Some l ↦ with_words vars line (with_number b line l) ws
-]
+with_words vars line b (w ∷ ws) =
+    and_then (ok_or (literal_of vars w) (Literal line)) (λ l. with_words vars line (with_number b line l) ws)
 
 -- a comment says nothing
 abbrev pub with_line : ℕ → ℕ → Body → List ℕ → Result Body DimacsFault
@@ -63,10 +67,7 @@ with_line vars line b l = if is_comment (words l) then Ok b else with_words vars
 -- the lines behind the header
 abbrev pub with_lines : ℕ → ℕ → Body → List (List ℕ) → Result Body DimacsFault
 with_lines vars line b [] = Ok b
-with_lines vars line b (l ∷ ls) = elim (with_line vars line b l) [
-  | Err e ↦ Err e
-  | Ok c ↦ with_lines vars (next_place line) c ls
-]
+with_lines vars line b (l ∷ ls) = and_then (with_line vars line b l) (λ c. with_lines vars (next_place line) c ls)
 
 -- the text ends: first an open clause is refused, then another number of clauses than the header's
 abbrev pub finished : ℕ → ℕ → Body → Result Cnf DimacsFault
@@ -76,20 +77,15 @@ finished vars count b =
     else Err (Count (length b.clauses) count)
 
 abbrev pub read_behind : ℕ × ℕ → ℕ → List (List ℕ) → Result Cnf DimacsFault
-read_behind header line ls = elim (with_lines header.0 line (record { clauses = []; clause = []; last = 0 }) ls) [
-  | Err e ↦ Err e
-  | Ok b ↦ finished header.0 header.1 b
-]
+read_behind header line ls =
+    and_then (with_lines header.0 line (record { clauses = []; clause = []; last = 0 }) ls) (finished header.0 header.1)
 
 -- the first line that isn't blank and no comment is the header
 abbrev pub read_lines : ℕ → List (List ℕ) → Result Cnf DimacsFault
 read_lines line [] = Err (Header line)
 read_lines line (l ∷ ls) =
     if is_nil (words l) || is_comment (words l) then read_lines (next_place line) ls
-    else elim (header_of (words l)) [
-      | None ↦ Err (Header line)
-      | Some header ↦ read_behind header (next_place line) ls
-    ]
+    else and_then (ok_or (header_of (words l)) (Header line)) (λ header. read_behind header (next_place line) ls)
 
 -- the formula of a text, or why it has none
 abbrev pub formula_of : List ℕ → Result Cnf DimacsFault

@@ -7,3 +7,4 @@ pub mod EffectLemmas
 pub mod Expansions
 pub mod LawLemmas
 pub mod DivisionLemmas
+pub mod NumberLemmas

@@ -1,3 +1,5 @@
+#![tactic(auto, using(crate::proofs::NumberLemmas::machine))]
+
 ghost use Rattle.std.specs.Prelude.{◌≡◌, ◌<◌, ◌^◌, ◌≤◌, ◌*ℤ◌, pos, unsigned_abs};
 ghost use Rattle.rv_table.specs.Arithmetic as arithmetic;
 

@@ -1,3 +1,2 @@
 pub mod After
-pub mod Chosen
 pub mod Tree

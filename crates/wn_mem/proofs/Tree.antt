@@ -209,7 +209,7 @@ constant_value net g nodes id word d whole nodes_are below read =
     found (u ∷ us) zero y z h e = ap Some e
     found (u ∷ us) (suc i) y z h e = found us i y z (omega arith) e
 
-bit_is_one : (b : Bool) (x y : ℕ) → (if bit b == 1 then x else y) ≡ (if b then x else y)
+pub bit_is_one : (b : Bool) (x y : ℕ) → (if bit b == 1 then x else y) ≡ (if b then x else y)
 bit_is_one true x y = refl
 bit_is_one false x y = refl
 
@@ -221,17 +221,6 @@ narrow net g addr count x whole given few =
     let p : 2 ^ width_at net addr ≤ 2 ^ count = pow_mono few in
     let none : v / 2 ^ count ≡ 0 = left_of_fits v count (omega (arith, value_below net g whole given addr, p)) in
     ap (λ q. if q == 0 then x else 0) (sym none)
-
--- a choice by a test of these bits
-pub low_choice : (r l h n f z v count rest f0 : ℕ) → r ≡ (if l == 1 then f else z) → l ≡ bit (h == n)
-    → h ≡ part count rest v → n ≡ 0
-    → f ≡ f0 → z ≡ 0 → v < 2 ^ (rest + count) → r ≡ (if v / 2 ^ count == 0 then f0 else 0)
-low_choice r l h n f z v count rest f0 r_is l_is h_is n_is f_is z_is fits =
-    r_is
-    ∙ (λ i. if l_is i == 1 then f_is i else z_is i)
-    ∙ bit_is_one (h == n) f0 0
-    ∙ (λ i. if h_is i == n_is i then f0 else 0)
-    ∙ ap (λ q. if q == 0 then f0 else 0) (shr_mod rest count fits)
 
 pub address_fits : (net : Netlist) (g : Given) (addr count rest : ℕ) → IsNet net → IsGiven net g
     → rest + count ≡ width_at net addr

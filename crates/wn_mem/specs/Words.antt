@@ -25,17 +25,26 @@ after_write net g words w =
     (value_at net g w.mask)
     (value_at net g w.value)
 
--- two nodes are the bits that a write writes, and the mask of the bits that it keeps
-pub record IsShared (net : Netlist) (width : ℕ) (w : MemWrite) (changed kept : ℕ) : Type 0 where
-  pub changed_there : IsNodeOf net width changed
-  pub kept_there : IsNodeOf net width kept
-  pub changed_value : (g : Given) → value_at net g changed ≡ bit_and (value_at net g w.mask) (value_at net g w.value)
-  pub kept_value : (g : Given) → value_at net g kept ≡ complement width (value_at net g w.mask)
+-- two nodes are there for what the words share of a write: the bits that are written, and the mask of those that are
+-- kept
+abbrev pub AreShared : Netlist → ℕ → ℕ → ℕ → Type 0
+AreShared net width changed kept = IsNodeOf net width changed × IsNodeOf net width kept
+
+-- in a cycle they are those of a write with this mask and this number
+pub record ShareWrite (net : Netlist) (g : Given) (width mask number changed kept : ℕ) : Type 0 where
+  pub changed_is : value_at net g changed ≡ bit_and mask number
+  pub kept_is : value_at net g kept ≡ complement width mask
 
 -- the number with these bits, the highest first
 abbrev pub number_of : List ℕ → ℕ
 number_of [] = 0
 number_of (b ∷ bs) = b * 2 ^ length bs + number_of bs
+
+-- nodes are there, one for each bit, that are the bits turned
+pub record AreTurned (net : Netlist) (bits turned : List ℕ) : Type 0 where
+  pub there : AreNodesOf net 1 turned
+  pub each : length turned ≡ length bits
+  pub value : (g : Given) → numbers_of net g turned ≡ map (complement 1) (numbers_of net g bits)
 
 -- a node is there that is 0 in every cycle
 pub record IsZero (net : Netlist) (id : ℕ) : Type 0 where

@@ -1,15 +1,17 @@
 //! The bits of an address, each made once.
 #![tactic(auto, using(wn_net::proofs::Laws::additions))]
 
-ghost use Rattle.std.specs.Prelude.{◌≡◌, ◌^◌, ◌<◌, ◌≤◌, min, length, IfSome, OnOk, IsTrue};
-ghost use Rattle.fv_bits.specs.Bits.{low};
+ghost use Rattle.std.specs.Prelude.{◌≡◌, ◌==◌, ◌/◌, ◌^◌, ◌<◌, ◌≤◌, min, length, IfOk, OnOk};
+ghost use Rattle.fv_bits.specs.Bits.{low, bit};
 ghost use Rattle.wn_net.specs.Value.{Given};
-ghost use Rattle.wn_net.specs.Net.{IsNode, AreNodesOf, value_at, width_at};
+ghost use Rattle.wn_net.specs.Net.{IsNode, IsNodeOf, AreNodesOf, value_at, width_at};
+ghost use Rattle.wn_net.specs.Given.{IsGiven};
 ghost use Rattle.wn_net.specs.Changes.{AddsNodes};
-ghost use Rattle.wn_mem.specs.Words.{numbers_of, number_of};
+ghost use Rattle.wn_mem.specs.Words.{AreTurned, numbers_of, number_of};
 
+use crate::constant::zero_of;
 use fv_base::Memory;
-use wn_net::{Net, Node, NodeId};
+use wn_net::{Net, NodeId};
 
 /// Puts the lowest bits of a node, the highest of them first.
 pub(crate) fn address_bits(net: &mut Net, addr: NodeId, bits: &mut [NodeId]) -> Result<(), Memory>
@@ -29,27 +31,38 @@ pub(crate) fn address_bits(net: &mut Net, addr: NodeId, bits: &mut [NodeId]) -> 
     Ok(())
 }
 
-/// The number of a node that has the same one in every cycle by its kind.
-pub(crate) fn constant_of(net: &Net, id: NodeId) -> Option<u128>
-    requires { IsNode net.now id }
-    ensures { IfSome result (λ n. (g : Given) → value_at net.now g id ≡ n) }
+/// Puts each bit turned.
+pub(crate) fn turned_bits(
+    net: &mut Net,
+    bits: &[NodeId],
+    turned: &mut [NodeId],
+) -> Result<(), Memory>
+    requires bits { AreNodesOf net.old 1 bits.now }
+    requires room { length turned.old ≡ length bits.now }
+    ensures adds { AddsNodes net.old net.new }
+    ensures turned { OnOk result (AreTurned net.new bits.now turned.new) }
 {
-    let nodes = net.nodes();
-    if let Node::Konst(word) = nodes[id as usize] {
-        return Some(word.value());
+    for (index, bit) in bits.iter().enumerate() {
+        let other = net.not(*bit)?;
+        turned[index] = other;
     }
-    None
+    Ok(())
 }
 
-/// Whether a node is a constant other than the number.
-pub(crate) fn is_other(net: &Net, id: NodeId, number: u64) -> bool
-    requires { IsNode net.now id }
-    ensures { IsTrue result → (g : Given) → value_at net.now g id ≡ number → ⊥ }
+/// 1 where the bits of a node from `count` on are 0.
+pub(crate) fn is_low(net: &mut Net, addr: NodeId, count: u32) -> Result<NodeId, Memory>
+    requires addr { IsNode net.old addr }
+    requires more { count < width_at net.old addr }
+    ensures adds { AddsNodes net.old net.new }
+    ensures there { IfOk result (IsNodeOf net.new 1) }
+    ensures value { IfOk result (λ id. (g : Given) → IsGiven net.old g
+        → value_at net.new g id ≡ bit (value_at net.old g addr / 2 ^ count == 0)) }
 {
-    match constant_of(net, id) {
-        Some(constant) => constant != u128::from(number),
-        None => false,
-    }
+    let width = net.width(addr);
+    let high = net.slice(addr, count, width - count)?;
+    let none = zero_of(net, high)?;
+    let test = net.eq(high, none)?;
+    Ok(test)
 }
 
 /// How many bits tell so many words apart; at most 63.

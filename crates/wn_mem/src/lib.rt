@@ -2,6 +2,7 @@
 #![tactic(auto)]
 
 mod bits;
+mod constant;
 mod read;
 mod write;
 

@@ -8,23 +8,10 @@ ghost use Rattle.wn_net.specs.Given.{IsGiven};
 ghost use Rattle.wn_net.specs.Changes.{AddsNodes};
 ghost use Rattle.wn_mem.specs.Words.{AreWords, IsZero, words_width, numbers_of, number_of};
 
-use crate::bits::{address_bits, bits_for, constant_of, reached};
-use fv_base::{Memory, Word};
+use crate::bits::{address_bits, bits_for, is_low, reached};
+use crate::constant::{constant_of, zero_of};
+use fv_base::Memory;
 use wn_net::{Net, NodeId};
-
-/// The number 0 in the width of a node.
-fn zero_of(net: &mut Net, id: NodeId) -> Result<NodeId, Memory>
-    requires { IsNode net.old id }
-    ensures adds { AddsNodes net.old net.new }
-    ensures there { IfOk result (IsNodeOf net.new (width_at net.old id)) }
-    ensures zero { IfOk result (IsZero net.new) }
-{
-    let Some(zero) = Word::new(net.width(id), 0) else {
-        return Ok(id);
-    };
-    let zero = net.konst(zero)?;
-    Ok(zero)
-}
 
 /// The word at the address with these bits, the highest first, and else the node that is 0: halves of the words, of
 /// which the highest bit takes one.
@@ -76,14 +63,11 @@ fn where_low(
     ensures value { IfOk result (λ id. (g : Given) → IsGiven net.old g → value_at net.new g id
         ≡ (if value_at net.old g addr / 2 ^ count == 0 then value_at net.old g found else 0)) }
 {
-    let width = net.width(addr);
-    if width <= count {
+    if net.width(addr) <= count {
         return Ok(found);
     }
-    let high = net.slice(addr, count, width - count)?;
-    let none = zero_of(net, high)?;
-    let is_low = net.eq(high, none)?;
-    let chosen = net.mux(is_low, found, zero)?;
+    let test = is_low(net, addr, count)?;
+    let chosen = net.mux(test, found, zero)?;
     Ok(chosen)
 }
 

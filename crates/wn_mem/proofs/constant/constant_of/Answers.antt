@@ -1,6 +1,6 @@
 use Rattle.std.proofs.Common.{sym, ◌∙◌}
 use Rattle.wn_mem.proofs.Tree.{constant_value}
-use Rattle.wn_mem.proofs.bits.constant_of.Goals as goal
+use Rattle.wn_mem.proofs.constant.constant_of.Goals as goal
 
 pub returns-in-Konst : goal.returns-in-Konst
 returns-in-Konst c = λ g.
