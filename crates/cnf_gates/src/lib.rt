@@ -1,0 +1,6 @@
+//! Graphs as clauses.
+#![tactic(auto)]
+
+mod clauses;
+
+pub use clauses::clauses_of;
