@@ -4,7 +4,7 @@ use crate::escape;
 use cnf_form::{Formula, are_literals};
 use cnf_text::{dimacs, read_dimacs};
 use fv_base::{Memory, Text};
-use lrat_check::{lrat, read_lrat, verify};
+use lrat_check::{Store, lrat, read_lrat, verify};
 use std::alloc::Global;
 
 /// What `CLAUSES|PROOF` comes to: `refuted` and the id of the empty clause, or which part is refused with which
@@ -83,5 +83,19 @@ pub(crate) fn held(alloc: Global) -> Result<String, Memory> {
     for index in 0..4usize {
         write!(out, " {:?}", formula.clause(index))?;
     }
+    Ok(out)
+}
+
+/// A store of one clause: its codes, before and after two of them change places, and once it is removed.
+pub(crate) fn stored(alloc: Global) -> Result<String, Memory> {
+    let mut store = Store::new(alloc);
+    store.add(7, &[1, -2])?;
+    let mut out = String::new(alloc);
+    write!(out, "{:?}", store.lits(7))?;
+    store.swap(7, 0, 1);
+    write!(out, " {:?} {:?}", store.lits(7), store.lits(6))?;
+    let removed = store.remove(7);
+    let again = store.remove(7);
+    write!(out, " {removed} {again} {:?}", store.lits(7))?;
     Ok(out)
 }

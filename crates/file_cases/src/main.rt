@@ -45,6 +45,7 @@ fn answer(alloc: Global, line: &str) -> Result<String, Memory> {
         "many-ids" => certificate::many_ids(alloc),
         "again" => certificate::again(alloc, text),
         "formula" => certificate::held(alloc),
+        "store" => certificate::stored(alloc),
         "search" => search::found(alloc, text),
         "random" => search::random(alloc, text),
         "dump" => dump::reading(alloc, text),

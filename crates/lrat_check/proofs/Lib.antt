@@ -1,6 +1,9 @@
+pub mod Codes
 pub mod Four
+pub mod Holds
 pub mod ReadBack
 pub mod ReadSteps
+pub mod Rows
 pub mod Sound
 pub mod Stores
 pub mod Takes

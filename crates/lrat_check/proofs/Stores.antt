@@ -2,16 +2,18 @@
 use Rattle.std.proofs.Common.{◌≡◌, ℕ, zero, suc, ◌+◌, ◌^◌, ◌<◌, ◌≤◌, Bool, true, false, cond, eqb, List, [], ◌∷◌}
 use Rattle.std.proofs.Common.{◌++◌, ℤ, length, pos, take, drop, get_or, Option, Some, None, refl, ap, sym, subst, ◌∙◌}
 use Rattle.std.proofs.Common.{inl, inr, arith}
-use Rattle.std.specs.Prelude.{slice_get, IsSome, Result, Ok, Err}
+use Rattle.std.specs.Prelude.{slice_get, IsSome, Result, Ok, Err, leb}
+use Rattle.std.specs.List.{list_any}
+use Rattle.std.proofs.lemmas.Bool.Decides.{nat_tests}
 use Rattle.std.proofs.lemmas.Bool.{cases_eq, false≢true}
 use Rattle.std.proofs.lemmas.List.{take_more, length-take-le, take_all, drop_more, get_or_read}
 use mathlib.Core.Path.{fun_ext}
 use Rattle.cnf_form.specs.Cnf.{IsLiteral, AreLiterals, AreClauses}
-use Rattle.lrat_check.specs.Sets.{IsLit, AreLits}
+use Rattle.lrat_check.specs.Sets.{IsLit, AreLits, negs}
 use Rattle.lrat_check.specs.Store.{AreHeld}
 use Rattle.lrat_check.specs.declared.step.StepFault.{StepFault}
 use Rattle.lrat_check.specs.declared.step.StepFault.TheVariants as fault
-use Rattle.lrat_check.specs.Steps.{Held, numbered, with_clause, without_clause, deleted}
+use Rattle.lrat_check.specs.Steps.{Held, numbered, with_clause, without_clause, deleted, add_fault, is_negative, walk}
 
 same_get : (cs : List (List ℤ)) (c : List ℤ) (p : ℕ) → (p ≡ length cs → ⊥) → slice_get cs p ≡ slice_get (cs ++ c ∷ []) p
 same_get [] c zero n = absurd (n refl)
@@ -56,7 +58,7 @@ held_all clauses items i n held e h k = e ∙ ap numbered (take_all i items h �
 lit_is : (vars : ℕ) (l : ℤ) → vars < 2 ^ 63 → IsLiteral vars l → IsLit l
 lit_is vars l v h = (h.0, omega (arith, h.1))
 
-lits_are : (vars : ℕ) (clause : List ℤ) → vars < 2 ^ 63 → AreLiterals vars clause → AreLits clause
+pub lits_are : (vars : ℕ) (clause : List ℤ) → vars < 2 ^ 63 → AreLiterals vars clause → AreLits clause
 lits_are vars [] v h = tt
 lits_are vars (l ∷ ls) v h = (lit_is vars l v h.0, lits_are vars ls v h.1)
 
@@ -139,3 +141,21 @@ pub store_step : (held now : Held) (items : List (List ℤ)) (i id : ℕ) (item 
 store_step held now items i id item clause h n e lt is k =
     n ∙ ap (λ x. with_clause x (id + 1) clause) h ∙ ap (λ j. with_clause (numbered (take i items)) (j + 1) clause) e
     ∙ numbered_step items i clause lt (k ∙ get_or_read items i item lt is [])
+
+pub held_none : (held : Held) → ((id : ℕ) → held id ≡ None) → held ≡ numbered []
+held_none held h = fun_ext at where
+  at : (id : ℕ) → held id ≡ numbered [] id
+  at zero = h zero
+  at (suc place) = h (suc place)
+
+-- an added clause that isn't refused has an id above all before it
+pub above_top : (held : Held) (top id : ℕ) (lits hints : List ℤ) → add_fault held top id lits hints ≡ None → top < id
+above_top held top id lits hints h = by_test (leb id top) refl where
+  some_none : {X : Type 0} (x : X) → Some x ≡ None → ⊥
+  some_none x e = cc
+
+  by_test : (b : Bool) → leb id top ≡ b → top < id
+  by_test true e = absurd (some_none (fault.IdOrder id)
+      (sym (ap (λ b. cond b (Some (fault.IdOrder id))
+      (cond (list_any is_negative hints) (Some (fault.Rat id)) (walk held id (negs lits) hints))) e) ∙ h))
+  by_test false e = grind (arith, nat_tests, e)

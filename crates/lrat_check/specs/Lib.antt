@@ -1,4 +1,5 @@
 pub mod Answers
+pub mod Codes
 pub mod Resolved
 pub mod Sets
 pub mod Steps

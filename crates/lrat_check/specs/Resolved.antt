@@ -21,23 +21,31 @@ derived_from seen (Delete id ids ∷ steps) = derived_from seen steps
 abbrev pub derived : List (List ℤ) → List Step → List (List ℤ)
 derived clauses steps = derived_from clauses steps
 
+-- the literals of a hint's clause take the place of the complement of the literal that it made true
+abbrev pub resolved_on : List ℤ → ℤ → Option (List ℤ) → Option (List ℤ)
+resolved_on clause l None = None
+resolved_on clause l (Some r) =
+    if has r (neg_ℤ l) then Some (union (without l clause) (without (neg_ℤ l) r)) else None
+
+-- by how the hint's clause reads; only the last one's is false; rest is what the other hints come to from here on
+abbrev pub resolved_by : Reading → List ℤ → Bool → (ℤ → Option (List ℤ)) → Option (List ℤ)
+resolved_by read.True clause last rest = None
+resolved_by read.False clause last rest = if last then Some clause else None
+resolved_by (read.Unit l) clause last rest = resolved_on clause l (rest l)
+resolved_by read.Open clause last rest = None
+
+-- by the clause that the hint's id holds
+abbrev pub resolved_with : Option (List ℤ) → List ℤ → Bool → (ℤ → Option (List ℤ)) → Option (List ℤ)
+resolved_with None set last rest = None
+resolved_with (Some clause) set last rest = resolved_by (reading set clause) clause last rest
+
 -- the resolvent of the hints, each of them read and none passed over, from a set of true literals: the last hint's
 -- clause, in which from the last hint back to the first the literals of a hint's clause take the place of the
 -- complement of the literal that it made true
 abbrev pub resolvent : Held → List ℤ → List ℤ → Option (List ℤ)
 resolvent held set [] = None
-resolvent held set (h ∷ hs) = elim (held (unsigned_abs h)) [
-  | None ↦ None
-  | Some clause ↦ elim (reading set clause) [
-    | read.True ↦ None
-    | read.False ↦ if is_empty hs then Some clause else None
-    | read.Unit l ↦ elim (resolvent held (set ++ l ∷ []) hs) [
-      | None ↦ None
-      | Some r ↦ if has r (neg_ℤ l) then Some (union (without l clause) (without (neg_ℤ l) r)) else None
-    ]
-    | read.Open ↦ None
-  ]
-]
+resolvent held set (h ∷ hs) =
+    resolved_with (held (unsigned_abs h)) set (is_empty hs) (λ l. resolvent held (set ++ l ∷ []) hs)
 
 -- the clause is that resolvent, as a set
 abbrev pub IsResolvent : Held → List ℤ → List ℤ → Type 0

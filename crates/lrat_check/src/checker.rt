@@ -1,14 +1,15 @@
-ghost use Rattle.std.specs.Prelude.{◌≡◌, ℕ, ◌++◌, Bool, false, length, IfOk, OnOk};
+ghost use Rattle.std.specs.Prelude.{◌≡◌, ◌≤◌, ◌+◌, ℕ, ◌++◌, Bool, false, length, IfOk, OnOk};
 ghost use Rattle.std.specs.List.{list_any};
 ghost use Rattle.cnf_form.specs.Cnf.{formula_true};
 ghost use Rattle.lrat_check.specs.Sets.{negs, AreLits};
 ghost use Rattle.lrat_check.specs.Steps.{is_negative, walk, add_fault, judged, IsStep, AreSteps};
 ghost use Rattle.lrat_check.specs.Answers.{Answers, Judges, Takes, Adds};
-ghost use Rattle.lrat_check.specs.Store.{held_of, AreHeld, OnlyMemory};
+ghost use Rattle.lrat_check.specs.Store.{held_of, next, AreHeld, OnlyMemory};
 
+use crate::held::{delete, put, store_of};
 use crate::reading::{Reading, read};
 use crate::step::{Refuted, Step, StepFault};
-use crate::store::{Store, delete, put, store_of};
+use crate::store::Store;
 use crate::true_set::TrueSet;
 use cnf_form::Formula;
 use std::alloc::Global;
@@ -34,7 +35,7 @@ pub fn verify(alloc: Global, formula: &Formula, steps: &[Step]) -> Result<Refute
         set: TrueSet::new(alloc),
     };
     for step in steps {
-        match checker.take(alloc, step) {
+        match checker.take(step) {
             Err(fault) => return Err(fault),
             Ok(Some(refuted)) => return Ok(refuted),
             Ok(None) => {}
@@ -44,20 +45,17 @@ pub fn verify(alloc: Global, formula: &Formula, steps: &[Step]) -> Result<Refute
 }
 
 impl Checker {
-    fn take(&mut self, alloc: Global, step: &Step) -> Result<Option<Refuted>, StepFault>
+    fn take(&mut self, step: &Step) -> Result<Option<Refuted>, StepFault>
         requires held { AreHeld (held_of self.old.held) }
+        requires top { next self.old.held ≤ self.old.top + 1 }
         requires step { IsStep step.now }
         ensures takes { Takes (held_of self.old.held) self.old.top
             (held_of self.new.held) self.new.top step.now result }
         ensures held { OnOk result (AreHeld (held_of self.new.held)) }
+        ensures top { OnOk result (next self.new.held ≤ self.new.top + 1) }
     {
         match step {
-            Step::Add { id, lits, hints } => self.add(
-                alloc,
-                *id,
-                lits.as_slice(),
-                hints.as_slice(),
-            ),
+            Step::Add { id, lits, hints } => self.add(*id, lits.as_slice(), hints.as_slice()),
             Step::Delete { id, ids } => {
                 delete(&mut self.held, *id, ids.as_slice())?;
                 Ok(None)
@@ -65,24 +63,20 @@ impl Checker {
         }
     }
 
-    fn add(
-        &mut self,
-        alloc: Global,
-        id: u64,
-        lits: &[i64],
-        hints: &[i64],
-    ) -> Result<Option<Refuted>, StepFault>
+    fn add(&mut self, id: u64, lits: &[i64], hints: &[i64]) -> Result<Option<Refuted>, StepFault>
         requires held { AreHeld (held_of self.old.held) }
+        requires top { next self.old.held ≤ self.old.top + 1 }
         requires lits { AreLits lits.now }
         ensures takes { Adds (held_of self.old.held) self.old.top
             (held_of self.new.held) self.new.top id lits.now hints.now result }
         ensures held { OnOk result (AreHeld (held_of self.new.held)) }
+        ensures top { OnOk result (next self.new.held ≤ self.new.top + 1) }
     {
         self.judge(id, lits, hints)?;
         if lits.is_empty() {
             return Ok(Some(Refuted { id }));
         }
-        put(alloc, &mut self.held, id, lits)?;
+        put(&mut self.held, id, lits)?;
         self.top = id;
         Ok(None)
     }
@@ -135,9 +129,9 @@ fn propagate(held: &Store, id: u64, set: &mut TrueSet, hints: &[i64]) -> Result<
     ensures { Judges result (walk (held_of held.now) id set.old hints.now) }
 {
     for hint in hints {
-        match held.get(&hint.unsigned_abs()) {
+        match held.lits(hint.unsigned_abs()) {
             None => return Err(no_clause(id, hint)),
-            Some(clause) => match read(set, clause.as_slice()) {
+            Some(codes) => match read(set, codes) {
                 Reading::True => {}
                 Reading::False => return Ok(()),
                 Reading::Unit(lit) => set.add(lit)?,

@@ -1,8 +1,9 @@
-ghost use Rattle.std.specs.Prelude.{◌≡◌, ℤ, IfOk};
+ghost use Rattle.std.specs.Prelude.{◌≡◌, option_map};
 ghost use Rattle.std.specs.List.{list_any};
-ghost use Rattle.std.specs.Option.{option_copied};
-ghost use Rattle.lrat_check.specs.Sets.{has, first_open, other_open, reading, AreLits};
+ghost use Rattle.lrat_check.specs.Codes.{lit_of, lits_of};
+ghost use Rattle.lrat_check.specs.Sets.{has, first_open, other_open, reading, AreLits, IsLit};
 
+use crate::code::lit_of;
 use crate::true_set::TrueSet;
 
 /// How a clause reads under a set of true literals.
@@ -18,42 +19,44 @@ pub enum Reading {
     Open,
 }
 
-/// How the clause reads.
-pub(crate) fn read(set: &TrueSet, clause: &[i64]) -> Reading
-    requires { AreLits clause.now }
-    ensures { result ≡ reading set.now clause.now }
+/// How the clause with these codes reads.
+pub(crate) fn read(set: &TrueSet, codes: &[u64]) -> Reading
+    requires { AreLits (lits_of codes.now) }
+    ensures { result ≡ reading set.now (lits_of codes.now) }
 {
-    if any_true(set, clause) {
+    if any_true(set, codes) {
         return Reading::True;
     }
-    match first_open(set, clause) {
+    match first_open(set, codes) {
         None => Reading::False,
         Some(lit) => {
-            if other_open(set, lit, clause) {
+            if other_open(set, lit, codes) {
                 Reading::Open
             } else {
-                Reading::Unit(*lit)
+                Reading::Unit(lit)
             }
         }
     }
 }
 
-fn any_true(set: &TrueSet, clause: &[i64]) -> bool
-    ensures { result ≡ list_any (has set.now) clause.now }
+fn any_true(set: &TrueSet, codes: &[u64]) -> bool
+    requires { AreLits (lits_of codes.now) }
+    ensures { result ≡ list_any (has set.now) (lits_of codes.now) }
 {
-    for lit in clause {
-        if set.has(lit) {
+    for code in codes {
+        if set.has(lit_of(*code)) {
             return true;
         }
     }
     false
 }
 
-fn first_open<'a>(set: &TrueSet, clause: &'a [i64]) -> Option<&'a i64>
-    requires { AreLits clause.now }
-    ensures { option_copied result ≡ first_open set.now clause.now }
+fn first_open(set: &TrueSet, codes: &[u64]) -> Option<i64>
+    requires { AreLits (lits_of codes.now) }
+    ensures { result ≡ first_open set.now (lits_of codes.now) }
 {
-    for lit in clause {
+    for code in codes {
+        let lit = lit_of(*code);
         if !set.is_false(lit) {
             return Some(lit);
         }
@@ -61,11 +64,12 @@ fn first_open<'a>(set: &TrueSet, clause: &'a [i64]) -> Option<&'a i64>
     None
 }
 
-fn other_open(set: &TrueSet, first: &i64, clause: &[i64]) -> bool
-    requires { AreLits clause.now }
-    ensures { result ≡ other_open set.now first.now clause.now }
+fn other_open(set: &TrueSet, first: i64, codes: &[u64]) -> bool
+    requires { AreLits (lits_of codes.now) }
+    ensures { result ≡ other_open set.now first (lits_of codes.now) }
 {
-    for lit in clause {
+    for code in codes {
+        let lit = lit_of(*code);
         if lit != first && !set.is_false(lit) {
             return true;
         }

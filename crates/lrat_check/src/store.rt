@@ -1,68 +1,137 @@
-ghost use Rattle.std.specs.Prelude.{◌≡◌, ◌∷◌, IfOk, OnOk, pos};
-ghost use Rattle.cnf_form.specs.Cnf.{AreClauses};
+ghost use Rattle.std.specs.Prelude.{◌≡◌, ◌≤◌, ◌<◌, ◌+◌, ℕ, List, None, Some, length, IfOk, OnOk, OnErr, MatchOption};
+ghost use Rattle.std.specs.Prelude.{MatchBool};
+ghost use Rattle.std.specs.List.{swap};
+ghost use Rattle.lrat_check.specs.Codes.{codes_of};
 ghost use Rattle.lrat_check.specs.Sets.{AreLits};
-ghost use Rattle.lrat_check.specs.Steps.{deleted, numbered, with_clause};
-ghost use Rattle.lrat_check.specs.Store.{held_of, AreHeld, Removes, Deletes, OnlyMemory};
 
-use crate::step::StepFault;
-use cnf_form::Formula;
-use fv_base::List;
+use crate::code::code_of;
+use crate::row::{Row, find};
+use fv_base::Memory;
 use std::alloc::Global;
-use std::collections::HashMap;
+use std::marker::Model;
 
-/// The clauses that are held, by id.
-pub(crate) type Store = HashMap<u64, List<i64>>;
-
-pub(crate) fn put(alloc: Global, held: &mut Store, id: u64, lits: &[i64]) -> Result<(), StepFault>
-    ensures ok { OnOk result (held_of held.new ≡ with_clause (held_of held.old) id lits.now) }
-    ensures memory { OnlyMemory result }
-{
-    let clause = List::from_vec(Vec::from_slice(alloc, lits)?);
-    held.insert(id, clause)?;
-    Ok(())
+/// Clauses by id, all in one list of codes of literals.
+#[derive(Drop)]
+pub struct Store {
+    alloc: Global,
+    codes: Vec<u64>,
+    /// One for each id that was added, in order.
+    rows: Vec<Row>,
+    /// The id that was added last.
+    last: Option<u64>,
 }
 
-/// Whether the id was held; it is held no longer.
-fn remove(held: &mut Store, id: &u64) -> bool
-    ensures { Removes (held_of held.old) (held_of held.new) id.now result }
-{
-    held.remove(id).is_some()
+impl Model for Store {
+    ghost use Rattle.std.specs.Prelude.{length};
+    ghost use Rattle.lrat_check.specs.Store.{Clauses, Laid, above};
+
+    ghost Value = { Clauses };
+
+    ghost view = { λ s. record { codes = s.codes.items; rows = s.rows.items; last = s.last } };
+
+    ghost invariant = { λ s. Laid s.rows.items (length s.codes.items) (above s.last) };
 }
 
-/// The step `id` deletes the clauses with these ids.
-pub(crate) fn delete(held: &mut Store, id: u64, ids: &[u64]) -> Result<(), StepFault>
-    ensures { Deletes (held_of held.new) result (deleted (held_of held.old) id ids.now) }
-{
-    for old in ids {
-        if !remove(held, old) {
-            return Err(not_held(id, old));
+impl Store {
+    ghost use Rattle.lrat_check.specs.Store.{coded, next, with_code, Removes};
+
+    pub fn new(alloc: Global) -> Store
+        ensures held { (id : ℕ) → coded result id ≡ None }
+        ensures next { next result ≡ 0 }
+    {
+        Store {
+            alloc,
+            codes: Vec::new(alloc),
+            rows: Vec::new(alloc),
+            last: None,
         }
     }
-    Ok(())
-}
 
-fn not_held(id: u64, deleted: &u64) -> StepFault
-    ensures { result ≡ StepFault.NoClause id (pos deleted.now) }
-{
-    StepFault::NoClause {
-        id,
-        hint: i128::from(*deleted),
+    /// Adds a clause. After want of memory all is as before.
+    pub fn add(&mut self, id: u64, lits: &[i64]) -> Result<(), Memory>
+        requires above { next self.old ≤ id }
+        requires lits { AreLits lits.now }
+        ensures ok { OnOk result (coded self.new ≡ with_code (coded self.old) id (codes_of lits.now)) }
+        ensures next { OnOk result (next self.new ≡ id + 1) }
+        ensures err { OnErr result (self.new ≡ self.old) }
+    {
+        let added = coded(self.alloc, lits)?;
+        let start = self.codes.len();
+        self.codes.extend_from_slice(&added)?;
+        let row = Row {
+            id,
+            start,
+            end: self.codes.len(),
+            held: true,
+        };
+        if self.rows.push(row).is_err() {
+            self.codes.truncate(start);
+            return Err(Memory);
+        }
+        self.last = Some(id);
+        Ok(())
+    }
+
+    /// The codes of the clause's literals. None exactly where the id isn't held.
+    pub fn lits(&self, id: u64) -> Option<&[u64]>
+        ensures { MatchOption result (coded self.now id ≡ None) (λ codes. coded self.now id ≡ Some codes.now) }
+    {
+        let Some(place) = find(&self.rows, id) else {
+            return None;
+        };
+        let row = self.rows[place];
+        if row.held {
+            Some(&self.codes[row.start..row.end])
+        } else {
+            None
+        }
+    }
+
+    /// Exchanges two places of the clause, and changes no other clause.
+    pub fn swap(&mut self, id: u64, a: u32, b: u32)
+        requires { (clause : List ℕ) × (coded self.old id ≡ Some clause) × (a < length clause) × (b < length clause) }
+        ensures swapped { (clause : List ℕ) → coded self.old id ≡ Some clause
+            → coded self.new ≡ with_code (coded self.old) id (swap clause a b) }
+        ensures next { next self.new ≡ next self.old }
+    {
+        self.exchange(id, a as usize, b as usize);
+    }
+
+    /// Exchanges two places of the clause, and changes no other clause.
+    pub fn exchange(&mut self, id: u64, a: usize, b: usize)
+        requires { (clause : List ℕ) × (coded self.old id ≡ Some clause) × (a < length clause) × (b < length clause) }
+        ensures swapped { (clause : List ℕ) → coded self.old id ≡ Some clause
+            → coded self.new ≡ with_code (coded self.old) id (swap clause a b) }
+        ensures next { next self.new ≡ next self.old }
+    {
+        if let Some(place) = find(&self.rows, id) {
+            let start = self.rows[place].start;
+            self.codes.swap(start + a, start + b);
+        }
+    }
+
+    /// Whether the id was held; it is held no longer.
+    pub fn remove(&mut self, id: u64) -> bool
+        ensures removed { Removes (coded self.old) (coded self.new) id result }
+        ensures next { next self.new ≡ next self.old }
+    {
+        let Some(place) = find(&self.rows, id) else {
+            return false;
+        };
+        let row = self.rows[place];
+        self.rows[place] = Row { held: false, ..row };
+        row.held
     }
 }
 
-/// The clauses of a formula, with the ids from 1 on.
-pub(crate) fn store_of(alloc: Global, formula: &Formula) -> Result<Store, StepFault>
-    ensures held { IfOk result (λ store. held_of store ≡ numbered formula.now.clauses) }
-    ensures lits { IfOk result (λ store. AreHeld (held_of store)) }
-    ensures memory { OnlyMemory result }
+/// The codes of the literals.
+fn coded(alloc: Global, lits: &[i64]) -> Result<Vec<u64>, Memory>
+    requires { AreLits lits.now }
+    ensures { IfOk result (λ codes. codes.items ≡ codes_of lits.now) }
 {
-    // Below 2^63, so each literal has a complement.
-    let _vars = formula.vars();
-    let mut held = HashMap::new(alloc);
-    let mut id = 0;
-    for clause in formula.clauses() {
-        id += 1;
-        put(alloc, &mut held, id, clause.as_slice())?;
+    let mut codes = Vec::with_capacity(alloc, lits.len())?;
+    for lit in lits {
+        codes.push(code_of(*lit))?;
     }
-    Ok(held)
+    Ok(codes)
 }

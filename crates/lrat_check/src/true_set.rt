@@ -36,17 +36,17 @@ impl TrueSet {
         }
     }
 
-    pub(crate) fn has(&self, lit: &i64) -> bool
-        ensures { result ≡ has self.now lit.now }
+    pub(crate) fn has(&self, lit: i64) -> bool
+        ensures { result ≡ has self.now lit }
     {
-        self.set.contains(lit)
+        self.set.contains(&lit)
     }
 
-    pub(crate) fn is_false(&self, lit: &i64) -> bool
-        requires { IsLit lit.now }
-        ensures { result ≡ is_false self.now lit.now }
+    pub(crate) fn is_false(&self, lit: i64) -> bool
+        requires { IsLit lit }
+        ensures { result ≡ is_false self.now lit }
     {
-        self.set.contains(&-*lit)
+        self.set.contains(&-lit)
     }
 
     pub(crate) fn add(&mut self, lit: i64) -> Result<(), Memory>

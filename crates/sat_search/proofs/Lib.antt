@@ -1,5 +1,6 @@
 pub mod Added
 pub mod Backs
+pub mod Codes
 pub mod Counts
 pub mod Jumps
 pub mod Levels

@@ -1,12 +1,13 @@
 -- The places of a trail's literals after a change.
-use Rattle.std.proofs.Common.{◌≡◌, ℕ, zero, suc, ◌-◌, ◌<◌, ◌≤◌, Bool, true, false, cond, ltb, ◌||◌, [], ◌∷◌, ℤ}
+use Rattle.std.proofs.Common.{◌≡◌, ℕ, zero, suc, ◌-◌, ◌<◌, ◌≤◌, Bool, true, false, cond, ltb, leb, ◌||◌, List}
+use Rattle.std.proofs.Common.{[], ◌∷◌, ℤ}
 use Rattle.std.proofs.Common.{length, drop, Option, Some, None, refl, ap, sym, ◌∙◌, ◌⊎◌, inl, inr, arith}
 use Rattle.std.specs.Ordering.{int_eq}
-use Rattle.std.specs.HashMap.{get}
 use Rattle.std.proofs.lemmas.Bool.{false≢true, cases_Bool}
-use Rattle.lrat_check.specs.Sets.{has}
+use Rattle.std.proofs.lemmas.Bool.Decides.{nat_tests}
+use Rattle.lrat_check.specs.Sets.{has, IsLit}
 use Rattle.sat_search.specs.declared.trail.Entry.{Entry}
-use Rattle.sat_search.specs.Trail.{Entries, lits, oldest, below_at, below, Places, lies_below, ArePlaces}
+use Rattle.sat_search.specs.Trail.{Entries, lits, oldest, below_at, below, place_of, lies_below, ArePlaces}
 use Rattle.sat_search.proofs.Members.{same_is, same_self, has_tail}
 
 false_from_ne_true : (b : Bool) → (b ≡ true → ⊥) → b ≡ false
@@ -39,7 +40,7 @@ le_cases zero b = inl (omega arith)
 le_cases (suc a) zero = inr (omega arith)
 le_cases (suc a) (suc b) = elim (le_cases a b) [ inl h ↦ inl (omega (arith, h)) | inr h ↦ inr (omega (arith, h)) ]
 
-module _ (t : Entries) (e : Entry) (m now : Places) where
+module _ (t : Entries) (e : Entry) (m now : List ℕ) where
   push_same : ArePlaces t m → has (lits t) e.lit ≡ false → (lit : ℤ) (end : ℕ) → lit ≡ e.lit
       → ltb (length t) end ≡ has (lits (oldest end (e ∷ t))) lit
   push_same p f lit end s = elim (le_cases end (length t)) [
@@ -52,7 +53,7 @@ module _ (t : Entries) (e : Entry) (m now : Places) where
   ]
 
   push_other : ArePlaces t m → (lit : ℤ) (end : ℕ) → int_eq lit e.lit ≡ false
-      → lies_below end (get int_eq m lit) ≡ has (lits (oldest end (e ∷ t))) lit
+      → lies_below end (place_of m lit) ≡ has (lits (oldest end (e ∷ t))) lit
   push_other p lit end s = elim (le_cases end (length t)) [
     | inl h ↦ p.at lit end ∙ sym (ap (λ z. has (lits z) lit) (oldest_part e t end h))
     | inr h ↦ p.at lit end ∙ ap (λ z. has (lits z) lit) (oldest_whole t end (omega (arith, h)))
@@ -61,30 +62,32 @@ module _ (t : Entries) (e : Entry) (m now : Places) where
   ]
 
   -- the newest entry's literal has the last place
-  pub pushed : ArePlaces t m → has (lits t) e.lit ≡ false
-      → ((lit : ℤ) → get int_eq now lit ≡ cond (int_eq e.lit lit) (Some (length t)) (get int_eq m lit))
+  pub pushed : ArePlaces t m → IsLit e.lit → has (lits t) e.lit ≡ false
+      → ((lit : ℤ) → place_of now lit ≡ cond (int_eq e.lit lit) (suc (length t)) (place_of m lit))
       → ArePlaces (e ∷ t) now
-  pushed p f g = record {
+  pushed p i f g = record {
     fresh = (f, p.fresh);
+    all_lits = (i, p.all_lits);
     at = λ lit end. ap (lies_below end) (g lit) ∙ elim (cases_Bool (int_eq e.lit lit)) [
-      | inl s ↦ ap (λ b. lies_below end (cond b (Some (length t)) (get int_eq m lit))) s
+      | inl s ↦ ap (λ b. lies_below end (cond b (suc (length t)) (place_of m lit))) s
           ∙ push_same p f lit end (sym (same_is e.lit lit s))
-      | inr s ↦ ap (λ b. lies_below end (cond b (Some (length t)) (get int_eq m lit))) s
+      | inr s ↦ ap (λ b. lies_below end (cond b (suc (length t)) (place_of m lit))) s
           ∙ push_other p lit end (turned e.lit lit s)
     ];
   }
 
   -- and where it is taken off, none
   pub popped : ArePlaces (e ∷ t) m → ((lit : ℤ)
-      → get int_eq now lit ≡ cond (int_eq e.lit lit) None (get int_eq m lit)) → ArePlaces t now
+      → place_of now lit ≡ cond (int_eq e.lit lit) 0 (place_of m lit)) → ArePlaces t now
   popped p g = record {
     fresh = p.fresh.1;
+    all_lits = p.all_lits.1;
     at = λ lit end. ap (lies_below end) (g lit) ∙ elim (cases_Bool (int_eq e.lit lit)) [
-      | inl s ↦ ap (λ b. lies_below end (cond b None (get int_eq m lit))) s
+      | inl s ↦ ap (λ b. lies_below end (cond b 0 (place_of m lit))) s
           ∙ sym (false_from_ne_true (has (lits (oldest end t)) lit)
           (λ k. false≢true (sym p.fresh.0 ∙ ap (has (lits t)) (same_is e.lit lit s)
           ∙ in_dropped (length t - end) t lit k)))
-      | inr s ↦ ap (λ b. lies_below end (cond b None (get int_eq m lit))) s ∙ p.at lit end
+      | inr s ↦ ap (λ b. lies_below end (cond b 0 (place_of m lit))) s ∙ p.at lit end
           ∙ pop_other lit end (turned e.lit lit s)
     ];
   } where
@@ -96,6 +99,24 @@ module _ (t : Entries) (e : Entry) (m now : Places) where
           ∙ ap (λ b. b || has (lits t) lit) s
           ∙ sym (ap (λ z. has (lits z) lit) (oldest_whole t end (omega (arith, h))))
     ]
+
+-- the same places are those of the same trail
+pub unchanged : (t : Entries) (m now : List ℕ) → ArePlaces t m → ((lit : ℤ) → place_of now lit ≡ place_of m lit)
+    → ArePlaces t now
+unchanged t m now p g = record {
+  fresh = p.fresh;
+  all_lits = p.all_lits;
+  at = λ lit end. ap (lies_below end) (g lit) ∙ p.at lit end;
+}
+
+pub none_there : (place end : ℕ) → place ≡ 0 → lies_below end place ≡ false
+none_there place end e = ap (lies_below end) e
+
+pub some_there : (place end : ℕ) → (place ≡ 0 → ⊥) → lies_below end place ≡ leb place end
+some_there zero end n = absurd (n refl)
+some_there (suc place) end n = same where
+  same : ltb place end ≡ leb (suc place) end
+  same = grind (arith, nat_tests)
 
 below_short_at : (reason : Option ℕ) (t : Entries) → length (below t) ≤ length t
     → length (below_at reason t (below t)) ≤ length t

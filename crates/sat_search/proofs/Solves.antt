@@ -1,23 +1,40 @@
 -- What each round of the search owes to the calls that it makes.
-use Rattle.std.proofs.Common.{◌≡◌, ℕ, ◌+◌, ◌^◌, ◌<◌, false, List, ◌∷◌, ℤ, pos, Some, None, ap, sym, subst, ◌∙◌, w64}
+use Rattle.std.proofs.Common.{◌≡◌, ℕ, ◌+◌, ◌^◌, ◌<◌, false, List, ◌∷◌, ℤ, neg_ℤ, pos, Some, None, ap, sym, subst, ◌∙◌}
+use Rattle.std.proofs.Common.{w64}
 use Rattle.std.proofs.Common.{to_z, of_z, arith}
 use Rattle.std.specs.Prelude.{slice_get}
 use Rattle.std.proofs.lemmas.Bool.{or_parts}
 use Rattle.std.proofs.lemmas.Int.{to_z-of_z, fits_signed_from_abs}
 use Rattle.cnf_form.specs.Cnf.{IsLiteral}
 use Rattle.lrat_check.specs.declared.step.Step.{Step}
-use Rattle.lrat_check.specs.Sets.{has, is_false}
+use Rattle.lrat_check.specs.Sets.{has, is_false, IsLit}
 use Rattle.sat_search.specs.declared.trail.Entry.{Entry}
 use Rattle.sat_search.specs.declared.propagation.Scan.TheVariants as scan
-use Rattle.sat_search.specs.Trail.{Entries, lits, Stand, IsOpenVar}
+use Rattle.sat_search.specs.Trail.{Entries, lits, Stand, IsOpenVar, IsOpenLit}
 use Rattle.sat_search.specs.Propagation.{AllLits, Sees}
 use Rattle.sat_search.specs.Analysis.{IsConflict}
 use Rattle.sat_search.specs.Searching.{Searching, rounds}
+use Rattle.sat_search.proofs.Members.{neg_neg}
 use Rattle.sat_search.proofs.Readings.{Alone, unit_to}
 use Rattle.sat_search.proofs.Backs.{lits_at}
-use Rattle.sat_search.proofs.Literals.{literal_at, lit_of, all_lits, clause_at}
+use Rattle.sat_search.proofs.Literals.{literal_at, neg_literal, lit_of, all_lits, clause_at}
 use Rattle.sat_search.proofs.Searches.{pushed_on}
 use Rattle.sat_search.proofs.Rounds.{value_falls}
+
+-- a variable without a value, and its complement
+pub open_var : (vars : ℕ) (set : List ℤ) (l : ℤ) → IsOpenVar vars set l → IsOpenLit vars set l
+open_var vars set l h =
+    let P : ℤ → Type 0 = λ z. IsOpenLit vars set z in
+    let k = h.1 in
+    let o = or_parts (has set (pos (h.0 + 1))) (is_false set (pos (h.0 + 1))) h.3 in
+    subst P (sym h.2) ((omega arith, omega (arith, k)), o.0, o.1)
+
+pub open_neg : (vars : ℕ) (set : List ℤ) (l : ℤ) → IsOpenLit vars set l → IsOpenLit vars set (neg_ℤ l)
+open_neg vars set l h = (
+  neg_literal vars (neg_ℤ l) (subst (IsLiteral vars) (sym (neg_neg l)) h.0),
+  h.2,
+  ap (has set) (neg_neg l) ∙ h.1,
+)
 
 module _ (vars budget : ℕ) (formula cs : List (List ℤ)) (t : Entries) (steps : List Step) (left : ℕ)
     (s : Searching vars budget formula cs t steps left) (v : vars < 2 ^ 63) (seen : List (List ℤ))
@@ -52,6 +69,9 @@ module _ (vars budget : ℕ) (formula cs : List (List ℤ)) (t : Entries) (steps
     unit_kept : to_z w64 (of_z w64 l) ≡ l
     unit_kept = to_z-of_z w64 l (fits_signed_from_abs w64 l (lit_of vars l v unit_literal).1)
 
+    pub unit_lit : IsLit (to_z w64 (of_z w64 l))
+    unit_lit = subst IsLit (sym unit_kept) (lit_of vars l v unit_literal)
+
     pub unit_free : has (lits t) (to_z w64 (of_z w64 l)) ≡ false
     unit_free = ap (has (lits t)) unit_kept ∙ unit_alone.untrue
 
@@ -75,17 +95,9 @@ module _ (vars budget : ℕ) (formula cs : List (List ℤ)) (t : Entries) (steps
         reason = Some place;
       }) t whole entry_is unit_literal unit_alone.untrue unit_alone.unfalse
 
-  module _ (l : ℤ) (h : IsOpenVar vars (lits t) l) where
-    var_literal : IsLiteral vars l
-    var_literal = subst (IsLiteral vars) (sym h.2) (let k = h.1 in (omega arith, omega (arith, k)))
-
-    var_open : (has (lits t) l ≡ false) × (is_false (lits t) l ≡ false)
-    var_open =
-        let P : ℤ → Type 0 = λ z. (has (lits t) z ≡ false) × (is_false (lits t) z ≡ false) in
-        subst P (sym h.2) (or_parts (has (lits t) (pos (h.0 + 1))) (is_false (lits t) (pos (h.0 + 1))) h.3)
-
+  module _ (l : ℤ) (h : IsOpenLit vars (lits t) l) where
     var_kept : to_z w64 (of_z w64 l) ≡ l
-    var_kept = to_z-of_z w64 l (fits_signed_from_abs w64 l (lit_of vars l v var_literal).1)
+    var_kept = to_z-of_z w64 l (fits_signed_from_abs w64 l (lit_of vars l v h.0).1)
 
     module _ (whole : Entries) (w : whole ≡ (record { lit = to_z w64 (of_z w64 l); reason = None }) ∷ t) where
       decision_is : whole ≡ (record { lit = l; reason = None }) ∷ t
@@ -95,4 +107,4 @@ module _ (vars budget : ℕ) (formula cs : List (List ℤ)) (t : Entries) (steps
       decision_falls = value_falls vars left (record {
         lit = l;
         reason = None;
-      }) t whole decision_is var_literal var_open.0 var_open.1
+      }) t whole decision_is h.0 h.1 h.2

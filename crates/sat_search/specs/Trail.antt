@@ -1,14 +1,12 @@
 -- Trails, the newest entry first: what is true, why each entry stands there, and what is older than a decision.
 -- Rules of this project, after conflict-driven clause learning.
 use Rattle.std.specs.Prelude.{ℕ, zero, suc, ◌+◌, ◌-◌, ◌<◌, ◌≡◌, Bool, true, false, ltb, ◌||◌, List, [], ◌∷◌, ◌++◌, ℤ}
-use Rattle.std.specs.Prelude.{pos, map, drop, length, slice_get, Option, Some, None}
+use Rattle.std.specs.Prelude.{pos, map, drop, length, slice_get, slice_index_or, Option, Some, None}
 use Rattle.std.specs.List.{list_any, list_all}
-use Rattle.std.specs.Ordering.{int_eq}
-use Rattle.std.specs.HashMap.{get, HashMap}
-use Rattle.std.specs.declared.hash.FoldHasher.{FoldHasher}
-use Rattle.std.specs.declared.hash.BuildHasherDefault.{BuildHasherDefault}
+use Rattle.cnf_form.specs.Cnf.{IsLiteral}
 use Rattle.lrat_check.specs.declared.reading.Reading.TheVariants as read
-use Rattle.lrat_check.specs.Sets.{has, is_false, reading, IsLit}
+use Rattle.lrat_check.specs.Sets.{has, is_false, reading, IsLit, AreLits}
+use Rattle.lrat_check.specs.Codes.{code_of}
 use Rattle.lrat_check.specs.Resolved.{is_open}
 use Rattle.sat_search.specs.declared.trail.Entry.{Entry}
 
@@ -70,18 +68,19 @@ abbrev pub Fresh : Entries → Type 0
 Fresh [] = Unit {0}
 Fresh (e ∷ older) = (has (lits older) e.lit ≡ false) × Fresh older
 
--- places of literals in a trail
-abbrev pub Places : Type 0
-Places = HashMap ℤ ℕ (BuildHasherDefault FoldHasher)
+-- one above the place of each true literal, by its code; 0 where there is none
+abbrev pub place_of : List ℕ → ℤ → ℕ
+place_of places lit = slice_index_or places (code_of lit) 0
 
-abbrev pub lies_below : ℕ → Option ℕ → Bool
-lies_below end None = false
-lies_below end (Some place) = ltb place end
+abbrev pub lies_below : ℕ → ℕ → Bool
+lies_below end zero = false
+lies_below end (suc place) = ltb place end
 
--- the map has the place of each true literal, the oldest entry's being 0, and each literal is there once
-pub record ArePlaces (trail : Entries) (places : Places) : Type 0 where
+-- the places are those in the trail, the oldest entry's being 0, and each literal is there once
+pub record ArePlaces (trail : Entries) (places : List ℕ) : Type 0 where
   pub fresh : Fresh trail
-  pub at : (lit : ℤ) (end : ℕ) → lies_below end (get int_eq places lit) ≡ has (lits (oldest end trail)) lit
+  pub all_lits : AreLits (lits trail)
+  pub at : (lit : ℤ) (end : ℕ) → lies_below end (place_of places lit) ≡ has (lits (oldest end trail)) lit
 
 -- whether the variable, from 1 on, has a value
 abbrev pub is_assigned : List ℤ → ℕ → Bool
@@ -94,6 +93,10 @@ AllAssigned vars set = (index : ℕ) → index < vars → is_assigned set (index
 -- the literal is a variable without a value
 abbrev pub IsOpenVar : ℕ → List ℤ → ℤ → Type 0
 IsOpenVar vars set lit = (index : ℕ) × (index < vars) × (lit ≡ pos (index + 1)) × (is_assigned set (index + 1) ≡ false)
+
+-- the literal is one of so many variables, which has no value
+abbrev pub IsOpenLit : ℕ → List ℤ → ℤ → Type 0
+IsOpenLit vars set lit = IsLiteral vars lit × (has set lit ≡ false) × (is_false set lit ≡ false)
 
 -- a variable is true where the set holds it; variable 1 comes first
 abbrev pub values_of : ℕ → List ℤ → List Bool

@@ -162,8 +162,9 @@ pub(crate) fn to_unit(
     ensures part { IfOk result (λ l. Within (lits trail.new) (lits trail.old)) }
     ensures unit { IfOk result (λ l. is_unit (reading (lits (below trail.new)) l.lits.items) ≡ true) }
 {
+    let start = trail.level_start();
     let mut learnt = begin(alloc, clauses, trail, conflict)?;
-    while !is_unit(trail.read_below(&learnt.lits)) {
+    'tracing: while !is_unit(trail.read_from(start, &learnt.lits)) {
         match trail.pop() {
             None => return Ok(learnt),
             Some(entry) => learnt = back(alloc, clauses, trail, entry, learnt)?,

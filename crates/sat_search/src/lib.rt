@@ -5,10 +5,13 @@
 mod analysis;
 mod found;
 mod learning;
+mod order;
+mod place_table;
 mod propagation;
 mod search;
 mod shared;
 mod trail;
+mod watches;
 
 pub use found::Found;
 pub use search::solve;

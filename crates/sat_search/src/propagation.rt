@@ -1,4 +1,4 @@
-ghost use Rattle.std.specs.Prelude.{◌≡◌, ◌≤◌, ℕ, length};
+ghost use Rattle.std.specs.Prelude.{◌≡◌, ◌≤◌, ℕ, length, IfSome};
 ghost use Rattle.lrat_check.specs.Sets.{AreLits};
 ghost use Rattle.sat_search.specs.Trail.{lits};
 ghost use Rattle.sat_search.specs.Propagation.{Sees, SeesFrom, AllLits};
@@ -29,6 +29,22 @@ pub(crate) fn survey(clauses: &[List<i64>], trail: &Trail, start: usize) -> Scan
     match survey_part(clauses, trail, middle, clauses.len()) {
         Scan::Settled => survey_part(clauses, trail, 0, middle),
         found => found,
+    }
+}
+
+/// What the clause at the place comes to, if it is false or forces a literal.
+pub(crate) fn seen(clauses: &[List<i64>], trail: &Trail, place: usize) -> Option<Scan>
+    requires { AllLits clauses.now }
+    ensures { IfSome result (λ scan. Sees clauses.now (lits trail.now) scan) }
+{
+    if place >= clauses.len() {
+        return None;
+    }
+    match trail.read(clauses[place].as_slice()) {
+        Reading::False => Some(Scan::Conflict(place)),
+        Reading::Unit(lit) => Some(Scan::Unit(place, lit)),
+        Reading::True => None,
+        Reading::Open => None,
     }
 }
 

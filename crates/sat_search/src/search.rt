@@ -1,15 +1,17 @@
-ghost use Rattle.std.specs.Prelude.{◌≡◌, ◌<◌, ◌≤◌, ◌^◌, ℕ, true, false, List, length, IfOk, MatchOption};
+ghost use Rattle.std.specs.Prelude.{◌≡◌, ◌<◌, ◌≤◌, ◌^◌, ℕ, true, false, List, length, IfOk};
 ghost use Rattle.cnf_form.specs.Cnf.{AreClauses, formula_true, value_of};
 ghost use Rattle.lrat_check.specs.Steps.{Refutes, Valid, AreSteps};
 ghost use Rattle.lrat_check.specs.Resolved.{Resolved, derived};
-ghost use Rattle.sat_search.specs.Trail.{lits, AllAssigned, IsOpenVar, values_of};
+ghost use Rattle.sat_search.specs.Trail.{lits, values_of};
 ghost use Rattle.sat_search.specs.Found.{IfModel, IfRefuted, IfSpent, IfSteps, AreAdded, nonempty};
 
 use crate::analysis::to_empty;
 use crate::found::Found;
 use crate::learning::{MOST_CLAUSES, add, learn};
-use crate::propagation::{Scan, survey};
+use crate::order::Order;
+use crate::propagation::Scan;
 use crate::trail::{Entry, Trail};
+use crate::watches::Watches;
 use cnf_form::Formula;
 use fv_base::{List, Memory};
 use std::alloc::Global;
@@ -44,22 +46,25 @@ pub fn solve(alloc: Global, formula: &Formula, budget: u64) -> Result<Found, Mem
     let mut trail = Trail::new(alloc);
     let mut steps = List::new(alloc);
     let mut left = budget;
-    let mut start = 0;
-    loop {
-        match survey(clauses.as_slice(), &trail, start) {
+    let mut watches = Watches::new(alloc);
+    let mut order = Order::new(alloc);
+    'turns: loop {
+        match watches.next(clauses.as_slice(), &trail) {
             Scan::Unit(place, lit) => {
-                start = place;
+                order.set_phase(lit);
                 trail.push(Entry {
                     lit,
                     reason: Some(place),
                 })?
             }
-            Scan::Settled => match first_open(vars, &trail) {
+            Scan::Settled => match order.decide(
+                vars,
+                &trail,
+                clauses.as_slice(),
+                steps.as_slice(),
+            ) {
                 None => return Ok(Found::Model(values(alloc, vars, &trail)?)),
-                Some(var) => trail.push(Entry {
-                    lit: var,
-                    reason: None,
-                })?,
+                Some(lit) => trail.push(Entry { lit, reason: None })?,
             },
             Scan::Conflict(place) => {
                 if !trail.has_decision() {
@@ -69,7 +74,6 @@ pub fn solve(alloc: Global, formula: &Formula, budget: u64) -> Result<Found, Mem
                 }
                 learn(alloc, &mut clauses, &mut trail, &mut steps, place)?;
                 left -= 1;
-                start = clauses.len() - 1;
                 if left == 0 {
                     return Ok(Found::Spent(steps));
                 }
@@ -88,20 +92,6 @@ fn copied(alloc: Global, formula: &Formula) -> Result<List<List<i64>>, Memory>
         clauses.push(List::from_vec(Vec::from_slice(alloc, clause.as_slice())?))?;
     }
     Ok(clauses)
-}
-
-/// The first variable that has no value, as a literal.
-fn first_open(vars: u64, trail: &Trail) -> Option<i64>
-    requires { vars < 2 ^ 63 }
-    ensures { MatchOption result (AllAssigned vars (lits trail.now)) (λ lit. IsOpenVar vars (lits trail.now) lit) }
-{
-    for index in 0..vars {
-        let lit = index as i64 + 1;
-        if !trail.is_assigned(lit) {
-            return Some(lit);
-        }
-    }
-    None
 }
 
 /// Whether each variable is true on the trail, variable 1 first.

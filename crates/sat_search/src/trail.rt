@@ -4,10 +4,10 @@ ghost use Rattle.std.specs.Option.{option_copied};
 ghost use Rattle.lrat_check.specs.Sets.{has, is_false, first_open, other_open, reading, IsLit, AreLits};
 ghost use Rattle.sat_search.specs.Trail.{lits, oldest, below, decided};
 
+use crate::place_table::Places;
 use fv_base::Memory;
 use lrat_check::Reading;
 use std::alloc::Global;
-use std::collections::HashMap;
 use std::marker::Model;
 
 /// A literal that was made true, and the place of the clause that forced it; a decision has none.
@@ -21,8 +21,8 @@ pub(crate) struct Entry {
 #[derive(Drop)]
 pub(crate) struct Trail {
     entries: Vec<Entry>,
-    /// The place of each true literal among the entries.
-    places: HashMap<i64, usize>,
+    /// One above the place of each true literal among the entries.
+    places: Places,
 }
 
 impl Model for Trail {
@@ -42,17 +42,17 @@ impl Trail {
     {
         Trail {
             entries: Vec::new(alloc),
-            places: HashMap::new(alloc),
+            places: Places::new(alloc),
         }
     }
 
     pub(crate) fn push(&mut self, entry: Entry) -> Result<(), Memory>
-        requires { has (lits self.old) entry.lit ≡ false }
+        requires lit { IsLit entry.lit }
+        requires fresh { has (lits self.old) entry.lit ≡ false }
         ensures { OnOk result (self.new ≡ entry ∷ self.old) }
     {
-        let place = self.entries.len();
         self.entries.push(entry)?;
-        match self.places.insert(entry.lit, place) {
+        match self.places.put(&entry.lit, self.entries.len()) {
             Ok(_) => Ok(()),
             Err(_) => {
                 self.entries.pop();
@@ -65,7 +65,7 @@ impl Trail {
         ensures { MatchOption result ((self.old ≡ []) × (self.new ≡ [])) (λ e. self.old ≡ e ∷ self.new) }
     {
         let entry = self.entries.pop()?;
-        self.places.remove(&entry.lit);
+        self.places.clear(&entry.lit);
         Some(entry)
     }
 
@@ -92,7 +92,7 @@ impl Trail {
     }
 
     /// How many entries are older than the newest decision.
-    fn level_start(&self) -> usize
+    pub(crate) fn level_start(&self) -> usize
         ensures { result ≡ length (below self.now) }
     {
         let mut place = self.entries.len();
@@ -121,6 +121,15 @@ impl Trail {
         self.read_at(self.level_start(), clause)
     }
 
+    /// The same, where so many entries are older than the newest decision.
+    pub(crate) fn read_from(&self, start: usize, clause: &[i64]) -> Reading
+        requires lits { AreLits clause.now }
+        requires start { start ≡ length (below self.now) }
+        ensures { result ≡ reading (lits (below self.now)) clause.now }
+    {
+        self.read_at(start, clause)
+    }
+
     /// How the clause reads under so many of the oldest entries.
     fn read_at(&self, end: usize, clause: &[i64]) -> Reading
         requires { AreLits clause.now }
@@ -142,6 +151,7 @@ impl Trail {
     }
 
     fn any_true(&self, end: usize, clause: &[i64]) -> bool
+        requires { AreLits clause.now }
         ensures { result ≡ list_any (has (lits (oldest end self.now))) clause.now }
     {
         for lit in clause {
@@ -178,12 +188,14 @@ impl Trail {
 
     /// Whether the literal is among so many of the oldest entries.
     fn has_at(&self, end: usize, lit: &i64) -> bool
+        requires { IsLit lit.now }
         ensures { result ≡ has (lits (oldest end self.now)) lit.now }
     {
-        match self.places.get(lit) {
-            Some(place) => *place < end,
-            None => false,
+        let place = self.places.get(lit);
+        if place == 0 {
+            return false;
         }
+        place <= end
     }
 
     fn is_false_at(&self, end: usize, lit: &i64) -> bool
@@ -193,7 +205,30 @@ impl Trail {
         self.has_at(end, &-*lit)
     }
 
+    /// How many literals are true.
+    pub(crate) fn len(&self) -> usize {
+        self.entries.len()
+    }
+
+    /// The code of the literal at the place, the oldest entry's being 0; 0 beyond the end.
+    pub(crate) fn code_at(&self, place: usize) -> u64 {
+        match self.entries.get(place) {
+            Some(entry) => entry
+                .lit
+                .unsigned_abs()
+                .wrapping_mul(2)
+                .wrapping_add((entry.lit < 0) as u64),
+            None => 0,
+        }
+    }
+
+    /// One above the place of the literal with the code, or 0.
+    pub(crate) fn place_of_code(&self, code: u64) -> usize {
+        self.places.at(code)
+    }
+
     pub(crate) fn has(&self, lit: &i64) -> bool
+        requires { IsLit lit.now }
         ensures { result ≡ has (lits self.now) lit.now }
     {
         self.has_at(self.entries.len(), lit)

@@ -1,4 +1,4 @@
-use Rattle.std.proofs.Common.{subst}
+use Rattle.std.proofs.Common.{subst, arith}
 use Rattle.lrat_check.specs.Steps.{judged}
 use Rattle.lrat_check.specs.Store.{held_of, AreHeld}
 use Rattle.lrat_check.proofs.Takes.{step_at, begins, refused, accepted, goes_on}
@@ -10,6 +10,7 @@ loop-step-init c = (
   begins (held_of c.in_ok-store_of.field-0) c.len.result c.args.formula.now.clauses c.args.steps.now
       c.in_ok-store_of.ensures.held c.len.ensures,
   c.in_ok-store_of.ensures.lits,
+  omega (arith, c.in_ok-store_of.ensures.next, c.len.ensures),
 )
 
 pub take-requires-clause-step : goal.take-requires-clause-step
@@ -50,4 +51,5 @@ loop-step-preserved c = (
       (judged c.args.formula.now.clauses c.args.steps.now) c.loop-step-test.true c.step-item.is
       c.loop-step.invariant.0 c.in-Ok-None.field-0 c.in-Ok-None.field-0-is c.in-Ok-None.ensures.takes,
   c.in-Ok-None.ensures.held,
+  c.in-Ok-None.ensures.top,
 )

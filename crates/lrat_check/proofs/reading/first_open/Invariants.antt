@@ -1,6 +1,7 @@
 use Rattle.std.proofs.Common.{◌≡◌, drop}
+use Rattle.lrat_check.specs.Codes.{lits_of}
 use Rattle.lrat_check.specs.Sets.{first_open}
 use Rattle.lrat_check.proofs.reading.first_open.Given as goal
 
-abbrev pub invariant-loop-lit : goal.invariant-loop-lit
-invariant-loop-lit l = first_open l.set (drop l.lit-index l.clause) ≡ first_open l.set l.clause
+abbrev pub invariant-loop-code : goal.invariant-loop-code
+invariant-loop-code l = first_open l.set (lits_of (drop l.code-index l.codes)) ≡ first_open l.set (lits_of l.codes)

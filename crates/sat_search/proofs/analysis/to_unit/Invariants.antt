@@ -3,9 +3,9 @@ use Rattle.sat_search.specs.Trail.{lits, below}
 use Rattle.sat_search.specs.Analysis.{Derives, Level, Within}
 use Rattle.sat_search.proofs.analysis.to_unit.Given as goal
 
-abbrev pub invariant-loop-alloc : goal.invariant-loop-alloc
-invariant-loop-alloc l = Derives l.clauses l.trail l.learnt.lits.items (reverse l.learnt.hints.items)
+abbrev pub invariant-tracing : goal.invariant-tracing
+invariant-tracing l = Derives l.clauses l.trail l.learnt.lits.items (reverse l.learnt.hints.items)
     × Level (below l.fn.trail) l.trail l.learnt.lits.items × Within (lits l.trail) (lits l.fn.trail)
 
-abbrev pub decreases-loop-alloc : goal.decreases-loop-alloc
-decreases-loop-alloc l = length l.trail
+abbrev pub decreases-tracing : goal.decreases-tracing
+decreases-tracing l = length l.trail

@@ -1,8 +1,26 @@
 use Rattle.cnf_form.specs.Cnf.{AreClauses}
-use Rattle.std.proofs.Common.{arith, sym, subst}
-use Rattle.lrat_check.specs.Store.{held_of, AreHeld}
-use Rattle.lrat_check.proofs.Stores.{store_step, held_all, numbered_held}
-use Rattle.lrat_check.proofs.store.store_of.Goals as goal
+use Rattle.std.proofs.Common.{ap, arith, length, sym, subst, ◌∙◌}
+use Rattle.lrat_check.specs.Store.{held_of, literals, AreHeld}
+use Rattle.lrat_check.specs.Sets.{AreLits}
+use Rattle.lrat_check.proofs.Stores.{store_step, held_none, held_all, numbered_held}
+use Rattle.lrat_check.proofs.Holds.{clause_at}
+use Rattle.lrat_check.proofs.held.store_of.Goals as goal
+
+pub loop-clause-init : goal.loop-clause-init
+loop-clause-init c = (
+  omega arith,
+  held_none (held_of c.new-held.result)
+      (λ id. ap literals (c.new-held.ensures.held id)),
+  omega (arith, c.new-held.ensures.next),
+)
+
+pub put-requires-clause-lits : goal.put-requires-clause-lits
+put-requires-clause-lits c =
+    subst AreLits (sym c.as_slice.ensures)
+    (clause_at c.args.formula.now.vars c.clauses-clause-items.result.now c.loop-clause.clause-index
+    c.clause-item.result
+    (omega (arith, c.vars-vars.ensures.value, c.vars-vars.ensures.small)) c.clauses-clause-items.ensures.literals
+    c.loop-clause-test.true c.clause-item.is)
 
 pub loop-clause-preserved : goal.loop-clause-preserved
 loop-clause-preserved c = (
@@ -12,6 +30,7 @@ loop-clause-preserved c = (
       c.clause-item.result c.as_slice.result.now
       c.loop-clause.invariant.1 c.in_ok-put.ensures.ok c.loop-clause.invariant.0 c.loop-clause-test.true
       c.clause-item.is c.as_slice.ensures,
+  omega (arith, c.in_ok-put.ensures.next),
 )
 
 pub returns-clause-held : goal.returns-clause-held

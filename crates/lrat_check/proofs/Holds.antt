@@ -1,0 +1,57 @@
+-- Clauses as codes and as literals.
+use Rattle.std.proofs.Common.{◌≡◌, ℕ, zero, suc, ◌+◌, ◌^◌, ◌<◌, ◌≤◌, Bool, true, false, cond, eqb, List, [], ◌∷◌, ℤ}
+use Rattle.std.proofs.Common.{length, drop, get_or, w64, to_z, of_z, Option, Some, None, refl, ap, sym, subst, ◌∙◌}
+use Rattle.std.proofs.Common.{arith}
+use Rattle.std.specs.Prelude.{IsSome}
+use Rattle.std.proofs.lemmas.Bool.{false≢true}
+use Rattle.std.proofs.lemmas.Int.{to_z-of_z, fits_signed_from_abs}
+use mathlib.Core.Path.{fun_ext}
+use Rattle.cnf_form.specs.Cnf.{AreClauses}
+use Rattle.lrat_check.specs.Codes.{lit_of, codes_of, lits_of}
+use Rattle.lrat_check.specs.Sets.{IsLit, AreLits}
+use Rattle.lrat_check.specs.Steps.{Held, with_clause, without_clause}
+use Rattle.lrat_check.specs.Store.{Coded, with_code, without_code, literals, Removes, Forgets}
+use Rattle.lrat_check.proofs.Codes.{lits_codes}
+use Rattle.lrat_check.proofs.Stores.{lits_are}
+
+abbrev held : Coded → Held
+held f = λ i. literals (f i)
+
+module _ (f g : Coded) (id : ℕ) (lits : List ℤ) where
+  with_at : (t : Bool) (i : ℕ) → literals (cond t (Some (codes_of lits)) (f i)) ≡ cond t (Some lits) (literals (f i))
+  with_at true i = ap Some (lits_codes lits)
+  with_at false i = refl
+
+  pub adds : g ≡ with_code f id (codes_of lits) → held g ≡ with_clause (held f) id lits
+  adds e = fun_ext (λ i. ap (λ h. literals (h i)) e ∙ with_at (eqb id i) i)
+
+some_lits : (o : Option (List ℕ)) → IsSome o → IsSome (literals o)
+some_lits None s = absurd (false≢true s)
+some_lits (Some codes) s = refl
+
+module _ (f g : Coded) (id : ℕ) where
+  without_at : (t : Bool) (i : ℕ) → literals (cond t None (f i)) ≡ cond t None (literals (f i))
+  without_at true i = refl
+  without_at false i = refl
+
+  pub forgets : (was : Bool) → Removes f g id was → Forgets (held f) (held g) id was
+  forgets true h = (some_lits (f id) h.0, fun_ext (λ i. ap (λ k. literals (k i)) h.1 ∙ without_at (eqb id i) i))
+  forgets false h = ap literals h
+
+-- a code of a clause
+pub code_at : (codes : List ℕ) (i : ℕ) → AreLits (lits_of codes) → i < length codes → IsLit (lit_of (get_or codes i 0))
+code_at [] i a h = absurd (omega (arith, h))
+code_at (c ∷ cs) zero a h = a.0
+code_at (c ∷ cs) (suc i) a h = code_at cs i a.1 (omega (arith, h))
+
+-- a literal as it is passed on
+pub lit_passed : (l m : ℤ) → IsLit m → l ≡ m → IsLit (to_z w64 (of_z w64 l))
+lit_passed l m k e =
+    let f : IsLit l = subst IsLit (sym e) k in
+    subst IsLit (sym (to_z-of_z w64 l (fits_signed_from_abs w64 l f.1))) f
+
+pub clause_at : (vars : ℕ) (clauses : List (List ℤ)) (i : ℕ) (c : List ℤ) → vars < 2 ^ 63 → AreClauses vars clauses
+    → i < length clauses → c ≡ get_or clauses i c → AreLits c
+clause_at vars [] i c v a h e = absurd (omega (arith, h))
+clause_at vars (d ∷ ds) zero c v a h e = subst AreLits (sym e) (lits_are vars d v a.0)
+clause_at vars (d ∷ ds) (suc i) c v a h e = clause_at vars ds i c v a.1 (omega (arith, h)) e
