@@ -12,8 +12,8 @@ use Rattle.vl_size.proofs.Rest.{part_depth}
 use Rattle.vl_size.proofs.Falls.{select_depth}
 use Rattle.vl_mean.specs.declared.const_number.Const.{Const}
 use Rattle.vl_mean.specs.ConstantFaults.{wide, wides, capped}
-use Rattle.vl_size.specs.Size.{◌>>=◌, Cells, within, size, sizes, value, operand, index_of, vector_value, word_value}
-use Rattle.vl_size.specs.Size.{word_at}
+use Rattle.vl_size.specs.Size.{◌>>=◌, Cells, within, size, sizes, value, operand_of, index_of, vector_value}
+use Rattle.vl_size.specs.Size.{word_value, memory_word}
 
 -- where a part has no size, the whole has none
 bind_none : (o : Option ℕ) (f : ℕ → ℕ → Option ℕ) → (o >>= λ m. None >>= f m) ≡ None
@@ -62,8 +62,7 @@ pub three_values : (ds : List Decl) (v : Cells) (w : ℕ) (t : Bool) (d : Decl) 
     → word_value ds v w t d (selects ss) ≡ 0
 three_values ds v w t d [] h = absurd (omega arith)
 three_values ds v w t d (s.Bit p i ∷ ss) h =
-    two_values ds v w t d (word_at v d d.words
-    (index_of (operand (size ds i.value) (sign ds i.value) (λ m t. value ds v m t i.value)))) ss (omega arith)
+    two_values ds v w t d (memory_word v d d.words (index_of (operand_of ds v i.value))) ss (omega arith)
 three_values ds v w t d (s.Part p i j ∷ ss) h = refl
 three_values ds v w t d (s.Indexed p i j ∷ ss) h = refl
 

@@ -14,7 +14,7 @@ use mir.Syntax.{w128}
 use Rattle.fv_bits.proofs.Limits.{low_of_shifted}
 use Rattle.fv_bits.specs.Bits.{extended, is_negative, is_below_zero}
 use Rattle.vl_size.specs.declared.decl.Decl.{Decl}
-use Rattle.vl_size.specs.Size.{bit_at, bits_from, place_of, descends}
+use Rattle.vl_size.specs.Size.{bit_at, bits_from, offset_of, descends}
 use Rattle.vl_size.specs.Place.{is_near}
 
 next_negative : (k : ℕ) → negsuc (suc k) +ℤ pos 1 ≡ negsuc k
@@ -111,7 +111,7 @@ module _ (n w x : ℕ) (few_bits : n ≤ 128) (few : w ≤ 128) (r i : ℤ) (low
   far_up true s far = above_all n w x (r -ℤ i) few (grind (arith, s, far, low, high))
   far_up false s far = below_all n w x (r -ℤ i) few_bits (grind (arith, s, far, low, high))
 
-  pub far_place : (d : Decl) → d.right ≡ r → is_near i ≡ false → bits_from n w x (place_of d i) ≡ 0
+  pub far_place : (d : Decl) → d.right ≡ r → is_near i ≡ false → bits_from n w x (offset_of d i) ≡ 0
   far_place d e far = by (descends d)
     where
       by : (b : Bool) → bits_from n w x (if b then i -ℤ d.right else d.right -ℤ i) ≡ 0
@@ -166,8 +166,8 @@ apart_other (negsuc a) (pos b) e = grind arith
 pub ruleset apart = (apart_same, apart_other)
 
 pub no_more : (n w x : ℕ) (d : Decl) (i : ℤ)
-    → bits_from n w x (place_of d (i +ℤ pos 0)) ≡ bits_from n w x (place_of d i)
-no_more n w x d i = ap (λ j. bits_from n w x (place_of d j)) (+ℤ_idr i)
+    → bits_from n w x (offset_of d (i +ℤ pos 0)) ≡ bits_from n w x (offset_of d i)
+no_more n w x d i = ap (λ j. bits_from n w x (offset_of d j)) (+ℤ_idr i)
 
 pub not_near : (i : ℤ) → None ≡ (if is_near i then Some i else None) → is_near i ≡ false
 not_near i e = by (is_near i) e
@@ -185,7 +185,8 @@ is_index i j e = by (is_near i) e
 
 -- through the bits of the index and of its place
 pub through_bits : (n w x : ℕ) (d : Decl) (i j k : ℤ) (r : ℕ) → SFits w128 j → SFits w128 k → j ≡ i
-    → k ≡ place_of d (to_z w128 (of_z w128 j)) → r ≡ bits_from n w x (to_z w128 (of_z w128 k))
-    → r ≡ bits_from n w x (place_of d i)
+    → k ≡ offset_of d (to_z w128 (of_z w128 j)) → r ≡ bits_from n w x (to_z w128 (of_z w128 k))
+    → r ≡ bits_from n w x (offset_of d i)
 through_bits n w x d i j k r fits fits_too e p q =
-    q ∙ ap (λ h. bits_from n w x h) (to_z-of_z w128 k fits_too ∙ p ∙ ap (λ h. place_of d h) (to_z-of_z w128 j fits ∙ e))
+    q ∙ ap (λ h. bits_from n w x h) (to_z-of_z w128 k fits_too ∙ p
+    ∙ ap (λ h. offset_of d h) (to_z-of_z w128 j fits ∙ e))

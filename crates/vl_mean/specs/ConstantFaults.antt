@@ -30,13 +30,12 @@ use Rattle.vl_tree.specs.Expr.{
 use Rattle.vl_size.specs.declared.decl.Decl.{Decl}
 use Rattle.vl_size.specs.Divisors.{valid_size, own_zero_divisor, selects_zero_divisor}
 use Rattle.vl_size.specs.Places.{is_earlier}
-use Rattle.vl_size.specs.Size.{◌>>=◌, Cells, some_bits, unary_size, size_by, is_bound, index_of}
+use Rattle.vl_size.specs.Size.{◌>>=◌, Cells, some_bits, unary_size, size_by, is_bound, index_of, operand_of}
 use Rattle.vl_size.specs.Table.{span}
 use Rattle.vl_size.specs.Way.{way}
 use Rattle.vl_mean.specs.declared.const_number.Const.{Const}
 use Rattle.vl_mean.specs.declared.const_fault.ConstFault.{ConstFault}
 use Rattle.vl_mean.specs.declared.const_fault.ConstFault.TheVariants as f
-use Rattle.vl_mean.specs.Constants.{operand_in}
 
 -- of a fault that isn't want of memory
 abbrev pub UnlessMemory : ConstFault → Type 0 → Type 0
@@ -128,7 +127,7 @@ if_sized (Some n) x = x
 
 module _ (ds : List Decl) (v : Cells) where
   abbrev pub index : Expr → ℤ
-  index e = index_of (operand_in ds v e)
+  index e = index_of (operand_of ds v e)
 
   -- of a constant's first select
   abbrev pub wide_select : Selects → Option ℕ

@@ -30,7 +30,7 @@ use Rattle.vl_size.specs.declared.decl.Decl.{Decl}
 use Rattle.vl_size.specs.declared.decl.Class.TheVariants as class
 use Rattle.vl_size.specs.Sign.{sign}
 use Rattle.vl_size.specs.Divisors.{valid_size}
-use Rattle.vl_size.specs.Size.{Values, Cells, Operand, size, value, operand, no_names, cells_in}
+use Rattle.vl_size.specs.Size.{Values, Cells, Operand, value, operand_of, no_names, cells_in}
 use Rattle.vl_mean.specs.declared.const_number.Const.{Const}
 
 -- names with their constants; the first one of a name counts
@@ -141,14 +141,10 @@ module _ (constant : List ℕ → Option Const) where
     settled_selects (part p l r ss) = part p (settled l) (settled r) (settled_selects ss)
     settled_selects (indexed p s n ss) = indexed p (settled s) (settled n) (settled_selects ss)
 
--- an expression over declarations and values: its size and sign by itself, and its number in each context
-abbrev pub operand_in : List Decl → Cells → Expr → Operand
-operand_in ds v e = operand (size ds e) (sign ds e) (λ w s. value ds v w s e)
-
--- the same over constants too
+-- an expression over constants, declarations and values: its size and sign by itself, and its number in each context
 abbrev pub settled_operand : (List ℕ → Option Const) → List Decl → Cells → Expr → Operand
-settled_operand constant ds v e = operand_in ds v (settled constant e)
+settled_operand constant ds v e = operand_of ds v (settled constant e)
 
 -- over constants alone
-abbrev pub read_constant : (List ℕ → Option Const) → Expr → Operand
-read_constant constant e = settled_operand constant [] no_names e
+abbrev pub constant_operand : (List ℕ → Option Const) → Expr → Operand
+constant_operand constant e = settled_operand constant [] no_names e

@@ -30,14 +30,14 @@ use Rattle.vl_size.specs.Size.{Operand, own, index_of}
 use Rattle.vl_size.specs.Table.{span}
 use Rattle.vl_mean.specs.declared.const_number.Const.{Const}
 use Rattle.vl_mean.specs.Cells.{contains_name}
-use Rattle.vl_mean.specs.Constants.{Constants, cut_to, read_constant}
+use Rattle.vl_mean.specs.Constants.{Constants, cut_to, constant_operand}
 use Rattle.vl_mean.specs.Scopes.{Scope, constant_in}
 
 -- ---- ranges
 
 -- a bound, over constants
 abbrev pub bound_of : List Scope → Expr → ℤ
-bound_of ss e = index_of (read_constant (constant_in ss) e)
+bound_of ss e = index_of (constant_operand (constant_in ss) e)
 
 abbrev pub bounds_of : List Scope → Range → ℤ × ℤ
 bounds_of ss r = (bound_of ss r.left, bound_of ss r.right)
@@ -74,7 +74,7 @@ with_constants cs ss = record { path = []; decls = []; constants = cs } ∷ ss
 
 abbrev pub parameter_value : Overrides → List Scope → Parameter → Const
 parameter_value os ss x =
-    of_range ss x.shape.signed (override_or os x.name (read_constant (constant_in ss) x.value)) x.shape.range
+    of_range ss x.shape.signed (override_or os x.name (constant_operand (constant_in ss) x.value)) x.shape.range
 
 -- a parameter may use those before it
 abbrev pub with_parameters : Overrides → List Scope → Constants → List Parameter → Constants

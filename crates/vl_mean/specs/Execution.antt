@@ -26,7 +26,7 @@ use Rattle.vl_tree.specs.Stmt.{
 }
 use Rattle.fv_bits.specs.Bits.{extended}
 use Rattle.vl_size.specs.Size.{Values, own, is_true}
-use Rattle.vl_mean.specs.Scopes.{Scope, read, no_values}
+use Rattle.vl_mean.specs.Scopes.{Scope, operand_in, no_values}
 use Rattle.vl_mean.specs.Targets.{Write, spots, written, put_all, may_change}
 
 -- in the midst of a block: the values of full names, the bits that wait for the block's end, and what was assumed
@@ -52,7 +52,7 @@ wild_bits kind w s e = 0
 -- larger of both sizes: section 5.4
 abbrev pub assigned : List Scope → Lval → List Scope → Expr → Values → List Write
 assigned ts l ss e v =
-    let bits = spots ts v l in let x = read ss v e in written bits (x.at (max (length bits) x.size) x.sign)
+    let bits = spots ts v l in let x = operand_in ss v e in written bits (x.at (max (length bits) x.size) x.sign)
 
 module _ (ss : List Scope) where
   -- ---- labels of a case: section 9.5
@@ -60,11 +60,11 @@ module _ (ss : List Scope) where
   -- the largest size, and whether all are signed; neither needs values
   abbrev pub labels_size : List Expr → ℕ
   labels_size [] = 0
-  labels_size (e ∷ es) = max (read ss no_values e).size (labels_size es)
+  labels_size (e ∷ es) = max (operand_in ss no_values e).size (labels_size es)
 
   abbrev pub labels_sign : List Expr → Bool
   labels_sign [] = true
-  labels_sign (e ∷ es) = (read ss no_values e).sign && labels_sign es
+  labels_sign (e ∷ es) = (operand_in ss no_values e).sign && labels_sign es
 
   abbrev pub arms_size : Arms → ℕ
   arms_size no_arms = 0
@@ -81,22 +81,22 @@ module _ (ss : List Scope) where
   matches kind v w s x [] = false
   matches kind v w s x (e ∷ es) =
       let wild = wild_bits kind w s e in
-      (bit_or ((read ss v e).at w s) wild == bit_or x wild) || matches kind v w s x es
+      (bit_or ((operand_in ss v e).at w s) wild == bit_or x wild) || matches kind v w s x es
 
   abbrev mutual
     pub exec : Stmt → State → State
     exec (begin attrs p label xs) t = exec_all xs t
-    exec (if_only attrs p e x) t = let done = exec x t in if is_true (read ss t.now e) then done else t
+    exec (if_only attrs p e x) t = let done = exec x t in if is_true (operand_in ss t.now e) then done else t
     exec (if_else attrs p e x y) t =
-        let first = exec x t in let second = exec y t in if is_true (read ss t.now e) then first else second
+        let first = exec x t in let second = exec y t in if is_true (operand_in ss t.now e) then first else second
     exec (case attrs p kind e arms) t =
-        let x = read ss t.now e in
+        let x = operand_in ss t.now e in
         let w = max x.size (arms_size arms) in
         let s = x.sign && arms_sign arms in
         pick arms (λ es. matches kind t.now w s (x.at w s) es) (λ u. otherwise arms u) t
     exec (assign attrs p l a.Blocking e) t = record t { now = put_all (assigned ss l ss e t.now) t.now }
     exec (assign attrs p l a.Nonblocking e) t = record t { pending = t.pending ++ assigned ss l ss e t.now }
-    exec (assume attrs p e) t = record t { seen = t.seen ++ own (read ss t.now e) ∷ [] }
+    exec (assume attrs p e) t = record t { seen = t.seen ++ own (operand_in ss t.now e) ∷ [] }
     exec (empty attrs p) t = t
 
     pub exec_all : Stmts → State → State

@@ -50,15 +50,13 @@ use Rattle.vl_size.specs.declared.context.Context.{Context}
 use Rattle.vl_size.specs.Divisors.{own_context, zero_divisor}
 use Rattle.vl_size.specs.Sign.{sign}
 use Rattle.vl_size.specs.Size.{size, or_none, is_bound}
-use Rattle.vl_size.specs.Table as table
-use Rattle.vl_size.specs.Table.{span}
+use Rattle.vl_size.specs.Table.{declared_as, span}
 use Rattle.vl_mean.specs.declared.driver.Driver.{Driver}
 use Rattle.vl_mean.specs.declared.driver.DriverKind.{DriverKind}
 use Rattle.vl_mean.specs.declared.driver.DriverKind.TheVariants as k
 use Rattle.vl_mean.specs.declared.driver.Start.{Start}
 use Rattle.vl_mean.specs.Execution.{arms_size, arms_sign}
-use Rattle.vl_mean.specs.Parts.{is_clock_decl}
-use Rattle.vl_mean.specs.Scopes.{Scope}
+use Rattle.vl_mean.specs.Scopes.{Scope, is_clock_decl}
 use Rattle.vl_mean.specs.Targets.{is_decl, are_fixed}
 
 -- the one scope of such a design, in which each name is a full name
@@ -202,7 +200,7 @@ node_count (d ∷ ds) xs = driver_nodes d.what + node_count ds xs
 pub record IsReadIn (ds : List Decl) (c : Context) (e : Expr) : Type 0 where
   pub sized : IsSome (size ds e)
   pub divided : is_none (zero_divisor ds c e) ≡ true
-  pub clockless : All (λ text. is_clock_decl (table.named ds text) ≡ false) (names_in e)
+  pub clockless : All (λ text. is_clock_decl (declared_as ds text) ≡ false) (names_in e)
 
 -- one that has its own size and sign
 abbrev pub IsRead : List Decl → Expr → Type 0
@@ -213,7 +211,7 @@ module _ (ds : List Decl) where
   abbrev mutual
     pub IsTarget : (Decl → Bool) → Bool → Lval → Type 0
     IsTarget may fixed (named p text ss) =
-        IsRead ds (name p text ss) × (is_decl (table.named ds text) may ≡ true)
+        IsRead ds (name p text ss) × (is_decl (declared_as ds text) may ≡ true)
         × ((not fixed || are_fixed (flat_scopes ds) ss) ≡ true)
     IsTarget may fixed (joined p ls) = AreTargets may fixed ls
 

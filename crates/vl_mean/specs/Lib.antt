@@ -4,6 +4,7 @@ pub mod Scopes
 pub mod Targets
 pub mod Execution
 pub mod Declarations
+pub mod Walk
 pub mod Parts
 pub mod Runs
 pub mod FlatLaw

@@ -55,7 +55,7 @@ EachBit P d = Each (λ text. EachBelow (λ k. P text k) d.width) (cells d)
 
 -- each bit has the value that is written
 abbrev pub Meets : Values → List Write → Type 0
-Meets v ws = Each (λ w. bit_of (v w.spot.name) w.spot.bit ≡ w.value) ws
+Meets v ws = Each (λ w. bit_of (v w.spot.name) w.spot.offset ≡ w.value) ws
 
 -- P of each declared name, the full one
 abbrev pub EachDeclared : (Decl → Type 0) → List Part → Type 0
@@ -162,7 +162,7 @@ initial_writes (starts ss l e ∷ ps) = assigned ss l ss e no_values ++ initial_
 initial_writes (p ∷ ps) = initial_writes ps
 
 abbrev pub is_spot : Write → List ℕ → ℕ → Bool
-is_spot w n k = bytes_eq n w.spot.name && (k == w.spot.bit)
+is_spot w n k = bytes_eq n w.spot.name && (k == w.spot.offset)
 
 abbrev pub later_or : Option ℕ → Option ℕ → Option ℕ
 later_or (Some x) earlier = Some x

@@ -2,10 +2,12 @@
 -- innermost scope that declares it declares, and a full name joins the names of the scopes by dots. The top module's
 -- name stays out of it: a rule of this project.
 use Rattle.std.specs.Prelude.{ℕ, List, [], ◌∷◌, ◌++◌, Bool, true, false, Option, Some, None, if◌then◌else◌}
-use Rattle.vl_tree.specs.Expr.{Expr}
+use Rattle.vl_tree.specs.Expr.{Expr, name, whole}
+use Rattle.vl_size.specs.declared.decl.Class.{Class}
+use Rattle.vl_size.specs.declared.decl.Class.TheVariants as class
 use Rattle.vl_size.specs.declared.decl.Decl.{Decl}
 use Rattle.vl_size.specs.Size.{Values, Operand, cell_name}
-use Rattle.vl_size.specs.Table.{is_declared, named}
+use Rattle.vl_size.specs.Table.{is_declared, declared_as}
 use Rattle.vl_mean.specs.declared.const_number.Const.{Const}
 use Rattle.vl_mean.specs.Constants.{Constants, constant_of, settled_operand}
 
@@ -43,7 +45,24 @@ unless_constant (Some c) d = None
 
 -- the net or variable that a name means; None where it means a constant
 abbrev pub declared_in : List Scope → List ℕ → Option Decl
-declared_in ss text = unless_constant (constant_in ss text) (named (visible ss) text)
+declared_in ss text = unless_constant (constant_in ss text) (declared_as (visible ss) text)
+
+-- ---- the clock: it has no number
+
+abbrev pub is_clock_class : Class → Bool
+is_clock_class class.Clock = true
+is_clock_class c = false
+
+abbrev pub is_clock_decl : Option Decl → Bool
+is_clock_decl None = false
+is_clock_decl (Some d) = is_clock_class d.class
+
+-- the clock, by its plain name
+abbrev pub is_clock : List Scope → Option Expr → Bool
+is_clock ss (Some (name p text whole)) = is_clock_decl (declared_in ss text)
+is_clock ss e = false
+
+-- ---- expressions
 
 -- each name has the number 0
 abbrev pub no_values : Values
@@ -51,5 +70,5 @@ no_values text = 0
 
 -- an expression in scopes: its size and sign by itself, and its number in each context, over the values of full
 -- names; a memory's word has the index behind the memory's full name
-abbrev pub read : List Scope → Values → Expr → Operand
-read ss v e = settled_operand (constant_in ss) (visible ss) (λ text index. v (cell_name (full ss text) index)) e
+abbrev pub operand_in : List Scope → Values → Expr → Operand
+operand_in ss v e = settled_operand (constant_in ss) (visible ss) (λ text index. v (cell_name (full ss text) index)) e

@@ -6,16 +6,16 @@ use Rattle.std.specs.Prelude.{nat_abs, bytes_eq, if◌then◌else◌}
 use Rattle.vl_tree.specs.Expr.{Selects, whole, bit, part, indexed}
 use Rattle.vl_tree.specs.Lval.{Lval, Lvals, named, joined, no_lvals, more_lvals}
 use Rattle.vl_size.specs.declared.decl.Decl.{Decl}
-use Rattle.vl_size.specs.Size.{Values, index_of, place_of, start_of, is_constant}
+use Rattle.vl_size.specs.Size.{Values, index_of, offset_of, start_of, is_constant}
 use Rattle.vl_size.specs.Table.{span, is_between, word_name}
 use Rattle.vl_mean.specs.Constants.{settled}
 use Rattle.vl_mean.specs.Cells.{is_cell}
-use Rattle.vl_mean.specs.Scopes.{Scope, full, constant_in, declared_in, read, no_values}
+use Rattle.vl_mean.specs.Scopes.{Scope, full, constant_in, declared_in, operand_in, no_values}
 
 -- a bit of a full name, counted from its lowest
 pub record Spot : Type 0 where
   pub name : List ℕ
-  pub bit : ℕ
+  pub offset : ℕ
 
 -- a bit and its new value
 pub record Write : Type 0 where
@@ -31,7 +31,7 @@ abbrev pub with_bit : ℕ → ℕ → ℕ → ℕ
 with_bit x k b = x - bit_of x k * 2 ^ k + b * 2 ^ k
 
 abbrev pub put : Write → Values → Values
-put w v text = if bytes_eq text w.spot.name then with_bit (v text) w.spot.bit w.value else v text
+put w v text = if bytes_eq text w.spot.name then with_bit (v text) w.spot.offset w.value else v text
 
 -- one after the other, so the last one to a bit wins
 abbrev pub put_all : List Write → Values → Values
@@ -43,7 +43,7 @@ put_all (w ∷ ws) v = put_all ws (put w v)
 -- a bit of a vector of w bits
 abbrev pub spot_at : ℕ → Option (List ℕ) → ℤ → Option Spot
 spot_at w None i = None
-spot_at w (Some text) (pos k) = if nat_lt k w then Some (record { name = text; bit = k }) else None
+spot_at w (Some text) (pos k) = if nat_lt k w then Some (record { name = text; offset = k }) else None
 spot_at w (Some text) (negsuc k) = None
 
 -- n bits of it, from a place on upwards
@@ -79,24 +79,25 @@ written (Some s ∷ spots) x = record { spot = s; value = bit_of x (length spots
 abbrev pub has_spot : List ℕ → ℕ → List (Option Spot) → Bool
 has_spot n k [] = false
 has_spot n k (None ∷ spots) = has_spot n k spots
-has_spot n k (Some s ∷ spots) = (bytes_eq n s.name && (k == s.bit)) || has_spot n k spots
+has_spot n k (Some s ∷ spots) = (bytes_eq n s.name && (k == s.offset)) || has_spot n k spots
 
 module _ (ss : List Scope) where
   -- of a vector
   abbrev pub vector_spots : Values → Decl → Option (List ℕ) → Selects → List (Option Spot)
   vector_spots v d text whole = spots_from d.width d.width text (pos 0)
-  vector_spots v d text (bit p i whole) = spots_from 1 d.width text (place_of d (index_of (read ss v i)))
+  vector_spots v d text (bit p i whole) = spots_from 1 d.width text (offset_of d (index_of (operand_in ss v i)))
   vector_spots v d text (part p l r whole) =
-      let low_end = index_of (read ss v r) in
-      spots_from (span (index_of (read ss v l)) low_end) d.width text (place_of d low_end)
+      let low_end = index_of (operand_in ss v r) in
+      spots_from (span (index_of (operand_in ss v l)) low_end) d.width text (offset_of d low_end)
   vector_spots v d text (indexed p s n whole) =
-      let k = nat_abs (index_of (read ss v n)) in spots_from k d.width text (start_of d (index_of (read ss v s)) k)
+      let k = nat_abs (index_of (operand_in ss v n))
+      in spots_from k d.width text (start_of d (index_of (operand_in ss v s)) k)
   vector_spots v d text xs = []
 
   -- of a memory: a word, or a part of it
   abbrev pub word_spots : Values → Decl → Selects → List (Option Spot)
   word_spots v d (bit p i xs) =
-      vector_spots v d (full_word (full ss d.name) (word_index d.words (index_of (read ss v i)))) xs
+      vector_spots v d (full_word (full ss d.name) (word_index d.words (index_of (operand_in ss v i)))) xs
   word_spots v d xs = []
 
   abbrev pub name_spots : Values → List ℕ → Selects → List (Option Spot)

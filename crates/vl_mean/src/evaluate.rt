@@ -8,7 +8,6 @@ ghost use Rattle.vl_size.specs.Sign.{sign};
 ghost use Rattle.vl_size.specs.Size as spec;
 ghost use Rattle.vl_size.specs.Size.{or_none, some_bits};
 ghost use Rattle.vl_size.specs.Way.{way};
-ghost use Rattle.vl_mean.specs.Constants.{operand_in};
 ghost use Rattle.vl_mean.specs.Env.{cells_of};
 
 use crate::env::Env;
@@ -67,7 +66,7 @@ pub fn value(expr: &Expr, width: u32, signed: bool, env: &Env) -> u128
 #[cycle(value)]
 fn unary_value(operator: UnaryOperator, operand: &Expr, width: u32, signed: bool, env: &Env) -> u128
     requires { width ≤ 128 }
-    ensures value { let x = operand_in env.now.decls (cells_of env.now) operand.now in
+    ensures value { let x = spec.operand_of env.now.decls (cells_of env.now) operand.now in
         result ≡ spec.unary_number operator width signed x }
     ensures fits { result < 2 ^ width }
 {
@@ -97,8 +96,8 @@ fn binary_value(
     env: &Env,
 ) -> u128
     requires { width ≤ 128 }
-    ensures value { let x = operand_in env.now.decls (cells_of env.now) left.now in
-        let y = operand_in env.now.decls (cells_of env.now) right.now in
+    ensures value { let x = spec.operand_of env.now.decls (cells_of env.now) left.now in
+        let y = spec.operand_of env.now.decls (cells_of env.now) right.now in
         result ≡ spec.binary_number (way operator) operator width signed x y }
     ensures fits { result < 2 ^ width }
 {
@@ -136,8 +135,8 @@ fn binary_value(
 /// Both operands at the larger of their sizes, signed where both are; of `&&` and `||` each by itself.
 #[cycle(value)]
 fn tested(operator: BinaryOperator, left: &Expr, right: &Expr, env: &Env) -> bool
-    ensures { let x = operand_in env.now.decls (cells_of env.now) left.now in
-        let y = operand_in env.now.decls (cells_of env.now) right.now in
+    ensures { let x = spec.operand_of env.now.decls (cells_of env.now) left.now in
+        let y = spec.operand_of env.now.decls (cells_of env.now) right.now in
         result ≡ spec.tested operator x y }
 {
     match operator {
@@ -167,7 +166,7 @@ pub(crate) fn own_size(expr: &Expr, env: &Env) -> u32
 /// Whether the value by itself isn't 0.
 #[cycle(value)]
 fn is_true(expr: &Expr, env: &Env) -> bool
-    ensures { result ≡ spec.is_true (operand_in env.now.decls (cells_of env.now) expr.now) }
+    ensures { result ≡ spec.is_true (spec.operand_of env.now.decls (cells_of env.now) expr.now) }
 {
     own(expr, env).number != 0
 }
@@ -179,7 +178,7 @@ pub(crate) fn own(expr: &Expr, env: &Env) -> Own
     ensures signed { result.signed ≡ sign env.now.decls expr.now }
     ensures number { result.number ≡ spec.value env.now.decls (cells_of env.now) result.width result.signed expr.now }
     ensures index { as_int result.width result.signed result.number
-        ≡ spec.index_of (operand_in env.now.decls (cells_of env.now) expr.now) }
+        ≡ spec.index_of (spec.operand_of env.now.decls (cells_of env.now) expr.now) }
 {
     let width = own_size(expr, env);
     let signed = sign_of(expr, &env.decls);
@@ -196,7 +195,8 @@ pub(crate) fn own(expr: &Expr, env: &Env) -> Own
 #[tactic(auto, using(crate::proofs::Joined::parts))]
 fn joined(all: &[Expr], env: &Env) -> Option<Own>
     ensures sizes { option_map (λ own. own.width) result ≡ some_bits (spec.sizes env.now.decls (exprs all.now)) }
-    ensures value { IfSome result (λ own. own.number ≡ spec.joined env.now.decls (cells_of env.now) (exprs all.now)) }
+    ensures value { IfSome result (λ own. own.number
+        ≡ spec.concatenated env.now.decls (cells_of env.now) (exprs all.now)) }
     ensures some { IfSome result (λ own. 1 ≤ own.width) }
 {
     let mut width = 0;

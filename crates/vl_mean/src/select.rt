@@ -63,7 +63,7 @@ fn bits_after(decl: &Decl, count: u32, number: u128, index: Own, more: u128) -> 
     requires count { count ≤ 128 }
     requires width { decl.now.width ≤ 128 }
     ensures value { let i = as_int index.width index.signed index.number +ℤ pos more in
-        result ≡ spec.bits_from count decl.now.width number (spec.place_of decl.now i) }
+        result ≡ spec.bits_from count decl.now.width number (spec.offset_of decl.now i) }
     ensures fits { result < 2 ^ count }
 {
     let right = right_of(decl);
@@ -87,7 +87,7 @@ fn place_of(decl: &Decl, index: i128, right: i64) -> i128
     requires low { neg_ℤ (pos (2 ^ 100)) ≤ℤ index }
     requires high { index <ℤ pos (2 ^ 100) }
     requires right { right ≡ decl.now.right }
-    ensures { result ≡ spec.place_of decl.now index }
+    ensures { result ≡ spec.offset_of decl.now index }
 {
     if right <= decl.left {
         index - i128::from(right)
@@ -102,7 +102,7 @@ fn bits_at(decl: &Decl, count: u32, number: u128, index: Own) -> u128
     requires count { count ≤ 128 }
     requires width { decl.now.width ≤ 128 }
     ensures value { let i = as_int index.width index.signed index.number in
-        result ≡ spec.bits_from count decl.now.width number (spec.place_of decl.now i) }
+        result ≡ spec.bits_from count decl.now.width number (spec.offset_of decl.now i) }
     ensures fits { result < 2 ^ count }
 {
     bits_after(decl, count, number, index, 0)
@@ -133,7 +133,7 @@ pub(crate) fn part(decl: &Decl, number: u128, left: Own, right: Own) -> Own
         let r = as_int right.width right.signed right.number in
         result.width ≡ min (table.span l r) 128 }
     ensures number { let r = as_int right.width right.signed right.number in
-        result.number ≡ spec.bits_from result.width decl.now.width number (spec.place_of decl.now r) }
+        result.number ≡ spec.bits_from result.width decl.now.width number (spec.offset_of decl.now r) }
 {
     let width = span(left, right);
     Own {

@@ -62,7 +62,7 @@ impl Env {
     /// The number of a memory's word; 0 past its bounds.
     pub(crate) fn word(&self, memory: &Decl, index: Own) -> u128
         ensures { let i = as_int index.width index.signed index.number in
-            result ≡ spec.word_at (cells_of self.now) memory.now memory.now.words i }
+            result ≡ spec.memory_word (cells_of self.now) memory.now memory.now.words i }
     {
         let Some((left, right)) = memory.words else {
             return 0;

@@ -14,7 +14,7 @@ use Rattle.std.proofs.lemmas.Slice.Eq.{bytes_eq-Decides}
 use Rattle.std.proofs.lemmas.Bool.Decides.{same_from_decides, Decides-like}
 use Rattle.vl_size.specs.declared.decl.Decl.{Decl}
 use Rattle.vl_size.specs.Entries.{Entry, AreKeyed, IsTable, decls_of}
-use Rattle.vl_size.specs.Table.{is_declared, place, named, AreDifferent, IsShaped, AreApart}
+use Rattle.vl_size.specs.Table.{is_declared, place, declared_as, AreDifferent, IsShaped, AreApart}
 
 abbrev bytes_of : Vec ℕ Global → List ℕ
 bytes_of k = k.items
@@ -104,17 +104,17 @@ table-after (Err x) old new e p q before after = subst IsTable (sym q) before
 
 -- what the map has at a name is the declaration of the name
 pub named-keyed : (name : List ℕ) (es : List Entry) → AreKeyed es
-    → lookup (λ k. bytes_eq name (bytes_of k)) es ≡ named (decls_of es) name
+    → lookup (λ k. bytes_eq name (bytes_of k)) es ≡ declared_as (decls_of es) name
 named-keyed name [] h = refl
 named-keyed name (e ∷ es) h = λ i. cond (bytes_eq name (h.0 i)) (Some e.1) (named-keyed name es h.1 i)
 
 -- a name has a declaration where it is declared
-pub named_declared : (ds : List Decl) (name : List ℕ) → is_some (named ds name) ≡ is_declared ds name
+pub named_declared : (ds : List Decl) (name : List ℕ) → is_some (declared_as ds name) ≡ is_declared ds name
 named_declared [] name = refl
 named_declared (d ∷ ds) name = by (bytes_eq name d.name) (named_declared ds name)
   where
-    by : (b : Bool) → is_some (named ds name) ≡ is_declared ds name
-        → is_some (cond b (Some d) (named ds name)) ≡ (b || is_declared ds name)
+    by : (b : Bool) → is_some (declared_as ds name) ≡ is_declared ds name
+        → is_some (cond b (Some d) (declared_as ds name)) ≡ (b || is_declared ds name)
     by true h = refl
     by false h = h
 
@@ -123,11 +123,12 @@ copied_some None = refl
 copied_some (Some x) = refl
 
 -- what holds of each declaration holds of that of a name
-pub named_shaped : (name : List ℕ) (ds : List Decl) → All IsShaped ds → IfSome (named ds name) IsShaped
+pub named_shaped : (name : List ℕ) (ds : List Decl) → All IsShaped ds → IfSome (declared_as ds name) IsShaped
 named_shaped name [] h = tt
 named_shaped name (d ∷ ds) h =
     by (bytes_eq name d.name) (All-head IsShaped d ds h) (named_shaped name ds (All-tail IsShaped d ds h))
   where
-    by : (b : Bool) → IsShaped d → IfSome (named ds name) IsShaped → IfSome (cond b (Some d) (named ds name)) IsShaped
+    by : (b : Bool) → IsShaped d → IfSome (declared_as ds name) IsShaped
+        → IfSome (cond b (Some d) (declared_as ds name)) IsShaped
     by true h k = h
     by false h k = k

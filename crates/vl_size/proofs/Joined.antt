@@ -6,14 +6,15 @@ use Rattle.std.proofs.lemmas.Nat.{pow-add}
 use Rattle.vl_tree.specs.Expr.{Expr, Exprs, none, more}
 use Rattle.vl_size.specs.declared.decl.Decl.{Decl}
 use Rattle.vl_size.specs.Sign.{sign}
-use Rattle.vl_size.specs.Size.{◌>>=◌, within, or_none, no_names, size, sizes, value, joined}
+use Rattle.vl_size.specs.Size.{◌>>=◌, within, or_none, no_names, size, sizes, value, concatenated}
 use Rattle.vl_size.proofs.Rest.{with_rest, with_rest_is, with_rest-end, within_near, within_some}
 
 -- what is joined so far, with the parts that are left, where they have a size
 abbrev pub Joins : List Decl → Option ℕ → ℕ → Exprs → ℕ → Type 0
-Joins ds all number es whole = IfSome all (λ m. number * 2 ^ or_none (sizes ds es) + joined ds no_names es ≡ whole)
+Joins ds all number es whole =
+    IfSome all (λ m. number * 2 ^ or_none (sizes ds es) + concatenated ds no_names es ≡ whole)
 
-pub joins_first : (ds : List Decl) (all : Option ℕ) (es : Exprs) → Joins ds all 0 es (joined ds no_names es)
+pub joins_first : (ds : List Decl) (all : Option ℕ) (es : Exprs) → Joins ds all 0 es (concatenated ds no_names es)
 joins_first ds None es = tt
 joins_first ds (Some m) es = omega arith
 
@@ -59,11 +60,11 @@ joins_on_some ds t s m k number x whole e es sized k_is few x_is h j =
     let all_is : sizes ds (more e es) ≡ Some (m + n) =
     ap (λ o. o >>= λ m. sizes ds es >>= λ n. within (m + n)) sized ∙ ap (λ o. o >>= λ n. within (m + n)) left.1
     ∙ within_near (m + n) (omega (arith, left.2)) in
-    ap (λ o. (number * 2 ^ m + x) * 2 ^ or_none o + joined ds no_names es) left.1
-    ∙ moved number x (value ds no_names (or_none (size ds e)) (sign ds e) e) m n (joined ds no_names es) own_is
+    ap (λ o. (number * 2 ^ m + x) * 2 ^ or_none o + concatenated ds no_names es) left.1
+    ∙ moved number x (value ds no_names (or_none (size ds e)) (sign ds e) e) m n (concatenated ds no_names es) own_is
     ∙ ap (λ o. number * 2 ^ (m + n) + (value ds no_names (or_none (size ds e)) (sign ds e) e * 2 ^ or_none o
-    + joined ds no_names es)) (sym left.1)
-    ∙ ap (λ o. number * 2 ^ or_none o + joined ds no_names (more e es)) (sym all_is)
+    + concatenated ds no_names es)) (sym left.1)
+    ∙ ap (λ o. number * 2 ^ or_none o + concatenated ds no_names (more e es)) (sym all_is)
     ∙ j
 
 pub joins_on : (ds : List Decl) (all : Option ℕ) (s m k number x whole : ℕ) (e : Expr) (es : Exprs)

@@ -13,10 +13,10 @@ use Rattle.vl_tree.specs.Expr.{Expr, Selects, name, whole, bit, part, indexed}
 use Rattle.vl_tree.specs.ExprView.{selects}
 use Rattle.fv_bits.specs.Bits.{extended}
 use Rattle.vl_size.specs.declared.decl.Decl.{Decl}
-use Rattle.vl_size.specs.Table.{named, span, is_between}
+use Rattle.vl_size.specs.Table.{declared_as, span, is_between}
 use Rattle.vl_size.specs.Sign.{sign}
-use Rattle.vl_size.specs.Size.{◌>>=◌, with_decl, no_names, bit_at, bits_from, word_at, index_of, operand, place_of}
-use Rattle.vl_size.specs.Size.{start_of, size, vector_size, word_size, value, vector_value, word_value}
+use Rattle.vl_size.specs.Size.{◌>>=◌, with_decl, no_names, bit_at, bits_from, memory_word, index_of, operand_of}
+use Rattle.vl_size.specs.Size.{offset_of, start_of, size, vector_size, word_size, value, vector_value, word_value}
 
 pub two_selects : (ds : List Decl) (d : Decl) (ss : List Select) → 2 ≤ length ss → vector_size ds d (selects ss) ≡ None
 two_selects ds d [] h = absurd (omega arith)
@@ -67,15 +67,16 @@ bits_from_0 (suc n) w i = omega (arith, bit_at_0 w i, bits_from_0 n w (i +ℤ po
 
 -- the number of an index
 abbrev idx : List Decl → Expr → ℤ
-idx ds e = index_of (operand (size ds e) (sign ds e) (λ m t. value ds no_names m t e))
+idx ds e = index_of (operand_of ds no_names e)
 
 vector_0 : (ds : List Decl) (w : ℕ) (t : Bool) (d : Decl) (ss : Selects) → vector_value ds no_names w t d 0 ss ≡ 0
 vector_0 ds w t d whole = extended_0 d.width w t
 vector_0 ds w t d (bit p i whole) =
-    extended_of_0 1 w t (bit_at d.width 0 (place_of d (idx ds i))) (bit_at_0 d.width (place_of d (idx ds i)))
+    extended_of_0 1 w t (bit_at d.width 0 (offset_of d (idx ds i))) (bit_at_0 d.width (offset_of d (idx ds i)))
 vector_0 ds w t d (part p l r whole) =
     let n = span (idx ds l) (idx ds r) in
-    extended_of_0 n w t (bits_from n d.width 0 (place_of d (idx ds r))) (bits_from_0 n d.width (place_of d (idx ds r)))
+    extended_of_0 n w t (bits_from n d.width 0 (offset_of d (idx ds r)))
+    (bits_from_0 n d.width (offset_of d (idx ds r)))
 vector_0 ds w t d (indexed p i n whole) =
     let k = nat_abs (idx ds n) in
     extended_of_0 k w t (bits_from k d.width 0 (start_of d (idx ds i) k))
@@ -90,7 +91,7 @@ vector_0 ds w t d (indexed p i l (bit q j ss)) = refl
 vector_0 ds w t d (indexed p i l (part q j k ss)) = refl
 vector_0 ds w t d (indexed p i l (indexed q j k ss)) = refl
 
-word_at_0 : (d : Decl) (words : Option (ℤ × ℤ)) (i : ℤ) → word_at no_names d words i ≡ 0
+word_at_0 : (d : Decl) (words : Option (ℤ × ℤ)) (i : ℤ) → memory_word no_names d words i ≡ 0
 word_at_0 d None i = refl
 word_at_0 d (Some bounds) i = by (is_between bounds.0 bounds.1 i) 0 refl
   where
@@ -108,7 +109,7 @@ word_0 ds w t d (indexed p l r ss) = refl
 -- a name counts as 0
 pub name_0 : (ds : List Decl) (w : ℕ) (t : Bool) (p : Pos) (text : List ℕ) (ss : Selects)
     → value ds no_names w t (name p text ss) ≡ 0
-name_0 ds w t p text ss = at (named ds text)
+name_0 ds w t p text ss = at (declared_as ds text)
   where
     by : (d : Decl) (b : Bool) → (if b then vector_value ds no_names w t d 0 ss else word_value ds no_names w t d ss)
         ≡ 0

@@ -8,7 +8,7 @@ use Rattle.vl_tree.specs.declared.operator.Cast.TheVariants as c
 use Rattle.vl_tree.specs.Expr.{Expr, Selects, number, name, paren, unary, binary, conditional, concat, repeat, cast}
 use Rattle.vl_tree.specs.Expr.{whole, bit}
 use Rattle.vl_size.specs.declared.decl.Decl.{Decl}
-use Rattle.vl_size.specs.Table.{named}
+use Rattle.vl_size.specs.Table.{declared_as}
 
 -- all context operands are signed; a shift has the sign of its left operand
 abbrev pub sign_by : Way → Bool → Bool → Bool
@@ -41,7 +41,7 @@ cast_sign c.Unsigned = false
 module _ (ds : List Decl) where
   abbrev pub sign : Expr → Bool
   sign (number p n) = n.signed
-  sign (name p text ss) = declared_sign (named ds text) ss
+  sign (name p text ss) = declared_sign (declared_as ds text) ss
   sign (paren p x) = sign x
   sign (unary p op x) = keeps_size op && sign x
   sign (binary p op x y) = sign_by (way op) (sign x) (sign y)

@@ -35,7 +35,7 @@ use Rattle.vl_size.specs.declared.way.Way.{Way}
 use Rattle.vl_size.specs.declared.way.Way.TheVariants as w
 use Rattle.vl_size.specs.Way.{way, keeps_size}
 use Rattle.vl_size.specs.Sign.{sign}
-use Rattle.vl_size.specs.Table.{named, span, is_between, word_name}
+use Rattle.vl_size.specs.Table.{declared_as, span, is_between, word_name}
 
 -- numbers by name; of a memory, by the names of its words
 abbrev pub Values : Type 0
@@ -154,8 +154,8 @@ times (negsuc n) k = None
 -- ---- selects
 
 -- the place of an index in a vector, counted from its lowest bit
-abbrev pub place_of : Decl → ℤ → ℤ
-place_of d i = if descends d then i -ℤ d.right else d.right -ℤ i
+abbrev pub offset_of : Decl → ℤ → ℤ
+offset_of d i = if descends d then i -ℤ d.right else d.right -ℤ i
 
 -- the bit at a place; past the vector it is 0
 abbrev pub bit_at : ℕ → ℕ → ℤ → ℕ
@@ -169,12 +169,12 @@ bits_from (suc n) w x i = bit_at w x i + 2 * bits_from n w x (i +ℤ pos 1)
 
 -- where the part `[s +: n]` of a vector begins, counted from its lowest bit
 abbrev pub start_of : Decl → ℤ → ℕ → ℤ
-start_of d s n = if descends d then place_of d s else place_of d (s +ℤ pos (n - 1))
+start_of d s n = if descends d then offset_of d s else offset_of d (s +ℤ pos (n - 1))
 
 -- a memory's word; past its bounds it is 0
-abbrev pub word_at : Cells → Decl → Option (ℤ × ℤ) → ℤ → ℕ
-word_at v d None i = 0
-word_at v d (Some bounds) i = if is_between bounds.0 bounds.1 i then v d.name (Some i) else 0
+abbrev pub memory_word : Cells → Decl → Option (ℤ × ℤ) → ℤ → ℕ
+memory_word v d None i = 0
+memory_word v d (Some bounds) i = if is_between bounds.0 bounds.1 i then v d.name (Some i) else 0
 
 -- ---- operations on values
 
@@ -236,7 +236,7 @@ binary_number w.Larger op w s x y = arithmetic op w s (x.at w s) (y.at w s)
 binary_number w.Left op w s x y = shifted op w s (x.at w s) (own y)
 binary_number w.One op w s x y = extended 1 w s (bits.bit (tested op x y))
 
--- the bits of an operand, joined to one
+-- the bits of an operand, reduced to one
 abbrev pub reduced : UnaryOperator → ℕ → ℕ → Bool
 reduced u.LogicalNot w n = n == 0
 reduced u.ReductionAnd w n = n == ones w
@@ -269,7 +269,7 @@ module _ (ds : List Decl) where
     -- the size of an expression by itself; None where a name isn't declared, a node isn't valid, or a size is above 128
     pub size : Expr → Option ℕ
     size (number p n) = Some n.width
-    size (name p text ss) = named ds text >>= λ d. if is_none d.words then vector_size d ss else word_size d ss
+    size (name p text ss) = declared_as ds text >>= λ d. if is_none d.words then vector_size d ss else word_size d ss
     size (paren p x) = size x
     size (unary p op x) = size x >>= λ m. Some (unary_size op m)
     size (binary p op x y) = size x >>= λ m. size y >>= λ n. operation_size op m n (is_constant x && is_constant y)
@@ -309,7 +309,7 @@ module _ (ds : List Decl) where
     pub value : Cells → ℕ → Bool → Expr → ℕ
     value v w s (number p n) = extended n.width w s n.value
     value v w s (name p text ss) =
-        with_decl (named ds text) (λ d. if is_none d.words then vector_value v w s d (v d.name None) ss
+        with_decl (declared_as ds text) (λ d. if is_none d.words then vector_value v w s d (v d.name None) ss
         else word_value v w s d ss)
     value v w s (paren p x) = value v w s x
     value v w s (unary p op x) = unary_number op w s (operand (size x) (sign ds x) (λ m t. value v m t x))
@@ -319,36 +319,41 @@ module _ (ds : List Decl) where
     value v w s (conditional p c x y) =
         let first = value v w s x in let second = value v w s y in
         if is_true (operand (size c) (sign ds c) (λ m t. value v m t c)) then first else second
-    value v w s (concat p es) = with_size (some_bits (sizes es)) (λ m. extended m w s (joined v es))
+    value v w s (concat p es) = with_size (some_bits (sizes es)) (λ m. extended m w s (concatenated v es))
     value v w s (repeat p n es) =
         with_size (some_bits (sizes es)) (λ k.
         let count = index_of (operand (size n) (sign ds n) (λ m t. value v m t n)) in
-        with_size (times count k) (λ m. extended m w s (copies (nat_abs count) k (joined v es))))
+        with_size (times count k) (λ m. extended m w s (copies (nat_abs count) k (concatenated v es))))
     value v w s (cast p to x) = let m = or_none (size x) in extended m w s (value v m (sign ds x) x)
 
     -- the bits of each before those of the next
-    pub joined : Cells → Exprs → ℕ
-    joined v none = 0
-    joined v (more e es) =
-        own (operand (size e) (sign ds e) (λ m t. value v m t e)) * 2 ^ or_none (sizes es) + joined v es
+    pub concatenated : Cells → Exprs → ℕ
+    concatenated v none = 0
+    concatenated v (more e es) =
+        own (operand (size e) (sign ds e) (λ m t. value v m t e)) * 2 ^ or_none (sizes es) + concatenated v es
 
     -- of a memory: a word, or a part of it
     pub word_value : Cells → ℕ → Bool → Decl → Selects → ℕ
     word_value v w s d (bit p i ss) =
-        vector_value v w s d (word_at v d d.words (index_of (operand (size i) (sign ds i) (λ m t. value v m t i)))) ss
+        vector_value v w s d (memory_word v d d.words
+        (index_of (operand (size i) (sign ds i) (λ m t. value v m t i)))) ss
     word_value v w s d ss = 0
 
     -- of a vector with the number x
     pub vector_value : Cells → ℕ → Bool → Decl → ℕ → Selects → ℕ
     vector_value v w s d x whole = extended d.width w s x
     vector_value v w s d x (bit p i whole) =
-        extended 1 w s (bit_at d.width x (place_of d (index_of (operand (size i) (sign ds i) (λ m t. value v m t i)))))
+        extended 1 w s (bit_at d.width x (offset_of d (index_of (operand (size i) (sign ds i) (λ m t. value v m t i)))))
     vector_value v w s d x (part p l r whole) =
         let low_end = index_of (operand (size r) (sign ds r) (λ m t. value v m t r)) in
         let n = span (index_of (operand (size l) (sign ds l) (λ m t. value v m t l))) low_end in
-        extended n w s (bits_from n d.width x (place_of d low_end))
+        extended n w s (bits_from n d.width x (offset_of d low_end))
     vector_value v w s d x (indexed p i n whole) =
         let k = nat_abs (index_of (operand (size n) (sign ds n) (λ m t. value v m t n))) in
         extended k w s (bits_from k d.width x (start_of d
         (index_of (operand (size i) (sign ds i) (λ m t. value v m t i))) k))
     vector_value v w s d x ss = 0
+
+  -- an expression as an operand: its size and sign by itself, and its number in each context
+  abbrev pub operand_of : Cells → Expr → Operand
+  operand_of v e = operand (size e) (sign ds e) (λ w s. value v w s e)

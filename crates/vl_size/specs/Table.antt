@@ -56,5 +56,5 @@ abbrev pub place : List Decl → List ℕ → Option ℕ
 place ds name = position (λ d. bytes_eq name d.name) ds
 
 -- the declaration of the name
-abbrev pub named : List Decl → List ℕ → Option Decl
-named ds name = find (λ d. bytes_eq name d.name) ds
+abbrev pub declared_as : List Decl → List ℕ → Option Decl
+declared_as ds name = find (λ d. bytes_eq name d.name) ds

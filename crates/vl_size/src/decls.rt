@@ -2,7 +2,7 @@ ghost use Rattle.std.specs.Prelude.{◌≡◌, ◌++◌, ◌∷◌, [], ◌+◌,
 ghost use Rattle.std.specs.Prelude.{All, IfSome, OnOk, OnErr};
 ghost use Rattle.std.specs.Option.{option_copied};
 ghost use Rattle.std.specs.Map.{lookup};
-ghost use Rattle.vl_size.specs.Table.{place, named, is_declared, IsShaped, AreApart, AreDifferent};
+ghost use Rattle.vl_size.specs.Table.{place, declared_as, is_declared, IsShaped, AreApart, AreDifferent};
 
 use crate::decl::Decl;
 use fv_base::{Memory, Text};
@@ -71,7 +71,7 @@ impl Decls {
 
     /// The declaration of the name. None exactly where the name isn't declared.
     pub fn named(&self, name: &Text) -> Option<&Decl>
-        ensures value { option_copied result ≡ named self.now name.now }
+        ensures value { option_copied result ≡ declared_as self.now name.now }
         ensures shaped { IfSome (option_copied result) IsShaped }
     {
         self.map.get(name.bytes())

@@ -42,7 +42,7 @@ pub fn bits_from(count: u32, width: u32, x: u128, place: i128) -> u128
 fn place_at(decl: &Decl, index: i128) -> i128
     requires least { negsuc (2 ^ 101) ≤ℤ index }
     requires most { index ≤ℤ pos (2 ^ 101) }
-    ensures value { result ≡ spec.place_of decl.now index }
+    ensures value { result ≡ spec.offset_of decl.now index }
     ensures most { result ≤ℤ pos (2 ^ 102) }
 {
     if decl.right <= decl.left {
@@ -54,10 +54,10 @@ fn place_at(decl: &Decl, index: i128) -> i128
 
 /// The place of an index in a vector. None where it is past every vector.
 fn place_of(decl: &Decl, index: Own) -> Option<i128>
-    ensures value { IfSome result (λ p. p ≡ spec.place_of decl.now (as_int index.width index.signed index.number)) }
+    ensures value { IfSome result (λ p. p ≡ spec.offset_of decl.now (as_int index.width index.signed index.number)) }
     ensures most { IfSome result (λ p. p ≤ℤ pos (2 ^ 102)) }
     ensures far { result ≡ None → IsTrue (is_far
-        (spec.place_of decl.now (as_int index.width index.signed index.number))) }
+        (spec.offset_of decl.now (as_int index.width index.signed index.number))) }
 {
     // Read before the index, whose place is far by this bound's range.
     let _right = decl.right;
@@ -70,7 +70,7 @@ fn place_of(decl: &Decl, index: Own) -> Option<i128>
 pub fn selected_bit(decl: &Decl, x: u128, index: Own) -> u128
     requires { decl.now.width ≤ 128 }
     ensures value { result ≡ spec.bit_at decl.now.width x
-        (spec.place_of decl.now (as_int index.width index.signed index.number)) }
+        (spec.offset_of decl.now (as_int index.width index.signed index.number)) }
     ensures fits { result < 2 }
 {
     match place_of(decl, index) {
@@ -85,7 +85,7 @@ pub fn selected_part(decl: &Decl, x: u128, right: Own, count: u32) -> u128
     requires few { decl.now.width ≤ 128 }
     requires count { count ≤ 128 }
     ensures value { result ≡ spec.bits_from count decl.now.width x
-        (spec.place_of decl.now (as_int right.width right.signed right.number)) }
+        (spec.offset_of decl.now (as_int right.width right.signed right.number)) }
     ensures fits { result < 2 ^ count }
 {
     match place_of(decl, right) {

@@ -335,10 +335,8 @@ fn tested(
 ) -> Option<bool>
     ensures sized { option_map (λ b. 1) result
         ≡ spec.both (spec.size decls.now left.now) (spec.size decls.now right.now) }
-    ensures value { let x = spec.operand (spec.size decls.now left.now) (sign decls.now left.now)
-        (λ m t. spec.value decls.now no_names m t left.now) in
-        let y = spec.operand (spec.size decls.now right.now) (sign decls.now right.now)
-        (λ m t. spec.value decls.now no_names m t right.now) in
+    ensures value { let x = spec.operand_of decls.now no_names left.now in
+        let y = spec.operand_of decls.now no_names right.now in
         IfSome result (λ b. b ≡ spec.tested operator x y) }
 {
     match operator {
@@ -400,7 +398,7 @@ fn own(expr: &Expr, decls: &Decls) -> Option<Own>
 #[tactic(auto, using(crate::proofs::Rest::parts))]
 fn joined(all: &[Expr], decls: &Decls) -> Option<Own>
     ensures sizes { option_map (λ own. own.width) result ≡ some_bits (spec.sizes decls.now (exprs all.now)) }
-    ensures value { IfSome result (λ own. own.number ≡ spec.joined decls.now no_names (exprs all.now)) }
+    ensures value { IfSome result (λ own. own.number ≡ spec.concatenated decls.now no_names (exprs all.now)) }
     ensures some { IfSome result (λ own. 1 ≤ own.width) }
 {
     let mut width = 0;

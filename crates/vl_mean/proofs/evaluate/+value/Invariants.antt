@@ -2,7 +2,7 @@ use Rattle.std.proofs.Common.{◌≡◌, ◌+◌, ◌*◌, ◌^◌, ◌≤◌, �
 use Rattle.std.specs.Prelude.{drop}
 use Rattle.vl_tree.specs.Expr.{exprs, depth, exprs_depth, selects_depth, whole}
 use Rattle.vl_tree.specs.ExprView.{selects, with_select}
-use Rattle.vl_size.specs.Size.{sizes, joined}
+use Rattle.vl_size.specs.Size.{sizes, concatenated}
 use Rattle.vl_mean.specs.Env.{cells_of}
 use Rattle.vl_mean.proofs.evaluate.+value.Given as goal
 
@@ -37,7 +37,7 @@ abbrev pub invariant-joined-loop-place : goal.invariant-joined-loop-place
 invariant-joined-loop-place l =
     (l.place ≤ length l.all) × (l.width ≤ 128) × (l.number < 2 ^ l.width)
     × (sizes l.env.decls (exprs (drop l.place l.all)) ≡ Some l.width)
-    × (joined l.env.decls (cells_of l.env) (exprs (drop l.place l.all)) ≡ l.number)
+    × (concatenated l.env.decls (cells_of l.env) (exprs (drop l.place l.all)) ≡ l.number)
 
 abbrev pub decreases-joined-loop-place : goal.decreases-joined-loop-place
 decreases-joined-loop-place l = l.place

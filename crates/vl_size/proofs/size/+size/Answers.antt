@@ -6,7 +6,7 @@ use Rattle.vl_tree.specs.declared.expr.ExprKind.TheVariants as k
 use Rattle.vl_size.specs.Sign.{sign}
 use Rattle.vl_tree.specs.Expr.{Expr, unary, binary, exprs}
 use Rattle.vl_tree.specs.ExprView.{shown, selects}
-use Rattle.vl_size.specs.Size.{no_names, size, value, vector_size, word_size, sizes, joined, some_bits}
+use Rattle.vl_size.specs.Size.{no_names, size, value, vector_size, word_size, sizes, concatenated, some_bits}
 use Rattle.vl_size.proofs.Rest.{with_rest, with_rest_0, with_rest-end, with_rest-on, with_rest-None, with_rest-stops}
 use Rattle.vl_size.proofs.Joined.{Joins, joins_first, joins_end, joins_on}
 use Rattle.vl_size.proofs.RowLemmas.{row_at, row_of_0, extended_same}
@@ -168,11 +168,11 @@ joined-loop-part-preserved t c =
     let P : ℕ → Type 0 = λ n. c.appended-number.result < 2 ^ n in
     let J : List Expr → Type 0 = λ es.
     Joins c.args.decls.now (sizes c.args.decls.now (exprs c.args.all.now)) c.loop-part.number (exprs es)
-    (joined c.args.decls.now no_names (exprs c.args.all.now)) in
+    (concatenated c.args.decls.now no_names (exprs c.args.all.now)) in
     let N : ℕ → Type 0 = λ n.
     Joins c.args.decls.now (sizes c.args.decls.now (exprs c.args.all.now)) n
     (exprs (drop (c.loop-part.part-index + 1) c.args.all.now))
-    (joined c.args.decls.now no_names (exprs c.args.all.now)) in (
+    (concatenated c.args.decls.now no_names (exprs c.args.all.now)) in (
       c.in_ok-longer.ensures.few.1,
       subst P (sym c.in_ok-longer.ensures.few.0) c.appended-number.ensures.fits,
       rest,
@@ -180,7 +180,7 @@ joined-loop-part-preserved t c =
           (joins_on c.args.decls.now (sizes c.args.decls.now
           (exprs c.args.all.now)) c.loop-part.width c.in_ok-more.more.width c.in_ok-longer.longer
           c.loop-part.number c.in_ok-more.more.number
-          (joined c.args.decls.now no_names (exprs c.args.all.now)) c.part-item.result
+          (concatenated c.args.decls.now no_names (exprs c.args.all.now)) c.part-item.result
           (exprs (drop (c.loop-part.part-index
           + 1) c.args.all.now)) sized c.in_ok-longer.ensures.few.0 c.in_ok-longer.ensures.few.1
           c.in_ok-more.ensures.number rest (subst J front c.loop-part.invariant.3)),
@@ -231,9 +231,9 @@ joined-returns-clause-value t c =
     ≡ sizes c.args.decls.now (exprs c.args.all.now) in
     let J : List Expr → Type 0 = λ es.
     Joins c.args.decls.now (sizes c.args.decls.now (exprs c.args.all.now)) c.loop-part.number (exprs es)
-    (joined c.args.decls.now no_names (exprs c.args.all.now)) in
+    (concatenated c.args.decls.now no_names (exprs c.args.all.now)) in
     joins_end c.args.decls.now (sizes c.args.decls.now (exprs c.args.all.now)) c.loop-part.width c.loop-part.number
-    (joined c.args.decls.now no_names (exprs c.args.all.now)) (subst W gone c.loop-part.invariant.2)
+    (concatenated c.args.decls.now no_names (exprs c.args.all.now)) (subst W gone c.loop-part.invariant.2)
     (subst J gone c.loop-part.invariant.3)
 
 pub sizes_of-returns-in_err-self_size-clause-value : goal.sizes_of-returns-in_err-self_size-clause-value

@@ -1,7 +1,7 @@
 use Rattle.std.proofs.Common.{◌≡◌, ◌+◌, ◌*◌, ◌^◌, ◌≤◌, ◌<◌, max, drop}
 use Rattle.vl_tree.specs.Expr.{exprs, depth, exprs_depth, selects_depth, whole}
 use Rattle.vl_tree.specs.ExprView.{selects, with_select}
-use Rattle.vl_size.specs.Size.{sizes, joined, no_names}
+use Rattle.vl_size.specs.Size.{sizes, concatenated, no_names}
 use Rattle.vl_size.proofs.Joined.{Joins}
 use Rattle.vl_size.proofs.Rest.{with_rest}
 use Rattle.vl_size.proofs.size.+size.Given as goal
@@ -54,4 +54,4 @@ invariant-joined-loop-part l =
     (l.width ≤ 128) × (l.number < 2 ^ l.width)
     × (with_rest l.decls l.width (exprs (drop l.part-index l.all)) ≡ sizes l.decls (exprs l.all))
     × Joins l.decls (sizes l.decls (exprs l.all)) l.number (exprs (drop l.part-index l.all))
-    (joined l.decls no_names (exprs l.all))
+    (concatenated l.decls no_names (exprs l.all))

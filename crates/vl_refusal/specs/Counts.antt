@@ -1,0 +1,98 @@
+-- How much of a design the steps of its walk are: nodes of its tree, each time that the walk goes through them, and
+-- declared names. Rule of this project.
+use Rattle.std.specs.Prelude.{ℕ, zero, suc, ◌+◌, List, [], ◌∷◌, length, Option, Some, None, if◌then◌else◌}
+use Rattle.fv_base.specs.declared.pos.Pos.{Pos}
+use Rattle.vl_tree.specs.declared.declaration.DeclaredName.{DeclaredName}
+use Rattle.vl_tree.specs.declared.declaration.Parameter.{Parameter}
+use Rattle.vl_tree.specs.declared.declaration.Range.{Range}
+use Rattle.vl_tree.specs.declared.part.Assignment.{Assignment}
+use Rattle.vl_tree.specs.declared.part.LoopHead.{LoopHead}
+use Rattle.vl_tree.specs.Expr.{Expr}
+use Rattle.vl_tree.specs.Item.{Item, declaration, integer, genvar, parameter, assign, always, initial, instance}
+use Rattle.vl_tree.specs.Item.{generate, for_loop, if_only, if_else}
+use Rattle.vl_mean.specs.declared.const_number.Const.{Const}
+use Rattle.vl_size.specs.Size.{is_true}
+use Rattle.vl_mean.specs.Constants.{constant_operand}
+use Rattle.vl_mean.specs.Declarations.{declared_by}
+use Rattle.vl_mean.specs.FlatLaw.{all_names_count, nodes, target_nodes, stmt_nodes}
+use Rattle.vl_mean.specs.Scopes.{constant_in}
+use Rattle.vl_mean.specs.Walk.{Place, Step, header, port, item, override, connection, goes_on, next_turn, first_turn}
+
+abbrev pub value_nodes : Option Expr → ℕ
+value_nodes None = 0
+value_nodes (Some e) = nodes e
+
+abbrev pub range_nodes : Option Range → ℕ
+range_nodes None = 0
+range_nodes (Some r) = nodes r.left + nodes r.right
+
+abbrev pub name_nodes : List DeclaredName → ℕ
+name_nodes [] = 0
+name_nodes (x ∷ xs) = range_nodes x.words + value_nodes x.value + 1 + name_nodes xs
+
+abbrev pub parameter_nodes : List Parameter → ℕ
+parameter_nodes [] = 0
+parameter_nodes (x ∷ xs) = range_nodes x.shape.range + nodes x.value + 1 + parameter_nodes xs
+
+abbrev pub assignment_nodes : List Assignment → ℕ
+assignment_nodes [] = 0
+assignment_nodes (x ∷ xs) = target_nodes x.target + nodes x.value + assignment_nodes xs
+
+-- each turn, its block and what leads to the next one
+abbrev pub turn_nodes : ℕ → LoopHead → Place → Const → ℕ
+turn_nodes zero head at c = nodes head.condition
+turn_nodes (suc n) head at c =
+    let more = turn_nodes n head at (next_turn head at.scopes c) in
+    nodes head.condition + (if goes_on head at.scopes c then nodes head.next + 1 + more else 0)
+
+-- of an `if`, the chosen block
+abbrev pub item_nodes : Place → Item → ℕ
+item_nodes at (declaration attrs p d) = range_nodes d.shape.range + name_nodes d.names + 1
+item_nodes at (integer attrs p xs) = name_nodes xs + 1
+item_nodes at (genvar attrs p xs) = length xs + 1
+item_nodes at (parameter attrs p kind xs) = parameter_nodes xs + 1
+item_nodes at (assign attrs p xs) = assignment_nodes xs + 1
+item_nodes at (always attrs p event s) = stmt_nodes s + 1
+item_nodes at (initial attrs p s) = stmt_nodes s + 1
+item_nodes at (instance attrs p x) = 1
+item_nodes at (generate attrs p mark) = 1
+item_nodes at (for_loop attrs p head b) = nodes head.start + turn_nodes 4096 head at (first_turn head at.scopes) + 1
+item_nodes at (if_only attrs p c b) =
+    nodes c + 1 + (if is_true (constant_operand (constant_in at.scopes) c) then 1 else 0)
+item_nodes at (if_else attrs p c b d) = nodes c + 2
+
+abbrev pub step_nodes : Step → ℕ
+step_nodes (header at x) = parameter_nodes (x ∷ [])
+step_nodes (port at u p q) = range_nodes q.shape.range + value_nodes q.value + 1
+step_nodes (item at x) = item_nodes at x
+step_nodes (override at m u given x) = value_nodes x.value + 1
+step_nodes (connection at m u inside given x) = value_nodes x.value + 1
+
+-- a memory's words count beside its name
+abbrev pub step_names : Step → ℕ
+step_names (port at u p q) = 1
+step_names (item at x) = all_names_count (declared_by at.around x)
+step_names x = 0
+
+-- ---- where a step stands in the text
+
+abbrev pub item_pos : Item → Pos
+item_pos (declaration attrs p d) = p
+item_pos (integer attrs p xs) = p
+item_pos (genvar attrs p xs) = p
+item_pos (parameter attrs p kind xs) = p
+item_pos (assign attrs p xs) = p
+item_pos (always attrs p event s) = p
+item_pos (initial attrs p s) = p
+item_pos (instance attrs p x) = p
+item_pos (generate attrs p mark) = p
+item_pos (for_loop attrs p head b) = p
+item_pos (if_only attrs p c b) = p
+item_pos (if_else attrs p c b d) = p
+
+abbrev pub step_pos : Step → Pos
+step_pos (header at x) = x.pos
+step_pos (port at u p q) = p
+step_pos (item at x) = item_pos x
+step_pos (override at m u given x) = x.pos
+step_pos (connection at m u inside given x) = x.pos

@@ -1,0 +1,6 @@
+pub mod FullNames
+pub mod Names
+pub mod Found
+pub mod Flattened
+pub mod SameMaps
+pub mod StepScopes
