@@ -1,6 +1,23 @@
 -- And-inverter graphs: lists of nodes and their values. Literals are numbered as in the AIGER format (Biere, 2007): 2
 -- * n for node n, and 2 * n + 1 for its complement; node 0 is false.
-use Rattle.std.specs.Prelude.{◌≡◌, ℕ, ◌+◌, ◌-◌, ◌*◌, ◌/◌, ◌%◌, ◌<◌, ◌≤◌, ◌^◌, ◌==◌, Bool, true, false, not, ◌&&◌}
+use Rattle.std.specs.Prelude.{
+  ◌≡◌,
+  ℕ,
+  ◌+◌,
+  ◌-◌,
+  ◌*◌,
+  ◌/◌,
+  ◌%◌,
+  ◌<◌,
+  ◌≤◌,
+  ◌^◌,
+  ◌==◌,
+  Bool,
+  true,
+  false,
+  not,
+  ◌&&◌,
+}
 use Rattle.std.specs.Prelude.{if◌then◌else◌, List, [], ◌∷◌, ◌++◌, length, slice_index_or}
 use Rattle.bb_aig.specs.declared.node.AigNode.{AigNode}
 use Rattle.bb_aig.specs.declared.node.AigNode.TheVariants as n

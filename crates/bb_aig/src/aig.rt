@@ -1,4 +1,19 @@
-ghost use Rattle.std.specs.Prelude.{◌≡◌, ℕ, ◌+◌, ◌*◌, ◌/◌, ◌<◌, ◌≤◌, ◌^◌, ◌&&◌, [], ◌∷◌, length, slice_get, IfOk};
+ghost use Rattle.std.specs.Prelude.{
+  ◌≡◌,
+  ℕ,
+  ◌+◌,
+  ◌*◌,
+  ◌/◌,
+  ◌<◌,
+  ◌≤◌,
+  ◌^◌,
+  ◌&&◌,
+  [],
+  ◌∷◌,
+  length,
+  slice_get,
+  IfOk,
+};
 ghost use Rattle.std.specs.Prelude.{OnErr};
 ghost use Rattle.bb_aig.specs.Graph as spec;
 ghost use Rattle.bb_aig.specs.Graph.{IsLit, IsGraph, Adds, values_of, inputs_of, of_list};
@@ -142,8 +157,7 @@ impl Aig {
     }
 
     /// Adds the gate of both behind the other nodes, and answers its literal, whatever the graph has already. A graph
-    /// of
-    /// `2^62` nodes wants memory.
+    /// of `2^62` nodes wants memory.
     pub fn and(&mut self, a: Lit, b: Lit) -> Result<Lit, Memory>
         requires left { IsLit self.old a }
         requires right { IsLit self.old b }

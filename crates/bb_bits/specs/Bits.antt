@@ -1,5 +1,22 @@
 -- Lists of bits, the lowest first: their numbers, and what operators make of them (rule of this project).
-use Rattle.std.specs.Prelude.{ℕ, zero, suc, ◌+◌, ◌*◌, ◌-◌, ◌<◌, Bool, true, false, not, ◌&&◌, ◌||◌, List, [], ◌∷◌}
+use Rattle.std.specs.Prelude.{
+  ℕ,
+  zero,
+  suc,
+  ◌+◌,
+  ◌*◌,
+  ◌-◌,
+  ◌<◌,
+  Bool,
+  true,
+  false,
+  not,
+  ◌&&◌,
+  ◌||◌,
+  List,
+  [],
+  ◌∷◌,
+}
 use Rattle.std.specs.Prelude.{◌++◌, length, take, drop, map, replicate, nat_lt, nat_le}
 use Rattle.fv_bits.specs.Bits.{bit}
 

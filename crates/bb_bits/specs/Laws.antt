@@ -1,6 +1,32 @@
--- What operators on lists of bits make of the numbers of the lists.
-use Rattle.std.specs.Prelude.{◌≡◌, ℕ, ◌+◌, ◌==◌, ◌<◌, ◌≤◌, ◌^◌, nat_lt, bit_and, bit_or, bit_xor}
-use Rattle.std.specs.Prelude.{Bool, true, false, not, ◌&&◌, ◌||◌, List, ◌++◌, length, take, drop, map, replicate}
+-- What operators on lists of bits make of the numbers of the lists. Rule of this project.
+use Rattle.std.specs.Prelude.{
+  ◌≡◌,
+  ℕ,
+  ◌+◌,
+  ◌==◌,
+  ◌<◌,
+  ◌≤◌,
+  ◌^◌,
+  nat_lt,
+  bit_and,
+  bit_or,
+  bit_xor,
+}
+use Rattle.std.specs.Prelude.{
+  Bool,
+  true,
+  false,
+  not,
+  ◌&&◌,
+  ◌||◌,
+  List,
+  ◌++◌,
+  length,
+  take,
+  drop,
+  map,
+  replicate,
+}
 use Rattle.fv_bits.specs.Bits as bits
 use Rattle.bb_bits.specs.Bits.{number, differ, pick, paired, add_bits, less_bits, same_bits, any_bit, mul_bits}
 use Rattle.bb_bits.specs.Bits.{shl_bits}
@@ -13,7 +39,8 @@ pub record BitsAreBitwise : Type 0 where
       → number (paired (λ x y. x && y) xs ys) ≡ bit_and (number xs) (number ys)
   pub either : (xs ys : List Bool) → length xs ≡ length ys
       → number (paired (λ x y. x || y) xs ys) ≡ bit_or (number xs) (number ys)
-  pub one : (xs ys : List Bool) → length xs ≡ length ys → number (paired differ xs ys) ≡ bit_xor (number xs) (number ys)
+  pub one : (xs ys : List Bool) → length xs ≡ length ys
+      → number (paired differ xs ys) ≡ bit_xor (number xs) (number ys)
 
 -- sums, differences and products, cut to the width
 pub record BitsAreSums : Type 0 where
@@ -27,7 +54,8 @@ pub record BitsAreSums : Type 0 where
 -- comparisons, and whether a number is other than 0
 pub record BitsAreOrdered : Type 0 where
   pub same : (xs ys : List Bool) → length ys ≡ length xs → same_bits true xs ys ≡ (number xs == number ys)
-  pub less : (xs ys : List Bool) → length ys ≡ length xs → less_bits false xs ys ≡ nat_lt (number xs) (number ys)
+  pub less : (xs ys : List Bool) → length ys ≡ length xs
+      → less_bits false xs ys ≡ nat_lt (number xs) (number ys)
   pub less_signed : (xs ys : List Bool) → 1 ≤ length xs → length ys ≡ length xs
       → less_bits false (turned_top xs) (turned_top ys) ≡ bits.is_less_signed (length xs) (number xs) (number ys)
   pub other_than_0 : (xs : List Bool) → any_bit false xs ≡ not (number xs == 0)

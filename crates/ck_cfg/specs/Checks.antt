@@ -1,5 +1,18 @@
 -- The checks of a configuration and their order (documentation of riscv-formal, in this project's profile).
-use Rattle.std.specs.Prelude.{ℕ, Bool, not, if◌then◌else◌, List, [], ◌∷◌, ◌++◌, Option, Some, None, option_map}
+use Rattle.std.specs.Prelude.{
+  ℕ,
+  Bool,
+  not,
+  if◌then◌else◌,
+  List,
+  [],
+  ◌∷◌,
+  ◌++◌,
+  Option,
+  Some,
+  None,
+  option_map,
+}
 use Rattle.std.specs.Prelude.{option_to_list, map, find, codes, decimal}
 use Rattle.std.specs.List.{filter, flat_map, range_with_len}
 use Rattle.std.specs.Str.{bytes_eq}
@@ -91,7 +104,8 @@ is_named name c = bytes_eq c.name name
 -- moves nothing
 abbrev pub moved : List (List ℕ) → List Check → List Check
 moved [] checks = checks
-moved (name ∷ names) checks = filter (is_named name) checks ++ moved names (filter (λ c. not (is_named name c)) checks)
+moved (name ∷ names) checks =
+    filter (is_named name) checks ++ moved names (filter (λ c. not (is_named name c)) checks)
 
 -- the checks of a configuration
 abbrev pub checks_of : Config → List Check

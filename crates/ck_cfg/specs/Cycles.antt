@@ -1,5 +1,19 @@
 -- The numbers of a depth line: its cycles, and the conditions on them (rules of this project).
-use Rattle.std.specs.Prelude.{ℕ, ◌≡◌, ◌&&◌, true, min, nat_le, nat_lt, if◌then◌else◌, List, [], ◌∷◌, Option, Some}
+use Rattle.std.specs.Prelude.{
+  ℕ,
+  ◌≡◌,
+  ◌&&◌,
+  true,
+  min,
+  nat_le,
+  nat_lt,
+  if◌then◌else◌,
+  List,
+  [],
+  ◌∷◌,
+  Option,
+  Some,
+}
 use Rattle.std.specs.Prelude.{None, option_map, option_and_then}
 use Rattle.std.specs.List.{list_all}
 use Rattle.fv_lines.specs.Numbers.{is_digit, natural_of}

@@ -1,5 +1,20 @@
 -- The lines of a configuration. What ends a line and what parts its words is what it is in all texts (`fv_lines`).
-use Rattle.std.specs.Prelude.{ℕ, Bool, ◌||◌, ◌==◌, if◌then◌else◌, List, [], ◌∷◌, ◌++◌, Option, Some, None, option_map}
+-- Rule of this project.
+use Rattle.std.specs.Prelude.{
+  ℕ,
+  Bool,
+  ◌||◌,
+  ◌==◌,
+  if◌then◌else◌,
+  List,
+  [],
+  ◌∷◌,
+  ◌++◌,
+  Option,
+  Some,
+  None,
+  option_map,
+}
 use Rattle.std.specs.List.{list_all}
 use Rattle.fv_lines.specs.Words.{is_nil, is_blank, begins_with, lines, next_place}
 

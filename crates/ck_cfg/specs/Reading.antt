@@ -1,7 +1,21 @@
 -- What a configuration says, or why it says nothing (documentation of riscv-formal, in this project's profile). The
 -- lines are taken in order, each in its section; of several refusals the first line's is answered, and at one line
 -- the one with the lowest number.
-use Rattle.std.specs.Prelude.{ℕ, ◌&&◌, false, if◌then◌else◌, List, [], ◌∷◌, ◌++◌, Option, Some, None, codes, Result}
+use Rattle.std.specs.Prelude.{
+  ℕ,
+  ◌&&◌,
+  false,
+  if◌then◌else◌,
+  List,
+  [],
+  ◌∷◌,
+  ◌++◌,
+  Option,
+  Some,
+  None,
+  codes,
+  Result,
+}
 use Rattle.std.specs.Prelude.{Ok, Err}
 use Rattle.std.specs.Str.{is_utf8}
 use Rattle.fv_lines.specs.Words.{is_nil, words}

@@ -1,5 +1,19 @@
 -- The lines of `[script-sources]`: the lines `read_verilog` of a script of Yosys, in this project's profile.
-use Rattle.std.specs.Prelude.{ℕ, if◌then◌else◌, List, [], ◌∷◌, ◌++◌, Option, Some, None, codes, Result, Ok, Err}
+use Rattle.std.specs.Prelude.{
+  ℕ,
+  if◌then◌else◌,
+  List,
+  [],
+  ◌∷◌,
+  ◌++◌,
+  Option,
+  Some,
+  None,
+  codes,
+  Result,
+  Ok,
+  Err,
+}
 use Rattle.std.specs.List.{list_any}
 use Rattle.std.specs.Str.{bytes_eq}
 use Rattle.fv_lines.specs.Words.{begins_with}

@@ -1,5 +1,18 @@
--- The first word of a depth line: what it is for.
-use Rattle.std.specs.Prelude.{ℕ, ◌-◌, if◌then◌else◌, nat_eq, List, [], ◌∷◌, drop, length, Option, Some, None}
+-- The first word of a depth line: what it is for. Rule of this project.
+use Rattle.std.specs.Prelude.{
+  ℕ,
+  ◌-◌,
+  if◌then◌else◌,
+  nat_eq,
+  List,
+  [],
+  ◌∷◌,
+  drop,
+  length,
+  Option,
+  Some,
+  None,
+}
 use Rattle.std.specs.Prelude.{option_map, option_and_then, find, codes}
 use Rattle.std.specs.List.{starts_with}
 use Rattle.std.specs.Str.{bytes_eq}

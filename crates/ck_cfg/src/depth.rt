@@ -59,7 +59,8 @@ impl Depth {
     fn of(target: Target, cycles: Cycles) -> Option<Depth>
         requires start { cycles.start ≤ cycles.trig }
         requires trig { cycles.trig ≤ cycles.cycle }
-        ensures { MatchOption result (100 < cycles.cycle) (λ d. (cycles.cycle ≤ 100) × (d ≡ depth_at target cycles)) }
+        ensures { MatchOption result (100 < cycles.cycle)
+            (λ d. (cycles.cycle ≤ 100) × (d ≡ depth_at target cycles)) }
     {
         if cycles.cycle > DEEPEST {
             return None;

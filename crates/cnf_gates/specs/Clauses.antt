@@ -1,7 +1,36 @@
 -- The clauses of a graph: variable n is node n, and one more variable behind the nodes is the verdict (rule of this
 -- project).
-use Rattle.std.specs.Prelude.{◌≡◌, ℕ, ◌+◌, ◌-◌, ◌*◌, ◌/◌, ◌%◌, ◌<◌, ◌≤◌, ◌==◌, if◌then◌else◌, Bool, true, false, not}
-use Rattle.std.specs.Prelude.{◌&&◌, List, [], ◌∷◌, ◌++◌, length, slice_get, slice_index_or, Some, ℤ, pos, negsuc}
+use Rattle.std.specs.Prelude.{
+  ◌≡◌,
+  ℕ,
+  ◌+◌,
+  ◌-◌,
+  ◌*◌,
+  ◌/◌,
+  ◌%◌,
+  ◌<◌,
+  ◌≤◌,
+  ◌==◌,
+  if◌then◌else◌,
+  Bool,
+  true,
+  false,
+  not,
+}
+use Rattle.std.specs.Prelude.{
+  ◌&&◌,
+  List,
+  [],
+  ◌∷◌,
+  ◌++◌,
+  length,
+  slice_get,
+  slice_index_or,
+  Some,
+  ℤ,
+  pos,
+  negsuc,
+}
 use Rattle.bb_aig.specs.declared.node.AigNode.{AigNode}
 use Rattle.bb_aig.specs.declared.node.AigNode.TheVariants as n
 use Rattle.bb_aig.specs.Graph.{is_negated, complement, values_of, lit_at}
@@ -55,4 +84,5 @@ pub record Tells (graph : List AigNode) (root : ℕ) (formula : Cnf) : Type 0 wh
   pub vars : formula.vars ≡ length graph
   pub last : formula.clauses ≡ before ++ (pos (length graph) ∷ []) ∷ []
   pub extends : (x v : ℕ → Bool) → IsModelOf graph root x v → formula_true v before ≡ true
-  pub only : (x v : ℕ → Bool) → AreInputs graph x v → formula_true v before ≡ true → IsModelOf graph root x v
+  pub only : (x v : ℕ → Bool) → AreInputs graph x v → formula_true v before ≡ true
+      → IsModelOf graph root x v

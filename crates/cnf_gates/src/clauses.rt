@@ -1,5 +1,20 @@
 //! The clauses of a graph.
-ghost use Rattle.std.specs.Prelude.{◌≡◌, ℕ, ◌+◌, ◌*◌, ◌<◌, ◌≤◌, ◌^◌, [], ◌++◌, ◌∷◌, length, IfOk, OnOk, pos};
+ghost use Rattle.std.specs.Prelude.{
+  ◌≡◌,
+  ℕ,
+  ◌+◌,
+  ◌*◌,
+  ◌<◌,
+  ◌≤◌,
+  ◌^◌,
+  [],
+  ◌++◌,
+  ◌∷◌,
+  length,
+  IfOk,
+  OnOk,
+  pos,
+};
 ghost use Rattle.std.specs.List.{AllByRecursion};
 ghost use Rattle.cnf_form.specs.Cnf.{IsLiteral};
 ghost use Rattle.bb_aig.specs.Graph.{IsLit, IsFitting};

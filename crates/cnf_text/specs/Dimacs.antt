@@ -1,7 +1,34 @@
 -- Clause files (DIMACS): which formula a text says, and why it says none. What is refused, and in which order, is a
 -- rule of this project.
-use Rattle.std.specs.Prelude.{ℕ, ◌≤◌, ◌≡◌, Bool, true, false, not, ◌&&◌, ◌||◌, ◌==◌, if◌then◌else◌, List, [], ◌∷◌}
-use Rattle.std.specs.Prelude.{◌++◌, length, flat_map, ℤ, unsigned_abs, codes, decimal, bytes_eq, Option, Some, None}
+use Rattle.std.specs.Prelude.{
+  ℕ,
+  ◌≤◌,
+  ◌≡◌,
+  Bool,
+  true,
+  false,
+  not,
+  ◌&&◌,
+  ◌||◌,
+  ◌==◌,
+  if◌then◌else◌,
+  List,
+  [],
+  ◌∷◌,
+}
+use Rattle.std.specs.Prelude.{
+  ◌++◌,
+  length,
+  flat_map,
+  ℤ,
+  unsigned_abs,
+  codes,
+  decimal,
+  bytes_eq,
+  Option,
+  Some,
+  None,
+}
 use Rattle.std.specs.Prelude.{Result, Ok, Err}
 use Rattle.std.specs.Option.{ok_or}
 use Rattle.std.specs.Fmt.{signed_decimal}

@@ -155,13 +155,14 @@ keyword_text Cover = codes "cover"
 -- all keywords
 abbrev pub keywords : List Keyword
 keywords =
-    Module ∷ Endmodule ∷ Input ∷ Output ∷ Wire ∷ Reg ∷ Integer ∷ Signed ∷ Parameter ∷ Localparam ∷ Genvar ∷
-    Generate ∷ Endgenerate ∷ Assign ∷ Always ∷ Initial ∷ Posedge ∷ Begin ∷ End ∷ If ∷ Else ∷ Case ∷ Casez ∷
-    Endcase ∷ Default ∷ For ∷ Assume ∷ Inout ∷ Function ∷ Endfunction ∷ Task ∷ Endtask ∷ While ∷ Repeat ∷
-    Forever ∷ Negedge ∷ Or ∷ Casex ∷ Defparam ∷ Specify ∷ Primitive ∷ Real ∷ Realtime ∷ Time ∷ Event ∷ Tri ∷
-    Tri0 ∷ Tri1 ∷ Triand ∷ Trior ∷ Trireg ∷ Wand ∷ Wor ∷ Supply0 ∷ Supply1 ∷ Fork ∷ Join ∷ Wait ∷ Disable ∷
-    Force ∷ Release ∷ Deassign ∷ Logic ∷ AlwaysComb ∷ AlwaysFf ∷ AlwaysLatch ∷ Typedef ∷ Struct ∷ Interface ∷
-    Property ∷ Assert ∷ Cover ∷ []
+    Module ∷ Endmodule ∷ Input ∷ Output ∷ Wire ∷ Reg ∷ Integer ∷ Signed ∷ Parameter ∷ Localparam ∷
+    Genvar ∷ Generate ∷ Endgenerate ∷ Assign ∷ Always ∷ Initial ∷ Posedge ∷ Begin ∷ End ∷ If ∷
+    Else ∷ Case ∷ Casez ∷ Endcase ∷ Default ∷ For ∷ Assume ∷ Inout ∷ Function ∷ Endfunction ∷
+    Task ∷ Endtask ∷ While ∷ Repeat ∷ Forever ∷ Negedge ∷ Or ∷ Casex ∷ Defparam ∷ Specify ∷
+    Primitive ∷ Real ∷ Realtime ∷ Time ∷ Event ∷ Tri ∷ Tri0 ∷ Tri1 ∷ Triand ∷ Trior ∷ Trireg ∷
+    Wand ∷ Wor ∷ Supply0 ∷ Supply1 ∷ Fork ∷ Join ∷ Wait ∷ Disable ∷ Force ∷ Release ∷ Deassign ∷
+    Logic ∷ AlwaysComb ∷ AlwaysFf ∷ AlwaysLatch ∷ Typedef ∷ Struct ∷ Interface ∷ Property ∷ Assert ∷
+    Cover ∷ []
 
 -- the keyword with this text, if there is one
 unfoldable pub keyword_of : List ℕ → Option Keyword

@@ -1,3 +1,4 @@
+-- Names in tokens. Rule of this project.
 use Rattle.std.specs.Prelude.{Bool, true}
 use Rattle.fv_base.specs.Name.{is_name}
 use Rattle.fv_base.specs.declared.kind.Kind.{Kind}

@@ -1,5 +1,20 @@
 -- The outside as a caller knows it: what files hold, what was put out, and counts of faults. Rules of this project.
-use Rattle.std.specs.Prelude.{◌≡◌, ℕ, ◌+◌, ◌-◌, ◌^◌, ◌≤◌, min, List, ◌++◌, Option, Some, None, bytes_eq, if◌then◌else◌}
+use Rattle.std.specs.Prelude.{
+  ◌≡◌,
+  ℕ,
+  ◌+◌,
+  ◌-◌,
+  ◌^◌,
+  ◌≤◌,
+  min,
+  List,
+  ◌++◌,
+  Option,
+  Some,
+  None,
+  bytes_eq,
+  if◌then◌else◌,
+}
 
 -- what each name holds, if anything
 abbrev pub Names : Type 0

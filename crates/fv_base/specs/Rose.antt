@@ -1,5 +1,5 @@
 -- Trees with labels, and their code. A data type that holds itself is coded through them: a value is written as a tree
--- with labels, and read back.
+-- with labels, and read back. Rule of this project.
 use Rattle.std.specs.Prelude.{◌≡◌}
 use Rattle.std.proofs.Common.{ap}
 use base.Stored.{Coded, Gv, gnil, gcons}

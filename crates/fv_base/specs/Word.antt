@@ -1,4 +1,4 @@
--- The number of a word, of which the two halves are kept apart so that a word takes 24 bytes.
+-- The number of a word, of which the two halves are kept apart so that a word takes 24 bytes. Rule of this project.
 use Rattle.std.specs.Prelude.{ℕ, ◌+◌, ◌*◌, ◌^◌}
 use Rattle.fv_base.specs.declared.word.Word.{Word}
 

@@ -1,6 +1,18 @@
 //! Numbered calls of which some are to fail, for the implementations in memory.
 
-ghost use Rattle.std.specs.Prelude.{◌≡◌, ◌≤◌, ◌+◌, ◌-◌, ◌^◌, ◌↔◌, min, if◌then◌else◌, IsTrue, [], ◌∷◌};
+ghost use Rattle.std.specs.Prelude.{
+  ◌≡◌,
+  ◌≤◌,
+  ◌+◌,
+  ◌-◌,
+  ◌^◌,
+  ◌↔◌,
+  min,
+  if◌then◌else◌,
+  IsTrue,
+  [],
+  ◌∷◌,
+};
 ghost use Rattle.fv_base.specs.Outside.{Rose};
 ghost use Rattle.fv_base.specs.Failing.{is_failing};
 

@@ -41,7 +41,8 @@ pub trait Files {
     fn write(&mut self, alloc: Global, name: &[u8], bytes: &[u8]) -> Result<(), FileFault>
         ensures ok { OnOk result (Holds (held self.old) (held self.new) name.now bytes.now) }
         ensures failed { IsErrOf result FileFault.Failed → Rose (faults self.old) (faults self.new) }
-        ensures part { IsErrOf result FileFault.Failed → HoldsPart (held self.old) (held self.new) name.now bytes.now }
+        ensures part { IsErrOf result FileFault.Failed
+            → HoldsPart (held self.old) (held self.new) name.now bytes.now }
         ensures memory { IsErrOf result FileFault.Memory → SameFiles (held self.old) (held self.new) }
         ensures never_absent { IsErrOf result FileFault.Absent → ⊥ }
         ensures faults_grow { faults self.old ≤ faults self.new }

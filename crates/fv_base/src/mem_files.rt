@@ -1,4 +1,17 @@
-ghost use Rattle.std.specs.Prelude.{◌≡◌, ◌≤◌, ◌+◌, ◌-◌, ◌^◌, ◌↔◌, ℕ, min, if◌then◌else◌, Some, None, IsTrue};
+ghost use Rattle.std.specs.Prelude.{
+  ◌≡◌,
+  ◌≤◌,
+  ◌+◌,
+  ◌-◌,
+  ◌^◌,
+  ◌↔◌,
+  ℕ,
+  min,
+  if◌then◌else◌,
+  Some,
+  None,
+  IsTrue,
+};
 ghost use Rattle.std.specs.Prelude.{MatchOption, IfOk, OnOk, IsErrOf};
 ghost use Rattle.fv_base.specs.Outside.{Rose, ReadGives, Lacks, Holds, HoldsPart, SameFiles};
 ghost use Rattle.fv_base.specs.Failing.{is_failing};

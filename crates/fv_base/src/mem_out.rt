@@ -1,4 +1,19 @@
-ghost use Rattle.std.specs.Prelude.{◌≡◌, ◌≤◌, ◌+◌, ◌-◌, ◌^◌, ◌++◌, ◌↔◌, ℕ, [], min, max, length, if◌then◌else◌, Some};
+ghost use Rattle.std.specs.Prelude.{
+  ◌≡◌,
+  ◌≤◌,
+  ◌+◌,
+  ◌-◌,
+  ◌^◌,
+  ◌++◌,
+  ◌↔◌,
+  ℕ,
+  [],
+  min,
+  max,
+  length,
+  if◌then◌else◌,
+  Some,
+};
 ghost use Rattle.std.specs.Prelude.{is_ok, IsOk, IsTrue, OnOk, OnErr, IsErrOf};
 ghost use Rattle.fv_base.specs.Outside.{Rose, Appends, AppendsPart};
 ghost use Rattle.fv_base.specs.Failing.{is_failing};
@@ -75,7 +90,8 @@ impl MemOut {
     fn append(&mut self, bytes: &[u8]) -> Result<(), Memory>
         ensures sent { self.new.sent ≡ (if is_ok result then self.old.sent ++ bytes.now else self.old.sent) }
         ensures succeeds { length bytes.now ≤ self.old.spare → IsOk result }
-        ensures spare { self.new.spare ≡ (if is_ok result then self.old.spare - length bytes.now else self.old.spare) }
+        ensures spare { self.new.spare ≡ (if is_ok result then self.old.spare - length bytes.now
+            else self.old.spare) }
         ensures failing { self.new.failing ≡ self.old.failing }
         ensures call { self.new.call ≡ self.old.call }
         ensures faults { self.new.faults ≡ self.old.faults }

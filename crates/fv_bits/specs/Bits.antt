@@ -1,6 +1,23 @@
 -- Numbers of so many bits, as the bits of a vector: what operators make of them. A number of w bits is below 2 ^ w,
 -- and is read as signed in two's complement. IEEE 1364-2005, sections 4.1, 5.1 and 5.5.
-use Rattle.std.specs.Prelude.{ℕ, zero, suc, ◌+◌, ◌-◌, ◌*◌, ◌/◌, ◌%◌, ◌^◌, ◌==◌, Bool, true, false, ◌&&◌, not, nat_le}
+use Rattle.std.specs.Prelude.{
+  ℕ,
+  zero,
+  suc,
+  ◌+◌,
+  ◌-◌,
+  ◌*◌,
+  ◌/◌,
+  ◌%◌,
+  ◌^◌,
+  ◌==◌,
+  Bool,
+  true,
+  false,
+  ◌&&◌,
+  not,
+  nat_le,
+}
 use Rattle.std.specs.Prelude.{if◌then◌else◌, ℤ, pos, negsuc, int_lt, int_div, int_rem, bit_and, bit_or}
 
 -- the lowest w bits

@@ -1,5 +1,21 @@
 -- Numbers in decimal digits, of any length, with leading zeros too. Rule of this project.
-use Rattle.std.specs.Prelude.{ℕ, ◌+◌, ◌-◌, ◌*◌, Bool, ◌&&◌, nat_le, if◌then◌else◌, ◌==◌, List, [], ◌∷◌, ℤ, pos, neg_ℤ}
+use Rattle.std.specs.Prelude.{
+  ℕ,
+  ◌+◌,
+  ◌-◌,
+  ◌*◌,
+  Bool,
+  ◌&&◌,
+  nat_le,
+  if◌then◌else◌,
+  ◌==◌,
+  List,
+  [],
+  ◌∷◌,
+  ℤ,
+  pos,
+  neg_ℤ,
+}
 use Rattle.std.specs.Prelude.{Option, Some, None, option_map}
 
 -- `0` to `9`

@@ -1,6 +1,21 @@
 -- The lines of a text and the words of a line, for clause files, proofs and configurations. What ends a line and what
 -- parts words is a rule of this project.
-use Rattle.std.specs.Prelude.{ℕ, ◌+◌, ◌-◌, ◌^◌, min, Bool, true, false, not, ◌&&◌, ◌||◌, if◌then◌else◌, ◌==◌, List}
+use Rattle.std.specs.Prelude.{
+  ℕ,
+  ◌+◌,
+  ◌-◌,
+  ◌^◌,
+  min,
+  Bool,
+  true,
+  false,
+  not,
+  ◌&&◌,
+  ◌||◌,
+  if◌then◌else◌,
+  ◌==◌,
+  List,
+}
 use Rattle.std.specs.Prelude.{[], ◌∷◌, drop}
 
 -- there is none

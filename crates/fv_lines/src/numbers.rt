@@ -1,4 +1,17 @@
-ghost use Rattle.std.specs.Prelude.{◌≡◌, ◌<◌, ◌≤◌, ◌+◌, ◌-◌, ◌*◌, ◌^◌, ℕ, min, true, option_map, IfSome};
+ghost use Rattle.std.specs.Prelude.{
+  ◌≡◌,
+  ◌<◌,
+  ◌≤◌,
+  ◌+◌,
+  ◌-◌,
+  ◌*◌,
+  ◌^◌,
+  ℕ,
+  min,
+  true,
+  option_map,
+  IfSome,
+};
 ghost use Rattle.fv_lines.specs.Numbers.{is_digit, natural_of, number_up_to};
 
 /// No number is told beyond this one.

@@ -1,10 +1,24 @@
-ghost use Rattle.std.specs.Prelude.{◌≡◌, ◌∷◌, [], ◌+◌, ◌<◌, ℕ, length, take, drop, true, ◌≤◌, MatchOption};
+ghost use Rattle.std.specs.Prelude.{
+  ◌≡◌,
+  ◌∷◌,
+  [],
+  ◌+◌,
+  ◌<◌,
+  ℕ,
+  length,
+  take,
+  drop,
+  true,
+  ◌≤◌,
+  MatchOption,
+};
 ghost use Rattle.fv_lines.specs.Words.{words, is_blank, begins_blank, begins_word};
 
 /// The first word of a line, and what stands behind it; None where no word is left.
 pub fn next_word(line: &[u8]) -> Option<(&[u8], &[u8])>
     ensures words { MatchOption result (words line.now ≡ []) (λ x. words line.now ≡ x.0.now ∷ words x.1.now) }
-    ensures shorter { MatchOption result (length line.now ≡ length line.now) (λ x. length x.1.now < length line.now) }
+    ensures shorter { MatchOption result (length line.now ≡ length line.now)
+        (λ x. length x.1.now < length line.now) }
 {
     let mut start = 0;
     while begins_blank(&line[start..]) {

@@ -1,4 +1,4 @@
--- What a call answers, want of memory apart.
+-- What a call answers, want of memory apart. Rule of this project.
 use Rattle.std.specs.Prelude.{ℕ, ◌≡◌, false, List, [], ◌∷◌, ℤ, Option, Some, None, Result, Ok, Err}
 use Rattle.lrat_check.specs.declared.step.Step.{Step}
 use Rattle.lrat_check.specs.declared.step.Refuted.{Refuted}
@@ -29,14 +29,18 @@ Judges (Err e) wanted = OrMemory e (wanted ≡ Some e)
 
 -- one step is taken: what the verdict is, or how the other steps go on
 abbrev pub Takes : Held → ℕ → Held → ℕ → Step → Result (Option Refuted) StepFault → Type 0
-Takes held top now high step (Ok (Some refuted)) = (steps : List Step) → verdict held top (step ∷ steps) ≡ Ok refuted
-Takes held top now high step (Ok None) = (steps : List Step) → verdict held top (step ∷ steps) ≡ verdict now high steps
+Takes held top now high step (Ok (Some refuted)) =
+    (steps : List Step) → verdict held top (step ∷ steps) ≡ Ok refuted
+Takes held top now high step (Ok None) =
+    (steps : List Step) → verdict held top (step ∷ steps) ≡ verdict now high steps
 Takes held top now high step (Err e) = OrMemory e ((steps : List Step) → verdict held top (step ∷ steps) ≡ Err e)
 
 -- an added clause is taken
-abbrev pub Adds : Held → ℕ → Held → ℕ → ℕ → List ℤ → List ℤ → Result (Option Refuted) StepFault → Type 0
+abbrev pub Adds : Held → ℕ → Held → ℕ → ℕ → List ℤ → List ℤ
+    → Result (Option Refuted) StepFault → Type 0
 Adds held top now high id lits hints (Ok (Some refuted)) =
     (add_fault held top id lits hints ≡ None) × (lits ≡ []) × (refuted ≡ record { id = id })
-Adds held top now high id lits hints (Ok None) = (add_fault held top id lits hints ≡ None) × (is_empty lits ≡ false)
+Adds held top now high id lits hints (Ok None) =
+    (add_fault held top id lits hints ≡ None) × (is_empty lits ≡ false)
     × (now ≡ with_clause held id lits) × (high ≡ id)
 Adds held top now high id lits hints (Err e) = OrMemory e (add_fault held top id lits hints ≡ Some e)

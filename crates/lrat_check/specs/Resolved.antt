@@ -1,5 +1,20 @@
--- What steps derive, and when each added clause is a resolvent that strengthens unit propagation.
-use Rattle.std.specs.Prelude.{ℕ, ◌≡◌, Bool, true, false, not, if◌then◌else◌, List, [], ◌∷◌, ◌++◌, ℤ, neg_ℤ}
+-- What steps derive, and when each added clause is a resolvent that strengthens unit propagation. Rule of this
+-- project.
+use Rattle.std.specs.Prelude.{
+  ℕ,
+  ◌≡◌,
+  Bool,
+  true,
+  false,
+  not,
+  if◌then◌else◌,
+  List,
+  [],
+  ◌∷◌,
+  ◌++◌,
+  ℤ,
+  neg_ℤ,
+}
 use Rattle.std.specs.Prelude.{unsigned_abs, Option, Some, None}
 use Rattle.std.specs.List.{list_any, list_all}
 use Rattle.lrat_check.specs.Sets.{has, is_false, same_set, without, union, negs, reading}
@@ -49,7 +64,8 @@ resolvent held set (h ∷ hs) =
 
 -- the clause is that resolvent, as a set
 abbrev pub IsResolvent : Held → List ℤ → List ℤ → Type 0
-IsResolvent held lits hints = (r : List ℤ) × (resolvent held (negs lits) hints ≡ Some r) × (same_set r lits ≡ true)
+IsResolvent held lits hints =
+    (r : List ℤ) × (resolvent held (negs lits) hints ≡ Some r) × (same_set r lits ≡ true)
 
 -- a set of literals has no complementary pair
 abbrev pub consistent : List ℤ → Bool

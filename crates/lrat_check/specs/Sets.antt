@@ -1,7 +1,22 @@
 -- Sets of literals, as lists that are read by what they hold, and how a clause reads under a set of true literals.
 -- A literal is true where the set holds it, and false where the set holds its complement: a partial assignment, as unit
 -- propagation reads clauses (Cruz-Filipe, Heule, Hunt, Kaufmann, Schneider-Kamp: Efficient Certified RAT Verification).
-use Rattle.std.specs.Prelude.{◌<◌, ◌^◌, Bool, not, ◌&&◌, if◌then◌else◌, List, [], ◌∷◌, ◌++◌, filter, map, ℤ, neg_ℤ}
+use Rattle.std.specs.Prelude.{
+  ◌<◌,
+  ◌^◌,
+  Bool,
+  not,
+  ◌&&◌,
+  if◌then◌else◌,
+  List,
+  [],
+  ◌∷◌,
+  ◌++◌,
+  filter,
+  map,
+  ℤ,
+  neg_ℤ,
+}
 use Rattle.std.specs.Prelude.{unsigned_abs, Option, Some, None}
 use Rattle.std.specs.Ordering.{int_eq}
 use Rattle.std.specs.List.{AllByRecursion, list_any, list_all}

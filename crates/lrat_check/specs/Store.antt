@@ -1,5 +1,21 @@
 -- Clauses by id, as codes of literals in one list. Rules of this project.
-use Rattle.std.specs.Prelude.{ℕ, suc, ◌+◌, ◌<◌, ◌≤◌, ◌≡◌, Bool, false, if◌then◌else◌, eqb, List, [], ◌∷◌, ℤ, length}
+use Rattle.std.specs.Prelude.{
+  ℕ,
+  suc,
+  ◌+◌,
+  ◌<◌,
+  ◌≤◌,
+  ◌≡◌,
+  Bool,
+  false,
+  if◌then◌else◌,
+  ◌==◌,
+  List,
+  [],
+  ◌∷◌,
+  ℤ,
+  length,
+}
 use Rattle.std.specs.Prelude.{slice_range, slice_index_or, Option, Some, None, IsSome, MatchBool, Result, Ok, Err}
 use Rattle.lrat_check.specs.declared.row.Row.{Row}
 use Rattle.lrat_check.specs.declared.step.StepFault.{StepFault}
@@ -26,7 +42,7 @@ part all row = if row.held then Some (slice_range all row.start row.end) else No
 -- what the row of the id holds
 abbrev pub found : List ℕ → List Row → Coded
 found all [] id = None
-found all (row ∷ rows) id = if eqb row.id id then part all row else found all rows id
+found all (row ∷ rows) id = if row.id == id then part all row else found all rows id
 
 -- the map from ids to clauses
 abbrev pub coded : Clauses → Coded
@@ -42,11 +58,11 @@ next store = above store.last
 
 -- the id holds the clause from here on
 abbrev pub with_code : Coded → ℕ → List ℕ → Coded
-with_code held id clause = λ i. if eqb id i then Some clause else held i
+with_code held id clause = λ i. if id == i then Some clause else held i
 
 -- the id holds none from here on
 abbrev pub without_code : Coded → ℕ → Coded
-without_code held id = λ i. if eqb id i then None else held i
+without_code held id = λ i. if id == i then None else held i
 
 abbrev pub row_at : List Row → ℕ → Row
 row_at rows place = slice_index_or rows place (record { id = 0; start = 0; end = 0; held = false })
@@ -72,7 +88,8 @@ IsRow rows id k = (k < length rows) × ((row_at rows k).id ≡ id)
 
 -- whether the id was held, and what is held without it
 abbrev pub Removes : Coded → Coded → ℕ → Bool → Type 0
-Removes held now id was_held = MatchBool was_held (IsSome (held id) × (now ≡ without_code held id)) (held id ≡ None)
+Removes held now id was_held =
+    MatchBool was_held (IsSome (held id) × (now ≡ without_code held id)) (held id ≡ None)
 
 abbrev pub literals : Option (List ℕ) → Option (List ℤ)
 literals None = None
@@ -88,7 +105,8 @@ AreHeld held = (id : ℕ) (clause : List ℤ) → held id ≡ Some clause → Ar
 
 -- whether the id was held, and what is held without it, as literals
 abbrev pub Forgets : Held → Held → ℕ → Bool → Type 0
-Forgets held now id was_held = MatchBool was_held (IsSome (held id) × (now ≡ without_clause held id)) (held id ≡ None)
+Forgets held now id was_held =
+    MatchBool was_held (IsSome (held id) × (now ≡ without_clause held id)) (held id ≡ None)
 
 -- what a deletion leaves, or why it is refused
 abbrev pub Deletes : Held → Result (Unit {0}) StepFault → Result Held StepFault → Type 0

@@ -1,6 +1,20 @@
 -- Proofs as texts (LRAT, without the binary form): which steps a text says, and why it says none. One step a line:
 -- `ID LITERALS 0 HINTS 0`, or `ID d IDS 0`. How long numbers may be is a rule of this project.
-use Rattle.std.specs.Prelude.{ℕ, ◌<◌, ◌^◌, ◌≡◌, unsigned_abs, Bool, if◌then◌else◌, nat_le, ◌==◌, List, [], ◌∷◌, ◌++◌}
+use Rattle.std.specs.Prelude.{
+  ℕ,
+  ◌<◌,
+  ◌^◌,
+  ◌≡◌,
+  unsigned_abs,
+  Bool,
+  if◌then◌else◌,
+  nat_le,
+  ◌==◌,
+  List,
+  [],
+  ◌∷◌,
+  ◌++◌,
+}
 use Rattle.std.specs.Prelude.{length, flat_map, ℤ, codes, decimal, bytes_eq, Option, Some, None, Result, Ok, Err}
 use Rattle.std.specs.List.{AllByRecursion}
 use Rattle.fv_lines.specs.Words.{lines, words, is_nil, next_place}
@@ -31,14 +45,22 @@ is_end word = bytes_eq word (codes "0")
 abbrev pub is_delete : List ℕ → Bool
 is_delete word = bytes_eq word (codes "d")
 
+-- what comes next is made of what was read; a refusal stays
+abbrev pub and_then : {A B : Type 0} → Result A LratFault → (A → Result B LratFault) → Result B LratFault
+and_then (Ok x) next = next x
+and_then (Err e) next = Err e
+
+-- a number that has to be there
+abbrev pub wanted : {A : Type 0} → ℕ → Option A → Result A LratFault
+wanted line None = Err (Literal line)
+wanted line (Some x) = Ok x
+
 -- the numbers up to the word `0`, and the words behind it
 abbrev pub up_to_end : {X : Type 0} → (List ℕ → Option X) → ℕ → List X → List (List ℕ)
     → Result (List X × List (List ℕ)) LratFault
 up_to_end number line xs [] = Err (Open line)
-up_to_end number line xs (w ∷ ws) = if is_end w then Ok (xs, ws) else (elim (number w) [
-  | None ↦ Err (Literal line)
-  | Some x ↦ up_to_end number line (xs ++ x ∷ []) ws
-])
+up_to_end number line xs (w ∷ ws) = if is_end w then Ok (xs, ws)
+    else and_then (wanted line (number w)) (λ x. up_to_end number line (xs ++ x ∷ []) ws)
 
 -- no word stands behind the last end
 abbrev pub ended : ℕ → Step → List (List ℕ) → Result Step LratFault
@@ -46,19 +68,12 @@ ended line step [] = Ok step
 ended line step (w ∷ ws) = Err (Literal line)
 
 abbrev pub add_of : ℕ → ℕ → List (List ℕ) → Result Step LratFault
-add_of line id ws = elim (up_to_end literal_of line [] ws) [
-  | Err e ↦ Err e
-  | Ok lits ↦ elim (up_to_end literal_of line [] lits.1) [
-    | Err e ↦ Err e
-    | Ok hints ↦ ended line (Add id lits.0 hints.0) hints.1
-  ]
-]
+add_of line id ws = and_then (up_to_end literal_of line [] ws) (λ lits.
+    and_then (up_to_end literal_of line [] lits.1) (λ hints. ended line (Add id lits.0 hints.0) hints.1))
 
 abbrev pub delete_of : ℕ → ℕ → List (List ℕ) → Result Step LratFault
-delete_of line id ws = elim (up_to_end (λ w. nonzero (short w)) line [] ws) [
-  | Err e ↦ Err e
-  | Ok ids ↦ ended line (Delete id ids.0) ids.1
-]
+delete_of line id ws =
+    and_then (up_to_end (λ w. nonzero (short w)) line [] ws) (λ ids. ended line (Delete id ids.0) ids.1)
 
 -- `d` in the second place makes it a deletion
 abbrev pub behind_id : ℕ → ℕ → List (List ℕ) → Result Step LratFault
@@ -68,24 +83,16 @@ behind_id line id (w ∷ ws) = if is_delete w then delete_of line id ws else add
 -- the step of a line's words
 abbrev pub step_of : ℕ → List (List ℕ) → Result Step LratFault
 step_of line [] = Err (Open line)
-step_of line (w ∷ ws) = elim (short w) [
-  | None ↦ Err (Literal line)
-  | Some id ↦ behind_id line id ws
-]
+step_of line (w ∷ ws) = and_then (wanted line (short w)) (λ id. behind_id line id ws)
 
 -- a blank line says nothing
 abbrev pub with_line : ℕ → List Step → List ℕ → Result (List Step) LratFault
-with_line line steps l = if is_nil (words l) then Ok steps else (elim (step_of line (words l)) [
-  | Err e ↦ Err e
-  | Ok step ↦ Ok (steps ++ step ∷ [])
-])
+with_line line steps l = if is_nil (words l) then Ok steps
+    else and_then (step_of line (words l)) (λ step. Ok (steps ++ step ∷ []))
 
 abbrev pub with_lines : ℕ → List Step → List (List ℕ) → Result (List Step) LratFault
 with_lines line steps [] = Ok steps
-with_lines line steps (l ∷ ls) = elim (with_line line steps l) [
-  | Err e ↦ Err e
-  | Ok more ↦ with_lines (next_place line) more ls
-]
+with_lines line steps (l ∷ ls) = and_then (with_line line steps l) (λ more. with_lines (next_place line) more ls)
 
 -- the steps of a text, or why it has none
 abbrev pub steps_of : List ℕ → Result (List Step) LratFault
@@ -111,7 +118,8 @@ abbrev pub IsShortId : ℕ → Type 0
 IsShortId id = (0 < id) × (id < 10 ^ 18)
 
 abbrev pub IsShort : Step → Type 0
-IsShort (Add id lits hints) = (id < 10 ^ 18) × AllByRecursion IsShortLiteral lits × AllByRecursion IsShortLiteral hints
+IsShort (Add id lits hints) =
+    (id < 10 ^ 18) × AllByRecursion IsShortLiteral lits × AllByRecursion IsShortLiteral hints
 IsShort (Delete id ids) = (id < 10 ^ 18) × AllByRecursion IsShortId ids
 
 abbrev pub AreShort : List Step → Type 0

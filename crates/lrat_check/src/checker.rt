@@ -27,7 +27,8 @@ struct Checker {
 pub fn verify(alloc: Global, formula: &Formula, steps: &[Step]) -> Result<Refuted, StepFault>
     requires { AreSteps steps.now }
     ensures answers { Answers result (judged formula.now.clauses steps.now) }
-    ensures sound { IfOk result (λ refuted. (values : ℕ → Bool) → formula_true values formula.now.clauses ≡ false) }
+    ensures sound { IfOk result (λ refuted. (values : ℕ → Bool)
+        → formula_true values formula.now.clauses ≡ false) }
 {
     let mut checker = Checker {
         held: store_of(alloc, formula)?,

@@ -1,4 +1,18 @@
-ghost use Rattle.std.specs.Prelude.{◌≡◌, ◌<◌, ◌≤◌, ◌^◌, [], List, ℕ, ℤ, unsigned_abs, option_map, IfOk, IfSome, OnOk};
+ghost use Rattle.std.specs.Prelude.{
+  ◌≡◌,
+  ◌<◌,
+  ◌≤◌,
+  ◌^◌,
+  [],
+  List,
+  ℕ,
+  ℤ,
+  unsigned_abs,
+  option_map,
+  IfOk,
+  IfSome,
+  OnOk,
+};
 ghost use Rattle.fv_lines.specs.Words.{lines, words, next_place};
 ghost use Rattle.lrat_check.specs.Sets.{AreLits, IsLit};
 ghost use Rattle.lrat_check.specs.Steps.{IsStep, AreSteps};
@@ -110,7 +124,8 @@ fn literals(alloc: Global, line: u32, text: &[u8]) -> Result<(List<i64>, &[u8]),
 
 /// The ids up to the word `0`, and what stands behind it.
 fn deleted(alloc: Global, line: u32, text: &[u8]) -> Result<(List<u64>, &[u8]), LratFault>
-    ensures { Answers (λ x. (x.0, words x.1.now)) result (up_to_end (λ w. nonzero (short w)) line [] (words text.now)) }
+    ensures { Answers (λ x. (x.0, words x.1.now)) result
+        (up_to_end (λ w. nonzero (short w)) line [] (words text.now)) }
 {
     let mut ids = List::new(alloc);
     let mut rest = text;

@@ -1,4 +1,18 @@
-ghost use Rattle.std.specs.Prelude.{◌≡◌, ◌≤◌, ◌<◌, ◌+◌, ℕ, List, None, Some, length, IfOk, OnOk, OnErr, MatchOption};
+ghost use Rattle.std.specs.Prelude.{
+  ◌≡◌,
+  ◌≤◌,
+  ◌<◌,
+  ◌+◌,
+  ℕ,
+  List,
+  None,
+  Some,
+  length,
+  IfOk,
+  OnOk,
+  OnErr,
+  MatchOption,
+};
 ghost use Rattle.std.specs.Prelude.{MatchBool};
 ghost use Rattle.std.specs.List.{swap};
 ghost use Rattle.lrat_check.specs.Codes.{codes_of};
@@ -89,7 +103,8 @@ impl Store {
 
     /// Exchanges two places of the clause, and changes no other clause.
     pub fn swap(&mut self, id: u64, a: u32, b: u32)
-        requires { (clause : List ℕ) × (coded self.old id ≡ Some clause) × (a < length clause) × (b < length clause) }
+        requires { (clause : List ℕ) × (coded self.old id ≡ Some clause) × (a < length clause)
+            × (b < length clause) }
         ensures swapped { (clause : List ℕ) → coded self.old id ≡ Some clause
             → coded self.new ≡ with_code (coded self.old) id (swap clause a b) }
         ensures next { next self.new ≡ next self.old }
@@ -99,7 +114,8 @@ impl Store {
 
     /// Exchanges two places of the clause, and changes no other clause.
     pub fn exchange(&mut self, id: u64, a: usize, b: usize)
-        requires { (clause : List ℕ) × (coded self.old id ≡ Some clause) × (a < length clause) × (b < length clause) }
+        requires { (clause : List ℕ) × (coded self.old id ≡ Some clause) × (a < length clause)
+            × (b < length clause) }
         ensures swapped { (clause : List ℕ) → coded self.old id ≡ Some clause
             → coded self.new ≡ with_code (coded self.old) id (swap clause a b) }
         ensures next { next self.new ≡ next self.old }

@@ -2,7 +2,17 @@
 //! proof file: the rule set `additions` of `wn_net` carries nodes, their widths and their values over each call.
 #![tactic(auto, using(wn_net::proofs::Laws::additions))]
 
-ghost use Rattle.std.specs.Prelude.{◌≡◌, ◌+◌, ◌==◌, nat_lt, bit_and, bit_or, bit_xor, if◌then◌else◌, IfOk};
+ghost use Rattle.std.specs.Prelude.{
+  ◌≡◌,
+  ◌+◌,
+  ◌==◌,
+  nat_lt,
+  bit_and,
+  bit_or,
+  bit_xor,
+  if◌then◌else◌,
+  IfOk,
+};
 ghost use Rattle.fv_bits.specs.Bits as bits;
 ghost use Rattle.wn_net.specs.Value.{Given};
 ghost use Rattle.wn_net.specs.Given.{IsGiven};

@@ -25,7 +25,8 @@ pub fn put_inputs(net: &Net, cycle: u64, each: &[u128], once: &[u128], inputs: &
     requires each { length each.now ≡ length net.now.inputs }
     requires once { length once.now ≡ length net.now.inputs }
     requires room { length inputs.old ≡ length net.now.inputs }
-    ensures { inputs.new ≡ inputs_from (slice_index each.now) (slice_index once.now) (reset_at cycle) 0 net.now.inputs }
+    ensures { inputs.new ≡ inputs_from (slice_index each.now) (slice_index once.now)
+        (reset_at cycle) 0 net.now.inputs }
 {
     for (index, input) in net.inputs().iter().enumerate() {
         inputs[index] = number_of(input.kind, cycle, each[index], once[index]);

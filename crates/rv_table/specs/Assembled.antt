@@ -1,5 +1,19 @@
 -- The word of a row with its registers and its immediate: manual, section 2.2 and 2.3, figures 2.2 to 2.4.
-use Rattle.std.specs.Prelude.{ℕ, ◌+◌, ◌*◌, ◌^◌, ◌<◌, Bool, true, ◌&&◌, nat_lt, Option, Some, None, unwrap_or}
+use Rattle.std.specs.Prelude.{
+  ℕ,
+  ◌+◌,
+  ◌*◌,
+  ◌^◌,
+  ◌<◌,
+  Bool,
+  true,
+  ◌&&◌,
+  nat_lt,
+  Option,
+  Some,
+  None,
+  unwrap_or,
+}
 use Rattle.rv_table.specs.declared.pattern.Form.{Form}
 use Rattle.rv_table.specs.declared.pattern.Form.TheVariants.{R, I, S, B, U, J}
 use Rattle.rv_table.specs.declared.pattern.Pattern.{Pattern}

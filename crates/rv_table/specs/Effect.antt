@@ -1,5 +1,20 @@
 -- What an instruction does: manual, chapters 2 (RV32I), 7 (M) and 16 (C), on whole numbers.
-use Rattle.std.specs.Prelude.{◌≡◌, ℕ, ◌-◌, ◌*◌, ◌/◌, ◌%◌, ◌^◌, Bool, true, false, not, ◌&&◌, ◌==◌, nat_lt}
+use Rattle.std.specs.Prelude.{
+  ◌≡◌,
+  ℕ,
+  ◌-◌,
+  ◌*◌,
+  ◌/◌,
+  ◌%◌,
+  ◌^◌,
+  Bool,
+  true,
+  false,
+  not,
+  ◌&&◌,
+  ◌==◌,
+  nat_lt,
+}
 use Rattle.std.specs.Prelude.{if◌then◌else◌, pos, ◌*ℤ◌, bit_and, bit_or, bit_xor}
 use Rattle.rv_table.specs.declared.retire.Retire.{Retire}
 use Rattle.rv_table.specs.declared.retire.Opts.{Opts}

@@ -1,5 +1,20 @@
--- What holds of the tables as a whole.
-use Rattle.std.specs.Prelude.{Some, false, slice_get, true, ℕ, ◌*ℤ◌, ◌*◌, ◌+ℤ◌, ◌+◌, ◌-◌, ◌<◌, ◌==◌, ◌^◌, ◌≡◌}
+-- What holds of the tables as a whole. Rule of this project.
+use Rattle.std.specs.Prelude.{
+  Some,
+  false,
+  slice_get,
+  true,
+  ℕ,
+  ◌*ℤ◌,
+  ◌*◌,
+  ◌+ℤ◌,
+  ◌+◌,
+  ◌-◌,
+  ◌<◌,
+  ◌==◌,
+  ◌^◌,
+  ◌≡◌,
+}
 use Rattle.std.specs.Int.{w32}
 use Rattle.std.specs.Int.RustNames.{FitsSigned, int_div}
 use Rattle.rv_table.specs.Arithmetic.{signed, quotient, quotient_signed, remainder, remainder_signed}

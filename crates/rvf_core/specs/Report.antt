@@ -92,7 +92,8 @@ IsWritten (Err out.Failed) held held_now faults faults_now name bytes =
 IsWritten (Err out.Memory) held held_now faults faults_now name bytes = SameFiles held held_now
 
 -- what a call left that puts a line
-abbrev pub IsPut : Result (Unit {0}) OutFault → Option (List ℕ) → Option (List ℕ) → ℕ → ℕ → List ℕ → Type 0
+abbrev pub IsPut : Result (Unit {0}) OutFault → Option (List ℕ) → Option (List ℕ) → ℕ → ℕ → List ℕ
+    → Type 0
 IsPut (Ok u) sent sent_now faults faults_now line = Appends sent sent_now line
 IsPut (Err out.Failed) sent sent_now faults faults_now line = AppendsPart sent sent_now line × Rose faults faults_now
 IsPut (Err out.Memory) sent sent_now faults faults_now line = sent_now ≡ sent

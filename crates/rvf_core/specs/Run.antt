@@ -1,5 +1,21 @@
 -- What an answer of the top call means: its cause, and its report. Rules of this project.
-use Rattle.std.specs.Prelude.{◌≡◌, ℕ, ◌+◌, ◌-◌, ◌^◌, Bool, true, false, ◌||◌, nat_le, min, List, [], ◌∷◌, Option}
+use Rattle.std.specs.Prelude.{
+  ◌≡◌,
+  ℕ,
+  ◌+◌,
+  ◌-◌,
+  ◌^◌,
+  Bool,
+  true,
+  false,
+  ◌||◌,
+  nat_le,
+  min,
+  List,
+  [],
+  ◌∷◌,
+  Option,
+}
 use Rattle.std.specs.Prelude.{Some, None, IfSome, ◌==◌}
 use Rattle.fv_base.specs.Outside.{Names, Told, Rose, ReadGives}
 use Rattle.vl_first.specs.Plain.{is_among}
@@ -164,9 +180,11 @@ pub record IsExact (status : Status) (r : Run) : Type 0 where
   pub absent : Lacking r → comes s.Absent status ≡ true
   pub source : (bytes : List ℕ) (refusal : Option TextFault) → Holding r bytes → Refuses refusal bytes
       → comes s.Source status ≡ true
-  pub pass : (bytes : List ℕ) (ports : List FirstPort) → Holding r bytes → IsFirst bytes ports → NoneViolate ports
+  pub pass : (bytes : List ℕ) (ports : List FirstPort) → Holding r bytes → IsFirst bytes ports
+      → NoneViolate ports
       → comes_in_budget s.Passed status ≡ true
   pub fail : (bytes : List ℕ) (ports : List FirstPort) (numbers : List ℕ)
-      → Holding r bytes → IsFirst bytes ports → violates ports numbers ≡ true → comes_in_budget s.Failing status ≡ true
+      → Holding r bytes → IsFirst bytes ports → violates ports numbers ≡ true
+      → comes_in_budget s.Failing status ≡ true
   pub certificate : (clauses steps : List ℕ) → HoldingBoth r clauses steps
       → comes (outcome clauses steps).status status ≡ true

@@ -1,5 +1,19 @@
 -- The verdict on the bytes of a file, with what it reports. Rules of this project.
-use Rattle.std.specs.Prelude.{◌≡◌, ℕ, ◌<◌, ◌^◌, true, false, Option, List, [], ◌∷◌, ◌++◌, length, codes}
+use Rattle.std.specs.Prelude.{
+  ◌≡◌,
+  ℕ,
+  ◌<◌,
+  ◌^◌,
+  true,
+  false,
+  Option,
+  List,
+  [],
+  ◌∷◌,
+  ◌++◌,
+  length,
+  codes,
+}
 use Rattle.cnf_form.specs.Cnf.{Cnf}
 use Rattle.cnf_text.specs.Dimacs.{dimacs_text}
 use Rattle.lrat_check.specs.Resolved.{Resolved, derived}

@@ -1,4 +1,4 @@
--- The command that the words ask for, as the program reads it.
+-- The command that the words ask for, as the program reads it. Rule of this project.
 use Rattle.rvf_core.specs.Command.{Command, check, refute}
 use Rattle.rvf_core.specs.declared.request.Request.{Request}
 use Rattle.rvf_core.specs.declared.request.Request.TheVariants as request

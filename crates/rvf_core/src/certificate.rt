@@ -47,7 +47,8 @@ fn line_of_two(alloc: Global, front: &[u8], number: u8, value: u32) -> Result<Ve
 }
 
 fn line_of_three(alloc: Global, number: u8, id: u64, hint: i128) -> Result<Vec<u8>, Memory>
-    ensures { IfOk result (λ line. line.items ≡ three_values (codes "refused step") number id (signed_decimal hint)) }
+    ensures { IfOk result (λ line. line.items
+        ≡ three_values (codes "refused step") number id (signed_decimal hint)) }
 {
     let mut buffer = Buffer::new();
     let mut line = Vec::new(alloc);

@@ -101,7 +101,8 @@ fn convicted(
 ) -> Result<List<Delivery>, Memory>
     requires plain { IsPlain first.now.ports }
     requires places { places.now ≡ places_of first.now.ports }
-    requires violating { (numbers : List ℕ) → agree first.now.ports places.now (value_of values.now) numbers ≡ true
+    requires violating { (numbers : List ℕ) → agree first.now.ports places.now (value_of values.now) numbers
+        ≡ true
         → violates first.now.ports numbers ≡ true }
     ensures { IfOk result (λ report. Convicts first.now.ports report) }
 {

@@ -1,5 +1,21 @@
 -- Lines of assumptions as items, and where these stand. Rules of this project.
-use Rattle.std.specs.Prelude.{refl, ℕ, ◌+◌, ◌-◌, ◌==◌, ◌&&◌, nat_le, Bool, true, false, not, List, [], ◌∷◌, ◌++◌}
+use Rattle.std.specs.Prelude.{
+  refl,
+  ℕ,
+  ◌+◌,
+  ◌-◌,
+  ◌==◌,
+  ◌&&◌,
+  nat_le,
+  Bool,
+  true,
+  false,
+  not,
+  List,
+  [],
+  ◌∷◌,
+  ◌++◌,
+}
 use Rattle.std.specs.Prelude.{length, take, drop, slice_get, Option, None, Some, Ok, Err, if◌then◌else◌, codes}
 use Rattle.std.specs.Prelude.{bytes_eq}
 use Rattle.std.specs.List.{filter}
@@ -24,7 +40,8 @@ sign_at sign at = record { kind = k.Symbol sign; pos = at; named = refl }
 -- `always @* assume (` in front of a line's tokens, at a place
 abbrev pub front_at : Pos → List Token
 front_at at =
-    word_at w.Always at ∷ sign_at s.At at ∷ sign_at s.Star at ∷ word_at w.Assume at ∷ sign_at s.OpenParen at ∷ []
+    word_at w.Always at ∷ sign_at s.At at ∷ sign_at s.Star at ∷ word_at w.Assume at ∷ sign_at s.OpenParen at
+    ∷ []
 
 -- `);` behind them
 abbrev pub end_at : Pos → List Token

@@ -1,6 +1,18 @@
 -- The macros that are defined before a text is read. Names and widths of RVFI are those of riscv-formal, the rest
 -- is a rule of this project.
-use Rattle.std.specs.Prelude.{◌≡◌, ℕ, List, [], ◌∷◌, ◌++◌, cond, false, None, Ok, codes}
+use Rattle.std.specs.Prelude.{
+  ◌≡◌,
+  ℕ,
+  List,
+  [],
+  ◌∷◌,
+  ◌++◌,
+  if◌then◌else◌,
+  false,
+  None,
+  Ok,
+  codes,
+}
 use Rattle.fv_base.specs.declared.token.Token.{Token}
 use Rattle.vl_token.specs.Tokens.{AreTokens}
 use Rattle.vl_prep.specs.Macros.{Held}
@@ -88,7 +100,8 @@ common =
 
 -- the text that defines the macros
 abbrev pub prologue : Core → List ℕ
-prologue core = cond core.compressed define_compressed [] ++ define_retirements ++ digits_of core.retirements ++ common
+prologue core = (if core.compressed then define_compressed else []) ++ define_retirements
+    ++ digits_of core.retirements ++ common
 
 abbrev pub none : Held
 none name = None

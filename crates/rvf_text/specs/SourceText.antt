@@ -76,7 +76,8 @@ pub record AreRead (lines : List Text) (done : Outcome) (r : Result Reading Text
   pub comes : r ≡ with_macros done.macros tree
 
 -- what one part comes to the next one is given; a part's fault is that of all
-abbrev pub Then : {A B : Type 0} → Result A TextFault → (A → Result B TextFault → Type 0) → Result B TextFault → Type 0
+abbrev pub Then : {A B : Type 0} → Result A TextFault → (A → Result B TextFault → Type 0)
+    → Result B TextFault → Type 0
 Then (Ok a) Next r = Next a r
 Then (Err fault) Next r = r ≡ Err fault
 

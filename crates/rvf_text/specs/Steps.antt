@@ -1,4 +1,4 @@
--- What the functions of this crate promise one another. No public clause cites it.
+-- What the functions of this crate promise one another. No public clause cites it. Rule of this project.
 use Rattle.std.specs.Prelude.{◌≡◌, List, [], ◌∷◌, ◌++◌, Ok, Err, Result}
 use Rattle.std.specs.List.{filter}
 use Rattle.std.specs.Global.{Vec}

@@ -1,5 +1,21 @@
 -- Texts that are read as one: each is lexed by itself, and their tokens are laid end to end. Rules of this project.
-use Rattle.std.specs.Prelude.{ℕ, Bool, false, ◌==◌, nat_lt, List, [], ◌∷◌, ◌++◌, map, Option, None, Some, Result, Ok}
+use Rattle.std.specs.Prelude.{
+  ℕ,
+  Bool,
+  false,
+  ◌==◌,
+  nat_lt,
+  List,
+  [],
+  ◌∷◌,
+  ◌++◌,
+  map,
+  Option,
+  None,
+  Some,
+  Result,
+  Ok,
+}
 use Rattle.std.specs.Prelude.{Err, if◌then◌else◌}
 use Rattle.fv_base.specs.declared.pos.Pos.{Pos}
 use Rattle.fv_base.specs.declared.token.Token.{Token}

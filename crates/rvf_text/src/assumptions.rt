@@ -132,7 +132,8 @@ fn sort_out(alloc: Global, section: Section, tokens: Vec<Token>) -> Result<Sorte
 /// The items behind so many of the tokens.
 fn put_behind(before: usize, items: Vec<Token>, tokens: Vec<Token>) -> Result<Vec<Token>, Memory>
     requires { before ≤ length tokens.items }
-    ensures { IfOk result (λ all. all.items ≡ take before tokens.items ++ (items.items ++ drop before tokens.items)) }
+    ensures { IfOk result (λ all. all.items ≡ take before tokens.items
+        ++ (items.items ++ drop before tokens.items)) }
 {
     let mut items = items;
     let mut all = tokens;

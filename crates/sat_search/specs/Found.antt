@@ -1,4 +1,4 @@
--- What a search answers.
+-- What a search answers. Rule of this project.
 use Rattle.std.specs.Prelude.{ℕ, ◌≡◌, Bool, true, not, List, [], ◌∷◌, ℤ, filter}
 use Rattle.cnf_form.specs.Cnf.{AreLiterals}
 use Rattle.lrat_check.specs.declared.step.Step.{Step}

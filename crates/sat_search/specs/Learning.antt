@@ -1,5 +1,18 @@
--- One clause is learnt.
-use Rattle.std.specs.Prelude.{◌+◌, ◌-◌, ◌^◌, ◌<◌, ◌≡◌, false, List, [], ◌∷◌, ◌++◌, ℤ, length}
+-- One clause is learnt. Rule of this project.
+use Rattle.std.specs.Prelude.{
+  ◌+◌,
+  ◌-◌,
+  ◌^◌,
+  ◌<◌,
+  ◌≡◌,
+  false,
+  List,
+  [],
+  ◌∷◌,
+  ◌++◌,
+  ℤ,
+  length,
+}
 use Rattle.std.specs.List.{list_any}
 use Rattle.lrat_check.specs.declared.step.Step.{Step}
 use Rattle.lrat_check.specs.declared.step.Step.TheVariants.{Add}

@@ -1,4 +1,4 @@
--- What the clauses come to under a set of true literals.
+-- What the clauses come to under a set of true literals. Rule of this project.
 use Rattle.std.specs.Prelude.{ℕ, ◌≤◌, ◌<◌, ◌≡◌, true, List, ℤ, slice_get, Some}
 use Rattle.std.specs.List.{AllByRecursion}
 use Rattle.lrat_check.specs.declared.reading.Reading.TheVariants as read

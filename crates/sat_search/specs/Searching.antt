@@ -1,6 +1,22 @@
 -- What the search keeps: how the trail stands, what the steps so far come to, and what falls with each round.
 -- Rules of this project.
-use Rattle.std.specs.Prelude.{ℕ, zero, suc, ◌+◌, ◌*◌, ◌-◌, ◌^◌, ◌<◌, ◌≡◌, Bool, true, false, not, ◌&&◌, ◌||◌}
+use Rattle.std.specs.Prelude.{
+  ℕ,
+  zero,
+  suc,
+  ◌+◌,
+  ◌*◌,
+  ◌-◌,
+  ◌^◌,
+  ◌<◌,
+  ◌≡◌,
+  Bool,
+  true,
+  false,
+  not,
+  ◌&&◌,
+  ◌||◌,
+}
 use Rattle.std.specs.Prelude.{if◌then◌else◌, List, [], ◌∷◌, ◌++◌, ℤ, pos, length}
 use Rattle.std.specs.List.{list_all}
 use Rattle.cnf_form.specs.Cnf.{AreLiterals, AreClauses}

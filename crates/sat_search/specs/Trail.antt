@@ -1,6 +1,24 @@
 -- Trails, the newest entry first: what is true, why each entry stands there, and what is older than a decision.
 -- Rules of this project, after conflict-driven clause learning.
-use Rattle.std.specs.Prelude.{ℕ, zero, suc, ◌+◌, ◌-◌, ◌<◌, ◌≡◌, Bool, true, false, ltb, ◌||◌, List, [], ◌∷◌, ◌++◌, ℤ}
+use Rattle.std.specs.Prelude.{
+  ℕ,
+  zero,
+  suc,
+  ◌+◌,
+  ◌-◌,
+  ◌<◌,
+  ◌≡◌,
+  Bool,
+  true,
+  false,
+  ltb,
+  ◌||◌,
+  List,
+  [],
+  ◌∷◌,
+  ◌++◌,
+  ℤ,
+}
 use Rattle.std.specs.Prelude.{pos, map, drop, length, slice_get, slice_index_or, Option, Some, None}
 use Rattle.std.specs.List.{list_any, list_all}
 use Rattle.cnf_form.specs.Cnf.{IsLiteral}
@@ -92,7 +110,8 @@ AllAssigned vars set = (index : ℕ) → index < vars → is_assigned set (index
 
 -- the literal is a variable without a value
 abbrev pub IsOpenVar : ℕ → List ℤ → ℤ → Type 0
-IsOpenVar vars set lit = (index : ℕ) × (index < vars) × (lit ≡ pos (index + 1)) × (is_assigned set (index + 1) ≡ false)
+IsOpenVar vars set lit =
+    (index : ℕ) × (index < vars) × (lit ≡ pos (index + 1)) × (is_assigned set (index + 1) ≡ false)
 
 -- the literal is one of so many variables, which has no value
 abbrev pub IsOpenLit : ℕ → List ℤ → ℤ → Type 0

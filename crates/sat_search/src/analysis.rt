@@ -1,4 +1,19 @@
-ghost use Rattle.std.specs.Prelude.{◌≡◌, ◌<◌, ◌+◌, ◌-◌, ◌^◌, [], ◌∷◌, ◌++◌, true, false, cond, pos, length, reverse};
+ghost use Rattle.std.specs.Prelude.{
+  ◌≡◌,
+  ◌<◌,
+  ◌+◌,
+  ◌-◌,
+  ◌^◌,
+  [],
+  ◌∷◌,
+  ◌++◌,
+  true,
+  false,
+  cond,
+  pos,
+  length,
+  reverse,
+};
 ghost use Rattle.std.specs.Prelude.{neg_ℤ, not, IfOk, OnOk};
 ghost use Rattle.lrat_check.specs.Sets.{has, without, union, reading, IsLit, AreLits};
 ghost use Rattle.sat_search.specs.Trail.{Entries, lits, below, decided, is_decision};

@@ -1,4 +1,17 @@
-ghost use Rattle.std.specs.Prelude.{◌≡◌, ◌<◌, ◌+◌, ◌-◌, ◌^◌, [], ◌∷◌, ◌++◌, true, length, reverse, OnOk};
+ghost use Rattle.std.specs.Prelude.{
+  ◌≡◌,
+  ◌<◌,
+  ◌+◌,
+  ◌-◌,
+  ◌^◌,
+  [],
+  ◌∷◌,
+  ◌++◌,
+  true,
+  length,
+  reverse,
+  OnOk,
+};
 ghost use Rattle.lrat_check.specs.Sets.{reading, AreLits};
 ghost use Rattle.sat_search.specs.Trail.{lits as true_lits, below, decided, Stand};
 ghost use Rattle.sat_search.specs.Propagation.{AllLits};

@@ -1,4 +1,15 @@
-ghost use Rattle.std.specs.Prelude.{◌≡◌, ◌<◌, [], ℕ, ℤ, if◌then◌else◌, slice_index_or, vec_len, OnOk, OnErr};
+ghost use Rattle.std.specs.Prelude.{
+  ◌≡◌,
+  ◌<◌,
+  [],
+  ℕ,
+  ℤ,
+  if◌then◌else◌,
+  slice_index_or,
+  vec_len,
+  OnOk,
+  OnErr,
+};
 ghost use Rattle.std.specs.Ordering.{int_eq};
 ghost use Rattle.lrat_check.specs.Sets.{IsLit};
 ghost use Rattle.sat_search.specs.Trail.{place_of};

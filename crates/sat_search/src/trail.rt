@@ -1,4 +1,15 @@
-ghost use Rattle.std.specs.Prelude.{◌≡◌, ◌≤◌, ◌||◌, false, List, [], ◌∷◌, length, OnOk, MatchOption};
+ghost use Rattle.std.specs.Prelude.{
+  ◌≡◌,
+  ◌≤◌,
+  ◌||◌,
+  false,
+  List,
+  [],
+  ◌∷◌,
+  length,
+  OnOk,
+  MatchOption,
+};
 ghost use Rattle.std.specs.List.{list_any};
 ghost use Rattle.std.specs.Option.{option_copied};
 ghost use Rattle.lrat_check.specs.Sets.{has, is_false, first_open, other_open, reading, IsLit, AreLits};

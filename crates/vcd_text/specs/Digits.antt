@@ -1,6 +1,21 @@
 -- The codes of names and the binary digits of values in value-change dumps (IEEE 1364-2005, 18.2). Which code a name
 -- has is a rule of this project.
-use Rattle.std.specs.Prelude.{ℕ, zero, suc, ◌+◌, ◌/◌, ◌%◌, ◌≤◌, ◌≡◌, nat_lt, if◌then◌else◌, List, [], ◌∷◌, ◌++◌}
+use Rattle.std.specs.Prelude.{
+  ℕ,
+  zero,
+  suc,
+  ◌+◌,
+  ◌/◌,
+  ◌%◌,
+  ◌≤◌,
+  ◌≡◌,
+  nat_lt,
+  if◌then◌else◌,
+  List,
+  [],
+  ◌∷◌,
+  ◌++◌,
+}
 
 -- the digits of n in base 94, least digit first, digit k as the character 33 + k; at most so many behind the first
 abbrev pub code_within : ℕ → ℕ → List ℕ

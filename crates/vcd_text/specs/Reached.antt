@@ -1,5 +1,22 @@
 -- How far a dump was read, and which lines of a trace's dump are still to come there. Rule of this project.
-use Rattle.std.specs.Prelude.{ℕ, ◌+◌, ◌<◌, ◌≤◌, ◌≡◌, ◌^◌, ◌⊎◌, ◌↔◌, Bool, true, false, List, [], ◌∷◌, ◌++◌, length}
+use Rattle.std.specs.Prelude.{
+  ℕ,
+  ◌+◌,
+  ◌<◌,
+  ◌≤◌,
+  ◌≡◌,
+  ◌^◌,
+  ◌⊎◌,
+  ◌↔◌,
+  Bool,
+  true,
+  false,
+  List,
+  [],
+  ◌∷◌,
+  ◌++◌,
+  length,
+}
 use Rattle.std.specs.Prelude.{take, drop, codes, Option, MatchOption}
 use Rattle.std.specs.List.{AllByRecursion}
 use Rattle.fv_base.specs.declared.trace.Trace.{Trace}
@@ -161,7 +178,8 @@ pub record IsClosed (old new : Reader) : Type 0 where
 
 -- the dump of this trace alone ends here, and of none
 abbrev pub EndsAs : Reader → Trace → Type 0
-EndsAs r trace = IsReadable trace × Awaits r trace [] × ((t : Trace) → IsReadable t → Awaits r t [] → t ≡ trace)
+EndsAs r trace =
+    IsReadable trace × Awaits r trace [] × ((t : Trace) → IsReadable t → Awaits r t [] → t ≡ trace)
 
 abbrev pub EndsNowhere : Reader → Type 0
 EndsNowhere r = (t : Trace) → IsReadable t → Awaits r t [] → ⊥

@@ -1,6 +1,22 @@
 -- Which traces can be read back from their dumps, and where a text first departs from all of these dumps. Rule of this
 -- project.
-use Rattle.std.specs.Prelude.{ℕ, ◌+◌, ◌-◌, ◌^◌, ◌<◌, ◌≤◌, ◌≡◌, min, Bool, true, not, ◌&&◌, ◌==◌, nat_lt, decimal}
+use Rattle.std.specs.Prelude.{
+  ℕ,
+  ◌+◌,
+  ◌-◌,
+  ◌^◌,
+  ◌<◌,
+  ◌≤◌,
+  ◌≡◌,
+  min,
+  Bool,
+  true,
+  not,
+  ◌&&◌,
+  ◌==◌,
+  nat_lt,
+  decimal,
+}
 use Rattle.std.specs.Prelude.{List, ◌++◌, length, take, slice_get, Option, Some, MatchOption}
 use Rattle.std.specs.List.{AllByRecursion, list_all}
 use Rattle.fv_base.specs.declared.trace.Trace.{Trace}
@@ -88,7 +104,8 @@ IsIn names wide digits characters found =
 
 abbrev pub IsNoneIn : List TraceName → Bool → List ℕ → List ℕ → Type 0
 IsNoneIn names wide digits characters =
-    (index value : ℕ) (name : TraceName) → IsAt names index name → IsValue wide digits characters index value name → ⊥
+    (index value : ℕ) (name : TraceName) → IsAt names index name
+    → IsValue wide digits characters index value name → ⊥
 
 -- what a search for a value finds in these parts
 abbrev pub FindsParts : List TraceName → Bool → List ℕ → List ℕ → Option (ℕ × ℕ) → Type 0
@@ -98,7 +115,8 @@ FindsParts names wide digits characters result =
 -- the line of this value of the name with this index, and of none
 abbrev pub IsValueLine : List TraceName → List ℕ → ℕ × ℕ → Type 0
 IsValueLine names line found =
-    (name : TraceName) × IsAt names found.0 name × (found.1 < 2 ^ name.width) × (line ≡ value_line found.0 name found.1)
+    (name : TraceName) × IsAt names found.0 name × (found.1 < 2 ^ name.width)
+    × (line ≡ value_line found.0 name found.1)
 
 abbrev pub IsNoValueLine : List TraceName → List ℕ → Type 0
 IsNoValueLine names line =

@@ -1,6 +1,20 @@
 -- The value-change dump of a trace (IEEE 1364-2005, 18.2), line by line. The order of its parts, the one scope, and the
 -- last line are rules of this project.
-use Rattle.std.specs.Prelude.{ℕ, ◌+◌, ◌^◌, ◌<◌, ◌≤◌, if◌then◌else◌, ◌==◌, List, [], ◌∷◌, ◌++◌, length, flat_map}
+use Rattle.std.specs.Prelude.{
+  ℕ,
+  ◌+◌,
+  ◌^◌,
+  ◌<◌,
+  ◌≤◌,
+  if◌then◌else◌,
+  ◌==◌,
+  List,
+  [],
+  ◌∷◌,
+  ◌++◌,
+  length,
+  flat_map,
+}
 use Rattle.std.specs.Prelude.{codes, decimal}
 use Rattle.std.specs.List.{AllByRecursion}
 use Rattle.fv_base.specs.declared.trace.Trace.{Trace}

@@ -167,7 +167,8 @@ fn put_changes(
 ) -> Result<(), Memory>
     requires before { AreValues names.now before.now }
     requires values { AreValues names.now values.now }
-    ensures { OnOk result (out.new.items ≡ out.old.items ++ text_of (change_lines 0 names.now before.now values.now)) }
+    ensures { OnOk result (out.new.items ≡ out.old.items
+        ++ text_of (change_lines 0 names.now before.now values.now)) }
 {
     for (index, name) in names.iter().enumerate() {
         put_change(out, index, name, before[index], values[index])?;

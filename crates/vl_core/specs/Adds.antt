@@ -1,4 +1,4 @@
--- A formula that grows.
+-- A formula that grows. Rule of this project.
 use Rattle.std.specs.Prelude.{◌≡◌, ℕ, ◌≤◌, ◌<◌, ◌^◌, ℤ, List, ◌++◌}
 use Rattle.cnf_form.specs.Cnf.{Cnf}
 

@@ -1,7 +1,24 @@
 -- The clauses of a module of the first form. Each port but the clock and the reset has a position for each of its bits,
 -- in the order of the ports. Behind them each operand of each output's expression has a block of as many positions as
 -- its context gives it bits, before those of its own operands (rule of this project).
-use Rattle.std.specs.Prelude.{◌≡◌, ℕ, ◌+◌, ◌≤◌, max, true, false, cond, ℤ, List, [], ◌∷◌, ◌++◌, Option, Some, None}
+use Rattle.std.specs.Prelude.{
+  ◌≡◌,
+  ℕ,
+  ◌+◌,
+  ◌≤◌,
+  max,
+  true,
+  false,
+  if◌then◌else◌,
+  ℤ,
+  List,
+  [],
+  ◌∷◌,
+  ◌++◌,
+  Option,
+  Some,
+  None,
+}
 use Rattle.std.specs.Prelude.{slice_get, slice_index, codes}
 use Rattle.std.specs.Option.{option_map_or}
 use Rattle.std.specs.Str.{bytes_eq}
@@ -15,7 +32,7 @@ use Rattle.vl_core.specs.Gates.{set, unset, constant, copies, opposites, gates, 
 
 -- how many positions a port has
 abbrev pub bits_of : FirstPort → ℕ
-bits_of p = cond (is_clock p.name) 0 p.width
+bits_of p = if is_clock p.name then 0 else p.width
 
 -- the first position of each port
 abbrev pub starts_from : ℕ → List FirstPort → List ℕ
@@ -99,7 +116,7 @@ drivers_end ports at (p ∷ ps) = drivers_end ports (at + driver_span ports p.wi
 -- the first position of the port with a name
 abbrev pub start_named : List ℕ → ℕ → List FirstPort → ℕ
 start_named name at [] = at
-start_named name at (p ∷ ps) = cond (bytes_eq p.name name) at (start_named name (at + bits_of p) ps)
+start_named name at (p ∷ ps) = if bytes_eq p.name name then at else start_named name (at + bits_of p) ps
 
 -- An instruction is retired whose word ends in 16 zero bits, and it doesn't trap, or writes a register or memory.
 unfoldable pub failing : ℕ → ℕ → ℕ → ℕ → ℕ → List (List ℤ)

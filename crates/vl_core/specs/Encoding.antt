@@ -1,5 +1,20 @@
--- What a formula and its places have to do with the numbers that violate.
-use Rattle.std.specs.Prelude.{◌≡◌, ℕ, Bool, true, false, cond, not, ◌&&◌, ◌||◌, ◌==◌, nat_lt, nat_le, List, ◌∷◌}
+-- What a formula and its places have to do with the numbers that violate. Rule of this project.
+use Rattle.std.specs.Prelude.{
+  ◌≡◌,
+  ℕ,
+  Bool,
+  true,
+  false,
+  if◌then◌else◌,
+  not,
+  ◌&&◌,
+  ◌||◌,
+  ◌==◌,
+  nat_lt,
+  nat_le,
+  List,
+  ◌∷◌,
+}
 use Rattle.std.specs.Prelude.{slice_get, slice_index, count_by}
 use Rattle.std.specs.List.{list_all}
 use Rattle.std.specs.Option.{option_map_or}
@@ -25,7 +40,7 @@ is_in vars p = nat_le 1 p.var && nat_le p.var vars
 
 -- Each bit of each port but the clock and the reset has exactly one place, and nothing else has one.
 pub record ArePlaces (ports : List FirstPort) (vars : ℕ) (places : List FirstPlace) : Type 0 where
-  pub each : (i k : ℕ) → count_by (is_place i k) places ≡ cond (has_bit ports i k) 1 0
+  pub each : (i k : ℕ) → count_by (is_place i k) places ≡ (if has_bit ports i k then 1 else 0)
   pub named : list_all (is_in vars) places ≡ true
 
 -- the variable at the place has the value of the bit

@@ -1,6 +1,23 @@
 -- Clauses of gates over numbered positions, one variable a position (Tseitin's encoding). The position `at` is that
 -- of the variable at + 1.
-use Rattle.std.specs.Prelude.{ℕ, zero, suc, ◌+◌, Bool, true, false, ◌&&◌, ◌||◌, not, ℤ, pos, negsuc, List, [], ◌∷◌}
+use Rattle.std.specs.Prelude.{
+  ℕ,
+  zero,
+  suc,
+  ◌+◌,
+  Bool,
+  true,
+  false,
+  ◌&&◌,
+  ◌||◌,
+  not,
+  ℤ,
+  pos,
+  negsuc,
+  List,
+  [],
+  ◌∷◌,
+}
 use Rattle.std.specs.Prelude.{◌++◌, nat_lt, bit_and, bit_or, bit_xor}
 use Rattle.vl_core.specs.declared.gates.Gate.{Gate}
 use Rattle.vl_core.specs.declared.gates.Gate.TheVariants.{And, Xor, Or}
@@ -30,8 +47,10 @@ opposite_bit r a = (unset r ∷ unset a ∷ []) ∷ (set r ∷ set a ∷ []) ∷
 
 -- r is the gate's answer at a and b
 abbrev pub gate_bit : Gate → ℕ → ℕ → ℕ → List (List ℤ)
-gate_bit And r a b = (unset r ∷ set a ∷ []) ∷ (unset r ∷ set b ∷ []) ∷ (set r ∷ unset a ∷ unset b ∷ []) ∷ []
-gate_bit Or r a b = (set r ∷ unset a ∷ []) ∷ (set r ∷ unset b ∷ []) ∷ (unset r ∷ set a ∷ set b ∷ []) ∷ []
+gate_bit And r a b =
+    (unset r ∷ set a ∷ []) ∷ (unset r ∷ set b ∷ []) ∷ (set r ∷ unset a ∷ unset b ∷ []) ∷ []
+gate_bit Or r a b =
+    (set r ∷ unset a ∷ []) ∷ (set r ∷ unset b ∷ []) ∷ (unset r ∷ set a ∷ set b ∷ []) ∷ []
 gate_bit Xor r a b =
     (unset r ∷ set a ∷ set b ∷ []) ∷ (unset r ∷ unset a ∷ unset b ∷ [])
     ∷ (set r ∷ unset a ∷ set b ∷ []) ∷ (set r ∷ set a ∷ unset b ∷ []) ∷ []

@@ -1,4 +1,4 @@
--- The places of the ports' bits.
+-- The places of the ports' bits. Rule of this project.
 use Rattle.std.specs.Prelude.{ℕ, zero, suc, ◌+◌, List, [], ◌∷◌, ◌++◌}
 use Rattle.vl_first.specs.declared.form.FirstPort.{FirstPort}
 use Rattle.vl_core.specs.declared.place.FirstPlace.{FirstPlace}

@@ -1,6 +1,19 @@
 //! The clauses of an expression.
 
-ghost use Rattle.std.specs.Prelude.{◌≡◌, ℕ, ◌+◌, ◌*◌, ◌<◌, ◌≤◌, ◌^◌, ◌∷◌, true, OnOk, IfOk, slice_index};
+ghost use Rattle.std.specs.Prelude.{
+  ◌≡◌,
+  ℕ,
+  ◌+◌,
+  ◌*◌,
+  ◌<◌,
+  ◌≤◌,
+  ◌^◌,
+  ◌∷◌,
+  true,
+  OnOk,
+  IfOk,
+  slice_index,
+};
 ghost use Rattle.std.specs.List.{list_all};
 ghost use Rattle.vl_first.specs.Value as value;
 ghost use Rattle.vl_first.specs.Plain.{has_width, reads_inputs};

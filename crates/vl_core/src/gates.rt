@@ -1,6 +1,17 @@
 //! Clauses of single bits and of whole numbers, pushed to a formula. A position is a variable's number less 1.
 
-ghost use Rattle.std.specs.Prelude.{◌≡◌, ◌+◌, ◌<◌, ◌≤◌, ◌^◌, [], ◌∷◌, ◌++◌, true, OnOk};
+ghost use Rattle.std.specs.Prelude.{
+  ◌≡◌,
+  ◌+◌,
+  ◌<◌,
+  ◌≤◌,
+  ◌^◌,
+  [],
+  ◌∷◌,
+  ◌++◌,
+  true,
+  OnOk,
+};
 ghost use Rattle.cnf_form.specs.Cnf.{AreLiterals};
 ghost use Rattle.vl_core.specs.Bits as bits;
 ghost use Rattle.vl_core.specs.Gates as spec;

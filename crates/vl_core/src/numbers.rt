@@ -1,6 +1,17 @@
 //! Clauses of whole numbers, pushed to a formula. A number of some bits stands at positions from its lowest bit on.
 
-ghost use Rattle.std.specs.Prelude.{◌≡◌, ◌+◌, ◌<◌, ◌≤◌, ◌^◌, [], ◌∷◌, ◌++◌, true, OnOk};
+ghost use Rattle.std.specs.Prelude.{
+  ◌≡◌,
+  ◌+◌,
+  ◌<◌,
+  ◌≤◌,
+  ◌^◌,
+  [],
+  ◌∷◌,
+  ◌++◌,
+  true,
+  OnOk,
+};
 ghost use Rattle.cnf_form.specs.Cnf.{AreLiterals};
 ghost use Rattle.vl_core.specs.Gates as spec;
 ghost use Rattle.vl_core.specs.Adds.{Adds, HasRoom};

@@ -1,6 +1,18 @@
 //! Where the bits of the ports stand among the variables of the formula.
 
-ghost use Rattle.std.specs.Prelude.{◌≡◌, ◌+◌, ◌*◌, ◌<◌, ◌≤◌, ◌^◌, ◌++◌, length, true, OnOk, IfOk};
+ghost use Rattle.std.specs.Prelude.{
+  ◌≡◌,
+  ◌+◌,
+  ◌*◌,
+  ◌<◌,
+  ◌≤◌,
+  ◌^◌,
+  ◌++◌,
+  length,
+  true,
+  OnOk,
+  IfOk,
+};
 ghost use Rattle.std.specs.List.{list_all};
 ghost use Rattle.vl_first.specs.Plain.{has_width};
 ghost use Rattle.cnf_form.specs.Cnf.{value_of};

@@ -1,7 +1,19 @@
 //! Expressions (IEEE 1364-2005, sections 5.1 and A.8). `room` is the number of constructs that may still open;
 //! operators stay open up to the end of their brackets, so what reads within them answers the level that is reached.
 
-ghost use Rattle.std.specs.Prelude.{◌≡◌, ◌+◌, ◌-◌, ◌<◌, ◌≤◌, ◌∷◌, [], Ok, List, length, IfOk};
+ghost use Rattle.std.specs.Prelude.{
+  ◌≡◌,
+  ◌+◌,
+  ◌-◌,
+  ◌<◌,
+  ◌≤◌,
+  ◌∷◌,
+  [],
+  Ok,
+  List,
+  length,
+  IfOk,
+};
 ghost use Rattle.fv_base.specs.declared.kind.Kind.TheVariants as k;
 ghost use Rattle.fv_base.specs.declared.symbol.Symbol.TheVariants as s;
 ghost use Rattle.fv_base.specs.declared.token.Token.{Token};

@@ -1,4 +1,4 @@
--- Expressions as plain trees, with no place in memory: two are equal where their parts are.
+-- Expressions as plain trees, with no place in memory: two are equal where their parts are. Rule of this project.
 use Rattle.std.specs.Prelude.{ℕ, ◌+◌, max}
 
 pub data Expr : Type 0 where

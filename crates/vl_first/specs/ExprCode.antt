@@ -1,4 +1,4 @@
--- Expressions written as trees with labels, and read back, which tells them apart.
+-- Expressions written as trees with labels, and read back, which tells them apart. Rule of this project.
 use Rattle.std.specs.Prelude.{ℕ, zero, suc, ◌≡◌, List, [], ◌∷◌, refl}
 use Rattle.std.specs.Coded.{Coded, code_by, coded×, coded_ℕ}
 use Rattle.fv_base.specs.Rose.{Rose, Roses, node, none, more, coded_rose}

@@ -1,4 +1,4 @@
--- Parts of an expression are less deep than it.
+-- Parts of an expression are less deep than it. Rule of this project.
 use Rattle.std.specs.Prelude.{◌≤◌}
 use Rattle.std.proofs.Common.{arith}
 use Rattle.vl_first.specs.Expr.{depth}

@@ -1,4 +1,4 @@
--- The plain tree of an expression in memory.
+-- The plain tree of an expression in memory. Rule of this project.
 use Rattle.vl_first.specs.Expr.{Expr, number, port, complement, equal, both, differ, either, pick}
 use Rattle.vl_first.specs.declared.expr.FirstKind.{FirstKind}
 use Rattle.vl_first.specs.declared.expr.FirstKind.TheVariants as k

@@ -1,7 +1,33 @@
 -- The first form of a source, read off its tree: one module without registers, its ports, and one expression over its
 -- inputs for each output. Rules of this project.
-use Rattle.std.specs.Prelude.{ℕ, suc, ◌+◌, ◌^◌, Bool, true, false, ◌&&◌, ◌||◌, not, ◌==◌, nat_le, nat_lt}
-use Rattle.std.specs.Prelude.{if◌then◌else◌, List, [], ◌∷◌, ◌++◌, Option, None, Some, is_none, map, codes}
+use Rattle.std.specs.Prelude.{
+  ℕ,
+  suc,
+  ◌+◌,
+  ◌^◌,
+  Bool,
+  true,
+  false,
+  ◌&&◌,
+  ◌||◌,
+  not,
+  ◌==◌,
+  nat_le,
+  nat_lt,
+}
+use Rattle.std.specs.Prelude.{
+  if◌then◌else◌,
+  List,
+  [],
+  ◌∷◌,
+  ◌++◌,
+  Option,
+  None,
+  Some,
+  is_none,
+  map,
+  codes,
+}
 use Rattle.std.specs.List.{list_any, list_all}
 use Rattle.std.specs.Str.{bytes_eq}
 use Rattle.fv_base.specs.declared.number.Number.{Number}

@@ -1,4 +1,4 @@
--- How large expressions are.
+-- How large expressions are. Rule of this project.
 use Rattle.std.specs.Prelude.{ℕ, ◌+◌, List, [], ◌∷◌}
 use Rattle.std.specs.Option.{option_map_or}
 use Rattle.vl_first.specs.Expr.{Expr, number, port, complement, equal, both, differ, either, pick}

@@ -1,4 +1,4 @@
--- Options, one after the other.
+-- Options, one after the other. Rule of this project.
 use Rattle.std.specs.Prelude.{List, [], ◌∷◌, Option, Some, option_and_then}
 
 infixl 10 ◌>>=◌

@@ -1,4 +1,4 @@
--- What a function answered that may refuse the source, or want memory.
+-- What a function answered that may refuse the source, or want memory. Rule of this project.
 use Rattle.std.specs.Prelude.{◌≡◌, Option, Some, None, Result, Ok, Err}
 use Rattle.vl_first.specs.declared.fault.FirstFault.{FirstFault}
 use Rattle.vl_first.specs.declared.fault.FirstFault.TheVariants as fault

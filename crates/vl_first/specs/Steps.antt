@@ -1,5 +1,19 @@
--- How the assignments are put to the outputs, a step at a time.
-use Rattle.std.specs.Prelude.{ℕ, zero, suc, Bool, false, ◌&&◌, ◌||◌, not, nat_le, if◌then◌else◌, List, [], ◌∷◌}
+-- How the assignments are put to the outputs, a step at a time. Rule of this project.
+use Rattle.std.specs.Prelude.{
+  ℕ,
+  zero,
+  suc,
+  Bool,
+  false,
+  ◌&&◌,
+  ◌||◌,
+  not,
+  nat_le,
+  if◌then◌else◌,
+  List,
+  [],
+  ◌∷◌,
+}
 use Rattle.std.specs.Prelude.{Option, None, Some, is_some, is_none, slice_get}
 use Rattle.std.specs.List.{list_all, zip}
 use Rattle.std.specs.Option.{option_map_or}

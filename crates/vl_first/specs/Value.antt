@@ -1,6 +1,18 @@
 -- The size and the value of an expression (IEEE 1364-2005, sections 5.1, 5.4 and 5.5). Numbers are whole numbers;
 -- this form has no signs.
-use Rattle.std.specs.Prelude.{ℕ, ◌-◌, ◌^◌, ◌%◌, max, List, ◌==◌, if◌then◌else◌, slice_index, slice_get, bit_and}
+use Rattle.std.specs.Prelude.{
+  ℕ,
+  ◌-◌,
+  ◌^◌,
+  ◌%◌,
+  max,
+  List,
+  ◌==◌,
+  if◌then◌else◌,
+  slice_index,
+  slice_get,
+  bit_and,
+}
 use Rattle.std.specs.Prelude.{bit_or, bit_xor}
 use Rattle.std.specs.Option.{option_map_or}
 use Rattle.vl_first.specs.Expr.{Expr, number, port, complement, equal, both, differ, either, pick}

@@ -1,6 +1,21 @@
 -- When numbers for the ports of a module violate the check `ill` (riscv-formal): they are what the module gives, and
 -- the property of the check fails.
-use Rattle.std.specs.Prelude.{ℕ, ◌^◌, ◌%◌, max, Bool, true, false, ◌&&◌, not, ◌==◌, nat_lt, if◌then◌else◌, List, []}
+use Rattle.std.specs.Prelude.{
+  ℕ,
+  ◌^◌,
+  ◌%◌,
+  max,
+  Bool,
+  true,
+  false,
+  ◌&&◌,
+  not,
+  ◌==◌,
+  nat_lt,
+  if◌then◌else◌,
+  List,
+  [],
+}
 use Rattle.std.specs.Prelude.{◌∷◌, codes}
 use Rattle.std.specs.Option.{option_map_or}
 use Rattle.std.specs.Str.{bytes_eq}

@@ -1,6 +1,18 @@
 //! The names of the ports, with a fast look-up.
 
-ghost use Rattle.std.specs.Prelude.{◌≡◌, ◌≤◌, true, false, [], ◌∷◌, ◌++◌, length, IfOk, IfErr, MatchBool};
+ghost use Rattle.std.specs.Prelude.{
+  ◌≡◌,
+  ◌≤◌,
+  true,
+  false,
+  [],
+  ◌∷◌,
+  ◌++◌,
+  length,
+  IfOk,
+  IfErr,
+  MatchBool,
+};
 ghost use Rattle.vl_first.specs.FirstForm.{head_names, place_of};
 ghost use Rattle.vl_first.specs.Outcome.{OnNotFirst};
 ghost use Rattle.vl_first.specs.Plain.{is_among, names_differ};

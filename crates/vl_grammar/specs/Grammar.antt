@@ -1,10 +1,25 @@
 -- The grammar of this project's subset of Verilog as rows: what each rule makes of the next token, alternative by
 -- alternative. IEEE 1364-2005, annex A, cut to the subset. The levels of operators are no part of it: an expression is
 -- operands with operators between them. What a text is is defined by the spelling of trees (`ItemSpelling` and its
--- parts,
--- `Text.IsText`); these rows are another way to say it, in which texts are read, and the law
+-- parts, `Text.IsText`); these rows are another way to say it, in which texts are read, and the law
 -- `the_grammar_has_what_trees_spell` shows that they have the same texts.
-use Rattle.std.specs.Prelude.{ℕ, zero, suc, Bool, true, false, ◌&&◌, ◌==◌, List, [], ◌∷◌, ◌++◌, map, Result, Option}
+use Rattle.std.specs.Prelude.{
+  ℕ,
+  zero,
+  suc,
+  Bool,
+  true,
+  false,
+  ◌&&◌,
+  ◌==◌,
+  List,
+  [],
+  ◌∷◌,
+  ◌++◌,
+  map,
+  Result,
+  Option,
+}
 use Rattle.std.specs.Prelude.{Some, None, bytes_eq}
 use Rattle.fv_base.specs.declared.keyword.Keyword.{Keyword}
 use Rattle.fv_base.specs.declared.keyword.Keyword.TheVariants as w
@@ -261,7 +276,8 @@ on_attributes t = bad
 
 -- [range]
 abbrev pub on_range : Kind → Moves
-on_range (k.Symbol s.OpenBracket) = take 1 ((expr, 1) ∷ (sign s.Colon, 1) ∷ (expr, 1) ∷ (sign s.CloseBracket, 0) ∷ [])
+on_range (k.Symbol s.OpenBracket) =
+    take 1 ((expr, 1) ∷ (sign s.Colon, 1) ∷ (expr, 1) ∷ (sign s.CloseBracket, 0) ∷ [])
 on_range t = pop
 
 -- ["signed"] [range]
@@ -486,7 +502,8 @@ on_loop_head t = bad
 -- both names in the head of a loop are equal
 abbrev pub behind_variable : List ℕ → List Rule
 behind_variable text =
-    sign s.Equal ∷ expr ∷ sign s.Semicolon ∷ expr ∷ sign s.Semicolon ∷ this_name text ∷ sign s.Equal ∷ expr
+    sign s.Equal ∷ expr ∷ sign s.Semicolon ∷ expr ∷ sign s.Semicolon ∷ this_name text ∷ sign s.Equal
+    ∷ expr
     ∷ sign s.CloseParen ∷ []
 
 abbrev pub on_loop_variable : Kind → Moves
@@ -528,7 +545,8 @@ on_module_ports t = bad
 -- "(" "parameter" pdef {"," ["parameter"] pdef} ")"
 abbrev pub on_header_parameters : Kind → Moves
 on_header_parameters (k.Symbol s.OpenParen) =
-    take 1 ((the_parameter, 1) ∷ (shape, 1) ∷ (name, 1) ∷ (sign s.Equal, 1) ∷ (expr, 1) ∷ (more_header_parameters, 1)
+    take 1 ((the_parameter, 1) ∷ (shape, 1) ∷ (name, 1) ∷ (sign s.Equal, 1) ∷ (expr, 1)
+    ∷ (more_header_parameters, 1)
     ∷ [])
 on_header_parameters t = bad
 

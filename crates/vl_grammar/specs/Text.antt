@@ -1,4 +1,4 @@
--- What a text and its faulty token are, in terms of trees alone.
+-- What the public laws say. What a text and its faulty token are, in terms of trees alone. Rule of this project.
 use Rattle.std.specs.Prelude.{◌≡◌, ℕ, List, [], ◌∷◌, ◌++◌, length}
 use Rattle.fv_base.specs.declared.kind.Kind.{Kind}
 use Rattle.vl_tree.specs.declared.source.Source.{Source}
@@ -19,7 +19,8 @@ pub record IsFaulty (ks : List Kind) (left : ℕ) : Type 0 where
   pub behind : List Kind
   pub same : ks ≡ before ++ behind
   pub long : length behind ≡ left
-  pub no_token : (kind : Kind) (rest other : List Kind) → behind ≡ kind ∷ rest → IsText (before ++ kind ∷ other) → ⊥
+  pub no_token : (kind : Kind) (rest other : List Kind) → behind ≡ kind ∷ rest
+      → IsText (before ++ kind ∷ other) → ⊥
   pub no_end : behind ≡ [] → IsText before → ⊥
   pub rest : List Kind
   pub goes_on : IsText (before ++ rest)

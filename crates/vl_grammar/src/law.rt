@@ -30,7 +30,8 @@ pub fn runs_stop_at_the_first_fault()
     ensures deep { (tokens : List Token) (left : ℕ) → run (kinds_of tokens) ≡ Err (deep left)
         → IsTooDeep (kinds_of tokens) left }
     ensures only_syntax { (tokens : List Token) (left : ℕ) → IsFaulty (kinds_of tokens) left
-        → ((other : ℕ) → IsTooDeep (kinds_of tokens) other → ⊥) → run (kinds_of tokens) ≡ Err (syntax left) }
+        → ((other : ℕ) → IsTooDeep (kinds_of tokens) other → ⊥)
+        → run (kinds_of tokens) ≡ Err (syntax left) }
     ensures only_deep { (kinds : List Kind) (left : ℕ) → IsTooDeep kinds left → run kinds ≡ Err (deep left) }
     ensures whole { (tokens : List Token) → run (kinds_of tokens) ≡ Ok tt → IsText (kinds_of tokens) }
     ensures text { (kinds : List Kind) (left : ℕ) → IsText kinds → run kinds ≡ Err (syntax left) → ⊥ }
@@ -44,5 +45,6 @@ pub fn a_text_has_one_tree()
 
 /// A text is read to its end, or up to the first token at which 257 of its tree's constructs are open.
 pub fn texts_are_read_up_to_the_limit()
-    ensures { (tree : Source) → IsSource tree → run (kinds (spell_source tree)) ≡ unless_too_deep (too_deep_at tree) }
+    ensures { (tree : Source) → IsSource tree
+        → run (kinds (spell_source tree)) ≡ unless_too_deep (too_deep_at tree) }
 {}

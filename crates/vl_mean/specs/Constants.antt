@@ -1,7 +1,24 @@
 -- Constants: parameters and genvars, and expressions in which they are replaced by their numbers. IEEE 1364-2005,
 -- sections 3.11, 4.2.1 and 12.4.1; that a constant's select counts as one of `[width - 1 : 0]` is a rule of this
 -- project.
-use Rattle.std.specs.Prelude.{ℕ, ◌-◌, ◌%◌, ◌^◌, ◌<◌, ◌≤◌, max, min, cond, List, [], ◌∷◌, Bool, true, false, Option}
+use Rattle.std.specs.Prelude.{
+  ℕ,
+  ◌-◌,
+  ◌%◌,
+  ◌^◌,
+  ◌<◌,
+  ◌≤◌,
+  max,
+  min,
+  if◌then◌else◌,
+  List,
+  [],
+  ◌∷◌,
+  Bool,
+  true,
+  false,
+  Option,
+}
 use Rattle.std.specs.Prelude.{Some, None, pos, bytes_eq, if◌then◌else◌}
 use Rattle.std.proofs.Common.{arith, mod-lt, pow_pos}
 use Rattle.fv_base.specs.declared.pos.Pos.{Pos}
@@ -100,7 +117,7 @@ vector_of text c = record {
 
 -- and its name has the constant's number
 abbrev pub values_at : List ℕ → Const → Values
-values_at text c other = cond (bytes_eq text other) c.value 0
+values_at text c other = if bytes_eq text other then c.value else 0
 
 -- a select of a constant by constants is an unsigned number; another one stays, as does one in which a divisor is 0
 abbrev pub number_or : Pos → Option ℕ → Expr → (ℕ → ℕ) → Expr

@@ -1,8 +1,36 @@
 -- What declarations declare. IEEE 1364-2005, sections 3.2, 3.3, 3.9, 3.11, 12.2 and 12.3. That the inputs `clock` and
 -- `reset` of the top module have a meaning of their own, and the attributes `anyseq` and `anyconst`, are rules of
 -- this project.
-use Rattle.std.specs.Prelude.{ℕ, zero, suc, ◌+◌, max, List, [], ◌∷◌, ◌++◌, map, find, length, replicate, decimal}
-use Rattle.std.specs.Prelude.{option_to_list, Bool, true, false, ◌&&◌, ◌||◌, Option, Some, None, ℤ, pos, codes}
+use Rattle.std.specs.Prelude.{
+  ℕ,
+  zero,
+  suc,
+  ◌+◌,
+  max,
+  List,
+  [],
+  ◌∷◌,
+  ◌++◌,
+  map,
+  find,
+  length,
+  replicate,
+  decimal,
+}
+use Rattle.std.specs.Prelude.{
+  option_to_list,
+  Bool,
+  true,
+  false,
+  ◌&&◌,
+  ◌||◌,
+  Option,
+  Some,
+  None,
+  ℤ,
+  pos,
+  codes,
+}
 use Rattle.std.specs.Prelude.{bytes_eq, if◌then◌else◌}
 use Rattle.vl_tree.specs.declared.attribute.Attribute.{Attribute}
 use Rattle.vl_tree.specs.declared.declaration.DeclaredName.{DeclaredName}

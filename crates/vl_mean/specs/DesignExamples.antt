@@ -1,6 +1,19 @@
 -- Small designs, one for each place where a meaning is easily got wrong, with maps for them that were worked out by
--- hand.
-use Rattle.std.specs.Prelude.{ℕ, List, [], ◌∷◌, true, false, Option, Some, None, codes, bytes_eq, if◌then◌else◌}
+-- hand. Rule of this project.
+use Rattle.std.specs.Prelude.{
+  ℕ,
+  List,
+  [],
+  ◌∷◌,
+  true,
+  false,
+  Option,
+  Some,
+  None,
+  codes,
+  bytes_eq,
+  if◌then◌else◌,
+}
 use Rattle.vl_tree.specs.declared.attribute.AttributeInstance.{AttributeInstance}
 use Rattle.vl_tree.specs.declared.declaration.Direction.TheVariants as direction
 use Rattle.vl_tree.specs.declared.declaration.FullPort.{FullPort}
@@ -130,7 +143,8 @@ sized_design = design_of (module_of (codes "sized")
 
 abbrev pub sized : ℕ → ℕ → ℕ → ℕ → Values
 sized a narrow wide o =
-    numbers ((codes "a", a) ∷ (codes "u.narrow", narrow) ∷ (codes "u.wide", wide) ∷ (codes "u.o", o) ∷ (codes "o", o)
+    numbers ((codes "a", a) ∷ (codes "u.narrow", narrow) ∷ (codes "u.wide", wide) ∷ (codes "u.o", o)
+    ∷ (codes "o", o)
     ∷ [])
 
 -- ---- a clock that is handed down under another name:
@@ -160,7 +174,8 @@ abbrev pub parted_design : List Part
 parted_design = design_of (module_of (codes "parted") (output (bits 1) (codes "high") ∷ short (codes "low") ∷ []) (
     used (codes "nine") (codes "u") (
     connection (codes "o") (concat here (more (plain (codes "high")) (more (plain (codes "low")) none))) ∷ [])
-    ∷ [])) (module_of (codes "nine") (output (bits 3) (codes "o") ∷ []) (assigns (codes "o") (decimal 9) ∷ []) ∷ [])
+    ∷ [])) (module_of (codes "nine") (output (bits 3) (codes "o") ∷ []) (assigns (codes "o") (decimal 9) ∷ [])
+    ∷ [])
 
 abbrev pub parted : ℕ → ℕ → Values
 parted high low = numbers ((codes "u.o", 9) ∷ (codes "high", high) ∷ (codes "low", low) ∷ [])
@@ -169,7 +184,8 @@ parted high low = numbers ((codes "u.o", 9) ∷ (codes "high", high) ∷ (codes 
 -- `module targets(input [1:0] a, b); reg [0:3] v; always @* begin v[0:1] = a; v[2 +: 2] = b; end endmodule`
 
 abbrev pub targets_design : List Part
-targets_design = design_of (module_of (codes "targets") (vector_input (bits 1) (codes "a") ∷ short (codes "b") ∷ []) (
+targets_design =
+    design_of (module_of (codes "targets") (vector_input (bits 1) (codes "a") ∷ short (codes "b") ∷ []) (
     declares_name net.Reg (range 0 3) (codes "v") None
     ∷ at_any_change (stmt.begin [] here None (stmts (
     now (named here (codes "v") (part here (decimal 0) (decimal 1) whole)) (plain (codes "a"))
@@ -227,7 +243,8 @@ given o = numbers ((codes "u.o", o) ∷ (codes "o", o) ∷ [])
 
 abbrev pub hidden_design : List Part
 hidden_design =
-    design_of (module_of (codes "hidden") (input (codes "a") ∷ output scalar (codes "o") ∷ short (codes "p") ∷ []) (
+    design_of (module_of (codes "hidden") (input (codes "a") ∷ output scalar (codes "o") ∷ short (codes "p")
+    ∷ []) (
     if_only [] here (decimal 1) (begin here (Some (codes "g")) (
     more_items (declares_name net.Wire scalar (codes "a") (Some (decimal 1))) (
     more_items (assigns (codes "o") (plain (codes "a"))) no_items)))

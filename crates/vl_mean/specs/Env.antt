@@ -1,5 +1,5 @@
--- Declarations with numbers, as a map from names to numbers.
-use Rattle.std.specs.Prelude.{ℕ, List, cond, bytes_eq}
+-- Declarations with numbers, as a map from names to numbers. Rule of this project.
+use Rattle.std.specs.Prelude.{ℕ, List, if◌then◌else◌, bytes_eq}
 use Rattle.std.specs.Map.{lookup}
 use Rattle.vl_size.specs.Size.{Values, Cells, cells_in, or_none}
 use Rattle.vl_mean.specs.declared.env.Env.{Env}
@@ -14,4 +14,4 @@ cells_of env = cells_in (values_of env)
 
 -- the same numbers but for this name, which has this one
 abbrev pub with_number : List ℕ → ℕ → Values → Values
-with_number name value numbers other = cond (bytes_eq name other) value (numbers other)
+with_number name value numbers other = if bytes_eq name other then value else numbers other

@@ -1,5 +1,21 @@
--- Small designs, and maps for them that were worked out by hand.
-use Rattle.std.specs.Prelude.{ℕ, ◌^◌, ◌<◌, List, [], ◌∷◌, pos, true, false, ◌||◌, Option, Some, None, codes, bytes_eq}
+-- Small designs, and maps for them that were worked out by hand. Rule of this project.
+use Rattle.std.specs.Prelude.{
+  ℕ,
+  ◌^◌,
+  ◌<◌,
+  List,
+  [],
+  ◌∷◌,
+  pos,
+  true,
+  false,
+  ◌||◌,
+  Option,
+  Some,
+  None,
+  codes,
+  bytes_eq,
+}
 use Rattle.std.specs.Prelude.{if◌then◌else◌}
 use Rattle.std.proofs.Common.{lit≤, lit<}
 use Rattle.vl_tree.specs.declared.operator.BinaryOperator.TheVariants as b
@@ -157,8 +173,7 @@ pair x y text = if bytes_eq text (codes "a") then x else if bytes_eq text (codes
 
 -- ---- an instance in a generate loop:
 -- `module top(output [1:0] o); genvar i; for (i = 0; i < 2; i = i + 1) begin : g is_one #(.K(i)) u (.y(o[i])); end
--- endmodule`
--- `module is_one #(parameter K = 0) (output y); wire w; assign w = K == 1; assign y = w; endmodule`
+-- endmodule` `module is_one #(parameter K = 0) (output y); wire w; assign w = K == 1; assign y = w; endmodule`
 
 abbrev pub equal : Expr → Expr → Expr
 equal x y = binary here b.Equal x y
@@ -276,8 +291,7 @@ in_blocks c text =
     else 0
 
 -- ---- a block: `reg [3:0] a, b, c, d; reg [7:0] m [0:3]; always @* begin {a, b} = 8'ha7; c <= a; c <= c + b; casez
--- (b) 4'b1???: d = 1;`
--- `default: d = 2; 4'b01??: d = 3; endcase m[a - 9] = 5; assume (a); end`
+-- (b) 4'b1???: d = 1;` `default: d = 2; 4'b01??: d = 3; endcase m[a - 9] = 5; assume (a); end`
 
 abbrev pub nibble : List ℕ → Decl
 nibble text = record {
@@ -329,7 +343,8 @@ block = stmt.begin [] here None (stmts (
     labels here (wild 8 7 (lit< tt) (lit< tt) ∷ []) (now (plain_target (codes "d")) (decimal 1))
     (default here true (now (plain_target (codes "d")) (decimal 2)) (
     labels here (wild 4 3 (lit< tt) (lit< tt) ∷ []) (now (plain_target (codes "d")) (decimal 3)) no_arms)))
-    ∷ now (named here (codes "m") (bit here (binary here b.Subtract (plain (codes "a")) (decimal 9)) whole)) (decimal 5)
+    ∷ now (named here (codes "m") (bit here (binary here b.Subtract (plain (codes "a")) (decimal 9)) whole))
+    (decimal 5)
     ∷ stmt.assume [] here (plain (codes "a"))
     ∷ []))
 

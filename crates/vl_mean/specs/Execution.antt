@@ -1,6 +1,21 @@
 -- What a statement does: the values after it, the bits that it leaves pending, and the numbers that it assumes. IEEE
 -- 1364-2005, clause 9; `assume`, and that values have no unknown bits, are rules of this project.
-use Rattle.std.specs.Prelude.{ℕ, ◌==◌, max, List, [], ◌∷◌, ◌++◌, length, Bool, true, false, ◌&&◌, ◌||◌, bit_or}
+use Rattle.std.specs.Prelude.{
+  ℕ,
+  ◌==◌,
+  max,
+  List,
+  [],
+  ◌∷◌,
+  ◌++◌,
+  length,
+  Bool,
+  true,
+  false,
+  ◌&&◌,
+  ◌||◌,
+  bit_or,
+}
 use Rattle.std.specs.Prelude.{if◌then◌else◌}
 use Rattle.vl_tree.specs.declared.stmt.CaseKind.{CaseKind}
 use Rattle.vl_tree.specs.declared.stmt.CaseKind.TheVariants as c

@@ -1,6 +1,5 @@
 -- A small design without hierarchy, and what such a design doesn't keep: `input clock, reset; reg [1:0] q = 2; wire o
--- = q[1];`
--- `always @(posedge clock) q <= q + 1;`
+-- = q[1];` `always @(posedge clock) q <= q + 1;`
 use Rattle.std.specs.Prelude.{ℕ, ◌+◌, List, [], ◌∷◌, pos, false, None, codes, bytes_eq, if◌then◌else◌}
 use Rattle.vl_tree.specs.Expr.{Expr, name, whole, bit}
 use Rattle.vl_tree.specs.Lval.{Lval, named}
@@ -32,7 +31,8 @@ vector c left text = record {
 
 abbrev pub decls : List Decl
 decls =
-    vector class.Clock 0 (codes "clock") ∷ vector class.Reset 0 (codes "reset") ∷ vector class.Variable 1 (codes "q")
+    vector class.Clock 0 (codes "clock") ∷ vector class.Reset 0 (codes "reset")
+    ∷ vector class.Variable 1 (codes "q")
     ∷ vector class.Net 0 (codes "o") ∷ []
 
 abbrev pub driver : DriverKind → Driver

@@ -2,7 +2,24 @@
 -- meaning. What may be assigned where is IEEE 1364-2005, sections 6.1, 6.2 and 9.2, and which parts are constant
 -- sections 4.2.1 and 5.2; the limits, the clock that is no number, and what a memory may be are rules of this
 -- project.
-use Rattle.std.specs.Prelude.{◌≡◌, ℕ, ◌+◌, ◌≤◌, List, [], ◌∷◌, ◌++◌, All, IsSome, Bool, true, false, ◌&&◌, ◌||◌, not}
+use Rattle.std.specs.Prelude.{
+  ◌≡◌,
+  ℕ,
+  ◌+◌,
+  ◌≤◌,
+  List,
+  [],
+  ◌∷◌,
+  ◌++◌,
+  All,
+  IsSome,
+  Bool,
+  true,
+  false,
+  ◌&&◌,
+  ◌||◌,
+  not,
+}
 use Rattle.std.specs.Prelude.{nat_lt, ◌==◌, max, is_none, Option, Some, None, ℤ}
 use Rattle.vl_tree.specs.Expr.{
   Expr,

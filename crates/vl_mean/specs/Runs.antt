@@ -1,7 +1,24 @@
 -- Which maps of full names to numbers a design allows, from cycle to cycle. IEEE 1364-2005, sections 6.1, 9.2, 9.7.5,
 -- 9.9 and 12.3; that a net or variable holds a number in place of four-valued bits, `assume`, and the free names are
 -- rules of this project.
-use Rattle.std.specs.Prelude.{◌≡◌, ℕ, zero, suc, ◌+◌, ◌^◌, ◌<◌, ◌==◌, List, [], ◌∷◌, ◌++◌, length, Bool, true, false}
+use Rattle.std.specs.Prelude.{
+  ◌≡◌,
+  ℕ,
+  zero,
+  suc,
+  ◌+◌,
+  ◌^◌,
+  ◌<◌,
+  ◌==◌,
+  List,
+  [],
+  ◌∷◌,
+  ◌++◌,
+  length,
+  Bool,
+  true,
+  false,
+}
 use Rattle.std.specs.Prelude.{◌&&◌, ◌||◌, not, Option, Some, None, bytes_eq, if◌then◌else◌}
 use Rattle.vl_tree.specs.Stmt.{Stmt}
 use Rattle.vl_size.specs.declared.decl.Class.{Class}

@@ -1,7 +1,39 @@
 -- Targets of assignments, bit by bit. IEEE 1364-2005, sections 4.2.1, 5.2 and 9.2. What lies past the range is
 -- dropped. That the bits of a target are assigned from left to right is a rule of this project.
-use Rattle.std.specs.Prelude.{ℕ, zero, suc, ◌+◌, ◌-◌, ◌*◌, ◌/◌, ◌%◌, ◌^◌, ◌==◌, List, [], ◌∷◌, ◌++◌, length, Bool}
-use Rattle.std.specs.Prelude.{true, false, ◌&&◌, ◌||◌, not, nat_lt, is_none, Option, Some, None, ℤ, pos, negsuc, ◌+ℤ◌}
+use Rattle.std.specs.Prelude.{
+  ℕ,
+  zero,
+  suc,
+  ◌+◌,
+  ◌-◌,
+  ◌*◌,
+  ◌/◌,
+  ◌%◌,
+  ◌^◌,
+  ◌==◌,
+  List,
+  [],
+  ◌∷◌,
+  ◌++◌,
+  length,
+  Bool,
+}
+use Rattle.std.specs.Prelude.{
+  true,
+  false,
+  ◌&&◌,
+  ◌||◌,
+  not,
+  nat_lt,
+  is_none,
+  Option,
+  Some,
+  None,
+  ℤ,
+  pos,
+  negsuc,
+  ◌+ℤ◌,
+}
 use Rattle.std.specs.Prelude.{nat_abs, bytes_eq, if◌then◌else◌}
 use Rattle.vl_tree.specs.Expr.{Selects, whole, bit, part, indexed}
 use Rattle.vl_tree.specs.Lval.{Lval, Lvals, named, joined, no_lvals, more_lvals}

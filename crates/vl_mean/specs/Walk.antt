@@ -2,7 +2,23 @@
 -- taken, and of an `if` the chosen block. What a step means is in `Parts`, and where it is refused is asked of the
 -- same steps. IEEE 1364-2005, section 12; the order of the steps is that of the text, and an instance's module stands
 -- behind its overrides and its connections.
-use Rattle.std.specs.Prelude.{ℕ, zero, suc, ◌+◌, max, List, [], ◌∷◌, ◌++◌, map, find, length, codes, Bool, true}
+use Rattle.std.specs.Prelude.{
+  ℕ,
+  zero,
+  suc,
+  ◌+◌,
+  max,
+  List,
+  [],
+  ◌∷◌,
+  ◌++◌,
+  map,
+  find,
+  length,
+  codes,
+  Bool,
+  true,
+}
 use Rattle.std.specs.Prelude.{false, Option, Some, None, bytes_eq, if◌then◌else◌}
 use Rattle.std.specs.Fmt.{signed_decimal}
 use Rattle.fv_base.specs.declared.pos.Pos.{Pos}
@@ -214,7 +230,8 @@ abbrev pub override_steps : Place → Module → Use → List (List ℕ) → Lis
 override_steps at m u given [] = []
 override_steps at m u given (x ∷ xs) = override at m u given x ∷ override_steps at m u (given ++ x.port ∷ []) xs
 
-abbrev pub connection_steps : Place → Module → Use → List Scope → List (List ℕ) → List Connection → List Step
+abbrev pub connection_steps : Place → Module → Use → List Scope → List (List ℕ) → List Connection
+    → List Step
 connection_steps at m u inside given [] = []
 connection_steps at m u inside given (x ∷ xs) =
     connection at m u inside given x ∷ connection_steps at m u inside (given ++ x.port ∷ []) xs

@@ -48,7 +48,8 @@ fn const_of(expr: &Expr, width: u32, env: &Env) -> Const
     requires few { width ≤ 128 }
     ensures width { result.width ≡ width }
     ensures signed { result.signed ≡ sign env.now.decls expr.now }
-    ensures value { result.value ≡ value env.now.decls (cells_of env.now) width (sign env.now.decls expr.now) expr.now }
+    ensures value { result.value ≡ value env.now.decls (cells_of env.now) width
+        (sign env.now.decls expr.now) expr.now }
 {
     let signed = sign_of(expr, env.decls());
     let value = value_of(expr, width, signed, env);

@@ -35,7 +35,8 @@ pub fn two_blocks_exchange()
 /// Each turn of a generate loop has an instance of its own, with the loop's variable as its parameter.
 #[tactic(auto, using(crate::proofs::Maps::maps))]
 pub fn a_loop_makes_instances()
-    ensures names { full_names looped_design ≡ codes "o" ∷ codes "g[0].u.y" ∷ codes "g[0].u.w" ∷ codes "g[1].u.y"
+    ensures names { full_names looped_design ≡ codes "o" ∷ codes "g[0].u.y" ∷ codes "g[0].u.w"
+        ∷ codes "g[1].u.y"
         ∷ codes "g[1].u.w" ∷ [] }
     ensures holds { Holds looped_design (turns 2 0 1) }
     ensures not_turned { Holds looped_design (turns 1 1 0) → ⊥ }
@@ -43,8 +44,7 @@ pub fn a_loop_makes_instances()
 {}
 
 /// Blocks without labels are named by their construct's number, with a zero where that name is taken; an `if` alone
-/// in an
-/// `if` makes no scope.
+/// in an `if` makes no scope.
 #[tactic(auto, using(crate::proofs::Maps::maps))]
 pub fn blocks_without_labels_have_names()
     ensures names { full_names blocks_design ≡ codes "genblk1.a" ∷ codes "genblk2.genblk1.b" ∷ codes "genblk3"

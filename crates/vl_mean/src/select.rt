@@ -1,5 +1,20 @@
 //! Bits of a vector, and indices of its bits (IEEE 1364-2005, section 5.2.1).
-ghost use Rattle.std.specs.Prelude.{◌≡◌, ◌<◌, ◌≤◌, ◌≤ℤ◌, ◌<ℤ◌, ◌^◌, min, Some, None, IfSome, ℤ, pos, neg_ℤ, nat_abs};
+ghost use Rattle.std.specs.Prelude.{
+  ◌≡◌,
+  ◌<◌,
+  ◌≤◌,
+  ◌≤ℤ◌,
+  ◌<ℤ◌,
+  ◌^◌,
+  min,
+  Some,
+  None,
+  IfSome,
+  ℤ,
+  pos,
+  neg_ℤ,
+  nat_abs,
+};
 ghost use Rattle.std.specs.Prelude.{◌+ℤ◌, ◌+◌, if◌then◌else◌};
 ghost use Rattle.fv_bits.specs.Bits.{as_int};
 ghost use Rattle.vl_size.specs.Size as spec;

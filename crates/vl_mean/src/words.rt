@@ -17,7 +17,8 @@ use vl_size::{Decl, Own};
 #[tactic(auto, using(crate::proofs::WordLemmas::front))]
 fn behind<'a>(text: &'a [u8], front: &[u8]) -> Option<&'a [u8]>
     ensures none { IfNone result ((rest : List ℕ) → bytes_eq (front.now ++ rest) text.now ≡ false) }
-    ensures some { IfSome result (λ x. (rest : List ℕ) → bytes_eq (front.now ++ rest) text.now ≡ bytes_eq rest x.now) }
+    ensures some { IfSome result (λ x. (rest : List ℕ)
+        → bytes_eq (front.now ++ rest) text.now ≡ bytes_eq rest x.now) }
 {
     text.strip_prefix(front)
 }

@@ -1,5 +1,21 @@
 -- How a text is refused: where, and by which token. Rule of this project.
-use Rattle.std.specs.Prelude.{◌≡◌, ℕ, zero, suc, ◌+◌, ◌-◌, slice_get, Bool, true, false, List, [], ◌∷◌, ◌++◌, length}
+use Rattle.std.specs.Prelude.{
+  ◌≡◌,
+  ℕ,
+  zero,
+  suc,
+  ◌+◌,
+  ◌-◌,
+  slice_get,
+  Bool,
+  true,
+  false,
+  List,
+  [],
+  ◌∷◌,
+  ◌++◌,
+  length,
+}
 use Rattle.std.specs.Prelude.{Result, Ok, Err, Option, Some, None, codes}
 use Rattle.fv_base.specs.Keyword.{keyword_text}
 use Rattle.fv_base.specs.Symbol.{symbol_text}

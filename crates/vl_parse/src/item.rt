@@ -1,6 +1,21 @@
 //! Items of a module, and blocks of generate constructs (IEEE 1364-2005, sections A.1.4 and A.4.2).
 
-ghost use Rattle.std.specs.Prelude.{◌≡◌, ◌+◌, ◌<◌, ◌≤◌, ℕ, [], ◌∷◌, ◌++◌, None, Ok, List, length, IfOk, IfErr};
+ghost use Rattle.std.specs.Prelude.{
+  ◌≡◌,
+  ◌+◌,
+  ◌<◌,
+  ◌≤◌,
+  ℕ,
+  [],
+  ◌∷◌,
+  ◌++◌,
+  None,
+  Ok,
+  List,
+  length,
+  IfOk,
+  IfErr,
+};
 ghost use Rattle.fv_base.specs.declared.kind.Kind.{Kind};
 ghost use Rattle.vl_parse.specs.declared.item.Ending.{Ending};
 ghost use Rattle.fv_base.specs.declared.kind.Kind.TheVariants as k;

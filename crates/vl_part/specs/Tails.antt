@@ -1,6 +1,23 @@
 -- What functions promise each other, and what they stand on. Lists with commas, as rules of the grammar: an element,
--- and what stands behind one.
-use Rattle.std.proofs.Common.{◌≡◌, ℕ, zero, suc, ◌+◌, ◌-◌, ◌≤◌, ◌<◌, Bool, true, false, List, [], ◌∷◌, ◌++◌, length}
+-- and what stands behind one. Rule of this project.
+use Rattle.std.proofs.Common.{
+  ◌≡◌,
+  ℕ,
+  zero,
+  suc,
+  ◌+◌,
+  ◌-◌,
+  ◌≤◌,
+  ◌<◌,
+  Bool,
+  true,
+  false,
+  List,
+  [],
+  ◌∷◌,
+  ◌++◌,
+  length,
+}
 use Rattle.std.proofs.Common.{refl, sym, ap, ◌∙◌, arith}
 use Rattle.std.specs.Prelude.{Result, Ok, Err, Option, Some, None, map}
 use Rattle.fv_base.specs.declared.kind.Kind.{Kind}
@@ -19,7 +36,8 @@ use Rattle.vl_take.specs.Next.{IsOther, behind}
 use Rattle.vl_take.specs.Parts.{tail_comma, read_all_turn}
 
 pub attributes_comma_all : (n : ℕ) (ts : List Kind)
-    → read attributes n (k.Symbol s.Comma ∷ ts) ≡ then (read_all (name ∷ value ∷ []) n ts) (λ r. read attributes n r)
+    → read attributes n (k.Symbol s.Comma ∷ ts)
+    ≡ then (read_all (name ∷ value ∷ []) n ts) (λ r. read attributes n r)
 attributes_comma_all n ts = tail_comma attributes (name ∷ value ∷ []) n ts refl
 
 pub attributes_all : (n : ℕ) (ts : List Kind)
@@ -57,7 +75,8 @@ names_comma_all n ts = tail_comma names (name ∷ []) n ts refl
 pub names_all : (n : ℕ) (ts : List Kind) → read_all (name ∷ []) n ts ≡ read name n ts
 names_all n ts = read_all_turn (name ∷ []) n ts
 
-pub names_ending : (n : ℕ) (ts : List Kind) → IsOther (k.Symbol s.Comma) ts → read names n ts ≡ behind s.Semicolon ts
+pub names_ending : (n : ℕ) (ts : List Kind) → IsOther (k.Symbol s.Comma) ts
+    → read names n ts ≡ behind s.Semicolon ts
 unfolding behind read machine.reads
 names_ending n [] h0 = refl
 names_ending n (k.Symbol s.Comma ∷ ts) h0 = absurd (h0 refl)
@@ -86,7 +105,8 @@ pub assignments_comma_all : (n : ℕ) (ts : List Kind)
 assignments_comma_all n ts = tail_comma assignments (assignment) n ts refl
 
 pub assignments_all : (n : ℕ) (ts : List Kind)
-    → read_all (assignment) n ts ≡ then (read target n ts) (λ r. then (read (sign s.Equal) n r) (λ q. read expr n q))
+    → read_all (assignment) n ts ≡ then (read target n ts)
+    (λ r. then (read (sign s.Equal) n r) (λ q. read expr n q))
 assignments_all n ts = read_all_turn (assignment) n ts
 
 pub assignments_ending : (n : ℕ) (ts : List Kind) → IsOther (k.Symbol s.Comma) ts

@@ -46,7 +46,8 @@ pub trait Element: Drop {
     ghost comma: { (n : ℕ) (ts : List Kind) → read tail n (k.Symbol s.Comma ∷ ts)
         ≡ machine.then (read_all rules n ts) (λ r. read tail n r) };
 
-    ghost ending: { (n : ℕ) (ts : List Kind) → IsOther (k.Symbol s.Comma) ts → read tail n ts ≡ behind closing ts };
+    ghost ending: { (n : ℕ) (ts : List Kind) → IsOther (k.Symbol s.Comma) ts
+        → read tail n ts ≡ behind closing ts };
 }
 
 /// One element or more, up to the closing sign.

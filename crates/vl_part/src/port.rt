@@ -1,6 +1,19 @@
 //! Ports and parameters of a module's head (IEEE 1364-2005, sections 12.1 to 12.3 and A.1.3).
 
-ghost use Rattle.std.specs.Prelude.{◌≡◌, ◌<◌, ◌≤◌, ℕ, Ok, true, length, IfOk, IfSome, IsNone, [], ◌∷◌};
+ghost use Rattle.std.specs.Prelude.{
+  ◌≡◌,
+  ◌<◌,
+  ◌≤◌,
+  ℕ,
+  Ok,
+  true,
+  length,
+  IfOk,
+  IfSome,
+  IsNone,
+  [],
+  ◌∷◌,
+};
 ghost use Rattle.fv_base.specs.declared.kind.Kind.TheVariants as k;
 ghost use Rattle.vl_tree.specs.Phrase.{Spells, word, sign, parens, between_commas, ◌▸◌};
 ghost use Rattle.vl_tree.specs.DeclarationSpelling as spec;

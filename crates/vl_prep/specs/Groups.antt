@@ -1,14 +1,30 @@
--- Tokens as nested groups, and what comes of them (IEEE 1364-2005, clause 19). A text is read from its front: each rule
--- below takes one construct there, and leads from the tokens and what was read before it to those behind it.
--- A conditional is `ifdef or `ifndef with a name and a group, then `elsif groups with a name each, perhaps an `else
--- group, and `endif (section 19.4). A group is again tokens and conditionals. At most one group of a conditional is
--- chosen.
+-- What the public calls promise. Tokens as nested groups, and what comes of them (IEEE 1364-2005, clause 19). A text
+-- is read from its front: each rule below takes one construct there, and leads from the tokens and what was read before
+-- it to those behind it. A conditional is `ifdef or `ifndef with a name and a group, then `elsif groups with a name
+-- each, perhaps an `else group, and `endif (section 19.4). A group is again tokens and conditionals. At most one group
+-- of a conditional is chosen.
 --
 -- Reading goes on behind what is refused (rule of this project): of an unknown macro, a macro too deep and an `include
 -- nothing comes, a directive without its name or without its conditional is passed over, a token past the limit is
 -- dropped, a macro with arguments has the text that is written, and a conditional without its `endif ends with the
 -- text. So a text has all refusals that these rules meet, and the least of them is answered.
-use Rattle.std.specs.Prelude.{◌≡◌, ℕ, zero, suc, Bool, true, false, cond, ◌&&◌, ◌==◌, not, List, [], ◌∷◌, Option}
+use Rattle.std.specs.Prelude.{
+  ◌≡◌,
+  ℕ,
+  zero,
+  suc,
+  Bool,
+  true,
+  false,
+  if◌then◌else◌,
+  ◌&&◌,
+  ◌==◌,
+  not,
+  List,
+  [],
+  ◌∷◌,
+  Option,
+}
 use Rattle.std.specs.Prelude.{None, Some}
 use Rattle.fv_base.specs.declared.kind.Kind.{Kind}
 use Rattle.fv_base.specs.declared.kind.Kind.TheVariants as k
@@ -94,7 +110,7 @@ has_name pos (n ∷ ts) = is_name n.kind && on_line pos n.pos
 -- what stands behind the line of a place
 abbrev pub behind_line : Pos → List Token → List Token
 behind_line pos [] = []
-behind_line pos (t ∷ ts) = cond (on_line pos t.pos) (behind_line pos ts) (t ∷ ts)
+behind_line pos (t ∷ ts) = if on_line pos t.pos then behind_line pos ts else t ∷ ts
 
 -- the line that a macro's text goes on with behind a token
 abbrev pub next_line : ℕ → Kind → ℕ
@@ -110,21 +126,21 @@ with_token t kind ts = t ∷ ts
 abbrev pub text_at : ℕ → ℕ → List Token → List Token
 text_at file line [] = []
 text_at file line (t ∷ ts) =
-    cond (t.pos.file == file && t.pos.line == line) (with_token t t.kind (text_at file (next_line line t.kind) ts)) []
+    if t.pos.file == file && t.pos.line == line then with_token t t.kind (text_at file (next_line line t.kind) ts)
+    else []
 
 -- what stands behind it
 abbrev pub behind_text : ℕ → ℕ → List Token → List Token
 behind_text file line [] = []
 behind_text file line (t ∷ ts) =
-    cond (t.pos.file == file && t.pos.line == line) (behind_text file (next_line line t.kind) ts) (t ∷ ts)
+    if t.pos.file == file && t.pos.line == line then behind_text file (next_line line t.kind) ts else t ∷ ts
 
 -- a bracket directly behind the name, among the tokens of the text, is refused
 abbrev pub without_arguments : Option Pos → List ℕ → Pos → ℕ → List Token → Done → Done
 without_arguments at name pos line [] done = done
 without_arguments at name pos line (t ∷ ts) done =
-    cond (t.pos.file == pos.file && t.pos.line == line)
-    (without_arguments at name pos (next_line line t.kind) ts
-    (cond (begins_arguments name pos t) (refused (place at t.pos) cause.MacroArgs done) done)) done
+    if t.pos.file == pos.file && t.pos.line == line then without_arguments at name pos (next_line line t.kind) ts
+    (if begins_arguments name pos t then refused (place at t.pos) cause.MacroArgs done else done) else done
 
 -- a macro has the text behind its name
 abbrev pub defined : Option Pos → List ℕ → Pos → List Token → Done → Done
@@ -135,7 +151,8 @@ defined at name pos ts done =
 -- place of the outermost use, the macro's text, and what was before and is behind it
 mutual
   -- a group within the conditionals of this text, of which the innermost stands first, from some tokens up to others
-  pub data Reads (at : Option Pos) (Use : Pos → List Token → Done → Done → Type 0) : List Open → List Token → Done
+  pub data Reads (at : Option Pos) (Use : Pos → List Token → Done → Done → Type 0) : List Open → List Token
+      → Done
       → List Token → Done → Type 0 where
     -- the group, or what is told of it, ends anywhere. What must stand there the rules of conditionals say
     reads_none : (os : List Open) (ts : List Token) (done : Done) → Reads at Use os ts done ts done
@@ -152,11 +169,14 @@ mutual
         → t.kind ≡ k.Continue → Reads at Use os ts old rest new → Reads at Use os (t ∷ ts) old rest new
     -- a macro's use is replaced by what comes of the text that the macro has there (section 19.3.1)
     reads_use : (os : List Open) (t : Token) (name : List ℕ) (text ts rest : List Token) (old mid new : Done)
-        → are_chosen os ≡ true → t.kind ≡ k.Tick name → directive_of name ≡ None → old.macros name ≡ Some text →
-        Use (place at t.pos) text old mid → Reads at Use os ts mid rest new → Reads at Use os (t ∷ ts) old rest new
+        → are_chosen os ≡ true → t.kind ≡ k.Tick name → directive_of name ≡ None
+        → old.macros name ≡ Some text →
+        Use (place at t.pos) text old mid → Reads at Use os ts mid rest new
+        → Reads at Use os (t ∷ ts) old rest new
     -- of a macro that isn't defined nothing comes
     reads_unknown : (os : List Open) (t : Token) (name : List ℕ) (ts rest : List Token) (old new : Done)
-        → are_chosen os ≡ true → t.kind ≡ k.Tick name → directive_of name ≡ None → old.macros name ≡ None →
+        → are_chosen os ≡ true → t.kind ≡ k.Tick name → directive_of name ≡ None
+        → old.macros name ≡ None →
         Reads at Use os ts (refused (place at t.pos) (cause.UnknownMacro name) old) rest new
         → Reads at Use os (t ∷ ts) old rest new
     -- the text of a macro is kept as it is written (section 19.3.1)
@@ -179,7 +199,8 @@ mutual
     -- a directive without its name is passed over
     reads_nameless : (os : List Open) (t : Token) (d : Directive) (ts rest : List Token) (old new : Done)
         → directive_at t.kind ≡ Some d → needs_name os d ≡ true → has_name t.pos ts ≡ false →
-        Reads at Use os ts (refused (place at t.pos) cause.NoName old) rest new → Reads at Use os (t ∷ ts) old rest new
+        Reads at Use os ts (refused (place at t.pos) cause.NoName old) rest new
+        → Reads at Use os (t ∷ ts) old rest new
     -- and so is one without its conditional
     reads_alone : (os : List Open) (t : Token) (d : Directive) (ts rest : List Token) (old new : Done)
         → directive_at t.kind ≡ Some d → is_alone os d ≡ true →
@@ -187,13 +208,15 @@ mutual
         → Reads at Use os (t ∷ ts) old rest new
     -- a conditional: its first group, and the rest of it
     reads_conditional : (os : List Open) (t n : Token) (d : Directive) (name : List ℕ)
-        (ts group behind rest : List Token) (old mid further new : Done) → IsNamed d name t n → begins d ≡ true →
+        (ts group behind rest : List Token) (old mid further new : Done) → IsNamed d name t n
+        → begins d ≡ true →
         Reads at Use (opened (place at t.pos) (chooses d (is_defined old name)) os) ts old group mid
         → Ends at Use (opened (place at t.pos) (chooses d (is_defined old name)) os) group mid behind further →
         Reads at Use os behind further rest new → Reads at Use os (t ∷ n ∷ ts) old rest new
 
   -- the rest of the innermost conditional from the end of a group on
-  pub data Ends (at : Option Pos) (Use : Pos → List Token → Done → Done → Type 0) : List Open → List Token → Done
+  pub data Ends (at : Option Pos) (Use : Pos → List Token → Done → Done → Type 0) : List Open → List Token
+      → Done
       → List Token → Done → Type 0 where
     -- `endif
     ends_here : (o : Open) (os : List Open) (t : Token) (ts : List Token) (done : Done)

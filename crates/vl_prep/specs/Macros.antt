@@ -1,5 +1,6 @@
--- The macros that are defined: a map from names to texts.
-use Rattle.std.specs.Prelude.{ℕ, List, cond, Option, None, Some}
+-- What the public calls promise. The macros that are defined: a map from names to texts. IEEE 1364-2005,
+-- section 19.3.
+use Rattle.std.specs.Prelude.{ℕ, List, if◌then◌else◌, Option, None, Some}
 use Rattle.std.specs.Map.{lookup}
 use Rattle.std.specs.Option.{option_map}
 use Rattle.std.specs.Str.{bytes_eq}
@@ -21,4 +22,4 @@ held macros name =
 
 -- the same macros but for this name, which has this text, or none
 abbrev pub with_text : List ℕ → Option (List Token) → Held → Held
-with_text name text macros other = cond (bytes_eq name other) text (macros other)
+with_text name text macros other = if bytes_eq name other then text else macros other

@@ -1,4 +1,5 @@
--- Where the places of an answer come from: each is that of a token of the text that was read. Rule of this project.
+-- What the public calls promise. Where the places of an answer come from: each is that of a token of the text that
+-- was read. Rule of this project.
 use Rattle.std.specs.Prelude.{List, map, Option, Some, None, IfSome}
 use Rattle.std.specs.List.{All, Contains}
 use Rattle.fv_base.specs.declared.pos.Pos.{Pos}

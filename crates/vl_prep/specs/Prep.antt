@@ -1,5 +1,21 @@
--- What comes of tokens, read one by one. `groups_decide` ties it to nested groups.
-use Rattle.std.specs.Prelude.{ℕ, zero, suc, Bool, true, false, cond, not, nat_lt, List, [], ◌∷◌, ◌++◌, length, Option}
+-- What the public calls promise. What comes of tokens, read one by one. `groups_decide` ties it to nested groups.
+use Rattle.std.specs.Prelude.{
+  ℕ,
+  zero,
+  suc,
+  Bool,
+  true,
+  false,
+  if◌then◌else◌,
+  not,
+  nat_lt,
+  List,
+  [],
+  ◌∷◌,
+  ◌++◌,
+  length,
+  Option,
+}
 use Rattle.std.specs.Prelude.{None, Some, is_some, unwrap_or, Result, Ok, Err}
 use Rattle.fv_base.specs.declared.kind.Kind.{Kind}
 use Rattle.fv_base.specs.declared.kind.Kind.TheVariants as k
@@ -62,7 +78,7 @@ is_defined done name = is_some (done.macros name)
 
 -- a token is put out, as one of 2,000,000 at most; one past them is dropped (rule of this project)
 abbrev pub put : Done → Token → Done
-put done t = cond (nat_lt (length done.output) 2000000) (put_out done t) (refused t.pos cause.TooManyTokens done)
+put done t = if nat_lt (length done.output) 2000000 then put_out done t else refused t.pos cause.TooManyTokens done
 
 -- the conditionals that are open at the end of a text have no partners
 abbrev pub all_refused : List Open → Done → Done
@@ -97,7 +113,7 @@ module _ (at : Option Pos) where
   refused_at s pos cause = with_done s (refused (place pos) cause s.done)
 
   abbrev pub put_chosen : Stand → Token → Stand
-  put_chosen s t = cond (are_chosen s.opens) (with_done s (put s.done (moved t (place t.pos)))) (begun s Plain)
+  put_chosen s t = if are_chosen s.opens then with_done s (put s.done (moved t (place t.pos))) else begun s Plain
 
   -- the directives that count in chosen groups alone
   abbrev pub in_chosen : Stand → Directive → Pos → Stand
@@ -109,12 +125,13 @@ module _ (at : Option Pos) where
   abbrev pub at_directive : Stand → Directive → Pos → Stand
   at_directive s IfDef pos = begun s (Named IfDef pos)
   at_directive s IfNotDef pos = begun s (Named IfNotDef pos)
-  at_directive s ElseIf pos = cond (can_turn s.opens) (begun s (Named ElseIf pos)) (refused_at s pos cause.UnbalancedIf)
+  at_directive s ElseIf pos =
+      if can_turn s.opens then begun s (Named ElseIf pos) else refused_at s pos cause.UnbalancedIf
   at_directive s Else pos =
-      cond (can_turn s.opens) (with_opens s (turned true true s.opens)) (refused_at s pos cause.UnbalancedIf)
+      if can_turn s.opens then with_opens s (turned true true s.opens) else refused_at s pos cause.UnbalancedIf
   at_directive s EndIf pos =
-      cond (is_open s.opens) (with_opens s (closed s.opens)) (refused_at s pos cause.UnbalancedIf)
-  at_directive s d pos = cond (are_chosen s.opens) (in_chosen s d pos) (begun s Plain)
+      if is_open s.opens then with_opens s (closed s.opens) else refused_at s pos cause.UnbalancedIf
+  at_directive s d pos = if are_chosen s.opens then in_chosen s d pos else begun s Plain
 
   -- a directive at a place, its name, and the name's place
   abbrev pub named : Stand → Directive → Pos → List ℕ → Pos → Stand
@@ -127,7 +144,7 @@ module _ (at : Option Pos) where
   -- a token on the line of a macro's text. A bracket directly behind the name is refused, and is of the text
   abbrev pub in_body : Stand → Body → Token → Stand
   in_body s b t = record {
-    done = cond (has_bracket b t) (refused (place t.pos) cause.MacroArgs s.done) s.done;
+    done = if has_bracket b t then refused (place t.pos) cause.MacroArgs s.done else s.done;
     opens = s.opens;
     reading = InBody (body_with b t t.kind);
   }
@@ -150,7 +167,7 @@ module _ (at : Option Pos) (expand : Pos → List Token → Done → Done) where
 
   abbrev pub at_use : Stand → List ℕ → Pos → Stand
   at_use s name pos =
-      cond (are_chosen s.opens) (with_done s (use_of s.done name pos (s.done.macros name))) (begun s Plain)
+      if are_chosen s.opens then with_done s (use_of s.done name pos (s.done.macros name)) else begun s Plain
 
   abbrev pub at_tick : Stand → List ℕ → Pos → Option Directive → Stand
   at_tick s word pos (Some d) = at_directive at s d pos
@@ -165,14 +182,14 @@ module _ (at : Option Pos) (expand : Pos → List Token → Done → Done) where
   -- the token behind a directive that needs a name. Where it is none, the directive is passed over
   abbrev pub at_named : Stand → Directive → Pos → Token → Kind → Stand
   at_named s d pos t (k.Name name) =
-      cond (on_line pos t.pos) (named at s d pos name t.pos) (at_plain (refused_at at s pos cause.NoName) t t.kind)
+      if on_line pos t.pos then named at s d pos name t.pos else at_plain (refused_at at s pos cause.NoName) t t.kind
   at_named s d pos t kind = at_plain (refused_at at s pos cause.NoName) t t.kind
 
   abbrev pub at_token : Stand → Token → Reading → Stand
   at_token s t Plain = at_plain s t t.kind
   at_token s t (Named d pos) = at_named s d pos t t.kind
-  at_token s t (InBody b) = cond (goes_on b t.pos) (in_body at s b t) (at_plain (end_of_body s b) t t.kind)
-  at_token s t (Dropped pos) = cond (on_line pos t.pos) (begun s (Dropped pos)) (at_plain s t t.kind)
+  at_token s t (InBody b) = if goes_on b t.pos then in_body at s b t else at_plain (end_of_body s b) t t.kind
+  at_token s t (Dropped pos) = if on_line pos t.pos then begun s (Dropped pos) else at_plain s t t.kind
 
   abbrev pub read_from : Stand → List Token → Done
   read_from s [] = at_end at s

@@ -1,5 +1,20 @@
--- Which uses of macros the code remembers, since they changed nothing. No public clause cites it.
-use Rattle.std.specs.Prelude.{◌≡◌, ℕ, Bool, true, false, ◌&&◌, ◌==◌, List, [], Option, None, Some, slice_get}
+-- What functions promise each other. Which uses of macros the code remembers, since they changed nothing. Rule of
+-- this project.
+use Rattle.std.specs.Prelude.{
+  ◌≡◌,
+  ℕ,
+  Bool,
+  true,
+  false,
+  ◌&&◌,
+  ◌==◌,
+  List,
+  [],
+  Option,
+  None,
+  Some,
+  slice_get,
+}
 use Rattle.std.specs.Map.{lookup}
 use Rattle.std.specs.Str.{bytes_eq}
 use Rattle.fv_base.specs.declared.pos.Pos.{Pos}
@@ -39,4 +54,5 @@ pub record NotesOne (old : Quiet) (name : List ℕ) (place : Pos) (levels : ℕ)
 -- each use that is remembered changes nothing
 pub record AreQuiet (q : Quiet) (done : Done) : Type 0 where
   pub nothing : (place : Pos) (name : List ℕ) (levels : ℕ) (text : List Token) →
-      q.place ≡ Some place → WasSeen q name levels → done.macros name ≡ Some text → expand levels place text done ≡ done
+      q.place ≡ Some place → WasSeen q name levels → done.macros name ≡ Some text
+      → expand levels place text done ≡ done

@@ -1,4 +1,4 @@
--- Where the code stands, as the definition sees it. No public clause cites it.
+-- What functions promise each other. Where the code stands, as the definition sees it. Rule of this project.
 use Rattle.std.specs.Prelude.{◌≡◌, ℕ, zero, ◌<◌, true, List, Option, None, Some, Result, Ok, Err}
 use Rattle.std.specs.Arc.{arc_value}
 use Rattle.fv_base.specs.declared.pos.Pos.{Pos}

@@ -84,7 +84,8 @@ impl Quiet {
 
 /// One more level.
 fn with_level(seen: [bool; LEVELS], level: u32) -> [bool; LEVELS]
-    ensures { (n : ℕ) → (level == n) ≡ false → slice_get result n ≡ Some true → slice_get seen n ≡ Some true }
+    ensures { (n : ℕ) → (level == n) ≡ false → slice_get result n ≡ Some true
+        → slice_get seen n ≡ Some true }
 {
     let mut seen = seen;
     if (level as usize) < LEVELS {

@@ -76,7 +76,8 @@ fn read_text(prepared: &mut Prepared, site: Site, text: &[Token]) -> Result<(), 
 }
 
 fn end_text(prepared: &mut Prepared, scope: Scope, site: Site) -> Result<(), Memory>
-    ensures comes { OnOk result (done_of prepared.new ≡ specs.at_end site.at (stand_of (done_of prepared.old) scope)) }
+    ensures comes { OnOk result (done_of prepared.new
+        ≡ specs.at_end site.at (stand_of (done_of prepared.old) scope)) }
     ensures fresh { OnOkFresh result prepared.old prepared.new }
 {
     let Scope { opens, reading } = scope;

@@ -1,6 +1,22 @@
 -- Where the steps of a walk are refused, and why: all refusals of a step. IEEE 1364-2005, sections 3.2, 3.9, 3.11,
 -- 12.1 to 12.4; the limits, the clock, and what a memory may be are rules of this project.
-use Rattle.std.specs.Prelude.{ℕ, zero, suc, List, [], ◌∷◌, ◌++◌, map, find, Bool, true, false, ◌&&◌, ◌||◌, not}
+use Rattle.std.specs.Prelude.{
+  ℕ,
+  zero,
+  suc,
+  List,
+  [],
+  ◌∷◌,
+  ◌++◌,
+  map,
+  find,
+  Bool,
+  true,
+  false,
+  ◌&&◌,
+  ◌||◌,
+  not,
+}
 use Rattle.std.specs.Prelude.{is_none, is_some, Option, Some, None, bytes_eq, if◌then◌else◌}
 use Rattle.fv_base.specs.declared.pos.Pos.{Pos}
 use Rattle.vl_tree.specs.declared.declaration.DeclaredName.{DeclaredName}
@@ -158,7 +174,8 @@ given_value ns p kind text (Some e) =
     assignment_refusals ns (is_net kind) true (not (is_net kind)) (named p text whole) e
 
 -- that of a memory is judged as one that it can't have
-abbrev pub declared_value : List Names → Pos → NetKind → List ℕ → Option Range → Option Expr → List ElabFault
+abbrev pub declared_value : List Names → Pos → NetKind → List ℕ → Option Range → Option Expr
+    → List ElabFault
 declared_value ns p kind text None value = given_value ns p kind text value
 declared_value ns p kind text (Some r) None = []
 declared_value ns p kind text (Some r) (Some e) = own_refusals ns (not (is_net kind)) e
@@ -193,7 +210,8 @@ port_refusals at p q =
 
 abbrev pub assignments_refusals : List Names → List Assignment → List ElabFault
 assignments_refusals ns [] = []
-assignments_refusals ns (x ∷ xs) = assignment_refusals ns true true false x.target x.value ++ assignments_refusals ns xs
+assignments_refusals ns (x ∷ xs) =
+    assignment_refusals ns true true false x.target x.value ++ assignments_refusals ns xs
 
 -- a block acts at the edge of the clock alone
 abbrev pub edge_refusals : Pos → List ℕ → Meaning → List ElabFault
@@ -356,7 +374,8 @@ abbrev pub joined_context : List Names → Option ℕ → Expr → Context
 joined_context ns None e = own_context (objects ns) (known ns e)
 joined_context ns (Some w) e = assigned_in ns (Some w) e
 
-abbrev pub joined_value : Place → List Names → List Names → FullPort → Direction → Connection → Expr → List ElabFault
+abbrev pub joined_value : Place → List Names → List Names → FullPort → Direction → Connection → Expr
+    → List ElabFault
 joined_value at ns inner q direction.Input x e =
     if is_clock at.scopes (Some e) then [] else expr_refusals ns false
     (joined_context ns (object_width (meaning_in inner q.name)) e) e

@@ -1,6 +1,22 @@
 -- Whether a design is refused, and why: the first step of the walk that is, of it the lowest number, and of one
 -- number the earliest place. The order is a rule of this project.
-use Rattle.std.specs.Prelude.{◌≡◌, ℕ, zero, suc, ◌+◌, ◌==◌, List, [], ◌∷◌, ◌++◌, Bool, false, ◌&&◌, ◌||◌, nat_lt}
+use Rattle.std.specs.Prelude.{
+  ◌≡◌,
+  ℕ,
+  zero,
+  suc,
+  ◌+◌,
+  ◌==◌,
+  List,
+  [],
+  ◌∷◌,
+  ◌++◌,
+  Bool,
+  false,
+  ◌&&◌,
+  ◌||◌,
+  nat_lt,
+}
 use Rattle.std.specs.Prelude.{is_none, Option, Some, None, ◌⊎◌, if◌then◌else◌}
 use Rattle.fv_base.specs.declared.pos.Pos.{Pos}
 use Rattle.vl_tree.specs.declared.source.Module.{Module}

@@ -1,4 +1,5 @@
--- Small designs that are refused, one for each refusal and for each place where their order counts.
+-- Small designs that are refused, one for each refusal and for each place where their order counts. Rule of this
+-- project.
 use Rattle.std.specs.Prelude.{ℕ, List, [], ◌∷◌, true, false, Option, Some, None, codes}
 use Rattle.vl_tree.specs.declared.declaration.NetKind.TheVariants as net
 use Rattle.vl_tree.specs.declared.declaration.ParameterKind.{ParameterKind}
@@ -19,7 +20,8 @@ up_to text = record { signed = false; range = Some (record { pos = here; left = 
 
 -- with an output `o`, and with inputs `clock` and `a`
 abbrev pub top : List Item → List Module
-top xs = module_of (codes "top") (input (codes "clock") ∷ input (codes "a") ∷ output scalar (codes "o") ∷ []) xs ∷ []
+top xs = module_of (codes "top") (input (codes "clock") ∷ input (codes "a") ∷ output scalar (codes "o") ∷ []) xs
+    ∷ []
 
 abbrev definition : ParameterKind → List ℕ → Expr → Item
 definition kind text e = parameter [] here kind (record { pos = here; shape = scalar; name = text; value = e } ∷ [])

@@ -1,6 +1,21 @@
 -- Where targets and statements are refused, and why. IEEE 1364-2005, sections 6.1, 6.2, 9.2 and 9.5; that the clock,
 -- inputs and names that are free aren't assigned, and the limits, are rules of this project.
-use Rattle.std.specs.Prelude.{ℕ, ◌+◌, List, [], ◌∷◌, ◌++◌, Bool, true, false, ◌&&◌, ◌||◌, not, Option, Some}
+use Rattle.std.specs.Prelude.{
+  ℕ,
+  ◌+◌,
+  List,
+  [],
+  ◌∷◌,
+  ◌++◌,
+  Bool,
+  true,
+  false,
+  ◌&&◌,
+  ◌||◌,
+  not,
+  Option,
+  Some,
+}
 use Rattle.fv_base.specs.declared.pos.Pos.{Pos}
 use Rattle.vl_tree.specs.Expr.{Expr}
 use Rattle.vl_tree.specs.Lval.{Lval, Lvals, named, joined, no_lvals, more_lvals}

@@ -21,5 +21,6 @@ pub fn the_lowest_of_parts_is_answered()
 #[tactic(auto, using(crate::proofs::LowestFirst::first_append))]
 pub fn the_first_refused_step_counts()
     ensures { (ms : List Module) (t : Totals) (xs ys : List Step)
-        → first_refused ms t (xs ++ ys) ≡ or_later (first_refused ms t xs) (first_refused ms (all_counted t xs) ys) }
+        → first_refused ms t (xs ++ ys) ≡ or_later (first_refused ms t xs)
+        (first_refused ms (all_counted t xs) ys) }
 {}

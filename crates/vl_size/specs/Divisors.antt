@@ -1,8 +1,20 @@
 -- Divisors that are 0. A divisor has the size and the sign of its context, which go down as those of a value do: in
--- nine bits
--- `8'd255 + 8'd1` isn't 0. IEEE 1364-2005, sections 5.1.5, 5.4 and 5.5; that a division by 0 is refused, also in a
--- branch that isn't taken, is a rule of this project.
-use Rattle.std.specs.Prelude.{ℕ, ◌==◌, max, List, Bool, true, false, ◌&&◌, Option, Some, None, if◌then◌else◌}
+-- nine bits `8'd255 + 8'd1` isn't 0. IEEE 1364-2005, sections 5.1.5, 5.4 and 5.5; that a division by 0 is refused,
+-- also in a branch that isn't taken, is a rule of this project.
+use Rattle.std.specs.Prelude.{
+  ℕ,
+  ◌==◌,
+  max,
+  List,
+  Bool,
+  true,
+  false,
+  ◌&&◌,
+  Option,
+  Some,
+  None,
+  if◌then◌else◌,
+}
 use Rattle.fv_base.specs.declared.pos.Pos.{Pos}
 use Rattle.vl_tree.specs.declared.expr.Select.{Select}
 use Rattle.vl_tree.specs.declared.expr.Select.TheVariants as s
@@ -80,7 +92,8 @@ module _ (ds : List Decl) where
 
   -- a constant with the value 0 in the context
   abbrev pub is_zero : Context → Expr → Bool
-  is_zero c y = is_constant y && holds_of c.size (λ w. holds_of (size ds y) (λ n. value ds no_names w c.signed y == 0))
+  is_zero c y = is_constant y && holds_of c.size
+      (λ w. holds_of (size ds y) (λ n. value ds no_names w c.signed y == 0))
 
   -- the earliest division by 0 in an expression, which has the size and the sign of a context
   abbrev mutual

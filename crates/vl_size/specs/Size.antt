@@ -1,8 +1,38 @@
 -- The size of an expression by itself, and its value in a context: one block, since a size may need the value of a
 -- constant (a count of copies, the bounds of a part), and a value the sizes of parts. IEEE 1364-2005, sections 4.2,
 -- 5.1, 5.2, 5.4 and 5.5; that sizes end at 128 bits, and which expressions have none, are rules of this project.
-use Rattle.std.specs.Prelude.{ℕ, zero, suc, ◌+◌, ◌-◌, ◌*◌, ◌/◌, ◌%◌, ◌^◌, ◌==◌, max, Bool, true, false, ◌&&◌, ◌||◌}
-use Rattle.std.specs.Prelude.{not, is_none, nat_le, if◌then◌else◌, List, Option, Some, None, ℤ, pos, negsuc, ◌+ℤ◌}
+use Rattle.std.specs.Prelude.{
+  ℕ,
+  zero,
+  suc,
+  ◌+◌,
+  ◌-◌,
+  ◌*◌,
+  ◌/◌,
+  ◌%◌,
+  ◌^◌,
+  ◌==◌,
+  max,
+  Bool,
+  true,
+  false,
+  ◌&&◌,
+  ◌||◌,
+}
+use Rattle.std.specs.Prelude.{
+  not,
+  is_none,
+  nat_le,
+  if◌then◌else◌,
+  List,
+  Option,
+  Some,
+  None,
+  ℤ,
+  pos,
+  negsuc,
+  ◌+ℤ◌,
+}
 use Rattle.std.specs.Prelude.{◌-ℤ◌, nat_abs, int_le, int_lt, bit_and, bit_or, bit_xor}
 use Rattle.vl_tree.specs.declared.operator.UnaryOperator.{UnaryOperator}
 use Rattle.vl_tree.specs.declared.operator.UnaryOperator.TheVariants as u
@@ -343,7 +373,8 @@ module _ (ds : List Decl) where
     pub vector_value : Cells → ℕ → Bool → Decl → ℕ → Selects → ℕ
     vector_value v w s d x whole = extended d.width w s x
     vector_value v w s d x (bit p i whole) =
-        extended 1 w s (bit_at d.width x (offset_of d (index_of (operand (size i) (sign ds i) (λ m t. value v m t i)))))
+        extended 1 w s (bit_at d.width x (offset_of d
+        (index_of (operand (size i) (sign ds i) (λ m t. value v m t i)))))
     vector_value v w s d x (part p l r whole) =
         let low_end = index_of (operand (size r) (sign ds r) (λ m t. value v m t r)) in
         let n = span (index_of (operand (size l) (sign ds l) (λ m t. value v m t l))) low_end in

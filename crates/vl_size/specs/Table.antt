@@ -1,6 +1,35 @@
 -- Declarations in order. Rules of this project, but that names of one scope differ: IEEE 1364-2005, section 12.7.
-use Rattle.std.specs.Prelude.{◌≡◌, ℕ, ◌+◌, ◌≤◌, List, [], ◌∷◌, ◌++◌, Bool, true, false, ◌||◌, ◌&&◌, Option, Some}
-use Rattle.std.specs.Prelude.{None, All, find, position, bytes_eq, ℤ, ◌-ℤ◌, nat_abs, codes, int_le, not, ◌==◌}
+use Rattle.std.specs.Prelude.{
+  ◌≡◌,
+  ℕ,
+  ◌+◌,
+  ◌≤◌,
+  List,
+  [],
+  ◌∷◌,
+  ◌++◌,
+  Bool,
+  true,
+  false,
+  ◌||◌,
+  ◌&&◌,
+  Option,
+  Some,
+}
+use Rattle.std.specs.Prelude.{
+  None,
+  All,
+  find,
+  position,
+  bytes_eq,
+  ℤ,
+  ◌-ℤ◌,
+  nat_abs,
+  codes,
+  int_le,
+  not,
+  ◌==◌,
+}
 use Rattle.std.specs.List.{list_all}
 use Rattle.std.specs.Fmt.{signed_decimal}
 use Rattle.vl_size.specs.declared.decl.Decl.{Decl}
@@ -25,7 +54,8 @@ word_name memory i = memory ++ codes "[" ++ signed_decimal i ++ codes "]"
 
 abbrev pub IsNoWordIn : Option (ℤ × ℤ) → List ℕ → List ℕ → Type 0
 IsNoWordIn None memory name = Unit {0}
-IsNoWordIn (Some bounds) memory name = (i : ℤ) → is_between bounds.0 bounds.1 i ≡ true → name ≡ word_name memory i → ⊥
+IsNoWordIn (Some bounds) memory name =
+    (i : ℤ) → is_between bounds.0 bounds.1 i ≡ true → name ≡ word_name memory i → ⊥
 
 -- none of the names is that of a word of the declaration
 abbrev pub HasNoWord : List Decl → Decl → Type 0

@@ -1,4 +1,18 @@
-ghost use Rattle.std.specs.Prelude.{◌≡◌, ◌++◌, ◌∷◌, [], ◌+◌, ◌-◌, ◌<◌, ◌^◌, false, None, bytes_eq, length, slice_get};
+ghost use Rattle.std.specs.Prelude.{
+  ◌≡◌,
+  ◌++◌,
+  ◌∷◌,
+  [],
+  ◌+◌,
+  ◌-◌,
+  ◌<◌,
+  ◌^◌,
+  false,
+  None,
+  bytes_eq,
+  length,
+  slice_get,
+};
 ghost use Rattle.std.specs.Prelude.{All, IfSome, OnOk, OnErr};
 ghost use Rattle.std.specs.Option.{option_copied};
 ghost use Rattle.std.specs.Map.{lookup};

@@ -1,5 +1,20 @@
 //! Bits and words at an index, which is read by its own sign (IEEE 1364-2005, sections 4.2.1, 4.2.2 and 4.9.3).
-ghost use Rattle.std.specs.Prelude.{◌≡◌, ◌+◌, ◌<◌, ◌≤◌, ◌-◌, ◌^◌, false, Some, None, IfSome, IsTrue, ℤ, pos, negsuc};
+ghost use Rattle.std.specs.Prelude.{
+  ◌≡◌,
+  ◌+◌,
+  ◌<◌,
+  ◌≤◌,
+  ◌-◌,
+  ◌^◌,
+  false,
+  Some,
+  None,
+  IfSome,
+  IsTrue,
+  ℤ,
+  pos,
+  negsuc,
+};
 ghost use Rattle.std.specs.Prelude.{◌+ℤ◌, ◌≤ℤ◌, if◌then◌else◌};
 ghost use Rattle.fv_bits.specs.Bits.{as_int};
 ghost use Rattle.vl_size.specs.Size as spec;

@@ -1,5 +1,19 @@
 //! Sizes and values of selects and copies, from the numbers in them (IEEE 1364-2005, sections 4.2.1 and 5.1.14).
-ghost use Rattle.std.specs.Prelude.{◌≡◌, ◌<◌, ◌≤◌, ◌*◌, ◌+◌, ◌^◌, Some, None, IfSome, ℤ, pos, nat_abs, IsTrue};
+ghost use Rattle.std.specs.Prelude.{
+  ◌≡◌,
+  ◌<◌,
+  ◌≤◌,
+  ◌*◌,
+  ◌+◌,
+  ◌^◌,
+  Some,
+  None,
+  IfSome,
+  ℤ,
+  pos,
+  nat_abs,
+  IsTrue,
+};
 ghost use Rattle.std.specs.Prelude.{if◌then◌else◌};
 ghost use Rattle.std.specs.Option.{option_map};
 ghost use Rattle.fv_bits.specs.Bits.{as_int};

@@ -1,5 +1,16 @@
 //! The size of an expression, and the value of a constant one, which a size may need.
-ghost use Rattle.std.specs.Prelude.{◌≡◌, ◌<◌, ◌≤◌, ◌^◌, true, false, Option, IfSome, is_none, if◌then◌else◌};
+ghost use Rattle.std.specs.Prelude.{
+  ◌≡◌,
+  ◌<◌,
+  ◌≤◌,
+  ◌^◌,
+  true,
+  false,
+  Option,
+  IfSome,
+  is_none,
+  if◌then◌else◌,
+};
 ghost use Rattle.std.specs.Option.{option_map};
 ghost use Rattle.fv_base.specs.declared.pos.Pos.{Pos};
 ghost use Rattle.vl_tree.specs.Expr.{exprs, whole, unary, binary};
@@ -233,7 +244,8 @@ fn evaluate_unary(
     ensures value { (p : Pos) → result ≡ spec.size decls.now (unary p operator operand.now) }
     ensures range { IfSome result (λ m. (1 ≤ m) × (m ≤ 128)) }
     ensures unsigned { IfSome result (λ m. (p : Pos)
-        → IsRow numbers.new.unsigned.at (λ w. spec.value decls.now no_names w false (unary p operator operand.now))) }
+        → IsRow numbers.new.unsigned.at (λ w. spec.value decls.now no_names w false
+        (unary p operator operand.now))) }
     ensures signed { IfSome result (λ m. (p : Pos)
         → IsRow numbers.new.signed.at (λ w. spec.value decls.now no_names w true (unary p operator operand.now))) }
 {

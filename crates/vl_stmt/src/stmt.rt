@@ -1,6 +1,21 @@
 //! Statements (IEEE 1364-2005, section A.6).
 
-ghost use Rattle.std.specs.Prelude.{◌≡◌, ◌+◌, ◌<◌, ◌≤◌, [], ◌∷◌, Ok, Some, None, Option, List, length, IfOk, IfErr};
+ghost use Rattle.std.specs.Prelude.{
+  ◌≡◌,
+  ◌+◌,
+  ◌<◌,
+  ◌≤◌,
+  [],
+  ◌∷◌,
+  Ok,
+  Some,
+  None,
+  Option,
+  List,
+  length,
+  IfOk,
+  IfErr,
+};
 ghost use Rattle.std.specs.Prelude.{false, ℕ};
 ghost use Rattle.fv_base.specs.declared.kind.Kind.TheVariants as k;
 ghost use Rattle.fv_base.specs.declared.symbol.Symbol.TheVariants as s;
@@ -198,7 +213,8 @@ fn read_labelled(
 #[cycle(stmt)]
 #[tactic(auto, using(crate::proofs::StmtRows::of_stmts, crate::proofs::StmtSpelled::stmt_spelled, vl_part::proofs::DeclarationRows::basics))]
 fn read_stmts(alloc: Global, room: u32, tokens: &[Token]) -> Result<(List<Stmt>, &[Token]), Stop>
-    ensures found { IfOk result (λ x. Spells (spec.spell_all (tree.stmts x.0) ▸ word Keyword.End) tokens.now x.1.now) }
+    ensures found { IfOk result (λ x. Spells (spec.spell_all (tree.stmts x.0)
+        ▸ word Keyword.End) tokens.now x.1.now) }
     ensures formed { IfOk result (λ x. formed.AreWellFormed (tree.stmts x.0)) }
     ensures shorter { IfOk result (λ x. length x.1.now < length tokens.now) }
     ensures goes { Goes (λ x. Ok (kinds_in x.1.now)) result (grammar.read grammar.stmts room (kinds_in tokens.now)) }
@@ -224,7 +240,8 @@ fn read_arms(
     kind: CaseKind,
     tokens: &[Token],
 ) -> Result<(List<Arm>, &[Token]), Stop>
-    ensures found { IfOk result (λ x. Spells (spec.spell_arms (arms x.0) ▸ word Keyword.Endcase) tokens.now x.1.now) }
+    ensures found { IfOk result (λ x. Spells (spec.spell_arms (arms x.0)
+        ▸ word Keyword.Endcase) tokens.now x.1.now) }
     ensures some { IfOk result (λ x. formed.AreArmsSome (arms x.0)) }
     ensures single { IfOk result (λ x. formed.default_count (arms x.0) ≤ 1) }
     ensures formed { IfOk result (λ x. formed.AreArms kind (arms x.0)) }
@@ -313,7 +330,8 @@ fn read_assignment(
     ensures formed { IfOk result (λ x. formed.IsWellFormed x.0) }
     ensures shorter { IfOk result (λ x. length x.1.now < length tokens.now) }
     ensures goes { Goes (λ x. Ok (kinds_in x.1.now)) result
-        (then (grammar.read grammar.target room (kinds_in tokens.now)) (λ r. grammar.read grammar.assign_sign room r)) }
+        (then (grammar.read grammar.target room (kinds_in tokens.now))
+        (λ r. grammar.read grammar.assign_sign room r)) }
 {
     let (target, rest) = read_lval(alloc, room, tokens)?;
     let (kind, rest) = read_assign_sign(rest)?;
@@ -373,7 +391,8 @@ pub fn read_initial(alloc: Global, room: u32, tokens: &[Token]) -> Result<(Stmt,
 #[cycle(initial)]
 #[tactic(auto, using(crate::proofs::StmtRows::of_initial_stmts, crate::proofs::StmtSpelled::stmt_spelled, vl_part::proofs::DeclarationRows::basics))]
 fn read_initials(alloc: Global, room: u32, tokens: &[Token]) -> Result<(List<Stmt>, &[Token]), Stop>
-    ensures found { IfOk result (λ x. Spells (spec.spell_all (tree.stmts x.0) ▸ word Keyword.End) tokens.now x.1.now) }
+    ensures found { IfOk result (λ x. Spells (spec.spell_all (tree.stmts x.0)
+        ▸ word Keyword.End) tokens.now x.1.now) }
     ensures formed { IfOk result (λ x. formed.AreWellFormed (tree.stmts x.0)) }
     ensures initial { IfOk result (λ x. formed.AreInitial (tree.stmts x.0)) }
     ensures shorter { IfOk result (λ x. length x.1.now < length tokens.now) }

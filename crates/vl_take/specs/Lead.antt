@@ -1,5 +1,5 @@
--- What a token begins as the first of an operand, and what it joins to the operand before it. IEEE 1364-2005,
--- sections 5.1 and A.8.
+-- What the public calls promise. What a token begins as the first of an operand, and what it joins to the operand
+-- before it. IEEE 1364-2005, sections 5.1 and A.8.
 use Rattle.std.specs.Prelude.{Bool, true, false, Option, Some, None}
 use Rattle.fv_base.specs.declared.kind.Kind.{Kind}
 use Rattle.fv_base.specs.declared.kind.Kind.TheVariants as k

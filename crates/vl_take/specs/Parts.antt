@@ -1,5 +1,22 @@
--- For the proofs of reading: rules are read one behind the other.
-use Rattle.std.proofs.Common.{◌≡◌, ℕ, zero, suc, ◌-◌, ◌≤◌, ◌<◌, Bool, true, false, List, [], ◌∷◌, ◌++◌, length, refl}
+-- For the proofs of reading: rules are read one behind the other. Rule of this project.
+use Rattle.std.proofs.Common.{
+  ◌≡◌,
+  ℕ,
+  zero,
+  suc,
+  ◌-◌,
+  ◌≤◌,
+  ◌<◌,
+  Bool,
+  true,
+  false,
+  List,
+  [],
+  ◌∷◌,
+  ◌++◌,
+  length,
+  refl,
+}
 use Rattle.std.proofs.Common.{sym, ap, ◌∙◌, arith}
 use Rattle.std.specs.Prelude.{Ok, Err, map}
 use Rattle.fv_base.specs.declared.kind.Kind.{Kind}
@@ -41,7 +58,8 @@ pub row_read : (x : Rule) (room : ℕ) (t : Kind) (ts : List Kind) (opened : ℕ
     → expand x t ≡ take opened row
     → opened ≤ room → read x room (t ∷ ts) ≡ in_turn room row ts
 unfolding read
-row_read x room t ts opened row e h = parts.take_row expand ends x room [] t ts opened row e h ∙ placed_read room row ts
+row_read x room t ts opened row e h =
+    parts.take_row expand ends x room [] t ts opened row e h ∙ placed_read room row ts
 
 -- and where there is not
 pub row_deep : (x : Rule) (room : ℕ) (t : Kind) (ts : List Kind) (opened : ℕ) (row : Row Rule)

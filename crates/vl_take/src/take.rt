@@ -1,6 +1,20 @@
 //! What stands first among tokens.
 
-ghost use Rattle.std.specs.Prelude.{◌≡◌, ◌<◌, ◌-◌, ◌∷◌, [], Ok, Err, length, IsNone, IfSome, IfOk, IfErr, IsErr};
+ghost use Rattle.std.specs.Prelude.{
+  ◌≡◌,
+  ◌<◌,
+  ◌-◌,
+  ◌∷◌,
+  [],
+  Ok,
+  Err,
+  length,
+  IsNone,
+  IfSome,
+  IfOk,
+  IfErr,
+  IsErr,
+};
 ghost use Rattle.fv_base.specs.declared.kind.Kind.TheVariants as k;
 ghost use Rattle.vl_tree.specs.Phrase.{sign, word, a_name, Spells, BeginsAt};
 ghost use Rattle.vl_tree.specs.ExprWellFormed.{IsName};
@@ -123,7 +137,8 @@ pub fn read_name(alloc: Global, tokens: &[Token]) -> Result<(Text, &[Token]), St
 pub fn past_name(alloc: Global, tokens: &[Token]) -> Result<Option<(Text, &[Token])>, Stop>
     ensures found { IfOk result (λ found. IfSome found (λ x. Spells (a_name x.0) tokens.now x.1.now)) }
     ensures formed { IfOk result (λ found. IfSome found (λ x. IsName x.0)) }
-    ensures read { IfOk result (λ found. IfSome found (λ x. kinds_in tokens.now ≡ k.Name x.0 ∷ kinds_in x.1.now)) }
+    ensures read { IfOk result (λ found. IfSome found
+        (λ x. kinds_in tokens.now ≡ k.Name x.0 ∷ kinds_in x.1.now)) }
     ensures shorter { IfOk result (λ found. IfSome found (λ x. length x.1.now < length tokens.now)) }
     ensures none { IfOk result (λ found. IsNone found → IsNoName (kinds_in tokens.now)) }
     ensures memory { IfErr result (λ e. IsMemory e) }

@@ -1,3 +1,4 @@
+-- The classes of bytes that the code tells apart. Rule of this project.
 use Rattle.std.specs.Prelude.{ℕ, Bool}
 use Rattle.fv_base.specs.Name.{continues_word}
 use Rattle.vl_token.specs.declared.class.Class.{Class}

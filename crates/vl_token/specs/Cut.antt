@@ -1,5 +1,21 @@
--- The first piece of a text as a function. No public clause cites it: pieces are defined by what may stand.
-use Rattle.std.specs.Prelude.{ℕ, cond, ◌&&◌, ◌==◌, List, [], ◌∷◌, Option, Some, None, drop, length, find, nat_eq}
+-- The first piece of a text as a function. No public clause cites it: pieces are defined by what may stand. Rule of
+-- this project.
+use Rattle.std.specs.Prelude.{
+  ℕ,
+  if◌then◌else◌,
+  ◌&&◌,
+  ◌==◌,
+  List,
+  [],
+  ◌∷◌,
+  Option,
+  Some,
+  None,
+  drop,
+  length,
+  find,
+  nat_eq,
+}
 use Rattle.std.specs.List.{starts_with}
 use Rattle.fv_base.specs.Name.{begins_word, continues_word, is_decimal_digit}
 use Rattle.fv_base.specs.Symbol.{symbol_text}
@@ -22,31 +38,31 @@ pub data Cut : Type 0 where
 -- by the first byte, which piece may begin
 abbrev pub sort_of_mark : ℕ → Sort
 sort_of_mark b =
-    cond (b == 47) sort.Slash (cond (b == 39) sort.Apostrophe
-    (cond (b == 36) sort.Dollar (cond (b == 96) sort.Backquote
-    (cond (b == 34) sort.Quote (cond (b == 92) sort.Backslash sort.Other)))))
+    if b == 47 then sort.Slash else if b == 39 then sort.Apostrophe else if b == 36 then sort.Dollar
+    else if b == 96 then sort.Backquote else if b == 34 then sort.Quote else if b == 92 then sort.Backslash
+    else sort.Other
 
 abbrev pub sort_of : ℕ → Sort
-sort_of b = cond (begins_word b) sort.Word
-    (cond (is_decimal_digit b) sort.Digit (cond (is_blank b) sort.Blank (sort_of_mark b)))
+sort_of b = if begins_word b then sort.Word else if is_decimal_digit b then sort.Digit
+    else if is_blank b then sort.Blank else sort_of_mark b
 
 -- an `s` at the front, and what stands behind it
 abbrev pub sign_front : List ℕ → List ℕ
 sign_front [] = []
-sign_front (b ∷ bs) = cond (is_sign b) (b ∷ []) []
+sign_front (b ∷ bs) = if is_sign b then b ∷ [] else []
 
 abbrev pub sign_rest : List ℕ → List ℕ
 sign_rest [] = []
-sign_rest (b ∷ bs) = cond (is_sign b) bs (b ∷ bs)
+sign_rest (b ∷ bs) = if is_sign b then bs else b ∷ bs
 
 -- the digits at the front, and what stands behind them
 abbrev pub digits_front : ℕ → List ℕ → List ℕ
 digits_front base [] = []
-digits_front base (b ∷ bs) = cond (is_digit b) (b ∷ run (goes_on base) bs) []
+digits_front base (b ∷ bs) = if is_digit b then b ∷ run (goes_on base) bs else []
 
 abbrev pub digits_rest : ℕ → List ℕ → List ℕ
 digits_rest base [] = []
-digits_rest base (b ∷ bs) = cond (is_digit b) (behind (goes_on base) bs) (b ∷ bs)
+digits_rest base (b ∷ bs) = if is_digit b then behind (goes_on base) bs else b ∷ bs
 
 abbrev pub format_of : List ℕ → List ℕ → List ℕ → ℕ → List ℕ → Format
 format_of size before mark base bytes =
@@ -62,11 +78,11 @@ format_of size before mark base bytes =
 abbrev pub base_at : List ℕ → List ℕ → List ℕ → List ℕ → Option (Format × List ℕ)
 base_at size before mark [] = None
 base_at size before mark (b ∷ bs) =
-    cond (is_base b) (Some (format_of size before mark b bs, digits_rest b (behind is_space bs))) None
+    if is_base b then Some (format_of size before mark b bs, digits_rest b (behind is_space bs)) else None
 
 abbrev pub mark_at : List ℕ → List ℕ → List ℕ → Option (Format × List ℕ)
 mark_at size before [] = None
-mark_at size before (b ∷ bs) = cond (b == 39) (base_at size before (sign_front bs) (sign_rest bs)) None
+mark_at size before (b ∷ bs) = if b == 39 then base_at size before (sign_front bs) (sign_rest bs) else None
 
 -- the based number of this size that goes on here, and what stands behind it
 unfoldable pub format_at : List ℕ → List ℕ → Option (Format × List ℕ)
@@ -86,10 +102,10 @@ signs =
     s.EqualEqualEqual ∷ s.BangEqualEqual ∷ s.LessLessLess ∷ s.GreaterGreaterGreater ∷ s.OpenAttribute ∷
     s.CloseAttribute ∷ s.StarStar ∷ s.TildeAnd ∷ s.TildeOr ∷ s.TildeCaret ∷ s.CaretTilde ∷ s.AndAnd ∷
     s.OrOr ∷ s.LessEqual ∷ s.GreaterEqual ∷ s.EqualEqual ∷ s.BangEqual ∷ s.LessLess ∷ s.GreaterGreater ∷
-    s.PlusColon ∷ s.MinusColon ∷ s.OpenParen ∷ s.CloseParen ∷ s.OpenBracket ∷ s.CloseBracket ∷ s.OpenBrace ∷
-    s.CloseBrace ∷ s.Semicolon ∷ s.Colon ∷ s.Comma ∷ s.Dot ∷ s.Hash ∷ s.At ∷ s.Equal ∷ s.Question ∷ s.Plus ∷
-    s.Minus ∷ s.Star ∷ s.Slash ∷ s.Percent ∷ s.Bang ∷ s.Tilde ∷ s.And ∷ s.Or ∷ s.Caret ∷ s.Less ∷ s.Greater ∷
-    []
+    s.PlusColon ∷ s.MinusColon ∷ s.OpenParen ∷ s.CloseParen ∷ s.OpenBracket ∷ s.CloseBracket ∷
+    s.OpenBrace ∷ s.CloseBrace ∷ s.Semicolon ∷ s.Colon ∷ s.Comma ∷ s.Dot ∷ s.Hash ∷ s.At ∷ s.Equal ∷
+    s.Question ∷ s.Plus ∷ s.Minus ∷ s.Star ∷ s.Slash ∷ s.Percent ∷ s.Bang ∷ s.Tilde ∷ s.And ∷
+    s.Or ∷ s.Caret ∷ s.Less ∷ s.Greater ∷ []
 
 -- the longest sign that begins the text
 unfoldable pub sign_at : List ℕ → Option Symbol
@@ -106,7 +122,8 @@ more_inside b (Some x) = Some (b ∷ x.0, x.1)
 
 abbrev pub close_of : List ℕ → Option (List ℕ × List ℕ)
 close_of [] = None
-close_of (b ∷ bs) = cond (b == 42 && first_is (λ c. c == 47) bs) (Some ([], drop 1 bs)) (more_inside b (close_of bs))
+close_of (b ∷ bs) =
+    if b == 42 && first_is (λ c. c == 47) bs then Some ([], drop 1 bs) else more_inside b (close_of bs)
 
 abbrev pub block_cut : Option (List ℕ × List ℕ) → Cut
 block_cut None = open_comment
@@ -116,22 +133,23 @@ block_cut (Some x) = piece (block_comment x.0) x.1
 abbrev pub slash_cut : List ℕ → Cut
 slash_cut [] = sign_cut (47 ∷ []) (sign_at (47 ∷ []))
 slash_cut (b ∷ bs) =
-    cond (b == 47) (piece (line_comment (run stays_on_line bs)) (behind stays_on_line bs))
-    (cond (b == 42) (block_cut (close_of bs)) (sign_cut (47 ∷ (b ∷ bs)) (sign_at (47 ∷ (b ∷ bs)))))
+    if b == 47 then piece (line_comment (run stays_on_line bs)) (behind stays_on_line bs)
+    else if b == 42 then block_cut (close_of bs) else sign_cut (47 ∷ (b ∷ bs)) (sign_at (47 ∷ (b ∷ bs)))
 
 abbrev pub system_cut : List ℕ → List ℕ → Cut
 system_cut [] rest = bad_char
 system_cut (b ∷ bs) rest = piece (system (b ∷ bs)) rest
 
 abbrev pub tick_cut : List ℕ → Cut
-tick_cut bs = cond (first_is begins_word bs) (piece (tick (run continues_word bs)) (behind continues_word bs)) bad_char
+tick_cut bs = if first_is begins_word bs then piece (tick (run continues_word bs)) (behind continues_word bs)
+    else bad_char
 
 abbrev pub continue_cut : List ℕ → Cut
-continue_cut bs = cond (first_is is_line_end bs) (piece continue bs) bad_char
+continue_cut bs = if first_is is_line_end bs then piece continue bs else bad_char
 
 abbrev pub quoted_cut : List ℕ → List ℕ → Cut
 quoted_cut body [] = open_string
-quoted_cut body (b ∷ bs) = cond (b == 34) (piece (quoted body) bs) open_string
+quoted_cut body (b ∷ bs) = if b == 34 then piece (quoted body) bs else open_string
 
 abbrev pub cut_by : Sort → ℕ → List ℕ → Cut
 cut_by sort.Word b bs = piece (word (run continues_word (b ∷ bs))) (behind continues_word (b ∷ bs))

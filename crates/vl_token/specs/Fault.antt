@@ -1,5 +1,21 @@
--- What may be wrong in a text, and which of the faults is answered.
-use Rattle.std.specs.Prelude.{◌≡◌, ℕ, ◌+◌, ◌*◌, ◌≤◌, Bool, true, false, List, ◌∷◌, ◌++◌, length, count_by, Result, Ok}
+-- What may be wrong in a text, and which of the faults is answered. Rule of this project.
+use Rattle.std.specs.Prelude.{
+  ◌≡◌,
+  ℕ,
+  ◌+◌,
+  ◌*◌,
+  ◌≤◌,
+  Bool,
+  true,
+  false,
+  List,
+  ◌∷◌,
+  ◌++◌,
+  length,
+  count_by,
+  Result,
+  Ok,
+}
 use Rattle.std.specs.Prelude.{Err}
 use Rattle.std.specs.Global.{Vec}
 use Rattle.fv_base.specs.declared.token.Token.{Token}

@@ -1,4 +1,4 @@
--- Where a text is refused.
+-- Where a text is refused. Rule of this project.
 use Rattle.std.specs.Prelude.{Option, Some, None}
 use Rattle.fv_base.specs.declared.pos.Pos.{Pos}
 use Rattle.vl_token.specs.declared.fault.LexFault.{LexFault}

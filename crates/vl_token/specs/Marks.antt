@@ -1,5 +1,5 @@
 -- The digits `x`, `z` and `?` as the code counts them.
-use Rattle.std.specs.Prelude.{ℕ, ◌-◌, ◌^◌, Bool, cond, List}
+use Rattle.std.specs.Prelude.{ℕ, ◌-◌, ◌^◌, Bool, if◌then◌else◌, List}
 use Rattle.vl_token.specs.declared.number.Mark.{Mark}
 use Rattle.vl_token.specs.declared.number.Mark.TheVariants.{Wild, Unknown}
 use Rattle.vl_token.specs.Bytes.{first_is}
@@ -10,7 +10,7 @@ test_of Wild = is_wild
 test_of Unknown = is_unknown
 
 abbrev pub mark_worth : (ℕ → Bool) → ℕ → ℕ → ℕ
-mark_worth test r b = cond (test b) (r - 1) 0
+mark_worth test r b = if test b then r - 1 else 0
 
 abbrev pub all_bits : (ℕ → Bool) → List ℕ → ℕ
-all_bits test digits = cond (first_is test digits) (2 ^ 128 - 1) 0
+all_bits test digits = if first_is test digits then 2 ^ 128 - 1 else 0

@@ -1,6 +1,22 @@
 -- What a written number means: IEEE 1364-2005, section 3.5.1. A number without size has 32 bits (rule of this
 -- project), and no number has more than 128.
-use Rattle.std.specs.Prelude.{◌≡◌, ℕ, ◌+◌, ◌-◌, ◌*◌, ◌%◌, ◌^◌, Bool, true, false, not, cond, ◌&&◌, ◌||◌, nat_le}
+use Rattle.std.specs.Prelude.{
+  ◌≡◌,
+  ℕ,
+  ◌+◌,
+  ◌-◌,
+  ◌*◌,
+  ◌%◌,
+  ◌^◌,
+  Bool,
+  true,
+  false,
+  not,
+  if◌then◌else◌,
+  ◌&&◌,
+  ◌||◌,
+  nat_le,
+}
 use Rattle.std.specs.Prelude.{nat_lt, ◌==◌, List, [], ◌∷◌, ◌++◌, length, fold, filter, replicate}
 use Rattle.std.specs.List.{list_all, list_any}
 use Rattle.fv_base.specs.Name.{is_decimal_digit}
@@ -14,11 +30,11 @@ abbrev pub digits_of : List ℕ → List ℕ
 digits_of bytes = filter (λ b. not (b == 95)) bytes
 
 abbrev pub radix : ℕ → ℕ
-radix base = cond (small base == 98) 2 (cond (small base == 111) 8 (cond (small base == 100) 10 16))
+radix base = if small base == 98 then 2 else if small base == 111 then 8 else if small base == 100 then 10 else 16
 
 -- what a digit counts; `x`, `z` and `?` count nothing
 abbrev pub worth : ℕ → ℕ
-worth b = cond (is_decimal_digit b) (b - 48) (cond (is_hex_letter b) (small b - 87) 0)
+worth b = if is_decimal_digit b then b - 48 else if is_hex_letter b then small b - 87 else 0
 
 -- a number by its digits, the highest first
 abbrev pub number_by : (ℕ → ℕ) → ℕ → List ℕ → ℕ
@@ -58,7 +74,7 @@ is_bad (based f) = is_misspelt f || is_misfit f f.size
 -- the digit that fills a number up to its width: the first one if it is `x`, `z` or `?`, and else 0
 abbrev pub filling : List ℕ → ℕ
 filling [] = 48
-filling (b ∷ bs) = cond (is_mark b) b 48
+filling (b ∷ bs) = if is_mark b then b else 48
 
 -- the digits with as many filling digits before them as the number has bits
 abbrev pub filled : ℕ → List ℕ → List ℕ
@@ -66,11 +82,11 @@ filled width digits = replicate width (filling digits) ++ digits
 
 -- in base d a lone `x`, `z` or `?` stands for every bit, as a binary one that fills does
 abbrev pub mark_radix : ℕ → ℕ
-mark_radix base = cond (is_decimal_base base) 2 (radix base)
+mark_radix base = if is_decimal_base base then 2 else radix base
 
 -- the bits of such digits, each of which stands for all bits of its place
 abbrev pub bits_of : (ℕ → Bool) → ℕ → ℕ → List ℕ → ℕ
-bits_of test r width digits = number_by (λ b. cond (test b) (r - 1) 0) r (filled width digits) % 2 ^ width
+bits_of test r width digits = number_by (λ b. if test b then r - 1 else 0) r (filled width digits) % 2 ^ width
 
 pub record MeansPlain (digits : List ℕ) (n : Number) : Type 0 where
   pub sized : n.sized ≡ false

@@ -1,6 +1,22 @@
 -- How a number is written: IEEE 1364-2005, section 3.5.1, without real numbers. Blanks inside of a number are
 -- spaces and tabs (rule of this project).
-use Rattle.std.specs.Prelude.{◌≡◌, ℕ, Bool, true, false, not, cond, ◌&&◌, ◌||◌, nat_le, ◌==◌, List, [], ◌∷◌, ◌++◌}
+use Rattle.std.specs.Prelude.{
+  ◌≡◌,
+  ℕ,
+  Bool,
+  true,
+  false,
+  not,
+  if◌then◌else◌,
+  ◌&&◌,
+  ◌||◌,
+  nat_le,
+  ◌==◌,
+  List,
+  [],
+  ◌∷◌,
+  ◌++◌,
+}
 use Rattle.std.specs.List.{list_all}
 use Rattle.fv_base.specs.Name.{is_decimal_digit}
 use Rattle.vl_token.specs.Bytes.{is_space, small, is_empty, first_is, behind}
@@ -47,10 +63,10 @@ abbrev pub continues_digits : ℕ → Bool
 continues_digits b = is_digit b || b == 95
 
 abbrev pub continues_decimal_digits : ℕ → Bool
-continues_decimal_digits b = cond (b == 63) false (continues_digits b)
+continues_decimal_digits b = if b == 63 then false else continues_digits b
 
 abbrev pub goes_on : ℕ → ℕ → Bool
-goes_on base = cond (is_decimal_base base) continues_decimal_digits continues_digits
+goes_on base = if is_decimal_base base then continues_decimal_digits else continues_digits
 
 -- the parts of a based number: an optional size, blanks, `'`, an optional `s`, a base, blanks and digits. A number
 -- without digits is written wrong, and yet is one

@@ -1,5 +1,21 @@
 -- The pieces of a text: blanks, comments and tokens (IEEE 1364-2005, clause 3).
-use Rattle.std.specs.Prelude.{◌≡◌, ℕ, ◌≤◌, Bool, true, false, ◌&&◌, ◌||◌, ◌==◌, List, [], ◌∷◌, ◌++◌, length, nat_eq}
+use Rattle.std.specs.Prelude.{
+  ◌≡◌,
+  ℕ,
+  ◌≤◌,
+  Bool,
+  true,
+  false,
+  ◌&&◌,
+  ◌||◌,
+  ◌==◌,
+  List,
+  [],
+  ◌∷◌,
+  ◌++◌,
+  length,
+  nat_eq,
+}
 use Rattle.std.specs.List.{list_all, starts_with}
 use Rattle.fv_base.specs.Name.{is_word, continues_word}
 use Rattle.fv_base.specs.Symbol.{symbol_text}

@@ -1,6 +1,6 @@
 -- Places in a text: lines and columns count from 1, columns in bytes. A number that would pass 2^32 - 1 is 2^32 - 1
 -- (rule of this project).
-use Rattle.std.specs.Prelude.{ℕ, ◌+◌, ◌-◌, ◌^◌, min, cond, ◌==◌, List, [], ◌∷◌}
+use Rattle.std.specs.Prelude.{ℕ, ◌+◌, ◌-◌, ◌^◌, min, if◌then◌else◌, ◌==◌, List, [], ◌∷◌}
 use Rattle.fv_base.specs.declared.pos.Pos.{Pos}
 
 abbrev pub counted : ℕ → ℕ
@@ -9,7 +9,12 @@ counted n = min (n + 1) (2 ^ 32 - 1)
 -- the place behind a byte
 abbrev pub place_behind : Pos → ℕ → Pos
 place_behind p b =
-    record { file = p.file; line = cond (b == 10) (counted p.line) p.line; col = cond (b == 10) 1 (counted p.col) }
+    record {
+      file = p.file;
+      line = if b == 10 then counted p.line
+          else p.line;
+      col = (if b == 10 then 1 else counted p.col);
+    }
 
 -- the place behind a text
 abbrev pub place_after : Pos → List ℕ → Pos

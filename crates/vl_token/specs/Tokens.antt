@@ -1,5 +1,20 @@
--- The tokens of a text.
-use Rattle.std.specs.Prelude.{◌≡◌, ℕ, ◌≤◌, Bool, true, false, nat_le, nat_lt, List, [], ◌∷◌, length, Some, None}
+-- The tokens of a text. IEEE 1364-2005, clause 3.
+use Rattle.std.specs.Prelude.{
+  ◌≡◌,
+  ℕ,
+  ◌≤◌,
+  Bool,
+  true,
+  false,
+  nat_le,
+  nat_lt,
+  List,
+  [],
+  ◌∷◌,
+  length,
+  Some,
+  None,
+}
 use Rattle.std.specs.List.{list_all}
 use Rattle.fv_base.specs.Keyword.{keyword_of}
 use Rattle.fv_base.specs.declared.kind.Kind.{Kind}

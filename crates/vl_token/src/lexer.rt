@@ -1,4 +1,17 @@
-ghost use Rattle.std.specs.Prelude.{◌≡◌, ◌&&◌, nat_le, ◌-◌, ◌≤◌, true, List, [], length, take, IfOk, IfErr};
+ghost use Rattle.std.specs.Prelude.{
+  ◌≡◌,
+  ◌&&◌,
+  nat_le,
+  ◌-◌,
+  ◌≤◌,
+  true,
+  List,
+  [],
+  length,
+  take,
+  IfOk,
+  IfErr,
+};
 ghost use Rattle.std.specs.Prelude.{MatchResult};
 ghost use Rattle.std.specs.List.{prefix_len};
 ghost use Rattle.fv_base.specs.Named.{is_well_named};

@@ -1,4 +1,20 @@
-ghost use Rattle.std.specs.Prelude.{◌≡◌, ◌+◌, ◌-◌, ◌*◌, ◌%◌, ◌^◌, ◌==◌, ◌<◌, ◌≤◌, Bool, true, false, min, not, cond};
+ghost use Rattle.std.specs.Prelude.{
+  ◌≡◌,
+  ◌+◌,
+  ◌-◌,
+  ◌*◌,
+  ◌%◌,
+  ◌^◌,
+  ◌==◌,
+  ◌<◌,
+  ◌≤◌,
+  Bool,
+  true,
+  false,
+  min,
+  not,
+  cond,
+};
 ghost use Rattle.std.specs.Prelude.{length, find, fold, MatchOption};
 ghost use Rattle.std.specs.List.{list_all, list_any};
 ghost use Rattle.vl_token.specs.Number as means;
@@ -17,7 +33,8 @@ use fv_base::Number;
 
 /// What a written number means. None exactly where it is written against the rules.
 pub(crate) fn number_of(numeral: &Numeral) -> Option<Number>
-    ensures { MatchOption result (is_bad (view_numeral numeral.now) ≡ true) (λ n. Means (view_numeral numeral.now) n) }
+    ensures { MatchOption result (is_bad (view_numeral numeral.now) ≡ true)
+        (λ n. Means (view_numeral numeral.now) n) }
 {
     match numeral {
         Numeral::Plain(digits) => plain_number(digits),

@@ -1,5 +1,5 @@
 -- Small trees that together have each alternative of the grammar, and texts: words and signs with one blank between
--- two.
+-- two. Rule of this project.
 use Rattle.std.specs.Prelude.{ℕ, true, false, List, [], ◌∷◌, ◌++◌, map, Option, None, Some, codes}
 use Rattle.fv_base.specs.Keyword.{keyword_text}
 use Rattle.fv_base.specs.Symbol.{symbol_text}
@@ -67,11 +67,10 @@ to_a = named here (codes "a") whole
 -- each operator between two operands
 abbrev pub binary_texts : List (List ℕ)
 binary_texts = map (λ op. written (expr.spell (binary here op a z)))
-    (b.Multiply ∷ b.Divide ∷ b.Remainder ∷ b.Add ∷ b.Subtract ∷ b.ShiftLeft ∷ b.ShiftRight ∷ b.ArithmeticShiftLeft
-    ∷ b.ArithmeticShiftRight
-    ∷ b.Less ∷ b.LessEqual ∷ b.Greater ∷ b.GreaterEqual ∷ b.Equal ∷ b.NotEqual ∷ b.CaseEqual ∷ b.CaseNotEqual
-    ∷ b.BitwiseAnd ∷ b.BitwiseXor ∷ b.BitwiseXnor ∷ b.BitwiseXnorCaretFirst ∷ b.BitwiseOr ∷ b.LogicalAnd
-    ∷ b.LogicalOr ∷ [])
+    (b.Multiply ∷ b.Divide ∷ b.Remainder ∷ b.Add ∷ b.Subtract ∷ b.ShiftLeft ∷ b.ShiftRight
+    ∷ b.ArithmeticShiftLeft ∷ b.ArithmeticShiftRight ∷ b.Less ∷ b.LessEqual ∷ b.Greater ∷ b.GreaterEqual
+    ∷ b.Equal ∷ b.NotEqual ∷ b.CaseEqual ∷ b.CaseNotEqual ∷ b.BitwiseAnd ∷ b.BitwiseXor ∷ b.BitwiseXnor
+    ∷ b.BitwiseXnorCaretFirst ∷ b.BitwiseOr ∷ b.LogicalAnd ∷ b.LogicalOr ∷ [])
 
 -- and before one
 abbrev pub unary_texts : List (List ℕ)
@@ -112,7 +111,8 @@ abbrev pub statement : Stmt
 statement = stmt.begin attributes here (Some (codes "l")) (stmt.stmts (
     stmt.if_else [] here a now (stmt.if_only [] here z later)
     ∷ stmt.assume [] here a ∷ stmt.begin [] here None stmt.no_stmts ∷ empty
-    ∷ stmt.case [] here case.Case a (stmt.labels here (a ∷ z ∷ []) empty (stmt.default here true empty stmt.no_arms))
+    ∷ stmt.case [] here case.Case a (stmt.labels here (a ∷ z ∷ []) empty
+    (stmt.default here true empty stmt.no_arms))
     ∷ stmt.case [] here case.Casez z (stmt.default here false empty (stmt.labels here (z ∷ []) empty stmt.no_arms))
     ∷ []))
 
@@ -138,7 +138,12 @@ abbrev pub on : EventKind → item.Item
 on kind = item.always [] here (record { pos = here; kind = kind }) empty
 
 abbrev pub wire : item.Item
-wire = item.declaration [] here (record { net = net.Wire; shape = scalar; names = declares (codes "a") None None ∷ [] })
+wire = item.declaration [] here (record {
+  net = net.Wire;
+  shape = scalar;
+  names = declares (codes "a") None None
+      ∷ [];
+})
 
 abbrev pub opens : item.Item
 opens = item.generate [] here mark.Open
@@ -158,7 +163,8 @@ body =
     ∷ item.parameter [] here kind.Parameter (parameter scalar (codes "p") ∷ [])
     ∷ item.parameter [] here kind.Localparam (parameter vector (codes "q") ∷ parameter scalar (codes "r") ∷ [])
     ∷ item.assign [] here (record { target = to_a; value = z } ∷ record { target = target; value = a } ∷ [])
-    ∷ on event.Bare ∷ on event.Spaced ∷ on event.OpenJoined ∷ on event.CloseJoined ∷ on (event.Posedge (codes "c"))
+    ∷ on event.Bare ∷ on event.Spaced ∷ on event.OpenJoined ∷ on event.CloseJoined
+    ∷ on (event.Posedge (codes "c"))
     ∷ item.initial [] here now
     ∷ item.instance [] here (record { definition = codes "n"; overrides = None; name = codes "u"; connections = [] })
     ∷ item.instance [] here (record {

@@ -1,4 +1,4 @@
--- A code for expressions: each is written as a tree with labels, and read back.
+-- A code for expressions: each is written as a tree with labels, and read back. Rule of this project.
 use Rattle.std.specs.Prelude.{◌≡◌, refl, ℕ, List, ◌⊎◌}
 use Rattle.std.specs.Coded.{Coded, code_by, coded_ℕ, coded_list, coded×, coded⊎}
 use Rattle.std.proofs.Common.{inl, inr, zero, suc}

@@ -1,4 +1,4 @@
--- The parts of an expression are less deep than the expression.
+-- The parts of an expression are less deep than the expression. Rule of this project.
 use Rattle.std.specs.Prelude.{◌+◌, ◌*◌, ◌≤◌, List, [], ◌∷◌}
 use Rattle.std.proofs.Common.{arith}
 use denote.Param.Weighed.{most}
@@ -37,7 +37,8 @@ pub most_le-size : (es : List Expr) → most (λ e. size-Expr e) es ≤ 3 * (exp
 most_le-size [] = omega arith
 most_le-size (e ∷ es) = omega (arith, most_le-size es)
 
-pub most_le-select_size : (ss : List Select) → most (λ s. size-Select s) ss ≤ 3 * (selects_depth (selects ss) + 1) + 2
+pub most_le-select_size : (ss : List Select) → most (λ s. size-Select s) ss ≤ 3 *
+    (selects_depth (selects ss) + 1) + 2
 most_le-select_size [] = omega arith
 most_le-select_size (s.Bit p a ∷ ss) = omega (arith, most_le-select_size ss)
 most_le-select_size (s.Part p a b ∷ ss) = omega (arith, most_le-select_size ss)

@@ -96,7 +96,8 @@ abbrev mutual
   spell (paren p a) = at p (parens (spell a))
   spell (unary p op a) = at p (operator (k.Symbol (unary_sign op)) ▸ spell a)
   spell (binary p op a b) = at p (spell a ▸ operator (k.Symbol (binary_sign op)) ▸ spell b)
-  spell (conditional p c a b) = at p (spell c ▸ operator (k.Symbol s.Question) ▸ spell a ▸ sign s.Colon ▸ spell b)
+  spell (conditional p c a b) =
+      at p (spell c ▸ operator (k.Symbol s.Question) ▸ spell a ▸ sign s.Colon ▸ spell b)
   spell (concat p es) = at p (braces (spell_parts es))
   spell (repeat p n es) = at p (braces (spell n ▸ braces (spell_parts es)))
   spell (cast p to a) = at p (token (k.System (cast_name to)) ▸ parens (spell a))
@@ -114,7 +115,8 @@ abbrev mutual
   spell_selects whole = nothing
   spell_selects (bit p a ss) = at p (square (spell a)) ▸ spell_selects ss
   spell_selects (part p a b ss) = at p (square (level (spell a) ▸ sign s.Colon ▸ spell b)) ▸ spell_selects ss
-  spell_selects (indexed p a b ss) = at p (square (level (spell a) ▸ sign s.PlusColon ▸ spell b)) ▸ spell_selects ss
+  spell_selects (indexed p a b ss) =
+      at p (square (level (spell a) ▸ sign s.PlusColon ▸ spell b)) ▸ spell_selects ss
 
 -- `= expr`, or nothing
 abbrev pub spell_value : Option Expr → Phrase

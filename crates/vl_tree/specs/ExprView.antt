@@ -1,4 +1,4 @@
--- What a contract sees of an expression of the program: the plain tree, without its pointers.
+-- What a contract sees of an expression of the program: the plain tree, without its pointers. Rule of this project.
 use Rattle.std.specs.Prelude.{List, [], ◌∷◌}
 use Rattle.fv_base.specs.declared.pos.Pos.{Pos}
 use Rattle.vl_tree.specs.declared.expr.ExprKind.{ExprKind}

@@ -1,4 +1,4 @@
--- A code for items: each is written as a tree with labels, and read back.
+-- A code for items: each is written as a tree with labels, and read back. Rule of this project.
 use Rattle.std.specs.Prelude.{◌≡◌, refl, ℕ, List, [], Option, None, ◌⊎◌}
 use Rattle.std.specs.Coded.{Coded, code_by, coded_ℕ, coded_list, coded_option, coded×, coded⊎}
 use Rattle.std.proofs.Common.{inl, inr}
@@ -66,7 +66,8 @@ Around = LoopHead ⊎ Expr
 
 -- of an item, or of a block
 abbrev Label : Type 0
-Label = (Attributes × (Pos × (Declared ⊎ (Leaf ⊎ Around)))) ⊎ ((Pos × Option (List ℕ)) ⊎ (Pos ⊎ Unit {0}))
+Label = (Attributes × (Pos × (Declared ⊎ (Leaf ⊎ Around))))
+    ⊎ ((Pos × Option (List ℕ)) ⊎ (Pos ⊎ Unit {0}))
 
 abbrev declared_code : Coded Declared
 declared_code = coded⊎ declarations.the_row.coded (coded⊎ (coded_list names.the_row.coded)
@@ -81,7 +82,8 @@ around_code = coded⊎ heads.the_row.coded expr_code
 
 abbrev label_code : Coded Label
 label_code =
-    coded⊎ (coded× attributes_code (coded× pos.the_row.coded (coded⊎ declared_code (coded⊎ leaf_code around_code))))
+    coded⊎ (coded× attributes_code (coded× pos.the_row.coded
+    (coded⊎ declared_code (coded⊎ leaf_code around_code))))
     (coded⊎ (coded× pos.the_row.coded (coded_option (coded_list coded_ℕ))) (coded⊎ pos.the_row.coded coded_unit))
 
 abbrev one : Rose Label → Roses Label

@@ -1,4 +1,4 @@
--- The parts of an item are less deep than the item.
+-- The parts of an item are less deep than the item. Rule of this project.
 use Rattle.std.specs.Prelude.{◌≡◌, ℕ, ◌+◌, ◌*◌, ◌≤◌, List, [], ◌∷◌, Option, Some, None}
 use Rattle.std.proofs.Common.{arith}
 use denote.Param.Weighed.{most}

@@ -119,7 +119,8 @@ abbrev mutual
   spell (genvar attrs p xs) =
       spell_attributes attrs ▸ at p (word w.Genvar ▸ between_commas a_name xs ▸ sign s.Semicolon)
   spell (parameter attrs p kind xs) =
-      spell_attributes attrs ▸ at p (word (parameter_word kind) ▸ between_commas spell_parameter xs ▸ sign s.Semicolon)
+      spell_attributes attrs ▸ at p (word (parameter_word kind) ▸ between_commas spell_parameter xs
+      ▸ sign s.Semicolon)
   spell (assign attrs p xs) =
       spell_attributes attrs ▸ at p (word w.Assign ▸ between_commas spell_assignment xs ▸ sign s.Semicolon)
   spell (always attrs p event x) =
@@ -154,7 +155,8 @@ spell_ports (Some xs) = parens (between_commas spell_port xs)
 
 abbrev pub spell_module : Module → Phrase
 spell_module m =
-    at m.pos (word w.Module ▸ a_name m.name ▸ spell_parameters m.parameters ▸ spell_ports m.ports ▸ sign s.Semicolon
+    at m.pos (word w.Module ▸ a_name m.name ▸ spell_parameters m.parameters ▸ spell_ports m.ports
+    ▸ sign s.Semicolon
     ▸ spell_all (items m.items) ▸ word w.Endmodule)
 
 abbrev pub spell_modules : Pos → List Module → Phrase

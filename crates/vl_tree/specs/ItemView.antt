@@ -1,4 +1,4 @@
--- What a contract sees of an item of the program: the plain tree, without its pointers.
+-- What a contract sees of an item of the program: the plain tree, without its pointers. Rule of this project.
 use Rattle.std.specs.Prelude.{Some, None}
 use Rattle.fv_base.specs.declared.pos.Pos.{Pos}
 use Rattle.vl_tree.specs.declared.item.ItemKind.{ItemKind}

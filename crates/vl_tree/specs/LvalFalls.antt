@@ -1,4 +1,4 @@
--- The parts of a target are less deep than the target.
+-- The parts of a target are less deep than the target. Rule of this project.
 use Rattle.std.specs.Prelude.{◌+◌, ◌*◌, ◌≤◌, List, [], ◌∷◌}
 use Rattle.std.proofs.Common.{arith}
 use denote.Param.Weighed.{most}

@@ -1,4 +1,4 @@
--- A code for statements: each is written as a tree with labels, and read back.
+-- A code for statements: each is written as a tree with labels, and read back. Rule of this project.
 use Rattle.std.specs.Prelude.{◌≡◌, refl, ℕ, Bool, List, [], Option, ◌⊎◌}
 use Rattle.std.specs.Coded.{Coded, code_by, coded_ℕ, coded_bool, coded_list, coded_option, coded×, coded⊎}
 use Rattle.std.proofs.Common.{inl, inr}
@@ -36,14 +36,16 @@ use Rattle.vl_tree.specs.Stmt.{
 
 -- what a statement has besides its parts
 abbrev What : Type 0
-What = Option (List ℕ) ⊎ (Expr ⊎ ((CaseKind × Expr) ⊎ ((Lval × (AssignKind × Expr)) ⊎ (Expr ⊎ Unit {0}))))
+What = Option (List ℕ) ⊎ (Expr ⊎ ((CaseKind × Expr)
+    ⊎ ((Lval × (AssignKind × Expr)) ⊎ (Expr ⊎ Unit {0}))))
 
 -- of a statement, or of an arm
 abbrev Label : Type 0
 Label = (Attributes × (Pos × What)) ⊎ (Pos × (List Expr ⊎ Bool))
 
 abbrev what_code : Coded What
-what_code = coded⊎ (coded_option (coded_list coded_ℕ)) (coded⊎ expr_code (coded⊎ (coded× cases.the_row.coded expr_code)
+what_code = coded⊎ (coded_option (coded_list coded_ℕ))
+    (coded⊎ expr_code (coded⊎ (coded× cases.the_row.coded expr_code)
     (coded⊎ (coded× lval_code (coded× assigns.the_row.coded expr_code)) (coded⊎ expr_code coded_unit))))
 
 abbrev label_code : Coded Label

@@ -1,4 +1,4 @@
--- The parts of a statement are less deep than the statement.
+-- The parts of a statement are less deep than the statement. Rule of this project.
 use Rattle.std.specs.Prelude.{◌+◌, ◌*◌, ◌≤◌, List, [], ◌∷◌, Some, None}
 use Rattle.std.proofs.Common.{arith}
 use denote.Param.Weighed.{most}

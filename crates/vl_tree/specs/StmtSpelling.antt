@@ -12,7 +12,19 @@ use Rattle.vl_tree.specs.DeclarationSpelling.{spell_attributes}
 use Rattle.vl_tree.specs.Expr.{Expr}
 use Rattle.vl_tree.specs.ExprSpelling as expr
 use Rattle.vl_tree.specs.LvalSpelling as lval
-use Rattle.vl_tree.specs.Phrase.{Phrase, nothing, ◌▸◌, at, within, level, sign, word, a_name, parens, between_commas}
+use Rattle.vl_tree.specs.Phrase.{
+  Phrase,
+  nothing,
+  ◌▸◌,
+  at,
+  within,
+  level,
+  sign,
+  word,
+  a_name,
+  parens,
+  between_commas,
+}
 use Rattle.vl_tree.specs.Stmt.{
   Stmt,
   Stmts,
@@ -56,15 +68,19 @@ abbrev mutual
   pub spell : Stmt → Phrase
   spell (begin attrs p label ss) =
       spell_attributes attrs ▸ at p (within (word w.Begin ▸ spell_label label ▸ spell_all ss) ▸ word w.End)
-  spell (if_only attrs p c x) = spell_attributes attrs ▸ at p (within (word w.If ▸ parens (expr.spell c) ▸ spell x))
+  spell (if_only attrs p c x) =
+      spell_attributes attrs ▸ at p (within (word w.If ▸ parens (expr.spell c) ▸ spell x))
   spell (if_else attrs p c x y) =
-      spell_attributes attrs ▸ at p (within (word w.If ▸ parens (expr.spell c) ▸ spell x ▸ word w.Else ▸ spell y))
+      spell_attributes attrs ▸ at p (within (word w.If ▸ parens (expr.spell c) ▸ spell x ▸ word w.Else
+      ▸ spell y))
   spell (case attrs p kind e arms) =
       spell_attributes attrs ▸ at p (within (word (case_word kind) ▸ parens
       (expr.spell e) ▸ spell_arms arms) ▸ word w.Endcase)
   spell (assign attrs p l kind e) =
-      spell_attributes attrs ▸ at p (lval.spell l ▸ sign (assign_sign kind) ▸ level (expr.spell e) ▸ sign s.Semicolon)
-  spell (assume attrs p e) = spell_attributes attrs ▸ at p (word w.Assume ▸ parens (expr.spell e) ▸ sign s.Semicolon)
+      spell_attributes attrs ▸ at p (lval.spell l ▸ sign (assign_sign kind) ▸ level (expr.spell e)
+      ▸ sign s.Semicolon)
+  spell (assume attrs p e) =
+      spell_attributes attrs ▸ at p (word w.Assume ▸ parens (expr.spell e) ▸ sign s.Semicolon)
   spell (empty attrs p) = spell_attributes attrs ▸ at p (sign s.Semicolon)
 
   pub spell_all : Stmts → Phrase
@@ -75,4 +91,5 @@ abbrev mutual
   spell_arms no_arms = nothing
   spell_arms (labels p es x arms) =
       at p (within (between_commas spell_one_label es ▸ sign s.Colon ▸ spell x)) ▸ spell_arms arms
-  spell_arms (default p colon x arms) = at p (within (word w.Default ▸ spell_colon colon ▸ spell x)) ▸ spell_arms arms
+  spell_arms (default p colon x arms) =
+      at p (within (word w.Default ▸ spell_colon colon ▸ spell x)) ▸ spell_arms arms

@@ -168,7 +168,8 @@ AreOptionalPorts None = Unit {0}
 AreOptionalPorts (Some xs) = ArePorts xs
 
 abbrev pub IsModule : Module → Type 0
-IsModule m = IsName m.name × AreOptionalParameters m.parameters × AreOptionalPorts m.ports × AreBalanced (items m.items)
+IsModule m = IsName m.name × AreOptionalParameters m.parameters × AreOptionalPorts m.ports
+    × AreBalanced (items m.items)
     × AreWellFormed (items m.items)
 
 -- a source without modules has the place 1:1 of file 1

@@ -1,6 +1,6 @@
 //! Small trees, and the texts that they spell: what the definitions say of each alternative of the grammar.
 
-ghost use Rattle.std.specs.Prelude.{◌≡◌, ◌∷◌, [], None, Some, codes};
+ghost use Rattle.std.specs.Prelude.{◌≡◌, ◌∷◌, ◌++◌, [], None, Some, codes};
 ghost use Rattle.fv_base.specs.declared.kind.Kind.TheVariants as k;
 ghost use Rattle.fv_base.specs.declared.number.Number.{Number};
 ghost use Rattle.vl_tree.specs.Examples.{written, here, binary_texts, unary_texts, primary, selects, target};
@@ -17,13 +17,13 @@ ghost use Rattle.vl_tree.specs.ItemSpelling as item;
 /// Operators, operands and targets.
 #[tactic(auto, unfolding(fv_base::specs::Keyword::keyword_text, fv_base::specs::Symbol::symbol_text))]
 pub fn expressions_have_their_texts()
-    ensures binary { binary_texts ≡ codes "a * z" ∷ codes "a / z" ∷ codes "a % z" ∷ codes "a + z" ∷ codes "a - z"
-        ∷ codes "a << z" ∷ codes "a >> z" ∷ codes "a <<< z" ∷ codes "a >>> z" ∷ codes "a < z" ∷ codes "a <= z"
-        ∷ codes "a > z" ∷ codes "a >= z" ∷ codes "a == z" ∷ codes "a != z" ∷ codes "a === z" ∷ codes "a !== z"
-        ∷ codes "a & z" ∷ codes "a ^ z" ∷ codes "a ~^ z" ∷ codes "a ^~ z" ∷ codes "a | z" ∷ codes "a && z"
-        ∷ codes "a || z" ∷ [] }
-    ensures unary { unary_texts ≡ codes "+ a" ∷ codes "- a" ∷ codes "! a" ∷ codes "~ a" ∷ codes "& a" ∷ codes "~& a"
-        ∷ codes "| a" ∷ codes "~| a" ∷ codes "^ a" ∷ codes "~^ a" ∷ codes "^~ a" ∷ [] }
+    ensures binary { binary_texts ≡ codes "a * z" ∷ codes "a / z" ∷ codes "a % z" ∷ codes "a + z"
+        ∷ codes "a - z" ∷ codes "a << z" ∷ codes "a >> z" ∷ codes "a <<< z" ∷ codes "a >>> z"
+        ∷ codes "a < z" ∷ codes "a <= z" ∷ codes "a > z" ∷ codes "a >= z" ∷ codes "a == z"
+        ∷ codes "a != z" ∷ codes "a === z" ∷ codes "a !== z" ∷ codes "a & z" ∷ codes "a ^ z"
+        ∷ codes "a ~^ z" ∷ codes "a ^~ z" ∷ codes "a | z" ∷ codes "a && z" ∷ codes "a || z" ∷ [] }
+    ensures unary { unary_texts ≡ codes "+ a" ∷ codes "- a" ∷ codes "! a" ∷ codes "~ a" ∷ codes "& a"
+        ∷ codes "~& a" ∷ codes "| a" ∷ codes "~| a" ∷ codes "^ a" ∷ codes "~^ a" ∷ codes "^~ a" ∷ [] }
     ensures primary { written (expr.spell primary)
         ≡ codes "( a ) ? { z , { a { z , a } } } : a ? $signed ( a ) : $unsigned ( z )" }
     ensures selects { written (expr.spell selects) ≡ codes "a [ z ] [ a : z ] [ z +: a ]" }
@@ -34,18 +34,27 @@ pub fn expressions_have_their_texts()
 #[tactic(auto, unfolding(fv_base::specs::Keyword::keyword_text, fv_base::specs::Symbol::symbol_text))]
 pub fn statements_have_their_texts()
     ensures { written (stmt.spell statement)
-        ≡ codes "(* x = a , y *) (* z *) begin : l if ( a ) a = z ; else if ( z ) a <= z ; assume ( a ) ; begin end ; case ( a ) a , z : ; default : ; endcase casez ( z ) default ; z : ; endcase end" }
+        ≡ codes "(* x = a , y *) (* z *) begin : l if ( a ) a = z ; else if ( z ) a <= z ; assume ( a ) "
+        ++ codes "; begin end ; case ( a ) a , z : ; default : ; endcase casez ( z ) default ; z : ; "
+        ++ codes "endcase end" }
 {}
 
 #[tactic(auto, unfolding(fv_base::specs::Keyword::keyword_text, fv_base::specs::Symbol::symbol_text, crate::specs::ItemSpelling::spell_head))]
 pub fn modules_have_their_texts()
     ensures head { written (item.spell_module head)
-        ≡ codes "module m # ( parameter p = a , signed [ a : z ] q = a , parameter r = a ) ( (* x = a , y *) (* z *) input wire signed [ a : z ] a , b = a , output reg c = z , d ) ; endmodule" }
+        ≡ codes "module m # ( parameter p = a , signed [ a : z ] q = a , parameter r = a ) ( (* x = a , "
+        ++ codes "y *) (* z *) input wire signed [ a : z ] a , b = a , output reg c = z , d ) ; endmodule" }
     ensures empty_head { written (item.spell_source
         (record { pos = here; modules = module_of None (Some []) [] ∷ module_of None None [] ∷ [] }))
         ≡ codes "module m ( ) ; endmodule module m ; endmodule" }
     ensures body { written (item.spell_module (module_of None None body))
-        ≡ codes "module m ; (* x = a , y *) (* z *) reg signed [ a : z ] a [ a : z ] , z = a ; integer i , j = a ; genvar g , h ; parameter p = a ; localparam signed [ a : z ] q = a , r = a ; assign a = z , { a , z [ a ] } = a ; always @ * ; always @ ( * ) ; always @ (* ) ; always @ ( *) ; always @ ( posedge c ) ; initial a = z ; n u ( ) ; n # ( . x ( ) , . y ( a ) ) u ( . x ( ) ) ; (* x = a , y *) (* z *) generate wire a ; generate endgenerate endgenerate for ( g = a ; z ; g = a ) begin : l wire a ; end if ( a ) wire a ; if ( z ) generate wire a ; endgenerate if ( a ) begin end else wire a ; endmodule" }
+        ≡ codes "module m ; (* x = a , y *) (* z *) reg signed [ a : z ] a [ a : z ] , z = a ; integer i "
+        ++ codes ", j = a ; genvar g , h ; parameter p = a ; localparam signed [ a : z ] q = a , r = a ; "
+        ++ codes "assign a = z , { a , z [ a ] } = a ; always @ * ; always @ ( * ) ; always @ (* ) ; "
+        ++ codes "always @ ( *) ; always @ ( posedge c ) ; initial a = z ; n u ( ) ; n # ( . x ( ) , . y "
+        ++ codes "( a ) ) u ( . x ( ) ) ; (* x = a , y *) (* z *) generate wire a ; generate endgenerate "
+        ++ codes "endgenerate for ( g = a ; z ; g = a ) begin : l wire a ; end if ( a ) wire a ; if ( z ) "
+        ++ codes "generate wire a ; endgenerate if ( a ) begin end else wire a ; endmodule" }
 {}
 
 /// Each region ends in the list that it begins in, once.

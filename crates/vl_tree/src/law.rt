@@ -14,5 +14,6 @@ pub fn spelled_tokens_have_the_kinds()
 
 /// Each token that a tree spells has its number of open constructs.
 pub fn each_token_has_its_open_constructs()
-    ensures { (tree : Source) → length (open_at (spec.spell_source tree) 0) ≡ length (kinds (spec.spell_source tree)) }
+    ensures { (tree : Source) → length (open_at (spec.spell_source tree) 0)
+        ≡ length (kinds (spec.spell_source tree)) }
 {}

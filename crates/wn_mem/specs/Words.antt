@@ -1,5 +1,18 @@
 -- A memory as one node a word (rule of this project).
-use Rattle.std.specs.Prelude.{◌≡◌, ℕ, ◌+◌, ◌*◌, ◌^◌, List, [], ◌∷◌, length, map, slice_index, bit_and}
+use Rattle.std.specs.Prelude.{
+  ◌≡◌,
+  ℕ,
+  ◌+◌,
+  ◌*◌,
+  ◌^◌,
+  List,
+  [],
+  ◌∷◌,
+  length,
+  map,
+  slice_index,
+  bit_and,
+}
 use Rattle.wn_net.specs.declared.parts.MemWrite.{MemWrite}
 use Rattle.fv_bits.specs.Bits.{complement}
 use Rattle.wn_net.specs.Value.{Given}

@@ -1,7 +1,19 @@
 //! One read of a memory: a tree over the bits of the address.
 #![tactic(auto, using(wn_net::proofs::Laws::additions))]
 
-ghost use Rattle.std.specs.Prelude.{◌≡◌, ◌==◌, ◌/◌, if◌then◌else◌, ◌<◌, ◌≤◌, ◌^◌, length, slice_index, IfOk, OnErr};
+ghost use Rattle.std.specs.Prelude.{
+  ◌≡◌,
+  ◌==◌,
+  ◌/◌,
+  if◌then◌else◌,
+  ◌<◌,
+  ◌≤◌,
+  ◌^◌,
+  length,
+  slice_index,
+  IfOk,
+  OnErr,
+};
 ghost use Rattle.wn_net.specs.Value.{Given, word_at};
 ghost use Rattle.wn_net.specs.Net.{IsNode, IsNodeOf, AreNodesOf, value_at, width_at};
 ghost use Rattle.wn_net.specs.Given.{IsGiven};

@@ -1,7 +1,20 @@
 //! One write to a memory: where it acts, as a tree over the bits of the address, and each word after it.
 #![tactic(auto, using(wn_net::proofs::Laws::additions))]
 
-ghost use Rattle.std.specs.Prelude.{◌≡◌, ◌==◌, ◌&&◌, ◌/◌, bit_and, bit_or, if◌then◌else◌, ℕ, ◌<◌, ◌≤◌, ◌^◌, length};
+ghost use Rattle.std.specs.Prelude.{
+  ◌≡◌,
+  ◌==◌,
+  ◌&&◌,
+  ◌/◌,
+  bit_and,
+  bit_or,
+  if◌then◌else◌,
+  ℕ,
+  ◌<◌,
+  ◌≤◌,
+  ◌^◌,
+  length,
+};
 ghost use Rattle.std.specs.Prelude.{map, slice_index, IfOk, OnOk, OnErr};
 ghost use Rattle.fv_bits.specs.Bits.{bit, masked};
 ghost use Rattle.wn_net.specs.Value.{Given};

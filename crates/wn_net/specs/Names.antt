@@ -1,5 +1,20 @@
 -- When names are those of a net (rule of this project).
-use Rattle.std.specs.Prelude.{◌≡◌, ℕ, ◌+◌, ◌<◌, ◌≤◌, ◌==◌, Bool, false, Option, None, Some, MatchOption, List, []}
+use Rattle.std.specs.Prelude.{
+  ◌≡◌,
+  ℕ,
+  ◌+◌,
+  ◌<◌,
+  ◌≤◌,
+  ◌==◌,
+  Bool,
+  false,
+  Option,
+  None,
+  Some,
+  MatchOption,
+  List,
+  [],
+}
 use Rattle.std.specs.Prelude.{◌∷◌, map, length, slice_index, slice_get, ℤ, ◌-ℤ◌, nat_abs}
 use Rattle.std.specs.List.{AllByRecursion, IsDistinct}
 use Rattle.std.specs.Str.{bytes_eq}

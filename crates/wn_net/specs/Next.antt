@@ -1,5 +1,19 @@
 -- What registers and memories have in the next cycle (rule of this project).
-use Rattle.std.specs.Prelude.{ℕ, ◌==◌, ◌<◌, ◌≤◌, ◌^◌, length, List, [], ◌∷◌, map, if◌then◌else◌, slice_index, slice_set}
+use Rattle.std.specs.Prelude.{
+  ℕ,
+  ◌==◌,
+  ◌<◌,
+  ◌≤◌,
+  ◌^◌,
+  length,
+  List,
+  [],
+  ◌∷◌,
+  map,
+  if◌then◌else◌,
+  slice_index,
+  slice_set,
+}
 use Rattle.std.specs.List.{AllByRecursion}
 use Rattle.wn_net.specs.declared.parts.State.{State}
 use Rattle.wn_net.specs.declared.parts.Mem.{Mem}

@@ -1,6 +1,18 @@
 -- The values of nodes: bit vectors as numbers (rule of this project; the operators are those of IEEE 1364-2005,
 -- section 5).
-use Rattle.std.specs.Prelude.{ℕ, ◌==◌, List, [], ◌∷◌, ◌++◌, bit_and, bit_or, bit_xor, nat_lt, if◌then◌else◌}
+use Rattle.std.specs.Prelude.{
+  ℕ,
+  ◌==◌,
+  List,
+  [],
+  ◌∷◌,
+  ◌++◌,
+  bit_and,
+  bit_or,
+  bit_xor,
+  nat_lt,
+  if◌then◌else◌,
+}
 use Rattle.std.specs.Prelude.{slice_index, slice_index_or}
 use Rattle.wn_net.specs.declared.node.Node.{Node}
 use Rattle.wn_net.specs.declared.node.Node.TheVariants as n

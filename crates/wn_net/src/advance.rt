@@ -1,5 +1,17 @@
 //! What registers and memories have in the next cycle.
-ghost use Rattle.std.specs.Prelude.{◌≡◌, ℕ, ◌+◌, ◌<◌, ◌≤◌, ◌^◌, length, map, slice_index, slice_set, List};
+ghost use Rattle.std.specs.Prelude.{
+  ◌≡◌,
+  ℕ,
+  ◌+◌,
+  ◌<◌,
+  ◌≤◌,
+  ◌^◌,
+  length,
+  map,
+  slice_index,
+  slice_set,
+  List,
+};
 ghost use Rattle.std.specs.List.{AllByRecursion};
 ghost use Rattle.wn_net.specs.Value.{word_at, words_at};
 ghost use Rattle.wn_net.specs.Next as spec;
@@ -85,7 +97,8 @@ fn move_mem(mems: &mut List<List<u128>>, index: usize, mem: &Mem, values: &[u128
 pub(crate) fn move_mems(mems: &[Mem], values: &[u128], numbers: &mut List<List<u128>>)
     requires each { length numbers.old ≡ length mems.now }
     requires writes { AllByRecursion (IsMemIn values.now) mems.now }
-    requires words { (m i : ℕ) → word_at (words_at numbers.old m) i < 2 ^ slice_index (map (λ m. m.width) mems.now) m }
+    requires words { (m i : ℕ) → word_at (words_at numbers.old m) i < 2 ^ slice_index
+        (map (λ m. m.width) mems.now) m }
     ensures { numbers.new ≡ spec.next_mems values.now mems.now numbers.old }
 {
     for (index, mem) in mems.iter().enumerate() {

@@ -1,7 +1,19 @@
 //! The builders of nodes.
 #![tactic(auto, using(crate::proofs::Stays::theres), unfolding(crate::specs::Net::width_at, crate::specs::Net::value_at))]
 
-ghost use Rattle.std.specs.Prelude.{◌≡◌, ◌==◌, nat_lt, bit_and, bit_or, bit_xor, if◌then◌else◌, ◌+◌, ◌<◌, ◌≤◌, ◌^◌};
+ghost use Rattle.std.specs.Prelude.{
+  ◌≡◌,
+  ◌==◌,
+  nat_lt,
+  bit_and,
+  bit_or,
+  bit_xor,
+  if◌then◌else◌,
+  ◌+◌,
+  ◌<◌,
+  ◌≤◌,
+  ◌^◌,
+};
 ghost use Rattle.std.specs.Prelude.{[], ◌++◌, ◌∷◌, length, IfOk, OnOk, OnErr};
 ghost use Rattle.fv_base.specs.Word.{number};
 ghost use Rattle.fv_bits.specs.Bits as num;
@@ -148,7 +160,8 @@ impl Net {
         requires left { IsNode self.old a }
         requires right { IsNodeOf self.old (width_at self.old a) b }
         ensures built { IfOk result (Builds self.old self.new (node.Slt a b) 1
-            (λ g. num.bit (num.is_less_signed (width_at self.old a) (value_at self.old g a) (value_at self.old g b)))) }
+            (λ g. num.bit (num.is_less_signed (width_at self.old a) (value_at self.old g a)
+            (value_at self.old g b)))) }
         ensures same { OnErr result (self.new ≡ self.old) }
     {
         self.push(Node::Slt(a, b), 1)

@@ -1,4 +1,16 @@
-ghost use Rattle.std.specs.Prelude.{◌≡◌, ◌+◌, ◌<◌, ◌≤◌, ◌^◌, [], ◌++◌, ◌∷◌, length, slice_get, slice_set};
+ghost use Rattle.std.specs.Prelude.{
+  ◌≡◌,
+  ◌+◌,
+  ◌<◌,
+  ◌≤◌,
+  ◌^◌,
+  [],
+  ◌++◌,
+  ◌∷◌,
+  length,
+  slice_get,
+  slice_set,
+};
 ghost use Rattle.std.specs.Prelude.{slice_index, IfOk, OnOk, OnErr, IsTrue, ◌↔◌};
 ghost use Rattle.wn_net.specs.Net.{IsNode, IsNet, width_at};
 ghost use Rattle.wn_net.specs.Changes.{cut_to};

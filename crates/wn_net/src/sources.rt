@@ -1,7 +1,21 @@
 //! The builders of inputs, registers and memories, and what changes them.
 #![tactic(auto, using(crate::proofs::Begun::unchanged))]
 
-ghost use Rattle.std.specs.Prelude.{◌≡◌, ◌+◌, ◌-◌, ◌<◌, ◌≤◌, ◌^◌, [], ◌++◌, ◌∷◌, length, IfOk, OnOk, OnErr};
+ghost use Rattle.std.specs.Prelude.{
+  ◌≡◌,
+  ◌+◌,
+  ◌-◌,
+  ◌<◌,
+  ◌≤◌,
+  ◌^◌,
+  [],
+  ◌++◌,
+  ◌∷◌,
+  length,
+  IfOk,
+  OnOk,
+  OnErr,
+};
 ghost use Rattle.std.specs.List.{AllByRecursion};
 ghost use Rattle.wn_net.specs.Value.{word_at, words_of};
 ghost use Rattle.wn_net.specs.Net.{IsNode, IsNodeOf, IsInitOf, IsWriteOf, width_at, value_at};

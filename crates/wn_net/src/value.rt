@@ -1,5 +1,16 @@
 //! The value of one node.
-ghost use Rattle.std.specs.Prelude.{◌≡◌, ◌==◌, if◌then◌else◌, ℕ, ◌+◌, ◌<◌, ◌≤◌, ◌^◌, length, slice_index};
+ghost use Rattle.std.specs.Prelude.{
+  ◌≡◌,
+  ◌==◌,
+  if◌then◌else◌,
+  ℕ,
+  ◌+◌,
+  ◌<◌,
+  ◌≤◌,
+  ◌^◌,
+  length,
+  slice_index,
+};
 ghost use Rattle.wn_net.specs.Width.{Shape, IsFitting};
 ghost use Rattle.wn_net.specs.Value as spec;
 ghost use Rattle.wn_net.specs.Value.{word_at};

@@ -1,4 +1,4 @@
--- What holds of values and runs of every net.
+-- What holds of values and runs of every net. Rule of this project.
 use Rattle.std.specs.Prelude.{◌≡◌, ℕ, ◌<◌, List, Some, length, slice_index, slice_get, ◌↔◌}
 use Rattle.wn_net.specs.declared.node.Node.{Node}
 use Rattle.wn_net.specs.declared.parts.State.{State}
@@ -15,10 +15,12 @@ IsAt net id x = slice_get net.nodes id ≡ Some x
 -- each node has the value, and the width, of its kind over those of its own net
 abbrev pub EachNodeHasItsValue : Type 0
 EachNodeHasItsValue =
-    (net : Netlist) (g : Given) (id : ℕ) (x : Node) → IsNet net → IsAt net id x → value_at net g id ≡ value_in net g x
+    (net : Netlist) (g : Given) (id : ℕ) (x : Node) → IsNet net → IsAt net id x
+    → value_at net g id ≡ value_in net g x
 
 abbrev pub EachNodeHasItsWidth : Type 0
-EachNodeHasItsWidth = (net : Netlist) (id : ℕ) (x : Node) → IsNet net → IsAt net id x → width_at net id ≡ width_in net x
+EachNodeHasItsWidth =
+    (net : Netlist) (id : ℕ) (x : Node) → IsNet net → IsAt net id x → width_at net id ≡ width_in net x
 
 -- two cycles have the same numbers for the inputs, registers and memories of a net
 pub record AreAlike (net : Netlist) (g h : Given) : Type 0 where
@@ -28,7 +30,8 @@ pub record AreAlike (net : Netlist) (g h : Given) : Type 0 where
 
 -- values depend on nothing else
 abbrev pub ValuesAreAlike : Type 0
-ValuesAreAlike = (net : Netlist) (g h : Given) → IsNet net → AreAlike net g h → values_of net g ≡ values_of net h
+ValuesAreAlike =
+    (net : Netlist) (g h : Given) → IsNet net → AreAlike net g h → values_of net g ≡ values_of net h
 
 -- the numbers of each cycle of a run are numbers of a cycle of the net
 abbrev pub CyclesAreGiven : Type 0
@@ -39,7 +42,8 @@ CyclesAreGiven =
 -- choices make a run
 abbrev pub ChoicesMakeRuns : Type 0
 ChoicesMakeRuns =
-    (net : Netlist) (ch : Choices) → IsNet net → AreChoicesOf net ch → IsRun net (inputs_at net ch) (start_of net ch)
+    (net : Netlist) (ch : Choices) → IsNet net → AreChoicesOf net ch
+    → IsRun net (inputs_at net ch) (start_of net ch)
 
 -- After more nodes and registers the old part of a run is the old run: the first registers and the memories in each
 -- cycle, the value of each old node, and whether the assumptions are met.

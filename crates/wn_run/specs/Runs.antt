@@ -1,5 +1,21 @@
 -- Runs of a net: its numbers, cycle by cycle (rule of this project).
-use Rattle.std.specs.Prelude.{◌≡◌, ℕ, zero, suc, ◌+◌, ◌<◌, ◌≤◌, ◌^◌, ◌==◌, if◌then◌else◌, List, [], ◌∷◌, length, map}
+use Rattle.std.specs.Prelude.{
+  ◌≡◌,
+  ℕ,
+  zero,
+  suc,
+  ◌+◌,
+  ◌<◌,
+  ◌≤◌,
+  ◌^◌,
+  ◌==◌,
+  if◌then◌else◌,
+  List,
+  [],
+  ◌∷◌,
+  length,
+  map,
+}
 use Rattle.std.specs.Prelude.{take, slice_index}
 use Rattle.std.specs.List.{AllByRecursion}
 use Rattle.wn_net.specs.declared.parts.Input.{Input}
@@ -34,7 +50,8 @@ by_kind each once reset Reset = reset
 -- the numbers of the inputs from the number i on
 abbrev pub inputs_from : (ℕ → ℕ) → (ℕ → ℕ) → ℕ → ℕ → List Input → List ℕ
 inputs_from each once reset i [] = []
-inputs_from each once reset i (x ∷ xs) = by_kind (each i) (once i) reset x.kind ∷ inputs_from each once reset (i + 1) xs
+inputs_from each once reset i (x ∷ xs) =
+    by_kind (each i) (once i) reset x.kind ∷ inputs_from each once reset (i + 1) xs
 
 -- a reset is 1 in the first cycle and 0 later
 abbrev pub reset_at : ℕ → ℕ
