@@ -52,7 +52,7 @@ fn byte_agrees(retire: &Retire, effect: &Effect, index: u32) -> bool
     ensures { result ≡ agree.byte_agrees retire.now effect.now index }
 {
     written_agrees(retire, effect, index)
-        && (!has(effect.rmask, index) || has(retire.mem_rmask, index))
+        && (!has_byte(effect.rmask, index) || has_byte(retire.mem_rmask, index))
 }
 
 /// A byte that is to be written is, with its value; a further one keeps what was read.
@@ -60,10 +60,11 @@ fn written_agrees(retire: &Retire, effect: &Effect, index: u32) -> bool
     requires { index < 4 }
     ensures { result ≡ agree.written_agrees retire.now effect.now index }
 {
-    if has(effect.wmask, index) {
-        has(retire.mem_wmask, index) && byte(retire.mem_wdata, index) == byte(effect.wdata, index)
+    if has_byte(effect.wmask, index) {
+        has_byte(retire.mem_wmask, index)
+            && byte(retire.mem_wdata, index) == byte(effect.wdata, index)
     } else {
-        !has(retire.mem_wmask, index) || keeps(retire, index)
+        !has_byte(retire.mem_wmask, index) || keeps(retire, index)
     }
 }
 
@@ -71,18 +72,20 @@ fn keeps(retire: &Retire, index: u32) -> bool
     requires { index < 4 }
     ensures { result ≡ agree.keeps retire.now index }
 {
-    has(retire.mem_rmask, index) && byte(retire.mem_wdata, index) == byte(retire.mem_rdata, index)
+    has_byte(retire.mem_rmask, index)
+        && byte(retire.mem_wdata, index) == byte(retire.mem_rdata, index)
 }
 
-/// The mask has the byte.
-fn has(mask: u32, index: u32) -> bool
+/// The mask, one bit for each of the four bytes of a word, has the byte.
+pub fn has_byte(mask: u32, index: u32) -> bool
     requires { index < 4 }
     ensures { result ≡ agree.has mask index }
 {
     field(mask, index, index) == 1
 }
 
-fn byte(word: u32, index: u32) -> u32
+/// The byte of a word, the lowest first.
+pub fn byte(word: u32, index: u32) -> u32
     requires { index < 4 }
     ensures { result ≡ agree.byte index word }
 {

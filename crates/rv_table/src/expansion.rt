@@ -12,7 +12,8 @@ use crate::search::row_of;
 #[tactic(auto, using(crate::proofs::Unique::unique))]
 pub fn expand(half: u16) -> Option<u32>
     ensures found { IfSome result (IsExpansion half) }
-    ensures only { (row : CompressedRow) → matches (Compressed row) half ≡ true → result ≡ Some (expansion row half) }
+    ensures only { (row : CompressedRow) → matches (Compressed row) half ≡ true
+        → result ≡ Some (expansion row half) }
     ensures none { IfNone result ((row : CompressedRow) → matches (Compressed row) half ≡ false) }
 {
     let insn = u32::from(half);

@@ -22,7 +22,7 @@ mod shared;
 mod step;
 mod table;
 
-pub use agree::agrees;
+pub use agree::{agrees, byte, has_byte};
 pub use demand::Demand;
 pub use effect::effect_of;
 pub use expansion::expand;

@@ -10,7 +10,8 @@ use crate::table::demands;
 pub fn row_of(insn: u32, isa: Isa) -> Option<RowId>
     ensures found { IfSome result (matching.IsMatch isa insn) }
     ensures only { (row : RowId) → matching.IsMatch isa insn row → result ≡ Some row }
-    ensures none { IfNone result ((row : RowId) → matching.has isa row ≡ true → matching.matches row insn ≡ false) }
+    ensures none { IfNone result ((row : RowId) → matching.has isa row ≡ true
+        → matching.matches row insn ≡ false) }
     ensures without_m { IfSome result (λ row. isa.m ≡ false → matching.is_of_m row ≡ false) }
     ensures without_c { IfSome result (λ row. isa.c ≡ false → matching.is_of_c row ≡ false) }
 {

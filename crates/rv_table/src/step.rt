@@ -1,4 +1,17 @@
-ghost use Rattle.std.specs.Prelude.{◌≡◌, ◌+◌, ◌-◌, ◌*◌, ◌/◌, ◌%◌, ◌^◌, ◌<◌, ◌≤◌, not, ◌==◌, ◌&&◌};
+ghost use Rattle.std.specs.Prelude.{
+  ◌≡◌,
+  ◌+◌,
+  ◌-◌,
+  ◌*◌,
+  ◌/◌,
+  ◌%◌,
+  ◌^◌,
+  ◌<◌,
+  ◌≤◌,
+  not,
+  ◌==◌,
+  ◌&&◌,
+};
 ghost use Rattle.rv_table.specs.Arithmetic.{sum};
 ghost use Rattle.rv_table.specs.Immediates.{i_immediate};
 ghost use Rattle.rv_table.specs.Effect as effect;
