@@ -232,26 +232,22 @@ def stmt_text(s):
     return "begin " + " ".join(stmt_text(x) for x in s[1]) + " end"
 
 
+TREES = {
+    "number": lambda w, signed, n: f"number here (number_of (cut_to {w} {str(signed).lower()} {n}))",
+    "plain": lambda n: f"decimal {n}",
+    "name": lambda text, selects: f"name here (codes \"{text}\") {selects_tree(selects)}",
+    "binary": lambda op, a, b: f"paren here (binary here b.{BINARY[op]} {tree(a)} {tree(b)})",
+    "unary": lambda op, a: f"paren here (unary here u.{UNARY[op]} {tree(a)})",
+    "conditional": lambda c, a, b: f"paren here (conditional here {tree(c)} {tree(a)} {tree(b)})",
+    "concat": lambda es: f"concat here {trees_tree(es)}",
+    "repeat": lambda n, es: f"repeat here {tree(n)} {trees_tree(es)}",
+    "cast": lambda to, a: f"cast here to.{'Signed' if to == '$signed' else 'Unsigned'} {tree(a)}",
+}
+
+
 def tree(e):
     """Returns an expression as a term of the definitions."""
-    kind = e[0]
-    if kind == "number":
-        return f"(number here (number_of (cut_to {e[1]} {str(e[2]).lower()} {e[3]})))"
-    if kind == "plain":
-        return f"(decimal {e[1]})"
-    if kind == "name":
-        return f"(name here (codes \"{e[1]}\") {selects_tree(e[2])})"
-    if kind == "binary":
-        return f"(paren here (binary here b.{BINARY[e[1]]} {tree(e[2])} {tree(e[3])}))"
-    if kind == "unary":
-        return f"(paren here (unary here u.{UNARY[e[1]]} {tree(e[2])}))"
-    if kind == "conditional":
-        return f"(paren here (conditional here {tree(e[1])} {tree(e[2])} {tree(e[3])}))"
-    if kind == "concat":
-        return f"(concat here {trees_tree(e[1])})"
-    if kind == "repeat":
-        return f"(repeat here {tree(e[1])} {trees_tree(e[2])})"
-    return f"(cast here to.{'Signed' if e[1] == '$signed' else 'Unsigned'} {tree(e[2])})"
+    return f"({TREES[e[0]](*e[1:])})"
 
 
 def trees_tree(es):
