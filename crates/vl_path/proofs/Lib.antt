@@ -1,0 +1,16 @@
+pub mod Bools
+pub mod Flat
+pub mod Spots
+pub mod Cells
+pub mod Same
+pub mod Puts
+pub mod Writes
+pub mod Targets
+pub mod Alike
+pub mod Execs
+pub mod Stays
+pub mod OneMap
+pub mod Clockless
+pub mod Stages
+pub mod Laws
+pub mod Settling

@@ -1,0 +1,5 @@
+pub mod Reads
+pub mod Paths
+pub mod Depends
+pub mod Drivers
+pub mod Settle
