@@ -1,0 +1,10 @@
+use Rattle.std.proofs.Common.{ap, ◌∙◌}
+use Rattle.lrat_check.specs.Sets.{reading}
+use Rattle.sat_trail.specs.Trail.{lits, oldest}
+use Rattle.sat_trail.proofs.Places.{oldest_below}
+use Rattle.sat_trail.proofs.trail.Trail.read_below.Goals as goal
+
+pub returns : goal.returns
+returns c =
+    c.read_at.ensures ∙ ap (λ t. reading (lits t) c.args.clause.now)
+    (ap (λ n. oldest n c.args.self.now) c.level_start.ensures ∙ oldest_below c.args.self.now)

@@ -1,0 +1,87 @@
+ghost use Rattle.std.specs.Prelude.{
+  ◌≡◌,
+  ◌<◌,
+  [],
+  ℕ,
+  ℤ,
+  if◌then◌else◌,
+  slice_index_or,
+  vec_len,
+  OnOk,
+  OnErr,
+};
+ghost use Rattle.std.specs.Ordering.{int_eq};
+ghost use Rattle.lrat_check.specs.Sets.{IsLit};
+ghost use Rattle.sat_trail.specs.Trail.{place_of};
+
+use fv_base::Memory;
+use lrat_check::code_of;
+use std::alloc::Global;
+use std::marker::Model;
+
+/// A number for each literal, by its code; 0 where none was put.
+#[derive(Drop)]
+pub(crate) struct Places {
+    places: Vec<usize>,
+}
+
+impl Model for Places {
+    ghost use Rattle.std.specs.Prelude.{List, ℕ};
+
+    ghost Value = { List ℕ };
+
+    ghost view = { λ p. p.places.items };
+}
+
+impl Places {
+    pub(crate) fn new(alloc: Global) -> Places
+        ensures { result ≡ [] }
+    {
+        Places {
+            places: Vec::new(alloc),
+        }
+    }
+
+    pub(crate) fn get(&self, lit: &i64) -> usize
+        requires { IsLit lit.now }
+        ensures { result ≡ place_of self.now lit.now }
+    {
+        match self.places.get(code_of(*lit) as usize) {
+            Some(place) => *place,
+            None => 0,
+        }
+    }
+
+    pub(crate) fn put(&mut self, lit: &i64, place: usize) -> Result<(), Memory>
+        requires { IsLit lit.now }
+        ensures ok { OnOk result ((l : ℤ) → place_of self.new l
+            ≡ (if int_eq lit.now l then place else place_of self.old l)) }
+        ensures err { OnErr result ((l : ℤ) → place_of self.new l ≡ place_of self.old l) }
+    {
+        let code = code_of(*lit) as usize;
+        widen(&mut self.places, code)?;
+        self.places[code] = place;
+        Ok(())
+    }
+
+    pub(crate) fn clear(&mut self, lit: &i64)
+        requires { IsLit lit.now }
+        ensures { (l : ℤ) → place_of self.new l ≡ (if int_eq lit.now l then 0 else place_of self.old l) }
+    {
+        let code = code_of(*lit) as usize;
+        if code < self.places.len() {
+            self.places[code] = 0;
+        }
+    }
+}
+
+/// Fills up with 0 until there is one for the code.
+fn widen(places: &mut Vec<usize>, code: usize) -> Result<(), Memory>
+    ensures within { OnOk result (code < vec_len places.new) }
+    ensures same { (k : ℕ) → slice_index_or places.new.items k 0 ≡ slice_index_or places.old.items k 0 }
+{
+    while places.len() <= code {
+        places.push(0)?;
+    }
+    Ok(())
+}

@@ -1,0 +1,12 @@
+pub mod Changes
+pub mod Closings
+pub mod Goings
+pub mod Joins
+pub mod Keeping
+pub mod ListSteps
+pub mod Looks
+pub mod Orders
+pub mod Quiets
+pub mod Readies
+pub mod Steps
+pub mod Visits

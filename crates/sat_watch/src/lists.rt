@@ -1,0 +1,67 @@
+ghost use Rattle.std.specs.Prelude.{◌≡◌, ◌<◌, [], length, OnOk};
+ghost use Rattle.sat_watch.specs.Watching.{with_watch, taken, lists_of, items_of};
+
+use crate::watch::Watch;
+use fv_base::Memory;
+use std::alloc::Global;
+use std::marker::Model;
+
+/// The watches of each literal, by its code.
+#[derive(Drop)]
+pub(crate) struct Lists {
+    alloc: Global,
+    lists: Vec<Vec<Watch>>,
+}
+
+impl Model for Lists {
+    ghost use Rattle.std.specs.Prelude.{List};
+    ghost use Rattle.sat_watch.specs.declared.watch.Watch.{Watch};
+    ghost use Rattle.sat_watch.specs.Watching.{items_of};
+
+    ghost Value = { List (List Watch) };
+
+    ghost view = { λ l. items_of l.lists.items };
+}
+
+impl Lists {
+    pub(crate) fn new(alloc: Global) -> Lists
+        ensures { result ≡ [] }
+    {
+        Lists {
+            alloc,
+            lists: Vec::new(alloc),
+        }
+    }
+
+    pub(crate) fn push(&mut self, code: u64, watch: Watch) -> Result<(), Memory>
+        ensures { OnOk result (lists_of self.new ≡ with_watch (lists_of self.old) code watch) }
+    {
+        let place = code as usize;
+        widen(self.alloc, &mut self.lists, place)?;
+        self.lists[place].push(watch)?;
+        Ok(())
+    }
+
+    /// Takes the literal's list out, in exchange for one that is empty.
+    pub(crate) fn take(&mut self, code: u64, spare: &mut Vec<Watch>)
+        requires { spare.old.items ≡ [] }
+        ensures list { spare.new.items ≡ lists_of self.old code }
+        ensures rest { lists_of self.new ≡ taken (lists_of self.old) code }
+    {
+        let place = code as usize;
+        if place < self.lists.len() {
+            std::mem::swap(&mut self.lists[place], spare);
+        }
+    }
+}
+
+/// Fills up with empty lists until there is one at the place.
+fn widen(alloc: Global, lists: &mut Vec<Vec<Watch>>, place: usize) -> Result<(), Memory>
+    ensures within { OnOk result (place < length lists.new.items) }
+    ensures same { OnOk result (lists_of (items_of lists.new.items) ≡ lists_of (items_of lists.old.items)) }
+{
+    'grow: while lists.len() <= place {
+        lists.push(Vec::new(alloc))?;
+    }
+    Ok(())
+}
