@@ -17,7 +17,7 @@ use Rattle.std.specs.Prelude.{
   ◌||◌,
   not,
 }
-use Rattle.std.specs.Prelude.{is_none, is_some, Option, Some, None, bytes_eq, if◌then◌else◌}
+use Rattle.std.specs.Prelude.{is_none, Option, Some, None, bytes_eq, if◌then◌else◌}
 use Rattle.fv_base.specs.declared.pos.Pos.{Pos}
 use Rattle.vl_tree.specs.declared.declaration.DeclaredName.{DeclaredName}
 use Rattle.vl_tree.specs.declared.declaration.Direction.{Direction}
@@ -79,8 +79,9 @@ use Rattle.vl_refusal.specs.declared.elab_fault.ElabFault.TheVariants as f
 use Rattle.vl_refusal.specs.Expressions.{refused_if, far, too_wide, select_refusals, refusals, own_refusals}
 use Rattle.vl_refusal.specs.Expressions.{expr_refusals, known}
 use Rattle.vl_refusal.specs.Meanings.{Meaning, undeclared, loop_variable, object, faulty, Names, meaning_in}
-use Rattle.vl_refusal.specs.Meanings.{is_known_range, declared_width, is_overridden, all_meanings, meanings_at}
-use Rattle.vl_refusal.specs.Meanings.{meanings_before, objects}
+use Rattle.vl_refusal.specs.Meanings.{is_known_range, declared_width, is_overridden}
+use Rattle.vl_refusal.specs.Meanings.{is_variable_class, may_have_words, all_meanings, meanings_at, meanings_before}
+use Rattle.vl_refusal.specs.Meanings.{objects}
 use Rattle.vl_refusal.specs.Statements.{assignment_refusals, assigned_in, stmt_refusals, initial_refusals}
 use Rattle.vl_refusal.specs.Statements.{target_refusals}
 
@@ -153,19 +154,9 @@ parameters_refusals at kind earlier (x ∷ xs) =
     parameter_refusals at (not (is_localparam kind) && is_given at.contents x.name) earlier x
     ++ parameters_refusals at kind (earlier ++ x.name ∷ []) xs
 
-abbrev pub is_free_class : Class → Bool
-is_free_class class.EachCycle = true
-is_free_class class.Once = true
-is_free_class c = false
-
 abbrev pub is_net : NetKind → Bool
 is_net net.Wire = true
 is_net net.Reg = false
-
--- a memory is of variables, without a value and without `anyseq` and `anyconst`
-abbrev pub memory_refusals : Pos → NetKind → Class → Option Range → Option Expr → List ElabFault
-memory_refusals p kind c None value = []
-memory_refusals p kind c (Some r) value = refused_if (is_net kind || (is_free_class c || is_some value)) (f.Range p)
 
 -- the value of a net is assigned to it continuously, that of a variable is constant; a name that is free has none
 abbrev pub given_value : List Names → Pos → NetKind → List ℕ → Option Expr → List ElabFault
@@ -182,7 +173,8 @@ declared_value ns p kind text (Some r) (Some e) = own_refusals ns (not (is_net k
 
 abbrev pub name_refusals : List Names → NetKind → Class → Option Range → DeclaredName → List ElabFault
 name_refusals ns kind c shape x =
-    range_refusals ns x.words ++ width_refusals ns x.pos shape ++ memory_refusals x.pos kind c x.words x.value
+    range_refusals ns x.words ++ width_refusals ns x.pos shape
+    ++ refused_if (not (may_have_words c x.words x.value)) (f.Range x.pos)
     ++ declared_value ns x.pos kind x.name x.words x.value
 
 abbrev pub names_refusals : List Names → NetKind → Class → Option Range → List DeclaredName → List ElabFault
@@ -325,8 +317,8 @@ given_context ns inner (Some r) e =
     else own_context (objects ns) (known ns e)
 
 abbrev pub override_value : List Names → List Names → Option Parameter → Option Expr → List ElabFault
-override_value ns inner None value = []
-override_value ns inner (Some x) None = []
+override_value ns inner y None = []
+override_value ns inner None (Some e) = refusals ns true e
 override_value ns inner (Some x) (Some e) = expr_refusals ns true (given_context ns inner x.shape.range e) e
 
 abbrev pub override_refusals : Place → Module → Use → List (List ℕ) → Connection → List ElabFault
@@ -334,10 +326,6 @@ override_refusals at m u given x =
     let y = given_parameter m x.port in
     refused_if (contains_name given x.port) (f.Twice x.port x.pos) ++ refused_if (is_none y) (f.Param x.port x.pos)
     ++ override_value (meanings_at at) (inner_meanings m u) y x.value
-
-abbrev pub is_variable_class : Class → Bool
-is_variable_class class.Variable = true
-is_variable_class c = false
 
 -- what an output may be joined to by name, as far as it may be assigned at all
 abbrev pub is_net_name : Meaning → Bool
@@ -383,7 +371,8 @@ joined_value at ns inner q direction.Output x e = output_target ns x.port x.pos 
 
 abbrev pub joined_refusals : Place → List Names → List Names → Option FullPort → Connection → Option Expr
     → List ElabFault
-joined_refusals at ns inner None x value = f.Port x.port x.pos ∷ []
+joined_refusals at ns inner None x None = f.Port x.port x.pos ∷ []
+joined_refusals at ns inner None x (Some e) = refusals ns false e ++ f.Port x.port x.pos ∷ []
 joined_refusals at ns inner (Some q) x None = []
 joined_refusals at ns inner (Some q) x (Some e) = joined_value at ns inner q q.direction x e
 

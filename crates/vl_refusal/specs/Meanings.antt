@@ -28,13 +28,17 @@ use Rattle.vl_tree.specs.declared.declaration.Range.{Range}
 use Rattle.vl_tree.specs.Expr.{Expr}
 use Rattle.vl_tree.specs.Item.{Item, Items, declaration, integer, genvar, parameter, no_items, more_items}
 use Rattle.vl_size.specs.declared.decl.Decl.{Decl}
-use Rattle.vl_size.specs.Divisors.{valid_size}
-use Rattle.vl_size.specs.Size.{is_bound, index_of}
+use Rattle.vl_size.specs.declared.context.Context.{Context}
+use Rattle.vl_size.specs.declared.decl.Class.{Class}
+use Rattle.vl_size.specs.declared.decl.Class.TheVariants as class
+use Rattle.vl_size.specs.Divisors.{larger, valid_size, zero_divisor}
+use Rattle.vl_size.specs.Sign.{sign}
+use Rattle.vl_size.specs.Size.{size, is_bound, index_of}
 use Rattle.vl_size.specs.Table.{span, declared_as}
 use Rattle.vl_mean.specs.declared.const_number.Const.{Const}
 use Rattle.vl_mean.specs.Cells.{contains_name}
 use Rattle.vl_mean.specs.Constants.{constant_of, constant_operand, settled}
-use Rattle.vl_mean.specs.Declarations.{Overrides}
+use Rattle.vl_mean.specs.Declarations.{Overrides, class_of_attributes, class_of_kind, joined_attributes}
 use Rattle.vl_mean.specs.Scopes.{Scope}
 use Rattle.vl_mean.specs.Walk.{Contents, Place, parameter_names, port_names}
 
@@ -83,6 +87,16 @@ constants ns text = value_of (meaning_in ns text)
 abbrev pub is_known : List Names → Expr → Bool
 is_known ns e = is_some (valid_size [] (settled (constants ns) e))
 
+-- in this context, without names
+abbrev pub is_known_in : Context → Expr → Bool
+is_known_in c x = is_some (size [] x) && is_none (zero_divisor [] c x)
+
+-- where so many bits have it assigned
+abbrev pub is_known_assigned : List Names → ℕ → Expr → Bool
+is_known_assigned ns n e =
+    let x = settled (constants ns) e in
+    is_known_in (record { size = larger (Some n) (size [] x); signed = sign [] x }) x
+
 abbrev pub bound : List Names → Expr → ℤ
 bound ns e = index_of (constant_operand (constants ns) e)
 
@@ -107,9 +121,15 @@ abbrev pub is_overridden : Overrides → List ℕ → Bool
 is_overridden [] text = false
 is_overridden (o ∷ os) text = bytes_eq text o.0 || is_overridden os text
 
+-- the value of a parameter, which is assigned to its range, where it has one
+abbrev pub is_known_value : List Names → Option Range → Expr → Bool
+is_known_value ns None e = is_known ns e
+is_known_value ns (Some r) e = is_known_assigned ns (declared_width ns (Some r)) e
+
 -- a value that is given at an instance is judged there
 abbrev pub is_known_parameter : Overrides → List Names → Parameter → Bool
-is_known_parameter os ns x = (is_overridden os x.name || is_known ns x.value) && is_known_shape ns x.shape.range
+is_known_parameter os ns x =
+    (is_overridden os x.name || is_known_value ns x.shape.range x.value) && is_known_shape ns x.shape.range
 
 -- with a range it may be selected from where this is `[width - 1 : 0]`
 abbrev pub may_be_selected : List Names → Option Range → Bool
@@ -124,6 +144,15 @@ constant_or known c selected = faulty
 abbrev pub object_or : Bool → Option Decl → Bool → Bool → Meaning
 object_or true (Some d) input scalar = object d input scalar
 object_or known d input scalar = faulty
+
+abbrev pub is_variable_class : Class → Bool
+is_variable_class class.Variable = true
+is_variable_class c = false
+
+-- a memory is of variables, without a value and without `anyseq` and `anyconst`
+abbrev pub may_have_words : Class → Option Range → Option Expr → Bool
+may_have_words c None value = true
+may_have_words c (Some r) value = is_variable_class c && is_none value
 
 abbrev pub is_input : Direction → Bool
 is_input direction.Input = true
@@ -174,16 +203,18 @@ module _ (s : Scope) (outer : List Names) where
             (is_none shape),
       ) ∷ port_meanings ns ps
 
-  abbrev pub name_meanings : List Names → Bool → Bool → List DeclaredName → Names
-  name_meanings ns known scalar [] = []
-  name_meanings ns known scalar (x ∷ xs) =
-      (x.name, object_or (known && is_known_range ns x.words) (declared_as s.decls x.name) false scalar)
-      ∷ name_meanings ns known scalar xs
+  abbrev pub name_meanings : List Names → Class → Bool → Bool → List DeclaredName → Names
+  name_meanings ns c known scalar [] = []
+  name_meanings ns c known scalar (x ∷ xs) =
+      let is_right = known && (is_known_range ns x.words && may_have_words c x.words x.value) in
+      (x.name, object_or is_right (declared_as s.decls x.name) false scalar) ∷ name_meanings ns c known scalar xs
 
   abbrev pub item_meanings : List Names → Item → Names
   item_meanings ns (declaration attrs p d) =
-      name_meanings ns (is_known_shape ns d.shape.range) (is_none d.shape.range) d.names
-  item_meanings ns (integer attrs p xs) = name_meanings ns true false xs
+      name_meanings ns (class_of_attributes (class_of_kind d.net) (joined_attributes attrs))
+      (is_known_shape ns d.shape.range) (is_none d.shape.range) d.names
+  item_meanings ns (integer attrs p xs) =
+      name_meanings ns (class_of_attributes class.Variable (joined_attributes attrs)) true false xs
   item_meanings ns (genvar attrs p xs) = map (λ text. (text, loop_variable)) xs
   item_meanings ns x = []
 

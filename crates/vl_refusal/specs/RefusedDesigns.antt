@@ -1,18 +1,24 @@
 -- Small designs that are refused, one for each refusal and for each place where their order counts. Rule of this
 -- project.
-use Rattle.std.specs.Prelude.{ℕ, List, [], ◌∷◌, true, false, Option, Some, None, codes}
+use Rattle.std.specs.Prelude.{ℕ, List, [], ◌∷◌, true, false, Option, Some, None, ℤ, pos, codes}
+use Rattle.fv_base.specs.declared.pos.Pos.{Pos}
+use Rattle.vl_tree.specs.declared.declaration.NetKind.{NetKind}
 use Rattle.vl_tree.specs.declared.declaration.NetKind.TheVariants as net
 use Rattle.vl_tree.specs.declared.declaration.ParameterKind.{ParameterKind}
 use Rattle.vl_tree.specs.declared.declaration.ParameterKind.TheVariants as k
 use Rattle.vl_tree.specs.declared.declaration.Shape.{Shape}
 use Rattle.vl_tree.specs.declared.operator.BinaryOperator.TheVariants as b
+use Rattle.vl_tree.specs.declared.part.LoopHead.{LoopHead}
 use Rattle.vl_tree.specs.declared.source.Module.{Module}
 use Rattle.vl_tree.specs.Expr.{Expr, name, binary, concat, none, more, whole, bit, part}
-use Rattle.vl_tree.specs.Item.{Item, Block, declaration, genvar, parameter, instance, if_only, if_else, begin, no_items}
+use Rattle.vl_tree.specs.Item.{Item, Block, declaration, genvar, parameter, assign, instance, if_only, if_else}
+use Rattle.vl_tree.specs.Item.{begin, no_items}
+use Rattle.vl_tree.specs.Lval.{named}
+use Rattle.vl_size.specs.declared.decl.Class.TheVariants as class
 use Rattle.vl_mean.specs.DesignExamples.{used, range}
 use Rattle.vl_mean.specs.Examples.{literal, decimal, scalar, bits, input, vector_input, output, declares_name}
 use Rattle.vl_mean.specs.Examples.{at_clock, at_any_change, later, now, plus, connection, assigns, module_of, loop}
-use Rattle.vl_mean.specs.Parts.{here, plain, plain_target}
+use Rattle.vl_mean.specs.Parts.{Part, declares, here, plain, plain_target}
 
 -- `[q:0]`
 abbrev up_to : List ℕ → Shape
@@ -116,6 +122,34 @@ no_net =
     with_inner (top (used (codes "inner") (codes "u")
     (connection (codes "y") (binary here b.BitwiseAnd (plain (codes "o")) (plain (codes "o"))) ∷ []) ∷ []))
 
+-- `inner u(.p(x));` and `inner #(.Q(x)) u();`, which have no such port, no such parameter, and no `x`
+abbrev pub no_port_and_no_name : List Module
+no_port_and_no_name =
+    with_inner (top (used (codes "inner") (codes "u") (connection (codes "p") (plain (codes "x")) ∷ []) ∷ []))
+
+abbrev pub no_parameter_and_no_name : List Module
+no_parameter_and_no_name =
+    with_inner (top (instance [] here (record {
+      definition = codes "inner";
+      overrides = Some (connection (codes "Q") (plain (codes "x")) ∷ []);
+      name = codes "u";
+      connections = [];
+    }) ∷ []))
+
+-- `localparam [0:3] P = 1; assign P[0] = 1;`
+abbrev pub assigned_parameter : List Module
+assigned_parameter =
+    top (parameter [] here k.Localparam (record {
+      pos = here;
+      shape = range 0 3;
+      name = codes "P";
+      value = decimal 1;
+    } ∷ [])
+    ∷ assign [] here (record {
+      target = named here (codes "P") (bit here (decimal 0) whole);
+      value = decimal 1;
+    } ∷ []) ∷ [])
+
 -- `inner #(.L(2)) u();` gives a value to a `localparam`
 abbrev pub given_localparam : List Module
 given_localparam =
@@ -162,3 +196,59 @@ two_in_one = top (gives (plus (plain (codes "clock")) (plain (codes "x"))))
 -- of two items the first: `assign o = clock; assign o = x;`
 abbrev pub two_items : List Module
 two_items = top (assigns (codes "o") (plain (codes "clock")) ∷ assigns (codes "o") (plain (codes "x")) ∷ [])
+
+-- `localparam [8:0] P = 8'd200 / (8'd255 + 8'd1); wire [P+200:0] w;`: P is 200 divided by 256
+abbrev pub parameter_of_nine_bits : List Module
+parameter_of_nine_bits =
+    top (parameter [] here k.Localparam (record {
+      pos = here;
+      shape = bits 8;
+      name = codes "P";
+      value = binary here b.Divide (literal 8 200) (plus (literal 8 255) (literal 8 1));
+    } ∷ [])
+    ∷ declares_name net.Wire (record {
+      signed = false;
+      range = Some (record { pos = here; left = plus (plain (codes "P")) (decimal 200); right = decimal 0 });
+    }) (codes "w") None ∷ [])
+
+abbrev pub next_line : Pos
+next_line = record { file = 1; line = 2; col = 1 }
+
+abbrev memory : Pos → NetKind → ℕ → ℕ → Item
+memory p kind left last =
+    declaration [] here (record {
+      net = kind;
+      shape = bits left;
+      names = record { pos = p; name = codes "m"; words = (range 0 last).range; value = None } ∷ [];
+    })
+
+-- `assign o = m;`, and in the next line `wire m [0:1];`: the use isn't refused before the declaration is
+abbrev pub memory_of_nets : List Module
+memory_of_nets = top (assigns (codes "o") (plain (codes "m")) ∷ memory next_line net.Wire 0 1 ∷ [])
+
+-- `reg [0:0] m [0:199999];`: with its words these are 200,001 names, beside those of the ports
+abbrev pub many_names : List Module
+many_names = top (memory here net.Reg 0 199999 ∷ [])
+
+-- `for (i = 0; 1; i = 0)` has no last turn
+abbrev pub endless_head : LoopHead
+endless_head = record {
+  variable = codes "i";
+  start = decimal 0;
+  condition = decimal 1;
+  next_variable = codes "i";
+  next = decimal 0;
+}
+
+-- `reg [127:0] m [left:right];`
+abbrev pub memory_part : ℤ → ℤ → Part
+memory_part left right = declares (record {
+  name = codes "m";
+  width = 128;
+  signed = false;
+  left = pos 127;
+  right = pos 0;
+  words = Some (left, right);
+  class = class.Variable;
+  output = false;
+})

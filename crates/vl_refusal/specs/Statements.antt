@@ -43,12 +43,12 @@ use Rattle.vl_size.specs.Divisors.{larger, selects_zero_divisor}
 use Rattle.vl_size.specs.Sign.{sign}
 use Rattle.vl_size.specs.Size.{◌>>=◌, size}
 use Rattle.vl_mean.specs.ConstantFaults.{capped}
-use Rattle.vl_mean.specs.Constants.{settled_selects}
+use Rattle.vl_mean.specs.Constants.{settled_selects, vector_of}
 use Rattle.vl_mean.specs.Scopes.{is_clock_class}
 use Rattle.vl_refusal.specs.declared.elab_fault.ElabFault.{ElabFault}
 use Rattle.vl_refusal.specs.declared.elab_fault.ElabFault.TheVariants as f
 use Rattle.vl_refusal.specs.Expressions.{refused_if, name_width, too_wide, object_selects, select_refusals}
-use Rattle.vl_refusal.specs.Expressions.{divided_by_zero}
+use Rattle.vl_refusal.specs.Expressions.{divided_by_zero, is_constant_name, vector_selects}
 use Rattle.vl_refusal.specs.Expressions.{expr_refusals, own_refusals, known}
 use Rattle.vl_refusal.specs.Meanings.{Meaning, undeclared, constant, loop_variable, object, faulty, later, Names}
 use Rattle.vl_refusal.specs.Meanings.{meaning_in, constants, objects}
@@ -74,6 +74,7 @@ module _ (ns : List Names) where
 
   abbrev pub target_selects : Pos → Meaning → Lval → List ElabFault
   target_selects p (object d input scalar) (named q text ss) = object_selects ns p scalar d ss
+  target_selects p (constant c selected) (named q text ss) = vector_selects ns selected (vector_of text c) ss
   target_selects p m l = []
 
   abbrev mutual
@@ -89,7 +90,7 @@ module _ (ns : List Names) where
     pub target_refusals : Bool → Bool → Lval → List ElabFault
     target_refusals continuous fixed (named p text ss) =
         let m = meaning_in ns text in
-        select_refusals ns fixed ss ++ divided_by_zero
+        select_refusals ns (fixed || is_constant_name ns m) ss ++ divided_by_zero
         (selects_zero_divisor (objects ns) (settled_selects (constants ns) ss))
         ++ assigned_refusals continuous p text m ++ target_selects p m (named p text ss)
         ++ too_wide p (target_width (named p text ss))

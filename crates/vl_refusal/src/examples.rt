@@ -1,10 +1,15 @@
 //! Small designs that are refused, and some that aren't: what the definitions say of them.
-ghost use Rattle.std.specs.Prelude.{◌≡◌, ◌∷◌, [], None, Some, codes};
+ghost use Rattle.fv_base.specs.declared.pos.Pos.{Pos as SpecPos};
+ghost use Rattle.std.specs.Prelude.{◌≡◌, ◌∷◌, [], ◌*◌, ℤ, None, Some, codes};
 ghost use Rattle.vl_mean.specs.Examples.{blocks, choice, counter, exchange, is_one, looped};
 ghost use Rattle.vl_mean.specs.Parts.{here};
+ghost use Rattle.vl_mean.specs.Walk.{Place};
+ghost use Rattle.vl_refusal.specs.Items.{head_refusals};
+ghost use Rattle.vl_refusal.specs.Meanings.{loop_variable};
 ghost use Rattle.vl_refusal.specs.RefusedDesigns as designs;
-ghost use Rattle.vl_refusal.specs.Refused.{refusal};
+ghost use Rattle.vl_refusal.specs.Refused.{refusal, state_bits, too_many_bits};
 ghost use Rattle.vl_refusal.specs.declared.elab_fault.ElabFault.TheVariants as fault;
+ghost use Rattle.vl_size.specs.Table.{span};
 
 /// The small designs whose meaning is shown elsewhere are designs.
 pub fn small_designs_are_accepted()
@@ -36,17 +41,19 @@ pub fn what_is_assigned_is_of_its_kind()
     ensures input { refusal designs.assigned_input (codes "top") ≡ Some (fault.Kind (codes "a") here) }
 {}
 
-/// A select before the declaration isn't refused where the declaration is; a scalar isn't selected from.
-pub fn selects_wait_for_declarations()
+/// A use before the declaration isn't refused where the declaration is; a scalar isn't selected from.
+pub fn uses_wait_for_declarations()
     ensures bound { refusal designs.bound_that_varies (codes "top") ≡ Some (fault.NotConstant here) }
     ensures scalar { refusal designs.selected_scalar (codes "top") ≡ Some (fault.Range here) }
     ensures memory { refusal designs.memory_with_a_value (codes "top") ≡ Some (fault.Range here) }
+    ensures nets { refusal designs.memory_of_nets (codes "top") ≡ Some (fault.Range designs.next_line) }
 {}
 
 /// The clock is no number, and parameters are constants of those before them.
 pub fn some_names_are_no_numbers()
     ensures clock { refusal designs.clock_that_is_read (codes "top") ≡ Some (fault.Clock here) }
     ensures parameter { refusal designs.later_parameter (codes "top") ≡ Some (fault.NotConstant here) }
+    ensures assigned { refusal designs.parameter_of_nine_bits (codes "top") ≡ Some (fault.TooWide here 201) }
 {}
 
 /// What is divided by 0, and what has more than 128 bits.
@@ -75,4 +82,28 @@ pub fn instances_fit_their_modules()
 pub fn refusals_have_an_order()
     ensures in_one { refusal designs.two_in_one (codes "top") ≡ Some (fault.Unknown (codes "x") here) }
     ensures first { refusal designs.two_items (codes "top") ≡ Some (fault.Clock here) }
+    ensures port { refusal designs.no_port_and_no_name (codes "top") ≡ Some (fault.Unknown (codes "x") here) }
+    ensures parameter { refusal designs.no_parameter_and_no_name (codes "top") ≡ Some (fault.Unknown (codes "x") here) }
+    ensures select { refusal designs.assigned_parameter (codes "top") ≡ Some (fault.Range here) }
+{}
+
+/// A design with 200,001 names.
+pub fn designs_have_few_names()
+    ensures { refusal designs.many_names (codes "top") ≡ Some (fault.TooLarge here) }
+{}
+
+/// A loop over a genvar of its own is refused where it has no last turn, and for nothing else.
+#[tactic(auto, using(crate::proofs::Limits::endless_loop))]
+pub fn loops_end()
+    ensures { (at : Place) (p : SpecPos) → head_refusals at p designs.endless_head loop_variable ≡ fault.GenLoop p ∷ [] }
+{}
+
+/// A memory that no block drives counts with all its bits, of which there are 65,536 at most.
+#[tactic(auto, using(crate::proofs::Limits::memory_bits))]
+pub fn designs_have_few_bits()
+    ensures bits { (left right : ℤ)
+        → state_bits (designs.memory_part left right ∷ []) (designs.memory_part left right ∷ [])
+        ≡ 128 * span left right }
+    ensures most { too_many_bits 65536 ≡ None }
+    ensures more { too_many_bits 65537 ≡ Some (fault.TooManyBits 65537) }
 {}
