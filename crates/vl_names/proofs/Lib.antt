@@ -1,0 +1,13 @@
+pub mod Texts
+pub mod Contained
+pub mod Genblk
+pub mod Declared
+pub mod Turns
+pub mod Plain
+pub mod Fresh
+pub mod Good
+pub mod Loops
+pub mod Items
+pub mod Scopes
+pub mod Modules
+pub mod Names

@@ -1,0 +1,135 @@
+-- The full names of a loop's turns differ.
+use Rattle.std.specs.Prelude.{◌≡◌, refl, ℕ, zero, suc, ◌+◌, ◌<◌, ◌≤◌, ◌^◌, List, []}
+use Rattle.std.specs.Prelude.{◌∷◌, ◌++◌, length, Bool, true, false}
+use Rattle.std.specs.Prelude.{if◌then◌else◌}
+use Rattle.std.proofs.Common.{sym, ◌∙◌, subst, arith, length-append}
+use Rattle.std.proofs.lemmas.List.{append_cancel_left}
+use Rattle.vl_tree.specs.declared.source.Module.{Module}
+use Rattle.vl_mean.specs.declared.const_number.Const.{Const}
+use Rattle.vl_mean.specs.Runs.{Each}
+use Rattle.vl_mean.specs.Walk.{Step, turns, turn_path}
+use Rattle.vl_same.proofs.EachOf.{front, back}
+use Rattle.vl_names.proofs.Contained.{clash}
+use Rattle.vl_names.proofs.Declared.{full_names}
+use Rattle.vl_names.proofs.Fresh.{IsFine}
+use Rattle.vl_names.proofs.Good.{Good, good-none, good-map, good-both, Under, Any, inside-turn}
+use Rattle.vl_names.proofs.Genblk.{is_mark}
+use Rattle.vl_names.proofs.Plain.{Plain}
+use Rattle.vl_names.proofs.Texts.{until-mark}
+use Rattle.vl_names.proofs.Turns.{EndsIn, ends-once, IsTurn, index, same_turn}
+
+abbrev pub AreFine : List Module → List Step → Type 0
+AreFine ms xs = Each (IsFine ms) xs
+
+-- so few steps that numbers of constructs are printed whole
+abbrev pub AreFew : ℕ → List Step → Type 0
+AreFew n xs = n + length xs < 2 ^ 64
+
+pub few-front : (n : ℕ) (xs ys : List Step) → AreFew n (xs ++ ys) → AreFew n xs
+few-front n xs ys h = let e : length (xs ++ ys) ≡ length xs + length ys = length-append xs ys in omega arith
+
+pub few-back : (n : ℕ) (xs ys : List Step) → AreFew n (xs ++ ys) → AreFew n ys
+few-back n xs ys h = let e : length (xs ++ ys) ≡ length xs + length ys = length-append xs ys in omega arith
+
+pub few-start : (n : ℕ) (xs : List Step) → AreFew n xs → n < 2 ^ 64
+few-start n xs h = omega arith
+
+-- behind a step
+pub few-tail : (n : ℕ) (xs : List Step) → n + suc (length xs) < 2 ^ 64 → AreFew n xs
+few-tail n xs h = omega arith
+
+pub few-one : (n : ℕ) (xs : List Step) → 0 < n → AreFew n xs → AreFew 1 xs
+few-one n xs z h = omega arith
+
+pub few-next : (n : ℕ) (xs : List Step) → 0 < n → n + suc (length xs) < 2 ^ 64 → AreFew 1 xs
+few-next n xs z h = omega arith
+
+pub few-rest : (n c : ℕ) (xs ys : List Step) → c ≤ length xs → AreFew n (xs ++ ys) → AreFew (n + c) ys
+few-rest n c xs ys k h = let e : length (xs ++ ys) ≡ length xs + length ys = length-append xs ys in omega arith
+
+pub none-or-more : (xs : List Step) → 0 ≤ length xs
+none-or-more xs = omega arith
+
+pub one-or-more : (xs : List Step) → 1 ≤ suc (length xs)
+one-or-more xs = omega arith
+
+pub positive-sum : (n c : ℕ) → 0 < n → 0 < n + c
+positive-sum n c z = omega arith
+
+pub positive-one : 0 < 1
+positive-one = omega arith
+
+module _ (ms : List Module) (goes : Const → Bool) (next : Const → Const) (path label : List ℕ)
+    (body : Const → List Step) where
+  -- of a turn from which so many follow
+  pub record IsOf (c : Const) (n : List ℕ) : Type 0 where
+    pub turn : IsTurn c
+    pub under : Under (turn_path path label c) Any n
+
+  -- of one of the last turns
+  pub record IsLater (k : ℕ) (n : List ℕ) : Type 0 where
+    pub value : Const
+    pub count : ℕ
+    pub ends : EndsIn goes next count value
+    pub late : count ≤ k
+    pub of : IsOf value n
+
+  same-value : (c d : Const) (n : List ℕ) → IsOf c n → IsOf d n → c ≡ d
+  same-value c d n h k =
+      let e : path ++ (label ++ 91 ∷ (index c ++ 93 ∷ 46 ∷ h.under.rest))
+      ≡ path ++ (label ++ 91 ∷ (index d ++ 93 ∷ 46 ∷ k.under.rest))
+      = sym (inside-turn path label (index c) h.under.rest) ∙ sym h.under.is ∙ k.under.is
+      ∙ inside-turn path label (index d) k.under.rest in
+      let g : 91 ∷ (index c ++ 93 ∷ 46 ∷ h.under.rest) ≡ 91 ∷ (index d ++ 93 ∷ 46 ∷ k.under.rest)
+      = append_cancel_left label _ _ (append_cancel_left path _ _ e) in
+      same_turn c d (46 ∷ h.under.rest) (46 ∷ k.under.rest) h.turn k.turn (append_cancel_left (91 ∷ []) _ _ g)
+
+  apart : (c : Const) (k : ℕ) → EndsIn goes next (suc k) c → (n : List ℕ) → IsOf c n → IsLater k n → ⊥
+  apart c k e n h l =
+      let same : c ≡ l.value = same-value c l.value n h l.of in
+      let f : EndsIn goes next (suc k) l.value = subst (EndsIn goes next (suc k)) same e in
+      let g : suc k ≡ l.count = ends-once goes next (suc k) l.count l.value f l.ends in
+      let late : l.count ≤ k = l.late in absurd (omega arith)
+
+  good-if : (b : Bool) (P : List ℕ → Type 0) (xs : List Step)
+      → (AreFine ms xs → AreFew 1 xs → Good P (full_names xs))
+      → AreFine ms (if b then xs else []) → AreFew 1 (if b then xs else [])
+      → Good P (full_names (if b then xs else []))
+  good-if true P xs f h l = f h l
+  good-if false P xs f h l = good-none P
+
+  pub good-turns : (n : ℕ) (c : Const) (k : ℕ) → IsTurn c → ((d : Const) → IsTurn (next d))
+      → EndsIn goes next k c
+      → ((d : Const) → AreFine ms (body d) → AreFew 1 (body d)
+      → Good (Under (turn_path path label d) Any) (full_names (body d)))
+      → AreFine ms (turns n goes next body c) → AreFew 1 (turns n goes next body c)
+      → Good (IsLater k) (full_names (turns n goes next body c))
+  good-turns zero c k t u e f h l = good-none (IsLater k)
+  good-turns (suc n) c zero t u e f h l = by (goes c) e h l
+    where
+      by : (b : Bool) → b ≡ false
+          → AreFine ms (if b then body c ++ turns n goes next body (next c) else [])
+          → AreFew 1 (if b then body c ++ turns n goes next body (next c) else [])
+          → Good (IsLater zero) (full_names (if b then body c ++ turns n goes next body (next c) else []))
+      by true e h l = absurd (clash refl e)
+      by false e h l = good-none (IsLater zero)
+  good-turns (suc n) c (suc k) t u e f h l =
+      let xs : List Step = body c in let ys : List Step = turns n goes next body (next c) in
+      good-if (goes c) (IsLater (suc k)) (xs ++ ys)
+      (λ h l. good-both (IsOf c) (IsLater k) (IsLater (suc k)) xs ys (apart c k e)
+      (λ m p. record { value = c; count = suc k; ends = e; late = omega arith; of = p })
+      (λ m p. let late : p.count ≤ k = p.late in
+      record { value = p.value; count = p.count; ends = p.ends; late = omega arith; of = p.of })
+      (good-map (λ m p. record { turn = t; under = p }) (full_names xs)
+      (f c (front (IsFine ms) xs ys h) (few-front 1 xs ys l)))
+      (good-turns n (next c) k (u c) u e.1 f (back (IsFine ms) xs ys h) (few-back 1 xs ys l))) h l
+
+-- of the scope around the loop
+pub later-under : (ms : List Module) (goes : Const → Bool) (next : Const → Const) (path label : List ℕ)
+    (body : Const → List Step) (H : List ℕ → Type 0) (k : ℕ) → Plain label → H label
+    → (n : List ℕ) → IsLater ms goes next path label body k n → Under path H n
+later-under ms goes next path label body H k plain h n l = record {
+  rest = label ++ 91 ∷ (index l.value ++ 93 ∷ 46 ∷ l.of.under.rest);
+  is = l.of.under.is ∙ inside-turn path label (index l.value) l.of.under.rest;
+  head = subst H (sym (until-mark is_mark label 91 (index l.value ++ 93 ∷ 46 ∷ l.of.under.rest) plain refl)) h;
+}

@@ -1,0 +1,133 @@
+-- The full names of a design that isn't refused differ.
+use Rattle.std.specs.Prelude.{◌≡◌, refl, ℕ, ◌+◌, ◌≤◌, nat_lt, List, [], ◌∷◌, length}
+use Rattle.std.specs.Prelude.{Bool, true, false, Option, Some, None, is_none, All, if◌then◌else◌}
+use Rattle.std.proofs.Common.{ap, sym, true≢false, subst, arith}
+use Rattle.std.proofs.lemmas.Bool.Decides.{nat_tests}
+use Rattle.vl_tree.specs.declared.source.Module.{Module}
+use Rattle.vl_tree.specs.Item.{
+  Item,
+  declaration,
+  integer,
+  genvar,
+  parameter,
+  assign,
+  always,
+  initial,
+  instance,
+  generate,
+  for_loop,
+  if_only,
+  if_else,
+}
+use Rattle.vl_tree.specs.WellFormed.{IsModule}
+use Rattle.vl_size.specs.Table.{AreDifferent}
+use Rattle.vl_mean.specs.Parts.{design}
+use Rattle.vl_mean.specs.Walk.{Place, Use, Step, header, port, item, override, connection, module_named, top_input}
+use Rattle.vl_mean.specs.Walk.{unfolded}
+use Rattle.vl_mean.specs.Walk.{first_turn}
+use Rattle.vl_mean.specs.Walk.{walk}
+use Rattle.vl_refusal.specs.declared.elab_fault.ElabFault.{ElabFault}
+use Rattle.vl_refusal.specs.declared.elab_fault.ElabFault.TheVariants as f
+use Rattle.vl_refusal.specs.Counts.{item_nodes, step_nodes, turn_nodes}
+use Rattle.vl_mean.specs.FlatLaw.{nodes}
+use Rattle.vl_refusal.specs.Items.{step_refusals}
+use Rattle.vl_refusal.specs.Refused.{Totals, counted, first_refused, is_too_large, lowest, modules_twice}
+use Rattle.vl_refusal.specs.Refused.{or_later, refusal, refusals_at, refused_walk}
+use Rattle.vl_same.specs.Flattened.{decls_of}
+use Rattle.vl_names.proofs.Contained.{Different, or_first}
+use Rattle.vl_names.proofs.Declared.{full_names, full-parts, different-decls}
+use Rattle.vl_names.proofs.Fresh.{NoneOf, none-front, none-back, not-refused}
+use Rattle.vl_names.proofs.Good.{Good, Under, Any}
+use Rattle.vl_names.proofs.Items.{good-module}
+use Rattle.vl_names.proofs.Loops.{AreFine, AreFew}
+use Rattle.vl_names.proofs.Modules.{good-unfolded}
+
+-- ---- no step is refused
+
+later-first : (g h : Option ElabFault) → or_later g h ≡ None → g ≡ None
+later-first None h e = refl
+later-first (Some g) h e = e
+
+later-second : (g h : Option ElabFault) → or_later g h ≡ None → h ≡ None
+later-second None h e = e
+later-second (Some g) h e = absurd (true≢false (sym (ap is_none e)))
+
+lowest-none : (gs : List ElabFault) → lowest gs ≡ None → NoneOf gs
+lowest-none [] e = refl
+lowest-none (g ∷ gs) e = absurd (true≢false (sym (ap is_none e)))
+
+counted-once : (n : ℕ) → 1 ≤ n + 1
+counted-once n = omega arith
+
+item-counts : (at : Place) (x : Item) → 1 ≤ item_nodes at x
+item-counts at (declaration attrs p d) = omega arith
+item-counts at (integer attrs p xs) = omega arith
+item-counts at (genvar attrs p xs) = omega arith
+item-counts at (parameter attrs p kind xs) = omega arith
+item-counts at (assign attrs p xs) = omega arith
+item-counts at (always attrs p event s) = omega arith
+item-counts at (initial attrs p s) = omega arith
+item-counts at (instance attrs p x) = omega arith
+item-counts at (generate attrs p mark) = omega arith
+item-counts at (for_loop attrs p head b) =
+    counted-once (nodes head.start + turn_nodes 4096 head at (first_turn head at.scopes))
+item-counts at (if_only attrs p c b) = omega arith
+item-counts at (if_else attrs p c b d) = omega arith
+
+step-counts : (x : Step) → 1 ≤ step_nodes x
+step-counts (header at x) = omega arith
+step-counts (port at u p q) = omega arith
+step-counts (item at x) = item-counts at x
+step-counts (override at m u given x) = omega arith
+step-counts (connection at m u inside given x) = omega arith
+
+pub record IsCounted (ms : List Module) (t : Totals) (xs : List Step) : Type 0 where
+  pub fine : AreFine ms xs
+  pub few : t.nodes + length xs ≤ 4000000
+
+not-large : (n : ℕ) → nat_lt 4000000 n ≡ false → n ≤ 4000000
+not-large n h = grind (arith, nat_tests)
+
+none-refused : (ms : List Module) (t : Totals) (xs : List Step) → t.nodes ≤ 4000000
+    → first_refused ms t xs ≡ None
+    → IsCounted ms t xs
+none-refused ms t [] f e = record { fine = tt; few = omega arith }
+none-refused ms t (x ∷ xs) f e =
+    let first : NoneOf (refusals_at ms t x)
+    = lowest-none (refusals_at ms t x) (later-first (lowest (refusals_at ms t x))
+    (first_refused ms (counted t x) xs) e) in
+    let small : is_too_large (counted t x) ≡ false
+    = not-refused (is_too_large (counted t x)) _ (none-back (step_refusals ms x) _ first) in
+    let few : t.nodes + step_nodes x ≤ 4000000 = not-large (t.nodes + step_nodes x) (or_first _ _ small) in
+    let rest : IsCounted ms (counted t x) xs = none-refused ms (counted t x) xs few
+    (later-second (lowest (refusals_at ms t x)) (first_refused ms (counted t x) xs) e) in
+    let more : t.nodes + step_nodes x + length xs ≤ 4000000 = rest.few in
+    let one : 1 ≤ step_nodes x = step-counts x in
+    record { fine = (none-front (step_refusals ms x) _ first, rest.fine); few = omega arith }
+
+walk-counted : (ms : List Module) (top : List ℕ) → refusal ms top ≡ None
+    → IsCounted ms (record { nodes = 0; names = 0 }) (walk ms top)
+walk-counted ms top e = by (is_none (module_named ms top)) e
+  where
+    by : (b : Bool) → (if b then Some (f.NoModule top) else refused_walk ms top) ≡ None
+        → IsCounted ms (record { nodes = 0; names = 0 }) (walk ms top)
+    by true e = absurd (true≢false (sym (ap is_none e)))
+    by false e =
+        none-refused ms (record { nodes = 0; names = 0 }) (walk ms top) (omega arith)
+        (later-first _ _ (later-second (modules_twice [] ms) _ e))
+
+few-of : (xs : List Step) → 0 + length xs ≤ 4000000 → AreFew 1 xs
+few-of xs h = omega arith
+
+-- ---- the design
+
+pub names_differ : (ms : List Module) (top : List ℕ) → All IsModule ms → refusal ms top ≡ None
+    → AreDifferent (decls_of (design ms top))
+names_differ ms top formed e =
+    let counted : IsCounted ms (record { nodes = 0; names = 0 }) (walk ms top) = walk-counted ms top e in
+    let u : Use = record { is_top = true; overrides = []; input = top_input } in
+    let good : Good (Under [] Any) (full_names (walk ms top))
+    = good-module ms (Under [] Any) top (λ m. unfolded (length ms) ms m u [] [] []) formed
+    (λ m w h l. good-unfolded ms formed (length ms) m u [] [] [] w refl h l) counted.fine
+    (few-of (walk ms top) counted.few) in
+    different-decls (design ms top) (subst Different (sym (full-parts (walk ms top))) good.different)
