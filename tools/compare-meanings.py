@@ -8,6 +8,7 @@ Usage: tools/compare-meanings.py constants [COUNT [SEED]]
 in its folder) for their values: each has to be that of Icarus, and a division by 0 that is refused has to be unknown there.
 `statements` makes COUNT (1000) blocks over vectors and memories, writes for each a law on the definition of what a statement
 does, with the numbers that Icarus has at the end, and lets `rt check` prove them in FOLDER, a throw-away clone of this repository.
+Blocks that evaluate an unknown bit are left out, since the definitions have none, and those with a target that names something twice.
 Wants `iverilog`.
 """
 import os
@@ -219,16 +220,41 @@ def target_text(l):
     return verilog(l)
 
 
-def stmt_text(s):
+def indices(l):
+    """Returns the indices of a target that are evaluated as it is assigned."""
+    if l[0] == "joined":
+        return [e for x in l[1] for e in indices(x)]
+    return [s[1] for s in l[2] if s[0] != "part"]
+
+
+def overlaps(s):
+    """Whether a target names something twice: which of its parts is assigned last isn't said by the standard."""
     if s[0] == "assign":
-        return f"{target_text(s[1])} {'=' if s[2] else '<='} {verilog(s[3])};"
+        names = [x[1] for x in s[1][1]] if s[1][0] == "joined" else []
+        return len(set(names)) < len(names)
+    if s[0] == "if":
+        return any(overlaps(x) for x in s[2:] if x)
+    if s[0] == "case":
+        return any(overlaps(x) for _, x in s[2]) or bool(s[3]) and overlaps(s[3])
+    return any(overlaps(x) for x in s[1])
+
+
+def known(es):
+    """Returns a statement that sets `unknown` where one of the expressions has an unknown bit."""
+    return " ".join(f"if ((^({verilog(e)})) === 1'bx) unknown = 1;" for e in es)
+
+
+def stmt_text(s):
+    """Returns the text of a statement, with what tells that a bit of what it evaluates is unknown."""
+    if s[0] == "assign":
+        return f"begin {known([s[3]] + indices(s[1]))} {target_text(s[1])} {'=' if s[2] else '<='} {verilog(s[3])}; end"
     if s[0] == "if":
         tail = f" else {stmt_text(s[3])}" if s[3] else ""
-        return f"if ({verilog(s[1])}) begin {stmt_text(s[2])} end{tail}"
+        return f"begin {known([s[1]])} if ({verilog(s[1])}) begin {stmt_text(s[2])} end{tail} end"
     if s[0] == "case":
         arms = " ".join(f"{', '.join(verilog(e) for e in es)}: {stmt_text(x)}" for es, x in s[2])
         default = f" default: {stmt_text(s[3])}" if s[3] else ""
-        return f"case ({verilog(s[1])}) {arms}{default} endcase"
+        return f"begin {known([s[1]])} case ({verilog(s[1])}) {arms}{default} endcase end"
     return "begin " + " ".join(stmt_text(x) for x in s[1]) + " end"
 
 
@@ -355,8 +381,9 @@ def statements(folder, count, seed):
         begun = " ".join(f"{name} = {value};" for (name, _), value in zip(cells, first))
         shown = " ".join(f"$write(\"%b \", {name});" for name, _ in cells)
         last = " ".join(run_icarus(
-            f"module m; {declared} initial begin {begun} {stmt_text(block)} end initial begin #1; {shown} $display(\"\"); end endmodule\n")).split()
-        if not last or any("x" in bits for bits in last):
+            f"module m; {declared} reg unknown; initial begin unknown = 0; {begun} {stmt_text(block)} end "
+            f"initial begin #1; {shown} $display(\"%b\", unknown); end endmodule\n")).split()
+        if not last or last.pop() == "1" or any("x" in bits for bits in last) or overlaps(block):
             skipped += 1
             continue
         laws.append(law(len(laws), decls, cells, first, block, last))
