@@ -8,11 +8,12 @@ use Rattle.std.proofs.lemmas.List.{reverse-append}
 use Rattle.std.proofs.lemmas.Option.{get_or_from_slice_get}
 use Rattle.lrat_check.specs.declared.reading.Reading.TheVariants as read
 use Rattle.lrat_check.specs.Sets.{has, is_false, without, union, reading, IsLit, AreLits}
-use Rattle.sat_search.specs.declared.trail.Entry.{Entry}
-use Rattle.sat_search.specs.Trail.{Entries, lits, is_decision, below, Because}
+use Rattle.sat_trail.specs.declared.trail.Entry.{Entry}
+use Rattle.sat_trail.specs.Trail.{Entries, lits, is_decision, below, Because}
 use Rattle.sat_search.specs.Propagation.{AllLits}
-use Rattle.sat_search.specs.Analysis.{AllFalse, Within, Derives, Level, is_unit}
-use Rattle.sat_search.proofs.Members.{has_head, has_tail}
+use Rattle.sat_trail.specs.Clauses.{AllFalse, Within}
+use Rattle.sat_search.specs.Analysis.{Derives, Level, is_unit}
+use Rattle.sat_trail.proofs.Members.{has_head, has_tail}
 use Rattle.sat_search.proofs.Tracing.{resolves}
 use Rattle.sat_search.proofs.Levels.{level_resolves, not_decision}
 

@@ -9,46 +9,14 @@ use Rattle.lrat_check.specs.declared.reading.Reading.{Reading}
 use Rattle.lrat_check.specs.declared.reading.Reading.TheVariants as read
 use Rattle.lrat_check.specs.Sets.{has, is_false, first_open, other_open, reading_of, reading}
 use Rattle.lrat_check.specs.Resolved.{is_open}
-use Rattle.sat_search.specs.Trail.{Entries, lits, decides, is_decision, decided, below_at, below, settled, Because}
-use Rattle.sat_search.specs.Trail.{Stand}
-use Rattle.sat_search.specs.Analysis.{NoneTrue, Within, is_unit}
-use Rattle.sat_search.proofs.Members.{same_is, or_cases, has_tail, any_from, any_none}
-use Rattle.sat_search.proofs.Readings.{Two, unit_to, false_to, open_to}
+use Rattle.sat_trail.specs.Trail.{Entries, lits, decides, is_decision, decided, below_at, below, settled, Because}
+use Rattle.sat_trail.specs.Trail.{Stand}
+use Rattle.sat_trail.specs.Clauses.{NoneTrue, Within}
+use Rattle.sat_search.specs.Analysis.{is_unit}
+use Rattle.sat_trail.proofs.Members.{same_is, or_cases, has_tail, any_from, any_none}
+use Rattle.sat_trail.proofs.Readings.{Two, unit_to, false_to, open_to, open_from}
 use Rattle.sat_search.proofs.Levels.{below_within}
 use Rattle.sat_search.proofs.News.{unit_is, true_has}
-
-some_none : (l : ℤ) → Some l ≡ None → ⊥
-some_none l e = cc
-
-some_open : (set c : List ℤ) (x : ℤ) → has c x ≡ true → is_false set x ≡ false → first_open set c ≡ None → ⊥
-some_open set [] x h f e = false≢true h
-some_open set (l ∷ ls) x h f e = elim (cases_Bool (is_false set l)) [
-  | inr k ↦ some_none l (sym (cond-false (is_false set l) (first_open set ls) (Some l) k) ∙ e)
-  | inl k ↦ elim (or_cases (int_eq x l) (has ls x) h) [
-    | inl s ↦ false≢true (sym f ∙ ap (is_false set) (same_is x l s) ∙ k)
-    | inr s ↦ some_open set ls x s f (sym (cond-true (is_false set l) (first_open set ls) (Some l) k) ∙ e)
-  ]
-]
-
-another : (set c : List ℤ) → Two set c → (l : ℤ) → other_open set l c ≡ true
-another set c t l = elim (cases_Bool (int_eq l t.one)) [
-  | inl s ↦ any_from (λ m. not (is_false set m) && not (int_eq l m)) c t.two t.has_two
-      (and_from (not (is_false set t.two)) (not (int_eq l t.two)) (not_from_false (is_false set t.two) t.two_unfalse)
-      (not_from_false (int_eq l t.two) (ap (λ z. int_eq z t.two) (same_is l t.one s) ∙ t.differ)))
-  | inr s ↦ any_from (λ m. not (is_false set m) && not (int_eq l m)) c t.one t.has_one
-      (and_from (not (is_false set t.one)) (not (int_eq l t.one)) (not_from_false (is_false set t.one) t.one_unfalse)
-      (not_from_false (int_eq l t.one) s))
-]
-
-open_first : (set c : List ℤ) (t : Two set c) (o : Option ℤ) → first_open set c ≡ o
-    → reading_of o (λ l. other_open set l c) ≡ read.Open
-open_first set c t None e = absurd (some_open set c t.one t.has_one t.one_unfalse e)
-open_first set c t (Some l) e = ap (λ b. cond b read.Open (read.Unit l)) (another set c t l)
-
-pub open_from : (set c : List ℤ) → Two set c → NoneTrue set c → reading set c ≡ read.Open
-open_from set c t n =
-    ap (λ b. cond b read.True (reading_of (first_open set c) (λ l. other_open set l c))) (any_none (has set) c n)
-    ∙ open_first set c t (first_open set c) refl
 
 -- a smaller set leaves at least as much open
 two_less : (a b c : List ℤ) → Within a b → Two b c → Two a c

@@ -7,12 +7,13 @@ use Rattle.std.proofs.lemmas.Bool.{false≢true, cases_Bool}
 use Rattle.lrat_check.specs.declared.reading.Reading.TheVariants as read
 use Rattle.lrat_check.specs.Sets.{has, is_false, without, union, reading}
 use Rattle.lrat_check.specs.Resolved.{is_open}
-use Rattle.sat_search.specs.declared.trail.Entry.{Entry}
-use Rattle.sat_search.specs.Trail.{Entries, lits, decides, is_decision, decided, below_at, below, settled, Because}
-use Rattle.sat_search.specs.Trail.{Stand}
-use Rattle.sat_search.specs.Analysis.{AllFalse, Within, Derives, Level, is_unit}
-use Rattle.sat_search.proofs.Members.{same_is, neg_neg, has_tail, union_right, without_from}
-use Rattle.sat_search.proofs.Readings.{unit_from, false_to, false_from}
+use Rattle.sat_trail.specs.declared.trail.Entry.{Entry}
+use Rattle.sat_trail.specs.Trail.{Entries, lits, decides, is_decision, decided, below_at, below, settled, Because}
+use Rattle.sat_trail.specs.Trail.{Stand}
+use Rattle.sat_trail.specs.Clauses.{AllFalse, Within}
+use Rattle.sat_search.specs.Analysis.{Derives, Level, is_unit}
+use Rattle.sat_trail.proofs.Members.{same_is, neg_neg, has_tail, union_right, without_from}
+use Rattle.sat_trail.proofs.Readings.{unit_from, false_to, false_from}
 use Rattle.sat_search.proofs.Tracing.{none_true, skips, off_newest}
 
 false_from_ne_true : (b : Bool) → (b ≡ true → ⊥) → b ≡ false

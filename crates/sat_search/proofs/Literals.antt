@@ -7,7 +7,7 @@ use Rattle.std.proofs.lemmas.Bool.{false≢true}
 use Rattle.cnf_form.specs.Cnf.{IsLiteral, AreLiterals, AreClauses}
 use Rattle.lrat_check.specs.Sets.{has, IsLit, AreLits}
 use Rattle.sat_search.specs.Propagation.{AllLits}
-use Rattle.sat_search.proofs.Members.{same_is, or_cases, has_head, has_tail}
+use Rattle.sat_trail.proofs.Members.{same_is, or_cases, has_head, has_tail}
 
 pub literal_at : (vars : ℕ) (c : List ℤ) (x : ℤ) → AreLiterals vars c → has c x ≡ true → IsLiteral vars x
 literal_at vars [] x k h = absurd (false≢true h)

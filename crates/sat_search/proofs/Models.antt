@@ -11,9 +11,9 @@ use Rattle.lrat_check.specs.declared.reading.Reading.{Reading}
 use Rattle.lrat_check.specs.declared.reading.Reading.TheVariants as read
 use Rattle.lrat_check.specs.Sets.{has, is_false, reading}
 use Rattle.lrat_check.specs.Resolved.{is_open}
-use Rattle.sat_search.specs.Trail.{Entries, lits, settled, Stand, AllAssigned, values_of}
-use Rattle.sat_search.proofs.Members.{any_from}
-use Rattle.sat_search.proofs.Readings.{open_to}
+use Rattle.sat_trail.specs.Trail.{Entries, lits, settled, Stand, AllAssigned, values_of}
+use Rattle.sat_trail.proofs.Members.{any_from}
+use Rattle.sat_trail.proofs.Readings.{open_to}
 use Rattle.sat_search.proofs.Tracing.{no_pair}
 use Rattle.sat_search.proofs.News.{true_has}
 use Rattle.sat_search.proofs.Literals.{literal_at, by_variable, neg_next}

@@ -12,11 +12,12 @@ use Rattle.lrat_check.specs.Sets.{has, is_false, within, same_set, without, negs
 use Rattle.lrat_check.specs.Sets.{reading}
 use Rattle.lrat_check.specs.Steps.{Held, numbered}
 use Rattle.lrat_check.specs.Resolved.{IsResolvent, is_open, Closed, Strengthens}
-use Rattle.sat_search.specs.Trail.{Entries, lits, decided, below, settled}
-use Rattle.sat_search.specs.Analysis.{AllFalse, Within, Derives, is_unit}
-use Rattle.sat_search.proofs.Members.{same_is, same_self, neg_neg, or_left, or_right, or_cases, has_head, has_tail}
-use Rattle.sat_search.proofs.Members.{any_has, without_has, without_from}
-use Rattle.sat_search.proofs.Readings.{unit_to, open_to}
+use Rattle.sat_trail.specs.Trail.{Entries, lits, decided, below, settled}
+use Rattle.sat_trail.specs.Clauses.{AllFalse, Within}
+use Rattle.sat_search.specs.Analysis.{Derives, is_unit}
+use Rattle.sat_trail.proofs.Members.{same_is, same_self, neg_neg, or_left, or_right, or_cases, has_head, has_tail}
+use Rattle.sat_trail.proofs.Members.{any_has, without_has, without_from}
+use Rattle.sat_trail.proofs.Readings.{unit_to, open_to}
 use Rattle.sat_search.proofs.Tracing.{no_pair}
 use Rattle.sat_search.proofs.Levels.{below_within, settled_at, settled_below}
 

@@ -4,10 +4,10 @@ use Rattle.std.proofs.Common.{neg_ℤ, refl, ap, sym, subst, ◌∙◌, inl, inr
 use Rattle.std.proofs.lemmas.Bool.{false≢true, cases_eq, or_from}
 use Rattle.cnf_form.specs.Cnf.{IsLiteral}
 use Rattle.lrat_check.specs.Sets.{has, is_false}
-use Rattle.sat_search.specs.declared.trail.Entry.{Entry}
-use Rattle.sat_search.specs.Trail.{Entries, lits, is_assigned}
+use Rattle.sat_trail.specs.declared.trail.Entry.{Entry}
+use Rattle.sat_trail.specs.Trail.{Entries, lits, is_assigned}
 use Rattle.sat_search.specs.Searching.{open_vars, rounds}
-use Rattle.sat_search.proofs.Members.{or_left, or_right, or_cases, has_head, has_tail}
+use Rattle.sat_trail.proofs.Members.{or_left, or_right, or_cases, has_head, has_tail}
 use Rattle.sat_search.proofs.Literals.{by_variable, neg_next}
 
 assigned_more : (set : List ℤ) (l : ℤ) (v : ℕ) → is_assigned set v ≡ true → is_assigned (l ∷ set) v ≡ true

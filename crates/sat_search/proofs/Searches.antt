@@ -21,13 +21,14 @@ use Rattle.lrat_check.specs.Resolved.{resolvent, IsResolvent, Strengthens, AllRe
 use Rattle.lrat_check.specs.Resolved.{derived, consistent}
 use Rattle.lrat_check.proofs.Stores.{numbered_more}
 use Rattle.lrat_check.proofs.Sound.{verdict_adds, verdict_empty}
-use Rattle.sat_search.specs.declared.trail.Entry.{Entry}
-use Rattle.sat_search.specs.Trail.{Entries, lits, below, Stands, Stand}
-use Rattle.sat_search.specs.Analysis.{AllFalse, Within, Derives, Level, is_unit}
+use Rattle.sat_trail.specs.declared.trail.Entry.{Entry}
+use Rattle.sat_trail.specs.Trail.{Entries, lits, below, Stands, Stand}
+use Rattle.sat_trail.specs.Clauses.{AllFalse, Within}
+use Rattle.sat_search.specs.Analysis.{Derives, Level, is_unit}
 use Rattle.sat_search.specs.Learning.{Learns}
 use Rattle.sat_search.specs.Found.{nonempty, AreAdded}
 use Rattle.sat_search.specs.Searching.{Searching}
-use Rattle.sat_search.proofs.Readings.{unit_to}
+use Rattle.sat_trail.proofs.Readings.{unit_to}
 use Rattle.sat_search.proofs.Tracing.{no_pair}
 use Rattle.sat_search.proofs.News.{all_from, unit_is, is_resolvent, strengthens, is_new}
 use Rattle.sat_search.proofs.Literals.{literal_at, literals_from, neg_literal, clauses_more, clauses_behind}

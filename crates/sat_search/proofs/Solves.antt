@@ -8,14 +8,14 @@ use Rattle.std.proofs.lemmas.Int.{to_z-of_z, fits_signed_from_abs}
 use Rattle.cnf_form.specs.Cnf.{IsLiteral}
 use Rattle.lrat_check.specs.declared.step.Step.{Step}
 use Rattle.lrat_check.specs.Sets.{has, is_false, IsLit}
-use Rattle.sat_search.specs.declared.trail.Entry.{Entry}
+use Rattle.sat_trail.specs.declared.trail.Entry.{Entry}
 use Rattle.sat_search.specs.declared.propagation.Scan.TheVariants as scan
-use Rattle.sat_search.specs.Trail.{Entries, lits, Stand, IsOpenVar, IsOpenLit}
+use Rattle.sat_trail.specs.Trail.{Entries, lits, Stand, IsOpenVar, IsOpenLit}
 use Rattle.sat_search.specs.Propagation.{AllLits, Sees}
 use Rattle.sat_search.specs.Analysis.{IsConflict}
 use Rattle.sat_search.specs.Searching.{Searching, rounds}
-use Rattle.sat_search.proofs.Members.{neg_neg}
-use Rattle.sat_search.proofs.Readings.{Alone, unit_to}
+use Rattle.sat_trail.proofs.Members.{neg_neg}
+use Rattle.sat_trail.proofs.Readings.{Alone, unit_to}
 use Rattle.sat_search.proofs.Backs.{lits_at}
 use Rattle.sat_search.proofs.Literals.{literal_at, neg_literal, lit_of, all_lits, clause_at}
 use Rattle.sat_search.proofs.Searches.{pushed_on}

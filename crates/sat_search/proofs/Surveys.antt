@@ -4,7 +4,7 @@ use Rattle.std.proofs.Common.{length, refl, arith}
 use Rattle.std.proofs.lemmas.Bool.Decides.{nat_tests}
 use Rattle.lrat_check.specs.Sets.{reading}
 use Rattle.lrat_check.specs.Resolved.{is_open}
-use Rattle.sat_search.specs.Trail.{settled}
+use Rattle.sat_trail.specs.Trail.{settled}
 use Rattle.sat_search.specs.Propagation.{Sees, SeesFrom, SettledFrom}
 use Rattle.sat_search.specs.declared.propagation.Scan.{Scan}
 use Rattle.sat_search.specs.declared.propagation.Scan.TheVariants as scan

@@ -10,12 +10,13 @@ use Rattle.lrat_check.specs.declared.reading.Reading.TheVariants as read
 use Rattle.lrat_check.specs.Sets.{has, is_false, without, union, reading, IsLit, AreLits}
 use Rattle.lrat_check.specs.Steps.{Held, numbered, is_negative}
 use Rattle.lrat_check.specs.Resolved.{resolvent}
-use Rattle.sat_search.specs.declared.trail.Entry.{Entry}
-use Rattle.sat_search.specs.Trail.{Entries, lits, Stand}
-use Rattle.sat_search.specs.Analysis.{NoneTrue, AllFalse, Within, Derives}
-use Rattle.sat_search.proofs.Members.{same_is, same_self, neg_neg, or_left, or_right, or_cases, or_both, has_tail}
-use Rattle.sat_search.proofs.Members.{has_append, without_has, without_from, union_has, union_left, union_right}
-use Rattle.sat_search.proofs.Readings.{unit_to, unit_from, false_to, false_from}
+use Rattle.sat_trail.specs.declared.trail.Entry.{Entry}
+use Rattle.sat_trail.specs.Trail.{Entries, lits, Stand}
+use Rattle.sat_trail.specs.Clauses.{NoneTrue, AllFalse, Within}
+use Rattle.sat_search.specs.Analysis.{Derives}
+use Rattle.sat_trail.proofs.Members.{same_is, same_self, neg_neg, or_left, or_right, or_cases, or_both, has_tail}
+use Rattle.sat_trail.proofs.Members.{has_append, without_has, without_from, union_has, union_left, union_right}
+use Rattle.sat_trail.proofs.Readings.{unit_to, unit_from, false_to, false_from}
 
 false_from_ne_true : (b : Bool) → (b ≡ true → ⊥) → b ≡ false
 false_from_ne_true true h = absurd (h refl)

@@ -3,22 +3,11 @@ use Rattle.std.specs.Prelude.{ℕ, ◌≡◌, Bool, true, false, List, ℤ, slic
 use Rattle.std.specs.List.{list_any}
 use Rattle.lrat_check.specs.declared.reading.Reading.{Reading}
 use Rattle.lrat_check.specs.declared.reading.Reading.TheVariants as read
-use Rattle.lrat_check.specs.Sets.{has, is_false, reading, AreLits}
+use Rattle.lrat_check.specs.Sets.{reading, AreLits}
 use Rattle.lrat_check.specs.Steps.{numbered, is_negative}
 use Rattle.lrat_check.specs.Resolved.{resolvent}
-use Rattle.sat_search.specs.Trail.{Entries, lits, below, decided, Stand}
-
--- no literal of the clause is true
-abbrev pub NoneTrue : List ℤ → List ℤ → Type 0
-NoneTrue set clause = (x : ℤ) → has clause x ≡ true → has set x ≡ false
-
--- each literal of the clause is false
-abbrev pub AllFalse : List ℤ → List ℤ → Type 0
-AllFalse set clause = (x : ℤ) → has clause x ≡ true → is_false set x ≡ true
-
--- each literal of a is in b
-abbrev pub Within : List ℤ → List ℤ → Type 0
-Within a b = (x : ℤ) → has a x ≡ true → has b x ≡ true
+use Rattle.sat_trail.specs.Clauses.{AllFalse, Within}
+use Rattle.sat_trail.specs.Trail.{Entries, lits, below, decided, Stand}
 
 -- the clause is false on the trail, and from any part of the trail that makes it false it is the resolvent of the hints
 pub record Derives (clauses : List (List ℤ)) (trail : Entries) (clause hints : List ℤ) : Type 0 where

@@ -18,8 +18,8 @@ use Rattle.lrat_check.specs.declared.step.Step.{Step}
 use Rattle.lrat_check.specs.declared.step.Step.TheVariants.{Add}
 use Rattle.lrat_check.specs.Steps.{numbered, is_negative, is_empty}
 use Rattle.lrat_check.specs.Resolved.{IsResolvent, Strengthens}
-use Rattle.sat_search.specs.Trail.{Entries, lits, Stand}
-use Rattle.sat_search.specs.Analysis.{AllFalse, Within}
+use Rattle.sat_trail.specs.Trail.{Entries, lits, Stand}
+use Rattle.sat_trail.specs.Clauses.{AllFalse, Within}
 
 -- the clause joins the others, with its step, and the trail is cut back
 pub record Learns (clauses more : List (List ℤ)) (trail cut : Entries) (steps longer : List Step) : Type 0 where

@@ -3,4 +3,3 @@ pub mod Found
 pub mod Learning
 pub mod Propagation
 pub mod Searching
-pub mod Trail

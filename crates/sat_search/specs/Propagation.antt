@@ -5,7 +5,7 @@ use Rattle.lrat_check.specs.declared.reading.Reading.TheVariants as read
 use Rattle.lrat_check.specs.Sets.{reading, AreLits}
 use Rattle.sat_search.specs.declared.propagation.Scan.{Scan}
 use Rattle.sat_search.specs.declared.propagation.Scan.TheVariants as scan
-use Rattle.sat_search.specs.Trail.{settled}
+use Rattle.sat_trail.specs.Trail.{settled}
 use Rattle.lrat_check.specs.Resolved.{is_open}
 
 -- the literals of each clause have complements

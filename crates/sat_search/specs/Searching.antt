@@ -24,7 +24,7 @@ use Rattle.lrat_check.specs.declared.step.Step.{Step}
 use Rattle.lrat_check.specs.Sets.{has, is_false}
 use Rattle.lrat_check.specs.Steps.{judged, is_empty}
 use Rattle.lrat_check.specs.Resolved.{Resolved, derived_from, consistent}
-use Rattle.sat_search.specs.Trail.{Entries, lits, Stand, is_assigned}
+use Rattle.sat_trail.specs.Trail.{Entries, lits, Stand, is_assigned}
 use Rattle.sat_search.specs.Found.{AreAdded}
 
 -- how many of the variables up to one have no value

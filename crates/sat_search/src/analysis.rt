@@ -16,13 +16,14 @@ ghost use Rattle.std.specs.Prelude.{
 };
 ghost use Rattle.std.specs.Prelude.{neg_ℤ, not, IfOk, OnOk};
 ghost use Rattle.lrat_check.specs.Sets.{has, without, union, reading, IsLit, AreLits};
-ghost use Rattle.sat_search.specs.Trail.{Entries, lits, below, decided, is_decision};
+ghost use Rattle.sat_trail.specs.Trail.{Entries, lits, below, decided, is_decision};
 ghost use Rattle.sat_search.specs.Propagation.{AllLits};
-ghost use Rattle.sat_search.specs.Analysis.{Derives, Level, Within, IsConflict, is_unit};
+ghost use Rattle.sat_trail.specs.Clauses.{Within};
+ghost use Rattle.sat_search.specs.Analysis.{Derives, Level, IsConflict, is_unit};
 
-use crate::trail::{Entry, Trail};
 use fv_base::{List, Memory};
 use lrat_check::Reading;
+use sat_trail::{Entry, Trail};
 use std::alloc::Global;
 
 /// A clause that is traced back, with the ids of the clauses that it comes from, the last hint first.

@@ -13,15 +13,16 @@ ghost use Rattle.std.specs.Prelude.{
   OnOk,
 };
 ghost use Rattle.lrat_check.specs.Sets.{reading, AreLits};
-ghost use Rattle.sat_search.specs.Trail.{lits as true_lits, below, decided, Stand};
+ghost use Rattle.sat_trail.specs.Trail.{lits as true_lits, below, decided, Stand};
 ghost use Rattle.sat_search.specs.Propagation.{AllLits};
-ghost use Rattle.sat_search.specs.Analysis.{Within, IsConflict, is_unit};
+ghost use Rattle.sat_trail.specs.Clauses.{Within};
+ghost use Rattle.sat_search.specs.Analysis.{IsConflict, is_unit};
 ghost use Rattle.sat_search.specs.Learning.{Learns};
 
 use crate::analysis::{Learnt, is_unit, to_unit};
-use crate::trail::Trail;
 use fv_base::{List, Memory};
 use lrat_check::Step;
+use sat_trail::Trail;
 use std::alloc::Global;
 
 /// More clauses than this have no place in memory, and below it each id is an `i64`.

@@ -6,11 +6,9 @@ mod analysis;
 mod found;
 mod learning;
 mod order;
-mod place_table;
 mod propagation;
 mod search;
 mod shared;
-mod trail;
 mod watches;
 
 pub use found::Found;

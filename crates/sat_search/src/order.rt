@@ -1,9 +1,9 @@
 ghost use Rattle.std.specs.Prelude.{◌<◌, ◌^◌, MatchOption};
-ghost use Rattle.sat_search.specs.Trail.{lits, AllAssigned, IsOpenVar, IsOpenLit};
+ghost use Rattle.sat_trail.specs.Trail.{lits, AllAssigned, IsOpenVar, IsOpenLit};
 
-use crate::trail::Trail;
 use fv_base::{List, Memory};
 use lrat_check::Step;
+use sat_trail::Trail;
 use std::alloc::Global;
 
 /// Where an activity reaches this, all are made smaller.

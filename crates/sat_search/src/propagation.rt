@@ -1,11 +1,11 @@
 ghost use Rattle.std.specs.Prelude.{◌≡◌, ◌≤◌, ℕ, length, IfSome};
 ghost use Rattle.lrat_check.specs.Sets.{AreLits};
-ghost use Rattle.sat_search.specs.Trail.{lits};
+ghost use Rattle.sat_trail.specs.Trail.{lits};
 ghost use Rattle.sat_search.specs.Propagation.{Sees, SeesFrom, AllLits};
 
-use crate::trail::Trail;
 use fv_base::List;
 use lrat_check::Reading;
+use sat_trail::Trail;
 
 /// What the clauses come to under a trail.
 #[derive(Debug, Clone, Copy)]

@@ -2,7 +2,7 @@ ghost use Rattle.std.specs.Prelude.{◌≡◌, ◌<◌, ◌≤◌, ◌^◌, ℕ,
 ghost use Rattle.cnf_form.specs.Cnf.{AreClauses, formula_true, value_of};
 ghost use Rattle.lrat_check.specs.Steps.{Refutes, Valid, AreSteps};
 ghost use Rattle.lrat_check.specs.Resolved.{Resolved, derived};
-ghost use Rattle.sat_search.specs.Trail.{lits, values_of};
+ghost use Rattle.sat_trail.specs.Trail.{lits, values_of};
 ghost use Rattle.sat_search.specs.Found.{IfModel, IfRefuted, IfSpent, IfSteps, AreAdded, nonempty};
 
 use crate::analysis::to_empty;
@@ -10,10 +10,10 @@ use crate::found::Found;
 use crate::learning::{MOST_CLAUSES, add, learn};
 use crate::order::Order;
 use crate::propagation::Scan;
-use crate::trail::{Entry, Trail};
 use crate::watches::Watches;
 use cnf_form::Formula;
 use fv_base::{List, Memory};
+use sat_trail::{Entry, Trail};
 use std::alloc::Global;
 
 /// Values that make the formula true, or steps that refute it, or, where that takes more learnt clauses than the

@@ -1,12 +1,12 @@
 ghost use Rattle.std.specs.Prelude.{◌≡◌, IfOk, IfSome};
 ghost use Rattle.lrat_check.specs.Sets.{AreLits};
-ghost use Rattle.sat_search.specs.Trail.{lits};
+ghost use Rattle.sat_trail.specs.Trail.{lits};
 ghost use Rattle.sat_search.specs.Propagation.{Sees, AllLits};
 
 use crate::propagation::{Scan, seen, survey};
-use crate::trail::Trail;
 use fv_base::{List, Memory};
 use lrat_check::code_of;
+use sat_trail::Trail;
 use std::alloc::Global;
 
 /// A clause in which a literal is watched, and the code of another literal of it.

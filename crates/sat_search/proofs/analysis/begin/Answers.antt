@@ -2,7 +2,7 @@ use Rattle.std.proofs.Common.{pos, ◌+◌, ◌∷◌, ◌++◌, [], ap, ◌∙�
 use Rattle.sat_search.proofs.Tracing.{begins}
 use Rattle.sat_search.proofs.Levels.{level_begins}
 use Rattle.sat_search.proofs.Backs.{begun, begun_level}
-use Rattle.sat_search.specs.Trail.{below}
+use Rattle.sat_trail.specs.Trail.{below}
 use Rattle.sat_search.proofs.analysis.begin.Goals as goal
 
 pub returns-clause-derives : goal.returns-clause-derives

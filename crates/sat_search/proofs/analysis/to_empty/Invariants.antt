@@ -1,5 +1,5 @@
 use Rattle.std.proofs.Common.{◌≡◌, false, length, reverse}
-use Rattle.sat_search.specs.Trail.{decided}
+use Rattle.sat_trail.specs.Trail.{decided}
 use Rattle.sat_search.specs.Analysis.{Derives}
 use Rattle.sat_search.proofs.analysis.to_empty.Given as goal
 

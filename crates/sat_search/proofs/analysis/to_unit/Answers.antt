@@ -1,6 +1,6 @@
 use Rattle.std.proofs.Common.{◌≡◌, false, reverse, length, ap, sym, ◌∙◌}
 use Rattle.lrat_check.specs.Sets.{reading}
-use Rattle.sat_search.specs.Trail.{lits, below}
+use Rattle.sat_trail.specs.Trail.{lits, below}
 use Rattle.sat_search.specs.Analysis.{is_unit}
 use Rattle.sat_search.proofs.Backs.{level_at, not_unit_at, part_at, implied}
 use Rattle.sat_search.proofs.analysis.to_unit.Goals as goal

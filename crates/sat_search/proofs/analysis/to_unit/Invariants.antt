@@ -1,6 +1,7 @@
 use Rattle.std.proofs.Common.{length, reverse}
-use Rattle.sat_search.specs.Trail.{lits, below}
-use Rattle.sat_search.specs.Analysis.{Derives, Level, Within}
+use Rattle.sat_trail.specs.Trail.{lits, below}
+use Rattle.sat_trail.specs.Clauses.{Within}
+use Rattle.sat_search.specs.Analysis.{Derives, Level}
 use Rattle.sat_search.proofs.analysis.to_unit.Given as goal
 
 abbrev pub invariant-tracing : goal.invariant-tracing

@@ -1,8 +1,9 @@
 use Rattle.std.proofs.Common.{◌≡◌, true, ap, sym, ◌∙◌, subst, length, ◌<◌}
 use Rattle.std.proofs.lemmas.Bool.{true≢false}
 use Rattle.lrat_check.specs.Sets.{reading}
-use Rattle.sat_search.specs.Trail.{Entries, lits, Stand}
-use Rattle.sat_search.specs.Analysis.{Within, is_unit}
+use Rattle.sat_trail.specs.Trail.{Entries, lits, Stand}
+use Rattle.sat_trail.specs.Clauses.{Within}
+use Rattle.sat_search.specs.Analysis.{is_unit}
 use Rattle.sat_search.proofs.Levels.{below_within}
 use Rattle.sat_search.proofs.Jumps.{stand_below, below_shorter, joins}
 use Rattle.sat_search.proofs.learning.backjump.Goals as goal

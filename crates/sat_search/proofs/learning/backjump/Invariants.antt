@@ -1,7 +1,8 @@
 use Rattle.std.proofs.Common.{◌≡◌, true, length}
 use Rattle.lrat_check.specs.Sets.{reading}
-use Rattle.sat_search.specs.Trail.{lits, Stand}
-use Rattle.sat_search.specs.Analysis.{Within, is_unit}
+use Rattle.sat_trail.specs.Trail.{lits, Stand}
+use Rattle.sat_trail.specs.Clauses.{Within}
+use Rattle.sat_search.specs.Analysis.{is_unit}
 use Rattle.sat_search.proofs.learning.backjump.Given as goal
 
 abbrev pub invariant-loop-trail : goal.invariant-loop-trail

@@ -1,5 +1,5 @@
 use Rattle.std.proofs.Common.{List, ℤ, ◌+◌, ◌-◌, ◌^◌, ◌<◌, ◌∷◌, [], ◌++◌, length, reverse, subst, arith}
-use Rattle.sat_search.specs.Trail.{Stand}
+use Rattle.sat_trail.specs.Trail.{Stand}
 use Rattle.sat_search.specs.Analysis.{Derives}
 use Rattle.sat_search.proofs.Searches.{learns_on}
 use Rattle.sat_search.proofs.learning.learn.Goals as goal

@@ -1,5 +1,5 @@
 use Rattle.sat_search.specs.Propagation.{SettledFrom}
-use Rattle.sat_search.specs.Trail.{lits}
+use Rattle.sat_trail.specs.Trail.{lits}
 use Rattle.sat_search.proofs.propagation.survey_part.Given as goal
 
 -- the clauses so far are settled

@@ -1,7 +1,7 @@
 use Rattle.std.proofs.Common.{ℕ, List, ℤ, ◌+◌, ◌-◌, ◌^◌, ◌<◌, [], length, reverse, ap, sym, ◌∙◌, subst, refl, arith}
 use Rattle.cnf_form.specs.Cnf.{AreClauses, formula_true, value_of}
 use Rattle.lrat_check.specs.declared.step.Step.{Step}
-use Rattle.sat_search.specs.Trail.{Entries, lits, AllAssigned, IsOpenLit, settled, values_of}
+use Rattle.sat_trail.specs.Trail.{Entries, lits, AllAssigned, IsOpenLit, settled, values_of}
 use Rattle.sat_search.specs.Analysis.{Derives}
 use Rattle.sat_search.specs.Searching.{Searching}
 use Rattle.sat_search.proofs.Added.{are_steps}

@@ -1,5 +1,5 @@
 use Rattle.std.proofs.Common.{◌≡◌}
-use Rattle.sat_search.specs.Trail.{lits, values_of}
+use Rattle.sat_trail.specs.Trail.{lits, values_of}
 use Rattle.sat_search.proofs.search.values.Given as goal
 
 abbrev pub invariant-loop-index : goal.invariant-loop-index

@@ -1,5 +1,5 @@
 use Rattle.std.specs.Prelude.{MatchOption}
-use Rattle.sat_search.specs.Trail.{lits, AllAssigned, IsOpenVar}
+use Rattle.sat_trail.specs.Trail.{lits, AllAssigned, IsOpenVar}
 use Rattle.sat_search.proofs.order.Order.most_active.Given as goal
 
 abbrev pub invariant-loop-index : goal.invariant-loop-index
