@@ -1,6 +1,7 @@
--- What a check reads of a list of retirements, which has them cycle by cycle and in each cycle by channel (documentation
--- of riscv-formal, in this project's profile).
-use Rattle.std.specs.Prelude.{ℕ, ◌+◌, Bool, true, ◌&&◌, ◌||◌, ◌==◌, nat_lt, nat_le, List, Option, Some, None, find, reverse}
+-- What a check reads of a list of retirements, which has them cycle by cycle and in each cycle by channel
+-- (documentation of riscv-formal, in this project's profile).
+use Rattle.std.specs.Prelude.{ℕ, ◌+◌, Bool, true, ◌&&◌, ◌||◌, ◌==◌, nat_lt, nat_le}
+use Rattle.std.specs.Prelude.{List, Option, Some, None, find, reverse}
 use Rattle.std.specs.List.{list_any}
 use Rattle.rv_table.specs.declared.retire.Retire.{Retire}
 use Rattle.ck_cfg.specs.declared.check.Check.{Check}

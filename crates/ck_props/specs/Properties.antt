@@ -1,6 +1,7 @@
 -- The property of a check (documentation of riscv-formal, in this project's profile). Orders are whole numbers: no
 -- retirement has an order behind 2 ^ 64 - 1.
-use Rattle.std.specs.Prelude.{ℕ, ◌+◌, ◌-◌, ◌/◌, ◌%◌, ◌^◌, Bool, true, not, ◌&&◌, ◌||◌, ◌==◌, nat_lt, nat_le, List}
+use Rattle.std.specs.Prelude.{ℕ, ◌+◌, ◌-◌, ◌/◌, ◌%◌, ◌^◌, ◌==◌, nat_lt}
+use Rattle.std.specs.Prelude.{Bool, true, not, ◌&&◌, ◌||◌, List}
 use Rattle.std.specs.Prelude.{Option, Some, None, if◌then◌else◌}
 use Rattle.std.specs.List.{list_all}
 use Rattle.rv_table.specs.declared.retire.Retire.{Retire}

@@ -1,40 +1,15 @@
 -- What the drivers of a design without hierarchy read and drive, and when they stand in an order in which each one
 -- can be settled behind those that it reads. A driver is a continuous assignment, a port connection or a block. IEEE
 -- 1364-2005, sections 6.1, 9.2 and 12.3; the order is a rule of this project.
-use Rattle.std.specs.Prelude.{
-  ◌≡◌,
-  ℕ,
-  ◌<◌,
-  ◌≤◌,
-  ◌==◌,
-  List,
-  [],
-  ◌∷◌,
-  Bool,
-  true,
-  false,
-  ◌&&◌,
-  ◌||◌,
-  not,
-  Option,
-  Some,
-  None,
-}
-use Rattle.std.specs.Prelude.{bytes_eq, slice_get}
-use Rattle.vl_tree.specs.Lval.{Lval}
-use Rattle.vl_tree.specs.Stmt.{Stmt}
-use Rattle.vl_size.specs.declared.decl.Class.{Class}
-use Rattle.vl_size.specs.declared.decl.Class.TheVariants as class
+use Rattle.std.specs.Prelude.{◌≡◌, ℕ, List, [], ◌∷◌, Bool, true, false, ◌||◌, Option, Some, None}
 use Rattle.vl_size.specs.declared.decl.Decl.{Decl}
-use Rattle.vl_mean.specs.declared.driver.Driver.{Driver}
 use Rattle.vl_mean.specs.declared.driver.DriverKind.{DriverKind}
 use Rattle.vl_mean.specs.declared.driver.DriverKind.TheVariants as k
 use Rattle.vl_mean.specs.Execution.{assigns}
-use Rattle.vl_mean.specs.FlatLaw.{flat_scopes, is_net}
-use Rattle.vl_mean.specs.Runs.{Each}
+use Rattle.vl_mean.specs.FlatLaw.{flat_scopes}
 use Rattle.vl_mean.specs.Scopes.{no_values}
 use Rattle.vl_mean.specs.Targets.{Spot, may_change, has_spot, spots}
-use Rattle.vl_path.specs.Reads.{Bits, Covers, IsCellOf, reads}
+use Rattle.vl_path.specs.Reads.{Bits, Covers, reads}
 use Rattle.vl_path.specs.Paths.{is_blocking, target_reads, sure, needs}
 
 abbrev pub is_clocked : DriverKind → Bool
@@ -79,18 +54,3 @@ module _ (ds : List Decl) where
   IsWhole (k.Assign l e) = AreOnce (spots (flat_scopes ds) no_values l)
   IsWhole (k.Comb s) = Covers (sure ds is_blocking s) (assigns (flat_scopes ds) s)
   IsWhole (k.Clocked s) = Unit {0}
-
--- it is one of them
-abbrev pub IsAmong : {A : Type 0} → List A → A → Type 0
-IsAmong xs x = (i : ℕ) × (slice_get xs i ≡ Some x)
-
--- The sequence has exactly the drivers that aren't clocked, in an order in which each can be settled; each bit of a
--- net is driven.
-pub record IsSequence (ds : List Decl) (drivers : List Driver) (sequence : List DriverKind) : Type 0 where
-  pub all : (x : Driver) → IsAmong drivers x → is_clocked x.what ≡ false → IsAmong sequence x.what
-  pub only : (x : DriverKind) → IsAmong sequence x → is_clocked x ≡ false
-  pub some : (x : DriverKind) → IsAmong sequence x → (d : Driver) × IsAmong drivers d × (d.what ≡ x)
-  pub order : AreInOrder ds sequence
-  pub whole : (x : DriverKind) → IsAmong sequence x → IsWhole ds x
-  pub driven : (d : Decl) (n : List ℕ) (k : ℕ) → IsCellOf ds d n → is_net d ≡ true → k < d.width
-      → driven_by_any ds sequence n k ≡ true

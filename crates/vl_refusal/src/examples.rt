@@ -83,7 +83,8 @@ pub fn refusals_have_an_order()
     ensures in_one { refusal designs.two_in_one (codes "top") ≡ Some (fault.Unknown (codes "x") here) }
     ensures first { refusal designs.two_items (codes "top") ≡ Some (fault.Clock here) }
     ensures port { refusal designs.no_port_and_no_name (codes "top") ≡ Some (fault.Unknown (codes "x") here) }
-    ensures parameter { refusal designs.no_parameter_and_no_name (codes "top") ≡ Some (fault.Unknown (codes "x") here) }
+    ensures parameter { refusal designs.no_parameter_and_no_name (codes "top")
+        ≡ Some (fault.Unknown (codes "x") here) }
     ensures select { refusal designs.assigned_parameter (codes "top") ≡ Some (fault.Range here) }
 {}
 
@@ -95,7 +96,8 @@ pub fn designs_have_few_names()
 /// A loop over a genvar of its own is refused where it has no last turn, and for nothing else.
 #[tactic(auto, using(crate::proofs::Limits::endless_loop))]
 pub fn loops_end()
-    ensures { (at : Place) (p : SpecPos) → head_refusals at p designs.endless_head loop_variable ≡ fault.GenLoop p ∷ [] }
+    ensures { (at : Place) (p : SpecPos)
+        → head_refusals at p designs.endless_head loop_variable ≡ fault.GenLoop p ∷ [] }
 {}
 
 /// A memory that no block drives counts with all its bits, of which there are 65,536 at most.
