@@ -9,7 +9,7 @@ use Rattle.std.proofs.lemmas.List.{get_or-take, get_or-drop, get_or_past, take_a
 use Rattle.std.proofs.lemmas.List.{drop-map, length-map, length_push, length-drop}
 use Rattle.std.proofs.lemmas.Nat.{pow_pos, mod_below, shr-shr, div-add-mod', mod-mul-add}
 use Rattle.std.proofs.Math.Nat.{mod-eq_of_lt}
-use Rattle.std.proofs.Math.Pow.{pow_mono, shr_mod}
+use Rattle.std.proofs.Math.Pow.{pow_mono}
 use Rattle.fv_base.specs.declared.word.Word.{Word}
 use Rattle.fv_base.specs.Word.{number}
 use Rattle.fv_bits.specs.Bits.{low, part, bit}

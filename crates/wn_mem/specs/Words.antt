@@ -12,9 +12,15 @@ use Rattle.std.specs.Prelude.{
   map,
   slice_index,
   bit_and,
+  ◌<◌,
+  ◌==◌,
+  ◌&&◌,
+  Bool,
+  Option,
+  IfSome,
 }
 use Rattle.wn_net.specs.declared.parts.MemWrite.{MemWrite}
-use Rattle.fv_bits.specs.Bits.{complement}
+use Rattle.fv_bits.specs.Bits.{complement, joined}
 use Rattle.wn_net.specs.Value.{Given}
 use Rattle.wn_net.specs.Next.{written}
 use Rattle.wn_net.specs.Net.{Netlist, IsNode, IsNodeOf, AreNodesOf, width_at, value_at}
@@ -53,11 +59,20 @@ abbrev pub number_of : List ℕ → ℕ
 number_of [] = 0
 number_of (b ∷ bs) = b * 2 ^ length bs + number_of bs
 
--- nodes are there, one for each bit, that are the bits turned
-pub record AreTurned (net : Netlist) (bits turned : List ℕ) : Type 0 where
-  pub there : AreNodesOf net 1 turned
-  pub each : length turned ≡ length bits
-  pub value : (g : Given) → numbers_of net g turned ≡ map (complement 1) (numbers_of net g bits)
+-- in a cycle a write acts on the word at the index
+abbrev pub hits : Netlist → Given → MemWrite → ℕ → Bool
+hits net g w index = value_at net g w.enable == 1 && value_at net g w.addr == index
+
+-- a node has the bit that enables the write in front of its address
+pub record Asks (net : Netlist) (w : MemWrite) (id : ℕ) : Type 0 where
+  pub there : IsNodeOf net (1 + width_at net w.addr) id
+  pub few : width_at net w.addr < 128
+  pub value : (g : Given)
+      → value_at net g id ≡ joined (width_at net w.addr) (value_at net g w.enable) (value_at net g w.addr)
+
+-- such a node, where there is one
+abbrev pub IsRequest : Netlist → MemWrite → Option ℕ → Type 0
+IsRequest net w asked = IfSome asked (Asks net w)
 
 -- a node is there that is 0 in every cycle
 pub record IsZero (net : Netlist) (id : ℕ) : Type 0 where

@@ -7,7 +7,7 @@ ghost use Rattle.wn_net.specs.Value.{Given};
 ghost use Rattle.wn_net.specs.Net.{IsNode, IsNodeOf, AreNodesOf, value_at, width_at};
 ghost use Rattle.wn_net.specs.Given.{IsGiven};
 ghost use Rattle.wn_net.specs.Changes.{AddsNodes};
-ghost use Rattle.wn_mem.specs.Words.{AreTurned, numbers_of, number_of};
+ghost use Rattle.wn_mem.specs.Words.{numbers_of, number_of};
 
 use crate::constant::zero_of;
 use fv_base::Memory;
@@ -27,24 +27,6 @@ pub(crate) fn address_bits(net: &mut Net, addr: NodeId, bits: &mut [NodeId]) -> 
     for index in 0..count {
         let bit = net.slice(addr, (count - 1 - index) as u32, 1)?;
         bits[index] = bit;
-    }
-    Ok(())
-}
-
-/// Puts each bit turned.
-pub(crate) fn turned_bits(
-    net: &mut Net,
-    bits: &[NodeId],
-    turned: &mut [NodeId],
-) -> Result<(), Memory>
-    requires bits { AreNodesOf net.old 1 bits.now }
-    requires room { length turned.old ≡ length bits.now }
-    ensures adds { AddsNodes net.old net.new }
-    ensures turned { OnOk result (AreTurned net.new bits.now turned.new) }
-{
-    for (index, bit) in bits.iter().enumerate() {
-        let other = net.not(*bit)?;
-        turned[index] = other;
     }
     Ok(())
 }

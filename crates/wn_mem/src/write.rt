@@ -1,11 +1,9 @@
-//! One write to a memory: where it acts, as a tree over the bits of the address, and each word after it.
+//! One write to a memory: where it acts, by one test a word, and each word after it.
 #![tactic(auto, using(wn_net::proofs::Laws::additions))]
 
 ghost use Rattle.std.specs.Prelude.{
   ◌≡◌,
   ◌==◌,
-  ◌&&◌,
-  ◌/◌,
   bit_and,
   bit_or,
   if◌then◌else◌,
@@ -22,12 +20,12 @@ ghost use Rattle.wn_net.specs.Next.{written};
 ghost use Rattle.wn_net.specs.Net.{IsNode, IsNodeOf, AreNodesOf, IsWriteOf, value_at, width_at};
 ghost use Rattle.wn_net.specs.Given.{IsGiven};
 ghost use Rattle.wn_net.specs.Changes.{AddsNodes};
-ghost use Rattle.wn_mem.specs.Words.{AreWords, AreShared, AreTurned, ShareWrite, words_width, numbers_of, number_of};
+ghost use Rattle.wn_mem.specs.Words.{AreWords, AreShared, Asks, IsRequest, ShareWrite, words_width, numbers_of, hits};
 ghost use Rattle.wn_mem.specs.Words.{after_write};
 
-use crate::bits::{address_bits, bits_for, is_low, reached, turned_bits};
+use crate::bits::{bits_for, reached};
 use crate::constant::constant_of;
-use fv_base::Memory;
+use fv_base::{Memory, Word};
 use std::alloc::Global;
 use wn_net::{MemWrite, Net, NodeId};
 
@@ -109,94 +107,120 @@ fn write_word(
     Ok(())
 }
 
-/// Where a write acts by a bit of the address: on the half of the words where the bit is 0, and on the other.
-#[derive(Clone, Copy)]
-struct Halves {
-    low: NodeId,
-    high: NodeId,
-}
-
-/// The nodes that say on which half of the words a write acts.
-fn halved(net: &mut Net, acts: NodeId, bit: NodeId, turned: NodeId) -> Result<Halves, Memory>
-    requires acts { IsNodeOf net.old 1 acts }
-    requires bit { IsNodeOf net.old 1 bit }
-    requires turned { IsNodeOf net.old 1 turned }
+/// The bit that enables a write in front of its address, where both together have at most 128 bits.
+fn request(net: &mut Net, write: &MemWrite) -> Result<Option<NodeId>, Memory>
+    requires addr { IsNode net.old write.now.addr }
+    requires enable { IsNodeOf net.old 1 write.now.enable }
     ensures adds { AddsNodes net.old net.new }
-    ensures low_there { IfOk result (λ h. IsNodeOf net.new 1 h.low) }
-    ensures high_there { IfOk result (λ h. IsNodeOf net.new 1 h.high) }
-    ensures low { IfOk result (λ h. (g : Given)
-        → value_at net.new g h.low ≡ bit_and (value_at net.old g acts) (value_at net.old g turned)) }
-    ensures high { IfOk result (λ h. (g : Given)
-        → value_at net.new g h.high ≡ bit_and (value_at net.old g acts) (value_at net.old g bit)) }
+    ensures asked { IfOk result (IsRequest net.new write.now) }
 {
-    let low = net.and(acts, turned)?;
-    let high = net.and(acts, bit)?;
-    Ok(Halves { low, high })
+    if net.width(write.addr) >= 128 {
+        return Ok(None);
+    }
+    let asked = net.concat(write.enable, write.addr)?;
+    Ok(Some(asked))
 }
 
-/// Puts for each word its node after a write that acts, where `acts` is 1, on the word at the address with these
-/// bits, the highest first: halves of the words, of which the highest bit takes one. `turned` are the bits turned.
-fn write_among(
+/// The number with one bit in front of so many.
+#[tactic(auto, using(std::proofs::lemmas::Nat::one_shl))]
+fn front_bit(width: u32) -> u128
+    requires { width < 128 }
+    ensures { result ≡ 2 ^ width }
+{
+    1 << width
+}
+
+/// 1 where a node has the number that a write to the word at the index asks with.
+fn asks_for(net: &mut Net, write: &MemWrite, asked: NodeId, index: usize) -> Result<NodeId, Memory>
+    requires addr { IsNode net.old write.now.addr }
+    requires enable { IsNodeOf net.old 1 write.now.enable }
+    requires asked { Asks net.old write.now asked }
+    requires reached { index < 2 ^ width_at net.old write.now.addr }
+    ensures adds { AddsNodes net.old net.new }
+    ensures there { IfOk result (IsNodeOf net.new 1) }
+    ensures value { IfOk result (λ id. (g : Given) → IsGiven net.old g
+        → value_at net.new g id ≡ bit (hits net.old g write.now index)) }
+{
+    let width = net.width(write.addr);
+    let Some(number) = Word::new(width + 1, front_bit(width) + index as u128) else {
+        return Ok(write.enable);
+    };
+    let number = net.konst(number)?;
+    let hit = net.eq(asked, number)?;
+    Ok(hit)
+}
+
+/// 1 where a write acts and its address, of 128 bits, is the index.
+fn acts_at(net: &mut Net, write: &MemWrite, index: usize) -> Result<NodeId, Memory>
+    requires addr { IsNode net.old write.now.addr }
+    requires enable { IsNodeOf net.old 1 write.now.enable }
+    requires reached { index < 2 ^ width_at net.old write.now.addr }
+    ensures adds { AddsNodes net.old net.new }
+    ensures there { IfOk result (IsNodeOf net.new 1) }
+    ensures value { IfOk result (λ id. (g : Given) → IsGiven net.old g
+        → value_at net.new g id ≡ bit (hits net.old g write.now index)) }
+{
+    let Some(number) = Word::new(net.width(write.addr), index as u128) else {
+        return Ok(write.enable);
+    };
+    let number = net.konst(number)?;
+    let test = net.eq(write.addr, number)?;
+    let acts = net.and(write.enable, test)?;
+    Ok(acts)
+}
+
+/// 1 where a write acts on the word at the index.
+fn acts_on(
+    net: &mut Net,
+    write: &MemWrite,
+    asked: Option<NodeId>,
+    index: usize,
+) -> Result<NodeId, Memory>
+    requires addr { IsNode net.old write.now.addr }
+    requires enable { IsNodeOf net.old 1 write.now.enable }
+    requires asked { IsRequest net.old write.now asked }
+    requires reached { index < 2 ^ width_at net.old write.now.addr }
+    ensures adds { AddsNodes net.old net.new }
+    ensures there { IfOk result (IsNodeOf net.new 1) }
+    ensures value { IfOk result (λ id. (g : Given) → IsGiven net.old g
+        → value_at net.new g id ≡ bit (hits net.old g write.now index)) }
+{
+    match asked {
+        Some(asked) => asks_for(net, write, asked, index),
+        None => acts_at(net, write, index),
+    }
+}
+
+/// Puts for the word at the index its node after a write.
+fn write_at(
     net: &mut Net,
     words: &mut [NodeId],
-    bits: &[NodeId],
-    turned: &[NodeId],
-    acts: NodeId,
+    write: &MemWrite,
+    asked: Option<NodeId>,
+    index: usize,
     shared: Shared,
 ) -> Result<(), Memory>
     requires words { AreNodesOf net.old (width_at net.old shared.written) words.old }
-    requires bits { AreNodesOf net.old 1 bits.now }
-    requires turned { AreTurned net.old bits.now turned.now }
-    requires acts { IsNodeOf net.old 1 acts }
+    requires within { index < length words.old }
+    requires write { IsWriteOf net.old (width_at net.old shared.written) write.now }
+    requires asked { IsRequest net.old write.now asked }
+    requires reached { index < 2 ^ width_at net.old write.now.addr }
     requires shared { AreShared net.old (width_at net.old shared.written) shared.written shared.kept }
-    requires few { length bits.now ≤ 63 }
-    requires enough { length words.old ≤ 2 ^ length bits.now }
     ensures adds { AddsNodes net.old net.new }
     ensures there { OnOk result (AreNodesOf net.new (width_at net.old shared.written) words.new) }
     ensures value { OnOk result ((g : Given) (mask number : ℕ) → IsGiven net.old g
         → ShareWrite net.old g (width_at net.old shared.written) mask number shared.written shared.kept
         → numbers_of net.new g words.new
-        ≡ written (width_at net.old shared.written) (numbers_of net.old g words.old) (value_at net.old g acts)
-        (number_of (numbers_of net.old g bits.now)) mask number) }
+        ≡ written (width_at net.old shared.written) (numbers_of net.old g words.old)
+        (bit (hits net.old g write.now index)) index mask number) }
 {
-    if words.is_empty() {
-        return Ok(());
-    }
-    let Some((top, rest)) = bits.split_first() else {
-        write_word(net, words, 0, acts, shared)?;
-        return Ok(());
-    };
-    let Some((other, others)) = turned.split_first() else {
-        return Ok(());
-    };
-    let _ = net.width(acts);
-    let half = reached(words.len(), rest.len());
-    let halves = halved(net, acts, *top, *other)?;
-    let (front, back) = words.split_at_mut(half);
-    write_among(net, front, rest, others, halves.low, shared)?;
-    write_among(net, back, rest, others, halves.high, shared)?;
+    let acts = acts_on(net, write, asked, index)?;
+    write_word(net, words, index, acts, shared)?;
     Ok(())
 }
 
-/// 1 where the write acts and the bits of its address from `count` on are 0.
-fn acts_low(net: &mut Net, write: &MemWrite, count: u32) -> Result<NodeId, Memory>
-    requires addr { IsNode net.old write.now.addr }
-    requires enable { IsNodeOf net.old 1 write.now.enable }
-    ensures adds { AddsNodes net.old net.new }
-    ensures there { IfOk result (IsNodeOf net.new 1) }
-    ensures value { IfOk result (λ id. (g : Given) → IsGiven net.old g → value_at net.new g id
-        ≡ bit_and (value_at net.old g write.now.enable) (bit (value_at net.old g write.now.addr / 2 ^ count == 0))) }
-{
-    if net.width(write.addr) <= count {
-        return Ok(write.enable);
-    }
-    let test = is_low(net, write.addr, count)?;
-    let acts = net.and(write.enable, test)?;
-    Ok(acts)
-}
-
-/// Puts the words after a write at an address that isn't constant.
-fn write_tree(
+/// Puts the words after a write at an address that isn't constant: each word is told by one test.
+fn write_each(
     net: &mut Net,
     words: &mut [NodeId],
     write: &MemWrite,
@@ -214,17 +238,12 @@ fn write_tree(
         (value_at net.old g write.now.enable)
         (value_at net.old g write.now.addr) mask number) }
 {
-    let mut bits = [0u64; 63];
-    let mut turned = [0u64; 63];
     let count = bits_for(words.len()).min(net.width(write.addr) as usize);
     let most = reached(words.len(), count);
-    let bits = &mut bits[..count];
-    let turned = &mut turned[..count];
-    address_bits(net, write.addr, bits)?;
-    turned_bits(net, bits, turned)?;
-    let acts = acts_low(net, write, count as u32)?;
-    let (front, _) = words.split_at_mut(most);
-    write_among(net, front, bits, turned, acts, shared)?;
+    let asked = request(net, write)?;
+    for index in 0..most {
+        write_at(net, words, write, asked, index, shared)?;
+    }
     Ok(())
 }
 
@@ -239,7 +258,7 @@ fn write_words(net: &mut Net, words: &mut [NodeId], write: &MemWrite) -> Result<
 {
     let Some(number) = constant_of(net, write.addr) else {
         let shared = share(net, write)?;
-        write_tree(net, words, write, shared)?;
+        write_each(net, words, write, shared)?;
         return Ok(());
     };
     if number >= words.len() as u128 {

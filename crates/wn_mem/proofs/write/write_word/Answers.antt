@@ -1,4 +1,4 @@
-use Rattle.std.specs.Prelude.{ℕ, ◌≡◌, ◌==◌, if◌then◌else◌, slice_index}
+use Rattle.std.specs.Prelude.{ℕ, ◌==◌, if◌then◌else◌, slice_index}
 use Rattle.std.proofs.Common.{refl, sym, ◌∙◌, subst}
 use Rattle.fv_bits.specs.Bits.{masked}
 use Rattle.wn_net.specs.Net.{IsNodeOf, width_at, value_at}

@@ -21,7 +21,7 @@ returns-in_default-clause-value c = λ g given.
     let number = value_at net g write.value in
     let wide : width_at one put ≡ w = share.there.0.1 ∙ c.requires.write.mask.1 in
     let P : ℕ → Type 0 = λ u. ShareWrite one g u mask number put kept in
-    c.in_ok-write_tree.ensures.value g mask number (given_on net one g share.adds given)
+    c.in_ok-write_each.ensures.value g mask number (given_on net one g share.adds given)
     (subst P (sym share.there.0.1) (share.value g))
     ∙ (λ i. written (wide i) (numbers_on net one w g words share.adds c.requires.words i)
     (value_on net one g write.enable share.adds c.requires.write.enable.0 i)
