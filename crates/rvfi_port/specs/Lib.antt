@@ -1,0 +1,4 @@
+pub mod Fields
+pub mod Outputs
+pub mod Channels
+pub mod Parts
