@@ -1,0 +1,11 @@
+mod Elements
+mod Changed
+mod Found
+mod Whole
+mod Single
+mod Chain
+mod Leaving
+mod Choices
+mod Held
+mod Loops
+mod Weighs
