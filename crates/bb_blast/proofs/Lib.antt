@@ -1,0 +1,5 @@
+pub mod Joining
+pub mod Nodes
+pub mod Rooting
+pub mod Sources
+pub mod Walking

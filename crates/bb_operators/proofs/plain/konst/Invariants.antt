@@ -1,0 +1,6 @@
+use Rattle.fv_base.specs.Word.{number}
+use Rattle.bb_operators.proofs.Numbers.{Taking}
+use Rattle.bb_operators.proofs.plain.konst.Given as goal
+
+abbrev pub invariant-loop-index : goal.invariant-loop-index
+invariant-loop-index l = Taking l.gates (number l.word) l.index l.left l.made.items

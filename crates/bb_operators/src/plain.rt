@@ -1,0 +1,45 @@
+//! Operators that take no gate.
+ghost use Rattle.std.specs.Prelude.{◌≡◌, ◌==◌, ◌%◌, if◌then◌else◌, ℕ, List, length, IfOk};
+ghost use Rattle.fv_base.specs.Word as word_spec;
+ghost use Rattle.fv_bits.specs.Bits as num;
+ghost use Rattle.bb_aig.specs.declared.node.AigNode.{AigNode};
+ghost use Rattle.bb_gates.specs.Gates.{AreLits};
+ghost use Rattle.bb_operators.specs.Words.{IsWord, count};
+
+use bb_aig::Lit;
+use bb_gates::Gates;
+use bb_shifts::turned;
+use bb_words::constant;
+use fv_base::{List, Memory, Word};
+use std::alloc::Global;
+
+/// Each bit turned.
+pub fn negated(alloc: Global, word: &[Lit]) -> Result<List<Lit>, Memory>
+    ensures { IfOk result (λ r. (graph : List AigNode) → AreLits graph word.now
+        → IsWord graph (length word.now) (λ x. num.complement (length word.now) (count graph x word.now)) r) }
+{
+    let made = turned(alloc, word)?;
+    Ok(List::from_vec(made))
+}
+
+/// The literal of the lowest bit of a number.
+fn lowest(number: u128, one: Lit, zero: Lit) -> Lit
+    ensures { result ≡ (if number % 2 == 1 then one else zero) }
+{
+    if number % 2 == 1 { one } else { zero }
+}
+
+/// The bits of a number.
+pub fn konst(alloc: Global, gates: &Gates, word: &Word) -> Result<List<Lit>, Memory>
+    ensures { IfOk result (IsWord gates.now word.now.width (λ x. word_spec.number word.now)) }
+{
+    let one = constant(gates, true);
+    let zero = constant(gates, false);
+    let mut left = word.value();
+    let mut made = Vec::new(alloc);
+    for index in 0..word.width() {
+        made.push(lowest(left, one, zero))?;
+        left /= 2;
+    }
+    Ok(List::from_vec(made))
+}

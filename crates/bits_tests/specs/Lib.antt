@@ -1,0 +1,1 @@
+-- No clause of these tests cites a definition of their own.
