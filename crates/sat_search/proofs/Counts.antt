@@ -1,6 +1,8 @@
 -- How many clauses without a complementary pair there are over so many variables, as sets.
-use Rattle.std.proofs.Common.{◌≡◌, ℕ, zero, suc, ◌+◌, ◌*◌, ◌^◌, ◌<◌, ◌≤◌, Bool, true, false, not, cond, ◌&&◌, ◌||◌}
-use Rattle.std.proofs.Common.{List, [], ◌∷◌, ◌++◌, ℤ, pos, length, filter, refl, ap, sym, subst, ◌∙◌, inl, inr, arith}
+use Rattle.std.proofs.Common.{◌≡◌, ℕ, zero, suc, ◌+◌, ◌*◌, ◌^◌, ◌<◌, ◌≤◌, Bool, true}
+use Rattle.std.proofs.Common.{false, not, cond, ◌&&◌, ◌||◌}
+use Rattle.std.proofs.Common.{List, [], ◌∷◌, ◌++◌, ℤ, pos, length, filter, refl, ap, sym, subst, ◌∙◌}
+use Rattle.std.proofs.Common.{inl, inr, arith}
 use Rattle.std.specs.List.{list_any, list_all}
 use Rattle.std.proofs.Math.Nat.{pow-suc}
 use Rattle.std.proofs.lemmas.Bool.{true≢false, false≢true, cases_eq, and_from, and_parts, or_parts, not-true}
@@ -10,7 +12,7 @@ use Rattle.lrat_check.specs.Sets.{has, is_false, within, same_set}
 use Rattle.lrat_check.specs.Steps.{is_empty}
 use Rattle.lrat_check.specs.Resolved.{consistent}
 use Rattle.sat_search.specs.Searching.{agrees, differ, Apart}
-use Rattle.sat_search.proofs.News.{all_from, all_at}
+use Rattle.sat_learn.proofs.News.{all_from, all_at}
 use Rattle.sat_search.proofs.Literals.{literal_at, by_variable, neg_next}
 
 abbrev at : List ℤ → ℕ → Bool

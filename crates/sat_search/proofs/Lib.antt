@@ -1,13 +1,7 @@
 pub mod Added
-pub mod Backs
 pub mod Counts
-pub mod Jumps
-pub mod Levels
 pub mod Literals
 pub mod Models
-pub mod News
 pub mod Rounds
 pub mod Searches
 pub mod Solves
-pub mod Surveys
-pub mod Tracing

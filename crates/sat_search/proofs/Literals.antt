@@ -1,12 +1,13 @@
 -- Literals that name variables, and what a set says of a variable.
-use Rattle.std.proofs.Common.{◌≡◌, ℕ, zero, suc, ◌+◌, ◌^◌, ◌<◌, ◌≤◌, true, List, [], ◌∷◌, ◌++◌, ℤ, pos, negsuc, neg_ℤ}
+use Rattle.std.proofs.Common.{◌≡◌, ℕ, zero, suc, ◌+◌, ◌^◌, ◌<◌, ◌≤◌, true, List, []}
+use Rattle.std.proofs.Common.{◌∷◌, ◌++◌, ℤ, pos, negsuc, neg_ℤ}
 use Rattle.std.proofs.Common.{Some, None, refl, ap, sym, subst, inl, inr, arith}
 use Rattle.std.specs.Prelude.{unsigned_abs, slice_get}
 use Rattle.std.specs.Ordering.{int_eq}
 use Rattle.std.proofs.lemmas.Bool.{false≢true}
 use Rattle.cnf_form.specs.Cnf.{IsLiteral, AreLiterals, AreClauses}
 use Rattle.lrat_check.specs.Sets.{has, IsLit, AreLits}
-use Rattle.sat_search.specs.Propagation.{AllLits}
+use Rattle.sat_unit.specs.Propagation.{AllLits}
 use Rattle.sat_trail.proofs.Members.{same_is, or_cases, has_head, has_tail}
 
 pub literal_at : (vars : ℕ) (c : List ℤ) (x : ℤ) → AreLiterals vars c → has c x ≡ true → IsLiteral vars x

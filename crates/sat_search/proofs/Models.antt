@@ -1,5 +1,6 @@
 -- Where all clauses are settled and each variable has a value, the trail's values make the clauses true.
-use Rattle.std.proofs.Common.{◌≡◌, ℕ, zero, suc, ◌+◌, ◌-◌, ◌<◌, true, false, List, [], ◌∷◌, ◌++◌, ℤ, pos, negsuc}
+use Rattle.std.proofs.Common.{◌≡◌, ℕ, zero, suc, ◌+◌, ◌-◌, ◌<◌, true, false, List, [], ◌∷◌}
+use Rattle.std.proofs.Common.{◌++◌, ℤ, pos, negsuc}
 use Rattle.std.proofs.Common.{neg_ℤ, length, get_or, refl, ap, sym, ◌∙◌, inl, inr, length-append, arith}
 use Rattle.std.proofs.Math.Seq.{get_or-append_seam}
 use Rattle.std.proofs.lemmas.List.{get_or_append_left}
@@ -14,8 +15,8 @@ use Rattle.lrat_check.specs.Resolved.{is_open}
 use Rattle.sat_trail.specs.Trail.{Entries, lits, settled, Stand, AllAssigned, values_of}
 use Rattle.sat_trail.proofs.Members.{any_from}
 use Rattle.sat_trail.proofs.Readings.{open_to}
-use Rattle.sat_search.proofs.Tracing.{no_pair}
-use Rattle.sat_search.proofs.News.{true_has}
+use Rattle.sat_unit.proofs.Consistent.{no_pair}
+use Rattle.sat_learn.proofs.News.{true_has}
 use Rattle.sat_search.proofs.Literals.{literal_at, by_variable, neg_next}
 
 pub length_values : (vars : ℕ) (set : List ℤ) → length (values_of vars set) ≡ vars

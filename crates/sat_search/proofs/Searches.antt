@@ -1,12 +1,14 @@
 -- What the search keeps, from one round to the next.
-use Rattle.std.proofs.Common.{◌≡◌, ℕ, suc, ◌+◌, ◌-◌, ◌^◌, ◌<◌, ◌≤◌, Bool, true, false, not, cond, leb, List, [], ◌∷◌}
-use Rattle.std.proofs.Common.{◌++◌, ℤ, neg_ℤ, length, Option, Some, None, refl, ap, sym, subst, ◌∙◌, append_assoc}
+use Rattle.std.proofs.Common.{◌≡◌, ℕ, suc, ◌+◌, ◌-◌, ◌^◌, ◌<◌, ◌≤◌, Bool, true, false}
+use Rattle.std.proofs.Common.{not, cond, leb, List, [], ◌∷◌}
+use Rattle.std.proofs.Common.{◌++◌, ℤ, neg_ℤ, length, Option, Some, None, refl, ap, sym, subst, ◌∙◌}
+use Rattle.std.proofs.Common.{append_assoc}
 use Rattle.std.proofs.Common.{length-append, arith}
 use Rattle.std.specs.Prelude.{unsigned_abs}
 use Rattle.std.specs.List.{list_any, list_all}
 use Rattle.std.proofs.lemmas.List.{append-nil}
 use Rattle.std.proofs.lemmas.List.Elements.{filter-append}
-use Rattle.std.proofs.lemmas.Bool.{false≢true, and_from, and_parts, cond-false, or_parts, not_from_false}
+use Rattle.std.proofs.lemmas.Bool.{and_from, and_parts, cond-false, or_parts, not_from_false}
 use Rattle.std.proofs.lemmas.Bool.{false_from_ne_true, lt-leb}
 use Rattle.cnf_form.specs.Cnf.{IsLiteral, AreLiterals, AreClauses}
 use Rattle.lrat_check.specs.declared.reading.Reading.{Reading}
@@ -14,7 +16,7 @@ use Rattle.lrat_check.specs.declared.reading.Reading.TheVariants as read
 use Rattle.lrat_check.specs.declared.step.Step.{Step}
 use Rattle.lrat_check.specs.declared.step.Step.TheVariants.{Add}
 use Rattle.lrat_check.specs.declared.step.StepFault.TheVariants as fault
-use Rattle.lrat_check.specs.Sets.{has, is_false, same_set, negs, reading}
+use Rattle.lrat_check.specs.Sets.{is_false, same_set, negs, reading}
 use Rattle.lrat_check.specs.Steps.{Held, numbered, is_negative, is_empty, walk, add_fault, verdict, judged, Refutes}
 use Rattle.lrat_check.specs.Steps.{Valid}
 use Rattle.lrat_check.specs.Resolved.{resolvent, IsResolvent, Strengthens, AllResolved, Resolved, derived_from}
@@ -22,15 +24,14 @@ use Rattle.lrat_check.specs.Resolved.{derived, consistent}
 use Rattle.lrat_check.proofs.Stores.{numbered_more}
 use Rattle.lrat_check.proofs.Sound.{verdict_adds, verdict_empty}
 use Rattle.sat_trail.specs.declared.trail.Entry.{Entry}
-use Rattle.sat_trail.specs.Trail.{Entries, lits, below, Stands, Stand}
+use Rattle.sat_trail.specs.Trail.{Entries, lits, Stands, Stand}
 use Rattle.sat_trail.specs.Clauses.{AllFalse, Within}
-use Rattle.sat_search.specs.Analysis.{Derives, Level, is_unit}
-use Rattle.sat_search.specs.Learning.{Learns}
+use Rattle.sat_learn.specs.Analysis.{Derives}
+use Rattle.sat_learn.specs.Learning.{Learns}
 use Rattle.sat_search.specs.Found.{nonempty, AreAdded}
 use Rattle.sat_search.specs.Searching.{Searching}
-use Rattle.sat_trail.proofs.Readings.{unit_to}
-use Rattle.sat_search.proofs.Tracing.{no_pair}
-use Rattle.sat_search.proofs.News.{all_from, unit_is, is_resolvent, strengthens, is_new}
+use Rattle.sat_unit.proofs.Consistent.{no_pair}
+use Rattle.sat_learn.proofs.News.{all_from, is_resolvent, strengthens, is_new}
 use Rattle.sat_search.proofs.Literals.{literal_at, literals_from, neg_literal, clauses_more, clauses_behind}
 use Rattle.sat_search.proofs.Counts.{fewer_clauses, apart_more}
 
@@ -122,33 +123,6 @@ all_last p (d ∷ ds) r h k = let q = and_parts (p d) (list_all p ds) h
 none_behind : (p : List ℤ → Bool) (a b : List (List ℤ)) → list_any p (a ++ b) ≡ false → list_any p b ≡ false
 none_behind p [] b h = h
 none_behind p (c ∷ a) b h = none_behind p a b (or_parts (p c) (list_any p (a ++ b)) h).1
-
-some_at : (r : List ℤ) (l : ℤ) → has r l ≡ true → is_empty r ≡ false
-some_at [] l h = absurd (false≢true h)
-some_at (m ∷ r) l h = refl
-
--- one clause is learnt, where it is traced back until one literal alone is open, and then joins the others
-pub learns_on : (cs more : List (List ℤ)) (t mid cut : Entries) (steps longer : List Step) (r hints : List ℤ)
-    → Derives cs mid r hints → Level (below t) mid r → is_unit (reading (lits (below mid)) r) ≡ true
-    → Within (lits mid) (lits t) → Within (lits cut) (lits mid) → Stand (cs ++ r ∷ []) cut → more ≡ cs ++ r ∷ []
-    → longer ≡ steps ++ Add (length cs + 1) r hints ∷ [] → length cs + 1 < 2 ^ 63 - 1
-    → Learns cs more t cut steps longer
-learns_on cs more t mid cut steps longer r hints d v u w x s e f few =
-    let l = unit_is (reading (lits (below mid)) r) u in
-    record {
-      clause = r;
-      hints = hints;
-      joined = e;
-      added = f;
-      resolvent = is_resolvent cs mid r hints d;
-      strengthens = strengthens cs mid r hints d v.decided u;
-      some = some_at r l.0 (unit_to (lits (below mid)) r l.0 l.1).member;
-      fine = d.fine;
-      stand = (let P : List (List ℤ) → Type 0 = λ z. Stand z cut in subst P (sym e) s);
-      false_there = λ y h. w (neg_ℤ y) (d.all_false y h);
-      part = λ y h. w y (x y h);
-      few = few;
-    }
 
 pub begins : (vars budget : ℕ) (formula : List (List ℤ)) → AreClauses vars formula → length formula < 2 ^ 63 - 1
     → Searching vars budget formula formula [] [] budget

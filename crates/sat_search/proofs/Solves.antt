@@ -1,5 +1,6 @@
 -- What each round of the search owes to the calls that it makes.
-use Rattle.std.proofs.Common.{◌≡◌, ℕ, ◌+◌, ◌^◌, ◌<◌, false, List, ◌∷◌, ℤ, neg_ℤ, pos, Some, None, ap, sym, subst, ◌∙◌}
+use Rattle.std.proofs.Common.{◌≡◌, ℕ, ◌+◌, ◌^◌, ◌<◌, true, false, List, ◌∷◌, ℤ, neg_ℤ, pos}
+use Rattle.std.proofs.Common.{Some, None, ap, sym, subst, ◌∙◌}
 use Rattle.std.proofs.Common.{w64}
 use Rattle.std.proofs.Common.{to_z, of_z, arith}
 use Rattle.std.specs.Prelude.{slice_get}
@@ -9,14 +10,17 @@ use Rattle.cnf_form.specs.Cnf.{IsLiteral}
 use Rattle.lrat_check.specs.declared.step.Step.{Step}
 use Rattle.lrat_check.specs.Sets.{has, is_false, IsLit}
 use Rattle.sat_trail.specs.declared.trail.Entry.{Entry}
-use Rattle.sat_search.specs.declared.propagation.Scan.TheVariants as scan
-use Rattle.sat_trail.specs.Trail.{Entries, lits, Stand, IsOpenVar, IsOpenLit}
-use Rattle.sat_search.specs.Propagation.{AllLits, Sees}
-use Rattle.sat_search.specs.Analysis.{IsConflict}
+use Rattle.sat_unit.specs.declared.scan.Scan.TheVariants as scan
+use Rattle.sat_trail.specs.Trail.{Entries, lits, Stand, IsOpenVar, IsOpenLit, is_decision, settled}
+use Rattle.sat_unit.specs.declared.scan.Scan.{Scan}
+use Rattle.sat_unit.specs.Propagation.{AllLits, Sees, Taken, Holds, HoldsOn}
+use Rattle.sat_unit.proofs.Going.{cut_to, joined_by}
+use Rattle.sat_learn.specs.Learning.{Learns}
+use Rattle.sat_learn.specs.Analysis.{IsConflict}
 use Rattle.sat_search.specs.Searching.{Searching, rounds}
 use Rattle.sat_trail.proofs.Members.{neg_neg}
 use Rattle.sat_trail.proofs.Readings.{Alone, unit_to}
-use Rattle.sat_search.proofs.Backs.{lits_at}
+use Rattle.sat_unit.proofs.ByPlace.{lits_at}
 use Rattle.sat_search.proofs.Literals.{literal_at, neg_literal, lit_of, all_lits, clause_at}
 use Rattle.sat_search.proofs.Searches.{pushed_on}
 use Rattle.sat_search.proofs.Rounds.{value_falls}
@@ -108,3 +112,25 @@ module _ (vars budget : ℕ) (formula cs : List (List ℤ)) (t : Entries) (steps
         lit = l;
         reason = None;
       }) t whole decision_is h.0 h.1 h.2
+
+      pub decision_on : settled seen (lits t) ≡ true → Searching vars budget formula cs whole steps left
+      decision_on k = pushed_on vars budget formula cs t steps left s
+          (record { lit = l; reason = None }) whole decision_is h.0
+          (record {
+            lit = lit_of vars l v h.0;
+            free = h.1;
+            unfalse = h.2;
+            because = ap (λ z. settled z (lits t)) (sym same) ∙ k;
+          })
+
+-- what is kept of the watches, behind an entry that comes
+pub holds_behind : (cs seen : List (List ℤ)) (t whole : Entries) (p : Taken) (e : Entry) (found : Scan) → seen ≡ cs
+    → whole ≡ e ∷ t → HoldsOn seen t p found → (is_decision e ≡ true → found ≡ scan.Settled) → Holds cs whole p
+holds_behind cs seen t whole p e found same w h d =
+    subst (λ z. Holds cs z p) (sym w) (subst (λ z. Holds z (e ∷ t) p) same (h.1 e d))
+
+-- and where a clause is learnt
+pub learnt_holds : (cs more : List (List ℤ)) (t cut : Entries) (steps longer : List Step) (p : Taken) → Stand cs t
+    → Holds cs t p → Learns cs more t cut steps longer → Holds more cut p
+learnt_holds cs more t cut steps longer p s h w =
+    subst (λ z. Holds z cut p) (sym w.joined) (joined_by cs w.clause cut p (cut_to cs t cut p s h w.older))

@@ -2,14 +2,9 @@
 //! up, steps that derive as many clauses as the budget.
 #![tactic(auto)]
 
-mod analysis;
 mod found;
-mod learning;
-mod order;
-mod propagation;
 mod search;
 mod shared;
-mod watches;
 
 pub use found::Found;
 pub use search::solve;

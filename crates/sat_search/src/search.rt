@@ -5,15 +5,14 @@ ghost use Rattle.lrat_check.specs.Resolved.{Resolved, derived};
 ghost use Rattle.sat_trail.specs.Trail.{lits, values_of};
 ghost use Rattle.sat_search.specs.Found.{IfModel, IfRefuted, IfSpent, IfSteps, AreAdded, nonempty};
 
-use crate::analysis::to_empty;
 use crate::found::Found;
-use crate::learning::{MOST_CLAUSES, add, learn};
-use crate::order::Order;
-use crate::propagation::Scan;
-use crate::watches::Watches;
 use cnf_form::Formula;
 use fv_base::{List, Memory};
+use lrat_check::Step;
+use sat_learn::{MOST_CLAUSES, add, learn, to_empty};
+use sat_order::Order;
 use sat_trail::{Entry, Trail};
+use sat_unit::{Propagation, Scan};
 use std::alloc::Global;
 
 /// Values that make the formula true, or steps that refute it, or, where that takes more learnt clauses than the
@@ -46,10 +45,11 @@ pub fn solve(alloc: Global, formula: &Formula, budget: u64) -> Result<Found, Mem
     let mut trail = Trail::new(alloc);
     let mut steps = List::new(alloc);
     let mut left = budget;
-    let mut watches = Watches::new(alloc);
-    let mut order = Order::new(alloc);
+    let mut propagation = Propagation::new(alloc);
+    let mut order = order_of(alloc, formula)?;
     'turns: loop {
-        match watches.next(clauses.as_slice(), &trail) {
+        let scan = propagation.next(clauses.as_slice(), &trail)?;
+        match scan {
             Scan::Unit(place, lit) => {
                 order.set_phase(lit);
                 trail.push(Entry {
@@ -57,12 +57,7 @@ pub fn solve(alloc: Global, formula: &Formula, budget: u64) -> Result<Found, Mem
                     reason: Some(place),
                 })?
             }
-            Scan::Settled => match order.decide(
-                vars,
-                &trail,
-                clauses.as_slice(),
-                steps.as_slice(),
-            ) {
+            Scan::Settled => match order.decide(vars, &trail) {
                 None => return Ok(Found::Model(values(alloc, vars, &trail)?)),
                 Some(lit) => trail.push(Entry { lit, reason: None })?,
             },
@@ -73,6 +68,12 @@ pub fn solve(alloc: Global, formula: &Formula, budget: u64) -> Result<Found, Mem
                     return Ok(Found::Refuted(steps));
                 }
                 learn(alloc, &mut clauses, &mut trail, &mut steps, place)?;
+                note(
+                    &mut order,
+                    clauses.as_slice(),
+                    steps.as_slice(),
+                    trail.len(),
+                );
                 left -= 1;
                 if left == 0 {
                     return Ok(Found::Spent(steps));
@@ -80,6 +81,29 @@ pub fn solve(alloc: Global, formula: &Formula, budget: u64) -> Result<Found, Mem
             }
         }
     }
+}
+
+/// An order of the variables that the formula's clauses name.
+fn order_of(alloc: Global, formula: &Formula) -> Result<Order, Memory> {
+    let mut order = Order::new(alloc);
+    for clause in formula.clauses() {
+        order.meet(clause.as_slice())?;
+    }
+    Ok(order)
+}
+
+/// A conflict is over, and the trail cut to so many entries: the variables of the last step's hints took part in it.
+fn note(order: &mut Order, clauses: &[List<i64>], steps: &[Step], len: usize) {
+    if let Some(Step::Add { hints, .. }) = steps.last() {
+        for hint in hints.as_slice() {
+            let place = (hint.unsigned_abs() as usize).saturating_sub(1);
+            if let Some(clause) = clauses.get(place) {
+                order.bump(clause.as_slice());
+            }
+        }
+    }
+    order.decay();
+    order.cut(len);
 }
 
 /// A copy of the formula's clauses.

@@ -1,8 +1,12 @@
 use Rattle.std.proofs.Common.{ℕ, List, ℤ, ◌+◌, ◌-◌, ◌^◌, ◌<◌, [], length, reverse, ap, sym, ◌∙◌, subst, refl, arith}
+use Rattle.std.proofs.Common.{Some, None, w64, to_z, of_z}
+use Rattle.std.proofs.lemmas.Bool.{false≢true}
 use Rattle.cnf_form.specs.Cnf.{AreClauses, formula_true, value_of}
 use Rattle.lrat_check.specs.declared.step.Step.{Step}
-use Rattle.sat_trail.specs.Trail.{Entries, lits, AllAssigned, IsOpenLit, settled, values_of}
-use Rattle.sat_search.specs.Analysis.{Derives}
+use Rattle.sat_trail.specs.declared.trail.Entry.{Entry}
+use Rattle.sat_trail.specs.Trail.{Entries, lits, AllAssigned, IsOpenLit, settled, values_of, Stand}
+use Rattle.sat_unit.specs.Propagation.{Sees, Holds}
+use Rattle.sat_learn.specs.Analysis.{Derives}
 use Rattle.sat_search.specs.Searching.{Searching}
 use Rattle.sat_search.proofs.Added.{are_steps}
 use Rattle.sat_search.proofs.Models.{length_values, models}
@@ -10,6 +14,7 @@ use Rattle.sat_search.proofs.Rounds.{clause_falls}
 use Rattle.sat_search.proofs.Searches.{begins, learnt_on, valid_now, added_now, derived_now, bound_now, refutes_now}
 use Rattle.sat_search.proofs.Searches.{fewer_now, refuted_added}
 use Rattle.sat_search.proofs.Solves.{seen_lits, conflict_at, unit_free, unit_lit, unit_on, unit_falls, decision_falls}
+use Rattle.sat_search.proofs.Solves.{decision_on, holds_behind, learnt_holds}
 use Rattle.sat_search.proofs.search.solve.Goals as goal
 
 pub turns-init : goal.turns-init
@@ -29,10 +34,20 @@ turns-init c =
           c.in_ok-clauses.ensures.literals)
           (omega (arith, ap length c.in_ok-clauses.ensures.value))))),
       c.requires,
+      subst (λ z. Holds c.in_ok-clauses.clauses z c.new-propagation.result) (sym c.new-trail.ensures)
+          (c.new-propagation.ensures c.in_ok-clauses.clauses),
     )
 
-pub next-requires : goal.next-requires
-next-requires c =
+pub next-requires-clause-holds : goal.next-requires-clause-holds
+next-requires-clause-holds c =
+    subst (λ z. Holds z c.turns.trail c.turns.propagation) (sym c.as_slice.ensures) c.turns.invariant.2
+
+pub next-requires-clause-stand : goal.next-requires-clause-stand
+next-requires-clause-stand c =
+    subst (λ z. Stand z c.turns.trail) (sym c.as_slice.ensures) c.turns.invariant.0.stand
+
+pub next-requires-clause-lits : goal.next-requires-clause-lits
+next-requires-clause-lits c =
     let v : c.args.formula.now.vars < 2 ^ 63 = omega (arith, c.vars-vars.ensures.value, c.vars-vars.ensures.small) in
     seen_lits c.args.formula.now.vars c.args.budget c.args.formula.now.clauses c.turns.clauses
     c.turns.trail c.turns.steps c.turns.left
@@ -43,14 +58,14 @@ push-requires-clause-lit c =
     let v : c.args.formula.now.vars < 2 ^ 63 = omega (arith, c.vars-vars.ensures.value, c.vars-vars.ensures.small) in
     unit_lit c.args.formula.now.vars c.args.budget c.args.formula.now.clauses c.turns.clauses
     c.turns.trail c.turns.steps c.turns.left
-    c.turns.invariant.0 v c.as_slice.result.now c.as_slice.ensures c.in-Unit.place c.in-Unit.lit c.in-Unit.ensures
+    c.turns.invariant.0 v c.as_slice.result.now c.as_slice.ensures c.in-Unit.place c.in-Unit.lit (subst (Sees c.as_slice.result.now (lits c.turns.trail)) c.in-Unit.is c.in_ok-scan.ensures.sees)
 
 pub push-requires-clause-fresh : goal.push-requires-clause-fresh
 push-requires-clause-fresh c =
     let v : c.args.formula.now.vars < 2 ^ 63 = omega (arith, c.vars-vars.ensures.value, c.vars-vars.ensures.small) in
     unit_free c.args.formula.now.vars c.args.budget c.args.formula.now.clauses c.turns.clauses
     c.turns.trail c.turns.steps c.turns.left
-    c.turns.invariant.0 v c.as_slice.result.now c.as_slice.ensures c.in-Unit.place c.in-Unit.lit c.in-Unit.ensures
+    c.turns.invariant.0 v c.as_slice.result.now c.as_slice.ensures c.in-Unit.place c.in-Unit.lit (subst (Sees c.as_slice.result.now (lits c.turns.trail)) c.in-Unit.is c.in_ok-scan.ensures.sees)
 
 pub turns-smaller-in_ok-push-in-Unit : goal.turns-smaller-in_ok-push-in-Unit
 turns-smaller-in_ok-push-in-Unit c =
@@ -58,7 +73,7 @@ turns-smaller-in_ok-push-in-Unit c =
     unit_falls c.args.formula.now.vars c.args.budget c.args.formula.now.clauses c.turns.clauses
     c.turns.trail c.turns.steps c.turns.left
     c.turns.invariant.0 v c.as_slice.result.now c.as_slice.ensures c.in-Unit.place c.in-Unit.lit
-    c.in-Unit.ensures c.push.new.self c.in_ok-push-in-Unit.ensures
+    (subst (Sees c.as_slice.result.now (lits c.turns.trail)) c.in-Unit.is c.in_ok-scan.ensures.sees) c.push.new.self c.in_ok-push-in-Unit.ensures
 
 pub turns-preserved-in_ok-push-in-Unit : goal.turns-preserved-in_ok-push-in-Unit
 turns-preserved-in_ok-push-in-Unit c =
@@ -66,8 +81,12 @@ turns-preserved-in_ok-push-in-Unit c =
       unit_on c.args.formula.now.vars c.args.budget c.args.formula.now.clauses c.turns.clauses
           c.turns.trail c.turns.steps c.turns.left
           c.turns.invariant.0 v c.as_slice.result.now c.as_slice.ensures c.in-Unit.place c.in-Unit.lit
-          c.in-Unit.ensures c.push.new.self c.in_ok-push-in-Unit.ensures,
+          (subst (Sees c.as_slice.result.now (lits c.turns.trail)) c.in-Unit.is c.in_ok-scan.ensures.sees) c.push.new.self c.in_ok-push-in-Unit.ensures,
       c.turns.invariant.1,
+      holds_behind c.turns.clauses c.as_slice.result.now c.turns.trail c.push.new.self c.next.new.self
+          (record { lit = to_z w64 (of_z w64 c.in-Unit.lit); reason = Some c.in-Unit.place }) c.in_ok-scan.scan
+          c.as_slice.ensures c.in_ok-push-in-Unit.ensures c.in_ok-scan.ensures.holds
+          (λ d. absurd (false≢true d)),
     )
 
 pub returns-in-None-clause-len : goal.returns-in-None-clause-len
@@ -84,7 +103,7 @@ returns-in-None-clause-model c =
     (subst P c.vars-vars.ensures.value c.in-None.ensures)
     c.args.formula.now.clauses c.turns.invariant.0.learnt c.turns.invariant.0.joined
     c.turns.invariant.0.names
-    (ap (λ z. settled z (lits c.turns.trail)) (sym c.as_slice.ensures) ∙ c.in-Settled.ensures)
+    (ap (λ z. settled z (lits c.turns.trail)) (sym c.as_slice.ensures) ∙ (subst (Sees c.as_slice.result.now (lits c.turns.trail)) c.in-Settled.is c.in_ok-scan.ensures.sees))
 
 pub turns-smaller-in_ok-push-in-Some : goal.turns-smaller-in_ok-push-in-Some
 turns-smaller-in_ok-push-in-Some c =
@@ -94,6 +113,23 @@ turns-smaller-in_ok-push-in-Some c =
     c.turns.trail c.turns.steps c.turns.left
     c.turns.invariant.0 v c.as_slice.result.now c.as_slice.ensures c.in-Some.lit
     (subst P c.vars-vars.ensures.value c.in-Some.ensures) c.push-in-Some.new.self c.in_ok-push-in-Some.ensures
+
+pub turns-preserved-in_ok-push-in-Some : goal.turns-preserved-in_ok-push-in-Some
+turns-preserved-in_ok-push-in-Some c =
+    let v : c.args.formula.now.vars < 2 ^ 63 = omega (arith, c.vars-vars.ensures.value, c.vars-vars.ensures.small) in
+    let P : ℕ → Type 0 = λ n. IsOpenLit n (lits c.turns.trail) c.in-Some.lit in
+    let e : Entry = record { lit = to_z w64 (of_z w64 c.in-Some.lit); reason = None } in (
+      decision_on c.args.formula.now.vars c.args.budget c.args.formula.now.clauses c.turns.clauses
+          c.turns.trail c.turns.steps c.turns.left
+          c.turns.invariant.0 v c.as_slice.result.now c.as_slice.ensures c.in-Some.lit
+          (subst P c.vars-vars.ensures.value c.in-Some.ensures) c.push-in-Some.new.self
+          c.in_ok-push-in-Some.ensures
+          (subst (Sees c.as_slice.result.now (lits c.turns.trail)) c.in-Settled.is c.in_ok-scan.ensures.sees),
+      c.turns.invariant.1,
+      holds_behind c.turns.clauses c.as_slice.result.now c.turns.trail c.push-in-Some.new.self c.next.new.self e
+          c.in_ok-scan.scan c.as_slice.ensures c.in_ok-push-in-Some.ensures c.in_ok-scan.ensures.holds
+          (λ d. c.in-Settled.is),
+    )
 
 pub to_empty-requires-clause-lits : goal.to_empty-requires-clause-lits
 to_empty-requires-clause-lits c =
@@ -108,7 +144,7 @@ to_empty-requires-clause-conflict c =
     conflict_at c.args.formula.now.vars c.args.budget c.args.formula.now.clauses c.turns.clauses
     c.turns.trail c.turns.steps c.turns.left
     c.turns.invariant.0 v c.as_slice.result.now c.as_slice.ensures c.in-Conflict.place
-    c.as_slice-then-not-has_decision.result.now c.as_slice-then-not-has_decision.ensures c.in-Conflict.ensures
+    c.as_slice-then-not-has_decision.result.now c.as_slice-then-not-has_decision.ensures (subst (Sees c.as_slice.result.now (lits c.turns.trail)) c.in-Conflict.is c.in_ok-scan.ensures.sees)
 
 pub returns-then-not-has_decision-clause-refuted : goal.returns-then-not-has_decision-clause-refuted
 returns-then-not-has_decision-clause-refuted c =
@@ -149,7 +185,7 @@ learn-requires-clause-conflict c =
     conflict_at c.args.formula.now.vars c.args.budget c.args.formula.now.clauses c.turns.clauses
     c.turns.trail c.turns.steps c.turns.left
     c.turns.invariant.0 v c.as_slice.result.now c.as_slice.ensures c.in-Conflict.place c.turns.clauses refl
-    c.in-Conflict.ensures
+    (subst (Sees c.as_slice.result.now (lits c.turns.trail)) c.in-Conflict.is c.in_ok-scan.ensures.sees)
 
 pub returns-then-left-eq0-clause-valid : goal.returns-then-left-eq0-clause-valid
 returns-then-left-eq0-clause-valid c =
@@ -225,4 +261,8 @@ turns-preserved c = (
       c.turns.invariant.0 c.learn.new.clauses c.learn.new.trail c.learn.new.steps
       (c.turns.left - 1) c.in_ok-learn-in-Conflict.ensures (omega (arith, c.turns.invariant.1)),
   omega (arith, c.turns.invariant.1, c.if-left-eq0.false),
+  learnt_holds c.turns.clauses c.learn.new.clauses c.turns.trail c.learn.new.trail c.turns.steps c.learn.new.steps
+      c.next.new.self c.turns.invariant.0.stand
+      (subst (λ z. Holds z c.turns.trail c.next.new.self) c.as_slice.ensures c.in_ok-scan.ensures.holds.0)
+      c.in_ok-learn-in-Conflict.ensures,
 )

@@ -1,0 +1,93 @@
+ghost use Rattle.std.specs.Prelude.{
+  ◌≡◌,
+  ◌<◌,
+  ◌+◌,
+  ◌-◌,
+  ◌^◌,
+  [],
+  ◌∷◌,
+  ◌++◌,
+  true,
+  length,
+  reverse,
+  OnOk,
+};
+ghost use Rattle.lrat_check.specs.Sets.{reading, AreLits};
+ghost use Rattle.sat_trail.specs.Trail.{lits as true_lits, below, decided, Stand};
+ghost use Rattle.sat_unit.specs.Propagation.{AllLits};
+ghost use Rattle.sat_trail.specs.Clauses.{Within};
+ghost use Rattle.sat_watch.specs.Laws.{IsOlder};
+ghost use Rattle.sat_learn.specs.Analysis.{IsConflict, is_unit};
+ghost use Rattle.sat_learn.specs.Learning.{Learns};
+
+use crate::analysis::{Learnt, is_unit, to_unit};
+use fv_base::{List, Memory};
+use lrat_check::Step;
+use sat_trail::Trail;
+use std::alloc::Global;
+
+/// More clauses than this have no place in memory, and below it each id is an `i64`.
+pub const MOST_CLAUSES: usize = 9000000000000000000;
+
+/// Takes levels off as long as the clause still forces a literal.
+fn backjump(clauses: &[List<i64>], trail: &mut Trail, lits: &[i64])
+    requires lits { AreLits lits.now }
+    requires stand { Stand clauses.now trail.old }
+    requires unit { is_unit (reading (true_lits (below trail.old)) lits.now) ≡ true }
+    requires decided { decided trail.old ≡ true }
+    ensures stand { Stand (clauses.now ++ lits.now ∷ []) trail.new }
+    ensures part { Within (true_lits trail.new) (true_lits trail.old) }
+    ensures older { IsOlder trail.old trail.new }
+{
+    trail.drop_level();
+    while trail.has_decision() && is_unit(trail.read_below(lits)) {
+        trail.drop_level();
+    }
+}
+
+/// The clause joins the others, and the step that adds it the other steps.
+pub fn add(
+    alloc: Global,
+    clauses: &mut List<List<i64>>,
+    steps: &mut List<Step>,
+    learnt: Learnt,
+) -> Result<(), Memory>
+    requires few { length clauses.old < 2 ^ 63 - 1 }
+    ensures clauses { OnOk result (clauses.new ≡ clauses.old ++ learnt.lits.items ∷ []) }
+    ensures steps { OnOk result (steps.new ≡ steps.old
+        ++ Step.Add (length clauses.old + 1) learnt.lits.items (reverse learnt.hints.items) ∷ []) }
+{
+    let id = clauses.len() as u64 + 1;
+    let Learnt { lits, mut hints } = learnt;
+    hints.reverse();
+    let added = List::from_vec(Vec::from_slice(alloc, &lits)?);
+    clauses.push(List::from_vec(lits))?;
+    steps.push(Step::Add {
+        id,
+        lits: added,
+        hints: List::from_vec(hints),
+    })?;
+    Ok(())
+}
+
+/// Learns a clause from one that is false, and takes the trail back to where it forces a literal.
+pub fn learn(
+    alloc: Global,
+    clauses: &mut List<List<i64>>,
+    trail: &mut Trail,
+    steps: &mut List<Step>,
+    conflict: usize,
+) -> Result<(), Memory>
+    requires lits { AllLits clauses.old }
+    requires decided { decided trail.old ≡ true }
+    requires conflict { IsConflict clauses.old trail.old conflict }
+    ensures { OnOk result (Learns clauses.old clauses.new trail.old trail.new steps.old steps.new) }
+{
+    if clauses.len() >= MOST_CLAUSES {
+        return Err(Memory);
+    }
+    let learnt = to_unit(alloc, clauses.as_slice(), trail, conflict)?;
+    backjump(clauses.as_slice(), trail, &learnt.lits);
+    add(alloc, clauses, steps, learnt)?;
+    Ok(())
+}

@@ -1,0 +1,7 @@
+//! Which variable a search decides next, and how.
+#![tactic(auto)]
+
+mod heap;
+mod order;
+
+pub use order::Order;
