@@ -1,0 +1,4 @@
+pub mod Copying
+pub mod EachKind
+pub mod Moving
+pub mod Writing
