@@ -159,20 +159,7 @@ use std::process::Abort;
 use std::test::Fail;
 use wn_net::Node;
 
-/// The number before a blank or the end.
-fn count(bytes: &[u8]) -> u64 {
-    let mut number: u64 = 0;
-    for byte in bytes {
-        if *byte == b' ' {
-            return number;
-        }
-        if *byte >= b'0' && *byte <= b'9' {
-            number = number.wrapping_mul(10).wrapping_add((*byte - b'0') as u64);
-        }
-    }
-    number
-}
-
+COUNT
 /// Adds a gate of two literals of the graph.
 fn gate(rt: &impl Abort, aig: &mut Aig, a: Lit, b: Lit) -> Result<Lit, Fail> {
     let most = 2 * aig.len() as u64;
@@ -261,7 +248,7 @@ def show_products(program):
 
 def show_times():
     nodes = ["Node::Input(0)", "Node::Input(1)"] + [f"Node::Mul({at}, {at + 1})" for at in range(PRODUCTS)]
-    text = TIMES.replace("NODES", ", ".join(nodes))
+    text = TIMES.replace("NODES", ", ".join(nodes)).replace("COUNT\n", made.COUNT)
     with made.program("many_gates", text, ["bb_blast", "bb_aig", "cnf_gates", "wn_net"]) as program:
         show_products(program)
         for gates in [2500000, 5000000, 10000000]:

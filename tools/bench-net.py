@@ -20,20 +20,7 @@ use std::io::Read;
 use std::process::Abort;
 use wn_net::{InputKind, Net, NodeId, State};
 
-/// The number before a blank or the end.
-fn count(bytes: &[u8]) -> u64 {
-    let mut number: u64 = 0;
-    for byte in bytes {
-        if *byte == b' ' {
-            return number;
-        }
-        if *byte >= b'0' && *byte <= b'9' {
-            number = number.wrapping_mul(10).wrapping_add((*byte - b'0') as u64);
-        }
-    }
-    number
-}
-
+COUNT
 /// One node more, of a kind that changes from turn to turn.
 fn more(rt: &impl Abort, net: &mut Net, turn: u64, a: NodeId, b: NodeId) -> Result<NodeId, Memory> {
     assert!(rt; net.has(a));
@@ -100,7 +87,7 @@ def last(nodes):
 
 
 def main():
-    with made.program("many_nodes", PROGRAM, ["wn_net", "fv_base"]) as program:
+    with made.program("many_nodes", PROGRAM.replace("COUNT\n", made.COUNT), ["wn_net", "fv_base"]) as program:
         for nodes in [2500000, 5000000, 10000000]:
             for work in ["built", "evaluated", "copied"]:
                 start = time.time()
