@@ -1,6 +1,6 @@
 #!/usr/bin/env python3
-"""Counts the nodes that one read and one write of a memory add, and how deep they are, by a program that builds both and
-prints the nodes that it has then. Not part of the gate.
+"""Counts the nodes that one read, one write under a mask and one write of all bits of a memory add, and how deep they are, by
+a program that builds each and prints the nodes that it has then. Not part of the gate.
 
 Usage: tools/count-nodes.py   Prints a line for each number of words: at an address of just enough bits, at one of 32 bits, and
 at a constant address.
@@ -29,21 +29,34 @@ fn main(rt: HostRuntime) -> Result<(), Fail> {
         println!(rt; "read {words} {bits}")?;
         print_nodes(&rt, &net, before)?;
 
-        let mut net = Net::new(alloc);
-        let addr = address(&mut net, bits)?;
-        let mut nodes = put_words(alloc, &mut net, words)?;
-        let write = MemWrite {
-            enable: net.input(1, InputKind::EachCycle)?,
-            addr,
-            mask: net.input(32, InputKind::EachCycle)?,
-            value: net.input(32, InputKind::EachCycle)?,
-        };
-        let before = net.nodes().len();
-        write_all(alloc, &mut net, nodes.as_mut_slice(), &write)?;
         println!(rt; "write {words} {bits}")?;
-        print_nodes(&rt, &net, before)?;
+        write(&rt, words, bits, false)?;
+        println!(rt; "whole {words} {bits}")?;
+        write(&rt, words, bits, true)?;
     }
     Ok(())
+}
+
+/// Adds a write, of all bits of a word or under a mask, and prints its nodes.
+fn write(rt: &HostRuntime, words: u32, bits: u32, whole: bool) -> Result<(), Fail> {
+    let alloc = rt.alloc();
+    let mut net = Net::new(alloc);
+    let addr = address(&mut net, bits)?;
+    let mut nodes = put_words(alloc, &mut net, words)?;
+    let mask = if whole {
+        net.konst(Word::new(32, 0xffff_ffff).ok_or("no word")?)?
+    } else {
+        net.input(32, InputKind::EachCycle)?
+    };
+    let write = MemWrite {
+        enable: net.input(1, InputKind::EachCycle)?,
+        addr,
+        mask,
+        value: net.input(32, InputKind::EachCycle)?,
+    };
+    let before = net.nodes().len();
+    write_all(alloc, &mut net, nodes.as_mut_slice(), &write)?;
+    print_nodes(rt, &net, before)
 }
 
 /// An address of so many bits; of none the constant 1.
@@ -95,12 +108,13 @@ def main():
 
 
 def show(lines):
-    heads = [at for at, line in enumerate(lines) if re.match("(read|write) ", line)] + [len(lines)]
+    heads = [at for at, line in enumerate(lines) if re.match("(read|write|whole) ", line)] + [len(lines)]
     for at, end in zip(heads, heads[1:]):
         work, words, bits = lines[at].split()
         nodes = lines[at + 2:end]
         where = f"an address of {bits} bits" if bits != "0" else "a constant address"
-        print(f"{work} of {words} words at {where}: {len(nodes)} nodes, {deepest(int(lines[at + 1].split()[1]), nodes)} deep")
+        name = "write of all bits" if work == "whole" else work
+        print(f"{name} of {words} words at {where}: {len(nodes)} nodes, {deepest(int(lines[at + 1].split()[1]), nodes)} deep")
 
 
 main()

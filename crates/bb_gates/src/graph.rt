@@ -113,7 +113,7 @@ impl Gates {
         aig
     }
 
-    /// The gate of both, where a guess is right.
+    /// The gate of both, where a guess is right. A gate stands in front of the first place that is free.
     fn found(&self, a: Lit, b: Lit) -> Option<Lit>
         ensures there { IfSome result (IsLit self.now) }
         ensures both { IfSome result (Both self.now a b) }
@@ -124,8 +124,11 @@ impl Gates {
         }
         let first = first_place(a, b, places);
         for turn in 0..PLACES {
-            let place = later_place(first, turn, places);
-            if let Some(lit) = gate_at(&self.aig, self.guesses[place], a, b) {
+            let guess = self.guesses[later_place(first, turn, places)];
+            if guess == 0 {
+                return None;
+            }
+            if let Some(lit) = gate_at(&self.aig, guess, a, b) {
                 return Some(lit);
             }
         }

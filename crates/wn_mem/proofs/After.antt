@@ -1,12 +1,13 @@
 -- Words after a write, by their values.
 use Rattle.std.specs.Prelude.{◌≡◌, refl, ℕ, zero, suc, ◌+◌, ◌<◌, ◌≤◌, ◌^◌, ◌==◌, nat_lt, Bool, true}
 use Rattle.std.specs.Prelude.{false, if◌then◌else◌, List, [], ◌∷◌, length, slice_index, slice_set}
-use Rattle.std.specs.Prelude.{bit_and, ◌&&◌, Option, None, Some}
+use Rattle.std.specs.Prelude.{bit_and, bit_or, ◌&&◌, Option, None, Some, IfSome}
+use Rattle.std.specs.Int.Bits.{or_zero_r, and_zero_l}
 use Rattle.std.proofs.Common.{ap, sym, ◌∙◌, arith, subst}
 use Rattle.std.proofs.lemmas.Bool.Decides.{nat_tests}
 use Rattle.std.proofs.lemmas.List.{get_or-map, map-set}
 use Rattle.std.proofs.lemmas.List.{set-get_or, set_past}
-use Rattle.fv_bits.specs.Bits.{bit, masked, joined}
+use Rattle.fv_bits.specs.Bits.{bit, complement, masked, joined}
 use Rattle.wn_net.specs.Value.{Given, word_at}
 use Rattle.wn_net.specs.Next.{written}
 use Rattle.wn_net.specs.Net.{Netlist, IsNet, IsNode, IsNodeOf, AreNodesOf, width_at, value_at}
@@ -15,7 +16,7 @@ use Rattle.wn_net.specs.Changes.{AddsNodes}
 use Rattle.wn_net.proofs.Laws.{value_on, node_on, nodes_on, there_on}
 use Rattle.wn_net.proofs.Moved.{value_within}
 use Rattle.wn_net.specs.declared.parts.MemWrite.{MemWrite}
-use Rattle.wn_mem.specs.Words.{AreShared, IsRequest, ShareWrite, numbers_of}
+use Rattle.wn_mem.specs.Words.{AreShared, IsKept, IsRequest, ShareWrite, numbers_of}
 use Rattle.wn_mem.proofs.Tree.{numbers_on}
 
 -- ---- one word
@@ -57,12 +58,17 @@ written_word old new g w words i word after e mask number adds own below read af
 
 -- ---- what the words share, in a net with more nodes
 
-pub shared_on : (old new : Netlist) (z k : ℕ) → AddsNodes old new → AreShared old (width_at old z) z k
+kept_there : (old new : Netlist) (w : ℕ) (k : Option ℕ) → AddsNodes old new → IfSome k (IsNodeOf old w)
+    → IfSome k (IsNodeOf new w)
+kept_there old new w None adds own = tt
+kept_there old new w (Some k) adds own = node_on old new w k adds own
+
+pub shared_on : (old new : Netlist) (z : ℕ) (k : Option ℕ) → AddsNodes old new → AreShared old (width_at old z) z k
     → AreShared new (width_at new z) z k
 shared_on old new z k adds own =
     let P : ℕ → Type 0 = λ w. AreShared new w z k in
     subst P (sym (adds.keeps.widths z own.0.0))
-    (node_on old new (width_at old z) z adds own.0, node_on old new (width_at old z) k adds own.1)
+    (node_on old new (width_at old z) z adds own.0, kept_there old new (width_at old z) k adds own.1)
 
 pub words_on : (old new : Netlist) (z : ℕ) (words : List ℕ) → AddsNodes old new → IsNode old z
     → AreNodesOf old (width_at old z) words
@@ -71,15 +77,36 @@ words_on old new z words adds there own =
     let P : ℕ → Type 0 = λ w. AreNodesOf new w words in
     subst P (sym (adds.keeps.widths z there)) (nodes_on old new (width_at old z) words adds own)
 
-pub share_on : (old new : Netlist) (g : Given) (mask number z k : ℕ) → AddsNodes old new
+kept_on : (old new : Netlist) (g : Given) (w mask : ℕ) (k : Option ℕ) → AddsNodes old new
+    → IfSome k (IsNodeOf old w) → IsKept old g w mask k → IsKept new g w mask k
+kept_on old new g w mask None adds own is = is
+kept_on old new g w mask (Some k) adds own is = value_on old new g k adds own.0 ∙ is
+
+pub share_on : (old new : Netlist) (g : Given) (mask number z : ℕ) (k : Option ℕ) → AddsNodes old new
     → AreShared old (width_at old z) z k
     → ShareWrite old g (width_at old z) mask number z k → ShareWrite new g (width_at new z) mask number z k
 share_on old new g mask number z k adds own s =
     let P : ℕ → Type 0 = λ w. ShareWrite new g w mask number z k in
     subst P (sym (adds.keeps.widths z own.0.0)) (record {
       changed_is = value_on old new g z adds own.0.0 ∙ s.changed_is;
-      kept_is = value_on old new g k adds own.1.0 ∙ s.kept_is;
+      kept_is = kept_on old new g (width_at old z) mask k adds own.1 s.kept_is;
     })
+
+-- a write that keeps no bits
+pub changes_all : (net : Netlist) (g : Given) (w mask number word z : ℕ) (k : Option ℕ)
+    → ShareWrite net g w mask number z k → k ≡ None → value_at net g z ≡ masked w mask word number
+changes_all net g w mask number word z k s none =
+    let P : Option ℕ → Type 0 = λ o. IsKept net g w mask o in
+    let all : complement w mask ≡ 0 = subst P none s.kept_is in
+    s.changed_is
+    ∙ sym (or_zero_r (bit_and mask number))
+    ∙ ap (bit_or (bit_and mask number)) (sym (ap (λ c. bit_and c word) all ∙ and_zero_l word))
+
+-- the bits that a write keeps, by their node
+pub kept_node : (net : Netlist) (g : Given) (w mask number z : ℕ) (o : Option ℕ) (k : ℕ)
+    → ShareWrite net g w mask number z o → o ≡ Some k → value_at net g k ≡ complement w mask
+kept_node net g w mask number z o k s some =
+    let P : Option ℕ → Type 0 = λ x. IsKept net g w mask x in subst P some s.kept_is
 
 -- ---- a write, one word after the other
 

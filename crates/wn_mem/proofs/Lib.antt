@@ -1,2 +1,3 @@
 pub mod After
+pub mod Telling
 pub mod Tree

@@ -8,7 +8,7 @@ use Rattle.std.proofs.lemmas.Bool.Decides.{nat_tests}
 use Rattle.std.proofs.lemmas.List.{get_or-take, get_or-drop, get_or_past, take_all, take_more_set, map_push, take-map}
 use Rattle.std.proofs.lemmas.List.{drop-map, length-map, length_push, length-drop}
 use Rattle.std.proofs.lemmas.Nat.{pow_pos, mod_below, shr-shr, div-add-mod', mod-mul-add}
-use Rattle.std.proofs.Math.Nat.{mod-eq_of_lt}
+use Rattle.std.proofs.Math.Nat.{mod-eq_of_lt, mul-le-mul_right}
 use Rattle.std.proofs.Math.Pow.{pow_mono}
 use Rattle.fv_base.specs.declared.word.Word.{Word}
 use Rattle.fv_base.specs.Word.{number}
@@ -100,44 +100,50 @@ zero_on old new id h z = record {
   value = λ g. value_on old new g id h z.there ∙ z.value g;
 }
 
--- the words at two halves of the bits
+-- the words at two halves of the bits, where each place of the bits has so many words
 pub among_value : (old one two new : Netlist) (g : Given) (words bits : List ℕ) (w top : ℕ)
-    (rest front back : List ℕ) (half low high found : ℕ)
+    (rest front back : List ℕ) (half low high found s n : ℕ)
     → front ≡ take half words → back ≡ drop half words → IsNet old → IsGiven old g → bits ≡ top ∷ rest
     → AreNodesOf old 1 bits → AreNodesOf old w words
-    → half ≤ 2 ^ length rest → half ≤ length words → (half < 2 ^ length rest → length words ≤ half)
+    → half ≤ 2 ^ length rest * s → half ≤ length words → (half < 2 ^ length rest * s → length words ≤ half) → n < s
     → AddsNodes old one → AddsNodes one two → IsNode one low
-    → value_at one g low ≡ word_at (numbers_of old g front) (number_of (numbers_of old g rest))
-    → value_at two g high ≡ word_at (numbers_of one g back) (number_of (numbers_of one g rest))
+    → value_at one g low ≡ word_at (numbers_of old g front) (number_of (numbers_of old g rest) * s + n)
+    → value_at two g high ≡ word_at (numbers_of one g back) (number_of (numbers_of one g rest) * s + n)
     → value_at new g found ≡ (if value_at two g top == 1 then value_at two g high else value_at two g low)
-    → value_at new g found ≡ word_at (numbers_of old g words) (number_of (numbers_of old g bits))
-among_value old one two new g words bits w top rest front back half low high found front_is back_is whole given split
-    own words_own within most past first second low_own low_is high_is found_is =
+    → value_at new g found ≡ word_at (numbers_of old g words) (number_of (numbers_of old g bits) * s + n)
+among_value old one two new g words bits w top rest front back half low high found s n front_is back_is whole given
+    split own words_own within most past few first second low_own low_is high_is found_is =
     let nums = numbers_of old g words in
-    let h = 2 ^ length rest in
+    let p = 2 ^ length rest in
+    let h = p * s in
     let P : List ℕ → Type 0 = λ ids. AreNodesOf old 1 ids in
     let both : AreNodesOf old 1 (top ∷ rest) = subst P split own in
-    let m = number_of (numbers_of old g rest) in
+    let k = number_of (numbers_of old g rest) in
+    let m = k * s + n in
     let b = value_at old g top in
     let small : b < 2 ^ 1 = value_within old g 1 top whole given both.0 in
     let less0 = number_below (numbers_of old g rest) (bits_below old g rest whole given both.1) in
-    let less : m < h = omega (arith, less0, ap (λ k. 2 ^ k) (length-map rest (value_at old g))) in
+    let less1 : k + 1 ≤ p = omega (arith, less0, ap (λ j. 2 ^ j) (length-map rest (value_at old g))) in
+    let less2 : (k + 1) * s ≤ p * s = mul-le-mul_right s less1 in
+    let less : m < h = omega (arith, less2, few) in
     let top_is : value_at two g top ≡ b = value_on one two g top second (there_on old one top first both.0.0)
     ∙ value_on old one g top first both.0.0 in
     let low_now : value_at two g low ≡ word_at (take half nums) m =
     value_on one two g low second low_own ∙ low_is ∙ ap (λ ids. word_at (numbers_of old g ids) m) front_is
     ∙ ap (λ xs. word_at xs m) (sym (take-map (value_at old g) half words)) in
     let high_now : value_at two g high ≡ word_at (drop half nums) m =
-    high_is ∙ ap (λ ids. word_at (numbers_of one g ids) (number_of (numbers_of one g rest))) back_is
+    high_is ∙ ap (λ ids. word_at (numbers_of one g ids) (number_of (numbers_of one g rest) * s + n)) back_is
     ∙ (λ i. word_at (numbers_on old one w g (drop half words) first (last_nodes old w half words words_own) i)
-    (number_of (numbers_on old one 1 g rest first both.1 i)))
+    (number_of (numbers_on old one 1 g rest first both.1 i) * s + n))
     ∙ ap (λ xs. word_at xs m) (sym (drop-map (value_at old g) half words)) in
+    let e : b * h + m ≡ (b * p + k) * s + n = omega arith in
     found_is
     ∙ (λ i. if top_is i == 1 then high_now i else low_now i)
     ∙ sym (halved nums h half b m within (omega (arith, most, length-map words (value_at old g)))
-    (λ k. omega (arith, past k, length-map words (value_at old g))) (omega (arith, small)) less)
-    ∙ ap (λ k. word_at nums (b * 2 ^ k + m)) (sym (length-map rest (value_at old g)))
-    ∙ ap (λ ids. word_at nums (number_of (numbers_of old g ids))) (sym split)
+    (λ j. omega (arith, past j, length-map words (value_at old g))) (omega (arith, small)) less)
+    ∙ ap (word_at nums) e
+    ∙ ap (λ j. word_at nums ((b * 2 ^ j + k) * s + n)) (sym (length-map rest (value_at old g)))
+    ∙ ap (λ ids. word_at nums (number_of (numbers_of old g ids) * s + n)) (sym split)
 
 -- ---- the bits of an address
 
@@ -244,12 +250,14 @@ rest_own old one bits rest top adds e own =
     let P : List ℕ → Type 0 = λ ids. AreNodesOf old 1 ids in
     nodes_on old one 1 rest adds (let both : AreNodesOf old 1 (top ∷ rest) = subst P e own in both.1)
 
-pub back_short : (words back bits rest : List ℕ) (top half : ℕ) → bits ≡ top ∷ rest → length words ≤ 2 ^ length bits
-    → half ≡ min (length words) (2 ^ length rest) → back ≡ drop half words → length back ≤ 2 ^ length rest
-back_short words back bits rest top half e enough half_is back_is =
+pub back_short : (words back bits rest : List ℕ) (top half s : ℕ) → bits ≡ top ∷ rest
+    → length words ≤ 2 ^ length bits * s → half ≡ min (length words) (2 ^ length rest * s)
+    → back ≡ drop half words → length back ≤ 2 ^ length rest * s
+back_short words back bits rest top half s e enough half_is back_is =
     let double : 2 ^ length bits ≡ 2 * 2 ^ length rest = ap (λ ids. 2 ^ length ids) e ∙ twice (length rest) in
+    let more : 2 ^ length bits * s ≡ 2 * (2 ^ length rest * s) = ap (λ x. x * s) double ∙ (omega arith) in
     let long : length back ≡ length words - half = ap length back_is ∙ length-drop half words in
-    omega (arith, double, long, enough, half_is)
+    omega (arith, more, long, enough, half_is)
 
 -- ---- the whole tree
 
@@ -281,27 +289,23 @@ tree_word xs v count reached r reached_is long e = e ∙ by (v / 2 ^ count == 0)
             let past : 2 ^ count ≤ v = grind (arith, nat_tests, t) in
             omega (arith, most, past)
 
-pub tree_value : (old one two new : Netlist) (g : Given) (words front bits : List ℕ)
+pub tree_value : (old two new : Netlist) (g : Given) (words front : List ℕ)
     (w addr count reached found chosen : ℕ) → IsNet old → IsGiven old g
-    → AddsNodes old one → AddsNodes one two → IsNode old addr → AreNodesOf old w words → front ≡ take reached words
+    → AddsNodes old two → IsNode old addr → AreNodesOf old w words → front ≡ take reached words
     → reached ≡ min (length words) (2 ^ count) → (2 ^ count < length words → width_at old addr ≤ count)
-    → number_of (numbers_of one g bits) ≡ low count (value_at old g addr)
-    → value_at two g found ≡ word_at (numbers_of one g front) (number_of (numbers_of one g bits))
+    → value_at two g found ≡ word_at (numbers_of old g front) (low count (value_at old g addr))
     → value_at new g chosen ≡ (if value_at two g addr / 2 ^ count == 0 then value_at two g found else 0)
     → value_at new g chosen ≡ word_at (numbers_of old g words) (value_at old g addr)
-tree_value old one two new g words front bits w addr count reached found chosen whole given first second there own
-    front_is reached_is narrow_if bits_are found_is chosen_is =
+tree_value old two new g words front w addr count reached found chosen whole given adds there own front_is reached_is
+    narrow_if found_is chosen_is =
     let nums = numbers_of old g words in
     let v = value_at old g addr in
     let long : length nums ≡ length words = length-map words (value_at old g) in
-    let addr_is : value_at two g addr ≡ v = value_on one two g addr second (there_on old one addr first there)
-    ∙ value_on old one g addr first there in
-    let front_are : numbers_of one g front ≡ take reached nums =
-    ap (numbers_of one g) front_is ∙ numbers_on old one w g (take reached words) first
-    (first_nodes old w reached words own)
-    ∙ sym (take-map (value_at old g) reached words) in
+    let addr_is : value_at two g addr ≡ v = value_on old two g addr adds there in
+    let front_are : numbers_of old g front ≡ take reached nums =
+    ap (numbers_of old g) front_is ∙ sym (take-map (value_at old g) reached words) in
     let found_now : value_at two g found ≡ word_at (take reached nums) (low count v) =
-    found_is ∙ (λ i. word_at (front_are i) (bits_are i)) in
+    found_is ∙ (λ i. word_at (front_are i) (low count v)) in
     tree_word nums v count reached (value_at new g chosen) (reached_is ∙ ap (λ k. min k (2 ^ count)) (sym long))
     (λ more.
     let few : width_at old addr ≤ count = narrow_if (omega (arith, more, long)) in

@@ -13,14 +13,20 @@ use Rattle.std.specs.Prelude.{
   slice_index,
   bit_and,
   ◌<◌,
+  zero,
+  suc,
+  max,
+  if◌then◌else◌,
   ◌==◌,
   ◌&&◌,
   Bool,
   Option,
+  None,
+  Some,
   IfSome,
 }
 use Rattle.wn_net.specs.declared.parts.MemWrite.{MemWrite}
-use Rattle.fv_bits.specs.Bits.{complement, joined}
+use Rattle.fv_bits.specs.Bits.{bit, complement, joined}
 use Rattle.wn_net.specs.Value.{Given}
 use Rattle.wn_net.specs.Next.{written}
 use Rattle.wn_net.specs.Net.{Netlist, IsNode, IsNodeOf, AreNodesOf, width_at, value_at}
@@ -44,15 +50,20 @@ after_write net g words w =
     (value_at net g w.mask)
     (value_at net g w.value)
 
--- two nodes are there for what the words share of a write: the bits that are written, and the mask of those that are
--- kept
-abbrev pub AreShared : Netlist → ℕ → ℕ → ℕ → Type 0
-AreShared net width changed kept = IsNodeOf net width changed × IsNodeOf net width kept
+-- the nodes are there for what the words share of a write: the bits that are written, and the mask of those that are
+-- kept, where any are
+abbrev pub AreShared : Netlist → ℕ → ℕ → Option ℕ → Type 0
+AreShared net width changed kept = IsNodeOf net width changed × IfSome kept (IsNodeOf net width)
+
+-- in a cycle a node is the mask of the bits that a write keeps; it keeps none where there is no node
+abbrev pub IsKept : Netlist → Given → ℕ → ℕ → Option ℕ → Type 0
+IsKept net g width mask None = complement width mask ≡ 0
+IsKept net g width mask (Some kept) = value_at net g kept ≡ complement width mask
 
 -- in a cycle they are those of a write with this mask and this number
-pub record ShareWrite (net : Netlist) (g : Given) (width mask number changed kept : ℕ) : Type 0 where
+pub record ShareWrite (net : Netlist) (g : Given) (width mask number changed : ℕ) (kept : Option ℕ) : Type 0 where
   pub changed_is : value_at net g changed ≡ bit_and mask number
-  pub kept_is : value_at net g kept ≡ complement width mask
+  pub kept_is : IsKept net g width mask kept
 
 -- the number with these bits, the highest first
 abbrev pub number_of : List ℕ → ℕ
@@ -78,3 +89,16 @@ IsRequest net w asked = IfSome asked (Asks net w)
 pub record IsZero (net : Netlist) (id : ℕ) : Type 0 where
   pub there : IsNode net id
   pub value : (g : Given) → value_at net g id ≡ 0
+
+-- in a cycle each of the nodes says whether the number is its place
+abbrev pub Tell : Netlist → Given → List ℕ → ℕ → Type 0
+Tell net g marks n = (i : ℕ) → i < length marks → value_at net g (slice_index marks i) ≡ bit (n == i)
+
+-- how many words these nodes tell apart
+abbrev pub apart : List ℕ → ℕ
+apart marks = max (length marks) 1
+
+-- the word with a number among words of which the first has the number `first`; 0 where there is none
+abbrev pub word_from : ℕ → ℕ → List ℕ → ℕ
+word_from first n [] = 0
+word_from first n (w ∷ ws) = if n == first then w else word_from (suc first) n ws

@@ -19,6 +19,7 @@ pub(crate) fn address_bits(net: &mut Net, addr: NodeId, bits: &mut [NodeId]) -> 
     requires few { length bits.old ≤ 64 }
     requires within { length bits.old ≤ width_at net.old addr }
     ensures adds { AddsNodes net.old net.new }
+    ensures long { length bits.new ≡ length bits.old }
     ensures nodes { OnOk result (AreNodesOf net.new 1 bits.new) }
     ensures value { OnOk result ((g : Given)
         → number_of (numbers_of net.new g bits.new) ≡ low (length bits.old) (value_at net.old g addr)) }

@@ -3,6 +3,7 @@
 
 mod bits;
 mod constant;
+mod marks;
 mod read;
 mod write;
 

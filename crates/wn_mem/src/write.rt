@@ -13,27 +13,45 @@ ghost use Rattle.std.specs.Prelude.{
   ◌^◌,
   length,
 };
-ghost use Rattle.std.specs.Prelude.{map, slice_index, IfOk, OnOk, OnErr};
+ghost use Rattle.std.specs.Prelude.{slice_index, IfOk, IfSome, OnOk, OnErr};
 ghost use Rattle.fv_bits.specs.Bits.{bit, masked};
 ghost use Rattle.wn_net.specs.Value.{Given};
 ghost use Rattle.wn_net.specs.Next.{written};
 ghost use Rattle.wn_net.specs.Net.{IsNode, IsNodeOf, AreNodesOf, IsWriteOf, value_at, width_at};
 ghost use Rattle.wn_net.specs.Given.{IsGiven};
 ghost use Rattle.wn_net.specs.Changes.{AddsNodes};
-ghost use Rattle.wn_mem.specs.Words.{AreWords, AreShared, Asks, IsRequest, ShareWrite, words_width, numbers_of, hits};
-ghost use Rattle.wn_mem.specs.Words.{after_write};
+ghost use Rattle.wn_mem.specs.Words.{AreWords, AreShared, Asks, IsKept, IsRequest, ShareWrite, after_write};
+ghost use Rattle.wn_mem.specs.Words.{words_width, numbers_of, hits};
 
 use crate::bits::{bits_for, reached};
 use crate::constant::constant_of;
 use fv_base::{Memory, Word};
+use fv_bits::ones;
 use std::alloc::Global;
 use wn_net::{MemWrite, Net, NodeId};
 
-/// What the words share of a write: the bits that are written, and the mask of those that are kept.
+/// What the words share of a write: the bits that are written, and the mask of those that are kept, where any are.
 #[derive(Clone, Copy)]
 struct Shared {
     written: NodeId,
-    kept: NodeId,
+    kept: Option<NodeId>,
+}
+
+/// The mask of the bits that a write keeps; none where its own mask has the constant of all bits.
+fn kept_bits(net: &mut Net, mask: NodeId) -> Result<Option<NodeId>, Memory>
+    requires { IsNode net.old mask }
+    ensures adds { AddsNodes net.old net.new }
+    ensures there { IfOk result (λ k. IfSome k (IsNodeOf net.new (width_at net.old mask))) }
+    ensures value { IfOk result (λ k. (g : Given)
+        → IsKept net.new g (width_at net.old mask) (value_at net.old g mask) k) }
+{
+    if let Some(number) = constant_of(net, mask) {
+        if number == ones(net.width(mask)) {
+            return Ok(None);
+        }
+    }
+    let kept = net.not(mask)?;
+    Ok(Some(kept))
 }
 
 /// The nodes that the words share of a write.
@@ -46,7 +64,7 @@ fn share(net: &mut Net, write: &MemWrite) -> Result<Shared, Memory>
         (value_at net.old g write.now.mask) (value_at net.old g write.now.value) s.written s.kept) }
 {
     let written = net.and(write.mask, write.value)?;
-    let kept = net.not(write.mask)?;
+    let kept = kept_bits(net, write.mask)?;
     Ok(Shared { written, kept })
 }
 
@@ -56,11 +74,14 @@ fn changed_word(net: &mut Net, word: NodeId, shared: Shared) -> Result<NodeId, M
     requires shared { AreShared net.old (width_at net.old word) shared.written shared.kept }
     ensures adds { AddsNodes net.old net.new }
     ensures there { IfOk result (IsNodeOf net.new (width_at net.old word)) }
-    ensures value { IfOk result (λ id. (g : Given) → value_at net.new g id
-        ≡ bit_or (value_at net.old g shared.written)
-        (bit_and (value_at net.old g shared.kept) (value_at net.old g word))) }
+    ensures value { IfOk result (λ id. (g : Given) (mask number : ℕ)
+        → ShareWrite net.old g (width_at net.old word) mask number shared.written shared.kept
+        → value_at net.new g id ≡ masked (width_at net.old word) mask (value_at net.old g word) number) }
 {
-    let kept = net.and(shared.kept, word)?;
+    let Some(kept) = shared.kept else {
+        return Ok(shared.written);
+    };
+    let kept = net.and(kept, word)?;
     let changed = net.or(shared.written, kept)?;
     Ok(changed)
 }
