@@ -58,7 +58,7 @@ use Rattle.vl_size.specs.Size.{Operand, own, index_of}
 use Rattle.vl_size.specs.Table.{span}
 use Rattle.vl_mean.specs.declared.const_number.Const.{Const}
 use Rattle.vl_mean.specs.Cells.{contains_name}
-use Rattle.vl_mean.specs.Constants.{Constants, cut_to, constant_operand}
+use Rattle.vl_mean.specs.Constants.{Constants, cut_to, constant_operand, width_in_range}
 use Rattle.vl_mean.specs.Scopes.{Scope, constant_in}
 
 -- ---- ranges
@@ -82,11 +82,12 @@ word_bounds ss (Some r) = Some (bounds_of ss r)
 -- ---- parameters: sections 3.11 and 12.2
 
 -- without a range it has the size of its value, and the sign of its value unless it is declared `signed`; with a
--- range its value counts as assigned to it
+-- range its value counts as assigned to it; more than 128 bits are refused, and count as 128
 abbrev pub of_range : List Scope → Bool → Operand → Option Range → Const
 of_range ss signed x None = cut_to x.size (signed || x.sign) (own x)
 of_range ss signed x (Some r) =
-    let n = span (bound_of ss r.left) (bound_of ss r.right) in cut_to n signed (x.at (max n x.size) x.sign)
+    let n = width_in_range (span (bound_of ss r.left) (bound_of ss r.right)) in
+    cut_to n signed (x.at (max n x.size) x.sign)
 
 -- the values of another instance's parameters, as they are given at an instance
 abbrev pub Overrides : Type 0

@@ -19,6 +19,7 @@ mod select;
 mod settle;
 mod shared;
 mod wide;
+pub mod widths;
 mod words;
 
 pub use const_fault::ConstFault;

@@ -1,12 +1,9 @@
 //! Sizes of expressions without a limit, up to `2^64 - 1`. They say how wide an expression is that is too wide.
-ghost use Rattle.std.specs.Prelude.{◌≡◌, ◌+◌, ◌*◌, Some, None, if◌then◌else◌};
+ghost use Rattle.std.specs.Prelude.{◌≡◌};
 ghost use Rattle.vl_tree.specs.Expr as tree;
 ghost use Rattle.vl_tree.specs.Expr.{exprs};
 ghost use Rattle.vl_tree.specs.ExprView.{selects, with_select};
 ghost use Rattle.fv_bits.specs.Bits.{as_int};
-ghost use Rattle.vl_size.specs.Size as size_spec;
-ghost use Rattle.vl_size.specs.Size.{some_bits};
-ghost use Rattle.vl_size.specs.Way.{way};
 ghost use Rattle.vl_mean.specs.ConstantFaults as spec;
 ghost use Rattle.vl_mean.specs.Env.{cells_of};
 ghost use Rattle.vl_mean.specs.Params.{constant};
@@ -14,10 +11,9 @@ ghost use Rattle.vl_mean.specs.Params.{constant};
 use crate::env::Env;
 use crate::evaluate::own;
 use crate::params::Params;
-use fv_bits::{is_below_zero, ones};
-use vl_size::way::{keeps_size, way_of};
-use vl_size::{Own, Way, size_of};
-use vl_tree::{BinaryOperator, Expr, ExprKind, Select, UnaryOperator};
+use crate::widths::{binary_size, bound, plus, some, unary_size, wide_times};
+use vl_size::{Own, size_of};
+use vl_tree::{Expr, ExprKind, Select};
 
 /// The size of an expression; None where a part has none.
 #[cycle(wide)]
@@ -73,38 +69,6 @@ fn wides(all: &[Expr], params: &Params, env: &Env) -> Option<u64>
     Some(sum)
 }
 
-fn plus(m: u64, n: u64) -> u64
-    ensures { result ≡ spec.capped (m + n) }
-{
-    m.saturating_add(n)
-}
-
-/// At least one bit.
-fn some(size: u64) -> Option<u64>
-    ensures { result ≡ some_bits (Some size) }
-{
-    if size == 0 {
-        return None;
-    }
-    Some(size)
-}
-
-fn unary_size(operator: UnaryOperator, size: u64) -> u64
-    ensures { result ≡ size_spec.unary_size operator size }
-{
-    if keeps_size(operator) { size } else { 1 }
-}
-
-fn binary_size(operator: BinaryOperator, m: u64, n: u64) -> u64
-    ensures { result ≡ size_spec.size_by (way operator) m n }
-{
-    match way_of(operator) {
-        Way::Larger => m.max(n),
-        Way::Left => m,
-        Way::One => 1,
-    }
-}
-
 /// The size of a constant's first select.
 fn wide_first(all: &[Select], env: &Env) -> Option<u64>
     ensures { result ≡ spec.wide_select env.now.decls (cells_of env.now) (selects all.now) }
@@ -156,43 +120,4 @@ pub(crate) fn wide_part(left: Own, right: Own) -> Option<u64>
         return None;
     }
     Some((left - right).unsigned_abs() + 1)
-}
-
-/// A bound, where it has 32 signed bits.
-pub(crate) fn bound(own: Own) -> Option<i64>
-    ensures { let i = as_int own.width own.signed own.number in
-        result ≡ (if size_spec.is_bound i then Some i else None) }
-{
-    if is_below_zero(own.width, own.signed, own.number) {
-        let past = ones(own.width) - own.number;
-        return if past < 1 << 31 {
-            Some(-1 - past as i64)
-        } else {
-            None
-        };
-    }
-    if own.number < 1 << 31 {
-        Some(own.number as i64)
-    } else {
-        None
-    }
-}
-
-/// So many times the size, at least once.
-pub(crate) fn wide_times(count: Own, size: u64) -> Option<u64>
-    ensures { let n = as_int count.width count.signed count.number in
-        result ≡ spec.wide_times n size }
-{
-    if count.number == 0 || is_below_zero(count.width, count.signed, count.number) {
-        return None;
-    }
-    Some(capped_product(count.number, size))
-}
-
-fn capped_product(count: u128, size: u64) -> u64
-    ensures { result ≡ spec.capped (count * size) }
-{
-    count
-        .saturating_mul(u128::from(size))
-        .min(u128::from(u64::MAX)) as u64
 }
