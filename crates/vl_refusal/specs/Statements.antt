@@ -13,8 +13,11 @@ use Rattle.std.specs.Prelude.{
   ◌&&◌,
   ◌||◌,
   not,
+  nat_le,
   Option,
   Some,
+  None,
+  if◌then◌else◌,
 }
 use Rattle.fv_base.specs.declared.pos.Pos.{Pos}
 use Rattle.vl_tree.specs.Expr.{Expr}
@@ -58,6 +61,11 @@ abbrev pub may_be_assigned : Bool → Class → Bool
 may_be_assigned true class.Net = true
 may_be_assigned false class.Variable = true
 may_be_assigned continuous c = false
+
+-- the larger of both sizes; that of a target of more than 128 bits, which is refused, doesn't count
+abbrev pub widened : Option ℕ → Option ℕ → Option ℕ
+widened None n = None
+widened (Some m) n = if nat_le m 128 then larger (Some m) n else n
 
 module _ (ns : List Names) where
   -- ---- targets; their indices are constant where they have to be
@@ -106,7 +114,10 @@ module _ (ns : List Names) where
 
   -- the larger of both sizes, with the sign of the right side: section 5.4
   abbrev pub assigned_in : Option ℕ → Expr → Context
-  assigned_in m e = record { size = larger m (size (objects ns) (known ns e)); signed = sign (objects ns) (known ns e) }
+  assigned_in m e = record {
+    size = widened m (size (objects ns) (known ns e));
+    signed = sign (objects ns) (known ns e);
+  }
 
   abbrev pub assignment_refusals : Bool → Bool → Bool → Lval → Expr → List ElabFault
   assignment_refusals continuous fixed_target fixed_value l e =
