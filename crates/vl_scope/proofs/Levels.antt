@@ -1,0 +1,102 @@
+-- What names mean in scopes that are kept, the innermost last.
+use Rattle.std.specs.Prelude.{◌≡◌, refl, ℕ, List, [], ◌∷◌, ◌++◌, length, Bool, true, false}
+use Rattle.std.specs.Prelude.{bytes_eq, Some, None}
+use Rattle.std.specs.Prelude.{if◌then◌else◌, drop, Option, option_to_list}
+use Rattle.std.specs.Map.{lookup}
+use Rattle.std.specs.Prelude.{Result, Ok, Err, OnOk, OnErr, MatchOption}
+use Rattle.std.proofs.Common.{ap, sym, ◌∙◌, subst, arith}
+use Rattle.vl_refusal.specs.Meanings.{Meaning, undeclared, Names, is_undeclared, meaning_of, meaning_in}
+use Rattle.vl_scope.specs.declared.meaning.Meaning.{Meaning as Kept}
+use Rattle.vl_scope.specs.declared.meaning.Meaning.TheVariants as k
+use Rattle.vl_scope.specs.Seen.{Entry, seen, seen_or, names_of, inward, AreNamed, AllNamed}
+
+pub inward_last : (ls : List Names) (l : Names) → inward (ls ++ l ∷ []) ≡ l ∷ inward ls
+inward_last [] l = refl
+inward_last (x ∷ ls) l = ap (λ ns. ns ++ x ∷ []) (inward_last ls l)
+
+pub lookup_seen : (text : List ℕ) (es : List Entry)
+    → seen_or (lookup (λ key. bytes_eq text key.items) es) ≡ meaning_of (names_of es) text
+lookup_seen text [] = refl
+lookup_seen text (e ∷ es) = by (bytes_eq text e.0.items) (lookup_seen text es)
+  where
+    by : (b : Bool) → seen_or (lookup (λ key. bytes_eq text key.items) es) ≡ meaning_of (names_of es) text
+        → seen_or (if b then Some e.1 else lookup (λ key. bytes_eq text key.items) es)
+        ≡ (if b then seen e.1 else meaning_of (names_of es) text)
+    by true h = refl
+    by false h = h
+
+pub seen_declared : (m : Kept) → is_undeclared (seen m) ≡ false
+seen_declared (k.Constant c selected) = refl
+seen_declared k.LoopVariable = refl
+seen_declared (k.Object o) = refl
+seen_declared k.Faulty = refl
+seen_declared k.Later = refl
+
+abbrev inner_or : Meaning → Meaning → Meaning
+inner_or here around = if is_undeclared here then around else here
+
+meaning_last : (all rest : List Names) (l : Names) (text : List ℕ) → all ≡ rest ++ l ∷ []
+    → meaning_in (inward all) text ≡ inner_or (meaning_of l text) (meaning_in (inward rest) text)
+meaning_last all rest l text e = ap (λ ns. meaning_in ns text) (ap inward e ∙ inward_last rest l)
+
+-- the last one declares the name
+pub found_here : (all rest : List Names) (l : Names) (text : List ℕ) (m : Kept) → all ≡ rest ++ l ∷ []
+    → seen m ≡ meaning_of l text → seen m ≡ meaning_in (inward all) text
+found_here all rest l text m e h =
+    ap (λ b. if b then meaning_in (inward rest) text else seen m) (sym (seen_declared m))
+    ∙ ap (λ x. inner_or x (meaning_in (inward rest) text)) h ∙ sym (meaning_last all rest l text e)
+
+-- the last one doesn't
+pub found_around : (all rest : List Names) (l : Names) (text : List ℕ) (m : Meaning) → all ≡ rest ++ l ∷ []
+    → undeclared ≡ meaning_of l text → m ≡ meaning_in (inward rest) text → m ≡ meaning_in (inward all) text
+found_around all rest l text m e h k =
+    k ∙ ap (λ x. inner_or x (meaning_in (inward rest) text)) h ∙ sym (meaning_last all rest l text e)
+
+pub ruleset levels = (found_here, found_around)
+
+-- ---- scopes that are entered and left
+
+all_named_last : (ls : List Names) (l : Names) → AllNamed (inward ls) → AreNamed l
+    → AllNamed (inward (ls ++ l ∷ []))
+all_named_last ls l h k = subst AllNamed (sym (inward_last ls l)) (k, h)
+
+pub entered : {A E : Type 0} (r : Result A E) (old new all : List Names) (l : Names) → inward old ≡ all
+    → OnOk r (new ≡ old ++ l ∷ []) → OnOk r (inward new ≡ l ∷ all)
+entered (Ok x) old new all l e h = ap inward h ∙ inward_last old l ∙ ap (λ ls. l ∷ ls) e
+entered (Err x) old new all l e h = h
+
+pub not_entered : {A E : Type 0} (r : Result A E) (old new all : List Names) → inward old ≡ all
+    → OnErr r (new ≡ old) → OnErr r (inward new ≡ all)
+not_entered (Ok x) old new all e h = h
+not_entered (Err x) old new all e h = ap inward h ∙ e
+
+pub named_entered : {A E : Type 0} (r : Result A E) (old new : List Names) (l : Names) → AllNamed (inward old)
+    → AreNamed l → OnOk r (new ≡ old ++ l ∷ []) → OnErr r (new ≡ old) → AllNamed (inward new)
+named_entered (Ok x) old new l h k p q = subst (λ ls. AllNamed (inward ls)) (sym p) (all_named_last old l h k)
+named_entered (Err x) old new l h k p q = subst (λ ls. AllNamed (inward ls)) (sym q) h
+
+no_more : (ls : List Names) → ls ++ [] ≡ ls
+no_more [] = refl
+no_more (l ∷ ls) = ap (λ ls. l ∷ ls) (no_more ls)
+
+empty_inward : (ls : List Names) → length ls ≡ 0 → inward ls ≡ drop 1 (inward ls)
+empty_inward [] h = refl
+empty_inward (l ∷ ls) h = absurd (omega (arith, h))
+
+pub left : (old new : List Names) (r : Option Names) → old ≡ new ++ option_to_list r
+    → (r ≡ None → length old ≡ 0)
+    → inward new ≡ drop 1 (inward old)
+left old new None e h = ap inward (sym (e ∙ no_more new)) ∙ empty_inward old (h refl)
+left old new (Some l) e h = ap (drop 1) (sym (ap inward e ∙ inward_last new l))
+
+named_rest : (ls : List Names) → AllNamed ls → AllNamed (drop 1 ls)
+named_rest [] h = tt
+named_rest (l ∷ ls) h = h.1
+
+pub named_left : (old new : List Names) → inward new ≡ drop 1 (inward old) → AllNamed (inward old)
+    → AllNamed (inward new)
+named_left old new e h = subst AllNamed (sym e) (named_rest (inward old) h)
+
+pub none_empty : {A : Type 0} (r : Option A) (P : Type 0) (Q : A → Type 0) → MatchOption r P Q → r ≡ None → P
+none_empty None P Q h e = h
+none_empty (Some x) P Q h e = cc

@@ -1,0 +1,54 @@
+-- What the names of scopes mean, as it is kept while a design is judged. Rule of this project.
+use Rattle.std.specs.Prelude.{◌≡◌, ℕ, List, [], ◌∷◌, ◌++◌, map, Option, Some, None, Vec}
+use Rattle.std.specs.Prelude.{if◌then◌else◌}
+use Rattle.std.specs.declared.alloc.Global.{Global}
+use Rattle.vl_size.specs.declared.decl.Decl.{Decl}
+use Rattle.vl_refusal.specs.Meanings.{Meaning, undeclared, constant, loop_variable, object, faulty, later, Names}
+use Rattle.vl_refusal.specs.Meanings.{is_undeclared, meaning_of}
+use Rattle.vl_scope.specs.declared.meaning.Meaning.{Meaning as Kept}
+use Rattle.vl_scope.specs.declared.meaning.Meaning.TheVariants as k
+
+abbrev pub seen : Kept → Meaning
+seen (k.Constant c selected) = constant c selected
+seen k.LoopVariable = loop_variable
+seen (k.Object o) = object o.decl o.input o.scalar
+seen k.Faulty = faulty
+seen k.Later = later
+
+abbrev pub seen_or : Option Kept → Meaning
+seen_or None = undeclared
+seen_or (Some m) = seen m
+
+abbrev pub Entry : Type 0
+Entry = Vec ℕ Global × Kept
+
+abbrev pub names_of : List Entry → Names
+names_of es = map (λ e. (e.0.items, seen e.1)) es
+
+-- the innermost scope stands last
+abbrev pub inward : List Names → List Names
+inward [] = []
+inward (l ∷ ls) = inward ls ++ l ∷ []
+
+-- with a name behind the others; of two alike the first counts, so a second one isn't kept
+abbrev pub with_name : Names → List ℕ → Meaning → Names
+with_name ns text m = if is_undeclared (meaning_of ns text) then ns ++ (text, m) ∷ [] else ns
+
+-- the net or variable that a name means
+abbrev pub object_of : Meaning → Option Decl
+object_of (object d input scalar) = Some d
+object_of m = None
+
+-- what is declared has the name under which it stands
+abbrev pub IsNamed : List ℕ × Meaning → Type 0
+IsNamed (text, undeclared) = ⊥
+IsNamed (text, object d input scalar) = d.name ≡ text
+IsNamed n = Unit {0}
+
+abbrev pub AreNamed : Names → Type 0
+AreNamed [] = Unit {0}
+AreNamed (n ∷ ns) = IsNamed n × AreNamed ns
+
+abbrev pub AllNamed : List Names → Type 0
+AllNamed [] = Unit {0}
+AllNamed (ns ∷ outer) = AreNamed ns × AllNamed outer

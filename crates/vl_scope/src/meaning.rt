@@ -1,0 +1,28 @@
+ghost use Rattle.vl_size.specs.Table.{IsPlain, IsShaped};
+
+use vl_mean::Const;
+use vl_size::Decl;
+
+/// A net or a variable whose shape is known. In its name stands no bracket.
+#[derive(Drop)]
+pub struct Object {
+    pub decl: Decl,
+    pub input: bool,
+    pub scalar: bool,
+    pub ghost shaped: { IsShaped decl },
+    pub ghost plain: { IsPlain decl },
+}
+
+/// What a declared name means while a design is judged.
+#[derive(Drop)]
+pub enum Meaning {
+    /// A parameter, or the variable of a loop around; whether it may be selected from.
+    Constant(Const, bool),
+    /// A genvar outside the loops whose heads name it.
+    LoopVariable,
+    Object(Object),
+    /// A name whose own declaration is refused for its value or its shape.
+    Faulty,
+    /// A name of the scope of a parameter, and no parameter before it.
+    Later,
+}

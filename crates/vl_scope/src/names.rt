@@ -1,0 +1,92 @@
+//! What names mean in scopes.
+ghost use Rattle.std.specs.Prelude.{◌≡◌, ◌++◌, ◌∷◌, [], drop, OnOk, OnErr};
+ghost use Rattle.std.specs.Option.{option_copied};
+ghost use Rattle.vl_refusal.specs.Meanings.{meaning_in};
+ghost use Rattle.vl_scope.specs.Seen as spec;
+
+use crate::level::Level;
+use crate::meaning::Meaning;
+use fv_base::{Memory, Text};
+use std::alloc::Global;
+use std::marker::Model;
+
+/// The names of a scope and of the scopes around it, seen as lists of names with their meanings, the innermost scope
+/// first. A net or a variable stands under its own name.
+#[derive(Drop)]
+pub struct Names {
+    levels: Vec<Level>,
+}
+
+impl Model for Names {
+    ghost use Rattle.std.specs.Prelude.{List};
+    ghost use Rattle.vl_refusal.specs.Meanings as meanings;
+    ghost use Rattle.vl_scope.specs.Seen.{inward, AllNamed};
+
+    ghost Value = { List meanings.Names };
+
+    ghost view = { λ n. inward n.levels.items };
+
+    ghost invariant = { λ n. AllNamed (inward n.levels.items) };
+}
+
+impl Names {
+    /// No scope.
+    pub fn new(alloc: Global) -> Names
+        ensures { result ≡ [] }
+    {
+        Names {
+            levels: Vec::new(alloc),
+        }
+    }
+
+    /// Enters a scope within the others. Where no memory is left it is dropped.
+    pub fn enter(&mut self, level: Level) -> Result<(), Memory>
+        ensures ok { OnOk result (self.new ≡ level ∷ self.old) }
+        ensures err { OnErr result (self.new ≡ self.old) }
+    {
+        level.are_named();
+        push(&mut self.levels, level)
+    }
+
+    /// Leaves the innermost scope, where there is one.
+    pub fn leave(&mut self)
+        ensures { self.new ≡ drop 1 self.old }
+    {
+        match self.levels.pop() {
+            None => {}
+            Some(_) => {}
+        }
+    }
+
+    /// What the innermost scope that declares the name says of it. None exactly where no scope does.
+    pub fn meaning(&self, name: &Text) -> Option<&Meaning>
+        ensures value { spec.seen_or (option_copied result) ≡ meaning_in self.now name.now }
+        ensures named { spec.AllNamed self.now }
+    {
+        meaning_among(self.levels.as_slice(), name)
+    }
+}
+
+fn push(levels: &mut Vec<Level>, level: Level) -> Result<(), Memory>
+    ensures ok { OnOk result (levels.new.items ≡ levels.old.items ++ level ∷ []) }
+    ensures err { OnErr result (levels.new.items ≡ levels.old.items) }
+{
+    match levels.push(level) {
+        Ok(()) => Ok(()),
+        Err(_) => Err(Memory),
+    }
+}
+
+/// The innermost scope stands last.
+#[tactic(auto, using(crate::proofs::Levels::levels))]
+fn meaning_among<'a>(levels: &'a [Level], name: &Text) -> Option<&'a Meaning>
+    ensures { spec.seen_or (option_copied result) ≡ meaning_in (spec.inward levels.now) name.now }
+{
+    match levels.split_last() {
+        None => None,
+        Some((last, rest)) => match last.meaning(name) {
+            None => meaning_among(rest, name),
+            Some(meaning) => Some(meaning),
+        },
+    }
+}
