@@ -1,0 +1,9 @@
+pub mod Lists
+pub mod Moves
+pub mod Work
+pub mod Circles
+pub mod Turns
+pub mod Rows
+pub mod Ends
+pub mod Rests
+pub mod AllRows

@@ -1,0 +1,3 @@
+pub mod Graph
+pub mod Walking
+pub mod Walked
