@@ -1,0 +1,3 @@
+pub mod Masks
+pub mod Rising
+pub mod Turning

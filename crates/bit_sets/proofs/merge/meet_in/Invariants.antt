@@ -1,0 +1,11 @@
+use Rattle.bit_sets.proofs.Turning.{ahead, IsFrom, AreApartTo}
+use Rattle.bit_sets.proofs.merge.meet_in.Given as goal
+
+abbrev pub invariant-loop-next : goal.invariant-loop-next
+invariant-loop-next l = record {
+  from : IsFrom l.from l.next;
+  apart : AreApartTo l.first l.second l.from l.next;
+}
+
+abbrev pub decreases-loop-next : goal.decreases-loop-next
+decreases-loop-next l = ahead l.next
