@@ -1,0 +1,103 @@
+-- From numbers of sources to choices of runs.
+use Rattle.std.specs.Prelude.{◌≡◌, ◌↔◌, refl, ℕ, zero, suc, ◌+◌, ◌<◌, ◌^◌, ◌==◌, ◌&&◌, Bool, true, false, not}
+use Rattle.std.specs.Prelude.{List, [], ◌∷◌, length, map, slice_index}
+use Rattle.std.specs.List.{AllByRecursion}
+use Rattle.std.proofs.Common.{ap, sym, ◌∙◌, arith, subst, lit<}
+use Rattle.std.proofs.lemmas.Bool.Decides.{nat_tests}
+use Rattle.wn_net.specs.Given.{AreNumbersOf}
+use Rattle.wn_net.specs.Net.{Netlist}
+use Rattle.wn_run.specs.Runs.{Choices, AreChoicesOf}
+use Rattle.cnf_form.specs.Cnf.{Cnf}
+use Rattle.bb_bits.specs.Bits.{number}
+use Rattle.bb_bits.proofs.Numbers.{number_fits}
+use Rattle.bb_blast.specs.declared.places.Placed.{Placed}
+use Rattle.bb_blast.specs.Choice.{bits_from, numbers_from, numbers_of, all_places}
+use Rattle.bb_blast.specs.Walk.{all_other_than_0, values_by}
+use Rattle.cnf_nodes.specs.Models.{AreOfWidths, IsModel, ModelsAreNumbers, read_at}
+use Rattle.cnf_nodes.proofs.Joined.{inputs_in}
+use Rattle.cnf_nodes.proofs.Reading.{read_is}
+use Rattle.bm_unroll.specs.declared.frames.Source.{Source}
+use Rattle.bm_unroll.specs.declared.frames.Frames.{Frames}
+use Rattle.bm_unroll.specs.Frames.{AreChosen, Chooses, HasRoots, IsBadRun, chosen, values_under}
+use Rattle.bm_clauses.specs.Runs.{ModelsAreRuns}
+
+-- ---- all roots
+
+not_zero : (n : ℕ) (rest : Bool) → (not (n == 0) && rest) ≡ true → (n ≡ 0 → ⊥) × (rest ≡ true)
+not_zero zero rest e = cc
+not_zero (suc n) rest e = (λ z. cc, e)
+
+is_not_zero : (n : ℕ) (rest : Bool) → (n ≡ 0 → ⊥) → rest ≡ true → (not (n == 0) && rest) ≡ true
+is_not_zero zero rest h e = absurd (h refl)
+is_not_zero (suc n) rest h e = e
+
+pub all_tested : (vs ids : List ℕ) → all_other_than_0 vs ids ≡ true
+    → AllByRecursion (λ id. slice_index vs id ≡ 0 → ⊥) ids
+all_tested vs [] e = tt
+all_tested vs (id ∷ ids) e =
+    let h = not_zero (slice_index vs id) (all_other_than_0 vs ids) e in (h.0, all_tested vs ids h.1)
+
+pub tested_all : (vs ids : List ℕ) → AllByRecursion (λ id. slice_index vs id ≡ 0 → ⊥) ids
+    → all_other_than_0 vs ids ≡ true
+tested_all vs [] h = refl
+tested_all vs (id ∷ ids) h =
+    is_not_zero (slice_index vs id) (all_other_than_0 vs ids) h.0 (tested_all vs ids h.1)
+
+-- ---- widths
+
+length-bits_from : (x : ℕ → Bool) (at w : ℕ) → length (bits_from x at w) ≡ w
+length-bits_from x at zero = refl
+length-bits_from x at (suc w) = ap suc (length-bits_from x (at + 1) w)
+
+length-numbers_from : (x : ℕ → Bool) (at : ℕ) (ws : List ℕ) → length (numbers_from x at ws) ≡ length ws
+length-numbers_from x at [] = refl
+length-numbers_from x at (w ∷ ws) = ap suc (length-numbers_from x (at + w) ws)
+
+bits_small : (x : ℕ → Bool) (at w : ℕ) → number (bits_from x at w) < 2 ^ w
+bits_small x at w =
+    let P : ℕ → Type 0 = λ n. number (bits_from x at w) < 2 ^ n in
+    subst P (length-bits_from x at w) (number_fits (bits_from x at w))
+
+numbers_small : (x : ℕ → Bool) (at : ℕ) (ws : List ℕ) (i : ℕ)
+    → slice_index (numbers_from x at ws) i < 2 ^ slice_index ws i
+numbers_small x at [] i = lit< tt
+numbers_small x at (w ∷ ws) zero = bits_small x at w
+numbers_small x at (w ∷ ws) (suc i) = numbers_small x (at + w) ws i
+
+-- what is read at the places has the widths
+read_fits : (v : ℕ → Bool) (places : List Placed) (ws : List ℕ) → places ≡ all_places 0 0 ws
+    → AreNumbersOf ws (read_at places ws v)
+read_fits v places ws e =
+    let P : List ℕ → Type 0 = λ ns. AreNumbersOf ws ns in
+    subst P (sym (read_is v places ws e)) (record {
+      each = length-numbers_from (inputs_in v) 0 ws;
+      below = numbers_small (inputs_in v) 0 ws;
+    })
+
+of_widths : (ws ns : List ℕ) → AreNumbersOf ws ns → AreOfWidths ws ns
+of_widths [] [] h = tt
+of_widths [] (n ∷ ns) h = absurd (omega (arith, h.each))
+of_widths (w ∷ ws) [] h = absurd (omega (arith, h.each))
+of_widths (w ∷ ws) (n ∷ ns) h =
+    (h.below 0, of_widths ws ns (record { each = omega (arith, h.each); below = λ i. h.below (suc i) }))
+
+-- ---- runs
+
+pub models_are_runs : (net : Netlist) (bad cycle : ℕ) (f : Frames) (places : List Placed) (formula : Cnf)
+    → places ≡ all_places 0 0 f.widths
+    → ModelsAreNumbers f.widths (read_at places f.widths)
+    (λ numbers. all_other_than_0 (values_by f.widths f.nodes numbers) f.roots) formula
+    → AreChosen net f.widths f.sources → HasRoots net bad cycle f
+    → ModelsAreRuns net bad cycle f.sources (read_at places f.widths) formula
+models_are_runs net bad cycle f places formula e m chosen_are roots =
+    let H : List ℕ → Type 0 = λ ns. all_other_than_0 (values_by f.widths f.nodes ns) f.roots ≡ true in
+    record {
+      choice = λ v model. chosen_are.choice (read_at places f.widths v) (read_fits v places f.widths e);
+      sound = λ v ch model own same.
+          (roots ch own).0 (all_tested (values_under f ch) f.roots (subst H (sym same) (m.sound v model)));
+      complete = λ ch own is.
+          m.complete (map (chosen ch) f.sources)
+          (of_widths f.widths (map (chosen ch) f.sources) (chosen_are.number ch own))
+          (tested_all (values_under f ch) f.roots ((roots ch own).1 is));
+      unique = m.unique;
+    }

@@ -1,0 +1,88 @@
+use Rattle.std.specs.Prelude.{◌≡◌, ◌<◌, ◌^◌, ℕ, List, [], length, map, slice_index}
+use Rattle.std.specs.List.{AllByRecursion}
+use Rattle.std.proofs.Common.{ap, sym, ◌∙◌, subst, arith}
+use Rattle.wn_net.specs.declared.node.Node.{Node}
+use Rattle.wn_net.specs.Width.{IsWidth, AreFitting}
+use Rattle.bb_operators.specs.Words.{AreWords}
+use Rattle.bb_blast.specs.Choice.{numbers_of, all_places}
+use Rattle.bb_blast.specs.Walk.{AreWidths, all_other_than_0, sources, values_by, widths_by}
+use Rattle.cnf_nodes.specs.Models.{ModelsAreNumbers, read_at}
+use Rattle.bm_unroll.proofs.Items.{all_at}
+use Rattle.bm_clauses.proofs.Joining.{models_are_runs}
+use Rattle.bm_clauses.proofs.runs.clauses_of_runs.Goals as goal
+
+pub clauses_of_nodes-requires-clause-small : goal.clauses_of_nodes-requires-clause-small
+clauses_of_nodes-requires-clause-small c =
+    let f = c.in_ok-frames.frames in
+    let P : List ℕ → Type 0 = λ ws. AreWidths ws in
+    subst P (sym c.as_slice-widths.ensures)
+    (λ i below. all_at IsWidth 0 f.widths i c.in_ok-frames.ensures.whole.widths below)
+
+pub clauses_of_nodes-requires-clause-few : goal.clauses_of_nodes-requires-clause-few
+clauses_of_nodes-requires-clause-few c =
+    omega (
+      arith,
+      ap length c.as_slice-widths.ensures,
+      c.in_ok-frames.ensures.whole.each,
+      c.in_ok-frames.ensures.whole.few,
+    )
+
+pub clauses_of_nodes-requires-clause-fitting : goal.clauses_of_nodes-requires-clause-fitting
+clauses_of_nodes-requires-clause-fitting c =
+    let f = c.in_ok-frames.frames in
+    let W : List ℕ → Type 0 = λ ws. AreFitting (sources ws) [] c.as_slice-nodes.result.now in
+    let N : List Node → Type 0 = λ ns. AreFitting (sources f.widths) [] ns in
+    subst W (sym c.as_slice-widths.ensures) (subst N (sym c.as_slice-nodes.ensures) c.in_ok-frames.ensures.whole.nodes)
+
+pub clauses_of_nodes-requires-clause-roots : goal.clauses_of_nodes-requires-clause-roots
+clauses_of_nodes-requires-clause-roots c =
+    let f = c.in_ok-frames.frames in
+    let N : List Node → Type 0 = λ ns. AllByRecursion (λ i. i < length ns) c.as_slice-roots.result.now in
+    let R : List ℕ → Type 0 = λ ids. AllByRecursion (λ i. i < length f.nodes) ids in
+    subst N (sym c.as_slice-nodes.ensures) (subst R (sym c.as_slice-roots.ensures) c.in_ok-frames.ensures.whole.roots)
+
+pub clauses_of_nodes-requires-clause-watch : goal.clauses_of_nodes-requires-clause-watch
+clauses_of_nodes-requires-clause-watch c =
+    let f = c.in_ok-frames.frames in
+    let N : List Node → Type 0 = λ ns. AllByRecursion (λ i. i < length ns) c.as_slice-watched.result.now in
+    let R : List ℕ → Type 0 = λ ids. AllByRecursion (λ i. i < length f.nodes) ids in
+    subst N (sym c.as_slice-nodes.ensures)
+    (subst R (sym c.as_slice-watched.ensures) c.in_ok-frames.ensures.whole.watch)
+
+pub returns-clause-models : goal.returns-clause-models
+returns-clause-models c =
+    let f = c.in_ok-frames.frames in
+    let formula = c.in_ok-encoded.encoded.formula in
+    let places = c.in_ok-encoded.encoded.blasted.places in
+    let ns = c.as_slice-nodes.result.now in
+    let rs = c.as_slice-roots.result.now in
+    let W : List ℕ → Type 0 = λ ws. ModelsAreNumbers ws (read_at places ws)
+    (λ numbers. all_other_than_0 (values_by ws ns numbers) rs) formula in
+    let N : List Node → Type 0 = λ nodes. ModelsAreNumbers f.widths (read_at places f.widths)
+    (λ numbers. all_other_than_0 (values_by f.widths nodes numbers) rs) formula in
+    let R : List ℕ → Type 0 = λ roots. ModelsAreNumbers f.widths (read_at places f.widths)
+    (λ numbers. all_other_than_0 (values_by f.widths f.nodes numbers) roots) formula in
+    models_are_runs c.args.net.now c.args.bad c.args.cycle f places formula
+    (c.in_ok-encoded.ensures.places ∙ ap (all_places 0 0) c.as_slice-widths.ensures)
+    (subst R c.as_slice-roots.ensures (subst N c.as_slice-nodes.ensures
+    (subst W c.as_slice-widths.ensures c.in_ok-encoded.ensures.models)))
+    c.in_ok-frames.ensures.chosen c.in_ok-frames.ensures.roots
+
+pub returns-clause-places : goal.returns-clause-places
+returns-clause-places c = c.in_ok-encoded.ensures.places ∙ ap (all_places 0 0) c.as_slice-widths.ensures
+
+pub returns-clause-bits : goal.returns-clause-bits
+returns-clause-bits c =
+    let f = c.in_ok-frames.frames in
+    let b = c.in_ok-encoded.encoded.blasted in
+    let ns = c.as_slice-nodes.result.now in
+    let ids = c.as_slice-watched.result.now in
+    let W : List ℕ → Type 0 = λ ws. AreWords b.graph (map (λ i. slice_index (widths_by ws ns) i) ids)
+    (λ x. map (λ i. slice_index (values_by ws ns (numbers_of ws x)) i) ids) b.watch in
+    let N : List Node → Type 0 = λ nodes. AreWords b.graph (map (λ i. slice_index (widths_by f.widths nodes) i) ids)
+    (λ x. map (λ i. slice_index (values_by f.widths nodes (numbers_of f.widths x)) i) ids) b.watch in
+    let R : List ℕ → Type 0 = λ watch. AreWords b.graph
+    (map (λ i. slice_index (widths_by f.widths f.nodes) i) watch)
+    (λ x. map (λ i. slice_index (values_by f.widths f.nodes (numbers_of f.widths x)) i) watch) b.watch in
+    subst R c.as_slice-watched.ensures (subst N c.as_slice-nodes.ensures
+    (subst W c.as_slice-widths.ensures c.in_ok-encoded.ensures.watch))

@@ -1,0 +1,60 @@
+//! The clauses of the runs of a net.
+ghost use Rattle.std.specs.Prelude.{◌≡◌, ◌≤◌, map, slice_index, IfOk};
+ghost use Rattle.std.specs.List.{AllByRecursion};
+ghost use Rattle.wn_net.specs.Net.{IsNode, AreNodes};
+ghost use Rattle.bb_operators.specs.Words.{AreWords};
+ghost use Rattle.bb_blast.specs.Choice.{numbers_of, all_places};
+ghost use Rattle.bb_blast.specs.Walk.{values_by, widths_by};
+ghost use Rattle.cnf_nodes.specs.Models.{read_at};
+ghost use Rattle.bm_unroll.specs.Frames.{AreDistinct, HasWatch, IsChoice, IsFrames, IsWithin, source_width};
+ghost use Rattle.bm_clauses.specs.Runs.{ModelsAreRuns};
+
+use bm_unroll::{Frames, unroll};
+use cnf_nodes::{Encoded, clauses_of_nodes};
+use fv_base::Memory;
+use std::alloc::Global;
+use wn_net::{Net, NodeId};
+
+/// Clauses, and the frames that they were made of.
+#[derive(Debug, Drop)]
+pub struct RunClauses {
+    pub frames: Frames,
+    /// A place names its source by the number in the list of the frames.
+    pub encoded: Encoded,
+}
+
+/// The clauses whose models, read at the places, are exactly the choices of the runs that meet the assumptions up to a
+/// cycle and have the bad node other than 0 in it.
+pub fn clauses_of_runs(
+    alloc: Global,
+    net: &Net,
+    bad: NodeId,
+    watch: &[NodeId],
+    cycle: u32,
+) -> Result<RunClauses, Memory>
+    requires bad { IsNode net.now bad }
+    requires watch { AreNodes net.now watch.now }
+    requires within { IsWithin net.now }
+    requires cycle { cycle ≤ 100 }
+    ensures models { IfOk result (λ r. ModelsAreRuns net.now bad cycle r.frames.sources
+        (read_at r.encoded.blasted.places r.frames.widths) r.encoded.formula) }
+    ensures places { IfOk result (λ r. r.encoded.blasted.places ≡ all_places 0 0 r.frames.widths) }
+    ensures frames { IfOk result (λ r. IsFrames r.frames) }
+    ensures watch { IfOk result (λ r. HasWatch net.now watch.now cycle r.frames) }
+    ensures bits { IfOk result (λ r. AreWords r.encoded.blasted.graph
+        (map (λ i. slice_index (widths_by r.frames.widths r.frames.nodes) i) r.frames.watch)
+        (λ x. map (λ i. slice_index (values_by r.frames.widths r.frames.nodes (numbers_of r.frames.widths x)) i)
+        r.frames.watch)
+        r.encoded.blasted.watch) }
+    ensures sources { IfOk result (λ r. AllByRecursion (IsChoice net.now cycle) r.frames.sources) }
+    ensures widths { IfOk result (λ r. r.frames.widths ≡ map (source_width net.now) r.frames.sources) }
+    ensures distinct { IfOk result (λ r. AreDistinct r.frames.sources) }
+{
+    let frames = unroll(alloc, net, bad, watch, cycle)?;
+    let widths = frames.widths.as_slice();
+    let nodes = frames.nodes.as_slice();
+    let roots = frames.roots.as_slice();
+    let watched = frames.watch.as_slice();
+    let encoded = clauses_of_nodes(alloc, widths, nodes, roots, watched)?;
+    Ok(RunClauses { frames, encoded })
+}

@@ -1,0 +1,7 @@
+pub mod Choosing
+pub mod Drafting
+pub mod FirstState
+pub mod Items
+pub mod Meaning
+pub mod Rows
+pub mod Runs
