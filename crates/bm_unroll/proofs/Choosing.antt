@@ -146,14 +146,16 @@ number_small : (net : Netlist) (xs : List Source) (ns : List ℕ) (x : Source)
     → AreNumbersOf (map (source_width net) xs) ns → number_at xs ns x < 2 ^ source_width net x
 number_small net [] ns x h = pow_pos (source_width net x)
 number_small net (y ∷ ys) [] x h = pow_pos (source_width net x)
-number_small net (y ∷ ys) (n ∷ ns) x h = by (are_one y x) refl
+number_small net (y ∷ ys) (n ∷ ns) x h =
+    by (are_one y x) refl
+    (number_small net ys ns x (rest_below (source_width net y) (map (source_width net) ys) n ns h))
   where
-    by : (b : Bool) → are_one y x ≡ b → (if b then n else number_at ys ns x) < 2 ^ source_width net x
-    by true e =
+    by : (b : Bool) → are_one y x ≡ b → number_at ys ns x < 2 ^ source_width net x
+        → (if b then n else number_at ys ns x) < 2 ^ source_width net x
+    by true e rest =
         let P : Source → Type 0 = λ z. n < 2 ^ source_width net z in
         subst P (one_is y x e) (h.below 0)
-    by false e =
-        number_small net ys ns x (rest_below (source_width net y) (map (source_width net) ys) n ns h)
+    by false e rest = rest
 
 -- the numbers of the sources behind one are not those of it
 numbers_behind : (y : Source) (n : ℕ) (ys : List Source) (ns : List ℕ) (xs : List Source)

@@ -74,13 +74,17 @@ pub record Holding (net : Netlist) (old now : Draft) (n : ℕ) (made : List ℕ)
   pub means : MeansAll now (take n (shape_of net).regs) (λ ch. take n (regs_from ch.regs 0 net.regs)) made
   pub draft : (cycle : ℕ) → IsDraft net cycle 0 old → IsDraft net cycle n now
 
-pub holding_none : (net : Netlist) (d : Draft) → length d.net.inputs ≡ length d.sources.items → Holding net d d 0 []
-holding_none net d each = record {
-  low = omega arith;
-  extends = extends_none d 0 each;
-  means = meant_none d;
-  draft = λ cycle h. h;
-}
+pub holding_none : (net : Netlist) (d : Draft) (made : List ℕ) → made ≡ []
+    → length d.net.inputs ≡ length d.sources.items → Holding net d d 0 made
+holding_none net d made is each =
+    let P : List ℕ → Type 0 = λ ids. Holding net d d 0 ids in
+    let none : Holding net d d 0 [] = record {
+      low = omega arith;
+      extends = extends_none d 0 each;
+      means = meant_none d;
+      draft = λ cycle h. h;
+    } in
+    subst P (sym is) none
 
 pub holding_next : (net : Netlist) (old now new : Draft) (n : ℕ) (made longer : List ℕ) (r : Reg) (id : ℕ)
     → slice_get net.regs n ≡ Some r → Holding net old now n made → Extends now new 1
@@ -109,14 +113,15 @@ holding_next net old now new n made longer r id at h more means draft pushed =
     } in
     subst P one_more made_is
 
-pub holding_all : (net : Netlist) (old now : Draft) (n : ℕ) (made : List ℕ) → length net.regs ≤ n
+pub holding_all : (net : Netlist) (old now : Draft) (n : ℕ) (made ids : List ℕ) → ids ≡ made → length net.regs ≤ n
     → Holding net old now n made
-    → MeansAll now (shape_of net).regs (λ ch. regs_from ch.regs 0 net.regs) made
-holding_all net old now n made past h =
-    meant_as now (take n (shape_of net).regs) (shape_of net).regs (λ ch. take n (regs_from ch.regs 0 net.regs))
+    → MeansAll now (shape_of net).regs (λ ch. regs_from ch.regs 0 net.regs) ids
+holding_all net old now n made ids is past h =
+    let P : List ℕ → Type 0 = λ xs. MeansAll now (shape_of net).regs (λ ch. regs_from ch.regs 0 net.regs) xs in
+    subst P (sym is) (meant_as now (take n (shape_of net).regs) (shape_of net).regs (λ ch. take n (regs_from ch.regs 0 net.regs))
     (λ ch. regs_from ch.regs 0 net.regs) made
     (take_all n (shape_of net).regs (omega (arith, length-map net.regs (λ (x : Reg). x.width), past)))
-    (λ ch. take_all n (regs_from ch.regs 0 net.regs) (omega (arith, regs_all ch.regs 0 net.regs, past))) h.means
+    (λ ch. take_all n (regs_from ch.regs 0 net.regs) (omega (arith, regs_all ch.regs 0 net.regs, past))) h.means)
 
 -- ---- the words of a memory
 
@@ -129,15 +134,18 @@ pub record Wording (mem : Mem) (number : ℕ) (old now : Draft) (n : ℕ) (made 
   pub draft : (net : Netlist) (cycle : ℕ) → slice_get net.mems number ≡ Some mem
       → IsDraft net cycle (2 ^ 32 + number * 2 ^ 32) old → IsDraft net cycle (2 ^ 32 + number * 2 ^ 32 + n) now
 
-pub wording_none : (mem : Mem) (number : ℕ) (d : Draft) → length d.net.inputs ≡ length d.sources.items
-    → Wording mem number d d 0 []
-wording_none mem number d each = record {
-  low = omega arith;
-  extends = extends_none d 0 each;
-  means = meant_none d;
-  draft = λ net cycle at h.
-      draft_more net cycle (2 ^ 32 + number * 2 ^ 32) (2 ^ 32 + number * 2 ^ 32 + 0) d (omega arith) h;
-}
+pub wording_none : (mem : Mem) (number : ℕ) (d : Draft) (made : List ℕ) → made ≡ []
+    → length d.net.inputs ≡ length d.sources.items → Wording mem number d d 0 made
+wording_none mem number d made is each =
+    let P : List ℕ → Type 0 = λ ids. Wording mem number d d 0 ids in
+    let none : Wording mem number d d 0 [] = record {
+      low = omega arith;
+      extends = extends_none d 0 each;
+      means = meant_none d;
+      draft = λ net cycle at h.
+          draft_more net cycle (2 ^ 32 + number * 2 ^ 32) (2 ^ 32 + number * 2 ^ 32 + 0) d (omega arith) h;
+    } in
+    subst P (sym is) none
 
 pub wording_next : (mem : Mem) (number : ℕ) (old now new : Draft) (n : ℕ) (made longer : List ℕ) (x : Init) (id : ℕ)
     → slice_get mem.init n ≡ Some x → Wording mem number old now n made → Extends now new 1
@@ -170,16 +178,18 @@ wording_next mem number old now new n made longer x id at h more means draft pus
     } in
     subst P one_more made_is
 
-pub wording_all : (mem : Mem) (number : ℕ) (old now : Draft) (n : ℕ) (made : List ℕ) → length mem.init ≤ n
-    → Wording mem number old now n made
-    → MeansAll now (map (λ x. mem.width) mem.init) (λ ch. words_from (ch.words number) 0 mem.init) made
-wording_all mem number old now n made past h =
-    meant_as now (take n (map (λ x. mem.width) mem.init)) (map (λ x. mem.width) mem.init)
+pub wording_all : (mem : Mem) (number : ℕ) (old now : Draft) (n : ℕ) (made ids : List ℕ) → ids ≡ made
+    → length mem.init ≤ n → Wording mem number old now n made
+    → MeansAll now (map (λ x. mem.width) mem.init) (λ ch. words_from (ch.words number) 0 mem.init) ids
+wording_all mem number old now n made ids is past h =
+    let P : List ℕ → Type 0 = λ xs. MeansAll now (map (λ x. mem.width) mem.init)
+    (λ ch. words_from (ch.words number) 0 mem.init) xs in
+    subst P (sym is) (meant_as now (take n (map (λ x. mem.width) mem.init)) (map (λ x. mem.width) mem.init)
     (λ ch. take n (words_from (ch.words number) 0 mem.init)) (λ ch. words_from (ch.words number) 0 mem.init) made
     (take_all n (map (λ (x : Init). mem.width) mem.init)
     (omega (arith, length-map mem.init (λ (x : Init). mem.width), past)))
     (λ ch. take_all n (words_from (ch.words number) 0 mem.init)
-    (omega (arith, words_all (ch.words number) 0 mem.init, past))) h.means
+    (omega (arith, words_all (ch.words number) 0 mem.init, past))) h.means)
 
 -- ---- all memories
 
@@ -190,13 +200,17 @@ pub record Storing (net : Netlist) (old now : Draft) (n : ℕ) (made : List (Lis
   pub means : MeansMems now (take n (shape_of net).mems) (λ ch. take n (mems_from ch.words 0 net.mems)) made
   pub draft : (cycle : ℕ) → IsDraft net cycle (2 ^ 32) old → IsDraft net cycle (2 ^ 32 + n * 2 ^ 32) now
 
-pub storing_none : (net : Netlist) (d : Draft) → length d.net.inputs ≡ length d.sources.items → Storing net d d 0 []
-storing_none net d each = record {
-  low = omega arith;
-  extends = extends_none d 0 each;
-  means = mems_none d;
-  draft = λ cycle h. draft_more net cycle (2 ^ 32) (2 ^ 32 + 0 * 2 ^ 32) d (omega arith) h;
-}
+pub storing_none : (net : Netlist) (d : Draft) (made : List (List ℕ)) → made ≡ []
+    → length d.net.inputs ≡ length d.sources.items → Storing net d d 0 made
+storing_none net d made is each =
+    let P : List (List ℕ) → Type 0 = λ mems. Storing net d d 0 mems in
+    let none : Storing net d d 0 [] = record {
+      low = omega arith;
+      extends = extends_none d 0 each;
+      means = mems_none d;
+      draft = λ cycle h. draft_more net cycle (2 ^ 32) (2 ^ 32 + 0 * 2 ^ 32) d (omega arith) h;
+    } in
+    subst P (sym is) none
 
 -- the words of one memory are few
 pub words_few : (net : Netlist) (n : ℕ) (mem : Mem) → slice_get net.mems n ≡ Some mem → IsMemOf net mem
@@ -245,14 +259,16 @@ storing_next net old now new n made longer mem words at own h more means draft p
     } in
     subst P one_more made_is
 
-pub storing_all : (net : Netlist) (old now : Draft) (n : ℕ) (made : List (List ℕ)) → length net.mems ≤ n
-    → Storing net old now n made
-    → MeansMems now (shape_of net).mems (λ ch. mems_from ch.words 0 net.mems) made
-storing_all net old now n made past h =
-    mems_as now (take n (shape_of net).mems) (shape_of net).mems (λ ch. take n (mems_from ch.words 0 net.mems))
+pub storing_all : (net : Netlist) (old now : Draft) (n : ℕ) (made mems : List (List ℕ)) → mems ≡ made
+    → length net.mems ≤ n → Storing net old now n made
+    → MeansMems now (shape_of net).mems (λ ch. mems_from ch.words 0 net.mems) mems
+storing_all net old now n made mems is past h =
+    let P : List (List ℕ) → Type 0 = λ xs. MeansMems now (shape_of net).mems (λ ch. mems_from ch.words 0 net.mems) xs
+    in
+    subst P (sym is) (mems_as now (take n (shape_of net).mems) (shape_of net).mems (λ ch. take n (mems_from ch.words 0 net.mems))
     (λ ch. mems_from ch.words 0 net.mems) made
     (take_all n (shape_of net).mems (omega (arith, length-map net.mems (λ (m : Mem). m.width), past)))
-    (λ ch. take_all n (mems_from ch.words 0 net.mems) (omega (arith, mems_all ch.words 0 net.mems, past))) h.means
+    (λ ch. take_all n (mems_from ch.words 0 net.mems) (omega (arith, mems_all ch.words 0 net.mems, past))) h.means)
 
 pub storing_few : (net : Netlist) (old now : Draft) (n : ℕ) (made : List (List ℕ)) → Storing net old now n made
     → Extends old now (sum (map (λ m. m.words) net.mems))

@@ -3,6 +3,7 @@ use Rattle.std.specs.Prelude.{◌≡◌, refl, ℕ, zero, suc, ◌+◌, ◌<◌,
 use Rattle.std.specs.Prelude.{Some, slice_get, slice_index, slice_index_or}
 use Rattle.std.specs.List.{AllByRecursion}
 use Rattle.std.proofs.Common.{ap, sym, ◌∙◌, arith, subst}
+use Rattle.std.proofs.lemmas.List.Sums.{sum_by-cons}
 
 -- an item that was read
 pub get_read : {X : Type 0} (xs : List X) (i : ℕ) (x d : X) → i < length xs → x ≡ slice_index_or xs i d
@@ -10,6 +11,11 @@ pub get_read : {X : Type 0} (xs : List X) (i : ℕ) (x d : X) → i < length xs 
 get_read [] i x d below is = absurd (omega arith)
 get_read (y ∷ ys) zero x d below is = ap Some (sym is)
 get_read (y ∷ ys) (suc i) x d below is = get_read ys i x d (omega arith) is
+
+pub at_place : {X : Type 0} (items own : List X) (i : ℕ) (d : X) → items ≡ own → i < length items
+    → slice_get own i ≡ Some (slice_index_or items i d)
+at_place items own i d same below =
+    ap (λ xs. slice_get xs i) (sym same) ∙ get_read items i (slice_index_or items i d) d below refl
 
 pub at_read : {X : Type 0} (items own : List X) (i : ℕ) (x : X) → items ≡ own → i < length items
     → x ≡ slice_index_or items i x → slice_get own i ≡ Some x
@@ -69,17 +75,33 @@ all_at P d (x ∷ xs) zero h below = h.0
 all_at P d (x ∷ xs) (suc i) h below = all_at P d xs i h.1 (omega arith)
 
 -- the sum of the first numbers
+sum_cons : (u : ℕ) (us : List ℕ) → sum (u ∷ us) ≡ u + sum us
+sum_cons u us = sum_by-cons (λ n. n) u us
+
 pub sum_next : (us : List ℕ) (i : ℕ) → i < length us → sum (take (suc i) us) ≡ sum (take i us) + slice_index us i
 sum_next [] i below = absurd (omega arith)
-sum_next (u ∷ us) zero below = omega arith
-sum_next (u ∷ us) (suc i) below = let h = sum_next us i (omega arith) in omega arith
+sum_next (u ∷ us) zero below = sum_cons u [] ∙ omega arith
+sum_next (u ∷ us) (suc i) below =
+    let more : sum (take (suc (suc i)) (u ∷ us)) ≡ u + sum (take (suc i) us) = sum_cons u (take (suc i) us) in
+    let less : sum (take (suc i) (u ∷ us)) ≡ u + sum (take i us) = sum_cons u (take i us) in
+    let here : slice_index (u ∷ us) (suc i) ≡ slice_index us i = refl in
+    let rest = sum_next us i (omega arith) in
+    omega (arith, more, less, here, rest)
 
 pub sum_within : (us : List ℕ) (i : ℕ) → i < length us → sum (take i us) + slice_index us i ≤ sum us
 sum_within [] i below = absurd (omega arith)
-sum_within (u ∷ us) zero below = omega arith
-sum_within (u ∷ us) (suc i) below = let h = sum_within us i (omega arith) in omega arith
+sum_within (u ∷ us) zero below =
+    let none : sum (take zero (u ∷ us)) ≡ 0 = refl in
+    let here : slice_index (u ∷ us) zero ≡ u = refl in
+    omega (arith, none, here, sum_cons u us)
+sum_within (u ∷ us) (suc i) below =
+    let less : sum (take (suc i) (u ∷ us)) ≡ u + sum (take i us) = sum_cons u (take i us) in
+    let here : slice_index (u ∷ us) (suc i) ≡ slice_index us i = refl in
+    omega (arith, sum_within us i (omega arith), less, here, sum_cons u us)
 
 pub sum_first : (us : List ℕ) (i : ℕ) → sum (take i us) ≤ sum us
-sum_first us zero = omega arith
-sum_first [] (suc i) = omega arith
-sum_first (u ∷ us) (suc i) = let h = sum_first us i in omega arith
+sum_first us zero = let none : sum (take zero us) ≡ 0 = refl in omega (arith, none)
+sum_first [] (suc i) = let none : sum (take {A = ℕ} (suc i) []) ≡ 0 = refl in omega (arith, none)
+sum_first (u ∷ us) (suc i) =
+    let less : sum (take (suc i) (u ∷ us)) ≡ u + sum (take i us) = sum_cons u (take i us) in
+    omega (arith, sum_first us i, less, sum_cons u us)

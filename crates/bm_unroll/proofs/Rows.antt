@@ -3,7 +3,10 @@ use Rattle.std.specs.Prelude.{◌≡◌, refl, ℕ, zero, suc, ◌+◌, ◌*◌,
 use Rattle.std.specs.Prelude.{List, [], ◌∷◌, ◌++◌, length, map, take, Some, slice_get, slice_index, slice_index_or}
 use Rattle.std.specs.Prelude.{Option, None, IfSome}
 use Rattle.std.specs.List.{AllByRecursion}
+use Rattle.std.specs.Int.{from_bool}
 use Rattle.std.proofs.Common.{ap, sym, ◌∙◌, arith, subst}
+use Rattle.std.proofs.Math.Pow.{pow_mono}
+use Rattle.std.proofs.lemmas.Nat.{pow_pos}
 use Rattle.std.proofs.lemmas.Bool.Decides.{nat_tests}
 use Rattle.std.proofs.lemmas.List.{get_or_append_left, get_or_push, length_push, length-map, take_all}
 use Rattle.std.proofs.lemmas.Option.{IfSome_then}
@@ -20,6 +23,11 @@ use Rattle.bm_unroll.proofs.Drafting.{draft_more, extends_more, extends_none, ex
 use Rattle.bm_unroll.proofs.Meaning.{meant_as, meant_at, meant_long, meant_next, meant_none, meant_on}
 
 -- ---- the numbers of inputs
+
+-- a bit fits each width
+pub bit_fits : (b : Bool) (w : ℕ) → 1 ≤ w → from_bool b < 2 ^ w
+bit_fits true w h = let p : 2 ^ 1 ≤ 2 ^ w = pow_mono h in let e : from_bool true ≡ 1 = refl in omega (arith, p, e)
+bit_fits false w h = pow_pos w
 
 -- one more of the first
 inputs_next : (each once : ℕ → ℕ) (reset i n j : ℕ) (xs : List Input) (x : Input) → slice_get xs n ≡ Some x
@@ -136,14 +144,18 @@ pub record Rowing (net : Netlist) (old now : Draft) (cycle n : ℕ) (made : List
   pub draft : (last bound : ℕ) → IsDraft net last bound old → cycle ≤ last → bound ≤ 2 ^ 66 + cycle * 2 ^ 32
       → IsDraft net last (2 ^ 66 + cycle * 2 ^ 32 + n) now
 
-pub rowing_none : (net : Netlist) (d : Draft) (cycle : ℕ) → length d.net.inputs ≡ length d.sources.items
-    → Rowing net d d cycle 0 []
-rowing_none net d cycle each = record {
-  low = omega arith;
-  extends = extends_none d 0 each;
-  means = meant_none d;
-  draft = λ last bound h low past. draft_more net last bound (2 ^ 66 + cycle * 2 ^ 32 + 0) d (omega (arith, past)) h;
-}
+pub rowing_none : (net : Netlist) (d : Draft) (cycle : ℕ) (made : List ℕ) → made ≡ []
+    → length d.net.inputs ≡ length d.sources.items → Rowing net d d cycle 0 made
+rowing_none net d cycle made is each =
+    let P : List ℕ → Type 0 = λ ids. Rowing net d d cycle 0 ids in
+    let none : Rowing net d d cycle 0 [] = record {
+      low = omega arith;
+      extends = extends_none d 0 each;
+      means = meant_none d;
+      draft = λ last bound h low past.
+          draft_more net last bound (2 ^ 66 + cycle * 2 ^ 32 + 0) d (omega (arith, past)) h;
+    } in
+    subst P (sym is) none
 
 pub rowing_next : (net : Netlist) (old now new : Draft) (cycle n : ℕ) (made longer : List ℕ) (x : Input) (id : ℕ)
     → slice_get net.inputs n ≡ Some x → Rowing net old now cycle n made → Extends now new 1
@@ -172,19 +184,21 @@ rowing_next net old now new cycle n made longer x id at h more means draft pushe
     subst P one_more made_is
 
 -- all inputs
-pub rowing_row : (net : Netlist) (old now : Draft) (cycle n : ℕ) (rows : List (List ℕ)) (made : List ℕ)
-    → length net.inputs ≤ n → length rows ≡ cycle → HasRows net old rows → Rowing net old now cycle n made
-    → HasRows net now (rows ++ made ∷ [])
-rowing_row net old now cycle n rows made past count own h =
+pub rowing_row : (net : Netlist) (old now : Draft) (cycle n : ℕ) (rows : List (List ℕ)) (made row : List ℕ)
+    → row ≡ made → length net.inputs ≤ n → length rows ≡ cycle → HasRows net old rows
+    → Rowing net old now cycle n made
+    → HasRows net now (rows ++ row ∷ [])
+rowing_row net old now cycle n rows made row is past count own h =
     let wide : take n (shape_of net).inputs ≡ (shape_of net).inputs = take_all n (shape_of net).inputs
     (omega (arith, length-map net.inputs (λ (x : Input). x.width), past)) in
     let all : (ch : Choices) → take n (inputs_at net ch cycle) ≡ inputs_at net ch (length rows) =
     λ ch. take_all n (inputs_at net ch cycle)
     (omega (arith, inputs_all (ch.each_cycle cycle) ch.once (reset_at cycle) 0 net.inputs, past))
     ∙ ap (inputs_at net ch) (sym count) in
-    rows_push net old now n rows made h.extends own
+    let P : List ℕ → Type 0 = λ ids. HasRows net now (rows ++ ids ∷ []) in
+    subst P (sym is) (rows_push net old now n rows made h.extends own
     (meant_as now (take n (shape_of net).inputs) (shape_of net).inputs (λ ch. take n (inputs_at net ch cycle))
-    (λ ch. inputs_at net ch (length rows)) made wide all h.means)
+    (λ ch. inputs_at net ch (length rows)) made wide all h.means))
 
 pub rowing_draft : (net : Netlist) (old now : Draft) (cycle n last bound : ℕ) (made : List ℕ) → n ≤ 1000000
     → Rowing net old now cycle n made → IsDraft net last bound old → cycle ≤ last → bound ≤ 2 ^ 66 + cycle * 2 ^ 32
@@ -203,15 +217,18 @@ pub record Laying (net : Netlist) (old now : Draft) (cycle n : ℕ) (rows : List
   pub own : HasRows net now rows
   pub draft : IsDraft net cycle (2 ^ 66) old → IsDraft net cycle (2 ^ 66 + n * 2 ^ 32) now
 
-pub laying_none : (net : Netlist) (d : Draft) (cycle : ℕ) → length d.net.inputs ≡ length d.sources.items
-    → Laying net d d cycle 0 []
-laying_none net d cycle each = record {
-  low = omega arith;
-  extends = extends_none d 0 each;
-  each = refl;
-  own = rows_none net d;
-  draft = λ h. draft_more net cycle (2 ^ 66) (2 ^ 66 + 0 * 2 ^ 32) d (omega arith) h;
-}
+pub laying_none : (net : Netlist) (d : Draft) (cycle : ℕ) (made : List (List ℕ)) → made ≡ []
+    → length d.net.inputs ≡ length d.sources.items → Laying net d d cycle 0 made
+laying_none net d cycle made is each =
+    let P : List (List ℕ) → Type 0 = λ rows. Laying net d d cycle 0 rows in
+    let none : Laying net d d cycle 0 [] = record {
+      low = omega arith;
+      extends = extends_none d 0 each;
+      each = refl;
+      own = rows_none net d;
+      draft = λ h. draft_more net cycle (2 ^ 66) (2 ^ 66 + 0 * 2 ^ 32) d (omega arith) h;
+    } in
+    subst P (sym is) none
 
 pub laying_next : (net : Netlist) (old now new : Draft) (cycle n : ℕ) (rows longer : List (List ℕ)) (row : List ℕ)
     → n < cycle + 1 → Laying net old now cycle n rows → Extends now new 1000000 → HasRows net new (rows ++ row ∷ [])

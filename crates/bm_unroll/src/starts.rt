@@ -2,7 +2,7 @@
 ghost use Rattle.std.specs.Prelude.{◌≡◌, ℕ, ◌+◌, ◌*◌, ◌<◌, ◌≤◌, ◌^◌, length, map, sum, slice_get, Some};
 ghost use Rattle.std.specs.Prelude.{IfOk, OnOk};
 ghost use Rattle.std.specs.List.{AllByRecursion};
-ghost use Rattle.wn_net.specs.declared.parts.Init.TheVariants as init;
+ghost use Rattle.wn_net.specs.declared.parts.Init.TheVariants as begins;
 ghost use Rattle.wn_net.specs.Width.{IsWidth};
 ghost use Rattle.wn_net.specs.Net.{Netlist, IsInitOf, shape_of};
 ghost use Rattle.wn_run.specs.Runs.{start_number, regs_from, words_from, mems_from};
@@ -29,7 +29,7 @@ fn start_node(
     ensures extends { OnOk result (Extends draft.old draft.new 1) }
     ensures means { IfOk result (Means draft.new width (λ ch. start_number (chosen ch source) init.now)) }
     ensures draft { OnOk result ((net : Netlist) (cycle bound : ℕ) → IsDraft net cycle bound draft.old
-        → (init.now ≡ init.Free → IsChoice net cycle source) → width ≡ source_width net source → bound ≤ rank source
+        → (init.now ≡ begins.Free → IsChoice net cycle source) → width ≡ source_width net source → bound ≤ rank source
         → IsDraft net cycle (rank source + 1) draft.new) }
 {
     match init {

@@ -1,4 +1,4 @@
-use Rattle.std.specs.Prelude.{◌≡◌, ℕ, ◌+◌, ◌*◌, ◌^◌, Some, map, slice_get, IfSome}
+use Rattle.std.specs.Prelude.{◌≡◌, ℕ, ◌+◌, ◌*◌, ◌^◌, ◌<◌, ◌==◌, Some, map, slice_get, IfSome}
 use Rattle.std.proofs.Common.{ap, sym, ◌∙◌, subst, arith}
 use Rattle.std.proofs.lemmas.Option.{IfSome_then}
 use Rattle.wn_net.specs.declared.parts.Input.{Input}
@@ -7,7 +7,8 @@ use Rattle.wn_net.specs.Net.{Netlist}
 use Rattle.wn_run.specs.Runs.{by_kind, reset_at}
 use Rattle.bm_unroll.specs.Draft.{Means}
 use Rattle.bm_unroll.proofs.Items.{get_mapped, index_mapped}
-use Rattle.bm_unroll.proofs.Drafting.{draft_more, extends_more, means_same, room_less}
+use Rattle.bm_unroll.proofs.Drafting.{draft_more, extends_more, room_less}
+use Rattle.bm_unroll.proofs.Rows.{bit_fits}
 use Rattle.bm_unroll.proofs.inputs.input_node.Goals as goal
 
 pub once_node-requires-clause-before : goal.once_node-requires-clause-before
@@ -21,7 +22,7 @@ pub returns-in_ok-each-in-EachCycle-clause-means : goal.returns-in_ok-each-in-Ea
 returns-in_ok-each-in-EachCycle-clause-means c =
     let i = c.args.index in
     let k = c.args.cycle in
-    let P : InputKind → Type 0 = λ kind. Means c.source.new.draft c.args.input.now.width
+    let P : InputKind → Type 0 = λ kind. Means c.source.new.self c.args.input.now.width
     (λ ch. by_kind (ch.each_cycle k i) (ch.once i) (reset_at k) kind) c.in_ok-each-in-EachCycle.each in
     subst P (sym c.in-EachCycle.is) c.in_ok-each-in-EachCycle.ensures.means
 
@@ -53,3 +54,8 @@ returns-in_ok-reset-in-Reset-clause-extends c =
 pub returns-in_ok-reset-in-Reset-clause-draft : goal.returns-in_ok-reset-in-Reset-clause-draft
 returns-in_ok-reset-in-Reset-clause-draft c = λ net last bound h at low past.
     draft_more net last bound _ _ (omega (arith, past)) (c.in_ok-reset-in-Reset.ensures.draft net last bound h)
+
+pub known-requires-clause-fits : goal.known-requires-clause-fits
+known-requires-clause-fits c =
+    let P : ℕ → Type 0 = λ n. n < 2 ^ c.args.input.now.width in
+    subst P (sym c.from.ensures) (bit_fits (c.args.cycle == 0) c.args.input.now.width c.requires.width.0)

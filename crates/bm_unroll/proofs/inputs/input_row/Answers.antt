@@ -1,12 +1,19 @@
-use Rattle.std.specs.Prelude.{◌<◌, ◌≤◌, length}
+use Rattle.std.specs.Prelude.{◌<◌, ◌≤◌, length, slice_index_or}
 use Rattle.std.proofs.Common.{ap, arith}
-use Rattle.bm_unroll.proofs.Items.{all_in, at_read}
+use Rattle.wn_net.specs.declared.parts.Input.{Input}
+use Rattle.wn_net.specs.declared.parts.InputKind.TheVariants.{EachCycle}
+use Rattle.wn_net.specs.Width.{IsWidth}
+use Rattle.bm_unroll.proofs.Items.{all_in, at_place}
 use Rattle.bm_unroll.proofs.Drafting.{extends_more, room_left}
 use Rattle.bm_unroll.proofs.Rows.{once_before, rowing_draft, rowing_next, rowing_none, rowing_row, rows_long, rows_on}
 use Rattle.bm_unroll.proofs.inputs.input_row.Goals as goal
 
+-- what a read past the last input would give
+abbrev no_input : Input
+no_input = record { width = 0; kind = EachCycle }
+
 pub loop-index-init : goal.loop-index-init
-loop-index-init c = rowing_none c.args.net.now c.args.draft.now c.args.cycle c.requires.room.each
+loop-index-init c = rowing_none c.args.net.now c.args.draft.now c.args.cycle _ c.in_ok-made.ensures.items c.requires.room.each
 
 pub node_before-before-requires : goal.node_before-before-requires
 node_before-before-requires c =
@@ -17,9 +24,9 @@ pub input_node-requires-clause-width : goal.input_node-requires-clause-width
 input_node-requires-clause-width c =
     let net = c.args.net.now in
     let i = c.loop-index.index in
-    all_in _ net.inputs i c.input-item.result c.inputs-input-items.ensures.whole.inputs
-    (at_read c.inputs-input-items.result.now net.inputs i c.input-item.result c.inputs-input-items.ensures.value
-    (omega arith) c.input-item.is)
+    let x = slice_index_or c.inputs-input-items.result.now i no_input in
+    all_in (λ (x : Input). IsWidth x.width) net.inputs i x c.inputs-input-items.ensures.whole.inputs
+    (at_place c.inputs-input-items.result.now net.inputs i no_input c.inputs-input-items.ensures.value (omega arith))
 
 pub input_node-requires-clause-room : goal.input_node-requires-clause-room
 input_node-requires-clause-room c =
@@ -31,9 +38,10 @@ pub input_node-requires-clause-before : goal.input_node-requires-clause-before
 input_node-requires-clause-before c =
     let net = c.args.net.now in
     let i = c.loop-index.index in
-    let at = at_read c.inputs-input-items.result.now net.inputs i c.input-item.result
-    c.inputs-input-items.ensures.value (omega arith) c.input-item.is in
-    once_before net c.loop-index.draft c.args.rows.now i c.input-item.result c.node_before-before.result
+    let x = slice_index_or c.inputs-input-items.result.now i no_input in
+    let at = at_place c.inputs-input-items.result.now net.inputs i no_input c.inputs-input-items.ensures.value
+    (omega arith) in
+    once_before net c.loop-index.draft c.args.rows.now i x c.node_before-before.result
     (rows_on net c.args.draft.now c.loop-index.draft i c.args.rows.now c.loop-index.invariant.extends c.requires.rows)
     at c.node_before-before.ensures.some
 
@@ -45,10 +53,11 @@ pub loop-index-preserved : goal.loop-index-preserved
 loop-index-preserved c =
     let net = c.args.net.now in
     let i = c.loop-index.index in
-    let at = at_read c.inputs-input-items.result.now net.inputs i c.input-item.result
-    c.inputs-input-items.ensures.value (omega arith) c.input-item.is in
+    let x = slice_index_or c.inputs-input-items.result.now i no_input in
+    let at = at_place c.inputs-input-items.result.now net.inputs i no_input c.inputs-input-items.ensures.value
+    (omega arith) in
     rowing_next net c.args.draft.now c.loop-index.draft c.input_node.new.draft c.args.cycle i c.loop-index.made.items
-    c.push.new.self.items c.input-item.result c.in_ok-id.id at c.loop-index.invariant c.in_ok-id.ensures.extends
+    c.push.new.self.items x c.in_ok-id.id at c.loop-index.invariant c.in_ok-id.ensures.extends
     c.in_ok-id.ensures.means (c.in_ok-id.ensures.draft net) c.in_ok-push.ensures.items
 
 pub returns-clause-extends : goal.returns-clause-extends
@@ -59,7 +68,8 @@ returns-clause-extends c =
 pub returns-clause-row : goal.returns-clause-row
 returns-clause-row c =
     rowing_row c.args.net.now c.args.draft.now c.loop-index.draft c.args.cycle c.loop-index.index c.args.rows.now
-    c.loop-index.made.items (omega (arith, ap length c.inputs-input-items.ensures.value)) c.requires.count
+    c.loop-index.made.items c.from_vec.result c.from_vec.ensures
+    (omega (arith, ap length c.inputs-input-items.ensures.value)) c.requires.count
     c.requires.rows c.loop-index.invariant
 
 pub returns-clause-draft : goal.returns-clause-draft

@@ -6,7 +6,7 @@ use Rattle.bm_unroll.proofs.Rows.{laying_next, laying_none}
 use Rattle.bm_unroll.proofs.inputs.input_rows.Goals as goal
 
 pub loop-number-init : goal.loop-number-init
-loop-number-init c = laying_none c.args.net.now c.args.draft.now c.args.cycle c.requires.room.each
+loop-number-init c = laying_none c.args.net.now c.args.draft.now c.args.cycle _ c.in_ok-made.ensures.items c.requires.room.each
 
 pub input_row-requires-clause-room : goal.input_row-requires-clause-room
 input_row-requires-clause-room c =

@@ -8,7 +8,7 @@ use Rattle.bm_unroll.proofs.FirstState.{storing_all, storing_draft, storing_few,
 use Rattle.bm_unroll.proofs.starts.mem_starts.Goals as goal
 
 pub loop-index-init : goal.loop-index-init
-loop-index-init c = storing_none c.args.net.now c.args.draft.now c.requires.room.each
+loop-index-init c = storing_none c.args.net.now c.args.draft.now _ c.in_ok-made.ensures.items c.requires.room.each
 
 pub word_starts-requires-clause-width : goal.word_starts-requires-clause-width
 word_starts-requires-clause-width c =
@@ -65,7 +65,7 @@ returns-clause-extends c =
 pub returns-clause-means : goal.returns-clause-means
 returns-clause-means c =
     storing_all c.args.net.now c.args.draft.now c.loop-index.draft c.loop-index.index c.loop-index.made.items
-    (omega (arith, ap length c.mems-mem-items.ensures.value)) c.loop-index.invariant
+    c.from_vec.result c.from_vec.ensures (omega (arith, ap length c.mems-mem-items.ensures.value)) c.loop-index.invariant
 
 pub returns-clause-draft : goal.returns-clause-draft
 returns-clause-draft c =

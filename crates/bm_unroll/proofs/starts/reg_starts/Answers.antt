@@ -1,29 +1,35 @@
-use Rattle.std.specs.Prelude.{◌<◌, ◌≤◌, length}
+use Rattle.std.specs.Prelude.{◌<◌, ◌≤◌, length, slice_index_or}
 use Rattle.std.proofs.Common.{ap, arith}
+use Rattle.wn_net.specs.declared.parts.Init.TheVariants.{Free}
+use Rattle.wn_net.specs.declared.parts.Reg.{Reg}
 use Rattle.wn_net.specs.Net.{IsRegOf}
-use Rattle.bm_unroll.proofs.Items.{all_in, at_read}
+use Rattle.bm_unroll.proofs.Items.{all_in, at_place}
 use Rattle.bm_unroll.proofs.Drafting.{draft_more, extends_more, room_left}
 use Rattle.bm_unroll.proofs.FirstState.{holding_all, holding_next, holding_none}
 use Rattle.bm_unroll.proofs.starts.reg_starts.Goals as goal
 
+-- what a read past the last register would give
+abbrev no_reg : Reg
+no_reg = record { width = 0; init = Free; next = 0 }
+
 pub loop-index-init : goal.loop-index-init
-loop-index-init c = holding_none c.args.net.now c.args.draft.now c.requires.room.each
+loop-index-init c = holding_none c.args.net.now c.args.draft.now _ c.in_ok-made.ensures.items c.requires.room.each
 
 pub start_node-requires-clause-width : goal.start_node-requires-clause-width
 start_node-requires-clause-width c =
     let net = c.args.net.now in
     let i = c.loop-index.index in
-    (all_in (IsRegOf net) net.regs i c.reg-item.result c.regs-reg-items.ensures.whole.regs
-    (at_read c.regs-reg-items.result.now net.regs i c.reg-item.result c.regs-reg-items.ensures.value (omega arith)
-    c.reg-item.is)).width
+    let r = slice_index_or c.regs-reg-items.result.now i no_reg in
+    (all_in (IsRegOf net) net.regs i r c.regs-reg-items.ensures.whole.regs
+    (at_place c.regs-reg-items.result.now net.regs i no_reg c.regs-reg-items.ensures.value (omega arith))).width
 
 pub start_node-requires-clause-init : goal.start_node-requires-clause-init
 start_node-requires-clause-init c =
     let net = c.args.net.now in
     let i = c.loop-index.index in
-    (all_in (IsRegOf net) net.regs i c.reg-item.result c.regs-reg-items.ensures.whole.regs
-    (at_read c.regs-reg-items.result.now net.regs i c.reg-item.result c.regs-reg-items.ensures.value (omega arith)
-    c.reg-item.is)).init
+    let r = slice_index_or c.regs-reg-items.result.now i no_reg in
+    (all_in (IsRegOf net) net.regs i r c.regs-reg-items.ensures.whole.regs
+    (at_place c.regs-reg-items.result.now net.regs i no_reg c.regs-reg-items.ensures.value (omega arith))).init
 
 pub start_node-requires-clause-room : goal.start_node-requires-clause-room
 start_node-requires-clause-room c =
@@ -34,10 +40,10 @@ pub loop-index-preserved : goal.loop-index-preserved
 loop-index-preserved c =
     let net = c.args.net.now in
     let i = c.loop-index.index in
+    let r = slice_index_or c.regs-reg-items.result.now i no_reg in
     holding_next net c.args.draft.now c.loop-index.draft c.start_node.new.draft i c.loop-index.made.items
-    c.push.new.self.items c.reg-item.result c.in_ok-id.id
-    (at_read c.regs-reg-items.result.now net.regs i c.reg-item.result c.regs-reg-items.ensures.value (omega arith)
-    c.reg-item.is) c.loop-index.invariant c.in_ok-id.ensures.extends c.in_ok-id.ensures.means
+    c.push.new.self.items r c.in_ok-id.id
+    (at_place c.regs-reg-items.result.now net.regs i no_reg c.regs-reg-items.ensures.value (omega arith)) c.loop-index.invariant c.in_ok-id.ensures.extends c.in_ok-id.ensures.means
     c.in_ok-id.ensures.draft c.in_ok-push.ensures.items
 
 pub returns-clause-extends : goal.returns-clause-extends
@@ -48,7 +54,7 @@ returns-clause-extends c =
 pub returns-clause-means : goal.returns-clause-means
 returns-clause-means c =
     holding_all c.args.net.now c.args.draft.now c.loop-index.draft c.loop-index.index c.loop-index.made.items
-    (omega (arith, ap length c.regs-reg-items.ensures.value)) c.loop-index.invariant
+    c.from_vec.result c.from_vec.ensures (omega (arith, ap length c.regs-reg-items.ensures.value)) c.loop-index.invariant
 
 pub returns-clause-draft : goal.returns-clause-draft
 returns-clause-draft c = λ cycle h.

@@ -1,21 +1,22 @@
-use Rattle.std.specs.Prelude.{◌<◌, ◌≤◌, length}
+use Rattle.std.specs.Prelude.{◌<◌, ◌≤◌, length, slice_index_or}
 use Rattle.std.proofs.Common.{ap, arith}
+use Rattle.wn_net.specs.declared.parts.Init.TheVariants.{Free}
 use Rattle.wn_net.specs.Net.{IsInitOf}
-use Rattle.bm_unroll.proofs.Items.{all_in, at_read}
+use Rattle.bm_unroll.proofs.Items.{all_in, at_place}
 use Rattle.bm_unroll.proofs.Drafting.{draft_more, extends_more, room_left}
 use Rattle.bm_unroll.proofs.FirstState.{wording_all, wording_next, wording_none}
 use Rattle.bm_unroll.proofs.starts.word_starts.Goals as goal
 
 pub loop-index-init : goal.loop-index-init
-loop-index-init c = wording_none c.args.mem.now c.args.number c.args.draft.now c.requires.room.each
+loop-index-init c = wording_none c.args.mem.now c.args.number c.args.draft.now _ c.in_ok-made.ensures.items c.requires.room.each
 
 pub start_node-requires-clause-init : goal.start_node-requires-clause-init
 start_node-requires-clause-init c =
     let mem = c.args.mem.now in
     let i = c.loop-index.index in
-    all_in (IsInitOf mem.width) mem.init i c.init-item.result c.requires.init
-    (at_read c.as_slice-inits.result.now mem.init i c.init-item.result c.as_slice-inits.ensures (omega arith)
-    c.init-item.is)
+    let x = slice_index_or c.as_slice-inits.result.now i Free in
+    all_in (IsInitOf mem.width) mem.init i x c.requires.init
+    (at_place c.as_slice-inits.result.now mem.init i Free c.as_slice-inits.ensures (omega arith))
 
 pub start_node-requires-clause-room : goal.start_node-requires-clause-room
 start_node-requires-clause-room c =
@@ -26,10 +27,10 @@ pub loop-index-preserved : goal.loop-index-preserved
 loop-index-preserved c =
     let mem = c.args.mem.now in
     let i = c.loop-index.index in
+    let x = slice_index_or c.as_slice-inits.result.now i Free in
     wording_next mem c.args.number c.args.draft.now c.loop-index.draft c.start_node.new.draft i
-    c.loop-index.made.items c.push.new.self.items c.init-item.result c.in_ok-id.id
-    (at_read c.as_slice-inits.result.now mem.init i c.init-item.result c.as_slice-inits.ensures (omega arith)
-    c.init-item.is) c.loop-index.invariant c.in_ok-id.ensures.extends c.in_ok-id.ensures.means
+    c.loop-index.made.items c.push.new.self.items x c.in_ok-id.id
+    (at_place c.as_slice-inits.result.now mem.init i Free c.as_slice-inits.ensures (omega arith)) c.loop-index.invariant c.in_ok-id.ensures.extends c.in_ok-id.ensures.means
     c.in_ok-id.ensures.draft c.in_ok-push.ensures.items
 
 pub returns-clause-extends : goal.returns-clause-extends
@@ -40,7 +41,8 @@ returns-clause-extends c =
 pub returns-clause-means : goal.returns-clause-means
 returns-clause-means c =
     wording_all c.args.mem.now c.args.number c.args.draft.now c.loop-index.draft c.loop-index.index
-    c.loop-index.made.items (omega (arith, ap length c.as_slice-inits.ensures)) c.loop-index.invariant
+    c.loop-index.made.items c.from_vec.result c.from_vec.ensures (omega (arith, ap length c.as_slice-inits.ensures))
+    c.loop-index.invariant
 
 pub returns-clause-draft : goal.returns-clause-draft
 returns-clause-draft c = λ net cycle at h.
