@@ -1,15 +1,13 @@
 -- Drafts: a source more, and what stays.
-use Rattle.std.specs.Prelude.{◌≡◌, refl, ℕ, zero, suc, ◌+◌, ◌<◌, ◌≤◌, List, [], ◌∷◌}
+use Rattle.std.specs.Prelude.{◌≡◌, refl, ℕ, ◌+◌, ◌<◌, ◌≤◌, List, [], ◌∷◌}
 use Rattle.std.specs.Prelude.{◌++◌, length, map, take}
-use Rattle.std.specs.Prelude.{Some, slice_get, slice_index}
+use Rattle.std.specs.Prelude.{slice_index}
 use Rattle.std.specs.List.{AllByRecursion}
 use Rattle.std.proofs.Common.{ap, sym, ◌∙◌, arith, subst}
-use Rattle.std.proofs.lemmas.List.{length-map, length_push, map_push}
+use Rattle.std.proofs.lemmas.List.{length_push, map_push}
 use Rattle.wn_net.specs.declared.parts.Input.{Input}
-use Rattle.wn_net.specs.declared.parts.InputKind.TheVariants.{EachCycle}
-use Rattle.wn_net.specs.Value.{Given}
-use Rattle.wn_net.specs.Net.{Netlist, IsNodeOf, value_at}
-use Rattle.wn_net.specs.Changes.{AddsNodes, BuildsInput, Grows, IsBegun}
+use Rattle.wn_net.specs.Net.{Netlist}
+use Rattle.wn_net.specs.Changes.{AddsNodes, BuildsInput, IsBegun}
 use Rattle.wn_net.proofs.Begun.{begun_more, begun_on, begun_same, longer_begun}
 use Rattle.wn_net.proofs.Laws.{adds_none, built_input_node, grown_node, grown_value, grows_on, nodes_grow}
 use Rattle.wn_run.specs.Runs.{Choices}
@@ -30,6 +28,7 @@ agree_begun ch (x ∷ xs) (y ∷ ys) (n ∷ ns) h a =
   where
     head : (y ∷ take (length xs) ys) ≡ (x ∷ xs) → y ≡ x
     head e = cc
+
     tail : (y ∷ take (length xs) ys) ≡ (x ∷ xs) → take (length xs) ys ≡ xs
     tail e = cc
 
@@ -136,7 +135,7 @@ source_means old new source input id each is built = record {
 
 pub source_draft : (old new : Draft) (source : Source) (input : Input) (id : ℕ) (net : Netlist) (cycle bound : ℕ)
     → new.sources.items ≡ old.sources.items ++ source ∷ []
-        → new.widths.items ≡ old.widths.items ++ input.width ∷ []
+    → new.widths.items ≡ old.widths.items ++ input.width ∷ []
     → BuildsInput old.net new.net input id → IsDraft net cycle bound old → IsChoice net cycle source
     → input.width ≡ source_width net source → bound ≤ rank source
     → IsDraft net cycle (rank source + 1) new
@@ -212,30 +211,3 @@ draft_more net cycle bound more d k h = record {
   distinct = h.distinct;
   before = before_more bound more d.sources.items k h.before;
 }
-
--- a number that is the same under each choice
-pub means_same : (d : Draft) (width : ℕ) (number other : Choices → ℕ) (id : ℕ) → ((ch : Choices)
-    → number ch ≡ other ch)
-    → Means d width number id → Means d width other id
-means_same d width number other id e m = record { there = m.there; value = λ ch g a. m.value ch g a ∙ e ch }
-
--- the kind and the width of an input
-pub input_kind : (net : Netlist) (i : ℕ) (x : Input) → slice_get net.inputs i ≡ Some x
-    → slice_get (map (λ x. x.kind) net.inputs) i ≡ Some x.kind
-input_kind net i x e = kinds net.inputs i e
-  where
-    kinds : (xs : List Input) (i : ℕ) → slice_get xs i ≡ Some x
-        → slice_get (map (λ x. x.kind) xs) i ≡ Some x.kind
-    kinds [] i e = cc
-    kinds (y ∷ ys) zero e = let p : y ≡ x = cc in ap (λ z. Some z.kind) p
-    kinds (y ∷ ys) (suc i) e = kinds ys i e
-
-pub input_width : (net : Netlist) (i : ℕ) (x : Input) → slice_get net.inputs i ≡ Some x
-    → x.width ≡ slice_index (map (λ x. x.width) net.inputs) i
-input_width net i x e = widths net.inputs i e
-  where
-    widths : (xs : List Input) (i : ℕ) → slice_get xs i ≡ Some x
-        → x.width ≡ slice_index (map (λ x. x.width) xs) i
-    widths [] i e = cc
-    widths (y ∷ ys) zero e = let p : x ≡ y = cc in ap (λ z. z.width) p
-    widths (y ∷ ys) (suc i) e = widths ys i e

@@ -1,6 +1,6 @@
 -- What stands for registers and memories in the first cycle.
 use Rattle.std.specs.Prelude.{◌≡◌, refl, ℕ, zero, suc, ◌+◌, ◌*◌, ◌<◌, ◌≤◌, ◌^◌, sum, List, [], ◌∷◌, ◌++◌}
-use Rattle.std.specs.Prelude.{length, map, take, Some, slice_get, slice_index, slice_index_or}
+use Rattle.std.specs.Prelude.{length, map, take, Some, slice_get}
 use Rattle.std.proofs.Common.{ap, sym, ◌∙◌, arith, subst}
 use Rattle.std.proofs.lemmas.List.{length-map, take_all}
 use Rattle.wn_net.specs.declared.parts.Reg.{Reg}
@@ -9,13 +9,12 @@ use Rattle.wn_net.specs.declared.parts.State.{State}
 use Rattle.wn_net.specs.declared.parts.Init.{Init}
 use Rattle.wn_net.specs.declared.parts.Init.TheVariants as init
 use Rattle.wn_net.specs.Net.{Netlist, IsMemOf, IsNet, shape_of}
-use Rattle.wn_run.specs.Runs.{Choices, start_number, regs_from, words_from, mems_from}
+use Rattle.wn_run.specs.Runs.{start_number, regs_from, words_from, mems_from}
 use Rattle.bm_cycle.specs.declared.state.StateNodes.{StateNodes}
 use Rattle.bm_unroll.specs.declared.draft.Draft.{Draft}
-use Rattle.bm_unroll.specs.declared.frames.Source.{Source}
 use Rattle.bm_unroll.specs.declared.frames.Source.TheVariants as s
 use Rattle.bm_unroll.specs.Frames.{IsChoice, source_width}
-use Rattle.bm_unroll.specs.Draft.{Extends, HasRoom, HasStart, IsDraft, Means, MeansAll, MeansMems, rank}
+use Rattle.bm_unroll.specs.Draft.{Extends, HasStart, IsDraft, Means, MeansAll, MeansMems, rank}
 use Rattle.bm_unroll.proofs.Items.{get_mapped, get_within, index_mapped, list_mapped, mapped_next, sum_first}
 use Rattle.bm_unroll.proofs.Items.{sum_next, sum_within}
 use Rattle.bm_unroll.proofs.Drafting.{draft_more, extends_more, extends_none, extends_on}

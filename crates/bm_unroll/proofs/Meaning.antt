@@ -1,6 +1,6 @@
 -- Nodes that have numbers under choices.
-use Rattle.std.specs.Prelude.{◌≡◌, refl, ℕ, zero, suc, ◌+◌, ◌<◌, ◌≤◌, List, [], ◌∷◌, ◌++◌, length, map}
-use Rattle.std.specs.Prelude.{slice_index, slice_index_or}
+use Rattle.std.specs.Prelude.{◌≡◌, refl, ℕ, ◌<◌, ◌≤◌, List, [], ◌∷◌, ◌++◌, length, map}
+use Rattle.std.specs.Prelude.{slice_index}
 use Rattle.std.proofs.Common.{ap, sym, ◌∙◌, arith, subst}
 use Rattle.std.proofs.lemmas.List.{get_or-map, length-map, map_push}
 use Rattle.wn_net.specs.Value.{Given}
@@ -13,7 +13,7 @@ use Rattle.bm_cycle.specs.Cycle.{AreMemories, IsMemory, widths_at}
 use Rattle.bm_cycle.proofs.Copying.{are_nodes, node_in, nodes_push, width_here}
 use Rattle.bm_cycle.proofs.Writing.{are_words, first_width}
 use Rattle.bm_unroll.specs.declared.draft.Draft.{Draft}
-use Rattle.bm_unroll.specs.Draft.{Agree, Extends, Means, MeansAll, MeansMems}
+use Rattle.bm_unroll.specs.Draft.{Extends, Means, MeansAll, MeansMems}
 use Rattle.bm_unroll.proofs.Drafting.{agree_begun}
 
 -- ---- a net that grows
@@ -161,6 +161,7 @@ words_of_width net {X} width (x ∷ xs) (id ∷ ids) there e =
   where
     head : (width_at net id ∷ widths_at net ids) ≡ (width ∷ map (λ (x : X). width) xs) → width_at net id ≡ width
     head e = cc
+
     tail : (width_at net id ∷ widths_at net ids) ≡ (width ∷ map (λ (x : X). width) xs)
         → widths_at net ids ≡ map (λ (x : X). width) xs
     tail e = cc

@@ -1,7 +1,7 @@
 -- Rows of nodes for the inputs of cycles.
 use Rattle.std.specs.Prelude.{◌≡◌, refl, ℕ, zero, suc, ◌+◌, ◌*◌, ◌-◌, ◌<◌, ◌≤◌, ◌^◌, Bool, true, false, nat_lt}
-use Rattle.std.specs.Prelude.{List, [], ◌∷◌, ◌++◌, length, map, take, Some, slice_get, slice_index, slice_index_or}
-use Rattle.std.specs.Prelude.{Option, None, IfSome}
+use Rattle.std.specs.Prelude.{List, [], ◌∷◌, ◌++◌, length, take, Some, slice_get, slice_index, slice_index_or}
+use Rattle.std.specs.Prelude.{Option, IfSome}
 use Rattle.std.specs.List.{AllByRecursion}
 use Rattle.std.specs.Int.{from_bool}
 use Rattle.std.proofs.Common.{ap, sym, ◌∙◌, arith, subst}
@@ -11,15 +11,14 @@ use Rattle.std.proofs.lemmas.Bool.Decides.{nat_tests}
 use Rattle.std.proofs.lemmas.List.{get_or_append_left, get_or_push, length_push, length-map, take_all}
 use Rattle.std.proofs.lemmas.Option.{IfSome_then}
 use Rattle.wn_net.specs.declared.parts.Input.{Input}
-use Rattle.wn_net.specs.declared.parts.InputKind.{InputKind}
 use Rattle.wn_net.specs.declared.parts.InputKind.TheVariants.{Once}
 use Rattle.wn_net.specs.Net.{Netlist, shape_of}
 use Rattle.wn_run.specs.Runs.{Choices, by_kind, inputs_at, inputs_from, reset_at}
 use Rattle.bm_walk.specs.Walk.{AreRows, IsRow}
 use Rattle.bm_unroll.specs.declared.draft.Draft.{Draft}
 use Rattle.bm_unroll.specs.Draft.{Extends, HasRows, IsDraft, Means, MeansAll}
-use Rattle.bm_unroll.proofs.Items.{all_from, get_read, get_within, index_mapped, mapped_next}
-use Rattle.bm_unroll.proofs.Drafting.{draft_more, extends_more, extends_none, extends_on}
+use Rattle.bm_unroll.proofs.Items.{all_from, get_within, index_mapped, mapped_next}
+use Rattle.bm_unroll.proofs.Drafting.{draft_more, extends_none, extends_on}
 use Rattle.bm_unroll.proofs.Meaning.{meant_as, meant_at, meant_long, meant_next, meant_none, meant_on}
 
 -- ---- the numbers of inputs
@@ -96,12 +95,12 @@ pub rows_long : (net : Netlist) (d : Draft) (rows : List (List ℕ)) (i : ℕ) �
     → i < length net.inputs → AllByRecursion (λ row. i < length row) rows
 rows_long net d rows i h below =
     all_from (λ row. i < length row) [] rows (λ k low.
-        omega (
-          arith,
-          meant_long d (shape_of net).inputs (λ ch. inputs_at net ch k) (slice_index_or rows k []) (h k low),
-          length-map net.inputs (λ (x : Input). x.width),
-          below,
-        ))
+    omega (
+      arith,
+      meant_long d (shape_of net).inputs (λ ch. inputs_at net ch k) (slice_index_or rows k []) (h k low),
+      length-map net.inputs (λ (x : Input). x.width),
+      below,
+    ))
 
 -- what stands for an input that is chosen once
 pub once_before : (net : Netlist) (d : Draft) (rows : List (List ℕ)) (i : ℕ) (x : Input) (before : Option ℕ)

@@ -1,7 +1,7 @@
 -- From drafts to runs: the theorem of the frames, over plain variables.
 use Rattle.std.specs.Prelude.{◌≡◌, ◌↔◌, refl, ℕ, zero, suc, ◌+◌, ◌<◌, ◌≤◌, ◌^◌, List}
 use Rattle.std.specs.Prelude.{[], ◌∷◌, length, map}
-use Rattle.std.specs.Prelude.{slice_get, slice_index, slice_index_or, Some}
+use Rattle.std.specs.Prelude.{slice_index}
 use Rattle.std.specs.List.{AllByRecursion}
 use Rattle.std.proofs.Common.{ap, sym, ◌∙◌, arith, subst, lit<}
 use Rattle.std.proofs.lemmas.List.{length-map}
@@ -16,7 +16,7 @@ use Rattle.wn_net.specs.Given.{AreMemsOf, AreNumbersOf, IsGiven, given}
 use Rattle.wn_net.specs.Next.{next_state}
 use Rattle.wn_net.specs.Net.{Netlist, IsNet, AreNodes, value_at, shape_of, values_of}
 use Rattle.wn_net.specs.Changes.{AddsNodes}
-use Rattle.wn_run.specs.Runs.{Choices, AreChoicesOf, IsAssumed, IsMet, cycle_at, inputs_at, start_of, state_at}
+use Rattle.wn_run.specs.Runs.{Choices, AreChoicesOf, IsMet, cycle_at, inputs_at, start_of, state_at}
 use Rattle.wn_mem.specs.Words.{numbers_of}
 use Rattle.bm_cycle.specs.declared.state.StateNodes.{StateNodes}
 use Rattle.bm_cycle.specs.Cycle.{state_by}

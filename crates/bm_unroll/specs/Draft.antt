@@ -60,11 +60,12 @@ pub record Means (d : Draft) (width : ℕ) (number : Choices → ℕ) (id : ℕ)
 pub record MeansAll (d : Draft) (widths : List ℕ) (numbers : Choices → List ℕ) (ids : List ℕ) : Type 0 where
   pub there : AreNodes d.net ids
   pub wide : widths_at d.net ids ≡ widths
-  pub values : (ch : Choices) (g : Given) → Agree ch d.sources.items g.inputs → numbers_of d.net g ids ≡ numbers ch
+  pub values : (ch : Choices) (g : Given) → Agree ch d.sources.items g.inputs
+      → numbers_of d.net g ids ≡ numbers ch
 
 -- and so for the words of memories
-pub record MeansMems (d : Draft) (widths : List ℕ) (numbers : Choices → List (List ℕ)) (mems : List (List ℕ)) : Type
-    0 where
+pub record MeansMems (d : Draft) (widths : List ℕ) (numbers : Choices → List (List ℕ))
+    (mems : List (List ℕ)) : Type 0 where
   pub there : AreMemories d.net mems
   pub wide : map (words_width d.net) mems ≡ widths
   pub values : (ch : Choices) (g : Given) → Agree ch d.sources.items g.inputs

@@ -1,7 +1,6 @@
 -- Frames, and the runs of a net that they tell (rule of this project).
-use Rattle.std.specs.Prelude.{◌≡◌, ℕ, ◌+◌, ◌<◌, ◌≤◌, ◌^◌, sum, List, [], ◌∷◌, Some, length, map, slice_get}
-use Rattle.std.specs.Prelude.{slice_index, slice_index_or}
-use Rattle.std.specs.Prelude.{◌↔◌}
+use Rattle.std.specs.Prelude.{◌≡◌, ◌↔◌, ℕ, ◌+◌, ◌<◌, ◌≤◌, ◌^◌, sum, List, [], ◌∷◌}
+use Rattle.std.specs.Prelude.{Some, length, map, slice_get, slice_index, slice_index_or}
 use Rattle.std.specs.List.{AllByRecursion}
 use Rattle.wn_net.specs.declared.parts.InputKind.TheVariants.{EachCycle, Once}
 use Rattle.wn_net.specs.declared.parts.Init.TheVariants.{Free}

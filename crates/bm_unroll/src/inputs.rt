@@ -1,6 +1,6 @@
 //! The inputs of each cycle.
-ghost use Rattle.std.specs.Prelude.{◌≡◌, ℕ, ◌+◌, ◌*◌, ◌-◌, ◌<◌, ◌≤◌, ◌^◌, length, ◌++◌, ◌∷◌, []};
-ghost use Rattle.std.specs.Prelude.{None, Some, map, slice_get, slice_index, slice_index_or};
+ghost use Rattle.std.specs.Prelude.{◌≡◌, ℕ, ◌+◌, ◌*◌, ◌-◌, ◌<◌, ◌≤◌, ◌^◌};
+ghost use Rattle.std.specs.Prelude.{◌++◌, ◌∷◌, [], length, None, Some, map, slice_get, slice_index, slice_index_or};
 ghost use Rattle.std.specs.Prelude.{IfOk, IfSome, OnOk};
 ghost use Rattle.std.specs.List.{AllByRecursion};
 ghost use Rattle.wn_net.specs.declared.parts.InputKind.TheVariants as kind;
@@ -59,7 +59,8 @@ fn input_node(
     ensures means { IfOk result (Means draft.new input.now.width
         (λ ch. by_kind (ch.each_cycle cycle index) (ch.once index) (reset_at cycle) input.now.kind)) }
     ensures draft { OnOk result ((net : Netlist) (last bound : ℕ) → IsDraft net last bound draft.old
-        → slice_get net.inputs index ≡ Some input.now → cycle ≤ last → bound ≤ 2 ^ 66 + cycle * 2 ^ 32 + index
+        → slice_get net.inputs index ≡ Some input.now → cycle ≤ last
+        → bound ≤ 2 ^ 66 + cycle * 2 ^ 32 + index
         → IsDraft net last (2 ^ 66 + cycle * 2 ^ 32 + index + 1) draft.new) }
 {
     match input.kind {

@@ -1,6 +1,6 @@
 //! What registers and memories begin with.
-ghost use Rattle.std.specs.Prelude.{◌≡◌, ℕ, ◌+◌, ◌*◌, ◌<◌, ◌≤◌, ◌^◌, length, map, sum, slice_get, Some};
-ghost use Rattle.std.specs.Prelude.{IfOk, OnOk};
+ghost use Rattle.std.specs.Prelude.{◌≡◌, ℕ, ◌+◌, ◌*◌, ◌<◌, ◌≤◌, ◌^◌, length, map, sum};
+ghost use Rattle.std.specs.Prelude.{slice_get, Some, IfOk, OnOk};
 ghost use Rattle.std.specs.List.{AllByRecursion};
 ghost use Rattle.wn_net.specs.declared.parts.Init.TheVariants as begins;
 ghost use Rattle.wn_net.specs.Width.{IsWidth};
@@ -17,19 +17,15 @@ use std::alloc::Global;
 use wn_net::{Init, Mem, Net, NodeId};
 
 /// What stands for a register or a word in the first cycle.
-fn start_node(
-    draft: &mut Draft,
-    source: Source,
-    width: u32,
-    init: &Init,
-) -> Result<NodeId, Memory>
+fn start_node(draft: &mut Draft, source: Source, width: u32, init: &Init) -> Result<NodeId, Memory>
     requires width { IsWidth width }
     requires init { IsInitOf width init.now }
     requires room { HasRoom draft.old 1 }
     ensures extends { OnOk result (Extends draft.old draft.new 1) }
     ensures means { IfOk result (Means draft.new width (λ ch. start_number (chosen ch source) init.now)) }
     ensures draft { OnOk result ((net : Netlist) (cycle bound : ℕ) → IsDraft net cycle bound draft.old
-        → (init.now ≡ begins.Free → IsChoice net cycle source) → width ≡ source_width net source → bound ≤ rank source
+        → (init.now ≡ begins.Free → IsChoice net cycle source) → width ≡ source_width net source
+        → bound ≤ rank source
         → IsDraft net cycle (rank source + 1) draft.new) }
 {
     match init {
@@ -94,7 +90,8 @@ fn mem_starts(alloc: Global, draft: &mut Draft, net: &Net) -> Result<List<List<N
     requires few { sum (map (λ m. m.words) net.now.mems) ≤ 100000000 }
     requires room { HasRoom draft.old (sum (map (λ m. m.words) net.now.mems)) }
     ensures extends { OnOk result (Extends draft.old draft.new (sum (map (λ m. m.words) net.now.mems))) }
-    ensures means { IfOk result (MeansMems draft.new (shape_of net.now).mems (λ ch. mems_from ch.words 0 net.now.mems)) }
+    ensures means { IfOk result (MeansMems draft.new (shape_of net.now).mems
+        (λ ch. mems_from ch.words 0 net.now.mems)) }
     ensures draft { OnOk result ((cycle : ℕ) → IsDraft net.now cycle (2 ^ 32) draft.old
         → IsDraft net.now cycle (2 ^ 66) draft.new) }
 {

@@ -79,6 +79,11 @@ fn at(values: &[u128], id: u64) -> u128 {
     }
 }
 
+/// So many bits, each of them 1.
+fn ones(width: u32) -> u128 {
+    1u128.wrapping_shl(width).wrapping_sub(1)
+}
+
 /// The value of a node of the kinds that are in these frames.
 fn value_of(node: Node, frames: &Frames, values: &[u128], first: u128) -> u128 {
     match node {
@@ -93,9 +98,13 @@ fn value_of(node: Node, frames: &Frames, values: &[u128], first: u128) -> u128 {
         Node::Not(a) => at(values, a) ^ 0xff,
         Node::Eq(a, b) => u128::from(at(values, a) == at(values, b)),
         Node::Ult(a, b) => u128::from(at(values, a) < at(values, b)),
-        Node::Slice(a, 0, 2) => at(values, a) & 3,
+        Node::Slice(a, low, width) => at(values, a).wrapping_shr(low) & ones(width),
         Node::Concat(a, b) => at(values, a).wrapping_mul(4) | at(values, b),
-        Node::Mux(c, a, b) => if at(values, c) == 1 { at(values, a) } else { at(values, b) },
+        Node::Mux(c, a, b) => if at(values, c) == 1 {
+            at(values, a)
+        } else {
+            at(values, b)
+        },
         _ => 1000,
     }
 }

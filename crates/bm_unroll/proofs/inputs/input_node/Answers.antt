@@ -1,9 +1,8 @@
-use Rattle.std.specs.Prelude.{◌≡◌, ℕ, ◌+◌, ◌*◌, ◌^◌, ◌<◌, ◌==◌, Some, map, slice_get, IfSome}
+use Rattle.std.specs.Prelude.{ℕ, ◌+◌, ◌*◌, ◌^◌, ◌<◌, ◌==◌, Some}
 use Rattle.std.proofs.Common.{ap, sym, ◌∙◌, subst, arith}
 use Rattle.std.proofs.lemmas.Option.{IfSome_then}
 use Rattle.wn_net.specs.declared.parts.Input.{Input}
 use Rattle.wn_net.specs.declared.parts.InputKind.{InputKind}
-use Rattle.wn_net.specs.Net.{Netlist}
 use Rattle.wn_run.specs.Runs.{by_kind, reset_at}
 use Rattle.bm_unroll.specs.Draft.{Means}
 use Rattle.bm_unroll.proofs.Items.{get_mapped, index_mapped}

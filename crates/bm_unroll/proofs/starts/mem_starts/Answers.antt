@@ -1,4 +1,4 @@
-use Rattle.std.specs.Prelude.{◌<◌, ◌≤◌, length, map, sum, take}
+use Rattle.std.specs.Prelude.{length, map, sum, take}
 use Rattle.std.proofs.Common.{ap, arith}
 use Rattle.wn_net.specs.declared.parts.Mem.{Mem}
 use Rattle.wn_net.specs.Net.{IsMemOf}

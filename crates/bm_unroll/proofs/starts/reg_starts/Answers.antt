@@ -1,4 +1,4 @@
-use Rattle.std.specs.Prelude.{◌<◌, ◌≤◌, length, slice_index_or}
+use Rattle.std.specs.Prelude.{length, slice_index_or}
 use Rattle.std.proofs.Common.{ap, arith}
 use Rattle.wn_net.specs.declared.parts.Init.TheVariants.{Free}
 use Rattle.wn_net.specs.declared.parts.Reg.{Reg}

@@ -1,4 +1,3 @@
-use Rattle.std.specs.Prelude.{◌≡◌, ℕ}
 use Rattle.std.proofs.Common.{sym, subst, arith}
 use Rattle.wn_net.specs.declared.parts.Init.{Init}
 use Rattle.wn_run.specs.Runs.{start_number}
@@ -13,7 +12,7 @@ known-requires-clause-room c = room_less c.args.draft.now 0 1 (omega arith) c.re
 pub returns-in_ok-free-in-Free-clause-means : goal.returns-in_ok-free-in-Free-clause-means
 returns-in_ok-free-in-Free-clause-means c =
     let P : Init → Type 0 = λ init. Means c.source.new.self c.args.width (λ ch. start_number (chosen ch
-        c.args.source) init)
+    c.args.source) init)
     c.in_ok-free-in-Free.free in
     subst P (sym c.in-Free.is) c.in_ok-free-in-Free.ensures.means
 

@@ -1,4 +1,4 @@
-use Rattle.std.specs.Prelude.{refl, ◌+◌, ◌≤◌, length, map, sum}
+use Rattle.std.specs.Prelude.{refl, length, map, sum}
 use Rattle.std.proofs.Common.{arith}
 use Rattle.wn_net.specs.declared.parts.Mem.{Mem}
 use Rattle.bm_unroll.proofs.Drafting.{extends_on, room_left, room_less}
