@@ -1,47 +1,48 @@
 -- From numbers of sources to choices of runs.
-use Rattle.std.specs.Prelude.{◌≡◌, ◌↔◌, refl, ℕ, zero, suc, ◌+◌, ◌<◌, ◌^◌, ◌==◌, ◌&&◌, Bool, true, false, not}
+use Rattle.std.specs.Prelude.{◌≡◌, refl, ℕ, zero, suc, ◌+◌, ◌<◌, ◌^◌, ◌==◌, ◌&&◌, Bool, true, false, not}
 use Rattle.std.specs.Prelude.{List, [], ◌∷◌, length, map, slice_index}
 use Rattle.std.specs.List.{AllByRecursion}
-use Rattle.std.proofs.Common.{ap, sym, ◌∙◌, arith, subst, lit<}
+use Rattle.std.proofs.Common.{ap, sym, arith, subst, lit<}
 use Rattle.std.proofs.lemmas.Bool.Decides.{nat_tests}
 use Rattle.wn_net.specs.Given.{AreNumbersOf}
 use Rattle.wn_net.specs.Net.{Netlist}
-use Rattle.wn_run.specs.Runs.{Choices, AreChoicesOf}
 use Rattle.cnf_form.specs.Cnf.{Cnf}
 use Rattle.bb_bits.specs.Bits.{number}
 use Rattle.bb_bits.proofs.Numbers.{number_fits}
 use Rattle.bb_blast.specs.declared.places.Placed.{Placed}
-use Rattle.bb_blast.specs.Choice.{bits_from, numbers_from, numbers_of, all_places}
+use Rattle.bb_blast.specs.Choice.{bits_from, numbers_from, all_places}
 use Rattle.bb_blast.specs.Walk.{all_other_than_0, values_by}
-use Rattle.cnf_nodes.specs.Models.{AreOfWidths, IsModel, ModelsAreNumbers, read_at}
+use Rattle.cnf_nodes.specs.Models.{AreOfWidths, ModelsAreNumbers, read_at}
 use Rattle.cnf_nodes.proofs.Joined.{inputs_in}
 use Rattle.cnf_nodes.proofs.Reading.{read_is}
-use Rattle.bm_unroll.specs.declared.frames.Source.{Source}
 use Rattle.bm_unroll.specs.declared.frames.Frames.{Frames}
-use Rattle.bm_unroll.specs.Frames.{AreChosen, Chooses, HasRoots, IsBadRun, chosen, values_under}
+use Rattle.bm_unroll.specs.Frames.{AreChosen, HasRoots, chosen, values_under}
 use Rattle.bm_clauses.specs.Runs.{ModelsAreRuns}
 
 -- ---- all roots
 
-not_zero : (n : ℕ) (rest : Bool) → (not (n == 0) && rest) ≡ true → (n ≡ 0 → ⊥) × (rest ≡ true)
-not_zero zero rest e = cc
-not_zero (suc n) rest e = (λ z. cc, e)
+not_zero : (n : ℕ) (b rest : Bool) → (n == 0) ≡ b → (not b && rest) ≡ true → (n ≡ 0 → ⊥) × (rest ≡ true)
+not_zero n true rest q e = cc
+not_zero n false rest q e = (λ z. grind (arith, nat_tests, q, z), e)
 
-is_not_zero : (n : ℕ) (rest : Bool) → (n ≡ 0 → ⊥) → rest ≡ true → (not (n == 0) && rest) ≡ true
-is_not_zero zero rest h e = absurd (h refl)
-is_not_zero (suc n) rest h e = e
+is_not_zero : (n : ℕ) (b rest : Bool) → (n == 0) ≡ b → (n ≡ 0 → ⊥) → rest ≡ true → (not b && rest) ≡ true
+is_not_zero n true rest q h e = absurd (h (grind (arith, nat_tests, q)))
+is_not_zero n false rest q h e = e
 
 pub all_tested : (vs ids : List ℕ) → all_other_than_0 vs ids ≡ true
     → AllByRecursion (λ id. slice_index vs id ≡ 0 → ⊥) ids
 all_tested vs [] e = tt
 all_tested vs (id ∷ ids) e =
-    let h = not_zero (slice_index vs id) (all_other_than_0 vs ids) e in (h.0, all_tested vs ids h.1)
+    let v = slice_index vs id in
+    let h = not_zero v (v == 0) (all_other_than_0 vs ids) refl e in
+    (h.0, all_tested vs ids h.1)
 
 pub tested_all : (vs ids : List ℕ) → AllByRecursion (λ id. slice_index vs id ≡ 0 → ⊥) ids
     → all_other_than_0 vs ids ≡ true
 tested_all vs [] h = refl
 tested_all vs (id ∷ ids) h =
-    is_not_zero (slice_index vs id) (all_other_than_0 vs ids) h.0 (tested_all vs ids h.1)
+    let v = slice_index vs id in
+    is_not_zero v (v == 0) (all_other_than_0 vs ids) refl h.0 (tested_all vs ids h.1)
 
 -- ---- widths
 
