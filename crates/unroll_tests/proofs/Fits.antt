@@ -1,6 +1,6 @@
 -- Nodes with widths, the first of them and all.
-use Rattle.std.specs.Prelude.{◌≡◌, refl, ℕ, ◌+◌, ◌<◌, ◌≤◌, List, [], ◌∷◌, ◌++◌, length, map, take, slice_index}
-use Rattle.std.proofs.Common.{ap, sym, ◌∙◌, arith, subst}
+use Rattle.std.specs.Prelude.{◌≡◌, refl, ℕ, ◌+◌, ◌<◌, ◌≤◌, List, [], ◌∷◌, ◌++◌, length, take, slice_index}
+use Rattle.std.proofs.Common.{ap, sym, ◌∙◌, subst}
 use Rattle.std.proofs.lemmas.List.{map_push, take_all, take_more}
 use Rattle.wn_net.specs.Net.{Netlist, IsNode, AreNodes, width_at}
 use Rattle.bm_cycle.specs.Cycle.{widths_at}
