@@ -133,7 +133,7 @@ fn stepped(
     };
     let mut values = vec![in alloc; 0u128; net.nodes().len()]?;
     let mut met = true;
-    for now in 0..cycle + 1 {
+    for now in 0..cycle.saturating_add(1) {
         let inputs = [step_in(now), u128::from(now == 0), 0x55];
         assert!(rt; net.admits(&inputs, &state));
         assert!(rt; values.len() == net.nodes().len());

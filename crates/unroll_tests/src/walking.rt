@@ -104,6 +104,7 @@ fn one_cycle_and_the_next(rt: HostRuntime) -> Result<(), Fail> {
     let state = start(&rt, alloc, &mut frames, 250)?;
     assert!(rt; is_row(&frames, &net, &inputs) && is_start(&frames, &net, &state));
     let table = copy_cycle(alloc, &mut frames, &net, inputs.as_slice(), &state)?;
+    assert!(rt; is_start(&frames, &net, &state));
     let next = next_nodes(alloc, &mut frames, &net, table.as_slice(), &state)?;
     let values = values(&rt, alloc, &frames)?;
     let here = table.get(total as usize).ok_or("no node")?;
