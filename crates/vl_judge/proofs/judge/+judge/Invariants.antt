@@ -1,0 +1,41 @@
+use Rattle.std.proofs.Common.{◌≡◌, ◌≤◌, ◌*◌, ◌+◌, length}
+use Rattle.std.specs.Prelude.{drop}
+use Rattle.vl_tree.specs.Expr.{exprs, depth, exprs_depth, selects_depth, whole}
+use Rattle.vl_tree.specs.ExprView.{selects, with_select}
+use Rattle.vl_refusal.specs.Expressions.{wide_sizes}
+use Rattle.vl_judge.specs.Judged.{faults, selects_fault}
+use Rattle.vl_judge.proofs.judge.+judge.Given as goal
+
+abbrev pub decreases-judge : goal.decreases-judge
+decreases-judge l = 4 * depth l.expr.now
+
+abbrev pub decreases-judge_parts : goal.decreases-judge_parts
+decreases-judge_parts l = 4 * exprs_depth (exprs l.all.now) + 1
+
+abbrev pub decreases-judge_select : goal.decreases-judge_select
+decreases-judge_select l = 4 * selects_depth (with_select l.select.now whole) + 1
+
+abbrev pub decreases-judge_selects : goal.decreases-judge_selects
+decreases-judge_selects l = 4 * selects_depth (selects l.all.now) + 2
+
+abbrev pub decreases-judge_name : goal.decreases-judge_name
+decreases-judge_name l = 4 * selects_depth (selects l.all.now) + 3
+
+abbrev pub invariant-judge_parts-loop-place : goal.invariant-judge_parts-loop-place
+invariant-judge_parts-loop-place l = record {
+  within : l.place ≤ length l.all;
+  width : wide_sizes l.names (exprs (drop l.place l.all)) ≡ l.width;
+  fault : faults l.names l.fixed (exprs (drop l.place l.all)) ≡ l.fault;
+}
+
+abbrev pub decreases-judge_parts-loop-place : goal.decreases-judge_parts-loop-place
+decreases-judge_parts-loop-place l = l.place
+
+abbrev pub invariant-judge_selects-loop-place : goal.invariant-judge_selects-loop-place
+invariant-judge_selects-loop-place l = record {
+  within : l.place ≤ length l.all;
+  fault : selects_fault l.names l.fixed (selects (drop l.place l.all)) ≡ l.fault;
+}
+
+abbrev pub decreases-judge_selects-loop-place : goal.decreases-judge_selects-loop-place
+decreases-judge_selects-loop-place l = l.place
