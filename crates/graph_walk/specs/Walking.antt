@@ -22,7 +22,8 @@ pub record Walks (graph : List (List ℕ)) (progress : List Progress) (path : Li
   pub standing : (a : ℕ) (s : Step) → slice_get path a ≡ Some s → slice_get progress s.node ≡ Some p.Open
   pub opened : (i : ℕ) → slice_get progress i ≡ Some p.Open
       → (a : ℕ) × (s : Step) × (slice_get path a ≡ Some s) × (s.node ≡ i)
-  pub apart : (a b : ℕ) (s t : Step) → slice_get path a ≡ Some s → slice_get path b ≡ Some t → s.node ≡ t.node
+  pub apart : (a b : ℕ) (s t : Step) → slice_get path a ≡ Some s → slice_get path b ≡ Some t
+      → s.node ≡ t.node
       → a ≡ b
   -- of a node on the path, what it leads to before its next target is done, or stands next on the path
   pub passed : (a : ℕ) (s : Step) (k j : ℕ) → slice_get path a ≡ Some s → k < s.next
@@ -62,13 +63,15 @@ abbrev pub AreFewer : List Progress → List Progress → Type 0
 AreFewer before after = (i : ℕ) → slice_get after i ≡ Some p.New → slice_get before i ≡ Some p.New
 
 -- What a turn comes to: it walks on with less to do, or the path is closed from a node on.
-abbrev pub Turned : List (List ℕ) → List Progress → List Step → List Progress → List Step → List ℕ → Option ℕ → Type 0
+abbrev pub Turned : List (List ℕ) → List Progress → List Step → List Progress → List Step → List ℕ
+    → Option ℕ → Type 0
 Turned graph before trail progress path done None =
     Walks graph progress path done × (work graph progress path < work graph before trail) × AreFewer before progress
 Turned graph before trail progress path done (Some i) = IsCircle graph (nodes_from path i)
 
 -- What comes of a node that was new: it isn't any more, and the path is empty again, or it is closed from a node on.
-abbrev pub Came : List (List ℕ) → List Progress → ℕ → List Progress → List Step → List ℕ → Option ℕ → Type 0
+abbrev pub Came : List (List ℕ) → List Progress → ℕ → List Progress → List Step → List ℕ → Option ℕ
+    → Type 0
 Came graph before node progress path done None =
     Walks graph progress path done × (path ≡ []) × AreFewer before progress
     × (slice_get progress node ≡ Some p.New → ⊥)
