@@ -10,7 +10,7 @@ use Rattle.vl_tree.specs.WellFormed.{IsModule, HasPlace}
 use Rattle.vl_grammar.specs.Grammar.{read, modules}
 use Rattle.vl_take.specs.Next.{kinds_in}
 use Rattle.vl_parse.specs.Sources.{IsStart}
-use Rattle.vl_parse.proofs.ItemRows.{modules_end}
+use Rattle.vl_parse.proofs.ModuleRows.{modules_end}
 use Rattle.vl_part.proofs.ListLaws.{all_pushed}
 
 pub modules_pushed : (ms : List Module) (x : Module) (start middle rest : List Token)

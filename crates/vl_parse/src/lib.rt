@@ -2,7 +2,6 @@
 #![tactic(auto)]
 
 mod fault;
-mod item;
 mod outside;
 mod parser;
 mod shared;

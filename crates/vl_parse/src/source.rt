@@ -10,10 +10,11 @@ ghost use Rattle.vl_take.specs.Goes.{Goes};
 ghost use Rattle.vl_take.specs.Next.{kinds_in};
 ghost use Rattle.vl_parse.specs.Sources.{IsStart};
 
-use crate::item::{Ending, read_items};
 use fv_base::{Keyword, List, Pos, Token};
 use std::alloc::Global;
+use vl_body::read_items;
 use vl_part::{read_parameters, read_ports};
+use vl_region::Ending;
 use vl_take::{Stop, add, first_place, next, read_name, read_word};
 use vl_tree::{Module, Source};
 
@@ -46,7 +47,7 @@ pub(crate) fn read_source(alloc: Global, room: u32, tokens: &[Token]) -> Result<
     Ok(Source { pos, modules })
 }
 
-#[tactic(auto, using(crate::proofs::SourceSpelled::modules_spelled, crate::proofs::ItemRows::of_modules))]
+#[tactic(auto, using(crate::proofs::SourceSpelled::modules_spelled, crate::proofs::ModuleRows::of_modules))]
 fn read_modules(alloc: Global, room: u32, tokens: &[Token]) -> Result<List<Module>, Stop>
     ensures found { IfOk result (λ x. Spells (each spec.spell_module x) tokens.now []) }
     ensures formed { IfOk result (λ x. All formed.IsModule x) }
@@ -62,7 +63,7 @@ fn read_modules(alloc: Global, room: u32, tokens: &[Token]) -> Result<List<Modul
     Ok(modules)
 }
 
-#[tactic(auto, using(vl_part::proofs::HeadSpelled::module_spelled, crate::proofs::ItemRows::of_modules, vl_part::proofs::DeclarationRows::basics))]
+#[tactic(auto, using(vl_part::proofs::HeadSpelled::module_spelled, crate::proofs::ModuleRows::of_modules, vl_part::proofs::DeclarationRows::basics))]
 fn read_module(alloc: Global, room: u32, tokens: &[Token]) -> Result<(Module, &[Token]), Stop>
     requires { tokens.now ≡ [] → ⊥ }
     ensures found { IfOk result (λ x. Spells (spec.spell_module x.0) tokens.now x.1.now) }

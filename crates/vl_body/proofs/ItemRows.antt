@@ -1,0 +1,160 @@
+-- What is read of items, row by row.
+use Rattle.std.proofs.Common.{◌≡◌, ℕ, suc, ◌+◌, ◌-◌, ◌≤◌, ◌<◌, List, [], ◌∷◌, ◌++◌, length, refl, sym, ap, ◌∙◌, arith}
+use Rattle.std.specs.Prelude.{Ok, Err}
+use Rattle.fv_base.specs.declared.kind.Kind.{Kind}
+use Rattle.fv_base.specs.declared.kind.Kind.TheVariants as k
+use Rattle.fv_base.specs.declared.keyword.Keyword.TheVariants as w
+use Rattle.fv_base.specs.declared.symbol.Symbol.TheVariants as s
+use Rattle.vl_grammar.specs.Machine as machine
+use Rattle.vl_grammar.specs.Machine.{pop, bad, syntax, deep, then}
+use Rattle.vl_grammar.specs.Grammar.{endmodule, endgenerate, end, many, expand, read, sign, name, expr, in_parens}
+use Rattle.vl_grammar.specs.Grammar.{target, shape, declared_name, declared_names, names, parameters, assignments}
+use Rattle.vl_grammar.specs.Grammar.{stmt, initial_stmt, item, items, event, overrides, loop_head, generate_block}
+use Rattle.vl_grammar.specs.Grammar.{generate_block_label, generate_otherwise, modules, module_head, on_item}
+use Rattle.vl_region.proofs.ItemsRows.{item_empty}
+use Rattle.vl_take.specs.Next.{IsOther}
+use Rattle.vl_take.specs.Parts.{row_read, row_deep, row_bad, same_row, many_read}
+
+pub item_wire : (n : ℕ) (ts : List Kind)
+    → read item n (k.Keyword w.Wire ∷ ts) ≡ then (read shape n ts)
+    (λ r. then (read declared_name n r) (λ q. read declared_names n q))
+item_wire n ts = row_read item n (k.Keyword w.Wire) ts 0 _ refl (omega arith)
+
+pub item_reg : (n : ℕ) (ts : List Kind) → read item n (k.Keyword w.Reg ∷ ts) ≡
+    then (read shape n ts) (λ r. then (read declared_name n r) (λ q. read declared_names n q))
+item_reg n ts = row_read item n (k.Keyword w.Reg) ts 0 _ refl (omega arith)
+
+pub item_integer : (n : ℕ) (ts : List Kind)
+    → read item n (k.Keyword w.Integer ∷ ts) ≡ then (read declared_name n ts) (λ r. read declared_names n r)
+item_integer n ts = row_read item n (k.Keyword w.Integer) ts 0 _ refl (omega arith)
+
+pub item_genvar : (n : ℕ) (ts : List Kind)
+    → read item n (k.Keyword w.Genvar ∷ ts) ≡ then (read name n ts) (λ r. read names n r)
+item_genvar n ts = row_read item n (k.Keyword w.Genvar) ts 0 _ refl (omega arith)
+
+pub item_parameter : (n : ℕ) (ts : List Kind)
+    → read item n (k.Keyword w.Parameter ∷ ts) ≡
+    then (read shape n ts) (λ r. then (read name n r)
+    (λ q. then (read (sign s.Equal) n q) (λ u. then (read expr n u) (λ v. read parameters n v))))
+item_parameter n ts = row_read item n (k.Keyword w.Parameter) ts 0 _ refl (omega arith)
+
+pub item_localparam : (n : ℕ) (ts : List Kind)
+    → read item n (k.Keyword w.Localparam ∷ ts) ≡
+    then (read shape n ts) (λ r. then (read name n r)
+    (λ q. then (read (sign s.Equal) n q) (λ u. then (read expr n u) (λ v. read parameters n v))))
+item_localparam n ts = row_read item n (k.Keyword w.Localparam) ts 0 _ refl (omega arith)
+
+pub item_assign : (n : ℕ) (ts : List Kind)
+    → read item n (k.Keyword w.Assign ∷ ts) ≡
+    then (read target n ts) (λ r. then (read (sign s.Equal) n r)
+    (λ q. then (read expr n q) (λ u. read assignments n u)))
+item_assign n ts = row_read item n (k.Keyword w.Assign) ts 0 _ refl (omega arith)
+
+pub item_always : (n : ℕ) (ts : List Kind)
+    → read item n (k.Keyword w.Always ∷ ts) ≡
+    then (read (sign s.At) n ts) (λ r. then (read event n r) (λ q. read stmt n q))
+item_always n ts = row_read item n (k.Keyword w.Always) ts 0 _ refl (omega arith)
+
+pub item_initial : (n : ℕ) (ts : List Kind) → read item n (k.Keyword w.Initial ∷ ts) ≡ read initial_stmt n ts
+item_initial n ts = row_read item n (k.Keyword w.Initial) ts 0 _ refl (omega arith)
+
+pub item_generate : (n : ℕ) (ts : List Kind) → read item n (k.Keyword w.Generate ∷ ts) ≡ read (items endgenerate) n ts
+item_generate n ts = row_read item n (k.Keyword w.Generate) ts 0 _ refl (omega arith)
+
+pub item_for : (n : ℕ) (ts : List Kind) → 0 < n
+    → read item n (k.Keyword w.For ∷ ts) ≡ then (read loop_head (n - 1) ts) (λ r. read generate_block (n - 1) r)
+item_for n ts l = row_read item n (k.Keyword w.For) ts 1 _ refl l
+
+pub item_for_deep : (n : ℕ) (ts : List Kind) → n ≡ 0 → read item n (k.Keyword w.For ∷ ts) ≡ Err (deep (suc (length ts)))
+item_for_deep n ts l = row_deep item n (k.Keyword w.For) ts 1 _ refl (omega (arith, l))
+
+pub item_if : (n : ℕ) (ts : List Kind) → 0 < n
+    → read item n (k.Keyword w.If ∷ ts) ≡ then (read in_parens (n - 1) ts)
+    (λ r. then (read generate_block (n - 1) r) (λ q. read generate_otherwise (n - 1) q))
+item_if n ts l = row_read item n (k.Keyword w.If) ts 1 _ refl l
+
+pub item_if_deep : (n : ℕ) (ts : List Kind) → n ≡ 0 → read item n (k.Keyword w.If ∷ ts) ≡ Err (deep (suc (length ts)))
+item_if_deep n ts l = row_deep item n (k.Keyword w.If) ts 1 _ refl (omega (arith, l))
+
+pub item_name : (text : List ℕ) (n : ℕ) (ts : List Kind) → read item n (k.Name text ∷ ts) ≡ read overrides n ts
+item_name text n ts = row_read item n (k.Name text) ts 0 _ refl (omega arith)
+
+pub otherwise_else : (n : ℕ) (ts : List Kind)
+    → read generate_otherwise n (k.Keyword w.Else ∷ ts) ≡ read generate_block n ts
+otherwise_else n ts = row_read generate_otherwise n (k.Keyword w.Else) ts 0 _ refl (omega arith)
+
+pub otherwise_none : (n : ℕ) (ts : List Kind) → IsOther (k.Keyword w.Else) ts → read generate_otherwise n ts ≡ Ok ts
+unfolding read machine.reads
+otherwise_none n [] h0 = refl
+otherwise_none n (k.Keyword w.Else ∷ ts) h0 = absurd (h0 refl)
+otherwise_none n (t ∷ ts) h0 = refl
+
+pub block_generate : (n : ℕ) (ts : List Kind)
+    → read generate_block n (k.Keyword w.Generate ∷ ts) ≡ read (items endgenerate) n ts
+block_generate n ts = row_read generate_block n (k.Keyword w.Generate) ts 0 _ refl (omega arith)
+
+pub block_begin : (n : ℕ) (ts : List Kind) → 0 < n
+    → read generate_block n (k.Keyword w.Begin ∷ ts) ≡ read generate_block_label (n - 1) ts
+block_begin n ts l = row_read generate_block n (k.Keyword w.Begin) ts 1 _ refl l
+
+pub block_begin_deep : (n : ℕ) (ts : List Kind) → n ≡ 0
+    → read generate_block n (k.Keyword w.Begin ∷ ts) ≡ Err (deep (suc (length ts)))
+block_begin_deep n ts l = row_deep generate_block n (k.Keyword w.Begin) ts 1 _ refl (omega (arith, l))
+
+pub block_colon : (n : ℕ) (ts : List Kind)
+    → read generate_block_label n (k.Symbol s.Colon ∷ ts) ≡ then (read name n ts) (λ r. read (items end) n r)
+block_colon n ts = row_read generate_block_label n (k.Symbol s.Colon) ts 0 _ refl (omega arith)
+
+label_on : (t : Kind) → (t ≡ k.Symbol s.Colon → ⊥) → expand generate_block_label t ≡ expand (items end) t
+label_on (k.Symbol s.Colon) h = absurd (h refl)
+label_on t h = refl
+
+pub block_no_label : (n : ℕ) (ts : List Kind) → IsOther (k.Symbol s.Colon) ts
+    → read generate_block_label n ts ≡ read (items end) n ts
+unfolding read machine.reads
+block_no_label n [] h = refl
+block_no_label n (t ∷ ts) h = same_row generate_block_label (items end) n t ts (label_on t h)
+
+block_on : (t : Kind) → (t ≡ k.Keyword w.Begin → ⊥) → (t ≡ k.Symbol s.OpenAttribute → ⊥)
+    → expand generate_block t ≡ expand item t
+block_on (k.Keyword w.Begin) h i = absurd (h refl)
+block_on (k.Symbol s.OpenAttribute) h i = absurd (i refl)
+block_on t h i = refl
+
+pub block_single : (n : ℕ) (ts : List Kind) → IsOther (k.Keyword w.Begin) ts → IsOther (k.Symbol s.OpenAttribute) ts
+    → read generate_block n ts ≡ read item n ts
+unfolding read machine.reads
+block_single n [] h i = refl
+block_single n (t ∷ ts) h i = same_row generate_block item n t ts (block_on t h i)
+
+pub block_attribute : (n : ℕ) (ts : List Kind)
+    → read generate_block n (k.Symbol s.OpenAttribute ∷ ts) ≡ Err (syntax (suc (length ts)))
+block_attribute n ts = row_bad generate_block n (k.Symbol s.OpenAttribute) ts refl
+
+pub ruleset of_front = (item_generate)
+
+pub ruleset of_item = (
+  item_wire,
+  item_reg,
+  item_integer,
+  item_genvar,
+  item_parameter,
+  item_localparam,
+  item_assign,
+  item_always,
+  item_initial,
+  item_for,
+  item_for_deep,
+  item_if,
+  item_if_deep,
+  item_name,
+  item_empty,
+)
+
+pub ruleset of_generate_otherwise = (otherwise_else, otherwise_none)
+
+pub ruleset of_generate_block = (block_begin, block_begin_deep)
+
+pub ruleset of_short_block = (block_generate, block_single, block_attribute)
+
+pub ruleset of_generate_block_label = (block_colon, block_no_label)

@@ -1,0 +1,4 @@
+pub mod ItemRows
+pub mod ItemLeads
+pub mod ItemSpelled
+pub mod PlainSpelled

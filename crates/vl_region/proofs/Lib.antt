@@ -1,0 +1,2 @@
+pub mod ItemsRows
+pub mod ItemsSpelled
