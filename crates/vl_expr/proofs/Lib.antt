@@ -1,2 +1,3 @@
 pub mod ExprRows
 pub mod ExprSpelled
+pub mod ExprSteps

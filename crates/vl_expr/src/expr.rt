@@ -81,7 +81,6 @@ fn chain(
 
 /// What may stand behind a first operand.
 #[cycle(expr)]
-#[tactic(auto, using(crate::proofs::ExprRows::of_climb))]
 fn climb(
     alloc: Global,
     level: Level,
