@@ -1,6 +1,7 @@
 //! The inputs of each cycle.
 ghost use Rattle.std.specs.Prelude.{◌≡◌, ℕ, ◌+◌, ◌*◌, ◌-◌, ◌<◌, ◌≤◌, ◌^◌};
-ghost use Rattle.std.specs.Prelude.{◌++◌, ◌∷◌, [], length, None, Some, map, slice_get, slice_index, slice_index_or};
+ghost use Rattle.std.specs.Prelude.{◌++◌, ◌∷◌, [], length, None, Some, map};
+ghost use Rattle.std.specs.Prelude.{slice_get, slice_index, slice_index_or};
 ghost use Rattle.std.specs.Prelude.{IfOk, IfSome, OnOk};
 ghost use Rattle.std.specs.List.{AllByRecursion};
 ghost use Rattle.wn_net.specs.declared.parts.InputKind.TheVariants as kind;

@@ -1,5 +1,6 @@
 //! Cases of the properties of checks, one a line: the kind with its row, channel and cycles, then each retirement with
-//! its cycle and channel, behind a `|`. Words are `name=number`; what isn't there is 0. The answer is `holds` or `fails`.
+//! its cycle and channel, behind a `|`. Words are `name=number`; what isn't there is 0. The answer is `holds` or
+//! `fails`.
 //! Blank lines, and those that begin with `#`, are no cases.
 #![tactic(auto)]
 

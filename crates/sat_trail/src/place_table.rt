@@ -52,14 +52,6 @@ impl Places {
         }
     }
 
-    /// The number at the code.
-    pub(crate) fn at(&self, code: u64) -> usize {
-        match self.places.get(code as usize) {
-            Some(place) => *place,
-            None => 0,
-        }
-    }
-
     pub(crate) fn put(&mut self, lit: &i64, place: usize) -> Result<(), Memory>
         requires { IsLit lit.now }
         ensures ok { OnOk result ((l : ℤ) → place_of self.new l

@@ -282,24 +282,6 @@ impl Trail {
         self.is_false_at(self.entries.len(), lit)
     }
 
-    /// The code of the literal at the place, the oldest entry's being 0; 0 beyond the end. No clause says so: what is
-    /// found by it is looked at anew.
-    pub fn code_at(&self, place: usize) -> u64 {
-        match self.entries.get(place) {
-            Some(entry) => entry
-                .lit
-                .unsigned_abs()
-                .wrapping_mul(2)
-                .wrapping_add((entry.lit < 0) as u64),
-            None => 0,
-        }
-    }
-
-    /// One above the place of the literal with the code, or 0. No clause says so either.
-    pub fn place_of_code(&self, code: u64) -> usize {
-        self.places.at(code)
-    }
-
     pub fn has(&self, lit: &i64) -> bool
         requires { IsLit lit.now }
         ensures { result ≡ has (lits self.now) lit.now }

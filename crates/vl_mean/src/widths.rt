@@ -1,4 +1,4 @@
-//! Numbers of bits without a limit, up to `2^64 - 1`, of operations from those of their operands; and bounds and counts.
+//! Numbers of bits without a limit, up to `2^64 - 1`, of operations from those of their operands; bounds and counts.
 ghost use Rattle.std.specs.Prelude.{◌≡◌, ◌+◌, ◌*◌, Some, None, if◌then◌else◌};
 ghost use Rattle.fv_bits.specs.Bits.{as_int};
 ghost use Rattle.vl_size.specs.Size as size_spec;
