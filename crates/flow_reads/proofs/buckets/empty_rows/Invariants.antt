@@ -1,0 +1,9 @@
+use Rattle.std.proofs.Common.{◌≤◌, ◌-◌, length}
+use Rattle.flow_reads.proofs.Bucketing.{NoEdges}
+use Rattle.flow_reads.proofs.buckets.empty_rows.Given as goal
+
+abbrev pub invariant-rows : goal.invariant-rows
+invariant-rows l = record { none : NoEdges l.rows.items; few : length l.rows.items ≤ l.count }
+
+abbrev pub decreases-rows : goal.decreases-rows
+decreases-rows l = l.count - length l.rows.items

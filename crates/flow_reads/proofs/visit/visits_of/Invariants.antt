@@ -1,0 +1,9 @@
+use Rattle.flow_reads.specs.Visits.{AreVisits}
+use Rattle.flow_reads.proofs.Visiting.{ahead}
+use Rattle.flow_reads.proofs.visit.visits_of.Given as goal
+
+abbrev pub invariant-loop-next : goal.invariant-loop-next
+invariant-loop-next l = AreVisits l.groups l.bits l.visits.items l.next
+
+abbrev pub decreases-loop-next : goal.decreases-loop-next
+decreases-loop-next l = ahead l.next

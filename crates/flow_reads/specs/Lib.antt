@@ -1,0 +1,5 @@
+pub mod Groups
+pub mod Edges
+pub mod Visits
+pub mod Buckets
+pub mod Reads
