@@ -1,0 +1,20 @@
+use Rattle.std.proofs.Common.{◌∙◌, ap}
+use Rattle.vl_refusal.specs.Expressions.{expr_refusals}
+use Rattle.vl_refusal.specs.Refused.{lowest}
+use Rattle.vl_refusal.specs.Statements.{assigned_in, target_refusals, target_width}
+use Rattle.vl_judge.proofs.Lowest.{lowest_two, ok_same}
+use Rattle.vl_target.proofs.TargetParts.{same_target}
+use Rattle.vl_target.proofs.targets.assignment_fault.Goals as goal
+
+pub returns : goal.returns
+returns c =
+    let ns = c.args.names.now in
+    let l = c.args.target.now in
+    let e = c.args.value.now in
+    let how = c.args.how in
+    ok_same c.with_value.result _ _
+    (lowest_two (target_refusals ns how.continuous how.fixed_target l)
+    (expr_refusals ns how.fixed_value (assigned_in ns (target_width ns l) e) e) _ _
+    (c.in_ok-found.ensures.fault ∙ same_target ns how.continuous how.fixed_target l)
+    (ap (λ w. lowest (expr_refusals ns how.fixed_value (assigned_in ns w e) e)) c.in_ok-found.ensures.width))
+    c.with_value.ensures
