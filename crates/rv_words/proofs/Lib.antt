@@ -1,0 +1,5 @@
+pub mod BitLemmas
+pub mod JoinLemmas
+pub mod ProductLemmas
+pub mod RowLemmas
+pub mod WordLemmas
