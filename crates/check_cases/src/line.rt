@@ -3,11 +3,11 @@
 use ck_cfg::{Check, CheckKind};
 use ck_props::{Probe, Retired};
 use fv_base::{Memory, Text};
-use rv_table::{Retire, RowId};
+use rv_table::{Opts, Retire, RowId};
 use std::alloc::Global;
 
 /// What stands behind `name=` in the word that begins so; nothing where there is none.
-fn value<'a>(words: &'a str, name: &str) -> &'a str {
+pub(crate) fn value<'a>(words: &'a str, name: &str) -> &'a str {
     for word in words.split(' ') {
         if let Some((left, right)) = word.split_once('=') {
             if left == name {
@@ -18,13 +18,27 @@ fn value<'a>(words: &'a str, name: &str) -> &'a str {
     ""
 }
 
-/// A number in decimal digits; 0 where it isn't there.
+/// A number in decimal digits, or in hexadecimal ones behind `0x`; 0 where it isn't there.
 pub(crate) fn number(words: &str, name: &str) -> u64 {
-    value(words, name).parse::<u64>().unwrap_or(0)
+    let word = value(words, name);
+    match word.split_once('x') {
+        Some((_, digits)) => u64::from_str_radix(digits, 16).unwrap_or(0),
+        None => word.parse::<u64>().unwrap_or(0),
+    }
 }
 
-fn short(words: &str, name: &str) -> u32 {
-    value(words, name).parse::<u32>().unwrap_or(0)
+/// The same of 32 bits; 0 where it is larger.
+pub(crate) fn short(words: &str, name: &str) -> u32 {
+    let number = number(words, name);
+    if number < 1 << 32 { number as u32 } else { 0 }
+}
+
+pub(crate) fn opts(words: &str) -> Opts {
+    Opts {
+        aligned: number(words, "aligned") != 0,
+        altops: number(words, "altops") != 0,
+        c: number(words, "c") != 0,
+    }
 }
 
 /// The check that the first word names.
@@ -74,7 +88,7 @@ pub(crate) fn retires(alloc: Global, text: &str) -> Result<Vec<Retired>, Memory>
     Ok(retires)
 }
 
-fn retire(words: &str) -> Retire {
+pub(crate) fn retire(words: &str) -> Retire {
     Retire {
         order: number(words, "order"),
         insn: short(words, "insn"),

@@ -1,43 +1,64 @@
-//! Cases of the properties of checks, one a line: the kind with its row, channel and cycles, then each retirement with
-//! its cycle and channel, behind a `|`. Words are `name=number`; what isn't there is 0. The answer is `holds` or
-//! `fails`.
-//! Blank lines, and those that begin with `#`, are no cases.
+//! Cases of instructions and of the properties of checks, one a line. Words are `name=number`, of decimal digits or,
+//! behind `0x`, hexadecimal ones; what isn't there is 0.
+//!
+//! | line | what is printed |
+//! |---|---|
+//! | `KIND` of a check, its row, channel and cycles, then the retirements | whether its property `holds` or `fails` |
+//! | `effect insn=N` and the sources | the name of the row that it matches, and what it does, but not what is 0 |
+//! | `agree insn=N` and the sources, then a retirement | whether it `agrees` with what the word does, or `differs` |
+//! | `word insn=N`, `number row=N` | the name of the row that the word matches, or that has the number |
+//! | `match row=N insn=N` | whether the word `matches` the row, or `another` one |
+//! | `expand half=N` | the word that the half word stands for |
+//!
+//! Each retirement stands behind a `|`; those of a check have their cycle and channel. Instructions are those of the
+//! letters `isa=i`, `im`, `ic`, or of all; memory is `aligned=1`, or not; with `c=1` jumps reach half words; with
+//! `altops=1` M is by this project's alternative operations. Blank lines, and those that begin with `#`, are no cases.
 #![tactic(auto)]
 
+mod insn;
 mod line;
 
+use anyhow::Result;
 use ck_props::holds;
 use fv_base::Memory;
-use rv_table::Opts;
 use std::alloc::Global;
-use std::io;
 
-fn main(rt: HostRuntime) -> io::Result<()> {
-    for line in rt.lines(rt.alloc()) {
+fn main(rt: HostRuntime) -> Result<()> {
+    let alloc = rt.alloc();
+    for line in rt.lines(alloc) {
         let line = line?;
         if !line.is_empty() && !line.starts_with('#') {
-            match answer(rt.alloc(), line.as_str()) {
-                Ok(answer) => println!(rt; "{answer}")?,
-                Err(fault) => println!(rt; "{fault}")?,
-            }
+            let said = answer(alloc, line.as_str())?;
+            println!(rt; "{said}")?;
         }
     }
     Ok(())
 }
 
 /// The answer to the case of a line.
-fn answer(alloc: Global, line: &str) -> Result<&'static str, Memory> {
+fn answer(alloc: Global, line: &str) -> Result<String> {
     let (head, rest) = line.split_once('|').unwrap_or((line, ""));
+    let (word, _) = head.split_once(' ').unwrap_or((head, ""));
+    let said = match word {
+        "effect" => return insn::effect_text(alloc, head),
+        "expand" => return insn::expansion(alloc, head),
+        "agree" => insn::agreement(head, rest),
+        "word" => insn::row(head),
+        "number" => insn::name(head),
+        "match" => insn::is_of_row(head),
+        _ => judged(alloc, head, rest)?,
+    };
+    Ok(String::from_str(alloc, said)?)
+}
+
+/// Whether the property of the check holds of the retirements.
+fn judged(alloc: Global, head: &str, rest: &str) -> Result<&'static str, Memory> {
     let Some(check) = line::check(alloc, head)? else {
         return Ok("no check");
     };
     let retires = line::retires(alloc, rest)?;
-    let opts = Opts {
-        aligned: line::number(head, "aligned") != 0,
-        altops: line::number(head, "altops") != 0,
-        c: line::number(head, "c") != 0,
-    };
-    if holds(&check, retires.as_slice(), &line::probe(head), opts) {
+    let probe = line::probe(head);
+    if holds(&check, retires.as_slice(), &probe, line::opts(head)) {
         Ok("holds")
     } else {
         Ok("fails")
