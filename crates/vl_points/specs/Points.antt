@@ -1,0 +1,20 @@
+-- Indices as nodes. Rule of this project.
+use Rattle.std.specs.Prelude.{◌≡◌, ℕ, ◌^◌, ◌≤◌, ◌*◌, Bool, nat_lt}
+use Rattle.std.specs.Prelude.{if◌then◌else◌, MatchBool, ℤ, pos, negsuc, ◌-ℤ◌, ◌&&◌, int_lt}
+
+-- how far an index is from a base, counted upwards or downwards
+abbrev pub distance : Bool → ℤ → ℤ → ℤ
+distance along base i = if along then i -ℤ base else base -ℤ i
+
+-- no vector and no memory has so many places
+abbrev pub past : ℕ
+past = 2 ^ 30
+
+-- The number is that of a place, where it is one from 0 on of which there may be so many, and else one past them all.
+abbrev pub IsAddress : ℕ → ℤ → Type 0
+IsAddress n (pos k) = MatchBool (nat_lt k past) (n ≡ k) (past ≤ n)
+IsAddress n (negsuc k) = past ≤ n
+
+-- bounds have 32 signed bits, and a part 128 at most
+abbrev pub is_base : ℤ → Bool
+is_base i = int_lt (negsuc (3 * 2 ^ 30)) i && int_lt i (pos (3 * 2 ^ 30))

@@ -1,0 +1,138 @@
+//! Bits and parts of a vector at an index that may vary.
+#![tactic(auto, using(wn_net::proofs::Laws::additions))]
+
+ghost use Rattle.std.specs.Prelude.{◌≡◌, ◌≤◌, ◌-◌, true, false, ℤ, pos, ◌-ℤ◌, bit_or, IfOk};
+ghost use Rattle.fv_bits.specs.Bits.{as_int, extended, shifted_left, shifted_right};
+ghost use Rattle.vl_size.specs.Size as spec;
+ghost use Rattle.vl_size.specs.Size.{is_bound};
+ghost use Rattle.wn_net.specs.Net.{IsNode, IsNodeOf, width_at, value_at};
+ghost use Rattle.wn_net.specs.Changes.{AddsNodes, Shows};
+ghost use Rattle.vl_points.specs.Points.{distance, is_base};
+
+use crate::place::address;
+use fv_base::Memory;
+use vl_nodes::fit;
+use vl_size::Decl;
+use wn_net::{Net, NodeId};
+
+/// The bit of a vector at an index; 0 past the vector (IEEE 1364-2005, section 4.2.1).
+pub fn bit_at(
+    net: &mut Net,
+    decl: &Decl,
+    vector: NodeId,
+    index: NodeId,
+    signed: bool,
+) -> Result<NodeId, Memory>
+    requires bits { 1 ≤ decl.now.width }
+    requires few { decl.now.width ≤ 128 }
+    requires vector { IsNodeOf net.old decl.now.width vector }
+    requires index { IsNode net.old index }
+    requires right { is_base decl.now.right ≡ true }
+    ensures adds { AddsNodes net.old net.new }
+    ensures shows { IfOk result (Shows net.old net.new 1 (λ g. spec.bit_at decl.now.width (value_at net.old g vector)
+        (spec.offset_of decl.now (as_int (width_at net.old index) signed (value_at net.old g index))))) }
+{
+    // Asked for what it says of the net: numbers are below 2 to their widths.
+    let _width = net.width(vector);
+    let place = address(net, index, signed, right_of(decl), descends(decl))?;
+    let moved = net.lshr(vector, place)?;
+    let bit = net.slice(moved, 0, 1)?;
+    Ok(bit)
+}
+
+/// The part of a vector that begins at an index; its bits past the vector are 0 (section 4.2.1).
+pub fn part_at(
+    net: &mut Net,
+    decl: &Decl,
+    vector: NodeId,
+    index: NodeId,
+    signed: bool,
+    count: u32,
+) -> Result<NodeId, Memory>
+    requires bits { 1 ≤ decl.now.width }
+    requires few { decl.now.width ≤ 128 }
+    requires vector { IsNodeOf net.old decl.now.width vector }
+    requires index { IsNode net.old index }
+    requires some { 1 ≤ count }
+    requires count { count ≤ 128 }
+    requires right { is_bound decl.now.right ≡ true }
+    ensures adds { AddsNodes net.old net.new }
+    ensures shows { IfOk result (Shows net.old net.new count
+        (λ g. spec.bits_from count decl.now.width (value_at net.old g vector)
+        (spec.start_of decl.now (as_int (width_at net.old index) signed (value_at net.old g index)) count))) }
+{
+    // Asked for what it says of the net: numbers are below 2 to their widths.
+    let _width = net.width(vector);
+    let along = descends(decl);
+    let base = start_base(decl, count);
+    let up = address(net, index, signed, base, along)?;
+    let down = address(net, index, signed, base, !along)?;
+    let part = moved(net, vector, up, down, count)?;
+    Ok(part)
+}
+
+fn descends(decl: &Decl) -> bool
+    ensures { result ≡ spec.descends decl.now }
+{
+    decl.right <= decl.left
+}
+
+fn right_of(decl: &Decl) -> i64
+    ensures { result ≡ decl.now.right }
+{
+    decl.right
+}
+
+/// The first of so many indices of which the bound is the last.
+fn first_of(right: i64, count: u32) -> i64
+    requires right { is_bound right ≡ true }
+    requires some { 1 ≤ count }
+    requires few { count ≤ 128 }
+    ensures value { result ≡ right -ℤ pos (count - 1) }
+    ensures base { is_base result ≡ true }
+{
+    right - (i64::from(count) - 1)
+}
+
+/// The bound that a part's start is counted from: of a range that ascends the highest bits come first.
+fn start_base(decl: &Decl, count: u32) -> i64
+    requires right { is_bound decl.now.right ≡ true }
+    requires some { 1 ≤ count }
+    requires few { count ≤ 128 }
+    ensures base { is_base result ≡ true }
+    ensures value { (i : ℤ) → distance (spec.descends decl.now) result i ≡ spec.start_of decl.now i count }
+{
+    if descends(decl) {
+        right_of(decl)
+    } else {
+        first_of(right_of(decl), count)
+    }
+}
+
+/// So many bits of a vector, moved to the right by one address, and to the left by the other.
+fn moved(
+    net: &mut Net,
+    vector: NodeId,
+    up: NodeId,
+    down: NodeId,
+    count: u32,
+) -> Result<NodeId, Memory>
+    requires vector { IsNode net.old vector }
+    requires up { IsNode net.old up }
+    requires down { IsNode net.old down }
+    requires some { 1 ≤ count }
+    requires few { count ≤ 128 }
+    ensures adds { AddsNodes net.old net.new }
+    ensures shows { IfOk result (Shows net.old net.new count
+        (λ g. bit_or (extended (width_at net.old vector) count false
+        (shifted_right (value_at net.old g vector) (value_at net.old g up)))
+        (shifted_left count (extended (width_at net.old vector) count false (value_at net.old g vector))
+        (value_at net.old g down)))) }
+{
+    let right = net.lshr(vector, up)?;
+    let low = fit(net, right, count, false)?;
+    let cut = fit(net, vector, count, false)?;
+    let high = net.shl(cut, down)?;
+    let both = net.or(low, high)?;
+    Ok(both)
+}
