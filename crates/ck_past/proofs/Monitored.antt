@@ -1,0 +1,148 @@
+-- The property of a check that looks back, by the words of a history.
+use Rattle.std.specs.Prelude.{◌≡◌, refl, ℕ, zero, suc, ◌+◌, ◌-◌, ◌<◌, Bool}
+use Rattle.std.specs.Prelude.{true, if◌then◌else◌, List, [], ◌∷◌}
+use Rattle.std.specs.Prelude.{◌++◌, length, map, reverse, drop, slice_index_or}
+use Rattle.std.proofs.Common.{ap, sym, ◌∙◌, arith, subst}
+use Rattle.std.proofs.lemmas.List.{reverse-append, append_assoc, map-append, length-reverse, length-map}
+use Rattle.rv_table.specs.declared.retire.Retire.{Retire}
+use Rattle.rv_table.specs.declared.retire.Opts.{Opts}
+use Rattle.wn_net.specs.Value.{Given}
+use Rattle.wn_net.specs.Net.{Netlist, value_at}
+use Rattle.rvfi_port.specs.declared.port.Channel.{Channel}
+use Rattle.rvfi_port.specs.Channels.{retires, retire_at}
+use Rattle.ck_cfg.specs.declared.check.Check.{Check}
+use Rattle.ck_cfg.specs.declared.kind.CheckKind.{CheckKind}
+use Rattle.ck_cfg.specs.declared.kind.CheckKind.TheVariants as kinds
+use Rattle.ck_props.specs.declared.retired.Retired.{Retired}
+use Rattle.ck_props.specs.declared.retired.Probe.{Probe}
+use Rattle.ck_props.specs.Lists.{found_at, where_found}
+use Rattle.ck_props.specs.Properties.{holds_at, cycle_of, property}
+use Rattle.ck_lines.specs.Entries.{Entry}
+use Rattle.ck_lines.specs.Lines.{past}
+use Rattle.ck_past.specs.Retirements.{retirements}
+use Rattle.ck_past.specs.Kept.{kept, kept_in, holds_over, LooksBack}
+use Rattle.ck_past.proofs.Held.{earlier, reg_is, fwd_is, bwd_is, causal_is, dmem_is}
+use Rattle.ck_past.proofs.Property.{found_is}
+
+-- a channel with those before and behind it
+pub record IsAmong (cs : List Channel) (place : ℕ) (c : Channel) : Type 0 where
+  pub before : List Channel
+  pub behind : List Channel
+  pub all : before ++ c ∷ behind ≡ cs
+  pub many : place ≡ length before
+
+pub is_among : (cs : List Channel) (place : ℕ) (c d : Channel) → place < length cs → c ≡ slice_index_or cs place d
+    → IsAmong cs place c
+is_among [] place c d below e = absurd (omega (arith, below))
+is_among (x ∷ xs) zero c d below e =
+    record { before = []; behind = xs; all = ap (λ y. y ∷ xs) e; many = refl }
+is_among (x ∷ xs) (suc place) c d below e =
+    let rest = is_among xs place c d (omega (arith, below)) e in
+    record {
+      before = x ∷ rest.before;
+      behind = rest.behind;
+      all = ap (λ ys. x ∷ ys) rest.all;
+      many = ap suc rest.many;
+    }
+
+drop_front : (xs ys : List Entry) → drop (length xs) (xs ++ ys) ≡ ys
+drop_front [] ys = refl
+drop_front (x ∷ xs) ys = drop_front xs ys
+
+module _ (net : Netlist) (run : ℕ → Given) (before behind : List Channel) (c : Channel) (check : Check) (d : ℕ)
+    (last : check.cycle ≡ check.start + d) (own_channel : check.channel ≡ length before) (probe : Probe)
+    (opts : Opts) where
+  abbrev pub cs : List Channel
+  cs = before ++ c ∷ behind
+
+  abbrev pub rs : List Retired
+  rs = retirements net run cs check.start (suc d)
+
+  -- the entries of those before it are behind those of the last cycle's channels from its own on
+  earlier_of : (kind : CheckKind)
+      → drop (length cs - check.channel) (past (λ k. kept_in kind net (run k) cs) check.start (suc d))
+      ≡ earlier net run before (c ∷ behind) check d last own_channel kind
+  earlier_of kind =
+      let g = run (check.start + d) in
+      let f : Channel → Entry = λ x. kept kind (value_at net g x.valid) (retire_at net g x) in
+      let front = reverse (map f (c ∷ behind)) in
+      let back = reverse (map f before) in
+      let rest = past (λ k. kept_in kind net (run k) cs) check.start d in
+      let parts : kept_in kind net g cs ≡ front ++ back =
+      ap reverse (map-append f before (c ∷ behind)) ∙ reverse-append (map f before) (map f (c ∷ behind)) in
+      let total : length cs ≡ length before + length (c ∷ behind) = length_both before (c ∷ behind) in
+      let many : length cs - check.channel ≡ length front =
+      (let e : length front ≡ length (c ∷ behind) =
+      length-reverse (map f (c ∷ behind)) ∙ length-map (c ∷ behind) f in
+      omega (arith, e, total, own_channel)) in
+      ap (drop (length cs - check.channel)) (ap (λ es. es ++ rest) parts ∙ append_assoc front back rest)
+      ∙ ap (λ n. drop n (front ++ (back ++ rest))) many
+      ∙ drop_front front (back ++ rest)
+    where
+      length_both : (xs ys : List Channel) → length (xs ++ ys) ≡ length xs + length ys
+      length_both [] ys = omega arith
+      length_both (x ∷ xs) ys = omega (arith, length_both xs ys)
+
+  own_is : (kind : CheckKind) → LooksBack kind → (there : ℕ) (r : Retire)
+      → holds_at check rs probe opts r kind
+      ≡ holds_over there r (earlier net run before (c ∷ behind) check d last own_channel kind) probe.dmem_addr kind
+  own_is kinds.Reg back there r = reg_is net run before (c ∷ behind) check d last own_channel there r probe opts
+  own_is kinds.PcFwd back there r = fwd_is net run before (c ∷ behind) check d last own_channel there r probe opts
+  own_is kinds.PcBwd back there r = bwd_is net run before (c ∷ behind) check d last own_channel there r probe opts
+  own_is kinds.Causal back there r = causal_is net run before (c ∷ behind) check d last own_channel there r probe opts
+  own_is kinds.Dmem back there r = dmem_is net run before (c ∷ behind) check d last own_channel there r probe opts
+  own_is kinds.Insn back there r = absurd back
+  own_is kinds.Ill back there r = absurd back
+  own_is kinds.Unique back there r = absurd back
+  own_is kinds.Liveness back there r = absurd back
+  own_is kinds.Imem back there r = absurd back
+
+  last_cycle : (kind : CheckKind) → LooksBack kind → cycle_of check kind ≡ check.cycle
+  last_cycle kinds.Reg back = refl
+  last_cycle kinds.PcFwd back = refl
+  last_cycle kinds.PcBwd back = refl
+  last_cycle kinds.Causal back = refl
+  last_cycle kinds.Dmem back = refl
+  last_cycle kinds.Insn back = absurd back
+  last_cycle kinds.Ill back = absurd back
+  last_cycle kinds.Unique back = absurd back
+  last_cycle kinds.Liveness back = absurd back
+  last_cycle kinds.Imem back = absurd back
+
+  held : (kind : CheckKind) → LooksBack kind
+      → where_found (found_at check (cycle_of check kind) rs) (λ r. holds_at check rs probe opts r kind)
+      ≡ (if retires net (run check.cycle) c
+      then holds_over (value_at net (run check.cycle) c.valid) (retire_at net (run check.cycle) c)
+      (drop (length cs - check.channel) (past (λ k. kept_in kind net (run k) cs) check.start (suc d)))
+      probe.dmem_addr kind
+      else true)
+  held kind back =
+      let such : Retire → Bool = λ r. holds_at check rs probe opts r kind in
+      let g = run check.cycle in
+      let r = retire_at net g c in
+      ap (λ k. where_found (found_at check k rs) such) (last_cycle kind back)
+      ∙ found_is net run before behind c check own_channel check.cycle such check.start (suc d)
+      (omega (arith, last)) (omega (arith, last))
+      ∙ ap (λ b. if retires net g c then b else true)
+      (own_is kind back (value_at net g c.valid) r
+      ∙ ap (λ es. holds_over (value_at net g c.valid) r es probe.dmem_addr kind) (sym (earlier_of kind)))
+
+-- what the property comes to
+pub looks_back : (net : Netlist) (run : ℕ → Given) (all : List Channel) (c : Channel) (check : Check) (d : ℕ)
+    (probe : Probe) (opts : Opts)
+    → IsAmong all check.channel c → check.cycle ≡ check.start + d → LooksBack check.kind
+    → property check (retirements net run all check.start (suc d)) probe opts
+    ≡ (if retires net (run check.cycle) c
+    then holds_over (value_at net (run check.cycle) c.valid) (retire_at net (run check.cycle) c)
+    (drop (length all - check.channel) (past (λ k. kept_in check.kind net (run k) all) check.start (suc d)))
+    probe.dmem_addr check.kind
+    else true)
+looks_back net run all c check d probe opts among last back =
+    let P : List Channel → Type 0 = λ xs. property check (retirements net run xs check.start (suc d)) probe opts
+    ≡ (if retires net (run check.cycle) c
+    then holds_over (value_at net (run check.cycle) c.valid) (retire_at net (run check.cycle) c)
+    (drop (length xs - check.channel) (past (λ k. kept_in check.kind net (run k) xs) check.start (suc d)))
+    probe.dmem_addr check.kind
+    else true) in
+    subst P among.all
+    (held net run among.before among.behind c check d last among.many probe opts check.kind back)
