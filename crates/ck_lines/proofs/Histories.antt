@@ -117,7 +117,7 @@ history_shows net inputs start entries words ids first (suc count) now long fron
     let R : List ℕ → Type 0 = λ xs. Show net (cycle_at net inputs start (first + suc count)) xs
     (entries (first + suc count)) in
     let S : List Entry → Type 0 = λ es. Show net (cycle_at net inputs start (first + suc count))
-        (take n ids ++ later) es in
+    (take n ids ++ later) es in
     let es : entries (first + suc count) ++ past entries first (count + 1) ≡ past entries first (suc count + 1) =
     sym (ap (past entries first) f ∙ ap (λ k. entries k ++ past entries first (count + 1)) g) in
     subst Q (parts n ids) (subst S es (show_append net (cycle_at net inputs start (first + suc count)) (take n ids)

@@ -172,7 +172,7 @@ module _ (net : Netlist) (run : ℕ → Given) (before behind : List Channel) (c
 
   pub fwd_is : (there : ℕ) (r : Retire) (probe : Probe) (opts : Opts)
       → holds_at check rs probe opts r kinds.PcFwd ≡ holds_over there r (earlier kinds.PcFwd) probe.dmem_addr
-          kinds.PcFwd
+      kinds.PcFwd
   fwd_is there r probe opts =
       ap (λ b. r.intr || b)
       (last_is kinds.PcFwd sought_before (entry there r.order r.rd_addr r.pc_rdata)
@@ -180,7 +180,7 @@ module _ (net : Netlist) (run : ℕ → Given) (before behind : List Channel) (c
 
   pub bwd_is : (there : ℕ) (r : Retire) (probe : Probe) (opts : Opts)
       → holds_at check rs probe opts r kinds.PcBwd ≡ holds_over there r (earlier kinds.PcBwd) probe.dmem_addr
-          kinds.PcBwd
+      kinds.PcBwd
   bwd_is there r probe opts =
       last_is kinds.PcBwd sought_behind (entry there r.order r.rd_addr r.pc_wdata)
       (λ e. not e.intr && (e.order == r.order + 1)) (λ e. e.pc_rdata == r.pc_wdata)
@@ -190,7 +190,7 @@ module _ (net : Netlist) (run : ℕ → Given) (before behind : List Channel) (c
 
   pub causal_is : (there : ℕ) (r : Retire) (probe : Probe) (opts : Opts)
       → holds_at check rs probe opts r kinds.Causal ≡ holds_over there r (earlier kinds.Causal) probe.dmem_addr
-          kinds.Causal
+      kinds.Causal
   causal_is there r probe opts =
       ap (λ b. (r.rd_addr == 0) || b)
       (none_is kinds.Causal sought_reader (entry there r.order r.rd_addr r.rd_wdata) (λ e. reads_early e r) refl

@@ -33,7 +33,7 @@ returns-clause-tells c =
           ≡ key_meets s.key (entry_at old g own).key (entry_at old g other).key =
           told_on old one two _ c.in_ok-key.key g key.tells small.adds given in
           let small_is : is_one two g c.in_ok-small.small ≡ small_meets s.small (entry_at old g own)
-              (entry_at old g other) =
+          (entry_at old g other) =
           told one two _ c.in_ok-small.small g small.tells given1
           ∙ (λ i. small_meets s.small (entry_on old one g own key.adds c.requires.own i)
           (entry_on old one g other key.adds c.requires.other i)) in
