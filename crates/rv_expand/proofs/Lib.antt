@@ -1,0 +1,3 @@
+pub mod HalfLemmas
+pub mod SpanLemmas
+pub mod WordLemmas
