@@ -1,0 +1,13 @@
+use Rattle.std.proofs.Common.{◌≡◌, ◌≤◌, length}
+use Rattle.std.specs.Prelude.{drop}
+use Rattle.vl_item.specs.Parts.{assignments_fault}
+use Rattle.vl_item.proofs.assigned.judge_assignments.Given as goal
+
+abbrev pub invariant-loop-place : goal.invariant-loop-place
+invariant-loop-place l = record {
+  within : l.place ≤ length l.all;
+  fault : assignments_fault l.names (drop l.place l.all) ≡ l.fault;
+}
+
+abbrev pub decreases-loop-place : goal.decreases-loop-place
+decreases-loop-place l = l.place
