@@ -1,1 +1,0 @@
--- No clause of these tests cites a definition of their own.
