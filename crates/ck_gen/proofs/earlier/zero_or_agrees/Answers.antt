@@ -1,0 +1,22 @@
+use Rattle.std.specs.Prelude.{◌||◌}
+use Rattle.std.proofs.Common.{◌∙◌}
+use Rattle.wn_net.proofs.Laws.{given_on}
+use Rattle.wn_truth.proofs.Laws.{told}
+use Rattle.ck_lines.proofs.Entries.{entry_on, show_on}
+use Rattle.ck_found.specs.Searches.{first_agrees}
+use Rattle.ck_gen.proofs.earlier.zero_or_agrees.Goals as goal
+
+pub returns-clause-tells : goal.returns-clause-tells
+returns-clause-tells c =
+    let old = c.args.net.now in
+    let one = c.is_number.new.net in
+    let zero = c.in_ok-zero.ensures in
+    let id = c.in_ok-id.ensures in
+    record {
+      node = id.tells.node;
+      value = λ g es given show.
+          id.tells.value g es (given_on old one g zero.adds given)
+          (show_on old one 102 g c.args.words.now es zero.adds c.requires.words show)
+          ∙ (λ i. told old one _ c.in_ok-zero.zero g zero.tells given i
+          || first_agrees c.args.sought (entry_on old one g c.args.own zero.adds c.requires.own i) es);
+    }
