@@ -1,0 +1,3 @@
+pub mod InLists
+pub mod Loops
+pub mod Sums

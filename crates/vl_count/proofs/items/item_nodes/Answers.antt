@@ -1,0 +1,12 @@
+use Rattle.std.proofs.Common.{◌∙◌, ap, sym}
+use Rattle.vl_tree.specs.ItemView.{block, shown}
+use Rattle.vl_count.proofs.Loops.{loop_nodes}
+use Rattle.vl_count.proofs.items.item_nodes.Goals as goal
+
+pub returns-in-For : goal.returns-in-For
+returns-in-For c at holds turns =
+    let item = c.item.inside in
+    loop_nodes at c.args.item.now item.attributes item.pos c.in-For.head (block c.in-For.field-1) c.expr_nodes.result
+    c.args.turns c.plus-in-For.result c.plus-in-For-2.result
+    (sym c.item.view_is ∙ ap (shown item.attributes item.pos) c.in-For.is) turns c.expr_nodes.ensures
+    c.plus-in-For.ensures c.plus-in-For-2.ensures
