@@ -30,7 +30,7 @@ two_less a b c w t = record {
   two_unfalse = false_from_ne_true (is_false a t.two) (λ h. false≢true (sym t.two_unfalse ∙ w (neg_ℤ t.two) h));
 }
 
-none_less : (a b c : List ℤ) → Within a b → NoneTrue b c → NoneTrue a c
+pub none_less : (a b c : List ℤ) → Within a b → NoneTrue b c → NoneTrue a c
 none_less a b c w n x h = false_from_ne_true (has a x) (λ k. false≢true (sym (n x h) ∙ w x k))
 
 -- at each decision the clause had two open literals

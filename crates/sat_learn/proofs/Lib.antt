@@ -2,6 +2,8 @@ pub mod Backs
 pub mod Cuts
 pub mod Joins
 pub mod Jumps
+pub mod Lasts
 pub mod Levels
 pub mod News
+pub mod Placings
 pub mod Tracing

@@ -12,16 +12,15 @@ use Rattle.lrat_check.specs.declared.reading.Reading.TheVariants as read
 use Rattle.lrat_check.specs.Sets.{has, is_false, within, same_set, without, negs, first_open, other_open, reading_of}
 use Rattle.lrat_check.specs.Sets.{reading}
 use Rattle.lrat_check.specs.Steps.{Held, numbered}
-use Rattle.lrat_check.specs.Resolved.{IsResolvent, is_open, Closed, Strengthens}
-use Rattle.sat_trail.specs.Trail.{Entries, lits, decided, below, settled}
+use Rattle.lrat_check.specs.Resolved.{IsResolvent, is_open, Strengthens}
+use Rattle.sat_trail.specs.Trail.{Entries, lits, decided, below}
 use Rattle.sat_trail.specs.Clauses.{AllFalse, Within}
 use Rattle.sat_learn.specs.Analysis.{Derives, is_unit}
 use Rattle.sat_trail.proofs.Members.{same_is, same_self, neg_neg, or_left, or_right, or_cases, has_head, has_tail}
 use Rattle.sat_trail.proofs.Members.{any_has, without_has, without_from}
 use Rattle.sat_trail.proofs.Readings.{unit_to, open_to}
 use Rattle.sat_unit.proofs.Consistent.{no_pair}
-use Rattle.sat_unit.proofs.ByPlace.{settled_at}
-use Rattle.sat_learn.proofs.Levels.{below_within, settled_below}
+use Rattle.sat_learn.proofs.Levels.{below_within, settled_below, closed_numbered}
 
 pub all_from : (p : ℤ → Bool) (c : List ℤ) → ((x : ℤ) → has c x ≡ true → p x ≡ true) → list_all p c ≡ true
 all_from p [] h = refl
@@ -51,9 +50,6 @@ negs_from (l ∷ ls) x h = elim (or_cases (int_eq x l) (has ls x) h) [
   | inr e ↦ or_right (int_eq (neg_ℤ x) (neg_ℤ l)) (has (negs ls) (neg_ℤ x)) (negs_from ls x e)
 ]
 
-pub within_self : (c : List ℤ) → within c c ≡ true
-within_self c = all_from (has c) c (λ x h. h)
-
 -- a traced clause is the resolvent of its hints
 pub is_resolvent : (clauses : List (List ℤ)) (t : Entries) (r hints : List ℤ) → Derives clauses t r hints
     → IsResolvent (numbered clauses) r hints
@@ -61,20 +57,18 @@ is_resolvent clauses t r hints d =
     let inside : Within (negs r) (lits t) = λ x h. ap (has (lits t)) (sym (neg_neg x))
     ∙ d.all_false (neg_ℤ x) (negs_has r x h) in
     let false_there : AllFalse (negs r) r = λ x h. negs_from r x h in
-    (r, d.gives (negs r) inside false_there, and_from (within r r) (within r r) (within_self r) (within_self r))
+    let g = d.gives (negs r) inside false_there in (
+      g.0,
+      g.1,
+      and_from (within g.0 r) (within r g.0) (all_from (has r) g.0 (λ x h. sym (g.2 x) ∙ h))
+          (all_from (has g.0) r (λ x h. g.2 x ∙ h)),
+    )
 
 pub unit_is : (now : Reading) → is_unit now ≡ true → (l : ℤ) × (now ≡ read.Unit l)
 unit_is read.True h = absurd (false≢true h)
 unit_is read.False h = absurd (false≢true h)
 unit_is (read.Unit l) h = (l, refl)
 unit_is read.Open h = absurd (false≢true h)
-
-none_some : (c : List ℤ) → None ≡ Some c → ⊥
-none_some c e = cc
-
-closed_numbered : (clauses : List (List ℤ)) (set : List ℤ) → settled clauses set ≡ true → Closed (numbered clauses) set
-closed_numbered clauses set s zero c e = absurd (none_some c e)
-closed_numbered clauses set s (suc place) c e = settled_at clauses set place c s e
 
 -- and strengthens unit propagation, where one literal alone is open below the newest decision
 pub strengthens : (clauses : List (List ℤ)) (t : Entries) (r hints : List ℤ) → Derives clauses t r hints

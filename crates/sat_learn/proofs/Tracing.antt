@@ -1,12 +1,12 @@
 -- A conflict is traced back along a trail: the clause stays the resolvent of its hints.
-use Rattle.std.proofs.Common.{◌≡◌, ℕ, suc, ◌+◌, Bool, true, false, not, cond, List, [], ◌∷◌, ◌++◌}
+use Rattle.std.proofs.Common.{◌≡◌, ℕ, suc, ◌+◌, Bool, true, false, not, cond, ◌&&◌, ◌||◌, List, [], ◌∷◌, ◌++◌}
 use Rattle.std.proofs.Common.{ℤ, pos}
 use Rattle.std.proofs.Common.{neg_ℤ, filter, Some, refl, ap, sym, ◌∙◌, inl, inr, arith}
 use Rattle.std.proofs.lemmas.Bool.{le-ltb}
 use Rattle.std.specs.Prelude.{unsigned_abs, slice_get}
 use Rattle.std.specs.List.{list_any}
 use Rattle.std.specs.Ordering.{int_eq}
-use Rattle.std.proofs.lemmas.Bool.{false≢true, cases_Bool}
+use Rattle.std.proofs.lemmas.Bool.{false≢true, cases_Bool, and_from, and_parts}
 use Rattle.lrat_check.specs.declared.reading.Reading.TheVariants as read
 use Rattle.lrat_check.specs.Sets.{has, is_false, without, union, reading, IsLit, AreLits}
 use Rattle.lrat_check.specs.Steps.{Held, numbered, is_negative}
@@ -14,6 +14,8 @@ use Rattle.lrat_check.specs.Resolved.{resolvent}
 use Rattle.sat_trail.specs.declared.trail.Entry.{Entry}
 use Rattle.sat_trail.specs.Trail.{Entries, lits, Stand}
 use Rattle.sat_trail.specs.Clauses.{AllFalse, Within}
+use Rattle.sat_watch.specs.Watches.{SameLits}
+use Rattle.sat_watch.proofs.Orders.{lits_same}
 use Rattle.sat_learn.specs.Analysis.{Derives}
 use Rattle.sat_unit.proofs.Consistent.{head_or_tail, none_true}
 use Rattle.sat_trail.proofs.Members.{same_is, same_self, neg_neg, or_left, or_right, or_cases, or_both, has_tail}
@@ -110,9 +112,59 @@ begins clauses t place c s g f k = record {
   all_false = (false_to (lits t) c f).0;
   all_lits = k;
   fine = or_both (is_negative (pos (place + 1))) false (positive (place + 1)) refl;
-  gives = λ set w a. resolvent_last (numbered clauses) set (pos (place + 1)) c (numbered_at clauses place c g)
-      (false_from set c a (none_true clauses t s set c w (false_to (lits t) c f).0));
+  gives = λ set w a. (
+    c,
+    resolvent_last (numbered clauses) set (pos (place + 1)) c (numbered_at clauses place c g)
+        (false_from set c a (none_true clauses t s set c w (false_to (lits t) c f).0)),
+    λ x. refl,
+  );
 }
+
+-- the order of a clause's literals doesn't matter
+pub renamed : (clauses : List (List ℤ)) (t : Entries) (c r hints : List ℤ) → Derives clauses t c hints → SameLits r c
+    → Derives clauses t r hints
+renamed clauses t c r hints d s = record {
+  stand = d.stand;
+  all_false = λ x h. d.all_false x (sym (s x) ∙ h);
+  all_lits = lits_same c r (λ x. sym (s x)) d.all_lits;
+  fine = d.fine;
+  gives = λ set w a. let g = d.gives set w (λ x h. a x (s x ∙ h)) in (g.0, g.1, λ x. g.2 x ∙ sym (s x));
+}
+
+both_ways : (a b : Bool) → (a ≡ true → b ≡ true) → (b ≡ true → a ≡ true) → a ≡ b
+both_ways true b f g = sym (f refl)
+both_ways false b f g = sym (false_from_ne_true b (λ h. false≢true (g h)))
+
+not_or : (b : Bool) → b ≡ false → not b ≡ true
+not_or b h = ap not h
+
+without_is : (l : ℤ) (c : List ℤ) (x : ℤ) → has (without l c) x ≡ (not (int_eq l x) && has c x)
+without_is l c x = both_ways (has (without l c) x) (not (int_eq l x) && has c x)
+    (λ h. let p = without_has l c x h in and_from (not (int_eq l x)) (has c x) (not_or (int_eq l x) p.1) p.0)
+    (λ h. let p = and_parts (not (int_eq l x)) (has c x) h in
+    without_from l c x p.1 (not_from_true_of (int_eq l x) p.0)) where
+      not_from_true_of : (b : Bool) → not b ≡ true → b ≡ false
+      not_from_true_of true h = absurd (false≢true h)
+      not_from_true_of false h = refl
+
+union_is : (a b : List ℤ) (x : ℤ) → has (union a b) x ≡ (has a x || has b x)
+union_is a b x = both_ways (has (union a b) x) (has a x || has b x)
+    (λ h. elim (union_has a b x h) [
+      | inl k ↦ or_left (has a x) (has b x) k
+      | inr k ↦ or_right (has a x) (has b x) k
+    ])
+    (λ h. elim (or_cases (has a x) (has b x) h) [
+      | inl k ↦ union_left a b x k
+      | inr k ↦ union_right a b x k
+    ])
+
+-- what a resolvent holds
+pub union_without : (l m : ℤ) (c r : List ℤ) (x : ℤ)
+    → has (union (without l c) (without m r)) x
+    ≡ ((not (int_eq l x) && has c x) || (not (int_eq m x) && has r x))
+union_without l m c r x = union_is (without l c) (without m r) x
+    ∙ ap (λ b. b || has (without m r) x) (without_is l c x)
+    ∙ ap (λ b. (not (int_eq l x) && has c x) || b) (without_is m r x)
 
 -- where the newest entry's complement is in the clause, its reason takes the complement's place
 pub resolves : (clauses : List (List ℤ)) (e : Entry) (t : Entries) (r hints : List ℤ) (place : ℕ) (c : List ℤ)
@@ -143,6 +195,12 @@ resolves clauses e t r hints place c d m g u k =
             | inr b ↦ added_false set e.lit x (a x (union_right (without e.lit c) (without (neg_ℤ e.lit) r) x
                 (without_from (neg_ℤ e.lit) r x h b)))
           ] in
-          resolvent_more (numbered clauses) set (pos (place + 1)) hints c r e.lit (numbered_at clauses place c g) unit
-          (d.gives (set ++ e.lit ∷ []) (within_added set e t w) rest) m;
+          let g2 = d.gives (set ++ e.lit ∷ []) (within_added set e t w) rest in (
+            union (without e.lit c) (without (neg_ℤ e.lit) g2.0),
+            resolvent_more (numbered clauses) set (pos (place + 1)) hints c g2.0 e.lit (numbered_at clauses place c g)
+                unit g2.1 (g2.2 (neg_ℤ e.lit) ∙ m),
+            λ x. union_without e.lit (neg_ℤ e.lit) c g2.0 x
+                ∙ ap (λ b. (not (int_eq e.lit x) && has c x) || (not (int_eq (neg_ℤ e.lit) x) && b)) (g2.2 x)
+                ∙ sym (union_without e.lit (neg_ℤ e.lit) c r x),
+          );
     }

@@ -1,28 +1,39 @@
 -- What a clause and its hints say while a conflict is traced back along a trail. Rules of this project.
-use Rattle.std.specs.Prelude.{ℕ, ◌≡◌, Bool, true, false, List, ℤ, slice_get, Some}
+use Rattle.std.specs.Prelude.{ℕ, ◌≡◌, Bool, true, false, List, [], ◌∷◌, ℤ, slice_get, Option, Some, None}
 use Rattle.std.specs.List.{list_any}
 use Rattle.lrat_check.specs.declared.reading.Reading.{Reading}
 use Rattle.lrat_check.specs.declared.reading.Reading.TheVariants as read
-use Rattle.lrat_check.specs.Sets.{reading, AreLits}
+use Rattle.lrat_check.specs.Sets.{has, is_false, reading, AreLits}
 use Rattle.lrat_check.specs.Steps.{numbered, is_negative}
 use Rattle.lrat_check.specs.Resolved.{resolvent}
 use Rattle.sat_trail.specs.Clauses.{AllFalse, Within}
-use Rattle.sat_trail.specs.Trail.{Entries, lits, below, decided, Stand}
+use Rattle.sat_trail.specs.Trail.{Entries, lits, below, decided, is_decision, Outlasts, Stand}
+use Rattle.sat_watch.specs.Watches.{SameLits}
 
--- the clause is false on the trail, and from any part of the trail that makes it false it is the resolvent of the hints
+-- the clause is false on the trail, and from any part of the trail that makes it false it is the resolvent of the
+-- hints, in some order
 pub record Derives (clauses : List (List ℤ)) (trail : Entries) (clause hints : List ℤ) : Type 0 where
   pub stand : Stand clauses trail
   pub all_false : AllFalse (lits trail) clause
   pub all_lits : AreLits clause
   pub fine : list_any is_negative hints ≡ false
   pub gives : (set : List ℤ) → Within set (lits trail) → AllFalse set clause
-      → resolvent (numbered clauses) set hints ≡ Some clause
+      → (other : List ℤ) × (resolvent (numbered clauses) set hints ≡ Some other) × SameLits other clause
 
--- what is older than the newest decision doesn't make the clause false
-pub record Level (older trail : Entries) (clause : List ℤ) : Type 0 where
-  pub decided : decided trail ≡ true
-  pub older_is : below trail ≡ older
-  pub not_false : AllFalse (lits older) clause → ⊥
+-- a clause that is traced back so far, along a trail with a decision
+abbrev pub IsTraced : Entries → List ℤ → Type 0
+IsTraced trail clause =
+    (clauses : List (List ℤ)) × (hints : List ℤ) × Derives clauses trail clause hints × (decided trail ≡ true)
+
+-- the trail that is left has a decision, and the same is older than its newest one
+pub record SameLevel (trail left : Entries) : Type 0 where
+  pub decided : decided left ≡ true
+  pub older_is : below left ≡ below trail
+
+-- the newest entry, if there is one, is no decision
+abbrev pub NewestIsImplied : Entries → Type 0
+NewestIsImplied [] = Unit {0}
+NewestIsImplied (e ∷ older) = is_decision e ≡ false
 
 -- one literal alone is open
 abbrev pub is_unit : Reading → Bool
@@ -38,3 +49,9 @@ pub record IsConflict (clauses : List (List ℤ)) (trail : Entries) (place : ℕ
   pub found : slice_get clauses place ≡ Some clause
   pub false_there : reading (lits trail) clause ≡ read.False
   pub all_lits : AreLits clause
+
+-- no literal of the clause is false, or this one is, and became so no earlier than each other that is
+abbrev pub FalseLast : Entries → List ℤ → Option ℤ → Type 0
+FalseLast trail clause None = (x : ℤ) → has clause x ≡ true → is_false (lits trail) x ≡ false
+FalseLast trail clause (Some last) = (has clause last ≡ true) × (is_false (lits trail) last ≡ true)
+    × ((x : ℤ) → has clause x ≡ true → is_false (lits trail) x ≡ true → Outlasts trail last x)

@@ -1,26 +1,14 @@
-ghost use Rattle.std.specs.Prelude.{
-  ◌≡◌,
-  ◌<◌,
-  ◌+◌,
-  ◌-◌,
-  ◌^◌,
-  [],
-  ◌∷◌,
-  ◌++◌,
-  true,
-  false,
-  cond,
-  pos,
-  length,
-  reverse,
-};
-ghost use Rattle.std.specs.Prelude.{neg_ℤ, not, IfOk, OnOk};
-ghost use Rattle.lrat_check.specs.Sets.{has, without, union, reading, IsLit, AreLits};
-ghost use Rattle.sat_trail.specs.Trail.{Entries, lits, below, decided, is_decision};
+ghost use Rattle.std.specs.Prelude.{◌≡◌, ◌<◌, ◌+◌, ◌-◌, ◌^◌, [], ◌∷◌, ◌++◌, true, false, pos, length, reverse};
+ghost use Rattle.std.specs.Prelude.{ℤ, neg_ℤ, ◌&&◌, ◌||◌, IfOk, OnOk, MatchBool};
+ghost use Rattle.std.specs.Ordering.{int_eq};
+ghost use Rattle.lrat_check.specs.Sets.{has, reading, IsLit, AreLits};
+ghost use Rattle.sat_trail.specs.Trail.{lits, below, decided, is_decision};
+ghost use Rattle.sat_watch.specs.Watches.{is_other};
 ghost use Rattle.sat_unit.specs.Propagation.{AllLits};
 ghost use Rattle.sat_trail.specs.Clauses.{Within};
-ghost use Rattle.sat_learn.specs.Analysis.{Derives, Level, IsConflict, is_unit};
+ghost use Rattle.sat_learn.specs.Analysis.{Derives, IsTraced, SameLevel, NewestIsImplied, IsConflict, is_unit};
 
+use crate::lit_set::LitSet;
 use fv_base::{List, Memory};
 use lrat_check::Reading;
 use sat_trail::{Entry, Trail};
@@ -33,25 +21,25 @@ pub struct Learnt {
     pub hints: Vec<i64>,
 }
 
-pub fn complement(lit: i64) -> i64
+/// Where the literals of a clause are counted that became false since a decision.
+#[derive(Drop)]
+struct Tracing {
+    /// The ids of the clauses so far, the last hint first.
+    hints: Vec<i64>,
+    /// How many entries are older than the decision.
+    start: usize,
+    /// How many literals are counted. It says when to read the clause, and no clause speaks of it.
+    late: usize,
+}
+
+fn complement(lit: i64) -> i64
     requires { IsLit lit }
     ensures { result ≡ neg_ℤ lit }
 {
     -lit
 }
 
-fn has(lits: &[i64], wanted: i64) -> bool
-    ensures { result ≡ has lits.now wanted }
-{
-    for lit in lits {
-        if wanted == *lit {
-            return true;
-        }
-    }
-    false
-}
-
-pub fn is_unit(reading: Reading) -> bool
+pub(crate) fn is_unit(reading: Reading) -> bool
     ensures { result ≡ is_unit reading }
 {
     match reading {
@@ -60,48 +48,51 @@ pub fn is_unit(reading: Reading) -> bool
     }
 }
 
-fn push_unless(set: &mut Vec<i64>, skip: bool, lit: i64) -> Result<(), Memory>
-    ensures { OnOk result (set.new.items ≡ set.old.items ++ cond (not skip) (lit ∷ []) []) }
+fn is_other(taken: Option<i64>, lit: i64) -> bool
+    ensures { result ≡ is_other taken lit }
 {
-    if !skip {
-        set.push(lit)?;
+    match taken {
+        None => true,
+        Some(taken) => taken != lit,
     }
-    Ok(())
 }
 
-/// The literals but for one.
-fn without(alloc: Global, dropped: i64, lits: &[i64]) -> Result<Vec<i64>, Memory>
-    ensures { IfOk result (λ kept. kept.items ≡ without dropped lits.now) }
+/// The literal joins the set, unless it is the one that is left out. Whether it is counted.
+fn join_one(
+    trail: &Trail,
+    start: usize,
+    set: &mut LitSet,
+    skipped: Option<i64>,
+    lit: &i64,
+) -> Result<bool, Memory>
+    requires { IsLit lit.now }
+    ensures { OnOk result ((x : ℤ) → has set.new x ≡ (has set.old x || (is_other skipped x && int_eq x lit.now))) }
 {
-    let mut kept = Vec::new(alloc);
-    for lit in lits {
-        push_unless(&mut kept, dropped == *lit, *lit)?;
+    if !is_other(skipped, *lit) {
+        return Ok(false);
     }
-    Ok(kept)
+    let is_new = set.insert(lit)?;
+    Ok(is_new && !trail.is_false_at(start, lit))
 }
 
-/// The literals of both, those of the second that the first has too once.
-fn united(alloc: Global, first: &[i64], second: &[i64]) -> Result<Vec<i64>, Memory>
-    ensures { IfOk result (λ both. both.items ≡ union first.now second.now) }
+/// The literals of a clause join the set, but for the one that is left out. How many are counted.
+fn join(
+    trail: &Trail,
+    start: usize,
+    set: &mut LitSet,
+    skipped: Option<i64>,
+    clause: &[i64],
+) -> Result<usize, Memory>
+    requires { AreLits clause.now }
+    ensures { OnOk result ((x : ℤ) → has set.new x ≡ (has set.old x || (is_other skipped x && has clause.now x))) }
 {
-    let mut both = Vec::new(alloc);
-    for lit in first {
-        push_unless(&mut both, has(second, *lit), *lit)?;
+    let mut late = 0usize;
+    for lit in clause {
+        if join_one(trail, start, set, skipped, lit)? {
+            late = late.saturating_add(1);
+        }
     }
-    for lit in second {
-        both.push(*lit)?;
-    }
-    Ok(both)
-}
-
-/// The resolvent of a clause, in which the literal is, and of one with its complement.
-fn resolve(alloc: Global, clause: &[i64], lit: i64, other: &[i64]) -> Result<Vec<i64>, Memory>
-    requires { IsLit lit }
-    ensures { IfOk result (λ r. r.items ≡ union (without lit clause.now) (without (neg_ℤ lit) other.now)) }
-{
-    let first = without(alloc, lit, clause)?;
-    let second = without(alloc, complement(lit), other)?;
-    united(alloc, &first, &second)
+    Ok(late)
 }
 
 /// The id of the clause at the place, behind the hints.
@@ -113,60 +104,85 @@ fn push_id(hints: &mut Vec<i64>, place: usize) -> Result<(), Memory>
     Ok(())
 }
 
-/// The clause at the place, as it is false on the trail.
+/// The set becomes the clause at the place, as it is false on the trail.
 fn begin(
     alloc: Global,
     clauses: &[List<i64>],
     trail: &Trail,
+    set: &mut LitSet,
     conflict: usize,
-) -> Result<Learnt, Memory>
+) -> Result<Tracing, Memory>
     requires few { length clauses.now < 2 ^ 63 - 1 }
     requires conflict { IsConflict clauses.now trail.now conflict }
-    ensures derives { IfOk result (λ l. Derives clauses.now trail.now l.lits.items (reverse l.hints.items)) }
-    ensures level { IfOk result (λ l. decided trail.now ≡ true → Level (below trail.now) trail.now l.lits.items) }
+    ensures derives { IfOk result (λ t. Derives clauses.now trail.now set.new (reverse t.hints.items)) }
+    ensures start { IfOk result (λ t. t.start ≡ length (below trail.now)) }
 {
-    let lits = Vec::from_slice(alloc, clauses[conflict].as_slice())?;
+    let start = trail.level_start();
+    set.clear();
+    let late = join(trail, start, set, None, clauses[conflict].as_slice())?;
     let mut hints = Vec::new(alloc);
     push_id(&mut hints, conflict)?;
-    Ok(Learnt { lits, hints })
+    Ok(Tracing { hints, start, late })
 }
 
-/// What follows once the newest entry, which is taken off the trail, is resolved away.
+/// The newest entry, which is taken off the trail, is resolved away.
 fn back(
-    alloc: Global,
     clauses: &[List<i64>],
     trail: &Trail,
+    set: &mut LitSet,
+    tracing: &mut Tracing,
     entry: Entry,
-    learnt: Learnt,
-) -> Result<Learnt, Memory>
+) -> Result<(), Memory>
     requires few { length clauses.now < 2 ^ 63 - 1 }
     requires lits { AllLits clauses.now }
-    requires derives { Derives clauses.now (entry ∷ trail.now) learnt.lits.items (reverse learnt.hints.items) }
+    requires derives { Derives clauses.now (entry ∷ trail.now) set.old (reverse tracing.old.hints.items) }
     requires implied { is_decision entry ≡ false }
-    ensures derives { IfOk result (λ l. Derives clauses.now trail.now l.lits.items (reverse l.hints.items)) }
-    ensures level { IfOk result (λ l. (older : Entries) → Level older (entry ∷ trail.now) learnt.lits.items
-        → is_unit (reading (lits (below (entry ∷ trail.now))) learnt.lits.items) ≡ false
-        → Level older trail.now l.lits.items) }
+    ensures derives { OnOk result (Derives clauses.now trail.now set.new (reverse tracing.new.hints.items)) }
+    ensures start { tracing.new.start ≡ tracing.old.start }
 {
-    if !has(&learnt.lits, complement(entry.lit)) {
-        return Ok(learnt);
+    let lit = complement(entry.lit);
+    if !set.has(&lit) {
+        return Ok(());
     }
-    match entry.reason {
-        None => Ok(learnt),
-        Some(place) => {
-            let lits = resolve(alloc, clauses[place].as_slice(), entry.lit, &learnt.lits)?;
-            let mut hints = learnt.hints;
-            push_id(&mut hints, place)?;
-            Ok(Learnt { lits, hints })
+    if let Some(place) = entry.reason {
+        set.remove(&lit);
+        let more = join(
+            trail,
+            tracing.start,
+            set,
+            Some(entry.lit),
+            clauses[place].as_slice(),
+        )?;
+        push_id(&mut tracing.hints, place)?;
+        tracing.late = tracing.late.saturating_sub(1).saturating_add(more);
+    }
+    Ok(())
+}
+
+/// Whether the newest entry is the first unique implication point: one literal alone of the set is false by the newest
+/// decision and what is newer. The set is read only where the count says so.
+fn is_done(trail: &Trail, set: &LitSet, tracing: &Tracing) -> bool
+    requires start { tracing.now.start ≡ length (below trail.now) }
+    requires traced { IsTraced trail.now set.now }
+    ensures { MatchBool result (is_unit (reading (lits (below trail.now)) set.now) ≡ true) (NewestIsImplied trail.now) }
+{
+    match trail.newest() {
+        None => false,
+        Some(entry) => {
+            entry.reason.is_none()
+                || (tracing.late <= 1
+                    && set.has(&complement(entry.lit))
+                    && is_unit(trail.read_from(tracing.start, set.as_slice())))
         }
     }
 }
 
-/// Takes entries back to the first unique implication point: one literal alone is false by the newest decision.
-pub fn to_unit(
+/// Takes entries back to the first unique implication point.
+pub(crate) fn to_unit(
     alloc: Global,
     clauses: &[List<i64>],
     trail: &mut Trail,
+    set: &mut LitSet,
     conflict: usize,
 ) -> Result<Learnt, Memory>
     requires few { length clauses.now < 2 ^ 63 - 1 }
@@ -174,19 +190,21 @@ pub fn to_unit(
     requires decided { decided trail.old ≡ true }
     requires conflict { IsConflict clauses.now trail.old conflict }
     ensures derives { IfOk result (λ l. Derives clauses.now trail.new l.lits.items (reverse l.hints.items)) }
-    ensures level { IfOk result (λ l. Level (below trail.old) trail.new l.lits.items) }
-    ensures part { IfOk result (λ l. Within (lits trail.new) (lits trail.old)) }
+    ensures level { OnOk result (SameLevel trail.old trail.new) }
+    ensures part { OnOk result (Within (lits trail.new) (lits trail.old)) }
     ensures unit { IfOk result (λ l. is_unit (reading (lits (below trail.new)) l.lits.items) ≡ true) }
 {
-    let start = trail.level_start();
-    let mut learnt = begin(alloc, clauses, trail, conflict)?;
-    'tracing: while !is_unit(trail.read_from(start, &learnt.lits)) {
-        match trail.pop() {
-            None => return Ok(learnt),
-            Some(entry) => learnt = back(alloc, clauses, trail, entry, learnt)?,
+    let mut tracing = begin(alloc, clauses, trail, set, conflict)?;
+    'walk: while !is_done(trail, set, &tracing) {
+        if let Some(entry) = trail.pop() {
+            back(clauses, trail, set, &mut tracing, entry)?;
         }
     }
-    Ok(learnt)
+    let lits = Vec::from_slice(alloc, set.as_slice())?;
+    Ok(Learnt {
+        lits,
+        hints: tracing.hints,
+    })
 }
 
 /// Takes back all entries, none of which is a decision: the clause is empty then.
@@ -194,6 +212,7 @@ pub fn to_empty(
     alloc: Global,
     clauses: &[List<i64>],
     trail: &mut Trail,
+    set: &mut LitSet,
     conflict: usize,
 ) -> Result<Learnt, Memory>
     requires few { length clauses.now < 2 ^ 63 - 1 }
@@ -203,9 +222,13 @@ pub fn to_empty(
     ensures derives { IfOk result (λ l. Derives clauses.now trail.new l.lits.items (reverse l.hints.items)) }
     ensures empty { IfOk result (λ l. l.lits.items ≡ []) }
 {
-    let mut learnt = begin(alloc, clauses, trail, conflict)?;
+    let mut tracing = begin(alloc, clauses, trail, set, conflict)?;
     while let Some(entry) = trail.pop() {
-        learnt = back(alloc, clauses, trail, entry, learnt)?;
+        back(clauses, trail, set, &mut tracing, entry)?;
     }
-    Ok(learnt)
+    let lits = Vec::from_slice(alloc, set.as_slice())?;
+    Ok(Learnt {
+        lits,
+        hints: tracing.hints,
+    })
 }

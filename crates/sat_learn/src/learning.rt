@@ -1,26 +1,15 @@
-ghost use Rattle.std.specs.Prelude.{
-  ◌≡◌,
-  ◌<◌,
-  ◌+◌,
-  ◌-◌,
-  ◌^◌,
-  [],
-  ◌∷◌,
-  ◌++◌,
-  true,
-  length,
-  reverse,
-  OnOk,
-};
-ghost use Rattle.lrat_check.specs.Sets.{reading, AreLits};
+ghost use Rattle.std.specs.Prelude.{◌≡◌, ◌<◌, ◌+◌, ◌-◌, ◌^◌, List, [], ◌∷◌, ◌++◌, ℤ, true, length, reverse};
+ghost use Rattle.std.specs.Prelude.{OnOk, IfSome};
+ghost use Rattle.lrat_check.specs.Sets.{reading, IsLit, AreLits};
 ghost use Rattle.sat_trail.specs.Trail.{lits as true_lits, below, decided, Stand};
 ghost use Rattle.sat_unit.specs.Propagation.{AllLits};
 ghost use Rattle.sat_trail.specs.Clauses.{Within};
 ghost use Rattle.sat_watch.specs.Laws.{IsOlder};
-ghost use Rattle.sat_learn.specs.Analysis.{IsConflict, is_unit};
+ghost use Rattle.sat_learn.specs.Analysis.{IsConflict, FalseLast, is_unit};
 ghost use Rattle.sat_learn.specs.Learning.{Learns};
 
-use crate::analysis::{Learnt, is_unit, to_unit};
+use crate::analysis::{Learnt, to_unit};
+use crate::lit_set::LitSet;
 use fv_base::{List, Memory};
 use lrat_check::Step;
 use sat_trail::Trail;
@@ -28,6 +17,55 @@ use std::alloc::Global;
 
 /// More clauses than this have no place in memory, and below it each id is an `i64`.
 pub const MOST_CLAUSES: usize = 9000000000000000000;
+
+/// Of two literals that are false, one that the other doesn't outlast; a literal that isn't false doesn't count.
+fn later(trail: &Trail, last: Option<i64>, lit: i64) -> Option<i64>
+    requires lit { IsLit lit }
+    requires last { IfSome last IsLit }
+    ensures lit { IfSome result IsLit }
+    ensures later { (clause : List ℤ) → FalseLast trail.now clause last
+        → FalseLast trail.now (clause ++ lit ∷ []) result }
+{
+    if !trail.is_false_at(trail.len(), &lit) {
+        return last;
+    }
+    match last {
+        None => Some(lit),
+        Some(old) => {
+            if trail.outlasts(old, lit) {
+                Some(old)
+            } else {
+                Some(lit)
+            }
+        }
+    }
+}
+
+/// The clause's literal that became false last.
+fn false_last(trail: &Trail, clause: &[i64]) -> Option<i64>
+    requires { AreLits clause.now }
+    ensures lit { IfSome result IsLit }
+    ensures last { FalseLast trail.now clause.now result }
+{
+    let mut last = None;
+    for lit in clause {
+        last = later(trail, last, *lit);
+    }
+    last
+}
+
+/// Whether a clause with one open literal, of whose others this one became false last, still has one below the newest
+/// decision.
+fn stays_unit(trail: &Trail, last: Option<i64>) -> bool
+    requires { IfSome last IsLit }
+    ensures { (clause : List ℤ) → is_unit (reading (true_lits trail.now) clause) ≡ true
+        → FalseLast trail.now clause last → result ≡ is_unit (reading (true_lits (below trail.now)) clause) }
+{
+    match last {
+        None => true,
+        Some(lit) => trail.is_false_at(trail.level_start(), &lit),
+    }
+}
 
 /// Takes levels off as long as the clause still forces a literal.
 fn backjump(clauses: &[List<i64>], trail: &mut Trail, lits: &[i64])
@@ -40,7 +78,8 @@ fn backjump(clauses: &[List<i64>], trail: &mut Trail, lits: &[i64])
     ensures older { IsOlder trail.old trail.new }
 {
     trail.drop_level();
-    while trail.has_decision() && is_unit(trail.read_below(lits)) {
+    let last = false_last(trail, lits);
+    while trail.has_decision() && stays_unit(trail, last) {
         trail.drop_level();
     }
 }
@@ -75,6 +114,7 @@ pub fn learn(
     alloc: Global,
     clauses: &mut List<List<i64>>,
     trail: &mut Trail,
+    set: &mut LitSet,
     steps: &mut List<Step>,
     conflict: usize,
 ) -> Result<(), Memory>
@@ -86,7 +126,7 @@ pub fn learn(
     if clauses.len() >= MOST_CLAUSES {
         return Err(Memory);
     }
-    let learnt = to_unit(alloc, clauses.as_slice(), trail, conflict)?;
+    let learnt = to_unit(alloc, clauses.as_slice(), trail, set, conflict)?;
     backjump(clauses.as_slice(), trail, &learnt.lits);
     add(alloc, clauses, steps, learnt)?;
     Ok(())

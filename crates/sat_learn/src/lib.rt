@@ -4,6 +4,8 @@
 
 mod analysis;
 mod learning;
+mod lit_set;
 
 pub use analysis::{Learnt, to_empty};
 pub use learning::{MOST_CLAUSES, add, learn};
+pub use lit_set::LitSet;

@@ -1,5 +1,6 @@
-ghost use Rattle.std.specs.Prelude.{◌≡◌, ◌<◌, ◌≤◌, ◌^◌, ℕ, true, false, List, length, IfOk};
+ghost use Rattle.std.specs.Prelude.{◌≡◌, ◌+◌, ◌-◌, ◌<◌, ◌≤◌, ◌^◌, ℕ, pos, true, false, List, length, IfOk};
 ghost use Rattle.cnf_form.specs.Cnf.{AreClauses, formula_true, value_of};
+ghost use Rattle.lrat_check.specs.Sets.{has};
 ghost use Rattle.lrat_check.specs.Steps.{Refutes, Valid, AreSteps};
 ghost use Rattle.lrat_check.specs.Resolved.{Resolved, derived};
 ghost use Rattle.sat_trail.specs.Trail.{lits, values_of};
@@ -9,7 +10,7 @@ use crate::found::Found;
 use cnf_form::Formula;
 use fv_base::{List, Memory};
 use lrat_check::Step;
-use sat_learn::{MOST_CLAUSES, add, learn, to_empty};
+use sat_learn::{LitSet, MOST_CLAUSES, add, learn, to_empty};
 use sat_order::Order;
 use sat_trail::{Entry, Trail};
 use sat_unit::{Propagation, Scan};
@@ -47,6 +48,7 @@ pub fn solve(alloc: Global, formula: &Formula, budget: u64) -> Result<Found, Mem
     let mut left = budget;
     let mut propagation = Propagation::new(alloc);
     let mut order = order_of(alloc, formula)?;
+    let mut set = LitSet::new(alloc);
     'turns: loop {
         let scan = propagation.next(clauses.as_slice(), &trail)?;
         match scan {
@@ -63,11 +65,11 @@ pub fn solve(alloc: Global, formula: &Formula, budget: u64) -> Result<Found, Mem
             },
             Scan::Conflict(place) => {
                 if !trail.has_decision() {
-                    let learnt = to_empty(alloc, clauses.as_slice(), &mut trail, place)?;
+                    let learnt = to_empty(alloc, clauses.as_slice(), &mut trail, &mut set, place)?;
                     add(alloc, &mut clauses, &mut steps, learnt)?;
                     return Ok(Found::Refuted(steps));
                 }
-                learn(alloc, &mut clauses, &mut trail, &mut steps, place)?;
+                learn(alloc, &mut clauses, &mut trail, &mut set, &mut steps, place)?;
                 note(
                     &mut order,
                     clauses.as_slice(),
@@ -125,7 +127,15 @@ fn values(alloc: Global, vars: u64, trail: &Trail) -> Result<List<bool>, Memory>
 {
     let mut values = List::new(alloc);
     for index in 0..vars {
-        values.push(trail.has(&(index as i64 + 1)))?;
+        values.push(value_at(trail, index))?;
     }
     Ok(values)
+}
+
+/// Whether the variable with the index is true on the trail, variable 1's index being 0.
+fn value_at(trail: &Trail, index: u64) -> bool
+    requires { index < 2 ^ 63 - 1 }
+    ensures { result ≡ has (lits trail.now) (pos (index + 1)) }
+{
+    trail.has(&(index as i64 + 1))
 }

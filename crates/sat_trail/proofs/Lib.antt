@@ -1,5 +1,5 @@
 pub mod Codes
 pub mod Members
-pub mod Places
+pub mod Standing
 pub mod Readings
 pub mod Starts

@@ -15,18 +15,17 @@ use Rattle.std.proofs.Common.{
   get_or,
   reverse,
 }
-use Rattle.std.proofs.Common.{List, [], ℤ, Option, Some, None, refl, ap, sym, subst, ◌∙◌, inl, inr, arith, length-drop}
-use Rattle.std.specs.List.{list_any}
+use Rattle.std.proofs.Common.{List, [], ℤ, ◌||◌, Option, Some, None, refl, ap, sym, subst, ◌∙◌, inl, inr, arith}
+use Rattle.std.proofs.Common.{length-drop}
 use Rattle.std.specs.Option.{is_some}
 use Rattle.std.proofs.Math.Seq.{drop-cons}
 use Rattle.std.proofs.lemmas.List.{get_or-reverse, length-reverse}
-use Rattle.std.proofs.lemmas.List.Sorted.{list_any-IsPermutation, IsPermutation-reverse}
 use Rattle.sat_trail.specs.declared.trail.Entry.{Entry}
 use Rattle.std.specs.Ordering.{int_eq}
 use Rattle.std.proofs.lemmas.Bool.{false≢true}
 use Rattle.lrat_check.specs.Sets.{has, IsLit, AreLits}
-use Rattle.sat_trail.proofs.Members.{same_is, or_cases, has_head}
-use Rattle.sat_trail.proofs.Places.{in_dropped}
+use Rattle.sat_trail.proofs.Members.{same_is, or_cases, or_left, has_head}
+use Rattle.sat_trail.proofs.Standing.{in_dropped, oldest_whole}
 use Rattle.sat_trail.specs.Trail.{IsNext, lits}
 use Rattle.sat_trail.specs.Trail.{Entries, oldest, decides, is_decision, decided, below_at, below}
 
@@ -37,14 +36,6 @@ decides_none (Some place) h = sym h
 pub decides_some : (reason : Option ℕ) → is_some reason ≡ true → decides reason ≡ false
 decides_some None h = sym h
 decides_some (Some place) h = refl
-
--- some entry is a decision, whatever the order
-pub decided_reverse : (xs : Entries) → list_any is_decision xs ≡ decided (reverse xs)
-decided_reverse xs = list_any-IsPermutation is_decision xs (reverse xs) (IsPermutation-reverse xs)
-
--- the same by the entries as they are stored
-pub decided_stored : (items xs t : Entries) → items ≡ xs → reverse xs ≡ t → list_any is_decision items ≡ decided t
-decided_stored items xs t h k = ap (list_any is_decision) h ∙ decided_reverse xs ∙ ap decided k
 
 -- one more of the oldest entries
 oldest_next : (xs : Entries) (place : ℕ) (e : Entry) → place < length xs
@@ -60,7 +51,7 @@ oldest_next xs place e h =
     ∙ ap (λ x. x ∷ oldest place (reverse xs))
     (get_or-reverse xs (length xs - 1 - place) e (omega (arith, h)) ∙ ap (λ n. get_or xs n e) q)
 
-below_decision : (e : Entry) (older : Entries) (reason : Option ℕ) → e.reason ≡ reason → decides reason ≡ true
+pub below_decision : (e : Entry) (older : Entries) (reason : Option ℕ) → e.reason ≡ reason → decides reason ≡ true
     → below (e ∷ older) ≡ older
 below_decision e older None h d = ap (λ r. below_at r older (below older)) h
 below_decision e older (Some place) h d = absurd (cc)
@@ -94,6 +85,23 @@ module _ (xs t : Entries) (view : reverse xs ≡ t) (next : ℕ) (d : Entry) (so
       let whole : length (oldest (next - 1) t) ≡ next - 1 = omega (arith, many, some, within) in
       sym (ap length (sym b ∙ here) ∙ whole)
 
+  newest_tells : decided (oldest next t) ≡ (is_decision (get_or xs (next - 1) d) || decided (oldest (next - 1) t))
+  newest_tells = ap decided next_is
+
+  -- a decision among so many entries
+  pub decided_here : is_some (get_or xs (next - 1) d).reason ≡ false → decided (oldest next t) ≡ decided t
+      → true ≡ decided t
+  decided_here n b =
+      sym (or_left (is_decision (get_or xs (next - 1) d)) (decided (oldest (next - 1) t))
+      (decides_none (get_or xs (next - 1) d).reason n)) ∙ sym newest_tells ∙ b
+
+  -- an implied entry is none
+  pub decided_older : is_some (get_or xs (next - 1) d).reason ≡ true → decided (oldest next t) ≡ decided t
+      → decided (oldest (next - 1) t) ≡ decided t
+  decided_older n b =
+      sym (newest_tells ∙ ap (λ z. z || decided (oldest (next - 1) t))
+      (decides_some (get_or xs (next - 1) d).reason n)) ∙ b
+
   -- an implied entry does not change what is older than the newest decision
   pub starts_below : is_some (get_or xs (next - 1) d).reason ≡ true → below (oldest next t) ≡ below t
       → below (oldest (next - 1) t) ≡ below t
@@ -107,6 +115,17 @@ lit_from (l ∷ c) x a h = elim (or_cases (int_eq x l) (has c x) h) [
   | inl e ↦ subst IsLit (sym (same_is x l e)) a.0
   | inr e ↦ lit_from c x a.1 e
 ]
+
+-- the newest entry, as the entries are stored
+pub newest_is : (xs t : Entries) → reverse xs ≡ t → (many : ℕ) (e : Entry) → many ≡ length xs → (many ≡ 0 → ⊥)
+    → e ≡ get_or xs (many - 1) e → (older : Entries) × (t ≡ e ∷ older)
+newest_is xs t view many e m some f =
+    let n : many ≡ length t = m ∙ sym (length-reverse xs) ∙ ap length view in (
+      oldest (many - 1) t,
+      sym (oldest_whole t many (omega (arith, n)))
+          ∙ next_is xs t view many e (omega (arith, some)) (omega (arith, n))
+          ∙ ap (λ z. z ∷ oldest (many - 1) t) (sym f),
+    )
 
 -- the entry at a place, as the entries are stored
 pub next_lit : (xs t : Entries) → reverse xs ≡ t → (place : ℕ) (e : Entry) → place < length xs

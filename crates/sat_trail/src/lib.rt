@@ -5,4 +5,5 @@
 mod place_table;
 mod trail;
 
+pub use place_table::Places;
 pub use trail::{Entry, Trail};

@@ -21,7 +21,7 @@ use std::marker::Model;
 
 /// A number for each literal, by its code; 0 where none was put.
 #[derive(Drop)]
-pub(crate) struct Places {
+pub struct Places {
     places: Vec<usize>,
 }
 
@@ -34,7 +34,8 @@ impl Model for Places {
 }
 
 impl Places {
-    pub(crate) fn new(alloc: Global) -> Places
+    /// None has a number.
+    pub fn new(alloc: Global) -> Places
         ensures { result ≡ [] }
     {
         Places {
@@ -42,7 +43,8 @@ impl Places {
         }
     }
 
-    pub(crate) fn get(&self, lit: &i64) -> usize
+    /// The literal's number.
+    pub fn get(&self, lit: &i64) -> usize
         requires { IsLit lit.now }
         ensures { result ≡ place_of self.now lit.now }
     {
@@ -52,7 +54,8 @@ impl Places {
         }
     }
 
-    pub(crate) fn put(&mut self, lit: &i64, place: usize) -> Result<(), Memory>
+    /// Gives the literal a number. After want of memory each has its own as before.
+    pub fn put(&mut self, lit: &i64, place: usize) -> Result<(), Memory>
         requires { IsLit lit.now }
         ensures ok { OnOk result ((l : ℤ) → place_of self.new l
             ≡ (if int_eq lit.now l then place else place_of self.old l)) }
@@ -64,7 +67,20 @@ impl Places {
         Ok(())
     }
 
-    pub(crate) fn clear(&mut self, lit: &i64)
+    /// Gives the literal, which has a number, another one.
+    pub fn change(&mut self, lit: &i64, place: usize)
+        requires lit { IsLit lit.now }
+        requires some { 0 < place_of self.old lit.now }
+        ensures { (l : ℤ) → place_of self.new l ≡ (if int_eq lit.now l then place else place_of self.old l) }
+    {
+        let code = code_of(*lit) as usize;
+        if code < self.places.len() {
+            self.places[code] = place;
+        }
+    }
+
+    /// The literal has no number any more.
+    pub fn clear(&mut self, lit: &i64)
         requires { IsLit lit.now }
         ensures { (l : ℤ) → place_of self.new l ≡ (if int_eq lit.now l then 0 else place_of self.old l) }
     {

@@ -15,7 +15,7 @@ ghost use Rattle.std.specs.List.{list_any};
 ghost use Rattle.std.specs.Option.{option_copied};
 ghost use Rattle.lrat_check.specs.Sets.{has, is_false, first_open, other_open, reading, IsLit, AreLits};
 ghost use Rattle.lrat_check.specs.Codes.{lit_of, flip};
-ghost use Rattle.sat_trail.specs.Trail.{lits, oldest, below, decided, true_codes, has_code};
+ghost use Rattle.sat_trail.specs.Trail.{Entries, lits, oldest, below, decided, true_codes, has_code};
 ghost use Rattle.sat_trail.specs.Trail.{Outlasts, IsNext};
 
 use crate::place_table::Places;
@@ -83,11 +83,25 @@ impl Trail {
         Some(entry)
     }
 
+    /// The newest entry.
+    pub fn newest(&self) -> Option<Entry>
+        ensures { MatchOption result (self.now ≡ []) (λ e. (older : Entries) × (self.now ≡ e ∷ older)) }
+    {
+        let len = self.entries.len();
+        if len == 0 {
+            return None;
+        }
+        Some(self.entries[len - 1])
+    }
+
+    /// Whether an entry is a decision. The newest ones are looked at first.
     pub fn has_decision(&self) -> bool
         ensures { result ≡ decided self.now }
     {
-        for entry in &self.entries {
-            if entry.reason.is_none() {
+        let mut place = self.entries.len();
+        while place > 0 {
+            place -= 1;
+            if self.entries[place].reason.is_none() {
                 return true;
             }
         }
@@ -127,15 +141,7 @@ impl Trail {
         self.read_at(self.entries.len(), clause)
     }
 
-    /// How the clause reads under what is older than the newest decision.
-    pub fn read_below(&self, clause: &[i64]) -> Reading
-        requires { AreLits clause.now }
-        ensures { result ≡ reading (lits (below self.now)) clause.now }
-    {
-        self.read_at(self.level_start(), clause)
-    }
-
-    /// The same, where so many entries are older than the newest decision.
+    /// How the clause reads under what is older than the newest decision, which are so many entries.
     pub fn read_from(&self, start: usize, clause: &[i64]) -> Reading
         requires lits { AreLits clause.now }
         requires start { start ≡ length (below self.now) }
@@ -212,7 +218,8 @@ impl Trail {
         place <= end
     }
 
-    fn is_false_at(&self, end: usize, lit: &i64) -> bool
+    /// Whether the literal is false by so many of the oldest entries.
+    pub fn is_false_at(&self, end: usize, lit: &i64) -> bool
         requires { IsLit lit.now }
         ensures { result ≡ is_false (lits (oldest end self.now)) lit.now }
     {

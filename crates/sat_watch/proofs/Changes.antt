@@ -5,7 +5,7 @@ use Rattle.lrat_check.specs.Store.{Coded, coded}
 use Rattle.sat_trail.specs.declared.trail.Entry.{Entry}
 use Rattle.sat_trail.specs.Trail.{Entries, is_decision, true_codes, has_code}
 use Rattle.sat_trail.proofs.Members.{or_right}
-use Rattle.sat_trail.proofs.Places.{oldest_part}
+use Rattle.sat_trail.proofs.Standing.{oldest_part}
 use Rattle.sat_watch.specs.Watching.{is_false_code, Calm, CalmBelow}
 use Rattle.sat_watch.specs.Watches.{State, Keeps}
 use Rattle.sat_watch.specs.Laws.{IsOlder}

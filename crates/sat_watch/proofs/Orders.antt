@@ -21,14 +21,14 @@ lit_from (l ∷ c) x a h = elim (or_cases (int_eq x l) (has c x) h) [
   | inr e ↦ lit_from c x a.1 e
 ]
 
-lits_from : (c : List ℤ) → ((x : ℤ) → has c x ≡ true → IsLit x) → AreLits c
+pub lits_from : (c : List ℤ) → ((x : ℤ) → has c x ≡ true → IsLit x) → AreLits c
 lits_from [] f = tt
 lits_from (l ∷ c) f = (f l (has_head l c), lits_from c (λ x h. f x (has_tail x l c h)))
 
 pub lits_same : (c d : List ℤ) → SameLits c d → AreLits c → AreLits d
 lits_same c d s a = lits_from d (λ x h. lit_from c x a (s x ∙ h))
 
-index_of : (c : List ℤ) (x : ℤ) → has c x ≡ true → (i : ℕ) × (i < length c) × (lit_at c i ≡ x)
+pub index_of : (c : List ℤ) (x : ℤ) → has c x ≡ true → (i : ℕ) × (i < length c) × (lit_at c i ≡ x)
 index_of [] x h = absurd (false≢true h)
 index_of (l ∷ c) x h = elim (or_cases (int_eq x l) (has c x) h) [
   | inl e ↦ (0, omega arith, sym (same_is x l e))

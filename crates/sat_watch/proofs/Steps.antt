@@ -9,7 +9,7 @@ use Rattle.lrat_check.specs.Store.{Coded}
 use Rattle.lrat_check.proofs.Codes.{lit_code}
 use Rattle.sat_trail.specs.Trail.{Entries, oldest, true_codes, has_code, IsNext}
 use Rattle.sat_trail.proofs.Members.{or_left, or_right, or_cases}
-use Rattle.sat_trail.proofs.Places.{oldest_whole}
+use Rattle.sat_trail.proofs.Standing.{oldest_whole}
 use Rattle.sat_watch.specs.declared.watch.Watch.{Watch}
 use Rattle.sat_watch.specs.Watching.{is_false_code, Among, satisfied, Lists, is_listed, taken, Watched}
 use Rattle.sat_watch.specs.Watching.{Calm, CalmBelow}

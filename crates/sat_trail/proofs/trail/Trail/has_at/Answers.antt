@@ -2,7 +2,7 @@ use Rattle.std.proofs.Common.{ap, sym, ◌∙◌}
 use Rattle.std.specs.Prelude.{leb}
 use Rattle.lrat_check.specs.Sets.{has}
 use Rattle.sat_trail.specs.Trail.{lits, oldest, place_of}
-use Rattle.sat_trail.proofs.Places.{none_there, some_there}
+use Rattle.sat_trail.proofs.Standing.{none_there, some_there}
 use Rattle.sat_trail.proofs.trail.Trail.has_at.Goals as goal
 
 pub returns-then-place-eq0 : goal.returns-then-place-eq0

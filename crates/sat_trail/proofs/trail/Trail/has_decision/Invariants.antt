@@ -1,7 +1,9 @@
-use Rattle.std.proofs.Common.{◌≡◌, drop}
-use Rattle.std.specs.List.{list_any}
-use Rattle.sat_trail.specs.Trail.{is_decision}
+use Rattle.std.proofs.Common.{◌≡◌, ◌≤◌, length}
+use Rattle.sat_trail.specs.Trail.{decided, oldest}
 use Rattle.sat_trail.proofs.trail.Trail.has_decision.Given as goal
 
-abbrev pub invariant-loop-entry : goal.invariant-loop-entry
-invariant-loop-entry l = list_any is_decision (drop l.entry-index l.entry-items) ≡ list_any is_decision l.entry-items
+abbrev pub invariant-loop-place : goal.invariant-loop-place
+invariant-loop-place l = (l.place ≤ length l.self) × (decided (oldest l.place l.self) ≡ decided l.self)
+
+abbrev pub decreases-loop-place : goal.decreases-loop-place
+decreases-loop-place l = l.place

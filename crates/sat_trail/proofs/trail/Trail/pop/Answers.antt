@@ -1,7 +1,7 @@
 use Rattle.std.proofs.Common.{[], ◌∷◌, ap, subst, reverse, ◌∙◌}
 use Rattle.std.proofs.lemmas.List.{reverse-append}
 use Rattle.sat_trail.specs.Trail.{Entries, ArePlaces}
-use Rattle.sat_trail.proofs.Places.{popped}
+use Rattle.sat_trail.proofs.Standing.{popped}
 use Rattle.sat_trail.proofs.trail.Trail.pop.Goals as goal
 
 pub clear-requires : goal.clear-requires

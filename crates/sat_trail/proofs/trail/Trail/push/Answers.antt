@@ -2,7 +2,7 @@ use Rattle.std.proofs.Common.{◌≡◌, false, [], ◌∷◌, suc, ap, sym, sub
 use Rattle.std.proofs.lemmas.List.{reverse-append, length-reverse, length_push}
 use Rattle.lrat_check.specs.Sets.{has}
 use Rattle.sat_trail.specs.Trail.{Entries, lits, ArePlaces}
-use Rattle.sat_trail.proofs.Places.{pushed}
+use Rattle.sat_trail.proofs.Standing.{pushed}
 use Rattle.sat_trail.proofs.trail.Trail.push.Goals as goal
 
 pub invariant_of-self-in-Ok : goal.invariant_of-self-in-Ok

@@ -1,7 +1,7 @@
 use Rattle.std.proofs.Common.{ap, ◌∙◌}
 use Rattle.lrat_check.specs.Sets.{reading}
 use Rattle.sat_trail.specs.Trail.{lits, oldest}
-use Rattle.sat_trail.proofs.Places.{oldest_below}
+use Rattle.sat_trail.proofs.Standing.{oldest_below}
 use Rattle.sat_trail.proofs.trail.Trail.read_from.Goals as goal
 
 pub returns : goal.returns

@@ -1,6 +1,0 @@
-use Rattle.std.proofs.Common.{◌≡◌, drop}
-use Rattle.lrat_check.specs.Sets.{has}
-use Rattle.sat_learn.proofs.analysis.has.Given as goal
-
-abbrev pub invariant-loop-lit : goal.invariant-loop-lit
-invariant-loop-lit l = has (drop l.lit-index l.lits) l.wanted ≡ has l.lits l.wanted
