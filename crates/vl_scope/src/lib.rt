@@ -11,4 +11,4 @@ mod texts;
 pub use level::Level;
 pub use meaning::{Meaning, Object};
 pub use names::Names;
-pub use read::{context_of, own_zero_divisor_of, value_of, zero_divisor_of};
+pub use read::{context_of, known_expr, own_zero_divisor_of, value_of, zero_divisor_of};

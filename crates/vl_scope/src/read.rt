@@ -41,7 +41,7 @@ fn decls_of(alloc: Global, expr: &Expr, names: &Names) -> Result<Decls, Memory>
 }
 
 /// The expression with the number of each constant in its place.
-fn known_expr(alloc: Global, expr: &Expr, names: &Names) -> Result<Expr, Memory>
+pub fn known_expr(alloc: Global, expr: &Expr, names: &Names) -> Result<Expr, Memory>
     ensures { IfOk result (λ e. e ≡ known names.now expr.now) }
 {
     let params = params_of(alloc, expr, names)?;
