@@ -20,7 +20,7 @@ use Rattle.wn_truth.proofs.Laws.{one_on}
 use Rattle.ck_lines.specs.Entries.{Entry}
 use Rattle.ck_lines.specs.Lines.{past}
 use Rattle.ck_lines.proofs.Entries.{show_drop}
-use Rattle.ck_past.specs.Ports.{AreChannelNodes}
+use Rattle.rvfi_port.specs.Ports.{AreChannelNodes}
 use Rattle.ck_past.specs.Retirements.{retirements, dmem_addr_at, probe_at}
 use Rattle.ck_past.specs.Kept.{holds_over, LooksBack}
 use Rattle.ck_past.proofs.Monitored.{IsAmong, looks_back}

@@ -24,7 +24,7 @@ use Rattle.ck_props.specs.Lists.{found_at, where_found}
 use Rattle.ck_props.specs.Properties.{holds_at, cycle_of, property}
 use Rattle.wn_truth.specs.Truths.{Tells, is_one}
 use Rattle.wn_truth.proofs.Laws.{told, one_on}
-use Rattle.ck_past.specs.Ports.{AreChannelNodes, ArePortNodes, AreImemNodes}
+use Rattle.rvfi_port.specs.Ports.{AreChannelNodes, ArePortNodes, AreImemNodes}
 use Rattle.ck_past.specs.Retirements.{retirements, imem_addr_at, imem_data_at, probe_at}
 use Rattle.ck_past.proofs.Monitored.{IsAmong}
 use Rattle.ck_past.proofs.Property.{found_is}

@@ -5,7 +5,7 @@ use Rattle.std.proofs.Common.{ap}
 use Rattle.wn_net.specs.Net.{Netlist}
 use Rattle.wn_net.specs.Changes.{AddsRegs}
 use Rattle.rvfi_port.specs.declared.port.Channel.{Channel}
-use Rattle.ck_past.specs.Ports.{AreChannelNodes}
+use Rattle.rvfi_port.specs.Ports.{AreChannelNodes}
 use Rattle.ck_past.proofs.Monitored.{is_among}
 use Rattle.ck_past.proofs.Shown.{channels_on}
 use Rattle.ck_gen.proofs.Recalled.{among_nodes}

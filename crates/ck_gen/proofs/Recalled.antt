@@ -22,7 +22,7 @@ use Rattle.ck_lines.specs.Entries.{Entry, Show, packed}
 use Rattle.ck_lines.specs.Lines.{IsHistory, past}
 use Rattle.ck_lines.proofs.Lines.{history_on}
 use Rattle.ck_lines.proofs.Histories.{history_shows}
-use Rattle.ck_past.specs.Ports.{AreChannelNodes, ArePortNodes, IsDmemNode}
+use Rattle.rvfi_port.specs.Ports.{AreChannelNodes, ArePortNodes, IsDmemNode}
 use Rattle.ck_past.specs.Retirements.{dmem_addr_at}
 use Rattle.ck_past.specs.Kept.{kept_in}
 use Rattle.ck_past.proofs.Monitored.{IsAmong}

@@ -6,7 +6,7 @@ ghost use Rattle.wn_truth.specs.Truths.{is_one};
 ghost use Rattle.rvfi_port.specs.Channels.{retire_at};
 ghost use Rattle.ck_lines.specs.Entries.{AreEntryNodes, entry_at};
 ghost use Rattle.ck_found.specs.Searches as searches;
-ghost use Rattle.ck_past.specs.Ports.{AreChannelNodes, IsDmemNode};
+ghost use Rattle.rvfi_port.specs.Ports.{AreChannelNodes, IsDmemNode};
 ghost use Rattle.ck_past.specs.Retirements.{dmem_addr_at};
 ghost use Rattle.ck_past.specs.Kept as kept;
 ghost use Rattle.ck_gen.specs.Monitors.{TellsOver};

@@ -5,7 +5,7 @@ ghost use Rattle.wn_net.specs.Changes.{AddsNodes};
 ghost use Rattle.wn_truth.specs.Truths.{Tells, is_one};
 ghost use Rattle.rvfi_port.specs.Channels.{retire_at};
 ghost use Rattle.ck_props.specs.Properties as properties;
-ghost use Rattle.ck_past.specs.Ports.{AreChannelNodes, AreImemNodes};
+ghost use Rattle.rvfi_port.specs.Ports.{AreChannelNodes, AreImemNodes};
 ghost use Rattle.ck_past.specs.Retirements.{imem_addr_at, imem_data_at};
 ghost use Rattle.ck_gen.specs.Monitors as monitors;
 ghost use Rattle.ck_gen.specs.Monitors.{probe_of};

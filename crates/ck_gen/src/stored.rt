@@ -9,7 +9,7 @@ ghost use Rattle.wn_truth.specs.Truths.{Tells};
 ghost use Rattle.rvfi_port.specs.Channels.{retire_at};
 ghost use Rattle.ck_lines.specs.Entries.{AreEntryNodes, entry_at};
 ghost use Rattle.ck_found.specs.Searches as searches;
-ghost use Rattle.ck_past.specs.Ports.{AreChannelNodes};
+ghost use Rattle.rvfi_port.specs.Ports.{AreChannelNodes};
 ghost use Rattle.ck_past.specs.Kept as kept;
 ghost use Rattle.ck_gen.specs.Monitors.{TellsOver};
 

@@ -4,7 +4,7 @@ ghost use Rattle.wn_net.specs.Changes.{AddsNodes, AddsRegs};
 ghost use Rattle.wn_truth.specs.Truths.{Tells, is_one};
 ghost use Rattle.ck_cfg.specs.Lawful.{IsCheck};
 ghost use Rattle.ck_lines.specs.Lines.{AddsKnown};
-ghost use Rattle.ck_past.specs.Ports.{ArePortNodes};
+ghost use Rattle.rvfi_port.specs.Ports.{ArePortNodes};
 ghost use Rattle.ck_past.specs.Kept as kept;
 ghost use Rattle.ck_around.specs.Around.{LooksAround, place_of};
 ghost use Rattle.ck_gen.specs.Monitors as monitors;

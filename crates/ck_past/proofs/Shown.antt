@@ -16,7 +16,7 @@ use Rattle.rvfi_port.specs.Channels.{retire_at}
 use Rattle.ck_cfg.specs.declared.kind.CheckKind.{CheckKind}
 use Rattle.ck_cfg.specs.declared.kind.CheckKind.TheVariants as kinds
 use Rattle.ck_lines.specs.Entries.{Entry, IsEntry, Show, packed}
-use Rattle.ck_past.specs.Ports.{AreChannelNodes}
+use Rattle.rvfi_port.specs.Ports.{AreChannelNodes}
 use Rattle.ck_past.specs.Kept.{entry, kept, kept_in}
 
 -- behind more nodes and registers a channel is as it was

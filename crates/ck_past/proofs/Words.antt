@@ -12,7 +12,7 @@ use Rattle.rvfi_port.specs.declared.port.Channel.{Channel}
 use Rattle.rvfi_port.specs.Channels.{retire_at}
 use Rattle.ck_cfg.specs.declared.kind.CheckKind.{CheckKind}
 use Rattle.ck_lines.specs.Entries.{packed}
-use Rattle.ck_past.specs.Ports.{AreChannelNodes}
+use Rattle.rvfi_port.specs.Ports.{AreChannelNodes}
 use Rattle.ck_past.specs.Kept.{kept, kept_in}
 use Rattle.ck_past.proofs.Shown.{kept_of, retire_on}
 

@@ -6,7 +6,7 @@ ghost use Rattle.wn_net.specs.Net.{IsNodeOf, AreNodesOf, value_at};
 ghost use Rattle.wn_net.specs.Changes.{AddsNodes};
 ghost use Rattle.rvfi_port.specs.Channels.{retire_at};
 ghost use Rattle.ck_lines.specs.Entries.{AreEntryNodes, entry_at, packed};
-ghost use Rattle.ck_past.specs.Ports.{AreChannelNodes};
+ghost use Rattle.rvfi_port.specs.Ports.{AreChannelNodes};
 ghost use Rattle.ck_past.specs.Kept as spec;
 
 use ck_cfg::CheckKind;

@@ -8,7 +8,7 @@ use Rattle.wn_net.proofs.Laws.{node_on, value_on}
 use Rattle.rvfi_port.specs.declared.port.Channel.{Channel}
 use Rattle.rvfi_port.specs.Channels.{IsChannel, retire_at}
 use Rattle.rv_rows.proofs.StepLemmas.{steps}
-use Rattle.rv_circ.specs.Channels.{AreChannelNodes}
+use Rattle.rvfi_port.specs.Ports.{AreChannelNodes}
 
 -- the channels of a port that is bound have such nodes
 pub channel_nodes : (old new : Netlist) (names : Names) (k : ℕ) (c : Channel) → IsChannel old new names k c

@@ -10,7 +10,7 @@ ghost use Rattle.wn_net.specs.Net.{IsNodeOf, value_at};
 ghost use Rattle.wn_net.specs.Changes.{AddsNodes, Shows};
 ghost use Rattle.rvfi_port.specs.Channels.{retire_at};
 ghost use Rattle.rv_rows.specs.Effects.{ShowsEffect};
-ghost use Rattle.rv_circ.specs.Channels.{AreChannelNodes};
+ghost use Rattle.rvfi_port.specs.Ports.{AreChannelNodes};
 ghost use Rattle.rv_circ.specs.Effects.{outcome_of};
 
 use crate::steps::step_nodes;

@@ -6,7 +6,7 @@ ghost use Rattle.rv_table.specs.Effect as effect;
 ghost use Rattle.rv_table.specs.Fields as fields;
 ghost use Rattle.wn_net.specs.Net.{IsNodeOf, value_at};
 ghost use Rattle.wn_net.specs.Changes.{AddsNodes, Shows};
-ghost use Rattle.rv_circ.specs.Channels.{AreChannelNodes};
+ghost use Rattle.rvfi_port.specs.Ports.{AreChannelNodes};
 ghost use Rattle.rv_circ.specs.Steps.{ShowsAddresses, ShowsStep};
 
 use fv_base::Memory;

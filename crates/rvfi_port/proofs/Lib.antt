@@ -1,2 +1,3 @@
 mod Whole
 mod Cut
+pub mod Bound

@@ -1,4 +1,5 @@
 pub mod Fields
 pub mod Outputs
 pub mod Channels
+pub mod Ports
 pub mod Parts

@@ -6,7 +6,7 @@ use Rattle.wn_net.proofs.Laws.{adds_on, nodes_on}
 use Rattle.rvfi_port.specs.declared.port.Channel.{Channel}
 use Rattle.ck_lines.specs.Entries.{packed}
 use Rattle.ck_lines.proofs.Lines.{nodes_push}
-use Rattle.ck_past.specs.Ports.{AreChannelNodes}
+use Rattle.rvfi_port.specs.Ports.{AreChannelNodes}
 use Rattle.ck_past.specs.Kept.{kept_in}
 use Rattle.ck_past.proofs.Words.{channel_here, dropped, words_push}
 use Rattle.ck_past.proofs.kept.kept_words.Goals as goal
