@@ -1,3 +1,3 @@
 mod Whole
 mod Cut
-pub mod Bound
+pub mod PortNodes
