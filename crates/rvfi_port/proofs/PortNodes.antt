@@ -1,7 +1,6 @@
 -- A port that `bind` finds has nodes of the widths that a check asks of it.
-use Rattle.std.specs.Prelude.{ℕ, ◌+◌, Option, Some, None, Bool, true, false, List, [], ◌∷◌, Unit, tt}
+use Rattle.std.specs.Prelude.{ℕ, ◌+◌, Option, Some, None, Bool, true, false, List, [], ◌∷◌}
 use Rattle.std.specs.List.{AllByRecursion}
-use Rattle.std.proofs.Common.{absurd}
 use Rattle.wn_net.specs.declared.names.Names.{Names}
 use Rattle.wn_net.specs.Net.{Netlist}
 use Rattle.rvfi_port.specs.declared.port.Channel.{Channel}
