@@ -1,0 +1,36 @@
+-- The subcommands, operands and options of the command line, as a simple command of `clap`, which says what such a
+-- table makes of words. Rule of this project.
+use Rattle.std.specs.Prelude.{ℕ, true, List, [], ◌∷◌, Option, Some, codes}
+use Rattle.clap.specs.Words.{App, Rule, Shape, Text, new_app, new_rule, with_rule, with_subcommand}
+
+-- a word that has to be there, told by its place
+abbrev pub operand : Text → Rule
+operand id = record (new_rule id) { required = true }
+
+-- an option with one value, and the value where it isn't used
+abbrev pub choice : Text → Text → Rule
+choice id default = record (new_rule id) { long = Some id; defaults = default ∷ [] }
+
+-- `run CFG OUTDIR [--core NAME] [--basedir DIR] [--budget N]`
+abbrev pub run : App
+run =
+    with_rule (with_rule (with_rule (with_rule (with_rule (new_app (codes "run"))
+    (operand (codes "cfg"))) (operand (codes "outdir")))
+    (choice (codes "core") (codes "core"))) (choice (codes "basedir") (codes ".")))
+    (choice (codes "budget") (codes "200000"))
+
+-- `list CFG`
+abbrev pub list : App
+list = with_rule (new_app (codes "list")) (operand (codes "cfg"))
+
+-- `lrat CNF PROOF`
+abbrev pub lrat : App
+lrat = with_rule (with_rule (new_app (codes "lrat")) (operand (codes "cnf"))) (operand (codes "proof"))
+
+-- the words behind the program's name, of which the first has to be a subcommand
+abbrev pub top : Shape
+top = record (new_app (codes "rvf")).top { no_binary_name = true; subcommand_required = true }
+
+abbrev pub program : App
+program =
+    with_subcommand (with_subcommand (with_subcommand (record { top = top; subs = [] }) run.top) list.top) lrat.top

@@ -1,0 +1,9 @@
+//! The words of the command line: which subcommand they ask for, with its values.
+#![tactic(auto)]
+
+mod command;
+mod line;
+mod read;
+
+pub use line::Line;
+pub use read::read_words;

@@ -1,0 +1,31 @@
+use fv_base::Text;
+
+/// What the words of a command line ask for.
+#[derive(Debug, Drop)]
+pub enum Line {
+    /// `run CFG OUTDIR`: the checks of a configuration, with their certificates in a folder.
+    Run {
+        /// The file of the configuration.
+        cfg: Text,
+        /// The folder that the certificates are written to.
+        outdir: Text,
+        /// The name of the core, which `@core@` stands for in the configuration.
+        core: Text,
+        /// The folder that `@basedir@` stands for in the configuration.
+        basedir: Text,
+        /// How many clauses each check may derive, from 1 to 1,000,000,000.
+        budget: u64,
+    },
+    /// `list CFG`: the names of the checks of a configuration.
+    List {
+        /// The file of the configuration.
+        cfg: Text,
+    },
+    /// `lrat CNF PROOF`: whether the steps of a proof refute the clauses of a file.
+    Lrat {
+        /// The file of the clauses, in DIMACS.
+        cnf: Text,
+        /// The file of the steps, in LRAT.
+        proof: Text,
+    },
+}

@@ -1,0 +1,140 @@
+//! Words read as what they ask for.
+ghost use Rattle.std.specs.Prelude.{◌≡◌, None, IfOk, map, string_bytes, codes, option_and_then, option_map};
+ghost use Rattle.clap.specs.Words.{found_of, kind_of, subcommand_rows_of};
+ghost use Rattle.clap.specs.Walk.{first_of, rows_of};
+ghost use Rattle.rvf_words.specs.Line as line;
+
+use crate::command::program;
+use crate::line::Line;
+use clap::error::ErrorKind;
+use clap::{ArgMatches, Error};
+use fv_base::{Memory, Text};
+use fv_lines::number_up_to;
+use std::alloc::Global;
+
+/// The most clauses that a check may be allowed to derive.
+const MOST: u64 = 1_000_000_000;
+
+/// An argument's value, where it has one.
+fn value_of<'a>(matches: &ArgMatches<'a>, id: &str) -> Option<&'a str>
+    ensures { option_map (λ s. s.now) result ≡ first_of id.now (rows_of (found_of matches.now)) }
+{
+    matches.get_str(id)
+}
+
+/// A copy of a value, where there is one.
+fn copied(alloc: Global, value: Option<&str>) -> Result<Option<Text>, Memory>
+    ensures { IfOk result (λ text. text ≡ option_map (λ s. s.now) value.entry) }
+{
+    match value {
+        Some(value) => {
+            let text = Text::from_bytes(alloc, value.as_bytes())?;
+            Ok(Some(text))
+        }
+        None => Ok(None),
+    }
+}
+
+/// A copy of an argument's value, where it has one.
+fn text_of(alloc: Global, matches: &ArgMatches<'_>, id: &str) -> Result<Option<Text>, Memory>
+    ensures { IfOk result (λ text. text ≡ first_of id.now (rows_of (found_of matches.now))) }
+{
+    let found = copied(alloc, value_of(matches, id))?;
+    Ok(found)
+}
+
+/// The number of one to ten digits, where it is in the range of budgets.
+fn budget_of(digits: &str) -> Option<u64>
+    ensures { result ≡ line.budget_of digits.now }
+{
+    let bytes = digits.as_bytes();
+    if bytes.len() > 10 {
+        return None;
+    }
+    let number = number_up_to(bytes, MOST)?;
+    if number == 0 { None } else { Some(number) }
+}
+
+fn run_line(alloc: Global, matches: &ArgMatches<'_>) -> Result<Option<Line>, Memory>
+    ensures { IfOk result (λ made. made ≡ line.run_line (rows_of (found_of matches.now))) }
+{
+    let Some(cfg) = text_of(alloc, matches, "cfg")? else {
+        return Ok(None)
+    };
+    let Some(outdir) = text_of(alloc, matches, "outdir")? else {
+        return Ok(None)
+    };
+    let Some(core) = text_of(alloc, matches, "core")? else {
+        return Ok(None)
+    };
+    let Some(basedir) = text_of(alloc, matches, "basedir")? else {
+        return Ok(None)
+    };
+    let Some(digits) = value_of(matches, "budget") else {
+        return Ok(None)
+    };
+    let Some(budget) = budget_of(digits) else {
+        return Ok(None)
+    };
+    Ok(Some(Line::Run {
+        cfg,
+        outdir,
+        core,
+        basedir,
+        budget,
+    }))
+}
+
+fn list_line(alloc: Global, matches: &ArgMatches<'_>) -> Result<Option<Line>, Memory>
+    ensures { IfOk result (λ made. made ≡ line.list_line (rows_of (found_of matches.now))) }
+{
+    let Some(cfg) = text_of(alloc, matches, "cfg")? else {
+        return Ok(None)
+    };
+    Ok(Some(Line::List { cfg }))
+}
+
+fn lrat_line(alloc: Global, matches: &ArgMatches<'_>) -> Result<Option<Line>, Memory>
+    ensures { IfOk result (λ made. made ≡ line.lrat_line (rows_of (found_of matches.now))) }
+{
+    let Some(cnf) = text_of(alloc, matches, "cnf")? else {
+        return Ok(None)
+    };
+    let Some(proof) = text_of(alloc, matches, "proof")? else {
+        return Ok(None)
+    };
+    Ok(Some(Line::Lrat { cnf, proof }))
+}
+
+fn asked(alloc: Global, matches: &ArgMatches<'_>) -> Result<Option<Line>, Memory>
+    ensures { IfOk result (λ made. made
+        ≡ option_and_then (λ used. line.asked used.0 used.1) (subcommand_rows_of matches.now)) }
+{
+    match matches.subcommand() {
+        Some((name, found)) if name == "run" => run_line(alloc, found),
+        Some((name, found)) if name == "list" => list_line(alloc, found),
+        Some((name, found)) if name == "lrat" => lrat_line(alloc, found),
+        _ => Ok(None),
+    }
+}
+
+/// What comes of an error of `clap`: want of memory stays, and any other cause means that the words ask for nothing.
+fn refused(fault: &Error) -> Result<Option<Line>, Memory>
+    ensures { IfOk result (λ made. (made ≡ None) × (kind_of fault.now ≡ ErrorKind.OutOfMemory → ⊥)) }
+{
+    if fault.kind() == ErrorKind::OutOfMemory {
+        Err(Memory)
+    } else {
+        Ok(None)
+    }
+}
+
+/// The words behind the program's name, read; None exactly where they are refused.
+pub fn read_words(alloc: Global, words: &[String]) -> Result<Option<Line>, Memory>
+    ensures { IfOk result (λ made. made ≡ line.line_of (map string_bytes words.now)) }
+{
+    match program(alloc)?.try_get_matches_from(words) {
+        Ok(matches) => asked(alloc, &matches),
+        Err(fault) => refused(&fault),
+    }
+}
