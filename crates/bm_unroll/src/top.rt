@@ -12,6 +12,7 @@ use crate::starts::starts;
 use bm_walk::{Walked, walk_cycles};
 use fv_base::{List, Memory};
 use std::alloc::Global;
+use wn_early::early;
 use wn_net::{Net, NodeId};
 
 /// The frames that were drafted, with these roots and watched nodes.
@@ -64,7 +65,18 @@ pub fn unroll(
     let start = starts(alloc, &mut draft, net)?;
     let rows = input_rows(alloc, &mut draft, net, cycle)?;
     let rows = rows.as_slice();
-    let walked = walk_cycles(alloc, &mut draft.net, net, rows, cycle, start, bad, watch)?;
+    let part = early(net)?;
+    let walked = walk_cycles(
+        alloc,
+        &mut draft.net,
+        net,
+        &part,
+        rows,
+        cycle,
+        start,
+        bad,
+        watch,
+    )?;
     let frames = framed(draft, walked);
     Ok(frames)
 }
