@@ -1,0 +1,15 @@
+use Rattle.std.proofs.Common.{List, drop}
+use Rattle.vl_tree.specs.Lval.{lvals}
+use Rattle.vl_path.specs.Paths.{targets_read}
+use Rattle.flow_cells.specs.declared.cell_run.CellRun.{CellRun}
+use Rattle.flow_cells.specs.Numbered.{Adds}
+use Rattle.flow_uses.specs.Sized.{TargetsAreSized}
+use Rattle.flow_uses.proofs.targets.+indices.Given as goal
+
+abbrev pub invariant-loop-part : goal.invariant-loop-part
+invariant-loop-part l = record {
+  left : TargetsAreSized l.decls (lvals l.part-items) → TargetsAreSized l.decls (lvals (drop l.part-index l.part-items));
+  added : TargetsAreSized l.decls (lvals l.part-items) → (zs : List CellRun)
+      → Adds l.decls l.into.items zs (targets_read l.decls (lvals (drop l.part-index l.part-items)))
+      → Adds l.decls l.initial.into.items zs (targets_read l.decls (lvals l.part-items));
+}
