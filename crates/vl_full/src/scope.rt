@@ -1,0 +1,115 @@
+//! One scope, with the names that it declares.
+ghost use Rattle.std.specs.Prelude.{◌≡◌, ◌++◌, ◌∷◌, [], false, None, OnOk, OnErr, bytes_eq};
+ghost use Rattle.std.specs.Option.{option_copied};
+ghost use Rattle.std.specs.Map.{lookup};
+ghost use Rattle.vl_size.specs.Table.{declared_as, is_declared, IsPlain, IsShaped};
+ghost use Rattle.vl_mean.specs.Constants.{constant_of};
+ghost use Rattle.vl_full.specs.Kept as spec;
+
+use fv_base::{Memory, Text};
+use indexmap::IndexMap;
+use std::alloc::Global;
+use std::marker::Model;
+use vl_mean::Const;
+use vl_size::{Decl, Decls};
+
+/// A module's instance, a generate block or a turn of a generate loop: its path, and its declarations and constants in
+/// order. No bracket stands in a declared name.
+#[derive(Drop)]
+pub struct Scope {
+    path: Text,
+    decls: Decls,
+    constants: IndexMap<Vec<u8>, Const>,
+}
+
+impl Model for Scope {
+    ghost use Rattle.std.specs.Prelude.{All};
+    ghost use Rattle.vl_size.specs.Table.{IsPlain};
+    ghost use Rattle.vl_mean.specs.Scopes as scopes;
+    ghost use Rattle.vl_full.specs.Kept.{constants_of};
+
+    ghost Value = { scopes.Scope };
+
+    ghost view = { λ s. record {
+      path = s.path;
+      decls = s.decls;
+      constants = constants_of s.constants.entries;
+    } };
+
+    ghost invariant = { λ s. All IsPlain s.decls };
+}
+
+impl Scope {
+    /// A scope that declares nothing. A path ends with a dot; that of the top module is empty.
+    pub fn new(alloc: Global, path: Text) -> Scope
+        ensures { result ≡ spec.empty_scope path }
+    {
+        Scope {
+            path,
+            decls: Decls::new(alloc),
+            constants: IndexMap::new(alloc),
+        }
+    }
+
+    pub fn path(&self) -> &Text
+        ensures { result.now ≡ self.now.path }
+    {
+        &self.path
+    }
+
+    /// None exactly where the scope has no constant of the name.
+    pub fn constant(&self, name: &Text) -> Option<&Const>
+        ensures { option_copied result ≡ constant_of self.now.constants name.now }
+    {
+        self.constants.get(name.bytes())
+    }
+
+    /// None exactly where the scope has no net and no variable of the name.
+    pub fn declared(&self, name: &Text) -> Option<&Decl>
+        ensures { option_copied result ≡ declared_as self.now.decls name.now }
+    {
+        self.decls.named(name)
+    }
+
+    /// Whether the scope has a net or a variable of the name.
+    pub fn is_declared(&self, name: &Text) -> bool
+        ensures { result ≡ is_declared self.now.decls name.now }
+    {
+        self.decls.is_declared(name)
+    }
+
+    /// Adds a constant behind the others. Where no memory is left nothing is added.
+    pub fn add_constant(&mut self, name: Text, value: Const) -> Result<(), Memory>
+        requires { constant_of self.old.constants name ≡ None }
+        ensures ok { OnOk result (self.new ≡ spec.with_constant self.old name value) }
+        ensures err { OnErr result (self.new ≡ self.old) }
+    {
+        put(&mut self.constants, name.into_vec(), value)
+    }
+
+    /// Adds a net or a variable behind the others. Where no memory is left it is dropped; so many that a table has no
+    /// place for one more don't stand in memory.
+    #[tactic(auto, using(vl_size::proofs::Plain::plain_names))]
+    pub fn declare(&mut self, decl: Decl) -> Result<(), Memory>
+        requires fresh { is_declared self.old.decls decl.name ≡ false }
+        requires plain { IsPlain decl }
+        requires shaped { IsShaped decl }
+        ensures ok { OnOk result (self.new ≡ spec.with_decl self.old decl) }
+        ensures err { OnErr result (self.new ≡ self.old) }
+    {
+        if self.decls.len() >= 4_294_967_295 {
+            return Err(Memory);
+        }
+        self.decls.push(decl)
+    }
+}
+
+/// A new key goes behind the others.
+fn put(map: &mut IndexMap<Vec<u8>, Const>, key: Vec<u8>, value: Const) -> Result<(), Memory>
+    requires { lookup (λ k. bytes_eq key.items k.items) map.old.entries ≡ None }
+    ensures ok { OnOk result (map.new.entries ≡ map.old.entries ++ (key, value) ∷ []) }
+    ensures err { OnErr result (map.new.entries ≡ map.old.entries) }
+{
+    map.insert(key, value)?;
+    Ok(())
+}
