@@ -1,0 +1,4 @@
+pub mod Fixed
+pub mod Tests
+pub mod Parts
+pub mod Sizes
