@@ -1,7 +1,7 @@
 -- Bits of a vector that was moved by an address.
 use Rattle.std.specs.Prelude.{◌≡◌, refl, ℕ, zero, suc, ◌+◌, ◌*◌, ◌/◌, ◌%◌, ◌^◌, ◌<◌, ◌≤◌, Bool, true, false}
 use Rattle.std.specs.Prelude.{not, nat_lt, MatchBool}
-use Rattle.std.specs.Prelude.{bit_or, ℤ, pos, negsuc, ◌+ℤ◌}
+use Rattle.std.specs.Prelude.{bit_or, ℤ, pos, negsuc, ◌+ℤ◌, ◌-ℤ◌}
 use lib.Bits.{or_zero_r, or_zero_l, or_self}
 use Rattle.std.proofs.Common.{ap, sym, ◌∙◌, arith, subst}
 use Rattle.std.proofs.Math.Pow.{pow_mono}
@@ -83,6 +83,18 @@ both_are c w x n m (pos zero) (negsuc j) fits few short e up down = absurd (omeg
 both_are c w x n m (pos (suc k)) (pos j) fits few short e up down = absurd (omega (arith, ints, e))
 both_are c w x n m (negsuc k) (pos zero) fits few short e up down = absurd (omega (arith, ints, e))
 both_are c w x n m (negsuc k) (negsuc j) fits few short e up down = absurd (omega (arith, ints, e))
+
+-- the bits are those of the vector
+pub within_is : (c w x k : ℕ) (p : ℤ) → p ≡ pos k → x < 2 ^ w → part k c x ≡ bits_from c w x p
+within_is c w x k p e fits =
+    ap (λ y. y / 2 ^ k % 2 ^ c) (sym (mod-eq_of_lt fits)) ∙ sym (bits_up c w x k) ∙ ap (bits_from c w x) (sym e)
+
+-- a place that doesn't vary
+pub fixed_is : (c w x n m : ℕ) (p : ℤ) → x < 2 ^ w → w ≤ 128 → c ≤ 128 → IsAddress n p → IsAddress m (pos 0 -ℤ p)
+    → bit_or (extended w c false (shifted_right x n)) (shifted_left c (extended w c false x) m) ≡ bits_from c w x p
+fixed_is c w x n m p fits few short up down =
+    ap (bit_or (x / 2 ^ n % 2 ^ c)) (cut_first c x m)
+    ∙ both_are c w x n m p (pos 0 -ℤ p) fits few short (omega (arith, ints)) up down
 
 pub part_is : (c w x n m : ℕ) (along : Bool) (base i : ℤ) → x < 2 ^ w → w ≤ 128 → c ≤ 128 → IsAddress n (distance along base i)
     → IsAddress m (distance (not along) base i)

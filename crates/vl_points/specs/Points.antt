@@ -18,3 +18,7 @@ IsAddress n (negsuc k) = past ≤ n
 -- bounds have 32 signed bits, and a part 128 at most
 abbrev pub is_base : ℤ → Bool
 is_base i = int_lt (negsuc (3 * 2 ^ 30)) i && int_lt i (pos (3 * 2 ^ 30))
+
+-- no index of 32 signed bits is further from a bound of as many
+abbrev pub is_place : ℤ → Bool
+is_place p = int_lt (negsuc (2 ^ 33)) p && int_lt p (pos (2 ^ 33))

@@ -1,17 +1,17 @@
 //! Bits and parts of a vector at an index that may vary.
 #![tactic(auto, using(wn_net::proofs::Laws::additions))]
 
-ghost use Rattle.std.specs.Prelude.{◌≡◌, ◌≤◌, ◌-◌, true, false, ℤ, pos, ◌-ℤ◌, bit_or, IfOk};
+ghost use Rattle.std.specs.Prelude.{◌≡◌, ◌≤◌, ◌<◌, ◌-◌, ◌^◌, true, false, ℤ, pos, ◌-ℤ◌, ◌+◌, bit_or, IfSome, IfOk};
 ghost use Rattle.fv_bits.specs.Bits.{as_int, extended, shifted_left, shifted_right};
 ghost use Rattle.vl_size.specs.Size as spec;
 ghost use Rattle.vl_size.specs.Size.{is_bound};
 ghost use Rattle.wn_net.specs.Net.{IsNode, IsNodeOf, width_at, value_at};
 ghost use Rattle.wn_net.specs.Changes.{AddsNodes, Shows};
-ghost use Rattle.vl_points.specs.Points.{distance, is_base};
+ghost use Rattle.vl_points.specs.Points.{IsAddress, distance, is_base, is_place};
 
 use crate::place::address;
 use fv_base::Memory;
-use vl_nodes::fit;
+use vl_nodes::{fit, number};
 use vl_size::Decl;
 use wn_net::{Net, NodeId};
 
@@ -135,4 +135,64 @@ fn moved(
     let high = net.shl(cut, down)?;
     let both = net.or(low, high)?;
     Ok(both)
+}
+
+/// A place as an address: a number past all places where it is below 0.
+fn address_of(place: i64) -> u128
+    requires { is_place place ≡ true }
+    ensures address { IsAddress result place }
+    ensures fits { result < 2 ^ 34 }
+{
+    if place < 0 {
+        (1 << 34) - 1
+    } else {
+        u128::from(place.unsigned_abs())
+    }
+}
+
+/// The same of what is left to 0.
+fn address_below(place: i64) -> u128
+    requires { is_place place ≡ true }
+    ensures address { IsAddress result (pos 0 -ℤ place) }
+    ensures fits { result < 2 ^ 34 }
+{
+    if place > 0 {
+        (1 << 34) - 1
+    } else {
+        u128::from(place.unsigned_abs())
+    }
+}
+
+/// The place as a number, where so many bits from there on are of the vector.
+fn place_within(place: i64, count: u32, width: u32) -> Option<u32>
+    requires place { is_place place ≡ true }
+    requires count { count ≤ 128 }
+    requires width { width ≤ 128 }
+    ensures { IfSome result (λ k. (place ≡ pos k) × (k + count ≤ width)) }
+{
+    if place < 0 || place + i64::from(count) > i64::from(width) {
+        return None;
+    }
+    Some(place.unsigned_abs() as u32)
+}
+
+/// So many bits of a vector from a place on, counted from its lowest bit; those past the vector are 0 (section 4.2.1).
+pub fn part_from(net: &mut Net, vector: NodeId, place: i64, count: u32) -> Result<NodeId, Memory>
+    requires vector { IsNode net.old vector }
+    requires some { 1 ≤ count }
+    requires few { count ≤ 128 }
+    requires place { is_place place ≡ true }
+    ensures adds { AddsNodes net.old net.new }
+    ensures shows { IfOk result (Shows net.old net.new count
+        (λ g. spec.bits_from count (width_at net.old vector) (value_at net.old g vector) place)) }
+{
+    let width = net.width(vector);
+    if let Some(low) = place_within(place, count, width) {
+        let part = net.slice(vector, low, count)?;
+        return Ok(part);
+    }
+    let up = number(net, 34, address_of(place))?;
+    let down = number(net, 34, address_below(place))?;
+    let part = moved(net, vector, up, down, count)?;
+    Ok(part)
 }
