@@ -1,0 +1,11 @@
+use Rattle.std.proofs.Common.{◌≡◌, ℕ, List}
+use Rattle.std.specs.Prelude.{drop}
+use Rattle.vl_scope.specs.Texts.{or_else}
+use Rattle.vl_number.specs.Given.{value_given, first_value}
+use Rattle.vl_number.proofs.given.all_written.Given as goal
+
+abbrev pub invariant-loop-written : goal.invariant-loop-written
+invariant-loop-written l =
+    (other : List ℕ)
+    → or_else (value_given l.given other) (first_value l.numbers (drop l.written-index l.all) other)
+    ≡ first_value l.numbers l.all other

@@ -1,0 +1,89 @@
+//! What an instance gives to the parameters of its module.
+ghost use Rattle.std.specs.Prelude.{◌≡◌, ℕ, List, None, IfOk, OnOk, OnErr};
+ghost use Rattle.std.specs.Option.{option_copied};
+ghost use Rattle.vl_mean.specs.Scopes.{Scope};
+ghost use Rattle.vl_mean.specs.Walk.{overrides_of};
+ghost use Rattle.vl_scope.specs.Texts.{or_else};
+ghost use Rattle.vl_number.specs.Given as spec;
+ghost use Rattle.vl_number.specs.Numbers.{HaveNumbers};
+
+use fv_base::{Memory, Text};
+use indexmap::IndexMap;
+use std::alloc::Global;
+use vl_scope::{Names, known_expr};
+use vl_tree::{Connection, Expr};
+
+/// Parameters with the values that they are given, without names, seen as a map: `value_given` of specs/Given.
+#[derive(Drop)]
+pub struct Given {
+    map: IndexMap<Vec<u8>, Expr>,
+}
+
+impl Given {
+    /// None is given anything.
+    pub fn new(alloc: Global) -> Given
+        ensures { (name : List ℕ) → spec.value_given result name ≡ None }
+    {
+        Given {
+            map: IndexMap::new(alloc),
+        }
+    }
+
+    /// None exactly where the name is given nothing.
+    pub fn get(&self, name: &Text) -> Option<&Expr>
+        ensures { option_copied result ≡ spec.value_given self.now name.now }
+    {
+        self.map.get(name.bytes())
+    }
+
+    /// Of two values of a name the first counts.
+    fn add(&mut self, name: Text, value: Expr) -> Result<(), Memory>
+        ensures { OnOk result ((other : List ℕ) → spec.value_given self.new other
+            ≡ or_else (spec.value_given self.old other) (spec.named_value name value other)) }
+    {
+        if self.map.get(name.bytes()).is_some() {
+            return Ok(());
+        }
+        self.map.insert(name.into_vec(), value)?;
+        Ok(())
+    }
+}
+
+fn add_written(
+    alloc: Global,
+    written: &Connection,
+    numbers: &Names,
+    given: &mut Given,
+) -> Result<(), Memory>
+    ensures { OnOk result ((other : List ℕ) → spec.value_given given.new other
+        ≡ or_else (spec.value_given given.old other)
+        (spec.written_value numbers.now written.now.port written.now.value other)) }
+{
+    match &written.value {
+        None => Ok(()),
+        Some(value) => {
+            let value = known_expr(alloc, value, numbers)?;
+            given.add(written.port.copied(alloc)?, value)
+        }
+    }
+}
+
+fn all_written(alloc: Global, all: &[Connection], numbers: &Names) -> Result<Given, Memory>
+    ensures { IfOk result (λ given. (name : List ℕ) → spec.value_given given name
+        ≡ spec.first_value numbers.now all.now name) }
+{
+    let mut given = Given::new(alloc);
+    for written in all {
+        add_written(alloc, written, numbers, &mut given)?;
+    }
+    Ok(given)
+}
+
+/// What an instance gives to the parameters of its module, where constants have these numbers. Of two with one name the
+/// first counts; `.P()` gives none.
+pub fn given_by(alloc: Global, all: &[Connection], numbers: &Names) -> Result<Given, Memory>
+    ensures { IfOk result (λ given. (ss : List Scope) → HaveNumbers numbers.now ss
+        → spec.IsGiven (spec.value_given given) (overrides_of ss all.now)) }
+{
+    all_written(alloc, all, numbers)
+}

@@ -1,0 +1,107 @@
+//! Numbers of expressions over constants, refused or not.
+ghost use Rattle.std.specs.Prelude.{◌≡◌, ◌≤◌, ◌%◌, ◌^◌, [], max, true, IfOk};
+ghost use Rattle.fv_bits.specs.Bits.{as_int};
+ghost use Rattle.vl_size.specs.Sign.{sign};
+ghost use Rattle.vl_size.specs.Size as size_spec;
+ghost use Rattle.vl_mean.specs.Constants as constants_spec;
+ghost use Rattle.vl_mean.specs.Env.{cells_of};
+ghost use Rattle.vl_refusal.specs.Meanings.{bound, constants};
+ghost use Rattle.vl_number.specs.Numbers as spec;
+
+use fv_base::Memory;
+use fv_bits::low;
+use std::alloc::Global;
+use vl_mean::{Const, Env, value};
+use vl_scope::{Names, known_expr};
+use vl_size::{Decls, Own, self_size, sign_of};
+use vl_tree::Expr;
+
+/// Without a size it has none, and the number 0.
+fn size_or_none(expr: &Expr, env: &Env) -> u32
+    ensures size { result ≡ size_spec.or_none (size_spec.size env.now.decls expr.now) }
+    ensures few { result ≤ 128 }
+{
+    match self_size(expr, env.decls()) {
+        None => 0,
+        Some(size) => size,
+    }
+}
+
+/// In a context of so many bits, or in its own where that is larger.
+pub(crate) fn number_at(expr: &Expr, least: u32, env: &Env) -> u128
+    requires { least ≤ 128 }
+    ensures { let x = size_spec.operand_of env.now.decls (cells_of env.now) expr.now in
+        result ≡ x.at (max least x.size) x.sign }
+{
+    let size = size_or_none(expr, env);
+    value(expr, size.max(least), sign_of(expr, env.decls()), env)
+}
+
+/// In its own context.
+pub(crate) fn own_number(expr: &Expr, env: &Env) -> Own
+    ensures width { result.width ≡ size_spec.or_none (size_spec.size env.now.decls expr.now) }
+    ensures signed { result.signed ≡ sign env.now.decls expr.now }
+    ensures number { result.number ≡ size_spec.own (size_spec.operand_of env.now.decls (cells_of env.now) expr.now) }
+{
+    let width = size_or_none(expr, env);
+    let signed = sign_of(expr, env.decls());
+    Own {
+        width,
+        signed,
+        number: value(expr, width, signed, env),
+    }
+}
+
+/// No names.
+pub(crate) fn no_names(alloc: Global) -> Env
+    ensures decls { result.decls ≡ [] }
+    ensures numbers { cells_of result ≡ size_spec.no_names }
+{
+    Env::new(alloc, Decls::new(alloc))
+}
+
+/// A bound of a range.
+pub(crate) fn bound_in(alloc: Global, expr: &Expr, numbers: &Names) -> Result<Own, Memory>
+    ensures { IfOk result (λ own. as_int own.width own.signed own.number ≡ bound numbers.now expr.now) }
+{
+    let expr = known_expr(alloc, expr, numbers)?;
+    Ok(own_number(&expr, &no_names(alloc)))
+}
+
+/// The same of an expression over constants.
+fn number_in(alloc: Global, expr: &Expr, least: u32, numbers: &Names) -> Result<u128, Memory>
+    requires { least ≤ 128 }
+    ensures { IfOk result (λ n. let x = constants_spec.constant_operand (constants numbers.now) expr.now in
+        n ≡ x.at (max least x.size) x.sign) }
+{
+    let expr = known_expr(alloc, expr, numbers)?;
+    Ok(number_at(&expr, least, &no_names(alloc)))
+}
+
+/// Whether the expression isn't 0, with the numbers that constants have by the definitions, refused or not.
+pub fn is_true_in(alloc: Global, expr: &Expr, numbers: &Names) -> Result<bool, Memory>
+    ensures { IfOk result (λ b. b ≡ spec.holds numbers.now expr.now) }
+{
+    let number = number_in(alloc, expr, 0, numbers)?;
+    Ok(number != 0)
+}
+
+/// A number with 32 signed bits.
+fn genvar_const(number: u128) -> Const
+    ensures { result ≡ constants_spec.cut_to 32 true number }
+{
+    Const {
+        width: 32,
+        signed: true,
+        value: low(32, number),
+    }
+}
+
+/// The value that a genvar has once the expression is assigned to it: at 32 bits at least, and then cut to 32 signed
+/// bits.
+pub fn genvar_value(alloc: Global, expr: &Expr, numbers: &Names) -> Result<Const, Memory>
+    ensures { IfOk result (λ c. c ≡ spec.genvar_number numbers.now expr.now) }
+{
+    let number = number_in(alloc, expr, 32, numbers)?;
+    Ok(genvar_const(number))
+}
