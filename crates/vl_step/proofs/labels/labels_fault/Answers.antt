@@ -1,0 +1,16 @@
+use Rattle.std.proofs.Common.{ap, ◌∙◌, ◌≡◌, List, ℕ}
+use Rattle.std.proofs.lemmas.Result.{IfOk-weaker}
+use Rattle.vl_refusal.specs.Items.{labels_twice, placed_labels}
+use Rattle.vl_refusal.specs.Refused.{lowest}
+use Rattle.name_set.specs.Known.{AreNames, contains}
+use Rattle.vl_step.specs.Parts.{labels_by}
+use Rattle.vl_step.proofs.LabelLemmas.{same_labels}
+use Rattle.vl_step.proofs.labels.labels_fault.Goals as goal
+
+pub returns : goal.returns
+returns c =
+    let g = contains c.args.earlier.now in
+    let xs = placed_labels c.args.item.now in
+    IfOk-weaker c.item_labels.result (λ f. f ≡ lowest (labels_by g xs))
+    (λ f. (names : List (List ℕ)) → AreNames c.args.earlier.now names → f ≡ lowest (labels_twice names xs))
+    (λ f h names k. h ∙ ap lowest (same_labels g names k xs)) c.item_labels.ensures
