@@ -1,0 +1,4 @@
+pub mod Entries
+pub mod Level
+pub mod Laid
+pub mod Walked

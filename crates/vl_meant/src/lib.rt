@@ -1,0 +1,4 @@
+//! That names mean what they stand for: laws of the definitions, without code.
+#![tactic(auto)]
+
+pub mod law;
