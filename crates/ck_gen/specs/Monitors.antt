@@ -3,6 +3,7 @@ use Rattle.std.specs.Prelude.{◌≡◌, ℕ, ◌≤◌, Bool, true, false, not,
 use Rattle.fv_bits.specs.Bits.{bit}
 use Rattle.rv_table.specs.declared.retire.Retire.{Retire}
 use Rattle.rv_table.specs.declared.retire.Opts.{Opts}
+use Rattle.rv_table.specs.declared.row.RowId.{RowId}
 use Rattle.wn_net.specs.Value.{Given}
 use Rattle.wn_net.specs.Net.{Netlist, IsNodeOf, value_at}
 use Rattle.wn_net.specs.Given.{IsGiven}
@@ -14,7 +15,7 @@ use Rattle.ck_cfg.specs.declared.check.Check.{Check}
 use Rattle.ck_cfg.specs.declared.kind.CheckKind.{CheckKind}
 use Rattle.ck_cfg.specs.declared.kind.CheckKind.TheVariants as kinds
 use Rattle.ck_props.specs.declared.retired.Probe.{Probe}
-use Rattle.ck_props.specs.Properties.{property, traps_zeros, has_probed_halves}
+use Rattle.ck_props.specs.Properties.{property, does_as_row, traps_zeros, has_probed_halves}
 use Rattle.wn_truth.specs.Truths.{is_one}
 use Rattle.ck_lines.specs.Entries.{Entry, Show}
 use Rattle.ck_lines.specs.Lines.{AddsKnown}
@@ -58,19 +59,16 @@ NeedsNoRegisters false old new port check opts id = Unit {0}
 
 -- it is about one retirement alone, and this is what it asks of it
 abbrev pub LooksAtOne : CheckKind → Type 0
+LooksAtOne kinds.Insn = Unit {0}
 LooksAtOne kinds.Ill = Unit {0}
 LooksAtOne kinds.Imem = Unit {0}
 LooksAtOne other = ⊥
 
-abbrev pub holds_alone : Probe → Retire → CheckKind → Bool
-holds_alone probe r kinds.Ill = traps_zeros r
-holds_alone probe r kinds.Imem = has_probed_halves probe r
-holds_alone probe r other = true
-
--- there is a monitor for a check of this kind; of insn there is none yet
-abbrev pub IsWatched : CheckKind → Type 0
-IsWatched kinds.Insn = ⊥
-IsWatched other = Unit {0}
+abbrev pub holds_alone : Option RowId → Opts → Probe → Retire → CheckKind → Bool
+holds_alone row opts probe r kinds.Insn = does_as_row row opts r
+holds_alone row opts probe r kinds.Ill = traps_zeros r
+holds_alone row opts probe r kinds.Imem = has_probed_halves probe r
+holds_alone row opts probe r other = true
 
 -- there is a probe
 abbrev pub IsThere : {A : Type 0} → Option A → Type 0

@@ -1,5 +1,5 @@
 //! Properties of one retirement alone.
-ghost use Rattle.std.specs.Prelude.{◌≡◌, ◌==◌, ◌+◌, ◌/◌, ◌%◌, ◌^◌, ◌&&◌, IfOk};
+ghost use Rattle.std.specs.Prelude.{◌≡◌, ◌==◌, ◌+◌, ◌/◌, ◌%◌, ◌^◌, ◌&&◌, Some, IfOk};
 ghost use Rattle.wn_net.specs.Net.{IsNodeOf, value_at};
 ghost use Rattle.wn_net.specs.Changes.{AddsNodes};
 ghost use Rattle.wn_truth.specs.Truths.{Tells, is_one};
@@ -10,8 +10,12 @@ ghost use Rattle.ck_past.specs.Retirements.{imem_addr_at, imem_data_at};
 ghost use Rattle.ck_gen.specs.Monitors as monitors;
 ghost use Rattle.ck_gen.specs.Monitors.{probe_of};
 
-use ck_cfg::CheckKind;
+use ck_cfg::{Check, CheckKind};
 use fv_base::{Memory, Word};
+use rv_agree::agreement;
+use rv_circ::circuit;
+use rv_table::{Opts, RowId};
+use rv_words::bit;
 use rvfi_port::Channel;
 use wn_net::{Net, NodeId};
 use wn_truth::{both, either, is_number, is_same, turned};
@@ -27,6 +31,37 @@ fn implied(net: &mut Net, a: NodeId, b: NodeId) -> Result<NodeId, Memory>
     let other = turned(net, a)?;
     let id = either(net, other, b)?;
     Ok(id)
+}
+
+/// Whether the word, where it is one of the row, does what the row does.
+fn does_as(net: &mut Net, channel: &Channel, row: RowId, opts: Opts) -> Result<NodeId, Memory>
+    requires { AreChannelNodes net.old channel.now }
+    ensures adds { AddsNodes net.old net.new }
+    ensures tells { IfOk result (Tells net.old net.new
+        (λ g. properties.does_as_row (Some row) opts (retire_at net.old g channel.now))) }
+{
+    let effect = circuit(net, channel, row, opts)?;
+    let agrees = agreement(net, channel, &effect)?;
+    let id = implied(net, effect.hit, agrees)?;
+    Ok(id)
+}
+
+/// The same of a check's row; where it has none, nothing is asked.
+fn does_as_row(
+    net: &mut Net,
+    channel: &Channel,
+    row: Option<RowId>,
+    opts: Opts,
+) -> Result<NodeId, Memory>
+    requires { AreChannelNodes net.old channel.now }
+    ensures adds { AddsNodes net.old net.new }
+    ensures tells { IfOk result (Tells net.old net.new
+        (λ g. properties.does_as_row row opts (retire_at net.old g channel.now))) }
+{
+    match row {
+        Some(row) => does_as(net, channel, row, opts),
+        None => bit(net, true),
+    }
 }
 
 /// Whether the lower half of a word is 0.
@@ -184,22 +219,24 @@ pub(crate) fn has_probed_halves(
     Ok(id)
 }
 
-/// Whether the retirement in a channel holds what a check of the kind asks of it alone.
+/// Whether the retirement in a channel holds what the check asks of it alone.
 pub(crate) fn holds_alone(
     net: &mut Net,
-    kind: CheckKind,
+    check: &Check,
     channel: &Channel,
     imem: Option<(NodeId, NodeId)>,
+    opts: Opts,
 ) -> Result<NodeId, Memory>
-    requires kind { monitors.LooksAtOne kind }
+    requires kind { monitors.LooksAtOne check.now.kind }
     requires channel { AreChannelNodes net.old channel.now }
     requires imem { AreImemNodes net.old imem }
     ensures adds { AddsNodes net.old net.new }
-    ensures tells { IfOk result (Tells net.old net.new (λ g. monitors.holds_alone
+    ensures tells { IfOk result (Tells net.old net.new (λ g. monitors.holds_alone check.now.row opts
         (probe_of (imem_addr_at net.old g imem) (imem_data_at net.old g imem)) (retire_at net.old g channel.now)
-        kind)) }
+        check.now.kind)) }
 {
-    match kind {
+    match check.kind {
+        CheckKind::Insn => does_as_row(net, channel, check.row, opts),
         CheckKind::Ill => traps_zeros(net, channel),
         _ => match imem {
             Some(probe) => has_probed_halves(net, channel, probe),

@@ -101,19 +101,18 @@ fn turn_around(alloc: Global, net: &mut Net, port: &Port, check: &Check) -> Resu
 }
 
 /// The monitor of a check that looks at one retirement alone.
-fn look_once(net: &mut Net, port: &Port, check: &Check) -> Result<NodeId, Memory>
+fn look_once(net: &mut Net, port: &Port, check: &Check, opts: Opts) -> Result<NodeId, Memory>
     requires kind { monitors.LooksAtOne check.now.kind }
     requires port { ArePortNodes net.old port.now }
     requires check { IsCheck (length port.now.channels) check.now }
     ensures adds { AddsNodes net.old net.new }
     ensures there { IfOk result (IsNodeOf net.new 1) }
-    ensures fails { IfOk result (λ id. (opts : Opts) → monitors.IsMonitor net.new port.now check.now opts id) }
-    ensures each { IfOk result (λ id. (opts : Opts)
-        → monitors.IsMonitorOfEachCycle net.new port.now check.now opts id) }
+    ensures fails { IfOk result (monitors.IsMonitor net.new port.now check.now opts) }
+    ensures each { IfOk result (monitors.IsMonitorOfEachCycle net.new port.now check.now opts) }
 {
     let channels = port.channels.as_slice();
     let channel = &channels[check.channel as usize];
-    let held = holds_alone(net, check.kind, channel, port.imem)?;
+    let held = holds_alone(net, check, channel, port.imem, opts)?;
     let id = violates(net, channel.valid, held)?;
     let _ = net.nodes();
     Ok(id)
@@ -121,8 +120,13 @@ fn look_once(net: &mut Net, port: &Port, check: &Check) -> Result<NodeId, Memory
 
 /// The monitor, without giving nodes and registers back where no memory is left.
 #[tactic(auto, using(wn_net::proofs::Laws::adds_regs, crate::proofs::Counts::few))]
-fn add_monitor(alloc: Global, net: &mut Net, port: &Port, check: &Check) -> Result<NodeId, Memory>
-    requires kind { monitors.IsWatched check.now.kind }
+fn add_monitor(
+    alloc: Global,
+    net: &mut Net,
+    port: &Port,
+    check: &Check,
+    opts: Opts,
+) -> Result<NodeId, Memory>
     requires port { ArePortNodes net.old port.now }
     requires check { IsCheck (length port.now.channels) check.now }
     requires few { length port.now.channels ≤ 2 }
@@ -130,12 +134,12 @@ fn add_monitor(alloc: Global, net: &mut Net, port: &Port, check: &Check) -> Resu
     ensures adds { AddsRegs net.old net.new }
     ensures known { IfOk result (λ id. monitors.AddsFew net.old net.new) }
     ensures there { IfOk result (IsNodeOf net.new 1) }
-    ensures fails { IfOk result (λ id. (opts : Opts) → monitors.IsMonitor net.new port.now check.now opts id) }
-    ensures each { IfOk result (λ id. (opts : Opts) → monitors.NeedsNoRegisters
-        (monitors.is_of_one_cycle check.now.kind) net.old net.new port.now check.now opts id) }
+    ensures fails { IfOk result (monitors.IsMonitor net.new port.now check.now opts) }
+    ensures each { IfOk result (monitors.NeedsNoRegisters
+        (monitors.is_of_one_cycle check.now.kind) net.old net.new port.now check.now opts) }
 {
     match check.kind {
-        CheckKind::Ill | CheckKind::Imem => look_once(net, port, check),
+        CheckKind::Insn | CheckKind::Ill | CheckKind::Imem => look_once(net, port, check, opts),
         CheckKind::Unique | CheckKind::Liveness => turn_around(alloc, net, port, check),
         _ => look_back(alloc, net, port, check),
     }
@@ -150,7 +154,6 @@ pub fn monitor(
     check: &Check,
     opts: Opts,
 ) -> Result<NodeId, Memory>
-    requires kind { monitors.IsWatched check.now.kind }
     requires port { ArePortNodes net.old port.now }
     requires check { IsCheck (length port.now.channels) check.now }
     requires few { length port.now.channels ≤ 2 }
@@ -166,7 +169,7 @@ pub fn monitor(
 {
     let nodes = net.nodes().len();
     let regs = net.regs().len();
-    match add_monitor(alloc, net, port, check) {
+    match add_monitor(alloc, net, port, check, opts) {
         Ok(id) => Ok(id),
         Err(fault) => {
             net.cut(nodes, regs);

@@ -17,7 +17,7 @@ among c =
     is_among c.args.port.now.channels place _ no_channel below (ap (λ xs. slice_index_or xs place no_channel) e)
 
 built : (c : After-nodes)
-    → IsOnce c.args.net.now c.holds_alone.new.net c.violates.new.net c.args.port.now c.args.check.now
+    → IsOnce c.args.net.now c.holds_alone.new.net c.violates.new.net c.args.port.now c.args.check.now c.args.opts
     (slice_index_or c.as_slice-channels.result.now c.args.check.now.channel no_channel) c.in_ok-held.held c.in_ok-id.id
 built c = record {
   kind = c.requires.kind;
@@ -32,10 +32,10 @@ built c = record {
 }
 
 pub returns-clause-fails : goal.returns-clause-fails
-returns-clause-fails c = once_fails _ _ _ _ _ _ _ _ (built c)
+returns-clause-fails c = once_fails _ _ _ _ _ _ _ _ _ (built c)
 
 pub returns-clause-each : goal.returns-clause-each
-returns-clause-each c = each_fails _ _ _ _ _ _ _ _ (built c)
+returns-clause-each c = each_fails _ _ _ _ _ _ _ _ _ (built c)
 
 pub holds_alone-requires-clause-channel : goal.holds_alone-requires-clause-channel
 holds_alone-requires-clause-channel c =
