@@ -1,0 +1,22 @@
+use Rattle.std.proofs.Common.{◌≡◌, ◌+◌, [], ◌∷◌, arith, refl, ap}
+use Rattle.std.specs.Prelude.{drop}
+use Rattle.std.proofs.lemmas.Grind.{common_steps}
+use Rattle.vl_flat.proofs.Laid.{laid_on, laid_end, laid-list}
+use Rattle.vl_flat.proofs.attributes.copied_names.Goals as goal
+
+pub loop-attribute-preserved : goal.loop-attribute-preserved
+loop-attribute-preserved c =
+    let front : drop c.loop-attribute.attribute-index c.args.all.now ≡ c.attribute-item.result
+    ∷ drop (c.loop-attribute.attribute-index + 1) c.args.all.now = grind (arith, common_steps) in
+    laid_on (λ x l. x ∷ l) (λ l. l) (λ l. l) _ _ c.args.all.now _ _ c.loop-attribute.attribute-index _
+    (λ y ys. refl) front
+    c.in_ok-push.ensures.ok (ap (λ x. x ∷ drop
+    (c.loop-attribute.attribute-index + 1) c.args.all.now) c.in_ok-copied_attribute.ensures)
+    c.loop-attribute.invariant
+
+pub returns : goal.returns
+returns c =
+    let gone : drop c.loop-attribute.attribute-index c.args.all.now ≡ [] = grind (arith, common_steps) in
+    laid_end (λ x l. x ∷ l) (λ l. l) (λ l. l) _ c.args.all.now c.loop-attribute.attribute-index _ refl
+    (laid-list _) gone
+    c.loop-attribute.invariant

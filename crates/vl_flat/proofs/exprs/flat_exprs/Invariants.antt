@@ -1,0 +1,10 @@
+use Rattle.std.proofs.Common.{◌≡◌, ◌∷◌}
+use Rattle.std.specs.Prelude.{drop}
+use Rattle.vl_same.specs.FullNames as spec
+use Rattle.vl_flat.proofs.Laid.{laid}
+use Rattle.vl_flat.proofs.exprs.flat_exprs.Given as goal
+
+abbrev pub invariant-loop-part : goal.invariant-loop-part
+invariant-loop-part l =
+    laid (λ x l. x ∷ l) l.parts (spec.flat_exprs l.scopes ((drop l.part-index l.all)))
+    ≡ spec.flat_exprs l.scopes (l.all)
