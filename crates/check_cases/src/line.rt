@@ -75,15 +75,17 @@ pub(crate) fn probe(words: &str) -> Probe {
     }
 }
 
-/// The retirements, in the order in which they stand.
-pub(crate) fn retires(alloc: Global, text: &str) -> Result<Vec<Retired>, Memory> {
+/// What retires in the order in which it stands; with `idle`, what is shown where nothing retires.
+pub(crate) fn retires(alloc: Global, text: &str, idle: bool) -> Result<Vec<Retired>, Memory> {
     let mut retires = Vec::new(alloc);
     for words in text.split('|') {
-        retires.push(Retired {
-            cycle: short(words, "cycle"),
-            channel: short(words, "channel"),
-            retire: retire(words),
-        })?;
+        if !words.is_empty() && (number(words, "idle") == 1) == idle {
+            retires.push(Retired {
+                cycle: short(words, "cycle"),
+                channel: short(words, "channel"),
+                retire: retire(words),
+            })?;
+        }
     }
     Ok(retires)
 }
