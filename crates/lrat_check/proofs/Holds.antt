@@ -3,12 +3,15 @@ use Rattle.std.proofs.Common.{◌≡◌, ℕ, zero, suc, ◌+◌, ◌^◌, ◌<�
 use Rattle.std.proofs.Common.{length, drop, get_or, w64, to_z, of_z, Option, Some, None, refl, ap, sym, subst, ◌∙◌}
 use Rattle.std.proofs.Common.{arith}
 use Rattle.std.specs.Prelude.{IsSome}
+use Rattle.std.specs.List.{list_any}
 use Rattle.std.proofs.lemmas.Bool.{false≢true}
 use Rattle.std.proofs.lemmas.Int.{to_z-of_z, fits_signed_from_abs}
 use mathlib.Core.Path.{fun_ext}
 use Rattle.cnf_form.specs.Cnf.{AreClauses}
 use Rattle.lrat_check.specs.Codes.{lit_of, codes_of, lits_of}
-use Rattle.lrat_check.specs.Sets.{IsLit, AreLits}
+use Rattle.lrat_check.specs.declared.reading.Reading.{Reading}
+use Rattle.lrat_check.specs.declared.reading.Reading.TheVariants as read
+use Rattle.lrat_check.specs.Sets.{has, is_false, first_open, other_open, reading_of, reading, IsLit, AreLits}
 use Rattle.lrat_check.specs.Steps.{Held, with_clause, without_clause}
 use Rattle.lrat_check.specs.Store.{Coded, with_code, without_code, literals, Removes, Forgets}
 use Rattle.lrat_check.proofs.Codes.{lits_codes}
@@ -49,6 +52,41 @@ pub lit_passed : (l m : ℤ) → IsLit m → l ≡ m → IsLit (to_z w64 (of_z w
 lit_passed l m k e =
     let f : IsLit l = subst IsLit (sym e) k in
     subst IsLit (sym (to_z-of_z w64 l (fits_signed_from_abs w64 l f.1))) f
+
+open_at : (b : Bool) (rest : Option ℤ) (m l : ℤ) → IsLit m → (rest ≡ Some l → IsLit l)
+    → cond b rest (Some m) ≡ Some l → IsLit l
+open_at true rest m l i f e = f e
+open_at false rest m l i f e = subst IsLit (some_is e) i where
+  some_is : Some m ≡ Some l → m ≡ l
+  some_is h = cc
+
+open_lit : (set c : List ℤ) (l : ℤ) → AreLits c → first_open set c ≡ Some l → IsLit l
+open_lit set [] l a e = absurd (none_some e) where
+  none_some : None ≡ Some l → ⊥
+  none_some h = cc
+open_lit set (m ∷ ms) l a e = open_at (is_false set m) (first_open set ms) m l a.0 (open_lit set ms l a.1) e
+
+unit_first : (o : Option ℤ) (other : ℤ → Bool) (l : ℤ) → reading_of o other ≡ read.Unit l → o ≡ Some l
+unit_first None other l e = absurd (at e) where
+  at : read.False ≡ read.Unit l → ⊥
+  at h = cc
+unit_first (Some m) other l e = at (other m) e where
+  at : (b : Bool) → cond b read.Open (read.Unit m) ≡ read.Unit l → Some m ≡ Some l
+  at true h = absurd (no h) where
+    no : read.Open ≡ read.Unit l → ⊥
+    no k = cc
+  at false h = cc
+
+unit_reading : (b : Bool) (rest : Reading) (l : ℤ) → cond b read.True rest ≡ read.Unit l → rest ≡ read.Unit l
+unit_reading true rest l e = absurd (at e) where
+  at : read.True ≡ read.Unit l → ⊥
+  at h = cc
+unit_reading false rest l e = e
+
+-- a clause's one open literal is one of its literals
+pub unit_lit : (set c : List ℤ) (l : ℤ) → AreLits c → reading set c ≡ read.Unit l → IsLit l
+unit_lit set c l a e = open_lit set c l a (unit_first (first_open set c) (λ m. other_open set m c) l
+    (unit_reading (list_any (has set) c) (reading_of (first_open set c) (λ m. other_open set m c)) l e))
 
 pub clause_at : (vars : ℕ) (clauses : List (List ℤ)) (i : ℕ) (c : List ℤ) → vars < 2 ^ 63 → AreClauses vars clauses
     → i < length clauses → c ≡ get_or clauses i c → AreLits c

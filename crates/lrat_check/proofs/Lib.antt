@@ -1,6 +1,7 @@
 pub mod Codes
 pub mod Four
 pub mod Holds
+pub mod Marking
 pub mod ReadBack
 pub mod ReadSteps
 pub mod Rows

@@ -1,5 +1,6 @@
 pub mod Answers
 pub mod Codes
+pub mod Marks
 pub mod Resolved
 pub mod Sets
 pub mod Steps

@@ -7,6 +7,7 @@ mod held;
 mod lrat_fault;
 mod lrat_read;
 mod lrat_write;
+mod marks;
 mod reading;
 mod row;
 mod shared;

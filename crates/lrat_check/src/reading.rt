@@ -44,7 +44,7 @@ fn any_true(set: &TrueSet, codes: &[u64]) -> bool
     ensures { result ≡ list_any (has set.now) (lits_of codes.now) }
 {
     for code in codes {
-        if set.has(lit_of(*code)) {
+        if set.has(*code) {
             return true;
         }
     }
@@ -56,9 +56,8 @@ fn first_open(set: &TrueSet, codes: &[u64]) -> Option<i64>
     ensures { result ≡ first_open set.now (lits_of codes.now) }
 {
     for code in codes {
-        let lit = lit_of(*code);
-        if !set.is_false(lit) {
-            return Some(lit);
+        if !set.is_false(*code) {
+            return Some(lit_of(*code));
         }
     }
     None
@@ -69,8 +68,7 @@ fn other_open(set: &TrueSet, first: i64, codes: &[u64]) -> bool
     ensures { result ≡ other_open set.now first (lits_of codes.now) }
 {
     for code in codes {
-        let lit = lit_of(*code);
-        if lit != first && !set.is_false(lit) {
+        if !set.is_false(*code) && lit_of(*code) != first {
             return true;
         }
     }

@@ -1,29 +1,30 @@
-ghost use Rattle.std.specs.Prelude.{◌≡◌, [], ◌∷◌, ◌++◌, OnOk, IfOk};
+ghost use Rattle.std.specs.Prelude.{◌≡◌, [], ◌∷◌, ◌++◌, OnOk};
+ghost use Rattle.lrat_check.specs.Codes.{lit_of};
 ghost use Rattle.lrat_check.specs.Sets.{has, is_false, IsLit};
 
+use crate::code::flip;
+use crate::marks::Marks;
 use fv_base::Memory;
 use std::alloc::Global;
-use std::collections::HashSet;
 use std::marker::Model;
 
 /// A set of true literals, in the order in which they were added.
 #[derive(Drop)]
 pub(crate) struct TrueSet {
     lits: Vec<i64>,
-    set: HashSet<i64>,
+    /// Which literals are there.
+    marks: Marks,
 }
 
 impl Model for TrueSet {
-    ghost use Rattle.std.specs.Prelude.{◌≡◌, List, ℤ};
-    ghost use Rattle.std.specs.Ordering.{int_eq};
-    ghost use Rattle.std.specs.HashSet.{contains};
-    ghost use Rattle.lrat_check.specs.Sets.{has};
+    ghost use Rattle.std.specs.Prelude.{List, ℤ};
+    ghost use Rattle.lrat_check.specs.Marks.{AreMarked};
 
     ghost Value = { List ℤ };
 
     ghost view = { λ s. s.lits.items };
 
-    ghost invariant = { λ s. (l : ℤ) → contains int_eq s.set l ≡ has s.lits.items l };
+    ghost invariant = { λ s. AreMarked s.marks s.lits.items };
 }
 
 impl TrueSet {
@@ -32,28 +33,32 @@ impl TrueSet {
     {
         TrueSet {
             lits: Vec::new(alloc),
-            set: HashSet::new(alloc),
+            marks: Marks::new(alloc),
         }
     }
 
-    pub(crate) fn has(&self, lit: i64) -> bool
-        ensures { result ≡ has self.now lit }
+    /// Whether the literal with the code is true.
+    pub(crate) fn has(&self, code: u64) -> bool
+        requires { IsLit (lit_of code) }
+        ensures { result ≡ has self.now (lit_of code) }
     {
-        self.set.contains(&lit)
+        self.marks.get(code)
     }
 
-    pub(crate) fn is_false(&self, lit: i64) -> bool
-        requires { IsLit lit }
-        ensures { result ≡ is_false self.now lit }
+    /// Whether the literal with the code is false.
+    pub(crate) fn is_false(&self, code: u64) -> bool
+        requires { IsLit (lit_of code) }
+        ensures { result ≡ is_false self.now (lit_of code) }
     {
-        self.set.contains(&-lit)
+        self.marks.get(flip(code))
     }
 
     pub(crate) fn add(&mut self, lit: i64) -> Result<(), Memory>
+        requires { IsLit lit }
         ensures { OnOk result (self.new ≡ self.old ++ lit ∷ []) }
     {
         self.lits.push(lit)?;
-        if self.set.insert(lit).is_err() {
+        if self.marks.put(&lit).is_err() {
             self.lits.pop();
             return Err(Memory);
         }
@@ -65,7 +70,7 @@ impl TrueSet {
         ensures { self.new ≡ [] }
     {
         while let Some(lit) = self.lits.pop() {
-            self.set.remove(&lit);
+            self.marks.clear(&lit);
         }
     }
 }
