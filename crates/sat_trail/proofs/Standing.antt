@@ -10,7 +10,9 @@ use Rattle.std.proofs.Common.{
   Bool,
   true,
   false,
+  not,
   cond,
+  eqb,
   ltb,
   leb,
   ◌||◌,
@@ -152,3 +154,19 @@ oldest_below_at (Some place) e t h = oldest_part e t (length (below t)) (below_s
 pub oldest_below : (t : Entries) → oldest (length (below t)) t ≡ below t
 oldest_below [] = refl
 oldest_below (e ∷ t) = oldest_below_at e.reason e t (oldest_below t)
+
+placed_at : (t : Entries) (m : List ℕ) → ArePlaces t m → (lit : ℤ) (n : ℕ) → place_of m lit ≡ n
+    → not (eqb n 0) ≡ has (lits t) lit
+placed_at t m p lit zero e = zero_not ∙ sym (ap (λ z. lies_below (length t) z) e) ∙ p.at lit (length t)
+    ∙ ap (λ z. has (lits z) lit) (oldest_whole t (length t) (omega arith)) where
+      zero_not : not (eqb 0 0) ≡ lies_below (length t) 0
+      zero_not = refl
+placed_at t m p lit (suc n) e = some ∙ sym (in_dropped (length t - suc n) t lit
+    (sym (p.at lit (suc n)) ∙ ap (λ z. lies_below (suc n) z) e ∙ is_below (suc n) n (omega arith))) where
+      some : not (eqb (suc n) 0) ≡ true
+      some = ap not (false_from_ne_true (eqb (suc n) 0) (λ h. let z : suc n ≡ 0 = grind (arith, h) in omega (arith, z)))
+
+-- a literal is true where it has a place
+pub placed_true : (t : Entries) (m : List ℕ) → ArePlaces t m → (lit : ℤ)
+    → not (eqb (place_of m lit) 0) ≡ has (lits t) lit
+placed_true t m p lit = placed_at t m p lit (place_of m lit) refl

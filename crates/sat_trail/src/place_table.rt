@@ -48,7 +48,14 @@ impl Places {
         requires { IsLit lit.now }
         ensures { result ≡ place_of self.now lit.now }
     {
-        match self.places.get(code_of(*lit) as usize) {
+        self.at(code_of(*lit))
+    }
+
+    /// The number of the literal with the code.
+    pub fn at(&self, code: u64) -> usize
+        ensures { result ≡ slice_index_or self.now code 0 }
+    {
+        match self.places.get(code as usize) {
             Some(place) => *place,
             None => 0,
         }

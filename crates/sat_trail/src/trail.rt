@@ -20,7 +20,7 @@ ghost use Rattle.sat_trail.specs.Trail.{Outlasts, IsNext};
 
 use crate::place_table::Places;
 use fv_base::Memory;
-use lrat_check::{Reading, lit_of};
+use lrat_check::{Reading, flip};
 use std::alloc::Global;
 use std::marker::Model;
 
@@ -271,7 +271,7 @@ impl Trail {
         requires { IsLit (lit_of code) }
         ensures { result ≡ has_code (true_codes self.now) code }
     {
-        self.has(&lit_of(code))
+        self.places.at(code) != 0
     }
 
     /// Whether the literal with the code is false.
@@ -279,14 +279,7 @@ impl Trail {
         requires { IsLit (lit_of code) }
         ensures { result ≡ has_code (true_codes self.now) (flip code) }
     {
-        self.is_false_lit(&lit_of(code))
-    }
-
-    fn is_false_lit(&self, lit: &i64) -> bool
-        requires { IsLit lit.now }
-        ensures { result ≡ is_false (lits self.now) lit.now }
-    {
-        self.is_false_at(self.entries.len(), lit)
+        self.places.at(flip(code)) != 0
     }
 
     pub fn has(&self, lit: &i64) -> bool
@@ -294,6 +287,20 @@ impl Trail {
         ensures { result ≡ has (lits self.now) lit.now }
     {
         self.has_at(self.entries.len(), lit)
+    }
+
+    /// The place of the clause that forced the true literal. No clause says so: whoever asks looks at the clause anew.
+    pub fn reason(&self, lit: &i64) -> Option<usize>
+        requires { IsLit lit.now }
+    {
+        let place = self.places.get(lit);
+        if place == 0 {
+            return None;
+        }
+        match self.entries.get(place - 1) {
+            Some(entry) => entry.reason,
+            None => None,
+        }
     }
 
     /// Whether the literal is true or false.

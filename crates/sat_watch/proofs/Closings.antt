@@ -9,10 +9,10 @@ use Rattle.lrat_check.specs.Codes.{code_of, lit_of, codes_of, lits_of}
 use Rattle.lrat_check.specs.Sets.{has, is_false, reading, IsLit, AreLits}
 use Rattle.lrat_check.specs.Resolved.{is_open, Closed}
 use Rattle.lrat_check.specs.Store.{Clauses, Coded, coded, literals, held_of}
-use Rattle.lrat_check.proofs.Codes.{lit_code}
 use Rattle.sat_trail.specs.Clauses.{AllFalse}
 use Rattle.sat_trail.specs.Trail.{has_code}
-use Rattle.sat_trail.proofs.Codes.{code_lit, flip_code, codes_has}
+use Rattle.lrat_check.proofs.Codes.{lit_code, code_lit, flip_code}
+use Rattle.sat_trail.proofs.Codes.{codes_has}
 use Rattle.sat_trail.proofs.Members.{same_is, same_self, or_cases, none_at}
 use Rattle.sat_trail.proofs.Readings.{Two, open_from}
 use Rattle.sat_watch.specs.Watching.{is_false_code, satisfied, AllFalseCodes, AloneCode, Calm}

@@ -7,8 +7,8 @@ use Rattle.std.specs.Prelude.{unsigned_abs}
 use Rattle.lrat_check.specs.Codes.{code_of, lit_of, codes_of, flip}
 use Rattle.lrat_check.specs.Sets.{is_false, IsLit, AreLits}
 use Rattle.lrat_check.specs.Store.{Clauses, Coded, coded, next, held_of, with_code}
-use Rattle.lrat_check.proofs.Codes.{lit_code}
-use Rattle.sat_trail.proofs.Codes.{flip_code, same_at}
+use Rattle.lrat_check.proofs.Codes.{lit_code, flip_code}
+use Rattle.sat_trail.proofs.Codes.{same_at}
 use Rattle.sat_trail.specs.Trail.{Entries, lits, oldest, true_codes, IsNext}
 use Rattle.sat_watch.specs.declared.watch.Watch.{Watch}
 use Rattle.std.specs.Prelude.{MatchOption}

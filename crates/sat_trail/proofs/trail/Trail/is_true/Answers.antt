@@ -1,10 +1,16 @@
-use Rattle.std.proofs.Common.{◌∙◌, ap}
+use Rattle.std.proofs.Common.{◌∙◌, not, eqb, get_or, ap, sym, reverse}
+use Rattle.lrat_check.specs.Codes.{lit_of}
 use Rattle.lrat_check.specs.Sets.{has}
 use Rattle.sat_trail.specs.Trail.{lits}
-use Rattle.sat_trail.proofs.Codes.{code_true, kept_of}
+use Rattle.lrat_check.proofs.Codes.{code_lit}
+use Rattle.sat_trail.proofs.Codes.{code_true}
+use Rattle.sat_trail.proofs.Standing.{placed_true}
 use Rattle.sat_trail.proofs.trail.Trail.is_true.Goals as goal
 
 pub returns : goal.returns
 returns c =
-    c.has.ensures ∙ ap (has (lits c.args.self.now)) (kept_of c.lit_of.result c.args.code c.lit_of.ensures c.requires)
+    ap (λ n. not (eqb n 0)) (c.at.ensures
+    ∙ ap (λ k. get_or c.self.inside.places k 0) (sym (code_lit c.args.code c.requires)))
+    ∙ placed_true (reverse c.self.inside.entries.items) c.self.inside.places c.self.invariant (lit_of c.args.code)
+    ∙ ap (λ t. has (lits t) (lit_of c.args.code)) c.self.view_is
     ∙ code_true (lits c.args.self.now) c.args.code c.requires
