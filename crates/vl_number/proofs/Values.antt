@@ -7,7 +7,7 @@ use Rattle.vl_tree.specs.Expr.{Expr}
 use Rattle.vl_size.specs.Size.{Operand, operand_of, no_names, index_of}
 use Rattle.vl_size.specs.Table.{span}
 use Rattle.vl_mean.specs.Constants.{constant_operand, cut_to, width_in_range}
-use Rattle.vl_mean.specs.Declarations.{Overrides, override_or, of_range, parameter_value}
+use Rattle.vl_mean.specs.Declarations.{Overrides, of_range, parameter_value}
 use Rattle.vl_mean.specs.Scopes.{Scope, constant_in}
 use Rattle.vl_refusal.specs.Expressions.{known}
 use Rattle.vl_refusal.specs.Meanings.{Names}
@@ -15,7 +15,8 @@ use Rattle.vl_number.specs.Given.{IsGiven, operand_or}
 use Rattle.vl_number.specs.Numbers.{HaveNumbers, number_in_range, parameter_number, given_or}
 
 module _ (ns : List Names) (ss : List Scope) (h : HaveNumbers ns ss) where
-  same_number : (signed : Bool) (x : Operand) (r : Option Range) → number_in_range ns signed x r ≡ of_range ss signed x r
+  same_number : (signed : Bool) (x : Operand) (r : Option Range)
+      → number_in_range ns signed x r ≡ of_range ss signed x r
   same_number signed x None = refl
   same_number signed x (Some r) =
       λ i. let left = index_of (constant_operand (λ text. h text i) r.left) in

@@ -1,5 +1,5 @@
 //! What an instance gives to the parameters of its module.
-ghost use Rattle.std.specs.Prelude.{◌≡◌, ℕ, List, None, IfOk, OnOk, OnErr};
+ghost use Rattle.std.specs.Prelude.{◌≡◌, ℕ, List, None, IfOk, OnOk};
 ghost use Rattle.std.specs.Option.{option_copied};
 ghost use Rattle.vl_mean.specs.Scopes.{Scope};
 ghost use Rattle.vl_mean.specs.Walk.{overrides_of};

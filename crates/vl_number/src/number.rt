@@ -1,5 +1,5 @@
 //! Numbers of expressions over constants, refused or not.
-ghost use Rattle.std.specs.Prelude.{◌≡◌, ◌≤◌, ◌%◌, ◌^◌, [], max, true, IfOk};
+ghost use Rattle.std.specs.Prelude.{◌≡◌, ◌≤◌, [], max, true, IfOk};
 ghost use Rattle.fv_bits.specs.Bits.{as_int};
 ghost use Rattle.vl_size.specs.Sign.{sign};
 ghost use Rattle.vl_size.specs.Size as size_spec;

@@ -139,8 +139,9 @@ pub fn parameter_value(
 ) -> Result<Const, Memory>
     ensures number { IfOk result (λ c. c
         ≡ spec.parameter_number numbers.now (given_spec.value_given given.now) parameter.now) }
-    ensures value { IfOk result (λ c. (os : Overrides) (ss : List Scope) → given_spec.IsGiven (given_spec.value_given given.now) os
-        → spec.HaveNumbers numbers.now ss → c ≡ declarations.parameter_value os ss parameter.now) }
+    ensures value { IfOk result (λ c. (os : Overrides) (ss : List Scope)
+        → given_spec.IsGiven (given_spec.value_given given.now) os → spec.HaveNumbers numbers.now ss
+        → c ≡ declarations.parameter_value os ss parameter.now) }
 {
     number(alloc, parameter, given, numbers)
 }

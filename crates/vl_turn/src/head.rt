@@ -1,0 +1,330 @@
+//! Where the head of a generate loop is refused: with all its turns.
+ghost use Rattle.std.specs.Prelude.{◌≡◌, ◌++◌, ◌∷◌, [], List, true, None, IfOk, OnOk, OnErr};
+ghost use Rattle.std.specs.Prelude.{if◌then◌else◌};
+ghost use Rattle.vl_mean.specs.Walk.{Place};
+ghost use Rattle.vl_refusal.specs.Expressions as expressions;
+ghost use Rattle.vl_refusal.specs.Items as items;
+ghost use Rattle.vl_refusal.specs.Meanings as meanings;
+ghost use Rattle.vl_refusal.specs.Refused.{lower_of, lowest};
+ghost use Rattle.vl_refusal.specs.declared.elab_fault.ElabFault.TheVariants as f;
+ghost use Rattle.vl_scope.specs.Seen.{seen_or};
+ghost use Rattle.std.specs.Option.{option_copied};
+ghost use Rattle.vl_alike.specs.Alike.{Alike};
+ghost use Rattle.vl_number.specs.Numbers as numbers_spec;
+ghost use Rattle.vl_turn.specs.Parts as spec;
+ghost use Rattle.vl_turn.specs.declared.head.Variable.TheVariants as v;
+
+use fv_base::{Memory, Pos, Text};
+use std::alloc::Global;
+use vl_item::genvar_fault;
+use vl_judge::{expr_fault, first_of, own_fault};
+use vl_mean::Const;
+use vl_number::{genvar_value, is_true_in};
+use vl_refusal::ElabFault;
+use vl_scope::{Level, Meaning, Names};
+use vl_tree::LoopHead;
+
+fn one_name(alloc: Global, variable: &Text, value: Const) -> Result<Level, Memory>
+    ensures { IfOk result (λ l. l ≡ (variable.now, meanings.constant value true) ∷ []) }
+{
+    let mut level = Level::new(alloc);
+    level.add(variable.copied(alloc)?, Meaning::Constant(value, true))?;
+    Ok(level)
+}
+
+/// Enters the scope of a turn, in which the loop's variable is a constant.
+pub fn enter_turn(
+    alloc: Global,
+    variable: &Text,
+    value: Const,
+    names: &mut Names,
+) -> Result<(), Memory>
+    ensures ok { OnOk result (names.new ≡ spec.in_turn variable.now value names.old) }
+    ensures err { OnErr result (names.new ≡ names.old) }
+{
+    let level = one_name(alloc, variable, value)?;
+    names.enter(level)
+}
+
+/// What is found of a turn: which of its refusals is answered, and the value of the next turn. None exactly where it is
+/// behind the last one.
+#[derive(Drop)]
+struct Found {
+    fault: Option<ElabFault>,
+    next: Option<Const>,
+}
+
+/// A turn that is taken leads to the next one.
+fn taken(
+    alloc: Global,
+    own: Option<ElabFault>,
+    head: &LoopHead,
+    names: &Names,
+    numbers: &Names,
+) -> Result<Found, Memory>
+    ensures fault { IfOk result (λ t. t.fault
+        ≡ lower_of own (lowest (items.genvar_refusals names.now head.now.next))) }
+    ensures next { IfOk result (λ t. t.next ≡ Some (numbers_spec.genvar_number numbers.now head.now.next)) }
+{
+    let fault = genvar_fault(alloc, &head.next, names)?;
+    let next = genvar_value(alloc, &head.next, numbers)?;
+    Ok(Found {
+        fault: first_of(own, fault),
+        next: Some(next),
+    })
+}
+
+/// In the scope of the turn.
+fn judge_turn(
+    alloc: Global,
+    head: &LoopHead,
+    names: &Names,
+    numbers: &Names,
+) -> Result<Found, Memory>
+    ensures fault { IfOk result (λ t. t.fault
+        ≡ lower_of (lowest (expressions.own_refusals names.now true head.now.condition))
+        (if numbers_spec.holds numbers.now head.now.condition
+        then lowest (items.genvar_refusals names.now head.now.next) else None)) }
+    ensures next { IfOk result (λ t. t.next ≡ (if numbers_spec.holds numbers.now head.now.condition
+        then Some (numbers_spec.genvar_number numbers.now head.now.next) else None)) }
+{
+    let own = own_fault(alloc, &head.condition, true, names)?;
+    let goes_on = is_true_in(alloc, &head.condition, numbers)?;
+    if goes_on {
+        taken(alloc, own, head, names, numbers)
+    } else {
+        Ok(Found {
+            fault: own,
+            next: None,
+        })
+    }
+}
+
+fn turn(
+    alloc: Global,
+    head: &LoopHead,
+    value: Const,
+    names: &mut Names,
+    numbers: &mut Names,
+) -> Result<Found, Memory>
+    ensures names { OnOk result (names.new ≡ names.old) }
+    ensures numbers { OnOk result (numbers.new ≡ numbers.old) }
+    ensures fault { IfOk result (λ t. let inside = spec.in_turn head.now.variable value names.old in t.fault
+        ≡ lower_of (lowest (expressions.own_refusals inside true head.now.condition))
+        (if numbers_spec.holds (spec.in_turn head.now.variable value numbers.old) head.now.condition
+        then lowest (items.genvar_refusals inside head.now.next) else None)) }
+    ensures next { IfOk result (λ t. let inner = spec.in_turn head.now.variable value numbers.old in t.next
+        ≡ (if numbers_spec.holds inner head.now.condition
+        then Some (numbers_spec.genvar_number inner head.now.next) else None)) }
+{
+    enter_turn(alloc, &head.variable, value, names)?;
+    enter_turn(alloc, &head.variable, value, numbers)?;
+    let found = judge_turn(alloc, head, names, numbers)?;
+    names.leave();
+    numbers.leave();
+    Ok(found)
+}
+
+fn loop_if(test: bool, pos: Pos) -> Option<ElabFault>
+    ensures { result ≡ lowest (expressions.refused_if test (f.GenLoop pos)) }
+{
+    if test {
+        Some(ElabFault::GenLoop(pos))
+    } else {
+        None
+    }
+}
+
+fn judge_last(
+    alloc: Global,
+    pos: Pos,
+    head: &LoopHead,
+    names: &Names,
+    numbers: &Names,
+) -> Result<Option<ElabFault>, Memory>
+    ensures { IfOk result (λ g. g ≡ lower_of (lowest (expressions.own_refusals names.now true head.now.condition))
+        (lowest (expressions.refused_if (numbers_spec.holds numbers.now head.now.condition) (f.GenLoop pos)))) }
+{
+    let own = own_fault(alloc, &head.condition, true, names)?;
+    let goes_on = is_true_in(alloc, &head.condition, numbers)?;
+    Ok(first_of(own, loop_if(goes_on, pos)))
+}
+
+/// A turn behind the last one.
+fn last_turn(
+    alloc: Global,
+    pos: Pos,
+    head: &LoopHead,
+    value: Const,
+    names: &mut Names,
+    numbers: &mut Names,
+) -> Result<Option<ElabFault>, Memory>
+    ensures names { OnOk result (names.new ≡ names.old) }
+    ensures numbers { OnOk result (numbers.new ≡ numbers.old) }
+    ensures fault { IfOk result (λ g. g ≡ spec.turns_fault 0 names.old numbers.old head.now pos value) }
+{
+    enter_turn(alloc, &head.variable, value, names)?;
+    enter_turn(alloc, &head.variable, value, numbers)?;
+    let found = judge_last(alloc, pos, head, names, numbers)?;
+    names.leave();
+    numbers.leave();
+    Ok(found)
+}
+
+/// All turns, from the one with this value on.
+fn turns(
+    alloc: Global,
+    pos: Pos,
+    head: &LoopHead,
+    start: Const,
+    names: &mut Names,
+    numbers: &mut Names,
+) -> Result<Option<ElabFault>, Memory>
+    ensures names { OnOk result (names.new ≡ names.old) }
+    ensures numbers { OnOk result (numbers.new ≡ numbers.old) }
+    ensures fault { IfOk result (λ g. g ≡ spec.turns_fault 4096 names.old numbers.old head.now pos start) }
+{
+    let mut fault = None;
+    let mut value = start;
+    let mut left = 4096u32;
+    while left > 0 {
+        let found = turn(alloc, head, value, names, numbers)?;
+        fault = first_of(fault, found.fault);
+        match found.next {
+            None => return Ok(fault),
+            Some(next) => {
+                value = next;
+                left -= 1;
+            }
+        }
+    }
+    let last = last_turn(alloc, pos, head, value, names, numbers)?;
+    Ok(first_of(fault, last))
+}
+
+/// What a head's variable is.
+#[derive(Clone, Copy)]
+enum Variable {
+    Undeclared,
+    Genvar,
+    Other,
+}
+
+fn variable_of(meaning: Option<&Meaning>) -> Variable
+    ensures { result ≡ spec.variable_of (seen_or (option_copied meaning.entry)) }
+{
+    match meaning {
+        None => Variable::Undeclared,
+        Some(Meaning::LoopVariable) => Variable::Genvar,
+        Some(Meaning::Constant(_, _) | Meaning::Object(_) | Meaning::Faulty | Meaning::Later) =>
+            Variable::Other,
+    }
+}
+
+fn is_unknown(fault: &ElabFault) -> bool
+    ensures { result ≡ items.is_unknown fault.now }
+{
+    matches!(fault, ElabFault::Unknown(_, _))
+}
+
+/// A name that no scope declares.
+fn if_unknown(fault: Option<ElabFault>) -> Option<ElabFault>
+    ensures { result ≡ spec.if_unknown fault }
+{
+    match fault {
+        None => None,
+        Some(fault) => if is_unknown(&fault) {
+            Some(fault)
+        } else {
+            None
+        },
+    }
+}
+
+/// Over a genvar, and none of a loop around.
+fn genvar_head(
+    alloc: Global,
+    pos: Pos,
+    head: &LoopHead,
+    names: &mut Names,
+    numbers: &mut Names,
+) -> Result<Option<ElabFault>, Memory>
+    ensures names { OnOk result (names.new ≡ names.old) }
+    ensures numbers { OnOk result (numbers.new ≡ numbers.old) }
+    ensures fault { IfOk result (λ g. g ≡ spec.head_fault names.old numbers.old pos head.now v.Genvar) }
+{
+    let own = genvar_fault(alloc, &head.start, names)?;
+    let start = genvar_value(alloc, &head.start, numbers)?;
+    let inner = turns(alloc, pos, head, start, names, numbers)?;
+    Ok(first_of(own, inner))
+}
+
+/// The names in a head over what is no genvar of its own.
+#[tactic(auto, using(vl_judge::proofs::Lowest::lowest_parts))]
+fn all_names_fault(
+    alloc: Global,
+    head: &LoopHead,
+    names: &Names,
+) -> Result<Option<ElabFault>, Memory>
+    ensures { IfOk result (λ g. g ≡ lowest (expressions.refusals names.now true head.now.start
+        ++ expressions.refusals names.now true head.now.condition
+        ++ expressions.refusals names.now true head.now.next)) }
+{
+    let start = expr_fault(alloc, &head.start, true, names)?;
+    let condition = expr_fault(alloc, &head.condition, true, names)?;
+    let next = expr_fault(alloc, &head.next, true, names)?;
+    Ok(first_of(first_of(start, condition), next))
+}
+
+/// Over a name that is no genvar, or that of a loop around.
+fn other_head(
+    alloc: Global,
+    pos: Pos,
+    head: &LoopHead,
+    names: &Names,
+) -> Result<Option<ElabFault>, Memory>
+    ensures { IfOk result (λ g. (numbers : List meanings.Names)
+        → g ≡ spec.head_fault names.now numbers pos head.now v.Other) }
+{
+    let inner = all_names_fault(alloc, head, names)?;
+    let kind = ElabFault::Kind(head.variable.copied(alloc)?, pos);
+    Ok(first_of(Some(kind), if_unknown(inner)))
+}
+
+fn judge_head(
+    alloc: Global,
+    pos: Pos,
+    head: &LoopHead,
+    names: &mut Names,
+    numbers: &mut Names,
+) -> Result<Option<ElabFault>, Memory>
+    ensures names { OnOk result (names.new ≡ names.old) }
+    ensures numbers { OnOk result (numbers.new ≡ numbers.old) }
+    ensures fault { IfOk result (λ g. g ≡ spec.head_fault names.old numbers.old pos head.now
+        (spec.variable_of (meanings.meaning_in names.old head.now.variable))) }
+{
+    match variable_of(names.meaning(&head.variable)) {
+        Variable::Genvar => genvar_head(alloc, pos, head, names, numbers),
+        Variable::Undeclared => Ok(Some(ElabFault::Unknown(head.variable.copied(alloc)?, pos))),
+        Variable::Other => other_head(alloc, pos, head, names),
+    }
+}
+
+/// Of all refusals of a loop's head, with those of all its turns, the one with the lowest number, and of one number
+/// the one at the earliest place. None exactly where it isn't refused. `names`: what names mean at the loop;
+/// `numbers`: the numbers that constants have there by the definitions, refused or not.
+pub fn head_fault(
+    alloc: Global,
+    pos: Pos,
+    head: &LoopHead,
+    names: &mut Names,
+    numbers: &mut Names,
+) -> Result<Option<ElabFault>, Memory>
+    ensures names { OnOk result (names.new ≡ names.old) }
+    ensures numbers { OnOk result (numbers.new ≡ numbers.old) }
+    ensures fault { IfOk result (λ g. (at : Place) → Alike names.old (meanings.meanings_at at)
+        → numbers_spec.HaveNumbers numbers.old at.scopes → g ≡ lowest (items.head_refusals at pos head.now
+        (meanings.meaning_in (meanings.meanings_at at) head.now.variable))) }
+{
+    judge_head(alloc, pos, head, names, numbers)
+}
