@@ -25,7 +25,8 @@ loop-name-preserved c =
 pub returns-clause-fault : goal.returns-clause-fault
 returns-clause-fault c =
     let gone : drop c.loop-name.name-index c.args.all.now ≡ [] = grind (arith, common_steps) in
-    twice_end (contains c.loop-name.earlier) c.loop-name.fault _ (placed_names (drop c.loop-name.name-index c.args.all.now))
+    twice_end (contains c.loop-name.earlier) c.loop-name.fault _
+    (placed_names (drop c.loop-name.name-index c.args.all.now))
     (ap placed_names gone) c.loop-name.invariant.fault
 
 pub returns-clause-names : goal.returns-clause-names

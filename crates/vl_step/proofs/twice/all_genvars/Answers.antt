@@ -14,7 +14,8 @@ loop-text-preserved c =
     let front : drop c.loop-text.text-index c.args.all.now ≡ c.text-item.result
     ∷ drop (c.loop-text.text-index + 1) c.args.all.now = grind (arith, common_steps) in
     record {
-      fault = twice_on g _ c.loop-text.fault _ _ x c.args.pos (map (λ text. (text, c.args.pos)) here) (map (λ text. (text, c.args.pos)) rest)
+      fault = twice_on g _ c.loop-text.fault _ _ x c.args.pos
+          (map (λ text. (text, c.args.pos)) here) (map (λ text. (text, c.args.pos)) rest)
           (ap (map (λ text. (text, c.args.pos))) front) c.in_ok-fault.ensures.fault c.in_ok-fault.ensures.names
           c.loop-text.invariant.fault;
       names = names_on g _ _ x here rest front
@@ -24,7 +25,8 @@ loop-text-preserved c =
 pub returns-clause-fault : goal.returns-clause-fault
 returns-clause-fault c =
     let gone : drop c.loop-text.text-index c.args.all.now ≡ [] = grind (arith, common_steps) in
-    twice_end (contains c.loop-text.earlier) c.loop-text.fault _ (map (λ text. (text, c.args.pos)) (drop c.loop-text.text-index c.args.all.now))
+    twice_end (contains c.loop-text.earlier) c.loop-text.fault _
+    (map (λ text. (text, c.args.pos)) (drop c.loop-text.text-index c.args.all.now))
     (ap (map (λ text. (text, c.args.pos))) gone) c.loop-text.invariant.fault
 
 pub returns-clause-names : goal.returns-clause-names
