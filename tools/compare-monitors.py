@@ -3,7 +3,7 @@
 
     tools/compare-monitors.py [--count N] [--seed N] [--kind KIND ..] [--program PATH]
 
-Of each kind of check but insn, which has no monitor, N random runs (10,000 unless another number is given), of one
+Of each kind of check but insn N random runs (10,000 unless another number is given), of one
 channel and of two, are judged three times: by the property and by the monitor, both in the program `check_cases`, and
 by the rules of the checks as they are written again below. Orders, registers and addresses are few, so that both
 answers are common. Idle channels show something too. The program is proved and built by `rt run` in its folder, if PATH

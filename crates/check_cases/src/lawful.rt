@@ -1,18 +1,10 @@
-//! The tests that a check is one that there is a monitor for.
+//! The tests that a check is lawful.
 
 ghost use Rattle.std.specs.Prelude.{IsTrue, ◌≡◌};
 ghost use Rattle.ck_cfg.specs.Lawful as lawful;
-ghost use Rattle.ck_gen.specs.Monitors.{IsWatched};
 
 use ck_cfg::{Check, CheckKind};
 use rv_table::RowId;
-
-/// Whether there is a monitor for checks of the kind.
-pub(crate) fn is_watched(kind: CheckKind) -> bool
-    ensures { IsTrue result → IsWatched kind }
-{
-    !matches!(kind, CheckKind::Insn)
-}
 
 /// Whether a row is there exactly where the kind is insn.
 fn row_fits(kind: CheckKind, row: Option<RowId>) -> bool

@@ -11,7 +11,7 @@
 //! | `expand half=N` | the word that the half word stands for |
 //!
 //! A check is judged by its property, and by its monitor in a net whose inputs play the run. Where these differ, both
-//! answers are printed. Where a check has no monitor (it is of insn, or isn't lawful) its property alone is judged.
+//! answers are printed. Where a check has no monitor (it isn't lawful) its property alone is judged.
 //! Where a number has more bits than its field, `no net` is printed. A run has two channels where `nret=2` or channel 1
 //! is named.
 //!

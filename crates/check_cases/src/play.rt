@@ -1,8 +1,6 @@
 //! A check's monitor, stepped over a net that plays a run.
 
-ghost use Rattle.ck_gen.specs.Monitors.{IsWatched};
-
-use crate::lawful::{is_check, is_watched};
+use crate::lawful::is_check;
 use crate::port::{has_port, has_probe, net_of_inputs, port_of_inputs};
 use crate::run::Run;
 use anyhow::Result;
@@ -27,7 +25,7 @@ pub(crate) enum Said {
 
 /// What the check's monitor says in the cycle of the check.
 pub(crate) fn monitored(alloc: Global, check: &Check, run: &Run, opts: Opts) -> Result<Said> {
-    if !is_watched(check.kind) || !is_check(run.channels as usize, check) {
+    if !is_check(run.channels as usize, check) {
         return Ok(Said::Nothing);
     }
     let mut net = net_of_inputs(alloc, run.channels)?;
@@ -48,9 +46,7 @@ fn added(
     port: &Port,
     check: &Check,
     opts: Opts,
-) -> Result<Option<NodeId>, Memory>
-    requires { IsWatched check.now.kind }
-{
+) -> Result<Option<NodeId>, Memory> {
     let channels = port.channels.len();
     let fits = is_check(channels, check)
         && channels <= 2
