@@ -1,0 +1,38 @@
+//! Cases of instructions, one a line: a row, the word, the values of the sources, the program counter and the word of
+//! memory in hexadecimal, and what the core may choose (`a` for aligned memory, `m` for alternative results of M, `c`
+//! for compressed instructions, `-` for none). A net plays a channel that shows these, and the answer is what the row's
+//! circuit shows, in the order of its nodes. Behind it stands a digit for the retirement that does all this, and for
+//! each of those that differ from it in one number: 1 where the node of agreement shows that it agrees. Blank lines,
+//! and those that begin with `#`, are no cases.
+#![tactic(auto)]
+
+mod case;
+mod channel;
+mod shown;
+
+use crate::case::case_of;
+use crate::shown::shown;
+use fv_base::Memory;
+use std::alloc::Global;
+use std::io;
+
+fn main(rt: HostRuntime) -> io::Result<()> {
+    for line in rt.lines(rt.alloc()) {
+        let line = line?;
+        if !line.is_empty() && !line.starts_with('#') {
+            match answer(rt.alloc(), line.as_str()) {
+                Ok(answer) => println!(rt; "{answer}")?,
+                Err(fault) => println!(rt; "{fault}")?,
+            }
+        }
+    }
+    Ok(())
+}
+
+/// The answer to the case of a line.
+fn answer(alloc: Global, line: &str) -> Result<String, Memory> {
+    match case_of(line) {
+        Some(case) => shown(alloc, &case),
+        None => Ok(format!(in alloc; "no case {line:?}")?),
+    }
+}

@@ -1,0 +1,166 @@
+//! What circuits show of a case.
+#![tactic(auto, using(rv_circ::proofs::ChannelLemmas::channels))]
+
+use crate::case::Case;
+use crate::channel::play;
+use fv_base::{List, Memory};
+use rv_agree::agreement;
+use rv_circ::{EffectNodes, circuit};
+use rv_table::{Effect, Retire};
+use std::alloc::Global;
+use wn_net::{Net, NodeId, State};
+
+/// The values of all nodes of a net without inputs, registers and memories.
+fn values(alloc: Global, net: &Net) -> Result<Vec<u128>, Memory> {
+    let state = State {
+        regs: List::new(alloc),
+        mems: List::new(alloc),
+    };
+    let mut values = Vec::new(alloc);
+    values.resize(net.nodes().len(), 0)?;
+    if net.admits(&[], &state) {
+        net.eval(&[], &state, values.as_mut_slice());
+    }
+    Ok(values)
+}
+
+/// The value of a node of up to 32 bits.
+fn value(values: &[u128], node: NodeId) -> u32 {
+    match values.get(node as usize) {
+        Some(value) => u32::try_from(*value).unwrap_or(u32::MAX),
+        None => u32::MAX,
+    }
+}
+
+/// The effect that the nodes show, where the word is one of the row.
+fn effect_of(values: &[u128], nodes: &EffectNodes) -> Option<Effect> {
+    if value(values, nodes.hit) == 0 {
+        return None;
+    }
+    Some(Effect {
+        rs1_addr: value(values, nodes.rs1_addr),
+        rs2_addr: value(values, nodes.rs2_addr),
+        rd_addr: value(values, nodes.rd_addr),
+        rd_wdata: value(values, nodes.rd_wdata),
+        pc_wdata: value(values, nodes.pc_wdata),
+        mem_addr: value(values, nodes.mem_addr),
+        rmask: value(values, nodes.rmask),
+        wmask: value(values, nodes.wmask),
+        wdata: value(values, nodes.wdata),
+        trap: value(values, nodes.trap) == 1,
+    })
+}
+
+/// What the row's circuit shows of the retirement.
+fn circuit_shows(alloc: Global, case: &Case) -> Result<Option<Effect>, Memory> {
+    let mut net = Net::new(alloc);
+    let channel = play(&mut net, &case.retire)?;
+    let nodes = circuit(&mut net, &channel, case.row, case.opts)?;
+    let values = values(alloc, &net)?;
+    Ok(effect_of(values.as_slice(), &nodes))
+}
+
+/// What the node of agreement shows, over the row's circuit.
+fn agreement_shows(alloc: Global, case: &Case) -> Result<bool, Memory> {
+    let mut net = Net::new(alloc);
+    let channel = play(&mut net, &case.retire)?;
+    let nodes = circuit(&mut net, &channel, case.row, case.opts)?;
+    let test = agreement(&mut net, &channel, &nodes)?;
+    let values = values(alloc, &net)?;
+    Ok(value(values.as_slice(), test) == 1)
+}
+
+/// The retirement that does what the effect says, and those that differ from it in one number.
+fn retirements(retire: &Retire, effect: &Effect) -> [Retire; 11] {
+    let good = Retire {
+        rs1_addr: effect.rs1_addr,
+        rs2_addr: effect.rs2_addr,
+        rd_addr: effect.rd_addr,
+        rd_wdata: effect.rd_wdata,
+        pc_wdata: effect.pc_wdata,
+        mem_addr: effect.mem_addr,
+        mem_rmask: effect.rmask,
+        mem_wmask: effect.wmask,
+        mem_wdata: effect.wdata,
+        trap: effect.trap,
+        ..*retire
+    };
+    [
+        good,
+        Retire {
+            rs1_addr: good.rs1_addr ^ 1,
+            ..good
+        },
+        Retire {
+            rs2_addr: good.rs2_addr ^ 1,
+            ..good
+        },
+        Retire {
+            rd_addr: good.rd_addr ^ 1,
+            ..good
+        },
+        Retire {
+            rd_wdata: good.rd_wdata ^ 1,
+            ..good
+        },
+        Retire {
+            pc_wdata: good.pc_wdata ^ 2,
+            ..good
+        },
+        Retire {
+            mem_addr: good.mem_addr ^ 4,
+            ..good
+        },
+        Retire {
+            mem_rmask: good.mem_rmask ^ 1,
+            ..good
+        },
+        Retire {
+            mem_wmask: good.mem_wmask ^ 4,
+            ..good
+        },
+        Retire {
+            mem_wdata: good.mem_wdata ^ 0x100,
+            ..good
+        },
+        Retire {
+            trap: !good.trap,
+            ..good
+        },
+    ]
+}
+
+/// The numbers of an effect in hexadecimal.
+fn line(alloc: Global, effect: &Effect) -> Result<String, Memory> {
+    let numbers = [
+        effect.rs1_addr,
+        effect.rs2_addr,
+        effect.rd_addr,
+        effect.rd_wdata,
+        effect.pc_wdata,
+        effect.mem_addr,
+        effect.rmask,
+        effect.wmask,
+        effect.wdata,
+        u32::from(effect.trap),
+    ];
+    let mut line = String::new(alloc);
+    for number in numbers {
+        let shown = format!(in alloc; "{number:x} ")?;
+        line.push_str(shown.as_str())?;
+    }
+    Ok(line)
+}
+
+/// What the case's circuit shows, and a digit for each of the retirements: 1 where it agrees.
+pub(crate) fn shown(alloc: Global, case: &Case) -> Result<String, Memory> {
+    let Some(effect) = circuit_shows(alloc, case)? else {
+        return Ok(format!(in alloc; "no hit")?);
+    };
+    let mut line = line(alloc, &effect)?;
+    for retire in retirements(&case.retire, &effect) {
+        let agrees = agreement_shows(alloc, &Case { retire, ..*case })?;
+        line.push(if agrees { '1' } else { '0' })?;
+    }
+    Ok(line)
+}
