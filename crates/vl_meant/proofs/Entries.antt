@@ -1,53 +1,30 @@
 -- The names of a scope with their meanings, one by one.
-use Rattle.std.specs.Prelude.{◌≡◌, refl, ℕ, List, [], ◌∷◌, ◌++◌, map, Bool, true, false, ◌||◌, not, cond, bytes_eq}
-use Rattle.std.specs.Prelude.{Option, Some, None, if◌then◌else◌, is_none}
-use Rattle.std.proofs.Common.{ap, sym, ◌∙◌, true≢false, subst}
+use Rattle.std.specs.Prelude.{◌≡◌, refl, ℕ, List, [], ◌∷◌, ◌++◌, map, Bool, true, false, cond, bytes_eq}
+use Rattle.std.specs.Prelude.{Option, Some, None}
+use Rattle.std.proofs.Common.{ap, sym, ◌∙◌}
 use Rattle.std.proofs.lemmas.Option.{same_Some}
 use Rattle.std.proofs.lemmas.Slice.Eq.{bytes_eq-Decides}
 use Rattle.vl_tree.specs.declared.declaration.DeclaredName.{DeclaredName}
 use Rattle.vl_tree.specs.declared.declaration.FullPort.{FullPort}
 use Rattle.vl_tree.specs.declared.declaration.Parameter.{Parameter}
 use Rattle.vl_tree.specs.declared.declaration.ParameterKind.TheVariants as k
-use Rattle.vl_tree.specs.Item.{
-  Item,
-  Items,
-  Block,
-  declaration,
-  integer,
-  genvar,
-  parameter,
-  assign,
-  always,
-  initial,
-  instance,
-  generate,
-  for_loop,
-  if_only,
-  if_else,
-  no_items,
-  more_items,
-  begin,
-  region,
-  single,
-  items,
-}
+use Rattle.vl_tree.specs.Item.{Item, Items, declaration, integer, genvar, parameter, assign, always, initial, instance, generate, for_loop, if_only, if_else, no_items, more_items}
 use Rattle.vl_size.specs.declared.decl.Class.{Class}
 use Rattle.vl_size.specs.declared.decl.Class.TheVariants as class
 use Rattle.vl_size.specs.declared.decl.Decl.{Decl}
 use Rattle.vl_size.specs.Table.{declared_as}
 use Rattle.vl_mean.specs.declared.const_number.Const.{Const}
-use Rattle.vl_mean.specs.Cells.{contains_name}
-use Rattle.vl_mean.specs.Constants.{Constants, constant_of}
+use Rattle.vl_mean.specs.Constants.{constant_of}
 use Rattle.vl_mean.specs.Declarations.{Overrides, class_of_attributes, joined_attributes}
 use Rattle.vl_mean.specs.Runs.{Each}
 use Rattle.vl_mean.specs.Scopes.{Scope}
-use Rattle.vl_mean.specs.Walk.{Contents, parameter_names, port_names}
+use Rattle.vl_mean.specs.Walk.{parameter_names, port_names}
 use Rattle.vl_same.proofs.EachOf.{both}
 use Rattle.vl_refusal.specs.Meanings.{Meaning, undeclared, constant, loop_variable, object, faulty, later, Names}
-use Rattle.vl_refusal.specs.Meanings.{is_undeclared, meaning_of, constant_or, object_or, parameters_of}
+use Rattle.vl_refusal.specs.Meanings.{is_undeclared, constant_or, object_or, parameters_of}
 use Rattle.vl_refusal.specs.Meanings.{with_parameter_meanings, with_item_constants, port_meanings, name_meanings}
 use Rattle.vl_refusal.specs.Meanings.{item_meanings, items_meanings, is_known_parameter, may_be_selected}
-use Rattle.vl_scope.specs.Seen.{IsNamed, AreNamed}
+use Rattle.vl_scope.specs.Seen.{IsNamed}
 
 abbrev pub names_in : Names → List (List ℕ)
 names_in ns = map (λ n. n.0) ns

@@ -1,6 +1,6 @@
 -- Scopes are laid out as what they are made from says.
 use Rattle.std.specs.Prelude.{◌≡◌, refl, ℕ, List, [], ◌∷◌, ◌++◌, map, Bool, true, false, ◌||◌, bytes_eq}
-use Rattle.std.specs.Prelude.{Option, Some, None, if◌then◌else◌}
+use Rattle.std.specs.Prelude.{Some, None, if◌then◌else◌}
 use Rattle.std.proofs.Common.{ap, sym, ◌∙◌, true≢false}
 use Rattle.vl_tree.specs.declared.declaration.DeclaredName.{DeclaredName}
 use Rattle.vl_tree.specs.declared.declaration.FullPort.{FullPort}
@@ -8,44 +8,22 @@ use Rattle.vl_tree.specs.declared.declaration.Parameter.{Parameter}
 use Rattle.vl_tree.specs.declared.declaration.ParameterKind.TheVariants as k
 use Rattle.vl_tree.specs.declared.declaration.Shape.{Shape}
 use Rattle.vl_tree.specs.declared.source.Module.{Module}
-use Rattle.vl_tree.specs.Item.{
-  Item,
-  Items,
-  Block,
-  declaration,
-  integer,
-  genvar,
-  parameter,
-  assign,
-  always,
-  initial,
-  instance,
-  generate,
-  for_loop,
-  if_only,
-  if_else,
-  no_items,
-  more_items,
-  begin,
-  region,
-  single,
-  items,
-}
+use Rattle.vl_tree.specs.Item.{Item, Items, declaration, integer, genvar, parameter, assign, always, initial, instance, generate, for_loop, if_only, if_else, no_items, more_items, items}
 use Rattle.vl_size.specs.declared.decl.Class.{Class}
 use Rattle.vl_size.specs.declared.decl.Decl.{Decl}
 use Rattle.vl_size.specs.Table.{is_declared}
 use Rattle.vl_mean.specs.declared.const_number.Const.{Const}
 use Rattle.vl_mean.specs.Cells.{contains_name}
 use Rattle.vl_mean.specs.Constants.{Constants, constant_of}
-use Rattle.vl_mean.specs.Declarations.{Overrides, with_constants, with_parameters, with_item_parameters}
+use Rattle.vl_mean.specs.Declarations.{Overrides, with_constants, with_parameters}
 use Rattle.vl_mean.specs.Declarations.{with_items_parameters, declared_names, declared_integers, declared_by, declared}
 use Rattle.vl_mean.specs.Declarations.{declared_ports, parameter_value, ports_of}
 use Rattle.vl_mean.specs.Scopes.{Scope}
-use Rattle.vl_mean.specs.Walk.{Contents, Place, Use, no_contents, parameter_names, port_names, module_parameters}
+use Rattle.vl_mean.specs.Walk.{Place, Use, parameter_names, port_names, module_parameters}
 use Rattle.vl_mean.specs.Walk.{module_constants, module_scope, module_contents, module_around, block_place, turn_place}
 use Rattle.vl_refusal.specs.Meanings.{parameters_of}
 use Rattle.vl_meant.proofs.Entries.{item_objects, object_names, declared_list}
-use Rattle.vl_meant.proofs.Level.{own_names, other_names, IsLaid, AreLaid}
+use Rattle.vl_meant.proofs.Level.{IsLaid, AreLaid}
 
 or_first : (a b : Bool) → (a || b) ≡ false → a ≡ false
 or_first true b h = h

@@ -1,6 +1,6 @@
 -- What a name means in one scope, and in scopes.
-use Rattle.std.specs.Prelude.{◌≡◌, refl, ℕ, List, [], ◌∷◌, ◌++◌, map, Bool, true, false, ◌||◌, not, cond, bytes_eq}
-use Rattle.std.specs.Prelude.{Option, Some, None, if◌then◌else◌, is_none}
+use Rattle.std.specs.Prelude.{◌≡◌, refl, ℕ, List, [], ◌∷◌, ◌++◌, map, Bool, true, false, ◌||◌, cond, bytes_eq}
+use Rattle.std.specs.Prelude.{Option, Some, None, if◌then◌else◌}
 use Rattle.std.proofs.Common.{ap, sym, ◌∙◌, true≢false, subst}
 use Rattle.std.proofs.lemmas.Slice.Eq.{bytes_eq-Decides}
 use Rattle.vl_size.specs.declared.decl.Decl.{Decl}
@@ -16,9 +16,9 @@ use Rattle.vl_refusal.specs.Meanings.{Meaning, undeclared, constant, loop_variab
 use Rattle.vl_refusal.specs.Meanings.{is_undeclared, meaning_of, meaning_in, parameters_of, with_parameter_meanings}
 use Rattle.vl_refusal.specs.Meanings.{with_item_constants, port_meanings, items_meanings, scope_meanings, all_later}
 use Rattle.vl_refusal.specs.Meanings.{all_meanings}
-use Rattle.vl_scope.specs.Seen.{IsNamed, AreNamed, AllNamed}
-use Rattle.vl_sized.specs.Sized.{IsSound, AreSound}
-use Rattle.vl_known.specs.Means.{MeansIn, AreMeant}
+use Rattle.vl_scope.specs.Seen.{AreNamed, AllNamed}
+use Rattle.vl_sized.specs.Sized.{IsSound}
+use Rattle.vl_known.specs.Means.{MeansIn}
 use Rattle.vl_meant.proofs.Entries.{names_in, object_names, FoundMeans, IsEntry, IsParameter, AreParameters}
 use Rattle.vl_meant.proofs.Entries.{parameter_entries, item_constant_entries, parameter_list, item_constant_list}
 use Rattle.vl_meant.proofs.Entries.{port_entries, port_list, items_entries, items_list}

@@ -1,5 +1,5 @@
 -- Names mean what they stand for in each step of a walk.
-use Rattle.std.specs.Prelude.{◌≡◌, refl, ℕ, zero, suc, ◌+◌, List, [], ◌∷◌, ◌++◌, length, Bool, true, false}
+use Rattle.std.specs.Prelude.{ℕ, zero, suc, ◌+◌, List, [], ◌∷◌, ◌++◌, length, Bool, true, false}
 use Rattle.std.specs.Prelude.{Option, Some, None, if◌then◌else◌, codes}
 use Rattle.vl_tree.specs.declared.declaration.FullPort.{FullPort}
 use Rattle.vl_tree.specs.declared.declaration.Parameter.{Parameter}
@@ -38,7 +38,7 @@ use Rattle.vl_mean.specs.Constants.{constant_operand}
 use Rattle.vl_mean.specs.Declarations.{constructs, names_of, is_if, label_of, block_name, full_port, ports_of}
 use Rattle.vl_mean.specs.Runs.{Each}
 use Rattle.vl_mean.specs.Scopes.{Scope, constant_in}
-use Rattle.vl_mean.specs.Walk.{Place, Use, Step, Unfolding, item, with_earlier, module_named, module_parameters}
+use Rattle.vl_mean.specs.Walk.{Place, Use, Step, Unfolding, with_earlier, module_named, module_parameters}
 use Rattle.vl_mean.specs.Walk.{module_place, module_scope, module_contents, parameter_names, port_names, written_ports}
 use Rattle.vl_mean.specs.Walk.{header_steps, port_step, optional_name, port_steps, use_of, connections_of}
 use Rattle.vl_mean.specs.Walk.{override_steps, connection_steps, with_module, instance_steps, turn_place, turns, goes_on}
