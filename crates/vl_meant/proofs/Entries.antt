@@ -8,7 +8,8 @@ use Rattle.vl_tree.specs.declared.declaration.DeclaredName.{DeclaredName}
 use Rattle.vl_tree.specs.declared.declaration.FullPort.{FullPort}
 use Rattle.vl_tree.specs.declared.declaration.Parameter.{Parameter}
 use Rattle.vl_tree.specs.declared.declaration.ParameterKind.TheVariants as k
-use Rattle.vl_tree.specs.Item.{Item, Items, declaration, integer, genvar, parameter, assign, always, initial, instance, generate, for_loop, if_only, if_else, no_items, more_items}
+use Rattle.vl_tree.specs.Item.{Item, Items, declaration, integer, genvar, parameter, assign, always, initial}
+use Rattle.vl_tree.specs.Item.{instance, generate, for_loop, if_only, if_else, no_items, more_items}
 use Rattle.vl_size.specs.declared.decl.Class.{Class}
 use Rattle.vl_size.specs.declared.decl.Class.TheVariants as class
 use Rattle.vl_size.specs.declared.decl.Decl.{Decl}

@@ -8,7 +8,8 @@ use Rattle.vl_tree.specs.declared.declaration.Parameter.{Parameter}
 use Rattle.vl_tree.specs.declared.declaration.ParameterKind.TheVariants as k
 use Rattle.vl_tree.specs.declared.declaration.Shape.{Shape}
 use Rattle.vl_tree.specs.declared.source.Module.{Module}
-use Rattle.vl_tree.specs.Item.{Item, Items, declaration, integer, genvar, parameter, assign, always, initial, instance, generate, for_loop, if_only, if_else, no_items, more_items, items}
+use Rattle.vl_tree.specs.Item.{Item, Items, declaration, integer, genvar, parameter, assign, always, initial}
+use Rattle.vl_tree.specs.Item.{instance, generate, for_loop, if_only, if_else, no_items, more_items, items}
 use Rattle.vl_size.specs.declared.decl.Class.{Class}
 use Rattle.vl_size.specs.declared.decl.Decl.{Decl}
 use Rattle.vl_size.specs.Table.{is_declared}

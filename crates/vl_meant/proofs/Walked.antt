@@ -41,9 +41,11 @@ use Rattle.vl_mean.specs.Scopes.{Scope, constant_in}
 use Rattle.vl_mean.specs.Walk.{Place, Use, Step, Unfolding, with_earlier, module_named, module_parameters}
 use Rattle.vl_mean.specs.Walk.{module_place, module_scope, module_contents, parameter_names, port_names, written_ports}
 use Rattle.vl_mean.specs.Walk.{header_steps, port_step, optional_name, port_steps, use_of, connections_of}
-use Rattle.vl_mean.specs.Walk.{override_steps, connection_steps, with_module, instance_steps, turn_place, turns, goes_on}
+use Rattle.vl_mean.specs.Walk.{override_steps, connection_steps, with_module, instance_steps, turn_place, turns}
+use Rattle.vl_mean.specs.Walk.{goes_on}
 use Rattle.vl_mean.specs.Walk.{next_turn, first_turn, loop_turns, turn_path, block_place, block_path, single_place}
-use Rattle.vl_mean.specs.Walk.{single_number, item_steps, items_steps, turn_steps, block_steps, unfolded, walk, top_input}
+use Rattle.vl_mean.specs.Walk.{single_number, item_steps, items_steps, turn_steps, block_steps, unfolded, walk}
+use Rattle.vl_mean.specs.Walk.{top_input}
 use Rattle.vl_same.proofs.EachOf.{both}
 use Rattle.vl_refusal.specs.Meanings.{all_meanings}
 use Rattle.vl_meant.specs.Right.{AreRight, IsRight}
@@ -199,7 +201,8 @@ module _ (ms : List Module) (inner : Unfolding) (unfolds : Unfolds inner) where
         items_right xs (block_place at path xs) 1 (block_laid at path xs h)
     block_right (single x) at n h =
         item_right x (single_place at n x) (single_number n x)
-        (single_laid (is_if x) at (block_place at (block_path at (block_name at.names n None)) (more_items x no_items)) h
+        (single_laid (is_if x) at
+        (block_place at (block_path at (block_name at.names n None)) (more_items x no_items)) h
         (block_laid at (block_path at (block_name at.names n None)) (more_items x no_items) h))
 
 unfolded_right : (n : ℕ) (ms : List Module) → Unfolds (λ m u path modules front. unfolded n ms m u path modules front)
