@@ -1,0 +1,31 @@
+//! That the parts of items and ports which aren't refused are known.
+ghost use Rattle.std.specs.Prelude.{◌≡◌, ℕ, List, []};
+ghost use Rattle.fv_base.specs.declared.pos.Pos.{Pos};
+ghost use Rattle.vl_tree.specs.declared.declaration.FullPort.{FullPort};
+ghost use Rattle.vl_tree.specs.declared.source.Module.{Module};
+ghost use Rattle.vl_tree.specs.ExprWellFormed.{IsName, IsValue};
+ghost use Rattle.vl_tree.specs.Item.{Item};
+ghost use Rattle.vl_tree.specs.WellFormed.{IsWellFormed};
+ghost use Rattle.vl_mean.specs.Parts.{item_parts, step_parts};
+ghost use Rattle.vl_mean.specs.Runs.{Each};
+ghost use Rattle.vl_mean.specs.Walk.{Place, Use, port};
+ghost use Rattle.vl_same.specs.Flattened.{Known};
+ghost use Rattle.vl_refusal.specs.Items.{item_refusals, port_refusals};
+ghost use Rattle.vl_refusal.specs.Meanings.{meanings_at};
+ghost use Rattle.vl_sized.specs.Sized.{AreSound};
+ghost use Rattle.vl_meant.specs.Right.{AreRight};
+
+/// Where an item isn't refused, and names in its place mean what they stand for, each name in its parts is a constant
+/// or declared, what is assigned is no constant, and what begins with a value has 1 to 128 bits.
+#[tactic(auto, using(crate::proofs::Parting::known_item))]
+pub fn items_are_known()
+    ensures { (ms : List Module) (at : Place) (x : Item) → AreRight (meanings_at at) at.scopes
+        → AreSound (meanings_at at) → IsWellFormed x → item_refusals ms at x ≡ [] → Each Known (item_parts at x) }
+{}
+
+/// The same of a port.
+pub fn ports_are_known()
+    ensures { (at : Place) (u : Use) (p : Pos) (q : FullPort) → AreRight (meanings_at at) at.scopes
+        → AreSound (meanings_at at) → IsName q.name → IsValue q.value → port_refusals at p q ≡ []
+        → Each Known (step_parts (port at u p q)) }
+{}
