@@ -9,7 +9,7 @@ use Rattle.lrat_check.specs.Steps.{is_empty}
 use Rattle.sat_trail.specs.Trail.{Entries, lits, below, Stand}
 use Rattle.sat_trail.specs.Clauses.{Within}
 use Rattle.sat_watch.specs.Laws.{IsOlder}
-use Rattle.sat_learn.specs.Analysis.{Derives, SameLevel, is_unit}
+use Rattle.sat_learn.specs.Analysis.{Resolves, SameLevel, is_unit}
 use Rattle.sat_learn.specs.Learning.{Learns}
 use Rattle.sat_trail.proofs.Readings.{unit_to}
 use Rattle.sat_learn.proofs.News.{unit_is, is_resolvent, strengthens}
@@ -20,7 +20,7 @@ some_at (m ∷ r) l h = refl
 
 -- one clause is learnt, where it is traced back until one literal alone is open, and then joins the others
 pub learns_on : (cs more : List (List ℤ)) (t mid cut : Entries) (steps longer : List Step) (r hints : List ℤ)
-    → Derives cs mid r hints → SameLevel t mid → is_unit (reading (lits (below mid)) r) ≡ true
+    → Resolves cs mid r hints → SameLevel t mid → is_unit (reading (lits (below mid)) r) ≡ true
     → Within (lits mid) (lits t) → Within (lits cut) (lits mid) → IsOlder t cut → Stand (cs ++ r ∷ []) cut
     → more ≡ cs ++ r ∷ []
     → longer ≡ steps ++ Add (length cs + 1) r hints ∷ [] → length cs + 1 < 2 ^ 63 - 1

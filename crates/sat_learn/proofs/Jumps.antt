@@ -125,3 +125,8 @@ joins cs r t s u stop =
           (λ h. false≢true (sym a.unfalse ∙ below_within t (neg_ℤ l.0) h))) n (stop d),
       n,
     )))
+
+-- where no decision is left, any clause can join the others
+pub joins_anew : (cs : List (List ℤ)) (r : List ℤ) (t : Entries) → Stand cs t → decided t ≡ false
+    → Stand (cs ++ r ∷ []) t
+joins_anew cs r t s n = stand_more cs r t s (blocks_below r t (λ d. absurd (true≢false (sym d ∙ n))))

@@ -6,4 +6,5 @@ pub mod Lasts
 pub mod Levels
 pub mod News
 pub mod Placings
+pub mod Shortens
 pub mod Tracing

@@ -15,7 +15,7 @@ use Rattle.lrat_check.specs.Steps.{Held, numbered}
 use Rattle.lrat_check.specs.Resolved.{IsResolvent, is_open, Strengthens}
 use Rattle.sat_trail.specs.Trail.{Entries, lits, decided, below}
 use Rattle.sat_trail.specs.Clauses.{AllFalse, Within}
-use Rattle.sat_learn.specs.Analysis.{Derives, is_unit}
+use Rattle.sat_learn.specs.Analysis.{Resolves, is_unit}
 use Rattle.sat_trail.proofs.Members.{same_is, same_self, neg_neg, or_left, or_right, or_cases, has_head, has_tail}
 use Rattle.sat_trail.proofs.Members.{any_has, without_has, without_from}
 use Rattle.sat_trail.proofs.Readings.{unit_to, open_to}
@@ -34,7 +34,7 @@ all_at p (l ∷ ls) x a h = let q = and_parts (p l) (list_all p ls) a in elim (o
   | inr e ↦ all_at p ls x q.1 e
 ]
 
-negs_has : (c : List ℤ) (x : ℤ) → has (negs c) x ≡ true → has c (neg_ℤ x) ≡ true
+pub negs_has : (c : List ℤ) (x : ℤ) → has (negs c) x ≡ true → has c (neg_ℤ x) ≡ true
 negs_has [] x h = absurd (false≢true h)
 negs_has (l ∷ ls) x h = elim (or_cases (int_eq x (neg_ℤ l)) (has (negs ls) x) h) [
   | inl e ↦ or_left (int_eq (neg_ℤ x) l) (has ls (neg_ℤ x))
@@ -42,7 +42,7 @@ negs_has (l ∷ ls) x h = elim (or_cases (int_eq x (neg_ℤ l)) (has (negs ls) x
   | inr e ↦ or_right (int_eq (neg_ℤ x) l) (has ls (neg_ℤ x)) (negs_has ls x e)
 ]
 
-negs_from : (c : List ℤ) (x : ℤ) → has c x ≡ true → has (negs c) (neg_ℤ x) ≡ true
+pub negs_from : (c : List ℤ) (x : ℤ) → has c x ≡ true → has (negs c) (neg_ℤ x) ≡ true
 negs_from [] x h = absurd (false≢true h)
 negs_from (l ∷ ls) x h = elim (or_cases (int_eq x l) (has ls x) h) [
   | inl e ↦ or_left (int_eq (neg_ℤ x) (neg_ℤ l)) (has (negs ls) (neg_ℤ x))
@@ -50,14 +50,11 @@ negs_from (l ∷ ls) x h = elim (or_cases (int_eq x l) (has ls x) h) [
   | inr e ↦ or_right (int_eq (neg_ℤ x) (neg_ℤ l)) (has (negs ls) (neg_ℤ x)) (negs_from ls x e)
 ]
 
--- a traced clause is the resolvent of its hints
-pub is_resolvent : (clauses : List (List ℤ)) (t : Entries) (r hints : List ℤ) → Derives clauses t r hints
+-- a learnt clause is the resolvent of its hints
+pub is_resolvent : (clauses : List (List ℤ)) (t : Entries) (r hints : List ℤ) → Resolves clauses t r hints
     → IsResolvent (numbered clauses) r hints
 is_resolvent clauses t r hints d =
-    let inside : Within (negs r) (lits t) = λ x h. ap (has (lits t)) (sym (neg_neg x))
-    ∙ d.all_false (neg_ℤ x) (negs_has r x h) in
-    let false_there : AllFalse (negs r) r = λ x h. negs_from r x h in
-    let g = d.gives (negs r) inside false_there in (
+    let g = d.gives (negs r) (λ x. refl) in (
       g.0,
       g.1,
       and_from (within g.0 r) (within r g.0) (all_from (has r) g.0 (λ x h. sym (g.2 x) ∙ h))
@@ -71,7 +68,7 @@ unit_is (read.Unit l) h = (l, refl)
 unit_is read.Open h = absurd (false≢true h)
 
 -- and strengthens unit propagation, where one literal alone is open below the newest decision
-pub strengthens : (clauses : List (List ℤ)) (t : Entries) (r hints : List ℤ) → Derives clauses t r hints
+pub strengthens : (clauses : List (List ℤ)) (t : Entries) (r hints : List ℤ) → Resolves clauses t r hints
     → decided t ≡ true → is_unit (reading (lits (below t)) r) ≡ true → Strengthens (numbered clauses) r
 strengthens clauses t r hints d k u =
     let l = unit_is (reading (lits (below t)) r) u in

@@ -100,7 +100,7 @@ all_union l m c r h k = all_append (filter (λ x. not (has (without m r) x)) (wi
     (all_filter (λ x. not (has (without m r) x)) (without l c) (all_filter (λ x. not (int_eq l x)) c h))
     (all_filter (λ x. not (int_eq m x)) r k)
 
-positive : (n : ℕ) → is_negative (pos n) ≡ false
+pub positive : (n : ℕ) → is_negative (pos n) ≡ false
 positive n = le-ltb n 0 (omega arith)
 
 -- a false clause is what its own hint derives
@@ -131,7 +131,7 @@ renamed clauses t c r hints d s = record {
   gives = λ set w a. let g = d.gives set w (λ x h. a x (s x ∙ h)) in (g.0, g.1, λ x. g.2 x ∙ sym (s x));
 }
 
-both_ways : (a b : Bool) → (a ≡ true → b ≡ true) → (b ≡ true → a ≡ true) → a ≡ b
+pub both_ways : (a b : Bool) → (a ≡ true → b ≡ true) → (b ≡ true → a ≡ true) → a ≡ b
 both_ways true b f g = sym (f refl)
 both_ways false b f g = sym (false_from_ne_true b (λ h. false≢true (g h)))
 

@@ -1,9 +1,11 @@
 -- What a clause and its hints say while a conflict is traced back along a trail. Rules of this project.
-use Rattle.std.specs.Prelude.{ℕ, ◌≡◌, Bool, true, false, List, [], ◌∷◌, ℤ, slice_get, Option, Some, None}
+use Rattle.std.specs.Prelude.{ℕ, ◌≡◌, Bool, true, false, not, ◌&&◌, ◌||◌, List, [], ◌∷◌, ℤ, slice_get}
+use Rattle.std.specs.Prelude.{Option, Some, None}
 use Rattle.std.specs.List.{list_any}
 use Rattle.lrat_check.specs.declared.reading.Reading.{Reading}
 use Rattle.lrat_check.specs.declared.reading.Reading.TheVariants as read
-use Rattle.lrat_check.specs.Sets.{has, is_false, reading, AreLits}
+use Rattle.std.specs.Ordering.{int_eq}
+use Rattle.lrat_check.specs.Sets.{has, is_false, negs, reading, AreLits}
 use Rattle.lrat_check.specs.Steps.{numbered, is_negative}
 use Rattle.lrat_check.specs.Resolved.{resolvent}
 use Rattle.sat_trail.specs.Clauses.{AllFalse, Within}
@@ -19,6 +21,23 @@ pub record Derives (clauses : List (List ℤ)) (trail : Entries) (clause hints :
   pub fine : list_any is_negative hints ≡ false
   pub gives : (set : List ℤ) → Within set (lits trail) → AllFalse set clause
       → (other : List ℤ) × (resolvent (numbered clauses) set hints ≡ Some other) × SameLits other clause
+
+-- the clause is false on the trail, and from its literals' complements it is the resolvent of the hints, in some order
+pub record Resolves (clauses : List (List ℤ)) (trail : Entries) (clause hints : List ℤ) : Type 0 where
+  pub stand : Stand clauses trail
+  pub all_false : AllFalse (lits trail) clause
+  pub all_lits : AreLits clause
+  pub fine : list_any is_negative hints ≡ false
+  pub gives : (set : List ℤ) → SameLits set (negs clause)
+      → (other : List ℤ) × (resolvent (numbered clauses) set hints ≡ Some other) × SameLits other clause
+
+-- the literal isn't the forced one, and isn't among those of the set but for the dropped one
+abbrev pub is_stray : List ℤ → ℤ → ℤ → ℤ → Bool
+is_stray set forced dropped lit = not (int_eq forced lit) && (int_eq dropped lit || not (has set lit))
+
+-- where the set's literals but for the dropped one are false, the clause forces the literal
+abbrev pub implies : List ℤ → ℤ → ℤ → List ℤ → Bool
+implies set forced dropped clause = has clause forced && not (list_any (is_stray set forced dropped) clause)
 
 -- a clause that is traced back so far, along a trail with a decision
 abbrev pub IsTraced : Entries → List ℤ → Type 0

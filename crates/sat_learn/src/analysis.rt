@@ -6,9 +6,11 @@ ghost use Rattle.sat_trail.specs.Trail.{lits, below, decided, is_decision};
 ghost use Rattle.sat_watch.specs.Watches.{is_other};
 ghost use Rattle.sat_unit.specs.Propagation.{AllLits};
 ghost use Rattle.sat_trail.specs.Clauses.{Within};
-ghost use Rattle.sat_learn.specs.Analysis.{Derives, IsTraced, SameLevel, NewestIsImplied, IsConflict, is_unit};
+ghost use Rattle.sat_learn.specs.Analysis.{Derives, Resolves, IsTraced, SameLevel, NewestIsImplied, IsConflict};
+ghost use Rattle.sat_learn.specs.Analysis.{is_unit};
 
 use crate::lit_set::LitSet;
+use crate::shortening::shorten;
 use fv_base::{List, Memory};
 use lrat_check::Reading;
 use sat_trail::{Entry, Trail};
@@ -32,7 +34,7 @@ struct Tracing {
     late: usize,
 }
 
-fn complement(lit: i64) -> i64
+pub(crate) fn complement(lit: i64) -> i64
     requires { IsLit lit }
     ensures { result ≡ neg_ℤ lit }
 {
@@ -96,7 +98,7 @@ fn join(
 }
 
 /// The id of the clause at the place, behind the hints.
-fn push_id(hints: &mut Vec<i64>, place: usize) -> Result<(), Memory>
+pub(crate) fn push_id(hints: &mut Vec<i64>, place: usize) -> Result<(), Memory>
     requires { place < 2 ^ 63 - 1 }
     ensures { OnOk result (hints.new.items ≡ hints.old.items ++ pos (place + 1) ∷ []) }
 {
@@ -178,6 +180,33 @@ fn is_done(trail: &Trail, set: &LitSet, tracing: &Tracing) -> bool
 }
 
 /// Takes entries back to the first unique implication point.
+fn trace(
+    alloc: Global,
+    clauses: &[List<i64>],
+    trail: &mut Trail,
+    set: &mut LitSet,
+    conflict: usize,
+) -> Result<Tracing, Memory>
+    requires few { length clauses.now < 2 ^ 63 - 1 }
+    requires lits { AllLits clauses.now }
+    requires decided { decided trail.old ≡ true }
+    requires conflict { IsConflict clauses.now trail.old conflict }
+    ensures derives { IfOk result (λ t. Derives clauses.now trail.new set.new (reverse t.hints.items)) }
+    ensures start { IfOk result (λ t. t.start ≡ length (below trail.new)) }
+    ensures level { OnOk result (SameLevel trail.old trail.new) }
+    ensures part { OnOk result (Within (lits trail.new) (lits trail.old)) }
+    ensures unit { OnOk result (is_unit (reading (lits (below trail.new)) set.new) ≡ true) }
+{
+    let mut tracing = begin(alloc, clauses, trail, set, conflict)?;
+    'walk: while !is_done(trail, set, &tracing) {
+        if let Some(entry) = trail.pop() {
+            back(clauses, trail, set, &mut tracing, entry)?;
+        }
+    }
+    Ok(tracing)
+}
+
+/// Takes entries back to the first unique implication point, and leaves out what the clause's other literals imply.
 pub(crate) fn to_unit(
     alloc: Global,
     clauses: &[List<i64>],
@@ -189,26 +218,24 @@ pub(crate) fn to_unit(
     requires lits { AllLits clauses.now }
     requires decided { decided trail.old ≡ true }
     requires conflict { IsConflict clauses.now trail.old conflict }
-    ensures derives { IfOk result (λ l. Derives clauses.now trail.new l.lits.items (reverse l.hints.items)) }
+    ensures resolves { IfOk result (λ l. Resolves clauses.now trail.new l.lits.items (reverse l.hints.items)) }
     ensures level { OnOk result (SameLevel trail.old trail.new) }
     ensures part { OnOk result (Within (lits trail.new) (lits trail.old)) }
     ensures unit { IfOk result (λ l. is_unit (reading (lits (below trail.new)) l.lits.items) ≡ true) }
 {
-    let mut tracing = begin(alloc, clauses, trail, set, conflict)?;
-    'walk: while !is_done(trail, set, &tracing) {
-        if let Some(entry) = trail.pop() {
-            back(clauses, trail, set, &mut tracing, entry)?;
-        }
-    }
+    let Tracing {
+        mut hints,
+        start,
+        ..
+    } = trace(alloc, clauses, trail, set, conflict)?;
+    let traced = Vec::from_slice(alloc, set.as_slice())?;
+    shorten(clauses, trail, start, set, &mut hints, &traced)?;
     let lits = Vec::from_slice(alloc, set.as_slice())?;
-    Ok(Learnt {
-        lits,
-        hints: tracing.hints,
-    })
+    Ok(Learnt { lits, hints })
 }
 
 /// Takes back all entries, none of which is a decision: the clause is empty then.
-pub fn to_empty(
+pub(crate) fn to_empty(
     alloc: Global,
     clauses: &[List<i64>],
     trail: &mut Trail,

@@ -1,4 +1,4 @@
-ghost use Rattle.std.specs.Prelude.{◌≡◌, ◌<◌, ◌+◌, ◌-◌, ◌^◌, List, [], ◌∷◌, ◌++◌, ℤ, true, length, reverse};
+ghost use Rattle.std.specs.Prelude.{◌≡◌, ◌<◌, ◌+◌, ◌-◌, ◌^◌, List, [], ◌∷◌, ◌++◌, ℤ, true, false, length, reverse};
 ghost use Rattle.std.specs.Prelude.{OnOk, IfSome};
 ghost use Rattle.lrat_check.specs.Sets.{reading, IsLit, AreLits};
 ghost use Rattle.sat_trail.specs.Trail.{lits as true_lits, below, decided, Stand};
@@ -84,6 +84,38 @@ fn backjump(clauses: &[List<i64>], trail: &mut Trail, lits: &[i64])
     }
 }
 
+/// Takes all levels off.
+fn begin_anew(trail: &mut Trail)
+    requires { decided trail.old ≡ true }
+    ensures undecided { decided trail.new ≡ false }
+    ensures stand { (clauses : List (List ℤ)) → Stand clauses trail.old → Stand clauses trail.new }
+    ensures part { Within (true_lits trail.new) (true_lits trail.old) }
+    ensures older { IsOlder trail.old trail.new }
+{
+    trail.drop_level();
+    while trail.has_decision() {
+        trail.drop_level();
+    }
+}
+
+/// Cuts the trail back to where the clause, which forces a literal below the newest decision, may join the others: as
+/// far as it still does, or to the beginning.
+fn cut(clauses: &[List<i64>], trail: &mut Trail, lits: &[i64], anew: bool)
+    requires lits { AreLits lits.now }
+    requires stand { Stand clauses.now trail.old }
+    requires unit { is_unit (reading (true_lits (below trail.old)) lits.now) ≡ true }
+    requires decided { decided trail.old ≡ true }
+    ensures stand { Stand (clauses.now ++ lits.now ∷ []) trail.new }
+    ensures part { Within (true_lits trail.new) (true_lits trail.old) }
+    ensures older { IsOlder trail.old trail.new }
+{
+    if anew {
+        begin_anew(trail);
+        return;
+    }
+    backjump(clauses, trail, lits);
+}
+
 /// The clause joins the others, and the step that adds it the other steps.
 pub fn add(
     alloc: Global,
@@ -109,14 +141,15 @@ pub fn add(
     Ok(())
 }
 
-/// Learns a clause from one that is false, and takes the trail back to where it forces a literal.
-pub fn learn(
+/// Learns a clause from one that is false, and takes the trail back to where it forces a literal, or to the beginning.
+pub(crate) fn learn(
     alloc: Global,
     clauses: &mut List<List<i64>>,
     trail: &mut Trail,
     set: &mut LitSet,
     steps: &mut List<Step>,
     conflict: usize,
+    anew: bool,
 ) -> Result<(), Memory>
     requires lits { AllLits clauses.old }
     requires decided { decided trail.old ≡ true }
@@ -127,7 +160,7 @@ pub fn learn(
         return Err(Memory);
     }
     let learnt = to_unit(alloc, clauses.as_slice(), trail, set, conflict)?;
-    backjump(clauses.as_slice(), trail, &learnt.lits);
+    cut(clauses.as_slice(), trail, &learnt.lits, anew);
     add(alloc, clauses, steps, learnt)?;
     Ok(())
 }

@@ -12,7 +12,7 @@ use std::marker::Model;
 
 /// Literals, each once, in some order. To look for one, to add or to remove it takes a few steps.
 #[derive(Drop)]
-pub struct LitSet {
+pub(crate) struct LitSet {
     lits: Vec<i64>,
     /// One above the place of each.
     places: Places,
@@ -30,7 +30,7 @@ impl Model for LitSet {
 }
 
 impl LitSet {
-    pub fn new(alloc: Global) -> LitSet
+    pub(crate) fn new(alloc: Global) -> LitSet
         ensures { result ≡ [] }
     {
         LitSet {

@@ -32,6 +32,7 @@ use Rattle.sat_search.specs.Found.{nonempty, AreAdded}
 use Rattle.sat_search.specs.Searching.{Searching}
 use Rattle.sat_unit.proofs.Consistent.{no_pair}
 use Rattle.sat_learn.proofs.News.{all_from, is_resolvent, strengthens, is_new}
+use Rattle.sat_learn.proofs.Shortens.{traced}
 use Rattle.sat_search.proofs.Literals.{literal_at, literals_from, neg_literal, clauses_more, clauses_behind}
 use Rattle.sat_search.proofs.Counts.{fewer_clauses, apart_more}
 
@@ -252,7 +253,7 @@ module _ (vars budget : ℕ) (formula cs : List (List ℤ)) (t : Entries) (steps
     -- the empty clause refutes
     pub refutes_now : Refutes formula longer (length cs + 1)
     refutes_now =
-        let v = is_resolvent cs u r hints d in
+        let v = is_resolvent cs u r hints (traced cs u r hints d) in
         let w : walk (numbered cs) (length cs + 1) (negs []) hints ≡ None =
         ap (λ z. walk (numbered cs) (length cs + 1) (negs z) hints) (sym empty)
         ∙ walks_to (numbered cs) (length cs + 1) (negs r) hints v.0 v.1 in

@@ -10,7 +10,7 @@ use crate::found::Found;
 use cnf_form::Formula;
 use fv_base::{List, Memory};
 use lrat_check::Step;
-use sat_learn::{LitSet, MOST_CLAUSES, add, learn, to_empty};
+use sat_learn::{Learner, MOST_CLAUSES, add};
 use sat_order::Order;
 use sat_trail::{Entry, Trail};
 use sat_unit::{Propagation, Scan};
@@ -48,7 +48,7 @@ pub fn solve(alloc: Global, formula: &Formula, budget: u64) -> Result<Found, Mem
     let mut left = budget;
     let mut propagation = Propagation::new(alloc);
     let mut order = order_of(alloc, formula)?;
-    let mut set = LitSet::new(alloc);
+    let mut learner = Learner::new(alloc);
     'turns: loop {
         let scan = propagation.next(clauses.as_slice(), &trail)?;
         match scan {
@@ -65,11 +65,11 @@ pub fn solve(alloc: Global, formula: &Formula, budget: u64) -> Result<Found, Mem
             },
             Scan::Conflict(place) => {
                 if !trail.has_decision() {
-                    let learnt = to_empty(alloc, clauses.as_slice(), &mut trail, &mut set, place)?;
+                    let learnt = learner.to_empty(clauses.as_slice(), &mut trail, place)?;
                     add(alloc, &mut clauses, &mut steps, learnt)?;
                     return Ok(Found::Refuted(steps));
                 }
-                learn(alloc, &mut clauses, &mut trail, &mut set, &mut steps, place)?;
+                learner.learn(&mut clauses, &mut trail, &mut steps, place)?;
                 note(
                     &mut order,
                     clauses.as_slice(),

@@ -2,7 +2,7 @@ use Rattle.std.proofs.Common.{◌≡◌, length, reverse}
 use Rattle.sat_trail.specs.Trail.{lits, below}
 use Rattle.sat_trail.specs.Clauses.{Within}
 use Rattle.sat_learn.specs.Analysis.{Derives, SameLevel}
-use Rattle.sat_learn.proofs.analysis.to_unit.Given as goal
+use Rattle.sat_learn.proofs.analysis.trace.Given as goal
 
 abbrev pub invariant-walk : goal.invariant-walk
 invariant-walk l = record {

@@ -1,0 +1,75 @@
+ghost use Rattle.std.specs.Prelude.{◌≡◌, ◌<◌, ◌-◌, ◌^◌, [], true, false, length, reverse, IfOk, OnOk};
+ghost use Rattle.sat_trail.specs.Trail.{decided};
+ghost use Rattle.sat_unit.specs.Propagation.{AllLits};
+ghost use Rattle.sat_learn.specs.Analysis.{Derives, IsConflict};
+ghost use Rattle.sat_learn.specs.Learning.{Learns};
+
+use crate::analysis::{Learnt, to_empty};
+use crate::learning::learn;
+use crate::lit_set::LitSet;
+use crate::restarts::Restarts;
+use fv_base::{List, Memory};
+use lrat_check::Step;
+use sat_trail::Trail;
+use std::alloc::Global;
+
+/// Learns from conflicts, and keeps from one to the next where it traces them and when the search begins anew.
+#[derive(Drop)]
+pub struct Learner {
+    alloc: Global,
+    set: LitSet,
+    restarts: Restarts,
+}
+
+impl Learner {
+    pub fn new(alloc: Global) -> Learner {
+        Learner {
+            alloc,
+            set: LitSet::new(alloc),
+            restarts: Restarts::new(),
+        }
+    }
+
+    /// Learns a clause from one that is false, and takes the trail back to where it forces a literal, or, now and then,
+    /// to the beginning. The only error is want of memory, also where there are `MOST_CLAUSES` clauses or more.
+    pub fn learn(
+        &mut self,
+        clauses: &mut List<List<i64>>,
+        trail: &mut Trail,
+        steps: &mut List<Step>,
+        conflict: usize,
+    ) -> Result<(), Memory>
+        requires lits { AllLits clauses.old }
+        requires decided { decided trail.old ≡ true }
+        requires conflict { IsConflict clauses.old trail.old conflict }
+        ensures { OnOk result (Learns clauses.old clauses.new trail.old trail.new steps.old steps.new) }
+    {
+        let anew = self.restarts.is_due();
+        learn(
+            self.alloc,
+            clauses,
+            trail,
+            &mut self.set,
+            steps,
+            conflict,
+            anew,
+        )
+    }
+
+    /// Takes back all entries, none of which is a decision: the clause is empty then.
+    pub fn to_empty(
+        &mut self,
+        clauses: &[List<i64>],
+        trail: &mut Trail,
+        conflict: usize,
+    ) -> Result<Learnt, Memory>
+        requires few { length clauses.now < 2 ^ 63 - 1 }
+        requires lits { AllLits clauses.now }
+        requires undecided { decided trail.old ≡ false }
+        requires conflict { IsConflict clauses.now trail.old conflict }
+        ensures derives { IfOk result (λ l. Derives clauses.now trail.new l.lits.items (reverse l.hints.items)) }
+        ensures empty { IfOk result (λ l. l.lits.items ≡ []) }
+    {
+        to_empty(self.alloc, clauses, trail, &mut self.set, conflict)
+    }
+}
