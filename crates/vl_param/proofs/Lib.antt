@@ -1,0 +1,4 @@
+pub mod KeptParameters
+pub mod Listed
+pub mod LaterNames
+pub mod Whole
