@@ -1,0 +1,12 @@
+use Rattle.std.proofs.Common.{◌≡◌, [], rules}
+use Rattle.vl_path.specs.Reads.{reads}
+use Rattle.flow_effects.proofs.Joining.{shows_runs}
+use Rattle.flow_effects.proofs.bits.reads_of.Goals as goal
+
+pub returns : goal.returns
+returns c sized =
+    let runs = c.expr_reads.new.into.items in
+    let none : c.new-runs.result.items ≡ [] = search rules in
+    let same : c.as_slice.result.now ≡ runs = search rules in
+    shows_runs c.args.decls.now c.new-runs.result.items runs c.as_slice.result.now c.in_ok-bits_of.field-0
+    (reads c.args.decls.now c.args.expr.now) none same c.in_ok-bits_of.ensures (c.in_ok-expr_reads.ensures sized)

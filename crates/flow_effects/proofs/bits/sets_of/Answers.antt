@@ -1,0 +1,12 @@
+use Rattle.std.proofs.Common.{◌≡◌, [], rules}
+use Rattle.vl_path.specs.Paths.{sets}
+use Rattle.flow_effects.proofs.Joining.{shows_runs}
+use Rattle.flow_effects.proofs.bits.sets_of.Goals as goal
+
+pub returns : goal.returns
+returns c sized =
+    let runs = c.target_sets.new.into.items in
+    let none : c.new-runs.result.items ≡ [] = search rules in
+    let same : c.as_slice.result.now ≡ runs = search rules in
+    shows_runs c.args.decls.now c.new-runs.result.items runs c.as_slice.result.now c.in_ok-bits_of.field-0
+    (sets c.args.decls.now c.args.target.now) none same c.in_ok-bits_of.ensures (c.in_ok-target_sets.ensures sized)

@@ -1,0 +1,11 @@
+//! What drivers read, assign and leave unassigned, as sets of bits of numbered cells.
+#![tactic(auto)]
+
+mod arms;
+mod bits;
+mod effect;
+mod joined;
+mod stmt;
+mod uses;
+
+pub use uses::{Uses, uses_of};

@@ -1,0 +1,132 @@
+ghost use Rattle.std.specs.Prelude.{◌≡◌, IfOk, List};
+ghost use Rattle.vl_size.specs.declared.decl.Decl.{Decl};
+ghost use Rattle.vl_mean.specs.declared.driver.DriverKind.TheVariants as k;
+ghost use Rattle.vl_tree.specs.Stmt.{Stmt};
+ghost use Rattle.flow_cells.specs.Numbering.{IsNumberingOf};
+ghost use Rattle.flow_effects.specs.Effects.{IsEffectOf};
+ghost use Rattle.flow_effects.specs.Uses.{AreUsesOf};
+ghost use Rattle.flow_uses.specs.Sized.{DriverIsSized, IsSized, TargetIsSized};
+
+use crate::bits::{assign_reads, changes_of};
+use crate::effect::Effect;
+use crate::stmt::effect_of;
+use bit_sets::Bits;
+use flow_cells::Numbering;
+use flow_reads::Footprint;
+use fv_base::Memory;
+use std::alloc::Global;
+use vl_mean::DriverKind;
+use vl_size::Decls;
+use vl_tree::{Expr, Lval};
+
+/// What a driver does to bits of numbered cells.
+#[derive(Debug, Drop)]
+pub struct Uses {
+    pub footprint: Footprint,
+    /// Changed on some path of a combinational block, and not surely assigned on some.
+    pub latched: Bits,
+    /// Changed by some blocking assignment of a block.
+    pub blocking: Bits,
+    /// Changed by some nonblocking one.
+    pub nonblocking: Bits,
+}
+
+fn assign_uses(
+    alloc: Global,
+    target: &Lval,
+    expr: &Expr,
+    decls: &Decls,
+    numbering: &Numbering,
+) -> Result<Uses, Memory>
+    requires { IsNumberingOf decls.now numbering.now }
+    ensures { IfOk result (λ uses. TargetIsSized decls.now target.now → IsSized decls.now expr.now
+        → AreUsesOf decls.now uses (k.Assign target.now expr.now)) }
+{
+    let needs = assign_reads(alloc, target, expr, decls, numbering)?;
+    let drives = changes_of(alloc, target, decls, numbering)?;
+    Ok(Uses {
+        footprint: Footprint {
+            is_clocked: false,
+            needs,
+            drives,
+        },
+        latched: Bits::none(alloc),
+        blocking: Bits::none(alloc),
+        nonblocking: Bits::none(alloc),
+    })
+}
+
+/// A combinational block, with what it does.
+fn comb_uses(effect: Effect) -> Result<Uses, Memory>
+    ensures { IfOk result (λ uses. (ds : List Decl) (s : Stmt) → IsEffectOf ds effect s
+        → AreUsesOf ds uses (k.Comb s)) }
+{
+    let Effect {
+        needs,
+        sure,
+        surely,
+        blocking,
+        nonblocking,
+    } = effect;
+    drop(sure);
+    let drives = blocking.with(&nonblocking)?;
+    let latched = drives.without(&surely)?;
+    Ok(Uses {
+        footprint: Footprint {
+            is_clocked: false,
+            needs,
+            drives,
+        },
+        latched,
+        blocking,
+        nonblocking,
+    })
+}
+
+/// A clocked block, with what it does.
+fn clocked_uses(alloc: Global, effect: Effect) -> Result<Uses, Memory>
+    ensures { IfOk result (λ uses. (ds : List Decl) (s : Stmt) → IsEffectOf ds effect s
+        → AreUsesOf ds uses (k.Clocked s)) }
+{
+    let Effect {
+        needs,
+        sure,
+        surely,
+        blocking,
+        nonblocking,
+    } = effect;
+    drop(sure);
+    drop(surely);
+    let drives = blocking.with(&nonblocking)?;
+    Ok(Uses {
+        footprint: Footprint {
+            is_clocked: true,
+            needs,
+            drives,
+        },
+        latched: Bits::none(alloc),
+        blocking,
+        nonblocking,
+    })
+}
+
+/// What a driver reads before it has surely assigned it, may assign, and doesn't assign on each path. Time is about
+/// linear in it.
+pub fn uses_of(
+    alloc: Global,
+    what: &DriverKind,
+    decls: &Decls,
+    numbering: &Numbering,
+) -> Result<Uses, Memory>
+    requires { IsNumberingOf decls.now numbering.now }
+    ensures { IfOk result (λ uses. DriverIsSized decls.now what.now → AreUsesOf decls.now uses what.now) }
+{
+    match what {
+        DriverKind::Assign(target, expr) => Ok(assign_uses(alloc, target, expr, decls, numbering)?),
+        DriverKind::Comb(stmt) => Ok(comb_uses(effect_of(alloc, stmt, decls, numbering)?)?),
+        DriverKind::Clocked(stmt) => Ok(clocked_uses(
+            alloc,
+            effect_of(alloc, stmt, decls, numbering)?,
+        )?),
+    }
+}
