@@ -1,6 +1,6 @@
 -- What assignments of both kinds change is what a statement assigns.
 use Rattle.std.specs.Prelude.{◌≡◌, refl, ℕ, List, Bool, ◌&&◌, ◌||◌, not}
-use Rattle.std.proofs.Common.{ap, ◌∙◌}
+use Rattle.std.proofs.Common.{◌∙◌}
 use Rattle.vl_tree.specs.Stmt.{
   Stmt,
   Stmts,
@@ -24,7 +24,6 @@ use Rattle.vl_mean.specs.FlatLaw.{flat_scopes}
 use Rattle.vl_mean.specs.Targets.{may_change}
 use Rattle.bit_sets.specs.declared.step.Step.{Step}
 use Rattle.bit_sets.specs.Cells.{has}
-use Rattle.vl_path.specs.Reads.{Bits}
 use Rattle.vl_path.specs.Paths.{is_blocking, is_nonblocking, any_kind, changes, any_changes, arms_change, sure}
 use Rattle.flow_cells.specs.Numbered.{Shows}
 use Rattle.flow_effects.specs.declared.effect.Effect.{Effect}

@@ -1,11 +1,11 @@
 -- What statements and arms do, from what the first and the last of them do.
-use Rattle.std.specs.Prelude.{◌≡◌, refl, ℕ, zero, suc, ◌+◌, List, [], ◌∷◌, ◌++◌, Bool, ◌&&◌, ◌||◌, not, take, drop}
+use Rattle.std.specs.Prelude.{◌≡◌, refl, ℕ, zero, suc, List, [], ◌∷◌, ◌++◌, Bool, ◌&&◌, ◌||◌, not, take, drop}
 use Rattle.std.proofs.Common.{ap, sym, ◌∙◌}
 use Rattle.vl_tree.specs.declared.stmt.AssignKind.{AssignKind}
 use Rattle.vl_tree.specs.declared.stmt.Arm.{Arm}
 use Rattle.vl_tree.specs.declared.stmt.Arm.TheVariants as a
-use Rattle.vl_tree.specs.Stmt.{Stmt, stmts, no_arms}
-use Rattle.vl_tree.specs.StmtView.{arms, with_arm}
+use Rattle.vl_tree.specs.Stmt.{Stmt, stmts}
+use Rattle.vl_tree.specs.StmtView.{arms}
 use Rattle.vl_size.specs.declared.decl.Decl.{Decl}
 use Rattle.vl_path.specs.Paths.{is_blocking, sure, changes, needs, all_sure, any_changes, all_need, arms_sure}
 use Rattle.vl_path.specs.Paths.{arms_change, arms_need, labels_read}

@@ -1,16 +1,15 @@
 -- The effects of statements one after the other, and of arms, from those of the first and of the last of them.
-use Rattle.std.specs.Prelude.{◌≡◌, refl, ℕ, ◌<◌, List, [], ◌∷◌, ◌++◌, length, get_or, take, drop, Bool, false}
+use Rattle.std.specs.Prelude.{◌≡◌, ℕ, List, [], ◌∷◌, ◌++◌, length, get_or, take, drop, false}
 use Rattle.std.specs.Prelude.{◌&&◌, ◌||◌, not}
 use Rattle.std.proofs.Common.{ap, sym, ◌∙◌, subst, arith}
 use Rattle.std.proofs.lemmas.List.{take-append-drop}
 use Rattle.vl_tree.specs.declared.stmt.Arm.{Arm}
-use Rattle.vl_tree.specs.declared.stmt.Arm.TheVariants as a
-use Rattle.vl_tree.specs.Stmt.{Stmt, stmts, no_arms}
-use Rattle.vl_tree.specs.StmtView.{arms, with_arm}
+use Rattle.vl_tree.specs.Stmt.{Stmt, stmts}
+use Rattle.vl_tree.specs.StmtView.{arms}
 use Rattle.vl_size.specs.declared.decl.Decl.{Decl}
 use Rattle.vl_path.specs.Reads.{Bits}
 use Rattle.vl_path.specs.Paths.{is_blocking, is_nonblocking, any_kind, has_default, sure, changes, needs, all_sure}
-use Rattle.vl_path.specs.Paths.{any_changes, all_need, arms_sure, arms_change, arms_need, labels_read}
+use Rattle.vl_path.specs.Paths.{any_changes, all_need, arms_sure, arms_change, arms_need}
 use Rattle.flow_effects.specs.declared.effect.Effect.{Effect}
 use Rattle.flow_effects.specs.Effects.{AreEach, HasSets, IsEffectOf, IsEffectOfAll, IsEffectOfSome, IsEffectOfArm}
 use Rattle.flow_effects.specs.Effects.{IsEffectOfArms}

@@ -2,7 +2,7 @@
 use Rattle.std.specs.Prelude.{List, [], ◌∷◌, ◌&&◌}
 use Rattle.vl_tree.specs.declared.stmt.Arm.{Arm}
 use Rattle.vl_tree.specs.Stmt.{Stmt, Arms, stmts, no_arms}
-use Rattle.vl_tree.specs.StmtView.{arms, with_arm}
+use Rattle.vl_tree.specs.StmtView.{with_arm}
 use Rattle.vl_size.specs.declared.decl.Decl.{Decl}
 use Rattle.bit_sets.specs.Cells.{has}
 use Rattle.vl_path.specs.Reads.{Bits}

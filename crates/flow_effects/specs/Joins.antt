@@ -1,5 +1,5 @@
 -- Effects one after the other, one of two, and behind what is read. Rule of this project.
-use Rattle.std.specs.Prelude.{◌≡◌, ℕ, List, Bool, ◌&&◌, ◌||◌, not}
+use Rattle.std.specs.Prelude.{◌≡◌, ℕ, List, ◌&&◌, ◌||◌, not}
 use Rattle.bit_sets.specs.declared.step.Step.{Step}
 use Rattle.bit_sets.specs.Cells.{has, IsBare}
 use Rattle.flow_effects.specs.declared.effect.Effect.{Effect}

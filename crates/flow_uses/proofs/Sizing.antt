@@ -44,13 +44,15 @@ use Rattle.vl_tree.specs.Stmt.{
 use Rattle.vl_size.specs.declared.context.Context.{Context}
 use Rattle.vl_size.specs.declared.decl.Decl.{Decl}
 use Rattle.vl_size.specs.Sign.{sign}
-use Rattle.vl_size.specs.Size.{◌>>=◌, within, some_bits, unary_size, operation_size, part_size, times, operand, index_of}
+use Rattle.vl_size.specs.Size.{◌>>=◌, within, some_bits, unary_size, operation_size, part_size, times}
+use Rattle.vl_size.specs.Size.{operand, index_of}
 use Rattle.vl_size.specs.Size.{is_constant, no_names, size, sizes, vector_size, word_size, value}
 use Rattle.vl_size.specs.Table.{declared_as}
 use Rattle.vl_mean.specs.declared.driver.DriverKind.{DriverKind}
 use Rattle.vl_mean.specs.declared.driver.DriverKind.TheVariants as k
 use Rattle.vl_mean.specs.FlatLaw.{case_context}
-use Rattle.vl_mean.specs.FlatLaw.{IsTarget, AreTargets, IsReadIn, IsBlock, AreBlocks, AreArms, IsDriver, is_net, is_variable}
+use Rattle.vl_mean.specs.FlatLaw.{IsTarget, AreTargets, IsReadIn, IsBlock, AreBlocks, AreArms}
+use Rattle.vl_mean.specs.FlatLaw.{IsDriver, is_net, is_variable}
 use Rattle.vl_path.proofs.Same.{bind_first, bind_then, bind_next, bind_last, some_size}
 use Rattle.flow_uses.specs.Sized.{IsSized, AreSized, SelectsAreSized, TargetIsSized, TargetsAreSized, LabelsAreSized}
 use Rattle.flow_uses.specs.Sized.{StmtIsSized, StmtsAreSized, ArmsAreSized, DriverIsSized}

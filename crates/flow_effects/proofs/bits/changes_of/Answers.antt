@@ -10,4 +10,5 @@ returns c sized =
     let none : c.new-runs.result.items ≡ [] = search rules in
     let same : c.as_slice.result.now ≡ runs = search rules in
     shows_runs c.args.decls.now c.new-runs.result.items runs c.as_slice.result.now c.in_ok-bits_of.field-0
-    (may_change (flat_scopes c.args.decls.now) c.args.target.now) none same c.in_ok-bits_of.ensures (c.in_ok-target_changes.ensures sized)
+    (may_change (flat_scopes c.args.decls.now) c.args.target.now) none same c.in_ok-bits_of.ensures
+    (c.in_ok-target_changes.ensures sized)

@@ -9,4 +9,5 @@ returns c sized =
     let none : c.new-runs.result.items ≡ [] = search rules in
     let same : c.as_slice.result.now ≡ runs = search rules in
     shows_runs c.args.decls.now c.new-runs.result.items runs c.as_slice.result.now c.in_ok-bits_of.field-0
-    (labels_read c.args.decls.now c.args.labels.now) none same c.in_ok-bits_of.ensures (c.in_ok-labels_read.ensures sized)
+    (labels_read c.args.decls.now c.args.labels.now) none same c.in_ok-bits_of.ensures
+    (c.in_ok-labels_read.ensures sized)

@@ -16,5 +16,6 @@ returns t c ds xs h =
     let k = length es / 2 in
     arms_two ds xs k c.in_ok-first.first c.in_ok-second.second c.in_ok-or.field-0
     (c.in_ok-first.ensures ds (take k xs) (each_take (IsEffectOfArm ds) k es xs h))
-    (c.in_ok-second.ensures ds (drop k xs) (subst (λ ys. AreEach (IsEffectOfArm ds) ys (drop k xs)) (sym (take_rest es k))
+    (c.in_ok-second.ensures ds (drop k xs) (subst (λ ys. AreEach (IsEffectOfArm ds) ys (drop k xs))
+    (sym (take_rest es k))
     (each_drop (IsEffectOfArm ds) k es xs h))) c.in_ok-or.ensures

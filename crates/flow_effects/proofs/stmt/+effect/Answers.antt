@@ -1,8 +1,9 @@
-use Rattle.std.proofs.Common.{◌≡◌, ◌+◌, ◌≤◌, ◌++◌, ◌∷◌, [], length, drop, take, get_or, ap, sym, ◌∙◌, subst, arith, rules, None, Some}
+use Rattle.std.proofs.Common.{◌≡◌, ◌+◌, ◌≤◌, ◌++◌, ◌∷◌, [], length, drop, take, ap, sym, ◌∙◌, subst, arith, rules}
+use Rattle.std.proofs.Common.{None, Some}
 use Rattle.std.proofs.lemmas.Grind.{common_steps}
 use Rattle.std.proofs.lemmas.List.{take_all}
 use Rattle.vl_tree.specs.declared.stmt.StmtKind.TheVariants as k
-use Rattle.vl_tree.specs.Stmt.{Stmt, begin, if_only, if_else, case, assign, assume, empty, stmts, no_arms}
+use Rattle.vl_tree.specs.Stmt.{begin, if_only, if_else, case, assign, assume, empty, stmts, no_arms}
 use Rattle.vl_tree.specs.StmtView.{arms, shown, with_arm}
 use Rattle.flow_effects.specs.Effects.{AreEach, IsEffectOf, IsEffectOfAll, IsEffectOfArm, IsEffectOfArms}
 use Rattle.flow_uses.specs.Sized.{ArmsAreSized, StmtIsSized, StmtsAreSized}
@@ -42,7 +43,8 @@ effect_of-returns-in_ok-choice-in-If-default-default-None t c sized =
     let first = subst (λ y. StmtIsSized ds y → IsEffectOf ds c.in_ok-first-in-If-default-default-None.first y) inner
     c.in_ok-first-in-If-default-default-None.ensures parts.1 in
     subst (IsEffectOf ds made) same
-    (c.in_ok-choice-in-If-default-default-None.ensures.one a p x parts.0 first (empty_effect ds a p c.none.result c.none.ensures))
+    (c.in_ok-choice-in-If-default-default-None.ensures.one a p x parts.0 first
+    (empty_effect ds a p c.none.result c.none.ensures))
 
 pub effect_of-returns-in_ok-choice-in-If-default-default-Some :
     goal.effect_of-returns-in_ok-choice-in-If-default-default-Some
@@ -57,7 +59,8 @@ effect_of-returns-in_ok-choice-in-If-default-default-Some t c sized =
     let one : c.deref-in-If-default-default-Some.result.now ≡ x = search rules in
     let other : c.deref-in-If-default-default-Some-2.result.now ≡ y = search rules in
     let tail : c.in-If-default-default-Some.field-2 ≡ Some c.in-If-default-default-Some.second = search rules in
-    let kind : c.stmt.inside.kind ≡ k.If e c.in-If-default-default-Some.first (Some c.in-If-default-default-Some.second) =
+    let kind : c.stmt.inside.kind
+    ≡ k.If e c.in-If-default-default-Some.first (Some c.in-If-default-default-Some.second) =
     c.in-If-default-default-Some.is ∙ ap (k.If e c.in-If-default-default-Some.first) tail in
     let same : if_else a p e x y ≡ c.args.stmt.now = ap (shown a p) (sym kind) ∙ c.stmt.view_is in
     let parts = subst (StmtIsSized ds) (sym same) sized in

@@ -16,7 +16,8 @@ returns-in_ok-sure-in-Blocking c a p one other =
       blocking = c.in_ok-changes.changes;
       nonblocking = c.none.result;
     } in
-    subst (λ k. IsEffectOf c.args.decls.now made (assign a p c.args.target.now k c.args.expr.now)) (sym c.in-Blocking.is)
+    subst (λ k. IsEffectOf c.args.decls.now made (assign a p c.args.target.now k c.args.expr.now))
+    (sym c.in-Blocking.is)
     (record {
       needs = c.in_ok-needs.ensures one other;
       sure = λ x n i at. c.in_ok-sure-in-Blocking.ensures x i ∙ or_same (has surely x i)
@@ -35,7 +36,8 @@ returns-in-Nonblocking c a p one other =
       blocking = c.none-in-Nonblocking-2.result;
       nonblocking = c.in_ok-changes.changes;
     } in
-    subst (λ k. IsEffectOf c.args.decls.now made (assign a p c.args.target.now k c.args.expr.now)) (sym c.in-Nonblocking.is)
+    subst (λ k. IsEffectOf c.args.decls.now made (assign a p c.args.target.now k c.args.expr.now))
+    (sym c.in-Nonblocking.is)
     (record {
       needs = c.in_ok-needs.ensures one other;
       sure = λ x n i at. c.none-in-Nonblocking.ensures x i;

@@ -44,7 +44,8 @@ expr_reads-returns-in_ok-expr_reads-in-Binary-2 t c sized =
     let new = c.expr_reads-in-Binary.new.into.items in
     let left : c.deref.result.now ≡ x = search rules in
     let right : c.deref-in-Binary.result.now ≡ y = search rules in
-    let same : binary p c.in-Binary.field-0 x y ≡ c.args.expr.now = ap (shown p) (sym c.in-Binary.is) ∙ c.expr.view_is in
+    let same : binary p c.in-Binary.field-0 x y ≡ c.args.expr.now =
+    ap (shown p) (sym c.in-Binary.is) ∙ c.expr.view_is in
     let parts : IsSized ds x × IsSized ds y = subst (IsSized ds) (sym same) sized in
     subst (λ e. Adds ds old new (reads ds e)) same
     (adds_then ds old mid new (reads ds x) (reads ds y)

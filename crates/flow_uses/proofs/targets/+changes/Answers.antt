@@ -20,7 +20,9 @@ loop-part-preserved t c =
       left = λ h. (subst (λ ls. TargetsAreSized ds (lvals ls)) front (c.loop-part.invariant.left h)).1;
       added = λ h zs rest. c.loop-part.invariant.added h zs
           (subst (λ ls. Adds ds old zs (any_may_change (flat_scopes ds) (lvals ls))) (sym front)
-          (adds_then ds old new zs (may_change (flat_scopes ds) l) (any_may_change (flat_scopes ds) (lvals (drop (i + 1) xs)))
-          (c.in_ok-target_changes-in-Concat.ensures (subst (λ ls. TargetsAreSized ds (lvals ls)) front (c.loop-part.invariant.left h)).0)
+          (adds_then ds old new zs (may_change (flat_scopes ds) l)
+          (any_may_change (flat_scopes ds) (lvals (drop (i + 1) xs)))
+          (c.in_ok-target_changes-in-Concat.ensures (subst (λ ls. TargetsAreSized ds (lvals ls)) front
+          (c.loop-part.invariant.left h)).0)
           rest));
     }

@@ -9,7 +9,8 @@ use Rattle.flow_uses.proofs.targets.+changes.Given as goal
 
 abbrev pub invariant-loop-part : goal.invariant-loop-part
 invariant-loop-part l = record {
-  left : TargetsAreSized l.decls (lvals l.part-items) → TargetsAreSized l.decls (lvals (drop l.part-index l.part-items));
+  left : TargetsAreSized l.decls (lvals l.part-items)
+      → TargetsAreSized l.decls (lvals (drop l.part-index l.part-items));
   added : TargetsAreSized l.decls (lvals l.part-items) → (zs : List CellRun)
       → Adds l.decls l.into.items zs (any_may_change (flat_scopes l.decls) (lvals (drop l.part-index l.part-items)))
       → Adds l.decls l.initial.into.items zs (any_may_change (flat_scopes l.decls) (lvals l.part-items));

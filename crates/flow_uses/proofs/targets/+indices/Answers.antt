@@ -20,6 +20,7 @@ loop-part-preserved t c =
       added = λ h zs rest. c.loop-part.invariant.added h zs
           (subst (λ ls. Adds ds old zs (targets_read ds (lvals ls))) (sym front)
           (adds_then ds old new zs (target_reads ds l) (targets_read ds (lvals (drop (i + 1) xs)))
-          (c.in_ok-target_reads-in-Concat.ensures (subst (λ ls. TargetsAreSized ds (lvals ls)) front (c.loop-part.invariant.left h)).0)
+          (c.in_ok-target_reads-in-Concat.ensures (subst (λ ls. TargetsAreSized ds (lvals ls)) front
+          (c.loop-part.invariant.left h)).0)
           rest));
     }
