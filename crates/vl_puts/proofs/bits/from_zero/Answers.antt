@@ -1,0 +1,7 @@
+use Rattle.vl_puts.proofs.Overlaps.{high_overlap}
+use Rattle.vl_puts.proofs.bits.from_zero.Goals as goal
+
+pub returns : goal.returns
+returns c =
+    high_overlap c.args.count c.args.width c.args.from c.least-past.result c.requires.within c.requires.some
+    c.least-past.ensures
