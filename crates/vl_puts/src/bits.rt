@@ -1,3 +1,4 @@
+//! The bits of a vector from a place on, replaced by those of a node.
 #![tactic(auto, using(wn_net::proofs::Laws::additions))]
 
 ghost use Rattle.std.specs.Prelude.{◌≡◌, ◌+◌, ◌/◌, ◌^◌, ◌≤◌, ◌<◌, min, ℕ, true, None, IfSome, IfOk, ℤ, pos, ◌+ℤ◌};
