@@ -1,37 +1,27 @@
-use Rattle.std.proofs.Common.{◌∙◌, ap}
-use Rattle.fv_bits.specs.Bits.{part, sign_extended}
-use Rattle.fv_bits.specs.Bits as bits
+use Rattle.std.specs.Prelude.{if◌then◌else◌}
+use Rattle.std.proofs.Common.{◌∙◌}
+use Rattle.fv_bits.specs.Bits.{is_negative}
+use Rattle.rv_table.specs.Arithmetic.{difference}
 use Rattle.wn_net.specs.Net.{value_at}
-use Rattle.wn_net.proofs.Laws.{built_node}
-use Rattle.rv_words.proofs.ProductLemmas.{upper_signed_is}
+use Rattle.rv_words.proofs.ProductLemmas.{signed_is}
 use Rattle.rv_words.proofs.WordLemmas.{word_below}
 use Rattle.rv_words.proofs.products.upper_product_signed.Goals as goal
 
 pub returns-clause-shows : goal.returns-clause-shows
 returns-clause-shows c =
     let old = c.args.net.now in
-    let left = c.in_ok-left.ensures.built in
-    let right = c.in_ok-right.ensures.built in
-    let product = c.in_ok-product.ensures.built in
-    let upper = c.in_ok-upper.ensures.built in
-    let x = c.in_ok-left.left in
-    let there = built_node _ _ _ _ _ _ left in
     let a = c.args.a in
     let b = c.args.b in
     let own_a = c.requires.left in
     let own_b = c.requires.right in
-    let wide = right.adds.keeps.widths x there.0 ∙ left.width in
+    let upper = c.in_ok-upper.ensures in
+    let less = c.in_ok-less.ensures in
     record {
-      node = built_node _ _ _ _ _ _ upper;
+      node = less.shows.node;
       value = λ g given.
-          let x_is = right.adds.keeps.values g x there.0
-          ∙ left.value g ∙ ap (λ w. sign_extended w 64 (value_at old g a)) own_a.1 in
-          let y_is = right.value g
-          ∙ (λ i. sign_extended ((left.adds.keeps.widths b own_b.0 ∙ own_b.1) i) 64
-          (left.adds.keeps.values g b own_b.0 i)) in
-          upper.value g
-          ∙ ap (part 32 32) (product.value g ∙ (λ i. bits.product (wide i) (x_is i) (y_is i)))
-          ∙ upper_signed_is (value_at old g a) (value_at old g b)
-          (word_below old g a c.width.ensures.whole given own_a)
+          less.shows.value g (upper.adds.keeps.given g given)
+          ∙ (λ i. difference (upper.shows.value g given i)
+          (if is_negative 32 (upper.adds.keeps.values g b own_b.0 i) then upper.adds.keeps.values g a own_a.0 i else 0))
+          ∙ signed_is (value_at old g a) (value_at old g b) (word_below old g a c.width.ensures.whole given own_a)
           (word_below old g b c.width.ensures.whole given own_b);
     }
