@@ -3,10 +3,11 @@
 
     tools/compare-monitors.py [--count N] [--seed N] [--kind KIND ..] [--program PATH]
 
-Of each kind of check but insn N random runs (10,000 unless another number is given), of one
-channel and of two, are judged three times: by the property and by the monitor, both in the program `check_cases`, and
-by the rules of the checks as they are written again below. Orders, registers and addresses are few, so that both
-answers are common. Idle channels show something too. The program is proved and built by `rt run` in its folder, if PATH
+Of each kind of check N random runs (10,000 unless another number is given), of one channel and of two, are judged three
+times: by the property and by the monitor, both in the program `check_cases`, and by the rules of the checks as they are
+written again below. Orders, registers and addresses are few, so that both answers are common. Idle channels show
+something too. Runs of insn have random words of all rows, which retire with the effect that the program tells of them,
+or with one number changed; the third judge knows there that the first hold. The program is proved and built by `rt run` in its folder, if PATH
 doesn't name a built one. Ends with a count of both answers for each kind, and each line on which the three don't agree.
 """
 import argparse
@@ -159,6 +160,65 @@ class Run:
                                             for part in [check, *shown])
 
 
+# ---- runs of insn
+
+OPCODES = [0x03, 0x13, 0x17, 0x23, 0x33, 0x37, 0x63, 0x67, 0x6F]
+OPTIONS = [{}, {"aligned": 1}, {"c": 1}, {"aligned": 1, "c": 1}, {"altops": 1}]
+
+
+def word():
+    """Returns a word that is likely to match a row."""
+    if random.random() < 0.4:
+        return random.choice([0, 1, 2]) + 4 * random.randrange(2**14)
+    upper = random.choice([0, 0x20, 1, random.randrange(128)])
+    opcode = random.choice(OPCODES + [0x33] * 6)
+    return opcode + 128 * random.randrange(2**18) + upper * 2**25
+
+
+def operand():
+    return random.choice([0, 1, 2**31 - 1, 2**31, 2**32 - 1, random.randrange(2**32), random.randrange(64)])
+
+
+def number(text):
+    return int(text, 16)
+
+
+def asked(program, lines):
+    """Returns what the program answers to lines."""
+    given = "".join(line + "\n" for line in lines).encode()
+    return subprocess.run([program], input=given, capture_output=True, check=True).stdout.decode().splitlines()
+
+
+def written(words):
+    return " ".join("%s=%d" % word for word in words.items() if word[1])
+
+
+def insn_runs(count, program):
+    """Gives lines of insn checks, each with what is known of its answer."""
+    rows = {name: row for row, name in enumerate(asked(program, ["number row=%d" % row for row in range(70)]))}
+    made = 0
+    while made < count:
+        sources = [({"insn": word(), "rs1_rdata": operand(), "rs2_rdata": operand(), "mem_rdata": operand(),
+                     "pc_rdata": random.choice([256, 258, 2**32 - 4])}, random.choice(OPTIONS)) for _ in range(count)]
+        effects = asked(program, ["effect " + written(opts | source) for source, opts in sources])
+        for (source, opts), effect in zip(sources, effects, strict=True):
+            name, *fields = effect.split()
+            if name == "none" or made == count:
+                continue
+            made += 1
+            shown = dict(source, **{key: number(value) for key, value in (f.split("=") for f in fields if "=" in f)})
+            shown["trap"] = int("trap" in fields)
+            changed = random.random() < 0.5
+            if changed:
+                key = random.choice([key for key in shown if key not in ("insn", "trap")])
+                shown[key] ^= 1
+            nret = random.choice([1, 2])
+            channel = random.randrange(nret)
+            check = {"nret": nret, "channel": channel, "row": rows[name], "start": 1, "trig": 2, "cycle": 2, **opts}
+            line = "insn %s|%s" % (written(check), written({"cycle": 2, "channel": channel} | shown))
+            yield ("any" if changed else "holds"), line
+
+
 # ---- the comparison
 
 
@@ -177,6 +237,11 @@ def compared(kinds, count, program):
     wanted, faults = [], []
     with tempfile.TemporaryFile("w+") as lines:
         for kind in kinds:
+            if kind == "insn":
+                for want, line in insn_runs(count, program):
+                    wanted.append((kind, want))
+                    lines.write(line + "\n")
+                continue
             for _ in range(count):
                 run = Run(kind)
                 wanted.append((kind, "holds" if run.holds() else "fails"))
@@ -185,8 +250,8 @@ def compared(kinds, count, program):
         found = subprocess.run([program], stdin=lines, capture_output=True, check=True).stdout.decode().splitlines()
         lines.seek(0)
         for (kind, want), said, line in zip(wanted, found, lines, strict=True):
-            counts[kind][want] += 1
-            if said != want:
+            counts[kind][said if said in counts[kind] else "differ"] += said in counts[kind]
+            if said != want and not (want == "any" and said in ("holds", "fails")):
                 counts[kind]["differ"] += 1
                 faults.append("rules: %s; program: %s; %s" % (want, said, line.rstrip()))
     return counts, faults
@@ -196,11 +261,11 @@ def main():
     words = argparse.ArgumentParser()
     words.add_argument("--count", type=int, default=10000)
     words.add_argument("--seed", type=int, default=1)
-    words.add_argument("--kind", action="append", choices=list(KINDS))
+    words.add_argument("--kind", action="append", choices=["insn", *KINDS])
     words.add_argument("--program", type=os.path.abspath)
     words = words.parse_args()
     random.seed(words.seed)
-    counts, faults = compared(words.kind or list(KINDS), words.count, words.program or built())
+    counts, faults = compared(words.kind or ["insn", *KINDS], words.count, words.program or built())
     for kind, count in counts.items():
         print("%-8s %6d hold, %6d fail, %d differ" % (kind, count["holds"], count["fails"], count["differ"]))
     for fault in faults:
