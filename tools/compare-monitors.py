@@ -193,6 +193,10 @@ def written(words):
     return " ".join("%s=%d" % word for word in words.items() if word[1])
 
 
+def effects_of(program, sources):
+    return asked(program, ["effect " + written(opts | source) for source, opts in sources])
+
+
 def insn_runs(count, program):
     """Gives lines of insn checks, each with what is known of its answer."""
     rows = {name: row for row, name in enumerate(asked(program, ["number row=%d" % row for row in range(70)]))}
@@ -200,8 +204,12 @@ def insn_runs(count, program):
     while made < count:
         sources = [({"insn": word(), "rs1_rdata": operand(), "rs2_rdata": operand(), "mem_rdata": operand(),
                      "pc_rdata": random.choice([256, 258, 2**32 - 4])}, random.choice(OPTIONS)) for _ in range(count)]
-        effects = asked(program, ["effect " + written(opts | source) for source, opts in sources])
-        for (source, opts), effect in zip(sources, effects, strict=True):
+        for (source, opts), effect in zip(sources, effects_of(program, sources), strict=True):
+            for register in ("rs1", "rs2"):
+                # a source that is x0, or isn't read, shows 0
+                if register + "_addr=" not in effect:
+                    source[register + "_rdata"] = 0
+        for (source, opts), effect in zip(sources, effects_of(program, sources), strict=True):
             name, *fields = effect.split()
             if name == "none" or made == count:
                 continue
