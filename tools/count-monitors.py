@@ -32,34 +32,6 @@ fn main(rt: HostRuntime) -> Result<(), Fail> {
     Ok(())
 }
 
-fn input(net: &mut Net, width: u32) -> Result<NodeId, Fail> {
-    Ok(net.input(width, InputKind::EachCycle)?)
-}
-
-fn channel(net: &mut Net) -> Result<Channel, Fail> {
-    Ok(Channel {
-        valid: input(net, 1)?,
-        order: input(net, 64)?,
-        insn: input(net, 32)?,
-        trap: input(net, 1)?,
-        halt: input(net, 1)?,
-        intr: input(net, 1)?,
-        rs1_addr: input(net, 5)?,
-        rs2_addr: input(net, 5)?,
-        rs1_rdata: input(net, 32)?,
-        rs2_rdata: input(net, 32)?,
-        rd_addr: input(net, 5)?,
-        rd_wdata: input(net, 32)?,
-        pc_rdata: input(net, 32)?,
-        pc_wdata: input(net, 32)?,
-        mem_addr: input(net, 32)?,
-        mem_rmask: input(net, 4)?,
-        mem_wmask: input(net, 4)?,
-        mem_rdata: input(net, 32)?,
-        mem_wdata: input(net, 32)?,
-    })
-}
-
 fn port(alloc: Global, net: &mut Net, channels: u32) -> Result<Port, Fail> {
     let mut all = List::new(alloc);
     for _ in 0..channels {
@@ -115,6 +87,6 @@ LIBRARIES = [
 ]
 
 if __name__ == "__main__":
-    for line in made.tried("monitors", PROGRAM, LIBRARIES, ["--seconds", "900"]).splitlines():
+    for line in made.tried("monitors", PROGRAM + made.CHANNEL, LIBRARIES, ["--seconds", "900"]).splitlines():
         if ": " in line:
             print(line)

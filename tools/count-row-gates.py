@@ -30,34 +30,6 @@ fn main(rt: HostRuntime) -> Result<(), Fail> {
     Ok(())
 }
 
-fn input(net: &mut Net, width: u32) -> Result<NodeId, Fail> {
-    Ok(net.input(width, InputKind::EachCycle)?)
-}
-
-fn channel(net: &mut Net) -> Result<Channel, Fail> {
-    Ok(Channel {
-        valid: input(net, 1)?,
-        order: input(net, 64)?,
-        insn: input(net, 32)?,
-        trap: input(net, 1)?,
-        halt: input(net, 1)?,
-        intr: input(net, 1)?,
-        rs1_addr: input(net, 5)?,
-        rs2_addr: input(net, 5)?,
-        rs1_rdata: input(net, 32)?,
-        rs2_rdata: input(net, 32)?,
-        rd_addr: input(net, 5)?,
-        rd_wdata: input(net, 32)?,
-        pc_rdata: input(net, 32)?,
-        pc_wdata: input(net, 32)?,
-        mem_addr: input(net, 32)?,
-        mem_rmask: input(net, 4)?,
-        mem_wmask: input(net, 4)?,
-        mem_rdata: input(net, 32)?,
-        mem_wdata: input(net, 32)?,
-    })
-}
-
 fn count(rt: &HostRuntime, row: RowId, altops: bool) -> Result<(), Fail> {
     let alloc = rt.alloc();
     let mut net = Net::new(alloc);
@@ -89,6 +61,6 @@ fn count(rt: &HostRuntime, row: RowId, altops: bool) -> Result<(), Fail> {
 LIBRARIES = ["bb_blast", "bb_aig", "rv_circ", "rvfi_port", "rv_table", "wn_net", "fv_base"]
 
 if __name__ == "__main__":
-    for line in made.tried("row_gates", PROGRAM, LIBRARIES, ["--seconds", "600"]).splitlines():
+    for line in made.tried("row_gates", PROGRAM + made.CHANNEL, LIBRARIES, ["--seconds", "600"]).splitlines():
         if line.endswith("gates"):
             print(line)
