@@ -16,7 +16,7 @@ use Rattle.flow_reads.specs.declared.groups.Groups.{Groups}
 use Rattle.flow_reads.specs.declared.visit.Visit.{Visit}
 use Rattle.flow_reads.specs.Buckets.{AreBuckets}
 use Rattle.flow_reads.specs.Edges.{HasNoEdges, AddsEdge}
-use Rattle.flow_reads.specs.Reads.{AddsRead, AddsReader, AddsRow, AddsVisits, AreReaders, Drives, ReadsAt}
+use Rattle.flow_reads.specs.Reads.{AddsRead, AddsReader, AddsRow, AddsVisits, AreReaders, Drives, DrivesInGroup, ReadsAt}
 use Rattle.flow_reads.specs.Reads.{IsReadingGraph}
 use Rattle.flow_reads.specs.Visits.{AreVisits, AreWithin}
 use Rattle.flow_reads.proofs.Growing.{grows_none, grows_edge, grows_then, grows_as}
@@ -24,14 +24,14 @@ use Rattle.flow_reads.proofs.Growing.{grows_none, grows_edge, grows_then, grows_
 module _ (i : ℕ) (needs : List Step) (xs : List Footprint) where
   -- ---- one driver
 
-  abbrev Reading : ℕ → ℕ → ℕ → Type 0
-  Reading j a b = (a ≡ i) × (b ≡ j) × Drives needs xs b
+  abbrev Reading : ℕ → Visit → ℕ → ℕ → Type 0
+  Reading j v a b = (a ≡ i) × (b ≡ j) × Drives needs xs v b
 
   pub read_apart : (g : List (List ℕ)) (j : ℕ) (y : Footprint) (v : Visit) → slice_get xs j ≡ Some y
       → ((cell bit : ℕ) → v.first ≤ cell → cell < v.past → (has needs cell bit && has y.drives cell bit) ≡ false)
       → AddsRead i needs xs j v g g
   read_apart g j y v at none = record {
-    grows = grows_none (Reading j) g;
+    grows = grows_none (Reading j v) g;
     all = λ z cell bit is from before needed driven.
         let one : z ≡ y = same_Some z y (sym is ∙ at) in
         absurd (true≢false (sym (and_from (has needs cell bit) (has y.drives cell bit) needed
@@ -39,10 +39,10 @@ module _ (i : ℕ) (needs : List Step) (xs : List Footprint) where
   }
 
   pub read_met : (g more : List (List ℕ)) (j : ℕ) (y : Footprint) (v : Visit) (cell bit : ℕ)
-      → slice_get xs j ≡ Some y → has needs cell bit ≡ true → has y.drives cell bit ≡ true → AddsEdge g i j more
+      → slice_get xs j ≡ Some y → v.first ≤ cell → cell < v.past → has needs cell bit ≡ true → has y.drives cell bit ≡ true → AddsEdge g i j more
       → AddsRead i needs xs j v g more
-  read_met g more j y v cell bit at needed driven e = record {
-    grows = grows_edge (Reading j) g more i j e (
+  read_met g more j y v cell bit at from before needed driven e = record {
+    grows = grows_edge (Reading j v) g more i j e (
       refl,
       refl,
       record {
@@ -50,29 +50,31 @@ module _ (i : ℕ) (needs : List Step) (xs : List Footprint) where
         is = at;
         cell = cell;
         bit = bit;
+        from = from;
+        before = before;
         needed = needed;
         driven = driven;
       },
     );
-    all = λ z c k is from before read written. e.added;
+    all = λ z c k is first past read written. e.added;
   }
 
   -- ---- the drivers of a group
 
-  abbrev InRow : List ℕ → ℕ → ℕ → Type 0
-  InRow row a b = (a ≡ i) × ((m : ℕ) × (slice_get row m ≡ Some b)) × Drives needs xs b
+  abbrev InRow : List ℕ → Visit → ℕ → ℕ → Type 0
+  InRow row v a b = (a ≡ i) × ((m : ℕ) × (slice_get row m ≡ Some b)) × Drives needs xs v b
 
   pub row_none : (g : List (List ℕ)) (row : List ℕ) (v : Visit) → AddsRow i needs xs row 0 v g g
   row_none g row v = record {
-    grows = grows_none (InRow row) g;
+    grows = grows_none (InRow row v) g;
     all = λ m j y cell bit less at is from before needed driven. absurd (omega (arith, less));
   }
 
   pub row_more : (g now more : List (List ℕ)) (row : List ℕ) (n j : ℕ) (v : Visit) → slice_get row n ≡ Some j
       → AddsRow i needs xs row n v g now → AddsRead i needs xs j v now more → AddsRow i needs xs row (n + 1) v g more
   row_more g now more row n j v at were adds = record {
-    grows = grows_then (InRow row) g now more were.grows
-        (grows_as (Reading j) (InRow row) now more (λ a b q. (q.0, (n, at ∙ ap Some (sym q.1)), q.2)) adds.grows);
+    grows = grows_then (InRow row v) g now more were.grows
+        (grows_as (Reading j v) (InRow row v) now more (λ a b q. (q.0, (n, at ∙ ap Some (sym q.1)), q.2)) adds.grows);
     all = λ m k y cell bit less is found from before needed driven.
         all m k y cell bit less is found from before needed driven (same_or_not m n);
   }
@@ -91,12 +93,12 @@ module _ (i : ℕ) (needs : List Step) (xs : List Footprint) where
   -- ---- the visited groups
 
   module _ (buckets : List (List ℕ)) where
-    abbrev InGroup : ℕ → ℕ → Type 0
-    InGroup a b = (a ≡ i) × ((group : ℕ) × Leads buckets group b) × Drives needs xs b
+    abbrev InGroup : List Visit → ℕ → ℕ → Type 0
+    InGroup visits a b = (a ≡ i) × DrivesInGroup needs xs buckets visits b
 
     pub visits_none : (g : List (List ℕ)) (visits : List Visit) → AddsVisits i needs xs buckets visits 0 g g
     visits_none g visits = record {
-      grows = grows_none InGroup g;
+      grows = grows_none (InGroup visits) g;
       all = λ m v j y cell bit less at lead is from before needed driven. absurd (omega (arith, less));
     }
 
@@ -105,9 +107,17 @@ module _ (i : ℕ) (needs : List Step) (xs : List Footprint) where
         → AddsRow i needs xs (targets buckets v.group) (length (targets buckets v.group)) v now more
         → AddsVisits i needs xs buckets visits (n + 1) g more
     visits_more g now more visits n v at were adds = record {
-      grows = grows_then InGroup g now more were.grows
-          (grows_as (InRow (targets buckets v.group)) InGroup now more (λ a b q. (q.0, (v.group, q.1), q.2))
-          adds.grows);
+      grows = grows_then (InGroup visits) g now more were.grows
+          (grows_as (InRow (targets buckets v.group) v) (InGroup visits) now more (λ a b q. (
+            q.0,
+            record {
+              place = n;
+              visit = v;
+              at = at;
+              among = q.1;
+              drives = q.2;
+            },
+          )) adds.grows);
       all = λ m w j y cell bit less is lead found from before needed driven.
           all m w j y cell bit less is lead found from before needed driven (same_or_not m n);
     }
@@ -130,8 +140,8 @@ module _ (groups : Groups) (xs : List Footprint) where
   pub reader_clocked : (g : List (List ℕ)) (i : ℕ) (x : Footprint) → slice_get xs i ≡ Some x → x.is_clocked ≡ true
       → AddsReader groups xs i g g
   reader_clocked g i x at clocked = record {
-    grows = grows_none (λ a b. (a ≡ i) × ReadsAt xs a b) g;
-    all = λ j r inside.
+    grows = grows_none (λ a b. (a ≡ i) × ReadsAt groups xs a b) g;
+    all = λ j r.
         let one : r.reader ≡ x = same_Some r.reader x (sym r.reader_is ∙ at) in
         absurd (true≢false (sym (ap (λ z. z.is_clocked) one ∙ clocked) ∙ r.settled));
   }
@@ -141,14 +151,22 @@ module _ (groups : Groups) (xs : List Footprint) where
       → AreBuckets groups xs (length xs) buckets → AreVisits groups x.needs visits None
       → AddsVisits i x.needs xs buckets visits (length visits) g more → AddsReader groups xs i g more
   reader_settled g more i x buckets visits at settled bs are adds = record {
-    grows = grows_as (λ a b. (a ≡ i) × ((group : ℕ) × Leads buckets group b) × Drives x.needs xs b)
-        (λ a b. (a ≡ i) × ReadsAt xs a b) g more (λ a b q. (q.0, reads a b q.0 q.1 q.2)) adds.grows;
+    grows = grows_as (λ a b. (a ≡ i) × DrivesInGroup x.needs xs buckets visits b)
+        (λ a b. (a ≡ i) × ReadsAt groups xs a b) g more (λ a b q. (q.0, reads a b q.0 q.1)) adds.grows;
     all = all;
   }
     where
-      reads : (a b : ℕ) → a ≡ i → ((group : ℕ) × Leads buckets group b) → Drives x.needs xs b → ReadsAt xs a b
-      reads a b same lead d =
-          let known = bs.sound lead.0 b lead.1 in
+      -- a cell before the group's end has the group
+      here : (m : ℕ) (v : Visit) (cell : ℕ) → slice_get visits m ≡ Some v → v.first ≤ cell → cell < v.past
+          → slice_get groups.of_cells cell ≡ Some v.group
+      here m v cell is from before =
+          let stands = are.each m v is in
+          groups.kept.same v.first cell v.group v.past stands.group stands.past from before
+
+      reads : (a b : ℕ) → a ≡ i → DrivesInGroup x.needs xs buckets visits b → ReadsAt groups xs a b
+      reads a b same g =
+          let d = g.drives in
+          let known = bs.sound g.visit.group b g.among in
           let one : known.0 ≡ d.driver = same_Some known.0 d.driver (sym known.1 ∙ d.is) in record {
             reader = x;
             driver = d.driver;
@@ -158,19 +176,18 @@ module _ (groups : Groups) (xs : List Footprint) where
             assigning = ap (λ z. z.is_clocked) (sym one) ∙ known.2;
             cell = d.cell;
             bit = d.bit;
+            known = get_less groups.of_cells d.cell g.visit.group (here g.place g.visit d.cell g.at d.from d.before);
             needed = d.needed;
             driven = d.driven;
           }
 
-      all : (j : ℕ) (r : ReadsAt xs i j) → r.cell < length groups.of_cells → Leads more i j
-      all j r inside =
+      all : (j : ℕ) → ReadsAt groups xs i j → Leads more i j
+      all j r =
           let one : r.reader ≡ x = same_Some r.reader x (sym r.reader_is ∙ at) in
           let needed : has x.needs r.cell r.bit ≡ true = ap (λ z. has z.needs r.cell r.bit) (sym one) ∙ r.needed in
-          let v = are.all r.cell r.bit tt inside needed in
-          let stands = are.each v.0 v.1 v.2 in
-          let here = groups.kept.same v.1.first r.cell v.1.group v.1.past stands.group stands.past v.3 v.4 in
+          let v = are.all r.cell r.bit tt r.known needed in
           let lead = bs.all j r.driver r.cell r.bit v.1.group (get_less xs j r.driver r.driver_is) r.driver_is
-          r.assigning here r.driven in
+          r.assigning (here v.0 v.1 r.cell v.2 v.3 v.4) r.driven in
           adds.all v.0 v.1 j r.driver r.cell r.bit (get_less visits v.0 v.1 v.2) v.2 lead r.driver_is v.3 v.4
           needed r.driven
 
@@ -180,7 +197,7 @@ module _ (groups : Groups) (xs : List Footprint) where
   no_readers g none = record {
     size = none.size;
     sound = λ i j lead. absurd (none.none i j lead);
-    all = λ i j less r inside. absurd (omega (arith, less));
+    all = λ i j less r. absurd (omega (arith, less));
   }
 
   pub one_reader_more : (g more : List (List ℕ)) (n : ℕ) → AreReaders groups xs n g → AddsReader groups xs n g more
@@ -188,39 +205,24 @@ module _ (groups : Groups) (xs : List Footprint) where
   one_reader_more g more n were adds = record {
     size = adds.grows.size ∙ were.size;
     sound = λ i j lead. sound i j (adds.grows.only i j lead);
-    all = λ i j less r inside. all i j less r inside (same_or_not i n);
+    all = λ i j less r. all i j less r (same_or_not i n);
   }
     where
-      sound : (i j : ℕ) → Leads g i j ⊎ ((i ≡ n) × ReadsAt xs i j) → ReadsAt xs i j
+      sound : (i j : ℕ) → Leads g i j ⊎ ((i ≡ n) × ReadsAt groups xs i j) → ReadsAt groups xs i j
       sound i j (inl lead) = were.sound i j lead
       sound i j (inr q) = q.1
 
-      all : (i j : ℕ) → i < n + 1 → (r : ReadsAt xs i j) → r.cell < length groups.of_cells
-          → (i ≡ n) ⊎ (i ≡ n → ⊥) → Leads more i j
-      all i j less r inside (inl same) =
-          let moved : ReadsAt xs n j = record {
-            reader = r.reader;
-            driver = r.driver;
-            reader_is = ap (slice_get xs) (sym same) ∙ r.reader_is;
-            driver_is = r.driver_is;
-            settled = r.settled;
-            assigning = r.assigning;
-            cell = r.cell;
-            bit = r.bit;
-            needed = r.needed;
-            driven = r.driven;
-          } in
-          subst (λ a. Leads more a j) (sym same) (adds.all j moved inside)
-      all i j less r inside (inr other) =
-          adds.grows.kept i j (were.all i j (omega (arith, less, other)) r inside)
+      all : (i j : ℕ) → i < n + 1 → ReadsAt groups xs i j → (i ≡ n) ⊎ (i ≡ n → ⊥) → Leads more i j
+      all i j less r (inl same) =
+          subst (λ a. Leads more a j) (sym same) (adds.all j (subst (λ a. ReadsAt groups xs a j) same r))
+      all i j less r (inr other) = adds.grows.kept i j (were.all i j (omega (arith, less, other)) r)
 
   pub all_readers : (g : List (List ℕ)) (n : ℕ) → length xs ≤ n → AreReaders groups xs n g
       → IsReadingGraph groups xs g
   all_readers g n past were = record {
     size = were.size;
     sound = were.sound;
-    all = λ i j r inside.
-        let less = get_less xs i r.reader r.reader_is in were.all i j (omega (arith, less, past)) r inside;
+    all = λ i j r. let less = get_less xs i r.reader r.reader_is in were.all i j (omega (arith, less, past)) r;
   }
 
 -- one visited group more, in the words of the loop

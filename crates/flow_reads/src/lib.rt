@@ -11,3 +11,4 @@ mod visit;
 pub use footprint::Footprint;
 pub use groups::Groups;
 pub use rows::reading_graph;
+pub use visit::{Visit, visits_of};

@@ -9,10 +9,10 @@ use std::alloc::Global;
 
 /// A group of which some bit is in a set: the first such cell, and the cell behind the group.
 #[derive(Debug, Clone, Copy)]
-pub(crate) struct Visit {
-    pub(crate) group: u32,
-    pub(crate) first: u64,
-    pub(crate) past: u64,
+pub struct Visit {
+    pub group: u32,
+    pub first: u64,
+    pub past: u64,
 }
 
 /// The cell's group from the cell on. None exactly where there is no such cell.
@@ -42,8 +42,8 @@ fn push(visits: &mut Vec<Visit>, visit: Visit) -> Result<(), Memory>
     Ok(())
 }
 
-/// The groups of which some bit is in the set, each once.
-pub(crate) fn visits_of(alloc: Global, groups: &Groups, bits: &Bits) -> Result<Vec<Visit>, Memory>
+/// The groups of which some bit is in the set, each once, in time about linear in them and in the runs of bits.
+pub fn visits_of(alloc: Global, groups: &Groups, bits: &Bits) -> Result<Vec<Visit>, Memory>
     ensures { IfOk result (λ visits. AreVisits groups.now bits.now visits.items None) }
 {
     let mut visits = Vec::new(alloc);

@@ -10,7 +10,7 @@ returns-in_ok-add_edge c =
     let found = c.if-meets.ensures.some refl in
     read_met c.args.reader c.args.needs.now xs c.args.graph.now.items c.add_edge.new.graph.items c.args.driver
     (get_or xs c.args.driver d) c.args.visit found.0 found.1
-    (slice_get-get_or xs c.args.driver d c.requires.driver) found.4 found.5 c.in_ok-add_edge.ensures
+    (slice_get-get_or xs c.args.driver d c.requires.driver) found.2 found.3 found.4 found.5 c.in_ok-add_edge.ensures
 
 pub returns-else-meets : goal.returns-else-meets
 returns-else-meets c =
