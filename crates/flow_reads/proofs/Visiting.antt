@@ -1,15 +1,16 @@
 -- A walk over the groups of a set, from the first bit of one to the first bit behind it.
-use Rattle.std.specs.Prelude.{◌≡◌, ℕ, ◌-◌, ◌<◌, ◌≤◌, ◌^◌, List, [], ◌∷◌}
+use Rattle.std.specs.Prelude.{◌≡◌, refl, IfSome, ℕ, ◌-◌, ◌<◌, ◌≤◌, ◌^◌, List, [], ◌∷◌}
 use Rattle.std.specs.Prelude.{◌++◌, length, true}
 use Rattle.std.specs.Prelude.{Option, Some, None, is_none, slice_get}
 use Rattle.std.proofs.Common.{ap, sym, ◌∙◌, subst, arith, true≢false, ◌⊎◌, inl, inr}
 use Rattle.std.proofs.lemmas.Bool.{cases_lt}
+use Rattle.std.proofs.lemmas.Option.{same_Some}
 use Rattle.bit_sets.specs.declared.step.Step.{Step}
 use Rattle.bit_sets.specs.Cells.{has, IsBare, IsBefore}
 use Rattle.graph_walk.proofs.Lists.{get_front, get_last, get_cases}
 use Rattle.flow_reads.specs.declared.groups.Groups.{Groups}
 use Rattle.flow_reads.specs.declared.visit.Visit.{Visit}
-use Rattle.flow_reads.specs.Visits.{AreVisits, Stands}
+use Rattle.flow_reads.specs.Visits.{AreVisits, HasBit, Stands}
 
 abbrev pub ahead : Option ℕ → ℕ
 ahead None = 0
@@ -25,19 +26,31 @@ pub nearer : (cell past : ℕ) (next : Option ℕ) → cell < 2 ^ 64 → cell < 
 nearer cell past None few less h = omega (arith, few)
 nearer cell past (Some c) few less h = omega (arith, few, less, h)
 
+pub next_set : (bits : List Step) (from : ℕ) (next : Option ℕ)
+    → IfSome next (λ cell. (from ≤ cell) × ((bit : ℕ) × (has bits cell bit ≡ true)))
+    → (cell : ℕ) → next ≡ Some cell → HasBit bits cell
+next_set bits from None h cell e = absurd (true≢false (ap is_none e))
+next_set bits from (Some x) h cell e = subst (HasBit bits) (same_Some x cell e) h.1
+
 module _ (groups : Groups) (bits : List Step) where
-  pub begun : (next : Option ℕ) → ((cell : ℕ) → 0 ≤ cell → IsBefore cell next → IsBare bits cell)
+  pub begun : (next : Option ℕ) → ((cell : ℕ) → next ≡ Some cell → HasBit bits cell)
+      → ((cell : ℕ) → 0 ≤ cell → IsBefore cell next → IsBare bits cell)
       → AreVisits groups bits [] next
-  begun next bare = record {
+  begun next set bare = record {
     each = λ m v e. absurd (true≢false (ap is_none e));
+    set = λ m v e. absurd (true≢false (ap is_none e));
+    next = set;
     all = λ cell bit before less set. absurd (true≢false (sym set ∙ bare cell (omega arith) before bit));
   }
 
   pub visited : (visits more : List Visit) (cell : ℕ) (v : Visit) (next : Option ℕ)
       → AreVisits groups bits visits (Some cell) → Stands groups cell v → more ≡ visits ++ v ∷ []
+      → ((c : ℕ) → next ≡ Some c → HasBit bits c)
       → ((c : ℕ) → v.past ≤ c → IsBefore c next → IsBare bits c) → AreVisits groups bits more next
-  visited visits more cell v next were stands e bare = record {
+  visited visits more cell v next were stands e ahead bare = record {
     each = λ m x at. each m x (get_cases visits v m x (ap (λ xs. slice_get xs m) (sym e) ∙ at));
+    set = λ m x at. set m x (get_cases visits v m x (ap (λ xs. slice_get xs m) (sym e) ∙ at));
+    next = ahead;
     all = λ c bit before less set. all c bit before less set (cases_lt c cell) (cases_lt c v.past);
   }
     where
@@ -46,6 +59,12 @@ module _ (groups : Groups) (bits : List Step) where
       each m x (inl h) = were.each m x h
       each m x (inr h) =
           subst (λ y. Stands groups y.first y) h.1 (subst (λ c. Stands groups c v) (sym stands.first) stands)
+
+      set : (m : ℕ) (x : Visit) → (slice_get visits m ≡ Some x) ⊎ ((m ≡ length visits) × (v ≡ x))
+          → HasBit bits x.first
+      set m x (inl h) = were.set m x h
+      set m x (inr h) =
+          subst (λ y. HasBit bits y.first) h.1 (subst (HasBit bits) (sym stands.first) (were.next cell refl))
 
       all : (c bit : ℕ) → IsBefore c next → c < length groups.of_cells → has bits c bit ≡ true
           → (c < cell) ⊎ (cell ≤ c) → (c < v.past) ⊎ (v.past ≤ c)
@@ -64,5 +83,7 @@ module _ (groups : Groups) (bits : List Step) where
       → AreVisits groups bits visits (Some cell) → AreVisits groups bits visits None
   visits_end visits cell past were = record {
     each = were.each;
+    set = were.set;
+    next = λ c e. absurd (true≢false (ap is_none e));
     all = λ c bit before less set. were.all c bit (omega (arith, less, past)) less set;
   }
