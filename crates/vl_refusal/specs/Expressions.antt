@@ -51,8 +51,8 @@ use Rattle.vl_mean.specs.Constants.{settled, vector_of}
 use Rattle.vl_mean.specs.Scopes.{is_clock_class}
 use Rattle.vl_refusal.specs.declared.elab_fault.ElabFault.{ElabFault}
 use Rattle.vl_refusal.specs.declared.elab_fault.ElabFault.TheVariants as f
-use Rattle.vl_refusal.specs.Meanings.{Meaning, undeclared, constant, loop_variable, object, faulty, later, Names}
-use Rattle.vl_refusal.specs.Meanings.{meaning_in, constants, is_known, bound, objects}
+use Rattle.vl_refusal.specs.Meanings.{Meaning, undeclared, constant, loop_variable, object, faulty, shapeless, later}
+use Rattle.vl_refusal.specs.Meanings.{Names, meaning_in, constants, is_known, bound, objects}
 
 -- one, where the test says so
 abbrev pub refused_if : Bool → ElabFault → List ElabFault
@@ -163,6 +163,7 @@ module _ (ns : List Names) where
   read_refusals fixed p text undeclared ss = f.Unknown text p ∷ []
   read_refusals fixed p text loop_variable ss = f.Unknown text p ∷ []
   read_refusals fixed p text faulty ss = []
+  read_refusals fixed p text shapeless ss = refused_if fixed (f.NotConstant p)
   read_refusals fixed p text later ss = f.NotConstant p ∷ []
   read_refusals fixed p text (constant c selected) ss = vector_selects selected (vector_of text c) ss
   read_refusals fixed p text (object d input scalar) ss =

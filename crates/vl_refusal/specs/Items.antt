@@ -78,7 +78,7 @@ use Rattle.vl_refusal.specs.declared.elab_fault.ElabFault.{ElabFault}
 use Rattle.vl_refusal.specs.declared.elab_fault.ElabFault.TheVariants as f
 use Rattle.vl_refusal.specs.Expressions.{refused_if, far, too_wide, select_refusals, refusals, own_refusals}
 use Rattle.vl_refusal.specs.Expressions.{expr_refusals, known}
-use Rattle.vl_refusal.specs.Meanings.{Meaning, undeclared, loop_variable, object, faulty, Names, meaning_in}
+use Rattle.vl_refusal.specs.Meanings.{Meaning, undeclared, loop_variable, object, faulty, shapeless, Names, meaning_in}
 use Rattle.vl_refusal.specs.Meanings.{is_known_range, declared_width, is_overridden}
 use Rattle.vl_refusal.specs.Meanings.{is_variable_class, may_have_words, all_meanings, meanings_at, meanings_before}
 use Rattle.vl_refusal.specs.Meanings.{objects}
@@ -209,6 +209,7 @@ assignments_refusals ns (x ∷ xs) =
 abbrev pub edge_refusals : Pos → List ℕ → Meaning → List ElabFault
 edge_refusals p text undeclared = f.Unknown text p ∷ []
 edge_refusals p text faulty = []
+edge_refusals p text shapeless = []
 edge_refusals p text (object d input scalar) = refused_if (not (is_clock_class d.class)) (f.Clock p)
 edge_refusals p text m = f.Clock p ∷ []
 
@@ -331,6 +332,7 @@ override_refusals at m u given x =
 abbrev pub is_net_name : Meaning → Bool
 is_net_name (object d input scalar) = not (is_variable_class d.class)
 is_net_name faulty = true
+is_net_name shapeless = true
 is_net_name m = false
 
 abbrev pub varies_by : List ElabFault → Bool

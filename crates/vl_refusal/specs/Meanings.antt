@@ -51,8 +51,10 @@ pub data Meaning : Type 0 where
   loop_variable : Meaning
   -- a net or a variable; whether it is an input, and whether it is a scalar
   object : Decl → Bool → Bool → Meaning
-  -- its own declaration is refused for its value or its shape
+  -- a parameter whose own declaration is refused for its value or its shape
   faulty : Meaning
+  -- a net or a variable whose own declaration is refused for its shape; it is no constant, whatever that is
+  shapeless : Meaning
   -- of the scope of a parameter, and no parameter before it
   later : Meaning
 
@@ -143,7 +145,7 @@ constant_or known c selected = faulty
 
 abbrev pub object_or : Bool → Option Decl → Bool → Bool → Meaning
 object_or true (Some d) input scalar = object d input scalar
-object_or known d input scalar = faulty
+object_or known d input scalar = shapeless
 
 abbrev pub is_variable_class : Class → Bool
 is_variable_class class.Variable = true

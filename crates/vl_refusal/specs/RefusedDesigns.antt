@@ -56,6 +56,10 @@ bound_that_varies =
     ∷ declares_name net.Wire scalar (codes "q") None
     ∷ declares_name net.Wire (up_to (codes "q")) (codes "x") None ∷ [])
 
+-- `wire [w:0] w; assign o = w;`: a net is no constant, also where its own shape isn't known
+abbrev pub net_of_its_own_width : List Module
+net_of_its_own_width = top (declares_name net.Wire (up_to (codes "w")) (codes "w") None ∷ gives (plain (codes "w")))
+
 -- `assign o = a[0];`
 abbrev pub selected_scalar : List Module
 selected_scalar = top (gives (name here (codes "a") (bit here (decimal 0) whole)))

@@ -53,8 +53,8 @@ use Rattle.vl_refusal.specs.declared.elab_fault.ElabFault.TheVariants as f
 use Rattle.vl_refusal.specs.Expressions.{refused_if, name_width, too_wide, object_selects, select_refusals}
 use Rattle.vl_refusal.specs.Expressions.{divided_by_zero, is_constant_name, vector_selects}
 use Rattle.vl_refusal.specs.Expressions.{expr_refusals, own_refusals, known}
-use Rattle.vl_refusal.specs.Meanings.{Meaning, undeclared, constant, loop_variable, object, faulty, later, Names}
-use Rattle.vl_refusal.specs.Meanings.{meaning_in, constants, objects}
+use Rattle.vl_refusal.specs.Meanings.{Meaning, undeclared, constant, loop_variable, object, faulty, shapeless, later}
+use Rattle.vl_refusal.specs.Meanings.{Names, meaning_in, constants, objects}
 
 -- by a continuous assignment, or by one of a block
 abbrev pub may_be_assigned : Bool → Class → Bool
@@ -75,6 +75,7 @@ module _ (ns : List Names) where
   assigned_refusals continuous p text loop_variable = f.Kind text p ∷ []
   assigned_refusals continuous p text (constant c selected) = f.Kind text p ∷ []
   assigned_refusals continuous p text faulty = []
+  assigned_refusals continuous p text shapeless = []
   assigned_refusals continuous p text later = []
   assigned_refusals continuous p text (object d input scalar) =
       refused_if (is_clock_class d.class) (f.Clock p)

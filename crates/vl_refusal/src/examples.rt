@@ -44,6 +44,7 @@ pub fn what_is_assigned_is_of_its_kind()
 /// A use before the declaration isn't refused where the declaration is; a scalar isn't selected from.
 pub fn uses_wait_for_declarations()
     ensures bound { refusal designs.bound_that_varies (codes "top") ≡ Some (fault.NotConstant here) }
+    ensures own { refusal designs.net_of_its_own_width (codes "top") ≡ Some (fault.NotConstant here) }
     ensures scalar { refusal designs.selected_scalar (codes "top") ≡ Some (fault.Range here) }
     ensures memory { refusal designs.memory_with_a_value (codes "top") ≡ Some (fault.Range here) }
     ensures nets { refusal designs.memory_of_nets (codes "top") ≡ Some (fault.Range designs.next_line) }
