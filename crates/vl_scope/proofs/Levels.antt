@@ -8,7 +8,7 @@ use Rattle.std.proofs.Common.{ap, sym, ◌∙◌, subst, arith}
 use Rattle.vl_refusal.specs.Meanings.{Meaning, undeclared, Names, is_undeclared, meaning_of, meaning_in}
 use Rattle.vl_scope.specs.declared.meaning.Meaning.{Meaning as Kept}
 use Rattle.vl_scope.specs.declared.meaning.Meaning.TheVariants as k
-use Rattle.vl_scope.specs.Seen.{Entry, seen, seen_or, names_of, inward, AreNamed, AllNamed}
+use Rattle.vl_scope.specs.Seen.{Entry, seen, seen_or, names_of, inward, innermost, names_or, AreNamed, AllNamed}
 
 pub inward_last : (ls : List Names) (l : Names) → inward (ls ++ l ∷ []) ≡ l ∷ inward ls
 inward_last [] l = refl
@@ -30,6 +30,7 @@ seen_declared (k.Constant c selected) = refl
 seen_declared k.LoopVariable = refl
 seen_declared (k.Object o) = refl
 seen_declared k.Faulty = refl
+seen_declared k.Shapeless = refl
 seen_declared k.Later = refl
 
 abbrev inner_or : Meaning → Meaning → Meaning
@@ -88,6 +89,18 @@ pub left : (old new : List Names) (r : Option Names) → old ≡ new ++ option_t
     → inward new ≡ drop 1 (inward old)
 left old new None e h = ap inward (sym (e ∙ no_more new)) ∙ empty_inward old (h refl)
 left old new (Some l) e h = ap (drop 1) (sym (ap inward e ∙ inward_last new l))
+
+taken : (old new : List Names) (l : Names) → old ≡ new ++ l ∷ [] → l ≡ innermost (inward old)
+taken old new l e = sym (ap innermost (ap inward e ∙ inward_last new l))
+
+none_innermost : (ls : List Names) → length ls ≡ 0 → [] ≡ innermost (inward ls)
+none_innermost [] h = refl
+none_innermost (l ∷ ls) h = absurd (omega (arith, h))
+
+pub last_taken : (old new : List Names) (r : Option Names) → old ≡ new ++ option_to_list r
+    → (r ≡ None → length old ≡ 0) → names_or r ≡ innermost (inward old)
+last_taken old new None e h = none_innermost old (h refl)
+last_taken old new (Some l) e h = taken old new l e
 
 named_rest : (ls : List Names) → AllNamed ls → AllNamed (drop 1 ls)
 named_rest [] h = tt

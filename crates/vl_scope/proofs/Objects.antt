@@ -6,7 +6,8 @@ use Rattle.std.proofs.Common.{ap, sym, ◌∙◌}
 use Rattle.std.proofs.lemmas.Slice.Eq.{bytes_eq-Decides}
 use Rattle.vl_size.specs.declared.decl.Decl.{Decl}
 use Rattle.vl_size.specs.Table.{declared_as, is_declared}
-use Rattle.vl_refusal.specs.Meanings.{Meaning, undeclared, constant, loop_variable, object, faulty, later, Names}
+use Rattle.vl_refusal.specs.Meanings.{Meaning, undeclared, constant, loop_variable, object, faulty, shapeless, later}
+use Rattle.vl_refusal.specs.Meanings.{Names}
 use Rattle.vl_refusal.specs.Meanings.{is_undeclared, is_object, meaning_of, meaning_in, objects_of, objects_in, objects}
 use Rattle.vl_scope.specs.Seen.{object_of, AreNamed, AllNamed}
 use Rattle.vl_scope.specs.Texts.{or_else}
@@ -48,6 +49,7 @@ module _ (all : List Names) (text : List ℕ) where
   none_of ((n, constant c selected) ∷ ns) h k = none_of ns h.1 k
   none_of ((n, loop_variable) ∷ ns) h k = none_of ns h.1 k
   none_of ((n, faulty) ∷ ns) h k = none_of ns h.1 k
+  none_of ((n, shapeless) ∷ ns) h k = none_of ns h.1 k
   none_of ((n, later) ∷ ns) h k = none_of ns h.1 k
   none_of ((n, object d input scalar) ∷ ns) h k =
       step n d ns h.0 None (none_of ns h.1 k)
@@ -75,6 +77,7 @@ module _ (all : List Names) (text : List ℕ) where
   skip n (constant c selected) ns r h e k = k
   skip n loop_variable ns r h e k = k
   skip n faulty ns r h e k = k
+  skip n shapeless ns r h e k = k
   skip n later ns r h e k = k
   skip n (object d input scalar) ns r h e k =
       step n d ns h.0 r k ∙ ap (λ b. if is_object (meaning_in all n) then (if b then Some d else r) else r) e
@@ -94,6 +97,7 @@ module _ (all : List Names) (text : List ℕ) where
       here (constant c selected) h k = cc
       here loop_variable h k = cc
       here faulty h k = cc
+      here shapeless h k = cc
       here later h k = cc
       here (object d input scalar) h k = cc
 
@@ -116,6 +120,7 @@ module _ (all : List Names) (text : List ℕ) where
       here (constant c selected) h e k = cc
       here loop_variable h e k = cc
       here faulty h e k = cc
+      here shapeless h e k = cc
       here later h e k = cc
       here (object x i s) h e k =
           let same : x ≡ d = cc in
@@ -146,6 +151,7 @@ module _ (all : List Names) (text : List ℕ) where
       by (constant c selected) e k f = cc
       by loop_variable e k f = cc
       by faulty e k f = cc
+      by shapeless e k f = cc
       by later e k f = cc
       by (object x i s) e k f =
           ap (λ o. or_else o (declared_as (objects_in all ls) text)) (seen_object ns d input scalar h.0 p (e ∙ k))
@@ -159,6 +165,7 @@ object_is ns text h = by (meaning_in ns text) refl
     by (constant c selected) e = none_in ns text ns h (ap is_object e)
     by loop_variable e = none_in ns text ns h (ap is_object e)
     by faulty e = none_in ns text ns h (ap is_object e)
+    by shapeless e = none_in ns text ns h (ap is_object e)
     by later e = none_in ns text ns h (ap is_object e)
     by (object d input scalar) e = some_in ns text ns d input scalar h (ap is_object e) e
 
@@ -175,6 +182,7 @@ named_of ((n, m) ∷ ns) text d input scalar h k =
     here (constant c selected) h k = cc
     here loop_variable h k = cc
     here faulty h k = cc
+    here shapeless h k = cc
     here later h k = cc
     here (object x i s) h k = let same : x ≡ d = cc in sym (ap (λ d. d.name) same) ∙ h.0
 
@@ -196,6 +204,7 @@ meaning_named (ns ∷ ls) text d input scalar h k =
     by (constant c selected) e k f = cc
     by loop_variable e k f = cc
     by faulty e k f = cc
+    by shapeless e k f = cc
     by later e k f = cc
     by (object x i s) e k f = named_of ns text d input scalar h.0 (e ∙ k)
 
@@ -206,6 +215,7 @@ object_fresh ls text undeclared ds h e k = tt
 object_fresh ls text (constant c selected) ds h e k = tt
 object_fresh ls text loop_variable ds h e k = tt
 object_fresh ls text faulty ds h e k = tt
+object_fresh ls text shapeless ds h e k = tt
 object_fresh ls text later ds h e k = tt
 object_fresh ls text (object d input scalar) ds h e k =
     ap (is_declared ds) (meaning_named ls text d input scalar h (sym e)) ∙ k
@@ -227,6 +237,7 @@ object_added ls text other m ds new h e made =
     alone (constant c selected) e k = refl
     alone loop_variable e k = refl
     alone faulty e k = refl
+    alone shapeless e k = refl
     alone later e k = refl
     alone (object d input scalar) e k =
         ap (λ n. if bytes_eq other n then Some d else None) (meaning_named ls text d input scalar h (sym e))
@@ -238,6 +249,7 @@ object_added ls text other m ds new h e made =
     itself (constant c selected) e k = refl
     itself loop_variable e k = refl
     itself faulty e k = refl
+    itself shapeless e k = refl
     itself later e k = refl
     itself (object d input scalar) e k =
         ap (λ n. if bytes_eq other n then Some d else None) (meaning_named ls text d input scalar h (sym e))

@@ -3,8 +3,8 @@ use Rattle.std.specs.Prelude.{◌≡◌, ℕ, List, [], ◌∷◌, ◌++◌, map
 use Rattle.std.specs.Prelude.{if◌then◌else◌}
 use Rattle.std.specs.declared.alloc.Global.{Global}
 use Rattle.vl_size.specs.declared.decl.Decl.{Decl}
-use Rattle.vl_refusal.specs.Meanings.{Meaning, undeclared, constant, loop_variable, object, faulty, later, Names}
-use Rattle.vl_refusal.specs.Meanings.{is_undeclared, meaning_of}
+use Rattle.vl_refusal.specs.Meanings.{Meaning, undeclared, constant, loop_variable, object, faulty, shapeless, later}
+use Rattle.vl_refusal.specs.Meanings.{Names, is_undeclared, meaning_of}
 use Rattle.vl_scope.specs.declared.meaning.Meaning.{Meaning as Kept}
 use Rattle.vl_scope.specs.declared.meaning.Meaning.TheVariants as k
 
@@ -13,6 +13,7 @@ seen (k.Constant c selected) = constant c selected
 seen k.LoopVariable = loop_variable
 seen (k.Object o) = object o.decl o.input o.scalar
 seen k.Faulty = faulty
+seen k.Shapeless = shapeless
 seen k.Later = later
 
 abbrev pub seen_or : Option Kept → Meaning
@@ -29,6 +30,15 @@ names_of es = map (λ e. (e.0.items, seen e.1)) es
 abbrev pub inward : List Names → List Names
 inward [] = []
 inward (l ∷ ls) = inward ls ++ l ∷ []
+
+abbrev pub names_or : Option Names → Names
+names_or None = []
+names_or (Some ns) = ns
+
+-- the names of the innermost scope
+abbrev pub innermost : List Names → Names
+innermost [] = []
+innermost (ns ∷ outer) = ns
 
 -- with a name behind the others; of two alike the first counts, so a second one isn't kept
 abbrev pub with_name : Names → List ℕ → Meaning → Names

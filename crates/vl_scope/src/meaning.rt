@@ -21,8 +21,10 @@ pub enum Meaning {
     /// A genvar outside the loops whose heads name it.
     LoopVariable,
     Object(Object),
-    /// A name whose own declaration is refused for its value or its shape.
+    /// A parameter whose own declaration is refused for its value or its shape.
     Faulty,
+    /// A net or a variable whose own declaration is refused for its shape.
+    Shapeless,
     /// A name of the scope of a parameter, and no parameter before it.
     Later,
 }

@@ -58,12 +58,30 @@ impl Names {
         }
     }
 
+    /// Leaves the innermost scope and hands its names out. Without a scope there are none.
+    pub fn take(&mut self, alloc: Global) -> Level
+        ensures level { result ≡ spec.innermost self.old }
+        ensures rest { self.new ≡ drop 1 self.old }
+    {
+        let last = self.levels.pop();
+        or_empty(alloc, last)
+    }
+
     /// What the innermost scope that declares the name says of it. None exactly where no scope does.
     pub fn meaning(&self, name: &Text) -> Option<&Meaning>
         ensures value { spec.seen_or (option_copied result) ≡ meaning_in self.now name.now }
         ensures named { spec.AllNamed self.now }
     {
         meaning_among(self.levels.as_slice(), name)
+    }
+}
+
+fn or_empty(alloc: Global, level: Option<Level>) -> Level
+    ensures { result ≡ spec.names_or level }
+{
+    match level {
+        None => Level::new(alloc),
+        Some(level) => level,
     }
 }
 

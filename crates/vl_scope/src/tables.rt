@@ -54,7 +54,11 @@ fn set(alloc: Global, text: &Text, meaning: &Meaning, params: &mut Params) -> Re
 {
     match meaning {
         Meaning::Constant(value, _) => params.set(text.copied(alloc)?, *value),
-        Meaning::LoopVariable | Meaning::Object(_) | Meaning::Faulty | Meaning::Later => Ok(()),
+        Meaning::LoopVariable
+        | Meaning::Object(_)
+        | Meaning::Faulty
+        | Meaning::Shapeless
+        | Meaning::Later => Ok(()),
     }
 }
 
@@ -96,9 +100,11 @@ fn add(alloc: Global, meaning: &Meaning, decls: &mut Decls) -> Result<(), Memory
 {
     match meaning {
         Meaning::Object(object) => push(alloc, object, decls),
-        Meaning::Constant(_, _) | Meaning::LoopVariable | Meaning::Faulty | Meaning::Later => Ok(
-            (),
-        ),
+        Meaning::Constant(_, _)
+        | Meaning::LoopVariable
+        | Meaning::Faulty
+        | Meaning::Shapeless
+        | Meaning::Later => Ok(()),
     }
 }
 
