@@ -1,0 +1,3 @@
+pub mod Tests
+pub mod Halves
+pub mod Marks

@@ -1,0 +1,8 @@
+use Rattle.flow_sets.proofs.Marks.{mark_is}
+use Rattle.flow_sets.proofs.names.mark.Goals as goal
+
+pub returns : goal.returns
+returns c =
+    let made = c.in_ok-of_cells.ensures in
+    mark_is c.in_ok-of_cells.field-0 c.args.group c.from-first.result c.from-first.ensures made.inside made.before
+    made.behind
