@@ -1,6 +1,6 @@
 -- Bits of a vector that was moved by an address.
 use Rattle.std.specs.Prelude.{◌≡◌, refl, ℕ, zero, suc, ◌+◌, ◌*◌, ◌/◌, ◌%◌, ◌^◌, ◌<◌, ◌≤◌, Bool, true, false}
-use Rattle.std.specs.Prelude.{not, nat_lt, MatchBool}
+use Rattle.std.specs.Prelude.{nat_lt, MatchBool}
 use Rattle.std.specs.Prelude.{bit_or, ℤ, pos, negsuc, ◌+ℤ◌, ◌-ℤ◌}
 use lib.Bits.{or_zero_r, or_zero_l, or_self}
 use Rattle.std.proofs.Common.{ap, sym, ◌∙◌, arith, subst}
@@ -13,7 +13,7 @@ use Rattle.fv_bits.specs.Bits.{part, extended, shifted_left, shifted_right}
 use Rattle.fv_bits.proofs.Limits.{low_of_shifted}
 use Rattle.vl_size.specs.Size.{bit_at, bits_from}
 use Rattle.vl_mean.proofs.SelectLemmas.{bits_up, bits_down, above_all}
-use Rattle.vl_points.specs.Points.{IsAddress, distance, past}
+use Rattle.vl_points.specs.Points.{IsAddress, past}
 
 -- ---- to the right
 
@@ -95,18 +95,6 @@ pub fixed_is : (c w x n m : ℕ) (p : ℤ) → x < 2 ^ w → w ≤ 128 → c ≤
 fixed_is c w x n m p fits few short up down =
     ap (bit_or (x / 2 ^ n % 2 ^ c)) (cut_first c x m)
     ∙ both_are c w x n m p (pos 0 -ℤ p) fits few short (omega (arith, ints)) up down
-
-pub part_is : (c w x n m : ℕ) (along : Bool) (base i : ℤ) → x < 2 ^ w → w ≤ 128 → c ≤ 128 → IsAddress n (distance along base i)
-    → IsAddress m (distance (not along) base i)
-    → bit_or (extended w c false (shifted_right x n)) (shifted_left c (extended w c false x) m)
-    ≡ bits_from c w x (distance along base i)
-part_is c w x n m along base i fits few short up down =
-    ap (bit_or (x / 2 ^ n % 2 ^ c)) (cut_first c x m)
-    ∙ both_are c w x n m (distance along base i) (distance (not along) base i) fits few short (turned along) up down
-  where
-    turned : (b : Bool) → distance b base i +ℤ distance (not b) base i ≡ pos 0
-    turned true = omega (arith, ints)
-    turned false = omega (arith, ints)
 
 -- one bit is a part of one
 pub bit_is : (w x n : ℕ) (p : ℤ) → x < 2 ^ w → w ≤ 128 → IsAddress n p → part 0 1 (shifted_right x n) ≡ bit_at w x p

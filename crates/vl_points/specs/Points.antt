@@ -15,6 +15,11 @@ abbrev pub IsAddress : ℕ → ℤ → Type 0
 IsAddress n (pos k) = MatchBool (nat_lt k past) (n ≡ k) (past ≤ n)
 IsAddress n (negsuc k) = past ≤ n
 
+-- The numbers of two nodes give the place: the first is its address, and the second that of what it is left to 0.
+pub record GivePlace (up down : ℕ) (p : ℤ) : Type 0 where
+  pub upwards : IsAddress up p
+  pub downwards : IsAddress down (pos 0 -ℤ p)
+
 -- bounds have 32 signed bits, and a part 128 at most
 abbrev pub is_base : ℤ → Bool
 is_base i = int_lt (negsuc (3 * 2 ^ 30)) i && int_lt i (pos (3 * 2 ^ 30))

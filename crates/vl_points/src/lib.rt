@@ -6,4 +6,4 @@ mod place;
 mod select;
 
 pub use place::address;
-pub use select::{bit_at, part_at, part_from};
+pub use select::{VaryingPlace, bit_at, part_at, part_by, part_from, place_from};

@@ -5,9 +5,11 @@ ghost use Rattle.std.specs.Prelude.{◌≡◌, ◌≤◌, ◌<◌, ◌-◌, ◌^
 ghost use Rattle.fv_bits.specs.Bits.{as_int, extended, shifted_left, shifted_right};
 ghost use Rattle.vl_size.specs.Size as spec;
 ghost use Rattle.vl_size.specs.Size.{is_bound};
+ghost use Rattle.wn_net.specs.Value.{Given};
 ghost use Rattle.wn_net.specs.Net.{IsNode, IsNodeOf, width_at, value_at};
+ghost use Rattle.wn_net.specs.Given.{IsGiven};
 ghost use Rattle.wn_net.specs.Changes.{AddsNodes, Shows};
-ghost use Rattle.vl_points.specs.Points.{IsAddress, distance, is_base, is_place};
+ghost use Rattle.vl_points.specs.Points.{IsAddress, GivePlace, distance, is_base, is_place};
 
 use crate::place::address;
 use fv_base::Memory;
@@ -40,6 +42,63 @@ pub fn bit_at(
     Ok(bit)
 }
 
+/// Where bits of a vector begin, from its lowest bit on: one address counts upwards, and the other downwards.
+#[derive(Debug, Clone, Copy, PartialEq, Eq)]
+pub struct VaryingPlace {
+    pub up: NodeId,
+    pub down: NodeId,
+}
+
+/// Where so many bits of a vector begin that stand from an index on (section 5.2.1).
+pub fn place_from(
+    net: &mut Net,
+    decl: &Decl,
+    index: NodeId,
+    signed: bool,
+    count: u32,
+) -> Result<VaryingPlace, Memory>
+    requires index { IsNode net.old index }
+    requires some { 1 ≤ count }
+    requires few { count ≤ 128 }
+    requires right { is_bound decl.now.right ≡ true }
+    ensures adds { AddsNodes net.old net.new }
+    ensures up { IfOk result (λ p. IsNode net.new p.up) }
+    ensures down { IfOk result (λ p. IsNode net.new p.down) }
+    ensures value { IfOk result (λ p. (g : Given) → IsGiven net.old g
+        → GivePlace (value_at net.new g p.up) (value_at net.new g p.down)
+        (spec.start_of decl.now (as_int (width_at net.old index) signed (value_at net.old g index)) count)) }
+{
+    let along = descends(decl);
+    let base = start_base(decl, count);
+    let up = address(net, index, signed, base, along)?;
+    let down = address(net, index, signed, base, !along)?;
+    Ok(VaryingPlace { up, down })
+}
+
+/// So many bits of a vector from a place on; those past the vector are 0 (section 4.2.1).
+pub fn part_by(
+    net: &mut Net,
+    vector: NodeId,
+    place: VaryingPlace,
+    count: u32,
+) -> Result<NodeId, Memory>
+    requires vector { IsNode net.old vector }
+    requires up { IsNode net.old place.up }
+    requires down { IsNode net.old place.down }
+    requires some { 1 ≤ count }
+    requires few { count ≤ 128 }
+    ensures adds { AddsNodes net.old net.new }
+    ensures there { IfOk result (IsNodeOf net.new count) }
+    ensures value { IfOk result (λ id. (g : Given) (p : ℤ) → IsGiven net.old g
+        → GivePlace (value_at net.old g place.up) (value_at net.old g place.down) p
+        → value_at net.new g id ≡ spec.bits_from count (width_at net.old vector) (value_at net.old g vector) p) }
+{
+    // Asked for what it says of the net: numbers are below 2 to their widths.
+    let _width = net.width(vector);
+    let part = moved(net, vector, place.up, place.down, count)?;
+    Ok(part)
+}
+
 /// The part of a vector that begins at an index; its bits past the vector are 0 (section 4.2.1).
 pub fn part_at(
     net: &mut Net,
@@ -61,13 +120,8 @@ pub fn part_at(
         (λ g. spec.bits_from count decl.now.width (value_at net.old g vector)
         (spec.start_of decl.now (as_int (width_at net.old index) signed (value_at net.old g index)) count))) }
 {
-    // Asked for what it says of the net: numbers are below 2 to their widths.
-    let _width = net.width(vector);
-    let along = descends(decl);
-    let base = start_base(decl, count);
-    let up = address(net, index, signed, base, along)?;
-    let down = address(net, index, signed, base, !along)?;
-    let part = moved(net, vector, up, down, count)?;
+    let place = place_from(net, decl, index, signed, count)?;
+    let part = part_by(net, vector, place, count)?;
     Ok(part)
 }
 
@@ -193,6 +247,6 @@ pub fn part_from(net: &mut Net, vector: NodeId, place: i64, count: u32) -> Resul
     }
     let up = number(net, 34, address_of(place))?;
     let down = number(net, 34, address_below(place))?;
-    let part = moved(net, vector, up, down, count)?;
+    let part = part_by(net, vector, VaryingPlace { up, down }, count)?;
     Ok(part)
 }

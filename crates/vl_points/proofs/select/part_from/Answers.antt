@@ -1,14 +1,14 @@
-use Rattle.std.specs.Prelude.{◌≡◌, ◌≤◌, false, bit_or, ℤ, pos, ◌-ℤ◌}
+use Rattle.std.specs.Prelude.{◌≡◌, ◌≤◌, ℕ, ℤ, pos, ◌-ℤ◌}
 use mir.Syntax.{w64}
 use mir.Val.{to_z, of_z}
 use Rattle.std.proofs.Common.{sym, ◌∙◌, arith, subst}
 use Rattle.std.proofs.lemmas.Int.{ints}
-use Rattle.fv_bits.specs.Bits.{extended, shifted_left, shifted_right}
+use Rattle.vl_size.specs.Size.{bits_from}
 use Rattle.wn_net.specs.Net.{width_at, value_at}
-use Rattle.wn_net.proofs.Laws.{adds_on, given_on, value_on, node_on, built_node}
+use Rattle.wn_net.proofs.Laws.{adds_on, given_on, value_on, built_node}
 use Rattle.wn_net.proofs.Moved.{value_below}
-use Rattle.vl_points.specs.Points.{IsAddress}
-use Rattle.vl_points.proofs.PartLemmas.{within_is, fixed_is}
+use Rattle.vl_points.specs.Points.{IsAddress, GivePlace}
+use Rattle.vl_points.proofs.PartLemmas.{within_is}
 use Rattle.vl_points.proofs.select.part_from.Goals as goal
 
 pub returns-in-Some-clause-shows : goal.returns-in-Some-clause-shows
@@ -27,7 +27,6 @@ pub returns-clause-shows : goal.returns-clause-shows
 returns-clause-shows c =
     let net = c.args.net.now in
     let id = c.args.vector in
-    let w = width_at net id in
     let place_is : to_z w64 (of_z w64 c.args.place) ≡ c.args.place = omega (arith, ints) in
     let P : ℤ → Type 0 = λ p. IsAddress c.address_of.result p in
     let Q : ℤ → Type 0 = λ p. IsAddress c.address_below.result (pos 0 -ℤ p) in
@@ -35,20 +34,20 @@ returns-clause-shows c =
     let two = c.in_ok-down.ensures.adds in
     let both = adds_on _ _ _ one two in
     let last = c.number-2.new.net in
-    let few : w ≤ 128 = omega (arith, c.width-width.ensures.value, c.width-width.ensures.few) in
     record {
-      node = c.in_ok-part-2.ensures.shows.node;
+      node = c.in_ok-part-2.ensures.there;
       value = λ g given.
-          let x = value_at net g id in
-          let w_is = both.keeps.widths id c.requires.vector in
-          let x_is = value_on net last g id both c.requires.vector in
           let n_is = value_on c.number.new.net last g c.in_ok-up.up two c.in_ok-up.ensures.shows.node.0
           ∙ c.in_ok-up.ensures.shows.value g given in
           let m_is = c.in_ok-down.ensures.shows.value g (given_on _ _ g one given) in
-          c.in_ok-part-2.ensures.shows.value g (given_on _ _ g both given)
-          ∙ (λ j. bit_or (extended (w_is j) c.args.count false (shifted_right (x_is j) (n_is j)))
-          (shifted_left c.args.count (extended (w_is j) c.args.count false (x_is j)) (m_is j)))
-          ∙ fixed_is c.args.count w x c.address_of.result c.address_below.result c.args.place
-          (value_below net g c.width-width.ensures.whole given id) few c.requires.few
-          (subst P place_is c.address_of.ensures.address) (subst Q place_is c.address_below.ensures.address);
+          let U : ℕ → Type 0 = λ n. IsAddress n c.args.place in
+          let D : ℕ → Type 0 = λ n. IsAddress n (pos 0 -ℤ c.args.place) in
+          let w_is = both.keeps.widths id c.requires.vector in
+          let x_is = value_on net last g id both c.requires.vector in
+          c.in_ok-part-2.ensures.value g c.args.place (given_on _ _ g both given)
+          (record {
+            upwards = subst U (sym n_is) (subst P place_is c.address_of.ensures.address);
+            downwards = subst D (sym m_is) (subst Q place_is c.address_below.ensures.address);
+          })
+          ∙ (λ j. bits_from c.args.count (w_is j) (x_is j) c.args.place);
     }
