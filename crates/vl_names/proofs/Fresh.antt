@@ -43,8 +43,8 @@ use Rattle.vl_refusal.specs.Expressions.{refused_if}
 use Rattle.vl_refusal.specs.Items.{twice, labels_twice, optional_label, placed_labels, block_labels, placed_names}
 use Rattle.vl_refusal.specs.Items.{parameters_refusals, step_refusals, head_refusals, turns_refusals}
 use Rattle.vl_refusal.specs.Items.{genvar_refusals}
-use Rattle.vl_refusal.specs.Meanings.{Meaning, undeclared, constant, loop_variable, object, faulty, later, meaning_in}
-use Rattle.vl_refusal.specs.Meanings.{meanings_at}
+use Rattle.vl_refusal.specs.Meanings.{Meaning, undeclared, constant, loop_variable, object, faulty, shapeless, later}
+use Rattle.vl_refusal.specs.Meanings.{meaning_in, meanings_at}
 use Rattle.vl_same.proofs.EachOf.{each_map, front, back}
 use Rattle.vl_names.proofs.Contained.{Lacks, Different, clash, has-first, has-back, lacks-front, lacks-each}
 use Rattle.vl_names.proofs.Declared.{name_list}
@@ -124,7 +124,7 @@ genvars-new : (earlier : List (List ℕ)) (p : Pos) (xs : List (List ℕ))
 genvars-new earlier p xs h =
     subst (Each (Lacks earlier)) (first-genvars p xs) (twice-new earlier (map (λ text. (text, p)) xs) h).new
 
-parameters-new : (at : Place) (kind : ParameterKind) (earlier : List (List ℕ)) (xs : List Parameter)
+pub parameters-new : (at : Place) (kind : ParameterKind) (earlier : List (List ℕ)) (xs : List Parameter)
     → NoneOf (parameters_refusals at kind earlier xs)
     → Each (Lacks earlier) (map (λ x. x.name) xs)
 parameters-new at kind earlier [] h = tt
@@ -277,6 +277,7 @@ head-ends at p head loop_variable h =
     (turns_refusals 4096 head at p (first_turn head at.scopes)) h)
 head-ends at p head (object d input scalar) h = absurd (some-fault _ _ h)
 head-ends at p head faulty h = absurd (some-fault _ _ h)
+head-ends at p head shapeless h = absurd (some-fault _ _ h)
 head-ends at p head later h = absurd (some-fault _ _ h)
 
 pub loop-ends : (ms : List Module) (at : Place) (attrs : Attributes) (p : Pos) (head : LoopHead) (b : Block)

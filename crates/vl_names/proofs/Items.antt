@@ -194,7 +194,7 @@ front-none at m u inside xs ys =
     full-append (override_steps at m u [] xs) (connection_steps at m u inside [] ys)
     ∙ (λ i. overrides-none at m u [] xs i ++ connections-none at m u inside [] ys i)
 
-found-module : (ms : List Module) (text : List ℕ) (m : Module) → All IsModule ms → module_named ms text ≡ Some m
+pub found-module : (ms : List Module) (text : List ℕ) (m : Module) → All IsModule ms → module_named ms text ≡ Some m
     → IsModule m
 found-module [] text m h e = absurd (none_some e)
   where

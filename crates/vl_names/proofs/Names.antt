@@ -116,6 +116,9 @@ walk-counted ms top e = by (is_none (module_named ms top)) e
         none-refused ms (record { nodes = 0; names = 0 }) (walk ms top) (omega arith)
         (later-first _ _ (later-second (modules_twice [] ms) _ e))
 
+pub walk-fine : (ms : List Module) (top : List ℕ) → refusal ms top ≡ None → AreFine ms (walk ms top)
+walk-fine ms top e = (walk-counted ms top e).fine
+
 few-of : (xs : List Step) → 0 + length xs ≤ 4000000 → AreFew 1 xs
 few-of xs h = omega arith
 
