@@ -261,6 +261,11 @@ some_there : {A : Type 0} (o : Option A) → is_some o ≡ true → (n : A) × (
 some_there None h = cc
 some_there (Some n) h = (n, refl)
 
+-- also where only the context of its place is without a divisor of 0
+pub settled_stays : (f g : List ℕ → Option Const) → AreAmong f g → (k : Context) (e : Expr) (m : ℕ)
+    → size [] (settled f e) ≡ Some m → zero_divisor [] k (settled f e) ≡ None → settled f e ≡ settled g e
+settled_stays f g h k e m sized z = stays f g h [] (none_selected f g h) k e m sized z
+
 pub known_settled : (ns : List Names) (all : List ℕ → Option Const) → AreAmong (constants ns) all → (e : Expr)
     → is_known ns e ≡ true → settled (constants ns) e ≡ settled all e
 known_settled ns all h e known =
