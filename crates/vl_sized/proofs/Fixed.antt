@@ -21,8 +21,10 @@ use Rattle.vl_tree.specs.Expr.{
   part,
   indexed,
 }
+use Rattle.vl_size.specs.declared.context.Context.{Context}
 use Rattle.vl_size.specs.declared.decl.Decl.{Decl}
 use Rattle.vl_size.specs.Divisors.{own_context, own_zero_divisor, zero_divisor}
+use Rattle.vl_size.specs.Sign.{sign}
 use Rattle.vl_size.specs.Size.{◌>>=◌, part_size, times, vector_size}
 use Rattle.vl_size.specs.Size.{is_constant, are_constant, size, no_names, operand, operand_of, index_of}
 use Rattle.vl_size.specs.Table.{declared_as}
@@ -74,6 +76,13 @@ module _ (ds es : List Decl) where
 
     pub fixed_size : size ds e ≡ size es e
     fixed_size = same_size ds es e agreed
+
+    pub fixed_sign : sign ds e ≡ sign es e
+    fixed_sign = same_sign ds es e agreed
+
+    -- in the context of its place
+    pub fixed_place : (c : Context) → zero_divisor ds c e ≡ zero_divisor es c e
+    fixed_place c = same_divisor ds es c e agreed
 
     pub fixed_divisor : own_zero_divisor ds e ≡ own_zero_divisor es e
     fixed_divisor =

@@ -35,14 +35,14 @@ use Rattle.vl_refusal.specs.Expressions.{vector_width, word_width, name_width, w
 use Rattle.vl_refusal.specs.Expressions.{no_copies, none_behind, vector_selects, memory_selects, object_selects}
 use Rattle.vl_refusal.specs.Expressions.{read_refusals, is_constant_name, select_refusals}
 use Rattle.vl_refusal.specs.Expressions.{known}
-use Rattle.vl_refusal.specs.Meanings.{Meaning, undeclared, constant, loop_variable, object, faulty, later, Names}
-use Rattle.vl_refusal.specs.Meanings.{meaning_in, value_of, constants, is_known, bound, objects}
+use Rattle.vl_refusal.specs.Meanings.{Meaning, undeclared, constant, loop_variable, object, faulty, shapeless, later}
+use Rattle.vl_refusal.specs.Meanings.{Names, meaning_in, value_of, constants, is_known, bound, objects}
 use Rattle.vl_names.proofs.Fresh.{NoneOf, none-front, none-back, not-refused, some-fault}
 use Rattle.vl_scope.specs.Seen.{AllNamed, object_of}
 use Rattle.vl_scope.specs.Texts.{selects_texts}
 use Rattle.vl_scope.proofs.Agree.{same_selects_divisor}
 use Rattle.vl_scope.proofs.Objects.{object_is}
-use Rattle.vl_sized.specs.Sized.{IsSound, AreSound, IsRead, IsSized}
+use Rattle.vl_sized.specs.Sized.{IsSound, AreSound, IsSure, AreSure, IsRead, IsSized}
 use Rattle.vl_sized.proofs.Fixed.{and_first, and_second, agree_on_none, fixed_size, fixed_divisor, fixed_index}
 use Rattle.vl_sized.proofs.Fixed.{fixed_vector}
 use Rattle.vl_sized.proofs.Tests.{passed, passed_both, narrow, or_true, or_left, both_none, bind_some, if_some}
@@ -422,32 +422,32 @@ module _ (ns : List Names) where
   not_both a b h k = absurd (true≢false (sym k ∙ h))
 
   -- what the selects of a vector are found to be, and those of a memory
-  abbrev pub VectorOf : Pos → Selects → Type 0
-  VectorOf p ss =
-      (fixed may : Bool) (d : Decl) → 1 ≤ d.width → d.width ≤ 128 → NoneOf (select_refusals ns fixed ss)
+  abbrev pub VectorOf : Bool → Pos → Selects → Type 0
+  VectorOf fixed p ss =
+      (may : Bool) (d : Decl) → 1 ≤ d.width → d.width ≤ 128 → NoneOf (select_refusals ns fixed ss)
       → NoneOf (vector_selects ns may d ss) → NoneOf (too_wide p (vector_width ns d ss))
       → selects_zero_divisor ds (of_selects ss) ≡ None
       → AreSelected fixed ss (vector_size ds d (of_selects ss)) (vector_width ns d ss)
 
-  abbrev pub WordOf : Pos → Selects → Type 0
-  WordOf p ss =
-      (fixed may : Bool) (d : Decl) → 1 ≤ d.width → d.width ≤ 128 → NoneOf (select_refusals ns fixed ss)
+  abbrev pub WordOf : Bool → Pos → Selects → Type 0
+  WordOf fixed p ss =
+      (may : Bool) (d : Decl) → 1 ≤ d.width → d.width ≤ 128 → NoneOf (select_refusals ns fixed ss)
       → NoneOf (memory_selects ns p may d ss) → NoneOf (too_wide p (word_width ns d ss))
       → selects_zero_divisor ds (of_selects ss) ≡ None
       → AreSelected fixed ss (word_size ds d (of_selects ss)) (word_width ns d ss)
 
-  pub selected : (is_vector fixed may : Bool) (p : Pos) (d : Decl) (ss : Selects) → VectorOf p ss → WordOf p ss
-      → 1 ≤ d.width → d.width ≤ 128 → NoneOf (select_refusals ns fixed ss)
+  pub selected : (is_vector fixed may : Bool) (p : Pos) (d : Decl) (ss : Selects) → VectorOf fixed p ss
+      → WordOf fixed p ss → 1 ≤ d.width → d.width ≤ 128 → NoneOf (select_refusals ns fixed ss)
       → NoneOf (if is_vector then vector_selects ns may d ss else memory_selects ns p may d ss)
       → NoneOf (too_wide p (if is_vector then vector_width ns d ss else word_width ns d ss))
       → selects_zero_divisor ds (of_selects ss) ≡ None
       → AreSelected fixed ss (if is_vector then vector_size ds d (of_selects ss) else word_size ds d (of_selects ss))
       (if is_vector then vector_width ns d ss else word_width ns d ss)
-  selected true fixed may p d ss vector word one few h k t z = vector fixed may d one few h k t z
-  selected false fixed may p d ss vector word one few h k t z = word fixed may d one few h k t z
+  selected true fixed may p d ss vector word one few h k t z = vector may d one few h k t z
+  selected false fixed may p d ss vector word one few h k t z = word may d one few h k t z
 
   constant_fine : (fixed may : Bool) (c : Context) (p : Pos) (text : List ℕ) (ss : Selects) (k : Const)
-      → VectorOf p ss
+      → VectorOf true p ss
       → NoneOf (select_refusals ns (fixed || true) ss ++ vector_selects ns may (vector_of text k) ss
       ++ too_wide p (vector_width ns (vector_of text k) ss))
       → zero_divisor ds c (selected_constant p text (name p text (of_selects ss)) k) ≡ None
@@ -458,22 +458,26 @@ module _ (ns : List Names) where
       let all = none-front (inner ++ selects) _ h in
       let read = none-back inner selects all in
       of_constant may c p text ss k read
-      (λ d. vector true may (vector_of text k) k.some_bits k.few_bits
+      (λ d. vector may (vector_of text k) k.some_bits k.few_bits
       (subst (λ t. NoneOf (select_refusals ns t ss)) (or_true fixed) (none-front inner selects all)) read
       (none-back (inner ++ selects) _ h) d) z
 
-  module _ (named : AllNamed ns) (sound : AreSound ns) where
-    pub named_fine : (fixed : Bool) (c : Context) (p : Pos) (text : List ℕ) (ss : Selects) (m : Meaning)
-        → meaning_in ns text ≡ m → VectorOf p ss → WordOf p ss
+  -- where no constant is demanded, each net and variable has a known shape
+  module _ (named : AllNamed ns) (sure : AreSure ns) (Free : Type 0) (sound : Free → AreSound ns) where
+    pub named_fine : (fixed : Bool) → (fixed ≡ false → Free) → (c : Context) (p : Pos) (text : List ℕ) (ss : Selects)
+        (m : Meaning) → meaning_in ns text ≡ m
+        → ((fixed : Bool) → (fixed ≡ false → Free) → VectorOf fixed p ss)
+        → ((fixed : Bool) → (fixed ≡ false → Free) → WordOf fixed p ss)
         → NoneOf (select_refusals ns (fixed || is_constant_name ns m) ss ++ read_refusals ns fixed p text m ss
         ++ too_wide p (name_width ns text m ss))
         → zero_divisor ds c (named_constant p text (of_selects ss) (value_of m)) ≡ None → IsNamed fixed p text ss m
-    named_fine fixed c p text ss undeclared e vector word h z = absurd (refused_name _ _ _ h)
-    named_fine fixed c p text ss loop_variable e vector word h z = absurd (refused_name _ _ _ h)
-    named_fine fixed c p text ss later e vector word h z = absurd (refused_name _ _ _ h)
-    named_fine fixed c p text ss faulty e vector word h z = absurd (subst IsSound e (sound text))
-    named_fine fixed c p text ss (object d input scalar) e vector word h z =
-        let shaped = subst IsSound e (sound text) in
+    named_fine fixed u c p text ss undeclared e vector word h z = absurd (refused_name _ _ _ h)
+    named_fine fixed u c p text ss loop_variable e vector word h z = absurd (refused_name _ _ _ h)
+    named_fine fixed u c p text ss later e vector word h z = absurd (refused_name _ _ _ h)
+    named_fine fixed u c p text ss faulty e vector word h z = absurd (subst IsSure e (sure text))
+    named_fine true u c p text ss shapeless e vector word h z = absurd (refused_name _ _ _ h)
+    named_fine false u c p text ss shapeless e vector word h z = absurd (subst IsSound e (sound (u refl) text))
+    named_fine fixed u c p text ss (object d input scalar) e vector word h z =
         let inner = select_refusals ns (fixed || false) ss in
         let clock = refused_if (is_clock_class d.class) (f.Clock p) in
         let constant_only = refused_if fixed (f.NotConstant p) in
@@ -481,7 +485,11 @@ module _ (ns : List Names) where
         let all = none-front (inner ++ (clock ++ constant_only ++ object_selects ns p scalar d ss)) _ h in
         let read = none-back inner (clock ++ constant_only ++ object_selects ns p scalar d ss) all in
         let front = none-front (clock ++ constant_only) (object_selects ns p scalar d ss) read in
-        let x = selected is_vector (fixed || false) (not scalar) p d ss vector word shaped.some_bits shaped.few_bits
+        let varies = not-refused fixed _ (none-back clock constant_only front) in
+        let shaped = subst IsSound e (sound (u varies) text) in
+        let free = λ (e : (fixed || false) ≡ false). u varies in
+        let x = selected is_vector (fixed || false) (not scalar) p d ss (vector (fixed || false) free)
+        (word (fixed || false) free) shaped.some_bits shaped.few_bits
         (none-front inner (clock ++ constant_only ++ object_selects ns p scalar d ss) all)
         (none-back (clock ++ constant_only) (object_selects ns p scalar d ss) read)
         (none-back (inner ++ (clock ++ constant_only ++ object_selects ns p scalar d ss)) _ h) z in
@@ -492,13 +500,13 @@ module _ (ns : List Names) where
           wide = x.wide;
           some = x.some;
           few = x.few;
-          constant_name = not_both false fixed (not-refused fixed _ (none-back clock constant_only front));
+          constant_name = not_both false fixed varies;
           names = (
             subst IsRead (sym e) (not-refused (is_clock_class d.class) _ (none-front clock constant_only front)),
             x.names,
           );
         }
-    named_fine fixed c p text whole (constant k may) e vector word h z = record {
+    named_fine fixed u c p text whole (constant k may) e vector word h z = record {
       bits = k.width;
       sized = refl;
       wide = refl;
@@ -507,11 +515,15 @@ module _ (ns : List Names) where
       constant_name = λ f. refl;
       names = tt;
     }
-    named_fine fixed c p text (bit q i ss) (constant k may) e vector word h z =
-        of_number fixed may p text (bit q i ss) k refl (constant_fine fixed may c p text (bit q i ss) k vector h z)
-    named_fine fixed c p text (part q l r ss) (constant k may) e vector word h z =
+    named_fine fixed u c p text (bit q i ss) (constant k may) e vector word h z =
+        of_number fixed may p text (bit q i ss) k refl
+        (constant_fine fixed may c p text (bit q i ss) k
+        (vector true (λ e. absurd (true≢false e))) h z)
+    named_fine fixed u c p text (part q l r ss) (constant k may) e vector word h z =
         of_number fixed may p text (part q l r ss) k refl
-        (constant_fine fixed may c p text (part q l r ss) k vector h z)
-    named_fine fixed c p text (indexed q s n ss) (constant k may) e vector word h z =
+        (constant_fine fixed may c p text (part q l r ss) k
+        (vector true (λ e. absurd (true≢false e))) h z)
+    named_fine fixed u c p text (indexed q s n ss) (constant k may) e vector word h z =
         of_number fixed may p text (indexed q s n ss) k refl
-        (constant_fine fixed may c p text (indexed q s n ss) k vector h z)
+        (constant_fine fixed may c p text (indexed q s n ss) k
+        (vector true (λ e. absurd (true≢false e))) h z)

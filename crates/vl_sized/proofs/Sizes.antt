@@ -1,8 +1,8 @@
 -- What isn't refused has a size.
 use Rattle.std.specs.Prelude.{◌≡◌, refl, ◌+◌, ◌≤◌, List, [], ◌++◌}
-use Rattle.std.specs.Prelude.{Bool, true, ◌&&◌, ◌||◌, not, Some, None}
+use Rattle.std.specs.Prelude.{Bool, true, false, ◌&&◌, ◌||◌, not, Some, None}
 use Rattle.std.specs.Prelude.{pos, int_le, if◌then◌else◌}
-use Rattle.std.proofs.Common.{ap, ◌∙◌, subst, arith}
+use Rattle.std.proofs.Common.{ap, ◌∙◌, subst, arith, true≢false}
 use Rattle.fv_base.specs.declared.pos.Pos.{Pos}
 use Rattle.vl_tree.specs.Expr.{
   Expr,
@@ -42,11 +42,12 @@ use Rattle.vl_refusal.specs.Expressions.{vector_width, word_width, far, against}
 use Rattle.vl_refusal.specs.Expressions.{no_copies, none_behind, vector_selects, memory_selects}
 use Rattle.vl_refusal.specs.Expressions.{refusals, all_refusals, select_refusals}
 use Rattle.vl_refusal.specs.Expressions.{known, expr_refusals}
-use Rattle.vl_refusal.specs.Meanings.{Names}
-use Rattle.vl_refusal.specs.Meanings.{meaning_in, is_known, bound, objects}
+use Rattle.vl_refusal.specs.Meanings.{Meaning, undeclared, constant, loop_variable, object, faulty, shapeless, later}
+use Rattle.vl_refusal.specs.Meanings.{Names, meaning_in, is_known, bound, objects}
+use Rattle.vl_names.proofs.Contained.{or_first}
 use Rattle.vl_names.proofs.Fresh.{NoneOf, none-front, none-back, some-fault}
 use Rattle.vl_scope.specs.Seen.{AllNamed}
-use Rattle.vl_sized.specs.Sized.{AreSound, IsSized}
+use Rattle.vl_sized.specs.Sized.{IsSound, AreSound, IsSure, AreSure, IsSized}
 use Rattle.vl_sized.proofs.Fixed.{no_texts}
 use Rattle.vl_sized.proofs.Tests.{passed, narrow, both_none, undivided}
 use Rattle.vl_sized.proofs.Tests.{within_sum, capped_sum, few_uncapped, uncapped, copied}
@@ -54,11 +55,17 @@ use Rattle.vl_sized.proofs.Parts.{ds, of, of_exprs, of_selects, known_true, part
 use Rattle.vl_sized.proofs.Parts.{AreSelected, AreSized, concat_sized, repeat_sized, unary_sized, binary_sized}
 use Rattle.vl_sized.proofs.Parts.{conditional_sized, named_fine}
 
-module _ (ns : List Names) (named : AllNamed ns) (sound : AreSound ns) where
+-- where no constant is demanded, each net and variable has a known shape
+module _ (ns : List Names) (named : AllNamed ns) (sure : AreSure ns) (Free : Type 0) (sound : Free → AreSound ns) where
+  -- a constant is demanded
+  demanded : true ≡ false → Free
+  demanded e = absurd (true≢false e)
+
   mutual
-    pub fine : (fixed : Bool) (c : Context) (e : Expr) → IsWellFormed e → NoneOf (refusals ns fixed e)
+    pub sized_where : (fixed : Bool) → (fixed ≡ false → Free) → (c : Context) (e : Expr) → IsWellFormed e
+        → NoneOf (refusals ns fixed e)
         → zero_divisor (ds ns) c (of ns e) ≡ None → IsSized ns fixed e
-    fine fixed c (number p n) w h z = record {
+    sized_where fixed u c (number p n) w h z = record {
       bits = n.width;
       sized = refl;
       wide = refl;
@@ -67,10 +74,10 @@ module _ (ns : List Names) (named : AllNamed ns) (sound : AreSound ns) where
       constant = λ e. refl;
       names = tt;
     }
-    fine fixed c (name p text ss) w h z =
-        let x = named_fine ns named sound fixed c p text ss (meaning_in ns text) refl
-        (λ fixed may d one few h k t z. vector fixed may p d ss w.1 one few h k t z)
-        (λ fixed may d one few h k t z. word fixed may p d ss w.1 one few h k t z) h z in
+    sized_where fixed u c (name p text ss) w h z =
+        let x = named_fine ns named sure Free sound fixed u c p text ss (meaning_in ns text) refl
+        (λ fixed u may d one few h k t z. vector_where fixed u may p d ss w.1 one few h k t z)
+        (λ fixed u may d one few h k t z. word_where fixed u may p d ss w.1 one few h k t z) h z in
         record {
           bits = x.bits;
           sized = x.sized;
@@ -80,8 +87,8 @@ module _ (ns : List Names) (named : AllNamed ns) (sound : AreSound ns) where
           constant = x.constant_name;
           names = x.names;
         }
-    fine fixed c (paren p x) w h z =
-        let inner = fine fixed c x w (none-front (refusals ns fixed x) _ h) z in
+    sized_where fixed u c (paren p x) w h z =
+        let inner = sized_where fixed u c x w (none-front (refusals ns fixed x) _ h) z in
         record {
           bits = inner.bits;
           sized = inner.sized;
@@ -91,44 +98,45 @@ module _ (ns : List Names) (named : AllNamed ns) (sound : AreSound ns) where
           constant = inner.constant;
           names = inner.names;
         }
-    fine fixed c (unary p op x) w h z =
-        unary_sized ns fixed p op x (fine fixed (if keeps_size op then c else own_context (ds ns) (of ns x)) x w.1
+    sized_where fixed u c (unary p op x) w h z =
+        unary_sized ns fixed p op x (sized_where fixed u (if keeps_size op then c else own_context (ds ns) (of ns x)) x w.1
         (none-front (refusals ns fixed x) _ h) z)
-    fine fixed c (binary p op x y) w h z =
+    sized_where fixed u c (binary p op x y) w h z =
         let div = fixed || divides op in
+        let free = λ (e : div ≡ false). u (or_first fixed (divides op) e) in
         let inner = both_none _ _ (both_none _ _ z).1 in
         let parts = none-front (refusals ns div x ++ refusals ns div y) _ h in
-        binary_sized ns fixed p op x y (fine div (left_context (ds ns) (way op) op c (of ns x) (of ns y)) x w.2
+        binary_sized ns fixed p op x y (sized_where div free (left_context (ds ns) (way op) op c (of ns x) (of ns y)) x w.2
         (none-front (refusals ns div x) (refusals ns div y) parts) inner.0)
-        (fine div (right_context (ds ns) (way op) op c (of ns x) (of ns y)) y w.3
+        (sized_where div free (right_context (ds ns) (way op) op c (of ns x) (of ns y)) y w.3
         (none-back (refusals ns div x) (refusals ns div y) parts) inner.1)
-    fine fixed c (conditional p k x y) w h z =
+    sized_where fixed u c (conditional p k x y) w h z =
         let inner = both_none _ _ z in
         let two = both_none _ _ inner.1 in
         let all = none-front (refusals ns fixed k ++ refusals ns fixed x ++ refusals ns fixed y) _ h in
         let front = none-front (refusals ns fixed k ++ refusals ns fixed x) (refusals ns fixed y) all in
         conditional_sized ns fixed p k x y
-        (fine fixed (own_context (ds ns) (of ns k)) k w.1
+        (sized_where fixed u (own_context (ds ns) (of ns k)) k w.1
         (none-front (refusals ns fixed k) (refusals ns fixed x) front) inner.0)
-        (fine fixed c x w.2 (none-back (refusals ns fixed k) (refusals ns fixed x) front) two.0)
-        (fine fixed c y w.3
+        (sized_where fixed u c x w.2 (none-back (refusals ns fixed k) (refusals ns fixed x) front) two.0)
+        (sized_where fixed u c y w.3
         (none-back (refusals ns fixed k ++ refusals ns fixed x) (refusals ns fixed y) all) two.1)
-    fine fixed c (concat p es) w h z =
-        concat_sized ns fixed p es w.0 (fines fixed es w.1 (none-front (all_refusals ns fixed es) _ h) z)
+    sized_where fixed u c (concat p es) w h z =
+        concat_sized ns fixed p es w.0 (all_sized_where fixed u es w.1 (none-front (all_refusals ns fixed es) _ h) z)
         (none-back (all_refusals ns fixed es) _ h)
-    fine fixed c (repeat p n es) w h z =
+    sized_where fixed u c (repeat p n es) w h z =
         let inner = both_none _ _ z in
         let front = refusals ns true n ++ all_refusals ns fixed es in
         let all = none-front (front ++ no_copies ns p n) _ h in
         let parts = none-front front (no_copies ns p n) all in
         repeat_sized ns fixed p n es w.1
-        (fine true (own_context (ds ns) (of ns n)) n w.0
+        (sized_where true demanded (own_context (ds ns) (of ns n)) n w.0
         (none-front (refusals ns true n) (all_refusals ns fixed es) parts)
         inner.0)
-        (fines fixed es w.2 (none-back (refusals ns true n) (all_refusals ns fixed es) parts) inner.1) inner.0
+        (all_sized_where fixed u es w.2 (none-back (refusals ns true n) (all_refusals ns fixed es) parts) inner.1) inner.0
         (none-back front (no_copies ns p n) all) (none-back (front ++ no_copies ns p n) _ h)
-    fine fixed c (cast p to x) w h z =
-        let inner = fine fixed (own_context (ds ns) (of ns x)) x w (none-front (refusals ns fixed x) _ h) z in
+    sized_where fixed u c (cast p to x) w h z =
+        let inner = sized_where fixed u (own_context (ds ns) (of ns x)) x w (none-front (refusals ns fixed x) _ h) z in
         record {
           bits = inner.bits;
           sized = inner.sized;
@@ -139,9 +147,10 @@ module _ (ns : List Names) (named : AllNamed ns) (sound : AreSound ns) where
           names = inner.names;
         }
 
-    fines : (fixed : Bool) (es : Exprs) → AreWellFormed es → NoneOf (all_refusals ns fixed es)
+    all_sized_where : (fixed : Bool) → (fixed ≡ false → Free) → (es : Exprs) → AreWellFormed es
+        → NoneOf (all_refusals ns fixed es)
         → parts_zero_divisor (ds ns) (of_exprs ns es) ≡ None → AreSized ns fixed es
-    fines fixed none w h z = record {
+    all_sized_where fixed u none w h z = record {
       bits = 0;
       sized = refl;
       wide = refl;
@@ -149,11 +158,11 @@ module _ (ns : List Names) (named : AllNamed ns) (sound : AreSound ns) where
       constant_all = λ e. refl;
       names = tt;
     }
-    fines fixed (more e es) w h z =
+    all_sized_where fixed u (more e es) w h z =
         let inner = both_none _ _ z in
-        let x = fine fixed (own_context (ds ns) (of ns e)) e w.0
+        let x = sized_where fixed u (own_context (ds ns) (of ns e)) e w.0
         (none-front (refusals ns fixed e) (all_refusals ns fixed es) h) inner.0 in
-        let y = fines fixed es w.1 (none-back (refusals ns fixed e) (all_refusals ns fixed es) h) inner.1 in
+        let y = all_sized_where fixed u es w.1 (none-back (refusals ns fixed e) (all_refusals ns fixed es) h) inner.1 in
         record {
           bits = x.bits + y.bits;
           sized = (λ i. x.sized i >>= λ m. y.sized i >>= λ n. within (m + n)) ∙ within_sum x.bits y.bits;
@@ -165,11 +174,11 @@ module _ (ns : List Names) (named : AllNamed ns) (sound : AreSound ns) where
         }
 
     -- of a vector
-    pub vector : (fixed may : Bool) (p : Pos) (d : Decl) (ss : Selects) → AreSelects ss → 1 ≤ d.width → d.width ≤ 128
-        → NoneOf (select_refusals ns fixed ss) → NoneOf (vector_selects ns may d ss)
+    pub vector_where : (fixed : Bool) → (fixed ≡ false → Free) → (may : Bool) (p : Pos) (d : Decl) (ss : Selects)
+        → AreSelects ss → 1 ≤ d.width → d.width ≤ 128 → NoneOf (select_refusals ns fixed ss) → NoneOf (vector_selects ns may d ss)
         → NoneOf (too_wide p (vector_width ns d ss)) → selects_zero_divisor (ds ns) (of_selects ns ss) ≡ None
         → AreSelected ns fixed ss (vector_size (ds ns) d (of_selects ns ss)) (vector_width ns d ss)
-    vector fixed may p d whole w one few h k t z = record {
+    vector_where fixed u may p d whole w one few h k t z = record {
       bits = d.width;
       sized = refl;
       wide = refl;
@@ -178,8 +187,8 @@ module _ (ns : List Names) (named : AllNamed ns) (sound : AreSound ns) where
       alone = λ e. refl;
       names = tt;
     }
-    vector fixed may p d (bit q i whole) w one few h k t z =
-        let x = fine fixed (own_context (ds ns) (of ns i)) i w.0 (none-front (refusals ns fixed i) _ h)
+    vector_where fixed u may p d (bit q i whole) w one few h k t z =
+        let x = sized_where fixed u (own_context (ds ns) (of ns i)) i w.0 (none-front (refusals ns fixed i) _ h)
         (both_none _ (selects_zero_divisor (ds ns) whole) z).0 in
         record {
           bits = 1;
@@ -190,13 +199,13 @@ module _ (ns : List Names) (named : AllNamed ns) (sound : AreSound ns) where
           alone = λ e j. no_texts (of ns i) (x.constant e) j ++ [];
           names = (x.names, tt);
         }
-    vector fixed may p d (part q l r whole) w one few h k t z =
+    vector_where fixed u may p d (part q l r whole) w one few h k t z =
         let inner = both_none _ _ (both_none _ (selects_zero_divisor (ds ns) whole) z).0 in
         let parts = none-front (refusals ns true l ++ refusals ns true r) _ h in
-        let x = fine true (own_context (ds ns) (of ns l)) l w.0
+        let x = sized_where true demanded (own_context (ds ns) (of ns l)) l w.0
         (none-front (refusals ns true l) (refusals ns true r) parts)
         inner.0 in
-        let y = fine true (own_context (ds ns) (of ns r)) r w.1
+        let y = sized_where true demanded (own_context (ds ns) (of ns r)) r w.1
         (none-back (refusals ns true l) (refusals ns true r) parts)
         inner.1 in
         let kl = known_true ns (ds ns) l x.bits (x.constant refl) x.sized inner.0 in
@@ -220,12 +229,12 @@ module _ (ns : List Names) (named : AllNamed ns) (sound : AreSound ns) where
           alone = λ e j. no_texts (of ns l) (x.constant refl) j ++ (no_texts (of ns r) (y.constant refl) j ++ []);
           names = (x.names, (y.names, tt));
         }
-    vector fixed may p d (indexed q s n whole) w one few h k t z =
+    vector_where fixed u may p d (indexed q s n whole) w one few h k t z =
         let inner = both_none _ _ (both_none _ (selects_zero_divisor (ds ns) whole) z).0 in
         let parts = none-front (refusals ns fixed s ++ refusals ns true n) _ h in
-        let x = fine fixed (own_context (ds ns) (of ns s)) s w.0
+        let x = sized_where fixed u (own_context (ds ns) (of ns s)) s w.0
         (none-front (refusals ns fixed s) (refusals ns true n) parts) inner.0 in
-        let y = fine true (own_context (ds ns) (of ns n)) n w.1
+        let y = sized_where true demanded (own_context (ds ns) (of ns n)) n w.1
         (none-back (refusals ns fixed s) (refusals ns true n) parts) inner.1 in
         let kn = known_true ns (ds ns) n y.bits (y.constant refl) y.sized inner.1 in
         let copies = copied (bound ns n) 1
@@ -246,28 +255,28 @@ module _ (ns : List Names) (named : AllNamed ns) (sound : AreSound ns) where
           alone = λ e j. no_texts (of ns s) (x.constant e) j ++ (no_texts (of ns n) (y.constant refl) j ++ []);
           names = (x.names, (y.names, tt));
         }
-    vector fixed may p d (bit q i (bit r j ss)) w one few h k t z = absurd (some-fault _ [] (none-back _ _ k))
-    vector fixed may p d (bit q i (part r j l ss)) w one few h k t z = absurd (some-fault _ [] (none-back _ _ k))
-    vector fixed may p d (bit q i (indexed r j l ss)) w one few h k t z = absurd (some-fault _ [] (none-back _ _ k))
-    vector fixed may p d (part q i m (bit r j ss)) w one few h k t z = absurd (some-fault _ [] (none-back _ _ k))
-    vector fixed may p d (part q i m (part r j l ss)) w one few h k t z = absurd (some-fault _ [] (none-back _ _ k))
-    vector fixed may p d (part q i m (indexed r j l ss)) w one few h k t z = absurd (some-fault _ [] (none-back _ _ k))
-    vector fixed may p d (indexed q i m (bit r j ss)) w one few h k t z = absurd (some-fault _ [] (none-back _ _ k))
-    vector fixed may p d (indexed q i m (part r j l ss)) w one few h k t z =
+    vector_where fixed u may p d (bit q i (bit r j ss)) w one few h k t z = absurd (some-fault _ [] (none-back _ _ k))
+    vector_where fixed u may p d (bit q i (part r j l ss)) w one few h k t z = absurd (some-fault _ [] (none-back _ _ k))
+    vector_where fixed u may p d (bit q i (indexed r j l ss)) w one few h k t z = absurd (some-fault _ [] (none-back _ _ k))
+    vector_where fixed u may p d (part q i m (bit r j ss)) w one few h k t z = absurd (some-fault _ [] (none-back _ _ k))
+    vector_where fixed u may p d (part q i m (part r j l ss)) w one few h k t z = absurd (some-fault _ [] (none-back _ _ k))
+    vector_where fixed u may p d (part q i m (indexed r j l ss)) w one few h k t z = absurd (some-fault _ [] (none-back _ _ k))
+    vector_where fixed u may p d (indexed q i m (bit r j ss)) w one few h k t z = absurd (some-fault _ [] (none-back _ _ k))
+    vector_where fixed u may p d (indexed q i m (part r j l ss)) w one few h k t z =
         absurd (some-fault _ [] (none-back _ _ k))
-    vector fixed may p d (indexed q i m (indexed r j l ss)) w one few h k t z =
+    vector_where fixed u may p d (indexed q i m (indexed r j l ss)) w one few h k t z =
         absurd (some-fault _ [] (none-back _ _ k))
 
     -- of a memory
-    pub word : (fixed may : Bool) (p : Pos) (d : Decl) (ss : Selects) → AreSelects ss → 1 ≤ d.width → d.width ≤ 128
-        → NoneOf (select_refusals ns fixed ss) → NoneOf (memory_selects ns p may d ss)
+    pub word_where : (fixed : Bool) → (fixed ≡ false → Free) → (may : Bool) (p : Pos) (d : Decl) (ss : Selects)
+        → AreSelects ss → 1 ≤ d.width → d.width ≤ 128 → NoneOf (select_refusals ns fixed ss) → NoneOf (memory_selects ns p may d ss)
         → NoneOf (too_wide p (word_width ns d ss)) → selects_zero_divisor (ds ns) (of_selects ns ss) ≡ None
         → AreSelected ns fixed ss (word_size (ds ns) d (of_selects ns ss)) (word_width ns d ss)
-    word fixed may p d whole w one few h k t z = absurd (some-fault _ [] k)
-    word fixed may p d (bit q i ss) w one few h k t z =
+    word_where fixed u may p d whole w one few h k t z = absurd (some-fault _ [] k)
+    word_where fixed u may p d (bit q i ss) w one few h k t z =
         let inner = both_none _ (selects_zero_divisor (ds ns) (of_selects ns ss)) z in
-        let x = fine fixed (own_context (ds ns) (of ns i)) i w.0 (none-front (refusals ns fixed i) _ h) inner.0 in
-        let y = vector fixed may p d ss w.1 one few (none-back (refusals ns fixed i) _ h) k t inner.1 in
+        let x = sized_where fixed u (own_context (ds ns) (of ns i)) i w.0 (none-front (refusals ns fixed i) _ h) inner.0 in
+        let y = vector_where fixed u may p d ss w.1 one few (none-back (refusals ns fixed i) _ h) k t inner.1 in
         record {
           bits = y.bits;
           sized = ap (λ o. o >>= λ k. vector_size (ds ns) d (of_selects ns ss)) x.sized ∙ y.sized;
@@ -277,13 +286,51 @@ module _ (ns : List Names) (named : AllNamed ns) (sound : AreSound ns) where
           alone = λ e j. no_texts (of ns i) (x.constant e) j ++ y.alone e j;
           names = (x.names, y.names);
         }
-    word fixed may p d (part q l r ss) w one few h k t z = absurd (some-fault _ [] k)
-    word fixed may p d (indexed q s n ss) w one few h k t z = absurd (some-fault _ [] k)
+    word_where fixed u may p d (part q l r ss) w one few h k t z = absurd (some-fault _ [] k)
+    word_where fixed u may p d (indexed q s n ss) w one few h k t z = absurd (some-fault _ [] k)
 
 -- ---- a whole expression
+
+module _ (ns : List Names) (named : AllNamed ns) (sound : AreSound ns) where
+  sure : AreSure ns
+  sure text = by (meaning_in ns text) (sound text)
+    where
+      by : (m : Meaning) → IsSound m → IsSure m
+      by undeclared h = tt
+      by (constant c selected) h = tt
+      by loop_variable h = tt
+      by (object d input scalar) h = tt
+      by faulty h = h
+      by shapeless h = tt
+      by later h = tt
+
+  pub fine : (fixed : Bool) (c : Context) (e : Expr) → IsWellFormed e → NoneOf (refusals ns fixed e)
+      → zero_divisor (ds ns) c (of ns e) ≡ None → IsSized ns fixed e
+  fine fixed c e w h z = sized_where ns named sure (AreSound ns) (λ s. s) fixed (λ e. sound) c e w h z
+
+  pub vector : (fixed may : Bool) (p : Pos) (d : Decl) (ss : Selects) → AreSelects ss → 1 ≤ d.width → d.width ≤ 128
+      → NoneOf (select_refusals ns fixed ss) → NoneOf (vector_selects ns may d ss)
+      → NoneOf (too_wide p (vector_width ns d ss)) → selects_zero_divisor (ds ns) (of_selects ns ss) ≡ None
+      → AreSelected ns fixed ss (vector_size (ds ns) d (of_selects ns ss)) (vector_width ns d ss)
+  vector fixed may p d ss w one few h k t z =
+      vector_where ns named sure (AreSound ns) (λ s. s) fixed (λ e. sound) may p d ss w one few h k t z
+
+  pub word : (fixed may : Bool) (p : Pos) (d : Decl) (ss : Selects) → AreSelects ss → 1 ≤ d.width → d.width ≤ 128
+      → NoneOf (select_refusals ns fixed ss) → NoneOf (memory_selects ns p may d ss)
+      → NoneOf (too_wide p (word_width ns d ss)) → selects_zero_divisor (ds ns) (of_selects ns ss) ≡ None
+      → AreSelected ns fixed ss (word_size (ds ns) d (of_selects ns ss)) (word_width ns d ss)
+  word fixed may p d ss w one few h k t z =
+      word_where ns named sure (AreSound ns) (λ s. s) fixed (λ e. sound) may p d ss w one few h k t z
 
 pub read : (ns : List Names) (fixed : Bool) (c : Context) (e : Expr) → AllNamed ns → AreSound ns → IsWellFormed e
     → expr_refusals ns fixed c e ≡ [] → IsSized ns fixed e
 read ns fixed c e named sound w h =
     fine ns named sound fixed c e w (none-front (refusals ns fixed e) _ h)
     (undivided (zero_divisor (objects ns) c (known ns e)) (none-back (refusals ns fixed e) _ h))
+
+-- where a constant is demanded, no net and no variable need have a known shape
+pub read_constant : (ns : List Names) (c : Context) (e : Expr) → AllNamed ns → AreSure ns → IsWellFormed e
+    → expr_refusals ns true c e ≡ [] → IsSized ns true e
+read_constant ns c e named sure w h =
+    sized_where ns named sure ⊥ (λ n. absurd n) true (λ e. absurd (true≢false e)) c e w (none-front (refusals ns true e) _ h)
+    (undivided (zero_divisor (objects ns) c (known ns e)) (none-back (refusals ns true e) _ h))

@@ -6,8 +6,8 @@ use Rattle.vl_size.specs.Table.{IsShaped}
 use Rattle.vl_mean.specs.Scopes.{is_clock_class}
 use Rattle.vl_same.specs.Names.{Names as EachName}
 use Rattle.vl_refusal.specs.Expressions.{known, wide_size}
-use Rattle.vl_refusal.specs.Meanings.{Meaning, undeclared, constant, loop_variable, object, faulty, later, Names}
-use Rattle.vl_refusal.specs.Meanings.{meaning_in, objects}
+use Rattle.vl_refusal.specs.Meanings.{Meaning, undeclared, constant, loop_variable, object, faulty, shapeless, later}
+use Rattle.vl_refusal.specs.Meanings.{Names, meaning_in, objects}
 
 -- its own declaration isn't refused
 abbrev pub IsSound : Meaning → Type 0
@@ -16,7 +16,16 @@ IsSound (constant c selected) = Unit {0}
 IsSound loop_variable = Unit {0}
 IsSound (object d input scalar) = IsShaped d
 IsSound faulty = ⊥
+IsSound shapeless = ⊥
 IsSound later = Unit {0}
+
+-- no parameter is one whose own declaration is refused; nets and variables may be
+abbrev pub IsSure : Meaning → Type 0
+IsSure faulty = ⊥
+IsSure m = Unit {0}
+
+abbrev pub AreSure : List Names → Type 0
+AreSure ns = (text : List ℕ) → IsSure (meaning_in ns text)
 
 -- whatever a name means, its own declaration isn't refused
 abbrev pub AreSound : List Names → Type 0
