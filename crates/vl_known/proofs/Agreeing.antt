@@ -32,8 +32,8 @@ use Rattle.vl_refusal.specs.declared.elab_fault.ElabFault.{ElabFault}
 use Rattle.vl_refusal.specs.Expressions.{read_refusals, is_constant_name, refusals, all_refusals, select_refusals}
 use Rattle.vl_refusal.specs.Expressions.{known}
 use Rattle.vl_refusal.specs.Expressions.{no_copies}
-use Rattle.vl_refusal.specs.Meanings.{Meaning, undeclared, constant, loop_variable, object, faulty, later, Names}
-use Rattle.vl_refusal.specs.Meanings.{meaning_in, value_of, constants}
+use Rattle.vl_refusal.specs.Meanings.{Meaning, undeclared, constant, loop_variable, object, faulty, shapeless, later}
+use Rattle.vl_refusal.specs.Meanings.{Names, meaning_in, value_of, constants}
 use Rattle.vl_names.proofs.Fresh.{NoneOf, none-front, none-back, some-fault}
 use Rattle.vl_scope.specs.Texts.{texts, exprs_texts, selects_texts, AgreeOn}
 use Rattle.vl_scope.proofs.Agree.{same_settled}
@@ -86,6 +86,7 @@ module _ (ns : List Names) (ss : List Scope) (meant : AreMeant ns ss) where
       by loop_variable h = tt
       by (object d input scalar) h = h.2
       by faulty h = h
+      by shapeless h = h
       by later h = tt
 
   pub seen : (text : List ℕ) → IsRead (meaning_in ns text) → IsSeen ss text
@@ -97,6 +98,7 @@ module _ (ns : List Names) (ss : List Scope) (meant : AreMeant ns ss) where
       by loop_variable k h = absurd h
       by (object d input scalar) k h = record { decl = d; declared = k.1 }
       by faulty k h = absurd h
+      by shapeless k h = absurd h
       by later k h = absurd h
 
   abbrev Agrees : List (List ℕ) → Type 0
@@ -115,6 +117,7 @@ module _ (ns : List Names) (ss : List Scope) (meant : AreMeant ns ss) where
   name_agrees fixed p text xs inner wide (object d input scalar) e h =
       let means = subst (MeansIn ss text) e (meant text) in ap value_of e ∙ sym means.0
   name_agrees fixed p text xs inner wide faulty e h = absurd (subst (MeansIn ss text) e (meant text))
+  name_agrees fixed p text xs inner wide shapeless e h = absurd (subst (MeansIn ss text) e (meant text))
   name_agrees fixed p text xs inner wide later e h = absurd (subst (MeansIn ss text) e (meant text))
 
   mutual

@@ -44,8 +44,8 @@ use Rattle.vl_names.proofs.Plain.{all-each}
 use Rattle.vl_refusal.specs.declared.elab_fault.ElabFault.TheVariants as f
 use Rattle.vl_refusal.specs.Expressions.{refused_if, too_wide, divided_by_zero, name_width, object_selects, refusals}
 use Rattle.vl_refusal.specs.Expressions.{select_refusals, is_constant_name, known, expr_refusals, own_refusals}
-use Rattle.vl_refusal.specs.Meanings.{Meaning, undeclared, constant, loop_variable, object, faulty, later, Names}
-use Rattle.vl_refusal.specs.Meanings.{meaning_in, value_of, constants, objects}
+use Rattle.vl_refusal.specs.Meanings.{Meaning, undeclared, constant, loop_variable, object, faulty, shapeless, later}
+use Rattle.vl_refusal.specs.Meanings.{Names, meaning_in, value_of, constants, objects}
 use Rattle.vl_refusal.specs.Statements.{assigned_refusals, target_selects, target_width, target_refusals}
 use Rattle.vl_refusal.specs.Statements.{targets_refusals, assigned_in, with_label, case_context}
 use Rattle.vl_refusal.specs.Statements.{labels_refusals, stmt_refusals, stmts_refusals, arms_refusals}
@@ -83,8 +83,8 @@ module _ (ns : List Names) (ss : List Scope) (named_so : AllNamed ns) (meant : A
       let means = subst (MeansIn ss text) e (meant text) in
       let shaped = means.2 in
       let x = selected ns (is_none d.words) (fixed || false) (not scalar) p d xs
-      (λ fixed may d one few h k t z. vector ns named_so (sound ns ss meant) fixed may p d xs w one few h k t z)
-      (λ fixed may d one few h k t z. word ns named_so (sound ns ss meant) fixed may p d xs w one few h k t z)
+      (λ may d one few h k t z. vector ns named_so (sound ns ss meant) (fixed || false) may p d xs w one few h k t z)
+      (λ may d one few h k t z. word ns named_so (sound ns ss meant) (fixed || false) may p d xs w one few h k t z)
       shaped.some_bits shaped.few_bits inner selects wide z in (
         means.0,
         subst IsRead (sym e) clock,
@@ -105,6 +105,7 @@ module _ (ns : List Names) (ss : List Scope) (named_so : AllNamed ns) (meant : A
   read_named continuous fixed p text xs (constant c selected) e w h =
       absurd (refused_name _ _ _ (none-front _ _ h))
   read_named continuous fixed p text xs faulty e w h = absurd (subst (MeansIn ss text) e (meant text))
+  read_named continuous fixed p text xs shapeless e w h = absurd (subst (MeansIn ss text) e (meant text))
   read_named continuous fixed p text xs later e w h = absurd (subst (MeansIn ss text) e (meant text))
   read_named continuous fixed p text xs (object d input scalar) e w h =
       let inner = select_refusals ns (fixed || false) xs in

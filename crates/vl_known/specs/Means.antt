@@ -2,8 +2,8 @@
 use Rattle.std.specs.Prelude.{◌≡◌, ℕ, List, Some, None}
 use Rattle.vl_size.specs.Table.{IsShaped, declared_as}
 use Rattle.vl_mean.specs.Scopes.{Scope, constant_in, visible}
-use Rattle.vl_refusal.specs.Meanings.{Meaning, undeclared, constant, loop_variable, object, faulty, later, Names}
-use Rattle.vl_refusal.specs.Meanings.{meaning_in}
+use Rattle.vl_refusal.specs.Meanings.{Meaning, undeclared, constant, loop_variable, object, faulty, shapeless, later}
+use Rattle.vl_refusal.specs.Meanings.{Names, meaning_in}
 
 -- a constant has its value there, and of a net or a variable the innermost declaration is the one that is meant; no
 -- name is one whose own declaration is refused
@@ -14,6 +14,7 @@ MeansIn ss text loop_variable = Unit {0}
 MeansIn ss text (object d input scalar) =
     (constant_in ss text ≡ None) × (declared_as (visible ss) text ≡ Some d) × IsShaped d
 MeansIn ss text faulty = ⊥
+MeansIn ss text shapeless = ⊥
 MeansIn ss text later = ⊥
 
 abbrev pub AreMeant : List Names → List Scope → Type 0
