@@ -34,8 +34,8 @@ use Rattle.vl_refusal.specs.Expressions.{refused_if, too_wide, divided_by_zero, 
 use Rattle.vl_refusal.specs.Expressions.{vector_selects, memory_selects, object_selects, read_refusals}
 use Rattle.vl_refusal.specs.Expressions.{is_constant_name, refusals, all_refusals, select_refusals, expr_refusals}
 use Rattle.vl_refusal.specs.Expressions.{own_refusals, wide_size}
-use Rattle.vl_refusal.specs.Meanings.{Meaning, undeclared, constant, loop_variable, object, faulty, later, Names}
-use Rattle.vl_refusal.specs.Meanings.{meaning_in}
+use Rattle.vl_refusal.specs.Meanings.{Meaning, undeclared, constant, loop_variable, object, faulty, shapeless, later}
+use Rattle.vl_refusal.specs.Meanings.{Names, meaning_in}
 use Rattle.vl_alike.specs.Alike.{Alike}
 use Rattle.vl_alike.proofs.Sizes as z
 
@@ -85,6 +85,7 @@ module _ (ns ms : List Names) (h : Alike ns ms) where
   read fixed p text undeclared ss = refl
   read fixed p text loop_variable ss = refl
   read fixed p text faulty ss = refl
+  read fixed p text shapeless ss = refl
   read fixed p text later ss = refl
   read fixed p text (constant c selected) ss = same_vector selected (vector_of text c) ss
   read fixed p text (object d input scalar) ss =
@@ -97,6 +98,7 @@ module _ (ns ms : List Names) (h : Alike ns ms) where
   is_constant loop_variable = refl
   is_constant (object d input scalar) = refl
   is_constant faulty = refl
+  is_constant shapeless = refl
   is_constant later = refl
 
   pub same_is_constant : (text : List ℕ)

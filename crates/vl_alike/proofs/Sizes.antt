@@ -36,8 +36,8 @@ use Rattle.vl_mean.specs.ConstantFaults.{capped, wide_times}
 use Rattle.vl_mean.specs.Constants.{settled, settled_selects, vector_of}
 use Rattle.vl_refusal.specs.Expressions.{known, if_known, part_width, count_width, vector_width, word_width}
 use Rattle.vl_refusal.specs.Expressions.{name_width, wide_size, wide_sizes}
-use Rattle.vl_refusal.specs.Meanings.{Meaning, undeclared, constant, loop_variable, object, faulty, later, Names}
-use Rattle.vl_refusal.specs.Meanings.{meaning_in, value_of, is_known, bound, objects}
+use Rattle.vl_refusal.specs.Meanings.{Meaning, undeclared, constant, loop_variable, object, faulty, shapeless, later}
+use Rattle.vl_refusal.specs.Meanings.{Names, meaning_in, value_of, is_known, bound, objects}
 use Rattle.vl_scope.proofs.Agree.{same_own, same_divisor, same_selects_divisor}
 use Rattle.vl_alike.proofs.Objects.{same_object}
 use Rattle.vl_alike.specs.Alike.{Alike}
@@ -127,6 +127,7 @@ module _ (ns ms : List Names) (h : Alike ns ms) where
   width_of text (object d input scalar) ss =
       λ i. if is_none d.words then same_vector_width d ss i else same_word_width d ss i
   width_of text faulty ss = refl
+  width_of text shapeless ss = refl
   width_of text later ss = refl
 
   pub same_name_width : (text : List ℕ) (ss : Selects)

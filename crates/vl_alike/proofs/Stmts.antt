@@ -27,8 +27,8 @@ use Rattle.vl_size.specs.Size.{◌>>=◌}
 use Rattle.vl_mean.specs.ConstantFaults.{capped}
 use Rattle.vl_mean.specs.Constants.{vector_of}
 use Rattle.vl_refusal.specs.Expressions.{too_wide, divided_by_zero, expr_refusals}
-use Rattle.vl_refusal.specs.Meanings.{Meaning, undeclared, constant, loop_variable, object, faulty, later, Names}
-use Rattle.vl_refusal.specs.Meanings.{meaning_in}
+use Rattle.vl_refusal.specs.Meanings.{Meaning, undeclared, constant, loop_variable, object, faulty, shapeless, later}
+use Rattle.vl_refusal.specs.Meanings.{Names, meaning_in}
 use Rattle.vl_refusal.specs.Statements.{widened, assigned_refusals, target_selects, target_width, targets_width}
 use Rattle.vl_refusal.specs.Statements.{target_refusals, targets_refusals, assigned_in, assignment_refusals}
 use Rattle.vl_refusal.specs.Statements.{with_label, with_labels, case_context, labels_refusals, stmt_refusals}
@@ -47,6 +47,7 @@ module _ (ns ms : List Names) (h : Alike ns ms) where
   taken continuous p text loop_variable = refl
   taken continuous p text (object d input scalar) = refl
   taken continuous p text faulty = refl
+  taken continuous p text shapeless = refl
   taken continuous p text later = refl
 
   same_taken : (continuous : Bool) (p : Pos) (text : List ℕ)
@@ -61,12 +62,14 @@ module _ (ns ms : List Names) (h : Alike ns ms) where
   chosen p undeclared (named q text ss) = refl
   chosen p loop_variable (named q text ss) = refl
   chosen p faulty (named q text ss) = refl
+  chosen p shapeless (named q text ss) = refl
   chosen p later (named q text ss) = refl
   chosen p undeclared (joined q ls) = refl
   chosen p (constant c selected) (joined q ls) = refl
   chosen p loop_variable (joined q ls) = refl
   chosen p (object d input scalar) (joined q ls) = refl
   chosen p faulty (joined q ls) = refl
+  chosen p shapeless (joined q ls) = refl
   chosen p later (joined q ls) = refl
 
   same_chosen : (p : Pos) (text : List ℕ) (l : Lval)
