@@ -21,8 +21,8 @@ use Rattle.vl_mean.specs.Runs.{Each}
 use Rattle.vl_mean.specs.Scopes.{Scope}
 use Rattle.vl_mean.specs.Walk.{parameter_names, port_names}
 use Rattle.vl_same.proofs.EachOf.{both}
-use Rattle.vl_refusal.specs.Meanings.{Meaning, undeclared, constant, loop_variable, object, faulty, later, Names}
-use Rattle.vl_refusal.specs.Meanings.{is_undeclared, constant_or, object_or, parameters_of}
+use Rattle.vl_refusal.specs.Meanings.{Meaning, undeclared, constant, loop_variable, object, faulty, shapeless, later}
+use Rattle.vl_refusal.specs.Meanings.{Names, is_undeclared, constant_or, object_or, parameters_of}
 use Rattle.vl_refusal.specs.Meanings.{with_parameter_meanings, with_item_constants, port_meanings, name_meanings}
 use Rattle.vl_refusal.specs.Meanings.{item_meanings, items_meanings, is_known_parameter, may_be_selected}
 use Rattle.vl_scope.specs.Seen.{IsNamed}
@@ -83,6 +83,7 @@ module _ (s : Scope) where
   FoundMeans text loop_variable = Unit {0}
   FoundMeans text (object d input scalar) = declared_as s.decls text ≡ Some d
   FoundMeans text faulty = Unit {0}
+  FoundMeans text shapeless = Unit {0}
   FoundMeans text later = ⊥
 
   -- what each name of the scope keeps

@@ -57,14 +57,14 @@ append-none (x ∷ xs) = ap (λ l. x ∷ l) (append-none xs)
 
 -- ---- constants
 
-abbrev constant_names : Constants → List (List ℕ)
+abbrev pub constant_names : Constants → List (List ℕ)
 constant_names cs = map (λ c. c.0) cs
 
 append-constants : (cs ds : Constants) → constant_names (cs ++ ds) ≡ constant_names cs ++ constant_names ds
 append-constants [] ds = refl
 append-constants (c ∷ cs) ds = ap (λ l. c.0 ∷ l) (append-constants cs ds)
 
-no_constant : (cs : Constants) (text : List ℕ) → contains_name (constant_names cs) text ≡ false
+pub no_constant : (cs : Constants) (text : List ℕ) → contains_name (constant_names cs) text ≡ false
     → constant_of cs text ≡ None
 no_constant [] text h = refl
 no_constant (c ∷ cs) text h =
@@ -83,7 +83,7 @@ lists_step before now more rest e whole h = h ∙ ap (λ l. l ++ rest) e ∙ app
 abbrev value_now : Overrides → List Scope → Constants → Parameter → Const
 value_now os ss cs x = parameter_value os (with_constants cs ss) x
 
-parameters_list : (os : Overrides) (ss : List Scope) (xs : List Parameter) (cs : Constants)
+pub parameters_list : (os : Overrides) (ss : List Scope) (xs : List Parameter) (cs : Constants)
     → constant_names (with_parameters os ss cs xs) ≡ constant_names cs ++ parameter_names xs
 parameters_list os ss [] cs = sym (append-none (constant_names cs))
 parameters_list os ss (x ∷ xs) cs =
@@ -91,7 +91,7 @@ parameters_list os ss (x ∷ xs) cs =
     (constant_names (with_parameters os ss (cs ++ (x.name, value_now os ss cs x) ∷ []) xs))
     (parameters_list os ss xs (cs ++ (x.name, value_now os ss cs x) ∷ []))
 
-items_list : (os : Overrides) (ss : List Scope) (xs : Items) (cs : Constants)
+pub items_list : (os : Overrides) (ss : List Scope) (xs : Items) (cs : Constants)
     → constant_names (with_items_parameters os ss cs xs) ≡ constant_names cs ++ parameters_of xs
 items_list os ss no_items cs = sym (append-none (constant_names cs))
 items_list os ss (more_items (parameter attrs p k.Parameter ys) xs) cs =

@@ -12,10 +12,10 @@ use Rattle.vl_mean.specs.Runs.{Each}
 use Rattle.vl_mean.specs.Scopes.{Scope, constant_in, constant_unless, visible}
 use Rattle.vl_mean.specs.Walk.{Contents, parameter_names, port_names}
 use Rattle.vl_same.proofs.EachOf.{both}
-use Rattle.vl_refusal.specs.Meanings.{Meaning, undeclared, constant, loop_variable, object, faulty, later, Names}
-use Rattle.vl_refusal.specs.Meanings.{is_undeclared, meaning_of, meaning_in, parameters_of, with_parameter_meanings}
-use Rattle.vl_refusal.specs.Meanings.{with_item_constants, port_meanings, items_meanings, scope_meanings, all_later}
-use Rattle.vl_refusal.specs.Meanings.{all_meanings}
+use Rattle.vl_refusal.specs.Meanings.{Meaning, undeclared, constant, loop_variable, object, faulty, shapeless, later}
+use Rattle.vl_refusal.specs.Meanings.{Names, is_undeclared, meaning_of, meaning_in, parameters_of}
+use Rattle.vl_refusal.specs.Meanings.{with_parameter_meanings, with_item_constants, port_meanings, items_meanings}
+use Rattle.vl_refusal.specs.Meanings.{scope_meanings, all_later, all_meanings}
 use Rattle.vl_scope.specs.Seen.{AreNamed, AllNamed}
 use Rattle.vl_sized.specs.Sized.{IsSound}
 use Rattle.vl_known.specs.Means.{MeansIn}
@@ -29,7 +29,7 @@ if_same : (m n : Meaning) (b : Bool) → b ≡ false → (if b then n else m) �
 if_same m n b h = ap (λ b. if b then n else m) h
 
 module _ (s : Scope) where
-  append_meaning : (text : List ℕ) (xs ys : Names) → Each (IsEntry s) xs
+  pub append_meaning : (text : List ℕ) (xs ys : Names) → Each (IsEntry s) xs
       → meaning_of (xs ++ ys) text
       ≡ (if is_undeclared (meaning_of xs text) then meaning_of ys text else meaning_of xs text)
   append_meaning text [] ys h = refl
@@ -43,7 +43,7 @@ module _ (s : Scope) where
       by true next = sym (if_same x.1 (meaning_of ys text) (is_undeclared x.1) h.0.there)
       by false next = next
 
-  entry_found : (text : List ℕ) (xs : Names) → Each (IsEntry s) xs → FoundMeans s text (meaning_of xs text)
+  pub entry_found : (text : List ℕ) (xs : Names) → Each (IsEntry s) xs → FoundMeans s text (meaning_of xs text)
   entry_found text [] h = tt
   entry_found text (x ∷ xs) h = by (bytes_eq text x.0) refl (entry_found text xs h.1)
     where
@@ -52,7 +52,7 @@ module _ (s : Scope) where
       by true e next = subst (λ t. FoundMeans s t x.1) (sym ((bytes_eq-Decides text x.0).0 e)) h.0.means
       by false e next = next
 
-  parameter_found : (text : List ℕ) (xs : Names) → Each (λ n. IsParameter s n.1) xs
+  pub parameter_found : (text : List ℕ) (xs : Names) → Each (λ n. IsParameter s n.1) xs
       → is_undeclared (meaning_of xs text) ≡ false → IsParameter s (meaning_of xs text)
   parameter_found text [] h k = absurd (true≢false k)
   parameter_found text (x ∷ xs) h k = by (bytes_eq text x.0) k (parameter_found text xs h.1)
@@ -64,7 +64,7 @@ module _ (s : Scope) where
       by false k next = next k
 
   -- a name that isn't listed
-  unlisted : (text : List ℕ) (xs : Names) → Each (IsEntry s) xs → is_undeclared (meaning_of xs text) ≡ true
+  pub unlisted : (text : List ℕ) (xs : Names) → Each (IsEntry s) xs → is_undeclared (meaning_of xs text) ≡ true
       → contains_name (names_in xs) text ≡ false
   unlisted text [] h k = refl
   unlisted text (x ∷ xs) h k = by (bytes_eq text x.0) k (unlisted text xs h.1)
@@ -75,7 +75,7 @@ module _ (s : Scope) where
       by true k next = absurd (true≢false (sym k ∙ h.0.there))
       by false k next = next k
 
-  listed : (text : List ℕ) (xs : Names) → Each (IsEntry s) xs → is_undeclared (meaning_of xs text) ≡ false
+  pub listed : (text : List ℕ) (xs : Names) → Each (IsEntry s) xs → is_undeclared (meaning_of xs text) ≡ false
       → contains_name (names_in xs) text ≡ true
   listed text [] h k = absurd (true≢false k)
   listed text (x ∷ xs) h k = by (bytes_eq text x.0) k (listed text xs h.1)
@@ -87,10 +87,10 @@ module _ (s : Scope) where
       by false k next = next k
 
 -- the constants of a scope, as they stand behind its other names
-abbrev constant_meanings : Constants → Names
+abbrev pub constant_meanings : Constants → Names
 constant_meanings cs = map (λ x. (x.0, constant x.1 true)) cs
 
-abbrev of_constant : Option Const → Meaning
+abbrev pub of_constant : Option Const → Meaning
 of_constant None = undeclared
 of_constant (Some c) = constant c true
 
@@ -120,13 +120,14 @@ pub record IsLaid (s : Scope) (c : Contents) : Type 0 where
   pub decls_named : (text : List ℕ) → contains_name (other_names c) text ≡ false
       → is_declared s.decls text ≡ false
 
-abbrev LevelMeans : Scope → List ℕ → Meaning → Type 0
+abbrev pub LevelMeans : Scope → List ℕ → Meaning → Type 0
 LevelMeans s text undeclared = (constant_of s.constants text ≡ None) × (is_declared s.decls text ≡ false)
 LevelMeans s text (constant c selected) = constant_of s.constants text ≡ Some c
 LevelMeans s text loop_variable = Unit {0}
 LevelMeans s text (object d input scalar) =
     (constant_of s.constants text ≡ None) × (declared_as s.decls text ≡ Some d)
 LevelMeans s text faulty = Unit {0}
+LevelMeans s text shapeless = Unit {0}
 LevelMeans s text later = ⊥
 
 no_object : (s : Scope) (m : Meaning) (d : Decl) (input scalar : Bool) → m ≡ object d input scalar → IsParameter s m → ⊥
@@ -137,48 +138,48 @@ none_of None h = refl
 none_of (Some c) h = absurd (true≢false (sym h))
 
 module _ (s : Scope) (outer : List Names) (c : Contents) where
-  abbrev own : Names
+  abbrev pub own : Names
   own = with_item_constants s outer c.overrides (all_later c)
       (with_parameter_meanings s outer c.overrides (all_later c) [] c.parameters) c.items
 
-  abbrev around : List Names
+  abbrev pub around : List Names
   around = (own ++ all_later c) ∷ outer
 
-  abbrev ports : Names
+  abbrev pub ports : Names
   ports = port_meanings s outer around c.ports
 
-  abbrev objects : Names
+  abbrev pub objects : Names
   objects = items_meanings s outer around c.items
 
-  own_parameters : AreParameters s own
+  pub own_parameters : AreParameters s own
   own_parameters =
       item_constant_entries s outer (all_later c) c.overrides c.items
       (with_parameter_meanings s outer c.overrides (all_later c) [] c.parameters)
       (parameter_entries s outer (all_later c) c.overrides c.parameters [] (record { entries = tt; kinds = tt }))
 
-  own_list : names_in own ≡ own_names c
+  pub own_list : names_in own ≡ own_names c
   own_list =
       item_constant_list s outer (all_later c) c.overrides c.items
       (with_parameter_meanings s outer c.overrides (all_later c) [] c.parameters)
       ∙ ap (λ l. l ++ parameters_of c.items)
       (parameter_list s outer (all_later c) c.overrides c.parameters [])
 
-  others : Each (IsEntry s) (ports ++ objects)
+  pub others : Each (IsEntry s) (ports ++ objects)
   others =
       both (IsEntry s) ports objects (port_entries s outer (all_later c) around c.ports)
       (items_entries s outer (all_later c) around c.items)
 
-  map_both : (xs ys : Names) → names_in (xs ++ ys) ≡ names_in xs ++ names_in ys
+  pub map_both : (xs ys : Names) → names_in (xs ++ ys) ≡ names_in xs ++ names_in ys
   map_both [] ys = refl
   map_both (x ∷ xs) ys = ap (λ l. x.0 ∷ l) (map_both xs ys)
 
-  others_list : names_in (ports ++ objects) ≡ other_names c
+  pub others_list : names_in (ports ++ objects) ≡ other_names c
   others_list =
       map_both ports objects
       ∙ (λ i. port_list s outer (all_later c) around c.ports i ++ items_list s outer (all_later c) around c.items i)
 
   -- the names that are looked up, in two steps
-  abbrev two_steps : List ℕ → Meaning
+  abbrev pub two_steps : List ℕ → Meaning
   two_steps text =
       let a = meaning_of own text in let b = meaning_of (ports ++ objects) text in
       let d = of_constant (constant_of s.constants text) in
@@ -188,7 +189,7 @@ module _ (s : Scope) (outer : List Names) (c : Contents) where
   regroup [] ys zs ws = refl
   regroup (x ∷ xs) ys zs ws = ap (λ l. x ∷ l) (regroup xs ys zs ws)
 
-  steps_are : (text : List ℕ) → meaning_of (scope_meanings s outer c) text ≡ two_steps text
+  pub steps_are : (text : List ℕ) → meaning_of (scope_meanings s outer c) text ≡ two_steps text
   steps_are text =
       ap (λ l. meaning_of l text) (regroup own ports objects (constant_meanings s.constants))
       ∙ append_meaning s text own (ports ++ objects ++ constant_meanings s.constants) own_parameters.entries
@@ -210,6 +211,7 @@ module _ (s : Scope) (outer : List Names) (c : Contents) where
   from_own text loop_variable u h k = tt
   from_own text (object d input scalar) u h k = absurd k
   from_own text faulty u h k = tt
+  from_own text shapeless u h k = absurd k
   from_own text later u h k = h
 
   from_others : (text : List ℕ) (m : Meaning) → is_undeclared m ≡ false → FoundMeans s text m
@@ -219,6 +221,7 @@ module _ (s : Scope) (outer : List Names) (c : Contents) where
   from_others text loop_variable u h k = tt
   from_others text (object d input scalar) u h k = (k, h)
   from_others text faulty u h k = tt
+  from_others text shapeless u h k = tt
   from_others text later u h k = h
 
   pub level_means : IsLaid s c → (text : List ℕ) → LevelMeans s text (meaning_of (scope_meanings s outer c) text)
@@ -318,6 +321,7 @@ outer_means s ss text (object d input scalar) e h k = (
   k.2,
 )
 outer_means s ss text faulty e h k = k
+outer_means s ss text shapeless e h k = k
 outer_means s ss text later e h k = k
 
 inner_means : (s : Scope) (ss : List Scope) (text : List ℕ) (m : Meaning) → LevelMeans s text m → IsSound m
@@ -332,6 +336,7 @@ inner_means s ss text (object d input scalar) h k = (
   k,
 )
 inner_means s ss text faulty h k = k
+inner_means s ss text shapeless h k = k
 inner_means s ss text later h k = h
 
 pub all_meant : (ss : List Scope) (cs : List Contents) → AreLaid ss cs → (text : List ℕ)
@@ -354,4 +359,5 @@ all_meant (s ∷ ss) (c ∷ cs) h text k =
     by loop_variable l k next = tt
     by (object d input scalar) l k next = inner_means s ss text (object d input scalar) l k
     by faulty l k next = k
+    by shapeless l k next = k
     by later l k next = l
