@@ -28,8 +28,8 @@ use Rattle.vl_names.proofs.Fresh.{NoneOf, none-back}
 use Rattle.vl_refusal.specs.Expressions.{expr_refusals}
 use Rattle.vl_refusal.specs.Items.{inner_meanings, joined_context, object_width, output_target}
 use Rattle.vl_refusal.specs.Items.{joined_value, joined_refusals, connection_refusals}
-use Rattle.vl_refusal.specs.Meanings.{Meaning, undeclared, constant, loop_variable, object, faulty, later, Names}
-use Rattle.vl_refusal.specs.Meanings.{meaning_in, meanings_at}
+use Rattle.vl_refusal.specs.Meanings.{Meaning, undeclared, constant, loop_variable, object, faulty, shapeless, later}
+use Rattle.vl_refusal.specs.Meanings.{Names, meaning_in, meanings_at}
 use Rattle.vl_scope.specs.Seen.{AllNamed}
 use Rattle.vl_sized.specs.Sized.{AreSound}
 use Rattle.vl_known.specs.Means.{MeansIn, AreMeant}
@@ -80,7 +80,7 @@ some_targets (more e es) ls s h =
     subst lval.IsSome y.whole_is tt
 
 mutual
-  target_formed : (e : Expr) (l : Lval) → expr.IsWellFormed e → target_of e ≡ Some l → lval.IsWellFormed l
+  pub target_formed : (e : Expr) (l : Lval) → expr.IsWellFormed e → target_of e ≡ Some l → lval.IsWellFormed l
   target_formed (name p text ss) l w h = subst lval.IsWellFormed (some_target (named p text ss) l h) w
   target_formed (concat p es) l w h =
       let x = joined_some (targets_of es) p l h in
@@ -118,6 +118,7 @@ inside_known ss text (object d input scalar) o h =
       value = subst (EachName (IsSeen ss)) (sym (ap (named_constant here text whole) h.0)) (is_seen, tt);
     }
 inside_known ss text faulty o h = absurd o
+inside_known ss text shapeless o h = absurd o
 inside_known ss text later o h = absurd o
 
 -- ---- connections

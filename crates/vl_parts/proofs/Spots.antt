@@ -25,8 +25,8 @@ use Rattle.vl_names.proofs.Fresh.{NoneOf, none-front, none-back, some-fault}
 use Rattle.vl_refusal.specs.Expressions.{too_wide, divided_by_zero, vector_width}
 use Rattle.vl_refusal.specs.Expressions.{word_width, name_width, vector_selects, memory_selects, object_selects}
 use Rattle.vl_refusal.specs.Expressions.{select_refusals, refusals, is_constant_name, known, expr_refusals}
-use Rattle.vl_refusal.specs.Meanings.{Meaning, undeclared, constant, loop_variable, object, faulty, later, Names}
-use Rattle.vl_refusal.specs.Meanings.{meaning_in, constants, objects, is_known, bound}
+use Rattle.vl_refusal.specs.Meanings.{Meaning, undeclared, constant, loop_variable, object, faulty, shapeless, later}
+use Rattle.vl_refusal.specs.Meanings.{Names, meaning_in, constants, objects, is_known, bound}
 use Rattle.vl_refusal.specs.Statements.{assigned_refusals, target_selects, target_width, targets_width, target_refusals}
 use Rattle.vl_refusal.specs.Statements.{targets_refusals}
 use Rattle.vl_scope.specs.Seen.{AllNamed}
@@ -157,6 +157,7 @@ module _ (ns : List Names) (ss : List Scope) (named_so : AllNamed ns) (meant : A
   named_bits continuous fixed p text xs (constant c selected) e w h =
       absurd (refused_name _ _ _ (none-front _ _ h))
   named_bits continuous fixed p text xs faulty e w h = absurd (subst (MeansIn ss text) e (meant text))
+  named_bits continuous fixed p text xs shapeless e w h = absurd (subst (MeansIn ss text) e (meant text))
   named_bits continuous fixed p text xs later e w h = absurd (subst (MeansIn ss text) e (meant text))
   named_bits continuous fixed p text xs (object d input scalar) e w h =
       let means = subst (MeansIn ss text) e (meant text) in
@@ -171,8 +172,8 @@ module _ (ns : List Names) (ss : List Scope) (named_so : AllNamed ns) (meant : A
       let z = undivided _ (none-back inner divided two) in
       let hk = none-back (inner ++ divided ++ assigned) selects all in
       let x = selected ns (is_none d.words) (fixed || false) (not scalar) p d xs
-      (λ fixed may d one few h k t z. vector ns named_so (sound ns ss meant) fixed may p d xs w one few h k t z)
-      (λ fixed may d one few h k t z. word ns named_so (sound ns ss meant) fixed may p d xs w one few h k t z)
+      (λ may d one few h k t z. vector ns named_so (sound ns ss meant) (fixed || false) may p d xs w one few h k t z)
+      (λ may d one few h k t z. word ns named_so (sound ns ss meant) (fixed || false) may p d xs w one few h k t z)
       means.2.some_bits means.2.few_bits hs hk (none-back (inner ++ divided ++ assigned ++ selects) _ h) z in
       let found : declared_in ss text ≡ Some d = λ i. unless_constant (means.0 i) (means.1 i) in
       record {
