@@ -12,5 +12,5 @@ mod taken;
 
 pub use cell_run::CellRun;
 pub use fixed::are_fixed;
-pub use numbering::Numbering;
+pub use numbering::{Numbering, cell_count};
 pub use runs::{bits_of, put};

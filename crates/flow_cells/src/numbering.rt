@@ -30,7 +30,7 @@ fn words_between(left: i64, right: i64) -> u64
 }
 
 /// How many cells a name has: a vector is one.
-pub(crate) fn cell_count(decl: &Decl) -> u64
+pub fn cell_count(decl: &Decl) -> u64
     requires { IsKept decl.now }
     ensures value { result ≡ length (cells decl.now) }
     ensures some { 1 ≤ result }
