@@ -282,9 +282,8 @@ NUMBERS = "rs1 rs2 rd value pc address rmask wmask wdata trap".split()
 CHANGES = dict(rs1=1, rs2=1, rd=1, value=1, pc=2, address=4, rmask=1, wmask=4, wdata=0x100, trap=1)
 
 
-def answer(case):
+def answer(case, effect):
     """The numbers of the effect, and a digit for the retirement that does it, and for each with one number changed."""
-    effect = case.effect()
     shown = [effect] + [dict(effect, **{key: effect[key] ^ CHANGES[key]}) for key in NUMBERS]
     digits = "".join(str(int(agrees(case, retire, effect))) for retire in shown)
     return " ".join("%x" % effect[key] for key in NUMBERS) + " " + digits
@@ -425,18 +424,19 @@ def write(made):
     before = before[:before.index(MARK)] if MARK in before else before + [""]
     answers = answers[:sum(1 for line in before if line and line[0] != "#")]
     for file, lines in zip(files, (before + [MARK] + [case.line() for case in made],
-                                   answers + [answer(case) for case in made])):
+                                   answers + [answer(case, case.effect()) for case in made])):
         with open(file, "w") as out:
             out.write("\n".join(lines) + "\n")
 
 
-def compare(made, program):
+def compare(made, wanted, program):
+    """Ends with whether the program gives each case the answer that is wanted."""
     lines = [case.line() for case in made]
     got = subprocess.run([program], input="\n".join(lines) + "\n", stdout=subprocess.PIPE, text=True,
                          check=True).stdout.splitlines()
-    faults = [(line, found, answer(case)) for line, found, case in zip(lines, got, made) if found != answer(case)]
-    for line, found, wanted in faults[:20]:
-        print("%s\n    is     %s\n    wanted %s" % (line, found, wanted))
+    faults = [fault for fault in zip(lines, got, wanted) if fault[1] != fault[2]]
+    for fault in faults[:20]:
+        print("%s\n    is     %s\n    wanted %s" % fault)
     rows = len({case.row for case in made})
     print("%d cases of %d rows: %d answers, %d faults" % (len(made), rows, len(got), len(faults)))
     sys.exit(1 if faults or len(got) != len(lines) else 0)
@@ -454,7 +454,7 @@ def main():
     if words.write:
         write(made)
     elif words.program:
-        compare(made, words.program)
+        compare(made, [answer(case, case.effect()) for case in made], words.program)
     else:
         sys.exit("a program or --write is wanted")
 
