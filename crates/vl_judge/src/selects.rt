@@ -184,6 +184,7 @@ pub(crate) fn read_fault(
     match meaning {
         Meaning::LoopVariable => Ok(Some(ElabFault::Unknown(text.copied(alloc)?, pos))),
         Meaning::Faulty => Ok(None),
+        Meaning::Shapeless => Ok(not_constant_if(fixed, pos)),
         Meaning::Later => Ok(Some(ElabFault::NotConstant(pos))),
         Meaning::Constant(value, selected) => {
             let decl = vector_of(alloc, text, value)?;

@@ -207,6 +207,6 @@ pub fn name_width(
             vector_width(alloc, &decl, all, names)
         }
         Meaning::Object(object) => object_width(alloc, object, all, names),
-        Meaning::LoopVariable | Meaning::Faulty | Meaning::Later => Ok(None),
+        Meaning::LoopVariable | Meaning::Faulty | Meaning::Shapeless | Meaning::Later => Ok(None),
     }
 }
