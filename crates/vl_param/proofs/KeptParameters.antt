@@ -33,7 +33,8 @@ use Rattle.vl_mean.specs.Declarations as d
 use Rattle.vl_mean.specs.Declarations.{Overrides, parameter_value, with_constants}
 use Rattle.vl_mean.specs.Scopes.{Scope, constant_in, constant_unless}
 use Rattle.vl_refusal.specs.Meanings as m
-use Rattle.vl_refusal.specs.Meanings.{Meaning, undeclared, constant, loop_variable, object, faulty, later, Names}
+use Rattle.vl_refusal.specs.Meanings.{Meaning, undeclared, constant, loop_variable, object, faulty, shapeless, later}
+use Rattle.vl_refusal.specs.Meanings.{Names}
 use Rattle.vl_refusal.specs.Meanings.{is_undeclared, meaning_of, meaning_in, value_of, is_known_in, is_known_value}
 use Rattle.vl_refusal.specs.Meanings.{is_known_shape, may_be_selected, constant_or, with_parameter_meanings}
 use Rattle.vl_refusal.specs.Meanings.{with_item_constants}
@@ -93,7 +94,9 @@ value_unless loop_variable b (Some x) c h k e = cc
 value_unless (object y input scalar) b None c h k e = cc
 value_unless (object y input scalar) b (Some x) c h k e = cc
 value_unless faulty b None c h k e = cc
+value_unless shapeless b None c h k e = cc
 value_unless faulty b (Some x) c h k e = cc
+value_unless shapeless b (Some x) c h k e = cc
 value_unless later b None c h k e = cc
 value_unless later b (Some x) c h k e = cc
 
@@ -138,7 +141,9 @@ there_with loop_variable (Some x) b m c h k = refl
 there_with (object y input scalar) None b m c h k = cc
 there_with (object y input scalar) (Some x) b m c h k = refl
 there_with faulty None b m c h k = cc
+there_with shapeless None b m c h k = cc
 there_with faulty (Some x) b m c h k = refl
+there_with shapeless (Some x) b m c h k = refl
 there_with later None b m c h k = cc
 there_with later (Some x) b m c h k = refl
 
@@ -156,7 +161,9 @@ value_with loop_variable (Some x) b c c' h k e = cc
 value_with (object y input scalar) None b c c' h k e = cc
 value_with (object y input scalar) (Some x) b c c' h k e = cc
 value_with faulty None b c c' h k e = cc
+value_with shapeless None b c c' h k e = cc
 value_with faulty (Some x) b c c' h k e = cc
+value_with shapeless (Some x) b c c' h k e = cc
 value_with later None b c c' h k e = cc
 value_with later (Some x) b c c' h k e = cc
 

@@ -10,8 +10,8 @@ use Rattle.vl_tree.specs.declared.declaration.PortKind.TheVariants as port
 use Rattle.vl_tree.specs.Item.{Item, items}
 use Rattle.vl_mean.specs.Declarations.{Overrides, header_parameters, full_port, full_ports}
 use Rattle.vl_mean.specs.Walk.{Contents, parameter_names, port_names}
-use Rattle.vl_refusal.specs.Meanings.{Meaning, undeclared, constant, loop_variable, object, faulty, later, Names}
-use Rattle.vl_refusal.specs.Meanings.{meaning_of, all_later, items_names}
+use Rattle.vl_refusal.specs.Meanings.{Meaning, undeclared, constant, loop_variable, object, faulty, shapeless, later}
+use Rattle.vl_refusal.specs.Meanings.{Names, meaning_of, all_later, items_names}
 use Rattle.vl_scope.specs.Seen.{AreNamed, with_name}
 use Rattle.vl_param.specs.Among.{contents}
 use Rattle.vl_param.specs.Entered.{with_later, all_are_later, port_text, is_full, port_texts, names_behind}
@@ -44,6 +44,7 @@ later_meaning ns [] h text = alone (meaning_of ns text)
     alone loop_variable = refl
     alone (object d input scalar) = refl
     alone faulty = refl
+    alone shapeless = refl
     alone later = refl
 later_meaning ns (x ∷ xs) h text =
     later_meaning (with_name ns x later) xs (named_with ns x later h tt) text

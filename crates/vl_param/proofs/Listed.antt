@@ -5,8 +5,8 @@ use Rattle.std.proofs.Common.{ap, sym, ◌∙◌}
 use Rattle.std.proofs.lemmas.Slice.Eq.{bytes_eq-Decides}
 use Rattle.vl_mean.specs.declared.const_number.Const.{Const}
 use Rattle.vl_mean.specs.Constants.{Constants, constant_of}
-use Rattle.vl_refusal.specs.Meanings.{Meaning, undeclared, constant, loop_variable, object, faulty, later, Names}
-use Rattle.vl_refusal.specs.Meanings.{is_undeclared, meaning_of}
+use Rattle.vl_refusal.specs.Meanings.{Meaning, undeclared, constant, loop_variable, object, faulty, shapeless, later}
+use Rattle.vl_refusal.specs.Meanings.{Names, is_undeclared, meaning_of}
 use Rattle.vl_scope.specs.Seen.{IsNamed, AreNamed, with_name}
 
 -- the outer one, where nothing is declared within
@@ -22,6 +22,7 @@ named_there text (constant c selected) h = refl
 named_there text loop_variable h = refl
 named_there text (object d input scalar) h = refl
 named_there text faulty h = refl
+named_there text shapeless h = refl
 named_there text later h = refl
 
 not_undeclared : (m : Meaning) → is_undeclared m ≡ true → m ≡ undeclared
@@ -30,6 +31,7 @@ not_undeclared (constant c selected) h = cc
 not_undeclared loop_variable h = cc
 not_undeclared (object d input scalar) h = cc
 not_undeclared faulty h = cc
+not_undeclared shapeless h = cc
 not_undeclared later h = cc
 
 pub inner_assoc : (a b c : Meaning) → inner_or a (inner_or b c) ≡ inner_or (inner_or a b) c
@@ -38,6 +40,7 @@ inner_assoc (constant x selected) b c = refl
 inner_assoc loop_variable b c = refl
 inner_assoc (object x input scalar) b c = refl
 inner_assoc faulty b c = refl
+inner_assoc shapeless b c = refl
 inner_assoc later b c = refl
 
 -- a name before others
@@ -84,6 +87,7 @@ meaning_with ns text m h other = by (is_undeclared (meaning_of ns text)) refl
         alone loop_variable = refl
         alone (object d input scalar) = refl
         alone faulty = refl
+        alone shapeless = refl
         alone later = refl
 
     by : (b : Bool) → is_undeclared (meaning_of ns text) ≡ b

@@ -15,7 +15,7 @@ use Rattle.vl_mean.specs.Declarations.{header_parameters}
 use Rattle.vl_mean.specs.Walk.{parameter_names}
 use Rattle.vl_refusal.specs.Meanings.{Meaning, constant, faulty, later, Names, is_known_value, is_known_shape}
 use Rattle.vl_refusal.specs.Meanings.{may_be_selected, items_names}
-use Rattle.vl_scope.specs.Seen.{with_name}
+use Rattle.vl_scope.specs.Seen.{innermost, with_name}
 use Rattle.vl_number.specs.Numbers.{parameter_number}
 
 -- what names mean, and the numbers of constants
@@ -25,11 +25,6 @@ pub record Stacks : Type 0 where
 
 abbrev pub stacks : List Names → List Names → Stacks
 stacks names numbers = record { names = names; numbers = numbers }
-
--- the names of the innermost scope
-abbrev pub innermost : List Names → Names
-innermost [] = []
-innermost (ns ∷ outer) = ns
 
 -- with a name more in it
 abbrev pub in_innermost : List Names → List ℕ → Meaning → List Names
