@@ -54,7 +54,7 @@ fn edge_fault(pos: Pos, text: &Text, meaning: &Meaning) -> Option<ElabFault>
     ensures { result ≡ lowest (items.edge_refusals pos text.now (seen meaning.now)) }
 {
     match meaning {
-        Meaning::Faulty => None,
+        Meaning::Faulty | Meaning::Shapeless => None,
         Meaning::Object(object) => clock_if(!is_clock(object.decl.class), pos),
         Meaning::Constant(_, _) | Meaning::LoopVariable | Meaning::Later => Some(ElabFault::Clock(
             pos,

@@ -36,8 +36,8 @@ use Rattle.vl_refusal.specs.Expressions.{refused_if, too_wide, name_width, wide_
 use Rattle.vl_refusal.specs.Expressions.{none_behind, vector_selects, memory_selects, object_selects, read_refusals}
 use Rattle.vl_refusal.specs.Expressions.{is_constant_name, refusals, all_refusals, select_refusals}
 use Rattle.vl_refusal.specs.Items.{varies_by}
-use Rattle.vl_refusal.specs.Meanings.{Meaning, undeclared, constant, loop_variable, object, faulty, later, Names}
-use Rattle.vl_refusal.specs.Meanings.{meaning_in}
+use Rattle.vl_refusal.specs.Meanings.{Meaning, undeclared, constant, loop_variable, object, faulty, shapeless, later}
+use Rattle.vl_refusal.specs.Meanings.{Names, meaning_in}
 use Rattle.vl_join.specs.Parts.{name_varies, varies, any_varies, selects_vary, select_varies}
 
 varies_append : (xs ys : List ElabFault) → varies_by (xs ++ ys) ≡ (varies_by xs || varies_by ys)
@@ -134,6 +134,8 @@ module _ (ns : List Names) where
   read fixed p text undeclared ss = refl
   read fixed p text loop_variable ss = refl
   read fixed p text faulty ss = refl
+  read true p text shapeless ss = refl
+  read false p text shapeless ss = refl
   read fixed p text later ss = refl
   read fixed p text (constant c selected) ss = sym (vector selected (vector_of text c) ss)
   read fixed p text (object d input scalar) ss =

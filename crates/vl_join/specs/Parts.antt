@@ -27,12 +27,13 @@ use Rattle.vl_tree.specs.Expr.{
 use Rattle.vl_tree.specs.Lval.{Lval, Lvals, named, joined, more_lvals}
 use Rattle.vl_size.specs.Size.{◌>>=◌, divides}
 use Rattle.vl_refusal.specs.Expressions.{is_constant_name}
-use Rattle.vl_refusal.specs.Meanings.{Meaning, object, later, Names, meaning_in}
+use Rattle.vl_refusal.specs.Meanings.{Meaning, object, shapeless, later, Names, meaning_in}
 
 -- a net or a variable does, where a constant is asked for
 abbrev pub name_varies : Bool → Meaning → Bool
 name_varies fixed later = true
 name_varies fixed (object d input scalar) = fixed
+name_varies fixed shapeless = fixed
 name_varies fixed m = false
 
 module _ (ns : List Names) where

@@ -28,7 +28,11 @@ fn object_width(meaning: &Meaning) -> Option<u64>
 {
     match meaning {
         Meaning::Object(object) => Some(u64::from(object.decl.width)),
-        Meaning::Constant(_, _) | Meaning::LoopVariable | Meaning::Faulty | Meaning::Later => None,
+        Meaning::Constant(_, _)
+        | Meaning::LoopVariable
+        | Meaning::Faulty
+        | Meaning::Shapeless
+        | Meaning::Later => None,
     }
 }
 

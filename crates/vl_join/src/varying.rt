@@ -21,7 +21,7 @@ fn meaning_varies(fixed: bool, meaning: &Meaning) -> bool
 {
     match meaning {
         Meaning::Later => true,
-        Meaning::Object(_) => fixed,
+        Meaning::Object(_) | Meaning::Shapeless => fixed,
         Meaning::Constant(_, _) | Meaning::LoopVariable | Meaning::Faulty => false,
     }
 }
@@ -142,7 +142,7 @@ fn is_net_name(meaning: &Meaning) -> bool
 {
     match meaning {
         Meaning::Object(object) => !is_variable(object.decl.class),
-        Meaning::Faulty => true,
+        Meaning::Faulty | Meaning::Shapeless => true,
         Meaning::Constant(_, _) | Meaning::LoopVariable | Meaning::Later => false,
     }
 }

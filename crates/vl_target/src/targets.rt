@@ -57,7 +57,7 @@ fn assigned_fault(
 {
     match meaning {
         Meaning::LoopVariable | Meaning::Constant(_, _) => kind_if(alloc, true, text, pos),
-        Meaning::Faulty | Meaning::Later => Ok(None),
+        Meaning::Faulty | Meaning::Shapeless | Meaning::Later => Ok(None),
         Meaning::Object(object) => object_assigned(
             alloc,
             either(
@@ -103,7 +103,7 @@ fn selected_fault(
             let decl = vector_of(alloc, text, value)?;
             vector_fault(alloc, *selected, &decl, all, names)
         }
-        Meaning::LoopVariable | Meaning::Faulty | Meaning::Later => Ok(None),
+        Meaning::LoopVariable | Meaning::Faulty | Meaning::Shapeless | Meaning::Later => Ok(None),
     }
 }
 

@@ -20,6 +20,7 @@ use Rattle.vl_refusal.specs.Meanings.{
   loop_variable,
   object,
   faulty,
+  shapeless,
   later,
   Names,
   is_undeclared,
@@ -190,6 +191,7 @@ module _ (at : Place) (ns numbers : List Names) (same : Alike ns (meanings_at at
   same_kind (constant c selected) = other
   same_kind (object d input scalar) = other
   same_kind faulty = other
+  same_kind shapeless = other
   same_kind later = other
 
   pub same_head : head_fault ns numbers p head (variable_of (meaning_in ns head.variable))

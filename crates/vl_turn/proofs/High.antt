@@ -36,8 +36,8 @@ use Rattle.vl_refusal.specs.Expressions.{refused_if, too_wide, name_width, wide_
 use Rattle.vl_refusal.specs.Expressions.{none_behind, vector_selects, memory_selects, object_selects, read_refusals}
 use Rattle.vl_refusal.specs.Expressions.{is_constant_name, refusals, all_refusals, select_refusals}
 use Rattle.vl_refusal.specs.Items.{is_unknown, unknown_names}
-use Rattle.vl_refusal.specs.Meanings.{Meaning, undeclared, constant, loop_variable, object, faulty, later, Names}
-use Rattle.vl_refusal.specs.Meanings.{meaning_in}
+use Rattle.vl_refusal.specs.Meanings.{Meaning, undeclared, constant, loop_variable, object, faulty, shapeless, later}
+use Rattle.vl_refusal.specs.Meanings.{Names, meaning_in}
 use Rattle.vl_refusal.specs.Refused.{comes_before, lower, lowest, place, rank}
 use Rattle.vl_turn.specs.Parts.{if_unknown}
 
@@ -101,6 +101,7 @@ module _ (ns : List Names) where
   read fixed p text undeclared ss = (refl, tt)
   read fixed p text loop_variable ss = (refl, tt)
   read fixed p text faulty ss = tt
+  read fixed p text shapeless ss = high_if fixed (f.NotConstant p) refl
   read fixed p text later ss = (refl, tt)
   read fixed p text (constant c selected) ss = vector selected (vector_of text c) ss
   read fixed p text (object d input scalar) ss =

@@ -216,8 +216,13 @@ fn variable_of(meaning: Option<&Meaning>) -> Variable
     match meaning {
         None => Variable::Undeclared,
         Some(Meaning::LoopVariable) => Variable::Genvar,
-        Some(Meaning::Constant(_, _) | Meaning::Object(_) | Meaning::Faulty | Meaning::Later) =>
-            Variable::Other,
+        Some(
+            Meaning::Constant(_, _)
+            | Meaning::Object(_)
+            | Meaning::Faulty
+            | Meaning::Shapeless
+            | Meaning::Later,
+        ) => Variable::Other,
     }
 }
 
