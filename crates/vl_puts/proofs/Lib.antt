@@ -1,3 +1,4 @@
 pub mod Assigned
 pub mod Spliced
 pub mod Overlaps
+pub mod Masking

@@ -50,14 +50,14 @@ put_fits zero w p y x fits = fits
 put_fits (suc n) w p y x fits =
     put_fits n w p y (put_bit w (p +ℤ pos n) (bit_of y n) x) (bit_fits w (p +ℤ pos n) (bit_of y n) x (small y n) fits)
 
-outside : (n w : ℕ) (p : ℤ) (y x j : ℕ) → ((i : ℕ) → i < n → pos j ≡ p +ℤ pos i → ⊥)
+pub outside : (n w : ℕ) (p : ℤ) (y x j : ℕ) → ((i : ℕ) → i < n → pos j ≡ p +ℤ pos i → ⊥)
     → bit_of (put_bits n w p y x) j ≡ bit_of x j
 outside zero w p y x j apart = refl
 outside (suc n) w p y x j apart =
     outside n w p y (put_bit w (p +ℤ pos n) (bit_of y n) x) j (λ i less. apart i (omega (arith, less)))
     ∙ other_bit w (p +ℤ pos n) (bit_of y n) x j (small y n) (apart n (omega arith))
 
-inside : (n w : ℕ) (p : ℤ) (y x j i : ℕ) → j < w → i < n → pos j ≡ p +ℤ pos i → bit_of
+pub inside : (n w : ℕ) (p : ℤ) (y x j i : ℕ) → j < w → i < n → pos j ≡ p +ℤ pos i → bit_of
     (put_bits n w p y x) j ≡ bit_of y i
 inside zero w p y x j i below less e = absurd (omega (arith, less))
 inside (suc n) w p y x j i below less e = by (cases_lt i n) (λ l. inside n w p y _ j i below l e)

@@ -1,2 +1,3 @@
 pub mod Overlap
+pub mod Places
 pub mod Puts
