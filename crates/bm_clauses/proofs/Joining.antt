@@ -1,23 +1,25 @@
 -- From numbers of sources to choices of runs.
 use Rattle.std.specs.Prelude.{◌≡◌, refl, ℕ, zero, suc, ◌+◌, ◌<◌, ◌^◌, ◌==◌, ◌&&◌, Bool, true, false, not}
-use Rattle.std.specs.Prelude.{List, [], ◌∷◌, length, map, slice_index}
+use Rattle.std.specs.Prelude.{◌||◌, List, [], ◌∷◌, ◌++◌, length, map, slice_index, ℤ, pos}
 use Rattle.std.specs.List.{AllByRecursion}
-use Rattle.std.proofs.Common.{ap, sym, arith, subst, lit<}
+use Rattle.std.proofs.Common.{ap, sym, ◌∙◌, arith, subst, lit<}
+use Rattle.std.proofs.lemmas.Bool.{and_parts, and_from}
+use Rattle.std.proofs.lemmas.List.Folds.{list_all-append}
 use Rattle.std.proofs.lemmas.Bool.Decides.{nat_tests}
 use Rattle.wn_net.specs.Given.{AreNumbersOf}
 use Rattle.wn_net.specs.Net.{Netlist}
-use Rattle.cnf_form.specs.Cnf.{Cnf}
+use Rattle.cnf_form.specs.Cnf.{Cnf, clause_true, formula_true}
 use Rattle.bb_bits.specs.Bits.{number}
 use Rattle.bb_bits.proofs.Numbers.{number_fits}
 use Rattle.bb_blast.specs.declared.places.Placed.{Placed}
 use Rattle.bb_blast.specs.Choice.{bits_from, numbers_from, all_places}
 use Rattle.bb_blast.specs.Walk.{all_other_than_0, values_by}
-use Rattle.cnf_nodes.specs.Models.{AreOfWidths, ModelsAreNumbers, read_at}
+use Rattle.cnf_nodes.specs.Models.{AreOfWidths, AreTrue, ModelsAreNumbers, read_at}
 use Rattle.cnf_nodes.proofs.Joined.{inputs_in}
 use Rattle.cnf_nodes.proofs.Reading.{read_is}
 use Rattle.bm_unroll.specs.declared.frames.Frames.{Frames}
-use Rattle.bm_unroll.specs.Frames.{AreChosen, HasRoots, chosen, values_under}
-use Rattle.bm_clauses.specs.Runs.{ModelsAreRuns}
+use Rattle.bm_unroll.specs.Frames.{AreChosen, HasRoots, HasWatch, IsBadRun, chosen, values_under}
+use Rattle.bm_clauses.specs.Runs.{ModelsAreRuns, values_in}
 
 -- ---- all roots
 
@@ -84,21 +86,56 @@ of_widths (w ∷ ws) (n ∷ ns) h =
 
 -- ---- runs
 
-pub models_are_runs : (net : Netlist) (bad cycle : ℕ) (f : Frames) (places : List Placed) (formula : Cnf)
-    → places ≡ all_places 0 0 f.widths
+pub models_are_runs : (net : Netlist) (bad cycle : ℕ) (watch : List ℕ) (f : Frames) (places : List Placed)
+    (words : List (List ℕ)) (formula : Cnf) → places ≡ all_places 0 0 f.widths
     → ModelsAreNumbers f.widths (read_at places f.widths)
-    (λ numbers. all_other_than_0 (values_by f.widths f.nodes numbers) f.roots) formula
-    → AreChosen net f.widths f.sources → HasRoots net bad cycle f
-    → ModelsAreRuns net bad cycle f.sources (read_at places f.widths) formula
-models_are_runs net bad cycle f places formula e m chosen_are roots =
+    (λ numbers. all_other_than_0 (values_by f.widths f.nodes numbers) f.roots)
+    (λ numbers. map (λ i. slice_index (values_by f.widths f.nodes numbers) i) f.watch) words formula
+    → AreChosen net f.widths f.sources → HasRoots net bad cycle f → HasWatch net watch cycle f
+    → ModelsAreRuns net (IsBadRun net bad cycle) (values_in net cycle watch) f.sources (read_at places f.widths) words
+    formula
+models_are_runs net bad cycle watch f places words formula e m chosen_are roots watched =
     let H : List ℕ → Type 0 = λ ns. all_other_than_0 (values_by f.widths f.nodes ns) f.roots ≡ true in
     record {
+      before = m.before;
+      last = m.last;
       choice = λ v model. chosen_are.choice (read_at places f.widths v) (read_fits v places f.widths e);
-      sound = λ v ch model own same.
-          (roots ch own).0 (all_tested (values_under f ch) f.roots (subst H (sym same) (m.sound v model)));
-      complete = λ ch own is.
+      complete = λ ch own.
           m.complete (map (chosen ch) f.sources)
-          (of_widths f.widths (map (chosen ch) f.sources) (chosen_are.number ch own))
-          (tested_all (values_under f ch) f.roots ((roots ch own).1 is));
+          (of_widths f.widths (map (chosen ch) f.sources) (chosen_are.number ch own));
       unique = m.unique;
+      verdict = λ v ch model own same.
+          let to = λ (t : v formula.vars ≡ true).
+          (roots ch own).0
+          (all_tested (values_under f ch) f.roots (subst H (sym same) (sym (m.verdict v model) ∙ t))) in
+          let from = λ (is : IsBadRun net bad cycle ch).
+          m.verdict v model ∙ subst H same (tested_all (values_under f ch) f.roots ((roots ch own).1 is)) in
+          (to, from);
+      shows = λ v ch model own same.
+          m.shows v model
+          ∙ ap (λ ns. map (λ i. slice_index (values_by f.widths f.nodes ns) i) f.watch) (sym same) ∙ watched ch own;
     }
+
+-- ---- models of all clauses
+
+one_clause : (b : Bool) → ((b || false) && true) ≡ b
+one_clause true = refl
+one_clause false = refl
+
+-- a model of all clauses is one of those before the last in which the verdict is true
+pub parts : (before : List (List ℤ)) (formula : Cnf) (v : ℕ → Bool)
+    → formula.clauses ≡ before ++ (pos formula.vars ∷ []) ∷ [] → AreTrue formula.clauses v
+    → AreTrue before v × (v formula.vars ≡ true)
+parts before formula v last h =
+    let behind = (pos formula.vars ∷ []) ∷ [] in
+    let both = and_parts _ _ (sym (list_all-append (clause_true v) before behind) ∙ ap (formula_true v) (sym last)
+    ∙ h) in
+    (both.0, sym (one_clause (v formula.vars)) ∙ both.1)
+
+pub whole : (before : List (List ℤ)) (formula : Cnf) (v : ℕ → Bool)
+    → formula.clauses ≡ before ++ (pos formula.vars ∷ []) ∷ [] → AreTrue before v → v formula.vars ≡ true
+    → AreTrue formula.clauses v
+whole before formula v last h t =
+    let behind = (pos formula.vars ∷ []) ∷ [] in
+    ap (formula_true v) last ∙ list_all-append (clause_true v) before behind
+    ∙ and_from _ _ h (one_clause (v formula.vars) ∙ t)

@@ -6,8 +6,9 @@ ghost use Rattle.bb_operators.specs.Words.{AreWords};
 ghost use Rattle.bb_blast.specs.Choice.{numbers_of, all_places};
 ghost use Rattle.bb_blast.specs.Walk.{values_by, widths_by};
 ghost use Rattle.cnf_nodes.specs.Models.{read_at};
-ghost use Rattle.bm_unroll.specs.Frames.{AreDistinct, HasWatch, IsChoice, IsFrames, IsWithin, source_width};
-ghost use Rattle.bm_clauses.specs.Runs.{ModelsAreRuns};
+ghost use Rattle.bm_unroll.specs.Frames.{AreDistinct, HasWatch, IsBadRun, IsChoice, IsFrames, IsWithin};
+ghost use Rattle.bm_unroll.specs.Frames.{source_width};
+ghost use Rattle.bm_clauses.specs.Runs.{ModelsAreRuns, values_in};
 
 use bm_unroll::{Frames, unroll};
 use cnf_nodes::{Encoded, clauses_of_nodes};
@@ -23,8 +24,8 @@ pub struct RunClauses {
     pub encoded: Encoded,
 }
 
-/// The clauses whose models, read at the places, are exactly the choices of the runs that meet the assumptions up to a
-/// cycle and have the bad node other than 0 in it.
+/// The clauses of a net's runs up to a cycle, and the verdict behind them, which is true exactly in the runs that meet
+/// the assumptions up to the cycle and have the bad node other than 0 in it.
 pub fn clauses_of_runs(
     alloc: Global,
     net: &Net,
@@ -36,8 +37,9 @@ pub fn clauses_of_runs(
     requires watch { AreNodes net.now watch.now }
     requires within { IsWithin net.now }
     requires cycle { cycle ≤ 100 }
-    ensures models { IfOk result (λ r. ModelsAreRuns net.now bad cycle r.frames.sources
-        (read_at r.encoded.blasted.places r.frames.widths) r.encoded.formula) }
+    ensures models { IfOk result (λ r. ModelsAreRuns net.now (IsBadRun net.now bad cycle)
+        (values_in net.now cycle watch.now) r.frames.sources (read_at r.encoded.blasted.places r.frames.widths)
+        r.encoded.blasted.watch r.encoded.formula) }
     ensures places { IfOk result (λ r. r.encoded.blasted.places ≡ all_places 0 0 r.frames.widths) }
     ensures frames { IfOk result (λ r. IsFrames r.frames) }
     ensures watch { IfOk result (λ r. HasWatch net.now watch.now cycle r.frames) }

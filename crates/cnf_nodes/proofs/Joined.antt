@@ -1,19 +1,19 @@
--- The models of a graph's clauses are the choices for which its root is true.
-use Rattle.std.specs.Prelude.{◌≡◌, refl, ℕ, ◌+◌, ◌<◌, ◌≤◌, ◌==◌}
-use Rattle.std.specs.Prelude.{if◌then◌else◌, Bool, true, false, ◌&&◌, ◌||◌, List, [], ◌∷◌}
-use Rattle.std.specs.Prelude.{length, slice_index_or, pos}
+-- The models of a graph's clauses before the last are the choices of inputs.
+use Rattle.std.specs.Prelude.{◌≡◌, refl, ℕ, zero, suc, ◌+◌, ◌/◌, ◌<◌, ◌≤◌, ◌==◌}
+use Rattle.std.specs.Prelude.{if◌then◌else◌, Bool, false, List, [], ◌∷◌, ◌++◌}
+use Rattle.std.specs.Prelude.{length, slice_index_or, ℤ, pos}
 use Rattle.std.proofs.Common.{ap, sym, ◌∙◌, arith, inl, inr}
-use Rattle.std.proofs.lemmas.List.Folds.{list_all-append}
-use Rattle.std.proofs.lemmas.Bool.{cases_lt, and_parts, and_from, eq-eqb, ne_eqb}
+use Rattle.std.proofs.lemmas.Bool.{cases_lt, eq-eqb, ne_eqb}
 use Rattle.std.proofs.lemmas.Option.{slice_get_within}
 use Rattle.bb_aig.specs.declared.node.AigNode.{AigNode}
 use Rattle.bb_aig.specs.declared.node.AigNode.TheVariants as n
-use Rattle.bb_aig.specs.Graph.{IsGraph, inputs_of, values_of, lit_at}
+use Rattle.bb_aig.specs.Graph.{IsGraph, IsLit, inputs_of, is_negated, lit_at, turned, values_of}
+use Rattle.bb_aig.proofs.Gates.{first_value}
 use Rattle.bb_gates.specs.Gates.{Meaning, IsMade}
 use Rattle.bb_blast.specs.Choice.{InputsAreFirst}
-use Rattle.cnf_form.specs.Cnf.{Cnf, clause_true, formula_true}
+use Rattle.cnf_form.specs.Cnf.{Cnf}
 use Rattle.cnf_gates.specs.Clauses.{Tells, IsModelOf}
-use Rattle.cnf_nodes.specs.Models.{IsModel}
+use Rattle.cnf_nodes.specs.Models.{AreTrue, value_in}
 use Rattle.cnf_nodes.proofs.Inputs.{read_there, input_value}
 
 -- what values of variables say of the inputs
@@ -24,38 +24,24 @@ inputs_in v i = v (i + 1)
 abbrev pub AreSame : ℕ → (ℕ → Bool) → (ℕ → Bool) → Type 0
 AreSame inputs x y = (i : ℕ) → i < inputs → x i ≡ y i
 
--- each model is a choice that holds; each such choice is that of a model, and of no other one
-pub record ModelsAreChoices (inputs : ℕ) (holds : (ℕ → Bool) → Bool) (formula : Cnf) : Type 0 where
-  pub sound : (v : ℕ → Bool) → IsModel formula v → holds (inputs_in v) ≡ true
-  pub complete : (x : ℕ → Bool) → holds x ≡ true
-      → (v : ℕ → Bool) × IsModel formula v × AreSame inputs (inputs_in v) x
-  pub unique : (v w : ℕ → Bool) → IsModel formula v → IsModel formula w
+-- the clauses before the last have one model for each choice, in which the verdict and the literals have their values
+pub record ModelsAreChoices (inputs : ℕ) (holds : (ℕ → Bool) → Bool) (graph : List AigNode) (formula : Cnf)
+    : Type 0 where
+  pub before : List (List ℤ)
+  pub last : formula.clauses ≡ before ++ (pos formula.vars ∷ []) ∷ []
+  pub verdict : (v : ℕ → Bool) → AreTrue before v → v formula.vars ≡ holds (inputs_in v)
+  pub complete : (x : ℕ → Bool) → (v : ℕ → Bool) × AreTrue before v × AreSame inputs (inputs_in v) x
+  pub unique : (v w : ℕ → Bool) → AreTrue before v → AreTrue before w
       → AreSame inputs (inputs_in v) (inputs_in w)
       → (k : ℕ) → 1 ≤ k → k ≤ formula.vars → v k ≡ w k
-
-one_clause : (b : Bool) → ((b || false) && true) ≡ b
-one_clause true = refl
-one_clause false = refl
-
-last_true : (v : ℕ → Bool) (k : ℕ) → formula_true v ((pos k ∷ []) ∷ []) ≡ v k
-last_true v k = one_clause (v k)
-
--- a model makes the clauses before the last true, and the verdict
-parts : (graph : List AigNode) (root : ℕ) (formula : Cnf) (t : Tells graph root formula) (v : ℕ → Bool)
-    → IsModel formula v
-    → (formula_true v t.before ≡ true) × (v (length graph) ≡ true)
-parts graph root formula t v h =
-    let last = (pos (length graph) ∷ []) ∷ [] in
-    let both = and_parts _ _ (sym (list_all-append (clause_true v) t.before last) ∙ ap (formula_true v) (sym t.last)
-    ∙ h) in
-    (both.0, sym (last_true v (length graph)) ∙ both.1)
+  pub literal : (v : ℕ → Bool) → AreTrue before v → (l : ℕ) → IsLit graph l
+      → value_in v l ≡ lit_at graph (inputs_in v) l
 
 model_of : (graph : List AigNode) (root : ℕ) (formula : Cnf) → IsGraph graph → InputsAreFirst graph
-    → Tells graph root formula → (x v : ℕ → Bool) → AreSame (inputs_of graph) (inputs_in v) x
-    → IsModel formula v
+    → (t : Tells graph root formula) (x v : ℕ → Bool) → AreSame (inputs_of graph) (inputs_in v) x
+    → AreTrue t.before v
     → IsModelOf graph root x v
-model_of graph root formula g first t x v same h =
-    t.only x v (read_there graph x v g first same) (parts graph root formula t v h).0
+model_of graph root formula g first t x v same h = t.only x v (read_there graph x v g first same) h
 
 -- the values of the nodes, and of the root behind them
 abbrev values_with : List AigNode → ℕ → (ℕ → Bool) → ℕ → Bool
@@ -72,31 +58,37 @@ is_model_of graph root x =
       verdict = ap (λ b. pick b (length graph)) (eq-eqb (length graph) (length graph) refl);
     }
 
-chosen : (graph : List AigNode) (root : ℕ) (formula : Cnf) (holds : Meaning) → IsMade graph holds root
-    → Tells graph root formula → (x : ℕ → Bool) → holds x ≡ true
-    → IsModel formula (values_with graph root x)
-chosen graph root formula holds made t x h =
-    let v = values_with graph root x in
-    let last = (pos (length graph) ∷ []) ∷ [] in
-    let m = is_model_of graph root x in
-    ap (formula_true v) t.last ∙ list_all-append (clause_true v) t.before last
-    ∙ and_from _ _ (t.extends x v m) (last_true v (length graph) ∙ m.verdict ∙ made.value x ∙ h)
+literal_by : (graph : List AigNode) (root : ℕ) (x v : ℕ → Bool) → IsGraph graph → IsModelOf graph root x v
+    → (l n : ℕ) → l / 2 ≡ n → n < length graph
+    → turned (is_negated l) (if n == 0 then false else v n)
+    ≡ turned (is_negated l) (slice_index_or (values_of graph x) n false)
+literal_by graph root x v g m l zero e less = ap (turned (is_negated l)) (sym (first_value graph x g.begins))
+literal_by graph root x v g m l (suc n) e less =
+    let some : (suc n == 0) ≡ false = ne_eqb (suc n) 0 (λ z. omega (arith, z)) in
+    ap (λ b. turned (is_negated l) (if b then false else v (suc n))) some
+    ∙ ap (turned (is_negated l)) (m.nodes (suc n) (omega arith) less)
+
+literal_value : (graph : List AigNode) (root : ℕ) (x v : ℕ → Bool) → IsGraph graph → IsModelOf graph root x v
+    → (l : ℕ) → IsLit graph l → value_in v l ≡ lit_at graph x l
+literal_value graph root x v g m l there = literal_by graph root x v g m l (l / 2) refl (omega arith)
 
 pub joined : (graph : List AigNode) (root inputs : ℕ) (holds : Meaning) (formula : Cnf) → IsGraph graph
     → InputsAreFirst graph → inputs_of graph ≡ inputs → IsMade graph holds root → Tells graph root formula
-    → ModelsAreChoices inputs holds formula
+    → ModelsAreChoices inputs holds graph formula
 joined graph root inputs holds formula g first count made t = record {
-  sound = λ v h.
+  before = t.before;
+  last = t.last ∙ ap (λ n. t.before ++ (pos n ∷ []) ∷ []) (sym t.vars);
+  verdict = λ v h.
       let m = model_of graph root formula g first t (inputs_in v) v (λ i below. refl) h in
-      sym (made.value (inputs_in v)) ∙ sym m.verdict ∙ (parts graph root formula t v h).1;
-  complete = λ x h.
+      ap v t.vars ∙ m.verdict ∙ made.value (inputs_in v);
+  complete = λ x.
       let v = values_with graph root x in
       let m = is_model_of graph root x in
       let same : AreSame inputs (inputs_in v) x = λ i below.
       let less : i < inputs_of graph = omega arith in
       m.nodes (i + 1) (omega arith) (slice_get_within graph (i + 1) (n.Input i) (first.nodes i less))
       ∙ input_value graph x first i less in
-      (v, chosen graph root formula holds made t x h, same);
+      (v, t.extends x v m, same);
   unique = λ v w h k same j some below.
       let x = inputs_in v in
       let one = model_of graph root formula g first t x v (λ i less. refl) h in
@@ -107,4 +99,7 @@ joined graph root inputs holds formula g first count made t = record {
             let is : j ≡ length graph = omega (arith, t.vars) in
             ap v is ∙ one.verdict ∙ sym two.verdict ∙ ap w (sym is)
       ];
+  literal = λ v h l there.
+      literal_value graph root (inputs_in v) v g
+      (model_of graph root formula g first t (inputs_in v) v (λ i below. refl) h) l there;
 }

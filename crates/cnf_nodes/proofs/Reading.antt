@@ -1,18 +1,23 @@
 -- Numbers of sources and the bits that they are read from.
 use Rattle.std.specs.Prelude.{◌≡◌, refl, ℕ, zero, suc, ◌+◌, ◌-◌, ◌*◌, ◌/◌, ◌%◌, ◌<◌}
 use Rattle.std.specs.Prelude.{◌≤◌, ◌^◌, ◌==◌, nat_lt, if◌then◌else◌, Bool, true, false, List, []}
-use Rattle.std.specs.Prelude.{◌∷◌, ◌++◌, sum}
+use Rattle.std.specs.Prelude.{◌∷◌, ◌++◌, sum, length, map, slice_index, slice_index_or}
 use Rattle.std.proofs.Common.{ap, sym, ◌∙◌, arith, append_assoc, append-nil, inl, inr}
 use Rattle.std.proofs.lemmas.List.Sums.{sum_by-cons}
 use Rattle.std.proofs.lemmas.Bool.{cases_lt, eq-eqb, ne_eqb, lt-ltb, le-ltb}
 use Rattle.fv_bits.specs.Bits.{bit}
+use Rattle.bb_aig.specs.declared.node.AigNode.{AigNode}
+use Rattle.bb_aig.specs.Graph.{IsLit, lit_at}
 use Rattle.bb_bits.specs.Bits.{number}
 use Rattle.bb_bits.proofs.Numbers.{pow_next}
+use Rattle.bb_gates.specs.Gates.{AreLits, bits}
+use Rattle.bb_operators.specs.Words.{AreWords, Numbers}
 use Rattle.bb_operators.proofs.Numbers.{halves}
 use Rattle.bb_blast.specs.declared.places.Placed.{Placed}
 use Rattle.bb_blast.specs.Choice.{bits_from, numbers_from, numbers_of, places_from, all_places}
 use Rattle.cnf_form.specs.Cnf.{Cnf}
 use Rattle.cnf_nodes.specs.Models.{bits_at, numbers_at, read_at, AreOfWidths, ModelsAreNumbers}
+use Rattle.cnf_nodes.specs.Models.{value_in, number_in}
 use Rattle.cnf_nodes.proofs.Joined.{inputs_in, ModelsAreChoices}
 
 -- ---- the places of a source
@@ -180,18 +185,50 @@ numbers_back x at (w ∷ ws) (n ∷ ns) of h =
     ap (λ m. m ∷ numbers_from x (at + w) ws) (number_back x at w n of.0 here)
     ∙ ap (λ ms. n ∷ ms) (numbers_back x (at + w) ws ns of.1 next)
 
+-- ---- words of literals
+
+bits_in : (graph : List AigNode) (v x : ℕ → Bool) (lits : List ℕ) → AreLits graph lits
+    → ((l : ℕ) → IsLit graph l → value_in v l ≡ lit_at graph x l) → map (value_in v) lits ≡ bits graph x lits
+bits_in graph v x [] h same = refl
+bits_in graph v x (l ∷ ls) h same =
+    ap (λ b. b ∷ map (value_in v) ls) (same l h.0)
+    ∙ ap (λ bs. lit_at graph x l ∷ bs) (bits_in graph v x ls h.1 same)
+
+each_word : (v : ℕ → Bool) (table : List (List ℕ)) (ns : List ℕ) → length table ≡ length ns
+    → ((i : ℕ) → i < length table → number_in v (slice_index_or table i []) ≡ slice_index ns i)
+    → map (number_in v) table ≡ ns
+each_word v [] [] e h = refl
+each_word v [] (n ∷ ns) e h = absurd (omega (arith, e))
+each_word v (t ∷ ts) [] e h = absurd (omega (arith, e))
+each_word v (t ∷ ts) (n ∷ ns) e h =
+    ap (λ m. m ∷ map (number_in v) ts) (h 0 (omega arith))
+    ∙ ap (λ ms. n ∷ ms) (each_word v ts ns (omega (arith, e)) (λ i less. h (suc i) (omega (arith, less))))
+
+words_are : (graph : List AigNode) (widths : List ℕ) (means : Numbers) (table : List (List ℕ)) (v x : ℕ → Bool)
+    → AreWords graph widths means table → ((l : ℕ) → IsLit graph l → value_in v l ≡ lit_at graph x l)
+    → length table ≡ length (means x) → map (number_in v) table ≡ means x
+words_are graph widths means table v x words same e = each_word v table (means x) e
+    (λ i less.
+    let word = words.words i less in
+    ap number (bits_in graph v x (slice_index_or table i []) word.there same) ∙ word.value x)
+
 -- ---- models by numbers
 
-pub by_numbers : (places : List Placed) (ws : List ℕ) (holds : List ℕ → Bool) (formula : Cnf)
-    → places ≡ all_places 0 0 ws → ModelsAreChoices (sum ws) (λ x. holds (numbers_of ws x)) formula
-    → ModelsAreNumbers ws (read_at places ws) holds formula
-by_numbers places ws holds formula e m = record {
-  sound = λ v h. ap holds (read_is v places ws e) ∙ m.sound v h;
-  complete = λ ns of h.
+pub by_numbers : (places : List Placed) (ws : List ℕ) (holds : List ℕ → Bool) (graph : List AigNode)
+    (shown : List ℕ → List ℕ) (widths : List ℕ) (words : List (List ℕ)) (formula : Cnf)
+    → places ≡ all_places 0 0 ws → AreWords graph widths (λ x. shown (numbers_of ws x)) words
+    → ((ns : List ℕ) → length words ≡ length (shown ns))
+    → ModelsAreChoices (sum ws) (λ x. holds (numbers_of ws x)) graph formula
+    → ModelsAreNumbers ws (read_at places ws) holds shown words formula
+by_numbers places ws holds graph shown widths words formula e are each m = record {
+  before = m.before;
+  last = m.last;
+  verdict = λ v h. m.verdict v h ∙ ap holds (sym (read_is v places ws e));
+  complete = λ ns of.
       let x = choice ws ns in
       let back : numbers_of ws x ≡ ns =
       numbers_back x 0 ws ns of (λ j. let z : 0 + j ≡ j = omega arith in ap x z) in
-      let made = m.complete x (ap holds back ∙ h) in
+      let made = m.complete x in
       let v = made.0 in
       let same : numbers_of ws (inputs_in v) ≡ numbers_of ws x =
       same_numbers (inputs_in v) x 0 ws
@@ -204,4 +241,8 @@ by_numbers places ws holds formula e m = record {
       (λ i less.
       let z : 0 + i ≡ i = omega arith in
       sym (ap (inputs_in v) z) ∙ numbers_alike (inputs_in v) (inputs_in w) 0 ws same i less ∙ ap (inputs_in w) z);
+  shows = λ v h.
+      let x = inputs_in v in
+      words_are graph widths (λ y. shown (numbers_of ws y)) words v x are (m.literal v h) (each (numbers_of ws x))
+      ∙ ap shown (sym (read_is v places ws e));
 }

@@ -1,13 +1,22 @@
 -- The models of clauses, read at the places of sources (rule of this project).
-use Rattle.std.specs.Prelude.{◌≡◌, ℕ, ◌+◌, ◌<◌, ◌≤◌, ◌^◌, ◌==◌, if◌then◌else◌, Bool}
-use Rattle.std.specs.Prelude.{true, List, [], ◌∷◌}
+use Rattle.std.specs.Prelude.{◌≡◌, ℕ, ◌+◌, ◌/◌, ◌<◌, ◌≤◌, ◌^◌, ◌==◌, if◌then◌else◌, Bool, true, false}
+use Rattle.std.specs.Prelude.{List, [], ◌∷◌, ◌++◌, map, ℤ, pos}
 use Rattle.cnf_form.specs.Cnf.{Cnf, formula_true}
+use Rattle.bb_aig.specs.Graph.{is_negated, turned}
 use Rattle.bb_bits.specs.Bits.{number}
 use Rattle.bb_blast.specs.declared.places.Placed.{Placed}
 
 -- values make each clause true
-abbrev pub IsModel : Cnf → (ℕ → Bool) → Type 0
-IsModel formula v = formula_true v formula.clauses ≡ true
+abbrev pub AreTrue : List (List ℤ) → (ℕ → Bool) → Type 0
+AreTrue clauses v = formula_true v clauses ≡ true
+
+-- the value of a graph's literal: variable n is node n, and node 0 is false
+abbrev pub value_in : (ℕ → Bool) → ℕ → Bool
+value_in v lit = turned (is_negated lit) (if lit / 2 == 0 then false else v (lit / 2))
+
+-- the number that literals are the bits of, the lowest first
+abbrev pub number_in : (ℕ → Bool) → List ℕ → ℕ
+number_in v lits = number (map (value_in v) lits)
 
 -- the bits of a source, the lowest first: the values of the variables at its places
 abbrev pub bits_at : (ℕ → Bool) → ℕ → List Placed → List Bool
@@ -28,11 +37,15 @@ AreOfWidths [] [] = Unit {0}
 AreOfWidths (w ∷ ws) (n ∷ ns) = (n < 2 ^ w) × AreOfWidths ws ns
 AreOfWidths ws ns = ⊥
 
--- Each model is read as numbers that hold; all numbers that hold are those of a model, and of no other one.
+-- The last clause is the verdict alone. The clauses before it have one model for each list of numbers, and no other
+-- ones; in it the verdict is true exactly where the numbers hold, and words of literals are what is shown of them.
 pub record ModelsAreNumbers (widths : List ℕ) (read : (ℕ → Bool) → List ℕ) (holds : List ℕ → Bool)
-    (formula : Cnf) : Type 0 where
-  pub sound : (v : ℕ → Bool) → IsModel formula v → holds (read v) ≡ true
-  pub complete : (numbers : List ℕ) → AreOfWidths widths numbers → holds numbers ≡ true
-      → (v : ℕ → Bool) × IsModel formula v × (read v ≡ numbers)
-  pub unique : (v w : ℕ → Bool) → IsModel formula v → IsModel formula w → read v ≡ read w
+    (shown : List ℕ → List ℕ) (words : List (List ℕ)) (formula : Cnf) : Type 0 where
+  pub before : List (List ℤ)
+  pub last : formula.clauses ≡ before ++ (pos formula.vars ∷ []) ∷ []
+  pub verdict : (v : ℕ → Bool) → AreTrue before v → v formula.vars ≡ holds (read v)
+  pub complete : (numbers : List ℕ) → AreOfWidths widths numbers
+      → (v : ℕ → Bool) × AreTrue before v × (read v ≡ numbers)
+  pub unique : (v w : ℕ → Bool) → AreTrue before v → AreTrue before w → read v ≡ read w
       → (k : ℕ) → 1 ≤ k → k ≤ formula.vars → v k ≡ w k
+  pub shows : (v : ℕ → Bool) → AreTrue before v → map (number_in v) words ≡ shown (read v)

@@ -22,8 +22,8 @@ pub struct Encoded {
     pub blasted: Blasted,
 }
 
-/// The clauses whose models, read at the places, are exactly the numbers of the sources for which all roots are other
-/// than 0.
+/// The clauses of nodes and the verdict behind them: their models, read at the places, are exactly the numbers of the
+/// sources for which all roots are other than 0, and without the verdict all numbers.
 pub fn clauses_of_nodes(
     alloc: Global,
     widths: &[u32],
@@ -37,7 +37,9 @@ pub fn clauses_of_nodes(
     requires roots { AllByRecursion (λ i. i < length nodes.now) roots.now }
     requires watch { AllByRecursion (λ i. i < length nodes.now) watch.now }
     ensures models { IfOk result (λ e. ModelsAreNumbers widths.now (read_at e.blasted.places widths.now)
-        (λ numbers. all_other_than_0 (values_by widths.now nodes.now numbers) roots.now) e.formula) }
+        (λ numbers. all_other_than_0 (values_by widths.now nodes.now numbers) roots.now)
+        (λ numbers. map (λ i. slice_index (values_by widths.now nodes.now numbers) i) watch.now) e.blasted.watch
+        e.formula) }
     ensures places { IfOk result (λ e. e.blasted.places ≡ all_places 0 0 widths.now) }
     ensures watch { IfOk result (λ e. AreWords e.blasted.graph
         (map (λ i. slice_index (widths_by widths.now nodes.now) i) watch.now)

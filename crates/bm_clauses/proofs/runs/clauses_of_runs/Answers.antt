@@ -53,20 +53,22 @@ pub returns-clause-models : goal.returns-clause-models
 returns-clause-models c =
     let f = c.in_ok-frames.frames in
     let formula = c.in_ok-encoded.encoded.formula in
-    let places = c.in_ok-encoded.encoded.blasted.places in
+    let b = c.in_ok-encoded.encoded.blasted in
     let ns = c.as_slice-nodes.result.now in
     let rs = c.as_slice-roots.result.now in
-    let W : List ℕ → Type 0 = λ ws. ModelsAreNumbers ws (read_at places ws)
-    (λ numbers. all_other_than_0 (values_by ws ns numbers) rs) formula in
-    let N : List Node → Type 0 = λ nodes. ModelsAreNumbers f.widths (read_at places f.widths)
-    (λ numbers. all_other_than_0 (values_by f.widths nodes numbers) rs) formula in
-    let R : List ℕ → Type 0 = λ roots. ModelsAreNumbers f.widths (read_at places f.widths)
-    (λ numbers. all_other_than_0 (values_by f.widths f.nodes numbers) roots) formula in
-    models_are_runs c.args.net.now c.args.bad c.args.cycle f places formula
+    let ids = c.as_slice-watched.result.now in
+    let Of : List ℕ → List Node → List ℕ → List ℕ → Type 0 = λ ws nodes roots watch.
+    ModelsAreNumbers ws (read_at b.places ws) (λ numbers. all_other_than_0 (values_by ws nodes numbers) roots)
+    (λ numbers. map (λ i. slice_index (values_by ws nodes numbers) i) watch) b.watch formula in
+    let W : List ℕ → Type 0 = λ ws. Of ws ns rs ids in
+    let N : List Node → Type 0 = λ nodes. Of f.widths nodes rs ids in
+    let R : List ℕ → Type 0 = λ roots. Of f.widths f.nodes roots ids in
+    let I : List ℕ → Type 0 = λ watch. Of f.widths f.nodes f.roots watch in
+    models_are_runs c.args.net.now c.args.bad c.args.cycle c.args.watch.now f b.places b.watch formula
     (c.in_ok-encoded.ensures.places ∙ ap (all_places 0 0) c.as_slice-widths.ensures)
-    (subst R c.as_slice-roots.ensures (subst N c.as_slice-nodes.ensures
-    (subst W c.as_slice-widths.ensures c.in_ok-encoded.ensures.models)))
-    c.in_ok-frames.ensures.chosen c.in_ok-frames.ensures.roots
+    (subst I c.as_slice-watched.ensures (subst R c.as_slice-roots.ensures (subst N c.as_slice-nodes.ensures
+    (subst W c.as_slice-widths.ensures c.in_ok-encoded.ensures.models))))
+    c.in_ok-frames.ensures.chosen c.in_ok-frames.ensures.roots c.in_ok-frames.ensures.watch
 
 pub returns-clause-places : goal.returns-clause-places
 returns-clause-places c = c.in_ok-encoded.ensures.places ∙ ap (all_places 0 0) c.as_slice-widths.ensures

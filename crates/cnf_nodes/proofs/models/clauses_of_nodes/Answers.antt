@@ -1,6 +1,8 @@
-use Rattle.std.specs.Prelude.{sum, ℕ, List}
+use Rattle.std.specs.Prelude.{◌≡◌, length, map, slice_index, sum, ℕ, List}
+use Rattle.std.proofs.Common.{sym, ◌∙◌}
+use Rattle.std.proofs.lemmas.List.{length-map}
 use Rattle.bb_blast.specs.Choice.{numbers_of}
-use Rattle.bb_blast.specs.Walk.{values_by, all_other_than_0}
+use Rattle.bb_blast.specs.Walk.{values_by, widths_by, all_other_than_0}
 use Rattle.cnf_nodes.proofs.Joined.{joined}
 use Rattle.cnf_nodes.proofs.Reading.{by_numbers}
 use Rattle.cnf_nodes.proofs.models.clauses_of_nodes.Goals as goal
@@ -11,8 +13,16 @@ clauses_of-requires c = c.in_ok-blasted.ensures.root.there
 pub returns-clause-models : goal.returns-clause-models
 returns-clause-models c =
     let wi = c.args.widths.now in
+    let b = c.in_ok-blasted.blasted in
+    let ids = c.args.watch.now in
+    let own = λ (i : ℕ). slice_index (widths_by wi c.args.nodes.now) i in
     let holds = λ (numbers : List ℕ). all_other_than_0 (values_by wi c.args.nodes.now numbers) c.args.roots.now in
-    by_numbers c.in_ok-blasted.blasted.places wi holds c.in_ok-formula.formula c.in_ok-blasted.ensures.places
-    (joined c.in_ok-blasted.blasted.graph c.in_ok-blasted.blasted.root (sum wi) (λ x. holds (numbers_of wi x))
+    let shown = λ (numbers : List ℕ). map (λ i. slice_index (values_by wi c.args.nodes.now numbers) i) ids in
+    let each : (ns : List ℕ) → length b.watch ≡ length (shown ns) = λ ns.
+    c.in_ok-blasted.ensures.watch.each ∙ length-map ids own
+    ∙ sym (length-map ids (λ i. slice_index (values_by wi c.args.nodes.now ns) i)) in
+    by_numbers b.places wi holds b.graph shown (map own ids) b.watch c.in_ok-formula.formula
+    c.in_ok-blasted.ensures.places c.in_ok-blasted.ensures.watch each
+    (joined b.graph b.root (sum wi) (λ x. holds (numbers_of wi x))
     c.in_ok-formula.formula c.len.ensures.whole c.in_ok-blasted.ensures.first c.in_ok-blasted.ensures.inputs
     c.in_ok-blasted.ensures.root c.in_ok-formula.ensures)
