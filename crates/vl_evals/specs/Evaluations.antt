@@ -28,7 +28,7 @@ use Rattle.wn_net.specs.Given.{IsGiven}
 use Rattle.wn_net.specs.Names.{AreNamesOf, HaveAll, ShowNames}
 use Rattle.wn_net.specs.Next.{next_state}
 use Rattle.wn_run.specs.Runs.{Choices, AreChoicesOf, IsMet, cycle_at, inputs_at, start_of}
-use Rattle.vl_evals.specs.Maps.{map_of, given_of, state_of}
+use Rattle.vl_evals.specs.Maps.{AreEntriesOf, given_of, listed, map_of, state_of}
 
 -- the state is one in which a run may begin
 pub record IsStart (net : Netlist) (s : State) : Type 0 where
@@ -54,7 +54,8 @@ KeepOnce net numbers later =
     (i : ℕ) (x : Input) → slice_get net.inputs i ≡ Some x → OnceIs x.kind (slice_index later i) (slice_index numbers i)
 
 pub record IsLowered (ps : List Part) (net : Netlist) (names : Names) : Type 0 where
-  -- each input, register and memory has its entry, and its bits are the named ones
+  -- each declared name has its entry, each input, register and memory too, and its bits are the named ones
+  pub entries : AreEntriesOf (listed ps) names.list
   pub named : AreNamesOf net names
   pub all : HaveAll net names
   pub shown : (g : Given) → IsGiven net g → ShowNames net names g

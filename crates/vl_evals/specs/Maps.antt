@@ -1,7 +1,11 @@
 -- The map of names to numbers that a net has in a cycle, by the names of a design, and back. Rule of this project.
-use Rattle.std.specs.Prelude.{ℕ, ◌+◌, ◌*◌, List, [], ◌∷◌, map, Option, Some, None, position, bytes_eq, slice_get}
+use Rattle.std.specs.Prelude.{◌≡◌, ℕ, ◌+◌, ◌*◌, if◌then◌else◌, List, [], ◌∷◌, map, Option, Some, None}
+use Rattle.std.specs.Prelude.{position, bytes_eq, slice_get}
+use Rattle.vl_size.specs.declared.decl.Decl.{Decl}
 use Rattle.vl_size.specs.Size.{Values}
 use Rattle.vl_mean.specs.Cells.{cells_of}
+use Rattle.vl_mean.specs.Parts.{Part, declares}
+use Rattle.vl_mean.specs.Scopes.{is_clock_class}
 use Rattle.vl_mean.specs.Targets.{bit_of}
 use Rattle.wn_net.specs.declared.names.Place.{Place}
 use Rattle.wn_net.specs.declared.names.Place.TheVariants as place
@@ -12,6 +16,26 @@ use Rattle.wn_net.specs.declared.parts.State.{State}
 use Rattle.wn_net.specs.Value.{Given, word_at, words_of}
 use Rattle.wn_net.specs.Net.{Netlist, value_at}
 use Rattle.wn_net.specs.Given.{given}
+
+-- ---- declared names and the entries of a net's names
+
+-- the declared names of a design in their order, the clock left out
+abbrev pub listed : List Part → List Decl
+listed [] = []
+listed (declares d ∷ ps) = if is_clock_class d.class then listed ps else d ∷ listed ps
+listed (p ∷ ps) = listed ps
+
+pub record IsEntryOf (d : Decl) (x : NetName) : Type 0 where
+  pub text : x.text ≡ d.name
+  pub width : x.width ≡ d.width
+  pub output : x.output ≡ d.output
+  pub words : x.words ≡ d.words
+
+-- one entry for each
+abbrev pub AreEntriesOf : List Decl → List NetName → Type 0
+AreEntriesOf [] [] = Unit {0}
+AreEntriesOf (d ∷ ds) (x ∷ xs) = IsEntryOf d x × AreEntriesOf ds xs
+AreEntriesOf ds xs = ⊥
 
 -- ---- from numbers of a net to a map
 
