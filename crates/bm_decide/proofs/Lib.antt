@@ -1,0 +1,4 @@
+pub mod Carried
+pub mod Channels
+pub mod Sources
+pub mod Tight

@@ -1,0 +1,4 @@
+pub mod Bound
+pub mod Carried
+pub mod Entries
+pub mod Violating

@@ -1,0 +1,69 @@
+-- When clauses with notes say exactly what the runs of a design are, and which of them violate a check (rule of this
+-- project).
+use Rattle.std.specs.Prelude.{◌≡◌, ◌↔◌, ℕ, ◌+◌, ◌*◌, ◌<◌, ◌≤◌, ◌==◌, Bool, true, false, List, [], ◌∷◌, ◌++◌}
+use Rattle.std.specs.Prelude.{Some, slice_get, ℤ, pos}
+use Rattle.std.specs.Int.{bit_at}
+use Rattle.std.specs.List.{AllByRecursion}
+use Rattle.rv_table.specs.declared.retire.Opts.{Opts}
+use Rattle.vl_size.specs.Size.{Values}
+use Rattle.vl_mean.specs.Parts.{Part}
+use Rattle.vl_mean.specs.Runs.{IsAssumed, IsRun}
+use Rattle.wn_net.specs.declared.names.Names.{Names}
+use Rattle.wn_net.specs.Net.{Netlist, IsNet}
+use Rattle.cnf_form.specs.Cnf.{Cnf}
+use Rattle.cnf_nodes.specs.Models.{AreTrue, value_in}
+use Rattle.rvfi_port.specs.declared.field.Field.{Field}
+use Rattle.rvfi_port.specs.declared.port.Port.{Port}
+use Rattle.rvfi_port.specs.declared.port.Wants.{Wants}
+use Rattle.rvfi_port.specs.Fields.{channel_fields, field_name, field_width}
+use Rattle.ck_cfg.specs.declared.check.Check.{Check}
+use Rattle.ck_cfg.specs.Lawful.{IsCheck}
+use Rattle.bm_decide.specs.declared.verdict.Certificate.{Certificate}
+use Rattle.bm_decide.specs.Verdicts as verdict
+use Rattle.ck_design.specs.Retirements.{holds_over, values_at}
+use Rattle.ck_design.specs.Loaded.{IsLoaded}
+use Rattle.ck_notes.specs.declared.note.Note.{Note}
+use Rattle.ck_notes.specs.Notes.{notes_of}
+
+-- the literal of a note has the value of the bit that it names
+abbrev pub AgreeAt : (ℕ → Bool) → List Values → Note → Type 0
+AgreeAt v run note = value_in v note.literal ≡ (bit_at (values_at run note.cycle note.name) note.bit == 1)
+
+-- values agree with a run at all notes
+abbrev pub Agree : (ℕ → Bool) → List Values → List Note → Type 0
+Agree v run notes = AllByRecursion (AgreeAt v run) notes
+
+-- the bit of the channel's field in the cycle has a note
+pub record IsNoted (notes : List Note) (channel cycle : ℕ) (field : Field) (bit : ℕ) : Type 0 where
+  pub place : ℕ
+  pub note : Note
+  pub there : slice_get notes place ≡ Some note
+  pub name : note.name ≡ field_name field
+  pub cycle_is : note.cycle ≡ cycle
+  pub bit_is : note.bit ≡ channel * field_width field + bit
+
+-- The last clause is one literal, the verdict. Each run up to the check's cycle agrees with exactly one model of the
+-- clauses before it, and each such model with a run. Where they agree, the verdict is true exactly where the run is
+-- assumed and lacks the check's property. Each bit of each field of the check's channel in its cycle has a note.
+pub record IsTight (ps : List Part) (channels : ℕ) (wants : Wants) (check : Check) (opts : Opts) (notes : List Note)
+    (formula : Cnf) : Type 0 where
+  pub before : List (List ℤ)
+  pub last : formula.clauses ≡ before ++ (pos formula.vars ∷ []) ∷ []
+  pub model : (run : List Values) → IsRun ps check.cycle run
+      → (v : ℕ → Bool) × AreTrue before v × Agree v run notes
+  pub one : (run : List Values) (v w : ℕ → Bool) → IsRun ps check.cycle run → AreTrue before v → AreTrue before w
+      → Agree v run notes → Agree w run notes → (k : ℕ) → 1 ≤ k → k ≤ formula.vars → v k ≡ w k
+  pub run : (v : ℕ → Bool) → AreTrue before v → (run : List Values) × IsRun ps check.cycle run × Agree v run notes
+  pub verdict : (v : ℕ → Bool) (run : List Values) → AreTrue before v → IsRun ps check.cycle run → Agree v run notes
+      → (v formula.vars ≡ true)
+      ↔ (IsAssumed ps run × (holds_over run channels wants check opts ≡ false))
+  pub fields : AllByRecursion (λ field. (bit : ℕ) → bit < field_width field
+      → IsNoted notes check.channel check.cycle field bit) channel_fields
+
+-- the clauses that a check is decided by, with their notes, say so of the design of the net
+abbrev pub CertificatesAreTight : Type 0
+CertificatesAreTight =
+    (ps : List Part) (net : Netlist) (names : Names) (channels : ℕ) (wants : Wants) (port : Port) (check : Check)
+    (opts : Opts) (c : Certificate) → IsLoaded ps net names channels wants port → IsNet net → IsCheck channels check
+    → verdict.AreBitsOf net check.cycle c.bits → verdict.IsTight net port check opts c
+    → IsTight ps channels wants check opts (notes_of names c.bits check.channel check.cycle c.fields) c.formula
