@@ -1,0 +1,22 @@
+//! How many names and nodes a design without hierarchy has.
+ghost use Rattle.std.specs.Prelude.{◌≡◌, ℕ, ◌≤◌, List, None};
+ghost use Rattle.vl_tree.specs.declared.source.Module.{Module};
+ghost use Rattle.vl_mean.specs.FlatLaw.{all_names_count, node_count};
+ghost use Rattle.vl_mean.specs.Parts.{design};
+ghost use Rattle.vl_mean.specs.declared.flat.Flat.{Flat};
+ghost use Rattle.vl_refusal.specs.Refused.{refusal};
+ghost use Rattle.vl_draft.specs.Drawn.{IsDrawn};
+
+/// What is drawn from modules that aren't refused has at most 200,000 names, a memory's words counting beside it.
+#[tactic(auto, using(crate::proofs::Counted::design_names))]
+pub fn drawn_names_are_few()
+    ensures { (ms : List Module) (top : List ℕ) (f : Flat) → refusal ms top ≡ None → IsDrawn (design ms top) f
+        → all_names_count f.decls ≤ 200000 }
+{}
+
+/// It has at most 4,000,000 nodes.
+#[tactic(auto, using(crate::proofs::Counted::design_nodes))]
+pub fn drawn_nodes_are_few()
+    ensures { (ms : List Module) (top : List ℕ) (f : Flat) → refusal ms top ≡ None → IsDrawn (design ms top) f
+        → node_count f.drivers f.starts ≤ 4000000 }
+{}
