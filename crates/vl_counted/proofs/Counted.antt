@@ -39,7 +39,6 @@ use Rattle.vl_size.specs.Size.{◌>>=◌}
 use Rattle.vl_mean.specs.declared.driver.Driver.{Driver}
 use Rattle.vl_mean.specs.declared.driver.DriverKind.{DriverKind}
 use Rattle.vl_mean.specs.declared.driver.Start.{Start}
-use Rattle.vl_mean.specs.declared.flat.Flat.{Flat}
 use Rattle.vl_mean.specs.Declarations.{declared_by, port_decl, port_named, ports_of}
 use Rattle.vl_mean.specs.FlatLaw.{all_names_count, all_nodes, all_stmt_nodes, all_target_nodes, driver_nodes, name_count}
 use Rattle.vl_mean.specs.FlatLaw.{node_count, nodes, stmt_nodes, target_nodes}
@@ -60,7 +59,7 @@ use Rattle.vl_refusal.specs.Refused.{Totals, counted, first_refused, is_too_larg
 use Rattle.vl_refusal.specs.Refused.{or_later, refusals_at, refused_walk}
 use Rattle.vl_names.proofs.Contained.{or_first, or_second}
 use Rattle.vl_names.proofs.Fresh.{NoneOf, none-back, not-refused}
-use Rattle.vl_draft.specs.Drawn.{IsDrawn, drivers_of, starts_of}
+use Rattle.vl_draft.specs.Drawn.{drivers_of, starts_of}
 use Rattle.vl_counted.proofs.Nodes.{flat_nodes, flat_target_nodes, flat_stmt_nodes}
 
 -- ---- nodes of parts
@@ -433,18 +432,17 @@ walk_few ms top e = by (is_none (module_named ms top)) e
         few_steps ms (record { nodes = 0; names = 0 }) (walk ms top) (omega arith) (omega arith)
         (later-first _ _ (later-second (modules_twice [] ms) _ e))
 
-pub design_names : (ms : List Module) (top : List ℕ) (f : Flat) → refusal ms top ≡ None → IsDrawn (design ms top) f
-    → all_names_count f.decls ≤ 200000
-design_names ms top f e h =
-    let few : 0 + names_in_parts (design ms top) ≤ 200000 = (walk_few ms top e).names_few in
-    subst (λ ds. all_names_count ds ≤ 200000) (sym h.decls_are) (omega (arith, few))
+pub design_names : (ms : List Module) (top : List ℕ) → refusal ms top ≡ None
+    → all_names_count (decls_of (design ms top)) ≤ 200000
+design_names ms top e =
+    let few : 0 + names_in_parts (design ms top) ≤ 200000 = (walk_few ms top e).names_few in omega (arith, few)
 
-pub design_nodes : (ms : List Module) (top : List ℕ) (f : Flat) → refusal ms top ≡ None → IsDrawn (design ms top) f
-    → node_count f.drivers f.starts ≤ 4000000
-design_nodes ms top f e h =
+pub design_nodes : (ms : List Module) (top : List ℕ) (xs : List Driver) → refusal ms top ≡ None
+    → map (λ x. x.what) xs ≡ drivers_of (design ms top) → node_count xs (starts_of (design ms top)) ≤ 4000000
+design_nodes ms top xs e h =
     let few : 0 + parts_nodes (design ms top) ≤ 4000000 = (walk_few ms top e).nodes_few in
     let drawn = drawn_few (design ms top) in
-    let is : node_count f.drivers f.starts
+    let is : node_count xs (starts_of (design ms top))
     ≡ kinds_nodes (drivers_of (design ms top)) + starts_nodes (starts_of (design ms top))
-    = count_is f.drivers f.starts ∙ (λ i. kinds_nodes (h.drivers_are i) + starts_nodes (h.starts_are i)) in
+    = count_is xs (starts_of (design ms top)) ∙ (λ i. kinds_nodes (h i) + starts_nodes (starts_of (design ms top))) in
     subst (λ n. n ≤ 4000000) (sym is) (omega (arith, few, drawn))

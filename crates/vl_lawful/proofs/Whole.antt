@@ -14,7 +14,6 @@ use Rattle.vl_size.specs.declared.decl.Decl.{Decl}
 use Rattle.vl_mean.specs.declared.driver.Driver.{Driver}
 use Rattle.vl_mean.specs.declared.driver.DriverKind.{DriverKind}
 use Rattle.vl_mean.specs.declared.driver.Start.{Start}
-use Rattle.vl_mean.specs.declared.flat.Flat.{Flat}
 use Rattle.vl_mean.specs.Declarations.{class_of_attributes, class_of_kind, joined_attributes}
 use Rattle.vl_mean.specs.FlatLaw.{IsAssigned, IsDriver, is_variable}
 use Rattle.vl_mean.specs.Parts.{Part, declares, equation, combinational, clocked, starts, design, item_parts, port_kind}
@@ -34,7 +33,7 @@ use Rattle.vl_names.proofs.Fresh.{IsFine, NoneOf, none-back}
 use Rattle.vl_names.proofs.Loops.{AreFine}
 use Rattle.vl_names.proofs.Names.{names_differ, walk-fine}
 use Rattle.vl_names.proofs.Plain.{all-each}
-use Rattle.vl_draft.specs.Drawn.{IsDrawn, drivers_of, starts_of}
+use Rattle.vl_draft.specs.Drawn.{drivers_of, starts_of}
 use Rattle.vl_sized.specs.Sized.{AreSound}
 use Rattle.vl_meant.specs.Right.{AreRight, IsRight}
 use Rattle.vl_meant.proofs.Walked.{walk_is_right}
@@ -143,15 +142,11 @@ all_drawn ms top formed e =
     (walk_inputs ms top formed e) (walk_formed ms top formed e)
     (laid_walk ms top (names_differ ms top formed e)) (walk-fine ms top e)
 
-pub design_driven : (ms : List Module) (top : List ℕ) (f : Flat) → All IsModule ms → refusal ms top ≡ None
-    → IsDrawn (design ms top) f → All (λ x. IsDriver f.decls x.what) f.drivers
-design_driven ms top f formed e h =
-    subst (λ ds. All (λ x. IsDriver ds x.what) f.drivers) (sym h.decls_are)
-    (all_driven (decls_of (design ms top)) (design ms top) (all_drawn ms top formed e) f.drivers h.drivers_are)
+pub design_driven : (ms : List Module) (top : List ℕ) (xs : List Driver) → All IsModule ms → refusal ms top ≡ None
+    → map (λ x. x.what) xs ≡ drivers_of (design ms top) → All (λ x. IsDriver (decls_of (design ms top)) x.what) xs
+design_driven ms top xs formed e h =
+    all_driven (decls_of (design ms top)) (design ms top) (all_drawn ms top formed e) xs h
 
-pub design_started : (ms : List Module) (top : List ℕ) (f : Flat) → All IsModule ms → refusal ms top ≡ None
-    → IsDrawn (design ms top) f → All (λ x. IsAssigned f.decls is_variable true x.target) f.starts
-design_started ms top f formed e h =
-    subst (λ ds. All (λ x. IsAssigned ds is_variable true x.target) f.starts) (sym h.decls_are)
-    (subst (λ xs. All (λ x. IsAssigned (decls_of (design ms top)) is_variable true x.target) xs) (sym h.starts_are)
-    (all_started (decls_of (design ms top)) (design ms top) (all_drawn ms top formed e)))
+pub design_started : (ms : List Module) (top : List ℕ) → All IsModule ms → refusal ms top ≡ None
+    → All (λ x. IsAssigned (decls_of (design ms top)) is_variable true x.target) (starts_of (design ms top))
+design_started ms top formed e = all_started (decls_of (design ms top)) (design ms top) (all_drawn ms top formed e)
