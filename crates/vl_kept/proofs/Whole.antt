@@ -1,5 +1,5 @@
 -- What is drawn from a design that isn't refused keeps the law of a design without hierarchy.
-use Rattle.std.specs.Prelude.{◌≡◌, refl, ℕ, List, [], ◌∷◌, ◌++◌, All, Bool, true, false, None}
+use Rattle.std.specs.Prelude.{◌≡◌, refl, ℕ, List, [], ◌∷◌, ◌++◌, map, All, Bool, true, false, None}
 use Rattle.std.proofs.Common.{ap, sym, subst}
 use Rattle.std.proofs.lemmas.List.Elements.{All-nil, All-cons}
 use Rattle.vl_tree.specs.declared.declaration.NetKind.TheVariants as net
@@ -11,7 +11,7 @@ use Rattle.vl_tree.specs.WellFormed.{IsModule, IsWellFormed}
 use Rattle.vl_size.specs.declared.decl.Class.{Class}
 use Rattle.vl_size.specs.declared.decl.Class.TheVariants as class
 use Rattle.vl_size.specs.declared.decl.Decl.{Decl}
-use Rattle.vl_mean.specs.declared.flat.Flat.{Flat}
+use Rattle.vl_mean.specs.declared.driver.Driver.{Driver}
 use Rattle.vl_mean.specs.Declarations.{class_of_attributes, class_of_kind, class_of_port, declared_by, is_output}
 use Rattle.vl_mean.specs.Declarations.{joined_attributes, port_decl, port_named, ports_of}
 use Rattle.vl_mean.specs.FlatLaw.{IsKept, IsLawful, is_graphic}
@@ -37,7 +37,7 @@ use Rattle.vl_meant.proofs.Walked.{walk_is_right}
 use Rattle.vl_sound.specs.SoundSteps.{HasSoundBounds, HasSoundNames, IsFormedStep}
 use Rattle.vl_sound.proofs.Reached.{sure_sound}
 use Rattle.vl_sound.proofs.Walked.{walk_bounds, walk_formed, walk_sound}
-use Rattle.vl_draft.specs.Drawn.{IsDrawn}
+use Rattle.vl_draft.specs.Drawn.{drivers_of, starts_of}
 use Rattle.vl_clean.proofs.Paths.{IsClean}
 use Rattle.vl_clean.proofs.Printed.{design_printed, IsPrinted, walk_clean}
 use Rattle.vl_counted.proofs.Counted.{design_names, design_nodes}
@@ -125,13 +125,13 @@ all_kept (d ∷ ds) h k =
       memory = h.0.memory;
     }) (all_kept ds h.1 (all-tail IsPrinted d ds k))
 
-pub design_lawful : (ms : List Module) (top : List ℕ) (f : Flat) → All IsModule ms → refusal ms top ≡ None
-    → IsDrawn (design ms top) f → IsLawful f.decls f.drivers f.starts
-design_lawful ms top f formed e h = record {
-  kept = subst (All IsKept) (sym h.decls_are)
-      (all_kept (decls_of (design ms top)) (all_fit ms top formed e) (design_printed ms top formed e));
-  driven = design_driven ms top f formed e h;
-  started = design_started ms top f formed e h;
-  few_names = design_names ms top f e h;
-  few_nodes = design_nodes ms top f e h;
+pub design_lawful : (ms : List Module) (top : List ℕ) (xs : List Driver) → All IsModule ms → refusal ms top ≡ None
+    → map (λ x. x.what) xs ≡ drivers_of (design ms top)
+    → IsLawful (decls_of (design ms top)) xs (starts_of (design ms top))
+design_lawful ms top xs formed e h = record {
+  kept = all_kept (decls_of (design ms top)) (all_fit ms top formed e) (design_printed ms top formed e);
+  driven = design_driven ms top xs formed e h;
+  started = design_started ms top formed e;
+  few_names = design_names ms top e;
+  few_nodes = design_nodes ms top xs e h;
 }
