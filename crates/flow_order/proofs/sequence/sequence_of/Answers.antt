@@ -1,0 +1,67 @@
+use Rattle.std.proofs.Common.{◌∙◌, ◌<◌, ap, length, subst, sym}
+use Rattle.graph_walk.specs.Graph.{IsCircle}
+use Rattle.graph_walk.specs.Walked.{ComesOf}
+use Rattle.flow_reads.specs.Reads.{IsReadingGraph}
+use Rattle.flow_order.specs.Numbers.{AreNumbers, settled_of}
+use Rattle.flow_order.proofs.Circles.{circle_numbers, circle_some, found_loop}
+use Rattle.flow_order.proofs.Orders.{order_numbers, sequence}
+use Rattle.flow_order.proofs.Reading.{graph_few, graph_within}
+use Rattle.vl_order.specs.Sequence.{IsSequence}
+use Rattle.flow_order.proofs.sequence.sequence_of.Goals as goal
+
+pub walk-requires : goal.walk-requires
+walk-requires c =
+    let groups = c.args.groups.now in
+    let fs = c.args.footprints.now in
+    let g = c.in_ok-graph.graph.items in record {
+      within = graph_within groups fs g c.as_slice.result.now c.in_ok-graph.ensures c.as_slice.ensures.value;
+      numbered = graph_few groups fs g c.as_slice.result.now c.in_ok-graph.ensures c.as_slice.ensures.value
+          c.requires.few;
+    }
+
+pub settled-requires : goal.settled-requires
+settled-requires c =
+    let groups = c.args.groups.now in
+    let fs = c.args.footprints.now in
+    let h = c.as_slice.result.now in
+    let graph = subst (IsReadingGraph groups fs) (sym c.as_slice.ensures.value) c.in_ok-graph.ensures in
+    let o = subst (ComesOf h) c.in-Order.is c.in_ok-order.ensures in
+    subst (AreNumbers (length fs)) (sym c.as_slice-in-Order.ensures)
+    (order_numbers groups fs h c.in-Order.order graph o)
+
+pub loop_of-requires : goal.loop_of-requires
+loop_of-requires c =
+    let groups = c.args.groups.now in
+    let fs = c.args.footprints.now in
+    let h = c.as_slice.result.now in
+    let circle = c.in-Circle.circle in
+    let graph = subst (IsReadingGraph groups fs) (sym c.as_slice.ensures.value) c.in_ok-graph.ensures in
+    let o = subst (ComesOf h) c.in-Circle.is c.in_ok-order.ensures in record {
+      some = subst (λ xs. 0 < length xs) (sym c.as_slice-in-Circle.ensures) (circle_some h circle o);
+      known = subst (AreNumbers (length c.args.drivers.now)) (sym c.as_slice-in-Circle.ensures)
+          (subst (λ n. AreNumbers n circle) c.requires.size (circle_numbers groups fs h circle graph o));
+    }
+
+pub returns-in-Order : goal.returns-in-Order
+returns-in-Order c ds w =
+    let groups = c.args.groups.now in
+    let fs = c.args.footprints.now in
+    let drivers = c.args.drivers.now in
+    let h = c.as_slice.result.now in
+    let graph = subst (IsReadingGraph groups fs) (sym c.as_slice.ensures.value) c.in_ok-graph.ensures in
+    let o = subst (ComesOf h) c.in-Order.is c.in_ok-order.ensures in
+    subst (IsSequence ds drivers)
+    (sym (c.in_ok-settled-in-Order.ensures ∙ ap (settled_of fs) c.as_slice-in-Order.ensures))
+    (sequence ds groups fs drivers w h c.in-Order.order graph o)
+
+pub returns : goal.returns
+returns c ds w =
+    let groups = c.args.groups.now in
+    let fs = c.args.footprints.now in
+    let h = c.as_slice.result.now in
+    let circle = c.as_slice-in-Circle.result.now in
+    let graph = subst (IsReadingGraph groups fs) (sym c.as_slice.ensures.value) c.in_ok-graph.ensures in
+    let o = subst (ComesOf h) c.in-Circle.is c.in_ok-order.ensures in
+    let r = c.in_ok-loop_of-in-Circle.ensures in
+    found_loop ds groups fs c.args.drivers.now w h graph circle r.0 c.in_ok-loop_of-in-Circle.field-0
+    (subst (IsCircle h) (sym c.as_slice-in-Circle.ensures) o) r.1 r.2 r.3 c.requires.size

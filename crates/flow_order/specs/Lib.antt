@@ -1,0 +1,4 @@
+pub mod CellGroups
+pub mod Footprints
+pub mod Numbers
+pub mod Found
