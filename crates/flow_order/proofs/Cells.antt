@@ -28,8 +28,10 @@ one_group ds c g h x y = by (cases_order g h)
   where
     by : (g ≡ h) ⊎ ((g < h) ⊎ (h < g)) → g ≡ h
     by (inl same) = same
-    by (inr (inl less)) = let rise = first_rises ds (suc g) h (omega (arith, less)) in absurd (omega (arith, x.1, y.0, rise))
-    by (inr (inr more)) = let rise = first_rises ds (suc h) g (omega (arith, more)) in absurd (omega (arith, y.1, x.0, rise))
+    by (inr (inl less)) =
+        let rise = first_rises ds (suc g) h (omega (arith, less)) in absurd (omega (arith, x.1, y.0, rise))
+    by (inr (inr more)) =
+        let rise = first_rises ds (suc h) g (omega (arith, more)) in absurd (omega (arith, y.1, x.0, rise))
 
 pub all_length : (ds : List Decl) → first_cell ds (length ds) ≡ length (all_cells ds)
 all_length [] = refl
@@ -54,7 +56,8 @@ pub one_group_more : (ds : List Decl) (n count end : ℕ) (of_cells after ends m
 one_group_more ds n count end of_cells after ends more were puts next behind e = record {
   cells = cells ∙ ap (first_cell ds) (sym one);
   names = names;
-  pasts = λ place past at. past_is place past (get_cases ends end place past (ap (λ xs. slice_get xs place) (sym e) ∙ at));
+  pasts = λ place past at.
+      past_is place past (get_cases ends end place past (ap (λ xs. slice_get xs place) (sym e) ∙ at));
   known = λ cell place at. known cell place (puts.of cell place at);
   of = λ cell place at. of cell place (puts.of cell place at);
 }

@@ -8,7 +8,8 @@ loop-at-init c =
 
 pub loop-at-preserved : goal.loop-at-preserved
 loop-at-preserved c =
-    record { within = c.better-best.ensures.within; earliest = c.better-best.ensures.earliest c.loop-at.invariant.earliest }
+    let best = c.better-best.ensures in
+    record { within = best.within; earliest = best.earliest c.loop-at.invariant.earliest }
 
 pub returns-clause-earliest : goal.returns-clause-earliest
 returns-clause-earliest c =
