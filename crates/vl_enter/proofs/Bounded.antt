@@ -1,0 +1,115 @@
+-- What is known of a parameter whose range is known, or isn't.
+use Rattle.std.specs.Prelude.{◌≡◌, refl, ℕ, ◌≤◌, List, Bool, true, false, ◌&&◌, ◌||◌, is_some, nat_le}
+use Rattle.std.specs.Prelude.{Option, Some, None, if◌then◌else◌}
+use Rattle.std.proofs.Common.{ap, sym, ◌∙◌, arith}
+use Rattle.std.proofs.lemmas.Bool.Decides.{nat_tests}
+use Rattle.vl_tree.specs.declared.declaration.Parameter.{Parameter}
+use Rattle.vl_tree.specs.declared.declaration.Range.{Range}
+use Rattle.vl_tree.specs.Expr.{Expr}
+use Rattle.vl_refusal.specs.Meanings.{Names, is_known_value, is_known_range, is_known_shape, declared_width}
+use Rattle.vl_refusal.specs.Meanings.{may_be_selected}
+use Rattle.vl_param.specs.Entered.{selected_if_known}
+use Rattle.vl_enter.specs.declared.extents.Bounds.{Bounds}
+use Rattle.vl_enter.specs.declared.extents.Extent.{Extent}
+use Rattle.vl_enter.specs.Known.{as_extent, few_bits, known_extent, extent_of, left_bound, right_bound, goes_down_to_0}
+
+pub few_is : (a : Bool) (b : Bounds)
+    → few_bits (if a then Some b else None) ≡ (if a && nat_le b.bits 128 then Some (as_extent b) else None)
+few_is true b = refl
+few_is false b = refl
+
+-- an extent that is there
+pub record IsExtent (ns : List Names) (r : Option Range) (e : Extent) : Type 0 where
+  pub known : is_known_shape ns r ≡ true
+  pub bits : e.bits ≡ declared_width ns r
+  pub left : e.left ≡ left_bound ns r
+  pub right : e.right ≡ right_bound ns r
+
+pub extent_is : (ns : List Names) (r : Option Range) (e : Extent) → known_extent ns r ≡ Some e → IsExtent ns r e
+extent_is ns r e h = by (is_known_shape ns r) refl h
+  where
+    or : Option Extent → Extent
+    or None = e
+    or (Some x) = x
+
+    by : (b : Bool) → is_known_shape ns r ≡ b
+        → (if b then Some (extent_of ns r) else None) ≡ Some e → IsExtent ns r e
+    by true k h = record {
+      known = k;
+      bits = ap (λ o. (or o).bits) (sym h);
+      left = ap (λ o. (or o).left) (sym h);
+      right = ap (λ o. (or o).right) (sym h);
+    }
+    by false k h = cc
+
+few_of : (known few : Bool) → (known && few) ≡ true → few ≡ true
+few_of true few h = h
+few_of false few h = cc
+
+few_number : (n : ℕ) → nat_le n 128 ≡ true → n ≤ 128
+few_number n h = grind (arith, nat_tests)
+
+pub extent_few : (ns : List Names) (r : Option Range) (e : Extent) → known_extent ns r ≡ Some e → e.bits ≤ 128
+extent_few ns r e h =
+    let x = extent_is ns r e h in
+    let bits = x.bits in
+    let few = few_number (declared_width ns r) (few_of (is_known_range ns r) (nat_le (declared_width ns r) 128) x.known)
+    in grind (arith, bits, few)
+
+pub extent_bits : (ns : List Names) (r : Option Range) (e : Extent) → known_extent ns r ≡ Some e
+    → e.bits ≡ declared_width ns r
+extent_bits ns r e h = (extent_is ns r e h).bits
+
+extent_selected : (ns : List Names) (r : Option Range) (e : Extent) → known_extent ns r ≡ Some e
+    → goes_down_to_0 e.left e.right ≡ may_be_selected ns r
+extent_selected ns r e h =
+    let x = extent_is ns r e h in (λ i. goes_down_to_0 (x.left i) (x.right i)) ∙ by r
+  where
+    by : (r : Option Range) → goes_down_to_0 (left_bound ns r) (right_bound ns r) ≡ may_be_selected ns r
+    by None = refl
+    by (Some r) = refl
+
+-- ---- what comes of it
+
+module _ (given : List ℕ → Option Expr) (ns : List Names) (x : Parameter) where
+  selected_by : (g v s a b : Bool) → s ≡ true → b ≡ a
+      → (if (g || v) && s then Some a else None) ≡ (if g || v then Some b else None)
+  selected_by true v true a b k e = ap Some (sym e)
+  selected_by false true true a b k e = ap Some (sym e)
+  selected_by false false true a b k e = refl
+  selected_by g v false a b k e = cc
+
+  module _ (e : Extent) (b : Bool) (h : known_extent ns x.shape.range ≡ Some e)
+      (same : b ≡ goes_down_to_0 e.left e.right) where
+    is_selected : b ≡ may_be_selected ns x.shape.range
+    is_selected = same ∙ extent_selected ns x.shape.range e h
+
+    -- a value that is given
+    pub given_selected : is_some (given x.name) ≡ true → Some b ≡ selected_if_known given ns x
+    given_selected k =
+        ap (λ g. if g || is_known_value ns x.shape.range x.value then Some b else None) (sym k)
+        ∙ sym (selected_by (is_some (given x.name)) (is_known_value ns x.shape.range x.value)
+        (is_known_shape ns x.shape.range) (may_be_selected ns x.shape.range) b (extent_is ns x.shape.range e h).known
+        is_selected)
+
+    -- its own
+    pub own_selected : (v : Bool) → is_some (given x.name) ≡ false → v ≡ is_known_value ns x.shape.range x.value
+        → (if v then Some b else None) ≡ selected_if_known given ns x
+    own_selected v k w =
+        (λ j. if (sym k j) || (w j) then Some b else None)
+        ∙ sym (selected_by (is_some (given x.name)) (is_known_value ns x.shape.range x.value)
+        (is_known_shape ns x.shape.range) (may_be_selected ns x.shape.range) b (extent_is ns x.shape.range e h).known
+        is_selected)
+
+  -- without a range that is known
+  pub none_selected : None ≡ known_extent ns x.shape.range → None ≡ selected_if_known given ns x
+  none_selected h =
+      by (is_some (given x.name)) (is_known_value ns x.shape.range x.value) (is_known_shape ns x.shape.range)
+      (may_be_selected ns x.shape.range) (extent_of ns x.shape.range) h
+    where
+      by : (g v s a : Bool) (e : Extent) → None ≡ (if s then Some e else None)
+          → None ≡ (if (g || v) && s then Some a else None)
+      by g v true a e h = cc
+      by true v false a e h = refl
+      by false true false a e h = refl
+      by false false false a e h = refl

@@ -1,0 +1,26 @@
+use Rattle.std.proofs.Common.{◌≡◌, ◌∙◌, ◌+◌, [], ◌∷◌, ap, sym, arith}
+use Rattle.std.specs.Prelude.{drop}
+use Rattle.std.proofs.lemmas.Grind.{common_steps}
+use Rattle.vl_mean.specs.Declarations.{header_parameters}
+use Rattle.vl_number.specs.Given.{value_given}
+use Rattle.vl_param.specs.Entered.{stacks, with_parameters}
+use Rattle.vl_enter.proofs.parameters.add_header.Goals as goal
+
+pub loop-parameter-preserved : goal.loop-parameter-preserved
+loop-parameter-preserved c =
+    let given = value_given c.args.given.now in
+    let front : drop c.loop-parameter.parameter-index c.args.all.now ≡ c.parameter-item.result
+    ∷ drop (c.loop-parameter.parameter-index + 1) c.args.all.now = grind (arith, common_steps) in
+    ap (λ s. with_parameters given s (header_parameters
+    (drop (c.loop-parameter.parameter-index + 1) c.args.all.now))) c.in_ok-add_parameter.ensures
+    ∙ ap (λ xs. with_parameters given (stacks c.loop-parameter.names c.loop-parameter.numbers) (header_parameters xs))
+    (sym front)
+    ∙ c.loop-parameter.invariant
+
+pub returns : goal.returns
+returns c =
+    let given = value_given c.args.given.now in
+    let gone : drop c.loop-parameter.parameter-index c.args.all.now ≡ [] = grind (arith, common_steps) in
+    ap (λ xs. with_parameters given (stacks c.loop-parameter.names c.loop-parameter.numbers) (header_parameters xs))
+    (sym gone)
+    ∙ c.loop-parameter.invariant

@@ -1,0 +1,10 @@
+use Rattle.std.proofs.Common.{◌≡◌}
+use Rattle.std.specs.Prelude.{drop}
+use Rattle.vl_number.specs.Given.{value_given}
+use Rattle.vl_param.specs.Entered.{stacks, with_parameters}
+use Rattle.vl_enter.proofs.parameters.add_parameters.Given as goal
+
+abbrev pub invariant-loop-parameter : goal.invariant-loop-parameter
+invariant-loop-parameter l =
+    with_parameters (value_given l.given) (stacks l.names l.numbers) (drop l.parameter-index l.all)
+    ≡ with_parameters (value_given l.given) (stacks l.fn.names l.fn.numbers) l.all
