@@ -19,10 +19,10 @@ ghost use Rattle.vl_terms.specs.Bound.{bound, AreBound, HasPlace};
 ghost use Rattle.vl_terms.specs.Lowers.{Lowers};
 
 use crate::bindings::Bindings;
-use crate::constant::constant_node;
+use crate::constants::constant_node;
 use crate::copies::copies;
-use crate::found::found;
 use crate::memory::word_at;
+use crate::names::found;
 use crate::place::Place;
 use crate::range::{count_of, part_select};
 use crate::word_type::WordType;
@@ -82,7 +82,7 @@ fn literal(net: &mut Net, value: &Number, kind: WordType) -> Result<NodeId, Memo
 
 /// At the size and the sign that the expression has by itself.
 #[cycle(term)]
-fn own(net: &mut Net, names: Bindings<'_>, expr: &Expr) -> Result<NodeId, Memory>
+pub fn own(net: &mut Net, names: Bindings<'_>, expr: &Expr) -> Result<NodeId, Memory>
     requires bound { AreBound net.old (bound names) }
     requires sized { IsSome (spec.size names.decls.now expr.now) }
     ensures { IfOk result (Lowers net.old net.new (bound names.entry) (or_none
@@ -98,7 +98,7 @@ fn own(net: &mut Net, names: Bindings<'_>, expr: &Expr) -> Result<NodeId, Memory
 
 /// 1 where the value by itself isn't 0.
 #[cycle(term)]
-fn truth(net: &mut Net, names: Bindings<'_>, expr: &Expr) -> Result<NodeId, Memory>
+pub fn truth(net: &mut Net, names: Bindings<'_>, expr: &Expr) -> Result<NodeId, Memory>
     requires bound { AreBound net.old (bound names) }
     requires sized { IsSome (spec.size names.decls.now expr.now) }
     ensures { IfOk result (Lowers net.old net.new (bound names.entry) 1

@@ -3,16 +3,19 @@
 #![tactic(auto)]
 
 mod bindings;
-mod constant;
+mod constants;
 mod copies;
 mod expr;
-mod found;
 mod memory;
+mod names;
 mod place;
 mod range;
 mod word_type;
 
 pub use bindings::Bindings;
-pub use expr::term;
+pub use constants::constant;
+pub use expr::{own, term, truth};
+pub use names::found;
 pub use place::Place;
+pub use range::{BitRange, count_of, range_of};
 pub use word_type::WordType;

@@ -12,7 +12,7 @@ ghost use Rattle.wn_net.specs.Changes.{AddsNodes, Shows};
 ghost use Rattle.vl_points.specs.Points.{is_place};
 
 use crate::bindings::Bindings;
-use crate::constant::constant;
+use crate::constants::constant;
 use crate::word_type::WordType;
 use fv_base::Memory;
 use vl_nodes::fit;
@@ -25,9 +25,9 @@ use wn_net::{Net, NodeId};
 
 /// Bits of a vector: how many, and the place of the lowest, counted from the vector's lowest bit.
 #[derive(Debug, Clone, Copy)]
-struct BitRange {
-    count: u32,
-    place: i64,
+pub struct BitRange {
+    pub count: u32,
+    pub place: i64,
 }
 
 /// The place of an index in a vector.
@@ -45,7 +45,7 @@ fn offset_of(decl: &Decl, index: i64) -> i64
 }
 
 /// The bits that the part `[left:right]` takes.
-fn range_of(decl: &Decl, left: &Expr, right: &Expr, names: Bindings<'_>) -> BitRange
+pub fn range_of(decl: &Decl, left: &Expr, right: &Expr, names: Bindings<'_>) -> BitRange
     requires bound { is_bound decl.now.right ≡ true }
     requires sized { (p : Pos) → IsSome (spec.vector_size names.decls.now decl.now (part p left.now right.now whole)) }
     ensures count { (v : Cells) → result.count ≡ table.span (spec.index_of
@@ -94,7 +94,7 @@ pub(crate) fn part_select(
 }
 
 /// A count of copies of so many bits.
-pub(crate) fn count_of(count: &Expr, size: u32, names: Bindings<'_>) -> u32
+pub fn count_of(count: &Expr, size: u32, names: Bindings<'_>) -> u32
     requires constant { spec.is_constant count.now ≡ true }
     requires some { 1 ≤ size }
     requires few { size ≤ 128 }

@@ -8,7 +8,7 @@ use fv_base::Text;
 use vl_size::Decl;
 
 /// The declaration of a name, and its place.
-pub(crate) fn found<'a>(names: Bindings<'a>, text: &Text) -> (&'a Decl, Place)
+pub fn found<'a>(names: Bindings<'a>, text: &Text) -> (&'a Decl, Place)
     requires declared { IsSome (declared_as names.decls.now text.now) }
     requires each { length names.places.now ≡ length names.decls.now }
     ensures declared { declared_as names.entry.decls.now text.now ≡ Some result.0.now }

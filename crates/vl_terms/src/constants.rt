@@ -56,7 +56,7 @@ fn own_size(expr: &Expr, names: Bindings<'_>) -> u32
 }
 
 /// A constant at the size and the sign that it has by itself.
-pub(crate) fn constant(expr: &Expr, names: Bindings<'_>) -> Own
+pub fn constant(expr: &Expr, names: Bindings<'_>) -> Own
     requires { spec.is_constant expr.now ≡ true }
     ensures { (v : Cells) → as_int result.width result.signed result.number
         ≡ spec.index_of (spec.operand_of names.entry.decls.now v expr.now) }
