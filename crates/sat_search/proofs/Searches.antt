@@ -233,6 +233,9 @@ module _ (vars budget : ℕ) (formula cs : List (List ℤ)) (t : Entries) (steps
   pub valid_now : Valid formula steps
   valid_now = ap (judged formula) (sym (append-nil steps)) ∙ s.tells []
 
+  pub resolved_now : Resolved formula steps
+  resolved_now = subst (Resolved formula) (append-nil steps) (s.resolved [] tt)
+
   pub added_now : AreAdded vars steps
   added_now = subst (AreAdded vars) (append-nil steps) (s.added [] tt)
 

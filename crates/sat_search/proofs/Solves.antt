@@ -70,7 +70,7 @@ module _ (vars budget : ℕ) (formula cs : List (List ℤ)) (t : Entries) (steps
     unit_literal : IsLiteral vars l
     unit_literal = literal_at vars h.0 l (clause_at vars cs place h.0 s.names unit_found) unit_alone.member
 
-    unit_kept : to_z w64 (of_z w64 l) ≡ l
+    pub unit_kept : to_z w64 (of_z w64 l) ≡ l
     unit_kept = to_z-of_z w64 l (fits_signed_from_abs w64 l (lit_of vars l v unit_literal).1)
 
     pub unit_lit : IsLit (to_z w64 (of_z w64 l))

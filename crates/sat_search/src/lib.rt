@@ -5,6 +5,8 @@
 mod found;
 mod search;
 mod shared;
+mod solving;
+mod turn;
 
 pub use found::Found;
-pub use search::solve;
+pub use solving::solve;

@@ -1,12 +1,10 @@
-ghost use Rattle.std.specs.Prelude.{◌≡◌, ◌+◌, ◌-◌, ◌<◌, ◌≤◌, ◌^◌, ℕ, pos, true, false, List, length, IfOk};
-ghost use Rattle.cnf_form.specs.Cnf.{AreClauses, formula_true, value_of};
+ghost use Rattle.std.specs.Prelude.{◌≡◌, ◌+◌, ◌-◌, ◌<◌, ◌^◌, pos, true, false, IfOk};
+ghost use Rattle.cnf_form.specs.Cnf.{AreClauses};
 ghost use Rattle.lrat_check.specs.Sets.{has};
-ghost use Rattle.lrat_check.specs.Steps.{Refutes, Valid, AreSteps};
-ghost use Rattle.lrat_check.specs.Resolved.{Resolved, derived};
-ghost use Rattle.sat_trail.specs.Trail.{lits, values_of};
-ghost use Rattle.sat_search.specs.Found.{IfModel, IfRefuted, IfSpent, IfSteps, AreAdded, nonempty};
+ghost use Rattle.sat_trail.specs.Trail.{lits, decided, values_of};
+ghost use Rattle.sat_search.specs.Turns.{Keeps, IsSearch, Looked, Turns};
 
-use crate::found::Found;
+use crate::turn::Turn;
 use cnf_form::Formula;
 use fv_base::{List, Memory};
 use lrat_check::Step;
@@ -15,73 +13,160 @@ use sat_order::Order;
 use sat_trail::{Entry, Trail};
 use sat_unit::{Propagation, Scan};
 use std::alloc::Global;
+use std::marker::Model;
 
-/// Values that make the formula true, or steps that refute it, or, where that takes more learnt clauses than the
-/// budget, the steps that learn so many.
-///
-/// The budget is a number of learnt clauses, the empty one aside. With `vars` variables a budget of `3^vars` is never
-/// used up. The only error is want of memory, also where there are `MOST_CLAUSES` clauses or more.
-pub fn solve(alloc: Global, formula: &Formula, budget: u64) -> Result<Found, Memory>
-    requires { 0 < budget }
-    ensures len { IfOk result (λ found. IfModel found (λ values. length values ≡ formula.now.vars)) }
-    ensures model { IfOk result (λ found. IfModel found
-        (λ values. formula_true (value_of values) formula.now.clauses ≡ true)) }
-    ensures refuted { IfOk result (λ found. IfRefuted found
-        (λ steps. (id : ℕ) × Refutes formula.now.clauses steps id)) }
-    ensures fewer { IfOk result (λ found. IfRefuted found
-        (λ steps. length (nonempty (derived formula.now.clauses steps)) < budget)) }
-    ensures valid { IfOk result (λ found. IfSpent found (λ steps. Valid formula.now.clauses steps)) }
-    ensures resolved { IfOk result (λ found. IfSpent found (λ steps. Resolved formula.now.clauses steps)) }
-    ensures spent { IfOk result (λ found. IfSpent found
-        (λ steps. length (derived formula.now.clauses steps) ≡ budget)) }
-    ensures bound { IfOk result (λ found. IfSpent found (λ steps. budget < 3 ^ formula.now.vars)) }
-    ensures added { IfOk result (λ found. IfSteps found (λ steps. AreAdded formula.now.vars steps)) }
-    ensures steps { IfOk result (λ found. IfSteps found AreSteps) }
-{
-    let vars = formula.vars();
-    let mut clauses = copied(alloc, formula)?;
-    if clauses.len() >= MOST_CLAUSES {
-        return Err(Memory);
+/// A search in a formula with so many variables.
+#[derive(Drop)]
+pub(crate) struct Search {
+    alloc: Global,
+    vars: u64,
+    /// Those of the formula, and the learnt ones behind them.
+    clauses: List<List<i64>>,
+    trail: Trail,
+    steps: List<Step>,
+    /// How many clauses may still be learnt.
+    left: u64,
+    propagation: Propagation,
+    order: Order,
+    learner: Learner,
+}
+
+impl Model for Search {
+    ghost use Rattle.sat_search.specs.Turns.{State};
+
+    ghost Value = { State };
+
+    ghost view = { λ s. record {
+      vars = s.vars;
+      clauses = s.clauses;
+      trail = s.trail;
+      steps = s.steps;
+      left = s.left;
+      taken = s.propagation;
+    } };
+}
+
+impl Search {
+    /// The only error is want of memory, also where there are `MOST_CLAUSES` clauses or more.
+    pub(crate) fn new(alloc: Global, formula: &Formula, budget: u64) -> Result<Search, Memory>
+        requires { 0 < budget }
+        ensures keeps { IfOk result (λ search. Keeps budget formula.now.clauses search) }
+        ensures vars { IfOk result (λ search. search.vars ≡ formula.now.vars) }
+    {
+        let clauses = copied(alloc, formula)?;
+        if clauses.len() >= MOST_CLAUSES {
+            return Err(Memory);
+        }
+        Ok(Search {
+            alloc,
+            vars: formula.vars(),
+            clauses,
+            trail: Trail::new(alloc),
+            steps: List::new(alloc),
+            left: budget,
+            propagation: Propagation::new(alloc),
+            order: order_of(alloc, formula)?,
+            learner: Learner::new(alloc),
+        })
     }
-    let mut trail = Trail::new(alloc);
-    let mut steps = List::new(alloc);
-    let mut left = budget;
-    let mut propagation = Propagation::new(alloc);
-    let mut order = order_of(alloc, formula)?;
-    let mut learner = Learner::new(alloc);
-    'turns: loop {
-        let scan = propagation.next(clauses.as_slice(), &trail)?;
+
+    /// Looks at the clauses, and does what follows from what is found.
+    pub(crate) fn turn(&mut self) -> Result<Turn, Memory>
+        requires { IsSearch self.old }
+        ensures { IfOk result (λ turn. Turns self.old self.new turn) }
+    {
+        let scan = self.propagation.next(self.clauses.as_slice(), &self.trail)?;
         match scan {
-            Scan::Unit(place, lit) => {
-                order.set_phase(lit);
-                trail.push(Entry {
-                    lit,
-                    reason: Some(place),
-                })?
-            }
-            Scan::Settled => match order.decide(vars, &trail) {
-                None => return Ok(Found::Model(values(alloc, vars, &trail)?)),
-                Some(lit) => trail.push(Entry { lit, reason: None })?,
-            },
+            Scan::Unit(place, lit) => self.force(place, lit),
+            Scan::Settled => self.decide(),
             Scan::Conflict(place) => {
-                if !trail.has_decision() {
-                    let learnt = learner.to_empty(clauses.as_slice(), &mut trail, place)?;
-                    add(alloc, &mut clauses, &mut steps, learnt)?;
-                    return Ok(Found::Refuted(steps));
-                }
-                learner.learn(&mut clauses, &mut trail, &mut steps, place)?;
-                note(
-                    &mut order,
-                    clauses.as_slice(),
-                    steps.as_slice(),
-                    trail.len(),
-                );
-                left -= 1;
-                if left == 0 {
-                    return Ok(Found::Spent(steps));
+                if self.trail.has_decision() {
+                    self.learn(place)
+                } else {
+                    self.refute(place)
                 }
             }
         }
+    }
+
+    /// The clause at the place forces the literal.
+    fn force(&mut self, place: usize, lit: i64) -> Result<Turn, Memory>
+        requires search { IsSearch self.old }
+        requires looked { Looked self.old (Scan.Unit place lit) }
+        ensures { IfOk result (λ turn. Turns self.old self.new turn) }
+    {
+        self.order.set_phase(lit);
+        self.trail.push(Entry {
+            lit,
+            reason: Some(place),
+        })?;
+        Ok(Turn::On)
+    }
+
+    /// All clauses are settled: a literal is chosen, if a variable has no value.
+    fn decide(&mut self) -> Result<Turn, Memory>
+        requires search { IsSearch self.old }
+        requires looked { Looked self.old Scan.Settled }
+        ensures { IfOk result (λ turn. Turns self.old self.new turn) }
+    {
+        match self.order.decide(self.vars, &self.trail) {
+            None => Ok(Turn::Satisfied),
+            Some(lit) => {
+                self.trail.push(Entry { lit, reason: None })?;
+                Ok(Turn::On)
+            }
+        }
+    }
+
+    /// A clause is learnt from that at the place, which is false behind a decision.
+    fn learn(&mut self, place: usize) -> Result<Turn, Memory>
+        requires search { IsSearch self.old }
+        requires looked { Looked self.old (Scan.Conflict place) }
+        requires decided { decided self.old.trail ≡ true }
+        ensures { IfOk result (λ turn. Turns self.old self.new turn) }
+    {
+        self.learner
+            .learn(&mut self.clauses, &mut self.trail, &mut self.steps, place)?;
+        note(
+            &mut self.order,
+            self.clauses.as_slice(),
+            self.steps.as_slice(),
+            self.trail.len(),
+        );
+        self.left -= 1;
+        if self.left == 0 {
+            return Ok(Turn::Spent);
+        }
+        Ok(Turn::On)
+    }
+
+    /// The clause at the place is false with no decision.
+    fn refute(&mut self, place: usize) -> Result<Turn, Memory>
+        requires search { IsSearch self.old }
+        requires looked { Looked self.old (Scan.Conflict place) }
+        requires undecided { decided self.old.trail ≡ false }
+        ensures { IfOk result (λ turn. Turns self.old self.new turn) }
+    {
+        let learnt = self
+            .learner
+            .to_empty(self.clauses.as_slice(), &mut self.trail, place)?;
+        add(self.alloc, &mut self.clauses, &mut self.steps, learnt)?;
+        Ok(Turn::Refuted)
+    }
+
+    /// Whether each variable is true, variable 1 first.
+    pub(crate) fn values(&self) -> Result<List<bool>, Memory>
+        requires { self.now.vars < 2 ^ 63 }
+        ensures { IfOk result (λ values. values ≡ values_of self.now.vars (lits self.now.trail)) }
+    {
+        values(self.alloc, self.vars, &self.trail)
+    }
+
+    pub(crate) fn into_steps(self) -> List<Step>
+        ensures { result ≡ self.steps }
+    {
+        let Search { steps, .. } = self;
+        steps
     }
 }
 
