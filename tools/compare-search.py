@@ -6,7 +6,7 @@
 Random formulas of clauses of three literals at the threshold with 100 to 200 variables (N of them), adders of two kinds
 proved equal, multipliers proved commutative, and the given clause files. The driver program is that of
 `tools/check-search.py`. It prints for each group the median of conflicts beside MiniSat's (of refutations, whose steps
-are counted), the median and the greatest of the times beside both, and each verdict that differs.
+are counted), the median and the greatest of the processor times beside both, and how many verdicts differ.
 """
 
 import argparse
@@ -14,10 +14,10 @@ import importlib.util
 import os
 import random
 import re
+import resource
 import statistics
 import subprocess
 import tempfile
-import time
 
 HERE = os.path.dirname(os.path.abspath(__file__))
 
@@ -108,13 +108,21 @@ def multipliers(bits):
     return out.differ(product(xs, ys), product(ys, xs))
 
 
+def spent():
+    """The processor seconds of all programs that ended."""
+    times = os.times()
+    return times.children_user + times.children_system
+
+
 def run(words, text=None, limit=60.0):
-    start = time.time()
-    try:
-        ran = subprocess.run(words, input=text, capture_output=True, text=True, timeout=limit, check=False)
-        return ran.stdout, time.time() - start
-    except subprocess.TimeoutExpired:
-        return "", time.time() - start
+    """What the program writes, and its processor seconds, of which it has so many."""
+    start = spent()
+
+    def bounded():
+        resource.setrlimit(resource.RLIMIT_CPU, (round(limit), round(limit)))
+
+    ran = subprocess.run(words, input=text, capture_output=True, text=True, preexec_fn=bounded, check=False)
+    return ran.stdout if ran.returncode >= 0 else "", spent() - start
 
 
 def measured(driver, text, limit):
