@@ -119,8 +119,11 @@ comes_from budget formula s now p turn.Spent h = h
 -- what comes behind the look comes of the whole turn
 pub turns_from : (s : State) (p : Taken) (now : State) (found : Scan) (came : Turn) → Looked (with_taken s p) found
     → Turns (with_taken s p) now came → Turns s now came
-turns_from s p now found came h t =
-    (t.0, λ budget formula k. comes_from budget formula s now p came (t.1 budget formula (looks budget formula s p found k h)))
+turns_from s p now found came h t = (
+  t.0,
+  λ budget formula k. comes_from budget formula s now p came (t.1 budget formula (looks budget formula s p
+      found k h)),
+)
 
 module _ (s : State) (place : ℕ) (l : ℤ) (h : Looked s (scan.Unit place l)) where
   pub forced_is_lit : IsSearch s → IsLit (to_z w64 (of_z w64 l))
@@ -171,7 +174,8 @@ module _ (s : State) (h : Looked s scan.Settled) where
     refl,
     λ budget formula k. (
       record {
-        searching = decision_on s.vars budget formula s.clauses s.trail s.steps s.left k.searching k.small s.clauses refl
+        searching = decision_on s.vars budget formula s.clauses s.trail s.steps s.left k.searching k.small s.clauses
+            refl
             l o whole w h.0;
         holds = holds_behind s.clauses s.clauses s.trail whole s.taken
             (record { lit = to_z w64 (of_z w64 l); reason = None }) scan.Settled refl w h.1 (λ d. refl);
@@ -236,7 +240,8 @@ module _ (s : State) (u : Entries) (r hints : List ℤ) (d : Derives s.clauses u
   refutes more = (
     refl,
     λ budget formula k.
-        let a = refuted_added s.vars budget formula s.clauses s.trail s.steps s.left k.searching u r hints d empty longer f
+        let a = refuted_added s.vars budget formula s.clauses s.trail s.steps s.left k.searching u r hints d empty
+        longer f
         in (
         record {
           id = length s.clauses + 1;

@@ -35,75 +35,88 @@ returns-in-Satisfied-clause-len c =
 
 pub returns-in-Satisfied-clause-model : goal.returns-in-Satisfied-clause-model
 returns-in-Satisfied-clause-model c =
-    let came = comes c.args.budget c.args.formula.now.clauses c.turns.search c.turn.new.self c.in_ok-turn.turn turn.Satisfied
+    let came = comes c.args.budget c.args.formula.now.clauses c.turns.search c.turn.new.self c.in_ok-turn.turn
+    turn.Satisfied
     c.in_ok-turn.ensures c.in-Satisfied.is c.turns.invariant.0 in
     ap (λ z. formula_true (value_of z) c.args.formula.now.clauses) c.in_ok-values-in-Satisfied.ensures ∙ came
 
 pub returns-in-Refuted-clause-refuted : goal.returns-in-Refuted-clause-refuted
 returns-in-Refuted-clause-refuted c =
-    let came = comes c.args.budget c.args.formula.now.clauses c.turns.search c.turn.new.self c.in_ok-turn.turn turn.Refuted
+    let came = comes c.args.budget c.args.formula.now.clauses c.turns.search c.turn.new.self c.in_ok-turn.turn
+    turn.Refuted
     c.in_ok-turn.ensures c.in-Refuted.is c.turns.invariant.0 in
     let P : List Step → Type 0 = λ z. (id : ℕ) × Refutes c.args.formula.now.clauses z id in
     subst P (sym c.into_steps.ensures) (came.id, came.refutes)
 
 pub returns-in-Refuted-clause-fewer : goal.returns-in-Refuted-clause-fewer
 returns-in-Refuted-clause-fewer c =
-    let came = comes c.args.budget c.args.formula.now.clauses c.turns.search c.turn.new.self c.in_ok-turn.turn turn.Refuted
+    let came = comes c.args.budget c.args.formula.now.clauses c.turns.search c.turn.new.self c.in_ok-turn.turn
+    turn.Refuted
     c.in_ok-turn.ensures c.in-Refuted.is c.turns.invariant.0 in
     let P : List Step → Type 0 = λ z. length (nonempty (derived c.args.formula.now.clauses z)) < c.args.budget in
     subst P (sym c.into_steps.ensures) came.fewer
 
 pub returns-in-Refuted-clause-added : goal.returns-in-Refuted-clause-added
 returns-in-Refuted-clause-added c =
-    let came = comes c.args.budget c.args.formula.now.clauses c.turns.search c.turn.new.self c.in_ok-turn.turn turn.Refuted
+    let came = comes c.args.budget c.args.formula.now.clauses c.turns.search c.turn.new.self c.in_ok-turn.turn
+    turn.Refuted
     c.in_ok-turn.ensures c.in-Refuted.is c.turns.invariant.0 in
     let P : List Step → Type 0 = λ z. AreAdded c.args.formula.now.vars z in
-    subst P (sym c.into_steps.ensures) (subst (λ n. AreAdded n c.turn.new.self.steps) (c.in_ok-turn.ensures.0 ∙ c.turns.invariant.1) came.added)
+    subst P (sym c.into_steps.ensures) (subst (λ n. AreAdded n c.turn.new.self.steps) (c.in_ok-turn.ensures.0 ∙
+    c.turns.invariant.1) came.added)
 
 pub returns-in-Refuted-clause-steps : goal.returns-in-Refuted-clause-steps
 returns-in-Refuted-clause-steps c =
-    let came = comes c.args.budget c.args.formula.now.clauses c.turns.search c.turn.new.self c.in_ok-turn.turn turn.Refuted
+    let came = comes c.args.budget c.args.formula.now.clauses c.turns.search c.turn.new.self c.in_ok-turn.turn
+    turn.Refuted
     c.in_ok-turn.ensures c.in-Refuted.is c.turns.invariant.0 in
     let P : List Step → Type 0 = λ z. AreSteps z in
     subst P (sym c.into_steps.ensures) came.are_steps
 
 pub returns-in-Spent-clause-valid : goal.returns-in-Spent-clause-valid
 returns-in-Spent-clause-valid c =
-    let came = comes c.args.budget c.args.formula.now.clauses c.turns.search c.turn.new.self c.in_ok-turn.turn turn.Spent
+    let came = comes c.args.budget c.args.formula.now.clauses c.turns.search c.turn.new.self c.in_ok-turn.turn
+    turn.Spent
     c.in_ok-turn.ensures c.in-Spent.is c.turns.invariant.0 in
     let P : List Step → Type 0 = λ z. Valid c.args.formula.now.clauses z in
     subst P (sym c.into_steps-in-Spent.ensures) came.valid
 
 pub returns-in-Spent-clause-resolved : goal.returns-in-Spent-clause-resolved
 returns-in-Spent-clause-resolved c =
-    let came = comes c.args.budget c.args.formula.now.clauses c.turns.search c.turn.new.self c.in_ok-turn.turn turn.Spent
+    let came = comes c.args.budget c.args.formula.now.clauses c.turns.search c.turn.new.self c.in_ok-turn.turn
+    turn.Spent
     c.in_ok-turn.ensures c.in-Spent.is c.turns.invariant.0 in
     let P : List Step → Type 0 = λ z. Resolved c.args.formula.now.clauses z in
     subst P (sym c.into_steps-in-Spent.ensures) came.resolved
 
 pub returns-in-Spent-clause-spent : goal.returns-in-Spent-clause-spent
 returns-in-Spent-clause-spent c =
-    let came = comes c.args.budget c.args.formula.now.clauses c.turns.search c.turn.new.self c.in_ok-turn.turn turn.Spent
+    let came = comes c.args.budget c.args.formula.now.clauses c.turns.search c.turn.new.self c.in_ok-turn.turn
+    turn.Spent
     c.in_ok-turn.ensures c.in-Spent.is c.turns.invariant.0 in
     let P : List Step → Type 0 = λ z. length (derived c.args.formula.now.clauses z) ≡ c.args.budget in
     subst P (sym c.into_steps-in-Spent.ensures) came.spent
 
 pub returns-in-Spent-clause-bound : goal.returns-in-Spent-clause-bound
 returns-in-Spent-clause-bound c =
-    let came = comes c.args.budget c.args.formula.now.clauses c.turns.search c.turn.new.self c.in_ok-turn.turn turn.Spent
+    let came = comes c.args.budget c.args.formula.now.clauses c.turns.search c.turn.new.self c.in_ok-turn.turn
+    turn.Spent
     c.in_ok-turn.ensures c.in-Spent.is c.turns.invariant.0 in
     subst (λ n. c.args.budget < 3 ^ n) (c.in_ok-turn.ensures.0 ∙ c.turns.invariant.1) came.bound
 
 pub returns-in-Spent-clause-added : goal.returns-in-Spent-clause-added
 returns-in-Spent-clause-added c =
-    let came = comes c.args.budget c.args.formula.now.clauses c.turns.search c.turn.new.self c.in_ok-turn.turn turn.Spent
+    let came = comes c.args.budget c.args.formula.now.clauses c.turns.search c.turn.new.self c.in_ok-turn.turn
+    turn.Spent
     c.in_ok-turn.ensures c.in-Spent.is c.turns.invariant.0 in
     let P : List Step → Type 0 = λ z. AreAdded c.args.formula.now.vars z in
-    subst P (sym c.into_steps-in-Spent.ensures) (subst (λ n. AreAdded n c.turn.new.self.steps) (c.in_ok-turn.ensures.0 ∙ c.turns.invariant.1) came.added)
+    subst P (sym c.into_steps-in-Spent.ensures) (subst (λ n. AreAdded n c.turn.new.self.steps)
+    (c.in_ok-turn.ensures.0 ∙ c.turns.invariant.1) came.added)
 
 pub returns-in-Spent-clause-steps : goal.returns-in-Spent-clause-steps
 returns-in-Spent-clause-steps c =
-    let came = comes c.args.budget c.args.formula.now.clauses c.turns.search c.turn.new.self c.in_ok-turn.turn turn.Spent
+    let came = comes c.args.budget c.args.formula.now.clauses c.turns.search c.turn.new.self c.in_ok-turn.turn
+    turn.Spent
     c.in_ok-turn.ensures c.in-Spent.is c.turns.invariant.0 in
     let P : List Step → Type 0 = λ z. AreSteps z in
     subst P (sym c.into_steps-in-Spent.ensures) came.are_steps

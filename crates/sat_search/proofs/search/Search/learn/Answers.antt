@@ -15,7 +15,8 @@ returns-then-self-eq0 c =
       left = i.left;
       taken = i.propagation;
     } in
-    subst (λ z. Turns z (with_clauses s c.learn.new.clauses c.learn.new.trail c.learn.new.steps (s.left - 1)) turn.Spent)
+    subst (λ z. Turns z (with_clauses s c.learn.new.clauses c.learn.new.trail c.learn.new.steps (s.left - 1))
+    turn.Spent)
     c.self.view_is
     (spends s c.learn.new.clauses c.learn.new.trail c.learn.new.steps c.in_ok-learn.ensures c.if-self-eq0.true)
 

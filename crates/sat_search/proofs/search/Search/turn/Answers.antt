@@ -4,7 +4,8 @@ use Rattle.sat_trail.specs.Trail.{Stand}
 use Rattle.sat_unit.specs.Propagation.{AllLits, Holds}
 use Rattle.sat_unit.specs.declared.scan.Scan.TheVariants as scan
 use Rattle.sat_search.specs.Turns.{State, IsSearch, Turns}
-use Rattle.sat_search.proofs.Turns.{with_taken, all_are_lits, stands, looked_at, searches_behind, forced_kept, turn_from}
+use Rattle.sat_search.proofs.Turns.{with_taken, all_are_lits, stands, looked_at, searches_behind}
+use Rattle.sat_search.proofs.Turns.{forced_kept, turn_from}
 use Rattle.sat_search.proofs.search.Search.turn.Goals as goal
 
 pub next-requires-clause-holds : goal.next-requires-clause-holds
@@ -61,7 +62,8 @@ force-requires-clause-search c =
       taken = i.propagation;
     } in
     let k : IsSearch s = subst IsSearch (sym c.self.view_is) c.requires in
-    let looked = looked_at s c.next.new.self c.as_slice.result.now c.in_ok-scan.scan (scan.Unit c.in-Unit.place c.in-Unit.lit) c.as_slice.ensures
+    let looked = looked_at s c.next.new.self c.as_slice.result.now c.in_ok-scan.scan (scan.Unit c.in-Unit.place
+    c.in-Unit.lit) c.as_slice.ensures
     c.in_ok-scan.ensures.sees c.in_ok-scan.ensures.holds c.in-Unit.is in
     searches_behind s c.next.new.self (scan.Unit c.in-Unit.place c.in-Unit.lit) looked k
 
@@ -77,7 +79,8 @@ force-requires-clause-looked c =
       taken = i.propagation;
     } in
     let k : IsSearch s = subst IsSearch (sym c.self.view_is) c.requires in
-    let looked = looked_at s c.next.new.self c.as_slice.result.now c.in_ok-scan.scan (scan.Unit c.in-Unit.place c.in-Unit.lit) c.as_slice.ensures
+    let looked = looked_at s c.next.new.self c.as_slice.result.now c.in_ok-scan.scan (scan.Unit c.in-Unit.place
+    c.in-Unit.lit) c.as_slice.ensures
     c.in_ok-scan.ensures.sees c.in_ok-scan.ensures.holds c.in-Unit.is in
     forced_kept (with_taken s c.next.new.self) c.in-Unit.place c.in-Unit.lit looked
     (searches_behind s c.next.new.self (scan.Unit c.in-Unit.place c.in-Unit.lit) looked k)
@@ -126,7 +129,8 @@ learn-requires-clause-search c =
       taken = i.propagation;
     } in
     let k : IsSearch s = subst IsSearch (sym c.self.view_is) c.requires in
-    let looked = looked_at s c.next.new.self c.as_slice.result.now c.in_ok-scan.scan (scan.Conflict c.in-Conflict.place) c.as_slice.ensures
+    let looked = looked_at s c.next.new.self c.as_slice.result.now c.in_ok-scan.scan (scan.Conflict
+    c.in-Conflict.place) c.as_slice.ensures
     c.in_ok-scan.ensures.sees c.in_ok-scan.ensures.holds c.in-Conflict.is in
     searches_behind s c.next.new.self (scan.Conflict c.in-Conflict.place) looked k
 
@@ -142,7 +146,8 @@ learn-requires-clause-looked c =
       taken = i.propagation;
     } in
     let k : IsSearch s = subst IsSearch (sym c.self.view_is) c.requires in
-    let looked = looked_at s c.next.new.self c.as_slice.result.now c.in_ok-scan.scan (scan.Conflict c.in-Conflict.place) c.as_slice.ensures
+    let looked = looked_at s c.next.new.self c.as_slice.result.now c.in_ok-scan.scan (scan.Conflict
+    c.in-Conflict.place) c.as_slice.ensures
     c.in_ok-scan.ensures.sees c.in_ok-scan.ensures.holds c.in-Conflict.is in
     looked
 
@@ -158,7 +163,8 @@ refute-requires-clause-search c =
       taken = i.propagation;
     } in
     let k : IsSearch s = subst IsSearch (sym c.self.view_is) c.requires in
-    let looked = looked_at s c.next.new.self c.as_slice.result.now c.in_ok-scan.scan (scan.Conflict c.in-Conflict.place) c.as_slice.ensures
+    let looked = looked_at s c.next.new.self c.as_slice.result.now c.in_ok-scan.scan (scan.Conflict
+    c.in-Conflict.place) c.as_slice.ensures
     c.in_ok-scan.ensures.sees c.in_ok-scan.ensures.holds c.in-Conflict.is in
     searches_behind s c.next.new.self (scan.Conflict c.in-Conflict.place) looked k
 
@@ -174,7 +180,8 @@ refute-requires-clause-looked c =
       taken = i.propagation;
     } in
     let k : IsSearch s = subst IsSearch (sym c.self.view_is) c.requires in
-    let looked = looked_at s c.next.new.self c.as_slice.result.now c.in_ok-scan.scan (scan.Conflict c.in-Conflict.place) c.as_slice.ensures
+    let looked = looked_at s c.next.new.self c.as_slice.result.now c.in_ok-scan.scan (scan.Conflict
+    c.in-Conflict.place) c.as_slice.ensures
     c.in_ok-scan.ensures.sees c.in_ok-scan.ensures.holds c.in-Conflict.is in
     looked
 
@@ -189,10 +196,12 @@ returns-in-Unit c =
       left = i.left;
       taken = i.propagation;
     } in
-    let looked = looked_at s c.next.new.self c.as_slice.result.now c.in_ok-scan.scan (scan.Unit c.in-Unit.place c.in-Unit.lit) c.as_slice.ensures
+    let looked = looked_at s c.next.new.self c.as_slice.result.now c.in_ok-scan.scan (scan.Unit c.in-Unit.place
+    c.in-Unit.lit) c.as_slice.ensures
     c.in_ok-scan.ensures.sees c.in_ok-scan.ensures.holds c.in-Unit.is in
     subst (λ z. IfOk c.force.result (Turns z c.force.new.self)) c.self.view_is
-    (turn_from s c.next.new.self c.force.new.self (scan.Unit c.in-Unit.place c.in-Unit.lit) c.force.result looked c.force.ensures)
+    (turn_from s c.next.new.self c.force.new.self (scan.Unit c.in-Unit.place c.in-Unit.lit) c.force.result looked
+    c.force.ensures)
 
 pub returns-in-Settled : goal.returns-in-Settled
 returns-in-Settled c =
@@ -221,10 +230,12 @@ returns-then-has_decision c =
       left = i.left;
       taken = i.propagation;
     } in
-    let looked = looked_at s c.next.new.self c.as_slice.result.now c.in_ok-scan.scan (scan.Conflict c.in-Conflict.place) c.as_slice.ensures
+    let looked = looked_at s c.next.new.self c.as_slice.result.now c.in_ok-scan.scan (scan.Conflict
+    c.in-Conflict.place) c.as_slice.ensures
     c.in_ok-scan.ensures.sees c.in_ok-scan.ensures.holds c.in-Conflict.is in
     subst (λ z. IfOk c.learn.result (Turns z c.learn.new.self)) c.self.view_is
-    (turn_from s c.next.new.self c.learn.new.self (scan.Conflict c.in-Conflict.place) c.learn.result looked c.learn.ensures)
+    (turn_from s c.next.new.self c.learn.new.self (scan.Conflict c.in-Conflict.place) c.learn.result looked
+    c.learn.ensures)
 
 pub returns-else-has_decision : goal.returns-else-has_decision
 returns-else-has_decision c =
@@ -237,7 +248,9 @@ returns-else-has_decision c =
       left = i.left;
       taken = i.propagation;
     } in
-    let looked = looked_at s c.next.new.self c.as_slice.result.now c.in_ok-scan.scan (scan.Conflict c.in-Conflict.place) c.as_slice.ensures
+    let looked = looked_at s c.next.new.self c.as_slice.result.now c.in_ok-scan.scan (scan.Conflict
+    c.in-Conflict.place) c.as_slice.ensures
     c.in_ok-scan.ensures.sees c.in_ok-scan.ensures.holds c.in-Conflict.is in
     subst (λ z. IfOk c.refute.result (Turns z c.refute.new.self)) c.self.view_is
-    (turn_from s c.next.new.self c.refute.new.self (scan.Conflict c.in-Conflict.place) c.refute.result looked c.refute.ensures)
+    (turn_from s c.next.new.self c.refute.new.self (scan.Conflict c.in-Conflict.place) c.refute.result looked
+    c.refute.ensures)
