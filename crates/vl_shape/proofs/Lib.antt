@@ -1,0 +1,4 @@
+pub mod ClassLemmas
+pub mod Bounded
+pub mod Shaped
+pub mod Whole
