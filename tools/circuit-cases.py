@@ -286,7 +286,7 @@ def answer(case, effect):
     """The numbers of the effect, and a digit for the retirement that does it, and for each with one number changed."""
     shown = [effect] + [dict(effect, **{key: effect[key] ^ CHANGES[key]}) for key in NUMBERS]
     digits = "".join(str(int(agrees(case, retire, effect))) for retire in shown)
-    return " ".join("%x" % effect[key] for key in NUMBERS) + " " + digits
+    return " ".join("%x" % effect[key] for key in NUMBERS) + " " + digits + " 1"
 
 
 # ---- operands

@@ -2,8 +2,9 @@
 //! memory in hexadecimal, and what the core may choose (`a` for aligned memory, `m` for alternative results of M, `c`
 //! for compressed instructions, `-` for none). A net plays a channel that shows these, and the answer is what the row's
 //! circuit shows, in the order of its nodes. Behind it stands a digit for the retirement that does all this, and for
-//! each of those that differ from it in one number: 1 where the node of agreement shows that it agrees. Blank lines,
-//! and those that begin with `#`, are no cases.
+//! each of those that differ from it in one number: 1 where the node of agreement shows that it agrees. Last comes a
+//! digit for the effect itself: 1 where it is the one that the table of instructions has. Blank lines, and those that
+//! begin with `#`, are no cases.
 #![tactic(auto)]
 
 mod case;

@@ -6,7 +6,7 @@ use crate::channel::play;
 use fv_base::{List, Memory};
 use rv_agree::agreement;
 use rv_circ::{EffectNodes, circuit};
-use rv_table::{Effect, Retire};
+use rv_table::{Effect, Retire, effect_of, matches};
 use std::alloc::Global;
 use wn_net::{Net, NodeId, State};
 
@@ -33,7 +33,7 @@ fn value(values: &[u128], node: NodeId) -> u32 {
 }
 
 /// The effect that the nodes show, where the word is one of the row.
-fn effect_of(values: &[u128], nodes: &EffectNodes) -> Option<Effect> {
+fn shown_effect(values: &[u128], nodes: &EffectNodes) -> Option<Effect> {
     if value(values, nodes.hit) == 0 {
         return None;
     }
@@ -57,7 +57,7 @@ fn circuit_shows(alloc: Global, case: &Case) -> Result<Option<Effect>, Memory> {
     let channel = play(&mut net, &case.retire)?;
     let nodes = circuit(&mut net, &channel, case.row, case.opts)?;
     let values = values(alloc, &net)?;
-    Ok(effect_of(values.as_slice(), &nodes))
+    Ok(shown_effect(values.as_slice(), &nodes))
 }
 
 /// What the node of agreement shows, over the row's circuit.
@@ -130,6 +130,11 @@ fn retirements(retire: &Retire, effect: &Effect) -> [Retire; 11] {
     ]
 }
 
+/// Whether the effect is the one that the table has.
+fn is_tabled(case: &Case, effect: &Effect) -> bool {
+    matches(case.row, case.retire.insn) && *effect == effect_of(case.row, &case.retire, case.opts)
+}
+
 /// The numbers of an effect in hexadecimal.
 fn line(alloc: Global, effect: &Effect) -> Result<String, Memory> {
     let numbers = [
@@ -152,7 +157,8 @@ fn line(alloc: Global, effect: &Effect) -> Result<String, Memory> {
     Ok(line)
 }
 
-/// What the case's circuit shows, and a digit for each of the retirements: 1 where it agrees.
+/// What the case's circuit shows, a digit for each of the retirements, 1 where it agrees, and one for the effect itself,
+/// 1 where it is the table's.
 pub(crate) fn shown(alloc: Global, case: &Case) -> Result<String, Memory> {
     let Some(effect) = circuit_shows(alloc, case)? else {
         return Ok(format!(in alloc; "no hit")?);
@@ -162,5 +168,6 @@ pub(crate) fn shown(alloc: Global, case: &Case) -> Result<String, Memory> {
         let agrees = agreement_shows(alloc, &Case { retire, ..*case })?;
         line.push(if agrees { '1' } else { '0' })?;
     }
+    line.push_str(if is_tabled(case, &effect) { " 1" } else { " 0" })?;
     Ok(line)
 }

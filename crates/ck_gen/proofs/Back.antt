@@ -24,7 +24,7 @@ use Rattle.rvfi_port.specs.Ports.{AreChannelNodes}
 use Rattle.ck_past.specs.Retirements.{retirements, dmem_addr_at, probe_at}
 use Rattle.ck_past.specs.Kept.{holds_over, LooksBack}
 use Rattle.ck_past.proofs.Monitored.{IsAmong, looks_back}
-use Rattle.ck_past.proofs.Shown.{channels_on, retire_on}
+use Rattle.rvfi_port.proofs.AddedRegs.{channels_on, retire_on}
 use Rattle.ck_gen.specs.Monitors.{TellsOver, holds_in}
 use Rattle.ck_gen.proofs.Recalled.{IsRecalled, to_kept, to_new, given, entries, all_entries, last, all_shown}
 use Rattle.ck_gen.proofs.Recalled.{given_back, show_back, drop_nodes, among_nodes, dmem_on, unless_held}

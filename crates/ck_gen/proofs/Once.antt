@@ -29,7 +29,7 @@ use Rattle.rvfi_port.specs.Ports.{AreChannelNodes, ArePortNodes, AreImemNodes}
 use Rattle.ck_past.specs.Retirements.{retirements, imem_addr_at, imem_data_at, probe_at}
 use Rattle.ck_past.proofs.Monitored.{IsAmong}
 use Rattle.ck_past.proofs.Property.{found_is}
-use Rattle.ck_past.proofs.Shown.{channels_on, retire_on}
+use Rattle.rvfi_port.proofs.AddedRegs.{channels_on, retire_on}
 use Rattle.ck_gen.specs.Monitors.{IsMonitor, IsMonitorOfEachCycle, LooksAtOne, holds_alone, probe_of, at_cycle}
 use Rattle.ck_gen.proofs.Recalled.{given_back, among_nodes, unless_held}
 

@@ -7,7 +7,7 @@ use Rattle.wn_net.specs.Changes.{AddsRegs}
 use Rattle.rvfi_port.specs.declared.port.Channel.{Channel}
 use Rattle.rvfi_port.specs.Ports.{AreChannelNodes}
 use Rattle.ck_past.proofs.Monitored.{is_among}
-use Rattle.ck_past.proofs.Shown.{channels_on}
+use Rattle.rvfi_port.proofs.AddedRegs.{channels_on}
 use Rattle.ck_gen.proofs.Recalled.{among_nodes}
 
 pub channel_at : (old new : Netlist) (all cs : List Channel) (place : ℕ) (d : Channel) → AddsRegs old new

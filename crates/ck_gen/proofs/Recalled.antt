@@ -26,7 +26,8 @@ use Rattle.rvfi_port.specs.Ports.{AreChannelNodes, ArePortNodes, IsDmemNode}
 use Rattle.ck_past.specs.Retirements.{dmem_addr_at}
 use Rattle.ck_past.specs.Kept.{kept_in}
 use Rattle.ck_past.proofs.Monitored.{IsAmong}
-use Rattle.ck_past.proofs.Shown.{channels_on, kept_on, words_show}
+use Rattle.rvfi_port.proofs.AddedRegs.{channels_on}
+use Rattle.ck_past.proofs.Shown.{kept_on, words_show}
 
 -- numbers of a net with more nodes are numbers of the old one
 pub given_back : (old new : Netlist) (g : Given) → AddsNodes old new → IsGiven new g → IsGiven old g

@@ -7,7 +7,7 @@ use Rattle.bm_clauses.specs.Runs.{ModelsAreRuns, values_in}
 use Rattle.rvfi_port.specs.declared.port.Channel.{Channel}
 use Rattle.rvfi_port.specs.Channels.{nodes_of}
 use Rattle.rvfi_port.specs.Ports.{AreChannelNodes}
-use Rattle.ck_past.proofs.Shown.{channel_nodes_on}
+use Rattle.rvfi_port.proofs.AddedRegs.{channel_nodes_on}
 use Rattle.ck_past.proofs.Words.{channel_here}
 use Rattle.ck_gen.specs.Monitors.{AddsFew}
 use Rattle.ck_gen.proofs.Once.{no_channel}

@@ -4,7 +4,7 @@ use Rattle.wn_net.proofs.Laws.{adds_on, adds_regs, given_on, value_on}
 use Rattle.wn_truth.proofs.Laws.{told, told_on}
 use Rattle.ck_lines.proofs.Entries.{show_on}
 use Rattle.ck_past.specs.Kept.{all_as_stored}
-use Rattle.ck_past.proofs.Shown.{retire_on}
+use Rattle.rvfi_port.proofs.AddedRegs.{retire_on}
 use Rattle.ck_gen.proofs.stored.loads_what_was_stored.Goals as goal
 
 pub returns-clause-tells : goal.returns-clause-tells

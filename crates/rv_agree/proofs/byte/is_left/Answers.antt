@@ -5,7 +5,7 @@ use Rattle.rv_table.specs.Agree.{has, keeps}
 use Rattle.wn_net.proofs.Laws.{adds_on, node_on, built_node}
 use Rattle.rvfi_port.specs.Channels.{retire_at}
 use Rattle.rv_words.proofs.BitLemmas.{not_bit, either_is}
-use Rattle.rv_circ.proofs.ChannelLemmas.{retire_on}
+use Rattle.rvfi_port.proofs.AddedNodes.{retire_on}
 use Rattle.rv_agree.proofs.byte.is_left.Goals as goal
 
 pub returns-clause-shows : goal.returns-clause-shows

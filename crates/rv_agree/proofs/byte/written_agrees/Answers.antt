@@ -5,7 +5,7 @@ use Rattle.rv_table.specs.Agree.{has, byte, keeps}
 use Rattle.wn_net.specs.Net.{value_at}
 use Rattle.wn_net.proofs.Laws.{adds_on, node_on, built_node}
 use Rattle.rvfi_port.specs.Channels.{retire_at}
-use Rattle.rv_circ.proofs.ChannelLemmas.{retire_on}
+use Rattle.rvfi_port.proofs.AddedNodes.{retire_on}
 use Rattle.rv_agree.proofs.TestLemmas.{chosen_is}
 use Rattle.rv_agree.proofs.byte.written_agrees.Goals as goal
 

@@ -1,7 +1,7 @@
 use Rattle.std.proofs.Common.{◌∙◌}
 use Rattle.rv_table.specs.Effect.{effect}
 use Rattle.wn_net.proofs.Laws.{node_on}
-use Rattle.rv_circ.proofs.ChannelLemmas.{retire_on}
+use Rattle.rvfi_port.proofs.AddedNodes.{retire_on}
 use Rattle.rv_circ.proofs.effect.add_circuit.Goals as goal
 
 pub returns-clause-hit : goal.returns-clause-hit

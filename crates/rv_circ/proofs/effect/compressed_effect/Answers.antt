@@ -1,6 +1,6 @@
 use Rattle.std.proofs.Common.{◌∙◌}
 use Rattle.rv_table.specs.Effect.{effect, word_effect}
-use Rattle.rv_circ.proofs.ChannelLemmas.{retire_on}
+use Rattle.rvfi_port.proofs.AddedNodes.{retire_on}
 use Rattle.rv_circ.proofs.effect.compressed_effect.Goals as goal
 
 pub returns-clause-shows : goal.returns-clause-shows
