@@ -41,28 +41,26 @@ use Rattle.vl_mean.specs.declared.const_number.Const.{Const}
 use Rattle.vl_mean.specs.Declarations.{class_of_attributes, class_of_kind, joined_attributes, declared_names}
 use Rattle.vl_mean.specs.Declarations.{declared_integers, declared_by, declared, declared_ports, vector, integer_decl}
 use Rattle.vl_mean.specs.Declarations.{port_decl, full_port, full_ports, is_output, class_of_port, word_bounds}
-use Rattle.vl_mean.specs.Declarations.{vector_bounds}
 use Rattle.vl_mean.specs.Scopes.{Scope, constant_in}
 use Rattle.vl_mean.specs.Walk.{Use, port_names}
-use Rattle.vl_refusal.specs.Meanings.{Meaning, value_of, loop_variable, Names, constants, is_undeclared, meaning_of, object_or}
+use Rattle.vl_refusal.specs.Meanings.{value_of, Names, constants, object_or}
 use Rattle.vl_refusal.specs.Meanings.{is_known_range, is_known_shape, may_have_words, item_names}
 use Rattle.vl_refusal.specs.Meanings.{items_names, is_input, port_meanings, name_meanings, item_meanings}
 use Rattle.vl_refusal.specs.Meanings.{items_meanings}
 use Rattle.vl_alike.specs.Alike.{Alike}
 use Rattle.vl_alike.proofs.Items.{same_known_range}
 use Rattle.vl_fixed.specs.Among.{AreAmong}
-use Rattle.vl_enter.specs.declared.extents.Extent.{Extent}
 use Rattle.vl_enter.specs.Known.{known_extent, extent_of}
 use Rattle.vl_shape.specs.declared.forms.Form.{Form}
 use Rattle.vl_shape.specs.declared.forms.PortForm.{PortForm}
 use Rattle.vl_shape.specs.declared.inputs.Inputs.{Inputs}
-use Rattle.vl_shape.specs.Inputs.{AreInputs, is_top, class_of}
-use Rattle.vl_shape.specs.Objects.{decl_with, object_with, words_if_known, declaration_form, integer_form, with_one}
+use Rattle.vl_shape.specs.Inputs.{AreInputs}
+use Rattle.vl_shape.specs.Objects.{object_with, words_if_known, declaration_form, integer_form, with_one}
 use Rattle.vl_shape.specs.Objects.{with_declared, with_genvars, with_item, with_items, port_form, next_form, port_text}
 use Rattle.vl_shape.specs.Objects.{output_class, port_class, form_of_port, with_port, with_ports, scope_objects}
 use Rattle.vl_shape.specs.Shaped.{ArePlain, IsDeclared, AreShaped}
 use Rattle.vl_param.proofs.KeptParameters.{same_shape}
-use Rattle.vl_shape.proofs.Bounded.{extent_is, words_known, object_is, object_named, and_first}
+use Rattle.vl_shape.proofs.Bounded.{extent_is, words_known, object_is, object_named}
 use Rattle.vl_shape.proofs.Shaped.{none_shaped, object_shaped, shaped_to, genvars_shaped}
 
 pub plain_front : (xs ys : List (List ℕ)) → ArePlain (xs ++ ys) → ArePlain xs
@@ -306,7 +304,8 @@ module _ (s : Scope) (outer ns ms : List Names) (h : Alike ns ms) (ss : List Sco
             let form = form_of_port inputs (port_form ns p) p.name in
             let kept = object_with form p.name (known_extent ns p.shape.range) (Some None) in
             shaped_to s _ _ _ _ _
-            (append_assoc m ((p.name, meant) ∷ []) (port_meanings s outer ms qs)) (append_assoc before (d ∷ []) (decls qs))
+            (append_assoc m ((p.name, meant) ∷ []) (port_meanings s outer ms qs))
+            (append_assoc before (d ∷ []) (decls qs))
             (f (with_port inputs l (Some (port_form ns p)) p.name) (m ++ (p.name, meant) ∷ []) (before ++ d ∷ []) q.1
             (e ∙ ap (λ b. b ++ more) (sym (append_assoc before (d ∷ []) (decls qs))))
             (object_shaped s l m before k p.name d refl (decls qs ++ more) kept known input scalar
@@ -324,7 +323,8 @@ module _ (s : Scope) (outer ns ms : List Names) (h : Alike ns ms) (ss : List Sco
             → AreShaped
             (with_ports ns inputs (with_port inputs l (next_form ns (form_behind last) kind) (port_text kind))
             (next_form ns (form_behind last) kind) ps)
-            (m ++ port_meanings s outer ms (option_to_list (full_port last kind) ++ full_ports (full_port last kind) ps))
+            (m ++ port_meanings s outer ms
+            (option_to_list (full_port last kind) ++ full_ports (full_port last kind) ps))
             (before ++ decls (option_to_list (full_port last kind) ++ full_ports (full_port last kind) ps))
         by last (port.Full p) q e f = front p (λ l m before q e k. f (Some p) l m before q e k) q e
         by None (port.Short text value) q e f = f None l m before q e k
@@ -352,4 +352,5 @@ pub all_objects_shaped : (s : Scope) (outer ns known : List Names) (ss : List Sc
     → AreShaped (scope_objects ns inputs ps xs)
     (port_meanings s outer known (full_ports None ps) ++ items_meanings s outer known xs) s.decls
 all_objects_shaped s outer ns known ss inputs u ps xs g h d =
-    shaped_to s _ _ _ _ _ refl (sym d.decls) (scope_shaped s outer ns known h ss d.among inputs u g ps xs d.plain d.decls)
+    shaped_to s _ _ _ _ _ refl (sym d.decls)
+    (scope_shaped s outer ns known h ss d.among inputs u g ps xs d.plain d.decls)

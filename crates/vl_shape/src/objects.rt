@@ -49,7 +49,8 @@ pub fn objects_of_scope(
         → AreInputs inputs.now u → Alike names.now known
         → IsDeclared s known ss u (full_ports None ports.now) (items all.now)
         → AreShaped level
-        (port_meanings s outer known (full_ports None ports.now) ++ items_meanings s outer known (items all.now)) s.decls) }
+        (port_meanings s outer known (full_ports None ports.now)
+        ++ items_meanings s outer known (items all.now)) s.decls) }
 {
     all_objects(alloc, inputs, ports, all, names)
 }

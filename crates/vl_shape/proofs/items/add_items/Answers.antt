@@ -9,7 +9,8 @@ pub loop-item-preserved : goal.loop-item-preserved
 loop-item-preserved c =
     let front : drop c.loop-item.item-index c.args.all.now ≡ c.item-item.result
     ∷ drop (c.loop-item.item-index + 1) c.args.all.now = grind (arith, common_steps) in
-    ap (λ s. with_items c.args.names.now s (items (drop (c.loop-item.item-index + 1) c.args.all.now))) c.in_ok-add_item.ensures
+    ap (λ s. with_items c.args.names.now s (items (drop (c.loop-item.item-index + 1) c.args.all.now)))
+    c.in_ok-add_item.ensures
     ∙ ap (λ xs. with_items c.args.names.now c.loop-item.level (items xs)) (sym front) ∙ c.loop-item.invariant
 
 pub returns : goal.returns

@@ -8,7 +8,8 @@ pub loop-name-preserved : goal.loop-name-preserved
 loop-name-preserved c =
     let front : drop c.loop-name.name-index c.args.all.now ≡ c.name-item.result
     ∷ drop (c.loop-name.name-index + 1) c.args.all.now = grind (arith, common_steps) in
-    ap (λ s. with_declared c.args.names.now c.args.form s (drop (c.loop-name.name-index + 1) c.args.all.now)) c.in_ok-add_name.ensures
+    ap (λ s. with_declared c.args.names.now c.args.form s (drop (c.loop-name.name-index + 1) c.args.all.now))
+    c.in_ok-add_name.ensures
     ∙ ap (λ xs. with_declared c.args.names.now c.args.form c.loop-name.level xs) (sym front) ∙ c.loop-name.invariant
 
 pub returns : goal.returns

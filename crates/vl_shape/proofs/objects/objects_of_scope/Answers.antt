@@ -24,5 +24,6 @@ returns c =
     → IsDeclared s known ss u (full_ports None ports) xs
     → AreShaped level (port_meanings s outer known (full_ports None ports) ++ items_meanings s outer known xs) s.decls)
     (λ level e s outer known ss u g h d.
-    subst (λ l. AreShaped l (port_meanings s outer known (full_ports None ports) ++ items_meanings s outer known xs) s.decls)
+    subst (λ l. AreShaped l
+    (port_meanings s outer known (full_ports None ports) ++ items_meanings s outer known xs) s.decls)
     (sym e) (all_objects_shaped s outer ns known ss inputs u ports xs g h d)) c.all_objects.ensures
