@@ -1,0 +1,14 @@
+use Rattle.std.proofs.Common.{sym, subst, ◌∙◌, arith}
+use Rattle.cnf_text.specs.Dimacs.{HasNoEnd}
+use Rattle.note_lines.proofs.Lines.{line_no_end}
+use Rattle.note_lines.proofs.line.line_text.Goals as goal
+
+pub returns-clause-one_line : goal.returns-clause-one_line
+returns-clause-one_line c =
+    λ h. subst HasNoEnd (sym (c.from_vec.ensures ∙ c.in_ok-bytes.ensures))
+    (line_no_end (record {
+      literal = c.args.literal;
+      cycle = c.args.cycle;
+      bit = c.args.bit;
+      name = c.args.name.now;
+    }) (omega (arith, c.ranges.literal)) (omega (arith, c.ranges.cycle)) (omega (arith, c.ranges.bit)) h)
