@@ -1,0 +1,10 @@
+pub mod Behind
+pub mod Writing
+pub mod Logging
+pub mod Standing
+pub mod Assigning
+pub mod Sharing
+pub mod Both
+pub mod Several
+pub mod Parting
+pub mod Stores
