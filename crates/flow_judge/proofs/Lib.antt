@@ -1,0 +1,8 @@
+pub mod Tests
+pub mod NameBits
+pub mod NameMarks
+pub mod Layouts
+pub mod RowLists
+pub mod Shared
+pub mod Firsts
+pub mod OpenBits

@@ -1,0 +1,147 @@
+-- Rows of names, driver by driver.
+use Rattle.std.specs.Prelude.{◌≡◌, refl, ℕ, zero, suc, ◌+◌, ◌<◌, ◌≤◌, List, [], ◌∷◌, ◌++◌, length, take}
+use Rattle.std.specs.Prelude.{Bool, true, false, ◌&&◌, ◌||◌, Some, is_none, slice_get}
+use Rattle.std.proofs.Common.{ap, sym, ◌∙◌, arith, subst, true≢false, get_or}
+use Rattle.std.proofs.lemmas.List.{take_all, take_more}
+use Rattle.std.proofs.lemmas.Option.{same_Some, slice_get-get_or}
+use Rattle.vl_size.specs.declared.decl.Decl.{Decl}
+use Rattle.vl_mean.specs.declared.driver.Driver.{Driver}
+use Rattle.vl_mean.specs.declared.driver.DriverKind.{DriverKind}
+use Rattle.bit_sets.specs.declared.step.Step.{Step}
+use Rattle.bit_sets.specs.Cells.{has}
+use Rattle.vl_path.specs.Drivers.{driven_by, is_clocked, needed_by}
+use Rattle.vl_path.specs.Reads.{Bits}
+use Rattle.vl_order.specs.Refusals.{has_bit}
+use Rattle.flow_reads.specs.declared.footprint.Footprint.{Footprint}
+use Rattle.flow_cells.specs.Numbered.{Shows}
+use Rattle.flow_cells.proofs.Lists.{get_less, get_some}
+use Rattle.flow_judge.specs.declared.layout.Layout.{Layout}
+use Rattle.flow_judge.specs.declared.which.Which.{Which}
+use Rattle.flow_judge.specs.Layouts.{IsLayoutOf, Marks}
+use Rattle.flow_judge.specs.Rows.{AreNameRows, AreSets, picked, picks}
+use Rattle.flow_judge.proofs.Tests.{or_same}
+
+module _ (ds : List Decl) where
+  pub sets_length : (K : DriverKind → Bits) (sets : List (List Step)) (drivers : List Driver)
+      → AreSets ds K sets drivers → length sets ≡ length drivers
+  sets_length K [] [] h = refl
+  sets_length K (s ∷ sets) (x ∷ drivers) h = ap suc (sets_length K sets drivers h.1)
+  sets_length K [] (x ∷ drivers) h = absurd h
+  sets_length K (s ∷ sets) [] h = absurd h
+
+  pub set_at : (K : DriverKind → Bits) (sets : List (List Step)) (drivers : List Driver) → AreSets ds K sets drivers
+      → (k : ℕ) (s : List Step) (x : Driver) → slice_get sets k ≡ Some s → slice_get drivers k ≡ Some x
+      → Shows ds (has s) (K x.what)
+  set_at K [] drivers h k s x e f = absurd (true≢false (ap is_none e))
+  set_at K (t ∷ sets) [] h k s x e f = absurd h
+  set_at K (t ∷ sets) (y ∷ drivers) h zero s x e f =
+      subst (λ z. Shows ds (has z) (K x.what)) (same_Some t s e)
+      (subst (λ z. Shows ds (has t) (K z.what)) (same_Some y x f) h.0)
+  set_at K (t ∷ sets) (y ∷ drivers) h (suc k) s x e f = set_at K sets drivers h.1 k s x e f
+
+  sets_push : (K : DriverKind → Bits) (sets : List (List Step)) (xs : List Driver) (s : List Step) (x : Driver)
+      → AreSets ds K sets xs → Shows ds (has s) (K x.what) → AreSets ds K (sets ++ s ∷ []) (xs ++ x ∷ [])
+  sets_push K [] [] s x h m = (m, tt)
+  sets_push K (t ∷ sets) (y ∷ xs) s x h m = (h.0, sets_push K sets xs s x h.1 m)
+  sets_push K [] (y ∷ xs) s x h m = absurd h
+  sets_push K (t ∷ sets) [] s x h m = absurd h
+
+  module _ (K : DriverKind → Bits) (drivers : List Driver) where
+    pub no_sets : (sets : List (List Step)) → sets ≡ [] → AreSets ds K sets (take 0 drivers)
+    no_sets sets e = subst (λ ss. AreSets ds K ss []) (sym e) tt
+
+    one_set_more : (sets more : List (List Step)) (set : List Step) (at : ℕ) (x : Driver)
+        → slice_get drivers at ≡ Some x → Shows ds (has set) (K x.what) → AreSets ds K sets (take at drivers)
+        → more ≡ sets ++ set ∷ [] → AreSets ds K more (take (at + 1) drivers)
+    one_set_more sets more set at x e shows were is =
+        let less = get_less drivers at x e in
+        let same : get_or drivers at x ≡ x =
+        same_Some (get_or drivers at x) x (sym (slice_get-get_or drivers at x less) ∙ e) in
+        subst (λ ss. AreSets ds K ss (take (at + 1) drivers)) (sym is)
+        (subst (AreSets ds K (sets ++ set ∷ [])) (sym (take_more drivers at x less))
+        (subst (λ y. AreSets ds K (sets ++ set ∷ []) (take at drivers ++ y ∷ [])) (sym same)
+        (sets_push K sets (take at drivers) set x were shows)))
+
+    pub all_sets : (sets : List (List Step)) (at : ℕ) → length drivers ≤ at → AreSets ds K sets (take at drivers)
+        → AreSets ds K sets drivers
+    all_sets sets at le h = subst (AreSets ds K sets) (take_all at drivers le) h
+
+  pub rows_length : (t : Driver → Decl → Bool) (rows : List (List Step)) (drivers : List Driver)
+      → AreNameRows ds t rows drivers → length rows ≡ length drivers
+  rows_length t [] [] h = refl
+  rows_length t (r ∷ rows) (x ∷ drivers) h = ap suc (rows_length t rows drivers h.1)
+  rows_length t [] (x ∷ drivers) h = absurd h
+  rows_length t (r ∷ rows) [] h = absurd h
+
+  rows_push : (t : Driver → Decl → Bool) (rows : List (List Step)) (xs : List Driver) (r : List Step) (x : Driver)
+      → AreNameRows ds t rows xs → Marks ds r (t x) → AreNameRows ds t (rows ++ r ∷ []) (xs ++ x ∷ [])
+  rows_push t [] [] r x h m = (m, tt)
+  rows_push t (q ∷ rows) (y ∷ xs) r x h m = (h.0, rows_push t rows xs r x h.1 m)
+  rows_push t [] (y ∷ xs) r x h m = absurd h
+  rows_push t (q ∷ rows) [] r x h m = absurd h
+
+  module _ (t : Driver → Decl → Bool) (drivers : List Driver) where
+    pub no_rows : (rows : List (List Step)) → rows ≡ [] → AreNameRows ds t rows (take 0 drivers)
+    no_rows rows e = subst (λ rs. AreNameRows ds t rs []) (sym e) tt
+
+    pub one_row_more : (rows more : List (List Step)) (row : List Step) (at : ℕ) (x : Driver)
+        → slice_get drivers at ≡ Some x → Marks ds row (t x) → AreNameRows ds t rows (take at drivers)
+        → more ≡ rows ++ row ∷ [] → AreNameRows ds t more (take (at + 1) drivers)
+    one_row_more rows more row at x e marks were is =
+        let less = get_less drivers at x e in
+        let same : get_or drivers at x ≡ x =
+        same_Some (get_or drivers at x) x (sym (slice_get-get_or drivers at x less) ∙ e) in
+        subst (λ rs. AreNameRows ds t rs (take (at + 1) drivers)) (sym is)
+        (subst (AreNameRows ds t (rows ++ row ∷ [])) (sym (take_more drivers at x less))
+        (subst (λ y. AreNameRows ds t (rows ++ row ∷ []) (take at drivers ++ y ∷ [])) (sym same)
+        (rows_push t rows (take at drivers) row x were marks)))
+
+    pub all_rows : (rows : List (List Step)) (at : ℕ) → length drivers ≤ at → AreNameRows ds t rows (take at drivers)
+        → AreNameRows ds t rows drivers
+    all_rows rows at le h = subst (AreNameRows ds t rows) (take_all at drivers le) h
+
+-- ---- one turn of each loop
+
+abbrev pub IsNamedBy : Layout → Bool → List Step → List Step → Type 0
+IsNamedBy l counts s row =
+    (ds : List Decl) (drivers : List Driver) (K : Bits) → IsLayoutOf ds drivers l → Shows ds (has s) K
+    → Marks ds row (λ d. counts && has_bit K d)
+
+module _ (ds : List Decl) (drivers : List Driver) (l : Layout) (w : IsLayoutOf ds drivers l) where
+  pub picked_more : (which : Which) (K : DriverKind → Bits) (sets : List (List Step)) (at : ℕ) (s : List Step)
+      (f : Footprint) (counts : Bool) (rows more : List (List Step)) (row : List Step) → AreSets ds K sets drivers
+      → slice_get sets at ≡ Some s → slice_get l.footprints at ≡ Some f → counts ≡ picks which f.is_clocked
+      → IsNamedBy l counts s row → AreNameRows ds (picked which K) rows (take at drivers) → more ≡ rows ++ row ∷ []
+      → AreNameRows ds (picked which K) more (take (at + 1) drivers)
+  picked_more which K sets at s f counts rows more row are e g is named were pushed =
+      let less = get_less sets at s e in
+      let x = get_some drivers at (omega (arith, less, sets_length ds K sets drivers are)) in
+      let clocked = (w.footprints.each at f x.0 g x.1).clocked in
+      let marks = named ds drivers (K x.0.what) w (set_at ds K sets drivers are at s x.0 e x.1) in
+      one_row_more ds (picked which K) drivers rows more row at x.0 x.1
+      (subst (λ b. Marks ds row (λ d. b && has_bit (K x.0.what) d)) (is ∙ ap (picks which) clocked) marks) were pushed
+
+  pub read_more : (at : ℕ) (f : Footprint) (rows more : List (List Step)) (row : List Step)
+      → slice_get l.footprints at ≡ Some f
+      → ((ds : List Decl) (drivers : List Driver) (K : Bits) → IsLayoutOf ds drivers l → Shows ds (has f.needs) K
+      → Marks ds row (has_bit K))
+      → AreNameRows ds (λ x. has_bit (needed_by ds x.what)) rows (take at drivers) → more ≡ rows ++ row ∷ []
+      → AreNameRows ds (λ x. has_bit (needed_by ds x.what)) more (take (at + 1) drivers)
+  read_more at f rows more row g named were pushed =
+      let less = get_less l.footprints at f g in
+      let x = get_some drivers at (omega (arith, less, w.footprints.size)) in
+      let shows = (w.footprints.each at f x.0 g x.1).needs in
+      one_row_more ds (λ z. has_bit (needed_by ds z.what)) drivers rows more row at x.0 x.1
+      (named ds drivers (needed_by ds x.0.what) w shows) were pushed
+
+  pub drives_more : (at : ℕ) (f : Footprint) (sets more : List (List Step)) (set : List Step)
+      → slice_get l.footprints at ≡ Some f
+      → ((c i : ℕ) → has set c i ≡ (has f.drives c i || has f.drives c i))
+      → AreSets ds (driven_by ds) sets (take at drivers) → more ≡ sets ++ set ∷ []
+      → AreSets ds (driven_by ds) more (take (at + 1) drivers)
+  drives_more at f sets more set g is were pushed =
+      let less = get_less l.footprints at f g in
+      let x = get_some drivers at (omega (arith, less, w.footprints.size)) in
+      let shows = (w.footprints.each at f x.0 g x.1).drives in
+      one_set_more ds (driven_by ds) drivers sets more set at x.0 x.1
+      (λ c n i e. is c i ∙ or_same (has f.drives c i) ∙ shows c n i e) were pushed

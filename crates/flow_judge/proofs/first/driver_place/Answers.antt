@@ -1,0 +1,46 @@
+use Rattle.std.proofs.Common.{◌≡◌, ◌+◌, ◌-◌, ◌<◌, ◌≤◌, ◌∙◌, arith, ap, sym, subst, refl, length, drop, slice_get, Some}
+use Rattle.std.proofs.lemmas.Option.{slice_get_read}
+use Rattle.vl_order.specs.Refusals.{place_of}
+use Rattle.flow_judge.proofs.Firsts.{none_behind, one_before}
+use Rattle.flow_judge.proofs.first.driver_place.Goals as goal
+
+pub back-init : goal.back-init
+back-init c = record {
+  within = omega arith;
+  found = λ ds place d w at span. none_behind ds c.args.drivers.now d (length c.args.drivers.now) (omega arith);
+}
+
+pub back-preserved : goal.back-preserved
+back-preserved c =
+    let drivers = c.args.drivers.now in
+    let fs = c.as_slice-footprints.result.now in
+    let rest = c.back.rest - 1 in
+    let size : length fs ≡ length drivers = ap length c.as_slice-footprints.ensures ∙ c.requires in
+    let less : rest < length drivers = omega (arith, c.back-test.true, c.back.invariant.within) in
+    let next : c.back.rest ≡ rest + 1 = omega (arith, c.back-test.true) in
+    let x = c.index-drivers-rest.result in
+    let f = c.index-footprints-rest.result in
+    let driver : slice_get drivers rest ≡ Some x =
+    slice_get_read drivers (length drivers) rest x refl less c.index-drivers-rest.is in
+    let set : slice_get c.args.layout.now.footprints rest ≡ Some f =
+    ap (λ xs. slice_get xs rest) (sym c.as_slice-footprints.ensures)
+    ∙ slice_get_read fs (length fs) rest f refl (omega (arith, less, size)) c.index-footprints-rest.is in record {
+      within = omega (arith, c.back.invariant.within);
+      found = λ ds place d w at span.
+          one_before ds drivers d rest x c.place_if-one.result c.back.found c.earlier_place-found.result driver
+          (c.place_if-one.ensures ds place d w.all (w.footprints.each rest f x set driver) at span)
+          (subst (λ k. c.back.found ≡ place_of ds (drop k drivers) d) next
+          (c.back.invariant.found ds place d w at span)) c.earlier_place-found.ensures;
+    }
+
+pub returns : goal.returns
+returns c ds place d w at span =
+    let zero : c.back.rest ≡ 0 = omega (arith, c.back-test.false) in
+    subst (λ k. c.back.found ≡ place_of ds (drop k c.args.drivers.now) d) zero
+    (c.back.invariant.found ds place d w at span)
+
+pub bounds-footprints-rest : goal.bounds-footprints-rest
+bounds-footprints-rest c =
+    let size : length c.as_slice-footprints.result.now ≡ length c.args.drivers.now =
+    ap length c.as_slice-footprints.ensures ∙ c.requires in
+    omega (arith, size, c.back-test.true, c.back.invariant.within)

@@ -1,0 +1,12 @@
+use Rattle.flow_judge.proofs.Firsts.{ArePassed, IsMarked}
+use Rattle.flow_reads.proofs.Visiting.{ahead}
+use Rattle.flow_judge.proofs.first.first_named.Given as goal
+
+abbrev pub invariant-loop-next : goal.invariant-loop-next
+invariant-loop-next l = record {
+  passed : ArePassed l.decls l.drivers l.marked l.next;
+  marked : IsMarked l.decls l.drivers l.marked l.next;
+}
+
+abbrev pub decreases-loop-next : goal.decreases-loop-next
+decreases-loop-next l = ahead l.next

@@ -1,0 +1,8 @@
+use Rattle.flow_judge.specs.Rows.{picked}
+use Rattle.flow_judge.proofs.Shared.{rows_marked}
+use Rattle.flow_judge.proofs.rows.names_of.Goals as goal
+
+pub returns : goal.returns
+returns c ds drivers K w are =
+    rows_marked ds (picked c.args.which K) c.in_ok-rows.rows.items c.as_slice.result.now c.in_ok-union_of.field-0
+    drivers (c.in_ok-rows.ensures ds drivers K w are) c.as_slice.ensures.value c.in_ok-union_of.ensures

@@ -1,0 +1,40 @@
+-- Sets of bits, one for each driver. Rule of this project.
+use Rattle.std.specs.Prelude.{◌≡◌, ℕ, List, [], ◌∷◌, length, Bool, true, false, ◌&&◌, ◌||◌, not, Some, slice_get}
+use Rattle.vl_size.specs.declared.decl.Decl.{Decl}
+use Rattle.vl_mean.specs.declared.driver.Driver.{Driver}
+use Rattle.vl_mean.specs.declared.driver.DriverKind.{DriverKind}
+use Rattle.bit_sets.specs.declared.step.Step.{Step}
+use Rattle.bit_sets.specs.Cells.{has}
+use Rattle.vl_path.specs.Drivers.{is_clocked}
+use Rattle.vl_path.specs.Reads.{Bits}
+use Rattle.vl_order.specs.Refusals.{has_bit}
+use Rattle.flow_cells.specs.Numbered.{Shows}
+use Rattle.flow_judge.specs.declared.which.Which.{Which}
+use Rattle.flow_judge.specs.declared.which.Which.TheVariants as w
+use Rattle.flow_judge.specs.Layouts.{Marks}
+
+abbrev pub picks : Which → Bool → Bool
+picks w.All clocked = true
+picks w.Clocked clocked = clocked
+picks w.Settled clocked = not clocked
+
+-- the drivers' sets, in their order
+abbrev pub AreSets : List Decl → (DriverKind → Bits) → List (List Step) → List Driver → Type 0
+AreSets ds K [] [] = Unit {0}
+AreSets ds K (s ∷ sets) (x ∷ drivers) = Shows ds (has s) (K x.what) × AreSets ds K sets drivers
+AreSets ds K sets drivers = ⊥
+
+-- the drivers' names of which some test holds
+abbrev pub AreNameRows : List Decl → (Driver → Decl → Bool) → List (List Step) → List Driver → Type 0
+AreNameRows ds test [] [] = Unit {0}
+AreNameRows ds test (r ∷ rows) (x ∷ drivers) = Marks ds r (test x) × AreNameRows ds test rows drivers
+AreNameRows ds test rows drivers = ⊥
+
+-- the names of which the set of a driver that counts has a bit
+abbrev pub picked : Which → (DriverKind → Bits) → Driver → Decl → Bool
+picked which K x d = picks which (is_clocked x.what) && has_bit (K x.what) d
+
+-- of which one of the drivers' tests holds
+abbrev pub some_test : (Driver → Decl → Bool) → List Driver → Decl → Bool
+some_test test [] d = false
+some_test test (x ∷ drivers) d = test x d || some_test test drivers d

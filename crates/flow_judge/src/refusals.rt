@@ -1,0 +1,75 @@
+ghost use Rattle.std.specs.Prelude.{◌≡◌, false, true, IfOk};
+ghost use Rattle.flow_judge.specs.Layouts.{IsLayoutOf};
+ghost use Rattle.flow_judge.specs.Rows.{AreSets};
+ghost use Rattle.vl_order.specs.Refusals as spec;
+
+use crate::first::first_named;
+use crate::layout::Layout;
+use crate::rows::{name_rows, names_of, read_rows};
+use crate::which::Which;
+use bit_sets::Bits;
+use flow_sets::{crossing_of, union_of};
+use fv_base::{Memory, Pos, Text};
+use std::alloc::Global;
+use vl_mean::Driver;
+use vl_size::Decls;
+
+/// The first name of which a combinational block may change a bit that it doesn't surely assign, with the earliest
+/// place of its drivers. The sets are those of the bits that the drivers latch.
+pub fn latch(
+    alloc: Global,
+    layout: &Layout,
+    decls: &Decls,
+    drivers: &[Driver],
+    latched: &[Bits],
+) -> Result<Option<(Text, Pos)>, Memory>
+    requires layout { IsLayoutOf decls.now drivers.now layout.now }
+    requires sets { AreSets decls.now (spec.latched_by decls.now) latched.now drivers.now }
+    ensures { IfOk result (λ found. found ≡ spec.latch decls.now drivers.now) }
+{
+    let all = union_of(alloc, latched)?;
+    let names = layout.names(alloc, &all)?;
+    Ok(first_named(alloc, layout, decls, drivers, &names)?)
+}
+
+/// The first name with a blocking assignment in a clocked block that is read outside of it, with the earliest place of
+/// its drivers. The sets are those of the bits that the drivers assign at once.
+pub fn blocking_shared(
+    alloc: Global,
+    layout: &Layout,
+    decls: &Decls,
+    drivers: &[Driver],
+    blocking: &[Bits],
+) -> Result<Option<(Text, Pos)>, Memory>
+    requires layout { IsLayoutOf decls.now drivers.now layout.now }
+    requires sets { AreSets decls.now (λ x. spec.changed_by decls.now x true) blocking.now drivers.now }
+    ensures { IfOk result (λ found. found ≡ spec.blocking_shared decls.now drivers.now) }
+{
+    let reads = read_rows(alloc, layout)?;
+    let writes = name_rows(alloc, layout, Which::Clocked, blocking)?;
+    let crossing = crossing_of(alloc, reads.as_slice(), writes.as_slice())?;
+    Ok(first_named(alloc, layout, decls, drivers, &crossing.both)?)
+}
+
+/// The first name with blocking and nonblocking assignments, or with a nonblocking one in a combinational block, with
+/// the earliest place of its drivers. The sets are those of the bits that the drivers assign at once and for their end.
+pub fn mixed(
+    alloc: Global,
+    layout: &Layout,
+    decls: &Decls,
+    drivers: &[Driver],
+    blocking: &[Bits],
+    nonblocking: &[Bits],
+) -> Result<Option<(Text, Pos)>, Memory>
+    requires layout { IsLayoutOf decls.now drivers.now layout.now }
+    requires blocking { AreSets decls.now (λ x. spec.changed_by decls.now x true) blocking.now drivers.now }
+    requires nonblocking { AreSets decls.now (λ x. spec.changed_by decls.now x false) nonblocking.now drivers.now }
+    ensures { IfOk result (λ found. found ≡ spec.mixed decls.now drivers.now) }
+{
+    let now = names_of(alloc, layout, Which::All, blocking)?;
+    let later = names_of(alloc, layout, Which::All, nonblocking)?;
+    let waiting = names_of(alloc, layout, Which::Settled, nonblocking)?;
+    let both = now.shared_with(&later)?;
+    let marked = both.with(&waiting)?;
+    Ok(first_named(alloc, layout, decls, drivers, &marked)?)
+}
