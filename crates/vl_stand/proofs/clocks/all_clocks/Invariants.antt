@@ -1,0 +1,11 @@
+use Rattle.std.proofs.Common.{◌≡◌, false, ℕ, List, None}
+use Rattle.std.specs.Prelude.{drop}
+use Rattle.name_set.specs.Known.{contains}
+use Rattle.vl_stand.specs.Clocks.{clocks_of}
+use Rattle.vl_stand.proofs.clocks.all_clocks.Given as goal
+
+abbrev pub invariant-loop-port : goal.invariant-loop-port
+invariant-loop-port l =
+    (other : List ℕ)
+    → clocks_of l.inputs l.last (drop l.port-index l.all) (contains l.ports) (contains l.clocks) other
+    ≡ clocks_of l.inputs None l.all (λ text. false) (λ text. false) other

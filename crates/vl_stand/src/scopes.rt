@@ -1,0 +1,180 @@
+//! Scopes that are entered and left.
+ghost use Rattle.std.specs.Prelude.{◌≡◌, ◌∷◌, ◌++◌, [], ℕ, List, Bool, None, IfOk, OnOk, drop};
+ghost use Rattle.vl_tree.specs.Item.{items};
+ghost use Rattle.vl_mean.specs.Declarations.{declared, declared_ports, full_ports, with_constants};
+ghost use Rattle.vl_mean.specs.Scopes.{Scope};
+ghost use Rattle.vl_mean.specs.Walk as walk;
+ghost use Rattle.vl_mean.specs.Walk.{Place, Use, block_place, port_names};
+ghost use Rattle.vl_refusal.specs.Meanings as meanings;
+ghost use Rattle.vl_refusal.specs.Meanings.{items_names, meanings_at, items_meanings, port_meanings};
+ghost use Rattle.vl_scope.specs.Seen.{innermost};
+ghost use Rattle.vl_alike.specs.Alike.{Alike};
+ghost use Rattle.vl_number.specs.Given.{value_given, IsGiven};
+ghost use Rattle.vl_number.specs.Numbers.{HaveNumbers};
+ghost use Rattle.name_set.specs.Known.{contains};
+ghost use Rattle.vl_param.specs.Among.{contents, constants_of};
+ghost use Rattle.vl_shape.specs.Inputs.{AreInputs};
+ghost use Rattle.vl_shape.specs.Shaped.{ArePlain, AreShaped, IsDeclared};
+ghost use Rattle.vl_stand.specs.Stands.{Stands};
+
+use crate::clocks::clock_inputs;
+use crate::hidden::hide;
+use fv_base::{List, Memory};
+use name_set::NameSet;
+use std::alloc::Global;
+use vl_enter::enter_parameters;
+use vl_number::Given;
+use vl_scope::{Level, Names};
+use vl_shape::{Inputs, objects_of_scope};
+use vl_tree::{HeaderParameter, Item, Module, Port};
+
+/// In place of the names that stand behind the parameters, which are innermost, what they mean.
+fn enter_objects(
+    alloc: Global,
+    inputs: &Inputs,
+    ports: &[Port],
+    all: &[Item],
+    names: &mut Names,
+) -> Result<(), Memory>
+    ensures stack { OnOk result (names.new ≡ innermost names.old ∷ innermost (drop 1 names.new) ∷ drop 2 names.old) }
+    ensures shaped { OnOk result ((s : Scope) (outer known : List meanings.Names) (ss : List Scope) (u : Use)
+        → AreInputs inputs.now u → Alike names.old known
+        → IsDeclared s known ss u (full_ports None ports.now) (items all.now)
+        → AreShaped (innermost (drop 1 names.new))
+        (port_meanings s outer known (full_ports None ports.now) ++ items_meanings s outer known (items all.now)) s.decls) }
+{
+    let rest = objects_of_scope(alloc, inputs, ports, all, names)?;
+    let own = names.take(alloc);
+    names.leave();
+    names.enter(rest)?;
+    names.enter(own)
+}
+
+/// Enters the scope of a block with these items. `names`: what names mean, `numbers`: the numbers of constants.
+pub fn enter_block(
+    alloc: Global,
+    all: &[Item],
+    names: &mut Names,
+    numbers: &mut Names,
+) -> Result<(), Memory>
+    ensures names { OnOk result (drop 2 names.new ≡ names.old) }
+    ensures numbers { OnOk result (drop 2 numbers.new ≡ numbers.old) }
+    ensures stands { OnOk result ((at : Place) (path : List ℕ) (clocks : List ℕ → Bool)
+        → Stands names.old numbers.old clocks (meanings_at at) at.scopes → ArePlain (items_names (items all.now))
+        → Stands names.new numbers.new clocks (meanings_at (block_place at path (items all.now)))
+        (block_place at path (items all.now)).scopes) }
+    ensures around { OnOk result ((at : Place) (path : List ℕ) (clocks : List ℕ → Bool)
+        → Stands names.old numbers.old clocks (meanings_at at) at.scopes
+        → HaveNumbers (drop 1 numbers.new) (block_place at path (items all.now)).around) }
+{
+    let nothing = Given::new(alloc);
+    enter_parameters(alloc, &[], &[], all, &nothing, names, numbers)?;
+    enter_objects(alloc, &Inputs::Top, &[], all, names)?;
+    hide(alloc, all, numbers)
+}
+
+/// Leaves the innermost scope.
+pub fn leave_scope(names: &mut Names, numbers: &mut Names)
+    ensures names { names.new ≡ drop 2 names.old }
+    ensures numbers { numbers.new ≡ drop 2 numbers.old }
+{
+    names.leave();
+    names.leave();
+    numbers.leave();
+    numbers.leave();
+}
+
+fn header_of(all: &Option<List<HeaderParameter>>) -> &[HeaderParameter]
+    ensures { result.now ≡ walk.header_of all.now }
+{
+    match all {
+        None => &[],
+        Some(all) => all.as_slice(),
+    }
+}
+
+fn ports_of(all: &Option<List<Port>>) -> &[Port]
+    ensures { result.now ≡ walk.written_ports all.now }
+{
+    match all {
+        None => &[],
+        Some(all) => all.as_slice(),
+    }
+}
+
+/// What is known in a module.
+#[derive(Drop)]
+pub struct Inside {
+    /// What names mean.
+    pub names: Names,
+    /// The numbers of constants.
+    pub numbers: Names,
+    /// The inputs that are the clock.
+    pub clocks: NameSet,
+}
+
+/// Enters a scope by its parts.
+fn enter_parts(
+    alloc: Global,
+    parameters: &[HeaderParameter],
+    ports: &[Port],
+    all: &[Item],
+    inputs: &Inputs,
+    given: &Given,
+) -> Result<Inside, Memory>
+    ensures stands { IfOk result (λ inside. (s : Scope) (u : Use)
+        → AreInputs inputs.now u → IsGiven (value_given given.now) u.overrides
+        → ArePlain (port_names (full_ports None ports.now) ++ items_names (items all.now))
+        → s.constants ≡ constants_of [] (contents u.overrides parameters.now ports.now all.now)
+        → s.decls ≡ declared_ports (with_constants s.constants []) u.is_top u.input (full_ports None ports.now)
+        ++ declared (with_constants s.constants []) (items all.now)
+        → Stands inside.names inside.numbers (contains inside.clocks)
+        (meanings.scope_meanings s [] (contents u.overrides parameters.now ports.now all.now) ∷ []) (s ∷ [])) }
+    ensures around { IfOk result (λ inside. (s : Scope) (u : Use)
+        → IsGiven (value_given given.now) u.overrides
+        → s.constants ≡ constants_of [] (contents u.overrides parameters.now ports.now all.now)
+        → HaveNumbers (drop 1 inside.numbers) (with_constants s.constants [])) }
+{
+    let mut names = Names::new(alloc);
+    let mut numbers = Names::new(alloc);
+    enter_parameters(
+        alloc,
+        parameters,
+        ports,
+        all,
+        given,
+        &mut names,
+        &mut numbers,
+    )?;
+    enter_objects(alloc, inputs, ports, all, &mut names)?;
+    numbers.enter(Level::new(alloc))?;
+    let clocks = clock_inputs(alloc, inputs, ports)?;
+    Ok(Inside {
+        names,
+        numbers,
+        clocks,
+    })
+}
+
+/// Enters a module that is used as `inputs` says, and whose parameters are given these values.
+pub fn enter_module(
+    alloc: Global,
+    module: &Module,
+    inputs: &Inputs,
+    given: &Given,
+) -> Result<Inside, Memory>
+    ensures stands { IfOk result (λ inside. (u : Use) (path : List ℕ)
+        → AreInputs inputs.now u → IsGiven (value_given given.now) u.overrides
+        → ArePlain (port_names (walk.module_contents module.now u).ports ++ items_names (items module.now.items))
+        → Stands inside.names inside.numbers (contains inside.clocks)
+        (meanings.all_meanings (walk.module_scope module.now u path ∷ []) (walk.module_contents module.now u ∷ []))
+        (walk.module_scope module.now u path ∷ [])) }
+    ensures around { IfOk result (λ inside. (u : Use)
+        → IsGiven (value_given given.now) u.overrides
+        → HaveNumbers (drop 1 inside.numbers) (walk.module_around module.now u)) }
+{
+    let parameters = header_of(&module.parameters);
+    let ports = ports_of(&module.ports);
+    let all = module.items.as_slice();
+    enter_parts(alloc, parameters, ports, all, inputs, given)
+}
