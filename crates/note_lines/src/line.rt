@@ -54,13 +54,7 @@ fn line_bytes(
     Ok(out)
 }
 
-fn line_text(
-    alloc: Global,
-    literal: Lit,
-    cycle: u32,
-    bit: u32,
-    name: &Text,
-) -> Result<Text, Memory>
+fn line_text(alloc: Global, literal: Lit, cycle: u32, bit: u32, name: &Text) -> Result<Text, Memory>
     ensures text { IfOk result (λ text. text ≡ lines.note_text
         (record { literal = literal; cycle = cycle; bit = bit; name = name.now })) }
     ensures one_line { IfOk result (λ text. HasNoEnd name.now → HasNoEnd text) }
