@@ -14,7 +14,14 @@ use Rattle.std.specs.Prelude.{
   None,
   bytes_eq,
   if◌then◌else◌,
+  Result,
+  Ok,
+  Err,
 }
+use Rattle.fv_base.specs.declared.files.FileFault.{FileFault}
+use Rattle.fv_base.specs.declared.files.FileFault.TheVariants as file
+use Rattle.fv_base.specs.declared.out.OutFault.{OutFault}
+use Rattle.fv_base.specs.declared.out.OutFault.TheVariants as out
 
 -- what each name holds, if anything
 abbrev pub Names : Type 0
@@ -27,6 +34,19 @@ Told = Option Names
 -- a count went up in a call, or stands at its end, where it stays
 abbrev pub Rose : ℕ → ℕ → Type 0
 Rose before now = min (before + 1) (2 ^ 64 - 1) ≤ now
+
+-- a fact of a call on a file, unless the file failed: it answered, or the name isn't held, or no memory is left
+abbrev pub UnlessFailed : {A : Type 0} → Result A FileFault → Type 0 → Type 0
+UnlessFailed (Ok x) P = P
+UnlessFailed (Err file.Absent) P = P
+UnlessFailed (Err file.Failed) P = Unit {0}
+UnlessFailed (Err file.Memory) P = P
+
+-- and of a call that puts bytes out
+abbrev pub UnlessNotPut : Result Unit OutFault → Type 0 → Type 0
+UnlessNotPut (Ok x) P = P
+UnlessNotPut (Err out.Failed) P = Unit {0}
+UnlessNotPut (Err out.Memory) P = P
 
 -- where files are told, the name holds exactly these bytes
 abbrev pub ReadGives : Told → List ℕ → List ℕ → Type 0

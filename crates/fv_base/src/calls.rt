@@ -10,6 +10,7 @@ ghost use Rattle.std.specs.Prelude.{
   min,
   if◌then◌else◌,
   IsTrue,
+  false,
   [],
   ◌∷◌,
 };
@@ -44,6 +45,7 @@ impl Calls {
         ensures fails { result ≡ is_failing self.old.failing.items self.old.next }
         ensures next { self.new.next ≡ min (self.old.next + 1) (2 ^ 64 - 1) }
         ensures rose { IsTrue result → Rose self.old.faults self.new.faults }
+        ensures quiet { result ≡ false → self.new.faults ≡ self.old.faults }
         ensures grow { self.old.faults ≤ self.new.faults }
         ensures failing { self.new.failing.items ≡ self.old.failing.items }
     {

@@ -1,5 +1,5 @@
 ghost use Rattle.std.specs.Prelude.{◌≡◌, ◌≤◌, ℕ, OnOk, IfOk, IsErrOf};
-ghost use Rattle.fv_base.specs.Outside.{Told, Rose, ReadGives, Lacks, Holds, HoldsPart, SameFiles};
+ghost use Rattle.fv_base.specs.Outside.{Told, Rose, ReadGives, Lacks, Holds, HoldsPart, SameFiles, UnlessFailed};
 
 use std::alloc::Global;
 use thiserror::Error;
@@ -33,6 +33,7 @@ pub trait Files {
         ensures absent { IsErrOf result FileFault.Absent → Lacks (held self.old) name.now }
         ensures missed { IsErrOf result FileFault.Absent → Rose (misses self.old) (misses self.new) }
         ensures failed { IsErrOf result FileFault.Failed → Rose (faults self.old) (faults self.new) }
+        ensures quiet { UnlessFailed result (faults self.new ≡ faults self.old) }
         ensures kept { SameFiles (held self.old) (held self.new) }
         ensures faults_grow { faults self.old ≤ faults self.new }
         ensures misses_grow { misses self.old ≤ misses self.new };
@@ -45,6 +46,7 @@ pub trait Files {
             → HoldsPart (held self.old) (held self.new) name.now bytes.now }
         ensures memory { IsErrOf result FileFault.Memory → SameFiles (held self.old) (held self.new) }
         ensures never_absent { IsErrOf result FileFault.Absent → ⊥ }
+        ensures quiet { UnlessFailed result (faults self.new ≡ faults self.old) }
         ensures faults_grow { faults self.old ≤ faults self.new }
         ensures misses_kept { misses self.new ≡ misses self.old };
 }

@@ -13,7 +13,7 @@ ghost use Rattle.std.specs.Prelude.{
   IsTrue,
 };
 ghost use Rattle.std.specs.Prelude.{MatchOption, IfOk, OnOk, IsErrOf};
-ghost use Rattle.fv_base.specs.Outside.{Rose, ReadGives, Lacks, Holds, HoldsPart, SameFiles};
+ghost use Rattle.fv_base.specs.Outside.{Rose, ReadGives, Lacks, Holds, HoldsPart, SameFiles, UnlessFailed};
 ghost use Rattle.fv_base.specs.Failing.{is_failing};
 ghost use Rattle.fv_base.specs.Store.{no_files, with_pairs};
 
@@ -80,6 +80,7 @@ impl Files for MemFiles {
             → Rose (mem_state self.old).misses (mem_state self.new).misses }
         ensures failed { IsErrOf result FileFault.Failed
             → Rose (mem_state self.old).faults (mem_state self.new).faults }
+        ensures quiet { UnlessFailed result ((mem_state self.new).faults ≡ (mem_state self.old).faults) }
         ensures kept { SameFiles (Some (mem_state self.old).names) (Some (mem_state self.new).names) }
         ensures faults_grow { (mem_state self.old).faults ≤ (mem_state self.new).faults }
         ensures misses_grow { (mem_state self.old).misses ≤ (mem_state self.new).misses }
@@ -113,6 +114,7 @@ impl Files for MemFiles {
         ensures memory { IsErrOf result FileFault.Memory
             → SameFiles (Some (mem_state self.old).names) (Some (mem_state self.new).names) }
         ensures never_absent { IsErrOf result FileFault.Absent → ⊥ }
+        ensures quiet { UnlessFailed result ((mem_state self.new).faults ≡ (mem_state self.old).faults) }
         ensures faults_grow { (mem_state self.old).faults ≤ (mem_state self.new).faults }
         ensures misses_kept { (mem_state self.new).misses ≡ (mem_state self.old).misses }
 

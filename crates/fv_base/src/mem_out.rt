@@ -15,7 +15,7 @@ ghost use Rattle.std.specs.Prelude.{
   Some,
 };
 ghost use Rattle.std.specs.Prelude.{is_ok, IsOk, IsTrue, OnOk, OnErr, IsErrOf};
-ghost use Rattle.fv_base.specs.Outside.{Rose, Appends, AppendsPart};
+ghost use Rattle.fv_base.specs.Outside.{Rose, Appends, AppendsPart, UnlessNotPut};
 ghost use Rattle.fv_base.specs.Failing.{is_failing};
 
 use crate::calls::Calls;
@@ -115,6 +115,7 @@ impl Out for MemOut {
         ensures part { IsErrOf result OutFault.Failed
             → AppendsPart (Some self.old.sent) (Some self.new.sent) bytes.now }
         ensures memory { IsErrOf result OutFault.Memory → Some self.new.sent ≡ Some self.old.sent }
+        ensures quiet { UnlessNotPut result (self.new.faults ≡ self.old.faults) }
         ensures grow { self.old.faults ≤ self.new.faults }
 
         // The numbered call fails and appends nothing, and no other call fails.

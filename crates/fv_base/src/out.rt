@@ -1,5 +1,5 @@
 ghost use Rattle.std.specs.Prelude.{◌≡◌, ◌≤◌, ℕ, List, Option, OnOk, IsErrOf};
-ghost use Rattle.fv_base.specs.Outside.{Rose, Appends, AppendsPart};
+ghost use Rattle.fv_base.specs.Outside.{Rose, Appends, AppendsPart, UnlessNotPut};
 
 use thiserror::Error;
 
@@ -26,5 +26,6 @@ pub trait Out {
         ensures failed { IsErrOf result OutFault.Failed → Rose (faults self.old) (faults self.new) }
         ensures part { IsErrOf result OutFault.Failed → AppendsPart (sent self.old) (sent self.new) bytes.now }
         ensures memory { IsErrOf result OutFault.Memory → sent self.new ≡ sent self.old }
+        ensures quiet { UnlessNotPut result (faults self.new ≡ faults self.old) }
         ensures grow { faults self.old ≤ faults self.new };
 }
