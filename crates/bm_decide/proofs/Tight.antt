@@ -17,7 +17,7 @@ use Rattle.lrat_check.proofs.Sound.{judged_sound}
 use Rattle.lrat_check.proofs.Stores.{numbered_held}
 use Rattle.sat_search.specs.declared.found.Found.{Found}
 use Rattle.sat_search.specs.declared.found.Found.TheVariants as found
-use Rattle.sat_search.specs.Found.{IfModel, IfRefuted, IfSpent, IfSteps}
+use Rattle.sat_search.specs.Found.{IfModel, IfRefuted, IfSpent, IfSteps, nonempty}
 use Rattle.cnf_nodes.specs.Models.{AreTrue}
 use Rattle.bm_unroll.specs.declared.frames.Source.{Source}
 use Rattle.bm_unroll.specs.Frames.{IsBadRun, IsChoice}
@@ -118,13 +118,14 @@ pub decided : (net : Netlist) (port : Port) (check : Check) (opts : Opts) (budge
     → c.encoded.formula.vars < 2 ^ 63 → AreClauses c.encoded.formula.vars c.encoded.formula.clauses
     → IfModel x (λ values. AreTrue c.encoded.formula.clauses (value_of values))
     → IfRefuted x (λ steps. (id : ℕ) × Refutes c.encoded.formula.clauses steps id)
+    → IfRefuted x (λ steps. length (nonempty (derived c.encoded.formula.clauses steps)) < budget)
     → IfSpent x (λ steps. Valid c.encoded.formula.clauses steps)
     → IfSpent x (λ steps. Resolved c.encoded.formula.clauses steps)
     → IfSpent x (λ steps. length (derived c.encoded.formula.clauses steps) ≡ budget)
     → IfSpent x (λ steps. budget < 3 ^ c.encoded.formula.vars)
     → IfSteps x AreSteps
     → IsVerdict net port check opts budget (verdict_of c x)
-decided net port check opts budget c (found.Model values) bits m small clauses model r v s d b steps =
+decided net port check opts budget c (found.Model values) bits m small clauses model r l v s d b steps =
     let f = c.encoded.formula in
     let v = value_of values in
     let is = parts m.before f v m.last model in
@@ -133,14 +134,15 @@ decided net port check opts budget c (found.Model values) bits m small clauses m
       chooses = m.choice v is.0;
       violates = λ ch of same. (m.verdict v ch is.0 of same).0 is.1;
     }
-decided net port check opts budget c (found.Refuted steps) bits m small clauses model r v s d b are = record {
+decided net port check opts budget c (found.Refuted steps) bits m small clauses model r l v s d b are = record {
   bits = bits;
   tight = m;
   holds = none_violates net port check opts _ _ _ _ c.encoded.formula steps r.0 small clauses are m r.1;
   refuted = r;
+  fewer = l;
   steps = are;
 }
-decided net port check opts budget c (found.Spent steps) bits m small clauses model r v s d b are = record {
+decided net port check opts budget c (found.Spent steps) bits m small clauses model r l v s d b are = record {
   bits = bits;
   tight = m;
   valid = v;

@@ -7,6 +7,7 @@ use Rattle.wn_run.specs.Runs.{Choices, AreChoicesOf, IsAssumed, cycle_at, inputs
 use Rattle.cnf_form.specs.Cnf.{value_of}
 use Rattle.lrat_check.specs.Steps.{Refutes, Valid, AreSteps}
 use Rattle.lrat_check.specs.Resolved.{Resolved, derived}
+use Rattle.sat_search.specs.Found.{nonempty}
 use Rattle.bb_blast.specs.Choice.{all_places}
 use Rattle.cnf_nodes.specs.Models.{read_at}
 use Rattle.bm_unroll.specs.Frames.{AreDistinct, Chooses, IsChoice, chosen, source_width}
@@ -45,13 +46,14 @@ IsTight net port check opts c =
     ModelsAreRuns net (Violates net port check opts) (values_in net check.cycle (field_nodes port check))
     c.bits.sources (read_at c.bits.places c.bits.widths) c.fields c.formula
 
--- no run violates the check, and steps refute the clauses of one that would
+-- no run violates the check, and steps refute the clauses of one that would, with fewer clauses than the budget
 pub record IsPass (net : Netlist) (port : Port) (check : Check) (opts : Opts) (budget : ℕ) (c : Certificate)
     : Type 0 where
   pub bits : AreBitsOf net check.cycle c.bits
   pub tight : IsTight net port check opts c
   pub holds : (ch : Choices) → AreChoicesOf net ch → Violates net port check opts ch → ⊥
   pub refuted : (id : ℕ) × Refutes c.formula.clauses c.steps id
+  pub fewer : length (nonempty (derived c.formula.clauses c.steps)) < budget
   pub steps : AreSteps c.steps
 
 -- values are those of the choices of a run that violates the check

@@ -1,5 +1,5 @@
--- What the runs of a design show of a core, and which of them violate a check (RISC-V Formal Interface, in this project's
--- profile).
+-- What the runs of a design show of a core, and which of them violate a check (RISC-V Formal Interface, in this
+-- project's profile).
 use Rattle.std.specs.Prelude.{◌≡◌, ℕ, zero, suc, ◌+◌, ◌-◌, ◌*◌, ◌==◌, Bool, false, if◌then◌else◌}
 use Rattle.std.specs.Prelude.{List, [], ◌∷◌, ◌++◌, slice_index_or}
 use Rattle.fv_bits.specs.Bits.{part}

@@ -1,5 +1,5 @@
 -- The first name that is marked, with the earliest place of its drivers.
-use Rattle.std.specs.Prelude.{◌≡◌, refl, ℕ, zero, suc, ◌+◌, ◌<◌, ◌≤◌, ◌^◌, List, [], ◌∷◌, length, drop, Bool, true, false}
+use Rattle.std.specs.Prelude.{◌≡◌, refl, ℕ, zero, suc, ◌+◌, ◌<◌, ◌≤◌, List, [], ◌∷◌, length, drop, Bool, true, false}
 use Rattle.std.specs.Prelude.{◌&&◌, IfSome, Option, Some, None, is_none, is_some, slice_get, if◌then◌else◌}
 use Rattle.std.proofs.Common.{ap, sym, ◌∙◌, arith, subst, true≢false, get_or, ◌⊎◌, inl, inr}
 use Rattle.std.proofs.lemmas.Bool.{and_from, cases_order}
@@ -14,14 +14,10 @@ use Rattle.bit_sets.specs.Cells.{has, IsBare, IsBefore}
 use Rattle.vl_path.specs.Drivers.{driven_by}
 use Rattle.vl_order.specs.Refusals.{first_of_names, has_bit, named_if, place_of, with_name}
 use Rattle.flow_reads.specs.declared.footprint.Footprint.{Footprint}
-use Rattle.flow_cells.specs.Numbered.{first_cell, Shows}
-use Rattle.flow_cells.proofs.Lists.{get_less, get_some}
-use Rattle.flow_cells.proofs.Ranges.{same_test}
-use Rattle.flow_order.specs.CellGroups.{AreGroupsOf, IsCellAt}
+use Rattle.flow_cells.proofs.Lists.{get_less}
 use Rattle.flow_order.specs.Footprints.{IsFootprintOf}
 use Rattle.flow_judge.specs.declared.layout.Span.{Span}
-use Rattle.flow_judge.specs.Layouts.{AreAllBits, IsLayoutOf, IsSpan, Marks}
-use Rattle.flow_judge.specs.declared.layout.Layout.{Layout}
+use Rattle.flow_judge.specs.Layouts.{AreAllBits, IsSpan, Marks}
 use Rattle.flow_judge.proofs.NameMarks.{from_name, to_name}
 
 -- ---- whether a driver may change a bit of the name

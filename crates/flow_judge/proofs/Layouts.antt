@@ -1,7 +1,7 @@
 -- All bits of the first names, and of one more.
-use Rattle.std.specs.Prelude.{◌≡◌, refl, ℕ, zero, suc, ◌+◌, ◌<◌, ◌≤◌, List, [], ◌∷◌, ◌++◌, length, Bool, true, false, ◌&&◌, ◌||◌}
-use Rattle.std.specs.Prelude.{nat_lt, Some, slice_get}
-use Rattle.std.proofs.Common.{ap, sym, ◌∙◌, arith, subst, true≢false, ◌⊎◌, inl, inr}
+use Rattle.std.specs.Prelude.{◌≡◌, ℕ, suc, ◌+◌, ◌<◌, ◌≤◌, List, [], ◌∷◌, ◌++◌, length, Bool, true, false}
+use Rattle.std.specs.Prelude.{◌&&◌, ◌||◌, nat_lt, Some, slice_get}
+use Rattle.std.proofs.Common.{ap, sym, ◌∙◌, arith, subst, ◌⊎◌, inl, inr}
 use Rattle.std.proofs.lemmas.Bool.{cases_order}
 use Rattle.std.proofs.lemmas.Bool.Decides.{nat_tests}
 use Rattle.std.proofs.lemmas.Option.{same_Some}
@@ -13,7 +13,7 @@ use Rattle.flow_sets.specs.Sets.{some_has}
 use Rattle.flow_sets.proofs.Halves.{some_append}
 use Rattle.flow_sets.proofs.Tests.{or_none}
 use Rattle.flow_cells.specs.Numbered.{first_cell}
-use Rattle.flow_cells.proofs.Lists.{get_less, get_some}
+use Rattle.flow_cells.proofs.Lists.{get_less}
 use Rattle.flow_cells.proofs.Numbers.{first_none}
 use Rattle.flow_order.specs.CellGroups.{AreGroupsOf, IsCellAt}
 use Rattle.flow_order.proofs.Cells.{one_group}

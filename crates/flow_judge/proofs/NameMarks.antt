@@ -1,12 +1,11 @@
 -- A name's bits, as those of the cells under its numbers.
-use Rattle.std.specs.Prelude.{◌≡◌, refl, ℕ, zero, suc, ◌+◌, ◌<◌, ◌≤◌, List, [], length, true, false, Bool, ◌&&◌, nat_lt}
-use Rattle.std.specs.Prelude.{Some, slice_get, if◌then◌else◌, Option, None}
+use Rattle.std.specs.Prelude.{◌≡◌, refl, ℕ, suc, ◌+◌, ◌<◌, List, length, true, false, Bool, ◌&&◌, nat_lt}
+use Rattle.std.specs.Prelude.{Some, slice_get}
 use Rattle.std.proofs.Common.{ap, sym, ◌∙◌, arith, subst, true≢false}
 use Rattle.std.proofs.lemmas.Bool.{and_from, and_parts}
 use Rattle.std.proofs.lemmas.Bool.Decides.{nat_tests}
 use Rattle.vl_size.specs.declared.decl.Decl.{Decl}
 use Rattle.vl_mean.specs.Cells.{cells}
-use Rattle.vl_mean.specs.declared.driver.Driver.{Driver}
 use Rattle.bit_sets.specs.declared.step.Step.{Step}
 use Rattle.bit_sets.specs.Cells.{has, IsBare}
 use Rattle.vl_path.specs.Reads.{Bits}

@@ -1,12 +1,13 @@
 -- The first net with a bit that no driver may assign.
-use Rattle.std.specs.Prelude.{◌≡◌, refl, ℕ, zero, suc, ◌+◌, ◌<◌, ◌≤◌, ◌^◌, ◌==◌, List, [], ◌∷◌, length, Bool, true, false}
-use Rattle.std.specs.Prelude.{◌&&◌, ◌||◌, not, nat_lt, All, Option, Some, None, IfSome, is_none, slice_get, if◌then◌else◌, ℤ}
+use Rattle.std.specs.Prelude.{◌≡◌, refl, ℕ, zero, suc, ◌+◌, ◌<◌, ◌≤◌, ◌^◌, ◌==◌, List, [], ◌∷◌, length, Bool}
+use Rattle.std.specs.Prelude.{true, false, ◌&&◌, ◌||◌, not, nat_lt, All, Option, Some, None, IfSome, is_none}
+use Rattle.std.specs.Prelude.{slice_get, if◌then◌else◌, ℤ}
 use Rattle.std.proofs.Common.{ap, sym, ◌∙◌, arith, subst, true≢false, ◌⊎◌, inl, inr}
 use Rattle.std.proofs.lemmas.Bool.{and_parts, cases_order}
 use Rattle.std.proofs.lemmas.Bool.Decides.{nat_tests}
 use Rattle.std.proofs.lemmas.Nat.Bits.{bit_at-trailing_zeros}
 use Rattle.std.proofs.lemmas.Option.{same_Some}
-use Rattle.std.specs.Int.{bit_at, trailing_zeros, w128}
+use Rattle.std.specs.Int.{trailing_zeros, w128}
 use Rattle.vl_size.specs.declared.decl.Class.{Class}
 use Rattle.vl_size.specs.declared.decl.Class.TheVariants as class
 use Rattle.vl_size.specs.declared.decl.Decl.{Decl}
@@ -14,16 +15,16 @@ use Rattle.vl_mean.specs.Cells.{cells, cells_of}
 use Rattle.vl_mean.specs.FlatLaw.{is_net, is_variable, IsKept, IsMemory}
 use Rattle.vl_mean.specs.declared.driver.Driver.{Driver}
 use Rattle.vl_path.specs.Drivers.{driven_by}
-use Rattle.vl_order.specs.Refusals.{driven_in, first_below, first_of_names, undriven, with_bit_of}
+use Rattle.vl_order.specs.Refusals.{driven_in, first_below, undriven, with_bit_of}
 use Rattle.bit_sets.specs.declared.step.Step.{Step}
 use Rattle.bit_sets.specs.Cells.{has, is_set, IsBare, IsBefore}
 use Rattle.bit_sets.proofs.Masks.{set_zero}
 use Rattle.flow_cells.specs.Numbered.{all_cells, first_cell}
-use Rattle.flow_cells.proofs.Lists.{all_at, get_less, get_some}
+use Rattle.flow_cells.proofs.Lists.{all_at, get_some}
 use Rattle.flow_cells.proofs.Numbers.{next_first, numbered}
 use Rattle.flow_reads.specs.declared.groups.Groups.{Groups}
 use Rattle.flow_order.specs.CellGroups.{AreGroupsOf, IsCellAt}
-use Rattle.flow_order.proofs.Cells.{all_length, first_rises, one_group}
+use Rattle.flow_order.proofs.Cells.{first_rises}
 use Rattle.flow_sets.specs.Sets.{some_has}
 use Rattle.flow_judge.specs.Layouts.{AreBitsOf}
 use Rattle.flow_judge.specs.Rows.{AreSets}
@@ -246,8 +247,8 @@ module _ (ds : List Decl) (kept : All IsKept ds) where
 
         here : named d ≡ Some (d.name, bit)
         here =
-            ap (λ b. if b then with_bit_of d.name (first_below (λ i. not (driven_in ds drivers d.name i)) d.width) else None)
-            inner.0
+            ap (λ b. if b then with_bit_of d.name
+            (first_below (λ i. not (driven_in ds drivers d.name i)) d.width) else None) inner.0
             ∙ ap (with_bit_of d.name) lowest
 
         before : (k : ℕ) (z : Decl) → k < place → slice_get ds k ≡ Some z → named z ≡ None

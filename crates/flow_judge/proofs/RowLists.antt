@@ -1,6 +1,6 @@
 -- Rows of names, driver by driver.
-use Rattle.std.specs.Prelude.{◌≡◌, refl, ℕ, zero, suc, ◌+◌, ◌<◌, ◌≤◌, List, [], ◌∷◌, ◌++◌, length, take}
-use Rattle.std.specs.Prelude.{Bool, true, false, ◌&&◌, ◌||◌, Some, is_none, slice_get}
+use Rattle.std.specs.Prelude.{◌≡◌, refl, ℕ, zero, suc, ◌+◌, ◌≤◌, List, [], ◌∷◌, ◌++◌, length, take}
+use Rattle.std.specs.Prelude.{Bool, ◌&&◌, ◌||◌, Some, is_none, slice_get}
 use Rattle.std.proofs.Common.{ap, sym, ◌∙◌, arith, subst, true≢false, get_or}
 use Rattle.std.proofs.lemmas.List.{take_all, take_more}
 use Rattle.std.proofs.lemmas.Option.{same_Some, slice_get-get_or}
@@ -9,7 +9,7 @@ use Rattle.vl_mean.specs.declared.driver.Driver.{Driver}
 use Rattle.vl_mean.specs.declared.driver.DriverKind.{DriverKind}
 use Rattle.bit_sets.specs.declared.step.Step.{Step}
 use Rattle.bit_sets.specs.Cells.{has}
-use Rattle.vl_path.specs.Drivers.{driven_by, is_clocked, needed_by}
+use Rattle.vl_path.specs.Drivers.{driven_by, needed_by}
 use Rattle.vl_path.specs.Reads.{Bits}
 use Rattle.vl_order.specs.Refusals.{has_bit}
 use Rattle.flow_reads.specs.declared.footprint.Footprint.{Footprint}

@@ -1,7 +1,7 @@
 -- What rows of names have in common, as tests of the drivers.
 use Rattle.std.specs.Prelude.{◌≡◌, refl, ℕ, zero, suc, ◌<◌, List, [], ◌∷◌, length, Bool, true, false, ◌&&◌, ◌||◌, not}
 use Rattle.std.specs.Prelude.{Some, slice_get}
-use Rattle.std.proofs.Common.{ap, sym, ◌∙◌, arith, true≢false}
+use Rattle.std.proofs.Common.{ap, sym, ◌∙◌, true≢false}
 use Rattle.vl_size.specs.declared.decl.Decl.{Decl}
 use Rattle.vl_mean.specs.Cells.{cells}
 use Rattle.vl_mean.specs.declared.driver.Driver.{Driver}
@@ -10,11 +10,10 @@ use Rattle.vl_mean.specs.declared.driver.DriverKind.TheVariants as k
 use Rattle.bit_sets.specs.declared.step.Step.{Step}
 use Rattle.bit_sets.specs.Cells.{has}
 use Rattle.vl_path.specs.Drivers.{is_clocked, needed_by}
-use Rattle.vl_path.specs.Reads.{Bits}
 use Rattle.vl_path.proofs.Bools.{or_case}
 use Rattle.vl_order.specs.Refusals.{has_bit, some_below, some_cell, latched, latched_by, changed_by, blocking_in}
 use Rattle.vl_order.specs.Refusals.{some_reads, is_shared, some_changes, some_waits}
-use Rattle.flow_cells.specs.Numbered.{all_cells, Shows}
+use Rattle.flow_cells.specs.Numbered.{all_cells}
 use Rattle.flow_sets.specs.Sets.{some_has, crosses}
 use Rattle.flow_judge.specs.declared.which.Which.TheVariants as w
 use Rattle.flow_judge.specs.Layouts.{Marks}

@@ -18,8 +18,8 @@ use vl_size::earlier::earlier_place;
 
 /// The driver's place, where it may change a bit of the cells.
 fn place_if(driver: &Driver, footprint: &Footprint, all: &Bits, span: Span) -> Option<Pos>
-    ensures { (ds : List Decl) (place : ℕ) (d : Decl) → AreAllBits ds all.now → IsFootprintOf ds footprint.now driver.now.what
-        → slice_get ds place ≡ Some d → IsSpan ds place span
+    ensures { (ds : List Decl) (place : ℕ) (d : Decl) → AreAllBits ds all.now
+        → IsFootprintOf ds footprint.now driver.now.what → slice_get ds place ≡ Some d → IsSpan ds place span
         → result ≡ (if has_bit (driven_by ds driver.now.what) d then Some driver.now.pos else None) }
 {
     if footprint.drives.meets(all, span.first, span.past) {

@@ -1,6 +1,6 @@
 mod Elements
-mod Changed
-mod Found
+pub mod Changed
+pub mod Found
 mod Whole
 mod Single
 mod Chain

@@ -85,4 +85,4 @@ returns c =
     let V : Verdict → Type 0 = λ v. IsVerdict net port check c.args.opts c.args.budget v in
     subst V (sym c.verdict.ensures)
     (decided net port check c.args.opts c.args.budget made c.in_ok-found.found bits (subst Q fields runs) small literals
-    found.model found.refuted found.valid found.resolved found.spent found.bound found.steps)
+    found.model found.refuted found.fewer found.valid found.resolved found.spent found.bound found.steps)

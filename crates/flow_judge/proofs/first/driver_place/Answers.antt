@@ -1,4 +1,4 @@
-use Rattle.std.proofs.Common.{◌≡◌, ◌+◌, ◌-◌, ◌<◌, ◌≤◌, ◌∙◌, arith, ap, sym, subst, refl, length, drop, slice_get, Some}
+use Rattle.std.proofs.Common.{◌≡◌, ◌+◌, ◌-◌, ◌<◌, ◌∙◌, arith, ap, sym, subst, refl, length, drop, slice_get, Some}
 use Rattle.std.proofs.lemmas.Option.{slice_get_read}
 use Rattle.vl_order.specs.Refusals.{place_of}
 use Rattle.flow_judge.proofs.Firsts.{none_behind, one_before}

@@ -1,4 +1,4 @@
-use Rattle.std.proofs.Common.{arith, length}
+use Rattle.std.proofs.Common.{arith}
 use Rattle.flow_judge.specs.Layouts.{counts}
 use Rattle.flow_judge.proofs.Layouts.{all_parts, no_parts, one_part_more}
 use Rattle.flow_judge.proofs.layout.bits_of_names.Goals as goal
