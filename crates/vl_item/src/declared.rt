@@ -22,7 +22,7 @@ fn is_net(kind: NetKind) -> bool
 }
 
 /// The value of a net is assigned to it continuously, that of a variable is constant.
-fn given_value(
+pub fn given_value(
     alloc: Global,
     pos: Pos,
     kind: NetKind,

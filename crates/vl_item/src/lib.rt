@@ -7,6 +7,6 @@ mod parameters;
 mod ranges;
 
 pub use assigned::{assignments_fault, event_fault, genvar_fault};
-pub use declared::{names_fault, port_fault};
+pub use declared::{given_value, names_fault, port_fault};
 pub use parameters::{override_fault, parameter_fault};
 pub use ranges::{known_width, range_fault, width_fault};
