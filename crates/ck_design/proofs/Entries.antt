@@ -27,7 +27,8 @@ use Rattle.wn_net.specs.declared.names.Place.TheVariants as place
 use Rattle.wn_net.specs.Value.{Given}
 use Rattle.wn_net.specs.Net.{Netlist}
 use Rattle.wn_net.specs.Names.{AreNamesOf, IsNameOf, IsPlaced, number_at}
-use Rattle.vl_evals.specs.Maps.{AreEntriesOf, listed, map_in, map_of, number_or, place_number}
+use Rattle.vl_evals.specs.Maps.{AreEntriesOf, as_vectors, is_split, listed, listed_in, listed_of, map_in, map_of}
+use Rattle.vl_evals.specs.Maps.{number_or, place_number}
 use Rattle.rvfi_port.specs.declared.field.Field.{Field}
 use Rattle.rvfi_port.specs.declared.field.Field.TheVariants as f
 use Rattle.rvfi_port.specs.Fields.{field_name}
@@ -208,19 +209,37 @@ module _ (u v : Values) where
   alike_at d class.Net h e = h
   alike_at d class.Variable h e = h
 
-  alike_cons : (d : Decl) (ds : List Decl) (b : Bool) → is_clock_class d.class ≡ b → AgreesAt u v d d.class
-      → AllByRecursion (Alike u v) ds → AllByRecursion (Alike u v) (if b then ds else d ∷ ds)
-  alike_cons d ds true e h rest = rest
-  alike_cons d ds false e h rest = (alike_at d d.class h e, rest)
+  alike_both : (ds es : List Decl) → AllByRecursion (Alike u v) ds → AllByRecursion (Alike u v) es
+      → AllByRecursion (Alike u v) (ds ++ es)
+  alike_both [] es h g = g
+  alike_both (d ∷ ds) es h g = (h.0, alike_both ds es h.1 g)
 
-  listed_alike : (ps : List Part) → Agrees ps u v → AllByRecursion (Alike u v) (listed ps)
-  listed_alike [] h = tt
-  listed_alike (declares d ∷ ps) h =
-      alike_cons d (listed ps) (is_clock_class d.class) refl h.0 (listed_alike ps h.1)
-  listed_alike (equation ts l ss e ∷ ps) h = listed_alike ps h
-  listed_alike (combinational ss s ∷ ps) h = listed_alike ps h
-  listed_alike (clocked ss s ∷ ps) h = listed_alike ps h
-  listed_alike (starts ss l e ∷ ps) h = listed_alike ps h
+  -- the words of a memory as names by themselves
+  alike_words : (d : Decl) (texts : List (List ℕ)) → Each (λ text. u text ≡ v text) texts
+      → AllByRecursion (Alike u v) (as_vectors d texts)
+  alike_words d [] h = tt
+  alike_words d (text ∷ texts) h = ((h.0, tt), alike_words d texts h.1)
+
+  alike_listed : (d : Decl) (b : Bool) → Alike u v d
+      → AllByRecursion (Alike u v) (if b then as_vectors d (cells d) else d ∷ [])
+  alike_listed d true h = alike_words d (cells d) h
+  alike_listed d false h = (h, tt)
+
+  alike_cons : (whole : List Part) (d : Decl) (ds : List Decl) (b : Bool) → is_clock_class d.class ≡ b
+      → AgreesAt u v d d.class → AllByRecursion (Alike u v) ds
+      → AllByRecursion (Alike u v) (if b then ds else listed_of whole d ++ ds)
+  alike_cons whole d ds true e h rest = rest
+  alike_cons whole d ds false e h rest =
+      alike_both (listed_of whole d) ds (alike_listed d (is_split whole d) (alike_at d d.class h e)) rest
+
+  listed_alike : (whole ps : List Part) → Agrees ps u v → AllByRecursion (Alike u v) (listed_in whole ps)
+  listed_alike whole [] h = tt
+  listed_alike whole (declares d ∷ ps) h =
+      alike_cons whole d (listed_in whole ps) (is_clock_class d.class) refl h.0 (listed_alike whole ps h.1)
+  listed_alike whole (equation ts l ss e ∷ ps) h = listed_alike whole ps h
+  listed_alike whole (combinational ss s ∷ ps) h = listed_alike whole ps h
+  listed_alike whole (clocked ss s ∷ ps) h = listed_alike whole ps h
+  listed_alike whole (starts ss l e ∷ ps) h = listed_alike whole ps h
 
   no_words : (net : Netlist) (width : ℕ) (output : Bool) (words : Option (ℤ × ℤ)) (p : Place)
       → IsPlaced net width output words p → output ≡ true → words ≡ None
@@ -252,4 +271,4 @@ pub field_declared : (ps : List Part) (net : Netlist) (names : Names) (field : F
     → AreNamesOf net names → AreEntriesOf (listed ps) names.list → output_of names field ≡ Some n
     → IsDeclared ps field
 field_declared ps net names field n own es e u v agree =
-    entry_alike u v net (field_name field) n (listed ps) names.list es (listed_alike u v ps agree) own.placed e
+    entry_alike u v net (field_name field) n (listed ps) names.list es (listed_alike u v ps ps agree) own.placed e

@@ -54,7 +54,8 @@ KeepOnce net numbers later =
     (i : ℕ) (x : Input) → slice_get net.inputs i ≡ Some x → OnceIs x.kind (slice_index later i) (slice_index numbers i)
 
 pub record IsLowered (ps : List Part) (net : Netlist) (names : Names) : Type 0 where
-  -- each declared name has its entry, each input, register and memory too, and its bits are the named ones
+  -- each declared name has its entry, or each word of a memory that isn't kept as one; each input, register and memory
+  -- has one too, and its bits are the named ones
   pub entries : AreEntriesOf (listed ps) names.list
   pub named : AreNamesOf net names
   pub all : HaveAll net names

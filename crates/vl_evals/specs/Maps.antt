@@ -1,10 +1,12 @@
 -- The map of names to numbers that a net has in a cycle, by the names of a design, and back. Rule of this project.
-use Rattle.std.specs.Prelude.{◌≡◌, ℕ, ◌+◌, ◌*◌, if◌then◌else◌, List, [], ◌∷◌, map, Option, Some, None}
-use Rattle.std.specs.Prelude.{position, bytes_eq, slice_get}
+use Rattle.std.specs.Prelude.{◌≡◌, ℕ, zero, suc, ◌+◌, ◌*◌, if◌then◌else◌, List, [], ◌∷◌, ◌++◌, map}
+use Rattle.std.specs.Prelude.{Bool, false, not, ◌&&◌, ◌||◌, Option, Some, None, is_none, position, bytes_eq, slice_get}
+use Rattle.std.specs.List.{list_any}
 use Rattle.vl_size.specs.declared.decl.Decl.{Decl}
 use Rattle.vl_size.specs.Size.{Values}
-use Rattle.vl_mean.specs.Cells.{cells_of}
+use Rattle.vl_mean.specs.Cells.{cells, cells_of}
 use Rattle.vl_mean.specs.Parts.{Part, declares}
+use Rattle.vl_mean.specs.Runs.{initial_writes, is_driven, last_value}
 use Rattle.vl_mean.specs.Scopes.{is_clock_class}
 use Rattle.vl_mean.specs.Targets.{bit_of}
 use Rattle.wn_net.specs.declared.names.Place.{Place}
@@ -19,11 +21,38 @@ use Rattle.wn_net.specs.Given.{given}
 
 -- ---- declared names and the entries of a net's names
 
--- the declared names of a design in their order, the clock left out
+-- whether one of the numbers below passes
+abbrev pub some_below : (ℕ → Bool) → ℕ → Bool
+some_below f zero = false
+some_below f (suc n) = f n || some_below f n
+
+-- A combinational block drives a bit of the word, or the word has a value at first in a part of its bits alone.
+abbrev pub is_split_at : List Part → Decl → List ℕ → Bool
+is_split_at ps d text =
+    let first : ℕ → Bool = λ k. is_none (last_value (initial_writes ps) text k) in
+    some_below (λ k. is_driven ps text k || (first k && not (first 0)) || (not (first k) && first 0)) d.width
+
+-- A memory with such a word can't be kept as one: its words stand one by one.
+abbrev pub is_split : List Part → Decl → Bool
+is_split ps d = not (is_none d.words) && list_any (is_split_at ps d) (cells d)
+
+-- the words of a memory as names by themselves
+abbrev pub as_vectors : Decl → List (List ℕ) → List Decl
+as_vectors d [] = []
+as_vectors d (text ∷ texts) = record d { name = text; words = None } ∷ as_vectors d texts
+
+abbrev pub listed_of : List Part → Decl → List Decl
+listed_of ps d = if is_split ps d then as_vectors d (cells d) else d ∷ []
+
+-- the declared names of some parts of a design in their order, the clock left out
+abbrev pub listed_in : List Part → List Part → List Decl
+listed_in whole [] = []
+listed_in whole (declares d ∷ ps) =
+    if is_clock_class d.class then listed_in whole ps else listed_of whole d ++ listed_in whole ps
+listed_in whole (p ∷ ps) = listed_in whole ps
+
 abbrev pub listed : List Part → List Decl
-listed [] = []
-listed (declares d ∷ ps) = if is_clock_class d.class then listed ps else d ∷ listed ps
-listed (p ∷ ps) = listed ps
+listed ps = listed_in ps ps
 
 pub record IsEntryOf (d : Decl) (x : NetName) : Type 0 where
   pub text : x.text ≡ d.name
@@ -31,7 +60,7 @@ pub record IsEntryOf (d : Decl) (x : NetName) : Type 0 where
   pub output : x.output ≡ d.output
   pub words : x.words ≡ d.words
 
--- one entry for each
+-- one entry for each name
 abbrev pub AreEntriesOf : List Decl → List NetName → Type 0
 AreEntriesOf [] [] = Unit {0}
 AreEntriesOf (d ∷ ds) (x ∷ xs) = IsEntryOf d x × AreEntriesOf ds xs

@@ -81,7 +81,7 @@ module _ (ds : List Decl) (drivers : List Driver) (starts : List Start) where
     declared : Each (λ d. declared_as ds d.name ≡ Some d) ds
     declared = all_declared ds different
 
-    abbrev xs : List DriverKind
+    abbrev pub xs : List DriverKind
     xs = kinds drivers s
 
     ok : AreAccepted ds xs
@@ -133,13 +133,13 @@ module _ (ds : List Decl) (drivers : List Driver) (starts : List Start) where
 
     -- ---- the laws
 
-    pub has_map : (v : Values) → Each (λ d. InRange v d d.class) ds
-        → (u : Values) × Holds ps u × ChoosesAlike ps u v
-    has_map v given =
+    -- settled in the order, the drivers leave a map that holds, with the choice of the map before
+    pub settled_holds : (v : Values) → Each (λ d. InRange v d d.class) ds
+        → Holds ps (settle ds xs v) × ChoosesAlike ps (settle ds xs v) v
+    settled_holds v given =
         let in_range = in_range_of ds drivers starts declared v given in
         let u = settle ds xs v in
         let ok_u = settled_in_range ds shaped apart xs ok v in_range in (
-          u,
           met_holds u ok_u (settled_is_met ds shaped apart xs ok in_order v in_range),
           chooses_alike ds drivers starts declared u v (λ d n i of below c.
               settled_keeps ds shaped apart xs ok v in_range n i
@@ -160,6 +160,10 @@ module _ (ds : List Decl) (drivers : List Driver) (starts : List Start) where
         chosen_counted : (d : Decl) (n : List ℕ) (i : ℕ) → is_chosen ps d.class n i ≡ true
             → is_clock_class d.class ≡ false
         chosen_counted d n i h = chosen_class d.class n i h
+
+    pub has_map : (v : Values) → Each (λ d. InRange v d d.class) ds
+        → (u : Values) × Holds ps u × ChoosesAlike ps u v
+    has_map v given = (settle ds xs v, settled_holds v given)
 
     pub has_one_map : (u v : Values) → Holds ps u → Holds ps v → ChoosesAlike ps u v → Agrees ps u v
     has_one_map u v held_u held_v alike =

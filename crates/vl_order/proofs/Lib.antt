@@ -1,11 +1,11 @@
-mod Elements
+pub mod Elements
 pub mod Changed
 pub mod Found
-mod Whole
-mod Single
-mod Chain
-mod Leaving
-mod Choices
-mod Held
-mod Loops
-mod Weighs
+pub mod Whole
+pub mod Single
+pub mod Chain
+pub mod Leaving
+pub mod Choices
+pub mod Held
+pub mod Loops
+pub mod Weighs
