@@ -48,7 +48,7 @@ module _ (drivers : List Driver) where
   abbrev pub AreSettled : List ℕ → Type 0
   AreSettled s = (a i : ℕ) → slice_get s a ≡ Some i → is_settled (slice_get drivers i) ≡ true
 
-  abbrev with_kind : Option Driver → List DriverKind → List DriverKind
+  abbrev pub with_kind : Option Driver → List DriverKind → List DriverKind
   with_kind None xs = xs
   with_kind (Some x) xs = x.what ∷ xs
 

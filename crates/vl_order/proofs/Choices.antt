@@ -144,7 +144,7 @@ driven_append (p ∷ rs) qs n i =
     assoc true b c = refl
     assoc false b c = refl
 
-driven_among : (us : List Scope) (xs : List Driver) (n : List ℕ) (i j : ℕ) (x : Driver) → slice_get xs j ≡ Some x
+pub driven_among : (us : List Scope) (xs : List Driver) (n : List ℕ) (i j : ℕ) (x : Driver) → slice_get xs j ≡ Some x
     → is_driven_by (driver_part us x.what) n i ≡ true → is_driven (driver_parts us xs) n i ≡ true
 driven_among us [] n i j x e h = absurd (true≢false (ap is_none e))
 driven_among us (y ∷ ys) n i zero x e h =
@@ -155,13 +155,13 @@ driven_among us (y ∷ ys) n i (suc j) x e h =
     (driven_among us ys n i j x e h)
 
 -- a driver whose part drives the bit
-record Found (us : List Scope) (xs : List Driver) (n : List ℕ) (i : ℕ) : Type 0 where
-  place : ℕ
-  driver : Driver
-  stands : slice_get xs place ≡ Some driver
-  drives : is_driven_by (driver_part us driver.what) n i ≡ true
+pub record Found (us : List Scope) (xs : List Driver) (n : List ℕ) (i : ℕ) : Type 0 where
+  pub place : ℕ
+  pub driver : Driver
+  pub stands : slice_get xs place ≡ Some driver
+  pub drives : is_driven_by (driver_part us driver.what) n i ≡ true
 
-found_among : (us : List Scope) (xs : List Driver) (n : List ℕ) (i : ℕ) → is_driven (driver_parts us xs) n i ≡ true
+pub found_among : (us : List Scope) (xs : List Driver) (n : List ℕ) (i : ℕ) → is_driven (driver_parts us xs) n i ≡ true
     → Found us xs n i
 found_among us [] n i h = absurd (true≢false (sym h))
 found_among us (x ∷ xs) n i h =
@@ -179,7 +179,7 @@ starts_drive us [] n i = refl
 starts_drive us (x ∷ xs) n i = starts_drive us xs n i
 
 -- the drivers alone drive
-driven_parts : (ds : List Decl) (drivers : List Driver) (firsts : List Start) (n : List ℕ) (i : ℕ)
+pub driven_parts : (ds : List Decl) (drivers : List Driver) (firsts : List Start) (n : List ℕ) (i : ℕ)
     → is_driven (parts_of ds drivers firsts) n i ≡ is_driven (driver_parts (flat_scopes ds) drivers) n i
 driven_parts ds drivers firsts n i =
     driven_append (decl_parts ds ++ driver_parts (flat_scopes ds) drivers) (start_parts (flat_scopes ds) firsts) n i

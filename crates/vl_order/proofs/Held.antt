@@ -37,10 +37,10 @@ wide_of : (ds : List Decl) → All IsShaped ds → (d : Decl) → declared_as ds
 wide_of ds shaped d own = (declared_all IsShaped ds d.name d own shaped).some_bits
 
 module _ (ds : List Decl) (drivers : List Driver) (starts : List Start) where
-  abbrev ss : List Scope
+  abbrev pub ss : List Scope
   ss = flat_scopes ds
 
-  abbrev ps : List Part
+  abbrev pub ps : List Part
   ps = parts_of ds drivers starts
 
   -- ---- the parts that hold
@@ -72,25 +72,25 @@ module _ (ds : List Decl) (drivers : List Driver) (starts : List Start) where
   module _ (shaped : All IsShaped ds) (different : AreDifferent ds) (apart : AreApart ds)
       (lawful : IsLawful ds drivers starts) (none : HasNoRefusal ds drivers) (s : List ℕ)
       (order : IsSequence ds drivers s) where
-    wide : (d : Decl) → declared_as ds d.name ≡ Some d → 1 ≤ d.width
+    pub wide : (d : Decl) → declared_as ds d.name ≡ Some d → 1 ≤ d.width
     wide = wide_of ds shaped
 
-    cells : HaveOwnCells ds
+    pub cells : HaveOwnCells ds
     cells = own_cells ds apart
 
-    declared : Each (λ d. declared_as ds d.name ≡ Some d) ds
+    pub declared : Each (λ d. declared_as ds d.name ≡ Some d) ds
     declared = all_declared ds different
 
     abbrev pub xs : List DriverKind
     xs = kinds drivers s
 
-    ok : AreAccepted ds xs
+    pub ok : AreAccepted ds xs
     ok = accepted drivers ds wide cells lawful.kept lawful.driven none s order.only
 
-    in_order : AreInOrder ds xs
+    pub in_order : AreInOrder ds xs
     in_order = in_order_of drivers ds wide cells lawful.kept lawful.driven none s order.only order.once order.behind
 
-    of_driver : (i : ℕ) (x : Driver) → slice_get drivers i ≡ Some x → IsDriver ds x.what
+    pub of_driver : (i : ℕ) (x : Driver) → slice_get drivers i ≡ Some x → IsDriver ds x.what
     of_driver i x e = all_at (λ x. IsDriver ds x.what) drivers i x e lawful.driven
 
     -- ---- a map that holds is left by all drivers
@@ -100,12 +100,12 @@ module _ (ds : List Decl) (drivers : List Driver) (starts : List Start) where
     left_as v (k.Comb z) h = leaves_run ds wide cells z v (agree_at ds drivers starts declared (exec ss z (begun v)).now v h)
     left_as v (k.Clocked z) h = λ n i here t. refl
 
-    met : (v : Values) → Holds ps v → AreMet ds v xs
+    pub met : (v : Values) → Holds ps v → AreMet ds v xs
     met v h =
         met_of drivers ds v (λ x i e. left_as v x.what
         (each_at (λ x. PartHolds ps v (driver_part ss x.what)) drivers i x e (holding_drivers v h))) s
 
-    range : (v : Values) → Holds ps v → AreInRange ds v
+    pub range : (v : Values) → Holds ps v → AreInRange ds v
     range v h = in_range_of ds drivers starts declared v (holding_range v h)
 
     -- ---- and the other way round
@@ -125,7 +125,7 @@ module _ (ds : List Decl) (drivers : List Driver) (starts : List Start) where
         (order.all i (settled_there drivers i x e (ap is_clocked what))) e)))
     held_as v in_range m i x e (k.Clocked z) what = tt
 
-    met_holds : (v : Values) → AreInRange ds v → AreMet ds v xs → Holds ps v
+    pub met_holds : (v : Values) → AreInRange ds v → AreMet ds v xs → Holds ps v
     met_holds v in_range m =
         holds_of v (in_range_all ds drivers starts declared v in_range)
         (each_of_places (λ x. PartHolds ps v (driver_part ss x.what)) drivers
