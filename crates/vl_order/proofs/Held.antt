@@ -163,7 +163,8 @@ module _ (ds : List Decl) (drivers : List Driver) (starts : List Start) where
 
     pub has_map : (v : Values) → Each (λ d. InRange v d d.class) ds
         → (u : Values) × Holds ps u × ChoosesAlike ps u v
-    has_map v given = (settle ds xs v, settled_holds v given)
+    has_map v given =
+        let own = settled_holds v given in (settle ds xs v, own.0, own.1)
 
     pub has_one_map : (u v : Values) → Holds ps u → Holds ps v → ChoosesAlike ps u v → Agrees ps u v
     has_one_map u v held_u held_v alike =
