@@ -38,7 +38,7 @@ use Rattle.vl_lowered.specs.Built.{AreKeptAlike, is_kept}
 use Rattle.vl_lowered.proofs.Agreeing as agreeing
 
 -- what some combinational block drives some block assigns
-driven_less : (qs : List Part) (n : List ℕ) (i : ℕ) → is_driven qs n i ≡ true → is_assigned qs n i ≡ true
+pub driven_less : (qs : List Part) (n : List ℕ) (i : ℕ) → is_driven qs n i ≡ true → is_assigned qs n i ≡ true
 driven_less [] n i h = h
 driven_less (p ∷ qs) n i h =
     or_case (is_driven_by p n i) (is_driven qs n i)
@@ -74,7 +74,7 @@ kept_if : (ps : List Part) (c : Class) (n : List ℕ) (i : ℕ) → c ≡ class.
     → is_kept ps c n i ≡ true
 kept_if ps c n i e h = ap (λ c. is_kept ps c n i) e ∙ ap not h
 
-variable_is : (d : Decl) (c : Class) → d.class ≡ c → is_variable d ≡ true → c ≡ class.Variable
+pub variable_is : (d : Decl) (c : Class) → d.class ≡ c → is_variable d ≡ true → c ≡ class.Variable
 variable_is d class.Variable e h = refl
 variable_is d class.Clock e h = absurd (true≢false (sym h ∙ ap (λ c. is_variable (record d { class = c })) e))
 variable_is d class.Input e h = absurd (true≢false (sym h ∙ ap (λ c. is_variable (record d { class = c })) e))
@@ -160,7 +160,7 @@ module _ (ds : List Decl) (drivers : List Driver) (firsts : List Start) (shaped 
   -- ---- and a map with the kept bits of a next one
 
   -- a bit that a clocked block assigns is driven by no combinational one
-  clocked_alone : (j : ℕ) (x : Driver) → slice_get drivers j ≡ Some x → (z : Stmt) → x.what ≡ k.Clocked z
+  pub clocked_alone : (j : ℕ) (x : Driver) → slice_get drivers j ≡ Some x → (z : Stmt) → x.what ≡ k.Clocked z
       → (n : List ℕ) (i : ℕ) → assigns (flat_scopes ds) z n i ≡ true → is_driven ps n i ≡ false
   clocked_alone j x e z what n i t =
       none_of (is_driven ps n i) (λ driven.
@@ -185,7 +185,7 @@ module _ (ds : List Decl) (drivers : List Driver) (firsts : List Start) (shaped 
           true≢false (ap is_clocked (sym what ∙ ap (λ (y : Driver). y.what) one ∙ is))
 
   module _ (v u w : Values) (alike : AreKeptAlike ps u w) where
-    kept_at : (d : Decl) (n : List ℕ) (i : ℕ) → IsCellOf ds d n → i < d.width → d.class ≡ class.Variable
+    pub kept_at : (d : Decl) (n : List ℕ) (i : ℕ) → IsCellOf ds d n → i < d.width → d.class ≡ class.Variable
         → is_driven ps n i ≡ false → bit_of (u n) i ≡ bit_of (w n) i
     kept_at d n i of below e free =
         at_bit (λ n i. bit_of (u n) i ≡ bit_of (w n) i) (λ d n i. is_kept ps d.class n i) alike d n i of below
