@@ -60,7 +60,7 @@ is_false : (b : Bool) → not b ≡ true → b ≡ false
 is_false true e = sym e
 is_false false e = refl
 
-kept_is : (ps : List Part) (c : Class) (n : List ℕ) (i : ℕ) → is_kept ps c n i ≡ true
+pub kept_is : (ps : List Part) (c : Class) (n : List ℕ) (i : ℕ) → is_kept ps c n i ≡ true
     → (c ≡ class.Variable) × (is_driven ps n i ≡ false)
 kept_is ps class.Variable n i h = (refl, is_false (is_driven ps n i) h)
 kept_is ps class.Clock n i h = absurd (true≢false (sym h))
