@@ -28,7 +28,7 @@ use Rattle.vl_lowered.proofs.Agreeing as agreeing
 use Rattle.vl_lowered.proofs.Kept as kept
 
 -- by numbers of drivers as by the drivers
-settled_is : (ds : List Decl) (drivers : List Driver) (s : List ℕ) (v : Values)
+pub settled_is : (ds : List Decl) (drivers : List Driver) (s : List ℕ) (v : Values)
     → settled ds drivers s v ≡ settle ds (kinds drivers s) v
 settled_is ds drivers [] v = refl
 settled_is ds drivers (i ∷ is) v = by (slice_get drivers i) (λ w. settled_is ds drivers is w)

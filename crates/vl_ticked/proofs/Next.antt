@@ -41,7 +41,7 @@ use Rattle.vl_ticked.specs.Ticked.{TickedMapsAreNext, stored_by, ticked}
 use Rattle.vl_ticked.proofs.Apart.{one_way}
 use Rattle.vl_ticked.proofs.Stays.{stored_stays}
 
-not_net : (d : Decl) (c : Class) → d.class ≡ c → is_net d ≡ true → is_variable d ≡ true → ⊥
+pub not_net : (d : Decl) (c : Class) → d.class ≡ c → is_net d ≡ true → is_variable d ≡ true → ⊥
 not_net d class.Net e n v = true≢false (sym v ∙ ap (λ c. is_variable (record d { class = c })) e)
 not_net d class.Variable e n v = true≢false (sym n ∙ ap (λ c. is_net (record d { class = c })) e)
 not_net d class.Clock e n v = true≢false (sym n ∙ ap (λ c. is_net (record d { class = c })) e)
