@@ -1,5 +1,4 @@
 pub mod Tests
-pub mod NameBits
 pub mod NameMarks
 pub mod Layouts
 pub mod RowLists

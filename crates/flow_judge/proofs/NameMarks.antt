@@ -10,7 +10,7 @@ use Rattle.bit_sets.specs.declared.step.Step.{Step}
 use Rattle.bit_sets.specs.Cells.{has, IsBare}
 use Rattle.vl_path.specs.Reads.{Bits}
 use Rattle.vl_order.specs.Refusals.{has_bit}
-use Rattle.flow_judge.proofs.NameBits.{bit_found, has_it}
+use Rattle.vl_order.proofs.Found.{bit_found, has_it}
 use Rattle.flow_reads.specs.declared.groups.Groups.{Groups}
 use Rattle.flow_sets.specs.Named.{AreNamesOf, HasBitOf}
 use Rattle.flow_cells.specs.Numbered.{all_cells, first_cell, Shows}
