@@ -90,13 +90,13 @@ all_before made (Some x) cell e h c low less = h c low (subst (λ y. c < y) (sym
 
 -- ---- the lowest bit
 
-none_below : (p : ℕ → Bool) (n : ℕ) → ((i : ℕ) → i < n → p i ≡ false) → first_below p n ≡ None
+pub none_below : (p : ℕ → Bool) (n : ℕ) → ((i : ℕ) → i < n → p i ≡ false) → first_below p n ≡ None
 none_below p zero h = refl
 none_below p (suc n) h =
     ap (λ o. if is_none o && p n then Some n else o) (none_below p n (λ i less. h i (omega (arith, less))))
     ∙ ap (λ b. if b then Some n else None) (h n (omega arith))
 
-lowest_below : (p : ℕ → Bool) (n i : ℕ) → i < n → p i ≡ true → ((j : ℕ) → j < i → p j ≡ false)
+pub lowest_below : (p : ℕ → Bool) (n i : ℕ) → i < n → p i ≡ true → ((j : ℕ) → j < i → p j ≡ false)
     → first_below p n ≡ Some i
 lowest_below p zero i less is before = absurd (omega (arith, less))
 lowest_below p (suc n) i less is before =

@@ -55,15 +55,15 @@ pub struct Layout {
     pub footprints: List<Footprint>,
 }
 
-/// The numbers of a name's cells.
+/// The numbers of a name's cells, from the first up to the one before `past`.
 #[derive(Debug, Clone, Copy)]
-pub(crate) struct Span {
-    pub(crate) first: u64,
-    pub(crate) past: u64,
+pub struct Span {
+    pub first: u64,
+    pub past: u64,
 }
 
 /// The cells of the name at a place.
-pub(crate) fn span_of(groups: &Groups, place: usize) -> Span
+pub fn span_of(groups: &Groups, place: usize) -> Span
     requires { place < length groups.now.ends }
     ensures { (ds : List Decl) → AreGroupsOf ds groups.now → IsSpan ds place result }
 {

@@ -9,6 +9,7 @@ mod refusals;
 mod rows;
 mod which;
 
-pub use layout::{Layout, Names, bits_of_names};
+pub use layout::{Layout, Names, Span, bits_of_names, span_of};
+pub use name::name_of;
 pub use nets::undriven;
 pub use refusals::{blocking_shared, latch, mixed};

@@ -6,7 +6,7 @@ use std::alloc::Global;
 use vl_size::Decls;
 
 /// The name at a place.
-pub(crate) fn name_of(alloc: Global, decls: &Decls, place: usize) -> Result<Text, Memory>
+pub fn name_of(alloc: Global, decls: &Decls, place: usize) -> Result<Text, Memory>
     requires { place < length decls.now }
     ensures { IfOk result (λ name. (d : Decl) → slice_get decls.now place ≡ Some d → name ≡ d.name) }
 {
