@@ -1,0 +1,10 @@
+use Rattle.std.proofs.Common.{take}
+use Rattle.vl_tree.specs.Lval.{lvals}
+use Rattle.vl_order.specs.Weight.{all_target_names}
+use Rattle.flow_sets.specs.Sets.{some_has}
+use Rattle.vl_weight.specs.Names.{AreNames}
+use Rattle.vl_weight.proofs.names.+names.Given as goal
+
+abbrev pub invariant-loop-part : goal.invariant-loop-part
+invariant-loop-part l =
+    AreNames l.decls (all_target_names (lvals (take l.part-index l.part-items))) (some_has l.sets.items)

@@ -1,0 +1,86 @@
+ghost use Rattle.std.specs.Prelude.{◌≡◌, ◌++◌, ◌∷◌, [], List, ℕ, Some, IfOk, OnOk, is_none, slice_get};
+ghost use Rattle.std.specs.Prelude.{if◌then◌else◌};
+ghost use Rattle.std.specs.Option.{option_map};
+ghost use Rattle.bit_sets.specs.Cells.{has};
+ghost use Rattle.vl_mean.specs.ConstantFaults.{capped};
+ghost use Rattle.vl_order.specs.Weight as spec;
+ghost use Rattle.vl_weight.specs.Names.{AreNames};
+
+use bit_sets::Bits;
+use flow_sets::union_of;
+use fv_base::{Memory, Text};
+use std::alloc::Global;
+use vl_mean::widths::plus;
+use vl_size::Decls;
+use vl_tree::{Lval, LvalKind};
+
+pub(crate) fn push(sets: &mut Vec<Bits>, set: Bits) -> Result<(), Memory>
+    ensures { OnOk result (sets.new.items ≡ sets.old.items ++ set ∷ []) }
+{
+    if sets.push(set).is_err() {
+        return Err(Memory);
+    }
+    Ok(())
+}
+
+/// The name alone.
+fn name_of(alloc: Global, text: &Text, decls: &Decls) -> Result<Bits, Memory>
+    ensures { IfOk result (λ names. AreNames decls.now (text.now ∷ []) (has names)) }
+{
+    let _count = decls.len();
+    match decls.find(text) {
+        None => Ok(Bits::none(alloc)),
+        Some(place) => {
+            let first = u64::from(place);
+            Ok(Bits::of_cells(alloc, first, first + 1, 1)?)
+        }
+    }
+}
+
+/// The names that an assignment to the target assigns.
+#[cycle(names)]
+#[tactic(auto, using(vl_tree::specs::LvalFalls::parts_fall))]
+pub(crate) fn target_names(alloc: Global, target: &Lval, decls: &Decls) -> Result<Bits, Memory>
+    ensures { IfOk result (λ names. AreNames decls.now (spec.target_names target.now) (has names)) }
+{
+    match &target.kind {
+        LvalKind::Name(text, _) => Ok(name_of(alloc, text, decls)?),
+        LvalKind::Concat(parts) => {
+            let mut sets = Vec::new(alloc);
+            for part in parts.as_slice() {
+                push(&mut sets, target_names(alloc, part, decls)?)?;
+            }
+            Ok(union_of(alloc, sets.as_slice())?)
+        }
+    }
+}
+
+/// The width of the name at a place, where it is that of a vector; None past the last name.
+fn width_at(decls: &Decls, place: u64) -> Option<u64>
+    ensures { result ≡ option_map (λ d. if is_none d.words then d.width else 0) (slice_get decls.now place) }
+{
+    let decl = decls.get(place as usize)?;
+    if decl.words.is_none() {
+        Some(u64::from(decl.width))
+    } else {
+        Some(0)
+    }
+}
+
+/// The widths of the vectors among the names, each once.
+pub(crate) fn merge_weight(names: &Bits, decls: &Decls) -> u64
+    ensures { (all : List (List ℕ)) → AreNames decls.now all (has names.now)
+        → result ≡ capped (spec.merge_weight decls.now all) }
+{
+    let _count = decls.len();
+    let mut weight = 0;
+    let mut next = names.first_from(0);
+    while let Some(place) = next {
+        let Some(width) = width_at(decls, place) else {
+            return weight;
+        };
+        weight = plus(weight, width);
+        next = names.first_from(place + 1);
+    }
+    weight
+}
