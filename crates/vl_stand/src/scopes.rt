@@ -59,6 +59,7 @@ pub fn enter_block(
 ) -> Result<(), Memory>
     ensures names { OnOk result (drop 2 names.new ≡ names.old) }
     ensures numbers { OnOk result (drop 2 numbers.new ≡ numbers.old) }
+    ensures inside { OnOk result (numbers.new ≡ innermost numbers.new ∷ drop 1 numbers.new) }
     ensures stands { OnOk result ((at : Place) (path : List ℕ) (clocks : List ℕ → Bool)
         → Stands names.old numbers.old clocks (meanings_at at) at.scopes → ArePlain (items_names (items all.now))
         → Stands names.new numbers.new clocks (meanings_at (block_place at path (items all.now)))
@@ -134,6 +135,7 @@ fn enter_parts(
         → IsGiven (value_given given.now) u.overrides
         → s.constants ≡ constants_of [] (contents u.overrides parameters.now ports.now all.now)
         → HaveNumbers (drop 1 inside.numbers) (with_constants s.constants [])) }
+    ensures inside { IfOk result (λ inside. inside.numbers ≡ innermost inside.numbers ∷ drop 1 inside.numbers) }
 {
     let mut names = Names::new(alloc);
     let mut numbers = Names::new(alloc);
@@ -172,6 +174,7 @@ pub fn enter_module(
     ensures around { IfOk result (λ inside. (u : Use)
         → IsGiven (value_given given.now) u.overrides
         → HaveNumbers (drop 1 inside.numbers) (walk.module_around module.now u)) }
+    ensures inside { IfOk result (λ inside. inside.numbers ≡ innermost inside.numbers ∷ drop 1 inside.numbers) }
 {
     let parameters = header_of(&module.parameters);
     let ports = ports_of(&module.ports);

@@ -1,4 +1,4 @@
-use Rattle.std.specs.Prelude.{◌≡◌, refl, List, [], drop}
+use Rattle.std.specs.Prelude.{◌≡◌, refl, List, [], ◌∷◌, drop}
 use Rattle.std.proofs.Common.{ap, sym, ◌∙◌, subst}
 use Rattle.std.proofs.lemmas.Result.{on_ok_weaker}
 use Rattle.vl_tree.specs.Item.{items}
@@ -19,6 +19,10 @@ returns-clause-names c =
 pub returns-clause-numbers : goal.returns-clause-numbers
 returns-clause-numbers c =
     on_ok_weaker c.hide.result (λ e. ap (drop 2) e ∙ c.in_ok-enter_parameters.ensures.beneath) c.hide.ensures
+
+pub returns-clause-inside : goal.returns-clause-inside
+returns-clause-inside c =
+    on_ok_weaker c.hide.result (λ e. subst (λ ns. ns ≡ innermost ns ∷ drop 1 ns) (sym e) refl) c.hide.ensures
 
 pub returns-clause-stands : goal.returns-clause-stands
 returns-clause-stands c =

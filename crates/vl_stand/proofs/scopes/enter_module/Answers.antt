@@ -31,3 +31,6 @@ returns-clause-around c =
     h (module_scope m u []) u given (module_constants_are m u [] c.header_of-parameters.result.now
     c.ports_of-ports.result.now c.as_slice-all.result.now c.header_of-parameters.ensures c.ports_of-ports.ensures
     c.as_slice-all.ensures)) c.enter_parts.ensures.around
+
+pub returns-clause-inside : goal.returns-clause-inside
+returns-clause-inside c = c.enter_parts.ensures.inside

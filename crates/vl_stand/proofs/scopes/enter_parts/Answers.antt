@@ -1,4 +1,4 @@
-use Rattle.std.specs.Prelude.{◌≡◌, ℕ, List, [], ◌∷◌, drop, None}
+use Rattle.std.specs.Prelude.{◌≡◌, refl, ℕ, List, [], ◌∷◌, drop, None}
 use Rattle.std.proofs.Common.{ap, sym, ◌∙◌, subst}
 use Rattle.vl_tree.specs.Item.{items}
 use Rattle.vl_mean.specs.Declarations.{with_constants}
@@ -39,3 +39,6 @@ returns-clause-around c s u given constants =
     subst (λ ns. HaveNumbers ns (with_constants s.constants [])) (sym (ap (drop 1) c.in_ok-enter.ensures.ok))
     (c.in_ok-enter_parameters.ensures.numbers s [] [] u.overrides given (nothing_alike _ c.new-names.ensures)
     (nothing_numbers _ c.new-numbers.ensures) constants)
+
+pub returns-clause-inside : goal.returns-clause-inside
+returns-clause-inside c = subst (λ ns. ns ≡ innermost ns ∷ drop 1 ns) (sym c.in_ok-enter.ensures.ok) refl
