@@ -1,0 +1,9 @@
+use Rattle.std.proofs.Common.{◌≡◌, ◌∙◌, List, ℕ}
+use Rattle.std.proofs.lemmas.Result.{IfOk-weaker}
+use Rattle.vl_modules.specs.Path.{texts_of}
+use Rattle.vl_modules.proofs.path.ModulePath.names.Goals as goal
+
+pub returns : goal.returns
+returns c =
+    IfOk-weaker c.copied_names.result (λ (names : List (List ℕ)). names ≡ texts_of c.self.inside.map.entries)
+    (λ names. names ≡ c.args.self.now) (λ names e. e ∙ c.self.view_is) c.copied_names.ensures

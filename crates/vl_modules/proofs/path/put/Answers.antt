@@ -1,0 +1,7 @@
+use Rattle.std.proofs.Common.{◌∙◌}
+use Rattle.indexmap.proofs.CallerLemmas.{insert_entry-new}
+use Rattle.vl_modules.proofs.path.put.Goals as goal
+
+pub returns-clause-ok : goal.returns-clause-ok
+returns-clause-ok c =
+    c.in_ok-insert.ensures.entries ∙ insert_entry-new _ c.args.map.now c.args.key tt c.requires

@@ -1,0 +1,6 @@
+use Rattle.vl_mean.proofs.Lookups.{lookup_after}
+use Rattle.vl_modules.proofs.table.ModuleTable.put.Goals as goal
+
+pub returns : goal.returns
+returns c other =
+    lookup_after (λ key. key.items) _ c.args.place other _ _ _ c.in_ok-insert.ensures.entries c.into_vec.ensures

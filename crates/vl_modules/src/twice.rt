@@ -1,0 +1,30 @@
+//! Modules that stand twice.
+ghost use Rattle.std.specs.Prelude.{◌≡◌, [], false, IfOk};
+ghost use Rattle.vl_refusal.specs.Refused as refused;
+ghost use Rattle.vl_modules.specs.Table as spec;
+
+use fv_base::Memory;
+use name_set::NameSet;
+use std::alloc::Global;
+use vl_refusal::ElabFault;
+use vl_tree::Module;
+
+fn first_twice(alloc: Global, all: &[Module]) -> Result<Option<ElabFault>, Memory>
+    ensures { IfOk result (λ g. g ≡ spec.twice_by (λ text. false) all.now) }
+{
+    let mut earlier = NameSet::new(alloc);
+    for module in all {
+        if earlier.contains(&module.name) {
+            return Ok(Some(ElabFault::Twice(module.name.copied(alloc)?, module.pos)));
+        }
+        earlier.add(module.name.copied(alloc)?)?;
+    }
+    Ok(None)
+}
+
+/// The first module whose name one before it has. None exactly where there is none.
+pub fn modules_twice(alloc: Global, all: &[Module]) -> Result<Option<ElabFault>, Memory>
+    ensures { IfOk result (λ g. g ≡ refused.modules_twice [] all.now) }
+{
+    first_twice(alloc, all)
+}
