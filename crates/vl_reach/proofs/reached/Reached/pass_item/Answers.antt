@@ -1,0 +1,17 @@
+use Rattle.std.proofs.Common.{sym, subst}
+use Rattle.std.specs.Prelude.{◌++◌}
+use Rattle.vl_mean.specs.Declarations.{names_of}
+use Rattle.std.proofs.lemmas.Result.{on_ok_weaker}
+use Rattle.vl_refusal.specs.Meanings.{meanings_at}
+use Rattle.vl_reach.specs.Reached.{AreReached, parameters_at}
+use Rattle.vl_reach.proofs.Next.{passed_reached}
+use Rattle.vl_reach.proofs.reached.Reached.pass_item.Goals as goal
+
+pub returns : goal.returns
+returns c =
+    let old = c.args.self.now in
+    let names = c.args.names.now in
+    on_ok_weaker c.pass_item.result
+    (λ e at earlier a r. subst (λ p. AreReached p old.pending (meanings_at at) (parameters_at at)
+    (earlier ++ (names_of c.args.item.now))) (sym e) (passed_reached old.passed old.pending names at earlier (names_of c.args.item.now) a r))
+    c.pass_item.ensures
