@@ -1,0 +1,10 @@
+use Rattle.std.proofs.Common.{ap, sym, ◌∙◌, true≢false}
+use Rattle.std.specs.Prelude.{is_none}
+use Rattle.std.specs.Option.{option_copied}
+use Rattle.flow_cells.proofs.Lists.{get_some}
+use Rattle.flow_twice.proofs.doubled.is_memory.Goals as goal
+
+pub unreachable-requires : goal.unreachable-requires
+unreachable-requires c =
+    let r = get_some c.args.decls.now c.args.place c.requires in
+    true≢false (ap is_none (sym (ap option_copied c.in-None.is) ∙ c.get.ensures ∙ r.1))

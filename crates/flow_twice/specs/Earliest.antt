@@ -1,0 +1,10 @@
+-- The first two of places. Rule of this project.
+use Rattle.std.specs.Prelude.{List, [], ◌∷◌}
+use Rattle.fv_base.specs.declared.pos.Pos.{Pos}
+use Rattle.flow_twice.specs.declared.earliest.Earliest.{Earliest}
+use Rattle.flow_twice.specs.declared.earliest.Earliest.TheVariants as e
+
+abbrev pub listed : Earliest → List Pos
+listed e.None = []
+listed (e.One p) = p ∷ []
+listed (e.Two p q) = p ∷ q ∷ []

@@ -1,0 +1,39 @@
+ghost use Rattle.std.specs.Prelude.{All, IfOk};
+ghost use Rattle.flow_judge.specs.Layouts.{IsLayoutOf};
+ghost use Rattle.vl_mean.specs.FlatLaw.{IsDriver};
+ghost use Rattle.flow_twice.specs.Shares.{AreNameShares};
+
+use crate::share::{Share, push};
+use flow_judge::Layout;
+use flow_sets::named;
+use fv_base::Memory;
+use std::alloc::Global;
+use vl_mean::Driver;
+use vl_size::Decls;
+
+/// The names of which the drivers assign bits, each as bit 0 under the number of its place.
+pub(crate) fn name_shares(
+    alloc: Global,
+    layout: &Layout,
+    decls: &Decls,
+    drivers: &[Driver],
+) -> Result<Vec<Share>, Memory>
+    requires layout { IsLayoutOf decls.now drivers.now layout.now }
+    requires driven { All (λ x. IsDriver decls.now x.what) drivers.now }
+    ensures { IfOk result (λ shares. AreNameShares decls.now drivers.now shares.items) }
+{
+    let _count = decls.len();
+    let footprints = layout.footprints.as_slice();
+    let mut shares = Vec::new(alloc);
+    for at in 0..drivers.len() {
+        let bits = named(alloc, &layout.groups, &footprints[at].drives)?;
+        push(
+            &mut shares,
+            Share {
+                bits,
+                pos: drivers[at].pos,
+            },
+        )?;
+    }
+    Ok(shares)
+}
