@@ -1,0 +1,5 @@
+pub mod Parts
+pub mod Indices
+pub mod Started
+pub mod Refusing
+pub mod Several
