@@ -1,0 +1,68 @@
+//! Continuous assignments, and blocks that act.
+ghost use Rattle.std.specs.Prelude.{◌≡◌, ◌++◌, List, IfOk};
+ghost use Rattle.vl_refusal.specs.Items as items;
+ghost use Rattle.vl_refusal.specs.Meanings as meanings;
+ghost use Rattle.vl_refusal.specs.Refused.{lowest};
+ghost use Rattle.vl_refusal.specs.Statements.{initial_refusals, stmt_refusals};
+ghost use Rattle.vl_alike.specs.Alike.{Alike};
+
+use fv_base::Memory;
+use std::alloc::Global;
+use vl_item::{assignments_fault, event_fault};
+use vl_judge::first_of;
+use vl_refusal::ElabFault;
+use vl_scope::Names;
+use vl_target::{initial_fault, stmt_fault};
+use vl_tree::{Assignment, Event, Stmt};
+
+/// Continuous assignments, over what names mean.
+pub fn assign_fault(
+    alloc: Global,
+    all: &[Assignment],
+    names: &Names,
+) -> Result<Option<ElabFault>, Memory>
+    ensures { IfOk result (λ g. (known : List meanings.Names) → Alike names.now known
+        → g ≡ lowest (items.assignments_refusals known all.now)) }
+{
+    assignments_fault(alloc, all, names)
+}
+
+#[tactic(auto, using(vl_judge::proofs::Lowest::lowest_parts))]
+fn event_and_stmt(
+    alloc: Global,
+    event: &Event,
+    stmt: &Stmt,
+    names: &Names,
+) -> Result<Option<ElabFault>, Memory>
+    ensures { IfOk result (λ g. g ≡ lowest (items.event_refusals names.now event.now.pos event.now.kind
+        ++ stmt_refusals names.now stmt.now)) }
+{
+    let edge = event_fault(alloc, event, names)?;
+    let inner = stmt_fault(alloc, stmt, names)?;
+    Ok(first_of(edge, inner))
+}
+
+/// A block with the event that it waits for.
+pub fn always_fault(
+    alloc: Global,
+    event: &Event,
+    stmt: &Stmt,
+    names: &Names,
+) -> Result<Option<ElabFault>, Memory>
+    ensures { IfOk result (λ g. (known : List meanings.Names) → Alike names.now known
+        → g ≡ lowest (items.event_refusals known event.now.pos event.now.kind ++ stmt_refusals known stmt.now)) }
+{
+    event_and_stmt(alloc, event, stmt, names)
+}
+
+/// A block that acts at first.
+pub fn initial_block_fault(
+    alloc: Global,
+    stmt: &Stmt,
+    names: &Names,
+) -> Result<Option<ElabFault>, Memory>
+    ensures { IfOk result (λ g. (known : List meanings.Names) → Alike names.now known
+        → g ≡ lowest (initial_refusals known stmt.now)) }
+{
+    initial_fault(alloc, stmt, names)
+}
