@@ -1,0 +1,29 @@
+use Rattle.std.proofs.Common.{◌≡◌, ◌∙◌, ap, sym, List, ℕ}
+use Rattle.std.proofs.lemmas.Result.{IfOk-weaker}
+use Rattle.vl_mean.specs.Walk.{Place}
+use Rattle.vl_refusal.specs.Items.{is_given, parameter_refusals}
+use Rattle.vl_refusal.specs.Meanings.{meanings_at}
+use Rattle.vl_refusal.specs.Refused.{lowest}
+use Rattle.vl_alike.specs.Alike.{Alike}
+use Rattle.name_set.specs.Known.{AreNames}
+use Rattle.vl_reach.specs.Reached.{IsReached}
+use Rattle.vl_earlier.specs.Gives.{Gives}
+use Rattle.vl_earlier.proofs.Behind.{given_test}
+use Rattle.vl_earlier.proofs.parameters.header_fault.Goals as goal
+
+pub returns-clause-fault : goal.returns-clause-fault
+returns-clause-fault c =
+    let ns = c.args.names.now in
+    let x = c.args.parameter.now in
+    let given = c.args.given.now in
+    let test = c.is_some-is_given.result in
+    IfOk-weaker c.with_parameter.result
+    (λ g. (at : Place) (before : List (List ℕ)) → Alike ns (meanings_at at) → AreNames c.args.earlier.now before
+    → IsReached c.args.reached.now at before → g ≡ lowest (parameter_refusals at test before x))
+    (λ g. (at : Place) → Alike ns (meanings_at at) → AreNames c.args.earlier.now at.earlier
+    → IsReached c.args.reached.now at at.earlier → Gives given at
+    → g ≡ lowest (parameter_refusals at (is_given at.contents x.name) at.earlier x))
+    (λ g h at same names reached gives. h at at.earlier same names reached
+    ∙ ap (λ b. lowest (parameter_refusals at b at.earlier x))
+    (given_test given x.name test c.get.result c.is_some-is_given.ensures c.get.ensures ∙ sym (gives x.name)))
+    c.with_parameter.ensures.fault

@@ -1,0 +1,18 @@
+use Rattle.std.proofs.Common.{sym, subst, ◌∙◌, [], ◌∷◌}
+use Rattle.vl_refusal.specs.Meanings.{meanings_at}
+use Rattle.vl_alike.specs.Alike.{Alike}
+use Rattle.name_set.specs.Known.{contains}
+use Rattle.vl_reach.specs.Reached.{IsReached}
+use Rattle.vl_step.proofs.NameLemmas.{same_names}
+use Rattle.vl_earlier.proofs.parameters.with_parameter.Goals as goal
+
+pub returns-clause-earlier : goal.returns-clause-earlier
+returns-clause-earlier c before names text =
+    c.in_ok-add_name.ensures text
+    ∙ same_names (contains c.args.earlier.now) before names (c.args.parameter.now.name ∷ []) text
+
+pub returns-clause-reached : goal.returns-clause-reached
+returns-clause-reached c at before same reached =
+    c.in_ok-pass.ensures at before
+    (subst (λ ns. Alike ns (meanings_at at)) (sym c.in_ok-fault.ensures.names) same)
+    (subst (λ r. IsReached r at before) (sym c.in_ok-fault.ensures.reached) reached)

@@ -1,0 +1,139 @@
+//! Parameters of heads and of items.
+ghost use Rattle.std.specs.Prelude.{◌≡◌, ◌&&◌, ◌++◌, ◌∷◌, [], ℕ, List, map, not, is_some, IfOk, OnOk};
+ghost use Rattle.vl_mean.specs.Walk.{Place};
+ghost use Rattle.vl_refusal.specs.Items as items;
+ghost use Rattle.vl_refusal.specs.Meanings.{meanings_at};
+ghost use Rattle.vl_refusal.specs.Refused.{lowest};
+ghost use Rattle.vl_alike.specs.Alike.{Alike};
+ghost use Rattle.vl_number.specs.Given.{value_given};
+ghost use Rattle.name_set.specs.Known.{AreNames, contains};
+ghost use Rattle.vl_step.specs.Parts.{with_name};
+ghost use Rattle.vl_reach.specs.Reached.{IsReached};
+ghost use Rattle.vl_earlier.specs.Gives.{Gives};
+
+use fv_base::{Memory, Text};
+use name_set::NameSet;
+use std::alloc::Global;
+use vl_item::parameter_fault;
+use vl_judge::first_of;
+use vl_number::Given;
+use vl_reach::Reached;
+use vl_refusal::ElabFault;
+use vl_scope::Names;
+use vl_tree::{Parameter, ParameterKind};
+
+/// Over what names mean in its value.
+fn judge(
+    alloc: Global,
+    parameter: &Parameter,
+    is_given: bool,
+    names: &mut Names,
+    earlier: &NameSet,
+    reached: &mut Reached,
+) -> Result<Option<ElabFault>, Memory>
+    ensures names { OnOk result (names.new ≡ names.old) }
+    ensures reached { OnOk result (reached.new ≡ reached.old) }
+    ensures fault { IfOk result (λ g. (at : Place) (before : List (List ℕ)) → Alike names.old (meanings_at at)
+        → AreNames earlier.now before → IsReached reached.old at before
+        → g ≡ lowest (items.parameter_refusals at is_given before parameter.now)) }
+{
+    reached.enter(alloc, names)?;
+    let is_twice = earlier.contains(&parameter.name);
+    let fault = parameter_fault(alloc, parameter, is_twice, is_given, names)?;
+    reached.leave(alloc, names);
+    Ok(fault)
+}
+
+fn add_name(alloc: Global, text: &Text, earlier: &mut NameSet) -> Result<(), Memory>
+    ensures { OnOk result ((other : List ℕ)
+        → contains earlier.new other ≡ with_name (contains earlier.old) text.now other) }
+{
+    earlier.add(text.copied(alloc)?)
+}
+
+/// A parameter, which stands behind the others then.
+fn with_parameter(
+    alloc: Global,
+    parameter: &Parameter,
+    is_given: bool,
+    names: &mut Names,
+    earlier: &mut NameSet,
+    reached: &mut Reached,
+) -> Result<Option<ElabFault>, Memory>
+    ensures names { OnOk result (names.new ≡ names.old) }
+    ensures fault { IfOk result (λ g. (at : Place) (before : List (List ℕ)) → Alike names.old (meanings_at at)
+        → AreNames earlier.old before → IsReached reached.old at before
+        → g ≡ lowest (items.parameter_refusals at is_given before parameter.now)) }
+    ensures earlier { OnOk result ((before : List (List ℕ)) → AreNames earlier.old before
+        → AreNames earlier.new (before ++ parameter.now.name ∷ [])) }
+    ensures reached { OnOk result ((at : Place) (before : List (List ℕ)) → Alike names.old (meanings_at at)
+        → IsReached reached.old at before → IsReached reached.new at (before ++ parameter.now.name ∷ [])) }
+{
+    let fault = judge(alloc, parameter, is_given, names, earlier, reached)?;
+    add_name(alloc, &parameter.name, earlier)?;
+    reached.pass(alloc, &parameter.name, names)?;
+    Ok(fault)
+}
+
+/// A parameter of a module's head. `given`: what the instance gives to the module's parameters; `names`: what names
+/// mean in the module; `earlier`, `reached`: what stands before it, and then it itself too.
+pub fn header_fault(
+    alloc: Global,
+    parameter: &Parameter,
+    given: &Given,
+    names: &mut Names,
+    earlier: &mut NameSet,
+    reached: &mut Reached,
+) -> Result<Option<ElabFault>, Memory>
+    ensures names { OnOk result (names.new ≡ names.old) }
+    ensures fault { IfOk result (λ g. (at : Place) → Alike names.old (meanings_at at)
+        → AreNames earlier.old at.earlier → IsReached reached.old at at.earlier → Gives given.now at
+        → g ≡ lowest (items.parameter_refusals at (items.is_given at.contents parameter.now.name) at.earlier
+        parameter.now)) }
+    ensures earlier { OnOk result ((before : List (List ℕ)) → AreNames earlier.old before
+        → AreNames earlier.new (before ++ parameter.now.name ∷ [])) }
+    ensures reached { OnOk result ((at : Place) (before : List (List ℕ)) → Alike names.old (meanings_at at)
+        → IsReached reached.old at before → IsReached reached.new at (before ++ parameter.now.name ∷ [])) }
+{
+    let is_given = given.get(&parameter.name).is_some();
+    with_parameter(alloc, parameter, is_given, names, earlier, reached)
+}
+
+/// A `localparam` isn't given a value.
+#[tactic(auto, using(crate::proofs::Behind::tests))]
+fn is_given(kind: ParameterKind, parameter: &Parameter, given: &Given) -> bool
+    ensures { result ≡ (not (items.is_localparam kind) && is_some (value_given given.now parameter.now.name)) }
+{
+    match kind {
+        ParameterKind::Localparam => false,
+        ParameterKind::Parameter => given.get(&parameter.name).is_some(),
+    }
+}
+
+/// The parameters of an item, one behind the other. The rest is as with those of a head.
+pub fn parameters_fault(
+    alloc: Global,
+    kind: ParameterKind,
+    all: &[Parameter],
+    given: &Given,
+    names: &mut Names,
+    earlier: &mut NameSet,
+    reached: &mut Reached,
+) -> Result<Option<ElabFault>, Memory>
+    ensures names { OnOk result (names.new ≡ names.old) }
+    ensures fault { IfOk result (λ g. (at : Place) (before : List (List ℕ)) → Alike names.old (meanings_at at)
+        → AreNames earlier.old before → IsReached reached.old at before → Gives given.now at
+        → g ≡ lowest (items.parameters_refusals at kind before all.now)) }
+    ensures earlier { OnOk result ((before : List (List ℕ)) → AreNames earlier.old before
+        → AreNames earlier.new (before ++ map (λ x. x.name) all.now)) }
+    ensures reached { OnOk result ((at : Place) (before : List (List ℕ)) → Alike names.old (meanings_at at)
+        → IsReached reached.old at before → IsReached reached.new at (before ++ map (λ x. x.name) all.now)) }
+{
+    let mut fault = None;
+    for parameter in all {
+        let test = is_given(kind, parameter, given);
+        let found = with_parameter(alloc, parameter, test, names, earlier, reached)?;
+        fault = first_of(fault, found);
+    }
+    Ok(fault)
+}
