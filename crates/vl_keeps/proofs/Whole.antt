@@ -18,7 +18,8 @@ use Rattle.wn_net.specs.declared.parts.Init.{Init}
 use Rattle.wn_net.specs.declared.parts.Init.TheVariants as init
 use Rattle.vl_named.specs.Sources.{BeginsAs, IsBelow, below}
 use Rattle.vl_named.proofs.Bits.{below_at, below_many, gathered_whole}
-use Rattle.vl_keeps.specs.Keeps.{AllRegistersKeepBits, IsIn, IsKeepOf, IsKept, Keep, Kept, bits_number}
+use Rattle.vl_keeps.specs.declared.keep.Keep.{Keep}
+use Rattle.vl_keeps.specs.Keeps.{AllRegistersKeepBits, IsIn, IsKeepOf, IsKept, Kept, bits_number}
 use Rattle.vl_keeps.specs.Keeps.{has_bit, is_whole, kept_bit, kept_bits, whole_kept}
 
 -- ---- bits

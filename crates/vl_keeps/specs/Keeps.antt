@@ -1,20 +1,16 @@
 -- Registers for the bits of a cell that are kept over the clock's edge. Rule of this project.
 use Rattle.std.specs.Prelude.{◌≡◌, ℕ, zero, suc, ◌+◌, ◌*◌, ◌%◌, ◌<◌, ◌≤◌, ◌^◌, ◌==◌, List, [], ◌∷◌, length, Bool}
-use Rattle.std.specs.Prelude.{false, ◌&&◌, ◌||◌, Some, None, if◌then◌else◌, slice_get, slice_index}
+use Rattle.std.specs.Prelude.{false, ◌&&◌, ◌||◌, Option, Some, None, if◌then◌else◌, slice_get, slice_index}
 use Rattle.fv_bits.specs.Bits.{ones}
 use Rattle.vl_mean.specs.Parts.{Part}
-use Rattle.vl_mean.specs.Runs.{initial_writes, is_driven, last_value}
-use Rattle.vl_mean.specs.Targets.{bit_of}
+use Rattle.vl_mean.specs.Runs.{Each, initial_writes, is_driven, last_value}
+use Rattle.vl_size.specs.Size.{Values}
+use Rattle.vl_mean.specs.Targets.{Write, bit_of, put_all}
 use Rattle.vl_evals.specs.Maps.{gathered}
 use Rattle.wn_net.specs.declared.parts.Init.{Init}
 use Rattle.wn_net.specs.declared.parts.Init.TheVariants as init
 use Rattle.vl_named.specs.Sources.{BeginsAs, IsBelow, below}
-
--- of a cell: the bits that combinational blocks drive, those with a value at first, and their values
-pub record Keep : Type 0 where
-  pub driven : ℕ
-  pub known : ℕ
-  pub value : ℕ
+use Rattle.vl_keeps.specs.declared.keep.Keep.{Keep}
 
 abbrev pub has_bit : ℕ → ℕ → Bool
 has_bit x k = bit_of x k == 1
@@ -74,6 +70,10 @@ abbrev pub cell_number : Keep → ℕ → List ℕ → ℕ → ℕ
 cell_number keep width numbers r =
     if is_whole keep width then slice_index numbers r else bits_number keep width numbers r
 
+-- each value is a bit
+abbrev pub AreSmall : List Write → Type 0
+AreSmall ws = Each (λ w. w.value < 2) ws
+
 -- ---- the laws
 
 -- what each register is
@@ -110,3 +110,15 @@ abbrev pub AllRegistersKeepBits : Type 0
 AllRegistersKeepBits =
     (ps : List Part) (width : ℕ) (text : List ℕ) (keep : Keep) → 1 ≤ width → IsKeepOf ps width text keep
     → RegistersKeepBits ps width text keep
+
+-- ---- values at first
+
+abbrev pub value_or : Option ℕ → ℕ → ℕ
+value_or (Some y) b = y
+value_or None b = b
+
+-- one after the other, they leave in a map the last value of each bit
+abbrev pub WritesLeaveLast : Type 0
+WritesLeaveLast =
+    (ws : List Write) (v : Values) (text : List ℕ) (k : ℕ) → AreSmall ws
+    → bit_of (put_all ws v text) k ≡ value_or (last_value ws text k) (bit_of (v text) k)

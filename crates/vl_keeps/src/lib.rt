@@ -1,10 +1,19 @@
-//! Registers for the bits of a cell that are kept over the clock's edge: definitions, and a law, without code.
+//! Registers for the bits of a cell that are kept over the clock's edge: definitions and laws.
 #![tactic(auto)]
 
-ghost use Rattle.vl_keeps.specs.Keeps.{AllRegistersKeepBits};
+mod keep;
+
+ghost use Rattle.vl_keeps.specs.Keeps.{AllRegistersKeepBits, WritesLeaveLast};
+
+pub use keep::Keep;
 
 /// Each register is kept bits that begin as it does, each kept bit is one of a register, and the number that the
 /// registers' numbers make of the cell has these numbers at these bits.
 pub fn registers_keep_bits()
     ensures { AllRegistersKeepBits }
+{}
+
+/// Writes of bits, one after the other, leave in a map the last value of each bit.
+pub fn writes_leave_last()
+    ensures { WritesLeaveLast }
 {}
