@@ -1,0 +1,14 @@
+use Rattle.std.proofs.Common.{◌≡◌, ◌∙◌, ap}
+use Rattle.std.proofs.lemmas.Result.{IfOk-weaker}
+use Rattle.vl_mean.specs.ConstantFaults.{capped}
+use Rattle.vl_number.specs.Numbers.{genvar_number}
+use Rattle.vl_totals.specs.Counts.{turn_nodes}
+use Rattle.vl_totals.proofs.turns.all_turns.Goals as goal
+
+pub returns-clause-count : goal.returns-clause-count
+returns-clause-count c =
+    let ns = c.args.numbers.now in
+    let head = c.args.head.now in
+    IfOk-weaker c.turns.result (λ n. n ≡ capped (turn_nodes 4096 ns head c.in_ok-start.start))
+    (λ n. n ≡ capped (turn_nodes 4096 ns head (genvar_number ns head.start)))
+    (λ n h. h ∙ ap (λ k. capped (turn_nodes 4096 ns head k)) c.in_ok-start.ensures) c.turns.ensures.count

@@ -1,0 +1,90 @@
+//! Nodes of the turns of a generate loop.
+ghost use Rattle.std.specs.Prelude.{◌≡◌, Some, None, IfOk, OnOk, if◌then◌else◌};
+ghost use Rattle.vl_mean.specs.ConstantFaults.{capped};
+ghost use Rattle.vl_mean.specs.Walk.{Place, first_turn};
+ghost use Rattle.vl_refusal.specs.Counts as counts;
+ghost use Rattle.vl_number.specs.Numbers.{HaveNumbers, genvar_number, holds};
+ghost use Rattle.vl_turn.specs.Parts.{in_turn};
+ghost use Rattle.vl_totals.specs.Counts as spec;
+
+use fv_base::Memory;
+use std::alloc::Global;
+use vl_count::expr_nodes;
+use vl_mean::Const;
+use vl_mean::widths::plus;
+use vl_number::{genvar_value, is_true_in};
+use vl_scope::Names;
+use vl_tree::LoopHead;
+use vl_turn::enter_turn;
+
+/// In the scope of a turn, the value of the next one. None exactly where this one is behind the last.
+fn next_in(alloc: Global, head: &LoopHead, numbers: &Names) -> Result<Option<Const>, Memory>
+    ensures { IfOk result (λ o. o ≡ (if holds numbers.now head.now.condition
+        then Some (genvar_number numbers.now head.now.next) else None)) }
+{
+    let goes_on = is_true_in(alloc, &head.condition, numbers)?;
+    if !goes_on {
+        return Ok(None);
+    }
+    Ok(Some(genvar_value(alloc, &head.next, numbers)?))
+}
+
+/// The same of the turn with this value.
+fn next_turn(
+    alloc: Global,
+    head: &LoopHead,
+    value: Const,
+    numbers: &mut Names,
+) -> Result<Option<Const>, Memory>
+    ensures numbers { OnOk result (numbers.new ≡ numbers.old) }
+    ensures next { IfOk result (λ o. let inner = in_turn head.now.variable value numbers.old in
+        o ≡ (if holds inner head.now.condition then Some (genvar_number inner head.now.next) else None)) }
+{
+    enter_turn(alloc, &head.variable, value, numbers)?;
+    let next = next_in(alloc, head, numbers)?;
+    numbers.leave();
+    Ok(next)
+}
+
+/// Each turn with what leads to the next one, from the one with this value on.
+fn turns(alloc: Global, head: &LoopHead, start: Const, numbers: &mut Names) -> Result<u64, Memory>
+    ensures numbers { OnOk result (numbers.new ≡ numbers.old) }
+    ensures count { IfOk result (λ n. n ≡ capped (spec.turn_nodes 4096 numbers.old head.now start)) }
+{
+    let condition = expr_nodes(&head.condition);
+    let step = plus(expr_nodes(&head.next), 1);
+    let mut total = 0;
+    let mut value = start;
+    let mut left = 4096u32;
+    while left > 0 {
+        let next = next_turn(alloc, head, value, numbers)?;
+        total = plus(total, condition);
+        match next {
+            None => return Ok(total),
+            Some(next) => {
+                total = plus(total, step);
+                value = next;
+                left -= 1;
+            }
+        }
+    }
+    Ok(plus(total, condition))
+}
+
+fn all_turns(alloc: Global, head: &LoopHead, numbers: &mut Names) -> Result<u64, Memory>
+    ensures numbers { OnOk result (numbers.new ≡ numbers.old) }
+    ensures count { IfOk result (λ n. n
+        ≡ capped (spec.turn_nodes 4096 numbers.old head.now (genvar_number numbers.old head.now.start))) }
+{
+    let start = genvar_value(alloc, &head.start, numbers)?;
+    turns(alloc, head, start, numbers)
+}
+
+/// The nodes of all turns of a loop, where constants have these numbers.
+pub(crate) fn loop_nodes(alloc: Global, head: &LoopHead, numbers: &mut Names) -> Result<u64, Memory>
+    ensures numbers { OnOk result (numbers.new ≡ numbers.old) }
+    ensures count { IfOk result (λ n. (at : Place) → HaveNumbers numbers.old at.scopes
+        → n ≡ capped (counts.turn_nodes 4096 head.now at (first_turn head.now at.scopes))) }
+{
+    all_turns(alloc, head, numbers)
+}
