@@ -1,0 +1,4 @@
+pub mod Clocks
+pub mod Found
+pub mod Directions
+pub mod Joins

@@ -1,0 +1,6 @@
+use Rattle.vl_mean.proofs.Lookups.{lookup_after}
+use Rattle.vl_connect.proofs.parameters.ParameterTable.put.Goals as goal
+
+pub returns : goal.returns
+returns c other =
+    lookup_after (λ key. key.items) _ c.args.spot other _ _ _ c.in_ok-insert.ensures.entries c.into_vec.ensures

@@ -1,0 +1,4 @@
+pub mod Clock
+pub mod Joined
+pub mod Parameters
+pub mod Ports

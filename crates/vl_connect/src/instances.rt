@@ -1,0 +1,59 @@
+//! Instances by what they name.
+ghost use Rattle.std.specs.Prelude.{◌≡◌, IfOk};
+ghost use Rattle.vl_mean.specs.Walk.{Place};
+ghost use Rattle.vl_refusal.specs.declared.elab_fault.ElabFault.TheVariants as f;
+ghost use Rattle.vl_refusal.specs.Expressions.{refused_if};
+ghost use Rattle.vl_refusal.specs.Items.{instance_refusals};
+ghost use Rattle.vl_refusal.specs.Refused.{lowest};
+ghost use Rattle.name_set.specs.Known.{AreNames};
+ghost use Rattle.vl_modules.specs.Table.{AreModules};
+
+use fv_base::{Memory, Pos, Text};
+use name_set::NameSet;
+use std::alloc::Global;
+use vl_judge::{first_of, twice_if};
+use vl_modules::{ModulePath, ModuleTable};
+use vl_refusal::ElabFault;
+use vl_tree::{Instance, Module};
+
+/// A module that isn't there.
+fn no_module_if(alloc: Global, test: bool, name: &Text) -> Result<Option<ElabFault>, Memory>
+    ensures { IfOk result (λ g. g ≡ lowest (refused_if test (f.NoModule name.now))) }
+{
+    if !test {
+        return Ok(None);
+    }
+    Ok(Some(ElabFault::NoModule(name.copied(alloc)?)))
+}
+
+/// An instance within its own module.
+fn recursive_if(alloc: Global, test: bool, path: &ModulePath) -> Result<Option<ElabFault>, Memory>
+    ensures { IfOk result (λ g. g ≡ lowest (refused_if test (f.Recursive path.now))) }
+{
+    if !test {
+        return Ok(None);
+    }
+    Ok(Some(ElabFault::Recursive(path.names(alloc)?)))
+}
+
+/// An instance by its own name and by the module that it names. `path`: the modules that it stands in; `earlier`: the
+/// names that stand before it in its scope.
+pub fn instance_fault(
+    alloc: Global,
+    modules: &ModuleTable,
+    all: &[Module],
+    pos: Pos,
+    instance: &Instance,
+    path: &ModulePath,
+    earlier: &NameSet,
+) -> Result<Option<ElabFault>, Memory>
+    requires { AreModules modules.now all.now }
+    ensures { IfOk result (λ g. (at : Place) → AreNames earlier.now at.earlier → path.now ≡ at.modules
+        → g ≡ lowest (instance_refusals all.now at pos instance.now)) }
+{
+    let missing = modules.find(all, &instance.definition).is_none();
+    let module = no_module_if(alloc, missing, &instance.definition)?;
+    let twice = twice_if(alloc, earlier.contains(&instance.name), &instance.name, pos)?;
+    let inner = recursive_if(alloc, path.contains(&instance.definition), path)?;
+    Ok(first_of(first_of(module, twice), inner))
+}
