@@ -1,0 +1,24 @@
+-- The parts of an item by itself, from what is there as a design is written: the scopes in which its names are read,
+-- the path of the innermost one, and what the item declares. IEEE 1364-2005, sections 6.1, 9.2 and 9.9.
+use Rattle.std.specs.Prelude.{ℕ, List, [], ◌∷◌, ◌++◌, Option, Some, None}
+use Rattle.vl_tree.specs.declared.declaration.Direction.{Direction}
+use Rattle.vl_tree.specs.declared.declaration.NetKind.TheVariants as net
+use Rattle.vl_tree.specs.Expr.{Expr}
+use Rattle.vl_tree.specs.Item.{Item, declaration, integer, assign, always, initial}
+use Rattle.vl_size.specs.declared.decl.Decl.{Decl}
+use Rattle.vl_mean.specs.Parts.{Part, assignments, block_part, connection_part, declares_all, initial_parts, values_of}
+use Rattle.vl_mean.specs.Scopes.{Scope}
+
+abbrev pub own_parts : List Scope → List ℕ → List Decl → Item → List Part
+own_parts ss path ds (declaration attrs p d) = declares_all path ds ++ values_of ss d.net d.names
+own_parts ss path ds (integer attrs p xs) = declares_all path ds ++ values_of ss net.Reg xs
+own_parts ss path ds (assign attrs p xs) = assignments ss xs
+own_parts ss path ds (always attrs p event s) = block_part ss event.kind s ∷ []
+own_parts ss path ds (initial attrs p s) = initial_parts ss s
+own_parts ss path ds x = []
+
+-- what an instance joins to a port of this direction; None where its module has no port of the name
+abbrev pub joined_part : List Scope → List Scope → Option Direction → List ℕ → Option Expr → List Part
+joined_part ss inside to text None = []
+joined_part ss inside None text (Some e) = []
+joined_part ss inside (Some to) text (Some e) = connection_part ss inside to text e
