@@ -1,0 +1,4 @@
+//! That what begins with a value, in a design that isn't refused, may be written so: a law, without code.
+#![tactic(auto)]
+
+pub mod law;
