@@ -1,1 +1,4 @@
+pub mod Choices
+pub mod FieldBits
 pub mod Lines
+pub mod Words

@@ -1,6 +1,11 @@
-//! The lines that the notes of a certificate are in a clause file.
+//! The notes of a certificate, and the lines that they are in a clause file.
 #![tactic(auto)]
 
+mod cell;
+mod choice;
+mod fields;
 mod line;
+mod notes;
 
 pub use line::note_text;
+pub use notes::notes_of;
