@@ -67,8 +67,8 @@ pub(crate) fn assign_reads(
     Ok(bits_of(alloc, runs.as_slice())?)
 }
 
-/// Those that an assignment may change.
-pub(crate) fn changes_of(
+/// The bits that an assignment to the target may change.
+pub fn changes_of(
     alloc: Global,
     target: &Lval,
     decls: &Decls,

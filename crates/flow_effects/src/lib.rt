@@ -8,4 +8,5 @@ mod joined;
 mod stmt;
 mod uses;
 
+pub use bits::changes_of;
 pub use uses::{Uses, uses_of};

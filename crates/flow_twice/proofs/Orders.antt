@@ -23,29 +23,6 @@ two_with p (q ∷ r ∷ qs) = by (is_earlier q p) (is_earlier r p)
     by true false = refl
     by false c = refl
 
--- ---- the first two of two, and one more
-
-pub first_two : (p q r : Pos) → is_earlier q p ≡ false → p ∷ q ∷ [] ≡ take 2 (with_place p (q ∷ r ∷ []))
-first_two p q r e = sym (ap (λ b. take 2 (if b then q ∷ with_place p (r ∷ []) else p ∷ q ∷ r ∷ [])) e)
-
-pub same_two : (p q r : Pos) → is_earlier q p ≡ true → is_earlier r p ≡ true
-    → q ∷ r ∷ [] ≡ take 2 (with_place p (q ∷ r ∷ []))
-same_two p q r e f =
-    sym (ap (λ b. take 2 (if b then q ∷ with_place p (r ∷ []) else p ∷ q ∷ r ∷ [])) e
-    ∙ ap (λ b. take 2 (q ∷ (if b then r ∷ p ∷ [] else p ∷ r ∷ []))) f)
-
-pub between_two : (p q r : Pos) → is_earlier q p ≡ true → is_earlier r p ≡ false
-    → q ∷ p ∷ [] ≡ take 2 (with_place p (q ∷ r ∷ []))
-between_two p q r e f =
-    sym (ap (λ b. take 2 (if b then q ∷ with_place p (r ∷ []) else p ∷ q ∷ r ∷ [])) e
-    ∙ ap (λ b. take 2 (q ∷ (if b then r ∷ p ∷ [] else p ∷ r ∷ []))) f)
-
-pub behind_one : (p q : Pos) → is_earlier q p ≡ true → q ∷ p ∷ [] ≡ take 2 (with_place p (q ∷ []))
-behind_one p q e = sym (ap (λ b. take 2 (if b then q ∷ p ∷ [] else p ∷ q ∷ [])) e)
-
-pub before_one : (p q : Pos) → is_earlier q p ≡ false → p ∷ q ∷ [] ≡ take 2 (with_place p (q ∷ []))
-before_one p q e = sym (ap (λ b. take 2 (if b then q ∷ p ∷ [] else p ∷ q ∷ [])) e)
-
 -- ---- of shares
 
 module _ (s : Share) (shares : List Share) (c i : ℕ) where

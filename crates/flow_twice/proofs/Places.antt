@@ -2,7 +2,7 @@
 use Rattle.std.specs.Prelude.{◌≡◌, refl, ℕ, ◌-◌, List, [], ◌∷◌, ◌++◌, length, take, drop, Bool, true, false}
 use Rattle.std.specs.Prelude.{◌&&◌, ◌||◌, replicate, if◌then◌else◌}
 use Rattle.std.proofs.Common.{ap, sym, ◌∙◌, arith, subst, length-drop, get_or}
-use Rattle.std.proofs.lemmas.List.{append-nil, append_assoc, take_all, take-append-drop}
+use Rattle.std.proofs.lemmas.List.{append_assoc, take_all, take-append-drop}
 use Rattle.fv_base.specs.declared.pos.Pos.{Pos}
 use Rattle.vl_size.specs.declared.decl.Decl.{Decl}
 use Rattle.bit_sets.specs.declared.step.Step.{Step}
@@ -40,11 +40,6 @@ share_more xs ys s c i e =
 -- ---- what is added in two steps
 
 module _ (ds : List Decl) where
-  pub adds_nothing : (xs : List Share) (J : List ℕ → ℕ → List Pos) → ((n : List ℕ) (i : ℕ) → J n i ≡ [])
-      → AddsPlaces ds xs xs J
-  adds_nothing xs J none c n i e =
-      sym (append-nil (places_at xs c i)) ∙ ap (λ ps. places_at xs c i ++ ps) (sym (none n i))
-
   pub adds_then : (xs ys zs : List Share) (J K L : List ℕ → ℕ → List Pos)
       → ((n : List ℕ) (i : ℕ) → J n i ++ K n i ≡ L n i) → AddsPlaces ds xs ys J → AddsPlaces ds ys zs K
       → AddsPlaces ds xs zs L

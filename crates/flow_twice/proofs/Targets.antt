@@ -1,5 +1,5 @@
 -- The places that a target adds: those of each of its names.
-use Rattle.std.specs.Prelude.{◌≡◌, ℕ, List, [], ◌∷◌, ◌++◌, ◌||◌, true, replicate}
+use Rattle.std.specs.Prelude.{◌≡◌, ℕ, List, [], ◌∷◌, ◌++◌, true, replicate}
 use Rattle.std.proofs.Common.{ap, sym, ◌∙◌, subst}
 use Rattle.std.proofs.lemmas.List.{replicate-append-replicate}
 use Rattle.fv_base.specs.declared.pos.Pos.{Pos}
@@ -11,10 +11,8 @@ use Rattle.vl_mean.specs.Scopes.{no_values}
 use Rattle.vl_mean.specs.Targets.{all_spots, may_change, spots}
 use Rattle.bit_sets.specs.declared.step.Step.{Step}
 use Rattle.bit_sets.specs.Cells.{has}
-use Rattle.vl_path.specs.Reads.{Bits}
 use Rattle.vl_order.specs.Refusals.{count_spot}
-use Rattle.flow_cells.specs.declared.cell_run.CellRun.{CellRun}
-use Rattle.flow_cells.specs.Numbered.{Adds, any_takes, Shows}
+use Rattle.flow_cells.specs.Numbered.{Shows}
 use Rattle.flow_twice.specs.declared.share.Share.{Share}
 use Rattle.flow_twice.specs.Shares.{places_at, target_places, AddsPlaces}
 use Rattle.flow_twice.proofs.Once.{count_append, name_once, one_if}
@@ -25,11 +23,6 @@ abbrev pub all_target_places : List Decl → Lvals → Pos → List ℕ → ℕ 
 all_target_places ds ls p n i = replicate (count_spot n i (all_spots (flat_scopes ds) no_values ls)) p
 
 module _ (ds : List Decl) where
-  pub shows_runs : (before after runs : List CellRun) (bits : List Step) (K : Bits) → before ≡ [] → runs ≡ after
-      → ((c i : ℕ) → has bits c i ≡ any_takes runs c i) → Adds ds before after K → Shows ds (has bits) K
-  shows_runs before after runs bits K none same made adds c n i e =
-      made c i ∙ ap (λ xs. any_takes xs c i) same ∙ adds c n i e ∙ ap (λ xs. any_takes xs c i || K n i) none
-
   pub first_target : (l : Lval) (ls : Lvals) (p : Pos) (n : List ℕ) (i : ℕ)
       → target_places ds l p n i ++ all_target_places ds ls p n i ≡ all_target_places ds (more_lvals l ls) p n i
   first_target l ls p n i =
