@@ -12,7 +12,8 @@ returns-clause-fault c known before same names =
     declared_alike c.args.names.now known same (twice before (placed_names d.names)) d.shape.range d.net
     c.class_of_attributes-class.result class c.as_slice-all.result.now d.names c.in_ok-twice.twice c.in_ok-range.range
     c.in_ok-inner.inner c.first_of.result c.first_of-2.result
-    (c.in_ok-twice.ensures.fault before names ∙ ap (λ xs. lowest (twice before (placed_names xs))) c.as_slice-all.ensures)
+    (c.in_ok-twice.ensures.fault before names
+    ∙ ap (λ xs. lowest (twice before (placed_names xs))) c.as_slice-all.ensures)
     c.in_ok-range.ensures c.in_ok-inner.ensures
     (c.class_of_attributes-class.ensures
     ∙ ap (λ k. class_of_attributes k (joined_attributes c.args.attributes.now)) c.class_of_kind.ensures)
