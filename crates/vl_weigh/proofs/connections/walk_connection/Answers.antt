@@ -1,0 +1,15 @@
+use Rattle.std.proofs.Common.{refl, ◌∙◌, ◌∷◌, []}
+use Rattle.vl_mean.specs.Walk.{connection}
+use Rattle.name_set.specs.Known.{contains}
+use Rattle.vl_step.proofs.NameLemmas.{same_names}
+use Rattle.vl_weigh.proofs.connections.walk_connection.Goals as goal
+
+pub returns-clause-walked : goal.returns-clause-walked
+returns-clause-walked c ms at m u inside t before directions stands inner names known =
+    c.weighed.ensures ms (connection at m u inside before c.args.given.now) t
+    (c.in_ok-fault.ensures at m u before directions stands inner names) c.value_nodes.ensures refl refl known
+
+pub returns-clause-earlier : goal.returns-clause-earlier
+returns-clause-earlier c before names text =
+    c.in_ok-add_name.ensures text
+    ∙ same_names (contains c.args.earlier.now) before names (c.args.given.now.port ∷ []) text

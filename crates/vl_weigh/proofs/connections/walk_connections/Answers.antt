@@ -1,0 +1,58 @@
+use Rattle.std.proofs.Common.{◌≡◌, ◌∙◌, ◌+◌, ◌++◌, [], ◌∷◌, ap, sym, subst, arith}
+use Rattle.std.specs.Prelude.{drop}
+use Rattle.std.proofs.lemmas.Grind.{common_steps}
+use Rattle.vl_mean.specs.Walk.{connection, connection_steps}
+use Rattle.vl_weigh.specs.Left.{AreLeft}
+use Rattle.vl_weigh.proofs.Rest.{found_none, left_start, left_on, left_stop, left_end}
+use Rattle.vl_weigh.proofs.connections.walk_connections.Goals as goal
+
+pub loop-given-init : goal.loop-given-init
+loop-given-init c ms at u inside t same inner known = (
+  [],
+  c.new-earlier.ensures,
+  left_start ms t (connection_steps at c.args.module.now u inside [] c.args.all.now) c.args.totals.now known,
+)
+
+pub loop-given-preserved : goal.loop-given-preserved
+loop-given-preserved c ms at u inside t same inner known =
+    let m = c.args.module.now in
+    let x = c.given-item.result in
+    let all = connection_steps at m u inside [] c.args.all.now in
+    let front : drop c.loop-given.given-index c.args.all.now ≡ c.given-item.result
+    ∷ drop (c.loop-given.given-index + 1) c.args.all.now = grind (arith, common_steps) in
+    let rest = drop (c.loop-given.given-index + 1) c.args.all.now in
+    let old = c.loop-given.invariant ms at u inside t same inner known in
+    let left = subst (λ l. AreLeft ms t all c.loop-given.totals (connection_steps at m u inside old.0 l)) front
+    old.2 in (
+      old.0 ++ x.port ∷ [],
+      c.in_ok-found.ensures.earlier old.0 old.1,
+      left_on ms t all c.loop-given.totals c.walk_connection.new.totals (connection at m u inside old.0 x ∷ [])
+          (connection_steps at m u inside (old.0 ++ x.port ∷ []) rest) c.in_ok-found.found left
+          (c.in_ok-found.ensures.walked ms at m u inside left.now old.0 c.in_ok-ports.ensures same inner old.1
+          left.known)
+          (found_none c.in_ok-found.found c.is_some.result c.is_some.ensures c.if-is_some.false),
+    )
+
+pub returns-then-is_some : goal.returns-then-is_some
+returns-then-is_some c ms at u inside t same inner known =
+    let m = c.args.module.now in
+    let x = c.given-item.result in
+    let all = connection_steps at m u inside [] c.args.all.now in
+    let front : drop c.loop-given.given-index c.args.all.now ≡ c.given-item.result
+    ∷ drop (c.loop-given.given-index + 1) c.args.all.now = grind (arith, common_steps) in
+    let rest = drop (c.loop-given.given-index + 1) c.args.all.now in
+    let old = c.loop-given.invariant ms at u inside t same inner known in
+    let left = subst (λ l. AreLeft ms t all c.loop-given.totals (connection_steps at m u inside old.0 l)) front old.2 in
+    left_stop ms t all c.loop-given.totals c.walk_connection.new.totals (connection at m u inside old.0 x ∷ [])
+    (connection_steps at m u inside (old.0 ++ x.port ∷ []) rest) c.in_ok-found.found left
+    (c.in_ok-found.ensures.walked ms at m u inside left.now old.0 c.in_ok-ports.ensures same inner old.1 left.known)
+    (sym c.is_some.ensures ∙ c.if-is_some.true)
+
+pub returns : goal.returns
+returns c ms at u inside t same inner known =
+    let m = c.args.module.now in
+    let gone : drop c.loop-given.given-index c.args.all.now ≡ [] = grind (arith, common_steps) in
+    let old = c.loop-given.invariant ms at u inside t same inner known in
+    left_end ms t (connection_steps at m u inside [] c.args.all.now) c.loop-given.totals
+    (connection_steps at m u inside old.0 (drop c.loop-given.given-index c.args.all.now))
+    (ap (connection_steps at m u inside old.0) gone) old.2

@@ -1,0 +1,15 @@
+use Rattle.std.proofs.Common.{refl, ◌∙◌, ◌∷◌, []}
+use Rattle.vl_mean.specs.Walk.{override}
+use Rattle.name_set.specs.Known.{contains}
+use Rattle.vl_step.proofs.NameLemmas.{same_names}
+use Rattle.vl_weigh.proofs.connections.walk_override.Goals as goal
+
+pub returns-clause-walked : goal.returns-clause-walked
+returns-clause-walked c ms at u t before same inner names known =
+    c.weighed.ensures ms (override at c.args.module.now u before c.args.given.now) t
+    (c.in_ok-fault.ensures at u before same inner names) c.value_nodes.ensures refl refl known
+
+pub returns-clause-earlier : goal.returns-clause-earlier
+returns-clause-earlier c before names text =
+    c.in_ok-add_name.ensures text
+    ∙ same_names (contains c.args.earlier.now) before names (c.args.given.now.port ∷ []) text

@@ -1,0 +1,34 @@
+use Rattle.std.proofs.Common.{◌≡◌, ◌++◌, List, ℕ}
+use Rattle.std.specs.Prelude.{drop}
+use Rattle.vl_tree.specs.declared.source.Module.{Module}
+use Rattle.vl_mean.specs.Declarations.{header_parameters}
+use Rattle.vl_mean.specs.Walk.{Place, header_steps, parameter_names}
+use Rattle.vl_refusal.specs.Meanings.{meanings_at}
+use Rattle.vl_refusal.specs.Refused.{Totals}
+use Rattle.vl_alike.specs.Alike.{Alike}
+use Rattle.name_set.specs.Known.{AreNames}
+use Rattle.vl_reach.specs.Reached.{IsReached}
+use Rattle.vl_earlier.specs.Gives.{Gives}
+use Rattle.vl_walked.specs.Walked.{AreTotals}
+use Rattle.vl_weigh.specs.Left.{AreLeft}
+use Rattle.vl_weigh.proofs.headers.walk_headers.Given as goal
+
+abbrev pub invariant-loop-parameter : goal.invariant-loop-parameter
+invariant-loop-parameter l =
+    let all = header_parameters l.parameters in
+    let rest = header_parameters (drop l.parameter-index l.parameters) in
+    record {
+      names : l.names ≡ l.fn.names;
+      earlier : (before : List (List ℕ)) → AreNames l.fn.earlier before
+          → (now : List (List ℕ)) × AreNames l.earlier now
+          × (now ++ parameter_names rest ≡ before ++ parameter_names all);
+      reached : (at : Place) (before : List (List ℕ)) → Alike l.fn.names (meanings_at at)
+          → IsReached l.fn.reached at before
+          → (now : List (List ℕ)) × IsReached l.reached at now
+          × (now ++ parameter_names rest ≡ before ++ parameter_names all);
+      walked : (ms : List Module) (at : Place) (t : Totals) → Alike l.fn.names (meanings_at at)
+          → AreNames l.fn.earlier at.earlier → IsReached l.fn.reached at at.earlier → Gives l.given at
+          → AreTotals l.fn.totals t
+          → (now : List (List ℕ)) × AreNames l.earlier now × IsReached l.reached at now
+          × AreLeft ms t (header_steps at all) l.totals (header_steps (record at { earlier = now }) rest);
+    }

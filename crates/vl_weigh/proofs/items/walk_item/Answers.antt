@@ -1,0 +1,31 @@
+use Rattle.std.proofs.Common.{◌∙◌, ◌++◌, ap, sym, subst}
+use Rattle.vl_mean.specs.Walk.{item}
+use Rattle.vl_refusal.specs.Counts.{item_pos}
+use Rattle.vl_refusal.specs.Meanings.{meanings_at}
+use Rattle.vl_alike.specs.Alike.{Alike}
+use Rattle.vl_reach.specs.Reached.{IsReached}
+use Rattle.vl_weigh.specs.Here.{IsAt, own_parameters}
+use Rattle.vl_weigh.proofs.ItemKinds.{all_own, shown_pos}
+use Rattle.vl_weigh.proofs.items.walk_item.Goals as goal
+
+pub returns-clause-walked : goal.returns-clause-walked
+returns-clause-walked c at t here path known =
+    let x = c.args.item.now in
+    let inside = c.item.inside in
+    c.weighed.ensures c.args.all.now (item at x) t
+    (c.in_ok-fault.ensures.fault at
+    (subst (λ ns. IsAt c.args.names.now ns c.args.earlier.now c.args.reached.now c.args.given.now at)
+    (sym c.in_ok-added.ensures.numbers) here) path)
+    (c.in_ok-added.ensures.nodes at here.constants) (c.in_ok-added.ensures.names at.around here.shapes)
+    (sym (shown_pos inside.attributes inside.pos inside.kind) ∙ ap item_pos c.item.view_is) known
+
+pub returns-clause-earlier : goal.returns-clause-earlier
+returns-clause-earlier c at here = c.in_ok-fault.ensures.earlier at.earlier here.before
+
+pub returns-clause-reached : goal.returns-clause-reached
+returns-clause-reached c at here =
+    let x = c.args.item.now in
+    subst (IsReached c.pass_declared.new.reached at) (all_own x at.earlier)
+    (c.in_ok-pass_declared.ensures at (at.earlier ++ own_parameters x)
+    (subst (λ ns. Alike ns (meanings_at at)) (sym c.in_ok-fault.ensures.names) here.alike)
+    (c.in_ok-fault.ensures.reached at at.earlier here.alike here.parameters))

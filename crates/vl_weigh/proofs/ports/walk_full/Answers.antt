@@ -1,0 +1,17 @@
+use Rattle.std.proofs.Common.{refl, ◌∷◌, []}
+use Rattle.vl_mean.specs.Walk.{port}
+use Rattle.name_set.specs.Known.{contains}
+use Rattle.vl_step.proofs.NameLemmas.{same_names}
+use Rattle.vl_refuse.specs.Short.{renamed}
+use Rattle.std.proofs.Common.{◌∙◌}
+use Rattle.vl_weigh.proofs.ports.walk_full.Goals as goal
+
+pub returns-clause-walked : goal.returns-clause-walked
+returns-clause-walked c ms at u t same names known =
+    c.weighed.ensures ms (port at u c.args.pos (renamed c.args.full.now c.args.text.now c.args.value.now)) t
+    (c.in_ok-fault.ensures at same names) c.port_nodes.ensures refl refl known
+
+pub returns-clause-earlier : goal.returns-clause-earlier
+returns-clause-earlier c before names text =
+    c.in_ok-add_name.ensures text
+    ∙ same_names (contains c.args.earlier.now) before names (c.args.text.now ∷ []) text

@@ -1,0 +1,4 @@
+pub mod Here
+pub mod Kinds
+pub mod Left
+pub mod Ports

@@ -1,0 +1,166 @@
+//! What an instance gives to the parameters of its module and joins to its ports.
+ghost use Rattle.std.specs.Prelude.{◌≡◌, ◌+◌, ◌++◌, ◌∷◌, [], ℕ, List, IfOk, OnOk};
+ghost use Rattle.vl_tree.specs.declared.source.Module.{Module as SpecModule};
+ghost use Rattle.vl_mean.specs.ConstantFaults.{capped};
+ghost use Rattle.vl_mean.specs.Scopes.{Scope};
+ghost use Rattle.vl_mean.specs.Walk as walk;
+ghost use Rattle.vl_mean.specs.Walk.{Place, Use};
+ghost use Rattle.vl_refusal.specs.Counts as counts;
+ghost use Rattle.vl_refusal.specs.Items.{inner_meanings};
+ghost use Rattle.vl_refusal.specs.Meanings.{meanings_at};
+ghost use Rattle.vl_refusal.specs.Refused as refused;
+ghost use Rattle.vl_alike.specs.Alike.{Alike};
+ghost use Rattle.name_set.specs.Known.{AreNames, contains};
+ghost use Rattle.vl_stand.specs.Stands.{Stands};
+ghost use Rattle.vl_connect.specs.Parameters.{AreParametersOf};
+ghost use Rattle.vl_connect.specs.Ports.{AreDirectionsOf};
+ghost use Rattle.vl_walked.specs.Walked.{AreTotals, AreWalked};
+
+use crate::passed::add_name;
+use crate::step::weighed;
+use fv_base::Memory;
+use name_set::NameSet;
+use std::alloc::Global;
+use vl_connect::{ParameterTable, PortTable, connection_step_fault, override_step_fault};
+use vl_count::optional_nodes;
+use vl_mean::widths::plus;
+use vl_refusal::ElabFault;
+use vl_scope::Names;
+use vl_totals::Added;
+use vl_tree::{Connection, Expr, Module};
+use vl_walked::Totals;
+
+#[tactic(auto, using(vl_count::proofs::Sums::sums))]
+fn value_nodes(value: &Option<Expr>) -> u64
+    ensures { result ≡ capped (counts.value_nodes value.now + 1) }
+{
+    plus(optional_nodes(value), 1)
+}
+
+fn walk_override(
+    alloc: Global,
+    parameters: &ParameterTable,
+    module: &Module,
+    given: &Connection,
+    names: &Names,
+    inner: &Names,
+    earlier: &mut NameSet,
+    totals: &mut Totals,
+) -> Result<Option<ElabFault>, Memory>
+    requires { AreParametersOf parameters.now module.now }
+    ensures walked { IfOk result (λ g. (ms : List SpecModule) (at : Place) (u : Use) (t : refused.Totals)
+        (before : List (List ℕ)) → Alike names.now (meanings_at at) → Alike inner.now (inner_meanings module.now u)
+        → AreNames earlier.old before → AreTotals totals.old t
+        → AreWalked ms t totals.new (walk.override at module.now u before given.now ∷ []) g) }
+    ensures earlier { OnOk result ((before : List (List ℕ)) → AreNames earlier.old before
+        → AreNames earlier.new (before ++ given.now.port ∷ [])) }
+{
+    let fault = override_step_fault(alloc, parameters, module, given, names, inner, earlier)?;
+    add_name(alloc, &given.port, earlier)?;
+    let added = Added {
+        nodes: value_nodes(&given.value),
+        names: 0,
+    };
+    Ok(weighed(fault, added, given.pos, totals))
+}
+
+/// What an instance gives to the parameters of its module: the first refusal. None exactly where none is refused; then
+/// all are counted. `names`: what names mean where the instance stands; `inner`: what they mean in the module.
+pub fn walk_overrides(
+    alloc: Global,
+    all: &[Connection],
+    module: &Module,
+    names: &Names,
+    inner: &Names,
+    totals: &mut Totals,
+) -> Result<Option<ElabFault>, Memory>
+    ensures { IfOk result (λ g. (ms : List SpecModule) (at : Place) (u : Use) (t : refused.Totals)
+        → Alike names.now (meanings_at at) → Alike inner.now (inner_meanings module.now u)
+        → AreTotals totals.old t
+        → AreWalked ms t totals.new (walk.override_steps at module.now u [] all.now) g) }
+{
+    let parameters = ParameterTable::new(alloc, module)?;
+    let mut earlier = NameSet::new(alloc);
+    for given in all {
+        let found = walk_override(
+            alloc,
+            &parameters,
+            module,
+            given,
+            names,
+            inner,
+            &mut earlier,
+            totals,
+        )?;
+        if found.is_some() {
+            return Ok(found);
+        }
+    }
+    Ok(None)
+}
+
+fn walk_connection(
+    alloc: Global,
+    ports: &PortTable,
+    given: &Connection,
+    names: &Names,
+    numbers: &Names,
+    clocks: &NameSet,
+    inner: &Names,
+    earlier: &mut NameSet,
+    totals: &mut Totals,
+) -> Result<Option<ElabFault>, Memory>
+    ensures walked { IfOk result (λ g. (ms : List SpecModule) (at : Place) (m : SpecModule) (u : Use)
+        (inside : List Scope) (t : refused.Totals) (before : List (List ℕ)) → AreDirectionsOf ports.now m
+        → Stands names.now numbers.now (contains clocks.now) (meanings_at at) at.scopes
+        → Alike inner.now (inner_meanings m u) → AreNames earlier.old before → AreTotals totals.old t
+        → AreWalked ms t totals.new (walk.connection at m u inside before given.now ∷ []) g) }
+    ensures earlier { OnOk result ((before : List (List ℕ)) → AreNames earlier.old before
+        → AreNames earlier.new (before ++ given.now.port ∷ [])) }
+{
+    let fault = connection_step_fault(alloc, ports, given, names, numbers, clocks, inner, earlier)?;
+    add_name(alloc, &given.port, earlier)?;
+    let added = Added {
+        nodes: value_nodes(&given.value),
+        names: 0,
+    };
+    Ok(weighed(fault, added, given.pos, totals))
+}
+
+/// The same of what it joins to the ports. `numbers`: the numbers of constants where it stands; `clocks`: the inputs of
+/// the module around that are the clock.
+pub fn walk_connections(
+    alloc: Global,
+    all: &[Connection],
+    module: &Module,
+    names: &Names,
+    numbers: &Names,
+    clocks: &NameSet,
+    inner: &Names,
+    totals: &mut Totals,
+) -> Result<Option<ElabFault>, Memory>
+    ensures { IfOk result (λ g. (ms : List SpecModule) (at : Place) (u : Use) (inside : List Scope)
+        (t : refused.Totals) → Stands names.now numbers.now (contains clocks.now) (meanings_at at) at.scopes
+        → Alike inner.now (inner_meanings module.now u) → AreTotals totals.old t
+        → AreWalked ms t totals.new (walk.connection_steps at module.now u inside [] all.now) g) }
+{
+    let ports = PortTable::new(alloc, module)?;
+    let mut earlier = NameSet::new(alloc);
+    for given in all {
+        let found = walk_connection(
+            alloc,
+            &ports,
+            given,
+            names,
+            numbers,
+            clocks,
+            inner,
+            &mut earlier,
+            totals,
+        )?;
+        if found.is_some() {
+            return Ok(found);
+        }
+    }
+    Ok(None)
+}

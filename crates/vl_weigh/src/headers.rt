@@ -1,0 +1,106 @@
+//! The parameters of a module's head.
+ghost use Rattle.std.specs.Prelude.{◌≡◌, ◌++◌, ◌∷◌, [], ℕ, List, None, IfOk, OnOk};
+ghost use Rattle.vl_tree.specs.declared.source.Module.{Module};
+ghost use Rattle.vl_mean.specs.ConstantFaults.{capped};
+ghost use Rattle.vl_mean.specs.Declarations.{header_parameters};
+ghost use Rattle.vl_mean.specs.Walk.{Place, header, header_steps, parameter_names};
+ghost use Rattle.vl_refusal.specs.Counts as counts;
+ghost use Rattle.vl_refusal.specs.Meanings.{meanings_at};
+ghost use Rattle.vl_refusal.specs.Refused as refused;
+ghost use Rattle.vl_alike.specs.Alike.{Alike};
+ghost use Rattle.name_set.specs.Known.{AreNames};
+ghost use Rattle.vl_reach.specs.Reached.{IsReached};
+ghost use Rattle.vl_earlier.specs.Gives.{Gives};
+ghost use Rattle.vl_walked.specs.Walked.{AreTotals, AreWalked};
+
+use crate::step::weighed;
+use fv_base::Memory;
+use name_set::NameSet;
+use std::alloc::Global;
+use vl_count::{expr_nodes, range_nodes};
+use vl_earlier::header_fault;
+use vl_mean::widths::plus;
+use vl_number::Given;
+use vl_reach::Reached;
+use vl_refusal::ElabFault;
+use vl_scope::Names;
+use vl_totals::Added;
+use vl_tree::{HeaderParameter, Parameter};
+use vl_walked::Totals;
+
+#[tactic(auto, using(vl_count::proofs::Sums::sums))]
+fn parameter_nodes(parameter: &Parameter) -> u64
+    ensures { result ≡ capped (counts.parameter_nodes (parameter.now ∷ [])) }
+{
+    let range = range_nodes(&parameter.shape.range);
+    let value = expr_nodes(&parameter.value);
+    plus(plus(range, value), 1)
+}
+
+fn walk_header(
+    alloc: Global,
+    parameter: &Parameter,
+    names: &mut Names,
+    earlier: &mut NameSet,
+    reached: &mut Reached,
+    given: &Given,
+    totals: &mut Totals,
+) -> Result<Option<ElabFault>, Memory>
+    ensures names { OnOk result (names.new ≡ names.old) }
+    ensures walked { IfOk result (λ g. (ms : List Module) (at : Place) (t : refused.Totals)
+        → Alike names.old (meanings_at at) → AreNames earlier.old at.earlier → IsReached reached.old at at.earlier
+        → Gives given.now at → AreTotals totals.old t → AreWalked ms t totals.new (header at parameter.now ∷ []) g) }
+    ensures earlier { OnOk result ((before : List (List ℕ)) → AreNames earlier.old before
+        → AreNames earlier.new (before ++ parameter.now.name ∷ [])) }
+    ensures reached { OnOk result ((at : Place) (before : List (List ℕ)) → Alike names.old (meanings_at at)
+        → IsReached reached.old at before → IsReached reached.new at (before ++ parameter.now.name ∷ [])) }
+{
+    let fault = header_fault(alloc, parameter, given, names, earlier, reached)?;
+    let added = Added {
+        nodes: parameter_nodes(parameter),
+        names: 0,
+    };
+    Ok(weighed(fault, added, parameter.pos, totals))
+}
+
+/// The parameters of a module's head: the first refusal of them. None exactly where none is refused; then they stand
+/// behind the names before them, and are counted.
+pub fn walk_headers(
+    alloc: Global,
+    parameters: &[HeaderParameter],
+    names: &mut Names,
+    earlier: &mut NameSet,
+    reached: &mut Reached,
+    given: &Given,
+    totals: &mut Totals,
+) -> Result<Option<ElabFault>, Memory>
+    ensures names { OnOk result (names.new ≡ names.old) }
+    ensures walked { IfOk result (λ g. (ms : List Module) (at : Place) (t : refused.Totals)
+        → Alike names.old (meanings_at at) → AreNames earlier.old at.earlier → IsReached reached.old at at.earlier
+        → Gives given.now at → AreTotals totals.old t
+        → AreWalked ms t totals.new (header_steps at (header_parameters parameters.now)) g) }
+    ensures earlier { IfOk result (λ g. g ≡ None → (at : Place)
+        → Alike names.old (meanings_at at) → AreNames earlier.old at.earlier → IsReached reached.old at at.earlier
+        → Gives given.now at
+        → AreNames earlier.new (at.earlier ++ parameter_names (header_parameters parameters.now))) }
+    ensures reached { IfOk result (λ g. g ≡ None → (at : Place)
+        → Alike names.old (meanings_at at) → AreNames earlier.old at.earlier → IsReached reached.old at at.earlier
+        → Gives given.now at
+        → IsReached reached.new at (at.earlier ++ parameter_names (header_parameters parameters.now))) }
+{
+    for parameter in parameters {
+        let found = walk_header(
+            alloc,
+            &parameter.parameter,
+            names,
+            earlier,
+            reached,
+            given,
+            totals,
+        )?;
+        if found.is_some() {
+            return Ok(found);
+        }
+    }
+    Ok(None)
+}

@@ -1,0 +1,162 @@
+//! The ports of a module.
+ghost use Rattle.std.specs.Prelude.{◌≡◌, ◌+◌, ◌++◌, ◌∷◌, [], ℕ, List, None, IfOk, OnOk};
+ghost use Rattle.std.specs.Option.{option_copied};
+ghost use Rattle.vl_tree.specs.declared.source.Module.{Module};
+ghost use Rattle.vl_mean.specs.ConstantFaults.{capped};
+ghost use Rattle.vl_mean.specs.Declarations.{full_port, full_ports};
+ghost use Rattle.vl_mean.specs.Walk.{Place, Use, optional_name, port, port_names, port_step, port_steps};
+ghost use Rattle.vl_refusal.specs.Counts as counts;
+ghost use Rattle.vl_refusal.specs.Meanings.{meanings_at};
+ghost use Rattle.vl_refusal.specs.Refused as refused;
+ghost use Rattle.vl_alike.specs.Alike.{Alike};
+ghost use Rattle.name_set.specs.Known.{AreNames};
+ghost use Rattle.vl_reach.specs.Reached.{IsReached};
+ghost use Rattle.vl_walked.specs.Walked.{AreTotals, AreWalked};
+ghost use Rattle.vl_stand.specs.Clocks.{port_text};
+ghost use Rattle.vl_refuse.specs.Short.{renamed};
+ghost use Rattle.vl_weigh.specs.Ports as spec;
+
+use crate::passed::add_name;
+use crate::step::weighed;
+use fv_base::{Memory, Pos, Text};
+use name_set::NameSet;
+use std::alloc::Global;
+use vl_count::{optional_nodes, range_nodes};
+use vl_mean::widths::plus;
+use vl_reach::Reached;
+use vl_refusal::ElabFault;
+use vl_refuse::port_step_fault;
+use vl_scope::Names;
+use vl_totals::Added;
+use vl_tree::{Expr, FullPort, Port, PortKind};
+use vl_walked::Totals;
+
+/// The port from which one that is written short behind this one takes what it doesn't say.
+fn next_full<'a>(last: Option<&'a FullPort>, kind: &'a PortKind) -> Option<&'a FullPort>
+    ensures { option_copied result ≡ spec.next_full (option_copied last.entry) kind.now }
+{
+    match kind {
+        PortKind::Full(port) => Some(port),
+        PortKind::Short(_, _) => last,
+    }
+}
+
+fn port_text(kind: &PortKind) -> &Text
+    ensures { result.now ≡ port_text kind.now }
+{
+    match kind {
+        PortKind::Full(port) => &port.name,
+        PortKind::Short(text, _) => text,
+    }
+}
+
+fn port_value(kind: &PortKind) -> &Option<Expr>
+    ensures { result.now ≡ spec.port_value kind.now }
+{
+    match kind {
+        PortKind::Full(port) => &port.value,
+        PortKind::Short(_, value) => value,
+    }
+}
+
+/// A port of the shape of this one.
+#[tactic(auto, using(vl_count::proofs::Sums::sums))]
+fn port_nodes(full: &FullPort, value: &Option<Expr>) -> u64
+    ensures { result ≡ capped (counts.range_nodes full.now.shape.range + counts.value_nodes value.now + 1) }
+{
+    let range = range_nodes(&full.shape.range);
+    let value = optional_nodes(value);
+    plus(plus(range, value), 1)
+}
+
+fn walk_full(
+    alloc: Global,
+    pos: Pos,
+    full: &FullPort,
+    text: &Text,
+    value: &Option<Expr>,
+    names: &Names,
+    earlier: &mut NameSet,
+    reached: &mut Reached,
+    totals: &mut Totals,
+) -> Result<Option<ElabFault>, Memory>
+    ensures walked { IfOk result (λ g. (ms : List Module) (at : Place) (u : Use) (t : refused.Totals)
+        → Alike names.now (meanings_at at) → AreNames earlier.old at.earlier → AreTotals totals.old t
+        → AreWalked ms t totals.new (port at u pos (renamed full.now text.now value.now) ∷ []) g) }
+    ensures earlier { OnOk result ((before : List (List ℕ)) → AreNames earlier.old before
+        → AreNames earlier.new (before ++ text.now ∷ [])) }
+    ensures reached { OnOk result ((at : Place) (before : List (List ℕ)) → Alike names.now (meanings_at at)
+        → IsReached reached.old at before → IsReached reached.new at (before ++ text.now ∷ [])) }
+{
+    let fault = port_step_fault(alloc, pos, full, text, value, names, earlier)?;
+    add_name(alloc, text, earlier)?;
+    reached.pass(alloc, text, names)?;
+    let added = Added {
+        nodes: port_nodes(full, value),
+        names: 1,
+    };
+    Ok(weighed(fault, added, pos, totals))
+}
+
+/// One that is written short behind no other is none.
+fn walk_port(
+    alloc: Global,
+    last: Option<&FullPort>,
+    port: &Port,
+    names: &Names,
+    earlier: &mut NameSet,
+    reached: &mut Reached,
+    totals: &mut Totals,
+) -> Result<Option<ElabFault>, Memory>
+    ensures walked { IfOk result (λ g. (ms : List Module) (at : Place) (u : Use) (t : refused.Totals)
+        → Alike names.now (meanings_at at) → AreNames earlier.old at.earlier → AreTotals totals.old t
+        → AreWalked ms t totals.new
+        (port_step at u port.now.pos (full_port (option_copied last.entry) port.now.kind)) g) }
+    ensures earlier { OnOk result ((before : List (List ℕ)) → AreNames earlier.old before
+        → AreNames earlier.new
+        (before ++ optional_name (full_port (option_copied last.entry) port.now.kind))) }
+    ensures reached { OnOk result ((at : Place) (before : List (List ℕ)) → Alike names.now (meanings_at at)
+        → IsReached reached.old at before → IsReached reached.new at
+        (before ++ optional_name (full_port (option_copied last.entry) port.now.kind))) }
+{
+    match next_full(last, &port.kind) {
+        None => Ok(None),
+        Some(full) => {
+            let text = port_text(&port.kind);
+            let value = port_value(&port.kind);
+            walk_full(
+                alloc, port.pos, full, text, value, names, earlier, reached, totals,
+            )
+        }
+    }
+}
+
+/// The ports of a module: the first refusal of them. None exactly where none is refused; then they stand behind the
+/// names before them, and are counted.
+pub fn walk_ports(
+    alloc: Global,
+    ports: &[Port],
+    names: &Names,
+    earlier: &mut NameSet,
+    reached: &mut Reached,
+    totals: &mut Totals,
+) -> Result<Option<ElabFault>, Memory>
+    ensures walked { IfOk result (λ g. (ms : List Module) (at : Place) (u : Use) (t : refused.Totals)
+        → Alike names.now (meanings_at at) → AreNames earlier.old at.earlier → AreTotals totals.old t
+        → AreWalked ms t totals.new (port_steps at u None ports.now) g) }
+    ensures earlier { IfOk result (λ g. g ≡ None → (before : List (List ℕ)) → AreNames earlier.old before
+        → AreNames earlier.new (before ++ port_names (full_ports None ports.now))) }
+    ensures reached { IfOk result (λ g. g ≡ None → (at : Place) (before : List (List ℕ))
+        → Alike names.now (meanings_at at) → IsReached reached.old at before
+        → IsReached reached.new at (before ++ port_names (full_ports None ports.now))) }
+{
+    let mut last = None;
+    for port in ports {
+        let found = walk_port(alloc, last, port, names, earlier, reached, totals)?;
+        if found.is_some() {
+            return Ok(found);
+        }
+        last = next_full(last, &port.kind);
+    }
+    Ok(None)
+}

@@ -1,0 +1,44 @@
+//! A step with what it adds.
+ghost use Rattle.std.specs.Prelude.{◌≡◌, ◌∷◌, [], List};
+ghost use Rattle.vl_tree.specs.declared.source.Module.{Module};
+ghost use Rattle.vl_mean.specs.ConstantFaults.{capped};
+ghost use Rattle.vl_mean.specs.Walk.{Step};
+ghost use Rattle.vl_refusal.specs.declared.elab_fault.ElabFault.TheVariants as f;
+ghost use Rattle.vl_refusal.specs.Counts.{step_names, step_nodes, step_pos};
+ghost use Rattle.vl_refusal.specs.Expressions.{refused_if};
+ghost use Rattle.vl_refusal.specs.Items.{step_refusals};
+ghost use Rattle.vl_refusal.specs.Refused as refused;
+ghost use Rattle.vl_refusal.specs.Refused.{lowest};
+ghost use Rattle.vl_walked.specs.Walked.{AreTotals, AreWalked};
+
+use fv_base::Pos;
+use vl_judge::first_of;
+use vl_refusal::ElabFault;
+use vl_totals::Added;
+use vl_walked::Totals;
+
+fn too_large_if(test: bool, pos: Pos) -> Option<ElabFault>
+    ensures { result ≡ lowest (refused_if test (f.TooLarge pos)) }
+{
+    if test {
+        Some(ElabFault::TooLarge(pos))
+    } else {
+        None
+    }
+}
+
+/// The step that is refused so by itself, with the nodes and names that it adds to those before it.
+pub(crate) fn weighed(
+    fault: Option<ElabFault>,
+    added: Added,
+    pos: Pos,
+    totals: &mut Totals,
+) -> Option<ElabFault>
+    ensures { (ms : List Module) (x : Step) (t : refused.Totals) → fault ≡ lowest (step_refusals ms x)
+        → added.nodes ≡ capped (step_nodes x) → added.names ≡ capped (step_names x) → pos ≡ step_pos x
+        → AreTotals totals.old t → AreWalked ms t totals.new (x ∷ []) result }
+{
+    let sum = totals.with(added.nodes, added.names);
+    *totals = sum;
+    first_of(fault, too_large_if(sum.is_too_large(), pos))
+}
