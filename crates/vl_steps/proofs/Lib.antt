@@ -1,0 +1,15 @@
+pub mod Choices
+pub mod Lists
+pub mod Named
+pub mod Values
+pub mod Contexts
+pub mod Branches
+pub mod Assumed
+pub mod Labels
+pub mod Cases
+pub mod Choosing
+pub mod Assignments
+pub mod Counts
+pub mod Held
+pub mod Bits
+pub mod Locating

@@ -1,0 +1,4 @@
+pub mod Layout
+pub mod Executes
+pub mod Arms
+pub mod Located
