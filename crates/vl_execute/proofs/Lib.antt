@@ -1,0 +1,2 @@
+pub mod Wild
+pub mod Conditions
