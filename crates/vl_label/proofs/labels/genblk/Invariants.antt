@@ -1,0 +1,6 @@
+use Rattle.std.proofs.Common.{◌≡◌, ◌++◌, codes}
+use Rattle.vl_label.proofs.Zeros.{noughts}
+use Rattle.vl_label.proofs.labels.genblk.Given as goal
+
+abbrev pub invariant-loop : goal.invariant-loop
+invariant-loop l = l.bytes.items ≡ codes "genblk" ++ noughts l.counter
