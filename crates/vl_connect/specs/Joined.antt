@@ -22,6 +22,7 @@ port_with d text = record {
   value = None;
 }
 
+-- of this direction, if there is one
 abbrev pub port_if : Option Direction → List ℕ → Option FullPort
 port_if None text = None
 port_if (Some d) text = Some (port_with d text)

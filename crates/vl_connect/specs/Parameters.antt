@@ -16,25 +16,30 @@ use Rattle.vl_connect.specs.declared.parameters.Spot.TheVariants as s
 
 -- ---- the parameter that stands at a place
 
+-- of an item
 abbrev pub parameter_in : Option Item → ℕ → Option Parameter
 parameter_in None i = None
 parameter_in (Some (parameter attrs p kind xs)) i = slice_get xs i
 parameter_in (Some x) i = None
 
+-- of the parameters of a head
 abbrev pub header_in : Option HeaderParameter → Option Parameter
 header_in None = None
 header_in (Some x) = Some x.parameter
 
+-- in a module with this head and these items
 abbrev pub parameter_at : List HeaderParameter → List Item → Spot → Option Parameter
 parameter_at hs xs (s.Header i) = header_in (slice_get hs i)
 parameter_at hs xs (s.Item i j) = parameter_in (slice_get xs i) j
 
+-- where a place is known
 abbrev pub found_at : List HeaderParameter → List Item → Option Spot → Option Parameter
 found_at hs xs None = None
 found_at hs xs (Some spot) = parameter_at hs xs spot
 
 -- ---- tables of them
 
+-- the place that a table has for a name
 abbrev pub spot_in : ParameterTable → List ℕ → Option Spot
 spot_in table text = lookup (λ key. bytes_eq text key.items) table.spots.entries
 

@@ -12,9 +12,11 @@ use Rattle.vl_scope.specs.Texts.{or_else}
 use Rattle.vl_stand.specs.Clocks.{next_direction, port_text}
 use Rattle.vl_connect.specs.declared.ports.PortTable.{PortTable}
 
+-- the direction that a table has for a name
 abbrev pub direction_in : PortTable → List ℕ → Option Direction
 direction_in table text = lookup (λ key. bytes_eq text key.items) table.directions.entries
 
+-- of a port, if there is one
 abbrev pub direction_of : Option FullPort → Option Direction
 direction_of None = None
 direction_of (Some p) = Some p.direction
@@ -29,9 +31,11 @@ AreDirectionsOf table m = AreDirections table (written_ports m.ports)
 
 -- ---- port by port
 
+-- of a port of this name
 abbrev pub named_value : List ℕ → Direction → List ℕ → Option Direction
 named_value text d other = if bytes_eq text other then Some d else None
 
+-- a port that is written short behind no other is none
 abbrev pub direction_if : Option Direction → List ℕ → List ℕ → Option Direction
 direction_if None text other = None
 direction_if (Some d) text other = named_value text d other

@@ -201,7 +201,8 @@ module _ (behind : Names) (names known : List Names) (parameters : List (List �
 
 -- ---- at a place
 
-is_its_meaning : (m around : Meaning) → is_parameter m ≡ true → parameter_meaning (inner_or m around) ≡ inner_or m around
+is_its_meaning : (m around : Meaning) → is_parameter m ≡ true
+    → parameter_meaning (inner_or m around) ≡ inner_or m around
 is_its_meaning undeclared around h = cc
 is_its_meaning (constant c selected) around h = refl
 is_its_meaning loop_variable around h = cc
@@ -226,5 +227,5 @@ pub passed_reached : (before behind : Names) (names : List Names) (at : Place) (
     → AreReached (with_all_passed behind names before texts) behind (meanings_at at) (parameters_at at)
     (earlier ++ texts)
 passed_reached before behind names at earlier texts h r =
-    all_reached behind names (meanings_at at) (parameters_at at) h.meaning (parameters_mean at.scopes at.contents) before
-    earlier texts r
+    all_reached behind names (meanings_at at) (parameters_at at) h.meaning (parameters_mean at.scopes at.contents)
+    before earlier texts r

@@ -21,7 +21,8 @@ plus_assoc : (a b c : ℕ) → a + b + c ≡ a + (b + c)
 plus_assoc a b c = omega arith
 
 -- one number more, of which up to the limit is known
-first_more : (old c n rest new : ℕ) → n ≡ capped c → new ≡ capped (old + n) → capped (new + rest) ≡ capped (old + (c + rest))
+first_more : (old c n rest new : ℕ) → n ≡ capped c → new ≡ capped (old + n)
+    → capped (new + rest) ≡ capped (old + (c + rest))
 first_more old c n rest new h made =
     let top = 2 ^ 64 - 1 in
     (λ i. capped ((made ∙ (λ j. capped (old + h j)) ∙ absorb_second top old c) i + rest))

@@ -17,10 +17,12 @@ abbrev pub name_count : List Names → Option Range → ℕ
 name_count ns None = 1
 name_count ns (Some r) = span (bound ns r.left) (bound ns r.right) + 1
 
+-- of names that are declared together
 abbrev pub names_count : List Names → List DeclaredName → ℕ
 names_count ns [] = 0
 names_count ns (x ∷ xs) = name_count ns x.words + names_count ns xs
 
+-- of the nets and variables of an item
 abbrev pub item_count : List Names → Item → ℕ
 item_count ns (declaration attrs p d) = names_count ns d.names
 item_count ns (integer attrs p xs) = names_count ns xs

@@ -7,15 +7,19 @@ use Rattle.vl_reach.proofs.names.pass_declared.Goals as goal
 
 pub loop-name-preserved : goal.loop-name-preserved
 loop-name-preserved c =
+    let pending = c.args.pending.now in
+    let names = c.args.names.now in
+    let rest = drop (c.loop-name.name-index + 1) c.args.all.now in
     let front : drop c.loop-name.name-index c.args.all.now ≡ c.name-item.result
     ∷ drop (c.loop-name.name-index + 1) c.args.all.now = grind (arith, common_steps) in
-    ap (λ l. with_all_passed c.args.pending.now c.args.names.now l (map (λ x. x.name) (drop (c.loop-name.name-index + 1) c.args.all.now)))
-    c.in_ok-pass_name.ensures
-    ∙ ap (λ xs. with_all_passed c.args.pending.now c.args.names.now c.loop-name.passed (map (λ x. x.name) xs)) (sym front)
+    ap (λ l. with_all_passed pending names l (map (λ x. x.name) rest)) c.in_ok-pass_name.ensures
+    ∙ ap (λ xs. with_all_passed pending names c.loop-name.passed (map (λ x. x.name) xs)) (sym front)
     ∙ c.loop-name.invariant
 
 pub returns : goal.returns
 returns c =
+    let pending = c.args.pending.now in
+    let names = c.args.names.now in
     let gone : drop c.loop-name.name-index c.args.all.now ≡ [] = grind (arith, common_steps) in
-    ap (λ xs. with_all_passed c.args.pending.now c.args.names.now c.loop-name.passed (map (λ x. x.name) xs)) (sym gone)
+    ap (λ xs. with_all_passed pending names c.loop-name.passed (map (λ x. x.name) xs)) (sym gone)
     ∙ c.loop-name.invariant

@@ -8,10 +8,10 @@ use Rattle.vl_reach.proofs.pending.add_header.Goals as goal
 
 pub loop-parameter-preserved : goal.loop-parameter-preserved
 loop-parameter-preserved c =
+    let rest = drop (c.loop-parameter.parameter-index + 1) c.args.all.now in
     let front : drop c.loop-parameter.parameter-index c.args.all.now ≡ c.parameter-item.result
     ∷ drop (c.loop-parameter.parameter-index + 1) c.args.all.now = grind (arith, common_steps) in
-    ap (λ l. with_later l (parameter_names (header_parameters (drop (c.loop-parameter.parameter-index + 1) c.args.all.now))))
-    c.in_ok-add_later.ensures
+    ap (λ l. with_later l (parameter_names (header_parameters rest))) c.in_ok-add_later.ensures
     ∙ ap (λ xs. with_later c.loop-parameter.level (parameter_names (header_parameters xs))) (sym front)
     ∙ c.loop-parameter.invariant
 

@@ -14,7 +14,8 @@ loop-inner-preserved c =
     let front : drop (c.loop-inner.inner - 1) c.args.all.now ≡ c.index-all-inner.result
     ∷ drop (c.loop-inner.inner - 1 + 1) c.args.all.now = grind (arith, common_steps) in
     let here : slice_get c.args.all.now (c.loop-inner.inner - 1) ≡ Some c.index-all-inner.result =
-    at_front c.args.all.now (c.loop-inner.inner - 1) c.index-all-inner.result (drop (c.loop-inner.inner - 1 + 1) c.args.all.now) front in
+    at_front c.args.all.now (c.loop-inner.inner - 1) c.index-all-inner.result
+    (drop (c.loop-inner.inner - 1 + 1) c.args.all.now) front in
     record {
       within = omega arith;
       finds = λ hs xs ps there h text.

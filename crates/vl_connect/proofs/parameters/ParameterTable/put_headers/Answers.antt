@@ -19,7 +19,8 @@ loop-place-preserved c =
     let front : drop (c.loop-place.place - 1) c.args.headers.now ≡ c.index-headers-place.result
     ∷ drop (c.loop-place.place - 1 + 1) c.args.headers.now = grind (arith, common_steps) in
     let here : slice_get c.args.headers.now (c.loop-place.place - 1) ≡ Some c.index-headers-place.result =
-    at_front c.args.headers.now (c.loop-place.place - 1) c.index-headers-place.result (drop (c.loop-place.place - 1 + 1) c.args.headers.now) front in
+    at_front c.args.headers.now (c.loop-place.place - 1) c.index-headers-place.result
+    (drop (c.loop-place.place - 1 + 1) c.args.headers.now) front in
     record {
       within = omega arith;
       finds = λ text.

@@ -15,7 +15,8 @@ loop-place-preserved c =
     let front : drop (c.loop-place.place - 1) c.args.all.now ≡ c.index-all-place.result
     ∷ drop (c.loop-place.place - 1 + 1) c.args.all.now = grind (arith, common_steps) in
     let here : slice_get c.args.all.now (c.loop-place.place - 1) ≡ Some c.index-all-place.result =
-    at_front c.args.all.now (c.loop-place.place - 1) c.index-all-place.result (drop (c.loop-place.place - 1 + 1) c.args.all.now) front in
+    at_front c.args.all.now (c.loop-place.place - 1) c.index-all-place.result
+    (drop (c.loop-place.place - 1 + 1) c.args.all.now) front in
     record {
       within = omega arith;
       finds =

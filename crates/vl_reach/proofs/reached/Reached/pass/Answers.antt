@@ -10,7 +10,8 @@ pub returns : goal.returns
 returns c =
     let old = c.args.self.now in
     let names = c.args.names.now in
+    let texts = c.args.text.now ∷ [] in
     on_ok_weaker c.pass_name.result
-    (λ e at earlier a r. subst (λ p. AreReached p old.pending (meanings_at at) (parameters_at at)
-    (earlier ++ (c.args.text.now ∷ []))) (sym e) (passed_reached old.passed old.pending names at earlier (c.args.text.now ∷ []) a r))
+    (λ e at earlier a r. subst (λ p. AreReached p old.pending (meanings_at at) (parameters_at at) (earlier ++ texts))
+    (sym e) (passed_reached old.passed old.pending names at earlier texts a r))
     c.pass_name.ensures

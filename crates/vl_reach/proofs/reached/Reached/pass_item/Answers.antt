@@ -11,7 +11,8 @@ pub returns : goal.returns
 returns c =
     let old = c.args.self.now in
     let names = c.args.names.now in
+    let texts = names_of c.args.item.now in
     on_ok_weaker c.pass_item.result
-    (λ e at earlier a r. subst (λ p. AreReached p old.pending (meanings_at at) (parameters_at at)
-    (earlier ++ (names_of c.args.item.now))) (sym e) (passed_reached old.passed old.pending names at earlier (names_of c.args.item.now) a r))
+    (λ e at earlier a r. subst (λ p. AreReached p old.pending (meanings_at at) (parameters_at at) (earlier ++ texts))
+    (sym e) (passed_reached old.passed old.pending names at earlier texts a r))
     c.pass_item.ensures
