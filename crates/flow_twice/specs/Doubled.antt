@@ -21,11 +21,13 @@ module _ (ds : List Decl) (drivers : List Driver) where
     pub places : (i : ℕ) → i < bits_counted d → places_at shares number i ≡ places_of ds drivers d i
     pub twice : (i : ℕ) → has bits number i ≡ (are_two (places_of ds drivers d i) && nat_lt i (bits_counted d))
 
+  -- of a vector under the number of its cell
   abbrev pub TellsVectors : Doubled → Type 0
   TellsVectors m =
       (at : ℕ) (d : Decl) → slice_get ds at ≡ Some d → is_none d.words ≡ true
       → Tells m.shares.items m.bits (first_cell ds at) d
 
+  -- of a memory under the number of its name's place
   abbrev pub TellsNames : Doubled → Type 0
   TellsNames m =
       (at : ℕ) (d : Decl) → slice_get ds at ≡ Some d → is_none d.words ≡ false → Tells m.shares.items m.bits at d

@@ -4,6 +4,7 @@ use Rattle.fv_base.specs.declared.pos.Pos.{Pos}
 use Rattle.flow_twice.specs.declared.earliest.Earliest.{Earliest}
 use Rattle.flow_twice.specs.declared.earliest.Earliest.TheVariants as e
 
+-- the places that there are, the earlier one first
 abbrev pub listed : Earliest → List Pos
 listed e.None = []
 listed (e.One p) = p ∷ []

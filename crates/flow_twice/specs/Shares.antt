@@ -19,10 +19,12 @@ abbrev pub places_at : List Share → ℕ → ℕ → List Pos
 places_at [] c i = []
 places_at (s ∷ shares) c i = if has s.bits c i then s.pos ∷ places_at shares c i else places_at shares c i
 
+-- at least one
 abbrev pub are_some : List Pos → Bool
 are_some [] = false
 are_some (p ∷ ps) = true
 
+-- the bits that one of the shares has, and those that two have
 pub record IsOverlapOf (shares : List Share) (o : Overlap) : Type 0 where
   pub some : (c i : ℕ) → has o.some c i ≡ are_some (places_at shares c i)
   pub two : (c i : ℕ) → has o.two c i ≡ are_two (places_at shares c i)
