@@ -1,0 +1,13 @@
+use Rattle.std.specs.Prelude.{◌≡◌, [], take}
+use Rattle.vl_frames.specs.Frames.{cells_of}
+use Rattle.vl_cycle.specs.Cycles.{TicksAll}
+use Rattle.vl_drive.proofs.tick.tick_all.Given as goal
+
+abbrev pub invariant-loop-at : goal.invariant-loop-at
+invariant-loop-at l = record {
+  done : TicksAll l.layout.decls.now l.fn.net l.net (cells_of l.fn.frame) (cells_of l.frame) l.nodes
+      (take l.at l.drivers);
+  empty : l.frame.assumed ≡ [];
+  log : l.frame.log ≡ [];
+  now : l.frame.now.items ≡ l.fn.frame.now.items;
+}
