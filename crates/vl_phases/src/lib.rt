@@ -1,0 +1,9 @@
+//! What the phases of lowering promise one another, and what they make together: definitions, and the law, without code.
+#![tactic(auto)]
+
+ghost use Rattle.vl_phases.specs.Phases.{PhasesLower};
+
+/// A net that sources, settled drivers, clocked blocks and what closes it make, is that of the design.
+pub fn phases_lower()
+    ensures { PhasesLower }
+{}
