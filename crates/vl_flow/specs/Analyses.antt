@@ -1,0 +1,35 @@
+-- What is known of a design's drivers before they are judged. Rule of this project.
+use Rattle.std.specs.Prelude.{◌≡◌, List, [], ◌∷◌, ◌++◌, true, false}
+use Rattle.vl_size.specs.declared.decl.Decl.{Decl}
+use Rattle.vl_mean.specs.declared.driver.Driver.{Driver}
+use Rattle.vl_order.specs.Refusals.{changed_by, latched_by}
+use Rattle.flow_cells.specs.Numbering.{IsNumberingOf}
+use Rattle.flow_effects.specs.declared.uses.Uses.{Uses}
+use Rattle.flow_effects.specs.Effects.{AreEach}
+use Rattle.flow_order.specs.Footprints.{IsFootprintOf}
+use Rattle.flow_judge.specs.Layouts.{IsLayoutOf}
+use Rattle.flow_judge.specs.Rows.{AreSets}
+use Rattle.vl_flow.specs.declared.analysis.Analysis.{Analysis}
+use Rattle.vl_flow.specs.declared.drivers.DriverSets.{DriverSets}
+
+-- what the driver does stands behind what the others do
+pub record AddsUses (before : DriverSets) (uses : Uses) (after : DriverSets) : Type 0 where
+  pub footprints_are : after.footprints ≡ before.footprints ++ uses.footprint ∷ []
+  pub latched_are : after.latched ≡ before.latched ++ uses.latched ∷ []
+  pub blocking_are : after.blocking ≡ before.blocking ++ uses.blocking ∷ []
+  pub nonblocking_are : after.nonblocking ≡ before.nonblocking ++ uses.nonblocking ∷ []
+
+-- they are what these drivers do
+pub record AreSetsOf (ds : List Decl) (drivers : List Driver) (sets : DriverSets) : Type 0 where
+  pub footprints_are : AreEach (λ f x. IsFootprintOf ds f x.what) sets.footprints drivers
+  pub latched_are : AreSets ds (latched_by ds) sets.latched drivers
+  pub blocking_are : AreSets ds (λ x. changed_by ds x true) sets.blocking drivers
+  pub nonblocking_are : AreSets ds (λ x. changed_by ds x false) sets.nonblocking drivers
+
+-- the names' numbers, and what the drivers do to their bits
+pub record IsAnalysisOf (ds : List Decl) (drivers : List Driver) (x : Analysis) : Type 0 where
+  pub numbering_is : IsNumberingOf ds x.numbering
+  pub layout_is : IsLayoutOf ds drivers x.layout
+  pub latched_are : AreSets ds (latched_by ds) x.latched drivers
+  pub blocking_are : AreSets ds (λ x. changed_by ds x true) x.blocking drivers
+  pub nonblocking_are : AreSets ds (λ x. changed_by ds x false) x.nonblocking drivers

@@ -1,0 +1,65 @@
+ghost use Rattle.std.specs.Prelude.{All, IfOk, OnOk};
+ghost use Rattle.flow_cells.specs.Numbering.{IsNumberingOf};
+ghost use Rattle.vl_flow.specs.Analyses.{AreSetsOf, AddsUses};
+ghost use Rattle.vl_mean.specs.FlatLaw.{IsDriver};
+
+use bit_sets::Bits;
+use flow_cells::Numbering;
+use flow_effects::{Uses, uses_of};
+use flow_reads::Footprint;
+use flow_uses::law::drivers_are_sized;
+use fv_base::{List, Memory};
+use std::alloc::Global;
+use vl_mean::Driver;
+use vl_size::Decls;
+
+/// What drivers do to bits of numbered cells, in their order.
+#[derive(Drop)]
+pub(crate) struct DriverSets {
+    pub(crate) footprints: List<Footprint>,
+    pub(crate) latched: List<Bits>,
+    pub(crate) blocking: List<Bits>,
+    pub(crate) nonblocking: List<Bits>,
+}
+
+/// Puts what one driver does behind the others.
+fn add(sets: &mut DriverSets, uses: Uses) -> Result<(), Memory>
+    ensures { OnOk result (AddsUses sets.old uses sets.new) }
+{
+    let Uses {
+        footprint,
+        latched,
+        blocking,
+        nonblocking,
+    } = uses;
+    sets.footprints.push(footprint)?;
+    sets.latched.push(latched)?;
+    sets.blocking.push(blocking)?;
+    sets.nonblocking.push(nonblocking)?;
+    Ok(())
+}
+
+/// What each driver does. Time is about linear in them.
+pub(crate) fn sets_of(
+    alloc: Global,
+    drivers: &[Driver],
+    decls: &Decls,
+    numbering: &Numbering,
+) -> Result<DriverSets, Memory>
+    requires { IsNumberingOf decls.now numbering.now }
+    ensures { IfOk result (λ sets. All (λ x. IsDriver decls.now x.what) drivers.now
+        → AreSetsOf decls.now drivers.now sets) }
+{
+    drivers_are_sized();
+    let mut sets = DriverSets {
+        footprints: List::new(alloc),
+        latched: List::new(alloc),
+        blocking: List::new(alloc),
+        nonblocking: List::new(alloc),
+    };
+    for driver in drivers {
+        let uses = uses_of(alloc, &driver.what, decls, numbering)?;
+        add(&mut sets, uses)?;
+    }
+    Ok(sets)
+}
