@@ -41,8 +41,8 @@ fn settle(
     }
 }
 
-/// Settles drivers by their numbers, one after the other. The answer: nodes that are all other than 0 in a cycle exactly
-/// where what these drivers assume is.
+/// Settles drivers by their numbers, one after the other. The answer: nodes that are all other than 0 in a cycle
+/// exactly where what these drivers assume is.
 pub fn settle_all(
     net: &mut Net,
     layout: Layout<'_>,

@@ -43,7 +43,8 @@ use Rattle.vl_phases.proofs.Fitting.{met_behind, met_both, met_front, met_of, of
 
 module _ (ds : List Decl) (drivers : List Driver) (firsts : List Start) (s : List ℕ) (net : Netlist) (names : Names)
     (shaped : All IsShaped ds) (different : AreDifferent ds) (apart : AreApart ds) (lawful : IsLawful ds drivers firsts)
-    (none : HasNoRefusal ds drivers) (order : IsSequence ds drivers s) (b : ArePhases ds drivers firsts s net names) where
+    (none : HasNoRefusal ds drivers) (order : IsSequence ds drivers s)
+    (b : ArePhases ds drivers firsts s net names) where
   abbrev ps : List Part
   ps = parts_of ds drivers firsts
 
@@ -138,16 +139,16 @@ module _ (ds : List Decl) (drivers : List Driver) (firsts : List Start) (s : Lis
     met = (
       λ h.
           let seen = assumed.1
-          (agreeing.assumes_as ds drivers firsts shaped different apart lawful none s order made (map_of net names g) back
-          map_ranged h) in
+          (agreeing.assumes_as ds drivers firsts shaped different apart lawful none s order made
+          (map_of net names g) back map_ranged h) in
           subst (λ (ids : List ℕ). Met ids) (sym b.assumes)
           (met_both b.ticked net g b.keeps b.on_the_way b.at_the_edge
           (met_of b.settled net g all_kept b.on_the_way b.settles.there (settling.2.0 seen.0))
           (met_of b.ticked net g b.keeps b.at_the_edge b.ticks.there (ticking.2.0 seen.1))),
       λ h.
           let all : Met (b.on_the_way ++ b.at_the_edge) = subst (λ (ids : List ℕ). Met ids) b.assumes h in
-          agreeing.assumes_as ds drivers firsts shaped different apart lawful none s order (map_of net names g) made named
-          made_ranged (assumed.0 (
+          agreeing.assumes_as ds drivers firsts shaped different apart lawful none s order (map_of net names g) made
+          named made_ranged (assumed.0 (
             settling.2.1 (of_met b.settled net g all_kept b.on_the_way b.settles.there
                 (met_front b.ticked net g b.keeps b.on_the_way b.at_the_edge all)),
             ticking.2.1 (of_met b.ticked net g b.keeps b.at_the_edge b.ticks.there

@@ -1,4 +1,4 @@
-//! What the phases of lowering promise one another, and what they make together: definitions, and the law, without code.
+//! What the phases of lowering promise one another, and what they make together: definitions, and a law, without code.
 #![tactic(auto)]
 
 ghost use Rattle.vl_phases.specs.Phases.{PhasesLower};

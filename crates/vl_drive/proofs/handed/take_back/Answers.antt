@@ -21,8 +21,10 @@ loop-left-preserved-else-cell-len c =
     let inv = c.loop-left.invariant in record {
       back =
           back_one c.loop-left.frame.log c.loop-left.left c.in-Some.field-0 c.loop-left.frame.now.items
-          c.loop-left.frame.now.items c.loop-left-test.true inv.within (sym c.get.ensures.value ∙ sym c.copied.ensures ∙ c.in-Some.is)
-          (set_past c.loop-left.frame.now.items c.in-Some.field-0.cell c.in-Some.field-0.node (omega (arith, c.if-cell-len.false, c.len.ensures)))
+          c.loop-left.frame.now.items c.loop-left-test.true inv.within
+          (sym c.get.ensures.value ∙ sym c.copied.ensures ∙ c.in-Some.is)
+          (set_past c.loop-left.frame.now.items c.in-Some.field-0.cell c.in-Some.field-0.node
+          (omega (arith, c.if-cell-len.false, c.len.ensures)))
           ∙ inv.back;
       log = inv.log;
       next = inv.next;

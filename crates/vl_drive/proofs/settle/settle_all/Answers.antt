@@ -65,7 +65,8 @@ loop-at-preserved c =
     (ap (λ (fr : Frame). fr.now.items) given) (ap (λ (fr : Frame). fr.next.items) given)
     (ap (λ (fr : Frame). fr.assumed) given) (driven ds x.what) (left_by ds x.what) (seen_by ds x.what)
     c.in_ok-settle.ensures in
-    let more = (grow ds drivers old c.loop-at.net new f (cells_of c.loop-at.frame) k c.loop-at.nodes h.assumed).settles_more
+    let more =
+    (grow ds drivers old c.loop-at.net new f (cells_of c.loop-at.frame) k c.loop-at.nodes h.assumed).settles_more
     (take c.loop-at.at numbers) i x at inv.done one in
     let P : List ℕ → Type 0 = λ ids. SettlesAll ds old new f k ids drivers (take c.loop-at.at numbers ++ i ∷ []) in
     let Q : List ℕ → Type 0 = λ js. SettlesAll ds old new f k c.hand_over.new.nodes drivers js in record {
@@ -78,6 +79,6 @@ loop-at-preserved c =
 pub returns-clause-settled : goal.returns-clause-settled
 returns-clause-settled c =
     let Q : List ℕ → Type 0 = λ js.
-    SettlesAll c.args.layout.decls.now c.args.net.now c.loop-at.net (cells_of c.args.frame.now) (cells_of c.loop-at.frame)
-    c.loop-at.nodes c.args.drivers.now js in
+    SettlesAll c.args.layout.decls.now c.args.net.now c.loop-at.net (cells_of c.args.frame.now)
+    (cells_of c.loop-at.frame) c.loop-at.nodes c.args.drivers.now js in
     subst Q (take_all c.loop-at.at c.args.sequence.now c.loop-at-test.false) c.loop-at.invariant.done

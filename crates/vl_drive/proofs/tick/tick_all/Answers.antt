@@ -29,7 +29,8 @@ loop-at-preserved c =
     let one = handed ds c.loop-at.net new (cells_of c.loop-at.frame) h k h.assumed refl
     (ap (λ (fr : Frame). fr.now.items) given) (ap (λ (fr : Frame). fr.next.items) given)
     (ap (λ (fr : Frame). fr.assumed) given) (λ v. v) (stored_by ds x.what) (seen_at_edge ds x.what) acted.ticks in
-    let more = (grow ds drivers old c.loop-at.net new f (cells_of c.loop-at.frame) k c.loop-at.nodes h.assumed).ticks_more
+    let more =
+    (grow ds drivers old c.loop-at.net new f (cells_of c.loop-at.frame) k c.loop-at.nodes h.assumed).ticks_more
     (take c.loop-at.at drivers) x inv.done one in
     let P : List ℕ → Type 0 = λ ids. TicksAll ds old new f k ids (take c.loop-at.at drivers ++ x ∷ []) in
     let Q : List Driver → Type 0 = λ xs. TicksAll ds old new f k c.hand_over.new.nodes xs in record {
