@@ -42,7 +42,8 @@ use Rattle.vl_size.specs.declared.decl.Class.TheVariants as class
 use Rattle.vl_size.specs.declared.decl.Decl.{Decl}
 use Rattle.vl_mean.specs.Declarations.{class_of_attributes, class_of_kind, joined_attributes, port_named, ports_of}
 use Rattle.vl_mean.specs.Parts.{Part, declares_all, design, parts_of_steps, connection_part, port_part, with_target}
-use Rattle.vl_mean.specs.Parts.{optional_value, plain_target, values_of, port_kind, assignments, block_part, initial_parts, target_of}
+use Rattle.vl_mean.specs.Parts.{optional_value, plain_target, values_of, port_kind, assignments, block_part}
+use Rattle.vl_mean.specs.Parts.{initial_parts, target_of}
 use Rattle.vl_mean.specs.Parts.{all_initial_parts, item_parts, step_parts}
 use Rattle.vl_mean.specs.Runs.{Each}
 use Rattle.vl_mean.specs.Scopes.{Scope, is_clock}
@@ -77,7 +78,8 @@ module _ (ns : List Names) (ss : List Scope) (r : AreRight ns ss) (s : AreSound 
       → NoneOf (given_value ns p kind text value) → Each Begins (optional_value ss kind text value)
   begun_given p kind text None wn w h = tt
   begun_given p net.Wire text (Some x) wn w h = (tt, tt)
-  begun_given p net.Reg text (Some x) wn w h = (at_name p text x (starts_are ns ss (named p text whole) x r s (wn, tt) w h), tt)
+  begun_given p net.Reg text (Some x) wn w h =
+      (at_name p text x (starts_are ns ss (named p text whole) x r s (wn, tt) w h), tt)
 
   no_value : (a : Bool) → (a && false) ≡ true → ⊥
   no_value true h = true≢false (sym h)

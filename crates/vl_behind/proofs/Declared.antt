@@ -16,8 +16,10 @@ use Rattle.vl_size.specs.declared.decl.Class.{Class}
 use Rattle.vl_size.specs.declared.decl.Class.TheVariants as class
 use Rattle.vl_size.specs.declared.decl.Decl.{Decl}
 use Rattle.vl_size.specs.Table.{IsShaped, span}
-use Rattle.vl_mean.specs.Declarations.{class_of_attributes, class_of_kind, class_of_port, declared_by, declared_integers}
-use Rattle.vl_mean.specs.Declarations.{declared_names, is_output, integer_decl, joined_attributes, port_decl, port_named, ports_of, vector}
+use Rattle.vl_mean.specs.Declarations.{class_of_attributes, class_of_kind, class_of_port, declared_by}
+use Rattle.vl_mean.specs.Declarations.{declared_integers}
+use Rattle.vl_mean.specs.Declarations.{declared_names, is_output, integer_decl, joined_attributes, port_decl}
+use Rattle.vl_mean.specs.Declarations.{port_named, ports_of, vector}
 use Rattle.vl_mean.specs.Declarations.{vector_bounds}
 use Rattle.vl_mean.specs.Parts.{Part, declares, equation, combinational, clocked, starts, declares_all, design}
 use Rattle.vl_mean.specs.Parts.{item_parts, optional_value, parts_of_steps, port_kind, step_parts, values_of}

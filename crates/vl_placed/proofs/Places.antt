@@ -40,9 +40,11 @@ use Rattle.vl_mean.specs.Declarations.{block_name, constructs, full_port, is_if,
 use Rattle.vl_mean.specs.Parts.{parts_of_steps, step_parts}
 use Rattle.vl_mean.specs.Scopes.{Scope, constant_in}
 use Rattle.vl_mean.specs.Walk.{Contents, Place, Step, Unfolding, Use, header, item, override, connection}
-use Rattle.vl_mean.specs.Walk.{with_earlier, module_named, module_parameters, module_place, module_scope, parameter_names}
+use Rattle.vl_mean.specs.Walk.{with_earlier, module_named, module_parameters, module_place, module_scope}
+use Rattle.vl_mean.specs.Walk.{parameter_names}
 use Rattle.vl_mean.specs.Walk.{port_names, written_ports, header_steps, port_step, optional_name, port_steps, use_of}
-use Rattle.vl_mean.specs.Walk.{connections_of, override_steps, connection_steps, with_module, instance_steps, turn_place}
+use Rattle.vl_mean.specs.Walk.{connections_of, override_steps, connection_steps, with_module, instance_steps}
+use Rattle.vl_mean.specs.Walk.{turn_place}
 use Rattle.vl_mean.specs.Walk.{no_contents, turns, goes_on, next_turn, first_turn, turn_path, block_place}
 use Rattle.vl_mean.specs.Walk.{block_path, single_number, item_steps, items_steps, turn_steps, block_steps}
 use Rattle.vl_mean.specs.Walk.{module_contents}
@@ -211,9 +213,11 @@ module _ (ms : List Module) (f : Unfolding) (a : IsAlike f) where
         → seen_steps (block_steps ms f b at n)
         ≡ seen_steps (block_steps ms f b (beside at contents earlier modules) n)
     block_alike (begin p label xs) at n contents earlier modules =
-        items_alike xs (block_place at (block_path at (block_name at.names n label)) xs) 1 (made xs ∷ contents) [] modules
+        items_alike xs (block_place at (block_path at (block_name at.names n label)) xs) 1 (made xs ∷ contents) []
+        modules
     block_alike (region p xs) at n contents earlier modules =
-        items_alike xs (block_place at (block_path at (block_name at.names n None)) xs) 1 (made xs ∷ contents) [] modules
+        items_alike xs (block_place at (block_path at (block_name at.names n None)) xs) 1 (made xs ∷ contents) []
+        modules
     block_alike (single x) at n contents earlier modules =
         let xs : Items = more_items x no_items in
         let path : List ℕ = block_path at (block_name at.names n None) in

@@ -4,7 +4,8 @@ use Rattle.std.specs.Prelude.{if◌then◌else◌}
 use Rattle.std.proofs.Common.{ap, sym, ◌∙◌}
 use Rattle.fv_base.specs.declared.pos.Pos.{Pos}
 use Rattle.fv_bits.specs.Bits.{as_int}
-use Rattle.vl_tree.specs.Expr.{Expr, Exprs, number, name, paren, unary, binary, conditional, concat, repeat, cast, none, more, whole, bit, part, indexed}
+use Rattle.vl_tree.specs.Expr.{Expr, Exprs, number, name, paren, unary, binary, conditional, concat, repeat, cast}
+use Rattle.vl_tree.specs.Expr.{none, more, whole, bit, part, indexed}
 use Rattle.vl_size.specs.declared.decl.Decl.{Decl}
 use Rattle.vl_size.specs.declared.own.Own.{Own}
 use Rattle.vl_size.specs.Sign.{sign}

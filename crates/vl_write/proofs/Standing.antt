@@ -55,8 +55,8 @@ joined_on us ws vs xs ys zs h k e =
 pub both_behind : (w v u : Written) (ps qs : List Part) → StandBehind w ps v → StandBehind v qs u
     → StandBehind w (ps ++ qs) u
 both_behind w v u ps qs h k = record {
-  decls_are = joined_on u.decls w.decls v.decls (decls_of ps) (decls_of qs) (decls_of (ps ++ qs)) k.decls_are h.decls_are
-      (decls_append ps qs);
+  decls_are = joined_on u.decls w.decls v.decls (decls_of ps) (decls_of qs) (decls_of (ps ++ qs)) k.decls_are
+      h.decls_are (decls_append ps qs);
   drivers_are = joined_on (kinds_of u.drivers) (kinds_of w.drivers) (kinds_of v.drivers) (drivers_of ps) (drivers_of qs)
       (drivers_of (ps ++ qs)) k.drivers_are h.drivers_are (drivers_append ps qs);
   starts_are = joined_on u.starts w.starts v.starts (starts_of ps) (starts_of qs) (starts_of (ps ++ qs)) k.starts_are

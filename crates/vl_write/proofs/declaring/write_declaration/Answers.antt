@@ -4,9 +4,12 @@ use Rattle.vl_write.proofs.declaring.write_declaration.Goals as goal
 
 pub declare-requires : goal.declare-requires
 declare-requires c = record {
-  fresh = under_fresh c.args.draft.now c.args.path.now c.args.decl.now c.in_ok-decl.decl c.in_ok-decl.ensures c.requires;
-  ended = under_ended c.args.draft.now c.args.path.now c.args.decl.now c.in_ok-decl.decl c.in_ok-decl.ensures c.requires;
-  shaped = under_shaped c.args.draft.now c.args.path.now c.args.decl.now c.in_ok-decl.decl c.in_ok-decl.ensures c.requires;
+  fresh = under_fresh c.args.draft.now c.args.path.now c.args.decl.now c.in_ok-decl.decl c.in_ok-decl.ensures
+      c.requires;
+  ended = under_ended c.args.draft.now c.args.path.now c.args.decl.now c.in_ok-decl.decl c.in_ok-decl.ensures
+      c.requires;
+  shaped = under_shaped c.args.draft.now c.args.path.now c.args.decl.now c.in_ok-decl.decl c.in_ok-decl.ensures
+      c.requires;
 }
 
 pub returns : goal.returns

@@ -14,7 +14,8 @@ loop-decl-init c = record {
 pub write_declaration-requires : goal.write_declaration-requires
 write_declaration-requires c =
     let i = c.loop-decl.decl-index in
-    let front : drop i c.args.all.now ≡ c.decl-item.result ∷ drop (i + 1) c.args.all.now = grind (arith, common_steps) in
+    let front : drop i c.args.all.now ≡ c.decl-item.result ∷ drop (i + 1) c.args.all.now
+    = grind (arith, common_steps) in
     may_first c.loop-decl.draft (declares_all c.args.path.now (drop i c.args.all.now))
     (declares_all c.args.path.now (c.decl-item.result ∷ []))
     (declares_all c.args.path.now (drop (i + 1) c.args.all.now)) c.loop-decl.invariant.may
@@ -23,7 +24,8 @@ write_declaration-requires c =
 pub loop-decl-preserved : goal.loop-decl-preserved
 loop-decl-preserved c =
     let i = c.loop-decl.decl-index in
-    let front : drop i c.args.all.now ≡ c.decl-item.result ∷ drop (i + 1) c.args.all.now = grind (arith, common_steps) in
+    let front : drop i c.args.all.now ≡ c.decl-item.result ∷ drop (i + 1) c.args.all.now
+    = grind (arith, common_steps) in
     record {
       may = may_next c.loop-decl.draft c.write_declaration.new.draft
           (declares_all c.args.path.now (drop i c.args.all.now))

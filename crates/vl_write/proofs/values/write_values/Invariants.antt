@@ -7,5 +7,6 @@ use Rattle.vl_write.proofs.values.write_values.Given as goal
 abbrev pub invariant-loop-name : goal.invariant-loop-name
 invariant-loop-name l = record {
   may : MayStandBehind l.draft (values_of l.scopes l.kind (drop l.name-index l.all));
-  rest : Rest l.fn.draft (values_of l.scopes l.kind l.all) l.draft (values_of l.scopes l.kind (drop l.name-index l.all));
+  rest : Rest l.fn.draft (values_of l.scopes l.kind l.all) l.draft
+      (values_of l.scopes l.kind (drop l.name-index l.all));
 }
