@@ -1,0 +1,3 @@
+pub mod Behind
+pub mod Inner
+pub mod Unfolded

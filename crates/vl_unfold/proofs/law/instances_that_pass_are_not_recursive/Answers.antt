@@ -1,0 +1,5 @@
+use Rattle.vl_unfold.proofs.Inner.{not_recursive}
+use Rattle.vl_unfold.proofs.law.instances_that_pass_are_not_recursive.Goals as goal
+
+pub returns : goal.returns
+returns c = not_recursive
