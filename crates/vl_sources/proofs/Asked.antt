@@ -31,7 +31,7 @@ not_variable d class.Reset k is e v = true≢false (sym v ∙ ap (λ c. is_varia
 not_variable d class.EachCycle k is e v = true≢false (sym v ∙ ap (λ c. is_variable (record d { class = c })) is)
 not_variable d class.Once k is e v = true≢false (sym v ∙ ap (λ c. is_variable (record d { class = c })) is)
 
-not_clock : (c : Class) (k : InputKind) → kind_of c ≡ Some k → is_clock_class c ≡ false
+pub not_clock : (c : Class) (k : InputKind) → kind_of c ≡ Some k → is_clock_class c ≡ false
 not_clock class.Variable k e = refl
 not_clock class.Net k e = refl
 not_clock class.Clock k e = absurd (true≢false (ap is_none e))
@@ -65,7 +65,7 @@ module _ (ds : List Decl) (ps : List Part) (nodes : List ℕ) (list : List NetNa
     pub named : text_of (slice_get list at) ≡ text
     pub wide : input.width ≡ width
 
-  own_text : (d : Decl) (k : InputKind) → kind_of d.class ≡ Some k → d.words ≡ None → (first at m : ℕ)
+  pub own_text : (d : Decl) (k : InputKind) → kind_of d.class ≡ Some k → d.words ≡ None → (first at m : ℕ)
       → HeadAt ps nodes list d first at m → text_of (slice_get list at) ≡ d.name
   own_text d k e vector first at m h =
       let same : at ≡ at + 0 = omega arith in

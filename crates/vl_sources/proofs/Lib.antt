@@ -6,3 +6,11 @@ pub mod Memories
 pub mod Stored
 pub mod Asked
 pub mod Whole
+pub mod Counted
+pub mod Back
+pub mod Along
+pub mod Beginning
+pub mod Chosen
+pub mod Words
+pub mod Ranged
+pub mod Cycle

@@ -1,8 +1,10 @@
 -- Lists behind one another.
-use Rattle.std.specs.Prelude.{◌≡◌, ℕ, zero, suc, ◌+◌, List, [], ◌∷◌, ◌++◌, length, map, Some, is_none, slice_get}
+use Rattle.std.specs.Prelude.{◌≡◌, refl, ℕ, zero, suc, ◌+◌, List, [], ◌∷◌, ◌++◌, length, map, Some, is_none, slice_get}
 use Rattle.std.proofs.Common.{ap, ◌∙◌, arith, true≢false}
 use Rattle.std.proofs.lemmas.Option.{same_Some}
 use Rattle.vl_mean.specs.Runs.{Each}
+use Rattle.vl_keeps.specs.Keeps.{Kept}
+use Rattle.vl_sources.specs.Listing.{named_registers}
 
 pub within : {A : Type 0} (xs ys : List A) (j : ℕ) (x : A) → slice_get xs j ≡ Some x → slice_get (xs ++ ys) j ≡ Some x
 within [] ys j x e = absurd (true≢false (ap is_none e))
@@ -34,3 +36,15 @@ front_in xs ys whole h i x e = h i x (within xs ys i x e)
 
 pub back_in : {A : Type 0} (xs ys whole : List A) → AreIn (xs ++ ys) whole → AreIn ys whole
 back_in xs ys whole h i x e = h (length xs + i) x (further xs ys i ∙ e)
+
+-- ---- registers under one place
+
+pub named_many : (at : ℕ) (xs : List Kept) → length (named_registers at xs) ≡ length xs
+named_many at [] = refl
+named_many at (x ∷ xs) = ap suc (named_many at xs)
+
+pub named_at : (at : ℕ) (xs : List Kept) (i : ℕ) (x : Kept) → slice_get xs i ≡ Some x
+    → slice_get (named_registers at xs) i ≡ Some (x, at)
+named_at at [] i x e = absurd (true≢false (ap is_none e))
+named_at at (y ∷ ys) zero x e = ap (λ z. Some (z, at)) (same_Some y x e)
+named_at at (y ∷ ys) (suc i) x e = named_at at ys i x e

@@ -20,7 +20,7 @@ use Rattle.vl_keeps.proofs.Whole.{keep_bits}
 use Rattle.vl_entries.specs.Entries.{is_memory}
 use Rattle.vl_sources.specs.Listing.{AreKeeps, Keeping, all_registers, cell_registers, entry_count, memory_count}
 use Rattle.vl_sources.specs.Listing.{named_registers, registers_in}
-use Rattle.vl_sources.proofs.Lists.{AreIn, back_in, each_both, front_in}
+use Rattle.vl_sources.proofs.Lists.{AreIn, back_in, each_both, front_in, named_at}
 use Rattle.vl_sources.proofs.Places.{AllAt, HeadAt, text_there}
 
 module _ (ds : List Decl) (ps : List Part) (keep : Keeping) (nodes : List ℕ) (list : List NetName) where
@@ -37,12 +37,6 @@ module _ (ds : List Decl) (ps : List Part) (keep : Keeping) (nodes : List ℕ) (
       → Each IsHeld (named_registers at xs)
   each_named at [] h = tt
   each_named at (x ∷ xs) h = (h zero x refl, each_named at xs (λ i y e. h (suc i) y e))
-
-  named_at : (at : ℕ) (xs : List Kept) (i : ℕ) (x : Kept) → slice_get xs i ≡ Some x
-      → slice_get (named_registers at xs) i ≡ Some (x, at)
-  named_at at [] i x e = absurd (true≢false (ap is_none e))
-  named_at at (y ∷ ys) zero x e = ap (λ z. Some (z, at)) (same_Some y x e)
-  named_at at (y ∷ ys) (suc i) x e = named_at at ys i x e
 
   -- where a bit stands among registers
   pub record IsHere (whole : List (Kept × ℕ)) (text : List ℕ) (k : ℕ) : Type 0 where

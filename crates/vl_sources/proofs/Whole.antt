@@ -145,7 +145,7 @@ module _ (ds : List Decl) (ps : List Part) (keep : Keeping) (nodes : List ℕ) (
   module _ (shaped : All IsShaped ds) (different : AreDifferent ds) (kept : All IsKept ds)
       (keeps : AreKeeps ps keep ds 0) (list : names.list ≡ all_entries ps ds nodes 0 0)
       (has : HasSources ps keep ds net names) where
-    placed : AllAt ps nodes names.list ds 0 0 0
+    pub placed : AllAt ps nodes names.list ds 0 0 0
     placed =
         all_at ps nodes names.list ds 0 0 0 (λ j x e.
         let same : 0 + j ≡ j = omega arith in
@@ -154,12 +154,12 @@ module _ (ds : List Decl) (ps : List Part) (keep : Keeping) (nodes : List ℕ) (
     declared : Each (λ d. declared_as ds d.name ≡ Some d) ds
     declared = all_declared ds different
 
-    own : Each (λ d. (declared_as ds d.name ≡ Some d) × (1 ≤ d.width)) ds
+    pub own : Each (λ d. (declared_as ds d.name ≡ Some d) × (1 ≤ d.width)) ds
     own =
         each_pair (λ d. declared_as ds d.name ≡ Some d) (λ d. 1 ≤ d.width) ds declared
         (each_as IsShaped (λ d. 1 ≤ d.width) ds (λ d s. s.some_bits) (each_of_all IsShaped ds shaped))
 
-    memories : Each (λ d. IsMemory d.words d) ds
+    pub memories : Each (λ d. IsMemory d.words d) ds
     memories = each_as IsKept (λ d. IsMemory d.words d) ds (λ d s. s.memory) (each_of_all IsKept ds kept)
 
     regs : AreEach (IsRegOf ds ps names) net.regs names.regs
