@@ -1,5 +1,6 @@
 -- Nodes of bits, one after the other.
-use Rattle.std.specs.Prelude.{◌≡◌, refl, ℕ, zero, suc, ◌+◌, ◌<◌, List, [], ◌∷◌, ◌++◌, Some, length, take, slice_get, slice_index}
+use Rattle.std.specs.Prelude.{◌≡◌, refl, ℕ, zero, suc, ◌+◌, ◌<◌, List, [], ◌∷◌, ◌++◌}
+use Rattle.std.specs.Prelude.{Some, length, take, slice_get, slice_index}
 use Rattle.std.proofs.Common.{ap, ◌∙◌, arith}
 use Rattle.std.proofs.lemmas.List.{take_more}
 use Rattle.std.proofs.lemmas.Option.{get_or_from_slice_get, slice_get_within}
@@ -11,7 +12,8 @@ use Rattle.wn_net.specs.Net.{Netlist, value_at}
 use Rattle.wn_net.proofs.Laws.{node_on, value_on, given_on}
 use Rattle.vl_close.specs.Nexts.{AreBitsOfCell, AreBitsOfCells, ShowBits}
 
-pub shows_on : (old mid new : Netlist) (bits : ℕ) (m : Given → ℕ) (id : ℕ) → AddsNodes mid new → Shows old mid bits m id → Shows old new bits m id
+pub shows_on : (old mid new : Netlist) (bits : ℕ) (m : Given → ℕ) (id : ℕ) → AddsNodes mid new
+    → Shows old mid bits m id → Shows old new bits m id
 shows_on old mid new bits m id adds h = record {
   node = node_on mid new bits id adds h.node;
   value = λ g given. value_on mid new g id adds h.node.0 ∙ h.value g given;

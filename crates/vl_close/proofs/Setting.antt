@@ -1,5 +1,6 @@
 -- Next nodes set one after the other.
-use Rattle.std.specs.Prelude.{◌≡◌, refl, ℕ, zero, suc, ◌+◌, ◌<◌, List, [], ◌∷◌, Some, length, map, take, is_none, slice_get, slice_index}
+use Rattle.std.specs.Prelude.{◌≡◌, refl, ℕ, zero, suc, ◌+◌, ◌<◌, List, [], ◌∷◌, Some, length}
+use Rattle.std.specs.Prelude.{map, take, is_none, slice_get, slice_index}
 use Rattle.std.proofs.Common.{ap, sym, ◌∙◌, arith, true≢false}
 use Rattle.std.proofs.lemmas.Option.{same_Some}
 use Rattle.wn_net.specs.declared.parts.Reg.{Reg}

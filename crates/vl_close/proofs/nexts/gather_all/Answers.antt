@@ -1,4 +1,5 @@
-use Rattle.std.specs.Prelude.{◌≡◌, refl, ℕ, ◌+◌, ◌<◌, ◌≤◌, List, [], ◌∷◌, ◌++◌, Some, length, take, slice_get, slice_index}
+use Rattle.std.specs.Prelude.{◌≡◌, refl, ℕ, ◌+◌, ◌<◌, ◌≤◌, List, [], ◌∷◌, ◌++◌}
+use Rattle.std.specs.Prelude.{Some, length, take, slice_get, slice_index}
 use Rattle.std.proofs.Common.{ap, sym, ◌∙◌, arith, subst}
 use Rattle.std.proofs.lemmas.List.{take_all}
 use Rattle.std.proofs.lemmas.Option.{get_or_from_slice_get, same_Some, slice_get_read, slice_get_within}
@@ -40,7 +41,8 @@ gather-requires-clause-some c =
     let at = slice_get_read c.args.spots.now (length c.args.spots.now) c.loop-at.at x refl c.loop-at-test.true
     c.index-spots-at.is in
     let same : h.spot.bits ≡ c.as_slice.result.now =
-    ap (λ (s : Spot). s.bits) (same_Some h.spot x (sym h.of_spot ∙ at) ∙ c.index-spots-at.is) ∙ sym c.as_slice.ensures in
+    ap (λ (s : Spot). s.bits) (same_Some h.spot x (sym h.of_spot ∙ at) ∙ c.index-spots-at.is)
+    ∙ sym c.as_slice.ensures in
     subst (λ (bs : List ℕ). 1 ≤ length bs) same h.bits.some
 
 pub gather-requires-clause-few : goal.gather-requires-clause-few
@@ -51,7 +53,8 @@ gather-requires-clause-few c =
     let at = slice_get_read c.args.spots.now (length c.args.spots.now) c.loop-at.at x refl c.loop-at-test.true
     c.index-spots-at.is in
     let same : h.spot.bits ≡ c.as_slice.result.now =
-    ap (λ (s : Spot). s.bits) (same_Some h.spot x (sym h.of_spot ∙ at) ∙ c.index-spots-at.is) ∙ sym c.as_slice.ensures in
+    ap (λ (s : Spot). s.bits) (same_Some h.spot x (sym h.of_spot ∙ at) ∙ c.index-spots-at.is)
+    ∙ sym c.as_slice.ensures in
     subst (λ (bs : List ℕ). length bs ≤ 128) same h.bits.few
 
 pub gather-requires-clause-within : goal.gather-requires-clause-within
@@ -62,7 +65,8 @@ gather-requires-clause-within c =
     let at = slice_get_read c.args.spots.now (length c.args.spots.now) c.loop-at.at x refl c.loop-at-test.true
     c.index-spots-at.is in
     let same : h.spot.bits ≡ c.as_slice.result.now =
-    ap (λ (s : Spot). s.bits) (same_Some h.spot x (sym h.of_spot ∙ at) ∙ c.index-spots-at.is) ∙ sym c.as_slice.ensures in
+    ap (λ (s : Spot). s.bits) (same_Some h.spot x (sym h.of_spot ∙ at) ∙ c.index-spots-at.is)
+    ∙ sym c.as_slice.ensures in
     let Within : List ℕ → ℕ → Type 0 = λ bs cell.
     (j k : ℕ) → slice_get bs j ≡ Some k → k < width_at c.loop-at.net (slice_index c.args.cells.now cell) in
     subst (λ (bs : List ℕ). Within bs (slice_index c.args.places.now c.loop-at.at)) same
