@@ -1,0 +1,6 @@
+pub mod Depths
+pub mod Plain
+pub mod Places
+pub mod Going
+pub mod Opening
+pub mod Judging

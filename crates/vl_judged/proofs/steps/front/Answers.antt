@@ -1,0 +1,30 @@
+use Rattle.std.specs.Prelude.{[], ◌∷◌}
+use Rattle.std.proofs.Common.{subst, sym, ◌∙◌}
+use Rattle.vl_mean.specs.Walk.{connections_of, connection_steps, module_scope, override_steps}
+use Rattle.vl_walked.specs.Walked.{AreWalked}
+use Rattle.vl_unfold.proofs.Behind.{goes_on, stops}
+use Rattle.vl_judged.proofs.steps.front.Goals as goal
+
+pub returns-then-is_some : goal.returns-then-is_some
+returns-then-is_some c ms t at u text modules totals h inner =
+    let m = c.args.module.now in
+    let x = c.args.instance.now in
+    stops ms t c.walk_overrides.new.totals (override_steps at m u [] (connections_of x.overrides))
+    (connection_steps at m u (module_scope m u text ∷ []) [] x.connections) c.in_ok-fault.fault
+    (sym c.is_some.ensures ∙ c.if-is_some.true)
+    (subst (λ xs. AreWalked ms t c.walk_overrides.new.totals (override_steps at m u [] xs) c.in_ok-fault.fault)
+    c.connections_of.ensures (c.in_ok-fault.ensures ms at u t h.stands.alike inner totals))
+
+pub returns : goal.returns
+returns c ms t at u text modules totals h inner =
+    let m = c.args.module.now in
+    let x = c.args.instance.now in
+    goes_on ms t c.walk_overrides.new.totals c.walk_connections.new.totals
+    (override_steps at m u [] (connections_of x.overrides))
+    (connection_steps at m u (module_scope m u text ∷ []) [] x.connections) c.in_ok-fault.fault
+    c.in_ok-walk_connections.field-0 (sym c.is_some.ensures ∙ c.if-is_some.false)
+    (subst (λ xs. AreWalked ms t c.walk_overrides.new.totals (override_steps at m u [] xs) c.in_ok-fault.fault)
+    c.connections_of.ensures (c.in_ok-fault.ensures ms at u t h.stands.alike inner totals))
+    (λ b k. subst (λ xs. AreWalked ms b c.walk_connections.new.totals
+    (connection_steps at m u (module_scope m u text ∷ []) [] xs) c.in_ok-walk_connections.field-0)
+    c.as_slice.ensures (c.in_ok-walk_connections.ensures ms at u (module_scope m u text ∷ []) b h.stands inner k))

@@ -1,0 +1,27 @@
+use Rattle.std.specs.Prelude.{[]}
+use Rattle.std.proofs.Common.{sym, ◌∙◌}
+use Rattle.vl_mean.specs.Walk.{module_place}
+use Rattle.vl_unfold.specs.Within.{front_steps, head_steps}
+use Rattle.vl_unfold.proofs.Behind.{goes_on, stops}
+use Rattle.vl_judged.proofs.Opening.{none_here}
+use Rattle.vl_judged.proofs.steps.open.Goals as goal
+
+pub returns-then-is_some-clause-walked : goal.returns-then-is_some-clause-walked
+returns-then-is_some-clause-walked c ms t at u text modules path totals h inner =
+    let m = c.args.module.now in
+    stops ms t c.front.new.totals (front_steps at m u text c.args.instance.now)
+    (head_steps (module_place m u text modules) m u) c.in_ok-fault.fault (sym c.is_some.ensures ∙ c.if-is_some.true)
+    (c.in_ok-fault.ensures ms t at u text modules totals h (inner []).known.alike)
+
+pub returns-then-is_some-clause-here : goal.returns-then-is_some-clause-here
+returns-then-is_some-clause-here c gone =
+    none_here c.in_ok-fault.fault (sym c.is_some.ensures ∙ c.if-is_some.true) gone
+
+pub returns-clause-walked : goal.returns-clause-walked
+returns-clause-walked c ms t at u text modules path totals h inner =
+    let m = c.args.module.now in
+    goes_on ms t c.front.new.totals c.head.new.totals (front_steps at m u text c.args.instance.now)
+    (head_steps (module_place m u text modules) m u) c.in_ok-fault.fault c.in_ok-head.field-0
+    (sym c.is_some.ensures ∙ c.if-is_some.false)
+    (c.in_ok-fault.ensures ms t at u text modules totals h (inner []).known.alike)
+    (λ b k. c.in_ok-head.ensures.walked ms b u text modules path k (inner text))

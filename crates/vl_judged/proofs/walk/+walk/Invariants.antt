@@ -1,0 +1,77 @@
+use Rattle.std.proofs.Common.{◌≡◌, ◌*◌, ◌+◌, [], ℕ, drop}
+use Rattle.std.specs.Prelude.{List}
+use Rattle.vl_tree.specs.declared.item.ItemKind.TheVariants as kind
+use Rattle.vl_tree.specs.Item.{items, items_depth, block_depth, depth}
+use Rattle.vl_tree.specs.ItemView.{block, shown}
+use Rattle.vl_tree.specs.WellFormed.{AreWellFormed, IsBlock}
+use Rattle.vl_mean.specs.declared.const_number.Const.{Const}
+use Rattle.vl_mean.specs.Walk.{Place, Step, goes_on, items_steps, loop_turns, next_turn, turn_place}
+use Rattle.vl_mean.specs.Walk.{turn_steps, turns, unfolded}
+use Rattle.vl_refusal.specs.Refused.{Totals, nowhere}
+use Rattle.vl_unfold.specs.Left.{AreLeft, ItemsAreLeft}
+use Rattle.vl_unfold.specs.Within.{deepest}
+use Rattle.vl_judged.specs.Standing.{HasScope, IsHere, IsSoFar, IsWithin}
+use Rattle.vl_judged.proofs.walk.+walk.Given as goal
+
+abbrev pub invariant-walk_items-loop-part : goal.invariant-walk_items-loop-part
+invariant-walk_items-loop-part l = record {
+  inside : l.inside ≡ l.fn.inside;
+  path : l.path ≡ l.fn.path;
+  scope : HasScope l.inside;
+  formed : AreWellFormed (items l.all) → AreWellFormed (items (drop l.part-index l.all));
+  left : (t : Totals) (at : Place) (n : ℕ) → IsSoFar l.modules l.fn.totals t → AreWellFormed (items l.all)
+      → IsHere l.fn.inside l.fn.here l.fn.path at
+      → ItemsAreLeft l.modules (unfolded l.fuel l.modules) t
+      (items_steps l.modules (unfolded l.fuel l.modules) (items l.all) at n) (IsHere l.inside l.here l.path) l.totals
+      (items (drop l.part-index l.all));
+}
+
+abbrev pub invariant-walk_turns-loop-left : goal.invariant-walk_turns-loop-left
+invariant-walk_turns-loop-left l = record {
+  inside : l.inside ≡ l.fn.inside;
+  path : l.path ≡ l.fn.path;
+  left : (t : Totals) (at : Place) (paths : Const → List ℕ) → IsSoFar l.modules l.fn.totals t
+      → IsBlock (block l.block) → IsWithin l.fn.inside l.fn.path at
+      → let body : Const → List Step = λ c. turn_steps l.modules (unfolded l.fuel l.modules) (block l.block)
+      (turn_place at l.head.variable c) (paths c)
+      in AreLeft l.modules t (loop_turns l.head at.scopes body) l.totals
+      (turns l.left (goes_on l.head at.scopes) (next_turn l.head at.scopes) body l.value);
+}
+
+abbrev pub decreases-walk_turns-loop-left : goal.decreases-walk_turns-loop-left
+decreases-walk_turns-loop-left l = l.left
+
+-- ---- modules in one another count before blocks in one another
+
+abbrev pub decreases-walk_items : goal.decreases-walk_items
+decreases-walk_items l = l.fuel * (8 * deepest l.modules.now + 8) + 8 * items_depth (items l.all.now) + 3
+
+abbrev pub decreases-walk_one : goal.decreases-walk_one
+decreases-walk_one l = l.fuel * (8 * deepest l.modules.now + 8) + 8 * depth l.part.now + 2
+
+abbrev pub decreases-walk_within : goal.decreases-walk_within
+decreases-walk_within l = l.fuel * (8 * deepest l.modules.now + 8) + 8 * depth l.part.now + 1
+
+abbrev pub decreases-walk_if : goal.decreases-walk_if
+decreases-walk_if l =
+    l.fuel * (8 * deepest l.modules.now + 8)
+    + 8 * depth (shown [] nowhere (kind.If l.condition.now l.first.now l.second.now))
+
+abbrev pub decreases-walk_block : goal.decreases-walk_block
+decreases-walk_block l = l.fuel * (8 * deepest l.modules.now + 8) + 8 * block_depth (block l.block.now) + 5
+
+abbrev pub decreases-walk_turns : goal.decreases-walk_turns
+decreases-walk_turns l = l.fuel * (8 * deepest l.modules.now + 8) + 8 * block_depth (block l.block.now) + 6
+
+abbrev pub decreases-walk_turn : goal.decreases-walk_turn
+decreases-walk_turn l = l.fuel * (8 * deepest l.modules.now + 8) + 8 * block_depth (block l.block.now) + 5
+
+abbrev pub decreases-walk_scope : goal.decreases-walk_scope
+decreases-walk_scope l = l.fuel * (8 * deepest l.modules.now + 8) + 8 * items_depth (items l.all.now) + 4
+
+abbrev pub decreases-walk_instance : goal.decreases-walk_instance
+decreases-walk_instance l = l.fuel * (8 * deepest l.modules.now + 8)
+
+abbrev pub decreases-walk_module : goal.decreases-walk_module
+decreases-walk_module l =
+    l.fuel * (8 * deepest l.modules.now + 8) + 8 * items_depth (items l.module.now.items) + 4

@@ -1,0 +1,34 @@
+-- Where the judging walk stands: what the functions that go through a design promise one another. Rule of this project.
+use Rattle.std.specs.Prelude.{◌≡◌, ◌∷◌, ℕ, List, All, drop}
+use Rattle.vl_tree.specs.declared.source.Module.{Module}
+use Rattle.vl_tree.specs.WellFormed.{IsModule}
+use Rattle.vl_mean.specs.Walk.{Place}
+use Rattle.vl_refusal.specs.Meanings.{meanings_at}
+use Rattle.vl_refusal.specs.Refused.{Totals}
+use Rattle.name_set.specs.Known.{contains}
+use Rattle.vl_scope.specs.Seen.{innermost}
+use Rattle.vl_stand.specs.declared.scopes.Inside.{Inside}
+use Rattle.vl_stand.specs.Stands.{Stands}
+use Rattle.vl_walked.specs.declared.totals.Totals as kept
+use Rattle.vl_walked.specs.Walked.{AreTotals}
+use Rattle.vl_weigh.specs.Here.{IsAt}
+use Rattle.vl_judged.specs.declared.scopes.Here.{Here}
+
+-- so much of well formed modules was walked
+pub record IsSoFar (ms : List Module) (walked : kept.Totals) (t : Totals) : Type 0 where
+  pub formed : All IsModule ms
+  pub totals : AreTotals walked t
+
+-- in the scopes of a place, within these modules
+pub record IsWithin (inside : Inside) (path : List (List ℕ)) (at : Place) : Type 0 where
+  pub stands : Stands inside.names inside.numbers (contains inside.clocks) (meanings_at at) at.scopes
+  pub modules : path ≡ at.modules
+
+-- there is a scope
+abbrev pub HasScope : Inside → Type 0
+HasScope inside = inside.numbers ≡ innermost inside.numbers ∷ drop 1 inside.numbers
+
+-- at a place, behind what is declared before it in its scope
+pub record IsHere (inside : Inside) (here : Here) (path : List (List ℕ)) (at : Place) : Type 0 where
+  pub within : IsWithin inside path at
+  pub known : IsAt inside.names inside.numbers here.earlier here.reached here.given at

@@ -1,0 +1,184 @@
+//! Steps of the walk that have no others within them.
+ghost use Rattle.std.specs.Prelude.{◌≡◌, ◌∷◌, ◌++◌, [], ℕ, List, None, IfOk, OnOk};
+ghost use Rattle.vl_tree.specs.declared.source.Module.{Module as SpecModule};
+ghost use Rattle.vl_mean.specs.Declarations.{names_of};
+ghost use Rattle.vl_mean.specs.Walk.{Place, Use, item, module_place, with_earlier};
+ghost use Rattle.vl_refusal.specs.Items.{inner_meanings};
+ghost use Rattle.vl_refusal.specs.Meanings.{item_names};
+ghost use Rattle.vl_refusal.specs.Refused as refused;
+ghost use Rattle.vl_alike.specs.Alike.{Alike};
+ghost use Rattle.vl_modules.specs.Table.{AreModules};
+ghost use Rattle.vl_walked.specs.Walked.{AreTotals, AreWalked};
+ghost use Rattle.vl_unfold.specs.Within.{behind_head, front_steps, head_steps};
+ghost use Rattle.vl_judged.specs.Standing.{HasScope, IsHere, IsWithin};
+
+use crate::scopes::{Here, Used, connections_of, header_of, ports_of};
+use fv_base::Memory;
+use std::alloc::Global;
+use vl_modules::{ModulePath, ModuleTable};
+use vl_refusal::ElabFault;
+use vl_stand::Inside;
+use vl_tree::{Instance, Item, Module};
+use vl_walked::Totals;
+use vl_weigh::{pass_item, walk_connections, walk_headers, walk_item, walk_overrides, walk_ports};
+
+/// An item by itself. The nets, variables, genvars and parameters that it declares stand before what follows then.
+pub(crate) fn own_step(
+    alloc: Global,
+    table: &ModuleTable,
+    modules: &[Module],
+    path: &ModulePath,
+    inside: &mut Inside,
+    here: &mut Here,
+    part: &Item,
+    totals: &mut Totals,
+) -> Result<Option<ElabFault>, Memory>
+    requires table { AreModules table.now modules.now }
+    requires scope { HasScope inside.old }
+    ensures inside { OnOk result (inside.new ≡ inside.old) }
+    ensures here { OnOk result ((at : Place) → IsHere inside.old here.old path.now at
+        → IsHere inside.new here.new path.now (with_earlier at (item_names part.now))) }
+    ensures walked { IfOk result (λ g. (at : Place) (t : refused.Totals)
+        → IsHere inside.old here.old path.now at → AreTotals totals.old t
+        → AreWalked modules.now t totals.new (item at part.now ∷ []) g) }
+{
+    Ok(walk_item(
+        alloc,
+        table,
+        modules,
+        path,
+        part,
+        &mut inside.names,
+        &mut inside.numbers,
+        &mut here.earlier,
+        &mut here.reached,
+        &here.given,
+        totals,
+    )?)
+}
+
+/// Goes past an item: its labels, and the name of an instance, stand before what follows too.
+pub(crate) fn pass(
+    alloc: Global,
+    part: &Item,
+    inside: &Inside,
+    here: &mut Here,
+) -> Result<(), Memory>
+    ensures { OnOk result ((at : Place) (path : List (List ℕ))
+        → IsHere inside.now here.old path (with_earlier at (item_names part.now))
+        → IsHere inside.now here.new path (with_earlier at (names_of part.now))) }
+{
+    pass_item(
+        alloc,
+        part,
+        &inside.names,
+        &mut here.earlier,
+        &mut here.reached,
+    )?;
+    Ok(())
+}
+
+/// The head of a module.
+pub(crate) fn head(
+    alloc: Global,
+    module: &Module,
+    used: &mut Used,
+    totals: &mut Totals,
+) -> Result<Option<ElabFault>, Memory>
+    ensures walked { IfOk result (λ g. (ms : List SpecModule) (t : refused.Totals) (u : Use) (text : List ℕ)
+        (modules path : List (List ℕ))
+        → AreTotals totals.old t
+        → IsHere used.old.inside used.old.here path (module_place module.now u text modules)
+        → AreWalked ms t totals.new (head_steps (module_place module.now u text modules) module.now u) g) }
+    ensures numbers { OnOk result (used.new.inside.numbers ≡ used.old.inside.numbers) }
+    ensures here { IfOk result (λ g. g ≡ None → (u : Use) (text : List ℕ) (modules path : List (List ℕ))
+        → IsHere used.old.inside used.old.here path (module_place module.now u text modules)
+        → IsHere used.new.inside used.new.here path
+        (behind_head (module_place module.now u text modules) module.now)) }
+{
+    let parameters = header_of(&module.parameters);
+    let fault = walk_headers(
+        alloc,
+        parameters,
+        &mut used.inside.names,
+        &mut used.here.earlier,
+        &mut used.here.reached,
+        &used.here.given,
+        totals,
+    )?;
+    if fault.is_some() {
+        return Ok(fault);
+    }
+    Ok(walk_ports(
+        alloc,
+        ports_of(&module.ports),
+        &used.inside.names,
+        &mut used.here.earlier,
+        &mut used.here.reached,
+        totals,
+    )?)
+}
+
+/// What an instance gives to its module and joins to it.
+fn front(
+    alloc: Global,
+    module: &Module,
+    instance: &Instance,
+    inside: &Inside,
+    used: &Used,
+    totals: &mut Totals,
+) -> Result<Option<ElabFault>, Memory>
+    ensures { IfOk result (λ g. (ms : List SpecModule) (t : refused.Totals) (at : Place) (u : Use) (text : List ℕ)
+        (modules : List (List ℕ)) → AreTotals totals.old t → IsWithin inside.now modules at
+        → Alike used.now.inside.names (inner_meanings module.now u)
+        → AreWalked ms t totals.new (front_steps at module.now u text instance.now) g) }
+{
+    let fault = walk_overrides(
+        alloc,
+        connections_of(&instance.overrides),
+        module,
+        &inside.names,
+        &used.inside.names,
+        totals,
+    )?;
+    if fault.is_some() {
+        return Ok(fault);
+    }
+    Ok(walk_connections(
+        alloc,
+        instance.connections.as_slice(),
+        module,
+        &inside.names,
+        &inside.numbers,
+        &inside.clocks,
+        &used.inside.names,
+        totals,
+    )?)
+}
+
+/// An instance up to the items of its module, which is entered.
+pub(crate) fn open(
+    alloc: Global,
+    module: &Module,
+    instance: &Instance,
+    inside: &Inside,
+    used: &mut Used,
+    totals: &mut Totals,
+) -> Result<Option<ElabFault>, Memory>
+    ensures walked { IfOk result (λ g. (ms : List SpecModule) (t : refused.Totals) (at : Place) (u : Use)
+        (text : List ℕ) (modules path : List (List ℕ)) → AreTotals totals.old t → IsWithin inside.now modules at
+        → ((other : List ℕ) → IsHere used.old.inside used.old.here path (module_place module.now u other modules))
+        → AreWalked ms t totals.new (front_steps at module.now u text instance.now
+        ++ head_steps (module_place module.now u text modules) module.now u) g) }
+    ensures numbers { OnOk result (used.new.inside.numbers ≡ used.old.inside.numbers) }
+    ensures here { IfOk result (λ g. g ≡ None → (u : Use) (text : List ℕ) (modules path : List (List ℕ))
+        → IsHere used.old.inside used.old.here path (module_place module.now u text modules)
+        → IsHere used.new.inside used.new.here path
+        (behind_head (module_place module.now u text modules) module.now)) }
+{
+    let fault = front(alloc, module, instance, inside, used, totals)?;
+    if fault.is_some() {
+        return Ok(fault);
+    }
+    Ok(head(alloc, module, used, totals)?)
+}

@@ -1,0 +1,83 @@
+//! Turns of generate loops: when they begin, and their scopes.
+ghost use Rattle.std.specs.Prelude.{◌≡◌, ℕ, List, Some, None, IfOk, OnOk, drop, if◌then◌else◌};
+ghost use Rattle.vl_mean.specs.Scopes.{Scope};
+ghost use Rattle.vl_mean.specs.Walk as walk;
+ghost use Rattle.vl_mean.specs.Walk.{Place};
+ghost use Rattle.vl_number.specs.Numbers as numbers_spec;
+ghost use Rattle.vl_number.specs.Numbers.{HaveNumbers};
+ghost use Rattle.vl_turn.specs.Parts.{in_turn};
+ghost use Rattle.vl_judged.specs.Standing.{IsWithin};
+
+use fv_base::Memory;
+use std::alloc::Global;
+use vl_mean::Const;
+use vl_number::{genvar_value, is_true_in};
+use vl_scope::Names;
+use vl_stand::Inside;
+use vl_tree::LoopHead;
+use vl_turn::enter_turn;
+
+/// The value of the first turn.
+pub(crate) fn first_value(alloc: Global, head: &LoopHead, inside: &Inside) -> Result<Const, Memory>
+    ensures { IfOk result (λ c. (ss : List Scope) → HaveNumbers inside.now.numbers ss
+        → c ≡ walk.first_turn head.now ss) }
+{
+    Ok(genvar_value(alloc, &head.start, &inside.numbers)?)
+}
+
+fn value_in_turn(alloc: Global, head: &LoopHead, numbers: &Names) -> Result<Option<Const>, Memory>
+    ensures { IfOk result (λ c. c ≡ (if numbers_spec.holds numbers.now head.now.condition
+        then Some (numbers_spec.genvar_number numbers.now head.now.next) else None)) }
+{
+    let goes_on = is_true_in(alloc, &head.condition, numbers)?;
+    if !goes_on {
+        return Ok(None);
+    }
+    Ok(Some(genvar_value(alloc, &head.next, numbers)?))
+}
+
+/// The value of the turn behind the one with this value. None exactly where that one doesn't begin.
+pub(crate) fn next_value(
+    alloc: Global,
+    head: &LoopHead,
+    value: Const,
+    inside: &mut Inside,
+) -> Result<Option<Const>, Memory>
+    ensures inside { OnOk result (inside.new ≡ inside.old) }
+    ensures next { IfOk result (λ c. (at : Place) (path : List (List ℕ)) → IsWithin inside.old path at
+        → c ≡ (if walk.goes_on head.now at.scopes value then Some (walk.next_turn head.now at.scopes value)
+        else None)) }
+{
+    enter_turn(alloc, &head.variable, value, &mut inside.numbers)?;
+    let next = value_in_turn(alloc, head, &inside.numbers)?;
+    inside.numbers.leave();
+    Ok(next)
+}
+
+/// Enters the scope of a turn.
+pub(crate) fn enter(
+    alloc: Global,
+    head: &LoopHead,
+    value: Const,
+    inside: &mut Inside,
+) -> Result<(), Memory>
+    ensures { OnOk result (inside.new ≡ record inside.old {
+      names = in_turn head.now.variable value inside.old.names;
+      numbers = in_turn head.now.variable value inside.old.numbers;
+    }) }
+{
+    enter_turn(alloc, &head.variable, value, &mut inside.names)?;
+    enter_turn(alloc, &head.variable, value, &mut inside.numbers)?;
+    Ok(())
+}
+
+/// Leaves it.
+pub(crate) fn leave(inside: &mut Inside)
+    ensures { inside.new ≡ record inside.old {
+      names = drop 1 inside.old.names;
+      numbers = drop 1 inside.old.numbers;
+    } }
+{
+    inside.names.leave();
+    inside.numbers.leave();
+}
