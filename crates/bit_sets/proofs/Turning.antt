@@ -1,5 +1,5 @@
 -- What each turn of a walk from one cell, where a set changes, to the next one keeps.
-use Rattle.std.specs.Prelude.{◌≡◌, ℕ, suc, ◌-◌, ◌<◌, ◌≤◌, ◌^◌, List, true}
+use Rattle.std.specs.Prelude.{◌≡◌, refl, ℕ, suc, ◌-◌, ◌<◌, ◌≤◌, ◌^◌, List, Bool, true}
 use Rattle.std.specs.Prelude.{false, ◌&&◌, Option, Some, None}
 use Rattle.std.proofs.Common.{ap, sym, ◌∙◌, arith, ◌⊎◌, inl, inr}
 use Rattle.std.proofs.lemmas.Bool.{cases_lt, and_parts}
@@ -9,7 +9,7 @@ use Rattle.bit_sets.specs.declared.how.How.{How}
 use Rattle.bit_sets.specs.declared.run.Run.{Run}
 use Rattle.bit_sets.specs.declared.step.Step.{Step}
 use Rattle.bit_sets.specs.Cells.{is_set, has, IsBare, IsBefore, AreRising, Puts}
-use Rattle.bit_sets.specs.Runs.{IsRunOf}
+use Rattle.bit_sets.specs.Runs.{IsRunOf, KeepsTo}
 use Rattle.bit_sets.specs.Ways.{way_of}
 use Rattle.bit_sets.proofs.Masks.{set_zero, set_and, some_set}
 use Rattle.bit_sets.proofs.Rising.{before_down, rising_to}
@@ -35,19 +35,50 @@ pub joined_on : (how : How) (first second made after : List Step) (s : Step) (l 
     → IsJoinedTo how first second (Some s.cell) made → Puts made s after → IsRunOf 0 None first s.cell l
     → IsRunOf 0 None second s.cell r
     → ((bit : ℕ) → is_set s.mask bit ≡ way_of how (is_set l.mask bit) (is_set r.mask bit))
-    → ((c : ℕ) → IsBefore c past → IsBefore c l.past × IsBefore c r.past)
-    → IsJoinedTo how first second past after
-joined_on how first second made after s l r past joined puts left right masks both cell bit before =
+    → KeepsTo how l r past → IsJoinedTo how first second past after
+joined_on how first second made after s l r past joined puts left right masks keeps cell bit before =
     by (cases_lt cell s.cell)
   where
     by : (cell < s.cell) ⊎ (s.cell ≤ cell)
         → has after cell bit ≡ way_of how (has first cell bit) (has second cell bit)
     by (inl less) = ap (λ z. is_set z bit) (puts.below cell less) ∙ joined cell bit less
     by (inr le) =
-        let ends = both cell before in
         ap (λ z. is_set z bit) (puts.above cell le) ∙ masks bit
-        ∙ ap (λ z. way_of how (is_set z bit) (is_set r.mask bit)) (sym (left.same cell le ends.0))
-        ∙ ap (λ z. way_of how (has first cell bit) (is_set z bit)) (sym (right.same cell le ends.1))
+        ∙ sym (keeps first second s.cell cell bit left right le before)
+
+-- ---- up to where the bits stay as they are
+
+pub keeps_both : (how : How) (l r : Run) (past : Option ℕ)
+    → ((c : ℕ) → IsBefore c past → IsBefore c l.past × IsBefore c r.past) → KeepsTo how l r past
+keeps_both how l r past both first second at cell bit left right le before =
+    let ends = both cell before in
+    ap (λ z. way_of how (is_set z bit) (has second cell bit)) (left.same cell le ends.0)
+    ∙ ap (λ z. way_of how (is_set l.mask bit) (is_set z bit)) (right.same cell le ends.1)
+
+-- where the first set has none, and so none is taken
+pub keeps_left : (how : How) (l r : Run) → ((b : Bool) → way_of how false b ≡ false) → l.mask ≡ 0
+    → KeepsTo how l r l.past
+keeps_left how l r none bare first second at cell bit left right le before =
+    ap (λ z. way_of how (is_set z bit) (has second cell bit)) (left.same cell le before ∙ bare)
+    ∙ ap (λ b. way_of how b (has second cell bit)) (set_zero bit) ∙ none (has second cell bit)
+    ∙ sym (ap (λ z. way_of how (is_set z bit) (is_set r.mask bit)) bare
+    ∙ ap (λ b. way_of how b (is_set r.mask bit)) (set_zero bit) ∙ none (is_set r.mask bit))
+
+-- where the second one has none
+pub keeps_right : (how : How) (l r : Run) → ((b : Bool) → way_of how b false ≡ false) → r.mask ≡ 0
+    → KeepsTo how l r r.past
+keeps_right how l r none bare first second at cell bit left right le before =
+    ap (λ z. way_of how (has first cell bit) (is_set z bit)) (right.same cell le before ∙ bare)
+    ∙ ap (λ b. way_of how (has first cell bit) b) (set_zero bit) ∙ none (has first cell bit)
+    ∙ sym (ap (λ z. way_of how (is_set l.mask bit) (is_set z bit)) bare
+    ∙ ap (λ b. way_of how (is_set l.mask bit) b) (set_zero bit) ∙ none (is_set l.mask bit))
+
+pub none_first : (b : Bool) → (false && b) ≡ false
+none_first b = refl
+
+pub none_second : (b : Bool) → (b && false) ≡ false
+none_second true = refl
+none_second false = refl
 
 pub rising_on : (cell : ℕ) (past : Option ℕ) (ss : List Step) → AreRising 0 (Some (suc cell)) ss
     → IsBefore cell past → AreRising 0 past ss

@@ -1,10 +1,12 @@
 ghost use Rattle.std.specs.Prelude.{◌≡◌, ℕ, ◌≤◌, ◌<◌, ◌&&◌, true, false, None, IfOk, IfSome};
 ghost use Rattle.bit_sets.specs.Cells.{has, AreRising, IsBare, IsBefore};
+ghost use Rattle.bit_sets.specs.Runs.{KeepsTo};
 ghost use Rattle.bit_sets.specs.Ways.{Joins};
+ghost use Rattle.bit_sets.specs.declared.how.How.TheVariants as h;
 
 use crate::how::How;
 use crate::put::put;
-use crate::run::run_at;
+use crate::run::{Run, run_at};
 use crate::step::Step;
 use fv_base::Memory;
 use std::alloc::Global;
@@ -21,7 +23,44 @@ fn earlier(first: Option<u64>, second: Option<u64>) -> Option<u64>
     }
 }
 
-/// Steps of the bits of both sets, taken so: from one cell where either changes to the next.
+/// Up to where the bits of both stay as they are here: where one set has none, what the other one has doesn't count.
+fn past_of_both(left: Run, right: Run) -> Option<u64>
+    ensures same { KeepsTo h.Both left right result }
+    ensures one { (cell : ℕ) → IsBefore cell left.past → IsBefore cell right.past → IsBefore cell result }
+{
+    if left.mask == 0 {
+        return left.past;
+    }
+    if right.mask == 0 {
+        return right.past;
+    }
+    earlier(left.past, right.past)
+}
+
+/// The same of the bits of the first alone.
+fn past_of_first(left: Run, right: Run) -> Option<u64>
+    ensures same { KeepsTo h.FirstAlone left right result }
+    ensures one { (cell : ℕ) → IsBefore cell left.past → IsBefore cell right.past → IsBefore cell result }
+{
+    if left.mask == 0 {
+        return left.past;
+    }
+    earlier(left.past, right.past)
+}
+
+/// Up to where the bits that are taken stay as they are here.
+fn past_of(how: How, left: Run, right: Run) -> Option<u64>
+    ensures same { KeepsTo how left right result }
+    ensures one { (cell : ℕ) → IsBefore cell left.past → IsBefore cell right.past → IsBefore cell result }
+{
+    match how {
+        How::Either => earlier(left.past, right.past),
+        How::Both => past_of_both(left, right),
+        How::FirstAlone => past_of_first(left, right),
+    }
+}
+
+/// Steps of the bits of both sets, taken so: from one cell where they change to the next.
 pub(crate) fn joined(
     alloc: Global,
     how: How,
@@ -39,7 +78,7 @@ pub(crate) fn joined(
         let right = run_at(second, cell);
         let mask = how.of(left.mask, right.mask);
         put(&mut made, Step { cell, mask })?;
-        next = earlier(left.past, right.past);
+        next = past_of(how, left, right);
     }
     Ok(made)
 }
