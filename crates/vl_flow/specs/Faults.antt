@@ -27,7 +27,8 @@ module _ (ds : List Decl) (drivers : List Driver) where
 
   -- the places are those of a loop
   abbrev pub AreLoop : List Pos → Type 0
-  AreLoop ps = (first : Driver) × (others : List Driver) × IsLoop ds drivers first others × (ps ≡ places (first ∷ others))
+  AreLoop ps = (first : Driver) × (others : List Driver) × IsLoop ds drivers first others
+      × (ps ≡ places (first ∷ others))
 
   abbrev pub HasNoLoop : Type 0
   HasNoLoop = (first : Driver) (others : List Driver) → IsLoop ds drivers first others → ⊥

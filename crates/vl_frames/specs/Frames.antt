@@ -111,7 +111,8 @@ pub record IsSlotFor (net : Netlist) (ds : List Decl) (slot : Slot) : Type 0 whe
   pub place : IsPlaceIn net slot.place
 
 -- In a cycle the slot is these bits of a name.
-pub record IsSlotOf (net : Netlist) (g : Given) (ds : List Decl) (slot : Slot) (bits : List (Option Spot)) : Type 0 where
+pub record IsSlotOf (net : Netlist) (g : Given) (ds : List Decl) (slot : Slot) (bits : List (Option Spot))
+    : Type 0 where
   pub place : ℤ
   pub text : Option (List ℕ)
   pub at : IsAt net g slot.place place

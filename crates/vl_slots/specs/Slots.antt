@@ -1,6 +1,7 @@
 -- Cells are nodes in a row, of which each has a number in a cycle. What it means that bits of one of them are written.
 -- Rule of this project.
-use Rattle.std.specs.Prelude.{◌≡◌, ℕ, ◌+◌, ◌<◌, ◌≤◌, ◌==◌, ◌&&◌, nat_le, nat_lt, Bool, true, false, Option, Some, None, List}
+use Rattle.std.specs.Prelude.{◌≡◌, ℕ, ◌+◌, ◌<◌, ◌≤◌, ◌==◌, ◌&&◌, nat_le, nat_lt}
+use Rattle.std.specs.Prelude.{Bool, true, false, Option, Some, None, List}
 use Rattle.std.specs.Prelude.{length, slice_index, if◌then◌else◌, ℤ}
 use Rattle.wn_net.specs.Value.{Given}
 use Rattle.wn_net.specs.Net.{Netlist, IsNode, IsNodeOf, value_at, width_at}

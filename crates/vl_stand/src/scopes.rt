@@ -41,7 +41,8 @@ fn enter_objects(
         → AreInputs inputs.now u → Alike names.old known
         → IsDeclared s known ss u (full_ports None ports.now) (items all.now)
         → AreShaped (innermost (drop 1 names.new))
-        (port_meanings s outer known (full_ports None ports.now) ++ items_meanings s outer known (items all.now)) s.decls) }
+        (port_meanings s outer known (full_ports None ports.now)
+        ++ items_meanings s outer known (items all.now)) s.decls) }
 {
     let rest = objects_of_scope(alloc, inputs, ports, all, names)?;
     let own = names.take(alloc);

@@ -1,5 +1,6 @@
 -- Where the numbers of declared names stand while a design is lowered. Rule of this project.
-use Rattle.std.specs.Prelude.{◌≡◌, ℕ, ◌+◌, ◌<◌, ◌≤◌, List, length, slice_get, slice_index, Some, None, MatchOption, IfSome, ℤ, int_le}
+use Rattle.std.specs.Prelude.{◌≡◌, ℕ, ◌+◌, ◌<◌, ◌≤◌, List}
+use Rattle.std.specs.Prelude.{length, slice_get, slice_index, Some, None, MatchOption, IfSome, ℤ, int_le}
 use Rattle.vl_size.specs.declared.decl.Decl.{Decl}
 use Rattle.vl_size.specs.Size.{Cells}
 use Rattle.vl_size.specs.Table.{IsShaped, span}
