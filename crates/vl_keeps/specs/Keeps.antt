@@ -100,11 +100,11 @@ pub record RegistersKeepBits (ps : List Part) (width : ℕ) (text : List ℕ) (k
   -- the bits of the cell's number are those of the registers' numbers, and it has no others
   pub small : (numbers : List ℕ) (r : ℕ)
       → ((i : ℕ) (x : Kept) → slice_get (registers_of keep width) i ≡ Some x
-          → slice_index numbers (r + i) < 2 ^ x.width)
+      → slice_index numbers (r + i) < 2 ^ x.width)
       → cell_number keep width numbers r < 2 ^ width
   pub back : (numbers : List ℕ) (r : ℕ)
       → ((i : ℕ) (x : Kept) → slice_get (registers_of keep width) i ≡ Some x
-          → slice_index numbers (r + i) < 2 ^ x.width)
+      → slice_index numbers (r + i) < 2 ^ x.width)
       → (i : ℕ) (x : Kept) → slice_get (registers_of keep width) i ≡ Some x
       → gathered (cell_number keep width numbers r) x.bits ≡ slice_index numbers (r + i)
 

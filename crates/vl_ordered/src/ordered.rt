@@ -17,7 +17,6 @@ pub struct Ordered {
     /// About how many gates the design takes.
     pub weight: u64,
     pub ghost accepted: { HasNoRefusal flat.decls flat.drivers } by { no_refusal_prop flat.decls flat.drivers },
-    pub ghost in_order: { IsSequence flat.decls flat.drivers sequence }
-        by { sequence_prop flat.decls flat.drivers sequence },
+    pub ghost in_order: { IsSequence flat.decls flat.drivers sequence } by { sequence_prop flat.decls flat.drivers sequence },
     pub ghost weighed: { weight ≡ design_weight flat.decls flat.drivers },
 }
