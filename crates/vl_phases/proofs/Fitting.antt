@@ -24,6 +24,15 @@ stand_kept old new g ds cells v keeps own h = λ i n e.
     h i n e
     ∙ sym (keeps.values g (slice_index cells i) (own.node i (cell_there old ds cells i n own e)).0)
 
+pub cells_kept : (old new : Netlist) (ds : List Decl) (cells : List ℕ) → Keeps old new → AreCellsOf old ds cells
+    → AreCellsOf new ds cells
+cells_kept old new ds cells keeps own = record {
+  each = own.each;
+  node = λ i less.
+      let n = own.node i less in
+      (omega (arith, n.0, keeps.longer), keeps.widths (slice_index cells i) n.0 ∙ n.1);
+}
+
 -- ---- assumptions
 
 pub above : (n : ℕ) → (n ≡ 0 → ⊥) → 0 < n

@@ -1,7 +1,7 @@
 -- The phases together: what each promises makes the net that of the design.
 use Rattle.std.specs.Prelude.{◌≡◌, ℕ, ◌<◌, ◌↔◌, List, ◌++◌, All}
 use Rattle.std.specs.List.{AllByRecursion}
-use Rattle.std.proofs.Common.{sym, subst}
+use Rattle.std.proofs.Common.{sym, ◌∙◌, subst}
 use Rattle.vl_size.specs.declared.decl.Decl.{Decl}
 use Rattle.vl_size.specs.Size.{Values}
 use Rattle.vl_size.specs.Table.{AreApart, AreDifferent, IsShaped}
@@ -20,13 +20,15 @@ use Rattle.wn_net.specs.Value.{Given}
 use Rattle.wn_net.specs.Net.{Netlist, value_at}
 use Rattle.wn_net.specs.Given.{IsGiven}
 use Rattle.wn_net.specs.Changes.{Keeps}
+use Rattle.wn_net.specs.Names.{AreNamesOf, HaveAll, ShowNames}
 use Rattle.wn_net.proofs.Laws.{keeps_on}
 use Rattle.wn_run.specs.Runs.{IsMet}
 use Rattle.vl_frames.specs.Frames.{Stand}
-use Rattle.vl_lowered.specs.Built.{AreRanged, AreSettledNames, HasNextMap, IsBuilt}
+use Rattle.vl_lowered.specs.Built.{AreRanged, AreSettledNames, HasNextMap, IsBuilt, NameWhatIsFree}
 use Rattle.vl_lowered.specs.Settled.{settled}
 use Rattle.vl_lowered.proofs.Agreeing as agreeing
 use Rattle.vl_lowered.proofs.Whole.{lowered, settled_is}
+use Rattle.vl_named.specs.Sources.{AreSources}
 use Rattle.vl_named.proofs.Whole.{are_free}
 use Rattle.vl_edge.proofs.Writing.{next_is}
 use Rattle.vl_ticked.specs.Ticked.{ticked}
@@ -37,9 +39,13 @@ use Rattle.vl_settled.proofs.Keeps.{kept_bits}
 use Rattle.vl_cycle.specs.Cycles.{Tell}
 use Rattle.vl_entries.proofs.Agree.{agree}
 use Rattle.vl_entries.proofs.Listed.{are_listed}
+use Rattle.vl_sources.proofs.Whole.{are_named}
+use Rattle.vl_shown.proofs.Showing.{are_shown}
+use Rattle.vl_shown.proofs.Whole.{are_whole}
 use Rattle.vl_phases.specs.Phases.{ArePhases, BeginCycle, ClosesCycle, PhasesLower}
 use Rattle.vl_phases.proofs.Remaining.{memories_stay}
-use Rattle.vl_phases.proofs.Fitting.{met_behind, met_both, met_front, met_of, of_met, stand_kept, stands_in_range}
+use Rattle.vl_phases.proofs.Fitting.{cells_kept, met_behind, met_both, met_front, met_of, of_met, stand_kept}
+use Rattle.vl_phases.proofs.Fitting.{stands_in_range}
 
 module _ (ds : List Decl) (drivers : List Driver) (firsts : List Start) (s : List ℕ) (net : Netlist) (names : Names)
     (shaped : All IsShaped ds) (different : AreDifferent ds) (apart : AreApart ds) (lawful : IsLawful ds drivers firsts)
@@ -159,15 +165,38 @@ module _ (ds : List Decl) (drivers : List Driver) (firsts : List Start) (s : Lis
         Met : List ℕ → Type 0
         Met ids = AllByRecursion (λ id. value_at net g id ≡ 0 → ⊥) ids
 
+  -- ---- names
+
+  sources : AreSources ds ps net names
+  sources =
+      are_named ds ps b.keep b.settled_cells.now net names shaped different lawful.kept b.keeps_are b.entries b.sources
+
+  whole : AreNamesOf net names × HaveAll net names
+  whole =
+      are_whole ds ps b.keep b.settled_cells.now net names shaped different apart lawful.kept b.keeps_are b.entries
+      b.sources
+      (cells_kept b.settled net ds b.settled_cells.now
+      (keeps_on b.settled b.ticked net b.ticks.adds.keeps b.keeps) b.settles.frame.now)
+
+  free : NameWhatIsFree ds ps net names
+  free = are_free ds drivers firsts s net names shaped different apart lawful none order sources
+
+  shown : (g : Given) → IsGiven net g → ShowNames net names g
+  shown g is =
+      are_shown ds ps b.settled_cells.now net names g (made g is) different apart lawful.kept b.entries sources
+      (stand_kept b.settled net g ds b.settled_cells.now (made g is)
+      (keeps_on b.settled b.ticked net b.ticks.adds.keeps b.keeps) b.settles.frame.now (settling g is).0)
+      ((free.free (made g is) (at g is).first (made_ranged g is) (at g is).ranged).0 (made_holds g is).1 ∙ (at g is).same)
+
   built : IsBuilt ds drivers firsts s net names
   built = record {
     entries =
         subst (λ xs. AreEntriesOf (listed ps) xs) (sym b.entries)
         (are_listed ds drivers firsts b.settled_cells.now);
-    named = b.named;
-    all = b.all;
-    shown = b.shown;
-    free = are_free ds drivers firsts s net names shaped different apart lawful none order b.sources;
+    named = whole.0;
+    all = whole.1;
+    shown = shown;
+    free = free;
     settles = settles;
     steps = steps;
     assumes = met;

@@ -19,13 +19,13 @@ use Rattle.wn_net.specs.Net.{IsNet, Netlist}
 use Rattle.wn_net.specs.Given.{IsGiven}
 use Rattle.wn_net.specs.Changes.{Keeps}
 use Rattle.wn_net.specs.declared.names.Names.{Names}
-use Rattle.wn_net.specs.Names.{AreNamesOf, HaveAll, ShowNames}
 use Rattle.vl_frames.specs.Frames.{Cells, Stand}
 use Rattle.vl_lowered.specs.Built.{AreRanged}
-use Rattle.vl_named.specs.Sources.{AreEach, AreSources}
+use Rattle.vl_named.specs.Sources.{AreEach}
 use Rattle.vl_edge.specs.Edges.{IsNextOf, IsWritten}
 use Rattle.vl_cycle.specs.Cycles.{SettlesAll, TicksAll}
 use Rattle.vl_entries.specs.Entries.{MemoriesStand, all_entries}
+use Rattle.vl_sources.specs.Listing.{AreKeeps, HasSources, Keeping}
 
 -- In a cycle the cells have the numbers of a map that names what is free in it.
 pub record BeginCycle (ds : List Decl) (ps : List Part) (net : Netlist) (names : Names) (cells : Cells) (g : Given)
@@ -54,8 +54,11 @@ pub record ArePhases (ds : List Decl) (drivers : List Driver) (starts : List Sta
   pub ticked_cells : Cells
   pub on_the_way : List ℕ
   pub at_the_edge : List ℕ
+  -- what is kept of each cell
+  pub keep : Keeping
   -- the phases
-  pub sources : AreSources ds (parts_of ds drivers starts) net names
+  pub keeps_are : AreKeeps (parts_of ds drivers starts) keep ds 0
+  pub sources : HasSources (parts_of ds drivers starts) keep ds net names
   pub begins : (g : Given) → IsGiven net g
       → IsGiven begun g × BeginCycle ds (parts_of ds drivers starts) begun names first_cells g
   pub settles : SettlesAll ds begun settled first_cells settled_cells on_the_way drivers sequence
@@ -66,9 +69,6 @@ pub record ArePhases (ds : List Decl) (drivers : List Driver) (starts : List Sta
   pub keeps : Keeps ticked net
   pub assumes : net.assumes ≡ on_the_way ++ at_the_edge
   pub entries : names.list ≡ all_entries (parts_of ds drivers starts) ds settled_cells.now 0 0
-  pub named : AreNamesOf net names
-  pub all : HaveAll net names
-  pub shown : (g : Given) → IsGiven net g → ShowNames net names g
 
 -- ---- the law: the net is that of the design
 

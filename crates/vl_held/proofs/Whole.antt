@@ -1,0 +1,188 @@
+-- Registers and memories get the numbers of the map that stands in the cells.
+use Rattle.std.specs.Prelude.{◌≡◌, refl, ℕ, zero, suc, ◌+◌, ◌<◌, ◌≤◌, ◌^◌, List, [], ◌∷◌, length, map, take, drop}
+use Rattle.std.specs.Prelude.{Bool, true, false, Some, is_none, slice_get, slice_index}
+use Rattle.std.proofs.Common.{ap, sym, ◌∙◌, arith, subst, true≢false, ◌⊎◌, inl, inr}
+use Rattle.std.proofs.lemmas.List.{length-map}
+use Rattle.std.proofs.lemmas.Option.{same_Some}
+use Rattle.vl_size.specs.declared.decl.Decl.{Decl}
+use Rattle.vl_size.specs.Size.{Values}
+use Rattle.vl_mean.specs.Parts.{Part}
+use Rattle.flow_cells.specs.Numbered.{all_cells}
+use Rattle.flow_cells.proofs.Lists.{get_some}
+use Rattle.wn_net.specs.declared.names.Names.{Names}
+use Rattle.wn_net.specs.declared.names.Spot.{Spot}
+use Rattle.wn_net.specs.declared.parts.Mem.{Mem}
+use Rattle.wn_net.specs.declared.parts.MemWrite.{MemWrite}
+use Rattle.wn_net.specs.declared.parts.Reg.{Reg}
+use Rattle.wn_net.specs.Changes.{Keeps}
+use Rattle.wn_net.specs.Given.{IsGiven}
+use Rattle.wn_net.specs.Net.{IsNet, Netlist, value_at}
+use Rattle.wn_net.specs.Value.{Given}
+use Rattle.wn_net.proofs.Moved.{value_within}
+use Rattle.vl_evals.specs.Maps.{cells_named, gathered, text_of}
+use Rattle.vl_frames.specs.Frames.{AreCellsOf, Stand}
+use Rattle.vl_frames.proofs.Behind.{cell_there}
+use Rattle.vl_named.specs.Sources.{AreEach}
+use Rattle.vl_edge.specs.Edges.{IsNextOf, IsWritten, WriteWords}
+use Rattle.vl_entries.specs.Entries.{all_entries}
+use Rattle.vl_keeps.specs.Keeps.{Kept}
+use Rattle.vl_sources.specs.Listing.{Keeping, Stored, all_memories, all_registers, register_spot}
+use Rattle.vl_sources.proofs.Places.{AllAt, all_at}
+use Rattle.vl_close.specs.Nexts.{ShowBits, with_nexts}
+use Rattle.vl_stores.specs.Stores.{IsStored, PutNodes}
+use Rattle.vl_stores.proofs.Placed.{index_behind, left_over, taken}
+use Rattle.vl_held.specs.Held.{memory_firsts, register_places}
+use Rattle.vl_held.specs.Next.{RegistersAreNext, WordsAreNext}
+use Rattle.vl_held.proofs.Of.{AreOf, IsOf, memories_are_of, registers_are_of}
+
+standing : (ds : List Decl) (ps : List Part) (nodes : List ℕ) (names : Names)
+    → names.list ≡ all_entries ps ds nodes 0 0 → AllAt ps nodes names.list ds 0 0 0
+standing ds ps nodes names list =
+    all_at ps nodes names.list ds 0 0 0 (λ j x e.
+    let same : 0 + j ≡ j = omega arith in
+    ap (λ xs. slice_get xs (0 + j)) list ∙ ap (slice_get (all_entries ps ds nodes 0 0)) same ∙ e)
+
+from_none : (ds : List Decl) (j : ℕ) (n : List ℕ) → slice_get (all_cells ds) j ≡ Some n
+    → slice_get (all_cells ds) (0 + j) ≡ Some n
+from_none ds j n e = let same : 0 + j ≡ j = omega arith in ap (slice_get (all_cells ds)) same ∙ e
+
+-- ---- registers
+
+many_left : (ns : List ℕ) (rs : List Reg) → length (with_nexts ns rs) ≡ length rs
+many_left [] rs = refl
+many_left (n ∷ ns) [] = refl
+many_left (n ∷ ns) (r ∷ rs) = ap suc (many_left ns rs)
+
+module _ (ds : List Decl) (ps : List Part) (keep : Keeping) (nodes : List ℕ) (old mid net : Netlist) (names : Names)
+    (cells : List ℕ) (g : Given) (w : Values) (keeps : Keeps mid net) (given : IsGiven old g)
+    (stand : Stand old g ds cells w) where
+  each_next : (xs : List (Kept × ℕ)) (cs ns : List ℕ) (rs : List Reg)
+      → ShowBits old mid cells (map register_spot xs) cs ns
+      → AreEach (IsOf (all_cells ds) ps keep nodes names.list) xs cs → length rs ≡ length xs
+      → AreEach (IsNextOf net names g w) (with_nexts ns rs) (map register_spot xs)
+  each_next [] [] [] [] shows of many = tt
+  each_next [] [] [] (r ∷ rs) shows of many = absurd (omega (arith, many))
+  each_next [] [] (n ∷ ns) rs shows of many = absurd shows
+  each_next [] (c ∷ cs) ns rs shows of many = absurd of
+  each_next (x ∷ xs) [] ns rs shows of many = absurd of
+  each_next (x ∷ xs) (c ∷ cs) [] rs shows of many = absurd shows
+  each_next (x ∷ xs) (c ∷ cs) (n ∷ ns) [] shows of many = absurd (omega (arith, many))
+  each_next (x ∷ xs) (c ∷ cs) (n ∷ ns) (r ∷ rs) shows of many = (
+    keeps.values g n shows.0.node.0 ∙ shows.0.value g given
+        ∙ ap (λ y. gathered y x.0.bits) (sym (stand c (text_of (slice_get names.list x.1)) of.0)),
+    each_next xs cs ns rs shows.1 of.1 (omega (arith, many)),
+  )
+
+pub registers_next : RegistersAreNext
+registers_next ds ps keep nodes old mid net names cells nexts rs g w list has shows regs keeps given stand =
+    let xs : List (Kept × ℕ) = all_registers ps keep ds 0 0 in
+    let E : List Reg → List Spot → Type 0 = λ us ss. AreEach (IsNextOf net names g w) us ss in
+    subst (λ us. E us names.regs) (sym regs)
+    (subst (λ ss. E (with_nexts nexts rs) ss) (sym has.reg_spots)
+    (each_next ds ps keep nodes old mid net names cells g w keeps given stand xs (register_places ps keep ds 0) nexts rs
+    (subst (λ ss. ShowBits old mid cells ss (register_places ps keep ds 0) nexts) has.reg_spots shows)
+    (registers_are_of (all_cells ds) ps keep nodes names.list ds 0 0 0 (standing ds ps nodes names list)
+    (from_none ds)) many))
+  where
+    many : length rs ≡ length (all_registers ps keep ds 0 0)
+    many =
+        sym (many_left nexts rs) ∙ ap length (sym regs) ∙ sym (length-map net.regs (λ r. r.width))
+        ∙ ap length has.reg_widths
+        ∙ length-map (all_registers ps keep ds 0 0) (λ (x : Kept × ℕ). x.0.width)
+
+-- ---- memories
+
+abbrev is_nil : List ℕ → Bool
+is_nil [] = true
+is_nil (x ∷ xs) = false
+
+abbrev head : List ℕ → ℕ
+head [] = 0
+head (x ∷ xs) = x
+
+abbrev tail : List ℕ → List ℕ
+tail [] = []
+tail (x ∷ xs) = xs
+
+module _ (net : Netlist) (g : Given) (w : Values) (is : IsNet net) (given : IsGiven net g) where
+  put_writes : (width address : ℕ) (xs : List MemWrite) (ns : List ℕ) (texts : List (List ℕ))
+      → PutNodes net width address xs ns → length ns ≡ length texts
+      → ((j n : ℕ) (t : List ℕ) → slice_get ns j ≡ Some n → slice_get texts j ≡ Some t → w t ≡ value_at net g n)
+      → WriteWords net g width w address xs texts
+  put_writes width address [] [] [] h many same = tt
+  put_writes width address [] [] (t ∷ ts) h many same = absurd (omega (arith, many))
+  put_writes width address [] (n ∷ ns) ts h many same = absurd h
+  put_writes width address (x ∷ xs) [] ts h many same = absurd h
+  put_writes width address (x ∷ xs) (n ∷ ns) [] h many same = absurd (omega (arith, many))
+  put_writes width address (x ∷ xs) (n ∷ ns) (t ∷ ts) h many same =
+      let here = same zero n t refl refl in (
+        record {
+          acts = h.0.acts.value g;
+          at = h.0.at.value g;
+          whole = h.0.whole.value g;
+          is = ap (value_at net g) h.0.is ∙ sym here;
+          small = subst (λ y. y < 2 ^ width) (sym here) (value_within net g width n is given h.0.there);
+        },
+        put_writes width (address + 1) xs ns ts h.1 (omega (arith, many)) (λ j m u e f. same (suc j) m u e f),
+      )
+
+-- the first elements behind a place, where there are so many
+pub taken_behind : (k f : ℕ) (xs : List ℕ) → (k ≡ 0) ⊎ (f + k ≤ length xs) → length (take k (drop f xs)) ≡ k
+taken_behind k f xs (inl none) = ap (λ n. length (take n (drop f xs))) none ∙ sym none
+taken_behind k f xs (inr few) =
+    let many = left_over f xs (omega (arith, few)) in taken k (drop f xs) (omega (arith, few, many))
+
+nodes_at : (k f : ℕ) (xs : List ℕ) (j n : ℕ) → slice_get (take k (drop f xs)) j ≡ Some n → slice_index xs (f + j) ≡ n
+nodes_at k f xs j n e = sym (index_behind f j xs) ∙ within k (drop f xs) j n e
+  where
+    within : (i : ℕ) (ys : List ℕ) (l m : ℕ) → slice_get (take i ys) l ≡ Some m → slice_index ys l ≡ m
+    within zero ys l m h = absurd (true≢false (ap is_none h))
+    within (suc i) [] l m h = absurd (true≢false (ap is_none h))
+    within (suc i) (y ∷ ys) zero m h = same_Some y m h
+    within (suc i) (y ∷ ys) (suc l) m h = within i ys l m h
+
+module _ (ds : List Decl) (ps : List Part) (keep : Keeping) (nodes : List ℕ) (net : Netlist) (names : Names)
+    (cells : List ℕ) (g : Given) (w : Values) (own : AreCellsOf net ds cells) (is : IsNet net) (given : IsGiven net g)
+    (stand : Stand net g ds cells w) where
+  one_written : (m : Mem) (y : Stored × ℕ) (f : ℕ) → m.words ≡ y.0.words → IsStored net cells m f
+      → AreOf (all_cells ds) ps keep nodes names.list y f → IsWritten net names g w m y.1
+  one_written m y f words stored of = record {
+    count = of.count ∙ sym words;
+    words =
+        put_writes net g w is given m.width 0 m.writes (take m.words (drop f cells))
+        (cells_named (slice_get names.list y.1)) stored (many ∙ words ∙ sym of.count) (λ j n t e s.
+        stand (f + j) t (of.each j t s) ∙ ap (value_at net g) (nodes_at m.words f cells j n e));
+  }
+    where
+      enough : (k : ℕ) → m.words ≡ k → (k ≡ 0) ⊎ (f + k ≤ length cells)
+      enough zero e = inl refl
+      enough (suc k) e =
+          let less : k < length (cells_named (slice_get names.list y.1)) = omega (arith, e, words, of.count) in
+          let last = get_some (cells_named (slice_get names.list y.1)) k less in
+          let there : f + k < length cells =
+          cell_there net ds cells (f + k) last.0 own (of.each k last.0 last.1) in
+          inr (omega (arith, there))
+
+      many : length (take m.words (drop f cells)) ≡ m.words
+      many = taken_behind m.words f cells (enough m.words refl)
+
+  each_written : (ms : List Mem) (ys : List (Stored × ℕ)) (fs : List ℕ)
+      → map (λ m. m.words) ms ≡ map (λ (y : Stored × ℕ). y.0.words) ys → AreEach (IsStored net cells) ms fs
+      → AreEach (AreOf (all_cells ds) ps keep nodes names.list) ys fs
+      → AreEach (IsWritten net names g w) ms (map (λ y. y.1) ys)
+  each_written [] [] fs same stored of = tt
+  each_written [] (y ∷ ys) fs same stored of = absurd (true≢false (ap is_nil same))
+  each_written (m ∷ ms) [] fs same stored of = absurd (true≢false (sym (ap is_nil same)))
+  each_written (m ∷ ms) (y ∷ ys) [] same stored of = absurd of
+  each_written (m ∷ ms) (y ∷ ys) (f ∷ fs) same stored of = (
+    one_written m y f (ap head same) stored.0 of.0,
+    each_written ms ys fs (ap tail same) stored.1 of.1,
+  )
+
+pub words_next : WordsAreNext
+words_next ds ps keep nodes net names cells g w list has stored own is given stand =
+    subst (λ ats. AreEach (IsWritten net names g w) net.mems ats) (sym has.mem_names)
+    (each_written ds ps keep nodes net names cells g w own is given stand net.mems (all_memories ps keep ds 0 0)
+    (memory_firsts ps ds 0) has.mem_words stored
+    (memories_are_of (all_cells ds) ps keep nodes names.list ds 0 0 0 (standing ds ps nodes names list)
+    (from_none ds)))

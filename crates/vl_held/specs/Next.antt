@@ -1,0 +1,36 @@
+-- Registers and memories that get the cells of the next cycle. Rule of this project.
+use Rattle.std.specs.Prelude.{◌≡◌, ℕ, List}
+use Rattle.vl_size.specs.declared.decl.Decl.{Decl}
+use Rattle.vl_size.specs.Size.{Values}
+use Rattle.vl_mean.specs.Parts.{Part}
+use Rattle.wn_net.specs.declared.names.Names.{Names}
+use Rattle.wn_net.specs.declared.parts.Reg.{Reg}
+use Rattle.wn_net.specs.Changes.{Keeps}
+use Rattle.wn_net.specs.Given.{IsGiven}
+use Rattle.wn_net.specs.Net.{IsNet, Netlist}
+use Rattle.wn_net.specs.Value.{Given}
+use Rattle.vl_frames.specs.Frames.{AreCellsOf, Stand}
+use Rattle.vl_named.specs.Sources.{AreEach}
+use Rattle.vl_edge.specs.Edges.{IsNextOf, IsWritten}
+use Rattle.vl_entries.specs.Entries.{all_entries}
+use Rattle.vl_sources.specs.Listing.{HasSources, Keeping}
+use Rattle.vl_close.specs.Nexts.{ShowBits, with_nexts}
+use Rattle.vl_stores.specs.Stores.{AreStored}
+use Rattle.vl_held.specs.Held.{memory_firsts, register_places}
+
+-- registers whose next nodes are gathered from the cells
+abbrev pub RegistersAreNext : Type 0
+RegistersAreNext =
+    (ds : List Decl) (ps : List Part) (keep : Keeping) (nodes : List ℕ) (old mid net : Netlist) (names : Names)
+    (cells nexts : List ℕ) (rs : List Reg) (g : Given) (w : Values)
+    → names.list ≡ all_entries ps ds nodes 0 0 → HasSources ps keep ds net names
+    → ShowBits old mid cells names.regs (register_places ps keep ds 0) nexts → net.regs ≡ with_nexts nexts rs
+    → Keeps mid net → IsGiven old g → Stand old g ds cells w → AreEach (IsNextOf net names g w) net.regs names.regs
+
+-- memories whose words are written, each with its cell
+abbrev pub WordsAreNext : Type 0
+WordsAreNext =
+    (ds : List Decl) (ps : List Part) (keep : Keeping) (nodes : List ℕ) (net : Netlist) (names : Names)
+    (cells : List ℕ) (g : Given) (w : Values) → names.list ≡ all_entries ps ds nodes 0 0
+    → HasSources ps keep ds net names → AreStored net cells net.mems (memory_firsts ps ds 0)
+    → AreCellsOf net ds cells → IsNet net → IsGiven net g → Stand net g ds cells w → AreEach (IsWritten net names g w) net.mems names.mems

@@ -1,0 +1,15 @@
+//! Names of a net over the inputs, registers and memories of a design, and entries for its cells: laws, without code.
+#![tactic(auto)]
+
+ghost use Rattle.vl_shown.specs.Shown.{NamesAreShown, NamesAreWhole};
+
+/// They are names of the net: texts differ, each place is there with its width, and each input, register and memory
+/// has its entry.
+pub fn names_are_whole()
+    ensures { NamesAreWhole }
+{}
+
+/// In a cycle the bits of inputs and registers are those of the names.
+pub fn names_are_shown()
+    ensures { NamesAreShown }
+{}

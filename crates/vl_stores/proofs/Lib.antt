@@ -1,0 +1,4 @@
+pub mod Carried
+pub mod Placed
+pub mod Together
+pub mod Turns
