@@ -1,0 +1,3 @@
+pub mod Widths
+pub mod Registers
+pub mod Memories
