@@ -58,7 +58,7 @@ use Rattle.vl_refusal.specs.Expressions.{refused_if}
 use Rattle.vl_refusal.specs.Items.{given_value, declared_value, name_refusals, names_refusals, port_net}
 use Rattle.vl_refusal.specs.Items.{port_refusals, item_refusals}
 use Rattle.vl_refusal.specs.Meanings.{Names, meanings_at, may_have_words, is_variable_class}
-use Rattle.vl_refusal.specs.Refused.{refusal}
+use Rattle.vl_names.specs.Unrefused.{NoStepRefused}
 use Rattle.vl_refusal.specs.Statements.{initial_refusals, all_initial_refusals}
 use Rattle.vl_sized.specs.Sized.{AreSound}
 use Rattle.vl_meant.specs.Right.{AreRight, IsRight}
@@ -220,7 +220,7 @@ begun_steps ms (x ∷ xs) r s w h =
     both Begins (step_parts x) (parts_of_steps xs) (begun_step ms x r.0 s.0 w.0 h.0)
     (begun_steps ms xs r.1 s.1 w.1 h.1)
 
-pub all_begin : (ms : List Module) (top : List ℕ) → All IsModule ms → refusal ms top ≡ None
+pub all_begin : (ms : List Module) (top : List ℕ) → All IsModule ms → NoStepRefused ms top
     → Each Begins (design ms top)
 all_begin ms top formed e =
     begun_steps ms (walk ms top) (walk_is_right ms top) (walk_sound ms top formed e) (walk_formed ms top formed e)

@@ -32,7 +32,7 @@ use Rattle.vl_same.proofs.LaidScopes.{decls_append}
 use Rattle.vl_refusal.specs.Items.{declared_value, given_value, item_refusals, name_refusals, names_refusals, port_net}
 use Rattle.vl_refusal.specs.Items.{range_refusals, width_refusals}
 use Rattle.vl_refusal.specs.Meanings.{Names, constants, declared_width, is_known_range, meanings_at}
-use Rattle.vl_refusal.specs.Refused.{refusal}
+use Rattle.vl_names.specs.Unrefused.{NoStepRefused}
 use Rattle.vl_names.proofs.Declared.{assignments-none, block-none, connection-none, initial-none, optional-none}
 use Rattle.vl_names.proofs.Declared.{part_names, values-none}
 use Rattle.vl_names.proofs.Fresh.{IsFine, NoneOf, none-front, none-back}
@@ -224,7 +224,7 @@ steps_declarable ms (x ∷ xs) r s b w k h =
 
 -- ---- the whole
 
-all_declarable : (ms : List Module) (top : List ℕ) → All IsModule ms → refusal ms top ≡ None
+all_declarable : (ms : List Module) (top : List ℕ) → All IsModule ms → NoStepRefused ms top
     → Each IsDeclarable (decls_of (design ms top))
 all_declarable ms top formed e =
     steps_declarable ms (walk ms top) (walk_is_right ms top) (walk_sound ms top formed e) (walk_bounds ms top formed e)
@@ -238,7 +238,7 @@ all_shaped : (ds : List Decl) → Each IsDeclarable ds → Each IsShaped ds
 all_shaped [] h = tt
 all_shaped (d ∷ ds) h = (h.0.shaped, all_shaped ds h.1)
 
-pub may_be_written : (ms : List Module) (top : List ℕ) → All IsModule ms → refusal ms top ≡ None
+pub may_be_written : (ms : List Module) (top : List ℕ) → All IsModule ms → NoStepRefused ms top
     → MayStandBehind nothing (design ms top)
 may_be_written ms top formed e =
     let all : Each IsDeclarable (decls_of (design ms top)) = all_declarable ms top formed e in

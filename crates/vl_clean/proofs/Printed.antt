@@ -1,6 +1,6 @@
 -- Full names have neither a blank nor a control byte in them.
 use Rattle.std.specs.Prelude.{◌≡◌, refl, ℕ, ◌+◌, ◌≤◌, nat_lt, List, [], ◌∷◌, ◌++◌, length, Bool, true, false}
-use Rattle.std.specs.Prelude.{◌&&◌, not, Option, Some, None, is_none, All, if◌then◌else◌}
+use Rattle.std.specs.Prelude.{◌&&◌, not, Option, Some, None, is_none, All}
 use Rattle.std.proofs.Common.{ap, sym, subst, true≢false, arith}
 use Rattle.std.proofs.lemmas.Bool.Decides.{nat_tests}
 use Rattle.std.proofs.lemmas.List.Elements.{All-nil, All-cons}
@@ -28,11 +28,12 @@ use Rattle.vl_refusal.specs.declared.elab_fault.ElabFault.{ElabFault}
 use Rattle.vl_refusal.specs.declared.elab_fault.ElabFault.TheVariants as f
 use Rattle.vl_refusal.specs.Counts.{item_nodes, step_nodes, turn_nodes}
 use Rattle.vl_refusal.specs.Items.{step_refusals}
-use Rattle.vl_refusal.specs.Refused.{Totals, counted, first_refused, is_too_large, lowest, modules_twice, or_later}
-use Rattle.vl_refusal.specs.Refused.{refusal, refusals_at, refused_walk}
+use Rattle.vl_refusal.specs.Refused.{Totals, counted, first_refused, is_too_large, lowest, or_later}
+use Rattle.vl_refusal.specs.Refused.{refusals_at}
 use Rattle.vl_names.proofs.Contained.{or_first}
 use Rattle.vl_names.proofs.Declared.{assignments-none, block-none, connection-none, initial-none, integers-under, name_list}
 use Rattle.vl_names.proofs.Declared.{optional-none, part-append, part_names, under, values-none, vectors-under}
+use Rattle.vl_names.specs.Unrefused.{NoStepRefused}
 use Rattle.vl_names.proofs.Fresh.{NoneOf, none-back, not-refused}
 use Rattle.vl_names.proofs.Items.{found-module}
 use Rattle.vl_names.proofs.Loops.{AreFew}
@@ -187,28 +188,21 @@ few_steps ms t (x ∷ xs) h e =
     (later-second (lowest (refusals_at ms t x)) (first_refused ms (counted t x) xs) e) in
     let one : 1 ≤ step_nodes x = step_counts x in omega (arith, more, one)
 
-walk_few : (ms : List Module) (top : List ℕ) → refusal ms top ≡ None → 0 + length (walk ms top) ≤ 4000000
-walk_few ms top e = by (is_none (module_named ms top)) e
-  where
-    by : (b : Bool) → (if b then Some (f.NoModule top) else refused_walk ms top) ≡ None
-        → 0 + length (walk ms top) ≤ 4000000
-    by true e = absurd (true≢false (sym (ap is_none e)))
-    by false e =
-        few_steps ms (record { nodes = 0; names = 0 }) (walk ms top) (omega arith)
-        (later-first _ _ (later-second (modules_twice [] ms) _ e))
+walk_few : (ms : List Module) (top : List ℕ) → NoStepRefused ms top → 0 + length (walk ms top) ≤ 4000000
+walk_few ms top e = few_steps ms (record { nodes = 0; names = 0 }) (walk ms top) (omega arith) e
 
 few_of : (xs : List Step) → 0 + length xs ≤ 4000000 → AreFew 1 xs
 few_of xs h = omega arith
 
 -- ---- the design
 
-pub walk_clean : (ms : List Module) (top : List ℕ) → All IsModule ms → refusal ms top ≡ None → Each IsClean (walk ms top)
+pub walk_clean : (ms : List Module) (top : List ℕ) → All IsModule ms → NoStepRefused ms top → Each IsClean (walk ms top)
 walk_clean ms top formed e =
     found_module (module_named ms top) _
     (λ m k. unfolded_clean ms formed (length ms) m (record { is_top = true; overrides = []; input = top_input }) [] [] []
     (found-module ms top m formed k) refl tt) (few_of (walk ms top) (walk_few ms top e))
 
-pub design_printed : (ms : List Module) (top : List ℕ) → All IsModule ms → refusal ms top ≡ None
+pub design_printed : (ms : List Module) (top : List ℕ) → All IsModule ms → NoStepRefused ms top
     → All IsPrinted (decls_of (design ms top))
 design_printed ms top formed e =
     all_shown (decls_of (design ms top)) (decls_clean (design ms top)

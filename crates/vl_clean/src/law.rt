@@ -1,15 +1,15 @@
 //! That full names have neither a blank nor a control byte in them.
-ghost use Rattle.std.specs.Prelude.{◌≡◌, ℕ, List, All, None, true};
+ghost use Rattle.std.specs.Prelude.{◌≡◌, ℕ, List, All, true};
 ghost use Rattle.vl_tree.specs.WellFormed.{IsModule};
 ghost use Rattle.vl_tree.specs.declared.source.Module.{Module};
 ghost use Rattle.vl_mean.specs.FlatLaw.{is_graphic};
 ghost use Rattle.vl_mean.specs.Parts.{design};
 ghost use Rattle.vl_same.specs.Flattened.{decls_of};
-ghost use Rattle.vl_refusal.specs.Refused.{refusal};
+ghost use Rattle.vl_names.specs.Unrefused.{NoStepRefused};
 
-/// Where well formed modules are a design with this top module, each byte of each full name is graphic.
+/// Where no step of the walk through well formed modules is refused, each byte of each full name is graphic.
 #[tactic(auto, using(crate::proofs::Printed::design_printed))]
 pub fn full_names_are_graphic()
-    ensures { (ms : List Module) (top : List ℕ) → All IsModule ms → refusal ms top ≡ None
+    ensures { (ms : List Module) (top : List ℕ) → All IsModule ms → NoStepRefused ms top
         → All (λ d. All (λ c. is_graphic c ≡ true) d.name) (decls_of (design ms top)) }
 {}

@@ -1,5 +1,5 @@
 -- What is drawn from a design that isn't refused has no more nodes and names than its steps.
-use Rattle.std.specs.Prelude.{◌≡◌, refl, ℕ, ◌+◌, ◌≤◌, List, [], ◌∷◌, ◌++◌, map, Bool, true, false, ◌||◌, nat_lt, All}
+use Rattle.std.specs.Prelude.{◌≡◌, refl, ℕ, ◌+◌, ◌≤◌, List, [], ◌∷◌, ◌++◌, map, Bool, true, false, nat_lt}
 use Rattle.std.specs.Prelude.{is_none, Option, Some, None, if◌then◌else◌}
 use Rattle.std.proofs.Common.{ap, sym, ◌∙◌, subst, true≢false, arith}
 use Rattle.std.proofs.lemmas.Bool.Decides.{nat_tests}
@@ -31,7 +31,7 @@ use Rattle.vl_tree.specs.Expr.{
 }
 use Rattle.vl_tree.specs.Item.{Item, declaration, integer, genvar, parameter, assign, always, initial, instance}
 use Rattle.vl_tree.specs.Item.{generate, for_loop, if_only, if_else}
-use Rattle.vl_tree.specs.Lval.{Lval, Lvals, named, joined, more_lvals}
+use Rattle.vl_tree.specs.Lval.{Lval, Lvals, joined, more_lvals}
 use Rattle.vl_tree.specs.Stmt as stmt
 use Rattle.vl_tree.specs.Stmt.{Stmt, Stmts, no_stmts, more_stmts}
 use Rattle.vl_size.specs.declared.decl.Decl.{Decl}
@@ -47,16 +47,16 @@ use Rattle.vl_mean.specs.Parts.{block_part, connection_part, declares_all, desig
 use Rattle.vl_mean.specs.Parts.{optional_value, parts_of_steps, plain, plain_target, port_kind, port_part, step_parts}
 use Rattle.vl_mean.specs.Parts.{target_of, targets_of, values_of, with_target}
 use Rattle.vl_mean.specs.Scopes.{Scope, is_clock}
-use Rattle.vl_mean.specs.Walk.{Place, Step, header, port, item, override, connection, first_turn, module_named, walk}
+use Rattle.vl_mean.specs.Walk.{Place, Step, header, port, item, override, connection, first_turn, walk}
 use Rattle.vl_same.specs.Flattened.{decls_of}
-use Rattle.vl_same.specs.FullNames.{flat_expr, flat_lval, flat_stmt}
 use Rattle.vl_refusal.specs.declared.elab_fault.ElabFault.{ElabFault}
 use Rattle.vl_refusal.specs.declared.elab_fault.ElabFault.TheVariants as f
-use Rattle.vl_refusal.specs.Counts.{assignment_nodes, item_nodes, name_nodes, range_nodes, step_names, step_nodes}
+use Rattle.vl_refusal.specs.Counts.{assignment_nodes, item_nodes, name_nodes, step_names, step_nodes}
 use Rattle.vl_refusal.specs.Counts.{turn_nodes, value_nodes}
 use Rattle.vl_refusal.specs.Items.{step_refusals}
-use Rattle.vl_refusal.specs.Refused.{Totals, counted, first_refused, is_too_large, lowest, modules_twice, refusal}
-use Rattle.vl_refusal.specs.Refused.{or_later, refusals_at, refused_walk}
+use Rattle.vl_refusal.specs.Refused.{Totals, counted, first_refused, is_too_large, lowest}
+use Rattle.vl_refusal.specs.Refused.{or_later, refusals_at}
+use Rattle.vl_names.specs.Unrefused.{NoStepRefused}
 use Rattle.vl_names.proofs.Contained.{or_first, or_second}
 use Rattle.vl_names.proofs.Fresh.{NoneOf, none-back, not-refused}
 use Rattle.vl_draft.specs.Drawn.{drivers_of, starts_of}
@@ -421,23 +421,16 @@ few_steps ms t (x ∷ xs) h k e =
     = declared_both (step_parts x) (parts_of_steps xs) in
     record { nodes_few = omega (arith, more, first, two); names_few = omega (arith, names, declares_so, both) }
 
-walk_few : (ms : List Module) (top : List ℕ) → refusal ms top ≡ None
+walk_few : (ms : List Module) (top : List ℕ) → NoStepRefused ms top
     → AreFew (record { nodes = 0; names = 0 }) (walk ms top)
-walk_few ms top e = by (is_none (module_named ms top)) e
-  where
-    by : (b : Bool) → (if b then Some (f.NoModule top) else refused_walk ms top) ≡ None
-        → AreFew (record { nodes = 0; names = 0 }) (walk ms top)
-    by true e = absurd (true≢false (sym (ap is_none e)))
-    by false e =
-        few_steps ms (record { nodes = 0; names = 0 }) (walk ms top) (omega arith) (omega arith)
-        (later-first _ _ (later-second (modules_twice [] ms) _ e))
+walk_few ms top e = few_steps ms (record { nodes = 0; names = 0 }) (walk ms top) (omega arith) (omega arith) e
 
-pub design_names : (ms : List Module) (top : List ℕ) → refusal ms top ≡ None
+pub design_names : (ms : List Module) (top : List ℕ) → NoStepRefused ms top
     → all_names_count (decls_of (design ms top)) ≤ 200000
 design_names ms top e =
     let few : 0 + names_in_parts (design ms top) ≤ 200000 = (walk_few ms top e).names_few in omega (arith, few)
 
-pub design_nodes : (ms : List Module) (top : List ℕ) (xs : List Driver) → refusal ms top ≡ None
+pub design_nodes : (ms : List Module) (top : List ℕ) (xs : List Driver) → NoStepRefused ms top
     → map (λ x. x.what) xs ≡ drivers_of (design ms top) → node_count xs (starts_of (design ms top)) ≤ 4000000
 design_nodes ms top xs e h =
     let few : 0 + parts_nodes (design ms top) ≤ 4000000 = (walk_few ms top e).nodes_few in

@@ -10,7 +10,7 @@ use Rattle.vl_mean.specs.Walk.{Step, header, port, item, override, connection, w
 use Rattle.vl_same.specs.Flattened.{Known}
 use Rattle.vl_same.specs.SameMaps.{AreSameMaps}
 use Rattle.vl_same.proofs.EachOf.{both}
-use Rattle.vl_refusal.specs.Refused.{refusal}
+use Rattle.vl_names.specs.Unrefused.{NoStepRefused}
 use Rattle.vl_names.proofs.Fresh.{IsFine}
 use Rattle.vl_names.proofs.Loops.{AreFine}
 use Rattle.vl_names.proofs.Names.{names_differ, walk-fine}
@@ -39,13 +39,13 @@ known_steps ms (x ∷ xs) r s w h =
     both Known (step_parts x) (parts_of_steps xs) (known_step ms x r.0 s.0 w.0 h.0)
     (known_steps ms xs r.1 s.1 w.1 h.1)
 
-pub all_known : (ms : List Module) (top : List ℕ) → All IsModule ms → refusal ms top ≡ None
+pub all_known : (ms : List Module) (top : List ℕ) → All IsModule ms → NoStepRefused ms top
     → Each Known (design ms top)
 all_known ms top formed e =
     known_steps ms (walk ms top) (walk_is_right ms top) (walk_sound ms top formed e) (walk_formed ms top formed e)
     (walk-fine ms top e)
 
-pub design_maps : (ms : List Module) (top : List ℕ) (f : Flat) → All IsModule ms → refusal ms top ≡ None
+pub design_maps : (ms : List Module) (top : List ℕ) (f : Flat) → All IsModule ms → NoStepRefused ms top
     → IsDrawn (design ms top) f → AreSameMaps (design ms top) (flat_parts f)
 design_maps ms top f formed e h =
     same_maps ms top f (names_differ ms top formed e) (all_known ms top formed e) h

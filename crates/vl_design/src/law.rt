@@ -1,5 +1,5 @@
 //! That a design which isn't refused has the maps of its form without hierarchy.
-ghost use Rattle.std.specs.Prelude.{◌≡◌, ℕ, List, All, None};
+ghost use Rattle.std.specs.Prelude.{ℕ, List, All};
 ghost use Rattle.vl_tree.specs.WellFormed.{IsModule};
 ghost use Rattle.vl_tree.specs.declared.source.Module.{Module};
 ghost use Rattle.vl_mean.specs.FlatParts.{flat_parts};
@@ -8,14 +8,14 @@ ghost use Rattle.vl_mean.specs.Runs.{Each};
 ghost use Rattle.vl_mean.specs.declared.flat.Flat.{Flat};
 ghost use Rattle.vl_same.specs.Flattened.{Known};
 ghost use Rattle.vl_same.specs.SameMaps.{AreSameMaps};
-ghost use Rattle.vl_refusal.specs.Refused.{refusal};
+ghost use Rattle.vl_names.specs.Unrefused.{NoStepRefused};
 ghost use Rattle.vl_draft.specs.Drawn.{IsDrawn};
 
-/// Where well formed modules are a design with this top module, each name in its parts is a constant or declared, what
-/// is assigned is no constant, and what begins with a value has 1 to 128 bits.
+/// Where no step of the walk through well formed modules is refused, each name in its parts is a constant or declared,
+/// what is assigned is no constant, and what begins with a value has 1 to 128 bits.
 #[tactic(auto, using(crate::proofs::Steps::all_known))]
 pub fn a_design_is_known()
-    ensures { (ms : List Module) (top : List ℕ) → All IsModule ms → refusal ms top ≡ None
+    ensures { (ms : List Module) (top : List ℕ) → All IsModule ms → NoStepRefused ms top
         → Each Known (design ms top) }
 {}
 
@@ -23,6 +23,6 @@ pub fn a_design_is_known()
 /// in order, has its maps: the same maps hold, make the same choice, step, begin, are runs and are assumed.
 #[tactic(auto, using(crate::proofs::Steps::design_maps))]
 pub fn a_drawn_design_has_the_same_maps()
-    ensures { (ms : List Module) (top : List ℕ) (f : Flat) → All IsModule ms → refusal ms top ≡ None
+    ensures { (ms : List Module) (top : List ℕ) (f : Flat) → All IsModule ms → NoStepRefused ms top
         → IsDrawn (design ms top) f → AreSameMaps (design ms top) (flat_parts f) }
 {}

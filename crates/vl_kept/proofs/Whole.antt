@@ -24,7 +24,7 @@ use Rattle.vl_same.specs.Flattened.{decls_of}
 use Rattle.vl_same.proofs.EachOf.{both}
 use Rattle.vl_refusal.specs.Items.{item_refusals, given_value, names_refusals, port_net, range_refusals, width_refusals}
 use Rattle.vl_refusal.specs.Meanings.{constants, meanings_at}
-use Rattle.vl_refusal.specs.Refused.{refusal}
+use Rattle.vl_names.specs.Unrefused.{NoStepRefused}
 use Rattle.vl_names.proofs.Fresh.{IsFine, NoneOf, none-front, none-back}
 use Rattle.vl_names.proofs.Loops.{AreFine}
 use Rattle.vl_names.proofs.Names.{walk-fine}
@@ -108,7 +108,7 @@ fit_steps ms (x ∷ xs) r s b w h =
     both PartFits (step_parts x) (parts_of_steps xs) (fit_step ms x r.0 s.0 b.0 w.0 h.0)
     (fit_steps ms xs r.1 s.1 b.1 w.1 h.1)
 
-all_fit : (ms : List Module) (top : List ℕ) → All IsModule ms → refusal ms top ≡ None
+all_fit : (ms : List Module) (top : List ℕ) → All IsModule ms → NoStepRefused ms top
     → Each IsFit (decls_of (design ms top))
 all_fit ms top formed e =
     declared_fit (design ms top)
@@ -125,7 +125,7 @@ all_kept (d ∷ ds) h k =
       memory = h.0.memory;
     }) (all_kept ds h.1 (all-tail IsPrinted d ds k))
 
-pub design_lawful : (ms : List Module) (top : List ℕ) (xs : List Driver) → All IsModule ms → refusal ms top ≡ None
+pub design_lawful : (ms : List Module) (top : List ℕ) (xs : List Driver) → All IsModule ms → NoStepRefused ms top
     → map (λ x. x.what) xs ≡ drivers_of (design ms top)
     → IsLawful (decls_of (design ms top)) xs (starts_of (design ms top))
 design_lawful ms top xs formed e h = record {

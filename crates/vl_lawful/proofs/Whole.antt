@@ -27,7 +27,7 @@ use Rattle.vl_same.proofs.FoundNames.{AreScopes}
 use Rattle.vl_same.proofs.LaidScopes.{laid_walk}
 use Rattle.vl_refusal.specs.Items.{event_refusals, given_value, item_refusals, port_net}
 use Rattle.vl_refusal.specs.Meanings.{meanings_at}
-use Rattle.vl_refusal.specs.Refused.{refusal}
+use Rattle.vl_names.specs.Unrefused.{NoStepRefused}
 use Rattle.vl_refusal.specs.Statements.{stmt_refusals}
 use Rattle.vl_names.proofs.Fresh.{IsFine, NoneOf, none-back}
 use Rattle.vl_names.proofs.Loops.{AreFine}
@@ -135,18 +135,18 @@ module _ (es : List Decl) where
 
 -- ---- the design
 
-all_drawn : (ms : List Module) (top : List ℕ) → All IsModule ms → refusal ms top ≡ None
+all_drawn : (ms : List Module) (top : List ℕ) → All IsModule ms → NoStepRefused ms top
     → Each (IsDrawnPart (decls_of (design ms top))) (design ms top)
 all_drawn ms top formed e =
     drawn_steps ms (decls_of (design ms top)) (walk ms top) (walk_is_right ms top) (walk_sound ms top formed e)
     (walk_inputs ms top formed e) (walk_formed ms top formed e)
     (laid_walk ms top (names_differ ms top formed e)) (walk-fine ms top e)
 
-pub design_driven : (ms : List Module) (top : List ℕ) (xs : List Driver) → All IsModule ms → refusal ms top ≡ None
+pub design_driven : (ms : List Module) (top : List ℕ) (xs : List Driver) → All IsModule ms → NoStepRefused ms top
     → map (λ x. x.what) xs ≡ drivers_of (design ms top) → All (λ x. IsDriver (decls_of (design ms top)) x.what) xs
 design_driven ms top xs formed e h =
     all_driven (decls_of (design ms top)) (design ms top) (all_drawn ms top formed e) xs h
 
-pub design_started : (ms : List Module) (top : List ℕ) → All IsModule ms → refusal ms top ≡ None
+pub design_started : (ms : List Module) (top : List ℕ) → All IsModule ms → NoStepRefused ms top
     → All (λ x. IsAssigned (decls_of (design ms top)) is_variable true x.target) (starts_of (design ms top))
 design_started ms top formed e = all_started (decls_of (design ms top)) (design ms top) (all_drawn ms top formed e)

@@ -1,6 +1,6 @@
 -- The full names of a design that isn't refused differ.
 use Rattle.std.specs.Prelude.{◌≡◌, refl, ℕ, ◌+◌, ◌≤◌, nat_lt, List, [], ◌∷◌, length}
-use Rattle.std.specs.Prelude.{Bool, true, false, Option, Some, None, is_none, All, if◌then◌else◌}
+use Rattle.std.specs.Prelude.{true, false, Option, Some, None, is_none, All}
 use Rattle.std.proofs.Common.{ap, sym, true≢false, subst, arith}
 use Rattle.std.proofs.lemmas.Bool.Decides.{nat_tests}
 use Rattle.vl_tree.specs.declared.source.Module.{Module}
@@ -22,7 +22,7 @@ use Rattle.vl_tree.specs.Item.{
 use Rattle.vl_tree.specs.WellFormed.{IsModule}
 use Rattle.vl_size.specs.Table.{AreDifferent}
 use Rattle.vl_mean.specs.Parts.{design}
-use Rattle.vl_mean.specs.Walk.{Place, Use, Step, header, port, item, override, connection, module_named, top_input}
+use Rattle.vl_mean.specs.Walk.{Place, Use, Step, header, port, item, override, connection, top_input}
 use Rattle.vl_mean.specs.Walk.{unfolded}
 use Rattle.vl_mean.specs.Walk.{first_turn}
 use Rattle.vl_mean.specs.Walk.{walk}
@@ -31,9 +31,10 @@ use Rattle.vl_refusal.specs.declared.elab_fault.ElabFault.TheVariants as f
 use Rattle.vl_refusal.specs.Counts.{item_nodes, step_nodes, turn_nodes}
 use Rattle.vl_mean.specs.FlatLaw.{nodes}
 use Rattle.vl_refusal.specs.Items.{step_refusals}
-use Rattle.vl_refusal.specs.Refused.{Totals, counted, first_refused, is_too_large, lowest, modules_twice}
-use Rattle.vl_refusal.specs.Refused.{or_later, refusal, refusals_at, refused_walk}
+use Rattle.vl_refusal.specs.Refused.{Totals, counted, first_refused, is_too_large, lowest}
+use Rattle.vl_refusal.specs.Refused.{or_later, refusals_at}
 use Rattle.vl_same.specs.Flattened.{decls_of}
+use Rattle.vl_names.specs.Unrefused.{NoStepRefused}
 use Rattle.vl_names.proofs.Contained.{Different, or_first}
 use Rattle.vl_names.proofs.Declared.{full_names, full-parts, different-decls}
 use Rattle.vl_names.proofs.Fresh.{NoneOf, none-front, none-back, not-refused}
@@ -105,18 +106,11 @@ none-refused ms t (x ∷ xs) f e =
     let one : 1 ≤ step_nodes x = step-counts x in
     record { fine = (none-front (step_refusals ms x) _ first, rest.fine); few = omega arith }
 
-walk-counted : (ms : List Module) (top : List ℕ) → refusal ms top ≡ None
+walk-counted : (ms : List Module) (top : List ℕ) → NoStepRefused ms top
     → IsCounted ms (record { nodes = 0; names = 0 }) (walk ms top)
-walk-counted ms top e = by (is_none (module_named ms top)) e
-  where
-    by : (b : Bool) → (if b then Some (f.NoModule top) else refused_walk ms top) ≡ None
-        → IsCounted ms (record { nodes = 0; names = 0 }) (walk ms top)
-    by true e = absurd (true≢false (sym (ap is_none e)))
-    by false e =
-        none-refused ms (record { nodes = 0; names = 0 }) (walk ms top) (omega arith)
-        (later-first _ _ (later-second (modules_twice [] ms) _ e))
+walk-counted ms top e = none-refused ms (record { nodes = 0; names = 0 }) (walk ms top) (omega arith) e
 
-pub walk-fine : (ms : List Module) (top : List ℕ) → refusal ms top ≡ None → AreFine ms (walk ms top)
+pub walk-fine : (ms : List Module) (top : List ℕ) → NoStepRefused ms top → AreFine ms (walk ms top)
 walk-fine ms top e = (walk-counted ms top e).fine
 
 few-of : (xs : List Step) → 0 + length xs ≤ 4000000 → AreFew 1 xs
@@ -124,7 +118,7 @@ few-of xs h = omega arith
 
 -- ---- the design
 
-pub names_differ : (ms : List Module) (top : List ℕ) → All IsModule ms → refusal ms top ≡ None
+pub names_differ : (ms : List Module) (top : List ℕ) → All IsModule ms → NoStepRefused ms top
     → AreDifferent (decls_of (design ms top))
 names_differ ms top formed e =
     let counted : IsCounted ms (record { nodes = 0; names = 0 }) (walk ms top) = walk-counted ms top e in

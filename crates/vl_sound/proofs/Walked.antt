@@ -53,7 +53,7 @@ use Rattle.vl_mean.specs.Walk.{walk, top_input, connected, class_by_connection}
 use Rattle.vl_same.proofs.EachOf.{both, front, back, each_map}
 use Rattle.vl_refusal.specs.declared.elab_fault.ElabFault.{ElabFault}
 use Rattle.vl_refusal.specs.Items.{inner_meanings}
-use Rattle.vl_refusal.specs.Refused.{refusal}
+use Rattle.vl_names.specs.Unrefused.{NoStepRefused}
 use Rattle.vl_names.proofs.Contained.{Lacks, or_first, or_second, text_same}
 use Rattle.vl_names.proofs.Fresh.{IsFine, none-front, not-refused}
 use Rattle.vl_names.proofs.Items.{found-module}
@@ -328,25 +328,25 @@ module _ (ms : List Module) where
         (items_good formed inner (unfolded_good n) (items m.items) at_items 1 w.4
         (further at (parameter_names (module_parameters m) ++ port_names (ports_of m.ports)) x.place) fine_items)
 
-walk_good : (ms : List Module) (top : List ℕ) → All IsModule ms → refusal ms top ≡ None → Good (walk ms top)
+walk_good : (ms : List Module) (top : List ℕ) → All IsModule ms → NoStepRefused ms top → Good (walk ms top)
 walk_good ms top formed e =
     found_module ms (module_named ms top) _
     (λ m k. unfolded_good ms formed (length ms) m (record { is_top = true; overrides = []; input = top_input }) [] [] []
     (found-module ms top m formed k) (λ s p k. tt)) (walk-fine ms top e)
 
-pub walk_sound : (ms : List Module) (top : List ℕ) → All IsModule ms → refusal ms top ≡ None
+pub walk_sound : (ms : List Module) (top : List ℕ) → All IsModule ms → NoStepRefused ms top
     → Each HasSoundNames (walk ms top)
 walk_sound ms top formed e = each_map (λ x h. h.0) (walk ms top) (walk_good ms top formed e)
 
-pub walk_bounds : (ms : List Module) (top : List ℕ) → All IsModule ms → refusal ms top ≡ None
+pub walk_bounds : (ms : List Module) (top : List ℕ) → All IsModule ms → NoStepRefused ms top
     → Each HasSoundBounds (walk ms top)
 walk_bounds ms top formed e = each_map (λ x h. h.2) (walk ms top) (walk_good ms top formed e)
 
-pub walk_inputs : (ms : List Module) (top : List ℕ) → All IsModule ms → refusal ms top ≡ None
+pub walk_inputs : (ms : List Module) (top : List ℕ) → All IsModule ms → NoStepRefused ms top
     → Each HasOwnInput (walk ms top)
 walk_inputs ms top formed e = each_map (λ x h. h.3) (walk ms top) (walk_good ms top formed e)
 
-pub walk_formed : (ms : List Module) (top : List ℕ) → All IsModule ms → refusal ms top ≡ None
+pub walk_formed : (ms : List Module) (top : List ℕ) → All IsModule ms → NoStepRefused ms top
     → Each IsFormedStep (walk ms top)
 walk_formed ms top formed e = each_map (λ x h. h.1) (walk ms top) (walk_good ms top formed e)
 
