@@ -1,0 +1,21 @@
+use Rattle.std.specs.Prelude.{◌≡◌, List}
+use Rattle.std.proofs.Common.{ap, sym, ◌∙◌, subst}
+use Rattle.wn_net.specs.declared.parts.Mem.{Mem}
+use Rattle.wn_net.specs.Net.{Netlist}
+use Rattle.wn_net.proofs.Laws.{keeps_on}
+use Rattle.vl_named.specs.Sources.{AreEach}
+use Rattle.vl_stores.specs.Stores.{MayStore}
+use Rattle.vl_phased.proofs.Between.{may_each}
+use Rattle.vl_phased.proofs.close.close_cells.Goals as goal
+
+pub store_words-requires : goal.store_words-requires
+store_words-requires c =
+    let old = c.args.net.now in
+    let mid = c.gather_all.new.net in
+    let new = c.set_nexts.new.net in
+    let same : new.mems ≡ old.mems =
+    ap (λ (n : Netlist). n.mems) c.set_nexts.ensures.new ∙ c.in_ok-nodes.ensures.adds.mems in
+    subst (λ (ms : List Mem). AreEach (MayStore new c.args.cells.now) ms c.args.memory_cells.now) (sym same)
+    (may_each old new c.args.cells.now
+    (keeps_on old mid new c.in_ok-nodes.ensures.adds.keeps c.set_nexts.ensures.keeps) old.mems c.args.memory_cells.now
+    c.requires.stored)
