@@ -1,0 +1,9 @@
+use Rattle.std.proofs.Common.{◌≡◌, ◌++◌}
+use Rattle.std.specs.Prelude.{drop}
+use Rattle.std.specs.Prelude.{map}
+use Rattle.scope_names.proofs.labels.add_parameters.Given as goal
+
+abbrev pub invariant-loop-parameter : goal.invariant-loop-parameter
+invariant-loop-parameter l =
+    l.names ++ (map (λ x. x.name) (drop l.parameter-index l.all))
+    ≡ l.fn.names ++ (map (λ x. x.name) l.all)
