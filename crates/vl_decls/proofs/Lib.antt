@@ -1,0 +1,3 @@
+pub mod Going
+mod Declared
+mod PortDecls
