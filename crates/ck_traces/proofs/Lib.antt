@@ -1,0 +1,5 @@
+pub mod Texts
+pub mod Names
+pub mod Rows
+pub mod Whole
+pub mod Dumps
