@@ -1,0 +1,19 @@
+//! What is answered of a text.
+
+use crate::shown;
+use anyhow::Result;
+use fv_base::Text;
+use std::alloc::Global;
+use vl_judged::judge;
+use vl_parse::parse;
+use vl_token::lex;
+
+pub(crate) fn answer(alloc: Global, text: &str) -> Result<String> {
+    let tokens = lex(alloc, text.as_bytes(), 1, 1)?;
+    let source = parse(alloc, tokens.as_slice())?;
+    let top = Text::from_bytes(alloc, b"top")?;
+    match judge(alloc, source.modules.as_slice(), &top)? {
+        None => Ok(String::from_str(alloc, "design")?),
+        Some(fault) => shown::refusal(alloc, &fault),
+    }
+}
