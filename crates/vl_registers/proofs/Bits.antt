@@ -1,6 +1,6 @@
 -- Bits of a cell, one behind the other.
 use Rattle.std.specs.Prelude.{◌≡◌, refl, ℕ, zero, suc, ◌+◌, ◌*◌, ◌≤◌, ◌^◌, List, [], ◌∷◌, ◌++◌, Bool, true, false}
-use Rattle.std.specs.Prelude.{if◌then◌else◌, length, map, slice_index}
+use Rattle.std.specs.Prelude.{if◌then◌else◌, length, slice_index}
 use Rattle.std.proofs.Common.{ap, sym, ◌∙◌, arith}
 use Rattle.std.proofs.Math.Nat.{add-mul, mul_assoc, pow-suc}
 use Rattle.fv_bits.specs.Bits.{joined}

@@ -1,12 +1,11 @@
 -- The node of some bits of a cell, from the highest one on, and the registers that are left to it.
-use Rattle.std.specs.Prelude.{◌≡◌, refl, ℕ, zero, suc, ◌+◌, ◌-◌, ◌*◌, ◌<◌, ◌≤◌, ◌^◌, List, [], ◌∷◌, ◌++◌, length, map}
+use Rattle.std.specs.Prelude.{◌≡◌, ℕ, suc, ◌+◌, ◌-◌, ◌*◌, ◌<◌, ◌≤◌, ◌^◌, List, ◌++◌, length, map}
 use Rattle.std.proofs.Common.{ap, append-nil, append_assoc, arith, subst, sym, ◌∙◌}
 use Rattle.std.proofs.lemmas.List.{length-append, length-map, map-append}
 use Rattle.fv_bits.specs.Bits.{joined}
 use Rattle.vl_keeps.specs.declared.keep.Keep.{Keep}
 use Rattle.vl_keeps.specs.Keeps.{Kept, bits_number, kept_bits}
 use Rattle.wn_net.specs.declared.node.Node.{Node}
-use Rattle.wn_net.specs.declared.parts.Init.{Init}
 use Rattle.wn_net.specs.declared.parts.Reg.{Reg}
 use Rattle.wn_net.specs.Value.{Given}
 use Rattle.wn_net.specs.Net.{IsNodeOf, Netlist, value_at, width_at}
@@ -108,7 +107,8 @@ more old mid last new keep width left k node bit id x e j adds h built =
         built.width ∙ (λ i. front.1 i + h.node.1 i) ∙ count,
       );
       value = λ g.
-          let own : value_at new g id ≡ joined 1 (value_at mid g node) (bit_number keep k g.state.regs (length mid.regs))
+          let own : value_at new g id
+          ≡ joined 1 (value_at mid g node) (bit_number keep k g.state.regs (length mid.regs))
           = built.value g
           ∙ (λ i. joined (h.node.1 i) (adds.values g node s.node.0 i) (h.value g i)) in
           (λ i. own i * 2 ^ k + bits_number keep k g.state.regs (many i))

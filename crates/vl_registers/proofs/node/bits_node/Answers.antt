@@ -12,7 +12,8 @@ loop-left-init c =
 pub bit_node-requires-in-loop-left-clause-room : goal.bit_node-requires-in-loop-left-clause-room
 bit_node-requires-in-loop-left-clause-room c =
     let few =
-    regs_few c.args.net.now c.loop-left.net c.args.keep.now c.args.width c.loop-left.left c.loop-left.invariant.widths in
+    regs_few c.args.net.now c.loop-left.net c.args.keep.now c.args.width c.loop-left.left
+    c.loop-left.invariant.widths in
     omega (arith, few, c.requires.few, c.requires.room)
 
 pub loop-left-preserved : goal.loop-left-preserved
