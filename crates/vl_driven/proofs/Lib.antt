@@ -1,0 +1,3 @@
+pub mod CellMasks
+pub mod Blocks
+pub mod Starts

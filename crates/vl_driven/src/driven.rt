@@ -1,0 +1,86 @@
+ghost use Rattle.std.specs.Prelude.{◌≡◌, All, IfOk};
+ghost use Rattle.bit_sets.specs.Cells.{has};
+ghost use Rattle.flow_cells.specs.Numbered.{Shows};
+ghost use Rattle.flow_cells.specs.Numbering.{IsNumberingOf};
+ghost use Rattle.flow_uses.specs.Sized.{DriverIsSized};
+ghost use Rattle.vl_mean.specs.FlatLaw.{IsDriver, flat_scopes};
+ghost use Rattle.vl_mean.specs.FlatParts.{driver_part};
+ghost use Rattle.vl_mean.specs.Runs.{is_driven_by};
+ghost use Rattle.vl_driven.specs.Masks.{AreDriven};
+
+use crate::masks::{masks_of, push};
+use bit_sets::Bits;
+use flow_cells::Numbering;
+use flow_effects::{Uses, uses_of};
+use flow_reads::Footprint;
+use flow_sets::union_of;
+use flow_uses::law::drivers_are_sized;
+use fv_base::{List, Memory};
+use std::alloc::Global;
+use vl_mean::{Driver, DriverKind};
+use vl_size::Decls;
+
+/// What a driver may assign.
+fn assigned_in(uses: Uses) -> Bits
+    ensures { result ≡ uses.footprint.drives }
+{
+    let Uses {
+        footprint,
+        latched,
+        blocking,
+        nonblocking,
+    } = uses;
+    drop(latched);
+    drop(blocking);
+    drop(nonblocking);
+    let Footprint {
+        is_clocked: _,
+        needs,
+        drives,
+    } = footprint;
+    drop(needs);
+    drives
+}
+
+/// What a driver may assign, where it is a combinational block.
+fn driven_by(
+    alloc: Global,
+    what: &DriverKind,
+    decls: &Decls,
+    numbering: &Numbering,
+) -> Result<Bits, Memory>
+    requires { IsNumberingOf decls.now numbering.now }
+    ensures { IfOk result (λ bits. DriverIsSized decls.now what.now
+        → Shows decls.now (has bits) (is_driven_by (driver_part (flat_scopes decls.now) what.now))) }
+{
+    match what {
+        DriverKind::Assign(_, _) => Ok(Bits::none(alloc)),
+        DriverKind::Comb(_) => {
+            let uses = uses_of(alloc, what, decls, numbering)?;
+            Ok(assigned_in(uses))
+        }
+        DriverKind::Clocked(_) => Ok(Bits::none(alloc)),
+    }
+}
+
+/// The bits that combinational blocks may assign, by either kind of assignment: a mask for each cell, by its number.
+/// Time is about linear in the drivers and in the names' words.
+pub fn driven_masks(
+    alloc: Global,
+    drivers: &[Driver],
+    decls: &Decls,
+    numbering: &Numbering,
+) -> Result<List<u128>, Memory>
+    requires numbering { IsNumberingOf decls.now numbering.now }
+    requires driven { All (λ x. IsDriver decls.now x.what) drivers.now }
+    ensures { IfOk result (AreDriven decls.now drivers.now) }
+{
+    drivers_are_sized();
+    let mut sets = Vec::new(alloc);
+    for driver in drivers {
+        let set = driven_by(alloc, &driver.what, decls, numbering)?;
+        push(&mut sets, set)?;
+    }
+    let all = union_of(alloc, sets.as_slice())?;
+    Ok(masks_of(alloc, &all, decls)?)
+}
