@@ -1,0 +1,3 @@
+pub mod ZeroCells
+pub mod Numbers
+pub mod FirstNumbers
