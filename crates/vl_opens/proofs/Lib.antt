@@ -1,0 +1,4 @@
+mod Names
+mod Ranges
+mod Scopes
+pub mod Walked
