@@ -1,0 +1,6 @@
+mod Distinct
+mod Numbered
+pub mod Adding
+mod Filled
+pub mod Blocks
+mod Entered

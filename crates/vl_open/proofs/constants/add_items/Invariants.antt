@@ -1,0 +1,24 @@
+use Rattle.std.proofs.Common.{◌++◌, ℕ, List}
+use Rattle.std.specs.Prelude.{drop}
+use Rattle.vl_mean.specs.Constants.{Constants}
+use Rattle.vl_mean.specs.Declarations.{Overrides}
+use Rattle.vl_mean.specs.Scopes.{Scope}
+use Rattle.vl_refusal.specs.Meanings.{Names}
+use Rattle.vl_number.specs.Given.{IsGiven, value_given}
+use Rattle.vl_number.specs.Numbers.{HaveNumbers}
+use Rattle.vl_openable.specs.Openable.{Different, constant_names, items_constants}
+use Rattle.vl_tree.specs.Item.{items}
+use Rattle.vl_mean.specs.Declarations.{with_items_parameters}
+use Rattle.vl_open.specs.Levels.{HasConstants}
+use Rattle.vl_open.proofs.Adding.{ItemsGo}
+use Rattle.vl_open.proofs.constants.add_items.Given as goal
+
+abbrev pub invariant-loop-item : goal.invariant-loop-item
+invariant-loop-item l =
+    (os : Overrides) (ss : List Scope) (path : List ℕ) (cs : Constants) (outer : List Names)
+    (g : IsGiven (value_given l.given) os) (h : HaveNumbers outer ss)
+    → Different (constant_names cs ++ items_constants (items l.all))
+    → HasConstants path cs outer l.fn.scope l.fn.numbers
+    → ItemsGo (value_given l.given) os ss path outer g h
+    (with_items_parameters os ss cs (items l.all)) l.scope l.numbers
+    (drop l.item-index l.all)
