@@ -25,11 +25,11 @@ other_way t u h = by (bytes_eq u t) refl
         e ∙ sym same ∙ h
     by false e = e
 
-lacks_front : (xs ys : List (List ℕ)) (t : List ℕ) → Lacks (xs ++ ys) t → Lacks xs t
+pub lacks_front : (xs ys : List (List ℕ)) (t : List ℕ) → Lacks (xs ++ ys) t → Lacks xs t
 lacks_front [] ys t h = tt
 lacks_front (x ∷ xs) ys t h = (h.0, lacks_front xs ys t h.1)
 
-lacks_back : (xs ys : List (List ℕ)) (t : List ℕ) → Lacks (xs ++ ys) t → Lacks ys t
+pub lacks_back : (xs ys : List (List ℕ)) (t : List ℕ) → Lacks (xs ++ ys) t → Lacks ys t
 lacks_back [] ys t h = h
 lacks_back (x ∷ xs) ys t h = lacks_back xs ys t h.1
 
