@@ -1,0 +1,6 @@
+use Rattle.std.proofs.Common.{◌≡◌, ◌++◌, drop, map}
+use Rattle.note_lines.specs.Lines.{note_text}
+use Rattle.rvf_judge.proofs.texts.note_texts.Given as goal
+
+abbrev pub invariant-loop-note : goal.invariant-loop-note
+invariant-loop-note l = l.made ++ map note_text (drop l.note-index l.notes) ≡ map note_text l.notes

@@ -1,0 +1,21 @@
+use fv_base::Text;
+
+/// The two files of a certificate.
+#[derive(Debug, Drop)]
+pub struct CertificateTexts {
+    /// Clauses with notes, in the DIMACS format.
+    pub clauses: Text,
+    /// Steps over these clauses, in the LRAT format.
+    pub steps: Text,
+}
+
+/// What a check comes to.
+#[derive(Debug, Drop)]
+pub enum Judged {
+    /// No run violates it: the steps refute the clauses.
+    Pass(CertificateTexts),
+    /// The value-change dump of a run that violates it.
+    Fail(Text),
+    /// The budget is used up: the steps derive as many clauses.
+    Spent(CertificateTexts),
+}
