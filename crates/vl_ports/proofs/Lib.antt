@@ -1,0 +1,3 @@
+mod Joined
+mod Written
+pub mod StepParts

@@ -1,0 +1,62 @@
+-- The parts of the steps of a module's head, and of what an instance joins to it.
+use Rattle.std.specs.Prelude.{◌≡◌, refl, ℕ, List, [], ◌∷◌, ◌++◌, Option, Some, None, option_to_list}
+use Rattle.std.proofs.Common.{ap}
+use Rattle.vl_tree.specs.declared.declaration.FullPort.{FullPort}
+use Rattle.vl_tree.specs.declared.declaration.Parameter.{Parameter}
+use Rattle.vl_tree.specs.declared.declaration.Port.{Port}
+use Rattle.vl_tree.specs.declared.part.Connection.{Connection}
+use Rattle.vl_tree.specs.declared.source.Module.{Module}
+use Rattle.vl_mean.specs.Declarations.{declared_ports, full_port, full_ports, port_decl, port_named, ports_of}
+use Rattle.vl_mean.specs.Parts.{declares_all, optional_value, parts_of_steps, port_kind, port_part}
+use Rattle.vl_mean.specs.Scopes.{Scope}
+use Rattle.vl_mean.specs.Walk.{
+  Place,
+  Use,
+  connection_steps,
+  header_steps,
+  optional_name,
+  override_steps,
+  port_step,
+  port_steps,
+  with_earlier,
+}
+use Rattle.vl_ports.specs.PortParts.{all_connection_parts, all_port_parts}
+
+pub header_parts : (at : Place) (xs : List Parameter) → parts_of_steps (header_steps at xs) ≡ []
+header_parts at [] = refl
+header_parts at (x ∷ xs) = header_parts (with_earlier at (x.name ∷ [])) xs
+
+pub override_parts : (at : Place) (m : Module) (u : Use) (given : List (List ℕ)) (xs : List Connection)
+    → parts_of_steps (override_steps at m u given xs) ≡ []
+override_parts at m u given [] = refl
+override_parts at m u given (x ∷ xs) = override_parts at m u (given ++ x.port ∷ []) xs
+
+pub connections_parts : (at : Place) (m : Module) (u : Use) (inside : List Scope) (given : List (List ℕ))
+    (xs : List Connection)
+    → parts_of_steps (connection_steps at m u inside given xs) ≡ all_connection_parts at.scopes inside m xs
+connections_parts at m u inside given [] = refl
+connections_parts at m u inside given (x ∷ xs) =
+    ap (λ ps. port_part at.scopes inside (port_named (ports_of m.ports) x.port) x.value ++ ps)
+    (connections_parts at m u inside (given ++ x.port ∷ []) xs)
+
+-- behind a port that is written so
+pub ports_parts : (at : Place) (u : Use) (last : Option FullPort) (ps : List Port)
+    → parts_of_steps (port_steps at u last ps)
+    ≡ all_port_parts at.scopes at.path (declared_ports at.around u.is_top u.input (full_ports last ps))
+    (full_ports last ps)
+ports_parts at u last [] = refl
+ports_parts at u last (p ∷ ps) = by (full_port last p.kind) (λ at q. ports_parts at u q ps)
+  where
+    by : (q : Option FullPort)
+        → ((at : Place) (q : Option FullPort) → parts_of_steps (port_steps at u q ps)
+        ≡ all_port_parts at.scopes at.path (declared_ports at.around u.is_top u.input (full_ports q ps))
+        (full_ports q ps))
+        → parts_of_steps (port_step at u p.pos q ++ port_steps (with_earlier at (optional_name q)) u q ps)
+        ≡ all_port_parts at.scopes at.path
+        (declared_ports at.around u.is_top u.input (option_to_list q ++ full_ports q ps))
+        (option_to_list q ++ full_ports q ps)
+    by None f = f (with_earlier at []) None
+    by (Some q) f =
+        ap (λ ps. (declares_all at.path (port_decl at.around u.is_top u.input q ∷ [])
+        ++ optional_value at.scopes (port_kind q.net) q.name q.value) ++ ps)
+        (f (with_earlier at (q.name ∷ [])) (Some q))

@@ -1,0 +1,56 @@
+-- The parts of ports and of what is joined to them, from what is there as a design is written. IEEE 1364-2005, section
+-- 12.3.
+use Rattle.std.specs.Prelude.{ℕ, List, [], ◌∷◌, ◌++◌, Option, Some, None}
+use Rattle.vl_tree.specs.declared.declaration.FullPort.{FullPort}
+use Rattle.vl_tree.specs.declared.declaration.NetKind.{NetKind}
+use Rattle.vl_tree.specs.declared.declaration.PortKind.{PortKind}
+use Rattle.vl_tree.specs.declared.declaration.PortKind.TheVariants as port
+use Rattle.vl_tree.specs.declared.part.Connection.{Connection}
+use Rattle.vl_tree.specs.declared.source.Module.{Module}
+use Rattle.vl_tree.specs.Expr.{Expr}
+use Rattle.vl_size.specs.declared.decl.Decl.{Decl}
+use Rattle.vl_mean.specs.Declarations.{port_named, ports_of}
+use Rattle.vl_mean.specs.Parts.{Part, declares_all, optional_value, port_kind, port_part}
+use Rattle.vl_mean.specs.Scopes.{Scope}
+
+-- what an instance joins to a port of its module
+abbrev pub connection_parts : List Scope → List Scope → Module → Connection → List Part
+connection_parts ss inside m x = port_part ss inside (port_named (ports_of m.ports) x.port) x.value
+
+abbrev pub all_connection_parts : List Scope → List Scope → Module → List Connection → List Part
+all_connection_parts ss inside m [] = []
+all_connection_parts ss inside m (x ∷ xs) = connection_parts ss inside m x ++ all_connection_parts ss inside m xs
+
+-- ---- ports
+
+-- of a port behind one of this kind, which one that is written short takes
+abbrev pub next_net : Option NetKind → PortKind → Option NetKind
+next_net last (port.Full p) = Some (port_kind p.net)
+next_net last (port.Short text value) = last
+
+abbrev pub port_value : PortKind → Option Expr
+port_value (port.Full p) = p.value
+port_value (port.Short text value) = value
+
+-- a port that declares these
+abbrev pub port_parts : List Scope → List ℕ → List Decl → NetKind → List ℕ → Option Expr → List Part
+port_parts ss path ds net text value = declares_all path ds ++ optional_value ss net text value
+
+-- of a port of this kind, if it is one, which declares the first one of these
+abbrev pub first_parts : List Scope → List ℕ → List Decl → Option NetKind → List ℕ → Option Expr → List Part
+first_parts ss path ds None text value = []
+first_parts ss path [] (Some net) text value = []
+first_parts ss path (d ∷ ds) (Some net) text value = port_parts ss path (d ∷ []) net text value
+
+-- those that are left
+abbrev pub behind_first : Option NetKind → List Decl → List Decl
+behind_first None ds = ds
+behind_first (Some net) [] = []
+behind_first (Some net) (d ∷ ds) = ds
+
+-- ports, of which each declares one
+abbrev pub all_port_parts : List Scope → List ℕ → List Decl → List FullPort → List Part
+all_port_parts ss path [] ps = []
+all_port_parts ss path (d ∷ ds) [] = []
+all_port_parts ss path (d ∷ ds) (p ∷ ps) =
+    port_parts ss path (d ∷ []) (port_kind p.net) p.name p.value ++ all_port_parts ss path ds ps

@@ -1,0 +1,60 @@
+//! What an instance joins to the ports of its module.
+ghost use Rattle.std.specs.Prelude.{◌≡◌, OnOk};
+ghost use Rattle.vl_tree.specs.declared.source.Module.{Module as SpecModule};
+ghost use Rattle.vl_connect.specs.Ports.{AreDirectionsOf};
+ghost use Rattle.vl_write.specs.Behind as behind;
+ghost use Rattle.vl_ports.specs.PortParts as spec;
+
+use fv_base::{Memory, Pos};
+use std::alloc::Global;
+use vl_connect::PortTable;
+use vl_draft::Draft;
+use vl_full::Scopes;
+use vl_tree::Connection;
+use vl_write::write_joined;
+
+fn write_connection(
+    alloc: Global,
+    pos: Pos,
+    ports: &PortTable,
+    given: &Connection,
+    scopes: &Scopes,
+    inside: &Scopes,
+    draft: &mut Draft,
+) -> Result<(), Memory>
+    ensures { OnOk result ((m : SpecModule) → AreDirectionsOf ports.now m
+        → behind.StandBehind draft.old (spec.connection_parts scopes.now inside.now m given.now) draft.new) }
+{
+    let direction = ports.direction(&given.port);
+    write_joined(
+        alloc,
+        pos,
+        direction,
+        &given.port,
+        &given.value,
+        scopes,
+        inside,
+        draft,
+    )
+}
+
+/// Writes what an instance joins to the ports of its module, in order (IEEE 1364-2005, section 12.3.6). `ports`: those
+/// of the module, `scopes`: those around the instance, `inside`: those of the module in it. The place is that of the
+/// instance.
+pub fn write_connections(
+    alloc: Global,
+    pos: Pos,
+    ports: &PortTable,
+    all: &[Connection],
+    scopes: &Scopes,
+    inside: &Scopes,
+    draft: &mut Draft,
+) -> Result<(), Memory>
+    ensures { OnOk result ((m : SpecModule) → AreDirectionsOf ports.now m
+        → behind.StandBehind draft.old (spec.all_connection_parts scopes.now inside.now m all.now) draft.new) }
+{
+    for given in all {
+        write_connection(alloc, pos, ports, given, scopes, inside, draft)?;
+    }
+    Ok(())
+}

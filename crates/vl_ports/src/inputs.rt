@@ -1,0 +1,74 @@
+//! What the inputs of an instance's module stand for.
+ghost use Rattle.std.specs.Prelude.{◌≡◌, ◌&&◌, ◌||◌, ℕ, List, false, bytes_eq, IfOk, OnOk};
+ghost use Rattle.vl_tree.specs.declared.part.Instance.{Instance as SpecInstance};
+ghost use Rattle.vl_mean.specs.Scopes as scopes_spec;
+ghost use Rattle.vl_mean.specs.Walk.{use_of};
+ghost use Rattle.name_set.specs.Known.{contains};
+ghost use Rattle.vl_shape.specs.Inputs.{AreInputs};
+ghost use Rattle.vl_connect.specs.Clock as spec;
+
+use fv_base::{Memory, Text};
+use name_set::NameSet;
+use std::alloc::Global;
+use vl_full::Scopes;
+use vl_shape::Inputs;
+use vl_tree::{Connection, Expr};
+use vl_write::is_clock;
+
+fn is_clock_value(value: &Option<Expr>, scopes: &Scopes) -> bool
+    ensures { result ≡ scopes_spec.is_clock scopes.now value.now }
+{
+    match value {
+        None => false,
+        Some(value) => is_clock(value, scopes),
+    }
+}
+
+fn add_if(alloc: Global, test: bool, text: &Text, joined: &mut NameSet) -> Result<(), Memory>
+    ensures { OnOk result ((other : List ℕ)
+        → contains joined.new other ≡ ((bytes_eq other text.now && test) || contains joined.old other)) }
+{
+    if !test {
+        return Ok(());
+    }
+    joined.add(text.copied(alloc)?)
+}
+
+fn add_connection(
+    alloc: Global,
+    text: &Text,
+    test: bool,
+    seen: &mut NameSet,
+    joined: &mut NameSet,
+) -> Result<(), Memory>
+    ensures seen { OnOk result ((other : List ℕ)
+        → contains seen.new other ≡ spec.with_name (contains seen.old) text.now other) }
+    ensures joined { OnOk result ((other : List ℕ) → contains joined.new other
+        ≡ spec.with_clock test text.now (contains seen.old) (contains joined.old) other) }
+{
+    let first = !seen.contains(text) && test;
+    seen.add(text.copied(alloc)?)?;
+    add_if(alloc, first, text, joined)
+}
+
+fn all_joined(alloc: Global, all: &[Connection], scopes: &Scopes) -> Result<NameSet, Memory>
+    ensures { IfOk result (λ set. (other : List ℕ) → contains set other
+        ≡ spec.joined_to (scopes_spec.is_clock scopes.now) all.now (λ text. false) (λ text. false) other) }
+{
+    let mut seen = NameSet::new(alloc);
+    let mut joined = NameSet::new(alloc);
+    for given in all {
+        let test = is_clock_value(&given.value, scopes);
+        add_connection(alloc, &given.port, test, &mut seen, &mut joined)?;
+    }
+    Ok(joined)
+}
+
+/// What the inputs of an instance's module stand for: one that is joined to the clock is the clock (IEEE 1364-2005,
+/// section 12.3.6). `all`: what the instance joins to ports; of two connections to one port the first counts.
+pub fn joined_inputs(alloc: Global, all: &[Connection], scopes: &Scopes) -> Result<Inputs, Memory>
+    ensures { IfOk result (λ inputs. (x : SpecInstance) → x.connections ≡ all.now
+        → AreInputs inputs (use_of scopes.now x)) }
+{
+    Ok(Inputs::Joined(all_joined(alloc, all, scopes)?))
+}
