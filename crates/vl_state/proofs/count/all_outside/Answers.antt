@@ -9,8 +9,14 @@ loop-mask-init c = record { count = omega arith; few = omega arith }
 
 pub overflow_add-count : goal.overflow_add-count
 overflow_add-count c =
-    omega (arith, c.loop-mask.invariant.few, c.loop-mask-test.true, c.requires.few, c.requires.width,
-    c.bits_outside-count.ensures.few)
+    omega (
+      arith,
+      c.loop-mask.invariant.few,
+      c.loop-mask-test.true,
+      c.requires.few,
+      c.requires.width,
+      c.bits_outside-count.ensures.few,
+    )
 
 pub loop-mask-preserved : goal.loop-mask-preserved
 loop-mask-preserved c =
