@@ -1,0 +1,64 @@
+//! The whole source.
+ghost use Rattle.std.specs.Prelude.{◌≡◌, [], OnOk};
+ghost use Rattle.vl_mean.specs.Parts.{design};
+ghost use Rattle.vl_mean.specs.Runs.{Each};
+ghost use Rattle.vl_mean.specs.Walk.{walk};
+ghost use Rattle.vl_same.specs.StepScopes.{StepScopes};
+ghost use Rattle.vl_modules.specs.Table.{AreModules};
+ghost use Rattle.vl_openable.specs.Openable.{AreOpenable};
+ghost use Rattle.vl_write.specs.Behind.{MayStandBehind, StandBehind};
+ghost use Rattle.vl_written.specs.Ready.{IsReady, Writes, design_seen};
+
+use crate::walk::write_opened;
+use fv_base::{Memory, Text};
+use std::alloc::Global;
+use vl_draft::Draft;
+use vl_modules::ModuleTable;
+use vl_number::Given;
+use vl_open::open_module;
+use vl_shape::Inputs;
+use vl_tree::Module;
+
+fn no_path(alloc: Global) -> Text
+    ensures { result ≡ [] }
+{
+    Text::from_vec(Vec::new(alloc))
+}
+
+/// Writes the top module, under no path.
+fn write_top(
+    alloc: Global,
+    table: &ModuleTable,
+    modules: &[Module],
+    top: &Text,
+    draft: &mut Draft,
+) -> Result<(), Memory>
+    requires table { AreModules table.now modules.now }
+    requires ready { IsReady draft.old (design_seen modules.now top.now) }
+    ensures { OnOk result (Writes draft.old (design_seen modules.now top.now) draft.new) }
+{
+    let Some(module) = table.find(modules, top) else {
+        return Ok(());
+    };
+    let nothing = Given::new(alloc);
+    let opened = open_module(alloc, module, &Inputs::Top, &nothing, no_path(alloc))?;
+    let depth = modules.len().saturating_sub(1);
+    write_opened(alloc, table, modules, depth, module, opened, draft)
+}
+
+/// Writes the parts of the design of these modules with this top module behind what stands, each in order (IEEE
+/// 1364-2005, section 12): with full names, and with numbers in place of constants. The top module's name stays out of
+/// full names.
+pub fn write_design(
+    alloc: Global,
+    modules: &[Module],
+    top: &Text,
+    draft: &mut Draft,
+) -> Result<(), Memory>
+    requires openable { Each (StepScopes AreOpenable) (walk modules.now top.now) }
+    requires may { MayStandBehind draft.old (design modules.now top.now) }
+    ensures { OnOk result (StandBehind draft.old (design modules.now top.now) draft.new) }
+{
+    let table = ModuleTable::new(alloc, modules)?;
+    write_top(alloc, &table, modules, top, draft)
+}

@@ -1,0 +1,54 @@
+//! Turns of generate loops: their values.
+ghost use Rattle.std.specs.Prelude.{◌≡◌, List, Some, None, true, IfOk, OnOk, if◌then◌else◌};
+ghost use Rattle.fv_bits.specs.Bits.{as_int};
+ghost use Rattle.vl_size.specs.Size.{is_bound};
+ghost use Rattle.vl_mean.specs.Scopes.{Scope};
+ghost use Rattle.vl_mean.specs.Walk as walk;
+ghost use Rattle.vl_number.specs.Numbers as numbers_spec;
+ghost use Rattle.vl_number.specs.Numbers.{HaveNumbers};
+ghost use Rattle.vl_written.specs.Ready.{IsTurn};
+
+use fv_base::Memory;
+use std::alloc::Global;
+use vl_mean::Const;
+use vl_number::{genvar_value, is_true_in};
+use vl_scope::Names;
+use vl_tree::LoopHead;
+use vl_turn::enter_turn;
+
+/// The value of the first turn.
+pub(crate) fn first_value(alloc: Global, head: &LoopHead, numbers: &Names) -> Result<Const, Memory>
+    ensures value { IfOk result (λ c. (ss : List Scope) → HaveNumbers numbers.now ss
+        → c ≡ walk.first_turn head.now ss) }
+    ensures bounded { IfOk result (λ c. IsTurn c) }
+{
+    genvar_value(alloc, &head.start, numbers)
+}
+
+fn value_in_turn(alloc: Global, head: &LoopHead, numbers: &Names) -> Result<Option<Const>, Memory>
+    ensures { IfOk result (λ c. c ≡ (if numbers_spec.holds numbers.now head.now.condition
+        then Some (numbers_spec.genvar_number numbers.now head.now.next) else None)) }
+{
+    let goes_on = is_true_in(alloc, &head.condition, numbers)?;
+    if !goes_on {
+        return Ok(None);
+    }
+    Ok(Some(genvar_value(alloc, &head.next, numbers)?))
+}
+
+/// The value of the turn behind the one with this value. None exactly where that one doesn't begin.
+pub(crate) fn next_value(
+    alloc: Global,
+    head: &LoopHead,
+    value: Const,
+    numbers: &mut Names,
+) -> Result<Option<Const>, Memory>
+    ensures numbers { OnOk result (numbers.new ≡ numbers.old) }
+    ensures next { IfOk result (λ c. (ss : List Scope) → HaveNumbers numbers.old ss
+        → c ≡ (if walk.goes_on head.now ss value then Some (walk.next_turn head.now ss value) else None)) }
+{
+    enter_turn(alloc, &head.variable, value, numbers)?;
+    let next = value_in_turn(alloc, head, numbers)?;
+    numbers.leave();
+    Ok(next)
+}
