@@ -1,0 +1,29 @@
+-- A design that is written behind nothing.
+use Rattle.std.specs.Prelude.{◌≡◌, ℕ, List, All}
+use Rattle.std.proofs.Common.{ap, subst, sym, ◌∙◌}
+use Rattle.vl_tree.specs.declared.source.Module.{Module}
+use Rattle.vl_tree.specs.WellFormed.{IsModule}
+use Rattle.vl_mean.specs.declared.flat.Flat.{Flat}
+use Rattle.vl_mean.specs.FlatLaw.{IsLawful}
+use Rattle.vl_mean.specs.Parts.{Part, design}
+use Rattle.vl_same.specs.Flattened.{decls_of}
+use Rattle.vl_names.specs.Unrefused.{NoStepRefused}
+use Rattle.vl_draft.specs.Drawn.{IsDrawn}
+use Rattle.vl_draft.specs.Written.{Written, nothing}
+use Rattle.vl_kept.proofs.Whole.{design_lawful}
+use Rattle.vl_write.specs.Behind.{StandBehind, kinds_of}
+
+pub lawful : (ms : List Module) (top : List ℕ) (v : Written) → StandBehind nothing (design ms top) v
+    → All IsModule ms → NoStepRefused ms top → IsLawful v.decls v.drivers v.starts
+lawful ms top v h formed fine =
+    subst (λ ds. IsLawful ds v.drivers v.starts) (sym h.decls_are)
+    (subst (λ xs. IsLawful (decls_of (design ms top)) v.drivers xs) (sym h.starts_are)
+    (design_lawful ms top v.drivers formed fine h.drivers_are))
+
+pub drawn : (ps : List Part) (v : Written) (f : Flat) → StandBehind nothing ps v → f.decls ≡ v.decls
+    → f.drivers ≡ v.drivers → f.starts ≡ v.starts → IsDrawn ps f
+drawn ps v f h decls drivers starts = record {
+  decls_are = decls ∙ h.decls_are;
+  drivers_are = ap kinds_of drivers ∙ h.drivers_are;
+  starts_are = starts ∙ h.starts_are;
+}

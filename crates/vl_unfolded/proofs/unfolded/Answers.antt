@@ -1,0 +1,36 @@
+use Rattle.std.proofs.Common.{subst, sym}
+use Rattle.vl_mean.specs.Parts.{design}
+use Rattle.vl_draft.specs.Written.{nothing}
+use Rattle.vl_behind.proofs.Declared.{may_be_written}
+use Rattle.vl_opens.proofs.Walked.{walk_open}
+use Rattle.vl_write.specs.Behind.{MayStandBehind, StandBehind}
+use Rattle.vl_unfolded.proofs.Drawing.{drawn, lawful}
+use Rattle.vl_unfolded.proofs.unfolded.Goals as goal
+
+pub write_design-requires : goal.write_design-requires
+write_design-requires c =
+    let ms = c.args.modules.now in
+    let top = c.args.top.now in
+    record {
+      openable = walk_open ms top c.requires.formed c.requires.fine;
+      may = subst (λ w. MayStandBehind w (design ms top)) (sym c.new-draft.ensures)
+          (may_be_written ms top c.requires.formed c.requires.fine);
+    }
+
+pub finish-requires : goal.finish-requires
+finish-requires c =
+    let ms = c.args.modules.now in
+    let top = c.args.top.now in
+    let v = c.write_design.new.draft in
+    lawful ms top v
+    (subst (λ w. StandBehind w (design ms top) v) c.new-draft.ensures c.in_ok-write_design.ensures) c.requires.formed
+    c.requires.fine
+
+pub returns : goal.returns
+returns c =
+    let ms = c.args.modules.now in
+    let top = c.args.top.now in
+    let v = c.write_design.new.draft in
+    drawn (design ms top) v c.finish.result
+    (subst (λ w. StandBehind w (design ms top) v) c.new-draft.ensures c.in_ok-write_design.ensures)
+    c.finish.ensures.decls c.finish.ensures.drivers c.finish.ensures.starts
