@@ -1,0 +1,23 @@
+use Rattle.std.proofs.Common.{ap, sym, ◌∙◌}
+use Rattle.vl_mean.specs.Parts.{design}
+use Rattle.vl_refusal.specs.Refused.{or_later, state_bits, too_many_bits}
+use Rattle.vl_design.proofs.Steps.{design_maps}
+use Rattle.vl_elab.proofs.Deciding.{bits_decide, no_fault, no_step}
+use Rattle.vl_elab.proofs.whole.elaborate.Goals as goal
+
+pub returns-in-None-clause-unrefused : goal.returns-in-None-clause-unrefused
+returns-in-None-clause-unrefused c =
+    bits_decide c.args.modules.now c.args.top.now c.in_ok-flat.flat c.in_ok-bits.bits _ c.requires
+    (no_fault c.in_ok-fault.field-0 c.in_default.not-Some ∙ c.in_ok-fault.ensures.fault c.requires) (c.in_ok-fault.ensures.refusal c.requires ∙ ap (λ o. or_later o (let ps = design c.args.modules.now c.args.top.now in too_many_bits (state_bits ps ps))) (sym (no_fault c.in_ok-fault.field-0 c.in_default.not-Some))) c.in_ok-flat.ensures
+    c.in_ok-bits.ensures (sym c.in-None.is ∙ c.too_many_bits.ensures)
+
+pub returns-in-None-clause-maps : goal.returns-in-None-clause-maps
+returns-in-None-clause-maps c =
+    design_maps c.args.modules.now c.args.top.now c.in_ok-flat.flat c.requires
+    (no_step c.args.modules.now c.args.top.now (no_fault c.in_ok-fault.field-0 c.in_default.not-Some ∙ c.in_ok-fault.ensures.fault c.requires)) c.in_ok-flat.ensures
+
+pub returns-in-Some-too_many_bits-clause-refused : goal.returns-in-Some-too_many_bits-clause-refused
+returns-in-Some-too_many_bits-clause-refused c =
+    bits_decide c.args.modules.now c.args.top.now c.in_ok-flat.flat c.in_ok-bits.bits _ c.requires
+    (no_fault c.in_ok-fault.field-0 c.in_default.not-Some ∙ c.in_ok-fault.ensures.fault c.requires) (c.in_ok-fault.ensures.refusal c.requires ∙ ap (λ o. or_later o (let ps = design c.args.modules.now c.args.top.now in too_many_bits (state_bits ps ps))) (sym (no_fault c.in_ok-fault.field-0 c.in_default.not-Some))) c.in_ok-flat.ensures
+    c.in_ok-bits.ensures (sym c.in-Some-too_many_bits.is ∙ c.too_many_bits.ensures)
