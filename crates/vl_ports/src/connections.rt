@@ -5,7 +5,7 @@ ghost use Rattle.vl_connect.specs.Ports.{AreDirectionsOf};
 ghost use Rattle.vl_write.specs.Behind as behind;
 ghost use Rattle.vl_ports.specs.PortParts as spec;
 
-use fv_base::{Memory, Pos};
+use fv_base::Memory;
 use std::alloc::Global;
 use vl_connect::PortTable;
 use vl_draft::Draft;
@@ -15,7 +15,6 @@ use vl_write::write_joined;
 
 fn write_connection(
     alloc: Global,
-    pos: Pos,
     ports: &PortTable,
     given: &Connection,
     scopes: &Scopes,
@@ -28,7 +27,7 @@ fn write_connection(
     let direction = ports.direction(&given.port);
     write_joined(
         alloc,
-        pos,
+        given.pos,
         direction,
         &given.port,
         &given.value,
@@ -39,11 +38,10 @@ fn write_connection(
 }
 
 /// Writes what an instance joins to the ports of its module, in order (IEEE 1364-2005, section 12.3.6). `ports`: those
-/// of the module, `scopes`: those around the instance, `inside`: those of the module in it. The place is that of the
-/// instance.
+/// of the module, `scopes`: those around the instance, `inside`: those of the module in it. The place of each is that
+/// of the connection.
 pub fn write_connections(
     alloc: Global,
-    pos: Pos,
     ports: &PortTable,
     all: &[Connection],
     scopes: &Scopes,
@@ -54,7 +52,7 @@ pub fn write_connections(
         → behind.StandBehind draft.old (spec.all_connection_parts scopes.now inside.now m all.now) draft.new) }
 {
     for given in all {
-        write_connection(alloc, pos, ports, given, scopes, inside, draft)?;
+        write_connection(alloc, ports, given, scopes, inside, draft)?;
     }
     Ok(())
 }

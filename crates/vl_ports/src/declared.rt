@@ -6,7 +6,7 @@ ghost use Rattle.vl_shape.specs.Objects as objects;
 ghost use Rattle.vl_write.specs.Behind as behind;
 ghost use Rattle.vl_ports.specs.PortParts as spec;
 
-use fv_base::{Memory, Pos, Text};
+use fv_base::{Memory, Text};
 use std::alloc::Global;
 use std::slice;
 use vl_draft::Draft;

@@ -10,7 +10,7 @@ ghost use Rattle.vl_write.specs.OwnParts.{own_parts};
 use crate::blocks::{write_assignments, write_block, write_initial};
 use crate::declaring::write_declarations;
 use crate::values::write_values;
-use fv_base::{Memory, Pos, Text};
+use fv_base::{Memory, Text};
 use std::alloc::Global;
 use vl_draft::Draft;
 use vl_full::Scopes;
@@ -20,7 +20,6 @@ use vl_tree::{DeclaredName, Item, ItemKind, NetKind};
 /// Declarations first, and then the values in them.
 fn write_declared(
     alloc: Global,
-    pos: Pos,
     kind: NetKind,
     path: &Text,
     decls: &[Decl],
@@ -34,7 +33,7 @@ fn write_declared(
         (parts.declares_all path.now decls.now ++ parts.values_of scopes.now kind all.now) draft.new) }
 {
     write_declarations(alloc, path, decls, draft)?;
-    write_values(alloc, pos, kind, all, scopes, draft)
+    write_values(alloc, kind, all, scopes, draft)
 }
 
 /// Writes the parts of an item by itself; what is in an instance, in a loop or in an `if` isn't of these. `path`: that
@@ -56,28 +55,10 @@ pub fn write_item(
     match &item.kind {
         ItemKind::Declaration(declaration) => {
             let names = declaration.names.as_slice();
-            write_declared(
-                alloc,
-                pos,
-                declaration.net,
-                path,
-                decls,
-                names,
-                scopes,
-                draft,
-            )
+            write_declared(alloc, declaration.net, path, decls, names, scopes, draft)
         }
         ItemKind::Integer(all) => {
-            write_declared(
-                alloc,
-                pos,
-                NetKind::Reg,
-                path,
-                decls,
-                all.as_slice(),
-                scopes,
-                draft,
-            )
+            write_declared(alloc, NetKind::Reg, path, decls, all.as_slice(), scopes, draft)
         }
         ItemKind::Assign(all) => write_assignments(alloc, pos, all.as_slice(), scopes, draft),
         ItemKind::Always(event, stmt) => write_block(alloc, pos, &event.kind, stmt, scopes, draft),

@@ -83,7 +83,7 @@ fn write_output(
 /// Writes what an instance joins to a port of its module (IEEE 1364-2005, section 12.3.6): an input has the value of
 /// what it is joined to, but the clock has none; what an output is joined to has its value. `direction`: that of the
 /// port, None where the module has none of the name; `scopes`: those around the instance, `inside`: those of the
-/// module in it. The place is that of the instance.
+/// module in it. The place is that of the connection.
 #[tactic(auto, using(crate::proofs::Standing::nothing_more))]
 pub fn write_joined(
     alloc: Global,

@@ -64,7 +64,7 @@ fn write_value(
 }
 
 /// Writes the value in the declaration of a name, where there is one: that of a net is an assignment, that of a
-/// variable its value at first (IEEE 1364-2005, sections 6.1.1 and 6.2.1). The place is that of the item or the port.
+/// variable its value at first (IEEE 1364-2005, sections 6.1.1 and 6.2.1). The place is that of the name or the port.
 pub fn write_optional_value(
     alloc: Global,
     pos: Pos,
@@ -84,10 +84,9 @@ pub fn write_optional_value(
     }
 }
 
-/// Writes the values of names that are declared together, in order.
+/// Writes the values of names that are declared together, in order. The place of each is that of its name.
 pub fn write_values(
     alloc: Global,
-    pos: Pos,
     kind: NetKind,
     all: &[DeclaredName],
     scopes: &Scopes,
@@ -97,7 +96,15 @@ pub fn write_values(
     ensures { OnOk result (spec.StandBehind draft.old (parts.values_of scopes.now kind all.now) draft.new) }
 {
     for name in all {
-        write_optional_value(alloc, pos, kind, &name.name, &name.value, scopes, draft)?;
+        write_optional_value(
+            alloc,
+            name.pos,
+            kind,
+            &name.name,
+            &name.value,
+            scopes,
+            draft,
+        )?;
     }
     Ok(())
 }

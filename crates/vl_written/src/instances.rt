@@ -7,7 +7,7 @@ ghost use Rattle.vl_open.specs.Modules.{IsModuleOpened};
 ghost use Rattle.vl_ports.specs.PortParts.{all_connection_parts};
 ghost use Rattle.vl_write.specs.Behind.{StandBehind};
 
-use fv_base::{List, Memory, Pos};
+use fv_base::{List, Memory};
 use std::alloc::Global;
 use vl_connect::PortTable;
 use vl_draft::Draft;
@@ -49,7 +49,6 @@ pub(crate) fn open_instance(
 /// Writes what an instance joins to its module, which is opened.
 pub(crate) fn write_joined(
     alloc: Global,
-    pos: Pos,
     module: &Module,
     instance: &Instance,
     scopes: &Scopes,
@@ -62,7 +61,6 @@ pub(crate) fn write_joined(
     let ports = PortTable::new(alloc, module)?;
     write_connections(
         alloc,
-        pos,
         &ports,
         instance.connections.as_slice(),
         scopes,

@@ -14,7 +14,7 @@ ghost use Rattle.vl_written.specs.Ready.{IsReady, IsTurn, Writes, place_of};
 use crate::blocks::{chosen, constructs, items_of, name_of, nested, path_of, split_declared};
 use crate::instances::{open_instance, write_joined};
 use crate::turns::{first_value, next_value};
-use fv_base::{Memory, Pos, Text};
+use fv_base::{Memory, Text};
 use std::alloc::Global;
 use vl_draft::Draft;
 use vl_label::turn_path;
@@ -106,7 +106,7 @@ fn write_within(
 {
     match &part.kind {
         ItemKind::Instance(instance) => Ok(write_instance(
-            alloc, table, modules, depth, part.pos, instance, here, draft,
+            alloc, table, modules, depth, instance, here, draft,
         )?),
         ItemKind::For(head, block) => Ok(write_turns(
             alloc, table, modules, depth, head, block, number, here, draft,
@@ -292,7 +292,6 @@ fn write_instance(
     table: &ModuleTable,
     modules: &[Module],
     depth: usize,
-    pos: Pos,
     instance: &Instance,
     here: &Here,
     draft: &mut Draft,
@@ -313,7 +312,6 @@ fn write_instance(
     let opened = open_instance(alloc, module, instance, here)?;
     write_joined(
         alloc,
-        pos,
         module,
         instance,
         &here.scopes,
