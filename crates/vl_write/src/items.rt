@@ -58,7 +58,15 @@ pub fn write_item(
             write_declared(alloc, declaration.net, path, decls, names, scopes, draft)
         }
         ItemKind::Integer(all) => {
-            write_declared(alloc, NetKind::Reg, path, decls, all.as_slice(), scopes, draft)
+            write_declared(
+                alloc,
+                NetKind::Reg,
+                path,
+                decls,
+                all.as_slice(),
+                scopes,
+                draft,
+            )
         }
         ItemKind::Assign(all) => write_assignments(alloc, pos, all.as_slice(), scopes, draft),
         ItemKind::Always(event, stmt) => write_block(alloc, pos, &event.kind, stmt, scopes, draft),
