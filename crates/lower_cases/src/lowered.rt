@@ -1,0 +1,42 @@
+//! What is answered of a text.
+#![tactic(auto, using(crate::proofs::Chosen::none_is_chosen))]
+
+use crate::shown::values;
+use anyhow::Result;
+use fv_base::{List, Memory, Text, Trace};
+use std::alloc::Global;
+use tr_replay::{Chosen, replay};
+use vl_elab::elaborate;
+use vl_flow::order;
+use vl_lower::lower;
+use vl_ordered::Ordered;
+use vl_parse::parse;
+use vl_token::lex;
+
+/// The run of a design in which all that is free is 0.
+fn run(alloc: Global, ordered: &Ordered) -> Result<Trace, Memory> {
+    let lowered = lower(alloc, ordered)?;
+    let chosen = Chosen {
+        each_cycle: List::new(alloc),
+        once: List::new(alloc),
+        regs: List::new(alloc),
+        words: List::new(alloc),
+    };
+    replay(alloc, &lowered.net, &lowered.names, &chosen, 9)
+}
+
+pub(crate) fn answer(alloc: Global, text: &str) -> Result<String> {
+    let tokens = lex(alloc, text.as_bytes(), 1, 1)?;
+    let source = parse(alloc, tokens.as_slice())?;
+    let top = Text::from_bytes(alloc, b"top")?;
+    match elaborate(alloc, source.modules.as_slice(), &top) {
+        Err(_reason) => Ok(String::from_str(alloc, "no design")?),
+        Ok(flat) => match order(alloc, flat) {
+            Err(_fault) => Ok(String::from_str(alloc, "no order")?),
+            Ok(ordered) => {
+                let trace = run(alloc, &ordered)?;
+                values(alloc, &trace)
+            }
+        },
+    }
+}
