@@ -4,7 +4,7 @@ use crate::shown;
 use anyhow::Result;
 use fv_base::Text;
 use std::alloc::Global;
-use vl_judged::judge;
+use vl_elab::{Reason, elaborate};
 use vl_parse::parse;
 use vl_token::lex;
 
@@ -12,8 +12,9 @@ pub(crate) fn answer(alloc: Global, text: &str) -> Result<String> {
     let tokens = lex(alloc, text.as_bytes(), 1, 1)?;
     let source = parse(alloc, tokens.as_slice())?;
     let top = Text::from_bytes(alloc, b"top")?;
-    match judge(alloc, source.modules.as_slice(), &top)? {
-        None => Ok(String::from_str(alloc, "design")?),
-        Some(fault) => shown::refusal(alloc, &fault),
+    match elaborate(alloc, source.modules.as_slice(), &top) {
+        Ok(_flat) => Ok(String::from_str(alloc, "design")?),
+        Err(Reason::Refused(fault)) => shown::refusal(alloc, &fault),
+        Err(Reason::Memory) => Ok(String::from_str(alloc, "memory")?),
     }
 }
