@@ -9,17 +9,24 @@ use Rattle.rvf_words.specs.declared.line.Line.{Line}
 use Rattle.rvf_words.specs.declared.line.Line.TheVariants.{Run, List as Listed, Lrat}
 use Rattle.rvf_words.specs.Table.{program}
 
--- a budget: one to ten digits, from 1 to 1,000,000,000
-abbrev pub budget_of : Text → Option ℕ
-budget_of digits =
+-- one to ten digits, a number from 1 to the most
+abbrev pub count_of : ℕ → Text → Option ℕ
+count_of most digits =
     if nat_le (length digits) 10
-    then option_and_then (λ n. if nat_le 1 n then Some n else None) (number_up_to 1000000000 digits)
+    then option_and_then (λ n. if nat_le 1 n then Some n else None) (number_up_to most digits)
     else None
+
+abbrev pub budget_of : Text → Option ℕ
+budget_of digits = count_of 1000000000 digits
+
+abbrev pub jobs_of : Text → Option ℕ
+jobs_of digits = count_of 64 digits
 
 abbrev pub run_line : List Row → Option Line
 run_line rows =
     option_and_then (λ cfg. option_and_then (λ outdir. option_and_then (λ core. option_and_then (λ basedir.
-    option_map (λ budget. Run cfg outdir core basedir budget)
+    option_and_then (λ budget. option_map (λ jobs. Run cfg outdir core basedir budget jobs)
+    (option_and_then jobs_of (first_of (codes "jobs") rows)))
     (option_and_then budget_of (first_of (codes "budget") rows)))
     (first_of (codes "basedir") rows)) (first_of (codes "core") rows)) (first_of (codes "outdir") rows))
     (first_of (codes "cfg") rows)
@@ -39,7 +46,7 @@ asked name rows =
     else if bytes_eq name (codes "list") then list_line rows
     else if bytes_eq name (codes "lrat") then lrat_line rows else None
 
--- what words ask for; None where the table refuses them, or the budget is no number in its range
+-- what words ask for; None where the table refuses them, or a number isn't in its range
 abbrev pub line_of : List Text → Option Line
 line_of words =
     if is_empty (fault_of program words)

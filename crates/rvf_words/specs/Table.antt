@@ -11,13 +11,13 @@ operand id = record (new_rule id) { required = true }
 abbrev pub choice : Text → Text → Rule
 choice id default = record (new_rule id) { long = Some id; defaults = default ∷ [] }
 
--- `run CFG OUTDIR [--core NAME] [--basedir DIR] [--budget N]`
+-- `run CFG OUTDIR [--core NAME] [--basedir DIR] [--budget N] [--jobs N]`
 abbrev pub run : App
 run =
-    with_rule (with_rule (with_rule (with_rule (with_rule (new_app (codes "run"))
+    with_rule (with_rule (with_rule (with_rule (with_rule (with_rule (new_app (codes "run"))
     (operand (codes "cfg"))) (operand (codes "outdir")))
     (choice (codes "core") (codes "core"))) (choice (codes "basedir") (codes ".")))
-    (choice (codes "budget") (codes "200000"))
+    (choice (codes "budget") (codes "200000"))) (choice (codes "jobs") (codes "1"))
 
 -- `list CFG`
 abbrev pub list : App

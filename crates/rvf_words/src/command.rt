@@ -42,7 +42,8 @@ fn run<'a>(alloc: Global) -> Result<Command<'a>, Memory>
     let folder = with(config, operand(alloc, "outdir"))?;
     let core = with(folder, choice(alloc, "core", "core"))?;
     let base = with(core, choice(alloc, "basedir", "."))?;
-    with(base, choice(alloc, "budget", "200000"))
+    let budget = with(base, choice(alloc, "budget", "200000"))?;
+    with(budget, choice(alloc, "jobs", "1"))
 }
 
 fn list<'a>(alloc: Global) -> Result<Command<'a>, Memory>

@@ -15,6 +15,8 @@ pub enum Line {
         basedir: Text,
         /// How many clauses each check may derive, from 1 to 1,000,000,000.
         budget: u64,
+        /// How many checks are judged beside each other, from 1 to 64.
+        jobs: u32,
     },
     /// `list CFG`: the names of the checks of a configuration.
     List {

@@ -1,5 +1,5 @@
 //! Words read as what they ask for.
-ghost use Rattle.std.specs.Prelude.{◌≡◌, None, IfOk, map, string_bytes, codes, option_and_then, option_map};
+ghost use Rattle.std.specs.Prelude.{◌≡◌, ◌<◌, None, IfOk, map, string_bytes, codes, option_and_then, option_map};
 ghost use Rattle.clap.specs.Words.{found_of, kind_of, subcommand_rows_of};
 ghost use Rattle.clap.specs.Walk.{first_of, rows_of};
 ghost use Rattle.rvf_words.specs.Line as line;
@@ -13,7 +13,10 @@ use fv_lines::number_up_to;
 use std::alloc::Global;
 
 /// The most clauses that a check may be allowed to derive.
-const MOST: u64 = 1_000_000_000;
+const MOST_CLAUSES: u64 = 1_000_000_000;
+
+/// The most checks that may be judged beside each other.
+const MOST_JOBS: u64 = 64;
 
 /// An argument's value, where it has one.
 fn value_of<'a>(matches: &ArgMatches<'a>, id: &str) -> Option<&'a str>
@@ -43,16 +46,34 @@ fn text_of(alloc: Global, matches: &ArgMatches<'_>, id: &str) -> Result<Option<T
     Ok(found)
 }
 
-/// The number of one to ten digits, where it is in the range of budgets.
-fn budget_of(digits: &str) -> Option<u64>
-    ensures { result ≡ line.budget_of digits.now }
+/// The number of one to ten digits, where it is from 1 to the most.
+fn count_of(digits: &str, most: u64) -> Option<u64>
+    requires { most < 1000000000000000000 }
+    ensures { result ≡ line.count_of most digits.now }
 {
     let bytes = digits.as_bytes();
     if bytes.len() > 10 {
         return None;
     }
-    let number = number_up_to(bytes, MOST)?;
+    let number = number_up_to(bytes, most)?;
     if number == 0 { None } else { Some(number) }
+}
+
+/// The number in the range of budgets.
+fn budget_of(digits: &str) -> Option<u64>
+    ensures { result ≡ line.budget_of digits.now }
+{
+    count_of(digits, MOST_CLAUSES)
+}
+
+/// The number in the range of jobs.
+fn jobs_of(digits: &str) -> Option<u32>
+    ensures { result ≡ line.jobs_of digits.now }
+{
+    match count_of(digits, MOST_JOBS) {
+        Some(jobs) => Some(jobs as u32),
+        None => None,
+    }
 }
 
 fn run_line(alloc: Global, matches: &ArgMatches<'_>) -> Result<Option<Line>, Memory>
@@ -76,12 +97,19 @@ fn run_line(alloc: Global, matches: &ArgMatches<'_>) -> Result<Option<Line>, Mem
     let Some(budget) = budget_of(digits) else {
         return Ok(None)
     };
+    let Some(digits) = value_of(matches, "jobs") else {
+        return Ok(None)
+    };
+    let Some(jobs) = jobs_of(digits) else {
+        return Ok(None)
+    };
     Ok(Some(Line::Run {
         cfg,
         outdir,
         core,
         basedir,
         budget,
+        jobs,
     }))
 }
 

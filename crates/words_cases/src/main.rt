@@ -20,11 +20,12 @@ fn asked(alloc: Global, line: &Line) -> Result<String> {
             core,
             basedir,
             budget,
+            jobs,
         } => {
             let (cfg, outdir) = (shown(cfg), shown(outdir));
             let (core, basedir) = (shown(core), shown(basedir));
             format!(in alloc;
-                "run [{cfg}] [{outdir}] core [{core}] basedir [{basedir}] budget {budget}"
+                "run [{cfg}] [{outdir}] core [{core}] basedir [{basedir}] budget {budget} jobs {jobs}"
             )?
         }
         Line::List { cfg } => format!(in alloc; "list [{}]", shown(cfg))?,

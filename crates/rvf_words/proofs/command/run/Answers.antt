@@ -16,6 +16,9 @@ core = with_rule folder (choice (codes "core") (codes "core"))
 abbrev base : App
 base = with_rule core (choice (codes "basedir") (codes "."))
 
+abbrev budget : App
+budget = with_rule base (choice (codes "budget") (codes "200000"))
+
 pub returns-clause-shape : goal.returns-clause-shape
 returns-clause-shape c =
     let config_is : app_of c.in_ok-config.config ≡ config =
@@ -26,4 +29,6 @@ returns-clause-shape c =
     c.in_ok-core.ensures.shape ∙ ap₂ with_rule folder_is c.choice.ensures.rule in
     let base_is : app_of c.in_ok-base.base ≡ base =
     c.in_ok-base.ensures.shape ∙ ap₂ with_rule core_is c.choice-2.ensures.rule in
-    IfOk-weaker c.with-5.result _ _ (λ m h. h ∙ ap₂ with_rule base_is c.choice-3.ensures.rule) c.with-5.ensures.shape
+    let budget_is : app_of c.in_ok-budget.budget ≡ budget =
+    c.in_ok-budget.ensures.shape ∙ ap₂ with_rule base_is c.choice-3.ensures.rule in
+    IfOk-weaker c.with-6.result _ _ (λ m h. h ∙ ap₂ with_rule budget_is c.choice-4.ensures.rule) c.with-6.ensures.shape
