@@ -1,6 +1,6 @@
 //! Cases of instructions.
 
-use crate::line::{number, opts, retire, short, value};
+use crate::line::{opts, retire, short, value};
 use anyhow::Result;
 use rv_table::{Effect, Isa, Retire, RowId, agrees, effect_of, expand, matches, row_name, row_of};
 use std::alloc::{AllocError, Global};

@@ -1,7 +1,7 @@
 use Rattle.std.proofs.Common.{drop}
 use Rattle.std.specs.List.{AllByRecursion}
 use Rattle.rvfi_port.specs.Ports.{AreChannelNodes}
-use Rattle.check_cases.proofs.port.has_channels.Given as goal
+use Rattle.check_answers.proofs.port.has_channels.Given as goal
 
 abbrev pub invariant-loop-channel : goal.invariant-loop-channel
 invariant-loop-channel l =
