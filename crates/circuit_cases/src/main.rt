@@ -1,20 +1,8 @@
-//! Cases of instructions, one a line: a row, the word, the values of the sources, the program counter and the word of
-//! memory in hexadecimal, and what the core may choose (`a` for aligned memory, `m` for alternative results of M, `c`
-//! for compressed instructions, `-` for none). A net plays a channel that shows these, and the answer is what the row's
-//! circuit shows, in the order of its nodes. Behind it stands a digit for the retirement that does all this, and for
-//! each of those that differ from it in one number: 1 where the node of agreement shows that it agrees. Last comes a
-//! digit for the effect itself: 1 where it is the one that the table of instructions has. Blank lines, and those that
-//! begin with `#`, are no cases.
+//! Cases of instructions, one a line of standard input, as `circuit_answers` reads them. The answer to each is a line.
+//! Blank lines, and those that begin with `#`, are no cases.
 #![tactic(auto)]
 
-mod case;
-mod channel;
-mod shown;
-
-use crate::case::case_of;
-use crate::shown::shown;
-use fv_base::Memory;
-use std::alloc::Global;
+use circuit_answers::answer;
 use std::io;
 
 fn main(rt: HostRuntime) -> io::Result<()> {
@@ -28,12 +16,4 @@ fn main(rt: HostRuntime) -> io::Result<()> {
         }
     }
     Ok(())
-}
-
-/// The answer to the case of a line.
-fn answer(alloc: Global, line: &str) -> Result<String, Memory> {
-    match case_of(line) {
-        Some(case) => shown(alloc, &case),
-        None => Ok(format!(in alloc; "no case {line:?}")?),
-    }
 }

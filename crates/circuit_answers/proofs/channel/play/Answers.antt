@@ -1,5 +1,5 @@
 use Rattle.wn_net.proofs.Laws.{adds_on, node_on}
-use Rattle.circuit_cases.proofs.channel.play.Goals as goal
+use Rattle.circuit_answers.proofs.channel.play.Goals as goal
 
 pub returns-clause-there : goal.returns-clause-there
 returns-clause-there c =

@@ -5,7 +5,7 @@ ghost use Rattle.std.specs.Prelude.{◌≡◌, ◌<◌, ◌^◌, IfOk};
 ghost use Rattle.wn_net.specs.Net.{IsNodeOf};
 ghost use Rattle.wn_net.specs.Changes.{AddsNodes};
 ghost use Rattle.rvfi_port.specs.Ports.{AreChannelNodes};
-ghost use Rattle.circuit_cases.specs.Parts as parts;
+ghost use Rattle.circuit_answers.specs.Parts as parts;
 
 use fv_base::Memory;
 use rv_table::Retire;

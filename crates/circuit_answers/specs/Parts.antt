@@ -1,9 +1,9 @@
 -- The widths of the nodes that a channel is made of (RISC-V Formal Interface).
 use Rattle.wn_net.specs.Net.{Netlist, IsNodeOf}
-use Rattle.circuit_cases.specs.declared.channel.Flags.{Flags}
-use Rattle.circuit_cases.specs.declared.channel.Numbers.{Numbers}
-use Rattle.circuit_cases.specs.declared.channel.Sources.{Sources}
-use Rattle.circuit_cases.specs.declared.channel.Results.{Results}
+use Rattle.circuit_answers.specs.declared.channel.Flags.{Flags}
+use Rattle.circuit_answers.specs.declared.channel.Numbers.{Numbers}
+use Rattle.circuit_answers.specs.declared.channel.Sources.{Sources}
+use Rattle.circuit_answers.specs.declared.channel.Results.{Results}
 
 pub record AreFlags (net : Netlist) (f : Flags) : Type 0 where
   pub order : IsNodeOf net 64 f.order
