@@ -1,14 +1,9 @@
-//! Reads lines of standard input, and prints what they say of sizes, signs, values and constants.
+//! Reads lines of standard input, and prints what they say of sizes, signs, values and constants, as `meaning_answers`
+//! reads them.
 #![tactic(auto)]
 
-mod bench;
-mod line;
-mod names;
-mod read;
-mod show;
-
-use crate::bench::Bench;
 use anyhow::Result;
+use meaning_answers::Bench;
 
 fn main(rt: HostRuntime) -> Result<()> {
     let alloc = rt.alloc();

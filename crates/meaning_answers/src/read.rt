@@ -9,7 +9,7 @@ use vl_token::lex;
 use vl_tree::{Expr, ItemKind, Source};
 
 /// The tree of a text, preprocessed with the macros, to which it may add. Where it is refused, the macros go.
-pub fn source_of(alloc: Global, macros: &mut Macros, text: &str) -> Result<Source> {
+pub(crate) fn source_of(alloc: Global, macros: &mut Macros, text: &str) -> Result<Source> {
     let Ok(tokens) = lex(alloc, text.as_bytes(), 1, 1) else {
         return Err(anyhow!("no tokens: {text}"));
     };
@@ -25,12 +25,12 @@ pub fn source_of(alloc: Global, macros: &mut Macros, text: &str) -> Result<Sourc
 }
 
 /// A text in which the expression stands on a line of its own, so that its columns are counted from 1.
-pub fn around(alloc: Global, expr: &str) -> Result<String> {
+pub(crate) fn around(alloc: Global, expr: &str) -> Result<String> {
     Ok(format!(in alloc; "module m; assign target =\n{expr}\n; endmodule")?)
 }
 
 /// The expression of such a text.
-pub fn expr_in(source: &Source) -> Result<&Expr> {
+pub(crate) fn expr_in(source: &Source) -> Result<&Expr> {
     for module in source.modules.as_slice() {
         for item in module.items.as_slice() {
             if let ItemKind::Assign(all) = &item.kind {

@@ -2,7 +2,7 @@
 
 /// A line of the cases, by its first word.
 #[derive(Clone, Copy)]
-pub enum Line<'a> {
+pub(crate) enum Line<'a> {
     /// `names ITEMS`: declarations and parameters, in place of those before.
     Names(&'a str),
     /// `count N`: N scalars `n0`, `n1` and so on are declared, in place of the names before.
@@ -33,7 +33,7 @@ fn number(text: &str) -> u32 {
     text.parse::<u32>().unwrap_or(0)
 }
 
-pub fn line_of(text: &str) -> Line<'_> {
+pub(crate) fn line_of(text: &str) -> Line<'_> {
     let (word, rest) = first_word(text);
     match word {
         "names" => Line::Names(rest),

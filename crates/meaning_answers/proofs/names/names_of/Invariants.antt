@@ -1,6 +1,6 @@
 use Rattle.std.specs.Prelude.{All}
 use Rattle.vl_size.specs.Table.{IsPlain}
-use Rattle.meaning_cases.proofs.names.names_of.Given as goal
+use Rattle.meaning_answers.proofs.names.names_of.Given as goal
 
 abbrev pub invariant-loop-module : goal.invariant-loop-module
 invariant-loop-module l = All IsPlain l.decls

@@ -9,7 +9,7 @@ fn sign(signed: bool) -> &'static str {
 }
 
 /// A size with a sign, or that there is none.
-pub fn size(alloc: Global, size: Option<u32>, signed: bool) -> Result<String, AllocError> {
+pub(crate) fn size(alloc: Global, size: Option<u32>, signed: bool) -> Result<String, AllocError> {
     match size {
         None => String::from_str(alloc, "none"),
         Some(width) => {
@@ -20,7 +20,7 @@ pub fn size(alloc: Global, size: Option<u32>, signed: bool) -> Result<String, Al
 }
 
 /// A constant with its size and sign.
-pub fn constant(alloc: Global, found: &Const) -> Result<String, AllocError> {
+pub(crate) fn constant(alloc: Global, found: &Const) -> Result<String, AllocError> {
     let width = found.width;
     let value = found.value;
     let sign = sign(found.signed);
@@ -33,7 +33,7 @@ fn at(alloc: Global, what: &str, pos: Pos) -> Result<String, AllocError> {
 }
 
 /// A refusal, with the column of its place.
-pub fn fault(alloc: Global, fault: &ConstFault) -> Result<String, AllocError> {
+pub(crate) fn fault(alloc: Global, fault: &ConstFault) -> Result<String, AllocError> {
     match fault {
         ConstFault::NotConstant(pos) => at(alloc, "not constant", *pos),
         ConstFault::ZeroDivisor(pos) => at(alloc, "zero divisor", *pos),

@@ -123,7 +123,7 @@ fn set_all(alloc: Global, params: &mut Params, all: &[Parameter]) -> Result<()> 
 }
 
 /// What the items of a text declare.
-pub fn names_of(alloc: Global, source: &Source) -> Result<(Decls, Params)> {
+pub(crate) fn names_of(alloc: Global, source: &Source) -> Result<(Decls, Params)> {
     let mut decls = Decls::new(alloc);
     let mut params = Params::new(alloc);
     for module in source.modules.as_slice() {
