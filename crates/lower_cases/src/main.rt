@@ -1,13 +1,9 @@
-//! Cases of lowering, one a line: a Verilog text, whose top module is `top` and is a design with an order. The answer is
-//! what its name `y` has in cycles 0 to 9 of the run in which all that is free is 0, or one number where it has the same in
-//! each. Blank lines, and those that begin with `#`, are no cases.
+//! Cases of lowering, one a line of standard input, as `lower_answers` reads them. The answer to each is a line. Blank
+//! lines, and those that begin with `#`, are no cases.
 #![tactic(auto)]
 
-mod lowered;
-mod shown;
-
-use crate::lowered::answer;
 use anyhow::Result;
+use lower_answers::answer;
 
 fn main(rt: HostRuntime) -> Result<()> {
     let alloc = rt.alloc();
