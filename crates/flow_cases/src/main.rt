@@ -1,13 +1,9 @@
-//! Cases of drivers, one a line: a Verilog text, whose top module is `top` and is a design. The answer is `ordered` where
-//! its drivers have an order, and else the refusal's number, its place, or `-` where it has none, and its other values, or
-//! `-`. Blank lines, and those that begin with `#`, are no cases.
+//! Cases of drivers, one a line of standard input, as `flow_answers` reads them. The answer to each is a line. Blank
+//! lines, and those that begin with `#`, are no cases.
 #![tactic(auto)]
 
-mod ordered;
-mod shown;
-
-use crate::ordered::answer;
 use anyhow::Result;
+use flow_answers::answer;
 
 fn main(rt: HostRuntime) -> Result<()> {
     let alloc = rt.alloc();
