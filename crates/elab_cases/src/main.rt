@@ -1,13 +1,9 @@
-//! Cases of modules, one a line: a Verilog text, whose top module is `top`. The answer is `design` where nothing is
-//! refused, and else the refusal's number, its place, or `-` where it has none, and its other values, or `-`. Blank
+//! Cases of modules, one a line of standard input, as `elab_answers` reads them. The answer to each is a line. Blank
 //! lines, and those that begin with `#`, are no cases.
 #![tactic(auto)]
 
-mod elaborated;
-mod shown;
-
-use crate::elaborated::answer;
 use anyhow::Result;
+use elab_answers::answer;
 
 fn main(rt: HostRuntime) -> Result<()> {
     let alloc = rt.alloc();

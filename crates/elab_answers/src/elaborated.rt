@@ -8,7 +8,8 @@ use vl_elab::{Reason, elaborate};
 use vl_parse::parse;
 use vl_token::lex;
 
-pub(crate) fn answer(alloc: Global, text: &str) -> Result<String> {
+/// The answer to the case of a text: `design`, or the refusal. An error is want of memory, or a text without a tree.
+pub fn answer(alloc: Global, text: &str) -> Result<String> {
     let tokens = lex(alloc, text.as_bytes(), 1, 1)?;
     let source = parse(alloc, tokens.as_slice())?;
     let top = Text::from_bytes(alloc, b"top")?;
