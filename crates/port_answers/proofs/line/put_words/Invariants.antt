@@ -1,5 +1,5 @@
-use Rattle.port_cases.specs.Listed.{AreListed}
-use Rattle.port_cases.proofs.line.put_words.Given as goal
+use Rattle.port_answers.specs.Listed.{AreListed}
+use Rattle.port_answers.proofs.line.put_words.Given as goal
 
 abbrev pub invariant-loop-word : goal.invariant-loop-word
 invariant-loop-word l = record {

@@ -1,9 +1,9 @@
 use Rattle.std.specs.Prelude.{List}
 use Rattle.std.proofs.Common.{sym, subst}
 use Rattle.wn_net.specs.declared.names.NetName.{NetName}
-use Rattle.port_cases.specs.Listed.{AreListed}
-use Rattle.port_cases.proofs.Names.{listed_none}
-use Rattle.port_cases.proofs.line.answer.Goals as goal
+use Rattle.port_answers.specs.Listed.{AreListed}
+use Rattle.port_answers.proofs.Names.{listed_none}
+use Rattle.port_answers.proofs.line.answer.Goals as goal
 
 pub put_words-requires : goal.put_words-requires
 put_words-requires c =

@@ -2,7 +2,7 @@
 #![tactic(auto, using(crate::proofs::Names::listed_none, crate::proofs::Names::listed_names))]
 
 ghost use Rattle.std.specs.Prelude.{OnOk};
-ghost use Rattle.port_cases.specs.Listed.{AreListed};
+ghost use Rattle.port_answers.specs.Listed.{AreListed};
 
 use crate::design::put_name;
 use crate::shown::{refused, shown};
@@ -70,8 +70,8 @@ fn put_words(
     Ok(whole)
 }
 
-/// What the port shows of the line's design, or its refusal.
-pub(crate) fn answer(alloc: Global, line: &str) -> Result<String, Memory> {
+/// The answer to the case of a line: what the port shows of its design, the refusal, or that the line is no case.
+pub fn answer(alloc: Global, line: &str) -> Result<String, Memory> {
     let mut words = line.split(' ');
     let channels = match words.next() {
         Some("2") => 2,

@@ -5,9 +5,9 @@ use Rattle.std.proofs.Common.{ap, sym, ◌∙◌, subst}
 use Rattle.wn_net.specs.declared.names.NetName.{NetName}
 use Rattle.wn_net.specs.declared.names.Place.TheVariants as place
 use Rattle.wn_net.proofs.Laws.{built_node}
-use Rattle.port_cases.specs.Listed.{AreListed}
-use Rattle.port_cases.proofs.Names.{listed_push}
-use Rattle.port_cases.proofs.design.put_name.Goals as goal
+use Rattle.port_answers.specs.Listed.{AreListed}
+use Rattle.port_answers.proofs.Names.{listed_push}
+use Rattle.port_answers.proofs.design.put_name.Goals as goal
 
 pub returns : goal.returns
 returns c =

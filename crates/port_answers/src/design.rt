@@ -4,7 +4,7 @@
 ghost use Rattle.std.specs.Prelude.{◌≡◌, OnOk};
 ghost use Rattle.std.specs.List.{list_any};
 ghost use Rattle.std.specs.Str.{bytes_eq};
-ghost use Rattle.port_cases.specs.Listed.{AreListed};
+ghost use Rattle.port_answers.specs.Listed.{AreListed};
 
 use fv_base::{List, Memory, Text, Word};
 use std::alloc::Global;

@@ -8,7 +8,7 @@ use Rattle.wn_net.specs.Net.{Netlist}
 use Rattle.wn_net.specs.Names.{IsNameOf, AreNamesOf}
 use Rattle.wn_net.specs.Changes.{AddsNodes}
 use Rattle.wn_net.proofs.Laws.{names_on}
-use Rattle.port_cases.specs.Listed.{AreListed}
+use Rattle.port_answers.specs.Listed.{AreListed}
 
 all_push : {X : Type 0} (P : X → Type 0) (xs : List X) (y : X) → AllByRecursion P xs → P y
     → AllByRecursion P (xs ++ y ∷ [])
