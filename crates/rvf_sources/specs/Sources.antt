@@ -1,0 +1,28 @@
+-- What a judgement on a design without hierarchy says of the design that the source writes. Rules of this project.
+use Rattle.std.specs.Prelude.{◌≡◌, ℕ, List}
+use Rattle.rv_table.specs.declared.retire.Opts.{Opts}
+use Rattle.vl_mean.specs.declared.flat.Flat.{Flat}
+use Rattle.vl_mean.specs.FlatParts.{flat_parts}
+use Rattle.vl_mean.specs.Parts.{Part}
+use Rattle.vl_same.specs.Flattened.{decls_of}
+use Rattle.vl_same.specs.SameMaps.{AreSameMaps}
+use Rattle.vl_draft.specs.Drawn.{IsDrawn}
+use Rattle.rvfi_port.specs.declared.port.Wants.{Wants}
+use Rattle.ck_cfg.specs.declared.check.Check.{Check}
+use Rattle.rvf_judge.specs.Judged.{IsJudged}
+use Rattle.rvf_judge.specs.declared.judged.Judged.{Judged}
+
+-- a judgement speaks of maps and of declarations alone
+abbrev pub JudgementsDependOnMaps : Type 0
+JudgementsDependOnMaps =
+    (ps qs : List Part) (channels : ℕ) (wants : Wants) (check : Check) (opts : Opts) (budget : ℕ) (judged : Judged)
+    → AreSameMaps ps qs → decls_of ps ≡ decls_of qs → IsJudged qs channels wants check opts budget judged
+    → IsJudged ps channels wants check opts budget judged
+
+-- so it is one on the design from which one without hierarchy is drawn that has the same maps
+abbrev pub JudgementsAreTheSources : Type 0
+JudgementsAreTheSources =
+    (ps : List Part) (flat : Flat) (channels : ℕ) (wants : Wants) (check : Check) (opts : Opts) (budget : ℕ)
+    (judged : Judged) → IsDrawn ps flat → AreSameMaps ps (flat_parts flat)
+    → IsJudged (flat_parts flat) channels wants check opts budget judged
+    → IsJudged ps channels wants check opts budget judged
