@@ -1,0 +1,98 @@
+-- There are few checks.
+use Rattle.std.proofs.Common.{◌≡◌, ℕ, ◌+◌, ◌^◌, ◌<◌, ◌≤◌, Bool, not, List, [], ◌∷◌, length, Option}
+use Rattle.std.proofs.Common.{Some, None, refl, sym, ◌∙◌, ap, subst, arith}
+use Rattle.std.specs.Prelude.{option_map, option_to_list}
+use Rattle.std.specs.List.{filter, flat_map, range_with_len}
+use Rattle.std.proofs.lemmas.List.{length-append, length-map}
+use Rattle.std.proofs.lemmas.List.Concat.{length-flat_map}
+use Rattle.std.proofs.lemmas.List.Filters.{length-filter_both}
+use Rattle.std.proofs.lemmas.List.Sums.{length-filter, count_by-le-length}
+use Rattle.rv_table.specs.declared.row.RowId.{RowId}
+use Rattle.rv_table.specs.Matching as matching
+use Rattle.ck_cfg.specs.declared.check.Check.{Check}
+use Rattle.ck_cfg.specs.declared.config.Config.{Config}
+use Rattle.ck_cfg.specs.declared.config.Depth.{Depth}
+use Rattle.ck_cfg.specs.declared.kind.CheckKind.{CheckKind}
+use Rattle.ck_cfg.specs.declared.kind.CheckKind.TheVariants.{Insn, Ill, Reg, PcFwd, PcBwd, Causal, Unique, Liveness}
+use Rattle.ck_cfg.specs.declared.kind.CheckKind.TheVariants.{Imem, Dmem}
+use Rattle.ck_cfg.specs.Checks.{channel_check, channel_checks, check_at, checks_of, depth_for, is_named, isa_rows}
+use Rattle.ck_cfg.specs.Checks.{kind_checks, kind_rows, listed_checks, moved}
+use Rattle.ck_cfg.specs.Kind.{kinds}
+use Rattle.rvf_case.specs.Steps.{factors_of, kept_for}
+use Rattle.rvf_case.specs.Texts.{is_same_text}
+
+-- what is kept of a list is no longer
+pub fewer : {X : Type 0} (p : X → Bool) (xs : List X) → length (filter p xs) ≤ length xs
+fewer p xs = subst (λ n. n ≤ length xs) (sym (length-filter p xs)) (count_by-le-length p xs)
+
+moved_count : (names : List (List ℕ)) (xs : List Check) → length (moved names xs) ≡ length xs
+moved_count [] xs = refl
+moved_count (n ∷ ns) xs =
+    length-append (filter (is_named n) xs) (moved ns (filter (λ x. not (is_named n x)) xs))
+    ∙ ap (λ k. length (filter (is_named n) xs) + k) (moved_count ns (filter (λ x. not (is_named n x)) xs))
+    ∙ length-filter_both (is_named n) (λ x. not (is_named n x)) (λ x. refl) xs
+
+one_each : {X Y : Type 0} (f : X → List Y) → ((x : X) → length (f x) ≤ 1) → (xs : List X)
+    → length (flat_map f xs) ≤ length xs
+one_each f h [] = omega arith
+one_each f h (x ∷ xs) =
+    let a = h x in
+    let b = one_each f h xs in
+    let e = length-append (f x) (flat_map f xs) in
+    omega arith
+
+one_channel : (depths : List Depth) (kind : CheckKind) (row : Option RowId) (channel : ℕ)
+    → length (channel_check depths kind row channel) ≤ 1
+one_channel depths kind row channel = step (depth_for depths kind channel) where
+  step : (o : Option Depth) → length (option_to_list (option_map (check_at kind row channel) o)) ≤ 1
+  step None = omega arith
+  step (Some d) = omega arith
+
+one_row : (c : Config) (kind : CheckKind) (row : Option RowId) → c.nret ≡ 1
+    → length (channel_checks c kind row) ≤ 1
+one_row c kind row e =
+    subst (λ n. length (flat_map (channel_check c.depths kind row) (range_with_len 0 n)) ≤ 1) (sym e)
+    (one_each (channel_check c.depths kind row) (one_channel c.depths kind row) (range_with_len 0 1))
+
+few_rows : (c : Config) (kind : CheckKind) → length (kind_rows c.isa kind) ≤ 70
+few_rows c Insn =
+    let e = length-map (isa_rows c.isa) (λ (row : RowId). Some row) in
+    let f = fewer (matching.has c.isa) matching.rows in
+    let n : length matching.rows ≡ 70 = refl in
+    omega arith
+few_rows c Ill = omega arith
+few_rows c Reg = omega arith
+few_rows c PcFwd = omega arith
+few_rows c PcBwd = omega arith
+few_rows c Causal = omega arith
+few_rows c Unique = omega arith
+few_rows c Liveness = omega arith
+few_rows c Imem = omega arith
+few_rows c Dmem = omega arith
+
+few_of_kind : (c : Config) → c.nret ≡ 1 → (kind : CheckKind) → length (kind_checks c kind) ≤ 70
+few_of_kind c e kind =
+    let a = one_each (channel_checks c kind) (λ row. one_row c kind row e) (kind_rows c.isa kind) in
+    let b = few_rows c kind in
+    omega arith
+
+ten_kinds : {Y : Type 0} (f : CheckKind → List Y) → ((kind : CheckKind) → length (f kind) ≤ 70)
+    → length (flat_map f kinds) ≤ 700
+ten_kinds f h =
+    let e = length-flat_map f kinds in
+    omega (arith, h Insn, h Ill, h Reg, h PcFwd, h PcBwd, h Causal, h Unique, h Liveness, h Imem, h Dmem)
+
+pub few_checks : (c : Config) → c.nret ≡ 1 → length (checks_of c) ≤ 700
+few_checks c e =
+    subst (λ n. n ≤ 700) (sym (moved_count c.sort (listed_checks c))) (ten_kinds (kind_checks c) (few_of_kind c e))
+
+pub few_factors : (c : Config) (kind : CheckKind) (checks : List Check) (factors : List ℕ) → c.nret ≡ 1
+    → checks ≡ checks_of c → factors ≡ factors_of (kept_for c kind checks) → length factors < 2 ^ 32
+few_factors c kind checks factors n e f =
+    let a : length factors ≡ length (kept_for c kind checks) =
+    ap length f ∙ length-map (kept_for c kind checks) (λ (x : Check). x.cycle + 1) in
+    let b : length (kept_for c kind checks) ≤ length checks = fewer (λ x. is_same_text c kind x.kind) checks in
+    let d : length checks ≤ 700 = subst (λ xs. length xs ≤ 700) (sym e) (few_checks c n) in
+    small (length factors) (length (kept_for c kind checks)) (length checks) a b d where
+      small : (a b d : ℕ) → a ≡ b → b ≤ d → d ≤ 700 → a < 2 ^ 32
+      small a b d e f g = omega arith

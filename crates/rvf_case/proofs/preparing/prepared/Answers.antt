@@ -1,0 +1,116 @@
+use Rattle.std.proofs.Common.{◌≡◌, ◌∙◌, ◌∷◌, ℕ, List, Err, ap, subst, rules}
+use Rattle.ck_cfg.specs.declared.config.Config.{Config}
+use Rattle.rvf_case.specs.Cases.{AreRead, Request, Seen, names_in, request_seen}
+use Rattle.rvf_case.specs.Steps.{Loads, ReadsFiles}
+use Rattle.rvf_case.specs.declared.refusal.Refusal.{Refusal}
+use Rattle.rvf_case.specs.declared.refusal.Refusal.TheVariants as refusal
+use Rattle.rvf_case.proofs.Files.{configuration_stops, files_stop, is_configured, no_less, read_earlier, same_in_turn}
+use Rattle.rvf_case.proofs.Files.{seen_from, stands}
+use Rattle.rvf_case.proofs.preparing.prepared.Goals as goal
+
+pub returns-in_err-config-clause-prepares : goal.returns-in_err-config-clause-prepares
+returns-in_err-config-clause-prepares g c =
+    let seen : Seen = record {
+      held = g.F.Files.held c.args.files.now;
+      misses = g.F.Files.misses c.args.files.now;
+      misses_now = g.F.Files.misses c.configured.new.files;
+      faults = g.F.Files.faults c.args.files.now;
+      faults_now = g.F.Files.faults c.configured.new.files;
+    } in
+    let left : c.from_residual.result ≡ Err c.in_err-config.field-0.0 = search rules in
+    rw left (configuration_stops c.in_err-config.field-0.0 (request_seen c.args.request) seen
+    c.in_err-config.ensures.configures)
+
+pub returns-in_err-names-clause-prepares : goal.returns-in_err-names-clause-prepares
+returns-in_err-names-clause-prepares g c =
+    let left : c.from_residual-in_err-names.result ≡ Err refusal.Memory = search rules in
+    rw left tt
+
+pub returns-in_err-texts-clause-prepares : goal.returns-in_err-texts-clause-prepares
+returns-in_err-texts-clause-prepares g c =
+    let seen : Seen = record {
+      held = g.F.Files.held c.args.files.now;
+      misses = g.F.Files.misses c.args.files.now;
+      misses_now = g.F.Files.misses c.read_files.new.files;
+      faults = g.F.Files.faults c.args.files.now;
+      faults_now = g.F.Files.faults c.read_files.new.files;
+    } in
+    let held = g.F.Files.held c.configured.new.files in
+    let misses = g.F.Files.misses c.configured.new.files in
+    let faults = g.F.Files.faults c.configured.new.files in
+    let f : Refusal = c.in_err-texts.field-0.0 in
+    let left : c.from_residual-in_err-texts.result ≡ Err f = search rules in
+    let names : c.as_slice.result.now ≡ names_in (request_seen c.args.request) c.in_ok-config.config =
+    c.as_slice.ensures ∙ c.in_ok-names.ensures in
+    rw left (files_stop f (request_seen c.args.request) seen c.in_ok-config.config held misses faults
+    (is_configured (request_seen c.args.request) seen.held c.in_ok-config.config c.in_ok-config.ensures.configures)
+    c.in_ok-config.ensures.kept c.in_ok-config.ensures.misses_grow c.in_ok-config.ensures.faults_grow
+    (subst (λ (ns : List (List ℕ)). ReadsFiles ns (seen_from seen held misses faults) (Err f)) names
+    c.in_err-texts.ensures.reads))
+
+pub returns-in_err-all-clause-prepares : goal.returns-in_err-all-clause-prepares
+returns-in_err-all-clause-prepares g c =
+    let left : c.from_residual-in_err-all.result ≡ Err refusal.Memory = search rules in
+    rw left tt
+
+pub returns-clause-prepares : goal.returns-clause-prepares
+returns-clause-prepares g c =
+    let r : Request = request_seen c.args.request in
+    let config : Config = c.in_ok-config.config in
+    let seen : Seen = record {
+      held = g.F.Files.held c.args.files.now;
+      misses = g.F.Files.misses c.args.files.now;
+      misses_now = g.F.Files.misses c.read_files.new.files;
+      faults = g.F.Files.faults c.args.files.now;
+      faults_now = g.F.Files.faults c.read_files.new.files;
+    } in
+    let held = g.F.Files.held c.configured.new.files in
+    let names : c.as_slice.result.now ≡ names_in r config = c.as_slice.ensures ∙ c.in_ok-names.ensures in
+    let all : c.in_ok-all.all ≡ r.cfg ∷ names_in r config =
+    c.in_ok-all.ensures ∙ ap (λ (ns : List (List ℕ)). r.cfg ∷ ns) c.in_ok-names.ensures in
+    stands c.case_of.result r seen config c.in_ok-texts.texts
+    (is_configured r seen.held config c.in_ok-config.ensures.configures)
+    (read_earlier seen.held held (names_in r config) c.in_ok-texts.texts c.in_ok-config.ensures.kept
+    (subst (λ (ns : List (List ℕ)). AreRead held ns c.in_ok-texts.texts) names c.in_ok-texts.ensures.reads))
+    (subst (λ (ns : List (List ℕ)). Loads ns config c.in_ok-texts.texts c.case_of.result) all
+    (subst (λ (fs : List (List ℕ)). Loads c.in_ok-all.all config fs c.case_of.result) c.as_slice-2.ensures
+    c.case_of.ensures.loads))
+
+pub returns-in_err-texts-clause-kept : goal.returns-in_err-texts-clause-kept
+returns-in_err-texts-clause-kept g c =
+    same_in_turn (g.F.Files.held c.args.files.now) (g.F.Files.held c.configured.new.files)
+    (g.F.Files.held c.read_files.new.files) c.in_ok-config.ensures.kept c.in_err-texts.ensures.kept
+
+pub returns-in_err-texts-clause-misses_grow : goal.returns-in_err-texts-clause-misses_grow
+returns-in_err-texts-clause-misses_grow g c =
+    no_less _ _ _ c.in_ok-config.ensures.misses_grow c.in_err-texts.ensures.misses_grow
+
+pub returns-in_err-texts-clause-faults_grow : goal.returns-in_err-texts-clause-faults_grow
+returns-in_err-texts-clause-faults_grow g c =
+    no_less _ _ _ c.in_ok-config.ensures.faults_grow c.in_err-texts.ensures.faults_grow
+
+pub returns-in_err-all-clause-kept : goal.returns-in_err-all-clause-kept
+returns-in_err-all-clause-kept g c =
+    same_in_turn (g.F.Files.held c.args.files.now) (g.F.Files.held c.configured.new.files)
+    (g.F.Files.held c.read_files.new.files) c.in_ok-config.ensures.kept c.in_ok-texts.ensures.kept
+
+pub returns-in_err-all-clause-misses_grow : goal.returns-in_err-all-clause-misses_grow
+returns-in_err-all-clause-misses_grow g c =
+    no_less _ _ _ c.in_ok-config.ensures.misses_grow c.in_ok-texts.ensures.misses_grow
+
+pub returns-in_err-all-clause-faults_grow : goal.returns-in_err-all-clause-faults_grow
+returns-in_err-all-clause-faults_grow g c =
+    no_less _ _ _ c.in_ok-config.ensures.faults_grow c.in_ok-texts.ensures.faults_grow
+
+pub returns-clause-kept : goal.returns-clause-kept
+returns-clause-kept g c =
+    same_in_turn (g.F.Files.held c.args.files.now) (g.F.Files.held c.configured.new.files)
+    (g.F.Files.held c.read_files.new.files) c.in_ok-config.ensures.kept c.in_ok-texts.ensures.kept
+
+pub returns-clause-misses_grow : goal.returns-clause-misses_grow
+returns-clause-misses_grow g c =
+    no_less _ _ _ c.in_ok-config.ensures.misses_grow c.in_ok-texts.ensures.misses_grow
+
+pub returns-clause-faults_grow : goal.returns-clause-faults_grow
+returns-clause-faults_grow g c =
+    no_less _ _ _ c.in_ok-config.ensures.faults_grow c.in_ok-texts.ensures.faults_grow

@@ -1,0 +1,198 @@
+-- What each step of the work comes to, for what stands above it. Rules of this project.
+use Rattle.std.specs.Prelude.{◌≡◌, ◌<◌, ℕ, ◌+◌, Bool, ◌&&◌, List, ◌∷◌, ◌++◌, length, map, slice_get, Some, Result, Ok, Err}
+use Rattle.std.specs.List.{AllByRecursion, filter, list_any}
+use Rattle.fv_base.specs.Outside.{Told, Lacks, ReadGives, Rose}
+use Rattle.fv_base.specs.declared.files.FileFault.{FileFault}
+use Rattle.fv_base.specs.declared.files.FileFault.TheVariants as file
+use Rattle.ck_cfg.specs.declared.check.Check.{Check}
+use Rattle.ck_cfg.specs.declared.config.Config.{Config}
+use Rattle.ck_cfg.specs.declared.config.KindPiece.{KindPiece}
+use Rattle.ck_cfg.specs.declared.fault.CfgFault.{CfgFault}
+use Rattle.ck_cfg.specs.declared.fault.CfgFault.TheVariants as cfg
+use Rattle.ck_cfg.specs.declared.kind.CheckKind.{CheckKind}
+use Rattle.ck_cfg.specs.Checks.{checks_of}
+use Rattle.ck_cfg.specs.Kind.{is_kind}
+use Rattle.ck_cfg.specs.Reading.{config_of}
+use Rattle.rvf_load.specs.Loads.{Answers, Asked, IsTheRefusal}
+use Rattle.rvf_load.specs.declared.fault.LoadFault.{LoadFault}
+use Rattle.rvf_load.specs.declared.fault.LoadFault.TheVariants as load
+use Rattle.rvf_case.specs.Cases.{AreRead, IsAbsent, IsConfigured, IsMisconfigured, IsUnread, Request, Seen, names_in}
+use Rattle.rvf_case.specs.Texts.{asked_for, is_same_text, leaders, sharing}
+use Rattle.rvf_case.specs.declared.case.Case.{Case}
+use Rattle.rvf_case.specs.declared.case.LoadedText.{LoadedText}
+use Rattle.rvf_case.specs.declared.loading.Stop.{Stop}
+use Rattle.rvf_case.specs.declared.loading.Stop.TheVariants as stop
+use Rattle.rvf_case.specs.declared.refusal.Refusal.{Refusal}
+use Rattle.rvf_case.specs.declared.refusal.Refusal.TheVariants as refusal
+
+-- ---- texts
+
+-- the bytes of those lines that are for a kind
+abbrev pub kind_lines : List KindPiece → CheckKind → List (List ℕ)
+kind_lines lines kind = map (λ x. x.piece.text) (filter (λ x. is_kind x.kind kind) lines)
+
+-- one of these kinds has the text of that kind
+abbrev pub has_same : Config → List CheckKind → CheckKind → Bool
+has_same c kinds kind = list_any (λ k. is_same_text c k kind) kinds
+
+-- of these checks those that have the text of a kind
+abbrev pub kept_for : Config → CheckKind → List Check → List Check
+kept_for c kind checks = filter (λ x. is_same_text c kind x.kind) checks
+
+-- one of these checks is of the wanted kind, and has the text of a kind
+abbrev pub has_asking : Config → CheckKind → CheckKind → List Check → Bool
+has_asking c kind wanted checks = list_any (λ x. is_kind x.kind wanted && is_same_text c kind x.kind) checks
+
+-- one more than the cycle of each check
+abbrev pub factors_of : List Check → List ℕ
+factors_of checks = map (λ x. x.cycle + 1) checks
+
+-- the check at this place has the name
+pub record IsNameAt (checks : List Check) (place : ℕ) (name : List ℕ) : Type 0 where
+  pub check : Check
+  pub there : slice_get checks place ≡ Some check
+  pub name_is : name ≡ check.name
+
+-- ---- files
+
+-- what a fault of a file becomes; memory may be wanted for the name
+abbrev pub Becomes : Refusal → FileFault → List ℕ → Type 0
+Becomes refusal.Memory fault name = Unit {0}
+Becomes (refusal.Absent other) file.Absent name = other ≡ name
+Becomes (refusal.Unread other) file.Failed name = other ≡ name
+Becomes f fault name = ⊥
+
+-- the file isn't held, which was counted
+pub record IsLacking (seen : Seen) (name : List ℕ) : Type 0 where
+  pub lacks : Lacks seen.held name
+  pub counted : Rose seen.misses seen.misses_now
+
+-- what reading one file comes to
+abbrev pub ReadsFile : List ℕ → Seen → Result (List ℕ) Refusal → Type 0
+ReadsFile name seen (Ok bytes) = ReadGives seen.held name bytes
+ReadsFile name seen (Err (refusal.Absent other)) = (other ≡ name) × IsLacking seen name
+ReadsFile name seen (Err (refusal.Unread other)) = (other ≡ name) × Rose seen.faults seen.faults_now
+ReadsFile name seen (Err refusal.Memory) = Unit {0}
+ReadsFile name seen (Err f) = ⊥
+
+-- of some files this one is next: those before it gave bytes
+pub record IsNextOf (held : Told) (names : List (List ℕ)) (name : List ℕ) : Type 0 where
+  pub before : List (List ℕ)
+  pub behind : List (List ℕ)
+  pub order : names ≡ before ++ name ∷ behind
+  pub files : List (List ℕ)
+  pub read : AreRead held before files
+
+-- what reading some files comes to
+abbrev pub ReadsFiles : List (List ℕ) → Seen → Result (List (List ℕ)) Refusal → Type 0
+ReadsFiles names seen (Ok files) = AreRead seen.held names files
+ReadsFiles names seen (Err (refusal.Absent name)) = IsNextOf seen.held names name × IsLacking seen name
+ReadsFiles names seen (Err (refusal.Unread name)) =
+    IsNextOf seen.held names name × Rose seen.faults seen.faults_now
+ReadsFiles names seen (Err refusal.Memory) = Unit {0}
+ReadsFiles names seen (Err f) = ⊥
+
+-- the refusal of a configuration
+abbrev pub of_config : CfgFault → Refusal
+of_config cfg.Memory = refusal.Memory
+of_config f = refusal.Config f
+
+-- the file of this name says the configuration
+pub record Says (name : List ℕ) (held : Told) (wanted : Result Config CfgFault) : Type 0 where
+  pub bytes : List ℕ
+  pub gives : ReadGives held name bytes
+  pub says : config_of bytes ≡ wanted
+
+-- what the file of a configuration comes to
+abbrev pub Configures : List ℕ → Seen → Result Config Refusal → Type 0
+Configures name seen (Ok c) = Says name seen.held (Ok c)
+Configures name seen (Err (refusal.Absent other)) = (other ≡ name) × IsLacking seen name
+Configures name seen (Err (refusal.Unread other)) = (other ≡ name) × Rose seen.faults seen.faults_now
+Configures name seen (Err (refusal.Config f)) = Says name seen.held (Err f)
+Configures name seen (Err refusal.Memory) = Unit {0}
+Configures name seen (Err f) = ⊥
+
+-- ---- loading
+
+-- why the text of a kind isn't loaded
+abbrev pub stop_of : CheckKind → LoadFault → Stop
+stop_of kind load.Memory = stop.Memory
+stop_of kind f = stop.Refused kind f
+
+-- what one text comes to, where the texts of kinds are those
+abbrev pub LoadsOne : (CheckKind → Asked) → CheckKind → Result LoadedText Stop → Type 0
+LoadsOne ask kind (Ok t) = (t.kind ≡ kind) × Answers (ask kind) (Ok t.loaded)
+LoadsOne ask kind (Err (stop.Refused other f)) = (other ≡ kind) × IsTheRefusal (ask kind) f
+LoadsOne ask kind (Err stop.Memory) = Unit {0}
+
+-- the texts of these kinds are loaded, and no part refuses one
+pub record AreLoadedInTurn (ask : CheckKind → Asked) (kinds : List CheckKind) (texts : List LoadedText) : Type 0 where
+  pub kinds_are : map (λ x. x.kind) texts ≡ kinds
+  pub each : AllByRecursion (λ x. Answers (ask x.kind) (Ok x.loaded)) texts
+
+-- the texts before that of this kind are loaded, and this one has this refusal and no other
+pub record StopsAt (ask : CheckKind → Asked) (kinds : List CheckKind) (kind : CheckKind) (f : LoadFault) : Type 0 where
+  pub before : List LoadedText
+  pub behind : List CheckKind
+  pub order : kinds ≡ map (λ x. x.kind) before ++ kind ∷ behind
+  pub each : AllByRecursion (λ x. Answers (ask x.kind) (Ok x.loaded)) before
+  pub refused : IsTheRefusal (ask kind) f
+
+-- what the texts of these kinds come to
+abbrev pub LoadsInTurn : (CheckKind → Asked) → List CheckKind → Result (List LoadedText) Stop → Type 0
+LoadsInTurn ask kinds (Ok texts) = AreLoadedInTurn ask kinds texts
+LoadsInTurn ask kinds (Err (stop.Refused kind f)) = StopsAt ask kinds kind f
+LoadsInTurn ask kinds (Err stop.Memory) = Unit {0}
+
+-- a design that is too heavy is that for one of these checks
+abbrev pub IsAtCheck : List Check → LoadFault → Type 0
+IsAtCheck checks (load.Heavy place product) = place < length checks
+IsAtCheck checks f = Unit {0}
+
+abbrev pub IsNotHeavy : LoadFault → Type 0
+IsNotHeavy (load.Heavy place product) = ⊥
+IsNotHeavy f = Unit {0}
+
+pub record IsLoadedCase (c : Config) (files : List (List ℕ)) (case : Case) : Type 0 where
+  pub config_is : case.config ≡ c
+  pub checks_are : case.checks ≡ checks_of c
+  pub loaded : AreLoadedInTurn (asked_for c files) (leaders c) case.texts
+
+pub record IsStopped (c : Config) (files : List (List ℕ)) (f : LoadFault) : Type 0 where
+  pub kind : CheckKind
+  pub stops : StopsAt (asked_for c files) (leaders c) kind f
+  pub light : IsNotHeavy f
+
+pub record IsStoppedHeavy (c : Config) (files : List (List ℕ)) (name : List ℕ) (number : ℕ) : Type 0 where
+  pub kind : CheckKind
+  pub place : ℕ
+  pub stops : StopsAt (asked_for c files) (leaders c) kind (load.Heavy place number)
+  pub named : IsNameAt (sharing c kind) place name
+
+-- what loading comes to, by the names of all files
+abbrev pub Loads : List (List ℕ) → Config → List (List ℕ) → Result Case Refusal → Type 0
+Loads names c files (Ok case) = IsLoadedCase c files case
+Loads names c files (Err (refusal.Source f others)) = IsStopped c files f × (others ≡ names)
+Loads names c files (Err (refusal.Heavy name number)) = IsStoppedHeavy c files name number
+Loads names c files (Err refusal.Memory) = Unit {0}
+Loads names c files (Err f) = ⊥
+
+-- ---- all of it
+
+-- configuration and files are read, and loading comes to this
+pub record Stands (r : Request) (held : Told) (result : Result Case Refusal) : Type 0 where
+  pub config : Config
+  pub configured : IsConfigured r held config
+  pub files : List (List ℕ)
+  pub read : AreRead held (names_in r config) files
+  pub loads : Loads (r.cfg ∷ names_in r config) config files result
+
+-- what the whole work comes to
+abbrev pub Prepares : Request → Seen → Result Case Refusal → Type 0
+Prepares r seen (Ok case) = Stands r seen.held (Ok case)
+Prepares r seen (Err (refusal.Absent name)) = IsAbsent r seen name
+Prepares r seen (Err (refusal.Unread name)) = IsUnread r seen name
+Prepares r seen (Err (refusal.Config f)) = IsMisconfigured r seen.held f
+Prepares r seen (Err (refusal.Source f names)) = Stands r seen.held (Err (refusal.Source f names))
+Prepares r seen (Err (refusal.Heavy name number)) = Stands r seen.held (Err (refusal.Heavy name number))
+Prepares r seen (Err refusal.Memory) = Unit {0}

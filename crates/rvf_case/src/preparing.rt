@@ -1,0 +1,104 @@
+//! From the names of a command line to the checks and what they are judged by.
+
+ghost use Rattle.std.specs.Prelude.{◌≡◌, ◌≤◌, ◌∷◌, Some, Result, IfOk};
+ghost use Rattle.fv_base.specs.Outside.{Names, SameFiles};
+ghost use Rattle.ck_cfg.specs.Files.{file_names_of};
+ghost use Rattle.rvf_case.specs.declared.case.Case.{Case as SpecCase};
+ghost use Rattle.rvf_case.specs.declared.refusal.Refusal.{Refusal as SpecRefusal};
+ghost use Rattle.rvf_case.specs.Cases.{Alike, Comes, IsReady, request_seen};
+ghost use Rattle.rvf_case.specs.Steps.{Prepares};
+
+use crate::case::Case;
+use crate::loading::case_of;
+use crate::reading::{configured, read_files};
+use crate::refusal::Refusal;
+use ck_cfg::{Config, file_names};
+use fv_base::{Files, List, Memory, Text};
+use std::alloc::Global;
+
+/// What a run is asked for that reads a configuration: its file, and the names that are put into the names of files.
+#[derive(Debug, Clone, Copy)]
+pub struct Request<'a> {
+    pub cfg: &'a [u8],
+    pub core: &'a [u8],
+    pub basedir: &'a [u8],
+}
+
+/// The names of the Verilog files.
+fn names_of(
+    alloc: Global,
+    config: &Config,
+    core: &[u8],
+    basedir: &[u8],
+) -> Result<List<Text>, Memory>
+    ensures { IfOk result (λ names. names ≡ file_names_of config.now core.now basedir.now) }
+{
+    let core_name = Text::from_bytes(alloc, core)?;
+    let folder = Text::from_bytes(alloc, basedir)?;
+    file_names(alloc, config, &core_name, &folder)
+}
+
+/// One more name in front of names.
+fn with_first(alloc: Global, first: &[u8], names: List<Text>) -> Result<List<Text>, Memory>
+    ensures { IfOk result (λ all. all ≡ first.now ∷ names) }
+{
+    let mut all = names.into_vec();
+    all.insert(0, Text::from_bytes(alloc, first)?)?;
+    Ok(List::from_vec(all))
+}
+
+/// What `prepare` answers.
+fn prepared<F: Files>(alloc: Global, request: Request<'_>, files: &mut F) -> Result<Case, Refusal>
+    ensures prepares { Prepares (request_seen request.entry)
+        (record {
+          held = F.held files.old;
+          misses = F.misses files.old;
+          misses_now = F.misses files.new;
+          faults = F.faults files.old;
+          faults_now = F.faults files.new;
+        }) result }
+    ensures ready { IfOk result (λ case. IsReady case) }
+    ensures kept { SameFiles (F.held files.old) (F.held files.new) }
+    ensures misses_grow { F.misses files.old ≤ F.misses files.new }
+    ensures faults_grow { F.faults files.old ≤ F.faults files.new }
+{
+    let config = configured(alloc, request.cfg, files)?;
+    let names = names_of(alloc, &config, request.core, request.basedir)?;
+    let texts = read_files(alloc, names.as_slice(), files)?;
+    let all = with_first(alloc, request.cfg, names)?;
+    case_of(alloc, config, all, texts.as_slice())
+}
+
+/// The checks of a configuration and what they are judged by; or the first cause in the order of work why they aren't.
+///
+/// The configuration is read, then its Verilog files, in the order of their lines; then each distinct text is loaded
+/// once, in the order of their first checks. Nothing is written.
+pub fn prepare<F: Files>(
+    alloc: Global,
+    request: Request<'_>,
+    files: &mut F,
+) -> Result<Case, Refusal>
+    ensures comes { Comes (request_seen request.entry)
+        (record {
+          held = F.held files.old;
+          misses = F.misses files.old;
+          misses_now = F.misses files.new;
+          faults = F.faults files.old;
+          faults_now = F.faults files.new;
+        }) result }
+    ensures exact { (names : Names) → F.held files.old ≡ Some names → (other : Result SpecCase SpecRefusal)
+        → Comes (request_seen request.entry)
+        (record {
+          held = Some names;
+          misses = F.misses files.old;
+          misses_now = F.misses files.new;
+          faults = F.faults files.old;
+          faults_now = F.faults files.new;
+        }) other → Alike result other }
+    ensures ready { IfOk result (λ case. IsReady case) }
+    ensures kept { SameFiles (F.held files.old) (F.held files.new) }
+    ensures misses_grow { F.misses files.old ≤ F.misses files.new }
+    ensures faults_grow { F.faults files.old ≤ F.faults files.new }
+{
+    prepared(alloc, request, files)
+}
