@@ -1,0 +1,7 @@
+use Rattle.std.proofs.Common.{◌≡◌, ◌++◌, drop}
+use Rattle.rvf_lines.specs.Printed.{more_values}
+use Rattle.rvf_lines.proofs.word.put_values.Given as goal
+
+abbrev pub invariant-loop-value : goal.invariant-loop-value
+invariant-loop-value l =
+    l.made.items ++ more_values (drop l.value-index l.values) ≡ l.fn.made.items ++ more_values l.values
