@@ -1,5 +1,6 @@
 -- A net with its port is loaded.
-use Rattle.std.specs.Prelude.{◌≡◌, ℕ, ◌+◌, ◌≤◌, List, length, map, sum, Bool, true, false, None, Option, Some, Result, Ok, Err}
+use Rattle.std.specs.Prelude.{◌≡◌, ℕ, ◌+◌, ◌≤◌, List, length, map, sum, Bool, true, false}
+use Rattle.std.specs.Prelude.{None, Option, Some, Result, Ok, Err}
 use Rattle.std.proofs.Common.{sym, ◌∙◌, subst, true≢false}
 use Rattle.rv_table.specs.declared.retire.Opts.{Opts}
 use Rattle.vl_mean.specs.FlatParts.{flat_parts}
@@ -34,8 +35,8 @@ still_few old new adds few = record {
 }
 
 -- what is probed has its nodes
-has_imem : (old new : Netlist) (names : Names) (wanted : Bool) (probe : Option (ℕ × ℕ)) → IsImem old new names wanted probe
-    → wanted ≡ true → IsThere probe
+has_imem : (old new : Netlist) (names : Names) (wanted : Bool) (probe : Option (ℕ × ℕ))
+    → IsImem old new names wanted probe → wanted ≡ true → IsThere probe
 has_imem old new names true None h e = h
 has_imem old new names true (Some p) h e = tt
 has_imem old new names false None h e = absurd (true≢false (sym e))

@@ -8,7 +8,8 @@ use Rattle.rvf_load.proofs.loading.load.Goals as goal
 pub from_tree-requires-clause-formed : goal.from_tree-requires-clause-formed
 from_tree-requires-clause-formed c =
     let r : Reading = record { tree = c.in-Ok.tree; macros = held c.in-Ok.macros } in
-    are_modules r c.args.core (texts_seen c.args.texts.now) (lines_seen c.args.assumptions.now) c.in-Ok.ensures.exactly.is
+    are_modules r c.args.core (texts_seen c.args.texts.now) (lines_seen c.args.assumptions.now)
+    c.in-Ok.ensures.exactly.is
 
 pub returns-in-Ok : goal.returns-in-Ok
 returns-in-Ok c =
