@@ -18,7 +18,8 @@ pub fn run_jobs<R: Threads + Sync, J: Job>(
     first: u32,
     count: u32,
 ) -> Result<Vec<J::Answer>, Memory>
-    requires { first + count < 2 ^ 32 }
+    requires able { J.can_work job.now }
+    requires room { first + count < 2 ^ 32 }
     ensures { IfOk result (λ answers. AreAnswers (J.is_answer job.now) first count answers.items) }
 {
     all_done(alloc, results(rt, alloc, job, first, count)?)
@@ -32,7 +33,8 @@ fn results<R: Threads + Sync, J: Job>(
     first: u32,
     count: u32,
 ) -> Result<Vec<Result<J::Answer, Memory>>, Memory>
-    requires { first + count < 2 ^ 32 }
+    requires able { J.can_work job.now }
+    requires room { first + count < 2 ^ 32 }
     ensures len { IfOk result (λ results. length results.items ≡ count) }
     ensures each { IfOk result (λ results. (i : ℕ) (d : _) → i < count
         → IfOk (slice_index_or results.items i d) (λ answer. J.is_answer job.now (first + i) answer)) }
