@@ -1,0 +1,42 @@
+use Rattle.std.proofs.Common.{arith}
+use Rattle.fv_base.specs.declared.out.OutFault.TheVariants as out
+use Rattle.rvf_report.proofs.Standing.{breaks, concludes, cut_by, unless_broken, wants}
+use Rattle.rvf_report.proofs.reporting.conclude.Goals as goal
+
+pub returns-in-Ok : goal.returns-in-Ok
+returns-in-Ok g c =
+    record {
+      concluded = concludes c.args.case.now c.args.work.now.outdir.now c.args.work.now.budget c.status.result
+          c.in-Ok.counts _ _ c.status.ensures c.in-Ok.ensures.0;
+      misses_kept = c.in-Ok.ensures.1.misses;
+      faults_grow = omega (arith, c.in-Ok.ensures.1.faults);
+      out_faults_grow = omega (arith, c.in-Ok.ensures.1.out_faults);
+      quiet = unless_broken c.status.result c.in-Ok.counts _ c.status.ensures
+          (c.in-Ok.ensures.1.faults, c.in-Ok.ensures.1.out_faults);
+    }
+
+pub returns-in-Err-Failed : goal.returns-in-Err-Failed
+returns-in-Err-Failed g c =
+    let cut =
+    cut_by c.args.case.now c.args.work.now.outdir.now c.args.work.now.budget _ _ c.in-Err-Failed.field-0 out.Failed
+    c.in-Err-Failed.field-0-is c.in-Err-Failed.ensures in
+    record {
+      concluded = breaks c.args.case.now c.args.work.now.outdir.now c.args.work.now.budget _ _ cut;
+      misses_kept = cut.counts.misses;
+      faults_grow = cut.counts.faults;
+      out_faults_grow = cut.counts.out_faults;
+      quiet = tt;
+    }
+
+pub returns-in-Err-Memory : goal.returns-in-Err-Memory
+returns-in-Err-Memory g c =
+    let cut =
+    cut_by c.args.case.now c.args.work.now.outdir.now c.args.work.now.budget _ _ c.in-Err-Memory.field-0 out.Memory
+    c.in-Err-Memory.field-0-is c.in-Err-Memory.ensures in
+    record {
+      concluded = wants c.args.case.now c.args.work.now.outdir.now c.args.work.now.budget _ _ cut;
+      misses_kept = cut.counts.misses;
+      faults_grow = omega (arith, cut.counts.faults);
+      out_faults_grow = omega (arith, cut.counts.out_faults);
+      quiet = (cut.counts.faults, cut.counts.out_faults);
+    }
