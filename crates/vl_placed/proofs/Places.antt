@@ -48,7 +48,8 @@ use Rattle.vl_mean.specs.Walk.{turn_place}
 use Rattle.vl_mean.specs.Walk.{no_contents, turns, goes_on, next_turn, first_turn, turn_path, block_place}
 use Rattle.vl_mean.specs.Walk.{block_path, single_number, item_steps, items_steps, turn_steps, block_steps}
 use Rattle.vl_mean.specs.Walk.{module_contents}
-use Rattle.vl_placed.specs.Seen.{beside, inner, parts_of_seen, seen_step, seen_steps}
+use Rattle.vl_placed.specs.DriverPlaces.{places_of_step, places_of_steps}
+use Rattle.vl_placed.specs.Seen.{beside, inner, parts_of_seen, places_of_seen, seen_step, seen_steps}
 
 seen_append : (xs ys : List Step) → seen_steps (xs ++ ys) ≡ seen_steps xs ++ seen_steps ys
 seen_append xs ys = map-append seen_step xs ys
@@ -61,6 +62,10 @@ both xs xs' ys ys' h k = seen_append xs ys ∙ (λ i. h i ++ k i) ∙ sym (seen_
 pub parts_seen : (xs : List Step) → parts_of_steps xs ≡ parts_of_seen (seen_steps xs)
 parts_seen [] = refl
 parts_seen (x ∷ xs) = ap (λ ps. step_parts x ++ ps) (parts_seen xs)
+
+pub places_seen : (xs : List Step) → places_of_steps xs ≡ places_of_seen (seen_steps xs)
+places_seen [] = refl
+places_seen (x ∷ xs) = ap (λ ps. places_of_step x ++ ps) (places_seen xs)
 
 -- ---- modules that stand elsewhere
 

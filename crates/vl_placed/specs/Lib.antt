@@ -1,1 +1,2 @@
+pub mod DriverPlaces
 pub mod Seen

@@ -1,17 +1,22 @@
--- The parts of ports and of what is joined to them, from what is there as a design is written. IEEE 1364-2005, section
--- 12.3.
+-- The parts of ports and of what is joined to them, and the places of the drivers among these, from what is there as a
+-- design is written. IEEE 1364-2005, section 12.3.
 use Rattle.std.specs.Prelude.{ℕ, List, [], ◌∷◌, ◌++◌, Option, Some, None}
+use Rattle.fv_base.specs.declared.pos.Pos.{Pos}
 use Rattle.vl_tree.specs.declared.declaration.FullPort.{FullPort}
 use Rattle.vl_tree.specs.declared.declaration.NetKind.{NetKind}
+use Rattle.vl_tree.specs.declared.declaration.Port.{Port}
 use Rattle.vl_tree.specs.declared.declaration.PortKind.{PortKind}
 use Rattle.vl_tree.specs.declared.declaration.PortKind.TheVariants as port
 use Rattle.vl_tree.specs.declared.part.Connection.{Connection}
 use Rattle.vl_tree.specs.declared.source.Module.{Module}
 use Rattle.vl_tree.specs.Expr.{Expr}
 use Rattle.vl_size.specs.declared.decl.Decl.{Decl}
-use Rattle.vl_mean.specs.Declarations.{port_named, ports_of}
+use Rattle.vl_mean.specs.Declarations.{full_ports, port_named, ports_of}
 use Rattle.vl_mean.specs.Parts.{Part, declares_all, optional_value, port_kind, port_part}
 use Rattle.vl_mean.specs.Scopes.{Scope}
+use Rattle.vl_placed.specs.DriverPlaces.{all_at}
+use Rattle.vl_shape.specs.Objects.{port_text}
+use Rattle.vl_write.specs.Behind.{Placed}
 
 -- what an instance joins to a port of its module
 abbrev pub connection_parts : List Scope → List Scope → Module → Connection → List Part
@@ -21,7 +26,24 @@ abbrev pub all_connection_parts : List Scope → List Scope → Module → List 
 all_connection_parts ss inside m [] = []
 all_connection_parts ss inside m (x ∷ xs) = connection_parts ss inside m x ++ all_connection_parts ss inside m xs
 
+-- each at its connection
+abbrev pub connection_places : List Scope → List Scope → Module → List Connection → List Pos
+connection_places ss inside m [] = []
+connection_places ss inside m (x ∷ xs) =
+    all_at x.pos (connection_parts ss inside m x) ++ connection_places ss inside m xs
+
+abbrev pub placed_connections : List Scope → List Scope → Module → List Connection → Placed
+placed_connections ss inside m xs = record {
+  parts = all_connection_parts ss inside m xs;
+  places = connection_places ss inside m xs;
+}
+
 -- ---- ports
+
+-- the kind of a port, if it is one
+abbrev pub kind_of : Option FullPort → Option NetKind
+kind_of None = None
+kind_of (Some p) = Some (port_kind p.net)
 
 -- of a port behind one of this kind, which one that is written short takes
 abbrev pub next_net : Option NetKind → PortKind → Option NetKind
@@ -54,3 +76,17 @@ all_port_parts ss path [] ps = []
 all_port_parts ss path (d ∷ ds) [] = []
 all_port_parts ss path (d ∷ ds) (p ∷ ps) =
     port_parts ss path (d ∷ []) (port_kind p.net) p.name p.value ++ all_port_parts ss path ds ps
+
+-- the values of ports that are written behind one of this kind, each at its port
+abbrev pub port_places : List Scope → List ℕ → List Decl → Option NetKind → List Port → List Pos
+port_places ss path ds last [] = []
+port_places ss path ds last (p ∷ ps) =
+    let net = next_net last p.kind in
+    all_at p.pos (first_parts ss path ds net (port_text p.kind) (port_value p.kind))
+    ++ port_places ss path (behind_first net ds) net ps
+
+abbrev pub placed_ports : List Scope → List ℕ → List Decl → List Port → Placed
+placed_ports ss path ds ps = record {
+  parts = all_port_parts ss path ds (full_ports None ps);
+  places = port_places ss path ds None ps;
+}

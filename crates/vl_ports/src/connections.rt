@@ -22,7 +22,8 @@ fn write_connection(
     draft: &mut Draft,
 ) -> Result<(), Memory>
     ensures { OnOk result ((m : SpecModule) → AreDirectionsOf ports.now m
-        → behind.StandBehind draft.old (spec.connection_parts scopes.now inside.now m given.now) draft.new) }
+        → behind.StandBehind draft.old
+        (behind.placed_at given.now.pos (spec.connection_parts scopes.now inside.now m given.now)) draft.new) }
 {
     let direction = ports.direction(&given.port);
     write_joined(
@@ -49,7 +50,7 @@ pub fn write_connections(
     draft: &mut Draft,
 ) -> Result<(), Memory>
     ensures { OnOk result ((m : SpecModule) → AreDirectionsOf ports.now m
-        → behind.StandBehind draft.old (spec.all_connection_parts scopes.now inside.now m all.now) draft.new) }
+        → behind.StandBehind draft.old (spec.placed_connections scopes.now inside.now m all.now) draft.new) }
 {
     for given in all {
         write_connection(alloc, ports, given, scopes, inside, draft)?;

@@ -64,8 +64,9 @@ fn write_port(
 ) -> Result<(), Memory>
     requires { behind.MayStandBehind draft.old (spec.port_parts scopes.now path.now decls.now net
         (objects.port_text port.now.kind) (spec.port_value port.now.kind)) }
-    ensures { OnOk result (behind.StandBehind draft.old (spec.port_parts scopes.now path.now decls.now net
-        (objects.port_text port.now.kind) (spec.port_value port.now.kind)) draft.new) }
+    ensures { OnOk result (behind.StandBehind draft.old (behind.placed_at port.now.pos
+        (spec.port_parts scopes.now path.now decls.now net (objects.port_text port.now.kind)
+        (spec.port_value port.now.kind))) draft.new) }
 {
     write_declarations(alloc, path, decls, draft)?;
     let name = port_text(&port.kind);
@@ -86,8 +87,9 @@ fn write_first<'a>(
     requires { behind.MayStandBehind draft.old (spec.first_parts scopes.now path.now decls.now net
         (objects.port_text port.now.kind) (spec.port_value port.now.kind)) }
     ensures rest { IfOk result (λ rest. rest.now ≡ spec.behind_first net decls.now) }
-    ensures written { OnOk result (behind.StandBehind draft.old (spec.first_parts scopes.now path.now decls.now net
-        (objects.port_text port.now.kind) (spec.port_value port.now.kind)) draft.new) }
+    ensures written { OnOk result (behind.StandBehind draft.old (behind.placed_at port.now.pos
+        (spec.first_parts scopes.now path.now decls.now net (objects.port_text port.now.kind)
+        (spec.port_value port.now.kind))) draft.new) }
 {
     match net {
         None => Ok(decls),
@@ -102,9 +104,9 @@ fn write_first<'a>(
     }
 }
 
-/// Writes ports in order, each with the value that it is declared with (IEEE 1364-2005, section 12.3.3). `decls`: what
-/// the ports declare: one for each, but none for a port that is written short before any other. `path`: that of the
-/// module, `scopes`: its scopes.
+/// Writes ports in order, each with the value that it is declared with, at its place (IEEE 1364-2005, section 12.3.3).
+/// `decls`: what the ports declare: one for each, but none for a port that is written short before any other. `path`:
+/// that of the module, `scopes`: its scopes.
 pub fn write_ports(
     alloc: Global,
     all: &[Port],
@@ -116,7 +118,7 @@ pub fn write_ports(
     requires { behind.MayStandBehind draft.old
         (spec.all_port_parts scopes.now path.now decls.now (declarations.full_ports None all.now)) }
     ensures { OnOk result (behind.StandBehind draft.old
-        (spec.all_port_parts scopes.now path.now decls.now (declarations.full_ports None all.now)) draft.new) }
+        (spec.placed_ports scopes.now path.now decls.now all.now) draft.new) }
 {
     let mut last = None;
     let mut rest = decls;

@@ -14,11 +14,12 @@ use Rattle.vl_same.specs.FullNames.{flat_expr, flat_lval, flat_stmt}
 use Rattle.vl_same.proofs.EachOf.{front, back}
 use Rattle.vl_same.proofs.LaidScopes.{decls_append}
 use Rattle.vl_names.proofs.Contained.{or_first, or_second}
+use Rattle.vl_placed.specs.DriverPlaces.{places_of}
 use Rattle.vl_draft.specs.Drawn.{drivers_of, starts_of}
 use Rattle.vl_draft.specs.Ends.{EndsPlain}
 use Rattle.vl_draft.specs.Written.{Written}
 use Rattle.vl_start.specs.Begins.{Begins}
-use Rattle.vl_write.specs.Behind.{MayStandBehind, StandBehind, kinds_of}
+use Rattle.vl_write.specs.Behind.{MayStandBehind, Placed, StandBehind, followed_by, kinds_of, unplaced}
 
 drivers_append : (ps qs : List Part) → drivers_of (ps ++ qs) ≡ drivers_of ps ++ drivers_of qs
 drivers_append [] qs = refl
@@ -41,10 +42,11 @@ starts_append (starts ss l e ∷ ps) qs =
 
 -- ---- what is written
 
-pub nothing_more : (w : Written) → StandBehind w [] w
+pub nothing_more : (w : Written) → StandBehind w (unplaced []) w
 nothing_more w = record {
   decls_are = sym (append-nil w.decls);
   drivers_are = sym (append-nil (kinds_of w.drivers));
+  places_are = sym (append-nil (places_of w.drivers));
   starts_are = sym (append-nil w.starts);
 }
 
@@ -52,16 +54,21 @@ joined_on : {A : Type 0} (us ws vs xs ys zs : List A) → us ≡ vs ++ ys → vs
 joined_on us ws vs xs ys zs h k e =
     h ∙ ap (λ bs. bs ++ ys) k ∙ append_assoc ws xs ys ∙ ap (λ bs. ws ++ bs) (sym e)
 
-pub both_behind : (w v u : Written) (ps qs : List Part) → StandBehind w ps v → StandBehind v qs u
-    → StandBehind w (ps ++ qs) u
-both_behind w v u ps qs h k = record {
-  decls_are = joined_on u.decls w.decls v.decls (decls_of ps) (decls_of qs) (decls_of (ps ++ qs)) k.decls_are
-      h.decls_are (decls_append ps qs);
-  drivers_are = joined_on (kinds_of u.drivers) (kinds_of w.drivers) (kinds_of v.drivers) (drivers_of ps) (drivers_of qs)
-      (drivers_of (ps ++ qs)) k.drivers_are h.drivers_are (drivers_append ps qs);
-  starts_are = joined_on u.starts w.starts v.starts (starts_of ps) (starts_of qs) (starts_of (ps ++ qs)) k.starts_are
-      h.starts_are (starts_append ps qs);
-}
+pub both_behind : (w v u : Written) (xs ys : Placed) → StandBehind w xs v → StandBehind v ys u
+    → StandBehind w (followed_by xs ys) u
+both_behind w v u xs ys h k =
+    let ps = xs.parts in
+    let qs = ys.parts in
+    record {
+      decls_are = joined_on u.decls w.decls v.decls (decls_of ps) (decls_of qs) (decls_of (ps ++ qs)) k.decls_are
+          h.decls_are (decls_append ps qs);
+      drivers_are = joined_on (kinds_of u.drivers) (kinds_of w.drivers) (kinds_of v.drivers) (drivers_of ps)
+          (drivers_of qs) (drivers_of (ps ++ qs)) k.drivers_are h.drivers_are (drivers_append ps qs);
+      places_are = joined_on (places_of u.drivers) (places_of w.drivers) (places_of v.drivers) xs.places ys.places
+          (xs.places ++ ys.places) k.places_are h.places_are refl;
+      starts_are = joined_on u.starts w.starts v.starts (starts_of ps) (starts_of qs) (starts_of (ps ++ qs))
+          k.starts_are h.starts_are (starts_append ps qs);
+    }
 
 -- ---- what may be written
 
@@ -106,14 +113,16 @@ may_front w ps qs h = record {
   begun = front Begins ps qs h.begun;
 }
 
-pub may_back : (w v : Written) (ps qs : List Part) → MayStandBehind w (ps ++ qs) → StandBehind w ps v
-    → MayStandBehind v qs
-may_back w v ps qs h k = record {
-  different = subst AreDifferent (append_both w ps qs ∙ ap (λ ds. ds ++ decls_of qs) (sym k.decls_are)) h.different;
-  ended = back EndsPlain (decls_of ps) (decls_of qs) (subst (Each EndsPlain) (decls_append ps qs) h.ended);
-  shaped = back IsShaped (decls_of ps) (decls_of qs) (subst (Each IsShaped) (decls_append ps qs) h.shaped);
-  begun = back Begins ps qs h.begun;
-}
+pub may_back : (w v : Written) (xs : Placed) (qs : List Part) → MayStandBehind w (xs.parts ++ qs)
+    → StandBehind w xs v → MayStandBehind v qs
+may_back w v xs qs h k =
+    let ps = xs.parts in
+    record {
+      different = subst AreDifferent (append_both w ps qs ∙ ap (λ ds. ds ++ decls_of qs) (sym k.decls_are)) h.different;
+      ended = back EndsPlain (decls_of ps) (decls_of qs) (subst (Each EndsPlain) (decls_append ps qs) h.ended);
+      shaped = back IsShaped (decls_of ps) (decls_of qs) (subst (Each IsShaped) (decls_append ps qs) h.shaped);
+      begun = back Begins ps qs h.begun;
+    }
 
 pub fresh : (w : Written) (d : Decl) (ps : List Part) → MayStandBehind w (declares d ∷ ps)
     → is_declared w.decls d.name ≡ false
@@ -122,25 +131,25 @@ fresh w d ps h = fresh_behind w.decls (decls_of ps) d h.different
 -- ---- in a loop: the parts from here on, of all that begin behind w
 
 -- what stands behind with the rest stands behind w with all
-pub record Rest (start : Written) (all : List Part) (w : Written) (rest : List Part) : Type 0 where
+pub record Rest (start : Written) (all : Placed) (w : Written) (rest : Placed) : Type 0 where
   pub joins : (v : Written) → StandBehind w rest v → StandBehind start all v
 
-pub rest_first : (w : Written) (all : List Part) → Rest w all w all
+pub rest_first : (w : Written) (all : Placed) → Rest w all w all
 rest_first w all = record { joins = λ v h. h }
 
-pub rest_next : (start : Written) (all : List Part) (w v : Written) (rest ps qs : List Part) → Rest start all w rest
-    → rest ≡ ps ++ qs → StandBehind w ps v → Rest start all v qs
-rest_next start all w v rest ps qs r e h = record {
-  joins = λ u k. r.joins u (subst (λ ts. StandBehind w ts u) (sym e) (both_behind w v u ps qs h k));
+pub rest_next : (start : Written) (all : Placed) (w v : Written) (rest xs ys : Placed) → Rest start all w rest
+    → rest ≡ followed_by xs ys → StandBehind w xs v → Rest start all v ys
+rest_next start all w v rest xs ys r e h = record {
+  joins = λ u k. r.joins u (subst (λ ts. StandBehind w ts u) (sym e) (both_behind w v u xs ys h k));
 }
 
-pub rest_last : (start : Written) (all : List Part) (w : Written) (rest : List Part) → Rest start all w rest
-    → rest ≡ [] → StandBehind start all w
+pub rest_last : (start : Written) (all : Placed) (w : Written) (rest : Placed) → Rest start all w rest
+    → rest ≡ unplaced [] → StandBehind start all w
 rest_last start all w rest r e = r.joins w (subst (λ ts. StandBehind w ts w) (sym e) (nothing_more w))
 
 pub may_first : (w : Written) (rest ps qs : List Part) → MayStandBehind w rest → rest ≡ ps ++ qs → MayStandBehind w ps
 may_first w rest ps qs h e = may_front w ps qs (subst (MayStandBehind w) e h)
 
-pub may_next : (w v : Written) (rest ps qs : List Part) → MayStandBehind w rest → rest ≡ ps ++ qs
-    → StandBehind w ps v → MayStandBehind v qs
-may_next w v rest ps qs h e k = may_back w v ps qs (subst (MayStandBehind w) e h) k
+pub may_next : (w v : Written) (rest : List Part) (xs : Placed) (qs : List Part) → MayStandBehind w rest
+    → rest ≡ xs.parts ++ qs → StandBehind w xs v → MayStandBehind v qs
+may_next w v rest xs qs h e k = may_back w v xs qs (subst (MayStandBehind w) e h) k

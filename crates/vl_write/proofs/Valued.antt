@@ -23,7 +23,7 @@ use Rattle.vl_same.specs.FullNames.{flat_expr, flat_lval, flat_stmt}
 use Rattle.vl_draft.specs.Ends.{EndsPlain}
 use Rattle.vl_draft.specs.Written.{Written, with_decl, with_kind, with_start}
 use Rattle.vl_start.specs.Starts.{IsStart}
-use Rattle.vl_write.specs.Behind.{MayStandBehind, StandBehind}
+use Rattle.vl_write.specs.Behind.{MayStandBehind, StandBehind, placed_at, unplaced}
 use Rattle.vl_write.proofs.Standing.{fresh, nothing_more}
 use Rattle.vl_write.proofs.Single.{
   declared_behind,
@@ -51,7 +51,7 @@ pub under_shaped : (w : Written) (path : List ℕ) (d e : Decl) → e ≡ under 
 under_shaped w path d e h m = subst IsShaped (sym h) m.shaped.0
 
 pub under_behind : (w v : Written) (path : List ℕ) (d e : Decl) → e ≡ under path d → v ≡ with_decl w e
-    → StandBehind w (declares_all path (d ∷ [])) v
+    → StandBehind w (unplaced (declares_all path (d ∷ []))) v
 under_behind w v path d e h k = declared_behind w v (under path d) (k ∙ ap (with_decl w) h)
 
 -- ---- values
@@ -59,18 +59,18 @@ under_behind w v path d e h k = declared_behind w v (under path d) (k ∙ ap (wi
 pub wire_behind : (w v : Written) (p : Pos) (ss : List Scope) (kind : NetKind) (text : List ℕ) (l : Lval) (x : Expr)
     → kind ≡ net.Wire → l ≡ plain_target text
     → v ≡ with_kind w p (k.Assign (flat_lval ss l) (flat_expr ss x))
-    → StandBehind w (value_part ss kind text x ∷ []) v
+    → StandBehind w (placed_at p (value_part ss kind text x ∷ [])) v
 wire_behind w v p ss kind text l x h g e =
-    subst (λ n. StandBehind w (value_part ss n text x ∷ []) v) (sym h)
+    subst (λ n. StandBehind w (placed_at p (value_part ss n text x ∷ [])) v) (sym h)
     (equation_behind w v p ss (plain_target text) ss x
     (e ∙ ap (λ m. with_kind w p (k.Assign (flat_lval ss m) (flat_expr ss x))) g))
 
-pub reg_behind : (w v : Written) (ss : List Scope) (kind : NetKind) (text : List ℕ) (l : Lval) (x : Expr)
+pub reg_behind : (w v : Written) (p : Pos) (ss : List Scope) (kind : NetKind) (text : List ℕ) (l : Lval) (x : Expr)
     → kind ≡ net.Reg → l ≡ plain_target text
     → v ≡ with_start w (record { target = flat_lval ss l; value = start_value ss l x })
-    → StandBehind w (value_part ss kind text x ∷ []) v
-reg_behind w v ss kind text l x h g e =
-    subst (λ n. StandBehind w (value_part ss n text x ∷ []) v) (sym h)
+    → StandBehind w (placed_at p (value_part ss kind text x ∷ [])) v
+reg_behind w v p ss kind text l x h g e =
+    subst (λ n. StandBehind w (placed_at p (value_part ss n text x ∷ [])) v) (sym h)
     (start_behind w v ss (plain_target text) x
     (e ∙ ap (λ m. with_start w (record { target = flat_lval ss m; value = start_value ss m x })) g))
 
@@ -81,20 +81,21 @@ reg_begins w ss kind text l x h g m =
     = subst (λ n. MayStandBehind w (value_part ss n text x ∷ [])) h m in
     subst (λ t. IsStart ss t x) (sym g) at_reg.begun.0
 
-pub no_value : (w : Written) (ss : List Scope) (kind : NetKind) (text : List ℕ) (o : Option Expr) → o ≡ None
-    → StandBehind w (optional_value ss kind text o) w
-no_value w ss kind text o h =
-    subst (λ (v : Option Expr). StandBehind w (optional_value ss kind text v) w) (sym h) (nothing_more w)
+pub no_value : (w : Written) (p : Pos) (ss : List Scope) (kind : NetKind) (text : List ℕ) (o : Option Expr)
+    → o ≡ None → StandBehind w (placed_at p (optional_value ss kind text o)) w
+no_value w p ss kind text o h =
+    subst (λ (v : Option Expr). StandBehind w (placed_at p (optional_value ss kind text v)) w) (sym h) (nothing_more w)
 
 pub value_may : (w : Written) (ss : List Scope) (kind : NetKind) (text : List ℕ) (o : Option Expr) (x : Expr)
     → o ≡ Some x → MayStandBehind w (optional_value ss kind text o)
     → MayStandBehind w (value_part ss kind text x ∷ [])
 value_may w ss kind text o x h m = subst (λ v. MayStandBehind w (optional_value ss kind text v)) h m
 
-pub value_behind : (w v : Written) (ss : List Scope) (kind : NetKind) (text : List ℕ) (o : Option Expr) (x : Expr)
-    → o ≡ Some x → StandBehind w (value_part ss kind text x ∷ []) v
-    → StandBehind w (optional_value ss kind text o) v
-value_behind w v ss kind text o x h m = subst (λ u. StandBehind w (optional_value ss kind text u) v) (sym h) m
+pub value_behind : (w v : Written) (p : Pos) (ss : List Scope) (kind : NetKind) (text : List ℕ) (o : Option Expr)
+    (x : Expr) → o ≡ Some x → StandBehind w (placed_at p (value_part ss kind text x ∷ [])) v
+    → StandBehind w (placed_at p (optional_value ss kind text o)) v
+value_behind w v p ss kind text o x h m =
+    subst (λ u. StandBehind w (placed_at p (optional_value ss kind text u)) v) (sym h) m
 
 -- ---- blocks
 
@@ -104,13 +105,13 @@ is_edge kind = ⊥
 
 pub edge_behind : (w v : Written) (p : Pos) (ss : List Scope) (kind : EventKind) (text : List ℕ) (x : Stmt)
     → kind ≡ e.Posedge text → v ≡ with_kind w p (k.Clocked (flat_stmt ss x))
-    → StandBehind w (block_part ss kind x ∷ []) v
+    → StandBehind w (placed_at p (block_part ss kind x ∷ [])) v
 edge_behind w v p ss kind text x h g =
-    subst (λ n. StandBehind w (block_part ss n x ∷ []) v) (sym h) (clocked_behind w v p ss x g)
+    subst (λ n. StandBehind w (placed_at p (block_part ss n x ∷ [])) v) (sym h) (clocked_behind w v p ss x g)
 
 pub always_behind : (w v : Written) (p : Pos) (ss : List Scope) (kind : EventKind) (x : Stmt)
     → (is_edge kind → ⊥) → v ≡ with_kind w p (k.Comb (flat_stmt ss x))
-    → StandBehind w (block_part ss kind x ∷ []) v
+    → StandBehind w (placed_at p (block_part ss kind x ∷ [])) v
 always_behind w v p ss (e.Posedge text) x h g = absurd (h tt)
 always_behind w v p ss e.Bare x h g = combinational_behind w v p ss x g
 always_behind w v p ss e.Spaced x h g = combinational_behind w v p ss x g

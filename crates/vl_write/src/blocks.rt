@@ -19,7 +19,8 @@ pub fn write_assignments(
     scopes: &Scopes,
     draft: &mut Draft,
 ) -> Result<(), Memory>
-    ensures { OnOk result (spec.StandBehind draft.old (parts.assignments scopes.now all.now) draft.new) }
+    ensures { OnOk result
+        (spec.StandBehind draft.old (spec.placed_at pos (parts.assignments scopes.now all.now)) draft.new) }
 {
     for assignment in all {
         write_equation(
@@ -45,8 +46,8 @@ pub fn write_block(
     scopes: &Scopes,
     draft: &mut Draft,
 ) -> Result<(), Memory>
-    ensures { OnOk result
-        (spec.StandBehind draft.old (parts.block_part scopes.now event.now stmt.now ∷ []) draft.new) }
+    ensures { OnOk result (spec.StandBehind draft.old
+        (spec.placed_at pos (parts.block_part scopes.now event.now stmt.now ∷ [])) draft.new) }
 {
     match event {
         EventKind::Posedge(_) => write_clocked(alloc, pos, stmt, scopes, draft),
@@ -66,7 +67,8 @@ pub fn write_initial(
     draft: &mut Draft,
 ) -> Result<(), Memory>
     requires { spec.MayStandBehind draft.old (parts.initial_parts scopes.now stmt.now) }
-    ensures { OnOk result (spec.StandBehind draft.old (parts.initial_parts scopes.now stmt.now) draft.new) }
+    ensures { OnOk result
+        (spec.StandBehind draft.old (spec.unplaced (parts.initial_parts scopes.now stmt.now)) draft.new) }
 {
     match &stmt.kind {
         StmtKind::Begin(_, all) => write_all_initial(alloc, all.as_slice(), scopes, draft),
@@ -85,8 +87,8 @@ fn write_all_initial(
     draft: &mut Draft,
 ) -> Result<(), Memory>
     requires { spec.MayStandBehind draft.old (parts.all_initial_parts scopes.now (stmts all.now)) }
-    ensures { OnOk result
-        (spec.StandBehind draft.old (parts.all_initial_parts scopes.now (stmts all.now)) draft.new) }
+    ensures { OnOk result (spec.StandBehind draft.old
+        (spec.unplaced (parts.all_initial_parts scopes.now (stmts all.now))) draft.new) }
 {
     for stmt in all {
         write_initial(alloc, stmt, scopes, draft)?;

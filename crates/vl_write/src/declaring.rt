@@ -17,7 +17,8 @@ pub fn write_declarations(
     draft: &mut Draft,
 ) -> Result<(), Memory>
     requires { spec.MayStandBehind draft.old (declares_all path.now all.now) }
-    ensures { OnOk result (spec.StandBehind draft.old (declares_all path.now all.now) draft.new) }
+    ensures { OnOk result
+        (spec.StandBehind draft.old (spec.unplaced (declares_all path.now all.now)) draft.new) }
 {
     for decl in all {
         write_declaration(alloc, path, decl, draft)?;
@@ -32,7 +33,8 @@ fn write_declaration(
     draft: &mut Draft,
 ) -> Result<(), Memory>
     requires { spec.MayStandBehind draft.old (declares_all path.now (decl.now ∷ [])) }
-    ensures { OnOk result (spec.StandBehind draft.old (declares_all path.now (decl.now ∷ [])) draft.new) }
+    ensures { OnOk result
+        (spec.StandBehind draft.old (spec.unplaced (declares_all path.now (decl.now ∷ []))) draft.new) }
 {
     let decl = under(alloc, path, decl)?;
     draft.declare(decl)

@@ -5,7 +5,7 @@ ghost use Rattle.vl_mean.specs.Declarations.{declared_by};
 ghost use Rattle.vl_mean.specs.Parts as parts;
 ghost use Rattle.vl_mean.specs.Walk.{Place};
 ghost use Rattle.vl_write.specs.Behind as spec;
-ghost use Rattle.vl_write.specs.OwnParts.{own_parts};
+ghost use Rattle.vl_write.specs.OwnParts.{own_parts, own_placed, placed_values};
 
 use crate::blocks::{write_assignments, write_block, write_initial};
 use crate::declaring::write_declarations;
@@ -29,15 +29,15 @@ fn write_declared(
 ) -> Result<(), Memory>
     requires { spec.MayStandBehind draft.old
         (parts.declares_all path.now decls.now ++ parts.values_of scopes.now kind all.now) }
-    ensures { OnOk result (spec.StandBehind draft.old
-        (parts.declares_all path.now decls.now ++ parts.values_of scopes.now kind all.now) draft.new) }
+    ensures { OnOk result (spec.StandBehind draft.old (spec.followed_by
+        (spec.unplaced (parts.declares_all path.now decls.now)) (placed_values scopes.now kind all.now)) draft.new) }
 {
     write_declarations(alloc, path, decls, draft)?;
     write_values(alloc, kind, all, scopes, draft)
 }
 
-/// Writes the parts of an item by itself; what is in an instance, in a loop or in an `if` isn't of these. `path`: that
-/// of the innermost scope, `decls`: what the item declares, by the names that are written.
+/// Writes the parts of an item by itself, in their places; what is in an instance, in a loop or in an `if` isn't of
+/// these. `path`: that of the innermost scope, `decls`: what the item declares, by the names that are written.
 #[tactic(auto, using(crate::proofs::Standing::nothing_more))]
 pub fn write_item(
     alloc: Global,
@@ -49,7 +49,7 @@ pub fn write_item(
 ) -> Result<(), Memory>
     requires { spec.MayStandBehind draft.old (own_parts scopes.now path.now decls.now item.now) }
     ensures { OnOk result
-        (spec.StandBehind draft.old (own_parts scopes.now path.now decls.now item.now) draft.new) }
+        (spec.StandBehind draft.old (own_placed scopes.now path.now decls.now item.now) draft.new) }
 {
     let pos = item.pos;
     match &item.kind {

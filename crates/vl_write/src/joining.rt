@@ -47,8 +47,8 @@ fn write_input(
     inside: &Scopes,
     draft: &mut Draft,
 ) -> Result<(), Memory>
-    ensures { OnOk result (spec.StandBehind draft.old
-        (parts.connection_part scopes.now inside.now direction.Input port.now value.now) draft.new) }
+    ensures { OnOk result (spec.StandBehind draft.old (spec.placed_at pos
+        (parts.connection_part scopes.now inside.now direction.Input port.now value.now)) draft.new) }
 {
     if is_clock(value, scopes) {
         return Ok(());
@@ -67,8 +67,8 @@ fn write_output(
     inside: &Scopes,
     draft: &mut Draft,
 ) -> Result<(), Memory>
-    ensures { OnOk result (spec.StandBehind draft.old
-        (parts.connection_part scopes.now inside.now direction.Output port.now value.now) draft.new) }
+    ensures { OnOk result (spec.StandBehind draft.old (spec.placed_at pos
+        (parts.connection_part scopes.now inside.now direction.Output port.now value.now)) draft.new) }
 {
     let target = target_of(alloc, value)?;
     match target {
@@ -95,8 +95,8 @@ pub fn write_joined(
     inside: &Scopes,
     draft: &mut Draft,
 ) -> Result<(), Memory>
-    ensures { OnOk result (spec.StandBehind draft.old
-        (joined_part scopes.now inside.now direction port.now value.now) draft.new) }
+    ensures { OnOk result (spec.StandBehind draft.old (spec.placed_at pos
+        (joined_part scopes.now inside.now direction port.now value.now)) draft.new) }
 {
     match value {
         None => Ok(()),

@@ -2,6 +2,7 @@
 ghost use Rattle.std.specs.Prelude.{◌≡◌, ◌∷◌, [], IfOk, OnOk};
 ghost use Rattle.vl_mean.specs.Parts as parts;
 ghost use Rattle.vl_write.specs.Behind as spec;
+ghost use Rattle.vl_write.specs.OwnParts.{placed_values};
 
 use fv_base::{List, Memory, Pos, Text};
 use std::alloc::Global;
@@ -53,8 +54,8 @@ fn write_value(
     draft: &mut Draft,
 ) -> Result<(), Memory>
     requires { spec.MayStandBehind draft.old (parts.value_part scopes.now kind name.now value.now ∷ []) }
-    ensures { OnOk result
-        (spec.StandBehind draft.old (parts.value_part scopes.now kind name.now value.now ∷ []) draft.new) }
+    ensures { OnOk result (spec.StandBehind draft.old
+        (spec.placed_at pos (parts.value_part scopes.now kind name.now value.now ∷ [])) draft.new) }
 {
     let target = plain_target(alloc, name)?;
     match kind {
@@ -75,8 +76,8 @@ pub fn write_optional_value(
     draft: &mut Draft,
 ) -> Result<(), Memory>
     requires { spec.MayStandBehind draft.old (parts.optional_value scopes.now kind name.now value.now) }
-    ensures { OnOk result
-        (spec.StandBehind draft.old (parts.optional_value scopes.now kind name.now value.now) draft.new) }
+    ensures { OnOk result (spec.StandBehind draft.old
+        (spec.placed_at pos (parts.optional_value scopes.now kind name.now value.now)) draft.new) }
 {
     match value {
         None => Ok(()),
@@ -93,7 +94,7 @@ pub fn write_values(
     draft: &mut Draft,
 ) -> Result<(), Memory>
     requires { spec.MayStandBehind draft.old (parts.values_of scopes.now kind all.now) }
-    ensures { OnOk result (spec.StandBehind draft.old (parts.values_of scopes.now kind all.now) draft.new) }
+    ensures { OnOk result (spec.StandBehind draft.old (placed_values scopes.now kind all.now) draft.new) }
 {
     for name in all {
         write_optional_value(

@@ -3,7 +3,6 @@ use Rattle.std.specs.Prelude.{◌≡◌, refl, ℕ, zero, suc, ◌+◌, ◌-◌,
 use Rattle.std.specs.Prelude.{Bool, true, false, Option, Some, None, codes, if◌then◌else◌}
 use Rattle.std.specs.Option.{option_map}
 use Rattle.std.proofs.Common.{ap, sym, ◌∙◌, subst, arith}
-use Rattle.std.proofs.lemmas.List.{append-nil}
 use Rattle.fv_base.specs.declared.pos.Pos.{Pos}
 use Rattle.vl_tree.specs.declared.item.Block as declared
 use Rattle.vl_tree.specs.declared.item.ItemKind.TheVariants as k
@@ -30,7 +29,6 @@ use Rattle.vl_tree.specs.Item.{
   integer,
   items,
   more_items,
-  no_items,
   parameter,
   region,
   single,
@@ -44,19 +42,19 @@ use Rattle.vl_mean.specs.Declarations.{block_name, constructs, declared, declare
 use Rattle.vl_mean.specs.Parts.{item_parts}
 use Rattle.vl_mean.specs.Runs.{Each}
 use Rattle.vl_mean.specs.Scopes.{Scope, constant_in}
-use Rattle.vl_mean.specs.Walk.{Place, Step, block_path, goes_on, item, item_steps, items_steps, next_turn, turns}
+use Rattle.vl_mean.specs.Walk.{Place, Step, item, item_steps, items_steps, turns}
 use Rattle.vl_mean.specs.Walk.{turn_path, turn_place, unfolded, with_earlier}
 use Rattle.vl_refusal.specs.Meanings.{Names}
 use Rattle.vl_refusal.specs.Refused.{nowhere}
 use Rattle.vl_number.specs.Numbers.{HaveNumbers, holds}
-use Rattle.vl_placed.specs.Seen.{Seen, parts_of_seen, seen_step, seen_steps}
-use Rattle.vl_unfold.specs.Within.{block_items, chosen_block, chosen_steps, inner_steps, nested_if}
+use Rattle.vl_placed.specs.DriverPlaces.{item_places}
+use Rattle.vl_placed.specs.Seen.{Seen, parts_of_seen, places_of_seen, seen_step, seen_steps}
+use Rattle.vl_unfold.specs.Within.{block_items, chosen_block, chosen_steps, nested_if}
 use Rattle.vl_unfold.proofs.Inner.{if_steps, nested_item, own_and_inner, scope_items, turn_items}
 use Rattle.vl_draft.specs.Written.{Written}
-use Rattle.vl_write.specs.Behind.{MayStandBehind, StandBehind}
-use Rattle.vl_write.specs.OwnParts.{own_parts}
+use Rattle.vl_write.specs.Behind.{MayStandBehind, StandBehind, followed_by}
+use Rattle.vl_write.specs.OwnParts.{own_parts, own_placed}
 use Rattle.vl_write.proofs.Standing.{both_behind, may_back, may_front}
-use Rattle.vl_open.specs.Here.{around_of}
 use Rattle.vl_written.specs.Ready.{
   CanBeOpened,
   IsReady,
@@ -65,8 +63,8 @@ use Rattle.vl_written.specs.Ready.{
   inner_seen,
   item_seen,
   items_seen,
+  placed_seen,
   scope_seen,
-  turn_body,
   turn_seen,
 }
 use Rattle.vl_written.proofs.Places.{earlier_seen}
@@ -165,24 +163,32 @@ module _ (ms : List Module) (depth : ℕ) where
     parts =
         ap parts_of_seen (item_split x at n) ∙ ap (λ ps. ps ++ parts_of_seen (inner_seen ms depth x at n)) own
 
+    places : places_of_seen (item_seen ms depth x at n)
+        ≡ item_places at.scopes x ++ places_of_seen (inner_seen ms depth x at n)
+    places = ap places_of_seen (item_split x at n)
+
+    placed : placed_seen (item_seen ms depth x at n)
+        ≡ followed_by (own_placed at.scopes at.path ds x) (placed_seen (inner_seen ms depth x at n))
+    placed = λ i. record { parts = parts i; places = places i }
+
     pub own_may : MayStandBehind w (own_parts at.scopes at.path ds x)
     own_may =
         may_front w (own_parts at.scopes at.path ds x) (parts_of_seen (inner_seen ms depth x at n))
         (subst (MayStandBehind w) parts ready.may)
 
-    pub inner_ready : (v : Written) → StandBehind w (own_parts at.scopes at.path ds x) v
+    pub inner_ready : (v : Written) → StandBehind w (own_placed at.scopes at.path ds x) v
         → IsReady v (inner_seen ms depth x at n)
     inner_ready v h = record {
       openable = (subst (Each CanBeOpened) (item_split x at n) ready.openable).1;
-      may = may_back w v (own_parts at.scopes at.path ds x) (parts_of_seen (inner_seen ms depth x at n))
+      may = may_back w v (own_placed at.scopes at.path ds x) (parts_of_seen (inner_seen ms depth x at n))
           (subst (MayStandBehind w) parts ready.may) h;
     }
 
-    pub item_written : (v u : Written) → StandBehind w (own_parts at.scopes at.path ds x) v
+    pub item_written : (v u : Written) → StandBehind w (own_placed at.scopes at.path ds x) v
         → Writes v (inner_seen ms depth x at n) u → Writes w (item_seen ms depth x at n) u
     item_written v u h k =
-        subst (λ ps. StandBehind w ps u) (sym parts)
-        (both_behind w v u (own_parts at.scopes at.path ds x) (parts_of_seen (inner_seen ms depth x at n)) h k)
+        subst (λ ps. StandBehind w ps u) (sym placed)
+        (both_behind w v u (own_placed at.scopes at.path ds x) (placed_seen (inner_seen ms depth x at n)) h k)
 
   -- ---- items, one behind the other
 

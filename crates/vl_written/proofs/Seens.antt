@@ -2,26 +2,38 @@
 use Rattle.std.specs.Prelude.{◌≡◌, refl, List, [], ◌∷◌, ◌++◌, Result, Ok, Err, OnOk, IsErrAnd}
 use Rattle.std.proofs.Common.{ap, sym, ◌∙◌, subst, append_assoc}
 use Rattle.std.proofs.lemmas.List.{map-append}
-use Rattle.vl_mean.specs.Parts.{Part, parts_of_steps}
+use Rattle.vl_mean.specs.Parts.{parts_of_steps}
 use Rattle.vl_mean.specs.Runs.{Each}
 use Rattle.vl_mean.specs.Walk.{Step, connection, header, item, override, port}
 use Rattle.vl_same.specs.StepScopes.{StepScopes}
 use Rattle.vl_same.proofs.EachOf.{back, front}
-use Rattle.vl_placed.specs.Seen.{Seen, parts_of_seen, seen_step, seen_steps}
-use Rattle.vl_placed.proofs.Places.{parts_seen}
+use Rattle.vl_placed.specs.Seen.{Seen, parts_of_seen, places_of_seen, seen_step, seen_steps}
+use Rattle.vl_placed.proofs.Places.{parts_seen, places_seen}
 use Rattle.vl_draft.specs.Written.{Written}
 use Rattle.vl_openable.specs.Openable.{AreOpenable}
-use Rattle.vl_write.specs.Behind.{MayStandBehind, StandBehind}
+use Rattle.vl_write.specs.Behind.{MayStandBehind, StandBehind, followed_by, placed_steps}
 use Rattle.vl_write.proofs.Standing.{both_behind, may_back, may_front, nothing_more}
-use Rattle.vl_written.specs.Ready.{CanBeOpened, IsReady, Writes}
+use Rattle.vl_written.specs.Ready.{CanBeOpened, IsReady, Writes, placed_seen}
 
 pub seen_append : (xs ys : List Step) → seen_steps (xs ++ ys) ≡ seen_steps xs ++ seen_steps ys
 seen_append xs ys = map-append seen_step xs ys
 
-pub parts_append : (xs ys : List Seen) → parts_of_seen (xs ++ ys) ≡ parts_of_seen xs ++ parts_of_seen ys
+parts_append : (xs ys : List Seen) → parts_of_seen (xs ++ ys) ≡ parts_of_seen xs ++ parts_of_seen ys
 parts_append [] ys = refl
 parts_append (x ∷ xs) ys =
     ap (λ ps. x.parts ++ ps) (parts_append xs ys) ∙ sym (append_assoc x.parts (parts_of_seen xs) (parts_of_seen ys))
+
+places_append : (xs ys : List Seen) → places_of_seen (xs ++ ys) ≡ places_of_seen xs ++ places_of_seen ys
+places_append [] ys = refl
+places_append (x ∷ xs) ys =
+    ap (λ ps. x.places ++ ps) (places_append xs ys)
+    ∙ sym (append_assoc x.places (places_of_seen xs) (places_of_seen ys))
+
+pub placed_append : (xs ys : List Seen) → placed_seen (xs ++ ys) ≡ followed_by (placed_seen xs) (placed_seen ys)
+placed_append xs ys = λ i. record { parts = parts_append xs ys i; places = places_append xs ys i }
+
+pub steps_seen : (xs : List Step) → placed_steps xs ≡ placed_seen (seen_steps xs)
+steps_seen xs = λ i. record { parts = parts_seen xs i; places = places_seen xs i }
 
 -- ---- two, one behind the other
 
@@ -38,13 +50,13 @@ module _ (w : Written) (all xs ys : List Seen) (e : all ≡ xs ++ ys) where
   pub ready_second : (v : Written) → IsReady w all → Writes w xs v → IsReady v ys
   ready_second v h k = record {
     openable = back CanBeOpened xs ys (subst (Each CanBeOpened) e h.openable);
-    may = may_back w v (parts_of_seen xs) (parts_of_seen ys) (subst (MayStandBehind w) split h.may) k;
+    may = may_back w v (placed_seen xs) (parts_of_seen ys) (subst (MayStandBehind w) split h.may) k;
   }
 
   pub writes_both : (v u : Written) → Writes w xs v → Writes v ys u → Writes w all u
   writes_both v u h k =
-      subst (λ ps. StandBehind w ps u) (sym split)
-      (both_behind w v u (parts_of_seen xs) (parts_of_seen ys) h k)
+      subst (λ ps. StandBehind w ps u) (sym (ap placed_seen e ∙ placed_append xs ys))
+      (both_behind w v u (placed_seen xs) (placed_seen ys) h k)
 
 pub writes_nothing : (w : Written) (xs : List Seen) → xs ≡ [] → Writes w xs w
 writes_nothing w xs e = subst (λ ys. Writes w ys w) (sym e) (nothing_more w)
@@ -87,8 +99,8 @@ steps_ready w xs h m = record {
 }
 
 pub steps_written : (w v : Written) (xs : List Step) → Writes w (seen_steps xs) v
-    → StandBehind w (parts_of_steps xs) v
-steps_written w v xs h = subst (λ ps. StandBehind w ps v) (sym (parts_seen xs)) h
+    → StandBehind w (placed_steps xs) v
+steps_written w v xs h = subst (λ ps. StandBehind w ps v) (sym (steps_seen xs)) h
 
 -- ---- want of memory
 

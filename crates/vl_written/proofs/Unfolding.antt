@@ -1,15 +1,13 @@
 -- What is seen of instances, and of the modules in them.
 use Rattle.std.specs.Prelude.{◌≡◌, refl, ℕ, ◌-◌, ◌<◌, List, [], ◌∷◌, ◌++◌, length, codes, Option, Some, None}
-use Rattle.std.proofs.Common.{ap, sym, ◌∙◌, subst, append_assoc}
+use Rattle.std.proofs.Common.{ap, sym, ◌∙◌, subst}
 use Rattle.vl_tree.specs.declared.declaration.Port.{Port}
 use Rattle.vl_tree.specs.declared.part.Instance.{Instance}
 use Rattle.vl_tree.specs.declared.source.Module.{Module}
 use Rattle.vl_tree.specs.Item.{Item, items}
 use Rattle.vl_size.specs.declared.decl.Decl.{Decl}
 use Rattle.vl_mean.specs.Declarations.{declared, declared_ports, full_ports, ports_of}
-use Rattle.vl_mean.specs.Parts.{Part, parts_of_steps}
 use Rattle.vl_mean.specs.Runs.{Each}
-use Rattle.vl_mean.specs.Scopes.{Scope}
 use Rattle.vl_mean.specs.Walk.{
   Place,
   Step,
@@ -17,7 +15,6 @@ use Rattle.vl_mean.specs.Walk.{
   connection_steps,
   connections_of,
   header_steps,
-  instance_steps,
   items_steps,
   module_around,
   module_named,
@@ -29,7 +26,6 @@ use Rattle.vl_mean.specs.Walk.{
   port_steps,
   unfolded,
   use_of,
-  walk,
   with_earlier,
   with_module,
   written_ports,
@@ -44,19 +40,20 @@ use Rattle.vl_openable.specs.Openable.{IsOpenable}
 use Rattle.vl_open.specs.declared.modules.Opened.{Opened}
 use Rattle.vl_open.specs.Here.{around_of, place_in}
 use Rattle.vl_open.specs.Modules.{IsModuleOpened}
-use Rattle.vl_ports.specs.PortParts.{all_connection_parts, all_port_parts}
-use Rattle.vl_ports.proofs.StepParts.{connections_parts, header_parts, override_parts, ports_parts}
-use Rattle.vl_write.specs.Behind.{MayStandBehind, StandBehind}
+use Rattle.vl_ports.specs.PortParts.{placed_connections, placed_ports}
+use Rattle.vl_ports.proofs.StepParts.{placed_headers, placed_joins, placed_overrides, ports_parts, ports_places}
+use Rattle.vl_write.specs.Behind.{MayStandBehind, Placed, StandBehind, followed_by, placed_steps}
 use Rattle.vl_write.proofs.Standing.{both_behind, may_back, may_front}
 use Rattle.vl_written.specs.Ready.{CanBeOpened, IsReady, Writes, design_seen, instance_seen, items_seen, opened_seen}
-use Rattle.vl_written.specs.Ready.{place_of, top_use}
+use Rattle.vl_written.specs.Ready.{place_of, placed_seen, top_use}
 use Rattle.vl_written.proofs.Opening.{module_opens}
-use Rattle.vl_written.proofs.Seens.{parts_append, seen_append}
+use Rattle.vl_written.proofs.Seens.{placed_append, seen_append, steps_seen}
 
-steps_append : (xs ys : List Step) → parts_of_steps (xs ++ ys) ≡ parts_of_steps xs ++ parts_of_steps ys
+steps_append : (xs ys : List Step)
+    → placed_steps (xs ++ ys) ≡ followed_by (placed_steps xs) (placed_steps ys)
 steps_append xs ys =
-    placed.parts_seen (xs ++ ys) ∙ ap parts_of_seen (seen_append xs ys) ∙ parts_append (seen_steps xs) (seen_steps ys)
-    ∙ (λ i. sym (placed.parts_seen xs) i ++ sym (placed.parts_seen ys) i)
+    steps_seen (xs ++ ys) ∙ ap placed_seen (seen_append xs ys) ∙ placed_append (seen_steps xs) (seen_steps ys)
+    ∙ (λ i. followed_by (sym (steps_seen xs) i) (sym (steps_seen ys) i))
 
 ports_written : (o : Option (List Port)) → full_ports None (written_ports o) ≡ ports_of o
 ports_written None = refl
@@ -82,21 +79,29 @@ module _ (ms : List Module) (depth : ℕ) (m : Module) (u : Use) (path : List �
         ∙ (λ i. items_seen ms depth (items m.items)
         (place_in (sym is.scopes i) (sym is.path_is i) (sym is.names i)) 1)
 
-    ports_here : parts_of_steps ports ≡ all_port_parts o.here.scopes o.here.path o.ports (ports_of m.ports)
-    ports_here =
-        ports_parts (with_earlier at (parameter_names (module_parameters m))) u None (written_ports m.ports)
-        ∙ ap (λ ps. all_port_parts (module_scope m u path ∷ []) path
-        (declared_ports (module_around m u) u.is_top u.input ps) ps) (ports_written m.ports)
-        ∙ (λ i. all_port_parts (sym is.scopes i) (sym is.path_is i) (sym is.ports i) (ports_of m.ports))
+    declared_here : declared_ports (module_around m u) u.is_top u.input (full_ports None (written_ports m.ports))
+        ≡ o.ports
+    declared_here =
+        ap (declared_ports (module_around m u) u.is_top u.input) (ports_written m.ports) ∙ sym is.ports
 
-    pub module_parts : parts_of_seen (seen_steps (module_steps ms (unfolded depth ms) at m u))
-        ≡ parts_of_seen (opened_seen ms depth m o)
-    module_parts =
-        ap parts_of_seen (seen_append (headers ++ ports) rest)
-        ∙ parts_append (seen_steps (headers ++ ports)) (seen_steps rest)
-        ∙ (λ i. (sym (placed.parts_seen (headers ++ ports)) ∙ steps_append headers ports
-        ∙ ap (λ ps. ps ++ parts_of_steps ports) (header_parts at (module_parameters m)) ∙ ports_here) i
-        ++ parts_of_seen (items_here i))
+    ports_here : placed_steps ports
+        ≡ placed_ports o.here.scopes o.here.path o.ports (written_ports m.ports)
+    ports_here =
+        let there = with_earlier at (parameter_names (module_parameters m)) in
+        (λ i. record {
+          parts = ports_parts there u None (written_ports m.ports) i;
+          places = ports_places there u None (written_ports m.ports) i;
+        })
+        ∙ (λ i. placed_ports (sym is.scopes i) (sym is.path_is i) (declared_here i) (written_ports m.ports))
+
+    pub module_placed : placed_seen (seen_steps (module_steps ms (unfolded depth ms) at m u))
+        ≡ placed_seen (opened_seen ms depth m o)
+    module_placed =
+        ap placed_seen (seen_append (headers ++ ports) rest)
+        ∙ placed_append (seen_steps (headers ++ ports)) (seen_steps rest)
+        ∙ (λ i. followed_by ((sym (steps_seen (headers ++ ports)) ∙ steps_append headers ports
+        ∙ ap (λ ps. followed_by ps (placed_steps ports)) (placed_headers at (module_parameters m)) ∙ ports_here) i)
+        (placed_seen (items_here i)))
 
     pub module_openable : Each CanBeOpened (seen_steps (module_steps ms (unfolded depth ms) at m u))
         → Each CanBeOpened (opened_seen ms depth m o)
@@ -147,75 +152,77 @@ module _ (ms : List Module) (depth : ℕ) (x : Instance) (at : Place) where
           → IsOpenable (module_scope m u inside)
       instance_opens w h = module_opens ms (depth - 1) m u inside at.modules (openable w h)
 
-      fronts_are : parts_of_steps fronts
-          ≡ all_connection_parts at.scopes (module_scope m u inside ∷ []) m x.connections
+      fronts_are : placed_steps fronts ≡ placed_connections at.scopes (module_scope m u inside ∷ []) m x.connections
       fronts_are =
           let given = override_steps at m u [] (connections_of x.overrides) in
           let joined = connection_steps at m u (module_scope m u inside ∷ []) [] x.connections in
           steps_append given joined
-          ∙ ap (λ ps. ps ++ parts_of_steps joined) (override_parts at m u [] (connections_of x.overrides))
-          ∙ connections_parts at m u (module_scope m u inside ∷ []) [] x.connections
+          ∙ ap (λ ps. followed_by ps (placed_steps joined))
+          (placed_overrides at m u [] (connections_of x.overrides))
+          ∙ placed_joins at m u (module_scope m u inside ∷ []) [] x.connections
 
       module _ (o : Opened) (is : IsModuleOpened m u inside o) where
-        abbrev joins : List Part
-        joins = all_connection_parts at.scopes o.here.scopes m x.connections
+        abbrev joins : Placed
+        joins = placed_connections at.scopes o.here.scopes m x.connections
 
-        parts : parts_of_seen (instance_seen ms depth x at) ≡ joins ++ parts_of_seen (opened_seen ms (depth - 1) m o)
-        parts =
-            ap parts_of_seen both ∙ parts_append (seen_steps fronts) (seen_steps steps)
-            ∙ (λ i. (sym (placed.parts_seen fronts) ∙ fronts_are
-            ∙ ap (λ ss. all_connection_parts at.scopes ss m x.connections) (sym is.scopes)) i
-            ++ module_parts ms (depth - 1) m u inside at.modules o is i)
+        placed_instance : placed_seen (instance_seen ms depth x at)
+            ≡ followed_by joins (placed_seen (opened_seen ms (depth - 1) m o))
+        placed_instance =
+            ap placed_seen both ∙ placed_append (seen_steps fronts) (seen_steps steps)
+            ∙ (λ i. followed_by ((sym (steps_seen fronts) ∙ fronts_are
+            ∙ ap (λ ss. placed_connections at.scopes ss m x.connections) (sym is.scopes)) i)
+            (module_placed ms (depth - 1) m u inside at.modules o is i))
 
         pub opened_ready : (w v : Written) → IsReady w (instance_seen ms depth x at) → StandBehind w joins v
             → IsReady v (opened_seen ms (depth - 1) m o)
         opened_ready w v h k = record {
           openable = module_openable ms (depth - 1) m u inside at.modules o is (openable w h);
           may = may_back w v joins (parts_of_seen (opened_seen ms (depth - 1) m o))
-              (subst (MayStandBehind w) parts h.may) k;
+              (subst (MayStandBehind w) (ap (λ (xs : Placed). xs.parts) placed_instance) h.may) k;
         }
 
         pub instance_written : (w v t : Written) → StandBehind w joins v
             → Writes v (opened_seen ms (depth - 1) m o) t → Writes w (instance_seen ms depth x at) t
         instance_written w v t h k =
-            subst (λ ps. StandBehind w ps t) (sym parts)
-            (both_behind w v t joins (parts_of_seen (opened_seen ms (depth - 1) m o)) h k)
+            subst (λ ps. StandBehind w ps t) (sym placed_instance)
+            (both_behind w v t joins (placed_seen (opened_seen ms (depth - 1) m o)) h k)
 
 -- ---- a module that is opened
 
 module _ (ms : List Module) (depth : ℕ) (m : Module) (o : Opened) (ps : List Port) (ds : List Decl)
     (ps_are : ps ≡ written_ports m.ports) (ds_are : ds ≡ o.ports) where
-  abbrev port_parts : List Part
-  port_parts = all_port_parts o.here.scopes o.here.path ds (full_ports None ps)
+  abbrev ports_placed : Placed
+  ports_placed = placed_ports o.here.scopes o.here.path ds ps
 
   abbrev within : List Seen
   within = items_seen ms depth (items m.items) (place_of o.here) 1
 
-  two : parts_of_seen (opened_seen ms depth m o) ≡ port_parts ++ parts_of_seen within
+  two : placed_seen (opened_seen ms depth m o) ≡ followed_by ports_placed (placed_seen within)
   two = λ i.
-      all_port_parts o.here.scopes o.here.path (sym ds_are i) (sym (ap
-      (full_ports None) ps_are ∙ ports_written m.ports) i)
-      ++ parts_of_seen within
+      followed_by (placed_ports o.here.scopes o.here.path (sym ds_are i) (sym ps_are i)) (placed_seen within)
 
-  pub ports_may : (w : Written) → IsReady w (opened_seen ms depth m o) → MayStandBehind w port_parts
-  ports_may w h = may_front w port_parts (parts_of_seen within) (subst (MayStandBehind w) two h.may)
+  two_parts : parts_of_seen (opened_seen ms depth m o) ≡ ports_placed.parts ++ parts_of_seen within
+  two_parts = ap (λ (xs : Placed). xs.parts) two
+
+  pub ports_may : (w : Written) → IsReady w (opened_seen ms depth m o) → MayStandBehind w ports_placed.parts
+  ports_may w h = may_front w ports_placed.parts (parts_of_seen within) (subst (MayStandBehind w) two_parts h.may)
 
   module _ (xs : List Item) (xs_are : xs ≡ m.items) where
     same_items : within ≡ items_seen ms depth (items xs) (place_of o.here) 1
     same_items = ap (λ ys. items_seen ms depth (items ys) (place_of o.here) 1) (sym xs_are)
 
-    pub within_ready : (w v : Written) → IsReady w (opened_seen ms depth m o) → StandBehind w port_parts v
+    pub within_ready : (w v : Written) → IsReady w (opened_seen ms depth m o) → StandBehind w ports_placed v
         → IsReady v (items_seen ms depth (items xs) (place_of o.here) 1)
     within_ready w v h k = subst (IsReady v) same_items (record {
       openable = h.openable.1;
-      may = may_back w v port_parts (parts_of_seen within) (subst (MayStandBehind w) two h.may) k;
+      may = may_back w v ports_placed (parts_of_seen within) (subst (MayStandBehind w) two_parts h.may) k;
     })
 
-    pub opened_written : (w v t : Written) → StandBehind w port_parts v
+    pub opened_written : (w v t : Written) → StandBehind w ports_placed v
         → Writes v (items_seen ms depth (items xs) (place_of o.here) 1) t → Writes w (opened_seen ms depth m o) t
     opened_written w v t h k =
         subst (λ qs. StandBehind w qs t) (sym two)
-        (both_behind w v t port_parts (parts_of_seen within) h
+        (both_behind w v t ports_placed (placed_seen within) h
         (subst (λ ys. Writes v ys t) (sym same_items) k))
 
 -- ---- the top module
@@ -243,15 +250,15 @@ module _ (ms : List Module) (top : List ℕ) where
     top_opens w h = module_opens ms (length ms - 1) m top_use [] [] (top_open w h)
 
     module _ (o : Opened) (is : IsModuleOpened m top_use [] o) where
-      parts_top : parts_of_seen (design_seen ms top) ≡ parts_of_seen (opened_seen ms (length ms - 1) m o)
-      parts_top = ap parts_of_seen whole ∙ module_parts ms (length ms - 1) m top_use [] [] o is
+      placed_top : placed_seen (design_seen ms top) ≡ placed_seen (opened_seen ms (length ms - 1) m o)
+      placed_top = ap placed_seen whole ∙ module_placed ms (length ms - 1) m top_use [] [] o is
 
       pub top_ready : (w : Written) → IsReady w (design_seen ms top) → IsReady w (opened_seen ms (length ms - 1) m o)
       top_ready w h = record {
         openable = module_openable ms (length ms - 1) m top_use [] [] o is (top_open w h);
-        may = subst (MayStandBehind w) parts_top h.may;
+        may = subst (MayStandBehind w) (ap (λ (xs : Placed). xs.parts) placed_top) h.may;
       }
 
       pub top_written : (w v : Written) → Writes w (opened_seen ms (length ms - 1) m o) v
           → Writes w (design_seen ms top) v
-      top_written w v h = subst (λ ps. StandBehind w ps v) (sym parts_top) h
+      top_written w v h = subst (λ ps. StandBehind w ps v) (sym placed_top) h

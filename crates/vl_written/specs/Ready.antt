@@ -1,5 +1,5 @@
--- Steps that may be written behind what stands in a design without hierarchy, by what is seen of them: their parts, and
--- the scopes in which their names are read. Rule of this project.
+-- Steps that may be written behind what stands in a design without hierarchy, by what is seen of them: their parts, the
+-- places of the drivers among these, and the scopes in which their names are read. Rule of this project.
 use Rattle.std.specs.Prelude.{◌≡◌, ℕ, List, [], ◌∷◌, true}
 use Rattle.fv_bits.specs.Bits.{as_int}
 use Rattle.vl_tree.specs.declared.part.Instance.{Instance}
@@ -8,7 +8,7 @@ use Rattle.vl_tree.specs.declared.source.Module.{Module}
 use Rattle.vl_tree.specs.Item.{Block, Item, Items, items}
 use Rattle.vl_size.specs.Size.{is_bound}
 use Rattle.vl_mean.specs.declared.const_number.Const.{Const}
-use Rattle.vl_mean.specs.Declarations.{block_name, label_of, ports_of}
+use Rattle.vl_mean.specs.Declarations.{block_name, label_of}
 use Rattle.vl_mean.specs.Runs.{Each}
 use Rattle.vl_mean.specs.Walk.{
   Place,
@@ -26,16 +26,17 @@ use Rattle.vl_mean.specs.Walk.{
   top_input,
   unfolded,
   walk,
+  written_ports,
 }
-use Rattle.vl_placed.specs.Seen.{Seen, parts_of_seen, seen_steps}
+use Rattle.vl_placed.specs.Seen.{Seen, parts_of_seen, places_of_seen, seen_steps}
 use Rattle.vl_unfold.specs.Within.{inner_steps}
 use Rattle.vl_draft.specs.Written.{Written}
 use Rattle.vl_openable.specs.Openable.{AreOpenable}
 use Rattle.vl_open.specs.declared.here.Here.{Here}
 use Rattle.vl_open.specs.declared.modules.Opened.{Opened}
 use Rattle.vl_open.specs.Here.{place_in}
-use Rattle.vl_ports.specs.PortParts.{all_port_parts}
-use Rattle.vl_write.specs.Behind.{MayStandBehind, StandBehind}
+use Rattle.vl_ports.specs.PortParts.{placed_ports}
+use Rattle.vl_write.specs.Behind.{MayStandBehind, Placed, StandBehind}
 
 -- the scopes of a step can be opened
 abbrev pub CanBeOpened : Seen → Type 0
@@ -46,9 +47,12 @@ pub record IsReady (w : Written) (xs : List Seen) : Type 0 where
   pub openable : Each CanBeOpened xs
   pub may : MayStandBehind w (parts_of_seen xs)
 
--- their parts stand behind
+abbrev pub placed_seen : List Seen → Placed
+placed_seen xs = record { parts = parts_of_seen xs; places = places_of_seen xs }
+
+-- their parts stand behind, in their places
 abbrev pub Writes : Written → List Seen → Written → Type 0
-Writes w xs v = StandBehind w (parts_of_seen xs) v
+Writes w xs v = StandBehind w (placed_seen xs) v
 
 -- the value of a loop's variable has 32 signed bits
 abbrev pub IsTurn : Const → Type 0
@@ -97,10 +101,8 @@ module _ (ms : List Module) (depth : ℕ) where
   -- of a module that is opened so: its ports, and its items
   abbrev pub opened_seen : Module → Opened → List Seen
   opened_seen m o =
-      record {
-        parts = all_port_parts o.here.scopes o.here.path o.ports (ports_of m.ports);
-        scopes = [];
-      } ∷ items_seen (items m.items) (place_of o.here) 1
+      let ports = placed_ports o.here.scopes o.here.path o.ports (written_ports m.ports) in
+      record { parts = ports.parts; places = ports.places; scopes = [] } ∷ items_seen (items m.items) (place_of o.here) 1
 
 -- of the whole design
 abbrev pub design_seen : List Module → List ℕ → List Seen

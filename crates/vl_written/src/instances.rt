@@ -4,7 +4,7 @@ ghost use Rattle.vl_mean.specs.Walk as walk;
 ghost use Rattle.vl_number.specs.Numbers.{HaveNumbers};
 ghost use Rattle.vl_openable.specs.Openable.{IsOpenable};
 ghost use Rattle.vl_open.specs.Modules.{IsModuleOpened};
-ghost use Rattle.vl_ports.specs.PortParts.{all_connection_parts};
+ghost use Rattle.vl_ports.specs.PortParts.{placed_connections};
 ghost use Rattle.vl_write.specs.Behind.{StandBehind};
 
 use fv_base::{List, Memory};
@@ -56,7 +56,7 @@ pub(crate) fn write_joined(
     draft: &mut Draft,
 ) -> Result<(), Memory>
     ensures { OnOk result (StandBehind draft.old
-        (all_connection_parts scopes.now inside.now module.now instance.now.connections) draft.new) }
+        (placed_connections scopes.now inside.now module.now instance.now.connections) draft.new) }
 {
     let ports = PortTable::new(alloc, module)?;
     write_connections(

@@ -6,7 +6,7 @@ ghost use Rattle.vl_mean.specs.Walk.{walk};
 ghost use Rattle.vl_same.specs.StepScopes.{StepScopes};
 ghost use Rattle.vl_modules.specs.Table.{AreModules};
 ghost use Rattle.vl_openable.specs.Openable.{AreOpenable};
-ghost use Rattle.vl_write.specs.Behind.{MayStandBehind, StandBehind};
+ghost use Rattle.vl_write.specs.Behind.{MayStandBehind, StandBehind, placed_design};
 ghost use Rattle.vl_written.specs.Ready.{IsReady, Writes, design_seen};
 
 use crate::walk::write_opened;
@@ -47,8 +47,8 @@ fn write_top(
 }
 
 /// Writes the parts of the design of these modules with this top module behind what stands, each in order (IEEE
-/// 1364-2005, section 12): with full names, and with numbers in place of constants. The top module's name stays out of
-/// full names.
+/// 1364-2005, section 12): with full names, with numbers in place of constants, and each driver in its place. The top
+/// module's name stays out of full names.
 pub fn write_design(
     alloc: Global,
     modules: &[Module],
@@ -57,7 +57,7 @@ pub fn write_design(
 ) -> Result<(), Memory>
     requires openable { Each (StepScopes AreOpenable) (walk modules.now top.now) }
     requires may { MayStandBehind draft.old (design modules.now top.now) }
-    ensures { OnOk result (StandBehind draft.old (design modules.now top.now) draft.new) }
+    ensures { OnOk result (StandBehind draft.old (placed_design modules.now top.now) draft.new) }
 {
     let table = ModuleTable::new(alloc, modules)?;
     write_top(alloc, &table, modules, top, draft)

@@ -3,8 +3,8 @@ use Rattle.vl_mean.specs.Parts.{design}
 use Rattle.vl_draft.specs.Written.{nothing}
 use Rattle.vl_behind.proofs.Declared.{may_be_written}
 use Rattle.vl_opens.proofs.Walked.{walk_open}
-use Rattle.vl_write.specs.Behind.{MayStandBehind, StandBehind}
-use Rattle.vl_unfolded.proofs.Drawing.{drawn, lawful}
+use Rattle.vl_write.specs.Behind.{MayStandBehind, StandBehind, placed_design}
+use Rattle.vl_unfolded.proofs.Drawing.{drawn, lawful, placed}
 use Rattle.vl_unfolded.proofs.unfolded.Goals as goal
 
 pub write_design-requires : goal.write_design-requires
@@ -23,14 +23,18 @@ finish-requires c =
     let top = c.args.top.now in
     let v = c.write_design.new.draft in
     lawful ms top v
-    (subst (λ w. StandBehind w (design ms top) v) c.new-draft.ensures c.in_ok-write_design.ensures) c.requires.formed
-    c.requires.fine
+    (subst (λ w. StandBehind w (placed_design ms top) v) c.new-draft.ensures c.in_ok-write_design.ensures)
+    c.requires.formed c.requires.fine
 
 pub returns : goal.returns
 returns c =
     let ms = c.args.modules.now in
     let top = c.args.top.now in
     let v = c.write_design.new.draft in
-    drawn (design ms top) v c.finish.result
-    (subst (λ w. StandBehind w (design ms top) v) c.new-draft.ensures c.in_ok-write_design.ensures)
-    c.finish.ensures.decls c.finish.ensures.drivers c.finish.ensures.starts
+    let stands : StandBehind nothing (placed_design ms top) v =
+    subst (λ w. StandBehind w (placed_design ms top) v) c.new-draft.ensures c.in_ok-write_design.ensures in
+    record {
+      drawn = drawn (placed_design ms top) v c.finish.result stands c.finish.ensures.decls c.finish.ensures.drivers
+          c.finish.ensures.starts;
+      placed = placed ms top v c.finish.result stands c.finish.ensures.drivers;
+    }

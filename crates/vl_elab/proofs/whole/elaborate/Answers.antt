@@ -1,4 +1,4 @@
-use Rattle.std.proofs.Common.{ap, sym, ◌∙◌}
+use Rattle.std.proofs.Common.{◌≡◌, None, ap, sym, ◌∙◌}
 use Rattle.vl_mean.specs.Parts.{design}
 use Rattle.vl_refusal.specs.Refused.{or_later, state_bits, too_many_bits}
 use Rattle.vl_design.proofs.Steps.{design_maps}
@@ -7,17 +7,28 @@ use Rattle.vl_elab.proofs.whole.elaborate.Goals as goal
 
 pub returns-in-None-clause-unrefused : goal.returns-in-None-clause-unrefused
 returns-in-None-clause-unrefused c =
-    bits_decide c.args.modules.now c.args.top.now c.in_ok-flat.flat c.in_ok-bits.bits _ c.requires
-    (no_fault c.in_ok-fault.field-0 c.in_default.not-Some ∙ c.in_ok-fault.ensures.fault c.requires) (c.in_ok-fault.ensures.refusal c.requires ∙ ap (λ o. or_later o (let ps = design c.args.modules.now c.args.top.now in too_many_bits (state_bits ps ps))) (sym (no_fault c.in_ok-fault.field-0 c.in_default.not-Some))) c.in_ok-flat.ensures
-    c.in_ok-bits.ensures (sym c.in-None.is ∙ c.too_many_bits.ensures)
+    let ms = c.args.modules.now in
+    let top = c.args.top.now in
+    let none : None ≡ c.in_ok-fault.field-0 = no_fault c.in_ok-fault.field-0 c.in_default.not-Some in
+    bits_decide ms top c.in_ok-flat.flat c.in_ok-bits.bits _ c.requires (none ∙ c.in_ok-fault.ensures.fault c.requires)
+    (c.in_ok-fault.ensures.refusal c.requires
+    ∙ ap (λ o. or_later o (let ps = design ms top in too_many_bits (state_bits ps ps))) (sym none))
+    c.in_ok-flat.ensures.drawn c.in_ok-bits.ensures (sym c.in-None.is ∙ c.too_many_bits.ensures)
 
 pub returns-in-None-clause-maps : goal.returns-in-None-clause-maps
 returns-in-None-clause-maps c =
-    design_maps c.args.modules.now c.args.top.now c.in_ok-flat.flat c.requires
-    (no_step c.args.modules.now c.args.top.now (no_fault c.in_ok-fault.field-0 c.in_default.not-Some ∙ c.in_ok-fault.ensures.fault c.requires)) c.in_ok-flat.ensures
+    let ms = c.args.modules.now in
+    let top = c.args.top.now in
+    let none : None ≡ c.in_ok-fault.field-0 = no_fault c.in_ok-fault.field-0 c.in_default.not-Some in
+    design_maps ms top c.in_ok-flat.flat c.requires (no_step ms top (none ∙ c.in_ok-fault.ensures.fault c.requires))
+    c.in_ok-flat.ensures.drawn
 
 pub returns-in-Some-too_many_bits-clause-refused : goal.returns-in-Some-too_many_bits-clause-refused
 returns-in-Some-too_many_bits-clause-refused c =
-    bits_decide c.args.modules.now c.args.top.now c.in_ok-flat.flat c.in_ok-bits.bits _ c.requires
-    (no_fault c.in_ok-fault.field-0 c.in_default.not-Some ∙ c.in_ok-fault.ensures.fault c.requires) (c.in_ok-fault.ensures.refusal c.requires ∙ ap (λ o. or_later o (let ps = design c.args.modules.now c.args.top.now in too_many_bits (state_bits ps ps))) (sym (no_fault c.in_ok-fault.field-0 c.in_default.not-Some))) c.in_ok-flat.ensures
-    c.in_ok-bits.ensures (sym c.in-Some-too_many_bits.is ∙ c.too_many_bits.ensures)
+    let ms = c.args.modules.now in
+    let top = c.args.top.now in
+    let none : None ≡ c.in_ok-fault.field-0 = no_fault c.in_ok-fault.field-0 c.in_default.not-Some in
+    bits_decide ms top c.in_ok-flat.flat c.in_ok-bits.bits _ c.requires (none ∙ c.in_ok-fault.ensures.fault c.requires)
+    (c.in_ok-fault.ensures.refusal c.requires
+    ∙ ap (λ o. or_later o (let ps = design ms top in too_many_bits (state_bits ps ps))) (sym none))
+    c.in_ok-flat.ensures.drawn c.in_ok-bits.ensures (sym c.in-Some-too_many_bits.is ∙ c.too_many_bits.ensures)

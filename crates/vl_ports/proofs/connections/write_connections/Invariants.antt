@@ -2,11 +2,11 @@ use Rattle.std.specs.Prelude.{drop}
 use Rattle.vl_tree.specs.declared.source.Module.{Module}
 use Rattle.vl_connect.specs.Ports.{AreDirectionsOf}
 use Rattle.vl_write.proofs.Standing.{Rest}
-use Rattle.vl_ports.specs.PortParts.{all_connection_parts}
+use Rattle.vl_ports.specs.PortParts.{placed_connections}
 use Rattle.vl_ports.proofs.connections.write_connections.Given as goal
 
 abbrev pub invariant-loop-given : goal.invariant-loop-given
 invariant-loop-given l =
     (m : Module) → AreDirectionsOf l.ports m
-    → Rest l.fn.draft (all_connection_parts l.scopes l.inside m l.all) l.draft
-    (all_connection_parts l.scopes l.inside m (drop l.given-index l.all))
+    → Rest l.fn.draft (placed_connections l.scopes l.inside m l.all) l.draft
+    (placed_connections l.scopes l.inside m (drop l.given-index l.all))

@@ -2,9 +2,10 @@ use Rattle.std.proofs.Common.{subst, sym}
 use Rattle.std.proofs.lemmas.Result.{on_ok_weaker}
 use Rattle.vl_mean.specs.Parts.{declares_all, optional_value}
 use Rattle.vl_shape.specs.Objects.{port_text}
-use Rattle.vl_write.specs.Behind.{MayStandBehind, StandBehind}
-use Rattle.vl_write.proofs.Standing.{both_behind, may_back, may_front}
+use Rattle.vl_write.specs.Behind.{MayStandBehind, StandBehind, placed_at, unplaced}
+use Rattle.vl_write.proofs.Standing.{may_back, may_front}
 use Rattle.vl_ports.specs.PortParts.{port_value}
+use Rattle.vl_ports.proofs.Written.{port_behind}
 use Rattle.vl_ports.proofs.declared.write_port.Goals as goal
 
 pub write_declarations-requires : goal.write_declarations-requires
@@ -22,8 +23,8 @@ write_optional_value-requires c =
     let value = port_value c.args.port.now.kind in
     subst (λ t. MayStandBehind v (optional_value ss net t c.port_value-value.result.now)) (sym c.port_text-name.ensures)
     (subst (λ x. MayStandBehind v (optional_value ss net name x)) (sym c.port_value-value.ensures)
-    (may_back c.args.draft.now v (declares_all c.args.path.now c.args.decls.now) (optional_value ss net name value)
-    c.requires c.in_ok-write_declarations.ensures))
+    (may_back c.args.draft.now v (unplaced (declares_all c.args.path.now c.args.decls.now))
+    (optional_value ss net name value) c.requires c.in_ok-write_declarations.ensures))
 
 pub returns : goal.returns
 returns c =
@@ -33,9 +34,9 @@ returns c =
     let t = c.write_optional_value.new.draft in
     let name = port_text c.args.port.now.kind in
     let value = port_value c.args.port.now.kind in
-    on_ok_weaker c.write_optional_value.result (λ h. both_behind c.args.draft.now v t
-    (declares_all c.args.path.now c.args.decls.now) (optional_value ss net name value)
-    c.in_ok-write_declarations.ensures
-    (subst (λ x. StandBehind v (optional_value ss net name x) t) c.port_value-value.ensures
-    (subst (λ y. StandBehind v (optional_value ss net y c.port_value-value.result.now) t) c.port_text-name.ensures h)))
-    c.write_optional_value.ensures
+    let p = c.args.port.now.pos in
+    on_ok_weaker c.write_optional_value.result (λ h. port_behind c.args.draft.now v t p c.args.path.now
+    c.args.decls.now (optional_value ss net name value) c.in_ok-write_declarations.ensures
+    (subst (λ x. StandBehind v (placed_at p (optional_value ss net name x)) t) c.port_value-value.ensures
+    (subst (λ y. StandBehind v (placed_at p (optional_value ss net y c.port_value-value.result.now)) t)
+    c.port_text-name.ensures h))) c.write_optional_value.ensures

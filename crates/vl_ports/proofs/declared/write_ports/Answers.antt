@@ -1,8 +1,7 @@
-use Rattle.std.proofs.Common.{◌≡◌, ◌+◌, [], ◌∷◌, arith, None}
+use Rattle.std.proofs.Common.{◌≡◌, ◌+◌, [], ◌∷◌, arith}
 use Rattle.std.specs.Prelude.{drop}
 use Rattle.std.proofs.lemmas.Grind.{common_steps}
-use Rattle.vl_mean.specs.Declarations.{full_ports}
-use Rattle.vl_ports.specs.PortParts.{all_port_parts}
+use Rattle.vl_ports.specs.PortParts.{placed_ports}
 use Rattle.vl_ports.proofs.Written.{first_may, ports_first, ports_last, ports_on}
 use Rattle.vl_ports.proofs.declared.write_ports.Goals as goal
 
@@ -12,7 +11,7 @@ loop-port-init c =
 
 pub write_first-requires : goal.write_first-requires
 write_first-requires c =
-    let all = all_port_parts c.args.scopes.now c.args.path.now c.args.decls.now (full_ports None c.args.all.now) in
+    let all = placed_ports c.args.scopes.now c.args.path.now c.args.decls.now c.args.all.now in
     let rest = drop (c.loop-port.port-index + 1) c.args.all.now in
     let front : drop c.loop-port.port-index c.args.all.now ≡ c.port-item.result
     ∷ drop (c.loop-port.port-index + 1) c.args.all.now = grind (arith, common_steps) in
@@ -22,7 +21,7 @@ write_first-requires c =
 
 pub loop-port-preserved : goal.loop-port-preserved
 loop-port-preserved c =
-    let all = all_port_parts c.args.scopes.now c.args.path.now c.args.decls.now (full_ports None c.args.all.now) in
+    let all = placed_ports c.args.scopes.now c.args.path.now c.args.decls.now c.args.all.now in
     let rest = drop (c.loop-port.port-index + 1) c.args.all.now in
     let front : drop c.loop-port.port-index c.args.all.now ≡ c.port-item.result
     ∷ drop (c.loop-port.port-index + 1) c.args.all.now = grind (arith, common_steps) in
@@ -33,7 +32,7 @@ loop-port-preserved c =
 
 pub returns : goal.returns
 returns c =
-    let all = all_port_parts c.args.scopes.now c.args.path.now c.args.decls.now (full_ports None c.args.all.now) in
+    let all = placed_ports c.args.scopes.now c.args.path.now c.args.decls.now c.args.all.now in
     let gone : drop c.loop-port.port-index c.args.all.now ≡ [] = grind (arith, common_steps) in
     ports_last c.args.scopes.now c.args.path.now c.args.draft.now all c.loop-port.draft c.loop-port.last
     c.loop-port.rest.now (drop c.loop-port.port-index c.args.all.now) gone c.loop-port.invariant

@@ -1,11 +1,9 @@
-use Rattle.std.proofs.Common.{None}
 use Rattle.std.specs.Prelude.{drop}
-use Rattle.vl_mean.specs.Declarations.{full_ports}
-use Rattle.vl_ports.specs.PortParts.{all_port_parts}
+use Rattle.vl_ports.specs.PortParts.{placed_ports}
 use Rattle.vl_ports.proofs.Written.{PortsLeft}
 use Rattle.vl_ports.proofs.declared.write_ports.Given as goal
 
 abbrev pub invariant-loop-port : goal.invariant-loop-port
 invariant-loop-port l =
-    PortsLeft l.scopes l.path l.fn.draft (all_port_parts l.scopes l.path l.decls (full_ports None l.all)) l.draft l.last
-    l.rest (drop l.port-index l.all)
+    PortsLeft l.scopes l.path l.fn.draft (placed_ports l.scopes l.path l.decls l.all) l.draft l.last l.rest
+    (drop l.port-index l.all)

@@ -1,8 +1,10 @@
 use Rattle.std.specs.Prelude.{drop}
 use Rattle.vl_mean.specs.Parts.{assignments}
+use Rattle.vl_write.specs.Behind.{placed_at}
 use Rattle.vl_write.proofs.Standing.{Rest}
 use Rattle.vl_write.proofs.blocks.write_assignments.Given as goal
 
 abbrev pub invariant-loop-assignment : goal.invariant-loop-assignment
 invariant-loop-assignment l =
-    Rest l.fn.draft (assignments l.scopes l.all) l.draft (assignments l.scopes (drop l.assignment-index l.all))
+    Rest l.fn.draft (placed_at l.pos (assignments l.scopes l.all)) l.draft
+    (placed_at l.pos (assignments l.scopes (drop l.assignment-index l.all)))

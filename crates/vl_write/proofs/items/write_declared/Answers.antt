@@ -1,5 +1,7 @@
 use Rattle.std.proofs.lemmas.Result.{on_ok_weaker}
 use Rattle.vl_mean.specs.Parts.{declares_all, values_of}
+use Rattle.vl_write.specs.Behind.{unplaced}
+use Rattle.vl_write.specs.OwnParts.{placed_values}
 use Rattle.vl_write.proofs.Standing.{both_behind, may_front, may_back}
 use Rattle.vl_write.proofs.items.write_declared.Goals as goal
 
@@ -10,12 +12,13 @@ write_declarations-requires c =
 
 pub write_values-requires : goal.write_values-requires
 write_values-requires c =
-    may_back c.args.draft.now c.write_declarations.new.draft (declares_all c.args.path.now c.args.decls.now)
+    may_back c.args.draft.now c.write_declarations.new.draft
+    (unplaced (declares_all c.args.path.now c.args.decls.now))
     (values_of c.args.scopes.now c.args.kind c.args.all.now) c.requires c.in_ok-write_declarations.ensures
 
 pub returns : goal.returns
 returns c =
     on_ok_weaker c.write_values.result (λ h. both_behind c.args.draft.now c.write_declarations.new.draft
-    c.write_values.new.draft (declares_all c.args.path.now c.args.decls.now)
-    (values_of c.args.scopes.now c.args.kind c.args.all.now) c.in_ok-write_declarations.ensures h)
+    c.write_values.new.draft (unplaced (declares_all c.args.path.now c.args.decls.now))
+    (placed_values c.args.scopes.now c.args.kind c.args.all.now) c.in_ok-write_declarations.ensures h)
     c.write_values.ensures

@@ -15,6 +15,6 @@ returns-in-Wire c =
 
 pub returns : goal.returns
 returns c =
-    on_ok_weaker c.write_start.result (λ e. reg_behind c.args.draft.now c.write_start.new.draft c.args.scopes.now
-    c.args.kind c.args.name.now c.in_ok-target.target c.args.value.now c.in-Reg.is c.in_ok-target.ensures e)
-    c.write_start.ensures.ok
+    on_ok_weaker c.write_start.result (λ e. reg_behind c.args.draft.now c.write_start.new.draft c.args.pos
+    c.args.scopes.now c.args.kind c.args.name.now c.in_ok-target.target c.args.value.now c.in-Reg.is
+    c.in_ok-target.ensures e) c.write_start.ensures.ok

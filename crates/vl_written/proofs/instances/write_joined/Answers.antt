@@ -1,6 +1,6 @@
 use Rattle.std.proofs.Common.{subst}
 use Rattle.std.proofs.lemmas.Result.{on_ok_weaker}
-use Rattle.vl_ports.specs.PortParts.{all_connection_parts}
+use Rattle.vl_ports.specs.PortParts.{placed_connections}
 use Rattle.vl_write.specs.Behind.{StandBehind}
 use Rattle.vl_written.proofs.instances.write_joined.Goals as goal
 
@@ -8,5 +8,5 @@ pub returns : goal.returns
 returns c =
     let m = c.args.module.now in
     on_ok_weaker c.write_connections.result (λ h. subst (λ xs. StandBehind c.args.draft.now
-    (all_connection_parts c.args.scopes.now c.args.inside.now m xs) c.write_connections.new.draft) c.as_slice.ensures
+    (placed_connections c.args.scopes.now c.args.inside.now m xs) c.write_connections.new.draft) c.as_slice.ensures
     (h m c.in_ok-ports.ensures)) c.write_connections.ensures
