@@ -1,12 +1,14 @@
 #!/usr/bin/env python3
 """Times the search beside MiniSat and CaDiCaL (Debian's packages). It is not part of the gate.
 
-    tools/compare-search.py [--folder FOLDER] [--limit SECONDS] [--random N] [FILE.cnf ..]
+    tools/compare-search.py [--folder FOLDER] [--driver PATH] [--limit SECONDS] [--random N] [FILE.cnf ..]
 
 Random formulas of clauses of three literals at the threshold with 100 to 200 variables (N of them), adders of two kinds
 proved equal, multipliers proved commutative, and the given clause files. The driver program is that of
-`tools/check-search.py`. It prints for each group the median of conflicts beside MiniSat's (of refutations, whose steps
-are counted), the median and the greatest of the processor times beside both, and how many verdicts differ.
+`tools/check-search.py`, if PATH isn't one that was built. It prints for each group the median and the greatest of: the
+steps of refutations, hints a step, steps beside MiniSat's conflicts and beside the clauses of CaDiCaL's proof,
+processor times and memory of all three (at least that of this script, some 12 MB); how many verdicts differ; and, of
+the formulas that take MiniSat more than a tenth of a second, how much longer the search takes.
 """
 
 import argparse
@@ -108,51 +110,64 @@ def multipliers(bits):
     return out.differ(product(xs, ys), product(ys, xs))
 
 
-def spent():
-    """The processor seconds of all programs that ended."""
-    times = os.times()
-    return times.children_user + times.children_system
+class Ran:
+    """What a program wrote, its processor seconds, of which it has so many, and its memory in megabytes."""
+
+    def __init__(self, words, limit, read_from=os.devnull):
+        def bounded():
+            resource.setrlimit(resource.RLIMIT_CPU, (round(limit), round(limit)))
+
+        with open(read_from) as given:
+            process = subprocess.Popen(words, stdin=given, stdout=subprocess.PIPE, stderr=subprocess.DEVNULL, text=True,
+                                       preexec_fn=bounded)
+        self.said = process.stdout.read()
+        usage = os.wait4(process.pid, 0)[2]
+        self.seconds, self.memory = usage.ru_utime + usage.ru_stime, usage.ru_maxrss / 1024
 
 
-def run(words, text=None, limit=60.0):
-    """What the program writes, and its processor seconds, of which it has so many."""
-    start = spent()
+class Row:
+    """What the search, MiniSat and CaDiCaL came to on a formula."""
 
-    def bounded():
-        resource.setrlimit(resource.RLIMIT_CPU, (round(limit), round(limit)))
-
-    ran = subprocess.run(words, input=text, capture_output=True, text=True, preexec_fn=bounded, check=False)
-    return ran.stdout if ran.returncode >= 0 else "", spent() - start
-
-
-def measured(driver, text, limit):
-    """The verdict, the conflicts and the seconds of the search, of MiniSat and of CaDiCaL."""
-    with tempfile.TemporaryDirectory() as folder:
-        cnf = os.path.join(folder, "c.cnf")
-        with open(cnf, "w") as out:
-            out.write(text)
-        said, ours = run([driver], text, limit)
-        word = said.split("\n", 1)[0]
-        steps = sum(1 for line in said.split("\n")[1:] if line) if word == "refuted" else None
-        told, mini = run(["minisat", "-no-pre", cnf], None, limit)
-        found = re.search(r"conflicts\s*:\s*(\d+)", told)
-        other, cadical = run(["cadical", "-q", cnf], None, limit)
+    def __init__(self, driver, text, limit):
+        with tempfile.TemporaryDirectory() as folder:
+            cnf, proof = os.path.join(folder, "c.cnf"), os.path.join(folder, "c.drat")
+            with open(cnf, "w") as out:
+                out.write(text)
+            ours = Ran([driver], limit, cnf)
+            mini = Ran(["minisat", "-no-pre", cnf], limit)
+            cadical = Ran(["cadical", "-q", "--no-binary", cnf, proof], limit)
+            with open(proof) as file:
+                self.added = sum(not line.startswith("d") for line in file)
+        self.runs = [ours, mini, cadical]
+        verdict, *steps = ours.said.split("\n")
         verdicts = {"model": "SATISFIABLE", "refuted": "UNSATISFIABLE"}
-        agree = word in verdicts and re.search(rf"^s {verdicts[word]}$", other, re.M) is not None
-        return word or "no answer", agree, steps, int(found.group(1)) if found else None, ours, mini, cadical
+        self.agrees = verdict in verdicts and re.search(rf"^s {verdicts[verdict]}$", cadical.said, re.M) is not None
+        found = re.search(r"conflicts\s*:\s*(\d+)", mini.said)
+        self.conflicts = int(found.group(1)) if found else None
+        adding = [line.split(" 0 ") for line in steps if line and " d " not in line] if verdict == "refuted" else []
+        self.steps = len(adding)
+        self.hints = sum(len(hints.split()) - 1 for _, hints in adding) if adding else 0
+
+
+def spread(values):
+    return f"{statistics.median(values):.3g} and {max(values):.3g}"
 
 
 def main():
     options = argparse.ArgumentParser()
     options.add_argument("--folder")
+    options.add_argument("--driver")
     options.add_argument("--limit", type=float, default=60.0)
     options.add_argument("--random", type=int, default=200)
     options.add_argument("files", nargs="*")
     options = options.parse_args()
     folder = options.folder or tempfile.mkdtemp(prefix="compare-search-")
-    driver = check_search().driver_of(folder)
+    driver = options.driver or check_search().driver_of(folder)
     rng = random.Random(1)
-    groups = {"random, 100 to 200 variables": [random_formula(rng, rng.randint(100, 200)).text() for _ in range(options.random)]}
+    groups = {}
+    if options.random:
+        groups["random, 100 to 200 variables"] = [
+            random_formula(rng, rng.randint(100, 200)).text() for _ in range(options.random)]
     for bits in (8, 16, 32, 64):
         groups[f"adders of {bits} bits"] = [adders(bits).text()]
     for bits in (4, 5, 6):
@@ -161,14 +176,22 @@ def main():
         with open(name) as text:
             groups[name] = [text.read()]
     for group, texts in groups.items():
-        rows = [measured(driver, text, options.limit) for text in texts]
-        ratios = [row[2] / max(row[3], 1) for row in rows if row[2] is not None and row[3] is not None]
-        times = [[row[index] for row in rows] for index in (4, 5, 6)]
-        print(f"{group}: {len(rows)} formulas, {sum(not row[1] for row in rows)} without CaDiCaL's verdict")
-        if ratios:
-            print(f"  conflicts by MiniSat's, of {len(ratios)} refutations: median {statistics.median(ratios):.2f}, most {max(ratios):.2f}")
-        for name, column in zip(("the search", "MiniSat", "CaDiCaL"), times):
-            print(f"  {name}: median {statistics.median(column):.3f} s, most {max(column):.3f} s")
+        rows = [Row(driver, text, options.limit) for text in texts]
+        print(f"{group}: {len(rows)} formulas, {sum(not row.agrees for row in rows)} without CaDiCaL's verdict")
+        refuted = [row for row in rows if row.steps]
+        if refuted:
+            by_minisat = [row.steps / max(row.conflicts, 1) for row in refuted if row.conflicts is not None]
+            by_cadical = [row.steps / max(row.added, 1) for row in refuted]
+            print(f"  {len(refuted)} refutations: {spread([row.steps for row in refuted])} steps, "
+                  f"{spread([row.hints / row.steps for row in refuted])} hints a step, {spread(by_minisat)} by "
+                  f"MiniSat's conflicts, {spread(by_cadical)} by the clauses of CaDiCaL's proof")
+        for index, name in enumerate(("the search", "MiniSat", "CaDiCaL")):
+            print(f"  {name}: {spread([row.runs[index].seconds for row in rows])} s, "
+                  f"{spread([row.runs[index].memory for row in rows])} MB")
+        hard = [row.runs[0].seconds / row.runs[1].seconds for row in rows if row.runs[1].seconds > 0.1]
+        if hard:
+            print(f"  {len(hard)} take MiniSat more than 0.1 s: the search takes {spread(hard)} times as long, "
+                  f"{sum(ratio > 20 for ratio in hard)} of them twenty times", flush=True)
 
 
 if __name__ == "__main__":
