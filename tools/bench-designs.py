@@ -1,0 +1,281 @@
+#!/usr/bin/env python3
+"""Times elaboration, the order of drivers and lowering on large designs, over a program that is made, proved and built
+in a temporary folder (a long time, where nothing is kept). Not part of the gate.
+
+    tools/bench-designs.py [--program PATH] [--stage elaborate|order|lower] [FILE.v ..]
+
+FILE has a module `top` with its modules, and no directives. Prints for each design what was made of it, the processor
+seconds of the stage, which are those of the run less those of a run that ends before it, and the memory of the whole
+run. The fastest of three runs counts. --text NAME writes the text of that design to standard output.
+"""
+import argparse
+import contextlib
+import os
+import subprocess
+import sys
+
+import made
+
+LIBRARIES = "vl_lower vl_evals vl_elab vl_refusal vl_flow vl_ordered vl_order vl_mean vl_size vl_parse vl_token " \
+    "vl_tree wn_net fv_base anyhow"
+
+PROGRAM = r"""//! Reads a letter and a Verilog text, whose top module is `top`, and works on it as far as the letter
+//! says: parses, elaborates, orders or lowers it. Says what was made.
+#![tactic(auto)]
+
+use anyhow::Result;
+use fv_base::Text;
+use std::alloc::Global;
+use std::io::Read;
+use vl_elab::elaborate;
+use vl_flow::order;
+use vl_lower::lower;
+use vl_mean::Flat;
+use vl_ordered::weight;
+use vl_parse::parse;
+use vl_token::lex;
+use wn_net::{Net, Node};
+
+fn kind_of(node: &Node) -> &'static str {
+    match node {
+        Node::Konst(_) => "constant",
+        Node::Input(_) => "input",
+        Node::Reg(_) => "register",
+        Node::Read(_, _) => "read",
+        Node::Not(_) => "not",
+        Node::And(_, _) => "and",
+        Node::Or(_, _) => "or",
+        Node::Xor(_, _) => "xor",
+        Node::Add(_, _) => "add",
+        Node::Sub(_, _) => "sub",
+        Node::Mul(_, _) => "mul",
+        Node::Eq(_, _) => "eq",
+        Node::Ult(_, _) => "ult",
+        Node::Slt(_, _) => "slt",
+        Node::Shl(_, _) => "shl",
+        Node::Lshr(_, _) => "lshr",
+        Node::Ashr(_, _) => "ashr",
+        Node::Concat(_, _) => "concat",
+        Node::Mux(_, _, _) => "mux",
+        Node::Slice(_, _, _) => "slice",
+        Node::Zext(_, _) => "zext",
+        Node::Sext(_, _) => "sext",
+    }
+}
+
+fn count_of(net: &Net, kind: &str) -> u64 {
+    let mut count: u64 = 0;
+    for node in net.nodes() {
+        if kind_of(node) == kind {
+            count = count.wrapping_add(1);
+        }
+    }
+    count
+}
+
+fn kinds(alloc: Global, net: &Net) -> Result<String> {
+    let mut out = String::new(alloc);
+    for kind in ["constant", "input", "register", "read", "not", "and", "or", "xor", "add", "sub", "mul", "eq", "ult",
+        "slt", "shl", "lshr", "ashr", "concat", "mux", "slice", "zext", "sext"] {
+        let count = count_of(net, kind);
+        if count > 0 {
+            out.push_str(format!(in alloc; " {kind} {count}")?.as_str())?;
+        }
+    }
+    Ok(out)
+}
+
+fn ordered(alloc: Global, flat: Flat, stage: u8) -> Result<String> {
+    match order(alloc, flat) {
+        Err(_fault) => Ok(String::from_str(alloc, "no order")?),
+        Ok(ordered) => {
+            let heavy = weight(&ordered);
+            if stage == b'o' {
+                return Ok(format!(in alloc; "weight {heavy}")?);
+            }
+            let lowered = lower(alloc, &ordered)?;
+            let nodes = lowered.net.nodes().len();
+            let regs = lowered.net.regs().len();
+            let kinds = kinds(alloc, &lowered.net)?;
+            Ok(format!(in alloc; "weight {heavy}, {nodes} nodes, {regs} registers:{kinds}")?)
+        }
+    }
+}
+
+fn answer(alloc: Global, bytes: &[u8]) -> Result<String> {
+    let Some((stage, text)) = bytes.split_first() else {
+        return Ok(String::from_str(alloc, "no text")?);
+    };
+    let tokens = lex(alloc, text, 1, 1)?;
+    let source = parse(alloc, tokens.as_slice())?;
+    let modules = source.modules.as_slice();
+    if *stage == b'p' {
+        let count = modules.len();
+        return Ok(format!(in alloc; "{count} modules")?);
+    }
+    let top = Text::from_bytes(alloc, b"top")?;
+    match elaborate(alloc, modules, &top) {
+        Err(_reason) => Ok(String::from_str(alloc, "no design")?),
+        Ok(flat) => {
+            if *stage != b'e' {
+                return ordered(alloc, flat, *stage);
+            }
+            let names = flat.decls.len();
+            let drivers = flat.drivers.len();
+            Ok(format!(in alloc; "{names} names, {drivers} drivers")?)
+        }
+    }
+}
+
+fn main(rt: HostRuntime) -> Result<()> {
+    let alloc = rt.alloc();
+    let mut bytes = Vec::new(alloc);
+    rt.stdin().read_to_end(&mut bytes)?;
+    let said = answer(alloc, bytes.as_slice())?;
+    println!(rt; "{said}")?;
+    Ok(())
+}
+"""
+
+
+def lines(count, line):
+    return "".join(line(index) for index in range(count))
+
+
+def names(count):
+    return "module top;\n" + lines(count, lambda k: f"wire n{k};\n") + "endmodule\n"
+
+
+def nodes(count):
+    """A loop over an instance of ten sums of a hundred terms, 2,044 nodes a turn, with the turn's own."""
+    total = " + ".join("b" * 101)
+    return (f"module top; genvar i;\nfor (i = 0; i < {count // 2044}; i = i + 1) begin : g sub s(); end\n"
+            "endmodule\nmodule sub; wire [7:0] a, b;\n" + lines(10, lambda _: f"assign a = {total};\n") + "endmodule\n")
+
+
+def turns(count):
+    items = "wire [7:0] a, b; reg q; reg [3:0] r = 0; assign a = x; assign b = a + 1; assign y = b ^ a; " \
+        "wire c; assign c = q; always @(posedge clock) q <= ~q; always @(posedge clock) r <= r + 1;"
+    return (f"module top(input clock); wire [7:0] at; assign at = 7; genvar i;\nfor (i = 0; i < {count}; i = i + 1) "
+            "begin : g wire [7:0] y; ten s(.clock(clock), .x(at), .y(y)); end\nendmodule\n"
+            f"module ten(input clock, input [7:0] x, output [7:0] y); {items} endmodule\n")
+
+
+def items(count):
+    """Half of the items are declarations, half assignments."""
+    return "module top;\nwire [7:0] n0; assign n0 = 1;\n" + \
+        lines(count // 2 - 1, lambda k: f"wire [7:0] n{k + 1};\nassign n{k + 1} = n{k} ^ 3;\n") + "endmodule\n"
+
+
+def doubled(count):
+    """Modules that each hold two instances of the next one, which are too large together."""
+    return "module top; m1 a(); m1 b(); endmodule\n" + \
+        lines(count - 1, lambda k: f"module m{k + 1}; m{k + 2} a(); m{k + 2} b(); endmodule\n") + \
+        f"module m{count}; endmodule\n"
+
+
+def empty(count):
+    """So many empty turns in each of so many turns, which are too large at a thousand."""
+    return (f"module top; genvar i, j;\nfor (i = 0; i < {count}; i = i + 1) begin : g\n"
+            f"for (j = 0; j < {count}; j = j + 1) begin : h end\nend\nendmodule\n")
+
+
+def reverse(count):
+    """A chain of drivers, each of which stands before the one that it reads."""
+    return "module top;\nwire " + ", ".join(f"n{k}" for k in range(count)) + ";\n" + \
+        lines(count - 1, lambda k: f"assign n{k} = n{k + 1};\n") + f"assign n{count - 1} = 1'b1;\nendmodule\n"
+
+
+def block(count):
+    """One block of assignments to a hundred registers in turn."""
+    return "module top;\nreg [7:0] " + ", ".join(f"r{k}" for k in range(100)) + ";\nalways @* begin\nr0 = 1;\n" + \
+        lines(count - 1, lambda k: f"r{(k + 1) % 100} = r{k % 100} + 1;\n") + "end\nendmodule\n"
+
+
+def words(count):
+    """A memory of 65,536 words; drivers that each read one of them, and as many that read one which varies."""
+    return "module top(input [15:0] a);\nreg m [0:65535];\n" + \
+        lines(count // 2, lambda k: f"wire n{k}; assign n{k} = m[{k}]; wire v{k}; assign v{k} = m[a + {k}];\n") + \
+        "endmodule\n"
+
+
+def sums(weight):
+    """Sums of 32 bits, each of the weight 256."""
+    total = " + ".join(["a", "b"] * 50)
+    return "module top(input [31:0] a, b);\n" + \
+        lines(weight // 25600, lambda k: f"wire [31:0] n{k}; assign n{k} = {total} + a;\n") + "endmodule\n"
+
+
+def signs(count):
+    """Operators of one bit each, in a loop."""
+    total = " ^ ".join(["a", "b"] * 50)
+    return "module top(input a, b);\ngenvar i;\n" \
+        f"for (i = 0; i < {count // 1000}; i = i + 1) begin : g wire [9:0] y;\n" + \
+        lines(10, lambda k: f"assign y[{k}] = {total} ^ a;\n") + "end\nendmodule\n"
+
+
+def memory(weight):
+    """A memory of 256 words of 32 bits that a block assigns, so that it is lowered word by word: reads and writes."""
+    return "module top(input [7:0] a, b, input [31:0] d, output reg [31:0] y);\nreg [31:0] m [0:255];\n" + \
+        "always @* begin y = 0;\n" + lines(256, lambda k: f"m[{k}] = {k};\n") + \
+        lines((weight - 256 * 8192) // 16448, lambda k: f"m[a ^ {k % 256}] = d; y = y ^ m[b];\n") + "end\nendmodule\n"
+
+
+STAGES = {"elaborate": ("p", "e"), "order": ("e", "o"), "lower": ("o", "l")}
+MADE = [
+    ("elaborate", "names", names, [50_000, 100_000, 200_000]),
+    ("elaborate", "nodes", nodes, [1_000_000, 2_000_000, 4_000_000]),
+    ("elaborate", "turns", turns, [1_024, 2_048, 4_096]),
+    ("elaborate", "items", items, [25_000, 50_000, 100_000]),
+    ("elaborate", "doubled", doubled, [24]),
+    ("elaborate", "empty", empty, [500, 1_000]),
+    ("order", "reverse", reverse, [50_000, 100_000, 200_000]),
+    ("order", "block", block, [25_000, 50_000, 100_000]),
+    ("order", "words", words, [2_500, 5_000, 10_000]),
+    ("lower", "sums", sums, [5_000_000, 10_000_000, 20_000_000]),
+    ("lower", "signs", signs, [450_000, 900_000, 1_800_000]),
+    ("lower", "memory", memory, [5_000_000, 10_000_000, 20_000_000]),
+]
+
+
+def run(program, letter, text):
+    """Returns what the program says, its processor seconds, and its memory in megabytes."""
+    process = subprocess.Popen([program], stdin=subprocess.PIPE, stdout=subprocess.PIPE)
+    process.stdin.write(letter.encode() + text.encode())
+    process.stdin.close()
+    said = process.stdout.read().decode().strip()
+    usage = os.wait4(process.pid, 0)[2]
+    return said, usage.ru_utime + usage.ru_stime, usage.ru_maxrss // 1024
+
+
+def timed(program, stage, title, text):
+    before, after = STAGES[stage]
+    first = min((run(program, before, text) for _ in range(3)), key=lambda found: found[1])
+    said, seconds, memory_used = min((run(program, after, text) for _ in range(3)), key=lambda found: found[1])
+    print(f"{stage} {title}: {said}; {seconds - first[1]:.2f} s, run {seconds:.2f} s, {memory_used} MB", flush=True)
+
+
+def main():
+    options = argparse.ArgumentParser()
+    options.add_argument("--program")
+    options.add_argument("--stage", choices=list(STAGES))
+    options.add_argument("--text")
+    options.add_argument("files", nargs="*")
+    options = options.parse_args()
+    if options.text:
+        sys.stdout.writelines(make(sizes[-1]) for _, title, make, sizes in MADE if title == options.text)
+        return
+    built = contextlib.nullcontext(options.program) if options.program else \
+        made.program("designs", PROGRAM, LIBRARIES.split())
+    with built as program:
+        for name in options.files:
+            with open(name) as file:
+                timed(program, options.stage or "lower", name, file.read())
+        for stage, title, make, sizes in [] if options.files else MADE:
+            if options.stage in (None, stage):
+                for size in sizes:
+                    timed(program, stage, f"{title} {size}", make(size))
+
+
+if __name__ == "__main__":
+    main()
