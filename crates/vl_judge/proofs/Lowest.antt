@@ -1,5 +1,6 @@
 -- The answered refusal of an expression is that of its parts.
-use Rattle.std.specs.Prelude.{◌≡◌, refl, ℕ, List, ◌++◌, Bool, true, ◌||◌, Option, Result, Ok, Err, IfOk}
+use Rattle.std.specs.Prelude.{◌≡◌, refl, ℕ, List, ◌++◌, Bool, true, false, ◌||◌, Option, Some, Result, Ok, Err, IfOk}
+use Rattle.std.specs.Prelude.{if◌then◌else◌}
 use Rattle.std.proofs.Common.{ap, sym, ◌∙◌}
 use Rattle.fv_base.specs.declared.pos.Pos.{Pos}
 use Rattle.vl_tree.specs.declared.expr.Select.{Select}
@@ -30,9 +31,9 @@ use Rattle.vl_size.proofs.Rest.{part_depth}
 use Rattle.vl_size.specs.Size.{divides}
 use Rattle.vl_refusal.specs.declared.elab_fault.ElabFault.{ElabFault}
 use Rattle.vl_refusal.specs.Expressions.{too_wide, name_width, wide_size, no_copies, read_refusals, is_constant_name}
-use Rattle.vl_refusal.specs.Expressions.{refusals, all_refusals, select_refusals}
+use Rattle.vl_refusal.specs.Expressions.{refusals, refused_if, all_refusals, select_refusals}
 use Rattle.vl_refusal.specs.Meanings.{Meaning, Names, meaning_in}
-use Rattle.vl_refusal.specs.Refused.{lower_of, lowest}
+use Rattle.vl_refusal.specs.Refused.{comes_before, lower_of, lowest}
 use Rattle.vl_refusal.proofs.LowestFirst.{lowest_append}
 use Rattle.vl_judge.specs.Judged.{fault, faults, selects_fault, select_fault}
 
@@ -42,6 +43,34 @@ pub lowest_two : (gs hs : List ElabFault) (g h : Option ElabFault) → g ≡ low
 lowest_two gs hs g h d e = (λ i. lower_of (d i) (e i)) ∙ sym (lowest_append gs hs)
 
 pub ruleset lowest_parts = (lowest_two)
+
+if_alike : {A : Type 0} (b : Bool) (x : A) → (if b then x else x) ≡ x
+if_alike true x = refl
+if_alike false x = refl
+
+-- one refusal, which two tests give
+both_alike : (a b : Bool) (g : ElabFault)
+    → lower_of (lowest (refused_if a g)) (lowest (refused_if b g)) ≡ lowest (refused_if (a || b) g)
+both_alike true true g = ap Some (if_alike (comes_before g g) g)
+both_alike true false g = refl
+both_alike false true g = refl
+both_alike false false g = refl
+
+pub alike_two : (a b : Bool) (g : ElabFault)
+    → lowest (refused_if (a || b) g) ≡ lowest (refused_if a g ++ refused_if b g)
+alike_two a b g = sym (both_alike a b g) ∙ lowest_two (refused_if a g) (refused_if b g) _ _ refl refl
+
+alike_next : (a b : Bool) (gs : List ElabFault) (g : ElabFault) → lowest (refused_if a g) ≡ lowest gs
+    → lowest (refused_if (a || b) g) ≡ lowest (gs ++ refused_if b g)
+alike_next a b gs g e = sym (both_alike a b g) ∙ lowest_two gs (refused_if b g) _ _ e refl
+
+pub alike_four : (a b c d : Bool) (g : ElabFault) → lowest (refused_if (a || b || c || d) g)
+    ≡ lowest (refused_if a g ++ refused_if b g ++ refused_if c g ++ refused_if d g)
+alike_four a b c d g =
+    alike_next (a || b || c) d (refused_if a g ++ refused_if b g ++ refused_if c g) g
+    (alike_next (a || b) c (refused_if a g ++ refused_if b g) g (alike_two a b g))
+
+pub ruleset alike = (alike_two, alike_four)
 
 pub ok_same : {A E : Type 0} (r : Result A E) (x y : A) → x ≡ y → IfOk r (λ g. g ≡ x)
     → IfOk r (λ g. g ≡ y)

@@ -27,9 +27,10 @@ use Rattle.vl_size.specs.declared.decl.Decl.{Decl}
 use Rattle.vl_size.specs.Size.{◌>>=◌, divides}
 use Rattle.vl_refusal.specs.declared.elab_fault.ElabFault.{ElabFault}
 use Rattle.vl_refusal.specs.declared.elab_fault.ElabFault.TheVariants as f
+use Rattle.vl_mean.specs.ConstantFaults.{wide_times}
 use Rattle.vl_refusal.specs.Expressions.{refused_if, too_wide, name_width, wide_size, far, against, no_copies}
-use Rattle.vl_refusal.specs.Expressions.{read_refusals, is_constant_name}
-use Rattle.vl_refusal.specs.Meanings.{Names, meaning_in}
+use Rattle.vl_refusal.specs.Expressions.{if_known, read_refusals, is_constant_name}
+use Rattle.vl_refusal.specs.Meanings.{Names, bound, meaning_in}
 use Rattle.vl_refusal.specs.Refused.{lower_of, lowest}
 
 -- of sizes that are there
@@ -70,6 +71,10 @@ module _ (ns : List Names) where
     selects_fault fixed (bit q i ss) = lower_of (fault fixed i) (selects_fault fixed ss)
     selects_fault fixed (part q l r ss) = lower_of (lower_of (fault true l) (fault true r)) (selects_fault fixed ss)
     selects_fault fixed (indexed q i n ss) = lower_of (lower_of (fault fixed i) (fault true n)) (selects_fault fixed ss)
+
+  -- so many copies of a size
+  abbrev pub copied : Expr → Option ℕ → Option ℕ
+  copied e n = of_one (λ m. if_known ns e (wide_times (bound ns e) m)) n
 
   -- of one select
   abbrev pub select_fault : Bool → Select → Option ElabFault

@@ -39,8 +39,8 @@ pub fn expr_fault_in(
     requires { IfSome context.size (λ w. w ≤ 128) }
     ensures { IfOk result (λ g. g ≡ lowest (expressions.expr_refusals names.now fixed context expr.now)) }
 {
-    let own = expr_fault(alloc, expr, fixed, names)?;
     let place = zero_divisor_of(alloc, expr, context, names)?;
+    let own = expr_fault(alloc, expr, fixed, names)?;
     Ok(first_of(own, divided_by_zero(place)))
 }
 

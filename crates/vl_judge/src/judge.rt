@@ -10,8 +10,8 @@ ghost use Rattle.vl_refusal.specs.Refused.{lower_of, lowest};
 ghost use Rattle.vl_judge.specs.Judged as spec;
 ghost use Rattle.vl_scope.specs.Seen.{seen};
 
-use crate::fault::{first_of, too_wide};
-use crate::selects::{copies_fault, read_fault};
+use crate::fault::{first_of, range_if, too_wide};
+use crate::selects::{lacks_copies, read_fault};
 use crate::width::{binary_width, copies_width, larger, name_width, plus, some_bits, unary_width};
 use fv_base::{Memory, Pos, Text};
 use std::alloc::Global;
@@ -73,16 +73,14 @@ pub(crate) fn judge(
         ExprKind::Binary(operator, left, right) => {
             let fixed = either(fixed, divides(*operator));
             let l = judge(alloc, left, fixed, names)?;
-            let r = judge(alloc, right, fixed, names)?;
-            let width = binary_width(*operator, l.width, r.width);
-            Ok(closed(expr.pos, width, first_of(l.fault, r.fault)))
+            let r = judge_behind(alloc, l.fault, right, fixed, names)?;
+            Ok(closed(expr.pos, binary_width(*operator, l.width, r.width), r.fault))
         }
         ExprKind::Conditional(condition, first, second) => {
             let tested = judge(alloc, condition, fixed, names)?;
-            let m = judge(alloc, first, fixed, names)?;
-            let n = judge(alloc, second, fixed, names)?;
-            let fault = first_of(first_of(tested.fault, m.fault), n.fault);
-            Ok(closed(expr.pos, larger(m.width, n.width), fault))
+            let m = judge_behind(alloc, tested.fault, first, fixed, names)?;
+            let n = judge_behind(alloc, m.fault, second, fixed, names)?;
+            Ok(closed(expr.pos, larger(m.width, n.width), n.fault))
         }
         ExprKind::Concat(parts) => {
             let found = judge_parts(alloc, parts.as_slice(), fixed, names)?;
@@ -90,13 +88,74 @@ pub(crate) fn judge(
         }
         ExprKind::Repeat(count, parts) => {
             let counted = judge(alloc, count, true, names)?;
-            let found = judge_parts(alloc, parts.as_slice(), fixed, names)?;
-            let copies = copies_fault(alloc, expr.pos, count, names)?;
-            let width = copies_width(alloc, count, some_bits(found.width), names)?;
-            let fault = first_of(first_of(counted.fault, found.fault), copies);
-            Ok(closed(expr.pos, width, fault))
+            let found = judge_parts_behind(alloc, counted.fault, parts.as_slice(), fixed, names)?;
+            repeated(
+                alloc,
+                expr.pos,
+                count,
+                some_bits(found.width),
+                found.fault,
+                names,
+            )
         }
     }
+}
+
+/// An expression behind others with such a refusal.
+#[cycle(judge)]
+fn judge_behind(
+    alloc: Global,
+    before: Option<ElabFault>,
+    expr: &Expr,
+    fixed: bool,
+    names: &Names,
+) -> Result<Judged, Memory>
+    ensures width { IfOk result (λ j. j.width ≡ expressions.wide_size names.now expr.now) }
+    ensures fault { IfOk result (λ j. j.fault ≡ lower_of before (spec.fault names.now fixed expr.now)) }
+{
+    let found = judge(alloc, expr, fixed, names)?;
+    Ok(Judged {
+        width: found.width,
+        fault: first_of(before, found.fault),
+    })
+}
+
+/// The same of several.
+#[cycle(judge)]
+fn judge_parts_behind(
+    alloc: Global,
+    before: Option<ElabFault>,
+    all: &[Expr],
+    fixed: bool,
+    names: &Names,
+) -> Result<Judged, Memory>
+    ensures width { IfOk result (λ j. j.width ≡ expressions.wide_sizes names.now (exprs all.now)) }
+    ensures fault { IfOk result (λ j. j.fault ≡ lower_of before (spec.faults names.now fixed (exprs all.now))) }
+{
+    let found = judge_parts(alloc, all, fixed, names)?;
+    Ok(Judged {
+        width: found.width,
+        fault: first_of(before, found.fault),
+    })
+}
+
+/// So many copies of a size, with such a refusal of the parts.
+fn repeated(
+    alloc: Global,
+    pos: Pos,
+    count: &Expr,
+    size: Option<u64>,
+    inner: Option<ElabFault>,
+    names: &Names,
+) -> Result<Judged, Memory>
+    ensures width { IfOk result (λ j. j.width ≡ spec.copied names.now count.now size) }
+    ensures fault { IfOk result (λ j. j.fault
+        ≡ lower_of (lower_of inner (lowest (expressions.no_copies names.now pos count.now)))
+        (lowest (expressions.too_wide pos (spec.copied names.now count.now size)))) }
+{
+    let lacks = lacks_copies(alloc, count, names)?;
+    let width = copies_width(alloc, count, size, names)?;
+    Ok(closed(pos, width, first_of(inner, range_if(lacks, pos))))
 }
 
 #[cycle(judge)]
@@ -153,13 +212,13 @@ fn judge_select(
         }
         Select::Part(_, left, right) => {
             let l = judge(alloc, left, true, names)?;
-            let r = judge(alloc, right, true, names)?;
-            Ok(first_of(l.fault, r.fault))
+            let r = judge_behind(alloc, l.fault, right, true, names)?;
+            Ok(r.fault)
         }
         Select::Indexed(_, start, count) => {
             let s = judge(alloc, start, fixed, names)?;
-            let n = judge(alloc, count, true, names)?;
-            Ok(first_of(s.fault, n.fault))
+            let n = judge_behind(alloc, s.fault, count, true, names)?;
+            Ok(n.fault)
         }
     }
 }
@@ -181,14 +240,18 @@ fn judge_name(
 {
     match names.meaning(text) {
         None => {
+            let unknown = text.copied(alloc)?;
             let inner = judge_selects(alloc, all, fixed, names)?;
-            let unknown = ElabFault::Unknown(text.copied(alloc)?, pos);
-            Ok(closed(pos, None, first_of(inner, Some(unknown))))
+            Ok(closed(
+                pos,
+                None,
+                first_of(inner, Some(ElabFault::Unknown(unknown, pos))),
+            ))
         }
         Some(meaning) => {
+            let width = name_width(alloc, text, meaning, all, names)?;
             let inner = judge_selects(alloc, all, either(fixed, is_constant(meaning)), names)?;
             let own = read_fault(alloc, fixed, pos, text, meaning, all, names)?;
-            let width = name_width(alloc, text, meaning, all, names)?;
             Ok(closed(pos, width, first_of(inner, own)))
         }
     }

@@ -1,6 +1,8 @@
 //! Where names with their selects are refused.
-ghost use Rattle.std.specs.Prelude.{◌≡◌, List, IfOk};
+ghost use Rattle.std.specs.Prelude.{◌≡◌, ◌&&◌, ◌||◌, not, int_le, pos, List, IfOk};
 ghost use Rattle.vl_tree.specs.ExprView.{selects};
+ghost use Rattle.vl_size.specs.Size as size_spec;
+ghost use Rattle.vl_size.specs.Size.{is_bound};
 ghost use Rattle.vl_mean.specs.Scopes.{is_clock_class};
 ghost use Rattle.vl_refusal.specs.Expressions as spec;
 ghost use Rattle.vl_refusal.specs.Meanings as meanings;
@@ -19,6 +21,18 @@ use vl_scope::{Meaning, Names, Object, value_of};
 use vl_size::{Class, Decl};
 use vl_tree::{Expr, Select};
 
+/// Whether it is a bound past 32 signed bits.
+fn is_far(alloc: Global, expr: &Expr, names: &Names) -> Result<bool, Memory>
+    ensures { IfOk result (λ b. b
+        ≡ (meanings.is_known names.now expr.now && not (is_bound (meanings.bound names.now expr.now)))) }
+{
+    let value = value_of(alloc, expr, names)?;
+    match value {
+        None => Ok(false),
+        Some(own) => Ok(bound(own).is_none()),
+    }
+}
+
 /// A bound past 32 signed bits, at the place of its range.
 pub fn far_fault(
     alloc: Global,
@@ -28,47 +42,41 @@ pub fn far_fault(
 ) -> Result<Option<ElabFault>, Memory>
     ensures { IfOk result (λ g. g ≡ lowest (spec.far names.now pos expr.now)) }
 {
-    let value = value_of(alloc, expr, names)?;
-    match value {
-        None => Ok(None),
-        Some(own) => Ok(range_if(bound(own).is_none(), pos)),
-    }
+    Ok(range_if(is_far(alloc, expr, names)?, pos))
 }
 
-fn against_fault(
+/// Whether the part from left to right goes against the declared range.
+fn is_against(
     alloc: Global,
     decl: &Decl,
-    pos: Pos,
     left: &Expr,
     right: &Expr,
     names: &Names,
-) -> Result<Option<ElabFault>, Memory>
-    ensures { IfOk result (λ g. g ≡ lowest (spec.against names.now decl.now pos left.now right.now)) }
+) -> Result<bool, Memory>
+    ensures { IfOk result (λ b. b ≡ (meanings.is_known names.now left.now && (meanings.is_known names.now right.now
+        && not (size_spec.goes_along decl.now (meanings.bound names.now left.now)
+        (meanings.bound names.now right.now))))) }
 {
     let first = value_of(alloc, left, names)?;
     let second = value_of(alloc, right, names)?;
     match first {
-        None => Ok(None),
+        None => Ok(false),
         Some(l) => match second {
-            None => Ok(None),
-            Some(r) => Ok(range_if(!goes_along(decl, l, r), pos)),
+            None => Ok(false),
+            Some(r) => Ok(!goes_along(decl, l, r)),
         },
     }
 }
 
-/// A count below 1.
-pub(crate) fn copies_fault(
-    alloc: Global,
-    pos: Pos,
-    count: &Expr,
-    names: &Names,
-) -> Result<Option<ElabFault>, Memory>
-    ensures { IfOk result (λ g. g ≡ lowest (spec.no_copies names.now pos count.now)) }
+/// Whether it is a count below 1.
+pub(crate) fn lacks_copies(alloc: Global, count: &Expr, names: &Names) -> Result<bool, Memory>
+    ensures { IfOk result (λ b. b ≡ (meanings.is_known names.now count.now
+        && not (int_le (pos 1) (meanings.bound names.now count.now)))) }
 {
     let value = value_of(alloc, count, names)?;
     match value {
-        None => Ok(None),
-        Some(own) => Ok(range_if(!is_some_copies(own), pos)),
+        None => Ok(false),
+        Some(own) => Ok(!is_some_copies(own)),
     }
 }
 
@@ -84,8 +92,21 @@ fn behind_fault(all: &[Select]) -> Option<ElabFault>
     }
 }
 
+/// Of a part: the vector may not be selected from, a bound is far, or it goes against the declared range.
+fn is_wrong_part(may: bool, far_left: bool, far_right: bool, against: bool) -> bool
+    ensures { result ≡ (not may || far_left || far_right || against) }
+{
+    !may || far_left || far_right || against
+}
+
+fn is_wrong_indexed(may: bool, lacks: bool) -> bool
+    ensures { result ≡ (not may || lacks) }
+{
+    !may || lacks
+}
+
 /// The select of a vector that may be selected from, or else of none.
-#[tactic(auto, using(crate::proofs::Lowest::lowest_parts))]
+#[tactic(auto, using(crate::proofs::Lowest::alike))]
 fn alone_fault(
     alloc: Global,
     may: bool,
@@ -98,15 +119,14 @@ fn alone_fault(
     match select {
         Select::Bit(pos, _) => Ok(range_if(!may, *pos)),
         Select::Part(pos, left, right) => {
-            let far_left = far_fault(alloc, *pos, left, names)?;
-            let far_right = far_fault(alloc, *pos, right, names)?;
-            let against = against_fault(alloc, decl, *pos, left, right, names)?;
-            let bounds = first_of(first_of(range_if(!may, *pos), far_left), far_right);
-            Ok(first_of(bounds, against))
+            let far_left = is_far(alloc, left, names)?;
+            let far_right = is_far(alloc, right, names)?;
+            let against = is_against(alloc, decl, left, right, names)?;
+            Ok(range_if(is_wrong_part(may, far_left, far_right, against), *pos))
         }
         Select::Indexed(pos, _, count) => {
-            let copies = copies_fault(alloc, *pos, count, names)?;
-            Ok(first_of(range_if(!may, *pos), copies))
+            let lacks = lacks_copies(alloc, count, names)?;
+            Ok(range_if(is_wrong_indexed(may, lacks), *pos))
         }
     }
 }

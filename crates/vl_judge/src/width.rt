@@ -8,7 +8,7 @@ ghost use Rattle.vl_mean.specs.ConstantFaults.{capped, wide_times as times};
 ghost use Rattle.vl_mean.specs.Constants as constants;
 ghost use Rattle.vl_refusal.specs.Expressions as spec;
 ghost use Rattle.vl_refusal.specs.Meanings.{bound};
-ghost use Rattle.vl_judge.specs.Judged.{of_one, of_two};
+ghost use Rattle.vl_judge.specs.Judged.{copied, of_one, of_two};
 ghost use Rattle.vl_scope.specs.Seen.{seen};
 
 use crate::bounds::span_of;
@@ -82,8 +82,7 @@ pub(crate) fn copies_width(
     size: Option<u64>,
     names: &Names,
 ) -> Result<Option<u64>, Memory>
-    ensures { IfOk result (λ n. n ≡ of_one (λ m. spec.if_known names.now count.now
-        (times (bound names.now count.now) m)) size) }
+    ensures { IfOk result (λ n. n ≡ copied names.now count.now size) }
 {
     match size {
         None => Ok(None),

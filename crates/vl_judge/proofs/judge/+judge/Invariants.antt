@@ -7,19 +7,25 @@ use Rattle.vl_judge.specs.Judged.{faults, selects_fault}
 use Rattle.vl_judge.proofs.judge.+judge.Given as goal
 
 abbrev pub decreases-judge : goal.decreases-judge
-decreases-judge l = 4 * depth l.expr.now
+decreases-judge l = 5 * depth l.expr.now
+
+abbrev pub decreases-judge_behind : goal.decreases-judge_behind
+decreases-judge_behind l = 5 * depth l.expr.now + 1
+
+abbrev pub decreases-judge_parts_behind : goal.decreases-judge_parts_behind
+decreases-judge_parts_behind l = 5 * exprs_depth (exprs l.all.now) + 2
 
 abbrev pub decreases-judge_parts : goal.decreases-judge_parts
-decreases-judge_parts l = 4 * exprs_depth (exprs l.all.now) + 1
+decreases-judge_parts l = 5 * exprs_depth (exprs l.all.now) + 1
 
 abbrev pub decreases-judge_select : goal.decreases-judge_select
-decreases-judge_select l = 4 * selects_depth (with_select l.select.now whole) + 1
+decreases-judge_select l = 5 * selects_depth (with_select l.select.now whole) + 2
 
 abbrev pub decreases-judge_selects : goal.decreases-judge_selects
-decreases-judge_selects l = 4 * selects_depth (selects l.all.now) + 2
+decreases-judge_selects l = 5 * selects_depth (selects l.all.now) + 3
 
 abbrev pub decreases-judge_name : goal.decreases-judge_name
-decreases-judge_name l = 4 * selects_depth (selects l.all.now) + 3
+decreases-judge_name l = 5 * selects_depth (selects l.all.now) + 4
 
 abbrev pub invariant-judge_parts-loop-place : goal.invariant-judge_parts-loop-place
 invariant-judge_parts-loop-place l = record {
