@@ -1,299 +1,252 @@
 -- An answer has the only cause that is there.
-use Rattle.std.proofs.Common.{◌≡◌, ℕ, Bool, true, false, ◌||◌, ◌==◌, List, [], ◌∷◌, Option, Some, None, IfSome, refl}
-use Rattle.std.proofs.Common.{sym, ap, ◌∙◌, subst, arith}
-use Rattle.std.proofs.lemmas.Bool.Decides.{nat_tests}
-use Rattle.fv_base.specs.Outside.{Told, Names, ReadGives, Rose}
-use Rattle.rvf_text.specs.declared.fault.TextFault.{TextFault}
-use Rattle.rvf_core.specs.Refusal.{IsFirst, Refuses}
-use Rattle.vl_first.specs.Violation.{violates}
-use Rattle.vl_first.specs.declared.form.FirstPort.{FirstPort}
-use Rattle.rvf_core.specs.Certificate.{outcome}
-use Rattle.rvf_core.specs.Command.{Command, check, refute, command_of, files_of}
-use Rattle.rvf_core.specs.Ends.{Ends}
-use Rattle.rvf_core.specs.Run.{Run, Seen, seen_in, Answers, SaysOf, Reads, Certifies, first_lacking, Knows, IsExact}
-use Rattle.rvf_core.specs.Run.{rose, comes, comes_in_budget}
-use Rattle.rvf_core.specs.declared.report.Delivery.{Delivery}
-use Rattle.rvf_core.specs.Status.{code_of}
-use Rattle.rvf_core.specs.Verdict.{Verdict, Decides, NoneViolate}
-use Rattle.rvf_core.specs.declared.status.Status.{Status}
-use Rattle.rvf_core.specs.declared.status.Status.TheVariants as s
+use Rattle.std.proofs.Common.{◌≡◌, ℕ, Bool, true, false, List, [], ◌∷◌, length, Option, Some, None}
+use Rattle.std.proofs.Common.{refl, sym, subst, inl, inr, ◌⊎◌, arith}
+use Rattle.std.proofs.lemmas.List.Elements.{All-contains, All-from_recursion, recursion_from_All}
+use Rattle.std.specs.List.{All, AllByRecursion, Contains}
+use Rattle.fv_base.specs.Outside.{Names}
+use Rattle.vl_size.specs.Size.{Values}
+use Rattle.ck_cfg.specs.declared.check.Check.{Check}
+use Rattle.ck_cfg.specs.declared.config.Config.{Config}
+use Rattle.ck_cfg.specs.Checks.{checks_of}
+use Rattle.ck_design.specs.Retirements.{IsViolating}
+use Rattle.rvf_load.specs.Loads.{NoneRefuses, design_of}
+use Rattle.rvf_judge.specs.declared.judged.Judged.{Judged}
+use Rattle.rvf_judge.specs.declared.judged.Judged.TheVariants as judged
+use Rattle.rvf_words.specs.Line.{line_of}
+use Rattle.rvf_words.specs.declared.line.Line.{Line as Words}
+use Rattle.rvf_words.specs.declared.line.Line.TheVariants as words
+use Rattle.rvf_case.specs.Cases.{Request, Seen}
+use Rattle.rvf_case.specs.Texts.{asked_for, leaders}
+use Rattle.rvf_report.specs.Reports.{status_of}
+use Rattle.rvf_report.specs.declared.delivery.Delivery.{Delivery}
+use Rattle.rvf_report.specs.declared.status.Status.{Status}
+use Rattle.rvf_report.specs.declared.status.Status.TheVariants as s
+use Rattle.rvf_core.specs.Checks.{Checks, HasRead}
+use Rattle.rvf_core.specs.Checks as checks
+use Rattle.rvf_core.specs.Run.{Answers, Ends, IsAccepted, IsExact, Run, Says, comes, comes_in_budget}
+use Rattle.rvf_core.specs.Run.{comes_judged, rose, seen_in}
+use Rattle.rvf_core.specs.Steps.{HaveStatus}
+use Rattle.rvf_core.specs.Verdicts.{AreJudged, Judges, Violates, opts_in, text_of, wants_in}
+use Rattle.rvf_core.proofs.Causes.{moved, uncaused}
+use Rattle.rvf_core.proofs.Others.{same_said}
+use Rattle.rvf_core.proofs.Statuses.{IsFail, IsPass, all_pass, by_verdict, comes_Memory, comes_WriteFault, comes_itself}
+use Rattle.rvf_core.proofs.Statuses.{is_verdict, one_fails, passed_failing}
 
-unrisen : (before now : ℕ) → rose before now ≡ false → Rose before now → ⊥
-unrisen before now not_rose is_risen = grind (arith, nat_tests)
-
-both_verdicts : (b : Bool) → b ≡ true → b ≡ false → ⊥
-both_verdicts b p q = cc
-
-same_some : {A : Type 0} (found : Option A) (a b : A) → found ≡ Some a → found ≡ Some b → a ≡ b
-same_some found a b p q = cc
-
-or_true : (b : Bool) → (b || true) ≡ true
-or_true true = refl
-or_true false = refl
-
-not_both : {A : Type 0} (found : Option A) (a : A) → found ≡ Some a → found ≡ None → ⊥
-not_both found a p q = cc
+-- ---- answers by what is said of them
 
 -- what a status means under the words
-under : (r : Run) (asked : Option Command) (status : Status) → command_of r.words ≡ asked → Answers status r
-    → Ends (SaysOf asked (seen_in r)) status r.before r.now
-under r asked status is a = subst (λ c. Ends (SaysOf c (seen_in r)) status r.before r.now) is a
+under : (r : Run) (asked : Option Words) (status : Status) → line_of r.words ≡ asked → Answers status r
+    → Ends asked r status
+under r asked status is a = subst (λ line. Ends line r status) is a
 
-gives_told : (held : Told) (names : Names) (name bytes : List ℕ) → held ≡ Some names → ReadGives held name bytes
-    → names name ≡ Some bytes
-gives_told held names name bytes told gives = subst (λ t. ReadGives t name bytes) told gives
+-- what holds of each status that has its cause, and of those that may take its place, holds of the answer
+module _ (test : Status → Bool) (on_write : test s.WriteFault ≡ true) (on_memory : test s.Memory ≡ true)
+    (asked : Option Words) (r : Run) where
+  by_cause : (status : Status) → Ends asked r status
+      → ((report : List Delivery) → Says asked (seen_in r) status report → test status ≡ true) → test status ≡ true
+  by_cause s.Passed e f = f e.report e.says
+  by_cause s.Failing e f = f e.report e.says
+  by_cause s.Spent e f = f e.report e.says
+  by_cause s.Usage e f = f e.report e.says
+  by_cause s.Config e f = f e.report e.says
+  by_cause s.Source e f = f e.report e.says
+  by_cause s.Absent e f = f e.report e.says
+  by_cause s.ReadFault e f = f e.report e.says
+  by_cause s.WriteFault e f = on_write
+  by_cause s.Heavy e f = f e.report e.says
+  by_cause s.Refused e f = f e.report e.says
+  by_cause s.Memory e f = on_memory
 
--- the file that is said not to be held isn't held, where files are told
-misses_told : (held : Told) (names : Names) (files : List (List ℕ)) (name : List ℕ) → held ≡ Some names
-    → IfSome held (λ f. first_lacking f files ≡ Some name) → first_lacking names files ≡ Some name
-misses_told held names files name told first = subst (λ t. IfSome t (λ f. first_lacking f files ≡ Some name)) told first
-
--- where all are held none is lacking
-one_held : (names : Names) (file bytes : List ℕ) → names file ≡ Some bytes → first_lacking names (file ∷ []) ≡ None
-one_held names file bytes p = rw p
-
-two_held : (names : Names) (first second some more : List ℕ) → names first ≡ Some some → names second ≡ Some more
-    → first_lacking names (first ∷ second ∷ []) ≡ None
-two_held names first second some more p q = rw (p, q)
-
-read_verdict : (status : Status) (file outdir : List ℕ) (seen : Seen) (names : Names) (report : List Delivery)
-    (bytes : List ℕ) → seen.held ≡ Some names → names file ≡ Some bytes
-    → Reads status file outdir seen report → Verdict status file outdir bytes report
-read_verdict status file outdir seen names report bytes told held p =
-    subst (λ b. Verdict status file outdir b report)
-    (same_some (names file) p.bytes bytes (gives_told seen.held names file p.bytes told p.gives) held) p.verdict
-
-usage_comes : (status : Status) (r : Run) → Ends (SaysOf None (seen_in r)) status r.before r.now
+usage_comes : (r : Run) (status : Status) → Answers status r → line_of r.words ≡ None
     → comes s.Usage status ≡ true
-usage_comes s.Passed r e = absurd e.says
-usage_comes s.Failing r e = absurd e.says
-usage_comes s.Spent r e = absurd e.says
-usage_comes s.Usage r e = refl
-usage_comes s.Config r e = absurd e.says
-usage_comes s.Source r e = absurd e.says
-usage_comes s.Absent r e = absurd e.says
-usage_comes s.ReadFault r e = absurd e.says
-usage_comes s.WriteFault r e = refl
-usage_comes s.Heavy r e = absurd e.says
-usage_comes s.Refused r e = absurd e.says
-usage_comes s.Memory r e = refl
+usage_comes r status a none =
+    by_cause (comes s.Usage) refl refl None r status (under r None status none a)
+    (λ report says. comes_itself s.Usage status says.status_is)
 
-check_absent : (status : Status) (r : Run) (file outdir : List ℕ)
-    → Ends (SaysOf (Some (check file outdir)) (seen_in r)) status r.before r.now → (names : Names)
-    → r.before.held ≡ Some names → rose r.before.faults r.now.faults ≡ false → (name : List ℕ)
-    → first_lacking names (file ∷ []) ≡ Some name → comes s.Absent status ≡ true
-check_absent s.Passed r file outdir e names told no_fault name lacks = absurd
-    (not_both _ _ lacks (one_held names file e.says.bytes
-    (gives_told r.before.held names file e.says.bytes told e.says.gives)))
-check_absent s.Failing r file outdir e names told no_fault name lacks = absurd
-    (not_both _ _ lacks (one_held names file e.says.bytes
-    (gives_told r.before.held names file e.says.bytes told e.says.gives)))
-check_absent s.Spent r file outdir e names told no_fault name lacks = absurd
-    (not_both _ _ lacks (one_held names file e.says.bytes
-    (gives_told r.before.held names file e.says.bytes told e.says.gives)))
-check_absent s.Usage r file outdir e names told no_fault name lacks = absurd e.says
-check_absent s.Config r file outdir e names told no_fault name lacks = absurd e.says
-check_absent s.Source r file outdir e names told no_fault name lacks = absurd
-    (not_both _ _ lacks (one_held names file e.says.bytes
-    (gives_told r.before.held names file e.says.bytes told e.says.gives)))
-check_absent s.Absent r file outdir e names told no_fault name lacks = refl
-check_absent s.ReadFault r file outdir e names told no_fault name lacks = absurd (unrisen _ _ no_fault e.says.counted)
-check_absent s.WriteFault r file outdir e names told no_fault name lacks = refl
-check_absent s.Heavy r file outdir e names told no_fault name lacks = absurd e.says
-check_absent s.Refused r file outdir e names told no_fault name lacks = absurd e.says
-check_absent s.Memory r file outdir e names told no_fault name lacks = refl
+-- ---- checks
 
-refute_absent : (status : Status) (r : Run) (cnf proof : List ℕ)
-    → Ends (SaysOf (Some (refute cnf proof)) (seen_in r)) status r.before r.now → (names : Names)
-    → r.before.held ≡ Some names → rose r.before.faults r.now.faults ≡ false → (name : List ℕ)
-    → first_lacking names (cnf ∷ proof ∷ []) ≡ Some name → comes s.Absent status ≡ true
-refute_absent s.Passed r cnf proof e names told no_fault name lacks = absurd
-    (not_both _ _ lacks (two_held names cnf proof e.says.clauses e.says.steps
-    (gives_told r.before.held names cnf e.says.clauses told e.says.gives_clauses)
-    (gives_told r.before.held names proof e.says.steps told e.says.gives_steps)))
-refute_absent s.Failing r cnf proof e names told no_fault name lacks = absurd e.says
-refute_absent s.Spent r cnf proof e names told no_fault name lacks = absurd e.says
-refute_absent s.Usage r cnf proof e names told no_fault name lacks = absurd e.says
-refute_absent s.Config r cnf proof e names told no_fault name lacks = absurd e.says
-refute_absent s.Source r cnf proof e names told no_fault name lacks = absurd e.says
-refute_absent s.Absent r cnf proof e names told no_fault name lacks = refl
-refute_absent s.ReadFault r cnf proof e names told no_fault name lacks = absurd (unrisen _ _ no_fault e.says.counted)
-refute_absent s.WriteFault r cnf proof e names told no_fault name lacks = refl
-refute_absent s.Heavy r cnf proof e names told no_fault name lacks = absurd e.says
-refute_absent s.Refused r cnf proof e names told no_fault name lacks = absurd
-    (not_both _ _ lacks (two_held names cnf proof e.says.clauses e.says.steps
-    (gives_told r.before.held names cnf e.says.clauses told e.says.gives_clauses)
-    (gives_told r.before.held names proof e.says.steps told e.says.gives_steps)))
-refute_absent s.Memory r cnf proof e names told no_fault name lacks = refl
+-- no run of the text of a check violates it
+abbrev IsClean : Config → List (List ℕ) → Check → Type 0
+IsClean c fs x = (run : List Values) → Violates c fs x run → ⊥
 
-source_comes : (status : Status) (r : Run) (file outdir bytes : List ℕ)
-    → Ends (SaysOf (Some (check file outdir)) (seen_in r)) status r.before r.now → (names : Names)
-    → r.before.held ≡ Some names → rose r.before.faults r.now.faults ≡ false → names file ≡ Some bytes
-    → (refusal : Option TextFault) → Refuses refusal bytes → comes s.Source status ≡ true
-source_comes s.Passed r file outdir bytes e names told no_fault held refusal refuses =
-    let v = read_verdict s.Passed file outdir (seen_in r) names e.report bytes told held e.says
-    in absurd (v.unrefused refusal refuses)
-source_comes s.Failing r file outdir bytes e names told no_fault held refusal refuses =
-    let v = read_verdict s.Failing file outdir (seen_in r) names e.report bytes told held e.says
-    in absurd (v.unrefused refusal refuses)
-source_comes s.Spent r file outdir bytes e names told no_fault held refusal refuses =
-    let v = read_verdict s.Spent file outdir (seen_in r) names e.report bytes told held e.says
-    in absurd (v.unrefused refusal refuses)
-source_comes s.Usage r file outdir bytes e names told no_fault held refusal refuses = absurd e.says
-source_comes s.Config r file outdir bytes e names told no_fault held refusal refuses = absurd e.says
-source_comes s.Source r file outdir bytes e names told no_fault held refusal refuses = refl
-source_comes s.Absent r file outdir bytes e names told no_fault held refusal refuses = absurd
-    (not_both _ _ (misses_told r.before.held names (file ∷ []) e.says.name told e.says.first)
-    (one_held names file bytes held))
-source_comes s.ReadFault r file outdir bytes e names told no_fault held refusal refuses =
-    absurd (unrisen _ _ no_fault e.says.counted)
-source_comes s.WriteFault r file outdir bytes e names told no_fault held refusal refuses = refl
-source_comes s.Heavy r file outdir bytes e names told no_fault held refusal refuses = absurd e.says
-source_comes s.Refused r file outdir bytes e names told no_fault held refusal refuses = absurd e.says
-source_comes s.Memory r file outdir bytes e names told no_fault held refusal refuses = refl
+-- a run that violates a check violates it in the reading of which the check was judged
+violates_judged : (c : Config) (fs : List (List ℕ)) (budget : ℕ) (x : Check) (j : Judged) (run : List Values)
+    (g : Judges c fs budget x j) → Violates c fs x run
+    → IsViolating (design_of g.reading.tree.modules) c.nret (wants_in (text_of c fs x.kind) g.reading) x
+    (opts_in (text_of c fs x.kind) g.reading) run
+violates_judged c fs budget x j run g v =
+    subst (λ y. IsViolating (design_of y.tree.modules) c.nret (wants_in (text_of c fs x.kind) y) x
+    (opts_in (text_of c fs x.kind) y) run) (g.one v.reading v.is.reads) v.violating
 
--- numbers that violate are numbers of the only ports that the bytes declare
-violates_moved : (outdir bytes : List ℕ) (report : List Delivery) (ports : List FirstPort) (status : Status)
-    (numbers : List ℕ) (v : Decides status outdir bytes report)
-    → IsFirst bytes ports → violates v.ports numbers ≡ violates ports numbers
-violates_moved outdir bytes report ports status numbers v first =
-    ap (λ ps. violates ps numbers) (sym (v.only ports first))
+clean_pass : (c : Config) (fs : List (List ℕ)) (budget : ℕ) (x : Check) (j : Judged)
+    → IsPass j → Judges c fs budget x j → IsClean c fs x
+clean_pass c fs budget x (judged.Pass texts) p g =
+    λ run v. g.judged.holds run (violates_judged c fs budget x (judged.Pass texts) run g v)
+clean_pass c fs budget x (judged.Fail dump) p g = absurd p
+clean_pass c fs budget x (judged.Spent texts) p g = absurd p
 
-pass_comes : (status : Status) (r : Run) (file outdir bytes : List ℕ) (ports : List FirstPort)
-    → Ends (SaysOf (Some (check file outdir)) (seen_in r)) status r.before r.now → (names : Names)
-    → r.before.held ≡ Some names → rose r.before.faults r.now.faults ≡ false → names file ≡ Some bytes
-    → IsFirst bytes ports → NoneViolate ports → comes_in_budget s.Passed status ≡ true
-pass_comes s.Passed r file outdir bytes ports e names told no_fault held first none = refl
-pass_comes s.Failing r file outdir bytes ports e names told no_fault held first none =
-    let v = read_verdict s.Failing file outdir (seen_in r) names e.report bytes told held e.says
-    in absurd (both_verdicts _ v.decision.violating
-    (violates_moved outdir bytes e.report ports s.Failing v.decision.numbers v first ∙ none v.decision.numbers))
-pass_comes s.Spent r file outdir bytes ports e names told no_fault held first none = refl
-pass_comes s.Usage r file outdir bytes ports e names told no_fault held first none = absurd e.says
-pass_comes s.Config r file outdir bytes ports e names told no_fault held first none = absurd e.says
-pass_comes s.Source r file outdir bytes ports e names told no_fault held first none =
-    let v = read_verdict s.Source file outdir (seen_in r) names e.report bytes told held e.says
-    in absurd (v.none ports first)
-pass_comes s.Absent r file outdir bytes ports e names told no_fault held first none = absurd
-    (not_both _ _ (misses_told r.before.held names (file ∷ []) e.says.name told e.says.first)
-    (one_held names file bytes held))
-pass_comes s.ReadFault r file outdir bytes ports e names told no_fault held first none =
-    absurd (unrisen _ _ no_fault e.says.counted)
-pass_comes s.WriteFault r file outdir bytes ports e names told no_fault held first none = refl
-pass_comes s.Heavy r file outdir bytes ports e names told no_fault held first none = absurd e.says
-pass_comes s.Refused r file outdir bytes ports e names told no_fault held first none = absurd e.says
-pass_comes s.Memory r file outdir bytes ports e names told no_fault held first none = refl
+fails_unclean : (c : Config) (fs : List (List ℕ)) (budget : ℕ) (x : Check) (j : Judged)
+    → IsFail j → Judges c fs budget x j → IsClean c fs x → ⊥
+fails_unclean c fs budget x (judged.Pass texts) p g clean = p
+fails_unclean c fs budget x (judged.Fail dump) p g clean =
+    clean g.judged.run (record { reading = g.reading; is = g.is; violating = g.judged.violates })
+fails_unclean c fs budget x (judged.Spent texts) p g clean = p
 
-fail_comes : (status : Status) (r : Run) (file outdir bytes : List ℕ) (ports : List FirstPort) (numbers : List ℕ)
-    → Ends (SaysOf (Some (check file outdir)) (seen_in r)) status r.before r.now → (names : Names)
-    → r.before.held ≡ Some names → rose r.before.faults r.now.faults ≡ false → names file ≡ Some bytes
-    → IsFirst bytes ports → violates ports numbers ≡ true → comes_in_budget s.Failing status ≡ true
-fail_comes s.Passed r file outdir bytes ports numbers e names told no_fault held first violating =
-    let v = read_verdict s.Passed file outdir (seen_in r) names e.report bytes told held e.says
-    in absurd (both_verdicts _ violating (sym (violates_moved outdir bytes e.report ports s.Passed numbers v first)
-    ∙ v.decision.none numbers))
-fail_comes s.Failing r file outdir bytes ports numbers e names told no_fault held first violating = refl
-fail_comes s.Spent r file outdir bytes ports numbers e names told no_fault held first violating = refl
-fail_comes s.Usage r file outdir bytes ports numbers e names told no_fault held first violating = absurd e.says
-fail_comes s.Config r file outdir bytes ports numbers e names told no_fault held first violating = absurd e.says
-fail_comes s.Source r file outdir bytes ports numbers e names told no_fault held first violating =
-    let v = read_verdict s.Source file outdir (seen_in r) names e.report bytes told held e.says
-    in absurd (v.none ports first)
-fail_comes s.Absent r file outdir bytes ports numbers e names told no_fault held first violating = absurd
-    (not_both _ _ (misses_told r.before.held names (file ∷ []) e.says.name told e.says.first)
-    (one_held names file bytes held))
-fail_comes s.ReadFault r file outdir bytes ports numbers e names told no_fault held first violating =
-    absurd (unrisen _ _ no_fault e.says.counted)
-fail_comes s.WriteFault r file outdir bytes ports numbers e names told no_fault held first violating = refl
-fail_comes s.Heavy r file outdir bytes ports numbers e names told no_fault held first violating = absurd e.says
-fail_comes s.Refused r file outdir bytes ports numbers e names told no_fault held first violating = absurd e.says
-fail_comes s.Memory r file outdir bytes ports numbers e names told no_fault held first violating = refl
+-- one fails, or another one does
+unclean_or : (c : Config) (fs : List (List ℕ)) (budget : ℕ) (x : Check) (j : Judged) (Other : Type 0)
+    → IsFail j ⊎ Other → Judges c fs budget x j → IsClean c fs x → (Other → ⊥) → ⊥
+unclean_or c fs budget x j Other (inl p) g clean none = fails_unclean c fs budget x j p g clean
+unclean_or c fs budget x j Other (inr p) g clean none = none p
 
--- what was read of both files comes to this status
-same_outcome : (status : Status) (cnf proof : List ℕ) (seen : Seen) (names : Names) (report : List Delivery)
-    (clauses steps : List ℕ) → seen.held ≡ Some names
-    → names cnf ≡ Some clauses → names proof ≡ Some steps → Certifies status cnf proof seen report
-    → (outcome clauses steps).status ≡ status
-same_outcome status cnf proof seen names report clauses steps told held also p =
-    let first : p.clauses ≡ clauses = same_some (names cnf) p.clauses clauses
-    (gives_told seen.held names cnf p.clauses told p.gives_clauses) held in
-    let second : p.steps ≡ steps = same_some (names proof) p.steps steps
-    (gives_told seen.held names proof p.steps told p.gives_steps) also in
-    ap (λ c. (outcome c steps).status) (sym first) ∙ ap (λ t. (outcome p.clauses t).status) (sym second)
-    ∙ ap (λ f. f.status) p.found
+none_left : {A : Type 0} (x : A) (xs : List A) → ◌≡◌ {A = ℕ} 0 (length (x ∷ xs)) → ⊥
+none_left x xs e = cc
 
-comes_itself : (wanted status : Status) → wanted ≡ status → comes status status ≡ true → comes wanted status ≡ true
-comes_itself wanted status is p = subst (λ w. comes w status ≡ true) (sym is) p
+more_left : {A B : Type 0} (y : B) (ys : List B) (x : A) (xs : List A) → length (y ∷ ys) ≡ length (x ∷ xs)
+    → length ys ≡ length xs
+more_left y ys x xs e = omega arith
 
--- a delivery that failed, and want of memory, may take the place of each status
-comes_free : (wanted status : Status) → comes s.Memory status ≡ true → comes wanted status ≡ true
-comes_free wanted s.WriteFault p = or_true (code_of s.WriteFault == code_of wanted)
-comes_free wanted s.Memory p = or_true (code_of s.Memory == code_of wanted)
-comes_free wanted s.Passed p = cc
-comes_free wanted s.Failing p = cc
-comes_free wanted s.Spent p = cc
-comes_free wanted s.Usage p = cc
-comes_free wanted s.Config p = cc
-comes_free wanted s.Source p = cc
-comes_free wanted s.Absent p = cc
-comes_free wanted s.ReadFault p = cc
-comes_free wanted s.Heavy p = cc
-comes_free wanted s.Refused p = cc
+module _ (c : Config) (fs : List (List ℕ)) (budget : ℕ) where
+  -- where all pass no check is violated
+  passed_clean : (xs : List Check) (js : List Judged) → AreJudged c fs budget xs js → length js ≡ length xs
+      → status_of js ≡ s.Passed → AllByRecursion (IsClean c fs) xs
+  passed_clean [] js are all passed = tt
+  passed_clean (x ∷ xs) [] are all passed = absurd (none_left x xs all)
+  passed_clean (x ∷ xs) (j ∷ js) are all passed =
+      let both = all_pass j js passed in (
+        clean_pass c fs budget x j both.0 are.0,
+        passed_clean xs js are.1 (more_left j js x xs all) both.1,
+      )
 
-certificate_comes : (status : Status) (r : Run) (cnf proof clauses steps : List ℕ)
-    → Ends (SaysOf (Some (refute cnf proof)) (seen_in r)) status r.before r.now → (names : Names)
-    → r.before.held ≡ Some names → rose r.before.faults r.now.faults ≡ false → names cnf ≡ Some clauses
-    → names proof ≡ Some steps → comes (outcome clauses steps).status status ≡ true
-certificate_comes s.Passed r cnf proof clauses steps e names told no_fault held also = comes_itself
-    (outcome clauses steps).status s.Passed (same_outcome s.Passed cnf proof
-    (seen_in r) names e.report clauses steps told held also e.says) refl
-certificate_comes s.Failing r cnf proof clauses steps e names told no_fault held also = absurd e.says
-certificate_comes s.Spent r cnf proof clauses steps e names told no_fault held also = absurd e.says
-certificate_comes s.Usage r cnf proof clauses steps e names told no_fault held also = absurd e.says
-certificate_comes s.Config r cnf proof clauses steps e names told no_fault held also = absurd e.says
-certificate_comes s.Source r cnf proof clauses steps e names told no_fault held also = absurd e.says
-certificate_comes s.Absent r cnf proof clauses steps e names told no_fault held also = absurd
-    (not_both _ _ (misses_told r.before.held names (cnf ∷ proof ∷ []) e.says.name told e.says.first)
-    (two_held names cnf proof clauses steps held also))
-certificate_comes s.ReadFault r cnf proof clauses steps e names told no_fault held also =
-    absurd (unrisen _ _ no_fault e.says.counted)
-certificate_comes s.WriteFault r cnf proof clauses steps e names told no_fault held also =
-    comes_free (outcome clauses steps).status s.WriteFault refl
-certificate_comes s.Heavy r cnf proof clauses steps e names told no_fault held also = absurd e.says
-certificate_comes s.Refused r cnf proof clauses steps e names told no_fault held also = comes_itself
-    (outcome clauses steps).status s.Refused
-    (same_outcome s.Refused cnf proof (seen_in r) names e.report clauses steps told held also e.says) refl
-certificate_comes s.Memory r cnf proof clauses steps e names told no_fault held also =
-    comes_free (outcome clauses steps).status s.Memory refl
+  -- where one fails a check is violated
+  failing_unclean : (xs : List Check) (js : List Judged) → AreJudged c fs budget xs js
+      → status_of js ≡ s.Failing → AllByRecursion (IsClean c fs) xs → ⊥
+  failing_unclean xs [] are failing clean = passed_failing failing
+  failing_unclean [] (j ∷ js) are failing clean = are
+  failing_unclean (x ∷ xs) (j ∷ js) are failing clean =
+      unclean_or c fs budget x j (status_of js ≡ s.Failing) (one_fails j js failing) are.0 clean.0
+      (λ p. failing_unclean xs js are.1 p clean.1)
 
-absent_comes : (status : Status) (r : Run) (command : Command) (names : Names) → Knows r command names
-    → Answers status r → (name : List ℕ)
-    → first_lacking names (files_of command) ≡ Some name → comes s.Absent status ≡ true
-absent_comes status r (check file outdir) names k a name lacks =
-    check_absent status r file outdir (under r
-    (Some (check file outdir)) status k.asked a) names k.told k.no_fault name lacks
-absent_comes status r (refute cnf proof) names k a name lacks =
-    refute_absent status r cnf proof (under r
-    (Some (refute cnf proof)) status k.asked a) names k.told k.no_fault name lacks
+module _ (q : Request) (names : Names) (misses misses_now faults faults_now : ℕ)
+    (no_fault : rose faults faults_now ≡ false) (c : Config) (fs : List (List ℕ))
+    (read : HasRead q (Some names) c fs) (unrefused : All (λ kind. NoneRefuses (asked_for c fs kind)) (leaders c)) where
+  abbrev seen : Seen
+  seen = record {
+    held = Some names;
+    misses = misses;
+    misses_now = misses_now;
+    faults = faults;
+    faults_now = faults_now;
+  }
 
--- an answer has its cause, so each cause has its answer
-pub IsExact-answers : (r : Run) (status : Status) → Answers status r → IsExact status r
-IsExact-answers r status a = record {
-  usage = λ none. usage_comes status r (under r None status none a);
-  absent = λ h. absent_comes status r h.command h.names h.known a h.name h.lacks;
-  source = λ bytes refusal h.
-      source_comes status r h.file h.outdir bytes
-      (under r (Some (check h.file h.outdir)) status h.known.asked a) h.names h.known.told h.known.no_fault
-      h.held refusal;
-  pass = λ bytes ports h.
-      pass_comes status r h.file h.outdir bytes ports
-      (under r (Some (check h.file h.outdir)) status h.known.asked a) h.names h.known.told h.known.no_fault h.held;
-  fail = λ bytes ports numbers h.
-      fail_comes status r h.file h.outdir bytes ports numbers
-      (under r (Some (check h.file h.outdir)) status h.known.asked a) h.names h.known.told h.known.no_fault
-      h.held;
-  certificate = λ clauses steps h.
-      certificate_comes status r h.cnf h.proof clauses steps
-      (under r (Some (refute h.cnf h.proof)) status h.known.asked a) h.names h.known.told h.known.no_fault
-      h.held_clauses h.held_steps;
+  pass_said : (folder : List ℕ) (budget : ℕ) (status : Status) (report : List Delivery)
+      → Checks q seen folder budget status report → All (IsClean c fs) (checks_of c)
+      → comes_in_budget s.Passed status ≡ true
+  pass_said folder budget status report (checks.judged w) clean =
+      let are : AreJudged c fs budget (checks_of c) w.answers =
+      moved q names (λ d gs. AreJudged d gs budget (checks_of d) w.answers) c w.config fs w.files read w.read
+      w.judged in
+      subst (λ x. comes_in_budget s.Passed x ≡ true) (sym w.status_is)
+      (by_verdict (comes_in_budget s.Passed) (status_of w.answers) (is_verdict w.answers) (λ e. refl)
+      (λ e. absurd (failing_unclean c fs budget (checks_of c) w.answers are e
+      (recursion_from_All (IsClean c fs) (checks_of c) clean))) refl)
+  pass_said folder budget status report (checks.refused w) clean =
+      absurd (uncaused q names misses misses_now faults faults_now c fs no_fault read unrefused w.refusal w.cause)
+
+  judged_said : (folder : List ℕ) (budget : ℕ) (status : Status) (report : List Delivery)
+      → Checks q seen folder budget status report → comes_judged status ≡ true
+  judged_said folder budget status report (checks.judged w) =
+      subst (λ x. comes_judged x ≡ true) (sym w.status_is)
+      (by_verdict comes_judged (status_of w.answers) (is_verdict w.answers) (λ e. refl) (λ e. refl) refl)
+  judged_said folder budget status report (checks.refused w) =
+      absurd (uncaused q names misses misses_now faults faults_now c fs no_fault read unrefused w.refusal w.cause)
+
+  fail_said : (folder : List ℕ) (budget : ℕ) (status : Status) (report : List Delivery) (x : Check)
+      (run : List Values) → Checks q seen folder budget status report → Contains (checks_of c) x
+      → Violates c fs x run → comes_in_budget s.Failing status ≡ true
+  fail_said folder budget status report x run (checks.judged w) there violates =
+      let P : Config → List (List ℕ) → Type 0 =
+      λ d gs. AreJudged d gs budget (checks_of d) w.answers × (length w.answers ≡ length (checks_of d)) in
+      let are : P c fs = moved q names P c w.config fs w.files read w.read (w.judged, w.all) in
+      subst (λ z. comes_in_budget s.Failing z ≡ true) (sym w.status_is)
+      (by_verdict (comes_in_budget s.Failing) (status_of w.answers) (is_verdict w.answers)
+      (λ e. absurd (All-contains (IsClean c fs) (checks_of c) x
+      (All-from_recursion (IsClean c fs) (checks_of c)
+      (passed_clean c fs budget (checks_of c) w.answers are.0 are.1 e)) there run violates)) (λ e. refl) refl)
+  fail_said folder budget status report x run (checks.refused w) there violates =
+      absurd (uncaused q names misses misses_now faults faults_now c fs no_fault read unrefused w.refusal w.cause)
+
+-- the same run, where its files are told
+abbrev seen_told : Names → Run → Seen
+seen_told names r = record {
+  held = Some names;
+  misses = r.before.misses;
+  misses_now = r.now.misses;
+  faults = r.before.faults;
+  faults_now = r.now.faults;
+}
+
+told_checks : (r : Run) (names : Names) (q : Request) (folder : List ℕ) (budget : ℕ) (status : Status)
+    (report : List Delivery) → r.before.held ≡ Some names → Checks q (seen_in r) folder budget status report
+    → Checks q (seen_told names r) folder budget status report
+told_checks r names q folder budget status report told said =
+    subst (λ held. Checks q (record {
+      held = held;
+      misses = r.before.misses;
+      misses_now = r.now.misses;
+      faults = r.before.faults;
+      faults_now = r.now.faults;
+    }) folder budget status report) told said
+
+pass_comes : (r : Run) (status : Status) → Answers status r → (c : Config) (fs : List (List ℕ)) → IsAccepted r c fs
+    → All (IsClean c fs) (checks_of c) → comes_in_budget s.Passed status ≡ true
+pass_comes r status a c fs h clean =
+    let asks = h.asks in
+    let line : Option Words = Some (words.Run h.request.cfg asks.outdir h.request.core h.request.basedir asks.budget
+    asks.jobs) in
+    by_cause (comes_in_budget s.Passed) refl refl line r status (under r line status asks.asked a)
+    (λ report says. pass_said h.request asks.names r.before.misses r.now.misses r.before.faults r.now.faults
+    asks.no_fault c fs (subst (λ held. HasRead h.request held c fs) asks.told h.read) h.unrefused asks.outdir
+    asks.budget status report (told_checks r asks.names h.request asks.outdir asks.budget status report asks.told says)
+    clean)
+
+judged_comes : (r : Run) (status : Status) → Answers status r → (c : Config) (fs : List (List ℕ))
+    → IsAccepted r c fs → comes_judged status ≡ true
+judged_comes r status a c fs h =
+    let asks = h.asks in
+    let line : Option Words = Some (words.Run h.request.cfg asks.outdir h.request.core h.request.basedir asks.budget
+    asks.jobs) in
+    by_cause comes_judged refl refl line r status (under r line status asks.asked a)
+    (λ report says. judged_said h.request asks.names r.before.misses r.now.misses r.before.faults r.now.faults
+    asks.no_fault c fs (subst (λ held. HasRead h.request held c fs) asks.told h.read) h.unrefused asks.outdir
+    asks.budget status report (told_checks r asks.names h.request asks.outdir asks.budget status report asks.told says))
+
+fail_comes : (r : Run) (status : Status) → Answers status r → (c : Config) (fs : List (List ℕ)) (x : Check)
+    (run : List Values) → IsAccepted r c fs → Contains (checks_of c) x → Violates c fs x run
+    → comes_in_budget s.Failing status ≡ true
+fail_comes r status a c fs x run h there violates =
+    let asks = h.asks in
+    let line : Option Words = Some (words.Run h.request.cfg asks.outdir h.request.core h.request.basedir asks.budget
+    asks.jobs) in
+    by_cause (comes_in_budget s.Failing) refl refl line r status (under r line status asks.asked a)
+    (λ report says. fail_said h.request asks.names r.before.misses r.now.misses r.before.faults r.now.faults
+    asks.no_fault c fs (subst (λ held. HasRead h.request held c fs) asks.told h.read) h.unrefused asks.outdir
+    asks.budget status report x run
+    (told_checks r asks.names h.request asks.outdir asks.budget status report asks.told says) there violates)
+
+-- ---- each cause
+
+pub IsExact-answers : (r : Run) (status : Status) → Answers status r → HaveStatus (line_of r.words) r status
+    → IsExact status r
+IsExact-answers r status a statuses = record {
+  usage = λ none. usage_comes r status a none;
+  refusal = λ f h.
+      subst (λ line. HaveStatus line r status) h.asks.asked statuses h.asks.names h.asks.told h.asks.no_fault f h.cause;
+  pass = λ c fs h clean. pass_comes r status a c fs h clean;
+  fail = λ c fs x run h there violates. fail_comes r status a c fs x run h there violates;
+  judged = λ c fs h. judged_comes r status a c fs h;
+  other = λ asked wanted report h says.
+      by_cause (comes wanted) (comes_WriteFault wanted) (comes_Memory wanted) (Some asked) r status
+      (under r (Some asked) status h.asked_is a)
+      (λ told said. comes_itself wanted status
+      (same_said r h.names h.told h.no_fault asked h.other status wanted told report said says));
 }

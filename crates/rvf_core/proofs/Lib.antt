@@ -1,7 +1,12 @@
-pub mod Deliveries
-pub mod Ports
-pub mod OneFile
 pub mod Judging
+pub mod Ranges
+pub mod Later
+pub mod Statuses
 pub mod Causes
+pub mod Refusals
 pub mod Endings
+pub mod Others
 pub mod Exact
+pub mod FromFiles
+pub mod FromChecks
+pub mod FromWords

@@ -14,13 +14,15 @@ use Rattle.lrat_check.specs.declared.step.StepFault.{StepFault}
 use Rattle.lrat_check.specs.declared.step.StepFault.TheVariants as step
 use Rattle.lrat_check.specs.declared.step.Refuted.{Refuted}
 use Rattle.lrat_check.specs.declared.step.Step.{Step}
-use Rattle.rvf_core.specs.Lines.{one_line}
+use Rattle.rvf_report.specs.declared.delivery.Delivery.TheVariants.{Line}
+use Rattle.rvf_report.specs.declared.status.Status.{Status}
+use Rattle.rvf_lines.specs.Printed.{spaced}
 use Rattle.rvf_core.specs.declared.report.Report.{Report}
-use Rattle.rvf_core.specs.declared.status.Status.TheVariants as s
+use Rattle.rvf_report.specs.declared.status.Status.TheVariants as s
 
--- words parted by blanks, and the end of the line
-abbrev pub spaced : List ℕ → List ℕ → List ℕ
-spaced word rest = word ++ (32 ∷ rest)
+-- a status with one line
+abbrev pub one_line : Status → List ℕ → Report
+one_line status bytes = record { status = status; deliveries = Line bytes ∷ [] }
 
 -- a refusal's number, and two values
 abbrev pub two_values : List ℕ → ℕ → List ℕ → List ℕ

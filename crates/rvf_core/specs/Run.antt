@@ -1,47 +1,29 @@
 -- What an answer of the top call means: its cause, and its report. Rules of this project.
-use Rattle.std.specs.Prelude.{
-  ◌≡◌,
-  ℕ,
-  ◌+◌,
-  ◌-◌,
-  ◌^◌,
-  Bool,
-  true,
-  false,
-  ◌||◌,
-  nat_le,
-  min,
-  List,
-  [],
-  ◌∷◌,
-  Option,
-}
-use Rattle.std.specs.Prelude.{Some, None, IfSome, ◌==◌}
-use Rattle.fv_base.specs.Outside.{Names, Told, Rose, ReadGives}
-use Rattle.vl_first.specs.Plain.{is_among}
-use Rattle.vl_first.specs.Violation.{violates}
-use Rattle.vl_first.specs.declared.form.FirstPort.{FirstPort}
-use Rattle.rvf_core.specs.Certificate.{outcome}
-use Rattle.rvf_core.specs.Command.{Command, check, refute, command_of, files_of}
-use Rattle.rvf_core.specs.Ends.{Ends}
-use Rattle.rvf_core.specs.Lines.{usage_line, absent_front, read_fault_front, named_line}
-use Rattle.rvf_text.specs.declared.fault.TextFault.{TextFault}
-use Rattle.rvf_core.specs.Refusal.{IsFirst, Refuses}
-use Rattle.rvf_core.specs.Report.{Outside}
-use Rattle.rvf_core.specs.declared.report.Delivery.{Delivery}
-use Rattle.rvf_core.specs.declared.report.Delivery.TheVariants.{Line}
-use Rattle.rvf_core.specs.Status.{code_of}
-use Rattle.rvf_core.specs.Verdict.{NoneViolate, Verdict}
-use Rattle.rvf_core.specs.declared.status.Status.{Status}
-use Rattle.rvf_core.specs.declared.status.Status.TheVariants as s
-
--- what a run saw of the files: what is told of them as it began, and how their counts moved
-pub record Seen : Type 0 where
-  pub held : Told
-  pub misses : ℕ
-  pub misses_now : ℕ
-  pub faults : ℕ
-  pub faults_now : ℕ
+use Rattle.std.specs.Prelude.{◌≡◌, ℕ, ◌<◌, ◌≤◌, ◌+◌, ◌-◌, ◌^◌, Bool, true, false, ◌||◌, ◌==◌, nat_le, min, List, []}
+use Rattle.std.specs.Prelude.{◌∷◌, Option, Some, None, codes}
+use Rattle.std.specs.List.{All, Contains}
+use Rattle.fv_base.specs.Outside.{Names}
+use Rattle.vl_size.specs.Size.{Values}
+use Rattle.ck_cfg.specs.declared.check.Check.{Check}
+use Rattle.ck_cfg.specs.declared.config.Config.{Config}
+use Rattle.ck_cfg.specs.Checks.{checks_of}
+use Rattle.rvf_words.specs.declared.line.Line.{Line as Words}
+use Rattle.rvf_words.specs.declared.line.Line.TheVariants as words
+use Rattle.rvf_words.specs.Line.{line_of}
+use Rattle.rvf_load.specs.Loads.{NoneRefuses}
+use Rattle.rvf_case.specs.Cases.{Request, Seen, IsCause}
+use Rattle.rvf_case.specs.Texts.{asked_for, leaders}
+use Rattle.rvf_case.specs.declared.refusal.Refusal.{Refusal}
+use Rattle.rvf_report.specs.Outcome.{Outside, Delivers, Fails, Stops}
+use Rattle.rvf_report.specs.Status.{code_of}
+use Rattle.rvf_report.specs.declared.delivery.Delivery.{Delivery}
+use Rattle.rvf_report.specs.declared.delivery.Delivery.TheVariants.{Line}
+use Rattle.rvf_report.specs.declared.status.Status.{Status}
+use Rattle.rvf_report.specs.declared.status.Status.TheVariants as s
+use Rattle.rvf_core.specs.Certifies.{Certifies}
+use Rattle.rvf_core.specs.Checks.{Checks, HasRead, IsBegun, refused_status}
+use Rattle.rvf_core.specs.Lists.{Lists}
+use Rattle.rvf_core.specs.Verdicts.{Violates}
 
 -- all that a run was given, and what it left
 pub record Run : Type 0 where
@@ -50,6 +32,7 @@ pub record Run : Type 0 where
   pub before : Outside
   pub now : Outside
 
+-- what a run saw of the files
 abbrev pub seen_in : Run → Seen
 seen_in r = record {
   held = r.before.held;
@@ -59,132 +42,137 @@ seen_in r = record {
   faults_now = r.now.faults;
 }
 
--- the file where it holds nothing, else what is found behind it
-abbrev pub lacking_or : Option (List ℕ) → List ℕ → Option (List ℕ) → Option (List ℕ)
-lacking_or None file behind = Some file
-lacking_or (Some bytes) file behind = behind
+abbrev pub request : List ℕ → List ℕ → List ℕ → Request
+request cfg core basedir = record { cfg = cfg; core = core; basedir = basedir }
 
--- the first of some files that isn't held
-abbrev pub first_lacking : Names → List (List ℕ) → Option (List ℕ)
-first_lacking names [] = None
-first_lacking names (file ∷ files) = lacking_or (names file) file (first_lacking names files)
+-- ---- what the words ask for, and what is reported on it
 
--- a file isn't held, which was counted: one of those to be read, and where files are told the first of them
-pub record Misses (files : List (List ℕ)) (seen : Seen) (report : List Delivery) : Type 0 where
-  pub name : List ℕ
-  pub among : is_among name files ≡ true
-  pub first : IfSome seen.held (λ names. first_lacking names files ≡ Some name)
-  pub counted : Rose seen.misses seen.misses_now
-  pub report_is : report ≡ Line (named_line absent_front name) ∷ []
+-- the numbers of a line are in their ranges
+abbrev pub IsLine : Words → Type 0
+IsLine (words.Run cfg outdir core basedir budget jobs) = (0 < budget) × (1 ≤ jobs) × (jobs ≤ 64)
+IsLine line = Unit {0}
 
--- one of the files to be read could not be read, which was counted
-pub record FailsToRead (files : List (List ℕ)) (seen : Seen) (report : List Delivery) : Type 0 where
-  pub name : List ℕ
-  pub among : is_among name files ≡ true
-  pub counted : Rose seen.faults seen.faults_now
-  pub report_is : report ≡ Line (named_line read_fault_front name) ∷ []
-
--- the file gave bytes, and the status is their verdict
-pub record Reads (status : Status) (file outdir : List ℕ) (seen : Seen) (report : List Delivery) : Type 0 where
-  pub bytes : List ℕ
-  pub gives : ReadGives seen.held file bytes
-  pub verdict : Verdict status file outdir bytes report
-
--- both files gave bytes, and status and report are what the certificate comes to
-pub record Certifies (status : Status) (cnf proof : List ℕ) (seen : Seen) (report : List Delivery) : Type 0 where
-  pub clauses : List ℕ
-  pub gives_clauses : ReadGives seen.held cnf clauses
-  pub steps : List ℕ
-  pub gives_steps : ReadGives seen.held proof steps
-  pub found : outcome clauses steps ≡ record { status = status; deliveries = report }
-
--- `run FILE OUTDIR`
-abbrev pub Checks : List ℕ → List ℕ → Seen → Status → List Delivery → Type 0
-Checks file outdir seen s.Passed report = Reads s.Passed file outdir seen report
-Checks file outdir seen s.Failing report = Reads s.Failing file outdir seen report
-Checks file outdir seen s.Spent report = Reads s.Spent file outdir seen report
-Checks file outdir seen s.Source report = Reads s.Source file outdir seen report
-Checks file outdir seen s.Absent report = Misses (file ∷ []) seen report
-Checks file outdir seen s.ReadFault report = FailsToRead (file ∷ []) seen report
-Checks file outdir seen status report = ⊥
-
--- `lrat CNF PROOF`
-abbrev pub Refutes : List ℕ → List ℕ → Seen → Status → List Delivery → Type 0
-Refutes cnf proof seen s.Passed report = Certifies s.Passed cnf proof seen report
-Refutes cnf proof seen s.Refused report = Certifies s.Refused cnf proof seen report
-Refutes cnf proof seen s.Absent report = Misses (cnf ∷ proof ∷ []) seen report
-Refutes cnf proof seen s.ReadFault report = FailsToRead (cnf ∷ proof ∷ []) seen report
-Refutes cnf proof seen status report = ⊥
+abbrev pub usage_line : List ℕ
+usage_line =
+    codes "usage: rvf run CFG OUTDIR [--core NAME] [--basedir DIR] [--budget N] [--jobs N] | list CFG | lrat CNF PROOF\n"
 
 -- other words
-abbrev pub Misuses : Status → List Delivery → Type 0
-Misuses s.Usage report = report ≡ Line usage_line ∷ []
-Misuses status report = ⊥
+pub record Misuses (status : Status) (report : List Delivery) : Type 0 where
+  pub status_is : status ≡ s.Usage
+  pub report_is : report ≡ Line usage_line ∷ []
 
--- a status has its cause in the run, under what the words ask for, and this is its report
-abbrev pub SaysOf : Option Command → Seen → Status → List Delivery → Type 0
-SaysOf None seen status report = Misuses status report
-SaysOf (Some (check file outdir)) seen status report = Checks file outdir seen status report
-SaysOf (Some (refute cnf proof)) seen status report = Refutes cnf proof seen status report
+-- a status has its cause, under what the words ask for, and this is its report
+abbrev pub Says : Option Words → Seen → Status → List Delivery → Type 0
+Says None seen status report = Misuses status report
+Says (Some (words.Run cfg outdir core basedir budget jobs)) seen status report =
+    Checks (request cfg core basedir) seen outdir budget status report
+Says (Some (words.List cfg)) seen status report = Lists cfg seen status report
+Says (Some (words.Lrat cnf proof)) seen status report = Certifies cnf proof seen status report
+
+-- a report of which not all is known yet: the checks are judged one by one
+abbrev pub Begins : Option Words → Seen → List Delivery → Type 0
+Begins (Some (words.Run cfg outdir core basedir budget jobs)) seen report =
+    IsBegun (request cfg core basedir) seen.held outdir budget report
+Begins asked seen report = ⊥
+
+-- the report of some status, or as far as it is known
+pub data IsReport (asked : Option Words) (seen : Seen) (report : List Delivery) : Type 0 where
+  whole : (status : Status) → Says asked seen status report → IsReport asked seen report
+  begun : Begins asked seen report → IsReport asked seen report
+  nothing : report ≡ [] → IsReport asked seen report
+
+-- ---- how a run ends
+
+module _ (asked : Option Words) (r : Run) where
+  -- the status has its cause, and all of its report was delivered
+  pub record Reports (status : Status) : Type 0 where
+    pub report : List Delivery
+    pub says : Says asked (seen_in r) status report
+    pub delivered : Delivers r.before r.now report
+
+  -- something of a report could not be delivered
+  pub record Breaks : Type 0 where
+    pub report : List Delivery
+    pub is : IsReport asked (seen_in r) report
+    pub fails : Fails r.before r.now report
+
+  -- memory was wanted, behind a front of a report
+  pub record WantsMemory : Type 0 where
+    pub report : List Delivery
+    pub is : IsReport asked (seen_in r) report
+    pub stops : Stops r.before r.now report
+
+  abbrev pub Ends : Status → Type 0
+  Ends s.WriteFault = Breaks
+  Ends s.Memory = WantsMemory
+  Ends status = Reports status
 
 -- what each status means of a run
 abbrev pub Answers : Status → Run → Type 0
-Answers status r = Ends (SaysOf (command_of r.words) (seen_in r)) status r.before r.now
+Answers status r = Ends (line_of r.words) r status
+
+-- ---- each cause has its status
 
 -- a count went up, or stands at its end
 abbrev pub rose : ℕ → ℕ → Bool
 rose before now = nat_le (min (before + 1) (2 ^ 64 - 1)) now
 
--- the files are told, and no read or write failed
-pub record Knows (r : Run) (command : Command) (names : Names) : Type 0 where
-  pub asked : command_of r.words ≡ Some command
+-- the words ask for the checks of a configuration, the files are told, and no read or write failed
+pub record Asks (r : Run) (q : Request) : Type 0 where
+  pub outdir : List ℕ
+  pub budget : ℕ
+  pub jobs : ℕ
+  pub asked : line_of r.words ≡ Some (words.Run q.cfg outdir q.core q.basedir budget jobs)
+  pub names : Names
   pub told : r.before.held ≡ Some names
   pub no_fault : rose r.before.faults r.now.faults ≡ false
 
--- the file of `run FILE OUTDIR` is held
-pub record Holding (r : Run) (bytes : List ℕ) : Type 0 where
-  pub file : List ℕ
-  pub outdir : List ℕ
-  pub names : Names
-  pub known : Knows r (check file outdir) names
-  pub held : names file ≡ Some bytes
+-- a cause is there why no check is judged
+pub record HasCause (r : Run) (f : Refusal) : Type 0 where
+  pub request : Request
+  pub asks : Asks r request
+  pub cause : IsCause request (seen_in r) f
 
--- both files of `lrat CNF PROOF` are held
-pub record HoldingBoth (r : Run) (clauses steps : List ℕ) : Type 0 where
-  pub cnf : List ℕ
-  pub proof : List ℕ
-  pub names : Names
-  pub known : Knows r (refute cnf proof) names
-  pub held_clauses : names cnf ≡ Some clauses
-  pub held_steps : names proof ≡ Some steps
+-- all is read, and no text is refused
+pub record IsAccepted (r : Run) (c : Config) (files : List (List ℕ)) : Type 0 where
+  pub request : Request
+  pub asks : Asks r request
+  pub read : HasRead request r.before.held c files
+  pub unrefused : All (λ kind. NoneRefuses (asked_for c files kind)) (leaders c)
 
--- a file to be read isn't held
-pub record Lacking (r : Run) : Type 0 where
-  pub command : Command
+-- the words ask for names of checks or for the check of a certificate, the files are told, and no read or write failed
+abbrev pub IsOther : Words → Type 0
+IsOther (words.Run cfg outdir core basedir budget jobs) = ⊥
+IsOther asked = Unit {0}
+
+pub record AsksOther (r : Run) (asked : Words) : Type 0 where
+  pub asked_is : line_of r.words ≡ Some asked
+  pub other : IsOther asked
   pub names : Names
-  pub known : Knows r command names
-  pub name : List ℕ
-  pub lacks : first_lacking names (files_of command) ≡ Some name
+  pub told : r.before.held ≡ Some names
+  pub no_fault : rose r.before.faults r.now.faults ≡ false
 
 -- the wanted status came, or what may take its place: a delivery that failed (8), or want of memory (11)
 abbrev pub comes : Status → Status → Bool
 comes wanted status = (code_of status == code_of wanted) || ((code_of status == 8) || (code_of status == 11))
 
--- the wanted status came or what may take its place, or the budget was used up before (2)
+-- or a budget was used up before (2)
 abbrev pub comes_in_budget : Status → Status → Bool
 comes_in_budget wanted status = comes wanted status || (code_of status == 2)
 
--- each cause has its status: where it is there, and nothing earlier in the order of work, the status comes
+-- all checks were judged, or what may take its place came
+abbrev pub comes_judged : Status → Bool
+comes_judged status = comes_in_budget s.Passed status || comes s.Failing status
+
 pub record IsExact (status : Status) (r : Run) : Type 0 where
-  pub usage : command_of r.words ≡ None → comes s.Usage status ≡ true
-  pub absent : Lacking r → comes s.Absent status ≡ true
-  pub source : (bytes : List ℕ) (refusal : Option TextFault) → Holding r bytes → Refuses refusal bytes
-      → comes s.Source status ≡ true
-  pub pass : (bytes : List ℕ) (ports : List FirstPort) → Holding r bytes → IsFirst bytes ports
-      → NoneViolate ports
+  pub usage : line_of r.words ≡ None → comes s.Usage status ≡ true
+  pub refusal : (f : Refusal) → HasCause r f → comes (refused_status f) status ≡ true
+  pub pass : (c : Config) (files : List (List ℕ)) → IsAccepted r c files
+      → All (λ x. (run : List Values) → Violates c files x run → ⊥) (checks_of c)
       → comes_in_budget s.Passed status ≡ true
-  pub fail : (bytes : List ℕ) (ports : List FirstPort) (numbers : List ℕ)
-      → Holding r bytes → IsFirst bytes ports → violates ports numbers ≡ true
-      → comes_in_budget s.Failing status ≡ true
-  pub certificate : (clauses steps : List ℕ) → HoldingBoth r clauses steps
-      → comes (outcome clauses steps).status status ≡ true
+  pub fail : (c : Config) (files : List (List ℕ)) (x : Check) (run : List Values) → IsAccepted r c files
+      → Contains (checks_of c) x → Violates c files x run → comes_in_budget s.Failing status ≡ true
+  pub judged : (c : Config) (files : List (List ℕ)) → IsAccepted r c files → comes_judged status ≡ true
+  -- a status that has its cause under the other words
+  pub other : (asked : Words) (wanted : Status) (report : List Delivery) → AsksOther r asked
+      → Says (Some asked) (seen_in r) wanted report → comes wanted status ≡ true

@@ -1,70 +1,56 @@
 //! The check of a certificate: a clause file, and a proof of steps.
 
-ghost use Rattle.std.specs.Prelude.{◌≡◌, ◌++◌, ◌∷◌, [], IfOk, OnOk, codes, decimal};
+ghost use Rattle.std.specs.Prelude.{◌≡◌, IfOk, codes, decimal};
 ghost use Rattle.std.specs.Fmt.{signed_decimal};
 ghost use Rattle.rvf_core.specs.Certificate.{line_in_cnf, cnf_line, line_in_lrat, lrat_line, step_id, step_hint};
 ghost use Rattle.rvf_core.specs.Certificate.{step_line, refuted_line, two_values, three_values, judgement};
 ghost use Rattle.rvf_core.specs.Certificate.{proof_report, outcome};
+ghost use Rattle.rvf_core.specs.Certifies.{IsProof, IsProved, IsSound};
 ghost use Rattle.lrat_check.specs.Steps.{AreSteps, judged};
 ghost use Rattle.lrat_check.specs.Texts.{steps_of};
 
 use crate::report::Report;
-use crate::status::Status;
 use cnf_form::Formula;
 use cnf_text::{DimacsFault, read_dimacs};
-use fv_base::Memory;
+use fv_base::{Memory, Text};
 use itoa::Buffer;
 use lrat_check::{LratFault, Step, StepFault, read_lrat, verify};
+use rvf_lines::{put_end, put_word};
+use rvf_report::Status;
 use std::alloc::Global;
 
-/// A word and a blank behind what is there.
-pub(crate) fn push_word(line: &mut Vec<u8>, word: &[u8]) -> Result<(), Memory>
-    ensures { OnOk result (line.new.items ≡ line.old.items ++ (word.now ++ (32 ∷ []))) }
-{
-    line.extend_from_slice(word)?;
-    line.push(b' ')?;
-    Ok(())
-}
-
-/// The last word and the end of the line.
-pub(crate) fn ended(begun: Vec<u8>, word: &[u8]) -> Result<Vec<u8>, Memory>
-    ensures { IfOk result (λ line. line.items ≡ begun.items ++ (word.now ++ (10 ∷ []))) }
-{
-    let mut line = begun;
-    line.extend_from_slice(word)?;
-    line.push(b'\n')?;
-    Ok(line)
-}
-
-fn line_of_two(alloc: Global, front: &[u8], number: u8, value: u32) -> Result<Vec<u8>, Memory>
-    ensures { IfOk result (λ line. line.items ≡ two_values front.now number (decimal value)) }
+fn line_of_two(alloc: Global, front: &[u8], number: u8, value: u32) -> Result<Text, Memory>
+    ensures { IfOk result (λ line. line ≡ two_values front.now number (decimal value)) }
 {
     let mut buffer = Buffer::new();
     let mut line = Vec::new(alloc);
-    push_word(&mut line, front)?;
-    push_word(&mut line, buffer.format(number).as_bytes())?;
-    ended(line, buffer.format(value).as_bytes())
+    put_word(&mut line, front)?;
+    put_word(&mut line, buffer.format(number).as_bytes())?;
+    put_end(&mut line, buffer.format(value).as_bytes())?;
+    Ok(Text::from_vec(line))
 }
 
-fn line_of_three(alloc: Global, number: u8, id: u64, hint: i128) -> Result<Vec<u8>, Memory>
-    ensures { IfOk result (λ line. line.items
+fn line_of_three(alloc: Global, number: u8, id: u64, hint: i128) -> Result<Text, Memory>
+    ensures { IfOk result (λ line. line
         ≡ three_values (codes "refused step") number id (signed_decimal hint)) }
 {
     let mut buffer = Buffer::new();
     let mut line = Vec::new(alloc);
-    push_word(&mut line, b"refused step")?;
-    push_word(&mut line, buffer.format(number).as_bytes())?;
-    push_word(&mut line, buffer.format(id).as_bytes())?;
-    ended(line, buffer.format(hint).as_bytes())
+    put_word(&mut line, b"refused step")?;
+    put_word(&mut line, buffer.format(number).as_bytes())?;
+    put_word(&mut line, buffer.format(id).as_bytes())?;
+    put_end(&mut line, buffer.format(hint).as_bytes())?;
+    Ok(Text::from_vec(line))
 }
 
-fn line_of_id(alloc: Global, id: u64) -> Result<Vec<u8>, Memory>
-    ensures { IfOk result (λ line. line.items ≡ refuted_line id) }
+fn line_of_id(alloc: Global, id: u64) -> Result<Text, Memory>
+    ensures { IfOk result (λ line. line ≡ refuted_line id) }
 {
     let mut buffer = Buffer::new();
     let mut line = Vec::new(alloc);
-    push_word(&mut line, b"refuted")?;
-    ended(line, buffer.format(id).as_bytes())
+    put_word(&mut line, b"refuted")?;
+    put_end(&mut line, buffer.format(id).as_bytes())?;
+    Ok(Text::from_vec(line))
 }
 
 /// The line of the clause file, 0 where there is none.
@@ -78,8 +64,8 @@ fn line_in_cnf(fault: DimacsFault) -> u32
     }
 }
 
-fn cnf_line(alloc: Global, fault: DimacsFault) -> Result<Vec<u8>, Memory>
-    ensures { IfOk result (λ line. line.items ≡ cnf_line fault) }
+fn cnf_line(alloc: Global, fault: DimacsFault) -> Result<Text, Memory>
+    ensures { IfOk result (λ line. line ≡ cnf_line fault) }
 {
     line_of_two(alloc, b"refused cnf", fault.number(), line_in_cnf(fault))
 }
@@ -94,8 +80,8 @@ fn line_in_lrat(fault: LratFault) -> u32
     }
 }
 
-fn lrat_line(alloc: Global, fault: LratFault) -> Result<Vec<u8>, Memory>
-    ensures { IfOk result (λ line. line.items ≡ lrat_line fault) }
+fn lrat_line(alloc: Global, fault: LratFault) -> Result<Text, Memory>
+    ensures { IfOk result (λ line. line ≡ lrat_line fault) }
 {
     line_of_two(alloc, b"refused lrat", fault.number(), line_in_lrat(fault))
 }
@@ -124,8 +110,8 @@ fn step_hint(fault: StepFault) -> i128
     }
 }
 
-fn step_line(alloc: Global, fault: StepFault) -> Result<Vec<u8>, Memory>
-    ensures { IfOk result (λ line. line.items ≡ step_line fault) }
+fn step_line(alloc: Global, fault: StepFault) -> Result<Text, Memory>
+    ensures { IfOk result (λ line. line ≡ step_line fault) }
 {
     line_of_three(alloc, fault.number(), step_id(fault), step_hint(fault))
 }
@@ -133,45 +119,48 @@ fn step_line(alloc: Global, fault: StepFault) -> Result<Vec<u8>, Memory>
 /// What the steps come to over the clauses of a formula.
 fn check(alloc: Global, formula: &Formula, steps: &[Step]) -> Result<Report, Memory>
     requires { AreSteps steps.now }
-    ensures { IfOk result (λ report. report ≡ judgement (judged formula.now.clauses steps.now)) }
+    ensures found { IfOk result (λ report. report ≡ judgement (judged formula.now.clauses steps.now)) }
+    ensures proved { IfOk result (λ report. IsSound report.status formula.now.clauses steps.now report.deliveries) }
 {
     match verify(alloc, formula, steps) {
         Ok(refuted) => {
             let line = line_of_id(alloc, refuted.id)?;
-            Report::of_line(alloc, Status::Passed, line.as_slice())
+            Report::of_line(alloc, Status::Passed, line)
         }
         Err(StepFault::Memory) => Err(Memory),
         Err(fault) => {
             let line = step_line(alloc, fault)?;
-            Report::of_line(alloc, Status::Refused, line.as_slice())
+            Report::of_line(alloc, Status::Refused, line)
         }
     }
 }
 
 /// What the proof comes to over the clauses of a formula.
 fn prove(alloc: Global, formula: &Formula, proof: &[u8]) -> Result<Report, Memory>
-    ensures { IfOk result (λ report. report ≡ proof_report formula.now.clauses (steps_of proof.now)) }
+    ensures found { IfOk result (λ report. report ≡ proof_report formula.now.clauses (steps_of proof.now)) }
+    ensures proved { IfOk result (λ report. IsProof report.status formula.now.clauses proof.now report.deliveries) }
 {
     match read_lrat(alloc, proof) {
         Ok(steps) => check(alloc, formula, steps.as_slice()),
         Err(LratFault::Memory) => Err(Memory),
         Err(fault) => {
             let line = lrat_line(alloc, fault)?;
-            Report::of_line(alloc, Status::Refused, line.as_slice())
+            Report::of_line(alloc, Status::Refused, line)
         }
     }
 }
 
 /// What a certificate comes to: the first refusal, or that the steps refute.
 pub(crate) fn certify(alloc: Global, cnf: &[u8], proof: &[u8]) -> Result<Report, Memory>
-    ensures { IfOk result (λ report. report ≡ outcome cnf.now proof.now) }
+    ensures found { IfOk result (λ report. report ≡ outcome cnf.now proof.now) }
+    ensures proved { IfOk result (λ report. IsProved report.status cnf.now proof.now report.deliveries) }
 {
     match read_dimacs(alloc, cnf) {
         Ok(formula) => prove(alloc, &formula, proof),
         Err(DimacsFault::Memory) => Err(Memory),
         Err(fault) => {
             let line = cnf_line(alloc, fault)?;
-            Report::of_line(alloc, Status::Refused, line.as_slice())
+            Report::of_line(alloc, Status::Refused, line)
         }
     }
 }

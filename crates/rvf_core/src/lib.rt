@@ -2,16 +2,14 @@
 #![tactic(auto)]
 
 mod certificate;
-mod deliver;
-mod first;
-mod lines;
-mod refusal;
+mod certifying;
+mod checking;
+mod listing;
+mod refusing;
 mod report;
-mod request;
+mod reporting;
 mod shared;
-mod status;
 mod top;
-mod words;
 
-pub use status::Status;
-pub use top::run;
+pub use rvf_report::Status;
+pub use top::{run, run_gated};

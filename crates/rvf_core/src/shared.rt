@@ -1,6 +1,6 @@
 //! That the public types may be shared among threads.
 
-use crate::status::Status;
+use rvf_report::Status;
 
 fn is_shared<T: Send + Sync>(_value: &T) {}
 

@@ -1,41 +1,41 @@
-use Rattle.std.proofs.Common.{◌≡◌, ℕ, ◌≤◌, map, string_bytes, refl, arith}
-use Rattle.rvf_core.specs.Command.{command_of}
-use Rattle.rvf_core.specs.Report.{Outside}
-use Rattle.rvf_core.specs.Run.{Seen, SaysOf}
-use Rattle.rvf_core.proofs.Causes.{later, SaysOf-later, never_WriteFault, never_Memory}
-use Rattle.rvf_core.proofs.Deliveries.{IsDelivered-later}
-use Rattle.rvf_core.proofs.Endings.{Ends-delivered}
+use Rattle.std.proofs.Common.{Some, None, map, string_bytes, sym, ◌∙◌, rules}
+use Rattle.rvf_words.specs.Line.{line_of}
+use Rattle.rvf_core.specs.Run.{IsLine}
+use Rattle.rvf_core.proofs.FromWords.{line_ends, line_statuses, memory_ends, memory_statuses, misuse_ends}
+use Rattle.rvf_core.proofs.FromWords.{none_statuses}
+use Rattle.rvf_core.proofs.Ranges.{IsLine-read}
 use Rattle.rvf_core.proofs.top.answered.Goals as goal
 
-same_count : (a b : ℕ) → a ≡ b → b ≤ a
-same_count a b p = omega arith
+pub done-requires-clause-line : goal.done-requires-clause-line
+done-requires-clause-line g c =
+    let is : IsLine c.in-Ok-Some.line =
+    IsLine-read (map string_bytes c.args.words.now) c.in-Ok-Some.line
+    (sym c.in-Ok-Some.field-0-is ∙ c.in-Ok-Some.ensures) in
+    search (rules, is)
 
-pub returns-in-Ok : goal.returns-in-Ok
-returns-in-Ok g c =
-    let asked = command_of (map string_bytes c.args.words.now) in
-    let seen : Seen = record {
-      held = g.F.Files.held c.args.files.now;
-      misses = g.F.Files.misses c.args.files.now;
-      misses_now = g.F.Files.misses c.report_of.new.files;
-      faults = g.F.Files.faults c.args.files.now;
-      faults_now = g.F.Files.faults c.report_of.new.files;
-    } in
-    let before : Outside = record {
-      held = g.F.Files.held c.args.files.now;
-      misses = g.F.Files.misses c.args.files.now;
-      faults = g.F.Files.faults c.args.files.now;
-      sent = g.O.Out.sent c.args.out.now;
-      out_faults = g.O.Out.faults c.args.out.now;
-    } in
-    let misses = g.F.Files.misses c.deliver.new.files in
-    let faults = g.F.Files.faults c.deliver.new.files in
-    rw c.ended.ensures
-    (Ends-delivered (SaysOf asked (later seen misses faults)) before _ c.in-Ok.report.deliveries
-    (never_WriteFault asked (later seen misses faults) c.in-Ok.report.deliveries)
-    (never_Memory asked (later seen misses faults) c.in-Ok.report.deliveries) c.deliver.result c.in-Ok.report.status
-    (SaysOf-later asked seen misses faults
-    (same_count _ _ c.deliver.ensures.misses_kept) c.deliver.ensures.faults_grow c.in-Ok.report.status
-    c.in-Ok.report.deliveries c.in-Ok.ensures.says)
-    (IsDelivered-later c.deliver.result before _ _ c.in-Ok.report.deliveries c.in-Ok.ensures.kept refl
-    c.in-Ok.ensures.faults_grow (omega arith)
-    (rw c.as_slice.ensures at c.deliver.ensures.delivered)))
+pub returns-in-Ok-Some-clause-answer : goal.returns-in-Ok-Some-clause-answer
+returns-in-Ok-Some-clause-answer g c =
+    line_ends (Some c.in-Ok-Some.line) _ _ c.done.result (sym c.in-Ok-Some.field-0-is ∙ c.in-Ok-Some.ensures)
+    (c.done.ensures.ends (map string_bytes c.args.words.now))
+
+pub returns-in-Ok-Some-clause-statuses : goal.returns-in-Ok-Some-clause-statuses
+returns-in-Ok-Some-clause-statuses g c =
+    line_statuses (Some c.in-Ok-Some.line) _ _ c.done.result (sym c.in-Ok-Some.field-0-is ∙ c.in-Ok-Some.ensures)
+    (c.done.ensures.statuses (map string_bytes c.args.words.now))
+
+pub returns-in-Ok-None-clause-answer : goal.returns-in-Ok-None-clause-answer
+returns-in-Ok-None-clause-answer g c =
+    line_ends None _ _ c.put_report.result (sym c.in-Ok-None.field-0-is ∙ c.in-Ok-None.ensures)
+    (misuse_ends (map string_bytes c.args.words.now) _ _ c.misused.result c.put_report.result c.misused.ensures
+    c.put_report.ensures.puts)
+
+pub returns-in-Ok-None-clause-statuses : goal.returns-in-Ok-None-clause-statuses
+returns-in-Ok-None-clause-statuses g c =
+    none_statuses _ _ c.put_report.result (sym c.in-Ok-None.field-0-is ∙ c.in-Ok-None.ensures)
+
+pub returns-in-Err-clause-answer : goal.returns-in-Err-clause-answer
+returns-in-Err-clause-answer g c =
+    memory_ends (line_of (map string_bytes c.args.words.now)) (map string_bytes c.args.words.now) _
+
+pub returns-in-Err-clause-statuses : goal.returns-in-Err-clause-statuses
+returns-in-Err-clause-statuses g c = memory_statuses (line_of (map string_bytes c.args.words.now)) _

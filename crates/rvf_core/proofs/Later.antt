@@ -1,0 +1,131 @@
+-- What a call delivers behind another one, that only read, is what both deliver; and causes that were there as the
+-- first one ended are there as the second one ends.
+use Rattle.std.proofs.Common.{◌≡◌, ℕ, ◌≤◌, List, [], sym, subst, arith}
+use Rattle.fv_base.specs.Outside.{Appends, Rose, SameFiles}
+use Rattle.rvf_load.specs.declared.fault.LoadFault.TheVariants as load
+use Rattle.rvf_case.specs.Cases.{IsCause, Request, Seen}
+use Rattle.rvf_case.specs.declared.refusal.Refusal.{Refusal}
+use Rattle.rvf_case.specs.declared.refusal.Refusal.TheVariants as refusal
+use Rattle.rvf_report.specs.Outcome.{Outside, Delivers, Fails, Stops}
+use Rattle.rvf_report.specs.declared.delivery.Delivery.{Delivery}
+use Rattle.rvf_report.specs.declared.status.Status.{Status}
+use Rattle.rvf_report.proofs.Deliveries.{Appends-nothing, Delivers-behind, LeavesPart-behind}
+use Rattle.rvf_core.specs.Certifies.{Certifies}
+use Rattle.rvf_core.specs.Certifies as certifies
+use Rattle.rvf_core.specs.Lists.{Lists}
+use Rattle.rvf_core.specs.Lists as lists
+
+-- files were read, and nothing else was done
+pub record IsEarlier (before middle : Outside) : Type 0 where
+  pub held : SameFiles before.held middle.held
+  pub sent : middle.sent ≡ before.sent
+  pub faults : before.faults ≤ middle.faults
+  pub out_faults : before.out_faults ≤ middle.out_faults
+
+nothing_yet : (a b : Outside) → IsEarlier a b → Delivers a b []
+nothing_yet a b e = record {
+  files = e.held;
+  lines = subst (λ sent. Appends a.sent sent []) (sym e.sent) (Appends-nothing a.sent);
+}
+
+module _ (a b c : Outside) (e : IsEarlier a b) (report : List Delivery) where
+  pub later_delivers : Delivers b c report → Delivers a c report
+  later_delivers d = Delivers-behind a b c [] report (nothing_yet a b e) d
+
+  pub later_fails : Fails b c report → Fails a c report
+  later_fails f = record {
+    done = f.done;
+    failing = f.failing;
+    rest = f.rest;
+    order = f.order;
+    part = LeavesPart-behind a b c [] f.done f.failing (nothing_yet a b e) e.faults e.out_faults f.part;
+  }
+
+  pub later_stops : Stops b c report → Stops a c report
+  later_stops f = record {
+    done = f.done;
+    rest = f.rest;
+    order = f.order;
+    delivered = Delivers-behind a b c [] f.done (nothing_yet a b e) f.delivered;
+  }
+
+-- ---- causes
+
+pub rose_later : (before middle now : ℕ) → Rose before middle → middle ≤ now → Rose before now
+rose_later before middle now rose le = omega arith
+
+-- the same call's end, with counts as they stand later
+abbrev pub seen_later : Seen → ℕ → ℕ → Seen
+seen_later seen misses faults = record {
+  held = seen.held;
+  misses = seen.misses;
+  misses_now = misses;
+  faults = seen.faults;
+  faults_now = faults;
+}
+
+module _ (seen : Seen) (misses faults : ℕ) (more_misses : seen.misses_now ≤ misses)
+    (more_faults : seen.faults_now ≤ faults) where
+  missed_later : Rose seen.misses seen.misses_now → Rose seen.misses misses
+  missed_later rose = rose_later seen.misses seen.misses_now misses rose more_misses
+
+  failed_later : Rose seen.faults seen.faults_now → Rose seen.faults faults
+  failed_later rose = rose_later seen.faults seen.faults_now faults rose more_faults
+
+  pub cause_later : (q : Request) (f : Refusal) → IsCause q seen f → IsCause q (seen_later seen misses faults) f
+  cause_later q (refusal.Absent name) x =
+      record { next = x.next; lacks = x.lacks; counted = missed_later x.counted }
+  cause_later q (refusal.Unread name) x = record { next = x.next; counted = failed_later x.counted }
+  cause_later q (refusal.Config f) x = x
+  cause_later q (refusal.Source (load.Text f) names) x = x
+  cause_later q (refusal.Source (load.Elab f) names) x = x
+  cause_later q (refusal.Source (load.Flow f) names) x = x
+  cause_later q (refusal.Source (load.Heavy place number) names) x = absurd x
+  cause_later q (refusal.Source (load.Port f) names) x = x
+  cause_later q (refusal.Source load.Memory names) x = x
+  cause_later q (refusal.Heavy name number) x = x
+  cause_later q refusal.Memory x = absurd x
+
+  listed_cause_later : (cfg : List ℕ) (f : Refusal) → lists.IsCause cfg seen f
+      → lists.IsCause cfg (seen_later seen misses faults) f
+  listed_cause_later cfg (refusal.Absent name) x = (x.0, x.1, missed_later x.2)
+  listed_cause_later cfg (refusal.Unread name) x = (x.0, failed_later x.1)
+  listed_cause_later cfg (refusal.Config f) x = x
+  listed_cause_later cfg (refusal.Source f names) x = absurd x
+  listed_cause_later cfg (refusal.Heavy name number) x = absurd x
+  listed_cause_later cfg refusal.Memory x = absurd x
+
+  pub lists_later : (cfg : List ℕ) (status : Status) (report : List Delivery) → Lists cfg seen status report
+      → Lists cfg (seen_later seen misses faults) status report
+  lists_later cfg status report (lists.listed x) = lists.listed (record {
+    config = x.config;
+    configured = x.configured;
+    status_is = x.status_is;
+    report_is = x.report_is;
+  })
+  lists_later cfg status report (lists.refused x) = lists.refused (record {
+    refusal = x.refusal;
+    cause = listed_cause_later cfg x.refusal x.cause;
+    status_is = x.status_is;
+    report_is = x.report_is;
+  })
+
+  pub certifies_later : (cnf proof : List ℕ) (status : Status) (report : List Delivery)
+      → Certifies cnf proof seen status report
+      → Certifies cnf proof (seen_later seen misses faults) status report
+  certifies_later cnf proof status report (certifies.judged x) = certifies.judged x
+  certifies_later cnf proof status report (certifies.absent x) = certifies.absent (record {
+    name = x.name;
+    next = x.next;
+    lacks = x.lacks;
+    counted = missed_later x.counted;
+    status_is = x.status_is;
+    report_is = x.report_is;
+  })
+  certifies_later cnf proof status report (certifies.unread x) = certifies.unread (record {
+    name = x.name;
+    next = x.next;
+    counted = failed_later x.counted;
+    status_is = x.status_is;
+    report_is = x.report_is;
+  })

@@ -1,0 +1,115 @@
+-- The numbers that words ask for are in their ranges.
+use Rattle.std.proofs.Common.{◌≡◌, ℕ, ◌≤◌, Bool, true, false, if◌then◌else◌, List, Option, Some, None, IfSome}
+use Rattle.std.proofs.Common.{nat_le, option_and_then, option_map, refl, sym, subst, length, arith}
+use Rattle.std.proofs.lemmas.Bool.Decides.{nat_tests}
+use Rattle.std.specs.Prelude.{bytes_eq, codes}
+use Rattle.clap.specs.Words.{Row, first_of, subcommand_of}
+use Rattle.clap.specs.Walk.{is_empty}
+use Rattle.clap.specs.Faults.{fault_of}
+use Rattle.fv_lines.specs.Numbers.{at_most, natural_of, number_up_to}
+use Rattle.rvf_words.specs.declared.line.Line.{Line}
+use Rattle.rvf_words.specs.declared.line.Line.TheVariants as line
+use Rattle.rvf_words.specs.Line.{asked, budget_of, count_of, jobs_of, line_of, list_line, lrat_line, run_line}
+use Rattle.rvf_words.specs.Table.{program}
+use Rattle.rvf_core.specs.Run.{IsLine}
+
+-- ---- facts of what is there, if anything
+
+if_kept : {A : Type 0} (P : A → Type 0) (kept : Bool) (found : Option A) → IfSome found P
+    → IfSome (if kept then found else None) P
+if_kept P true found p = p
+if_kept P false found p = tt
+
+if_chosen : {A : Type 0} (P : A → Type 0) (first : Bool) (one other : Option A) → IfSome one P → IfSome other P
+    → IfSome (if first then one else other) P
+if_chosen P true one other p q = p
+if_chosen P false one other p q = q
+
+if_then : {A B : Type 0} (Q : A → Type 0) (P : B → Type 0) (next : A → Option B) (found : Option A) → IfSome found Q
+    → ((a : A) → Q a → IfSome (next a) P) → IfSome (option_and_then next found) P
+if_then Q P next None q f = tt
+if_then Q P next (Some a) q f = f a q
+
+if_next : {A B : Type 0} (P : B → Type 0) (next : A → Option B) (found : Option A)
+    → ((a : A) → IfSome (next a) P) → IfSome (option_and_then next found) P
+if_next P next None f = tt
+if_next P next (Some a) f = f a
+
+if_mapped : {A B : Type 0} (Q : A → Type 0) (P : B → Type 0) (make : A → B) (found : Option A) → IfSome found Q
+    → ((a : A) → Q a → P (make a)) → IfSome (option_map make found) P
+if_mapped Q P make None q f = tt
+if_mapped Q P make (Some a) q f = f a q
+
+if_any : {A : Type 0} (found : Option A) → IfSome found (λ a. Unit {0})
+if_any None = tt
+if_any (Some a) = tt
+
+-- ---- numbers
+
+abbrev IsCount : ℕ → ℕ → Type 0
+IsCount most n = (1 ≤ n) × (n ≤ most)
+
+below : (most n : ℕ) (is : Bool) → nat_le n most ≡ is → IfSome (if is then Some n else None) (λ m. m ≤ most)
+below most n true e = grind (arith, nat_tests)
+below most n false e = tt
+
+at_most_below : (most : ℕ) (found : Option ℕ) → IfSome (at_most most found) (λ n. n ≤ most)
+at_most_below most None = tt
+at_most_below most (Some n) = below most n (nat_le n most) refl
+
+from_one : (most n : ℕ) (is : Bool) → n ≤ most → nat_le 1 n ≡ is
+    → IfSome (if is then Some n else None) (IsCount most)
+from_one most n true le e = (grind (arith, nat_tests), le)
+from_one most n false le e = tt
+
+counted : (most : ℕ) (digits : List ℕ) → IfSome (count_of most digits) (IsCount most)
+counted most digits =
+    if_kept (IsCount most) (nat_le (length digits) 10)
+    (option_and_then (λ n. if nat_le 1 n then Some n else None) (number_up_to most digits))
+    (if_then (λ n. n ≤ most) (IsCount most) (λ n. if nat_le 1 n then Some n else None) (number_up_to most digits)
+    (at_most_below most (natural_of digits)) (λ n le. from_one most n (nat_le 1 n) le refl))
+
+-- ---- lines
+
+run_in_range : (rows : List Row) → IfSome (run_line rows) IsLine
+run_in_range rows =
+    if_next IsLine _ (first_of (codes "cfg") rows) (λ cfg.
+    if_next IsLine _ (first_of (codes "outdir") rows) (λ outdir.
+    if_next IsLine _ (first_of (codes "core") rows) (λ core.
+    if_next IsLine _ (first_of (codes "basedir") rows) (λ basedir.
+    if_then (IsCount 1000000000) IsLine _ (option_and_then budget_of (first_of (codes "budget") rows))
+    (if_next (IsCount 1000000000) budget_of (first_of (codes "budget") rows) (counted 1000000000)) (λ budget in_range.
+    if_mapped (IsCount 64) IsLine (λ jobs. line.Run cfg outdir core basedir budget jobs)
+    (option_and_then jobs_of (first_of (codes "jobs") rows))
+    (if_next (IsCount 64) jobs_of (first_of (codes "jobs") rows) (counted 64)) (λ jobs is.
+    (in_range.0, is.0, is.1)))))))
+
+list_in_range : (rows : List Row) → IfSome (list_line rows) IsLine
+list_in_range rows =
+    if_mapped (λ cfg. Unit {0}) IsLine (λ cfg. line.List cfg) (first_of (codes "cfg") rows)
+    (if_any (first_of (codes "cfg") rows)) (λ cfg u. tt)
+
+lrat_in_range : (rows : List Row) → IfSome (lrat_line rows) IsLine
+lrat_in_range rows =
+    if_next IsLine _ (first_of (codes "cnf") rows) (λ cnf.
+    if_mapped (λ proof. Unit {0}) IsLine (λ proof. line.Lrat cnf proof) (first_of (codes "proof") rows)
+    (if_any (first_of (codes "proof") rows)) (λ proof u. tt))
+
+asked_in_range : (name : List ℕ) (rows : List Row) → IfSome (asked name rows) IsLine
+asked_in_range name rows =
+    if_chosen IsLine (bytes_eq name (codes "run")) (run_line rows)
+    (if bytes_eq name (codes "list") then list_line rows
+    else if bytes_eq name (codes "lrat") then lrat_line rows else None) (run_in_range rows)
+    (if_chosen IsLine (bytes_eq name (codes "list")) (list_line rows)
+    (if bytes_eq name (codes "lrat") then lrat_line rows else None) (list_in_range rows)
+    (if_kept IsLine (bytes_eq name (codes "lrat")) (lrat_line rows) (lrat_in_range rows)))
+
+line_in_range : (words : List (List ℕ)) → IfSome (line_of words) IsLine
+line_in_range words =
+    if_kept IsLine (is_empty (fault_of program words))
+    (option_and_then (λ used. asked used.0 used.1) (subcommand_of program words))
+    (if_next IsLine (λ used. asked used.0 used.1) (subcommand_of program words)
+    (λ used. asked_in_range used.0 used.1))
+
+pub IsLine-read : (words : List (List ℕ)) (line : Line) → Some line ≡ line_of words → IsLine line
+IsLine-read words line e = subst (λ found. IfSome found IsLine) (sym e) (line_in_range words)

@@ -1,0 +1,30 @@
+use Rattle.std.proofs.Common.{Err, ap}
+use Rattle.rvf_core.proofs.FromFiles.{both_read, first_unread, if_both, if_ok, second_unread}
+use Rattle.rvf_core.proofs.certifying.refute.Goals as goal
+
+pub returns-in-Ok-read-clause-says : goal.returns-in-Ok-read-clause-says
+returns-in-Ok-read-clause-says g c =
+    if_ok _ _
+    (λ report p. both_read c.args.cnf.now c.args.proof.now c.in-Ok.clauses.items c.in-Ok-read.steps.items
+    c.as_slice.result.now c.as_slice-in-Ok-read.result.now _ _ report c.in-Ok.ensures.bytes c.in-Ok.ensures.kept
+    c.in-Ok-read.ensures.bytes c.as_slice.ensures.value c.as_slice-in-Ok-read.ensures.value p)
+    c.certify.result (if_both _ _ c.certify.result c.certify.ensures.found c.certify.ensures.proved)
+
+pub returns-in-Ok-clause-says : goal.returns-in-Ok-clause-says
+returns-in-Ok-clause-says g c =
+    if_ok _ _
+    (λ report. second_unread c.in-Err-read.fault c.args.cnf.now c.args.proof.now c.in-Ok.clauses.items _ _ _ _ report
+    c.in-Ok.ensures.bytes c.in-Ok.ensures.kept c.in-Ok.ensures.misses_grow c.in-Ok.ensures.faults_grow
+    (λ is. c.in-Err-read.ensures.absent (ap (λ fault. Err fault) is))
+    (λ is. c.in-Err-read.ensures.missed (ap (λ fault. Err fault) is))
+    (λ is. c.in-Err-read.ensures.failed (ap (λ fault. Err fault) is)))
+    c.unread.result c.unread.ensures
+
+pub returns-clause-says : goal.returns-clause-says
+returns-clause-says g c =
+    if_ok _ _
+    (λ report. first_unread c.in-Err.fault c.args.cnf.now c.args.proof.now _ report
+    (λ is. c.in-Err.ensures.absent (ap (λ fault. Err fault) is))
+    (λ is. c.in-Err.ensures.missed (ap (λ fault. Err fault) is))
+    (λ is. c.in-Err.ensures.failed (ap (λ fault. Err fault) is)))
+    c.unread-in-Err.result c.unread-in-Err.ensures

@@ -1,0 +1,12 @@
+use Rattle.rvf_core.proofs.FromFiles.{if_both, if_ok, listed_said, refused_said}
+use Rattle.rvf_core.proofs.listing.list.Goals as goal
+
+pub returns-in-Ok-clause-says : goal.returns-in-Ok-clause-says
+returns-in-Ok-clause-says g c =
+    if_ok _ _ (λ report p. listed_said c.args.cfg.now _ c.in-Ok.config report c.in-Ok.ensures.configures p)
+    c.listed.result (if_both _ _ c.listed.result c.listed.ensures.status c.listed.ensures.lines)
+
+pub returns-in-Err-clause-says : goal.returns-in-Err-clause-says
+returns-in-Err-clause-says g c =
+    if_ok _ _ (λ report p. refused_said c.args.cfg.now _ c.in-Err.refusal report c.in-Err.ensures.configures p)
+    c.refused.result (if_both _ _ c.refused.result c.refused.ensures.report c.refused.ensures.some)

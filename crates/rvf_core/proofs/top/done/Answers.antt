@@ -1,0 +1,40 @@
+use Rattle.std.proofs.Common.{arith, refl}
+use Rattle.rvf_core.proofs.FromChecks.{le_itself}
+use Rattle.rvf_core.proofs.FromWords.{certificate_ends, list_ends, list_statuses, lrat_ends, lrat_statuses, names_end}
+use Rattle.rvf_core.proofs.FromWords.{run_ends, run_statuses}
+use Rattle.rvf_core.proofs.top.done.Goals as goal
+
+pub returns-in-Run-clause-ends : goal.returns-in-Run-clause-ends
+returns-in-Run-clause-ends g c = λ asked.
+    run_ends c.args.line.now _ c.check.result _ _ _ _ c.bytes.result.now c.bytes-in-Run-3.result.now
+    c.bytes-in-Run.result.now c.bytes-in-Run-2.result.now c.in-Run.budget c.in-Run.jobs c.in-Run.is c.bytes.ensures
+    c.bytes-in-Run-3.ensures c.bytes-in-Run.ensures c.bytes-in-Run-2.ensures (c.check.ensures.ends asked)
+
+pub returns-in-Run-clause-statuses : goal.returns-in-Run-clause-statuses
+returns-in-Run-clause-statuses g c = λ asked.
+    run_statuses c.args.line.now _ c.check.result _ _ _ _ c.bytes.result.now c.bytes-in-Run-3.result.now
+    c.bytes-in-Run.result.now c.bytes-in-Run-2.result.now c.in-Run.budget c.in-Run.jobs c.in-Run.is c.bytes.ensures
+    c.bytes-in-Run-3.ensures c.bytes-in-Run.ensures c.bytes-in-Run-2.ensures (c.check.ensures.statuses asked)
+
+pub returns-in-List-clause-ends : goal.returns-in-List-clause-ends
+returns-in-List-clause-ends g c = λ asked.
+    list_ends c.args.line.now _ c.put_report.result _ c.bytes-in-List.result.now c.in-List.is c.bytes-in-List.ensures
+    (names_end asked _ _ _ c.list.ensures.kept refl c.list.ensures.faults_grow (le_itself _)
+    (omega (arith, c.put_report.ensures.misses_kept)) c.put_report.ensures.faults_grow c.bytes-in-List.result.now
+    c.list.result c.put_report.result c.list.ensures.says c.put_report.ensures.puts)
+
+pub returns-in-List-clause-statuses : goal.returns-in-List-clause-statuses
+returns-in-List-clause-statuses g c = λ asked. list_statuses c.args.line.now _ c.put_report.result _ c.in-List.is
+
+pub returns-in-Lrat-clause-ends : goal.returns-in-Lrat-clause-ends
+returns-in-Lrat-clause-ends g c = λ asked.
+    lrat_ends c.args.line.now _ c.put_report-in-Lrat.result _ _ c.bytes-in-Lrat.result.now
+    c.bytes-in-Lrat-2.result.now c.in-Lrat.is c.bytes-in-Lrat.ensures c.bytes-in-Lrat-2.ensures
+    (certificate_ends asked _ _ _ c.refute-report.ensures.kept refl c.refute-report.ensures.faults_grow (le_itself _)
+    (omega (arith, c.put_report-in-Lrat.ensures.misses_kept)) c.put_report-in-Lrat.ensures.faults_grow
+    c.bytes-in-Lrat.result.now c.bytes-in-Lrat-2.result.now c.refute-report.result c.put_report-in-Lrat.result
+    c.refute-report.ensures.says c.put_report-in-Lrat.ensures.puts)
+
+pub returns-in-Lrat-clause-statuses : goal.returns-in-Lrat-clause-statuses
+returns-in-Lrat-clause-statuses g c = λ asked.
+    lrat_statuses c.args.line.now _ c.put_report-in-Lrat.result _ _ c.in-Lrat.is

@@ -1,5 +1,0 @@
-use Rattle.rvf_core.proofs.Exact.{IsExact-answers}
-use Rattle.rvf_core.proofs.top.run.Goals as goal
-
-pub returns-clause-exact : goal.returns-clause-exact
-returns-clause-exact g c = IsExact-answers _ c.answered.result c.answered.ensures

@@ -1,0 +1,51 @@
+//! `run CFG OUTDIR`
+
+ghost use Rattle.std.specs.Prelude.{◌≤◌, ◌<◌, ℕ, List, Some};
+ghost use Rattle.rvf_words.specs.declared.line.Line.TheVariants as words;
+ghost use Rattle.rvf_core.specs.Run.{Ends};
+ghost use Rattle.rvf_core.specs.Steps.{HaveStatus};
+ghost use Rattle.rvf_report.specs.Outcome.{outside};
+
+use crate::refusing::refused;
+use crate::reporting::put_report;
+use fv_base::{Files, Out};
+use rvf_case::{Request, prepare};
+use rvf_jobs::Gate;
+use rvf_report::{Status, Work, conclude};
+use rvf_sources::judgements_are_the_sources;
+use std::alloc::Global;
+use std::thread::Threads;
+
+/// Judges the checks of a configuration and delivers what they come to; or says why it doesn't.
+pub(crate) fn check<R: Threads + Sync, F: Files, O: Out, G: Gate>(
+    rt: &R,
+    alloc: Global,
+    request: Request<'_>,
+    work: &Work<'_>,
+    gate: &G,
+    files: &mut F,
+    out: &mut O,
+) -> Status
+    requires budget { 0 < work.now.budget }
+    requires jobs { 1 ≤ work.now.jobs × work.now.jobs ≤ 64 }
+    ensures ends { (asked : List (List ℕ)) → Ends
+        (Some (words.Run request.entry.cfg.now work.now.outdir.now request.entry.core.now request.entry.basedir.now
+        work.now.budget work.now.jobs)) (record {
+          words = asked;
+          before = outside (F.held files.old) (F.misses files.old) (F.faults files.old) (O.sent out.old) (O.faults out.old);
+          now = outside (F.held files.new) (F.misses files.new) (F.faults files.new) (O.sent out.new) (O.faults out.new);
+        }) result }
+    ensures statuses { (asked : List (List ℕ)) → HaveStatus
+        (Some (words.Run request.entry.cfg.now work.now.outdir.now request.entry.core.now request.entry.basedir.now
+        work.now.budget work.now.jobs)) (record {
+          words = asked;
+          before = outside (F.held files.old) (F.misses files.old) (F.faults files.old) (O.sent out.old) (O.faults out.old);
+          now = outside (F.held files.new) (F.misses files.new) (F.faults files.new) (O.sent out.new) (O.faults out.new);
+        }) result }
+{
+    judgements_are_the_sources();
+    match prepare(alloc, request, files) {
+        Ok(case) => conclude(rt, alloc, &case, work, gate, files, out),
+        Err(refusal) => put_report(alloc, refused(alloc, &refusal), files, out),
+    }
+}
