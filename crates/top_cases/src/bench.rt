@@ -7,6 +7,20 @@ use rvf_core::run;
 use std::alloc::{AllocError, Global};
 use std::thread::Threads;
 
+/// The checks whose files are told.
+const CHECKS: [&str; 7] = [
+    "ill_ch0",
+    "reg_ch0",
+    "pc_fwd_ch0",
+    "unique_ch0",
+    "liveness_ch0",
+    "imem_ch0",
+    "dmem_ch0",
+];
+
+/// How the names of a check's files end.
+const ENDINGS: [&str; 3] = ["cnf", "lrat", "vcd"];
+
 /// A text under its name.
 #[derive(Drop)]
 struct Named {
@@ -135,7 +149,7 @@ impl Bench {
         Ok(MemFiles::new(self.alloc, pairs, self.failing_files.clone()?)?)
     }
 
-    /// Makes the run: its words, what was put, the code, and each file of a certificate that is there.
+    /// Makes the run: its words, what was put, the code, and each file of a check that is there.
     pub fn run<R: Threads + Sync>(&mut self, rt: &R, asked: &Asked) -> Result<String> {
         let mut files = self.held()?;
         let mut out = MemOut::new(self.alloc, self.failing_puts.clone()?);
@@ -149,9 +163,12 @@ impl Bench {
         put(&mut told, out.sent(), asked.in_brief)?;
         let code = status.code();
         told.push_str(format!(in self.alloc; "= {code}\n")?.as_str())?;
-        for name in ["out/ill_ch0.cnf", "out/ill_ch0.lrat"] {
-            if files.get(name).is_some() {
-                told.push_str(format!(in self.alloc; "+ {name}\n")?.as_str())?;
+        for check in CHECKS {
+            for ending in ENDINGS {
+                let name = format!(in self.alloc; "out/{check}.{ending}")?;
+                if files.get(name.as_str()).is_some() {
+                    told.push_str(format!(in self.alloc; "+ {name}\n")?.as_str())?;
+                }
             }
         }
         self.held = Some(files);
