@@ -77,7 +77,8 @@ fn misconfigured(fault: CfgFault) -> Refusal
     }
 }
 
-/// A configuration of one channel; none is read that has another number of them.
+/// A configuration of one channel. `read_cfg` reads no other, but no clause of it says so, and another one is answered
+/// as want of memory.
 fn with_one_channel(config: Config) -> Result<Config, Memory>
     ensures same { IfOk result (λ other. other ≡ config) }
     ensures channels { IfOk result (λ other. other.nret ≡ 1) }
