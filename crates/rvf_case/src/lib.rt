@@ -13,4 +13,5 @@ mod shared;
 
 pub use case::{Case, LoadedText};
 pub use preparing::{Request, prepare};
+pub use reading::read_config;
 pub use refusal::Refusal;

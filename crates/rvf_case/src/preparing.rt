@@ -10,7 +10,7 @@ ghost use Rattle.rvf_case.specs.Steps.{Prepares};
 
 use crate::case::Case;
 use crate::loading::case_of;
-use crate::reading::{configured, read_files};
+use crate::reading::{read_config, read_files};
 use crate::refusal::Refusal;
 use ck_cfg::{Config, file_names};
 use fv_base::{Files, List, Memory, Text};
@@ -62,7 +62,7 @@ fn prepared<F: Files>(alloc: Global, request: Request<'_>, files: &mut F) -> Res
     ensures misses_grow { F.misses files.old ≤ F.misses files.new }
     ensures faults_grow { F.faults files.old ≤ F.faults files.new }
 {
-    let config = configured(alloc, request.cfg, files)?;
+    let config = read_config(alloc, request.cfg, files)?;
     let names = names_of(alloc, &config, request.core, request.basedir)?;
     let texts = read_files(alloc, names.as_slice(), files)?;
     let all = with_first(alloc, request.cfg, names)?;

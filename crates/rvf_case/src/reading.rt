@@ -91,11 +91,7 @@ fn with_one_channel(config: Config) -> Result<Config, Memory>
 }
 
 /// The configuration that a file says.
-pub(crate) fn configured<F: Files>(
-    alloc: Global,
-    cfg: &[u8],
-    files: &mut F,
-) -> Result<Config, Refusal>
+pub fn read_config<F: Files>(alloc: Global, cfg: &[u8], files: &mut F) -> Result<Config, Refusal>
     ensures configures { Configures cfg.now (record {
       held = F.held files.old;
       misses = F.misses files.old;

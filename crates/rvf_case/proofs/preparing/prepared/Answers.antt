@@ -13,9 +13,9 @@ returns-in_err-config-clause-prepares g c =
     let seen : Seen = record {
       held = g.F.Files.held c.args.files.now;
       misses = g.F.Files.misses c.args.files.now;
-      misses_now = g.F.Files.misses c.configured.new.files;
+      misses_now = g.F.Files.misses c.read_config.new.files;
       faults = g.F.Files.faults c.args.files.now;
-      faults_now = g.F.Files.faults c.configured.new.files;
+      faults_now = g.F.Files.faults c.read_config.new.files;
     } in
     let left : c.from_residual.result ≡ Err c.in_err-config.field-0.0 = search rules in
     rw left (configuration_stops c.in_err-config.field-0.0 (request_seen c.args.request) seen
@@ -35,9 +35,9 @@ returns-in_err-texts-clause-prepares g c =
       faults = g.F.Files.faults c.args.files.now;
       faults_now = g.F.Files.faults c.read_files.new.files;
     } in
-    let held = g.F.Files.held c.configured.new.files in
-    let misses = g.F.Files.misses c.configured.new.files in
-    let faults = g.F.Files.faults c.configured.new.files in
+    let held = g.F.Files.held c.read_config.new.files in
+    let misses = g.F.Files.misses c.read_config.new.files in
+    let faults = g.F.Files.faults c.read_config.new.files in
     let f : Refusal = c.in_err-texts.field-0.0 in
     let left : c.from_residual-in_err-texts.result ≡ Err f = search rules in
     let names : c.as_slice.result.now ≡ names_in (request_seen c.args.request) c.in_ok-config.config =
@@ -64,7 +64,7 @@ returns-clause-prepares g c =
       faults = g.F.Files.faults c.args.files.now;
       faults_now = g.F.Files.faults c.read_files.new.files;
     } in
-    let held = g.F.Files.held c.configured.new.files in
+    let held = g.F.Files.held c.read_config.new.files in
     let names : c.as_slice.result.now ≡ names_in r config = c.as_slice.ensures ∙ c.in_ok-names.ensures in
     let all : c.in_ok-all.all ≡ r.cfg ∷ names_in r config =
     c.in_ok-all.ensures ∙ ap (λ (ns : List (List ℕ)). r.cfg ∷ ns) c.in_ok-names.ensures in
@@ -78,7 +78,7 @@ returns-clause-prepares g c =
 
 pub returns-in_err-texts-clause-kept : goal.returns-in_err-texts-clause-kept
 returns-in_err-texts-clause-kept g c =
-    same_in_turn (g.F.Files.held c.args.files.now) (g.F.Files.held c.configured.new.files)
+    same_in_turn (g.F.Files.held c.args.files.now) (g.F.Files.held c.read_config.new.files)
     (g.F.Files.held c.read_files.new.files) c.in_ok-config.ensures.kept c.in_err-texts.ensures.kept
 
 pub returns-in_err-texts-clause-misses_grow : goal.returns-in_err-texts-clause-misses_grow
@@ -91,7 +91,7 @@ returns-in_err-texts-clause-faults_grow g c =
 
 pub returns-in_err-all-clause-kept : goal.returns-in_err-all-clause-kept
 returns-in_err-all-clause-kept g c =
-    same_in_turn (g.F.Files.held c.args.files.now) (g.F.Files.held c.configured.new.files)
+    same_in_turn (g.F.Files.held c.args.files.now) (g.F.Files.held c.read_config.new.files)
     (g.F.Files.held c.read_files.new.files) c.in_ok-config.ensures.kept c.in_ok-texts.ensures.kept
 
 pub returns-in_err-all-clause-misses_grow : goal.returns-in_err-all-clause-misses_grow
@@ -104,7 +104,7 @@ returns-in_err-all-clause-faults_grow g c =
 
 pub returns-clause-kept : goal.returns-clause-kept
 returns-clause-kept g c =
-    same_in_turn (g.F.Files.held c.args.files.now) (g.F.Files.held c.configured.new.files)
+    same_in_turn (g.F.Files.held c.args.files.now) (g.F.Files.held c.read_config.new.files)
     (g.F.Files.held c.read_files.new.files) c.in_ok-config.ensures.kept c.in_ok-texts.ensures.kept
 
 pub returns-clause-misses_grow : goal.returns-clause-misses_grow

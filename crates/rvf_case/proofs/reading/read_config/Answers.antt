@@ -1,6 +1,6 @@
 use Rattle.std.proofs.Common.{subst, sym}
 use Rattle.ck_cfg.specs.Lawful.{HasLawfulChecks}
-use Rattle.rvf_case.proofs.reading.configured.Goals as goal
+use Rattle.rvf_case.proofs.reading.read_config.Goals as goal
 
 pub returns-in-Ok-clause-lawful : goal.returns-in-Ok-clause-lawful
 returns-in-Ok-clause-lawful g c =
