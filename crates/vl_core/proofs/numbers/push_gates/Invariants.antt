@@ -1,7 +1,0 @@
-use Rattle.std.proofs.Common.{◌+◌}
-use Rattle.vl_core.specs.Gates.{gate_bit, each_bit}
-use Rattle.vl_core.specs.Adds.{Adds}
-use Rattle.vl_core.proofs.numbers.push_gates.Given as goal
-
-abbrev pub invariant-loop-k : goal.invariant-loop-k
-invariant-loop-k l = Adds l.fn.formula l.formula (each_bit (λ k. gate_bit l.gate (l.r + k) (l.a + k) (l.b + k)) l.k)
