@@ -90,7 +90,7 @@ fn with_one_channel(config: Config) -> Result<Config, Memory>
     }
 }
 
-/// The configuration that a file says.
+/// The configuration that a file says, or why it says none: the file gives no bytes, or its bytes are refused.
 pub fn read_config<F: Files>(alloc: Global, cfg: &[u8], files: &mut F) -> Result<Config, Refusal>
     ensures configures { Configures cfg.now (record {
       held = F.held files.old;
