@@ -1,5 +1,5 @@
 -- What nodes of statements spell, from what their parts do, and with attributes before them.
-use Rattle.std.proofs.Common.{◌≡◌, ℕ, ◌-◌, ◌<◌, Bool, true, false, List, [], ◌∷◌, refl, sym, ap, ◌∙◌, subst}
+use Rattle.std.proofs.Common.{◌≡◌, ℕ, Bool, true, false, List, [], ◌∷◌, refl, sym, subst}
 use Rattle.std.specs.Prelude.{Option, Some, None}
 use Rattle.fv_base.specs.declared.pos.Pos.{Pos}
 use Rattle.fv_base.specs.declared.token.Token.{Token}
@@ -18,17 +18,9 @@ use Rattle.vl_tree.specs.Stmt.{Stmt, Stmts, Arms, begin, if_only, if_else, case}
 use Rattle.vl_tree.specs.StmtView.{shown}
 use Rattle.vl_tree.specs.StmtSpelling.{spell, spell_all, spell_arms, spell_label, case_word}
 use Rattle.vl_tree.specs.StmtWellFormed.{ends_open}
-use Rattle.vl_grammar.specs.Machine.{then}
-use Rattle.vl_grammar.specs.Grammar.{Outcome, read, in_parens, stmt, first_arm}
-use Rattle.vl_stmt.specs.declared.stmt.StmtLead.TheVariants as lead
-use Rattle.vl_take.specs.declared.stop.Stop.{Stop}
-use Rattle.vl_take.specs.declared.stop.Stop.TheVariants as stop
-use Rattle.vl_take.specs.Goes.{Ends}
-use Rattle.vl_stmt.specs.StmtLead.{stmt_lead_of}
-use Rattle.vl_take.specs.Next.{IsOther, kinds_in}
+use Rattle.vl_take.specs.Next.{IsOther}
 use Rattle.vl_stmt.specs.Bare.{HasNoAttributes}
 use Rattle.vl_stmt.specs.Statements.{LeavesElse}
-use Rattle.vl_stmt.proofs.StmtLeads.{lead_case}
 
 pub block_found : (p : Pos) (label : Option (List ℕ)) (ss : Stmts) (start inside rest : List Token)
     → BeginsAt p start → IsNext (k.Keyword w.Begin) start inside
@@ -97,18 +89,3 @@ attributed attrs old p x start middle rest = by_kind x
     by_kind (kind.Assign l c e) n h (m, i, j) = (m, moved m n h i, j)
     by_kind (kind.Assume e) n h (m, i, j) = (m, moved m n h i, j)
     by_kind kind.Empty n h (m, i, j) = (m, moved m n h i, j)
-
--- what is read of a `case`
-pub case_row : (n inside : ℕ) (t : Token) (ts us : List Token) (c : CaseKind) → us ≡ t ∷ ts
-    → stmt_lead_of t.kind ≡ lead.Case c → 0 < n → inside ≡ n - 1
-    → read stmt n (kinds_in us) ≡ then (read in_parens inside (kinds_in ts)) (λ r. read (first_arm c) inside r)
-case_row n inside t ts us c e h l i =
-    ap (λ vs. read stmt n (kinds_in vs)) e
-    ∙ lead_case n t.kind (kinds_in ts) c h l
-    ∙ ap (λ m. then (read in_parens m (kinds_in ts)) (λ r. read (first_arm c) m r)) (sym i)
-
--- what is refused in a first part is refused in the whole
-pub ends_then : (e : Stop) (r : Outcome) (f : List Kind → Outcome) → Ends e r → Ends e (then r f)
-ends_then (stop.Wrong left) r f h = ap (λ o. then o f) h
-ends_then (stop.TooDeep left) r f h = ap (λ o. then o f) h
-ends_then stop.Memory r f h = tt

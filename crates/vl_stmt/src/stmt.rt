@@ -20,7 +20,8 @@ ghost use Rattle.std.specs.Prelude.{false, ℕ};
 ghost use Rattle.fv_base.specs.declared.kind.Kind.TheVariants as k;
 ghost use Rattle.fv_base.specs.declared.symbol.Symbol.TheVariants as s;
 ghost use Rattle.fv_base.specs.declared.token.Token.{Token};
-ghost use Rattle.vl_tree.specs.Phrase.{Spells, BeginsAt, sign, word, ◌▸◌};
+ghost use Rattle.vl_tree.specs.Phrase.{Spells, BeginsAt, level, sign, word, ◌▸◌};
+ghost use Rattle.vl_tree.specs.ExprSpelling as written;
 ghost use Rattle.vl_tree.specs.ExprWellFormed as expr;
 ghost use Rattle.vl_tree.specs.LvalWellFormed as lval;
 ghost use Rattle.vl_tree.specs.Stmt as tree;
@@ -43,7 +44,7 @@ use std::alloc::Global;
 use vl_expr::{read_expr, read_parens};
 use vl_part::{Before, read_attributes, read_lval};
 use vl_take::{Stop, add, enter, first_place, next, past_sign, past_word, read_name, read_sign};
-use vl_tree::{Arm, AssignKind, CaseKind, Stmt, StmtKind};
+use vl_tree::{Arm, AssignKind, CaseKind, Expr, Stmt, StmtKind};
 
 /// What a token begins as the first of a statement behind its attributes.
 #[derive(Clone, Copy)]
@@ -82,12 +83,12 @@ fn bare(alloc: Global, pos: Pos, kind: StmtKind) -> Stmt
     }
 }
 
-fn boxed(alloc: Global, stmt: Stmt) -> Result<Box<Stmt>, Stop>
-    ensures same { IfOk result (λ box. box.value ≡ stmt) }
+fn boxed<T: Drop>(alloc: Global, value: T) -> Result<Box<T>, Stop>
+    ensures same { IfOk result (λ box. box.value ≡ value) }
     ensures memory { IfErr result (λ e. IsMemory e) }
 {
-    match Box::new(alloc, stmt) {
-        Ok(stmt) => Ok(stmt),
+    match Box::new(alloc, value) {
+        Ok(value) => Ok(value),
         Err(_) => Err(Stop::Memory),
     }
 }
@@ -109,6 +110,19 @@ pub fn read_stmt(alloc: Global, room: u32, tokens: &[Token]) -> Result<(Stmt, &[
         kind: bare.kind,
     };
     Ok((stmt, rest))
+}
+
+/// A statement on the heap.
+#[cycle(stmt)]
+fn read_boxed(alloc: Global, room: u32, tokens: &[Token]) -> Result<(Box<Stmt>, &[Token]), Stop>
+    ensures found { IfOk result (λ x. Spells (spec.spell x.0.value) tokens.now x.1.now) }
+    ensures formed { IfOk result (λ x. formed.IsWellFormed x.0.value) }
+    ensures no_else { IfOk result (λ x. LeavesElse x.0.value (kinds_in x.1.now)) }
+    ensures shorter { IfOk result (λ x. length x.1.now < length tokens.now) }
+    ensures goes { Goes (λ x. Ok (kinds_in x.1.now)) result (grammar.read grammar.stmt room (kinds_in tokens.now)) }
+{
+    let (stmt, rest) = read_stmt(alloc, room, tokens)?;
+    Ok((boxed(alloc, stmt)?, rest))
 }
 
 /// A statement behind its attributes.
@@ -139,15 +153,9 @@ fn read_bare(alloc: Global, room: u32, tokens: &[Token]) -> Result<(Stmt, &[Toke
         }
         StmtLead::Case(kind) => {
             let inside = enter(room, tokens)?;
-            let (expr, rest) = read_parens(alloc, inside, rest)?;
-            let (arms, rest) = read_arms(alloc, inside, kind, rest)?;
-            Ok((bare(alloc, pos, StmtKind::Case(kind, expr, arms)), rest))
+            read_case(alloc, pos, inside, kind, rest)
         }
-        StmtLead::Assume => {
-            let (condition, rest) = read_parens(alloc, room, rest)?;
-            let rest = read_sign(Symbol::Semicolon, rest)?;
-            Ok((bare(alloc, pos, StmtKind::Assume(condition)), rest))
-        }
+        StmtLead::Assume => read_assume(alloc, pos, room, rest),
         StmtLead::Semicolon => Ok((bare(alloc, pos, StmtKind::Empty), rest)),
         StmtLead::Other => read_assignment(alloc, pos, room, tokens),
     }
@@ -168,17 +176,63 @@ fn read_if(alloc: Global, pos: Pos, room: u32, tokens: &[Token]) -> Result<(Stmt
         (λ r. then (grammar.read grammar.stmt room r) (λ q. grammar.read grammar.otherwise room q))) }
 {
     let (condition, rest) = read_parens(alloc, room, tokens)?;
-    let (first, rest) = read_stmt(alloc, room, rest)?;
-    let first = boxed(alloc, first)?;
+    let (first, rest) = read_boxed(alloc, room, rest)?;
     match past_word(Keyword::Else, rest) {
         None => Ok((bare(alloc, pos, StmtKind::If(condition, first, None)), rest)),
         Some(rest) => {
-            let (second, rest) = read_stmt(alloc, room, rest)?;
-            let second = Some(boxed(alloc, second)?);
-            let kind = StmtKind::If(condition, first, second);
+            let (second, rest) = read_boxed(alloc, room, rest)?;
+            let kind = StmtKind::If(condition, first, Some(second));
             Ok((bare(alloc, pos, kind), rest))
         }
     }
+}
+
+/// What is behind a `case` or `casez`.
+#[cycle(stmt)]
+#[tactic(auto, using(vl_part::proofs::DeclarationRows::basics))]
+fn read_case(
+    alloc: Global,
+    pos: Pos,
+    room: u32,
+    kind: CaseKind,
+    tokens: &[Token],
+) -> Result<(Stmt, &[Token]), Stop>
+    ensures bare { IfOk result (λ x. HasNoAttributes x.0) }
+    ensures closed { IfOk result (λ x. formed.ends_open x.0 ≡ false) }
+    ensures found { IfOk result (λ x. (start : List Token) → BeginsAt pos start
+        → Spells (word (spec.case_word kind)) start tokens.now → Spells (spec.spell x.0) start x.1.now) }
+    ensures formed { IfOk result (λ x. formed.IsWellFormed x.0) }
+    ensures shorter { IfOk result (λ x. length x.1.now < length tokens.now) }
+    ensures goes { Goes (λ x. Ok (kinds_in x.1.now)) result
+        (then (grammar.read grammar.in_parens room (kinds_in tokens.now))
+        (λ r. grammar.read (grammar.first_arm kind) room r)) }
+{
+    let (expr, rest) = read_parens(alloc, room, tokens)?;
+    let (arms, rest) = read_arms(alloc, room, kind, rest)?;
+    Ok((bare(alloc, pos, StmtKind::Case(kind, expr, arms)), rest))
+}
+
+/// What is behind an `assume`.
+#[tactic(auto, using(vl_part::proofs::DeclarationRows::basics))]
+fn read_assume(
+    alloc: Global,
+    pos: Pos,
+    room: u32,
+    tokens: &[Token],
+) -> Result<(Stmt, &[Token]), Stop>
+    ensures bare { IfOk result (λ x. HasNoAttributes x.0) }
+    ensures closed { IfOk result (λ x. formed.ends_open x.0 ≡ false) }
+    ensures found { IfOk result (λ x. (start : List Token) → BeginsAt pos start
+        → Spells (word Keyword.Assume) start tokens.now → Spells (spec.spell x.0) start x.1.now) }
+    ensures formed { IfOk result (λ x. formed.IsWellFormed x.0) }
+    ensures shorter { IfOk result (λ x. length x.1.now < length tokens.now) }
+    ensures goes { Goes (λ x. Ok (kinds_in x.1.now)) result
+        (then (grammar.read grammar.in_parens room (kinds_in tokens.now))
+        (λ r. grammar.read (grammar.sign s.Semicolon) room r)) }
+{
+    let (condition, rest) = read_parens(alloc, room, tokens)?;
+    let rest = read_sign(Symbol::Semicolon, rest)?;
+    Ok((bare(alloc, pos, StmtKind::Assume(condition)), rest))
 }
 
 /// `: label`, where it is there, and statements up to `end`.
@@ -296,8 +350,8 @@ fn read_arm(
             }
             let inside = enter(room, tokens)?;
             let (colon, rest) = read_colon(rest);
-            let (body, rest) = read_stmt(alloc, inside, rest)?;
-            Ok((Arm::Default(pos, colon, boxed(alloc, body)?), true, rest))
+            let (body, rest) = read_boxed(alloc, inside, rest)?;
+            Ok((Arm::Default(pos, colon, body), true, rest))
         }
         None => {
             if !begins_label(kind, &first.kind) {
@@ -305,12 +359,8 @@ fn read_arm(
             }
             let inside = enter(room, tokens)?;
             let (labels, rest) = read_labels(alloc, inside, kind, tokens)?;
-            let (body, rest) = read_stmt(alloc, inside, rest)?;
-            Ok((
-                Arm::Labels(pos, labels, boxed(alloc, body)?),
-                has_default,
-                rest,
-            ))
+            let (body, rest) = read_boxed(alloc, inside, rest)?;
+            Ok((Arm::Labels(pos, labels, body), has_default, rest))
         }
     }
 }
@@ -334,13 +384,46 @@ fn read_assignment(
         (λ r. grammar.read grammar.assign_sign room r)) }
 {
     let (target, rest) = read_lval(alloc, room, tokens)?;
-    let (kind, rest) = read_assign_sign(rest)?;
-    let (value, rest) = read_expr(alloc, room, rest)?;
-    let rest = read_sign(Symbol::Semicolon, rest)?;
+    let (kind, value, rest) = read_behind_target(alloc, room, rest)?;
     Ok((
         bare(alloc, pos, StmtKind::Assign(target, kind, value)),
         rest,
     ))
+}
+
+/// `= value;` or `<= value;`
+#[tactic(auto, using(vl_part::proofs::DeclarationRows::basics))]
+fn read_behind_target(
+    alloc: Global,
+    room: u32,
+    tokens: &[Token],
+) -> Result<(AssignKind, Expr, &[Token]), Stop>
+    ensures found { IfOk result (λ x. Spells
+        (sign (spec.assign_sign x.0) ▸ level (written.spell x.1) ▸ sign Symbol.Semicolon) tokens.now x.2.now) }
+    ensures formed { IfOk result (λ x. expr.IsWellFormed x.1) }
+    ensures shorter { IfOk result (λ x. length x.2.now < length tokens.now) }
+    ensures goes { Goes (λ x. Ok (kinds_in x.2.now)) result
+        (grammar.read grammar.assign_sign room (kinds_in tokens.now)) }
+{
+    let (kind, rest) = read_assign_sign(tokens)?;
+    let (value, rest) = read_value(alloc, room, rest)?;
+    Ok((kind, value, rest))
+}
+
+/// `value;`
+#[tactic(auto, using(vl_part::proofs::DeclarationRows::basics))]
+fn read_value(alloc: Global, room: u32, tokens: &[Token]) -> Result<(Expr, &[Token]), Stop>
+    ensures found { IfOk result (λ x. Spells
+        (level (written.spell x.0) ▸ sign Symbol.Semicolon) tokens.now x.1.now) }
+    ensures formed { IfOk result (λ x. expr.IsWellFormed x.0) }
+    ensures shorter { IfOk result (λ x. length x.1.now < length tokens.now) }
+    ensures goes { Goes (λ x. Ok (kinds_in x.1.now)) result
+        (then (grammar.read grammar.expr room (kinds_in tokens.now))
+        (λ r. grammar.read (grammar.sign s.Semicolon) room r)) }
+{
+    let (value, rest) = read_expr(alloc, room, tokens)?;
+    let rest = read_sign(Symbol::Semicolon, rest)?;
+    Ok((value, rest))
 }
 
 #[tactic(auto, using(crate::proofs::StmtRows::of_assign_sign, vl_part::proofs::DeclarationRows::basics))]
@@ -376,15 +459,34 @@ pub fn read_initial(alloc: Global, room: u32, tokens: &[Token]) -> Result<(Stmt,
             let (all, rest) = read_initials(alloc, inside, rest)?;
             Ok((bare(alloc, pos, StmtKind::Begin(None, all)), rest))
         }
-        None => {
-            let (target, rest) = read_lval(alloc, room, tokens)?;
-            let rest = read_sign(Symbol::Equal, rest)?;
-            let (value, rest) = read_expr(alloc, room, rest)?;
-            let rest = read_sign(Symbol::Semicolon, rest)?;
-            let kind = StmtKind::Assign(target, AssignKind::Blocking, value);
-            Ok((bare(alloc, pos, kind), rest))
-        }
+        None => read_blocking(alloc, pos, room, tokens),
     }
+}
+
+/// `target = value;`
+#[tactic(auto, using(vl_part::proofs::DeclarationRows::basics))]
+fn read_blocking(
+    alloc: Global,
+    pos: Pos,
+    room: u32,
+    tokens: &[Token],
+) -> Result<(Stmt, &[Token]), Stop>
+    requires here { BeginsAt pos tokens.now }
+    ensures found { IfOk result (λ x. Spells (spec.spell x.0) tokens.now x.1.now) }
+    ensures formed { IfOk result (λ x. formed.IsWellFormed x.0) }
+    ensures initial { IfOk result (λ x. formed.IsInitial x.0) }
+    ensures shorter { IfOk result (λ x. length x.1.now < length tokens.now) }
+    ensures goes { Goes (λ x. Ok (kinds_in x.1.now)) result
+        (then (grammar.read grammar.target room (kinds_in tokens.now))
+        (λ r. then (grammar.read (grammar.sign s.Equal) room r)
+        (λ q. then (grammar.read grammar.expr room q)
+        (λ u. grammar.read (grammar.sign s.Semicolon) room u)))) }
+{
+    let (target, rest) = read_lval(alloc, room, tokens)?;
+    let rest = read_sign(Symbol::Equal, rest)?;
+    let (value, rest) = read_value(alloc, room, rest)?;
+    let kind = StmtKind::Assign(target, AssignKind::Blocking, value);
+    Ok((bare(alloc, pos, kind), rest))
 }
 
 /// Such statements up to `end`.

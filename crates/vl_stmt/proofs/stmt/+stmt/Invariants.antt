@@ -12,11 +12,17 @@ use Rattle.vl_stmt.proofs.stmt.+stmt.Given as goal
 abbrev pub decreases-read_stmt : goal.decreases-read_stmt
 decreases-read_stmt l = 4 * length l.tokens.now + 1
 
+abbrev pub decreases-read_boxed : goal.decreases-read_boxed
+decreases-read_boxed l = 4 * length l.tokens.now + 2
+
 abbrev pub decreases-read_bare : goal.decreases-read_bare
 decreases-read_bare l = 4 * length l.tokens.now
 
 abbrev pub decreases-read_if : goal.decreases-read_if
 decreases-read_if l = 4 * length l.tokens.now
+
+abbrev pub decreases-read_case : goal.decreases-read_case
+decreases-read_case l = 4 * length l.tokens.now
 
 abbrev pub decreases-read_labelled : goal.decreases-read_labelled
 decreases-read_labelled l = 4 * length l.tokens.now + 3
