@@ -1,7 +1,7 @@
 -- The answered refusal of a target is that of its parts.
 use Rattle.std.specs.Prelude.{◌≡◌, refl, ℕ, zero, suc, ◌≤◌, ◌<◌, List, [], ◌∷◌, ◌++◌}
 use Rattle.std.specs.Prelude.{length, get_or, Bool, ◌||◌}
-use Rattle.std.specs.Prelude.{Option}
+use Rattle.std.specs.Prelude.{Option, Some, None}
 use Rattle.std.proofs.Common.{ap, ◌∙◌, arith}
 use Rattle.fv_base.specs.declared.pos.Pos.{Pos}
 use Rattle.vl_tree.specs.Expr.{Selects}
@@ -26,6 +26,10 @@ part_depth (f ∷ ls) zero l h k = let p : depth l ≤ depth f = omega (arith, a
 part_depth (f ∷ ls) (suc i) l h k = omega (arith, part_depth ls i l (omega arith) k)
 
 pub ruleset steps = (part_depth)
+
+pub last_none : (g : Option ElabFault) → g ≡ lower_of g None
+last_none None = refl
+last_none (Some g) = refl
 
 module _ (ns : List Names) (continuous fixed : Bool) where
   mutual

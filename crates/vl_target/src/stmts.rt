@@ -81,14 +81,12 @@ fn judge_stmt(alloc: Global, stmt: &Stmt, names: &Names) -> Result<Option<ElabFa
         StmtKind::Begin(_, all) => judge_stmts(alloc, all.as_slice(), names),
         StmtKind::If(condition, first, None) => {
             let own = own_fault(alloc, condition, false, names)?;
-            let inner = judge_stmt(alloc, first, names)?;
-            Ok(first_of(own, inner))
+            stmt_behind(alloc, own, first, names)
         }
         StmtKind::If(condition, first, Some(second)) => {
             let own = own_fault(alloc, condition, false, names)?;
-            let inner = judge_stmt(alloc, first, names)?;
-            let other = judge_stmt(alloc, second, names)?;
-            Ok(first_of(first_of(own, inner), other))
+            let inner = stmt_behind(alloc, own, first, names)?;
+            stmt_behind(alloc, inner, second, names)
         }
         StmtKind::Case(_, expr, all) => {
             let context = case_context(alloc, expr, all.as_slice(), names)?;
@@ -100,6 +98,20 @@ fn judge_stmt(alloc: Global, stmt: &Stmt, names: &Names) -> Result<Option<ElabFa
         StmtKind::Assume(expr) => own_fault(alloc, expr, false, names),
         StmtKind::Empty => Ok(None),
     }
+}
+
+/// A statement behind others with such a refusal.
+#[cycle(statement)]
+fn stmt_behind(
+    alloc: Global,
+    before: Option<ElabFault>,
+    stmt: &Stmt,
+    names: &Names,
+) -> Result<Option<ElabFault>, Memory>
+    ensures { IfOk result (λ g. g ≡ lower_of before (parts.stmt_fault names.now stmt.now)) }
+{
+    let found = judge_stmt(alloc, stmt, names)?;
+    Ok(first_of(before, found))
 }
 
 #[cycle(statement)]
@@ -151,8 +163,7 @@ fn judge_arm(
     match arm {
         Arm::Labels(_, labels, stmt) => {
             let own = labels_fault(alloc, context, labels.as_slice(), names)?;
-            let inner = judge_stmt(alloc, stmt, names)?;
-            Ok(first_of(own, inner))
+            stmt_behind(alloc, own, stmt, names)
         }
         Arm::Default(_, _, stmt) => judge_stmt(alloc, stmt, names),
     }

@@ -138,21 +138,32 @@ fn selects_divisor(alloc: Global, all: &[Select], names: &Names) -> Result<Optio
     Ok(found)
 }
 
-/// The refusals of a name's parts, in order.
-fn target_of(
-    pos: Pos,
-    width: Option<u64>,
-    inner: Option<ElabFault>,
-    place: Option<Pos>,
-    assigned: Option<ElabFault>,
-    selected: Option<ElabFault>,
-) -> Judged
-    ensures width { result.width ≡ width }
-    ensures fault { result.fault ≡ lower_of (lower_of (lower_of (lower_of inner
-        (lowest (expressions.divided_by_zero place))) assigned) selected) (lowest (expressions.too_wide pos width)) }
+/// The refusals of a name's selects, and behind them a division by 0 there.
+fn with_division(inner: Option<ElabFault>, place: Option<Pos>) -> Option<ElabFault>
+    ensures { result ≡ lower_of inner (lowest (expressions.divided_by_zero place)) }
 {
-    let divided = first_of(inner, divided_by_zero(place));
-    closed(pos, width, first_of(first_of(divided, assigned), selected))
+    first_of(inner, divided_by_zero(place))
+}
+
+/// Behind a refusal of what its selects have in them, that of a name that some scope declares.
+fn named_fault(
+    alloc: Global,
+    before: Option<ElabFault>,
+    pos: Pos,
+    text: &Text,
+    meaning: &Meaning,
+    all: &[Select],
+    continuous: bool,
+    names: &Names,
+) -> Result<Option<ElabFault>, Memory>
+    ensures { IfOk result (λ g. g ≡ lower_of
+        (lower_of before (lowest (spec.assigned_refusals names.now continuous pos text.now (seen meaning.now))))
+        (lowest (spec.target_selects names.now pos (seen meaning.now) (named pos text.now (selects all.now))))) }
+{
+    let assigned = assigned_fault(alloc, continuous, pos, text, meaning)?;
+    let own = first_of(before, assigned);
+    let selected = selected_fault(alloc, pos, text, meaning, all, names)?;
+    Ok(first_of(own, selected))
 }
 
 fn name_target(
@@ -171,16 +182,21 @@ fn name_target(
     let place = selects_divisor(alloc, all, names)?;
     match names.meaning(text) {
         None => {
+            let unknown = text.copied(alloc)?;
             let inner = judge_selects(alloc, all, either(fixed, false), names)?;
-            let unknown = ElabFault::Unknown(text.copied(alloc)?, pos);
-            Ok(target_of(pos, None, inner, place, Some(unknown), None))
+            let divided = with_division(inner, place);
+            Ok(closed(
+                pos,
+                None,
+                first_of(divided, Some(ElabFault::Unknown(unknown, pos))),
+            ))
         }
         Some(meaning) => {
-            let inner = judge_selects(alloc, all, either(fixed, is_constant(meaning)), names)?;
-            let assigned = assigned_fault(alloc, continuous, pos, text, meaning)?;
-            let selected = selected_fault(alloc, pos, text, meaning, all, names)?;
             let width = name_width(alloc, text, meaning, all, names)?;
-            Ok(target_of(pos, width, inner, place, assigned, selected))
+            let inner = judge_selects(alloc, all, either(fixed, is_constant(meaning)), names)?;
+            let divided = with_division(inner, place);
+            let fault = named_fault(alloc, divided, pos, text, meaning, all, continuous, names)?;
+            Ok(closed(pos, width, fault))
         }
     }
 }

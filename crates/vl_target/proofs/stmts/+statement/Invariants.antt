@@ -6,16 +6,19 @@ use Rattle.vl_target.specs.Parts.{stmts_fault, arms_fault}
 use Rattle.vl_target.proofs.stmts.+statement.Given as goal
 
 abbrev pub decreases-judge_stmt : goal.decreases-judge_stmt
-decreases-judge_stmt l = 4 * depth l.stmt.now
+decreases-judge_stmt l = 5 * depth l.stmt.now
+
+abbrev pub decreases-stmt_behind : goal.decreases-stmt_behind
+decreases-stmt_behind l = 5 * depth l.stmt.now + 1
 
 abbrev pub decreases-judge_stmts : goal.decreases-judge_stmts
-decreases-judge_stmts l = 4 * stmts_depth (stmts l.all.now) + 1
+decreases-judge_stmts l = 5 * stmts_depth (stmts l.all.now) + 1
 
 abbrev pub decreases-judge_arms : goal.decreases-judge_arms
-decreases-judge_arms l = 4 * arms_depth (arms l.all.now) + 2
+decreases-judge_arms l = 5 * arms_depth (arms l.all.now) + 3
 
 abbrev pub decreases-judge_arm : goal.decreases-judge_arm
-decreases-judge_arm l = 4 * arms_depth (with_arm l.arm.now no_arms) + 1
+decreases-judge_arm l = 5 * arms_depth (with_arm l.arm.now no_arms) + 2
 
 abbrev pub invariant-judge_stmts-loop-place : goal.invariant-judge_stmts-loop-place
 invariant-judge_stmts-loop-place l = record {
