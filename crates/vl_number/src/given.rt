@@ -1,6 +1,7 @@
 //! What an instance gives to the parameters of its module.
-ghost use Rattle.std.specs.Prelude.{◌≡◌, ℕ, List, None, IfOk, OnOk};
+ghost use Rattle.std.specs.Prelude.{◌≡◌, ℕ, List, None, IfOk, OnOk, bytes_eq};
 ghost use Rattle.std.specs.Option.{option_copied};
+ghost use Rattle.indexmap.specs.IndexMap.{insert_entry};
 ghost use Rattle.vl_mean.specs.Scopes.{Scope};
 ghost use Rattle.vl_mean.specs.Walk.{overrides_of};
 ghost use Rattle.vl_scope.specs.Texts.{or_else};
@@ -44,8 +45,17 @@ impl Given {
         if self.map.get(name.bytes()).is_some() {
             return Ok(());
         }
-        self.map.insert(name.into_vec(), value)?;
-        Ok(())
+        put(&mut self.map, name.into_vec(), value)
+    }
+}
+
+fn put(map: &mut IndexMap<Vec<u8>, Expr>, key: Vec<u8>, value: Expr) -> Result<(), Memory>
+    ensures { OnOk result (map.new.entries
+        ≡ insert_entry (λ a b. bytes_eq a.items b.items) map.old.entries key value) }
+{
+    match map.insert(key, value) {
+        Ok(_) => Ok(()),
+        Err(_) => Err(Memory),
     }
 }
 

@@ -28,7 +28,7 @@ fn size_or_none(expr: &Expr, env: &Env) -> u32
 }
 
 /// In a context of so many bits, or in its own where that is larger.
-pub(crate) fn number_at(expr: &Expr, least: u32, env: &Env) -> u128
+fn number_at(expr: &Expr, least: u32, env: &Env) -> u128
     requires { least ≤ 128 }
     ensures { let x = size_spec.operand_of env.now.decls (cells_of env.now) expr.now in
         result ≡ x.at (max least x.size) x.sign }
@@ -38,7 +38,7 @@ pub(crate) fn number_at(expr: &Expr, least: u32, env: &Env) -> u128
 }
 
 /// In its own context.
-pub(crate) fn own_number(expr: &Expr, env: &Env) -> Own
+fn own_number(expr: &Expr, env: &Env) -> Own
     ensures width { result.width ≡ size_spec.or_none (size_spec.size env.now.decls expr.now) }
     ensures signed { result.signed ≡ sign env.now.decls expr.now }
     ensures number { result.number ≡ size_spec.own (size_spec.operand_of env.now.decls (cells_of env.now) expr.now) }
@@ -53,11 +53,29 @@ pub(crate) fn own_number(expr: &Expr, env: &Env) -> Own
 }
 
 /// No names.
-pub(crate) fn no_names(alloc: Global) -> Env
+fn no_names(alloc: Global) -> Env
     ensures decls { result.decls ≡ [] }
     ensures numbers { cells_of result ≡ size_spec.no_names }
 {
     Env::new(alloc, Decls::new(alloc))
+}
+
+/// Without names, in a context of so many bits, or in its own where that is larger.
+pub(crate) fn number_alone(alloc: Global, expr: &Expr, least: u32) -> u128
+    requires { least ≤ 128 }
+    ensures { let x = size_spec.operand_of [] size_spec.no_names expr.now in
+        result ≡ x.at (max least x.size) x.sign }
+{
+    number_at(expr, least, &no_names(alloc))
+}
+
+/// Without names, in its own context.
+pub(crate) fn own_alone(alloc: Global, expr: &Expr) -> Own
+    ensures width { result.width ≡ size_spec.or_none (size_spec.size [] expr.now) }
+    ensures signed { result.signed ≡ sign [] expr.now }
+    ensures number { result.number ≡ size_spec.own (size_spec.operand_of [] size_spec.no_names expr.now) }
+{
+    own_number(expr, &no_names(alloc))
 }
 
 /// A bound of a range.
@@ -65,7 +83,7 @@ pub(crate) fn bound_in(alloc: Global, expr: &Expr, numbers: &Names) -> Result<Ow
     ensures { IfOk result (λ own. as_int own.width own.signed own.number ≡ bound numbers.now expr.now) }
 {
     let expr = known_expr(alloc, expr, numbers)?;
-    Ok(own_number(&expr, &no_names(alloc)))
+    Ok(own_alone(alloc, &expr))
 }
 
 /// The same of an expression over constants.
@@ -75,7 +93,7 @@ fn number_in(alloc: Global, expr: &Expr, least: u32, numbers: &Names) -> Result<
         n ≡ x.at (max least x.size) x.sign) }
 {
     let expr = known_expr(alloc, expr, numbers)?;
-    Ok(number_at(&expr, least, &no_names(alloc)))
+    Ok(number_alone(alloc, &expr, least))
 }
 
 /// Whether the expression isn't 0, with the numbers that constants have by the definitions, refused or not.

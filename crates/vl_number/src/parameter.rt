@@ -13,7 +13,7 @@ ghost use Rattle.vl_number.specs.Given as given_spec;
 ghost use Rattle.vl_number.specs.Numbers as spec;
 
 use crate::given::Given;
-use crate::number::{bound_in, no_names, number_at, own_number};
+use crate::number::{bound_in, number_alone, own_alone};
 use fv_base::Memory;
 use fv_bits::{is_below_zero, low, magnitude};
 use std::alloc::Global;
@@ -73,7 +73,7 @@ fn with_own_size(alloc: Global, signed: bool, value: &Expr) -> Const
     ensures { let x = size_spec.operand_of [] size_spec.no_names value.now in
         result ≡ constants_spec.cut_to x.size (signed || x.sign) (size_spec.own x) }
 {
-    let own = own_number(value, &no_names(alloc));
+    let own = own_alone(alloc, value);
     let signed = is_signed(signed, own);
     cut_to(own.width, signed, own.number)
 }
@@ -90,7 +90,7 @@ fn assigned(
         (size_spec.operand_of [] size_spec.no_names value.now) (Some range.now)) }
 {
     let bits = bits_in(alloc, range, numbers)?;
-    let number = number_at(value, bits, &no_names(alloc));
+    let number = number_alone(alloc, value, bits);
     Ok(cut_to(bits, signed, number))
 }
 

@@ -1,10 +1,10 @@
-use Rattle.std.proofs.Common.{◌∙◌}
+use Rattle.std.proofs.Common.{◌∙◌, ap}
+use Rattle.std.specs.Prelude.{[]}
 use Rattle.fv_bits.specs.Bits.{as_int}
-use Rattle.vl_size.specs.Size.{operand_of, index_of}
+use Rattle.vl_size.specs.Size.{operand_of, index_of, no_names}
 use Rattle.vl_number.proofs.number.bound_in.Goals as goal
 
 pub returns : goal.returns
 returns c =
-    (λ i. as_int (c.own_number.ensures.width i) (c.own_number.ensures.signed i) (c.own_number.ensures.number i))
-    ∙ (λ i. index_of (operand_of (c.no_names.ensures.decls i) (c.no_names.ensures.numbers i)
-    (c.in_ok-expr.ensures i)))
+    (λ i. as_int (c.own_alone.ensures.width i) (c.own_alone.ensures.signed i) (c.own_alone.ensures.number i))
+    ∙ ap (λ e. index_of (operand_of [] no_names e)) c.in_ok-expr.ensures

@@ -1,10 +1,9 @@
 use Rattle.std.proofs.Common.{◌∙◌}
-use Rattle.std.specs.Prelude.{max}
-use Rattle.vl_size.specs.Size.{operand_of}
+use Rattle.std.specs.Prelude.{[], max}
+use Rattle.vl_size.specs.Size.{operand_of, no_names}
 use Rattle.vl_number.proofs.number.number_in.Goals as goal
 
 pub returns : goal.returns
 returns c =
-    c.number_at.ensures
-    ∙ (λ i. let x = operand_of (c.no_names.ensures.decls i) (c.no_names.ensures.numbers i) (c.in_ok-expr.ensures i) in
-    x.at (max c.args.least x.size) x.sign)
+    c.number_alone.ensures
+    ∙ (λ i. let x = operand_of [] no_names (c.in_ok-expr.ensures i) in x.at (max c.args.least x.size) x.sign)

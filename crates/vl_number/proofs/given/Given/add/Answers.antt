@@ -1,3 +1,4 @@
+use Rattle.std.proofs.lemmas.Result.{on_ok_weaker}
 use Rattle.vl_number.specs.Given.{value_given}
 use Rattle.vl_mean.proofs.Lookups.{lookup_after}
 use Rattle.vl_number.proofs.Gives.{said, value_kept, value_put}
@@ -9,8 +10,8 @@ returns-then-is_some c other =
     c.args.name c.is_some.result _ c.get.result c.is_some.ensures c.if-is_some.true c.get.ensures.value c.bytes.ensures)
 
 pub returns : goal.returns
-returns c other =
-    value_put (value_given c.args.self.now) c.args.name other c.args.value _
+returns c =
+    on_ok_weaker c.put.result (λ made other. value_put (value_given c.args.self.now) c.args.name other c.args.value _
     (said c.args.self.now c.bytes.result.now c.args.name c.is_some.result _ c.get.result c.is_some.ensures
     c.if-is_some.false c.get.ensures.value c.bytes.ensures)
-    (lookup_after (λ key. key.items) _ c.args.value other _ _ _ c.in_ok-insert.ensures.entries c.into_vec.ensures)
+    (lookup_after (λ key. key.items) _ c.args.value other _ _ _ made c.into_vec.ensures)) c.put.ensures
