@@ -1,3 +1,4 @@
+pub mod Channels
 pub mod Compared
 pub mod Depths
 pub mod Ends

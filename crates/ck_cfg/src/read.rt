@@ -13,6 +13,7 @@ use std::alloc::Global;
 pub fn read_cfg(alloc: Global, bytes: &[u8]) -> Result<Config, CfgFault>
     ensures answers { Answers result (config_of bytes.now) }
     ensures lawful { IfOk result (λ config. HasLawfulChecks config) }
+    ensures channels { IfOk result (λ config. config.nret ≡ 1) }
 {
     read_text(alloc, bytes)
 }
