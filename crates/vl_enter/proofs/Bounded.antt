@@ -1,17 +1,57 @@
 -- What is known of a parameter whose range is known, or isn't.
 use Rattle.std.specs.Prelude.{◌≡◌, refl, ℕ, ◌≤◌, List, Bool, true, false, ◌&&◌, ◌||◌, is_some, nat_le}
-use Rattle.std.specs.Prelude.{Option, Some, None, if◌then◌else◌}
-use Rattle.std.proofs.Common.{ap, sym, ◌∙◌, arith}
+use Rattle.std.specs.Prelude.{◌+◌, ◌-◌, ◌^◌, nat_abs, Option, Some, None, if◌then◌else◌}
+use Rattle.std.proofs.Common.{ap, sym, ◌∙◌, arith, ℤ, pos, negsuc, ◌-ℤ◌, ◌≤ℤ◌, ◌<ℤ◌}
 use Rattle.std.proofs.lemmas.Bool.Decides.{nat_tests}
+use Rattle.std.proofs.lemmas.Int.{ints}
+use Rattle.std.proofs.lemmas.Option.{same_Some}
 use Rattle.vl_tree.specs.declared.declaration.Parameter.{Parameter}
 use Rattle.vl_tree.specs.declared.declaration.Range.{Range}
 use Rattle.vl_tree.specs.Expr.{Expr}
+use Rattle.vl_size.specs.Size.{is_bound}
 use Rattle.vl_refusal.specs.Meanings.{Names, is_known_value, is_known_range, is_known_shape, declared_width}
 use Rattle.vl_refusal.specs.Meanings.{may_be_selected}
 use Rattle.vl_param.specs.Entered.{selected_if_known}
 use Rattle.vl_enter.specs.declared.extents.Bounds.{Bounds}
 use Rattle.vl_enter.specs.declared.extents.Extent.{Extent}
-use Rattle.vl_enter.specs.Known.{as_extent, few_bits, known_extent, extent_of, left_bound, right_bound, goes_down_to_0}
+use Rattle.vl_enter.specs.Known.{as_extent, bounds_of, few_bits, known_extent, extent_of, left_bound, right_bound}
+use Rattle.vl_enter.specs.Known.{goes_down_to_0}
+
+-- a bound that is there
+module _ (i x : ℤ) (o : Option ℤ) (h : o ≡ (if is_bound i then Some i else None)) (k : o ≡ Some x) where
+  pub bound_is : x ≡ i
+  bound_is = by (is_bound i) h
+    where
+      by : (b : Bool) → o ≡ (if b then Some i else None) → x ≡ i
+      by true h = same_Some x i (sym k ∙ h)
+      by false h = cc
+
+  bound_there : is_bound i ≡ true
+  bound_there = by (is_bound i) h
+    where
+      by : (b : Bool) → o ≡ (if b then Some i else None) → b ≡ true
+      by true h = refl
+      by false h = cc
+
+  pub is_few : is_bound x ≡ true
+  is_few = ap is_bound bound_is ∙ bound_there
+
+pub few_down : (i : ℤ) → is_bound i ≡ true → negsuc (2 ^ 31 - 1) ≤ℤ i
+few_down i h = grind (arith, ints, h)
+
+pub few_up : (i : ℤ) → is_bound i ≡ true → i <ℤ pos (2 ^ 31)
+few_up i h = grind (arith, ints, h)
+
+abbrev pub with_bounds : ℕ → ℤ → ℤ → Bounds
+with_bounds n x y = record { bits = n; left = x; right = y }
+
+pub bounds_are : (l r x y : ℤ) (n : ℕ) → x ≡ l → y ≡ r → is_bound x ≡ true → is_bound y ≡ true
+    → n ≡ nat_abs (x -ℤ y)
+    → Some (with_bounds (n + 1) x y) ≡ (if is_bound l && is_bound r then Some (bounds_of l r) else None)
+bounds_are l r x y n hl hr fl fr e =
+    ap (λ n. Some (with_bounds (n + 1) x y)) e
+    ∙ sym (λ i. if fl i && fr i then Some (bounds_of x y) else None)
+    ∙ (λ i. if is_bound (hl i) && is_bound (hr i) then Some (bounds_of (hl i) (hr i)) else None)
 
 pub few_is : (a : Bool) (b : Bounds)
     → few_bits (if a then Some b else None) ≡ (if a && nat_le b.bits 128 then Some (as_extent b) else None)

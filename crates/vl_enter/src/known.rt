@@ -1,5 +1,5 @@
 //! What is known of parameters.
-ghost use Rattle.std.specs.Prelude.{◌≡◌, ◌≤◌, ◌&&◌, Some, None, IfOk, is_none, is_some, if◌then◌else◌};
+ghost use Rattle.std.specs.Prelude.{◌≡◌, ◌≤◌, ◌&&◌, [], Some, None, IfOk, is_none, is_some, if◌then◌else◌};
 ghost use Rattle.vl_size.specs.Divisors as divisors;
 ghost use Rattle.vl_size.specs.Divisors.{larger};
 ghost use Rattle.vl_size.specs.Sign.{sign};
@@ -44,12 +44,23 @@ fn is_known_at(expr: &Expr, bits: u32, decls: &Decls) -> bool
     }
 }
 
+/// The same where no name is declared.
+fn is_known_alone(alloc: Global, expr: &Expr, bits: u32) -> bool
+    requires { bits ≤ 128 }
+    ensures { result ≡ (is_some (size [] expr.now) && is_none (divisors.zero_divisor [] (record {
+      size = larger (Some bits) (size [] expr.now);
+      signed = sign [] expr.now;
+    }) expr.now)) }
+{
+    is_known_at(expr, bits, &Decls::new(alloc))
+}
+
 fn is_known_assigned(alloc: Global, expr: &Expr, bits: u32, names: &Names) -> Result<bool, Memory>
     requires { bits ≤ 128 }
     ensures { IfOk result (λ b. b ≡ meanings.is_known_assigned names.now bits expr.now) }
 {
     let expr = known_expr(alloc, expr, names)?;
-    Ok(is_known_at(&expr, bits, &Decls::new(alloc)))
+    Ok(is_known_alone(alloc, &expr, bits))
 }
 
 fn is_known_value(

@@ -26,8 +26,9 @@ fn add_named(alloc: Global, text: &Text, meaning: Meaning, names: &mut Names) ->
     requires { IsNamed (text.now, seen meaning) }
     ensures { OnOk result (names.new ≡ spec.in_innermost names.old text.now (seen meaning)) }
 {
+    let text = text.copied(alloc)?;
     let mut level = names.take(alloc);
-    level.add(text.copied(alloc)?, meaning)?;
+    level.add(text, meaning)?;
     names.enter(level)
 }
 

@@ -1,4 +1,4 @@
-use Rattle.std.specs.Prelude.{◌≡◌, ◌&&◌, is_none, is_some, Some}
+use Rattle.std.specs.Prelude.{[], ◌&&◌, is_none, is_some, Some}
 use Rattle.std.proofs.Common.{◌∙◌}
 use Rattle.vl_size.specs.Divisors.{larger, zero_divisor}
 use Rattle.vl_size.specs.Sign.{sign}
@@ -7,9 +7,9 @@ use Rattle.vl_enter.proofs.known.is_known_assigned.Goals as goal
 
 pub returns : goal.returns
 returns c =
-    c.is_known_at-2.ensures
-    ∙ (λ i. let ds = c.new.ensures i in let x = c.in_ok-expr.ensures i in
-    is_some (size ds x) && is_none (zero_divisor ds (record {
-      size = larger (Some c.args.bits) (size ds x);
-      signed = sign ds x;
+    c.is_known_alone.ensures
+    ∙ (λ i. let x = c.in_ok-expr.ensures i in
+    is_some (size [] x) && is_none (zero_divisor [] (record {
+      size = larger (Some c.args.bits) (size [] x);
+      signed = sign [] x;
     }) x))

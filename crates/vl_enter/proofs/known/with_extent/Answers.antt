@@ -1,4 +1,4 @@
-use Rattle.std.specs.Prelude.{◌≡◌, refl, true, false}
+use Rattle.std.specs.Prelude.{refl, true, false}
 use Rattle.std.proofs.Common.{◌∙◌}
 use Rattle.vl_number.specs.Given.{value_given}
 use Rattle.vl_number.proofs.Gives.{said}
