@@ -2,7 +2,6 @@ pub mod Predefined
 pub mod Texts
 pub mod Assumptions
 pub mod SourceText
-pub mod OneFile
 pub mod Places
 pub mod Faults
 pub mod Steps
