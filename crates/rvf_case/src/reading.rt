@@ -7,7 +7,7 @@ ghost use Rattle.rvf_case.specs.Steps.{Becomes, Configures, ReadsFile, ReadsFile
 
 use crate::refusal::Refusal;
 use ck_cfg::{CfgFault, Config, read_cfg};
-use fv_base::{FileFault, Files, List, Memory, Text};
+use fv_base::{FileFault, Files, List, Text};
 use std::alloc::Global;
 
 /// Why a file isn't read.
@@ -77,19 +77,6 @@ fn misconfigured(fault: CfgFault) -> Refusal
     }
 }
 
-/// A configuration of one channel. `read_cfg` reads no other, but no clause of it says so, and another one is answered
-/// as want of memory.
-fn with_one_channel(config: Config) -> Result<Config, Memory>
-    ensures same { IfOk result (λ other. other ≡ config) }
-    ensures channels { IfOk result (λ other. other.nret ≡ 1) }
-{
-    if config.nret == 1 {
-        Ok(config)
-    } else {
-        Err(Memory)
-    }
-}
-
 /// The configuration that a file says, or why it says none: the file gives no bytes, or its bytes are refused.
 pub fn read_config<F: Files>(alloc: Global, cfg: &[u8], files: &mut F) -> Result<Config, Refusal>
     ensures configures { Configures cfg.now (record {
@@ -107,7 +94,7 @@ pub fn read_config<F: Files>(alloc: Global, cfg: &[u8], files: &mut F) -> Result
 {
     let bytes = read_file(alloc, cfg, files)?;
     match read_cfg(alloc, bytes.bytes()) {
-        Ok(config) => Ok(with_one_channel(config)?),
+        Ok(config) => Ok(config),
         Err(fault) => Err(misconfigured(fault)),
     }
 }
