@@ -1,20 +1,21 @@
 //! Attributes (IEEE 1364-2005, sections 3.8 and A.9.1).
 
 ghost use Rattle.std.specs.Prelude.{◌≡◌, ◌∷◌, ◌<◌, ◌≤◌, Ok, length, IfOk, List, []};
-ghost use Rattle.vl_tree.specs.Phrase.{Spells, sign};
+ghost use Rattle.vl_tree.specs.Phrase.{Spells, a_name, sign, ◌▸◌};
 ghost use Rattle.vl_tree.specs.DeclarationSpelling as spec;
 ghost use Rattle.vl_tree.specs.ExprSpelling.{spell_value};
-ghost use Rattle.vl_tree.specs.ExprWellFormed.{IsValue};
+ghost use Rattle.vl_tree.specs.ExprWellFormed.{IsName, IsValue};
 ghost use Rattle.vl_part.specs.Before.{rule_of};
 ghost use Rattle.fv_base.specs.declared.kind.Kind.TheVariants as k;
 ghost use Rattle.fv_base.specs.declared.symbol.Symbol.TheVariants as s;
 ghost use Rattle.vl_tree.specs.DeclarationWellFormed as formed;
+ghost use Rattle.vl_grammar.specs.Machine.{then};
 ghost use Rattle.vl_grammar.specs.Grammar as grammar;
 ghost use Rattle.vl_take.specs.Goes.{Goes};
 ghost use Rattle.vl_take.specs.Next.{kinds_in, IsOther};
 
 use crate::list::{Element, read_list};
-use fv_base::{List, Symbol, Token};
+use fv_base::{List, Symbol, Text, Token};
 use std::alloc::Global;
 use vl_expr::read_expr;
 use vl_take::{Stop, add, enter, first_place, past_sign, read_name};
@@ -41,6 +42,25 @@ pub(crate) fn read_value(
     }
 }
 
+/// A name, and its value where it is there.
+#[tactic(auto, using(crate::proofs::DeclarationRows::basics))]
+pub(crate) fn read_named_value(
+    alloc: Global,
+    room: u32,
+    tokens: &[Token],
+) -> Result<(Text, Option<Expr>, &[Token]), Stop>
+    ensures found { IfOk result (λ x. Spells (a_name x.0 ▸ spell_value x.1) tokens.now x.2.now) }
+    ensures name { IfOk result (λ x. IsName x.0) }
+    ensures formed { IfOk result (λ x. IsValue x.1) }
+    ensures shorter { IfOk result (λ x. length x.2.now < length tokens.now) }
+    ensures goes { Goes (λ x. Ok (kinds_in x.2.now)) result
+        (then (grammar.read grammar.name room (kinds_in tokens.now)) (λ r. grammar.read grammar.value room r)) }
+{
+    let (name, rest) = read_name(alloc, tokens)?;
+    let (value, rest) = read_value(alloc, room, rest)?;
+    Ok((name, value, rest))
+}
+
 impl Element for Attribute {
     ghost use Rattle.vl_tree.specs.DeclarationSpelling.{spell_attribute};
     ghost use Rattle.vl_tree.specs.DeclarationWellFormed.{IsAttribute};
@@ -58,8 +78,7 @@ impl Element for Attribute {
     #[tactic(auto, using(crate::proofs::DeclarationRows::of_value, crate::specs::Tails::tails, crate::proofs::DeclarationRows::basics))]
     fn read(alloc: Global, room: u32, tokens: &[Token]) -> Result<(Attribute, &[Token]), Stop> {
         let pos = first_place(tokens)?;
-        let (name, rest) = read_name(alloc, tokens)?;
-        let (value, rest) = read_value(alloc, room, rest)?;
+        let (name, value, rest) = read_named_value(alloc, room, tokens)?;
         Ok((Attribute { pos, name, value }, rest))
     }
 

@@ -1,21 +1,26 @@
 //! Ranges, declared names and parameters (IEEE 1364-2005, sections A.2 and 3.11).
 
 ghost use Rattle.std.specs.Prelude.{◌≡◌, ◌<◌, ◌≤◌, Ok, length, IfOk, List, ℕ, [], ◌∷◌};
-ghost use Rattle.vl_tree.specs.Phrase.{Spells};
+ghost use Rattle.vl_tree.specs.Phrase.{Spells, a_name, level, sign, ◌▸◌};
+ghost use Rattle.vl_tree.specs.ExprSpelling.{spell};
+ghost use Rattle.vl_tree.specs.ExprWellFormed.{IsName, IsWellFormed};
 ghost use Rattle.vl_tree.specs.DeclarationSpelling as spec;
 ghost use Rattle.vl_tree.specs.DeclarationWellFormed as formed;
 ghost use Rattle.fv_base.specs.declared.symbol.Symbol.TheVariants as s;
+ghost use Rattle.vl_grammar.specs.Machine.{then};
 ghost use Rattle.vl_grammar.specs.Grammar as grammar;
 ghost use Rattle.vl_take.specs.Goes.{Goes};
 ghost use Rattle.vl_take.specs.Next.{kinds_in, IsOther};
+ghost use Rattle.vl_part.specs.LoopHead.{step};
 
 use crate::attribute::read_value;
 use crate::list::Element;
+use crate::part::read_step;
 use fv_base::{Keyword, Symbol, Text, Token};
 use std::alloc::Global;
 use vl_expr::read_expr;
 use vl_take::{Stop, enter, first_place, past_sign, past_word, read_name, read_sign};
-use vl_tree::{DeclaredName, Parameter, Range, Shape};
+use vl_tree::{DeclaredName, Expr, Parameter, Range, Shape};
 
 /// `[left : right]`, where it is there.
 #[tactic(auto, using(crate::proofs::DeclarationRows::of_range, crate::proofs::DeclarationRows::basics))]
@@ -129,6 +134,26 @@ impl Element for Text {
     ghost ending = { names_ending };
 }
 
+/// `name = expr`
+#[tactic(auto, using(crate::proofs::DeclarationRows::basics))]
+fn read_valued_name(
+    alloc: Global,
+    room: u32,
+    tokens: &[Token],
+) -> Result<(Text, Expr, &[Token]), Stop>
+    ensures found { IfOk result (λ x. Spells
+        (a_name x.0 ▸ sign Symbol.Equal ▸ level (spell x.1)) tokens.now x.2.now) }
+    ensures name { IfOk result (λ x. IsName x.0) }
+    ensures formed { IfOk result (λ x. IsWellFormed x.1) }
+    ensures shorter { IfOk result (λ x. length x.2.now < length tokens.now) }
+    ensures goes { Goes (λ x. Ok (kinds_in x.2.now)) result
+        (then (grammar.read grammar.name room (kinds_in tokens.now)) (λ r. step room r)) }
+{
+    let (name, rest) = read_name(alloc, tokens)?;
+    let (value, rest) = read_step(alloc, room, rest)?;
+    Ok((name, value, rest))
+}
+
 impl Element for Parameter {
     ghost use Rattle.vl_tree.specs.DeclarationSpelling.{spell_parameter};
     ghost use Rattle.vl_tree.specs.DeclarationWellFormed.{IsParameter};
@@ -147,9 +172,7 @@ impl Element for Parameter {
     fn read(alloc: Global, room: u32, tokens: &[Token]) -> Result<(Parameter, &[Token]), Stop> {
         let pos = first_place(tokens)?;
         let (shape, rest) = read_shape(alloc, room, tokens)?;
-        let (name, rest) = read_name(alloc, rest)?;
-        let rest = read_sign(Symbol::Equal, rest)?;
-        let (value, rest) = read_expr(alloc, room, rest)?;
+        let (name, value, rest) = read_valued_name(alloc, room, rest)?;
         Ok((
             Parameter {
                 pos,

@@ -41,8 +41,7 @@ impl Element for Assignment {
     #[tactic(auto, using(crate::specs::Tails::tails, crate::proofs::DeclarationRows::basics))]
     fn read(alloc: Global, room: u32, tokens: &[Token]) -> Result<(Assignment, &[Token]), Stop> {
         let (target, rest) = read_lval(alloc, room, tokens)?;
-        let rest = read_sign(Symbol::Equal, rest)?;
-        let (value, rest) = read_expr(alloc, room, rest)?;
+        let (value, rest) = read_step(alloc, room, rest)?;
         Ok((Assignment { target, value }, rest))
     }
 
@@ -319,7 +318,11 @@ fn read_steps(
 
 /// `= expr`
 #[tactic(auto, using(crate::proofs::DeclarationRows::basics))]
-fn read_step(alloc: Global, room: u32, tokens: &[Token]) -> Result<(Expr, &[Token]), Stop>
+pub(crate) fn read_step(
+    alloc: Global,
+    room: u32,
+    tokens: &[Token],
+) -> Result<(Expr, &[Token]), Stop>
     ensures found { IfOk result (λ x. Spells (sign Symbol.Equal ▸ level (spell x.0)) tokens.now x.1.now) }
     ensures formed { IfOk result (λ x. IsWellFormed x.0) }
     ensures shorter { IfOk result (λ x. length x.1.now < length tokens.now) }

@@ -26,14 +26,12 @@ ghost use Rattle.vl_grammar.specs.Grammar as grammar;
 ghost use Rattle.vl_take.specs.Goes.{Goes};
 ghost use Rattle.vl_take.specs.Next.{kinds_in, IsOther};
 
-use crate::attribute::{Before, read_attributes, read_value};
+use crate::attribute::{Before, read_attributes, read_named_value, read_value};
 use crate::declaration::read_shape;
 use crate::list::{Element, read_list_behind};
 use fv_base::{Keyword, List, Symbol, Token};
 use std::alloc::Global;
-use vl_take::{
-    Stop, enter, first_place, past_name, past_sign, past_word, read_name, read_sign, read_word,
-};
+use vl_take::{Stop, enter, first_place, past_name, past_sign, past_word, read_sign, read_word};
 use vl_tree::{Direction, FullPort, HeaderParameter, NetKind, Parameter, Port, PortKind};
 
 impl Element for HeaderParameter {
@@ -216,8 +214,7 @@ fn read_full_port(alloc: Global, room: u32, tokens: &[Token]) -> Result<(Port, &
     let (direction, rest) = read_direction(tokens)?;
     let (net, rest) = read_net(rest);
     let (shape, rest) = read_shape(alloc, room, rest)?;
-    let (name, rest) = read_name(alloc, rest)?;
-    let (value, rest) = read_value(alloc, room, rest)?;
+    let (name, value, rest) = read_named_value(alloc, room, rest)?;
     let port = FullPort {
         attributes,
         direction,
