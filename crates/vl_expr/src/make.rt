@@ -11,12 +11,12 @@ use std::alloc::Global;
 use vl_take::Stop;
 use vl_tree::{BinaryOperator, Cast, Expr, ExprKind, Select, UnaryOperator};
 
-fn boxed(alloc: Global, expr: Expr) -> Result<Box<Expr>, Stop>
-    ensures same { IfOk result (λ box. box.value ≡ expr) }
+fn boxed<T: Drop>(alloc: Global, value: T) -> Result<Box<T>, Stop>
+    ensures same { IfOk result (λ box. box.value ≡ value) }
     ensures memory { IfErr result (λ e. IsMemory e) }
 {
-    match Box::new(alloc, expr) {
-        Ok(expr) => Ok(expr),
+    match Box::new(alloc, value) {
+        Ok(value) => Ok(value),
         Err(_) => Err(Stop::Memory),
     }
 }
