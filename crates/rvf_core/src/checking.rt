@@ -32,15 +32,19 @@ pub(crate) fn check<R: Threads + Sync, F: Files, O: Out, G: Gate>(
         (Some (words.Run request.entry.cfg.now work.now.outdir.now request.entry.core.now request.entry.basedir.now
         work.now.budget work.now.jobs)) (record {
           words = asked;
-          before = outside (F.held files.old) (F.misses files.old) (F.faults files.old) (O.sent out.old) (O.faults out.old);
-          now = outside (F.held files.new) (F.misses files.new) (F.faults files.new) (O.sent out.new) (O.faults out.new);
+          before = outside (F.held files.old) (F.misses files.old) (F.faults files.old) (O.sent out.old)
+              (O.faults out.old);
+          now = outside (F.held files.new) (F.misses files.new) (F.faults files.new) (O.sent out.new)
+              (O.faults out.new);
         }) result }
     ensures statuses { (asked : List (List ℕ)) → HaveStatus
         (Some (words.Run request.entry.cfg.now work.now.outdir.now request.entry.core.now request.entry.basedir.now
         work.now.budget work.now.jobs)) (record {
           words = asked;
-          before = outside (F.held files.old) (F.misses files.old) (F.faults files.old) (O.sent out.old) (O.faults out.old);
-          now = outside (F.held files.new) (F.misses files.new) (F.faults files.new) (O.sent out.new) (O.faults out.new);
+          before = outside (F.held files.old) (F.misses files.old) (F.faults files.old) (O.sent out.old)
+              (O.faults out.old);
+          now = outside (F.held files.new) (F.misses files.new) (F.faults files.new) (O.sent out.new)
+              (O.faults out.new);
         }) result }
 {
     judgements_are_the_sources();
