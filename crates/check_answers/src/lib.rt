@@ -11,9 +11,8 @@
 //! | `expand half=N` | the word that the half word stands for |
 //!
 //! A check is judged by its property, and by its monitor in a net whose inputs play the run. Where these differ, both
-//! answers are given. Where a check has no monitor (it isn't lawful) its property alone is judged.
-//! Where a number has more bits than its field, `no net` is answered. A run has two channels where `nret=2` or channel 1
-//! is named.
+//! answers are given. Where a check has no monitor (it isn't lawful) its property alone is judged. Where a number has
+//! more bits than its field, `no net` is answered. A run has two channels where `nret=2` or channel 1 is named.
 //!
 //! Each retirement stands behind a `|`; those of a check have their cycle and channel, and are in order. With `idle=1`
 //! nothing retires, but the fields are shown, with `rvfi_valid` 0. Instructions are those of the letters `isa=i`, `im`

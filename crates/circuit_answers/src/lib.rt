@@ -1,10 +1,10 @@
-//! Cases of instructions. A case is a line: a row, the word, the values of the sources, the program counter and the word
-//! of memory in hexadecimal, and what the core may choose (`a` for aligned memory, `m` for alternative results of M, `c`
-//! for compressed instructions, `-` for none). A net plays a channel that shows these, and the answer is what the row's
-//! circuit shows, in the order of its nodes. Behind it stands a digit for the retirement that does all this, and for
-//! each of those that differ from it in one number: 1 where the node of agreement shows that it agrees. Last comes a
-//! digit for the effect itself: 1 where it is the one that the table of instructions has. This crate says what the crates
-//! under it answer, and promises nothing of its own.
+//! Cases of instructions. A case is a line: a row, the word, the values of the sources, the program counter and the
+//! word of memory in hexadecimal, and what the core may choose (`a` for aligned memory, `m` for alternative results of
+//! M, `c` for compressed instructions, `-` for none). A net plays a channel that shows these, and the answer is what
+//! the row's circuit shows, in the order of its nodes. Behind it stands a digit for the retirement that does all this,
+//! and for each of those that differ from it in one number: 1 where the node of agreement shows that it agrees. Last
+//! comes a digit for the effect itself: 1 where it is the one that the table of instructions has. This crate says what
+//! the crates under it answer, and promises nothing of its own.
 #![tactic(auto)]
 
 mod case;

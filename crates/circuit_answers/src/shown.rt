@@ -157,8 +157,8 @@ fn line(alloc: Global, effect: &Effect) -> Result<String, Memory> {
     Ok(line)
 }
 
-/// What the case's circuit shows, a digit for each of the retirements, 1 where it agrees, and one for the effect itself,
-/// 1 where it is the table's.
+/// What the case's circuit shows, a digit for each of the retirements, 1 where it agrees, and one for the effect
+/// itself, 1 where it is the table's.
 pub(crate) fn shown(alloc: Global, case: &Case) -> Result<String, Memory> {
     let Some(effect) = circuit_shows(alloc, case)? else {
         return Ok(format!(in alloc; "no hit")?);

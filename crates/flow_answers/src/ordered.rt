@@ -9,8 +9,8 @@ use vl_flow::order;
 use vl_parse::parse;
 use vl_token::lex;
 
-/// The answer to the case of a text: `ordered`, the refusal, or that there is no design. An error is want of memory, or a
-/// text without a tree.
+/// The answer to the case of a text: `ordered`, the refusal, or that there is no design. An error is want of memory, or
+/// a text without a tree.
 pub fn answer(alloc: Global, text: &str) -> Result<String> {
     let tokens = lex(alloc, text.as_bytes(), 1, 1)?;
     let source = parse(alloc, tokens.as_slice())?;

@@ -28,8 +28,8 @@ fn factors(alloc: Global, asked: &[u8]) -> Result<Vec<u32>>
 
 /// What is answered of the texts. Of the letters `c` stands for a core with compressed instructions, `i` and `d` for
 /// the probes of memories, `2` for two channels, `h` for the factor 100, and `s` for the factors 76 and 77. A text is a
-/// line of the configuration behind `d`, a line of assumptions behind `a`, and else a file. Lines are numbered from 1 on
-/// in this order, and so are files.
+/// line of the configuration behind `d`, a line of assumptions behind `a`, and else a file. Lines are numbered from 1
+/// on in this order, and so are files.
 pub(crate) fn answer(alloc: Global, asked: &[u8], parts: &[Vec<u8>]) -> Result<String> {
     let mut texts = Vec::new(alloc);
     let mut assumptions = Vec::new(alloc);

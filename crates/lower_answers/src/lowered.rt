@@ -25,8 +25,8 @@ fn run(alloc: Global, ordered: &Ordered) -> Result<Trace, Memory> {
     replay(alloc, &lowered.net, &lowered.names, &chosen, 9)
 }
 
-/// The answer to the case of a text: values of `y`, or that there is no design, no order or no such name. An error is want
-/// of memory, or a text without a tree.
+/// The answer to the case of a text: values of `y`, or that there is no design, no order or no such name. An error is
+/// want of memory, or a text without a tree.
 pub fn answer(alloc: Global, text: &str) -> Result<String> {
     let tokens = lex(alloc, text.as_bytes(), 1, 1)?;
     let source = parse(alloc, tokens.as_slice())?;

@@ -36,8 +36,8 @@ impl Bench {
     }
 
     /// Takes a line, and answers it with what it says: behind the line itself, or behind its length where this is more
-    /// than 120 bytes. A line that begins with no word of `line.rt` is answered by itself. An error is want of memory, or
-    /// a text that isn't what its word asks for; behind it the macros may be gone.
+    /// than 120 bytes. A line that begins with no word of `line.rt` is answered by itself. An error is want of memory,
+    /// or a text that isn't what its word asks for; behind it the macros may be gone.
     pub fn answer(&mut self, line: &str) -> Result<String> {
         let alloc = self.alloc;
         let said = match line_of(line) {
