@@ -1,8 +1,8 @@
 -- Want of memory before a run.
 use Rattle.std.proofs.Common.{◌≡◌, ℕ, [], Result, Ok, Err, IfErr}
-use Rattle.rvf_report.specs.Outcome.{Outside}
-use Rattle.rvf_report.specs.Status.{code_of}
-use Rattle.rvf_report.specs.declared.status.Status.TheVariants as s
+use Rattle.rvf_core.specs.Outcome.{Outside}
+use Rattle.rvf_core.specs.Status.{code_of}
+use Rattle.rvf_core.specs.Statuses.statuses as s
 use Rattle.rvf_core.proofs.FromWords.{memory_at_once}
 use Rattle.rvf.specs.Exit.{Exits}
 

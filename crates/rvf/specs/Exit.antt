@@ -1,7 +1,7 @@
 -- What the exit code of the program means. Rule of this project.
 use Rattle.std.specs.Prelude.{ℕ, ◌≡◌}
-use Rattle.rvf_report.specs.Status.{code_of}
-use Rattle.rvf_report.specs.declared.status.Status.{Status}
+use Rattle.rvf_core.specs.Status.{code_of}
+use Rattle.rvf_core.specs.Statuses.{Status}
 use Rattle.rvf_core.specs.Run.{Run, Answers, IsExact}
 
 -- the code is that of a status which has its cause in the run, and the cause its status

@@ -3,8 +3,8 @@
 
 ghost use Rattle.std.specs.Prelude.{◌≡◌, map, string_bytes, [], IfOk, IfErr};
 ghost use Rattle.std.specs.Process.{exit_status};
-ghost use Rattle.rvf_report.specs.Outcome.{outside};
-ghost use Rattle.rvf_report.specs.Status.{code_of};
+ghost use Rattle.rvf_core.specs.Outcome.{outside};
+ghost use Rattle.rvf_core.specs.Status.{code_of};
 ghost use Rattle.rvf.specs.Exit.{Exits};
 
 use fv_base::{Files, Out, RealFiles, RealOut};

@@ -1,3 +1,5 @@
 pub mod Cases
 pub mod Steps
 pub mod Texts
+pub mod Loading
+pub use Rattle.rvf_load.specs.Loads

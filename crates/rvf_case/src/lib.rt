@@ -15,3 +15,4 @@ pub use case::{Case, LoadedText};
 pub use preparing::{Request, prepare};
 pub use reading::read_config;
 pub use refusal::Refusal;
+pub use rvf_load::LoadFault;

@@ -9,9 +9,9 @@ use Rattle.ck_cfg.specs.declared.config.Config.{Config}
 use Rattle.ck_cfg.specs.declared.fault.CfgFault.{CfgFault}
 use Rattle.ck_cfg.specs.declared.kind.CheckKind.{CheckKind}
 use Rattle.ck_cfg.specs.Reading.{config_of}
-use Rattle.rvf_load.specs.Loads.{NoneRefuses}
-use Rattle.rvf_load.specs.declared.fault.LoadFault.{LoadFault}
-use Rattle.rvf_load.specs.declared.fault.LoadFault.TheVariants as load
+use Rattle.rvf_case.specs.Loads.{NoneRefuses}
+use Rattle.rvf_case.specs.Loading.{LoadFault}
+use Rattle.rvf_case.specs.Loading.load as load
 use Rattle.rvf_case.specs.Cases.{AreRead, IsCause, IsConfigured, IsNext, IsRefusedText, Request, Seen, configuration}
 use Rattle.rvf_case.specs.Cases.{names_in, verilog}
 use Rattle.rvf_case.specs.Texts.{asked_for, leaders}

@@ -9,7 +9,7 @@ use Rattle.ck_cfg.specs.declared.check.Check.{Check}
 use Rattle.ck_cfg.specs.declared.config.Config.{Config}
 use Rattle.ck_cfg.specs.Checks.{checks_of}
 use Rattle.ck_design.specs.Retirements.{IsViolating}
-use Rattle.rvf_load.specs.Loads.{NoneRefuses, design_of}
+use Rattle.rvf_case.specs.Loads.{NoneRefuses, design_of}
 use Rattle.rvf_judge.specs.declared.judged.Judged.{Judged}
 use Rattle.rvf_judge.specs.declared.judged.Judged.TheVariants as judged
 use Rattle.rvf_words.specs.Line.{line_of}

@@ -11,8 +11,8 @@ use Rattle.ck_cfg.proofs.Lists.{is_insn}
 use Rattle.rv_table.specs.declared.retire.Opts.{Opts}
 use Rattle.vl_mean.specs.FlatParts.{flat_parts}
 use Rattle.rvf_text.specs.SourceText.{Reading}
-use Rattle.rvf_load.specs.Loads.{IsLoadedFrom, Reads, design_of}
-use Rattle.rvf_load.specs.declared.loaded.Loaded.{Loaded}
+use Rattle.rvf_case.specs.Loads.{IsLoadedFrom, Reads, design_of}
+use Rattle.rvf_case.specs.Loading.{Loaded}
 use Rattle.rvf_judge.specs.Judged.{IsJudged}
 use Rattle.rvf_judge.specs.declared.judged.Judged.{Judged}
 use Rattle.rvf_sources.specs.Sources.{JudgementsAreTheSources}

@@ -2,7 +2,7 @@
 -- first one ended are there as the second one ends.
 use Rattle.std.proofs.Common.{◌≡◌, ℕ, ◌≤◌, List, [], sym, subst, arith}
 use Rattle.fv_base.specs.Outside.{Appends, Rose, SameFiles}
-use Rattle.rvf_load.specs.declared.fault.LoadFault.TheVariants as load
+use Rattle.rvf_case.specs.Loading.load as load
 use Rattle.rvf_case.specs.Cases.{IsCause, Request, Seen}
 use Rattle.rvf_case.specs.declared.refusal.Refusal.{Refusal}
 use Rattle.rvf_case.specs.declared.refusal.Refusal.TheVariants as refusal

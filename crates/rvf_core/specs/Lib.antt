@@ -7,3 +7,6 @@ pub mod Unread
 pub mod Puts
 pub mod Run
 pub mod Steps
+pub mod Statuses
+pub use Rattle.rvf_report.specs.Outcome
+pub use Rattle.rvf_report.specs.Status

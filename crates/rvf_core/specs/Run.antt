@@ -10,7 +10,7 @@ use Rattle.ck_cfg.specs.Checks.{checks_of}
 use Rattle.rvf_words.specs.declared.line.Line.{Line as Words}
 use Rattle.rvf_words.specs.declared.line.Line.TheVariants as words
 use Rattle.rvf_words.specs.Line.{line_of}
-use Rattle.rvf_load.specs.Loads.{NoneRefuses}
+use Rattle.rvf_case.specs.Loads.{NoneRefuses}
 use Rattle.rvf_case.specs.Cases.{Request, Seen, IsCause}
 use Rattle.rvf_case.specs.Texts.{asked_for, leaders}
 use Rattle.rvf_case.specs.declared.refusal.Refusal.{Refusal}

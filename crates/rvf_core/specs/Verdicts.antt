@@ -13,7 +13,7 @@ use Rattle.rv_table.specs.declared.retire.Opts.{Opts}
 use Rattle.rvfi_port.specs.declared.port.Wants.{Wants}
 use Rattle.ck_design.specs.Retirements.{IsViolating}
 use Rattle.rvf_text.specs.SourceText.{Reading}
-use Rattle.rvf_load.specs.Loads.{Asked, Reads, design_of, opts_of, wants_of, top}
+use Rattle.rvf_case.specs.Loads.{Asked, Reads, design_of, opts_of, wants_of, top}
 use Rattle.rvf_judge.specs.Judged.{IsJudged}
 use Rattle.rvf_judge.specs.declared.judged.Judged.{Judged}
 use Rattle.rvf_case.specs.Texts.{asked_for, leader_of}

@@ -4,8 +4,8 @@ use Rattle.ck_cfg.specs.declared.fault.CfgFault.{CfgFault}
 use Rattle.ck_cfg.specs.Faults.{number_of}
 use Rattle.rvf_text.specs.declared.fault.TextFault.{TextFault}
 use Rattle.rvf_text.specs.declared.fault.TextFault.TheVariants as text
-use Rattle.rvf_load.specs.declared.fault.LoadFault.{LoadFault}
-use Rattle.rvf_load.specs.declared.fault.LoadFault.TheVariants as load
+use Rattle.rvf_case.specs.Loading.{LoadFault}
+use Rattle.rvf_case.specs.Loading.load as load
 use Rattle.rvf_case.specs.declared.refusal.Refusal.{Refusal}
 use Rattle.rvf_case.specs.declared.refusal.Refusal.TheVariants as refusal
 use Rattle.rvf_lines.specs.Faults.{of_lex, of_prep, of_parse, of_elab, of_flow, of_port, config_line_of, config_values}

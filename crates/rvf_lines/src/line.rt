@@ -10,8 +10,7 @@ use crate::says::source_line;
 use crate::word::{put_end, put_word};
 use fv_base::{Memory, Text};
 use itoa::Buffer;
-use rvf_case::Refusal;
-use rvf_load::LoadFault;
+use rvf_case::{LoadFault, Refusal};
 use rvf_text::TextFault;
 use std::alloc::Global;
 

@@ -11,7 +11,7 @@ use Rattle.ck_design.specs.Loaded.{IsLoaded}
 use Rattle.ck_traces.specs.Traces.{HaveOwnNames}
 use Rattle.rvf_judge.specs.Judged.{IsJudged}
 use Rattle.rvf_judge.specs.declared.judged.Judged.{Judged}
-use Rattle.rvf_load.specs.declared.loaded.Loaded.{Loaded}
+use Rattle.rvf_case.specs.Loading.{Loaded}
 use Rattle.rvf_case.specs.Cases.{IsFit, IsReady, loaded_for}
 use Rattle.rvf_case.specs.declared.case.Case.{Case}
 use Rattle.rvf_jobs.specs.Answers.{AreAnswers}

@@ -13,7 +13,7 @@ use Rattle.ck_traces.specs.Traces.{HaveOwnNames}
 use Rattle.rvf_judge.specs.Judged.{IsJudged}
 use Rattle.rvf_judge.specs.declared.judged.Judged.{Judged}
 use Rattle.rvf_judge.specs.declared.judged.Judged.TheVariants as judged
-use Rattle.rvf_load.specs.declared.loaded.Loaded.{Loaded}
+use Rattle.rvf_case.specs.Loading.{Loaded}
 use Rattle.rvf_case.specs.Cases.{loaded_for}
 use Rattle.rvf_case.specs.declared.case.Case.{Case}
 use Rattle.rvf_report.specs.Deliveries.{deliveries_of}
