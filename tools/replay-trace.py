@@ -1,0 +1,84 @@
+#!/usr/bin/env python3
+"""Replays the trace of a failing check in Icarus Verilog, and compares every name in every cycle.
+
+    tools/replay-trace.py TRACE TEXT.v
+
+TRACE is the dump that `rvf run` left, TEXT.v the text of the check with all its macros but the predefined ones. The free names of
+the top module (those declared with the macros of free values), `reset` and what registers and words hold in the first cycle are
+taken from the trace; all other numbers are Icarus Verilog's.
+"""
+import re
+import subprocess
+import sys
+import tempfile
+
+FIELDS = [("valid", 1), ("order", 64), ("insn", 32), ("trap", 1), ("halt", 1), ("intr", 1), ("mode", 2), ("ixl", 2),
+          ("rs1_addr", 5), ("rs2_addr", 5), ("rs1_rdata", 32), ("rs2_rdata", 32), ("rd_addr", 5), ("rd_wdata", 32),
+          ("pc_rdata", 32), ("pc_wdata", 32), ("mem_addr", 32), ("mem_rmask", 4), ("mem_wmask", 4), ("mem_rdata", 32),
+          ("mem_wdata", 32)]
+
+
+def read(path):
+    """The names of a dump with their widths, and for each cycle the number of each name."""
+    widths, names, now, cycles = {}, {}, {}, []
+    for line in open(path):
+        parts = line.split()
+        if not parts:
+            continue
+        if parts[0] == "$var":
+            widths[parts[4]] = int(parts[2])
+            names[parts[3]] = parts[4]
+        elif parts[0][0] == "#":
+            if now:
+                cycles.append(dict(now))
+        elif parts[0][0] == "b" and len(parts) == 2:
+            now[names[parts[1]]] = int(parts[0][1:], 2)
+        elif parts[0][0] in "01" and parts[0][1:] in names:
+            now[names[parts[0][1:]]] = int(parts[0][0])
+    return widths, cycles
+
+
+def main():
+    trace, text = sys.argv[1:]
+    widths, cycles = read(trace)
+    source = open(text).read()
+    free = re.findall(r"`rvformal_\w+\s*(?:\[[^]]*\])?\s*(\w+)\s*;", source)
+    outputs = ", ".join(f"output [{w - 1}:0] rvfi_{n}" for n, w in FIELDS)
+    conn = ", ".join(f".rvfi_{n}(rvfi_{n})" for n, _ in FIELDS)
+    head = f"`define RVFI_OUTPUTS {outputs}\n`define RVFI_CONN {conn}\n"
+    head += "".join(f"`define rvformal_{n} reg\n" for n in ("rand_reg", "const_rand_reg", "rand_const_reg"))
+    head += "`define RISCV_FORMAL\n`define RISCV_FORMAL_NRET 1\n`define RISCV_FORMAL_XLEN 32\n`define RISCV_FORMAL_ILEN 32\n"
+    kept = [n for n in cycles[0] if n not in free and n != "reset"]
+    steps = []
+    for k, cycle in enumerate(cycles):
+        steps += [f"reset = {cycle['reset']};"]
+        steps += [f"dut.{n} = {widths[n]}'d{cycle[n]};" for n in free]
+        if k == 0:
+            # a wire can't be assigned; a register's or a word's first number is what it holds
+            regs = set(re.findall(r"(\w+)\s*(?:\[[^]]*\])?\s*<=", source))
+            steps += [f"dut.{n} = {widths[n]}'d{cycle[n]};" for n in kept if re.sub(r"\[\d+\]$", "", n.split(".")[-1]) in regs]
+        steps += ["#1;"]
+        steps += [f'$display("{k} {n} %0d", dut.{n});' for n in kept]
+        steps += ["clock = 1; #1; clock = 0; #1;"]
+    bench = "module bench;\nreg clock = 0, reset = 0;\nrvfi_wrapper dut (.clock(clock), .reset(reset));\ninitial begin\n"
+    bench += "\n".join(steps) + "\n$finish;\nend\nendmodule\n"
+    with tempfile.TemporaryDirectory() as folder:
+        open(f"{folder}/t.v", "w").write(head + source + bench)
+        subprocess.run(["iverilog", "-g2005", "-o", f"{folder}/t", f"{folder}/t.v"], check=True)
+        out = subprocess.run([f"{folder}/t"], check=True, capture_output=True, text=True).stdout
+    other = same = 0
+    for line in out.splitlines():
+        parts = line.split()
+        if len(parts) == 3 and parts[0].isdigit():
+            wanted = cycles[int(parts[0])][parts[1]]
+            if parts[2] == str(wanted):
+                same += 1
+            else:
+                other += 1
+                print("cycle", parts[0], parts[1], "has", wanted, "in the trace and", parts[2], "in Icarus Verilog")
+    print(len(cycles), "cycles,", same, "numbers are the same,", other, "are not")
+    return other != 0
+
+
+if __name__ == "__main__":
+    sys.exit(main())
