@@ -1,0 +1,197 @@
+ghost use Rattle.std.specs.Prelude.{◌≡◌, ◌+◌, ◌<◌, ◌≤◌, ◌^◌, [], length, IfOk, OnOk};
+ghost use Rattle.cnf_form.specs.Cnf.{AreClauses};
+ghost use Rattle.lrat_check.specs.Sets.{AreLits};
+ghost use Rattle.clause_set.specs.Known.{many};
+ghost use Rattle.sat_ledger.specs.Ledger.{Tells, IsLedger, Adds, StaysTold};
+
+use crate::ids::{by_ids, ids_to};
+use clause_set::ClauseSet;
+use cnf_form::Formula;
+use fv_base::{List, Memory};
+use lrat_check::Step;
+use std::alloc::Global;
+use std::marker::Model;
+
+/// More clauses than this have no place in memory, and below it each id is an `i64`.
+pub const MOST_CLAUSES: usize = 9000000000000000000;
+
+/// The clauses that a search holds, by their places, and the steps that add and delete them.
+#[derive(Drop)]
+pub struct Ledger {
+    alloc: Global,
+    /// Those of the formula first.
+    clauses: Vec<List<i64>>,
+    /// The id of each clause.
+    ids: Vec<u64>,
+    /// How many are the formula's.
+    first: usize,
+    /// The highest id so far.
+    top: u64,
+    steps: List<Step>,
+    /// Those that were deleted and not learnt again.
+    dropped: ClauseSet,
+}
+
+impl Model for Ledger {
+    ghost use Rattle.sat_ledger.specs.Ledger.{State};
+
+    ghost Value = { State };
+
+    ghost view = { λ l. record {
+      clauses = l.clauses.items;
+      ids = l.ids.items;
+      first = l.first;
+      top = l.top;
+      steps = l.steps;
+      dropped = l.dropped;
+    } };
+}
+
+impl Ledger {
+    /// The formula's clauses, and no step. The only error is want of memory, also where there are `MOST_CLAUSES` clauses
+    /// or more.
+    pub fn new(alloc: Global, formula: &Formula) -> Result<Ledger, Memory>
+        ensures told { IfOk result (λ ledger. Tells formula.now.vars formula.now.clauses [] ledger) }
+        ensures clauses { IfOk result (λ ledger. ledger.clauses ≡ formula.now.clauses) }
+    {
+        let clauses = copied(alloc, formula)?;
+        let first = clauses.len();
+        if first >= MOST_CLAUSES {
+            return Err(Memory);
+        }
+        Ok(Ledger {
+            alloc,
+            clauses,
+            ids: ids_to(alloc, first)?,
+            first,
+            top: first as u64,
+            steps: List::new(alloc),
+            dropped: ClauseSet::new(alloc),
+        })
+    }
+
+    /// The clauses that are held, by their places. Places change where clauses are let go.
+    pub fn clauses(&self) -> &[List<i64>]
+        ensures { result.now ≡ self.now.clauses }
+    {
+        self.clauses.as_slice()
+    }
+
+    /// How many clauses are the formula's. They have the first places.
+    pub fn first(&self) -> usize
+        ensures { result ≡ self.now.first }
+    {
+        self.first
+    }
+
+    /// The clauses that were deleted and not learnt again.
+    pub fn dropped(&self) -> &ClauseSet
+        ensures { result.now ≡ self.now.dropped }
+    {
+        &self.dropped
+    }
+
+    /// The steps in order.
+    pub fn into_steps(self) -> List<Step>
+        ensures { result ≡ self.steps }
+    {
+        let Ledger { steps, .. } = self;
+        steps
+    }
+
+    /// Adds a clause behind the others, with its step, and says whether it is new: whether none that was deleted and not
+    /// learnt again has the same literals. A hint is one above a clause's place. The only error is want of memory, also
+    /// where `MOST_CLAUSES` ids are given.
+    pub fn add(&mut self, lits: &[i64], hints: &[i64]) -> Result<bool, Memory>
+        requires ledger { IsLedger self.old }
+        requires lits { AreLits lits.now }
+        ensures { IfOk result (λ is_new. Adds self.old self.new lits.now hints.now is_new) }
+    {
+        if self.top as usize >= MOST_CLAUSES {
+            return Err(Memory);
+        }
+        let id = self.top + 1;
+        let hints = List::from_vec(by_ids(self.alloc, &self.ids, hints)?);
+        let was_dropped = self.dropped.remove(lits)?;
+        self.clauses
+            .push(List::from_vec(Vec::from_slice(self.alloc, lits)?))?;
+        self.ids.push(id)?;
+        self.top = id;
+        let lits = List::from_vec(Vec::from_slice(self.alloc, lits)?);
+        self.steps.push(Step::Add { id, lits, hints })?;
+        Ok(!was_dropped)
+    }
+
+    /// Lets go of learnt clauses that aren't wanted, each by a step that deletes it. The tests are by place; a clause
+    /// without one is wanted. Which clauses stay is in no clause.
+    pub fn forget(&mut self, wanted: &[bool]) -> Result<(), Memory>
+        requires { IsLedger self.old }
+        ensures told { OnOk result (StaysTold self.old self.new) }
+        ensures few { OnOk result (many self.new.dropped < 2 ^ 63) }
+    {
+        let mut place = self.clauses.len();
+        'sifting: while place > self.first {
+            place -= 1;
+            self.sift(wanted, place)?;
+        }
+        let _count = self.dropped.len();
+        Ok(())
+    }
+
+    /// Lets go of the clause at the place, if it isn't wanted.
+    fn sift(&mut self, wanted: &[bool], place: usize) -> Result<(), Memory>
+        requires ledger { IsLedger self.old }
+        requires learnt { self.old.first ≤ place }
+        requires within { place < length self.old.clauses }
+        ensures told { OnOk result (StaysTold self.old self.new) }
+        ensures first { OnOk result (self.new.first ≡ self.old.first) }
+        ensures many { OnOk result (length self.old.clauses ≤ length self.new.clauses + 1) }
+    {
+        if is_wanted(wanted, place) {
+            return Ok(());
+        }
+        self.drop_at(place)
+    }
+
+    /// Lets go of the clause at the place, to which the last one goes.
+    fn drop_at(&mut self, place: usize) -> Result<(), Memory>
+        requires ledger { IsLedger self.old }
+        requires learnt { self.old.first ≤ place }
+        requires within { place < length self.old.clauses }
+        ensures told { OnOk result (StaysTold self.old self.new) }
+        ensures first { OnOk result (self.new.first ≡ self.old.first) }
+        ensures many { OnOk result (length self.old.clauses ≤ length self.new.clauses + 1) }
+    {
+        let clause = self.clauses.swap_remove(place);
+        let id = self.ids.swap_remove(place);
+        self.dropped.insert(clause.as_slice())?;
+        let mut ids = Vec::new(self.alloc);
+        ids.push(id)?;
+        self.steps.push(Step::Delete {
+            id: self.top,
+            ids: List::from_vec(ids),
+        })?;
+        Ok(())
+    }
+}
+
+fn is_wanted(wanted: &[bool], place: usize) -> bool {
+    match wanted.get(place) {
+        Some(wanted) => *wanted,
+        None => true,
+    }
+}
+
+/// A copy of the formula's clauses.
+fn copied(alloc: Global, formula: &Formula) -> Result<Vec<List<i64>>, Memory>
+    ensures value { IfOk result (λ clauses. clauses.items ≡ formula.now.clauses) }
+    ensures literals { IfOk result (λ clauses. AreClauses formula.now.vars clauses.items) }
+    ensures vars { OnOk result (formula.now.vars < 2 ^ 63) }
+{
+    let _vars = formula.vars();
+    let mut clauses = Vec::new(alloc);
+    for clause in formula.clauses() {
+        clauses.push(List::from_vec(Vec::from_slice(alloc, clause.as_slice())?))?;
+    }
+    Ok(clauses)
+}
