@@ -21,7 +21,8 @@ pub struct Certificate {
     pub formula: Formula,
     pub steps: List<Step>,
     pub bits: ChoiceBits,
-    /// The literals of each field of the check's channel in its cycle, the lowest bit first, in the order of the fields.
+    /// The literals of each field of the check's channel in its cycle, the lowest bit first, in the order of the
+    /// fields.
     pub fields: List<List<Lit>>,
 }
 

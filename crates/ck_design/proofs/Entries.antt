@@ -1,7 +1,8 @@
 -- The number of a field's name in the map of a cycle, and maps that agree on declared names.
 use Rattle.std.specs.Prelude.{◌≡◌, refl, ℕ, zero, suc, ◌<◌, ◌==◌, Bool, true, false, not, ◌&&◌, List, []}
 use Rattle.std.specs.Prelude.{if◌then◌else◌}
-use Rattle.std.specs.Prelude.{◌∷◌, ◌++◌, length, Option, Some, None, bytes_eq, codes, find, position, ℤ, pos, ◌+ℤ◌, ◌-ℤ◌}
+use Rattle.std.specs.Prelude.{◌∷◌, ◌++◌, length, Option, Some, None, bytes_eq, codes, find, position, ℤ, pos, ◌+ℤ◌}
+use Rattle.std.specs.Prelude.{◌-ℤ◌}
 use Rattle.std.specs.Prelude.{int_le, is_none, nat_lt}
 use Rattle.std.specs.List.{AllByRecursion, IsDistinct, position_or_len}
 use Rattle.std.specs.Fmt.{signed_decimal}

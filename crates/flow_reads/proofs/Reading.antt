@@ -16,7 +16,8 @@ use Rattle.flow_reads.specs.declared.groups.Groups.{Groups}
 use Rattle.flow_reads.specs.declared.visit.Visit.{Visit}
 use Rattle.flow_reads.specs.Buckets.{AreBuckets}
 use Rattle.flow_reads.specs.Edges.{HasNoEdges, AddsEdge}
-use Rattle.flow_reads.specs.Reads.{AddsRead, AddsReader, AddsRow, AddsVisits, AreReaders, Drives, DrivesInGroup, ReadsAt}
+use Rattle.flow_reads.specs.Reads.{AddsRead, AddsReader, AddsRow, AddsVisits, AreReaders, Drives, DrivesInGroup}
+use Rattle.flow_reads.specs.Reads.{ReadsAt}
 use Rattle.flow_reads.specs.Reads.{IsReadingGraph}
 use Rattle.flow_reads.specs.Visits.{AreVisits, AreWithin}
 use Rattle.flow_reads.proofs.Growing.{grows_none, grows_edge, grows_then, grows_as}

@@ -14,7 +14,8 @@ use Rattle.rvf_load.specs.declared.fault.LoadFault.{LoadFault}
 use Rattle.rvf_load.specs.declared.fault.LoadFault.TheVariants as load
 use Rattle.rvf_load.specs.declared.loaded.Loaded.{Loaded}
 use Rattle.rvf_case.specs.Cases.{Alike, AreLoaded, AreRead, Comes, IsCase, IsCause, IsConfigured, IsMisconfigured}
-use Rattle.rvf_case.specs.Cases.{IsNext, IsRefusedSource, IsRefusedText, Request, Seen, configuration, names_in, verilog}
+use Rattle.rvf_case.specs.Cases.{IsNext, IsRefusedSource, IsRefusedText, Request, Seen, configuration, names_in}
+use Rattle.rvf_case.specs.Cases.{verilog}
 use Rattle.rvf_case.specs.Steps.{AreLoadedInTurn, IsNotHeavy, Prepares, Stands, StopsAt}
 use Rattle.rvf_case.specs.Texts.{asked_for, leaders, sharing}
 use Rattle.rvf_case.specs.declared.case.Case.{Case}

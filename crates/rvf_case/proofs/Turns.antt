@@ -1,5 +1,6 @@
 -- Texts that are loaded one after the other.
-use Rattle.std.proofs.Common.{◌≡◌, ℕ, ◌+◌, ◌<◌, List, [], ◌∷◌, ◌++◌, length, take, drop, get_or, Some, Ok, Err, Result, refl}
+use Rattle.std.proofs.Common.{◌≡◌, ℕ, ◌+◌, ◌<◌, List, [], ◌∷◌, ◌++◌, length, take, drop, get_or, Some, Ok, Err}
+use Rattle.std.proofs.Common.{Result, refl}
 use Rattle.std.proofs.Common.{sym, ◌∙◌, ap, subst, arith}
 use Rattle.std.specs.Prelude.{map, nat_lt, Bool, true, false, cond, min, ◌*◌, ◌-◌, ◌^◌, None, Option}
 use Rattle.std.specs.List.{AllByRecursion}

@@ -1,5 +1,6 @@
 -- What each step of the work comes to, for what stands above it. Rules of this project.
-use Rattle.std.specs.Prelude.{◌≡◌, ◌<◌, ℕ, ◌+◌, Bool, ◌&&◌, List, ◌∷◌, ◌++◌, length, map, slice_get, Some, Result, Ok, Err}
+use Rattle.std.specs.Prelude.{◌≡◌, ◌<◌, ℕ, ◌+◌, Bool, ◌&&◌, List, ◌∷◌, ◌++◌, length, map, slice_get, Some, Result, Ok}
+use Rattle.std.specs.Prelude.{Err}
 use Rattle.std.specs.List.{AllByRecursion, filter, list_any}
 use Rattle.fv_base.specs.Outside.{Told, Lacks, ReadGives, Rose}
 use Rattle.fv_base.specs.declared.files.FileFault.{FileFault}

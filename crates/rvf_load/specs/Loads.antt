@@ -94,7 +94,8 @@ pub record Writes (a : Asked) (r : Reading) (flat : Flat) : Type 0 where
 abbrev pub weight_of : Flat → ℕ
 weight_of flat = design_weight flat.decls flat.drivers
 
--- the first number by which the weight comes above 20,000,000: its place, counted on from the given one, and the product
+-- the first number by which the weight comes above 20,000,000: its place, counted on from the given one, and the
+-- product
 abbrev pub too_heavy : ℕ → ℕ → List ℕ → Option (ℕ × ℕ)
 too_heavy weight place [] = None
 too_heavy weight place (f ∷ fs) =

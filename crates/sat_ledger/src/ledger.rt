@@ -48,8 +48,8 @@ impl Model for Ledger {
 }
 
 impl Ledger {
-    /// The formula's clauses, and no step. The only error is want of memory, also where there are `MOST_CLAUSES` clauses
-    /// or more.
+    /// The formula's clauses, and no step. The only error is want of memory, also where there are `MOST_CLAUSES`
+    /// clauses or more.
     pub fn new(alloc: Global, formula: &Formula) -> Result<Ledger, Memory>
         ensures told { IfOk result (λ ledger. Tells formula.now.vars formula.now.clauses [] ledger) }
         ensures clauses { IfOk result (λ ledger. ledger.clauses ≡ formula.now.clauses) }
@@ -99,8 +99,8 @@ impl Ledger {
         steps
     }
 
-    /// Adds a clause behind the others, with its step, and says whether it is new: whether none that was deleted and not
-    /// learnt again has the same literals. A hint is one above a clause's place. The only error is want of memory, also
+    /// Adds a clause behind the others, with its step, and says whether it is new: whether none that was deleted and
+    /// not learnt again has the same literals. A hint is one above a clause's place. The only error is want of memory, also
     /// where `MOST_CLAUSES` ids are given.
     pub fn add(&mut self, lits: &[i64], hints: &[i64]) -> Result<bool, Memory>
         requires ledger { IsLedger self.old }

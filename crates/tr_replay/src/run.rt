@@ -63,7 +63,8 @@ fn run_cycles(
 ) -> Result<List<List<u128>>, Memory>
     requires { AreChoicesOf net.now (traces.choices_of chosen.now) }
     ensures { IfOk result (λ made. made
-        ≡ traces.first_cycles net.now names.now.list (traces.cycle_of net.now (traces.choices_of chosen.now)) (cycle + 1)) }
+        ≡ traces.first_cycles net.now names.now.list (traces.cycle_of net.now (traces.choices_of chosen.now))
+        (cycle + 1)) }
 {
     let _ = net.nodes();
     cycles_are_of_the_net();

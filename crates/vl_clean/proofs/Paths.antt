@@ -47,7 +47,8 @@ use Rattle.vl_mean.specs.Runs.{Each}
 use Rattle.vl_mean.specs.Scopes.{Scope, constant_in}
 use Rattle.vl_mean.specs.Walk.{Place, Use, Step, Unfolding, header, port, item, override, connection, with_earlier}
 use Rattle.vl_mean.specs.Walk.{module_named, module_parameters, module_place, module_scope, parameter_names, port_names}
-use Rattle.vl_mean.specs.Walk.{written_ports, header_steps, port_step, optional_name, port_steps, use_of, connections_of}
+use Rattle.vl_mean.specs.Walk.{written_ports, header_steps, port_step, optional_name, port_steps, use_of}
+use Rattle.vl_mean.specs.Walk.{connections_of}
 use Rattle.vl_mean.specs.Walk.{override_steps, connection_steps, with_module, instance_steps, turn_place, turns}
 use Rattle.vl_mean.specs.Walk.{goes_on, next_turn, first_turn, loop_turns, turn_path, block_place, block_path}
 use Rattle.vl_mean.specs.Walk.{single_place, item_steps, items_steps, turn_steps, block_steps, unfolded}

@@ -17,10 +17,12 @@ use Rattle.vl_size.specs.declared.decl.Decl.{Decl}
 use Rattle.vl_mean.specs.Declarations.{class_of_attributes, class_of_kind, declared_by, joined_attributes, port_named}
 use Rattle.vl_mean.specs.Declarations.{ports_of}
 use Rattle.vl_mean.specs.FlatLaw.{is_graphic, nodes}
-use Rattle.vl_mean.specs.Parts.{Part, declares, equation, combinational, clocked, starts, declares_all, design, item_parts}
+use Rattle.vl_mean.specs.Parts.{Part, declares, equation, combinational, clocked, starts, declares_all, design}
+use Rattle.vl_mean.specs.Parts.{item_parts}
 use Rattle.vl_mean.specs.Parts.{parts_of_steps, port_kind, step_parts, values_of}
 use Rattle.vl_mean.specs.Runs.{Each}
-use Rattle.vl_mean.specs.Walk.{Place, Step, header, port, item, override, connection, first_turn, module_named, top_input}
+use Rattle.vl_mean.specs.Walk.{Place, Step, header, port, item, override, connection, first_turn, module_named}
+use Rattle.vl_mean.specs.Walk.{top_input}
 use Rattle.vl_mean.specs.Walk.{walk}
 use Rattle.vl_same.specs.Flattened.{decls_of}
 use Rattle.vl_same.proofs.EachOf.{both}
@@ -31,7 +33,8 @@ use Rattle.vl_refusal.specs.Items.{step_refusals}
 use Rattle.vl_refusal.specs.Refused.{Totals, counted, first_refused, is_too_large, lowest, or_later}
 use Rattle.vl_refusal.specs.Refused.{refusals_at}
 use Rattle.vl_names.proofs.Contained.{or_first}
-use Rattle.vl_names.proofs.Declared.{assignments-none, block-none, connection-none, initial-none, integers-under, name_list}
+use Rattle.vl_names.proofs.Declared.{assignments-none, block-none, connection-none, initial-none, integers-under}
+use Rattle.vl_names.proofs.Declared.{name_list}
 use Rattle.vl_names.proofs.Declared.{optional-none, part-append, part_names, under, values-none, vectors-under}
 use Rattle.vl_names.specs.Unrefused.{NoStepRefused}
 use Rattle.vl_names.proofs.Fresh.{NoneOf, none-back, not-refused}

@@ -40,9 +40,11 @@ use Rattle.vl_mean.specs.declared.driver.Driver.{Driver}
 use Rattle.vl_mean.specs.declared.driver.DriverKind.{DriverKind}
 use Rattle.vl_mean.specs.declared.driver.Start.{Start}
 use Rattle.vl_mean.specs.Declarations.{declared_by, port_decl, port_named, ports_of}
-use Rattle.vl_mean.specs.FlatLaw.{all_names_count, all_nodes, all_stmt_nodes, all_target_nodes, driver_nodes, name_count}
+use Rattle.vl_mean.specs.FlatLaw.{all_names_count, all_nodes, all_stmt_nodes, all_target_nodes, driver_nodes}
+use Rattle.vl_mean.specs.FlatLaw.{name_count}
 use Rattle.vl_mean.specs.FlatLaw.{node_count, nodes, stmt_nodes, target_nodes}
-use Rattle.vl_mean.specs.Parts.{Part, declares, equation, combinational, clocked, starts, all_initial_parts, assignments}
+use Rattle.vl_mean.specs.Parts.{Part, declares, equation, combinational, clocked, starts, all_initial_parts}
+use Rattle.vl_mean.specs.Parts.{assignments}
 use Rattle.vl_mean.specs.Parts.{block_part, connection_part, declares_all, design, initial_parts, item_parts}
 use Rattle.vl_mean.specs.Parts.{optional_value, parts_of_steps, plain, plain_target, port_kind, port_part, step_parts}
 use Rattle.vl_mean.specs.Parts.{target_of, targets_of, values_of, with_target}

@@ -43,7 +43,8 @@ use Rattle.vl_tree.specs.Stmt.{
 use Rattle.vl_size.specs.Divisors.{valid_size}
 use Rattle.vl_mean.specs.declared.const_number.Const.{Const}
 use Rattle.vl_mean.specs.Constants.{named_constant, number_or, settled, settled_exprs, settled_selects, vector_of}
-use Rattle.vl_mean.specs.FlatLaw.{all_nodes, all_stmt_nodes, all_target_nodes, arm_nodes, label_nodes, nodes, select_nodes}
+use Rattle.vl_mean.specs.FlatLaw.{all_nodes, all_stmt_nodes, all_target_nodes, arm_nodes, label_nodes, nodes}
+use Rattle.vl_mean.specs.FlatLaw.{select_nodes}
 use Rattle.vl_mean.specs.FlatLaw.{stmt_nodes, target_nodes}
 use Rattle.vl_mean.specs.Scopes.{Scope, constant_in, full}
 use Rattle.vl_same.specs.FullNames.{flat_arms, flat_expr, flat_exprs, flat_lval, flat_lvals, flat_selects, flat_stmt}

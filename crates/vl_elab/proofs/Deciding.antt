@@ -1,5 +1,6 @@
 -- Modules are refused by the walk through them, or else for the bits of their registers.
-use Rattle.std.specs.Prelude.{◌≡◌, refl, ℕ, List, [], Bool, true, false, All, Option, Some, None, is_none, if◌then◌else◌}
+use Rattle.std.specs.Prelude.{◌≡◌, refl, ℕ, List, [], Bool, true, false, All, Option, Some, None, is_none}
+use Rattle.std.specs.Prelude.{if◌then◌else◌}
 use Rattle.std.proofs.Common.{ap, sym, ◌∙◌, true≢false}
 use Rattle.vl_tree.specs.declared.source.Module.{Module}
 use Rattle.vl_tree.specs.WellFormed.{IsModule}

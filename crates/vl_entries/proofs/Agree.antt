@@ -1,5 +1,6 @@
 -- The map that entries give is the one that stands in cells and memories.
-use Rattle.std.specs.Prelude.{◌≡◌, refl, ℕ, zero, suc, ◌+◌, ◌<◌, List, [], ◌∷◌, ◌++◌, length, Bool, true, false, not, ◌&&◌, ◌||◌}
+use Rattle.std.specs.Prelude.{◌≡◌, refl, ℕ, zero, suc, ◌+◌, ◌<◌, List, [], ◌∷◌, ◌++◌, length, Bool, true, false, not}
+use Rattle.std.specs.Prelude.{◌&&◌, ◌||◌}
 use Rattle.std.specs.Prelude.{None, Some, is_none, if◌then◌else◌, bytes_eq, nat_lt, position, slice_get, slice_index}
 use Rattle.std.specs.List.{position_or_len}
 use Rattle.std.proofs.Common.{ap, sym, ◌∙◌, arith, cond, subst, true≢false}

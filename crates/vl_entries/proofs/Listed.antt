@@ -1,5 +1,6 @@
 -- Entries are one for each listed name.
-use Rattle.std.specs.Prelude.{◌≡◌, refl, ℕ, ◌+◌, List, [], ◌∷◌, ◌++◌, length, Bool, true, false, not, ◌&&◌, Option, None, Some}
+use Rattle.std.specs.Prelude.{◌≡◌, refl, ℕ, ◌+◌, List, [], ◌∷◌, ◌++◌, length, Bool, true, false, not, ◌&&◌, Option}
+use Rattle.std.specs.Prelude.{None, Some}
 use Rattle.std.specs.Prelude.{is_none, if◌then◌else◌, ℤ}
 use Rattle.std.proofs.Common.{ap, sym, subst}
 use Rattle.vl_size.specs.declared.decl.Decl.{Decl}

@@ -33,4 +33,5 @@ WordsAreNext =
     (ds : List Decl) (ps : List Part) (keep : Keeping) (nodes : List ℕ) (net : Netlist) (names : Names)
     (cells : List ℕ) (g : Given) (w : Values) → names.list ≡ all_entries ps ds nodes 0 0
     → HasSources ps keep ds net names → AreStored net cells net.mems (memory_firsts ps ds 0)
-    → AreCellsOf net ds cells → IsNet net → IsGiven net g → Stand net g ds cells w → AreEach (IsWritten net names g w) net.mems names.mems
+    → AreCellsOf net ds cells → IsNet net → IsGiven net g → Stand net g ds cells w
+    → AreEach (IsWritten net names g w) net.mems names.mems

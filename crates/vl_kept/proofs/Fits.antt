@@ -25,7 +25,8 @@ use Rattle.vl_size.specs.Size.{is_bound}
 use Rattle.vl_mean.specs.Declarations.{bound_of, declared_integers, declared_names, integer_decl, vector, vector_bounds}
 use Rattle.vl_mean.specs.Declarations.{word_bounds}
 use Rattle.vl_mean.specs.FlatLaw.{IsMemory, is_variable}
-use Rattle.vl_mean.specs.Parts.{Part, declares, equation, combinational, clocked, starts, all_initial_parts, assignments}
+use Rattle.vl_mean.specs.Parts.{Part, declares, equation, combinational, clocked, starts, all_initial_parts}
+use Rattle.vl_mean.specs.Parts.{assignments}
 use Rattle.vl_mean.specs.Parts.{block_part, connection_part, declares_all, initial_parts, optional_value, plain}
 use Rattle.vl_mean.specs.Parts.{plain_target, port_part, target_of, values_of, with_target}
 use Rattle.vl_mean.specs.Runs.{Each}

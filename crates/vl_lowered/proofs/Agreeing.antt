@@ -38,8 +38,10 @@ use Rattle.vl_order.specs.Refusals.{HasNoRefusal}
 use Rattle.vl_order.specs.Sequence.{IsSequence}
 use Rattle.vl_order.proofs.Changed.{block_changed}
 use Rattle.vl_order.proofs.Chain.{kinds}
-use Rattle.vl_order.proofs.Choices.{agree_at, agrees_all, chooses_alike, declared_of, in_range_all, in_range_of, of_declared}
-use Rattle.vl_order.proofs.Elements.{all_at, decl_parts, driver_parts, each_at, each_below_at, each_below_of, each_map_of}
+use Rattle.vl_order.proofs.Choices.{agree_at, agrees_all, chooses_alike, declared_of, in_range_all, in_range_of}
+use Rattle.vl_order.proofs.Choices.{of_declared}
+use Rattle.vl_order.proofs.Elements.{all_at, decl_parts, driver_parts, each_at, each_below_at, each_below_of}
+use Rattle.vl_order.proofs.Elements.{each_map_of}
 use Rattle.vl_order.proofs.Elements.{each_mapped, each_of_places, start_parts}
 use Rattle.vl_order.proofs.Held as held
 use Rattle.vl_lowered.specs.Built.{AreRanged}

@@ -17,7 +17,8 @@ use Rattle.vl_mean.specs.Execution.{assigns, begun, ended, exec}
 use Rattle.vl_mean.specs.FlatLaw.{IsDriver, IsLawful, flat_scopes, is_variable}
 use Rattle.vl_mean.specs.FlatParts.{driver_part, parts_of}
 use Rattle.vl_mean.specs.Parts.{Part, clocked, combinational, declares, equation, starts}
-use Rattle.vl_mean.specs.Runs.{Clocks, Each, EachBelow, EachBit, EachDeclared, Keeps, Next, OnlyIf, PartSteps, is_assigned}
+use Rattle.vl_mean.specs.Runs.{Clocks, Each, EachBelow, EachBit, EachDeclared, Keeps, Next, OnlyIf, PartSteps}
+use Rattle.vl_mean.specs.Runs.{is_assigned}
 use Rattle.vl_mean.specs.Runs.{is_assigned_by, is_driven, is_driven_by}
 use Rattle.vl_mean.specs.Scopes.{Scope}
 use Rattle.vl_mean.specs.Targets.{bit_of}

@@ -23,7 +23,8 @@ use Rattle.vl_mean.specs.FlatLaw.{IsAssigned, IsLawful, flat_scopes, is_variable
 use Rattle.vl_mean.specs.FlatParts.{driver_part, parts_of}
 use Rattle.vl_mean.specs.Constants.{number_of}
 use Rattle.vl_mean.specs.Parts.{Part, clocked, combinational, declares, equation, here, starts}
-use Rattle.vl_mean.specs.Runs.{Begins, Each, EachBelow, Init, OnlyIf, PartBegins, initial_writes, is_driven, is_spot, last_value}
+use Rattle.vl_mean.specs.Runs.{Begins, Each, EachBelow, Init, OnlyIf, PartBegins, initial_writes, is_driven, is_spot}
+use Rattle.vl_mean.specs.Runs.{last_value}
 use Rattle.vl_mean.specs.Runs.{later_or}
 use Rattle.vl_mean.specs.Scopes.{is_clock_class, no_values}
 use Rattle.vl_mean.specs.Targets.{Write, bit_of}
@@ -37,7 +38,8 @@ use Rattle.vl_same.proofs.EachOf.{both, front}
 use Rattle.vl_order.specs.Refusals.{HasNoRefusal}
 use Rattle.vl_order.specs.Sequence.{IsSequence}
 use Rattle.vl_order.proofs.Changed.{IsBitOfKind, target_changed}
-use Rattle.vl_order.proofs.Elements.{decl_parts, driver_parts, each_below_at, each_below_of, each_declared_as, each_mapped}
+use Rattle.vl_order.proofs.Elements.{decl_parts, driver_parts, each_below_at, each_below_of, each_declared_as}
+use Rattle.vl_order.proofs.Elements.{each_mapped}
 use Rattle.vl_order.proofs.Elements.{start_parts}
 use Rattle.vl_order.proofs.Held as held
 use Rattle.vl_evals.specs.Evaluations.{IsStart}

@@ -37,7 +37,8 @@ use Rattle.vl_mean.specs.Cells.{contains_name}
 use Rattle.vl_mean.specs.Constants.{Constants}
 use Rattle.vl_mean.specs.Declarations.{class_of_attributes, class_of_kind, declared, declared_by, declared_integers}
 use Rattle.vl_mean.specs.Declarations.{declared_names, declared_ports, full_port, full_ports, joined_attributes}
-use Rattle.vl_mean.specs.Declarations.{names_of, port_decl, ports_of, with_constants, with_items_parameters, with_parameters}
+use Rattle.vl_mean.specs.Declarations.{names_of, port_decl, ports_of, with_constants, with_items_parameters}
+use Rattle.vl_mean.specs.Declarations.{with_parameters}
 use Rattle.vl_mean.specs.Parts.{values_of}
 use Rattle.vl_mean.specs.Runs.{Each}
 use Rattle.vl_mean.specs.Scopes.{Scope}
@@ -52,7 +53,8 @@ use Rattle.vl_names.proofs.Loops.{AreFine}
 use Rattle.vl_names.proofs.Plain.{all-each}
 use Rattle.vl_meant.proofs.Laid.{items_list, parameters_list}
 use Rattle.vl_openable.specs.Openable.{IsInRange, IsOpenable, constant_names, item_constants, items_constants}
-use Rattle.vl_opens.proofs.Names.{decl_names, decls_differ, differ, names_append, new_both, new_fewer, new_none, new_one}
+use Rattle.vl_opens.proofs.Names.{decl_names, decls_differ, differ, names_append, new_both, new_fewer, new_none}
+use Rattle.vl_opens.proofs.Names.{new_one}
 use Rattle.vl_opens.proofs.Names.{parameters_new, plain_name}
 use Rattle.vl_opens.proofs.Ranges.{IsKnown, own_range, own_ranges}
 

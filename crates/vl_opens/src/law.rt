@@ -8,9 +8,9 @@ ghost use Rattle.vl_same.specs.StepScopes.{StepScopes};
 ghost use Rattle.vl_openable.specs.Openable.{AreOpenable};
 ghost use Rattle.vl_names.specs.Unrefused.{NoStepRefused};
 
-/// Where no step of the walk through well formed modules is refused, each scope of each step of the walk through it can be
-/// opened: the names of its constants differ, and those of its nets and variables, which have no bracket in them and are
-/// in range.
+/// Where no step of the walk through well formed modules is refused, each scope of each step of the walk through it can
+/// be opened: the names of its constants differ, and those of its nets and variables, which have no bracket in them and
+/// are in range.
 pub fn scopes_can_be_opened()
     ensures { (ms : List Module) (top : List ℕ) → All IsModule ms → NoStepRefused ms top
         → Each (StepScopes AreOpenable) (walk ms top) }

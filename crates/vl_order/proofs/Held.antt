@@ -29,7 +29,8 @@ use Rattle.vl_order.proofs.Chain.{kinds, Leaves, met_of, leaves_of, accepted, in
 use Rattle.vl_order.proofs.Chain.{whole_as}
 use Rattle.vl_order.proofs.Choices.{agree_at, agrees_all, in_range_of, in_range_all, chosen_at, chooses_alike}
 use Rattle.vl_order.proofs.Choices.{chosen_is_free, free_is_chosen}
-use Rattle.vl_order.proofs.Elements.{nothing, all_at, each_at, each_of_places, all_declared, driver_parts, start_parts, decl_parts}
+use Rattle.vl_order.proofs.Elements.{nothing, all_at, each_at, each_of_places, all_declared, driver_parts}
+use Rattle.vl_order.proofs.Elements.{start_parts, decl_parts}
 use Rattle.vl_order.proofs.Elements.{each_mapped, each_map_of}
 use Rattle.vl_order.proofs.Leaving.{leaves_assigned, assigned_meets, leaves_run, run_same, same_numbers}
 

@@ -1,5 +1,6 @@
 -- The weight of a design is below 2 ^ 64: each node has at most as many gates as the names of the design have bits.
-use Rattle.std.specs.Prelude.{◌≡◌, refl, ℕ, zero, suc, ◌+◌, ◌*◌, ◌^◌, ◌<◌, ◌≤◌, max, List, [], ◌∷◌, ◌++◌, Bool, true, false}
+use Rattle.std.specs.Prelude.{◌≡◌, refl, ℕ, zero, suc, ◌+◌, ◌*◌, ◌^◌, ◌<◌, ◌≤◌, max, List, [], ◌∷◌, ◌++◌, Bool, true}
+use Rattle.std.specs.Prelude.{false}
 use Rattle.std.specs.Prelude.{◌&&◌, bytes_eq, is_none, nat_le, All, Option, Some, None, ℤ, pos, negsuc, if◌then◌else◌}
 use Rattle.std.proofs.Common.{ap, arith, subst, true≢false}
 use Rattle.std.proofs.Math.Nat.{mul-le-mul_right}
@@ -54,7 +55,8 @@ use Rattle.vl_size.specs.declared.way.Way.{Way}
 use Rattle.vl_size.specs.declared.way.Way.TheVariants as w
 use Rattle.vl_size.specs.Divisors.{is_logical}
 use Rattle.vl_size.specs.Sign.{sign}
-use Rattle.vl_size.specs.Size.{◌>>=◌, is_constant, or_none, size, sizes, vector_size, word_size, within, only_if, some_bits}
+use Rattle.vl_size.specs.Size.{◌>>=◌, is_constant, or_none, size, sizes, vector_size, word_size, within, only_if}
+use Rattle.vl_size.specs.Size.{some_bits}
 use Rattle.vl_size.specs.Size.{times, part_size, unary_size, operation_size, size_by, divides, operand, index_of, value}
 use Rattle.vl_size.specs.Size.{no_names, is_bound, goes_along}
 use Rattle.vl_size.specs.Table.{declared_as, span, IsShaped}

@@ -45,7 +45,8 @@ use Rattle.vl_size.specs.declared.context.Context.{Context}
 use Rattle.vl_size.specs.declared.decl.Decl.{Decl}
 use Rattle.vl_size.specs.Table.{declared_as}
 use Rattle.vl_mean.specs.Cells.{is_cell}
-use Rattle.vl_mean.specs.FlatLaw.{IsReadIn, IsTarget, AreTargets, IsBlock, AreBlocks, AreArms, case_context, is_variable}
+use Rattle.vl_mean.specs.FlatLaw.{IsReadIn, IsTarget, AreTargets, IsBlock, AreBlocks, AreArms, case_context}
+use Rattle.vl_mean.specs.FlatLaw.{is_variable}
 use Rattle.vl_mean.specs.FlatLaw.{names_in, names_in_all, names_in_selects}
 use Rattle.vl_mean.specs.Scopes.{is_clock_class, is_clock_decl, no_values}
 use Rattle.vl_mean.specs.Targets.{is_decl, has_spot}

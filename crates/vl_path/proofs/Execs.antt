@@ -29,7 +29,8 @@ use Rattle.vl_size.specs.declared.decl.Decl.{Decl}
 use Rattle.vl_size.specs.Size.{Values, Operand, own, is_true, size}
 use Rattle.vl_size.specs.Table.{declared_as}
 use Rattle.vl_mean.specs.Execution.{State, assigned, arms_size, arms_sign, matches, exec, exec_all, pick, otherwise}
-use Rattle.vl_mean.specs.FlatLaw.{flat_scopes, IsReadIn, IsBlock, AreBlocks, AreArms, IsTarget, case_context, is_variable}
+use Rattle.vl_mean.specs.FlatLaw.{flat_scopes, IsReadIn, IsBlock, AreBlocks, AreArms, IsTarget, case_context}
+use Rattle.vl_mean.specs.FlatLaw.{is_variable}
 use Rattle.vl_mean.specs.FlatLaw.{is_net}
 use Rattle.vl_mean.specs.Scopes.{operand_in, is_clock_class}
 use Rattle.vl_mean.specs.Targets.{Write, bit_of, put_all, spots, has_spot}
@@ -38,7 +39,8 @@ use Rattle.vl_path.specs.Paths.{is_blocking, target_reads, sets, labels_read, ha
 use Rattle.vl_path.specs.Paths.{needs, all_need, arms_need}
 use Rattle.vl_path.specs.Settle.{IsBitOf}
 use Rattle.vl_path.proofs.Alike.{Alike, ◌∪◌, fewer, operand_same, assigned_alike, matches_alike}
-use Rattle.vl_path.proofs.Bools.{or_left, or_right, or_either, or_moved, or_sure, or_other, and_both, and_left, and_right}
+use Rattle.vl_path.proofs.Bools.{or_left, or_right, or_either, or_moved, or_sure, or_other, and_both, and_left}
+use Rattle.vl_path.proofs.Bools.{and_right}
 use Rattle.vl_path.proofs.Cells.{HaveOwnCells}
 use Rattle.vl_path.proofs.Targets.{Marks, marks}
 use Rattle.vl_path.proofs.Writes.{writes_to, AreSmall, written_to, written_small, puts_bit, puts_fit}

@@ -1,6 +1,7 @@
 -- The value of an expression that has a size depends on the bits that it reads alone.
 use Rattle.std.specs.Prelude.{◌≡◌, refl, ℕ, zero, suc, ◌+◌, ◌*◌, ◌^◌, ◌<◌, ◌≤◌, max, Bool, true, false, ◌&&◌, ◌||◌}
-use Rattle.std.specs.Prelude.{nat_lt, is_none, nat_abs, if◌then◌else◌, List, [], ◌∷◌, Option, Some, None, IsSome, ℤ, pos, ◌+ℤ◌, bytes_eq}
+use Rattle.std.specs.Prelude.{nat_lt, is_none, nat_abs, if◌then◌else◌, List, [], ◌∷◌, Option, Some, None, IsSome, ℤ}
+use Rattle.std.specs.Prelude.{pos, ◌+ℤ◌, bytes_eq}
 use Rattle.std.proofs.Common.{ap, sym, ◌∙◌, arith, subst, true≢false}
 use Rattle.std.proofs.lemmas.Bool.Decides.{nat_tests}
 use Rattle.std.proofs.lemmas.Int.{ints}

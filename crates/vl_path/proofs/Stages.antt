@@ -8,7 +8,8 @@ use Rattle.vl_size.specs.declared.decl.Decl.{Decl}
 use Rattle.vl_size.specs.Size.{Values}
 use Rattle.vl_size.specs.Table.{declared_as}
 use Rattle.vl_mean.specs.Execution.{State, begun, assigned, exec, assigns}
-use Rattle.vl_mean.specs.FlatLaw.{flat_scopes, IsBlock, IsDriver, IsTarget, AreTargets, is_net, is_variable, assigned_context}
+use Rattle.vl_mean.specs.FlatLaw.{flat_scopes, IsBlock, IsDriver, IsTarget, AreTargets, is_net, is_variable}
+use Rattle.vl_mean.specs.FlatLaw.{assigned_context}
 use Rattle.vl_mean.specs.FlatLaw.{IsAssigned, IsReadIn}
 use Rattle.vl_mean.specs.Targets.{bit_of, put_all, are_fixed, may_change, any_may_change}
 use Rattle.vl_path.specs.Reads.{Bits, Covers, IsCellOf, AreInRange, selected, reads}

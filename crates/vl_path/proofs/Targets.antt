@@ -1,6 +1,7 @@
 -- What a target's bits are: each is one of a declared name, those that are surely set are among them, and no other
 -- bit may change.
-use Rattle.std.specs.Prelude.{◌≡◌, refl, ℕ, ◌+◌, ◌<◌, ◌≤◌, max, List, [], ◌∷◌, ◌++◌, length, Bool, true, false, ◌&&◌, ◌||◌}
+use Rattle.std.specs.Prelude.{◌≡◌, refl, ℕ, ◌+◌, ◌<◌, ◌≤◌, max, List, [], ◌∷◌, ◌++◌, length, Bool, true, false, ◌&&◌}
+use Rattle.std.specs.Prelude.{◌||◌}
 use Rattle.std.specs.Prelude.{nat_lt, is_none, nat_abs, Option, Some, None, IsSome, ℤ, pos, if◌then◌else◌}
 use Rattle.std.proofs.Common.{ap, sym, ◌∙◌, arith, subst, true≢false}
 use Rattle.std.proofs.lemmas.Bool.Decides.{nat_tests}
@@ -16,7 +17,8 @@ use Rattle.vl_size.specs.Table.{span, is_between, word_name, declared_as}
 use Rattle.vl_mean.specs.Cells.{is_cell}
 use Rattle.vl_mean.specs.FlatLaw.{flat_scopes, IsTarget, AreTargets}
 use Rattle.vl_mean.specs.Scopes.{is_clock_class, no_values}
-use Rattle.vl_mean.specs.Targets.{Spot, spots_from, word_index, full_word, spots_of, is_decl, has_spot, spots, all_spots}
+use Rattle.vl_mean.specs.Targets.{Spot, spots_from, word_index, full_word, spots_of, is_decl, has_spot, spots}
+use Rattle.vl_mean.specs.Targets.{all_spots}
 use Rattle.vl_mean.specs.Targets.{are_fixed, may_change, any_may_change}
 use Rattle.vl_path.specs.Reads.{IsCellOf, selected}
 use Rattle.vl_path.specs.Paths.{sets, any_sets}

@@ -11,8 +11,8 @@ use Rattle.vl_stores.specs.Stores.{AreStored}
 abbrev pub over : List ℕ → List ℕ → Cells
 over now next = record { now = now; next = next; assumed = []; log = [] }
 
--- Registers get the bits of cells that they are, and memories their words' cells; nothing else is changed but that nodes
--- are added.
+-- Registers get the bits of cells that they are, and memories their words' cells; nothing else is changed but that
+-- nodes are added.
 pub record Closes (old new : Netlist) (cells : List ℕ) (spots : List Spot) (places firsts : List ℕ) : Type 0 where
   -- where all bits are gathered
   pub mid : Netlist

@@ -67,7 +67,8 @@ pub fn tick_cells(
     requires next { AreCellsOf net.old layout.decls.now settled.now.next.items }
     requires drivers { All (λ x. IsDriver layout.decls.now x.what) drivers.now }
     ensures { IfOk result (λ phase. TicksAll layout.entry.decls.now net.old net.new
-        (over settled.entry.now.now.items settled.entry.now.next.items) (over phase.frame.now.items phase.frame.next.items)
+        (over settled.entry.now.now.items settled.entry.now.next.items)
+        (over phase.frame.now.items phase.frame.next.items)
         phase.assumed drivers.now) }
 {
     let mut frame = frame_over(

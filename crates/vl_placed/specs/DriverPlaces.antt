@@ -1,5 +1,5 @@
--- Where a design's drivers stand, step by step, in the order of the drivers among its parts: a continuous assignment and
--- a block at their item, a port connection at the connection, the value in a declaration at the declared name or port.
+-- Where a design's drivers stand, step by step, in the order of the drivers among its parts: a continuous assignment
+-- and a block at their item, a port connection at the connection, the value in a declaration at the declared name or port.
 -- Refusals of drivers are told at these places. Rule of this project.
 use Rattle.std.specs.Prelude.{List, [], ◌∷◌, ◌++◌, ℕ, map}
 use Rattle.fv_base.specs.declared.pos.Pos.{Pos}

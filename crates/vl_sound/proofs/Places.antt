@@ -26,7 +26,8 @@ use Rattle.vl_mean.specs.Declarations.{with_items_parameters, with_constants, de
 use Rattle.vl_mean.specs.Runs.{Each}
 use Rattle.vl_mean.specs.Scopes.{Scope, constant_in}
 use Rattle.vl_mean.specs.Walk.{Contents, Place, Use, Step, header, port, with_earlier, module_parameters, header_of}
-use Rattle.vl_mean.specs.Walk.{module_constants, module_around, module_scope, module_contents, module_place, module_names}
+use Rattle.vl_mean.specs.Walk.{module_constants, module_around, module_scope, module_contents, module_place}
+use Rattle.vl_mean.specs.Walk.{module_names}
 use Rattle.vl_mean.specs.Walk.{parameter_names, port_names, written_ports, header_steps, port_step, port_steps}
 use Rattle.vl_mean.specs.Walk.{optional_name, turn_place, block_place}
 use Rattle.vl_same.proofs.EachOf.{both, front, back, each_map}
@@ -53,7 +54,8 @@ use Rattle.vl_sound.proofs.Standing.{AreItsConstants, level}
 use Rattle.vl_sound.proofs.Reached.{AreConstants}
 use Rattle.vl_sound.proofs.Parameters.{ItemsFine, all_constant, parameters_new, fewer}
 use Rattle.vl_sound.proofs.Shapes.{IsShapedObject, among_bounds, shape_read, ports_shaped, ports_declared, items_shaped}
-use Rattle.vl_sound.proofs.Shapes.{lists_ports, objects_sound, items_sound, ports_sound, scope_sound, port_object, declares_front, declares_back}
+use Rattle.vl_sound.proofs.Shapes.{lists_ports, objects_sound, items_sound, ports_sound, scope_sound, port_object}
+use Rattle.vl_sound.proofs.Shapes.{declares_front, declares_back}
 
 -- a place in which names are sound, and stand for what its scopes are made from
 pub record IsSoundPlace (at : Place) : Type 0 where

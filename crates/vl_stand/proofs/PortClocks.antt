@@ -36,9 +36,11 @@ use Rattle.vl_size.specs.declared.decl.Class.{Class}
 use Rattle.vl_size.specs.declared.decl.Class.TheVariants as class
 use Rattle.vl_size.specs.declared.decl.Decl.{Decl}
 use Rattle.vl_size.specs.Table.{declared_as}
-use Rattle.vl_mean.specs.Declarations.{class_of_attributes, class_of_kind, class_of_port, declared, declared_by, vector, integer_decl}
+use Rattle.vl_mean.specs.Declarations.{class_of_attributes, class_of_kind, class_of_port, declared, declared_by}
+use Rattle.vl_mean.specs.Declarations.{vector, integer_decl}
 use Rattle.vl_mean.specs.Declarations.{joined_attributes}
-use Rattle.vl_mean.specs.Declarations.{declared_names, declared_integers, declared_ports, port_decl, full_port, full_ports}
+use Rattle.vl_mean.specs.Declarations.{declared_names, declared_integers, declared_ports, port_decl, full_port}
+use Rattle.vl_mean.specs.Declarations.{full_ports}
 use Rattle.vl_mean.specs.Scopes.{Scope, is_clock_class, is_clock_decl}
 use Rattle.vl_mean.specs.Walk.{Use}
 use Rattle.vl_shape.specs.declared.inputs.Inputs.{Inputs}

@@ -1,5 +1,6 @@
 -- The writes of one memory among others, and nodes from a place on.
-use Rattle.std.specs.Prelude.{◌≡◌, refl, ℕ, zero, suc, ◌+◌, ◌<◌, ◌≤◌, List, [], ◌∷◌, ◌++◌, length, map, take, drop, Some}
+use Rattle.std.specs.Prelude.{◌≡◌, refl, ℕ, zero, suc, ◌+◌, ◌<◌, ◌≤◌, List, [], ◌∷◌, ◌++◌, length, map, take, drop}
+use Rattle.std.specs.Prelude.{Some}
 use Rattle.std.specs.Prelude.{Option, is_none, slice_get, slice_index}
 use Rattle.std.proofs.Common.{ap, ◌∙◌, arith, subst, true≢false}
 use Rattle.std.proofs.lemmas.Option.{same_Some}

@@ -1,4 +1,5 @@
-use Rattle.std.proofs.Common.{◌≡◌, ap, sym, ◌∙◌, refl, arith, true, false, ◌⊎◌, inl, inr, None, map, string_bytes, option_and_then, if◌then◌else◌}
+use Rattle.std.proofs.Common.{◌≡◌, ap, sym, ◌∙◌, refl, arith, true, false, ◌⊎◌, inl, inr, None, map, string_bytes}
+use Rattle.std.proofs.Common.{option_and_then, if◌then◌else◌}
 use Rattle.std.proofs.Common.{List, ℕ, [], ◌∷◌}
 use Rattle.std.proofs.lemmas.Result.{IfOk-weaker}
 use Rattle.std.proofs.lemmas.Bool.Decides.{nat_tests}

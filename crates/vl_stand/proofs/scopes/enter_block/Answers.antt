@@ -7,7 +7,8 @@ use Rattle.vl_refusal.specs.Meanings.{meanings_at}
 use Rattle.vl_scope.specs.Seen.{innermost}
 use Rattle.vl_param.specs.Among.{among_parameters}
 use Rattle.vl_number.specs.Numbers.{HaveNumbers}
-use Rattle.vl_stand.proofs.Whole.{nothing_given, block_use, block_inputs, block_contents, block_scope, block_entered, block_declared}
+use Rattle.vl_stand.proofs.Whole.{nothing_given, block_use, block_inputs, block_contents, block_scope, block_entered}
+use Rattle.vl_stand.proofs.Whole.{block_declared}
 use Rattle.vl_stand.proofs.Stacks.{same_numbers}
 use Rattle.vl_stand.proofs.scopes.enter_block.Goals as goal
 

@@ -1,4 +1,5 @@
-use Rattle.std.proofs.Common.{◌≡◌, ◌+◌, ◌*◌, ◌<◌, ◌≤◌, Some, ap, arith, length, slice_get, subst, sym, take, true≢false, ◌∙◌}
+use Rattle.std.proofs.Common.{◌≡◌, ◌+◌, ◌*◌, ◌<◌, ◌≤◌, Some, ap, arith, length, slice_get, subst, sym, take}
+use Rattle.std.proofs.Common.{true≢false, ◌∙◌}
 use Rattle.std.specs.Prelude.{is_none}
 use Rattle.std.specs.Option.{option_copied}
 use Rattle.vl_mean.specs.Cells.{cells}
