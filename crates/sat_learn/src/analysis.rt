@@ -16,7 +16,8 @@ use lrat_check::Reading;
 use sat_trail::{Entry, Trail};
 use std::alloc::Global;
 
-/// A clause that is traced back, with the ids of the clauses that it comes from, the last hint first.
+/// A clause that is traced back, with its hints, the last one first: each is one above the place of a clause that it
+/// comes from.
 #[derive(Drop)]
 pub struct Learnt {
     pub lits: Vec<i64>,

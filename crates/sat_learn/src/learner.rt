@@ -1,4 +1,4 @@
-ghost use Rattle.std.specs.Prelude.{◌≡◌, ◌<◌, ◌-◌, ◌^◌, [], true, false, length, reverse, IfOk, OnOk};
+ghost use Rattle.std.specs.Prelude.{◌≡◌, ◌<◌, ◌-◌, ◌^◌, [], true, false, length, reverse, IfOk};
 ghost use Rattle.sat_trail.specs.Trail.{decided};
 ghost use Rattle.sat_unit.specs.Propagation.{AllLits};
 ghost use Rattle.sat_learn.specs.Analysis.{Derives, IsConflict};
@@ -8,8 +8,8 @@ use crate::analysis::{Learnt, to_empty};
 use crate::learning::learn;
 use crate::lit_set::LitSet;
 use crate::restarts::Restarts;
+use clause_set::ClauseSet;
 use fv_base::{List, Memory};
-use lrat_check::Step;
 use sat_trail::Trail;
 use std::alloc::Global;
 
@@ -31,28 +31,30 @@ impl Learner {
     }
 
     /// Learns a clause from one that is false, and takes the trail back to where it forces a literal, or, now and then,
-    /// to the beginning. The only error is want of memory, also where there are `MOST_CLAUSES` clauses or more.
+    /// where the clause is none of the dropped ones, to the beginning. The only error is want of memory.
     pub fn learn(
         &mut self,
-        clauses: &mut List<List<i64>>,
+        clauses: &[List<i64>],
+        dropped: &ClauseSet,
         trail: &mut Trail,
-        steps: &mut List<Step>,
         conflict: usize,
-    ) -> Result<(), Memory>
-        requires lits { AllLits clauses.old }
+    ) -> Result<Learnt, Memory>
+        requires few { length clauses.now < 2 ^ 63 - 1 }
+        requires lits { AllLits clauses.now }
         requires decided { decided trail.old ≡ true }
-        requires conflict { IsConflict clauses.old trail.old conflict }
-        ensures { OnOk result (Learns clauses.old clauses.new trail.old trail.new steps.old steps.new) }
+        requires conflict { IsConflict clauses.now trail.old conflict }
+        ensures { IfOk result (λ l.
+            Learns clauses.now l.lits.items (reverse l.hints.items) trail.old trail.new) }
     {
-        let anew = self.restarts.is_due();
+        let is_due = self.restarts.is_due();
         learn(
             self.alloc,
             clauses,
+            dropped,
             trail,
             &mut self.set,
-            steps,
             conflict,
-            anew,
+            is_due,
         )
     }
 

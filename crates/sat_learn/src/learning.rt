@@ -1,5 +1,5 @@
 ghost use Rattle.std.specs.Prelude.{◌≡◌, ◌<◌, ◌+◌, ◌-◌, ◌^◌, List, [], ◌∷◌, ◌++◌, ℤ, true, false, length, reverse};
-ghost use Rattle.std.specs.Prelude.{OnOk, IfSome};
+ghost use Rattle.std.specs.Prelude.{IfOk, IfSome};
 ghost use Rattle.lrat_check.specs.Sets.{reading, IsLit, AreLits};
 ghost use Rattle.sat_trail.specs.Trail.{lits as true_lits, below, decided, Stand};
 ghost use Rattle.sat_unit.specs.Propagation.{AllLits};
@@ -10,13 +10,10 @@ ghost use Rattle.sat_learn.specs.Learning.{Learns};
 
 use crate::analysis::{Learnt, to_unit};
 use crate::lit_set::LitSet;
+use clause_set::ClauseSet;
 use fv_base::{List, Memory};
-use lrat_check::Step;
 use sat_trail::Trail;
 use std::alloc::Global;
-
-/// More clauses than this have no place in memory, and below it each id is an `i64`.
-pub const MOST_CLAUSES: usize = 9000000000000000000;
 
 /// Of two literals that are false, one that the other doesn't outlast; a literal that isn't false doesn't count.
 fn later(trail: &Trail, last: Option<i64>, lit: i64) -> Option<i64>
@@ -116,51 +113,36 @@ fn cut(clauses: &[List<i64>], trail: &mut Trail, lits: &[i64], anew: bool)
     backjump(clauses, trail, lits);
 }
 
-/// The clause joins the others, and the step that adds it the other steps.
-pub fn add(
-    alloc: Global,
-    clauses: &mut List<List<i64>>,
-    steps: &mut List<Step>,
-    learnt: Learnt,
-) -> Result<(), Memory>
-    requires few { length clauses.old < 2 ^ 63 - 1 }
-    ensures clauses { OnOk result (clauses.new ≡ clauses.old ++ learnt.lits.items ∷ []) }
-    ensures steps { OnOk result (steps.new ≡ steps.old
-        ++ Step.Add (length clauses.old + 1) learnt.lits.items (reverse learnt.hints.items) ∷ []) }
+/// Where that is due the search may begin anew behind a clause that is none of the dropped ones.
+fn may_begin_anew(dropped: &ClauseSet, lits: &[i64], is_due: bool) -> Result<bool, Memory>
+    requires { AreLits lits.now }
 {
-    let id = clauses.len() as u64 + 1;
-    let Learnt { lits, mut hints } = learnt;
-    hints.reverse();
-    let added = List::from_vec(Vec::from_slice(alloc, &lits)?);
-    clauses.push(List::from_vec(lits))?;
-    steps.push(Step::Add {
-        id,
-        lits: added,
-        hints: List::from_vec(hints),
-    })?;
-    Ok(())
+    if !is_due {
+        return Ok(false);
+    }
+    Ok(!dropped.contains(lits)?)
 }
 
-/// Learns a clause from one that is false, and takes the trail back to where it forces a literal, or to the beginning.
+/// Learns a clause from one that is false, and takes the trail back to where it forces a literal, or, where that is due
+/// and the clause is none of the dropped ones, to the beginning.
 pub(crate) fn learn(
     alloc: Global,
-    clauses: &mut List<List<i64>>,
+    clauses: &[List<i64>],
+    dropped: &ClauseSet,
     trail: &mut Trail,
     set: &mut LitSet,
-    steps: &mut List<Step>,
     conflict: usize,
-    anew: bool,
-) -> Result<(), Memory>
-    requires lits { AllLits clauses.old }
+    is_due: bool,
+) -> Result<Learnt, Memory>
+    requires few { length clauses.now < 2 ^ 63 - 1 }
+    requires lits { AllLits clauses.now }
     requires decided { decided trail.old ≡ true }
-    requires conflict { IsConflict clauses.old trail.old conflict }
-    ensures { OnOk result (Learns clauses.old clauses.new trail.old trail.new steps.old steps.new) }
+    requires conflict { IsConflict clauses.now trail.old conflict }
+    ensures { IfOk result (λ l.
+        Learns clauses.now l.lits.items (reverse l.hints.items) trail.old trail.new) }
 {
-    if clauses.len() >= MOST_CLAUSES {
-        return Err(Memory);
-    }
-    let learnt = to_unit(alloc, clauses.as_slice(), trail, set, conflict)?;
-    cut(clauses.as_slice(), trail, &learnt.lits, anew);
-    add(alloc, clauses, steps, learnt)?;
-    Ok(())
+    let learnt = to_unit(alloc, clauses, trail, set, conflict)?;
+    let anew = may_begin_anew(dropped, &learnt.lits, is_due)?;
+    cut(clauses, trail, &learnt.lits, anew);
+    Ok(learnt)
 }

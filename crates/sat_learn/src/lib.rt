@@ -11,4 +11,3 @@ mod shortening;
 
 pub use analysis::Learnt;
 pub use learner::Learner;
-pub use learning::{MOST_CLAUSES, add};

@@ -1,8 +1,8 @@
 -- Literals that name variables, and what a set says of a variable.
 use Rattle.std.proofs.Common.{◌≡◌, ℕ, zero, suc, ◌+◌, ◌^◌, ◌<◌, ◌≤◌, true, List, []}
-use Rattle.std.proofs.Common.{◌∷◌, ◌++◌, ℤ, pos, negsuc, neg_ℤ}
-use Rattle.std.proofs.Common.{Some, None, refl, ap, sym, subst, inl, inr, arith}
-use Rattle.std.specs.Prelude.{unsigned_abs, slice_get}
+use Rattle.std.proofs.Common.{◌∷◌, ℤ, pos, negsuc, neg_ℤ}
+use Rattle.std.proofs.Common.{refl, ap, sym, subst, inl, inr, arith}
+use Rattle.std.specs.Prelude.{unsigned_abs}
 use Rattle.std.specs.Ordering.{int_eq}
 use Rattle.std.proofs.lemmas.Bool.{false≢true}
 use Rattle.cnf_form.specs.Cnf.{IsLiteral, AreLiterals, AreClauses}
@@ -42,27 +42,6 @@ lits_of vars (l ∷ ls) v h = (lit_of vars l v h.0, lits_of vars ls v h.1)
 pub all_lits : (vars : ℕ) (cs : List (List ℤ)) → vars < 2 ^ 63 → AreClauses vars cs → AllLits cs
 all_lits vars [] v h = tt
 all_lits vars (c ∷ cs) v h = (lits_of vars c v h.0, all_lits vars cs v h.1)
-
-none_some : (c : List ℤ) → None ≡ Some c → ⊥
-none_some c e = cc
-
-some_is : (c d : List ℤ) → Some c ≡ Some d → c ≡ d
-some_is c d e = cc
-
-pub clause_at : (vars : ℕ) (cs : List (List ℤ)) (place : ℕ) (c : List ℤ) → AreClauses vars cs
-    → slice_get cs place ≡ Some c → AreLiterals vars c
-clause_at vars [] place c h e = absurd (none_some c e)
-clause_at vars (d ∷ ds) zero c h e = subst (AreLiterals vars) (some_is d c e) h.0
-clause_at vars (d ∷ ds) (suc place) c h e = clause_at vars ds place c h.1 e
-
-pub clauses_more : (vars : ℕ) (cs : List (List ℤ)) (r : List ℤ) → AreClauses vars cs → AreLiterals vars r
-    → AreClauses vars (cs ++ r ∷ [])
-clauses_more vars [] r h k = (k, tt)
-clauses_more vars (c ∷ cs) r h k = (h.0, clauses_more vars cs r h.1 k)
-
-pub clauses_behind : (vars : ℕ) (a b : List (List ℤ)) → AreClauses vars (a ++ b) → AreClauses vars b
-clauses_behind vars [] b h = h
-clauses_behind vars (c ∷ a) b h = clauses_behind vars a b h.1
 
 pub next : (n : ℕ) → n + 1 ≡ suc n
 next n = omega arith

@@ -1,12 +1,12 @@
 -- Where all clauses are settled and each variable has a value, the trail's values make the clauses true.
 use Rattle.std.proofs.Common.{◌≡◌, ℕ, zero, suc, ◌+◌, ◌-◌, ◌<◌, true, false, List, [], ◌∷◌}
 use Rattle.std.proofs.Common.{◌++◌, ℤ, pos, negsuc}
-use Rattle.std.proofs.Common.{neg_ℤ, length, get_or, refl, ap, sym, ◌∙◌, inl, inr, length-append, arith}
+use Rattle.std.proofs.Common.{neg_ℤ, length, get_or, Some, refl, ap, sym, ◌∙◌, inl, inr, length-append, arith}
 use Rattle.std.proofs.Math.Seq.{get_or-append_seam}
 use Rattle.std.proofs.lemmas.List.{get_or_append_left}
-use Rattle.std.proofs.lemmas.List.Folds.{list_all-append}
 use Rattle.std.proofs.lemmas.Bool.{false≢true, cases_lt, and_from, and_parts, or_from, not_from_false}
 use Rattle.std.proofs.lemmas.Bool.{false_from_ne_true}
+use Rattle.std.specs.Prelude.{slice_get}
 use Rattle.cnf_form.specs.Cnf.{IsLiteral, AreLiterals, AreClauses, literal_true, clause_true, formula_true, value_of}
 use Rattle.lrat_check.specs.declared.reading.Reading.{Reading}
 use Rattle.lrat_check.specs.declared.reading.Reading.TheVariants as read
@@ -17,6 +17,8 @@ use Rattle.sat_trail.proofs.Members.{any_from}
 use Rattle.sat_trail.proofs.Readings.{open_to}
 use Rattle.sat_unit.proofs.Consistent.{no_pair}
 use Rattle.sat_learn.proofs.News.{true_has}
+use Rattle.sat_ledger.proofs.Dropping.{clause_at}
+use Rattle.sat_ledger.proofs.Places.{none_some, some_is}
 use Rattle.sat_search.proofs.Literals.{literal_at, by_variable, neg_next}
 
 pub length_values : (vars : ℕ) (set : List ℤ) → length (values_of vars set) ≡ vars
@@ -41,6 +43,15 @@ values_at (suc m) set n h =
 value_is : (vars : ℕ) (set : List ℤ) (n : ℕ) → n < vars → value_of (values_of vars set) (n + 1) ≡ has set (pos (n + 1))
 value_is vars set n h =
     let e : n + 1 - 1 ≡ n = omega arith in ap (λ i. get_or (values_of vars set) i false) e ∙ values_at vars set n h
+
+open_at : (set : List ℤ) (cs : List (List ℤ)) (place : ℕ) (c : List ℤ) → settled cs set ≡ true
+    → slice_get cs place ≡ Some c → is_open (reading set c) ≡ true
+open_at set [] place c h e = absurd (none_some c e)
+open_at set (d ∷ ds) zero c h e =
+    ap (λ z. is_open (reading set z)) (sym (some_is d c e))
+    ∙ (and_parts (is_open (reading set d)) (settled ds set) h).0
+open_at set (d ∷ ds) (suc place) c h e =
+    open_at set ds place c (and_parts (is_open (reading set d)) (settled ds set) h).1 e
 
 module _ (vars : ℕ) (all_clauses : List (List ℤ)) (t : Entries) (s : Stand all_clauses t)
     (a : AllAssigned vars (lits t)) where
@@ -74,20 +85,26 @@ module _ (vars : ℕ) (all_clauses : List (List ℤ)) (t : Entries) (s : Stand a
       let p = open_to (lits t) c e in
       absurd (valued p.0.one (literal_at vars c p.0.one k p.0.has_one) (p.1 p.0.one p.0.has_one) p.0.one_unfalse)
 
-  all_hold : (cs : List (List ℤ)) → AreClauses vars cs → settled cs (lits t) ≡ true
-      → formula_true (value_of (values_of vars (lits t))) cs ≡ true
-  all_hold [] k h = refl
-  all_hold (c ∷ cs) k h =
-      let p = and_parts (is_open (reading (lits t) c)) (settled cs (lits t)) h in
-      and_from (clause_true (value_of (values_of vars (lits t))) c)
-      (formula_true (value_of (values_of vars (lits t))) cs)
-      (clause_holds c (reading (lits t) c) k.0 refl p.0) (all_hold cs k.1 p.1)
+  -- each of the clauses does, by its place
+  holds_at : (cs : List (List ℤ)) (place : ℕ) (c : List ℤ) → AreClauses vars cs → settled cs (lits t) ≡ true
+      → slice_get cs place ≡ Some c → clause_true (value_of (values_of vars (lits t))) c ≡ true
+  holds_at cs place c k h e =
+      clause_holds c (reading (lits t) c) (clause_at vars cs place c k e) refl (open_at (lits t) cs place c h e)
 
-  -- and so the first of them
-  pub models : (formula learnt : List (List ℤ)) → all_clauses ≡ formula ++ learnt → AreClauses vars all_clauses
-      → settled all_clauses (lits t) ≡ true → formula_true (value_of (values_of vars (lits t))) formula ≡ true
-  models formula learnt e k h =
-      (and_parts (formula_true (value_of (values_of vars (lits t))) formula)
-      (formula_true (value_of (values_of vars (lits t))) learnt)
-      (sym (list_all-append (clause_true (value_of (values_of vars (lits t)))) formula learnt)
-      ∙ ap (formula_true (value_of (values_of vars (lits t)))) (sym e) ∙ all_hold all_clauses k h)).0
+  all_hold : (cs : List (List ℤ))
+      → ((place : ℕ) (c : List ℤ) → slice_get cs place ≡ Some c
+      → clause_true (value_of (values_of vars (lits t))) c ≡ true)
+      → formula_true (value_of (values_of vars (lits t))) cs ≡ true
+  all_hold [] h = refl
+  all_hold (c ∷ cs) h =
+      and_from (clause_true (value_of (values_of vars (lits t))) c)
+      (formula_true (value_of (values_of vars (lits t))) cs) (h zero c refl)
+      (all_hold cs (λ place d e. h (suc place) d e))
+
+  -- and so the formula's, which have the first places
+  pub models : (formula : List (List ℤ))
+      → ((place : ℕ) (c : List ℤ) → slice_get formula place ≡ Some c → slice_get all_clauses place ≡ Some c)
+      → AreClauses vars all_clauses → settled all_clauses (lits t) ≡ true
+      → formula_true (value_of (values_of vars (lits t))) formula ≡ true
+  models formula begins k h =
+      all_hold formula (λ place c e. holds_at all_clauses place c k h (begins place c e))

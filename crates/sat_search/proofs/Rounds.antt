@@ -1,5 +1,5 @@
 -- What falls with each round: a variable gets its value, or one clause fewer is left to be learnt.
-use Rattle.std.proofs.Common.{◌≡◌, ℕ, zero, suc, ◌+◌, ◌<◌, ◌≤◌, Bool, true, false, cond, List}
+use Rattle.std.proofs.Common.{◌≡◌, ℕ, zero, suc, ◌+◌, ◌*◌, ◌-◌, ◌^◌, ◌<◌, ◌≤◌, ◌⊎◌, Bool, true, false, cond, List}
 use Rattle.std.proofs.Common.{◌∷◌, ℤ, pos, negsuc}
 use Rattle.std.proofs.Common.{neg_ℤ, refl, ap, sym, subst, ◌∙◌, inl, inr, arith}
 use Rattle.std.proofs.lemmas.Bool.{false≢true, cases_eq, or_from}
@@ -83,9 +83,20 @@ value_falls vars left e t whole w k h f =
     let b : rounds vars left (e ∷ t) < rounds vars left t = omega (arith, a) in
     subst P (sym w) b
 
-pub clause_falls : (vars left now : ℕ) (t u : Entries) → left ≡ now + 1 → rounds vars now t < rounds vars left u
-clause_falls vars left now t u e =
-    let a = open_few vars (lits t) in
+falls_by : (vars now more : ℕ) (t u : Entries) → rounds vars now t < rounds vars (now + 1 + more) u
+falls_by vars now more t u = let a = open_few vars (lits t) in omega (arith, a)
+
+pub rank_falls : (vars rest now : ℕ) (t u : Entries) → now < rest → rounds vars now t < rounds vars rest u
+rank_falls vars rest now t u h =
+    let e : rest ≡ now + 1 + (rest - (now + 1)) = omega (arith, h) in
     let P : ℕ → Type 0 = λ z. rounds vars now t < rounds vars z u in
-    let b : rounds vars now t < rounds vars (now + 1) u = omega (arith, a) in
-    subst P (sym e) b
+    subst P (sym e) (falls_by vars now (rest - (now + 1)) t u)
+
+-- one clause fewer is left to learn, whatever was dropped
+pub new_falls : (left now a b : ℕ) → left ≡ now + 1 → (b ≡ a) ⊎ (b < 2 ^ 63) → now * 2 ^ 64 + b < left * 2 ^ 64 + a
+new_falls left now a b e (inl h) = omega (arith, e, h)
+new_falls left now a b e (inr h) = omega (arith, e, h)
+
+-- one that was dropped comes back
+pub old_falls : (left a b : ℕ) → b + 1 ≡ a → left * 2 ^ 64 + b < left * 2 ^ 64 + a
+old_falls left a b e = omega (arith, e)

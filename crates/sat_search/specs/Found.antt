@@ -1,10 +1,7 @@
 -- What a search answers. Rule of this project.
-use Rattle.std.specs.Prelude.{ℕ, ◌≡◌, Bool, true, not, List, [], ◌∷◌, ℤ, filter}
-use Rattle.cnf_form.specs.Cnf.{AreLiterals}
+use Rattle.std.specs.Prelude.{Bool, not, List, ℤ, filter}
 use Rattle.lrat_check.specs.declared.step.Step.{Step}
-use Rattle.lrat_check.specs.declared.step.Step.TheVariants.{Add, Delete}
 use Rattle.lrat_check.specs.Steps.{is_empty}
-use Rattle.lrat_check.specs.Resolved.{consistent}
 use Rattle.sat_search.specs.declared.found.Found.{Found}
 use Rattle.sat_search.specs.declared.found.Found.TheVariants.{Model, Refuted, Spent}
 
@@ -35,9 +32,3 @@ IfSteps (Spent steps) P = P steps
 -- the clauses that have a literal
 abbrev pub nonempty : List (List ℤ) → List (List ℤ)
 nonempty clauses = filter (λ c. not (is_empty c)) clauses
-
--- each added clause names variables of the formula, and no literal of it is another one's complement
-abbrev pub AreAdded : ℕ → List Step → Type 0
-AreAdded vars [] = Unit {0}
-AreAdded vars (Add id lits hints ∷ steps) = AreLiterals vars lits × (consistent lits ≡ true) × AreAdded vars steps
-AreAdded vars (Delete id ids ∷ steps) = AreAdded vars steps

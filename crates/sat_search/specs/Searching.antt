@@ -6,9 +6,7 @@ use Rattle.std.specs.Prelude.{
   suc,
   ◌+◌,
   ◌*◌,
-  ◌-◌,
   ◌^◌,
-  ◌<◌,
   ◌≡◌,
   Bool,
   true,
@@ -17,15 +15,15 @@ use Rattle.std.specs.Prelude.{
   ◌&&◌,
   ◌||◌,
 }
-use Rattle.std.specs.Prelude.{if◌then◌else◌, List, [], ◌∷◌, ◌++◌, ℤ, pos, length}
+use Rattle.std.specs.Prelude.{if◌then◌else◌, List, [], ◌∷◌, ℤ, pos, length}
 use Rattle.std.specs.List.{list_all}
 use Rattle.cnf_form.specs.Cnf.{AreLiterals, AreClauses}
-use Rattle.lrat_check.specs.declared.step.Step.{Step}
 use Rattle.lrat_check.specs.Sets.{has, is_false}
-use Rattle.lrat_check.specs.Steps.{judged, is_empty}
-use Rattle.lrat_check.specs.Resolved.{Resolved, derived_from, consistent}
+use Rattle.lrat_check.specs.Steps.{is_empty}
+use Rattle.lrat_check.specs.Resolved.{consistent}
 use Rattle.sat_trail.specs.Trail.{Entries, lits, Stand, is_assigned}
-use Rattle.sat_search.specs.Found.{AreAdded}
+use Rattle.clause_set.specs.Known.{many}
+use Rattle.sat_ledger.specs.Ledger.{State as Ledger, Tells}
 
 -- how many of the variables up to one have no value
 abbrev pub open_vars : ℕ → List ℤ → ℕ
@@ -48,24 +46,24 @@ abbrev pub Apart : ℕ → List (List ℤ) → Type 0
 Apart vars [] = Unit {0}
 Apart vars (c ∷ cs) = (list_all (differ vars c) cs ≡ true) × Apart vars cs
 
--- the clauses are those of the formula and then the learnt ones; whatever more steps come, they go on from here
-pub record Searching (vars budget : ℕ) (formula clauses : List (List ℤ)) (trail : Entries) (steps : List Step)
-    (left : ℕ) : Type 0 where
-  pub stand : Stand clauses trail
-  pub names : AreClauses vars clauses
+-- the trail stands over the clauses that are held; the steps so far derive clauses that were learnt, which differ from
+-- one another, and as many more may be learnt as are left of the budget
+pub record Searching (vars budget : ℕ) (formula : List (List ℤ)) (book : Ledger) (trail : Entries) (left : ℕ)
+    : Type 0 where
+  pub stand : Stand book.clauses trail
   pub known : AreLiterals vars (lits trail)
-  pub few : length clauses < 2 ^ 63 - 1
   pub learnt : List (List ℤ)
-  pub joined : clauses ≡ formula ++ learnt
-  pub tells : (more : List Step) → judged formula (steps ++ more) ≡ judged clauses more
-  pub resolved : (more : List Step) → Resolved clauses more → Resolved formula (steps ++ more)
-  pub derives : (more : List Step) → derived_from formula (steps ++ more) ≡ learnt ++ derived_from clauses more
-  pub added : (more : List Step) → AreAdded vars more → AreAdded vars (steps ++ more)
+  pub told : Tells vars formula learnt book
+  pub learnt_names : AreClauses vars learnt
   pub counted : length learnt + left ≡ budget
   pub some : list_all (λ c. not (is_empty c)) learnt ≡ true
   pub pairless : list_all consistent learnt ≡ true
   pub apart : Apart vars learnt
 
+-- what falls with each clause: how many may still be learnt, and behind that how many were dropped and not learnt again
+abbrev pub rank : ℕ → Ledger → ℕ
+rank left book = left * 2 ^ 64 + many book.dropped
+
 -- what falls with each round
 abbrev pub rounds : ℕ → ℕ → Entries → ℕ
-rounds vars left trail = left * (vars + 1) + open_vars vars (lits trail)
+rounds vars rest trail = rest * (vars + 1) + open_vars vars (lits trail)

@@ -7,6 +7,7 @@ mod search;
 mod shared;
 mod solving;
 mod turn;
+mod usage;
 
 pub use found::Found;
 pub use solving::solve;

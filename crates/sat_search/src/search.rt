@@ -1,14 +1,15 @@
-ghost use Rattle.std.specs.Prelude.{◌≡◌, ◌+◌, ◌-◌, ◌<◌, ◌^◌, pos, true, false, IfOk};
-ghost use Rattle.cnf_form.specs.Cnf.{AreClauses};
+ghost use Rattle.std.specs.Prelude.{◌≡◌, ◌+◌, ◌-◌, ◌<◌, ◌^◌, pos, true, false, IfOk, OnOk};
 ghost use Rattle.lrat_check.specs.Sets.{has};
 ghost use Rattle.sat_trail.specs.Trail.{lits, decided, values_of};
-ghost use Rattle.sat_search.specs.Turns.{Keeps, IsSearch, Looked, Turns};
+ghost use Rattle.sat_search.specs.Turns.{Keeps, IsSearch, Looked, Learned, GoesOn, Turns};
 
 use crate::turn::Turn;
+use crate::usage::Usage;
 use cnf_form::Formula;
 use fv_base::{List, Memory};
 use lrat_check::Step;
-use sat_learn::{Learner, MOST_CLAUSES, add};
+use sat_learn::{Learner, Learnt};
+use sat_ledger::Ledger;
 use sat_order::Order;
 use sat_trail::{Entry, Trail};
 use sat_unit::{Propagation, Scan};
@@ -20,15 +21,15 @@ use std::marker::Model;
 pub(crate) struct Search {
     alloc: Global,
     vars: u64,
-    /// Those of the formula, and the learnt ones behind them.
-    clauses: List<List<i64>>,
+    /// The clauses of the formula and the learnt ones.
+    ledger: Ledger,
     trail: Trail,
-    steps: List<Step>,
     /// How many clauses may still be learnt.
     left: u64,
     propagation: Propagation,
     order: Order,
     learner: Learner,
+    usage: Usage,
 }
 
 impl Model for Search {
@@ -38,9 +39,8 @@ impl Model for Search {
 
     ghost view = { λ s. record {
       vars = s.vars;
-      clauses = s.clauses;
+      ledger = s.ledger;
       trail = s.trail;
-      steps = s.steps;
       left = s.left;
       taken = s.propagation;
     } };
@@ -53,20 +53,18 @@ impl Search {
         ensures keeps { IfOk result (λ search. Keeps budget formula.now.clauses search) }
         ensures vars { IfOk result (λ search. search.vars ≡ formula.now.vars) }
     {
-        let clauses = copied(alloc, formula)?;
-        if clauses.len() >= MOST_CLAUSES {
-            return Err(Memory);
-        }
+        let ledger = Ledger::new(alloc, formula)?;
+        let order = order_of(alloc, formula)?;
         Ok(Search {
             alloc,
             vars: formula.vars(),
-            clauses,
+            ledger,
             trail: Trail::new(alloc),
-            steps: List::new(alloc),
             left: budget,
             propagation: Propagation::new(alloc),
-            order: order_of(alloc, formula)?,
+            order,
             learner: Learner::new(alloc),
+            usage: Usage::new(alloc, formula.len()),
         })
     }
 
@@ -75,7 +73,7 @@ impl Search {
         requires { IsSearch self.old }
         ensures { IfOk result (λ turn. Turns self.old self.new turn) }
     {
-        let scan = self.propagation.next(self.clauses.as_slice(), &self.trail)?;
+        let scan = self.propagation.next(self.ledger.clauses(), &self.trail)?;
         match scan {
             Scan::Unit(place, lit) => self.force(place, lit),
             Scan::Settled => self.decide(),
@@ -125,19 +123,69 @@ impl Search {
         requires decided { decided self.old.trail ≡ true }
         ensures { IfOk result (λ turn. Turns self.old self.new turn) }
     {
-        self.learner
-            .learn(&mut self.clauses, &mut self.trail, &mut self.steps, place)?;
-        note(
-            &mut self.order,
-            self.clauses.as_slice(),
-            self.steps.as_slice(),
-            self.trail.len(),
-        );
+        let is_new = self.add_learnt(place)?;
+        if !is_new {
+            return Ok(Turn::On);
+        }
         self.left -= 1;
         if self.left == 0 {
             return Ok(Turn::Spent);
         }
+        self.tidy()?;
         Ok(Turn::On)
+    }
+
+    /// The clause that is learnt joins the others, and the trail is cut. Whether it is new.
+    fn add_learnt(&mut self, place: usize) -> Result<bool, Memory>
+        requires search { IsSearch self.old }
+        requires looked { Looked self.old (Scan.Conflict place) }
+        requires decided { decided self.old.trail ≡ true }
+        ensures { IfOk result (λ is_new. Learned self.old self.new is_new) }
+    {
+        let learnt = self.learner.learn(
+            self.ledger.clauses(),
+            self.ledger.dropped(),
+            &mut self.trail,
+            place,
+        )?;
+        let Learnt { lits, mut hints } = learnt;
+        hints.reverse();
+        let is_new = self.ledger.add(&lits, &hints)?;
+        note(
+            &mut self.order,
+            &mut self.usage,
+            self.ledger.clauses(),
+            &hints,
+            self.trail.len(),
+        )?;
+        Ok(is_new)
+    }
+
+    /// Lets go of clauses, where there are many.
+    fn tidy(&mut self) -> Result<(), Memory>
+        requires { IsSearch self.old }
+        ensures { OnOk result (GoesOn self.old self.new) }
+    {
+        if self.usage.is_due(self.ledger.first()) {
+            return self.forget();
+        }
+        Ok(())
+    }
+
+    /// Lets go of learnt clauses, and begins anew with those that stay.
+    fn forget(&mut self) -> Result<(), Memory>
+        requires { IsSearch self.old }
+        ensures { OnOk result (GoesOn self.old self.new) }
+    {
+        let wanted = self
+            .usage
+            .wanted(self.ledger.first(), self.ledger.clauses(), &self.trail)?;
+        self.ledger.forget(&wanted)?;
+        self.usage.forget(&wanted);
+        self.trail = Trail::new(self.alloc);
+        self.propagation = Propagation::new(self.alloc);
+        self.order.cut(0);
+        Ok(())
     }
 
     /// The clause at the place is false with no decision.
@@ -149,8 +197,10 @@ impl Search {
     {
         let learnt = self
             .learner
-            .to_empty(self.clauses.as_slice(), &mut self.trail, place)?;
-        add(self.alloc, &mut self.clauses, &mut self.steps, learnt)?;
+            .to_empty(self.ledger.clauses(), &mut self.trail, place)?;
+        let Learnt { lits, mut hints } = learnt;
+        hints.reverse();
+        self.ledger.add(&lits, &hints)?;
         Ok(Turn::Refuted)
     }
 
@@ -163,10 +213,10 @@ impl Search {
     }
 
     pub(crate) fn into_steps(self) -> List<Step>
-        ensures { result ≡ self.steps }
+        ensures { result ≡ self.ledger.steps }
     {
-        let Search { steps, .. } = self;
-        steps
+        let Search { ledger, .. } = self;
+        ledger.into_steps()
     }
 }
 
@@ -179,30 +229,24 @@ fn order_of(alloc: Global, formula: &Formula) -> Result<Order, Memory> {
     Ok(order)
 }
 
-/// A conflict is over, and the trail cut to so many entries: the variables of the last step's hints took part in it.
-fn note(order: &mut Order, clauses: &[List<i64>], steps: &[Step], len: usize) {
-    if let Some(Step::Add { hints, .. }) = steps.last() {
-        for hint in hints.as_slice() {
-            let place = (hint.unsigned_abs() as usize).saturating_sub(1);
-            if let Some(clause) = clauses.get(place) {
-                order.bump(clause.as_slice());
-            }
+/// A conflict is over, and the trail cut to so many entries: the hints' clauses and their variables took part in it.
+fn note(
+    order: &mut Order,
+    usage: &mut Usage,
+    clauses: &[List<i64>],
+    hints: &[i64],
+    len: usize,
+) -> Result<(), Memory> {
+    for hint in hints {
+        let place = (hint.unsigned_abs() as usize).saturating_sub(1);
+        usage.bump(place);
+        if let Some(clause) = clauses.get(place) {
+            order.bump(clause.as_slice());
         }
     }
     order.decay();
     order.cut(len);
-}
-
-/// A copy of the formula's clauses.
-fn copied(alloc: Global, formula: &Formula) -> Result<List<List<i64>>, Memory>
-    ensures value { IfOk result (λ clauses. clauses ≡ formula.now.clauses) }
-    ensures literals { IfOk result (λ clauses. AreClauses formula.now.vars clauses) }
-{
-    let mut clauses = List::new(alloc);
-    for clause in formula.clauses() {
-        clauses.push(List::from_vec(Vec::from_slice(alloc, clause.as_slice())?))?;
-    }
-    Ok(clauses)
+    usage.decay(clauses.len())
 }
 
 /// Whether each variable is true on the trail, variable 1 first.

@@ -1,11 +1,12 @@
-use Rattle.std.proofs.Common.{◌≡◌, ◌<◌, ◌^◌, ◌∙◌, ℕ, List, ℤ, length, ap, sym, subst}
+use Rattle.std.proofs.Common.{◌≡◌, ◌<◌, ◌^◌, ◌∙◌, ℕ, List, length, ap, sym, subst}
 use Rattle.cnf_form.specs.Cnf.{formula_true, value_of}
 use Rattle.lrat_check.specs.declared.step.Step.{Step}
 use Rattle.lrat_check.specs.Resolved.{Resolved, derived}
 use Rattle.lrat_check.specs.Steps.{Refutes, Valid, AreSteps}
 use Rattle.sat_trail.specs.Trail.{lits}
+use Rattle.sat_ledger.specs.Added.{AreAdded}
 use Rattle.sat_search.specs.declared.turn.Turn.TheVariants as turn
-use Rattle.sat_search.specs.Found.{AreAdded, nonempty}
+use Rattle.sat_search.specs.Found.{nonempty}
 use Rattle.sat_search.proofs.Comes.{comes}
 use Rattle.sat_search.proofs.Models.{length_values}
 use Rattle.sat_search.proofs.solving.solve.Goals as goal
@@ -26,7 +27,7 @@ turns-preserved c =
     (came.0, c.in_ok-turn.ensures.0 ∙ c.turns.invariant.1)
 
 pub values-requires : goal.values-requires
-values-requires c = subst (λ n. n < 2 ^ 63) (sym c.in_ok-turn.ensures.0) c.turns.invariant.0.small
+values-requires c = subst (λ n. n < 2 ^ 63) (sym c.in_ok-turn.ensures.0) c.turns.invariant.0.searching.told.small
 
 pub returns-in-Satisfied-clause-len : goal.returns-in-Satisfied-clause-len
 returns-in-Satisfied-clause-len c =
@@ -62,7 +63,7 @@ returns-in-Refuted-clause-added c =
     turn.Refuted
     c.in_ok-turn.ensures c.in-Refuted.is c.turns.invariant.0 in
     let P : List Step → Type 0 = λ z. AreAdded c.args.formula.now.vars z in
-    subst P (sym c.into_steps.ensures) (subst (λ n. AreAdded n c.turn.new.self.steps) (c.in_ok-turn.ensures.0 ∙
+    subst P (sym c.into_steps.ensures) (subst (λ n. AreAdded n c.turn.new.self.ledger.steps) (c.in_ok-turn.ensures.0 ∙
     c.turns.invariant.1) came.added)
 
 pub returns-in-Refuted-clause-steps : goal.returns-in-Refuted-clause-steps
@@ -110,7 +111,7 @@ returns-in-Spent-clause-added c =
     turn.Spent
     c.in_ok-turn.ensures c.in-Spent.is c.turns.invariant.0 in
     let P : List Step → Type 0 = λ z. AreAdded c.args.formula.now.vars z in
-    subst P (sym c.into_steps-in-Spent.ensures) (subst (λ n. AreAdded n c.turn.new.self.steps)
+    subst P (sym c.into_steps-in-Spent.ensures) (subst (λ n. AreAdded n c.turn.new.self.ledger.steps)
     (c.in_ok-turn.ensures.0 ∙ c.turns.invariant.1) came.added)
 
 pub returns-in-Spent-clause-steps : goal.returns-in-Spent-clause-steps

@@ -10,9 +10,8 @@ returns-in-None c =
     let i = c.self.inside in
     let s : State = record {
       vars = i.vars;
-      clauses = i.clauses;
+      ledger = i.ledger;
       trail = i.trail;
-      steps = i.steps;
       left = i.left;
       taken = i.propagation;
     } in
@@ -24,9 +23,8 @@ returns-in_ok-push-in-Some c =
     let i = c.self.inside in
     let s : State = record {
       vars = i.vars;
-      clauses = i.clauses;
+      ledger = i.ledger;
       trail = i.trail;
-      steps = i.steps;
       left = i.left;
       taken = i.propagation;
     } in

@@ -10,9 +10,8 @@ push-requires-clause-lit c =
     let i = c.self.inside in
     let s : State = record {
       vars = i.vars;
-      clauses = i.clauses;
+      ledger = i.ledger;
       trail = i.trail;
-      steps = i.steps;
       left = i.left;
       taken = i.propagation;
     } in
@@ -25,9 +24,8 @@ push-requires-clause-fresh c =
     let i = c.self.inside in
     let s : State = record {
       vars = i.vars;
-      clauses = i.clauses;
+      ledger = i.ledger;
       trail = i.trail;
-      steps = i.steps;
       left = i.left;
       taken = i.propagation;
     } in
@@ -40,9 +38,8 @@ returns c =
     let i = c.self.inside in
     let s : State = record {
       vars = i.vars;
-      clauses = i.clauses;
+      ledger = i.ledger;
       trail = i.trail;
-      steps = i.steps;
       left = i.left;
       taken = i.propagation;
     } in

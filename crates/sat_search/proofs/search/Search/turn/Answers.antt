@@ -13,57 +13,53 @@ next-requires-clause-holds c =
     let i = c.self.inside in
     let s : State = record {
       vars = i.vars;
-      clauses = i.clauses;
+      ledger = i.ledger;
       trail = i.trail;
-      steps = i.steps;
       left = i.left;
       taken = i.propagation;
     } in
     let k : IsSearch s = subst IsSearch (sym c.self.view_is) c.requires in
-    subst (λ z. Holds z s.trail s.taken) (sym c.as_slice.ensures) k.2.holds
+    subst (λ z. Holds z s.trail s.taken) (sym c.clauses.ensures) k.2.holds
 
 pub next-requires-clause-stand : goal.next-requires-clause-stand
 next-requires-clause-stand c =
     let i = c.self.inside in
     let s : State = record {
       vars = i.vars;
-      clauses = i.clauses;
+      ledger = i.ledger;
       trail = i.trail;
-      steps = i.steps;
       left = i.left;
       taken = i.propagation;
     } in
     let k : IsSearch s = subst IsSearch (sym c.self.view_is) c.requires in
-    subst (λ z. Stand z s.trail) (sym c.as_slice.ensures) (stands s k)
+    subst (λ z. Stand z s.trail) (sym c.clauses.ensures) (stands s k)
 
 pub next-requires-clause-lits : goal.next-requires-clause-lits
 next-requires-clause-lits c =
     let i = c.self.inside in
     let s : State = record {
       vars = i.vars;
-      clauses = i.clauses;
+      ledger = i.ledger;
       trail = i.trail;
-      steps = i.steps;
       left = i.left;
       taken = i.propagation;
     } in
     let k : IsSearch s = subst IsSearch (sym c.self.view_is) c.requires in
-    subst AllLits (sym c.as_slice.ensures) (all_are_lits s k)
+    subst AllLits (sym c.clauses.ensures) (all_are_lits s k)
 
 pub force-requires-clause-search : goal.force-requires-clause-search
 force-requires-clause-search c =
     let i = c.self.inside in
     let s : State = record {
       vars = i.vars;
-      clauses = i.clauses;
+      ledger = i.ledger;
       trail = i.trail;
-      steps = i.steps;
       left = i.left;
       taken = i.propagation;
     } in
     let k : IsSearch s = subst IsSearch (sym c.self.view_is) c.requires in
-    let looked = looked_at s c.next.new.self c.as_slice.result.now c.in_ok-scan.scan (scan.Unit c.in-Unit.place
-    c.in-Unit.lit) c.as_slice.ensures
+    let looked = looked_at s c.next.new.self c.clauses.result.now c.in_ok-scan.scan (scan.Unit c.in-Unit.place
+    c.in-Unit.lit) c.clauses.ensures
     c.in_ok-scan.ensures.sees c.in_ok-scan.ensures.holds c.in-Unit.is in
     searches_behind s c.next.new.self (scan.Unit c.in-Unit.place c.in-Unit.lit) looked k
 
@@ -72,15 +68,14 @@ force-requires-clause-looked c =
     let i = c.self.inside in
     let s : State = record {
       vars = i.vars;
-      clauses = i.clauses;
+      ledger = i.ledger;
       trail = i.trail;
-      steps = i.steps;
       left = i.left;
       taken = i.propagation;
     } in
     let k : IsSearch s = subst IsSearch (sym c.self.view_is) c.requires in
-    let looked = looked_at s c.next.new.self c.as_slice.result.now c.in_ok-scan.scan (scan.Unit c.in-Unit.place
-    c.in-Unit.lit) c.as_slice.ensures
+    let looked = looked_at s c.next.new.self c.clauses.result.now c.in_ok-scan.scan (scan.Unit c.in-Unit.place
+    c.in-Unit.lit) c.clauses.ensures
     c.in_ok-scan.ensures.sees c.in_ok-scan.ensures.holds c.in-Unit.is in
     forced_kept (with_taken s c.next.new.self) c.in-Unit.place c.in-Unit.lit looked
     (searches_behind s c.next.new.self (scan.Unit c.in-Unit.place c.in-Unit.lit) looked k)
@@ -90,14 +85,13 @@ decide-requires-clause-search c =
     let i = c.self.inside in
     let s : State = record {
       vars = i.vars;
-      clauses = i.clauses;
+      ledger = i.ledger;
       trail = i.trail;
-      steps = i.steps;
       left = i.left;
       taken = i.propagation;
     } in
     let k : IsSearch s = subst IsSearch (sym c.self.view_is) c.requires in
-    let looked = looked_at s c.next.new.self c.as_slice.result.now c.in_ok-scan.scan scan.Settled c.as_slice.ensures
+    let looked = looked_at s c.next.new.self c.clauses.result.now c.in_ok-scan.scan scan.Settled c.clauses.ensures
     c.in_ok-scan.ensures.sees c.in_ok-scan.ensures.holds c.in-Settled.is in
     searches_behind s c.next.new.self scan.Settled looked k
 
@@ -106,14 +100,13 @@ decide-requires-clause-looked c =
     let i = c.self.inside in
     let s : State = record {
       vars = i.vars;
-      clauses = i.clauses;
+      ledger = i.ledger;
       trail = i.trail;
-      steps = i.steps;
       left = i.left;
       taken = i.propagation;
     } in
     let k : IsSearch s = subst IsSearch (sym c.self.view_is) c.requires in
-    let looked = looked_at s c.next.new.self c.as_slice.result.now c.in_ok-scan.scan scan.Settled c.as_slice.ensures
+    let looked = looked_at s c.next.new.self c.clauses.result.now c.in_ok-scan.scan scan.Settled c.clauses.ensures
     c.in_ok-scan.ensures.sees c.in_ok-scan.ensures.holds c.in-Settled.is in
     looked
 
@@ -122,15 +115,14 @@ learn-requires-clause-search c =
     let i = c.self.inside in
     let s : State = record {
       vars = i.vars;
-      clauses = i.clauses;
+      ledger = i.ledger;
       trail = i.trail;
-      steps = i.steps;
       left = i.left;
       taken = i.propagation;
     } in
     let k : IsSearch s = subst IsSearch (sym c.self.view_is) c.requires in
-    let looked = looked_at s c.next.new.self c.as_slice.result.now c.in_ok-scan.scan (scan.Conflict
-    c.in-Conflict.place) c.as_slice.ensures
+    let looked = looked_at s c.next.new.self c.clauses.result.now c.in_ok-scan.scan (scan.Conflict
+    c.in-Conflict.place) c.clauses.ensures
     c.in_ok-scan.ensures.sees c.in_ok-scan.ensures.holds c.in-Conflict.is in
     searches_behind s c.next.new.self (scan.Conflict c.in-Conflict.place) looked k
 
@@ -139,15 +131,14 @@ learn-requires-clause-looked c =
     let i = c.self.inside in
     let s : State = record {
       vars = i.vars;
-      clauses = i.clauses;
+      ledger = i.ledger;
       trail = i.trail;
-      steps = i.steps;
       left = i.left;
       taken = i.propagation;
     } in
     let k : IsSearch s = subst IsSearch (sym c.self.view_is) c.requires in
-    let looked = looked_at s c.next.new.self c.as_slice.result.now c.in_ok-scan.scan (scan.Conflict
-    c.in-Conflict.place) c.as_slice.ensures
+    let looked = looked_at s c.next.new.self c.clauses.result.now c.in_ok-scan.scan (scan.Conflict
+    c.in-Conflict.place) c.clauses.ensures
     c.in_ok-scan.ensures.sees c.in_ok-scan.ensures.holds c.in-Conflict.is in
     looked
 
@@ -156,15 +147,14 @@ refute-requires-clause-search c =
     let i = c.self.inside in
     let s : State = record {
       vars = i.vars;
-      clauses = i.clauses;
+      ledger = i.ledger;
       trail = i.trail;
-      steps = i.steps;
       left = i.left;
       taken = i.propagation;
     } in
     let k : IsSearch s = subst IsSearch (sym c.self.view_is) c.requires in
-    let looked = looked_at s c.next.new.self c.as_slice.result.now c.in_ok-scan.scan (scan.Conflict
-    c.in-Conflict.place) c.as_slice.ensures
+    let looked = looked_at s c.next.new.self c.clauses.result.now c.in_ok-scan.scan (scan.Conflict
+    c.in-Conflict.place) c.clauses.ensures
     c.in_ok-scan.ensures.sees c.in_ok-scan.ensures.holds c.in-Conflict.is in
     searches_behind s c.next.new.self (scan.Conflict c.in-Conflict.place) looked k
 
@@ -173,15 +163,14 @@ refute-requires-clause-looked c =
     let i = c.self.inside in
     let s : State = record {
       vars = i.vars;
-      clauses = i.clauses;
+      ledger = i.ledger;
       trail = i.trail;
-      steps = i.steps;
       left = i.left;
       taken = i.propagation;
     } in
     let k : IsSearch s = subst IsSearch (sym c.self.view_is) c.requires in
-    let looked = looked_at s c.next.new.self c.as_slice.result.now c.in_ok-scan.scan (scan.Conflict
-    c.in-Conflict.place) c.as_slice.ensures
+    let looked = looked_at s c.next.new.self c.clauses.result.now c.in_ok-scan.scan (scan.Conflict
+    c.in-Conflict.place) c.clauses.ensures
     c.in_ok-scan.ensures.sees c.in_ok-scan.ensures.holds c.in-Conflict.is in
     looked
 
@@ -190,14 +179,13 @@ returns-in-Unit c =
     let i = c.self.inside in
     let s : State = record {
       vars = i.vars;
-      clauses = i.clauses;
+      ledger = i.ledger;
       trail = i.trail;
-      steps = i.steps;
       left = i.left;
       taken = i.propagation;
     } in
-    let looked = looked_at s c.next.new.self c.as_slice.result.now c.in_ok-scan.scan (scan.Unit c.in-Unit.place
-    c.in-Unit.lit) c.as_slice.ensures
+    let looked = looked_at s c.next.new.self c.clauses.result.now c.in_ok-scan.scan (scan.Unit c.in-Unit.place
+    c.in-Unit.lit) c.clauses.ensures
     c.in_ok-scan.ensures.sees c.in_ok-scan.ensures.holds c.in-Unit.is in
     subst (λ z. IfOk c.force.result (Turns z c.force.new.self)) c.self.view_is
     (turn_from s c.next.new.self c.force.new.self (scan.Unit c.in-Unit.place c.in-Unit.lit) c.force.result looked
@@ -208,13 +196,12 @@ returns-in-Settled c =
     let i = c.self.inside in
     let s : State = record {
       vars = i.vars;
-      clauses = i.clauses;
+      ledger = i.ledger;
       trail = i.trail;
-      steps = i.steps;
       left = i.left;
       taken = i.propagation;
     } in
-    let looked = looked_at s c.next.new.self c.as_slice.result.now c.in_ok-scan.scan scan.Settled c.as_slice.ensures
+    let looked = looked_at s c.next.new.self c.clauses.result.now c.in_ok-scan.scan scan.Settled c.clauses.ensures
     c.in_ok-scan.ensures.sees c.in_ok-scan.ensures.holds c.in-Settled.is in
     subst (λ z. IfOk c.decide.result (Turns z c.decide.new.self)) c.self.view_is
     (turn_from s c.next.new.self c.decide.new.self scan.Settled c.decide.result looked c.decide.ensures)
@@ -224,14 +211,13 @@ returns-then-has_decision c =
     let i = c.self.inside in
     let s : State = record {
       vars = i.vars;
-      clauses = i.clauses;
+      ledger = i.ledger;
       trail = i.trail;
-      steps = i.steps;
       left = i.left;
       taken = i.propagation;
     } in
-    let looked = looked_at s c.next.new.self c.as_slice.result.now c.in_ok-scan.scan (scan.Conflict
-    c.in-Conflict.place) c.as_slice.ensures
+    let looked = looked_at s c.next.new.self c.clauses.result.now c.in_ok-scan.scan (scan.Conflict
+    c.in-Conflict.place) c.clauses.ensures
     c.in_ok-scan.ensures.sees c.in_ok-scan.ensures.holds c.in-Conflict.is in
     subst (λ z. IfOk c.learn.result (Turns z c.learn.new.self)) c.self.view_is
     (turn_from s c.next.new.self c.learn.new.self (scan.Conflict c.in-Conflict.place) c.learn.result looked
@@ -242,14 +228,13 @@ returns-else-has_decision c =
     let i = c.self.inside in
     let s : State = record {
       vars = i.vars;
-      clauses = i.clauses;
+      ledger = i.ledger;
       trail = i.trail;
-      steps = i.steps;
       left = i.left;
       taken = i.propagation;
     } in
-    let looked = looked_at s c.next.new.self c.as_slice.result.now c.in_ok-scan.scan (scan.Conflict
-    c.in-Conflict.place) c.as_slice.ensures
+    let looked = looked_at s c.next.new.self c.clauses.result.now c.in_ok-scan.scan (scan.Conflict
+    c.in-Conflict.place) c.clauses.ensures
     c.in_ok-scan.ensures.sees c.in_ok-scan.ensures.holds c.in-Conflict.is in
     subst (λ z. IfOk c.refute.result (Turns z c.refute.new.self)) c.self.view_is
     (turn_from s c.next.new.self c.refute.new.self (scan.Conflict c.in-Conflict.place) c.refute.result looked
