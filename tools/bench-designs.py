@@ -1,18 +1,23 @@
 #!/usr/bin/env python3
 """Times elaboration, the order of drivers and lowering on large designs, over a program that is made, proved and built
-in a temporary folder (a long time, where nothing is kept). Not part of the gate.
+in a temporary folder (a long time, where nothing is kept), or over the proved program. Not part of the gate.
 
-    tools/bench-designs.py [--program PATH] [--stage elaborate|order|lower] [FILE.v ..]
+    tools/bench-designs.py [--program PATH | --rvf PATH] [--stage elaborate|order|lower] [FILE.v ..]
 
 FILE has a module `top` with its modules, and no directives. Prints for each design what was made of it, the processor
 seconds of the stage, which are those of the run less those of a run that ends before it, and the memory of the whole
 run. The fastest of three runs counts. --text NAME writes the text of that design to standard output.
+
+PATH behind --rvf is `rvf` or the program that it builds. Its runs end where a stage ends because the text is refused
+there: it has no top module, or too many bits of registers, which are counted behind all else, or it is too heavy. What
+the text gets for that has 514 names at most, by which designs of 200,000 names are smaller. Lowering is left out.
 """
 import argparse
 import contextlib
 import os
 import subprocess
 import sys
+import tempfile
 
 import made
 
@@ -230,7 +235,7 @@ MADE = [
     ("elaborate", "doubled", doubled, [24]),
     ("elaborate", "empty", empty, [500, 1_000]),
     ("order", "reverse", reverse, [50_000, 100_000, 200_000]),
-    ("order", "block", block, [25_000, 50_000, 100_000]),
+    ("order", "block", block, [50_000, 100_000, 200_000]),
     ("order", "words", words, [2_500, 5_000, 10_000]),
     ("lower", "sums", sums, [5_000_000, 10_000_000, 20_000_000]),
     ("lower", "signs", signs, [450_000, 900_000, 1_800_000]),
@@ -238,26 +243,51 @@ MADE = [
 ]
 
 
-def run(program, letter, text):
-    """Returns what the program says, its processor seconds, and its memory in megabytes."""
-    process = subprocess.Popen([program], stdin=subprocess.PIPE, stdout=subprocess.PIPE)
-    process.stdin.write(letter.encode() + text.encode())
-    process.stdin.close()
+# What the proved program gets to check, and what ends its run behind a part: behind parsing nothing has to be added.
+CONFIG = "[options]\nisa rv32i\n[depth]\nill 1\n[verilog-files]\nw.v\n"
+ENDS = {
+    "e": "reg [127:0] past [0:512];\n",
+    "o": "(* anyconst *) wire [127:0] free; genvar turn;\n"
+         "for (turn = 0; turn < 77; turn = turn + 1) begin : heavy wire [127:0] p = free * free; end\n",
+}
+SPARE = {"names": 514, "reverse": 514}
+
+
+def ended(process):
+    """Returns what a process says, its processor seconds, and its memory in megabytes."""
     said = process.stdout.read().decode().strip()
     usage = os.wait4(process.pid, 0)[2]
     return said, usage.ru_utime + usage.ru_stime, usage.ru_maxrss // 1024
 
 
-def timed(program, stage, title, text):
+def run(program, letter, text):
+    process = subprocess.Popen([program], stdin=subprocess.PIPE, stdout=subprocess.PIPE)
+    process.stdin.write(letter.encode() + text.encode())
+    process.stdin.close()
+    return ended(process)
+
+
+def run_rvf(program, letter, text):
+    if letter in ENDS:
+        text = text.replace("module top", "module rvfi_wrapper", 1).replace("endmodule", ENDS[letter] + "endmodule", 1)
+    with tempfile.TemporaryDirectory() as folder:
+        for name, content in [("checks.cfg", CONFIG), ("w.v", text)]:
+            with open(os.path.join(folder, name), "w") as file:
+                file.write(content)
+        return ended(subprocess.Popen([program, "run", "checks.cfg", "out"], cwd=folder, stdout=subprocess.PIPE))
+
+
+def timed(program, stage, title, text, runs):
     before, after = STAGES[stage]
-    first = min((run(program, before, text) for _ in range(3)), key=lambda found: found[1])
-    said, seconds, memory_used = min((run(program, after, text) for _ in range(3)), key=lambda found: found[1])
+    first = min((runs(program, before, text) for _ in range(3)), key=lambda found: found[1])
+    said, seconds, memory_used = min((runs(program, after, text) for _ in range(3)), key=lambda found: found[1])
     print(f"{stage} {title}: {said}; {seconds - first[1]:.2f} s, run {seconds:.2f} s, {memory_used} MB", flush=True)
 
 
 def main():
     options = argparse.ArgumentParser()
     options.add_argument("--program")
+    options.add_argument("--rvf")
     options.add_argument("--stage", choices=list(STAGES))
     options.add_argument("--text")
     options.add_argument("files", nargs="*")
@@ -265,16 +295,17 @@ def main():
     if options.text:
         sys.stdout.writelines(make(sizes[-1]) for _, title, make, sizes in MADE if title == options.text)
         return
-    built = contextlib.nullcontext(options.program) if options.program else \
-        made.program("designs", PROGRAM, LIBRARIES.split())
+    ready = options.program or options.rvf and os.path.abspath(options.rvf)
+    runs, spare, stages = (run_rvf, SPARE, ["elaborate", "order"]) if options.rvf else (run, {}, list(STAGES))
+    stages = [stage for stage in stages if options.stage in (None, stage)]
+    built = contextlib.nullcontext(ready) if ready else made.program("designs", PROGRAM, LIBRARIES.split())
     with built as program:
         for name in options.files:
             with open(name) as file:
-                timed(program, options.stage or "lower", name, file.read())
+                timed(program, stages[-1], name, file.read(), runs)
         for stage, title, make, sizes in [] if options.files else MADE:
-            if options.stage in (None, stage):
-                for size in sizes:
-                    timed(program, stage, f"{title} {size}", make(size))
+            for size in sizes if stage in stages else []:
+                timed(program, stage, f"{title} {size}", make(size - spare.get(title, 0)), runs)
 
 
 if __name__ == "__main__":

@@ -10,14 +10,16 @@ import subprocess
 import tempfile
 
 PROGRAM = os.path.join(os.path.dirname(os.path.abspath(__file__)), "..", "rvf")
+CONFIG = "[options]\nisa rv32i\n[depth]\nill 1\n[verilog-files]\nm.v\n"
 
 
 def run(text):
     """Returns the line of `rvf run` on the text, its processor seconds, and its memory in megabytes."""
     with tempfile.TemporaryDirectory() as folder:
-        with open(os.path.join(folder, "m.v"), "w") as file:
-            file.write(text)
-        process = subprocess.Popen([PROGRAM, "run", "m.v", "."], cwd=folder, stdout=subprocess.PIPE)
+        for name, content in [("checks.cfg", CONFIG), ("m.v", text)]:
+            with open(os.path.join(folder, name), "w") as file:
+                file.write(content)
+        process = subprocess.Popen([PROGRAM, "run", "checks.cfg", "out"], cwd=folder, stdout=subprocess.PIPE)
         line = process.stdout.read().decode()
         usage = os.wait4(process.pid, 0)[2]
         return line, usage.ru_utime + usage.ru_stime, usage.ru_maxrss // 1024
@@ -34,7 +36,7 @@ def main():
         text = "module m;\n" + "assign a = b;\n" * ((tokens - 5) // 5) + "endmodule\n"
         refused, before, _ = fastest(";" + text)
         taken, whole, memory = fastest(text)
-        right = (refused, taken) == ("source parse 1 m.v:1:1 -\n", "source first 1 - -\n")
+        right = (refused, taken) == ("source parse 1 m.v:1:1 -\n", "source elab 1 - rvfi_wrapper\n")
         print(f"{tokens} tokens: {'right' if right else 'WRONG'}, parser {whole - before:.2f} s, run {whole:.2f} s, {memory} MB")
 
 
