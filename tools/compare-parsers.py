@@ -13,6 +13,7 @@ import sys
 import tempfile
 
 PROGRAM = os.path.join(os.path.dirname(os.path.abspath(__file__)), "..", "rvf")
+CONFIG = "[options]\nisa rv32i\n[depth]\nill 1\n[verilog-files]\nm.v\n"
 
 LEVELS = ["*", "/", "%", "+", "-", "<<", ">>", "<<<", ">>>", "<", "<=", ">", ">=", "==", "!=", "===", "!==", "&", "^", "~^", "^~",
           "|", "&&", "||"]
@@ -189,14 +190,16 @@ class Texts:
 
 def answers(folder, tokens):
     """Returns whether rvf, Yosys and Icarus parse the text, and what rvf says."""
-    with open(os.path.join(folder, "m.v"), "w") as file:
-        file.write(" ".join(tokens) + "\n")
+    for name, text in [("checks.cfg", CONFIG), ("m.v", " ".join(tokens) + "\n")]:
+        with open(os.path.join(folder, name), "w") as file:
+            file.write(text)
     run = lambda words: subprocess.run(words, cwd=folder, capture_output=True, text=True)
-    line = run([PROGRAM, "run", "m.v", "."]).stdout
+    line = run([PROGRAM, "run", "checks.cfg", "out"]).stdout
     yosys = run(["yosys", "-Q", "-T", "-p", "read_verilog -defer -formal m.v"])
     icarus = run(["iverilog", "-g2005", "-t", "null", "m.v"])
     said = icarus.stdout + icarus.stderr
-    return line.startswith("source first"), "ERROR" not in yosys.stdout + yosys.stderr, "syntax error" not in said and "give up" not in said, line
+    parsed = line == "source elab 1 - rvfi_wrapper\n"
+    return parsed, "ERROR" not in yosys.stdout + yosys.stderr, "syntax error" not in said and "give up" not in said, line
 
 
 def main():
