@@ -12,10 +12,7 @@ import subprocess
 import sys
 import tempfile
 
-FIELDS = [("valid", 1), ("order", 64), ("insn", 32), ("trap", 1), ("halt", 1), ("intr", 1), ("mode", 2), ("ixl", 2),
-          ("rs1_addr", 5), ("rs2_addr", 5), ("rs1_rdata", 32), ("rs2_rdata", 32), ("rd_addr", 5), ("rd_wdata", 32),
-          ("pc_rdata", 32), ("pc_wdata", 32), ("mem_addr", 32), ("mem_rmask", 4), ("mem_wmask", 4), ("mem_rdata", 32),
-          ("mem_wdata", 32)]
+from clause_files import HEAD
 
 
 def read(path):
@@ -43,11 +40,6 @@ def main():
     widths, cycles = read(trace)
     source = open(text).read()
     free = re.findall(r"`rvformal_\w+\s*(?:\[[^]]*\])?\s*(\w+)\s*;", source)
-    outputs = ", ".join(f"output [{w - 1}:0] rvfi_{n}" for n, w in FIELDS)
-    conn = ", ".join(f".rvfi_{n}(rvfi_{n})" for n, _ in FIELDS)
-    head = f"`define RVFI_OUTPUTS {outputs}\n`define RVFI_CONN {conn}\n"
-    head += "".join(f"`define rvformal_{n} reg\n" for n in ("rand_reg", "const_rand_reg", "rand_const_reg"))
-    head += "`define RISCV_FORMAL\n`define RISCV_FORMAL_NRET 1\n`define RISCV_FORMAL_XLEN 32\n`define RISCV_FORMAL_ILEN 32\n"
     kept = [n for n in cycles[0] if n not in free and n != "reset"]
     steps = []
     for k, cycle in enumerate(cycles):
@@ -63,7 +55,7 @@ def main():
     bench = "module bench;\nreg clock = 0, reset = 0;\nrvfi_wrapper dut (.clock(clock), .reset(reset));\ninitial begin\n"
     bench += "\n".join(steps) + "\n$finish;\nend\nendmodule\n"
     with tempfile.TemporaryDirectory() as folder:
-        open(f"{folder}/t.v", "w").write(head + source + bench)
+        open(f"{folder}/t.v", "w").write(HEAD + source + bench)
         subprocess.run(["iverilog", "-g2005", "-o", f"{folder}/t", f"{folder}/t.v"], check=True)
         out = subprocess.run([f"{folder}/t"], check=True, capture_output=True, text=True).stdout
     other = same = 0
