@@ -112,7 +112,7 @@ def simulated(text, steps, declared=""):
 
 
 def free_names(text):
-    """The names that are free in each cycle, and those that are free once, by the macros that they are declared with."""
+    """The names that are free in each cycle, and those that are free once, by the macros of their declarations."""
     found = re.findall(r"`rvformal_(\w+)\s*(?:\[[^]]*\])?([^;]*);", text)
     each = [names.split(",") for macro, names in found if "const" not in macro]
     once = [names.split(",") for macro, names in found if "const" in macro]

@@ -3,16 +3,14 @@
 
     tools/replay-trace.py TRACE TEXT.v
 
-TRACE is the dump that `rvf run` left, TEXT.v the text of the check with all its macros but the predefined ones. The free names of
-the top module (those declared with the macros of free values), `reset` and what registers and words hold in the first cycle are
-taken from the trace; all other numbers are Icarus Verilog's.
+TRACE is the dump that `rvf run` left, TEXT.v the text of the check with all its macros but the predefined ones. The
+free names of the top module (those declared with the macros of free values), `reset` and what registers and words hold
+in the first cycle are taken from the trace; all other numbers are Icarus Verilog's.
 """
 import re
-import subprocess
 import sys
-import tempfile
 
-from clause_files import HEAD
+from clause_files import simulated
 
 
 def read(path):
@@ -48,18 +46,13 @@ def main():
         if k == 0:
             # a wire can't be assigned; a register's or a word's first number is what it holds
             regs = set(re.findall(r"(\w+)\s*(?:\[[^]]*\])?\s*<=", source))
-            steps += [f"dut.{n} = {widths[n]}'d{cycle[n]};" for n in kept if re.sub(r"\[\d+\]$", "", n.split(".")[-1]) in regs]
+            held = [n for n in kept if re.sub(r"\[\d+\]$", "", n.split(".")[-1]) in regs]
+            steps += [f"dut.{n} = {widths[n]}'d{cycle[n]};" for n in held]
         steps += ["#1;"]
         steps += [f'$display("{k} {n} %0d", dut.{n});' for n in kept]
         steps += ["clock = 1; #1; clock = 0; #1;"]
-    bench = "module bench;\nreg clock = 0, reset = 0;\nrvfi_wrapper dut (.clock(clock), .reset(reset));\ninitial begin\n"
-    bench += "\n".join(steps) + "\n$finish;\nend\nendmodule\n"
-    with tempfile.TemporaryDirectory() as folder:
-        open(f"{folder}/t.v", "w").write(HEAD + source + bench)
-        subprocess.run(["iverilog", "-g2005", "-o", f"{folder}/t", f"{folder}/t.v"], check=True)
-        out = subprocess.run([f"{folder}/t"], check=True, capture_output=True, text=True).stdout
     other = same = 0
-    for line in out.splitlines():
+    for line in simulated(source, steps).splitlines():
         parts = line.split()
         if len(parts) == 3 and parts[0].isdigit():
             wanted = cycles[int(parts[0])][parts[1]]
