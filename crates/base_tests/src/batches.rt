@@ -51,6 +51,23 @@ impl Job for Meeting<'_> {
     }
 }
 
+/// The job with number 2 has no memory.
+#[derive(Clone, Copy)]
+struct Wanting;
+
+impl Job for Wanting {
+    type Answer = u64;
+
+    ghost is_answer = { λ job index answer. Unit {0} };
+
+    fn work(&self, _alloc: Global, index: u32) -> Result<u64, Memory> {
+        if index == 2 {
+            return Err(Memory);
+        }
+        Ok(u64::from(index))
+    }
+}
+
 fn answers_from<R: Threads + Sync>(
     rt: &R,
     alloc: Global,
@@ -80,5 +97,16 @@ fn jobs_run_beside_each_other(rt: HostRuntime) -> Result<(), Fail> {
     let seen = AtomicBool::new(false);
     let answers = run_jobs(&rt, rt.alloc(), &Meeting { seen: &seen }, 0, 4)?;
     assert_eq!(rt; answers.as_slice(), [true, true, true, true].as_slice());
+    Ok(())
+}
+
+#[test]
+fn a_job_without_memory(rt: HostRuntime) -> Result<(), Fail> {
+    let alloc = rt.alloc();
+    assert!(rt; run_jobs(&rt, alloc, &Wanting, 0, 4).is_err());
+    assert_eq!(rt;
+        run_jobs(&rt, alloc, &Wanting, 3, 2)?.as_slice(),
+        [3, 4].as_slice()
+    );
     Ok(())
 }
