@@ -1,0 +1,274 @@
+#!/usr/bin/env python3
+"""Times one check of a core part by part, over a program that is made and compiled, without proofs, in a temporary
+folder. Not part of the gate.
+
+    tools/bench-checks.py [--program PATH] [--keep PATH] CFG CHECK FILE.v ..
+
+CFG is a configuration whose own files aren't read; the lines of its `[defines]` stand before the FILEs. Prints for each
+part what was made of it and its processor seconds, which are those of a run that ends behind it less those of a run
+that ends before it, and the memory of that run. The fastest of five runs counts. --keep leaves the program at PATH,
+--program takes one that was left.
+"""
+import argparse
+import contextlib
+import os
+import shutil
+import subprocess
+import sys
+
+import made
+
+LIBRARIES = "rvf_text vl_elab vl_flow vl_ordered vl_lower vl_prep vl_mean vl_tree rvfi_port rv_table ck_cfg ck_gen " \
+    "ck_notes note_lines bm_decide bm_unroll cnf_nodes bb_blast bb_aig cnf_text cnf_form lrat_check sat_search " \
+    "wn_net fv_base anyhow"
+
+PROGRAM = r"""//! Reads a letter and the name of a check, a configuration up to a line `.`, and a Verilog text, and goes
+//! as far with the check as the letter says. Says what was made.
+#![tactic(auto)]
+
+use anyhow::Result;
+use bb_blast::Blasted;
+use bm_decide::ChoiceBits;
+use bm_unroll::{Frames, unroll};
+use ck_cfg::{Check, Config, checks, read_cfg};
+use ck_gen::monitor;
+use cnf_form::Formula;
+use cnf_nodes::{Encoded, clauses_of_nodes};
+use cnf_text::dimacs;
+use fv_base::{List, Text};
+use lrat_check::{Step, lrat};
+use note_lines::{note_text, notes_of};
+use rv_table::Opts;
+use rvf_text::{Core, Retirements, SourceText, read_source};
+use rvfi_port::{Channel, Port, Wants, bind};
+use sat_search::{Found, solve};
+use std::alloc::Global;
+use vl_elab::elaborate;
+use vl_flow::order;
+use vl_lower::{Lowered, lower};
+use vl_prep::Macros;
+use vl_tree::Source;
+use wn_net::{Names, Net, NodeId};
+
+const BUDGET: u64 = 1_000_000;
+
+/// What is asked: how far, and of which check.
+#[derive(Clone, Copy)]
+struct Asked<'a> {
+    stage: u8,
+    name: &'a str,
+}
+
+fn nodes_of(c: &Channel) -> [NodeId; 19] {
+    [
+        c.valid, c.order, c.insn, c.trap, c.halt, c.intr, c.rs1_addr, c.rs2_addr, c.rs1_rdata, c.rs2_rdata, c.rd_addr,
+        c.rd_wdata, c.pc_rdata, c.pc_wdata, c.mem_addr, c.mem_rmask, c.mem_wmask, c.mem_rdata, c.mem_wdata,
+    ]
+}
+
+fn texts(alloc: Global, names: &Names, check: &Check, frames: Frames, encoded: Encoded, steps: &List<Step>)
+    -> Result<String> {
+    let Frames { sources, widths, .. } = frames;
+    let Encoded { formula, blasted } = encoded;
+    let Blasted { places, watch, .. } = blasted;
+    let bits = ChoiceBits { sources, widths, places };
+    let notes = notes_of(alloc, names, &bits, watch.as_slice(), 0, check.cycle)?;
+    let mut lines = List::new(alloc);
+    for note in notes.as_slice() {
+        lines.push(note_text(alloc, note)?)?;
+    }
+    let first = dimacs(alloc, &formula, lines.as_slice())?.len();
+    let second = lrat(alloc, steps.as_slice())?.len();
+    Ok(format!(in alloc; "{first} and {second} bytes")?)
+}
+
+fn added(steps: &List<Step>) -> u64 {
+    let mut count: u64 = 0;
+    for step in steps.as_slice() {
+        if let Step::Add { .. } = step {
+            count = count.wrapping_add(1);
+        }
+    }
+    count
+}
+
+fn searched(alloc: Global, asked: Asked<'_>, names: &Names, check: &Check, frames: Frames, encoded: Encoded)
+    -> Result<String> {
+    match solve(alloc, &encoded.formula, BUDGET)? {
+        Found::Model(_values) => Ok(String::from_str(alloc, "a model")?),
+        Found::Refuted(steps) => {
+            if asked.stage == b't' {
+                return texts(alloc, names, check, frames, encoded, &steps);
+            }
+            let learnt = added(&steps);
+            Ok(format!(in alloc; "refuted, {learnt} clauses learnt")?)
+        }
+        Found::Spent(_steps) => Ok(String::from_str(alloc, "no budget")?),
+    }
+}
+
+fn judged(alloc: Global, asked: Asked<'_>, net: &Net, names: &Names, port: &Port, check: &Check, opts: Opts)
+    -> Result<String> {
+    let mut watched = net.copy()?;
+    let bad = monitor(alloc, &mut watched, port, check, opts)?;
+    if asked.stage == b'm' {
+        let nodes = watched.nodes().len();
+        return Ok(format!(in alloc; "{nodes} nodes")?);
+    }
+    let fields = nodes_of(&port.channels.as_slice()[0]);
+    let frames = unroll(alloc, &watched, bad, &fields, check.cycle)?;
+    if asked.stage == b'u' {
+        let nodes = frames.nodes.len();
+        let sources = frames.sources.len();
+        return Ok(format!(in alloc; "{nodes} nodes, {sources} sources")?);
+    }
+    let encoded = clauses_of_nodes(alloc, frames.widths.as_slice(), frames.nodes.as_slice(), frames.roots.as_slice(),
+        frames.watch.as_slice())?;
+    if asked.stage == b'b' {
+        let gates = encoded.blasted.graph.len();
+        let clauses = encoded.formula.len();
+        return Ok(format!(in alloc; "{gates} nodes of bits, {clauses} clauses")?);
+    }
+    searched(alloc, asked, names, check, frames, encoded)
+}
+
+fn netted(alloc: Global, asked: Asked<'_>, config: &Config, tree: &Source, macros: &Macros) -> Result<String> {
+    let top = Text::from_bytes(alloc, b"rvfi_wrapper")?;
+    let Ok(flat) = elaborate(alloc, tree.modules.as_slice(), &top) else {
+        return Ok(String::from_str(alloc, "no design")?);
+    };
+    if asked.stage == b'e' {
+        let names = flat.decls.len();
+        return Ok(format!(in alloc; "{names} names")?);
+    }
+    let Ok(ordered) = order(alloc, flat) else {
+        return Ok(String::from_str(alloc, "no order")?);
+    };
+    if asked.stage == b'o' {
+        let weight = ordered.weight;
+        return Ok(format!(in alloc; "weight {weight}")?);
+    }
+    let Lowered { mut net, names } = lower(alloc, &ordered)?;
+    let aligned = macros.has("RISCV_FORMAL_ALIGNED_MEM");
+    let wants = Wants { imem: false, dmem: false, aligned };
+    let Ok(port) = bind(alloc, &mut net, &names, 1, wants) else {
+        return Ok(String::from_str(alloc, "no port")?);
+    };
+    if asked.stage == b'l' {
+        let nodes = net.nodes().len();
+        return Ok(format!(in alloc; "{nodes} nodes")?);
+    }
+    let opts = Opts { aligned, altops: macros.has("RISCV_FORMAL_ALTOPS"), c: config.isa.c };
+    let all = checks(alloc, config)?;
+    for check in all.as_slice() {
+        if check.name.bytes() == asked.name.as_bytes() {
+            return judged(alloc, asked, &net, &names, &port, check, opts);
+        }
+    }
+    Ok(String::from_str(alloc, "no check")?)
+}
+
+fn answer(alloc: Global, asked: Asked<'_>, cfg: &[u8], text: &[u8]) -> Result<String> {
+    let Ok(config) = read_cfg(alloc, cfg) else {
+        return Ok(String::from_str(alloc, "no configuration")?);
+    };
+    if asked.stage == b'c' {
+        return Ok(String::from_str(alloc, "")?);
+    }
+    let core = Core { compressed: config.isa.c, retirements: Retirements::One };
+    let texts = [SourceText { file: 1, line: 1, bytes: text }];
+    let Ok((tree, macros)) = read_source(alloc, core, &texts, &[]) else {
+        return Ok(String::from_str(alloc, "no tree")?);
+    };
+    if asked.stage == b'r' {
+        let modules = tree.modules.len();
+        return Ok(format!(in alloc; "{modules} modules")?);
+    }
+    netted(alloc, asked, &config, &tree, &macros)
+}
+
+fn main(rt: HostRuntime) -> Result<()> {
+    let alloc = rt.alloc();
+    let mut first = String::new(alloc);
+    let mut cfg = String::new(alloc);
+    let mut text = String::new(alloc);
+    let mut part: u32 = 0;
+    for line in rt.lines(alloc) {
+        let line = line?;
+        if part == 0 {
+            first.push_str(line.as_str())?;
+            part = 1;
+        } else if part == 1 && line.as_str() == "." {
+            part = 2;
+        } else if part == 1 {
+            cfg.push_str(line.as_str())?;
+            cfg.push('\n')?;
+        } else {
+            text.push_str(line.as_str())?;
+            text.push('\n')?;
+        }
+    }
+    let stage = first.as_bytes().first().copied().unwrap_or(b'c');
+    let name = first.as_str().get(2..).unwrap_or("");
+    let said = answer(alloc, Asked { stage, name }, cfg.as_bytes(), text.as_bytes())?;
+    println!(rt; "{said}")?;
+    Ok(())
+}
+"""
+
+PARTS = [("r", "reading"), ("e", "elaborating"), ("o", "ordering"), ("l", "lowering"), ("m", "monitor"),
+         ("u", "unrolling"), ("b", "bits and clauses"), ("s", "search"), ("t", "texts")]
+
+
+def defines(cfg):
+    """The lines of `[defines]`."""
+    lines, inside = [], False
+    for line in cfg.splitlines():
+        if line.strip().startswith("["):
+            inside = line.strip() == "[defines]"
+        elif inside:
+            lines.append(line)
+    return "".join(line + "\n" for line in lines)
+
+
+def run(program, text):
+    """Returns what the program says, its processor seconds, and its memory in megabytes."""
+    process = subprocess.Popen([program], stdin=subprocess.PIPE, stdout=subprocess.PIPE)
+    process.stdin.write(text.encode())
+    process.stdin.close()
+    said = process.stdout.read().decode().strip()
+    usage = os.wait4(process.pid, 0)[2]
+    return said, usage.ru_utime + usage.ru_stime, usage.ru_maxrss // 1024
+
+
+def fastest(program, text):
+    return min((run(program, text) for _ in range(5)), key=lambda found: found[1])
+
+
+def main():
+    options = argparse.ArgumentParser()
+    options.add_argument("--program")
+    options.add_argument("--keep")
+    options.add_argument("cfg")
+    options.add_argument("check")
+    options.add_argument("files", nargs="+")
+    options = options.parse_args()
+    cfg = open(options.cfg).read()
+    text = defines(cfg) + "".join(open(name).read() for name in options.files)
+    built = contextlib.nullcontext(options.program) if options.program else \
+        made.unproved("checks", PROGRAM, LIBRARIES.split())
+    with built as program:
+        if options.keep:
+            shutil.copy(program, options.keep)
+        asked = f" {options.check}\n{cfg}\n.\n{text}"
+        _, before, _ = fastest(program, "c" + asked)
+        start, total = before, 0.0
+        for letter, part in PARTS:
+            said, seconds, memory = fastest(program, letter + asked)
+            print(f"{part}: {said}; {seconds - before:.3f} s, {memory} MB", flush=True)
+            before, total = seconds, seconds - start
+        print(f"together {total:.3f} s", flush=True)
+
+
+if __name__ == "__main__":
+    sys.exit(main())
