@@ -32,7 +32,6 @@ use bm_decide::ChoiceBits;
 use bm_unroll::{Frames, unroll};
 use ck_cfg::{Check, Config, checks, read_cfg};
 use ck_gen::monitor;
-use cnf_form::Formula;
 use cnf_nodes::{Encoded, clauses_of_nodes};
 use cnf_text::dimacs;
 use fv_base::{List, Text};
@@ -208,8 +207,12 @@ fn main(rt: HostRuntime) -> Result<()> {
             text.push('\n')?;
         }
     }
-    let stage = first.as_bytes().first().copied().unwrap_or(b'c');
-    let name = first.as_str().get(2..).unwrap_or("");
+    let mut words = first.as_str().split_whitespace();
+    let mut stage = b'c';
+    for byte in words.next().unwrap_or("c").as_bytes() {
+        stage = *byte;
+    }
+    let name = words.next().unwrap_or("");
     let said = answer(alloc, Asked { stage, name }, cfg.as_bytes(), text.as_bytes())?;
     println!(rt; "{said}")?;
     Ok(())
