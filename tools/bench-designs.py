@@ -226,6 +226,12 @@ def memory(weight):
         lines((weight - 256 * 8192) // 16448, lambda k: f"m[a ^ {k % 256}] = d; y = y ^ m[b];\n") + "end\nendmodule\n"
 
 
+def stores(weight):
+    """A memory of 65,536 words of one bit that a clocked block writes at addresses that vary, of 65,552 each."""
+    return "module top(input clock, input [15:0] a, input d);\nreg m [0:65535];\nalways @(posedge clock) begin\n" + \
+        lines(weight // 65_552, lambda k: f"m[a ^ 16'd{k}] <= d;\n") + "end\nendmodule\n"
+
+
 STAGES = {"elaborate": ("p", "e"), "order": ("e", "o"), "lower": ("o", "l")}
 MADE = [
     ("elaborate", "names", names, [50_000, 100_000, 200_000]),
@@ -240,6 +246,7 @@ MADE = [
     ("lower", "sums", sums, [5_000_000, 10_000_000, 20_000_000]),
     ("lower", "signs", signs, [450_000, 900_000, 1_800_000]),
     ("lower", "memory", memory, [5_000_000, 10_000_000, 20_000_000]),
+    ("lower", "stores", stores, [5_000_000, 10_000_000, 20_000_000]),
 ]
 
 
