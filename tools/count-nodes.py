@@ -101,7 +101,7 @@ def deepest(first, nodes):
 
 
 def main():
-    for words, enough in [(2, 1), (32, 5), (4096, 12)]:
+    for words, enough in [(1, 1), (2, 1), (32, 5), (4096, 12)]:
         for bits in [enough, 32, 0]:
             text = PROGRAM.replace("WORDS", str(words)).replace("BITS", str(bits))
             show(made.tried("count_nodes", text, ["wn_mem", "wn_net", "fv_base"]).splitlines())
