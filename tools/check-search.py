@@ -24,7 +24,10 @@ CRATES = ["fv_base", "fv_lines", "cnf_form", "cnf_text", "lrat_check", "sat_trai
           "sat_ledger", "sat_watch", "sat_unit", "sat_learn", "sat_order", "sat_search"]
 BUDGET = 200000
 
-DRIVER = r"""//! Solves the clause file on the input: the verdict, and then the values or the steps.
+# The first line of a clause file whose verdict alone is wanted.
+VERDICT_ALONE = "c verdict alone\n"
+
+DRIVER = r"""//! Solves the clause file on the input: the verdict, then the values or the steps, if these are wanted.
 #![tactic(auto)]
 
 use cnf_text::{DimacsFault, read_dimacs};
@@ -35,6 +38,7 @@ use std::io::{self, Read, Write};
 
 fn answer(alloc: Global, bytes: &[u8]) -> Result<Vec<u8>, DimacsFault> {
     let formula = read_dimacs(alloc, bytes)?;
+    let is_short = bytes.starts_with(b"c verdict alone");
     let mut out = Vec::new(alloc);
     match solve(alloc, &formula, BUDGET)? {
         Found::Model(values) => {
@@ -46,8 +50,10 @@ fn answer(alloc: Global, bytes: &[u8]) -> Result<Vec<u8>, DimacsFault> {
         }
         Found::Refuted(steps) => {
             out.extend_from_slice(b"refuted\n")?;
-            let text = lrat(alloc, steps.as_slice())?;
-            out.extend_from_slice(text.as_slice())?;
+            if !is_short {
+                let text = lrat(alloc, steps.as_slice())?;
+                out.extend_from_slice(text.as_slice())?;
+            }
         }
         Found::Spent(_steps) => out.extend_from_slice(b"spent\n")?,
     }

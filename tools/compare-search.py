@@ -1,18 +1,18 @@
 #!/usr/bin/env python3
-"""Times the search beside MiniSat and CaDiCaL (Debian's packages). It is not part of the gate.
+"""Times the search beside MiniSat and CaDiCaL (Debian's packages, with `time`). It is not part of the gate.
 
     tools/compare-search.py [--folder FOLDER] [--driver PATH] [--limit SECONDS] [--random N] [FILE.cnf ..]
 
 Random formulas of clauses of three literals at the threshold with 100 to 200 variables (N of them), adders of two kinds
 proved equal, multipliers proved commutative, and the given clause files. The driver program is that of
 `tools/check-search.py`, if PATH isn't one that was built. It prints for each group the median and the greatest of: the
-steps of refutations, hints a step, steps beside MiniSat's conflicts and beside the clauses of CaDiCaL's proof,
-processor times and memory of all three (at least that of this script, some 12 MB); how many verdicts differ; and, of
-the formulas that take MiniSat more than a tenth of a second, how much longer the search takes.
+steps of refutations, hints a step, steps beside MiniSat's conflicts and beside the clauses of CaDiCaL's proof, the
+search's memory less that of its steps beside MiniSat's, user seconds and memory of all three, the search writing its
+verdict alone; how many verdicts differ; and, of the formulas that take MiniSat more than a tenth of a second, how much
+longer the search takes.
 """
 
 import argparse
-import importlib.util
 import os
 import random
 import re
@@ -21,14 +21,9 @@ import statistics
 import subprocess
 import tempfile
 
-HERE = os.path.dirname(os.path.abspath(__file__))
+import made
 
-
-def check_search():
-    spec = importlib.util.spec_from_file_location("check_search", os.path.join(HERE, "check-search.py"))
-    module = importlib.util.module_from_spec(spec)
-    spec.loader.exec_module(module)
-    return module
+CHECK_SEARCH = made.script("check-search")
 
 
 class Formula:
@@ -111,18 +106,35 @@ def multipliers(bits):
 
 
 class Ran:
-    """What a program wrote, its processor seconds, of which it has so many, and its memory in megabytes."""
+    """What a program wrote, its user seconds, of which it has so many, and its memory in megabytes."""
 
     def __init__(self, words, limit, read_from=os.devnull):
         def bounded():
             resource.setrlimit(resource.RLIMIT_CPU, (round(limit), round(limit)))
 
-        with open(read_from) as given:
-            process = subprocess.Popen(words, stdin=given, stdout=subprocess.PIPE, stderr=subprocess.DEVNULL, text=True,
-                                       preexec_fn=bounded)
-        self.said = process.stdout.read()
-        usage = os.wait4(process.pid, 0)[2]
-        self.seconds, self.memory = usage.ru_utime + usage.ru_stime, usage.ru_maxrss / 1024
+        # Of a program that Python starts the system tells at least Python's own memory.
+        with open(read_from) as given, tempfile.NamedTemporaryFile("r") as told:
+            words = ["time", "-f", "%M", "-o", told.name, *words]
+            process = subprocess.Popen(words, stdin=given, stdout=subprocess.PIPE, stderr=subprocess.DEVNULL,
+                                       text=True, preexec_fn=bounded)
+            self.said = process.stdout.read()
+            self.seconds = os.wait4(process.pid, 0)[2].ru_utime
+            self.memory = int(told.read().split()[-1]) / 1024
+
+    def told(self, what):
+        """The number that MiniSat tells behind these words."""
+        found = re.search(rf"^{what}\s*:\s*(\d+)", self.said, re.M)
+        return int(found.group(1)) if found else None
+
+
+class Steps:
+    """How many clauses the steps add, their hints, and bytes that they take: eight a number and 64 a step."""
+
+    def __init__(self, lines):
+        adding = [line.split(" 0 ")[1] for line in lines if " d " not in line]
+        self.adding = len(adding)
+        self.hints = sum(len(hints.split()) - 1 for hints in adding)
+        self.bytes = sum(8 * len(line.split()) + 64 for line in lines)
 
 
 class Row:
@@ -130,27 +142,49 @@ class Row:
 
     def __init__(self, driver, text, limit):
         with tempfile.TemporaryDirectory() as folder:
-            cnf, proof = os.path.join(folder, "c.cnf"), os.path.join(folder, "c.drat")
-            with open(cnf, "w") as out:
-                out.write(text)
-            ours = Ran([driver], limit, cnf)
+            cnf, alone, proof = (os.path.join(folder, name) for name in ("c.cnf", "alone.cnf", "c.drat"))
+            for name, content in ((cnf, text), (alone, CHECK_SEARCH.VERDICT_ALONE + text)):
+                with open(name, "w") as out:
+                    out.write(content)
+            verdict, *steps = Ran([driver], limit, cnf).said.rstrip("\n").split("\n")
             mini = Ran(["minisat", "-no-pre", cnf], limit)
             cadical = Ran(["cadical", "-q", "--no-binary", cnf, proof], limit)
+            self.runs = [Ran([driver], limit, alone), mini, cadical]
             with open(proof) as file:
                 self.added = sum(not line.startswith("d") for line in file)
-        self.runs = [ours, mini, cadical]
-        verdict, *steps = ours.said.split("\n")
         verdicts = {"model": "SATISFIABLE", "refuted": "UNSATISFIABLE"}
         self.agrees = verdict in verdicts and re.search(rf"^s {verdicts[verdict]}$", cadical.said, re.M) is not None
-        found = re.search(r"conflicts\s*:\s*(\d+)", mini.said)
-        self.conflicts = int(found.group(1)) if found else None
-        adding = [line.split(" 0 ") for line in steps if line and " d " not in line] if verdict == "refuted" else []
-        self.steps = len(adding)
-        self.hints = sum(len(hints.split()) - 1 for _, hints in adding) if adding else 0
+        self.conflicts = mini.told("conflicts")
+        self.steps = Steps(steps) if verdict == "refuted" else None
 
 
 def spread(values):
     return f"{statistics.median(values):.3g} and {max(values):.3g}"
+
+
+def print_refutations(rows):
+    by_minisat = [row.steps.adding / max(row.conflicts, 1) for row in rows if row.conflicts is not None]
+    by_cadical = [row.steps.adding / max(row.added, 1) for row in rows]
+    beside = [(row.runs[0].memory - row.steps.bytes / 2 ** 20) / row.runs[1].memory for row in rows]
+    print(f"  {len(rows)} refutations: {spread([row.steps.adding for row in rows])} steps, "
+          f"{spread([row.steps.hints / row.steps.adding for row in rows])} hints a step, {spread(by_minisat)} by "
+          f"MiniSat's conflicts, {spread(by_cadical)} by the clauses of CaDiCaL's proof; memory beside the steps "
+          f"{spread(beside)} times MiniSat's")
+
+
+def groups_of(options):
+    """Returns the texts of the formulas by what they are."""
+    rng = random.Random(1)
+    groups = {}
+    if options.random:
+        groups["random, 100 to 200 variables"] = [
+            random_formula(rng, rng.randint(100, 200)).text() for _ in range(options.random)]
+    groups |= {f"adders of {bits} bits": [adders(bits).text()] for bits in (8, 16, 32, 64)}
+    groups |= {f"multipliers of {bits} bits": [multipliers(bits).text()] for bits in (4, 5, 6)}
+    for name in options.files:
+        with open(name) as text:
+            groups[name] = [text.read()]
+    return groups
 
 
 def main():
@@ -162,29 +196,13 @@ def main():
     options.add_argument("files", nargs="*")
     options = options.parse_args()
     folder = options.folder or tempfile.mkdtemp(prefix="compare-search-")
-    driver = options.driver or check_search().driver_of(folder)
-    rng = random.Random(1)
-    groups = {}
-    if options.random:
-        groups["random, 100 to 200 variables"] = [
-            random_formula(rng, rng.randint(100, 200)).text() for _ in range(options.random)]
-    for bits in (8, 16, 32, 64):
-        groups[f"adders of {bits} bits"] = [adders(bits).text()]
-    for bits in (4, 5, 6):
-        groups[f"multipliers of {bits} bits"] = [multipliers(bits).text()]
-    for name in options.files:
-        with open(name) as text:
-            groups[name] = [text.read()]
-    for group, texts in groups.items():
+    driver = options.driver or CHECK_SEARCH.driver_of(folder)
+    for group, texts in groups_of(options).items():
         rows = [Row(driver, text, options.limit) for text in texts]
         print(f"{group}: {len(rows)} formulas, {sum(not row.agrees for row in rows)} without CaDiCaL's verdict")
         refuted = [row for row in rows if row.steps]
         if refuted:
-            by_minisat = [row.steps / max(row.conflicts, 1) for row in refuted if row.conflicts is not None]
-            by_cadical = [row.steps / max(row.added, 1) for row in refuted]
-            print(f"  {len(refuted)} refutations: {spread([row.steps for row in refuted])} steps, "
-                  f"{spread([row.hints / row.steps for row in refuted])} hints a step, {spread(by_minisat)} by "
-                  f"MiniSat's conflicts, {spread(by_cadical)} by the clauses of CaDiCaL's proof")
+            print_refutations(refuted)
         for index, name in enumerate(("the search", "MiniSat", "CaDiCaL")):
             print(f"  {name}: {spread([row.runs[index].seconds for row in rows])} s, "
                   f"{spread([row.runs[index].memory for row in rows])} MB")
