@@ -54,7 +54,7 @@ IsLine line = Unit {0}
 
 abbrev pub usage_line : List ℕ
 usage_line =
-  codes "usage: rvf run CFG OUTDIR [--core NAME] [--basedir DIR] [--budget N] [--jobs N] | list CFG | lrat CNF PROOF\n"
+    codes "usage: rvf run CFG OUTDIR [--core NAME] [--basedir DIR] [--budget N] [--jobs N] | list CFG | lrat CNF PROOF\n"
 
 -- other words
 pub record Misuses (status : Status) (report : List Delivery) : Type 0 where
