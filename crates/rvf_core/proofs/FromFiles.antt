@@ -16,6 +16,8 @@ use Rattle.lrat_check.specs.declared.lrat_fault.LratFault.{LratFault}
 use Rattle.lrat_check.specs.declared.step.Refuted.{Refuted}
 use Rattle.lrat_check.specs.declared.step.Step.{Step}
 use Rattle.lrat_check.specs.declared.step.StepFault.{StepFault}
+use Rattle.cert_texts.proofs.Formulas.{formula_law}
+use Rattle.cert_texts.proofs.Steps.{steps_law}
 use Rattle.rvf_lines.specs.Lines.{refusal_line}
 use Rattle.rvf_case.specs.Cases.{Seen}
 use Rattle.rvf_case.specs.Steps.{Configures}
@@ -25,7 +27,7 @@ use Rattle.rvf_report.specs.declared.delivery.Delivery.{Delivery}
 use Rattle.rvf_report.specs.declared.status.Status.{Status}
 use Rattle.rvf_report.specs.declared.status.Status.TheVariants as s
 use Rattle.rvf_core.specs.Certificate.{formula_report, judgement, one_line, outcome, proof_report}
-use Rattle.rvf_core.specs.Certifies.{Certifies, IsNext, IsProved, first, second}
+use Rattle.rvf_core.specs.Certifies.{AreReadRefuted, AreRefuted, Certifies, IsNext, IsProved, IsSaid, first, second}
 use Rattle.rvf_core.specs.Certifies as certifies
 use Rattle.rvf_core.specs.Checks.{refused_status}
 use Rattle.rvf_core.specs.Lists.{Lists, name_line}
@@ -102,6 +104,22 @@ gives_earlier None new name bytes same gives = tt
 gives_earlier (Some f) (Some g) name bytes same gives = sym (same name) ∙ gives
 gives_earlier (Some f) None name bytes same gives = absurd same
 
+-- what is known of the texts as they were read is known of what they say
+said_refuted : (clauses steps : List ℕ) (id : ℕ) → AreReadRefuted clauses steps id → AreRefuted clauses steps id
+said_refuted clauses steps id r = record {
+  formula = r.formula;
+  says_formula = (formula_law clauses r.formula).0 r.formula_is;
+  list = r.list;
+  says_steps = (steps_law steps r.list).0 r.list_is;
+  refutes = r.refutes;
+  unsatisfiable = r.unsatisfiable;
+}
+
+said : (status : Status) (clauses steps : List ℕ) (report : List Delivery) → IsProved status clauses steps report
+    → IsSaid status clauses steps report
+said s.Passed clauses steps report p = (p.0, said_refuted clauses steps p.0 p.1, p.2)
+said status clauses steps report p = tt
+
 -- both gave bytes, and these were certified
 pub both_read : (cnf proof clauses steps first_bytes second_bytes : List ℕ) (seen : Seen) (held : Told)
     (report : Report) → ReadGives seen.held cnf clauses → SameFiles seen.held held → ReadGives held proof steps
@@ -117,7 +135,7 @@ both_read cnf proof clauses steps first_bytes second_bytes seen held report give
       gives_steps = subst (λ bytes. ReadGives seen.held proof bytes) (sym two)
           (gives_earlier seen.held held proof steps same also);
       found = sym p.0;
-      proved = p.1;
+      proved = said report.status first_bytes second_bytes report.deliveries p.1;
     })
 
 -- ---- the outcomes of certificates stand for causes of their own

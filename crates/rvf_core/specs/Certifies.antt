@@ -7,6 +7,8 @@ use Rattle.cnf_text.specs.Dimacs.{formula_of}
 use Rattle.lrat_check.specs.Steps.{Refutes}
 use Rattle.lrat_check.specs.Texts.{steps_of}
 use Rattle.lrat_check.specs.declared.step.Step.{Step}
+use Rattle.cert_texts.specs.Formulas.{SaysFormula}
+use Rattle.cert_texts.specs.Steps.{SaysSteps}
 use Rattle.rvf_case.specs.Cases.{Seen}
 use Rattle.rvf_lines.specs.Lines.{absent_line, unread_line}
 use Rattle.rvf_report.specs.declared.delivery.Delivery.{Delivery}
@@ -15,9 +17,18 @@ use Rattle.rvf_report.specs.declared.status.Status.{Status}
 use Rattle.rvf_report.specs.declared.status.Status.TheVariants as s
 use Rattle.rvf_core.specs.Certificate.{outcome, refuted_line}
 
--- the text's clauses are refuted by the steps of the other one, of which this is the id of the empty clause; and no
+-- the text says clauses that the steps of the other one refute, of which this is the id of the empty clause; and no
 -- values make them true
 pub record AreRefuted (clauses steps : List ℕ) (id : ℕ) : Type 0 where
+  pub formula : Cnf
+  pub says_formula : SaysFormula clauses formula
+  pub list : List Step
+  pub says_steps : SaysSteps steps list
+  pub refutes : Refutes formula.clauses list id
+  pub unsatisfiable : (values : ℕ → Bool) → formula_true values formula.clauses ≡ false
+
+-- the same of what was read of the texts
+pub record AreReadRefuted (clauses steps : List ℕ) (id : ℕ) : Type 0 where
   pub formula : Cnf
   pub formula_is : formula_of clauses ≡ Ok formula
   pub list : List Step
@@ -37,11 +48,17 @@ IsProof s.Passed clauses proof report =
     (steps : List Step) × (steps_of proof ≡ Ok steps) × IsSound s.Passed clauses steps report
 IsProof status clauses proof report = Unit {0}
 
--- what is known of texts whose outcome has this status
+-- what is known of texts, as they were read, whose outcome has this status
 abbrev pub IsProved : Status → List ℕ → List ℕ → List Delivery → Type 0
 IsProved s.Passed clauses steps report =
-    (id : ℕ) × AreRefuted clauses steps id × (report ≡ Line (refuted_line id) ∷ [])
+    (id : ℕ) × AreReadRefuted clauses steps id × (report ≡ Line (refuted_line id) ∷ [])
 IsProved status clauses steps report = Unit {0}
+
+-- what is known of texts whose outcome has this status
+abbrev pub IsSaid : Status → List ℕ → List ℕ → List Delivery → Type 0
+IsSaid s.Passed clauses steps report =
+    (id : ℕ) × AreRefuted clauses steps id × (report ≡ Line (refuted_line id) ∷ [])
+IsSaid status clauses steps report = Unit {0}
 
 -- both files gave bytes, and status and report are what the certificate comes to
 pub record IsJudged (cnf proof : List ℕ) (held : Told) (status : Status) (report : List Delivery) : Type 0 where
@@ -50,7 +67,7 @@ pub record IsJudged (cnf proof : List ℕ) (held : Told) (status : Status) (repo
   pub steps : List ℕ
   pub gives_steps : ReadGives held proof steps
   pub found : outcome clauses steps ≡ record { status = status; deliveries = report }
-  pub proved : IsProved status clauses steps report
+  pub proved : IsSaid status clauses steps report
 
 -- the first of the two files that gave no bytes: the other one did
 pub data IsNext (cnf proof : List ℕ) (held : Told) (name : List ℕ) : Type 0 where
