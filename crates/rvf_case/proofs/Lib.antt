@@ -3,6 +3,7 @@ pub mod Counting
 pub mod Exactness
 pub mod Files
 pub mod Next
+pub mod Quiet
 pub mod Readiness
 pub mod Sames
 pub mod Turns

@@ -162,6 +162,16 @@ Alike (Err (refusal.Source f names)) (Err (refusal.Source g others)) = IsSame f 
 Alike (Err (refusal.Heavy name number)) (Err (refusal.Heavy other n)) = (other ≡ name) × (n ≡ number)
 Alike result other = ⊥
 
+-- a fact, unless a file could not be read, or memory was wanted
+abbrev pub UnlessFault : Refusal → Type 0 → Type 0
+UnlessFault (refusal.Unread name) P = Unit {0}
+UnlessFault refusal.Memory P = Unit {0}
+UnlessFault f P = P
+
+abbrev pub UnlessUnread : {A : Type 0} → Result A Refusal → Type 0 → Type 0
+UnlessUnread (Ok x) P = P
+UnlessUnread (Err f) P = UnlessFault f P
+
 -- ---- that the checks of a case may be judged
 
 -- what is loaded of the check's text is fit for the check

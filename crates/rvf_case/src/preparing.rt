@@ -5,7 +5,7 @@ ghost use Rattle.fv_base.specs.Outside.{Names, SameFiles};
 ghost use Rattle.ck_cfg.specs.Files.{file_names_of};
 ghost use Rattle.rvf_case.specs.declared.case.Case.{Case as SpecCase};
 ghost use Rattle.rvf_case.specs.declared.refusal.Refusal.{Refusal as SpecRefusal};
-ghost use Rattle.rvf_case.specs.Cases.{Alike, Comes, IsReady, request_seen};
+ghost use Rattle.rvf_case.specs.Cases.{Alike, Comes, IsReady, UnlessUnread, request_seen};
 ghost use Rattle.rvf_case.specs.Steps.{Prepares};
 
 use crate::case::Case;
@@ -61,6 +61,7 @@ fn prepared<F: Files>(alloc: Global, request: Request<'_>, files: &mut F) -> Res
     ensures kept { SameFiles (F.held files.old) (F.held files.new) }
     ensures misses_grow { F.misses files.old ≤ F.misses files.new }
     ensures faults_grow { F.faults files.old ≤ F.faults files.new }
+    ensures quiet { UnlessUnread result (F.faults files.new ≡ F.faults files.old) }
 {
     let config = read_config(alloc, request.cfg, files)?;
     let names = names_of(alloc, &config, request.core, request.basedir)?;
@@ -99,6 +100,8 @@ pub fn prepare<F: Files>(
     ensures kept { SameFiles (F.held files.old) (F.held files.new) }
     ensures misses_grow { F.misses files.old ≤ F.misses files.new }
     ensures faults_grow { F.faults files.old ≤ F.faults files.new }
+    // A call on the files failed only where the answer says so, or memory is wanted.
+    ensures quiet { UnlessUnread result (F.faults files.new ≡ F.faults files.old) }
 {
     prepared(alloc, request, files)
 }

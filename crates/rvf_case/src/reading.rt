@@ -3,6 +3,7 @@
 ghost use Rattle.std.specs.Prelude.{◌≡◌, ◌≤◌, IfOk};
 ghost use Rattle.fv_base.specs.Outside.{SameFiles};
 ghost use Rattle.ck_cfg.specs.Lawful.{HasLawfulChecks};
+ghost use Rattle.rvf_case.specs.Cases.{UnlessUnread};
 ghost use Rattle.rvf_case.specs.Steps.{Becomes, Configures, ReadsFile, ReadsFiles, of_config};
 
 use crate::refusal::Refusal;
@@ -36,6 +37,7 @@ fn read_file<F: Files>(alloc: Global, name: &[u8], files: &mut F) -> Result<Text
     ensures kept { SameFiles (F.held files.old) (F.held files.new) }
     ensures misses_grow { F.misses files.old ≤ F.misses files.new }
     ensures faults_grow { F.faults files.old ≤ F.faults files.new }
+    ensures quiet { UnlessUnread result (F.faults files.new ≡ F.faults files.old) }
 {
     match files.read(alloc, name) {
         Ok(bytes) => Ok(Text::from_vec(bytes)),
@@ -59,6 +61,7 @@ pub(crate) fn read_files<F: Files>(
     ensures kept { SameFiles (F.held files.old) (F.held files.new) }
     ensures misses_grow { F.misses files.old ≤ F.misses files.new }
     ensures faults_grow { F.faults files.old ≤ F.faults files.new }
+    ensures quiet { UnlessUnread result (F.faults files.new ≡ F.faults files.old) }
 {
     let mut texts = List::new(alloc);
     for name in names {
@@ -91,6 +94,7 @@ pub fn read_config<F: Files>(alloc: Global, cfg: &[u8], files: &mut F) -> Result
     ensures kept { SameFiles (F.held files.old) (F.held files.new) }
     ensures misses_grow { F.misses files.old ≤ F.misses files.new }
     ensures faults_grow { F.faults files.old ≤ F.faults files.new }
+    ensures quiet { UnlessUnread result (F.faults files.new ≡ F.faults files.old) }
 {
     let bytes = read_file(alloc, cfg, files)?;
     match read_cfg(alloc, bytes.bytes()) {

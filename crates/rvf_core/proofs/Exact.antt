@@ -23,7 +23,8 @@ use Rattle.rvf_report.specs.declared.status.Status.{Status}
 use Rattle.rvf_report.specs.declared.status.Status.TheVariants as s
 use Rattle.rvf_core.specs.Checks.{Checks, HasRead}
 use Rattle.rvf_core.specs.Checks as checks
-use Rattle.rvf_core.specs.Run.{Answers, Ends, IsAccepted, IsExact, Run, Says, comes, comes_in_budget}
+use Rattle.rvf_core.specs.Run.{Answers, Ends, IsAccepted, IsExact, IsQuiet, Run, Says, UnlessFaulty, comes}
+use Rattle.rvf_core.specs.Run.{comes_in_budget}
 use Rattle.rvf_core.specs.Run.{comes_judged, rose, seen_in}
 use Rattle.rvf_core.specs.Steps.{HaveStatus}
 use Rattle.rvf_core.specs.Verdicts.{AreJudged, Judges, Violates, opts_in, text_of, wants_in}
@@ -236,8 +237,9 @@ fail_comes r status a c fs x run h there violates =
 -- ---- each cause
 
 pub IsExact-answers : (r : Run) (status : Status) → Answers status r → HaveStatus (line_of r.words) r status
-    → IsExact status r
-IsExact-answers r status a statuses = record {
+    → UnlessFaulty status (IsQuiet r.before r.now) → IsExact status r
+IsExact-answers r status a statuses quiet = record {
+  quiet = quiet;
   usage = λ none. usage_comes r status a none;
   refusal = λ f h.
       subst (λ line. HaveStatus line r status) h.asks.asked statuses h.asks.names h.asks.told h.asks.no_fault f h.cause;

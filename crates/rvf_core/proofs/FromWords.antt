@@ -119,7 +119,7 @@ pub memory_at_once : (asked : List (List ℕ)) (before : Outside)
 memory_at_once asked before =
     let r : Run = record { words = asked; before = before; now = before } in
     let a : Answers s.Memory r = memory_ends (line_of asked) asked before in
-    (a, IsExact-answers r s.Memory a (memory_statuses (line_of asked) r))
+    (a, IsExact-answers r s.Memory a (memory_statuses (line_of asked) r) tt)
 
 -- ---- the line that was read, in other words
 

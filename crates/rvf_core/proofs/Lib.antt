@@ -6,6 +6,7 @@ pub mod Causes
 pub mod Refusals
 pub mod Endings
 pub mod Others
+pub mod Quiet
 pub mod Exact
 pub mod FromFiles
 pub mod FromChecks

@@ -160,11 +160,24 @@ comes wanted status = (code_of status == code_of wanted) || ((code_of status == 
 abbrev pub comes_in_budget : Status → Status → Bool
 comes_in_budget wanted status = comes wanted status || (code_of status == 2)
 
+-- a fact, unless the status says that a call failed, or that memory was wanted
+abbrev pub UnlessFaulty : Status → Type 0 → Type 0
+UnlessFaulty s.ReadFault P = Unit {0}
+UnlessFaulty s.WriteFault P = Unit {0}
+UnlessFaulty s.Memory P = Unit {0}
+UnlessFaulty status P = P
+
+-- no call on the files and none on the output failed
+abbrev pub IsQuiet : Outside → Outside → Type 0
+IsQuiet before now = (now.faults ≡ before.faults) × (now.out_faults ≡ before.out_faults)
+
 -- all checks were judged, or what may take its place came
 abbrev pub comes_judged : Status → Bool
 comes_judged status = comes_in_budget s.Passed status || comes s.Failing status
 
 pub record IsExact (status : Status) (r : Run) : Type 0 where
+  -- a call that failed has its status, 7 or 8, or memory was wanted
+  pub quiet : UnlessFaulty status (IsQuiet r.before r.now)
   pub usage : line_of r.words ≡ None → comes s.Usage status ≡ true
   pub refusal : (f : Refusal) → HasCause r f → comes (refused_status f) status ≡ true
   pub pass : (c : Config) (files : List (List ℕ)) → IsAccepted r c files

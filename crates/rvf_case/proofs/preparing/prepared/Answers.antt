@@ -6,6 +6,7 @@ use Rattle.rvf_case.specs.declared.refusal.Refusal.{Refusal}
 use Rattle.rvf_case.specs.declared.refusal.Refusal.TheVariants as refusal
 use Rattle.rvf_case.proofs.Files.{configuration_stops, files_stop, is_configured, no_less, read_earlier, same_in_turn}
 use Rattle.rvf_case.proofs.Files.{seen_from, stands}
+use Rattle.rvf_case.proofs.Quiet.{follows, in_any_answer}
 use Rattle.rvf_case.proofs.preparing.prepared.Goals as goal
 
 pub returns-in_err-config-clause-prepares : goal.returns-in_err-config-clause-prepares
@@ -114,3 +115,28 @@ returns-clause-misses_grow g c =
 pub returns-clause-faults_grow : goal.returns-clause-faults_grow
 returns-clause-faults_grow g c =
     no_less _ _ _ c.in_ok-config.ensures.faults_grow c.in_ok-texts.ensures.faults_grow
+
+pub returns-in_err-config-clause-quiet : goal.returns-in_err-config-clause-quiet
+returns-in_err-config-clause-quiet g c =
+    let left : c.from_residual.result ≡ Err c.in_err-config.field-0.0 = search rules in
+    rw left c.in_err-config.ensures.quiet
+
+pub returns-in_err-names-clause-quiet : goal.returns-in_err-names-clause-quiet
+returns-in_err-names-clause-quiet g c =
+    let left : c.from_residual-in_err-names.result ≡ Err refusal.Memory = search rules in
+    rw left tt
+
+pub returns-in_err-texts-clause-quiet : goal.returns-in_err-texts-clause-quiet
+returns-in_err-texts-clause-quiet g c =
+    let left : c.from_residual-in_err-texts.result ≡ Err c.in_err-texts.field-0.0 = search rules in
+    rw left (follows c.in_err-texts.field-0.0 _ _ (λ same. same ∙ c.in_ok-config.ensures.quiet)
+    c.in_err-texts.ensures.quiet)
+
+pub returns-in_err-all-clause-quiet : goal.returns-in_err-all-clause-quiet
+returns-in_err-all-clause-quiet g c =
+    let left : c.from_residual-in_err-all.result ≡ Err refusal.Memory = search rules in
+    rw left tt
+
+pub returns-clause-quiet : goal.returns-clause-quiet
+returns-clause-quiet g c =
+    in_any_answer c.case_of.result _ (c.in_ok-texts.ensures.quiet ∙ c.in_ok-config.ensures.quiet)

@@ -1,7 +1,10 @@
-use Rattle.std.proofs.Common.{arith, refl}
+use Rattle.std.proofs.Common.{arith, refl, ap}
 use Rattle.rvf_report.specs.Outcome.{outside}
 use Rattle.rvf_core.proofs.FromChecks.{case_ends, case_statuses, le_itself, refusal_ends, refusal_statuses}
-use Rattle.rvf_core.proofs.FromFiles.{if_both}
+use Rattle.rvf_core.specs.Checks.{refused_status}
+use Rattle.rvf_core.specs.declared.report.Report.{Report}
+use Rattle.rvf_core.proofs.FromFiles.{if_both, if_ok}
+use Rattle.rvf_core.proofs.Quiet.{of_status, refusal_quiet, reported_quiet, unless_broken, unmoved}
 use Rattle.rvf_core.proofs.checking.check.Goals as goal
 
 pub returns-in-Ok-clause-ends : goal.returns-in-Ok-clause-ends
@@ -50,3 +53,16 @@ returns-in-Err-clause-statuses g c = λ asked.
     c.refused.result c.put_report.result c.in-Err.ensures.exact c.put_report.ensures.misses_kept
     c.put_report.ensures.faults_grow c.in-Err.ensures.comes
     (if_both _ _ c.refused.result c.refused.ensures.report c.refused.ensures.some) c.put_report.ensures.puts
+
+pub returns-in-Ok-clause-quiet : goal.returns-in-Ok-clause-quiet
+returns-in-Ok-clause-quiet g c =
+    unless_broken c.conclude.result _ _ (unmoved _ _ _ _ _ c.in-Ok.ensures.quiet) c.conclude.ensures.quiet
+
+pub returns-in-Err-clause-quiet : goal.returns-in-Err-clause-quiet
+returns-in-Err-clause-quiet g c =
+    reported_quiet c.refused.result c.put_report.result _ _ _ _ _ (unmoved _ _ _ _ _)
+    (if_ok _ _
+    (λ report is. of_status report (refused_status c.in-Err.refusal) _ (ap (λ (r : Report). r.status) is)
+    (refusal_quiet c.in-Err.refusal _ c.in-Err.ensures.quiet))
+    c.refused.result c.refused.ensures.report)
+    c.put_report.ensures.puts c.put_report.ensures.quiet

@@ -2,6 +2,7 @@ use Rattle.std.proofs.Common.{arith, refl}
 use Rattle.rvf_core.proofs.FromChecks.{le_itself}
 use Rattle.rvf_core.proofs.FromWords.{certificate_ends, list_ends, list_statuses, lrat_ends, lrat_statuses, names_end}
 use Rattle.rvf_core.proofs.FromWords.{run_ends, run_statuses}
+use Rattle.rvf_core.proofs.Quiet.{reported_quiet, unmoved}
 use Rattle.rvf_core.proofs.top.done.Goals as goal
 
 pub returns-in-Run-clause-ends : goal.returns-in-Run-clause-ends
@@ -38,3 +39,13 @@ returns-in-Lrat-clause-ends g c = λ asked.
 pub returns-in-Lrat-clause-statuses : goal.returns-in-Lrat-clause-statuses
 returns-in-Lrat-clause-statuses g c = λ asked.
     lrat_statuses c.args.line.now _ c.put_report-in-Lrat.result _ _ c.in-Lrat.is
+
+pub returns-in-List-clause-quiet : goal.returns-in-List-clause-quiet
+returns-in-List-clause-quiet g c =
+    reported_quiet c.list.result c.put_report.result _ _ _ _ _ (unmoved _ _ _ _ _)
+    c.list.ensures.quiet c.put_report.ensures.puts c.put_report.ensures.quiet
+
+pub returns-in-Lrat-clause-quiet : goal.returns-in-Lrat-clause-quiet
+returns-in-Lrat-clause-quiet g c =
+    reported_quiet c.refute-report.result c.put_report-in-Lrat.result _ _ _ _ _ (unmoved _ _ _ _ _)
+    c.refute-report.ensures.quiet c.put_report-in-Lrat.ensures.puts c.put_report-in-Lrat.ensures.quiet
