@@ -1,11 +1,8 @@
 //! Runs the top call on the cases of standard input, and prints what each run put and how it ended.
 #![tactic(auto)]
 
-mod bench;
-mod line;
-
-use crate::bench::Bench;
 use anyhow::Result;
+use top_answers::Bench;
 
 fn main(rt: HostRuntime) -> Result<()> {
     let alloc = rt.alloc();

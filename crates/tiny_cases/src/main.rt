@@ -1,0 +1,17 @@
+//! Runs all checks of a core of two stages, as it is and with a comparison that reads signs, and prints what was put.
+#![tactic(auto)]
+
+use anyhow::Result;
+use top_answers::Bench;
+
+fn main(rt: HostRuntime) -> Result<()> {
+    let alloc = rt.alloc();
+    let mut bench = Bench::new(alloc);
+    for line in rt.lines(alloc) {
+        if let Some(asked) = bench.take(line?.as_str())? {
+            let told = bench.run(&rt, &asked)?;
+            print!(rt; "{told}")?;
+        }
+    }
+    Ok(())
+}
