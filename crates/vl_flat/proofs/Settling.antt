@@ -1,6 +1,8 @@
 -- Numbers in place of the constants of scopes, and of none.
-use Rattle.std.specs.Prelude.{◌≡◌, refl, ℕ, List, Option, None, Result, Ok, Err, IfOk}
-use Rattle.std.proofs.Common.{ap, ◌∙◌}
+use Rattle.std.specs.Prelude.{◌≡◌, refl, ℕ, List, false, Option, Some, None, is_some, Result, Ok, Err, IfOk}
+use Rattle.std.specs.Option.{option_copied}
+use Rattle.std.proofs.Common.{ap, sym, ◌∙◌, Bor}
+use Rattle.fv_base.specs.declared.pos.Pos.{Pos}
 use Rattle.vl_tree.specs.Expr.{
   Expr,
   Exprs,
@@ -22,11 +24,12 @@ use Rattle.vl_tree.specs.Expr.{
   indexed,
 }
 use Rattle.vl_mean.specs.declared.const_number.Const.{Const}
-use Rattle.vl_mean.specs.Constants.{settled, settled_exprs, settled_selects, named_constant}
+use Rattle.vl_mean.specs.Constants.{settled, settled_exprs, settled_selects, named_constant, number_of}
 use Rattle.vl_mean.specs.Scopes.{Scope, constant_in, full}
-use Rattle.vl_same.specs.FullNames.{renamed, flat_expr}
+use Rattle.vl_same.specs.FullNames.{renamed, flat_expr, flat_selects}
 use Rattle.vl_scope.specs.Texts.{texts, AgreeOn}
 use Rattle.vl_scope.proofs.Agree.{same_settled}
+use Rattle.vl_scope.proofs.Meant.{name_stays}
 
 -- over no constants, nothing in an expression is replaced
 module _ (c : List ℕ → Option Const) (empty : (text : List ℕ) → c text ≡ None) where
@@ -65,3 +68,27 @@ pub ok_flat : {F : Type 0} (r : Result Expr F) (ss : List Scope) (c : List ℕ �
 ok_flat (Ok x) ss c e known agree is h =
     h ∙ ap (renamed (full ss)) (is ∙ same_settled c (constant_in ss) e agree)
 ok_flat (Err f) ss c e known agree is h = h
+
+-- ---- names
+
+pub copied_some : {A : Type 0} (r : Option (Bor A)) → is_some r ≡ is_some (option_copied r)
+copied_some None = refl
+copied_some (Some x) = refl
+
+module _ (ss : List Scope) (p : Pos) (text : List ℕ) where
+  -- one that means no constant, with its selects
+  pub selected_flat : (n : List ℕ) (made xs : Selects) → is_some (constant_in ss text) ≡ false → n ≡ full ss text
+      → made ≡ flat_selects ss xs → name p n made ≡ flat_expr ss (name p text xs)
+  selected_flat n made xs h e k =
+      (λ i. name p (e i) (k i))
+      ∙ ap (renamed (full ss)) (name_stays p text (settled_selects (constant_in ss) xs) (constant_in ss text) h)
+
+  pub none_whole : (n : List ℕ) → None ≡ constant_in ss text → n ≡ full ss text
+      → name p n whole ≡ flat_expr ss (name p text whole)
+  none_whole n h e = selected_flat n whole whole (ap is_some (sym h)) e refl
+
+  pub some_whole : (k : Const) → Some k ≡ constant_in ss text
+      → number p (number_of k) ≡ flat_expr ss (name p text whole)
+  some_whole k h = ap (λ o. renamed (full ss) (named_constant p text whole o)) h
+
+pub ruleset whole_names = (none_whole, some_whole)

@@ -1,9 +1,9 @@
 -- Constants in a table.
-use Rattle.std.specs.Prelude.{◌≡◌, refl, ℕ, List, [], ◌∷◌, ◌++◌, bytes_eq}
+use Rattle.std.specs.Prelude.{◌≡◌, refl, ℕ, List, [], ◌∷◌, ◌++◌, bytes_eq, length}
 use Rattle.std.specs.Prelude.{Some, None, Vec, Result, Ok, Err, OnOk, if◌then◌else◌}
 use Rattle.std.specs.declared.alloc.Global.{Global}
 use Rattle.std.specs.Map.{lookup}
-use Rattle.std.proofs.Common.{ap, ◌∙◌}
+use Rattle.std.proofs.Common.{ap, ◌∙◌, arith}
 use Rattle.vl_size.specs.declared.decl.Decl.{Decl}
 use Rattle.vl_mean.specs.declared.const_number.Const.{Const}
 use Rattle.vl_mean.specs.Constants.{constant_of}
@@ -18,6 +18,10 @@ pub lookup_constant : (text : List ℕ) (es : List Entry)
 lookup_constant text [] = refl
 lookup_constant text (e ∷ es) =
     ap (λ o. if bytes_eq text e.0.items then Some e.1 else o) (lookup_constant text es)
+
+pub none_kept : (text : List ℕ) (es : List Entry) → length es ≡ 0 → None ≡ constant_of (constants_of es) text
+none_kept text [] h = refl
+none_kept text (e ∷ es) h = absurd (omega (arith, h))
 
 -- one that isn't there yet
 pub no_constant : (text : List ℕ) (es : List Entry) (s : Scope) (key : Vec ℕ Global) → constants_of es ≡ s.constants

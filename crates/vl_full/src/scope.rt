@@ -61,7 +61,7 @@ impl Scope {
     pub fn constant(&self, name: &Text) -> Option<&Const>
         ensures { option_copied result ≡ constant_of self.now.constants name.now }
     {
-        self.constants.get(name.bytes())
+        kept_constant(&self.constants, name)
     }
 
     /// None exactly where the scope has no net and no variable of the name.
@@ -101,6 +101,17 @@ impl Scope {
             return Err(Memory);
         }
         self.decls.push(decl)
+    }
+}
+
+/// Where there are none, the name isn't looked up.
+fn kept_constant<'a>(constants: &'a IndexMap<Vec<u8>, Const>, name: &Text) -> Option<&'a Const>
+    ensures { option_copied result ≡ constant_of (spec.constants_of constants.now.entries) name.now }
+{
+    if constants.is_empty() {
+        None
+    } else {
+        constants.get(name.bytes())
     }
 }
 

@@ -8,7 +8,7 @@ use crate::judge::judge;
 use fv_base::Memory;
 use std::alloc::Global;
 use vl_refusal::ElabFault;
-use vl_scope::{Names, context_of, zero_divisor_of};
+use vl_scope::{Names, own_zero_divisor_of, zero_divisor_of};
 use vl_size::Context;
 use vl_tree::Expr;
 
@@ -45,6 +45,7 @@ pub fn expr_fault_in(
 }
 
 /// The same, where it has the size and the sign that it has by itself.
+#[tactic(auto, using(crate::proofs::Lowest::lowest_parts))]
 pub fn own_fault(
     alloc: Global,
     expr: &Expr,
@@ -53,6 +54,7 @@ pub fn own_fault(
 ) -> Result<Option<ElabFault>, Memory>
     ensures { IfOk result (λ g. g ≡ lowest (expressions.own_refusals names.now fixed expr.now)) }
 {
-    let context = context_of(alloc, expr, names)?;
-    expr_fault_in(alloc, expr, fixed, context, names)
+    let place = own_zero_divisor_of(alloc, expr, names)?;
+    let own = expr_fault(alloc, expr, fixed, names)?;
+    Ok(first_of(own, divided_by_zero(place)))
 }

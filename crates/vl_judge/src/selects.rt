@@ -3,6 +3,7 @@ ghost use Rattle.std.specs.Prelude.{◌≡◌, ◌&&◌, ◌||◌, not, int_le, 
 ghost use Rattle.vl_tree.specs.ExprView.{selects};
 ghost use Rattle.vl_size.specs.Size as size_spec;
 ghost use Rattle.vl_size.specs.Size.{is_bound};
+ghost use Rattle.vl_mean.specs.Constants as constants;
 ghost use Rattle.vl_mean.specs.Scopes.{is_clock_class};
 ghost use Rattle.vl_refusal.specs.Expressions as spec;
 ghost use Rattle.vl_refusal.specs.Meanings as meanings;
@@ -15,6 +16,7 @@ use crate::fault::{clock_if, first_of, not_constant_if, range_if};
 use crate::width::vector_of;
 use fv_base::{Memory, Pos, Text};
 use std::alloc::Global;
+use vl_mean::Const;
 use vl_mean::widths::bound;
 use vl_refusal::ElabFault;
 use vl_scope::{Meaning, Names, Object, value_of};
@@ -187,6 +189,26 @@ pub fn object_fault(
     }
 }
 
+fn constant_fault(
+    alloc: Global,
+    may: bool,
+    text: &Text,
+    value: &Const,
+    all: &[Select],
+    names: &Names,
+) -> Result<Option<ElabFault>, Memory>
+    ensures { IfOk result (λ g. g
+        ≡ lowest (spec.vector_selects names.now may (constants.vector_of text.now value.now) (selects all.now))) }
+{
+    match all {
+        [] => Ok(None),
+        [_, ..] => {
+            let decl = vector_of(alloc, text, value)?;
+            vector_fault(alloc, may, &decl, all, names)
+        }
+    }
+}
+
 /// What has to be constant has no net and no variable in it.
 #[tactic(auto, using(crate::proofs::Lowest::lowest_parts))]
 pub(crate) fn read_fault(
@@ -207,8 +229,7 @@ pub(crate) fn read_fault(
         Meaning::Shapeless => Ok(not_constant_if(fixed, pos)),
         Meaning::Later => Ok(Some(ElabFault::NotConstant(pos))),
         Meaning::Constant(value, selected) => {
-            let decl = vector_of(alloc, text, value)?;
-            vector_fault(alloc, *selected, &decl, all, names)
+            constant_fault(alloc, *selected, text, value, all, names)
         }
         Meaning::Object(object) => {
             let own = object_fault(alloc, pos, object, all, names)?;

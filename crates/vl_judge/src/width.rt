@@ -190,6 +190,25 @@ pub fn vector_of(alloc: Global, text: &Text, value: &Const) -> Result<Decl, Memo
     })
 }
 
+fn constant_width(
+    alloc: Global,
+    text: &Text,
+    value: &Const,
+    all: &[Select],
+    names: &Names,
+) -> Result<Option<u64>, Memory>
+    ensures { IfOk result (λ n. n
+        ≡ spec.vector_width names.now (constants.vector_of text.now value.now) (selects all.now)) }
+{
+    match all {
+        [] => Ok(Some(u64::from(value.width))),
+        [_, ..] => {
+            let decl = vector_of(alloc, text, value)?;
+            vector_width(alloc, &decl, all, names)
+        }
+    }
+}
+
 /// The width of a name with selects.
 pub fn name_width(
     alloc: Global,
@@ -201,10 +220,7 @@ pub fn name_width(
     ensures { IfOk result (λ n. n ≡ spec.name_width names.now text.now (seen meaning.now) (selects all.now)) }
 {
     match meaning {
-        Meaning::Constant(value, _) => {
-            let decl = vector_of(alloc, text, value)?;
-            vector_width(alloc, &decl, all, names)
-        }
+        Meaning::Constant(value, _) => constant_width(alloc, text, value, all, names),
         Meaning::Object(object) => object_width(alloc, object, all, names),
         Meaning::LoopVariable | Meaning::Faulty | Meaning::Shapeless | Meaning::Later => Ok(None),
     }

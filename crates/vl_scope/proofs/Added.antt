@@ -1,7 +1,7 @@
 -- A scope with a name more.
 use Rattle.std.specs.Prelude.{◌≡◌, refl, ℕ, List, [], ◌∷◌, ◌++◌, Bool, true, false, bytes_eq}
 use Rattle.std.specs.Prelude.{Option, Some, None, Vec}
-use Rattle.std.specs.Prelude.{if◌then◌else◌, is_some, Result, Ok, Err, OnOk, OnErr}
+use Rattle.std.specs.Prelude.{if◌then◌else◌, is_some, not, Result, Ok, Err, OnOk, OnErr}
 use Rattle.std.specs.declared.alloc.Global.{Global}
 use Rattle.std.specs.Map.{lookup}
 use Rattle.std.specs.Option.{option_copied}
@@ -9,7 +9,8 @@ use Rattle.std.proofs.Common.{ap, sym, ◌∙◌, subst, Bor}
 use Rattle.vl_size.proofs.Entries.{copied_some}
 use Rattle.vl_refusal.specs.Meanings.{Meaning, Names, is_undeclared, meaning_of}
 use Rattle.vl_scope.specs.declared.meaning.Meaning.{Meaning as Kept}
-use Rattle.vl_scope.specs.Seen.{Entry, seen, seen_or, names_of, with_name, IsNamed, AreNamed}
+use Rattle.vl_scope.specs.declared.meaning.Named.{Named}
+use Rattle.vl_scope.specs.Seen.{Entry, seen, seen_or, names_of, names_from, with_name, AreBehind, IsNamed, AreNamed}
 use Rattle.vl_scope.proofs.Levels.{lookup_seen, seen_declared}
 
 append_names : (es : List Entry) (e : Entry)
@@ -28,63 +29,101 @@ none_of : (o : Option Kept) → is_some o ≡ false → o ≡ None
 none_of None h = refl
 none_of (Some m) h = cc
 
--- what a look-up under one name says of the same name elsewhere
-said : (text key : List ℕ) (b : Bool) (r : Option (Bor Kept)) (es : List Entry) → b ≡ is_some r
-    → option_copied r ≡ lookup (λ k. bytes_eq text k.items) es → text ≡ key
-    → is_some (lookup (λ k. bytes_eq key k.items) es) ≡ b
-said text key b r es h v n =
-    ap (λ n. is_some (lookup (λ k. bytes_eq n k.items) es)) (sym n) ∙ ap is_some (sym v) ∙ sym (copied_some r)
-    ∙ sym h
-
-pub is_there : (text key : List ℕ) (b : Bool) (r : Option (Bor Kept)) (es : List Entry) → b ≡ is_some r
-    → b ≡ true
-    → option_copied r ≡ lookup (λ k. bytes_eq text k.items) es → text ≡ key
-    → is_some (lookup (λ k. bytes_eq key k.items) es) ≡ true
-is_there text key b r es h t v n = said text key b r es h v n ∙ t
-
-pub is_absent : (text key : List ℕ) (b : Bool) (r : Option (Bor Kept)) (es : List Entry) → b ≡ is_some r
-    → b ≡ false
-    → option_copied r ≡ lookup (λ k. bytes_eq text k.items) es → text ≡ key
-    → lookup (λ k. bytes_eq key k.items) es ≡ None
-is_absent text key b r es h t v n =
-    none_of (lookup (λ k. bytes_eq key k.items) es) (said text key b r es h v n ∙ t)
+-- the first name of a scope
+pub first_named : (o : Option Named) (es : List Entry) (n : Named) (b : Bool) → AreBehind o es → is_some o ≡ not b
+    → b ≡ true → names_from (Some n) es ≡ with_name (names_from o es) n.text (seen n.meaning)
+first_named None es n b h e k =
+    (λ i. (n.text, seen n.meaning) ∷ names_of (h i))
+    ∙ (λ i. with_name (names_of (sym h i)) n.text (seen n.meaning))
+first_named (Some x) es n b h e k = let no : true ≡ false = e ∙ ap not k in cc
 
 -- one that is there already
-pub name_kept : (es : List Entry) (text : List ℕ) (m : Meaning)
-    → is_some (lookup (λ key. bytes_eq text key.items) es) ≡ true
-    → names_of es ≡ with_name (names_of es) text m
-name_kept es text m h =
-    let there = sym (ap is_undeclared (lookup_seen text es))
-    ∙ found (lookup (λ key. bytes_eq text key.items) es) h in
-    ap (λ b. if b then names_of es ++ (text, m) ∷ [] else names_of es) (sym there)
+pub name_kept : (ns : Names) (text : List ℕ) (m : Meaning) (r : Option (Bor Kept)) (b : Bool)
+    → seen_or (option_copied r) ≡ meaning_of ns text → b ≡ is_some r → b ≡ true → ns ≡ with_name ns text m
+name_kept ns text m r b h e k =
+    let there = sym (ap is_undeclared h) ∙ found (option_copied r) (sym (copied_some r) ∙ sym e ∙ k) in
+    ap (λ b. if b then ns ++ (text, m) ∷ [] else ns) (sym there)
 
 -- one that isn't
-name_new : (es : List Entry) (key : Vec ℕ Global) (m : Kept)
-    → lookup (λ k. bytes_eq key.items k.items) es ≡ None
-    → names_of (es ++ (key, m) ∷ []) ≡ with_name (names_of es) key.items (seen m)
-name_new es key m h =
-    let absent =
-    sym (ap is_undeclared (lookup_seen key.items es)) ∙ gone (lookup (λ k. bytes_eq key.items k.items) es) h in
-    append_names es (key, m)
-    ∙ ap (λ b. if b then names_of es ++ (key.items, seen m) ∷ [] else names_of es) (sym absent)
+absent : (ns : Names) (text : List ℕ) (r : Option (Bor Kept)) (b : Bool)
+    → seen_or (option_copied r) ≡ meaning_of ns text → b ≡ is_some r → b ≡ false
+    → is_undeclared (meaning_of ns text) ≡ true
+absent ns text r b h e k =
+    sym (ap is_undeclared h) ∙ gone (option_copied r) (none_of (option_copied r) (sym (copied_some r) ∙ sym e ∙ k))
 
-pub name_added : {A E : Type 0} (r : Result A E) (old new : List Entry) (key : Vec ℕ Global) (m : Kept)
-    (ns : Names) (text : List ℕ) → names_of old ≡ ns → key.items ≡ text
-    → lookup (λ k. bytes_eq key.items k.items) old ≡ None → OnOk r (new ≡ old ++ (key, m) ∷ [])
-    → OnOk r (names_of new ≡ with_name ns text (seen m))
-name_added (Ok x) old new key m ns text e n h made =
-    ap names_of made ∙ name_new old key m h ∙ (λ i. with_name (e i) (n i) (seen m))
-name_added (Err x) old new key m ns text e n h made = made
+none_seen : (o : Option Kept) → is_undeclared (seen_or o) ≡ true → o ≡ None
+none_seen None h = refl
+none_seen (Some m) h = let no : false ≡ true = sym (seen_declared m) ∙ h in cc
+
+none_among : (o : Option Named) (es : List Entry) (text : List ℕ)
+    → is_undeclared (meaning_of (names_from o es) text) ≡ true
+    → is_undeclared (meaning_of (names_of es) text) ≡ true
+none_among None es text h = h
+none_among (Some n) es text h = by (bytes_eq text n.text) h
+  where
+    by : (b : Bool) → is_undeclared (if b then seen n.meaning else meaning_of (names_of es) text) ≡ true
+        → is_undeclared (meaning_of (names_of es) text) ≡ true
+    by true h = let no : false ≡ true = sym (seen_declared n.meaning) ∙ h in cc
+    by false h = h
+
+-- it has no key
+pub no_key : (o : Option Named) (es : List Entry) (text key : List ℕ) (r : Option (Bor Kept)) (b : Bool)
+    → seen_or (option_copied r) ≡ meaning_of (names_from o es) text → b ≡ is_some r → b ≡ false → key ≡ text
+    → lookup (λ k. bytes_eq key k.items) es ≡ None
+no_key o es text key r b h e k n =
+    ap (λ n. lookup (λ k. bytes_eq n k.items) es) n
+    ∙ none_seen (lookup (λ k. bytes_eq text k.items) es) (ap is_undeclared (lookup_seen text es)
+    ∙ none_among o es text (absent (names_from o es) text r b h e k))
+
+append_behind : (o : Option Named) (es : List Entry) (e : Entry)
+    → names_from o (es ++ e ∷ []) ≡ names_from o es ++ (e.0.items, seen e.1) ∷ []
+append_behind None es e = append_names es e
+append_behind (Some n) es e = ap (λ ns. (n.text, seen n.meaning) ∷ ns) (append_names es e)
+
+pub name_added : {A E : Type 0} (r : Result A E) (o : Option Named) (old new : List Entry) (key : Vec ℕ Global)
+    (m : Kept) (text : List ℕ) (x : Option (Bor Kept)) (b : Bool)
+    → seen_or (option_copied x) ≡ meaning_of (names_from o old) text → b ≡ is_some x → b ≡ false → key.items ≡ text
+    → OnOk r (new ≡ old ++ (key, m) ∷ [])
+    → OnOk r (names_from o new ≡ with_name (names_from o old) text (seen m))
+name_added (Ok y) o old new key m text x b h e k n made =
+    ap (names_from o) made ∙ append_behind o old (key, m)
+    ∙ ap (λ t. names_from o old ++ (t, seen m) ∷ []) n
+    ∙ ap (λ b. if b then names_from o old ++ (text, seen m) ∷ [] else names_from o old)
+    (sym (absent (names_from o old) text x b h e k))
+name_added (Err y) o old new key m text x b h e k n made = made
+
+pub none_added : {A E : Type 0} (r : Result A E) (o : Option Named) (old new : List Entry) → OnErr r (new ≡ old)
+    → OnErr r (names_from o new ≡ names_from o old)
+none_added (Ok y) o old new h = h
+none_added (Err y) o old new h = ap (names_from o) h
+
+-- behind a first name anything may stand
+pub stay_behind : (o : Option Named) (es : List Entry) (b : Bool) → is_some o ≡ not b → b ≡ false → AreBehind o es
+stay_behind None es b e k = let no : false ≡ true = e ∙ ap not k in cc
+stay_behind (Some n) es b e k = tt
 
 named_append : (ns : Names) (text : List ℕ) (m : Meaning) → AreNamed ns → IsNamed (text, m)
     → AreNamed (ns ++ (text, m) ∷ [])
 named_append [] text m h k = (k, tt)
 named_append (n ∷ ns) text m h k = (h.0, named_append ns text m h.1 k)
 
-pub named_added : {A E : Type 0} (r : Result A E) (old new : List Entry) (key : Vec ℕ Global) (m : Kept)
-    → AreNamed (names_of old) → IsNamed (key.items, seen m) → OnOk r (new ≡ old ++ (key, m) ∷ [])
-    → OnErr r (new ≡ old) → AreNamed (names_of new)
-named_added (Ok x) old new key m h k p q =
-    subst AreNamed (sym (ap names_of p
-    ∙ append_names old (key, m))) (named_append (names_of old) key.items (seen m) h k)
-named_added (Err x) old new key m h k p q = subst (λ es. AreNamed (names_of es)) (sym q) h
+named_with : (ns : Names) (text : List ℕ) (m : Meaning) (b : Bool) → AreNamed ns → IsNamed (text, m)
+    → AreNamed (if b then ns ++ (text, m) ∷ [] else ns)
+named_with ns text m true h k = named_append ns text m h k
+named_with ns text m false h k = h
+
+pub named_added : {A E : Type 0} (r : Result A E) (old new : Names) (text : List ℕ) (m : Meaning) → AreNamed old
+    → IsNamed (text, m) → OnOk r (new ≡ with_name old text m) → OnErr r (new ≡ old) → AreNamed new
+named_added (Ok x) old new text m h k p q =
+    subst AreNamed (sym p) (named_with old text m (is_undeclared (meaning_of old text)) h k)
+named_added (Err x) old new text m h k p q = subst AreNamed (sym q) h
+
+pub ok_added : {A E : Type 0} (r : Result A E) (old seen new : Names) (text : List ℕ) (m : Meaning) → old ≡ seen
+    → OnOk r (new ≡ with_name old text m) → OnOk r (new ≡ with_name seen text m)
+ok_added (Ok x) old seen new text m e h = h ∙ ap (λ ns. with_name ns text m) e
+ok_added (Err x) old seen new text m e h = h
+
+pub err_added : {A E : Type 0} (r : Result A E) (old seen new : Names) → old ≡ seen → OnErr r (new ≡ old)
+    → OnErr r (new ≡ seen)
+err_added (Ok x) old seen new e h = h
+err_added (Err x) old seen new e h = h ∙ e

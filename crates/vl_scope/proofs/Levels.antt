@@ -25,6 +25,10 @@ lookup_seen text (e ∷ es) = by (bytes_eq text e.0.items) (lookup_seen text es)
     by true h = refl
     by false h = h
 
+pub none_seen_among : (text : List ℕ) (es : List Entry) → length es ≡ 0 → undeclared ≡ meaning_of (names_of es) text
+none_seen_among text [] h = refl
+none_seen_among text (e ∷ es) h = absurd (omega (arith, h))
+
 pub seen_declared : (m : Kept) → is_undeclared (seen m) ≡ false
 seen_declared (k.Constant c selected) = refl
 seen_declared k.LoopVariable = refl

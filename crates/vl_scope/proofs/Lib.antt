@@ -1,6 +1,9 @@
 pub mod Agree
 pub mod Added
+pub mod Contexts
+pub mod Dividing
 pub mod Levels
+pub mod Meant
 pub mod Objects
 pub mod OfExpr
 pub mod Reached

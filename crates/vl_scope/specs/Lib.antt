@@ -1,3 +1,4 @@
-pub mod Faults
+pub mod Contexts
+pub mod Divisions
 pub mod Seen
 pub mod Texts

@@ -7,6 +7,7 @@ use Rattle.vl_refusal.specs.Meanings.{Meaning, undeclared, constant, loop_variab
 use Rattle.vl_refusal.specs.Meanings.{Names, is_undeclared, meaning_of}
 use Rattle.vl_scope.specs.declared.meaning.Meaning.{Meaning as Kept}
 use Rattle.vl_scope.specs.declared.meaning.Meaning.TheVariants as k
+use Rattle.vl_scope.specs.declared.meaning.Named.{Named}
 
 abbrev pub seen : Kept → Meaning
 seen (k.Constant c selected) = constant c selected
@@ -25,6 +26,16 @@ Entry = Vec ℕ Global × Kept
 
 abbrev pub names_of : List Entry → Names
 names_of es = map (λ e. (e.0.items, seen e.1)) es
+
+-- the first name stands apart
+abbrev pub names_from : Option Named → List Entry → Names
+names_from None es = names_of es
+names_from (Some n) es = (n.text, seen n.meaning) ∷ names_of es
+
+-- without a first name there are no others
+abbrev pub AreBehind : Option Named → List Entry → Type 0
+AreBehind None es = es ≡ []
+AreBehind (Some n) es = Unit {0}
 
 -- the innermost scope stands last
 abbrev pub inward : List Names → List Names

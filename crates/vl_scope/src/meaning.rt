@@ -1,5 +1,6 @@
 ghost use Rattle.vl_size.specs.Table.{IsPlain, IsShaped};
 
+use fv_base::Text;
 use vl_mean::Const;
 use vl_size::Decl;
 
@@ -27,4 +28,11 @@ pub enum Meaning {
     Shapeless,
     /// A name of the scope of a parameter, and no parameter before it.
     Later,
+}
+
+/// A declared name with what it means.
+#[derive(Drop)]
+pub(crate) struct Named {
+    pub(crate) text: Text,
+    pub(crate) meaning: Meaning,
 }

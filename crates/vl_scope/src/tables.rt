@@ -4,19 +4,40 @@ ghost use Rattle.std.specs.Prelude.{bytes_eq};
 ghost use Rattle.std.specs.Prelude.{option_to_list, if◌then◌else◌};
 ghost use Rattle.vl_size.specs.Table.{declared_as, is_declared, IsPlain};
 ghost use Rattle.vl_mean.specs.Params.{constant};
+ghost use Rattle.vl_refusal.specs.Expressions.{known};
 ghost use Rattle.vl_refusal.specs.Meanings as meanings;
 ghost use Rattle.vl_scope.specs.Seen.{seen, object_of};
-ghost use Rattle.vl_scope.specs.Texts.{of_names, or_else};
+ghost use Rattle.vl_scope.specs.Texts.{texts, of_names, or_else, AgreeOn};
 
 use crate::meaning::{Meaning, Object};
 use crate::names::Names;
-use fv_base::{Memory, Text};
+use crate::texts::add_texts;
+use fv_base::{List, Memory, Text};
 use std::alloc::Global;
-use vl_mean::Params;
+use vl_mean::{Params, settled};
 use vl_size::{Decl, Decls};
+use vl_tree::Expr;
+
+/// The constants that the expression names.
+#[tactic(auto, using(crate::proofs::Reached::agrees))]
+fn params_of(alloc: Global, expr: &Expr, names: &Names) -> Result<Params, Memory>
+    ensures { IfOk result (λ params. AgreeOn (constant params) (meanings.constants names.now) (texts expr.now)) }
+{
+    let mut found = List::new(alloc);
+    add_texts(alloc, expr, &mut found)?;
+    constants_of(alloc, found.as_slice(), names)
+}
+
+/// The expression with the number of each constant in its place, over a table of those that it names.
+pub(crate) fn known_by_table(alloc: Global, expr: &Expr, names: &Names) -> Result<Expr, Memory>
+    ensures { IfOk result (λ e. e ≡ known names.now expr.now) }
+{
+    let params = params_of(alloc, expr, names)?;
+    settled(alloc, expr, &params)
+}
 
 /// Those of the names that mean a constant.
-pub(crate) fn constants_of(alloc: Global, texts: &[Text], names: &Names) -> Result<Params, Memory>
+fn constants_of(alloc: Global, texts: &[Text], names: &Names) -> Result<Params, Memory>
     ensures { IfOk result (λ params. (text : List ℕ)
         → constant params text ≡ of_names (meanings.constants names.now) texts.now text) }
 {
@@ -62,8 +83,19 @@ fn set(alloc: Global, text: &Text, meaning: &Meaning, params: &mut Params) -> Re
     }
 }
 
+/// The nets and variables that the expression names.
+#[tactic(auto, using(crate::proofs::Reached::agrees))]
+pub(crate) fn decls_of(alloc: Global, expr: &Expr, names: &Names) -> Result<Decls, Memory>
+    ensures { IfOk result (λ decls. AgreeOn (declared_as decls) (declared_as (meanings.objects names.now))
+        (texts expr.now)) }
+{
+    let mut found = List::new(alloc);
+    add_texts(alloc, expr, &mut found)?;
+    objects_of(alloc, found.as_slice(), names)
+}
+
 /// Those of the names that mean a net or a variable.
-pub(crate) fn objects_of(alloc: Global, texts: &[Text], names: &Names) -> Result<Decls, Memory>
+fn objects_of(alloc: Global, texts: &[Text], names: &Names) -> Result<Decls, Memory>
     ensures { IfOk result (λ ds. (text : List ℕ)
         → declared_as ds text ≡ of_names (declared_as (meanings.objects names.now)) texts.now text) }
 {

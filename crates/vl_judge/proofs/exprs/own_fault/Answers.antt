@@ -1,11 +1,15 @@
-use Rattle.std.proofs.Common.{ap}
-use Rattle.vl_refusal.specs.Expressions.{expr_refusals}
+use Rattle.std.proofs.Common.{◌∙◌, ap}
+use Rattle.vl_size.specs.Divisors.{own_zero_divisor}
+use Rattle.vl_refusal.specs.Expressions.{divided_by_zero, known, refusals}
+use Rattle.vl_refusal.specs.Meanings.{objects}
 use Rattle.vl_refusal.specs.Refused.{lowest}
-use Rattle.vl_judge.proofs.Lowest.{ok_same}
+use Rattle.vl_judge.proofs.Lowest.{lowest_two}
 use Rattle.vl_judge.proofs.exprs.own_fault.Goals as goal
 
 pub returns : goal.returns
 returns c =
-    ok_same c.expr_fault_in.result _ _
-    (ap (λ k. lowest (expr_refusals c.args.names.now c.args.fixed k c.args.expr.now)) c.in_ok-context.ensures.value)
-    c.expr_fault_in.ensures
+    let ns = c.args.names.now in
+    let e = c.args.expr.now in
+    c.first_of.ensures
+    ∙ lowest_two (refusals ns c.args.fixed e) (divided_by_zero (own_zero_divisor (objects ns) (known ns e)))
+    _ _ c.in_ok-own.ensures (c.divided_by_zero.ensures ∙ ap (λ p. lowest (divided_by_zero p)) c.in_ok-place.ensures)

@@ -1,14 +1,8 @@
-use Rattle.std.proofs.Common.{◌∙◌, ap}
-use Rattle.vl_size.specs.Divisors.{own_context, own_zero_divisor, zero_divisor}
-use Rattle.vl_refusal.specs.Meanings.{objects}
-use Rattle.vl_scope.proofs.Agree.{same_own, same_divisor}
+use Rattle.vl_refusal.specs.Meanings.{constants, objects}
+use Rattle.vl_scope.proofs.Dividing.{none_divided_own}
 use Rattle.vl_scope.proofs.read.own_zero_divisor_of.Goals as goal
 
-pub returns : goal.returns
-returns c =
-    let ds = c.in_ok-decls.decls in
-    let all = objects c.args.names.now in
-    let e = c.in_ok-expr.expr in
-    c.own_zero_divisor.ensures ∙ ap (λ k. zero_divisor ds k e) (same_own ds all e c.in_ok-decls.ensures)
-    ∙ same_divisor ds all (own_context all e) e c.in_ok-decls.ensures
-    ∙ ap (own_zero_divisor all) c.in_ok-expr.ensures
+pub returns-else-has_division : goal.returns-else-has_division
+returns-else-has_division c =
+    none_divided_own (constants c.args.names.now) (objects c.args.names.now) c.args.expr.now c.has_division.result
+    c.has_division.ensures c.if-has_division.false

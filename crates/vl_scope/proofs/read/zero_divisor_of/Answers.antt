@@ -1,12 +1,8 @@
-use Rattle.std.proofs.Common.{◌∙◌, ap}
-use Rattle.vl_size.specs.Divisors.{zero_divisor}
-use Rattle.vl_refusal.specs.Meanings.{objects}
-use Rattle.vl_scope.proofs.Agree.{same_divisor}
+use Rattle.vl_refusal.specs.Meanings.{constants, objects}
+use Rattle.vl_scope.proofs.Dividing.{none_divided}
 use Rattle.vl_scope.proofs.read.zero_divisor_of.Goals as goal
 
-pub returns : goal.returns
-returns c =
-    c.zero_divisor.ensures
-    ∙ same_divisor c.in_ok-decls.decls
-    (objects c.args.names.now) c.args.context c.in_ok-expr.expr c.in_ok-decls.ensures
-    ∙ ap (zero_divisor (objects c.args.names.now) c.args.context) c.in_ok-expr.ensures
+pub returns-else-has_division : goal.returns-else-has_division
+returns-else-has_division c =
+    none_divided (constants c.args.names.now) (objects c.args.names.now) c.args.context c.args.expr.now c.has_division.result
+    c.has_division.ensures c.if-has_division.false

@@ -1,6 +1,6 @@
 use Rattle.vl_mean.specs.Params.{constant}
 use Rattle.vl_flat.proofs.Settling.{ok_flat}
-use Rattle.vl_flat.proofs.exprs.flat_expr.Goals as goal
+use Rattle.vl_flat.proofs.exprs.flat_by_table.Goals as goal
 
 pub returns : goal.returns
 returns c =
