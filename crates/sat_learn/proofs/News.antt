@@ -14,7 +14,6 @@ use Rattle.lrat_check.specs.Sets.{reading}
 use Rattle.lrat_check.specs.Steps.{Held, numbered}
 use Rattle.lrat_check.specs.Resolved.{IsResolvent, is_open, Strengthens}
 use Rattle.sat_trail.specs.Trail.{Entries, lits, decided, below}
-use Rattle.sat_trail.specs.Clauses.{AllFalse, Within}
 use Rattle.sat_learn.specs.Analysis.{Resolves, is_unit}
 use Rattle.sat_trail.proofs.Members.{same_is, same_self, neg_neg, or_left, or_right, or_cases, has_head, has_tail}
 use Rattle.sat_trail.proofs.Members.{any_has, without_has, without_from}
