@@ -122,6 +122,7 @@ fn write_word(
         → numbers_of net.new g words.new
         ≡ written (width_at net.old shared.written) (numbers_of net.old g words.old)
         (value_at net.old g acts) index mask number) }
+    ensures same_words { OnErr result (words.new ≡ words.old) }
 {
     let after = word_after(net, words[index], acts, shared)?;
     words[index] = after;
@@ -268,6 +269,30 @@ fn write_each(
     Ok(())
 }
 
+/// Puts for the word at a constant address its node after the write, where there is such a word. No other is looked at.
+fn write_known(
+    net: &mut Net,
+    words: &mut [NodeId],
+    write: &MemWrite,
+    number: u128,
+) -> Result<(), Memory>
+    requires words { AreWords net.old words.old }
+    requires write { IsWriteOf net.old (words_width net.old words.old) write.now }
+    requires known { (g : Given) → value_at net.old g write.now.addr ≡ number }
+    ensures adds { AddsNodes net.old net.new }
+    ensures there { OnOk result (AreNodesOf net.new (words_width net.old words.old) words.new) }
+    ensures value { OnOk result ((g : Given) → IsGiven net.old g
+        → numbers_of net.new g words.new ≡ after_write net.old g words.old write.now) }
+    ensures same_words { OnErr result (words.new ≡ words.old) }
+{
+    if number >= words.len() as u128 {
+        return Ok(());
+    }
+    let shared = share(net, write)?;
+    write_word(net, words, number as usize, write.enable, shared)?;
+    Ok(())
+}
+
 /// Puts the words after the write; at a constant address the one word alone is looked at.
 fn write_words(net: &mut Net, words: &mut [NodeId], write: &MemWrite) -> Result<(), Memory>
     requires words { AreWords net.old words.old }
@@ -282,12 +307,7 @@ fn write_words(net: &mut Net, words: &mut [NodeId], write: &MemWrite) -> Result<
         write_each(net, words, write, shared)?;
         return Ok(());
     };
-    if number >= words.len() as u128 {
-        return Ok(());
-    }
-    let shared = share(net, write)?;
-    write_word(net, words, number as usize, write.enable, shared)?;
-    Ok(())
+    write_known(net, words, write, number)
 }
 
 /// The words after the write, without giving nodes back where no memory is left.
@@ -330,6 +350,15 @@ pub fn write_all(
 {
     let nodes = net.nodes().len();
     let regs = net.regs().len();
+    if let Some(number) = constant_of(net, write.addr) {
+        return match write_known(net, words, write, number) {
+            Ok(()) => Ok(()),
+            Err(fault) => {
+                net.cut(nodes, regs);
+                Err(fault)
+            }
+        };
+    }
     match written_words(alloc, net, words, write) {
         Ok(made) => {
             words.copy_from_slice(made.as_slice());
