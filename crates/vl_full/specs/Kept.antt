@@ -1,14 +1,28 @@
 -- Scopes to which names are added one behind the other. Rule of this project.
-use Rattle.std.specs.Prelude.{ℕ, List, [], ◌∷◌, ◌++◌, map, Vec}
+use Rattle.std.specs.Prelude.{◌≡◌, ℕ, List, [], ◌∷◌, ◌++◌, map, Option, Some, None, Vec}
 use Rattle.std.specs.declared.alloc.Global.{Global}
 use Rattle.vl_size.specs.declared.decl.Decl.{Decl}
 use Rattle.vl_mean.specs.declared.const_number.Const.{Const}
 use Rattle.vl_mean.specs.Constants.{Constants}
 use Rattle.vl_mean.specs.Scopes.{Scope}
+use Rattle.vl_full.specs.declared.named.Named.{Named}
+
+abbrev pub Entry : Type 0
+Entry = Vec ℕ Global × Const
 
 -- the constants of a table, in order
-abbrev pub constants_of : List (Vec ℕ Global × Const) → Constants
+abbrev pub constants_of : List Entry → Constants
 constants_of es = map (λ e. (e.0.items, e.1)) es
+
+-- the first one stands apart
+abbrev pub constants_from : Option Named → List Entry → Constants
+constants_from None es = constants_of es
+constants_from (Some n) es = (n.text, n.value) ∷ constants_of es
+
+-- without a first one there are no others
+abbrev pub AreBehind : Option Named → List Entry → Type 0
+AreBehind None es = es ≡ []
+AreBehind (Some n) es = Unit {0}
 
 -- one that declares nothing
 abbrev pub empty_scope : List ℕ → Scope

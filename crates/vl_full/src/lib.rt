@@ -2,6 +2,8 @@
 //! which constants names mean.
 #![tactic(auto)]
 
+mod constants;
+mod named;
 mod scope;
 mod scopes;
 

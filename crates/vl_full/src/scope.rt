@@ -1,13 +1,12 @@
 //! One scope, with the names that it declares.
-ghost use Rattle.std.specs.Prelude.{◌≡◌, ◌++◌, ◌∷◌, [], false, None, OnOk, OnErr, bytes_eq};
+ghost use Rattle.std.specs.Prelude.{◌≡◌, false, None, OnOk, OnErr};
 ghost use Rattle.std.specs.Option.{option_copied};
-ghost use Rattle.std.specs.Map.{lookup};
 ghost use Rattle.vl_size.specs.Table.{declared_as, is_declared, IsPlain, IsShaped};
 ghost use Rattle.vl_mean.specs.Constants.{constant_of};
 ghost use Rattle.vl_full.specs.Kept as spec;
 
+use crate::constants::ConstantTable;
 use fv_base::{Memory, Text};
-use indexmap::IndexMap;
 use std::alloc::Global;
 use std::marker::Model;
 use vl_mean::Const;
@@ -19,21 +18,20 @@ use vl_size::{Decl, Decls};
 pub struct Scope {
     path: Text,
     decls: Decls,
-    constants: IndexMap<Vec<u8>, Const>,
+    constants: ConstantTable,
 }
 
 impl Model for Scope {
     ghost use Rattle.std.specs.Prelude.{All};
     ghost use Rattle.vl_size.specs.Table.{IsPlain};
     ghost use Rattle.vl_mean.specs.Scopes as scopes;
-    ghost use Rattle.vl_full.specs.Kept.{constants_of};
 
     ghost Value = { scopes.Scope };
 
     ghost view = { λ s. record {
       path = s.path;
       decls = s.decls;
-      constants = constants_of s.constants.entries;
+      constants = s.constants;
     } };
 
     ghost invariant = { λ s. All IsPlain s.decls };
@@ -47,7 +45,7 @@ impl Scope {
         Scope {
             path,
             decls: Decls::new(alloc),
-            constants: IndexMap::new(alloc),
+            constants: ConstantTable::new(alloc),
         }
     }
 
@@ -61,7 +59,7 @@ impl Scope {
     pub fn constant(&self, name: &Text) -> Option<&Const>
         ensures { option_copied result ≡ constant_of self.now.constants name.now }
     {
-        kept_constant(&self.constants, name)
+        self.constants.get(name)
     }
 
     /// None exactly where the scope has no net and no variable of the name.
@@ -84,7 +82,7 @@ impl Scope {
         ensures ok { OnOk result (self.new ≡ spec.with_constant self.old name value) }
         ensures err { OnErr result (self.new ≡ self.old) }
     {
-        put(&mut self.constants, name.into_vec(), value)
+        self.constants.add(name, value)
     }
 
     /// Adds a net or a variable behind the others. Where no memory is left it is dropped; so many that a table has no
@@ -102,25 +100,4 @@ impl Scope {
         }
         self.decls.push(decl)
     }
-}
-
-/// Where there are none, the name isn't looked up.
-fn kept_constant<'a>(constants: &'a IndexMap<Vec<u8>, Const>, name: &Text) -> Option<&'a Const>
-    ensures { option_copied result ≡ constant_of (spec.constants_of constants.now.entries) name.now }
-{
-    if constants.is_empty() {
-        None
-    } else {
-        constants.get(name.bytes())
-    }
-}
-
-/// A new key goes behind the others.
-fn put(map: &mut IndexMap<Vec<u8>, Const>, key: Vec<u8>, value: Const) -> Result<(), Memory>
-    requires { lookup (λ k. bytes_eq key.items k.items) map.old.entries ≡ None }
-    ensures ok { OnOk result (map.new.entries ≡ map.old.entries ++ (key, value) ∷ []) }
-    ensures err { OnErr result (map.new.entries ≡ map.old.entries) }
-{
-    map.insert(key, value)?;
-    Ok(())
 }

@@ -2,13 +2,13 @@ use Rattle.std.proofs.Common.{◌∙◌, ap}
 use Rattle.vl_mean.specs.Constants.{constant_of}
 use Rattle.vl_full.specs.Kept.{constants_of}
 use Rattle.vl_full.proofs.Tables.{lookup_constant, none_kept}
-use Rattle.vl_full.proofs.scope.kept_constant.Goals as goal
+use Rattle.vl_full.proofs.constants.other_constant.Goals as goal
 
 pub returns-then-is_empty : goal.returns-then-is_empty
 returns-then-is_empty c =
-    none_kept c.args.name.now c.args.constants.now.entries (c.is_empty.ensures.0 c.if-is_empty.true)
+    none_kept c.args.name.now c.args.others.now.entries (c.is_empty.ensures.0 c.if-is_empty.true)
 
 pub returns-else-is_empty : goal.returns-else-is_empty
 returns-else-is_empty c =
-    c.get.ensures.value ∙ lookup_constant c.bytes.result.now c.args.constants.now.entries
-    ∙ ap (constant_of (constants_of c.args.constants.now.entries)) c.bytes.ensures
+    c.get.ensures.value ∙ lookup_constant c.bytes.result.now c.args.others.now.entries
+    ∙ ap (constant_of (constants_of c.args.others.now.entries)) c.bytes.ensures
