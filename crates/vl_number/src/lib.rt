@@ -3,6 +3,7 @@
 
 mod given;
 mod number;
+mod operation;
 mod parameter;
 
 pub use given::{Given, given_by};

@@ -8,6 +8,7 @@ ghost use Rattle.vl_mean.specs.Env.{cells_of};
 ghost use Rattle.vl_refusal.specs.Meanings.{bound, constants};
 ghost use Rattle.vl_number.specs.Numbers as spec;
 
+use crate::operation::operation_number;
 use fv_base::Memory;
 use fv_bits::low;
 use std::alloc::Global;
@@ -86,14 +87,26 @@ pub(crate) fn bound_in(alloc: Global, expr: &Expr, numbers: &Names) -> Result<Ow
     Ok(own_alone(alloc, &expr))
 }
 
-/// The same of an expression over constants.
-fn number_in(alloc: Global, expr: &Expr, least: u32, numbers: &Names) -> Result<u128, Memory>
+/// Over a copy with numbers in place of constants.
+fn number_by_copy(alloc: Global, expr: &Expr, least: u32, numbers: &Names) -> Result<u128, Memory>
     requires { least ≤ 128 }
     ensures { IfOk result (λ n. let x = constants_spec.constant_operand (constants numbers.now) expr.now in
         n ≡ x.at (max least x.size) x.sign) }
 {
     let expr = known_expr(alloc, expr, numbers)?;
     Ok(number_alone(alloc, &expr, least))
+}
+
+/// The same of an expression over constants.
+fn number_in(alloc: Global, expr: &Expr, least: u32, numbers: &Names) -> Result<u128, Memory>
+    requires { least ≤ 128 }
+    ensures { IfOk result (λ n. let x = constants_spec.constant_operand (constants numbers.now) expr.now in
+        n ≡ x.at (max least x.size) x.sign) }
+{
+    match operation_number(expr, least, numbers) {
+        None => number_by_copy(alloc, expr, least, numbers),
+        Some(number) => Ok(number),
+    }
 }
 
 /// Whether the expression isn't 0, with the numbers that constants have by the definitions, refused or not.

@@ -26,7 +26,7 @@ fn constant_among(meaning: Option<&Meaning>) -> Option<Const>
 }
 
 /// The constant that the name means. None exactly where it means none.
-fn constant_of(names: &Names, text: &Text) -> Option<Const>
+pub fn constant_of(names: &Names, text: &Text) -> Option<Const>
     ensures { result ≡ meanings.constants names.now text.now }
 {
     constant_among(names.meaning(text))

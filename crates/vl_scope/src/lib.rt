@@ -12,7 +12,7 @@ mod settle;
 mod tables;
 mod texts;
 
-pub use constants::number_of;
+pub use constants::{constant_of, number_of};
 pub use context::context_of;
 pub use level::Level;
 pub use meaning::{Meaning, Object};
