@@ -1,8 +1,7 @@
 //! Names that mean constants, and the numbers that stand in their place.
-ghost use Rattle.std.specs.Prelude.{◌≡◌, false, IfOk, is_some};
+ghost use Rattle.std.specs.Prelude.{◌≡◌, IfOk, is_some};
 ghost use Rattle.std.specs.Option.{option_copied};
 ghost use Rattle.vl_tree.specs.Expr.{whole};
-ghost use Rattle.vl_tree.specs.ExprView.{selects};
 ghost use Rattle.vl_mean.specs.Constants as spec;
 ghost use Rattle.vl_refusal.specs.Meanings as meanings;
 ghost use Rattle.vl_scope.specs.Seen.{seen_or};
@@ -12,7 +11,7 @@ use crate::names::Names;
 use fv_base::{List, Memory, Number, Pos, Text};
 use std::alloc::Global;
 use vl_mean::Const;
-use vl_tree::{Expr, ExprKind, Select};
+use vl_tree::{Expr, ExprKind};
 
 fn constant_among(meaning: Option<&Meaning>) -> Option<Const>
     ensures { result ≡ meanings.value_of (seen_or (option_copied meaning.entry)) }
@@ -87,23 +86,4 @@ pub(crate) fn whole_name(
         ≡ spec.named_constant pos text.now whole (meanings.constants names.now text.now)) }
 {
     name_or_number(alloc, pos, text, constant_of(names, text))
-}
-
-/// A name that means no constant, with its selects.
-pub(crate) fn selected_name(
-    alloc: Global,
-    pos: Pos,
-    text: &Text,
-    all: List<Select>,
-    names: &Names,
-) -> Result<Expr, Memory>
-    requires { is_some (meanings.constants names.now text.now) ≡ false }
-    ensures { IfOk result (λ e. e
-        ≡ spec.named_constant pos text.now (selects all) (meanings.constants names.now text.now)) }
-{
-    let name = text.copied(alloc)?;
-    Ok(Expr {
-        pos,
-        kind: ExprKind::Name(name, all),
-    })
 }

@@ -1,5 +1,5 @@
 //! Expressions with numbers in place of constants, as names mean them.
-ghost use Rattle.std.specs.Prelude.{◌≡◌, IfOk};
+ghost use Rattle.std.specs.Prelude.{◌≡◌, false, IfOk, is_some};
 ghost use Rattle.vl_tree.specs.Expr.{exprs};
 ghost use Rattle.vl_tree.specs.ExprView.{selects, with_select};
 ghost use Rattle.vl_tree.specs.Expr as tree;
@@ -7,10 +7,10 @@ ghost use Rattle.vl_mean.specs.Constants as spec;
 ghost use Rattle.vl_refusal.specs.Expressions.{known};
 ghost use Rattle.vl_refusal.specs.Meanings as meanings;
 
-use crate::constants::{is_constant, selected_name, whole_name};
+use crate::constants::{is_constant, whole_name};
 use crate::names::Names;
 use crate::tables::known_by_table;
-use fv_base::{List, Memory};
+use fv_base::{List, Memory, Pos, Text};
 use std::alloc::Global;
 use vl_tree::{Expr, ExprKind, Select};
 
@@ -33,8 +33,7 @@ pub fn known_expr(alloc: Global, expr: &Expr, names: &Names) -> Result<Expr, Mem
                 if is_constant(names, text) {
                     known_by_table(alloc, expr, names)
                 } else {
-                    let selects = known_selects(alloc, all.as_slice(), names)?;
-                    selected_name(alloc, pos, text, selects, names)
+                    known_selected(alloc, pos, text, all.as_slice(), names)
                 }
             }
         },
@@ -113,17 +112,27 @@ fn known_parts(alloc: Global, all: &[Expr], names: &Names) -> Result<List<Expr>,
     Ok(parts)
 }
 
+/// A name that means no constant, with its selects.
 #[cycle(known)]
-#[tactic(auto, using(vl_mean::proofs::Making::parts))]
-fn known_selects(alloc: Global, all: &[Select], names: &Names) -> Result<List<Select>, Memory>
-    ensures { IfOk result (λ ss. selects ss
-        ≡ spec.settled_selects (meanings.constants names.now) (selects all.now)) }
+fn known_selected(
+    alloc: Global,
+    pos: Pos,
+    text: &Text,
+    all: &[Select],
+    names: &Names,
+) -> Result<Expr, Memory>
+    requires { is_some (meanings.constants names.now text.now) ≡ false }
+    ensures { IfOk result (λ e. e ≡ known names.now (tree.name pos text.now (selects all.now))) }
 {
+    let name = text.copied(alloc)?;
     let mut parts = List::new(alloc);
     for select in all {
         parts.push(known_select(alloc, select, names)?)?;
     }
-    Ok(parts)
+    Ok(Expr {
+        pos,
+        kind: ExprKind::Name(name, parts),
+    })
 }
 
 #[cycle(known)]

@@ -12,7 +12,7 @@ invariant-known_parts-loop-part l =
     before l.parts (spec.settled_exprs (constants l.names) (exprs (drop l.part-index l.all)))
     ≡ spec.settled_exprs (constants l.names) (exprs l.all)
 
-abbrev pub invariant-known_selects-loop-select : goal.invariant-known_selects-loop-select
-invariant-known_selects-loop-select l =
+abbrev pub invariant-known_selected-loop-select : goal.invariant-known_selected-loop-select
+invariant-known_selected-loop-select l =
     selects_before l.parts (spec.settled_selects (constants l.names) (selects (drop l.select-index l.all)))
     ≡ spec.settled_selects (constants l.names) (selects l.all)
