@@ -1,3 +1,4 @@
 pub mod After
+pub mod Sixteens
 pub mod Telling
 pub mod Tree

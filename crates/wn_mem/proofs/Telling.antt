@@ -1,9 +1,9 @@
 -- Words told apart by a node each: whether a number is the place of the word.
-use Rattle.std.specs.Prelude.{◌≡◌, refl, ℕ, zero, suc, ◌+◌, ◌-◌, ◌*◌, ◌/◌, ◌%◌, ◌<◌, ◌≤◌, ◌^◌, ◌==◌, max, Bool, true}
+use Rattle.std.specs.Prelude.{◌≡◌, refl, ℕ, zero, suc, ◌+◌, ◌-◌, ◌*◌, ◌/◌, ◌%◌, ◌<◌, ◌≤◌, ◌^◌, ◌==◌, Bool, true}
 use Rattle.std.specs.Prelude.{false}
 use Rattle.std.specs.Prelude.{if◌then◌else◌, bit_or, List, [], ◌∷◌, length, take, drop, slice_index, slice_set}
 use Rattle.std.specs.Int.Bits.{or_zero_l, or_zero_r}
-use Rattle.std.proofs.Common.{ap, sym, ◌∙◌, arith, subst, add-one}
+use Rattle.std.proofs.Common.{ap, sym, ◌∙◌, arith}
 use Rattle.std.proofs.lemmas.Bool.Decides.{nat_tests}
 use Rattle.std.proofs.lemmas.List.{get_or-take, get_or-set_same, get_or-set_other, take-map, drop-map, length-take-le}
 use Rattle.std.proofs.lemmas.Nat.{mod-pow-add, mod_below, pow_pos}
@@ -15,7 +15,7 @@ use Rattle.wn_net.specs.Net.{Netlist, IsNode, AreNodesOf, value_at}
 use Rattle.wn_net.specs.Changes.{AddsNodes}
 use Rattle.wn_net.proofs.Laws.{value_on}
 use Rattle.wn_mem.specs.Words.{Tell, numbers_of, word_from}
-use Rattle.wn_mem.proofs.Tree.{numbers_on, first_nodes, last_nodes}
+use Rattle.wn_mem.proofs.Tree.{numbers_on, last_nodes}
 use Rattle.wn_mem.proofs.After.{word_here}
 
 -- the bit of a power is set at its exponent alone

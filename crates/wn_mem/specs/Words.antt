@@ -1,32 +1,7 @@
 -- A memory as one node a word (rule of this project).
-use Rattle.std.specs.Prelude.{
-  ◌≡◌,
-  ℕ,
-  ◌+◌,
-  ◌*◌,
-  ◌^◌,
-  List,
-  [],
-  ◌∷◌,
-  length,
-  map,
-  slice_index,
-  bit_and,
-  ◌<◌,
-  zero,
-  suc,
-  max,
-  if◌then◌else◌,
-  ◌==◌,
-  ◌&&◌,
-  Bool,
-  Option,
-  None,
-  Some,
-  IfSome,
-}
+use Rattle.std.specs.Prelude.{◌≡◌, ℕ, ◌+◌, ◌-◌, ◌*◌, ◌^◌, List, [], ◌∷◌, length, map, slice_index, bit_and, ◌<◌, suc, max, if◌then◌else◌, ◌==◌, ◌&&◌, Bool, Option, None, Some, IfSome}
 use Rattle.wn_net.specs.declared.parts.MemWrite.{MemWrite}
-use Rattle.fv_bits.specs.Bits.{bit, complement, joined}
+use Rattle.fv_bits.specs.Bits.{bit, complement, joined, part}
 use Rattle.wn_net.specs.Value.{Given}
 use Rattle.wn_net.specs.Next.{written}
 use Rattle.wn_net.specs.Net.{Netlist, IsNode, IsNodeOf, AreNodesOf, width_at, value_at}
@@ -84,6 +59,12 @@ pub record Asks (net : Netlist) (w : MemWrite) (id : ℕ) : Type 0 where
 -- such a node, where there is one
 abbrev pub IsRequest : Netlist → MemWrite → Option ℕ → Type 0
 IsRequest net w asked = IfSome asked (Asks net w)
+
+-- the same write as groups of sixteen words see it: its address is without the lowest four bits
+pub record CountsGroups (old new : Netlist) (w group : MemWrite) : Type 0 where
+  pub enable : group.enable ≡ w.enable
+  pub addr : IsNodeOf new (width_at old w.addr - 4) group.addr
+  pub value : (g : Given) → value_at new g group.addr ≡ part 4 (width_at old w.addr - 4) (value_at old g w.addr)
 
 -- a node is there that is 0 in every cycle
 pub record IsZero (net : Netlist) (id : ℕ) : Type 0 where

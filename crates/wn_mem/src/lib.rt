@@ -3,6 +3,7 @@
 
 mod bits;
 mod constant;
+mod groups;
 mod marks;
 mod read;
 mod write;

@@ -25,6 +25,7 @@ ghost use Rattle.wn_mem.specs.Words.{words_width, numbers_of, hits};
 
 use crate::bits::{bits_for, reached};
 use crate::constant::constant_of;
+use crate::groups::write_by_groups;
 use fv_base::{Memory, Word};
 use fv_bits::ones;
 use std::alloc::Global;
@@ -32,9 +33,9 @@ use wn_net::{MemWrite, Net, NodeId};
 
 /// What the words share of a write: the bits that are written, and the mask of those that are kept, where any are.
 #[derive(Clone, Copy)]
-struct Shared {
-    written: NodeId,
-    kept: Option<NodeId>,
+pub(crate) struct Shared {
+    pub(crate) written: NodeId,
+    pub(crate) kept: Option<NodeId>,
 }
 
 /// The mask of the bits that a write keeps; none where its own mask has the constant of all bits.
@@ -104,7 +105,7 @@ fn word_after(net: &mut Net, word: NodeId, acts: NodeId, shared: Shared) -> Resu
 }
 
 /// Puts for the word at the index its node after a write that acts on it where `acts` is 1.
-fn write_word(
+pub(crate) fn write_word(
     net: &mut Net,
     words: &mut [NodeId],
     index: usize,
@@ -130,7 +131,7 @@ fn write_word(
 }
 
 /// The bit that enables a write in front of its address, where both together have at most 128 bits.
-fn request(net: &mut Net, write: &MemWrite) -> Result<Option<NodeId>, Memory>
+pub(crate) fn request(net: &mut Net, write: &MemWrite) -> Result<Option<NodeId>, Memory>
     requires addr { IsNode net.old write.now.addr }
     requires enable { IsNodeOf net.old 1 write.now.enable }
     ensures adds { AddsNodes net.old net.new }
@@ -192,7 +193,7 @@ fn acts_at(net: &mut Net, write: &MemWrite, index: usize) -> Result<NodeId, Memo
 }
 
 /// 1 where a write acts on the word at the index.
-fn acts_on(
+pub(crate) fn acts_on(
     net: &mut Net,
     write: &MemWrite,
     asked: Option<NodeId>,
@@ -241,7 +242,47 @@ fn write_at(
     Ok(())
 }
 
+/// How many of the words an address of so many bits reaches.
+pub(crate) fn reached_by(words: usize, width: u32) -> usize
+    requires { words < 2 ^ 63 }
+    ensures few { result ≤ words }
+    ensures reached { result ≤ 2 ^ width }
+    ensures all { result < words → 2 ^ width ≤ result }
+{
+    let count = bits_for(words).min(width as usize);
+    reached(words, count)
+}
+
 /// Puts the words after a write at an address that isn't constant: each word is told by one test.
+fn write_singly(
+    net: &mut Net,
+    words: &mut [NodeId],
+    write: &MemWrite,
+    shared: Shared,
+) -> Result<(), Memory>
+    requires words { AreNodesOf net.old (width_at net.old shared.written) words.old }
+    requires write { IsWriteOf net.old (width_at net.old shared.written) write.now }
+    requires shared { AreShared net.old (width_at net.old shared.written) shared.written shared.kept }
+    ensures adds { AddsNodes net.old net.new }
+    ensures there { OnOk result (AreNodesOf net.new (width_at net.old shared.written) words.new) }
+    ensures value { OnOk result ((g : Given) (mask number : ℕ) → IsGiven net.old g
+        → ShareWrite net.old g (width_at net.old shared.written) mask number shared.written shared.kept
+        → numbers_of net.new g words.new
+        ≡ written (width_at net.old shared.written) (numbers_of net.old g words.old)
+        (value_at net.old g write.now.enable)
+        (value_at net.old g write.now.addr) mask number) }
+{
+    let width = net.width(write.addr);
+    let most = reached_by(words.len(), width);
+    let asked = request(net, write)?;
+    for index in 0..most {
+        write_at(net, words, write, asked, index, shared)?;
+    }
+    Ok(())
+}
+
+/// Puts the words after a write at an address that isn't constant; more than 4,096 of them by groups, which takes fewer
+/// nodes that are two deeper.
 fn write_each(
     net: &mut Net,
     words: &mut [NodeId],
@@ -260,13 +301,12 @@ fn write_each(
         (value_at net.old g write.now.enable)
         (value_at net.old g write.now.addr) mask number) }
 {
-    let count = bits_for(words.len()).min(net.width(write.addr) as usize);
-    let most = reached(words.len(), count);
-    let asked = request(net, write)?;
-    for index in 0..most {
-        write_at(net, words, write, asked, index, shared)?;
+    let width = net.width(write.addr);
+    if words.len() > 4_096 && width > 4 {
+        write_by_groups(net, words, write, shared)
+    } else {
+        write_singly(net, words, write, shared)
     }
-    Ok(())
 }
 
 /// Puts for the word at a constant address its node after the write, where there is such a word. No other is looked at.

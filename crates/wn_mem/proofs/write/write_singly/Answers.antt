@@ -1,16 +1,15 @@
-use Rattle.std.specs.Prelude.{◌≡◌, ◌==◌, ◌&&◌, ◌<◌, ◌≤◌, ◌^◌, length, ℕ}
+use Rattle.std.specs.Prelude.{◌≡◌, ◌==◌, ◌&&◌, ◌<◌, ◌^◌, length, ℕ}
 use Rattle.std.proofs.Common.{◌∙◌, sym, subst, arith, ap, add-one}
 use Rattle.std.proofs.lemmas.List.{length-map}
-use Rattle.std.proofs.Math.Pow.{pow_mono}
 use Rattle.fv_bits.specs.Bits.{bit}
 use Rattle.wn_net.specs.Next.{written}
 use Rattle.wn_net.specs.Net.{AreNodesOf, value_at, width_at}
 use Rattle.wn_net.proofs.Laws.{adds_on, nodes_on, given_on, value_on}
 use Rattle.wn_net.proofs.Moved.{value_below}
 use Rattle.wn_mem.specs.Words.{numbers_of}
-use Rattle.wn_mem.proofs.Tree.{numbers_on, all_bits}
+use Rattle.wn_mem.proofs.Tree.{numbers_on}
 use Rattle.wn_mem.proofs.After.{share_on, asked_on, none_so_far, one_more, all_so_far, so_far}
-use Rattle.wn_mem.proofs.write.write_each.Goals as goal
+use Rattle.wn_mem.proofs.write.write_singly.Goals as goal
 
 pub loop-index-init : goal.loop-index-init
 loop-index-init c =
@@ -33,11 +32,10 @@ pub write_at-requires-clause-reached : goal.write_at-requires-clause-reached
 write_at-requires-clause-reached c =
     let net = c.args.net.now in
     let addr = c.args.write.now.addr in
-    let few : 2 ^ c.min-count.result ≤ 2 ^ width_at net addr =
-    pow_mono (omega (arith, c.min-count.ensures, c.width.ensures.value)) in
     let same : 2 ^ width_at c.loop-index.net addr ≡ 2 ^ width_at net addr =
     ap (λ w. 2 ^ w) (c.loop-index.invariant.adds.keeps.widths addr c.requires.write.addr) in
-    omega (arith, c.reached-most.ensures, few, same, c.loop-index-test.true)
+    let wide : 2 ^ c.width-width.result ≡ 2 ^ width_at net addr = ap (λ w. 2 ^ w) c.width-width.ensures.value in
+    omega (arith, c.reached_by-most.ensures.reached, wide, same, c.loop-index-test.true)
 
 pub loop-index-preserved : goal.loop-index-preserved
 loop-index-preserved c =
@@ -79,15 +77,11 @@ returns-clause-value c = λ g mask number given s.
     let a = value_at net g write.addr in
     let i = c.loop-index.index in
     let long : length nums ≡ length c.args.words.now = length-map c.args.words.now (value_at net g) in
-    let below : a < 2 ^ width_at net write.addr = value_below net g c.width.ensures.whole given write.addr in
+    let below : a < 2 ^ width_at net write.addr = value_below net g c.width-width.ensures.whole given write.addr in
+    let wide : 2 ^ c.width-width.result ≡ 2 ^ width_at net write.addr = ap (λ u. 2 ^ u) c.width-width.ensures.value in
     let reached : i < length nums → a < i =
     λ k.
-    let less : 2 ^ c.min-count.result < length c.args.words.now =
-    omega (arith, k, long, c.reached-most.ensures, c.loop-index-test.false) in
-    let wide : c.width.result ≤ c.min-count.result =
-    all_bits c.bits_for.result c.width.result c.min-count.result _ c.min-count.ensures c.bits_for.ensures.enough less in
-    let few : 2 ^ width_at net write.addr ≤ 2 ^ c.min-count.result =
-    pow_mono (omega (arith, wide, c.width.ensures.value)) in
-    omega (arith, k, long, below, few, less, c.reached-most.ensures, c.loop-index-test.false) in
+    let less : c.reached_by-most.result < length c.args.words.now = omega (arith, k, long, c.loop-index-test.false) in
+    omega (arith, below, wide, c.reached_by-most.ensures.all less, c.loop-index-test.false) in
     c.loop-index.invariant.value g mask number given s
     ∙ all_so_far w nums (value_at net g write.enable) a mask number i reached

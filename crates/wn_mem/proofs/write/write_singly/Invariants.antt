@@ -5,7 +5,7 @@ use Rattle.wn_net.specs.Given.{IsGiven}
 use Rattle.wn_net.specs.Changes.{AddsNodes}
 use Rattle.wn_mem.specs.Words.{IsRequest, ShareWrite, numbers_of}
 use Rattle.wn_mem.proofs.After.{so_far}
-use Rattle.wn_mem.proofs.write.write_each.Given as goal
+use Rattle.wn_mem.proofs.write.write_singly.Given as goal
 
 abbrev pub invariant-loop-index : goal.invariant-loop-index
 invariant-loop-index l = record {
