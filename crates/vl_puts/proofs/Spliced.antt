@@ -163,6 +163,9 @@ nothing_above w x m fits = let none : x / 2 ^ w ≡ 0 = div-eq_of_lt fits in ome
 pub lowest : (c x : ℕ) → part 0 c x ≡ low c x
 lowest c x = let one : x / 2 ^ 0 ≡ x = omega arith in ap (low c) one
 
+pub whole_part : (w x : ℕ) → x < 2 ^ w → x ≡ part 0 w x
+whole_part w x fits = sym (lowest w x ∙ mod-eq_of_lt fits)
+
 pub highest : (w c x : ℕ) → c ≤ w → x < 2 ^ w → part c (w - c) x ≡ x / 2 ^ c
 highest w c x within fits =
     let d : (w - c) + c ≡ w = omega (arith, within) in

@@ -2,7 +2,7 @@
 #![tactic(auto, using(wn_net::proofs::Laws::additions))]
 
 ghost use Rattle.std.specs.Prelude.{◌≡◌, ◌+◌, ◌/◌, ◌^◌, ◌≤◌, ◌<◌, min, ℕ, true, None, IfSome, IfOk, ℤ, pos, ◌+ℤ◌};
-ghost use Rattle.fv_bits.specs.Bits.{joined, low};
+ghost use Rattle.fv_bits.specs.Bits.{joined, low, part};
 ghost use Rattle.wn_net.specs.Net.{IsNode, width_at, value_at};
 ghost use Rattle.wn_net.specs.Changes.{AddsNodes, Shows};
 ghost use Rattle.vl_points.specs.Points.{is_place};
@@ -77,6 +77,22 @@ fn overlap_of(place: i64, count: u32, width: u32) -> Option<Overlap>
     Some(from_zero(place as u32, count, width))
 }
 
+/// So many bits of a node from a place on: the node itself where these are all that it has.
+fn part_of(net: &mut Net, value: NodeId, skip: u32, count: u32) -> Result<NodeId, Memory>
+    requires value { IsNode net.old value }
+    requires some { 1 ≤ count }
+    requires within { skip + count ≤ width_at net.old value }
+    ensures adds { AddsNodes net.old net.new }
+    ensures shows { IfOk result (Shows net.old net.new count (λ g. part skip count (value_at net.old g value))) }
+{
+    let width = net.width(value);
+    if count == width {
+        return Ok(value);
+    }
+    let bits = net.slice(value, skip, count)?;
+    Ok(bits)
+}
+
 /// A node in front of so many of the lowest bits of a vector.
 fn with_low(net: &mut Net, vector: NodeId, front: NodeId, count: u32) -> Result<NodeId, Memory>
     requires vector { IsNode net.old vector }
@@ -130,7 +146,7 @@ pub fn put(net: &mut Net, vector: NodeId, place: i64, value: NodeId) -> Result<N
     let Some(overlap) = overlap_of(place, count, width) else {
         return Ok(vector);
     };
-    let middle = net.slice(value, overlap.skip, overlap.past - overlap.from)?;
+    let middle = part_of(net, value, overlap.skip, overlap.past - overlap.from)?;
     let below = with_low(net, vector, middle, overlap.from)?;
     let whole = with_high(net, vector, below)?;
     Ok(whole)

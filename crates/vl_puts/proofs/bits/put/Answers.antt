@@ -40,14 +40,14 @@ returns-clause-shows c =
     let o : IsOverlap n w c.args.place from past skip =
     subst R c.width-width.ensures.value (subst Q c.width-count.ensures.value (subst P place_is
     c.in-Some.ensures.some)) in
-    let one = c.in_ok-middle.ensures.built in
+    let one = c.in_ok-middle.ensures in
     let two = c.in_ok-below.ensures in
     let three = c.in_ok-whole.ensures in
     let both = adds_on _ _ _ one.adds two.adds in
-    let first = c.slice.new.self in
+    let first = c.part_of.new.net in
     let last = c.with_low.new.net in
     let long : width_at last c.in_ok-below.below ≡ past =
-    two.shows.node.1 ∙ (λ i. one.width i + from) ∙ omega (arith, o.some) in
+    two.shows.node.1 ∙ (λ i. one.shows.node.1 i + from) ∙ omega (arith, o.some) in
     record {
       node = (three.shows.node.0, three.shows.node.1 ∙ both.keeps.widths c.args.vector c.requires.vector);
       value = λ g given.
@@ -55,7 +55,7 @@ returns-clause-shows c =
           let y = value_at net g c.args.value in
           let below : value_at last g c.in_ok-below.below ≡ joined from (part skip (past - from) y) (low from x) =
           two.shows.value g (given_on net first g one.adds given)
-          ∙ (λ i. joined from (one.value g i)
+          ∙ (λ i. joined from (one.shows.value g given i)
           (low from (value_on net first g c.args.vector one.adds c.requires.vector i))) in
           three.shows.value g (given_on net last g both given)
           ∙ (λ i. joined (long i) (value_on net last g c.args.vector both c.requires.vector i / 2 ^ long i) (below i))
