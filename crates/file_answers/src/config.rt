@@ -1,6 +1,6 @@
 //! Configurations: the checks with their cycles, the skipped lines and the files; or the refusal.
 
-use crate::escape;
+use certificate_answers::{parted, put_escaped};
 use ck_cfg::{CfgFault, Check, Piece, checks, file_names, read_cfg};
 use fv_base::{Memory, Text};
 use std::alloc::Global;
@@ -29,7 +29,7 @@ pub(crate) fn reading(alloc: Global, text: &[u8]) -> Result<String, Memory> {
 }
 
 fn put_check(out: &mut String, check: &Check) -> Result<(), Memory> {
-    escape::put(out, check.name.bytes())?;
+    put_escaped(out, check.name.bytes())?;
     write!(out, " {} {} {}, ", check.start, check.trig, check.cycle)?;
     Ok(())
 }
@@ -38,7 +38,7 @@ fn put_texts(out: &mut String, mark: &str, texts: &[Text]) -> Result<(), Memory>
     out.push_str(mark)?;
     for text in texts {
         out.push(' ')?;
-        escape::put(out, text.bytes())?;
+        put_escaped(out, text.bytes())?;
     }
     Ok(())
 }
@@ -47,7 +47,7 @@ fn put_texts(out: &mut String, mark: &str, texts: &[Text]) -> Result<(), Memory>
 fn put_fault(out: &mut String, fault: &CfgFault) -> Result<(), Memory> {
     let (line, detail) = parts(fault);
     write!(out, "{} {line} '", fault.number())?;
-    escape::put(out, detail)?;
+    put_escaped(out, detail)?;
     out.push('\'')?;
     Ok(())
 }
@@ -90,9 +90,9 @@ fn put_piece(out: &mut String, mark: &[u8], piece: &Piece) -> Result<(), Memory>
     if !out.is_empty() {
         out.push(' ')?;
     }
-    escape::put(out, mark)?;
+    put_escaped(out, mark)?;
     write!(out, " {}: ", piece.line)?;
-    escape::put(out, piece.text.bytes())?;
+    put_escaped(out, piece.text.bytes())?;
     out.push(';')?;
     Ok(())
 }
@@ -100,8 +100,8 @@ fn put_piece(out: &mut String, mark: &[u8], piece: &Piece) -> Result<(), Memory>
 /// The name of a file, with the core's name and the base folder put in, from `NAME|CORE|FOLDER`.
 pub(crate) fn file(alloc: Global, text: &[u8]) -> Result<String, Memory> {
     let mut out = String::new(alloc);
-    let (name, rest) = escape::parted(text);
-    let (core, basedir) = escape::parted(rest);
+    let (name, rest) = parted(text);
+    let (core, basedir) = parted(rest);
     let mut source = Vec::from_slice(alloc, b"[depth]\nhang\n[verilog-files]\n")?;
     source.extend_from_slice(name)?;
     let Ok(config) = read_cfg(alloc, source.as_slice()) else {
@@ -110,7 +110,7 @@ pub(crate) fn file(alloc: Global, text: &[u8]) -> Result<String, Memory> {
     let core = Text::from_bytes(alloc, core)?;
     let basedir = Text::from_bytes(alloc, basedir)?;
     for name in file_names(alloc, &config, &core, &basedir)?.as_slice() {
-        escape::put(&mut out, name.bytes())?;
+        put_escaped(&mut out, name.bytes())?;
     }
     Ok(out)
 }

@@ -1,6 +1,6 @@
 //! Value-change dumps.
 
-use crate::escape;
+use certificate_answers::put_escaped;
 use fv_base::{Memory, Trace};
 use std::alloc::Global;
 use vcd_text::{VcdFault, read_vcd, vcd};
@@ -23,7 +23,7 @@ pub(crate) fn reading(alloc: Global, text: &[u8]) -> Result<String, Memory> {
 
 fn put_trace(out: &mut String, trace: &Trace) -> Result<(), Memory> {
     for name in trace.names.as_slice() {
-        escape::put(out, name.text.bytes())?;
+        put_escaped(out, name.text.bytes())?;
         write!(out, " {}, ", name.width)?;
     }
     write!(out, "cycles {}", trace.cycles.len())?;

@@ -3,12 +3,10 @@
 //! answer, and promises nothing of its own.
 #![tactic(auto)]
 
-mod certificate;
 mod config;
 mod dump;
-mod escape;
-mod search;
 
+use certificate_answers::read_escaped;
 use fv_base::Memory;
 use std::alloc::Global;
 
@@ -18,7 +16,7 @@ pub fn answer(alloc: Global, line: &str) -> Result<String, Memory> {
         Some((word, rest)) => (word, rest),
         None => (line, ""),
     };
-    let text = escape::read(alloc, rest)?;
+    let text = read_escaped(alloc, rest)?;
     let text = text.as_slice();
     match word {
         "depth" => config::of_depth(alloc, text),
@@ -26,16 +24,15 @@ pub fn answer(alloc: Global, line: &str) -> Result<String, Memory> {
         "pieces" => config::pieces(alloc, text),
         "file" => config::file(alloc, text),
         "long-section" => config::long_section(alloc),
-        "proof" => certificate::judged(alloc, text),
-        "cut-proof" => certificate::cut(alloc, text),
-        "many-ids" => certificate::many_ids(alloc),
-        "again" => certificate::again(alloc, text),
-        "formula" => certificate::held(alloc),
-        "store" => certificate::stored(alloc),
-        "search" => search::found(alloc, text),
-        "random" => search::random(alloc, text),
         "dump" => dump::reading(alloc, text),
         "cut-dump" => dump::cut(alloc, text),
-        _ => Ok(format!(in alloc; "no case {word:?}")?),
+        _ => of_certificates(alloc, word, text),
+    }
+}
+
+fn of_certificates(alloc: Global, word: &str, text: &[u8]) -> Result<String, Memory> {
+    match certificate_answers::answer(alloc, word, text)? {
+        Some(answer) => Ok(answer),
+        None => Ok(format!(in alloc; "no case {word:?}")?),
     }
 }

@@ -1,5 +1,5 @@
 -- What is read of items, row by row.
-use Rattle.std.proofs.Common.{◌≡◌, ℕ, suc, ◌+◌, ◌-◌, ◌≤◌, ◌<◌, List, [], ◌∷◌, ◌++◌, length, refl, sym, ap, ◌∙◌, arith}
+use Rattle.std.proofs.Common.{◌≡◌, ℕ, suc, ◌-◌, ◌<◌, List, [], ◌∷◌, length, refl, arith}
 use Rattle.std.specs.Prelude.{Ok, Err}
 use Rattle.fv_base.specs.declared.kind.Kind.{Kind}
 use Rattle.fv_base.specs.declared.kind.Kind.TheVariants as k
@@ -7,56 +7,12 @@ use Rattle.fv_base.specs.declared.keyword.Keyword.TheVariants as w
 use Rattle.fv_base.specs.declared.symbol.Symbol.TheVariants as s
 use Rattle.vl_grammar.specs.Machine as machine
 use Rattle.vl_grammar.specs.Machine.{pop, bad, syntax, deep, then}
-use Rattle.vl_grammar.specs.Grammar.{endmodule, endgenerate, end, many, expand, read, sign, name, expr, in_parens}
-use Rattle.vl_grammar.specs.Grammar.{target, shape, declared_name, declared_names, names, parameters, assignments}
-use Rattle.vl_grammar.specs.Grammar.{stmt, initial_stmt, item, items, event, overrides, loop_head, generate_block}
-use Rattle.vl_grammar.specs.Grammar.{generate_block_label, generate_otherwise, modules, module_head, on_item}
+use Rattle.vl_grammar.specs.Grammar.{endgenerate, end, expand, read, name, in_parens}
+use Rattle.vl_grammar.specs.Grammar.{item, items, loop_head, generate_block}
+use Rattle.vl_grammar.specs.Grammar.{generate_block_label, generate_otherwise}
 use Rattle.vl_region.proofs.ItemsRows.{item_empty}
 use Rattle.vl_take.specs.Next.{IsOther}
-use Rattle.vl_take.specs.Parts.{row_read, row_deep, row_bad, same_row, many_read}
-
-pub item_wire : (n : ℕ) (ts : List Kind)
-    → read item n (k.Keyword w.Wire ∷ ts) ≡ then (read shape n ts)
-    (λ r. then (read declared_name n r) (λ q. read declared_names n q))
-item_wire n ts = row_read item n (k.Keyword w.Wire) ts 0 _ refl (omega arith)
-
-pub item_reg : (n : ℕ) (ts : List Kind) → read item n (k.Keyword w.Reg ∷ ts) ≡
-    then (read shape n ts) (λ r. then (read declared_name n r) (λ q. read declared_names n q))
-item_reg n ts = row_read item n (k.Keyword w.Reg) ts 0 _ refl (omega arith)
-
-pub item_integer : (n : ℕ) (ts : List Kind)
-    → read item n (k.Keyword w.Integer ∷ ts) ≡ then (read declared_name n ts) (λ r. read declared_names n r)
-item_integer n ts = row_read item n (k.Keyword w.Integer) ts 0 _ refl (omega arith)
-
-pub item_genvar : (n : ℕ) (ts : List Kind)
-    → read item n (k.Keyword w.Genvar ∷ ts) ≡ then (read name n ts) (λ r. read names n r)
-item_genvar n ts = row_read item n (k.Keyword w.Genvar) ts 0 _ refl (omega arith)
-
-pub item_parameter : (n : ℕ) (ts : List Kind)
-    → read item n (k.Keyword w.Parameter ∷ ts) ≡
-    then (read shape n ts) (λ r. then (read name n r)
-    (λ q. then (read (sign s.Equal) n q) (λ u. then (read expr n u) (λ v. read parameters n v))))
-item_parameter n ts = row_read item n (k.Keyword w.Parameter) ts 0 _ refl (omega arith)
-
-pub item_localparam : (n : ℕ) (ts : List Kind)
-    → read item n (k.Keyword w.Localparam ∷ ts) ≡
-    then (read shape n ts) (λ r. then (read name n r)
-    (λ q. then (read (sign s.Equal) n q) (λ u. then (read expr n u) (λ v. read parameters n v))))
-item_localparam n ts = row_read item n (k.Keyword w.Localparam) ts 0 _ refl (omega arith)
-
-pub item_assign : (n : ℕ) (ts : List Kind)
-    → read item n (k.Keyword w.Assign ∷ ts) ≡
-    then (read target n ts) (λ r. then (read (sign s.Equal) n r)
-    (λ q. then (read expr n q) (λ u. read assignments n u)))
-item_assign n ts = row_read item n (k.Keyword w.Assign) ts 0 _ refl (omega arith)
-
-pub item_always : (n : ℕ) (ts : List Kind)
-    → read item n (k.Keyword w.Always ∷ ts) ≡
-    then (read (sign s.At) n ts) (λ r. then (read event n r) (λ q. read stmt n q))
-item_always n ts = row_read item n (k.Keyword w.Always) ts 0 _ refl (omega arith)
-
-pub item_initial : (n : ℕ) (ts : List Kind) → read item n (k.Keyword w.Initial ∷ ts) ≡ read initial_stmt n ts
-item_initial n ts = row_read item n (k.Keyword w.Initial) ts 0 _ refl (omega arith)
+use Rattle.vl_take.specs.Parts.{row_read, row_deep, row_bad, same_row}
 
 pub item_generate : (n : ℕ) (ts : List Kind) → read item n (k.Keyword w.Generate ∷ ts) ≡ read (items endgenerate) n ts
 item_generate n ts = row_read item n (k.Keyword w.Generate) ts 0 _ refl (omega arith)
@@ -75,9 +31,6 @@ item_if n ts l = row_read item n (k.Keyword w.If) ts 1 _ refl l
 
 pub item_if_deep : (n : ℕ) (ts : List Kind) → n ≡ 0 → read item n (k.Keyword w.If ∷ ts) ≡ Err (deep (suc (length ts)))
 item_if_deep n ts l = row_deep item n (k.Keyword w.If) ts 1 _ refl (omega (arith, l))
-
-pub item_name : (text : List ℕ) (n : ℕ) (ts : List Kind) → read item n (k.Name text ∷ ts) ≡ read overrides n ts
-item_name text n ts = row_read item n (k.Name text) ts 0 _ refl (omega arith)
 
 pub otherwise_else : (n : ℕ) (ts : List Kind)
     → read generate_otherwise n (k.Keyword w.Else ∷ ts) ≡ read generate_block n ts
@@ -134,20 +87,10 @@ block_attribute n ts = row_bad generate_block n (k.Symbol s.OpenAttribute) ts re
 pub ruleset of_front = (item_generate)
 
 pub ruleset of_item = (
-  item_wire,
-  item_reg,
-  item_integer,
-  item_genvar,
-  item_parameter,
-  item_localparam,
-  item_assign,
-  item_always,
-  item_initial,
   item_for,
   item_for_deep,
   item_if,
   item_if_deep,
-  item_name,
   item_empty,
 )
 

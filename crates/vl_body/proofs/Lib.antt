@@ -1,4 +1,2 @@
 pub mod ItemRows
-pub mod ItemLeads
 pub mod ItemSpelled
-pub mod PlainSpelled

@@ -16,15 +16,13 @@ ghost use Rattle.std.specs.Prelude.{
   IfOk,
   IfErr,
 };
-ghost use Rattle.fv_base.specs.declared.kind.Kind.{Kind};
 ghost use Rattle.fv_base.specs.declared.kind.Kind.TheVariants as k;
 ghost use Rattle.fv_base.specs.declared.symbol.Symbol.TheVariants as s;
 ghost use Rattle.fv_base.specs.declared.token.Token.{Token};
-ghost use Rattle.vl_tree.specs.Phrase.{Spells, BeginsAt, sign, word, between_commas, ◌▸◌};
+ghost use Rattle.vl_tree.specs.Phrase.{Spells, BeginsAt, sign, word, ◌▸◌};
 ghost use Rattle.vl_tree.specs.Item as tree;
 ghost use Rattle.vl_tree.specs.ItemView.{block};
 ghost use Rattle.vl_tree.specs.ItemSpelling as spec;
-ghost use Rattle.vl_tree.specs.DeclarationSpelling as declared;
 ghost use Rattle.vl_tree.specs.StmtSpelling.{spell_label};
 ghost use Rattle.vl_tree.specs.StmtWellFormed.{IsOptionalName};
 ghost use Rattle.vl_tree.specs.WellFormed as formed;
@@ -32,60 +30,16 @@ ghost use Rattle.vl_grammar.specs.Machine.{then};
 ghost use Rattle.vl_grammar.specs.Grammar as grammar;
 ghost use Rattle.vl_take.specs.Goes.{Goes, IsMemory};
 ghost use Rattle.vl_take.specs.Next.{kinds_in, IsOther};
-ghost use Rattle.vl_body.specs.ItemLead as lead;
 ghost use Rattle.vl_region.specs.Items as items;
 
-use fv_base::{Keyword, Kind, List, Pos, Symbol, Text, Token};
+use fv_base::{Keyword, List, Pos, Symbol, Text, Token};
 use std::alloc::Global;
 use vl_expr::read_parens;
-use vl_part::{
-    Before, read_attributes, read_event, read_head, read_instance, read_list, read_shape,
-};
+use vl_part::{Before, read_attributes, read_head};
+use vl_plain::read_plain;
 use vl_region::{Ending, Front, Reading, bare, with_attributes};
-use vl_stmt::{read_initial, read_stmt};
-use vl_take::{Stop, enter, first_place, next, past_sign, past_word, read_name, read_sign};
-use vl_tree::{Block, Declaration, Item, ItemKind, NetKind, ParameterKind};
-
-/// What a token begins as the first of an item that has no items in it, behind its attributes.
-#[derive(Clone, Copy)]
-enum ItemLead {
-    Net(NetKind),
-    Integer,
-    Genvar,
-    Parameter(ParameterKind),
-    Assign,
-    Always,
-    Initial,
-    Instance,
-    Nothing,
-}
-
-fn item_lead_of(kind: &Kind) -> ItemLead
-    ensures { result ≡ lead.item_lead_of kind.now }
-{
-    match kind {
-        Kind::Keyword(keyword) => item_lead_of_word(*keyword),
-        Kind::Name(_) => ItemLead::Instance,
-        _ => ItemLead::Nothing,
-    }
-}
-
-fn item_lead_of_word(keyword: Keyword) -> ItemLead
-    ensures { result ≡ lead.item_lead_of_word keyword }
-{
-    match keyword {
-        Keyword::Wire => ItemLead::Net(NetKind::Wire),
-        Keyword::Reg => ItemLead::Net(NetKind::Reg),
-        Keyword::Integer => ItemLead::Integer,
-        Keyword::Genvar => ItemLead::Genvar,
-        Keyword::Parameter => ItemLead::Parameter(ParameterKind::Parameter),
-        Keyword::Localparam => ItemLead::Parameter(ParameterKind::Localparam),
-        Keyword::Assign => ItemLead::Assign,
-        Keyword::Always => ItemLead::Always,
-        Keyword::Initial => ItemLead::Initial,
-        _ => ItemLead::Nothing,
-    }
-}
+use vl_take::{Stop, enter, first_place, past_sign, past_word, read_name};
+use vl_tree::{Block, Item, ItemKind};
 
 /// An item behind its attributes, which isn't a region.
 #[cycle(item)]
@@ -131,86 +85,6 @@ fn read_for(alloc: Global, pos: Pos, room: u32, tokens: &[Token]) -> Result<(Ite
     let (head, rest) = read_head(alloc, room, tokens)?;
     let (body, rest) = read_block(alloc, room, rest)?;
     Ok((bare(alloc, pos, ItemKind::For(head, body)), rest))
-}
-
-/// An item that has no items in it.
-#[tactic(auto, using(crate::proofs::ItemLeads::item_leads, crate::proofs::ItemLeads::item_kinds, vl_part::specs::Tails::tails, vl_part::proofs::DeclarationRows::basics))]
-fn read_plain(alloc: Global, room: u32, tokens: &[Token]) -> Result<(Item, &[Token]), Stop>
-    requires bare { IsOther (k.Symbol s.OpenAttribute) (kinds_in tokens.now) }
-    requires no_if { IsOther (k.Keyword Keyword.If) (kinds_in tokens.now) }
-    requires no_for { IsOther (k.Keyword Keyword.For) (kinds_in tokens.now) }
-    requires no_generate { IsOther (k.Keyword Keyword.Generate) (kinds_in tokens.now) }
-    ensures bare { IfOk result (λ x. formed.attributes_of x.0 ≡ []) }
-    ensures unmarked { IfOk result (λ x. formed.mark_of x.0 ≡ None) }
-    ensures found { IfOk result (λ x. Spells (spec.spell x.0) tokens.now x.1.now) }
-    ensures formed { IfOk result (λ x. formed.IsWellFormed x.0) }
-    ensures no_else { IfOk result (λ x. items.LeavesElse (formed.ends_open x.0) (kinds_in x.1.now)) }
-    ensures shorter { IfOk result (λ x. length x.1.now < length tokens.now) }
-    ensures goes { Goes (λ x. Ok (kinds_in x.1.now)) result (grammar.read grammar.item room (kinds_in tokens.now)) }
-{
-    let Some((first, rest)) = next(tokens) else {
-        return Err(Stop::Wrong(0));
-    };
-    let pos = first.pos;
-    match item_lead_of(&first.kind) {
-        ItemLead::Net(net) => {
-            let (declaration, rest) = read_declaration(alloc, net, room, rest)?;
-            Ok((bare(alloc, pos, ItemKind::Declaration(declaration)), rest))
-        }
-        ItemLead::Integer => {
-            let (names, rest) = read_list(alloc, room, Symbol::Semicolon, rest)?;
-            Ok((bare(alloc, pos, ItemKind::Integer(names)), rest))
-        }
-        ItemLead::Genvar => {
-            let (names, rest) = read_list(alloc, room, Symbol::Semicolon, rest)?;
-            Ok((bare(alloc, pos, ItemKind::Genvar(names)), rest))
-        }
-        ItemLead::Parameter(kind) => {
-            let (all, rest) = read_list(alloc, room, Symbol::Semicolon, rest)?;
-            Ok((bare(alloc, pos, ItemKind::Parameter(kind, all)), rest))
-        }
-        ItemLead::Assign => {
-            let (all, rest) = read_list(alloc, room, Symbol::Semicolon, rest)?;
-            Ok((bare(alloc, pos, ItemKind::Assign(all)), rest))
-        }
-        ItemLead::Always => {
-            let rest = read_sign(Symbol::At, rest)?;
-            let (event, rest) = read_event(alloc, room, rest)?;
-            let (stmt, rest) = read_stmt(alloc, room, rest)?;
-            Ok((bare(alloc, pos, ItemKind::Always(event, stmt)), rest))
-        }
-        ItemLead::Initial => {
-            let (stmt, rest) = read_initial(alloc, room, rest)?;
-            Ok((bare(alloc, pos, ItemKind::Initial(stmt)), rest))
-        }
-        ItemLead::Instance => {
-            let (instance, rest) = read_instance(alloc, room, tokens)?;
-            Ok((bare(alloc, pos, ItemKind::Instance(instance)), rest))
-        }
-        ItemLead::Nothing => Err(Stop::Wrong(tokens.len())),
-    }
-}
-
-#[tactic(auto, using(vl_part::specs::Tails::tails, vl_part::proofs::DeclarationRows::basics))]
-fn read_declaration(
-    alloc: Global,
-    net: NetKind,
-    room: u32,
-    tokens: &[Token],
-) -> Result<(Declaration, &[Token]), Stop>
-    ensures found { IfOk result (λ x. Spells
-        (declared.spell_shape x.0.shape ▸ between_commas declared.spell_declared_name x.0.names ▸ sign
-        Symbol.Semicolon) tokens.now x.1.now) }
-    ensures net { IfOk result (λ x. x.0.net ≡ net) }
-    ensures formed { IfOk result (λ x. formed.IsDeclaration x.0) }
-    ensures shorter { IfOk result (λ x. length x.1.now < length tokens.now) }
-    ensures goes { Goes (λ x. Ok (kinds_in x.1.now)) result
-        (then (grammar.read grammar.shape room (kinds_in tokens.now))
-        (λ r. then (grammar.read grammar.declared_name room r) (λ q. grammar.read grammar.declared_names room q))) }
-{
-    let (shape, rest) = read_shape(alloc, room, tokens)?;
-    let (names, rest) = read_list(alloc, room, Symbol::Semicolon, rest)?;
-    Ok((Declaration { net, shape, names }, rest))
 }
 
 /// What is behind the `if` of a generate construct. An `else` belongs to the nearest one.
@@ -378,12 +252,12 @@ fn read_short_block(alloc: Global, room: u32, tokens: &[Token]) -> Result<(Block
     Ok((Block::Single(boxed(alloc, item)?), rest))
 }
 
-fn boxed(alloc: Global, item: Item) -> Result<Box<Item>, Stop>
-    ensures same { IfOk result (λ box. box.value ≡ item) }
+fn boxed<T: Drop>(alloc: Global, value: T) -> Result<Box<T>, Stop>
+    ensures same { IfOk result (λ box. box.value ≡ value) }
     ensures memory { IfErr result (λ e. IsMemory e) }
 {
-    match Box::new(alloc, item) {
-        Ok(item) => Ok(item),
+    match Box::new(alloc, value) {
+        Ok(value) => Ok(value),
         Err(_) => Err(Stop::Memory),
     }
 }

@@ -1,4 +1,4 @@
-use Rattle.std.proofs.Common.{◌≡◌, ℕ, ◌+◌, ◌*◌, ◌≤◌, length}
+use Rattle.std.proofs.Common.{◌≡◌, ◌+◌, ◌*◌, ◌≤◌, length}
 use Rattle.vl_tree.specs.Phrase.{Spells}
 use Rattle.vl_grammar.specs.Grammar as grammar
 use Rattle.vl_region.specs.Items as items

@@ -1,10 +1,9 @@
 -- What is read of an item, by what its first token begins.
-use Rattle.std.proofs.Common.{◌≡◌, ℕ, zero, suc, ◌+◌, ◌-◌, ◌≤◌, ◌<◌, Bool, true, false, List, [], ◌∷◌, ◌++◌, length}
-use Rattle.std.proofs.Common.{refl, sym, ap, ◌∙◌, subst, arith}
-use Rattle.std.specs.Prelude.{Result, Ok, Err, Option, Some, None}
+use Rattle.std.proofs.Common.{◌≡◌, ℕ, suc, List, [], ◌∷◌, length}
+use Rattle.std.proofs.Common.{refl, sym, ap, ◌∙◌}
+use Rattle.std.specs.Prelude.{Err}
 use Rattle.fv_base.specs.declared.kind.Kind.{Kind}
 use Rattle.fv_base.specs.declared.kind.Kind.TheVariants as k
-use Rattle.fv_base.specs.declared.keyword.Keyword.{Keyword}
 use Rattle.fv_base.specs.declared.keyword.Keyword.TheVariants as w
 use Rattle.fv_base.specs.declared.symbol.Symbol.TheVariants as s
 use Rattle.vl_tree.specs.declared.declaration.NetKind.{NetKind}
@@ -14,17 +13,15 @@ use Rattle.vl_tree.specs.declared.declaration.ParameterKind.TheVariants as p
 use Rattle.vl_tree.specs.DeclarationSpelling.{net_word, parameter_word}
 use Rattle.vl_grammar.specs.Machine.{syntax, deep, then}
 use Rattle.vl_grammar.specs.Machine as machine
-use Rattle.vl_grammar.specs.Grammar.{Rule, Outcome, expand, ends, read, read_all, sign, name, in_parens, shape}
+use Rattle.vl_grammar.specs.Grammar.{read, read_all, sign, name, shape}
 use Rattle.vl_grammar.specs.Grammar.{declared_name, declared_names, names, parameters, parameter, assignment}
-use Rattle.vl_grammar.specs.Grammar.{assignments, stmt, initial_stmt, item, items, endgenerate, event, overrides}
-use Rattle.vl_grammar.specs.Grammar.{loop_head, generate_block, generate_otherwise}
-use Rattle.vl_body.specs.declared.item.ItemLead.{ItemLead}
-use Rattle.vl_body.specs.declared.item.ItemLead.TheVariants as lead
-use Rattle.vl_body.specs.ItemLead.{item_lead_of}
-use Rattle.vl_take.specs.Next.{IsOther, behind_name}
-use Rattle.vl_take.specs.Parts.{row_read, row_deep, row_bad, list_row}
+use Rattle.vl_grammar.specs.Grammar.{assignments, stmt, initial_stmt, item, event, overrides}
+use Rattle.vl_plain.specs.declared.plain.ItemLead.TheVariants as lead
+use Rattle.vl_plain.specs.ItemLead.{item_lead_of}
+use Rattle.vl_take.specs.Next.{behind_name}
+use Rattle.vl_take.specs.Parts.{list_row}
 use Rattle.vl_take.proofs.Tokens.{name_here}
-use Rattle.vl_body.proofs.ItemRows.{item_wire, item_reg, item_always, item_initial, item_name}
+use Rattle.vl_plain.proofs.PlainRows.{item_wire, item_reg, item_always, item_initial, item_name}
 
 pub kind_integer : (t : Kind) → item_lead_of t ≡ lead.Integer → t ≡ k.Keyword w.Integer
 kind_integer (k.Keyword w.Integer) h = refl

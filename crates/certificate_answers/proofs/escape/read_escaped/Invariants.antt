@@ -1,5 +1,5 @@
 use Rattle.std.proofs.Common.{length}
-use Rattle.file_answers.proofs.escape.read.Given as goal
+use Rattle.certificate_answers.proofs.escape.read_escaped.Given as goal
 
 abbrev pub decreases-loop-byte : goal.decreases-loop-byte
 decreases-loop-byte l = length l.rest

@@ -7,7 +7,7 @@ use fv_lines::cut_at;
 use std::alloc::Global;
 
 /// The bytes that a line shows.
-pub(crate) fn read(alloc: Global, line: &str) -> Result<Vec<u8>, Memory> {
+pub fn read_escaped(alloc: Global, line: &str) -> Result<Vec<u8>, Memory> {
     let mut bytes = Vec::new(alloc);
     let mut rest = line.as_bytes();
     while let Some((byte, behind)) = next(rest) {
@@ -44,7 +44,7 @@ fn digit(byte: u8) -> u8
 }
 
 /// Adds bytes as a line shows them.
-pub(crate) fn put(out: &mut String, bytes: &[u8]) -> Result<(), Memory> {
+pub fn put_escaped(out: &mut String, bytes: &[u8]) -> Result<(), Memory> {
     for byte in bytes {
         match *byte {
             b'\n' => out.push_str("\\n")?,
@@ -59,6 +59,6 @@ pub(crate) fn put(out: &mut String, bytes: &[u8]) -> Result<(), Memory> {
 }
 
 /// What stands before the first bar, and behind it; all and nothing where there is none.
-pub(crate) fn parted(bytes: &[u8]) -> (&[u8], &[u8]) {
+pub fn parted(bytes: &[u8]) -> (&[u8], &[u8]) {
     cut_at(bytes, b'|').unwrap_or((bytes, b""))
 }

@@ -62,9 +62,9 @@ pub(crate) fn again(alloc: Global, text: &[u8]) -> Result<String, Memory> {
     let mut out = String::new(alloc);
     if let (Ok(formula), Ok(steps)) = (read_dimacs(alloc, cnf), read_lrat(alloc, proof)) {
         let notes = [Text::from_bytes(alloc, note)?];
-        escape::put(&mut out, dimacs(alloc, &formula, &notes)?.as_slice())?;
+        escape::put_escaped(&mut out, dimacs(alloc, &formula, &notes)?.as_slice())?;
         out.push('|')?;
-        escape::put(&mut out, lrat(alloc, steps.as_slice())?.as_slice())?;
+        escape::put_escaped(&mut out, lrat(alloc, steps.as_slice())?.as_slice())?;
     }
     Ok(out)
 }

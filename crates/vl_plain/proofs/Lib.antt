@@ -1,0 +1,3 @@
+pub mod ItemLeads
+pub mod PlainRows
+pub mod PlainSpelled
