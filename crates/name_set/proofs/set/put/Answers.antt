@@ -1,0 +1,8 @@
+use Rattle.vl_mean.proofs.Lookups.{lookup_after}
+use Rattle.name_set.proofs.Added.{set_after}
+use Rattle.name_set.proofs.set.put.Goals as goal
+
+pub returns-clause-ok : goal.returns-clause-ok
+returns-clause-ok c other =
+    set_after _ _ _ c.args.name other
+    (lookup_after (λ key. key.items) _ _ other _ _ _ c.in_ok-insert.ensures.entries c.into_vec.ensures)
