@@ -1,7 +1,7 @@
 -- A scope with a name more.
 use Rattle.std.specs.Prelude.{◌≡◌, refl, ℕ, List, [], ◌∷◌, ◌++◌, Bool, true, false, bytes_eq}
 use Rattle.std.specs.Prelude.{Option, Some, None, Vec}
-use Rattle.std.specs.Prelude.{if◌then◌else◌, is_some, not, Result, Ok, Err, OnOk, OnErr}
+use Rattle.std.specs.Prelude.{if◌then◌else◌, is_some, Result, Ok, Err, OnOk, OnErr}
 use Rattle.std.specs.declared.alloc.Global.{Global}
 use Rattle.std.specs.Map.{lookup}
 use Rattle.std.specs.Option.{option_copied}
@@ -10,7 +10,7 @@ use Rattle.vl_size.proofs.Entries.{copied_some}
 use Rattle.vl_refusal.specs.Meanings.{Meaning, Names, is_undeclared, meaning_of}
 use Rattle.vl_scope.specs.declared.meaning.Meaning.{Meaning as Kept}
 use Rattle.vl_scope.specs.declared.meaning.Named.{Named}
-use Rattle.vl_scope.specs.Seen.{Entry, seen, seen_or, names_of, names_from, with_name, AreBehind, IsNamed, AreNamed}
+use Rattle.vl_scope.specs.Seen.{Entry, seen, seen_or, names_of, names_from, with_name, IsNamed, AreNamed}
 use Rattle.vl_scope.proofs.Levels.{lookup_seen, seen_declared}
 
 append_names : (es : List Entry) (e : Entry)
@@ -28,14 +28,6 @@ gone o h = ap (λ o. is_undeclared (seen_or o)) h
 none_of : (o : Option Kept) → is_some o ≡ false → o ≡ None
 none_of None h = refl
 none_of (Some m) h = cc
-
--- the first name of a scope
-pub first_named : (o : Option Named) (es : List Entry) (n : Named) (b : Bool) → AreBehind o es → is_some o ≡ not b
-    → b ≡ true → names_from (Some n) es ≡ with_name (names_from o es) n.text (seen n.meaning)
-first_named None es n b h e k =
-    (λ i. (n.text, seen n.meaning) ∷ names_of (h i))
-    ∙ (λ i. with_name (names_of (sym h i)) n.text (seen n.meaning))
-first_named (Some x) es n b h e k = let no : true ≡ false = e ∙ ap not k in cc
 
 -- one that is there already
 pub name_kept : (ns : Names) (text : List ℕ) (m : Meaning) (r : Option (Bor Kept)) (b : Bool)
@@ -55,11 +47,10 @@ none_seen : (o : Option Kept) → is_undeclared (seen_or o) ≡ true → o ≡ N
 none_seen None h = refl
 none_seen (Some m) h = let no : false ≡ true = sym (seen_declared m) ∙ h in cc
 
-none_among : (o : Option Named) (es : List Entry) (text : List ℕ)
-    → is_undeclared (meaning_of (names_from o es) text) ≡ true
+none_among : (n : Named) (es : List Entry) (text : List ℕ)
+    → is_undeclared (meaning_of (names_from n es) text) ≡ true
     → is_undeclared (meaning_of (names_of es) text) ≡ true
-none_among None es text h = h
-none_among (Some n) es text h = by (bytes_eq text n.text) h
+none_among n es text h = by (bytes_eq text n.text) h
   where
     by : (b : Bool) → is_undeclared (if b then seen n.meaning else meaning_of (names_of es) text) ≡ true
         → is_undeclared (meaning_of (names_of es) text) ≡ true
@@ -67,40 +58,34 @@ none_among (Some n) es text h = by (bytes_eq text n.text) h
     by false h = h
 
 -- it has no key
-pub no_key : (o : Option Named) (es : List Entry) (text key : List ℕ) (r : Option (Bor Kept)) (b : Bool)
-    → seen_or (option_copied r) ≡ meaning_of (names_from o es) text → b ≡ is_some r → b ≡ false → key ≡ text
+pub no_key : (f : Named) (es : List Entry) (text key : List ℕ) (r : Option (Bor Kept)) (b : Bool)
+    → seen_or (option_copied r) ≡ meaning_of (names_from f es) text → b ≡ is_some r → b ≡ false → key ≡ text
     → lookup (λ k. bytes_eq key k.items) es ≡ None
-no_key o es text key r b h e k n =
+no_key f es text key r b h e k n =
     ap (λ n. lookup (λ k. bytes_eq n k.items) es) n
     ∙ none_seen (lookup (λ k. bytes_eq text k.items) es) (ap is_undeclared (lookup_seen text es)
-    ∙ none_among o es text (absent (names_from o es) text r b h e k))
+    ∙ none_among f es text (absent (names_from f es) text r b h e k))
 
-append_behind : (o : Option Named) (es : List Entry) (e : Entry)
-    → names_from o (es ++ e ∷ []) ≡ names_from o es ++ (e.0.items, seen e.1) ∷ []
-append_behind None es e = append_names es e
-append_behind (Some n) es e = ap (λ ns. (n.text, seen n.meaning) ∷ ns) (append_names es e)
+append_behind : (f : Named) (es : List Entry) (e : Entry)
+    → names_from f (es ++ e ∷ []) ≡ names_from f es ++ (e.0.items, seen e.1) ∷ []
+append_behind f es e = ap (λ ns. (f.text, seen f.meaning) ∷ ns) (append_names es e)
 
-pub name_added : {A E : Type 0} (r : Result A E) (o : Option Named) (old new : List Entry) (key : Vec ℕ Global)
+pub name_added : {A E : Type 0} (r : Result A E) (f : Named) (old new : List Entry) (key : Vec ℕ Global)
     (m : Kept) (text : List ℕ) (x : Option (Bor Kept)) (b : Bool)
-    → seen_or (option_copied x) ≡ meaning_of (names_from o old) text → b ≡ is_some x → b ≡ false → key.items ≡ text
+    → seen_or (option_copied x) ≡ meaning_of (names_from f old) text → b ≡ is_some x → b ≡ false → key.items ≡ text
     → OnOk r (new ≡ old ++ (key, m) ∷ [])
-    → OnOk r (names_from o new ≡ with_name (names_from o old) text (seen m))
-name_added (Ok y) o old new key m text x b h e k n made =
-    ap (names_from o) made ∙ append_behind o old (key, m)
-    ∙ ap (λ t. names_from o old ++ (t, seen m) ∷ []) n
-    ∙ ap (λ b. if b then names_from o old ++ (text, seen m) ∷ [] else names_from o old)
-    (sym (absent (names_from o old) text x b h e k))
-name_added (Err y) o old new key m text x b h e k n made = made
+    → OnOk r (names_from f new ≡ with_name (names_from f old) text (seen m))
+name_added (Ok y) f old new key m text x b h e k n made =
+    ap (names_from f) made ∙ append_behind f old (key, m)
+    ∙ ap (λ t. names_from f old ++ (t, seen m) ∷ []) n
+    ∙ ap (λ b. if b then names_from f old ++ (text, seen m) ∷ [] else names_from f old)
+    (sym (absent (names_from f old) text x b h e k))
+name_added (Err y) f old new key m text x b h e k n made = made
 
-pub none_added : {A E : Type 0} (r : Result A E) (o : Option Named) (old new : List Entry) → OnErr r (new ≡ old)
-    → OnErr r (names_from o new ≡ names_from o old)
-none_added (Ok y) o old new h = h
-none_added (Err y) o old new h = ap (names_from o) h
-
--- behind a first name anything may stand
-pub stay_behind : (o : Option Named) (es : List Entry) (b : Bool) → is_some o ≡ not b → b ≡ false → AreBehind o es
-stay_behind None es b e k = let no : false ≡ true = e ∙ ap not k in cc
-stay_behind (Some n) es b e k = tt
+pub none_added : {A E : Type 0} (r : Result A E) (f : Named) (old new : List Entry) → OnErr r (new ≡ old)
+    → OnErr r (names_from f new ≡ names_from f old)
+none_added (Ok y) f old new h = h
+none_added (Err y) f old new h = ap (names_from f) h
 
 named_append : (ns : Names) (text : List ℕ) (m : Meaning) → AreNamed ns → IsNamed (text, m)
     → AreNamed (ns ++ (text, m) ∷ [])

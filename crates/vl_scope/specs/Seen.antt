@@ -1,5 +1,5 @@
 -- What the names of scopes mean, as it is kept while a design is judged. Rule of this project.
-use Rattle.std.specs.Prelude.{◌≡◌, ℕ, List, [], ◌∷◌, ◌++◌, map, Option, Some, None, Vec}
+use Rattle.std.specs.Prelude.{◌≡◌, ℕ, List, [], ◌∷◌, ◌++◌, map, Option, Some, None, Box, Vec}
 use Rattle.std.specs.Prelude.{if◌then◌else◌}
 use Rattle.std.specs.declared.alloc.Global.{Global}
 use Rattle.vl_size.specs.declared.decl.Decl.{Decl}
@@ -7,6 +7,7 @@ use Rattle.vl_refusal.specs.Meanings.{Meaning, undeclared, constant, loop_variab
 use Rattle.vl_refusal.specs.Meanings.{Names, is_undeclared, meaning_of}
 use Rattle.vl_scope.specs.declared.meaning.Meaning.{Meaning as Kept}
 use Rattle.vl_scope.specs.declared.meaning.Meaning.TheVariants as k
+use Rattle.vl_scope.specs.declared.meaning.Filled.{Filled}
 use Rattle.vl_scope.specs.declared.meaning.Named.{Named}
 
 abbrev pub seen : Kept → Meaning
@@ -28,14 +29,17 @@ abbrev pub names_of : List Entry → Names
 names_of es = map (λ e. (e.0.items, seen e.1)) es
 
 -- the first name stands apart
-abbrev pub names_from : Option Named → List Entry → Names
-names_from None es = names_of es
-names_from (Some n) es = (n.text, seen n.meaning) ∷ names_of es
+abbrev pub names_from : Named → List Entry → Names
+names_from n es = (n.text, seen n.meaning) ∷ names_of es
 
--- without a first name there are no others
-abbrev pub AreBehind : Option Named → List Entry → Type 0
-AreBehind None es = es ≡ []
-AreBehind (Some n) es = Unit {0}
+-- of a scope that has names
+abbrev pub filled_names : Filled → Names
+filled_names f = names_from f.first f.others.entries
+
+-- a scope without names keeps nothing
+abbrev pub names_in : Option (Box Filled Global) → Names
+names_in None = []
+names_in (Some b) = filled_names b.value
 
 -- the innermost scope stands last
 abbrev pub inward : List Names → List Names

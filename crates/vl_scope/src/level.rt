@@ -1,34 +1,34 @@
 //! The names of one scope.
-ghost use Rattle.std.specs.Prelude.{◌≡◌, ◌++◌, ◌∷◌, [], None, OnOk, OnErr, bytes_eq};
+ghost use Rattle.std.specs.Prelude.{◌≡◌, ◌++◌, ◌∷◌, [], None, IfOk, OnOk, OnErr, bytes_eq};
 ghost use Rattle.std.specs.Option.{option_copied};
 ghost use Rattle.std.specs.Map.{lookup};
 ghost use Rattle.vl_refusal.specs.Meanings.{meaning_of};
 ghost use Rattle.vl_scope.specs.Seen as spec;
 
-use crate::meaning::{Meaning, Named};
+use crate::meaning::{Filled, Meaning, Named};
 use fv_base::{Memory, Text};
 use indexmap::IndexMap;
 use std::alloc::Global;
 use std::marker::Model;
 
 /// The names of a scope, seen as the list of them with their meanings. A net or a variable stands under its own name.
-/// The first name stands apart, so that a scope with one name, such as a turn of a loop, has no map.
+/// They are kept in one place of their own, so that a scope without names, as of an instance that gives and declares
+/// nothing, takes no memory, and each is as small as a pointer to be moved.
 #[derive(Drop)]
 pub struct Level {
-    leading: Option<Named>,
-    others: IndexMap<Vec<u8>, Meaning>,
+    alloc: Global,
+    filled: Option<Box<Filled>>,
 }
 
 impl Model for Level {
     ghost use Rattle.vl_refusal.specs.Meanings as meanings;
-    ghost use Rattle.vl_scope.specs.Seen.{names_from, AreBehind, AreNamed};
+    ghost use Rattle.vl_scope.specs.Seen.{names_in, AreNamed};
 
     ghost Value = { meanings.Names };
 
-    ghost view = { λ l. names_from l.leading l.others.entries };
+    ghost view = { λ l. names_in l.filled };
 
-    ghost invariant = { λ l. AreBehind l.leading l.others.entries
-        × AreNamed (names_from l.leading l.others.entries) };
+    ghost invariant = { λ l. AreNamed (names_in l.filled) };
 }
 
 impl Level {
@@ -36,8 +36,8 @@ impl Level {
         ensures { result ≡ [] }
     {
         Level {
-            leading: None,
-            others: IndexMap::new(alloc),
+            alloc,
+            filled: None,
         }
     }
 
@@ -45,7 +45,7 @@ impl Level {
     pub fn meaning(&self, name: &Text) -> Option<&Meaning>
         ensures { spec.seen_or (option_copied result) ≡ meaning_of self.now name.now }
     {
-        meaning_among(&self.leading, &self.others, name)
+        meaning_among(&self.filled, name)
     }
 
     /// Adds a name behind the others. Of two alike the first counts, so the second is dropped. Where no memory is left
@@ -55,14 +55,14 @@ impl Level {
         ensures ok { OnOk result (self.new ≡ spec.with_name self.old name (spec.seen meaning)) }
         ensures err { OnErr result (self.new ≡ self.old) }
     {
-        add_among(&mut self.leading, &mut self.others, name, meaning)
+        add_among(self.alloc, &mut self.filled, name, meaning)
     }
 
     /// A fact of each level.
     pub(crate) fn are_named(&self)
         ensures { spec.AreNamed self.now }
     {
-        let _others = &self.others;
+        let _filled = &self.filled;
     }
 }
 
@@ -84,61 +84,72 @@ fn other_meaning<'a>(others: &'a IndexMap<Vec<u8>, Meaning>, name: &Text) -> Opt
 }
 
 /// What the first name and the others say of this one.
-fn meaning_behind<'a>(
-    first: &'a Named,
-    others: &'a IndexMap<Vec<u8>, Meaning>,
-    name: &Text,
-) -> Option<&'a Meaning>
-    ensures { spec.seen_or (option_copied result)
-        ≡ meaning_of ((first.now.text, spec.seen first.now.meaning) ∷ spec.names_of others.now.entries) name.now }
+fn meaning_behind<'a>(filled: &'a Filled, name: &Text) -> Option<&'a Meaning>
+    ensures { spec.seen_or (option_copied result) ≡ meaning_of (spec.filled_names filled.now) name.now }
 {
-    if is_name(name, &first.text) {
-        Some(&first.meaning)
+    if is_name(name, &filled.first.text) {
+        Some(&filled.first.meaning)
     } else {
-        other_meaning(others, name)
+        other_meaning(&filled.others, name)
     }
 }
 
 /// What the names say of this one.
-fn meaning_among<'a>(
-    leading: &'a Option<Named>,
-    others: &'a IndexMap<Vec<u8>, Meaning>,
-    name: &Text,
-) -> Option<&'a Meaning>
-    requires { spec.AreBehind leading.now others.now.entries }
-    ensures { spec.seen_or (option_copied result)
-        ≡ meaning_of (spec.names_from leading.now others.now.entries) name.now }
+fn meaning_among<'a>(filled: &'a Option<Box<Filled>>, name: &Text) -> Option<&'a Meaning>
+    ensures { spec.seen_or (option_copied result) ≡ meaning_of (spec.names_in filled.now) name.now }
 {
-    match leading {
+    match filled {
         None => None,
-        Some(first) => meaning_behind(first, others, name),
+        Some(filled) => meaning_behind(filled, name),
+    }
+}
+
+/// A scope with one name.
+fn boxed(alloc: Global, name: Text, meaning: Meaning) -> Result<Box<Filled>, Memory>
+    ensures { IfOk result (λ b. spec.filled_names b.value ≡ (name, spec.seen meaning) ∷ []) }
+{
+    let first = Named {
+        text: name,
+        meaning,
+    };
+    let filled = Filled {
+        first,
+        others: IndexMap::new(alloc),
+    };
+    match Box::new(alloc, filled) {
+        Ok(filled) => Ok(filled),
+        Err(_) => Err(Memory),
     }
 }
 
 fn add_among(
-    leading: &mut Option<Named>,
-    others: &mut IndexMap<Vec<u8>, Meaning>,
+    alloc: Global,
+    filled: &mut Option<Box<Filled>>,
     name: Text,
     meaning: Meaning,
 ) -> Result<(), Memory>
-    requires { spec.AreBehind leading.old others.old.entries }
-    ensures ok { OnOk result (spec.names_from leading.new others.new.entries
-        ≡ spec.with_name (spec.names_from leading.old others.old.entries) name (spec.seen meaning)) }
-    ensures err { OnErr result (spec.names_from leading.new others.new.entries
-        ≡ spec.names_from leading.old others.old.entries) }
-    ensures behind { spec.AreBehind leading.new others.new.entries }
+    ensures ok { OnOk result (spec.names_in filled.new
+        ≡ spec.with_name (spec.names_in filled.old) name (spec.seen meaning)) }
+    ensures err { OnErr result (spec.names_in filled.new ≡ spec.names_in filled.old) }
 {
-    if leading.is_none() {
-        *leading = Some(Named {
-            text: name,
-            meaning,
-        });
+    match filled {
+        None => {
+            *filled = Some(boxed(alloc, name, meaning)?);
+            Ok(())
+        }
+        Some(filled) => add_behind(&mut **filled, name, meaning),
+    }
+}
+
+fn add_behind(filled: &mut Filled, name: Text, meaning: Meaning) -> Result<(), Memory>
+    ensures ok { OnOk result (spec.filled_names filled.new
+        ≡ spec.with_name (spec.filled_names filled.old) name (spec.seen meaning)) }
+    ensures err { OnErr result (spec.filled_names filled.new ≡ spec.filled_names filled.old) }
+{
+    if meaning_behind(filled, &name).is_some() {
         return Ok(());
     }
-    if meaning_among(leading, others, &name).is_some() {
-        return Ok(());
-    }
-    put(others, name.into_vec(), meaning)
+    put(&mut filled.others, name.into_vec(), meaning)
 }
 
 /// A new key goes behind the others.

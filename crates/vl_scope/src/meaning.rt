@@ -1,6 +1,7 @@
 ghost use Rattle.vl_size.specs.Table.{IsPlain, IsShaped};
 
 use fv_base::Text;
+use indexmap::IndexMap;
 use vl_mean::Const;
 use vl_size::Decl;
 
@@ -35,4 +36,12 @@ pub enum Meaning {
 pub(crate) struct Named {
     pub(crate) text: Text,
     pub(crate) meaning: Meaning,
+}
+
+/// The names of a scope that has any. The first one stands apart, so that a scope with one name, such as a turn of a
+/// loop, has no map.
+#[derive(Drop)]
+pub(crate) struct Filled {
+    pub(crate) first: Named,
+    pub(crate) others: IndexMap<Vec<u8>, Meaning>,
 }

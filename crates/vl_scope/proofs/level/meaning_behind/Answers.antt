@@ -6,13 +6,13 @@ use Rattle.vl_scope.proofs.level.meaning_behind.Goals as goal
 
 pub returns-then-is_name : goal.returns-then-is_name
 returns-then-is_name c =
-    ap (λ b. if b then seen c.args.first.now.meaning
-    else meaning_of (names_of c.args.others.now.entries) c.args.name.now)
+    ap (λ b. if b then seen c.args.filled.now.first.meaning
+    else meaning_of (names_of c.args.filled.now.others.entries) c.args.name.now)
     (sym (sym c.is_name.ensures ∙ c.if-is_name.true))
 
 pub returns-else-is_name : goal.returns-else-is_name
 returns-else-is_name c =
     c.other_meaning.ensures
-    ∙ ap (λ b. if b then seen c.args.first.now.meaning
-    else meaning_of (names_of c.args.others.now.entries) c.args.name.now)
+    ∙ ap (λ b. if b then seen c.args.filled.now.first.meaning
+    else meaning_of (names_of c.args.filled.now.others.entries) c.args.name.now)
     (sym (sym c.is_name.ensures ∙ c.if-is_name.false))

@@ -3,4 +3,4 @@ use Rattle.vl_scope.specs.Seen.{AreNamed}
 use Rattle.vl_scope.proofs.level.Level.are_named.Goals as goal
 
 pub returns : goal.returns
-returns c = subst AreNamed c.self.view_is c.self.invariant.1
+returns c = subst AreNamed c.self.view_is c.self.invariant
