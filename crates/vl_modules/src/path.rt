@@ -10,10 +10,12 @@ use indexmap::IndexMap;
 use std::alloc::Global;
 use std::marker::Model;
 
-/// Names of modules, of which each stands within the one before it, the top one first. No two are alike.
+/// Names of modules, of which each stands within the one before it, the top one first. No two are alike. The room of
+/// names that left is kept for those that come.
 #[derive(Drop)]
 pub struct ModulePath {
     map: IndexMap<Vec<u8>, ()>,
+    spare: Vec<Vec<u8>>,
 }
 
 impl Model for ModulePath {
@@ -32,6 +34,7 @@ impl ModulePath {
     {
         ModulePath {
             map: IndexMap::new(alloc),
+            spare: Vec::new(alloc),
         }
     }
 
@@ -51,13 +54,23 @@ impl ModulePath {
         put(&mut self.map, name.into_vec())
     }
 
+    /// The same with a copy of the name, in the room of one that left.
+    pub fn enter(&mut self, alloc: Global, name: &Text) -> Result<(), Memory>
+        requires { contains_name self.old name.now ≡ false }
+        ensures ok { OnOk result (self.new ≡ self.old ++ name.now ∷ []) }
+        ensures err { OnErr result (self.new ≡ self.old) }
+    {
+        let key = copied_in(alloc, name, &mut self.spare)?;
+        put(&mut self.map, key)
+    }
+
     /// Leaves the innermost module.
     pub fn pop(&mut self)
         ensures { (names : List (List ℕ)) (name : List ℕ) → self.old ≡ names ++ name ∷ [] → self.new ≡ names }
     {
         match self.map.pop() {
             None => {}
-            Some(_) => {}
+            Some((name, _)) => keep(&mut self.spare, name),
         }
     }
 
@@ -67,6 +80,27 @@ impl ModulePath {
     {
         copied_names(alloc, &self.map)
     }
+}
+
+/// Keeps the room of a name. Where no memory is left to note it, it goes.
+fn keep(spare: &mut Vec<Vec<u8>>, name: Vec<u8>) {
+    match spare.push(name) {
+        Ok(()) => {}
+        Err(_) => {}
+    }
+}
+
+/// A copy, in the room of a name that isn't used any more where there is one.
+fn copied_in(alloc: Global, name: &Text, spare: &mut Vec<Vec<u8>>) -> Result<Vec<u8>, Memory>
+    ensures { IfOk result (λ key. key.items ≡ name.now) }
+{
+    let mut key = match spare.pop() {
+        None => Vec::new(alloc),
+        Some(key) => key,
+    };
+    key.clear();
+    key.extend_from_slice(name.bytes())?;
+    Ok(key)
 }
 
 /// The name at a place, behind others.
