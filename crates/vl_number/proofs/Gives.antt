@@ -61,10 +61,14 @@ module _ (old : List ℕ → Option Expr) (name other : List ℕ) (v : Expr) whe
       by false e = sym (or_none (old other))
 
 -- what a look-up says of a name
+pub said_by : (values : List ℕ → Option Expr) (text key : List ℕ) (b t : Bool) (r : Option (Bor Expr)) → b ≡ is_some r
+    → b ≡ t → option_copied r ≡ values text → text ≡ key → is_some (values key) ≡ t
+said_by values text key b t r h k v n =
+    ap (λ n. is_some (values n)) (sym n) ∙ ap is_some (sym v) ∙ sym (copied_some r) ∙ sym h ∙ k
+
 pub said : (given : Given) (text key : List ℕ) (b t : Bool) (r : Option (Bor Expr)) → b ≡ is_some r → b ≡ t
     → option_copied r ≡ value_given given text → text ≡ key → is_some (value_given given key) ≡ t
-said given text key b t r h k v n =
-    ap (λ n. is_some (value_given given n)) (sym n) ∙ ap is_some (sym v) ∙ sym (copied_some r) ∙ sym h ∙ k
+said given text key b t r h k v n = said_by (value_given given) text key b t r h k v n
 
 -- ---- the loop
 

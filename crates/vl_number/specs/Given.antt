@@ -1,5 +1,6 @@
 -- What an instance gives to the parameters of its module, by name. IEEE 1364-2005, section 12.2.2.
-use Rattle.std.specs.Prelude.{◌≡◌, ℕ, List, [], ◌∷◌, Option, Some, None, bytes_eq, is_some, if◌then◌else◌}
+use Rattle.std.specs.Prelude.{◌≡◌, ℕ, List, [], ◌∷◌, Option, Some, None, Box, bytes_eq, is_some, if◌then◌else◌}
+use Rattle.std.specs.declared.alloc.Global.{Global}
 use Rattle.std.specs.Map.{lookup}
 use Rattle.vl_tree.specs.declared.part.Connection.{Connection}
 use Rattle.vl_tree.specs.Expr.{Expr}
@@ -9,10 +10,19 @@ use Rattle.vl_refusal.specs.Expressions.{known}
 use Rattle.vl_refusal.specs.Meanings.{Names, is_overridden}
 use Rattle.vl_scope.specs.Texts.{or_else}
 use Rattle.vl_number.specs.declared.given.Given.{Given}
+use Rattle.vl_number.specs.declared.given.Written.{Written}
+
+-- what is given to a parameter, where something is given at all
+abbrev pub value_in : Written → List ℕ → Option Expr
+value_in written text = lookup (λ key. bytes_eq text key.items) written.map.entries
+
+abbrev pub value_among : Option (Box Written Global) → List ℕ → Option Expr
+value_among None text = None
+value_among (Some b) text = value_in b.value text
 
 -- what is given to a parameter
 abbrev pub value_given : Given → List ℕ → Option Expr
-value_given given text = lookup (λ key. bytes_eq text key.items) given.map.entries
+value_given given text = value_among given.written text
 
 -- this name has this value
 abbrev pub named_value : List ℕ → Expr → List ℕ → Option Expr

@@ -14,9 +14,17 @@ use std::alloc::Global;
 use vl_scope::{Names, known_expr};
 use vl_tree::{Connection, Expr};
 
-/// Parameters with the values that they are given, without names, seen as a map: `value_given` of specs/Given.
+/// Parameters with the values that they are given, without names, seen as a map: `value_given` of specs/Given. Where
+/// nothing is given there is no map.
 #[derive(Drop)]
 pub struct Given {
+    alloc: Global,
+    written: Option<Box<Written>>,
+}
+
+/// The values of some.
+#[derive(Drop)]
+pub(crate) struct Written {
     map: IndexMap<Vec<u8>, Expr>,
 }
 
@@ -26,7 +34,8 @@ impl Given {
         ensures { (name : List ℕ) → spec.value_given result name ≡ None }
     {
         Given {
-            map: IndexMap::new(alloc),
+            alloc,
+            written: None,
         }
     }
 
@@ -34,7 +43,7 @@ impl Given {
     pub fn get(&self, name: &Text) -> Option<&Expr>
         ensures { option_copied result ≡ spec.value_given self.now name.now }
     {
-        self.map.get(name.bytes())
+        value_among(&self.written, name)
     }
 
     /// Of two values of a name the first counts.
@@ -42,11 +51,72 @@ impl Given {
         ensures { OnOk result ((other : List ℕ) → spec.value_given self.new other
             ≡ or_else (spec.value_given self.old other) (spec.named_value name value other)) }
     {
-        if self.map.get(name.bytes()).is_some() {
-            return Ok(());
-        }
-        put(&mut self.map, name.into_vec(), value)
+        add_among(self.alloc, &mut self.written, name, value)
     }
+}
+
+fn value_in<'a>(written: &'a Written, name: &Text) -> Option<&'a Expr>
+    ensures { option_copied result ≡ spec.value_in written.now name.now }
+{
+    written.map.get(name.bytes())
+}
+
+fn value_among<'a>(written: &'a Option<Box<Written>>, name: &Text) -> Option<&'a Expr>
+    ensures { option_copied result ≡ spec.value_among written.now name.now }
+{
+    match written {
+        None => None,
+        Some(written) => value_in(written, name),
+    }
+}
+
+fn none(alloc: Global) -> Written
+    ensures { (name : List ℕ) → spec.value_in result name ≡ None }
+{
+    Written {
+        map: IndexMap::new(alloc),
+    }
+}
+
+/// One value.
+fn only(alloc: Global, name: Text, value: Expr) -> Result<Box<Written>, Memory>
+    ensures { IfOk result (λ b. (other : List ℕ) → spec.value_in b.value other
+        ≡ or_else None (spec.named_value name value other)) }
+{
+    let mut written = none(alloc);
+    add_behind(&mut written, name, value)?;
+    match Box::new(alloc, written) {
+        Ok(written) => Ok(written),
+        Err(_) => Err(Memory),
+    }
+}
+
+fn add_among(
+    alloc: Global,
+    written: &mut Option<Box<Written>>,
+    name: Text,
+    value: Expr,
+) -> Result<(), Memory>
+    ensures { OnOk result ((other : List ℕ) → spec.value_among written.new other
+        ≡ or_else (spec.value_among written.old other) (spec.named_value name value other)) }
+{
+    match written {
+        None => {
+            *written = Some(only(alloc, name, value)?);
+            Ok(())
+        }
+        Some(written) => add_behind(&mut **written, name, value),
+    }
+}
+
+fn add_behind(written: &mut Written, name: Text, value: Expr) -> Result<(), Memory>
+    ensures { OnOk result ((other : List ℕ) → spec.value_in written.new other
+        ≡ or_else (spec.value_in written.old other) (spec.named_value name value other)) }
+{
+    if written.map.get(name.bytes()).is_some() {
+        return Ok(());
+    }
+    put(&mut written.map, name.into_vec(), value)
 }
 
 fn put(map: &mut IndexMap<Vec<u8>, Expr>, key: Vec<u8>, value: Expr) -> Result<(), Memory>
