@@ -2,3 +2,4 @@ pub mod Clocks
 pub mod Found
 pub mod Directions
 pub mod Joins
+pub mod Reasons

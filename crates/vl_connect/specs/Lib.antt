@@ -1,4 +1,5 @@
 pub mod Clock
+pub mod Instances
 pub mod Joined
 pub mod Parameters
 pub mod Ports

@@ -1,5 +1,5 @@
 //! Instances by what they name.
-ghost use Rattle.std.specs.Prelude.{◌≡◌, IfOk};
+ghost use Rattle.std.specs.Prelude.{◌≡◌, ◌||◌, not, IfOk};
 ghost use Rattle.vl_mean.specs.Walk.{Place};
 ghost use Rattle.vl_refusal.specs.declared.elab_fault.ElabFault.TheVariants as f;
 ghost use Rattle.vl_refusal.specs.Expressions.{refused_if};
@@ -7,6 +7,7 @@ ghost use Rattle.vl_refusal.specs.Items.{instance_refusals};
 ghost use Rattle.vl_refusal.specs.Refused.{lowest};
 ghost use Rattle.name_set.specs.Known.{AreNames};
 ghost use Rattle.vl_modules.specs.Table.{AreModules};
+ghost use Rattle.vl_connect.specs.Instances as spec;
 
 use fv_base::{Memory, Pos, Text};
 use name_set::NameSet;
@@ -36,6 +37,31 @@ fn recursive_if(alloc: Global, test: bool, path: &ModulePath) -> Result<Option<E
     Ok(Some(ElabFault::Recursive(path.names(alloc)?)))
 }
 
+/// None of the three reasons is there.
+fn are_none(missing: bool, twice: bool, within: bool) -> bool
+    ensures { result ≡ not (missing || (twice || within)) }
+{
+    !(missing || twice || within)
+}
+
+/// Which of the three reasons is answered.
+fn refused(
+    alloc: Global,
+    missing: bool,
+    twice: bool,
+    within: bool,
+    pos: Pos,
+    instance: &Instance,
+    path: &ModulePath,
+) -> Result<Option<ElabFault>, Memory>
+    ensures { IfOk result (λ g. g ≡ lowest (spec.refused_by missing twice within pos instance.now path.now)) }
+{
+    let module = no_module_if(alloc, missing, &instance.definition)?;
+    let twice = twice_if(alloc, twice, &instance.name, pos)?;
+    let inner = recursive_if(alloc, within, path)?;
+    Ok(first_of(first_of(module, twice), inner))
+}
+
 /// An instance by its own name and by the module that it names. `path`: the modules that it stands in; `earlier`: the
 /// names that stand before it in its scope.
 pub fn instance_fault(
@@ -52,8 +78,11 @@ pub fn instance_fault(
         → g ≡ lowest (instance_refusals all.now at pos instance.now)) }
 {
     let missing = modules.find(all, &instance.definition).is_none();
-    let module = no_module_if(alloc, missing, &instance.definition)?;
-    let twice = twice_if(alloc, earlier.contains(&instance.name), &instance.name, pos)?;
-    let inner = recursive_if(alloc, path.contains(&instance.definition), path)?;
-    Ok(first_of(first_of(module, twice), inner))
+    let twice = earlier.contains(&instance.name);
+    let within = path.contains(&instance.definition);
+    if are_none(missing, twice, within) {
+        return Ok(None);
+    }
+    let fault = refused(alloc, missing, twice, within, pos, instance, path)?;
+    Ok(fault)
 }
