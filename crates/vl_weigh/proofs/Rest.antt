@@ -1,8 +1,9 @@
 -- Steps that are left, one behind the other.
-use Rattle.std.specs.Prelude.{◌≡◌, refl, ℕ, List, [], ◌∷◌, ◌++◌, Bool, true, false, is_some, Option, Some, None}
-use Rattle.std.specs.Prelude.{option_to_list}
-use Rattle.std.proofs.Common.{ap, sym, ◌∙◌, subst}
-use Rattle.std.proofs.lemmas.List.{append_assoc}
+use Rattle.std.specs.Prelude.{◌≡◌, refl, ℕ, ◌==◌, List, [], ◌∷◌, ◌++◌, length, Bool, true, false, is_some}
+use Rattle.std.specs.Prelude.{Option, Some, None, option_to_list}
+use Rattle.std.proofs.Common.{ap, sym, ◌∙◌, subst, arith}
+use Rattle.std.proofs.lemmas.Bool.Decides.{nat_tests}
+use Rattle.std.proofs.lemmas.List.{append_assoc, nil_from_length}
 use Rattle.vl_tree.specs.declared.declaration.FullPort.{FullPort}
 use Rattle.vl_tree.specs.declared.declaration.Port.{Port}
 use Rattle.vl_tree.specs.declared.declaration.PortKind.{PortKind}
@@ -12,7 +13,7 @@ use Rattle.vl_tree.specs.Expr.{Expr}
 use Rattle.vl_mean.specs.Declarations.{full_port, full_ports}
 use Rattle.vl_mean.specs.Walk.{Place, Use, Step, optional_name, port_names, port_step, port_steps, with_earlier}
 use Rattle.vl_refusal.specs.declared.elab_fault.ElabFault.{ElabFault}
-use Rattle.vl_refusal.specs.Refused.{Totals, all_counted, counted, first_refused, or_later}
+use Rattle.vl_refusal.specs.Refused.{Totals, all_counted, counted, first_refused, lower_of, or_later}
 use Rattle.vl_refusal.proofs.LowestFirst.{first_append}
 use Rattle.vl_walked.specs.declared.totals.Totals as kept
 use Rattle.vl_walked.specs.Walked.{AreTotals, AreWalked}
@@ -34,6 +35,11 @@ found_none (Some g) b h k = cc
 pub none_found : (g : Option ElabFault) (b : Bool) → b ≡ is_some g → b ≡ true → g ≡ None → ⊥
 none_found None b h k e = cc
 none_found (Some g) b h k e = cc
+
+-- a refusal beside none
+pub lower_alone : (g : Option ElabFault) → g ≡ lower_of g None
+lower_alone None = refl
+lower_alone (Some g) = refl
 
 module _ (ms : List Module) (t : Totals) (all : List Step) where
   pub left_start : (old : kept.Totals) → AreTotals old t → AreLeft ms t all old all
@@ -74,6 +80,14 @@ module _ (ms : List Module) (t : Totals) (all : List Step) where
     fault = sym (h.fault ∙ ap (first_refused ms h.now) e);
     totals = λ k. subst (AreTotals old) (sym (h.totals ∙ ap (all_counted h.now) e)) h.known;
   }
+
+-- of none at all nothing is left
+pub none_at_all : {A : Type 0} (ms : List Module) (t : Totals) (steps : List A → List Step) (xs : List A) (b : Bool)
+    (old : kept.Totals) → b ≡ (length xs == 0) → b ≡ true → steps [] ≡ [] → AreTotals old t
+    → AreWalked ms t old (steps xs) None
+none_at_all ms t steps xs b old e h none known =
+    let gone : xs ≡ [] = nil_from_length xs (let z : (length xs == 0) ≡ true = sym e ∙ h in grind (arith, nat_tests)) in
+    left_end ms t (steps xs) old (steps xs) (ap steps gone ∙ none) (left_start ms t (steps xs) old known)
 
 -- ---- ports
 

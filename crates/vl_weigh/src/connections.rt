@@ -79,6 +79,9 @@ pub fn walk_overrides(
         → AreTotals totals.old t
         → AreWalked ms t totals.new (walk.override_steps at module.now u [] all.now) g) }
 {
+    if all.is_empty() {
+        return Ok(None);
+    }
     let parameters = ParameterTable::new(alloc, module)?;
     let mut earlier = NameSet::new(alloc);
     for given in all {
@@ -144,6 +147,9 @@ pub fn walk_connections(
         → Alike inner.now (inner_meanings module.now u) → AreTotals totals.old t
         → AreWalked ms t totals.new (walk.connection_steps at module.now u inside [] all.now) g) }
 {
+    if all.is_empty() {
+        return Ok(None);
+    }
     let ports = PortTable::new(alloc, module)?;
     let mut earlier = NameSet::new(alloc);
     for given in all {

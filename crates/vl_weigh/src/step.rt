@@ -3,9 +3,7 @@ ghost use Rattle.std.specs.Prelude.{◌≡◌, ◌∷◌, [], List};
 ghost use Rattle.vl_tree.specs.declared.source.Module.{Module};
 ghost use Rattle.vl_mean.specs.ConstantFaults.{capped};
 ghost use Rattle.vl_mean.specs.Walk.{Step};
-ghost use Rattle.vl_refusal.specs.declared.elab_fault.ElabFault.TheVariants as f;
 ghost use Rattle.vl_refusal.specs.Counts.{step_names, step_nodes, step_pos};
-ghost use Rattle.vl_refusal.specs.Expressions.{refused_if};
 ghost use Rattle.vl_refusal.specs.Items.{step_refusals};
 ghost use Rattle.vl_refusal.specs.Refused as refused;
 ghost use Rattle.vl_refusal.specs.Refused.{lowest};
@@ -16,16 +14,6 @@ use vl_judge::first_of;
 use vl_refusal::ElabFault;
 use vl_totals::Added;
 use vl_walked::Totals;
-
-fn too_large_if(test: bool, pos: Pos) -> Option<ElabFault>
-    ensures { result ≡ lowest (refused_if test (f.TooLarge pos)) }
-{
-    if test {
-        Some(ElabFault::TooLarge(pos))
-    } else {
-        None
-    }
-}
 
 /// The step that is refused so by itself, with the nodes and names that it adds to those before it.
 pub(crate) fn weighed(
@@ -40,5 +28,8 @@ pub(crate) fn weighed(
 {
     let sum = totals.with(added.nodes, added.names);
     *totals = sum;
-    first_of(fault, too_large_if(sum.is_too_large(), pos))
+    if sum.is_too_large() {
+        return first_of(fault, Some(ElabFault::TooLarge(pos)));
+    }
+    fault
 }

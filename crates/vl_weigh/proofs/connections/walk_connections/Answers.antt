@@ -1,10 +1,15 @@
-use Rattle.std.proofs.Common.{◌≡◌, ◌∙◌, ◌+◌, ◌++◌, [], ◌∷◌, ap, sym, subst, arith}
+use Rattle.std.proofs.Common.{◌≡◌, ◌∙◌, ◌+◌, ◌++◌, [], ◌∷◌, refl, ap, sym, subst, arith}
 use Rattle.std.specs.Prelude.{drop}
 use Rattle.std.proofs.lemmas.Grind.{common_steps}
 use Rattle.vl_mean.specs.Walk.{connection, connection_steps}
 use Rattle.vl_weigh.specs.Left.{AreLeft}
-use Rattle.vl_weigh.proofs.Rest.{found_none, left_start, left_on, left_stop, left_end}
+use Rattle.vl_weigh.proofs.Rest.{found_none, none_at_all, left_start, left_on, left_stop, left_end}
 use Rattle.vl_weigh.proofs.connections.walk_connections.Goals as goal
+
+pub returns-then-is_empty : goal.returns-then-is_empty
+returns-then-is_empty c ms at u inside t same inner known =
+    none_at_all ms t (connection_steps at c.args.module.now u inside []) c.args.all.now c.is_empty.result
+    c.args.totals.now c.is_empty.ensures c.if-is_empty.true refl known
 
 pub loop-given-init : goal.loop-given-init
 loop-given-init c ms at u inside t same inner known = (

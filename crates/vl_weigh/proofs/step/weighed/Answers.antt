@@ -1,4 +1,5 @@
-use Rattle.std.proofs.Common.{◌∙◌}
+use Rattle.std.proofs.Common.{◌∙◌, ap, sym}
+use Rattle.std.specs.Prelude.{None, true}
 use Rattle.vl_refusal.specs.declared.elab_fault.ElabFault.TheVariants as f
 use Rattle.vl_refusal.specs.Counts.{step_names, step_nodes, step_pos}
 use Rattle.vl_refusal.specs.Expressions.{refused_if}
@@ -6,14 +7,27 @@ use Rattle.vl_refusal.specs.Items.{step_refusals}
 use Rattle.vl_refusal.specs.Refused.{counted, is_too_large, lowest}
 use Rattle.vl_judge.proofs.Lowest.{lowest_two}
 use Rattle.vl_walked.proofs.Passed.{one_walked}
+use Rattle.vl_weigh.proofs.Rest.{lower_alone}
 use Rattle.vl_weigh.proofs.step.weighed.Goals as goal
 
-pub returns : goal.returns
-returns c ms x t fault nodes names pos known =
+pub returns-then-is_too_large : goal.returns-then-is_too_large
+returns-then-is_too_large c ms x t fault nodes names pos known =
     let sum = c.with-sum.ensures t (step_nodes x) (step_names x) known nodes names in
     one_walked ms t c.with-sum.result x c.first_of.result
     (c.first_of.ensures
     ∙ lowest_two (step_refusals ms x) (refused_if (is_too_large (counted t x)) (f.TooLarge (step_pos x))) _ _ fault
-    (c.too_large_if.ensures
-    ∙ (λ i. lowest (refused_if (c.is_too_large.ensures (counted t x) sum i) (f.TooLarge (pos i))))))
+    (ap (λ p. lowest (refused_if true (f.TooLarge p))) pos
+    ∙ ap (λ b. lowest (refused_if b (f.TooLarge (step_pos x))))
+    (sym c.if-is_too_large.true ∙ c.is_too_large.ensures (counted t x) sum)))
+    (λ e. sum)
+
+pub returns : goal.returns
+returns c ms x t fault nodes names pos known =
+    let sum = c.with-sum.ensures t (step_nodes x) (step_names x) known nodes names in
+    one_walked ms t c.with-sum.result x c.args.fault
+    (lower_alone c.args.fault
+    ∙ lowest_two (step_refusals ms x) (refused_if (is_too_large (counted t x)) (f.TooLarge (step_pos x)))
+    c.args.fault None fault
+    (ap (λ b. lowest (refused_if b (f.TooLarge (step_pos x))))
+    (sym c.if-is_too_large.false ∙ c.is_too_large.ensures (counted t x) sum)))
     (λ e. sum)
