@@ -41,7 +41,9 @@ use Rattle.vl_unfold.proofs.Inner.{block_formed, if_steps, nested_item, not_recu
 use Rattle.vl_unfold.proofs.Inner.{turn_items}
 use Rattle.vl_unfold.proofs.Unfolded.{instance_found, named_is, none_unfolded, one_unfolded}
 use Rattle.vl_judged.specs.declared.scopes.Here.{Here}
+use Rattle.vl_judged.specs.Bare.{is_bare}
 use Rattle.vl_judged.specs.Standing.{IsHere, IsSoFar}
+use Rattle.vl_judged.proofs.NoSteps.{bare_steps}
 
 pub none_of : (g : Option ElabFault) → is_some g ≡ false → g ≡ None
 none_of None e = refl
@@ -210,6 +212,14 @@ module _ (ms : List Module) (n : ℕ) (at : Place) (x : Instance) (m : Module) (
         subst (λ xs. AreWalked ms t new xs g)
         (one_unfolded ms n m u text at.modules (front_steps at m u text x) positive
         ∙ instance_found ms (unfolded n ms) at x (Some m) e) (walked text)
+
+    -- where nothing is within it
+    pub bare_walked : (t : Totals) (new : kept.Totals) (b : Bool) → 0 < n → b ≡ is_bare m x → b ≡ true
+        → AreTotals new t → AreWalked ms t new (instance_steps ms (unfolded n ms) at x) None
+    bare_walked t new b positive same bare totals =
+        module_walked t new None positive (λ text. subst (λ xs. AreWalked ms t new xs None)
+        (sym (bare_steps ms (unfolded (n - 1) ms) at m (use_of at.scopes x) text x (sym same ∙ bare)))
+        (none_walked ms t new totals))
 
 -- ---- what is given and joined, with the head of the module, and behind it the items
 

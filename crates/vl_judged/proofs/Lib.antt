@@ -1,3 +1,4 @@
+pub mod NoSteps
 pub mod Depths
 pub mod Plain
 pub mod Places

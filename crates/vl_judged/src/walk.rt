@@ -19,6 +19,7 @@ ghost use Rattle.vl_walked.specs.Walked.{AreWalked};
 ghost use Rattle.vl_unfold.specs.Within as within;
 ghost use Rattle.vl_judged.specs.Standing.{HasScope, IsHere, IsSoFar, IsWithin};
 
+use crate::bare::is_bare;
 use crate::blocks::{chosen, items_of, nested};
 use crate::scopes::{Here, enter_instance, enter_scope, leave};
 use crate::steps::{open, own_step, pass};
@@ -351,10 +352,13 @@ fn walk_instance(
     if fuel == 0 {
         return Ok(None);
     }
+    if is_bare(module, instance) {
+        return Ok(None);
+    }
     if path.contains(&module.name) {
         return Ok(None);
     }
-    path.push(module.name.copied(alloc)?)?;
+    path.enter(alloc, &module.name)?;
     let fault = walk_module(
         alloc,
         table,

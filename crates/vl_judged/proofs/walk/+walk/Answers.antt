@@ -26,7 +26,7 @@ use Rattle.vl_judged.specs.Standing.{HasScope, IsHere, IsSoFar, IsWithin}
 use Rattle.vl_judged.proofs.Going.{all_items, first_turn_left, if_names, items_formed, leaf_walked}
 use Rattle.vl_judged.proofs.Going.{nested_walked, none_chosen, none_of}
 use Rattle.vl_judged.proofs.Going.{opening_passes, opening_stops, own_passes, own_stops, scope_walked, some_chosen}
-use Rattle.vl_judged.proofs.Going.{deep_walked, module_walked, not_around, turn_walked, unnamed_walked}
+use Rattle.vl_judged.proofs.Going.{bare_walked, deep_walked, module_walked, not_around, turn_walked, unnamed_walked}
 use Rattle.vl_judged.proofs.Depths.{module_below, part_depth, slice_depth}
 use Rattle.vl_judged.proofs.Going.{if_depth, none_within}
 use Rattle.vl_judged.proofs.Places.{scope_again, scope_left, stays_here, stays_within}
@@ -509,6 +509,12 @@ walk_instance-returns-then-fuel-eq0-clause-walked z c t at so free h =
     deep_walked c.args.modules.now c.args.fuel at c.args.instance.now c.in-Some.module.now (sym c.in-Some.ensures) t
     c.args.totals.now c.if-fuel-eq0.true so.totals
 
+pub walk_instance-returns-then-is_bare-clause-walked : goal.walk_instance-returns-then-is_bare-clause-walked
+walk_instance-returns-then-is_bare-clause-walked z c t at so free h =
+    let positive : 0 < c.args.fuel = grind (arith, c.if-fuel-eq0.false) in
+    bare_walked c.args.modules.now c.args.fuel at c.args.instance.now c.in-Some.module.now (sym c.in-Some.ensures) t
+    c.args.totals.now c.is_bare.result positive c.is_bare.ensures c.if-is_bare.true so.totals
+
 pub walk_instance-returns-then-contains-clause-walked : goal.walk_instance-returns-then-contains-clause-walked
 walk_instance-returns-then-contains-clause-walked z c t at so free h =
     let m = c.in-Some.module.now in
@@ -519,8 +525,7 @@ walk_instance-returns-then-contains-clause-walked z c t at so free h =
 pub walk_instance-returns-clause-path : goal.walk_instance-returns-clause-path
 walk_instance-returns-clause-path z c =
     c.pop.ensures c.args.path.now c.in-Some.module.now.name
-    (c.in_ok-fault.ensures.path ∙ c.in_ok-push.ensures.ok
-    ∙ ap (λ text. c.args.path.now ++ text ∷ []) c.in_ok-copied.ensures)
+    (c.in_ok-fault.ensures.path ∙ c.in_ok-enter.ensures.ok)
 
 pub walk_instance-returns-clause-walked : goal.walk_instance-returns-clause-walked
 walk_instance-returns-clause-walked z c t at so free h =
@@ -531,7 +536,7 @@ walk_instance-returns-clause-walked z c t at so free h =
     let positive : 0 < c.args.fuel = grind (arith, c.if-fuel-eq0.false) in
     module_walked ms c.args.fuel at x m named t c.walk_module.new.totals c.in_ok-fault.fault positive
     (λ text. c.in_ok-fault.ensures.walked t at text so ((named_is ms x.definition m named).formed so.formed)
-    (c.in_ok-push.ensures.ok ∙ (λ i. h.modules i ++ c.in_ok-copied.ensures i ∷ []))
+    (c.in_ok-enter.ensures.ok ∙ ap (λ texts. texts ++ m.name ∷ []) h.modules)
     (record { stands = h.stands; modules = refl }))
 
 -- ---- what each call asks for
@@ -694,9 +699,8 @@ walk_scope-returns-clause-path z c = c.in_ok-fault.ensures.path
 pub walk_instance-find-requires : goal.walk_instance-find-requires
 walk_instance-find-requires z c = c.requires
 
-pub walk_instance-push-requires : goal.walk_instance-push-requires
-walk_instance-push-requires z c =
-    ap (contains_name c.args.path.now) c.in_ok-copied.ensures ∙ sym c.contains.ensures ∙ c.if-contains.false
+pub walk_instance-enter-requires : goal.walk_instance-enter-requires
+walk_instance-enter-requires z c = sym c.contains.ensures ∙ c.if-contains.false
 
 pub walk_instance-walk_module-requires : goal.walk_instance-walk_module-requires
 walk_instance-walk_module-requires z c =
@@ -712,6 +716,9 @@ walk_instance-returns-in_default-clause-path z c = refl
 
 pub walk_instance-returns-then-fuel-eq0-clause-path : goal.walk_instance-returns-then-fuel-eq0-clause-path
 walk_instance-returns-then-fuel-eq0-clause-path z c = refl
+
+pub walk_instance-returns-then-is_bare-clause-path : goal.walk_instance-returns-then-is_bare-clause-path
+walk_instance-returns-then-is_bare-clause-path z c = refl
 
 pub walk_instance-returns-then-contains-clause-path : goal.walk_instance-returns-then-contains-clause-path
 walk_instance-returns-then-contains-clause-path z c = refl
