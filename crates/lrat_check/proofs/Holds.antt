@@ -1,6 +1,6 @@
 -- Clauses as codes and as literals.
-use Rattle.std.proofs.Common.{◌≡◌, ℕ, zero, suc, ◌+◌, ◌^◌, ◌<◌, ◌≤◌, Bool, true, false, cond, eqb, List, [], ◌∷◌, ℤ}
-use Rattle.std.proofs.Common.{length, drop, get_or, w64, to_z, of_z, Option, Some, None, refl, ap, sym, subst, ◌∙◌}
+use Rattle.std.proofs.Common.{◌≡◌, ℕ, zero, suc, ◌^◌, ◌<◌, Bool, true, false, cond, eqb, List, [], ◌∷◌, ℤ}
+use Rattle.std.proofs.Common.{length, get_or, w64, to_z, of_z, Option, Some, None, refl, ap, sym, subst, ◌∙◌}
 use Rattle.std.proofs.Common.{arith}
 use Rattle.std.specs.Prelude.{IsSome}
 use Rattle.std.specs.List.{list_any}
@@ -12,8 +12,8 @@ use Rattle.lrat_check.specs.Codes.{lit_of, codes_of, lits_of}
 use Rattle.lrat_check.specs.declared.reading.Reading.{Reading}
 use Rattle.lrat_check.specs.declared.reading.Reading.TheVariants as read
 use Rattle.lrat_check.specs.Sets.{has, is_false, first_open, other_open, reading_of, reading, IsLit, AreLits}
-use Rattle.lrat_check.specs.Steps.{Held, with_clause, without_clause}
-use Rattle.lrat_check.specs.Store.{Coded, with_code, without_code, literals, Removes, Forgets}
+use Rattle.lrat_check.specs.Steps.{Held, with_clause}
+use Rattle.lrat_check.specs.Store.{Coded, with_code, literals, Removes, Forgets}
 use Rattle.lrat_check.proofs.Codes.{lits_codes}
 use Rattle.lrat_check.proofs.Stores.{lits_are}
 

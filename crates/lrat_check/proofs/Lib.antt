@@ -6,5 +6,6 @@ pub mod ReadBack
 pub mod ReadSteps
 pub mod Rows
 pub mod Sound
+pub mod Spans
 pub mod Stores
 pub mod Takes

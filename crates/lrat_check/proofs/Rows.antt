@@ -1,386 +1,170 @@
--- Rows and the clauses that they hold.
-use Rattle.std.proofs.Common.{◌≡◌, ℕ, zero, suc, ◌+◌, ◌-◌, ◌<◌, ◌≤◌, Bool, true, false, cond, eqb, ltb, List, [], ◌∷◌}
-use Rattle.std.proofs.Common.{◌++◌, length, get_or, set, take, drop, Option, Some, None, refl, ap, sym, subst, ◌∙◌}
-use Rattle.std.proofs.Common.{◌⊎◌, inl, inr, arith, length-append, length-drop, length-take}
-use Rattle.std.specs.Prelude.{slice_range, IsSome}
-use Rattle.std.specs.List.{swap}
-use Rattle.std.proofs.lemmas.Bool.{false≢true, cases_eq, cases_Bool}
-use Rattle.std.proofs.lemmas.List.{ext_get_or, drop-append-le, take-append-le, drop_at, take_all, get_or_append_left}
-use Rattle.std.proofs.lemmas.List.{get_or_push, get_or-set_same, get_or-set_other, length-set, length_push, take_at}
-use Rattle.std.proofs.lemmas.List.Edits.{swapped_from_swap, length-swap, length-between, get_or-between}
-use mathlib.Core.Path.{fun_ext}
+-- Rows, and the spans that they stand for.
+use Rattle.std.proofs.Common.{◌≡◌, ℕ, zero, suc, ◌+◌, ◌<◌, ◌≤◌, Bool, true, false, List, [], ◌∷◌, ◌++◌, length}
+use Rattle.std.proofs.Common.{get_or, set, refl, ap, sym, subst, ◌∙◌, arith, length-set}
+use Rattle.std.proofs.lemmas.List.{length_push}
 use Rattle.lrat_check.specs.declared.row.Row.{Row}
-use Rattle.lrat_check.specs.Store.{Coded, part, found, row_at, with_code, without_code, Rising, Laid, NoRow, IsRow}
-use Rattle.lrat_check.specs.Store.{Removes}
+use Rattle.lrat_check.specs.Store.{Span, row_at, span_at, start_of, end_at, spans, Rising, Climbing, NoRow, IsRow}
+use Rattle.lrat_check.specs.Store.{NoSpan, IsSpan, Laid, Lies, found, with_code}
+use Rattle.lrat_check.proofs.Spans.{laid_push, laid_set, pushed}
 
-pub eq_self : (a b : ℕ) → a ≡ b → eqb a b ≡ true
-eq_self a b e = grind arith
+-- between two rows the id rises by as much as the place, or more
+pub spread : (rows : List Row) (i d k : ℕ) → Rising rows → k ≡ i + d → k < length rows
+    → (row_at rows i).id + d ≤ (row_at rows k).id
+spread rows i zero k r e l = let q : i ≡ k = omega (arith, e) in
+    subst (λ j. (row_at rows i).id + 0 ≤ (row_at rows j).id) q (omega arith)
+spread rows i (suc d) k r e l =
+    let m : (row_at rows i).id + d ≤ (row_at rows (i + d)).id = spread rows i d (i + d) r refl (omega (arith, e, l)) in
+    let n : (row_at rows (i + d)).id < (row_at rows k).id = r (i + d) k (omega (arith, e)) l in omega (arith, m, n)
 
-pub eq_apart : (a b : ℕ) → (a ≡ b → ⊥) → eqb a b ≡ false
-eq_apart a b n = grind arith
+-- the part of the last row ends where all do
+pub end_last : (rows : List Row) (place end : ℕ) → length rows ≤ place + 1 → end_at rows place end ≡ end
+end_last [] place end h = refl
+end_last (row ∷ []) zero end h = refl
+end_last (row ∷ next ∷ rows) zero end h = absurd (omega (arith, h))
+end_last (row ∷ rows) (suc place) end h = end_last rows place end (omega (arith, h))
 
-ltb_true : (a b : ℕ) → ltb a b ≡ true → a < b
-ltb_true a b e = grind (arith, e)
+-- that of another one ends where the next one begins
+pub end_next : (rows : List Row) (place end : ℕ) → place + 1 < length rows
+    → end_at rows place end ≡ (row_at rows (place + 1)).start
+end_next [] place end h = absurd (omega (arith, h))
+end_next (row ∷ []) zero end h = absurd (omega (arith, h))
+end_next (row ∷ next ∷ rows) zero end h = refl
+end_next (row ∷ rows) (suc place) end h =
+    let e : suc (place + 1) ≡ suc place + 1 = omega arith in
+    end_next rows place end (omega (arith, h)) ∙ ap (λ k. (row_at (row ∷ rows) k).start) e
 
-ltb_false : (a b : ℕ) → ltb a b ≡ false → b ≤ a
-ltb_false a b e = grind (arith, e)
+pub spans_long : (rows : List Row) (held : List Bool) (end : ℕ) → length held ≡ length rows
+    → length (spans rows held end) ≡ length rows
+spans_long [] held end e = refl
+spans_long (row ∷ rows) [] end e = absurd (omega (arith, e))
+spans_long (row ∷ rows) (h ∷ held) end e =
+    let k : length (spans rows held end) ≡ length rows = spans_long rows held end (omega (arith, e)) in omega (arith, k)
 
-rest : (row : Row) (rows : List Row) → Rising (row ∷ rows) → Rising rows
-rest row rows r i k l m = r (suc i) (suc k) (omega (arith, l)) (omega (arith, m))
+-- the span of a row
+abbrev pub span_of : List Row → List Bool → ℕ → ℕ → Span
+span_of rows held end k = record {
+  id = (row_at rows k).id;
+  start = (row_at rows k).start;
+  end = end_at rows k end;
+  held = get_or held k false;
+}
 
-pub found_at : (all : List ℕ) (rows : List Row) (k id : ℕ) → Rising rows → IsRow rows id k
-    → found all rows id ≡ part all (row_at rows k)
-found_at all [] k id r h = absurd (omega (arith, h.0))
-found_at all (row ∷ rows) zero id r h = ap (λ b. cond b (part all row) (found all rows id)) (eq_self row.id id h.1)
-found_at all (row ∷ rows) (suc k) id r h =
-    ap (λ b. cond b (part all row) (found all rows id))
-    (eq_apart row.id id (λ q. omega (arith, r 0 (suc k) (omega arith) h.0, h.1, q)))
-    ∙ found_at all rows k id (rest row rows r) (omega (arith, h.0), h.1)
+pub spans_at : (rows : List Row) (held : List Bool) (end k : ℕ) → length held ≡ length rows → k < length rows
+    → span_at (spans rows held end) k ≡ span_of rows held end k
+spans_at [] held end k e h = absurd (omega (arith, h))
+spans_at (row ∷ rows) [] end k e h = absurd (omega (arith, e))
+spans_at (row ∷ rows) (h ∷ held) end zero e l = refl
+spans_at (row ∷ rows) (h ∷ held) end (suc k) e l =
+    spans_at rows held end k (omega (arith, e)) (omega (arith, l))
 
-pub found_none : (all : List ℕ) (rows : List Row) (id : ℕ) → NoRow rows id → found all rows id ≡ None
-found_none all [] id n = refl
-found_none all (row ∷ rows) id n =
-    ap (λ b. cond b (part all row) (found all rows id)) (eq_apart row.id id (n 0 (omega arith)))
-    ∙ found_none all rows id (λ k l. n (suc k) (omega (arith, l)))
+start_push : (rows : List Row) (r : Row) (more : ℕ) → start_of (rows ++ r ∷ []) more ≡ start_of rows r.start
+start_push [] r more = refl
+start_push (row ∷ rows) r more = refl
 
-no_row : (row : Row) (rows : List Row) (id : ℕ) → (row.id ≡ id → ⊥) → NoRow rows id → NoRow (row ∷ rows) id
-no_row row rows id h n zero l = h
-no_row row rows id h n (suc k) l = n k (omega (arith, l))
+-- one row more, which begins where all before it end
+pub spans_push : (rows : List Row) (held : List Bool) (r : Row) (more : ℕ) → length held ≡ length rows
+    → spans (rows ++ r ∷ []) (held ++ true ∷ []) more
+    ≡ spans rows held r.start ++ (record { id = r.id; start = r.start; end = more; held = true }) ∷ []
+spans_push [] [] r more e = refl
+spans_push [] (h ∷ held) r more e = absurd (omega (arith, e))
+spans_push (row ∷ rows) [] r more e = absurd (omega (arith, e))
+spans_push (row ∷ rows) (h ∷ held) r more e =
+    let P : ℕ → Span = λ end. record { id = row.id; start = row.start; end = end; held = h } in
+    ap (λ end. P end ∷ spans (rows ++ r ∷ []) (held ++ true ∷ []) more) (start_push rows r more)
+    ∙ ap (λ z. P (start_of rows r.start) ∷ z) (spans_push rows held r more (omega (arith, e)))
 
-pub some_row : (rows : List Row) (id : ℕ) → ((k : ℕ) × IsRow rows id k) ⊎ NoRow rows id
-some_row [] id = inr (λ k l. absurd (omega (arith, l)))
-some_row (row ∷ rows) id = elim (cases_eq row.id id) [
-  | inl e ↦ inl (0, (omega arith, e))
-  | inr n ↦ elim (some_row rows id) [
-    | inl r ↦ inl (suc r.0, (omega (arith, r.1.0), r.1.1))
-    | inr m ↦ inr (no_row row rows id n m)
-  ]
-]
+-- the span of a row that is held no longer
+pub spans_set : (rows : List Row) (held : List Bool) (end place : ℕ) → length held ≡ length rows
+    → place < length rows → spans rows (set held place false) end
+    ≡ set (spans rows held end) place (record {
+      id = (row_at rows place).id;
+      start = (row_at rows place).start;
+      end = end_at rows place end;
+      held = false;
+    })
+spans_set [] held end place e l = absurd (omega (arith, l))
+spans_set (row ∷ rows) [] end place e l = absurd (omega (arith, e))
+spans_set (row ∷ rows) (h ∷ held) end zero e l = refl
+spans_set (row ∷ rows) (h ∷ held) end (suc place) e l =
+    let P : Span = record { id = row.id; start = row.start; end = start_of rows end; held = h } in
+    ap (λ z. P ∷ z) (spans_set rows held end place (omega (arith, e)) (omega (arith, l)))
 
--- two rows with one id are one
-pub same_place : (rows : List Row) (k j id : ℕ) → Rising rows → IsRow rows id k → IsRow rows id j → k ≡ j
-same_place rows k j id r h m = elim (cases_eq k j) [
-  | inl e ↦ e
-  | inr n ↦ elim (cases_Bool (ltb k j)) [
-    | inl q ↦ absurd (omega (arith, r k j (ltb_true k j q) m.0, h.1, m.1))
-    | inr q ↦ absurd (omega (arith, r j k (omega (arith, ltb_false k j q, n)) h.0, h.1, m.1))
-  ]
-]
+module _ (rows : List Row) (held : List Bool) (end : ℕ) (e : length held ≡ length rows) where
+  id_of : (k : ℕ) → k < length rows → (span_at (spans rows held end) k).id ≡ (row_at rows k).id
+  id_of k h = ap (λ x. x.id) (spans_at rows held end k e h)
 
--- parts of a list that grows
-pub part_kept : (all more : List ℕ) (s e : ℕ) → s ≤ e → e ≤ length all
-    → slice_range (all ++ more) s e ≡ slice_range all s e
-part_kept all more s e l m =
-    ap (take (e - s)) (drop-append-le s all more (omega (arith, l, m)))
-    ∙ take-append-le (e - s) (drop s all) more (omega (arith, length-drop s all, l, m))
+  pub rises : Climbing (spans rows held end) → Rising rows
+  rises r i k h l =
+      let m : (span_at (spans rows held end) i).id < (span_at (spans rows held end) k).id =
+      r i k h (omega (arith, l, spans_long rows held end e)) in
+      omega (arith, m, id_of i (omega (arith, h, l)), id_of k l)
 
-pub part_last : (all more : List ℕ) (s e : ℕ) → s ≡ length all → e ≡ length (all ++ more)
-    → slice_range (all ++ more) s e ≡ more
-part_last all more s e l m =
-    ap (take (e - s)) (drop_at all more s (sym l))
-    ∙ take_all (e - s) more (omega (arith, l, m, length-append all more))
+  pub is_span : (id k : ℕ) → IsRow rows id k → IsSpan (spans rows held end) id k
+  is_span id k h = (omega (arith, h.0, spans_long rows held end e), id_of k h.0 ∙ h.1)
 
-module _ (all more : List ℕ) (r : Row) (held : r.held ≡ true)
-    (is : slice_range (all ++ more) r.start r.end ≡ more) where
-  last : part (all ++ more) r ≡ Some more
-  last = ap (λ b. cond b (Some (slice_range (all ++ more) r.start r.end)) None) held ∙ ap Some is
+  pub no_span : (id : ℕ) → NoRow rows id → NoSpan (spans rows held end) id
+  no_span id n k l q = n k (omega (arith, l, spans_long rows held end e))
+      (sym (id_of k (omega (arith, l, spans_long rows held end e))) ∙ q)
 
-  kept : (row : Row) → row.start ≤ row.end → row.end ≤ length all → part (all ++ more) row ≡ part all row
-  kept row l m = ap (λ x. cond row.held (Some x) None) (part_kept all more row.start row.end l m)
+-- where the part of a row lies
+pub bounds : (rows : List Row) (held : List Bool) (end next place last : ℕ) (row : Row) → Lies rows held end next
+    → place < length rows → row ≡ row_at rows place → last ≡ end_at rows place end → (row.start ≤ last) × (last ≤ end)
+bounds rows held end next place last row l h g e =
+    let w = l.laid.within place (omega (arith, h, spans_long rows held end l.marked)) in
+    let s = spans_at rows held end place l.marked h in (
+      omega (arith, w.0, ap (λ x. x.start) s, ap (λ x. x.end) s, ap (λ x. x.start) g, e),
+      omega (arith, w.1, ap (λ x. x.end) s, e),
+    )
 
-  pushed_at : (rows : List Row) (i : ℕ) → ((k : ℕ) → k < length rows → ((row_at rows k).start ≤ (row_at rows k).end)
-      × ((row_at rows k).end ≤ length all) × ((row_at rows k).id < r.id))
-      → found (all ++ more) (rows ++ r ∷ []) i ≡ with_code (found all rows) r.id more i
-  pushed_at [] i h = ap (λ p. cond (eqb r.id i) p None) last
-  pushed_at (row ∷ rows) i h = elim (cases_eq row.id i) [
-    | inl e ↦
-        ap (λ b. cond b (part (all ++ more) row) (found (all ++ more) (rows ++ r ∷ []) i)) (eq_self row.id i e)
-        ∙ kept row (h 0 (omega arith)).0 (h 0 (omega arith)).1
-        ∙ sym (ap (λ b. cond b (part all row) (found all rows i)) (eq_self row.id i e))
-        ∙ sym (ap (λ b. cond b (Some more) (found all (row ∷ rows) i))
-        (eq_apart r.id i (λ q. omega (arith, (h 0 (omega arith)).2, e, q))))
-    | inr n ↦
-        ap (λ b. cond b (part (all ++ more) row) (found (all ++ more) (rows ++ r ∷ []) i)) (eq_apart row.id i n)
-        ∙ pushed_at rows i (λ k l. h (suc k) (omega (arith, l)))
-        ∙ sym (ap (λ b. cond (eqb r.id i) (Some more) (cond b (part all row) (found all rows i))) (eq_apart row.id i n))
-  ]
+module _ (rows now : List Row) (held held_now : List Bool) (next : ℕ) (r : Row) (is : now ≡ rows ++ r ∷ [])
+    (held_is : held_now ≡ held ++ true ∷ []) (above : next ≤ r.id) where
+  -- with one row more the clauses still lie one behind the other
+  pub lies_push : (end more : ℕ) → Lies rows held end next → r.start ≡ end → end ≤ more
+      → Lies now held_now more (r.id + 1)
+  lies_push end more l s m =
+      let P : List Row → Type 0 = λ z. Lies z held_now more (r.id + 1) in
+      let Q : List Bool → Type 0 = λ z. Lies (rows ++ r ∷ []) z more (r.id + 1) in
+      let R : ℕ → Type 0 = λ z. Laid (spans rows held z) end next in
+      let x = length_push rows r in
+      let y = length_push held true in
+      subst P (sym is) (subst Q (sym held_is) (record {
+        marked = omega (arith, x, y, l.marked);
+        laid = subst (λ z. Laid z more (r.id + 1)) (sym (spans_push rows held r more l.marked))
+            (laid_push (spans rows held r.start) (record { id = r.id; start = r.start; end = more; held = true }) end
+            more next (subst R (sym s) l.laid) above s refl m);
+      }))
 
--- a clause with a new id comes behind the others
-pub pushed : (all more : List ℕ) (rows : List Row) (r : Row) (top : ℕ) → Laid rows (length all) top → top ≤ r.id
-    → r.held ≡ true → r.start ≡ length all → r.end ≡ length (all ++ more)
-    → found (all ++ more) (rows ++ r ∷ []) ≡ with_code (found all rows) r.id more
-pushed all more rows r top l t h s e =
-    fun_ext (λ i. pushed_at all more r h (part_last all more r.start r.end s e) rows i
-    (λ k m. let w = l.within k m in (w.0, w.1, omega (arith, w.2, t))))
+  -- and its id holds the codes that came behind the others
+  pub holds_push : (all more codes : List ℕ) → Lies rows held (length all) next → r.start ≡ length all
+      → codes ≡ all ++ more
+      → found codes (spans now held_now (length codes))
+      ≡ with_code (found all (spans rows held (length all))) r.id more
+  holds_push all more codes l s e =
+      let R : ℕ → Type 0 = λ z. Laid (spans rows held z) (length all) next in
+      ap (λ z. found z (spans now held_now (length z))) e
+      ∙ ap (λ z. found (all ++ more) (spans z held_now (length (all ++ more)))) is
+      ∙ ap (λ z. found (all ++ more) (spans (rows ++ r ∷ []) z (length (all ++ more)))) held_is
+      ∙ ap (found (all ++ more)) (spans_push rows held r (length (all ++ more)) l.marked)
+      ∙ pushed all more (spans rows held r.start)
+      (record { id = r.id; start = r.start; end = length (all ++ more); held = true }) next (subst R (sym s) l.laid)
+      above refl s refl
+      ∙ ap (λ z. with_code (found all (spans rows held z)) r.id more) s
 
-row_left : (rows : List Row) (r : Row) (k : ℕ) → k < length rows → row_at (rows ++ r ∷ []) k ≡ row_at rows k
-row_left rows r k l = get_or_append_left rows (r ∷ []) (record { id = 0; start = 0; end = 0; held = false }) k l
-
-row_last : (rows : List Row) (r : Row) (k : ℕ) → k ≡ length rows → row_at (rows ++ r ∷ []) k ≡ r
-row_last rows r k e = get_or_push rows r (record { id = 0; start = 0; end = 0; held = false }) k (sym e)
-
-module _ (rows : List Row) (r : Row) (end more top : ℕ) (l : Laid rows end top) (t : top ≤ r.id) (s : r.start ≡ end)
-    (e : r.end ≡ more) (m : end ≤ more) where
-  place : (k : ℕ) → k < length (rows ++ r ∷ []) → (k < length rows) ⊎ (k ≡ length rows)
-  place k h = elim (cases_eq k (length rows)) [ inl q ↦ inr q | inr n ↦ inl (omega (arith, n, h, length_push rows r)) ]
-
-  within_at : (k : ℕ) → k < length (rows ++ r ∷ [])
-      → ((row_at (rows ++ r ∷ []) k).start ≤ (row_at (rows ++ r ∷ []) k).end)
-      × ((row_at (rows ++ r ∷ []) k).end ≤ more) × ((row_at (rows ++ r ∷ []) k).id < r.id + 1)
-  within_at k h =
-      let P : Row → Type 0 = λ x. (x.start ≤ x.end) × (x.end ≤ more) × (x.id < r.id + 1) in
-      elim (place k h) [
-        | inl q ↦ let w =
-            l.within k q in subst P (sym (row_left rows r k q)) (w.0, omega (arith, w.1, m), omega (arith, w.2, t))
-        | inr q ↦ subst P (sym (row_last rows r k q)) (omega (arith, s, e, m), omega (arith, e), omega arith)
-      ]
-
-  behind_at : (i k : ℕ) → i < k → k < length (rows ++ r ∷ [])
-      → ((row_at (rows ++ r ∷ []) i).end ≤ (row_at (rows ++ r ∷ []) k).start)
-      × ((row_at (rows ++ r ∷ []) i).id < (row_at (rows ++ r ∷ []) k).id)
-  behind_at i k h j =
-      let P : Row → Row → Type 0 = λ x y. (x.end ≤ y.start) × (x.id < y.id) in
-      elim (place k j) [
-        | inl q ↦
-            let p : i < length rows = omega (arith, h, q) in
-            let Q : Row → Type 0 = λ x. P x (row_at (rows ++ r ∷ []) k) in
-            subst Q (sym (row_left rows r i p)) (subst (P (row_at rows i)) (sym (row_left rows r k q))
-            (l.behind i k h q, l.rising i k h q))
-        | inr q ↦
-            let p : i < length rows = omega (arith, h, q) in
-            let w = l.within i p in
-            let Q : Row → Type 0 = λ x. P x (row_at (rows ++ r ∷ []) k) in
-            subst Q (sym (row_left rows r i p)) (subst (P (row_at rows i)) (sym (row_last rows r k q))
-            (omega (arith, w.1, s), omega (arith, w.2, t)))
-      ]
-
-  pub laid_push : Laid (rows ++ r ∷ []) more (r.id + 1)
-  laid_push = record {
-    within = within_at;
-    behind = λ i k h j. (behind_at i k h j).0;
-    rising = λ i k h j. (behind_at i k h j).1;
-  }
-
--- what lies outside of two places stays where they are exchanged
-module _ (all : List ℕ) (p q : ℕ) (hp : p < length all) (hq : q < length all) where
-  outside_at : (s e : ℕ) → e ≤ length all → ((i : ℕ) → s ≤ i → i < e → (i ≡ p → ⊥) × (i ≡ q → ⊥)) → (i : ℕ)
-      → i < e - s → get_or (slice_range (swap all p q) s e) i 0 ≡ get_or (slice_range all s e) i 0
-  outside_at s e m h i l =
-      let b : s + i < e = omega (arith, l) in
-      let n = h (s + i) (omega arith) b in
-      get_or-between (swap all p q) s e i 0 b ∙ (swapped_from_swap all (swap all p q) p q 0 hp hq refl).2
-      (s + i) n.0 n.1 ∙ sym (get_or-between all s e i 0 b)
-
-  pub outside : (s e : ℕ) → e ≤ length all → ((i : ℕ) → s ≤ i → i < e → (i ≡ p → ⊥) × (i ≡ q → ⊥))
-      → slice_range (swap all p q) s e ≡ slice_range all s e
-  outside s e m h =
-      let n = length-between (swap all p q) s e (omega (arith, m, length-swap all p q)) in
-      ext_get_or 0 (slice_range (swap all p q) s e) (slice_range all s e) (n ∙ sym (length-between all s e m))
-      (λ i l. outside_at s e m h i (omega (arith, l, n)))
-
--- an exchange of two places of a part is one of that part
-module _ (all : List ℕ) (s e a b : ℕ) (ha : a < e - s) (hb : b < e - s) (m : e ≤ length all) where
-  abbrev now : List ℕ
-  now = swap all (s + a) (s + b)
-
-  abbrev one : List ℕ
-  one = slice_range all s e
-
-  many : length one ≡ e - s
-  many = length-between all s e m
-
-  read : (i : ℕ) → i < e - s → get_or one i 0 ≡ get_or all (s + i) 0
-  read i l = get_or-between all s e i 0 (omega (arith, l))
-
-  read_now : (i : ℕ) → i < e - s → get_or (slice_range now s e) i 0 ≡ get_or now (s + i) 0
-  read_now i l = get_or-between now s e i 0 (omega (arith, l))
-
-  inside_at : (i : ℕ) → i < e - s → get_or (slice_range now s e) i 0 ≡ get_or (swap one a b) i 0
-  inside_at i l =
-      let g = swapped_from_swap all now (s + a) (s + b) 0 (omega (arith, ha, m)) (omega (arith, hb, m)) refl in
-      let f = swapped_from_swap one (swap one a b) a b 0 (omega (arith, ha, many)) (omega (arith, hb, many)) refl in
-      elim (cases_eq i a) [
-        | inl q ↦ read_now i l ∙ ap (λ k. get_or now (s + k) 0) q ∙ g.0 ∙ sym (read b hb) ∙ sym f.0
-            ∙ ap (λ k. get_or (swap one a b) k 0) (sym q)
-        | inr n ↦ elim (cases_eq i b) [
-          | inl q ↦ read_now i l ∙ ap (λ k. get_or now (s + k) 0) q ∙ g.1 ∙ sym (read a ha) ∙ sym f.1
-              ∙ ap (λ k. get_or (swap one a b) k 0) (sym q)
-          | inr o ↦ read_now i l ∙ g.2 (s + i) (λ z. n (omega (arith, z))) (λ z. o (omega (arith, z)))
-              ∙ sym (read i l) ∙ sym (f.2 i n o)
-        ]
-      ]
-
-  pub inside : slice_range now s e ≡ swap one a b
-  inside =
-      let n = length-between now s e (omega (arith, m, length-swap all (s + a) (s + b))) in
-      ext_get_or 0 (slice_range now s e) (swap one a b) (n ∙ sym (length-swap one a b ∙ many))
-      (λ i l. inside_at i (omega (arith, l, n)))
-
-pub none_some : {X : Type 0} (x : X) → None ≡ Some x → ⊥
-none_some x e = cc
-
-pub some_is : {X : Type 0} (x y : X) → Some x ≡ Some y → x ≡ y
-some_is x y e = cc
-
--- what a row with a clause holds
-pub part_some : (all : List ℕ) (row : Row) (clause : List ℕ) (b : Bool) → row.held ≡ b → part all row ≡ Some clause
-    → (row.held ≡ true) × (slice_range all row.start row.end ≡ clause)
-part_some all row clause true h e = (
-  h,
-  some_is (slice_range all row.start row.end) clause
-      (sym (ap (λ b. cond b (Some (slice_range all row.start row.end)) None) h) ∙ e),
-)
-part_some all row clause false h e =
-    absurd (none_some clause (sym (ap (λ b. cond b (Some (slice_range all row.start row.end)) None) h) ∙ e))
-
-module _ (all : List ℕ) (rows : List Row) (top id place a b : ℕ) (clause : List ℕ) (l : Laid rows (length all) top)
-    (r : IsRow rows id place) (f : found all rows id ≡ Some clause) (ha : a < length clause)
-    (hb : b < length clause) where
-  abbrev row : Row
-  row = row_at rows place
-
-  holds : (row.held ≡ true) × (slice_range all row.start row.end ≡ clause)
-  holds = part_some all row clause row.held refl (sym (found_at all rows place id l.rising r) ∙ f)
-
-  fits : (row.start ≤ row.end) × (row.end ≤ length all)
-  fits = let w = l.within place r.0 in (w.0, w.1)
-
-  long : length clause ≡ row.end - row.start
-  long = ap length (sym holds.1) ∙ length-between all row.start row.end fits.1
-
-  -- both places lie among the all
-  pub in_range : (row.start + a < length all) × (row.start + b < length all)
-  in_range = (omega (arith, ha, long, fits.0, fits.1), omega (arith, hb, long, fits.0, fits.1))
-
-  abbrev then : List ℕ
-  then = swap all (row.start + a) (row.start + b)
-
-  here : part then row ≡ Some (swap clause a b)
-  here =
-      ap (λ z. cond z (Some (slice_range then row.start row.end)) None) holds.0
-      ∙ ap Some (inside all row.start row.end a b (omega (arith, ha, long)) (omega (arith, hb, long)) fits.1
-      ∙ ap (λ c. swap c a b) holds.1)
-
-  away : (k i : ℕ) → k < length rows → (k ≡ place → ⊥) → (row_at rows k).start ≤ i → i < (row_at rows k).end
-      → (i ≡ row.start + a → ⊥) × (i ≡ row.start + b → ⊥)
-  away k i h n u v = elim (cases_Bool (ltb k place)) [
-    | inl q ↦ let w =
-        l.behind k place (ltb_true k place q) r.0 in (λ z. omega (arith, z, w, v), λ z. omega (arith, z, w, v))
-    | inr q ↦ let w = l.behind place k (omega (arith, ltb_false k place q, n)) h
-        in (λ z. omega (arith, z, w, u, ha, long), λ z. omega (arith, z, w, u, hb, long))
-  ]
-
-  there : (k : ℕ) → k < length rows → (k ≡ place → ⊥) → part then (row_at rows k) ≡ part all (row_at rows k)
-  there k h n = ap (λ x. cond (row_at rows k).held (Some x) None)
-      (outside all (row.start + a) (row.start + b) in_range.0 in_range.1 (row_at rows k).start (row_at rows k).end
-      (l.within k h).1 (λ i u v. away k i h n u v))
-
-  swapped_at : (i : ℕ) → found then rows i ≡ with_code (found all rows) id (swap clause a b) i
-  swapped_at i = elim (some_row rows i) [
-    | inl k ↦ elim (cases_eq k.0 place) [
-      | inl q ↦
-          found_at then rows k.0 i l.rising k.1 ∙ ap (λ z. part then (row_at rows z)) q ∙ here
-          ∙ sym (ap (λ z. cond z (Some (swap clause a b)) (found all rows i))
-          (eq_self id i (sym r.1 ∙ ap (λ z. (row_at rows z).id) (sym q) ∙ k.1.1)))
-      | inr n ↦
-          found_at then rows k.0 i l.rising k.1 ∙ there k.0 k.1.0 n ∙ sym (found_at all rows k.0 i l.rising k.1)
-          ∙ sym (ap (λ z. cond z (Some (swap clause a b)) (found all rows i))
-          (eq_apart id i (λ z. n (same_place rows k.0 place i l.rising k.1 (r.0, r.1 ∙ z)))))
-    ]
-    | inr n ↦
-        found_none then rows i n ∙ sym (found_none all rows i n)
-        ∙ sym (ap (λ z. cond z (Some (swap clause a b)) (found all rows i))
-        (eq_apart id i (λ z. n place r.0 (r.1 ∙ z))))
-  ]
-
-  pub swapped : found then rows ≡ with_code (found all rows) id (swap clause a b)
-  swapped = fun_ext swapped_at
-
--- a row that holds no longer
-module _ (all : List ℕ) (now : Row) (gone : now.held ≡ false) where
-  none : part all now ≡ None
-  none = ap (λ b. cond b (Some (slice_range all now.start now.end)) None) gone
-
-  removed_at : (rows : List Row) (id place i : ℕ) → Rising rows → IsRow rows id place → now.id ≡ id
-      → found all (set rows place now) i ≡ without_code (found all rows) id i
-  removed_at [] id place i l r e = absurd (omega (arith, r.0))
-  removed_at (row ∷ rows) id zero i l r e = elim (cases_eq id i) [
-    | inl q ↦
-        ap (λ b. cond b (part all now) (found all rows i)) (eq_self now.id i (e ∙ q)) ∙ none
-        ∙ sym (ap (λ b. cond b None (found all (row ∷ rows) i)) (eq_self id i q))
-    | inr n ↦
-        ap (λ b. cond b (part all now) (found all rows i)) (eq_apart now.id i (λ z. n (sym e ∙ z)))
-        ∙ sym (ap (λ b. cond b None (cond (eqb row.id i) (part all row) (found all rows i))) (eq_apart id i n)
-        ∙ ap (λ b. cond b (part all row) (found all rows i)) (eq_apart row.id i (λ z. n (sym r.1 ∙ z))))
-  ]
-  removed_at (row ∷ rows) id (suc place) i l r e = elim (cases_eq row.id i) [
-    | inl q ↦
-        ap (λ b. cond b (part all row) (found all (set rows place now) i)) (eq_self row.id i q)
-        ∙ sym (ap (λ b. cond b None (cond (eqb row.id i) (part all row) (found all rows i)))
-        (eq_apart id i (λ z. omega (arith, l 0 (suc place) (omega arith) r.0, r.1, q, z)))
-        ∙ ap (λ b. cond b (part all row) (found all rows i)) (eq_self row.id i q))
-    | inr n ↦
-        ap (λ b. cond b (part all row) (found all (set rows place now) i)) (eq_apart row.id i n)
-        ∙ removed_at rows id place i (rest row rows l) (omega (arith, r.0), r.1) e
-        ∙ sym (ap (λ b. cond (eqb id i) None (cond b (part all row) (found all rows i))) (eq_apart row.id i n))
-  ]
-
-  pub removed : (rows : List Row) (id place : ℕ) → Rising rows → IsRow rows id place → now.id ≡ id
-      → found all (set rows place now) ≡ without_code (found all rows) id
-  removed rows id place l r e = fun_ext (λ i. removed_at rows id place i l r e)
-
-module _ (all : List ℕ) (rows : List Row) (id place : ℕ) (row now : Row) (before : Coded) where
-  -- what is held once a row holds no longer
-  pub removes : (b : Bool) → row.held ≡ b → Rising rows → IsRow rows id place → row ≡ row_at rows place
-      → before ≡ found all rows → now.held ≡ false → now.id ≡ row.id
-      → Removes before (found all (set rows place now)) id b
-  removes true h l r g e gone k =
-      let is : before id ≡ Some (slice_range all row.start row.end) =
-      ap (λ f. f id) e ∙ found_at all rows place id l r ∙ ap (part all) (sym g)
-      ∙ ap (λ b. cond b (Some (slice_range all row.start row.end)) None) h in
-      let P : Option (List ℕ) → Type 0 = λ o. IsSome o in (
-        subst P (sym is) refl,
-        removed all now gone rows id place l r (k ∙ ap (λ x. x.id) g ∙ r.1) ∙ ap (λ f. without_code f id) (sym e),
-      )
-  removes false h l r g e gone k =
-      ap (λ f. f id) e ∙ found_at all rows place id l r ∙ ap (part all) (sym g)
-      ∙ ap (λ b. cond b (Some (slice_range all row.start row.end)) None) h
-
--- a row that only holds no longer lies where it lay
-module _ (rows : List Row) (place end top : ℕ) (now : Row) (h : place < length rows) (l : Laid rows end top)
-    (s : now.start ≡ (row_at rows place).start) (e : now.end ≡ (row_at rows place).end)
-    (n : now.id ≡ (row_at rows place).id) where
-  same : (k : ℕ) → ((row_at (set rows place now) k).start ≡ (row_at rows k).start)
-      × ((row_at (set rows place now) k).end ≡ (row_at rows k).end)
-      × ((row_at (set rows place now) k).id ≡ (row_at rows k).id)
-  same k = elim (cases_eq k place) [
-    | inl q ↦
-        let P : ℕ → Type 0 = λ j. ((row_at (set rows place now) j).start ≡ (row_at rows j).start)
-        × ((row_at (set rows place now) j).end ≡ (row_at rows j).end)
-        × ((row_at (set rows place now) j).id ≡ (row_at rows j).id) in
-        let g : row_at (set rows place now) place
-        ≡ now = get_or-set_same rows place now (record { id = 0; start = 0; end = 0; held = false }) h in
-        subst P (sym q) (ap (λ x. x.start) g ∙ s, ap (λ x. x.end) g ∙ e, ap (λ x. x.id) g ∙ n)
-    | inr q ↦
-        let g : row_at (set rows place now) k ≡ row_at rows k = get_or-set_other rows place k now
-        (record { id = 0; start = 0; end = 0; held = false }) q in
-        (ap (λ x. x.start) g, ap (λ x. x.end) g, ap (λ x. x.id) g)
-  ]
-
-  pub laid_set : Laid (set rows place now) end top
-  laid_set = record {
-    within = λ k m. let w = l.within k (omega (arith, m, length-set rows place now)) in let g = same k
-        in (omega (arith, w.0, g.0, g.1), omega (arith, w.1, g.1), omega (arith, w.2, g.2));
-    behind = λ i k j m. omega (
-      arith,
-      l.behind i k j (omega (arith, m, length-set rows place now)),
-      (same i).1,
-      (same k).0,
-    );
-    rising = λ i k j m. omega (
-      arith,
-      l.rising i k j (omega (arith, m, length-set rows place now)),
-      (same i).2,
-      (same k).2,
-    );
-  }
+-- a clause that is held no longer lies where it lay
+pub lies_set : (rows : List Row) (held : List Bool) (end next place : ℕ) → Lies rows held end next
+    → place < length rows → Lies rows (set held place false) end next
+lies_set rows held end next place l h =
+    let s = spans_at rows held end place l.marked h in
+    let w : place < length (spans rows held end) = omega (arith, h, spans_long rows held end l.marked) in
+    let r : Span = record {
+      id = (row_at rows place).id;
+      start = (row_at rows place).start;
+      end = end_at rows place end;
+      held = false;
+    } in
+    record {
+      marked = length-set held place false ∙ l.marked;
+      laid = subst (λ z. Laid z end next) (sym (spans_set rows held end place l.marked h))
+          (laid_set (spans rows held end) place end next r w l.laid (sym (ap (λ x. x.start) s))
+          (sym (ap (λ x. x.end) s)) (sym (ap (λ x. x.id) s)));
+    }

@@ -19,7 +19,7 @@ ghost use Rattle.lrat_check.specs.Codes.{codes_of};
 ghost use Rattle.lrat_check.specs.Sets.{AreLits};
 
 use crate::code::code_of;
-use crate::row::{Row, find};
+use crate::row::{Row, end_of, find};
 use fv_base::Memory;
 use std::alloc::Global;
 use std::marker::Model;
@@ -31,19 +31,25 @@ pub struct Store {
     codes: Vec<u64>,
     /// One for each id that was added, in order.
     rows: Vec<Row>,
+    /// Whether each of these ids is still held.
+    held: Vec<bool>,
     /// The id that was added last.
     last: Option<u64>,
 }
 
 impl Model for Store {
     ghost use Rattle.std.specs.Prelude.{length};
-    ghost use Rattle.lrat_check.specs.Store.{Clauses, Laid, above};
+    ghost use Rattle.lrat_check.specs.Store.{Clauses, Lies, spans, above};
 
     ghost Value = { Clauses };
 
-    ghost view = { λ s. record { codes = s.codes.items; rows = s.rows.items; last = s.last } };
+    ghost view = { λ s. record {
+      codes = s.codes.items;
+      spans = spans s.rows.items s.held.items (length s.codes.items);
+      last = s.last;
+    } };
 
-    ghost invariant = { λ s. Laid s.rows.items (length s.codes.items) (above s.last) };
+    ghost invariant = { λ s. Lies s.rows.items s.held.items (length s.codes.items) (above s.last) };
 }
 
 impl Store {
@@ -57,6 +63,7 @@ impl Store {
             alloc,
             codes: Vec::new(alloc),
             rows: Vec::new(alloc),
+            held: Vec::new(alloc),
             last: None,
         }
     }
@@ -71,17 +78,11 @@ impl Store {
     {
         let added = coded(self.alloc, lits)?;
         let start = self.codes.len();
+        self.rows.reserve(1)?;
+        self.held.reserve(1)?;
         self.codes.extend_from_slice(&added)?;
-        let row = Row {
-            id,
-            start,
-            end: self.codes.len(),
-            held: true,
-        };
-        if self.rows.push(row).is_err() {
-            self.codes.truncate(start);
-            return Err(Memory);
-        }
+        self.rows.push_reserved(Row { id, start });
+        self.held.push_reserved(true);
         self.last = Some(id);
         Ok(())
     }
@@ -93,12 +94,12 @@ impl Store {
         let Some(place) = find(&self.rows, id) else {
             return None;
         };
-        let row = self.rows[place];
-        if row.held {
-            Some(&self.codes[row.start..row.end])
-        } else {
-            None
+        if !self.held[place] {
+            return None;
         }
+        let start = self.rows[place].start;
+        let end = end_of(&self.rows, place, self.codes.len());
+        Some(&self.codes[start..end])
     }
 
     /// Exchanges two places of the clause, and changes no other clause.
@@ -134,9 +135,9 @@ impl Store {
         let Some(place) = find(&self.rows, id) else {
             return false;
         };
-        let row = self.rows[place];
-        self.rows[place] = Row { held: false, ..row };
-        row.held
+        let was_held = self.held[place];
+        self.held[place] = false;
+        was_held
     }
 }
 

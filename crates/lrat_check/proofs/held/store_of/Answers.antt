@@ -1,5 +1,5 @@
 use Rattle.cnf_form.specs.Cnf.{AreClauses}
-use Rattle.std.proofs.Common.{ap, arith, length, sym, subst, ◌∙◌}
+use Rattle.std.proofs.Common.{ap, arith, sym, subst}
 use Rattle.lrat_check.specs.Store.{held_of, literals, AreHeld}
 use Rattle.lrat_check.specs.Sets.{AreLits}
 use Rattle.lrat_check.proofs.Stores.{store_step, held_none, held_all, numbered_held}
