@@ -147,7 +147,8 @@ fn back(
     if !set.has(&lit) {
         return Ok(());
     }
-    if let Some(place) = entry.reason {
+    if let Some(reason) = entry.reason {
+        let place = reason as usize;
         set.remove(&lit);
         let more = join(
             trail,

@@ -80,7 +80,7 @@ impl LitSet {
         if place == 0 {
             return;
         }
-        self.lits.swap_remove(place - 1);
+        self.lits.swap_remove(place as usize - 1);
         settle(&self.lits, &mut self.places, place);
         self.places.clear(lit);
     }
@@ -101,7 +101,7 @@ impl LitSet {
 }
 
 /// The literal that stands at the place, if one does, is told so.
-fn settle(lits: &[i64], places: &mut Places, place: usize)
+fn settle(lits: &[i64], places: &mut Places, place: u32)
     requires lits { AreLits lits.now }
     requires some { 0 < place }
     requires placed { place ≤ length lits.now → 0 < place_of places.old (lit_at lits.now (place - 1)) }
@@ -109,8 +109,8 @@ fn settle(lits: &[i64], places: &mut Places, place: usize)
         ≡ (if int_eq (lit_at lits.now (place - 1)) l then place else place_of places.old l) }
     ensures same { length lits.now < place → (l : ℤ) → place_of places.new l ≡ place_of places.old l }
 {
-    if place <= lits.len() {
-        let moved = lits[place - 1];
+    if place as usize <= lits.len() {
+        let moved = lits[place as usize - 1];
         places.change(&moved, place);
     }
 }

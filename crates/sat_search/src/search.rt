@@ -87,16 +87,20 @@ impl Search {
         }
     }
 
-    /// The clause at the place forces the literal.
+    /// The clause at the place forces the literal. The only error is want of memory, also where the place has more than
+    /// 32 bits.
     fn force(&mut self, place: usize, lit: i64) -> Result<Turn, Memory>
         requires search { IsSearch self.old }
         requires looked { Looked self.old (Scan.Unit place lit) }
         ensures { IfOk result (λ turn. Turns self.old self.new turn) }
     {
+        if place > u32::MAX as usize {
+            return Err(Memory);
+        }
         self.order.set_phase(lit);
         self.trail.push(Entry {
             lit,
-            reason: Some(place),
+            reason: Some(place as u32),
         })?;
         Ok(Turn::On)
     }

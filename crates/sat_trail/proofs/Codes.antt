@@ -1,6 +1,6 @@
 -- Numbers of literals by their codes, and sets of codes.
-use Rattle.std.proofs.Common.{◌≡◌, ℕ, zero, suc, true, false, eqb, ◌||◌, List, [], ◌∷◌, ◌++◌, ℤ, neg_ℤ}
-use Rattle.std.proofs.Common.{get_or, refl, ap, sym, subst, ◌∙◌, inl, inr, arith}
+use Rattle.std.proofs.Common.{◌≡◌, ℕ, zero, suc, true, eqb, ◌||◌, List, [], ◌∷◌, ◌++◌, ℤ, neg_ℤ}
+use Rattle.std.proofs.Common.{get_or, refl, ap, sym, ◌∙◌, inl, inr, arith}
 use Rattle.std.proofs.Common.{w64, to_z, of_z}
 use Rattle.std.proofs.lemmas.Int.{to_z-of_z, fits_signed_from_abs}
 use Rattle.std.specs.Ordering.{int_eq}

@@ -19,10 +19,11 @@ use lrat_check::code_of;
 use std::alloc::Global;
 use std::marker::Model;
 
-/// A number for each literal, by its code; 0 where none was put.
+/// A number for each literal, by its code; 0 where none was put. It has 32 bits, as so many literals that each have one
+/// would take tens of gigabytes.
 #[derive(Drop)]
 pub struct Places {
-    places: Vec<usize>,
+    places: Vec<u32>,
 }
 
 impl Model for Places {
@@ -44,7 +45,7 @@ impl Places {
     }
 
     /// The literal's number.
-    pub fn get(&self, lit: &i64) -> usize
+    pub fn get(&self, lit: &i64) -> u32
         requires { IsLit lit.now }
         ensures { result ≡ place_of self.now lit.now }
     {
@@ -52,7 +53,7 @@ impl Places {
     }
 
     /// The number of the literal with the code.
-    pub fn at(&self, code: u64) -> usize
+    pub fn at(&self, code: u64) -> u32
         ensures { result ≡ slice_index_or self.now code 0 }
     {
         match self.places.get(code as usize) {
@@ -61,21 +62,25 @@ impl Places {
         }
     }
 
-    /// Gives the literal a number. After want of memory each has its own as before.
+    /// Gives the literal a number. After want of memory each has its own as before; a number of more than 32 bits is
+    /// want of memory too.
     pub fn put(&mut self, lit: &i64, place: usize) -> Result<(), Memory>
         requires { IsLit lit.now }
         ensures ok { OnOk result ((l : ℤ) → place_of self.new l
             ≡ (if int_eq lit.now l then place else place_of self.old l)) }
         ensures err { OnErr result ((l : ℤ) → place_of self.new l ≡ place_of self.old l) }
     {
+        if place > u32::MAX as usize {
+            return Err(Memory);
+        }
         let code = code_of(*lit) as usize;
         widen(&mut self.places, code)?;
-        self.places[code] = place;
+        self.places[code] = place as u32;
         Ok(())
     }
 
     /// Gives the literal, which has a number, another one.
-    pub fn change(&mut self, lit: &i64, place: usize)
+    pub fn change(&mut self, lit: &i64, place: u32)
         requires lit { IsLit lit.now }
         requires some { 0 < place_of self.old lit.now }
         ensures { (l : ℤ) → place_of self.new l ≡ (if int_eq lit.now l then place else place_of self.old l) }
@@ -99,7 +104,7 @@ impl Places {
 }
 
 /// Fills up with 0 until there is one for the code.
-fn widen(places: &mut Vec<usize>, code: usize) -> Result<(), Memory>
+fn widen(places: &mut Vec<u32>, code: usize) -> Result<(), Memory>
     ensures within { OnOk result (code < vec_len places.new) }
     ensures same { (k : ℕ) → slice_index_or places.new.items k 0 ≡ slice_index_or places.old.items k 0 }
 {

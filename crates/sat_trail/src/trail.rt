@@ -28,7 +28,7 @@ use std::marker::Model;
 #[derive(Debug, Clone, Copy)]
 pub struct Entry {
     pub lit: i64,
-    pub reason: Option<usize>,
+    pub reason: Option<u32>,
 }
 
 /// What was made true so far. Contracts see the newest entry first.
@@ -215,7 +215,7 @@ impl Trail {
         if place == 0 {
             return false;
         }
-        place <= end
+        place as usize <= end
     }
 
     /// Whether the literal is false by so many of the oldest entries.
@@ -262,7 +262,7 @@ impl Trail {
     {
         match self.places.get(&-lit) {
             0 => self.entries.len(),
-            place => place - 1,
+            place => place as usize - 1,
         }
     }
 
@@ -297,10 +297,8 @@ impl Trail {
         if place == 0 {
             return None;
         }
-        match self.entries.get(place - 1) {
-            Some(entry) => entry.reason,
-            None => None,
-        }
+        let reason = self.entries.get(place as usize - 1)?.reason?;
+        Some(reason as usize)
     }
 
     /// Whether the literal is true or false.

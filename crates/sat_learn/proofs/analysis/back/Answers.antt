@@ -7,13 +7,13 @@ use Rattle.sat_learn.proofs.analysis.back.Goals as goal
 pub join-requires : goal.join-requires
 join-requires c =
     subst AreLits (sym c.as_slice.ensures) (reason_lits c.args.clauses.now c.args.entry c.args.trail.now c.args.set.now
-    c.args.tracing.now.hints.items c.in-Some.place c.index-clauses-place.result c.requires.lits c.requires.derives
+    c.args.tracing.now.hints.items c.in-Some.reason c.index-clauses-place.result c.requires.lits c.requires.derives
     c.in-Some.is c.index-clauses-place.is)
 
 pub push_id-requires : goal.push_id-requires
 push_id-requires c =
     let b = reason_below c.args.clauses.now c.args.entry c.args.trail.now c.args.set.now
-    c.args.tracing.now.hints.items c.in-Some.place c.index-clauses-place.result c.requires.derives
+    c.args.tracing.now.hints.items c.in-Some.reason c.index-clauses-place.result c.requires.derives
     c.in-Some.is c.index-clauses-place.is in
     omega (arith, b, c.requires.few)
 
@@ -26,7 +26,7 @@ returns-in_ok-push_id-clause-derives c =
     let n : to_z w64 (of_z w64 c.complement-lit.result) ≡ neg_ℤ l =
     neg_kept l c.complement-lit.result k c.complement-lit.ensures in
     let m : has r (neg_ℤ l) ≡ true = sym (c.if-not-has.ensures ∙ ap (has r) n) in
-    backed c.args.clauses.now c.args.entry c.args.trail.now r c.args.tracing.now.hints.items c.in-Some.place d
+    backed c.args.clauses.now c.args.entry c.args.trail.now r c.args.tracing.now.hints.items c.in-Some.reason d
     c.requires.lits c.requires.derives m c.in-Some.is c.index-clauses-place.is c.join.new.set
     (λ x. c.in_ok-more.ensures x
     ∙ ap (λ b. b || (not (int_eq (to_z w64 (of_z w64 l)) x) && has c.as_slice.result.now x)) (c.remove.ensures x)
