@@ -8,7 +8,7 @@ use std::alloc::Global;
 pub(crate) fn ids_to(alloc: Global, many: usize) -> Result<Vec<u64>, Memory>
     ensures { IfOk result (λ ids. ids.items ≡ ids_to many) }
 {
-    let mut ids = Vec::new(alloc);
+    let mut ids = Vec::with_capacity(alloc, many)?;
     for index in 0..many {
         ids.push(index as u64 + 1)?;
     }
@@ -38,7 +38,7 @@ pub(crate) fn by_ids(alloc: Global, ids: &[u64], hints: &[i64]) -> Result<Vec<i6
     requires { (place : ℕ) → id_at ids.now place < 2 ^ 63 }
     ensures { IfOk result (λ named. named.items ≡ by_ids ids.now hints.now) }
 {
-    let mut named = Vec::new(alloc);
+    let mut named = Vec::with_capacity(alloc, hints.len())?;
     for hint in hints {
         named.push(id_of(ids, hint))?;
     }

@@ -165,7 +165,7 @@ impl Ledger {
         let clause = self.clauses.swap_remove(place);
         let id = self.ids.swap_remove(place);
         self.dropped.insert(clause.as_slice())?;
-        let mut ids = Vec::new(self.alloc);
+        let mut ids = Vec::with_capacity(self.alloc, 1)?;
         ids.push(id)?;
         self.steps.push(Step::Delete {
             id: self.top,

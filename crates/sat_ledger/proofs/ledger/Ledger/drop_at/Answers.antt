@@ -35,7 +35,7 @@ returns-clause-told c =
     c.swap_remove-clause.new.self.items i.clauses.ok.0 c.swap_remove-clause.new.self.ok.0
     c.swap_remove-clause.ensures.len (omega (arith, within)) c.swap_remove-clause.ensures.by_index in
     let ids_are : c.from_vec.result ≡ id ∷ [] =
-    c.from_vec.ensures ∙ c.in_ok-push.ensures.items ∙ ap (λ z. z ++ id ∷ []) c.new-ids.ensures.items in
+    c.from_vec.ensures ∙ c.in_ok-push.ensures.items ∙ ap (λ z. z ++ id ∷ []) c.in_ok-ids.ensures.items in
     subst (λ z. StaysTold z (record {
       clauses = c.swap_remove-clause.new.self.items;
       ids = c.swap_remove-id.new.self.items;
