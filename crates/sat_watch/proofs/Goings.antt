@@ -1,13 +1,12 @@
 -- A list of watches is gone through.
-use Rattle.std.proofs.Common.{◌≡◌, ℕ, false, List, [], ◌∷◌, ◌++◌, refl, sym, subst, ◌∙◌}
-use Rattle.std.proofs.lemmas.Bool.{false≢true}
+use Rattle.std.proofs.Common.{◌≡◌, ℕ, List, [], ◌∷◌, ◌++◌, subst}
 use Rattle.lrat_check.specs.Store.{Coded}
 use Rattle.sat_watch.specs.declared.watch.Watch.{Watch}
-use Rattle.sat_watch.specs.Watching.{is_false_code, Lists, with_watch, Watched, Fits, AreFit, Going}
+use Rattle.sat_watch.specs.Watching.{Lists, Watched, Fits, AreFit, Going}
 use Rattle.sat_watch.specs.declared.visit.Visit.{Visit}
 use Rattle.sat_watch.specs.declared.visit.Visit.TheVariants as visit
 use Rattle.sat_watch.specs.Watching.{KeepsFit, Passes, KeepsCalm, Visits, Forces, IsFalse}
-use Rattle.sat_watch.proofs.Quiets.{turned, pushes}
+use Rattle.sat_watch.proofs.Quiets.{turned, renewed}
 use Rattle.sat_watch.proofs.Readies.{all_front, all_map}
 
 -- one watch more was dealt with
@@ -29,14 +28,13 @@ pub fit_on : (held now : Coded) (bound : ℕ) (ws : List Watch) → KeepsFit hel
     → AreFit now bound ws
 fit_on held now bound ws k a = all_map (Fits held bound) (Fits now bound) ws k a
 
--- a watch goes back
-pub back_on : (held : Coded) (lists now : Lists) (done set : List ℕ) (code : ℕ) (old left : List Watch) (w : Watch)
-    → old ≡ left ++ w ∷ [] → now ≡ with_watch lists code w → is_false_code done code ≡ false
-    → Watched held lists done set code old → Watched held now done set code left
-back_on held lists now done set code old left w e j f s =
-    let P : Lists → Type 0 = λ z. Watched held z done set code left in
-    subst P (sym j) (pushes held lists done set code w w left (turned held lists done set code w left old e s) refl
-    (λ c h k. absurd (false≢true (sym f ∙ k))))
+-- the last watch that is left is one of the same clause
+pub going_new : (held middle : Coded) (lists between : Lists) (set : List ℕ) (code : ℕ) (all old left : List Watch)
+    (w v : Watch) → Going held middle lists between set code all old → old ≡ left ++ w ∷ [] → v.id ≡ w.id
+    → Going held middle lists between set code all (left ++ v ∷ [])
+going_new held middle lists between set code all old left w v g e i done u s =
+    let r = g done u s in
+    (renewed middle between done set code w v left i (subst (Watched middle between done set code) e r.0), r.1)
 
 -- nothing changed
 pub going_same : (held middle now : Coded) (lists between lists_now : Lists) (set : List ℕ) (code : ℕ)

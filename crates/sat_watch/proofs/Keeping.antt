@@ -15,9 +15,12 @@ use Rattle.std.specs.Prelude.{MatchOption}
 use Rattle.sat_watch.specs.declared.visit.Stop.{Stop}
 use Rattle.sat_watch.specs.declared.scan.Scan.{Scan}
 use Rattle.sat_watch.specs.declared.scan.Scan.TheVariants as scan
-use Rattle.sat_watch.specs.Watching.{is_false_code, lists_of, with_watch, taken, Watched, AreFit, Ready, Going, Stops}
+use Rattle.sat_watch.specs.Watching.{is_false_code, lists_of, with_watch, taken, joined, Watched, AreFit, Ready}
+use Rattle.sat_watch.specs.Watching.{Going, Stops}
 use Rattle.sat_watch.specs.Watches.{State, Keeps, Sees, CalmWhere, Finds, SameLits, Leads, OpenBelow, lit_at, scan_at}
-use Rattle.sat_watch.proofs.Readies.{ready_take}
+use Rattle.sat_watch.proofs.ListSteps.{put_none}
+use Rattle.sat_watch.proofs.Quiets.{puts_back}
+use Rattle.sat_watch.proofs.Readies.{ready_take, ready_back}
 use Rattle.sat_watch.proofs.Steps.{among_self, among_oldest, among_fewer, begins, below_on, all_calm}
 use Rattle.sat_watch.proofs.Joins.{below_more, watched_more, fit_more, ready_more, code_at, lit_there, has_place}
 use Rattle.sat_watch.proofs.Closings.{false_lits, seen_at, closes}
@@ -94,21 +97,38 @@ headed w t head k e = record {
 -- the watches went back, as their literal is no longer false
 pub put_on : (w : State) (t : Entries) (lists : List (List Watch)) (rest : List Watch) → Keeps w t
     → is_false_code (true_codes t) w.code ≡ false → rest ≡ []
-    → ((held : Coded) (done set : List ℕ) → is_false_code done w.code ≡ false
-    → Watched held (lists_of w.lists) done set w.code w.rest → Watched held (lists_of lists) done set w.code [])
-    → ((held : Coded) (bound : ℕ) → AreFit held bound w.rest → Ready held bound (lists_of w.lists)
-    → Ready held bound (lists_of lists))
+    → lists_of lists ≡ joined (lists_of w.lists) w.code w.rest
     → Keeps (record { store = w.store; lists = lists; head = w.head; code = w.code; rest = rest }) t
-put_on w t lists rest k f e g r = record {
+put_on w t lists rest k f e j = record {
   watched = subst (λ z. Watched (coded w.store) (lists_of lists) (true_codes (oldest w.head t)) (true_codes t) w.code z)
-      (sym e) (g (coded w.store) (true_codes (oldest w.head t)) (true_codes t)
+      (sym e) (subst (λ z. Watched (coded w.store) z (true_codes (oldest w.head t)) (true_codes t) w.code []) (sym j)
+      (puts_back (coded w.store) (lists_of w.lists) (true_codes (oldest w.head t)) (true_codes t) w.code w.rest
       (false_from_ne_true (is_false_code (true_codes (oldest w.head t)) w.code)
-      (λ h. false≢true (sym f ∙ among_oldest w.head t (flip w.code) h))) k.watched);
+      (λ h. false≢true (sym f ∙ among_oldest w.head t (flip w.code) h))) k.watched));
   calm = k.calm;
-  ready = r (coded w.store) (next w.store) k.fit k.ready;
+  ready = subst (Ready (coded w.store) (next w.store)) (sym j)
+      (ready_back (coded w.store) (next w.store) (lists_of w.lists) w.code w.rest k.ready k.fit);
   fit = subst (λ z. AreFit (coded w.store) (next w.store) z) (sym e) tt;
   lit = k.lit;
 }
+
+-- nothing was left to go back
+pub settled : (w : State) (t : Entries) (lists : List (List Watch)) (rest : List Watch) → Keeps w t → w.rest ≡ []
+    → rest ≡ [] → lists_of lists ≡ joined (lists_of w.lists) w.code w.rest
+    → Keeps (record { store = w.store; lists = lists; head = w.head; code = w.code; rest = rest }) t
+settled w t lists rest k n e j =
+    let s : lists_of w.lists ≡ lists_of lists =
+    sym (j ∙ ap (joined (lists_of w.lists) w.code) n ∙ put_none (lists_of w.lists) w.code) in
+    let m : w.rest ≡ rest = n ∙ sym e in
+    record {
+      watched = subst (λ z. Watched (coded w.store) (lists_of lists) (true_codes (oldest w.head t)) (true_codes t)
+          w.code z) m (subst (λ z. Watched (coded w.store) z (true_codes (oldest w.head t)) (true_codes t) w.code
+          w.rest) s k.watched);
+      calm = k.calm;
+      ready = subst (Ready (coded w.store) (next w.store)) s k.ready;
+      fit = subst (AreFit (coded w.store) (next w.store)) m k.fit;
+      lit = k.lit;
+    }
 
 -- nothing is held, and nothing is true
 pub starts : (w : State) → ((id : ℕ) → coded w.store id ≡ None) → w.lists ≡ [] → w.rest ≡ [] → w.code ≡ 2 → Keeps w []

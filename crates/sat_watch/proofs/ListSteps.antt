@@ -1,12 +1,12 @@
 -- The lists of watches after a change of one.
-use Rattle.std.proofs.Common.{◌≡◌, ℕ, zero, suc, ◌<◌, ◌≤◌, false, cond, eqb, List, [], ◌∷◌, ◌++◌, length}
+use Rattle.std.proofs.Common.{◌≡◌, ℕ, zero, suc, ◌<◌, ◌≤◌, Bool, true, false, cond, eqb, List, [], ◌∷◌, ◌++◌, length}
 use Rattle.std.proofs.Common.{get_or, refl, ap, sym, ◌∙◌, inl, inr, arith}
 use mathlib.Core.Path.{fun_ext}
 use Rattle.std.proofs.Math.ListN.{set}
 use Rattle.std.specs.Global.{Vec}
 use Rattle.std.proofs.lemmas.Bool.{cases_Bool}
 use Rattle.sat_watch.specs.declared.watch.Watch.{Watch}
-use Rattle.sat_watch.specs.Watching.{Lists, with_watch, taken, lists_of, items_of}
+use Rattle.sat_watch.specs.Watching.{Lists, with_watch, taken, joined, lists_of, items_of}
 use Rattle.sat_watch.proofs.Quiets.{eq_is}
 
 apart : (x : ℕ) → eqb 0 (suc x) ≡ false
@@ -50,6 +50,27 @@ pushed ls code old u w all v h e k = fun_ext (λ x. at x) where
     | inr b ↦ ap (λ z. cond z u.items (lists_of (items_of ls) x)) b ∙ ap (λ z. z x) v
         ∙ sym (ap (λ z. cond z (all x ++ w ∷ []) (all x)) b)
   ]
+
+-- watches go in front of one list
+pub put : (ls : List (Vec Watch)) (code : ℕ) (old u : Vec Watch) (front : List Watch) (all : Lists)
+    → lists_of (items_of ls) ≡ all → code < length ls → old ≡ get_or ls code old → u.items ≡ front ++ old.items
+    → lists_of (items_of (set ls code u)) ≡ joined all code front
+put ls code old u front all v h e k = fun_ext (λ x. at x) where
+  at : (x : ℕ) → lists_of (items_of (set ls code u)) x ≡ joined all code front x
+  at x = lists_set ls code u h x ∙ elim (cases_Bool (eqb code x)) [
+    | inl b ↦ ap (λ z. cond z u.items (lists_of (items_of ls) x)) b ∙ k
+        ∙ ap (λ z. front ++ z) (sym (item_at ls code old h e)) ∙ ap (λ z. front ++ z code) v
+        ∙ ap (λ z. front ++ all z) (eq_is code x b) ∙ sym (ap (λ z. cond z (front ++ all x) (all x)) b)
+    | inr b ↦ ap (λ z. cond z u.items (lists_of (items_of ls) x)) b ∙ ap (λ z. z x) v
+        ∙ sym (ap (λ z. cond z (front ++ all x) (all x)) b)
+  ]
+
+-- no watches go in front of one list
+pub put_none : (all : Lists) (code : ℕ) → joined all code [] ≡ all
+put_none all code = fun_ext (λ x. at (eqb code x) x) where
+  at : (b : Bool) (x : ℕ) → cond b ([] ++ all x) (all x) ≡ all x
+  at true x = refl
+  at false x = refl
 
 -- one list is empty
 pub took : (ls : List (Vec Watch)) (code : ℕ) (u : Vec Watch) (all : Lists) → lists_of (items_of ls) ≡ all

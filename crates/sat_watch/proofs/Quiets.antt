@@ -1,6 +1,6 @@
 -- Watched places after a watch was dealt with.
 use Rattle.std.proofs.Common.{◌≡◌, ℕ, zero, suc, ◌-◌, ◌<◌, Bool, true, false, cond, eqb, List, [], ◌∷◌, ◌++◌}
-use Rattle.std.proofs.Common.{length, get_or, Some, refl, ap, sym, subst, ◌∙◌, ◌⊎◌, inl, inr, arith}
+use Rattle.std.proofs.Common.{length, get_or, ◌||◌, Some, refl, ap, sym, subst, ◌∙◌, ◌⊎◌, inl, inr, arith}
 use Rattle.std.specs.List.{list_any, swap}
 use Rattle.std.proofs.lemmas.Bool.{false≢true, cases_Bool}
 use Rattle.std.proofs.lemmas.List.Folds.{list_any-append}
@@ -18,6 +18,7 @@ use Rattle.sat_watch.specs.Watching.{
   Lists,
   is_listed,
   with_watch,
+  joined,
   Quiet,
   Watched,
   Calm,
@@ -67,6 +68,55 @@ module _ (lists : Lists) (x : ℕ) (v : Watch) where
   pub joins : (y id : ℕ) → x ≡ y → v.id ≡ id → is_listed (with_watch lists x v y) id ≡ true
   joins y id e h =
       ap (λ b. is_listed (cond b (lists y ++ v ∷ []) (lists y)) id) (eq_self x y e) ∙ is_listed_last (lists y) v id h
+
+module _ (lists : Lists) (x : ℕ) (ws : List Watch) where
+  behind_at : (b : Bool) (y id : ℕ) → eqb x y ≡ b → is_listed (lists y) id ≡ true
+      → is_listed (joined lists x ws y) id ≡ true
+  behind_at true y id e h =
+      ap (λ b. is_listed (cond b (ws ++ lists y) (lists y)) id) e ∙ list_any-append (λ w. eqb w.id id) ws (lists y)
+      ∙ or_right (is_listed ws id) (is_listed (lists y) id) h
+  behind_at false y id e h = ap (λ b. is_listed (cond b (ws ++ lists y) (lists y)) id) e ∙ h
+
+  front_at : (y id : ℕ) → x ≡ y → is_listed ws id ≡ true → is_listed (joined lists x ws y) id ≡ true
+  front_at y id e h =
+      ap (λ b. is_listed (cond b (ws ++ lists y) (lists y)) id) (eq_self x y e)
+      ∙ list_any-append (λ w. eqb w.id id) ws (lists y) ∙ or_left (is_listed ws id) (is_listed (lists y) id) h
+
+-- what is left of a list goes back into it, as its literal is no longer false
+pub puts_back : (held : Coded) (lists : Lists) (done set : List ℕ) (code : ℕ) (rest : List Watch)
+    → is_false_code done code ≡ false → Watched held lists done set code rest
+    → Watched held (joined lists code rest) done set code []
+puts_back held lists done set code rest f s = record {
+  two = s.two;
+  apart = s.apart;
+  kept = λ id c place h l. inl (elim (s.kept id c place h l) [
+    | inl q ↦ record {
+      inside = behind_at lists code rest (eqb code (get_or c place 0)) (get_or c place 0) id refl q.inside;
+      calm = q.calm;
+    }
+    | inr q ↦ record {
+      inside = front_at lists code rest (get_or c place 0) id (sym q.0) q.1;
+      calm = λ g. absurd (false≢true (sym f ∙ ap (is_false_code done) (sym q.0) ∙ g));
+    }
+  ]);
+}
+
+-- the last watch that is left is one of the same clause
+pub renewed : (held : Coded) (lists : Lists) (done set : List ℕ) (code : ℕ) (w v : Watch) (left : List Watch)
+    → v.id ≡ w.id → Watched held lists done set code (left ++ w ∷ [])
+    → Watched held lists done set code (left ++ v ∷ [])
+renewed held lists done set code w v left e s = record {
+  two = s.two;
+  apart = s.apart;
+  kept = λ id c place h l. elim (s.kept id c place h l) [
+    | inl q ↦ inl q
+    | inr q ↦ inr (q.0, same id ∙ q.1)
+  ];
+} where
+  same : (id : ℕ) → is_listed (left ++ v ∷ []) id ≡ is_listed (left ++ w ∷ []) id
+  same id =
+      list_any-append (λ u. eqb u.id id) left (v ∷ [])
+      ∙ ap (λ n. is_listed left id || (eqb n id || false)) e ∙ sym (list_any-append (λ u. eqb u.id id) left (w ∷ []))
 
 -- the watch that is taken off the end of a list comes first
 pub turned : (held : Coded) (lists : Lists) (done set : List ℕ) (code : ℕ) (w : Watch) (rest all : List Watch)

@@ -11,7 +11,8 @@ use Rattle.lrat_check.specs.Store.{Coded, with_code}
 use Rattle.sat_trail.specs.Trail.{has_code}
 use Rattle.sat_trail.proofs.Members.{or_left, or_right}
 use Rattle.sat_watch.specs.declared.watch.Watch.{Watch}
-use Rattle.sat_watch.specs.Watching.{Lists, with_watch, taken, Fits, AreFit, Ready, KeepsFit, MovesTo, Alike, SameHeld}
+use Rattle.sat_watch.specs.Watching.{Lists, with_watch, taken, joined, Fits, AreFit, Ready, KeepsFit, MovesTo, Alike}
+use Rattle.sat_watch.specs.Watching.{SameHeld}
 use Rattle.sat_watch.proofs.Quiets.{eq_is, eq_self, some_is}
 use Rattle.sat_watch.proofs.Looks.{has_index}
 use Rattle.sat_watch.proofs.Visits.{lit_at}
@@ -31,6 +32,11 @@ pub all_map : (P Q : Watch → Type 0) (ws : List Watch) → ((w : Watch) → P 
     → AllByRecursion Q ws
 all_map P Q [] f a = tt
 all_map P Q (w ∷ ws) f a = (f w a.0, all_map P Q ws f a.1)
+
+all_both : (P : Watch → Type 0) (ws vs : List Watch) → AllByRecursion P ws → AllByRecursion P vs
+    → AllByRecursion P (ws ++ vs)
+all_both P [] vs a b = b
+all_both P (w ∷ ws) vs a b = (a.0, all_both P ws vs a.1 b)
 
 all_lits : (c : List ℕ) → ((x : ℕ) → has_code c x ≡ true → IsLit (lit_of x)) → AreLits (lits_of c)
 all_lits [] f = tt
@@ -61,6 +67,18 @@ ready_take held bound lists now code r e = record {
     | inl b ↦ subst (λ z. AreFit held bound (cond z [] (lists x))) (sym b) tt
     | inr b ↦ subst (λ z. AreFit held bound (cond z [] (lists x))) (sym b) (r.fit x)
   ]);
+}
+
+pub ready_back : (held : Coded) (bound : ℕ) (lists : Lists) (code : ℕ) (rest : List Watch) → Ready held bound lists
+    → AreFit held bound rest → Ready held bound (joined lists code rest)
+ready_back held bound lists code rest r a = record {
+  lits = r.lits;
+  long = r.long;
+  fit = λ x. elim (cases_Bool (eqb code x)) [
+    | inl b ↦ subst (λ z. AreFit held bound (cond z (rest ++ lists x) (lists x))) (sym b)
+        (all_both (Fits held bound) rest (lists x) a (r.fit x))
+    | inr b ↦ subst (λ z. AreFit held bound (cond z (rest ++ lists x) (lists x))) (sym b) (r.fit x)
+  ];
 }
 
 pub alike_self : (a : Option (List ℕ)) → Alike a a

@@ -57,6 +57,9 @@ lists_of lists = λ code. slice_index_or lists code []
 abbrev pub items_of : List (Vec Watch) → List (List Watch)
 items_of lists = map (λ v. v.items) lists
 
+abbrev pub watch_at : ℕ → ℕ → Watch
+watch_at id blocker = record { id = id; blocker = blocker }
+
 abbrev pub is_listed : List Watch → ℕ → Bool
 is_listed watches id = list_any (λ w. w.id == id) watches
 
@@ -67,6 +70,10 @@ with_watch lists code w = λ x. if code == x then lists x ++ w ∷ [] else lists
 -- the list of the literal is taken out
 abbrev pub taken : Lists → ℕ → Lists
 taken lists code = λ x. if code == x then [] else lists x
+
+-- watches go in front of the literal's list
+abbrev pub joined : Lists → ℕ → List Watch → Lists
+joined lists code watches = λ x. if code == x then watches ++ lists x else lists x
 
 -- the clause's id is in the literal's list; and where the literal became false and its list was gone through, the
 -- clause has a true literal

@@ -1,5 +1,5 @@
 ghost use Rattle.std.specs.Prelude.{◌≡◌, ◌<◌, [], length, OnOk};
-ghost use Rattle.sat_watch.specs.Watching.{with_watch, taken, lists_of, items_of};
+ghost use Rattle.sat_watch.specs.Watching.{with_watch, taken, joined, lists_of, items_of};
 
 use crate::watch::Watch;
 use fv_base::Memory;
@@ -52,6 +52,20 @@ impl Lists {
         if place < self.lists.len() {
             std::mem::swap(&mut self.lists[place], spare);
         }
+    }
+
+    /// Watches that were taken out go back, in front of those that came into the literal's list since, and with them
+    /// the memory that the list had before.
+    pub(crate) fn put_back(&mut self, code: u64, watches: &mut Vec<Watch>) -> Result<(), Memory>
+        ensures lists { OnOk result (lists_of self.new ≡ joined (lists_of self.old) code watches.old.items) }
+        ensures none { OnOk result (watches.new.items ≡ []) }
+    {
+        let place = code as usize;
+        widen(self.alloc, &mut self.lists, place)?;
+        watches.extend_from_slice(self.lists[place].as_slice())?;
+        std::mem::swap(&mut self.lists[place], watches);
+        watches.clear();
+        Ok(())
     }
 }
 

@@ -6,7 +6,7 @@ ghost use Rattle.sat_watch.specs.Watching.{KeepsFit, SameHeld, Going, IsFalse, F
 
 use crate::lists::Lists;
 use crate::look::{Sight, look};
-use crate::watch::Watch;
+use crate::watch::{Watch, watch_of};
 use fv_base::Memory;
 use lrat_check::Store;
 use sat_trail::Trail;
@@ -49,24 +49,20 @@ pub(crate) fn visit_watch(
     ensures calm { OnOk result (KeepsCalm (coded store.old) (coded store.new) (lists_of lists.old)
         (true_codes trail.now) code watch) }
 {
-    if trail.is_true(watch.blocker) {
+    let id = watch.id as u64;
+    if trail.is_true(watch.blocker as u64) {
         lists.push(code, watch)?;
         return Ok(Visit::Passed);
     }
-    let sight = match store.lits(watch.id) {
+    let sight = match store.lits(id) {
         None => return Ok(Visit::Passed),
         Some(clause) => look(clause, code, trail),
     };
     match sight {
         Sight::Stale => Ok(Visit::Passed),
         Sight::True(other) => {
-            lists.push(
-                code,
-                Watch {
-                    id: watch.id,
-                    blocker: other,
-                },
-            )?;
+            let kept = watch_of(id, other)?;
+            lists.push(code, kept)?;
             Ok(Visit::Passed)
         }
         Sight::Move {
@@ -75,14 +71,9 @@ pub(crate) fn visit_watch(
             next,
             other,
         } => {
-            store.exchange(watch.id, place, k);
-            lists.push(
-                next,
-                Watch {
-                    id: watch.id,
-                    blocker: other,
-                },
-            )?;
+            let moved = watch_of(id, other)?;
+            store.exchange(id, place, k);
+            lists.push(next, moved)?;
             Ok(Visit::Passed)
         }
         Sight::Last(other) => Ok(Visit::Unit(other)),
@@ -115,35 +106,22 @@ pub(crate) fn visit_list(
         match visit_watch(store, lists, trail, code, watch)? {
             Visit::Passed => {}
             Visit::Unit(forced) => {
-                rest.push(watch)?;
+                // The literal is true when the watch is looked at again.
+                let forcing = watch_of(watch.id as u64, forced)?;
+                rest.push(forcing)?;
                 return Ok(Some(Stop {
-                    id: watch.id,
+                    id: watch.id as u64,
                     forced: Some(forced),
                 }));
             }
             Visit::Conflict => {
                 rest.push(watch)?;
                 return Ok(Some(Stop {
-                    id: watch.id,
+                    id: watch.id as u64,
                     forced: None,
                 }));
             }
         }
     }
     Ok(None)
-}
-
-/// The watches go back into the literal's list.
-pub(crate) fn put_back(lists: &mut Lists, rest: &mut Vec<Watch>, code: u64) -> Result<(), Memory>
-    ensures listed { OnOk result ((held : Coded) (done set : List ℕ) → is_false_code done code ≡ false
-        → Watched held (lists_of lists.old) done set code rest.old.items
-        → Watched held (lists_of lists.new) done set code []) }
-    ensures ready { OnOk result ((held : Coded) (bound : ℕ) → AreFit held bound rest.old.items
-        → Ready held bound (lists_of lists.old) → Ready held bound (lists_of lists.new)) }
-    ensures empty { OnOk result (rest.new.items ≡ []) }
-{
-    while let Some(watch) = rest.pop() {
-        lists.push(code, watch)?;
-    }
-    Ok(())
 }

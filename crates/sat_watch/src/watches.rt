@@ -9,8 +9,8 @@ ghost use Rattle.sat_watch.specs.Watches.{Keeps, Sees, CalmWhere, Finds, scan_at
 use crate::lists::Lists;
 use crate::order::order;
 use crate::scan::Scan;
-use crate::visit::{Stop, put_back, visit_list};
-use crate::watch::Watch;
+use crate::visit::{Stop, visit_list};
+use crate::watch::{Watch, watch_of};
 use fv_base::Memory;
 use lrat_check::{Store, code_of, flip, lit_of};
 use sat_trail::Trail;
@@ -71,14 +71,10 @@ impl Watches {
         self.store.add(id, ordered.as_slice())?;
         let first = code_of(ordered[0]);
         let second = code_of(ordered[1]);
-        self.lists.push(
-            first,
-            Watch {
-                id,
-                blocker: second,
-            },
-        )?;
-        self.lists.push(second, Watch { id, blocker: first })?;
+        let one = watch_of(id, second)?;
+        let other = watch_of(id, first)?;
+        self.lists.push(first, one)?;
+        self.lists.push(second, other)?;
         self.head = self.head.min(trail.open_until(ordered[1]));
         Ok(true)
     }
@@ -123,7 +119,7 @@ impl Watches {
         if trail.is_false(self.code) {
             return self.visit(trail);
         }
-        put_back(&mut self.lists, &mut self.rest, self.code)?;
+        self.lists.put_back(self.code, &mut self.rest)?;
         Ok(None)
     }
 
@@ -165,6 +161,7 @@ impl Watches {
         )? {
             return Ok(Some(scan_of(stop)));
         }
+        self.lists.put_back(code, &mut self.rest)?;
         Ok(None)
     }
 }

@@ -4,7 +4,7 @@ use Rattle.lrat_check.specs.Sets.{has, is_false}
 use Rattle.lrat_check.specs.Store.{coded, next, with_code}
 use Rattle.sat_trail.specs.Trail.{lits, oldest}
 use Rattle.sat_watch.specs.declared.watch.Watch.{Watch}
-use Rattle.sat_watch.specs.Watching.{lists_of, with_watch}
+use Rattle.sat_watch.specs.Watching.{lists_of, with_watch, watch_at}
 use Rattle.sat_watch.specs.Watches.{State, Keeps, SameLits, lit_at}
 use Rattle.sat_watch.proofs.Orders.{kept_at}
 use Rattle.sat_watch.proofs.Keeping.{added}
@@ -35,7 +35,7 @@ returns-clause-keeps c =
     let leads = c.if-not-order.ensures.found in
     let a = c.if-not-order.ensures.lits in
     let long = leads.long in
-    let v : ℕ → Watch = λ z. record { id = c.args.id; blocker = z } in
+    let v : ℕ → Watch = watch_at c.args.id in
     let p : c.code_of-first.result ≡ code_of (lit_at d 0) =
     c.code_of-first.ensures ∙ ap code_of (kept_at d 0 c.index.result.now c.index.ensures (omega (arith, long)) a) in
     let q : c.code_of-second.result ≡ code_of (lit_at d 1) =
@@ -43,7 +43,11 @@ returns-clause-keeps c =
     let j : lists_of c.push-2.new.self ≡ with_watch (with_watch (lists_of i.lists) (code_of (lit_at d 0))
     (v (code_of (lit_at d 1)))) (code_of (lit_at d 1)) (v (code_of (lit_at d 0))) =
     c.in_ok-push-2.ensures
-    ∙ ap (λ z. with_watch z c.code_of-second.result (v c.code_of-first.result)) c.in_ok-push.ensures
+    ∙ ap (λ z. with_watch z c.code_of-second.result c.in_ok-other.other) c.in_ok-push.ensures
+    ∙ ap (λ z. with_watch (with_watch (lists_of i.lists) c.code_of-first.result c.in_ok-one.one)
+    c.code_of-second.result z) c.in_ok-other.ensures
+    ∙ ap (λ z. with_watch (with_watch (lists_of i.lists) c.code_of-first.result z) c.code_of-second.result
+    (v c.code_of-first.result)) c.in_ok-one.ensures
     ∙ ap (λ z. with_watch (with_watch (lists_of i.lists) z (v c.code_of-second.result)) c.code_of-second.result (v z)) p
     ∙ ap (λ z. with_watch (with_watch (lists_of i.lists) (code_of (lit_at d 0)) (v z)) z
     (v (code_of (lit_at d 0)))) q in

@@ -26,9 +26,8 @@ returns-clause-keeps c =
       code = i.code;
       rest = i.rest.items;
     } in
-    put_on h c.args.trail.now c.put_back.new.lists c.put_back.new.rest.items
+    put_on h c.args.trail.now c.put_back.new.self c.put_back.new.watches.items
     (headed w c.args.trail.now c.min-self-inside.result k
     (ap (λ n. oldest n c.args.trail.now) (c.min-self-inside.ensures ∙ ap (min i.head) c.len.ensures)
     ∙ oldest_min i.head c.args.trail.now))
-    (sym c.is_false.ensures ∙ c.if-is_false.false) c.in_ok-put_back.ensures.empty c.in_ok-put_back.ensures.listed
-    c.in_ok-put_back.ensures.ready
+    (sym c.is_false.ensures ∙ c.if-is_false.false) c.in_ok-put_back.ensures.none c.in_ok-put_back.ensures.lists

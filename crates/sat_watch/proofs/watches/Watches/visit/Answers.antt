@@ -1,10 +1,11 @@
-use Rattle.std.proofs.Common.{refl, sym, subst}
+use Rattle.std.proofs.Common.{◌≡◌, [], refl, sym, subst}
+use Rattle.std.specs.Prelude.{MatchOption}
 use Rattle.lrat_check.specs.Store.{coded}
 use Rattle.sat_trail.specs.Trail.{true_codes}
-use Rattle.sat_watch.specs.Watching.{lists_of, Ready}
+use Rattle.sat_watch.specs.Watching.{lists_of, Ready, Stops}
 use Rattle.sat_watch.specs.Watches.{State, Keeps}
 use Rattle.sat_watch.proofs.Closings.{forced_lit}
-use Rattle.sat_watch.proofs.Keeping.{visited, finds_stop, stops_at}
+use Rattle.sat_watch.proofs.Keeping.{visited, settled, finds_stop, stops_at}
 use Rattle.sat_watch.proofs.watches.Watches.visit.Goals as goal
 
 pub scan_of-requires : goal.scan_of-requires
@@ -58,4 +59,8 @@ returns-clause-keeps c =
       rest = c.visit_list.new.rest.items;
     } in
     let e = c.in_ok-stop.ensures in
-    visited w now c.args.trail.now k e.going e.ready e.fit e.next refl refl
+    settled now c.args.trail.now c.put_back.new.self c.put_back.new.watches.items
+    (visited w now c.args.trail.now k e.going e.ready e.fit e.next refl refl)
+    (subst (λ z. MatchOption z (c.visit_list.new.rest.items ≡ []) (λ stop. Stops (coded c.visit_list.new.store)
+    (true_codes c.args.trail.now) stop.id stop.forced)) c.in_default.is e.found)
+    c.in_ok-put_back.ensures.none c.in_ok-put_back.ensures.lists
