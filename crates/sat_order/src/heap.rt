@@ -10,9 +10,9 @@ const MOST_ACTIVITY: u64 = 1 << 60;
 #[derive(Drop)]
 pub(crate) struct Heap {
     /// None is more active than the one at half its place.
-    indexes: Vec<u64>,
+    indexes: Vec<u32>,
     /// By index, one above the place; 0 where the variable isn't in the heap.
-    places: Vec<usize>,
+    places: Vec<u32>,
     /// By index.
     activities: Vec<u64>,
     /// What the next conflict adds to an activity.
@@ -29,15 +29,18 @@ impl Heap {
         }
     }
 
-    /// The variable comes in, if it isn't there.
+    /// The variable comes in, if it isn't there, and if 32 bits hold its index.
     pub(crate) fn insert(&mut self, index: u64) -> Result<(), Memory> {
+        let Ok(kept) = u32::try_from(index) else {
+            return Ok(());
+        };
         let at = index as usize;
         if at >= self.places.len() {
             self.places.resize(at.saturating_add(1), 0)?;
             self.activities.resize(at.saturating_add(1), 0)?;
         }
         if self.place(index) == 0 {
-            self.indexes.push(index)?;
+            self.indexes.push(kept)?;
             let place = self.indexes.len() - 1;
             self.note(place);
             self.rise(place);
@@ -61,7 +64,7 @@ impl Heap {
         }
         self.note(0);
         self.sink();
-        Some(most)
+        Some(most as u64)
     }
 
     pub(crate) fn len(&self) -> usize {
@@ -92,12 +95,12 @@ impl Heap {
 
     fn place(&self, index: u64) -> usize {
         match self.places.get(index as usize) {
-            Some(place) => *place,
+            Some(place) => *place as usize,
             None => 0,
         }
     }
 
-    fn activity(&self, index: u64) -> u64 {
+    fn activity(&self, index: u32) -> u64 {
         match self.activities.get(index as usize) {
             Some(activity) => *activity,
             None => 0,
@@ -155,7 +158,7 @@ impl Heap {
     fn note(&mut self, place: usize) {
         if let Some(index) = self.indexes.get(place) {
             if let Some(noted) = self.places.get_mut(*index as usize) {
-                *noted = place.saturating_add(1);
+                *noted = u32::try_from(place.saturating_add(1)).unwrap_or(0);
             }
         }
     }

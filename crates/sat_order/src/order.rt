@@ -10,8 +10,8 @@ use std::alloc::Global;
 /// A variable that isn't in the heap since the trail had so many entries.
 #[derive(Debug, Clone, Copy)]
 struct Taken {
-    index: u64,
-    len: usize,
+    index: u32,
+    len: u32,
 }
 
 /// Which variable is decided next, and how: the one that took part in most of the latest conflicts, with its last
@@ -83,8 +83,7 @@ impl Order {
     {
         for _ in 0..self.heap.len() {
             if let Some(index) = self.heap.take() {
-                let len = trail.len();
-                let _ = self.taken.push(Taken { index, len });
+                self.note(index, trail.len());
                 if index < vars {
                     let lit = index as i64 + 1;
                     if !trail.is_assigned(lit) {
@@ -96,17 +95,24 @@ impl Order {
         None
     }
 
+    /// The variable isn't in the heap any more. Where memory is wanting, it doesn't come back.
+    fn note(&mut self, index: u64, len: usize) {
+        if let (Ok(index), Ok(len)) = (u32::try_from(index), u32::try_from(len)) {
+            let _ = self.taken.push(Taken { index, len });
+        }
+    }
+
     /// The trail was cut to so many entries: those that were taken since come back.
     pub fn cut(&mut self, len: usize) {
         for _ in 0..self.taken.len() {
             match self.taken.pop() {
                 None => return,
                 Some(last) => {
-                    if last.len < len {
+                    if (last.len as usize) < len {
                         let _ = self.taken.push(last);
                         return;
                     }
-                    let _ = self.heap.insert(last.index);
+                    let _ = self.heap.insert(last.index as u64);
                 }
             }
         }

@@ -170,7 +170,7 @@ impl Search {
         requires { IsSearch self.old }
         ensures { OnOk result (GoesOn self.old self.new) }
     {
-        if self.usage.is_due(self.ledger.first()) {
+        if self.usage.is_due() {
             return self.forget();
         }
         Ok(())
@@ -181,9 +181,7 @@ impl Search {
         requires { IsSearch self.old }
         ensures { OnOk result (GoesOn self.old self.new) }
     {
-        let wanted = self
-            .usage
-            .wanted(self.ledger.first(), self.ledger.clauses(), &self.trail)?;
+        let wanted = self.usage.wanted(self.ledger.clauses(), &self.trail)?;
         self.ledger.forget(&wanted)?;
         self.usage.forget(&wanted);
         self.trail = Trail::new(self.alloc);

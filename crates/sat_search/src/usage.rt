@@ -14,6 +14,9 @@ const LEAST: usize = 2000;
 #[derive(Drop)]
 pub(crate) struct Usage {
     alloc: Global,
+    /// How many clauses are the formula's. They have the first places.
+    first: usize,
+    /// Those of the learnt clauses.
     activities: Vec<u64>,
     /// What the next conflict adds to an activity.
     step: u64,
@@ -27,6 +30,7 @@ impl Usage {
         let third = first / 3;
         Usage {
             alloc,
+            first,
             activities: Vec::new(alloc),
             step: 1 << 20,
             most: if third < LEAST { LEAST } else { third },
@@ -35,14 +39,18 @@ impl Usage {
 
     /// The clause at the place took part in a conflict.
     pub(crate) fn bump(&mut self, place: usize) {
-        if let Some(activity) = self.activities.get_mut(place) {
+        if place < self.first {
+            return;
+        }
+        if let Some(activity) = self.activities.get_mut(place - self.first) {
             *activity = activity.saturating_add(self.step);
         }
     }
 
     /// A conflict is over, and so many clauses are held: the next conflicts count for more.
     pub(crate) fn decay(&mut self, many: usize) -> Result<(), Memory> {
-        self.activities.resize(many, self.step)?;
+        let learnt = many.saturating_sub(self.first);
+        self.activities.resize(learnt, self.step)?;
         self.step = self.step.saturating_add(self.step / 1024);
         if self.step >= MOST_ACTIVITY {
             for activity in self.activities.iter_mut() {
@@ -53,43 +61,43 @@ impl Usage {
         Ok(())
     }
 
-    /// Whether some of the clauses are to be let go, the first ones being the formula's.
-    pub(crate) fn is_due(&self, first: usize) -> bool {
-        self.activities.len().saturating_sub(first) >= self.most
+    /// Whether some of the clauses are to be let go.
+    pub(crate) fn is_due(&self) -> bool {
+        self.activities.len() >= self.most
     }
 
     /// The less active half of the learnt clauses isn't wanted, but for those with two literals or fewer, and for those
     /// that force a literal of the trail.
     pub(crate) fn wanted(
         &mut self,
-        first: usize,
         clauses: &[List<i64>],
         trail: &Trail,
     ) -> Result<Vec<bool>, Memory> {
-        let least = self.median(first)?;
+        let least = self.median()?;
         let mut wanted = Vec::new(self.alloc);
         for place in 0..clauses.len() {
             let is_short = clauses[place].len() <= 2;
-            wanted.push(place < first || is_short || self.activity(place) >= least)?;
+            wanted.push(is_short || self.activity(place) >= least)?;
         }
         want_reasons(&mut wanted, trail);
         self.most = self.most.saturating_add(self.most / 10);
         Ok(wanted)
     }
 
+    /// The activity of the clause at the place; those of the formula are above all others.
     fn activity(&self, place: usize) -> u64 {
-        match self.activities.get(place) {
+        if place < self.first {
+            return u64::MAX;
+        }
+        match self.activities.get(place - self.first) {
             Some(activity) => *activity,
             None => u64::MAX,
         }
     }
 
     /// The activity that about half of the learnt clauses have or surpass.
-    fn median(&self, first: usize) -> Result<u64, Memory> {
-        let mut learnt = Vec::new(self.alloc);
-        for place in first..self.activities.len() {
-            learnt.push(self.activity(place))?;
-        }
+    fn median(&self) -> Result<u64, Memory> {
+        let mut learnt = Vec::from_slice(self.alloc, self.activities.as_slice())?;
         learnt.sort()?;
         match learnt.get(learnt.len() / 2) {
             Some(activity) => Ok(*activity),
@@ -102,7 +110,8 @@ impl Usage {
         let many = self.activities.len();
         for back in 0..many {
             let place = many - 1 - back;
-            if !is_wanted(wanted, place) && place < self.activities.len() {
+            let is_wanted = is_wanted(wanted, self.first.saturating_add(place));
+            if !is_wanted && place < self.activities.len() {
                 self.activities.swap_remove(place);
             }
         }
