@@ -11,9 +11,9 @@ ghost use Rattle.sat_learn.specs.Analysis.{is_unit};
 
 use crate::lit_set::LitSet;
 use crate::shortening::shorten;
-use fv_base::{List, Memory};
+use fv_base::Memory;
 use lrat_check::Reading;
-use sat_trail::{Entry, Trail};
+use sat_trail::{ClauseList, Entry, Trail};
 use std::alloc::Global;
 
 /// A clause that is traced back, with its hints, the last one first: each is one above the place of a clause that it
@@ -110,7 +110,7 @@ pub(crate) fn push_id(hints: &mut Vec<i64>, place: usize) -> Result<(), Memory>
 /// The set becomes the clause at the place, as it is false on the trail.
 fn begin(
     alloc: Global,
-    clauses: &[List<i64>],
+    clauses: &ClauseList<'_>,
     trail: &Trail,
     set: &mut LitSet,
     conflict: usize,
@@ -122,7 +122,7 @@ fn begin(
 {
     let start = trail.level_start();
     set.clear();
-    let late = join(trail, start, set, None, clauses[conflict].as_slice())?;
+    let late = join(trail, start, set, None, clauses.at(conflict))?;
     let mut hints = Vec::new(alloc);
     push_id(&mut hints, conflict)?;
     Ok(Tracing { hints, start, late })
@@ -130,7 +130,7 @@ fn begin(
 
 /// The newest entry, which is taken off the trail, is resolved away.
 fn back(
-    clauses: &[List<i64>],
+    clauses: &ClauseList<'_>,
     trail: &Trail,
     set: &mut LitSet,
     tracing: &mut Tracing,
@@ -155,7 +155,7 @@ fn back(
             tracing.start,
             set,
             Some(entry.lit),
-            clauses[place].as_slice(),
+            clauses.at(place),
         )?;
         push_id(&mut tracing.hints, place)?;
         tracing.late = tracing.late.saturating_sub(1).saturating_add(more);
@@ -184,7 +184,7 @@ fn is_done(trail: &Trail, set: &LitSet, tracing: &Tracing) -> bool
 /// Takes entries back to the first unique implication point.
 fn trace(
     alloc: Global,
-    clauses: &[List<i64>],
+    clauses: &ClauseList<'_>,
     trail: &mut Trail,
     set: &mut LitSet,
     conflict: usize,
@@ -211,7 +211,7 @@ fn trace(
 /// Takes entries back to the first unique implication point, and leaves out what the clause's other literals imply.
 pub(crate) fn to_unit(
     alloc: Global,
-    clauses: &[List<i64>],
+    clauses: &ClauseList<'_>,
     trail: &mut Trail,
     set: &mut LitSet,
     conflict: usize,
@@ -239,7 +239,7 @@ pub(crate) fn to_unit(
 /// Takes back all entries, none of which is a decision: the clause is empty then.
 pub(crate) fn to_empty(
     alloc: Global,
-    clauses: &[List<i64>],
+    clauses: &ClauseList<'_>,
     trail: &mut Trail,
     set: &mut LitSet,
     conflict: usize,

@@ -9,8 +9,8 @@ use crate::learning::learn;
 use crate::lit_set::LitSet;
 use crate::restarts::Restarts;
 use clause_set::ClauseSet;
-use fv_base::{List, Memory};
-use sat_trail::Trail;
+use fv_base::Memory;
+use sat_trail::{ClauseList, Trail};
 use std::alloc::Global;
 
 /// Learns from conflicts, and keeps from one to the next where it traces them and when the search begins anew.
@@ -34,7 +34,7 @@ impl Learner {
     /// where the clause is none of the dropped ones, to the beginning. The only error is want of memory.
     pub fn learn(
         &mut self,
-        clauses: &[List<i64>],
+        clauses: &ClauseList<'_>,
         dropped: &ClauseSet,
         trail: &mut Trail,
         conflict: usize,
@@ -61,7 +61,7 @@ impl Learner {
     /// Takes back all entries, none of which is a decision: the clause is empty then.
     pub fn to_empty(
         &mut self,
-        clauses: &[List<i64>],
+        clauses: &ClauseList<'_>,
         trail: &mut Trail,
         conflict: usize,
     ) -> Result<Learnt, Memory>

@@ -11,8 +11,8 @@ ghost use Rattle.sat_learn.specs.Learning.{Learns};
 use crate::analysis::{Learnt, to_unit};
 use crate::lit_set::LitSet;
 use clause_set::ClauseSet;
-use fv_base::{List, Memory};
-use sat_trail::Trail;
+use fv_base::Memory;
+use sat_trail::{ClauseList, Trail};
 use std::alloc::Global;
 
 /// Of two literals that are false, one that the other doesn't outlast; a literal that isn't false doesn't count.
@@ -65,7 +65,7 @@ fn stays_unit(trail: &Trail, last: Option<i64>) -> bool
 }
 
 /// Takes levels off as long as the clause still forces a literal.
-fn backjump(clauses: &[List<i64>], trail: &mut Trail, lits: &[i64])
+fn backjump(clauses: &ClauseList<'_>, trail: &mut Trail, lits: &[i64])
     requires lits { AreLits lits.now }
     requires stand { Stand clauses.now trail.old }
     requires unit { is_unit (reading (true_lits (below trail.old)) lits.now) ≡ true }
@@ -97,7 +97,7 @@ fn begin_anew(trail: &mut Trail)
 
 /// Cuts the trail back to where the clause, which forces a literal below the newest decision, may join the others: as
 /// far as it still does, or to the beginning.
-fn cut(clauses: &[List<i64>], trail: &mut Trail, lits: &[i64], anew: bool)
+fn cut(clauses: &ClauseList<'_>, trail: &mut Trail, lits: &[i64], anew: bool)
     requires lits { AreLits lits.now }
     requires stand { Stand clauses.now trail.old }
     requires unit { is_unit (reading (true_lits (below trail.old)) lits.now) ≡ true }
@@ -127,7 +127,7 @@ fn may_begin_anew(dropped: &ClauseSet, lits: &[i64], is_due: bool) -> Result<boo
 /// and the clause is none of the dropped ones, to the beginning.
 pub(crate) fn learn(
     alloc: Global,
-    clauses: &[List<i64>],
+    clauses: &ClauseList<'_>,
     dropped: &ClauseSet,
     trail: &mut Trail,
     set: &mut LitSet,

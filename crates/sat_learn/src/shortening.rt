@@ -7,8 +7,8 @@ ghost use Rattle.sat_learn.specs.Analysis.{Resolves, is_stray, implies, is_unit}
 
 use crate::analysis::{complement, push_id};
 use crate::lit_set::LitSet;
-use fv_base::{List, Memory};
-use sat_trail::Trail;
+use fv_base::Memory;
+use sat_trail::{ClauseList, Trail};
 
 fn has(lits: &[i64], wanted: &i64) -> bool
     ensures { result ≡ has lits.now wanted.now }
@@ -51,7 +51,7 @@ fn implies(set: &LitSet, forced: &i64, dropped: &i64, clause: &[i64]) -> bool
 /// The place of a clause that forces the literal, which is true on the trail, where the set's literals but for the
 /// dropped one are false.
 fn implied_at(
-    clauses: &[List<i64>],
+    clauses: &ClauseList<'_>,
     trail: &Trail,
     set: &LitSet,
     forced: &i64,
@@ -63,7 +63,7 @@ fn implied_at(
         × (implies set.now forced.now dropped.now (slice_index_or clauses.now place []) ≡ true)) }
 {
     let place = trail.reason(forced)?;
-    if place < clauses.len() && implies(set, forced, dropped, clauses[place].as_slice()) {
+    if place < clauses.len() && implies(set, forced, dropped, clauses.at(place)) {
         Some(place)
     } else {
         None
@@ -82,7 +82,7 @@ fn is_early(trail: &Trail, start: usize, lit: &i64) -> bool
 /// Leaves the literal out, if it is false below the newest decision, so many entries being older, and the others imply
 /// its complement.
 fn drop_implied(
-    clauses: &[List<i64>],
+    clauses: &ClauseList<'_>,
     trail: &Trail,
     start: usize,
     set: &mut LitSet,
@@ -111,7 +111,7 @@ fn drop_implied(
 
 /// Leaves out the literals that the others imply, each of these literals looked at once.
 pub(crate) fn shorten(
-    clauses: &[List<i64>],
+    clauses: &ClauseList<'_>,
     trail: &Trail,
     start: usize,
     set: &mut LitSet,

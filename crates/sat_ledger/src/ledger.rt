@@ -1,5 +1,4 @@
 ghost use Rattle.std.specs.Prelude.{◌≡◌, ◌+◌, ◌<◌, ◌≤◌, ◌^◌, [], length, IfOk, OnOk};
-ghost use Rattle.cnf_form.specs.Cnf.{AreClauses};
 ghost use Rattle.lrat_check.specs.Sets.{AreLits};
 ghost use Rattle.clause_set.specs.Known.{many};
 ghost use Rattle.sat_ledger.specs.Ledger.{Tells, IsLedger, Adds, StaysTold};
@@ -9,6 +8,7 @@ use clause_set::ClauseSet;
 use cnf_form::Formula;
 use fv_base::{List, Memory};
 use lrat_check::Step;
+use sat_trail::ClauseList;
 use std::alloc::Global;
 use std::marker::Model;
 
@@ -17,10 +17,10 @@ pub const MOST_CLAUSES: usize = 9000000000000000000;
 
 /// The clauses that a search holds, by their places, and the steps that add and delete them.
 #[derive(Drop)]
-pub struct Ledger {
+pub struct Ledger<'a> {
     alloc: Global,
     /// Those of the formula first.
-    clauses: Vec<List<i64>>,
+    clauses: ClauseList<'a>,
     /// The id of each clause.
     ids: Vec<u64>,
     /// How many are the formula's.
@@ -32,13 +32,13 @@ pub struct Ledger {
     dropped: ClauseSet,
 }
 
-impl Model for Ledger {
+impl<'a> Model for Ledger<'a> {
     ghost use Rattle.sat_ledger.specs.Ledger.{State};
 
     ghost Value = { State };
 
     ghost view = { λ l. record {
-      clauses = l.clauses.items;
+      clauses = l.clauses;
       ids = l.ids.items;
       first = l.first;
       top = l.top;
@@ -47,14 +47,15 @@ impl Model for Ledger {
     } };
 }
 
-impl Ledger {
+impl<'a> Ledger<'a> {
     /// The formula's clauses, and no step. The only error is want of memory, also where there are `MOST_CLAUSES`
     /// clauses or more.
-    pub fn new(alloc: Global, formula: &Formula) -> Result<Ledger, Memory>
+    pub fn new(alloc: Global, formula: &'a Formula) -> Result<Ledger<'a>, Memory>
         ensures told { IfOk result (λ ledger. Tells formula.now.vars formula.now.clauses [] ledger) }
         ensures clauses { IfOk result (λ ledger. ledger.clauses ≡ formula.now.clauses) }
     {
-        let clauses = copied(alloc, formula)?;
+        let _vars = formula.vars();
+        let clauses = ClauseList::new(alloc, formula);
         let first = clauses.len();
         if first >= MOST_CLAUSES {
             return Err(Memory);
@@ -71,10 +72,10 @@ impl Ledger {
     }
 
     /// The clauses that are held, by their places. Places change where clauses are let go.
-    pub fn clauses(&self) -> &[List<i64>]
+    pub fn clauses(&self) -> &ClauseList<'a>
         ensures { result.now ≡ self.now.clauses }
     {
-        self.clauses.as_slice()
+        &self.clauses
     }
 
     /// How many clauses are the formula's. They have the first places.
@@ -93,7 +94,7 @@ impl Ledger {
 
     /// The steps in order.
     pub fn into_steps(self) -> List<Step>
-        ensures { result ≡ self.steps }
+        ensures { result ≡ self.entry.steps }
     {
         let Ledger { steps, .. } = self;
         steps
@@ -162,7 +163,9 @@ impl Ledger {
         ensures first { OnOk result (self.new.first ≡ self.old.first) }
         ensures many { OnOk result (length self.old.clauses ≤ length self.new.clauses + 1) }
     {
-        let clause = self.clauses.swap_remove(place);
+        let Some(clause) = self.clauses.swap_remove(place) else {
+            return Ok(());
+        };
         let id = self.ids.swap_remove(place);
         self.dropped.insert(clause.as_slice())?;
         let mut ids = Vec::with_capacity(self.alloc, 1)?;
@@ -180,18 +183,4 @@ fn is_wanted(wanted: &[bool], place: usize) -> bool {
         Some(wanted) => *wanted,
         None => true,
     }
-}
-
-/// A copy of the formula's clauses.
-fn copied(alloc: Global, formula: &Formula) -> Result<Vec<List<i64>>, Memory>
-    ensures value { IfOk result (λ clauses. clauses.items ≡ formula.now.clauses) }
-    ensures literals { IfOk result (λ clauses. AreClauses formula.now.vars clauses.items) }
-    ensures vars { OnOk result (formula.now.vars < 2 ^ 63) }
-{
-    let _vars = formula.vars();
-    let mut clauses = Vec::new(alloc);
-    for clause in formula.clauses() {
-        clauses.push(List::from_vec(Vec::from_slice(alloc, clause.as_slice())?))?;
-    }
-    Ok(clauses)
 }

@@ -11,18 +11,18 @@ use lrat_check::Step;
 use sat_learn::{Learner, Learnt};
 use sat_ledger::Ledger;
 use sat_order::Order;
-use sat_trail::{Entry, Trail};
+use sat_trail::{ClauseList, Entry, Trail};
 use sat_unit::{Propagation, Scan};
 use std::alloc::Global;
 use std::marker::Model;
 
 /// A search in a formula with so many variables.
 #[derive(Drop)]
-pub(crate) struct Search {
+pub(crate) struct Search<'a> {
     alloc: Global,
     vars: u64,
     /// The clauses of the formula and the learnt ones.
-    ledger: Ledger,
+    ledger: Ledger<'a>,
     trail: Trail,
     /// How many clauses may still be learnt.
     left: u64,
@@ -32,7 +32,7 @@ pub(crate) struct Search {
     usage: Usage,
 }
 
-impl Model for Search {
+impl<'a> Model for Search<'a> {
     ghost use Rattle.sat_search.specs.Turns.{State};
 
     ghost Value = { State };
@@ -46,14 +46,21 @@ impl Model for Search {
     } };
 }
 
-impl Search {
+impl<'a> Search<'a> {
     /// The only error is want of memory, also where there are `MOST_CLAUSES` clauses or more.
-    pub(crate) fn new(alloc: Global, formula: &Formula, budget: u64) -> Result<Search, Memory>
+    pub(crate) fn new(
+        alloc: Global,
+        formula: &'a Formula,
+        budget: u64,
+    ) -> Result<Search<'a>, Memory>
         requires { 0 < budget }
         ensures keeps { IfOk result (λ search. Keeps budget formula.now.clauses search) }
         ensures vars { IfOk result (λ search. search.vars ≡ formula.now.vars) }
     {
-        let ledger = Ledger::new(alloc, formula)?;
+        let ledger = match Ledger::new(alloc, formula) {
+            Ok(ledger) => ledger,
+            Err(fault) => return Err(fault),
+        };
         let order = order_of(alloc, formula)?;
         Ok(Search {
             alloc,
@@ -215,7 +222,7 @@ impl Search {
     }
 
     pub(crate) fn into_steps(self) -> List<Step>
-        ensures { result ≡ self.ledger.steps }
+        ensures { result ≡ self.entry.ledger.steps }
     {
         let Search { ledger, .. } = self;
         ledger.into_steps()
@@ -235,15 +242,15 @@ fn order_of(alloc: Global, formula: &Formula) -> Result<Order, Memory> {
 fn note(
     order: &mut Order,
     usage: &mut Usage,
-    clauses: &[List<i64>],
+    clauses: &ClauseList<'_>,
     hints: &[i64],
     len: usize,
 ) -> Result<(), Memory> {
     for hint in hints {
         let place = (hint.unsigned_abs() as usize).saturating_sub(1);
         usage.bump(place);
-        if let Some(clause) = clauses.get(place) {
-            order.bump(clause.as_slice());
+        if place < clauses.len() {
+            order.bump(clauses.at(place));
         }
     }
     order.decay();

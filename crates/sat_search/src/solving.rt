@@ -34,7 +34,10 @@ pub fn solve(alloc: Global, formula: &Formula, budget: u64) -> Result<Found, Mem
     ensures added { IfOk result (λ found. IfSteps found (λ steps. AreAdded formula.now.vars steps)) }
     ensures steps { IfOk result (λ found. IfSteps found AreSteps) }
 {
-    let mut search = Search::new(alloc, formula, budget)?;
+    let mut search = match Search::new(alloc, formula, budget) {
+        Ok(search) => search,
+        Err(fault) => return Err(fault),
+    };
     'turns: loop {
         let turn = search.turn()?;
         match turn {

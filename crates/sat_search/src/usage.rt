@@ -1,5 +1,5 @@
-use fv_base::{List, Memory};
-use sat_trail::Trail;
+use fv_base::Memory;
+use sat_trail::{ClauseList, Trail};
 use std::alloc::Global;
 
 /// Where an activity reaches this, all are made smaller.
@@ -70,13 +70,13 @@ impl Usage {
     /// that force a literal of the trail.
     pub(crate) fn wanted(
         &mut self,
-        clauses: &[List<i64>],
+        clauses: &ClauseList<'_>,
         trail: &Trail,
     ) -> Result<Vec<bool>, Memory> {
         let least = self.median()?;
         let mut wanted = Vec::new(self.alloc);
         for place in 0..clauses.len() {
-            let is_short = clauses[place].len() <= 2;
+            let is_short = clauses.at(place).len() <= 2;
             wanted.push(is_short || self.activity(place) >= least)?;
         }
         want_reasons(&mut wanted, trail);

@@ -1,3 +1,4 @@
+pub mod ClauseLists
 pub mod Codes
 pub mod Members
 pub mod Standing

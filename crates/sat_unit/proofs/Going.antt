@@ -1,5 +1,5 @@
 -- What is kept as an entry comes, as the trail is cut, and as a clause joins.
-use Rattle.std.proofs.Common.{◌≡◌, ◌+◌, ◌≤◌, true, List, [], ◌∷◌, ◌++◌, ℤ, length}
+use Rattle.std.proofs.Common.{◌≡◌, ◌≤◌, true, List, [], ◌∷◌, ◌++◌, ℤ, length}
 use Rattle.std.proofs.Common.{length-append, arith}
 use Rattle.lrat_check.specs.Store.{coded}
 use Rattle.sat_trail.specs.declared.trail.Entry.{Entry}

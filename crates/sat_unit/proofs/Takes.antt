@@ -6,7 +6,6 @@ use Rattle.std.specs.Prelude.{slice_get}
 use Rattle.std.proofs.lemmas.Bool.{cases_Bool, cases_eq}
 use Rattle.std.proofs.lemmas.List.{get_or_append_left, get_or_push}
 use Rattle.lrat_check.specs.Codes.{codes_of}
-use Rattle.lrat_check.specs.Sets.{has}
 use Rattle.lrat_check.specs.Store.{coded, literals, held_of, next, with_code}
 use Rattle.lrat_check.proofs.Codes.{lits_codes}
 use Rattle.sat_trail.specs.Trail.{Entries, lits}

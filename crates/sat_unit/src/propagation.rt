@@ -5,9 +5,9 @@ ghost use Rattle.sat_trail.specs.Trail.{lits, Stand};
 ghost use Rattle.sat_unit.specs.Propagation.{AllLits, Sees, Holds, HoldsOn};
 
 use crate::scan::Scan;
-use fv_base::{List, Memory};
+use fv_base::Memory;
 use lrat_check::Reading;
-use sat_trail::Trail;
+use sat_trail::{ClauseList, Trail};
 use sat_watch::{Scan as Look, Watches};
 use std::alloc::Global;
 use std::marker::Model;
@@ -45,7 +45,7 @@ impl Propagation {
     }
 
     /// A clause that is false or forces a literal, if there is one.
-    pub fn next(&mut self, clauses: &[List<i64>], trail: &Trail) -> Result<Scan, Memory>
+    pub fn next(&mut self, clauses: &ClauseList<'_>, trail: &Trail) -> Result<Scan, Memory>
         requires holds { Holds clauses.now trail.now self.old }
         requires stand { Stand clauses.now trail.now }
         requires lits { AllLits clauses.now }
@@ -61,7 +61,7 @@ impl Propagation {
     }
 
     /// The clauses that came since are watched too.
-    fn take_up(&mut self, clauses: &[List<i64>], trail: &Trail) -> Result<(), Memory>
+    fn take_up(&mut self, clauses: &ClauseList<'_>, trail: &Trail) -> Result<(), Memory>
         requires holds { Holds clauses.now trail.now self.old }
         requires stand { Stand clauses.now trail.now }
         requires lits { AllLits clauses.now }
@@ -75,7 +75,7 @@ impl Propagation {
     }
 
     /// The next clause is watched, if it has two different literals.
-    fn take(&mut self, clauses: &[List<i64>], trail: &Trail) -> Result<(), Memory>
+    fn take(&mut self, clauses: &ClauseList<'_>, trail: &Trail) -> Result<(), Memory>
         requires holds { Holds clauses.now trail.now self.old }
         requires stand { Stand clauses.now trail.now }
         requires lits { AllLits clauses.now }
@@ -83,8 +83,9 @@ impl Propagation {
         ensures holds { OnOk result (Holds clauses.now trail.now self.new) }
         ensures many { OnOk result (self.new.many ≡ self.old.many + 1) }
     {
+        let _len = clauses.len();
         let place = self.many;
-        let clause = clauses[place].as_slice();
+        let clause = clauses.at(place);
         let is_watched = self.watches.add(place as u64 + 1, clause, trail)?;
         self.many += 1;
         if !is_watched {
@@ -94,7 +95,7 @@ impl Propagation {
     }
 
     /// What those come to that can't be watched, where all others are settled.
-    fn look_at_short(&mut self, clauses: &[List<i64>], trail: &Trail) -> Scan
+    fn look_at_short(&mut self, clauses: &ClauseList<'_>, trail: &Trail) -> Scan
         requires holds { Holds clauses.now trail.now self.old }
         requires stand { Stand clauses.now trail.now }
         requires lits { AllLits clauses.now }
@@ -106,7 +107,7 @@ impl Propagation {
     {
         for index in self.looked..self.short.len() {
             let place = self.short[index];
-            match trail.read(clauses[place].as_slice()) {
+            match trail.read(clauses.at(place)) {
                 Reading::False => return Scan::Conflict(place),
                 Reading::Unit(lit) => return Scan::Unit(place, lit),
                 Reading::True => {}

@@ -1,5 +1,5 @@
 -- What the watches keep as the trail changes between two looks.
-use Rattle.std.proofs.Common.{◌≡◌, ℕ, ◌≤◌, true, eqb, [], ◌∷◌, length, get_or, ap, sym, subst, ◌∙◌, ◌⊎◌, inl, inr}
+use Rattle.std.proofs.Common.{◌≡◌, ◌≤◌, true, eqb, [], ◌∷◌, length, get_or, ap, sym, subst, ◌∙◌, inl, inr}
 use Rattle.lrat_check.specs.Codes.{code_of, flip}
 use Rattle.lrat_check.specs.Store.{Coded, coded}
 use Rattle.sat_trail.specs.declared.trail.Entry.{Entry}

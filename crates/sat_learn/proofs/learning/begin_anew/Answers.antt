@@ -1,4 +1,4 @@
-use Rattle.std.proofs.Common.{true, sym, ◌∙◌, subst, length, ◌<◌}
+use Rattle.std.proofs.Common.{sym, ◌∙◌, subst, length, ◌<◌}
 use Rattle.sat_trail.specs.Trail.{Entries, lits, below, Stand}
 use Rattle.sat_trail.specs.Clauses.{Within}
 use Rattle.sat_watch.specs.Laws.{IsOlder}

@@ -7,7 +7,7 @@ pub by_ids-requires : goal.by_ids-requires
 by_ids-requires c =
     let i = c.self.inside in
     let s : State = record {
-      clauses = i.clauses.items;
+      clauses = i.clauses;
       ids = i.ids.items;
       first = i.first;
       top = i.top;

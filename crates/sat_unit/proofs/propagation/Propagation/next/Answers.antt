@@ -1,7 +1,6 @@
-use Rattle.std.proofs.Common.{◌≡◌, ℕ, ◌-◌, ◌≤◌, List, ℤ, length, sym, subst, arith}
+use Rattle.std.proofs.Common.{◌≡◌, ℕ, ◌-◌, ◌≤◌, ℤ, length, sym, subst, arith}
 use Rattle.lrat_check.specs.Store.{coded, held_of}
 use Rattle.sat_trail.specs.Trail.{lits, true_codes}
-use Rattle.sat_watch.specs.declared.scan.Scan.TheVariants as look
 use Rattle.sat_watch.specs.Watching.{Calm}
 use Rattle.sat_watch.specs.Watches.{Sees as Looks, CalmWhere}
 use Rattle.sat_unit.specs.declared.scan.Scan.TheVariants as scan
