@@ -1,4 +1,5 @@
 ghost use Rattle.std.specs.Prelude.{◌≡◌, ◌+◌, ◌<◌, ◌^◌, ◌&&◌, ◌||◌, List, ℤ, false, not, if◌then◌else◌, IfOk, OnOk};
+ghost use Rattle.std.specs.Prelude.{IsTrue, ◌↔◌, []};
 ghost use Rattle.lrat_check.specs.Sets.{same_set, AreLits};
 ghost use Rattle.clause_set.specs.Known as spec;
 ghost use Rattle.clause_set.specs.Sorted.{sorted};
@@ -44,6 +45,12 @@ impl ClauseSet {
         self.sets.len()
     }
 
+    pub fn is_empty(&self) -> bool
+        ensures { IsTrue result ↔ (self.now ≡ []) }
+    {
+        self.sets.is_empty()
+    }
+
     /// Adds a clause, which may be there already.
     pub fn insert(&mut self, lits: &[i64]) -> Result<(), Memory>
         requires { AreLits lits.now }
@@ -60,6 +67,9 @@ impl ClauseSet {
         requires { AreLits lits.now }
         ensures { IfOk result (λ is_there. is_there ≡ spec.contains self.now lits.now) }
     {
+        if self.is_empty() {
+            return Ok(false);
+        }
         let key = set_of(self.alloc, lits)?;
         Ok(self.sets.contains(&key))
     }
@@ -73,6 +83,9 @@ impl ClauseSet {
         ensures many { IfOk result (λ was_there.
             spec.many self.new + (if was_there then 1 else 0) ≡ spec.many self.old) }
     {
+        if self.is_empty() {
+            return Ok(false);
+        }
         let key = set_of(self.alloc, lits)?;
         Ok(self.sets.remove(&key))
     }
