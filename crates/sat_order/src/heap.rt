@@ -117,17 +117,27 @@ impl Heap {
 
     /// The variable at the place goes up, as far as it is the more active one.
     fn rise(&mut self, start: usize) {
+        let Some(rising) = self.index_at(start) else {
+            return;
+        };
+        let activity = self.activity(rising);
         let mut place = start;
         for _ in 0..usize::BITS {
             if place == 0 {
-                return;
+                break;
             }
             let above = (place - 1) / 2;
-            if !self.leads(place, above) {
-                return;
+            let Some(index) = self.index_at(above) else {
+                break;
+            };
+            if activity <= self.activity(index) {
+                break;
             }
-            self.exchange(place, above);
+            self.put(place, index);
             place = above;
+        }
+        if place < start {
+            self.put(place, rising);
         }
     }
 
@@ -152,6 +162,21 @@ impl Heap {
             self.note(first);
             self.note(second);
         }
+    }
+
+    fn index_at(&self, place: usize) -> Option<u32> {
+        match self.indexes.get(place) {
+            Some(index) => Some(*index),
+            None => None,
+        }
+    }
+
+    /// The variable goes to the place.
+    fn put(&mut self, place: usize, index: u32) {
+        if let Some(put) = self.indexes.get_mut(place) {
+            *put = index;
+        }
+        self.note(place);
     }
 
     /// The place of the variable at the place.
