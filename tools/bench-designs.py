@@ -25,7 +25,7 @@ LIBRARIES = "vl_lower vl_evals vl_elab vl_refusal vl_flow vl_ordered vl_order vl
     "vl_tree wn_net fv_base anyhow"
 
 PROGRAM = r"""//! Reads a letter and a Verilog text, whose top module is `top`, and works on it as far as the letter
-//! says: parses, elaborates, orders or lowers it. Says what was made.
+//! says: parses, elaborates, orders or lowers it, or counts the kinds of its nodes behind that. Says what was made.
 #![tactic(auto)]
 
 use anyhow::Result;
@@ -101,6 +101,9 @@ fn ordered(alloc: Global, flat: Flat, stage: u8) -> Result<String> {
             let lowered = lower(alloc, &ordered)?;
             let nodes = lowered.net.nodes().len();
             let regs = lowered.net.regs().len();
+            if stage == b'l' {
+                return Ok(format!(in alloc; "weight {heavy}, {nodes} nodes, {regs} registers")?);
+            }
             let kinds = kinds(alloc, &lowered.net)?;
             Ok(format!(in alloc; "weight {heavy}, {nodes} nodes, {regs} registers:{kinds}")?)
         }
@@ -288,6 +291,8 @@ def timed(program, stage, title, text, runs):
     before, after = STAGES[stage]
     first = min((runs(program, before, text) for _ in range(3)), key=lambda found: found[1])
     said, seconds, memory_used = min((runs(program, after, text) for _ in range(3)), key=lambda found: found[1])
+    if after == "l":
+        said = runs(program, "k", text)[0]
     print(f"{stage} {title}: {said}; {seconds - first[1]:.2f} s, run {seconds:.2f} s, {memory_used} MB", flush=True)
 
 
