@@ -76,7 +76,7 @@ pub fn decide(
     let clauses = clauses_of_runs(alloc, &watched, bad, &fields, check.cycle)?;
     let formula = &clauses.encoded.formula;
     let _ = formula.vars();
-    let _ = formula.clauses();
+    let _ = formula.len();
     let found = solve(alloc, formula, budget)?;
     Ok(verdict(clauses, found))
 }

@@ -1,7 +1,7 @@
 //! Searches over clause files.
 
 use crate::escape;
-use cnf_form::Formula;
+use cnf_form::{Formula, clause_at};
 use cnf_text::read_dimacs;
 use fv_base::{List, Memory};
 use lrat_check::{Step, verify};
@@ -49,8 +49,7 @@ fn said(alloc: Global, holds: bool, word: &str) -> Result<String, Memory> {
 
 fn all_true(values: &List<bool>, formula: &Formula) -> bool {
     values.len() as u64 == formula.vars()
-        && formula.clauses().iter().all(|clause| clause
-            .as_slice()
+        && (0..formula.len()).all(|index| clause_at(formula, index)
             .iter()
             .any(|lit| is_true(values, *lit)))
 }

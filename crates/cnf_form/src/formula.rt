@@ -8,6 +8,7 @@ ghost use Rattle.std.specs.Prelude.{
   ◌++◌,
   length,
   slice_get,
+  slice_index_or,
   OnOk,
   OnErr,
   OnSome,
@@ -77,11 +78,13 @@ impl Formula {
         self.vars
     }
 
-    /// The number of clauses.
+    /// The number of clauses. Their literals name variables of the formula.
     pub fn len(&self) -> usize
-        ensures { result ≡ length self.now.clauses }
+        ensures value { result ≡ length self.now.clauses }
+        ensures small { result < 2 ^ 63 }
+        ensures literals { AreClauses self.now.vars self.now.clauses }
     {
-        self.clauses.len()
+        self.clauses.as_slice().len()
     }
 
     pub fn is_empty(&self) -> bool
@@ -100,13 +103,17 @@ impl Formula {
             None => None,
         }
     }
+}
 
-    /// All clauses in order. Their literals name variables of the formula.
-    pub fn clauses(&self) -> &[List<i64>]
-        ensures value { result.now ≡ self.now.clauses }
-        ensures literals { AreClauses self.now.vars result.now }
-    {
-        self.clauses.as_slice()
+/// The clause at a place below the length.
+pub fn clause_at(formula: &Formula, index: usize) -> &[i64]
+    requires { index < length formula.now.clauses }
+    ensures value { result.now ≡ slice_index_or formula.now.clauses index result.now }
+    ensures literals { AreLiterals formula.now.vars result.now }
+{
+    match formula.clause(index) {
+        Some(clause) => clause,
+        None => &[],
     }
 }
 

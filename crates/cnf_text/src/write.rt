@@ -2,7 +2,7 @@ ghost use Rattle.std.specs.Prelude.{◌≡◌, ◌++◌, flat_map, IfOk, OnOk};
 ghost use Rattle.std.specs.Fmt.{signed_decimal};
 ghost use Rattle.cnf_text.specs.Dimacs.{note_text, literal_text, clause_text, header_text, dimacs_text, ReadsBack};
 
-use cnf_form::Formula;
+use cnf_form::{Formula, clause_at};
 use fv_base::{Memory, Text};
 use itoa::Buffer;
 use std::alloc::Global;
@@ -17,8 +17,8 @@ pub fn dimacs(alloc: Global, formula: &Formula, notes: &[Text]) -> Result<Vec<u8
         put_note(&mut out, note)?;
     }
     put_header(&mut out, formula)?;
-    for clause in formula.clauses() {
-        put_clause(&mut out, clause.as_slice())?;
+    for index in 0..formula.len() {
+        put_clause(&mut out, clause_at(formula, index))?;
     }
     Ok(out)
 }

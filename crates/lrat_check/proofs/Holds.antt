@@ -87,9 +87,3 @@ unit_reading false rest l e = e
 pub unit_lit : (set c : List ℤ) (l : ℤ) → AreLits c → reading set c ≡ read.Unit l → IsLit l
 unit_lit set c l a e = open_lit set c l a (unit_first (first_open set c) (λ m. other_open set m c) l
     (unit_reading (list_any (has set) c) (reading_of (first_open set c) (λ m. other_open set m c)) l e))
-
-pub clause_at : (vars : ℕ) (clauses : List (List ℤ)) (i : ℕ) (c : List ℤ) → vars < 2 ^ 63 → AreClauses vars clauses
-    → i < length clauses → c ≡ get_or clauses i c → AreLits c
-clause_at vars [] i c v a h e = absurd (omega (arith, h))
-clause_at vars (d ∷ ds) zero c v a h e = subst AreLits (sym e) (lits_are vars d v a.0)
-clause_at vars (d ∷ ds) (suc i) c v a h e = clause_at vars ds i c v a.1 (omega (arith, h)) e

@@ -5,7 +5,7 @@ ghost use Rattle.lrat_check.specs.Store.{held_of, next, AreHeld, Forgets, Delete
 
 use crate::step::StepFault;
 use crate::store::Store;
-use cnf_form::Formula;
+use cnf_form::{Formula, clause_at};
 use std::alloc::Global;
 
 pub(crate) fn put(held: &mut Store, id: u64, lits: &[i64]) -> Result<(), StepFault>
@@ -60,9 +60,9 @@ pub(crate) fn store_of(alloc: Global, formula: &Formula) -> Result<Store, StepFa
     let _vars = formula.vars();
     let mut held = Store::new(alloc);
     let mut id = 0;
-    for clause in formula.clauses() {
+    for index in 0..formula.len() {
         id += 1;
-        put(&mut held, id, clause.as_slice())?;
+        put(&mut held, id, clause_at(formula, index))?;
     }
     Ok(held)
 }

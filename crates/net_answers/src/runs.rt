@@ -6,7 +6,7 @@ use anyhow::Result;
 use bb_aig::Lit;
 use bm_clauses::{RunClauses, clauses_of_runs};
 use bm_unroll::{Source, is_within};
-use cnf_form::Formula;
+use cnf_form::{Formula, clause_at};
 use std::alloc::Global;
 use wn_net::Net;
 
@@ -89,9 +89,9 @@ fn gates(alloc: Global, made: &RunClauses) -> Result<Option<String>> {
 fn clauses(alloc: Global, formula: &Formula) -> Result<Option<String>> {
     let vars = formula.vars();
     let mut said = format!(in alloc; "{vars} variables")?;
-    for clause in formula.clauses() {
+    for index in 0..formula.len() {
         said.push_str(":")?;
-        for lit in clause.as_slice() {
+        for lit in clause_at(formula, index) {
             said.push_str(format!(in alloc; " {lit}")?.as_str())?;
         }
     }

@@ -5,7 +5,7 @@ ghost use Rattle.sat_search.specs.Turns.{Keeps, IsSearch, Looked, Learned, GoesO
 
 use crate::turn::Turn;
 use crate::usage::Usage;
-use cnf_form::Formula;
+use cnf_form::{Formula, clause_at};
 use fv_base::{List, Memory};
 use lrat_check::Step;
 use sat_learn::{Learner, Learnt};
@@ -232,8 +232,8 @@ impl<'a> Search<'a> {
 /// An order of the variables that the formula's clauses name.
 fn order_of(alloc: Global, formula: &Formula) -> Result<Order, Memory> {
     let mut order = Order::new(alloc);
-    for clause in formula.clauses() {
-        order.meet(clause.as_slice())?;
+    for index in 0..formula.len() {
+        order.meet(clause_at(formula, index))?;
     }
     Ok(order)
 }

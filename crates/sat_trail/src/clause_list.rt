@@ -2,7 +2,7 @@ ghost use Rattle.std.specs.Prelude.{◌≡◌, ◌<◌, ◌∷◌, ◌++◌, [],
 ghost use Rattle.cnf_form.specs.Cnf.{AreClauses};
 ghost use Rattle.sat_trail.specs.ClauseList.{TakenOut};
 
-use cnf_form::Formula;
+use cnf_form::{Formula, clause_at};
 use fv_base::{List, Memory};
 use std::alloc::Global;
 use std::marker::Model;
@@ -10,7 +10,7 @@ use std::marker::Model;
 /// Clauses by their places: those of a formula, which stand there alone, and behind them those that were learnt.
 #[derive(Drop)]
 pub struct ClauseList<'a> {
-    given: &'a [List<i64>],
+    given: &'a Formula,
     learnt: Vec<List<i64>>,
 }
 
@@ -19,7 +19,7 @@ impl<'a> Model for ClauseList<'a> {
 
     ghost Value = { List (List ℤ) };
 
-    ghost view = { λ c. c.given.now ++ c.learnt.items };
+    ghost view = { λ c. c.given.now.clauses ++ c.learnt.items };
 }
 
 impl<'a> ClauseList<'a> {
@@ -28,8 +28,10 @@ impl<'a> ClauseList<'a> {
         ensures value { result ≡ formula.now.clauses }
         ensures literals { AreClauses formula.now.vars result }
     {
+        // Asked for what it says of the literals.
+        let _many = formula.len();
         ClauseList {
-            given: formula.clauses(),
+            given: formula,
             learnt: Vec::new(alloc),
         }
     }
@@ -47,7 +49,7 @@ impl<'a> ClauseList<'a> {
     {
         let many = self.given.len();
         if place < many {
-            self.given[place].as_slice()
+            clause_at(self.given, place)
         } else {
             self.learnt[place - many].as_slice()
         }

@@ -80,7 +80,7 @@ returns c =
     } in
     let small : formula.vars < 2 ^ 63 = subst (λ n. n < 2 ^ 63) c.vars.ensures.value c.vars.ensures.small in
     let literals : AreClauses formula.vars formula.clauses =
-    subst (λ cs. AreClauses formula.vars cs) c.clauses.ensures.value c.clauses.ensures.literals in
+    c.len.ensures.literals in
     let found = c.in_ok-found.ensures in
     let V : Verdict → Type 0 = λ v. IsVerdict net port check c.args.opts c.args.budget v in
     subst V (sym c.verdict.ensures)

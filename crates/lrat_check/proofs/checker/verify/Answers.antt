@@ -8,9 +8,9 @@ use Rattle.lrat_check.proofs.checker.verify.Goals as goal
 pub loop-step-init : goal.loop-step-init
 loop-step-init c = (
   begins (held_of c.in_ok-store_of.field-0) c.len.result c.args.formula.now.clauses c.args.steps.now
-      c.in_ok-store_of.ensures.held c.len.ensures,
+      c.in_ok-store_of.ensures.held c.len.ensures.value,
   c.in_ok-store_of.ensures.lits,
-  omega (arith, c.in_ok-store_of.ensures.next, c.len.ensures),
+  omega (arith, c.in_ok-store_of.ensures.next, c.len.ensures.value),
 )
 
 pub take-requires-clause-step : goal.take-requires-clause-step

@@ -12,5 +12,5 @@ returns-clause-told c =
     let few : length formula.clauses < 2 ^ 63 - 1 = omega (arith, c.if-first-ge-MOST_CLAUSES.false, e) in
     starts formula.vars formula.clauses (omega (arith, c.vars-vars.ensures.value, c.vars-vars.ensures.small))
     (subst (AreClauses formula.vars) list.ensures.value list.ensures.literals) few c.new-2.result c.new-2.ensures.none
-    (c.clauses.inside.given.now ++ c.clauses.inside.learnt.items) c.in_ok-ids_to.field-0.items c.len-first.result
+    (c.clauses.inside.given.now.clauses ++ c.clauses.inside.learnt.items) c.in_ok-ids_to.field-0.items c.len-first.result
     c.len-first.result c.new.result (c.clauses.view_is ∙ list.ensures.value) (c.in_ok-ids_to.ensures ∙ ap ids_to e) e e c.new.ensures
