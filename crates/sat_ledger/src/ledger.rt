@@ -101,8 +101,8 @@ impl<'a> Ledger<'a> {
     }
 
     /// Adds a clause behind the others, with its step, and says whether it is new: whether none that was deleted and
-    /// not learnt again has the same literals. A hint is one above a clause's place. The only error is want of memory, also
-    /// where `MOST_CLAUSES` ids are given.
+    /// not learnt again has the same literals. A hint is one above a clause's place. The only error is want of memory,
+    /// also where `MOST_CLAUSES` ids are given.
     pub fn add(&mut self, lits: &[i64], hints: &[i64]) -> Result<bool, Memory>
         requires ledger { IsLedger self.old }
         requires lits { AreLits lits.now }

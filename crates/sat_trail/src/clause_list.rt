@@ -63,8 +63,8 @@ impl<'a> ClauseList<'a> {
         Ok(())
     }
 
-    /// Takes out the clause at the place, to which the last one goes. None where the formula has it, or no clause stands
-    /// there.
+    /// Takes out the clause at the place, to which the last one goes. None where the formula has it, or no clause
+    /// stands there.
     pub fn swap_remove(&mut self, place: usize) -> Option<List<i64>>
         ensures { MatchOption result (self.new ≡ self.old) (λ clause. TakenOut self.old self.new place clause) }
     {

@@ -1,5 +1,5 @@
-//! One write to many words at an address that isn't constant: one test for each group of sixteen words, and one node for
-//! each number of the lowest four bits of the address.
+//! One write to many words at an address that isn't constant: one test for each group of sixteen words, and one node
+//! for each number of the lowest four bits of the address.
 #![tactic(auto, using(wn_net::proofs::Laws::additions))]
 
 ghost use Rattle.std.specs.Prelude.{◌≡◌, ◌+◌, ◌*◌, ◌/◌, ◌%◌, ◌^◌, ◌<◌, ◌≤◌, ℕ, bit_and, length, IfOk, OnOk};
