@@ -15,7 +15,7 @@ DRIVER = r"""//! Reads a number and a Verilog text a line, and prints the names 
 #![tactic(auto)]
 
 use anyhow::Result;
-use fv_base::{List, Memory, Text};
+use fv_base::{List, Memory, Text, Trace};
 use std::alloc::Global;
 use tr_replay::{Chosen, replay};
 use vl_elab::elaborate;
@@ -125,7 +125,22 @@ fn put_names<R: Print>(rt: &R, alloc: Global, flat: &Flat) -> Result<()> {
     Ok(())
 }
 
-/// A line for each name that has registers, and one for each name with what it has in each cycle.
+/// The cycles up to the one from which a name keeps its value.
+fn changes_before(trace: &Trace, at: usize) -> usize {
+    let mut before = None;
+    let mut cycles = 0;
+    for (cycle, row) in trace.cycles.as_slice().iter().enumerate() {
+        let value = row.as_slice().get(at).copied();
+        if value != before {
+            cycles = cycle + 1;
+        }
+        before = value;
+    }
+    cycles
+}
+
+/// A line for each name that has registers, and one for each name with what it has in each cycle, up to the one from
+/// which it keeps that: `rt try` takes a million bytes at most.
 fn put_run<R: Print>(rt: &R, alloc: Global, ordered: &Ordered, seed: u64) -> Result<()> {
     let lowered = lower(alloc, ordered)?;
     let choice = chosen(alloc, &lowered.net, seed)?;
@@ -138,7 +153,7 @@ fn put_run<R: Print>(rt: &R, alloc: Global, ordered: &Ordered, seed: u64) -> Res
     }
     for (at, name) in trace.names.as_slice().iter().enumerate() {
         let mut line = String::new(alloc);
-        for row in trace.cycles.as_slice() {
+        for row in trace.cycles.as_slice().iter().take(changes_before(&trace, at)) {
             if let Some(value) = row.as_slice().get(at) {
                 let value = *value;
                 line.push_str(format!(in alloc; " {value}")?.as_str())?;
@@ -202,8 +217,8 @@ class Design:
         self.refused, self.names, self.registers, self.values = None, [], set(), {}
 
 
-def read(said):
-    """Returns the designs that the program printed."""
+def read(said, cycles):
+    """Returns the designs that the program printed, with their values in so many cycles."""
     found = []
     for line in said.splitlines():
         word, *rest = line.split(" ")
@@ -214,7 +229,8 @@ def read(said):
         elif word == "register":
             found[-1].registers.add(rest[0])
         elif word == "trace":
-            found[-1].values[rest[0]] = [int(value) for value in rest[1:]]
+            changes = [int(value) for value in rest[1:]]
+            found[-1].values[rest[0]] = changes + changes[-1:] * (cycles - len(changes))
         elif word == "refused":
             found[-1].refused = rest[0]
     return found
@@ -228,7 +244,7 @@ def designs(runs, cycles=10):
                               input="".join(f"{seed} {text}\n" for text, seed in runs))
         if done.returncode:
             raise SystemExit(done.stdout[-2000:] + done.stderr[-4000:])
-    return read(done.stdout)
+    return read(done.stdout, cycles)
 
 
 def cases(crate):
