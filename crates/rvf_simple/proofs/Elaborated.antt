@@ -1,0 +1,38 @@
+-- Elaboration refuses no text that comes to a simple wrapper with few ports.
+use Rattle.std.specs.Prelude.{◌≡◌, ◌≤◌, None, Err}
+use Rattle.std.proofs.Common.{ap, sym, ◌∙◌, true≢false, arith}
+use Rattle.std.specs.Prelude.{is_none}
+use Rattle.vl_refusal.specs.declared.elab_fault.ElabFault.{ElabFault}
+use Rattle.vl_refusal.specs.Refused.{refusal}
+use Rattle.vl_simple.specs.Simple.{IsSimple, wrapper_ports}
+use Rattle.vl_simple.proofs.Tokens.{simple_nodes}
+use Rattle.vl_simple.proofs.Unrefused.{simple_unrefused}
+use Rattle.rvf_text.specs.SourceText.{Reading}
+use Rattle.rvf_load.specs.Loads.{Answers, Asked, IsNoDesign, Reads, top}
+use Rattle.rvf_load.specs.declared.fault.LoadFault.TheVariants as fault
+use Rattle.rvf_simple.specs.Simple.{IsSimpleText}
+use Rattle.rvf_simple.proofs.OneReading.{one_reading}
+use Rattle.rvf_simple.proofs.Parsed.{tree_of_few}
+
+-- The tree of texts isn't refused that is a simple wrapper with few ports.
+pub simple_is_elaborated : (a : Asked) (r : Reading) → Reads a r → IsSimple r.tree.modules
+    → wrapper_ports r.tree.modules ≤ 200000 → refusal r.tree.modules top ≡ None
+simple_is_elaborated a r reads simple few =
+    let of = tree_of_few a.core a.texts a.lines r reads in
+    simple_unrefused r.tree.modules simple few
+    (omega (arith, simple_nodes r.tree of.tokens of.parsed.tree_of.1 simple, of.few))
+
+pub texts_have_one_reading : (a : Asked) (r s : Reading) → Reads a r → Reads a s → r ≡ s
+texts_have_one_reading a r s h k = one_reading a.core a.lines r s a.texts h k
+
+pub never_refused_by_elaboration : (a : Asked) → IsSimpleText a → (f : ElabFault) → IsNoDesign a f → ⊥
+never_refused_by_elaboration a h f it =
+    let same : it.reading ≡ h.reading
+    = texts_have_one_reading a it.reading h.reading it.reads h.reads in
+    let none : refusal it.reading.tree.modules top ≡ None
+    = ap (λ (r : Reading). refusal r.tree.modules top) same
+    ∙ simple_is_elaborated a h.reading h.reads h.simple h.few in
+    true≢false (ap is_none (sym none ∙ it.refused))
+
+pub elaboration_is_no_answer : (a : Asked) → IsSimpleText a → (f : ElabFault) → Answers a (Err (fault.Elab f)) → ⊥
+elaboration_is_no_answer a h f answer = never_refused_by_elaboration a h f answer.is

@@ -1,0 +1,12 @@
+-- Texts that come to a simple wrapper. Rule of this project.
+use Rattle.std.specs.Prelude.{◌≤◌}
+use Rattle.vl_simple.specs.Simple.{IsSimple, wrapper_ports}
+use Rattle.rvf_text.specs.SourceText.{Reading}
+use Rattle.rvf_load.specs.Loads.{Asked, Reads}
+
+-- one with at most 200,000 ports
+pub record IsSimpleText (a : Asked) : Type 0 where
+  pub reading : Reading
+  pub reads : Reads a reading
+  pub simple : IsSimple reading.tree.modules
+  pub few : wrapper_ports reading.tree.modules ≤ 200000

@@ -1,0 +1,48 @@
+//! What texts come to that are simple wrappers.
+ghost use Rattle.std.specs.Prelude.{◌≡◌, ℕ, ◌≤◌, List, length, None, Ok, Err};
+ghost use Rattle.fv_base.specs.declared.token.Token.{Token};
+ghost use Rattle.vl_prep.specs.Macros.{Held};
+ghost use Rattle.vl_prep.specs.Prep.{Outcome, preprocessed};
+ghost use Rattle.vl_refusal.specs.Refused.{refusal};
+ghost use Rattle.vl_refusal.specs.declared.elab_fault.ElabFault.{ElabFault};
+ghost use Rattle.vl_simple.specs.Simple.{IsSimple, wrapper_ports};
+ghost use Rattle.rvf_text.specs.Assumptions.{with_assumptions};
+ghost use Rattle.rvf_text.specs.SourceText.{Reading};
+ghost use Rattle.rvf_text.specs.Texts.{Text};
+ghost use Rattle.rvf_load.specs.Loads.{Answers, Asked, IsNoDesign, Reads, top};
+ghost use Rattle.rvf_load.specs.declared.fault.LoadFault.TheVariants as fault;
+ghost use Rattle.rvf_simple.specs.Simple.{IsSimpleText};
+
+/// The preprocessor puts out at most 2,000,000 tokens.
+#[tactic(auto, using(crate::proofs::FewTokens::few_tokens))]
+pub fn few_tokens_are_put_out()
+    ensures { (macros : Held) (tokens : List Token) (r : Outcome) → preprocessed macros tokens ≡ Ok r
+        → length r.output ≤ 2000000 }
+{}
+
+/// There are no more where assumptions are put in their place.
+#[tactic(auto, using(crate::proofs::Placed::assumed_few))]
+pub fn assumptions_in_place_are_no_more()
+    ensures { (lines : List Text) (tokens : List Token) → length (with_assumptions lines tokens) ≤ length tokens }
+{}
+
+/// Texts have one reading at most.
+pub fn texts_have_one_reading()
+    ensures { (a : Asked) (r s : Reading) → Reads a r → Reads a s → r ≡ s }
+{}
+
+/// The tree of texts that is a simple wrapper with at most 200,000 ports isn't refused by elaboration.
+pub fn simple_texts_are_elaborated()
+    ensures { (a : Asked) (r : Reading) → Reads a r → IsSimple r.tree.modules → wrapper_ports r.tree.modules ≤ 200000
+        → refusal r.tree.modules top ≡ None }
+{}
+
+/// Of texts that come to a simple wrapper no refusal by elaboration is there.
+pub fn elaboration_refuses_no_simple_text()
+    ensures { (a : Asked) → IsSimpleText a → (f : ElabFault) → IsNoDesign a f → ⊥ }
+{}
+
+/// And none is answered.
+pub fn no_refusal_by_elaboration_is_answered()
+    ensures { (a : Asked) → IsSimpleText a → (f : ElabFault) → Answers a (Err (fault.Elab f)) → ⊥ }
+{}
