@@ -11,6 +11,9 @@ ghost use Rattle.rvf_text.specs.SourceText.{Reading};
 ghost use Rattle.rvf_text.specs.Texts.{Text};
 ghost use Rattle.rvf_load.specs.Loads.{Answers, Asked, IsNoDesign, Reads, top};
 ghost use Rattle.rvf_load.specs.declared.fault.LoadFault.TheVariants as fault;
+ghost use Rattle.rvf_case.specs.Cases.{IsCause, Request, Seen};
+ghost use Rattle.rvf_case.specs.Texts.{asked_for};
+ghost use Rattle.rvf_case.specs.declared.refusal.Refusal.TheVariants as why;
 ghost use Rattle.rvf_simple.specs.Simple.{IsSimpleText};
 
 /// The preprocessor puts out at most 2,000,000 tokens.
@@ -45,4 +48,12 @@ pub fn elaboration_refuses_no_simple_text()
 /// And none is answered.
 pub fn no_refusal_by_elaboration_is_answered()
     ensures { (a : Asked) → IsSimpleText a → (f : ElabFault) → Answers a (Err (fault.Elab f)) → ⊥ }
+{}
+
+/// So it is no cause why a run judges no check: what the run asks of the refused text, by its configuration and its
+/// files, isn't simple.
+pub fn no_run_has_such_a_cause()
+    ensures { (q : Request) (seen : Seen) (f : ElabFault) (names : List (List ℕ))
+        → (it : IsCause q seen (why.Source (fault.Elab f) names))
+        → IsSimpleText (asked_for it.config it.refused.files it.kind) → ⊥ }
 {}
