@@ -5,15 +5,21 @@ use anyhow::Result;
 use fv_base::Text;
 use std::alloc::Global;
 use vl_elab::{Reason, elaborate};
+use vl_mean::Flat;
 use vl_parse::parse;
 use vl_token::lex;
 
-/// The answer to the case of a text: `design`, or the refusal. An error is want of memory, or a text without a tree.
-pub fn answer(alloc: Global, text: &str) -> Result<String> {
+/// The design of a text, or why it has none. An error is want of memory, or a text without a tree.
+pub fn design(alloc: Global, text: &str) -> Result<Result<Flat, Reason>> {
     let tokens = lex(alloc, text.as_bytes(), 1, 1)?;
     let source = parse(alloc, tokens.as_slice())?;
     let top = Text::from_bytes(alloc, b"top")?;
-    match elaborate(alloc, source.modules.as_slice(), &top) {
+    Ok(elaborate(alloc, source.modules.as_slice(), &top))
+}
+
+/// The answer to the case of a text: `design`, or the refusal. An error is want of memory, or a text without a tree.
+pub fn answer(alloc: Global, text: &str) -> Result<String> {
+    match design(alloc, text)? {
         Ok(_flat) => Ok(String::from_str(alloc, "design")?),
         Err(Reason::Refused(fault)) => shown::refusal(alloc, &fault),
         Err(Reason::Memory) => Ok(String::from_str(alloc, "memory")?),

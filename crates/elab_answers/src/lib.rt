@@ -6,4 +6,4 @@
 mod elaborated;
 mod shown;
 
-pub use crate::elaborated::answer;
+pub use crate::elaborated::{answer, design};

@@ -6,4 +6,4 @@
 mod ordered;
 mod shown;
 
-pub use crate::ordered::answer;
+pub use crate::ordered::{answer, design_in_order};

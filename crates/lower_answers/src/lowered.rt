@@ -3,15 +3,12 @@
 
 use crate::shown::values;
 use anyhow::Result;
-use fv_base::{List, Memory, Text, Trace};
+use flow_answers::design_in_order;
+use fv_base::{List, Memory, Trace};
 use std::alloc::Global;
 use tr_replay::{Chosen, replay};
-use vl_elab::elaborate;
-use vl_flow::order;
 use vl_lower::lower;
 use vl_ordered::Ordered;
-use vl_parse::parse;
-use vl_token::lex;
 
 /// The run of a design in which all that is free is 0.
 fn run(alloc: Global, ordered: &Ordered) -> Result<Trace, Memory> {
@@ -28,17 +25,12 @@ fn run(alloc: Global, ordered: &Ordered) -> Result<Trace, Memory> {
 /// The answer to the case of a text: values of `y`, or that there is no design, no order or no such name. An error is
 /// want of memory, or a text without a tree.
 pub fn answer(alloc: Global, text: &str) -> Result<String> {
-    let tokens = lex(alloc, text.as_bytes(), 1, 1)?;
-    let source = parse(alloc, tokens.as_slice())?;
-    let top = Text::from_bytes(alloc, b"top")?;
-    match elaborate(alloc, source.modules.as_slice(), &top) {
-        Err(_reason) => Ok(String::from_str(alloc, "no design")?),
-        Ok(flat) => match order(alloc, flat) {
-            Err(_fault) => Ok(String::from_str(alloc, "no order")?),
-            Ok(ordered) => {
-                let trace = run(alloc, &ordered)?;
-                values(alloc, &trace)
-            }
-        },
+    match design_in_order(alloc, text)? {
+        None => Ok(String::from_str(alloc, "no design")?),
+        Some(Err(_fault)) => Ok(String::from_str(alloc, "no order")?),
+        Some(Ok(ordered)) => {
+            let trace = run(alloc, &ordered)?;
+            values(alloc, &trace)
+        }
     }
 }
