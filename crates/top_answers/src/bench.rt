@@ -1,6 +1,7 @@
 //! The files of a case, and runs over them.
 
 use crate::line::{Line, line_of};
+use crate::meeting::run_to_meet;
 use anyhow::Result;
 use fv_base::{MemFiles, MemOut};
 use rvf_core::run;
@@ -28,11 +29,19 @@ struct Named {
     text: String,
 }
 
+/// How a run is made and told.
+#[derive(Clone, Copy)]
+enum Manner {
+    Whole,
+    InBrief,
+    ToMeet,
+}
+
 /// A run that is asked for.
 #[derive(Drop)]
 pub struct Asked {
     words: Vec<String>,
-    in_brief: bool,
+    manner: Manner,
 }
 
 /// Where a line of text goes.
@@ -50,6 +59,8 @@ pub struct Bench {
     files: Vec<Named>,
     failing_files: Vec<u64>,
     failing_puts: Vec<u64>,
+    /// How many bytes are reserved for what a run puts.
+    room: u64,
     target: Target,
     /// The files once a run has begun.
     held: Option<MemFiles>,
@@ -63,6 +74,7 @@ impl Bench {
             files: Vec::new(alloc),
             failing_files: Vec::new(alloc),
             failing_puts: Vec::new(alloc),
+            room: 0,
             target: Target::Piece,
             held: None,
         }
@@ -76,8 +88,10 @@ impl Bench {
             Line::Use(name) => self.use_piece(name)?,
             Line::FailingFile(call) => self.failing_files.push(call)?,
             Line::FailingPut(call) => self.failing_puts.push(call)?,
-            Line::Run(words) => return Ok(Some(self.asked(words, false)?)),
-            Line::RunInBrief(words) => return Ok(Some(self.asked(words, true)?)),
+            Line::Room(bytes) => self.room = bytes,
+            Line::Run(words) => return Ok(Some(self.asked(words, Manner::Whole)?)),
+            Line::RunInBrief(words) => return Ok(Some(self.asked(words, Manner::InBrief)?)),
+            Line::RunToMeet(words) => return Ok(Some(self.asked(words, Manner::ToMeet)?)),
             Line::End => self.end(),
             Line::Comment => {}
             Line::Text(text) => {
@@ -118,21 +132,19 @@ impl Bench {
         self.append(text.as_str())
     }
 
-    fn asked(&self, words: &str, in_brief: bool) -> Result<Asked, AllocError> {
+    fn asked(&self, words: &str, manner: Manner) -> Result<Asked, AllocError> {
         let mut all = Vec::new(self.alloc);
         for word in words.split_whitespace() {
             all.push(String::from_str(self.alloc, word)?)?;
         }
-        Ok(Asked {
-            words: all,
-            in_brief,
-        })
+        Ok(Asked { words: all, manner })
     }
 
     fn end(&mut self) {
         self.files = Vec::new(self.alloc);
         self.failing_files = Vec::new(self.alloc);
         self.failing_puts = Vec::new(self.alloc);
+        self.room = 0;
         self.held = None;
     }
 
@@ -149,20 +161,43 @@ impl Bench {
         Ok(MemFiles::new(self.alloc, pairs, self.failing_files.clone()?)?)
     }
 
-    /// Makes the run: its words, what was put, the code, and each file of a check that is there.
+    /// Makes the run: its words, what was put, the code, whether its first check met the second one where that is asked,
+    /// and each file of a check that is there.
     pub fn run<R: Threads + Sync>(&mut self, rt: &R, asked: &Asked) -> Result<String> {
         let mut files = self.held()?;
         let mut out = MemOut::new(self.alloc, self.failing_puts.clone()?);
-        let status = run(rt, self.alloc, asked.words.as_slice(), &mut files, &mut out);
+        out.reserve(self.room)?;
+        let words = asked.words.as_slice();
+        let (status, met) = match asked.manner {
+            Manner::ToMeet => run_to_meet(rt, self.alloc, words, &mut files, &mut out),
+            _ => (run(rt, self.alloc, words, &mut files, &mut out), ""),
+        };
+        let code = status.code();
+        let mut told = self.told(words)?;
+        put(
+            &mut told,
+            out.sent(),
+            matches!(asked.manner, Manner::InBrief),
+        )?;
+        told.push_str(format!(in self.alloc; "= {code}\n{met}")?.as_str())?;
+        self.put_files(&mut told, &files)?;
+        self.held = Some(files);
+        Ok(told)
+    }
+
+    /// A line of the words.
+    fn told(&self, words: &[String]) -> Result<String, AllocError> {
         let mut told = String::from_str(self.alloc, "$")?;
-        for word in asked.words.iter() {
+        for word in words {
             told.push(' ')?;
             told.push_str(word.as_str())?;
         }
         told.push('\n')?;
-        put(&mut told, out.sent(), asked.in_brief)?;
-        let code = status.code();
-        told.push_str(format!(in self.alloc; "= {code}\n")?.as_str())?;
+        Ok(told)
+    }
+
+    /// A line for each file of a check that is there.
+    fn put_files(&self, told: &mut String, files: &MemFiles) -> Result<()> {
         for check in CHECKS {
             for ending in ENDINGS {
                 let name = format!(in self.alloc; "out/{check}.{ending}")?;
@@ -171,8 +206,7 @@ impl Bench {
                 }
             }
         }
-        self.held = Some(files);
-        Ok(told)
+        Ok(())
     }
 }
 

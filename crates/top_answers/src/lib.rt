@@ -4,5 +4,6 @@
 
 mod bench;
 mod line;
+mod meeting;
 
 pub use crate::bench::{Asked, Bench};

@@ -13,10 +13,14 @@ pub enum Line<'a> {
     FailingFile(u64),
     /// `! put N`: call N on the output fails.
     FailingPut(u64),
+    /// `! room N`: so many bytes are reserved for what each run puts.
+    Room(u64),
     /// `$ WORDS`: a run over the files.
     Run(&'a str),
     /// `? WORDS`: a run of whose lines the first words alone are told.
     RunInBrief(&'a str),
+    /// `& WORDS`: a run whose first check waits for the second one; whether it met it is told.
+    RunToMeet(&'a str),
     /// `.`: the files go.
     End,
     /// `# ..`
@@ -45,11 +49,17 @@ pub fn line_of(text: &str) -> Line<'_> {
     if let Some(call) = text.strip_prefix("! put ") {
         return Line::FailingPut(number(call));
     }
+    if let Some(bytes) = text.strip_prefix("! room ") {
+        return Line::Room(number(bytes));
+    }
     if let Some(words) = text.strip_prefix("$ ") {
         return Line::Run(words);
     }
     if let Some(words) = text.strip_prefix("? ") {
         return Line::RunInBrief(words);
+    }
+    if let Some(words) = text.strip_prefix("& ") {
+        return Line::RunToMeet(words);
     }
     if text.starts_with("# ") {
         return Line::Comment;
