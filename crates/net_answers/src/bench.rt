@@ -2,8 +2,7 @@
 
 use crate::part::{node_at, numbers_from, word};
 use crate::{make, runs, show, store};
-use anyhow::Result;
-use fv_base::List;
+use fv_base::{List, Memory};
 use std::alloc::Global;
 use wn_net::{Net, NodeId, State};
 
@@ -27,71 +26,65 @@ impl Bench {
     }
 
     /// What the parts of a line say, with `;` between two.
-    pub(crate) fn answer(&mut self, line: &str) -> Result<String> {
+    pub(crate) fn answer(&mut self, line: &str) -> Result<String, Memory> {
         let mut said = String::new(self.alloc);
         for part in line.split(';') {
-            let answer = self.part(part.trim())?;
-            if !said.is_empty() && !answer.is_empty() {
-                said.push_str("; ")?;
-            }
-            said.push_str(answer.as_str())?;
+            self.put_part(&mut said, part.trim())?;
         }
         Ok(said)
     }
 
-    /// What a part says; nothing where it is one that makes a node and fits.
-    fn part(&mut self, part: &str) -> Result<String> {
-        let said = match word(part, 0) {
-            "regs" => self.set_regs(part)?,
-            "words" => self.add_words(part)?,
-            "copy" => self.copied()?,
-            "undo" => self.undone(node_at(part, 1))?,
-            "eval" => self.evaluated(part)?,
-            "step" => self.stepped(part)?,
+    /// Adds what a part says; nothing where it is one that makes a node and fits.
+    fn put_part(&mut self, said: &mut String, part: &str) -> Result<(), Memory> {
+        let mut answer = String::new(self.alloc);
+        let fits = self.part(&mut answer, part)?;
+        put(said, if fits { answer.as_str() } else { "refused" })
+    }
+
+    /// Does what a part says, and writes its answer. Whether it fits the net, as the methods behind this one say too.
+    fn part(&mut self, out: &mut String, part: &str) -> Result<bool, Memory> {
+        match word(part, 0) {
+            "regs" => self.set_regs(part),
+            "words" => self.add_words(part),
+            "copy" => self.copied(),
+            "undo" => self.undone(out, node_at(part, 1)),
+            "eval" => self.evaluated(out, part),
+            "step" => self.stepped(out, part),
             "sources" | "places" | "run" | "gates" | "clauses" => runs::answer(
-                self.alloc, &self.net, part,
-            )?,
-            _ => self.made(part)?,
-        };
-        match said {
-            Some(said) => Ok(said),
-            None => Ok(String::from_str(self.alloc, "refused")?),
+                self.alloc, &self.net, out, part,
+            ),
+            _ => self.made(part),
         }
     }
 
-    fn nothing(&self) -> Option<String> {
-        Some(String::new(self.alloc))
+    fn made(&mut self, part: &str) -> Result<bool, Memory> {
+        match store::change(self.alloc, &mut self.net, part)? {
+            Some(fits) => Ok(fits),
+            None => make::node(&mut self.net, part),
+        }
     }
 
-    fn made(&mut self, part: &str) -> Result<Option<String>> {
-        let fits = match store::change(self.alloc, &mut self.net, part)? {
-            Some(fits) => fits,
-            None => make::node(&mut self.net, part)?,
-        };
-        if fits { Ok(self.nothing()) } else { Ok(None) }
-    }
-
-    fn set_regs(&mut self, part: &str) -> Result<Option<String>> {
+    fn set_regs(&mut self, part: &str) -> Result<bool, Memory> {
         self.state.regs = List::from_vec(numbers_from(self.alloc, part, 1)?);
-        Ok(self.nothing())
+        Ok(true)
     }
 
-    fn add_words(&mut self, part: &str) -> Result<Option<String>> {
+    fn add_words(&mut self, part: &str) -> Result<bool, Memory> {
         let words = numbers_from(self.alloc, part, 1)?;
         self.state.mems.push(List::from_vec(words))?;
-        Ok(self.nothing())
+        Ok(true)
     }
 
     /// The rest of the line is about a copy.
-    fn copied(&mut self) -> Result<Option<String>> {
+    fn copied(&mut self) -> Result<bool, Memory> {
         self.net = self.net.copy()?;
-        Ok(self.nothing())
+        Ok(true)
     }
 
     /// The nodes with one more, and without it again.
-    fn undone(&mut self, a: NodeId) -> Result<Option<String>> {
+    fn undone(&mut self, out: &mut String, a: NodeId) -> Result<bool, Memory> {
         if !self.net.has(a) {
-            return Ok(None);
+            return Ok(false);
         }
         let nodes = self.net.nodes().len();
         let regs = self.net.regs().len();
@@ -99,52 +92,64 @@ impl Bench {
         let more = self.net.nodes().len();
         self.net.cut(nodes, regs);
         let fewer = self.net.nodes().len();
-        Ok(Some(format!(in self.alloc; "{more} {fewer}")?))
+        write!(out, "{more} {fewer}")?;
+        Ok(true)
     }
 
-    fn evaluated(&mut self, part: &str) -> Result<Option<String>> {
+    fn evaluated(&self, out: &mut String, part: &str) -> Result<bool, Memory> {
         let inputs = numbers_from(self.alloc, part, 2)?;
         if !self.net.admits(inputs.as_slice(), &self.state) {
-            return Ok(None);
+            return Ok(false);
         }
         let mut values = vec![in self.alloc; 0u128; self.net.nodes().len()]?;
         self.net
             .eval(inputs.as_slice(), &self.state, values.as_mut_slice());
-        self.valued(node_at(part, 1), values.as_slice())
+        self.put_value(out, node_at(part, 1), values.as_slice())
     }
 
-    fn stepped(&mut self, part: &str) -> Result<Option<String>> {
+    fn stepped(&mut self, out: &mut String, part: &str) -> Result<bool, Memory> {
         let inputs = numbers_from(self.alloc, part, 2)?;
         if !self.net.admits(inputs.as_slice(), &self.state) {
-            return Ok(None);
+            return Ok(false);
         }
         let mut values = vec![in self.alloc; 0u128; self.net.nodes().len()]?;
         self.net
             .step(inputs.as_slice(), &mut self.state, values.as_mut_slice());
-        let Some(mut said) = self.valued(node_at(part, 1), values.as_slice())? else {
-            return Ok(None);
-        };
-        let regs = show::numbers(self.alloc, self.state.regs.as_slice())?;
-        said.push_str(" ")?;
-        said.push_str(regs.as_str())?;
-        for words in self.state.mems.as_slice() {
-            said.push_str(show::numbers(self.alloc, words.as_slice())?.as_str())?;
+        self.put_cycle(out, node_at(part, 1), values.as_slice())
+    }
+
+    /// A node, and the registers and memories behind the cycle.
+    fn put_cycle(&self, out: &mut String, node: NodeId, values: &[u128]) -> Result<bool, Memory> {
+        if !self.put_value(out, node, values)? {
+            return Ok(false);
         }
-        Ok(Some(said))
+        out.push_str(" ")?;
+        show::put_numbers(out, self.state.regs.as_slice())?;
+        for words in self.state.mems.as_slice() {
+            show::put_numbers(out, words.as_slice())?;
+        }
+        Ok(true)
     }
 
     /// Width and number of a node.
-    fn valued(&self, node: NodeId, values: &[u128]) -> Result<Option<String>> {
+    fn put_value(&self, out: &mut String, node: NodeId, values: &[u128]) -> Result<bool, Memory> {
         if !self.net.has(node) {
-            return Ok(None);
+            return Ok(false);
         }
-        let width = self.net.width(node);
-        match values.get(node as usize) {
-            Some(value) => {
-                let number = show::number(self.alloc, *value)?;
-                Ok(Some(format!(in self.alloc; "{width} {number}")?))
-            }
-            None => Ok(None),
-        }
+        let Some(value) = values.get(node as usize) else {
+            return Ok(false);
+        };
+        write!(out, "{} ", self.net.width(node))?;
+        show::put_number(out, *value)?;
+        Ok(true)
     }
+}
+
+/// Adds an answer, with `;` before it where another stands there.
+fn put(said: &mut String, answer: &str) -> Result<(), Memory> {
+    if !said.is_empty() && !answer.is_empty() {
+        said.push_str("; ")?;
+    }
+    said.push_str(answer)?;
+    Ok(())
 }

@@ -44,5 +44,5 @@ use std::alloc::Global;
 
 /// The answer to the case of a line: those to its parts that ask or don't fit, with `;` between them.
 pub fn answer(alloc: Global, line: &str) -> Result<String> {
-    Bench::new(alloc).answer(line)
+    Ok(Bench::new(alloc).answer(line)?)
 }

@@ -44,10 +44,8 @@ pub(crate) fn node_at(part: &str, place: usize) -> u64 {
 /// The numbers from a place on.
 pub(crate) fn numbers_from(alloc: Global, part: &str, place: usize) -> Result<Vec<u128>, Memory> {
     let mut numbers = Vec::new(alloc);
-    for (index, word) in part.split(' ').enumerate() {
-        if index >= place {
-            numbers.push(number(word))?;
-        }
+    for word in part.split(' ').skip(place) {
+        numbers.push(number(word))?;
     }
     Ok(numbers)
 }

@@ -2,70 +2,71 @@
 
 use crate::part::{node_at, numbers_from, short_at, word};
 use crate::show;
-use anyhow::Result;
 use bb_aig::Lit;
 use bm_clauses::{RunClauses, clauses_of_runs};
 use bm_unroll::{Source, is_within};
 use cnf_form::{Formula, clause_at};
+use fv_base::Memory;
 use std::alloc::Global;
 use wn_net::Net;
 
-/// The answer to a part; None where it doesn't fit the net.
-pub(crate) fn answer(alloc: Global, net: &Net, part: &str) -> Result<Option<String>> {
-    let Some(made) = made(alloc, net, part)? else {
-        return Ok(None);
-    };
-    match word(part, 0) {
-        "sources" => sources(alloc, made.frames.sources.as_slice()),
-        "places" => places(alloc, &made),
-        "gates" => gates(alloc, &made),
-        "clauses" => clauses(alloc, &made.encoded.formula),
-        _ => run(alloc, &made, numbers_from(alloc, part, 4)?.as_slice()),
-    }
-}
-
-/// The clauses of the runs that a part names.
-fn made(alloc: Global, net: &Net, part: &str) -> Result<Option<RunClauses>> {
+/// Writes the answer to a part, of the clauses of the runs that it names. Whether it fits the net.
+pub(crate) fn answer(
+    alloc: Global,
+    net: &Net,
+    out: &mut String,
+    part: &str,
+) -> Result<bool, Memory> {
     let cycle = short_at(part, 1);
     let bad = node_at(part, 2);
     let node = node_at(part, 3);
     if cycle > 100 || !net.has(bad) || !net.has(node) || !is_within(net) {
-        return Ok(None);
+        return Ok(false);
     }
-    Ok(Some(clauses_of_runs(alloc, net, bad, &[node], cycle)?))
+    let made = clauses_of_runs(alloc, net, bad, &[node], cycle)?;
+    put(alloc, out, &made, part)
+}
+
+fn put(alloc: Global, out: &mut String, made: &RunClauses, part: &str) -> Result<bool, Memory> {
+    match word(part, 0) {
+        "sources" => put_sources(out, made.frames.sources.as_slice())?,
+        "places" => put_places(out, made)?,
+        "gates" => put_gates(out, made)?,
+        "clauses" => put_clauses(out, &made.encoded.formula)?,
+        _ => return run(alloc, out, made, numbers_from(alloc, part, 4)?.as_slice()),
+    }
+    Ok(true)
+}
+
+/// Before each part but the first.
+fn put_comma(out: &mut String) -> Result<(), Memory> {
+    if !out.is_empty() {
+        out.push_str(", ")?;
+    }
+    Ok(())
 }
 
 /// An input by its number and its cycle, or by its number alone; a register; a word of a memory.
-fn sources(alloc: Global, sources: &[Source]) -> Result<Option<String>> {
-    let mut said = String::new(alloc);
+fn put_sources(out: &mut String, sources: &[Source]) -> Result<(), Memory> {
     for source in sources {
-        if !said.is_empty() {
-            said.push_str(", ")?;
+        put_comma(out)?;
+        match source {
+            Source::Each(input, cycle) => write!(out, "input {input} of {cycle}")?,
+            Source::Once(input) => write!(out, "input {input}")?,
+            Source::RegStart(reg) => write!(out, "register {reg}")?,
+            Source::WordStart(mem, word) => write!(out, "word {word} of {mem}")?,
         }
-        let text = match source {
-            Source::Each(input, cycle) => format!(in alloc; "input {input} of {cycle}")?,
-            Source::Once(input) => format!(in alloc; "input {input}")?,
-            Source::RegStart(reg) => format!(in alloc; "register {reg}")?,
-            Source::WordStart(mem, word) => format!(in alloc; "word {word} of {mem}")?,
-        };
-        said.push_str(text.as_str())?;
     }
-    Ok(Some(said))
+    Ok(())
 }
 
 /// The number of a source, a bit of it, and the node of the graph that is this bit.
-fn places(alloc: Global, made: &RunClauses) -> Result<Option<String>> {
-    let mut said = String::new(alloc);
+fn put_places(out: &mut String, made: &RunClauses) -> Result<(), Memory> {
     for place in made.encoded.blasted.places.as_slice() {
-        if !said.is_empty() {
-            said.push_str(", ")?;
-        }
-        let source = place.source;
-        let bit = place.bit;
-        let node = place.node;
-        said.push_str(format!(in alloc; "{source}.{bit} {node}")?.as_str())?;
+        put_comma(out)?;
+        write!(out, "{}.{} {}", place.source, place.bit, place.node)?;
     }
-    Ok(Some(said))
+    Ok(())
 }
 
 /// The literals of the watched node.
@@ -76,30 +77,29 @@ fn watched(made: &RunClauses) -> &[Lit] {
     }
 }
 
-fn gates(alloc: Global, made: &RunClauses) -> Result<Option<String>> {
+fn put_gates(out: &mut String, made: &RunClauses) -> Result<(), Memory> {
     let nodes = made.encoded.blasted.graph.len();
     let clauses = made.encoded.formula.len();
-    let mut said = format!(in alloc; "{nodes} nodes, {clauses} clauses:")?;
+    write!(out, "{nodes} nodes, {clauses} clauses:")?;
     for lit in watched(made) {
-        said.push_str(format!(in alloc; " {lit}")?.as_str())?;
+        write!(out, " {lit}")?;
     }
-    Ok(Some(said))
+    Ok(())
 }
 
-fn clauses(alloc: Global, formula: &Formula) -> Result<Option<String>> {
-    let vars = formula.vars();
-    let mut said = format!(in alloc; "{vars} variables")?;
+fn put_clauses(out: &mut String, formula: &Formula) -> Result<(), Memory> {
+    write!(out, "{} variables", formula.vars())?;
     for index in 0..formula.len() {
-        said.push_str(":")?;
+        out.push_str(":")?;
         for lit in clause_at(formula, index) {
-            said.push_str(format!(in alloc; " {lit}")?.as_str())?;
+            write!(out, " {lit}")?;
         }
     }
-    Ok(Some(said))
+    Ok(())
 }
 
 /// The bits of numbers of these widths, the lowest first.
-fn bits(alloc: Global, widths: &[u32], numbers: &[u128]) -> Result<Vec<bool>> {
+fn bits(alloc: Global, widths: &[u32], numbers: &[u128]) -> Result<Vec<bool>, Memory> {
     let mut bits = Vec::new(alloc);
     for (index, width) in widths.iter().enumerate() {
         let mut left = numbers.get(index).copied().unwrap_or(0);
@@ -119,20 +119,28 @@ fn is_true(values: &[bool], lit: Lit) -> bool {
 }
 
 /// Whether the root is true, and the number of the watched node, where sources have these numbers.
-fn run(alloc: Global, made: &RunClauses, numbers: &[u128]) -> Result<Option<String>> {
+fn run(
+    alloc: Global,
+    out: &mut String,
+    made: &RunClauses,
+    numbers: &[u128],
+) -> Result<bool, Memory> {
     let graph = &made.encoded.blasted.graph;
     let widths = made.frames.widths.as_slice();
     let bits = bits(alloc, widths, numbers)?;
     if numbers.len() != widths.len() || bits.len() as u64 != graph.inputs() {
-        return Ok(None);
+        return Ok(false);
     }
     let mut values = vec![in alloc; false; graph.len()]?;
     graph.eval(bits.as_slice(), values.as_mut_slice());
-    let values = values.as_slice();
-    let is_bad = is_true(values, made.encoded.blasted.root);
-    let number = number_of(values, watched(made));
-    let number = show::number(alloc, number)?;
-    Ok(Some(format!(in alloc; "{is_bad} {number}")?))
+    put_end(out, made, values.as_slice())
+}
+
+/// The root and the watched node where the nodes of the graph have these values.
+fn put_end(out: &mut String, made: &RunClauses, values: &[bool]) -> Result<bool, Memory> {
+    write!(out, "{} ", is_true(values, made.encoded.blasted.root))?;
+    show::put_number(out, number_of(values, watched(made)))?;
+    Ok(true)
 }
 
 /// The number whose bits the literals are, the lowest first.

@@ -1,27 +1,28 @@
 //! Numbers and lists as text.
 
-use std::alloc::{AllocError, Global};
+use fv_base::Memory;
 
 /// In hexadecimal digits behind `0x`.
-pub(crate) fn number(alloc: Global, number: u128) -> Result<String, AllocError> {
+pub(crate) fn put_number(out: &mut String, number: u128) -> Result<(), Memory> {
     let high = (number >> 64) as u64;
     let low = (number % (1 << 64)) as u64;
     if high == 0 {
-        format!(in alloc; "0x{low:x}")
+        write!(out, "0x{low:x}")?;
     } else {
-        format!(in alloc; "0x{high:x}{low:016x}")
+        write!(out, "0x{high:x}{low:016x}")?;
     }
+    Ok(())
 }
 
 /// Numbers with a blank between two, in square brackets.
-pub(crate) fn numbers(alloc: Global, numbers: &[u128]) -> Result<String, AllocError> {
-    let mut text = String::from_str(alloc, "[")?;
-    for (index, found) in numbers.iter().enumerate() {
+pub(crate) fn put_numbers(out: &mut String, numbers: &[u128]) -> Result<(), Memory> {
+    out.push_str("[")?;
+    for (index, number) in numbers.iter().enumerate() {
         if index > 0 {
-            text.push_str(" ")?;
+            out.push_str(" ")?;
         }
-        text.push_str(number(alloc, *found)?.as_str())?;
+        put_number(out, *number)?;
     }
-    text.push_str("]")?;
-    Ok(text)
+    out.push_str("]")?;
+    Ok(())
 }
