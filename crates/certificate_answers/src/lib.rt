@@ -12,16 +12,23 @@ use std::alloc::Global;
 
 /// The answer to a case that its first word names; None where there is no such case here.
 pub fn answer(alloc: Global, word: &str, text: &[u8]) -> Result<Option<String>, Memory> {
-    let answer = match word {
-        "proof" => certificate::judged(alloc, text)?,
-        "cut-proof" => certificate::cut(alloc, text)?,
-        "many-ids" => certificate::many_ids(alloc)?,
-        "again" => certificate::again(alloc, text)?,
-        "formula" => certificate::held(alloc)?,
-        "store" => certificate::stored(alloc)?,
-        "search" => search::found(alloc, text)?,
-        "random" => search::random(alloc, text)?,
-        _ => return Ok(None),
-    };
-    Ok(Some(answer))
+    let mut out = String::new(alloc);
+    let is_case = put(alloc, &mut out, word, text)?;
+    Ok(if is_case { Some(out) } else { None })
+}
+
+/// Writes the answer; whether there is such a case.
+fn put(alloc: Global, out: &mut String, word: &str, text: &[u8]) -> Result<bool, Memory> {
+    match word {
+        "proof" => certificate::put_judged(alloc, out, text)?,
+        "cut-proof" => certificate::put_cut(alloc, out, text)?,
+        "many-ids" => certificate::put_many_ids(alloc, out)?,
+        "again" => certificate::put_again(alloc, out, text)?,
+        "formula" => certificate::put_held(alloc, out)?,
+        "store" => certificate::put_stored(alloc, out)?,
+        "search" => search::put_found(alloc, out, text)?,
+        "random" => search::put_random(alloc, out, text)?,
+        _ => return Ok(false),
+    }
+    Ok(true)
 }

@@ -9,9 +9,9 @@ use sat_search::{Found, solve};
 use std::alloc::Global;
 
 /// How the search over `BUDGET|CLAUSES` ends.
-pub(crate) fn found(alloc: Global, text: &[u8]) -> Result<String, Memory> {
+pub(crate) fn put_found(alloc: Global, out: &mut String, text: &[u8]) -> Result<(), Memory> {
     let (budget, cnf) = escape::parted(text);
-    answer(alloc, number(budget), cnf)
+    put_answer(alloc, out, number(budget), cnf)
 }
 
 /// The number of digits.
@@ -24,27 +24,42 @@ fn number(digits: &[u8]) -> u64 {
 
 /// `model`, `refuted`, or `spent` with the number of steps; with `wrong` before it where the values or the steps don't
 /// hold.
-fn answer(alloc: Global, budget: u64, cnf: &[u8]) -> Result<String, Memory> {
-    let Ok(formula) = read_dimacs(alloc, cnf) else {
-        return Ok("no clauses".to_string(alloc)?);
-    };
-    if budget == 0 {
-        return Ok("no budget".to_string(alloc)?);
-    }
-    match solve(alloc, &formula, budget)? {
-        Found::Model(values) => said(alloc, all_true(&values, &formula), "model"),
-        Found::Refuted(steps) => said(
-            alloc,
-            verify(alloc, &formula, steps.as_slice()).is_ok(),
-            "refuted",
-        ),
-        Found::Spent(steps) => Ok(format!(in alloc; "spent {}", steps.len())?),
+fn put_answer(alloc: Global, out: &mut String, budget: u64, cnf: &[u8]) -> Result<(), Memory> {
+    match read_dimacs(alloc, cnf) {
+        Ok(formula) => put_end(alloc, out, budget, &formula),
+        Err(_) => put(out, "no clauses"),
     }
 }
 
-fn said(alloc: Global, holds: bool, word: &str) -> Result<String, Memory> {
+fn put_end(alloc: Global, out: &mut String, budget: u64, formula: &Formula) -> Result<(), Memory> {
+    if budget == 0 {
+        return put(out, "no budget");
+    }
+    match solve(alloc, formula, budget)? {
+        Found::Model(values) => put_checked(out, all_true(&values, formula), "model"),
+        Found::Refuted(steps) => put_checked(
+            out,
+            verify(alloc, formula, steps.as_slice()).is_ok(),
+            "refuted",
+        ),
+        Found::Spent(steps) => put_spent(out, steps.len()),
+    }
+}
+
+fn put(out: &mut String, text: &str) -> Result<(), Memory> {
+    out.push_str(text)?;
+    Ok(())
+}
+
+fn put_checked(out: &mut String, holds: bool, word: &str) -> Result<(), Memory> {
     let mark = if holds { "" } else { "wrong " };
-    Ok(format!(in alloc; "{mark}{word}")?)
+    write!(out, "{mark}{word}")?;
+    Ok(())
+}
+
+fn put_spent(out: &mut String, steps: usize) -> Result<(), Memory> {
+    write!(out, "spent {steps}")?;
+    Ok(())
 }
 
 fn all_true(values: &List<bool>, formula: &Formula) -> bool {
@@ -68,20 +83,31 @@ fn next(seed: u64) -> u64 {
 }
 
 /// How the search ends over random clauses of three literals, 43 for each ten variables, from `SEED|VARIABLES`.
-pub(crate) fn random(alloc: Global, text: &[u8]) -> Result<String, Memory> {
+pub(crate) fn put_random(alloc: Global, out: &mut String, text: &[u8]) -> Result<(), Memory> {
+    let mut cnf = String::new(alloc);
+    put_clauses(&mut cnf, text)?;
+    put_answer(alloc, out, 200000, cnf.as_bytes())
+}
+
+fn put_clauses(cnf: &mut String, text: &[u8]) -> Result<(), Memory> {
     let (seed, vars) = escape::parted(text);
     let vars = number(vars).min(1000).max(1);
     let count = vars * 43 / 10;
-    let mut cnf = format!(in alloc; "p cnf {vars} {count}\n")?;
+    write!(cnf, "p cnf {vars} {count}\n")?;
     let mut state = next(number(seed));
     for _ in 0..count {
         for _ in 0..3u8 {
             let var = next(state);
             state = next(var);
-            let sign = if state / 65536 % 2 == 0 { "" } else { "-" };
-            write!(cnf, "{sign}{} ", var / 256 % vars + 1)?;
+            put_literal(cnf, state / 65536 % 2 == 0, var / 256 % vars + 1)?;
         }
-        cnf.push_str("0\n")?;
+        put(cnf, "0\n")?;
     }
-    answer(alloc, 200000, cnf.as_bytes())
+    Ok(())
+}
+
+fn put_literal(cnf: &mut String, is_plain: bool, var: u64) -> Result<(), Memory> {
+    let sign = if is_plain { "" } else { "-" };
+    write!(cnf, "{sign}{var} ")?;
+    Ok(())
 }
