@@ -19,8 +19,6 @@ pub(crate) enum Line<'a> {
     Constant(&'a str),
     /// A directive of the preprocessor.
     Directive(&'a str),
-    /// Any other line, which says nothing.
-    Comment,
 }
 
 /// The first word, and what stands behind it.
@@ -33,23 +31,19 @@ fn number(text: &str) -> u32 {
     text.parse::<u32>().unwrap_or(0)
 }
 
-pub(crate) fn line_of(text: &str) -> Line<'_> {
+/// What the line asks, or None where it begins with no such word and says nothing.
+pub(crate) fn line_of(text: &str) -> Option<Line<'_>> {
     let (word, rest) = first_word(text);
+    let (next, last) = first_word(rest);
     match word {
-        "names" => Line::Names(rest),
-        "count" => Line::Count(number(rest)),
-        "find" => Line::Find(rest),
-        "set" => {
-            let (name, value) = first_word(rest);
-            Line::Set(name, value)
-        }
-        "size" => Line::Size(rest),
-        "into" => {
-            let (width, expr) = first_word(rest);
-            Line::Into(number(width), expr)
-        }
-        "constant" => Line::Constant(rest),
-        "`define" => Line::Directive(text),
-        _ => Line::Comment,
+        "names" => Some(Line::Names(rest)),
+        "count" => Some(Line::Count(number(rest))),
+        "find" => Some(Line::Find(rest)),
+        "set" => Some(Line::Set(next, last)),
+        "size" => Some(Line::Size(rest)),
+        "into" => Some(Line::Into(number(next), last)),
+        "constant" => Some(Line::Constant(rest)),
+        "`define" => Some(Line::Directive(text)),
+        _ => None,
     }
 }

@@ -9,7 +9,7 @@ use fv_base::Text;
 use std::alloc::Global;
 use vl_mean::{Params, constant};
 use vl_size::{Class, Decl, Decls};
-use vl_tree::{Declaration, Expr, ItemKind, Parameter, Range, Source};
+use vl_tree::{Declaration, Expr, Item, ItemKind, Parameter, Range, Source};
 
 /// A bound of a range: a constant that is read by its sign.
 fn bound(alloc: Global, expr: &Expr, params: &Params) -> Result<i64> {
@@ -122,17 +122,25 @@ fn set_all(alloc: Global, params: &mut Params, all: &[Parameter]) -> Result<()> 
     Ok(())
 }
 
+/// The names or parameters of an item.
+fn declare_item(alloc: Global, decls: &mut Decls, params: &mut Params, item: &Item) -> Result<()>
+    requires { All IsPlain decls.old }
+    ensures { All IsPlain decls.new }
+{
+    match &item.kind {
+        ItemKind::Declaration(of) => declare_all(alloc, decls, of, params),
+        ItemKind::Parameter(_, all) => set_all(alloc, params, all.as_slice()),
+        _ => Err(anyhow!("an item that declares no name")),
+    }
+}
+
 /// What the items of a text declare.
 pub(crate) fn names_of(alloc: Global, source: &Source) -> Result<(Decls, Params)> {
     let mut decls = Decls::new(alloc);
     let mut params = Params::new(alloc);
     for module in source.modules.as_slice() {
         for item in module.items.as_slice() {
-            match &item.kind {
-                ItemKind::Declaration(of) => declare_all(alloc, &mut decls, of, &params)?,
-                ItemKind::Parameter(_, all) => set_all(alloc, &mut params, all.as_slice())?,
-                _ => return Err(anyhow!("an item that declares no name")),
-            }
+            declare_item(alloc, &mut decls, &mut params, item)?;
         }
     }
     Ok((decls, params))

@@ -8,6 +8,15 @@ fn sign(signed: bool) -> &'static str {
     if signed { "signed" } else { "unsigned" }
 }
 
+/// What a line says, behind the line itself, or behind its length where this is more than 120 bytes.
+pub(crate) fn behind(alloc: Global, line: &str, said: &str) -> Result<String, AllocError> {
+    if line.len() > 120 {
+        let front = line.len();
+        return format!(in alloc; "{front} bytes: {said}");
+    }
+    format!(in alloc; "{line}: {said}")
+}
+
 /// A size with a sign, or that there is none.
 pub(crate) fn size(alloc: Global, size: Option<u32>, signed: bool) -> Result<String, AllocError> {
     match size {
