@@ -30,35 +30,56 @@ mod source;
 mod text;
 
 use anyhow::Result;
-use std::alloc::Global;
+use std::alloc::{AllocError, Global};
 
 /// The answer to the case of a line. An error is want of memory, or a refusal where the table names none.
 pub fn answer(alloc: Global, line: &str) -> Result<String> {
     let (word, rest) = line.split_once(' ').unwrap_or((line, ""));
     let parts = parts::parts(alloc, rest.as_bytes())?;
+    let mut out = String::new(alloc);
+    answer_word(alloc, &mut out, word, parts.as_slice())?;
+    Ok(out)
+}
+
+/// Writes what the word asks of the texts. It owns nothing, so that none of its arms has to drop anything.
+fn answer_word(alloc: Global, out: &mut String, word: &str, parts: &[Vec<u8>]) -> Result<()> {
+    let text = first(parts);
     match word {
-        "tokens" => text::tokens(alloc, part(&parts, 0)),
-        "prepare" => text::prepared(alloc, part(&parts, 0)),
-        "files" => text::files(alloc, parts.as_slice()),
-        "defined" => text::defined(alloc, parts.as_slice()),
-        "predefined" => text::predefined(alloc, false, part(&parts, 0)),
-        "compressed" => text::predefined(alloc, true, part(&parts, 0)),
-        "parse" => text::parsed(alloc, part(&parts, 0)),
-        "items" => text::items(alloc, part(&parts, 0)),
-        "nest" => large::nest(alloc, parts.as_slice()),
-        "shape" => text::shape(alloc, part(&parts, 0)),
-        "source" => source::read(alloc, parts.as_slice()),
-        "lexed" => large::lexed(alloc, part(&parts, 0)),
-        "tower" => large::tower(alloc, parts.as_slice(), false),
-        "towers" => large::tower(alloc, parts.as_slice(), true),
-        "room" => large::room(alloc, part(&parts, 0)),
-        _ => Ok(String::from_str(alloc, "no such word")?),
+        "prepare" => text::prepared(alloc, out, text),
+        "files" => text::files(alloc, out, parts),
+        "defined" => text::defined(alloc, out, parts),
+        "predefined" => text::predefined(alloc, out, false, text),
+        "compressed" => text::predefined(alloc, out, true, text),
+        "shape" => text::shape(alloc, out, text),
+        "tower" => large::tower(alloc, out, parts, false),
+        "towers" => large::tower(alloc, out, parts, true),
+        "room" => large::room(alloc, out, text),
+        _ => Ok(answer_each(alloc, out, word, parts)?),
     }
 }
 
-/// The part at this index, or the empty text.
-fn part(parts: &[Vec<u8>], index: usize) -> &[u8] {
-    match parts.get(index) {
+/// The words that answer each refusal, and fail for want of memory alone.
+fn answer_each(
+    alloc: Global,
+    out: &mut String,
+    word: &str,
+    parts: &[Vec<u8>],
+) -> Result<(), AllocError> {
+    let text = first(parts);
+    match word {
+        "tokens" => text::tokens(alloc, out, text),
+        "parse" => text::parsed(alloc, out, text),
+        "items" => text::items(alloc, out, text),
+        "nest" => large::nest(alloc, out, parts),
+        "source" => source::read(alloc, out, parts),
+        "lexed" => large::lexed(alloc, out, text),
+        _ => out.push_str("no such word"),
+    }
+}
+
+/// The first part, or the empty text.
+fn first(parts: &[Vec<u8>]) -> &[u8] {
+    match parts.get(0) {
         Some(part) => part.as_slice(),
         None => b"",
     }

@@ -1,146 +1,145 @@
-//! How tokens and refusals are printed. A place is its line and column, behind its file where that isn't file 1.
+//! How tokens and refusals are printed. A place is its line and column, behind its file where that isn't file 1. Each
+//! function writes behind what is there, so that none owns a text that an exit would drop.
 
-use anyhow::Result;
 use fv_base::{Kind, Number, Pos, Text, Token};
 use rvf_text::TextFault;
-use std::alloc::Global;
+use std::alloc::AllocError;
 use vl_parse::ParseFault;
 use vl_prep::PrepFault;
 use vl_token::LexFault;
 
 /// The bytes behind a word.
-pub(crate) fn word(alloc: Global, what: &str, bytes: &[u8]) -> Result<String> {
-    let mut out = String::from_str(alloc, what)?;
+pub(crate) fn word(out: &mut String, what: &str, bytes: &[u8]) -> Result<(), AllocError> {
+    out.push_str(what)?;
     for byte in bytes {
         out.push(char::from(*byte))?;
     }
-    Ok(out)
+    Ok(())
 }
 
 /// Width, size and sign, then the value and its wild and unknown bits.
-fn number(alloc: Global, number: &Number) -> Result<String> {
+fn number(out: &mut String, number: &Number) -> Result<(), AllocError> {
     let width = number.width;
     let sized = if number.sized { "sized" } else { "unsized" };
     let signed = if number.signed { "signed" } else { "unsigned" };
     let value = number.value;
     let wild = number.wild;
     let unknown = number.unknown;
-    Ok(format!(in alloc; "{width} {sized} {signed} {value} {wild} {unknown}")?)
+    write!(out, "{width} {sized} {signed} {value} {wild} {unknown}")
 }
 
 /// What a token is, and how it is written.
-fn kind(alloc: Global, kind: &Kind) -> Result<String> {
+fn kind(out: &mut String, kind: &Kind) -> Result<(), AllocError> {
     match kind {
-        Kind::Name(text) => word(alloc, "name ", text.bytes()),
-        Kind::Keyword(keyword) => word(alloc, "keyword ", keyword.text()),
-        Kind::Symbol(symbol) => word(alloc, "sign ", symbol.text()),
-        Kind::Number(found) => number(alloc, found),
-        Kind::System(text) => word(alloc, "system ", text.bytes()),
-        Kind::Tick(text) => word(alloc, "tick ", text.bytes()),
-        Kind::Quoted => word(alloc, "string", b""),
-        Kind::Continue => word(alloc, "continue", b""),
+        Kind::Name(text) => word(out, "name ", text.bytes()),
+        Kind::Keyword(keyword) => word(out, "keyword ", keyword.text()),
+        Kind::Symbol(symbol) => word(out, "sign ", symbol.text()),
+        Kind::Number(found) => number(out, found),
+        Kind::System(text) => word(out, "system ", text.bytes()),
+        Kind::Tick(text) => word(out, "tick ", text.bytes()),
+        Kind::Quoted => out.push_str("string"),
+        Kind::Continue => out.push_str("continue"),
     }
 }
 
 /// How a token is written; of a number its value.
-fn written(alloc: Global, kind: &Kind) -> Result<String> {
+fn written(out: &mut String, kind: &Kind) -> Result<(), AllocError> {
     match kind {
-        Kind::Name(text) | Kind::System(text) | Kind::Tick(text) => word(alloc, "", text.bytes()),
-        Kind::Keyword(keyword) => word(alloc, "", keyword.text()),
-        Kind::Symbol(symbol) => word(alloc, "", symbol.text()),
-        Kind::Number(number) => {
-            let value = number.value;
-            Ok(format!(in alloc; "{value}")?)
-        }
-        Kind::Quoted => word(alloc, "string", b""),
-        Kind::Continue => word(alloc, "continue", b""),
+        Kind::Name(text) | Kind::System(text) | Kind::Tick(text) => word(out, "", text.bytes()),
+        Kind::Keyword(keyword) => word(out, "", keyword.text()),
+        Kind::Symbol(symbol) => word(out, "", symbol.text()),
+        Kind::Number(number) => write!(out, "{}", number.value),
+        Kind::Quoted => out.push_str("string"),
+        Kind::Continue => out.push_str("continue"),
     }
 }
 
-pub(crate) fn place(alloc: Global, pos: Pos) -> Result<String> {
+fn place(out: &mut String, pos: Pos) -> Result<(), AllocError> {
     let file = pos.file;
     let line = pos.line;
     let col = pos.col;
     if file == 1 {
-        return Ok(format!(in alloc; "{line}:{col}")?);
+        return write!(out, "{line}:{col}");
     }
-    Ok(format!(in alloc; "{file}:{line}:{col}")?)
+    write!(out, "{file}:{line}:{col}")
 }
 
 /// Each token with its place, and what it is.
-pub(crate) fn tokens(alloc: Global, all: &[Token]) -> Result<String> {
-    let mut out = String::new(alloc);
+pub(crate) fn tokens(out: &mut String, all: &[Token]) -> Result<(), AllocError> {
     for token in all {
-        let place = place(alloc, token.pos)?;
-        let what = kind(alloc, &token.kind)?;
-        out.push_str(format!(in alloc; "{place} {what}; ")?.as_str())?;
+        place(out, token.pos)?;
+        out.push(' ')?;
+        kind(out, &token.kind)?;
+        out.push_str("; ")?;
     }
-    Ok(out)
+    Ok(())
 }
 
 /// Each token with its place, as it is written.
-pub(crate) fn output(alloc: Global, all: &[Token]) -> Result<String> {
-    let mut out = String::new(alloc);
+pub(crate) fn output(out: &mut String, all: &[Token]) -> Result<(), AllocError> {
     for token in all {
-        let place = place(alloc, token.pos)?;
-        let what = written(alloc, &token.kind)?;
-        out.push_str(format!(in alloc; "{place} {what}; ")?.as_str())?;
+        place(out, token.pos)?;
+        out.push(' ')?;
+        written(out, &token.kind)?;
+        out.push_str("; ")?;
     }
-    Ok(out)
+    Ok(())
 }
 
 /// The refusal's name, and its place.
-fn refused(alloc: Global, name: &str, pos: Pos) -> Result<String> {
-    let place = place(alloc, pos)?;
-    Ok(format!(in alloc; "{name} {place}")?)
+fn refused(out: &mut String, name: &str, pos: Pos) -> Result<(), AllocError> {
+    out.push_str(name)?;
+    out.push(' ')?;
+    place(out, pos)
 }
 
 /// The refusal's name, a text, and its place.
-fn refused_word(alloc: Global, name: &str, text: &Text, pos: Pos) -> Result<String> {
-    let text = word(alloc, "", text.bytes())?;
-    let place = place(alloc, pos)?;
-    Ok(format!(in alloc; "{name} {text} {place}")?)
+fn refused_word(out: &mut String, name: &str, text: &Text, pos: Pos) -> Result<(), AllocError> {
+    out.push_str(name)?;
+    word(out, " ", text.bytes())?;
+    out.push(' ')?;
+    place(out, pos)
 }
 
-pub(crate) fn lex_fault(alloc: Global, fault: LexFault) -> Result<String> {
+pub(crate) fn lex_fault(out: &mut String, fault: LexFault) -> Result<(), AllocError> {
     match fault {
-        LexFault::NotAscii(pos) => refused(alloc, "not ascii", pos),
-        LexFault::BadNumber(pos) => refused(alloc, "bad number", pos),
-        LexFault::OpenComment(pos) => refused(alloc, "open comment", pos),
-        LexFault::BadChar(pos) => refused(alloc, "bad char", pos),
-        LexFault::TooManyTokens(pos) => refused(alloc, "too many", pos),
-        LexFault::OpenString(pos) => refused(alloc, "open string", pos),
-        LexFault::Memory => word(alloc, "no memory", b""),
+        LexFault::NotAscii(pos) => refused(out, "not ascii", pos),
+        LexFault::BadNumber(pos) => refused(out, "bad number", pos),
+        LexFault::OpenComment(pos) => refused(out, "open comment", pos),
+        LexFault::BadChar(pos) => refused(out, "bad char", pos),
+        LexFault::TooManyTokens(pos) => refused(out, "too many", pos),
+        LexFault::OpenString(pos) => refused(out, "open string", pos),
+        LexFault::Memory => out.push_str("no memory"),
     }
 }
 
-pub(crate) fn prep_fault(alloc: Global, fault: &PrepFault) -> Result<String> {
+pub(crate) fn prep_fault(out: &mut String, fault: &PrepFault) -> Result<(), AllocError> {
     match fault {
-        PrepFault::UnknownMacro(name, pos) => refused_word(alloc, "unknown", name, *pos),
-        PrepFault::UnbalancedIf(pos) => refused(alloc, "unbalanced", *pos),
-        PrepFault::MacroArgs(pos) => refused(alloc, "arguments", *pos),
-        PrepFault::MacroDepth(pos) => refused(alloc, "depth", *pos),
-        PrepFault::Include(pos) => refused(alloc, "include", *pos),
-        PrepFault::TooManyTokens(pos) => refused(alloc, "too many", *pos),
-        PrepFault::NoName(pos) => refused(alloc, "no name", *pos),
-        PrepFault::Memory => word(alloc, "no memory", b""),
+        PrepFault::UnknownMacro(name, pos) => refused_word(out, "unknown", name, *pos),
+        PrepFault::UnbalancedIf(pos) => refused(out, "unbalanced", *pos),
+        PrepFault::MacroArgs(pos) => refused(out, "arguments", *pos),
+        PrepFault::MacroDepth(pos) => refused(out, "depth", *pos),
+        PrepFault::Include(pos) => refused(out, "include", *pos),
+        PrepFault::TooManyTokens(pos) => refused(out, "too many", *pos),
+        PrepFault::NoName(pos) => refused(out, "no name", *pos),
+        PrepFault::Memory => out.push_str("no memory"),
     }
 }
 
-pub(crate) fn parse_fault(alloc: Global, fault: &ParseFault) -> Result<String> {
+pub(crate) fn parse_fault(out: &mut String, fault: &ParseFault) -> Result<(), AllocError> {
     match fault {
-        ParseFault::Syntax(pos) => refused(alloc, "syntax", *pos),
-        ParseFault::TooDeep(pos) => refused(alloc, "deep", *pos),
-        ParseFault::Outside(pos, text) => refused_word(alloc, "outside", text, *pos),
-        ParseFault::Memory => word(alloc, "no memory", b""),
+        ParseFault::Syntax(pos) => refused(out, "syntax", *pos),
+        ParseFault::TooDeep(pos) => refused(out, "deep", *pos),
+        ParseFault::Outside(pos, text) => refused_word(out, "outside", text, *pos),
+        ParseFault::Memory => out.push_str("no memory"),
     }
 }
 
-pub(crate) fn text_fault(alloc: Global, fault: &TextFault) -> Result<String> {
+pub(crate) fn text_fault(out: &mut String, fault: &TextFault) -> Result<(), AllocError> {
     match fault {
-        TextFault::Lex(fault) => lex_fault(alloc, *fault),
-        TextFault::Prep(fault) => prep_fault(alloc, fault),
-        TextFault::Parse(fault) => parse_fault(alloc, fault),
-        TextFault::Memory => word(alloc, "no memory", b""),
+        TextFault::Lex(fault) => lex_fault(out, *fault),
+        TextFault::Prep(fault) => prep_fault(out, fault),
+        TextFault::Parse(fault) => parse_fault(out, fault),
+        TextFault::Memory => out.push_str("no memory"),
     }
 }
