@@ -1,31 +1,36 @@
 //! Configurations: the checks with their cycles, the skipped lines and the files; or the refusal.
 
 use certificate_answers::{parted, put_escaped};
-use ck_cfg::{CfgFault, Check, Piece, checks, file_names, read_cfg};
+use ck_cfg::{CfgFault, Check, Config, Piece, checks, file_names, read_cfg};
 use fv_base::{Memory, Text};
 use std::alloc::Global;
 
 /// What depth lines come to, of which the first is line 4.
-pub(crate) fn of_depth(alloc: Global, lines: &[u8]) -> Result<String, Memory> {
+pub(crate) fn put_depth(alloc: Global, out: &mut String, lines: &[u8]) -> Result<(), Memory> {
     let mut text = Vec::from_slice(alloc, b"[options]\nisa rv32i\n[depth]\n")?;
     text.extend_from_slice(lines)?;
     text.extend_from_slice(b"\n[verilog-files]\nw.v\n")?;
-    reading(alloc, text.as_slice())
+    put_reading(alloc, out, text.as_slice())
 }
 
-pub(crate) fn reading(alloc: Global, text: &[u8]) -> Result<String, Memory> {
-    let mut out = String::new(alloc);
+pub(crate) fn put_reading(alloc: Global, out: &mut String, text: &[u8]) -> Result<(), Memory> {
     match read_cfg(alloc, text) {
-        Ok(config) => {
-            for check in checks(alloc, &config)?.as_slice() {
-                put_check(&mut out, check)?;
-            }
-            put_texts(&mut out, "skip", config.skips.as_slice())?;
-            put_texts(&mut out, "; files", config.files.as_slice())?;
-        }
-        Err(fault) => put_fault(&mut out, &fault)?,
+        Ok(config) => put_config(alloc, out, &config),
+        Err(fault) => put_fault(out, &fault),
     }
-    Ok(out)
+}
+
+fn put_config(alloc: Global, out: &mut String, config: &Config) -> Result<(), Memory> {
+    put_checks(out, checks(alloc, config)?.as_slice())?;
+    put_texts(out, "skip", config.skips.as_slice())?;
+    put_texts(out, "; files", config.files.as_slice())
+}
+
+fn put_checks(out: &mut String, checks: &[Check]) -> Result<(), Memory> {
+    for check in checks {
+        put_check(out, check)?;
+    }
+    Ok(())
 }
 
 fn put_check(out: &mut String, check: &Check) -> Result<(), Memory> {
@@ -69,21 +74,24 @@ fn parts(fault: &CfgFault) -> (u32, &[u8]) {
 }
 
 /// The pieces of Verilog text with the numbers of their lines, those of one kind with its name, and the assumptions.
-pub(crate) fn pieces(alloc: Global, text: &[u8]) -> Result<String, Memory> {
-    let mut out = String::new(alloc);
-    let Ok(config) = read_cfg(alloc, text) else {
-        return Ok(out);
-    };
+pub(crate) fn put_pieces(alloc: Global, out: &mut String, text: &[u8]) -> Result<(), Memory> {
+    match read_cfg(alloc, text) {
+        Ok(config) => put_pieces_of(out, &config),
+        Err(_) => Ok(()),
+    }
+}
+
+fn put_pieces_of(out: &mut String, config: &Config) -> Result<(), Memory> {
     for piece in config.defines.as_slice() {
-        put_piece(&mut out, b"all", piece)?;
+        put_piece(out, b"all", piece)?;
     }
     for kind_piece in config.kind_defines.as_slice() {
-        put_piece(&mut out, kind_piece.kind.name(), &kind_piece.piece)?;
+        put_piece(out, kind_piece.kind.name(), &kind_piece.piece)?;
     }
     for piece in config.assumes.as_slice() {
-        put_piece(&mut out, b"assume", piece)?;
+        put_piece(out, b"assume", piece)?;
     }
-    Ok(out)
+    Ok(())
 }
 
 fn put_piece(out: &mut String, mark: &[u8], piece: &Piece) -> Result<(), Memory> {
@@ -98,35 +106,56 @@ fn put_piece(out: &mut String, mark: &[u8], piece: &Piece) -> Result<(), Memory>
 }
 
 /// The name of a file, with the core's name and the base folder put in, from `NAME|CORE|FOLDER`.
-pub(crate) fn file(alloc: Global, text: &[u8]) -> Result<String, Memory> {
-    let mut out = String::new(alloc);
+pub(crate) fn put_file(alloc: Global, out: &mut String, text: &[u8]) -> Result<(), Memory> {
     let (name, rest) = parted(text);
-    let (core, basedir) = parted(rest);
     let mut source = Vec::from_slice(alloc, b"[depth]\nhang\n[verilog-files]\n")?;
     source.extend_from_slice(name)?;
-    let Ok(config) = read_cfg(alloc, source.as_slice()) else {
-        return Ok(out);
-    };
+    put_file_of(alloc, out, source.as_slice(), rest)
+}
+
+fn put_file_of(alloc: Global, out: &mut String, source: &[u8], rest: &[u8]) -> Result<(), Memory> {
+    match read_cfg(alloc, source) {
+        Ok(config) => put_names(alloc, out, &config, rest),
+        Err(_) => Ok(()),
+    }
+}
+
+/// The names of the configuration's files, from `CORE|FOLDER`.
+fn put_names(alloc: Global, out: &mut String, config: &Config, rest: &[u8]) -> Result<(), Memory> {
+    let (core, basedir) = parted(rest);
     let core = Text::from_bytes(alloc, core)?;
     let basedir = Text::from_bytes(alloc, basedir)?;
-    for name in file_names(alloc, &config, &core, &basedir)?.as_slice() {
-        put_escaped(&mut out, name.bytes())?;
+    put_all(out, file_names(alloc, config, &core, &basedir)?.as_slice())
+}
+
+fn put_all(out: &mut String, texts: &[Text]) -> Result<(), Memory> {
+    for text in texts {
+        put_escaped(out, text.bytes())?;
     }
-    Ok(out)
+    Ok(())
 }
 
 /// A section whose name has 100,000 letters, in line 2: the number and the line of its refusal, and how long its name
 /// is.
-pub(crate) fn long_section(alloc: Global) -> Result<String, Memory> {
+pub(crate) fn put_long_section(alloc: Global, out: &mut String) -> Result<(), Memory> {
+    let text = long_section(alloc)?;
+    match read_cfg(alloc, text.as_slice()) {
+        Ok(_) => Ok(()),
+        Err(fault) => put_length(out, &fault),
+    }
+}
+
+fn long_section(alloc: Global) -> Result<Vec<u8>, Memory> {
     let mut text = Vec::from_slice(alloc, b"# a comment\n[")?;
     for _ in 0..100000u32 {
         text.push(b'x')?;
     }
     text.push(b']')?;
-    let mut out = String::new(alloc);
-    if let Err(fault) = read_cfg(alloc, text.as_slice()) {
-        let (line, detail) = parts(&fault);
-        write!(out, "{} {line} {}", fault.number(), detail.len())?;
-    }
-    Ok(out)
+    Ok(text)
+}
+
+fn put_length(out: &mut String, fault: &CfgFault) -> Result<(), Memory> {
+    let (line, detail) = parts(fault);
+    write!(out, "{} {line} {}", fault.number(), detail.len())?;
+    Ok(())
 }

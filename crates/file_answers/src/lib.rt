@@ -17,22 +17,37 @@ pub fn answer(alloc: Global, line: &str) -> Result<String, Memory> {
         None => (line, ""),
     };
     let text = read_escaped(alloc, rest)?;
-    let text = text.as_slice();
+    let mut out = String::new(alloc);
+    put(alloc, &mut out, word, text.as_slice())?;
+    Ok(out)
+}
+
+fn put(alloc: Global, out: &mut String, word: &str, text: &[u8]) -> Result<(), Memory> {
     match word {
-        "depth" => config::of_depth(alloc, text),
-        "config" => config::reading(alloc, text),
-        "pieces" => config::pieces(alloc, text),
-        "file" => config::file(alloc, text),
-        "long-section" => config::long_section(alloc),
-        "dump" => dump::reading(alloc, text),
-        "cut-dump" => dump::cut(alloc, text),
-        _ => of_certificates(alloc, word, text),
+        "depth" => config::put_depth(alloc, out, text),
+        "config" => config::put_reading(alloc, out, text),
+        "pieces" => config::put_pieces(alloc, out, text),
+        "file" => config::put_file(alloc, out, text),
+        "long-section" => config::put_long_section(alloc, out),
+        "dump" => dump::put_reading(alloc, out, text),
+        "cut-dump" => dump::put_cut(alloc, out, text),
+        _ => put_certificate(alloc, out, word, text),
     }
 }
 
-fn of_certificates(alloc: Global, word: &str, text: &[u8]) -> Result<String, Memory> {
+fn put_certificate(alloc: Global, out: &mut String, word: &str, text: &[u8]) -> Result<(), Memory> {
     match certificate_answers::answer(alloc, word, text)? {
-        Some(answer) => Ok(answer),
-        None => Ok(format!(in alloc; "no case {word:?}")?),
+        Some(answer) => put_text(out, answer.as_str()),
+        None => put_no_case(out, word),
     }
+}
+
+fn put_text(out: &mut String, text: &str) -> Result<(), Memory> {
+    out.push_str(text)?;
+    Ok(())
+}
+
+fn put_no_case(out: &mut String, word: &str) -> Result<(), Memory> {
+    write!(out, "no case {word:?}")?;
+    Ok(())
 }
