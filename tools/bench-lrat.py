@@ -8,11 +8,13 @@ The first times `rvf lrat` on a chain of clauses (x1; x1 -> x2; ..; not xn) and 
 each, and prints the number of clauses, the answer and the seconds.
 
 The second makes proofs of N steps (1,000,000). Each step adds a clause of two literals by twenty hints over 20
-clauses, or over 100,000 clauses in random order, or by two hints, where each added clause is deleted a thousand steps
-later. The program below reads a proof and verifies it as often as it is told. Its user seconds and its memory with and
-without `verify` tell those of `verify`: hints a second, and what the store takes beside eight bytes for each literal of
-the clauses that are held in the end, or that were ever added. The program is proved and built in a temporary folder
-(some minutes) if PATH isn't one that was built.
+clauses, over 100,000 clauses in random order, or over 100,000 of 400,000 clauses of which the first step deletes the
+others; or by two hints, where each added clause is deleted a thousand steps later. The program below reads a proof and
+verifies it as often as it is told. Its user seconds and its memory with and without `verify` tell those of `verify`:
+hints a second, and what the store takes beside eight bytes for each literal of the clauses that are held in the end, or
+that were ever added. Memory is told as glibc's malloc has it by default, and where it gives blocks of a million bytes
+back to the system. The program is proved and built in a temporary folder (some minutes) if PATH isn't one that was
+built.
 """
 import argparse
 import contextlib
@@ -62,15 +64,15 @@ LEAD = 1000
 class Proof:
     """A clause file with a chain of implications in a random order, and so many steps, each of which adds that the
     first of some neighbours in the chain implies the last. The last step is the empty clause. `lag`: each added clause
-    is deleted so many steps later."""
+    is deleted so many steps later. `others`: so many clauses stand among those of the chain and are deleted first."""
 
-    def __init__(self, chain, hints, steps, lag=None):
+    def __init__(self, chain, hints, steps, lag=None, others=0):
         rng = random.Random(1)
-        names, ids = list(range(1, chain + 2)), list(range(1, chain + 1))
+        names, ids = list(range(1, chain + 2)), list(range(1, chain + others + 1))
         rng.shuffle(names)
         rng.shuffle(ids)
-        clauses = [None] * chain
-        for place, id in enumerate(ids):
+        clauses = [f"1 {chain + 2} 0\n"] * (chain + others)
+        for place, id in enumerate(ids[:chain]):
             clauses[id - 1] = f"-{names[place]} {names[place + 1]} 0\n"
         last = chain + 2
         clauses += [f"{last} 0\n", f"-{last} 0\n"]
@@ -78,26 +80,27 @@ class Proof:
         bodies = [f"-{names[start]} {names[start + hints]} 0 " + " ".join(map(str, ids[start:start + hints])) + " 0\n"
                   for start in range(chain - hints + 1)]
         first = len(clauses) + 1
-        lines = []
+        lines = [f"{len(clauses)} d " + " ".join(map(str, ids[chain:])) + " 0\n"] if others else []
         for id in range(first, first + steps):
             lines.append(f"{id} {rng.choice(bodies)}")
             if lag and id >= first + lag:
                 lines.append(f"{id} d {id - lag} 0\n")
-        lines.append(f"{first + steps} 0 {chain + 1} {chain + 2} 0\n")
+        lines.append(f"{first + steps} 0 {len(clauses) - 1} {len(clauses)} 0\n")
         self.steps = "".join(lines)
         self.hints = hints * steps + 2
-        self.added = 2 * steps + 2 * chain + 2
-        self.held = self.added if lag is None else 2 * lag + 2 * chain + 2
+        self.added = 2 * steps + 2 * len(clauses) - 2
+        self.held = 2 * (lag or steps) + 2 * chain + 2
 
-    def measured(self, program, times):
+    def measured(self, program, times, gives_back=False):
         """Returns the user seconds and the megabytes of a run that verifies the proof so often."""
+        system = os.environ | ({"MALLOC_MMAP_THRESHOLD_": "1000000"} if gives_back else {})
         with tempfile.TemporaryDirectory() as folder:
             given, told = (os.path.join(folder, name) for name in ("given", "told"))
             with open(given, "w") as out:
                 out.write(f"{times:<8}{len(self.clauses):<12}{self.clauses}{self.steps}")
             with open(given) as text:
                 ran = subprocess.run(["time", "-f", "%U %M", "-o", told, program], stdin=text, capture_output=True,
-                                     text=True)
+                                     text=True, env=system)
             if ran.returncode or ran.stdout.count("refuted") != times:
                 sys.exit(f"{ran.stdout}{ran.stderr}")
             with open(told) as text:
@@ -108,15 +111,17 @@ class Proof:
 def time_verify(program, steps):
     proofs = {"20 clauses, 20 hints a step": Proof(20, 20, steps),
               "100,000 clauses, 20 hints a step": Proof(100000, 20, steps),
+              "100,000 of 400,000 clauses left, 20 hints a step": Proof(100000, 20, steps, others=300000),
               "clauses deleted, 2 hints a step": Proof(100, 2, steps, LEAD)}
     for name, proof in proofs.items():
-        times = 3
+        times = 10
         before, beside = proof.measured(program, 0)
         after, memory = proof.measured(program, times)
         seconds, store = (after - before) / times, memory - beside
+        back = proof.measured(program, 1, True)[1] - proof.measured(program, 0, True)[1]
         in_bytes = [8 * literals / 2 ** 20 for literals in (proof.held, proof.added)]
         print(f"{name}: {proof.hints} hints in {seconds:.2f} s, {proof.hints / seconds / 1e6:.1f} million a second; "
-              f"{store:.1f} MB beside {in_bytes[0]:.3g} MB of literals held in the end, {in_bytes[1]:.3g} MB ever",
+              f"{store:.1f} MB ({back:.1f} MB given back) beside {in_bytes[0]:.3g} MB of literals held in the end, {in_bytes[1]:.3g} MB ever",
               flush=True)
 
 

@@ -5,6 +5,7 @@
 mod certificate;
 mod escape;
 mod search;
+mod stored;
 
 pub use escape::{parted, put_escaped, read_escaped};
 use fv_base::Memory;
@@ -26,6 +27,7 @@ fn put(alloc: Global, out: &mut String, word: &str, text: &[u8]) -> Result<bool,
         "again" => certificate::put_again(alloc, out, text)?,
         "formula" => certificate::put_held(alloc, out)?,
         "store" => certificate::put_stored(alloc, out)?,
+        "many-stored" => stored::put_many(alloc, out)?,
         "search" => search::put_found(alloc, out, text)?,
         "random" => search::put_random(alloc, out, text)?,
         _ => return Ok(false),

@@ -1,5 +1,5 @@
 -- Clauses as codes and as literals.
-use Rattle.std.proofs.Common.{◌≡◌, ℕ, zero, suc, ◌^◌, ◌<◌, Bool, true, false, cond, eqb, List, [], ◌∷◌, ℤ}
+use Rattle.std.proofs.Common.{◌≡◌, ℕ, zero, suc, ◌<◌, Bool, true, false, cond, eqb, List, [], ◌∷◌, ℤ}
 use Rattle.std.proofs.Common.{length, get_or, w64, to_z, of_z, Option, Some, None, refl, ap, sym, subst, ◌∙◌}
 use Rattle.std.proofs.Common.{arith}
 use Rattle.std.specs.Prelude.{IsSome}
@@ -7,7 +7,6 @@ use Rattle.std.specs.List.{list_any}
 use Rattle.std.proofs.lemmas.Bool.{false≢true}
 use Rattle.std.proofs.lemmas.Int.{to_z-of_z, fits_signed_from_abs}
 use mathlib.Core.Path.{fun_ext}
-use Rattle.cnf_form.specs.Cnf.{AreClauses}
 use Rattle.lrat_check.specs.Codes.{lit_of, codes_of, lits_of}
 use Rattle.lrat_check.specs.declared.reading.Reading.{Reading}
 use Rattle.lrat_check.specs.declared.reading.Reading.TheVariants as read
@@ -15,7 +14,6 @@ use Rattle.lrat_check.specs.Sets.{has, is_false, first_open, other_open, reading
 use Rattle.lrat_check.specs.Steps.{Held, with_clause}
 use Rattle.lrat_check.specs.Store.{Coded, with_code, literals, Removes, Forgets}
 use Rattle.lrat_check.proofs.Codes.{lits_codes}
-use Rattle.lrat_check.proofs.Stores.{lits_are}
 
 abbrev held : Coded → Held
 held f = λ i. literals (f i)

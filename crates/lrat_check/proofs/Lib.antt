@@ -1,7 +1,12 @@
 pub mod Codes
+pub mod Counted
 pub mod Four
 pub mod Holds
 pub mod Marking
+pub mod Moving
+pub mod Opening
+pub mod Packing
+pub mod Placed
 pub mod ReadBack
 pub mod ReadSteps
 pub mod Rows

@@ -76,3 +76,10 @@ abbrev pub reading : List ℤ → List ℤ → Reading
 reading set clause =
     if list_any (has set) clause then read.True
     else reading_of (first_open set clause) (λ l. other_open set l clause)
+
+-- a further open literal turns a reading without a true one into this reading
+abbrev pub with_open : ℤ → Reading → Reading
+with_open l read.True = read.True
+with_open l read.False = read.Unit l
+with_open l (read.Unit first) = if int_eq l first then read.Unit first else read.Open
+with_open l read.Open = read.Open

@@ -4,6 +4,7 @@ use Rattle.std.specs.Prelude.{
   zero,
   suc,
   ◌+◌,
+  ◌-◌,
   ◌<◌,
   ◌≤◌,
   ◌≡◌,
@@ -14,11 +15,11 @@ use Rattle.std.specs.Prelude.{
   List,
   [],
   ◌∷◌,
+  ◌++◌,
   ℤ,
   length,
 }
 use Rattle.std.specs.Prelude.{slice_range, slice_index_or, Option, Some, None, IsSome, MatchBool, Result, Ok, Err}
-use Rattle.lrat_check.specs.declared.row.Row.{Row}
 use Rattle.lrat_check.specs.declared.step.StepFault.{StepFault}
 use Rattle.lrat_check.specs.declared.step.StepFault.TheVariants.{Memory}
 use Rattle.lrat_check.specs.Answers.{OrMemory}
@@ -72,33 +73,39 @@ with_code held id clause = λ i. if id == i then Some clause else held i
 abbrev pub without_code : Coded → ℕ → Coded
 without_code held id = λ i. if id == i then None else held i
 
-abbrev pub row_at : List Row → ℕ → Row
-row_at rows place = slice_index_or rows place (record { id = 0; start = 0 })
+abbrev pub number_at : List ℕ → ℕ → ℕ
+number_at numbers place = slice_index_or numbers place 0
 
 abbrev pub span_at : List Span → ℕ → Span
 span_at spans place = slice_index_or spans place (record { id = 0; start = 0; end = 0; held = false })
 
--- where the first row begins; without one, where all end
-abbrev pub start_of : List Row → ℕ → ℕ
+-- where the first clause begins; without one, where all end
+abbrev pub start_of : List ℕ → ℕ → ℕ
 start_of [] end = end
-start_of (row ∷ rows) end = row.start
+start_of (start ∷ starts) end = start
 
--- where the part of the row at the place ends: where the next one begins, or where all end
-abbrev pub end_at : List Row → ℕ → ℕ → ℕ
+-- where the clause at the place ends: where the next one begins, or where all end
+abbrev pub end_at : List ℕ → ℕ → ℕ → ℕ
 end_at [] place end = end
-end_at (row ∷ rows) zero end = start_of rows end
-end_at (row ∷ rows) (suc place) end = end_at rows place end
+end_at (start ∷ starts) zero end = start_of starts end
+end_at (start ∷ starts) (suc place) end = end_at starts place end
 
--- where the clauses of the rows lie, each of which is held or not
-abbrev pub spans : List Row → List Bool → ℕ → List Span
-spans [] held end = []
-spans (row ∷ rows) [] end = []
-spans (row ∷ rows) (is_held ∷ held) end =
-    (record { id = row.id; start = row.start; end = start_of rows end; held = is_held }) ∷ spans rows held end
+-- where the clauses of the ids lie, each of which is held or not
+abbrev pub spans : List ℕ → List ℕ → List Bool → ℕ → List Span
+spans [] starts held end = []
+spans (id ∷ ids) [] held end = []
+spans (id ∷ ids) (start ∷ starts) [] end = []
+spans (id ∷ ids) (start ∷ starts) (is_held ∷ held) end =
+    (record { id = id; start = start; end = start_of starts end; held = is_held }) ∷ spans ids starts held end
 
 -- ids rise
-abbrev pub Rising : List Row → Type 0
-Rising rows = (i k : ℕ) → i < k → k < length rows → (row_at rows i).id < (row_at rows k).id
+abbrev pub Rising : List ℕ → Type 0
+Rising ids = (i k : ℕ) → i < k → k < length ids → number_at ids i < number_at ids k
+
+-- each clause begins at or before the next one, and where all end
+abbrev pub Mounting : List ℕ → ℕ → Type 0
+Mounting [] end = Unit {0}
+Mounting (start ∷ starts) end = (start ≤ start_of starts end) × Mounting starts end
 
 -- ids rise
 abbrev pub Climbing : List Span → Type 0
@@ -111,18 +118,41 @@ pub record Laid (spans : List Span) (end next : ℕ) : Type 0 where
   pub behind : (i k : ℕ) → i < k → k < length spans → (span_at spans i).end ≤ (span_at spans k).start
   pub climbing : Climbing spans
 
--- each row has a mark that says whether it is held, and the clauses lie one behind the other
-pub record Lies (rows : List Row) (held : List Bool) (end next : ℕ) : Type 0 where
-  pub marked : length held ≡ length rows
-  pub laid : Laid (spans rows held end) end next
+-- each id has a start and a mark that says whether it is held, and the clauses lie one behind the other
+pub record Lies (ids starts : List ℕ) (held : List Bool) (end next : ℕ) : Type 0 where
+  pub begun : length starts ≡ length ids
+  pub marked : length held ≡ length ids
+  pub laid : Laid (spans ids starts held end) end next
 
--- no row has the id
-abbrev pub NoRow : List Row → ℕ → Type 0
-NoRow rows id = (k : ℕ) → k < length rows → (row_at rows k).id ≡ id → ⊥
+-- the id is none of these
+abbrev pub NoId : List ℕ → ℕ → Type 0
+NoId ids id = (k : ℕ) → k < length ids → number_at ids k ≡ id → ⊥
 
--- the row at the place has the id
-abbrev pub IsRow : List Row → ℕ → ℕ → Type 0
-IsRow rows id k = (k < length rows) × ((row_at rows k).id ≡ id)
+-- the id is the one at the place
+abbrev pub IsId : List ℕ → ℕ → ℕ → Type 0
+IsId ids id k = (k < length ids) × (number_at ids k ≡ id)
+
+-- the ids whose marks are set
+abbrev pub marked : List ℕ → List Bool → List ℕ
+marked [] marks = []
+marked (id ∷ ids) [] = []
+marked (id ∷ ids) (mark ∷ marks) = if mark then id ∷ marked ids marks else marked ids marks
+
+-- where the held clauses begin once they lie one behind the other, from a place on
+abbrev pub packed_starts : List ℕ → List Bool → ℕ → ℕ → List ℕ
+packed_starts [] held end from = []
+packed_starts (start ∷ starts) [] end from = []
+packed_starts (start ∷ starts) (is_held ∷ held) end from =
+    if is_held then from ∷ packed_starts starts held end (from + (start_of starts end - start))
+    else packed_starts starts held end from
+
+-- the codes of the held clauses, one clause behind the other
+abbrev pub packed : List ℕ → List ℕ → List Bool → List ℕ
+packed all [] held = []
+packed all (start ∷ starts) [] = []
+packed all (start ∷ starts) (is_held ∷ held) =
+    if is_held then slice_range all start (start_of starts (length all)) ++ packed all starts held
+    else packed all starts held
 
 -- no span has the id
 abbrev pub NoSpan : List Span → ℕ → Type 0

@@ -3,39 +3,49 @@ ghost use Rattle.std.specs.Prelude.{
   ◌≤◌,
   ◌<◌,
   ◌+◌,
+  ◌++◌,
   ℕ,
   List,
   None,
   Some,
   length,
-  IfOk,
+  vec_len,
+  vec_capacity,
   OnOk,
   OnErr,
   MatchOption,
 };
-ghost use Rattle.std.specs.Prelude.{MatchBool};
 ghost use Rattle.std.specs.List.{swap};
 ghost use Rattle.lrat_check.specs.Codes.{codes_of};
 ghost use Rattle.lrat_check.specs.Sets.{AreLits};
 
 use crate::code::code_of;
-use crate::row::{Row, end_of, find};
+use crate::ids::Ids;
+use crate::pack::{end_of, pack_codes, packed_starts};
+use crate::room::make_room;
 use fv_base::Memory;
 use std::alloc::Global;
 use std::marker::Model;
 
-/// Clauses by id, all in one list of codes of literals.
+/// Clauses by id, all in one list of codes of literals. The room of those that are held no longer is given back once it
+/// is the larger part.
 #[derive(Drop)]
 pub struct Store {
     alloc: Global,
     codes: Vec<u64>,
-    /// One for each id that was added, in order.
-    rows: Vec<Row>,
-    /// Whether each of these ids is still held.
+    ids: Ids,
+    /// Where the clause of each id begins among the codes. It ends where the next one begins.
+    starts: Vec<u32>,
+    /// Whether each id is still held.
     held: Vec<bool>,
     /// The id that was added last.
     last: Option<u64>,
+    /// How many codes and starts belong to clauses that are held no longer.
+    given_up: usize,
 }
+
+/// Fewer entries than that aren't worth giving back.
+const FEW: usize = 1024;
 
 impl Model for Store {
     ghost use Rattle.std.specs.Prelude.{length};
@@ -45,11 +55,11 @@ impl Model for Store {
 
     ghost view = { λ s. record {
       codes = s.codes.items;
-      spans = spans s.rows.items s.held.items (length s.codes.items);
+      spans = spans s.ids s.starts.items s.held.items (length s.codes.items);
       last = s.last;
     } };
 
-    ghost invariant = { λ s. Lies s.rows.items s.held.items (length s.codes.items) (above s.last) };
+    ghost invariant = { λ s. Lies s.ids s.starts.items s.held.items (length s.codes.items) (above s.last) };
 }
 
 impl Store {
@@ -62,9 +72,11 @@ impl Store {
         Store {
             alloc,
             codes: Vec::new(alloc),
-            rows: Vec::new(alloc),
+            ids: Ids::new(alloc),
+            starts: Vec::new(alloc),
             held: Vec::new(alloc),
             last: None,
+            given_up: 0,
         }
     }
 
@@ -76,29 +88,70 @@ impl Store {
         ensures next { OnOk result (next self.new ≡ id + 1) }
         ensures err { OnErr result (self.new ≡ self.old) }
     {
-        let added = coded(self.alloc, lits)?;
-        let start = self.codes.len();
-        self.rows.reserve(1)?;
-        self.held.reserve(1)?;
-        self.codes.extend_from_slice(&added)?;
-        self.rows.push_reserved(Row { id, start });
+        self.put(id, lits)?;
+        if self.given_up >= FEW && self.given_up > (self.codes.len() + self.starts.len()) / 2 {
+            self.pack();
+        }
+        Ok(())
+    }
+
+    fn put(&mut self, id: u64, lits: &[i64]) -> Result<(), Memory>
+        requires above { next self.old ≤ id }
+        requires lits { AreLits lits.now }
+        ensures ok { OnOk result (coded self.new ≡ with_code (coded self.old) id (codes_of lits.now)) }
+        ensures next { OnOk result (next self.new ≡ id + 1) }
+        ensures err { OnErr result (self.new ≡ self.old) }
+    {
+        let Ok(start) = u32::try_from(self.codes.len()) else {
+            return Err(Memory);
+        };
+        make_room(&mut self.codes, lits.len())?;
+        make_room(&mut self.starts, 1)?;
+        make_room(&mut self.held, 1)?;
+        self.ids.add(id)?;
+        push_codes(&mut self.codes, lits);
+        self.starts.push_reserved(start);
         self.held.push_reserved(true);
         self.last = Some(id);
         Ok(())
+    }
+
+    /// Leaves out the clauses that aren't held. For want of memory they stay.
+    #[inline(never)]
+    fn pack(&mut self)
+        ensures coded { coded self.new ≡ coded self.old }
+        ensures next { next self.new ≡ next self.old }
+    {
+        let Ok(ids) = self.ids.kept(self.alloc, &self.held) else {
+            return;
+        };
+        let Ok(starts) = packed_starts(self.alloc, &self.starts, &self.held, self.codes.len())
+        else {
+            return;
+        };
+        let Ok(held) = Vec::from_elem(self.alloc, true, starts.len()) else {
+            return;
+        };
+        pack_codes(&mut self.codes, &self.starts, &self.held);
+        self.codes.shrink_to(self.codes.len().saturating_mul(2));
+        self.ids = ids;
+        self.starts = starts;
+        self.held = held;
+        self.given_up = 0;
     }
 
     /// The codes of the clause's literals. None exactly where the id isn't held.
     pub fn lits(&self, id: u64) -> Option<&[u64]>
         ensures { MatchOption result (coded self.now id ≡ None) (λ codes. coded self.now id ≡ Some codes.now) }
     {
-        let Some(place) = find(&self.rows, id) else {
+        let Some(place) = self.ids.find(id) else {
             return None;
         };
         if !self.held[place] {
             return None;
         }
-        let start = self.rows[place].start;
-        let end = end_of(&self.rows, place, self.codes.len());
+        let start = self.starts[place] as usize;
+        let end = end_of(&self.starts, place, self.codes.len());
         Some(&self.codes[start..end])
     }
 
@@ -121,8 +174,8 @@ impl Store {
             → coded self.new ≡ with_code (coded self.old) id (swap clause a b) }
         ensures next { next self.new ≡ next self.old }
     {
-        if let Some(place) = find(&self.rows, id) {
-            let start = self.rows[place].start;
+        if let Some(place) = self.ids.find(id) {
+            let start = self.starts[place] as usize;
             self.codes.swap(start + a, start + b);
         }
     }
@@ -132,23 +185,27 @@ impl Store {
         ensures removed { Removes (coded self.old) (coded self.new) id result }
         ensures next { next self.new ≡ next self.old }
     {
-        let Some(place) = find(&self.rows, id) else {
+        let Some(place) = self.ids.find(id) else {
             return false;
         };
-        let was_held = self.held[place];
+        if !self.held[place] {
+            return false;
+        }
         self.held[place] = false;
-        was_held
+        let start = self.starts[place] as usize;
+        let many = end_of(&self.starts, place, self.codes.len()) - start;
+        self.given_up = self.given_up.saturating_add(many).saturating_add(1);
+        true
     }
 }
 
-/// The codes of the literals.
-fn coded(alloc: Global, lits: &[i64]) -> Result<Vec<u64>, Memory>
-    requires { AreLits lits.now }
-    ensures { IfOk result (λ codes. codes.items ≡ codes_of lits.now) }
+/// Pushes the codes of the literals, for which there is room.
+fn push_codes(codes: &mut Vec<u64>, lits: &[i64])
+    requires lits { AreLits lits.now }
+    requires room { vec_len codes.old + length lits.now ≤ vec_capacity codes.old }
+    ensures { codes.new.items ≡ codes.old.items ++ codes_of lits.now }
 {
-    let mut codes = Vec::with_capacity(alloc, lits.len())?;
     for lit in lits {
-        codes.push(code_of(*lit))?;
+        codes.push_reserved(code_of(*lit));
     }
-    Ok(codes)
 }

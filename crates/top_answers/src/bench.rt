@@ -161,8 +161,8 @@ impl Bench {
         Ok(MemFiles::new(self.alloc, pairs, self.failing_files.clone()?)?)
     }
 
-    /// Makes the run: its words, what was put, the code, whether its first check met the second one where that is asked,
-    /// and each file of a check that is there.
+    /// Makes the run: its words, what was put, the code, whether its first check met the second one where that is
+    /// asked, and each file of a check that is there.
     pub fn run<R: Threads + Sync>(&mut self, rt: &R, asked: &Asked) -> Result<String> {
         let mut files = self.held()?;
         let mut out = MemOut::new(self.alloc, self.failing_puts.clone()?);
