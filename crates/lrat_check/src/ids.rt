@@ -14,7 +14,7 @@ pub(crate) struct Ids {
     counted: u64,
     /// Those behind the gap.
     others: Vec<u64>,
-    /// Where the others are that were there when the ranks were made.
+    /// Where the others are.
     ranks: Ranks,
 }
 
@@ -48,6 +48,7 @@ impl Ids {
             return Ok(());
         }
         make_room(&mut self.others, 1)?;
+        self.ranks.note(id, self.others.len());
         self.others.push_reserved(id);
         Ok(())
     }
@@ -90,14 +91,6 @@ impl Ids {
                 kept.add(self.at(place))?;
             }
         }
-        kept.rank(alloc);
         Ok(kept)
-    }
-
-    /// From here on those that are there are found at once.
-    fn rank(&mut self, alloc: Global)
-        ensures { self.new ≡ self.old }
-    {
-        self.ranks = Ranks::of(alloc, &self.others);
     }
 }

@@ -1,3 +1,4 @@
+use crate::room::make_room;
 use fv_base::Memory;
 use std::alloc::Global;
 
@@ -24,36 +25,31 @@ impl Ranks {
         }
     }
 
-    /// None are told where fewer than one number in sixteen is an id, or for want of memory.
-    pub(crate) fn of(alloc: Global, ids: &[u64]) -> Ranks {
-        let mut ranks = Ranks::new(alloc);
-        if let Some(last) = ids.last() {
-            ranks.first = ids[0];
-            let most = last.saturating_sub(ids[0]) / 64;
-            if most >= ids.len() as u64 / 4 || ranks.fill(ids).is_err() {
-                ranks.words.clear();
+    /// An id comes behind so many. It isn't noted where fewer than one number in sixteen is an id, or for want of
+    /// memory.
+    pub(crate) fn note(&mut self, id: u64, before: usize) {
+        if self.words.is_empty() {
+            self.first = id;
+        }
+        let past = id.saturating_sub(self.first);
+        if past / 64 <= before as u64 / 4 {
+            if let Ok(before) = u32::try_from(before) {
+                let _ = self.put(past, before);
             }
         }
-        ranks
     }
 
-    fn fill(&mut self, ids: &[u64]) -> Result<(), Memory> {
-        for (place, id) in ids.iter().enumerate() {
-            let Ok(before) = u32::try_from(place) else {
-                return Err(Memory);
-            };
-            self.put(*id, before)?;
-        }
-        Ok(())
-    }
-
-    fn put(&mut self, id: u64, before: u32) -> Result<(), Memory> {
-        let past = id.saturating_sub(self.first);
+    fn put(&mut self, past: u64, before: u32) -> Result<(), Memory> {
         let word = (past / 64) as usize;
-        while self.words.len() <= word {
-            self.words.push(Ranked { bits: 0, before })?;
+        let many = self.words.len();
+        if word >= many {
+            let more = word - many + 1;
+            make_room(&mut self.words, more)?;
+            self.words.resize(word + 1, Ranked { bits: 0, before })?;
         }
-        self.words[word].bits |= 1 << (past % 64);
+        if let Some(ranked) = self.words.get_mut(word) {
+            ranked.bits |= 1 << (past % 64);
+        }
         Ok(())
     }
 

@@ -4,6 +4,22 @@ use std::alloc::Global;
 /// Where an activity reaches this, all are made smaller.
 const MOST_ACTIVITY: u64 = 1 << 60;
 
+/// What is known of a variable.
+#[derive(Debug, Clone, Copy)]
+struct Variable {
+    activity: u64,
+    /// One above its place in the heap; 0 where it isn't there.
+    place: u32,
+}
+
+/// A variable at a place of the heap.
+#[derive(Debug, Clone, Copy)]
+struct Placed {
+    place: usize,
+    index: u32,
+    activity: u64,
+}
+
 /// Variables by their indexes, variable 1's being 0, the most active one first.
 ///
 /// No clause says so: whoever takes a variable looks at it anew.
@@ -11,10 +27,8 @@ const MOST_ACTIVITY: u64 = 1 << 60;
 pub(crate) struct Heap {
     /// None is more active than the one at half its place.
     indexes: Vec<u32>,
-    /// By index, one above the place; 0 where the variable isn't in the heap.
-    places: Vec<u32>,
     /// By index.
-    activities: Vec<u64>,
+    variables: Vec<Variable>,
     /// What the next conflict adds to an activity.
     step: u64,
 }
@@ -23,8 +37,7 @@ impl Heap {
     pub(crate) fn new(alloc: Global) -> Heap {
         Heap {
             indexes: Vec::new(alloc),
-            places: Vec::new(alloc),
-            activities: Vec::new(alloc),
+            variables: Vec::new(alloc),
             step: 1 << 20,
         }
     }
@@ -35,15 +48,19 @@ impl Heap {
             return Ok(());
         };
         let at = index as usize;
-        if at >= self.places.len() {
-            self.places.resize(at.saturating_add(1), 0)?;
-            self.activities.resize(at.saturating_add(1), 0)?;
+        if at >= self.variables.len() {
+            let unknown = Variable {
+                activity: 0,
+                place: 0,
+            };
+            self.variables.resize(at.saturating_add(1), unknown)?;
         }
-        if self.place(index) == 0 {
+        let Variable { activity, place } = self.variables[at];
+        if place == 0 {
+            let last = self.indexes.len();
             self.indexes.push(kept)?;
-            let place = self.indexes.len() - 1;
-            self.note(place);
-            self.rise(place);
+            self.note(last, kept);
+            self.rise(last, kept, activity);
         }
         Ok(())
     }
@@ -51,19 +68,14 @@ impl Heap {
     /// The most active variable goes out.
     pub(crate) fn take(&mut self) -> Option<u64> {
         let last = self.indexes.pop()?;
-        let most = match self.indexes.get_mut(0) {
-            None => last,
-            Some(first) => {
-                let most = *first;
-                *first = last;
-                most
-            }
+        let Some(first) = self.indexes.get_mut(0) else {
+            self.leave(last);
+            return Some(last as u64);
         };
-        if let Some(place) = self.places.get_mut(most as usize) {
-            *place = 0;
-        }
-        self.note(0);
-        self.sink();
+        let most = *first;
+        *first = last;
+        self.leave(most);
+        self.sink(last);
         Some(most as u64)
     }
 
@@ -73,12 +85,13 @@ impl Heap {
 
     /// The variable took part in a conflict.
     pub(crate) fn bump(&mut self, index: u64) {
-        if let Some(activity) = self.activities.get_mut(index as usize) {
-            *activity = activity.saturating_add(self.step);
-        }
-        let place = self.place(index);
-        if place > 0 {
-            self.rise(place - 1);
+        let Some(variable) = self.variables.get_mut(index as usize) else {
+            return;
+        };
+        variable.activity = variable.activity.saturating_add(self.step);
+        let Variable { activity, place } = *variable;
+        if let (Ok(index), true) = (u32::try_from(index), place > 1) {
+            self.rise(place as usize - 1, index, activity);
         }
     }
 
@@ -86,89 +99,78 @@ impl Heap {
     pub(crate) fn decay(&mut self) {
         self.step = self.step.saturating_add(self.step / 16);
         if self.step >= MOST_ACTIVITY {
-            for activity in self.activities.iter_mut() {
-                *activity /= 1 << 40;
+            for variable in self.variables.iter_mut() {
+                variable.activity /= 1 << 40;
             }
             self.step /= 1 << 40;
         }
     }
 
-    fn place(&self, index: u64) -> usize {
-        match self.places.get(index as usize) {
-            Some(place) => *place as usize,
-            None => 0,
-        }
-    }
-
     fn activity(&self, index: u32) -> u64 {
-        match self.activities.get(index as usize) {
-            Some(activity) => *activity,
+        match self.variables.get(index as usize) {
+            Some(variable) => variable.activity,
             None => 0,
         }
     }
 
-    /// Whether the variable at the first place is more active than that at the second.
-    fn leads(&self, first: usize, second: usize) -> bool {
-        match (self.indexes.get(first), self.indexes.get(second)) {
-            (Some(one), Some(other)) => self.activity(*one) > self.activity(*other),
-            _ => false,
-        }
+    /// The variable at the place.
+    fn at(&self, place: usize) -> Option<Placed> {
+        let index = *self.indexes.get(place)?;
+        Some(Placed {
+            place,
+            index,
+            activity: self.activity(index),
+        })
     }
 
-    /// The variable at the place goes up, as far as it is the more active one.
-    fn rise(&mut self, start: usize) {
-        let Some(rising) = self.index_at(start) else {
-            return;
-        };
-        let activity = self.activity(rising);
+    /// The more active one of the two below the place.
+    fn below(&self, place: usize) -> Option<Placed> {
+        let left = place.saturating_mul(2).saturating_add(1);
+        let one = self.at(left)?;
+        if let Some(other) = self.at(left.saturating_add(1)) {
+            if other.activity > one.activity {
+                return Some(other);
+            }
+        }
+        Some(one)
+    }
+
+    /// The variable at the place, which has this activity, goes up as far as it is the more active one.
+    fn rise(&mut self, start: usize, rising: u32, activity: u64) {
         let mut place = start;
         for _ in 0..usize::BITS {
             if place == 0 {
                 break;
             }
-            let above = (place - 1) / 2;
-            let Some(index) = self.index_at(above) else {
+            let Some(above) = self.at((place - 1) / 2) else {
                 break;
             };
-            if activity <= self.activity(index) {
+            if activity <= above.activity {
                 break;
             }
-            self.put(place, index);
-            place = above;
+            self.put(place, above.index);
+            place = above.place;
         }
         if place < start {
             self.put(place, rising);
         }
     }
 
-    /// The first variable goes down, as far as another one is the more active one.
-    fn sink(&mut self) {
+    /// The variable goes from the first place down as far as another one is the more active one.
+    fn sink(&mut self, sinking: u32) {
+        let activity = self.activity(sinking);
         let mut place = 0usize;
         for _ in 0..usize::BITS {
-            let left = place.saturating_mul(2).saturating_add(1);
-            let right = left.saturating_add(1);
-            let below = if self.leads(right, left) { right } else { left };
-            if !self.leads(below, place) {
-                return;
+            let Some(below) = self.below(place) else {
+                break;
+            };
+            if below.activity <= activity {
+                break;
             }
-            self.exchange(place, below);
-            place = below;
+            self.put(place, below.index);
+            place = below.place;
         }
-    }
-
-    fn exchange(&mut self, first: usize, second: usize) {
-        if first < self.indexes.len() && second < self.indexes.len() {
-            self.indexes.swap(first, second);
-            self.note(first);
-            self.note(second);
-        }
-    }
-
-    fn index_at(&self, place: usize) -> Option<u32> {
-        match self.indexes.get(place) {
-            Some(index) => Some(*index),
-            None => None,
-        }
+        self.put(place, sinking);
     }
 
     /// The variable goes to the place.
@@ -176,15 +178,20 @@ impl Heap {
         if let Some(put) = self.indexes.get_mut(place) {
             *put = index;
         }
-        self.note(place);
+        self.note(place, index);
     }
 
-    /// The place of the variable at the place.
-    fn note(&mut self, place: usize) {
-        if let Some(index) = self.indexes.get(place) {
-            if let Some(noted) = self.places.get_mut(*index as usize) {
-                *noted = u32::try_from(place.saturating_add(1)).unwrap_or(0);
-            }
+    /// The variable stands at the place.
+    fn note(&mut self, place: usize, index: u32) {
+        if let Some(variable) = self.variables.get_mut(index as usize) {
+            variable.place = u32::try_from(place.saturating_add(1)).unwrap_or(0);
+        }
+    }
+
+    /// The variable stands at no place.
+    fn leave(&mut self, index: u32) {
+        if let Some(variable) = self.variables.get_mut(index as usize) {
+            variable.place = 0;
         }
     }
 }

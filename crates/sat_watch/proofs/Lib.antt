@@ -1,5 +1,6 @@
 pub mod Changes
 pub mod Closings
+pub mod Gaps
 pub mod Goings
 pub mod Joins
 pub mod Keeping

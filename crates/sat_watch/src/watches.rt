@@ -66,6 +66,7 @@ impl Watches {
     {
         let mut ordered = Vec::from_slice(self.alloc, lits)?;
         if !order(&mut ordered, trail) {
+            leave_out(&mut self.store, id)?;
             return Ok(false);
         }
         self.store.add(id, ordered.as_slice())?;
@@ -164,6 +165,18 @@ impl Watches {
         self.lists.put_back(code, &mut self.rest)?;
         Ok(None)
     }
+}
+
+/// Takes up an id that holds no clause. A store finds each id at once as long as they leave no gap.
+fn leave_out(store: &mut Store, id: u64) -> Result<(), Memory>
+    requires above { next store.old ≤ id }
+    requires none { coded store.old id ≡ None }
+    ensures same { OnOk result (coded store.new ≡ coded store.old) }
+    ensures next { OnOk result (next store.new ≡ id + 1) }
+{
+    store.add(id, &[])?;
+    store.remove(id);
+    Ok(())
 }
 
 fn scan_of(stop: Stop) -> Scan

@@ -5,10 +5,34 @@ use Rattle.lrat_check.specs.Store.{coded, next, with_code}
 use Rattle.sat_trail.specs.Trail.{lits, oldest}
 use Rattle.sat_watch.specs.declared.watch.Watch.{Watch}
 use Rattle.sat_watch.specs.Watching.{lists_of, with_watch, watch_at}
-use Rattle.sat_watch.specs.Watches.{State, Keeps, SameLits, lit_at}
+use Rattle.sat_watch.specs.Watches.{State, Keeps, SameLits, OneAlone, lit_at}
+use Rattle.sat_watch.proofs.Gaps.{none_above, left_out_on}
 use Rattle.sat_watch.proofs.Orders.{kept_at}
 use Rattle.sat_watch.proofs.Keeping.{added}
 use Rattle.sat_watch.proofs.watches.Watches.add.Goals as goal
+
+pub leave_out-requires-clause-none : goal.leave_out-requires-clause-none
+leave_out-requires-clause-none c =
+    let i = c.self.inside in
+    let t = c.args.trail.now in
+    let w : State = record { store = i.store; lists = i.lists; head = i.head; code = i.code; rest = i.rest.items } in
+    none_above w t c.args.id (subst (λ z. Keeps z t) (sym c.self.view_is) c.requires.keeps)
+    (subst (λ z. next z.store ≤ c.args.id) (sym c.self.view_is) c.requires.above)
+
+pub returns-then-not-order-clause-keeps : goal.returns-then-not-order-clause-keeps
+returns-then-not-order-clause-keeps c =
+    let i = c.self.inside in
+    let t = c.args.trail.now in
+    let w : State = record { store = i.store; lists = i.lists; head = i.head; code = i.code; rest = i.rest.items } in
+    let above = subst (λ z. next z.store ≤ c.args.id) (sym c.self.view_is) c.requires.above in
+    left_out_on w t c.leave_out.new.store (subst (λ z. Keeps z t) (sym c.self.view_is) c.requires.keeps)
+    c.in_ok-leave_out.ensures.same (omega (arith, above, c.in_ok-leave_out.ensures.next))
+
+pub returns-then-not-order-clause-adds : goal.returns-then-not-order-clause-adds
+returns-then-not-order-clause-adds c = (
+  c.in_ok-leave_out.ensures.same ∙ ap (λ z. coded z.store) c.self.view_is,
+  subst OneAlone c.in_ok-ordered.ensures.items c.if-not-order.ensures.found,
+)
 
 pub returns-clause-adds : goal.returns-clause-adds
 returns-clause-adds c =
