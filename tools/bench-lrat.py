@@ -2,7 +2,7 @@
 """Times the checker of proofs. It is not part of the gate.
 
     tools/bench-lrat.py [N..]                               `rvf lrat`, the whole program
-    tools/bench-lrat.py --verify [--steps N] [--program PATH]   `verify` alone
+    tools/bench-lrat.py --verify [--steps N] [--runs N] [--program PATH]   `verify` alone
 
 The first times `rvf lrat` on a chain of clauses (x1; x1 -> x2; ..; not xn) and a proof of one step with a hint for
 each, and prints the number of clauses, the answer and the seconds.
@@ -10,11 +10,11 @@ each, and prints the number of clauses, the answer and the seconds.
 The second makes proofs of N steps (1,000,000). Each step adds a clause of two literals by twenty hints over 20
 clauses, over 100,000 clauses in random order, or over 100,000 of 400,000 clauses of which the first step deletes the
 others; or by two hints, where each added clause is deleted a thousand steps later. The program below reads a proof and
-verifies it as often as it is told. Its user seconds and its memory with and without `verify` tell those of `verify`:
-hints a second, and what the store takes beside eight bytes for each literal of the clauses that are held in the end, or
-that were ever added. Memory is told as glibc's malloc has it by default, and where it gives blocks of a million bytes
-back to the system. The program is proved and built in a temporary folder (some minutes) if PATH isn't one that was
-built.
+verifies it as often as it is told. Its user seconds, the least of N runs (3), and its memory with and without `verify`
+tell those of `verify`: hints a second, and what the store takes beside eight bytes for each literal of the clauses
+that are held in the end, or that were ever added. Memory is told as glibc's malloc has it by default, and where it
+gives blocks of a million bytes back to the system. The program is proved and built in a temporary folder (some
+minutes) if PATH isn't one that was built.
 """
 import argparse
 import contextlib
@@ -91,37 +91,43 @@ class Proof:
         self.added = 2 * steps + 2 * len(clauses) - 2
         self.held = 2 * (lag or steps) + 2 * chain + 2
 
-    def measured(self, program, times, gives_back=False):
-        """Returns the user seconds and the megabytes of a run that verifies the proof so often."""
+    def measured(self, program, times, gives_back=False, runs=1):
+        """Returns the least user seconds and the most megabytes of runs that verify the proof so often each."""
         system = os.environ | ({"MALLOC_MMAP_THRESHOLD_": "1000000"} if gives_back else {})
+        seconds, memory = [], []
         with tempfile.TemporaryDirectory() as folder:
             given, told = (os.path.join(folder, name) for name in ("given", "told"))
             with open(given, "w") as out:
                 out.write(f"{times:<8}{len(self.clauses):<12}{self.clauses}{self.steps}")
-            with open(given) as text:
-                ran = subprocess.run(["time", "-f", "%U %M", "-o", told, program], stdin=text, capture_output=True,
-                                     text=True, env=system)
-            if ran.returncode or ran.stdout.count("refuted") != times:
-                sys.exit(f"{ran.stdout}{ran.stderr}")
-            with open(told) as text:
-                seconds, memory = text.read().split()[-2:]
-        return float(seconds), int(memory) / 1024
+            for _run in range(runs):
+                with open(given) as text:
+                    ran = subprocess.run(["time", "-f", "%U %M", "-o", told, program], stdin=text,
+                                         capture_output=True, text=True, env=system)
+                if ran.returncode or ran.stdout.count("refuted") != times:
+                    sys.exit(f"{ran.stdout}{ran.stderr}")
+                with open(told) as text:
+                    took, room = text.read().split()[-2:]
+                seconds.append(float(took))
+                memory.append(int(room) / 1024)
+        return min(seconds), max(memory)
 
 
-def time_verify(program, steps):
+def time_verify(program, steps, runs):
     proofs = {"20 clauses, 20 hints a step": Proof(20, 20, steps),
               "100,000 clauses, 20 hints a step": Proof(100000, 20, steps),
               "100,000 of 400,000 clauses left, 20 hints a step": Proof(100000, 20, steps, others=300000),
               "clauses deleted, 2 hints a step": Proof(100, 2, steps, LEAD)}
     for name, proof in proofs.items():
-        times = 10
-        before, beside = proof.measured(program, 0)
-        after, memory = proof.measured(program, times)
+        # So many that they take longer than what is read before.
+        times = 4 * 10 ** 8 // proof.hints
+        before, beside = proof.measured(program, 0, runs=runs)
+        after, memory = proof.measured(program, times, runs=runs)
         seconds, store = (after - before) / times, memory - beside
         back = proof.measured(program, 1, True)[1] - proof.measured(program, 0, True)[1]
         in_bytes = [8 * literals / 2 ** 20 for literals in (proof.held, proof.added)]
         print(f"{name}: {proof.hints} hints in {seconds:.2f} s, {proof.hints / seconds / 1e6:.1f} million a second; "
-              f"{store:.1f} MB ({back:.1f} MB given back) beside {in_bytes[0]:.3g} MB of literals held in the end, {in_bytes[1]:.3g} MB ever",
+              f"{store:.1f} MB ({back:.1f} MB given back) beside {in_bytes[0]:.3g} MB of literals held in the end, "
+              f"{in_bytes[1]:.3g} MB ever",
               flush=True)
 
 
@@ -145,6 +151,7 @@ def main():
     options = argparse.ArgumentParser()
     options.add_argument("--verify", action="store_true")
     options.add_argument("--steps", type=int, default=1000000)
+    options.add_argument("--runs", type=int, default=3)
     options.add_argument("--program")
     options.add_argument("counts", type=int, nargs="*")
     options = options.parse_args()
@@ -153,7 +160,7 @@ def main():
     with contextlib.ExitStack() as stack:
         text = PROGRAM.replace("COUNT", made.COUNT)
         program = options.program or stack.enter_context(made.program("lrat_bench", text, ["cnf_text", "lrat_check"]))
-        time_verify(program, options.steps)
+        time_verify(program, options.steps, options.runs)
 
 
 if __name__ == "__main__":
