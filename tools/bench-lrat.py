@@ -118,8 +118,8 @@ def time_verify(program, steps, runs):
               "100,000 of 400,000 clauses left, 20 hints a step": Proof(100000, 20, steps, others=300000),
               "clauses deleted, 2 hints a step": Proof(100, 2, steps, LEAD)}
     for name, proof in proofs.items():
-        # So many that they take longer than what is read before.
-        times = 4 * 10 ** 8 // proof.hints
+        # So many that a million steps take longer than what is read before.
+        times = min(200, 4 * 10 ** 8 // proof.hints)
         before, beside = proof.measured(program, 0, runs=runs)
         after, memory = proof.measured(program, times, runs=runs)
         seconds, store = (after - before) / times, memory - beside
