@@ -1,3 +1,0 @@
-pub mod Multiplying
-pub mod Past
-pub mod Shifting

@@ -1,4 +1,0 @@
-pub mod Copying
-pub mod EachKind
-pub mod Moving
-pub mod Writing

@@ -1,4 +1,0 @@
-pub mod Carried
-pub mod Channels
-pub mod Sources
-pub mod Tight

@@ -1,4 +1,0 @@
-pub mod Bound
-pub mod Carried
-pub mod Entries
-pub mod Violating

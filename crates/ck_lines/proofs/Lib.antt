@@ -1,3 +1,0 @@
-pub mod Entries
-pub mod Histories
-pub mod Lines

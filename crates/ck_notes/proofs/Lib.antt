@@ -1,3 +1,0 @@
-pub mod Fields
-pub mod Placed
-pub mod Whole

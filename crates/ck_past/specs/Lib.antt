@@ -1,2 +1,0 @@
-pub mod Retirements
-pub mod Kept

@@ -1,5 +1,0 @@
-pub mod Texts
-pub mod Names
-pub mod Rows
-pub mod Whole
-pub mod Dumps

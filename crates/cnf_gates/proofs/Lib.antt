@@ -1,2 +1,0 @@
-pub mod ClauseLaws
-pub mod Models

@@ -1,6 +1,0 @@
-//! Graphs as clauses.
-#![tactic(auto)]
-
-mod clauses;
-
-pub use clauses::clauses_of;

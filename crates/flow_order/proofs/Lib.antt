@@ -1,5 +1,0 @@
-pub mod Cells
-pub mod Reading
-pub mod Orders
-pub mod Turns
-pub mod Circles

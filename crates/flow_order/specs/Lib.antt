@@ -1,4 +1,0 @@
-pub mod CellGroups
-pub mod Footprints
-pub mod Numbers
-pub mod Found

@@ -1,4 +1,0 @@
-pub mod Growing
-pub mod Visiting
-pub mod Bucketing
-pub mod Reading

@@ -1,5 +1,0 @@
-pub mod Groups
-pub mod Edges
-pub mod Visits
-pub mod Buckets
-pub mod Reads

@@ -1,3 +1,0 @@
-pub mod Shares
-pub mod Earliest
-pub mod Doubled

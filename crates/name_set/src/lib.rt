@@ -1,6 +1,0 @@
-//! Sets of names.
-#![tactic(auto)]
-
-mod set;
-
-pub use set::NameSet;

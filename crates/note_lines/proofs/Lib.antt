@@ -1,4 +1,0 @@
-pub mod Choices
-pub mod FieldBits
-pub mod Lines
-pub mod Words

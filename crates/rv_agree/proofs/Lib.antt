@@ -1,2 +1,0 @@
-pub mod NodeLemmas
-pub mod TestLemmas

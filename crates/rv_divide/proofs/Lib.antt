@@ -1,2 +1,0 @@
-pub mod DivisionLemmas
-pub mod SignedLemmas

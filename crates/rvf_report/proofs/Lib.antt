@@ -1,5 +1,0 @@
-pub mod Batches
-pub mod Heads
-pub mod Deliveries
-pub mod Counting
-pub mod Standing

@@ -1,9 +1,0 @@
-pub mod Added
-pub mod Comes
-pub mod Counts
-pub mod Literals
-pub mod Models
-pub mod Rounds
-pub mod Searches
-pub mod Solves
-pub mod Turns

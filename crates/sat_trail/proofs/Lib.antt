@@ -1,6 +1,0 @@
-pub mod ClauseLists
-pub mod Codes
-pub mod Members
-pub mod Standing
-pub mod Readings
-pub mod Starts

@@ -1,3 +1,0 @@
-pub mod ClauseList
-pub mod Clauses
-pub mod Trail

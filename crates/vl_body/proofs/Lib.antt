@@ -1,2 +1,0 @@
-pub mod ItemRows
-pub mod ItemSpelled

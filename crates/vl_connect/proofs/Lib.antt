@@ -1,5 +1,0 @@
-pub mod Clocks
-pub mod Found
-pub mod Directions
-pub mod Joins
-pub mod Reasons

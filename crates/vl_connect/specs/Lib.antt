@@ -1,5 +1,0 @@
-pub mod Clock
-pub mod Instances
-pub mod Joined
-pub mod Parameters
-pub mod Ports

@@ -1,3 +1,0 @@
-pub mod InLists
-pub mod Loops
-pub mod Sums

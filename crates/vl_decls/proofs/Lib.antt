@@ -1,3 +1,0 @@
-pub mod Going
-mod Declared
-mod PortDecls

@@ -1,3 +1,0 @@
-pub mod Drawn
-pub mod Ends
-pub mod Written

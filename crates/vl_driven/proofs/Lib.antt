@@ -1,3 +1,0 @@
-pub mod CellMasks
-pub mod Blocks
-pub mod Starts

@@ -1,0 +1,4 @@
+pub mod Cases
+pub mod Statements
+pub mod TargetParts
+pub mod JoinedTargets

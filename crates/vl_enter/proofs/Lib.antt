@@ -1,3 +1,0 @@
-pub mod Around
-pub mod Bounded
-pub mod Own

@@ -1,2 +1,0 @@
-pub mod Wild
-pub mod Conditions

@@ -1,3 +1,0 @@
-pub mod Stored
-pub mod Logs
-pub mod Frames

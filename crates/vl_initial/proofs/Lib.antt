@@ -1,3 +1,0 @@
-pub mod ZeroCells
-pub mod Numbers
-pub mod FirstNumbers

@@ -1,2 +1,0 @@
-pub mod Those
-pub mod Rest

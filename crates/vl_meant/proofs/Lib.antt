@@ -1,4 +1,0 @@
-pub mod Entries
-pub mod Level
-pub mod Laid
-pub mod Walked

@@ -1,3 +1,0 @@
-pub mod Here
-pub mod Levels
-pub mod Modules

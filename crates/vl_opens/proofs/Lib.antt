@@ -1,4 +1,0 @@
-mod Names
-mod Ranges
-mod Scopes
-pub mod Walked

@@ -1,4 +1,0 @@
-//! That the scopes of a design which isn't refused can be opened: a law of the definitions, without code.
-#![tactic(auto)]
-
-pub mod law;

@@ -1,4 +1,0 @@
-pub mod KeptParameters
-pub mod Listed
-pub mod LaterNames
-pub mod Whole

@@ -1,4 +1,0 @@
-pub mod ModuleRows
-pub mod SourceSpelled
-pub mod Top
-pub mod Refusals

@@ -1,5 +1,0 @@
-pub mod Reads
-pub mod Paths
-pub mod Depends
-pub mod Drivers
-pub mod Settle

@@ -1,2 +1,0 @@
-pub mod DriverPlaces
-pub mod Seen

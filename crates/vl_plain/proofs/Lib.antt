@@ -1,3 +1,0 @@
-pub mod ItemLeads
-pub mod PlainRows
-pub mod PlainSpelled

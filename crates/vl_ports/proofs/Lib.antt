@@ -1,3 +1,0 @@
-mod Joined
-mod Written
-pub mod StepParts

@@ -1,4 +1,0 @@
-pub mod Assigned
-pub mod Spliced
-pub mod Overlaps
-pub mod Masking

@@ -1,3 +1,0 @@
-pub mod Overlap
-pub mod Places
-pub mod Puts

@@ -1,3 +1,0 @@
-pub mod Widths
-pub mod Registers
-pub mod Memories

@@ -1,2 +1,0 @@
-pub mod ItemsRows
-pub mod ItemsSpelled

@@ -1,6 +1,0 @@
-pub mod FullNames
-pub mod Names
-pub mod Found
-pub mod Flattened
-pub mod SameMaps
-pub mod StepScopes

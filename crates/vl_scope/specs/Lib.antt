@@ -1,4 +1,0 @@
-pub mod Contexts
-pub mod Divisions
-pub mod Seen
-pub mod Texts

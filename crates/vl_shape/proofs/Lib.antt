@@ -1,4 +1,0 @@
-pub mod ClassLemmas
-pub mod Bounded
-pub mod Shaped
-pub mod Whole

@@ -1,4 +1,0 @@
-pub mod Fixed
-pub mod Tests
-pub mod Parts
-pub mod Sizes

@@ -1,4 +1,0 @@
-pub mod Tests
-pub mod Ranges
-pub mod Written
-pub mod Places

@@ -1,5 +1,0 @@
-pub mod Parts
-pub mod Indices
-pub mod Started
-pub mod Refusing
-pub mod Several

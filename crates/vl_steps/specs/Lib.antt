@@ -1,4 +1,0 @@
-pub mod Layout
-pub mod Executes
-pub mod Arms
-pub mod Located

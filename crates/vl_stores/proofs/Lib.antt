@@ -1,4 +1,0 @@
-pub mod Carried
-pub mod Placed
-pub mod Together
-pub mod Turns

@@ -1,6 +1,0 @@
-//! Which refusal of a generate loop's head is answered.
-#![tactic(auto)]
-
-mod head;
-
-pub use head::{enter_turn, head_fault};

@@ -1,2 +1,0 @@
-pub mod ItemKinds
-pub mod Rest

@@ -1,4 +1,0 @@
-pub mod Here
-pub mod Kinds
-pub mod Left
-pub mod Ports

@@ -1,5 +1,0 @@
-pub mod Adding
-pub mod Expressions
-pub mod Naming
-pub mod Merging
-pub mod Statements

@@ -1,5 +1,0 @@
-pub mod Alike
-pub mod Chosen
-pub mod Given
-pub mod OldRun
-pub mod Own
