@@ -18,7 +18,7 @@ import made
 SIZES = """//! Prints the gates and clauses of nodes.
 #![tactic(auto)]
 
-use cnf_nodes::clauses_of_nodes;
+use bb_clauses::clauses_of_nodes;
 use fv_base::Word;
 use std::alloc::Global;
 use std::test::Fail;
@@ -152,7 +152,7 @@ TIMES = """//! Makes the graph of many products, or the clauses of a graph of ma
 
 use bb_aig::{Aig, Lit};
 use bb_blast::blast;
-use cnf_gates::clauses_of;
+use bb_clauses::clauses_of;
 use std::alloc::Global;
 use std::io::Read;
 use std::process::Abort;
@@ -249,7 +249,7 @@ def show_products(program):
 def show_times():
     nodes = ["Node::Input(0)", "Node::Input(1)"] + [f"Node::Mul({at}, {at + 1})" for at in range(PRODUCTS)]
     text = TIMES.replace("NODES", ", ".join(nodes)).replace("COUNT\n", made.COUNT)
-    with made.program("many_gates", text, ["bb_blast", "bb_aig", "cnf_gates", "wn_net"]) as program:
+    with made.program("many_gates", text, ["bb_blast", "bb_aig", "bb_clauses", "wn_net"]) as program:
         show_products(program)
         for gates in [2500000, 5000000, 10000000]:
             for what in ["gates", "clauses"]:
@@ -259,7 +259,7 @@ def show_times():
 
 def main():
     if sys.argv[1:] == ["sizes"]:
-        libraries = ["wn_mem", "wn_net", "cnf_nodes", "bb_blast", "bb_aig", "fv_base"]
+        libraries = ["wn_mem", "wn_net", "bb_clauses", "bb_blast", "bb_aig", "fv_base"]
         print(made.tried("bit_sizes", SIZES, libraries), end="")
     elif sys.argv[1:] == ["times"]:
         show_times()

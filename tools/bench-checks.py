@@ -18,9 +18,9 @@ import sys
 
 import made
 
-LIBRARIES = "rvf_text vl_elab vl_flow vl_ordered vl_lower vl_prep vl_mean vl_tree rvfi_port rv_table ck_cfg ck_gen " \
-    "ck_notes note_lines bm_decide bm_unroll cnf_nodes bb_blast bb_aig cnf_text cnf_form lrat_check sat_search " \
-    "wn_net fv_base anyhow"
+LIBRARIES = "vl_text vl_elab vl_flow vl_lower vl_prep vl_mean vl_tree rvfi_port rv_table ck_cfg ck_gen " \
+    "ck_design rvf_judge bm_decide bm_unroll bb_clauses bb_blast bb_aig cnf_text cnf_form " \
+    "lrat_check sat_search wn_net fv_base anyhow"
 
 PROGRAM = r"""//! Reads a letter and the name of a check, a configuration up to a line `.`, and a Verilog text, and goes
 //! as far with the check as the letter says. Says what was made.
@@ -32,13 +32,13 @@ use bm_decide::ChoiceBits;
 use bm_unroll::{Frames, unroll};
 use ck_cfg::{Check, Config, checks, read_cfg};
 use ck_gen::monitor;
-use cnf_nodes::{Encoded, clauses_of_nodes};
+use bb_clauses::{Encoded, clauses_of_nodes};
 use cnf_text::dimacs;
 use fv_base::{List, Text};
 use lrat_check::{Step, lrat};
-use note_lines::{note_text, notes_of};
+use rvf_judge::{note_text, notes_of};
 use rv_table::Opts;
-use rvf_text::{Core, Retirements, SourceText, read_source};
+use vl_text::{Core, Retirements, SourceText, read_source};
 use rvfi_port::{Channel, Port, Wants, bind};
 use sat_search::{Found, solve};
 use std::alloc::Global;

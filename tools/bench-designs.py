@@ -21,8 +21,8 @@ import tempfile
 
 import made
 
-LIBRARIES = "vl_lower vl_evals vl_elab vl_refusal vl_flow vl_ordered vl_order vl_mean vl_size vl_parse vl_token " \
-    "vl_tree wn_net fv_base anyhow"
+LIBRARIES = "vl_lower vl_lower_spec vl_elab vl_elab_spec vl_flow vl_flow_spec vl_mean vl_size vl_parse " \
+    "vl_token vl_tree wn_net fv_base anyhow"
 
 PROGRAM = r"""//! Reads a letter and a Verilog text, whose top module is `top`, and works on it as far as the letter
 //! says: parses, elaborates, orders or lowers it, or counts the kinds of its nodes behind that. Says what was made.
@@ -36,7 +36,7 @@ use vl_elab::elaborate;
 use vl_flow::order;
 use vl_lower::lower;
 use vl_mean::Flat;
-use vl_ordered::weight;
+use vl_flow::weight;
 use vl_parse::parse;
 use vl_token::lex;
 use wn_net::{Net, Node};

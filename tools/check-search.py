@@ -20,8 +20,8 @@ import time
 
 HERE = os.path.dirname(os.path.abspath(__file__))
 TOP = os.path.join(HERE, "..")
-CRATES = ["fv_base", "fv_lines", "cnf_form", "cnf_text", "lrat_check", "sat_trail", "clause_set",
-          "sat_ledger", "sat_watch", "sat_unit", "sat_learn", "sat_order", "sat_search"]
+CRATES = ["fv_base", "fv_lines", "cnf_form", "cnf_text", "lrat_check", "sat_trail", "sat_search",
+          "sat_propagate", "sat_learn"]
 BUDGET = 200000
 
 # The first line of a clause file whose verdict alone is wanted.

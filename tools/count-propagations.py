@@ -6,7 +6,7 @@
 Adders of 64 bits, products of 5 bits, N random formulas of 150 variables (2), and the given clause files. Both
 programs are that of `tools/check-search.py`: the times are those of --driver, and in --counted `Watches::advance`,
 which takes the next true literal, isn't inlined. LLVM builds it so from the same module by `-mllvm
--forceattrs-csv-path=FILE`, where FILE has the line `sat_watch::watches::Watches::advance,noinline`. Its calls are
+-forceattrs-csv-path=FILE`, where FILE has the line `sat_propagate::watches::Watches::advance,noinline`. Its calls are
 counted by a breakpoint of the processor (Debian's `linux-perf`); MiniSat counts its own, in the same sense. The least
 user time of so many runs (3) counts, with the reading of the formula.
 """
@@ -20,7 +20,7 @@ import tempfile
 import made
 
 COMPARE = made.script("compare-search")
-NAME = "sat_watch::watches::Watches::advance"
+NAME = "sat_propagate::watches::Watches::advance"
 # Where a program that may lie anywhere lies, if places aren't chosen at random.
 BASE = 0x555555554000
 

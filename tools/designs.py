@@ -8,8 +8,8 @@ import subprocess
 
 import made
 
-LIBRARIES = "vl_lower tr_replay vl_evals vl_elab vl_refusal vl_flow vl_ordered vl_order vl_mean vl_size vl_parse " \
-    "vl_token vl_tree wn_run wn_net fv_base anyhow"
+LIBRARIES = "vl_lower tr_replay vl_lower_spec vl_elab vl_elab_spec vl_flow vl_flow_spec vl_mean vl_size " \
+    "vl_parse vl_token vl_tree wn_run wn_net fv_base anyhow"
 
 DRIVER = r"""//! Reads a number and a Verilog text a line, and prints the names of its design and a run.
 #![tactic(auto)]
@@ -22,7 +22,7 @@ use vl_elab::elaborate;
 use vl_flow::order;
 use vl_lower::lower;
 use vl_mean::Flat;
-use vl_ordered::Ordered;
+use vl_flow::Ordered;
 use vl_parse::parse;
 use vl_size::Class;
 use vl_token::lex;

@@ -1,6 +1,6 @@
 //! Small sets of bits of cells.
 
-use bit_sets::Bits;
+use fv_bit_sets::Bits;
 use std::alloc::Global;
 use std::process::Abort;
 use std::test::Fail;

@@ -1,7 +1,7 @@
 //! Small graphs: their nodes in order, or a circle.
 
 use fv_base::{List, Memory};
-use graph_walk::{Walked, circle_from, is_within, walk};
+use fv_graph::{Walked, circle_from, is_within, walk};
 use std::alloc::Global;
 use std::test::Fail;
 

@@ -1,15 +1,15 @@
 -- The laws, gathered.
 use Rattle.std.specs.Prelude.{◌≡◌, ◌*◌, ◌^◌, false, ◌++◌, length, replicate}
 use Rattle.std.proofs.Common.{ap, ◌∙◌, arith}
-use Rattle.bb_bits.specs.Bits.{number}
-use Rattle.bb_bits.specs.Laws.{BitsAreBitwise, BitsAreSums, BitsAreOrdered, BitsAreShifted, BitsArePlaced}
-use Rattle.bb_bits.proofs.Numbers.{number_fits, number-append, number_zeros, number_joined, number_complement}
-use Rattle.bb_bits.proofs.Numbers.{number_and, number_or, number_xor}
-use Rattle.bb_bits.proofs.Moves.{number_part, number_shifted}
-use Rattle.bb_bits.proofs.Rights.{number_shifted_right, number_arithmetic}
-use Rattle.bb_bits.proofs.Sums.{number_sum, number_difference, number_product}
-use Rattle.bb_bits.proofs.Orders.{number_eq, number_ult, number_nonzero}
-use Rattle.bb_bits.proofs.Signs.{number_slt, number_sext}
+use Rattle.bb_aig.specs.Bits.{number}
+use Rattle.bb_aig.specs.Laws.{BitsAreBitwise, BitsAreSums, BitsAreOrdered, BitsAreShifted, BitsArePlaced}
+use Rattle.bb_aig.proofs.Numbers.{number_fits, number-append, number_zeros, number_joined, number_complement}
+use Rattle.bb_aig.proofs.Numbers.{number_and, number_or, number_xor}
+use Rattle.bb_aig.proofs.Moves.{number_part, number_shifted}
+use Rattle.bb_aig.proofs.Rights.{number_shifted_right, number_arithmetic}
+use Rattle.bb_aig.proofs.Sums.{number_sum, number_difference, number_product}
+use Rattle.bb_aig.proofs.Orders.{number_eq, number_ult, number_nonzero}
+use Rattle.bb_aig.proofs.Signs.{number_slt, number_sext}
 
 pub bitwise : BitsAreBitwise
 bitwise = record { turned = number_complement; both = number_and; either = number_or; one = number_xor }

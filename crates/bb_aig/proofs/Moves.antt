@@ -6,8 +6,8 @@ use Rattle.std.proofs.lemmas.Nat.{pow-add, mul-mod_first}
 use Rattle.std.proofs.lemmas.List.{take-append-drop, length-take-le, length-replicate, length-map, length-drop}
 use Rattle.std.proofs.Math.Nat.{mod-eq_of_lt, mul_assoc}
 use Rattle.fv_bits.specs.Bits.{bit, low, part, shifted_left, shifted_right, sign_extended}
-use Rattle.bb_bits.specs.Bits.{number, pick, paired, moved_up, shl_bits}
-use Rattle.bb_bits.proofs.Numbers.{number_fits, number-append, number_low, number_high, number_zeros}
+use Rattle.bb_aig.specs.Bits.{number, pick, paired, moved_up, shl_bits}
+use Rattle.bb_aig.proofs.Numbers.{number_fits, number-append, number_low, number_high, number_zeros}
 
 pub number_take : (k : ℕ) (xs : List Bool) → k ≤ length xs → number (take k xs) ≡ low k (number xs)
 number_take k xs h =

@@ -6,7 +6,7 @@ use Rattle.std.proofs.Common.{ap, sym, ◌∙◌, arith, subst, inl, inr, ◌⊎
 use Rattle.std.proofs.lemmas.Nat.{pow_pos, pow-add, and_block, or_block, xor_block, shr_high, mod_low}
 use Rattle.std.proofs.lemmas.Bool.{le-leb, lt-leb, cases_lt}
 use Rattle.fv_bits.specs.Bits.{bit, ones, complement, low, part, joined, is_negative}
-use Rattle.bb_bits.specs.Bits.{number, differ, pick, paired, top}
+use Rattle.bb_aig.specs.Bits.{number, differ, pick, paired, top}
 
 pub bit_small : (b : Bool) → bit b < 2
 bit_small true = omega arith

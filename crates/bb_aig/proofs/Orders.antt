@@ -5,7 +5,7 @@ use Rattle.std.proofs.Common.{ap, sym, ◌∙◌, arith, subst}
 use Rattle.std.proofs.lemmas.Bool.{ltb-true, ltb-false, leb-true, leb-false, eqb-true, eqb-false, lt-ltb, le-ltb}
 use Rattle.std.proofs.lemmas.Bool.{le-leb, lt-leb, eq-eqb, ne_eqb}
 use Rattle.fv_bits.specs.Bits.{bit}
-use Rattle.bb_bits.specs.Bits.{number, differ, pick, less_bits, same_bits, any_bit}
+use Rattle.bb_aig.specs.Bits.{number, differ, pick, less_bits, same_bits, any_bit}
 
 pub same_tests : (s t : Bool) → (s ≡ true → t ≡ true) → (t ≡ true → s ≡ true) → s ≡ t
 same_tests true t f g = sym (f refl)

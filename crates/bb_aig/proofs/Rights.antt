@@ -9,9 +9,9 @@ use Rattle.std.proofs.lemmas.List.{drop-map, map-append}
 use Rattle.std.proofs.Math.Nat.{mod-eq_of_lt, div-eq_of_lt, div-le_self}
 use Rattle.std.proofs.Math.Pow.{pow_mono}
 use Rattle.fv_bits.specs.Bits.{bit, low, complement, is_negative, shifted_right, arithmetic_right}
-use Rattle.bb_bits.specs.Bits.{number, pick, paired, moved_down, shr_bits, top}
-use Rattle.bb_bits.proofs.Numbers.{number_fits, number-append, number_zeros, number_complement, top_sign}
-use Rattle.bb_bits.proofs.Moves.{number_take, number_drop, pick_list, picked_all}
+use Rattle.bb_aig.specs.Bits.{number, pick, paired, moved_down, shr_bits, top}
+use Rattle.bb_aig.proofs.Numbers.{number_fits, number-append, number_zeros, number_complement, top_sign}
+use Rattle.bb_aig.proofs.Moves.{number_take, number_drop, pick_list, picked_all}
 
 pub length-moved_down : (fill : Bool) (k : ℕ) (xs : List Bool) → length (moved_down fill k xs) ≡ length xs
 length-moved_down fill k xs =

@@ -6,9 +6,9 @@ use Rattle.std.proofs.Common.{ap, sym, ◌∙◌, arith, subst}
 use Rattle.std.proofs.lemmas.Nat.{pow-add}
 use Rattle.std.proofs.lemmas.Bool.{lt-ltb, le-ltb}
 use Rattle.fv_bits.specs.Bits.{bit, to_int, is_negative, is_less_signed, sign_extended}
-use Rattle.bb_bits.specs.Bits.{number, top, turned_top, less_bits}
-use Rattle.bb_bits.proofs.Numbers.{pow_next, number_fits, number-append, number_zeros, number_ones, top_sign}
-use Rattle.bb_bits.proofs.Orders.{lt_lt, number_ult}
+use Rattle.bb_aig.specs.Bits.{number, top, turned_top, less_bits}
+use Rattle.bb_aig.proofs.Numbers.{pow_next, number_fits, number-append, number_zeros, number_ones, top_sign}
+use Rattle.bb_aig.proofs.Orders.{lt_lt, number_ult}
 
 half : (n : ℕ) → 2 ^ (suc (suc n) - 1) ≡ 2 * 2 ^ (suc n - 1)
 half n =

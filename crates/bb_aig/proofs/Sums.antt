@@ -6,9 +6,9 @@ use Rattle.std.proofs.lemmas.Nat.{mod_low, mul-mod_first, mul-mod_second}
 use Rattle.std.proofs.lemmas.List.{length-map, length-replicate}
 use Rattle.std.proofs.Math.Nat.{mod-eq_of_lt, mod-add-mod, add-mod-mod, mul_assoc}
 use Rattle.fv_bits.specs.Bits.{bit, low, sum, difference, product}
-use Rattle.bb_bits.specs.Bits.{number, differ, pick, paired, summed, carried, add_bits, mul_bits, moved_up}
-use Rattle.bb_bits.proofs.Numbers.{pow_next, number_fits, number_not, number_zeros}
-use Rattle.bb_bits.proofs.Moves.{number_moved_up, length-moved_up}
+use Rattle.bb_aig.specs.Bits.{number, differ, pick, paired, summed, carried, add_bits, mul_bits, moved_up}
+use Rattle.bb_aig.proofs.Numbers.{pow_next, number_fits, number_not, number_zeros}
+use Rattle.bb_aig.proofs.Moves.{number_moved_up, length-moved_up}
 
 full : (a b c : Bool) → bit (summed a b c) + 2 * bit (carried a b c) ≡ bit a + bit b + bit c
 full true true true = refl

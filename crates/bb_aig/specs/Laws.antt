@@ -28,9 +28,9 @@ use Rattle.std.specs.Prelude.{
   replicate,
 }
 use Rattle.fv_bits.specs.Bits as bits
-use Rattle.bb_bits.specs.Bits.{number, differ, pick, paired, add_bits, less_bits, same_bits, any_bit, mul_bits}
-use Rattle.bb_bits.specs.Bits.{shl_bits}
-use Rattle.bb_bits.specs.Bits.{shr_bits, top, turned_top}
+use Rattle.bb_aig.specs.Bits.{number, differ, pick, paired, add_bits, less_bits, same_bits, any_bit, mul_bits}
+use Rattle.bb_aig.specs.Bits.{shl_bits}
+use Rattle.bb_aig.specs.Bits.{shr_bits, top, turned_top}
 
 -- each bit by itself
 pub record BitsAreBitwise : Type 0 where

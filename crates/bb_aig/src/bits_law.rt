@@ -1,4 +1,4 @@
-ghost use Rattle.bb_bits.specs.Laws as laws;
+ghost use Rattle.bb_aig.specs.Laws as laws;
 
 /// Each operator on lists of bits is that on their numbers.
 #[tactic(auto, using(crate::proofs::All::bitwise, crate::proofs::All::sums, crate::proofs::All::ordered, crate::proofs::All::shifted, crate::proofs::All::placed))]

@@ -1,11 +1,11 @@
 //! Gates that are made of others.
 ghost use Rattle.std.specs.Prelude.{◌≡◌, ◌<◌, not, ◌&&◌, ◌||◌, IfOk};
 ghost use Rattle.bb_aig.specs.Graph.{IsLit};
-ghost use Rattle.bb_bits.specs.Bits as bits;
-ghost use Rattle.bb_gates.specs.Gates.{Meaning, Grows, IsMade};
+ghost use Rattle.bb_aig.specs.Bits as bits;
+ghost use Rattle.bb_aig.specs.Gates.{Meaning, Grows, IsMade};
 
 use crate::graph::Gates;
-use bb_aig::{Lit, complement};
+use crate::node::{Lit, complement};
 use fv_base::Memory;
 
 /// One or both.

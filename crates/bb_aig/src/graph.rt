@@ -1,9 +1,10 @@
 ghost use Rattle.std.specs.Prelude.{◌≡◌, ◌*◌, ◌<◌, ◌≤◌, ◌^◌, ◌&&◌, length, IfOk, IfSome};
 ghost use Rattle.bb_aig.specs.Graph.{IsLit, IsGraph};
-ghost use Rattle.bb_gates.specs.Gates.{Meaning, Grows, IsMade, Both};
+ghost use Rattle.bb_aig.specs.Gates.{Meaning, Grows, IsMade, Both};
 
+use crate::aig::Aig;
+use crate::node::{AigNode, Lit};
 use crate::table::{PLACES, first_place, later_place, put};
-use bb_aig::{Aig, AigNode, Lit};
 use fv_base::Memory;
 use std::alloc::Global;
 use std::marker::Model;

@@ -2,7 +2,7 @@
 //! anywhere.
 ghost use Rattle.std.specs.Prelude.{◌≡◌, ◌<◌, ◌≤◌, ◌^◌, length};
 
-use bb_aig::Lit;
+use crate::node::Lit;
 
 /// How many places of the table a gate may stand at.
 pub(crate) const PLACES: usize = 8;

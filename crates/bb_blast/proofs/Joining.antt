@@ -10,7 +10,7 @@ use Rattle.wn_net.specs.declared.node.Node.{Node}
 use Rattle.wn_net.specs.Width.{AreFitting}
 use Rattle.wn_net.proofs.Small.{widths_small}
 use Rattle.wn_net.proofs.Sweep.{length-widths}
-use Rattle.bb_operators.specs.Words.{Numbers, IsWord, AreWords}
+use Rattle.bb_words.specs.Words.{Numbers, IsWord, AreWords}
 use Rattle.bb_blast.specs.Choice.{HasInputsAlone, numbers_of, table_from}
 use Rattle.bb_blast.specs.Walk.{sources, values_by, widths_by, AreWidths, Reads, AreReady, MeansNodes}
 use Rattle.bb_blast.proofs.Nodes.{word_is}

@@ -6,8 +6,8 @@ use Rattle.std.proofs.Common.{ap, sym, ◌∙◌, arith, subst}
 use Rattle.bb_aig.specs.declared.node.AigNode.{AigNode}
 use Rattle.bb_aig.specs.Graph.{lit_at}
 use Rattle.fv_bits.specs.Bits as num
-use Rattle.bb_bits.specs.Bits.{number}
-use Rattle.bb_gates.specs.Gates.{Grows, AreLits}
+use Rattle.bb_aig.specs.Bits.{number}
+use Rattle.bb_aig.specs.Gates.{Grows, AreLits}
 use Rattle.fv_base.specs.declared.memory.Memory.{Memory}
 use Rattle.fv_base.specs.declared.word.Word.{Word}
 use Rattle.fv_base.specs.Word.{number as value_of_word}
@@ -16,10 +16,10 @@ use Rattle.wn_net.specs.declared.node.Node.TheVariants as n
 use Rattle.wn_net.specs.Width.{AreThere, AreAlike, IsFitting, width}
 use Rattle.wn_net.specs.Value.{value}
 use Rattle.bb_words.proofs.Lits.{lits_on, bits_on}
-use Rattle.bb_operators.specs.declared.operator.PairOperator.{PairOperator}
-use Rattle.bb_operators.specs.declared.operator.ShiftOperator.{ShiftOperator}
-use Rattle.bb_operators.specs.Operators.{value_of, width_of, shift_of, MeansPair, MeansShift}
-use Rattle.bb_operators.specs.Words.{Counts, Numbers, IsWord, AreWords, count}
+use Rattle.bb_words.specs.declared.operator.PairOperator.{PairOperator}
+use Rattle.bb_words.specs.declared.operator.ShiftOperator.{ShiftOperator}
+use Rattle.bb_words.specs.Operators.{value_of, width_of, shift_of, MeansPair, MeansShift}
+use Rattle.bb_words.specs.Words.{Counts, Numbers, IsWord, AreWords, count}
 use Rattle.bb_blast.specs.Walk.{sources, given_by, Reads, IsReady, AreWidths}
 use Rattle.bb_blast.specs.Walk.{MeansPairAt, MeansShiftAt, MeansWord, MeansNode}
 

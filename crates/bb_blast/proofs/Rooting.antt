@@ -8,11 +8,11 @@ use Rattle.std.proofs.Common.{ap, sym, ◌∙◌, arith}
 use Rattle.std.proofs.lemmas.List.{drop_more, drop_all}
 use Rattle.bb_aig.specs.declared.node.AigNode.{AigNode}
 use Rattle.bb_aig.specs.Graph.{IsLit, lit_at}
-use Rattle.bb_bits.specs.Bits.{any_bit}
-use Rattle.bb_bits.proofs.All.{ordered}
-use Rattle.bb_gates.specs.Gates.{Meaning, Grows, IsMade, bits}
-use Rattle.bb_gates.proofs.Growth.{grows_none, grows_on, made_on}
-use Rattle.bb_operators.specs.Words.{Numbers, AreWords}
+use Rattle.bb_aig.specs.Bits.{any_bit}
+use Rattle.bb_aig.proofs.All.{ordered}
+use Rattle.bb_aig.specs.Gates.{Meaning, Grows, IsMade, bits}
+use Rattle.bb_aig.proofs.Growth.{grows_none, grows_on, made_on}
+use Rattle.bb_words.specs.Words.{Numbers, AreWords}
 use Rattle.bb_blast.specs.Walk.{all_other_than_0}
 use Rattle.bb_blast.proofs.Nodes.{word_is, word_on}
 

@@ -11,9 +11,9 @@ use Rattle.bb_aig.specs.declared.node.AigNode.{AigNode}
 use Rattle.bb_aig.specs.declared.node.AigNode.TheVariants as n
 use Rattle.bb_aig.specs.Graph.{lit_at, inputs_of, Adds}
 use Rattle.bb_aig.proofs.Values.{count_push}
-use Rattle.bb_bits.specs.Bits.{number}
-use Rattle.bb_gates.specs.Gates.{Grows, AreLits, bits}
-use Rattle.bb_operators.specs.Words.{IsWord, AreWords}
+use Rattle.bb_aig.specs.Bits.{number}
+use Rattle.bb_aig.specs.Gates.{Grows, AreLits, bits}
+use Rattle.bb_words.specs.Words.{IsWord, AreWords}
 use Rattle.bb_blast.specs.declared.places.Placed.{Placed}
 use Rattle.bb_blast.specs.Choice.{bits_from, numbers_from, literals_from, table_from, places_from, all_places}
 use Rattle.bb_blast.specs.Choice.{InputsAreFirst, HasInputsAlone}

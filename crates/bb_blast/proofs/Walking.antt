@@ -6,13 +6,13 @@ use Rattle.std.proofs.Common.{ap, sym, ◌∙◌, arith, subst, inl, inr, ◌⊎
 use Rattle.std.proofs.lemmas.List.{get_or_append_left, get_or_push, length_push}
 use Rattle.std.proofs.lemmas.Bool.{cases_lt}
 use Rattle.bb_aig.specs.declared.node.AigNode.{AigNode}
-use Rattle.bb_bits.specs.Bits.{number}
-use Rattle.bb_gates.specs.Gates.{Grows, AreLits, bits}
+use Rattle.bb_aig.specs.Bits.{number}
+use Rattle.bb_aig.specs.Gates.{Grows, AreLits, bits}
 use Rattle.wn_net.specs.declared.node.Node.{Node}
 use Rattle.wn_net.specs.Width.{AreFitting, width, widths}
 use Rattle.wn_net.specs.Value.{value, values}
 use Rattle.wn_net.proofs.Small.{AreSmall, width_small, widths_push}
-use Rattle.bb_operators.specs.Words.{Counts, Numbers, IsWord, AreWords}
+use Rattle.bb_words.specs.Words.{Counts, Numbers, IsWord, AreWords}
 use Rattle.bb_blast.specs.Walk.{sources, given_by, values_by, widths_by, AreWidths, IsReady, MeansNode}
 use Rattle.bb_blast.proofs.Nodes.{words_on}
 

@@ -4,7 +4,7 @@ use Rattle.std.specs.Prelude.{◌++◌, length, slice_get, Some}
 use Rattle.bb_aig.specs.declared.node.AigNode.{AigNode}
 use Rattle.bb_aig.specs.declared.node.AigNode.TheVariants as n
 use Rattle.bb_aig.specs.Graph.{lit_at, inputs_of}
-use Rattle.bb_bits.specs.Bits.{number}
+use Rattle.bb_aig.specs.Bits.{number}
 use Rattle.bb_blast.specs.declared.places.Placed.{Placed}
 
 -- so many values of inputs, from the input `at` on

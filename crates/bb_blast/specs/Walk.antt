@@ -5,10 +5,10 @@ use Rattle.wn_net.specs.declared.node.Node.{Node}
 use Rattle.wn_net.specs.Width.{Shape, IsWidth, AreThere, AreAlike, IsFitting, AreFitting, width, widths}
 use Rattle.wn_net.specs.Value.{Given, value, values}
 use Rattle.bb_aig.specs.declared.node.AigNode.{AigNode}
-use Rattle.bb_operators.specs.declared.operator.PairOperator.{PairOperator}
-use Rattle.bb_operators.specs.declared.operator.ShiftOperator.{ShiftOperator}
-use Rattle.bb_operators.specs.Operators.{value_of, width_of, shift_of}
-use Rattle.bb_operators.specs.Words.{Numbers, IsWord, AreWords}
+use Rattle.bb_words.specs.declared.operator.PairOperator.{PairOperator}
+use Rattle.bb_words.specs.declared.operator.ShiftOperator.{ShiftOperator}
+use Rattle.bb_words.specs.Operators.{value_of, width_of, shift_of}
+use Rattle.bb_words.specs.Words.{Numbers, IsWord, AreWords}
 
 -- a net with inputs of these widths, without registers and memories: no node that fits reads one
 abbrev pub sources : List ℕ → Shape

@@ -3,8 +3,8 @@ ghost use Rattle.std.specs.Prelude.{◌≡◌, ◌<◌, ◌^◌, [], length, sum
 ghost use Rattle.std.specs.List.{AllByRecursion};
 ghost use Rattle.wn_net.specs.Width.{AreFitting};
 ghost use Rattle.bb_aig.specs.Graph.{inputs_of};
-ghost use Rattle.bb_gates.specs.Gates.{IsMade};
-ghost use Rattle.bb_operators.specs.Words.{AreWords};
+ghost use Rattle.bb_aig.specs.Gates.{IsMade};
+ghost use Rattle.bb_words.specs.Words.{AreWords};
 ghost use Rattle.bb_blast.specs.Choice.{InputsAreFirst, numbers_of, all_places};
 ghost use Rattle.bb_blast.specs.Walk.{sources, values_by, widths_by, AreWidths, all_other_than_0};
 
@@ -12,8 +12,7 @@ use crate::inputs::add_sources;
 use crate::places::Placed;
 use crate::roots::{all_set, watched};
 use crate::walk::blast_nodes;
-use bb_aig::{Aig, Lit};
-use bb_gates::Gates;
+use bb_aig::{Aig, Gates, Lit};
 use fv_base::{List, Memory};
 use std::alloc::Global;
 use wn_net::{Node, NodeId};

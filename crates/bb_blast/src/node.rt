@@ -3,12 +3,11 @@ ghost use Rattle.std.specs.Prelude.{◌≡◌, ℕ, ◌+◌, ◌<◌, ◌≤◌,
 ghost use Rattle.std.specs.Prelude.{slice_index_or};
 ghost use Rattle.wn_net.specs.Width.{IsThere, AreThere, AreAlike};
 ghost use Rattle.wn_net.specs.declared.node.Node.TheVariants as kind;
-ghost use Rattle.bb_gates.specs.Gates.{Grows};
+ghost use Rattle.bb_aig.specs.Gates.{Grows};
 ghost use Rattle.bb_blast.specs.Walk.{Reads, IsReady, MeansPairAt, MeansShiftAt, MeansWord, MeansNode};
 
-use bb_aig::Lit;
-use bb_gates::Gates;
-use bb_operators::{
+use bb_aig::{Gates, Lit};
+use bb_words::{
     PairOperator, ShiftOperator, chosen, joined, konst, negated, operated, part, shifted,
     sign_extended, zero_extended,
 };

@@ -1,13 +1,12 @@
 //! Roots and watched nodes.
 ghost use Rattle.std.specs.Prelude.{◌≡◌, ◌<◌, ℕ, [], List, length, map, slice_index_or, IfOk};
 ghost use Rattle.std.specs.List.{AllByRecursion};
-ghost use Rattle.bb_gates.specs.Gates.{Grows, IsMade};
-ghost use Rattle.bb_operators.specs.Words.{Numbers, AreWords};
+ghost use Rattle.bb_aig.specs.Gates.{Grows, IsMade};
+ghost use Rattle.bb_words.specs.Words.{Numbers, AreWords};
 ghost use Rattle.bb_blast.specs.Walk.{Reads, all_other_than_0};
 
 use crate::node::word_at;
-use bb_aig::Lit;
-use bb_gates::Gates;
+use bb_aig::{Gates, Lit};
 use bb_words::{constant, is_any};
 use fv_base::{List, Memory};
 use std::alloc::Global;

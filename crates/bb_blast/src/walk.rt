@@ -1,11 +1,10 @@
 //! The walk over the nodes of a net.
 ghost use Rattle.std.specs.Prelude.{◌≡◌, IfOk};
-ghost use Rattle.bb_gates.specs.Gates.{Grows};
+ghost use Rattle.bb_aig.specs.Gates.{Grows};
 ghost use Rattle.bb_blast.specs.Walk.{AreReady, MeansNodes};
 
 use crate::node::node_word;
-use bb_aig::Lit;
-use bb_gates::Gates;
+use bb_aig::{Gates, Lit};
 use fv_base::{List, Memory};
 use std::alloc::Global;
 use wn_net::Node;

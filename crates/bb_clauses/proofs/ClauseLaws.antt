@@ -12,7 +12,7 @@ use Rattle.bb_aig.specs.declared.node.AigNode.TheVariants as n
 use Rattle.bb_aig.specs.Graph.{is_negated, complement, turned, literal, value, values, values_of, lit_at, IsFitting}
 use Rattle.bb_aig.specs.Graph.{inputs_after, AreFitting, IsGraph}
 use Rattle.cnf_form.specs.Cnf.{literal_true, clause_true, formula_true}
-use Rattle.cnf_gates.specs.Clauses.{to_literal, clause_of, and_clauses, node_clauses, clauses_from, clauses_before}
+use Rattle.bb_clauses.specs.Clauses.{to_literal, clause_of, and_clauses, node_clauses, clauses_from, clauses_before}
 
 -- the value of a variable; that of variable 0 is false
 abbrev pub at : (ℕ → Bool) → ℕ → Bool

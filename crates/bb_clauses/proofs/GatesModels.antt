@@ -10,11 +10,11 @@ use Rattle.bb_aig.specs.declared.node.AigNode.TheVariants as n
 use Rattle.bb_aig.specs.Graph.{is_negated, turned, literal, value, values, values_of, lit_at, IsLit, IsFitting}
 use Rattle.bb_aig.specs.Graph.{inputs_after, AreFitting, Begins, IsGraph, count_inputs}
 use Rattle.cnf_form.specs.Cnf.{Cnf, clause_true, formula_true}
-use Rattle.cnf_gates.specs.Clauses.{node_clauses, clauses_from, with_verdict, clauses_before, IsModelOf, AreInputs}
-use Rattle.cnf_gates.specs.Clauses.{Tells}
-use Rattle.bb_aig.proofs.Gates.{values_begin, first_value}
+use Rattle.bb_clauses.specs.Clauses.{node_clauses, clauses_from, with_verdict, clauses_before, IsModelOf, AreInputs}
+use Rattle.bb_clauses.specs.Clauses.{Tells}
+use Rattle.bb_aig.proofs.AigGates.{values_begin, first_value}
 use Rattle.bb_aig.proofs.Values.{values-append, length-values, length-values_of, fitting_push, some_nodes}
-use Rattle.cnf_gates.proofs.ClauseLaws.{at, at_some, lit_true, agree, and_law}
+use Rattle.bb_clauses.proofs.ClauseLaws.{at, at_some, lit_true, agree, and_law}
 
 -- the values of nodes are those of the variables
 abbrev pub Same : (ℕ → Bool) → List Bool → Type 0

@@ -6,7 +6,7 @@ use Rattle.bb_aig.specs.declared.node.AigNode.{AigNode}
 use Rattle.bb_aig.specs.declared.node.AigNode.TheVariants as n
 use Rattle.bb_aig.specs.Graph.{IsGraph, AreFitting, inputs_after, count_inputs, inputs_of, values_of, lit_at, turned}
 use Rattle.bb_blast.specs.Choice.{InputsAreFirst}
-use Rattle.cnf_gates.specs.Clauses.{AreInputs}
+use Rattle.bb_clauses.specs.Clauses.{AreInputs}
 
 counted_more : (i : ℕ) (gs : List AigNode) → i ≤ count_inputs i gs
 counted_more i [] = omega arith

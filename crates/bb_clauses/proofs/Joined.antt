@@ -8,13 +8,13 @@ use Rattle.std.proofs.lemmas.Option.{slice_get_within}
 use Rattle.bb_aig.specs.declared.node.AigNode.{AigNode}
 use Rattle.bb_aig.specs.declared.node.AigNode.TheVariants as n
 use Rattle.bb_aig.specs.Graph.{IsGraph, IsLit, inputs_of, is_negated, lit_at, turned, values_of}
-use Rattle.bb_aig.proofs.Gates.{first_value}
-use Rattle.bb_gates.specs.Gates.{Meaning, IsMade}
+use Rattle.bb_aig.proofs.AigGates.{first_value}
+use Rattle.bb_aig.specs.Gates.{Meaning, IsMade}
 use Rattle.bb_blast.specs.Choice.{InputsAreFirst}
 use Rattle.cnf_form.specs.Cnf.{Cnf}
-use Rattle.cnf_gates.specs.Clauses.{Tells, IsModelOf}
-use Rattle.cnf_nodes.specs.Models.{AreTrue, value_in}
-use Rattle.cnf_nodes.proofs.Inputs.{read_there, input_value}
+use Rattle.bb_clauses.specs.Clauses.{Tells, IsModelOf}
+use Rattle.bb_clauses.specs.Models.{AreTrue, value_in}
+use Rattle.bb_clauses.proofs.Inputs.{read_there, input_value}
 
 -- what values of variables say of the inputs
 abbrev pub inputs_in : (ℕ → Bool) → ℕ → Bool

@@ -8,17 +8,17 @@ use Rattle.std.proofs.lemmas.Bool.{cases_lt, eq-eqb, ne_eqb, lt-ltb, le-ltb}
 use Rattle.fv_bits.specs.Bits.{bit}
 use Rattle.bb_aig.specs.declared.node.AigNode.{AigNode}
 use Rattle.bb_aig.specs.Graph.{IsLit, lit_at}
-use Rattle.bb_bits.specs.Bits.{number}
-use Rattle.bb_bits.proofs.Numbers.{pow_next}
-use Rattle.bb_gates.specs.Gates.{AreLits, bits}
-use Rattle.bb_operators.specs.Words.{AreWords, Numbers}
-use Rattle.bb_operators.proofs.Numbers.{halves}
+use Rattle.bb_aig.specs.Bits.{number}
+use Rattle.bb_aig.proofs.Numbers.{pow_next}
+use Rattle.bb_aig.specs.Gates.{AreLits, bits}
+use Rattle.bb_words.specs.Words.{AreWords, Numbers}
+use Rattle.bb_words.proofs.Numbers.{halves}
 use Rattle.bb_blast.specs.declared.places.Placed.{Placed}
 use Rattle.bb_blast.specs.Choice.{bits_from, numbers_from, numbers_of, places_from, all_places}
 use Rattle.cnf_form.specs.Cnf.{Cnf}
-use Rattle.cnf_nodes.specs.Models.{bits_at, numbers_at, read_at, AreOfWidths, ModelsAreNumbers}
-use Rattle.cnf_nodes.specs.Models.{value_in, number_in}
-use Rattle.cnf_nodes.proofs.Joined.{inputs_in, ModelsAreChoices}
+use Rattle.bb_clauses.specs.Models.{bits_at, numbers_at, read_at, AreOfWidths, ModelsAreNumbers}
+use Rattle.bb_clauses.specs.Models.{value_in, number_in}
+use Rattle.bb_clauses.proofs.Joined.{inputs_in, ModelsAreChoices}
 
 -- ---- the places of a source
 

@@ -3,7 +3,7 @@ use Rattle.std.specs.Prelude.{◌≡◌, ℕ, ◌+◌, ◌/◌, ◌<◌, ◌≤�
 use Rattle.std.specs.Prelude.{List, [], ◌∷◌, ◌++◌, map, ℤ, pos}
 use Rattle.cnf_form.specs.Cnf.{Cnf, formula_true}
 use Rattle.bb_aig.specs.Graph.{is_negated, turned}
-use Rattle.bb_bits.specs.Bits.{number}
+use Rattle.bb_aig.specs.Bits.{number}
 use Rattle.bb_blast.specs.declared.places.Placed.{Placed}
 
 -- values make each clause true

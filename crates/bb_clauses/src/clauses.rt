@@ -18,8 +18,8 @@ ghost use Rattle.std.specs.Prelude.{
 ghost use Rattle.std.specs.List.{AllByRecursion};
 ghost use Rattle.cnf_form.specs.Cnf.{IsLiteral};
 ghost use Rattle.bb_aig.specs.Graph.{IsLit, IsFitting};
-ghost use Rattle.cnf_gates.specs.Clauses as spec;
-ghost use Rattle.cnf_gates.specs.Clauses.{Tells};
+ghost use Rattle.bb_clauses.specs.Clauses as spec;
+ghost use Rattle.bb_clauses.specs.Clauses.{Tells};
 
 use bb_aig::{Aig, AigNode, Lit, complement};
 use cnf_form::Formula;

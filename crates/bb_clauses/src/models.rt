@@ -2,14 +2,14 @@
 ghost use Rattle.std.specs.Prelude.{◌≡◌, ◌<◌, ◌^◌, [], length, map, slice_index, IfOk};
 ghost use Rattle.std.specs.List.{AllByRecursion};
 ghost use Rattle.wn_net.specs.Width.{AreFitting};
-ghost use Rattle.bb_operators.specs.Words.{AreWords};
+ghost use Rattle.bb_words.specs.Words.{AreWords};
 ghost use Rattle.bb_blast.specs.Choice.{numbers_of, all_places};
 ghost use Rattle.bb_blast.specs.Walk.{sources, values_by, widths_by, AreWidths, all_other_than_0};
-ghost use Rattle.cnf_nodes.specs.Models.{ModelsAreNumbers, read_at};
+ghost use Rattle.bb_clauses.specs.Models.{ModelsAreNumbers, read_at};
 
+use crate::clauses::clauses_of;
 use bb_blast::{Blasted, blast};
 use cnf_form::Formula;
-use cnf_gates::clauses_of;
 use fv_base::Memory;
 use std::alloc::Global;
 use wn_net::{Node, NodeId};

@@ -5,9 +5,9 @@ use Rattle.std.proofs.Common.{ap, sym, ◌∙◌, arith, subst, append_assoc, ap
 use Rattle.std.proofs.lemmas.List.{map_push, length-map, drop_all}
 use Rattle.bb_aig.specs.declared.node.AigNode.{AigNode}
 use Rattle.bb_aig.specs.Graph.{IsLit, lit_at}
-use Rattle.bb_gates.specs.Gates.{Meaning, Grows, IsMade, AreLits, bits, AreMade}
-use Rattle.bb_bits.specs.Bits.{add_bits, summed, carried}
-use Rattle.bb_gates.proofs.Growth.{lit_on, grows_on}
+use Rattle.bb_aig.specs.Gates.{Meaning, Grows, IsMade, AreLits, bits, AreMade}
+use Rattle.bb_aig.specs.Bits.{add_bits, summed, carried}
+use Rattle.bb_aig.proofs.Growth.{lit_on, grows_on}
 use Rattle.bb_words.proofs.Lits.{lit_in, lits_on, bits_on, lits_push, bit_here}
 
 -- What an adder keeps: the bits so far with the sum of those that are left are the sum of all.

@@ -9,9 +9,9 @@ use Rattle.std.proofs.lemmas.Bool.{cases_eq}
 use Rattle.bb_aig.specs.declared.node.AigNode.{AigNode}
 use Rattle.bb_aig.specs.Graph.{IsLit, IsGraph, Begins, lit_at, complement}
 use Rattle.bb_aig.proofs.Others.{odd_turned, even_turned, even_there}
-use Rattle.bb_bits.specs.Bits.{paired, top, turned_top}
-use Rattle.bb_gates.specs.Gates.{Meanings, IsMade, AreLits, bits, AreMade}
-use Rattle.bb_gates.proofs.Growth.{made_by, made_true, made_false}
+use Rattle.bb_aig.specs.Bits.{paired, top, turned_top}
+use Rattle.bb_aig.specs.Gates.{Meanings, IsMade, AreLits, bits, AreMade}
+use Rattle.bb_aig.proofs.Growth.{made_by, made_true, made_false}
 use Rattle.bb_words.proofs.Lits.{lit_in}
 
 pub wide_bits : (graph : List AigNode) (x : ℕ → Bool) (lits : List ℕ) → length

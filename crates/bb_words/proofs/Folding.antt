@@ -6,9 +6,9 @@ use Rattle.std.proofs.Common.{ap, sym, ◌∙◌, arith}
 use Rattle.std.proofs.lemmas.List.{length-map, drop_all}
 use Rattle.bb_aig.specs.declared.node.AigNode.{AigNode}
 use Rattle.bb_aig.specs.Graph.{IsLit, lit_at}
-use Rattle.bb_gates.specs.Gates.{Meaning, Grows, IsMade, AreLits, bits}
-use Rattle.bb_bits.specs.Bits.{less_bits, same_bits, any_bit, pick, differ}
-use Rattle.bb_gates.proofs.Growth.{grows_on}
+use Rattle.bb_aig.specs.Gates.{Meaning, Grows, IsMade, AreLits, bits}
+use Rattle.bb_aig.specs.Bits.{less_bits, same_bits, any_bit, pick, differ}
+use Rattle.bb_aig.proofs.Growth.{grows_on}
 use Rattle.bb_words.proofs.Lits.{lit_in, bit_here, meant, means_itself}
 
 -- what is found of two lists goes on from bit to bit by a step

@@ -6,8 +6,8 @@ use Rattle.std.proofs.Common.{ap, sym, ◌∙◌, arith}
 use Rattle.std.proofs.lemmas.List.{drop_more, drop-map}
 use Rattle.bb_aig.specs.declared.node.AigNode.{AigNode}
 use Rattle.bb_aig.specs.Graph.{IsLit, lit_at}
-use Rattle.bb_gates.specs.Gates.{Meanings, Grows, IsMade, AreLits, bits, AreMade}
-use Rattle.bb_gates.proofs.Growth.{lit_on}
+use Rattle.bb_aig.specs.Gates.{Meanings, Grows, IsMade, AreLits, bits, AreMade}
+use Rattle.bb_aig.proofs.Growth.{lit_on}
 
 pub lit_in : (graph : List AigNode) (lits : List ℕ) (i d : ℕ) → AreLits graph lits → i < length lits
     → IsLit graph (slice_index_or lits i d)

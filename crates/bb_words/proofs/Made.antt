@@ -7,25 +7,25 @@ use Rattle.std.proofs.lemmas.List.{length-map}
 use Rattle.bb_aig.specs.declared.node.AigNode.{AigNode}
 use Rattle.bb_aig.specs.Graph.{lit_at, complement}
 use Rattle.fv_bits.specs.Bits as num
-use Rattle.bb_bits.specs.Bits.{number, pick, paired, add_bits, less_bits, same_bits, mul_bits, top, turned_top}
-use Rattle.bb_bits.proofs.All.{bitwise, sums, ordered, shifted}
-use Rattle.bb_bits.proofs.Sums.{length-add, length-mul}
-use Rattle.bb_bits.proofs.Moves.{length-shl, pick_list, picked_all}
-use Rattle.bb_bits.proofs.Rights.{length-shr}
-use Rattle.bb_bits.proofs.Signs.{length-turned}
+use Rattle.bb_aig.specs.Bits.{number, pick, paired, add_bits, less_bits, same_bits, mul_bits, top, turned_top}
+use Rattle.bb_aig.proofs.All.{bitwise, sums, ordered, shifted}
+use Rattle.bb_aig.proofs.Sums.{length-add, length-mul}
+use Rattle.bb_aig.proofs.Moves.{length-shl, pick_list, picked_all}
+use Rattle.bb_aig.proofs.Rights.{length-shr}
+use Rattle.bb_aig.proofs.Signs.{length-turned}
 use Rattle.std.proofs.lemmas.List.{length-replicate}
-use Rattle.bb_gates.specs.Gates.{Meaning, Meanings, IsMade, bits, AreMade}
+use Rattle.bb_aig.specs.Gates.{Meaning, Meanings, IsMade, bits, AreMade}
 use Rattle.bb_words.specs.declared.pairs.BitOperator.{BitOperator}
 use Rattle.bb_words.specs.declared.pairs.BitOperator.TheVariants as bit_op
-use Rattle.bb_words.specs.Operators.{of_operator}
-use Rattle.bb_shifts.specs.declared.shifts.Direction.TheVariants.{Up, Down}
-use Rattle.bb_shifts.specs.Moves.{shift_bits}
+use Rattle.bb_words.specs.WordsOperators.{of_operator}
+use Rattle.bb_words.specs.declared.shifts.Direction.TheVariants.{Up, Down}
+use Rattle.bb_words.specs.Moves.{shift_bits}
 use Rattle.bb_words.proofs.Copies.{wide_bits, wide_by, length-paired, bits_complement}
-use Rattle.bb_shifts.proofs.Past.{shift_up, shift_down}
-use Rattle.bb_operators.specs.declared.operator.PairOperator.TheVariants as pair
-use Rattle.bb_operators.specs.declared.operator.ShiftOperator.TheVariants as moves
-use Rattle.bb_operators.specs.Words.{Counts, IsWord, count}
-use Rattle.bb_operators.specs.Operators.{MeansPair, MeansShift, of_bits}
+use Rattle.bb_words.proofs.Past.{shift_up, shift_down}
+use Rattle.bb_words.specs.declared.operator.PairOperator.TheVariants as pair
+use Rattle.bb_words.specs.declared.operator.ShiftOperator.TheVariants as moves
+use Rattle.bb_words.specs.Words.{Counts, IsWord, count}
+use Rattle.bb_words.specs.Operators.{MeansPair, MeansShift, of_bits}
 
 pub word_made : (new : List AigNode) (F : Meanings) (w : ℕ) (m : Counts) (lits r : List ℕ) → AreMade new F lits
     → r ≡ lits → ((x : ℕ → Bool) → length (F x) ≡ w) → ((x : ℕ → Bool) → number (F x) ≡ m x)

@@ -6,15 +6,15 @@ use Rattle.std.proofs.Common.{ap, sym, ◌∙◌, arith, subst}
 use Rattle.std.proofs.lemmas.List.{drop_all, length-map, length-replicate}
 use Rattle.bb_aig.specs.declared.node.AigNode.{AigNode}
 use Rattle.bb_aig.specs.Graph.{lit_at}
-use Rattle.bb_bits.specs.Bits.{add_bits, mul_bits}
-use Rattle.bb_bits.proofs.Sums.{length-add}
-use Rattle.bb_gates.specs.Gates.{Grows, IsMade, AreLits, bits, AreMade}
-use Rattle.bb_gates.proofs.Growth.{grows_none, grows_on, made_on}
-use Rattle.bb_shifts.specs.declared.shifts.Direction.TheVariants.{Up}
-use Rattle.bb_shifts.specs.Moves.{moved}
+use Rattle.bb_aig.specs.Bits.{add_bits, mul_bits}
+use Rattle.bb_aig.proofs.Sums.{length-add}
+use Rattle.bb_aig.specs.Gates.{Grows, IsMade, AreLits, bits, AreMade}
+use Rattle.bb_aig.proofs.Growth.{grows_none, grows_on, made_on}
+use Rattle.bb_words.specs.declared.shifts.Direction.TheVariants.{Up}
+use Rattle.bb_words.specs.Moves.{moved}
 use Rattle.bb_words.proofs.Lits.{lit_in, lits_on, bits_on, bit_here}
 use Rattle.bb_words.proofs.Copies.{wide_bits, wide_by, lits_replicate, map-replicate}
-use Rattle.bb_shifts.proofs.Past.{lits_moved, bits_moved, length-moved}
+use Rattle.bb_words.proofs.Past.{lits_moved, bits_moved, length-moved}
 
 -- a row that is added
 pub row_added : (old mid new : List AigNode) (bit none : ℕ) (sum row masked made : List ℕ) → AreLits old sum

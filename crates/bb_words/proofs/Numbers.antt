@@ -9,14 +9,14 @@ use Rattle.std.proofs.lemmas.List.{length-replicate, map_push}
 use Rattle.bb_aig.specs.declared.node.AigNode.{AigNode}
 use Rattle.bb_aig.specs.Graph.{IsLit, lit_at, complement}
 use Rattle.fv_bits.specs.Bits as num
-use Rattle.bb_bits.specs.Bits.{number, top}
-use Rattle.bb_bits.proofs.All.{bitwise, placed}
-use Rattle.bb_bits.proofs.Numbers.{number-append, pow_next}
-use Rattle.bb_gates.specs.Gates.{IsMade, AreLits, bits}
+use Rattle.bb_aig.specs.Bits.{number, top}
+use Rattle.bb_aig.proofs.All.{bitwise, placed}
+use Rattle.bb_aig.proofs.Numbers.{number-append, pow_next}
+use Rattle.bb_aig.specs.Gates.{IsMade, AreLits, bits}
 use Rattle.bb_words.proofs.Lits.{lits_push}
 use Rattle.bb_words.proofs.Copies.{wide_bits, lits_take, lits_drop, lits_join, lits_replicate, map-replicate}
 use Rattle.bb_words.proofs.Copies.{bits_complement, lits_complement}
-use Rattle.bb_operators.specs.Words.{Counts, IsWord, count}
+use Rattle.bb_words.specs.Words.{Counts, IsWord, count}
 
 pub word_turned : (graph : List AigNode) (a lits r : List ℕ) → AreLits graph a → lits ≡ map complement a
     → r ≡ lits

@@ -8,12 +8,12 @@ use Rattle.std.proofs.lemmas.List.{length-map}
 use Rattle.std.proofs.lemmas.List.{length-drop, drop_all, take-map, drop-map, map-append}
 use Rattle.bb_aig.specs.declared.node.AigNode.{AigNode}
 use Rattle.bb_aig.specs.Graph.{IsLit, lit_at}
-use Rattle.bb_bits.specs.Bits.{paired, pick, any_bit, shl_bits, shr_bits}
-use Rattle.bb_bits.proofs.Moves.{picked_all}
-use Rattle.bb_gates.specs.Gates.{AreLits, bits}
-use Rattle.bb_shifts.specs.declared.shifts.Direction.{Direction}
-use Rattle.bb_shifts.specs.declared.shifts.Direction.TheVariants.{Up, Down}
-use Rattle.bb_shifts.specs.Moves.{moved, shift_bits}
+use Rattle.bb_aig.specs.Bits.{paired, pick, any_bit, shl_bits, shr_bits}
+use Rattle.bb_aig.proofs.Moves.{picked_all}
+use Rattle.bb_aig.specs.Gates.{AreLits, bits}
+use Rattle.bb_words.specs.declared.shifts.Direction.{Direction}
+use Rattle.bb_words.specs.declared.shifts.Direction.TheVariants.{Up, Down}
+use Rattle.bb_words.specs.Moves.{moved, shift_bits}
 use Rattle.bb_words.proofs.Copies.{lits_take, lits_drop, lits_join, lits_replicate, map-replicate}
 
 -- ---- as they are made

@@ -7,15 +7,15 @@ use Rattle.std.proofs.lemmas.List.{drop-map, drop_all}
 use Rattle.std.proofs.lemmas.Bool.{cases_lt}
 use Rattle.bb_aig.specs.declared.node.AigNode.{AigNode}
 use Rattle.bb_aig.specs.Graph.{IsLit, lit_at}
-use Rattle.bb_bits.specs.Bits.{paired, pick, any_bit}
-use Rattle.bb_bits.proofs.Numbers.{pow_next}
-use Rattle.bb_gates.specs.Gates.{Grows, IsMade, AreLits, bits, AreMade}
-use Rattle.bb_gates.proofs.Growth.{lit_on, grows_none, grows_on}
-use Rattle.bb_shifts.specs.declared.shifts.Direction.{Direction}
-use Rattle.bb_shifts.specs.Moves.{moved, shift_bits}
+use Rattle.bb_aig.specs.Bits.{paired, pick, any_bit}
+use Rattle.bb_aig.proofs.Numbers.{pow_next}
+use Rattle.bb_aig.specs.Gates.{Grows, IsMade, AreLits, bits, AreMade}
+use Rattle.bb_aig.proofs.Growth.{lit_on, grows_none, grows_on}
+use Rattle.bb_words.specs.declared.shifts.Direction.{Direction}
+use Rattle.bb_words.specs.Moves.{moved, shift_bits}
 use Rattle.bb_words.proofs.Lits.{lit_in, bits_on, bit_here}
 use Rattle.bb_words.proofs.Copies.{wide_bits, wide_by, length-paired, map-replicate}
-use Rattle.bb_shifts.proofs.Past.{bits_moved, length-moved, shift_rest}
+use Rattle.bb_words.proofs.Past.{bits_moved, length-moved, shift_rest}
 
 -- What the loop keeps: the word so far, moved by the bits that are left, is the word moved by all.
 pub record Shifting (old now : List AigNode) (d : Direction) (fill : ℕ) (a by : List ℕ) (i : ℕ) (word : List ℕ)

@@ -1,8 +1,8 @@
 -- Bits that are moved (rule of this project).
 use Rattle.std.specs.Prelude.{ℕ, ◌*◌, Bool, List, [], ◌∷◌, ◌++◌, length, take, drop, replicate}
-use Rattle.bb_bits.specs.Bits.{paired, pick}
-use Rattle.bb_shifts.specs.declared.shifts.Direction.{Direction}
-use Rattle.bb_shifts.specs.declared.shifts.Direction.TheVariants.{Up, Down}
+use Rattle.bb_aig.specs.Bits.{paired, pick}
+use Rattle.bb_words.specs.declared.shifts.Direction.{Direction}
+use Rattle.bb_words.specs.declared.shifts.Direction.TheVariants.{Up, Down}
 
 -- moved by so many places, as many as there were, with the same in those that are left
 abbrev pub moved : {A : Type 0} → Direction → A → ℕ → List A → List A

@@ -5,11 +5,11 @@ use Rattle.fv_bits.specs.Bits.{arithmetic_right}
 use Rattle.bb_aig.specs.declared.node.AigNode.{AigNode}
 use Rattle.bb_words.specs.declared.pairs.BitOperator.{BitOperator}
 use Rattle.bb_words.specs.declared.pairs.BitOperator.TheVariants as bit_op
-use Rattle.bb_operators.specs.Words.{IsWord, count}
-use Rattle.bb_operators.specs.declared.operator.PairOperator.{PairOperator}
-use Rattle.bb_operators.specs.declared.operator.PairOperator.TheVariants.{And, Or, Xor, Add, Sub, Mul, Eq, Ult, Slt}
-use Rattle.bb_operators.specs.declared.operator.ShiftOperator.{ShiftOperator}
-use Rattle.bb_operators.specs.declared.operator.ShiftOperator.TheVariants.{Shl, Lshr, Ashr}
+use Rattle.bb_words.specs.Words.{IsWord, count}
+use Rattle.bb_words.specs.declared.operator.PairOperator.{PairOperator}
+use Rattle.bb_words.specs.declared.operator.PairOperator.TheVariants.{And, Or, Xor, Add, Sub, Mul, Eq, Ult, Slt}
+use Rattle.bb_words.specs.declared.operator.ShiftOperator.{ShiftOperator}
+use Rattle.bb_words.specs.declared.operator.ShiftOperator.TheVariants.{Shl, Lshr, Ashr}
 
 -- of two numbers of w bits
 abbrev pub value_of : PairOperator → ℕ → ℕ → ℕ → ℕ

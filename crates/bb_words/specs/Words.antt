@@ -1,8 +1,8 @@
 -- Literals that are the bits of a number (rule of this project).
 use Rattle.std.specs.Prelude.{◌≡◌, ℕ, ◌<◌, Bool, List, [], length, slice_index, slice_index_or}
 use Rattle.bb_aig.specs.declared.node.AigNode.{AigNode}
-use Rattle.bb_bits.specs.Bits.{number}
-use Rattle.bb_gates.specs.Gates.{AreLits, bits}
+use Rattle.bb_aig.specs.Bits.{number}
+use Rattle.bb_aig.specs.Gates.{AreLits, bits}
 
 -- a number and numbers for each choice of inputs
 abbrev pub Counts : Type 0

@@ -1,6 +1,6 @@
 -- Operators on bits by their names (rule of this project).
 use Rattle.std.specs.Prelude.{Bool, ◌&&◌, ◌||◌}
-use Rattle.bb_bits.specs.Bits.{differ}
+use Rattle.bb_aig.specs.Bits.{differ}
 use Rattle.bb_words.specs.declared.pairs.BitOperator.{BitOperator}
 use Rattle.bb_words.specs.declared.pairs.BitOperator.TheVariants.{And, Or, Xor}
 

@@ -1,8 +1,7 @@
 ghost use Rattle.std.specs.Prelude.{◌≡◌};
-ghost use Rattle.bb_gates.specs.Gates.{IsMade};
+ghost use Rattle.bb_aig.specs.Gates.{IsMade};
 
-use bb_aig::Lit;
-use bb_gates::Gates;
+use bb_aig::{Gates, Lit};
 
 /// The literal with this value, whatever the inputs.
 pub fn constant(gates: &Gates, value: bool) -> Lit

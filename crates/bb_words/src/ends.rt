@@ -3,13 +3,12 @@ ghost use Rattle.std.specs.Prelude.{◌≡◌, ◌+◌, ◌-◌, ◌≤◌, ◌+
 ghost use Rattle.std.specs.Prelude.{IfOk};
 ghost use Rattle.fv_bits.specs.Bits as num;
 ghost use Rattle.bb_aig.specs.declared.node.AigNode.{AigNode};
-ghost use Rattle.bb_gates.specs.Gates.{AreLits};
-ghost use Rattle.bb_operators.specs.Words.{IsWord, count};
+ghost use Rattle.bb_aig.specs.Gates.{AreLits};
+ghost use Rattle.bb_words.specs.Words.{IsWord, count};
 
-use bb_aig::Lit;
-use bb_gates::Gates;
-use bb_shifts::{repeated, top};
-use bb_words::constant;
+use crate::constants::constant;
+use crate::without_gates::{repeated, top};
+use bb_aig::{Gates, Lit};
 use fv_base::{List, Memory};
 use std::alloc::Global;
 

@@ -1,17 +1,19 @@
 //! Operators that take gates.
 ghost use Rattle.std.specs.Prelude.{◌≡◌, ◌≤◌, if◌then◌else◌, [], ◌∷◌, length, IfOk};
 ghost use Rattle.bb_aig.specs.Graph.{IsLit, lit_at};
-ghost use Rattle.bb_gates.specs.Gates.{Grows, AreLits};
-ghost use Rattle.bb_operators.specs.Words.{IsWord, count};
-ghost use Rattle.bb_operators.specs.Operators.{MeansPair, MeansShift, of_bits};
-ghost use Rattle.bb_operators.specs.declared.operator.PairOperator.TheVariants as pair;
-ghost use Rattle.bb_operators.specs.declared.operator.ShiftOperator.TheVariants as moves;
+ghost use Rattle.bb_aig.specs.Gates.{Grows, AreLits};
+ghost use Rattle.bb_words.specs.Words.{IsWord, count};
+ghost use Rattle.bb_words.specs.Operators.{MeansPair, MeansShift, of_bits};
+ghost use Rattle.bb_words.specs.declared.operator.PairOperator.TheVariants as pair;
+ghost use Rattle.bb_words.specs.declared.operator.ShiftOperator.TheVariants as moves;
 
+use crate::constants::constant;
 use crate::operator::{PairOperator, ShiftOperator};
-use bb_aig::Lit;
-use bb_gates::Gates;
-use bb_shifts::{Direction, multiply, shift, top, turned, with_top_turned};
-use bb_words::{BitOperator, add, choose, constant, is_less, is_same, operate};
+use crate::pairs::{BitOperator, add, choose, is_less, is_same, operate};
+use crate::product::multiply;
+use crate::shifts::{Direction, shift};
+use crate::without_gates::{top, turned, with_top_turned};
+use bb_aig::{Gates, Lit};
 use fv_base::{List, Memory};
 use std::alloc::Global;
 

@@ -1,12 +1,11 @@
 //! What is made of two words bit by bit.
 ghost use Rattle.std.specs.Prelude.{◌≡◌, ◌&&◌, not, length, map, IfOk};
 ghost use Rattle.bb_aig.specs.Graph.{IsLit, lit_at};
-ghost use Rattle.bb_bits.specs.Bits.{add_bits, less_bits, same_bits, any_bit, differ, paired, pick};
-ghost use Rattle.bb_gates.specs.Gates.{Meaning, Grows, IsMade, AreLits, AreMade, bits};
-ghost use Rattle.bb_words.specs.Operators.{of_operator};
+ghost use Rattle.bb_aig.specs.Bits.{add_bits, less_bits, same_bits, any_bit, differ, paired, pick};
+ghost use Rattle.bb_aig.specs.Gates.{Meaning, Grows, IsMade, AreLits, AreMade, bits};
+ghost use Rattle.bb_words.specs.WordsOperators.{of_operator};
 
-use bb_aig::{Lit, complement};
-use bb_gates::{Gates, add_three, differ, either, mux};
+use bb_aig::{Gates, Lit, add_three, complement, differ, either, mux};
 use fv_base::Memory;
 use std::alloc::Global;
 

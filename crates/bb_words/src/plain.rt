@@ -3,13 +3,12 @@ ghost use Rattle.std.specs.Prelude.{◌≡◌, ◌==◌, ◌%◌, if◌then◌el
 ghost use Rattle.fv_base.specs.Word as word_spec;
 ghost use Rattle.fv_bits.specs.Bits as num;
 ghost use Rattle.bb_aig.specs.declared.node.AigNode.{AigNode};
-ghost use Rattle.bb_gates.specs.Gates.{AreLits};
-ghost use Rattle.bb_operators.specs.Words.{IsWord, count};
+ghost use Rattle.bb_aig.specs.Gates.{AreLits};
+ghost use Rattle.bb_words.specs.Words.{IsWord, count};
 
-use bb_aig::Lit;
-use bb_gates::Gates;
-use bb_shifts::turned;
-use bb_words::constant;
+use crate::constants::constant;
+use crate::without_gates::turned;
+use bb_aig::{Gates, Lit};
 use fv_base::{List, Memory, Word};
 use std::alloc::Global;
 

@@ -1,14 +1,14 @@
 //! Products: the rows of an array, one added to the other.
 ghost use Rattle.std.specs.Prelude.{◌≡◌, ◌&&◌, ◌≤◌, false, length, map, replicate, IfOk};
 ghost use Rattle.bb_aig.specs.Graph.{IsLit, lit_at};
-ghost use Rattle.bb_bits.specs.Bits.{add_bits, mul_bits};
-ghost use Rattle.bb_gates.specs.Gates.{Grows, AreLits, AreMade, bits};
+ghost use Rattle.bb_aig.specs.Bits.{add_bits, mul_bits};
+ghost use Rattle.bb_aig.specs.Gates.{Grows, AreLits, AreMade, bits};
 
+use crate::constants::constant;
+use crate::pairs::{add, masked};
 use crate::shifts::{Direction, moved};
 use crate::without_gates::repeated;
-use bb_aig::Lit;
-use bb_gates::Gates;
-use bb_words::{add, constant, masked};
+use bb_aig::{Gates, Lit};
 use fv_base::Memory;
 use std::alloc::Global;
 

@@ -1,14 +1,14 @@
 //! Shifts by a word: one choice for each bit of it that can count, and one for all others.
 ghost use Rattle.std.specs.Prelude.{◌≡◌, ℕ, ◌<◌, ◌≤◌, ◌^◌, length, IfOk};
 ghost use Rattle.bb_aig.specs.Graph.{IsLit, lit_at};
-ghost use Rattle.bb_bits.specs.Bits.{paired, pick};
-ghost use Rattle.bb_gates.specs.Gates.{Grows, AreLits, AreMade, bits};
-ghost use Rattle.bb_shifts.specs.Moves as spec;
+ghost use Rattle.bb_aig.specs.Bits.{paired, pick};
+ghost use Rattle.bb_aig.specs.Gates.{Grows, AreLits, AreMade, bits};
+ghost use Rattle.bb_words.specs.Moves as spec;
 
+use crate::constants::constant;
+use crate::pairs::{choose, is_any};
 use crate::without_gates::repeated;
-use bb_aig::Lit;
-use bb_gates::Gates;
-use bb_words::{choose, constant, is_any};
+use bb_aig::{Gates, Lit};
 use fv_base::Memory;
 use std::alloc::Global;
 

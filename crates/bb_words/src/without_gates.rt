@@ -3,8 +3,8 @@ ghost use Rattle.std.specs.Prelude.{◌≡◌, ℕ, ◌≤◌, ◌<◌, Bool, no
 ghost use Rattle.bb_aig.specs.Graph as graph_spec;
 ghost use Rattle.bb_aig.specs.Graph.{IsLit, lit_at};
 ghost use Rattle.bb_aig.specs.declared.node.AigNode.{AigNode};
-ghost use Rattle.bb_bits.specs.Bits as bits_spec;
-ghost use Rattle.bb_gates.specs.Gates.{AreLits, AreMade, bits};
+ghost use Rattle.bb_aig.specs.Bits as bits_spec;
+ghost use Rattle.bb_aig.specs.Gates.{AreLits, AreMade, bits};
 
 use bb_aig::{Lit, complement};
 use fv_base::Memory;

@@ -8,10 +8,10 @@ use Rattle.std.proofs.Math.Nat.{pow-le-pow_right}
 use Rattle.std.proofs.lemmas.List.{append-nil, at_drop_all, at_drop_more, get_or-drop}
 use Rattle.fv_bits.specs.Bits.{bit}
 use Rattle.wn_net.specs.Width.{IsWidth}
-use Rattle.bb_bits.specs.Bits.{number}
-use Rattle.bb_bits.proofs.Numbers.{number_fits}
+use Rattle.bb_aig.specs.Bits.{number}
+use Rattle.bb_aig.proofs.Numbers.{number_fits}
 use Rattle.bb_blast.specs.Choice.{bits_from, numbers_from}
-use Rattle.bm_chosen.specs.Chosen.{bit_in}
+use Rattle.bm_decide.specs.Chosen.{bit_in}
 
 -- ---- one number
 

@@ -19,11 +19,11 @@ use Rattle.rvfi_port.specs.Channels.{retire_at}
 use Rattle.rvfi_port.specs.Ports.{AreChannelNodes, AreImemNodes, ArePortNodes, IsDmemNode}
 use Rattle.ck_cfg.specs.declared.check.Check.{Check}
 use Rattle.ck_props.specs.Properties.{property}
-use Rattle.ck_past.specs.Retirements.{dmem_addr_at, imem_addr_at, imem_data_at, probe_at, retired_from, retired_in}
-use Rattle.ck_past.specs.Retirements.{retirements}
+use Rattle.ck_gen.specs.Retirements.{dmem_addr_at, imem_addr_at, imem_data_at, probe_at, retired_from, retired_in}
+use Rattle.ck_gen.specs.Retirements.{retirements}
 use Rattle.ck_gen.specs.Monitors.{IsMonitor, holds_in}
 use Rattle.bm_unroll.specs.Frames.{IsBadRun}
-use Rattle.bm_clauses.specs.Runs.{values_in}
+use Rattle.bm_decide.specs.Runs.{values_in}
 use Rattle.bm_decide.specs.Verdicts.{Violates}
 
 module _ (old new : Netlist) (inputs : ℕ → List ℕ) (start : State) (whole : IsNet old) (adds : AddsRegs old new) where

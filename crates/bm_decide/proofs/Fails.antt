@@ -15,14 +15,14 @@ use Rattle.wn_net.specs.Net.{Netlist, IsNet, IsRegOf, IsMemOf}
 use Rattle.wn_run.specs.Runs.{Choices, AreChoicesOf}
 use Rattle.cnf_form.specs.Cnf.{value_of}
 use Rattle.bb_blast.specs.Choice.{numbers_from, numbers_of}
-use Rattle.cnf_nodes.proofs.Reading.{read_is}
+use Rattle.bb_clauses.proofs.Reading.{read_is}
 use Rattle.bm_unroll.specs.declared.frames.Source.{Source}
 use Rattle.bm_unroll.specs.declared.frames.Source.TheVariants as s
 use Rattle.bm_unroll.specs.Frames.{Chooses, IsChoice, chosen, source_width}
 use Rattle.bm_unroll.proofs.Choosing.{numbers_of_choice}
 use Rattle.bm_decide.specs.declared.verdict.Violation.{Violation}
-use Rattle.bm_chosen.specs.Chosen.{AreReadable, BitsAreReadable, ChosenRunsViolate, HaveNumbers}
-use Rattle.bm_chosen.specs.Chosen.{bit_in, numbers_read}
+use Rattle.bm_decide.specs.Chosen.{AreReadable, BitsAreReadable, ChosenRunsViolate, HaveNumbers}
+use Rattle.bm_decide.specs.Chosen.{bit_in, numbers_read}
 
 -- ---- the widths of sources
 

@@ -9,17 +9,17 @@ use Rattle.std.proofs.lemmas.Bool.Decides.{nat_tests}
 use Rattle.wn_net.specs.Given.{AreNumbersOf}
 use Rattle.wn_net.specs.Net.{Netlist}
 use Rattle.cnf_form.specs.Cnf.{Cnf, clause_true, formula_true}
-use Rattle.bb_bits.specs.Bits.{number}
-use Rattle.bb_bits.proofs.Numbers.{number_fits}
+use Rattle.bb_aig.specs.Bits.{number}
+use Rattle.bb_aig.proofs.Numbers.{number_fits}
 use Rattle.bb_blast.specs.declared.places.Placed.{Placed}
 use Rattle.bb_blast.specs.Choice.{bits_from, numbers_from, all_places}
 use Rattle.bb_blast.specs.Walk.{all_other_than_0, values_by}
-use Rattle.cnf_nodes.specs.Models.{AreOfWidths, AreTrue, ModelsAreNumbers, read_at}
-use Rattle.cnf_nodes.proofs.Joined.{inputs_in}
-use Rattle.cnf_nodes.proofs.Reading.{read_is}
+use Rattle.bb_clauses.specs.Models.{AreOfWidths, AreTrue, ModelsAreNumbers, read_at}
+use Rattle.bb_clauses.proofs.Joined.{inputs_in}
+use Rattle.bb_clauses.proofs.Reading.{read_is}
 use Rattle.bm_unroll.specs.declared.frames.Frames.{Frames}
 use Rattle.bm_unroll.specs.Frames.{AreChosen, HasRoots, HasWatch, IsBadRun, chosen, values_under}
-use Rattle.bm_clauses.specs.Runs.{ModelsAreRuns, values_in}
+use Rattle.bm_decide.specs.Runs.{ModelsAreRuns, values_in}
 
 -- ---- all roots
 

@@ -7,7 +7,7 @@ use Rattle.wn_run.specs.Runs.{Choices}
 use Rattle.bm_unroll.specs.declared.frames.Source.{Source}
 use Rattle.bm_unroll.specs.Frames.{AreDistinct, chosen}
 use Rattle.bm_unroll.proofs.Items.{all_at}
-use Rattle.bm_chosen.specs.Chosen.{HaveNumbers}
+use Rattle.bm_decide.specs.Chosen.{HaveNumbers}
 
 -- the last of the first items, and those before it
 last_of : (P : Source → Type 0) (xs : List Source) (i : ℕ) (x d : Source) → i < length xs → x ≡ get_or xs i d

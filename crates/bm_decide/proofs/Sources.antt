@@ -15,7 +15,7 @@ use Rattle.wn_net.specs.Net.{Netlist}
 use Rattle.wn_net.specs.Changes.{AddsRegs}
 use Rattle.wn_net.proofs.Begun.{begun_map, begun_at}
 use Rattle.wn_run.specs.Runs.{Choices, AreChoicesOf}
-use Rattle.ck_lines.specs.Lines.{AddsKnown, IsKnown}
+use Rattle.ck_history.specs.Lines.{AddsKnown, IsKnown}
 use Rattle.bm_unroll.specs.declared.frames.Source.{Source}
 use Rattle.bm_unroll.specs.declared.frames.Source.TheVariants as s
 use Rattle.bm_unroll.specs.Frames.{IsChoice, chosen, source_width}

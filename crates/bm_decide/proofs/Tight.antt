@@ -18,19 +18,19 @@ use Rattle.lrat_check.proofs.Stores.{numbered_held}
 use Rattle.sat_search.specs.declared.found.Found.{Found}
 use Rattle.sat_search.specs.declared.found.Found.TheVariants as found
 use Rattle.sat_search.specs.Found.{IfModel, IfRefuted, IfSpent, IfSteps, nonempty}
-use Rattle.cnf_nodes.specs.Models.{AreTrue}
+use Rattle.bb_clauses.specs.Models.{AreTrue}
 use Rattle.bm_unroll.specs.declared.frames.Source.{Source}
 use Rattle.bm_unroll.specs.Frames.{IsBadRun, IsChoice}
-use Rattle.bm_clauses.specs.declared.runs.RunClauses.{RunClauses}
-use Rattle.bm_clauses.specs.Runs.{ModelsAreRuns, values_in}
-use Rattle.bm_clauses.proofs.Joining.{parts, whole}
+use Rattle.bm_decide.specs.declared.runs.RunClauses.{RunClauses}
+use Rattle.bm_decide.specs.Runs.{ModelsAreRuns, values_in}
+use Rattle.bm_decide.proofs.Joining.{parts, whole}
 use Rattle.rvfi_port.specs.declared.port.Port.{Port}
 use Rattle.rvfi_port.specs.Ports.{ArePortNodes}
 use Rattle.ck_cfg.specs.declared.check.Check.{Check}
-use Rattle.ck_lines.specs.Lines.{AddsKnown}
+use Rattle.ck_history.specs.Lines.{AddsKnown}
 use Rattle.ck_gen.specs.Monitors.{IsMonitor, holds_in}
 use Rattle.bm_decide.specs.Verdicts.{AreBitsOf, IsTight, IsVerdict, Violates}
-use Rattle.bm_decide.specs.Parts.{bits_of, certificate_of, verdict_of}
+use Rattle.bm_decide.specs.DecideParts.{bits_of, certificate_of, verdict_of}
 use Rattle.bm_decide.proofs.Carried.{bad_is_violating, watched_are_same}
 use Rattle.bm_decide.proofs.Sources.{choices_more, fewer_choices, first_is, first_of, more_choices, same_chosen}
 

@@ -9,7 +9,7 @@ use Rattle.wn_net.specs.Net.{Netlist, IsNet}
 use Rattle.wn_run.specs.Runs.{Choices, AreChoicesOf}
 use Rattle.cnf_form.specs.Cnf.{value_of}
 use Rattle.bb_blast.specs.Choice.{all_places}
-use Rattle.cnf_nodes.specs.Models.{read_at}
+use Rattle.bb_clauses.specs.Models.{read_at}
 use Rattle.bm_unroll.specs.declared.frames.Source.{Source}
 use Rattle.bm_unroll.specs.Frames.{AreDistinct, chosen}
 use Rattle.rvfi_port.specs.declared.port.Port.{Port}

@@ -3,7 +3,7 @@ use Rattle.std.specs.Prelude.{◌≡◌, ◌↔◌, ℕ, ◌≤◌, Bool, true, 
 use Rattle.wn_net.specs.Net.{Netlist, value_at}
 use Rattle.wn_run.specs.Runs.{Choices, AreChoicesOf, cycle_at, inputs_at, start_of}
 use Rattle.cnf_form.specs.Cnf.{Cnf}
-use Rattle.cnf_nodes.specs.Models.{AreTrue, number_in}
+use Rattle.bb_clauses.specs.Models.{AreTrue, number_in}
 use Rattle.bm_unroll.specs.declared.frames.Source.{Source}
 use Rattle.bm_unroll.specs.Frames.{Chooses, chosen}
 

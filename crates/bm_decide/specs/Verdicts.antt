@@ -9,9 +9,9 @@ use Rattle.lrat_check.specs.Steps.{Refutes, Valid, AreSteps}
 use Rattle.lrat_check.specs.Resolved.{Resolved, derived}
 use Rattle.sat_search.specs.Found.{nonempty}
 use Rattle.bb_blast.specs.Choice.{all_places}
-use Rattle.cnf_nodes.specs.Models.{read_at}
+use Rattle.bb_clauses.specs.Models.{read_at}
 use Rattle.bm_unroll.specs.Frames.{AreDistinct, Chooses, IsChoice, chosen, source_width}
-use Rattle.bm_clauses.specs.Runs.{ModelsAreRuns, values_in}
+use Rattle.bm_decide.specs.Runs.{ModelsAreRuns, values_in}
 use Rattle.rvfi_port.specs.declared.port.Port.{Port}
 use Rattle.rvfi_port.specs.Channels.{nodes_of}
 use Rattle.ck_cfg.specs.declared.check.Check.{Check}

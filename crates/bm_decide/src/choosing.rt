@@ -3,11 +3,11 @@
 ghost use Rattle.std.specs.Prelude.{◌≡◌, length, IfOk};
 ghost use Rattle.tr_replay.specs.Traces.{choices_of};
 ghost use Rattle.bm_unroll.specs.Frames.{AreDistinct};
-ghost use Rattle.bm_chosen.specs.Chosen.{AreReadable, HaveNumbers, numbers_read};
+ghost use Rattle.bm_decide.specs.Chosen.{AreReadable, HaveNumbers, numbers_read};
 
 use crate::numbers::numbers_of;
 use crate::store::put_source;
-use bm_decide::Violation;
+use crate::verdict::Violation;
 use bm_unroll::Source;
 use fv_base::{List, Memory};
 use std::alloc::Global;

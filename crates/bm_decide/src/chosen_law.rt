@@ -1,6 +1,6 @@
 //! What holds of choices that are read from a violation.
 
-ghost use Rattle.bm_chosen.specs.Chosen as spec;
+ghost use Rattle.bm_decide.specs.Chosen as spec;
 
 /// The bits of a run of a net may be read, and the choices that are read from a violation are those of a run that
 /// violates the check.

@@ -3,9 +3,9 @@
 ghost use Rattle.std.specs.Prelude.{◌≡◌, ◌≤◌, length, take, drop, IfOk};
 ghost use Rattle.std.specs.List.{AllByRecursion};
 ghost use Rattle.wn_net.specs.Width.{IsWidth};
-ghost use Rattle.bb_bits.specs.Bits.{number};
+ghost use Rattle.bb_aig.specs.Bits.{number};
 ghost use Rattle.bb_blast.specs.Choice.{numbers_of};
-ghost use Rattle.bm_chosen.specs.Chosen.{bit_in};
+ghost use Rattle.bm_decide.specs.Chosen.{bit_in};
 
 use fv_base::Memory;
 use std::alloc::Global;

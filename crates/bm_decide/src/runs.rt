@@ -2,16 +2,16 @@
 ghost use Rattle.std.specs.Prelude.{◌≡◌, ◌≤◌, map, slice_index, IfOk};
 ghost use Rattle.std.specs.List.{AllByRecursion};
 ghost use Rattle.wn_net.specs.Net.{IsNode, AreNodes};
-ghost use Rattle.bb_operators.specs.Words.{AreWords};
+ghost use Rattle.bb_words.specs.Words.{AreWords};
 ghost use Rattle.bb_blast.specs.Choice.{numbers_of, all_places};
 ghost use Rattle.bb_blast.specs.Walk.{values_by, widths_by};
-ghost use Rattle.cnf_nodes.specs.Models.{read_at};
+ghost use Rattle.bb_clauses.specs.Models.{read_at};
 ghost use Rattle.bm_unroll.specs.Frames.{AreDistinct, HasWatch, IsBadRun, IsChoice, IsFrames, IsWithin};
 ghost use Rattle.bm_unroll.specs.Frames.{source_width};
-ghost use Rattle.bm_clauses.specs.Runs.{ModelsAreRuns, values_in};
+ghost use Rattle.bm_decide.specs.Runs.{ModelsAreRuns, values_in};
 
+use bb_clauses::{Encoded, clauses_of_nodes};
 use bm_unroll::{Frames, unroll};
-use cnf_nodes::{Encoded, clauses_of_nodes};
 use fv_base::Memory;
 use std::alloc::Global;
 use wn_net::{Net, NodeId};

@@ -4,7 +4,7 @@ ghost use Rattle.std.specs.Prelude.{◌≡◌, ◌<◌, ℕ, [], length, slice_i
 ghost use Rattle.tr_replay.specs.Traces.{choices_of};
 ghost use Rattle.bm_unroll.specs.declared.frames.Source.{Source};
 ghost use Rattle.bm_unroll.specs.Frames.{chosen};
-ghost use Rattle.bm_chosen.specs.Parts.{put_at, put_at_both};
+ghost use Rattle.bm_decide.specs.ChosenParts.{put_at, put_at_both};
 
 use bm_unroll::Source;
 use fv_base::{List, Memory};

@@ -6,10 +6,10 @@ ghost use Rattle.rv_table.specs.declared.retire.Opts.{Opts};
 ghost use Rattle.rvfi_port.specs.declared.port.Port.{Port};
 ghost use Rattle.bm_unroll.specs.Frames.{Chooses};
 ghost use Rattle.bm_decide.specs.Verdicts.{AreBitsOf, IsFail};
-ghost use Rattle.bm_chosen.specs.Chosen.{ShowsViolation, numbers_read};
+ghost use Rattle.bm_decide.specs.Chosen.{ShowsViolation, numbers_read};
 
 use crate::choosing::chosen_of;
-use bm_decide::Violation;
+use crate::verdict::Violation;
 use ck_cfg::Check;
 use fv_base::{Memory, Trace};
 use std::alloc::Global;

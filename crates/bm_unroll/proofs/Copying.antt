@@ -12,9 +12,9 @@ use Rattle.wn_net.specs.Net.{widths_of, values_of}
 use Rattle.wn_net.specs.Changes.{AddsNodes, Builds}
 use Rattle.wn_net.proofs.Laws.{adds_on, adds_none, there_on, nodes_on, given_on}
 use Rattle.wn_mem.specs.Words.{words_width, numbers_of}
-use Rattle.bm_cycle.specs.declared.state.StateNodes.{StateNodes}
-use Rattle.bm_cycle.specs.Cycle.{AreMemories, AreStateNodes, Copies, IsCopyable, IsMemory, StandFor, given_by}
-use Rattle.bm_cycle.specs.Cycle.{shape_by, state_by, widths_at}
+use Rattle.bm_unroll.specs.declared.state.StateNodes.{StateNodes}
+use Rattle.bm_unroll.specs.Cycle.{AreMemories, AreStateNodes, Copies, IsCopyable, IsMemory, StandFor, given_by}
+use Rattle.bm_unroll.specs.Cycle.{shape_by, state_by, widths_at}
 
 -- ---- nodes in a list
 

@@ -15,9 +15,9 @@ use Rattle.wn_net.specs.Given.{IsGiven}
 use Rattle.wn_net.specs.Net.{Netlist, IsNodeOf, width_at, value_at}
 use Rattle.wn_net.specs.Changes.{Builds}
 use Rattle.wn_mem.specs.Words.{words_width, numbers_of}
-use Rattle.bm_cycle.specs.declared.state.StateNodes.{StateNodes}
-use Rattle.bm_cycle.specs.Cycle.{Copies, IsCopyable, shape_by, widths_at}
-use Rattle.bm_cycle.proofs.Copying.{copies_one, copies_two, node_in, number_here, width_here}
+use Rattle.bm_unroll.specs.declared.state.StateNodes.{StateNodes}
+use Rattle.bm_unroll.specs.Cycle.{Copies, IsCopyable, shape_by, widths_at}
+use Rattle.bm_unroll.proofs.Copying.{copies_one, copies_two, node_in, number_here, width_here}
 
 pub copies_not : (old new : Netlist) (inputs : List ℕ) (state : StateNodes) (table : List ℕ) (x : Node) (a d id :
     ℕ)

@@ -12,9 +12,9 @@ use Rattle.wn_net.specs.Changes.{AddsNodes}
 use Rattle.wn_net.proofs.Laws.{adds_regs}
 use Rattle.wn_run.specs.Runs.{IsMet, cycle_at, first_regs, state_at}
 use Rattle.wn_run.proofs.OldRun.{old_run}
-use Rattle.bm_cycle.specs.declared.state.StateNodes.{StateNodes}
-use Rattle.bm_cycle.specs.Cycle.{state_by}
-use Rattle.bm_walk.specs.Walk.{IsStart, Passes, rows_by}
+use Rattle.bm_unroll.specs.declared.state.StateNodes.{StateNodes}
+use Rattle.bm_unroll.specs.Cycle.{state_by}
+use Rattle.bm_unroll.specs.Walk.{IsStart, Passes, rows_by}
 
 pub shape_same : (part net : Netlist) → AddsNodes part net → shape_of net ≡ shape_of part
 shape_same part net h = λ i. record {

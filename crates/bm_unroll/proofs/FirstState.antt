@@ -10,7 +10,7 @@ use Rattle.wn_net.specs.declared.parts.Init.{Init}
 use Rattle.wn_net.specs.declared.parts.Init.TheVariants as init
 use Rattle.wn_net.specs.Net.{Netlist, IsMemOf, IsNet, shape_of}
 use Rattle.wn_run.specs.Runs.{start_number, regs_from, words_from, mems_from}
-use Rattle.bm_cycle.specs.declared.state.StateNodes.{StateNodes}
+use Rattle.bm_unroll.specs.declared.state.StateNodes.{StateNodes}
 use Rattle.bm_unroll.specs.declared.draft.Draft.{Draft}
 use Rattle.bm_unroll.specs.declared.frames.Source.TheVariants as s
 use Rattle.bm_unroll.specs.Frames.{IsChoice, source_width}

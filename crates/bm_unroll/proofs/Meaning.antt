@@ -9,9 +9,9 @@ use Rattle.wn_net.specs.Changes.{Grows}
 use Rattle.wn_net.proofs.Laws.{grown_there, grown_nodes, grown_value}
 use Rattle.wn_run.specs.Runs.{Choices}
 use Rattle.wn_mem.specs.Words.{words_width, numbers_of}
-use Rattle.bm_cycle.specs.Cycle.{AreMemories, IsMemory, widths_at}
-use Rattle.bm_cycle.proofs.Copying.{are_nodes, node_in, nodes_push, width_here}
-use Rattle.bm_cycle.proofs.Writing.{are_words, first_width}
+use Rattle.bm_unroll.specs.Cycle.{AreMemories, IsMemory, widths_at}
+use Rattle.bm_unroll.proofs.Copying.{are_nodes, node_in, nodes_push, width_here}
+use Rattle.bm_unroll.proofs.Writing.{are_words, first_width}
 use Rattle.bm_unroll.specs.declared.draft.Draft.{Draft}
 use Rattle.bm_unroll.specs.Draft.{Extends, Means, MeansAll, MeansMems}
 use Rattle.bm_unroll.proofs.Drafting.{agree_begun}

@@ -17,11 +17,11 @@ use Rattle.wn_net.specs.Changes.{AddsNodes}
 use Rattle.wn_net.proofs.Laws.{adds_on, adds_none, given_on}
 use Rattle.wn_net.proofs.Stays.{length-widths_of}
 use Rattle.wn_mem.specs.Words.{words_width, numbers_of}
-use Rattle.bm_cycle.specs.Cycle.{AreMemories, IsMemory, widths_at}
-use Rattle.bm_cycle.specs.Moved.{IsTableWrite}
-use Rattle.bm_cycle.proofs.Copying.{node_in, nodes_there, numbers_kept, memory_in, memories_there, mem_widths_kept}
-use Rattle.bm_cycle.proofs.Copying.{mem_numbers_kept, widths_kept, are_nodes, words_kept}
-use Rattle.bm_cycle.proofs.Writing.{first_width, are_words}
+use Rattle.bm_unroll.specs.Cycle.{AreMemories, IsMemory, widths_at}
+use Rattle.bm_unroll.specs.Moved.{IsTableWrite}
+use Rattle.bm_unroll.proofs.Copying.{node_in, nodes_there, numbers_kept, memory_in, memories_there, mem_widths_kept}
+use Rattle.bm_unroll.proofs.Copying.{mem_numbers_kept, widths_kept, are_nodes, words_kept}
+use Rattle.bm_unroll.proofs.Writing.{first_width, are_words}
 
 pub table_long : (net new : Netlist) (table : List ℕ) → widths_at new table ≡ widths_of net
     → length table ≡ length net.nodes

@@ -14,7 +14,7 @@ use Rattle.wn_net.specs.declared.parts.Input.{Input}
 use Rattle.wn_net.specs.declared.parts.InputKind.TheVariants.{Once}
 use Rattle.wn_net.specs.Net.{Netlist, shape_of}
 use Rattle.wn_run.specs.Runs.{Choices, by_kind, inputs_at, inputs_from, reset_at}
-use Rattle.bm_walk.specs.Walk.{AreRows, IsRow}
+use Rattle.bm_unroll.specs.Walk.{AreRows, IsRow}
 use Rattle.bm_unroll.specs.declared.draft.Draft.{Draft}
 use Rattle.bm_unroll.specs.Draft.{Extends, HasRows, IsDraft, Means, MeansAll}
 use Rattle.bm_unroll.proofs.Items.{all_from, get_within, index_mapped, mapped_next}

@@ -18,9 +18,9 @@ use Rattle.wn_net.specs.Net.{Netlist, IsNet, AreNodes, value_at, shape_of, value
 use Rattle.wn_net.specs.Changes.{AddsNodes}
 use Rattle.wn_run.specs.Runs.{Choices, AreChoicesOf, IsMet, cycle_at, inputs_at, start_of, state_at}
 use Rattle.wn_mem.specs.Words.{numbers_of}
-use Rattle.bm_cycle.specs.declared.state.StateNodes.{StateNodes}
-use Rattle.bm_cycle.specs.Cycle.{state_by}
-use Rattle.bm_walk.specs.Walk.{AreOther, IsBadAt, rows_by}
+use Rattle.bm_unroll.specs.declared.state.StateNodes.{StateNodes}
+use Rattle.bm_unroll.specs.Cycle.{state_by}
+use Rattle.bm_unroll.specs.Walk.{AreOther, IsBadAt, rows_by}
 use Rattle.bm_unroll.specs.declared.frames.Source.{Source}
 use Rattle.bm_unroll.specs.declared.frames.Frames.{Frames}
 use Rattle.bm_unroll.specs.declared.draft.Draft.{Draft}

@@ -15,13 +15,13 @@ use Rattle.wn_net.specs.Changes.{AddsNodes}
 use Rattle.wn_net.proofs.Laws.{adds_on, adds_none, given_on}
 use Rattle.wn_run.specs.Runs.{IsMet, cycle_at}
 use Rattle.wn_mem.specs.Words.{words_width, numbers_of}
-use Rattle.bm_cycle.specs.declared.state.StateNodes.{StateNodes}
-use Rattle.bm_cycle.specs.Cycle.{AreStateNodes, StandFor, given_by, state_by, widths_at}
-use Rattle.bm_cycle.specs.Moved.{moved}
-use Rattle.bm_cycle.proofs.Copying.{node_in, nodes_there, nodes_push, widths_kept, numbers_kept}
-use Rattle.bm_cycle.proofs.Copying.{state_kept}
-use Rattle.bm_cycle.proofs.Moving.{table_long}
-use Rattle.bm_walk.specs.Walk.{AreOther, AreRows, IsAssumedBefore, IsBadAt, IsRow, IsStart, Passes, rows_by}
+use Rattle.bm_unroll.specs.declared.state.StateNodes.{StateNodes}
+use Rattle.bm_unroll.specs.Cycle.{AreStateNodes, StandFor, given_by, state_by, widths_at}
+use Rattle.bm_unroll.specs.Moved.{moved}
+use Rattle.bm_unroll.proofs.Copying.{node_in, nodes_there, nodes_push, widths_kept, numbers_kept}
+use Rattle.bm_unroll.proofs.Copying.{state_kept}
+use Rattle.bm_unroll.proofs.Moving.{table_long}
+use Rattle.bm_unroll.specs.Walk.{AreOther, AreRows, IsAssumedBefore, IsBadAt, IsRow, IsStart, Passes, rows_by}
 
 -- ---- numbers other than 0
 

@@ -13,9 +13,9 @@ use Rattle.wn_net.specs.Net.{Netlist, IsNode, IsNodeOf, AreNodes, AreNodesOf, Is
 use Rattle.wn_net.specs.Changes.{AddsNodes}
 use Rattle.wn_net.proofs.Laws.{adds_on, adds_none, there_on, given_on}
 use Rattle.wn_mem.specs.Words.{AreWords, words_width, numbers_of, after_write}
-use Rattle.bm_cycle.specs.Cycle.{widths_at}
-use Rattle.bm_cycle.specs.Moved.{IsTableWrite, copied}
-use Rattle.bm_cycle.proofs.Copying.{node_in, width_here, number_here}
+use Rattle.bm_unroll.specs.Cycle.{widths_at}
+use Rattle.bm_unroll.specs.Moved.{IsTableWrite, copied}
+use Rattle.bm_unroll.proofs.Copying.{node_in, width_here, number_here}
 
 pub record Writing (old now : Netlist) (writes : List MemWrite) (table words : List ℕ) (i : ℕ) (made : List ℕ) :
     Type 0 where

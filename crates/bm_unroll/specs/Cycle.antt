@@ -8,7 +8,7 @@ use Rattle.wn_net.specs.Value.{Given, value}
 use Rattle.wn_net.specs.Given.{IsGiven, given}
 use Rattle.wn_net.specs.Net.{Netlist, IsNode, AreNodes, shape_of, width_at, value_at}
 use Rattle.wn_mem.specs.Words.{AreWords, words_width, numbers_of}
-use Rattle.bm_cycle.specs.declared.state.StateNodes.{StateNodes}
+use Rattle.bm_unroll.specs.declared.state.StateNodes.{StateNodes}
 
 abbrev pub widths_at : Netlist → List ℕ → List ℕ
 widths_at net ids = map (width_at net) ids

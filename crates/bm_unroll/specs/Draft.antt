@@ -7,9 +7,9 @@ use Rattle.wn_net.specs.Net.{Netlist, IsNodeOf, AreNodes, shape_of, value_at}
 use Rattle.wn_net.specs.Changes.{Grows, IsBegun}
 use Rattle.wn_run.specs.Runs.{Choices, inputs_at, start_of}
 use Rattle.wn_mem.specs.Words.{numbers_of, words_width}
-use Rattle.bm_cycle.specs.declared.state.StateNodes.{StateNodes}
-use Rattle.bm_cycle.specs.Cycle.{AreMemories, state_by, widths_at}
-use Rattle.bm_walk.specs.Walk.{IsStart}
+use Rattle.bm_unroll.specs.declared.state.StateNodes.{StateNodes}
+use Rattle.bm_unroll.specs.Cycle.{AreMemories, state_by, widths_at}
+use Rattle.bm_unroll.specs.Walk.{IsStart}
 use Rattle.bm_unroll.specs.declared.frames.Source.{Source}
 use Rattle.bm_unroll.specs.declared.frames.Source.TheVariants as s
 use Rattle.bm_unroll.specs.declared.draft.Draft.{Draft}

@@ -9,8 +9,8 @@ use Rattle.wn_net.specs.Net.{Netlist, AreNodes, shape_of, value_at}
 use Rattle.wn_net.specs.Changes.{AddsNodes}
 use Rattle.wn_run.specs.Runs.{IsAssumed, IsMet, cycle_at, state_at}
 use Rattle.wn_mem.specs.Words.{words_width, numbers_of}
-use Rattle.bm_cycle.specs.declared.state.StateNodes.{StateNodes}
-use Rattle.bm_cycle.specs.Cycle.{AreStateNodes, state_by, widths_at}
+use Rattle.bm_unroll.specs.declared.state.StateNodes.{StateNodes}
+use Rattle.bm_unroll.specs.Cycle.{AreStateNodes, state_by, widths_at}
 
 -- the inputs of each cycle for which rows of nodes stand
 abbrev pub rows_by : Netlist → Given → List (List ℕ) → ℕ → List ℕ

@@ -7,7 +7,7 @@ ghost use Rattle.wn_net.specs.Given.{IsGiven};
 ghost use Rattle.wn_net.specs.Net.{IsNode, IsNodeOf, AreNodes, value_at, widths_of, values_of};
 ghost use Rattle.wn_net.specs.Changes.{AddsNodes};
 ghost use Rattle.wn_mem.specs.Words.{numbers_of, words_width};
-ghost use Rattle.bm_cycle.specs.Cycle.{AreMemories, Copies, IsCopyable, StandFor, given_by, widths_at};
+ghost use Rattle.bm_unroll.specs.Cycle.{AreMemories, Copies, IsCopyable, StandFor, given_by, widths_at};
 
 use crate::state::StateNodes;
 use fv_base::Memory;

@@ -7,11 +7,13 @@ ghost use Rattle.wn_net.specs.Net.{IsNet, IsNode, AreNodes, shape_of, widths_of,
 ghost use Rattle.wn_net.specs.Changes.{AddsNodes};
 ghost use Rattle.wn_run.specs.Runs.{IsMet, cycle_at};
 ghost use Rattle.wn_mem.specs.Words.{numbers_of};
-ghost use Rattle.bm_cycle.specs.Cycle.{StandFor, given_by, state_by, widths_at};
-ghost use Rattle.bm_walk.specs.Walk.{AreOther, AreRows, IsBadAt, IsStart, Passes, rows_by};
+ghost use Rattle.bm_unroll.specs.Cycle.{StandFor, given_by, state_by, widths_at};
+ghost use Rattle.bm_unroll.specs.Walk.{AreOther, AreRows, IsBadAt, IsStart, Passes, rows_by};
 
+use crate::copy::copy_cycle;
+use crate::next::next_nodes;
+use crate::state::StateNodes;
 use crate::walked::Walked;
-use bm_cycle::{StateNodes, copy_cycle, next_nodes};
 use fv_base::{List, Memory};
 use std::alloc::Global;
 use wn_net::{Net, NodeId};

@@ -9,8 +9,8 @@ ghost use Rattle.wn_net.specs.Given.{IsGiven};
 ghost use Rattle.wn_net.specs.Changes.{AddsNodes};
 ghost use Rattle.wn_net.specs.Next.{next_mems, write_each};
 ghost use Rattle.wn_mem.specs.Words.{words_width, numbers_of};
-ghost use Rattle.bm_cycle.specs.Cycle.{AreMemories, AreStateNodes, IsMemory, state_by, widths_at};
-ghost use Rattle.bm_cycle.specs.Moved.{IsTableWrite, moved};
+ghost use Rattle.bm_unroll.specs.Cycle.{AreMemories, AreStateNodes, IsMemory, state_by, widths_at};
+ghost use Rattle.bm_unroll.specs.Moved.{IsTableWrite, moved};
 
 use crate::state::StateNodes;
 use crate::words::next_words;

@@ -11,7 +11,7 @@ ghost use Rattle.bm_unroll.specs.Frames.{IsChoice, chosen, source_width};
 
 use crate::draft::Draft;
 use crate::frames::Source;
-use bm_cycle::StateNodes;
+use crate::state::StateNodes;
 use fv_base::{List, Memory};
 use std::alloc::Global;
 use wn_net::{Init, Mem, Net, NodeId};

@@ -5,15 +5,16 @@ ghost use Rattle.wn_net.specs.Net.{IsNet, IsNode, AreNodes};
 ghost use Rattle.bm_unroll.specs.Frames.{AreChosen, AreDistinct, HasRoots, HasWatch, IsChoice, IsFrames, IsWithin};
 ghost use Rattle.bm_unroll.specs.Frames.{source_width};
 
+use crate::cycles::walk_cycles;
 use crate::draft::Draft;
 use crate::frames::Frames;
 use crate::inputs::input_rows;
 use crate::starts::starts;
-use bm_walk::{Walked, walk_cycles};
+use crate::walked::Walked;
 use fv_base::{List, Memory};
 use std::alloc::Global;
-use wn_early::early;
 use wn_net::{Net, NodeId};
+use wn_run::early;
 
 /// The frames that were drafted, with these roots and watched nodes.
 fn framed(draft: Draft, walked: Walked) -> Frames

@@ -9,8 +9,8 @@ ghost use Rattle.wn_net.specs.Given.{IsGiven};
 ghost use Rattle.wn_net.specs.Changes.{AddsNodes};
 ghost use Rattle.wn_net.specs.Next.{write_each};
 ghost use Rattle.wn_mem.specs.Words.{AreWords, words_width, numbers_of, after_write};
-ghost use Rattle.bm_cycle.specs.Cycle.{widths_at};
-ghost use Rattle.bm_cycle.specs.Moved.{IsTableWrite, copied};
+ghost use Rattle.bm_unroll.specs.Cycle.{widths_at};
+ghost use Rattle.bm_unroll.specs.Moved.{IsTableWrite, copied};
 
 use fv_base::Memory;
 use std::alloc::Global;

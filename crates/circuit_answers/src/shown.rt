@@ -4,8 +4,7 @@
 use crate::case::Case;
 use crate::channel::play;
 use fv_base::{List, Memory};
-use rv_agree::agreement;
-use rv_circ::{EffectNodes, circuit};
+use rv_circ::{EffectNodes, agreement, circuit};
 use rv_table::{Effect, Retire, effect_of, matches};
 use std::alloc::Global;
 use wn_net::{Net, NodeId, State};

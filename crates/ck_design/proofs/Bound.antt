@@ -13,8 +13,8 @@ use Rattle.wn_net.specs.Value.{Given}
 use Rattle.wn_net.specs.Net.{Netlist, IsNet, value_at}
 use Rattle.wn_net.specs.Given.{IsGiven}
 use Rattle.wn_net.specs.Changes.{AddsNodes, Shows}
-use Rattle.vl_evals.specs.Evaluations.{IsLowered}
-use Rattle.vl_evals.specs.Maps.{map_of}
+use Rattle.vl_lower_spec.specs.Evaluations.{IsLowered}
+use Rattle.vl_lower_spec.specs.Maps.{map_of}
 use Rattle.rvfi_port.specs.declared.field.Field.{Field}
 use Rattle.rvfi_port.specs.declared.field.Field.TheVariants as f
 use Rattle.rvfi_port.specs.declared.port.Channel.{Channel}
@@ -25,7 +25,7 @@ use Rattle.rvfi_port.specs.Channels.{nodes_of, retire_at}
 use Rattle.rvfi_port.specs.Fields.{channel_fields, field_name, field_width, probed_fields, wanted_fields}
 use Rattle.rvfi_port.specs.Outputs.{first_refused, judged, output_of, output_value}
 use Rattle.rvfi_port.proofs.PortNodes.{port_nodes}
-use Rattle.ck_past.specs.Retirements.{dmem_addr_at, imem_addr_at, imem_data_at, retired_from, retired_in}
+use Rattle.ck_gen.specs.Retirements.{dmem_addr_at, imem_addr_at, imem_data_at, retired_from, retired_in}
 use Rattle.ck_design.specs.Retirements as design
 use Rattle.ck_design.specs.Retirements.{field_in, probe_in, retire_in, retired_by}
 use Rattle.ck_design.specs.Loaded.{BoundNetsAreLoaded, HaveFields, IsDeclared, ShowsMap}

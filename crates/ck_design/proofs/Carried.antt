@@ -28,8 +28,8 @@ use Rattle.wn_net.specs.Changes.{AddsNodes}
 use Rattle.wn_net.proofs.Laws.{adds_regs, given_on, names_on}
 use Rattle.wn_run.specs.Runs.{Choices, AreChoicesOf, IsMet, first_regs, mems_from, regs_from, start_of}
 use Rattle.wn_run.proofs.OldRun.{old_run}
-use Rattle.vl_evals.specs.Evaluations.{HaveReset, IsLowered, IsStart, KeepOnce}
-use Rattle.vl_evals.specs.Maps.{given_of, map_in, map_of, number_or, place_number, state_of}
+use Rattle.vl_lower_spec.specs.Evaluations.{HaveReset, IsLowered, IsStart, KeepOnce}
+use Rattle.vl_lower_spec.specs.Maps.{given_of, map_in, map_of, number_or, place_number, state_of}
 
 first_all : (n : ℕ) (s : State) → length s.regs ≤ n → first_regs n s ≡ s
 first_all n s le = λ i. record { regs = take_all n s.regs le i; mems = s.mems }

@@ -22,8 +22,8 @@ use Rattle.wn_run.specs.Runs.{Choices, AreChoicesOf, inputs_at, start_of}
 use Rattle.wn_run.proofs.Given.{choices_run, cycles_given}
 use Rattle.vcd_text.specs.Vcd.{AreValues, IsWide}
 use Rattle.tr_replay.specs.Traces.{cycle_of, first_cycles, name_values, names_by, names_of, place_values, word_names}
-use Rattle.ck_traces.specs.Traces.{TracesHaveDumps}
-use Rattle.ck_traces.proofs.Rows.{memory_length}
+use Rattle.ck_design.specs.Traces.{TracesHaveDumps}
+use Rattle.ck_design.proofs.Rows.{memory_length}
 
 both : {A : Type 0} (P : A → Type 0) (xs ys : List A) → AllByRecursion P xs → AllByRecursion P ys
     → AllByRecursion P (xs ++ ys)

@@ -28,8 +28,8 @@ use Rattle.wn_net.specs.declared.names.Place.TheVariants as place
 use Rattle.wn_net.specs.Value.{Given}
 use Rattle.wn_net.specs.Net.{Netlist}
 use Rattle.wn_net.specs.Names.{AreNamesOf, IsNameOf, IsPlaced, number_at}
-use Rattle.vl_evals.specs.Maps.{AreEntriesOf, as_vectors, is_split, listed, listed_in, listed_of, map_in, map_of}
-use Rattle.vl_evals.specs.Maps.{number_or, place_number}
+use Rattle.vl_lower_spec.specs.Maps.{AreEntriesOf, as_vectors, is_split, listed, listed_in, listed_of, map_in, map_of}
+use Rattle.vl_lower_spec.specs.Maps.{number_or, place_number}
 use Rattle.rvfi_port.specs.declared.field.Field.{Field}
 use Rattle.rvfi_port.specs.declared.field.Field.TheVariants as f
 use Rattle.rvfi_port.specs.Fields.{field_name}

@@ -7,14 +7,14 @@ use Rattle.std.proofs.Common.{ap, sym, ◌∙◌, arith, subst, append_assoc, tr
 use Rattle.fv_bits.specs.Bits.{bit}
 use Rattle.fv_bits.proofs.SingleBits.{bit_at_part}
 use Rattle.vl_size.specs.Size.{Values}
-use Rattle.cnf_nodes.specs.Models.{number_in, value_in}
+use Rattle.bb_clauses.specs.Models.{number_in, value_in}
 use Rattle.rvfi_port.specs.declared.field.Field.{Field}
 use Rattle.rvfi_port.specs.Fields.{field_name, field_width}
 use Rattle.ck_design.specs.Retirements.{field_in, values_at}
-use Rattle.ck_notes.specs.declared.note.Note.{Note}
-use Rattle.ck_notes.specs.Notes.{bit_notes, field_notes}
-use Rattle.ck_notes.specs.Tight.{Agree, AgreeAt, IsNoted}
-use Rattle.ck_notes.proofs.Placed.{append, number_bit}
+use Rattle.ck_design.specs.declared.note.Note.{Note}
+use Rattle.ck_design.specs.Notes.{bit_notes, field_notes}
+use Rattle.ck_design.specs.Tight.{Agree, AgreeAt, IsNoted}
+use Rattle.ck_design.proofs.Placed.{append, number_bit}
 
 pub bit_is : (b c : Bool) (n : ℕ) → n ≡ bit c → b ≡ c → b ≡ (n == 1)
 bit_is true true n e f = sym (ap (λ m. m == 1) e)

@@ -19,10 +19,10 @@ use Rattle.wn_net.specs.declared.names.Place.{Place}
 use Rattle.wn_net.specs.declared.names.Place.TheVariants as place
 use Rattle.wn_net.specs.Net.{Netlist}
 use Rattle.wn_net.specs.Names.{IsNameOf, IsPlaced}
-use Rattle.vl_evals.specs.Maps.{AreEntriesOf, IsEntryOf, as_vectors, is_split, listed, listed_in, listed_of}
+use Rattle.vl_lower_spec.specs.Maps.{AreEntriesOf, IsEntryOf, as_vectors, is_split, listed, listed_in, listed_of}
 use Rattle.tr_replay.specs.Traces.{names_by, names_of, word_names}
-use Rattle.ck_traces.specs.Traces.{HaveOwnNames, numbers_shown, shown, shown_by}
-use Rattle.ck_traces.proofs.Texts.{Different, Lacks}
+use Rattle.ck_design.specs.Traces.{HaveOwnNames, numbers_shown, shown, shown_by}
+use Rattle.ck_design.proofs.Texts.{Different, Lacks}
 
 -- a text with a width
 abbrev pub named : ℕ → List ℕ → TraceName

@@ -18,33 +18,33 @@ use Rattle.wn_net.specs.Value.{Given}
 use Rattle.wn_net.specs.Net.{Netlist, value_at}
 use Rattle.wn_run.specs.Runs.{Choices, AreChoicesOf, cycle_at, inputs_at, start_of}
 use Rattle.wn_run.proofs.Given.{choices_run, cycles_given}
-use Rattle.bb_bits.specs.Bits.{number}
+use Rattle.bb_aig.specs.Bits.{number}
 use Rattle.bb_aig.specs.Graph.{turned}
 use Rattle.bb_blast.specs.declared.places.Placed.{Placed}
 use Rattle.bb_blast.specs.Choice.{all_places, numbers_of}
 use Rattle.bm_unroll.specs.declared.frames.Source.{Source}
 use Rattle.bm_unroll.specs.declared.frames.Source.TheVariants as s
 use Rattle.bm_unroll.specs.Frames.{IsChoice, chosen, source_width}
-use Rattle.cnf_nodes.specs.Models.{AreTrue, bits_at, numbers_at, read_at, value_in}
-use Rattle.cnf_nodes.proofs.Joined.{inputs_in}
-use Rattle.cnf_nodes.proofs.Reading.{read_is}
+use Rattle.bb_clauses.specs.Models.{AreTrue, bits_at, numbers_at, read_at, value_in}
+use Rattle.bb_clauses.proofs.Joined.{inputs_in}
+use Rattle.bb_clauses.proofs.Reading.{read_is}
 use Rattle.rvfi_port.specs.declared.port.Channel.{Channel}
 use Rattle.rvfi_port.specs.Channels.{nodes_of}
 use Rattle.rvfi_port.specs.Fields.{channel_fields}
-use Rattle.vl_evals.specs.Maps.{map_of}
-use Rattle.vl_evals.specs.Evaluations.{IsLowered, run_of}
-use Rattle.vl_evals.proofs.Allowed.{allowed}
+use Rattle.vl_lower_spec.specs.Maps.{map_of}
+use Rattle.vl_lower_spec.specs.Evaluations.{IsLowered, run_of}
+use Rattle.vl_lower_spec.proofs.Allowed.{allowed}
 use Rattle.bm_decide.specs.declared.verdict.ChoiceBits.{ChoiceBits}
 use Rattle.bm_decide.specs.Verdicts.{AreBitsOf}
 use Rattle.ck_design.specs.Retirements.{field_in, holds_over, values_at}
 use Rattle.ck_design.specs.Loaded.{HaveFields}
 use Rattle.ck_design.proofs.Bound.{front}
 use Rattle.ck_design.proofs.Violating.{IsRunOf, choices_of_run, run_of_choices, same_check, same_fields}
-use Rattle.ck_notes.specs.declared.note.Note.{Note}
-use Rattle.ck_notes.specs.Notes.{choice_notes, field_notes, source_note, spot_note}
-use Rattle.ck_notes.specs.Tight.{Agree, AgreeAt, CertificatesAreTight}
-use Rattle.ck_notes.proofs.Fields.{all_noted, bit_is, fields_agree}
-use Rattle.ck_notes.proofs.Placed.{IsPlaceIn, all_placed, append, each, map_at, one_there, source_bit}
+use Rattle.ck_design.specs.declared.note.Note.{Note}
+use Rattle.ck_design.specs.Notes.{choice_notes, field_notes, source_note, spot_note}
+use Rattle.ck_design.specs.Tight.{Agree, AgreeAt, CertificatesAreTight}
+use Rattle.ck_design.proofs.Fields.{all_noted, bit_is, fields_agree}
+use Rattle.ck_design.proofs.Placed.{IsPlaceIn, all_placed, append, each, map_at, one_there, source_bit}
 
 -- ---- the literal of a variable
 

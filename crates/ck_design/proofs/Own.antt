@@ -16,11 +16,11 @@ use Rattle.vl_mean.specs.FlatLaw.{IsKept, flat_scopes}
 use Rattle.vl_mean.specs.FlatParts.{driver_part, parts_of, start_part}
 use Rattle.vl_mean.specs.Parts.{Part, declares}
 use Rattle.vl_mean.specs.Scopes.{Scope, is_clock_class}
-use Rattle.flow_cells.specs.Numbered.{all_cells}
-use Rattle.flow_cells.proofs.Numbers.{own_number}
-use Rattle.ck_traces.specs.Traces.{HaveOwnNames, shown, shown_by}
-use Rattle.ck_traces.proofs.Names.{named}
-use Rattle.ck_traces.proofs.Texts.{Different, Lacks, different_back, lacks_back, lacks_front}
+use Rattle.vl_flow_cells.specs.Numbered.{all_cells}
+use Rattle.vl_flow_cells.proofs.Numbers.{own_number}
+use Rattle.ck_design.specs.Traces.{HaveOwnNames, shown, shown_by}
+use Rattle.ck_design.proofs.Names.{named}
+use Rattle.ck_design.proofs.Texts.{Different, Lacks, different_back, lacks_back, lacks_front}
 
 -- ---- texts of which each stands at one place
 

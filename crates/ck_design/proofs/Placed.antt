@@ -24,18 +24,18 @@ use Rattle.wn_net.specs.Net.{Netlist}
 use Rattle.wn_net.specs.Names.{AreSpotsOf, IsSpotOf}
 use Rattle.wn_run.specs.Runs.{Choices, by_kind, inputs_at, mems_from, regs_from, reset_at, start_number}
 use Rattle.wn_run.specs.Runs.{start_of, words_from}
-use Rattle.bb_bits.specs.Bits.{number}
+use Rattle.bb_aig.specs.Bits.{number}
 use Rattle.bb_blast.specs.declared.places.Placed.{Placed}
 use Rattle.bb_blast.specs.Choice.{all_places, bits_from, numbers_from, places_from}
 use Rattle.bm_unroll.specs.declared.frames.Source.{Source}
 use Rattle.bm_unroll.specs.declared.frames.Source.TheVariants as s
 use Rattle.bm_unroll.specs.Frames.{IsChoice, chosen, source_width}
-use Rattle.vl_evals.specs.Maps.{cells_named, gathered, inputs_of, spot_number, state_of, text_of}
-use Rattle.vl_evals.specs.Evaluations.{IsLowered}
-use Rattle.vl_evals.proofs.Inputs.{input_at}
+use Rattle.vl_lower_spec.specs.Maps.{cells_named, gathered, inputs_of, spot_number, state_of, text_of}
+use Rattle.vl_lower_spec.specs.Evaluations.{IsLowered}
+use Rattle.vl_lower_spec.proofs.Inputs.{input_at}
 use Rattle.ck_design.specs.Retirements.{values_at}
 use Rattle.ck_design.proofs.Violating.{IsRunOf}
-use Rattle.ck_notes.specs.Notes.{source_note, spot_note}
+use Rattle.ck_design.specs.Notes.{source_note, spot_note}
 
 -- ---- bits of numbers
 

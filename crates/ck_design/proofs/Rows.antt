@@ -14,10 +14,10 @@ use Rattle.wn_net.specs.Value.{Given}
 use Rattle.wn_net.specs.Net.{Netlist, value_at}
 use Rattle.wn_net.specs.Given.{AreMemsOf, IsGiven}
 use Rattle.wn_net.specs.Names.{IsNameOf, IsPlaced}
-use Rattle.vl_evals.specs.Maps.{map_in, place_number}
+use Rattle.vl_lower_spec.specs.Maps.{map_in, place_number}
 use Rattle.tr_replay.specs.Traces.{name_values, place_values}
-use Rattle.ck_traces.proofs.Names.{texts, texts_of}
-use Rattle.ck_traces.proofs.Texts.{Different, apart, by_others, by_places, different_back, different_front}
+use Rattle.ck_design.proofs.Names.{texts, texts_of}
+use Rattle.ck_design.proofs.Texts.{Different, apart, by_others, by_places, different_back, different_front}
 
 words_length : (memory : List ℕ) (count : ℕ) (up : Bool) (i : ℤ) → length (words_from memory count up i) ≡ count
 words_length memory zero up i = refl

@@ -6,7 +6,7 @@ use Rattle.std.specs.List.{AllByRecursion, position_or_len}
 use Rattle.std.proofs.Common.{ap, sym, ◌∙◌, arith, cond, get_or}
 use Rattle.std.proofs.lemmas.Bool.Decides.{nat_tests}
 use Rattle.std.proofs.lemmas.Slice.Eq.{bytes_eq-Decides}
-use Rattle.vl_evals.specs.Maps.{number_or}
+use Rattle.vl_lower_spec.specs.Maps.{number_or}
 
 -- none of the texts is the text
 abbrev pub Lacks : List (List ℕ) → List ℕ → Type 0

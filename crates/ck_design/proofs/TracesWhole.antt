@@ -9,12 +9,12 @@ use Rattle.wn_net.specs.Net.{Netlist, IsNet}
 use Rattle.wn_net.specs.Given.{IsGiven}
 use Rattle.wn_run.specs.Runs.{Choices, AreChoicesOf, inputs_at, start_of}
 use Rattle.wn_run.proofs.Given.{choices_run, cycles_given}
-use Rattle.vl_evals.specs.Maps.{map_of}
-use Rattle.vl_evals.specs.Evaluations.{IsLowered, maps_from, run_of}
+use Rattle.vl_lower_spec.specs.Maps.{map_of}
+use Rattle.vl_lower_spec.specs.Evaluations.{IsLowered, maps_from, run_of}
 use Rattle.tr_replay.specs.Traces.{cycle_of, first_cycles, name_values}
-use Rattle.ck_traces.specs.Traces.{HaveOwnNames, TracesAreTheDesigns, numbers_shown}
-use Rattle.ck_traces.proofs.Names.{names_shown, numbers_by_texts, texts_differ}
-use Rattle.ck_traces.proofs.Rows.{by_map}
+use Rattle.ck_design.specs.Traces.{HaveOwnNames, TracesAreTheDesigns, numbers_shown}
+use Rattle.ck_design.proofs.Names.{names_shown, numbers_by_texts, texts_differ}
+use Rattle.ck_design.proofs.Rows.{by_map}
 
 module _ (ps : List Part) (net : Netlist) (names : Names) (ch : Choices) (h : IsLowered ps net names)
     (whole : IsNet net) (own : HaveOwnNames ps) (of : AreChoicesOf net ch) where

@@ -14,10 +14,10 @@ use Rattle.wn_net.specs.Value.{Given}
 use Rattle.wn_net.specs.Net.{Netlist, IsNet}
 use Rattle.wn_run.specs.Runs.{Choices, AreChoicesOf, IsMet, cycle_at, inputs_at, start_of}
 use Rattle.wn_run.proofs.Given.{choices_run, cycles_given}
-use Rattle.vl_evals.specs.Maps.{given_of, map_of}
-use Rattle.vl_evals.specs.Evaluations.{IsLowered, maps_from, run_of}
-use Rattle.vl_evals.proofs.Allowed.{allowed, assumed}
-use Rattle.vl_evals.proofs.Evaluated.{evaluated}
+use Rattle.vl_lower_spec.specs.Maps.{given_of, map_of}
+use Rattle.vl_lower_spec.specs.Evaluations.{IsLowered, maps_from, run_of}
+use Rattle.vl_lower_spec.proofs.Allowed.{allowed, assumed}
+use Rattle.vl_lower_spec.proofs.Evaluated.{evaluated}
 use Rattle.rvfi_port.specs.declared.field.Field.{Field}
 use Rattle.rvfi_port.specs.declared.field.Field.TheVariants as f
 use Rattle.rvfi_port.specs.declared.port.Channel.{Channel}
@@ -26,8 +26,8 @@ use Rattle.rvfi_port.specs.declared.port.Wants.{Wants}
 use Rattle.rvfi_port.specs.Fields.{channel_fields, field_name, field_width, probed_fields, wanted_fields}
 use Rattle.ck_cfg.specs.declared.check.Check.{Check}
 use Rattle.ck_props.specs.Properties.{property}
-use Rattle.ck_past.specs.Retirements.{probe_at, retired_from}
-use Rattle.ck_past.specs.Retirements as past
+use Rattle.ck_gen.specs.Retirements.{probe_at, retired_from}
+use Rattle.ck_gen.specs.Retirements as past
 use Rattle.ck_gen.specs.Monitors.{holds_in}
 use Rattle.bm_decide.specs.Verdicts.{Violates}
 use Rattle.ck_design.specs.Retirements as design

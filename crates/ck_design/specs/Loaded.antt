@@ -6,8 +6,8 @@ use Rattle.rv_table.specs.declared.retire.Opts.{Opts}
 use Rattle.vl_size.specs.Size.{Values}
 use Rattle.vl_mean.specs.Parts.{Part}
 use Rattle.vl_mean.specs.Runs.{Agrees}
-use Rattle.vl_evals.specs.Evaluations.{IsLowered, run_of}
-use Rattle.vl_evals.specs.Maps.{map_of}
+use Rattle.vl_lower_spec.specs.Evaluations.{IsLowered, run_of}
+use Rattle.vl_lower_spec.specs.Maps.{map_of}
 use Rattle.wn_net.specs.declared.names.Names.{Names}
 use Rattle.wn_net.specs.Value.{Given}
 use Rattle.wn_net.specs.Net.{Netlist, IsNet, value_at}
@@ -23,7 +23,7 @@ use Rattle.rvfi_port.specs.Fields.{channel_fields, field_name, wanted_fields}
 use Rattle.rvfi_port.specs.Outputs.{refusal}
 use Rattle.rvfi_port.specs.Ports.{ArePortNodes}
 use Rattle.ck_cfg.specs.declared.check.Check.{Check}
-use Rattle.ck_past.specs.Retirements.{probe_at, retired_from}
+use Rattle.ck_gen.specs.Retirements.{probe_at, retired_from}
 use Rattle.bm_decide.specs.Verdicts.{Violates}
 use Rattle.ck_design.specs.Retirements as design
 use Rattle.ck_design.specs.Retirements.{IsViolating, field_in, probe_in}

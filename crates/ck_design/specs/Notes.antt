@@ -4,14 +4,14 @@ use Rattle.std.specs.Prelude.{slice_get, slice_index, slice_index_or}
 use Rattle.std.specs.List.{range_with_len}
 use Rattle.wn_net.specs.declared.names.Names.{Names}
 use Rattle.wn_net.specs.declared.names.Spot.{Spot}
-use Rattle.vl_evals.specs.Maps.{cells_named, text_of}
+use Rattle.vl_lower_spec.specs.Maps.{cells_named, text_of}
 use Rattle.bb_blast.specs.declared.places.Placed.{Placed}
 use Rattle.bm_unroll.specs.declared.frames.Source.{Source}
 use Rattle.bm_unroll.specs.declared.frames.Source.TheVariants as s
 use Rattle.rvfi_port.specs.declared.field.Field.{Field}
 use Rattle.rvfi_port.specs.Fields.{channel_fields, field_name, field_width}
 use Rattle.bm_decide.specs.declared.verdict.ChoiceBits.{ChoiceBits}
-use Rattle.ck_notes.specs.declared.note.Note.{Note}
+use Rattle.ck_design.specs.declared.note.Note.{Note}
 
 -- the bit of an input or of a register, by the name that it is of
 abbrev pub spot_note : Names → Option Spot → ℕ → Placed → Note

@@ -11,7 +11,7 @@ use Rattle.vl_mean.specs.Runs.{IsAssumed, IsRun}
 use Rattle.wn_net.specs.declared.names.Names.{Names}
 use Rattle.wn_net.specs.Net.{Netlist, IsNet}
 use Rattle.cnf_form.specs.Cnf.{Cnf}
-use Rattle.cnf_nodes.specs.Models.{AreTrue, value_in}
+use Rattle.bb_clauses.specs.Models.{AreTrue, value_in}
 use Rattle.rvfi_port.specs.declared.field.Field.{Field}
 use Rattle.rvfi_port.specs.declared.port.Port.{Port}
 use Rattle.rvfi_port.specs.declared.port.Wants.{Wants}
@@ -22,8 +22,8 @@ use Rattle.bm_decide.specs.declared.verdict.Certificate.{Certificate}
 use Rattle.bm_decide.specs.Verdicts as verdict
 use Rattle.ck_design.specs.Retirements.{holds_over, values_at}
 use Rattle.ck_design.specs.Loaded.{IsLoaded}
-use Rattle.ck_notes.specs.declared.note.Note.{Note}
-use Rattle.ck_notes.specs.Notes.{notes_of}
+use Rattle.ck_design.specs.declared.note.Note.{Note}
+use Rattle.ck_design.specs.Notes.{notes_of}
 
 -- the literal of a note has the value of the bit that it names
 abbrev pub AgreeAt : (ℕ → Bool) → List Values → Note → Type 0

@@ -12,7 +12,7 @@ use Rattle.wn_net.specs.declared.names.Names.{Names}
 use Rattle.wn_net.specs.Net.{Netlist, IsNet}
 use Rattle.wn_net.specs.Names.{AreNamesOf}
 use Rattle.wn_run.specs.Runs.{Choices, AreChoicesOf}
-use Rattle.vl_evals.specs.Evaluations.{IsLowered, run_of}
+use Rattle.vl_lower_spec.specs.Evaluations.{IsLowered, run_of}
 use Rattle.tr_replay.specs.Traces.{trace_of}
 use Rattle.vcd_text.specs.Vcd.{IsTrace}
 

@@ -1,6 +1,4 @@
 //! What the verdicts on a net say of the design that it is made from: definitions and laws, without code.
-#![tactic(auto)]
-
 ghost use Rattle.ck_design.specs.Loaded.{BoundNetsAreLoaded, ViolationsAreTheDesigns, ViolationsAreTheNets};
 
 /// The net of a design, with the nodes of a port, shows in each evaluation what the design's map shows.

@@ -6,7 +6,7 @@ ghost use Rattle.vl_mean.specs.declared.driver.Driver.{Driver};
 ghost use Rattle.vl_mean.specs.declared.driver.Start.{Start};
 ghost use Rattle.vl_mean.specs.FlatLaw.{IsKept};
 ghost use Rattle.vl_mean.specs.FlatParts.{parts_of};
-ghost use Rattle.ck_traces.specs.Traces.{HaveOwnNames};
+ghost use Rattle.ck_design.specs.Traces.{HaveOwnNames};
 
 /// Where declared names differ, and none of them is that of a memory's word, no two names of a trace have one text.
 #[tactic(auto, using(crate::proofs::Own::own_names))]

@@ -1,4 +1,4 @@
-ghost use Rattle.ck_notes.specs.Tight.{CertificatesAreTight};
+ghost use Rattle.ck_design.specs.Tight.{CertificatesAreTight};
 
 /// The models of a certificate's clauses before the last are the runs of the design, seen at the notes, and its last
 /// clause demands a run that violates the check.

@@ -1,8 +1,6 @@
 //! The trace of a run of a design, and the law that a net's traces are those of its design: definitions and laws,
 //! without code.
-#![tactic(auto)]
-
-ghost use Rattle.ck_traces.specs.Traces.{TracesAreTheDesigns, TracesHaveDumps};
+ghost use Rattle.ck_design.specs.Traces.{TracesAreTheDesigns, TracesHaveDumps};
 
 /// The trace of a net's run, with any choices, is that of the design's run with these choices.
 pub fn traces_are_the_designs()

@@ -14,13 +14,13 @@ use Rattle.ck_cfg.specs.declared.kind.CheckKind.TheVariants as kinds
 use Rattle.ck_props.specs.declared.retired.Probe.{Probe}
 use Rattle.ck_props.specs.Lists.{found_at, where_found}
 use Rattle.ck_props.specs.Properties.{holds_at, cycle_of, property}
-use Rattle.ck_lines.specs.Entries.{Entry}
-use Rattle.ck_lines.specs.Lines.{past}
-use Rattle.ck_past.specs.Retirements.{retirements}
-use Rattle.ck_past.specs.Kept.{kept, kept_in}
-use Rattle.ck_past.proofs.Monitored.{IsAmong}
-use Rattle.ck_around.specs.Around.{LooksAround, holds_around, order_is_own, place_of}
-use Rattle.ck_around.proofs.Others.{front, back, own_entry, parts, unique_is, liveness_is}
+use Rattle.ck_history.specs.Entries.{Entry}
+use Rattle.ck_history.specs.Lines.{past}
+use Rattle.ck_gen.specs.Retirements.{retirements}
+use Rattle.ck_gen.specs.Kept.{kept, kept_in}
+use Rattle.ck_gen.proofs.Monitored.{IsAmong}
+use Rattle.ck_gen.specs.Around.{LooksAround, holds_around, order_is_own, place_of}
+use Rattle.ck_gen.proofs.Others.{front, back, own_entry, parts, unique_is, liveness_is}
 
 take_front : (xs ys : List Entry) → take (length xs) (xs ++ ys) ≡ xs
 take_front [] ys = refl

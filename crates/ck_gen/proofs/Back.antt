@@ -15,15 +15,15 @@ use Rattle.rvfi_port.specs.declared.port.Port.{Port}
 use Rattle.rvfi_port.specs.Channels.{retires, retire_at}
 use Rattle.ck_cfg.specs.declared.check.Check.{Check}
 use Rattle.ck_props.specs.Properties.{property}
-use Rattle.wn_truth.specs.Truths.{Tells, is_one}
-use Rattle.wn_truth.proofs.Laws.{one_on}
-use Rattle.ck_lines.specs.Entries.{Entry}
-use Rattle.ck_lines.specs.Lines.{past}
-use Rattle.ck_lines.proofs.Entries.{show_drop}
+use Rattle.ck_history.specs.Truths.{Tells, is_one}
+use Rattle.ck_history.proofs.Laws.{one_on}
+use Rattle.ck_history.specs.Entries.{Entry}
+use Rattle.ck_history.specs.Lines.{past}
+use Rattle.ck_history.proofs.Entries.{show_drop}
 use Rattle.rvfi_port.specs.Ports.{AreChannelNodes}
-use Rattle.ck_past.specs.Retirements.{retirements, dmem_addr_at, probe_at}
-use Rattle.ck_past.specs.Kept.{holds_over, LooksBack}
-use Rattle.ck_past.proofs.Monitored.{IsAmong, looks_back}
+use Rattle.ck_gen.specs.Retirements.{retirements, dmem_addr_at, probe_at}
+use Rattle.ck_gen.specs.Kept.{holds_over, LooksBack}
+use Rattle.ck_gen.proofs.Monitored.{IsAmong, looks_back}
 use Rattle.rvfi_port.proofs.AddedRegs.{channels_on, retire_on}
 use Rattle.ck_gen.specs.Monitors.{TellsOver, holds_in}
 use Rattle.ck_gen.proofs.Recalled.{IsRecalled, to_kept, to_new, given, entries, all_entries, last, all_shown}

@@ -6,11 +6,11 @@ use Rattle.wn_net.specs.declared.parts.Reg.{Reg}
 use Rattle.wn_net.specs.Net.{Netlist}
 use Rattle.wn_net.specs.Changes.{AddsNodes}
 use Rattle.wn_net.proofs.Laws.{adds_regs}
-use Rattle.ck_lines.specs.Lines.{IsKnown, AddsKnown}
-use Rattle.ck_lines.proofs.Lines.{known_on}
+use Rattle.ck_history.specs.Lines.{IsKnown, AddsKnown}
+use Rattle.ck_history.proofs.Lines.{known_on}
 use Rattle.ck_cfg.specs.declared.check.Check.{Check}
 use Rattle.ck_cfg.specs.Lawful.{IsCheck}
-use Rattle.ck_around.specs.Around.{place_of}
+use Rattle.ck_gen.specs.Around.{place_of}
 use Rattle.ck_gen.specs.Monitors.{AddsFew}
 
 none_behind : (rs : List Reg) → AllByRecursion (λ r. IsKnown r.init) (drop (length rs) rs)

@@ -11,13 +11,13 @@ use Rattle.rvfi_port.specs.Channels.{retire_at}
 use Rattle.ck_cfg.specs.declared.kind.CheckKind.{CheckKind}
 use Rattle.ck_cfg.specs.declared.kind.CheckKind.TheVariants as kinds
 use Rattle.ck_props.specs.declared.retired.Retired.{Retired}
-use Rattle.ck_lines.specs.Entries.{Entry}
-use Rattle.ck_lines.specs.Lines.{past}
-use Rattle.ck_found.specs.declared.sought.Sought.{Sought}
-use Rattle.ck_found.specs.Searches.{key_meets, small_meets, agrees}
-use Rattle.ck_past.specs.Retirements.{retired_in, retired_from, retirements}
-use Rattle.ck_past.specs.Kept.{kept, kept_in}
-use Rattle.ck_past.proofs.Says.{first_says, says_append, agrees_or, or_append}
+use Rattle.ck_history.specs.Entries.{Entry}
+use Rattle.ck_history.specs.Lines.{past}
+use Rattle.ck_history.specs.declared.sought.Sought.{Sought}
+use Rattle.ck_history.specs.Searches.{key_meets, small_meets, agrees}
+use Rattle.ck_gen.specs.Retirements.{retired_in, retired_from, retirements}
+use Rattle.ck_gen.specs.Kept.{kept, kept_in}
+use Rattle.ck_gen.proofs.Says.{first_says, says_append, agrees_or, or_append}
 
 abbrev pub told : ℕ → ℕ → Retire → Retired
 told cycle channel r = record { cycle = cycle; channel = channel; retire = r }

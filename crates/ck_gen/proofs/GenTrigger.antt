@@ -14,17 +14,17 @@ use Rattle.rvfi_port.specs.declared.port.Channel.{Channel}
 use Rattle.rvfi_port.specs.declared.port.Port.{Port}
 use Rattle.rvfi_port.specs.Channels.{retires, retire_at}
 use Rattle.ck_cfg.specs.declared.check.Check.{Check}
-use Rattle.wn_truth.specs.Truths.{Tells, is_one}
-use Rattle.wn_truth.proofs.Laws.{one_on}
-use Rattle.ck_lines.specs.declared.entry.EntryNodes.{EntryNodes}
-use Rattle.ck_lines.specs.Entries.{Entry, IsEntry, AreEntryNodes, Show, entry_at, packed}
-use Rattle.ck_lines.proofs.Entries.{show_on, shown_at}
-use Rattle.ck_past.specs.Retirements.{probe_at}
-use Rattle.ck_past.specs.Kept.{kept}
-use Rattle.ck_past.proofs.Cycles.{kept_there}
-use Rattle.ck_past.proofs.Monitored.{IsAmong}
-use Rattle.ck_around.specs.Around.{LooksAround, holds_around, place_of}
-use Rattle.ck_around.proofs.Trigger.{looks_around}
+use Rattle.ck_history.specs.Truths.{Tells, is_one}
+use Rattle.ck_history.proofs.Laws.{one_on}
+use Rattle.ck_history.specs.declared.entry.EntryNodes.{EntryNodes}
+use Rattle.ck_history.specs.Entries.{Entry, IsEntry, AreEntryNodes, Show, entry_at, packed}
+use Rattle.ck_history.proofs.Entries.{show_on, shown_at}
+use Rattle.ck_gen.specs.Retirements.{probe_at}
+use Rattle.ck_gen.specs.Kept.{kept}
+use Rattle.ck_gen.proofs.Cycles.{kept_there}
+use Rattle.ck_gen.proofs.Monitored.{IsAmong}
+use Rattle.ck_gen.specs.Around.{LooksAround, holds_around, place_of}
+use Rattle.ck_gen.proofs.AroundTrigger.{looks_around}
 use Rattle.ck_gen.specs.Monitors.{holds_in}
 use Rattle.ck_gen.proofs.Recalled.{IsRecalled, given, all_entries, all_shown, given_back, show_back, unless_held}
 

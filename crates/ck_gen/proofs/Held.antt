@@ -19,16 +19,16 @@ use Rattle.ck_props.specs.declared.retired.Probe.{Probe}
 use Rattle.ck_props.specs.Lists.{is_earlier, last_earlier, any_earlier, where_found}
 use Rattle.ck_props.specs.Properties.{holds_at, was_written, reads_early}
 use Rattle.ck_props.specs.Properties.{byte_was_written, implies}
-use Rattle.ck_lines.specs.Entries.{Entry}
-use Rattle.ck_lines.specs.Lines.{past}
-use Rattle.ck_found.specs.declared.sought.Sought.{Sought}
-use Rattle.ck_found.specs.declared.sought.WordTest.TheVariants as datum
-use Rattle.ck_found.specs.Searches.{agrees, first_agrees}
-use Rattle.ck_past.specs.Retirements.{retirements}
-use Rattle.ck_past.specs.Kept.{entry, kept, kept_in, holds_over, byte_as_stored, read_as_written}
-use Rattle.ck_past.specs.Kept.{sought_write, sought_before, sought_behind, sought_reader, sought_store}
-use Rattle.ck_past.proofs.Says.{first_says, found_says, none_says, first_or}
-use Rattle.ck_past.proofs.Cycles.{told, meets, AreAlike, IsPassedOver, earlier_says}
+use Rattle.ck_history.specs.Entries.{Entry}
+use Rattle.ck_history.specs.Lines.{past}
+use Rattle.ck_history.specs.declared.sought.Sought.{Sought}
+use Rattle.ck_history.specs.declared.sought.WordTest.TheVariants as datum
+use Rattle.ck_history.specs.Searches.{agrees, first_agrees}
+use Rattle.ck_gen.specs.Retirements.{retirements}
+use Rattle.ck_gen.specs.Kept.{entry, kept, kept_in, holds_over, byte_as_stored, read_as_written}
+use Rattle.ck_gen.specs.Kept.{sought_write, sought_before, sought_behind, sought_reader, sought_store}
+use Rattle.ck_gen.proofs.Says.{first_says, found_says, none_says, first_or}
+use Rattle.ck_gen.proofs.Cycles.{told, meets, AreAlike, IsPassedOver, earlier_says}
 
 le_true : (a b : ℕ) → a ≤ b → nat_le a b ≡ true
 le_true a b h = grind (arith, nat_tests, h)

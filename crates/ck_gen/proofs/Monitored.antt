@@ -17,12 +17,12 @@ use Rattle.ck_props.specs.declared.retired.Retired.{Retired}
 use Rattle.ck_props.specs.declared.retired.Probe.{Probe}
 use Rattle.ck_props.specs.Lists.{found_at, where_found}
 use Rattle.ck_props.specs.Properties.{holds_at, cycle_of, property}
-use Rattle.ck_lines.specs.Entries.{Entry}
-use Rattle.ck_lines.specs.Lines.{past}
-use Rattle.ck_past.specs.Retirements.{retirements}
-use Rattle.ck_past.specs.Kept.{kept, kept_in, holds_over, LooksBack}
-use Rattle.ck_past.proofs.Held.{earlier, reg_is, fwd_is, bwd_is, causal_is, dmem_is}
-use Rattle.ck_past.proofs.Property.{found_is}
+use Rattle.ck_history.specs.Entries.{Entry}
+use Rattle.ck_history.specs.Lines.{past}
+use Rattle.ck_gen.specs.Retirements.{retirements}
+use Rattle.ck_gen.specs.Kept.{kept, kept_in, holds_over, LooksBack}
+use Rattle.ck_gen.proofs.Held.{earlier, reg_is, fwd_is, bwd_is, causal_is, dmem_is}
+use Rattle.ck_gen.proofs.Property.{found_is}
 
 -- a channel with those before and behind it
 pub record IsAmong (cs : List Channel) (place : ℕ) (c : Channel) : Type 0 where

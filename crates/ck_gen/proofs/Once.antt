@@ -23,12 +23,12 @@ use Rattle.ck_cfg.specs.declared.kind.CheckKind.TheVariants as kinds
 use Rattle.ck_props.specs.declared.retired.Probe.{Probe}
 use Rattle.ck_props.specs.Lists.{found_at, where_found}
 use Rattle.ck_props.specs.Properties.{holds_at, cycle_of, property}
-use Rattle.wn_truth.specs.Truths.{Tells, is_one}
-use Rattle.wn_truth.proofs.Laws.{told, one_on}
+use Rattle.ck_history.specs.Truths.{Tells, is_one}
+use Rattle.ck_history.proofs.Laws.{told, one_on}
 use Rattle.rvfi_port.specs.Ports.{AreChannelNodes, ArePortNodes, AreImemNodes}
-use Rattle.ck_past.specs.Retirements.{retirements, imem_addr_at, imem_data_at, probe_at}
-use Rattle.ck_past.proofs.Monitored.{IsAmong}
-use Rattle.ck_past.proofs.Property.{found_is}
+use Rattle.ck_gen.specs.Retirements.{retirements, imem_addr_at, imem_data_at, probe_at}
+use Rattle.ck_gen.proofs.Monitored.{IsAmong}
+use Rattle.ck_gen.proofs.Property.{found_is}
 use Rattle.rvfi_port.proofs.AddedRegs.{channels_on, retire_on}
 use Rattle.ck_gen.specs.Monitors.{IsMonitor, IsMonitorOfEachCycle, LooksAtOne, holds_alone, probe_of, at_cycle}
 use Rattle.ck_gen.proofs.Recalled.{given_back, among_nodes, unless_held}

@@ -19,17 +19,17 @@ use Rattle.ck_props.specs.declared.retired.Retired.{Retired}
 use Rattle.ck_props.specs.declared.retired.Probe.{Probe}
 use Rattle.ck_props.specs.Lists.{is_at, counts, has_next, found_at, where_found}
 use Rattle.ck_props.specs.Properties.{holds_at, has_own_order, is_followed, implies}
-use Rattle.ck_lines.specs.Entries.{Entry}
-use Rattle.ck_lines.specs.Lines.{past}
-use Rattle.ck_found.specs.declared.sought.Sought.{Sought}
-use Rattle.ck_found.specs.declared.sought.WordTest.TheVariants as datum
-use Rattle.ck_found.specs.Searches.{is_sought, agrees, first_agrees}
-use Rattle.ck_past.specs.Retirements.{retired_from, retirements}
-use Rattle.ck_past.specs.Kept.{kept, kept_in, sought_same, sought_next}
-use Rattle.ck_past.proofs.Says.{first_says, says_append, none_says, agrees_or, first_or, or_append}
-use Rattle.ck_past.proofs.Cycles.{told, meets, AreAlike, IsPassedOver, cycles_say, cycle_says, passed_back, split_from}
-use Rattle.ck_past.proofs.Property.{found_is}
-use Rattle.ck_around.specs.Around.{order_is_own, is_followed_so}
+use Rattle.ck_history.specs.Entries.{Entry}
+use Rattle.ck_history.specs.Lines.{past}
+use Rattle.ck_history.specs.declared.sought.Sought.{Sought}
+use Rattle.ck_history.specs.declared.sought.WordTest.TheVariants as datum
+use Rattle.ck_history.specs.Searches.{is_sought, agrees, first_agrees}
+use Rattle.ck_gen.specs.Retirements.{retired_from, retirements}
+use Rattle.ck_gen.specs.Kept.{kept, kept_in, sought_same, sought_next}
+use Rattle.ck_gen.proofs.Says.{first_says, says_append, none_says, agrees_or, first_or, or_append}
+use Rattle.ck_gen.proofs.Cycles.{told, meets, AreAlike, IsPassedOver, cycles_say, cycle_says, passed_back, split_from}
+use Rattle.ck_gen.proofs.Property.{found_is}
+use Rattle.ck_gen.specs.Around.{order_is_own, is_followed_so}
 
 le_true : (a b : ℕ) → a ≤ b → nat_le a b ≡ true
 le_true a b h = grind (arith, nat_tests, h)

@@ -6,7 +6,7 @@ use Rattle.wn_net.specs.Net.{Netlist}
 use Rattle.wn_net.specs.Changes.{AddsRegs}
 use Rattle.rvfi_port.specs.declared.port.Channel.{Channel}
 use Rattle.rvfi_port.specs.Ports.{AreChannelNodes}
-use Rattle.ck_past.proofs.Monitored.{is_among}
+use Rattle.ck_gen.proofs.Monitored.{is_among}
 use Rattle.rvfi_port.proofs.AddedRegs.{channels_on}
 use Rattle.ck_gen.proofs.Recalled.{among_nodes}
 

@@ -13,10 +13,10 @@ use Rattle.ck_cfg.specs.declared.check.Check.{Check}
 use Rattle.ck_cfg.specs.declared.kind.CheckKind.TheVariants as kinds
 use Rattle.ck_props.specs.declared.retired.Retired.{Retired}
 use Rattle.ck_props.specs.Lists.{is_at, found_at, where_found}
-use Rattle.ck_past.specs.Retirements.{retired_in, retired_from, retirements}
-use Rattle.ck_past.specs.Kept.{entry, sought_same}
-use Rattle.ck_past.proofs.Says.{first_says, says_append, found_says}
-use Rattle.ck_past.proofs.Cycles.{told, IsPassedOver, passed, split_from}
+use Rattle.ck_gen.specs.Retirements.{retired_in, retired_from, retirements}
+use Rattle.ck_gen.specs.Kept.{entry, sought_same}
+use Rattle.ck_gen.proofs.Says.{first_says, says_append, found_says}
+use Rattle.ck_gen.proofs.Cycles.{told, IsPassedOver, passed, split_from}
 
 eq_true : (a : ℕ) → (a == a) ≡ true
 eq_true a = grind (arith, nat_tests)

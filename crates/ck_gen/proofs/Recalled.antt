@@ -18,16 +18,16 @@ use Rattle.wn_run.proofs.Given.{cycles_given}
 use Rattle.rvfi_port.specs.declared.port.Channel.{Channel}
 use Rattle.rvfi_port.specs.declared.port.Port.{Port}
 use Rattle.ck_cfg.specs.declared.check.Check.{Check}
-use Rattle.ck_lines.specs.Entries.{Entry, Show, packed}
-use Rattle.ck_lines.specs.Lines.{IsHistory, past}
-use Rattle.ck_lines.proofs.Lines.{history_on}
-use Rattle.ck_lines.proofs.Histories.{history_shows}
+use Rattle.ck_history.specs.Entries.{Entry, Show, packed}
+use Rattle.ck_history.specs.Lines.{IsHistory, past}
+use Rattle.ck_history.proofs.Lines.{history_on}
+use Rattle.ck_history.proofs.Histories.{history_shows}
 use Rattle.rvfi_port.specs.Ports.{AreChannelNodes, ArePortNodes, IsDmemNode}
-use Rattle.ck_past.specs.Retirements.{dmem_addr_at}
-use Rattle.ck_past.specs.Kept.{kept_in}
-use Rattle.ck_past.proofs.Monitored.{IsAmong}
+use Rattle.ck_gen.specs.Retirements.{dmem_addr_at}
+use Rattle.ck_gen.specs.Kept.{kept_in}
+use Rattle.ck_gen.proofs.Monitored.{IsAmong}
 use Rattle.rvfi_port.proofs.AddedRegs.{channels_on}
-use Rattle.ck_past.proofs.Shown.{kept_on, words_show}
+use Rattle.ck_gen.proofs.Shown.{kept_on, words_show}
 
 -- numbers of a net with more nodes are numbers of the old one
 pub given_back : (old new : Netlist) (g : Given) → AddsNodes old new → IsGiven new g → IsGiven old g

@@ -8,9 +8,9 @@ use Rattle.std.proofs.lemmas.List.{reverse-append}
 use Rattle.rv_table.specs.declared.retire.Retire.{Retire}
 use Rattle.ck_props.specs.declared.retired.Retired.{Retired}
 use Rattle.ck_props.specs.Lists.{where_found}
-use Rattle.ck_lines.specs.Entries.{Entry}
-use Rattle.ck_found.specs.declared.sought.Sought.{Sought}
-use Rattle.ck_found.specs.Searches.{is_sought, agrees, first_agrees}
+use Rattle.ck_history.specs.Entries.{Entry}
+use Rattle.ck_history.specs.declared.sought.Sought.{Sought}
+use Rattle.ck_history.specs.Searches.{is_sought, agrees, first_agrees}
 
 -- ---- retirements: what the first says that is sought, and else the rest
 

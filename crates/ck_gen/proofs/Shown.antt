@@ -14,10 +14,10 @@ use Rattle.rvfi_port.specs.declared.port.Channel.{Channel}
 use Rattle.rvfi_port.specs.Channels.{retire_at}
 use Rattle.ck_cfg.specs.declared.kind.CheckKind.{CheckKind}
 use Rattle.ck_cfg.specs.declared.kind.CheckKind.TheVariants as kinds
-use Rattle.ck_lines.specs.Entries.{Entry, IsEntry, Show, packed}
+use Rattle.ck_history.specs.Entries.{Entry, IsEntry, Show, packed}
 use Rattle.rvfi_port.specs.Ports.{AreChannelNodes}
 use Rattle.rvfi_port.proofs.AddedRegs.{retire_on}
-use Rattle.ck_past.specs.Kept.{entry, kept, kept_in}
+use Rattle.ck_gen.specs.Kept.{entry, kept, kept_in}
 
 abbrev pub kept_of : CheckKind → Netlist → Given → Channel → Entry
 kept_of kind net g c = kept kind (value_at net g c.valid) (retire_at net g c)

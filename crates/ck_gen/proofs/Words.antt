@@ -11,11 +11,11 @@ use Rattle.wn_net.proofs.Laws.{adds_regs, value_on}
 use Rattle.rvfi_port.specs.declared.port.Channel.{Channel}
 use Rattle.rvfi_port.specs.Channels.{retire_at}
 use Rattle.ck_cfg.specs.declared.kind.CheckKind.{CheckKind}
-use Rattle.ck_lines.specs.Entries.{packed}
+use Rattle.ck_history.specs.Entries.{packed}
 use Rattle.rvfi_port.specs.Ports.{AreChannelNodes}
-use Rattle.ck_past.specs.Kept.{kept, kept_in}
+use Rattle.ck_gen.specs.Kept.{kept, kept_in}
 use Rattle.rvfi_port.proofs.AddedRegs.{retire_on}
-use Rattle.ck_past.proofs.Shown.{kept_of}
+use Rattle.ck_gen.proofs.Shown.{kept_of}
 
 pub channel_here : (net : Netlist) (cs : List Channel) (i : ℕ) (x d : Channel)
     → AllByRecursion (AreChannelNodes net) cs → i < length cs → x ≡ slice_index_or cs i d → AreChannelNodes net x

@@ -4,9 +4,9 @@ use Rattle.std.specs.Prelude.{ℕ, ◌+◌, ◌-◌, ◌*◌, ◌^◌, ◌==◌,
 use Rattle.ck_cfg.specs.declared.check.Check.{Check}
 use Rattle.ck_cfg.specs.declared.kind.CheckKind.{CheckKind}
 use Rattle.ck_cfg.specs.declared.kind.CheckKind.TheVariants as kinds
-use Rattle.ck_lines.specs.Entries.{Entry}
-use Rattle.ck_found.specs.Searches.{first_agrees}
-use Rattle.ck_past.specs.Kept.{sought_same, sought_next}
+use Rattle.ck_history.specs.Entries.{Entry}
+use Rattle.ck_history.specs.Searches.{first_agrees}
+use Rattle.ck_gen.specs.Kept.{sought_same, sought_next}
 
 -- none of those behind it and before it has its order
 abbrev pub order_is_own : Entry → List Entry → List Entry → Bool

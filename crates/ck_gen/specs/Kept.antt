@@ -8,12 +8,12 @@ use Rattle.rvfi_port.specs.declared.port.Channel.{Channel}
 use Rattle.rvfi_port.specs.Channels.{retire_at}
 use Rattle.ck_cfg.specs.declared.kind.CheckKind.{CheckKind}
 use Rattle.ck_cfg.specs.declared.kind.CheckKind.TheVariants as kinds
-use Rattle.ck_lines.specs.Entries.{Entry}
-use Rattle.ck_found.specs.declared.sought.Sought.{Sought}
-use Rattle.ck_found.specs.declared.sought.KeyTest.TheVariants as key
-use Rattle.ck_found.specs.declared.sought.SmallTest.TheVariants as small
-use Rattle.ck_found.specs.declared.sought.WordTest.TheVariants as datum
-use Rattle.ck_found.specs.Searches.{first_agrees}
+use Rattle.ck_history.specs.Entries.{Entry}
+use Rattle.ck_history.specs.declared.sought.Sought.{Sought}
+use Rattle.ck_history.specs.declared.sought.KeyTest.TheVariants as key
+use Rattle.ck_history.specs.declared.sought.SmallTest.TheVariants as small
+use Rattle.ck_history.specs.declared.sought.WordTest.TheVariants as datum
+use Rattle.ck_history.specs.Searches.{first_agrees}
 
 abbrev pub entry : ℕ → ℕ → ℕ → ℕ → Entry
 entry there key small word = record { there = there; key = key; small = small; word = word }

@@ -16,10 +16,10 @@ use Rattle.ck_cfg.specs.declared.kind.CheckKind.{CheckKind}
 use Rattle.ck_cfg.specs.declared.kind.CheckKind.TheVariants as kinds
 use Rattle.ck_props.specs.declared.retired.Probe.{Probe}
 use Rattle.ck_props.specs.Properties.{property, does_as_row, traps_zeros, has_probed_halves}
-use Rattle.wn_truth.specs.Truths.{is_one}
-use Rattle.ck_lines.specs.Entries.{Entry, Show}
-use Rattle.ck_lines.specs.Lines.{AddsKnown}
-use Rattle.ck_past.specs.Retirements.{retirements, retirements_of, probe_at}
+use Rattle.ck_history.specs.Truths.{is_one}
+use Rattle.ck_history.specs.Entries.{Entry, Show}
+use Rattle.ck_history.specs.Lines.{AddsKnown}
+use Rattle.ck_gen.specs.Retirements.{retirements, retirements_of, probe_at}
 
 -- the check has its property in the run that has these numbers in each cycle
 abbrev pub holds_in : Netlist → (ℕ → Given) → Port → Check → Opts → Bool

@@ -1,20 +1,22 @@
+#![tactic(auto, using(wn_net::proofs::Laws::additions, ck_history::proofs::Laws::truths))]
+
 ghost use Rattle.std.specs.Prelude.{◌≡◌, ◌-◌, ◌<◌, ◌^◌, ◌==◌, ◌||◌, not, List, length, IfOk};
 ghost use Rattle.wn_net.specs.Value.{Given};
 ghost use Rattle.wn_net.specs.Net.{IsNodeOf, AreNodesOf, value_at};
 ghost use Rattle.wn_net.specs.Given.{IsGiven};
 ghost use Rattle.wn_net.specs.Changes.{AddsNodes};
-ghost use Rattle.wn_truth.specs.Truths.{Tells, is_one};
-ghost use Rattle.ck_lines.specs.Entries.{Entry, AreEntryNodes, Show, entry_at};
-ghost use Rattle.ck_past.specs.Kept as kept;
-ghost use Rattle.ck_found.specs.Searches as searches;
-ghost use Rattle.ck_around.specs.Around.{order_is_own, is_followed_so, LooksAround, holds_around};
+ghost use Rattle.ck_history.specs.Truths.{Tells, is_one};
+ghost use Rattle.ck_history.specs.Entries.{Entry, AreEntryNodes, Show, entry_at};
+ghost use Rattle.ck_gen.specs.Kept as kept;
+ghost use Rattle.ck_history.specs.Searches as searches;
+ghost use Rattle.ck_gen.specs.Around.{order_is_own, is_followed_so, LooksAround, holds_around};
 
 use ck_cfg::CheckKind;
-use ck_found::{KeyTest, SmallTest, Sought, WordTest, first_agrees};
-use ck_lines::EntryNodes;
+use ck_history::{
+    EntryNodes, KeyTest, SmallTest, Sought, WordTest, both, either, first_agrees, is_number, turned,
+};
 use fv_base::Memory;
 use wn_net::{Net, NodeId};
-use wn_truth::{both, either, is_number, turned};
 
 /// Whether none of the others has the entry's key.
 fn has_own_order(

@@ -1,24 +1,26 @@
 //! Properties that are about earlier retirements, over the words of what was kept of these, the last one first.
+#![tactic(auto, using(wn_net::proofs::Laws::additions, ck_history::proofs::Laws::truths))]
+
 ghost use Rattle.std.specs.Prelude.{◌≡◌, ◌==◌, ◌<◌, ◌&&◌, ◌||◌, not, IfOk};
 ghost use Rattle.wn_net.specs.Net.{IsNodeOf, AreNodesOf, value_at};
 ghost use Rattle.wn_net.specs.Changes.{AddsNodes};
-ghost use Rattle.wn_truth.specs.Truths.{is_one};
+ghost use Rattle.ck_history.specs.Truths.{is_one};
 ghost use Rattle.rvfi_port.specs.Channels.{retire_at};
-ghost use Rattle.ck_lines.specs.Entries.{AreEntryNodes, entry_at};
-ghost use Rattle.ck_found.specs.Searches as searches;
+ghost use Rattle.ck_history.specs.Entries.{AreEntryNodes, entry_at};
+ghost use Rattle.ck_history.specs.Searches as searches;
 ghost use Rattle.rvfi_port.specs.Ports.{AreChannelNodes, IsDmemNode};
-ghost use Rattle.ck_past.specs.Retirements.{dmem_addr_at};
-ghost use Rattle.ck_past.specs.Kept as kept;
+ghost use Rattle.ck_gen.specs.Retirements.{dmem_addr_at};
+ghost use Rattle.ck_gen.specs.Kept as kept;
 ghost use Rattle.ck_gen.specs.Monitors.{TellsOver};
 
 use crate::stored::loads_what_was_stored;
 use ck_cfg::CheckKind;
-use ck_found::{KeyTest, SmallTest, Sought, WordTest, first_agrees};
-use ck_lines::EntryNodes;
+use ck_history::{
+    EntryNodes, KeyTest, SmallTest, Sought, WordTest, both, either, first_agrees, is_number,
+};
 use fv_base::Memory;
 use rvfi_port::Channel;
 use wn_net::{Net, NodeId};
-use wn_truth::{both, either, is_number};
 
 /// Whether this is so, or the first entry that is sought agrees.
 pub(crate) fn or_agrees(

@@ -1,3 +1,5 @@
+#![tactic(auto, using(wn_net::proofs::Laws::additions))]
+
 ghost use Rattle.std.specs.Prelude.{◌≡◌, ◌==◌, ◌<◌, ◌≤◌, ◌^◌, length, map, IfOk};
 ghost use Rattle.std.specs.List.{AllByRecursion};
 ghost use Rattle.fv_bits.specs.Bits.{bit};
@@ -5,12 +7,12 @@ ghost use Rattle.wn_net.specs.Value.{Given};
 ghost use Rattle.wn_net.specs.Net.{IsNodeOf, AreNodesOf, value_at};
 ghost use Rattle.wn_net.specs.Changes.{AddsNodes};
 ghost use Rattle.rvfi_port.specs.Channels.{retire_at};
-ghost use Rattle.ck_lines.specs.Entries.{AreEntryNodes, entry_at, packed};
+ghost use Rattle.ck_history.specs.Entries.{AreEntryNodes, entry_at, packed};
 ghost use Rattle.rvfi_port.specs.Ports.{AreChannelNodes};
-ghost use Rattle.ck_past.specs.Kept as spec;
+ghost use Rattle.ck_gen.specs.Kept as spec;
 
 use ck_cfg::CheckKind;
-use ck_lines::{EntryNodes, pack};
+use ck_history::{EntryNodes, pack};
 use fv_base::{Memory, Word};
 use rvfi_port::Channel;
 use std::alloc::Global;

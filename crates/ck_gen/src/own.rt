@@ -1,24 +1,25 @@
 //! Properties of one retirement alone.
+#![tactic(auto, using(wn_net::proofs::Laws::additions, ck_history::proofs::Laws::truths))]
+
 ghost use Rattle.std.specs.Prelude.{◌≡◌, ◌==◌, ◌+◌, ◌/◌, ◌%◌, ◌^◌, ◌&&◌, Some, IfOk};
 ghost use Rattle.wn_net.specs.Net.{IsNodeOf, value_at};
 ghost use Rattle.wn_net.specs.Changes.{AddsNodes};
-ghost use Rattle.wn_truth.specs.Truths.{Tells, is_one};
+ghost use Rattle.ck_history.specs.Truths.{Tells, is_one};
 ghost use Rattle.rvfi_port.specs.Channels.{retire_at};
 ghost use Rattle.ck_props.specs.Properties as properties;
 ghost use Rattle.rvfi_port.specs.Ports.{AreChannelNodes, AreImemNodes};
-ghost use Rattle.ck_past.specs.Retirements.{imem_addr_at, imem_data_at};
+ghost use Rattle.ck_gen.specs.Retirements.{imem_addr_at, imem_data_at};
 ghost use Rattle.ck_gen.specs.Monitors as monitors;
 ghost use Rattle.ck_gen.specs.Monitors.{probe_of};
 
 use ck_cfg::{Check, CheckKind};
+use ck_history::{both, either, is_number, is_same, turned};
 use fv_base::{Memory, Word};
-use rv_agree::agreement;
-use rv_circ::circuit;
+use rv_circ::{agreement, circuit};
 use rv_table::{Opts, RowId};
 use rv_words::bit;
 use rvfi_port::Channel;
 use wn_net::{Net, NodeId};
-use wn_truth::{both, either, is_number, is_same, turned};
 
 /// Whether the second says yes where the first does.
 fn implied(net: &mut Net, a: NodeId, b: NodeId) -> Result<NodeId, Memory>

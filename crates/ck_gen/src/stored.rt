@@ -1,25 +1,27 @@
 //! Whether a word is read as its bytes were stored, over the words of what was kept of earlier retirements, of which
 //! the last one comes first.
+#![tactic(auto, using(wn_net::proofs::Laws::additions, ck_history::proofs::Laws::truths))]
+
 ghost use Rattle.std.specs.Prelude.{◌≡◌, ◌==◌, ◌+◌, ◌<◌, ◌&&◌, ◌||◌, not, IfOk};
 ghost use Rattle.fv_bits.specs.Bits.{part};
 ghost use Rattle.wn_net.specs.Value.{Given};
 ghost use Rattle.wn_net.specs.Net.{IsNodeOf, AreNodesOf, value_at};
 ghost use Rattle.wn_net.specs.Changes.{AddsNodes};
-ghost use Rattle.wn_truth.specs.Truths.{Tells};
+ghost use Rattle.ck_history.specs.Truths.{Tells};
 ghost use Rattle.rvfi_port.specs.Channels.{retire_at};
-ghost use Rattle.ck_lines.specs.Entries.{AreEntryNodes, entry_at};
-ghost use Rattle.ck_found.specs.Searches as searches;
+ghost use Rattle.ck_history.specs.Entries.{AreEntryNodes, entry_at};
+ghost use Rattle.ck_history.specs.Searches as searches;
 ghost use Rattle.rvfi_port.specs.Ports.{AreChannelNodes};
-ghost use Rattle.ck_past.specs.Kept as kept;
+ghost use Rattle.ck_gen.specs.Kept as kept;
 ghost use Rattle.ck_gen.specs.Monitors.{TellsOver};
 
 use crate::earlier::or_agrees;
-use ck_found::{KeyTest, SmallTest, Sought, WordTest};
-use ck_lines::EntryNodes;
+use ck_history::{
+    EntryNodes, KeyTest, SmallTest, Sought, WordTest, both, either, is_number, is_same, turned,
+};
 use fv_base::Memory;
 use rvfi_port::Channel;
 use wn_net::{Net, NodeId};
-use wn_truth::{both, either, is_number, is_same, turned};
 
 /// Whether a mask of 4 bits lacks this bit.
 fn lacks(net: &mut Net, mask: NodeId, index: u32) -> Result<NodeId, Memory>

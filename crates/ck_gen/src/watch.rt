@@ -1,26 +1,27 @@
+#![tactic(auto, using(wn_net::proofs::Laws::additions, ck_history::proofs::Laws::truths))]
+
 ghost use Rattle.std.specs.Prelude.{◌≡◌, ◌==◌, ◌*◌, ◌+◌, ◌-◌, ◌<◌, ◌≤◌, ◌&&◌, not, length, IfOk, OnErr};
 ghost use Rattle.wn_net.specs.Net.{IsNodeOf};
 ghost use Rattle.wn_net.specs.Changes.{AddsNodes, AddsRegs};
-ghost use Rattle.wn_truth.specs.Truths.{Tells, is_one};
+ghost use Rattle.ck_history.specs.Truths.{Tells, is_one};
 ghost use Rattle.ck_cfg.specs.Lawful.{IsCheck};
-ghost use Rattle.ck_lines.specs.Lines.{AddsKnown};
+ghost use Rattle.ck_history.specs.Lines.{AddsKnown};
 ghost use Rattle.rvfi_port.specs.Ports.{ArePortNodes};
-ghost use Rattle.ck_past.specs.Kept as kept;
-ghost use Rattle.ck_around.specs.Around.{LooksAround, place_of};
+ghost use Rattle.ck_gen.specs.Kept as kept;
+ghost use Rattle.ck_gen.specs.Around.{LooksAround, place_of};
 ghost use Rattle.ck_gen.specs.Monitors as monitors;
 
+use crate::around::look_around;
 use crate::earlier::holds;
+use crate::kept::kept_words;
 use crate::own::holds_alone;
-use ck_around::look_around;
 use ck_cfg::{Check, CheckKind};
-use ck_lines::{history, unpack};
-use ck_past::kept_words;
+use ck_history::{both, history, turned, unpack};
 use fv_base::Memory;
 use rv_table::Opts;
 use rvfi_port::{Channel, Port};
 use std::alloc::Global;
 use wn_net::{Net, NodeId};
-use wn_truth::{both, turned};
 
 /// Whether there is a retirement, and it doesn't hold.
 fn violates(net: &mut Net, there: NodeId, holds: NodeId) -> Result<NodeId, Memory>

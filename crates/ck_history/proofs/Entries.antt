@@ -7,8 +7,8 @@ use Rattle.wn_net.specs.Value.{Given}
 use Rattle.wn_net.specs.Net.{Netlist, AreNodesOf, value_at}
 use Rattle.wn_net.specs.Changes.{AddsNodes}
 use Rattle.wn_net.proofs.Laws.{node_on, value_on}
-use Rattle.ck_lines.specs.declared.entry.EntryNodes.{EntryNodes}
-use Rattle.ck_lines.specs.Entries.{Entry, IsEntry, AreEntryNodes, Show, entry_at, packed}
+use Rattle.ck_history.specs.declared.entry.EntryNodes.{EntryNodes}
+use Rattle.ck_history.specs.Entries.{Entry, IsEntry, AreEntryNodes, Show, entry_at, packed}
 
 pub there_of : (e : Entry) → IsEntry e → part 101 1 (packed e) ≡ e.there
 there_of e own = omega (arith, own.there, own.key, own.small, own.word)

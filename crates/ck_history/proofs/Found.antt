@@ -2,9 +2,9 @@
 use Rattle.std.specs.Prelude.{◌≡◌, refl, ℕ, zero, suc, ◌+◌, ◌≤◌, ◌==◌, if◌then◌else◌, Bool, true, false, List, [], ◌∷◌}
 use Rattle.std.specs.Prelude.{length, drop}
 use Rattle.std.proofs.Common.{ap, arith}
-use Rattle.ck_lines.specs.Entries.{Entry}
-use Rattle.ck_found.specs.declared.sought.Sought.{Sought}
-use Rattle.ck_found.specs.Searches.{is_sought, agrees, first_agrees}
+use Rattle.ck_history.specs.Entries.{Entry}
+use Rattle.ck_history.specs.declared.sought.Sought.{Sought}
+use Rattle.ck_history.specs.Searches.{is_sought, agrees, first_agrees}
 
 -- a test of what is chosen
 pub chosen_is : (b : Bool) (x y : ℕ) → ((if b then x else y) == 1) ≡ (if b then x == 1 else y == 1)

@@ -5,9 +5,9 @@ use Rattle.std.proofs.Common.{ap, sym, ◌∙◌, arith, subst}
 use Rattle.wn_net.specs.declared.parts.State.{State}
 use Rattle.wn_net.specs.Net.{Netlist, value_at}
 use Rattle.wn_run.specs.Runs.{cycle_at}
-use Rattle.ck_lines.specs.Entries.{Entry, Show}
-use Rattle.ck_lines.specs.Lines.{IsBehind, IsHistory, past}
-use Rattle.ck_lines.proofs.Entries.{show_append}
+use Rattle.ck_history.specs.Entries.{Entry, Show}
+use Rattle.ck_history.specs.Lines.{IsBehind, IsHistory, past}
+use Rattle.ck_history.proofs.Entries.{show_append}
 
 -- one cycle later the next nodes show the same
 shifted : (net : Netlist) (inputs : ℕ → List ℕ) (start : State) (k : ℕ) (ids later : List ℕ) (es : List Entry)

@@ -9,7 +9,7 @@ use Rattle.wn_net.specs.Given.{IsGiven}
 use Rattle.wn_net.specs.Changes.{AddsNodes}
 use Rattle.wn_net.proofs.Moved.{value_within}
 use Rattle.wn_net.proofs.Laws.{value_on}
-use Rattle.wn_truth.specs.Truths.{Tells, is_one}
+use Rattle.ck_history.specs.Truths.{Tells, is_one}
 
 pub bit_below : (net : Netlist) (g : Given) (id : ℕ) → IsNet net → IsGiven net g → IsNodeOf net 1 id
     → value_at net g id < 2

@@ -13,7 +13,7 @@ use Rattle.wn_net.specs.Changes.{IsBegun, Keeps, AddsRegs, BuildsReg, with_next}
 use Rattle.wn_net.proofs.Laws.{regs_on, regs_none, regs_node_on, built_reg, built_reg_node, next_on}
 use Rattle.wn_run.specs.Runs.{cycle_at, first_regs}
 use Rattle.wn_run.proofs.OldRun.{old_run}
-use Rattle.ck_lines.specs.Lines.{IsBehind, IsHistory, IsKnown, AddsKnown}
+use Rattle.ck_history.specs.Lines.{IsBehind, IsHistory, IsKnown, AddsKnown}
 
 -- ---- one register
 

@@ -3,7 +3,7 @@ use Rattle.std.specs.Prelude.{◌≡◌, ℕ, ◌<◌, ◌^◌, List, [], ◌∷
 use Rattle.fv_bits.specs.Bits.{joined}
 use Rattle.wn_net.specs.Value.{Given}
 use Rattle.wn_net.specs.Net.{Netlist, IsNodeOf, value_at}
-use Rattle.ck_lines.specs.declared.entry.EntryNodes.{EntryNodes}
+use Rattle.ck_history.specs.declared.entry.EntryNodes.{EntryNodes}
 
 -- Whether something retired there, as one bit, and three of its numbers: one by which others are compared with it, a
 -- small one, and a word.

@@ -8,7 +8,7 @@ use Rattle.wn_net.specs.declared.parts.Init.TheVariants.{Free, Known}
 use Rattle.wn_net.specs.Net.{Netlist, value_at}
 use Rattle.wn_net.specs.Changes.{AddsRegs}
 use Rattle.wn_run.specs.Runs.{cycle_at}
-use Rattle.ck_lines.specs.Entries.{Entry}
+use Rattle.ck_history.specs.Entries.{Entry}
 
 -- in each run, whatever it begins with, the second node has in the next cycle what the first one has in this one
 abbrev pub IsBehind : Netlist → ℕ → ℕ → Type 0

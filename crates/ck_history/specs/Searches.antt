@@ -2,14 +2,14 @@
 use Rattle.std.specs.Prelude.{ℕ, ◌+◌, ◌*◌, ◌<◌, ◌==◌, nat_lt, Bool, true, false}
 use Rattle.std.specs.Prelude.{◌&&◌, ◌||◌, if◌then◌else◌, List, [], ◌∷◌}
 use Rattle.fv_bits.specs.Bits.{part}
-use Rattle.ck_lines.specs.Entries.{Entry}
-use Rattle.ck_found.specs.declared.sought.KeyTest.{KeyTest}
-use Rattle.ck_found.specs.declared.sought.KeyTest.TheVariants as key
-use Rattle.ck_found.specs.declared.sought.SmallTest.{SmallTest}
-use Rattle.ck_found.specs.declared.sought.SmallTest.TheVariants as small
-use Rattle.ck_found.specs.declared.sought.WordTest.{WordTest}
-use Rattle.ck_found.specs.declared.sought.WordTest.TheVariants as datum
-use Rattle.ck_found.specs.declared.sought.Sought.{Sought}
+use Rattle.ck_history.specs.Entries.{Entry}
+use Rattle.ck_history.specs.declared.sought.KeyTest.{KeyTest}
+use Rattle.ck_history.specs.declared.sought.KeyTest.TheVariants as key
+use Rattle.ck_history.specs.declared.sought.SmallTest.{SmallTest}
+use Rattle.ck_history.specs.declared.sought.SmallTest.TheVariants as small
+use Rattle.ck_history.specs.declared.sought.WordTest.{WordTest}
+use Rattle.ck_history.specs.declared.sought.WordTest.TheVariants as datum
+use Rattle.ck_history.specs.declared.sought.Sought.{Sought}
 
 -- another key against the own one
 abbrev pub key_meets : KeyTest → ℕ → ℕ → Bool

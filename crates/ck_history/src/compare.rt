@@ -1,17 +1,19 @@
 //! Two entries, number by number.
+#![tactic(auto, using(wn_net::proofs::Laws::additions, crate::proofs::Laws::truths))]
+
 ghost use Rattle.std.specs.Prelude.{◌≡◌, ◌==◌, ◌*◌, ◌+◌, ◌<◌, ◌||◌, Bool, true, false, IfOk};
 ghost use Rattle.fv_bits.specs.Bits.{part};
 ghost use Rattle.wn_net.specs.Net.{IsNodeOf, value_at};
 ghost use Rattle.wn_net.specs.Changes.{AddsNodes, Shows};
-ghost use Rattle.wn_truth.specs.Truths.{Tells, is_one};
-ghost use Rattle.ck_lines.specs.Entries.{AreEntryNodes, entry_at};
-ghost use Rattle.ck_found.specs.Searches as searches;
+ghost use Rattle.ck_history.specs.Truths.{Tells, is_one};
+ghost use Rattle.ck_history.specs.Entries.{AreEntryNodes, entry_at};
+ghost use Rattle.ck_history.specs.Searches as searches;
 
+use crate::entry::EntryNodes;
 use crate::sought::{KeyTest, SmallTest, Sought, WordTest};
-use ck_lines::EntryNodes;
+use crate::test::{both, either, is_below, is_next, is_number, is_same};
 use fv_base::{Memory, Word};
 use wn_net::{Net, NodeId};
-use wn_truth::{both, either, is_below, is_next, is_number, is_same};
 
 /// The same answer in each cycle.
 pub(crate) fn constant(net: &mut Net, answer: bool) -> Result<NodeId, Memory>

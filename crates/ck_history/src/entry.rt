@@ -1,9 +1,11 @@
+#![tactic(auto, using(wn_net::proofs::Laws::additions))]
+
 ghost use Rattle.std.specs.Prelude.{◌≡◌, IfOk};
 ghost use Rattle.wn_net.specs.Value.{Given};
 ghost use Rattle.wn_net.specs.Net.{IsNodeOf, value_at};
 ghost use Rattle.wn_net.specs.Changes.{AddsNodes};
-ghost use Rattle.ck_lines.specs.Entries.{Entry, IsEntry, AreEntryNodes, entry_at};
-ghost use Rattle.ck_lines.specs.Entries as entries;
+ghost use Rattle.ck_history.specs.Entries.{Entry, IsEntry, AreEntryNodes, entry_at};
+ghost use Rattle.ck_history.specs.Entries as entries;
 
 use fv_base::Memory;
 use wn_net::{Net, NodeId};

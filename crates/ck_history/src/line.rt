@@ -1,7 +1,9 @@
+#![tactic(auto, using(wn_net::proofs::Laws::additions))]
+
 ghost use Rattle.std.specs.Prelude.{◌≡◌, ◌+◌, ◌-◌, ◌*◌, ◌<◌, ◌≤◌, ◌^◌, length, take, IfOk, OnErr};
 ghost use Rattle.wn_net.specs.Net.{IsNet, IsNodeOf, AreNodesOf};
 ghost use Rattle.wn_net.specs.Changes.{AddsRegs};
-ghost use Rattle.ck_lines.specs.Lines.{IsBehind, IsHistory, AddsKnown};
+ghost use Rattle.ck_history.specs.Lines.{IsBehind, IsHistory, AddsKnown};
 
 use fv_base::Memory;
 use std::alloc::Global;

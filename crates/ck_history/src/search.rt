@@ -1,16 +1,18 @@
+#![tactic(auto, using(wn_net::proofs::Laws::additions, crate::proofs::Laws::truths))]
+
 ghost use Rattle.std.specs.Prelude.{◌≡◌, ◌==◌, List, if◌then◌else◌, IfOk};
 ghost use Rattle.std.specs.List.{AllByRecursion};
 ghost use Rattle.wn_net.specs.Value.{Given};
 ghost use Rattle.wn_net.specs.Net.{IsNodeOf, AreNodesOf, value_at};
 ghost use Rattle.wn_net.specs.Given.{IsGiven};
 ghost use Rattle.wn_net.specs.Changes.{AddsNodes};
-ghost use Rattle.wn_truth.specs.Truths.{is_one};
-ghost use Rattle.ck_lines.specs.Entries.{Entry, IsEntry, AreEntryNodes, Show, entry_at, packed};
-ghost use Rattle.ck_found.specs.Searches as searches;
+ghost use Rattle.ck_history.specs.Truths.{is_one};
+ghost use Rattle.ck_history.specs.Entries.{Entry, IsEntry, AreEntryNodes, Show, entry_at, packed};
+ghost use Rattle.ck_history.specs.Searches as searches;
 
 use crate::compare::{agrees, constant, is_sought};
+use crate::entry::{EntryNodes, unpack};
 use crate::sought::Sought;
-use ck_lines::{EntryNodes, unpack};
 use fv_base::Memory;
 use wn_net::{Net, NodeId};
 

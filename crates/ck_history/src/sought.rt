@@ -1,3 +1,4 @@
+#![tactic(auto, using(wn_net::proofs::Laws::additions, crate::proofs::Laws::truths))]
 /// How the key of an entry that is sought stands to the own one.
 #[derive(Debug, Clone, Copy, PartialEq, Eq)]
 pub enum KeyTest {

@@ -1,7 +1,9 @@
+#![tactic(auto, using(wn_net::proofs::Laws::additions, crate::proofs::Laws::truths))]
+
 ghost use Rattle.std.specs.Prelude.{◌≡◌, ◌==◌, ◌&&◌, ◌||◌, not, nat_lt, ◌+◌, ◌<◌, ◌^◌, IfOk};
 ghost use Rattle.wn_net.specs.Net.{IsNode, IsNodeOf, value_at, width_at};
 ghost use Rattle.wn_net.specs.Changes.{AddsNodes, Shows};
-ghost use Rattle.wn_truth.specs.Truths.{Tells, is_one};
+ghost use Rattle.ck_history.specs.Truths.{Tells, is_one};
 
 use fv_base::{Memory, Word};
 use wn_net::{Net, NodeId};

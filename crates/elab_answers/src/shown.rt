@@ -3,7 +3,7 @@
 use anyhow::Result;
 use fv_base::{List, Pos, Text};
 use std::alloc::Global;
-use vl_refusal::ElabFault;
+use vl_elab_spec::ElabFault;
 
 /// A number, and behind it a place and values.
 struct Parts {

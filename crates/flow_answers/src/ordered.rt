@@ -4,8 +4,7 @@ use crate::shown;
 use anyhow::Result;
 use elab_answers::design;
 use std::alloc::Global;
-use vl_flow::{FlowFault, order};
-use vl_ordered::Ordered;
+use vl_flow::{FlowFault, Ordered, order};
 
 /// The design of a text in order, or why it has no order; nothing where it is no design. An error is want of memory, or
 /// a text without a tree.

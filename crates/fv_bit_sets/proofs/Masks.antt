@@ -8,7 +8,7 @@ use Rattle.std.proofs.lemmas.Bool.{cases_lt}
 use Rattle.std.proofs.lemmas.Nat.Bits.{bit_at_and, bit_at_or, bit_at_not, bit_at-lt, bit_at_above, bit_at-zero}
 use Rattle.std.proofs.lemmas.Nat.Bits.{bit_at-trailing_zeros}
 use Rattle.std.specs.Int.{trailing_zeros}
-use Rattle.bit_sets.specs.Cells.{is_set}
+use Rattle.fv_bit_sets.specs.Cells.{is_set}
 
 two : (x : ℕ) → x < 2 → (x ≡ 0) ⊎ (x ≡ 1)
 two zero h = inl refl

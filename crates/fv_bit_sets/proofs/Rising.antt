@@ -5,10 +5,10 @@ use Rattle.std.specs.Prelude.{nat_lt, Option, Some, None, is_none, slice_get, ta
 use Rattle.std.proofs.Common.{ap, sym, ◌∙◌, arith, true≢false, subst, get_or, length-drop}
 use Rattle.std.proofs.lemmas.Bool.{lt-ltb, le-ltb, cond-true, cond-false}
 use Rattle.std.proofs.lemmas.Option.{same_Some, slice_get-get_or}
-use Rattle.bit_sets.specs.declared.run.Run.{Run}
-use Rattle.bit_sets.specs.declared.step.Step.{Step}
-use Rattle.bit_sets.specs.Cells.{mask_at, mask_from, IsBefore, AreRising, Puts}
-use Rattle.bit_sets.specs.Runs.{IsRunOf}
+use Rattle.fv_bit_sets.specs.declared.run.Run.{Run}
+use Rattle.fv_bit_sets.specs.declared.step.Step.{Step}
+use Rattle.fv_bit_sets.specs.Cells.{mask_at, mask_from, IsBefore, AreRising, Puts}
+use Rattle.fv_bit_sets.specs.Runs.{IsRunOf}
 
 pub before_down : (a b : ℕ) (past : Option ℕ) → a ≤ b → IsBefore b past → IsBefore a past
 before_down a b None le h = tt

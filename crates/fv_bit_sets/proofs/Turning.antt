@@ -5,14 +5,14 @@ use Rattle.std.proofs.Common.{ap, sym, ◌∙◌, arith, ◌⊎◌, inl, inr}
 use Rattle.std.proofs.lemmas.Bool.{cases_lt, and_parts}
 use Rattle.std.specs.Int.Bits.{and_le_l}
 use Rattle.std.specs.Prelude.{bit_and}
-use Rattle.bit_sets.specs.declared.how.How.{How}
-use Rattle.bit_sets.specs.declared.run.Run.{Run}
-use Rattle.bit_sets.specs.declared.step.Step.{Step}
-use Rattle.bit_sets.specs.Cells.{is_set, has, IsBare, IsBefore, AreRising, Puts}
-use Rattle.bit_sets.specs.Runs.{IsRunOf, KeepsTo}
-use Rattle.bit_sets.specs.Ways.{way_of}
-use Rattle.bit_sets.proofs.Masks.{set_zero, set_and, some_set}
-use Rattle.bit_sets.proofs.Rising.{before_down, rising_to}
+use Rattle.fv_bit_sets.specs.declared.how.How.{How}
+use Rattle.fv_bit_sets.specs.declared.run.Run.{Run}
+use Rattle.fv_bit_sets.specs.declared.step.Step.{Step}
+use Rattle.fv_bit_sets.specs.Cells.{is_set, has, IsBare, IsBefore, AreRising, Puts}
+use Rattle.fv_bit_sets.specs.Runs.{IsRunOf, KeepsTo}
+use Rattle.fv_bit_sets.specs.Ways.{way_of}
+use Rattle.fv_bit_sets.proofs.Masks.{set_zero, set_and, some_set}
+use Rattle.fv_bit_sets.proofs.Rising.{before_down, rising_to}
 
 -- how far it is to the end of all cells
 abbrev pub ahead : Option ℕ → ℕ

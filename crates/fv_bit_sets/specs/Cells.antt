@@ -4,7 +4,7 @@ use Rattle.std.specs.Prelude.{◌≡◌, ℕ, suc, ◌<◌, ◌≤◌, ◌==◌,
 use Rattle.std.specs.Prelude.{nat_lt}
 use Rattle.std.specs.Prelude.{Option, Some, None, if◌then◌else◌}
 use Rattle.std.specs.Int.{bit_at}
-use Rattle.bit_sets.specs.declared.step.Step.{Step}
+use Rattle.fv_bit_sets.specs.declared.step.Step.{Step}
 
 -- the mask has the bit
 abbrev pub is_set : ℕ → ℕ → Bool

@@ -1,10 +1,10 @@
 -- A run of cells that have the same bits. Rule of this project.
 use Rattle.std.specs.Prelude.{◌≡◌, ℕ, ◌≤◌, List, None, Option}
-use Rattle.bit_sets.specs.declared.how.How.{How}
-use Rattle.bit_sets.specs.declared.run.Run.{Run}
-use Rattle.bit_sets.specs.declared.step.Step.{Step}
-use Rattle.bit_sets.specs.Cells.{has, is_set, mask_from, IsBefore}
-use Rattle.bit_sets.specs.Ways.{way_of}
+use Rattle.fv_bit_sets.specs.declared.how.How.{How}
+use Rattle.fv_bit_sets.specs.declared.run.Run.{Run}
+use Rattle.fv_bit_sets.specs.declared.step.Step.{Step}
+use Rattle.fv_bit_sets.specs.Cells.{has, is_set, mask_from, IsBefore}
+use Rattle.fv_bit_sets.specs.Ways.{way_of}
 
 -- The cell and all behind it have the mask, up to the run's end. The cells before the first step have the mask that is
 -- given, and all stand before `past`.

@@ -1,9 +1,9 @@
 -- Which bits of two sets are taken. Rule of this project.
 use Rattle.std.specs.Prelude.{◌≡◌, ℕ, List, Bool, ◌&&◌, ◌||◌, not, None}
-use Rattle.bit_sets.specs.declared.how.How.{How}
-use Rattle.bit_sets.specs.declared.how.How.TheVariants as h
-use Rattle.bit_sets.specs.declared.step.Step.{Step}
-use Rattle.bit_sets.specs.Cells.{has, AreRising}
+use Rattle.fv_bit_sets.specs.declared.how.How.{How}
+use Rattle.fv_bit_sets.specs.declared.how.How.TheVariants as h
+use Rattle.fv_bit_sets.specs.declared.step.Step.{Step}
+use Rattle.fv_bit_sets.specs.Cells.{has, AreRising}
 
 abbrev pub way_of : How → Bool → Bool → Bool
 way_of h.Either a b = a || b

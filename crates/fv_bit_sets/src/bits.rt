@@ -1,7 +1,7 @@
 ghost use Rattle.std.specs.Prelude.{◌≡◌, ℕ, ◌≤◌, ◌<◌, ◌&&◌, ◌||◌, not, true, false, IfOk};
 ghost use Rattle.std.specs.Prelude.{IfSome};
-ghost use Rattle.bit_sets.specs.Cells.{has, is_set, IsBare, IsBefore};
-ghost use Rattle.bit_sets.specs.Ways.{Joins};
+ghost use Rattle.fv_bit_sets.specs.Cells.{has, is_set, IsBare, IsBefore};
+ghost use Rattle.fv_bit_sets.specs.Ways.{Joins};
 
 use crate::how::How;
 use crate::merge::{first_in, joined, meet_in};
@@ -22,8 +22,8 @@ pub struct Bits {
 
 impl Model for Bits {
     ghost use Rattle.std.specs.Prelude.{List, None};
-    ghost use Rattle.bit_sets.specs.declared.step.Step.{Step};
-    ghost use Rattle.bit_sets.specs.Cells.{AreRising};
+    ghost use Rattle.fv_bit_sets.specs.declared.step.Step.{Step};
+    ghost use Rattle.fv_bit_sets.specs.Cells.{AreRising};
 
     ghost Value = { List Step };
 

@@ -1,6 +1,6 @@
 ghost use Rattle.std.specs.Prelude.{◌≡◌, ℕ};
-ghost use Rattle.bit_sets.specs.Cells.{is_set};
-ghost use Rattle.bit_sets.specs.Ways.{way_of};
+ghost use Rattle.fv_bit_sets.specs.Cells.{is_set};
+ghost use Rattle.fv_bit_sets.specs.Ways.{way_of};
 
 /// Which bits of two sets are taken.
 #[derive(Debug, Clone, Copy, PartialEq, Eq)]

@@ -1,8 +1,8 @@
 ghost use Rattle.std.specs.Prelude.{◌≡◌, ℕ, ◌≤◌, ◌<◌, ◌&&◌, true, false, None, IfOk, IfSome};
-ghost use Rattle.bit_sets.specs.Cells.{has, AreRising, IsBare, IsBefore};
-ghost use Rattle.bit_sets.specs.Runs.{KeepsTo};
-ghost use Rattle.bit_sets.specs.Ways.{Joins};
-ghost use Rattle.bit_sets.specs.declared.how.How.TheVariants as h;
+ghost use Rattle.fv_bit_sets.specs.Cells.{has, AreRising, IsBare, IsBefore};
+ghost use Rattle.fv_bit_sets.specs.Runs.{KeepsTo};
+ghost use Rattle.fv_bit_sets.specs.Ways.{Joins};
+ghost use Rattle.fv_bit_sets.specs.declared.how.How.TheVariants as h;
 
 use crate::how::How;
 use crate::put::put;

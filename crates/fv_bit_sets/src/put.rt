@@ -1,5 +1,5 @@
 ghost use Rattle.std.specs.Prelude.{◌≡◌, ◌≤◌, ℕ, OnOk, Some};
-ghost use Rattle.bit_sets.specs.Cells.{mask_at, AreRising, Puts};
+ghost use Rattle.fv_bit_sets.specs.Cells.{mask_at, AreRising, Puts};
 
 use crate::step::Step;
 use fv_base::Memory;

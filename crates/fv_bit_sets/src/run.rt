@@ -1,6 +1,6 @@
 ghost use Rattle.std.specs.Prelude.{◌≡◌, ℕ, None};
-ghost use Rattle.bit_sets.specs.Cells.{AreRising, IsBefore};
-ghost use Rattle.bit_sets.specs.Runs.{IsRunOf};
+ghost use Rattle.fv_bit_sets.specs.Cells.{AreRising, IsBefore};
+ghost use Rattle.fv_bit_sets.specs.Runs.{IsRunOf};
 
 use crate::step::Step;
 

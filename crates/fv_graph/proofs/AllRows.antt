@@ -3,10 +3,10 @@ use Rattle.std.specs.Prelude.{◌≡◌, ℕ, ◌+◌, ◌<◌, ◌≤◌, List,
 use Rattle.std.proofs.Common.{ap, sym, ◌∙◌, true≢false, ◌⊎◌, inl, inr, subst, get_or, arith}
 use Rattle.std.proofs.lemmas.Bool.{cases_lt}
 use Rattle.std.proofs.lemmas.Option.{same_Some, slice_get_past, slice_get-get_or}
-use Rattle.graph_walk.specs.Graph.{or_empty, targets, IsWithin}
-use Rattle.graph_walk.proofs.Lists.{get_less}
-use Rattle.graph_walk.proofs.Moves.{same_or_not}
-use Rattle.graph_walk.proofs.Rows.{row_at}
+use Rattle.fv_graph.specs.Graph.{or_empty, targets, IsWithin}
+use Rattle.fv_graph.proofs.Lists.{get_less}
+use Rattle.fv_graph.proofs.Moves.{same_or_not}
+use Rattle.fv_graph.proofs.Rows.{row_at}
 
 all_at : (n : ℕ) (xs : List ℕ) (k j : ℕ) → All (λ x. x < n) xs → slice_get xs k ≡ Some j → j < n
 all_at n xs k j h e =

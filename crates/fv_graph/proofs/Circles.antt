@@ -5,9 +5,9 @@ use Rattle.std.specs.Prelude.{Some, is_none, slice_get, if◌then◌else◌, ◌
 use Rattle.std.proofs.Common.{ap, sym, ◌∙◌, arith, subst, true≢false, append_assoc}
 use Rattle.std.proofs.lemmas.Bool.Decides.{nat_tests}
 use Rattle.std.proofs.lemmas.Option.{same_Some}
-use Rattle.graph_walk.specs.declared.state.Step.{Step}
-use Rattle.graph_walk.specs.Graph.{Leads, IsChain, last_node, IsCircle}
-use Rattle.graph_walk.specs.Walking.{nodes_of, nodes_from}
+use Rattle.fv_graph.specs.declared.state.Step.{Step}
+use Rattle.fv_graph.specs.Graph.{Leads, IsChain, last_node, IsCircle}
+use Rattle.fv_graph.specs.Walking.{nodes_of, nodes_from}
 
 module _ (g : List (List ℕ)) where
   abbrev pub Follows : List Step → Type 0

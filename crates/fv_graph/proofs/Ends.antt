@@ -4,13 +4,13 @@ use Rattle.std.specs.Prelude.{length, true, replicate}
 use Rattle.std.specs.Prelude.{Some, is_none, slice_get}
 use Rattle.std.proofs.Common.{ap, sym, ◌∙◌, arith, subst, true≢false, ◌⊎◌, inl, inr}
 use Rattle.std.proofs.lemmas.Option.{same_Some}
-use Rattle.graph_walk.specs.declared.state.Progress.{Progress}
-use Rattle.graph_walk.specs.declared.state.Progress.TheVariants as p
-use Rattle.graph_walk.specs.declared.state.Step.{Step}
-use Rattle.graph_walk.specs.Graph.{or_empty, Leads, has_node, IsChain, last_node, IsCircle, IsOrder}
-use Rattle.graph_walk.specs.Walking.{Walks, AreFewer}
-use Rattle.graph_walk.proofs.Lists.{get_less, get_some}
-use Rattle.graph_walk.proofs.Moves.{starts, place_of, same_or_not}
+use Rattle.fv_graph.specs.declared.state.Progress.{Progress}
+use Rattle.fv_graph.specs.declared.state.Progress.TheVariants as p
+use Rattle.fv_graph.specs.declared.state.Step.{Step}
+use Rattle.fv_graph.specs.Graph.{or_empty, Leads, has_node, IsChain, last_node, IsCircle, IsOrder}
+use Rattle.fv_graph.specs.Walking.{Walks, AreFewer}
+use Rattle.fv_graph.proofs.Lists.{get_less, get_some}
+use Rattle.fv_graph.proofs.Moves.{starts, place_of, same_or_not}
 
 -- ---- the begin
 

@@ -6,13 +6,13 @@ use Rattle.std.specs.Prelude.{false, ◌||◌, Option, Some, None, is_none, slic
 use Rattle.std.proofs.Common.{ap, sym, ◌∙◌, arith, subst, true≢false, ◌⊎◌, inl, inr}
 use Rattle.std.proofs.lemmas.Bool.Decides.{nat_tests}
 use Rattle.std.proofs.lemmas.Option.{same_Some}
-use Rattle.graph_walk.specs.declared.state.Progress.{Progress}
-use Rattle.graph_walk.specs.declared.state.Progress.TheVariants as p
-use Rattle.graph_walk.specs.declared.state.Step.{Step}
-use Rattle.graph_walk.specs.Graph.{targets, Leads, has_node}
-use Rattle.graph_walk.specs.Walking.{Walks}
-use Rattle.graph_walk.proofs.Lists.{get_less, get_front, get_last, get_cases, get_set, get_unset, length_set}
-use Rattle.graph_walk.proofs.Lists.{length_more}
+use Rattle.fv_graph.specs.declared.state.Progress.{Progress}
+use Rattle.fv_graph.specs.declared.state.Progress.TheVariants as p
+use Rattle.fv_graph.specs.declared.state.Step.{Step}
+use Rattle.fv_graph.specs.Graph.{targets, Leads, has_node}
+use Rattle.fv_graph.specs.Walking.{Walks}
+use Rattle.fv_graph.proofs.Lists.{get_less, get_front, get_last, get_cases, get_set, get_unset, length_set}
+use Rattle.fv_graph.proofs.Lists.{length_more}
 
 -- ---- which progress
 

@@ -1,8 +1,8 @@
 -- The nodes of a path up to a place.
 use Rattle.std.specs.Prelude.{◌≡◌, refl, ℕ, zero, suc, ◌+◌, ◌<◌, List, [], ◌∷◌, ◌++◌, length, take}
 use Rattle.std.proofs.Common.{ap, sym, ◌∙◌, arith, get_or}
-use Rattle.graph_walk.specs.declared.state.Step.{Step}
-use Rattle.graph_walk.specs.Walking.{nodes_of}
+use Rattle.fv_graph.specs.declared.state.Step.{Step}
+use Rattle.fv_graph.specs.Walking.{nodes_of}
 
 nodes_at : (path : List Step) (i : ℕ) (d : Step) → i < length path
     → nodes_of (take (suc i) path) ≡ nodes_of (take i path) ++ (get_or path i d).node ∷ []

@@ -2,7 +2,7 @@
 use Rattle.std.specs.Prelude.{◌≡◌, refl, ℕ, ◌<◌, ◌≤◌, List, length, Some, None, slice_get}
 use Rattle.std.proofs.Common.{ap, sym, ◌∙◌, get_or}
 use Rattle.std.proofs.lemmas.Option.{slice_get_read, slice_get_past}
-use Rattle.graph_walk.specs.Graph.{or_empty, targets}
+use Rattle.fv_graph.specs.Graph.{or_empty, targets}
 
 pub row_at : (g : List (List ℕ)) (i : ℕ) (row : List ℕ) → i < length g → row ≡ get_or g i row → targets g i ≡ row
 row_at g i row less e = ap or_empty (slice_get_read g (length g) i row refl less e)

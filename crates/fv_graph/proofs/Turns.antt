@@ -3,15 +3,15 @@ use Rattle.std.specs.Prelude.{◌≡◌, refl, false, ℕ, suc, ◌<◌, List, [
 use Rattle.std.specs.Prelude.{length, Some, None, slice_get, slice_set}
 use Rattle.std.proofs.Common.{ap, sym, ◌∙◌, arith, get_or, subst, true≢false, ◌⊎◌, inl, inr}
 use Rattle.std.proofs.lemmas.Option.{same_Some, slice_get-get_or}
-use Rattle.graph_walk.specs.declared.state.Progress.{Progress}
-use Rattle.graph_walk.specs.declared.state.Progress.TheVariants as p
-use Rattle.graph_walk.specs.declared.state.Step.{Step}
-use Rattle.graph_walk.specs.Graph.{targets, Leads, IsCircle}
-use Rattle.graph_walk.specs.Walking.{Walks, AreFewer, nodes_from, work}
-use Rattle.graph_walk.proofs.Circles.{closes}
-use Rattle.graph_walk.proofs.Lists.{get_set, get_unset, get_less, get_last, get_front, get_cases, length_more}
-use Rattle.graph_walk.proofs.Moves.{is_new, same_or_not, further, begun, begins, passes, opens, finishes}
-use Rattle.graph_walk.proofs.Work.{less_passed, less_opened, less_done}
+use Rattle.fv_graph.specs.declared.state.Progress.{Progress}
+use Rattle.fv_graph.specs.declared.state.Progress.TheVariants as p
+use Rattle.fv_graph.specs.declared.state.Step.{Step}
+use Rattle.fv_graph.specs.Graph.{targets, Leads, IsCircle}
+use Rattle.fv_graph.specs.Walking.{Walks, AreFewer, nodes_from, work}
+use Rattle.fv_graph.proofs.Circles.{closes}
+use Rattle.fv_graph.proofs.Lists.{get_set, get_unset, get_less, get_last, get_front, get_cases, length_more}
+use Rattle.fv_graph.proofs.Moves.{is_new, same_or_not, further, begun, begins, passes, opens, finishes}
+use Rattle.fv_graph.proofs.Work.{less_passed, less_opened, less_done}
 
 -- a node that is written isn't new
 pub fewer_set : (ps : List Progress) (t : ℕ) (x : Progress) → t < length ps → is_new x ≡ false

@@ -4,13 +4,13 @@ use Rattle.std.specs.Prelude.{◌++◌, length}
 use Rattle.std.specs.Prelude.{Some, is_none, slice_get, slice_set}
 use Rattle.std.proofs.Common.{ap, arith, true≢false}
 use Rattle.std.proofs.lemmas.Option.{same_Some}
-use Rattle.graph_walk.specs.declared.state.Progress.{Progress}
-use Rattle.graph_walk.specs.declared.state.Progress.TheVariants as p
-use Rattle.graph_walk.specs.declared.state.Step.{Step}
-use Rattle.graph_walk.specs.Graph.{targets}
-use Rattle.graph_walk.specs.Walking.{waiting, remaining, work}
-use Rattle.graph_walk.proofs.Lists.{get_less}
-use Rattle.graph_walk.proofs.Moves.{further, begun}
+use Rattle.fv_graph.specs.declared.state.Progress.{Progress}
+use Rattle.fv_graph.specs.declared.state.Progress.TheVariants as p
+use Rattle.fv_graph.specs.declared.state.Step.{Step}
+use Rattle.fv_graph.specs.Graph.{targets}
+use Rattle.fv_graph.specs.Walking.{waiting, remaining, work}
+use Rattle.fv_graph.proofs.Lists.{get_less}
+use Rattle.fv_graph.proofs.Moves.{further, begun}
 
 -- ---- nodes that are new
 

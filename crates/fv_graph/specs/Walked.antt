@@ -1,8 +1,8 @@
 -- What a walk over a graph comes to. Rule of this project.
 use Rattle.std.specs.Prelude.{ℕ, List}
-use Rattle.graph_walk.specs.declared.walked.Walked.{Walked}
-use Rattle.graph_walk.specs.declared.walked.Walked.TheVariants.{Order, Circle}
-use Rattle.graph_walk.specs.Graph.{IsOrder, IsCircle}
+use Rattle.fv_graph.specs.declared.walked.Walked.{Walked}
+use Rattle.fv_graph.specs.declared.walked.Walked.TheVariants.{Order, Circle}
+use Rattle.fv_graph.specs.Graph.{IsOrder, IsCircle}
 
 abbrev pub ComesOf : List (List ℕ) → Walked → Type 0
 ComesOf graph (Order order) = IsOrder graph order

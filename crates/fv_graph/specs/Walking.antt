@@ -4,10 +4,10 @@ use Rattle.std.specs.Prelude.{◌≡◌, ℕ, suc, ◌+◌, ◌-◌, ◌<◌, �
 use Rattle.std.specs.Prelude.{true}
 use Rattle.std.specs.Prelude.{Option, Some, None, slice_get, if◌then◌else◌}
 use Rattle.std.proofs.Common.{◌⊎◌}
-use Rattle.graph_walk.specs.declared.state.Progress.{Progress}
-use Rattle.graph_walk.specs.declared.state.Progress.TheVariants as p
-use Rattle.graph_walk.specs.declared.state.Step.{Step}
-use Rattle.graph_walk.specs.Graph.{targets, Leads, has_node, IsCircle}
+use Rattle.fv_graph.specs.declared.state.Progress.{Progress}
+use Rattle.fv_graph.specs.declared.state.Progress.TheVariants as p
+use Rattle.fv_graph.specs.declared.state.Step.{Step}
+use Rattle.fv_graph.specs.Graph.{targets, Leads, has_node, IsCircle}
 
 pub record Walks (graph : List (List ℕ)) (progress : List Progress) (path : List Step) (done : List ℕ)
     : Type 0 where

@@ -1,5 +1,5 @@
 ghost use Rattle.std.specs.Prelude.{◌≡◌, ◌≤◌, length, drop, IfOk};
-ghost use Rattle.graph_walk.specs.Walking.{nodes_of, nodes_from};
+ghost use Rattle.fv_graph.specs.Walking.{nodes_of, nodes_from};
 
 use crate::state::{State, Step};
 use fv_base::{List, Memory};

@@ -1,6 +1,6 @@
 //! Laws of orders and circles.
 ghost use Rattle.std.specs.Prelude.{◌≡◌, ◌≤◌, ◌++◌, ℕ, List, length, drop, take, IfOk};
-ghost use Rattle.graph_walk.specs.Graph.{IsCircle, IsOrder};
+ghost use Rattle.fv_graph.specs.Graph.{IsCircle, IsOrder};
 
 use fv_base::Memory;
 use std::alloc::Global;

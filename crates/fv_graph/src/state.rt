@@ -1,5 +1,5 @@
 ghost use Rattle.std.specs.Prelude.{◌≡◌, ◌<◌, ◌++◌, ◌∷◌, [], length, slice_set, OnOk};
-ghost use Rattle.graph_walk.specs.declared.state.Progress.TheVariants as p;
+ghost use Rattle.fv_graph.specs.declared.state.Progress.TheVariants as p;
 
 use fv_base::Memory;
 

@@ -1,8 +1,8 @@
 ghost use Rattle.std.specs.Prelude.{◌≡◌, ◌<◌, ◌++◌, ◌∷◌, [], length, slice_get, OnOk, IfOk};
 ghost use Rattle.std.specs.Prelude.{OnSome, Some, ◌-◌, ◌^◌};
-ghost use Rattle.graph_walk.specs.Graph.{IsWithin, targets};
-ghost use Rattle.graph_walk.specs.declared.state.Progress.TheVariants as p;
-ghost use Rattle.graph_walk.specs.Walking.{Came, Turned, Walks};
+ghost use Rattle.fv_graph.specs.Graph.{IsWithin, targets};
+ghost use Rattle.fv_graph.specs.declared.state.Progress.TheVariants as p;
+ghost use Rattle.fv_graph.specs.Walking.{Came, Turned, Walks};
 
 use crate::state::{Progress, State, Step};
 use fv_base::{List, Memory};

@@ -1,9 +1,9 @@
 ghost use Rattle.std.specs.Prelude.{◌≡◌, [], ◌<◌, ◌≤◌, ◌^◌, ℕ, List, length, slice_get};
 ghost use Rattle.std.specs.Prelude.{replicate, IfOk, Some};
-ghost use Rattle.graph_walk.specs.Graph.{IsWithin};
-ghost use Rattle.graph_walk.specs.Walking.{Came, Walks};
-ghost use Rattle.graph_walk.specs.Walked.{ComesOf};
-ghost use Rattle.graph_walk.specs.declared.state.Progress.TheVariants as p;
+ghost use Rattle.fv_graph.specs.Graph.{IsWithin};
+ghost use Rattle.fv_graph.specs.Walking.{Came, Walks};
+ghost use Rattle.fv_graph.specs.Walked.{ComesOf};
+ghost use Rattle.fv_graph.specs.declared.state.Progress.TheVariants as p;
 
 use crate::state::{Progress, State};
 use fv_base::{List, Memory};

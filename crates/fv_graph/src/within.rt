@@ -1,5 +1,5 @@
 ghost use Rattle.std.specs.Prelude.{◌↔◌, ◌<◌, All, IsTrue};
-ghost use Rattle.graph_walk.specs.Graph.{IsWithin};
+ghost use Rattle.fv_graph.specs.Graph.{IsWithin};
 
 use fv_base::List;
 

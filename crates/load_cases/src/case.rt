@@ -5,8 +5,8 @@ ghost use Rattle.std.specs.Prelude.{◌≤◌, length, IfOk};
 use crate::shown;
 use anyhow::Result;
 use rvf_load::{Probes, load};
-use rvf_text::{Assumption, Core, Retirements, SourceText};
 use std::alloc::Global;
+use vl_text::{Assumption, Core, Retirements, SourceText};
 
 /// What weights are multiplied by at one letter, and at another.
 const HUNDRED: [u32; 1] = [100];

@@ -2,11 +2,11 @@
 
 use anyhow::Result;
 use rvf_load::{LoadFault, Loaded};
-use rvf_text::TextFault;
 use rvfi_port::PortFault;
 use std::alloc::Global;
 use vl_elab::number;
 use vl_flow::FlowFault;
+use vl_text::TextFault;
 
 pub(crate) fn loaded(alloc: Global, loaded: &Loaded) -> Result<String> {
     let inputs = loaded.net.inputs().len();

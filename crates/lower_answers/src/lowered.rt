@@ -7,8 +7,8 @@ use flow_answers::design_in_order;
 use fv_base::{List, Memory, Trace};
 use std::alloc::Global;
 use tr_replay::{Chosen, replay};
+use vl_flow::Ordered;
 use vl_lower::lower;
-use vl_ordered::Ordered;
 
 /// The run of a design in which all that is free is 0.
 fn run(alloc: Global, ordered: &Ordered) -> Result<Trace, Memory> {

@@ -17,10 +17,10 @@ use Rattle.cnf_text.specs.declared.fault.DimacsFault.{DimacsFault}
 use Rattle.cnf_text.specs.declared.fault.DimacsFault.TheVariants.{Header, Literal, Open, Count}
 use Rattle.cnf_text.specs.Dimacs.{and_then, is_comment, header_of, both, Body, literal_of, is_zero, with_number}
 use Rattle.cnf_text.specs.Dimacs.{with_words, with_line, with_lines, finished, read_behind, read_lines, formula_of}
-use Rattle.cert_texts.specs.Numerals.{SaysInteger}
-use Rattle.cert_texts.specs.Formulas.{SaysHeader, is_silent, said_words, with_end, LinesSay, SaysFormula}
-use Rattle.cert_texts.proofs.Numerals.{none_some, and_parts, up_to_said, up_to_read, signed_said, signed_read}
-use Rattle.cert_texts.proofs.Zips.{zip_append, zip_parts, zip_map, zip_also, all_append}
+use Rattle.lrat_texts.specs.Numerals.{SaysInteger}
+use Rattle.lrat_texts.specs.Formulas.{SaysHeader, is_silent, said_words, with_end, LinesSay, SaysFormula}
+use Rattle.lrat_texts.proofs.Numerals.{none_some, and_parts, up_to_said, up_to_read, signed_said, signed_read}
+use Rattle.lrat_texts.proofs.Zips.{zip_append, zip_parts, zip_map, zip_also, all_append}
 
 -- ---- answers
 

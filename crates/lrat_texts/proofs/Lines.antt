@@ -6,8 +6,8 @@ use Rattle.std.proofs.lemmas.Bool.{false≢true, cases_Bool}
 use Rattle.std.proofs.lemmas.Bool.Decides.{nat_tests}
 use Rattle.fv_lines.specs.Cuts.{HasNo, EndsOtherwise}
 use Rattle.fv_lines.specs.Words.{begins_with, joined, lines}
-use Rattle.cert_texts.specs.Lines.{IsEnded, by_lf, by_cr_lf, by_the_text, AreLines}
-use Rattle.cert_texts.proofs.Numerals.{and_parts}
+use Rattle.lrat_texts.specs.Lines.{IsEnded, by_lf, by_cr_lf, by_the_text, AreLines}
+use Rattle.lrat_texts.proofs.Numerals.{and_parts}
 
 pub not_true : (t : Bool) → not t ≡ true → t ≡ false
 not_true true h = absurd (false≢true h)

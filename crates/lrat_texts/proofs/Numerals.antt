@@ -7,7 +7,7 @@ use Rattle.std.specs.List.{list_all}
 use Rattle.std.proofs.lemmas.Bool.{false≢true, cases_Bool}
 use Rattle.std.proofs.lemmas.Bool.Decides.{nat_tests}
 use Rattle.fv_lines.specs.Numbers.{is_digit, continued, natural_of, at_most, number_up_to, signed}
-use Rattle.cert_texts.specs.Numerals.{worth, SaysNumber, without_sign, signed_as}
+use Rattle.lrat_texts.specs.Numerals.{worth, SaysNumber, without_sign, signed_as}
 
 some_is : {X : Type 0} (x y : X) → Some x ≡ Some y → x ≡ y
 some_is x y e = cc

@@ -14,9 +14,9 @@ use Rattle.lrat_check.specs.declared.lrat_fault.LratFault.{LratFault}
 use Rattle.lrat_check.specs.declared.lrat_fault.LratFault.TheVariants.{Literal, Open}
 use Rattle.lrat_check.specs.Texts.{short, nonzero, literal_of, is_end, is_delete, and_then, wanted, up_to_end, ended}
 use Rattle.lrat_check.specs.Texts.{add_of, delete_of, behind_id, step_of, with_line, with_lines, steps_of}
-use Rattle.cert_texts.specs.Steps.{SaysId, SaysDeleted, SaysLiteral, SaysStep, said_lines}
-use Rattle.cert_texts.specs.Steps.{SaysSteps}
-use Rattle.cert_texts.proofs.Numerals.{none_some, number_said, number_read, signed_said, signed_read}
+use Rattle.lrat_texts.specs.Steps.{SaysId, SaysDeleted, SaysLiteral, SaysStep, said_lines}
+use Rattle.lrat_texts.specs.Steps.{SaysSteps}
+use Rattle.lrat_texts.proofs.Numerals.{none_some, number_said, number_read, signed_said, signed_read}
 
 -- ---- answers
 

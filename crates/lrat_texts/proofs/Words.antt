@@ -4,9 +4,9 @@ use Rattle.std.proofs.Common.{refl, ap, sym, subst, ◌∙◌, arith}
 use Rattle.std.specs.List.{list_all}
 use Rattle.std.proofs.lemmas.Bool.{false≢true}
 use Rattle.fv_lines.specs.Words.{joined, is_blank, begins_word, words}
-use Rattle.cert_texts.specs.Lines.{AreWords}
-use Rattle.cert_texts.proofs.Numerals.{and_parts}
-use Rattle.cert_texts.proofs.Lines.{not_true}
+use Rattle.lrat_texts.specs.Lines.{AreWords}
+use Rattle.lrat_texts.proofs.Numerals.{and_parts}
+use Rattle.lrat_texts.proofs.Lines.{not_true}
 
 abbrev solid : List ℕ → Bool
 solid word = list_all (λ b. not (is_blank b)) word

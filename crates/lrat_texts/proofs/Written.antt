@@ -9,10 +9,10 @@ use Rattle.lrat_check.specs.declared.step.Step.{Step}
 use Rattle.lrat_check.specs.declared.lrat_fault.LratFault.{LratFault}
 use Rattle.lrat_check.specs.Texts.{steps_of, lrat_text, AreShort}
 use Rattle.lrat_check.proofs.ReadBack as steps_read
-use Rattle.cert_texts.specs.Formulas.{SaysFormula}
-use Rattle.cert_texts.specs.Steps.{SaysSteps}
-use Rattle.cert_texts.proofs.Formulas.{formula_law}
-use Rattle.cert_texts.proofs.Steps.{steps_law}
+use Rattle.lrat_texts.specs.Formulas.{SaysFormula}
+use Rattle.lrat_texts.specs.Steps.{SaysSteps}
+use Rattle.lrat_texts.proofs.Formulas.{formula_law}
+use Rattle.lrat_texts.proofs.Steps.{steps_law}
 
 same_formula : (r : Result Cnf DimacsFault) (f g : Cnf) → r ≡ Ok f → r ≡ Ok g → f ≡ g
 same_formula r f g e h = cc

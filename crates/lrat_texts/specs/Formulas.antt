@@ -22,7 +22,7 @@ use Rattle.std.specs.List.{AllZip, list_all}
 use Rattle.fv_lines.specs.Words.{is_nil, lines, words}
 use Rattle.cnf_form.specs.Cnf.{Cnf, AreClauses}
 use Rattle.cnf_text.specs.Dimacs.{is_comment}
-use Rattle.cert_texts.specs.Numerals.{SaysNumber, SaysInteger}
+use Rattle.lrat_texts.specs.Numerals.{SaysNumber, SaysInteger}
 
 -- the words of a header, `p cnf VARIABLES CLAUSES`, each number at most a hundred million
 pub record SaysHeader (ws : List (List ℕ)) (vars count : ℕ) : Type 0 where

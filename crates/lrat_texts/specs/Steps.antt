@@ -20,7 +20,7 @@ use Rattle.std.specs.List.{AllZip}
 use Rattle.fv_lines.specs.Words.{is_nil, lines, words}
 use Rattle.lrat_check.specs.declared.step.Step.{Step}
 use Rattle.lrat_check.specs.declared.step.Step.TheVariants.{Add, Delete}
-use Rattle.cert_texts.specs.Numerals.{SaysNumber, SaysInteger, without_sign}
+use Rattle.lrat_texts.specs.Numerals.{SaysNumber, SaysInteger, without_sign}
 
 -- an id: at most 18 digits
 abbrev pub SaysId : List ℕ → ℕ → Type 0

@@ -5,9 +5,9 @@ ghost use Rattle.cnf_form.specs.Cnf.{Cnf, AreClauses};
 ghost use Rattle.cnf_text.specs.Dimacs.{dimacs_text, formula_of, HaveNoEnd};
 ghost use Rattle.lrat_check.specs.Texts.{lrat_text, steps_of, AreShort};
 ghost use Rattle.lrat_check.specs.declared.step.Step.{Step};
-ghost use Rattle.cert_texts.specs.Lines.{AreLines, AreWords};
-ghost use Rattle.cert_texts.specs.Formulas.{SaysFormula};
-ghost use Rattle.cert_texts.specs.Steps.{SaysSteps};
+ghost use Rattle.lrat_texts.specs.Lines.{AreLines, AreWords};
+ghost use Rattle.lrat_texts.specs.Formulas.{SaysFormula};
+ghost use Rattle.lrat_texts.specs.Steps.{SaysSteps};
 
 /// A text has exactly the lines that make it up.
 pub fn texts_are_made_of_lines()

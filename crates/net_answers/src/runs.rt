@@ -3,7 +3,7 @@
 use crate::part::{node_at, numbers_from, short_at, word};
 use crate::show;
 use bb_aig::Lit;
-use bm_clauses::{RunClauses, clauses_of_runs};
+use bm_decide::{RunClauses, clauses_of_runs};
 use bm_unroll::{Source, is_within};
 use cnf_form::{Formula, clause_at};
 use fv_base::Memory;

@@ -5,7 +5,7 @@ use Rattle.wn_net.proofs.Laws.{node_on}
 use Rattle.rv_rows.specs.declared.outcome.OutcomeNodes.{OutcomeNodes}
 use Rattle.rv_rows.specs.Effects.{AreEffect}
 use Rattle.rvfi_port.proofs.AddedNodes.{channel_on}
-use Rattle.rv_agree.proofs.TestLemmas.{agreements}
+use Rattle.rv_circ.proofs.TestLemmas.{agreements}
 
 pub are_effect_on : (old new : Netlist) (e : OutcomeNodes) → AddsNodes old new → AreEffect old e → AreEffect new e
 are_effect_on old new e h own = record {

@@ -11,9 +11,9 @@ ghost use Rattle.rv_rows.specs.Effects.{AreEffect, effect_at};
 ghost use Rattle.rvfi_port.specs.Ports.{AreChannelNodes};
 ghost use Rattle.rv_circ.specs.Effects.{outcome_of};
 
+use crate::effect::EffectNodes;
 use crate::test::{has, same_byte};
 use fv_base::Memory;
-use rv_circ::EffectNodes;
 use rvfi_port::Channel;
 use wn_net::{Net, NodeId};
 

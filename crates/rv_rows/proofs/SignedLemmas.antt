@@ -7,7 +7,7 @@ use Rattle.std.proofs.lemmas.Bool.Decides.{nat_tests}
 use Rattle.std.proofs.Math.Nat.{mod-eq_of_lt, div-le_self}
 use Rattle.fv_bits.specs.Bits.{bit, part, ones, is_negative, of_int}
 use Rattle.rv_table.specs.Arithmetic.{signed, difference, quotient, remainder, quotient_signed, remainder_signed}
-use Rattle.rv_divide.specs.Signed.{rounded_quotient}
+use Rattle.rv_rows.specs.Signed.{rounded_quotient}
 
 sign_bit : (a : ℕ) (s : Bool) → a < 2 ^ 32 → nat_le (2 ^ 31) a ≡ s → part 31 1 a ≡ bit s
 sign_bit a true h e = grind (arith, nat_tests)

@@ -1,7 +1,7 @@
 -- Quotient and remainder of the upper bits of a word: how far a division has come (rule of this project).
 use Rattle.std.specs.Prelude.{◌≡◌, ℕ, ◌/◌, ◌%◌, ◌^◌}
 use Rattle.wn_net.specs.Net.{Netlist, IsNodeOf}
-use Rattle.rv_divide.specs.declared.division.Division.{Division}
+use Rattle.rv_rows.specs.declared.division.Division.{Division}
 
 -- the bits of a from `at` on, divided by b
 pub record IsDivided (a b at q r : ℕ) : Type 0 where

@@ -20,7 +20,7 @@ ghost use Rattle.wn_net.specs.Value.{Given};
 ghost use Rattle.wn_net.specs.Given.{IsGiven};
 ghost use Rattle.wn_net.specs.Net.{IsNodeOf, value_at};
 ghost use Rattle.wn_net.specs.Changes.{AddsNodes, Shows};
-ghost use Rattle.rv_divide.specs.Division.{IsDivided, AreDivision};
+ghost use Rattle.rv_rows.specs.Division.{IsDivided, AreDivision};
 
 use fv_base::Memory;
 use rv_words::{is_number, word};

@@ -15,7 +15,7 @@ ghost use Rattle.fv_bits.specs.Bits as bits;
 ghost use Rattle.rv_table.specs.Arithmetic as arithmetic;
 ghost use Rattle.wn_net.specs.Net.{IsNodeOf, value_at};
 ghost use Rattle.wn_net.specs.Changes.{AddsNodes, Shows};
-ghost use Rattle.rv_divide.specs.Signed.{rounded_quotient};
+ghost use Rattle.rv_rows.specs.Signed.{rounded_quotient};
 
 use crate::division::{quotient, remainder};
 use fv_base::Memory;

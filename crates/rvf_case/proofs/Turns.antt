@@ -9,8 +9,8 @@ use Rattle.ck_cfg.specs.declared.check.Check.{Check}
 use Rattle.ck_cfg.specs.declared.config.Config.{Config}
 use Rattle.ck_cfg.specs.declared.kind.CheckKind.{CheckKind}
 use Rattle.ck_cfg.specs.Checks.{checks_of}
-use Rattle.rvf_text.specs.Texts.{Text}
-use Rattle.rvf_text.specs.declared.macros.Core.{Core}
+use Rattle.vl_text.specs.Texts.{Text}
+use Rattle.vl_text.specs.declared.macros.Core.{Core}
 use Rattle.rvf_load.specs.declared.asked.Probes.{Probes}
 use Rattle.rvf_load.specs.declared.fault.LoadFault.{LoadFault}
 use Rattle.rvf_load.specs.declared.fault.LoadFault.TheVariants as load

@@ -10,9 +10,9 @@ use Rattle.ck_cfg.specs.declared.kind.CheckKind.{CheckKind}
 use Rattle.ck_cfg.specs.declared.kind.CheckKind.TheVariants as kind
 use Rattle.ck_cfg.specs.Checks.{checks_of}
 use Rattle.ck_cfg.specs.Kind.{is_kind}
-use Rattle.rvf_text.specs.Texts.{Text}
-use Rattle.rvf_text.specs.declared.macros.Core.{Core}
-use Rattle.rvf_text.specs.declared.macros.Retirements.TheVariants.{One}
+use Rattle.vl_text.specs.Texts.{Text}
+use Rattle.vl_text.specs.declared.macros.Core.{Core}
+use Rattle.vl_text.specs.declared.macros.Retirements.TheVariants.{One}
 use Rattle.rvf_load.specs.declared.asked.Probes.{Probes}
 use Rattle.rvf_load.specs.Loads.{Asked}
 

@@ -4,7 +4,7 @@ ghost use Rattle.std.specs.Prelude.{◌≡◌, ◌<◌, ◌&&◌, map, length, I
 ghost use Rattle.std.specs.List.{AllByRecursion};
 ghost use Rattle.ck_cfg.specs.Kind.{is_kind};
 ghost use Rattle.ck_cfg.specs.Lawful.{IsCheck};
-ghost use Rattle.rvf_text.specs.Texts.{lines_seen, texts_seen};
+ghost use Rattle.vl_text.specs.Texts.{lines_seen, texts_seen};
 ghost use Rattle.rvf_case.specs.Steps.{IsNameAt, factors_of, has_asking, kept_for};
 ghost use Rattle.rvf_case.specs.Texts.{core_of, is_same_text, line_text, lines_for, probes_for, texts_for};
 
@@ -13,8 +13,8 @@ use ck_cfg::{Check, CheckKind, Config};
 use fv_base::{Memory, Text};
 use rv_table::Isa;
 use rvf_load::Probes;
-use rvf_text::{Assumption, Core, Retirements, SourceText};
 use std::alloc::Global;
+use vl_text::{Assumption, Core, Retirements, SourceText};
 
 /// The core whose macros are predefined.
 pub(crate) fn core_of(isa: Isa) -> Core

@@ -9,7 +9,7 @@ use Rattle.ck_cfg.specs.declared.kind.CheckKind.TheVariants as kind
 use Rattle.ck_cfg.specs.Checks.{checks_of}
 use Rattle.ck_cfg.specs.Kind.{is_kind}
 use Rattle.rvf_judge.specs.declared.judged.Judged.{Judged}
-use Rattle.rvf_sources.specs.Sources.{JudgementsAreTheSources}
+use Rattle.rvf_judge.specs.Sources.{JudgementsAreTheSources}
 use Rattle.rvf_words.specs.declared.line.Line.{Line as Words}
 use Rattle.rvf_words.specs.declared.line.Line.TheVariants as words
 use Rattle.rvf_case.specs.Cases.{IsCase, IsReady, loaded_for}

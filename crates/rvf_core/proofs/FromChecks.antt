@@ -2,7 +2,7 @@
 use Rattle.std.proofs.Common.{◌≡◌, ℕ, ◌≤◌, true, false, List, Some, Result, Ok, Err, IfOk, sym, ap, subst, arith}
 use Rattle.fv_base.specs.Outside.{Names, SameFiles, Told}
 use Rattle.fv_base.specs.declared.memory.Memory.{Memory}
-use Rattle.rvf_sources.specs.Sources.{JudgementsAreTheSources}
+use Rattle.rvf_judge.specs.Sources.{JudgementsAreTheSources}
 use Rattle.rvf_words.specs.declared.line.Line.{Line as Words}
 use Rattle.rvf_words.specs.declared.line.Line.TheVariants as words
 use Rattle.rvf_case.specs.Cases.{Alike, Comes, IsCase, IsCause, IsReady, Request, Seen}

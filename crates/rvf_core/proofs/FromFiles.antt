@@ -16,9 +16,9 @@ use Rattle.lrat_check.specs.declared.lrat_fault.LratFault.{LratFault}
 use Rattle.lrat_check.specs.declared.step.Refuted.{Refuted}
 use Rattle.lrat_check.specs.declared.step.Step.{Step}
 use Rattle.lrat_check.specs.declared.step.StepFault.{StepFault}
-use Rattle.cert_texts.proofs.Formulas.{formula_law}
-use Rattle.cert_texts.proofs.Steps.{steps_law}
-use Rattle.rvf_lines.specs.Lines.{refusal_line}
+use Rattle.lrat_texts.proofs.Formulas.{formula_law}
+use Rattle.lrat_texts.proofs.Steps.{steps_law}
+use Rattle.rvf_report.specs.Lines.{refusal_line}
 use Rattle.rvf_case.specs.Cases.{Seen}
 use Rattle.rvf_case.specs.Steps.{Configures}
 use Rattle.rvf_case.specs.declared.refusal.Refusal.{Refusal}

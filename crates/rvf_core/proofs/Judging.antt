@@ -10,12 +10,12 @@ use Rattle.ck_cfg.specs.Kind.{is_kind}
 use Rattle.ck_cfg.proofs.Lists.{is_insn}
 use Rattle.rv_table.specs.declared.retire.Opts.{Opts}
 use Rattle.vl_mean.specs.FlatParts.{flat_parts}
-use Rattle.rvf_text.specs.SourceText.{Reading}
+use Rattle.vl_text.specs.SourceText.{Reading}
 use Rattle.rvf_case.specs.Loads.{IsLoadedFrom, Reads, design_of}
 use Rattle.rvf_case.specs.Loading.{Loaded}
 use Rattle.rvf_judge.specs.Judged.{IsJudged}
 use Rattle.rvf_judge.specs.declared.judged.Judged.{Judged}
-use Rattle.rvf_sources.specs.Sources.{JudgementsAreTheSources}
+use Rattle.rvf_judge.specs.Sources.{JudgementsAreTheSources}
 use Rattle.rvf_case.specs.Cases.{AreLoaded, IsFit, loaded_for, text_among}
 use Rattle.rvf_case.specs.Texts.{asked_for, is_same_text, leader_among, leaders}
 use Rattle.rvf_case.specs.declared.case.Case.{Case}

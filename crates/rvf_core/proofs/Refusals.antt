@@ -6,7 +6,7 @@ use Rattle.fv_base.specs.declared.memory.Memory.{Memory}
 use Rattle.fv_base.specs.declared.out.OutFault.{OutFault}
 use Rattle.fv_base.specs.declared.out.OutFault.TheVariants as out
 use Rattle.rvf_case.specs.Loading.load as load
-use Rattle.rvf_lines.specs.Lines.{refusal_line}
+use Rattle.rvf_report.specs.Lines.{refusal_line}
 use Rattle.rvf_case.specs.Cases.{Alike, Comes, IsCause, Request, Seen}
 use Rattle.rvf_case.specs.declared.case.Case.{Case}
 use Rattle.rvf_case.specs.declared.refusal.Refusal.{Refusal}

@@ -16,7 +16,7 @@ use Rattle.lrat_check.specs.declared.step.Refuted.{Refuted}
 use Rattle.lrat_check.specs.declared.step.Step.{Step}
 use Rattle.rvf_report.specs.declared.delivery.Delivery.TheVariants.{Line}
 use Rattle.rvf_report.specs.declared.status.Status.{Status}
-use Rattle.rvf_lines.specs.Printed.{spaced}
+use Rattle.rvf_report.specs.Printed.{spaced}
 use Rattle.rvf_core.specs.declared.report.Report.{Report}
 use Rattle.rvf_report.specs.declared.status.Status.TheVariants as s
 

@@ -7,10 +7,10 @@ use Rattle.cnf_text.specs.Dimacs.{formula_of}
 use Rattle.lrat_check.specs.Steps.{Refutes}
 use Rattle.lrat_check.specs.Texts.{steps_of}
 use Rattle.lrat_check.specs.declared.step.Step.{Step}
-use Rattle.cert_texts.specs.Formulas.{SaysFormula}
-use Rattle.cert_texts.specs.Steps.{SaysSteps}
+use Rattle.lrat_texts.specs.Formulas.{SaysFormula}
+use Rattle.lrat_texts.specs.Steps.{SaysSteps}
 use Rattle.rvf_case.specs.Cases.{Seen}
-use Rattle.rvf_lines.specs.Lines.{absent_line, unread_line}
+use Rattle.rvf_report.specs.Lines.{absent_line, unread_line}
 use Rattle.rvf_report.specs.declared.delivery.Delivery.{Delivery}
 use Rattle.rvf_report.specs.declared.delivery.Delivery.TheVariants.{Line}
 use Rattle.rvf_report.specs.declared.status.Status.{Status}

@@ -7,7 +7,7 @@ use Rattle.rvf_judge.specs.declared.judged.Judged.{Judged}
 use Rattle.rvf_case.specs.Cases.{Request, Seen, IsConfigured, AreRead, IsCause, names_in}
 use Rattle.rvf_case.specs.declared.refusal.Refusal.{Refusal}
 use Rattle.rvf_case.specs.declared.refusal.Refusal.TheVariants as refusal
-use Rattle.rvf_lines.specs.Lines.{refusal_line}
+use Rattle.rvf_report.specs.Lines.{refusal_line}
 use Rattle.rvf_report.specs.Reports.{begun, status_of, whole}
 use Rattle.rvf_report.specs.declared.delivery.Delivery.{Delivery}
 use Rattle.rvf_report.specs.declared.delivery.Delivery.TheVariants.{Line}

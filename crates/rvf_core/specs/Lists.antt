@@ -7,7 +7,7 @@ use Rattle.ck_cfg.specs.Checks.{checks_of}
 use Rattle.rvf_case.specs.Cases.{Request, Seen, IsConfigured, IsMisconfigured}
 use Rattle.rvf_case.specs.declared.refusal.Refusal.{Refusal}
 use Rattle.rvf_case.specs.declared.refusal.Refusal.TheVariants as refusal
-use Rattle.rvf_lines.specs.Lines.{refusal_line}
+use Rattle.rvf_report.specs.Lines.{refusal_line}
 use Rattle.rvf_report.specs.declared.delivery.Delivery.{Delivery}
 use Rattle.rvf_report.specs.declared.delivery.Delivery.TheVariants.{Line}
 use Rattle.rvf_report.specs.declared.status.Status.{Status}

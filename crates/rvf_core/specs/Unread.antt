@@ -2,7 +2,7 @@
 use Rattle.std.specs.Prelude.{◌≡◌, ℕ, List}
 use Rattle.fv_base.specs.declared.files.FileFault.{FileFault}
 use Rattle.fv_base.specs.declared.files.FileFault.TheVariants as file
-use Rattle.rvf_lines.specs.Lines.{absent_line, unread_line}
+use Rattle.rvf_report.specs.Lines.{absent_line, unread_line}
 use Rattle.rvf_report.specs.declared.status.Status.TheVariants as s
 use Rattle.rvf_core.specs.Certificate.{one_line}
 use Rattle.rvf_core.specs.declared.report.Report.{Report}

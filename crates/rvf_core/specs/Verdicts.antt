@@ -1,7 +1,7 @@
 -- What the checks of a configuration come to, said of the designs that their texts write. Rules of this project.
 use Rattle.std.specs.Prelude.{◌≡◌, ℕ, Bool, true, false, List, [], ◌∷◌, None}
 use Rattle.std.specs.List.{list_any}
-use Rattle.vl_refusal.specs.Refused.{refusal}
+use Rattle.vl_elab_spec.specs.Refused.{refusal}
 use Rattle.ck_cfg.specs.declared.check.Check.{Check}
 use Rattle.ck_cfg.specs.declared.config.Config.{Config}
 use Rattle.ck_cfg.specs.declared.kind.CheckKind.{CheckKind}
@@ -12,7 +12,7 @@ use Rattle.vl_size.specs.Size.{Values}
 use Rattle.rv_table.specs.declared.retire.Opts.{Opts}
 use Rattle.rvfi_port.specs.declared.port.Wants.{Wants}
 use Rattle.ck_design.specs.Retirements.{IsViolating}
-use Rattle.rvf_text.specs.SourceText.{Reading}
+use Rattle.vl_text.specs.SourceText.{Reading}
 use Rattle.rvf_case.specs.Loads.{Asked, Reads, design_of, opts_of, wants_of, top}
 use Rattle.rvf_judge.specs.Judged.{IsJudged}
 use Rattle.rvf_judge.specs.declared.judged.Judged.{Judged}

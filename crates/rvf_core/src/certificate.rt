@@ -15,8 +15,7 @@ use cnf_text::{DimacsFault, read_dimacs};
 use fv_base::{Memory, Text};
 use itoa::Buffer;
 use lrat_check::{LratFault, Step, StepFault, read_lrat, verify};
-use rvf_lines::{put_end, put_word};
-use rvf_report::Status;
+use rvf_report::{Status, put_end, put_word};
 use std::alloc::Global;
 
 fn line_of_two(alloc: Global, front: &[u8], number: u8, value: u32) -> Result<Text, Memory>

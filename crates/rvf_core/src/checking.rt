@@ -11,8 +11,8 @@ use crate::reporting::put_report;
 use fv_base::{Files, Out};
 use rvf_case::{Request, prepare};
 use rvf_jobs::Gate;
+use rvf_judge::sources_law::judgements_are_the_sources;
 use rvf_report::{Status, Work, conclude};
-use rvf_sources::judgements_are_the_sources;
 use std::alloc::Global;
 use std::thread::Threads;
 

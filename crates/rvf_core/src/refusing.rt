@@ -4,13 +4,12 @@ ghost use Rattle.std.specs.Prelude.{◌≡◌, IfOk, false};
 ghost use Rattle.rvf_core.specs.Certificate.{one_line};
 ghost use Rattle.rvf_core.specs.Checks as checks;
 ghost use Rattle.rvf_core.specs.Steps as steps;
-ghost use Rattle.rvf_lines.specs.Lines as lines;
+ghost use Rattle.rvf_report.specs.Lines as lines;
 
 use crate::report::Report;
 use fv_base::Memory;
 use rvf_case::Refusal;
-use rvf_lines::refusal_line;
-use rvf_report::Status;
+use rvf_report::{Status, refusal_line};
 use std::alloc::Global;
 
 /// The status of a refusal.

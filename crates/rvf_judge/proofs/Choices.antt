@@ -5,9 +5,9 @@ use Rattle.std.proofs.lemmas.List.{at_drop_more, at_drop_all, append-nil}
 use Rattle.wn_net.specs.declared.names.Names.{Names}
 use Rattle.bb_blast.specs.declared.places.Placed.{Placed}
 use Rattle.bm_unroll.specs.declared.frames.Source.{Source}
-use Rattle.ck_notes.specs.declared.note.Note.{Note}
-use Rattle.ck_notes.specs.Notes.{source_note}
-use Rattle.note_lines.specs.Parts.{placed_notes}
+use Rattle.ck_design.specs.declared.note.Note.{Note}
+use Rattle.ck_design.specs.Notes.{source_note}
+use Rattle.rvf_judge.specs.NoteLinesParts.{placed_notes}
 
 pub choices_step : (before after all : List Note) (names : Names) (sources : List Source) (i : ℕ) (xs : List Placed)
     (x : Placed) (s : Option Source) (n : Note) → i < length xs → x ≡ get_or xs i x

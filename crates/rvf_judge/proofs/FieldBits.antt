@@ -7,9 +7,9 @@ use Rattle.std.proofs.lemmas.Nat.{mul-le}
 use Rattle.rvfi_port.specs.declared.field.Field.{Field}
 use Rattle.rvfi_port.specs.declared.field.Field.TheVariants as f
 use Rattle.rvfi_port.specs.Fields.{field_name, field_width}
-use Rattle.ck_notes.specs.declared.note.Note.{Note}
-use Rattle.ck_notes.specs.Notes.{bit_notes, field_notes}
-use Rattle.note_lines.specs.Parts.{bits_from}
+use Rattle.ck_design.specs.declared.note.Note.{Note}
+use Rattle.ck_design.specs.Notes.{bit_notes, field_notes}
+use Rattle.rvf_judge.specs.NoteLinesParts.{bits_from}
 
 pub few_bits : (field : Field) → field_width field ≤ 64
 few_bits f.Valid = omega arith

@@ -2,8 +2,8 @@
 use Rattle.std.specs.Prelude.{◌≡◌, ℕ, ◌+◌, ◌<◌, ◌≤◌, List, [], ◌∷◌, ◌++◌, length, map}
 use Rattle.std.proofs.Common.{ap, sym, ◌∙◌, append_assoc, get_or, drop}
 use Rattle.std.proofs.lemmas.List.{at_drop_more, at_drop_all, append-nil}
-use Rattle.ck_notes.specs.declared.note.Note.{Note}
-use Rattle.note_lines.specs.Lines.{note_text}
+use Rattle.ck_design.specs.declared.note.Note.{Note}
+use Rattle.rvf_judge.specs.Lines.{note_text}
 
 pub lines_step : (before after all : List (List ℕ)) (i : ℕ) (xs : List Note) (x : Note) (t : List ℕ) → i < length xs
     → x ≡ get_or xs i x → before ++ map note_text (drop i xs) ≡ all → t ≡ note_text x → after ≡ before ++ t ∷ []

@@ -7,8 +7,8 @@ use Rattle.std.proofs.Common.{ap, ◌∙◌, arith, true≢false, sym}
 use Rattle.fv_lines.proofs.Prints.{all_append, decimal_plain, inners_of, is_inner}
 use Rattle.cnf_text.specs.Dimacs.{HasNoEnd}
 use Rattle.bb_aig.specs.Graph.{is_negated}
-use Rattle.ck_notes.specs.declared.note.Note.{Note}
-use Rattle.note_lines.specs.Lines.{clause_literal, literal_word, note_text}
+use Rattle.ck_design.specs.declared.note.Note.{Note}
+use Rattle.rvf_judge.specs.Lines.{clause_literal, literal_word, note_text}
 
 and_parts : (a b : Bool) → (a && b) ≡ true → (a ≡ true) × (b ≡ true)
 and_parts true b e = (refl, e)

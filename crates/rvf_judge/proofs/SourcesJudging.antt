@@ -14,18 +14,18 @@ use Rattle.vl_mean.specs.FlatLaw.{flat_scopes}
 use Rattle.vl_mean.specs.FlatParts.{driver_part, flat_parts, start_part}
 use Rattle.vl_mean.specs.Parts.{Part, declares, equation, combinational, clocked, starts}
 use Rattle.vl_mean.specs.Scopes.{Scope, is_clock_class}
-use Rattle.vl_same.specs.Flattened.{decls_of}
-use Rattle.vl_same.specs.SameMaps.{AreSameMaps}
+use Rattle.vl_mean_flat.specs.Flattened.{decls_of}
+use Rattle.vl_mean_flat.specs.SameMaps.{AreSameMaps}
 use Rattle.cnf_form.specs.Cnf.{Cnf}
 use Rattle.rvfi_port.specs.declared.port.Wants.{Wants}
 use Rattle.ck_cfg.specs.declared.check.Check.{Check}
 use Rattle.ck_design.specs.Retirements.{IsViolating}
-use Rattle.ck_notes.specs.declared.note.Note.{Note}
-use Rattle.ck_notes.specs.Tight.{IsTight}
-use Rattle.ck_traces.specs.Traces.{shown, shown_by, trace_of_run}
+use Rattle.ck_design.specs.declared.note.Note.{Note}
+use Rattle.ck_design.specs.Tight.{IsTight}
+use Rattle.ck_design.specs.Traces.{shown, shown_by, trace_of_run}
 use Rattle.vcd_text.specs.Vcd.{vcd_text}
 use Rattle.rvf_judge.specs.declared.judged.Judged.TheVariants as judged
-use Rattle.rvf_sources.specs.Sources.{JudgementsAreTheSources, JudgementsDependOnMaps}
+use Rattle.rvf_judge.specs.Sources.{JudgementsAreTheSources, JudgementsDependOnMaps}
 
 -- ---- the names of a trace are those of declarations
 

@@ -14,20 +14,20 @@ use Rattle.ck_cfg.specs.Lawful.{IsCheck}
 use Rattle.bm_decide.specs.declared.verdict.Certificate.{Certificate}
 use Rattle.bm_decide.specs.Verdicts as verdict
 use Rattle.bm_decide.specs.Verdicts.{IsFail}
-use Rattle.bm_chosen.specs.Chosen.{ShowsViolation}
+use Rattle.bm_decide.specs.Chosen.{ShowsViolation}
 use Rattle.ck_design.specs.Loaded.{IsLoaded}
 use Rattle.ck_design.proofs.Violating.{designs, nets}
-use Rattle.ck_notes.specs.Notes.{notes_of}
-use Rattle.ck_notes.specs.Tight.{IsTight}
-use Rattle.ck_notes.proofs.Whole.{tight}
-use Rattle.ck_traces.specs.Traces.{HaveOwnNames}
-use Rattle.ck_traces.proofs.Dumps.{dumps}
-use Rattle.ck_traces.proofs.Whole.{traces}
-use Rattle.vl_evals.specs.Evaluations.{run_of}
+use Rattle.ck_design.specs.Notes.{notes_of}
+use Rattle.ck_design.specs.Tight.{IsTight}
+use Rattle.ck_design.proofs.NotesWhole.{tight}
+use Rattle.ck_design.specs.Traces.{HaveOwnNames}
+use Rattle.ck_design.proofs.Dumps.{dumps}
+use Rattle.ck_design.proofs.TracesWhole.{traces}
+use Rattle.vl_lower_spec.specs.Evaluations.{run_of}
 use Rattle.vcd_text.specs.Vcd.{IsTrace, vcd_text}
 use Rattle.rvf_judge.specs.declared.judged.CertificateTexts.{CertificateTexts}
 use Rattle.rvf_judge.specs.Judged.{AreTexts, IsFailed, IsPassed, IsSpent}
-use Rattle.rvf_judge.specs.Parts.{IsDump}
+use Rattle.rvf_judge.specs.JudgeParts.{IsDump}
 
 pub in_order : (channels : ℕ) (check : Check) → IsCheck channels check → check.start ≤ check.cycle
 in_order channels check h = omega (arith, h.lawful.start, h.lawful.trig)

@@ -5,7 +5,7 @@ use Rattle.std.proofs.Common.{ap, sym, ◌∙◌, arith}
 use Rattle.std.proofs.lemmas.Int.{ints}
 use Rattle.vl_size.specs.Table.{span, word_name}
 use Rattle.vl_mean.specs.Cells.{cells_of, words_from}
-use Rattle.note_lines.specs.Words.{index_at}
+use Rattle.rvf_judge.specs.Words.{index_at}
 
 first_index : (up : Bool) (i : ℤ) → i ≡ index_at up i 0
 first_index true i = omega (arith, ints)

@@ -8,7 +8,7 @@ use Rattle.rvfi_port.specs.declared.port.Port.{Port}
 use Rattle.ck_cfg.specs.declared.check.Check.{Check}
 use Rattle.bm_decide.specs.declared.verdict.Violation.{Violation}
 use Rattle.bm_decide.specs.Verdicts.{IsFail}
-use Rattle.bm_chosen.specs.Chosen.{ShowsViolation}
+use Rattle.bm_decide.specs.Chosen.{ShowsViolation}
 use Rattle.vcd_text.specs.Vcd.{vcd_text}
 
 -- the violation is one of the check for some port

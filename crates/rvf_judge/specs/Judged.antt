@@ -13,10 +13,10 @@ use Rattle.sat_search.specs.Found.{nonempty}
 use Rattle.rvfi_port.specs.declared.port.Wants.{Wants}
 use Rattle.ck_cfg.specs.declared.check.Check.{Check}
 use Rattle.ck_design.specs.Retirements.{IsViolating}
-use Rattle.ck_notes.specs.declared.note.Note.{Note}
-use Rattle.ck_notes.specs.Tight.{IsTight}
-use Rattle.note_lines.specs.Lines.{note_text}
-use Rattle.ck_traces.specs.Traces.{trace_of_run}
+use Rattle.ck_design.specs.declared.note.Note.{Note}
+use Rattle.ck_design.specs.Tight.{IsTight}
+use Rattle.rvf_judge.specs.Lines.{note_text}
+use Rattle.ck_design.specs.Traces.{trace_of_run}
 use Rattle.vcd_text.specs.Vcd.{vcd_text}
 use Rattle.rvf_judge.specs.declared.judged.CertificateTexts.{CertificateTexts}
 use Rattle.rvf_judge.specs.declared.judged.Judged.{Judged}

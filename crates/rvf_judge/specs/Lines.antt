@@ -2,7 +2,7 @@
 use Rattle.std.specs.Prelude.{ℕ, ◌/◌, ◌==◌, if◌then◌else◌, List, ◌++◌, ℤ, pos, neg_ℤ, codes, decimal}
 use Rattle.std.specs.Fmt.{signed_decimal}
 use Rattle.bb_aig.specs.Graph.{is_negated}
-use Rattle.ck_notes.specs.declared.note.Note.{Note}
+use Rattle.ck_design.specs.declared.note.Note.{Note}
 
 -- the literal in clauses of a literal of a graph: variable n is node n
 abbrev pub clause_literal : ℕ → ℤ

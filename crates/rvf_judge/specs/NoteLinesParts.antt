@@ -6,8 +6,8 @@ use Rattle.bb_blast.specs.declared.places.Placed.{Placed}
 use Rattle.bm_unroll.specs.declared.frames.Source.{Source}
 use Rattle.rvfi_port.specs.declared.field.Field.{Field}
 use Rattle.rvfi_port.specs.Fields.{field_name, field_width}
-use Rattle.ck_notes.specs.declared.note.Note.{Note}
-use Rattle.ck_notes.specs.Notes.{source_note}
+use Rattle.ck_design.specs.declared.note.Note.{Note}
+use Rattle.ck_design.specs.Notes.{source_note}
 
 -- of placed bits of these sources
 abbrev pub placed_notes : Names → List Source → List Placed → List Note

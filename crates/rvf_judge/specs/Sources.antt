@@ -4,9 +4,9 @@ use Rattle.rv_table.specs.declared.retire.Opts.{Opts}
 use Rattle.vl_mean.specs.declared.flat.Flat.{Flat}
 use Rattle.vl_mean.specs.FlatParts.{flat_parts}
 use Rattle.vl_mean.specs.Parts.{Part}
-use Rattle.vl_same.specs.Flattened.{decls_of}
-use Rattle.vl_same.specs.SameMaps.{AreSameMaps}
-use Rattle.vl_draft.specs.Drawn.{IsDrawn}
+use Rattle.vl_mean_flat.specs.Flattened.{decls_of}
+use Rattle.vl_mean_flat.specs.SameMaps.{AreSameMaps}
+use Rattle.vl_elab_draft.specs.Drawn.{IsDrawn}
 use Rattle.rvfi_port.specs.declared.port.Wants.{Wants}
 use Rattle.ck_cfg.specs.declared.check.Check.{Check}
 use Rattle.rvf_judge.specs.Judged.{IsJudged}

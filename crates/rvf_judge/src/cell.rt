@@ -3,7 +3,7 @@
 ghost use Rattle.std.specs.Prelude.{◌≡◌, ◌+◌, [], int_le, slice_index_or, IfOk, Some};
 ghost use Rattle.vl_mean.specs.Cells.{cells_of};
 ghost use Rattle.vl_size.specs.Table.{span, word_name};
-ghost use Rattle.note_lines.specs.Words.{index_at};
+ghost use Rattle.rvf_judge.specs.Words.{index_at};
 
 use fv_base::{Memory, Text};
 use itoa::Buffer;

@@ -1,15 +1,15 @@
 //! The notes of choices.
 
 ghost use Rattle.std.specs.Prelude.{◌≡◌, ◌*◌, [], slice_get, slice_index, slice_index_or, IfOk};
-ghost use Rattle.vl_evals.specs.Maps.{cells_named, text_of};
-ghost use Rattle.ck_notes.specs.Notes as notes;
-ghost use Rattle.note_lines.specs.Parts.{placed_notes};
+ghost use Rattle.vl_lower_spec.specs.Maps.{cells_named, text_of};
+ghost use Rattle.ck_design.specs.Notes as notes;
+ghost use Rattle.rvf_judge.specs.NoteLinesParts.{placed_notes};
 
 use crate::cell::{cell_name, no_name};
 use bb_aig::Lit;
 use bb_blast::Placed;
 use bm_unroll::Source;
-use ck_notes::Note;
+use ck_design::Note;
 use fv_base::{List, Memory, Text};
 use std::alloc::Global;
 use wn_net::{Names, NetName, Spot};

@@ -5,10 +5,9 @@ ghost use Rattle.rv_table.specs.declared.retire.Opts.{Opts};
 ghost use Rattle.wn_net.specs.Names.{AreNamesOf};
 ghost use Rattle.rvfi_port.specs.declared.port.Port.{Port};
 ghost use Rattle.bm_decide.specs.Verdicts.{IsFail};
-ghost use Rattle.rvf_judge.specs.Parts.{FailsSomehow, IsDump};
+ghost use Rattle.rvf_judge.specs.JudgeParts.{FailsSomehow, IsDump};
 
-use bm_chosen::violating_trace;
-use bm_decide::Violation;
+use bm_decide::{Violation, violating_trace};
 use ck_cfg::Check;
 use fv_base::{Memory, Text};
 use std::alloc::Global;

@@ -2,11 +2,11 @@
 
 ghost use Rattle.std.specs.Prelude.{◌≡◌, ◌<◌, ◌≤◌, ◌^◌, ◌*◌, ◌+◌, ◌++◌, [], slice_index_or, IfOk, OnOk};
 ghost use Rattle.rvfi_port.specs.Fields as rvfi;
-ghost use Rattle.ck_notes.specs.Notes as notes;
-ghost use Rattle.note_lines.specs.Parts.{bits_from};
+ghost use Rattle.ck_design.specs.Notes as notes;
+ghost use Rattle.rvf_judge.specs.NoteLinesParts.{bits_from};
 
 use bb_aig::Lit;
-use ck_notes::Note;
+use ck_design::Note;
 use fv_base::{List, Memory, Text};
 use rvfi_port::Field;
 use std::alloc::Global;

@@ -8,7 +8,7 @@ ghost use Rattle.rvfi_port.specs.Ports.{ArePortNodes};
 ghost use Rattle.ck_cfg.specs.Lawful.{IsCheck};
 ghost use Rattle.ck_gen.specs.Monitors.{HasProbe};
 ghost use Rattle.ck_design.specs.Loaded.{IsLoaded};
-ghost use Rattle.ck_traces.specs.Traces.{HaveOwnNames};
+ghost use Rattle.ck_design.specs.Traces.{HaveOwnNames};
 ghost use Rattle.rvf_judge.specs.Judged.{IsJudged};
 
 use crate::dump::dump_of;

@@ -1,9 +1,9 @@
 ghost use Rattle.std.specs.Prelude.{◌≡◌, ◌++◌, IfOk, OnOk};
 ghost use Rattle.cnf_text.specs.Dimacs.{HasNoEnd};
-ghost use Rattle.note_lines.specs.Lines as lines;
+ghost use Rattle.rvf_judge.specs.Lines as lines;
 
 use bb_aig::Lit;
-use ck_notes::Note;
+use ck_design::Note;
 use fv_base::{Memory, Text};
 use itoa::Buffer;
 use std::alloc::Global;

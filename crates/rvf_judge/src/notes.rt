@@ -1,11 +1,11 @@
 ghost use Rattle.std.specs.Prelude.{◌≡◌, ◌<◌, ◌^◌, IfOk};
-ghost use Rattle.ck_notes.specs.Notes.{notes_of};
+ghost use Rattle.ck_design.specs.Notes.{notes_of};
 
 use crate::choice::choice_notes;
 use crate::fields::put_fields;
 use bb_aig::Lit;
 use bm_decide::ChoiceBits;
-use ck_notes::Note;
+use ck_design::Note;
 use fv_base::{List, Memory};
 use rvfi_port::Field;
 use std::alloc::Global;

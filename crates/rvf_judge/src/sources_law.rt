@@ -1,16 +1,14 @@
 //! That a judgement on a design without hierarchy is one on the design that the source writes: laws, without code.
-#![tactic(auto)]
-
-ghost use Rattle.rvf_sources.specs.Sources.{JudgementsAreTheSources, JudgementsDependOnMaps};
+ghost use Rattle.rvf_judge.specs.Sources.{JudgementsAreTheSources, JudgementsDependOnMaps};
 
 /// Parts with the same maps and the same declarations have the same judgements.
-#[tactic(auto, using(crate::proofs::Judging::by_maps))]
+#[tactic(auto, using(crate::proofs::SourcesJudging::by_maps))]
 pub fn judgements_depend_on_maps()
     ensures { JudgementsDependOnMaps }
 {}
 
 /// What a check of a design without hierarchy comes to, it comes to of the design that this is drawn from.
-#[tactic(auto, using(crate::proofs::Judging::of_the_source))]
+#[tactic(auto, using(crate::proofs::SourcesJudging::of_the_source))]
 pub fn judgements_are_the_sources()
     ensures { JudgementsAreTheSources }
 {}

@@ -1,23 +1,24 @@
 //! The texts of certificates.
 
 ghost use Rattle.std.specs.Prelude.{◌≡◌, ◌<◌, ◌^◌, map, IfOk};
-ghost use Rattle.ck_notes.specs.Notes.{notes_of};
-ghost use Rattle.note_lines.specs.Lines as lines;
+ghost use Rattle.ck_design.specs.Notes.{notes_of};
+ghost use Rattle.rvf_judge.specs.Lines as lines;
 ghost use Rattle.rvf_judge.specs.Judged.{AreTexts};
 
 use crate::judged::CertificateTexts;
+use crate::line::note_text;
+use crate::notes::notes_of;
 use bm_decide::Certificate;
 use ck_cfg::Check;
-use ck_notes::Note;
+use ck_design::Note;
 use cnf_text::dimacs;
 use fv_base::{List, Memory, Text};
 use lrat_check::lrat;
-use note_lines::{note_text, notes_of};
 use std::alloc::Global;
 use wn_net::Names;
 
 /// A line for each note.
-#[tactic(auto, using(crate::proofs::Lines::lines_step, crate::proofs::Lines::lines_end))]
+#[tactic(auto, using(crate::proofs::JudgeLines::lines_step, crate::proofs::JudgeLines::lines_end))]
 fn note_texts(alloc: Global, notes: &[Note]) -> Result<List<Text>, Memory>
     ensures { IfOk result (λ made. made ≡ map lines.note_text notes.now) }
 {

@@ -4,18 +4,18 @@ use Rattle.std.proofs.Common.{ap, sym, ◌∙◌, subst, true≢false}
 use Rattle.std.proofs.lemmas.Option.{same_Some}
 use Rattle.vl_mean.specs.declared.flat.Flat.{Flat}
 use Rattle.vl_mean.specs.FlatParts.{parts_of}
-use Rattle.vl_refusal.specs.Refused as elab
-use Rattle.vl_refusal.specs.declared.elab_fault.ElabFault.{ElabFault}
-use Rattle.vl_order.specs.Refusals.{HasNoRefusal}
-use Rattle.vl_order.specs.Weight.{design_weight}
+use Rattle.vl_elab_spec.specs.Refused as elab
+use Rattle.vl_elab_spec.specs.declared.elab_fault.ElabFault.{ElabFault}
+use Rattle.vl_flow_spec.specs.Refusals.{HasNoRefusal}
+use Rattle.vl_flow_spec.specs.Weight.{design_weight}
 use Rattle.vl_flow.specs.Faults.{IsFault}
 use Rattle.vl_flow.specs.declared.fault.FlowFault.{FlowFault}
-use Rattle.vl_evals.specs.Maps.{AreEntriesOf, listed}
+use Rattle.vl_lower_spec.specs.Maps.{AreEntriesOf, listed}
 use Rattle.wn_net.specs.declared.names.Names.{Names}
 use Rattle.rvfi_port.specs.declared.fault.PortFault.{PortFault}
 use Rattle.rvfi_port.specs.Outputs as port
-use Rattle.rvf_text.specs.SourceText.{Comes, Reading}
-use Rattle.rvf_text.specs.declared.fault.TextFault.{TextFault}
+use Rattle.vl_text.specs.SourceText.{Comes, Reading}
+use Rattle.vl_text.specs.declared.fault.TextFault.{TextFault}
 use Rattle.rvf_load.specs.Loads.{Asked, Reads, IsFlat, Writes, wants_of, weight_of, too_heavy, top, IsLoadedFrom}
 use Rattle.rvf_load.specs.Loads.{IsUnread, IsNoDesign, IsUnordered, IsTooHeavy, HasNoPort, IsRefused, IsSame}
 use Rattle.rvf_load.specs.Loads.{IsTheRefusal, NoneRefuses, Answers}

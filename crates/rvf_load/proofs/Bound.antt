@@ -4,9 +4,9 @@ use Rattle.std.specs.Prelude.{None, Option, Some, Result, Ok, Err}
 use Rattle.std.proofs.Common.{sym, ◌∙◌, subst, true≢false}
 use Rattle.rv_table.specs.declared.retire.Opts.{Opts}
 use Rattle.vl_mean.specs.FlatParts.{flat_parts}
-use Rattle.vl_evals.specs.Evaluations.{IsLowered}
-use Rattle.vl_few.specs.Few.{AreFew}
-use Rattle.vl_ordered.specs.declared.ordered.Ordered.{Ordered}
+use Rattle.vl_lower_spec.specs.Evaluations.{IsLowered}
+use Rattle.vl_lower_cell_laws.specs.Few.{AreFew}
+use Rattle.vl_flow.specs.declared.ordered.Ordered.{Ordered}
 use Rattle.wn_net.specs.declared.parts.Mem.{Mem}
 use Rattle.wn_net.specs.declared.names.Names.{Names}
 use Rattle.wn_net.specs.Net.{Netlist, IsNet}
@@ -18,7 +18,7 @@ use Rattle.rvfi_port.specs.Channels.{IsDmem, IsImem, IsPortOf}
 use Rattle.rvfi_port.specs.Outputs.{Answered, refusal}
 use Rattle.ck_design.specs.Loaded.{BoundNetsAreLoaded}
 use Rattle.ck_gen.specs.Monitors.{IsThere}
-use Rattle.ck_traces.specs.Traces.{HaveOwnNames}
+use Rattle.ck_design.specs.Traces.{HaveOwnNames}
 use Rattle.rvf_load.specs.Loads.{too_heavy, weight_of}
 use Rattle.rvf_load.specs.Stages.{IsNetOf, IsNetted, IsWeighed, of_port}
 use Rattle.rvf_load.specs.declared.loaded.Loaded.{Loaded}

@@ -1,18 +1,18 @@
 -- From modules to their design in order.
 use Rattle.std.specs.Prelude.{◌≡◌, ℕ, List, None, Result, Ok, Err}
 use Rattle.std.proofs.Common.{subst, sym}
-use Rattle.vl_placed.specs.DriverPlaces.{driver_places, places_of}
+use Rattle.vl_mean_flat.specs.DriverPlaces.{driver_places, places_of}
 use Rattle.vl_tree.specs.declared.source.Module.{Module}
 use Rattle.vl_mean.specs.declared.flat.Flat.{Flat}
 use Rattle.vl_mean.specs.FlatParts.{flat_parts}
 use Rattle.vl_mean.specs.Parts.{design}
-use Rattle.vl_same.specs.SameMaps.{AreSameMaps}
-use Rattle.vl_draft.specs.Drawn.{IsDrawn}
-use Rattle.vl_refusal.specs.Refused.{refusal}
+use Rattle.vl_mean_flat.specs.SameMaps.{AreSameMaps}
+use Rattle.vl_elab_draft.specs.Drawn.{IsDrawn}
+use Rattle.vl_elab_spec.specs.Refused.{refusal}
 use Rattle.vl_elab.specs.Reasons.{IsReason}
 use Rattle.vl_elab.specs.declared.reason.Reason.{Reason}
 use Rattle.vl_elab.specs.declared.reason.Reason.TheVariants as reason
-use Rattle.vl_ordered.specs.declared.ordered.Ordered.{Ordered}
+use Rattle.vl_flow.specs.declared.ordered.Ordered.{Ordered}
 use Rattle.vl_flow.specs.Faults.{IsAnswer}
 use Rattle.vl_flow.specs.declared.fault.FlowFault.{FlowFault}
 use Rattle.vl_flow.specs.declared.fault.FlowFault.TheVariants as flow

@@ -5,15 +5,15 @@ use Rattle.fv_base.specs.declared.token.Token.{Token}
 use Rattle.vl_prep.specs.Prep.{Outcome}
 use Rattle.vl_tree.specs.declared.source.Source.{Source}
 use Rattle.vl_tree.specs.WellFormed.{IsModule}
-use Rattle.vl_ordered.specs.declared.ordered.Ordered.{Ordered}
-use Rattle.rvf_text.specs.Assumptions.{with_assumptions}
-use Rattle.rvf_text.specs.SourceText as source
-use Rattle.rvf_text.specs.SourceText.{AreParsed, AreRead, Comes, FromTokens, Only, Reading, Then}
-use Rattle.rvf_text.specs.SourceText.{with_macros}
-use Rattle.rvf_text.specs.Texts.{Text}
-use Rattle.rvf_text.specs.declared.fault.TextFault.{TextFault}
-use Rattle.rvf_text.specs.declared.fault.TextFault.TheVariants as text
-use Rattle.rvf_text.specs.declared.macros.Core.{Core}
+use Rattle.vl_flow.specs.declared.ordered.Ordered.{Ordered}
+use Rattle.vl_text.specs.Assumptions.{with_assumptions}
+use Rattle.vl_text.specs.SourceText as source
+use Rattle.vl_text.specs.SourceText.{AreParsed, AreRead, Comes, FromTokens, Only, Reading, Then}
+use Rattle.vl_text.specs.SourceText.{with_macros}
+use Rattle.vl_text.specs.Texts.{Text}
+use Rattle.vl_text.specs.declared.fault.TextFault.{TextFault}
+use Rattle.vl_text.specs.declared.fault.TextFault.TheVariants as text
+use Rattle.vl_text.specs.declared.macros.Core.{Core}
 use Rattle.rvf_load.specs.Loads.{Answers, Asked, IsFlat, Reads, opts_of, wants_of}
 use Rattle.rvf_load.specs.Stages.{IsInOrder, Gives, IsWeighed, of_text}
 use Rattle.rvf_load.specs.declared.loaded.Loaded.{Loaded}

@@ -4,7 +4,7 @@ use Rattle.std.specs.Prelude.{bytes_eq, if◌then◌else◌, not}
 use Rattle.std.specs.Option.{option_or}
 use Rattle.std.proofs.Common.{ap, sym, ◌∙◌}
 use Rattle.vl_size.specs.declared.decl.Decl.{Decl}
-use Rattle.vl_evals.specs.Maps.{AreEntriesOf}
+use Rattle.vl_lower_spec.specs.Maps.{AreEntriesOf}
 use Rattle.wn_net.specs.declared.names.NetName.{NetName}
 use Rattle.wn_net.specs.declared.names.Names.{Names}
 use Rattle.rvfi_port.specs.declared.field.Field.{Field}

@@ -8,29 +8,29 @@ use Rattle.vl_prep.specs.Macros.{Held}
 use Rattle.vl_mean.specs.Parts.{Part, design}
 use Rattle.vl_mean.specs.FlatParts.{flat_parts}
 use Rattle.vl_mean.specs.declared.flat.Flat.{Flat}
-use Rattle.vl_same.specs.SameMaps.{AreSameMaps}
-use Rattle.vl_placed.specs.DriverPlaces.{driver_places, places_of}
-use Rattle.vl_draft.specs.Drawn.{IsDrawn}
-use Rattle.vl_refusal.specs.Refused as elab
-use Rattle.vl_refusal.specs.declared.elab_fault.ElabFault.{ElabFault}
-use Rattle.vl_order.specs.Refusals.{HasNoRefusal}
-use Rattle.vl_order.specs.Weight.{design_weight}
+use Rattle.vl_mean_flat.specs.SameMaps.{AreSameMaps}
+use Rattle.vl_mean_flat.specs.DriverPlaces.{driver_places, places_of}
+use Rattle.vl_elab_draft.specs.Drawn.{IsDrawn}
+use Rattle.vl_elab_spec.specs.Refused as elab
+use Rattle.vl_elab_spec.specs.declared.elab_fault.ElabFault.{ElabFault}
+use Rattle.vl_flow_spec.specs.Refusals.{HasNoRefusal}
+use Rattle.vl_flow_spec.specs.Weight.{design_weight}
 use Rattle.vl_flow.specs.Faults.{IsFault}
 use Rattle.vl_flow.specs.declared.fault.FlowFault.{FlowFault}
 use Rattle.vl_flow.specs.declared.fault.FlowFault.TheVariants as flow
-use Rattle.vl_evals.specs.Maps.{AreEntriesOf, listed}
-use Rattle.vl_few.specs.Few.{AreFew}
+use Rattle.vl_lower_spec.specs.Maps.{AreEntriesOf, listed}
+use Rattle.vl_lower_cell_laws.specs.Few.{AreFew}
 use Rattle.wn_net.specs.declared.names.Names.{Names}
 use Rattle.rvfi_port.specs.declared.fault.PortFault.{PortFault}
 use Rattle.rvfi_port.specs.declared.port.Wants.{Wants}
 use Rattle.rvfi_port.specs.Outputs as port
 use Rattle.ck_design.specs.Loaded.{IsLoaded}
 use Rattle.ck_gen.specs.Monitors.{IsThere}
-use Rattle.ck_traces.specs.Traces.{HaveOwnNames}
-use Rattle.rvf_text.specs.SourceText.{Comes, Reading}
-use Rattle.rvf_text.specs.Texts.{Text}
-use Rattle.rvf_text.specs.declared.fault.TextFault.{TextFault}
-use Rattle.rvf_text.specs.declared.macros.Core.{Core}
+use Rattle.ck_design.specs.Traces.{HaveOwnNames}
+use Rattle.vl_text.specs.SourceText.{Comes, Reading}
+use Rattle.vl_text.specs.Texts.{Text}
+use Rattle.vl_text.specs.declared.fault.TextFault.{TextFault}
+use Rattle.vl_text.specs.declared.macros.Core.{Core}
 use Rattle.rvf_load.specs.declared.asked.Probes.{Probes}
 use Rattle.rvf_load.specs.declared.loaded.Loaded.{Loaded}
 use Rattle.rvf_load.specs.declared.fault.LoadFault.{LoadFault}

@@ -5,15 +5,15 @@ use Rattle.vl_tree.specs.declared.source.Module.{Module}
 use Rattle.vl_mean.specs.declared.flat.Flat.{Flat}
 use Rattle.vl_mean.specs.FlatParts.{flat_parts}
 use Rattle.vl_mean.specs.Parts.{Part}
-use Rattle.vl_refusal.specs.Refused as elab
+use Rattle.vl_elab_spec.specs.Refused as elab
 use Rattle.vl_elab.specs.declared.reason.Reason.{Reason}
 use Rattle.vl_elab.specs.declared.reason.Reason.TheVariants as reason
-use Rattle.vl_ordered.specs.declared.ordered.Ordered.{Ordered}
+use Rattle.vl_flow.specs.declared.ordered.Ordered.{Ordered}
 use Rattle.vl_flow.specs.Faults.{IsFault}
 use Rattle.vl_flow.specs.declared.fault.FlowFault.{FlowFault}
 use Rattle.vl_flow.specs.declared.fault.FlowFault.TheVariants as flow
-use Rattle.vl_evals.specs.Maps.{AreEntriesOf, listed}
-use Rattle.vl_few.specs.Few.{AreFew}
+use Rattle.vl_lower_spec.specs.Maps.{AreEntriesOf, listed}
+use Rattle.vl_lower_cell_laws.specs.Few.{AreFew}
 use Rattle.wn_net.specs.declared.names.Names.{Names}
 use Rattle.rvfi_port.specs.declared.fault.PortFault.{PortFault}
 use Rattle.rvfi_port.specs.declared.fault.PortFault.TheVariants as port_fault
@@ -21,9 +21,9 @@ use Rattle.rvfi_port.specs.declared.port.Wants.{Wants}
 use Rattle.rvfi_port.specs.Outputs as port
 use Rattle.ck_design.specs.Loaded.{IsLoaded}
 use Rattle.ck_gen.specs.Monitors.{IsThere}
-use Rattle.ck_traces.specs.Traces.{HaveOwnNames}
-use Rattle.rvf_text.specs.declared.fault.TextFault.{TextFault}
-use Rattle.rvf_text.specs.declared.fault.TextFault.TheVariants as text
+use Rattle.ck_design.specs.Traces.{HaveOwnNames}
+use Rattle.vl_text.specs.declared.fault.TextFault.{TextFault}
+use Rattle.vl_text.specs.declared.fault.TextFault.TheVariants as text
 use Rattle.rvf_load.specs.Loads.{Asked, IsFlat, IsLoadedFrom, IsRefused, too_heavy, top, weight_of}
 use Rattle.rvf_load.specs.declared.loaded.Loaded.{Loaded}
 use Rattle.rvf_load.specs.declared.fault.LoadFault.{LoadFault}

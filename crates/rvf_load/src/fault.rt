@@ -1,10 +1,10 @@
 ghost use Rattle.std.specs.Prelude.{◌≡◌};
 
 use fv_base::Memory;
-use rvf_text::TextFault;
 use rvfi_port::PortFault;
+use vl_elab_spec::ElabFault;
 use vl_flow::FlowFault;
-use vl_refusal::ElabFault;
+use vl_text::TextFault;
 
 /// Why nothing is loaded: which part refuses, the first in this order.
 #[derive(Drop)]

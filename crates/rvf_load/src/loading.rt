@@ -7,8 +7,8 @@ ghost use Rattle.rvf_load.specs.Loads as loads;
 ghost use Rattle.rvf_load.specs.Loads.{Answers};
 ghost use Rattle.rvf_load.specs.Stages as stages;
 ghost use Rattle.rvf_load.specs.Stages.{Gives};
-ghost use Rattle.rvf_text.specs.SourceText.{Comes, Only};
-ghost use Rattle.rvf_text.specs.Texts.{Text, lines_seen, texts_seen};
+ghost use Rattle.vl_text.specs.SourceText.{Comes, Only};
+ghost use Rattle.vl_text.specs.Texts.{Text, lines_seen, texts_seen};
 
 use crate::asked::Probes;
 use crate::fault::LoadFault;
@@ -16,10 +16,10 @@ use crate::loaded::Loaded;
 use crate::netted::weighed;
 use crate::ordering::in_order;
 use rv_table::Opts;
-use rvf_text::{Assumption, Core, SourceText, TextFault, read_source};
 use rvfi_port::Wants;
 use std::alloc::Global;
 use vl_prep::Macros;
+use vl_text::{Assumption, Core, SourceText, TextFault, read_source};
 use vl_tree::Source;
 
 /// The macro that says that memory is reached by whole aligned words.

@@ -1,22 +1,22 @@
 //! From a design in order to its net with the port.
 
 ghost use Rattle.std.specs.Prelude.{◌≡◌, ◌<◌, ◌^◌, length};
-ghost use Rattle.vl_few.specs.Few.{AreFew};
+ghost use Rattle.vl_lower_cell_laws.specs.Few.{AreFew};
 ghost use Rattle.vl_mean.specs.FlatParts.{flat_parts};
-ghost use Rattle.vl_evals.specs.Evaluations.{IsLowered};
+ghost use Rattle.vl_lower_spec.specs.Evaluations.{IsLowered};
 ghost use Rattle.rvf_load.specs.Stages as stages;
 ghost use Rattle.rvf_load.specs.Stages.{IsNetted, IsWeighed};
 
 use crate::fault::LoadFault;
 use crate::heavy::too_heavy;
 use crate::loaded::Loaded;
-use ck_design::bound_nets_are_loaded;
-use ck_names::law::names_of_traces_differ;
+use ck_design::design_law::bound_nets_are_loaded;
+use ck_design::names_law::names_of_traces_differ;
 use rv_table::Opts;
 use rvfi_port::{PortFault, Wants, bind};
 use std::alloc::Global;
+use vl_flow::Ordered;
 use vl_lower::{Lowered, lower};
-use vl_ordered::Ordered;
 
 fn of_port(fault: PortFault) -> LoadFault
     ensures { result ≡ stages.of_port fault }

@@ -10,9 +10,8 @@ use crate::fault::LoadFault;
 use fv_base::{Memory, Text};
 use std::alloc::Global;
 use vl_elab::{Reason, elaborate};
-use vl_flow::{FlowFault, order};
+use vl_flow::{FlowFault, Ordered, order};
 use vl_mean::Flat;
-use vl_ordered::Ordered;
 use vl_tree::Module;
 
 fn of_elab(reason: Reason) -> LoadFault

@@ -8,7 +8,7 @@ use Rattle.rvfi_port.specs.declared.port.Wants.{Wants}
 use Rattle.ck_cfg.specs.declared.check.Check.{Check}
 use Rattle.ck_cfg.specs.Lawful.{IsCheck}
 use Rattle.ck_design.specs.Loaded.{IsLoaded}
-use Rattle.ck_traces.specs.Traces.{HaveOwnNames}
+use Rattle.ck_design.specs.Traces.{HaveOwnNames}
 use Rattle.rvf_judge.specs.Judged.{IsJudged}
 use Rattle.rvf_judge.specs.declared.judged.Judged.{Judged}
 use Rattle.rvf_case.specs.Loading.{Loaded}

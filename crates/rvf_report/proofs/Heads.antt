@@ -3,7 +3,7 @@ use Rattle.std.proofs.Common.{◌≡◌, ℕ, ◌+◌, ◌<◌, ◌≤◌, List,
 use Rattle.std.proofs.Common.{ap, sym, ◌∙◌, append_assoc}
 use Rattle.std.proofs.lemmas.List.{at_drop_more, at_drop_all, append-nil}
 use Rattle.rvf_report.specs.Reports.{skips_of}
-use Rattle.rvf_report.specs.Lines.{skip_line}
+use Rattle.rvf_report.specs.ReportLines.{skip_line}
 use Rattle.rvf_report.specs.declared.delivery.Delivery.{Delivery}
 use Rattle.rvf_report.specs.declared.delivery.Delivery.TheVariants.{Line}
 

@@ -16,7 +16,7 @@ use Rattle.rvf_report.specs.Reports as reports
 use Rattle.rvf_report.specs.Reports.{AreAnswers, Concludes, IsAnswer, IsReport, Reports, answered, counts_of, head}
 use Rattle.rvf_report.specs.Reports.{is_noted, whole}
 use Rattle.rvf_report.specs.Deliveries.{deliveries_of}
-use Rattle.rvf_report.specs.Lines.{total_line}
+use Rattle.rvf_report.specs.ReportLines.{total_line}
 use Rattle.rvf_report.specs.Outcome.{Outside, Delivers, IsDelivered}
 use Rattle.rvf_report.specs.Status.{UnlessBroken}
 use Rattle.rvf_report.specs.Steps.{CountsIn, CutsOff, Ends, IsAnswerAt, IsQuiet, Proceeds, Stands, begun_of, counted}

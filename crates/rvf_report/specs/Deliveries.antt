@@ -5,7 +5,7 @@ use Rattle.rvf_judge.specs.declared.judged.Judged.{Judged}
 use Rattle.rvf_judge.specs.declared.judged.Judged.TheVariants as judged
 use Rattle.rvf_report.specs.declared.delivery.Delivery.{Delivery}
 use Rattle.rvf_report.specs.declared.delivery.Delivery.TheVariants.{File, Line}
-use Rattle.rvf_report.specs.Lines.{fail_line, pass_line, spent_line}
+use Rattle.rvf_report.specs.ReportLines.{fail_line, pass_line, spent_line}
 
 -- a check's file in a folder
 abbrev pub path : List ℕ → List ℕ → List ℕ → List ℕ

@@ -7,8 +7,8 @@ use Rattle.vl_prep.specs.declared.fault.PrepFault.{PrepFault}
 use Rattle.vl_prep.specs.declared.fault.PrepFault.TheVariants as prep
 use Rattle.vl_parse.specs.declared.fault.ParseFault.{ParseFault}
 use Rattle.vl_parse.specs.declared.fault.ParseFault.TheVariants as parse
-use Rattle.vl_refusal.specs.declared.elab_fault.ElabFault.{ElabFault}
-use Rattle.vl_refusal.specs.declared.elab_fault.ElabFault.TheVariants as elab
+use Rattle.vl_elab_spec.specs.declared.elab_fault.ElabFault.{ElabFault}
+use Rattle.vl_elab_spec.specs.declared.elab_fault.ElabFault.TheVariants as elab
 use Rattle.vl_flow.specs.declared.fault.FlowFault.{FlowFault}
 use Rattle.vl_flow.specs.declared.fault.FlowFault.TheVariants as flow
 use Rattle.rvfi_port.specs.declared.fault.PortFault.{PortFault}
@@ -16,7 +16,7 @@ use Rattle.rvfi_port.specs.declared.fault.PortFault.TheVariants as port
 use Rattle.rvfi_port.specs.Fields.{field_name}
 use Rattle.ck_cfg.specs.declared.fault.CfgFault.{CfgFault}
 use Rattle.ck_cfg.specs.declared.fault.CfgFault.TheVariants as config
-use Rattle.rvf_lines.specs.Printed.{Says, says, place_text}
+use Rattle.rvf_report.specs.Printed.{Says, says, place_text}
 
 -- want of memory has no line
 

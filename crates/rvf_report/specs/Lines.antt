@@ -2,14 +2,14 @@
 use Rattle.std.specs.Prelude.{ℕ, List, [], codes, decimal}
 use Rattle.ck_cfg.specs.declared.fault.CfgFault.{CfgFault}
 use Rattle.ck_cfg.specs.Faults.{number_of}
-use Rattle.rvf_text.specs.declared.fault.TextFault.{TextFault}
-use Rattle.rvf_text.specs.declared.fault.TextFault.TheVariants as text
+use Rattle.vl_text.specs.declared.fault.TextFault.{TextFault}
+use Rattle.vl_text.specs.declared.fault.TextFault.TheVariants as text
 use Rattle.rvf_case.specs.Loading.{LoadFault}
 use Rattle.rvf_case.specs.Loading.load as load
 use Rattle.rvf_case.specs.declared.refusal.Refusal.{Refusal}
 use Rattle.rvf_case.specs.declared.refusal.Refusal.TheVariants as refusal
-use Rattle.rvf_lines.specs.Faults.{of_lex, of_prep, of_parse, of_elab, of_flow, of_port, config_line_of, config_values}
-use Rattle.rvf_lines.specs.Printed.{detail, ended, source_line, spaced}
+use Rattle.rvf_report.specs.Faults.{of_lex, of_prep, of_parse, of_elab, of_flow, of_port, config_line_of, config_values}
+use Rattle.rvf_report.specs.Printed.{detail, ended, source_line, spaced}
 
 -- `config C LINE DETAIL`
 abbrev pub config_line : CfgFault → List ℕ

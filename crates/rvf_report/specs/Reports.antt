@@ -9,7 +9,7 @@ use Rattle.ck_cfg.specs.declared.check.Check.{Check}
 use Rattle.ck_cfg.specs.declared.kind.CheckKind.TheVariants as kinds
 use Rattle.ck_cfg.specs.Kind.{is_kind}
 use Rattle.ck_design.specs.Loaded.{IsLoaded}
-use Rattle.ck_traces.specs.Traces.{HaveOwnNames}
+use Rattle.ck_design.specs.Traces.{HaveOwnNames}
 use Rattle.rvf_judge.specs.Judged.{IsJudged}
 use Rattle.rvf_judge.specs.declared.judged.Judged.{Judged}
 use Rattle.rvf_judge.specs.declared.judged.Judged.TheVariants as judged
@@ -17,7 +17,7 @@ use Rattle.rvf_case.specs.Loading.{Loaded}
 use Rattle.rvf_case.specs.Cases.{loaded_for}
 use Rattle.rvf_case.specs.declared.case.Case.{Case}
 use Rattle.rvf_report.specs.Deliveries.{deliveries_of}
-use Rattle.rvf_report.specs.Lines.{note_line, skip_line, total_line}
+use Rattle.rvf_report.specs.ReportLines.{note_line, skip_line, total_line}
 use Rattle.rvf_report.specs.Outcome.{Outside, Delivers, Fails, Stops}
 use Rattle.rvf_report.specs.declared.delivery.Delivery.{Delivery}
 use Rattle.rvf_report.specs.declared.delivery.Delivery.TheVariants.{Line}

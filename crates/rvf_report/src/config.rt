@@ -1,8 +1,8 @@
 //! The line of a configuration that is refused.
 
 ghost use Rattle.std.specs.Prelude.{◌≡◌, IfOk};
-ghost use Rattle.rvf_lines.specs.Faults as faults;
-ghost use Rattle.rvf_lines.specs.Lines as lines;
+ghost use Rattle.rvf_report.specs.Faults as faults;
+ghost use Rattle.rvf_report.specs.Lines as lines;
 
 use crate::word::{detail, one_value, put_end, put_number, put_word};
 use ck_cfg::CfgFault;

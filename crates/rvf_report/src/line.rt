@@ -1,8 +1,8 @@
 //! The line of a refusal.
 
 ghost use Rattle.std.specs.Prelude.{◌≡◌, IfOk};
-ghost use Rattle.rvf_lines.specs.Lines as lines;
-ghost use Rattle.rvf_lines.specs.Printed.{ended, spaced};
+ghost use Rattle.rvf_report.specs.Lines as lines;
+ghost use Rattle.rvf_report.specs.Printed.{ended, spaced};
 
 use crate::config::config_line;
 use crate::part::{of_elab, of_flow, of_lex, of_parse, of_port, of_prep};
@@ -11,8 +11,8 @@ use crate::word::{put_end, put_word};
 use fv_base::{Memory, Text};
 use itoa::Buffer;
 use rvf_case::{LoadFault, Refusal};
-use rvf_text::TextFault;
 use std::alloc::Global;
+use vl_text::TextFault;
 
 /// What stands in front, and a name.
 fn named_line(alloc: Global, front: &[u8], name: &[u8]) -> Result<Text, Memory>

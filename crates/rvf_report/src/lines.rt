@@ -1,7 +1,7 @@
 //! The lines of a report.
 
 ghost use Rattle.std.specs.Prelude.{◌≡◌, ◌++◌, IfOk, OnOk};
-ghost use Rattle.rvf_report.specs.Lines as lines;
+ghost use Rattle.rvf_report.specs.ReportLines as lines;
 
 use crate::counts::Counts;
 use fv_base::{Memory, Text};

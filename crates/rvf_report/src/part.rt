@@ -1,18 +1,18 @@
 //! What the refusals of each part say.
 
 ghost use Rattle.std.specs.Prelude.{◌≡◌, ◌∷◌, [], decimal, IfOk};
-ghost use Rattle.rvf_lines.specs.Faults as faults;
-ghost use Rattle.rvf_lines.specs.Printed as printed;
+ghost use Rattle.rvf_report.specs.Faults as faults;
+ghost use Rattle.rvf_report.specs.Printed as printed;
 
 use crate::says::{Says, place_text, place_texts};
 use crate::word::{copies, number_alone, one_value, push_number};
 use fv_base::{List, Memory, Pos, Text};
 use rvfi_port::PortFault;
 use std::alloc::Global;
+use vl_elab_spec::ElabFault;
 use vl_flow::FlowFault;
 use vl_parse::ParseFault;
 use vl_prep::PrepFault;
-use vl_refusal::ElabFault;
 use vl_token::LexFault;
 
 /// A refusal that says nothing but its number and its place.

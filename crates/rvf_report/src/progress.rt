@@ -2,7 +2,7 @@
 
 ghost use Rattle.std.specs.Prelude.{◌≡◌, ◌∷◌, [], ℕ, ◌+◌, List, length, slice_get, Some, IfOk};
 ghost use Rattle.rvf_judge.specs.declared.judged.Judged.{Judged as SpecJudged};
-ghost use Rattle.rvf_report.specs.Lines as lines;
+ghost use Rattle.rvf_report.specs.ReportLines as lines;
 ghost use Rattle.rvf_report.specs.Outcome.{Outside, outside};
 ghost use Rattle.rvf_report.specs.Steps.{Ends, IsAnswerAt, Proceeds, Stands, places_of};
 ghost use Rattle.rvf_report.specs.declared.delivery.Delivery.TheVariants as delivery;

@@ -1,7 +1,7 @@
 //! What a refusal says, and its line.
 
 ghost use Rattle.std.specs.Prelude.{◌≡◌, ◌++◌, IfOk, map};
-ghost use Rattle.rvf_lines.specs.Printed as printed;
+ghost use Rattle.rvf_report.specs.Printed as printed;
 
 use crate::word::{detail, put_end, put_number, put_word};
 use fv_base::{List, Memory, Pos, Text};

@@ -1,7 +1,7 @@
 //! Words and values of a line.
 
 ghost use Rattle.std.specs.Prelude.{◌≡◌, ◌++◌, ◌∷◌, [], IfOk, OnOk, decimal};
-ghost use Rattle.rvf_lines.specs.Printed as printed;
+ghost use Rattle.rvf_report.specs.Printed as printed;
 
 use fv_base::{List, Memory, Text};
 use itoa::Buffer;

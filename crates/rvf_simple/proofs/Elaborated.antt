@@ -2,15 +2,15 @@
 use Rattle.std.specs.Prelude.{◌≡◌, ◌≤◌, None, Err}
 use Rattle.std.proofs.Common.{ap, sym, ◌∙◌, true≢false, arith}
 use Rattle.std.specs.Prelude.{is_none}
-use Rattle.vl_refusal.specs.declared.elab_fault.ElabFault.{ElabFault}
-use Rattle.vl_refusal.specs.Refused.{refusal}
-use Rattle.vl_simple.specs.Simple.{IsSimple, wrapper_ports}
-use Rattle.vl_simple.proofs.Tokens.{simple_nodes}
-use Rattle.vl_simple.proofs.Unrefused.{simple_unrefused}
-use Rattle.rvf_text.specs.SourceText.{Reading}
+use Rattle.vl_elab_spec.specs.declared.elab_fault.ElabFault.{ElabFault}
+use Rattle.vl_elab_spec.specs.Refused.{refusal}
+use Rattle.rvf_simple.specs.SimpleTrees.{IsSimple, wrapper_ports}
+use Rattle.rvf_simple.proofs.Tokens.{simple_nodes}
+use Rattle.rvf_simple.proofs.Unrefused.{simple_unrefused}
+use Rattle.vl_text.specs.SourceText.{Reading}
 use Rattle.rvf_load.specs.Loads.{Answers, Asked, IsNoDesign, Reads, top}
 use Rattle.rvf_load.specs.declared.fault.LoadFault.TheVariants as fault
-use Rattle.rvf_simple.specs.Simple.{IsSimpleText}
+use Rattle.rvf_simple.specs.SimpleTexts.{IsSimpleText}
 use Rattle.rvf_simple.proofs.OneReading.{one_reading}
 use Rattle.rvf_simple.proofs.Parsed.{tree_of_few}
 

@@ -19,11 +19,11 @@ use Rattle.vl_mean.specs.Declarations.{port_named, ports_of}
 use Rattle.vl_mean.specs.Runs.{Each}
 use Rattle.vl_mean.specs.Scopes.{Scope}
 use Rattle.vl_mean.specs.Walk.{Use, module_around, module_contents, module_scope, top_input, written_ports}
-use Rattle.vl_refusal.specs.Meanings.{Meaning, Names, all_later, all_meanings, is_input, is_known_shape}
-use Rattle.vl_refusal.specs.Meanings.{is_undeclared, items_meanings, meaning_of, constant, object}
-use Rattle.vl_refusal.specs.Meanings.{object_or, port_meanings, undeclared, with_item_constants}
-use Rattle.vl_simple.specs.Simple.{IsSimpleItem, IsSimpleKind, IsSimplePort}
-use Rattle.vl_simple.proofs.Values.{IsMeant, known_shape, vector_few}
+use Rattle.vl_elab_spec.specs.Meanings.{Meaning, Names, all_later, all_meanings, is_input, is_known_shape}
+use Rattle.vl_elab_spec.specs.Meanings.{is_undeclared, items_meanings, meaning_of, constant, object}
+use Rattle.vl_elab_spec.specs.Meanings.{object_or, port_meanings, undeclared, with_item_constants}
+use Rattle.rvf_simple.specs.SimpleTrees.{IsSimpleItem, IsSimpleKind, IsSimplePort}
+use Rattle.rvf_simple.proofs.Values.{IsMeant, known_shape, vector_few}
 
 -- ---- a simple module
 

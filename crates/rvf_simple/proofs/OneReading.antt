@@ -7,14 +7,14 @@ use Rattle.vl_token.proofs.Answer.{one_fault, right_refused}
 use Rattle.vl_token.proofs.Order.{tokens_one}
 use Rattle.vl_prep.specs.Macros.{Held}
 use Rattle.vl_prep.specs.Prep.{Outcome, preprocessed}
-use Rattle.vl_grammar.proofs.OneSource.{one_source}
-use Rattle.rvf_text.specs.Assumptions.{as_items, with_assumptions}
-use Rattle.rvf_text.specs.Predefined.{ArePredefinedFor, none, prologue}
-use Rattle.rvf_text.specs.SourceText.{AreLaid, AreParsed, ArePrepared, AreRead, Comes, FromTokens, Reading, Then}
-use Rattle.rvf_text.specs.SourceText.{outcome_or_fault, tokens_or, with_macros}
-use Rattle.rvf_text.specs.Texts.{AreLexed, IsLexed, Lexing, Text, laid_behind, lexed_bytes, nothing_lexed}
-use Rattle.rvf_text.specs.declared.fault.TextFault.{TextFault}
-use Rattle.rvf_text.specs.declared.macros.Core.{Core}
+use Rattle.vl_parse_grammar.proofs.OneSource.{one_source}
+use Rattle.vl_text.specs.Assumptions.{as_items, with_assumptions}
+use Rattle.vl_text.specs.Predefined.{ArePredefinedFor, none, prologue}
+use Rattle.vl_text.specs.SourceText.{AreLaid, AreParsed, ArePrepared, AreRead, Comes, FromTokens, Reading, Then}
+use Rattle.vl_text.specs.SourceText.{outcome_or_fault, tokens_or, with_macros}
+use Rattle.vl_text.specs.Texts.{AreLexed, IsLexed, Lexing, Text, laid_behind, lexed_bytes, nothing_lexed}
+use Rattle.vl_text.specs.declared.fault.TextFault.{TextFault}
+use Rattle.vl_text.specs.declared.macros.Core.{Core}
 use Rattle.rvf_simple.proofs.Results.{ok_err, ok_is}
 
 -- ---- the lexer

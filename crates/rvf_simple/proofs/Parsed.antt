@@ -5,13 +5,13 @@ use Rattle.fv_base.specs.declared.token.Token.{Token}
 use Rattle.vl_tree.specs.declared.source.Source.{Source}
 use Rattle.vl_prep.specs.declared.fault.PrepFault.{PrepFault}
 use Rattle.vl_prep.specs.Prep.{Outcome, preprocessed}
-use Rattle.rvf_text.specs.Assumptions.{with_assumptions}
-use Rattle.rvf_text.specs.SourceText.{AreParsed, ArePrepared, AreRead, Comes, FromTokens, IsTree, Reading, Then}
-use Rattle.rvf_text.specs.SourceText.{outcome_or_fault, with_macros}
-use Rattle.rvf_text.specs.Texts.{Text}
-use Rattle.rvf_text.specs.declared.fault.TextFault.{TextFault}
-use Rattle.rvf_text.specs.declared.fault.TextFault.TheVariants.{Prep}
-use Rattle.rvf_text.specs.declared.macros.Core.{Core}
+use Rattle.vl_text.specs.Assumptions.{with_assumptions}
+use Rattle.vl_text.specs.SourceText.{AreParsed, ArePrepared, AreRead, Comes, FromTokens, IsTree, Reading, Then}
+use Rattle.vl_text.specs.SourceText.{outcome_or_fault, with_macros}
+use Rattle.vl_text.specs.Texts.{Text}
+use Rattle.vl_text.specs.declared.fault.TextFault.{TextFault}
+use Rattle.vl_text.specs.declared.fault.TextFault.TheVariants.{Prep}
+use Rattle.vl_text.specs.declared.macros.Core.{Core}
 use Rattle.rvf_simple.proofs.FewTokens.{few_tokens}
 use Rattle.rvf_simple.proofs.Placed.{assumed_few}
 use Rattle.rvf_simple.proofs.Results.{ok_err, ok_is}

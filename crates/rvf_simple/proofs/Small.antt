@@ -1,8 +1,8 @@
 -- The small example is a simple wrapper.
 use Rattle.std.specs.Prelude.{refl}
 use Rattle.std.proofs.Common.{arith}
-use Rattle.vl_simple.specs.Examples.{small}
-use Rattle.vl_simple.specs.Simple.{IsSimple}
+use Rattle.rvf_simple.specs.Examples.{small}
+use Rattle.rvf_simple.specs.SimpleTrees.{IsSimple}
 
 pub small_is_simple : IsSimple small
 small_is_simple = record {

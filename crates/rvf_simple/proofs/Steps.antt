@@ -9,13 +9,13 @@ use Rattle.vl_size.specs.declared.decl.Decl.{Decl}
 use Rattle.vl_mean.specs.Parts.{Part, declares, parts_of_steps, step_parts}
 use Rattle.vl_mean.specs.Runs.{Each}
 use Rattle.vl_mean.specs.Walk.{Step}
-use Rattle.vl_refusal.specs.declared.elab_fault.ElabFault.TheVariants as f
-use Rattle.vl_refusal.specs.Counts.{step_names, step_nodes, step_pos}
-use Rattle.vl_refusal.specs.Expressions.{refused_if}
-use Rattle.vl_refusal.specs.Items.{step_refusals}
-use Rattle.vl_refusal.specs.Meanings.{is_variable_class}
-use Rattle.vl_refusal.specs.Refused.{Totals, class_bits, counted, first_refused, lowest, or_later}
-use Rattle.vl_refusal.specs.Refused.{state_bits}
+use Rattle.vl_elab_spec.specs.declared.elab_fault.ElabFault.TheVariants as f
+use Rattle.vl_elab_spec.specs.Counts.{step_names, step_nodes, step_pos}
+use Rattle.vl_elab_spec.specs.Expressions.{refused_if}
+use Rattle.vl_elab_spec.specs.Items.{step_refusals}
+use Rattle.vl_elab_spec.specs.Meanings.{is_variable_class}
+use Rattle.vl_elab_spec.specs.Refused.{Totals, class_bits, counted, first_refused, lowest, or_later}
+use Rattle.vl_elab_spec.specs.Refused.{state_bits}
 
 pub each_both : {A : Type 0} (P : A → Type 0) (xs ys : List A) → Each P xs → Each P ys → Each P (xs ++ ys)
 each_both P [] ys h k = k

@@ -37,10 +37,10 @@ use Rattle.vl_mean.specs.Declarations.{full_ports, ports_of}
 use Rattle.vl_mean.specs.FlatLaw.{nodes, target_nodes}
 use Rattle.vl_mean.specs.Runs.{Each}
 use Rattle.vl_mean.specs.Walk.{written_ports}
-use Rattle.vl_refusal.specs.Counts.{assignment_nodes, range_nodes, value_nodes}
-use Rattle.vl_simple.specs.Simple.{IsNumberUpTo, IsSimple, IsSimpleAssignment, IsSimpleExpr, IsSimpleItem}
-use Rattle.vl_simple.specs.Simple.{IsSimpleKind, IsSimplePort, IsSimpleRange, IsSimpleTarget, items_nodes}
-use Rattle.vl_simple.specs.Simple.{ports_nodes, wrapper_nodes}
+use Rattle.vl_elab_spec.specs.Counts.{assignment_nodes, range_nodes, value_nodes}
+use Rattle.rvf_simple.specs.SimpleTrees.{IsNumberUpTo, IsSimple, IsSimpleAssignment, IsSimpleExpr, IsSimpleItem}
+use Rattle.rvf_simple.specs.SimpleTrees.{IsSimpleKind, IsSimplePort, IsSimpleRange, IsSimpleTarget, items_nodes}
+use Rattle.rvf_simple.specs.SimpleTrees.{ports_nodes, wrapper_nodes}
 
 -- how many tokens spell a phrase
 abbrev tokens : Phrase → ℕ

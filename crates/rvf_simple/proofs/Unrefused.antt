@@ -20,17 +20,17 @@ use Rattle.vl_mean.specs.Runs.{Each}
 use Rattle.vl_mean.specs.Scopes.{Scope}
 use Rattle.vl_mean.specs.Walk.{Place, Step, Unfolding, items_steps, module_place, port, port_names, port_steps}
 use Rattle.vl_mean.specs.Walk.{top_input, walk, with_earlier, written_ports}
-use Rattle.vl_refusal.specs.declared.elab_fault.ElabFault.TheVariants as f
-use Rattle.vl_refusal.specs.Expressions.{refused_if}
-use Rattle.vl_refusal.specs.Items.{given_value, port_net}
-use Rattle.vl_refusal.specs.Meanings.{Names, is_variable_class}
-use Rattle.vl_refusal.specs.Refused.{first_refused, or_later, refusal, state_bits, too_many_bits}
-use Rattle.vl_simple.specs.Simple.{AreNew, IsSimple, IsSimpleItem, IsSimpleKind, IsSimplePort}
-use Rattle.vl_simple.specs.Simple.{items_nodes, ports_nodes, wrapper_nodes, wrapper_ports}
-use Rattle.vl_simple.proofs.Named.{names, port_meant, top_use, wrapper}
-use Rattle.vl_simple.proofs.Steps.{HoldsNone, IsUnrefused, all_names, all_nodes, each_both, names_both, no_bits}
-use Rattle.vl_simple.proofs.Steps.{nodes_both, steps_hold_none, unrefused_steps}
-use Rattle.vl_simple.proofs.Values.{assignments_fine, range_fine, width_fine}
+use Rattle.vl_elab_spec.specs.declared.elab_fault.ElabFault.TheVariants as f
+use Rattle.vl_elab_spec.specs.Expressions.{refused_if}
+use Rattle.vl_elab_spec.specs.Items.{given_value, port_net}
+use Rattle.vl_elab_spec.specs.Meanings.{Names, is_variable_class}
+use Rattle.vl_elab_spec.specs.Refused.{first_refused, or_later, refusal, state_bits, too_many_bits}
+use Rattle.rvf_simple.specs.SimpleTrees.{AreNew, IsSimple, IsSimpleItem, IsSimpleKind, IsSimplePort}
+use Rattle.rvf_simple.specs.SimpleTrees.{items_nodes, ports_nodes, wrapper_nodes, wrapper_ports}
+use Rattle.rvf_simple.proofs.Named.{names, port_meant, top_use, wrapper}
+use Rattle.rvf_simple.proofs.Steps.{HoldsNone, IsUnrefused, all_names, all_nodes, each_both, names_both, no_bits}
+use Rattle.rvf_simple.proofs.Steps.{nodes_both, steps_hold_none, unrefused_steps}
+use Rattle.rvf_simple.proofs.Values.{assignments_fine, range_fine, width_fine}
 
 -- none is refused by itself, none declares a variable, and they have so many nodes and names
 record AreHarmless (ms : List Module) (xs : List Step) (nodes declares : ℕ) : Type 0 where

@@ -27,8 +27,8 @@ use Rattle.vl_mean.specs.Declarations.{class_of_port, is_output, port_named, vec
 use Rattle.vl_mean.specs.Runs.{Each}
 use Rattle.vl_mean.specs.Scopes.{Scope, constant_in, is_clock_class}
 use Rattle.vl_mean.specs.Walk.{top_input}
-use Rattle.vl_refusal.specs.declared.elab_fault.ElabFault.TheVariants as f
-use Rattle.vl_refusal.specs.Expressions.{
+use Rattle.vl_elab_spec.specs.declared.elab_fault.ElabFault.TheVariants as f
+use Rattle.vl_elab_spec.specs.Expressions.{
   divided_by_zero,
   expr_refusals,
   far,
@@ -42,14 +42,14 @@ use Rattle.vl_refusal.specs.Expressions.{
   vector_selects,
   wide_size,
 }
-use Rattle.vl_refusal.specs.Items.{assignments_refusals, range_refusals, width_refusals}
-use Rattle.vl_refusal.specs.Meanings.{Names, bound, constants, declared_width, is_input, is_known}
-use Rattle.vl_refusal.specs.Meanings.{is_known_bound, is_known_range, is_known_shape, meaning_in, object, objects}
-use Rattle.vl_refusal.specs.Statements.{assigned_in, assigned_refusals, may_be_assigned}
-use Rattle.vl_refusal.specs.Statements.{target_refusals, target_selects, target_width}
-use Rattle.vl_simple.specs.Simple.{IsAssignable, IsNumberUpTo, IsReadable, IsSimpleAssignment, IsSimpleExpr}
-use Rattle.vl_simple.specs.Simple.{IsSimpleRange, IsSimpleTarget}
-use Rattle.vl_simple.proofs.Numbers.{bound_near, span_few, value_is}
+use Rattle.vl_elab_spec.specs.Items.{assignments_refusals, range_refusals, width_refusals}
+use Rattle.vl_elab_spec.specs.Meanings.{Names, bound, constants, declared_width, is_input, is_known}
+use Rattle.vl_elab_spec.specs.Meanings.{is_known_bound, is_known_range, is_known_shape, meaning_in, object, objects}
+use Rattle.vl_elab_spec.specs.Statements.{assigned_in, assigned_refusals, may_be_assigned}
+use Rattle.vl_elab_spec.specs.Statements.{target_refusals, target_selects, target_width}
+use Rattle.rvf_simple.specs.SimpleTrees.{IsAssignable, IsNumberUpTo, IsReadable, IsSimpleAssignment, IsSimpleExpr}
+use Rattle.rvf_simple.specs.SimpleTrees.{IsSimpleRange, IsSimpleTarget}
+use Rattle.rvf_simple.proofs.Numbers.{bound_near, span_few, value_is}
 
 -- ---- bounds
 

@@ -1,7 +1,7 @@
 -- Texts that come to a simple wrapper. Rule of this project.
 use Rattle.std.specs.Prelude.{◌≤◌}
-use Rattle.vl_simple.specs.Simple.{IsSimple, wrapper_ports}
-use Rattle.rvf_text.specs.SourceText.{Reading}
+use Rattle.rvf_simple.specs.SimpleTrees.{IsSimple, wrapper_ports}
+use Rattle.vl_text.specs.SourceText.{Reading}
 use Rattle.rvf_load.specs.Loads.{Asked, Reads}
 
 -- one with at most 200,000 ports

@@ -15,7 +15,7 @@ use Rattle.vl_mean.specs.Cells.{contains_name}
 use Rattle.vl_mean.specs.Declarations.{is_output, port_named, ports_of}
 use Rattle.vl_mean.specs.Runs.{Each}
 use Rattle.vl_mean.specs.Walk.{port_names, written_ports}
-use Rattle.vl_refusal.specs.Counts.{assignment_nodes, range_nodes, value_nodes}
+use Rattle.vl_elab_spec.specs.Counts.{assignment_nodes, range_nodes, value_nodes}
 
 -- ---- ports
 

@@ -5,9 +5,9 @@ ghost use Rattle.vl_tree.specs.declared.source.Module.{Module};
 ghost use Rattle.vl_tree.specs.declared.source.Source.{Source};
 ghost use Rattle.vl_tree.specs.ItemSpelling.{spell_source};
 ghost use Rattle.vl_tree.specs.Phrase.{Spells};
-ghost use Rattle.vl_refusal.specs.Refused.{refusal};
-ghost use Rattle.vl_simple.specs.Examples.{small};
-ghost use Rattle.vl_simple.specs.Simple.{IsSimple, wrapper_nodes, wrapper_ports};
+ghost use Rattle.vl_elab_spec.specs.Refused.{refusal};
+ghost use Rattle.rvf_simple.specs.Examples.{small};
+ghost use Rattle.rvf_simple.specs.SimpleTrees.{IsSimple, wrapper_nodes, wrapper_ports};
 
 /// Elaboration refuses none with at most 200,000 ports and 4,000,000 nodes.
 #[tactic(auto, using(crate::proofs::Unrefused::simple_unrefused))]

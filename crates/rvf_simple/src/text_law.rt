@@ -3,18 +3,18 @@ ghost use Rattle.std.specs.Prelude.{◌≡◌, ℕ, ◌≤◌, List, length, Non
 ghost use Rattle.fv_base.specs.declared.token.Token.{Token};
 ghost use Rattle.vl_prep.specs.Macros.{Held};
 ghost use Rattle.vl_prep.specs.Prep.{Outcome, preprocessed};
-ghost use Rattle.vl_refusal.specs.Refused.{refusal};
-ghost use Rattle.vl_refusal.specs.declared.elab_fault.ElabFault.{ElabFault};
-ghost use Rattle.vl_simple.specs.Simple.{IsSimple, wrapper_ports};
-ghost use Rattle.rvf_text.specs.Assumptions.{with_assumptions};
-ghost use Rattle.rvf_text.specs.SourceText.{Reading};
-ghost use Rattle.rvf_text.specs.Texts.{Text};
+ghost use Rattle.vl_elab_spec.specs.Refused.{refusal};
+ghost use Rattle.vl_elab_spec.specs.declared.elab_fault.ElabFault.{ElabFault};
+ghost use Rattle.rvf_simple.specs.SimpleTrees.{IsSimple, wrapper_ports};
+ghost use Rattle.vl_text.specs.Assumptions.{with_assumptions};
+ghost use Rattle.vl_text.specs.SourceText.{Reading};
+ghost use Rattle.vl_text.specs.Texts.{Text};
 ghost use Rattle.rvf_load.specs.Loads.{Answers, Asked, IsNoDesign, Reads, top};
 ghost use Rattle.rvf_load.specs.declared.fault.LoadFault.TheVariants as fault;
 ghost use Rattle.rvf_case.specs.Cases.{IsCause, Request, Seen};
 ghost use Rattle.rvf_case.specs.Texts.{asked_for};
 ghost use Rattle.rvf_case.specs.declared.refusal.Refusal.TheVariants as why;
-ghost use Rattle.rvf_simple.specs.Simple.{IsSimpleText};
+ghost use Rattle.rvf_simple.specs.SimpleTexts.{IsSimpleText};
 
 /// The preprocessor puts out at most 2,000,000 tokens.
 #[tactic(auto, using(crate::proofs::FewTokens::few_tokens))]

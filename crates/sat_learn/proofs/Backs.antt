@@ -12,12 +12,12 @@ use Rattle.lrat_check.specs.declared.reading.Reading.TheVariants as read
 use Rattle.lrat_check.specs.Sets.{has, is_false, without, union, reading, IsLit, AreLits}
 use Rattle.sat_trail.specs.declared.trail.Entry.{Entry}
 use Rattle.sat_trail.specs.Trail.{Entries, lits, is_decision, decided, below, Because}
-use Rattle.sat_unit.specs.Propagation.{AllLits}
+use Rattle.sat_propagate.specs.Propagation.{AllLits}
 use Rattle.sat_trail.specs.Clauses.{AllFalse, Within}
-use Rattle.sat_watch.specs.Watches.{SameLits}
+use Rattle.sat_propagate.specs.Watches.{SameLits}
 use Rattle.sat_learn.specs.Analysis.{Derives, SameLevel, NewestIsImplied, is_unit}
 use Rattle.sat_trail.proofs.Members.{has_head, has_tail}
-use Rattle.sat_unit.proofs.ByPlace.{lits_at, get_below}
+use Rattle.sat_propagate.proofs.ByPlace.{lits_at, get_below}
 use Rattle.sat_learn.proofs.Tracing.{renamed, resolves, union_without}
 use Rattle.sat_learn.proofs.Levels.{level_on, decision_unit}
 

@@ -4,7 +4,7 @@ use Rattle.std.proofs.Common.{◌∙◌}
 use Rattle.std.proofs.Common.{◌⊎◌, inl, inr}
 use Rattle.std.proofs.lemmas.Bool.{false≢true}
 use Rattle.sat_trail.specs.Trail.{Entries, decides, decided, below_at, below}
-use Rattle.sat_watch.specs.Laws.{IsOlder}
+use Rattle.sat_propagate.specs.Laws.{IsOlder}
 
 below_one : (reason : Option ℕ) (t : Entries) → (decided t ≡ true → IsOlder t (below t))
     → (decides reason || decided t) ≡ true

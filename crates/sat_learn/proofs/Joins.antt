@@ -5,7 +5,7 @@ use Rattle.lrat_check.specs.Sets.{has, reading}
 use Rattle.lrat_check.specs.Steps.{is_empty}
 use Rattle.sat_trail.specs.Trail.{Entries, lits, below, Stand}
 use Rattle.sat_trail.specs.Clauses.{Within}
-use Rattle.sat_watch.specs.Laws.{IsOlder}
+use Rattle.sat_propagate.specs.Laws.{IsOlder}
 use Rattle.sat_learn.specs.Analysis.{Resolves, SameLevel, is_unit}
 use Rattle.sat_learn.specs.Learning.{Learns}
 use Rattle.sat_trail.proofs.Readings.{unit_to}

@@ -14,7 +14,7 @@ use Rattle.sat_trail.specs.Clauses.{NoneTrue, Within}
 use Rattle.sat_learn.specs.Analysis.{is_unit}
 use Rattle.sat_trail.proofs.Members.{has_tail}
 use Rattle.sat_trail.proofs.Readings.{Two, unit_to, false_to, open_to, open_from}
-use Rattle.sat_unit.proofs.ByPlace.{get_more}
+use Rattle.sat_propagate.proofs.ByPlace.{get_more}
 use Rattle.sat_learn.proofs.Levels.{below_within}
 use Rattle.sat_learn.proofs.News.{unit_is, true_has}
 

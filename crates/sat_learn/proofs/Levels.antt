@@ -17,8 +17,8 @@ use Rattle.sat_trail.specs.Clauses.{AllFalse, Within}
 use Rattle.sat_learn.specs.Analysis.{Derives, SameLevel, is_unit}
 use Rattle.sat_trail.proofs.Members.{neg_neg, or_left, has_tail}
 use Rattle.sat_trail.proofs.Readings.{unit_from}
-use Rattle.sat_unit.proofs.Consistent.{none_true}
-use Rattle.sat_unit.proofs.ByPlace.{none_some, settled_at}
+use Rattle.sat_propagate.proofs.Consistent.{none_true}
+use Rattle.sat_propagate.proofs.ByPlace.{none_some, settled_at}
 use Rattle.sat_learn.proofs.Tracing.{skips, off_newest}
 
 false_from_ne_true : (b : Bool) → (b ≡ true → ⊥) → b ≡ false

@@ -18,7 +18,7 @@ use Rattle.sat_learn.specs.Analysis.{Resolves, is_unit}
 use Rattle.sat_trail.proofs.Members.{same_is, same_self, neg_neg, or_left, or_right, or_cases, has_head, has_tail}
 use Rattle.sat_trail.proofs.Members.{any_has, without_has, without_from}
 use Rattle.sat_trail.proofs.Readings.{unit_to, open_to}
-use Rattle.sat_unit.proofs.Consistent.{no_pair}
+use Rattle.sat_propagate.proofs.Consistent.{no_pair}
 use Rattle.sat_learn.proofs.Levels.{below_within, settled_below, closed_numbered}
 
 pub all_from : (p : ℤ → Bool) (c : List ℤ) → ((x : ℤ) → has c x ≡ true → p x ≡ true) → list_all p c ≡ true

@@ -10,8 +10,8 @@ use Rattle.lrat_check.specs.Sets.{has, IsLit, AreLits}
 use Rattle.sat_trail.specs.Trail.{place_of}
 use Rattle.sat_trail.proofs.Codes.{lit_kept}
 use Rattle.sat_trail.proofs.Members.{same_is, same_self, or_cases, or_right, has_head, has_tail, has_append}
-use Rattle.sat_watch.specs.Watches.{lit_at}
-use Rattle.sat_watch.proofs.Orders.{index_of, lit_from, lits_from}
+use Rattle.sat_propagate.specs.Watches.{lit_at}
+use Rattle.sat_propagate.proofs.Orders.{index_of, lit_from, lits_from}
 use Rattle.sat_learn.specs.Placed.{ArePlaced}
 
 -- whether a number is that of a place

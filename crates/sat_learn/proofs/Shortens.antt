@@ -13,9 +13,9 @@ use Rattle.sat_trail.specs.Trail.{Entries, lits, below}
 use Rattle.sat_trail.proofs.Members.{same_is, same_self, neg_neg, or_left, or_right, or_cases, or_both, has_append}
 use Rattle.sat_trail.proofs.Members.{none_at}
 use Rattle.sat_trail.proofs.Readings.{unit_to, unit_from}
-use Rattle.sat_unit.proofs.Consistent.{no_pair}
-use Rattle.sat_watch.specs.Watches.{SameLits}
-use Rattle.sat_watch.proofs.Orders.{lit_from, lits_from}
+use Rattle.sat_propagate.proofs.Consistent.{no_pair}
+use Rattle.sat_propagate.specs.Watches.{SameLits}
+use Rattle.sat_propagate.proofs.Orders.{lit_from, lits_from}
 use Rattle.sat_learn.specs.Analysis.{Derives, Resolves, is_stray, implies, is_unit}
 use Rattle.sat_learn.proofs.Tracing.{resolvent_more, numbered_at, union_without, positive, both_ways}
 use Rattle.sat_learn.proofs.News.{negs_has, negs_from, unit_is}

@@ -14,10 +14,10 @@ use Rattle.lrat_check.specs.Resolved.{resolvent}
 use Rattle.sat_trail.specs.declared.trail.Entry.{Entry}
 use Rattle.sat_trail.specs.Trail.{Entries, lits, Stand}
 use Rattle.sat_trail.specs.Clauses.{AllFalse, Within}
-use Rattle.sat_watch.specs.Watches.{SameLits}
-use Rattle.sat_watch.proofs.Orders.{lits_same}
+use Rattle.sat_propagate.specs.Watches.{SameLits}
+use Rattle.sat_propagate.proofs.Orders.{lits_same}
 use Rattle.sat_learn.specs.Analysis.{Derives}
-use Rattle.sat_unit.proofs.Consistent.{head_or_tail, none_true}
+use Rattle.sat_propagate.proofs.Consistent.{head_or_tail, none_true}
 use Rattle.sat_trail.proofs.Members.{same_is, same_self, neg_neg, or_left, or_right, or_cases, or_both, has_tail}
 use Rattle.sat_trail.proofs.Members.{has_append, without_has, without_from, union_has, union_left, union_right}
 use Rattle.sat_trail.proofs.Readings.{unit_to, unit_from, false_to, false_from}

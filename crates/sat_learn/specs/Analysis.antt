@@ -10,7 +10,7 @@ use Rattle.lrat_check.specs.Steps.{numbered, is_negative}
 use Rattle.lrat_check.specs.Resolved.{resolvent}
 use Rattle.sat_trail.specs.Clauses.{AllFalse, Within}
 use Rattle.sat_trail.specs.Trail.{Entries, lits, below, decided, is_decision, Outlasts, Stand}
-use Rattle.sat_watch.specs.Watches.{SameLits}
+use Rattle.sat_propagate.specs.Watches.{SameLits}
 
 -- the clause is false on the trail, and from any part of the trail that makes it false it is the resolvent of the
 -- hints, in some order

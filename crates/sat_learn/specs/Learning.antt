@@ -5,7 +5,7 @@ use Rattle.lrat_check.specs.Steps.{numbered, is_negative, is_empty}
 use Rattle.lrat_check.specs.Resolved.{IsResolvent, Strengthens}
 use Rattle.sat_trail.specs.Trail.{Entries, lits, Stand}
 use Rattle.sat_trail.specs.Clauses.{AllFalse, Within}
-use Rattle.sat_watch.specs.Laws.{IsOlder}
+use Rattle.sat_propagate.specs.Laws.{IsOlder}
 
 -- the clause comes of its hints, is false on the trail, and may join the others where the trail is cut to
 pub record Learns (clauses : List (List ℤ)) (clause hints : List ℤ) (trail cut : Entries) : Type 0 where

@@ -2,7 +2,7 @@
 use Rattle.std.specs.Prelude.{ℕ, ◌+◌, ◌<◌, ◌≡◌, List, ℤ, length}
 use Rattle.lrat_check.specs.Sets.{AreLits}
 use Rattle.sat_trail.specs.Trail.{place_of}
-use Rattle.sat_watch.specs.Watches.{lit_at}
+use Rattle.sat_propagate.specs.Watches.{lit_at}
 
 -- one above the place of each literal in the list is its number; no other has one
 pub record ArePlaced (set : List ℤ) (places : List ℕ) : Type 0 where

@@ -3,8 +3,8 @@ ghost use Rattle.std.specs.Prelude.{ℤ, neg_ℤ, ◌&&◌, ◌||◌, IfOk, OnOk
 ghost use Rattle.std.specs.Ordering.{int_eq};
 ghost use Rattle.lrat_check.specs.Sets.{has, reading, IsLit, AreLits};
 ghost use Rattle.sat_trail.specs.Trail.{lits, below, decided, is_decision};
-ghost use Rattle.sat_watch.specs.Watches.{is_other};
-ghost use Rattle.sat_unit.specs.Propagation.{AllLits};
+ghost use Rattle.sat_propagate.specs.Watches.{is_other};
+ghost use Rattle.sat_propagate.specs.Propagation.{AllLits};
 ghost use Rattle.sat_trail.specs.Clauses.{Within};
 ghost use Rattle.sat_learn.specs.Analysis.{Derives, Resolves, IsTraced, SameLevel, NewestIsImplied, IsConflict};
 ghost use Rattle.sat_learn.specs.Analysis.{is_unit};

@@ -1,6 +1,6 @@
 ghost use Rattle.std.specs.Prelude.{◌≡◌, ◌<◌, ◌-◌, ◌^◌, [], true, false, length, reverse, IfOk};
 ghost use Rattle.sat_trail.specs.Trail.{decided};
-ghost use Rattle.sat_unit.specs.Propagation.{AllLits};
+ghost use Rattle.sat_propagate.specs.Propagation.{AllLits};
 ghost use Rattle.sat_learn.specs.Analysis.{Derives, IsConflict};
 ghost use Rattle.sat_learn.specs.Learning.{Learns};
 
@@ -8,9 +8,8 @@ use crate::analysis::{Learnt, to_empty};
 use crate::learning::learn;
 use crate::lit_set::LitSet;
 use crate::restarts::Restarts;
-use clause_set::ClauseSet;
 use fv_base::Memory;
-use sat_trail::{ClauseList, Trail};
+use sat_trail::{ClauseList, ClauseSet, Trail};
 use std::alloc::Global;
 
 /// Learns from conflicts, and keeps from one to the next where it traces them and when the search begins anew.

@@ -2,17 +2,16 @@ ghost use Rattle.std.specs.Prelude.{◌≡◌, ◌<◌, ◌+◌, ◌-◌, ◌^�
 ghost use Rattle.std.specs.Prelude.{IfOk, IfSome};
 ghost use Rattle.lrat_check.specs.Sets.{reading, IsLit, AreLits};
 ghost use Rattle.sat_trail.specs.Trail.{lits as true_lits, below, decided, Stand};
-ghost use Rattle.sat_unit.specs.Propagation.{AllLits};
+ghost use Rattle.sat_propagate.specs.Propagation.{AllLits};
 ghost use Rattle.sat_trail.specs.Clauses.{Within};
-ghost use Rattle.sat_watch.specs.Laws.{IsOlder};
+ghost use Rattle.sat_propagate.specs.Laws.{IsOlder};
 ghost use Rattle.sat_learn.specs.Analysis.{IsConflict, FalseLast, is_unit};
 ghost use Rattle.sat_learn.specs.Learning.{Learns};
 
 use crate::analysis::{Learnt, to_unit};
 use crate::lit_set::LitSet;
-use clause_set::ClauseSet;
 use fv_base::Memory;
-use sat_trail::{ClauseList, Trail};
+use sat_trail::{ClauseList, ClauseSet, Trail};
 use std::alloc::Global;
 
 /// Of two literals that are false, one that the other doesn't outlast; a literal that isn't false doesn't count.

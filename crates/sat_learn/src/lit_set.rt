@@ -3,7 +3,7 @@ ghost use Rattle.std.specs.Prelude.{OnOk, MatchOption};
 ghost use Rattle.std.specs.Ordering.{int_eq};
 ghost use Rattle.lrat_check.specs.Sets.{has, IsLit, AreLits};
 ghost use Rattle.sat_trail.specs.Trail.{place_of};
-ghost use Rattle.sat_watch.specs.Watches.{lit_at};
+ghost use Rattle.sat_propagate.specs.Watches.{lit_at};
 
 use fv_base::Memory;
 use sat_trail::Places;

@@ -2,7 +2,7 @@ ghost use Rattle.std.specs.Prelude.{◌≡◌, ◌<◌, ◌-◌, ◌^◌, [], tr
 ghost use Rattle.std.specs.List.{list_any};
 ghost use Rattle.lrat_check.specs.Sets.{has, is_false, reading, IsLit, AreLits};
 ghost use Rattle.sat_trail.specs.Trail.{lits, below};
-ghost use Rattle.sat_unit.specs.Propagation.{AllLits};
+ghost use Rattle.sat_propagate.specs.Propagation.{AllLits};
 ghost use Rattle.sat_learn.specs.Analysis.{Resolves, is_stray, implies, is_unit};
 
 use crate::analysis::{complement, push_id};

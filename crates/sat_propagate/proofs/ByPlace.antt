@@ -9,9 +9,9 @@ use Rattle.lrat_check.specs.Sets.{has, reading, AreLits}
 use Rattle.lrat_check.specs.Resolved.{is_open}
 use Rattle.sat_trail.specs.Trail.{Entries, lits, decides, settled, Because, Stand}
 use Rattle.sat_trail.proofs.Members.{or_left, or_right, or_cases, has_tail}
-use Rattle.sat_watch.specs.Watches.{OpenBelow}
-use Rattle.sat_watch.specs.Laws.{IsOlder}
-use Rattle.sat_unit.specs.Propagation.{AllLits}
+use Rattle.sat_propagate.specs.Watches.{OpenBelow}
+use Rattle.sat_propagate.specs.Laws.{IsOlder}
+use Rattle.sat_propagate.specs.Propagation.{AllLits}
 
 pub none_some : (c : List ℤ) → None ≡ Some c → ⊥
 none_some c e = cc

@@ -6,11 +6,11 @@ use Rattle.sat_trail.specs.declared.trail.Entry.{Entry}
 use Rattle.sat_trail.specs.Trail.{Entries, is_decision, true_codes, has_code}
 use Rattle.sat_trail.proofs.Members.{or_right}
 use Rattle.sat_trail.proofs.Standing.{oldest_part}
-use Rattle.sat_watch.specs.Watching.{is_false_code, Calm, CalmBelow}
-use Rattle.sat_watch.specs.Watches.{State, Keeps}
-use Rattle.sat_watch.specs.Laws.{IsOlder}
-use Rattle.sat_watch.proofs.Quiets.{satisfied_more}
-use Rattle.sat_watch.proofs.Steps.{among_oldest}
+use Rattle.sat_propagate.specs.Watching.{is_false_code, Calm, CalmBelow}
+use Rattle.sat_propagate.specs.Watches.{State, Keeps}
+use Rattle.sat_propagate.specs.Laws.{IsOlder}
+use Rattle.sat_propagate.proofs.Quiets.{satisfied_more}
+use Rattle.sat_propagate.proofs.Steps.{among_oldest}
 
 -- an entry comes; a decision where all is calm
 pub pushed_on : (w : State) (t : Entries) (e : Entry) → Keeps w t → w.head ≤ length t

@@ -15,11 +15,11 @@ use Rattle.lrat_check.proofs.Codes.{lit_code, code_lit, flip_code}
 use Rattle.sat_trail.proofs.Codes.{codes_has}
 use Rattle.sat_trail.proofs.Members.{same_is, same_self, or_cases, none_at}
 use Rattle.sat_trail.proofs.Readings.{Two, open_from}
-use Rattle.sat_watch.specs.Watching.{is_false_code, satisfied, AllFalseCodes, AloneCode, Calm}
-use Rattle.sat_watch.specs.Watching.{Stops}
-use Rattle.sat_watch.specs.Watches.{Forced, Sees, scan_at}
-use Rattle.sat_watch.proofs.Quiets.{eq_is, eq_self}
-use Rattle.sat_watch.proofs.Looks.{has_index}
+use Rattle.sat_propagate.specs.Watching.{is_false_code, satisfied, AllFalseCodes, AloneCode, Calm}
+use Rattle.sat_propagate.specs.Watching.{Stops}
+use Rattle.sat_propagate.specs.Watches.{Forced, Sees, scan_at}
+use Rattle.sat_propagate.proofs.Quiets.{eq_is, eq_self}
+use Rattle.sat_propagate.proofs.Looks.{has_index}
 
 -- a clause that has all its codes from literals
 codes_back : (c : List ℕ) → AreLits (lits_of c) → codes_of (lits_of c) ≡ c

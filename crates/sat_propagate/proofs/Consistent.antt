@@ -14,7 +14,7 @@ use Rattle.sat_trail.specs.Trail.{Entries, lits, Stand}
 use Rattle.sat_trail.specs.Clauses.{NoneTrue, AllFalse, Within}
 use Rattle.sat_trail.proofs.Members.{same_is, neg_neg, or_cases, any_from, any_has}
 use Rattle.sat_trail.proofs.Readings.{false_from, unit_from, open_to, open_from}
-use Rattle.sat_watch.specs.Watches.{Forced, SameLits, OneAlone}
+use Rattle.sat_propagate.specs.Watches.{Forced, SameLits, OneAlone}
 
 pub head_or_tail : (e : Entry) (t : Entries) (x : ℤ) → has (lits (e ∷ t)) x ≡ true
     → (x ≡ e.lit) ⊎ (has (lits t) x ≡ true)

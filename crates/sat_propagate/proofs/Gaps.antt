@@ -6,11 +6,11 @@ use Rattle.std.proofs.lemmas.Bool.{false≢true}
 use Rattle.lrat_check.specs.Store.{Clauses, Coded, coded, next, with_code, without_code, Removes}
 use Rattle.sat_trail.specs.Trail.{Entries, oldest, true_codes}
 use Rattle.sat_trail.proofs.Members.{or_cases}
-use Rattle.sat_watch.specs.declared.watch.Watch.{Watch}
-use Rattle.sat_watch.specs.Watching.{lists_of, is_listed, Watched, CalmBelow, Fits, AreFit, Ready}
-use Rattle.sat_watch.specs.Watches.{State, Keeps}
-use Rattle.sat_watch.proofs.Quiets.{eq_is, eq_self}
-use Rattle.sat_watch.proofs.Readies.{all_map}
+use Rattle.sat_propagate.specs.declared.watch.Watch.{Watch}
+use Rattle.sat_propagate.specs.Watching.{lists_of, is_listed, Watched, CalmBelow, Fits, AreFit, Ready}
+use Rattle.sat_propagate.specs.Watches.{State, Keeps}
+use Rattle.sat_propagate.proofs.Quiets.{eq_is, eq_self}
+use Rattle.sat_propagate.proofs.Readies.{all_map}
 
 none_some : (c : List ℕ) → None ≡ Some c → ⊥
 none_some c e = cc

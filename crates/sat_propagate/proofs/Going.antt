@@ -4,12 +4,12 @@ use Rattle.std.proofs.Common.{length-append, arith}
 use Rattle.lrat_check.specs.Store.{coded}
 use Rattle.sat_trail.specs.declared.trail.Entry.{Entry}
 use Rattle.sat_trail.specs.Trail.{Entries, lits, is_decision, true_codes, Stand}
-use Rattle.sat_watch.specs.Laws.{IsOlder}
-use Rattle.sat_watch.specs.Watching.{Calm}
-use Rattle.sat_watch.proofs.Changes.{pushed_on, cut_on}
-use Rattle.sat_unit.specs.Propagation.{Taken, Holds}
-use Rattle.sat_unit.proofs.Consistent.{alone_true}
-use Rattle.sat_unit.proofs.ByPlace.{get_more, get_less, settled_at, settled_older, any_more}
+use Rattle.sat_propagate.specs.Laws.{IsOlder}
+use Rattle.sat_propagate.specs.Watching.{Calm}
+use Rattle.sat_propagate.proofs.Changes.{pushed_on, cut_on}
+use Rattle.sat_propagate.specs.Propagation.{Taken, Holds}
+use Rattle.sat_propagate.proofs.Consistent.{alone_true}
+use Rattle.sat_propagate.proofs.ByPlace.{get_more, get_less, settled_at, settled_older, any_more}
 
 -- an entry comes behind all that were gone through
 pub goes_on : (cs : List (List ℤ)) (t : Entries) (p : Taken) (e : Entry) → Holds cs t p → p.watches.head ≤ length t

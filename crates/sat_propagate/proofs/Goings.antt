@@ -1,13 +1,13 @@
 -- A list of watches is gone through.
 use Rattle.std.proofs.Common.{◌≡◌, ℕ, List, [], ◌∷◌, ◌++◌, subst}
 use Rattle.lrat_check.specs.Store.{Coded}
-use Rattle.sat_watch.specs.declared.watch.Watch.{Watch}
-use Rattle.sat_watch.specs.Watching.{Lists, Watched, Fits, AreFit, Going}
-use Rattle.sat_watch.specs.declared.visit.Visit.{Visit}
-use Rattle.sat_watch.specs.declared.visit.Visit.TheVariants as visit
-use Rattle.sat_watch.specs.Watching.{KeepsFit, Passes, KeepsCalm, Visits, Forces, IsFalse}
-use Rattle.sat_watch.proofs.Quiets.{turned, renewed}
-use Rattle.sat_watch.proofs.Readies.{all_front, all_map}
+use Rattle.sat_propagate.specs.declared.watch.Watch.{Watch}
+use Rattle.sat_propagate.specs.Watching.{Lists, Watched, Fits, AreFit, Going}
+use Rattle.sat_propagate.specs.declared.visit.Visit.{Visit}
+use Rattle.sat_propagate.specs.declared.visit.Visit.TheVariants as visit
+use Rattle.sat_propagate.specs.Watching.{KeepsFit, Passes, KeepsCalm, Visits, Forces, IsFalse}
+use Rattle.sat_propagate.proofs.Quiets.{turned, renewed}
+use Rattle.sat_propagate.proofs.Readies.{all_front, all_map}
 
 -- one watch more was dealt with
 pub going_on : (held middle now : Coded) (lists between lists_now : Lists) (set : List ℕ) (code : ℕ)

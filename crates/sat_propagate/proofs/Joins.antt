@@ -16,14 +16,14 @@ use Rattle.sat_trail.specs.Trail.{Entries, lits, oldest, true_codes, has_code, O
 use Rattle.sat_trail.proofs.Codes.{codes_has}
 use Rattle.sat_trail.proofs.Members.{same_is, same_self, or_left, has_tail, any_has}
 use Rattle.sat_trail.proofs.Readings.{Two, open_to}
-use Rattle.sat_watch.specs.declared.watch.Watch.{Watch}
-use Rattle.sat_watch.specs.Watching.{is_false_code, Among, satisfied, Lists, is_listed, with_watch, Quiet, Watched}
-use Rattle.sat_watch.specs.Watching.{CalmBelow, Fits, AreFit, Ready}
-use Rattle.sat_watch.specs.Watches.{SameLits, Leads, OpenBelow}
-use Rattle.sat_watch.proofs.Quiets.{eq_is, eq_self, some_is, stays, joins}
-use Rattle.sat_watch.proofs.Readies.{all_map, ready_push}
-use Rattle.sat_watch.proofs.Visits.{satisfies}
-use Rattle.sat_watch.proofs.Closings.{false_lits}
+use Rattle.sat_propagate.specs.declared.watch.Watch.{Watch}
+use Rattle.sat_propagate.specs.Watching.{is_false_code, Among, satisfied, Lists, is_listed, with_watch, Quiet, Watched}
+use Rattle.sat_propagate.specs.Watching.{CalmBelow, Fits, AreFit, Ready}
+use Rattle.sat_propagate.specs.Watches.{SameLits, Leads, OpenBelow}
+use Rattle.sat_propagate.proofs.Quiets.{eq_is, eq_self, some_is, stays, joins}
+use Rattle.sat_propagate.proofs.Readies.{all_map, ready_push}
+use Rattle.sat_propagate.proofs.Visits.{satisfies}
+use Rattle.sat_propagate.proofs.Closings.{false_lits}
 
 never_true : (o : Option ℤ) (other : ℤ → Bool) → reading_of o other ≡ read.True → ⊥
 never_true None other e = cc

@@ -10,20 +10,21 @@ use Rattle.lrat_check.specs.Store.{Clauses, Coded, coded, next, held_of, with_co
 use Rattle.lrat_check.proofs.Codes.{lit_code, flip_code}
 use Rattle.sat_trail.proofs.Codes.{same_at}
 use Rattle.sat_trail.specs.Trail.{Entries, lits, oldest, true_codes, IsNext}
-use Rattle.sat_watch.specs.declared.watch.Watch.{Watch}
+use Rattle.sat_propagate.specs.declared.watch.Watch.{Watch}
 use Rattle.std.specs.Prelude.{MatchOption}
-use Rattle.sat_watch.specs.declared.visit.Stop.{Stop}
-use Rattle.sat_watch.specs.declared.scan.Scan.{Scan}
-use Rattle.sat_watch.specs.declared.scan.Scan.TheVariants as scan
-use Rattle.sat_watch.specs.Watching.{is_false_code, lists_of, with_watch, taken, joined, Watched, AreFit, Ready}
-use Rattle.sat_watch.specs.Watching.{Going, Stops}
-use Rattle.sat_watch.specs.Watches.{State, Keeps, Sees, CalmWhere, Finds, SameLits, Leads, OpenBelow, lit_at, scan_at}
-use Rattle.sat_watch.proofs.ListSteps.{put_none}
-use Rattle.sat_watch.proofs.Quiets.{puts_back}
-use Rattle.sat_watch.proofs.Readies.{ready_take, ready_back}
-use Rattle.sat_watch.proofs.Steps.{among_self, among_oldest, among_fewer, begins, below_on, all_calm}
-use Rattle.sat_watch.proofs.Joins.{below_more, watched_more, fit_more, ready_more, code_at, lit_there, has_place}
-use Rattle.sat_watch.proofs.Closings.{false_lits, seen_at, closes}
+use Rattle.sat_propagate.specs.declared.visit.Stop.{Stop}
+use Rattle.sat_propagate.specs.declared.watch_scan.Scan.{Scan}
+use Rattle.sat_propagate.specs.declared.watch_scan.Scan.TheVariants as scan
+use Rattle.sat_propagate.specs.Watching.{is_false_code, lists_of, with_watch, taken, joined, Watched, AreFit, Ready}
+use Rattle.sat_propagate.specs.Watching.{Going, Stops}
+use Rattle.sat_propagate.specs.Watches.{State, Keeps, Sees, CalmWhere, Finds, SameLits, Leads, OpenBelow, lit_at}
+use Rattle.sat_propagate.specs.Watches.{scan_at}
+use Rattle.sat_propagate.proofs.ListSteps.{put_none}
+use Rattle.sat_propagate.proofs.Quiets.{puts_back}
+use Rattle.sat_propagate.proofs.Readies.{ready_take, ready_back}
+use Rattle.sat_propagate.proofs.Steps.{among_self, among_oldest, among_fewer, begins, below_on, all_calm}
+use Rattle.sat_propagate.proofs.Joins.{below_more, watched_more, fit_more, ready_more, code_at, lit_there, has_place}
+use Rattle.sat_propagate.proofs.Closings.{false_lits, seen_at, closes}
 
 abs_neg : (x : ℤ) → unsigned_abs (neg_ℤ x) ≡ unsigned_abs x
 abs_neg (pos zero) = refl

@@ -5,9 +5,9 @@ use mathlib.Core.Path.{fun_ext}
 use Rattle.std.proofs.Math.ListN.{set}
 use Rattle.std.specs.Global.{Vec}
 use Rattle.std.proofs.lemmas.Bool.{cases_Bool}
-use Rattle.sat_watch.specs.declared.watch.Watch.{Watch}
-use Rattle.sat_watch.specs.Watching.{Lists, with_watch, taken, joined, lists_of, items_of}
-use Rattle.sat_watch.proofs.Quiets.{eq_is}
+use Rattle.sat_propagate.specs.declared.watch.Watch.{Watch}
+use Rattle.sat_propagate.specs.Watching.{Lists, with_watch, taken, joined, lists_of, items_of}
+use Rattle.sat_propagate.proofs.Quiets.{eq_is}
 
 apart : (x : ℕ) → eqb 0 (suc x) ≡ false
 apart x = grind arith

@@ -28,8 +28,8 @@ use Rattle.lrat_check.specs.Codes.{lit_of, lits_of}
 use Rattle.lrat_check.specs.Sets.{IsLit, AreLits}
 use Rattle.sat_trail.specs.Trail.{has_code}
 use Rattle.sat_trail.proofs.Members.{or_left, or_right, or_cases}
-use Rattle.sat_watch.specs.Watching.{is_false_code, NoneFrom}
-use Rattle.sat_watch.proofs.Quiets.{eq_is, eq_self}
+use Rattle.sat_propagate.specs.Watching.{is_false_code, NoneFrom}
+use Rattle.sat_propagate.proofs.Quiets.{eq_is, eq_self}
 
 pub at_index : (c : List ℕ) (x : ℕ) → has_code c x ≡ true → (i : ℕ) × (i < length c) × (get_or c i 0 ≡ x)
 at_index [] x h = absurd (false≢true h)

@@ -12,7 +12,7 @@ use Rattle.std.proofs.lemmas.List.Edits.{swapped_from_swap, length-swap}
 use Rattle.lrat_check.specs.Sets.{has, IsLit, AreLits}
 use Rattle.sat_trail.specs.Trail.{Entries, Outlasts}
 use Rattle.sat_trail.proofs.Members.{same_is, same_self, or_cases, has_head, has_tail}
-use Rattle.sat_watch.specs.Watches.{lit_at, SameLits, Latest, Leads, OneAlone}
+use Rattle.sat_propagate.specs.Watches.{lit_at, SameLits, Latest, Leads, OneAlone}
 
 pub lit_from : (c : List ℤ) (x : ℤ) → AreLits c → has c x ≡ true → IsLit x
 lit_from [] x a h = absurd (false≢true h)

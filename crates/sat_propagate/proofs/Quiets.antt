@@ -10,8 +10,8 @@ use Rattle.lrat_check.specs.Codes.{flip}
 use Rattle.lrat_check.specs.Store.{Coded, with_code}
 use Rattle.sat_trail.specs.Trail.{has_code}
 use Rattle.sat_trail.proofs.Members.{or_left, or_right, or_cases}
-use Rattle.sat_watch.specs.declared.watch.Watch.{Watch}
-use Rattle.sat_watch.specs.Watching.{
+use Rattle.sat_propagate.specs.declared.watch.Watch.{Watch}
+use Rattle.sat_propagate.specs.Watching.{
   is_false_code,
   Among,
   satisfied,

@@ -10,12 +10,13 @@ use Rattle.lrat_check.specs.Sets.{IsLit, AreLits}
 use Rattle.lrat_check.specs.Store.{Coded, with_code}
 use Rattle.sat_trail.specs.Trail.{has_code}
 use Rattle.sat_trail.proofs.Members.{or_left, or_right}
-use Rattle.sat_watch.specs.declared.watch.Watch.{Watch}
-use Rattle.sat_watch.specs.Watching.{Lists, with_watch, taken, joined, Fits, AreFit, Ready, KeepsFit, MovesTo, Alike}
-use Rattle.sat_watch.specs.Watching.{SameHeld}
-use Rattle.sat_watch.proofs.Quiets.{eq_is, eq_self, some_is}
-use Rattle.sat_watch.proofs.Looks.{has_index}
-use Rattle.sat_watch.proofs.Visits.{lit_at}
+use Rattle.sat_propagate.specs.declared.watch.Watch.{Watch}
+use Rattle.sat_propagate.specs.Watching.{Lists, with_watch, taken, joined, Fits, AreFit, Ready, KeepsFit, MovesTo}
+use Rattle.sat_propagate.specs.Watching.{Alike}
+use Rattle.sat_propagate.specs.Watching.{SameHeld}
+use Rattle.sat_propagate.proofs.Quiets.{eq_is, eq_self, some_is}
+use Rattle.sat_propagate.proofs.Looks.{has_index}
+use Rattle.sat_propagate.proofs.Visits.{lit_at}
 
 -- what holds of each of them holds of the last
 pub all_last : (P : Watch → Type 0) (ws : List Watch) (v : Watch) → AllByRecursion P ws → P v

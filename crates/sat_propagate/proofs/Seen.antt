@@ -9,11 +9,11 @@ use Rattle.lrat_check.specs.Sets.{has, AreLits}
 use Rattle.lrat_check.specs.Resolved.{Closed}
 use Rattle.lrat_check.specs.Store.{coded, literals, held_of, next}
 use Rattle.sat_trail.specs.Trail.{Entries, lits, settled, has_code, Stand}
-use Rattle.sat_watch.specs.declared.scan.Scan.TheVariants as look
-use Rattle.sat_watch.specs.Watching.{Alike, SameHeld}
-use Rattle.sat_watch.specs.Watches.{State, Keeps, Sees as Looks, SameLits}
-use Rattle.sat_watch.proofs.Closings.{has_lits}
-use Rattle.sat_watch.proofs.Orders.{lit_from}
+use Rattle.sat_propagate.specs.declared.watch_scan.Scan.TheVariants as look
+use Rattle.sat_propagate.specs.Watching.{Alike, SameHeld}
+use Rattle.sat_propagate.specs.Watches.{State, Keeps, Sees as Looks, SameLits}
+use Rattle.sat_propagate.proofs.Closings.{has_lits}
+use Rattle.sat_propagate.proofs.Orders.{lit_from}
 use Rattle.sat_trail.proofs.Codes.{lit_kept}
 use Rattle.sat_trail.proofs.Readings.{unit_to}
 use Rattle.lrat_check.specs.declared.reading.Reading.TheVariants as read
@@ -21,10 +21,10 @@ use Rattle.std.proofs.Common.{w64, to_z, of_z, get_or}
 use Rattle.std.proofs.lemmas.List.{get_or_read}
 use Rattle.lrat_check.specs.Sets.{reading}
 use Rattle.std.proofs.lemmas.Bool.{cases_eq}
-use Rattle.sat_unit.specs.declared.scan.Scan.TheVariants as scan
-use Rattle.sat_unit.specs.Propagation.{AllLits, Taken, Holds, Sees, IsShort, IsTrueAt, place_at}
-use Rattle.sat_unit.proofs.Consistent.{true_reads, reads_false, reads_unit, reads_open}
-use Rattle.sat_unit.proofs.ByPlace.{same_clause, lits_at, get_below, each_settled}
+use Rattle.sat_propagate.specs.declared.unit_scan.Scan.TheVariants as scan
+use Rattle.sat_propagate.specs.Propagation.{AllLits, Taken, Holds, Sees, IsShort, IsTrueAt, place_at}
+use Rattle.sat_propagate.proofs.Consistent.{true_reads, reads_false, reads_unit, reads_open}
+use Rattle.sat_propagate.proofs.ByPlace.{same_clause, lits_at, get_below, each_settled}
 
 same_lits : (a b : List ℕ) → AreLits (lits_of a) → AreLits (lits_of b)
     → ((x : ℕ) → has_code a x ≡ has_code b x) → SameLits (lits_of a) (lits_of b)

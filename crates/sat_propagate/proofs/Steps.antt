@@ -10,10 +10,10 @@ use Rattle.lrat_check.proofs.Codes.{lit_code}
 use Rattle.sat_trail.specs.Trail.{Entries, oldest, true_codes, has_code, IsNext}
 use Rattle.sat_trail.proofs.Members.{or_left, or_right, or_cases}
 use Rattle.sat_trail.proofs.Standing.{oldest_whole}
-use Rattle.sat_watch.specs.declared.watch.Watch.{Watch}
-use Rattle.sat_watch.specs.Watching.{is_false_code, Among, satisfied, Lists, is_listed, taken, Watched}
-use Rattle.sat_watch.specs.Watching.{Calm, CalmBelow}
-use Rattle.sat_watch.proofs.Quiets.{eq_is, eq_self, ends}
+use Rattle.sat_propagate.specs.declared.watch.Watch.{Watch}
+use Rattle.sat_propagate.specs.Watching.{is_false_code, Among, satisfied, Lists, is_listed, taken, Watched}
+use Rattle.sat_propagate.specs.Watching.{Calm, CalmBelow}
+use Rattle.sat_propagate.proofs.Quiets.{eq_is, eq_self, ends}
 
 pub flip_flip : (n : ℕ) → flip (flip n) ≡ n
 flip_flip n = grind arith

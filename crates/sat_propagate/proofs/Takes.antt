@@ -9,10 +9,10 @@ use Rattle.lrat_check.specs.Codes.{codes_of}
 use Rattle.lrat_check.specs.Store.{coded, literals, held_of, next, with_code}
 use Rattle.lrat_check.proofs.Codes.{lits_codes}
 use Rattle.sat_trail.specs.Trail.{Entries, lits}
-use Rattle.sat_watch.specs.Watches.{State, Keeps, SameLits, OneAlone}
-use Rattle.sat_watch.proofs.Quiets.{eq_is, eq_self}
-use Rattle.sat_unit.specs.Propagation.{Taken, Holds, IsShort, IsTrueAt, place_at}
-use Rattle.sat_unit.proofs.ByPlace.{some_is, same_clause}
+use Rattle.sat_propagate.specs.Watches.{State, Keeps, SameLits, OneAlone}
+use Rattle.sat_propagate.proofs.Quiets.{eq_is, eq_self}
+use Rattle.sat_propagate.specs.Propagation.{Taken, Holds, IsShort, IsTrueAt, place_at}
+use Rattle.sat_propagate.proofs.ByPlace.{some_is, same_clause}
 
 literals_cond : (b : Bool) (c : List ℤ) (rest : Option (List ℕ)) → b ≡ true
     → literals (cond b (Some (codes_of c)) rest) ≡ Some c

@@ -8,10 +8,10 @@ use Rattle.lrat_check.specs.Sets.{IsLit, AreLits}
 use Rattle.lrat_check.specs.Store.{Coded, with_code}
 use Rattle.sat_trail.specs.Trail.{has_code}
 use Rattle.sat_trail.proofs.Members.{or_left, or_right, or_cases}
-use Rattle.sat_watch.specs.declared.watch.Watch.{Watch}
-use Rattle.sat_watch.specs.Watching.{Among, satisfied, Lists, with_watch, Watched, Calm, MovesTo}
-use Rattle.sat_watch.specs.Watching.{Passes, KeepsCalm}
-use Rattle.sat_watch.proofs.Quiets.{eq_is, some_is, pushes, drops, moves, calm_kept, Moves}
+use Rattle.sat_propagate.specs.declared.watch.Watch.{Watch}
+use Rattle.sat_propagate.specs.Watching.{Among, satisfied, Lists, with_watch, Watched, Calm, MovesTo}
+use Rattle.sat_propagate.specs.Watching.{Passes, KeepsCalm}
+use Rattle.sat_propagate.proofs.Quiets.{eq_is, some_is, pushes, drops, moves, calm_kept, Moves}
 
 -- a literal of the clause that is true satisfies it
 pub satisfies : (set c : List ℕ) (x : ℕ) → has_code c x ≡ true → has_code set x ≡ true → satisfied set c ≡ true

@@ -3,8 +3,8 @@ use Rattle.std.specs.Prelude.{◌≡◌, ◌≤◌, ◌⊎◌, true, [], ◌∷�
 use Rattle.lrat_check.specs.Store.{coded}
 use Rattle.sat_trail.specs.declared.trail.Entry.{Entry}
 use Rattle.sat_trail.specs.Trail.{Entries, is_decision, true_codes}
-use Rattle.sat_watch.specs.Watching.{Calm}
-use Rattle.sat_watch.specs.Watches.{State, Keeps}
+use Rattle.sat_propagate.specs.Watching.{Calm}
+use Rattle.sat_propagate.specs.Watches.{State, Keeps}
 
 -- an entry may come behind all that were gone through; a decision where all is calm
 abbrev pub KeptAsEntriesCome : Type 0

@@ -23,9 +23,9 @@ use Rattle.lrat_check.specs.Steps.{Held}
 use Rattle.lrat_check.specs.Store.{next, held_of}
 use Rattle.sat_trail.specs.declared.trail.Entry.{Entry}
 use Rattle.sat_trail.specs.Trail.{Entries, lits, is_decision, settled}
-use Rattle.sat_watch.specs.Watches.{State, Keeps, SameLits, OneAlone}
-use Rattle.sat_unit.specs.declared.scan.Scan.{Scan}
-use Rattle.sat_unit.specs.declared.scan.Scan.TheVariants as scan
+use Rattle.sat_propagate.specs.Watches.{State, Keeps, SameLits, OneAlone}
+use Rattle.sat_propagate.specs.declared.unit_scan.Scan.{Scan}
+use Rattle.sat_propagate.specs.declared.unit_scan.Scan.TheVariants as scan
 
 -- the literals of each clause have complements
 abbrev pub AllLits : List (List ℤ) → Type 0

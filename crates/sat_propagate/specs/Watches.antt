@@ -24,10 +24,10 @@ use Rattle.lrat_check.specs.Resolved.{is_open, Closed}
 use Rattle.lrat_check.specs.Store.{Clauses, Coded, coded, next, held_of, with_code}
 use Rattle.sat_trail.specs.Clauses.{AllFalse}
 use Rattle.sat_trail.specs.Trail.{Entries, lits, oldest, is_decision, true_codes, Outlasts}
-use Rattle.sat_watch.specs.declared.watch.Watch.{Watch}
-use Rattle.sat_watch.specs.declared.scan.Scan.{Scan}
-use Rattle.sat_watch.specs.declared.scan.Scan.TheVariants as scan
-use Rattle.sat_watch.specs.Watching.{lists_of, Watched, Calm, CalmBelow, Ready, AreFit}
+use Rattle.sat_propagate.specs.declared.watch.Watch.{Watch}
+use Rattle.sat_propagate.specs.declared.watch_scan.Scan.{Scan}
+use Rattle.sat_propagate.specs.declared.watch_scan.Scan.TheVariants as scan
+use Rattle.sat_propagate.specs.Watching.{lists_of, Watched, Calm, CalmBelow, Ready, AreFit}
 
 -- the clauses; the watches of each literal; how many entries of the trail were gone through; the literal whose list is
 -- gone through, and what is left of it

@@ -24,11 +24,11 @@ use Rattle.lrat_check.specs.Codes.{flip, lit_of, lits_of}
 use Rattle.lrat_check.specs.Sets.{IsLit, AreLits}
 use Rattle.lrat_check.specs.Store.{Coded}
 use Rattle.sat_trail.specs.Trail.{Entries, is_decision, true_codes, has_code}
-use Rattle.sat_watch.specs.declared.watch.Watch.{Watch}
-use Rattle.sat_watch.specs.declared.look.Sight.{Sight}
-use Rattle.sat_watch.specs.declared.look.Sight.TheVariants as sight
-use Rattle.sat_watch.specs.declared.visit.Visit.{Visit}
-use Rattle.sat_watch.specs.declared.visit.Visit.TheVariants as visit
+use Rattle.sat_propagate.specs.declared.watch.Watch.{Watch}
+use Rattle.sat_propagate.specs.declared.look.Sight.{Sight}
+use Rattle.sat_propagate.specs.declared.look.Sight.TheVariants as sight
+use Rattle.sat_propagate.specs.declared.visit.Visit.{Visit}
+use Rattle.sat_propagate.specs.declared.visit.Visit.TheVariants as visit
 
 -- the code of the complement is in the set
 abbrev pub is_false_code : List ℕ → ℕ → Bool

@@ -1,6 +1,6 @@
 //! What is kept between two looks, each as a clause of a function that does nothing.
 
-ghost use Rattle.sat_watch.specs.Laws as laws;
+ghost use Rattle.sat_propagate.specs.Laws as laws;
 
 /// An entry may come behind all that were gone through; a decision only where all is calm, as it is where `next` finds
 /// all settled.

@@ -1,5 +1,5 @@
 ghost use Rattle.std.specs.Prelude.{◌≡◌, ◌<◌, [], length, OnOk};
-ghost use Rattle.sat_watch.specs.Watching.{with_watch, taken, joined, lists_of, items_of};
+ghost use Rattle.sat_propagate.specs.Watching.{with_watch, taken, joined, lists_of, items_of};
 
 use crate::watch::Watch;
 use fv_base::Memory;
@@ -15,8 +15,8 @@ pub(crate) struct Lists {
 
 impl Model for Lists {
     ghost use Rattle.std.specs.Prelude.{List};
-    ghost use Rattle.sat_watch.specs.declared.watch.Watch.{Watch};
-    ghost use Rattle.sat_watch.specs.Watching.{items_of};
+    ghost use Rattle.sat_propagate.specs.declared.watch.Watch.{Watch};
+    ghost use Rattle.sat_propagate.specs.Watching.{items_of};
 
     ghost Value = { List (List Watch) };
 

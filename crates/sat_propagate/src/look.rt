@@ -2,7 +2,7 @@ ghost use Rattle.std.specs.Prelude.{◌≡◌, ◌<◌, ◌-◌, length, true, M
 ghost use Rattle.lrat_check.specs.Codes.{lits_of};
 ghost use Rattle.lrat_check.specs.Sets.{AreLits};
 ghost use Rattle.sat_trail.specs.Trail.{true_codes};
-ghost use Rattle.sat_watch.specs.Watching.{is_false_code, at_place, NoneFrom, Free, Looks};
+ghost use Rattle.sat_propagate.specs.Watching.{is_false_code, at_place, NoneFrom, Free, Looks};
 
 use sat_trail::Trail;
 

@@ -1,7 +1,7 @@
 ghost use Rattle.std.specs.Prelude.{◌≡◌, ◌+◌, ◌<◌, true, ℤ, length, MatchBool};
 ghost use Rattle.lrat_check.specs.Sets.{has, AreLits};
 ghost use Rattle.sat_trail.specs.Trail.{Outlasts};
-ghost use Rattle.sat_watch.specs.Watches.{is_other, lit_at, Latest, Leads, OneAlone, SameLits};
+ghost use Rattle.sat_propagate.specs.Watches.{is_other, lit_at, Latest, Leads, OneAlone, SameLits};
 
 use sat_trail::Trail;
 

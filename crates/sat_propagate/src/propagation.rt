@@ -2,13 +2,14 @@ ghost use Rattle.std.specs.Prelude.{◌≡◌, ◌<◌, ◌+◌, List, ℤ, [], 
 ghost use Rattle.lrat_check.specs.Resolved.{Closed};
 ghost use Rattle.lrat_check.specs.Store.{held_of};
 ghost use Rattle.sat_trail.specs.Trail.{lits, Stand};
-ghost use Rattle.sat_unit.specs.Propagation.{AllLits, Sees, Holds, HoldsOn};
+ghost use Rattle.sat_propagate.specs.Propagation.{AllLits, Sees, Holds, HoldsOn};
 
-use crate::scan::Scan;
+use crate::unit_scan::Scan;
+use crate::watch_scan::Scan as Look;
+use crate::watches::Watches;
 use fv_base::Memory;
 use lrat_check::Reading;
 use sat_trail::{ClauseList, Trail};
-use sat_watch::{Scan as Look, Watches};
 use std::alloc::Global;
 use std::marker::Model;
 
@@ -25,7 +26,7 @@ pub struct Propagation {
 }
 
 impl Model for Propagation {
-    ghost use Rattle.sat_unit.specs.Propagation.{Taken};
+    ghost use Rattle.sat_propagate.specs.Propagation.{Taken};
 
     ghost Value = { Taken };
 

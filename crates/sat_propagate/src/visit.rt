@@ -1,8 +1,9 @@
 ghost use Rattle.std.specs.Prelude.{◌≡◌, [], List, ℕ, true, false, IfOk, OnOk, MatchOption};
 ghost use Rattle.lrat_check.specs.Store.{Coded, coded, next};
 ghost use Rattle.sat_trail.specs.Trail.{true_codes};
-ghost use Rattle.sat_watch.specs.Watching.{is_false_code, lists_of, Watched, Fits, AreFit, Ready, Visits, KeepsCalm};
-ghost use Rattle.sat_watch.specs.Watching.{KeepsFit, SameHeld, Going, IsFalse, Forces, Stops};
+ghost use Rattle.sat_propagate.specs.Watching.{is_false_code, lists_of, Watched, Fits, AreFit, Ready, Visits};
+ghost use Rattle.sat_propagate.specs.Watching.{KeepsCalm};
+ghost use Rattle.sat_propagate.specs.Watching.{KeepsFit, SameHeld, Going, IsFalse, Forces, Stops};
 
 use crate::lists::Lists;
 use crate::look::{Sight, look};

@@ -1,5 +1,5 @@
 ghost use Rattle.std.specs.Prelude.{◌≡◌, IfOk};
-ghost use Rattle.sat_watch.specs.Watching.{watch_at};
+ghost use Rattle.sat_propagate.specs.Watching.{watch_at};
 
 use fv_base::Memory;
 

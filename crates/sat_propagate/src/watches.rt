@@ -3,14 +3,14 @@ ghost use Rattle.lrat_check.specs.Codes.{lit_of};
 ghost use Rattle.lrat_check.specs.Sets.{IsLit, AreLits};
 ghost use Rattle.lrat_check.specs.Store.{coded, held_of, next};
 ghost use Rattle.sat_trail.specs.Trail.{lits, true_codes, IsNext};
-ghost use Rattle.sat_watch.specs.Watching.{is_false_code, SameHeld};
-ghost use Rattle.sat_watch.specs.Watches.{Keeps, Sees, CalmWhere, Finds, scan_at, OpenBelow, Adds};
+ghost use Rattle.sat_propagate.specs.Watching.{is_false_code, SameHeld};
+ghost use Rattle.sat_propagate.specs.Watches.{Keeps, Sees, CalmWhere, Finds, scan_at, OpenBelow, Adds};
 
 use crate::lists::Lists;
 use crate::order::order;
-use crate::scan::Scan;
 use crate::visit::{Stop, visit_list};
 use crate::watch::{Watch, watch_of};
+use crate::watch_scan::Scan;
 use fv_base::Memory;
 use lrat_check::{Store, code_of, flip, lit_of};
 use sat_trail::Trail;
@@ -31,7 +31,7 @@ pub struct Watches {
 }
 
 impl Model for Watches {
-    ghost use Rattle.sat_watch.specs.Watches.{State};
+    ghost use Rattle.sat_propagate.specs.Watches.{State};
 
     ghost Value = { State };
 

@@ -3,7 +3,7 @@ use Rattle.std.proofs.Common.{ℕ, ◌^◌, ◌<◌, List, [], ◌∷◌}
 use Rattle.lrat_check.specs.declared.step.Step.{Step}
 use Rattle.lrat_check.specs.declared.step.Step.TheVariants.{Add, Delete}
 use Rattle.lrat_check.specs.Steps.{AreSteps}
-use Rattle.sat_ledger.specs.Added.{AreAdded}
+use Rattle.sat_search.specs.Added.{AreAdded}
 use Rattle.sat_search.proofs.Literals.{lits_of}
 
 pub are_steps : (vars : ℕ) (steps : List Step) → vars < 2 ^ 63 → AreAdded vars steps → AreSteps steps

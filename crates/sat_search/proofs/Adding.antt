@@ -17,14 +17,14 @@ use Rattle.lrat_check.specs.Sets.{same_set, negs}
 use Rattle.lrat_check.specs.Steps.{Held, numbered, with_clause, is_empty, add_fault, judged, Refutes}
 use Rattle.lrat_check.specs.Resolved.{IsResolvent, Strengthens, Resolved, derived_from, consistent}
 use Rattle.lrat_check.proofs.Sound.{verdict_adds, verdict_empty}
-use Rattle.clause_set.specs.Known.{contains}
-use Rattle.clause_set.proofs.Same.{contains_same}
-use Rattle.sat_ledger.specs.Added.{AreAdded}
-use Rattle.sat_ledger.specs.Ledger.{State, by_ids, IsAmong, HoldsBy, Tells, Adds}
-use Rattle.sat_ledger.proofs.Named.{never_negative, resolvent_by_ids, strengthens_by_ids}
-use Rattle.sat_ledger.proofs.Places.{push_cases, push_left, push_last}
-use Rattle.sat_ledger.proofs.Starting.{among_any}
-use Rattle.sat_ledger.proofs.Walks.{walks_to, accepted}
+use Rattle.sat_trail.specs.Known.{contains}
+use Rattle.sat_trail.proofs.Same.{contains_same}
+use Rattle.sat_search.specs.Added.{AreAdded}
+use Rattle.sat_search.specs.Ledger.{State, by_ids, IsAmong, HoldsBy, Tells, Adds}
+use Rattle.sat_search.proofs.Named.{never_negative, resolvent_by_ids, strengthens_by_ids}
+use Rattle.sat_search.proofs.Places.{push_cases, push_left, push_last}
+use Rattle.sat_search.proofs.Starting.{among_any}
+use Rattle.sat_search.proofs.Walks.{walks_to, accepted}
 
 pub clauses_more : (vars : ℕ) (cs : List (List ℤ)) (r : List ℤ) → AreClauses vars cs → AreLiterals vars r
     → AreClauses vars (cs ++ r ∷ [])

@@ -14,11 +14,11 @@ use Rattle.lrat_check.specs.Sets.{same_set}
 use Rattle.lrat_check.specs.Steps.{Held, without_clause, deleted, judged}
 use Rattle.lrat_check.specs.Resolved.{Resolved, derived_from}
 use Rattle.lrat_check.proofs.Sound.{verdict_deletes}
-use Rattle.clause_set.specs.Known.{Clauses, contains}
-use Rattle.sat_ledger.specs.Added.{AreAdded}
-use Rattle.sat_ledger.specs.Ledger.{State, IsAmong, HoldsBy, Tells, StaysTold}
-use Rattle.sat_ledger.proofs.Places.{none_some, some_is, TakesOut, origin, target, not_from, one_from, target_other}
-use Rattle.sat_ledger.proofs.Places.{within, back, forth}
+use Rattle.sat_trail.specs.Known.{Clauses, contains}
+use Rattle.sat_search.specs.Added.{AreAdded}
+use Rattle.sat_search.specs.Ledger.{State, IsAmong, HoldsBy, Tells, StaysTold}
+use Rattle.sat_search.proofs.Places.{none_some, some_is, TakesOut, origin, target, not_from, one_from, target_other}
+use Rattle.sat_search.proofs.Places.{within, back, forth}
 
 pub clause_at : (vars : ℕ) (cs : List (List ℤ)) (place : ℕ) (c : List ℤ) → AreClauses vars cs
     → slice_get cs place ≡ Some c → AreLiterals vars c

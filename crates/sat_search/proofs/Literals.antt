@@ -7,7 +7,7 @@ use Rattle.std.specs.Ordering.{int_eq}
 use Rattle.std.proofs.lemmas.Bool.{false≢true}
 use Rattle.cnf_form.specs.Cnf.{IsLiteral, AreLiterals, AreClauses}
 use Rattle.lrat_check.specs.Sets.{has, IsLit, AreLits}
-use Rattle.sat_unit.specs.Propagation.{AllLits}
+use Rattle.sat_propagate.specs.Propagation.{AllLits}
 use Rattle.sat_trail.proofs.Members.{same_is, or_cases, has_head, has_tail}
 
 pub literal_at : (vars : ℕ) (c : List ℤ) (x : ℤ) → AreLiterals vars c → has c x ≡ true → IsLiteral vars x

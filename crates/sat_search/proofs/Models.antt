@@ -15,10 +15,10 @@ use Rattle.lrat_check.specs.Resolved.{is_open}
 use Rattle.sat_trail.specs.Trail.{Entries, lits, settled, Stand, AllAssigned, values_of}
 use Rattle.sat_trail.proofs.Members.{any_from}
 use Rattle.sat_trail.proofs.Readings.{open_to}
-use Rattle.sat_unit.proofs.Consistent.{no_pair}
+use Rattle.sat_propagate.proofs.Consistent.{no_pair}
 use Rattle.sat_learn.proofs.News.{true_has}
-use Rattle.sat_ledger.proofs.Dropping.{clause_at}
-use Rattle.sat_ledger.proofs.Places.{none_some, some_is}
+use Rattle.sat_search.proofs.Dropping.{clause_at}
+use Rattle.sat_search.proofs.Places.{none_some, some_is}
 use Rattle.sat_search.proofs.Literals.{literal_at, by_variable, neg_next}
 
 pub length_values : (vars : ℕ) (set : List ℤ) → length (values_of vars set) ≡ vars

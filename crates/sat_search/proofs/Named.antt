@@ -11,8 +11,8 @@ use Rattle.lrat_check.specs.declared.reading.Reading.TheVariants as read
 use Rattle.lrat_check.specs.Sets.{negs, reading}
 use Rattle.lrat_check.specs.Steps.{Held, numbered, is_negative, is_empty}
 use Rattle.lrat_check.specs.Resolved.{resolvent, resolved_on, resolved_by, resolved_with, IsResolvent, Strengthens}
-use Rattle.sat_ledger.specs.Ledger.{State, id_at, by_ids, HoldsBy, Tells}
-use Rattle.sat_ledger.proofs.Places.{none_some}
+use Rattle.sat_search.specs.Ledger.{State, id_at, by_ids, HoldsBy, Tells}
+use Rattle.sat_search.proofs.Places.{none_some}
 
 by_unit : (c r : List ℤ) (l : ℤ) (o p : Option (List ℤ)) → ((q : List ℤ) → o ≡ Some q → p ≡ Some q)
     → resolved_on c l o ≡ Some r → resolved_on c l p ≡ Some r

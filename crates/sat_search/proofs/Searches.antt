@@ -16,14 +16,14 @@ use Rattle.sat_trail.specs.Trail.{Entries, lits, Stands, Stand}
 use Rattle.sat_trail.specs.Clauses.{AllFalse}
 use Rattle.sat_learn.specs.Analysis.{Derives}
 use Rattle.sat_learn.specs.Learning.{Learns}
-use Rattle.sat_ledger.specs.Added.{AreAdded}
-use Rattle.sat_ledger.specs.Ledger.{State as Ledger, by_ids, Tells, Adds}
+use Rattle.sat_search.specs.Added.{AreAdded}
+use Rattle.sat_search.specs.Ledger.{State as Ledger, by_ids, Tells, Adds}
 use Rattle.sat_search.specs.Found.{nonempty}
 use Rattle.sat_search.specs.Searching.{Searching}
-use Rattle.sat_unit.proofs.Consistent.{no_pair}
+use Rattle.sat_propagate.proofs.Consistent.{no_pair}
 use Rattle.sat_learn.proofs.News.{all_from, is_resolvent, is_new}
 use Rattle.sat_learn.proofs.Shortens.{traced}
-use Rattle.sat_ledger.proofs.Adding.{clauses_more, refutes, is_fresh, new_told, old_told}
+use Rattle.sat_search.proofs.Adding.{clauses_more, refutes, is_fresh, new_told, old_told}
 use Rattle.sat_search.proofs.Literals.{literal_at, literals_from, neg_literal}
 use Rattle.sat_search.proofs.Counts.{fewer_clauses, apart_more}
 

@@ -9,20 +9,20 @@ use Rattle.std.proofs.lemmas.Int.{to_z-of_z, fits_signed_from_abs}
 use Rattle.cnf_form.specs.Cnf.{IsLiteral}
 use Rattle.lrat_check.specs.Sets.{has, is_false, IsLit}
 use Rattle.sat_trail.specs.declared.trail.Entry.{Entry}
-use Rattle.sat_unit.specs.declared.scan.Scan.TheVariants as scan
+use Rattle.sat_propagate.specs.declared.unit_scan.Scan.TheVariants as scan
 use Rattle.sat_trail.specs.Trail.{Entries, lits, Stand, IsOpenVar, IsOpenLit, is_decision, settled}
-use Rattle.sat_unit.specs.declared.scan.Scan.{Scan}
-use Rattle.sat_unit.specs.Propagation.{AllLits, Sees, Taken, Holds, HoldsOn}
-use Rattle.sat_unit.proofs.Going.{cut_to, joined_by}
+use Rattle.sat_propagate.specs.declared.unit_scan.Scan.{Scan}
+use Rattle.sat_propagate.specs.Propagation.{AllLits, Sees, Taken, Holds, HoldsOn}
+use Rattle.sat_propagate.proofs.Going.{cut_to, joined_by}
 use Rattle.sat_learn.specs.Learning.{Learns}
 use Rattle.sat_learn.specs.Analysis.{IsConflict}
-use Rattle.sat_ledger.specs.Ledger.{State as Ledger}
+use Rattle.sat_search.specs.Ledger.{State as Ledger}
 use Rattle.sat_search.specs.Searching.{Searching, rounds}
 use Rattle.sat_trail.proofs.Members.{neg_neg}
 use Rattle.sat_trail.proofs.Readings.{Alone, unit_to}
-use Rattle.sat_unit.proofs.ByPlace.{lits_at}
+use Rattle.sat_propagate.proofs.ByPlace.{lits_at}
 use Rattle.sat_search.proofs.Literals.{literal_at, neg_literal, lit_of, all_lits}
-use Rattle.sat_ledger.proofs.Dropping.{clause_at}
+use Rattle.sat_search.proofs.Dropping.{clause_at}
 use Rattle.sat_search.proofs.Searches.{pushed_on}
 use Rattle.sat_search.proofs.Rounds.{value_falls}
 

@@ -12,9 +12,9 @@ use Rattle.lrat_check.specs.declared.step.Step.{Step}
 use Rattle.lrat_check.specs.Sets.{same_set}
 use Rattle.lrat_check.specs.Steps.{numbered}
 use Rattle.lrat_check.specs.Resolved.{derived_from}
-use Rattle.clause_set.specs.Known.{Clauses, contains}
-use Rattle.sat_ledger.specs.Ledger.{State, ids_to, IsAmong, HoldsBy, Tells}
-use Rattle.sat_ledger.proofs.Places.{none_some, push_cases}
+use Rattle.sat_trail.specs.Known.{Clauses, contains}
+use Rattle.sat_search.specs.Ledger.{State, ids_to, IsAmong, HoldsBy, Tells}
+use Rattle.sat_search.proofs.Places.{none_some, push_cases}
 
 pub length_ids : (n : ℕ) → length (ids_to n) ≡ n
 length_ids zero = refl

@@ -6,13 +6,13 @@ use Rattle.std.proofs.lemmas.Bool.{false≢true}
 use Rattle.lrat_check.specs.Sets.{has, IsLit, AreLits}
 use Rattle.sat_trail.specs.Clauses.{AllFalse}
 use Rattle.sat_trail.specs.Trail.{Entries, lits, AllAssigned, IsOpenLit, Stand}
-use Rattle.sat_unit.specs.declared.scan.Scan.{Scan}
-use Rattle.sat_unit.specs.declared.scan.Scan.TheVariants as scan
-use Rattle.sat_unit.specs.Propagation.{AllLits, Sees, Taken, Holds, HoldsOn}
+use Rattle.sat_propagate.specs.declared.unit_scan.Scan.{Scan}
+use Rattle.sat_propagate.specs.declared.unit_scan.Scan.TheVariants as scan
+use Rattle.sat_propagate.specs.Propagation.{AllLits, Sees, Taken, Holds, HoldsOn}
 use Rattle.sat_learn.specs.Analysis.{Derives, IsConflict}
 use Rattle.sat_learn.specs.Learning.{Learns}
-use Rattle.clause_set.specs.Known.{many}
-use Rattle.sat_ledger.specs.Ledger.{State as Ledger, Tells, IsLedger, Adds, StaysTold}
+use Rattle.sat_trail.specs.Known.{many}
+use Rattle.sat_search.specs.Ledger.{State as Ledger, Tells, IsLedger, Adds, StaysTold}
 use Rattle.sat_search.specs.declared.turn.Turn.{Turn}
 use Rattle.sat_search.specs.declared.turn.Turn.TheVariants as turn
 use Rattle.sat_search.specs.Searching.{Searching, rank, rounds}

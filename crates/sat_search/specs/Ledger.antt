@@ -30,8 +30,8 @@ use Rattle.lrat_check.specs.declared.step.Step.TheVariants.{Add}
 use Rattle.lrat_check.specs.Sets.{same_set}
 use Rattle.lrat_check.specs.Steps.{Held, judged, verdict}
 use Rattle.lrat_check.specs.Resolved.{AllResolved, Resolved, derived_from}
-use Rattle.clause_set.specs.Known.{Clauses, contains, many}
-use Rattle.sat_ledger.specs.Added.{AreAdded}
+use Rattle.sat_trail.specs.Known.{Clauses, contains, many}
+use Rattle.sat_search.specs.Added.{AreAdded}
 
 -- the clauses by their places; the id of each; how many are the formula's, the first ones; the highest id so far; the
 -- steps; the clauses that were deleted and not learnt again

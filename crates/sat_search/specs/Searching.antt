@@ -22,8 +22,8 @@ use Rattle.lrat_check.specs.Sets.{has, is_false}
 use Rattle.lrat_check.specs.Steps.{is_empty}
 use Rattle.lrat_check.specs.Resolved.{consistent}
 use Rattle.sat_trail.specs.Trail.{Entries, lits, Stand, is_assigned}
-use Rattle.clause_set.specs.Known.{many}
-use Rattle.sat_ledger.specs.Ledger.{State as Ledger, Tells}
+use Rattle.sat_trail.specs.Known.{many}
+use Rattle.sat_search.specs.Ledger.{State as Ledger, Tells}
 
 -- how many of the variables up to one have no value
 abbrev pub open_vars : ℕ → List ℤ → ℕ

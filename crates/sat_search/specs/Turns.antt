@@ -5,14 +5,14 @@ use Rattle.lrat_check.specs.declared.step.Step.{Step}
 use Rattle.lrat_check.specs.Steps.{Refutes, Valid, AreSteps}
 use Rattle.lrat_check.specs.Resolved.{Resolved, derived}
 use Rattle.sat_trail.specs.Trail.{Entries, lits, values_of}
-use Rattle.sat_unit.specs.declared.scan.Scan.{Scan}
-use Rattle.sat_unit.specs.Propagation.{Taken, Sees, Holds, HoldsOn}
+use Rattle.sat_propagate.specs.declared.unit_scan.Scan.{Scan}
+use Rattle.sat_propagate.specs.Propagation.{Taken, Sees, Holds, HoldsOn}
 use Rattle.sat_search.specs.declared.turn.Turn.{Turn}
 use Rattle.sat_search.specs.declared.turn.Turn.TheVariants as turn
 use Rattle.sat_learn.specs.Learning.{Learns}
-use Rattle.clause_set.specs.Known.{many}
-use Rattle.sat_ledger.specs.Added.{AreAdded}
-use Rattle.sat_ledger.specs.Ledger.{State as Ledger, Adds}
+use Rattle.sat_trail.specs.Known.{many}
+use Rattle.sat_search.specs.Added.{AreAdded}
+use Rattle.sat_search.specs.Ledger.{State as Ledger, Adds}
 use Rattle.sat_search.specs.Found.{nonempty}
 use Rattle.sat_search.specs.Searching.{Searching, rank, rounds}
 

@@ -1,5 +1,5 @@
 ghost use Rattle.std.specs.Prelude.{◌≡◌, ℕ, ◌-◌, ◌<◌, ◌^◌, pos, unsigned_abs, IfOk};
-ghost use Rattle.sat_ledger.specs.Ledger.{ids_to, id_at, by_ids};
+ghost use Rattle.sat_search.specs.Ledger.{ids_to, id_at, by_ids};
 
 use fv_base::Memory;
 use std::alloc::Global;

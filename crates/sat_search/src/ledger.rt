@@ -1,14 +1,13 @@
 ghost use Rattle.std.specs.Prelude.{◌≡◌, ◌+◌, ◌<◌, ◌≤◌, ◌^◌, [], length, IfOk, OnOk};
 ghost use Rattle.lrat_check.specs.Sets.{AreLits};
-ghost use Rattle.clause_set.specs.Known.{many};
-ghost use Rattle.sat_ledger.specs.Ledger.{Tells, IsLedger, Adds, StaysTold};
+ghost use Rattle.sat_trail.specs.Known.{many};
+ghost use Rattle.sat_search.specs.Ledger.{Tells, IsLedger, Adds, StaysTold};
 
 use crate::ids::{by_ids, ids_to};
-use clause_set::ClauseSet;
 use cnf_form::Formula;
 use fv_base::{List, Memory};
 use lrat_check::Step;
-use sat_trail::ClauseList;
+use sat_trail::{ClauseList, ClauseSet};
 use std::alloc::Global;
 use std::marker::Model;
 
@@ -33,7 +32,7 @@ pub struct Ledger<'a> {
 }
 
 impl<'a> Model for Ledger<'a> {
-    ghost use Rattle.sat_ledger.specs.Ledger.{State};
+    ghost use Rattle.sat_search.specs.Ledger.{State};
 
     ghost Value = { State };
 

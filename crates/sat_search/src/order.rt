@@ -1,6 +1,6 @@
 ghost use Rattle.std.specs.Prelude.{◌<◌, ◌≤◌, ◌^◌, MatchOption, IfSome};
 ghost use Rattle.sat_trail.specs.Trail.{lits, AllAssigned, IsOpenVar, IsOpenLit};
-ghost use Rattle.sat_order.specs.Order.{AssignedFrom};
+ghost use Rattle.sat_search.specs.Order.{AssignedFrom};
 
 use crate::heap::Heap;
 use fv_base::Memory;

@@ -3,16 +3,17 @@ ghost use Rattle.lrat_check.specs.Sets.{has};
 ghost use Rattle.sat_trail.specs.Trail.{lits, decided, values_of};
 ghost use Rattle.sat_search.specs.Turns.{Keeps, IsSearch, Looked, Learned, GoesOn, Turns};
 
+use crate::ledger::Ledger;
+use crate::order::Order;
 use crate::turn::Turn;
 use crate::usage::Usage;
 use cnf_form::{Formula, clause_at};
 use fv_base::{List, Memory};
 use lrat_check::Step;
 use sat_learn::{Learner, Learnt};
-use sat_ledger::Ledger;
-use sat_order::Order;
+use sat_propagate::Propagation;
+use sat_propagate::unit_scan::Scan;
 use sat_trail::{ClauseList, Entry, Trail};
-use sat_unit::{Propagation, Scan};
 use std::alloc::Global;
 use std::marker::Model;
 

@@ -2,7 +2,7 @@ ghost use Rattle.std.specs.Prelude.{◌≡◌, ◌<◌, ◌^◌, ℕ, true, leng
 ghost use Rattle.cnf_form.specs.Cnf.{formula_true, value_of};
 ghost use Rattle.lrat_check.specs.Steps.{Refutes, Valid, AreSteps};
 ghost use Rattle.lrat_check.specs.Resolved.{Resolved, derived};
-ghost use Rattle.sat_ledger.specs.Added.{AreAdded};
+ghost use Rattle.sat_search.specs.Added.{AreAdded};
 ghost use Rattle.sat_search.specs.Found.{IfModel, IfRefuted, IfSpent, IfSteps, nonempty};
 
 use crate::found::Found;

@@ -17,8 +17,8 @@ use Rattle.std.proofs.lemmas.Map.Lookups.{btree_set_from_contains}
 use Rattle.lrat_check.specs.Sets.{has, within, same_set, AreLits}
 use Rattle.sat_trail.proofs.Codes.{lit_kept}
 use Rattle.sat_trail.proofs.Members.{same_is, or_cases, has_head, has_tail}
-use Rattle.clause_set.specs.Known.{Clauses, contains}
-use Rattle.clause_set.specs.Sorted.{sorted, sorted_into}
+use Rattle.sat_trail.specs.Known.{Clauses, contains}
+use Rattle.sat_trail.specs.Sorted.{sorted, sorted_into}
 
 all_from : (p : ℤ → Bool) (c : List ℤ) → ((x : ℤ) → has c x ≡ true → p x ≡ true) → list_all p c ≡ true
 all_from p [] h = refl

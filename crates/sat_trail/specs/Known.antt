@@ -3,7 +3,7 @@ use Rattle.std.specs.Prelude.{ℕ, List, ℤ, Bool, length}
 use Rattle.std.specs.List.{list_any}
 use Rattle.std.specs.Ordering.{int_eq}
 use Rattle.std.specs.Cmp.Lexicographic.{pointwise}
-use Rattle.clause_set.specs.Sorted.{sorted}
+use Rattle.sat_trail.specs.Sorted.{sorted}
 
 -- the clauses that are there, the literals of each in order
 abbrev pub Clauses : Type 0

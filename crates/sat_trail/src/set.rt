@@ -1,8 +1,8 @@
 ghost use Rattle.std.specs.Prelude.{◌≡◌, ◌+◌, ◌<◌, ◌^◌, ◌&&◌, ◌||◌, List, ℤ, false, not, if◌then◌else◌, IfOk, OnOk};
 ghost use Rattle.std.specs.Prelude.{IsTrue, ◌↔◌, []};
 ghost use Rattle.lrat_check.specs.Sets.{same_set, AreLits};
-ghost use Rattle.clause_set.specs.Known as spec;
-ghost use Rattle.clause_set.specs.Sorted.{sorted};
+ghost use Rattle.sat_trail.specs.Known as spec;
+ghost use Rattle.sat_trail.specs.Sorted.{sorted};
 
 use fv_base::Memory;
 use std::alloc::Global;
@@ -18,7 +18,7 @@ pub struct ClauseSet {
 
 impl Model for ClauseSet {
     ghost use Rattle.std.specs.Prelude.{map};
-    ghost use Rattle.clause_set.specs.Known.{Clauses};
+    ghost use Rattle.sat_trail.specs.Known.{Clauses};
 
     ghost Value = { Clauses };
 

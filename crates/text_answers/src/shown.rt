@@ -2,10 +2,10 @@
 //! function writes behind what is there, so that none owns a text that an exit would drop.
 
 use fv_base::{Kind, Number, Pos, Text, Token};
-use rvf_text::TextFault;
 use std::alloc::AllocError;
 use vl_parse::ParseFault;
 use vl_prep::PrepFault;
+use vl_text::TextFault;
 use vl_token::LexFault;
 
 /// The bytes behind a word.

@@ -1,9 +1,9 @@
 //! Texts that are read as one.
 
 use crate::{shape, shown};
-use rvf_text::{Assumption, Core, Retirements, SourceText, read_source};
 use std::alloc::{AllocError, Global};
 use vl_prep::Macros;
+use vl_text::{Assumption, Core, Retirements, SourceText, read_source};
 use vl_tree::Source;
 
 /// The options of a core, which are macros.

@@ -3,10 +3,10 @@
 use crate::{shape, shown};
 use anyhow::Result;
 use fv_base::{Text, Token};
-use rvf_text::{Core, Retirements};
 use std::alloc::{AllocError, Global};
 use vl_parse::parse;
 use vl_prep::{Macros, prep};
+use vl_text::{Core, Retirements};
 use vl_token::lex;
 
 /// The tokens of a text that is file 1.
@@ -121,7 +121,7 @@ pub(crate) fn predefined(
         compressed,
         retirements: Retirements::One,
     };
-    let macros = rvf_text::predefined(alloc, core)?;
+    let macros = vl_text::predefined(alloc, core)?;
     let (output, _macros) = both(alloc, macros, text)?;
     Ok(counted(out, output.as_slice())?)
 }

@@ -3,11 +3,11 @@ use Rattle.std.specs.Prelude.{◌≡◌, refl, ℕ, zero, suc, ◌+◌, ◌*◌,
 use Rattle.std.specs.Prelude.{true, false, Some, slice_get, is_none, if◌then◌else◌}
 use Rattle.std.proofs.Common.{ap, sym, ◌∙◌, arith, true≢false}
 use Rattle.std.proofs.lemmas.Option.{same_Some}
-use Rattle.bit_sets.specs.Cells.{is_set}
+use Rattle.fv_bit_sets.specs.Cells.{is_set}
 use Rattle.vl_size.specs.declared.decl.Decl.{Decl}
 use Rattle.vl_mean.specs.Cells.{cells}
-use Rattle.flow_cells.specs.Numbered.{all_cells}
-use Rattle.vl_state.specs.Bits.{all_mask_bits, all_outside, bits_outside, mask_bits}
+use Rattle.vl_flow_cells.specs.Numbered.{all_cells}
+use Rattle.vl_elab.specs.Bits.{all_mask_bits, all_outside, bits_outside, mask_bits}
 
 -- one bit more
 pub one_more : (mask bit count : ℕ) → is_set mask bit ≡ false → count ≡ bits_outside mask bit

@@ -8,13 +8,13 @@ use Rattle.vl_mean.specs.declared.flat.Flat.{Flat}
 use Rattle.vl_mean.specs.FlatParts.{flat_parts}
 use Rattle.vl_mean.specs.Parts.{design}
 use Rattle.vl_mean.specs.Walk.{module_named, walk}
-use Rattle.vl_refusal.specs.declared.elab_fault.ElabFault.{ElabFault}
-use Rattle.vl_refusal.specs.declared.elab_fault.ElabFault.TheVariants as f
-use Rattle.vl_refusal.specs.Refused.{first_refused, modules_twice, or_later, refusal, state_bits, too_many_bits}
-use Rattle.vl_names.specs.Unrefused.{NoStepRefused}
-use Rattle.vl_draft.specs.Drawn.{IsDrawn}
-use Rattle.vl_judged.specs.Judged.{fault_of, refused_before_bits}
-use Rattle.vl_state.proofs.Drawn.{drawn_bits}
+use Rattle.vl_elab_spec.specs.declared.elab_fault.ElabFault.{ElabFault}
+use Rattle.vl_elab_spec.specs.declared.elab_fault.ElabFault.TheVariants as f
+use Rattle.vl_elab_spec.specs.Refused.{first_refused, modules_twice, or_later, refusal, state_bits, too_many_bits}
+use Rattle.vl_elab_accepted_laws.specs.Unrefused.{NoStepRefused}
+use Rattle.vl_elab_draft.specs.Drawn.{IsDrawn}
+use Rattle.vl_elab_check.specs.Judged.{fault_of, refused_before_bits}
+use Rattle.vl_elab.proofs.Drawn.{drawn_bits}
 
 later_none : (g h : Option ElabFault) → or_later g h ≡ None → h ≡ None
 later_none None h e = e

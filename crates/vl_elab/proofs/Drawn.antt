@@ -17,21 +17,21 @@ use Rattle.vl_mean.specs.Parts.{Part, declares, equation, combinational, clocked
 use Rattle.vl_mean.specs.Runs.{Each, is_driven, is_driven_by}
 use Rattle.vl_mean.specs.Scopes.{Scope}
 use Rattle.vl_mean.specs.Walk.{walk}
-use Rattle.vl_same.specs.Flattened.{decls_of, Known}
-use Rattle.vl_same.specs.Found.{Found}
-use Rattle.vl_same.specs.Names.{StmtNames}
-use Rattle.vl_same.specs.StepScopes.{PartScopes}
-use Rattle.vl_same.proofs.FoundNames.{AreScopes, found}
-use Rattle.vl_same.proofs.LaidScopes.{laid_walk}
-use Rattle.vl_same.proofs.NamesMap.{stmt_map}
-use Rattle.vl_same.proofs.SameStmt.{same_assigns}
-use Rattle.vl_same.proofs.StepParts.{of_steps}
-use Rattle.vl_refusal.specs.Refused.{all_kept_bits, class_bits, kept_bits, state_bits}
-use Rattle.vl_names.specs.Unrefused.{NoStepRefused}
-use Rattle.vl_names.proofs.Names.{names_differ}
-use Rattle.vl_draft.specs.Drawn.{IsDrawn, drivers_of}
-use Rattle.vl_design.proofs.Steps.{all_known}
-use Rattle.vl_state.proofs.Told.{decl_bits, flat_bits}
+use Rattle.vl_mean_flat.specs.Flattened.{decls_of, Known}
+use Rattle.vl_mean_flat.specs.Found.{Found}
+use Rattle.vl_mean_flat.specs.Names.{StmtNames}
+use Rattle.vl_mean_flat.specs.StepScopes.{PartScopes}
+use Rattle.vl_mean_flat.proofs.FoundNames.{AreScopes, found}
+use Rattle.vl_mean_flat.proofs.LaidScopes.{laid_walk}
+use Rattle.vl_mean_flat.proofs.NamesMap.{stmt_map}
+use Rattle.vl_mean_flat.proofs.SameStmt.{same_assigns}
+use Rattle.vl_mean_flat.proofs.StepParts.{of_steps}
+use Rattle.vl_elab_spec.specs.Refused.{all_kept_bits, class_bits, kept_bits, state_bits}
+use Rattle.vl_elab_accepted_laws.specs.Unrefused.{NoStepRefused}
+use Rattle.vl_elab_accepted_laws.proofs.Names.{names_differ}
+use Rattle.vl_elab_draft.specs.Drawn.{IsDrawn, drivers_of}
+use Rattle.vl_elab_flatten_laws.proofs.DesignSteps.{all_known}
+use Rattle.vl_elab.proofs.Told.{decl_bits, flat_bits}
 
 -- ---- combinational blocks assign the same bits
 

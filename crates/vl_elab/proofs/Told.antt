@@ -2,7 +2,7 @@
 use Rattle.std.specs.Prelude.{◌≡◌, refl, ℕ, zero, suc, ◌+◌, List, [], ◌∷◌, ◌++◌, length, map, take, drop}
 use Rattle.std.specs.Prelude.{Some, slice_get, slice_index, if◌then◌else◌}
 use Rattle.std.proofs.Common.{ap, sym, ◌∙◌, arith}
-use Rattle.bit_sets.specs.Cells.{is_set}
+use Rattle.fv_bit_sets.specs.Cells.{is_set}
 use Rattle.vl_size.specs.declared.decl.Class.{Class}
 use Rattle.vl_size.specs.declared.decl.Class.TheVariants as class
 use Rattle.vl_size.specs.declared.decl.Decl.{Decl}
@@ -16,10 +16,10 @@ use Rattle.vl_mean.specs.FlatParts.{driver_part, parts_of, start_part}
 use Rattle.vl_mean.specs.Parts.{Part, declares, combinational}
 use Rattle.vl_mean.specs.Runs.{is_driven}
 use Rattle.vl_mean.specs.Scopes.{Scope}
-use Rattle.vl_refusal.specs.Refused.{all_kept_bits, class_bits, kept_bits, state_bits}
-use Rattle.flow_cells.specs.Numbered.{all_cells}
-use Rattle.vl_driven.specs.Masks.{AreDriven, AreMasks}
-use Rattle.vl_state.specs.Bits.{all_mask_bits, all_outside, bits_outside, mask_bits}
+use Rattle.vl_elab_spec.specs.Refused.{all_kept_bits, class_bits, kept_bits, state_bits}
+use Rattle.vl_flow_cells.specs.Numbered.{all_cells}
+use Rattle.vl_flow_effects.specs.Masks.{AreDriven, AreMasks}
+use Rattle.vl_elab.specs.Bits.{all_mask_bits, all_outside, bits_outside, mask_bits}
 
 -- the bits of what is declared
 abbrev pub decl_bits : List Part → List Decl → ℕ

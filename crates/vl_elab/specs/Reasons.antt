@@ -1,7 +1,7 @@
 -- Why modules have no design without hierarchy. Rule of this project.
 use Rattle.std.specs.Prelude.{◌≡◌, ℕ, List, Some}
 use Rattle.vl_tree.specs.declared.source.Module.{Module}
-use Rattle.vl_refusal.specs.Refused.{refusal}
+use Rattle.vl_elab_spec.specs.Refused.{refusal}
 use Rattle.vl_elab.specs.declared.reason.Reason.{Reason}
 use Rattle.vl_elab.specs.declared.reason.Reason.TheVariants as r
 

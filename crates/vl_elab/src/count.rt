@@ -1,17 +1,17 @@
 //! Bits of variables that no combinational block assigns.
 ghost use Rattle.std.specs.Prelude.{◌≡◌, ◌*◌, ◌<◌, ◌≤◌, All, IfOk, length};
-ghost use Rattle.bit_sets.specs.Cells.{is_set};
-ghost use Rattle.flow_cells.specs.Numbered.{all_cells};
+ghost use Rattle.fv_bit_sets.specs.Cells.{is_set};
+ghost use Rattle.vl_flow_cells.specs.Numbered.{all_cells};
 ghost use Rattle.vl_mean.specs.FlatLaw.{IsKept};
 ghost use Rattle.vl_mean.specs.FlatParts.{flat_parts};
-ghost use Rattle.vl_refusal.specs.Refused as refused;
+ghost use Rattle.vl_elab_spec.specs.Refused as refused;
 ghost use Rattle.vl_size.specs.Table.{IsShaped};
-ghost use Rattle.vl_state.specs.Bits as spec;
+ghost use Rattle.vl_elab.specs.Bits as spec;
 
-use flow_cells::{Numbering, cell_count};
 use fv_base::Memory;
 use std::alloc::Global;
-use vl_driven::driven_masks;
+use vl_flow_cells::{Numbering, cell_count};
+use vl_flow_effects::driven_masks;
 use vl_mean::Flat;
 use vl_size::{Class, Decl, Decls};
 

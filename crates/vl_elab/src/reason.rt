@@ -1,9 +1,9 @@
 //! Why modules have no design without hierarchy.
 ghost use Rattle.std.specs.Prelude.{◌≡◌};
-ghost use Rattle.vl_refusal.specs.Refused.{rank};
+ghost use Rattle.vl_elab_spec.specs.Refused.{rank};
 
 use fv_base::Memory;
-use vl_refusal::ElabFault;
+use vl_elab_spec::ElabFault;
 
 /// Why modules have no design without hierarchy: they are refused, or no memory is left to write it.
 #[derive(Drop)]

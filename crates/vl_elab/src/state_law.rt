@@ -5,9 +5,9 @@ ghost use Rattle.vl_tree.specs.declared.source.Module.{Module};
 ghost use Rattle.vl_mean.specs.declared.flat.Flat.{Flat};
 ghost use Rattle.vl_mean.specs.FlatParts.{flat_parts};
 ghost use Rattle.vl_mean.specs.Parts.{design};
-ghost use Rattle.vl_refusal.specs.Refused.{state_bits};
-ghost use Rattle.vl_names.specs.Unrefused.{NoStepRefused};
-ghost use Rattle.vl_draft.specs.Drawn.{IsDrawn};
+ghost use Rattle.vl_elab_spec.specs.Refused.{state_bits};
+ghost use Rattle.vl_elab_accepted_laws.specs.Unrefused.{NoStepRefused};
+ghost use Rattle.vl_elab_draft.specs.Drawn.{IsDrawn};
 
 /// Where well formed modules are a design with this top module, what is drawn from its parts has as many bits of
 /// variables that no combinational block assigns.

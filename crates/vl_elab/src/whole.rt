@@ -3,21 +3,21 @@ ghost use Rattle.std.specs.Prelude.{◌≡◌, All, None, IfErr, IfOk};
 ghost use Rattle.vl_tree.specs.WellFormed.{IsModule};
 ghost use Rattle.vl_mean.specs.FlatParts.{flat_parts};
 ghost use Rattle.vl_mean.specs.Parts.{design};
-ghost use Rattle.vl_same.specs.SameMaps.{AreSameMaps};
-ghost use Rattle.vl_placed.specs.DriverPlaces.{driver_places, places_of};
-ghost use Rattle.vl_refusal.specs.Refused as refused;
-ghost use Rattle.vl_draft.specs.Drawn.{IsDrawn};
+ghost use Rattle.vl_mean_flat.specs.SameMaps.{AreSameMaps};
+ghost use Rattle.vl_mean_flat.specs.DriverPlaces.{driver_places, places_of};
+ghost use Rattle.vl_elab_spec.specs.Refused as refused;
+ghost use Rattle.vl_elab_draft.specs.Drawn.{IsDrawn};
 ghost use Rattle.vl_elab.specs.Reasons.{IsReason};
 
+use crate::count::state_bits;
 use crate::reason::Reason;
 use fv_base::Text;
 use std::alloc::Global;
-use vl_judged::judge;
+use vl_elab_check::judge;
+use vl_elab_flatten::whole_design::unfolded;
+use vl_elab_spec::ElabFault;
 use vl_mean::Flat;
-use vl_refusal::ElabFault;
-use vl_state::state_bits;
 use vl_tree::Module;
-use vl_unfolded::unfolded;
 
 fn too_many_bits(bits: u64) -> Option<ElabFault>
     ensures { result ≡ refused.too_many_bits bits }

@@ -27,18 +27,18 @@ use Rattle.vl_size.specs.Size.{divides}
 use Rattle.vl_mean.specs.Cells.{contains_name}
 use Rattle.vl_mean.specs.Constants.{settled, settled_selects, named_constant}
 use Rattle.vl_mean.specs.Scopes.{Scope, constant_in}
-use Rattle.vl_same.specs.Flattened.{IsSeen}
-use Rattle.vl_refusal.specs.declared.elab_fault.ElabFault.{ElabFault}
-use Rattle.vl_refusal.specs.Expressions.{read_refusals, is_constant_name, refusals, all_refusals, select_refusals}
-use Rattle.vl_refusal.specs.Expressions.{known}
-use Rattle.vl_refusal.specs.Expressions.{no_copies}
-use Rattle.vl_refusal.specs.Meanings.{Meaning, undeclared, constant, loop_variable, object, faulty, shapeless, later}
-use Rattle.vl_refusal.specs.Meanings.{Names, meaning_in, value_of, constants}
-use Rattle.vl_names.proofs.Fresh.{NoneOf, none-front, none-back, some-fault}
-use Rattle.vl_scope.specs.Texts.{texts, exprs_texts, selects_texts, AgreeOn}
-use Rattle.vl_scope.proofs.Agree.{same_settled}
-use Rattle.vl_sized.specs.Sized.{IsSound, AreSound, IsRead}
-use Rattle.vl_known.specs.Means.{MeansIn, AreMeant}
+use Rattle.vl_mean_flat.specs.Flattened.{IsSeen}
+use Rattle.vl_elab_spec.specs.declared.elab_fault.ElabFault.{ElabFault}
+use Rattle.vl_elab_spec.specs.Expressions.{read_refusals, is_constant_name, refusals, all_refusals, select_refusals}
+use Rattle.vl_elab_spec.specs.Expressions.{known}
+use Rattle.vl_elab_spec.specs.Expressions.{no_copies}
+use Rattle.vl_elab_spec.specs.Meanings.{Meaning, undeclared, constant, loop_variable, object, faulty, shapeless, later}
+use Rattle.vl_elab_spec.specs.Meanings.{Names, meaning_in, value_of, constants}
+use Rattle.vl_elab_accepted_laws.proofs.Fresh.{NoneOf, none-front, none-back, some-fault}
+use Rattle.vl_elab_scope.specs.Texts.{texts, exprs_texts, selects_texts, AgreeOn}
+use Rattle.vl_elab_scope.proofs.Agree.{same_settled}
+use Rattle.vl_elab_accepted_laws.specs.Sized.{IsSound, AreSound, IsRead}
+use Rattle.vl_elab_accepted_laws.specs.Means.{MeansIn, AreMeant}
 
 module _ {A : Type 0} (f g : List ℕ → Option A) where
   pub agree_none : AgreeOn f g []

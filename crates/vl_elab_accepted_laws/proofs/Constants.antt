@@ -14,20 +14,20 @@ use Rattle.vl_size.specs.Sign.{sign}
 use Rattle.vl_size.specs.Size.{size, is_bound, is_constant}
 use Rattle.vl_size.specs.Table.{span}
 use Rattle.vl_mean.specs.Constants.{settled}
-use Rattle.vl_refusal.specs.Expressions.{too_wide, far, refusals, known, expr_refusals, own_refusals}
-use Rattle.vl_refusal.specs.Items.{range_refusals, width_refusals, value_context}
-use Rattle.vl_refusal.specs.Meanings.{Names, constants, objects, is_known, is_known_in, is_known_assigned, bound}
-use Rattle.vl_refusal.specs.Meanings.{is_known_bound, is_known_range, declared_width, is_known_shape, is_known_value}
-use Rattle.vl_refusal.specs.Statements.{widened, assigned_in}
-use Rattle.vl_names.proofs.Fresh.{NoneOf, none-front, none-back}
-use Rattle.vl_scope.specs.Seen.{AllNamed}
-use Rattle.vl_sized.specs.Sized.{AreSure, IsSized}
-use Rattle.vl_sized.proofs.Fixed.{fixed_size, fixed_sign, fixed_place}
-use Rattle.vl_sized.proofs.Parts.{known_true}
-use Rattle.vl_sized.proofs.Sizes.{read_constant}
-use Rattle.vl_sized.proofs.Tests.{narrow, passed, undivided}
-use Rattle.vl_fixed.specs.Among.{AreAmong}
-use Rattle.vl_fixed.proofs.Stays.{known_bound, known_settled, settled_stays}
+use Rattle.vl_elab_spec.specs.Expressions.{too_wide, far, refusals, known, expr_refusals, own_refusals}
+use Rattle.vl_elab_spec.specs.Items.{range_refusals, width_refusals, value_context}
+use Rattle.vl_elab_spec.specs.Meanings.{Names, constants, objects, is_known, is_known_in, is_known_assigned, bound}
+use Rattle.vl_elab_spec.specs.Meanings.{is_known_bound, is_known_range, declared_width, is_known_shape, is_known_value}
+use Rattle.vl_elab_spec.specs.Statements.{widened, assigned_in}
+use Rattle.vl_elab_accepted_laws.proofs.Fresh.{NoneOf, none-front, none-back}
+use Rattle.vl_elab_scope.specs.Seen.{AllNamed}
+use Rattle.vl_elab_accepted_laws.specs.Sized.{AreSure, IsSized}
+use Rattle.vl_elab_accepted_laws.proofs.Fixed.{fixed_size, fixed_sign, fixed_place}
+use Rattle.vl_elab_accepted_laws.proofs.Parts.{known_true}
+use Rattle.vl_elab_accepted_laws.proofs.Sizes.{read_constant}
+use Rattle.vl_elab_accepted_laws.proofs.Tests.{narrow, passed, undivided}
+use Rattle.vl_elab_spec.specs.Among.{AreAmong}
+use Rattle.vl_elab_spec.proofs.Stays.{known_bound, known_settled, settled_stays}
 
 both_true : (a b : Bool) → a ≡ true → b ≡ true → (a && b) ≡ true
 both_true true b h k = k

@@ -26,8 +26,8 @@ use Rattle.vl_mean.specs.Parts.{values_of, assignments, block_part, initial_part
 use Rattle.vl_mean.specs.Parts.{with_target, connection_part, port_part, step_parts, parts_of_steps}
 use Rattle.vl_mean.specs.Scopes.{Scope, is_clock}
 use Rattle.vl_mean.specs.Walk.{Step}
-use Rattle.vl_same.specs.Flattened.{decls_of}
-use Rattle.vl_names.proofs.Contained.{Different}
+use Rattle.vl_mean_flat.specs.Flattened.{decls_of}
+use Rattle.vl_elab_accepted_laws.proofs.Contained.{Different}
 
 abbrev pub part_names : List Part → List (List ℕ)
 part_names [] = []

@@ -20,12 +20,12 @@ use Rattle.vl_mean.specs.Declarations.{Overrides, class_of_attributes, joined_at
 use Rattle.vl_mean.specs.Runs.{Each}
 use Rattle.vl_mean.specs.Scopes.{Scope}
 use Rattle.vl_mean.specs.Walk.{parameter_names, port_names}
-use Rattle.vl_same.proofs.EachOf.{both}
-use Rattle.vl_refusal.specs.Meanings.{Meaning, undeclared, constant, loop_variable, object, faulty, shapeless, later}
-use Rattle.vl_refusal.specs.Meanings.{Names, is_undeclared, constant_or, object_or, parameters_of}
-use Rattle.vl_refusal.specs.Meanings.{with_parameter_meanings, with_item_constants, port_meanings, name_meanings}
-use Rattle.vl_refusal.specs.Meanings.{item_meanings, items_meanings, is_known_parameter, may_be_selected}
-use Rattle.vl_scope.specs.Seen.{IsNamed}
+use Rattle.vl_mean_flat.proofs.EachOf.{both}
+use Rattle.vl_elab_spec.specs.Meanings.{Meaning, undeclared, constant, loop_variable, object, faulty, shapeless, later}
+use Rattle.vl_elab_spec.specs.Meanings.{Names, is_undeclared, constant_or, object_or, parameters_of}
+use Rattle.vl_elab_spec.specs.Meanings.{with_parameter_meanings, with_item_constants, port_meanings, name_meanings}
+use Rattle.vl_elab_spec.specs.Meanings.{item_meanings, items_meanings, is_known_parameter, may_be_selected}
+use Rattle.vl_elab_scope.specs.Seen.{IsNamed}
 
 abbrev pub names_in : Names → List (List ℕ)
 names_in ns = map (λ n. n.0) ns

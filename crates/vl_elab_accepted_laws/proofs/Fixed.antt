@@ -29,8 +29,8 @@ use Rattle.vl_size.specs.Size.{◌>>=◌, part_size, times, vector_size}
 use Rattle.vl_size.specs.Size.{is_constant, are_constant, size, no_names, operand, operand_of, index_of}
 use Rattle.vl_size.specs.Table.{declared_as}
 use Rattle.vl_mean.specs.Cells.{contains_name}
-use Rattle.vl_scope.specs.Texts.{texts, exprs_texts, selects_texts, AgreeOn}
-use Rattle.vl_scope.proofs.Agree.{same_size, same_sign, same_value, same_own, same_divisor}
+use Rattle.vl_elab_scope.specs.Texts.{texts, exprs_texts, selects_texts, AgreeOn}
+use Rattle.vl_elab_scope.proofs.Agree.{same_size, same_sign, same_value, same_own, same_divisor}
 
 pub and_first : (a b : Bool) → (a && b) ≡ true → a ≡ true
 and_first true b h = refl

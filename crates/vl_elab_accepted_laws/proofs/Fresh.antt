@@ -38,17 +38,18 @@ use Rattle.vl_mean.specs.Declarations.{block_labels as labels_of_block, full_por
 use Rattle.vl_mean.specs.Runs.{Each}
 use Rattle.vl_mean.specs.Walk.{Place, Use, Step, item, with_earlier, port_step, port_steps, port_names}
 use Rattle.vl_mean.specs.Walk.{optional_name, module_named, goes_on, next_turn, first_turn, turn_place}
-use Rattle.vl_refusal.specs.declared.elab_fault.ElabFault.{ElabFault}
-use Rattle.vl_refusal.specs.Expressions.{refused_if}
-use Rattle.vl_refusal.specs.Items.{twice, labels_twice, optional_label, placed_labels, block_labels, placed_names}
-use Rattle.vl_refusal.specs.Items.{parameters_refusals, step_refusals, head_refusals, turns_refusals}
-use Rattle.vl_refusal.specs.Items.{genvar_refusals}
-use Rattle.vl_refusal.specs.Meanings.{Meaning, undeclared, constant, loop_variable, object, faulty, shapeless, later}
-use Rattle.vl_refusal.specs.Meanings.{meaning_in, meanings_at}
-use Rattle.vl_same.proofs.EachOf.{each_map, front, back}
-use Rattle.vl_names.proofs.Contained.{Lacks, Different, clash, has-first, has-back, lacks-front, lacks-each}
-use Rattle.vl_names.proofs.Declared.{name_list}
-use Rattle.vl_names.proofs.Turns.{EndsIn}
+use Rattle.vl_elab_spec.specs.declared.elab_fault.ElabFault.{ElabFault}
+use Rattle.vl_elab_spec.specs.Expressions.{refused_if}
+use Rattle.vl_elab_spec.specs.Items.{twice, labels_twice, optional_label, placed_labels, block_labels, placed_names}
+use Rattle.vl_elab_spec.specs.Items.{parameters_refusals, step_refusals, head_refusals, turns_refusals}
+use Rattle.vl_elab_spec.specs.Items.{genvar_refusals}
+use Rattle.vl_elab_spec.specs.Meanings.{Meaning, undeclared, constant, loop_variable, object, faulty, shapeless, later}
+use Rattle.vl_elab_spec.specs.Meanings.{meaning_in, meanings_at}
+use Rattle.vl_mean_flat.proofs.EachOf.{each_map, front, back}
+use Rattle.vl_elab_accepted_laws.proofs.Contained.{Lacks, Different, clash, has-first, has-back, lacks-front}
+use Rattle.vl_elab_accepted_laws.proofs.Contained.{lacks-each}
+use Rattle.vl_elab_accepted_laws.proofs.Declared.{name_list}
+use Rattle.vl_elab_accepted_laws.proofs.Turns.{EndsIn}
 
 -- ---- no refusals
 

@@ -10,8 +10,8 @@ use Rattle.std.proofs.lemmas.Fmt.{decimal_by_steps, decimal_injective, first_dec
 use Rattle.std.proofs.lemmas.List.{append_cancel_left}
 use Rattle.vl_mean.specs.Cells.{contains_name}
 use Rattle.vl_mean.specs.Declarations.{genblk, unused_genblk, unlabelled}
-use Rattle.vl_names.proofs.Contained.{Has, Lacks, same_text}
-use Rattle.vl_names.proofs.Texts.{is_free, free-append}
+use Rattle.vl_elab_accepted_laws.proofs.Contained.{Has, Lacks, same_text}
+use Rattle.vl_elab_accepted_laws.proofs.Texts.{is_free, free-append}
 
 -- ---- digits
 

@@ -5,13 +5,13 @@ use Rattle.std.proofs.lemmas.List.{append_cancel_left}
 use Rattle.vl_mean.specs.Cells.{contains_name}
 use Rattle.vl_mean.specs.Runs.{Each}
 use Rattle.vl_mean.specs.Walk.{Step}
-use Rattle.vl_same.proofs.EachOf.{each_map, both}
-use Rattle.vl_names.proofs.Contained.{Lacks, Different, clash, same_text, text_same, or_first, or_second}
-use Rattle.vl_names.proofs.Contained.{or_neither, different-append}
-use Rattle.vl_names.proofs.Declared.{full_names, full-append, under}
-use Rattle.vl_names.proofs.Genblk.{is_mark}
-use Rattle.vl_names.proofs.Plain.{Plain}
-use Rattle.vl_names.proofs.Texts.{until, until-mark}
+use Rattle.vl_mean_flat.proofs.EachOf.{each_map, both}
+use Rattle.vl_elab_accepted_laws.proofs.Contained.{Lacks, Different, clash, same_text, text_same, or_first, or_second}
+use Rattle.vl_elab_accepted_laws.proofs.Contained.{or_neither, different-append}
+use Rattle.vl_elab_accepted_laws.proofs.Declared.{full_names, full-append, under}
+use Rattle.vl_elab_accepted_laws.proofs.Genblk.{is_mark}
+use Rattle.vl_elab_accepted_laws.proofs.Plain.{Plain}
+use Rattle.vl_elab_accepted_laws.proofs.Texts.{until, until-mark}
 
 -- names of a kind, which differ
 pub record Good (P : List ℕ → Type 0) (ns : List (List ℕ)) : Type 0 where

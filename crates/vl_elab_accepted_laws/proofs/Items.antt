@@ -40,17 +40,19 @@ use Rattle.vl_mean.specs.Walk.{Place, Use, Step, Unfolding, item, module_named, 
 use Rattle.vl_mean.specs.Walk.{override_steps, connection_steps}
 use Rattle.vl_mean.specs.Walk.{next_turn, first_turn}
 use Rattle.vl_mean.specs.Scopes.{Scope}
-use Rattle.vl_names.proofs.Contained.{Has, Lacks, Different, clash, has-first, lacks-front}
-use Rattle.vl_names.proofs.Contained.{lacks-back, each-has, each-of}
-use Rattle.vl_names.proofs.Declared.{part_names, full_names, full-append, part-append, values-none, assignments-none}
-use Rattle.vl_names.proofs.Declared.{block-none, initial-none, connection-none, under, name_list, vectors-under}
-use Rattle.vl_names.proofs.Declared.{integers-under}
-use Rattle.vl_names.proofs.Genblk.{is_mark, unlabelled-lacks, unlabelled-number, unlabelled-free}
-use Rattle.vl_names.proofs.Good.{Good, good-none, Under, Any, good-under}
-use Rattle.vl_names.proofs.Loops.{AreFine, AreFew}
-use Rattle.vl_names.proofs.Plain.{Plain, name-plain, all-head, all-tail}
-use Rattle.vl_names.proofs.Texts.{until, until-free}
-use Rattle.vl_names.proofs.Turns.{IsTurn}
+use Rattle.vl_elab_accepted_laws.proofs.Contained.{Has, Lacks, Different, clash, has-first, lacks-front}
+use Rattle.vl_elab_accepted_laws.proofs.Contained.{lacks-back, each-has, each-of}
+use Rattle.vl_elab_accepted_laws.proofs.Declared.{part_names, full_names, full-append, part-append, values-none}
+use Rattle.vl_elab_accepted_laws.proofs.Declared.{assignments-none}
+use Rattle.vl_elab_accepted_laws.proofs.Declared.{block-none, initial-none, connection-none, under, name_list}
+use Rattle.vl_elab_accepted_laws.proofs.Declared.{vectors-under}
+use Rattle.vl_elab_accepted_laws.proofs.Declared.{integers-under}
+use Rattle.vl_elab_accepted_laws.proofs.Genblk.{is_mark, unlabelled-lacks, unlabelled-number, unlabelled-free}
+use Rattle.vl_elab_accepted_laws.proofs.Good.{Good, good-none, Under, Any, good-under}
+use Rattle.vl_elab_accepted_laws.proofs.Loops.{AreFine, AreFew}
+use Rattle.vl_elab_accepted_laws.proofs.Plain.{Plain, name-plain, all-head, all-tail}
+use Rattle.vl_elab_accepted_laws.proofs.Texts.{until, until-free}
+use Rattle.vl_elab_accepted_laws.proofs.Turns.{IsTurn}
 
 -- ---- with what the names of an item begin
 

@@ -22,20 +22,20 @@ use Rattle.vl_mean.specs.Parts.{connection_part, port_part, step_parts}
 use Rattle.vl_mean.specs.Runs.{Each}
 use Rattle.vl_mean.specs.Scopes.{Scope, is_clock}
 use Rattle.vl_mean.specs.Walk.{Place, Use, connection}
-use Rattle.vl_same.specs.Flattened.{IsSeen, Known}
-use Rattle.vl_same.specs.Names.{Names as EachName, ExprNames, TargetNames}
-use Rattle.vl_names.proofs.Fresh.{NoneOf, none-back}
-use Rattle.vl_refusal.specs.Expressions.{expr_refusals}
-use Rattle.vl_refusal.specs.Items.{inner_meanings, joined_context, object_width, output_target}
-use Rattle.vl_refusal.specs.Items.{joined_value, joined_refusals, connection_refusals}
-use Rattle.vl_refusal.specs.Meanings.{Meaning, undeclared, constant, loop_variable, object, faulty, shapeless, later}
-use Rattle.vl_refusal.specs.Meanings.{Names, meaning_in, meanings_at}
-use Rattle.vl_scope.specs.Seen.{AllNamed}
-use Rattle.vl_sized.specs.Sized.{AreSound}
-use Rattle.vl_known.specs.Means.{MeansIn, AreMeant}
-use Rattle.vl_known.proofs.Knowing.{known_expr, known_target}
-use Rattle.vl_meant.specs.Right.{AreRight}
-use Rattle.vl_parts.specs.Joined.{IsObject, PortsAreObjects}
+use Rattle.vl_mean_flat.specs.Flattened.{IsSeen, Known}
+use Rattle.vl_mean_flat.specs.Names.{Names as EachName, ExprNames, TargetNames}
+use Rattle.vl_elab_accepted_laws.proofs.Fresh.{NoneOf, none-back}
+use Rattle.vl_elab_spec.specs.Expressions.{expr_refusals}
+use Rattle.vl_elab_spec.specs.Items.{inner_meanings, joined_context, object_width, output_target}
+use Rattle.vl_elab_spec.specs.Items.{joined_value, joined_refusals, connection_refusals}
+use Rattle.vl_elab_spec.specs.Meanings.{Meaning, undeclared, constant, loop_variable, object, faulty, shapeless, later}
+use Rattle.vl_elab_spec.specs.Meanings.{Names, meaning_in, meanings_at}
+use Rattle.vl_elab_scope.specs.Seen.{AllNamed}
+use Rattle.vl_elab_accepted_laws.specs.Sized.{AreSound}
+use Rattle.vl_elab_accepted_laws.specs.Means.{MeansIn, AreMeant}
+use Rattle.vl_elab_accepted_laws.proofs.Knowing.{known_expr, known_target}
+use Rattle.vl_elab_accepted_laws.specs.Right.{AreRight}
+use Rattle.vl_elab_accepted_laws.specs.Joined.{IsObject, PortsAreObjects}
 
 -- ---- the target that an output is joined to is well formed, as the expression is
 

@@ -35,27 +35,27 @@ use Rattle.vl_size.specs.Divisors.{own_context, selects_zero_divisor}
 use Rattle.vl_mean.specs.Constants.{settled_selects}
 use Rattle.vl_mean.specs.Scopes.{Scope, is_clock_class}
 use Rattle.vl_mean.specs.Runs.{Each}
-use Rattle.vl_same.specs.Flattened.{IsSeen}
-use Rattle.vl_same.specs.Names.{Names as EachName, SelectsNames, ExprNames, ExprsNames, TargetNames, TargetsNames}
-use Rattle.vl_same.specs.Names.{StmtNames, StmtsNames, ArmsNames}
-use Rattle.vl_same.proofs.NamesMap.{expr_map, target_map, stmt_map}
-use Rattle.vl_names.proofs.Fresh.{NoneOf, none-front, none-back, not-refused}
-use Rattle.vl_names.proofs.Plain.{all-each}
-use Rattle.vl_refusal.specs.declared.elab_fault.ElabFault.TheVariants as f
-use Rattle.vl_refusal.specs.Expressions.{refused_if, too_wide, divided_by_zero, name_width, object_selects, refusals}
-use Rattle.vl_refusal.specs.Expressions.{select_refusals, is_constant_name, known, expr_refusals, own_refusals}
-use Rattle.vl_refusal.specs.Meanings.{Meaning, undeclared, constant, loop_variable, object, faulty, shapeless, later}
-use Rattle.vl_refusal.specs.Meanings.{Names, meaning_in, value_of, constants, objects}
-use Rattle.vl_refusal.specs.Statements.{assigned_refusals, target_selects, target_width, target_refusals}
-use Rattle.vl_refusal.specs.Statements.{targets_refusals, assigned_in, with_label, case_context}
-use Rattle.vl_refusal.specs.Statements.{labels_refusals, stmt_refusals, stmts_refusals, arms_refusals}
-use Rattle.vl_scope.specs.Seen.{AllNamed}
-use Rattle.vl_sized.specs.Sized.{IsRead, IsSized}
-use Rattle.vl_sized.proofs.Parts.{selected}
-use Rattle.vl_sized.proofs.Sizes.{read, vector, word}
-use Rattle.vl_sized.proofs.Tests.{undivided}
-use Rattle.vl_known.specs.Means.{MeansIn, AreMeant}
-use Rattle.vl_known.proofs.Agreeing.{sound, seen, known_is, selects_are, refused_name}
+use Rattle.vl_mean_flat.specs.Flattened.{IsSeen}
+use Rattle.vl_mean_flat.specs.Names.{Names as EachName, SelectsNames, ExprNames, ExprsNames, TargetNames, TargetsNames}
+use Rattle.vl_mean_flat.specs.Names.{StmtNames, StmtsNames, ArmsNames}
+use Rattle.vl_mean_flat.proofs.NamesMap.{expr_map, target_map, stmt_map}
+use Rattle.vl_elab_accepted_laws.proofs.Fresh.{NoneOf, none-front, none-back, not-refused}
+use Rattle.vl_elab_accepted_laws.proofs.Plain.{all-each}
+use Rattle.vl_elab_spec.specs.declared.elab_fault.ElabFault.TheVariants as f
+use Rattle.vl_elab_spec.specs.Expressions.{refused_if, too_wide, divided_by_zero, name_width, object_selects, refusals}
+use Rattle.vl_elab_spec.specs.Expressions.{select_refusals, is_constant_name, known, expr_refusals, own_refusals}
+use Rattle.vl_elab_spec.specs.Meanings.{Meaning, undeclared, constant, loop_variable, object, faulty, shapeless, later}
+use Rattle.vl_elab_spec.specs.Meanings.{Names, meaning_in, value_of, constants, objects}
+use Rattle.vl_elab_spec.specs.Statements.{assigned_refusals, target_selects, target_width, target_refusals}
+use Rattle.vl_elab_spec.specs.Statements.{targets_refusals, assigned_in, with_label, case_context}
+use Rattle.vl_elab_spec.specs.Statements.{labels_refusals, stmt_refusals, stmts_refusals, arms_refusals}
+use Rattle.vl_elab_scope.specs.Seen.{AllNamed}
+use Rattle.vl_elab_accepted_laws.specs.Sized.{IsRead, IsSized}
+use Rattle.vl_elab_accepted_laws.proofs.Parts.{selected}
+use Rattle.vl_elab_accepted_laws.proofs.Sizes.{read, vector, word}
+use Rattle.vl_elab_accepted_laws.proofs.Tests.{undivided}
+use Rattle.vl_elab_accepted_laws.specs.Means.{MeansIn, AreMeant}
+use Rattle.vl_elab_accepted_laws.proofs.Agreeing.{sound, seen, known_is, selects_are, refused_name}
 
 module _ (ns : List Names) (ss : List Scope) (named_so : AllNamed ns) (meant : AreMeant ns ss) where
   abbrev Reads : List ℕ → Type 0

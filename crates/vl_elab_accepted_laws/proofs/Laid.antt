@@ -22,9 +22,9 @@ use Rattle.vl_mean.specs.Declarations.{declared_ports, parameter_value, ports_of
 use Rattle.vl_mean.specs.Scopes.{Scope}
 use Rattle.vl_mean.specs.Walk.{Place, Use, parameter_names, port_names, module_parameters}
 use Rattle.vl_mean.specs.Walk.{module_constants, module_scope, module_contents, module_around, block_place, turn_place}
-use Rattle.vl_refusal.specs.Meanings.{parameters_of}
-use Rattle.vl_meant.proofs.Entries.{item_objects, object_names, declared_list}
-use Rattle.vl_meant.proofs.Level.{IsLaid, AreLaid}
+use Rattle.vl_elab_spec.specs.Meanings.{parameters_of}
+use Rattle.vl_elab_accepted_laws.proofs.Entries.{item_objects, object_names, declared_list}
+use Rattle.vl_elab_accepted_laws.proofs.Level.{IsLaid, AreLaid}
 
 or_first : (a b : Bool) → (a || b) ≡ false → a ≡ false
 or_first true b h = h

@@ -16,9 +16,9 @@ use Rattle.vl_mean.specs.Constants.{cut_to}
 use Rattle.vl_mean.specs.Declarations.{block_name, genblk, unlabelled}
 use Rattle.vl_mean.specs.FlatLaw.{is_graphic}
 use Rattle.vl_mean.specs.Walk.{turn_path}
-use Rattle.vl_names.proofs.Genblk.{IsGenblk, decimal-free, unlabelled-is}
-use Rattle.vl_names.proofs.Texts.{free-append, is_free}
-use Rattle.vl_names.proofs.Turns.{IsTurn}
+use Rattle.vl_elab_accepted_laws.proofs.Genblk.{IsGenblk, decimal-free, unlabelled-is}
+use Rattle.vl_elab_accepted_laws.proofs.Texts.{free-append, is_free}
+use Rattle.vl_elab_accepted_laws.proofs.Turns.{IsTurn}
 
 abbrev pub is_hidden : ℕ → Bool
 is_hidden c = not (is_graphic c)

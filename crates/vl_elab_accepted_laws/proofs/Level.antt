@@ -11,17 +11,19 @@ use Rattle.vl_mean.specs.Constants.{Constants, constant_of}
 use Rattle.vl_mean.specs.Runs.{Each}
 use Rattle.vl_mean.specs.Scopes.{Scope, constant_in, constant_unless, visible}
 use Rattle.vl_mean.specs.Walk.{Contents, parameter_names, port_names}
-use Rattle.vl_same.proofs.EachOf.{both}
-use Rattle.vl_refusal.specs.Meanings.{Meaning, undeclared, constant, loop_variable, object, faulty, shapeless, later}
-use Rattle.vl_refusal.specs.Meanings.{Names, is_undeclared, meaning_of, meaning_in, parameters_of}
-use Rattle.vl_refusal.specs.Meanings.{with_parameter_meanings, with_item_constants, port_meanings, items_meanings}
-use Rattle.vl_refusal.specs.Meanings.{scope_meanings, all_later, all_meanings}
-use Rattle.vl_scope.specs.Seen.{AreNamed, AllNamed}
-use Rattle.vl_sized.specs.Sized.{IsSound}
-use Rattle.vl_known.specs.Means.{MeansIn}
-use Rattle.vl_meant.proofs.Entries.{names_in, object_names, FoundMeans, IsEntry, IsParameter, AreParameters}
-use Rattle.vl_meant.proofs.Entries.{parameter_entries, item_constant_entries, parameter_list, item_constant_list}
-use Rattle.vl_meant.proofs.Entries.{port_entries, port_list, items_entries, items_list}
+use Rattle.vl_mean_flat.proofs.EachOf.{both}
+use Rattle.vl_elab_spec.specs.Meanings.{Meaning, undeclared, constant, loop_variable, object, faulty, shapeless, later}
+use Rattle.vl_elab_spec.specs.Meanings.{Names, is_undeclared, meaning_of, meaning_in, parameters_of}
+use Rattle.vl_elab_spec.specs.Meanings.{with_parameter_meanings, with_item_constants, port_meanings, items_meanings}
+use Rattle.vl_elab_spec.specs.Meanings.{scope_meanings, all_later, all_meanings}
+use Rattle.vl_elab_scope.specs.Seen.{AreNamed, AllNamed}
+use Rattle.vl_elab_accepted_laws.specs.Sized.{IsSound}
+use Rattle.vl_elab_accepted_laws.specs.Means.{MeansIn}
+use Rattle.vl_elab_accepted_laws.proofs.Entries.{names_in, object_names, FoundMeans, IsEntry, IsParameter}
+use Rattle.vl_elab_accepted_laws.proofs.Entries.{AreParameters}
+use Rattle.vl_elab_accepted_laws.proofs.Entries.{parameter_entries, item_constant_entries, parameter_list}
+use Rattle.vl_elab_accepted_laws.proofs.Entries.{item_constant_list}
+use Rattle.vl_elab_accepted_laws.proofs.Entries.{port_entries, port_list, items_entries, items_list}
 
 -- ---- look-ups
 

@@ -8,15 +8,15 @@ use Rattle.vl_tree.specs.declared.source.Module.{Module}
 use Rattle.vl_mean.specs.declared.const_number.Const.{Const}
 use Rattle.vl_mean.specs.Runs.{Each}
 use Rattle.vl_mean.specs.Walk.{Step, turns, turn_path}
-use Rattle.vl_same.proofs.EachOf.{front, back}
-use Rattle.vl_names.proofs.Contained.{clash}
-use Rattle.vl_names.proofs.Declared.{full_names}
-use Rattle.vl_names.proofs.Fresh.{IsFine}
-use Rattle.vl_names.proofs.Good.{Good, good-none, good-map, good-both, Under, Any, inside-turn}
-use Rattle.vl_names.proofs.Genblk.{is_mark}
-use Rattle.vl_names.proofs.Plain.{Plain}
-use Rattle.vl_names.proofs.Texts.{until-mark}
-use Rattle.vl_names.proofs.Turns.{EndsIn, ends-once, IsTurn, index, same_turn}
+use Rattle.vl_mean_flat.proofs.EachOf.{front, back}
+use Rattle.vl_elab_accepted_laws.proofs.Contained.{clash}
+use Rattle.vl_elab_accepted_laws.proofs.Declared.{full_names}
+use Rattle.vl_elab_accepted_laws.proofs.Fresh.{IsFine}
+use Rattle.vl_elab_accepted_laws.proofs.Good.{Good, good-none, good-map, good-both, Under, Any, inside-turn}
+use Rattle.vl_elab_accepted_laws.proofs.Genblk.{is_mark}
+use Rattle.vl_elab_accepted_laws.proofs.Plain.{Plain}
+use Rattle.vl_elab_accepted_laws.proofs.Texts.{until-mark}
+use Rattle.vl_elab_accepted_laws.proofs.Turns.{EndsIn, ends-once, IsTurn, index, same_turn}
 
 abbrev pub AreFine : List Module → List Step → Type 0
 AreFine ms xs = Each (IsFine ms) xs

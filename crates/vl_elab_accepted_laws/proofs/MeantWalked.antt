@@ -46,11 +46,11 @@ use Rattle.vl_mean.specs.Walk.{goes_on}
 use Rattle.vl_mean.specs.Walk.{next_turn, first_turn, loop_turns, turn_path, block_place, block_path, single_place}
 use Rattle.vl_mean.specs.Walk.{single_number, item_steps, items_steps, turn_steps, block_steps, unfolded, walk}
 use Rattle.vl_mean.specs.Walk.{top_input}
-use Rattle.vl_same.proofs.EachOf.{both}
-use Rattle.vl_refusal.specs.Meanings.{all_meanings}
-use Rattle.vl_meant.specs.Right.{AreRight, IsRight}
-use Rattle.vl_meant.proofs.Level.{AreLaid, all_named, all_meant}
-use Rattle.vl_meant.proofs.Laid.{module_laid, block_laid, turn_laid}
+use Rattle.vl_mean_flat.proofs.EachOf.{both}
+use Rattle.vl_elab_spec.specs.Meanings.{all_meanings}
+use Rattle.vl_elab_accepted_laws.specs.Right.{AreRight, IsRight}
+use Rattle.vl_elab_accepted_laws.proofs.Level.{AreLaid, all_named, all_meant}
+use Rattle.vl_elab_accepted_laws.proofs.Laid.{module_laid, block_laid, turn_laid}
 
 right_here : (at : Place) → AreLaid at.scopes at.contents → AreRight (all_meanings at.scopes at.contents) at.scopes
 right_here at h =

@@ -19,17 +19,18 @@ use Rattle.vl_mean.specs.Runs.{Each}
 use Rattle.vl_mean.specs.Walk.{Place, Use, Step, Unfolding, header_steps, port_step, port_steps, port_names}
 use Rattle.vl_mean.specs.Walk.{parameter_names, module_parameters, module_names, module_place, written_ports}
 use Rattle.vl_mean.specs.Walk.{optional_name, with_earlier, items_steps, unfolded}
-use Rattle.vl_same.proofs.EachOf.{front, back}
-use Rattle.vl_names.proofs.Contained.{Has, clash, has-front, has-back, lacks-back, each-has, each-of}
-use Rattle.vl_names.proofs.Declared.{full_names, full-append, under, optional-none}
-use Rattle.vl_names.proofs.Fresh.{IsFine, AreNew, ports-new}
-use Rattle.vl_names.proofs.Genblk.{is_mark}
-use Rattle.vl_names.proofs.Good.{Good, good-none, good-both, Under, Any, under-map, under-apart, good-under}
-use Rattle.vl_names.proofs.Items.{IsNew, IsBehind, ItemsHead, not-numbered, Given}
-use Rattle.vl_names.proofs.Loops.{AreFine, few-back, positive-one}
-use Rattle.vl_names.proofs.Plain.{Plain, name-plain, all-each}
-use Rattle.vl_names.proofs.Scopes.{good-items}
-use Rattle.vl_names.proofs.Texts.{until, until-free}
+use Rattle.vl_mean_flat.proofs.EachOf.{front, back}
+use Rattle.vl_elab_accepted_laws.proofs.Contained.{Has, clash, has-front, has-back, lacks-back, each-has, each-of}
+use Rattle.vl_elab_accepted_laws.proofs.Declared.{full_names, full-append, under, optional-none}
+use Rattle.vl_elab_accepted_laws.proofs.Fresh.{IsFine, AreNew, ports-new}
+use Rattle.vl_elab_accepted_laws.proofs.Genblk.{is_mark}
+use Rattle.vl_elab_accepted_laws.proofs.Good.{Good, good-none, good-both, Under, Any, under-map, under-apart}
+use Rattle.vl_elab_accepted_laws.proofs.Good.{good-under}
+use Rattle.vl_elab_accepted_laws.proofs.Items.{IsNew, IsBehind, ItemsHead, not-numbered, Given}
+use Rattle.vl_elab_accepted_laws.proofs.Loops.{AreFine, few-back, positive-one}
+use Rattle.vl_elab_accepted_laws.proofs.Plain.{Plain, name-plain, all-each}
+use Rattle.vl_elab_accepted_laws.proofs.Scopes.{good-items}
+use Rattle.vl_elab_accepted_laws.proofs.Texts.{until, until-free}
 
 -- ---- ports
 

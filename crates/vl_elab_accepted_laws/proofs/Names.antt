@@ -26,22 +26,22 @@ use Rattle.vl_mean.specs.Walk.{Place, Use, Step, header, port, item, override, c
 use Rattle.vl_mean.specs.Walk.{unfolded}
 use Rattle.vl_mean.specs.Walk.{first_turn}
 use Rattle.vl_mean.specs.Walk.{walk}
-use Rattle.vl_refusal.specs.declared.elab_fault.ElabFault.{ElabFault}
-use Rattle.vl_refusal.specs.declared.elab_fault.ElabFault.TheVariants as f
-use Rattle.vl_refusal.specs.Counts.{item_nodes, step_nodes, turn_nodes}
+use Rattle.vl_elab_spec.specs.declared.elab_fault.ElabFault.{ElabFault}
+use Rattle.vl_elab_spec.specs.declared.elab_fault.ElabFault.TheVariants as f
+use Rattle.vl_elab_spec.specs.Counts.{item_nodes, step_nodes, turn_nodes}
 use Rattle.vl_mean.specs.FlatLaw.{nodes}
-use Rattle.vl_refusal.specs.Items.{step_refusals}
-use Rattle.vl_refusal.specs.Refused.{Totals, counted, first_refused, is_too_large, lowest}
-use Rattle.vl_refusal.specs.Refused.{or_later, refusals_at}
-use Rattle.vl_same.specs.Flattened.{decls_of}
-use Rattle.vl_names.specs.Unrefused.{NoStepRefused}
-use Rattle.vl_names.proofs.Contained.{Different, or_first}
-use Rattle.vl_names.proofs.Declared.{full_names, full-parts, different-decls}
-use Rattle.vl_names.proofs.Fresh.{NoneOf, none-front, none-back, not-refused}
-use Rattle.vl_names.proofs.Good.{Good, Under, Any}
-use Rattle.vl_names.proofs.Items.{good-module}
-use Rattle.vl_names.proofs.Loops.{AreFine, AreFew}
-use Rattle.vl_names.proofs.Modules.{good-unfolded}
+use Rattle.vl_elab_spec.specs.Items.{step_refusals}
+use Rattle.vl_elab_spec.specs.Refused.{Totals, counted, first_refused, is_too_large, lowest}
+use Rattle.vl_elab_spec.specs.Refused.{or_later, refusals_at}
+use Rattle.vl_mean_flat.specs.Flattened.{decls_of}
+use Rattle.vl_elab_accepted_laws.specs.Unrefused.{NoStepRefused}
+use Rattle.vl_elab_accepted_laws.proofs.Contained.{Different, or_first}
+use Rattle.vl_elab_accepted_laws.proofs.Declared.{full_names, full-parts, different-decls}
+use Rattle.vl_elab_accepted_laws.proofs.Fresh.{NoneOf, none-front, none-back, not-refused}
+use Rattle.vl_elab_accepted_laws.proofs.Good.{Good, Under, Any}
+use Rattle.vl_elab_accepted_laws.proofs.Items.{good-module}
+use Rattle.vl_elab_accepted_laws.proofs.Loops.{AreFine, AreFew}
+use Rattle.vl_elab_accepted_laws.proofs.Modules.{good-unfolded}
 
 -- ---- no step is refused
 

@@ -17,24 +17,25 @@ use Rattle.vl_mean.specs.Declarations.{Overrides, names_of}
 use Rattle.vl_mean.specs.Runs.{Each}
 use Rattle.vl_mean.specs.Scopes.{Scope}
 use Rattle.vl_mean.specs.Walk.{Contents, Place, parameter_names}
-use Rattle.vl_same.proofs.EachOf.{both, each_map}
-use Rattle.vl_refusal.specs.declared.elab_fault.ElabFault.{ElabFault}
-use Rattle.vl_refusal.specs.Expressions.{expr_refusals}
-use Rattle.vl_refusal.specs.Items.{range_refusals, width_refusals, value_context, parameter_refusals, is_given}
-use Rattle.vl_refusal.specs.Items.{is_localparam, parameters_refusals, item_refusals}
-use Rattle.vl_refusal.specs.Meanings.{Meaning, Names, is_undeclared, meaning_of, constant_or, all_later, all_meanings}
-use Rattle.vl_refusal.specs.Meanings.{is_overridden, is_known_parameter, may_be_selected, parameters_of}
-use Rattle.vl_refusal.specs.Meanings.{with_parameter_meanings, with_item_constants}
-use Rattle.vl_names.proofs.Contained.{Has, Lacks, clash, has-first, has-back, lacks-front, each-has}
-use Rattle.vl_names.proofs.Fresh.{NoneOf, none-front, none-back, parameters-new, item-new}
-use Rattle.vl_names.proofs.Plain.{all-each}
-use Rattle.vl_scope.specs.Seen.{AllNamed}
-use Rattle.vl_sized.specs.Sized.{AreSound}
-use Rattle.vl_meant.proofs.Entries.{names_in, parameter_list}
-use Rattle.vl_meant.proofs.Level.{own, own_names}
-use Rattle.vl_sound.proofs.Standing.{AreItsConstants, own_meaning}
-use Rattle.vl_sound.proofs.Reached.{AreConstants, IsConstant, AreThere, constant_there, constants_listed}
-use Rattle.vl_sound.proofs.Reached.{constants_there, there_append, AreSoFar, around_now, before, known_parameter}
+use Rattle.vl_mean_flat.proofs.EachOf.{both, each_map}
+use Rattle.vl_elab_spec.specs.declared.elab_fault.ElabFault.{ElabFault}
+use Rattle.vl_elab_spec.specs.Expressions.{expr_refusals}
+use Rattle.vl_elab_spec.specs.Items.{range_refusals, width_refusals, value_context, parameter_refusals, is_given}
+use Rattle.vl_elab_spec.specs.Items.{is_localparam, parameters_refusals, item_refusals}
+use Rattle.vl_elab_spec.specs.Meanings.{Meaning, Names, is_undeclared, meaning_of, constant_or, all_later, all_meanings}
+use Rattle.vl_elab_spec.specs.Meanings.{is_overridden, is_known_parameter, may_be_selected, parameters_of}
+use Rattle.vl_elab_spec.specs.Meanings.{with_parameter_meanings, with_item_constants}
+use Rattle.vl_elab_accepted_laws.proofs.Contained.{Has, Lacks, clash, has-first, has-back, lacks-front, each-has}
+use Rattle.vl_elab_accepted_laws.proofs.Fresh.{NoneOf, none-front, none-back, parameters-new, item-new}
+use Rattle.vl_elab_accepted_laws.proofs.Plain.{all-each}
+use Rattle.vl_elab_scope.specs.Seen.{AllNamed}
+use Rattle.vl_elab_accepted_laws.specs.Sized.{AreSound}
+use Rattle.vl_elab_accepted_laws.proofs.Entries.{names_in, parameter_list}
+use Rattle.vl_elab_accepted_laws.proofs.Level.{own, own_names}
+use Rattle.vl_elab_accepted_laws.proofs.Standing.{AreItsConstants, own_meaning}
+use Rattle.vl_elab_accepted_laws.proofs.Reached.{AreConstants, IsConstant, AreThere, constant_there, constants_listed}
+use Rattle.vl_elab_accepted_laws.proofs.Reached.{constants_there, there_append, AreSoFar, around_now, before}
+use Rattle.vl_elab_accepted_laws.proofs.Reached.{known_parameter}
 
 append-list : (xs ys zs : List (List ℕ)) → (xs ++ ys) ++ zs ≡ xs ++ (ys ++ zs)
 append-list [] ys zs = refl

@@ -47,23 +47,23 @@ use Rattle.vl_mean.specs.Parts.{all_initial_parts, item_parts, step_parts}
 use Rattle.vl_mean.specs.Runs.{Each}
 use Rattle.vl_mean.specs.Scopes.{Scope}
 use Rattle.vl_mean.specs.Walk.{Place, Use, port}
-use Rattle.vl_same.specs.Flattened.{Known}
-use Rattle.vl_same.proofs.EachOf.{both}
-use Rattle.vl_names.proofs.Fresh.{NoneOf, none-front, none-back, not-refused}
-use Rattle.vl_names.proofs.Plain.{all-each}
-use Rattle.vl_refusal.specs.declared.elab_fault.ElabFault.{ElabFault}
-use Rattle.vl_refusal.specs.Expressions.{refused_if, expr_refusals}
-use Rattle.vl_refusal.specs.Items.{given_value, declared_value, name_refusals, names_refusals, port_net}
-use Rattle.vl_refusal.specs.Items.{port_refusals, assignments_refusals, item_refusals, event_refusals}
-use Rattle.vl_refusal.specs.Meanings.{Names, meanings_at, may_have_words, is_variable_class}
-use Rattle.vl_refusal.specs.Statements.{target_width, target_refusals, assigned_in, assignment_refusals}
-use Rattle.vl_refusal.specs.Statements.{initial_refusals, all_initial_refusals, stmt_refusals}
-use Rattle.vl_scope.specs.Seen.{AllNamed}
-use Rattle.vl_sized.specs.Sized.{AreSound}
-use Rattle.vl_known.specs.Means.{AreMeant}
-use Rattle.vl_known.proofs.Knowing.{known_expr, known_target, known_stmt}
-use Rattle.vl_meant.specs.Right.{AreRight}
-use Rattle.vl_parts.proofs.Spots.{HasWidth, start_fits}
+use Rattle.vl_mean_flat.specs.Flattened.{Known}
+use Rattle.vl_mean_flat.proofs.EachOf.{both}
+use Rattle.vl_elab_accepted_laws.proofs.Fresh.{NoneOf, none-front, none-back, not-refused}
+use Rattle.vl_elab_accepted_laws.proofs.Plain.{all-each}
+use Rattle.vl_elab_spec.specs.declared.elab_fault.ElabFault.{ElabFault}
+use Rattle.vl_elab_spec.specs.Expressions.{refused_if, expr_refusals}
+use Rattle.vl_elab_spec.specs.Items.{given_value, declared_value, name_refusals, names_refusals, port_net}
+use Rattle.vl_elab_spec.specs.Items.{port_refusals, assignments_refusals, item_refusals, event_refusals}
+use Rattle.vl_elab_spec.specs.Meanings.{Names, meanings_at, may_have_words, is_variable_class}
+use Rattle.vl_elab_spec.specs.Statements.{target_width, target_refusals, assigned_in, assignment_refusals}
+use Rattle.vl_elab_spec.specs.Statements.{initial_refusals, all_initial_refusals, stmt_refusals}
+use Rattle.vl_elab_scope.specs.Seen.{AllNamed}
+use Rattle.vl_elab_accepted_laws.specs.Sized.{AreSound}
+use Rattle.vl_elab_accepted_laws.specs.Means.{AreMeant}
+use Rattle.vl_elab_accepted_laws.proofs.Knowing.{known_expr, known_target, known_stmt}
+use Rattle.vl_elab_accepted_laws.specs.Right.{AreRight}
+use Rattle.vl_elab_accepted_laws.proofs.Spots.{HasWidth, start_fits}
 
 module _ (ns : List Names) (ss : List Scope) (n : AllNamed ns) (m : AreMeant ns ss) where
   -- ---- assignments

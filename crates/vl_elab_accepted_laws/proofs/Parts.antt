@@ -27,27 +27,29 @@ use Rattle.vl_mean.specs.ConstantFaults.{capped, wide_times}
 use Rattle.vl_mean.specs.Constants.{settled_exprs, settled_selects, named_constant, number_or, number_of}
 use Rattle.vl_mean.specs.Constants.{cut_to, vector_of, values_at, selected_constant}
 use Rattle.vl_mean.specs.Scopes.{is_clock_class}
-use Rattle.vl_same.specs.Names.{Names as EachName, AllNames, SelectsNames}
-use Rattle.vl_refusal.specs.declared.elab_fault.ElabFault.{ElabFault}
-use Rattle.vl_refusal.specs.declared.elab_fault.ElabFault.TheVariants as f
-use Rattle.vl_refusal.specs.Expressions.{refused_if, too_wide, part_width}
-use Rattle.vl_refusal.specs.Expressions.{vector_width, word_width, name_width, wide_size, wide_sizes, far, against}
-use Rattle.vl_refusal.specs.Expressions.{no_copies, none_behind, vector_selects, memory_selects, object_selects}
-use Rattle.vl_refusal.specs.Expressions.{read_refusals, is_constant_name, select_refusals}
-use Rattle.vl_refusal.specs.Expressions.{known}
-use Rattle.vl_refusal.specs.Meanings.{Meaning, undeclared, constant, loop_variable, object, faulty, shapeless, later}
-use Rattle.vl_refusal.specs.Meanings.{Names, meaning_in, value_of, constants, is_known, bound, objects}
-use Rattle.vl_names.proofs.Fresh.{NoneOf, none-front, none-back, not-refused, some-fault}
-use Rattle.vl_scope.specs.Seen.{AllNamed, object_of}
-use Rattle.vl_scope.specs.Texts.{selects_texts}
-use Rattle.vl_scope.proofs.Agree.{same_selects_divisor}
-use Rattle.vl_scope.proofs.Objects.{object_is}
-use Rattle.vl_sized.specs.Sized.{IsSound, AreSound, IsSure, AreSure, IsRead, IsSized}
-use Rattle.vl_sized.proofs.Fixed.{and_first, and_second, agree_on_none, fixed_size, fixed_divisor, fixed_index}
-use Rattle.vl_sized.proofs.Fixed.{fixed_vector}
-use Rattle.vl_sized.proofs.Tests.{passed, passed_both, narrow, or_true, or_left, both_none, bind_some, if_some}
-use Rattle.vl_sized.proofs.Tests.{some_same, some_is, few_uncapped, uncapped, copied}
-use Rattle.vl_sized.proofs.Tests.{unary_least, by_range, operated}
+use Rattle.vl_mean_flat.specs.Names.{Names as EachName, AllNames, SelectsNames}
+use Rattle.vl_elab_spec.specs.declared.elab_fault.ElabFault.{ElabFault}
+use Rattle.vl_elab_spec.specs.declared.elab_fault.ElabFault.TheVariants as f
+use Rattle.vl_elab_spec.specs.Expressions.{refused_if, too_wide, part_width}
+use Rattle.vl_elab_spec.specs.Expressions.{vector_width, word_width, name_width, wide_size, wide_sizes, far, against}
+use Rattle.vl_elab_spec.specs.Expressions.{no_copies, none_behind, vector_selects, memory_selects, object_selects}
+use Rattle.vl_elab_spec.specs.Expressions.{read_refusals, is_constant_name, select_refusals}
+use Rattle.vl_elab_spec.specs.Expressions.{known}
+use Rattle.vl_elab_spec.specs.Meanings.{Meaning, undeclared, constant, loop_variable, object, faulty, shapeless, later}
+use Rattle.vl_elab_spec.specs.Meanings.{Names, meaning_in, value_of, constants, is_known, bound, objects}
+use Rattle.vl_elab_accepted_laws.proofs.Fresh.{NoneOf, none-front, none-back, not-refused, some-fault}
+use Rattle.vl_elab_scope.specs.Seen.{AllNamed, object_of}
+use Rattle.vl_elab_scope.specs.Texts.{selects_texts}
+use Rattle.vl_elab_scope.proofs.Agree.{same_selects_divisor}
+use Rattle.vl_elab_scope.proofs.ScopeObjects.{object_is}
+use Rattle.vl_elab_accepted_laws.specs.Sized.{IsSound, AreSound, IsSure, AreSure, IsRead, IsSized}
+use Rattle.vl_elab_accepted_laws.proofs.Fixed.{and_first, and_second, agree_on_none, fixed_size, fixed_divisor}
+use Rattle.vl_elab_accepted_laws.proofs.Fixed.{fixed_index}
+use Rattle.vl_elab_accepted_laws.proofs.Fixed.{fixed_vector}
+use Rattle.vl_elab_accepted_laws.proofs.Tests.{passed, passed_both, narrow, or_true, or_left, both_none, bind_some}
+use Rattle.vl_elab_accepted_laws.proofs.Tests.{if_some}
+use Rattle.vl_elab_accepted_laws.proofs.Tests.{some_same, some_is, few_uncapped, uncapped, copied}
+use Rattle.vl_elab_accepted_laws.proofs.Tests.{unary_least, by_range, operated}
 
 module _ (ns : List Names) where
   abbrev pub ds : List Decl

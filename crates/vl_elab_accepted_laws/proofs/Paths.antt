@@ -52,13 +52,14 @@ use Rattle.vl_mean.specs.Walk.{connections_of}
 use Rattle.vl_mean.specs.Walk.{override_steps, connection_steps, with_module, instance_steps, turn_place, turns}
 use Rattle.vl_mean.specs.Walk.{goes_on, next_turn, first_turn, loop_turns, turn_path, block_place, block_path}
 use Rattle.vl_mean.specs.Walk.{single_place, item_steps, items_steps, turn_steps, block_steps, unfolded}
-use Rattle.vl_same.proofs.EachOf.{both}
-use Rattle.vl_names.proofs.Items.{found-module, genvar-turn, label-named, start-turn}
-use Rattle.vl_names.proofs.Loops.{AreFew, few-back, few-front, few-next, few-one, few-rest, few-start, few-tail}
-use Rattle.vl_names.proofs.Loops.{none-or-more, one-or-more, positive-one, positive-sum}
-use Rattle.vl_names.proofs.Plain.{all-each}
-use Rattle.vl_names.proofs.Turns.{IsTurn}
-use Rattle.vl_clean.proofs.Letters.{Clean, clean_both, label_clean, name_clean, turn_clean}
+use Rattle.vl_mean_flat.proofs.EachOf.{both}
+use Rattle.vl_elab_accepted_laws.proofs.Items.{found-module, genvar-turn, label-named, start-turn}
+use Rattle.vl_elab_accepted_laws.proofs.Loops.{AreFew, few-back, few-front, few-next, few-one, few-rest, few-start}
+use Rattle.vl_elab_accepted_laws.proofs.Loops.{few-tail}
+use Rattle.vl_elab_accepted_laws.proofs.Loops.{none-or-more, one-or-more, positive-one, positive-sum}
+use Rattle.vl_elab_accepted_laws.proofs.Plain.{all-each}
+use Rattle.vl_elab_accepted_laws.proofs.Turns.{IsTurn}
+use Rattle.vl_elab_accepted_laws.proofs.Letters.{Clean, clean_both, label_clean, name_clean, turn_clean}
 
 -- where a step declares names, its path is clean, and the names are names
 abbrev pub IsClean : Step → Type 0

@@ -30,32 +30,36 @@ use Rattle.vl_mean.specs.Walk.{module_constants, module_around, module_scope, mo
 use Rattle.vl_mean.specs.Walk.{module_names}
 use Rattle.vl_mean.specs.Walk.{parameter_names, port_names, written_ports, header_steps, port_step, port_steps}
 use Rattle.vl_mean.specs.Walk.{optional_name, turn_place, block_place}
-use Rattle.vl_same.proofs.EachOf.{both, front, back, each_map}
-use Rattle.vl_refusal.specs.Items.{parameter_refusals, parameters_refusals, range_refusals, width_refusals}
-use Rattle.vl_refusal.specs.Items.{given_value, port_net, inner_meanings}
-use Rattle.vl_refusal.specs.Meanings.{Meaning, undeclared, constant, Names, is_undeclared, meaning_in, all_meanings}
-use Rattle.vl_refusal.specs.Meanings.{constants, meanings_at, parameters_of, is_overridden}
-use Rattle.vl_names.proofs.Contained.{Has, Lacks, clash, has-first, has-back, or_right, each-has, lacks-append}
-use Rattle.vl_names.proofs.Contained.{lacks-each}
-use Rattle.vl_names.proofs.Fresh.{NoneOf, IsFine, none-front, none-back, ports-new}
-use Rattle.vl_names.proofs.Loops.{AreFine}
-use Rattle.vl_names.proofs.Plain.{all-each}
-use Rattle.vl_scope.specs.Seen.{AllNamed}
-use Rattle.vl_sized.specs.Sized.{AreSound, IsSound}
-use Rattle.vl_fixed.specs.Among.{AreAmong}
-use Rattle.vl_known.specs.Means.{AreMeant}
-use Rattle.vl_meant.proofs.Level.{AreLaid, all_named, all_meant, own, own_names, ports as own_ports}
-use Rattle.vl_meant.proofs.Level.{objects as own_objects}
-use Rattle.vl_meant.proofs.Laid.{module_laid, block_laid, turn_laid, constant_names, no_constant, parameters_list}
-use Rattle.vl_meant.proofs.Laid.{items_list}
-use Rattle.vl_parts.specs.Joined.{IsObject, PortsAreObjects}
-use Rattle.vl_sound.proofs.Constants.{IsNarrow}
-use Rattle.vl_sound.proofs.Standing.{AreItsConstants, level}
-use Rattle.vl_sound.proofs.Reached.{AreConstants}
-use Rattle.vl_sound.proofs.Parameters.{ItemsFine, all_constant, parameters_new, fewer}
-use Rattle.vl_sound.proofs.Shapes.{IsShapedObject, among_bounds, shape_read, ports_shaped, ports_declared, items_shaped}
-use Rattle.vl_sound.proofs.Shapes.{lists_ports, objects_sound, items_sound, ports_sound, scope_sound, port_object}
-use Rattle.vl_sound.proofs.Shapes.{declares_front, declares_back}
+use Rattle.vl_mean_flat.proofs.EachOf.{both, front, back, each_map}
+use Rattle.vl_elab_spec.specs.Items.{parameter_refusals, parameters_refusals, range_refusals, width_refusals}
+use Rattle.vl_elab_spec.specs.Items.{given_value, port_net, inner_meanings}
+use Rattle.vl_elab_spec.specs.Meanings.{Meaning, undeclared, constant, Names, is_undeclared, meaning_in, all_meanings}
+use Rattle.vl_elab_spec.specs.Meanings.{constants, meanings_at, parameters_of, is_overridden}
+use Rattle.vl_elab_accepted_laws.proofs.Contained.{Has, Lacks, clash, has-first, has-back, or_right, each-has}
+use Rattle.vl_elab_accepted_laws.proofs.Contained.{lacks-append}
+use Rattle.vl_elab_accepted_laws.proofs.Contained.{lacks-each}
+use Rattle.vl_elab_accepted_laws.proofs.Fresh.{NoneOf, IsFine, none-front, none-back, ports-new}
+use Rattle.vl_elab_accepted_laws.proofs.Loops.{AreFine}
+use Rattle.vl_elab_accepted_laws.proofs.Plain.{all-each}
+use Rattle.vl_elab_scope.specs.Seen.{AllNamed}
+use Rattle.vl_elab_accepted_laws.specs.Sized.{AreSound, IsSound}
+use Rattle.vl_elab_spec.specs.Among.{AreAmong}
+use Rattle.vl_elab_accepted_laws.specs.Means.{AreMeant}
+use Rattle.vl_elab_accepted_laws.proofs.Level.{AreLaid, all_named, all_meant, own, own_names, ports as own_ports}
+use Rattle.vl_elab_accepted_laws.proofs.Level.{objects as own_objects}
+use Rattle.vl_elab_accepted_laws.proofs.Laid.{module_laid, block_laid, turn_laid, constant_names, no_constant}
+use Rattle.vl_elab_accepted_laws.proofs.Laid.{parameters_list}
+use Rattle.vl_elab_accepted_laws.proofs.Laid.{items_list}
+use Rattle.vl_elab_accepted_laws.specs.Joined.{IsObject, PortsAreObjects}
+use Rattle.vl_elab_accepted_laws.proofs.Constants.{IsNarrow}
+use Rattle.vl_elab_accepted_laws.proofs.Standing.{AreItsConstants, level}
+use Rattle.vl_elab_accepted_laws.proofs.Reached.{AreConstants}
+use Rattle.vl_elab_accepted_laws.proofs.Parameters.{ItemsFine, all_constant, parameters_new, fewer}
+use Rattle.vl_elab_accepted_laws.proofs.Shapes.{IsShapedObject, among_bounds, shape_read, ports_shaped, ports_declared}
+use Rattle.vl_elab_accepted_laws.proofs.Shapes.{items_shaped}
+use Rattle.vl_elab_accepted_laws.proofs.Shapes.{lists_ports, objects_sound, items_sound, ports_sound, scope_sound}
+use Rattle.vl_elab_accepted_laws.proofs.Shapes.{port_object}
+use Rattle.vl_elab_accepted_laws.proofs.Shapes.{declares_front, declares_back}
 
 -- a place in which names are sound, and stand for what its scopes are made from
 pub record IsSoundPlace (at : Place) : Type 0 where

@@ -9,9 +9,9 @@ use Rattle.vl_tree.specs.declared.declaration.DeclaredName.{DeclaredName}
 use Rattle.vl_tree.specs.DeclarationWellFormed.{IsDeclaredName}
 use Rattle.vl_tree.specs.ExprWellFormed.{IsName}
 use Rattle.vl_mean.specs.Runs.{Each}
-use Rattle.vl_names.proofs.Declared.{name_list}
-use Rattle.vl_names.proofs.Genblk.{is_mark}
-use Rattle.vl_names.proofs.Texts.{is_free}
+use Rattle.vl_elab_accepted_laws.proofs.Declared.{name_list}
+use Rattle.vl_elab_accepted_laws.proofs.Genblk.{is_mark}
+use Rattle.vl_elab_accepted_laws.proofs.Texts.{is_free}
 
 abbrev pub Plain : List ℕ → Type 0
 Plain text = is_free is_mark text ≡ true

@@ -24,26 +24,28 @@ use Rattle.vl_mean.specs.Runs.{Each}
 use Rattle.vl_mean.specs.Walk.{Place, Step, header, port, item, override, connection, first_turn, module_named}
 use Rattle.vl_mean.specs.Walk.{top_input}
 use Rattle.vl_mean.specs.Walk.{walk}
-use Rattle.vl_same.specs.Flattened.{decls_of}
-use Rattle.vl_same.proofs.EachOf.{both}
-use Rattle.vl_refusal.specs.declared.elab_fault.ElabFault.{ElabFault}
-use Rattle.vl_refusal.specs.declared.elab_fault.ElabFault.TheVariants as f
-use Rattle.vl_refusal.specs.Counts.{item_nodes, step_nodes, turn_nodes}
-use Rattle.vl_refusal.specs.Items.{step_refusals}
-use Rattle.vl_refusal.specs.Refused.{Totals, counted, first_refused, is_too_large, lowest, or_later}
-use Rattle.vl_refusal.specs.Refused.{refusals_at}
-use Rattle.vl_names.proofs.Contained.{or_first}
-use Rattle.vl_names.proofs.Declared.{assignments-none, block-none, connection-none, initial-none, integers-under}
-use Rattle.vl_names.proofs.Declared.{name_list}
-use Rattle.vl_names.proofs.Declared.{optional-none, part-append, part_names, under, values-none, vectors-under}
-use Rattle.vl_names.specs.Unrefused.{NoStepRefused}
-use Rattle.vl_names.proofs.Fresh.{NoneOf, none-back, not-refused}
-use Rattle.vl_names.proofs.Items.{found-module}
-use Rattle.vl_names.proofs.Loops.{AreFew}
-use Rattle.vl_names.proofs.Plain.{all-each}
-use Rattle.vl_names.proofs.Texts.{is_free}
-use Rattle.vl_clean.proofs.Letters.{Clean, clean_both, is_hidden, name_clean}
-use Rattle.vl_clean.proofs.Paths.{IsClean, found_module, unfolded_clean}
+use Rattle.vl_mean_flat.specs.Flattened.{decls_of}
+use Rattle.vl_mean_flat.proofs.EachOf.{both}
+use Rattle.vl_elab_spec.specs.declared.elab_fault.ElabFault.{ElabFault}
+use Rattle.vl_elab_spec.specs.declared.elab_fault.ElabFault.TheVariants as f
+use Rattle.vl_elab_spec.specs.Counts.{item_nodes, step_nodes, turn_nodes}
+use Rattle.vl_elab_spec.specs.Items.{step_refusals}
+use Rattle.vl_elab_spec.specs.Refused.{Totals, counted, first_refused, is_too_large, lowest, or_later}
+use Rattle.vl_elab_spec.specs.Refused.{refusals_at}
+use Rattle.vl_elab_accepted_laws.proofs.Contained.{or_first}
+use Rattle.vl_elab_accepted_laws.proofs.Declared.{assignments-none, block-none, connection-none, initial-none}
+use Rattle.vl_elab_accepted_laws.proofs.Declared.{integers-under}
+use Rattle.vl_elab_accepted_laws.proofs.Declared.{name_list}
+use Rattle.vl_elab_accepted_laws.proofs.Declared.{optional-none, part-append, part_names, under, values-none}
+use Rattle.vl_elab_accepted_laws.proofs.Declared.{vectors-under}
+use Rattle.vl_elab_accepted_laws.specs.Unrefused.{NoStepRefused}
+use Rattle.vl_elab_accepted_laws.proofs.Fresh.{NoneOf, none-back, not-refused}
+use Rattle.vl_elab_accepted_laws.proofs.Items.{found-module}
+use Rattle.vl_elab_accepted_laws.proofs.Loops.{AreFew}
+use Rattle.vl_elab_accepted_laws.proofs.Plain.{all-each}
+use Rattle.vl_elab_accepted_laws.proofs.Texts.{is_free}
+use Rattle.vl_elab_accepted_laws.proofs.Letters.{Clean, clean_both, is_hidden, name_clean}
+use Rattle.vl_elab_accepted_laws.proofs.Paths.{IsClean, found_module, unfolded_clean}
 
 -- ---- names of steps
 

@@ -11,24 +11,25 @@ use Rattle.vl_mean.specs.Declarations.{Overrides}
 use Rattle.vl_mean.specs.Runs.{Each}
 use Rattle.vl_mean.specs.Scopes.{Scope}
 use Rattle.vl_mean.specs.Walk.{Contents}
-use Rattle.vl_same.proofs.EachOf.{each_map}
-use Rattle.vl_refusal.specs.Expressions.{expr_refusals}
-use Rattle.vl_refusal.specs.Items.{range_refusals, width_refusals, value_context}
-use Rattle.vl_refusal.specs.Meanings.{Meaning, undeclared, constant, loop_variable, object, faulty, shapeless, later}
-use Rattle.vl_refusal.specs.Meanings.{Names, is_undeclared, meaning_of, meaning_in, value_of, constants, constant_or}
-use Rattle.vl_refusal.specs.Meanings.{all_later, not_reached, is_overridden, is_known_parameter, is_known_value}
-use Rattle.vl_refusal.specs.Meanings.{is_known_shape}
-use Rattle.vl_names.proofs.Contained.{same_text}
-use Rattle.vl_names.proofs.Fresh.{NoneOf}
-use Rattle.vl_scope.specs.Seen.{IsNamed, AreNamed, AllNamed}
-use Rattle.vl_sized.specs.Sized.{IsSure, AreSure, IsSound, AreSound}
-use Rattle.vl_fixed.specs.Among.{AreAmong}
-use Rattle.vl_meant.proofs.Entries.{names_in}
-use Rattle.vl_meant.proofs.Level.{own, own_names, other_names, level_named}
-use Rattle.vl_sound.proofs.Constants.{IsNarrow, shape_known, shape_there, value_there}
-use Rattle.vl_sound.proofs.Standing.{IsThing, AreItsConstants, level, own_meaning, other_meaning, standing}
-use Rattle.vl_sound.proofs.Standing.{named_own, named_other, not_named, each_found, none_behind, own_listed}
-use Rattle.vl_sound.proofs.Standing.{Standing}
+use Rattle.vl_mean_flat.proofs.EachOf.{each_map}
+use Rattle.vl_elab_spec.specs.Expressions.{expr_refusals}
+use Rattle.vl_elab_spec.specs.Items.{range_refusals, width_refusals, value_context}
+use Rattle.vl_elab_spec.specs.Meanings.{Meaning, undeclared, constant, loop_variable, object, faulty, shapeless, later}
+use Rattle.vl_elab_spec.specs.Meanings.{Names, is_undeclared, meaning_of, meaning_in, value_of, constants, constant_or}
+use Rattle.vl_elab_spec.specs.Meanings.{all_later, not_reached, is_overridden, is_known_parameter, is_known_value}
+use Rattle.vl_elab_spec.specs.Meanings.{is_known_shape}
+use Rattle.vl_elab_accepted_laws.proofs.Contained.{same_text}
+use Rattle.vl_elab_accepted_laws.proofs.Fresh.{NoneOf}
+use Rattle.vl_elab_scope.specs.Seen.{IsNamed, AreNamed, AllNamed}
+use Rattle.vl_elab_accepted_laws.specs.Sized.{IsSure, AreSure, IsSound, AreSound}
+use Rattle.vl_elab_spec.specs.Among.{AreAmong}
+use Rattle.vl_elab_accepted_laws.proofs.Entries.{names_in}
+use Rattle.vl_elab_accepted_laws.proofs.Level.{own, own_names, other_names, level_named}
+use Rattle.vl_elab_accepted_laws.proofs.Constants.{IsNarrow, shape_known, shape_there, value_there}
+use Rattle.vl_elab_accepted_laws.proofs.Standing.{IsThing, AreItsConstants, level, own_meaning, other_meaning, standing}
+use Rattle.vl_elab_accepted_laws.proofs.Standing.{named_own, named_other, not_named, each_found, none_behind}
+use Rattle.vl_elab_accepted_laws.proofs.Standing.{own_listed}
+use Rattle.vl_elab_accepted_laws.proofs.Standing.{Standing}
 
 abbrev pub IsConstant : Meaning → Type 0
 IsConstant (constant c selected) = Unit {0}

@@ -42,17 +42,22 @@ use Rattle.vl_mean.specs.Walk.{Place, Use, Step, Unfolding, item, connections_of
 use Rattle.vl_mean.specs.Walk.{override_steps, connection_steps, module_scope, loop_turns, next_turn, first_turn}
 use Rattle.vl_mean.specs.Walk.{turn_place, turn_path, block_place, block_path, item_steps, items_steps, turn_steps}
 use Rattle.vl_mean.specs.Walk.{block_steps, with_earlier}
-use Rattle.vl_same.proofs.EachOf.{front, back}
-use Rattle.vl_names.proofs.Contained.{Has, Lacks, has-first, has-front, has-back}
-use Rattle.vl_names.proofs.Declared.{full_names}
-use Rattle.vl_names.proofs.Fresh.{IsFine, names-new, item-new, none-front, Ends, loop-ends}
-use Rattle.vl_names.proofs.Good.{Good, good-none, good-map, good-both, Under, Any, under-map, under-apart, deeper}
-use Rattle.vl_names.proofs.Items.{IsNumbered, ItemHead, BlockHead, ItemsHead, item-apart, item-first, item-rest}
-use Rattle.vl_names.proofs.Items.{good-objects, good-nothing, front-none, good-module, Given, label-plain, label-head}
-use Rattle.vl_names.proofs.Items.{label-named, loop-head, if-names, self, genvar-turn, start-turn}
-use Rattle.vl_names.proofs.Loops.{AreFine, AreFew, few-front, few-start, few-tail, few-one, few-next, few-rest}
-use Rattle.vl_names.proofs.Loops.{none-or-more, one-or-more, positive-sum, positive-one, good-turns, later-under}
-use Rattle.vl_names.proofs.Plain.{name-plain, names-plain}
+use Rattle.vl_mean_flat.proofs.EachOf.{front, back}
+use Rattle.vl_elab_accepted_laws.proofs.Contained.{Has, Lacks, has-first, has-front, has-back}
+use Rattle.vl_elab_accepted_laws.proofs.Declared.{full_names}
+use Rattle.vl_elab_accepted_laws.proofs.Fresh.{IsFine, names-new, item-new, none-front, Ends, loop-ends}
+use Rattle.vl_elab_accepted_laws.proofs.Good.{Good, good-none, good-map, good-both, Under, Any, under-map, under-apart}
+use Rattle.vl_elab_accepted_laws.proofs.Good.{deeper}
+use Rattle.vl_elab_accepted_laws.proofs.Items.{IsNumbered, ItemHead, BlockHead, ItemsHead, item-apart, item-first}
+use Rattle.vl_elab_accepted_laws.proofs.Items.{item-rest}
+use Rattle.vl_elab_accepted_laws.proofs.Items.{good-objects, good-nothing, front-none, good-module, Given, label-plain}
+use Rattle.vl_elab_accepted_laws.proofs.Items.{label-head}
+use Rattle.vl_elab_accepted_laws.proofs.Items.{label-named, loop-head, if-names, self, genvar-turn, start-turn}
+use Rattle.vl_elab_accepted_laws.proofs.Loops.{AreFine, AreFew, few-front, few-start, few-tail, few-one, few-next}
+use Rattle.vl_elab_accepted_laws.proofs.Loops.{few-rest}
+use Rattle.vl_elab_accepted_laws.proofs.Loops.{none-or-more, one-or-more, positive-sum, positive-one, good-turns}
+use Rattle.vl_elab_accepted_laws.proofs.Loops.{later-under}
+use Rattle.vl_elab_accepted_laws.proofs.Plain.{name-plain, names-plain}
 
 -- of a block in the scope around it
 in-block : {H : List ℕ → Type 0} → (path : List ℕ) (names : List (List ℕ)) (b : Block) (n : ℕ)

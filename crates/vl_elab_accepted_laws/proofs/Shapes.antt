@@ -27,35 +27,40 @@ use Rattle.vl_mean.specs.Declarations.{declared_ports, integer_decl, names_of, p
 use Rattle.vl_mean.specs.Runs.{Each}
 use Rattle.vl_mean.specs.Scopes.{Scope, constant_in, constant_unless}
 use Rattle.vl_mean.specs.Walk.{Contents, Place, port_names}
-use Rattle.vl_same.proofs.EachOf.{both, each_map}
-use Rattle.vl_refusal.specs.declared.elab_fault.ElabFault.{ElabFault}
-use Rattle.vl_refusal.specs.declared.elab_fault.ElabFault.TheVariants as f
-use Rattle.vl_refusal.specs.Expressions.{refused_if}
-use Rattle.vl_refusal.specs.Items.{twice, placed_names, range_refusals, width_refusals, name_refusals, names_refusals}
-use Rattle.vl_refusal.specs.Items.{declared_value, item_refusals}
-use Rattle.vl_refusal.specs.Meanings.{Meaning, undeclared, constant, loop_variable, object, faulty, shapeless, later}
-use Rattle.vl_refusal.specs.Meanings.{Names, is_undeclared, meaning_of, meaning_in, value_of, constants, object_or}
-use Rattle.vl_refusal.specs.Meanings.{all_meanings, is_known_range, is_known_shape, declared_width, may_have_words}
-use Rattle.vl_refusal.specs.Meanings.{port_meanings, name_meanings, item_meanings, items_meanings, is_input}
-use Rattle.vl_names.proofs.Contained.{Has, Lacks, clash, or_right, text_same, has-front, has-back, lacks-front}
-use Rattle.vl_names.proofs.Fresh.{NoneOf, none-front, none-back, not-refused}
-use Rattle.vl_names.proofs.Plain.{all-each}
-use Rattle.vl_scope.specs.Seen.{AllNamed}
-use Rattle.vl_sized.specs.Sized.{IsSound, AreSound}
-use Rattle.vl_fixed.specs.Among.{AreAmong}
-use Rattle.vl_fixed.proofs.Stays.{known_bound}
-use Rattle.vl_known.specs.Means.{MeansIn, AreMeant}
-use Rattle.vl_meant.proofs.Entries.{FoundMeans, names_in, object_names, port_list}
-use Rattle.vl_meant.proofs.Level.{own, ports, objects, own_parameters, others, own_names, other_names, entry_found}
-use Rattle.vl_meant.proofs.Level.{level_named, append_meaning, around as around_own}
-use Rattle.vl_parts.specs.Joined.{IsObject}
-use Rattle.vl_sound.proofs.Constants.{IsNarrow, shape_known, shape_there, range_known, range_there, first_true}
-use Rattle.vl_sound.proofs.Constants.{second_true}
-use Rattle.vl_sound.proofs.Standing.{AreItsConstants, Standing, named_own, named_other, not_named, standing, level}
-use Rattle.vl_sound.proofs.Standing.{own_meaning, other_meaning, each_found}
-use Rattle.vl_sound.proofs.Reached.{AreConstants, IsConstant, AreThere, there_append, behind_sure, behind_among}
-use Rattle.vl_sound.proofs.Reached.{inner_meaning, outer_meaning, no_value}
-use Rattle.vl_sound.proofs.Parameters.{ItemsFine, at}
+use Rattle.vl_mean_flat.proofs.EachOf.{both, each_map}
+use Rattle.vl_elab_spec.specs.declared.elab_fault.ElabFault.{ElabFault}
+use Rattle.vl_elab_spec.specs.declared.elab_fault.ElabFault.TheVariants as f
+use Rattle.vl_elab_spec.specs.Expressions.{refused_if}
+use Rattle.vl_elab_spec.specs.Items.{twice, placed_names, range_refusals, width_refusals, name_refusals, names_refusals}
+use Rattle.vl_elab_spec.specs.Items.{declared_value, item_refusals}
+use Rattle.vl_elab_spec.specs.Meanings.{Meaning, undeclared, constant, loop_variable, object, faulty, shapeless, later}
+use Rattle.vl_elab_spec.specs.Meanings.{Names, is_undeclared, meaning_of, meaning_in, value_of, constants, object_or}
+use Rattle.vl_elab_spec.specs.Meanings.{all_meanings, is_known_range, is_known_shape, declared_width, may_have_words}
+use Rattle.vl_elab_spec.specs.Meanings.{port_meanings, name_meanings, item_meanings, items_meanings, is_input}
+use Rattle.vl_elab_accepted_laws.proofs.Contained.{Has, Lacks, clash, or_right, text_same, has-front, has-back}
+use Rattle.vl_elab_accepted_laws.proofs.Contained.{lacks-front}
+use Rattle.vl_elab_accepted_laws.proofs.Fresh.{NoneOf, none-front, none-back, not-refused}
+use Rattle.vl_elab_accepted_laws.proofs.Plain.{all-each}
+use Rattle.vl_elab_scope.specs.Seen.{AllNamed}
+use Rattle.vl_elab_accepted_laws.specs.Sized.{IsSound, AreSound}
+use Rattle.vl_elab_spec.specs.Among.{AreAmong}
+use Rattle.vl_elab_spec.proofs.Stays.{known_bound}
+use Rattle.vl_elab_accepted_laws.specs.Means.{MeansIn, AreMeant}
+use Rattle.vl_elab_accepted_laws.proofs.Entries.{FoundMeans, names_in, object_names, port_list}
+use Rattle.vl_elab_accepted_laws.proofs.Level.{own, ports, objects, own_parameters, others, own_names, other_names}
+use Rattle.vl_elab_accepted_laws.proofs.Level.{entry_found}
+use Rattle.vl_elab_accepted_laws.proofs.Level.{level_named, append_meaning, around as around_own}
+use Rattle.vl_elab_accepted_laws.specs.Joined.{IsObject}
+use Rattle.vl_elab_accepted_laws.proofs.Constants.{IsNarrow, shape_known, shape_there, range_known, range_there}
+use Rattle.vl_elab_accepted_laws.proofs.Constants.{first_true}
+use Rattle.vl_elab_accepted_laws.proofs.Constants.{second_true}
+use Rattle.vl_elab_accepted_laws.proofs.Standing.{AreItsConstants, Standing, named_own, named_other, not_named}
+use Rattle.vl_elab_accepted_laws.proofs.Standing.{standing, level}
+use Rattle.vl_elab_accepted_laws.proofs.Standing.{own_meaning, other_meaning, each_found}
+use Rattle.vl_elab_accepted_laws.proofs.Reached.{AreConstants, IsConstant, AreThere, there_append, behind_sure}
+use Rattle.vl_elab_accepted_laws.proofs.Reached.{behind_among}
+use Rattle.vl_elab_accepted_laws.proofs.Reached.{inner_meaning, outer_meaning, no_value}
+use Rattle.vl_elab_accepted_laws.proofs.Parameters.{ItemsFine, at}
 
 -- ---- declared names
 

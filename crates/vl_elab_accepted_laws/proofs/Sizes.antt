@@ -36,24 +36,26 @@ use Rattle.vl_size.specs.Table.{span}
 use Rattle.vl_size.specs.Way.{way, keeps_size}
 use Rattle.vl_size.proofs.Rest.{within_near}
 use Rattle.vl_mean.specs.ConstantFaults.{capped, wide_times}
-use Rattle.vl_refusal.specs.declared.elab_fault.ElabFault.TheVariants as f
-use Rattle.vl_refusal.specs.Expressions.{refused_if, too_wide}
-use Rattle.vl_refusal.specs.Expressions.{vector_width, word_width, far, against}
-use Rattle.vl_refusal.specs.Expressions.{no_copies, none_behind, vector_selects, memory_selects}
-use Rattle.vl_refusal.specs.Expressions.{refusals, all_refusals, select_refusals}
-use Rattle.vl_refusal.specs.Expressions.{known, expr_refusals}
-use Rattle.vl_refusal.specs.Meanings.{Meaning, undeclared, constant, loop_variable, object, faulty, shapeless, later}
-use Rattle.vl_refusal.specs.Meanings.{Names, meaning_in, is_known, bound, objects}
-use Rattle.vl_names.proofs.Contained.{or_first}
-use Rattle.vl_names.proofs.Fresh.{NoneOf, none-front, none-back, some-fault}
-use Rattle.vl_scope.specs.Seen.{AllNamed}
-use Rattle.vl_sized.specs.Sized.{IsSound, AreSound, IsSure, AreSure, IsSized}
-use Rattle.vl_sized.proofs.Fixed.{no_texts}
-use Rattle.vl_sized.proofs.Tests.{passed, narrow, both_none, undivided}
-use Rattle.vl_sized.proofs.Tests.{within_sum, capped_sum, few_uncapped, uncapped, copied}
-use Rattle.vl_sized.proofs.Parts.{ds, of, of_exprs, of_selects, known_true, part_at, fits_along, part_wide, count_at}
-use Rattle.vl_sized.proofs.Parts.{AreSelected, AreSized, concat_sized, repeat_sized, unary_sized, binary_sized}
-use Rattle.vl_sized.proofs.Parts.{conditional_sized, named_fine}
+use Rattle.vl_elab_spec.specs.declared.elab_fault.ElabFault.TheVariants as f
+use Rattle.vl_elab_spec.specs.Expressions.{refused_if, too_wide}
+use Rattle.vl_elab_spec.specs.Expressions.{vector_width, word_width, far, against}
+use Rattle.vl_elab_spec.specs.Expressions.{no_copies, none_behind, vector_selects, memory_selects}
+use Rattle.vl_elab_spec.specs.Expressions.{refusals, all_refusals, select_refusals}
+use Rattle.vl_elab_spec.specs.Expressions.{known, expr_refusals}
+use Rattle.vl_elab_spec.specs.Meanings.{Meaning, undeclared, constant, loop_variable, object, faulty, shapeless, later}
+use Rattle.vl_elab_spec.specs.Meanings.{Names, meaning_in, is_known, bound, objects}
+use Rattle.vl_elab_accepted_laws.proofs.Contained.{or_first}
+use Rattle.vl_elab_accepted_laws.proofs.Fresh.{NoneOf, none-front, none-back, some-fault}
+use Rattle.vl_elab_scope.specs.Seen.{AllNamed}
+use Rattle.vl_elab_accepted_laws.specs.Sized.{IsSound, AreSound, IsSure, AreSure, IsSized}
+use Rattle.vl_elab_accepted_laws.proofs.Fixed.{no_texts}
+use Rattle.vl_elab_accepted_laws.proofs.Tests.{passed, narrow, both_none, undivided}
+use Rattle.vl_elab_accepted_laws.proofs.Tests.{within_sum, capped_sum, few_uncapped, uncapped, copied}
+use Rattle.vl_elab_accepted_laws.proofs.Parts.{ds, of, of_exprs, of_selects, known_true, part_at, fits_along, part_wide}
+use Rattle.vl_elab_accepted_laws.proofs.Parts.{count_at}
+use Rattle.vl_elab_accepted_laws.proofs.Parts.{AreSelected, AreSized, concat_sized, repeat_sized, unary_sized}
+use Rattle.vl_elab_accepted_laws.proofs.Parts.{binary_sized}
+use Rattle.vl_elab_accepted_laws.proofs.Parts.{conditional_sized, named_fine}
 
 -- where no constant is demanded, each net and variable has a known shape
 module _ (ns : List Names) (named : AllNamed ns) (sure : AreSure ns) (Free : Type 0) (sound : Free → AreSound ns) where

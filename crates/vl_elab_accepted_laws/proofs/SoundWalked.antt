@@ -50,22 +50,24 @@ use Rattle.vl_mean.specs.Walk.{override_steps, connection_steps, with_module, in
 use Rattle.vl_mean.specs.Walk.{goes_on, next_turn, first_turn, loop_turns, turn_path, block_place, block_path}
 use Rattle.vl_mean.specs.Walk.{single_place, single_number, item_steps, items_steps, turn_steps, block_steps, unfolded}
 use Rattle.vl_mean.specs.Walk.{walk, top_input, connected, class_by_connection}
-use Rattle.vl_same.proofs.EachOf.{both, front, back, each_map}
-use Rattle.vl_refusal.specs.declared.elab_fault.ElabFault.{ElabFault}
-use Rattle.vl_refusal.specs.Items.{inner_meanings}
-use Rattle.vl_names.specs.Unrefused.{NoStepRefused}
-use Rattle.vl_names.proofs.Contained.{Lacks, or_first, or_second, text_same}
-use Rattle.vl_names.proofs.Fresh.{IsFine, none-front, not-refused}
-use Rattle.vl_names.proofs.Items.{found-module}
-use Rattle.vl_names.proofs.Loops.{AreFine}
-use Rattle.vl_names.proofs.Names.{walk-fine}
-use Rattle.vl_names.proofs.Plain.{all-each}
-use Rattle.vl_sized.specs.Sized.{AreSound}
-use Rattle.vl_parts.specs.Joined.{PortsAreObjects}
-use Rattle.vl_sound.specs.SoundSteps.{HasSoundNames, HasSoundBounds, HasOwnInput, IsFormedStep}
-use Rattle.vl_sound.proofs.Parameters.{ItemsFine}
-use Rattle.vl_sound.proofs.Places.{IsSoundPlace, IsSoundScope, turn_sound, block_sound, IsFormedPort, port_formed}
-use Rattle.vl_sound.proofs.Places.{written_formed, IsSoundModule, module_ports_place, module_items_place, module_sound}
+use Rattle.vl_mean_flat.proofs.EachOf.{both, front, back, each_map}
+use Rattle.vl_elab_spec.specs.declared.elab_fault.ElabFault.{ElabFault}
+use Rattle.vl_elab_spec.specs.Items.{inner_meanings}
+use Rattle.vl_elab_accepted_laws.specs.Unrefused.{NoStepRefused}
+use Rattle.vl_elab_accepted_laws.proofs.Contained.{Lacks, or_first, or_second, text_same}
+use Rattle.vl_elab_accepted_laws.proofs.Fresh.{IsFine, none-front, not-refused}
+use Rattle.vl_elab_accepted_laws.proofs.Items.{found-module}
+use Rattle.vl_elab_accepted_laws.proofs.Loops.{AreFine}
+use Rattle.vl_elab_accepted_laws.proofs.Names.{walk-fine}
+use Rattle.vl_elab_accepted_laws.proofs.Plain.{all-each}
+use Rattle.vl_elab_accepted_laws.specs.Sized.{AreSound}
+use Rattle.vl_elab_accepted_laws.specs.Joined.{PortsAreObjects}
+use Rattle.vl_elab_accepted_laws.specs.SoundSteps.{HasSoundNames, HasSoundBounds, HasOwnInput, IsFormedStep}
+use Rattle.vl_elab_accepted_laws.proofs.Parameters.{ItemsFine}
+use Rattle.vl_elab_accepted_laws.proofs.Places.{IsSoundPlace, IsSoundScope, turn_sound, block_sound, IsFormedPort}
+use Rattle.vl_elab_accepted_laws.proofs.Places.{port_formed}
+use Rattle.vl_elab_accepted_laws.proofs.Places.{written_formed, IsSoundModule, module_ports_place, module_items_place}
+use Rattle.vl_elab_accepted_laws.proofs.Places.{module_sound}
 
 abbrev IsGood : Step → Type 0
 IsGood x = HasSoundNames x × IsFormedStep x × HasSoundBounds x × HasOwnInput x

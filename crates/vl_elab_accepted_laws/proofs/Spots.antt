@@ -20,23 +20,24 @@ use Rattle.vl_mean.specs.Constants.{settled, settled_selects}
 use Rattle.vl_mean.specs.Scopes.{Scope, constant_in, declared_in, unless_constant, visible, full, operand_in, no_values}
 use Rattle.vl_mean.specs.Targets.{Spot, spots_from, spots_of, vector_spots, word_spots}
 use Rattle.vl_mean.specs.Targets.{spots, all_spots}
-use Rattle.vl_same.specs.Flattened.{start_width}
-use Rattle.vl_names.proofs.Fresh.{NoneOf, none-front, none-back, some-fault}
-use Rattle.vl_refusal.specs.Expressions.{too_wide, divided_by_zero, vector_width}
-use Rattle.vl_refusal.specs.Expressions.{word_width, name_width, vector_selects, memory_selects, object_selects}
-use Rattle.vl_refusal.specs.Expressions.{select_refusals, refusals, is_constant_name, known, expr_refusals}
-use Rattle.vl_refusal.specs.Meanings.{Meaning, undeclared, constant, loop_variable, object, faulty, shapeless, later}
-use Rattle.vl_refusal.specs.Meanings.{Names, meaning_in, constants, objects, is_known, bound}
-use Rattle.vl_refusal.specs.Statements.{assigned_refusals, target_selects, target_width, targets_width, target_refusals}
-use Rattle.vl_refusal.specs.Statements.{targets_refusals}
-use Rattle.vl_scope.specs.Seen.{AllNamed}
-use Rattle.vl_sized.specs.Sized.{IsSized}
-use Rattle.vl_sized.proofs.Fixed.{fixed_index, fixed_size}
-use Rattle.vl_sized.proofs.Parts.{selected}
-use Rattle.vl_sized.proofs.Sizes.{read, fine, vector, word}
-use Rattle.vl_sized.proofs.Tests.{both_none, undivided, if_some, some_same, narrow, uncapped, few_uncapped}
-use Rattle.vl_known.specs.Means.{MeansIn, AreMeant}
-use Rattle.vl_known.proofs.Agreeing.{sound, known_is, refused_name}
+use Rattle.vl_mean_flat.specs.Flattened.{start_width}
+use Rattle.vl_elab_accepted_laws.proofs.Fresh.{NoneOf, none-front, none-back, some-fault}
+use Rattle.vl_elab_spec.specs.Expressions.{too_wide, divided_by_zero, vector_width}
+use Rattle.vl_elab_spec.specs.Expressions.{word_width, name_width, vector_selects, memory_selects, object_selects}
+use Rattle.vl_elab_spec.specs.Expressions.{select_refusals, refusals, is_constant_name, known, expr_refusals}
+use Rattle.vl_elab_spec.specs.Meanings.{Meaning, undeclared, constant, loop_variable, object, faulty, shapeless, later}
+use Rattle.vl_elab_spec.specs.Meanings.{Names, meaning_in, constants, objects, is_known, bound}
+use Rattle.vl_elab_spec.specs.Statements.{assigned_refusals, target_selects, target_width, targets_width}
+use Rattle.vl_elab_spec.specs.Statements.{target_refusals}
+use Rattle.vl_elab_spec.specs.Statements.{targets_refusals}
+use Rattle.vl_elab_scope.specs.Seen.{AllNamed}
+use Rattle.vl_elab_accepted_laws.specs.Sized.{IsSized}
+use Rattle.vl_elab_accepted_laws.proofs.Fixed.{fixed_index, fixed_size}
+use Rattle.vl_elab_accepted_laws.proofs.Parts.{selected}
+use Rattle.vl_elab_accepted_laws.proofs.Sizes.{read, fine, vector, word}
+use Rattle.vl_elab_accepted_laws.proofs.Tests.{both_none, undivided, if_some, some_same, narrow, uncapped, few_uncapped}
+use Rattle.vl_elab_accepted_laws.specs.Means.{MeansIn, AreMeant}
+use Rattle.vl_elab_accepted_laws.proofs.Agreeing.{sound, known_is, refused_name}
 
 length_from : (n w : ℕ) (text : Option (List ℕ)) (i : ℤ) → length (spots_from n w text i) ≡ n
 length_from zero w text i = refl

@@ -17,15 +17,16 @@ use Rattle.vl_mean.specs.Declarations.{class_of_attributes, joined_attributes}
 use Rattle.vl_mean.specs.Runs.{Each}
 use Rattle.vl_mean.specs.Scopes.{Scope}
 use Rattle.vl_mean.specs.Walk.{Contents, parameter_names, port_names}
-use Rattle.vl_same.proofs.EachOf.{both}
-use Rattle.vl_refusal.specs.Meanings.{Meaning, undeclared, constant, loop_variable, object, faulty, shapeless, later}
-use Rattle.vl_refusal.specs.Meanings.{Names, is_undeclared, meaning_of, object_or, parameters_of, all_later}
-use Rattle.vl_refusal.specs.Meanings.{port_meanings, name_meanings, item_meanings, items_meanings, scope_meanings}
-use Rattle.vl_refusal.specs.Meanings.{item_names, items_names}
-use Rattle.vl_names.proofs.Contained.{lacks-append, lacks-front, lacks-back}
-use Rattle.vl_meant.proofs.Entries.{IsEntry, item_objects, object_names}
-use Rattle.vl_meant.proofs.Level.{own, around, ports, objects, own_parameters, own_list, others, others_list}
-use Rattle.vl_meant.proofs.Level.{steps_are, unlisted, listed, own_names, other_names, of_constant}
+use Rattle.vl_mean_flat.proofs.EachOf.{both}
+use Rattle.vl_elab_spec.specs.Meanings.{Meaning, undeclared, constant, loop_variable, object, faulty, shapeless, later}
+use Rattle.vl_elab_spec.specs.Meanings.{Names, is_undeclared, meaning_of, object_or, parameters_of, all_later}
+use Rattle.vl_elab_spec.specs.Meanings.{port_meanings, name_meanings, item_meanings, items_meanings, scope_meanings}
+use Rattle.vl_elab_spec.specs.Meanings.{item_names, items_names}
+use Rattle.vl_elab_accepted_laws.proofs.Contained.{lacks-append, lacks-front, lacks-back}
+use Rattle.vl_elab_accepted_laws.proofs.Entries.{IsEntry, item_objects, object_names}
+use Rattle.vl_elab_accepted_laws.proofs.Level.{own, around, ports, objects, own_parameters, own_list, others}
+use Rattle.vl_elab_accepted_laws.proofs.Level.{others_list}
+use Rattle.vl_elab_accepted_laws.proofs.Level.{steps_are, unlisted, listed, own_names, other_names, of_constant}
 
 -- a net, a variable or a genvar
 abbrev pub IsThing : Meaning → Type 0

@@ -15,10 +15,10 @@ use Rattle.vl_size.specs.Size.{◌>>=◌, within, only_if, some_bits, size_by, u
 use Rattle.vl_size.specs.Way.{way, keeps_size}
 use Rattle.vl_size.proofs.Rest.{within_near, within_far}
 use Rattle.vl_mean.specs.ConstantFaults.{capped, wide_times}
-use Rattle.vl_refusal.specs.declared.elab_fault.ElabFault.{ElabFault}
-use Rattle.vl_refusal.specs.declared.elab_fault.ElabFault.TheVariants as f
-use Rattle.vl_refusal.specs.Expressions.{refused_if, too_wide, divided_by_zero}
-use Rattle.vl_names.proofs.Fresh.{NoneOf, some-fault}
+use Rattle.vl_elab_spec.specs.declared.elab_fault.ElabFault.{ElabFault}
+use Rattle.vl_elab_spec.specs.declared.elab_fault.ElabFault.TheVariants as f
+use Rattle.vl_elab_spec.specs.Expressions.{refused_if, too_wide, divided_by_zero}
+use Rattle.vl_elab_accepted_laws.proofs.Fresh.{NoneOf, some-fault}
 
 -- ---- tests
 

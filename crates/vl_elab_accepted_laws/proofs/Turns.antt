@@ -12,9 +12,9 @@ use mathlib.Core.HLevel.{is_prop→PathP}
 use Rattle.fv_bits.specs.Bits.{as_int, to_int, is_negative}
 use Rattle.vl_mean.specs.declared.const_number.Const.{Const}
 use Rattle.vl_mean.specs.Constants.{cut_to}
-use Rattle.vl_names.proofs.Contained.{clash}
-use Rattle.vl_names.proofs.Genblk.{decimal-free}
-use Rattle.vl_names.proofs.Texts.{until, until-mark, is_free}
+use Rattle.vl_elab_accepted_laws.proofs.Contained.{clash}
+use Rattle.vl_elab_accepted_laws.proofs.Genblk.{decimal-free}
+use Rattle.vl_elab_accepted_laws.proofs.Texts.{until, until-mark, is_free}
 
 -- ---- how many turns are to come
 

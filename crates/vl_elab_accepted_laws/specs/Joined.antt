@@ -4,8 +4,8 @@ use Rattle.vl_tree.specs.declared.declaration.FullPort.{FullPort}
 use Rattle.vl_tree.specs.declared.source.Module.{Module}
 use Rattle.vl_mean.specs.Declarations.{ports_of, port_named}
 use Rattle.vl_mean.specs.Walk.{Use}
-use Rattle.vl_refusal.specs.Items.{inner_meanings}
-use Rattle.vl_refusal.specs.Meanings.{Meaning, object, meaning_in}
+use Rattle.vl_elab_spec.specs.Items.{inner_meanings}
+use Rattle.vl_elab_spec.specs.Meanings.{Meaning, object, meaning_in}
 
 abbrev pub IsObject : Meaning → Type 0
 IsObject (object d input scalar) = Unit {0}

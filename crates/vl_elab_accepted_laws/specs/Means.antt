@@ -2,8 +2,8 @@
 use Rattle.std.specs.Prelude.{◌≡◌, ℕ, List, Some, None}
 use Rattle.vl_size.specs.Table.{IsShaped, declared_as}
 use Rattle.vl_mean.specs.Scopes.{Scope, constant_in, visible}
-use Rattle.vl_refusal.specs.Meanings.{Meaning, undeclared, constant, loop_variable, object, faulty, shapeless, later}
-use Rattle.vl_refusal.specs.Meanings.{Names, meaning_in}
+use Rattle.vl_elab_spec.specs.Meanings.{Meaning, undeclared, constant, loop_variable, object, faulty, shapeless, later}
+use Rattle.vl_elab_spec.specs.Meanings.{Names, meaning_in}
 
 -- a constant has its value there, and of a net or a variable the innermost declaration is the one that is meant; no
 -- name is one whose own declaration is refused

@@ -2,11 +2,11 @@
 use Rattle.std.specs.Prelude.{List}
 use Rattle.vl_mean.specs.Scopes.{Scope}
 use Rattle.vl_mean.specs.Walk.{Step, header, port, item, override, connection}
-use Rattle.vl_refusal.specs.Items.{inner_meanings}
-use Rattle.vl_refusal.specs.Meanings.{Names, meanings_at}
-use Rattle.vl_scope.specs.Seen.{AllNamed}
-use Rattle.vl_sized.specs.Sized.{AreSound}
-use Rattle.vl_known.specs.Means.{AreMeant}
+use Rattle.vl_elab_spec.specs.Items.{inner_meanings}
+use Rattle.vl_elab_spec.specs.Meanings.{Names, meanings_at}
+use Rattle.vl_elab_scope.specs.Seen.{AllNamed}
+use Rattle.vl_elab_accepted_laws.specs.Sized.{AreSound}
+use Rattle.vl_elab_accepted_laws.specs.Means.{AreMeant}
 
 -- nets and variables stand under their own names; and where no name is one whose own declaration is refused, names
 -- mean what they stand for

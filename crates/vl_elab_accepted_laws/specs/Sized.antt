@@ -4,10 +4,10 @@ use Rattle.vl_tree.specs.Expr.{Expr}
 use Rattle.vl_size.specs.Size.{size, is_constant}
 use Rattle.vl_size.specs.Table.{IsShaped}
 use Rattle.vl_mean.specs.Scopes.{is_clock_class}
-use Rattle.vl_same.specs.Names.{Names as EachName}
-use Rattle.vl_refusal.specs.Expressions.{known, wide_size}
-use Rattle.vl_refusal.specs.Meanings.{Meaning, undeclared, constant, loop_variable, object, faulty, shapeless, later}
-use Rattle.vl_refusal.specs.Meanings.{Names, meaning_in, objects}
+use Rattle.vl_mean_flat.specs.Names.{Names as EachName}
+use Rattle.vl_elab_spec.specs.Expressions.{known, wide_size}
+use Rattle.vl_elab_spec.specs.Meanings.{Meaning, undeclared, constant, loop_variable, object, faulty, shapeless, later}
+use Rattle.vl_elab_spec.specs.Meanings.{Names, meaning_in, objects}
 
 -- its own declaration isn't refused
 abbrev pub IsSound : Meaning → Type 0

@@ -5,11 +5,11 @@ use Rattle.vl_tree.specs.WellFormed.{IsWellFormed}
 use Rattle.vl_size.specs.declared.decl.Class.TheVariants as class
 use Rattle.vl_mean.specs.Scopes.{constant_in, is_clock}
 use Rattle.vl_mean.specs.Walk.{Step, header, port, item, override, connection}
-use Rattle.vl_refusal.specs.Items.{inner_meanings}
-use Rattle.vl_refusal.specs.Meanings.{constants, meanings_at}
-use Rattle.vl_sized.specs.Sized.{AreSound}
-use Rattle.vl_fixed.specs.Among.{AreAmong}
-use Rattle.vl_parts.specs.Joined.{PortsAreObjects}
+use Rattle.vl_elab_spec.specs.Items.{inner_meanings}
+use Rattle.vl_elab_spec.specs.Meanings.{constants, meanings_at}
+use Rattle.vl_elab_accepted_laws.specs.Sized.{AreSound}
+use Rattle.vl_elab_spec.specs.Among.{AreAmong}
+use Rattle.vl_elab_accepted_laws.specs.Joined.{PortsAreObjects}
 
 -- no name in its place is one whose own declaration is refused, nor one in the module that an instance is joined to,
 -- whose ports are nets and variables in it

@@ -3,7 +3,7 @@
 use Rattle.std.specs.Prelude.{◌≡◌, ℕ, List, None}
 use Rattle.vl_tree.specs.declared.source.Module.{Module}
 use Rattle.vl_mean.specs.Walk.{walk}
-use Rattle.vl_refusal.specs.Refused.{first_refused}
+use Rattle.vl_elab_spec.specs.Refused.{first_refused}
 
 -- no step of the walk through the design with this top module is refused
 abbrev pub NoStepRefused : List Module → List ℕ → Type 0

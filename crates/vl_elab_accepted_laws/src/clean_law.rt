@@ -4,8 +4,8 @@ ghost use Rattle.vl_tree.specs.WellFormed.{IsModule};
 ghost use Rattle.vl_tree.specs.declared.source.Module.{Module};
 ghost use Rattle.vl_mean.specs.FlatLaw.{is_graphic};
 ghost use Rattle.vl_mean.specs.Parts.{design};
-ghost use Rattle.vl_same.specs.Flattened.{decls_of};
-ghost use Rattle.vl_names.specs.Unrefused.{NoStepRefused};
+ghost use Rattle.vl_mean_flat.specs.Flattened.{decls_of};
+ghost use Rattle.vl_elab_accepted_laws.specs.Unrefused.{NoStepRefused};
 
 /// Where no step of the walk through well formed modules is refused, each byte of each full name is graphic.
 #[tactic(auto, using(crate::proofs::Printed::design_printed))]

@@ -8,13 +8,13 @@ ghost use Rattle.vl_tree.specs.Stmt.{Stmt};
 ghost use Rattle.vl_tree.specs.StmtWellFormed as stmt;
 ghost use Rattle.vl_size.specs.declared.context.Context.{Context};
 ghost use Rattle.vl_mean.specs.Scopes.{Scope};
-ghost use Rattle.vl_same.specs.Flattened.{IsSeen};
-ghost use Rattle.vl_same.specs.Names.{ExprNames, TargetNames, StmtNames};
-ghost use Rattle.vl_refusal.specs.Expressions.{expr_refusals};
-ghost use Rattle.vl_refusal.specs.Meanings.{Names};
-ghost use Rattle.vl_refusal.specs.Statements.{target_refusals, stmt_refusals};
-ghost use Rattle.vl_scope.specs.Seen.{AllNamed};
-ghost use Rattle.vl_known.specs.Means.{AreMeant};
+ghost use Rattle.vl_mean_flat.specs.Flattened.{IsSeen};
+ghost use Rattle.vl_mean_flat.specs.Names.{ExprNames, TargetNames, StmtNames};
+ghost use Rattle.vl_elab_spec.specs.Expressions.{expr_refusals};
+ghost use Rattle.vl_elab_spec.specs.Meanings.{Names};
+ghost use Rattle.vl_elab_spec.specs.Statements.{target_refusals, stmt_refusals};
+ghost use Rattle.vl_elab_scope.specs.Seen.{AllNamed};
+ghost use Rattle.vl_elab_accepted_laws.specs.Means.{AreMeant};
 
 /// Where an expression isn't refused, each name in it is a constant or declared.
 #[tactic(auto, using(crate::proofs::Knowing::known_expr))]

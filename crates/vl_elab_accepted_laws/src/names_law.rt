@@ -1,8 +1,8 @@
 //! That the full names of a design differ.
 ghost use Rattle.std.specs.Prelude.{ℕ, List, All};
 ghost use Rattle.vl_mean.specs.Parts.{design};
-ghost use Rattle.vl_names.specs.Unrefused.{NoStepRefused};
-ghost use Rattle.vl_same.specs.Flattened.{decls_of};
+ghost use Rattle.vl_elab_accepted_laws.specs.Unrefused.{NoStepRefused};
+ghost use Rattle.vl_mean_flat.specs.Flattened.{decls_of};
 ghost use Rattle.vl_size.specs.Table.{AreDifferent};
 ghost use Rattle.vl_tree.specs.WellFormed.{IsModule};
 ghost use Rattle.vl_tree.specs.declared.source.Module.{Module};

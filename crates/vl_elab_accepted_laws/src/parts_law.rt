@@ -11,12 +11,12 @@ ghost use Rattle.vl_mean.specs.Parts.{item_parts, step_parts};
 ghost use Rattle.vl_mean.specs.Scopes.{Scope};
 ghost use Rattle.vl_mean.specs.Runs.{Each};
 ghost use Rattle.vl_mean.specs.Walk.{Place, Use, connection, port};
-ghost use Rattle.vl_same.specs.Flattened.{Known};
-ghost use Rattle.vl_refusal.specs.Items.{connection_refusals, inner_meanings, item_refusals, port_refusals};
-ghost use Rattle.vl_refusal.specs.Meanings.{meanings_at};
-ghost use Rattle.vl_sized.specs.Sized.{AreSound};
-ghost use Rattle.vl_meant.specs.Right.{AreRight};
-ghost use Rattle.vl_parts.specs.Joined.{PortsAreObjects};
+ghost use Rattle.vl_mean_flat.specs.Flattened.{Known};
+ghost use Rattle.vl_elab_spec.specs.Items.{connection_refusals, inner_meanings, item_refusals, port_refusals};
+ghost use Rattle.vl_elab_spec.specs.Meanings.{meanings_at};
+ghost use Rattle.vl_elab_accepted_laws.specs.Sized.{AreSound};
+ghost use Rattle.vl_elab_accepted_laws.specs.Right.{AreRight};
+ghost use Rattle.vl_elab_accepted_laws.specs.Joined.{PortsAreObjects};
 
 /// Where an item isn't refused, and names in its place mean what they stand for, each name in its parts is a constant
 /// or declared, what is assigned is no constant, and what begins with a value has 1 to 128 bits.

@@ -3,10 +3,10 @@ ghost use Rattle.std.specs.Prelude.{◌≡◌, ℕ, List, [], Bool};
 ghost use Rattle.vl_tree.specs.Expr.{Expr};
 ghost use Rattle.vl_tree.specs.ExprWellFormed.{IsWellFormed};
 ghost use Rattle.vl_size.specs.declared.context.Context.{Context};
-ghost use Rattle.vl_refusal.specs.Expressions.{expr_refusals};
-ghost use Rattle.vl_refusal.specs.Meanings.{Names};
-ghost use Rattle.vl_scope.specs.Seen.{AllNamed};
-ghost use Rattle.vl_sized.specs.Sized.{AreSound, IsSized};
+ghost use Rattle.vl_elab_spec.specs.Expressions.{expr_refusals};
+ghost use Rattle.vl_elab_spec.specs.Meanings.{Names};
+ghost use Rattle.vl_elab_scope.specs.Seen.{AllNamed};
+ghost use Rattle.vl_elab_accepted_laws.specs.Sized.{AreSound, IsSized};
 
 /// An expression that isn't refused in a context has a size of 1 to 128 bits, each name in it is that of a net or a
 /// variable, and it is a constant where one is demanded.

@@ -2,8 +2,8 @@
 use Rattle.std.specs.Prelude.{◌≡◌, ℕ, zero, suc, ◌+◌, ◌-◌, ◌*◌, ◌<◌, ◌≤◌, List, [], ◌∷◌, drop, max}
 use Rattle.std.proofs.Common.{ap, arith, subst, sym}
 use Rattle.vl_tree.specs.Item.{Block, Item, Items, items, block_depth, depth, items_depth}
-use Rattle.vl_unfold.specs.Within.{block_items}
-use Rattle.vl_unfold.proofs.Inner.{block_falls}
+use Rattle.vl_elab_spec.specs.Within.{block_items}
+use Rattle.vl_elab_spec.proofs.Inner.{block_falls}
 
 drop_depth : (i : ℕ) (xs : List Item) → items_depth (items (drop i xs)) ≤ items_depth (items xs)
 drop_depth zero xs = omega arith

@@ -25,25 +25,25 @@ use Rattle.vl_mean.specs.Walk.{Place, Step, Unfolding, Use, item, block_path, bl
 use Rattle.vl_mean.specs.Walk as walk
 use Rattle.vl_mean.specs.Walk.{first_turn, loop_turns, next_turn, turn_place, turns}
 use Rattle.vl_mean.specs.Walk.{items_steps, turn_steps, instance_steps, module_named, module_place, unfolded, use_of}
-use Rattle.vl_refusal.specs.declared.elab_fault.ElabFault.{ElabFault}
-use Rattle.vl_refusal.specs.Meanings.{Names, item_names}
-use Rattle.vl_refusal.specs.Refused.{Totals, nowhere}
-use Rattle.vl_number.specs.Numbers.{HaveNumbers, holds}
-use Rattle.vl_stand.specs.declared.scopes.Inside.{Inside}
-use Rattle.vl_walked.specs.declared.totals.Totals as kept
-use Rattle.vl_walked.specs.Walked.{AreTotals, AreWalked}
-use Rattle.vl_walked.proofs.Passed.{none_walked}
-use Rattle.vl_unfold.specs.Left.{AreLeft, ItemsAreLeft}
-use Rattle.vl_unfold.specs.Within.{IsNotRecursive, behind_head, block_items, chosen_block, chosen_steps, front_steps}
-use Rattle.vl_unfold.specs.Within.{head_steps, inner_steps, module_steps, nested_if}
-use Rattle.vl_unfold.proofs.Behind.{WalkedFrom, goes_on, left_all, stops}
-use Rattle.vl_unfold.proofs.Inner.{block_formed, if_steps, nested_item, not_recursive, own_and_inner, scope_items}
-use Rattle.vl_unfold.proofs.Inner.{turn_items}
-use Rattle.vl_unfold.proofs.Unfolded.{instance_found, named_is, none_unfolded, one_unfolded}
-use Rattle.vl_judged.specs.declared.scopes.Here.{Here}
-use Rattle.vl_judged.specs.Bare.{is_bare}
-use Rattle.vl_judged.specs.Standing.{IsHere, IsSoFar}
-use Rattle.vl_judged.proofs.NoSteps.{bare_steps}
+use Rattle.vl_elab_spec.specs.declared.elab_fault.ElabFault.{ElabFault}
+use Rattle.vl_elab_spec.specs.Meanings.{Names, item_names}
+use Rattle.vl_elab_spec.specs.Refused.{Totals, nowhere}
+use Rattle.vl_elab_const.specs.Numbers.{HaveNumbers, holds}
+use Rattle.vl_elab_decls.specs.declared.scopes.Inside.{Inside}
+use Rattle.vl_elab_spec.specs.declared.totals.Totals as kept
+use Rattle.vl_elab_spec.specs.Walked.{AreTotals, AreWalked}
+use Rattle.vl_elab_spec.proofs.Passed.{none_walked}
+use Rattle.vl_elab_spec.specs.Left.{AreLeft, ItemsAreLeft}
+use Rattle.vl_elab_spec.specs.Within.{IsNotRecursive, behind_head, block_items, chosen_block, chosen_steps, front_steps}
+use Rattle.vl_elab_spec.specs.Within.{head_steps, inner_steps, module_steps, nested_if}
+use Rattle.vl_elab_spec.proofs.Behind.{WalkedFrom, goes_on, left_all, stops}
+use Rattle.vl_elab_spec.proofs.Inner.{block_formed, if_steps, nested_item, not_recursive, own_and_inner, scope_items}
+use Rattle.vl_elab_spec.proofs.Inner.{turn_items}
+use Rattle.vl_elab_spec.proofs.Unfolded.{instance_found, named_is, none_unfolded, one_unfolded}
+use Rattle.vl_elab_check.specs.declared.scopes.Here.{Here}
+use Rattle.vl_elab_check.specs.Bare.{is_bare}
+use Rattle.vl_elab_check.specs.Standing.{IsHere, IsSoFar}
+use Rattle.vl_elab_check.proofs.NoSteps.{bare_steps}
 
 pub none_of : (g : Option ElabFault) → is_some g ≡ false → g ≡ None
 none_of None e = refl

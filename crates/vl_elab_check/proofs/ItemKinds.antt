@@ -30,18 +30,18 @@ use Rattle.vl_tree.specs.Item.{
 use Rattle.vl_tree.specs.ItemView.{shown}
 use Rattle.vl_mean.specs.Declarations.{names_of, labels_of}
 use Rattle.vl_mean.specs.Walk.{Place}
-use Rattle.vl_refusal.specs.declared.elab_fault.ElabFault.{ElabFault}
-use Rattle.vl_refusal.specs.Counts.{item_pos}
-use Rattle.vl_refusal.specs.Expressions.{own_refusals}
-use Rattle.vl_refusal.specs.Items.{head_refusals, item_refusals, labels_twice, placed_labels}
-use Rattle.vl_refusal.specs.Meanings.{item_names, meaning_in, meanings_at}
-use Rattle.vl_refusal.specs.Refused.{lowest}
-use Rattle.name_set.specs.declared.set.NameSet.{NameSet}
-use Rattle.name_set.specs.Known.{AreNames}
-use Rattle.vl_reach.specs.declared.reached.Reached.{Reached}
-use Rattle.vl_reach.specs.Reached.{IsReached}
-use Rattle.vl_weigh.specs.Here.{own_parameters, own_names}
-use Rattle.vl_weigh.specs.Kinds.{is_of_objects, instance_name, has_steps_within}
+use Rattle.vl_elab_spec.specs.declared.elab_fault.ElabFault.{ElabFault}
+use Rattle.vl_elab_spec.specs.Counts.{item_pos}
+use Rattle.vl_elab_spec.specs.Expressions.{own_refusals}
+use Rattle.vl_elab_spec.specs.Items.{head_refusals, item_refusals, labels_twice, placed_labels}
+use Rattle.vl_elab_spec.specs.Meanings.{item_names, meaning_in, meanings_at}
+use Rattle.vl_elab_spec.specs.Refused.{lowest}
+use Rattle.vl_elab_names.specs.declared.set.NameSet.{NameSet}
+use Rattle.vl_elab_names.specs.Known.{AreNames}
+use Rattle.vl_elab_params.specs.declared.reached.Reached.{Reached}
+use Rattle.vl_elab_params.specs.Reached.{IsReached}
+use Rattle.vl_elab_check.specs.Here.{own_parameters, own_names}
+use Rattle.vl_elab_check.specs.Kinds.{is_of_objects, instance_name, has_steps_within}
 
 pub on_ok_always : {A E : Type 0} (r : Result A E) (P : Type 0) → P → OnOk r P
 on_ok_always (Ok x) P h = h

@@ -6,16 +6,16 @@ use Rattle.vl_tree.specs.declared.source.Module.{Module}
 use Rattle.vl_tree.specs.Item.{items}
 use Rattle.vl_mean.specs.Parts.{design}
 use Rattle.vl_mean.specs.Walk.{module_named, module_place, unfolded, walk, with_module, items_steps}
-use Rattle.vl_refusal.specs.declared.elab_fault.ElabFault.{ElabFault}
-use Rattle.vl_refusal.specs.declared.elab_fault.ElabFault.TheVariants as f
-use Rattle.vl_refusal.specs.Refused.{first_refused, modules_twice, or_later, refusal, refused_walk, state_bits}
-use Rattle.vl_refusal.specs.Refused.{too_many_bits}
-use Rattle.vl_walked.specs.declared.totals.Totals as kept
-use Rattle.vl_walked.specs.Walked.{AreWalked}
-use Rattle.vl_unfold.specs.Within.{behind_head, head_steps}
-use Rattle.vl_unfold.proofs.Behind.{WalkedFrom, goes_on, stops}
-use Rattle.vl_unfold.proofs.Unfolded.{named_is, one_unfolded}
-use Rattle.vl_judged.specs.Judged.{nothing, top_use, top_steps, refused_before_bits, fault_of}
+use Rattle.vl_elab_spec.specs.declared.elab_fault.ElabFault.{ElabFault}
+use Rattle.vl_elab_spec.specs.declared.elab_fault.ElabFault.TheVariants as f
+use Rattle.vl_elab_spec.specs.Refused.{first_refused, modules_twice, or_later, refusal, refused_walk, state_bits}
+use Rattle.vl_elab_spec.specs.Refused.{too_many_bits}
+use Rattle.vl_elab_spec.specs.declared.totals.Totals as kept
+use Rattle.vl_elab_spec.specs.Walked.{AreWalked}
+use Rattle.vl_elab_spec.specs.Within.{behind_head, head_steps}
+use Rattle.vl_elab_spec.proofs.Behind.{WalkedFrom, goes_on, stops}
+use Rattle.vl_elab_spec.proofs.Unfolded.{named_is, one_unfolded}
+use Rattle.vl_elab_check.specs.Judged.{nothing, top_use, top_steps, refused_before_bits, fault_of}
 
 -- ---- the steps from the top module on
 

@@ -10,8 +10,8 @@ use Rattle.vl_mean.specs.Declarations.{header_parameters}
 use Rattle.vl_mean.specs.Walk.{Place, Unfolding, Use, connections_of, connection_steps, header_of, header_steps}
 use Rattle.vl_mean.specs.Walk.{items_steps, module_place, module_scope, override_steps, parameter_names, port_steps}
 use Rattle.vl_mean.specs.Walk.{with_earlier, written_ports}
-use Rattle.vl_unfold.specs.Within.{behind_head, front_steps, module_steps}
-use Rattle.vl_judged.specs.Bare.{gives_nothing, has_nothing, is_bare}
+use Rattle.vl_elab_spec.specs.Within.{behind_head, front_steps, module_steps}
+use Rattle.vl_elab_check.specs.Bare.{gives_nothing, has_nothing, is_bare}
 
 both : (a b : Bool) → (a && b) ≡ true → (a ≡ true) × (b ≡ true)
 both true true e = (refl, refl)

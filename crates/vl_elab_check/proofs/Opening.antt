@@ -7,26 +7,26 @@ use Rattle.vl_tree.specs.declared.source.Module.{Module}
 use Rattle.vl_mean.specs.Declarations.{full_ports, header_parameters, ports_of}
 use Rattle.vl_mean.specs.Walk.{Place, Use, header_of, header_steps, module_parameters, module_place}
 use Rattle.vl_mean.specs.Walk.{parameter_names, port_names, port_steps, with_earlier, written_ports}
-use Rattle.vl_refusal.specs.declared.elab_fault.ElabFault.{ElabFault}
-use Rattle.vl_refusal.specs.Items.{is_given}
-use Rattle.vl_refusal.specs.Meanings.{Names, meanings_at}
-use Rattle.vl_refusal.specs.Refused.{Totals}
-use Rattle.name_set.specs.Known.{AreNames, contains}
-use Rattle.name_set.specs.declared.set.NameSet.{NameSet}
-use Rattle.vl_alike.specs.Alike.{Alike}
-use Rattle.vl_number.specs.Given.{value_given}
-use Rattle.vl_reach.specs.Reached.{IsReached}
-use Rattle.vl_reach.specs.declared.reached.Reached.{Reached}
-use Rattle.vl_stand.specs.declared.scopes.Inside.{Inside}
-use Rattle.vl_stand.specs.Stands.{Stands}
-use Rattle.vl_walked.specs.declared.totals.Totals as kept
-use Rattle.vl_walked.specs.Walked.{AreTotals, AreWalked}
-use Rattle.vl_unfold.specs.Within.{behind_head, head_steps}
-use Rattle.vl_unfold.proofs.Behind.{goes_on, stops}
-use Rattle.vl_judged.specs.declared.scopes.Here.{Here}
-use Rattle.vl_judged.specs.Standing.{IsHere}
-use Rattle.vl_judged.proofs.Going.{none_of}
-use Rattle.vl_judged.proofs.Places.{here_with, inside_with}
+use Rattle.vl_elab_spec.specs.declared.elab_fault.ElabFault.{ElabFault}
+use Rattle.vl_elab_spec.specs.Items.{is_given}
+use Rattle.vl_elab_spec.specs.Meanings.{Names, meanings_at}
+use Rattle.vl_elab_spec.specs.Refused.{Totals}
+use Rattle.vl_elab_names.specs.Known.{AreNames, contains}
+use Rattle.vl_elab_names.specs.declared.set.NameSet.{NameSet}
+use Rattle.vl_elab_scope.specs.Alike.{Alike}
+use Rattle.vl_elab_const.specs.Given.{value_given}
+use Rattle.vl_elab_params.specs.Reached.{IsReached}
+use Rattle.vl_elab_params.specs.declared.reached.Reached.{Reached}
+use Rattle.vl_elab_decls.specs.declared.scopes.Inside.{Inside}
+use Rattle.vl_elab_decls.specs.Stands.{Stands}
+use Rattle.vl_elab_spec.specs.declared.totals.Totals as kept
+use Rattle.vl_elab_spec.specs.Walked.{AreTotals, AreWalked}
+use Rattle.vl_elab_spec.specs.Within.{behind_head, head_steps}
+use Rattle.vl_elab_spec.proofs.Behind.{goes_on, stops}
+use Rattle.vl_elab_check.specs.declared.scopes.Here.{Here}
+use Rattle.vl_elab_check.specs.Standing.{IsHere}
+use Rattle.vl_elab_check.proofs.Going.{none_of}
+use Rattle.vl_elab_check.proofs.Places.{here_with, inside_with}
 
 -- where something is refused, nothing is said of what comes behind
 pub none_here : {P : Type 0} (g : Option ElabFault) → is_some g ≡ true → g ≡ None → P

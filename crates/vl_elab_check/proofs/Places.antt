@@ -11,22 +11,22 @@ use Rattle.vl_mean.specs.Constants.{constant_operand}
 use Rattle.vl_mean.specs.Walk.{Place, Use, block_place, genvar_value, goes_on, module_around, module_contents}
 use Rattle.vl_mean.specs.Walk.{module_parameters, module_place, module_scope, next_turn, parameter_names, turn_place}
 use Rattle.vl_mean.specs.Walk.{with_earlier}
-use Rattle.vl_refusal.specs.Meanings.{Names, all_meanings, meanings_at, parameters_of}
-use Rattle.name_set.specs.Known.{AreNames, contains}
-use Rattle.name_set.specs.declared.set.NameSet.{NameSet}
-use Rattle.vl_number.specs.Given.{value_given, IsGiven}
-use Rattle.vl_number.specs.Numbers.{HaveNumbers, genvar_number, holds}
-use Rattle.vl_number.specs.declared.given.Given.{Given}
-use Rattle.vl_reach.specs.Reached.{IsReached, parameters_at}
-use Rattle.vl_reach.specs.declared.reached.Reached.{Reached}
-use Rattle.vl_scope.specs.Seen.{innermost}
-use Rattle.vl_stand.specs.declared.scopes.Inside.{Inside}
-use Rattle.vl_stand.specs.Stands.{Stands}
-use Rattle.vl_stand.proofs.TurnStands.{turn_stands}
-use Rattle.vl_turn.specs.Parts.{in_turn}
-use Rattle.vl_unfold.proofs.Inner.{nothing_earlier}
-use Rattle.vl_judged.specs.declared.scopes.Here.{Here}
-use Rattle.vl_judged.specs.Standing.{HasScope, IsHere, IsWithin}
+use Rattle.vl_elab_spec.specs.Meanings.{Names, all_meanings, meanings_at, parameters_of}
+use Rattle.vl_elab_names.specs.Known.{AreNames, contains}
+use Rattle.vl_elab_names.specs.declared.set.NameSet.{NameSet}
+use Rattle.vl_elab_const.specs.Given.{value_given, IsGiven}
+use Rattle.vl_elab_const.specs.Numbers.{HaveNumbers, genvar_number, holds}
+use Rattle.vl_elab_const.specs.declared.given.Given.{Given}
+use Rattle.vl_elab_params.specs.Reached.{IsReached, parameters_at}
+use Rattle.vl_elab_params.specs.declared.reached.Reached.{Reached}
+use Rattle.vl_elab_scope.specs.Seen.{innermost}
+use Rattle.vl_elab_decls.specs.declared.scopes.Inside.{Inside}
+use Rattle.vl_elab_decls.specs.Stands.{Stands}
+use Rattle.vl_elab_decls.proofs.TurnStands.{turn_stands}
+use Rattle.vl_elab_check_item.specs.TurnParts.{in_turn}
+use Rattle.vl_elab_spec.proofs.Inner.{nothing_earlier}
+use Rattle.vl_elab_check.specs.declared.scopes.Here.{Here}
+use Rattle.vl_elab_check.specs.Standing.{HasScope, IsHere, IsWithin}
 
 -- with these names and numbers
 abbrev pub inside_with : Inside → List Names → List Names → Inside

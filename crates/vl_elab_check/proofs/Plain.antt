@@ -36,8 +36,8 @@ use Rattle.vl_tree.specs.WellFormed.{IsWellFormed, AreWellFormed, IsModule, AreO
 use Rattle.vl_size.specs.Table.{is_plain}
 use Rattle.vl_mean.specs.Declarations.{full_port, full_ports, ports_of}
 use Rattle.vl_mean.specs.Walk.{port_names}
-use Rattle.vl_refusal.specs.Meanings.{item_names, items_names}
-use Rattle.vl_shape.specs.Shaped.{ArePlain}
+use Rattle.vl_elab_spec.specs.Meanings.{item_names, items_names}
+use Rattle.vl_elab_decls.specs.Shaped.{ArePlain}
 
 -- ---- a name
 

@@ -12,15 +12,15 @@ use Rattle.vl_tree.specs.declared.source.Module.{Module}
 use Rattle.vl_tree.specs.Expr.{Expr}
 use Rattle.vl_mean.specs.Declarations.{full_port, full_ports}
 use Rattle.vl_mean.specs.Walk.{Place, Use, Step, optional_name, port_names, port_step, port_steps, with_earlier}
-use Rattle.vl_refusal.specs.declared.elab_fault.ElabFault.{ElabFault}
-use Rattle.vl_refusal.specs.Refused.{Totals, all_counted, counted, first_refused, lower_of, or_later}
-use Rattle.vl_refusal.proofs.LowestFirst.{first_append}
-use Rattle.vl_walked.specs.declared.totals.Totals as kept
-use Rattle.vl_walked.specs.Walked.{AreTotals, AreWalked}
-use Rattle.vl_stand.specs.Clocks.{port_text}
-use Rattle.vl_refuse.specs.Short.{renamed}
-use Rattle.vl_weigh.specs.Left.{AreLeft}
-use Rattle.vl_weigh.specs.Ports.{next_full, port_value}
+use Rattle.vl_elab_spec.specs.declared.elab_fault.ElabFault.{ElabFault}
+use Rattle.vl_elab_spec.specs.Refused.{Totals, all_counted, counted, first_refused, lower_of, or_later}
+use Rattle.vl_elab_spec.proofs.LowestFirst.{first_append}
+use Rattle.vl_elab_spec.specs.declared.totals.Totals as kept
+use Rattle.vl_elab_spec.specs.Walked.{AreTotals, AreWalked}
+use Rattle.vl_elab_decls.specs.Clocks.{port_text}
+use Rattle.vl_elab_check_scope.specs.Short.{renamed}
+use Rattle.vl_elab_check.specs.Left.{AreLeft}
+use Rattle.vl_elab_check.specs.Ports.{next_full, port_value}
 
 counted_append : (t : Totals) (xs ys : List Step) → all_counted t (xs ++ ys) ≡ all_counted (all_counted t xs) ys
 counted_append t [] ys = refl

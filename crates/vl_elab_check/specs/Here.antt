@@ -2,15 +2,15 @@
 use Rattle.std.specs.Prelude.{ℕ, List, [], map, drop}
 use Rattle.vl_tree.specs.Item.{Item, declaration, integer, genvar, parameter}
 use Rattle.vl_mean.specs.Walk.{Place}
-use Rattle.vl_refusal.specs.Meanings.{Names, meanings_at}
-use Rattle.vl_alike.specs.Alike.{Alike}
-use Rattle.vl_number.specs.declared.given.Given.{Given}
-use Rattle.vl_number.specs.Numbers.{HaveNumbers}
-use Rattle.name_set.specs.declared.set.NameSet.{NameSet}
-use Rattle.name_set.specs.Known.{AreNames}
-use Rattle.vl_reach.specs.declared.reached.Reached.{Reached}
-use Rattle.vl_reach.specs.Reached.{IsReached}
-use Rattle.vl_earlier.specs.Gives.{Gives}
+use Rattle.vl_elab_spec.specs.Meanings.{Names, meanings_at}
+use Rattle.vl_elab_scope.specs.Alike.{Alike}
+use Rattle.vl_elab_const.specs.declared.given.Given.{Given}
+use Rattle.vl_elab_const.specs.Numbers.{HaveNumbers}
+use Rattle.vl_elab_names.specs.declared.set.NameSet.{NameSet}
+use Rattle.vl_elab_names.specs.Known.{AreNames}
+use Rattle.vl_elab_params.specs.declared.reached.Reached.{Reached}
+use Rattle.vl_elab_params.specs.Reached.{IsReached}
+use Rattle.vl_elab_check_scope.specs.Gives.{Gives}
 
 -- What names mean, the numbers of constants there and in the shapes of declarations, the names that stand before it,
 -- the parameters among them, and the parameters that the instance gives a value.

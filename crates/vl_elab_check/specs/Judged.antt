@@ -3,10 +3,10 @@
 use Rattle.std.specs.Prelude.{ℕ, List, [], true, Option, Some, is_none, if◌then◌else◌}
 use Rattle.vl_tree.specs.declared.source.Module.{Module}
 use Rattle.vl_mean.specs.Walk.{Step, Use, module_named, module_place, top_input, unfolded, walk}
-use Rattle.vl_refusal.specs.declared.elab_fault.ElabFault.{ElabFault}
-use Rattle.vl_refusal.specs.declared.elab_fault.ElabFault.TheVariants as f
-use Rattle.vl_refusal.specs.Refused.{Totals, first_refused, modules_twice, or_later}
-use Rattle.vl_unfold.specs.Within.{module_steps}
+use Rattle.vl_elab_spec.specs.declared.elab_fault.ElabFault.{ElabFault}
+use Rattle.vl_elab_spec.specs.declared.elab_fault.ElabFault.TheVariants as f
+use Rattle.vl_elab_spec.specs.Refused.{Totals, first_refused, modules_twice, or_later}
+use Rattle.vl_elab_spec.specs.Within.{module_steps}
 
 -- nothing was walked
 abbrev pub nothing : Totals

@@ -2,9 +2,9 @@
 use Rattle.std.specs.Prelude.{◌≡◌, List}
 use Rattle.vl_tree.specs.declared.source.Module.{Module}
 use Rattle.vl_mean.specs.Walk.{Step}
-use Rattle.vl_refusal.specs.Refused.{Totals, all_counted, first_refused}
-use Rattle.vl_walked.specs.declared.totals.Totals as kept
-use Rattle.vl_walked.specs.Walked.{AreTotals}
+use Rattle.vl_elab_spec.specs.Refused.{Totals, all_counted, first_refused}
+use Rattle.vl_elab_spec.specs.declared.totals.Totals as kept
+use Rattle.vl_elab_spec.specs.Walked.{AreTotals}
 
 -- Of all steps behind so many nodes and names these are left; none before them was refused, and this much is counted.
 pub record AreLeft (ms : List Module) (t : Totals) (all : List Step) (so_far : kept.Totals) (rest : List Step)

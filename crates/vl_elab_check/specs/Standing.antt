@@ -3,16 +3,16 @@ use Rattle.std.specs.Prelude.{◌≡◌, ◌∷◌, ℕ, List, All, drop}
 use Rattle.vl_tree.specs.declared.source.Module.{Module}
 use Rattle.vl_tree.specs.WellFormed.{IsModule}
 use Rattle.vl_mean.specs.Walk.{Place}
-use Rattle.vl_refusal.specs.Meanings.{meanings_at}
-use Rattle.vl_refusal.specs.Refused.{Totals}
-use Rattle.name_set.specs.Known.{contains}
-use Rattle.vl_scope.specs.Seen.{innermost}
-use Rattle.vl_stand.specs.declared.scopes.Inside.{Inside}
-use Rattle.vl_stand.specs.Stands.{Stands}
-use Rattle.vl_walked.specs.declared.totals.Totals as kept
-use Rattle.vl_walked.specs.Walked.{AreTotals}
-use Rattle.vl_weigh.specs.Here.{IsAt}
-use Rattle.vl_judged.specs.declared.scopes.Here.{Here}
+use Rattle.vl_elab_spec.specs.Meanings.{meanings_at}
+use Rattle.vl_elab_spec.specs.Refused.{Totals}
+use Rattle.vl_elab_names.specs.Known.{contains}
+use Rattle.vl_elab_scope.specs.Seen.{innermost}
+use Rattle.vl_elab_decls.specs.declared.scopes.Inside.{Inside}
+use Rattle.vl_elab_decls.specs.Stands.{Stands}
+use Rattle.vl_elab_spec.specs.declared.totals.Totals as kept
+use Rattle.vl_elab_spec.specs.Walked.{AreTotals}
+use Rattle.vl_elab_check.specs.Here.{IsAt}
+use Rattle.vl_elab_check.specs.declared.scopes.Here.{Here}
 
 -- so much of well formed modules was walked
 pub record IsSoFar (ms : List Module) (walked : kept.Totals) (t : Totals) : Type 0 where

@@ -1,6 +1,6 @@
 //! Instances of which no steps come but their own.
 ghost use Rattle.std.specs.Prelude.{◌≡◌};
-ghost use Rattle.vl_judged.specs.Bare as spec;
+ghost use Rattle.vl_elab_check.specs.Bare as spec;
 
 use crate::scopes::{connections_of, header_of, ports_of};
 use vl_tree::{Instance, Module};

@@ -4,7 +4,7 @@ ghost use Rattle.std.specs.Option.{option_copied, option_map};
 ghost use Rattle.vl_tree.specs.Item.{items};
 ghost use Rattle.vl_tree.specs.ItemView.{block as block_of};
 ghost use Rattle.vl_mean.specs.Declarations as declarations;
-ghost use Rattle.vl_unfold.specs.Within.{block_items, chosen_block, nested_if};
+ghost use Rattle.vl_elab_spec.specs.Within.{block_items, chosen_block, nested_if};
 
 use std::slice;
 use vl_tree::{Block, Item, ItemKind};

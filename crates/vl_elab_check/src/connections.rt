@@ -5,32 +5,32 @@ ghost use Rattle.vl_mean.specs.ConstantFaults.{capped};
 ghost use Rattle.vl_mean.specs.Scopes.{Scope};
 ghost use Rattle.vl_mean.specs.Walk as walk;
 ghost use Rattle.vl_mean.specs.Walk.{Place, Use};
-ghost use Rattle.vl_refusal.specs.Counts as counts;
-ghost use Rattle.vl_refusal.specs.Items.{inner_meanings};
-ghost use Rattle.vl_refusal.specs.Meanings.{meanings_at};
-ghost use Rattle.vl_refusal.specs.Refused as refused;
-ghost use Rattle.vl_alike.specs.Alike.{Alike};
-ghost use Rattle.name_set.specs.Known.{AreNames, contains};
-ghost use Rattle.vl_stand.specs.Stands.{Stands};
-ghost use Rattle.vl_connect.specs.Parameters.{AreParametersOf};
-ghost use Rattle.vl_connect.specs.Ports.{AreDirectionsOf};
-ghost use Rattle.vl_walked.specs.Walked.{AreTotals, AreWalked};
+ghost use Rattle.vl_elab_spec.specs.Counts as counts;
+ghost use Rattle.vl_elab_spec.specs.Items.{inner_meanings};
+ghost use Rattle.vl_elab_spec.specs.Meanings.{meanings_at};
+ghost use Rattle.vl_elab_spec.specs.Refused as refused;
+ghost use Rattle.vl_elab_scope.specs.Alike.{Alike};
+ghost use Rattle.vl_elab_names.specs.Known.{AreNames, contains};
+ghost use Rattle.vl_elab_decls.specs.Stands.{Stands};
+ghost use Rattle.vl_elab_check_instance.specs.Parameters.{AreParametersOf};
+ghost use Rattle.vl_elab_check_instance.specs.Ports.{AreDirectionsOf};
+ghost use Rattle.vl_elab_spec.specs.Walked.{AreTotals, AreWalked};
 
 use crate::passed::add_name;
 use crate::step::weighed;
 use fv_base::Memory;
-use name_set::NameSet;
 use std::alloc::Global;
-use vl_connect::{ParameterTable, PortTable, connection_step_fault, override_step_fault};
-use vl_count::optional_nodes;
+use vl_elab_check_instance::{
+    ParameterTable, PortTable, connection_step_fault, override_step_fault,
+};
+use vl_elab_count::{Added, optional_nodes};
+use vl_elab_names::NameSet;
+use vl_elab_scope::Names;
+use vl_elab_spec::{ElabFault, Totals};
 use vl_mean::widths::plus;
-use vl_refusal::ElabFault;
-use vl_scope::Names;
-use vl_totals::Added;
 use vl_tree::{Connection, Expr, Module};
-use vl_walked::Totals;
 
-#[tactic(auto, using(vl_count::proofs::Sums::sums))]
+#[tactic(auto, using(vl_elab_count::proofs::CountSums::sums))]
 fn value_nodes(value: &Option<Expr>) -> u64
     ensures { result ≡ capped (counts.value_nodes value.now + 1) }
 {

@@ -4,31 +4,29 @@ ghost use Rattle.vl_tree.specs.declared.source.Module.{Module};
 ghost use Rattle.vl_mean.specs.ConstantFaults.{capped};
 ghost use Rattle.vl_mean.specs.Declarations.{header_parameters};
 ghost use Rattle.vl_mean.specs.Walk.{Place, header, header_steps, parameter_names};
-ghost use Rattle.vl_refusal.specs.Counts as counts;
-ghost use Rattle.vl_refusal.specs.Meanings.{meanings_at};
-ghost use Rattle.vl_refusal.specs.Refused as refused;
-ghost use Rattle.vl_alike.specs.Alike.{Alike};
-ghost use Rattle.name_set.specs.Known.{AreNames};
-ghost use Rattle.vl_reach.specs.Reached.{IsReached};
-ghost use Rattle.vl_earlier.specs.Gives.{Gives};
-ghost use Rattle.vl_walked.specs.Walked.{AreTotals, AreWalked};
+ghost use Rattle.vl_elab_spec.specs.Counts as counts;
+ghost use Rattle.vl_elab_spec.specs.Meanings.{meanings_at};
+ghost use Rattle.vl_elab_spec.specs.Refused as refused;
+ghost use Rattle.vl_elab_scope.specs.Alike.{Alike};
+ghost use Rattle.vl_elab_names.specs.Known.{AreNames};
+ghost use Rattle.vl_elab_params.specs.Reached.{IsReached};
+ghost use Rattle.vl_elab_check_scope.specs.Gives.{Gives};
+ghost use Rattle.vl_elab_spec.specs.Walked.{AreTotals, AreWalked};
 
 use crate::step::weighed;
 use fv_base::Memory;
-use name_set::NameSet;
 use std::alloc::Global;
-use vl_count::{expr_nodes, range_nodes};
-use vl_earlier::header_fault;
+use vl_elab_check_scope::header_fault;
+use vl_elab_const::Given;
+use vl_elab_count::{Added, expr_nodes, range_nodes};
+use vl_elab_names::NameSet;
+use vl_elab_params::Reached;
+use vl_elab_scope::Names;
+use vl_elab_spec::{ElabFault, Totals};
 use vl_mean::widths::plus;
-use vl_number::Given;
-use vl_reach::Reached;
-use vl_refusal::ElabFault;
-use vl_scope::Names;
-use vl_totals::Added;
 use vl_tree::{HeaderParameter, Parameter};
-use vl_walked::Totals;
 
-#[tactic(auto, using(vl_count::proofs::Sums::sums))]
+#[tactic(auto, using(vl_elab_count::proofs::CountSums::sums))]
 fn parameter_nodes(parameter: &Parameter) -> u64
     ensures { result ≡ capped (counts.parameter_nodes (parameter.now ∷ [])) }
 {

@@ -1,37 +1,34 @@
 //! Items by themselves: of a loop its head, of an `if` its condition, of an instance what it names.
 ghost use Rattle.std.specs.Prelude.{◌≡◌, ◌++◌, ◌∷◌, [], ℕ, List, drop, IfOk, OnOk};
 ghost use Rattle.vl_mean.specs.Walk.{Place, item as item_step};
-ghost use Rattle.vl_refusal.specs.Items as items;
-ghost use Rattle.vl_refusal.specs.Meanings.{item_names, meanings_at};
-ghost use Rattle.vl_refusal.specs.Refused as refused;
-ghost use Rattle.vl_refusal.specs.Refused.{lowest};
-ghost use Rattle.vl_scope.specs.Seen.{innermost};
-ghost use Rattle.vl_alike.specs.Alike.{Alike};
-ghost use Rattle.name_set.specs.Known.{AreNames};
-ghost use Rattle.vl_modules.specs.Table.{AreModules};
-ghost use Rattle.vl_reach.specs.Reached.{IsReached};
-ghost use Rattle.vl_walked.specs.Walked.{AreTotals, AreWalked};
-ghost use Rattle.vl_weigh.specs.Here.{IsAt, own_parameters};
+ghost use Rattle.vl_elab_spec.specs.Items as items;
+ghost use Rattle.vl_elab_spec.specs.Meanings.{item_names, meanings_at};
+ghost use Rattle.vl_elab_spec.specs.Refused as refused;
+ghost use Rattle.vl_elab_spec.specs.Refused.{lowest};
+ghost use Rattle.vl_elab_scope.specs.Seen.{innermost};
+ghost use Rattle.vl_elab_scope.specs.Alike.{Alike};
+ghost use Rattle.vl_elab_names.specs.Known.{AreNames};
+ghost use Rattle.vl_elab_names.specs.Table.{AreModules};
+ghost use Rattle.vl_elab_params.specs.Reached.{IsReached};
+ghost use Rattle.vl_elab_spec.specs.Walked.{AreTotals, AreWalked};
+ghost use Rattle.vl_elab_check.specs.Here.{IsAt, own_parameters};
 
 use crate::passed::pass_declared;
 use crate::step::weighed;
 use fv_base::Memory;
-use name_set::NameSet;
 use std::alloc::Global;
-use vl_connect::instance_fault;
-use vl_earlier::parameters_fault;
-use vl_modules::{ModulePath, ModuleTable};
-use vl_number::Given;
-use vl_reach::Reached;
-use vl_refusal::ElabFault;
-use vl_refuse::{
+use vl_elab_check_instance::instance_fault;
+use vl_elab_check_scope::{
     always_fault, assign_fault, declaration_fault, genvar_names_fault, if_fault,
-    initial_block_fault, integer_fault, loop_fault,
+    initial_block_fault, integer_fault, loop_fault, parameters_fault,
 };
-use vl_scope::Names;
-use vl_totals::item_added;
+use vl_elab_const::Given;
+use vl_elab_count::item_added;
+use vl_elab_names::{ModulePath, ModuleTable, NameSet};
+use vl_elab_params::Reached;
+use vl_elab_scope::Names;
+use vl_elab_spec::{ElabFault, Totals};
 use vl_tree::{Item, ItemKind, Module};
-use vl_walked::Totals;
 
 /// An item but for the size of the design. The names of nets, variables, genvars and parameters stand behind those
 /// before it then; its parameters are reached.

@@ -3,20 +3,20 @@ ghost use Rattle.std.specs.Prelude.{◌≡◌, ◌++◌, ℕ, List, OnOk};
 ghost use Rattle.std.specs.Option.{option_copied};
 ghost use Rattle.vl_mean.specs.Declarations.{names_of};
 ghost use Rattle.vl_mean.specs.Walk.{Place};
-ghost use Rattle.vl_refusal.specs.Meanings.{item_names, meanings_at};
-ghost use Rattle.vl_alike.specs.Alike.{Alike};
-ghost use Rattle.name_set.specs.Known.{AreNames, contains};
-ghost use Rattle.vl_reach.specs.Reached.{IsReached};
-ghost use Rattle.vl_step.specs.Parts.{with_name};
-ghost use Rattle.vl_weigh.specs.Here.{own_names};
-ghost use Rattle.vl_weigh.specs.Kinds as spec;
+ghost use Rattle.vl_elab_spec.specs.Meanings.{item_names, meanings_at};
+ghost use Rattle.vl_elab_scope.specs.Alike.{Alike};
+ghost use Rattle.vl_elab_names.specs.Known.{AreNames, contains};
+ghost use Rattle.vl_elab_params.specs.Reached.{IsReached};
+ghost use Rattle.vl_elab_check_scope.specs.Parts.{with_name};
+ghost use Rattle.vl_elab_check.specs.Here.{own_names};
+ghost use Rattle.vl_elab_check.specs.Kinds as spec;
 
 use fv_base::{Memory, Text};
-use name_set::NameSet;
 use std::alloc::Global;
-use vl_reach::Reached;
-use vl_scope::Names;
-use vl_step::add_labels;
+use vl_elab_check_scope::add_labels;
+use vl_elab_names::NameSet;
+use vl_elab_params::Reached;
+use vl_elab_scope::Names;
 use vl_tree::{Item, ItemKind};
 
 /// Of nets, variables or genvars.

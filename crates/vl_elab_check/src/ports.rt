@@ -5,31 +5,29 @@ ghost use Rattle.vl_tree.specs.declared.source.Module.{Module};
 ghost use Rattle.vl_mean.specs.ConstantFaults.{capped};
 ghost use Rattle.vl_mean.specs.Declarations.{full_port, full_ports};
 ghost use Rattle.vl_mean.specs.Walk.{Place, Use, optional_name, port, port_names, port_step, port_steps};
-ghost use Rattle.vl_refusal.specs.Counts as counts;
-ghost use Rattle.vl_refusal.specs.Meanings.{meanings_at};
-ghost use Rattle.vl_refusal.specs.Refused as refused;
-ghost use Rattle.vl_alike.specs.Alike.{Alike};
-ghost use Rattle.name_set.specs.Known.{AreNames};
-ghost use Rattle.vl_reach.specs.Reached.{IsReached};
-ghost use Rattle.vl_walked.specs.Walked.{AreTotals, AreWalked};
-ghost use Rattle.vl_stand.specs.Clocks.{port_text};
-ghost use Rattle.vl_refuse.specs.Short.{renamed};
-ghost use Rattle.vl_weigh.specs.Ports as spec;
+ghost use Rattle.vl_elab_spec.specs.Counts as counts;
+ghost use Rattle.vl_elab_spec.specs.Meanings.{meanings_at};
+ghost use Rattle.vl_elab_spec.specs.Refused as refused;
+ghost use Rattle.vl_elab_scope.specs.Alike.{Alike};
+ghost use Rattle.vl_elab_names.specs.Known.{AreNames};
+ghost use Rattle.vl_elab_params.specs.Reached.{IsReached};
+ghost use Rattle.vl_elab_spec.specs.Walked.{AreTotals, AreWalked};
+ghost use Rattle.vl_elab_decls.specs.Clocks.{port_text};
+ghost use Rattle.vl_elab_check_scope.specs.Short.{renamed};
+ghost use Rattle.vl_elab_check.specs.Ports as spec;
 
 use crate::passed::add_name;
 use crate::step::weighed;
 use fv_base::{Memory, Pos, Text};
-use name_set::NameSet;
 use std::alloc::Global;
-use vl_count::{optional_nodes, range_nodes};
+use vl_elab_check_scope::port_step_fault;
+use vl_elab_count::{Added, optional_nodes, range_nodes};
+use vl_elab_names::NameSet;
+use vl_elab_params::Reached;
+use vl_elab_scope::Names;
+use vl_elab_spec::{ElabFault, Totals};
 use vl_mean::widths::plus;
-use vl_reach::Reached;
-use vl_refusal::ElabFault;
-use vl_refuse::port_step_fault;
-use vl_scope::Names;
-use vl_totals::Added;
 use vl_tree::{Expr, FullPort, Port, PortKind};
-use vl_walked::Totals;
 
 /// The port from which one that is written short behind this one takes what it doesn't say.
 fn next_full<'a>(last: Option<&'a FullPort>, kind: &'a PortKind) -> Option<&'a FullPort>
@@ -60,7 +58,7 @@ fn port_value(kind: &PortKind) -> &Option<Expr>
 }
 
 /// A port of the shape of this one.
-#[tactic(auto, using(vl_count::proofs::Sums::sums))]
+#[tactic(auto, using(vl_elab_count::proofs::CountSums::sums))]
 fn port_nodes(full: &FullPort, value: &Option<Expr>) -> u64
     ensures { result ≡ capped (counts.range_nodes full.now.shape.range + counts.value_nodes value.now + 1) }
 {

@@ -4,19 +4,18 @@ ghost use Rattle.vl_tree.specs.Item.{items};
 ghost use Rattle.vl_tree.specs.WellFormed.{AreWellFormed, IsModule};
 ghost use Rattle.vl_mean.specs.Walk as walk;
 ghost use Rattle.vl_mean.specs.Walk.{Place, Use, block_place, module_place};
-ghost use Rattle.vl_number.specs.Given.{value_given, IsGiven};
-ghost use Rattle.vl_shape.specs.Inputs.{AreInputs};
-ghost use Rattle.vl_judged.specs.Judged.{top_use};
-ghost use Rattle.vl_judged.specs.Standing.{HasScope, IsHere, IsWithin};
+ghost use Rattle.vl_elab_const.specs.Given.{value_given, IsGiven};
+ghost use Rattle.vl_elab_decls.specs.Inputs.{AreInputs};
+ghost use Rattle.vl_elab_check.specs.Judged.{top_use};
+ghost use Rattle.vl_elab_check.specs.Standing.{HasScope, IsHere, IsWithin};
 
 use fv_base::{List, Memory};
-use name_set::NameSet;
 use std::alloc::Global;
-use vl_connect::joined_inputs;
-use vl_number::{Given, given_by};
-use vl_reach::Reached;
-use vl_shape::Inputs;
-use vl_stand::{Inside, enter_block, enter_module, leave_scope};
+use vl_elab_check_instance::joined_inputs;
+use vl_elab_const::{Given, given_by};
+use vl_elab_decls::{Inputs, Inside, enter_block, enter_module, leave_scope};
+use vl_elab_names::NameSet;
+use vl_elab_params::Reached;
 use vl_tree::{Connection, HeaderParameter, Instance, Item, Module, Port};
 
 /// What stands before a step in its scope, and what is given to the scope's parameters.

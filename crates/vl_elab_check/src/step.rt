@@ -3,17 +3,16 @@ ghost use Rattle.std.specs.Prelude.{◌≡◌, ◌∷◌, [], List};
 ghost use Rattle.vl_tree.specs.declared.source.Module.{Module};
 ghost use Rattle.vl_mean.specs.ConstantFaults.{capped};
 ghost use Rattle.vl_mean.specs.Walk.{Step};
-ghost use Rattle.vl_refusal.specs.Counts.{step_names, step_nodes, step_pos};
-ghost use Rattle.vl_refusal.specs.Items.{step_refusals};
-ghost use Rattle.vl_refusal.specs.Refused as refused;
-ghost use Rattle.vl_refusal.specs.Refused.{lowest};
-ghost use Rattle.vl_walked.specs.Walked.{AreTotals, AreWalked};
+ghost use Rattle.vl_elab_spec.specs.Counts.{step_names, step_nodes, step_pos};
+ghost use Rattle.vl_elab_spec.specs.Items.{step_refusals};
+ghost use Rattle.vl_elab_spec.specs.Refused as refused;
+ghost use Rattle.vl_elab_spec.specs.Refused.{lowest};
+ghost use Rattle.vl_elab_spec.specs.Walked.{AreTotals, AreWalked};
 
 use fv_base::Pos;
-use vl_judge::first_of;
-use vl_refusal::ElabFault;
-use vl_totals::Added;
-use vl_walked::Totals;
+use vl_elab_check_expr::first_of;
+use vl_elab_count::Added;
+use vl_elab_spec::{ElabFault, Totals};
 
 /// The step that is refused so by itself, with the nodes and names that it adds to those before it.
 pub(crate) fn weighed(

@@ -3,24 +3,27 @@ ghost use Rattle.std.specs.Prelude.{◌≡◌, ◌∷◌, ◌++◌, [], ℕ, Lis
 ghost use Rattle.vl_tree.specs.declared.source.Module.{Module as SpecModule};
 ghost use Rattle.vl_mean.specs.Declarations.{names_of};
 ghost use Rattle.vl_mean.specs.Walk.{Place, Use, item, module_place, with_earlier};
-ghost use Rattle.vl_refusal.specs.Items.{inner_meanings};
-ghost use Rattle.vl_refusal.specs.Meanings.{item_names};
-ghost use Rattle.vl_refusal.specs.Refused as refused;
-ghost use Rattle.vl_alike.specs.Alike.{Alike};
-ghost use Rattle.vl_modules.specs.Table.{AreModules};
-ghost use Rattle.vl_walked.specs.Walked.{AreTotals, AreWalked};
-ghost use Rattle.vl_unfold.specs.Within.{behind_head, front_steps, head_steps};
-ghost use Rattle.vl_judged.specs.Standing.{HasScope, IsHere, IsWithin};
+ghost use Rattle.vl_elab_spec.specs.Items.{inner_meanings};
+ghost use Rattle.vl_elab_spec.specs.Meanings.{item_names};
+ghost use Rattle.vl_elab_spec.specs.Refused as refused;
+ghost use Rattle.vl_elab_scope.specs.Alike.{Alike};
+ghost use Rattle.vl_elab_names.specs.Table.{AreModules};
+ghost use Rattle.vl_elab_spec.specs.Walked.{AreTotals, AreWalked};
+ghost use Rattle.vl_elab_spec.specs.Within.{behind_head, front_steps, head_steps};
+ghost use Rattle.vl_elab_check.specs.Standing.{HasScope, IsHere, IsWithin};
 
+use crate::connections::{walk_connections, walk_overrides};
+use crate::headers::walk_headers;
+use crate::items::walk_item;
+use crate::passed::pass_item;
+use crate::ports::walk_ports;
 use crate::scopes::{Here, Used, connections_of, header_of, ports_of};
 use fv_base::Memory;
 use std::alloc::Global;
-use vl_modules::{ModulePath, ModuleTable};
-use vl_refusal::ElabFault;
-use vl_stand::Inside;
+use vl_elab_decls::Inside;
+use vl_elab_names::{ModulePath, ModuleTable};
+use vl_elab_spec::{ElabFault, Totals};
 use vl_tree::{Instance, Item, Module};
-use vl_walked::Totals;
-use vl_weigh::{pass_item, walk_connections, walk_headers, walk_item, walk_overrides, walk_ports};
 
 /// An item by itself. The nets, variables, genvars and parameters that it declares stand before what follows then.
 pub(crate) fn own_step(

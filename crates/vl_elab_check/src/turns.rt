@@ -3,19 +3,19 @@ ghost use Rattle.std.specs.Prelude.{◌≡◌, ℕ, List, Some, None, IfOk, OnOk
 ghost use Rattle.vl_mean.specs.Scopes.{Scope};
 ghost use Rattle.vl_mean.specs.Walk as walk;
 ghost use Rattle.vl_mean.specs.Walk.{Place};
-ghost use Rattle.vl_number.specs.Numbers as numbers_spec;
-ghost use Rattle.vl_number.specs.Numbers.{HaveNumbers};
-ghost use Rattle.vl_turn.specs.Parts.{in_turn};
-ghost use Rattle.vl_judged.specs.Standing.{IsWithin};
+ghost use Rattle.vl_elab_const.specs.Numbers as numbers_spec;
+ghost use Rattle.vl_elab_const.specs.Numbers.{HaveNumbers};
+ghost use Rattle.vl_elab_check_item.specs.TurnParts.{in_turn};
+ghost use Rattle.vl_elab_check.specs.Standing.{IsWithin};
 
 use fv_base::Memory;
 use std::alloc::Global;
+use vl_elab_check_item::enter_turn;
+use vl_elab_const::{genvar_value, is_true_in};
+use vl_elab_decls::Inside;
+use vl_elab_scope::Names;
 use vl_mean::Const;
-use vl_number::{genvar_value, is_true_in};
-use vl_scope::Names;
-use vl_stand::Inside;
 use vl_tree::LoopHead;
-use vl_turn::enter_turn;
 
 /// The value of the first turn.
 pub(crate) fn first_value(alloc: Global, head: &LoopHead, inside: &Inside) -> Result<Const, Memory>

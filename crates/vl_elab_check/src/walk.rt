@@ -12,12 +12,12 @@ ghost use Rattle.vl_mean.specs.Cells.{contains_name};
 ghost use Rattle.vl_mean.specs.Walk as walk;
 ghost use Rattle.vl_mean.specs.Walk.{Place, block_place, items_steps, module_place, turn_place, unfolded};
 ghost use Rattle.vl_mean.specs.Walk.{use_of, with_earlier};
-ghost use Rattle.vl_refusal.specs.Meanings.{item_names};
-ghost use Rattle.vl_refusal.specs.Refused as refused;
-ghost use Rattle.vl_modules.specs.Table.{AreModules};
-ghost use Rattle.vl_walked.specs.Walked.{AreWalked};
-ghost use Rattle.vl_unfold.specs.Within as within;
-ghost use Rattle.vl_judged.specs.Standing.{HasScope, IsHere, IsSoFar, IsWithin};
+ghost use Rattle.vl_elab_spec.specs.Meanings.{item_names};
+ghost use Rattle.vl_elab_spec.specs.Refused as refused;
+ghost use Rattle.vl_elab_names.specs.Table.{AreModules};
+ghost use Rattle.vl_elab_spec.specs.Walked.{AreWalked};
+ghost use Rattle.vl_elab_spec.specs.Within as within;
+ghost use Rattle.vl_elab_check.specs.Standing.{HasScope, IsHere, IsSoFar, IsWithin};
 
 use crate::bare::is_bare;
 use crate::blocks::{chosen, items_of, nested};
@@ -27,13 +27,12 @@ use crate::turns;
 use crate::turns::{first_value, next_value};
 use fv_base::Memory;
 use std::alloc::Global;
+use vl_elab_const::is_true_in;
+use vl_elab_decls::Inside;
+use vl_elab_names::{ModulePath, ModuleTable};
+use vl_elab_spec::{ElabFault, Totals};
 use vl_mean::Const;
-use vl_modules::{ModulePath, ModuleTable};
-use vl_number::is_true_in;
-use vl_refusal::ElabFault;
-use vl_stand::Inside;
 use vl_tree::{Block, Expr, Instance, Item, ItemKind, LoopHead, Module};
-use vl_walked::Totals;
 
 /// The items of a scope. `fuel`: how many modules may stand in one another below it.
 #[cycle(walk)]

@@ -2,20 +2,19 @@
 ghost use Rattle.std.specs.Prelude.{◌≡◌, ◌-◌, [], length, IfOk, All};
 ghost use Rattle.vl_tree.specs.WellFormed.{IsModule};
 ghost use Rattle.vl_mean.specs.Parts.{design};
-ghost use Rattle.vl_refusal.specs.Refused as refused;
-ghost use Rattle.vl_refusal.specs.Refused.{first_refused, or_later, state_bits, too_many_bits};
-ghost use Rattle.vl_modules.specs.Table.{AreModules};
-ghost use Rattle.vl_judged.specs.Judged as spec;
+ghost use Rattle.vl_elab_spec.specs.Refused as refused;
+ghost use Rattle.vl_elab_spec.specs.Refused.{first_refused, or_later, state_bits, too_many_bits};
+ghost use Rattle.vl_elab_names.specs.Table.{AreModules};
+ghost use Rattle.vl_elab_check.specs.Judged as spec;
 
 use crate::scopes::enter_top;
 use crate::steps::head;
 use crate::walk::walk_items;
 use fv_base::{Memory, Text};
 use std::alloc::Global;
-use vl_modules::{ModulePath, ModuleTable, modules_twice};
-use vl_refusal::ElabFault;
+use vl_elab_names::{ModulePath, ModuleTable, modules_twice};
+use vl_elab_spec::{ElabFault, Totals};
 use vl_tree::Module;
-use vl_walked::Totals;
 
 /// The walk from the top module on.
 fn walk_top(

@@ -29,13 +29,13 @@ use Rattle.vl_tree.specs.ExprView.{with_select}
 use Rattle.vl_size.proofs.Falls.{select_depth}
 use Rattle.vl_size.proofs.Rest.{part_depth}
 use Rattle.vl_size.specs.Size.{divides}
-use Rattle.vl_refusal.specs.declared.elab_fault.ElabFault.{ElabFault}
-use Rattle.vl_refusal.specs.Expressions.{too_wide, name_width, wide_size, no_copies, read_refusals, is_constant_name}
-use Rattle.vl_refusal.specs.Expressions.{refusals, refused_if, all_refusals, select_refusals}
-use Rattle.vl_refusal.specs.Meanings.{Meaning, Names, meaning_in}
-use Rattle.vl_refusal.specs.Refused.{comes_before, lower_of, lowest}
-use Rattle.vl_refusal.proofs.LowestFirst.{lowest_append}
-use Rattle.vl_judge.specs.Judged.{fault, faults, selects_fault, select_fault}
+use Rattle.vl_elab_spec.specs.declared.elab_fault.ElabFault.{ElabFault}
+use Rattle.vl_elab_spec.specs.Expressions.{too_wide, name_width, wide_size, no_copies, read_refusals, is_constant_name}
+use Rattle.vl_elab_spec.specs.Expressions.{refusals, refused_if, all_refusals, select_refusals}
+use Rattle.vl_elab_spec.specs.Meanings.{Meaning, Names, meaning_in}
+use Rattle.vl_elab_spec.specs.Refused.{comes_before, lower_of, lowest}
+use Rattle.vl_elab_spec.proofs.LowestFirst.{lowest_append}
+use Rattle.vl_elab_check_expr.specs.Judged.{fault, faults, selects_fault, select_fault}
 
 -- of two parts
 pub lowest_two : (gs hs : List ElabFault) (g h : Option ElabFault) → g ≡ lowest gs → h ≡ lowest hs

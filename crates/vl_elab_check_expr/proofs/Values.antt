@@ -15,13 +15,13 @@ use Rattle.vl_size.specs.declared.own.Own.{Own}
 use Rattle.vl_size.specs.Size.{is_bound, goes_along}
 use Rattle.vl_size.specs.Table.{span}
 use Rattle.vl_mean.specs.ConstantFaults.{wide_times}
-use Rattle.vl_refusal.specs.declared.elab_fault.ElabFault.{ElabFault}
-use Rattle.vl_refusal.specs.declared.elab_fault.ElabFault.TheVariants as f
-use Rattle.vl_refusal.specs.Expressions.{refused_if, if_known, far, against, no_copies, part_width, vector_width}
-use Rattle.vl_refusal.specs.Expressions.{none_behind, vector_selects}
-use Rattle.vl_refusal.specs.Meanings.{Names, bound, is_known}
-use Rattle.vl_refusal.specs.Refused.{lowest}
-use Rattle.vl_judge.specs.Judged.{alone}
+use Rattle.vl_elab_spec.specs.declared.elab_fault.ElabFault.{ElabFault}
+use Rattle.vl_elab_spec.specs.declared.elab_fault.ElabFault.TheVariants as f
+use Rattle.vl_elab_spec.specs.Expressions.{refused_if, if_known, far, against, no_copies, part_width, vector_width}
+use Rattle.vl_elab_spec.specs.Expressions.{none_behind, vector_selects}
+use Rattle.vl_elab_spec.specs.Meanings.{Names, bound, is_known}
+use Rattle.vl_elab_spec.specs.Refused.{lowest}
+use Rattle.vl_elab_check_expr.specs.Judged.{alone}
 
 abbrev int_of : Own → ℤ
 int_of own = as_int own.width own.signed own.number

@@ -25,13 +25,13 @@ use Rattle.vl_tree.specs.Expr.{
 }
 use Rattle.vl_size.specs.declared.decl.Decl.{Decl}
 use Rattle.vl_size.specs.Size.{◌>>=◌, divides}
-use Rattle.vl_refusal.specs.declared.elab_fault.ElabFault.{ElabFault}
-use Rattle.vl_refusal.specs.declared.elab_fault.ElabFault.TheVariants as f
+use Rattle.vl_elab_spec.specs.declared.elab_fault.ElabFault.{ElabFault}
+use Rattle.vl_elab_spec.specs.declared.elab_fault.ElabFault.TheVariants as f
 use Rattle.vl_mean.specs.ConstantFaults.{wide_times}
-use Rattle.vl_refusal.specs.Expressions.{refused_if, too_wide, name_width, wide_size, far, against, no_copies}
-use Rattle.vl_refusal.specs.Expressions.{if_known, read_refusals, is_constant_name}
-use Rattle.vl_refusal.specs.Meanings.{Names, bound, meaning_in}
-use Rattle.vl_refusal.specs.Refused.{lower_of, lowest}
+use Rattle.vl_elab_spec.specs.Expressions.{refused_if, too_wide, name_width, wide_size, far, against, no_copies}
+use Rattle.vl_elab_spec.specs.Expressions.{if_known, read_refusals, is_constant_name}
+use Rattle.vl_elab_spec.specs.Meanings.{Names, bound, meaning_in}
+use Rattle.vl_elab_spec.specs.Refused.{lower_of, lowest}
 
 -- of sizes that are there
 abbrev pub of_one : (ℕ → Option ℕ) → Option ℕ → Option ℕ

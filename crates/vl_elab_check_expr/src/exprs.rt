@@ -1,14 +1,14 @@
 //! Which refusal of an expression in its place is answered.
 ghost use Rattle.std.specs.Prelude.{◌≡◌, ◌≤◌, IfOk, IfSome};
-ghost use Rattle.vl_refusal.specs.Expressions as expressions;
-ghost use Rattle.vl_refusal.specs.Refused.{lowest};
+ghost use Rattle.vl_elab_spec.specs.Expressions as expressions;
+ghost use Rattle.vl_elab_spec.specs.Refused.{lowest};
 
 use crate::fault::{divided_by_zero, first_of};
 use crate::judge::judge;
 use fv_base::Memory;
 use std::alloc::Global;
-use vl_refusal::ElabFault;
-use vl_scope::{Names, own_zero_divisor_of, zero_divisor_of};
+use vl_elab_scope::{Names, own_zero_divisor_of, zero_divisor_of};
+use vl_elab_spec::ElabFault;
 use vl_size::Context;
 use vl_tree::Expr;
 

@@ -1,12 +1,12 @@
 //! Which of several refusals is answered.
 ghost use Rattle.std.specs.Prelude.{◌≡◌, IfOk};
-ghost use Rattle.vl_refusal.specs.declared.elab_fault.ElabFault.TheVariants as f;
-ghost use Rattle.vl_refusal.specs.Expressions as expressions;
-ghost use Rattle.vl_refusal.specs.Refused as spec;
+ghost use Rattle.vl_elab_spec.specs.declared.elab_fault.ElabFault.TheVariants as f;
+ghost use Rattle.vl_elab_spec.specs.Expressions as expressions;
+ghost use Rattle.vl_elab_spec.specs.Refused as spec;
 
 use fv_base::{Memory, Pos, Text};
 use std::alloc::Global;
-use vl_refusal::ElabFault;
+use vl_elab_spec::ElabFault;
 use vl_size::earlier::is_earlier;
 
 /// Of the refusals of two parts: the lower number, or of one number the earlier place; of two alike the first.

@@ -3,20 +3,20 @@ ghost use Rattle.std.specs.Prelude.{◌≡◌, ◌||◌, List, IfOk};
 ghost use Rattle.vl_tree.specs.Expr as tree;
 ghost use Rattle.vl_tree.specs.Expr.{exprs};
 ghost use Rattle.vl_tree.specs.ExprView.{selects};
-ghost use Rattle.vl_refusal.specs.Expressions as expressions;
-ghost use Rattle.vl_refusal.specs.Meanings.{meaning_in};
-ghost use Rattle.vl_refusal.specs.Meanings as meanings;
-ghost use Rattle.vl_refusal.specs.Refused.{lower_of, lowest};
-ghost use Rattle.vl_judge.specs.Judged as spec;
-ghost use Rattle.vl_scope.specs.Seen.{seen};
+ghost use Rattle.vl_elab_spec.specs.Expressions as expressions;
+ghost use Rattle.vl_elab_spec.specs.Meanings.{meaning_in};
+ghost use Rattle.vl_elab_spec.specs.Meanings as meanings;
+ghost use Rattle.vl_elab_spec.specs.Refused.{lower_of, lowest};
+ghost use Rattle.vl_elab_check_expr.specs.Judged as spec;
+ghost use Rattle.vl_elab_scope.specs.Seen.{seen};
 
 use crate::fault::{first_of, range_if, too_wide};
 use crate::selects::{lacks_copies, read_fault};
 use crate::width::{binary_width, copies_width, larger, name_width, plus, some_bits, unary_width};
 use fv_base::{Memory, Pos, Text};
 use std::alloc::Global;
-use vl_refusal::ElabFault;
-use vl_scope::{Meaning, Names};
+use vl_elab_scope::{Meaning, Names};
+use vl_elab_spec::ElabFault;
 use vl_size::way::divides;
 use vl_tree::{Expr, ExprKind, Select};
 

@@ -5,21 +5,21 @@ ghost use Rattle.vl_size.specs.Size as size_spec;
 ghost use Rattle.vl_size.specs.Size.{is_bound};
 ghost use Rattle.vl_mean.specs.Constants as constants;
 ghost use Rattle.vl_mean.specs.Scopes.{is_clock_class};
-ghost use Rattle.vl_refusal.specs.Expressions as spec;
-ghost use Rattle.vl_refusal.specs.Meanings as meanings;
-ghost use Rattle.vl_refusal.specs.Refused.{lowest};
-ghost use Rattle.vl_judge.specs.Judged.{alone};
-ghost use Rattle.vl_scope.specs.Seen.{seen};
+ghost use Rattle.vl_elab_spec.specs.Expressions as spec;
+ghost use Rattle.vl_elab_spec.specs.Meanings as meanings;
+ghost use Rattle.vl_elab_spec.specs.Refused.{lowest};
+ghost use Rattle.vl_elab_check_expr.specs.Judged.{alone};
+ghost use Rattle.vl_elab_scope.specs.Seen.{seen};
 
 use crate::bounds::{goes_along, is_some_copies};
 use crate::fault::{clock_if, first_of, not_constant_if, range_if};
 use crate::width::vector_of;
 use fv_base::{Memory, Pos, Text};
 use std::alloc::Global;
+use vl_elab_scope::{Meaning, Names, Object, value_of};
+use vl_elab_spec::ElabFault;
 use vl_mean::Const;
 use vl_mean::widths::bound;
-use vl_refusal::ElabFault;
-use vl_scope::{Meaning, Names, Object, value_of};
 use vl_size::{Class, Decl};
 use vl_tree::{Expr, Select};
 

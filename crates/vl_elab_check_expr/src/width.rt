@@ -6,17 +6,17 @@ ghost use Rattle.vl_size.specs.Size as size_spec;
 ghost use Rattle.vl_size.specs.Way.{way};
 ghost use Rattle.vl_mean.specs.ConstantFaults.{capped, wide_times as times};
 ghost use Rattle.vl_mean.specs.Constants as constants;
-ghost use Rattle.vl_refusal.specs.Expressions as spec;
-ghost use Rattle.vl_refusal.specs.Meanings.{bound};
-ghost use Rattle.vl_judge.specs.Judged.{copied, of_one, of_two};
-ghost use Rattle.vl_scope.specs.Seen.{seen};
+ghost use Rattle.vl_elab_spec.specs.Expressions as spec;
+ghost use Rattle.vl_elab_spec.specs.Meanings.{bound};
+ghost use Rattle.vl_elab_check_expr.specs.Judged.{copied, of_one, of_two};
+ghost use Rattle.vl_elab_scope.specs.Seen.{seen};
 
 use crate::bounds::span_of;
 use fv_base::{Memory, Text};
 use std::alloc::Global;
+use vl_elab_scope::{Meaning, Names, Object, value_of};
 use vl_mean::Const;
 use vl_mean::widths::{binary_size, plus as added, some, unary_size, wide_times};
-use vl_scope::{Meaning, Names, Object, value_of};
 use vl_size::{Class, Decl};
 use vl_tree::{BinaryOperator, Expr, Select, UnaryOperator};
 

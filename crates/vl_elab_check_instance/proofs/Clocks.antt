@@ -31,16 +31,16 @@ use Rattle.vl_size.specs.declared.decl.Class.TheVariants as class
 use Rattle.vl_mean.specs.Scopes as scopes
 use Rattle.vl_mean.specs.Scopes.{Scope}
 use Rattle.vl_mean.specs.Walk.{connected, use_of}
-use Rattle.vl_refusal.specs.Meanings.{Names, is_undeclared}
-use Rattle.vl_scope.specs.declared.meaning.Meaning.{Meaning as Kept}
-use Rattle.vl_scope.specs.declared.meaning.Meaning.TheVariants as k
-use Rattle.vl_scope.specs.Seen.{seen, seen_or}
-use Rattle.name_set.specs.declared.set.NameSet.{NameSet}
-use Rattle.name_set.specs.Known.{contains}
-use Rattle.vl_shape.specs.declared.inputs.Inputs.TheVariants as i
-use Rattle.vl_shape.specs.Inputs.{AreInputs}
-use Rattle.vl_stand.specs.Stands.{Stands}
-use Rattle.vl_connect.specs.Clock.{is_clock_part, is_clock_expr, is_clock, with_name, with_clock, joined_to}
+use Rattle.vl_elab_spec.specs.Meanings.{Names, is_undeclared}
+use Rattle.vl_elab_scope.specs.declared.meaning.Meaning.{Meaning as Kept}
+use Rattle.vl_elab_scope.specs.declared.meaning.Meaning.TheVariants as k
+use Rattle.vl_elab_scope.specs.Seen.{seen, seen_or}
+use Rattle.vl_elab_names.specs.declared.set.NameSet.{NameSet}
+use Rattle.vl_elab_names.specs.Known.{contains}
+use Rattle.vl_elab_decls.specs.declared.inputs.Inputs.TheVariants as i
+use Rattle.vl_elab_decls.specs.Inputs.{AreInputs}
+use Rattle.vl_elab_decls.specs.Stands.{Stands}
+use Rattle.vl_elab_check_instance.specs.Clock.{is_clock_part, is_clock_expr, is_clock, with_name, with_clock, joined_to}
 
 -- a name that nothing declares
 seen_there : (m : Kept) → is_undeclared (seen m) ≡ false

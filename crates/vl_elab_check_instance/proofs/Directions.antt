@@ -13,10 +13,10 @@ use Rattle.vl_size.proofs.Entries.{copied_some}
 use Rattle.vl_mean.proofs.Lookups.{bytes_eq-swap}
 use Rattle.vl_mean.specs.Declarations.{full_port, full_ports, ports_of, port_named}
 use Rattle.vl_mean.specs.Walk.{written_ports}
-use Rattle.vl_scope.specs.Texts.{or_else}
-use Rattle.vl_stand.specs.Clocks.{next_direction, port_text}
-use Rattle.vl_connect.specs.declared.ports.PortTable.{PortTable}
-use Rattle.vl_connect.specs.Ports.{direction_in, direction_of, named_value, direction_if, direction_behind}
+use Rattle.vl_elab_scope.specs.Texts.{or_else}
+use Rattle.vl_elab_decls.specs.Clocks.{next_direction, port_text}
+use Rattle.vl_elab_check_instance.specs.declared.ports.PortTable.{PortTable}
+use Rattle.vl_elab_check_instance.specs.Ports.{direction_in, direction_of, named_value, direction_if, direction_behind}
 
 or_none : (o : Option Direction) → or_else o None ≡ o
 or_none None = refl

@@ -23,12 +23,12 @@ use Rattle.vl_tree.specs.Item.{
   more_items,
 }
 use Rattle.vl_mean.proofs.Lookups.{bytes_eq-swap}
-use Rattle.vl_refusal.specs.Items.{items_parameters, parameter_named}
-use Rattle.vl_connect.specs.declared.parameters.ParameterTable.{ParameterTable}
-use Rattle.vl_connect.specs.declared.parameters.Spot.{Spot}
-use Rattle.vl_connect.specs.declared.parameters.Spot.TheVariants as s
-use Rattle.vl_connect.specs.Parameters.{parameter_at, parameter_in, found_at, given_of}
-use Rattle.vl_connect.specs.Parameters.{AreParameters}
+use Rattle.vl_elab_spec.specs.Items.{items_parameters, parameter_named}
+use Rattle.vl_elab_check_instance.specs.declared.parameters.ParameterTable.{ParameterTable}
+use Rattle.vl_elab_check_instance.specs.declared.parameters.Spot.{Spot}
+use Rattle.vl_elab_check_instance.specs.declared.parameters.Spot.TheVariants as s
+use Rattle.vl_elab_check_instance.specs.Parameters.{parameter_at, parameter_in, found_at, given_of}
+use Rattle.vl_elab_check_instance.specs.Parameters.{AreParameters}
 
 -- what stands first of those that are left
 pub at_front : {A : Type 0} (xs : List A) (n : ℕ) (x : A) (rest : List A) → drop n xs ≡ x ∷ rest

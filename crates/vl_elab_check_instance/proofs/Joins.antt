@@ -14,20 +14,20 @@ use Rattle.vl_mean.specs.Declarations.{port_named}
 use Rattle.vl_mean.specs.Parts.{target_of}
 use Rattle.vl_mean.specs.Scopes.{is_clock}
 use Rattle.vl_mean.specs.Walk.{Place}
-use Rattle.vl_refusal.specs.declared.elab_fault.ElabFault.TheVariants as f
-use Rattle.vl_refusal.specs.Expressions.{refused_if, expr_refusals}
-use Rattle.vl_refusal.specs.Items.{given_context, override_value, object_width, joined_context, joined_value}
-use Rattle.vl_refusal.specs.Items.{joined_refusals}
-use Rattle.vl_refusal.specs.Meanings.{Names, meaning_in, declared_width}
-use Rattle.vl_refusal.specs.Statements.{assigned_in}
-use Rattle.vl_alike.specs.Alike.{Alike}
-use Rattle.vl_alike.proofs.Exprs as x
-use Rattle.vl_alike.proofs.Items as y
-use Rattle.vl_alike.proofs.Sizes as z
-use Rattle.vl_alike.proofs.Stmts as s
-use Rattle.vl_item.specs.Parts.{override_parts}
-use Rattle.vl_connect.specs.Joined.{port_with, port_if, connection_parts}
-use Rattle.vl_connect.specs.Ports.{direction_of}
+use Rattle.vl_elab_spec.specs.declared.elab_fault.ElabFault.TheVariants as f
+use Rattle.vl_elab_spec.specs.Expressions.{refused_if, expr_refusals}
+use Rattle.vl_elab_spec.specs.Items.{given_context, override_value, object_width, joined_context, joined_value}
+use Rattle.vl_elab_spec.specs.Items.{joined_refusals}
+use Rattle.vl_elab_spec.specs.Meanings.{Names, meaning_in, declared_width}
+use Rattle.vl_elab_spec.specs.Statements.{assigned_in}
+use Rattle.vl_elab_scope.specs.Alike.{Alike}
+use Rattle.vl_elab_scope.proofs.Exprs as x
+use Rattle.vl_elab_scope.proofs.Items as y
+use Rattle.vl_elab_scope.proofs.Sizes as z
+use Rattle.vl_elab_scope.proofs.Stmts as s
+use Rattle.vl_elab_check_item.specs.ItemParts.{override_parts}
+use Rattle.vl_elab_check_instance.specs.Joined.{port_with, port_if, connection_parts}
+use Rattle.vl_elab_check_instance.specs.Ports.{direction_of}
 
 module _ (ns ms ins ims : List Names) (same : Alike ns ms) (inner : Alike ins ims) where
   -- ---- overrides

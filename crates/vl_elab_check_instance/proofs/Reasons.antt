@@ -3,8 +3,8 @@ use Rattle.std.specs.Prelude.{◌≡◌, refl, ℕ, List, Bool, true, false, ◌
 use Rattle.std.proofs.Common.{ap, sym, ◌∙◌}
 use Rattle.fv_base.specs.declared.pos.Pos.{Pos}
 use Rattle.vl_tree.specs.declared.part.Instance.{Instance}
-use Rattle.vl_refusal.specs.Refused.{lowest}
-use Rattle.vl_connect.specs.Instances.{refused_by}
+use Rattle.vl_elab_spec.specs.Refused.{lowest}
+use Rattle.vl_elab_check_instance.specs.Instances.{refused_by}
 
 pub none_refused : (a b c d : Bool) (p : Pos) (x : Instance) (path : List (List ℕ)) → d ≡ not (a || (b || c))
     → d ≡ true → None ≡ lowest (refused_by a b c p x path)

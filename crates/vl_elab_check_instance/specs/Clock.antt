@@ -4,7 +4,7 @@
 use Rattle.std.specs.Prelude.{ℕ, List, [], ◌∷◌, Bool, false, ◌&&◌, ◌||◌, not, bytes_eq, Option, Some, None}
 use Rattle.vl_tree.specs.declared.part.Connection.{Connection}
 use Rattle.vl_tree.specs.Expr.{Expr, Selects, name, whole}
-use Rattle.vl_refusal.specs.Meanings.{Names, is_undeclared, meaning_in}
+use Rattle.vl_elab_spec.specs.Meanings.{Names, is_undeclared, meaning_in}
 
 -- a name by itself, which the module calls the clock and nothing within it has
 abbrev pub is_clock_part : (List ℕ → Bool) → List Names → List ℕ → Selects → Bool

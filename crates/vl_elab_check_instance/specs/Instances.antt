@@ -3,9 +3,9 @@
 use Rattle.std.specs.Prelude.{ℕ, List, ◌++◌, Bool}
 use Rattle.fv_base.specs.declared.pos.Pos.{Pos}
 use Rattle.vl_tree.specs.declared.part.Instance.{Instance}
-use Rattle.vl_refusal.specs.declared.elab_fault.ElabFault.{ElabFault}
-use Rattle.vl_refusal.specs.declared.elab_fault.ElabFault.TheVariants as f
-use Rattle.vl_refusal.specs.Expressions.{refused_if}
+use Rattle.vl_elab_spec.specs.declared.elab_fault.ElabFault.{ElabFault}
+use Rattle.vl_elab_spec.specs.declared.elab_fault.ElabFault.TheVariants as f
+use Rattle.vl_elab_spec.specs.Expressions.{refused_if}
 
 abbrev pub refused_by : Bool → Bool → Bool → Pos → Instance → List (List ℕ) → List ElabFault
 refused_by missing twice within p x path =

@@ -5,11 +5,11 @@ use Rattle.vl_tree.specs.declared.declaration.Direction.{Direction}
 use Rattle.vl_tree.specs.declared.declaration.FullPort.{FullPort}
 use Rattle.vl_tree.specs.declared.part.Connection.{Connection}
 use Rattle.vl_mean.specs.Walk.{Place}
-use Rattle.vl_refusal.specs.declared.elab_fault.ElabFault.{ElabFault}
-use Rattle.vl_refusal.specs.declared.elab_fault.ElabFault.TheVariants as f
-use Rattle.vl_refusal.specs.Expressions.{refused_if}
-use Rattle.vl_refusal.specs.Items.{joined_refusals}
-use Rattle.vl_refusal.specs.Meanings.{Names}
+use Rattle.vl_elab_spec.specs.declared.elab_fault.ElabFault.{ElabFault}
+use Rattle.vl_elab_spec.specs.declared.elab_fault.ElabFault.TheVariants as f
+use Rattle.vl_elab_spec.specs.Expressions.{refused_if}
+use Rattle.vl_elab_spec.specs.Items.{joined_refusals}
+use Rattle.vl_elab_spec.specs.Meanings.{Names}
 
 -- nothing else of a port is asked for
 abbrev pub port_with : Direction → List ℕ → FullPort

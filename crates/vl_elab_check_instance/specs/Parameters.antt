@@ -9,10 +9,10 @@ use Rattle.vl_tree.specs.declared.source.Module.{Module}
 use Rattle.vl_tree.specs.Item.{Item, parameter, items}
 use Rattle.vl_mean.specs.Declarations.{header_parameters}
 use Rattle.vl_mean.specs.Walk.{header_of}
-use Rattle.vl_refusal.specs.Items.{items_parameters, parameter_named}
-use Rattle.vl_connect.specs.declared.parameters.ParameterTable.{ParameterTable}
-use Rattle.vl_connect.specs.declared.parameters.Spot.{Spot}
-use Rattle.vl_connect.specs.declared.parameters.Spot.TheVariants as s
+use Rattle.vl_elab_spec.specs.Items.{items_parameters, parameter_named}
+use Rattle.vl_elab_check_instance.specs.declared.parameters.ParameterTable.{ParameterTable}
+use Rattle.vl_elab_check_instance.specs.declared.parameters.Spot.{Spot}
+use Rattle.vl_elab_check_instance.specs.declared.parameters.Spot.TheVariants as s
 
 -- ---- the parameter that stands at a place
 

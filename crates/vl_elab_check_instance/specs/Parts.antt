@@ -24,8 +24,8 @@ use Rattle.vl_tree.specs.Expr.{
   indexed,
 }
 use Rattle.vl_size.specs.Size.{divides}
-use Rattle.vl_refusal.specs.Expressions.{is_constant_name}
-use Rattle.vl_refusal.specs.Meanings.{Meaning, object, shapeless, later, Names, meaning_in}
+use Rattle.vl_elab_spec.specs.Expressions.{is_constant_name}
+use Rattle.vl_elab_spec.specs.Meanings.{Meaning, object, shapeless, later, Names, meaning_in}
 
 -- a net or a variable does, where a constant is asked for
 abbrev pub name_varies : Bool → Meaning → Bool

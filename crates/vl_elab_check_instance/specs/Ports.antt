@@ -8,9 +8,9 @@ use Rattle.vl_tree.specs.declared.declaration.Port.{Port}
 use Rattle.vl_tree.specs.declared.source.Module.{Module}
 use Rattle.vl_mean.specs.Declarations.{full_ports, port_named}
 use Rattle.vl_mean.specs.Walk.{written_ports}
-use Rattle.vl_scope.specs.Texts.{or_else}
-use Rattle.vl_stand.specs.Clocks.{next_direction, port_text}
-use Rattle.vl_connect.specs.declared.ports.PortTable.{PortTable}
+use Rattle.vl_elab_scope.specs.Texts.{or_else}
+use Rattle.vl_elab_decls.specs.Clocks.{next_direction, port_text}
+use Rattle.vl_elab_check_instance.specs.declared.ports.PortTable.{PortTable}
 
 -- the direction that a table has for a name
 abbrev pub direction_in : PortTable → List ℕ → Option Direction

@@ -1,13 +1,13 @@
 //! Whether a port is joined to the clock.
 ghost use Rattle.std.specs.Prelude.{◌≡◌, ◌&&◌};
 ghost use Rattle.vl_tree.specs.ExprView.{selects};
-ghost use Rattle.vl_refusal.specs.Meanings.{is_undeclared, meaning_in};
-ghost use Rattle.name_set.specs.Known.{contains};
-ghost use Rattle.vl_connect.specs.Clock as spec;
+ghost use Rattle.vl_elab_spec.specs.Meanings.{is_undeclared, meaning_in};
+ghost use Rattle.vl_elab_names.specs.Known.{contains};
+ghost use Rattle.vl_elab_check_instance.specs.Clock as spec;
 
 use fv_base::Text;
-use name_set::NameSet;
-use vl_scope::Names;
+use vl_elab_names::NameSet;
+use vl_elab_scope::Names;
 use vl_tree::{Expr, ExprKind, Select};
 
 /// A name that the module calls the clock, and that nothing within has.

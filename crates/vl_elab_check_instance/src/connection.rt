@@ -4,23 +4,22 @@ ghost use Rattle.std.specs.Option.{option_copied};
 ghost use Rattle.vl_mean.specs.Parts as parts;
 ghost use Rattle.vl_mean.specs.Scopes as scopes;
 ghost use Rattle.vl_mean.specs.Walk.{Place};
-ghost use Rattle.vl_refusal.specs.declared.elab_fault.ElabFault.TheVariants as f;
-ghost use Rattle.vl_refusal.specs.Expressions.{expr_refusals, refused_if, refusals};
-ghost use Rattle.vl_refusal.specs.Items as items;
-ghost use Rattle.vl_refusal.specs.Meanings as meanings;
-ghost use Rattle.vl_refusal.specs.Refused.{lowest};
-ghost use Rattle.vl_refusal.specs.Statements.{target_refusals};
-ghost use Rattle.vl_scope.specs.Seen.{seen};
+ghost use Rattle.vl_elab_spec.specs.declared.elab_fault.ElabFault.TheVariants as f;
+ghost use Rattle.vl_elab_spec.specs.Expressions.{expr_refusals, refused_if, refusals};
+ghost use Rattle.vl_elab_spec.specs.Items as items;
+ghost use Rattle.vl_elab_spec.specs.Meanings as meanings;
+ghost use Rattle.vl_elab_spec.specs.Refused.{lowest};
+ghost use Rattle.vl_elab_spec.specs.Statements.{target_refusals};
+ghost use Rattle.vl_elab_scope.specs.Seen.{seen};
 
-use vl_target::target_of;
 use crate::varying::is_net_target;
 use fv_base::{Memory, Pos, Text};
 use std::alloc::Global;
-use vl_judge::{expr_fault, expr_fault_in, first_of, twice_if};
-use vl_refusal::ElabFault;
-use vl_scope::{Meaning, Names, context_of};
+use vl_elab_check_expr::{expr_fault, expr_fault_in, first_of, twice_if};
+use vl_elab_check_stmt::{assigned_in, target_fault, target_of};
+use vl_elab_scope::{Meaning, Names, context_of};
+use vl_elab_spec::ElabFault;
 use vl_size::Context;
-use vl_target::{assigned_in, target_fault};
 use vl_tree::{Connection, Direction, Expr, FullPort, Lval};
 
 fn object_width(meaning: &Meaning) -> Option<u64>
@@ -111,7 +110,7 @@ fn port_if(alloc: Global, test: bool, text: &Text, pos: Pos) -> Result<Option<El
 }
 
 /// What isn't a target, and the connection itself.
-#[tactic(auto, using(vl_judge::proofs::Lowest::lowest_parts))]
+#[tactic(auto, using(vl_elab_check_expr::proofs::Lowest::lowest_parts))]
 fn wrong_fault(
     alloc: Global,
     given: &Connection,
@@ -126,7 +125,7 @@ fn wrong_fault(
     Ok(first_of(own, Some(port)))
 }
 
-#[tactic(auto, using(vl_judge::proofs::Lowest::lowest_parts))]
+#[tactic(auto, using(vl_elab_check_expr::proofs::Lowest::lowest_parts))]
 fn net_fault(
     alloc: Global,
     given: &Connection,

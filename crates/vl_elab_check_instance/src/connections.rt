@@ -3,23 +3,23 @@ ghost use Rattle.std.specs.Prelude.{◌≡◌, ℕ, List, IfOk};
 ghost use Rattle.vl_mean.specs.Walk.{Place, Use};
 ghost use Rattle.vl_mean.specs.Scopes as scopes;
 ghost use Rattle.vl_tree.specs.declared.source.Module.{Module as SpecModule};
-ghost use Rattle.vl_refusal.specs.Items as items;
-ghost use Rattle.vl_refusal.specs.Meanings.{meanings_at};
-ghost use Rattle.vl_refusal.specs.Refused.{lowest};
-ghost use Rattle.vl_alike.specs.Alike.{Alike};
-ghost use Rattle.name_set.specs.Known.{AreNames, contains};
-ghost use Rattle.vl_stand.specs.Stands.{Stands};
-ghost use Rattle.vl_connect.specs.Joined as spec;
-ghost use Rattle.vl_connect.specs.Ports.{AreDirectionsOf};
+ghost use Rattle.vl_elab_spec.specs.Items as items;
+ghost use Rattle.vl_elab_spec.specs.Meanings.{meanings_at};
+ghost use Rattle.vl_elab_spec.specs.Refused.{lowest};
+ghost use Rattle.vl_elab_scope.specs.Alike.{Alike};
+ghost use Rattle.vl_elab_names.specs.Known.{AreNames, contains};
+ghost use Rattle.vl_elab_decls.specs.Stands.{Stands};
+ghost use Rattle.vl_elab_check_instance.specs.Joined as spec;
+ghost use Rattle.vl_elab_check_instance.specs.Ports.{AreDirectionsOf};
 
 use crate::clock::is_clock;
+use crate::connection::connection_fault;
 use crate::ports::PortTable;
 use fv_base::{List, Memory, Text};
-use name_set::NameSet;
 use std::alloc::Global;
-use vl_join::connection_fault;
-use vl_refusal::ElabFault;
-use vl_scope::Names;
+use vl_elab_names::NameSet;
+use vl_elab_scope::Names;
+use vl_elab_spec::ElabFault;
 use vl_tree::{Connection, Direction, FullPort, Shape};
 
 /// A port of which the direction and the name alone count.

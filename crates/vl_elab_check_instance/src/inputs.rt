@@ -3,18 +3,18 @@ ghost use Rattle.std.specs.Prelude.{◌≡◌, ◌&&◌, ◌||◌, ℕ, List, fa
 ghost use Rattle.vl_mean.specs.Scopes.{Scope};
 ghost use Rattle.vl_mean.specs.Walk.{use_of};
 ghost use Rattle.vl_tree.specs.declared.part.Instance.{Instance as SpecInstance};
-ghost use Rattle.vl_refusal.specs.Meanings as meanings;
-ghost use Rattle.name_set.specs.Known.{contains};
-ghost use Rattle.vl_shape.specs.Inputs.{AreInputs};
-ghost use Rattle.vl_stand.specs.Stands.{Stands};
-ghost use Rattle.vl_connect.specs.Clock as spec;
+ghost use Rattle.vl_elab_spec.specs.Meanings as meanings;
+ghost use Rattle.vl_elab_names.specs.Known.{contains};
+ghost use Rattle.vl_elab_decls.specs.Inputs.{AreInputs};
+ghost use Rattle.vl_elab_decls.specs.Stands.{Stands};
+ghost use Rattle.vl_elab_check_instance.specs.Clock as spec;
 
 use crate::clock::is_clock;
 use fv_base::{Memory, Text};
-use name_set::NameSet;
 use std::alloc::Global;
-use vl_scope::Names;
-use vl_shape::Inputs;
+use vl_elab_decls::Inputs;
+use vl_elab_names::NameSet;
+use vl_elab_scope::Names;
 use vl_tree::Connection;
 
 fn add_if(alloc: Global, test: bool, text: &Text, joined: &mut NameSet) -> Result<(), Memory>

@@ -1,20 +1,19 @@
 //! Instances by what they name.
 ghost use Rattle.std.specs.Prelude.{◌≡◌, ◌||◌, not, IfOk};
 ghost use Rattle.vl_mean.specs.Walk.{Place};
-ghost use Rattle.vl_refusal.specs.declared.elab_fault.ElabFault.TheVariants as f;
-ghost use Rattle.vl_refusal.specs.Expressions.{refused_if};
-ghost use Rattle.vl_refusal.specs.Items.{instance_refusals};
-ghost use Rattle.vl_refusal.specs.Refused.{lowest};
-ghost use Rattle.name_set.specs.Known.{AreNames};
-ghost use Rattle.vl_modules.specs.Table.{AreModules};
-ghost use Rattle.vl_connect.specs.Instances as spec;
+ghost use Rattle.vl_elab_spec.specs.declared.elab_fault.ElabFault.TheVariants as f;
+ghost use Rattle.vl_elab_spec.specs.Expressions.{refused_if};
+ghost use Rattle.vl_elab_spec.specs.Items.{instance_refusals};
+ghost use Rattle.vl_elab_spec.specs.Refused.{lowest};
+ghost use Rattle.vl_elab_names.specs.Known.{AreNames};
+ghost use Rattle.vl_elab_names.specs.Table.{AreModules};
+ghost use Rattle.vl_elab_check_instance.specs.Instances as spec;
 
 use fv_base::{Memory, Pos, Text};
-use name_set::NameSet;
 use std::alloc::Global;
-use vl_judge::{first_of, twice_if};
-use vl_modules::{ModulePath, ModuleTable};
-use vl_refusal::ElabFault;
+use vl_elab_check_expr::{first_of, twice_if};
+use vl_elab_names::{ModulePath, ModuleTable, NameSet};
+use vl_elab_spec::ElabFault;
 use vl_tree::{Instance, Module};
 
 /// A module that isn't there.

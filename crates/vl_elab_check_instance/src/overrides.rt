@@ -1,20 +1,20 @@
 //! What an instance gives to the parameters of its module.
 ghost use Rattle.std.specs.Prelude.{◌≡◌, ℕ, List, IfOk};
 ghost use Rattle.vl_mean.specs.Walk.{Place, Use};
-ghost use Rattle.vl_refusal.specs.Items as items;
-ghost use Rattle.vl_refusal.specs.Meanings.{meanings_at};
-ghost use Rattle.vl_refusal.specs.Refused.{lowest};
-ghost use Rattle.vl_alike.specs.Alike.{Alike};
-ghost use Rattle.name_set.specs.Known.{AreNames};
-ghost use Rattle.vl_connect.specs.Parameters.{AreParametersOf};
+ghost use Rattle.vl_elab_spec.specs.Items as items;
+ghost use Rattle.vl_elab_spec.specs.Meanings.{meanings_at};
+ghost use Rattle.vl_elab_spec.specs.Refused.{lowest};
+ghost use Rattle.vl_elab_scope.specs.Alike.{Alike};
+ghost use Rattle.vl_elab_names.specs.Known.{AreNames};
+ghost use Rattle.vl_elab_check_instance.specs.Parameters.{AreParametersOf};
 
 use crate::parameters::ParameterTable;
 use fv_base::Memory;
-use name_set::NameSet;
 use std::alloc::Global;
-use vl_item::override_fault;
-use vl_refusal::ElabFault;
-use vl_scope::Names;
+use vl_elab_check_item::override_fault;
+use vl_elab_names::NameSet;
+use vl_elab_scope::Names;
+use vl_elab_spec::ElabFault;
 use vl_tree::{Connection, Module};
 
 /// What an instance gives to a parameter of its module. `names`: what names mean where the instance stands; `inner`:

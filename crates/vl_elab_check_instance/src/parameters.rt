@@ -7,9 +7,9 @@ ghost use Rattle.vl_tree.specs.declared.declaration.Parameter.{Parameter as Spec
 ghost use Rattle.vl_tree.specs.Item.{Item as SpecItem, items};
 ghost use Rattle.vl_mean.specs.Declarations.{header_parameters};
 ghost use Rattle.vl_mean.specs.Walk as walk;
-ghost use Rattle.vl_refusal.specs.Items.{given_parameter, items_parameters, parameter_named};
-ghost use Rattle.vl_connect.specs.declared.parameters.Spot.TheVariants as s;
-ghost use Rattle.vl_connect.specs.Parameters as spec;
+ghost use Rattle.vl_elab_spec.specs.Items.{given_parameter, items_parameters, parameter_named};
+ghost use Rattle.vl_elab_check_instance.specs.declared.parameters.Spot.TheVariants as s;
+ghost use Rattle.vl_elab_check_instance.specs.Parameters as spec;
 
 use fv_base::{List, Memory, Text};
 use indexmap::IndexMap;

@@ -1,9 +1,9 @@
 //! The directions of a module's ports, by name.
 ghost use Rattle.std.specs.Prelude.{◌≡◌, ℕ, List, IfOk, OnOk};
 ghost use Rattle.vl_mean.specs.Walk as walk;
-ghost use Rattle.vl_scope.specs.Texts.{or_else};
-ghost use Rattle.vl_stand.specs.Clocks.{next_direction, port_text};
-ghost use Rattle.vl_connect.specs.Ports as spec;
+ghost use Rattle.vl_elab_scope.specs.Texts.{or_else};
+ghost use Rattle.vl_elab_decls.specs.Clocks.{next_direction, port_text};
+ghost use Rattle.vl_elab_check_instance.specs.Ports as spec;
 
 use fv_base::{List, Memory, Text};
 use indexmap::IndexMap;

@@ -3,15 +3,15 @@ ghost use Rattle.std.specs.Prelude.{◌≡◌, ◌||◌, ◌&&◌, true, not};
 ghost use Rattle.vl_tree.specs.Expr.{exprs};
 ghost use Rattle.vl_tree.specs.ExprView.{selects};
 ghost use Rattle.vl_tree.specs.Lval.{lvals};
-ghost use Rattle.vl_refusal.specs.Expressions.{is_constant_name, select_refusals};
-ghost use Rattle.vl_refusal.specs.Items as items;
-ghost use Rattle.vl_refusal.specs.Meanings as meanings;
-ghost use Rattle.vl_join.specs.Parts as spec;
-ghost use Rattle.vl_scope.specs.Seen.{seen};
+ghost use Rattle.vl_elab_spec.specs.Expressions.{is_constant_name, select_refusals};
+ghost use Rattle.vl_elab_spec.specs.Items as items;
+ghost use Rattle.vl_elab_spec.specs.Meanings as meanings;
+ghost use Rattle.vl_elab_check_instance.specs.Parts as spec;
+ghost use Rattle.vl_elab_scope.specs.Seen.{seen};
 
 use fv_base::Text;
-use vl_judge::{either, is_constant};
-use vl_scope::{Meaning, Names};
+use vl_elab_check_expr::{either, is_constant};
+use vl_elab_scope::{Meaning, Names};
 use vl_size::Class;
 use vl_size::way::divides;
 use vl_tree::{Expr, ExprKind, Lval, LvalKind, Select};
@@ -59,7 +59,7 @@ fn varies(expr: &Expr, fixed: bool, names: &Names) -> bool
 }
 
 #[cycle(varies)]
-#[tactic(auto, using(vl_judge::proofs::Lowest::judged))]
+#[tactic(auto, using(vl_elab_check_expr::proofs::Lowest::judged))]
 fn any_varies(all: &[Expr], fixed: bool, names: &Names) -> bool
     ensures { result ≡ spec.any_varies names.now fixed (exprs all.now) }
 {
@@ -74,7 +74,7 @@ fn any_varies(all: &[Expr], fixed: bool, names: &Names) -> bool
 }
 
 #[cycle(varies)]
-#[tactic(auto, using(vl_judge::proofs::Lowest::judged, crate::proofs::Vary::next))]
+#[tactic(auto, using(vl_elab_check_expr::proofs::Lowest::judged, crate::proofs::Vary::next))]
 fn any_select_varies(all: &[Select], fixed: bool, names: &Names) -> bool
     ensures { result ≡ spec.selects_vary names.now fixed (selects all.now) }
 {
@@ -176,7 +176,7 @@ pub fn is_net_target(target: &Lval, names: &Names) -> bool
 }
 
 #[cycle(net)]
-#[tactic(auto, using(vl_target::proofs::TargetParts::steps))]
+#[tactic(auto, using(vl_elab_check_stmt::proofs::TargetParts::steps))]
 fn are_net_targets(all: &[Lval], names: &Names) -> bool
     ensures { result ≡ items.are_net_targets names.now (lvals all.now) }
 {

@@ -4,8 +4,8 @@ use Rattle.std.specs.Option.{option_copied}
 use Rattle.std.proofs.Common.{Bor}
 use Rattle.vl_tree.specs.declared.declaration.Range.{Range}
 use Rattle.vl_tree.specs.Expr.{Expr}
-use Rattle.vl_refusal.specs.Items.{given_context, value_context}
-use Rattle.vl_refusal.specs.Meanings.{Names}
+use Rattle.vl_elab_spec.specs.Items.{given_context, value_context}
+use Rattle.vl_elab_spec.specs.Meanings.{Names}
 
 pub same_context : (ns : List Names) (r : Option Range) (e : Expr) → given_context ns ns r e ≡ value_context ns r e
 same_context ns None e = refl

@@ -9,11 +9,11 @@ use Rattle.vl_mean.specs.declared.const_number.Const.{Const}
 use Rattle.vl_mean.specs.Constants.{constant_operand}
 use Rattle.vl_mean.specs.Scopes.{constant_in, constant_unless}
 use Rattle.vl_mean.specs.Walk.{Place, turn_place, with_genvar, goes_on, next_turn, first_turn, genvar_value}
-use Rattle.vl_refusal.specs.declared.elab_fault.ElabFault.{ElabFault}
-use Rattle.vl_refusal.specs.declared.elab_fault.ElabFault.TheVariants as f
-use Rattle.vl_refusal.specs.Expressions.{refused_if, own_refusals, refusals}
-use Rattle.vl_refusal.specs.Items.{genvar_refusals, turns_refusals, head_refusals, unknown_names}
-use Rattle.vl_refusal.specs.Meanings.{
+use Rattle.vl_elab_spec.specs.declared.elab_fault.ElabFault.{ElabFault}
+use Rattle.vl_elab_spec.specs.declared.elab_fault.ElabFault.TheVariants as f
+use Rattle.vl_elab_spec.specs.Expressions.{refused_if, own_refusals, refusals}
+use Rattle.vl_elab_spec.specs.Items.{genvar_refusals, turns_refusals, head_refusals, unknown_names}
+use Rattle.vl_elab_spec.specs.Meanings.{
   Meaning,
   undeclared,
   constant,
@@ -29,15 +29,15 @@ use Rattle.vl_refusal.specs.Meanings.{
   value_of,
   meanings_at,
 }
-use Rattle.vl_refusal.specs.Refused.{lower, lower_of, lowest}
-use Rattle.vl_judge.proofs.Lowest.{lowest_two}
-use Rattle.vl_item.proofs.Lists.{assoc}
-use Rattle.vl_alike.specs.Alike.{Alike}
-use Rattle.vl_alike.proofs.Exprs as x
-use Rattle.vl_alike.proofs.Items as y
-use Rattle.vl_turn.proofs.High.{unknown_first, three_high}
-use Rattle.vl_number.specs.Numbers.{holds, genvar_number}
-use Rattle.vl_turn.specs.Parts.{in_turn, turns_fault, if_unknown, variable_of, head_fault}
+use Rattle.vl_elab_spec.specs.Refused.{lower, lower_of, lowest}
+use Rattle.vl_elab_check_expr.proofs.Lowest.{lowest_two}
+use Rattle.vl_elab_check_item.proofs.Lists.{assoc}
+use Rattle.vl_elab_scope.specs.Alike.{Alike}
+use Rattle.vl_elab_scope.proofs.Exprs as x
+use Rattle.vl_elab_scope.proofs.Items as y
+use Rattle.vl_elab_check_item.proofs.High.{unknown_first, three_high}
+use Rattle.vl_elab_const.specs.Numbers.{holds, genvar_number}
+use Rattle.vl_elab_check_item.specs.TurnParts.{in_turn, turns_fault, if_unknown, variable_of, head_fault}
 
 -- ---- one turn more
 

@@ -30,16 +30,16 @@ use Rattle.vl_size.specs.Size.{divides}
 use Rattle.vl_mean.specs.Constants.{vector_of}
 use Rattle.vl_mean.specs.Runs.{Each}
 use Rattle.vl_mean.specs.Scopes.{is_clock_class}
-use Rattle.vl_refusal.specs.declared.elab_fault.ElabFault.{ElabFault}
-use Rattle.vl_refusal.specs.declared.elab_fault.ElabFault.TheVariants as f
-use Rattle.vl_refusal.specs.Expressions.{refused_if, too_wide, name_width, wide_size, far, against, no_copies}
-use Rattle.vl_refusal.specs.Expressions.{none_behind, vector_selects, memory_selects, object_selects, read_refusals}
-use Rattle.vl_refusal.specs.Expressions.{is_constant_name, refusals, all_refusals, select_refusals}
-use Rattle.vl_refusal.specs.Items.{is_unknown, unknown_names}
-use Rattle.vl_refusal.specs.Meanings.{Meaning, undeclared, constant, loop_variable, object, faulty, shapeless, later}
-use Rattle.vl_refusal.specs.Meanings.{Names, meaning_in}
-use Rattle.vl_refusal.specs.Refused.{comes_before, lower, lowest, place, rank}
-use Rattle.vl_turn.specs.Parts.{if_unknown}
+use Rattle.vl_elab_spec.specs.declared.elab_fault.ElabFault.{ElabFault}
+use Rattle.vl_elab_spec.specs.declared.elab_fault.ElabFault.TheVariants as f
+use Rattle.vl_elab_spec.specs.Expressions.{refused_if, too_wide, name_width, wide_size, far, against, no_copies}
+use Rattle.vl_elab_spec.specs.Expressions.{none_behind, vector_selects, memory_selects, object_selects, read_refusals}
+use Rattle.vl_elab_spec.specs.Expressions.{is_constant_name, refusals, all_refusals, select_refusals}
+use Rattle.vl_elab_spec.specs.Items.{is_unknown, unknown_names}
+use Rattle.vl_elab_spec.specs.Meanings.{Meaning, undeclared, constant, loop_variable, object, faulty, shapeless, later}
+use Rattle.vl_elab_spec.specs.Meanings.{Names, meaning_in}
+use Rattle.vl_elab_spec.specs.Refused.{comes_before, lower, lowest, place, rank}
+use Rattle.vl_elab_check_item.specs.TurnParts.{if_unknown}
 
 -- no number below that of an unknown name
 abbrev IsHigh : ElabFault → Type 0

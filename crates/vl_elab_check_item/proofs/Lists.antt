@@ -6,13 +6,13 @@ use Rattle.vl_tree.specs.declared.declaration.NetKind.{NetKind}
 use Rattle.vl_tree.specs.declared.declaration.Range.{Range}
 use Rattle.vl_tree.specs.declared.part.Assignment.{Assignment}
 use Rattle.vl_size.specs.declared.decl.Class.{Class}
-use Rattle.vl_refusal.specs.declared.elab_fault.ElabFault.{ElabFault}
-use Rattle.vl_refusal.specs.Items.{name_refusals, names_refusals, assignments_refusals}
-use Rattle.vl_refusal.specs.Meanings.{Names}
-use Rattle.vl_refusal.specs.Refused.{lower_of, lowest}
-use Rattle.vl_refusal.specs.Statements.{assignment_refusals}
-use Rattle.vl_judge.proofs.Lowest.{lowest_two}
-use Rattle.vl_item.specs.Parts.{names_fault, assignments_fault}
+use Rattle.vl_elab_spec.specs.declared.elab_fault.ElabFault.{ElabFault}
+use Rattle.vl_elab_spec.specs.Items.{name_refusals, names_refusals, assignments_refusals}
+use Rattle.vl_elab_spec.specs.Meanings.{Names}
+use Rattle.vl_elab_spec.specs.Refused.{lower_of, lowest}
+use Rattle.vl_elab_spec.specs.Statements.{assignment_refusals}
+use Rattle.vl_elab_check_expr.proofs.Lowest.{lowest_two}
+use Rattle.vl_elab_check_item.specs.ItemParts.{names_fault, assignments_fault}
 
 pub same_names : (ns : List Names) (kind : NetKind) (c : Class) (shape : Option Range) (xs : List DeclaredName)
     → names_fault ns kind c shape xs ≡ lowest (names_refusals ns kind c shape xs)

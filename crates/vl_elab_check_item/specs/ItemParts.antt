@@ -11,14 +11,14 @@ use Rattle.vl_tree.specs.declared.declaration.Range.{Range}
 use Rattle.vl_tree.specs.declared.part.Assignment.{Assignment}
 use Rattle.vl_tree.specs.declared.part.Connection.{Connection}
 use Rattle.vl_size.specs.declared.decl.Class.{Class}
-use Rattle.vl_refusal.specs.declared.elab_fault.ElabFault.{ElabFault}
-use Rattle.vl_refusal.specs.declared.elab_fault.ElabFault.TheVariants as f
-use Rattle.vl_refusal.specs.Expressions.{refused_if, expr_refusals}
-use Rattle.vl_refusal.specs.Items.{range_refusals, width_refusals, value_context, given_value, port_net}
-use Rattle.vl_refusal.specs.Items.{name_refusals, override_value}
-use Rattle.vl_refusal.specs.Meanings.{Names, is_known_range, declared_width}
-use Rattle.vl_refusal.specs.Refused.{lower_of, lowest}
-use Rattle.vl_refusal.specs.Statements.{assignment_refusals}
+use Rattle.vl_elab_spec.specs.declared.elab_fault.ElabFault.{ElabFault}
+use Rattle.vl_elab_spec.specs.declared.elab_fault.ElabFault.TheVariants as f
+use Rattle.vl_elab_spec.specs.Expressions.{refused_if, expr_refusals}
+use Rattle.vl_elab_spec.specs.Items.{range_refusals, width_refusals, value_context, given_value, port_net}
+use Rattle.vl_elab_spec.specs.Items.{name_refusals, override_value}
+use Rattle.vl_elab_spec.specs.Meanings.{Names, is_known_range, declared_width}
+use Rattle.vl_elab_spec.specs.Refused.{lower_of, lowest}
+use Rattle.vl_elab_spec.specs.Statements.{assignment_refusals}
 
 -- the width of what is declared, where its bounds are known
 abbrev pub known_width : List Names → Option Range → Option ℕ

@@ -4,15 +4,15 @@ use Rattle.std.specs.Prelude.{ℕ, zero, suc, List, [], ◌∷◌, ◌++◌, tru
 use Rattle.fv_base.specs.declared.pos.Pos.{Pos}
 use Rattle.vl_tree.specs.declared.part.LoopHead.{LoopHead}
 use Rattle.vl_mean.specs.declared.const_number.Const.{Const}
-use Rattle.vl_refusal.specs.declared.elab_fault.ElabFault.{ElabFault}
-use Rattle.vl_refusal.specs.declared.elab_fault.ElabFault.TheVariants as f
-use Rattle.vl_refusal.specs.Expressions.{refused_if, own_refusals, refusals}
-use Rattle.vl_refusal.specs.Items.{genvar_refusals, is_unknown}
-use Rattle.vl_refusal.specs.Meanings.{Meaning, undeclared, loop_variable, constant, Names}
-use Rattle.vl_refusal.specs.Refused.{lower_of, lowest}
-use Rattle.vl_number.specs.Numbers.{holds, genvar_number}
-use Rattle.vl_turn.specs.declared.head.Variable.{Variable}
-use Rattle.vl_turn.specs.declared.head.Variable.TheVariants as v
+use Rattle.vl_elab_spec.specs.declared.elab_fault.ElabFault.{ElabFault}
+use Rattle.vl_elab_spec.specs.declared.elab_fault.ElabFault.TheVariants as f
+use Rattle.vl_elab_spec.specs.Expressions.{refused_if, own_refusals, refusals}
+use Rattle.vl_elab_spec.specs.Items.{genvar_refusals, is_unknown}
+use Rattle.vl_elab_spec.specs.Meanings.{Meaning, undeclared, loop_variable, constant, Names}
+use Rattle.vl_elab_spec.specs.Refused.{lower_of, lowest}
+use Rattle.vl_elab_const.specs.Numbers.{holds, genvar_number}
+use Rattle.vl_elab_check_item.specs.declared.head.Variable.{Variable}
+use Rattle.vl_elab_check_item.specs.declared.head.Variable.TheVariants as v
 
 -- with the loop's variable in a scope of its own
 abbrev pub in_turn : List ℕ → Const → List Names → List Names

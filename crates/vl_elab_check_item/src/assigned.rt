@@ -1,17 +1,17 @@
 //! Where continuous assignments, events and assignments to genvars are refused.
 ghost use Rattle.std.specs.Prelude.{◌≡◌, List, IfOk};
-ghost use Rattle.vl_refusal.specs.Items as items;
-ghost use Rattle.vl_refusal.specs.Meanings as meanings;
-ghost use Rattle.vl_refusal.specs.Refused.{lowest};
-ghost use Rattle.vl_item.specs.Parts as spec;
-ghost use Rattle.vl_scope.specs.Seen.{seen};
+ghost use Rattle.vl_elab_spec.specs.Items as items;
+ghost use Rattle.vl_elab_spec.specs.Meanings as meanings;
+ghost use Rattle.vl_elab_spec.specs.Refused.{lowest};
+ghost use Rattle.vl_elab_check_item.specs.ItemParts as spec;
+ghost use Rattle.vl_elab_scope.specs.Seen.{seen};
 
 use fv_base::{Memory, Pos, Text};
 use std::alloc::Global;
-use vl_judge::{clock_if, expr_fault_in, first_of, is_clock};
-use vl_refusal::ElabFault;
-use vl_scope::{Meaning, Names};
-use vl_target::{Assigning, assigned_in, assignment_fault};
+use vl_elab_check_expr::{clock_if, expr_fault_in, first_of, is_clock};
+use vl_elab_check_stmt::{Assigning, assigned_in, assignment_fault};
+use vl_elab_scope::{Meaning, Names};
+use vl_elab_spec::ElabFault;
 use vl_tree::{Assignment, Event, EventKind, Expr};
 
 fn judge_assignments(

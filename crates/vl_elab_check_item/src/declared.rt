@@ -1,18 +1,18 @@
 //! Where declared names and ports are refused.
 ghost use Rattle.std.specs.Prelude.{◌≡◌, IfOk};
-ghost use Rattle.vl_refusal.specs.Items as items;
-ghost use Rattle.vl_refusal.specs.Meanings as meanings;
-ghost use Rattle.vl_refusal.specs.Refused.{lowest};
-ghost use Rattle.vl_item.specs.Parts as spec;
+ghost use Rattle.vl_elab_spec.specs.Items as items;
+ghost use Rattle.vl_elab_spec.specs.Meanings as meanings;
+ghost use Rattle.vl_elab_spec.specs.Refused.{lowest};
+ghost use Rattle.vl_elab_check_item.specs.ItemParts as spec;
 
 use crate::ranges::{range_fault, width_fault};
 use fv_base::{Memory, Pos, Text};
 use std::alloc::Global;
-use vl_judge::{first_of, own_fault, range_if, twice_if};
-use vl_refusal::ElabFault;
-use vl_scope::Names;
+use vl_elab_check_expr::{first_of, own_fault, range_if, twice_if};
+use vl_elab_check_stmt::{Assigning, declared_value_fault};
+use vl_elab_scope::Names;
+use vl_elab_spec::ElabFault;
 use vl_size::Class;
-use vl_target::{Assigning, declared_value_fault};
 use vl_tree::{DeclaredName, Expr, FullPort, NetKind, Range};
 
 fn is_net(kind: NetKind) -> bool
@@ -78,7 +78,7 @@ fn may_have_words(class: Class, words: &Option<Range>, value: &Option<Expr>) -> 
     }
 }
 
-#[tactic(auto, using(vl_judge::proofs::Lowest::lowest_parts))]
+#[tactic(auto, using(vl_elab_check_expr::proofs::Lowest::lowest_parts))]
 fn name_fault(
     alloc: Global,
     kind: NetKind,
@@ -143,7 +143,7 @@ fn port_net(kind: Option<NetKind>) -> NetKind
 }
 
 /// The same of a port, at a place. `is_twice`: whether its name stands before it in its module.
-#[tactic(auto, using(vl_judge::proofs::Lowest::lowest_parts))]
+#[tactic(auto, using(vl_elab_check_expr::proofs::Lowest::lowest_parts))]
 pub fn port_fault(
     alloc: Global,
     pos: Pos,

@@ -2,26 +2,26 @@
 ghost use Rattle.std.specs.Prelude.{◌≡◌, ◌++◌, ◌∷◌, [], List, true, None, IfOk, OnOk, OnErr};
 ghost use Rattle.std.specs.Prelude.{if◌then◌else◌};
 ghost use Rattle.vl_mean.specs.Walk.{Place};
-ghost use Rattle.vl_refusal.specs.Expressions as expressions;
-ghost use Rattle.vl_refusal.specs.Items as items;
-ghost use Rattle.vl_refusal.specs.Meanings as meanings;
-ghost use Rattle.vl_refusal.specs.Refused.{lower_of, lowest};
-ghost use Rattle.vl_refusal.specs.declared.elab_fault.ElabFault.TheVariants as f;
-ghost use Rattle.vl_scope.specs.Seen.{seen_or};
+ghost use Rattle.vl_elab_spec.specs.Expressions as expressions;
+ghost use Rattle.vl_elab_spec.specs.Items as items;
+ghost use Rattle.vl_elab_spec.specs.Meanings as meanings;
+ghost use Rattle.vl_elab_spec.specs.Refused.{lower_of, lowest};
+ghost use Rattle.vl_elab_spec.specs.declared.elab_fault.ElabFault.TheVariants as f;
+ghost use Rattle.vl_elab_scope.specs.Seen.{seen_or};
 ghost use Rattle.std.specs.Option.{option_copied};
-ghost use Rattle.vl_alike.specs.Alike.{Alike};
-ghost use Rattle.vl_number.specs.Numbers as numbers_spec;
-ghost use Rattle.vl_turn.specs.Parts as spec;
-ghost use Rattle.vl_turn.specs.declared.head.Variable.TheVariants as v;
+ghost use Rattle.vl_elab_scope.specs.Alike.{Alike};
+ghost use Rattle.vl_elab_const.specs.Numbers as numbers_spec;
+ghost use Rattle.vl_elab_check_item.specs.TurnParts as spec;
+ghost use Rattle.vl_elab_check_item.specs.declared.head.Variable.TheVariants as v;
 
+use crate::assigned::genvar_fault;
 use fv_base::{Memory, Pos, Text};
 use std::alloc::Global;
-use vl_item::genvar_fault;
-use vl_judge::{expr_fault, first_of, own_fault};
+use vl_elab_check_expr::{expr_fault, first_of, own_fault};
+use vl_elab_const::{genvar_value, is_true_in};
+use vl_elab_scope::{Level, Meaning, Names};
+use vl_elab_spec::ElabFault;
 use vl_mean::Const;
-use vl_number::{genvar_value, is_true_in};
-use vl_refusal::ElabFault;
-use vl_scope::{Level, Meaning, Names};
 use vl_tree::LoopHead;
 
 fn one_name(alloc: Global, variable: &Text, value: Const) -> Result<Level, Memory>
@@ -265,7 +265,7 @@ fn genvar_head(
 }
 
 /// The names in a head over what is no genvar of its own.
-#[tactic(auto, using(vl_judge::proofs::Lowest::lowest_parts))]
+#[tactic(auto, using(vl_elab_check_expr::proofs::Lowest::lowest_parts))]
 fn all_names_fault(
     alloc: Global,
     head: &LoopHead,

@@ -1,19 +1,19 @@
 //! Where parameters are refused.
 ghost use Rattle.std.specs.Prelude.{◌≡◌, ◌≤◌, [], true, IfOk, IfSome, if◌then◌else◌};
 ghost use Rattle.std.specs.Option.{option_copied};
-ghost use Rattle.vl_refusal.specs.Expressions.{expr_refusals};
-ghost use Rattle.vl_refusal.specs.Items as items;
-ghost use Rattle.vl_refusal.specs.Refused.{lowest};
-ghost use Rattle.vl_item.specs.Parts as spec;
+ghost use Rattle.vl_elab_spec.specs.Expressions.{expr_refusals};
+ghost use Rattle.vl_elab_spec.specs.Items as items;
+ghost use Rattle.vl_elab_spec.specs.Refused.{lowest};
+ghost use Rattle.vl_elab_check_item.specs.ItemParts as spec;
 
 use crate::ranges::{known_width, range_fault, width_fault};
 use fv_base::Memory;
 use std::alloc::Global;
-use vl_judge::{expr_fault, expr_fault_in, first_of, parameter_if, twice_if};
-use vl_refusal::ElabFault;
-use vl_scope::{Names, context_of};
+use vl_elab_check_expr::{expr_fault, expr_fault_in, first_of, parameter_if, twice_if};
+use vl_elab_check_stmt::assigned_in;
+use vl_elab_scope::{Names, context_of};
+use vl_elab_spec::ElabFault;
 use vl_size::Context;
-use vl_target::assigned_in;
 use vl_tree::{Connection, Expr, Parameter, Range};
 
 /// A value that is given to a parameter is assigned to its range, where it has one, which is read in the scopes within.
@@ -73,7 +73,7 @@ fn unless_given(
 /// Of all refusals of a parameter the one with the lowest number, and of one number the one at the earliest place.
 /// None exactly where it isn't refused. `is_twice`: whether its name stands before it in its scope; `is_given`:
 /// whether the instance gives it a value, which is judged there.
-#[tactic(auto, using(vl_judge::proofs::Lowest::lowest_parts))]
+#[tactic(auto, using(vl_elab_check_expr::proofs::Lowest::lowest_parts))]
 pub fn parameter_fault(
     alloc: Global,
     parameter: &Parameter,
@@ -116,7 +116,7 @@ fn override_value(
 /// Of all refusals of what an instance gives to a parameter of its module, or to none, the one with the lowest number,
 /// and of one number the one at the earliest place. None exactly where it isn't refused. `is_twice`: whether the name
 /// stands before it; `inner`: what names mean in the module.
-#[tactic(auto, using(vl_judge::proofs::Lowest::lowest_parts))]
+#[tactic(auto, using(vl_elab_check_expr::proofs::Lowest::lowest_parts))]
 pub fn override_fault(
     alloc: Global,
     given: &Connection,

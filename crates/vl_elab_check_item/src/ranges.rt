@@ -3,22 +3,22 @@ ghost use Rattle.std.specs.Prelude.{◌≡◌, ◌&&◌, Some, None, IfOk, if◌
 ghost use Rattle.fv_bits.specs.Bits.{as_int};
 ghost use Rattle.vl_size.specs.Size.{is_bound};
 ghost use Rattle.vl_size.specs.Table.{span};
-ghost use Rattle.vl_refusal.specs.Items as items;
-ghost use Rattle.vl_refusal.specs.Refused.{lowest};
-ghost use Rattle.vl_item.specs.Parts as spec;
+ghost use Rattle.vl_elab_spec.specs.Items as items;
+ghost use Rattle.vl_elab_spec.specs.Refused.{lowest};
+ghost use Rattle.vl_elab_check_item.specs.ItemParts as spec;
 
 use fv_base::{Memory, Pos};
 use std::alloc::Global;
-use vl_judge::{far_fault, first_of, own_fault, too_wide};
+use vl_elab_check_expr::{far_fault, first_of, own_fault, too_wide};
+use vl_elab_scope::{Names, value_of};
+use vl_elab_spec::ElabFault;
 use vl_mean::widths::bound;
-use vl_refusal::ElabFault;
-use vl_scope::{Names, value_of};
 use vl_size::Own;
 use vl_tree::Range;
 
 /// Of all refusals of a declared range the one with the lowest number, and of one number the one at the earliest
 /// place. None exactly where it isn't refused: its bounds are constants of 32 signed bits.
-#[tactic(auto, using(vl_judge::proofs::Lowest::lowest_parts))]
+#[tactic(auto, using(vl_elab_check_expr::proofs::Lowest::lowest_parts))]
 pub fn range_fault(
     alloc: Global,
     range: &Option<Range>,

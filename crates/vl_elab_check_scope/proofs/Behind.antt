@@ -9,20 +9,20 @@ use Rattle.vl_tree.specs.declared.declaration.ParameterKind.{ParameterKind}
 use Rattle.vl_tree.specs.Expr.{Expr}
 use Rattle.vl_size.proofs.Entries.{copied_some}
 use Rattle.vl_mean.specs.Walk.{Place}
-use Rattle.vl_refusal.specs.declared.elab_fault.ElabFault.{ElabFault}
-use Rattle.vl_refusal.specs.declared.elab_fault.ElabFault.TheVariants as f
-use Rattle.vl_refusal.specs.Expressions.{refused_if, expr_refusals}
-use Rattle.vl_refusal.specs.Items.{is_given, is_localparam, parameter_refusals, parameters_refusals, value_context}
-use Rattle.vl_refusal.specs.Meanings.{Names}
-use Rattle.vl_refusal.specs.Refused.{lower_of, lowest}
-use Rattle.vl_judge.proofs.Lowest.{lowest_two}
-use Rattle.vl_item.specs.Parts.{parameter_parts}
-use Rattle.vl_item.proofs.Lists.{assoc}
-use Rattle.vl_alike.specs.Alike.{Alike}
-use Rattle.vl_alike.proofs.Exprs as x
-use Rattle.vl_alike.proofs.Items as y
-use Rattle.vl_number.specs.declared.given.Given.{Given}
-use Rattle.vl_number.specs.Given.{value_given}
+use Rattle.vl_elab_spec.specs.declared.elab_fault.ElabFault.{ElabFault}
+use Rattle.vl_elab_spec.specs.declared.elab_fault.ElabFault.TheVariants as f
+use Rattle.vl_elab_spec.specs.Expressions.{refused_if, expr_refusals}
+use Rattle.vl_elab_spec.specs.Items.{is_given, is_localparam, parameter_refusals, parameters_refusals, value_context}
+use Rattle.vl_elab_spec.specs.Meanings.{Names}
+use Rattle.vl_elab_spec.specs.Refused.{lower_of, lowest}
+use Rattle.vl_elab_check_expr.proofs.Lowest.{lowest_two}
+use Rattle.vl_elab_check_item.specs.ItemParts.{parameter_parts}
+use Rattle.vl_elab_check_item.proofs.Lists.{assoc}
+use Rattle.vl_elab_scope.specs.Alike.{Alike}
+use Rattle.vl_elab_scope.proofs.Exprs as x
+use Rattle.vl_elab_scope.proofs.Items as y
+use Rattle.vl_elab_const.specs.declared.given.Given.{Given}
+use Rattle.vl_elab_const.specs.Given.{value_given}
 
 -- ---- one parameter
 

@@ -3,13 +3,13 @@ use Rattle.std.specs.Prelude.{◌≡◌, refl, ℕ, List, [], ◌∷◌, ◌++�
 use Rattle.std.proofs.Common.{ap, sym, ◌∙◌, append_assoc}
 use Rattle.fv_base.specs.declared.pos.Pos.{Pos}
 use Rattle.vl_mean.specs.Cells.{contains_name}
-use Rattle.vl_refusal.specs.declared.elab_fault.ElabFault.{ElabFault}
-use Rattle.vl_refusal.specs.declared.elab_fault.ElabFault.TheVariants as f
-use Rattle.vl_refusal.specs.Expressions.{refused_if}
-use Rattle.vl_refusal.specs.Items.{labels_twice}
-use Rattle.vl_refusal.specs.Refused.{lower_of, lowest}
-use Rattle.vl_judge.proofs.Lowest.{lowest_two}
-use Rattle.vl_step.specs.Parts.{labels_by, with_name, with_names}
+use Rattle.vl_elab_spec.specs.declared.elab_fault.ElabFault.{ElabFault}
+use Rattle.vl_elab_spec.specs.declared.elab_fault.ElabFault.TheVariants as f
+use Rattle.vl_elab_spec.specs.Expressions.{refused_if}
+use Rattle.vl_elab_spec.specs.Items.{labels_twice}
+use Rattle.vl_elab_spec.specs.Refused.{lower_of, lowest}
+use Rattle.vl_elab_check_expr.proofs.Lowest.{lowest_two}
+use Rattle.vl_elab_check_scope.specs.Parts.{labels_by, with_name, with_names}
 
 module _ (g : List ℕ → Bool) where
   labels_append : (xs ys : List (List ℕ × Pos)) → labels_by g (xs ++ ys) ≡ labels_by g xs ++ labels_by g ys

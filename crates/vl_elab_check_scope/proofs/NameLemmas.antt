@@ -4,14 +4,14 @@ use Rattle.std.specs.Prelude.{Option, Some, None}
 use Rattle.std.proofs.Common.{ap, sym, ◌∙◌, append_assoc, append-nil}
 use Rattle.fv_base.specs.declared.pos.Pos.{Pos}
 use Rattle.vl_mean.specs.Cells.{contains_name}
-use Rattle.vl_refusal.specs.declared.elab_fault.ElabFault.{ElabFault}
-use Rattle.vl_refusal.specs.declared.elab_fault.ElabFault.TheVariants as f
-use Rattle.vl_refusal.specs.Expressions.{refused_if}
-use Rattle.vl_refusal.specs.Items.{twice}
-use Rattle.vl_refusal.specs.Refused.{lower_of, lowest}
-use Rattle.vl_judge.proofs.Lowest.{lowest_two}
-use Rattle.vl_item.proofs.Lists.{assoc}
-use Rattle.vl_step.specs.Parts.{with_name, with_names, twice_by}
+use Rattle.vl_elab_spec.specs.declared.elab_fault.ElabFault.{ElabFault}
+use Rattle.vl_elab_spec.specs.declared.elab_fault.ElabFault.TheVariants as f
+use Rattle.vl_elab_spec.specs.Expressions.{refused_if}
+use Rattle.vl_elab_spec.specs.Items.{twice}
+use Rattle.vl_elab_spec.specs.Refused.{lower_of, lowest}
+use Rattle.vl_elab_check_expr.proofs.Lowest.{lowest_two}
+use Rattle.vl_elab_check_item.proofs.Lists.{assoc}
+use Rattle.vl_elab_check_scope.specs.Parts.{with_name, with_names, twice_by}
 
 or_inner : (a b c : Bool) → (a || (b || c)) ≡ (b || (a || c))
 or_inner true true c = refl

@@ -1,18 +1,18 @@
 //! Continuous assignments, and blocks that act.
 ghost use Rattle.std.specs.Prelude.{◌≡◌, ◌++◌, List, IfOk};
-ghost use Rattle.vl_refusal.specs.Items as items;
-ghost use Rattle.vl_refusal.specs.Meanings as meanings;
-ghost use Rattle.vl_refusal.specs.Refused.{lowest};
-ghost use Rattle.vl_refusal.specs.Statements.{initial_refusals, stmt_refusals};
-ghost use Rattle.vl_alike.specs.Alike.{Alike};
+ghost use Rattle.vl_elab_spec.specs.Items as items;
+ghost use Rattle.vl_elab_spec.specs.Meanings as meanings;
+ghost use Rattle.vl_elab_spec.specs.Refused.{lowest};
+ghost use Rattle.vl_elab_spec.specs.Statements.{initial_refusals, stmt_refusals};
+ghost use Rattle.vl_elab_scope.specs.Alike.{Alike};
 
 use fv_base::Memory;
 use std::alloc::Global;
-use vl_item::{assignments_fault, event_fault};
-use vl_judge::first_of;
-use vl_refusal::ElabFault;
-use vl_scope::Names;
-use vl_target::{initial_fault, stmt_fault};
+use vl_elab_check_expr::first_of;
+use vl_elab_check_item::{assignments_fault, event_fault};
+use vl_elab_check_stmt::{initial_fault, stmt_fault};
+use vl_elab_scope::Names;
+use vl_elab_spec::ElabFault;
 use vl_tree::{Assignment, Event, Stmt};
 
 /// Continuous assignments, over what names mean.
@@ -27,7 +27,7 @@ pub fn assign_fault(
     assignments_fault(alloc, all, names)
 }
 
-#[tactic(auto, using(vl_judge::proofs::Lowest::lowest_parts))]
+#[tactic(auto, using(vl_elab_check_expr::proofs::Lowest::lowest_parts))]
 fn event_and_stmt(
     alloc: Global,
     event: &Event,

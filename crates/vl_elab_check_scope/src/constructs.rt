@@ -1,24 +1,24 @@
 //! Heads of generate loops and conditions of generate `if`s.
 ghost use Rattle.std.specs.Prelude.{◌≡◌, ◌++◌, ℕ, List, true, IfOk, OnOk};
 ghost use Rattle.vl_mean.specs.Walk.{Place};
-ghost use Rattle.vl_refusal.specs.Expressions.{own_refusals};
-ghost use Rattle.vl_refusal.specs.Items as items;
-ghost use Rattle.vl_refusal.specs.Meanings as meanings;
-ghost use Rattle.vl_refusal.specs.Meanings.{meaning_in, meanings_at};
-ghost use Rattle.vl_refusal.specs.Refused.{lowest};
-ghost use Rattle.vl_alike.specs.Alike.{Alike};
-ghost use Rattle.vl_number.specs.Numbers.{HaveNumbers};
-ghost use Rattle.name_set.specs.Known.{AreNames};
+ghost use Rattle.vl_elab_spec.specs.Expressions.{own_refusals};
+ghost use Rattle.vl_elab_spec.specs.Items as items;
+ghost use Rattle.vl_elab_spec.specs.Meanings as meanings;
+ghost use Rattle.vl_elab_spec.specs.Meanings.{meaning_in, meanings_at};
+ghost use Rattle.vl_elab_spec.specs.Refused.{lowest};
+ghost use Rattle.vl_elab_scope.specs.Alike.{Alike};
+ghost use Rattle.vl_elab_const.specs.Numbers.{HaveNumbers};
+ghost use Rattle.vl_elab_names.specs.Known.{AreNames};
 
+use crate::labels::labels_fault;
 use fv_base::{Memory, Pos};
-use name_set::NameSet;
 use std::alloc::Global;
-use vl_judge::{first_of, own_fault};
-use vl_refusal::ElabFault;
-use vl_scope::Names;
-use vl_step::labels_fault;
+use vl_elab_check_expr::{first_of, own_fault};
+use vl_elab_check_item::head_fault;
+use vl_elab_names::NameSet;
+use vl_elab_scope::Names;
+use vl_elab_spec::ElabFault;
 use vl_tree::{Expr, Item, LoopHead};
-use vl_turn::head_fault;
 
 /// A loop by its head, with all its turns. `item`: the whole construct.
 pub fn loop_fault(

@@ -3,22 +3,22 @@ ghost use Rattle.std.specs.Prelude.{◌≡◌, ◌++◌, ℕ, List, None, map, I
 ghost use Rattle.vl_size.specs.declared.decl.Class.TheVariants as class;
 ghost use Rattle.vl_tree.specs.declared.declaration.NetKind.TheVariants as net;
 ghost use Rattle.vl_mean.specs.Declarations.{class_of_attributes, class_of_kind, joined_attributes};
-ghost use Rattle.vl_refusal.specs.Items as items;
-ghost use Rattle.vl_refusal.specs.Meanings as meanings;
-ghost use Rattle.vl_refusal.specs.Refused.{lowest};
-ghost use Rattle.vl_alike.specs.Alike.{Alike};
-ghost use Rattle.name_set.specs.Known.{AreNames};
+ghost use Rattle.vl_elab_spec.specs.Items as items;
+ghost use Rattle.vl_elab_spec.specs.Meanings as meanings;
+ghost use Rattle.vl_elab_spec.specs.Refused.{lowest};
+ghost use Rattle.vl_elab_scope.specs.Alike.{Alike};
+ghost use Rattle.vl_elab_names.specs.Known.{AreNames};
 
+use crate::twice::{declared_twice, genvars_twice};
 use fv_base::{Memory, Pos, Text};
-use name_set::NameSet;
 use std::alloc::Global;
-use vl_item::{names_fault, range_fault};
-use vl_judge::first_of;
-use vl_refusal::ElabFault;
-use vl_scope::Names;
-use vl_shape::class_of_attributes;
+use vl_elab_check_expr::first_of;
+use vl_elab_check_item::{names_fault, range_fault};
+use vl_elab_decls::class_of_attributes;
+use vl_elab_names::NameSet;
+use vl_elab_scope::Names;
+use vl_elab_spec::ElabFault;
 use vl_size::Class;
-use vl_step::{declared_twice, genvars_twice};
 use vl_tree::{AttributeInstance, Declaration, DeclaredName, NetKind};
 
 fn class_of_kind(kind: NetKind) -> Class

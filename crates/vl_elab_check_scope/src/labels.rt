@@ -2,16 +2,16 @@
 ghost use Rattle.std.specs.Prelude.{◌≡◌, ◌++◌, ℕ, List, IfOk, OnOk, option_to_list};
 ghost use Rattle.vl_tree.specs.ItemView.{block as block_of};
 ghost use Rattle.vl_mean.specs.Declarations as declarations;
-ghost use Rattle.vl_refusal.specs.Items as items;
-ghost use Rattle.vl_refusal.specs.Refused.{lowest};
-ghost use Rattle.name_set.specs.Known as known;
-ghost use Rattle.vl_step.specs.Parts as spec;
+ghost use Rattle.vl_elab_spec.specs.Items as items;
+ghost use Rattle.vl_elab_spec.specs.Refused.{lowest};
+ghost use Rattle.vl_elab_names.specs.Known as known;
+ghost use Rattle.vl_elab_check_scope.specs.Parts as spec;
 
 use fv_base::{Memory, Pos, Text};
-use name_set::NameSet;
 use std::alloc::Global;
-use vl_judge::{first_of, twice_if};
-use vl_refusal::ElabFault;
+use vl_elab_check_expr::{first_of, twice_if};
+use vl_elab_names::NameSet;
+use vl_elab_spec::ElabFault;
 use vl_tree::{Block, Item, ItemKind};
 
 fn is_if(item: &Item) -> bool

@@ -1,25 +1,25 @@
 //! Parameters of heads and of items.
 ghost use Rattle.std.specs.Prelude.{◌≡◌, ◌&&◌, ◌++◌, ◌∷◌, [], ℕ, List, map, not, is_some, IfOk, OnOk};
 ghost use Rattle.vl_mean.specs.Walk.{Place};
-ghost use Rattle.vl_refusal.specs.Items as items;
-ghost use Rattle.vl_refusal.specs.Meanings.{meanings_at};
-ghost use Rattle.vl_refusal.specs.Refused.{lowest};
-ghost use Rattle.vl_alike.specs.Alike.{Alike};
-ghost use Rattle.vl_number.specs.Given.{value_given};
-ghost use Rattle.name_set.specs.Known.{AreNames, contains};
-ghost use Rattle.vl_step.specs.Parts.{with_name};
-ghost use Rattle.vl_reach.specs.Reached.{IsReached};
-ghost use Rattle.vl_earlier.specs.Gives.{Gives};
+ghost use Rattle.vl_elab_spec.specs.Items as items;
+ghost use Rattle.vl_elab_spec.specs.Meanings.{meanings_at};
+ghost use Rattle.vl_elab_spec.specs.Refused.{lowest};
+ghost use Rattle.vl_elab_scope.specs.Alike.{Alike};
+ghost use Rattle.vl_elab_const.specs.Given.{value_given};
+ghost use Rattle.vl_elab_names.specs.Known.{AreNames, contains};
+ghost use Rattle.vl_elab_check_scope.specs.Parts.{with_name};
+ghost use Rattle.vl_elab_params.specs.Reached.{IsReached};
+ghost use Rattle.vl_elab_check_scope.specs.Gives.{Gives};
 
 use fv_base::{Memory, Text};
-use name_set::NameSet;
 use std::alloc::Global;
-use vl_item::parameter_fault;
-use vl_judge::first_of;
-use vl_number::Given;
-use vl_reach::Reached;
-use vl_refusal::ElabFault;
-use vl_scope::Names;
+use vl_elab_check_expr::first_of;
+use vl_elab_check_item::parameter_fault;
+use vl_elab_const::Given;
+use vl_elab_names::NameSet;
+use vl_elab_params::Reached;
+use vl_elab_scope::Names;
+use vl_elab_spec::ElabFault;
 use vl_tree::{Parameter, ParameterKind};
 
 /// Over what names mean in its value.

@@ -1,21 +1,21 @@
 //! Ports of a module.
 ghost use Rattle.std.specs.Prelude.{◌≡◌, IfOk};
 ghost use Rattle.vl_mean.specs.Walk.{Place};
-ghost use Rattle.vl_refusal.specs.Items as items;
-ghost use Rattle.vl_refusal.specs.Meanings.{meanings_at};
-ghost use Rattle.vl_refusal.specs.Refused.{lowest};
-ghost use Rattle.vl_alike.specs.Alike.{Alike};
-ghost use Rattle.name_set.specs.Known.{AreNames};
-ghost use Rattle.vl_item.specs.Parts.{port_parts};
-ghost use Rattle.vl_refuse.specs.Short.{renamed};
+ghost use Rattle.vl_elab_spec.specs.Items as items;
+ghost use Rattle.vl_elab_spec.specs.Meanings.{meanings_at};
+ghost use Rattle.vl_elab_spec.specs.Refused.{lowest};
+ghost use Rattle.vl_elab_scope.specs.Alike.{Alike};
+ghost use Rattle.vl_elab_names.specs.Known.{AreNames};
+ghost use Rattle.vl_elab_check_item.specs.ItemParts.{port_parts};
+ghost use Rattle.vl_elab_check_scope.specs.Short.{renamed};
 
 use fv_base::{Memory, Pos, Text};
-use name_set::NameSet;
 use std::alloc::Global;
-use vl_item::{given_value, range_fault, width_fault};
-use vl_judge::{first_of, twice_if};
-use vl_refusal::ElabFault;
-use vl_scope::Names;
+use vl_elab_check_expr::{first_of, twice_if};
+use vl_elab_check_item::{given_value, range_fault, width_fault};
+use vl_elab_names::NameSet;
+use vl_elab_scope::Names;
+use vl_elab_spec::ElabFault;
 use vl_tree::{Expr, FullPort, NetKind};
 
 fn port_net(kind: Option<NetKind>) -> NetKind
@@ -28,7 +28,7 @@ fn port_net(kind: Option<NetKind>) -> NetKind
 }
 
 /// By whether its name stands before it.
-#[tactic(auto, using(vl_judge::proofs::Lowest::lowest_parts))]
+#[tactic(auto, using(vl_elab_check_expr::proofs::Lowest::lowest_parts))]
 fn judge_port(
     alloc: Global,
     pos: Pos,

@@ -1,17 +1,17 @@
 //! Where a declared name stands twice in its scope.
 ghost use Rattle.std.specs.Prelude.{◌≡◌, ◌++◌, ℕ, List, map, IfOk, OnOk};
-ghost use Rattle.vl_refusal.specs.declared.elab_fault.ElabFault.TheVariants as f;
-ghost use Rattle.vl_refusal.specs.Expressions.{refused_if};
-ghost use Rattle.vl_refusal.specs.Items as items;
-ghost use Rattle.vl_refusal.specs.Refused.{lower_of, lowest};
-ghost use Rattle.name_set.specs.Known as known;
-ghost use Rattle.vl_step.specs.Parts as spec;
+ghost use Rattle.vl_elab_spec.specs.declared.elab_fault.ElabFault.TheVariants as f;
+ghost use Rattle.vl_elab_spec.specs.Expressions.{refused_if};
+ghost use Rattle.vl_elab_spec.specs.Items as items;
+ghost use Rattle.vl_elab_spec.specs.Refused.{lower_of, lowest};
+ghost use Rattle.vl_elab_names.specs.Known as known;
+ghost use Rattle.vl_elab_check_scope.specs.Parts as spec;
 
 use fv_base::{Memory, Pos, Text};
-use name_set::NameSet;
 use std::alloc::Global;
-use vl_judge::{first_of, twice_if};
-use vl_refusal::ElabFault;
+use vl_elab_check_expr::{first_of, twice_if};
+use vl_elab_names::NameSet;
+use vl_elab_spec::ElabFault;
 use vl_tree::DeclaredName;
 
 /// One name more: whether it stands there before, behind what is found so far.

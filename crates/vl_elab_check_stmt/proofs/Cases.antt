@@ -8,9 +8,9 @@ use Rattle.vl_tree.specs.Stmt.{Arms}
 use Rattle.vl_tree.specs.StmtView.{with_arm}
 use Rattle.vl_size.specs.declared.context.Context.{Context}
 use Rattle.vl_size.specs.Divisors.{larger, own_context}
-use Rattle.vl_refusal.specs.Expressions.{known}
-use Rattle.vl_refusal.specs.Meanings.{Names, objects}
-use Rattle.vl_refusal.specs.Statements.{widened, assigned_in, with_label, with_labels, case_context}
+use Rattle.vl_elab_spec.specs.Expressions.{known}
+use Rattle.vl_elab_spec.specs.Meanings.{Names, objects}
+use Rattle.vl_elab_spec.specs.Statements.{widened, assigned_in, with_label, with_labels, case_context}
 
 module _ (ns : List Names) where
   pub in_place : (width n : Option ℕ) (e : Expr) (own : Context) → own ≡ own_context (objects ns) (known ns e)

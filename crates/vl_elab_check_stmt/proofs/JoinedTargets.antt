@@ -27,7 +27,7 @@ use Rattle.vl_size.specs.Size.{◌>>=◌}
 use Rattle.vl_mean.specs.declared.const_number.Const.{Const}
 use Rattle.vl_mean.specs.Constants.{settled, settled_exprs, settled_selects, named_constant}
 use Rattle.vl_mean.specs.Parts.{target_of, targets_of}
-use Rattle.vl_target.specs.Outputs.{name_target, lvals_before, targets_before}
+use Rattle.vl_elab_check_stmt.specs.Outputs.{name_target, lvals_before, targets_before}
 
 -- ---- over no constants an expression stays as it is
 

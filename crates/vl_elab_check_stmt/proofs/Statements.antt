@@ -29,14 +29,14 @@ use Rattle.vl_tree.specs.Stmt.{
 }
 use Rattle.vl_tree.specs.StmtView.{arms, with_arm}
 use Rattle.vl_size.specs.declared.context.Context.{Context}
-use Rattle.vl_refusal.specs.Expressions.{expr_refusals, own_refusals}
-use Rattle.vl_refusal.specs.Meanings.{Names}
-use Rattle.vl_refusal.specs.Refused.{lower_of, lowest}
-use Rattle.vl_refusal.specs.Statements.{with_label, case_context, labels_refusals, stmt_refusals, stmts_refusals}
-use Rattle.vl_refusal.specs.Statements.{arms_refusals, initial_refusals, all_initial_refusals}
-use Rattle.vl_target.specs.Parts.{labels_fault, stmt_fault, stmts_fault, arms_fault, arm_fault, initial_fault}
-use Rattle.vl_target.specs.Parts.{all_initial_fault}
-use Rattle.vl_judge.proofs.Lowest.{lowest_two}
+use Rattle.vl_elab_spec.specs.Expressions.{expr_refusals, own_refusals}
+use Rattle.vl_elab_spec.specs.Meanings.{Names}
+use Rattle.vl_elab_spec.specs.Refused.{lower_of, lowest}
+use Rattle.vl_elab_spec.specs.Statements.{with_label, case_context, labels_refusals, stmt_refusals, stmts_refusals}
+use Rattle.vl_elab_spec.specs.Statements.{arms_refusals, initial_refusals, all_initial_refusals}
+use Rattle.vl_elab_check_stmt.specs.Parts.{labels_fault, stmt_fault, stmts_fault, arms_fault, arm_fault, initial_fault}
+use Rattle.vl_elab_check_stmt.specs.Parts.{all_initial_fault}
+use Rattle.vl_elab_check_expr.proofs.Lowest.{lowest_two}
 
 -- a part is no deeper than its list
 pub part_depth : (ss : List Stmt) (i : ℕ) (s : Stmt) → i < length ss → s ≡ get_or ss i s

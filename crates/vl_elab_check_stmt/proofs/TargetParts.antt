@@ -8,15 +8,15 @@ use Rattle.vl_tree.specs.Expr.{Selects}
 use Rattle.vl_tree.specs.Lval.{Lval, Lvals, named, joined, no_lvals, more_lvals, lvals, depth, lvals_depth}
 use Rattle.vl_size.specs.Divisors.{selects_zero_divisor}
 use Rattle.vl_mean.specs.Constants.{settled_selects}
-use Rattle.vl_refusal.specs.declared.elab_fault.ElabFault.{ElabFault}
-use Rattle.vl_refusal.specs.Expressions.{too_wide, name_width, is_constant_name, select_refusals, divided_by_zero}
-use Rattle.vl_refusal.specs.Meanings.{Meaning, Names, meaning_in, constants, objects}
-use Rattle.vl_refusal.specs.Refused.{lower_of, lowest}
-use Rattle.vl_refusal.specs.Statements.{assigned_refusals, target_selects, target_width, target_refusals}
-use Rattle.vl_refusal.specs.Statements.{targets_refusals}
-use Rattle.vl_judge.specs.Judged.{selects_fault}
-use Rattle.vl_target.specs.Parts.{target_fault, targets_fault}
-use Rattle.vl_judge.proofs.Lowest.{lowest_two, same_selects_fault}
+use Rattle.vl_elab_spec.specs.declared.elab_fault.ElabFault.{ElabFault}
+use Rattle.vl_elab_spec.specs.Expressions.{too_wide, name_width, is_constant_name, select_refusals, divided_by_zero}
+use Rattle.vl_elab_spec.specs.Meanings.{Meaning, Names, meaning_in, constants, objects}
+use Rattle.vl_elab_spec.specs.Refused.{lower_of, lowest}
+use Rattle.vl_elab_spec.specs.Statements.{assigned_refusals, target_selects, target_width, target_refusals}
+use Rattle.vl_elab_spec.specs.Statements.{targets_refusals}
+use Rattle.vl_elab_check_expr.specs.Judged.{selects_fault}
+use Rattle.vl_elab_check_stmt.specs.Parts.{target_fault, targets_fault}
+use Rattle.vl_elab_check_expr.proofs.Lowest.{lowest_two, same_selects_fault}
 
 -- a part is no deeper than its list
 pub part_depth : (ls : List Lval) (i : ℕ) (l : Lval) → i < length ls → l ≡ get_or ls i l

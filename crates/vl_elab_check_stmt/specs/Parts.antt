@@ -26,12 +26,12 @@ use Rattle.vl_tree.specs.declared.stmt.Arm.TheVariants as a
 use Rattle.vl_size.specs.declared.context.Context.{Context}
 use Rattle.vl_size.specs.declared.decl.Class.{Class}
 use Rattle.vl_mean.specs.Scopes.{is_clock_class}
-use Rattle.vl_refusal.specs.declared.elab_fault.ElabFault.{ElabFault}
-use Rattle.vl_refusal.specs.declared.elab_fault.ElabFault.TheVariants as f
-use Rattle.vl_refusal.specs.Expressions.{refused_if, too_wide, expr_refusals, own_refusals}
-use Rattle.vl_refusal.specs.Meanings.{Names}
-use Rattle.vl_refusal.specs.Refused.{lower_of, lowest}
-use Rattle.vl_refusal.specs.Statements.{target_refusals, target_width, assignment_refusals, with_label, case_context}
+use Rattle.vl_elab_spec.specs.declared.elab_fault.ElabFault.{ElabFault}
+use Rattle.vl_elab_spec.specs.declared.elab_fault.ElabFault.TheVariants as f
+use Rattle.vl_elab_spec.specs.Expressions.{refused_if, too_wide, expr_refusals, own_refusals}
+use Rattle.vl_elab_spec.specs.Meanings.{Names}
+use Rattle.vl_elab_spec.specs.Refused.{lower_of, lowest}
+use Rattle.vl_elab_spec.specs.Statements.{target_refusals, target_width, assignment_refusals, with_label, case_context}
 
 -- of a net or a variable that is assigned
 abbrev pub object_assigned : Bool → Class → Pos → List ℕ → List ElabFault

@@ -3,11 +3,11 @@ ghost use Rattle.std.specs.Prelude.{◌≡◌, ◌≤◌, ◌&&◌, true, Some, 
 ghost use Rattle.vl_tree.specs.Stmt as tree;
 ghost use Rattle.vl_tree.specs.StmtView.{arms, with_arm};
 ghost use Rattle.vl_size.specs.Divisors as divisors;
-ghost use Rattle.vl_refusal.specs.Statements as spec;
+ghost use Rattle.vl_elab_spec.specs.Statements as spec;
 
 use fv_base::Memory;
 use std::alloc::Global;
-use vl_scope::{Names, context_of};
+use vl_elab_scope::{Names, context_of};
 use vl_size::Context;
 use vl_tree::{Arm, Expr};
 

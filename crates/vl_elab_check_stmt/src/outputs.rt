@@ -3,7 +3,7 @@ ghost use Rattle.std.specs.Prelude.{◌≡◌, IfOk, option_map};
 ghost use Rattle.vl_tree.specs.Expr.{exprs};
 ghost use Rattle.vl_tree.specs.Lval.{lvals};
 ghost use Rattle.vl_mean.specs.Parts as parts;
-ghost use Rattle.vl_target.specs.Outputs as spec;
+ghost use Rattle.vl_elab_check_stmt.specs.Outputs as spec;
 
 use fv_base::{List, Memory, Pos};
 use std::alloc::Global;
@@ -64,7 +64,7 @@ pub fn target_of(alloc: Global, expr: &Expr) -> Result<Option<Lval>, Memory>
 }
 
 #[cycle(target)]
-#[tactic(auto, using(vl_judge::proofs::Lowest::judged))]
+#[tactic(auto, using(vl_elab_check_expr::proofs::Lowest::judged))]
 fn targets_of(alloc: Global, all: &[Expr]) -> Result<Option<List<Lval>>, Memory>
     ensures { IfOk result (λ ls. option_map lvals ls ≡ parts.targets_of (exprs all.now)) }
 {

@@ -2,17 +2,17 @@
 ghost use Rattle.std.specs.Prelude.{◌≡◌, ◌≤◌, true, false, IfOk, IfSome};
 ghost use Rattle.vl_tree.specs.Stmt.{stmts};
 ghost use Rattle.vl_tree.specs.StmtView.{arms};
-ghost use Rattle.vl_refusal.specs.Refused.{lower_of, lowest};
-ghost use Rattle.vl_refusal.specs.Statements as spec;
-ghost use Rattle.vl_target.specs.Parts as parts;
+ghost use Rattle.vl_elab_spec.specs.Refused.{lower_of, lowest};
+ghost use Rattle.vl_elab_spec.specs.Statements as spec;
+ghost use Rattle.vl_elab_check_stmt.specs.Parts as parts;
 
 use crate::contexts::case_context;
 use crate::targets::{Assigning, assignment_fault};
 use fv_base::Memory;
 use std::alloc::Global;
-use vl_judge::{expr_fault_in, first_of, own_fault};
-use vl_refusal::ElabFault;
-use vl_scope::Names;
+use vl_elab_check_expr::{expr_fault_in, first_of, own_fault};
+use vl_elab_scope::Names;
+use vl_elab_spec::ElabFault;
 use vl_size::Context;
 use vl_tree::{Arm, Expr, Lval, Stmt, StmtKind};
 

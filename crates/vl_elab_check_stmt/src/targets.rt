@@ -6,22 +6,22 @@ ghost use Rattle.vl_tree.specs.Lval.{lvals, named};
 ghost use Rattle.vl_size.specs.Divisors.{selects_zero_divisor};
 ghost use Rattle.vl_size.specs.Places as places;
 ghost use Rattle.vl_mean.specs.Constants.{settled_selects};
-ghost use Rattle.vl_refusal.specs.Expressions as expressions;
-ghost use Rattle.vl_refusal.specs.Meanings as meanings;
-ghost use Rattle.vl_refusal.specs.Refused.{lower_of, lowest};
-ghost use Rattle.vl_refusal.specs.Statements as spec;
-ghost use Rattle.vl_target.specs.Parts as parts;
-ghost use Rattle.vl_scope.specs.Seen.{seen};
+ghost use Rattle.vl_elab_spec.specs.Expressions as expressions;
+ghost use Rattle.vl_elab_spec.specs.Meanings as meanings;
+ghost use Rattle.vl_elab_spec.specs.Refused.{lower_of, lowest};
+ghost use Rattle.vl_elab_spec.specs.Statements as spec;
+ghost use Rattle.vl_elab_check_stmt.specs.Parts as parts;
+ghost use Rattle.vl_elab_scope.specs.Seen.{seen};
 
 use crate::contexts::assigned_in;
 use fv_base::{Memory, Pos, Text};
 use std::alloc::Global;
-use vl_judge::{
+use vl_elab_check_expr::{
     Judged, clock_if, closed, divided_by_zero, either, expr_fault_in, first_of, is_clock,
     is_constant, judge_selects, kind_if, name_width, object_fault, plus, vector_fault, vector_of,
 };
-use vl_refusal::ElabFault;
-use vl_scope::{Meaning, Names, own_zero_divisor_of};
+use vl_elab_scope::{Meaning, Names, own_zero_divisor_of};
+use vl_elab_spec::ElabFault;
 use vl_size::Class;
 use vl_size::earlier::earlier_place;
 use vl_tree::{Expr, Lval, LvalKind, Select};
@@ -72,7 +72,7 @@ fn assigned_fault(
 }
 
 /// A net or a variable, which may be no target there.
-#[tactic(auto, using(vl_judge::proofs::Lowest::lowest_parts))]
+#[tactic(auto, using(vl_elab_check_expr::proofs::Lowest::lowest_parts))]
 fn object_assigned(
     alloc: Global,
     is_wrong: bool,

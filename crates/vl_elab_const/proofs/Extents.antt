@@ -7,10 +7,10 @@ use Rattle.vl_size.specs.Size.{index_of, is_bound}
 use Rattle.vl_mean.specs.Constants.{constant_operand}
 use Rattle.vl_mean.specs.Declarations.{bound_of, bounds_of, vector_bounds, word_bounds}
 use Rattle.vl_mean.specs.Scopes.{Scope}
-use Rattle.vl_refusal.specs.Meanings.{Names, bound}
-use Rattle.vl_number.specs.Numbers.{HaveNumbers}
-use Rattle.vl_extent.specs.declared.ranges.Extent.{Extent}
-use Rattle.vl_extent.specs.InRange.{AreBounds, AreWords, Covers, IsShort}
+use Rattle.vl_elab_spec.specs.Meanings.{Names, bound}
+use Rattle.vl_elab_const.specs.Numbers.{HaveNumbers}
+use Rattle.vl_elab_const.specs.declared.ranges.Extent.{Extent}
+use Rattle.vl_elab_const.specs.InRange.{AreBounds, AreWords, Covers, IsShort}
 
 same_bound : (ns : List Names) (ss : List Scope) → HaveNumbers ns ss → (e : Expr) → bound ns e ≡ bound_of ss e
 same_bound ns ss h e = λ i. index_of (constant_operand (λ text. h text i) e)

@@ -13,12 +13,12 @@ use Rattle.vl_mean.specs.Declarations.{Overrides, override_or}
 use Rattle.vl_mean.specs.Scopes.{Scope, constant_in}
 use Rattle.vl_mean.specs.Walk.{override_of, overrides_of}
 use Rattle.vl_mean.proofs.Lookups.{bytes_eq-swap}
-use Rattle.vl_refusal.specs.Expressions.{known}
-use Rattle.vl_refusal.specs.Meanings.{Names, is_overridden}
-use Rattle.vl_scope.specs.Texts.{or_else}
-use Rattle.vl_number.specs.declared.given.Given.{Given}
-use Rattle.vl_number.specs.Given.{IsGiven, value_given, operand_or, named_value, written_value, first_value}
-use Rattle.vl_number.specs.Numbers.{HaveNumbers}
+use Rattle.vl_elab_spec.specs.Expressions.{known}
+use Rattle.vl_elab_spec.specs.Meanings.{Names, is_overridden}
+use Rattle.vl_elab_scope.specs.Texts.{or_else}
+use Rattle.vl_elab_const.specs.declared.given.Given.{Given}
+use Rattle.vl_elab_const.specs.Given.{IsGiven, value_given, operand_or, named_value, written_value, first_value}
+use Rattle.vl_elab_const.specs.Numbers.{HaveNumbers}
 
 or_none : {A : Type 0} (o : Option A) → or_else o None ≡ o
 or_none None = refl

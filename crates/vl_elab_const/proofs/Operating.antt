@@ -11,9 +11,9 @@ use Rattle.vl_size.specs.Size.{binary_number, divides, no_names, only_if, operan
 use Rattle.vl_size.specs.Way.{way}
 use Rattle.vl_mean.specs.declared.const_number.Const.{Const}
 use Rattle.vl_mean.specs.Constants.{named_constant, number_of}
-use Rattle.vl_refusal.specs.Expressions.{known}
-use Rattle.vl_refusal.specs.Meanings.{Names, constants}
-use Rattle.vl_number.specs.Operations.{number_operand, IsNumber}
+use Rattle.vl_elab_spec.specs.Expressions.{known}
+use Rattle.vl_elab_spec.specs.Meanings.{Names, constants}
+use Rattle.vl_elab_const.specs.Operations.{number_operand, IsNumber}
 
 -- a name that means a constant
 pub constant_is : (ns : List Names) (text : List ℕ) (o : Option Const) (c : Const) (n : Number)

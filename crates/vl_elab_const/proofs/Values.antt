@@ -9,10 +9,10 @@ use Rattle.vl_size.specs.Table.{span}
 use Rattle.vl_mean.specs.Constants.{constant_operand, cut_to, width_in_range}
 use Rattle.vl_mean.specs.Declarations.{Overrides, of_range, parameter_value}
 use Rattle.vl_mean.specs.Scopes.{Scope, constant_in}
-use Rattle.vl_refusal.specs.Expressions.{known}
-use Rattle.vl_refusal.specs.Meanings.{Names}
-use Rattle.vl_number.specs.Given.{IsGiven, operand_or}
-use Rattle.vl_number.specs.Numbers.{HaveNumbers, number_in_range, parameter_number, given_or}
+use Rattle.vl_elab_spec.specs.Expressions.{known}
+use Rattle.vl_elab_spec.specs.Meanings.{Names}
+use Rattle.vl_elab_const.specs.Given.{IsGiven, operand_or}
+use Rattle.vl_elab_const.specs.Numbers.{HaveNumbers, number_in_range, parameter_number, given_or}
 
 module _ (ns : List Names) (ss : List Scope) (h : HaveNumbers ns ss) where
   same_number : (signed : Bool) (x : Operand) (r : Option Range)

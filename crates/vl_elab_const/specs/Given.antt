@@ -6,11 +6,11 @@ use Rattle.vl_tree.specs.declared.part.Connection.{Connection}
 use Rattle.vl_tree.specs.Expr.{Expr}
 use Rattle.vl_size.specs.Size.{Operand, operand_of, no_names}
 use Rattle.vl_mean.specs.Declarations.{Overrides, override_or}
-use Rattle.vl_refusal.specs.Expressions.{known}
-use Rattle.vl_refusal.specs.Meanings.{Names, is_overridden}
-use Rattle.vl_scope.specs.Texts.{or_else}
-use Rattle.vl_number.specs.declared.given.Given.{Given}
-use Rattle.vl_number.specs.declared.given.Written.{Written}
+use Rattle.vl_elab_spec.specs.Expressions.{known}
+use Rattle.vl_elab_spec.specs.Meanings.{Names, is_overridden}
+use Rattle.vl_elab_scope.specs.Texts.{or_else}
+use Rattle.vl_elab_const.specs.declared.given.Given.{Given}
+use Rattle.vl_elab_const.specs.declared.given.Written.{Written}
 
 -- what is given to a parameter, where something is given at all
 abbrev pub value_in : Written → List ℕ → Option Expr

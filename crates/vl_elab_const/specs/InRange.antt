@@ -2,7 +2,7 @@
 use Rattle.std.specs.Prelude.{◌≡◌, ◌≤◌, true, Option, Some, None, ℤ}
 use Rattle.vl_size.specs.Size.{is_bound}
 use Rattle.vl_size.specs.Table.{span}
-use Rattle.vl_extent.specs.declared.ranges.Extent.{Extent}
+use Rattle.vl_elab_const.specs.declared.ranges.Extent.{Extent}
 
 -- both have 32 signed bits
 pub record AreBounds (bounds : ℤ × ℤ) : Type 0 where

@@ -9,8 +9,8 @@ use Rattle.vl_mean.specs.declared.const_number.Const.{Const}
 use Rattle.vl_mean.specs.Constants.{constant_operand, cut_to, width_in_range}
 use Rattle.vl_mean.specs.Scopes.{Scope, constant_in}
 use Rattle.vl_mean.specs.Walk.{genvar_value}
-use Rattle.vl_refusal.specs.Expressions.{known}
-use Rattle.vl_refusal.specs.Meanings.{Names, constants, declared_width}
+use Rattle.vl_elab_spec.specs.Expressions.{known}
+use Rattle.vl_elab_spec.specs.Meanings.{Names, constants, declared_width}
 
 -- the names that mean a constant are those of the scopes, with their numbers
 abbrev pub HaveNumbers : List Names → List Scope → Type 0

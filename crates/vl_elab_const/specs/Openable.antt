@@ -9,7 +9,7 @@ use Rattle.vl_mean.specs.Constants.{Constants}
 use Rattle.vl_mean.specs.Runs.{Each}
 use Rattle.vl_mean.specs.Scopes.{Scope}
 use Rattle.vl_mean.specs.Walk.{parameter_names}
-use Rattle.vl_extent.specs.InRange.{AreWords, IsShort}
+use Rattle.vl_elab_const.specs.InRange.{AreWords, IsShort}
 
 -- each name isn't one of those behind it
 abbrev pub Different : List (List ℕ) → Type 0

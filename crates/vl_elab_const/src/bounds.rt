@@ -4,13 +4,13 @@ ghost use Rattle.fv_bits.specs.Bits.{as_int};
 ghost use Rattle.vl_size.specs.Sign.{sign};
 ghost use Rattle.vl_size.specs.Size as size_spec;
 ghost use Rattle.vl_mean.specs.Env.{cells_of};
-ghost use Rattle.vl_refusal.specs.Meanings as meanings;
+ghost use Rattle.vl_elab_spec.specs.Meanings as meanings;
 
 use fv_base::Memory;
 use std::alloc::Global;
+use vl_elab_scope::{Names, known_expr};
 use vl_mean::widths::bound;
 use vl_mean::{Env, value};
-use vl_scope::{Names, known_expr};
 use vl_size::{Decls, Own, self_size, sign_of};
 use vl_tree::Expr;
 

@@ -4,14 +4,14 @@ ghost use Rattle.std.specs.Option.{option_copied};
 ghost use Rattle.indexmap.specs.IndexMap.{insert_entry};
 ghost use Rattle.vl_mean.specs.Scopes.{Scope};
 ghost use Rattle.vl_mean.specs.Walk.{overrides_of};
-ghost use Rattle.vl_scope.specs.Texts.{or_else};
-ghost use Rattle.vl_number.specs.Given as spec;
-ghost use Rattle.vl_number.specs.Numbers.{HaveNumbers};
+ghost use Rattle.vl_elab_scope.specs.Texts.{or_else};
+ghost use Rattle.vl_elab_const.specs.Given as spec;
+ghost use Rattle.vl_elab_const.specs.Numbers.{HaveNumbers};
 
 use fv_base::{Memory, Text};
 use indexmap::IndexMap;
 use std::alloc::Global;
-use vl_scope::{Names, known_expr};
+use vl_elab_scope::{Names, known_expr};
 use vl_tree::{Connection, Expr};
 
 /// Parameters with the values that they are given, without names, seen as a map: `value_given` of specs/Given. Where

@@ -5,15 +5,15 @@ ghost use Rattle.vl_size.specs.Sign.{sign};
 ghost use Rattle.vl_size.specs.Size as size_spec;
 ghost use Rattle.vl_mean.specs.Constants as constants_spec;
 ghost use Rattle.vl_mean.specs.Env.{cells_of};
-ghost use Rattle.vl_refusal.specs.Meanings.{bound, constants};
-ghost use Rattle.vl_number.specs.Numbers as spec;
+ghost use Rattle.vl_elab_spec.specs.Meanings.{bound, constants};
+ghost use Rattle.vl_elab_const.specs.Numbers as spec;
 
 use crate::operation::operation_number;
 use fv_base::Memory;
 use fv_bits::low;
 use std::alloc::Global;
+use vl_elab_scope::{Names, known_expr};
 use vl_mean::{Const, Env, value};
-use vl_scope::{Names, known_expr};
 use vl_size::{Decls, Own, self_size, sign_of};
 use vl_tree::Expr;
 

@@ -6,13 +6,13 @@ ghost use Rattle.vl_size.specs.Sign.{sign_by};
 ghost use Rattle.vl_size.specs.Size as size_spec;
 ghost use Rattle.vl_size.specs.Way.{way};
 ghost use Rattle.vl_mean.specs.Constants.{constant_operand};
-ghost use Rattle.vl_refusal.specs.Expressions.{known};
-ghost use Rattle.vl_refusal.specs.Meanings.{constants};
-ghost use Rattle.vl_number.specs.Operations as spec;
+ghost use Rattle.vl_elab_spec.specs.Expressions.{known};
+ghost use Rattle.vl_elab_spec.specs.Meanings.{constants};
+ghost use Rattle.vl_elab_const.specs.Operations as spec;
 
 use fv_base::{Number, Text};
 use fv_bits::{bit, extended};
-use vl_scope::{Names, constant_of, number_of};
+use vl_elab_scope::{Names, constant_of, number_of};
 use vl_size::operation::{arithmetic, compared, shifted};
 use vl_size::way::{Way, divides, size_by, way_of};
 use vl_tree::{BinaryOperator, Expr, ExprKind};

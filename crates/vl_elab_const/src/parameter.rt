@@ -7,18 +7,18 @@ ghost use Rattle.vl_mean.specs.Constants as constants_spec;
 ghost use Rattle.vl_mean.specs.Declarations as declarations;
 ghost use Rattle.vl_mean.specs.Declarations.{Overrides};
 ghost use Rattle.vl_mean.specs.Scopes.{Scope};
-ghost use Rattle.vl_refusal.specs.Expressions.{known};
-ghost use Rattle.vl_refusal.specs.Meanings.{declared_width};
-ghost use Rattle.vl_number.specs.Given as given_spec;
-ghost use Rattle.vl_number.specs.Numbers as spec;
+ghost use Rattle.vl_elab_spec.specs.Expressions.{known};
+ghost use Rattle.vl_elab_spec.specs.Meanings.{declared_width};
+ghost use Rattle.vl_elab_const.specs.Given as given_spec;
+ghost use Rattle.vl_elab_const.specs.Numbers as spec;
 
 use crate::given::Given;
 use crate::number::{bound_in, number_alone, own_alone};
 use fv_base::Memory;
 use fv_bits::{is_below_zero, low, magnitude};
 use std::alloc::Global;
+use vl_elab_scope::{Names, known_expr};
 use vl_mean::Const;
-use vl_scope::{Names, known_expr};
 use vl_size::Own;
 use vl_tree::{Expr, Parameter, Range, Shape};
 

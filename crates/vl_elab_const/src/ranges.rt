@@ -3,13 +3,13 @@ ghost use Rattle.std.specs.Prelude.{◌≡◌, ◌≤◌, ◌≤ℤ◌, IfOk, Li
 ghost use Rattle.vl_size.specs.Table.{span};
 ghost use Rattle.vl_mean.specs.Declarations.{bounds_of, vector_bounds, word_bounds};
 ghost use Rattle.vl_mean.specs.Scopes.{Scope};
-ghost use Rattle.vl_number.specs.Numbers.{HaveNumbers};
-ghost use Rattle.vl_extent.specs.InRange as spec;
+ghost use Rattle.vl_elab_const.specs.Numbers.{HaveNumbers};
+ghost use Rattle.vl_elab_const.specs.InRange as spec;
 
 use crate::bounds::bound_in;
 use fv_base::Memory;
 use std::alloc::Global;
-use vl_scope::Names;
+use vl_elab_scope::Names;
 use vl_tree::Range;
 
 /// How many bits a declared range has, and its bounds.

@@ -10,7 +10,7 @@ use Rattle.vl_size.proofs.Falls.{select_depth}
 use Rattle.vl_size.proofs.Rest.{part_depth}
 use Rattle.vl_mean.specs.ConstantFaults.{capped}
 use Rattle.vl_mean.specs.FlatLaw.{select_nodes}
-use Rattle.vl_count.specs.Parts as spec
+use Rattle.vl_elab_count.specs.Parts as spec
 
 stopped : (top m n : ℕ) → min (min m top + min n top) top ≡ min (m + n) top
 stopped top m n = omega arith

@@ -6,7 +6,7 @@ use Rattle.vl_tree.specs.declared.stmt.Arm.TheVariants as a
 use Rattle.vl_tree.specs.Stmt.{Stmt, Arms, no_arms, stmts, depth, stmts_depth, arms_depth}
 use Rattle.vl_tree.specs.StmtView.{arms, with_arm}
 use Rattle.vl_mean.specs.FlatLaw.{arm_nodes}
-use Rattle.vl_count.specs.Parts as spec
+use Rattle.vl_elab_count.specs.Parts as spec
 
 pub stmt_depth : (ss : List Stmt) (i : ℕ) (s : Stmt) → i < length ss → s ≡ get_or ss i s
     → depth s ≤ stmts_depth (stmts ss)

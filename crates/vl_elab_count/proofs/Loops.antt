@@ -8,9 +8,9 @@ use Rattle.vl_tree.specs.Item.{Item, Block, for_loop}
 use Rattle.vl_mean.specs.ConstantFaults.{capped}
 use Rattle.vl_mean.specs.FlatLaw.{nodes}
 use Rattle.vl_mean.specs.Walk.{Place, first_turn}
-use Rattle.vl_refusal.specs.Counts.{item_nodes, turn_nodes}
-use Rattle.vl_count.specs.Parts.{TurnsHave}
-use Rattle.vl_count.proofs.Sums.{sum, one}
+use Rattle.vl_elab_spec.specs.Counts.{item_nodes, turn_nodes}
+use Rattle.vl_elab_count.specs.Parts.{TurnsHave}
+use Rattle.vl_elab_count.proofs.CountSums.{sum, one}
 
 pub loop_nodes : (at : Place) (x : Item) (attrs : Attributes) (p : Pos) (head : LoopHead) (b : Block)
     (start turns inner r : ℕ) → x ≡ for_loop attrs p head b → TurnsHave at x turns → start ≡ capped (nodes head.start)

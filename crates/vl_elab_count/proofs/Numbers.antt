@@ -39,12 +39,12 @@ use Rattle.vl_mean.specs.Declarations.{declared_names, joined_attributes, word_b
 use Rattle.vl_mean.specs.FlatLaw.{all_names_count, name_count as count_of, nodes}
 use Rattle.vl_mean.specs.Scopes.{Scope, constant_in, constant_unless}
 use Rattle.vl_mean.specs.Walk.{Place, with_genvar, goes_on, next_turn, first_turn, genvar_value}
-use Rattle.vl_refusal.specs.Counts as counts
-use Rattle.vl_refusal.specs.Meanings.{Names, undeclared, constant, is_undeclared, meaning_in, constants, value_of}
-use Rattle.vl_number.specs.Numbers.{HaveNumbers, holds, genvar_number}
-use Rattle.vl_count.specs.Parts.{Holds, TurnsHave}
-use Rattle.vl_turn.specs.Parts.{in_turn}
-use Rattle.vl_totals.specs.Counts.{name_count, names_count, item_count, turn_nodes}
+use Rattle.vl_elab_spec.specs.Counts as counts
+use Rattle.vl_elab_spec.specs.Meanings.{Names, undeclared, constant, is_undeclared, meaning_in, constants, value_of}
+use Rattle.vl_elab_const.specs.Numbers.{HaveNumbers, holds, genvar_number}
+use Rattle.vl_elab_count.specs.Parts.{Holds, TurnsHave}
+use Rattle.vl_elab_check_item.specs.TurnParts.{in_turn}
+use Rattle.vl_elab_count.specs.Counts.{name_count, names_count, item_count, turn_nodes}
 
 -- ---- names
 

@@ -6,10 +6,10 @@ use Rattle.vl_tree.specs.declared.part.LoopHead.{LoopHead}
 use Rattle.vl_mean.specs.declared.const_number.Const.{Const}
 use Rattle.vl_mean.specs.ConstantFaults.{capped}
 use Rattle.vl_mean.specs.FlatLaw.{nodes}
-use Rattle.vl_refusal.specs.Meanings.{Names}
-use Rattle.vl_number.specs.Numbers.{holds, genvar_number}
-use Rattle.vl_turn.specs.Parts.{in_turn}
-use Rattle.vl_totals.specs.Counts.{turn_nodes}
+use Rattle.vl_elab_spec.specs.Meanings.{Names}
+use Rattle.vl_elab_const.specs.Numbers.{holds, genvar_number}
+use Rattle.vl_elab_check_item.specs.TurnParts.{in_turn}
+use Rattle.vl_elab_count.specs.Counts.{turn_nodes}
 
 absorb_first : (top a b : ℕ) → min (min a top + b) top ≡ min (a + b) top
 absorb_first top a b = omega arith

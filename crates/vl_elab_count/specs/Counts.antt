@@ -8,9 +8,9 @@ use Rattle.vl_tree.specs.Item.{Item, declaration, integer}
 use Rattle.vl_size.specs.Table.{span}
 use Rattle.vl_mean.specs.declared.const_number.Const.{Const}
 use Rattle.vl_mean.specs.FlatLaw.{nodes}
-use Rattle.vl_refusal.specs.Meanings.{Names, bound}
-use Rattle.vl_number.specs.Numbers.{holds, genvar_number}
-use Rattle.vl_turn.specs.Parts.{in_turn}
+use Rattle.vl_elab_spec.specs.Meanings.{Names, bound}
+use Rattle.vl_elab_const.specs.Numbers.{holds, genvar_number}
+use Rattle.vl_elab_check_item.specs.TurnParts.{in_turn}
 
 -- of a name, with the words of a memory
 abbrev pub name_count : List Names → Option Range → ℕ

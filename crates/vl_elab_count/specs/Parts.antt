@@ -12,7 +12,7 @@ use Rattle.vl_mean.specs.Constants.{constant_operand}
 use Rattle.vl_mean.specs.FlatLaw.{nodes, stmt_nodes, label_nodes}
 use Rattle.vl_mean.specs.Scopes.{constant_in}
 use Rattle.vl_mean.specs.Walk.{Place, first_turn}
-use Rattle.vl_refusal.specs.Counts.{turn_nodes}
+use Rattle.vl_elab_spec.specs.Counts.{turn_nodes}
 
 -- of one select
 abbrev pub select_nodes : Select → ℕ

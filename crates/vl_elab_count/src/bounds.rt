@@ -6,13 +6,13 @@ ghost use Rattle.vl_size.specs.Size as size_spec;
 ghost use Rattle.vl_size.specs.Table.{span};
 ghost use Rattle.vl_mean.specs.ConstantFaults.{capped};
 ghost use Rattle.vl_mean.specs.Env.{cells_of};
-ghost use Rattle.vl_refusal.specs.Meanings.{bound};
+ghost use Rattle.vl_elab_spec.specs.Meanings.{bound};
 
 use fv_base::Memory;
 use fv_bits::{is_below_zero, magnitude};
 use std::alloc::Global;
+use vl_elab_scope::{Names, known_expr};
 use vl_mean::{Env, value};
-use vl_scope::{Names, known_expr};
 use vl_size::{Decls, Own, self_size, sign_of};
 use vl_tree::Expr;
 

@@ -3,8 +3,8 @@ ghost use Rattle.std.specs.Prelude.{◌≡◌, ◌+◌, if◌then◌else◌};
 ghost use Rattle.vl_mean.specs.ConstantFaults.{capped};
 ghost use Rattle.vl_mean.specs.FlatLaw.{nodes, target_nodes as target_nodes_of};
 ghost use Rattle.vl_mean.specs.Walk.{Place};
-ghost use Rattle.vl_refusal.specs.Counts as counts;
-ghost use Rattle.vl_count.specs.Parts as spec;
+ghost use Rattle.vl_elab_spec.specs.Counts as counts;
+ghost use Rattle.vl_elab_count.specs.Parts as spec;
 
 use crate::exprs::{expr_nodes, target_nodes};
 use crate::stmts::stmt_nodes;
@@ -22,7 +22,7 @@ pub fn optional_nodes(value: &Option<Expr>) -> u64
 }
 
 /// A declared range: the nodes of its bounds.
-#[tactic(auto, using(crate::proofs::Sums::sums))]
+#[tactic(auto, using(crate::proofs::CountSums::sums))]
 pub fn range_nodes(range: &Option<Range>) -> u64
     ensures { result ≡ capped (counts.range_nodes range.now) }
 {
@@ -36,7 +36,7 @@ pub fn range_nodes(range: &Option<Range>) -> u64
     }
 }
 
-#[tactic(auto, using(crate::proofs::Sums::sums))]
+#[tactic(auto, using(crate::proofs::CountSums::sums))]
 fn name_nodes(name: &DeclaredName) -> u64
     ensures { result ≡ capped (counts.range_nodes name.now.words + counts.value_nodes name.now.value + 1) }
 {
@@ -45,7 +45,7 @@ fn name_nodes(name: &DeclaredName) -> u64
     plus(plus(words, value), 1)
 }
 
-#[tactic(auto, using(crate::proofs::Sums::sums))]
+#[tactic(auto, using(crate::proofs::CountSums::sums))]
 fn names_nodes(all: &[DeclaredName]) -> u64
     ensures { result ≡ capped (counts.name_nodes all.now) }
 {
@@ -59,7 +59,7 @@ fn names_nodes(all: &[DeclaredName]) -> u64
     total
 }
 
-#[tactic(auto, using(crate::proofs::Sums::sums))]
+#[tactic(auto, using(crate::proofs::CountSums::sums))]
 fn one_parameter(parameter: &Parameter) -> u64
     ensures { result ≡ capped (counts.range_nodes parameter.now.shape.range + nodes parameter.now.value + 1) }
 {
@@ -69,7 +69,7 @@ fn one_parameter(parameter: &Parameter) -> u64
 }
 
 /// Parameters: one for each, and the nodes of their ranges and values.
-#[tactic(auto, using(crate::proofs::Sums::sums))]
+#[tactic(auto, using(crate::proofs::CountSums::sums))]
 pub fn parameter_nodes(all: &[Parameter]) -> u64
     ensures { result ≡ capped (counts.parameter_nodes all.now) }
 {
@@ -83,7 +83,7 @@ pub fn parameter_nodes(all: &[Parameter]) -> u64
     total
 }
 
-#[tactic(auto, using(crate::proofs::Sums::sums))]
+#[tactic(auto, using(crate::proofs::CountSums::sums))]
 fn one_assignment(assignment: &Assignment) -> u64
     ensures { result ≡ capped (target_nodes_of assignment.now.target + nodes assignment.now.value) }
 {
@@ -92,7 +92,7 @@ fn one_assignment(assignment: &Assignment) -> u64
     plus(target, value)
 }
 
-#[tactic(auto, using(crate::proofs::Sums::sums))]
+#[tactic(auto, using(crate::proofs::CountSums::sums))]
 fn assignment_nodes(all: &[Assignment]) -> u64
     ensures { result ≡ capped (counts.assignment_nodes all.now) }
 {
@@ -114,7 +114,7 @@ fn chosen_block(holds: bool) -> u64
 
 /// An item by itself: of a loop its head with all its turns, of an `if` its condition and the chosen block. `holds`:
 /// whether an `if`'s condition does; `turns`: how many nodes a loop's turns have.
-#[tactic(auto, using(crate::proofs::Sums::sums))]
+#[tactic(auto, using(crate::proofs::CountSums::sums))]
 pub fn item_nodes(item: &Item, holds: bool, turns: u64) -> u64
     ensures { (at : Place) → spec.Holds at item.now holds → spec.TurnsHave at item.now turns
         → result ≡ capped (counts.item_nodes at item.now) }

@@ -5,14 +5,14 @@ ghost use Rattle.vl_tree.specs.ExprView.{selects};
 ghost use Rattle.vl_tree.specs.Lval.{lvals};
 ghost use Rattle.vl_mean.specs.ConstantFaults.{capped};
 ghost use Rattle.vl_mean.specs.FlatLaw as flat;
-ghost use Rattle.vl_count.specs.Parts as spec;
+ghost use Rattle.vl_elab_count.specs.Parts as spec;
 
 use vl_mean::widths::plus;
 use vl_tree::{Expr, ExprKind, Lval, LvalKind, Select};
 
 /// An expression: one for each node of its tree, and one for each select.
 #[cycle(nodes)]
-#[tactic(auto, using(vl_tree::specs::ExprFalls::parts_fall, crate::proofs::Sums::sums))]
+#[tactic(auto, using(vl_tree::specs::ExprFalls::parts_fall, crate::proofs::CountSums::sums))]
 pub fn expr_nodes(expr: &Expr) -> u64
     ensures { result ≡ capped (flat.nodes expr.now) }
 {
@@ -44,7 +44,7 @@ pub fn expr_nodes(expr: &Expr) -> u64
 }
 
 #[cycle(nodes)]
-#[tactic(auto, using(crate::proofs::Sums::sums))]
+#[tactic(auto, using(crate::proofs::CountSums::sums))]
 fn parts_nodes(all: &[Expr]) -> u64
     ensures { result ≡ capped (flat.all_nodes (exprs all.now)) }
 {
@@ -59,7 +59,7 @@ fn parts_nodes(all: &[Expr]) -> u64
 }
 
 #[cycle(nodes)]
-#[tactic(auto, using(crate::proofs::Sums::sums))]
+#[tactic(auto, using(crate::proofs::CountSums::sums))]
 fn select_nodes(select: &Select) -> u64
     ensures { result ≡ capped (spec.select_nodes select.now) }
 {
@@ -74,7 +74,7 @@ fn select_nodes(select: &Select) -> u64
 }
 
 #[cycle(nodes)]
-#[tactic(auto, using(crate::proofs::Sums::sums))]
+#[tactic(auto, using(crate::proofs::CountSums::sums))]
 fn selects_nodes(all: &[Select]) -> u64
     ensures { result ≡ capped (flat.select_nodes (selects all.now)) }
 {
@@ -90,7 +90,7 @@ fn selects_nodes(all: &[Select]) -> u64
 
 /// A target: one for each name, concatenation and select, and its indices.
 #[cycle(target)]
-#[tactic(auto, using(vl_tree::specs::LvalFalls::parts_fall, crate::proofs::Sums::sums))]
+#[tactic(auto, using(vl_tree::specs::LvalFalls::parts_fall, crate::proofs::CountSums::sums))]
 pub fn target_nodes(target: &Lval) -> u64
     ensures { result ≡ capped (flat.target_nodes target.now) }
 {
@@ -101,7 +101,7 @@ pub fn target_nodes(target: &Lval) -> u64
 }
 
 #[cycle(target)]
-#[tactic(auto, using(crate::proofs::Sums::sums))]
+#[tactic(auto, using(crate::proofs::CountSums::sums))]
 fn targets_nodes(all: &[Lval]) -> u64
     ensures { result ≡ capped (flat.all_target_nodes (lvals all.now)) }
 {

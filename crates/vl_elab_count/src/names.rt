@@ -4,15 +4,15 @@ ghost use Rattle.vl_mean.specs.ConstantFaults.{capped};
 ghost use Rattle.vl_mean.specs.Declarations.{declared_by};
 ghost use Rattle.vl_mean.specs.FlatLaw.{all_names_count};
 ghost use Rattle.vl_mean.specs.Scopes.{Scope};
-ghost use Rattle.vl_scope.specs.Seen.{innermost};
-ghost use Rattle.vl_number.specs.Numbers.{HaveNumbers};
-ghost use Rattle.vl_totals.specs.Counts as spec;
+ghost use Rattle.vl_elab_scope.specs.Seen.{innermost};
+ghost use Rattle.vl_elab_const.specs.Numbers.{HaveNumbers};
+ghost use Rattle.vl_elab_count.specs.Counts as spec;
 
 use crate::bounds::{bound_in, span_between};
 use fv_base::Memory;
 use std::alloc::Global;
+use vl_elab_scope::Names;
 use vl_mean::widths::plus;
-use vl_scope::Names;
 use vl_tree::{DeclaredName, Item, ItemKind, Range};
 
 fn range_words(alloc: Global, range: &Range, numbers: &Names) -> Result<u64, Memory>
@@ -32,7 +32,7 @@ fn one_name(alloc: Global, words: &Option<Range>, numbers: &Names) -> Result<u64
     }
 }
 
-#[tactic(auto, using(vl_count::proofs::Sums::sums))]
+#[tactic(auto, using(crate::proofs::CountSums::sums))]
 fn all_names(alloc: Global, all: &[DeclaredName], numbers: &Names) -> Result<u64, Memory>
     ensures { IfOk result (λ n. n ≡ capped (spec.names_count numbers.now all.now)) }
 {

@@ -4,7 +4,7 @@ ghost use Rattle.vl_tree.specs.Stmt.{stmts};
 ghost use Rattle.vl_tree.specs.StmtView.{arms};
 ghost use Rattle.vl_mean.specs.ConstantFaults.{capped};
 ghost use Rattle.vl_mean.specs.FlatLaw as flat;
-ghost use Rattle.vl_count.specs.Parts as spec;
+ghost use Rattle.vl_elab_count.specs.Parts as spec;
 
 use crate::exprs::{expr_nodes, target_nodes};
 use vl_mean::widths::plus;
@@ -12,7 +12,7 @@ use vl_tree::{Arm, Expr, Stmt, StmtKind};
 
 /// A statement: one for each statement in it, and its targets and expressions.
 #[cycle(nodes)]
-#[tactic(auto, using(vl_tree::specs::StmtFalls::parts_fall, crate::proofs::Sums::sums))]
+#[tactic(auto, using(vl_tree::specs::StmtFalls::parts_fall, crate::proofs::CountSums::sums))]
 pub fn stmt_nodes(stmt: &Stmt) -> u64
     ensures { result ≡ capped (flat.stmt_nodes stmt.now) }
 {
@@ -45,7 +45,7 @@ pub fn stmt_nodes(stmt: &Stmt) -> u64
 }
 
 #[cycle(nodes)]
-#[tactic(auto, using(crate::proofs::InLists::list_steps, crate::proofs::Sums::sums))]
+#[tactic(auto, using(crate::proofs::InLists::list_steps, crate::proofs::CountSums::sums))]
 fn stmts_nodes(all: &[Stmt]) -> u64
     ensures { result ≡ capped (flat.all_stmt_nodes (stmts all.now)) }
 {
@@ -60,7 +60,7 @@ fn stmts_nodes(all: &[Stmt]) -> u64
 }
 
 #[cycle(nodes)]
-#[tactic(auto, using(crate::proofs::InLists::list_steps, crate::proofs::Sums::sums))]
+#[tactic(auto, using(crate::proofs::InLists::list_steps, crate::proofs::CountSums::sums))]
 fn arms_nodes(all: &[Arm]) -> u64
     ensures { result ≡ capped (flat.arm_nodes (arms all.now)) }
 {
@@ -75,7 +75,7 @@ fn arms_nodes(all: &[Arm]) -> u64
 }
 
 #[cycle(nodes)]
-#[tactic(auto, using(crate::proofs::Sums::sums))]
+#[tactic(auto, using(crate::proofs::CountSums::sums))]
 fn arm_nodes(arm: &Arm) -> u64
     ensures { result ≡ capped (spec.arm_nodes arm.now) }
 {
@@ -89,7 +89,7 @@ fn arm_nodes(arm: &Arm) -> u64
     }
 }
 
-#[tactic(auto, using(crate::proofs::Sums::sums))]
+#[tactic(auto, using(crate::proofs::CountSums::sums))]
 fn labels_nodes(all: &[Expr]) -> u64
     ensures { result ≡ capped (flat.label_nodes all.now) }
 {

@@ -5,18 +5,18 @@ ghost use Rattle.vl_mean.specs.Declarations.{declared_by};
 ghost use Rattle.vl_mean.specs.FlatLaw.{all_names_count};
 ghost use Rattle.vl_mean.specs.Scopes.{Scope};
 ghost use Rattle.vl_mean.specs.Walk.{Place};
-ghost use Rattle.vl_refusal.specs.Counts as counts;
-ghost use Rattle.vl_scope.specs.Seen.{innermost};
-ghost use Rattle.vl_number.specs.Numbers.{HaveNumbers};
-ghost use Rattle.vl_count.specs.Parts.{Holds, TurnsHave};
+ghost use Rattle.vl_elab_spec.specs.Counts as counts;
+ghost use Rattle.vl_elab_scope.specs.Seen.{innermost};
+ghost use Rattle.vl_elab_const.specs.Numbers.{HaveNumbers};
+ghost use Rattle.vl_elab_count.specs.Parts.{Holds, TurnsHave};
 
+use crate::count_items::item_nodes;
 use crate::names::declared_names;
 use crate::turns::loop_nodes;
 use fv_base::Memory;
 use std::alloc::Global;
-use vl_count::item_nodes;
-use vl_number::is_true_in;
-use vl_scope::Names;
+use vl_elab_const::is_true_in;
+use vl_elab_scope::Names;
 use vl_tree::{Item, ItemKind};
 
 /// Nodes and names.

@@ -2,20 +2,20 @@
 ghost use Rattle.std.specs.Prelude.{◌≡◌, Some, None, IfOk, OnOk, if◌then◌else◌};
 ghost use Rattle.vl_mean.specs.ConstantFaults.{capped};
 ghost use Rattle.vl_mean.specs.Walk.{Place, first_turn};
-ghost use Rattle.vl_refusal.specs.Counts as counts;
-ghost use Rattle.vl_number.specs.Numbers.{HaveNumbers, genvar_number, holds};
-ghost use Rattle.vl_turn.specs.Parts.{in_turn};
-ghost use Rattle.vl_totals.specs.Counts as spec;
+ghost use Rattle.vl_elab_spec.specs.Counts as counts;
+ghost use Rattle.vl_elab_const.specs.Numbers.{HaveNumbers, genvar_number, holds};
+ghost use Rattle.vl_elab_check_item.specs.TurnParts.{in_turn};
+ghost use Rattle.vl_elab_count.specs.Counts as spec;
 
+use crate::exprs::expr_nodes;
 use fv_base::Memory;
 use std::alloc::Global;
-use vl_count::expr_nodes;
+use vl_elab_check_item::enter_turn;
+use vl_elab_const::{genvar_value, is_true_in};
+use vl_elab_scope::Names;
 use vl_mean::Const;
 use vl_mean::widths::plus;
-use vl_number::{genvar_value, is_true_in};
-use vl_scope::Names;
 use vl_tree::LoopHead;
-use vl_turn::enter_turn;
 
 /// In the scope of a turn, the value of the next one. None exactly where this one is behind the last.
 fn next_in(alloc: Global, head: &LoopHead, numbers: &Names) -> Result<Option<Const>, Memory>

@@ -17,18 +17,19 @@ use Rattle.vl_size.specs.Size.{is_bound}
 use Rattle.vl_size.specs.Table.{span, is_plain, IsPlain, IsShaped}
 use Rattle.vl_mean.specs.Declarations.{bound_of, vector_bounds, word_bounds}
 use Rattle.vl_mean.specs.Scopes.{Scope, constant_in}
-use Rattle.vl_refusal.specs.Meanings.{Meaning, object, shapeless, Names, constants, bound, is_known, is_known_bound}
-use Rattle.vl_refusal.specs.Meanings.{is_known_range, is_known_shape, declared_width, may_have_words, object_or}
-use Rattle.vl_scope.specs.Seen.{IsNamed}
-use Rattle.vl_fixed.specs.Among.{AreAmong}
-use Rattle.vl_fixed.proofs.Stays.{known_bound}
-use Rattle.vl_enter.specs.declared.extents.Extent.{Extent}
-use Rattle.vl_enter.specs.Known.{known_extent, extent_of, left_bound, right_bound}
-use Rattle.vl_shape.specs.declared.forms.Form.{Form}
-use Rattle.vl_shape.specs.declared.forms.PortForm.{PortForm}
-use Rattle.vl_shape.specs.declared.inputs.Inputs.{Inputs}
-use Rattle.vl_shape.specs.Objects.{declaration_form, integer_form, form_of_port}
-use Rattle.vl_shape.specs.Objects.{decl_with, object_with, Fits, some_words, known_words, words_if_known, next_form}
+use Rattle.vl_elab_spec.specs.Meanings.{Meaning, object, shapeless, Names, constants, bound, is_known, is_known_bound}
+use Rattle.vl_elab_spec.specs.Meanings.{is_known_range, is_known_shape, declared_width, may_have_words, object_or}
+use Rattle.vl_elab_scope.specs.Seen.{IsNamed}
+use Rattle.vl_elab_spec.specs.Among.{AreAmong}
+use Rattle.vl_elab_spec.proofs.Stays.{known_bound}
+use Rattle.vl_elab_params.specs.declared.extents.Extent.{Extent}
+use Rattle.vl_elab_params.specs.Known.{known_extent, extent_of, left_bound, right_bound}
+use Rattle.vl_elab_decls.specs.declared.shape_forms.Form.{Form}
+use Rattle.vl_elab_decls.specs.declared.shape_forms.PortForm.{PortForm}
+use Rattle.vl_elab_decls.specs.declared.inputs.Inputs.{Inputs}
+use Rattle.vl_elab_decls.specs.Objects.{declaration_form, integer_form, form_of_port}
+use Rattle.vl_elab_decls.specs.Objects.{decl_with, object_with, Fits, some_words, known_words, words_if_known}
+use Rattle.vl_elab_decls.specs.Objects.{next_form}
 
 pub and_first : (a b : Bool) → (a && b) ≡ true → a ≡ true
 and_first true b h = refl

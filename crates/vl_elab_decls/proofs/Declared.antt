@@ -13,11 +13,11 @@ use Rattle.vl_mean.specs.Declarations.{declared_by, declared_integers, declared_
 use Rattle.vl_mean.specs.Declarations.{word_bounds}
 use Rattle.vl_mean.specs.Runs.{Each}
 use Rattle.vl_mean.specs.Scopes.{Scope}
-use Rattle.vl_extent.specs.InRange.{Covers, IsShort}
-use Rattle.vl_openable.specs.Openable.{IsInRange}
-use Rattle.vl_decls.specs.declared.forms.Form.{Form}
-use Rattle.vl_decls.specs.Forms.{HasWords, IsFormOf, all_with, declared_class, integer_class, integer_form}
-use Rattle.vl_decls.specs.Forms.{one_with}
+use Rattle.vl_elab_const.specs.InRange.{Covers, IsShort}
+use Rattle.vl_elab_const.specs.Openable.{IsInRange}
+use Rattle.vl_elab_decls.specs.declared.decls_forms.Form.{Form}
+use Rattle.vl_elab_decls.specs.Forms.{HasWords, IsFormOf, all_with, declared_class, integer_class, integer_form}
+use Rattle.vl_elab_decls.specs.Forms.{one_with}
 
 pub short_of : (bounds : ℤ × ℤ) → IsShort (bounds.0, bounds.1) → IsShort bounds
 short_of bounds h = record {

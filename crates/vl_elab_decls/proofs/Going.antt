@@ -2,8 +2,8 @@
 use Rattle.std.specs.Prelude.{◌≡◌, refl, List, [], ◌++◌}
 use Rattle.std.proofs.Common.{ap, subst}
 use Rattle.vl_mean.specs.Runs.{Each}
-use Rattle.vl_same.proofs.EachOf.{front, back}
-use Rattle.scope_names.proofs.Ahead.{on, ended, nothing}
+use Rattle.vl_mean_flat.proofs.EachOf.{front, back}
+use Rattle.vl_elab_names.proofs.Ahead.{on, ended, nothing}
 
 pub none_more : {A : Type 0} (xs : List A) → xs ≡ xs ++ []
 none_more xs = nothing xs

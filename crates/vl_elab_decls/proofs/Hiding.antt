@@ -31,11 +31,11 @@ use Rattle.vl_mean.specs.Cells.{contains_name}
 use Rattle.vl_mean.specs.Declarations.{declared, declared_by, declared_names, declared_integers}
 use Rattle.vl_mean.specs.Declarations.{class_of_attributes, class_of_kind, joined_attributes}
 use Rattle.vl_mean.specs.Scopes.{Scope}
-use Rattle.vl_refusal.specs.Meanings.{Meaning, undeclared, constant, loop_variable, object, faulty, shapeless, later}
-use Rattle.vl_refusal.specs.Meanings.{Names, is_undeclared, meaning_of, value_of}
-use Rattle.vl_scope.specs.Seen.{AreNamed, with_name}
-use Rattle.vl_param.proofs.Listed.{inner_or, named_only, meaning_with, named_with}
-use Rattle.vl_stand.specs.Hidden.{with_hidden, object_names, with_hidden_items}
+use Rattle.vl_elab_spec.specs.Meanings.{Meaning, undeclared, constant, loop_variable, object, faulty, shapeless, later}
+use Rattle.vl_elab_spec.specs.Meanings.{Names, is_undeclared, meaning_of, value_of}
+use Rattle.vl_elab_scope.specs.Seen.{AreNamed, with_name}
+use Rattle.vl_elab_params.proofs.Listed.{inner_or, named_only, meaning_with, named_with}
+use Rattle.vl_elab_decls.specs.Hidden.{with_hidden, object_names, with_hidden_items}
 
 -- ---- what is declared, by its names
 

@@ -33,11 +33,11 @@ use Rattle.vl_mean.specs.declared.const_number.Const.{Const}
 use Rattle.vl_mean.specs.Constants.{Constants, constant_of}
 use Rattle.vl_mean.specs.Declarations.{Overrides, class_of_attributes, class_of_kind, joined_attributes}
 use Rattle.vl_mean.specs.Scopes.{Scope}
-use Rattle.vl_refusal.specs.Meanings.{Meaning, undeclared, constant, loop_variable, object, faulty, shapeless, later}
-use Rattle.vl_refusal.specs.Meanings.{Names, is_undeclared, meaning_of, value_of, is_known_parameter, may_be_selected}
-use Rattle.vl_refusal.specs.Meanings.{constant_or, object_or, with_parameter_meanings, with_item_constants}
-use Rattle.vl_refusal.specs.Meanings.{port_meanings, name_meanings, item_meanings, items_meanings, is_known_shape}
-use Rattle.vl_refusal.specs.Meanings.{is_known_range, may_have_words, is_input}
+use Rattle.vl_elab_spec.specs.Meanings.{Meaning, undeclared, constant, loop_variable, object, faulty, shapeless, later}
+use Rattle.vl_elab_spec.specs.Meanings.{Names, is_undeclared, meaning_of, value_of, is_known_parameter, may_be_selected}
+use Rattle.vl_elab_spec.specs.Meanings.{constant_or, object_or, with_parameter_meanings, with_item_constants}
+use Rattle.vl_elab_spec.specs.Meanings.{port_meanings, name_meanings, item_meanings, items_meanings, is_known_shape}
+use Rattle.vl_elab_spec.specs.Meanings.{is_known_range, may_have_words, is_input}
 
 module _ (s : Scope) where
   -- each name that means a constant has the scope's

@@ -43,9 +43,9 @@ use Rattle.vl_mean.specs.Declarations.{declared_names, declared_integers, declar
 use Rattle.vl_mean.specs.Declarations.{full_ports}
 use Rattle.vl_mean.specs.Scopes.{Scope, is_clock_class, is_clock_decl}
 use Rattle.vl_mean.specs.Walk.{Use}
-use Rattle.vl_shape.specs.declared.inputs.Inputs.{Inputs}
-use Rattle.vl_shape.specs.Inputs.{AreInputs, class_of}
-use Rattle.vl_stand.specs.Clocks.{next_direction, port_text, is_clock_port, with_port, with_clock, clocks_of}
+use Rattle.vl_elab_decls.specs.declared.inputs.Inputs.{Inputs}
+use Rattle.vl_elab_decls.specs.Inputs.{AreInputs, class_of}
+use Rattle.vl_elab_decls.specs.Clocks.{next_direction, port_text, is_clock_port, with_port, with_clock, clocks_of}
 
 module _ (inputs : Inputs) (ss : List Scope) (u : Use) (g : AreInputs inputs u) where
   abbrev decls : List FullPort → List Decl

@@ -16,15 +16,15 @@ use Rattle.vl_mean.specs.Declarations.{vector_bounds}
 use Rattle.vl_mean.specs.Runs.{Each}
 use Rattle.vl_mean.specs.Scopes.{Scope}
 use Rattle.vl_mean.specs.Walk.{Use}
-use Rattle.vl_extent.specs.InRange.{Covers}
-use Rattle.vl_openable.specs.Openable.{IsInRange}
-use Rattle.vl_shape.specs.declared.inputs.Inputs.{Inputs}
-use Rattle.vl_shape.specs.Inputs.{AreInputs}
-use Rattle.vl_shape.specs.Objects.{port_class, port_text}
-use Rattle.vl_decls.specs.declared.ports.PortForm.{PortForm}
-use Rattle.vl_decls.specs.Ports.{AreForms, IsPortForm, decls_with}
-use Rattle.vl_decls.proofs.Declared.{short_of}
-use Rattle.vl_decls.proofs.Going.{Goes, goes_first, goes_last, goes_on}
+use Rattle.vl_elab_const.specs.InRange.{Covers}
+use Rattle.vl_elab_const.specs.Openable.{IsInRange}
+use Rattle.vl_elab_decls.specs.declared.inputs.Inputs.{Inputs}
+use Rattle.vl_elab_decls.specs.Inputs.{AreInputs}
+use Rattle.vl_elab_decls.specs.Objects.{port_class, port_text}
+use Rattle.vl_elab_decls.specs.declared.decls_ports.PortForm.{PortForm}
+use Rattle.vl_elab_decls.specs.Ports.{AreForms, IsPortForm, decls_with}
+use Rattle.vl_elab_decls.proofs.Declared.{short_of}
+use Rattle.vl_elab_decls.proofs.Going.{Goes, goes_first, goes_last, goes_on}
 
 -- ---- the next form
 

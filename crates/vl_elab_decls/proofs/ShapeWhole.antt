@@ -43,25 +43,26 @@ use Rattle.vl_mean.specs.Declarations.{declared_integers, declared_by, declared,
 use Rattle.vl_mean.specs.Declarations.{port_decl, full_port, full_ports, is_output, class_of_port, word_bounds}
 use Rattle.vl_mean.specs.Scopes.{Scope, constant_in}
 use Rattle.vl_mean.specs.Walk.{Use, port_names}
-use Rattle.vl_refusal.specs.Meanings.{value_of, Names, constants, object_or}
-use Rattle.vl_refusal.specs.Meanings.{is_known_range, is_known_shape, may_have_words, item_names}
-use Rattle.vl_refusal.specs.Meanings.{items_names, is_input, port_meanings, name_meanings, item_meanings}
-use Rattle.vl_refusal.specs.Meanings.{items_meanings}
-use Rattle.vl_alike.specs.Alike.{Alike}
-use Rattle.vl_alike.proofs.Items.{same_known_range}
-use Rattle.vl_fixed.specs.Among.{AreAmong}
-use Rattle.vl_enter.specs.Known.{known_extent, extent_of}
-use Rattle.vl_shape.specs.declared.forms.Form.{Form}
-use Rattle.vl_shape.specs.declared.forms.PortForm.{PortForm}
-use Rattle.vl_shape.specs.declared.inputs.Inputs.{Inputs}
-use Rattle.vl_shape.specs.Inputs.{AreInputs}
-use Rattle.vl_shape.specs.Objects.{object_with, words_if_known, declaration_form, integer_form, with_one}
-use Rattle.vl_shape.specs.Objects.{with_declared, with_genvars, with_item, with_items, port_form, next_form, port_text}
-use Rattle.vl_shape.specs.Objects.{output_class, port_class, form_of_port, with_port, with_ports, scope_objects}
-use Rattle.vl_shape.specs.Shaped.{ArePlain, IsDeclared, AreShaped}
-use Rattle.vl_param.proofs.KeptParameters.{same_shape}
-use Rattle.vl_shape.proofs.Bounded.{extent_is, words_known, object_is, object_named}
-use Rattle.vl_shape.proofs.Shaped.{none_shaped, object_shaped, shaped_to, genvars_shaped}
+use Rattle.vl_elab_spec.specs.Meanings.{value_of, Names, constants, object_or}
+use Rattle.vl_elab_spec.specs.Meanings.{is_known_range, is_known_shape, may_have_words, item_names}
+use Rattle.vl_elab_spec.specs.Meanings.{items_names, is_input, port_meanings, name_meanings, item_meanings}
+use Rattle.vl_elab_spec.specs.Meanings.{items_meanings}
+use Rattle.vl_elab_scope.specs.Alike.{Alike}
+use Rattle.vl_elab_scope.proofs.Items.{same_known_range}
+use Rattle.vl_elab_spec.specs.Among.{AreAmong}
+use Rattle.vl_elab_params.specs.Known.{known_extent, extent_of}
+use Rattle.vl_elab_decls.specs.declared.shape_forms.Form.{Form}
+use Rattle.vl_elab_decls.specs.declared.shape_forms.PortForm.{PortForm}
+use Rattle.vl_elab_decls.specs.declared.inputs.Inputs.{Inputs}
+use Rattle.vl_elab_decls.specs.Inputs.{AreInputs}
+use Rattle.vl_elab_decls.specs.Objects.{object_with, words_if_known, declaration_form, integer_form, with_one}
+use Rattle.vl_elab_decls.specs.Objects.{with_declared, with_genvars, with_item, with_items, port_form, next_form}
+use Rattle.vl_elab_decls.specs.Objects.{port_text}
+use Rattle.vl_elab_decls.specs.Objects.{output_class, port_class, form_of_port, with_port, with_ports, scope_objects}
+use Rattle.vl_elab_decls.specs.Shaped.{ArePlain, IsDeclared, AreShaped}
+use Rattle.vl_elab_params.proofs.KeptParameters.{same_shape}
+use Rattle.vl_elab_decls.proofs.Bounded.{extent_is, words_known, object_is, object_named}
+use Rattle.vl_elab_decls.proofs.Shaped.{none_shaped, object_shaped, shaped_to, genvars_shaped}
 
 pub plain_front : (xs ys : List (List ℕ)) → ArePlain (xs ++ ys) → ArePlain xs
 plain_front [] ys h = tt

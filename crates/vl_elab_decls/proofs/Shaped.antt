@@ -10,12 +10,12 @@ use Rattle.vl_size.specs.declared.decl.Class.{Class}
 use Rattle.vl_size.specs.declared.decl.Decl.{Decl}
 use Rattle.vl_size.specs.Table.{declared_as}
 use Rattle.vl_mean.specs.Scopes.{Scope}
-use Rattle.vl_refusal.specs.Meanings.{Meaning, undeclared, constant, loop_variable, object, faulty, shapeless, later}
-use Rattle.vl_refusal.specs.Meanings.{Names, is_undeclared, meaning_of, object_or}
-use Rattle.vl_scope.specs.Seen.{IsNamed, AreNamed, with_name}
-use Rattle.vl_shape.specs.Objects.{with_genvars}
-use Rattle.vl_shape.specs.Shaped.{AreShaped}
-use Rattle.vl_param.proofs.Listed.{inner_or, named_only, meaning_append, named_append, meaning_with, named_with}
+use Rattle.vl_elab_spec.specs.Meanings.{Meaning, undeclared, constant, loop_variable, object, faulty, shapeless, later}
+use Rattle.vl_elab_spec.specs.Meanings.{Names, is_undeclared, meaning_of, object_or}
+use Rattle.vl_elab_scope.specs.Seen.{IsNamed, AreNamed, with_name}
+use Rattle.vl_elab_decls.specs.Objects.{with_genvars}
+use Rattle.vl_elab_decls.specs.Shaped.{AreShaped}
+use Rattle.vl_elab_params.proofs.Listed.{inner_or, named_only, meaning_append, named_append, meaning_with, named_with}
 
 -- ---- declarations by name
 

@@ -2,9 +2,9 @@
 use Rattle.std.specs.Prelude.{◌≡◌, refl, ℕ, List, [], ◌∷◌, drop}
 use Rattle.std.proofs.Common.{ap, sym, ◌∙◌}
 use Rattle.vl_mean.specs.Scopes.{Scope}
-use Rattle.vl_refusal.specs.Meanings.{Names, meaning_in, value_of}
-use Rattle.vl_number.specs.Numbers.{HaveNumbers}
-use Rattle.vl_scope.specs.Seen.{innermost}
+use Rattle.vl_elab_spec.specs.Meanings.{Names, meaning_in, value_of}
+use Rattle.vl_elab_const.specs.Numbers.{HaveNumbers}
+use Rattle.vl_elab_scope.specs.Seen.{innermost}
 
 pub drop_two : (ns : List Names) → drop 2 ns ≡ drop 1 (drop 1 ns)
 drop_two [] = refl

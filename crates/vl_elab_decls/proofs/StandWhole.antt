@@ -18,27 +18,27 @@ use Rattle.vl_mean.specs.Scopes.{Scope, constant_in, declared_in, visible, is_cl
 use Rattle.vl_mean.specs.Scopes.{constant_unless}
 use Rattle.vl_mean.specs.Walk.{Contents, Place, Use, block_place, header_of, written_ports, module_scope, module_around}
 use Rattle.vl_mean.specs.Walk.{module_contents, port_names, top_input}
-use Rattle.vl_refusal.specs.Meanings.{Names, undeclared, faulty, is_undeclared, meaning_of, meaning_in, value_of}
-use Rattle.vl_refusal.specs.Meanings.{items_names, port_meanings, items_meanings, scope_meanings, all_meanings}
-use Rattle.vl_refusal.specs.Meanings.{meanings_at}
-use Rattle.vl_scope.specs.Seen.{innermost}
-use Rattle.vl_alike.specs.Alike.{Alike}
-use Rattle.vl_number.specs.Given.{IsGiven, operand_or}
-use Rattle.vl_number.specs.Numbers.{HaveNumbers}
-use Rattle.vl_param.specs.Among.{contents, constants_of, parameter_meanings, among_parameters}
-use Rattle.vl_param.proofs.Listed.{inner_or}
-use Rattle.vl_enter.specs.Own.{AreOwn}
-use Rattle.vl_shape.specs.declared.inputs.Inputs.{Inputs}
-use Rattle.vl_shape.specs.declared.inputs.Inputs.TheVariants as i
-use Rattle.vl_shape.specs.Inputs.{AreInputs}
-use Rattle.vl_shape.specs.Shaped.{ArePlain, AreShaped, IsDeclared}
-use Rattle.vl_stand.specs.Hidden.{with_hidden_items}
-use Rattle.vl_stand.specs.Stands.{Stands}
-use Rattle.vl_stand.proofs.PortClocks.{ports_clock, block_clock, block_around}
-use Rattle.vl_stand.proofs.Hiding.{all_hidden}
-use Rattle.vl_stand.proofs.Stacks.{again}
-use Rattle.vl_stand.proofs.Standing.{scope_alike, scope_among, shapes_among, number_by, number_alone, clock_by}
-use Rattle.vl_stand.proofs.Standing.{clock_alone}
+use Rattle.vl_elab_spec.specs.Meanings.{Names, undeclared, faulty, is_undeclared, meaning_of, meaning_in, value_of}
+use Rattle.vl_elab_spec.specs.Meanings.{items_names, port_meanings, items_meanings, scope_meanings, all_meanings}
+use Rattle.vl_elab_spec.specs.Meanings.{meanings_at}
+use Rattle.vl_elab_scope.specs.Seen.{innermost}
+use Rattle.vl_elab_scope.specs.Alike.{Alike}
+use Rattle.vl_elab_const.specs.Given.{IsGiven, operand_or}
+use Rattle.vl_elab_const.specs.Numbers.{HaveNumbers}
+use Rattle.vl_elab_params.specs.Among.{contents, constants_of, parameter_meanings, among_parameters}
+use Rattle.vl_elab_params.proofs.Listed.{inner_or}
+use Rattle.vl_elab_params.specs.Own.{AreOwn}
+use Rattle.vl_elab_decls.specs.declared.inputs.Inputs.{Inputs}
+use Rattle.vl_elab_decls.specs.declared.inputs.Inputs.TheVariants as i
+use Rattle.vl_elab_decls.specs.Inputs.{AreInputs}
+use Rattle.vl_elab_decls.specs.Shaped.{ArePlain, AreShaped, IsDeclared}
+use Rattle.vl_elab_decls.specs.Hidden.{with_hidden_items}
+use Rattle.vl_elab_decls.specs.Stands.{Stands}
+use Rattle.vl_elab_decls.proofs.PortClocks.{ports_clock, block_clock, block_around}
+use Rattle.vl_elab_decls.proofs.Hiding.{all_hidden}
+use Rattle.vl_elab_decls.proofs.Stacks.{again}
+use Rattle.vl_elab_decls.proofs.Standing.{scope_alike, scope_among, shapes_among, number_by, number_alone, clock_by}
+use Rattle.vl_elab_decls.proofs.Standing.{clock_alone}
 
 -- nothing is given
 pub nothing_given : (given : List ℕ → Option Expr) → ((text : List ℕ) → given text ≡ None) → IsGiven given []

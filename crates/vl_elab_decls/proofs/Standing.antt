@@ -12,21 +12,21 @@ use Rattle.vl_mean.specs.Declarations.{with_constants}
 use Rattle.vl_mean.specs.Scopes.{Scope, constant_in, constant_unless, visible, unless_constant, declared_in}
 use Rattle.vl_mean.specs.Scopes.{is_clock_decl}
 use Rattle.vl_mean.specs.Walk.{Contents, parameter_names, port_names}
-use Rattle.vl_refusal.specs.Meanings.{Meaning, undeclared, constant, loop_variable, object, faulty, shapeless, later}
-use Rattle.vl_refusal.specs.Meanings.{Names, is_undeclared, meaning_of, meaning_in, value_of, constants, all_later}
-use Rattle.vl_refusal.specs.Meanings.{port_meanings, items_meanings, scope_meanings, items_names}
-use Rattle.vl_scope.specs.Seen.{AreNamed, AllNamed}
-use Rattle.vl_alike.specs.Alike.{Alike}
-use Rattle.vl_fixed.specs.Among.{AreAmong}
-use Rattle.vl_number.specs.Numbers.{HaveNumbers}
-use Rattle.vl_param.specs.Among.{parameter_meanings, among_parameters}
-use Rattle.vl_enter.specs.Own.{AreOwn}
-use Rattle.vl_param.proofs.LaterNames.{all_named}
-use Rattle.vl_param.proofs.Listed.{inner_or, inner_assoc, meaning_append, named_append}
-use Rattle.vl_shape.specs.Shaped.{AreShaped}
-use Rattle.vl_stand.specs.Stands.{Stands}
-use Rattle.vl_stand.proofs.Hiding.{Hides}
-use Rattle.vl_stand.proofs.Knows.{right_of, own_right, objects_no_value, constants_undeclared}
+use Rattle.vl_elab_spec.specs.Meanings.{Meaning, undeclared, constant, loop_variable, object, faulty, shapeless, later}
+use Rattle.vl_elab_spec.specs.Meanings.{Names, is_undeclared, meaning_of, meaning_in, value_of, constants, all_later}
+use Rattle.vl_elab_spec.specs.Meanings.{port_meanings, items_meanings, scope_meanings, items_names}
+use Rattle.vl_elab_scope.specs.Seen.{AreNamed, AllNamed}
+use Rattle.vl_elab_scope.specs.Alike.{Alike}
+use Rattle.vl_elab_spec.specs.Among.{AreAmong}
+use Rattle.vl_elab_const.specs.Numbers.{HaveNumbers}
+use Rattle.vl_elab_params.specs.Among.{parameter_meanings, among_parameters}
+use Rattle.vl_elab_params.specs.Own.{AreOwn}
+use Rattle.vl_elab_params.proofs.LaterNames.{all_named}
+use Rattle.vl_elab_params.proofs.Listed.{inner_or, inner_assoc, meaning_append, named_append}
+use Rattle.vl_elab_decls.specs.Shaped.{AreShaped}
+use Rattle.vl_elab_decls.specs.Stands.{Stands}
+use Rattle.vl_elab_decls.proofs.Hiding.{Hides}
+use Rattle.vl_elab_decls.proofs.Knows.{right_of, own_right, objects_no_value, constants_undeclared}
 
 alone : (m : Meaning) → inner_or m undeclared ≡ m
 alone undeclared = refl

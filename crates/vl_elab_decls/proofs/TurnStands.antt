@@ -7,10 +7,10 @@ use Rattle.vl_size.specs.Table.{declared_as}
 use Rattle.vl_mean.specs.declared.const_number.Const.{Const}
 use Rattle.vl_mean.specs.Scopes.{constant_in, constant_unless, unless_constant, is_clock_decl, visible}
 use Rattle.vl_mean.specs.Walk.{Place, turn_place}
-use Rattle.vl_refusal.specs.Meanings.{Meaning, undeclared, constant, Names, is_undeclared, meaning_of, meaning_in}
-use Rattle.vl_refusal.specs.Meanings.{value_of, meanings_at}
-use Rattle.vl_param.proofs.Listed.{inner_or}
-use Rattle.vl_stand.specs.Stands.{Stands}
+use Rattle.vl_elab_spec.specs.Meanings.{Meaning, undeclared, constant, Names, is_undeclared, meaning_of, meaning_in}
+use Rattle.vl_elab_spec.specs.Meanings.{value_of, meanings_at}
+use Rattle.vl_elab_params.proofs.Listed.{inner_or}
+use Rattle.vl_elab_decls.specs.Stands.{Stands}
 
 and_false : (b : Bool) → (b && false) ≡ false
 and_false true = refl

@@ -12,8 +12,8 @@ use Rattle.vl_size.specs.declared.decl.Decl.{Decl}
 use Rattle.vl_mean.specs.Declarations.{class_of_attributes, class_of_kind, declared_integers, declared_names}
 use Rattle.vl_mean.specs.Declarations.{joined_attributes, vector_bounds, word_bounds}
 use Rattle.vl_mean.specs.Scopes.{Scope}
-use Rattle.vl_extent.specs.InRange.{AreWords, Covers, IsShort}
-use Rattle.vl_decls.specs.declared.forms.Form.{Form}
+use Rattle.vl_elab_const.specs.InRange.{AreWords, Covers, IsShort}
+use Rattle.vl_elab_decls.specs.declared.decls_forms.Form.{Form}
 
 abbrev pub decl_with : Form → List ℕ → Option (ℤ × ℤ) → Decl
 decl_with f text words = record {

@@ -2,8 +2,8 @@
 -- Rule of this project.
 use Rattle.std.specs.Prelude.{ℕ, List, [], ◌∷◌, map, if◌then◌else◌}
 use Rattle.vl_tree.specs.Item.{Item, Items, declaration, integer, no_items, more_items}
-use Rattle.vl_refusal.specs.Meanings.{faulty, Names, is_undeclared, meaning_of}
-use Rattle.vl_scope.specs.Seen.{with_name}
+use Rattle.vl_elab_spec.specs.Meanings.{faulty, Names, is_undeclared, meaning_of}
+use Rattle.vl_elab_scope.specs.Seen.{with_name}
 
 -- those that aren't among the constants
 abbrev pub with_hidden : Names → Names → List (List ℕ) → Names

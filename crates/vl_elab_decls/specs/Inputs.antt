@@ -4,9 +4,9 @@ use Rattle.std.specs.Prelude.{◌≡◌, ℕ, List, Bool, true, false, if◌then
 use Rattle.vl_size.specs.declared.decl.Class.{Class}
 use Rattle.vl_size.specs.declared.decl.Class.TheVariants as class
 use Rattle.vl_mean.specs.Walk.{Use, top_input}
-use Rattle.name_set.specs.Known.{contains}
-use Rattle.vl_shape.specs.declared.inputs.Inputs.{Inputs}
-use Rattle.vl_shape.specs.declared.inputs.Inputs.TheVariants as i
+use Rattle.vl_elab_names.specs.Known.{contains}
+use Rattle.vl_elab_decls.specs.declared.inputs.Inputs.{Inputs}
+use Rattle.vl_elab_decls.specs.declared.inputs.Inputs.TheVariants as i
 
 abbrev pub is_top : Inputs → Bool
 is_top i.Top = true

@@ -20,15 +20,15 @@ use Rattle.vl_size.specs.declared.decl.Decl.{Decl}
 use Rattle.vl_size.specs.Size.{is_bound}
 use Rattle.vl_size.specs.Table.{is_plain, span}
 use Rattle.vl_mean.specs.Declarations.{class_of_attributes, class_of_kind, joined_attributes, is_output}
-use Rattle.vl_refusal.specs.Meanings.{Meaning, loop_variable, object, faulty, shapeless, Names, bound, is_known_range}
-use Rattle.vl_refusal.specs.Meanings.{may_have_words, is_input}
-use Rattle.vl_scope.specs.Seen.{with_name}
-use Rattle.vl_enter.specs.declared.extents.Extent.{Extent}
-use Rattle.vl_enter.specs.Known.{known_extent}
-use Rattle.vl_shape.specs.declared.forms.Form.{Form}
-use Rattle.vl_shape.specs.declared.forms.PortForm.{PortForm}
-use Rattle.vl_shape.specs.declared.inputs.Inputs.{Inputs}
-use Rattle.vl_shape.specs.Inputs.{is_top, class_of}
+use Rattle.vl_elab_spec.specs.Meanings.{Meaning, loop_variable, object, faulty, shapeless, Names, bound, is_known_range}
+use Rattle.vl_elab_spec.specs.Meanings.{may_have_words, is_input}
+use Rattle.vl_elab_scope.specs.Seen.{with_name}
+use Rattle.vl_elab_params.specs.declared.extents.Extent.{Extent}
+use Rattle.vl_elab_params.specs.Known.{known_extent}
+use Rattle.vl_elab_decls.specs.declared.shape_forms.Form.{Form}
+use Rattle.vl_elab_decls.specs.declared.shape_forms.PortForm.{PortForm}
+use Rattle.vl_elab_decls.specs.declared.inputs.Inputs.{Inputs}
+use Rattle.vl_elab_decls.specs.Inputs.{is_top, class_of}
 
 -- ---- what a name means
 

@@ -5,13 +5,13 @@ use Rattle.vl_tree.specs.declared.declaration.FullPort.{FullPort}
 use Rattle.vl_size.specs.declared.decl.Decl.{Decl}
 use Rattle.vl_mean.specs.Declarations.{is_output, vector_bounds}
 use Rattle.vl_mean.specs.Scopes.{Scope}
-use Rattle.vl_extent.specs.InRange.{Covers, IsShort}
-use Rattle.vl_shape.specs.declared.inputs.Inputs.{Inputs}
-use Rattle.vl_shape.specs.Inputs.{is_top}
-use Rattle.vl_shape.specs.Objects.{port_class}
-use Rattle.vl_decls.specs.declared.forms.Form.{Form}
-use Rattle.vl_decls.specs.declared.ports.PortForm.{PortForm}
-use Rattle.vl_decls.specs.Forms.{decl_with}
+use Rattle.vl_elab_const.specs.InRange.{Covers, IsShort}
+use Rattle.vl_elab_decls.specs.declared.inputs.Inputs.{Inputs}
+use Rattle.vl_elab_decls.specs.Inputs.{is_top}
+use Rattle.vl_elab_decls.specs.Objects.{port_class}
+use Rattle.vl_elab_decls.specs.declared.decls_forms.Form.{Form}
+use Rattle.vl_elab_decls.specs.declared.decls_ports.PortForm.{PortForm}
+use Rattle.vl_elab_decls.specs.Forms.{decl_with}
 
 pub record IsPortForm (ss : List Scope) (p : FullPort) (f : PortForm) : Type 0 where
   pub direction : f.direction ≡ p.direction

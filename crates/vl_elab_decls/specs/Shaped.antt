@@ -7,9 +7,9 @@ use Rattle.vl_size.specs.Table.{is_plain, declared_as}
 use Rattle.vl_mean.specs.Declarations.{declared, declared_ports}
 use Rattle.vl_mean.specs.Scopes.{Scope, constant_in}
 use Rattle.vl_mean.specs.Walk.{Use, port_names}
-use Rattle.vl_refusal.specs.Meanings.{Names, constants, items_names, is_undeclared, meaning_of}
-use Rattle.vl_scope.specs.Seen.{AreNamed}
-use Rattle.vl_fixed.specs.Among.{AreAmong}
+use Rattle.vl_elab_spec.specs.Meanings.{Names, constants, items_names, is_undeclared, meaning_of}
+use Rattle.vl_elab_scope.specs.Seen.{AreNamed}
+use Rattle.vl_elab_spec.specs.Among.{AreAmong}
 
 -- in none of these names stands a bracket
 abbrev pub ArePlain : List (List ℕ) → Type 0

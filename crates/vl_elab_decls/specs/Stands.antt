@@ -1,10 +1,10 @@
 -- What names mean in scopes, as they are entered while a design is judged. Rule of this project.
 use Rattle.std.specs.Prelude.{◌≡◌, ℕ, List, Bool, ◌&&◌}
 use Rattle.vl_mean.specs.Scopes.{Scope, constant_in, declared_in, is_clock_decl}
-use Rattle.vl_refusal.specs.Meanings.{Names, constants, is_undeclared, meaning_in}
-use Rattle.vl_alike.specs.Alike.{Alike}
-use Rattle.vl_fixed.specs.Among.{AreAmong}
-use Rattle.vl_number.specs.Numbers.{HaveNumbers}
+use Rattle.vl_elab_spec.specs.Meanings.{Names, constants, is_undeclared, meaning_in}
+use Rattle.vl_elab_scope.specs.Alike.{Alike}
+use Rattle.vl_elab_spec.specs.Among.{AreAmong}
+use Rattle.vl_elab_const.specs.Numbers.{HaveNumbers}
 
 -- Names mean what is known of them, constants have their numbers, and what is known of them is right. A name is the
 -- clock where the module calls it so and nothing within the module has it.

@@ -4,14 +4,14 @@ ghost use Rattle.vl_mean.specs.Declarations.{declared_ports, full_ports};
 ghost use Rattle.vl_mean.specs.Scopes.{Scope, is_clock_class, is_clock_decl};
 ghost use Rattle.vl_mean.specs.Walk.{Use};
 ghost use Rattle.vl_size.specs.Table.{declared_as};
-ghost use Rattle.name_set.specs.Known.{contains};
-ghost use Rattle.vl_shape.specs.Inputs.{AreInputs};
-ghost use Rattle.vl_stand.specs.Clocks as spec;
+ghost use Rattle.vl_elab_names.specs.Known.{contains};
+ghost use Rattle.vl_elab_decls.specs.Inputs.{AreInputs};
+ghost use Rattle.vl_elab_decls.specs.Clocks as spec;
 
+use crate::inputs::Inputs;
 use fv_base::{Memory, Text};
-use name_set::NameSet;
 use std::alloc::Global;
-use vl_shape::Inputs;
+use vl_elab_names::NameSet;
 use vl_size::Class;
 use vl_tree::{Direction, Port, PortKind};
 

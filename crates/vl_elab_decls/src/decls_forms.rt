@@ -1,10 +1,10 @@
 //! What stands before names that are declared together.
 ghost use Rattle.std.specs.Prelude.{◌≡◌, IfOk};
-ghost use Rattle.vl_decls.specs.Forms as spec;
+ghost use Rattle.vl_elab_decls.specs.Forms as spec;
 
 use fv_base::{Memory, Text};
 use std::alloc::Global;
-use vl_extent::Extent;
+use vl_elab_const::Extent;
 use vl_size::{Class, Decl};
 
 /// Of nets and variables that are declared together.

@@ -4,17 +4,17 @@ ghost use Rattle.vl_tree.specs.Item.{items};
 ghost use Rattle.vl_mean.specs.Declarations as spec;
 ghost use Rattle.vl_mean.specs.Runs.{Each};
 ghost use Rattle.vl_mean.specs.Scopes.{Scope};
-ghost use Rattle.vl_number.specs.Numbers.{HaveNumbers};
-ghost use Rattle.vl_extent.specs.InRange.{AreWords, IsShort};
-ghost use Rattle.vl_openable.specs.Openable.{IsInRange};
-ghost use Rattle.vl_decls.specs.Forms as forms;
+ghost use Rattle.vl_elab_const.specs.Numbers.{HaveNumbers};
+ghost use Rattle.vl_elab_const.specs.InRange.{AreWords, IsShort};
+ghost use Rattle.vl_elab_const.specs.Openable.{IsInRange};
+ghost use Rattle.vl_elab_decls.specs.Forms as forms;
 
-use crate::forms::{Form, decl_with};
+use crate::decls_forms::{Form, decl_with};
+use crate::words::class_of_attributes;
 use fv_base::{List, Memory};
 use std::alloc::Global;
-use vl_extent::{Extent, extent_in, words_in};
-use vl_scope::Names;
-use vl_shape::class_of_attributes;
+use vl_elab_const::{Extent, extent_in, words_in};
+use vl_elab_scope::Names;
 use vl_size::{Class, Decl};
 use vl_tree::{AttributeInstance, Declaration, DeclaredName, Item, ItemKind, NetKind};
 

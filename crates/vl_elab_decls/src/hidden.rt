@@ -1,17 +1,17 @@
 //! Names of a block that hide constants of the scopes around it.
 ghost use Rattle.std.specs.Prelude.{◌≡◌, ◌∷◌, [], IfOk, OnOk, map, drop, if◌then◌else◌};
 ghost use Rattle.vl_tree.specs.Item.{items};
-ghost use Rattle.vl_refusal.specs.Meanings.{faulty, is_undeclared, meaning_of};
-ghost use Rattle.vl_scope.specs.Seen.{innermost, with_name};
-ghost use Rattle.vl_stand.specs.Hidden as spec;
+ghost use Rattle.vl_elab_spec.specs.Meanings.{faulty, is_undeclared, meaning_of};
+ghost use Rattle.vl_elab_scope.specs.Seen.{innermost, with_name};
+ghost use Rattle.vl_elab_decls.specs.Hidden as spec;
 
 use fv_base::{Memory, Text};
 use std::alloc::Global;
-use vl_scope::{Level, Meaning, Names};
+use vl_elab_scope::{Level, Meaning, Names};
 use vl_tree::{DeclaredName, Item, ItemKind};
 
 /// A name that is no constant of the block.
-#[tactic(auto, using(vl_scope::proofs::Levels::seen_declared))]
+#[tactic(auto, using(vl_elab_scope::proofs::Levels::seen_declared))]
 fn add_hidden(alloc: Global, text: &Text, values: &Level, level: &mut Level) -> Result<(), Memory>
     ensures { OnOk result (level.new ≡ (if is_undeclared (meaning_of values.now text.now)
         then with_name level.old text.now faulty else level.old)) }

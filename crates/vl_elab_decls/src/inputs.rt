@@ -1,10 +1,10 @@
 //! What the inputs of a module stand for.
 ghost use Rattle.std.specs.Prelude.{◌≡◌};
 ghost use Rattle.vl_mean.specs.Walk.{top_input};
-ghost use Rattle.vl_shape.specs.Inputs as spec;
+ghost use Rattle.vl_elab_decls.specs.Inputs as spec;
 
 use fv_base::Text;
-use name_set::NameSet;
+use vl_elab_names::NameSet;
 use vl_size::Class;
 
 /// How a module is used, as far as its inputs go.

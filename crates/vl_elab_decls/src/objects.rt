@@ -4,19 +4,19 @@ ghost use Rattle.vl_tree.specs.Item.{items};
 ghost use Rattle.vl_mean.specs.Declarations.{full_ports};
 ghost use Rattle.vl_mean.specs.Scopes.{Scope};
 ghost use Rattle.vl_mean.specs.Walk.{Use};
-ghost use Rattle.vl_refusal.specs.Meanings as meanings;
-ghost use Rattle.vl_refusal.specs.Meanings.{port_meanings, items_meanings};
-ghost use Rattle.vl_alike.specs.Alike.{Alike};
-ghost use Rattle.vl_shape.specs.Inputs.{AreInputs};
-ghost use Rattle.vl_shape.specs.Objects as spec;
-ghost use Rattle.vl_shape.specs.Shaped.{IsDeclared, AreShaped};
+ghost use Rattle.vl_elab_spec.specs.Meanings as meanings;
+ghost use Rattle.vl_elab_spec.specs.Meanings.{port_meanings, items_meanings};
+ghost use Rattle.vl_elab_scope.specs.Alike.{Alike};
+ghost use Rattle.vl_elab_decls.specs.Inputs.{AreInputs};
+ghost use Rattle.vl_elab_decls.specs.Objects as spec;
+ghost use Rattle.vl_elab_decls.specs.Shaped.{IsDeclared, AreShaped};
 
 use crate::inputs::Inputs;
-use crate::items::add_items;
-use crate::ports::add_ports;
+use crate::shape_items::add_items;
+use crate::shape_ports::add_ports;
 use fv_base::Memory;
 use std::alloc::Global;
-use vl_scope::{Level, Names};
+use vl_elab_scope::{Level, Names};
 use vl_tree::{Item, Port};
 
 fn all_objects(

@@ -5,27 +5,28 @@ ghost use Rattle.vl_mean.specs.Declarations.{declared, declared_ports, full_port
 ghost use Rattle.vl_mean.specs.Scopes.{Scope};
 ghost use Rattle.vl_mean.specs.Walk as walk;
 ghost use Rattle.vl_mean.specs.Walk.{Place, Use, block_place, port_names};
-ghost use Rattle.vl_refusal.specs.Meanings as meanings;
-ghost use Rattle.vl_refusal.specs.Meanings.{items_names, meanings_at, items_meanings, port_meanings};
-ghost use Rattle.vl_scope.specs.Seen.{innermost};
-ghost use Rattle.vl_alike.specs.Alike.{Alike};
-ghost use Rattle.vl_number.specs.Given.{value_given, IsGiven};
-ghost use Rattle.vl_number.specs.Numbers.{HaveNumbers};
-ghost use Rattle.name_set.specs.Known.{contains};
-ghost use Rattle.vl_param.specs.Among.{contents, constants_of};
-ghost use Rattle.vl_shape.specs.Inputs.{AreInputs};
-ghost use Rattle.vl_shape.specs.Shaped.{ArePlain, AreShaped, IsDeclared};
-ghost use Rattle.vl_stand.specs.Stands.{Stands};
+ghost use Rattle.vl_elab_spec.specs.Meanings as meanings;
+ghost use Rattle.vl_elab_spec.specs.Meanings.{items_names, meanings_at, items_meanings, port_meanings};
+ghost use Rattle.vl_elab_scope.specs.Seen.{innermost};
+ghost use Rattle.vl_elab_scope.specs.Alike.{Alike};
+ghost use Rattle.vl_elab_const.specs.Given.{value_given, IsGiven};
+ghost use Rattle.vl_elab_const.specs.Numbers.{HaveNumbers};
+ghost use Rattle.vl_elab_names.specs.Known.{contains};
+ghost use Rattle.vl_elab_params.specs.Among.{contents, constants_of};
+ghost use Rattle.vl_elab_decls.specs.Inputs.{AreInputs};
+ghost use Rattle.vl_elab_decls.specs.Shaped.{ArePlain, AreShaped, IsDeclared};
+ghost use Rattle.vl_elab_decls.specs.Stands.{Stands};
 
 use crate::clocks::clock_inputs;
 use crate::hidden::hide;
+use crate::inputs::Inputs;
+use crate::objects::objects_of_scope;
 use fv_base::{List, Memory};
-use name_set::NameSet;
 use std::alloc::Global;
-use vl_enter::enter_parameters;
-use vl_number::Given;
-use vl_scope::{Level, Names};
-use vl_shape::{Inputs, objects_of_scope};
+use vl_elab_const::Given;
+use vl_elab_names::NameSet;
+use vl_elab_params::enter_parameters;
+use vl_elab_scope::{Level, Names};
 use vl_tree::{HeaderParameter, Item, Module, Port};
 
 /// In place of the names that stand behind the parameters, which are innermost, what they mean.

@@ -2,14 +2,14 @@
 ghost use Rattle.std.specs.Prelude.{◌≡◌, Some, IfOk, OnOk};
 ghost use Rattle.vl_size.specs.Table as table;
 ghost use Rattle.vl_size.specs.Table.{IsShaped, IsPlain};
-ghost use Rattle.vl_scope.specs.Seen.{seen, with_name};
-ghost use Rattle.vl_refusal.specs.Meanings as meanings;
-ghost use Rattle.vl_shape.specs.Objects as spec;
+ghost use Rattle.vl_elab_scope.specs.Seen.{seen, with_name};
+ghost use Rattle.vl_elab_spec.specs.Meanings as meanings;
+ghost use Rattle.vl_elab_decls.specs.Objects as spec;
 
 use fv_base::{Memory, Text};
 use std::alloc::Global;
-use vl_enter::Extent;
-use vl_scope::{Level, Meaning, Object};
+use vl_elab_params::Extent;
+use vl_elab_scope::{Level, Meaning, Object};
 use vl_size::{Class, Decl};
 use vl_tree::{Direction, NetKind};
 

@@ -1,16 +1,16 @@
 //! Nets, variables and genvars that items declare.
 ghost use Rattle.std.specs.Prelude.{◌≡◌, IfOk, OnOk};
 ghost use Rattle.vl_tree.specs.Item.{items};
-ghost use Rattle.vl_refusal.specs.Meanings.{loop_variable};
-ghost use Rattle.vl_scope.specs.Seen.{with_name};
-ghost use Rattle.vl_shape.specs.Objects as spec;
+ghost use Rattle.vl_elab_spec.specs.Meanings.{loop_variable};
+ghost use Rattle.vl_elab_scope.specs.Seen.{with_name};
+ghost use Rattle.vl_elab_decls.specs.Objects as spec;
 
-use crate::forms::{Form, add_declared};
+use crate::shape_forms::{Form, add_declared};
 use crate::words::{class_of_attributes, class_of_kind, words_if_known};
 use fv_base::{Memory, Text};
 use std::alloc::Global;
-use vl_enter::{Extent, known_extent};
-use vl_scope::{Level, Meaning, Names};
+use vl_elab_params::{Extent, known_extent};
+use vl_elab_scope::{Level, Meaning, Names};
 use vl_size::Class;
 use vl_tree::{AttributeInstance, Declaration, DeclaredName, Item, ItemKind};
 

@@ -1,16 +1,16 @@
 //! Ports of a module.
 ghost use Rattle.std.specs.Prelude.{◌≡◌, None, IfOk, OnOk, IfSome};
 ghost use Rattle.vl_mean.specs.Declarations as declarations;
-ghost use Rattle.vl_refusal.specs.Meanings as meanings;
-ghost use Rattle.vl_shape.specs.Objects as spec;
+ghost use Rattle.vl_elab_spec.specs.Meanings as meanings;
+ghost use Rattle.vl_elab_decls.specs.Objects as spec;
 
-use crate::forms::{Form, PortForm, add_declared};
 use crate::inputs::Inputs;
+use crate::shape_forms::{Form, PortForm, add_declared};
 use crate::words::class_of_kind;
 use fv_base::{Memory, Text};
 use std::alloc::Global;
-use vl_enter::known_extent;
-use vl_scope::{Level, Names};
+use vl_elab_params::known_extent;
+use vl_elab_scope::{Level, Names};
 use vl_size::Class;
 use vl_tree::{Direction, FullPort, NetKind, Port, PortKind};
 

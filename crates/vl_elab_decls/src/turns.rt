@@ -2,9 +2,9 @@
 ghost use Rattle.std.specs.Prelude.{◌∷◌, [], true, ℕ, List, Bool};
 ghost use Rattle.vl_mean.specs.declared.const_number.Const.{Const};
 ghost use Rattle.vl_mean.specs.Walk.{Place, turn_place};
-ghost use Rattle.vl_refusal.specs.Meanings as meanings;
-ghost use Rattle.vl_refusal.specs.Meanings.{constant, meanings_at};
-ghost use Rattle.vl_stand.specs.Stands.{Stands};
+ghost use Rattle.vl_elab_spec.specs.Meanings as meanings;
+ghost use Rattle.vl_elab_spec.specs.Meanings.{constant, meanings_at};
+ghost use Rattle.vl_elab_decls.specs.Stands.{Stands};
 
 /// In a turn the loop's variable is a constant, innermost in both.
 pub fn turns_stand()

@@ -2,13 +2,13 @@
 ghost use Rattle.std.specs.Prelude.{◌≡◌, ◌∷◌, [], IfOk};
 ghost use Rattle.fv_bits.specs.Bits.{as_int};
 ghost use Rattle.vl_mean.specs.Declarations as declarations;
-ghost use Rattle.vl_refusal.specs.Meanings as meanings;
-ghost use Rattle.vl_shape.specs.Objects as spec;
+ghost use Rattle.vl_elab_spec.specs.Meanings as meanings;
+ghost use Rattle.vl_elab_decls.specs.Objects as spec;
 
 use fv_base::Memory;
 use std::alloc::Global;
+use vl_elab_scope::{Names, value_of};
 use vl_mean::widths::bound;
-use vl_scope::{Names, value_of};
 use vl_size::{Class, Own};
 use vl_tree::{Attribute, AttributeInstance, DeclaredName, Expr, NetKind, Range};
 

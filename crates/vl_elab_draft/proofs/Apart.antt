@@ -5,7 +5,7 @@ use Rattle.std.proofs.Common.{ap, sym, ◌∙◌, true≢false}
 use Rattle.std.proofs.lemmas.List.Elements.{All-push, All-weaker}
 use Rattle.vl_size.specs.declared.decl.Decl.{Decl}
 use Rattle.vl_size.specs.Table.{IsNoWordIn, HasNoWord, AreApart}
-use Rattle.vl_draft.specs.Ends.{ends_plain, EndsPlain}
+use Rattle.vl_elab_draft.specs.Ends.{ends_plain, EndsPlain}
 
 bracketed : (text : List ℕ) → ends_plain (text ++ codes "]") ≡ false
 bracketed [] = refl

@@ -10,10 +10,10 @@ use Rattle.vl_mean.specs.FlatParts.{driver_part, start_part, flat_parts}
 use Rattle.vl_mean.specs.Parts.{Part, declares, equation, combinational, clocked, starts, design}
 use Rattle.vl_mean.specs.Runs.{Each}
 use Rattle.vl_mean.specs.Scopes.{Scope}
-use Rattle.vl_same.specs.Flattened.{decls_of, flat_part, flat_decls, flat_drivers, flat_starts, flattened, Known}
-use Rattle.vl_same.specs.SameMaps.{AreSameMaps}
-use Rattle.vl_same.proofs.Design.{same_maps as flattened_maps}
-use Rattle.vl_draft.specs.Drawn.{drivers_of, starts_of, IsDrawn}
+use Rattle.vl_mean_flat.specs.Flattened.{decls_of, flat_part, flat_decls, flat_drivers, flat_starts, flattened, Known}
+use Rattle.vl_mean_flat.specs.SameMaps.{AreSameMaps}
+use Rattle.vl_mean_flat.proofs.Design.{same_maps as flattened_maps}
+use Rattle.vl_elab_draft.specs.Drawn.{drivers_of, starts_of, IsDrawn}
 
 module _ (fs : List Scope) where
   same_decls : (ps : List Part) → map (λ d. declares d) (decls_of ps) ≡ flat_decls fs ps

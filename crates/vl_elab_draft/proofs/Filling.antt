@@ -6,8 +6,8 @@ use Rattle.vl_tree.specs.declared.expr.Select.{Select}
 use Rattle.vl_tree.specs.Expr.{Expr, Selects, exprs}
 use Rattle.vl_tree.specs.ExprView.{selects, with_select}
 use Rattle.vl_mean.specs.Cells.{contains_name}
-use Rattle.vl_scope.specs.Texts.{texts, exprs_texts, selects_texts, or_else, AgreeOn}
-use Rattle.vl_flat.specs.Filled.{filled}
+use Rattle.vl_elab_scope.specs.Texts.{texts, exprs_texts, selects_texts, or_else, AgreeOn}
+use Rattle.vl_elab_draft.specs.Filled.{filled}
 
 module _ {A : Type 0} (f : List ℕ → Option A) where
   -- one list of names behind the other

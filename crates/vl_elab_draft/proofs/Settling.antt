@@ -26,10 +26,10 @@ use Rattle.vl_tree.specs.Expr.{
 use Rattle.vl_mean.specs.declared.const_number.Const.{Const}
 use Rattle.vl_mean.specs.Constants.{settled, settled_exprs, settled_selects, named_constant, number_of}
 use Rattle.vl_mean.specs.Scopes.{Scope, constant_in, full}
-use Rattle.vl_same.specs.FullNames.{renamed, flat_expr, flat_selects}
-use Rattle.vl_scope.specs.Texts.{texts, AgreeOn}
-use Rattle.vl_scope.proofs.Agree.{same_settled}
-use Rattle.vl_scope.proofs.Meant.{name_stays}
+use Rattle.vl_mean_flat.specs.FullNames.{renamed, flat_expr, flat_selects}
+use Rattle.vl_elab_scope.specs.Texts.{texts, AgreeOn}
+use Rattle.vl_elab_scope.proofs.Agree.{same_settled}
+use Rattle.vl_elab_scope.proofs.Meant.{name_stays}
 
 -- over no constants, nothing in an expression is replaced
 module _ (c : List ℕ → Option Const) (empty : (text : List ℕ) → c text ≡ None) where

@@ -6,8 +6,8 @@ use Rattle.std.specs.Map.{lookup}
 use Rattle.std.proofs.Common.{ap, sym, ◌∙◌, arith}
 use Rattle.vl_mean.specs.declared.const_number.Const.{Const}
 use Rattle.vl_mean.specs.Constants.{Constants, constant_of}
-use Rattle.vl_full.specs.declared.named.Named.{Named}
-use Rattle.vl_full.specs.Kept.{Entry, constants_of, constants_from, AreBehind}
+use Rattle.vl_elab_draft.specs.declared.named.Named.{Named}
+use Rattle.vl_elab_draft.specs.Kept.{Entry, constants_of, constants_from, AreBehind}
 
 pub lookup_constant : (text : List ℕ) (es : List Entry)
     → lookup (λ key. bytes_eq text key.items) es ≡ constant_of (constants_of es) text

@@ -6,8 +6,8 @@ use Rattle.vl_mean.specs.declared.driver.DriverKind.TheVariants as k
 use Rattle.vl_mean.specs.declared.driver.Start.{Start}
 use Rattle.vl_mean.specs.declared.flat.Flat.{Flat}
 use Rattle.vl_mean.specs.Parts.{Part, declares, equation, combinational, clocked, starts}
-use Rattle.vl_same.specs.FullNames.{flat_expr, flat_lval, flat_stmt}
-use Rattle.vl_same.specs.Flattened.{decls_of, start_value}
+use Rattle.vl_mean_flat.specs.FullNames.{flat_expr, flat_lval, flat_stmt}
+use Rattle.vl_mean_flat.specs.Flattened.{decls_of, start_value}
 
 abbrev pub drivers_of : List Part → List DriverKind
 drivers_of [] = []

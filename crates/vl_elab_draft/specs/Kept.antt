@@ -5,7 +5,7 @@ use Rattle.vl_size.specs.declared.decl.Decl.{Decl}
 use Rattle.vl_mean.specs.declared.const_number.Const.{Const}
 use Rattle.vl_mean.specs.Constants.{Constants}
 use Rattle.vl_mean.specs.Scopes.{Scope}
-use Rattle.vl_full.specs.declared.named.Named.{Named}
+use Rattle.vl_elab_draft.specs.declared.named.Named.{Named}
 
 abbrev pub Entry : Type 0
 Entry = Vec ℕ Global × Const

@@ -2,8 +2,8 @@
 ghost use Rattle.std.specs.Prelude.{◌≡◌, ◌++◌, ◌∷◌, [], false, OnOk, OnErr};
 ghost use Rattle.vl_size.specs.Table.{is_declared, IsShaped};
 ghost use Rattle.vl_mean.specs.FlatLaw.{IsLawful};
-ghost use Rattle.vl_draft.specs.Ends.{EndsPlain};
-ghost use Rattle.vl_draft.specs.Written as spec;
+ghost use Rattle.vl_elab_draft.specs.Ends.{EndsPlain};
+ghost use Rattle.vl_elab_draft.specs.Written as spec;
 
 use fv_base::{List, Memory};
 use std::alloc::Global;
@@ -22,8 +22,8 @@ pub struct Draft {
 
 impl Model for Draft {
     ghost use Rattle.std.specs.Prelude.{All};
-    ghost use Rattle.vl_draft.specs.Ends.{EndsPlain};
-    ghost use Rattle.vl_draft.specs.Written as spec;
+    ghost use Rattle.vl_elab_draft.specs.Ends.{EndsPlain};
+    ghost use Rattle.vl_elab_draft.specs.Written as spec;
 
     ghost Value = { spec.Written };
 

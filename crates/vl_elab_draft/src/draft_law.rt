@@ -6,9 +6,9 @@ ghost use Rattle.vl_mean.specs.declared.flat.Flat.{Flat};
 ghost use Rattle.vl_mean.specs.FlatParts.{flat_parts};
 ghost use Rattle.vl_mean.specs.Parts.{design};
 ghost use Rattle.vl_mean.specs.Runs.{Each};
-ghost use Rattle.vl_same.specs.Flattened.{decls_of, Known};
-ghost use Rattle.vl_same.specs.SameMaps.{AreSameMaps};
-ghost use Rattle.vl_draft.specs.Drawn.{IsDrawn};
+ghost use Rattle.vl_mean_flat.specs.Flattened.{decls_of, Known};
+ghost use Rattle.vl_mean_flat.specs.SameMaps.{AreSameMaps};
+ghost use Rattle.vl_elab_draft.specs.Drawn.{IsDrawn};
 
 /// A design without hierarchy whose declarations, drivers and values at first are those of a design's parts, each in
 /// order, has the maps of that design: where the full names of the design differ, and each name in it is a constant or

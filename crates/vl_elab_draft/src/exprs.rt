@@ -5,15 +5,15 @@ ghost use Rattle.vl_tree.specs.ExprView.{selects, with_select};
 ghost use Rattle.vl_tree.specs.Expr as tree;
 ghost use Rattle.vl_mean.specs.Constants as const_spec;
 ghost use Rattle.vl_mean.specs.Scopes.{constant_in, full};
-ghost use Rattle.vl_same.specs.FullNames as spec;
+ghost use Rattle.vl_mean_flat.specs.FullNames as spec;
 
-use crate::constants::params_of;
+use crate::flat_constants::params_of;
 use crate::names::renamed;
+use crate::scopes::Scopes;
 use fv_base::{List, Memory, Pos, Text};
 use std::alloc::Global;
-use vl_full::Scopes;
+use vl_elab_scope::number_of;
 use vl_mean::{Const, settled};
-use vl_scope::number_of;
 use vl_tree::{Expr, ExprKind, Select};
 
 /// Whether the name means a constant.

@@ -5,12 +5,12 @@ ghost use Rattle.vl_tree.specs.ExprView.{selects, with_select};
 ghost use Rattle.vl_tree.specs.Expr as tree;
 ghost use Rattle.vl_mean.specs.Params.{constant};
 ghost use Rattle.vl_mean.specs.Scopes.{constant_in};
-ghost use Rattle.vl_scope.specs.Texts.{texts, exprs_texts, selects_texts, AgreeOn};
-ghost use Rattle.vl_flat.specs.Filled.{filled};
+ghost use Rattle.vl_elab_scope.specs.Texts.{texts, exprs_texts, selects_texts, AgreeOn};
+ghost use Rattle.vl_elab_draft.specs.Filled.{filled};
 
+use crate::scopes::Scopes;
 use fv_base::{Memory, Text};
 use std::alloc::Global;
-use vl_full::Scopes;
 use vl_mean::Params;
 use vl_tree::{Expr, ExprKind, Select};
 

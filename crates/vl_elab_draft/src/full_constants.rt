@@ -3,7 +3,7 @@ ghost use Rattle.std.specs.Prelude.{◌≡◌, ◌++◌, ◌∷◌, [], None, On
 ghost use Rattle.std.specs.Option.{option_copied};
 ghost use Rattle.std.specs.Map.{lookup};
 ghost use Rattle.vl_mean.specs.Constants.{constant_of};
-ghost use Rattle.vl_full.specs.Kept as spec;
+ghost use Rattle.vl_elab_draft.specs.Kept as spec;
 
 use crate::named::Named;
 use fv_base::{Memory, Text};
@@ -22,7 +22,7 @@ pub(crate) struct ConstantTable {
 
 impl Model for ConstantTable {
     ghost use Rattle.vl_mean.specs.Constants as constants;
-    ghost use Rattle.vl_full.specs.Kept.{constants_from, AreBehind};
+    ghost use Rattle.vl_elab_draft.specs.Kept.{constants_from, AreBehind};
 
     ghost Value = { constants.Constants };
 

@@ -4,11 +4,11 @@ ghost use Rattle.vl_tree.specs.Expr.{exprs};
 ghost use Rattle.vl_tree.specs.ExprView.{selects, with_select};
 ghost use Rattle.vl_tree.specs.Expr as tree;
 ghost use Rattle.vl_mean.specs.Scopes.{full};
-ghost use Rattle.vl_same.specs.FullNames as spec;
+ghost use Rattle.vl_mean_flat.specs.FullNames as spec;
 
+use crate::scopes::Scopes;
 use fv_base::{List, Memory};
 use std::alloc::Global;
-use vl_full::Scopes;
 use vl_tree::{Expr, ExprKind, Select};
 
 /// The expression with each name in full.

@@ -3,9 +3,9 @@ ghost use Rattle.std.specs.Prelude.{◌≡◌, false, None, OnOk, OnErr};
 ghost use Rattle.std.specs.Option.{option_copied};
 ghost use Rattle.vl_size.specs.Table.{declared_as, is_declared, IsPlain, IsShaped};
 ghost use Rattle.vl_mean.specs.Constants.{constant_of};
-ghost use Rattle.vl_full.specs.Kept as spec;
+ghost use Rattle.vl_elab_draft.specs.Kept as spec;
 
-use crate::constants::ConstantTable;
+use crate::full_constants::ConstantTable;
 use fv_base::{Memory, Text};
 use std::alloc::Global;
 use std::marker::Model;

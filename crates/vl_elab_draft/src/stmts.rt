@@ -3,14 +3,14 @@ ghost use Rattle.std.specs.Prelude.{◌≡◌, IfOk};
 ghost use Rattle.vl_tree.specs.Stmt.{stmts};
 ghost use Rattle.vl_tree.specs.StmtView.{arms, with_arm};
 ghost use Rattle.vl_tree.specs.Stmt as tree;
-ghost use Rattle.vl_same.specs.FullNames as spec;
+ghost use Rattle.vl_mean_flat.specs.FullNames as spec;
 
 use crate::attributes::{copied_attributes, copied_label};
 use crate::exprs::{flat_expr, flat_exprs};
+use crate::scopes::Scopes;
 use crate::targets::flat_lval;
 use fv_base::{List, Memory};
 use std::alloc::Global;
-use vl_full::Scopes;
 use vl_tree::{Arm, Stmt, StmtKind};
 
 /// The statement with each name in full, and with the number of each constant in its place (IEEE 1364-2005, sections

@@ -1,12 +1,12 @@
 //! Targets with full names, and with numbers in place of constants.
 ghost use Rattle.std.specs.Prelude.{◌≡◌, IfOk};
 ghost use Rattle.vl_tree.specs.Lval.{lvals};
-ghost use Rattle.vl_same.specs.FullNames as spec;
+ghost use Rattle.vl_mean_flat.specs.FullNames as spec;
 
 use crate::exprs::flat_selects;
+use crate::scopes::Scopes;
 use fv_base::{List, Memory};
 use std::alloc::Global;
-use vl_full::Scopes;
 use vl_tree::{Lval, LvalKind};
 
 /// The target with each name in full, and with the number of each constant in its selects (IEEE 1364-2005, sections

@@ -1,14 +1,16 @@
 //! Drivers as they stand in a design without hierarchy, written behind those before them.
 ghost use Rattle.std.specs.Prelude.{◌≡◌, OnOk, OnErr};
 ghost use Rattle.vl_mean.specs.declared.driver.DriverKind.TheVariants as k;
-ghost use Rattle.vl_same.specs.FullNames as full;
-ghost use Rattle.vl_draft.specs.Written as spec;
+ghost use Rattle.vl_mean_flat.specs.FullNames as full;
+ghost use Rattle.vl_elab_draft.specs.Written as spec;
 
 use crate::draft::Draft;
+use crate::exprs::flat_expr;
+use crate::scopes::Scopes;
+use crate::stmts::flat_stmt;
+use crate::targets::flat_lval;
 use fv_base::{Memory, Pos};
 use std::alloc::Global;
-use vl_flat::{flat_expr, flat_lval, flat_stmt};
-use vl_full::Scopes;
 use vl_mean::{Driver, DriverKind};
 use vl_tree::{Expr, Lval, Stmt};
 

@@ -11,8 +11,8 @@ use Rattle.vl_size.specs.declared.own.Own.{Own}
 use Rattle.vl_size.specs.Sign.{sign}
 use Rattle.vl_size.specs.Size.{◌>>=◌, is_constant, are_constant, no_names, operand, operand_of, index_of, size, sizes}
 use Rattle.vl_size.specs.Size.{some_bits, times, part_size, value, vector_size}
-use Rattle.vl_sized.proofs.Tests.{bind_some}
-use Rattle.vl_start.specs.Starts.{IsIndex}
+use Rattle.vl_elab_accepted_laws.proofs.Tests.{bind_some}
+use Rattle.vl_elab_emit.specs.Starts.{IsIndex}
 
 -- ---- where there is a size
 

@@ -17,27 +17,27 @@ use Rattle.vl_size.proofs.Rest.{within_far, within_near}
 use Rattle.vl_mean.specs.ConstantFaults.{capped}
 use Rattle.vl_mean.specs.Constants.{settled_selects}
 use Rattle.vl_mean.specs.Scopes.{Scope, declared_in, full, unless_constant}
-use Rattle.vl_same.specs.FullNames.{flat_selects, renamed_selects}
-use Rattle.vl_names.proofs.Fresh.{NoneOf, none-back, none-front}
-use Rattle.vl_refusal.specs.Expressions.{divided_by_zero, expr_refusals, is_constant_name, name_width, object_selects}
-use Rattle.vl_refusal.specs.Expressions.{refusals, select_refusals, too_wide}
-use Rattle.vl_refusal.specs.Meanings.{Meaning, undeclared, constant, loop_variable, object, faulty, shapeless, later}
-use Rattle.vl_refusal.specs.Meanings.{Names, constants, meaning_in, objects, value_of}
-use Rattle.vl_refusal.specs.Statements.{assigned_in, assigned_refusals, assignment_refusals, target_refusals}
-use Rattle.vl_refusal.specs.Statements.{target_selects, target_width, targets_refusals, targets_width}
-use Rattle.vl_scope.specs.Seen.{AllNamed}
-use Rattle.vl_scope.specs.Texts.{selects_texts, texts, AgreeOn}
-use Rattle.vl_scope.proofs.Agree.{same_size}
-use Rattle.vl_sized.specs.Sized.{AreSound}
-use Rattle.vl_sized.proofs.Fixed.{agree_on_none, fixed_vector}
-use Rattle.vl_sized.proofs.Parts.{selected}
-use Rattle.vl_sized.proofs.Sizes.{read, vector, word}
-use Rattle.vl_sized.proofs.Tests.{few_uncapped, narrow, undivided}
-use Rattle.vl_known.specs.Means.{AreMeant, MeansIn}
-use Rattle.vl_known.proofs.Agreeing.{known_is, refused_name, selects_are, sound}
-use Rattle.vl_meant.specs.Right.{AreRight}
-use Rattle.vl_start.specs.Starts.{IsStart, few_bits, selected_bits, sum, target_bits, targets_bits}
-use Rattle.vl_start.proofs.Started.{no_left, no_right, renamed_selects_none}
+use Rattle.vl_mean_flat.specs.FullNames.{flat_selects, renamed_selects}
+use Rattle.vl_elab_accepted_laws.proofs.Fresh.{NoneOf, none-back, none-front}
+use Rattle.vl_elab_spec.specs.Expressions.{divided_by_zero, expr_refusals, is_constant_name, name_width, object_selects}
+use Rattle.vl_elab_spec.specs.Expressions.{refusals, select_refusals, too_wide}
+use Rattle.vl_elab_spec.specs.Meanings.{Meaning, undeclared, constant, loop_variable, object, faulty, shapeless, later}
+use Rattle.vl_elab_spec.specs.Meanings.{Names, constants, meaning_in, objects, value_of}
+use Rattle.vl_elab_spec.specs.Statements.{assigned_in, assigned_refusals, assignment_refusals, target_refusals}
+use Rattle.vl_elab_spec.specs.Statements.{target_selects, target_width, targets_refusals, targets_width}
+use Rattle.vl_elab_scope.specs.Seen.{AllNamed}
+use Rattle.vl_elab_scope.specs.Texts.{selects_texts, texts, AgreeOn}
+use Rattle.vl_elab_scope.proofs.Agree.{same_size}
+use Rattle.vl_elab_accepted_laws.specs.Sized.{AreSound}
+use Rattle.vl_elab_accepted_laws.proofs.Fixed.{agree_on_none, fixed_vector}
+use Rattle.vl_elab_accepted_laws.proofs.Parts.{selected}
+use Rattle.vl_elab_accepted_laws.proofs.Sizes.{read, vector, word}
+use Rattle.vl_elab_accepted_laws.proofs.Tests.{few_uncapped, narrow, undivided}
+use Rattle.vl_elab_accepted_laws.specs.Means.{AreMeant, MeansIn}
+use Rattle.vl_elab_accepted_laws.proofs.Agreeing.{known_is, refused_name, selects_are, sound}
+use Rattle.vl_elab_accepted_laws.specs.Right.{AreRight}
+use Rattle.vl_elab_emit.specs.Starts.{IsStart, few_bits, selected_bits, sum, target_bits, targets_bits}
+use Rattle.vl_elab_emit.proofs.Started.{no_left, no_right, renamed_selects_none}
 
 -- ---- sums of bits
 

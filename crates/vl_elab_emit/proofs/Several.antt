@@ -10,8 +10,8 @@ use Rattle.vl_tree.specs.ExprView.{selects, with_select}
 use Rattle.vl_size.specs.declared.decl.Decl.{Decl}
 use Rattle.vl_size.specs.Size.{vector_size, word_size}
 use Rattle.vl_mean.specs.Scopes.{Scope}
-use Rattle.vl_same.specs.FullNames.{flat_expr, flat_selects}
-use Rattle.vl_start.specs.Starts.{selected_bits}
+use Rattle.vl_mean_flat.specs.FullNames.{flat_expr, flat_selects}
+use Rattle.vl_elab_emit.specs.Starts.{selected_bits}
 
 pub several : (ss : List Scope) (d : Decl) (xs : List Select) → 2 ≤ length xs
     → None ≡ vector_size [] d (flat_selects ss (selects xs))

@@ -12,12 +12,12 @@ use Rattle.vl_mean.specs.declared.driver.DriverKind.{DriverKind}
 use Rattle.vl_mean.specs.declared.driver.DriverKind.TheVariants as k
 use Rattle.vl_mean.specs.Parts.{Part, declares, equation, combinational, clocked, starts}
 use Rattle.vl_mean.specs.Scopes.{Scope}
-use Rattle.vl_same.specs.Flattened.{decls_of, start_value}
-use Rattle.vl_same.specs.FullNames.{flat_expr, flat_lval, flat_stmt}
-use Rattle.vl_placed.specs.DriverPlaces.{all_at, places_of}
-use Rattle.vl_draft.specs.Drawn.{drivers_of, starts_of}
-use Rattle.vl_draft.specs.Written.{Written, with_decl, with_kind, with_start}
-use Rattle.vl_write.specs.Behind.{StandBehind, kinds_of, placed_at, unplaced}
+use Rattle.vl_mean_flat.specs.Flattened.{decls_of, start_value}
+use Rattle.vl_mean_flat.specs.FullNames.{flat_expr, flat_lval, flat_stmt}
+use Rattle.vl_mean_flat.specs.DriverPlaces.{all_at, places_of}
+use Rattle.vl_elab_draft.specs.Drawn.{drivers_of, starts_of}
+use Rattle.vl_elab_draft.specs.Written.{Written, with_decl, with_kind, with_start}
+use Rattle.vl_elab_emit.specs.Behind.{StandBehind, kinds_of, placed_at, unplaced}
 
 one_declared : (w : Written) (d : Decl) → StandBehind w (unplaced (declares d ∷ [])) (with_decl w d)
 one_declared w d = record {

@@ -9,17 +9,17 @@ use Rattle.vl_mean.specs.declared.driver.DriverKind.TheVariants as k
 use Rattle.vl_mean.specs.declared.driver.Start.{Start}
 use Rattle.vl_mean.specs.Parts.{Part, declares, equation, combinational, clocked, starts}
 use Rattle.vl_mean.specs.Runs.{Each}
-use Rattle.vl_same.specs.Flattened.{decls_of, start_value}
-use Rattle.vl_same.specs.FullNames.{flat_expr, flat_lval, flat_stmt}
-use Rattle.vl_same.proofs.EachOf.{front, back}
-use Rattle.vl_same.proofs.LaidScopes.{decls_append}
-use Rattle.vl_names.proofs.Contained.{or_first, or_second}
-use Rattle.vl_placed.specs.DriverPlaces.{places_of}
-use Rattle.vl_draft.specs.Drawn.{drivers_of, starts_of}
-use Rattle.vl_draft.specs.Ends.{EndsPlain}
-use Rattle.vl_draft.specs.Written.{Written}
-use Rattle.vl_start.specs.Begins.{Begins}
-use Rattle.vl_write.specs.Behind.{MayStandBehind, Placed, StandBehind, followed_by, kinds_of, unplaced}
+use Rattle.vl_mean_flat.specs.Flattened.{decls_of, start_value}
+use Rattle.vl_mean_flat.specs.FullNames.{flat_expr, flat_lval, flat_stmt}
+use Rattle.vl_mean_flat.proofs.EachOf.{front, back}
+use Rattle.vl_mean_flat.proofs.LaidScopes.{decls_append}
+use Rattle.vl_elab_accepted_laws.proofs.Contained.{or_first, or_second}
+use Rattle.vl_mean_flat.specs.DriverPlaces.{places_of}
+use Rattle.vl_elab_draft.specs.Drawn.{drivers_of, starts_of}
+use Rattle.vl_elab_draft.specs.Ends.{EndsPlain}
+use Rattle.vl_elab_draft.specs.Written.{Written}
+use Rattle.vl_elab_emit.specs.Begins.{Begins}
+use Rattle.vl_elab_emit.specs.Behind.{MayStandBehind, Placed, StandBehind, followed_by, kinds_of, unplaced}
 
 drivers_append : (ps qs : List Part) → drivers_of (ps ++ qs) ≡ drivers_of ps ++ drivers_of qs
 drivers_append [] qs = refl

@@ -33,15 +33,15 @@ use Rattle.vl_mean.specs.declared.const_number.Const.{Const}
 use Rattle.vl_mean.specs.Constants.{cut_to, settled}
 use Rattle.vl_mean.specs.Scopes.{Scope, constant_in, declared_in, full, no_values, operand_in, visible}
 use Rattle.vl_mean.specs.Targets.{Spot, all_spots, spots, spots_from, spots_of, vector_spots, word_spots}
-use Rattle.vl_scope.specs.Texts.{texts, exprs_texts, selects_texts, AgreeOn}
-use Rattle.vl_scope.proofs.Agree.{same_sign, same_size, same_value}
-use Rattle.vl_sized.proofs.Fixed.{agree_on_none, no_texts}
-use Rattle.vl_sized.proofs.Tests.{bind_some, if_some, some_same}
-use Rattle.vl_same.specs.Flattened.{start_value}
-use Rattle.vl_same.specs.FullNames.{flat_expr, flat_selects, renamed, renamed_exprs, renamed_selects}
-use Rattle.vl_same.proofs.SameExpr.{same_constant}
-use Rattle.vl_start.specs.Starts.{IsStart, few_bits, selected_bits, target_bits, targets_bits}
-use Rattle.vl_start.proofs.Indices.{constant_sized}
+use Rattle.vl_elab_scope.specs.Texts.{texts, exprs_texts, selects_texts, AgreeOn}
+use Rattle.vl_elab_scope.proofs.Agree.{same_sign, same_size, same_value}
+use Rattle.vl_elab_accepted_laws.proofs.Fixed.{agree_on_none, no_texts}
+use Rattle.vl_elab_accepted_laws.proofs.Tests.{bind_some, if_some, some_same}
+use Rattle.vl_mean_flat.specs.Flattened.{start_value}
+use Rattle.vl_mean_flat.specs.FullNames.{flat_expr, flat_selects, renamed, renamed_exprs, renamed_selects}
+use Rattle.vl_mean_flat.proofs.SameExpr.{same_constant}
+use Rattle.vl_elab_emit.specs.Starts.{IsStart, few_bits, selected_bits, target_bits, targets_bits}
+use Rattle.vl_elab_emit.proofs.Indices.{constant_sized}
 
 -- ---- where no name stands, none is renamed
 

@@ -18,14 +18,14 @@ use Rattle.vl_size.specs.Table.{IsShaped, is_declared}
 use Rattle.vl_mean.specs.declared.driver.DriverKind.TheVariants as k
 use Rattle.vl_mean.specs.Parts.{block_part, declares_all, optional_value, plain_target, value_part}
 use Rattle.vl_mean.specs.Scopes.{Scope, is_clock}
-use Rattle.vl_same.specs.Flattened.{start_value}
-use Rattle.vl_same.specs.FullNames.{flat_expr, flat_lval, flat_stmt}
-use Rattle.vl_draft.specs.Ends.{EndsPlain}
-use Rattle.vl_draft.specs.Written.{Written, with_decl, with_kind, with_start}
-use Rattle.vl_start.specs.Starts.{IsStart}
-use Rattle.vl_write.specs.Behind.{MayStandBehind, StandBehind, placed_at, unplaced}
-use Rattle.vl_write.proofs.Standing.{fresh, nothing_more}
-use Rattle.vl_write.proofs.Single.{
+use Rattle.vl_mean_flat.specs.Flattened.{start_value}
+use Rattle.vl_mean_flat.specs.FullNames.{flat_expr, flat_lval, flat_stmt}
+use Rattle.vl_elab_draft.specs.Ends.{EndsPlain}
+use Rattle.vl_elab_draft.specs.Written.{Written, with_decl, with_kind, with_start}
+use Rattle.vl_elab_emit.specs.Starts.{IsStart}
+use Rattle.vl_elab_emit.specs.Behind.{MayStandBehind, StandBehind, placed_at, unplaced}
+use Rattle.vl_elab_emit.proofs.Standing.{fresh, nothing_more}
+use Rattle.vl_elab_emit.proofs.Single.{
   declared_behind,
   equation_behind,
   combinational_behind,

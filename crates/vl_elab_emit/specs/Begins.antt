@@ -1,6 +1,6 @@
 -- Parts whose values at first may be written. Rule of this project.
 use Rattle.vl_mean.specs.Parts.{Part, declares, equation, combinational, clocked, starts}
-use Rattle.vl_start.specs.Starts.{IsStart}
+use Rattle.vl_elab_emit.specs.Starts.{IsStart}
 
 abbrev pub Begins : Part → Type 0
 Begins (declares d) = Unit {0}

@@ -8,12 +8,12 @@ use Rattle.vl_mean.specs.declared.driver.DriverKind.{DriverKind}
 use Rattle.vl_mean.specs.Parts.{Part, parts_of_steps}
 use Rattle.vl_mean.specs.Runs.{Each}
 use Rattle.vl_mean.specs.Walk.{Step, walk}
-use Rattle.vl_same.specs.Flattened.{decls_of}
-use Rattle.vl_placed.specs.DriverPlaces.{all_at, places_of, places_of_steps}
-use Rattle.vl_draft.specs.Drawn.{drivers_of, starts_of}
-use Rattle.vl_draft.specs.Ends.{EndsPlain}
-use Rattle.vl_draft.specs.Written.{Written}
-use Rattle.vl_start.specs.Begins.{Begins}
+use Rattle.vl_mean_flat.specs.Flattened.{decls_of}
+use Rattle.vl_mean_flat.specs.DriverPlaces.{all_at, places_of, places_of_steps}
+use Rattle.vl_elab_draft.specs.Drawn.{drivers_of, starts_of}
+use Rattle.vl_elab_draft.specs.Ends.{EndsPlain}
+use Rattle.vl_elab_draft.specs.Written.{Written}
+use Rattle.vl_elab_emit.specs.Begins.{Begins}
 
 -- full names differ and are none of a memory's word, shapes are in range, and what begins with a value may be written
 pub record MayStandBehind (w : Written) (ps : List Part) : Type 0 where

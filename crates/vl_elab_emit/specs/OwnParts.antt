@@ -10,8 +10,8 @@ use Rattle.vl_tree.specs.Item.{Item, declaration, integer, assign, always, initi
 use Rattle.vl_size.specs.declared.decl.Decl.{Decl}
 use Rattle.vl_mean.specs.Parts.{Part, assignments, block_part, connection_part, declares_all, initial_parts, values_of}
 use Rattle.vl_mean.specs.Scopes.{Scope}
-use Rattle.vl_placed.specs.DriverPlaces.{item_places, value_places}
-use Rattle.vl_write.specs.Behind.{Placed}
+use Rattle.vl_mean_flat.specs.DriverPlaces.{item_places, value_places}
+use Rattle.vl_elab_emit.specs.Behind.{Placed}
 
 abbrev pub own_parts : List Scope → List ℕ → List Decl → Item → List Part
 own_parts ss path ds (declaration attrs p d) = declares_all path ds ++ values_of ss d.net d.names

@@ -9,7 +9,7 @@ use Rattle.vl_size.specs.declared.own.Own.{Own}
 use Rattle.vl_size.specs.Size.{◌>>=◌, index_of, is_constant, no_names, operand_of, size, vector_size, within, word_size}
 use Rattle.vl_mean.specs.Constants.{settled}
 use Rattle.vl_mean.specs.Scopes.{Scope, constant_in, declared_in}
-use Rattle.vl_same.specs.FullNames.{flat_selects}
+use Rattle.vl_mean_flat.specs.FullNames.{flat_selects}
 
 -- ---- constants
 

@@ -6,14 +6,13 @@ ghost use Rattle.vl_tree.specs.ExprView.{selects, with_select};
 ghost use Rattle.vl_tree.specs.Lval.{lvals};
 ghost use Rattle.vl_size.specs.declared.decl.Decl.{Decl};
 ghost use Rattle.vl_size.specs.Size as size_spec;
-ghost use Rattle.vl_same.specs.FullNames.{flat_expr, flat_selects};
-ghost use Rattle.vl_start.specs.Starts as spec;
+ghost use Rattle.vl_mean_flat.specs.FullNames.{flat_expr, flat_selects};
+ghost use Rattle.vl_elab_emit.specs.Starts as spec;
 
 use crate::constants::own;
 use fv_base::{Memory, Text};
 use std::alloc::Global;
-use vl_flat::flat_expr;
-use vl_full::Scopes;
+use vl_elab_draft::{Scopes, flat_expr};
 use vl_size::select::{part_size, plus, times};
 use vl_size::{Decl, Own};
 use vl_tree::{Expr, Lval, LvalKind, Select};

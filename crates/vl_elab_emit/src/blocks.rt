@@ -2,13 +2,12 @@
 ghost use Rattle.std.specs.Prelude.{◌≡◌, ◌∷◌, [], OnOk};
 ghost use Rattle.vl_tree.specs.Stmt.{stmts};
 ghost use Rattle.vl_mean.specs.Parts as parts;
-ghost use Rattle.vl_write.specs.Behind as spec;
+ghost use Rattle.vl_elab_emit.specs.Behind as spec;
 
+use crate::starting::write_start;
 use fv_base::{Memory, Pos};
 use std::alloc::Global;
-use vl_draft::{Draft, write_clocked, write_combinational, write_equation};
-use vl_full::Scopes;
-use vl_start::write_start;
+use vl_elab_draft::{Draft, Scopes, write_clocked, write_combinational, write_equation};
 use vl_tree::{Assignment, EventKind, Stmt, StmtKind};
 
 /// Writes continuous assignments, in order (IEEE 1364-2005, section 6.1.2). The place is that of their item.

@@ -4,7 +4,7 @@ ghost use Rattle.vl_size.specs.Sign as signs;
 ghost use Rattle.vl_size.specs.Size as spec;
 ghost use Rattle.vl_size.specs.Size.{no_names};
 ghost use Rattle.vl_mean.specs.Constants as constants;
-ghost use Rattle.vl_start.specs.Starts as starts;
+ghost use Rattle.vl_elab_emit.specs.Starts as starts;
 
 use fv_bits::low;
 use std::alloc::Global;

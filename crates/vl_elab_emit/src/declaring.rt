@@ -1,11 +1,11 @@
 //! Declarations under their full names.
 ghost use Rattle.std.specs.Prelude.{◌≡◌, ◌++◌, ◌∷◌, [], IfOk, OnOk};
 ghost use Rattle.vl_mean.specs.Parts.{declares_all};
-ghost use Rattle.vl_write.specs.Behind as spec;
+ghost use Rattle.vl_elab_emit.specs.Behind as spec;
 
 use fv_base::{Memory, Text};
 use std::alloc::Global;
-use vl_draft::Draft;
+use vl_elab_draft::Draft;
 use vl_size::Decl;
 
 /// Writes declarations under their full names, in order: the path of their scope stands before each name (IEEE

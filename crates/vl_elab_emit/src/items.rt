@@ -4,16 +4,15 @@ ghost use Rattle.vl_tree.specs.Item as item_spec;
 ghost use Rattle.vl_mean.specs.Declarations.{declared_by};
 ghost use Rattle.vl_mean.specs.Parts as parts;
 ghost use Rattle.vl_mean.specs.Walk.{Place};
-ghost use Rattle.vl_write.specs.Behind as spec;
-ghost use Rattle.vl_write.specs.OwnParts.{own_parts, own_placed, placed_values};
+ghost use Rattle.vl_elab_emit.specs.Behind as spec;
+ghost use Rattle.vl_elab_emit.specs.OwnParts.{own_parts, own_placed, placed_values};
 
 use crate::blocks::{write_assignments, write_block, write_initial};
 use crate::declaring::write_declarations;
 use crate::values::write_values;
 use fv_base::{Memory, Text};
 use std::alloc::Global;
-use vl_draft::Draft;
-use vl_full::Scopes;
+use vl_elab_draft::{Draft, Scopes};
 use vl_size::Decl;
 use vl_tree::{DeclaredName, Item, ItemKind, NetKind};
 

@@ -4,15 +4,14 @@ ghost use Rattle.std.specs.Option.{option_copied};
 ghost use Rattle.vl_tree.specs.declared.declaration.Direction.TheVariants as direction;
 ghost use Rattle.vl_mean.specs.Parts as parts;
 ghost use Rattle.vl_mean.specs.Scopes as scopes_spec;
-ghost use Rattle.vl_write.specs.Behind as spec;
-ghost use Rattle.vl_write.specs.OwnParts.{joined_part};
+ghost use Rattle.vl_elab_emit.specs.Behind as spec;
+ghost use Rattle.vl_elab_emit.specs.OwnParts.{joined_part};
 
 use crate::values::{plain_expr, plain_target};
 use fv_base::{Memory, Pos, Text};
 use std::alloc::Global;
-use vl_draft::{Draft, write_equation};
-use vl_full::Scopes;
-use vl_target::target_of;
+use vl_elab_check_stmt::target_of;
+use vl_elab_draft::{Draft, Scopes, write_equation};
 use vl_size::{Class, Decl};
 use vl_tree::{Direction, Expr, ExprKind};
 

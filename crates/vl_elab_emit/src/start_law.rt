@@ -5,11 +5,11 @@ ghost use Rattle.vl_tree.specs.ExprWellFormed as exprs;
 ghost use Rattle.vl_tree.specs.Lval.{Lval};
 ghost use Rattle.vl_tree.specs.LvalWellFormed as lvals;
 ghost use Rattle.vl_mean.specs.Scopes.{Scope};
-ghost use Rattle.vl_refusal.specs.Meanings.{Names};
-ghost use Rattle.vl_refusal.specs.Statements.{assignment_refusals};
-ghost use Rattle.vl_sized.specs.Sized.{AreSound};
-ghost use Rattle.vl_meant.specs.Right.{AreRight};
-ghost use Rattle.vl_start.specs.Starts.{IsStart};
+ghost use Rattle.vl_elab_spec.specs.Meanings.{Names};
+ghost use Rattle.vl_elab_spec.specs.Statements.{assignment_refusals};
+ghost use Rattle.vl_elab_accepted_laws.specs.Sized.{AreSound};
+ghost use Rattle.vl_elab_accepted_laws.specs.Right.{AreRight};
+ghost use Rattle.vl_elab_emit.specs.Starts.{IsStart};
 
 /// Where a value at first isn't refused, and names mean what they stand for, the target's indices and the value are
 /// constant.

@@ -1,18 +1,16 @@
 //! Values at first, written behind what is written before.
 ghost use Rattle.std.specs.Prelude.{◌≡◌, ◌≤◌, IfOk, IfSome, OnOk, OnErr};
 ghost use Rattle.vl_size.specs.Size as size_spec;
-ghost use Rattle.vl_same.specs.FullNames.{flat_lval};
-ghost use Rattle.vl_same.specs.Flattened as flattened;
-ghost use Rattle.vl_draft.specs.Written as written;
-ghost use Rattle.vl_start.specs.Starts as spec;
+ghost use Rattle.vl_mean_flat.specs.FullNames.{flat_lval};
+ghost use Rattle.vl_mean_flat.specs.Flattened as flattened;
+ghost use Rattle.vl_elab_draft.specs.Written as written;
+ghost use Rattle.vl_elab_emit.specs.Starts as spec;
 
 use crate::bits::target_bits;
 use crate::constants::{cut_to, number_at, sign, size};
 use fv_base::Memory;
 use std::alloc::Global;
-use vl_draft::Draft;
-use vl_flat::{flat_expr, flat_lval};
-use vl_full::Scopes;
+use vl_elab_draft::{Draft, Scopes, flat_expr, flat_lval};
 use vl_mean::{Const, Start};
 use vl_tree::{Expr, Lval};
 

@@ -1,14 +1,13 @@
 //! Values in declarations: that of a net is an assignment, that of a variable its value at first.
 ghost use Rattle.std.specs.Prelude.{◌≡◌, ◌∷◌, [], IfOk, OnOk};
 ghost use Rattle.vl_mean.specs.Parts as parts;
-ghost use Rattle.vl_write.specs.Behind as spec;
-ghost use Rattle.vl_write.specs.OwnParts.{placed_values};
+ghost use Rattle.vl_elab_emit.specs.Behind as spec;
+ghost use Rattle.vl_elab_emit.specs.OwnParts.{placed_values};
 
+use crate::starting::write_start;
 use fv_base::{List, Memory, Pos, Text};
 use std::alloc::Global;
-use vl_draft::{Draft, write_equation};
-use vl_full::Scopes;
-use vl_start::write_start;
+use vl_elab_draft::{Draft, Scopes, write_equation};
 use vl_tree::{DeclaredName, Expr, ExprKind, Lval, LvalKind, NetKind};
 
 /// The place of what isn't written.

@@ -17,15 +17,15 @@ use Rattle.vl_mean.specs.Declarations.{Overrides, parameter_value, with_constant
 use Rattle.vl_mean.specs.Declarations.{with_items_parameters, with_parameters}
 use Rattle.vl_mean.specs.Scopes.{Scope}
 use Rattle.vl_mean.specs.Walk.{parameter_names}
-use Rattle.vl_refusal.specs.Meanings.{Names, constant, is_undeclared, meaning_of}
-use Rattle.vl_scope.specs.Seen.{innermost, with_name}
-use Rattle.vl_full.specs.Kept.{with_constant}
-use Rattle.vl_number.specs.Given.{IsGiven, operand_or}
-use Rattle.vl_number.specs.Numbers.{HaveNumbers}
-use Rattle.vl_openable.specs.Openable.{Different, constant_names, item_constants, items_constants}
-use Rattle.vl_open.specs.Levels.{Adds, HasConstants, constants_level, with_declared}
-use Rattle.vl_open.proofs.Distinct.{different_front, fresh, names_with_item, one_more, unknown}
-use Rattle.vl_open.proofs.Numbered.{level_append, level_meaning, level_numbers, meant}
+use Rattle.vl_elab_spec.specs.Meanings.{Names, constant, is_undeclared, meaning_of}
+use Rattle.vl_elab_scope.specs.Seen.{innermost, with_name}
+use Rattle.vl_elab_draft.specs.Kept.{with_constant}
+use Rattle.vl_elab_const.specs.Given.{IsGiven, operand_or}
+use Rattle.vl_elab_const.specs.Numbers.{HaveNumbers}
+use Rattle.vl_elab_const.specs.Openable.{Different, constant_names, item_constants, items_constants}
+use Rattle.vl_elab_flatten.specs.Levels.{Adds, HasConstants, constants_level, with_declared}
+use Rattle.vl_elab_flatten.proofs.Distinct.{different_front, fresh, names_with_item, one_more, unknown}
+use Rattle.vl_elab_flatten.proofs.Numbered.{level_append, level_meaning, level_numbers, meant}
 
 -- ---- one constant
 

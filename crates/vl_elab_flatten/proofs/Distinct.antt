@@ -31,7 +31,7 @@ use Rattle.vl_mean.specs.Declarations.{Overrides, parameter_value, with_constant
 use Rattle.vl_mean.specs.Declarations.{with_items_parameters, with_parameters}
 use Rattle.vl_mean.specs.Scopes.{Scope}
 use Rattle.vl_mean.specs.Walk.{parameter_names}
-use Rattle.vl_openable.specs.Openable.{Different, constant_names, item_constants, items_constants}
+use Rattle.vl_elab_const.specs.Openable.{Different, constant_names, item_constants, items_constants}
 
 or_first : (a b : Bool) → (a || b) ≡ false → a ≡ false
 or_first true b h = h

@@ -6,13 +6,13 @@ use Rattle.vl_tree.specs.WellFormed.{IsModule}
 use Rattle.vl_mean.specs.declared.flat.Flat.{Flat}
 use Rattle.vl_mean.specs.FlatLaw.{IsLawful}
 use Rattle.vl_mean.specs.Parts.{design}
-use Rattle.vl_same.specs.Flattened.{decls_of}
-use Rattle.vl_names.specs.Unrefused.{NoStepRefused}
-use Rattle.vl_placed.specs.DriverPlaces.{driver_places, places_of}
-use Rattle.vl_draft.specs.Drawn.{IsDrawn}
-use Rattle.vl_draft.specs.Written.{Written, nothing}
-use Rattle.vl_kept.proofs.Whole.{design_lawful}
-use Rattle.vl_write.specs.Behind.{Placed, StandBehind, kinds_of, placed_design}
+use Rattle.vl_mean_flat.specs.Flattened.{decls_of}
+use Rattle.vl_elab_accepted_laws.specs.Unrefused.{NoStepRefused}
+use Rattle.vl_mean_flat.specs.DriverPlaces.{driver_places, places_of}
+use Rattle.vl_elab_draft.specs.Drawn.{IsDrawn}
+use Rattle.vl_elab_draft.specs.Written.{Written, nothing}
+use Rattle.vl_elab_flatten_laws.proofs.KeptWhole.{design_lawful}
+use Rattle.vl_elab_emit.specs.Behind.{Placed, StandBehind, kinds_of, placed_design}
 
 pub lawful : (ms : List Module) (top : List ℕ) (v : Written) → StandBehind nothing (placed_design ms top) v
     → All IsModule ms → NoStepRefused ms top → IsLawful v.decls v.drivers v.starts

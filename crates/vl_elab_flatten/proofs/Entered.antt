@@ -16,19 +16,19 @@ use Rattle.vl_mean.specs.Declarations.{ports_of, with_constants, with_items_para
 use Rattle.vl_mean.specs.Runs.{Each}
 use Rattle.vl_mean.specs.Scopes.{Scope}
 use Rattle.vl_mean.specs.Walk.{Use, header_of, module_scope, parameter_names, port_names, written_ports}
-use Rattle.vl_refusal.specs.Meanings.{Names}
-use Rattle.vl_scope.specs.Seen.{innermost}
-use Rattle.vl_full.specs.Kept.{empty_scope}
-use Rattle.vl_number.specs.Given.{IsGiven}
-use Rattle.vl_number.specs.Numbers.{HaveNumbers}
-use Rattle.vl_same.proofs.EachOf.{back, front}
-use Rattle.vl_shape.specs.declared.inputs.Inputs.{Inputs}
-use Rattle.vl_shape.specs.Inputs.{AreInputs}
-use Rattle.vl_openable.specs.Openable.{Different, IsInRange, IsOpenable, constant_names, items_constants}
-use Rattle.vl_open.specs.declared.modules.Contents.{Contents}
-use Rattle.vl_open.specs.declared.modules.Opened.{Opened}
-use Rattle.vl_open.specs.Levels.{Adds, HasConstants, constants_level, hidden, with_decls}
-use Rattle.vl_open.specs.Modules.{
+use Rattle.vl_elab_spec.specs.Meanings.{Names}
+use Rattle.vl_elab_scope.specs.Seen.{innermost}
+use Rattle.vl_elab_draft.specs.Kept.{empty_scope}
+use Rattle.vl_elab_const.specs.Given.{IsGiven}
+use Rattle.vl_elab_const.specs.Numbers.{HaveNumbers}
+use Rattle.vl_mean_flat.proofs.EachOf.{back, front}
+use Rattle.vl_elab_decls.specs.declared.inputs.Inputs.{Inputs}
+use Rattle.vl_elab_decls.specs.Inputs.{AreInputs}
+use Rattle.vl_elab_const.specs.Openable.{Different, IsInRange, IsOpenable, constant_names, items_constants}
+use Rattle.vl_elab_flatten.specs.declared.modules.Contents.{Contents}
+use Rattle.vl_elab_flatten.specs.declared.modules.Opened.{Opened}
+use Rattle.vl_elab_flatten.specs.Levels.{Adds, HasConstants, constants_level, hidden, with_decls}
+use Rattle.vl_elab_flatten.specs.Modules.{
   AreFilled,
   AreRead,
   CanFill,
@@ -45,9 +45,9 @@ use Rattle.vl_open.specs.Modules.{
   scope_with,
   with_all_parameters,
 }
-use Rattle.vl_open.proofs.Distinct.{different_front, names_with_items, names_with_parameters}
-use Rattle.vl_open.proofs.Filled.{different_decls_front}
-use Rattle.vl_open.proofs.Numbered.{hidden_append, hidden_numbers, level_numbers}
+use Rattle.vl_elab_flatten.proofs.Distinct.{different_front, names_with_items, names_with_parameters}
+use Rattle.vl_elab_flatten.proofs.Filled.{different_decls_front}
+use Rattle.vl_elab_flatten.proofs.Numbered.{hidden_append, hidden_numbers, level_numbers}
 
 -- the parameters of the head, and then those of the items
 pub both_added : (given : List ℕ → Option Expr) (hs : List HeaderParameter) (xs : Items) (s t u : Scope)

@@ -7,9 +7,9 @@ use Rattle.vl_size.specs.Table.{AreDifferent, IsPlain, IsShaped, is_declared, sp
 use Rattle.vl_mean.proofs.Lookups.{bytes_eq-swap}
 use Rattle.vl_mean.specs.Runs.{Each}
 use Rattle.vl_mean.specs.Scopes.{Scope}
-use Rattle.vl_full.specs.Kept.{with_decl}
-use Rattle.vl_openable.specs.Openable.{IsInRange}
-use Rattle.vl_open.specs.Levels.{with_decls}
+use Rattle.vl_elab_draft.specs.Kept.{with_decl}
+use Rattle.vl_elab_const.specs.Openable.{IsInRange}
+use Rattle.vl_elab_flatten.specs.Levels.{with_decls}
 
 or_first : (a b : Bool) → (a || b) ≡ false → a ≡ false
 or_first true b h = h

@@ -6,7 +6,7 @@ use Rattle.vl_tree.specs.declared.part.Instance.{Instance}
 use Rattle.vl_tree.specs.Expr.{Expr}
 use Rattle.vl_mean.specs.Scopes.{Scope}
 use Rattle.vl_mean.specs.Walk.{connections_of, overrides_of, use_of}
-use Rattle.vl_number.specs.Given.{IsGiven}
+use Rattle.vl_elab_const.specs.Given.{IsGiven}
 
 pub instance_given : (given : List ℕ → Option Expr) (ss : List Scope) (xs : List Connection) (x : Instance)
     → xs ≡ connections_of x.overrides → IsGiven given (overrides_of ss xs)

@@ -44,18 +44,18 @@ use Rattle.vl_mean.specs.Runs.{Each}
 use Rattle.vl_mean.specs.Scopes.{Scope, constant_in}
 use Rattle.vl_mean.specs.Walk.{Place, Step, item, item_steps, items_steps, turns}
 use Rattle.vl_mean.specs.Walk.{turn_path, turn_place, unfolded, with_earlier}
-use Rattle.vl_refusal.specs.Meanings.{Names}
-use Rattle.vl_refusal.specs.Refused.{nowhere}
-use Rattle.vl_number.specs.Numbers.{HaveNumbers, holds}
-use Rattle.vl_placed.specs.DriverPlaces.{item_places}
-use Rattle.vl_placed.specs.Seen.{Seen, parts_of_seen, places_of_seen, seen_step, seen_steps}
-use Rattle.vl_unfold.specs.Within.{block_items, chosen_block, chosen_steps, nested_if}
-use Rattle.vl_unfold.proofs.Inner.{if_steps, nested_item, own_and_inner, scope_items, turn_items}
-use Rattle.vl_draft.specs.Written.{Written}
-use Rattle.vl_write.specs.Behind.{MayStandBehind, StandBehind, followed_by}
-use Rattle.vl_write.specs.OwnParts.{own_parts, own_placed}
-use Rattle.vl_write.proofs.Standing.{both_behind, may_back, may_front}
-use Rattle.vl_written.specs.Ready.{
+use Rattle.vl_elab_spec.specs.Meanings.{Names}
+use Rattle.vl_elab_spec.specs.Refused.{nowhere}
+use Rattle.vl_elab_const.specs.Numbers.{HaveNumbers, holds}
+use Rattle.vl_mean_flat.specs.DriverPlaces.{item_places}
+use Rattle.vl_mean_flat.specs.Seen.{Seen, parts_of_seen, places_of_seen, seen_step, seen_steps}
+use Rattle.vl_elab_spec.specs.Within.{block_items, chosen_block, chosen_steps, nested_if}
+use Rattle.vl_elab_spec.proofs.Inner.{if_steps, nested_item, own_and_inner, scope_items, turn_items}
+use Rattle.vl_elab_draft.specs.Written.{Written}
+use Rattle.vl_elab_emit.specs.Behind.{MayStandBehind, StandBehind, followed_by}
+use Rattle.vl_elab_emit.specs.OwnParts.{own_parts, own_placed}
+use Rattle.vl_elab_emit.proofs.Standing.{both_behind, may_back, may_front}
+use Rattle.vl_elab_flatten.specs.Ready.{
   CanBeOpened,
   IsReady,
   Writes,
@@ -67,8 +67,8 @@ use Rattle.vl_written.specs.Ready.{
   scope_seen,
   turn_seen,
 }
-use Rattle.vl_written.proofs.Places.{earlier_seen}
-use Rattle.vl_written.proofs.Seens.{Left, left_on, seen_append}
+use Rattle.vl_elab_flatten.proofs.Places.{earlier_seen}
+use Rattle.vl_elab_flatten.proofs.Seens.{Left, left_on, seen_append}
 
 -- ---- declarations of items in order
 

@@ -15,15 +15,15 @@ use Rattle.vl_mean.specs.Declarations.{full_ports, port_named, ports_of}
 use Rattle.vl_mean.specs.Parts.{connection_part, port_part}
 use Rattle.vl_mean.specs.Scopes.{Scope, is_clock}
 use Rattle.vl_mean.specs.Walk.{connected, use_of, written_ports}
-use Rattle.name_set.specs.declared.set.NameSet.{NameSet}
-use Rattle.name_set.specs.Known.{contains}
-use Rattle.vl_shape.specs.declared.inputs.Inputs.TheVariants as i
-use Rattle.vl_shape.specs.Inputs.{AreInputs}
-use Rattle.vl_connect.specs.Clock.{joined_to}
-use Rattle.vl_connect.specs.declared.ports.PortTable.{PortTable}
-use Rattle.vl_connect.specs.Ports.{AreDirectionsOf, direction_in, direction_of}
-use Rattle.vl_connect.proofs.Clocks.{all_joined_to}
-use Rattle.vl_write.specs.OwnParts.{joined_part}
+use Rattle.vl_elab_names.specs.declared.set.NameSet.{NameSet}
+use Rattle.vl_elab_names.specs.Known.{contains}
+use Rattle.vl_elab_decls.specs.declared.inputs.Inputs.TheVariants as i
+use Rattle.vl_elab_decls.specs.Inputs.{AreInputs}
+use Rattle.vl_elab_check_instance.specs.Clock.{joined_to}
+use Rattle.vl_elab_check_instance.specs.declared.ports.PortTable.{PortTable}
+use Rattle.vl_elab_check_instance.specs.Ports.{AreDirectionsOf, direction_in, direction_of}
+use Rattle.vl_elab_check_instance.proofs.Clocks.{all_joined_to}
+use Rattle.vl_elab_emit.specs.OwnParts.{joined_part}
 
 pub joined_are : (ss : List Scope) (x : Instance) (all : List Connection) (set : NameSet)
     → ((text : List ℕ) → contains set text ≡ joined_to (is_clock ss) all (λ t. false) (λ t. false) text)

@@ -8,12 +8,12 @@ use Rattle.vl_mean.specs.declared.const_number.Const.{Const}
 use Rattle.vl_mean.specs.Constants.{Constants, constant_of}
 use Rattle.vl_mean.specs.Declarations.{with_constants}
 use Rattle.vl_mean.specs.Scopes.{Scope, constant_in, constant_unless}
-use Rattle.vl_refusal.specs.Meanings.{Meaning, undeclared, constant, loop_variable, object, faulty, shapeless, later}
-use Rattle.vl_refusal.specs.Meanings.{Names, meaning_in, meaning_of, value_of}
-use Rattle.vl_scope.specs.Seen.{AreNamed, with_name}
-use Rattle.vl_number.specs.Numbers.{HaveNumbers}
-use Rattle.vl_param.proofs.Listed.{inner_or, inner_assoc, meaning_with, named_only, named_with}
-use Rattle.vl_open.specs.Levels.{constants_level, hidden}
+use Rattle.vl_elab_spec.specs.Meanings.{Meaning, undeclared, constant, loop_variable, object, faulty, shapeless, later}
+use Rattle.vl_elab_spec.specs.Meanings.{Names, meaning_in, meaning_of, value_of}
+use Rattle.vl_elab_scope.specs.Seen.{AreNamed, with_name}
+use Rattle.vl_elab_const.specs.Numbers.{HaveNumbers}
+use Rattle.vl_elab_params.proofs.Listed.{inner_or, inner_assoc, meaning_with, named_only, named_with}
+use Rattle.vl_elab_flatten.specs.Levels.{constants_level, hidden}
 
 abbrev pub meant : Option Const → Meaning
 meant None = undeclared

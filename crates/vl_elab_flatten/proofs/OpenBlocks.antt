@@ -10,16 +10,16 @@ use Rattle.vl_mean.specs.Constants.{Constants}
 use Rattle.vl_mean.specs.Declarations.{declared, with_constants, with_items_parameters}
 use Rattle.vl_mean.specs.Runs.{Each}
 use Rattle.vl_mean.specs.Scopes.{Scope}
-use Rattle.vl_refusal.specs.Meanings.{Names, constant}
-use Rattle.vl_scope.specs.Seen.{innermost, with_name}
-use Rattle.vl_full.specs.Kept.{empty_scope}
-use Rattle.vl_number.specs.Numbers.{HaveNumbers}
-use Rattle.vl_openable.specs.Openable.{Different, IsInRange, IsOpenable, constant_names, items_constants}
-use Rattle.vl_open.specs.Here.{block_constants, block_scope}
-use Rattle.vl_open.specs.Levels.{Adds, HasConstants, constants_level, hidden, with_decls}
-use Rattle.vl_open.proofs.Adding.{given_nothing}
-use Rattle.vl_open.proofs.Distinct.{names_with_items}
-use Rattle.vl_open.proofs.Numbered.{hidden_numbers, level_numbers}
+use Rattle.vl_elab_spec.specs.Meanings.{Names, constant}
+use Rattle.vl_elab_scope.specs.Seen.{innermost, with_name}
+use Rattle.vl_elab_draft.specs.Kept.{empty_scope}
+use Rattle.vl_elab_const.specs.Numbers.{HaveNumbers}
+use Rattle.vl_elab_const.specs.Openable.{Different, IsInRange, IsOpenable, constant_names, items_constants}
+use Rattle.vl_elab_flatten.specs.Here.{block_constants, block_scope}
+use Rattle.vl_elab_flatten.specs.Levels.{Adds, HasConstants, constants_level, hidden, with_decls}
+use Rattle.vl_elab_flatten.proofs.Adding.{given_nothing}
+use Rattle.vl_elab_flatten.proofs.Distinct.{names_with_items}
+use Rattle.vl_elab_flatten.proofs.Numbered.{hidden_numbers, level_numbers}
 
 module _ (ss : List Scope) (ns : List Names) (h : HaveNumbers ns ss) (path : List ℕ) (xs : Items)
     (can_open : IsOpenable (block_scope ss path xs)) where

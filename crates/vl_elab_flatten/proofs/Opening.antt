@@ -27,14 +27,14 @@ use Rattle.vl_mean.specs.Walk.{
   with_earlier,
   written_ports,
 }
-use Rattle.vl_same.proofs.EachOf.{back, front}
-use Rattle.vl_placed.specs.Seen.{seen_steps}
-use Rattle.vl_unfold.specs.Within.{behind_head, module_steps}
-use Rattle.vl_openable.specs.Openable.{AreOpenable, IsOpenable}
-use Rattle.vl_open.specs.Here.{block_scope}
-use Rattle.vl_written.specs.Ready.{CanBeOpened, item_seen, items_seen, scope_seen}
-use Rattle.vl_written.proofs.Items.{item_split, items_split}
-use Rattle.vl_written.proofs.Seens.{seen_append}
+use Rattle.vl_mean_flat.proofs.EachOf.{back, front}
+use Rattle.vl_mean_flat.specs.Seen.{seen_steps}
+use Rattle.vl_elab_spec.specs.Within.{behind_head, module_steps}
+use Rattle.vl_elab_const.specs.Openable.{AreOpenable, IsOpenable}
+use Rattle.vl_elab_flatten.specs.Here.{block_scope}
+use Rattle.vl_elab_flatten.specs.Ready.{CanBeOpened, item_seen, items_seen, scope_seen}
+use Rattle.vl_elab_flatten.proofs.Items.{item_split, items_split}
+use Rattle.vl_elab_flatten.proofs.Seens.{seen_append}
 
 headers_open : (at : Place) (xs : List Parameter) → Each CanBeOpened (seen_steps (header_steps at xs))
     → (xs ≡ []) ⊎ AreOpenable at.scopes

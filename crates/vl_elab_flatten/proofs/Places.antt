@@ -7,12 +7,12 @@ use Rattle.vl_mean.specs.declared.const_number.Const.{Const}
 use Rattle.vl_mean.specs.Declarations.{all_names}
 use Rattle.vl_mean.specs.Scopes.{Scope}
 use Rattle.vl_mean.specs.Walk.{Place, block_place, turn_place, with_earlier, with_genvar}
-use Rattle.vl_refusal.specs.Meanings.{Names}
-use Rattle.vl_placed.specs.Seen.{Seen}
-use Rattle.vl_placed.proofs.Places as placed
-use Rattle.vl_open.specs.declared.here.Here.{Here}
-use Rattle.vl_open.specs.Here.{block_scope, place_in}
-use Rattle.vl_written.specs.Ready.{items_seen, place_of, scope_seen}
+use Rattle.vl_elab_spec.specs.Meanings.{Names}
+use Rattle.vl_mean_flat.specs.Seen.{Seen}
+use Rattle.vl_mean_flat.proofs.Places as placed
+use Rattle.vl_elab_flatten.specs.declared.here.Here.{Here}
+use Rattle.vl_elab_flatten.specs.Here.{block_scope, place_in}
+use Rattle.vl_elab_flatten.specs.Ready.{items_seen, place_of, scope_seen}
 
 pub same_here : (h k : Here) → h.scopes ≡ k.scopes → h.numbers ≡ k.numbers → h.path ≡ k.path → h.names ≡ k.names
     → h ≡ k

@@ -5,15 +5,15 @@ use Rattle.std.proofs.lemmas.List.{map-append}
 use Rattle.vl_mean.specs.Parts.{parts_of_steps}
 use Rattle.vl_mean.specs.Runs.{Each}
 use Rattle.vl_mean.specs.Walk.{Step, connection, header, item, override, port}
-use Rattle.vl_same.specs.StepScopes.{StepScopes}
-use Rattle.vl_same.proofs.EachOf.{back, front}
-use Rattle.vl_placed.specs.Seen.{Seen, parts_of_seen, places_of_seen, seen_step, seen_steps}
-use Rattle.vl_placed.proofs.Places.{parts_seen, places_seen}
-use Rattle.vl_draft.specs.Written.{Written}
-use Rattle.vl_openable.specs.Openable.{AreOpenable}
-use Rattle.vl_write.specs.Behind.{MayStandBehind, StandBehind, followed_by, placed_steps}
-use Rattle.vl_write.proofs.Standing.{both_behind, may_back, may_front, nothing_more}
-use Rattle.vl_written.specs.Ready.{CanBeOpened, IsReady, Writes, placed_seen}
+use Rattle.vl_mean_flat.specs.StepScopes.{StepScopes}
+use Rattle.vl_mean_flat.proofs.EachOf.{back, front}
+use Rattle.vl_mean_flat.specs.Seen.{Seen, parts_of_seen, places_of_seen, seen_step, seen_steps}
+use Rattle.vl_mean_flat.proofs.Places.{parts_seen, places_seen}
+use Rattle.vl_elab_draft.specs.Written.{Written}
+use Rattle.vl_elab_const.specs.Openable.{AreOpenable}
+use Rattle.vl_elab_emit.specs.Behind.{MayStandBehind, StandBehind, followed_by, placed_steps}
+use Rattle.vl_elab_emit.proofs.Standing.{both_behind, may_back, may_front, nothing_more}
+use Rattle.vl_elab_flatten.specs.Ready.{CanBeOpened, IsReady, Writes, placed_seen}
 
 pub seen_append : (xs ys : List Step) → seen_steps (xs ++ ys) ≡ seen_steps xs ++ seen_steps ys
 seen_append xs ys = map-append seen_step xs ys

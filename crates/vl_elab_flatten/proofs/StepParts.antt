@@ -23,9 +23,9 @@ use Rattle.vl_mean.specs.Walk.{
   port_steps,
   with_earlier,
 }
-use Rattle.vl_placed.specs.DriverPlaces.{all_at, places_of_steps}
-use Rattle.vl_write.specs.Behind.{placed_steps, unplaced}
-use Rattle.vl_ports.specs.PortParts.{
+use Rattle.vl_mean_flat.specs.DriverPlaces.{all_at, places_of_steps}
+use Rattle.vl_elab_emit.specs.Behind.{placed_steps, unplaced}
+use Rattle.vl_elab_flatten.specs.PortParts.{
   all_connection_parts,
   all_port_parts,
   connection_parts,

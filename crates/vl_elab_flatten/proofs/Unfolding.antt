@@ -30,24 +30,25 @@ use Rattle.vl_mean.specs.Walk.{
   with_module,
   written_ports,
 }
-use Rattle.vl_same.proofs.EachOf.{back}
-use Rattle.vl_placed.specs.Seen.{Seen, parts_of_seen, seen_steps}
-use Rattle.vl_placed.proofs.Places as placed
-use Rattle.vl_unfold.specs.Within.{behind_head, front_steps, module_steps}
-use Rattle.vl_unfold.proofs.Unfolded.{instance_found, none_unfolded, one_unfolded}
-use Rattle.vl_draft.specs.Written.{Written}
-use Rattle.vl_openable.specs.Openable.{IsOpenable}
-use Rattle.vl_open.specs.declared.modules.Opened.{Opened}
-use Rattle.vl_open.specs.Here.{around_of, place_in}
-use Rattle.vl_open.specs.Modules.{IsModuleOpened}
-use Rattle.vl_ports.specs.PortParts.{placed_connections, placed_ports}
-use Rattle.vl_ports.proofs.StepParts.{placed_headers, placed_joins, placed_overrides, ports_parts, ports_places}
-use Rattle.vl_write.specs.Behind.{MayStandBehind, Placed, StandBehind, followed_by, placed_steps}
-use Rattle.vl_write.proofs.Standing.{both_behind, may_back, may_front}
-use Rattle.vl_written.specs.Ready.{CanBeOpened, IsReady, Writes, design_seen, instance_seen, items_seen, opened_seen}
-use Rattle.vl_written.specs.Ready.{place_of, placed_seen, top_use}
-use Rattle.vl_written.proofs.Opening.{module_opens}
-use Rattle.vl_written.proofs.Seens.{placed_append, seen_append, steps_seen}
+use Rattle.vl_mean_flat.proofs.EachOf.{back}
+use Rattle.vl_mean_flat.specs.Seen.{Seen, parts_of_seen, seen_steps}
+use Rattle.vl_mean_flat.proofs.Places as placed
+use Rattle.vl_elab_spec.specs.Within.{behind_head, front_steps, module_steps}
+use Rattle.vl_elab_spec.proofs.Unfolded.{instance_found, none_unfolded, one_unfolded}
+use Rattle.vl_elab_draft.specs.Written.{Written}
+use Rattle.vl_elab_const.specs.Openable.{IsOpenable}
+use Rattle.vl_elab_flatten.specs.declared.modules.Opened.{Opened}
+use Rattle.vl_elab_flatten.specs.Here.{around_of, place_in}
+use Rattle.vl_elab_flatten.specs.Modules.{IsModuleOpened}
+use Rattle.vl_elab_flatten.specs.PortParts.{placed_connections, placed_ports}
+use Rattle.vl_elab_flatten.proofs.StepParts.{placed_headers, placed_joins, placed_overrides, ports_parts, ports_places}
+use Rattle.vl_elab_emit.specs.Behind.{MayStandBehind, Placed, StandBehind, followed_by, placed_steps}
+use Rattle.vl_elab_emit.proofs.Standing.{both_behind, may_back, may_front}
+use Rattle.vl_elab_flatten.specs.Ready.{CanBeOpened, IsReady, Writes, design_seen, instance_seen, items_seen}
+use Rattle.vl_elab_flatten.specs.Ready.{opened_seen}
+use Rattle.vl_elab_flatten.specs.Ready.{place_of, placed_seen, top_use}
+use Rattle.vl_elab_flatten.proofs.Opening.{module_opens}
+use Rattle.vl_elab_flatten.proofs.Seens.{placed_append, seen_append, steps_seen}
 
 steps_append : (xs ys : List Step)
     → placed_steps (xs ++ ys) ≡ followed_by (placed_steps xs) (placed_steps ys)

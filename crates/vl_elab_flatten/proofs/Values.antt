@@ -8,12 +8,12 @@ use Rattle.vl_mean.specs.declared.const_number.Const.{Const}
 use Rattle.vl_mean.specs.Constants.{constant_operand}
 use Rattle.vl_mean.specs.Scopes.{Scope, constant_in}
 use Rattle.vl_mean.specs.Walk.{genvar_value, goes_on, next_turn, with_genvar}
-use Rattle.vl_refusal.specs.Meanings.{Names, constants}
-use Rattle.vl_number.specs.Numbers.{HaveNumbers, genvar_number, holds}
-use Rattle.vl_openable.proofs.Genvars.{genvar_bounded}
-use Rattle.vl_open.proofs.Blocks.{turn_numbers}
-use Rattle.vl_turn.specs.Parts.{in_turn}
-use Rattle.vl_written.specs.Ready.{IsTurn}
+use Rattle.vl_elab_spec.specs.Meanings.{Names, constants}
+use Rattle.vl_elab_const.specs.Numbers.{HaveNumbers, genvar_number, holds}
+use Rattle.vl_elab_const.proofs.Genvars.{genvar_bounded}
+use Rattle.vl_elab_flatten.proofs.OpenBlocks.{turn_numbers}
+use Rattle.vl_elab_check_item.specs.TurnParts.{in_turn}
+use Rattle.vl_elab_flatten.specs.Ready.{IsTurn}
 
 pub number_bounded : (ns : List Names) (e : Expr) (v : Const) → v ≡ genvar_number ns e → IsTurn v
 number_bounded ns e v h = subst IsTurn (sym h) (genvar_bounded (constant_operand (constants ns) e))

@@ -11,12 +11,12 @@ use Rattle.vl_size.specs.declared.decl.Decl.{Decl}
 use Rattle.vl_mean.specs.Declarations.{full_port, full_ports}
 use Rattle.vl_mean.specs.Parts.{Part, declares_all}
 use Rattle.vl_mean.specs.Scopes.{Scope}
-use Rattle.vl_placed.specs.DriverPlaces.{all_at}
-use Rattle.vl_draft.specs.Written.{Written}
-use Rattle.vl_shape.specs.Objects.{port_text}
-use Rattle.vl_write.specs.Behind.{MayStandBehind, Placed, StandBehind, followed_by, placed_at, unplaced}
-use Rattle.vl_write.proofs.Standing.{Rest, both_behind, may_first, may_next, rest_first, rest_last, rest_next}
-use Rattle.vl_ports.specs.PortParts.{
+use Rattle.vl_mean_flat.specs.DriverPlaces.{all_at}
+use Rattle.vl_elab_draft.specs.Written.{Written}
+use Rattle.vl_elab_decls.specs.Objects.{port_text}
+use Rattle.vl_elab_emit.specs.Behind.{MayStandBehind, Placed, StandBehind, followed_by, placed_at, unplaced}
+use Rattle.vl_elab_emit.proofs.Standing.{Rest, both_behind, may_first, may_next, rest_first, rest_last, rest_next}
+use Rattle.vl_elab_flatten.specs.PortParts.{
   all_port_parts,
   behind_first,
   first_parts,

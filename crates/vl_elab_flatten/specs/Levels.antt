@@ -9,11 +9,11 @@ use Rattle.vl_size.specs.declared.decl.Decl.{Decl}
 use Rattle.vl_mean.specs.Constants.{Constants}
 use Rattle.vl_mean.specs.Declarations.{Overrides, with_parameters}
 use Rattle.vl_mean.specs.Scopes.{Scope}
-use Rattle.vl_refusal.specs.Meanings.{Names, constant, faulty}
-use Rattle.vl_scope.specs.Seen.{with_name}
-use Rattle.vl_number.specs.Given.{IsGiven}
-use Rattle.vl_number.specs.Numbers.{HaveNumbers}
-use Rattle.vl_openable.specs.Openable.{Different, constant_names}
+use Rattle.vl_elab_spec.specs.Meanings.{Names, constant, faulty}
+use Rattle.vl_elab_scope.specs.Seen.{with_name}
+use Rattle.vl_elab_const.specs.Given.{IsGiven}
+use Rattle.vl_elab_const.specs.Numbers.{HaveNumbers}
+use Rattle.vl_elab_const.specs.Openable.{Different, constant_names}
 
 -- constants with their numbers
 abbrev pub constants_level : Constants → Names

@@ -13,15 +13,15 @@ use Rattle.vl_mean.specs.Declarations.{ports_of, with_constants, with_items_para
 use Rattle.vl_mean.specs.Runs.{Each}
 use Rattle.vl_mean.specs.Scopes.{Scope}
 use Rattle.vl_mean.specs.Walk.{Use, module_around, module_names, module_scope, parameter_names, port_names}
-use Rattle.vl_scope.specs.Seen.{innermost}
-use Rattle.vl_number.specs.Given.{IsGiven}
-use Rattle.vl_number.specs.Numbers.{HaveNumbers}
-use Rattle.vl_shape.specs.declared.inputs.Inputs.{Inputs}
-use Rattle.vl_shape.specs.Inputs.{AreInputs}
-use Rattle.vl_openable.specs.Openable.{IsInRange, IsOpenable, items_constants}
-use Rattle.vl_open.specs.declared.modules.Contents.{Contents}
-use Rattle.vl_open.specs.declared.modules.Opened.{Opened}
-use Rattle.vl_open.specs.Levels.{HasConstants, hidden, with_decls}
+use Rattle.vl_elab_scope.specs.Seen.{innermost}
+use Rattle.vl_elab_const.specs.Given.{IsGiven}
+use Rattle.vl_elab_const.specs.Numbers.{HaveNumbers}
+use Rattle.vl_elab_decls.specs.declared.inputs.Inputs.{Inputs}
+use Rattle.vl_elab_decls.specs.Inputs.{AreInputs}
+use Rattle.vl_elab_const.specs.Openable.{IsInRange, IsOpenable, items_constants}
+use Rattle.vl_elab_flatten.specs.declared.modules.Contents.{Contents}
+use Rattle.vl_elab_flatten.specs.declared.modules.Opened.{Opened}
+use Rattle.vl_elab_flatten.specs.Levels.{HasConstants, hidden, with_decls}
 
 -- ---- by the parameters of its head, its ports and its items
 

@@ -14,9 +14,9 @@ use Rattle.vl_size.specs.declared.decl.Decl.{Decl}
 use Rattle.vl_mean.specs.Declarations.{full_ports, port_named, ports_of}
 use Rattle.vl_mean.specs.Parts.{Part, declares_all, optional_value, port_kind, port_part}
 use Rattle.vl_mean.specs.Scopes.{Scope}
-use Rattle.vl_placed.specs.DriverPlaces.{all_at}
-use Rattle.vl_shape.specs.Objects.{port_text}
-use Rattle.vl_write.specs.Behind.{Placed}
+use Rattle.vl_mean_flat.specs.DriverPlaces.{all_at}
+use Rattle.vl_elab_decls.specs.Objects.{port_text}
+use Rattle.vl_elab_emit.specs.Behind.{Placed}
 
 -- what an instance joins to a port of its module
 abbrev pub connection_parts : List Scope → List Scope → Module → Connection → List Part

@@ -28,15 +28,15 @@ use Rattle.vl_mean.specs.Walk.{
   walk,
   written_ports,
 }
-use Rattle.vl_placed.specs.Seen.{Seen, parts_of_seen, places_of_seen, seen_steps}
-use Rattle.vl_unfold.specs.Within.{inner_steps}
-use Rattle.vl_draft.specs.Written.{Written}
-use Rattle.vl_openable.specs.Openable.{AreOpenable}
-use Rattle.vl_open.specs.declared.here.Here.{Here}
-use Rattle.vl_open.specs.declared.modules.Opened.{Opened}
-use Rattle.vl_open.specs.Here.{place_in}
-use Rattle.vl_ports.specs.PortParts.{placed_ports}
-use Rattle.vl_write.specs.Behind.{MayStandBehind, Placed, StandBehind}
+use Rattle.vl_mean_flat.specs.Seen.{Seen, parts_of_seen, places_of_seen, seen_steps}
+use Rattle.vl_elab_spec.specs.Within.{inner_steps}
+use Rattle.vl_elab_draft.specs.Written.{Written}
+use Rattle.vl_elab_const.specs.Openable.{AreOpenable}
+use Rattle.vl_elab_flatten.specs.declared.here.Here.{Here}
+use Rattle.vl_elab_flatten.specs.declared.modules.Opened.{Opened}
+use Rattle.vl_elab_flatten.specs.Here.{place_in}
+use Rattle.vl_elab_flatten.specs.PortParts.{placed_ports}
+use Rattle.vl_elab_emit.specs.Behind.{MayStandBehind, Placed, StandBehind}
 
 -- the scopes of a step can be opened
 abbrev pub CanBeOpened : Seen → Type 0

@@ -6,14 +6,14 @@ ghost use Rattle.vl_tree.specs.ItemView.{block as block_of};
 ghost use Rattle.vl_size.specs.declared.decl.Decl.{Decl as SpecDecl};
 ghost use Rattle.vl_mean.specs.Declarations as declarations;
 ghost use Rattle.vl_mean.specs.Scopes.{Scope};
-ghost use Rattle.vl_unfold.specs.Within.{block_items, chosen_block, nested_if};
+ghost use Rattle.vl_elab_spec.specs.Within.{block_items, chosen_block, nested_if};
 
+use crate::here::Here;
 use fv_base::{Memory, Text};
 use std::alloc::Global;
 use std::slice;
-use vl_decls::declared_count;
-use vl_label::{block_name, inside_path};
-use vl_open::Here;
+use vl_elab_decls::declared_count;
+use vl_elab_names::{block_name, inside_path};
 use vl_size::Decl;
 use vl_tree::{Block, Item, ItemKind};
 

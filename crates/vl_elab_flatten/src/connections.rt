@@ -1,17 +1,16 @@
 //! What an instance joins to the ports of its module.
 ghost use Rattle.std.specs.Prelude.{◌≡◌, OnOk};
 ghost use Rattle.vl_tree.specs.declared.source.Module.{Module as SpecModule};
-ghost use Rattle.vl_connect.specs.Ports.{AreDirectionsOf};
-ghost use Rattle.vl_write.specs.Behind as behind;
-ghost use Rattle.vl_ports.specs.PortParts as spec;
+ghost use Rattle.vl_elab_check_instance.specs.Ports.{AreDirectionsOf};
+ghost use Rattle.vl_elab_emit.specs.Behind as behind;
+ghost use Rattle.vl_elab_flatten.specs.PortParts as spec;
 
 use fv_base::Memory;
 use std::alloc::Global;
-use vl_connect::PortTable;
-use vl_draft::Draft;
-use vl_full::Scopes;
+use vl_elab_check_instance::PortTable;
+use vl_elab_draft::{Draft, Scopes};
+use vl_elab_emit::write_joined;
 use vl_tree::Connection;
-use vl_write::write_joined;
 
 fn write_connection(
     alloc: Global,

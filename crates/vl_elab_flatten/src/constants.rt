@@ -6,18 +6,18 @@ ghost use Rattle.vl_mean.specs.Constants.{Constants};
 ghost use Rattle.vl_mean.specs.Declarations as declarations;
 ghost use Rattle.vl_mean.specs.Declarations.{header_parameters};
 ghost use Rattle.vl_mean.specs.Walk.{parameter_names};
-ghost use Rattle.vl_refusal.specs.Meanings as meanings;
-ghost use Rattle.vl_scope.specs.Seen.{innermost, with_name};
-ghost use Rattle.vl_number.specs.Given.{value_given};
-ghost use Rattle.vl_openable.specs.Openable.{constant_names, item_constants, items_constants};
-ghost use Rattle.vl_open.specs.Levels as spec;
+ghost use Rattle.vl_elab_spec.specs.Meanings as meanings;
+ghost use Rattle.vl_elab_scope.specs.Seen.{innermost, with_name};
+ghost use Rattle.vl_elab_const.specs.Given.{value_given};
+ghost use Rattle.vl_elab_const.specs.Openable.{constant_names, item_constants, items_constants};
+ghost use Rattle.vl_elab_flatten.specs.Levels as spec;
 
 use fv_base::{Memory, Text};
 use std::alloc::Global;
-use vl_full::Scope;
+use vl_elab_const::{Given, parameter_value};
+use vl_elab_draft::Scope;
+use vl_elab_scope::{Meaning, Names};
 use vl_mean::Const;
-use vl_number::{Given, parameter_value};
-use vl_scope::{Meaning, Names};
 use vl_tree::{HeaderParameter, Item, ItemKind, Parameter, ParameterKind};
 
 /// A number more in the innermost scope of the numbers.

@@ -2,18 +2,17 @@
 ghost use Rattle.std.specs.Prelude.{◌≡◌, None, IfOk, OnOk};
 ghost use Rattle.vl_mean.specs.Declarations as declarations;
 ghost use Rattle.vl_mean.specs.Parts as parts;
-ghost use Rattle.vl_shape.specs.Objects as objects;
-ghost use Rattle.vl_write.specs.Behind as behind;
-ghost use Rattle.vl_ports.specs.PortParts as spec;
+ghost use Rattle.vl_elab_decls.specs.Objects as objects;
+ghost use Rattle.vl_elab_emit.specs.Behind as behind;
+ghost use Rattle.vl_elab_flatten.specs.PortParts as spec;
 
 use fv_base::{Memory, Text};
 use std::alloc::Global;
 use std::slice;
-use vl_draft::Draft;
-use vl_full::Scopes;
+use vl_elab_draft::{Draft, Scopes};
+use vl_elab_emit::{write_declarations, write_optional_value};
 use vl_size::Decl;
 use vl_tree::{Expr, NetKind, Port, PortKind};
-use vl_write::{write_declarations, write_optional_value};
 
 fn net_of(net: Option<NetKind>) -> NetKind
     ensures { result ≡ parts.port_kind net }

@@ -2,15 +2,15 @@
 ghost use Rattle.std.specs.Prelude.{◌≡◌, ◌++◌, ◌∷◌, IfOk, OnOk, drop};
 ghost use Rattle.vl_size.specs.Table.{AreDifferent, IsPlain};
 ghost use Rattle.vl_mean.specs.Runs.{Each};
-ghost use Rattle.vl_refusal.specs.Meanings.{faulty};
-ghost use Rattle.vl_scope.specs.Seen.{innermost, with_name};
-ghost use Rattle.vl_openable.specs.Openable.{IsInRange};
-ghost use Rattle.vl_open.specs.Levels as spec;
+ghost use Rattle.vl_elab_spec.specs.Meanings.{faulty};
+ghost use Rattle.vl_elab_scope.specs.Seen.{innermost, with_name};
+ghost use Rattle.vl_elab_const.specs.Openable.{IsInRange};
+ghost use Rattle.vl_elab_flatten.specs.Levels as spec;
 
 use fv_base::{Memory, Text};
 use std::alloc::Global;
-use vl_full::Scope;
-use vl_scope::{Level, Meaning, Names};
+use vl_elab_draft::Scope;
+use vl_elab_scope::{Level, Meaning, Names};
 use vl_size::Decl;
 
 /// No number is known of a net or a variable.

@@ -3,17 +3,17 @@ ghost use Rattle.std.specs.Prelude.{◌≡◌, ◌&&◌, ◌||◌, ℕ, List, fa
 ghost use Rattle.vl_tree.specs.declared.part.Instance.{Instance as SpecInstance};
 ghost use Rattle.vl_mean.specs.Scopes as scopes_spec;
 ghost use Rattle.vl_mean.specs.Walk.{use_of};
-ghost use Rattle.name_set.specs.Known.{contains};
-ghost use Rattle.vl_shape.specs.Inputs.{AreInputs};
-ghost use Rattle.vl_connect.specs.Clock as spec;
+ghost use Rattle.vl_elab_names.specs.Known.{contains};
+ghost use Rattle.vl_elab_decls.specs.Inputs.{AreInputs};
+ghost use Rattle.vl_elab_check_instance.specs.Clock as spec;
 
 use fv_base::{Memory, Text};
-use name_set::NameSet;
 use std::alloc::Global;
-use vl_full::Scopes;
-use vl_shape::Inputs;
+use vl_elab_decls::Inputs;
+use vl_elab_draft::Scopes;
+use vl_elab_emit::is_clock;
+use vl_elab_names::NameSet;
 use vl_tree::{Connection, Expr};
-use vl_write::is_clock;
 
 fn is_clock_value(value: &Option<Expr>, scopes: &Scopes) -> bool
     ensures { result ≡ scopes_spec.is_clock scopes.now value.now }

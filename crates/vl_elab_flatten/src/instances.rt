@@ -1,21 +1,22 @@
 //! Instances: the modules in them, and what they join to them.
 ghost use Rattle.std.specs.Prelude.{◌≡◌, ◌++◌, IfOk, OnOk, codes};
 ghost use Rattle.vl_mean.specs.Walk as walk;
-ghost use Rattle.vl_number.specs.Numbers.{HaveNumbers};
-ghost use Rattle.vl_openable.specs.Openable.{IsOpenable};
-ghost use Rattle.vl_open.specs.Modules.{IsModuleOpened};
-ghost use Rattle.vl_ports.specs.PortParts.{placed_connections};
-ghost use Rattle.vl_write.specs.Behind.{StandBehind};
+ghost use Rattle.vl_elab_const.specs.Numbers.{HaveNumbers};
+ghost use Rattle.vl_elab_const.specs.Openable.{IsOpenable};
+ghost use Rattle.vl_elab_flatten.specs.Modules.{IsModuleOpened};
+ghost use Rattle.vl_elab_flatten.specs.PortParts.{placed_connections};
+ghost use Rattle.vl_elab_emit.specs.Behind.{StandBehind};
 
+use crate::connections::write_connections;
+use crate::here::Here;
+use crate::inputs::joined_inputs;
+use crate::modules::{Opened, open_module};
 use fv_base::{List, Memory};
 use std::alloc::Global;
-use vl_connect::PortTable;
-use vl_draft::Draft;
-use vl_full::Scopes;
-use vl_label::inside_path;
-use vl_number::given_by;
-use vl_open::{Here, Opened, open_module};
-use vl_ports::{joined_inputs, write_connections};
+use vl_elab_check_instance::PortTable;
+use vl_elab_const::given_by;
+use vl_elab_draft::{Draft, Scopes};
+use vl_elab_names::inside_path;
 use vl_tree::{Connection, Instance, Module};
 
 fn connections_of(all: &Option<List<Connection>>) -> &[Connection]

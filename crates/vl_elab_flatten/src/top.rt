@@ -3,20 +3,20 @@ ghost use Rattle.std.specs.Prelude.{◌≡◌, [], OnOk};
 ghost use Rattle.vl_mean.specs.Parts.{design};
 ghost use Rattle.vl_mean.specs.Runs.{Each};
 ghost use Rattle.vl_mean.specs.Walk.{walk};
-ghost use Rattle.vl_same.specs.StepScopes.{StepScopes};
-ghost use Rattle.vl_modules.specs.Table.{AreModules};
-ghost use Rattle.vl_openable.specs.Openable.{AreOpenable};
-ghost use Rattle.vl_write.specs.Behind.{MayStandBehind, StandBehind, placed_design};
-ghost use Rattle.vl_written.specs.Ready.{IsReady, Writes, design_seen};
+ghost use Rattle.vl_mean_flat.specs.StepScopes.{StepScopes};
+ghost use Rattle.vl_elab_names.specs.Table.{AreModules};
+ghost use Rattle.vl_elab_const.specs.Openable.{AreOpenable};
+ghost use Rattle.vl_elab_emit.specs.Behind.{MayStandBehind, StandBehind, placed_design};
+ghost use Rattle.vl_elab_flatten.specs.Ready.{IsReady, Writes, design_seen};
 
+use crate::modules::open_module;
 use crate::walk::write_opened;
 use fv_base::{Memory, Text};
 use std::alloc::Global;
-use vl_draft::Draft;
-use vl_modules::ModuleTable;
-use vl_number::Given;
-use vl_open::open_module;
-use vl_shape::Inputs;
+use vl_elab_const::Given;
+use vl_elab_decls::Inputs;
+use vl_elab_draft::Draft;
+use vl_elab_names::ModuleTable;
 use vl_tree::Module;
 
 fn no_path(alloc: Global) -> Text

@@ -4,17 +4,17 @@ ghost use Rattle.fv_bits.specs.Bits.{as_int};
 ghost use Rattle.vl_size.specs.Size.{is_bound};
 ghost use Rattle.vl_mean.specs.Scopes.{Scope};
 ghost use Rattle.vl_mean.specs.Walk as walk;
-ghost use Rattle.vl_number.specs.Numbers as numbers_spec;
-ghost use Rattle.vl_number.specs.Numbers.{HaveNumbers};
-ghost use Rattle.vl_written.specs.Ready.{IsTurn};
+ghost use Rattle.vl_elab_const.specs.Numbers as numbers_spec;
+ghost use Rattle.vl_elab_const.specs.Numbers.{HaveNumbers};
+ghost use Rattle.vl_elab_flatten.specs.Ready.{IsTurn};
 
 use fv_base::Memory;
 use std::alloc::Global;
+use vl_elab_check_item::enter_turn;
+use vl_elab_const::{genvar_value, is_true_in};
+use vl_elab_scope::Names;
 use vl_mean::Const;
-use vl_number::{genvar_value, is_true_in};
-use vl_scope::Names;
 use vl_tree::LoopHead;
-use vl_turn::enter_turn;
 
 /// The value of the first turn.
 pub(crate) fn first_value(alloc: Global, head: &LoopHead, numbers: &Names) -> Result<Const, Memory>

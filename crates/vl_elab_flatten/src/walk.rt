@@ -4,28 +4,28 @@ ghost use Rattle.vl_tree.specs.declared.item.ItemKind.TheVariants as kind;
 ghost use Rattle.vl_tree.specs.Item as tree;
 ghost use Rattle.vl_tree.specs.ItemView.{block as block_of, shown};
 ghost use Rattle.vl_mean.specs.Declarations as declarations;
-ghost use Rattle.vl_refusal.specs.Refused.{nowhere};
-ghost use Rattle.vl_number.specs.Numbers.{HaveNumbers};
-ghost use Rattle.vl_modules.specs.Table.{AreModules};
-ghost use Rattle.vl_open.specs.Here.{around_of};
-ghost use Rattle.vl_written.specs.Ready as spec;
-ghost use Rattle.vl_written.specs.Ready.{IsReady, IsTurn, Writes, place_of};
+ghost use Rattle.vl_elab_spec.specs.Refused.{nowhere};
+ghost use Rattle.vl_elab_const.specs.Numbers.{HaveNumbers};
+ghost use Rattle.vl_elab_names.specs.Table.{AreModules};
+ghost use Rattle.vl_elab_flatten.specs.Here.{around_of};
+ghost use Rattle.vl_elab_flatten.specs.Ready as spec;
+ghost use Rattle.vl_elab_flatten.specs.Ready.{IsReady, IsTurn, Writes, place_of};
 
 use crate::blocks::{chosen, constructs, items_of, name_of, nested, path_of, split_declared};
+use crate::declared::write_ports;
+use crate::here::{Here, leave_block, leave_turn, open_block, open_turn};
 use crate::instances::{open_instance, write_joined};
+use crate::modules::{Opened, written_ports};
 use crate::turns::{first_value, next_value};
 use fv_base::{Memory, Text};
 use std::alloc::Global;
-use vl_draft::Draft;
-use vl_label::turn_path;
+use vl_elab_const::is_true_in;
+use vl_elab_draft::Draft;
+use vl_elab_emit::write_item;
+use vl_elab_names::{ModuleTable, turn_path};
 use vl_mean::Const;
-use vl_modules::ModuleTable;
-use vl_number::is_true_in;
-use vl_open::{Here, Opened, leave_block, leave_turn, open_block, open_turn, written_ports};
-use vl_ports::write_ports;
 use vl_size::Decl;
 use vl_tree::{Block, Expr, Instance, Item, ItemKind, LoopHead, Module};
-use vl_write::write_item;
 
 /// Writes the items of a scope, in order. `decls`: what they declare in order; `depth`: how deep instances may stand in
 /// one another.

@@ -1,19 +1,17 @@
 //! A source that isn't refused, written as a design without hierarchy.
-#![tactic(auto)]
-
 ghost use Rattle.std.specs.Prelude.{◌≡◌, All, IfOk};
 ghost use Rattle.vl_tree.specs.WellFormed.{IsModule};
 ghost use Rattle.vl_mean.specs.Parts.{design};
-ghost use Rattle.vl_names.specs.Unrefused.{NoStepRefused};
-ghost use Rattle.vl_placed.specs.DriverPlaces.{driver_places, places_of};
-ghost use Rattle.vl_draft.specs.Drawn.{IsDrawn};
+ghost use Rattle.vl_elab_accepted_laws.specs.Unrefused.{NoStepRefused};
+ghost use Rattle.vl_mean_flat.specs.DriverPlaces.{driver_places, places_of};
+ghost use Rattle.vl_elab_draft.specs.Drawn.{IsDrawn};
 
+use crate::top::write_design;
 use fv_base::{Memory, Text};
 use std::alloc::Global;
-use vl_draft::Draft;
+use vl_elab_draft::Draft;
 use vl_mean::Flat;
 use vl_tree::Module;
-use vl_written::write_design;
 
 /// The design without hierarchy of well formed modules of which no step is refused with this top module (IEEE
 /// 1364-2005, section 12): its declarations, drivers and values at first are those of the design's parts, each in

@@ -48,26 +48,26 @@ use Rattle.vl_mean.specs.Parts.{all_initial_parts, item_parts, step_parts}
 use Rattle.vl_mean.specs.Runs.{Each}
 use Rattle.vl_mean.specs.Scopes.{Scope, is_clock}
 use Rattle.vl_mean.specs.Walk.{Place, Step, Use, header, port, item, override, connection, walk}
-use Rattle.vl_same.proofs.EachOf.{both}
-use Rattle.vl_names.proofs.Fresh.{IsFine, NoneOf, none-front, none-back, not-refused}
-use Rattle.vl_names.proofs.Loops.{AreFine}
-use Rattle.vl_names.proofs.Names.{walk-fine}
-use Rattle.vl_names.proofs.Plain.{all-each}
-use Rattle.vl_refusal.specs.declared.elab_fault.ElabFault.{ElabFault}
-use Rattle.vl_refusal.specs.Expressions.{refused_if}
-use Rattle.vl_refusal.specs.Items.{given_value, declared_value, name_refusals, names_refusals, port_net}
-use Rattle.vl_refusal.specs.Items.{port_refusals, item_refusals}
-use Rattle.vl_refusal.specs.Meanings.{Names, meanings_at, may_have_words, is_variable_class}
-use Rattle.vl_names.specs.Unrefused.{NoStepRefused}
-use Rattle.vl_refusal.specs.Statements.{initial_refusals, all_initial_refusals}
-use Rattle.vl_sized.specs.Sized.{AreSound}
-use Rattle.vl_meant.specs.Right.{AreRight, IsRight}
-use Rattle.vl_meant.proofs.Walked.{walk_is_right}
-use Rattle.vl_sound.specs.SoundSteps.{HasSoundNames, IsFormedStep}
-use Rattle.vl_sound.proofs.Walked.{walk_sound, walk_formed}
-use Rattle.vl_start.proofs.Refusing.{starts as starts_are}
-use Rattle.vl_start.specs.Begins.{Begins}
-use Rattle.vl_start.specs.Starts.{IsStart}
+use Rattle.vl_mean_flat.proofs.EachOf.{both}
+use Rattle.vl_elab_accepted_laws.proofs.Fresh.{IsFine, NoneOf, none-front, none-back, not-refused}
+use Rattle.vl_elab_accepted_laws.proofs.Loops.{AreFine}
+use Rattle.vl_elab_accepted_laws.proofs.Names.{walk-fine}
+use Rattle.vl_elab_accepted_laws.proofs.Plain.{all-each}
+use Rattle.vl_elab_spec.specs.declared.elab_fault.ElabFault.{ElabFault}
+use Rattle.vl_elab_spec.specs.Expressions.{refused_if}
+use Rattle.vl_elab_spec.specs.Items.{given_value, declared_value, name_refusals, names_refusals, port_net}
+use Rattle.vl_elab_spec.specs.Items.{port_refusals, item_refusals}
+use Rattle.vl_elab_spec.specs.Meanings.{Names, meanings_at, may_have_words, is_variable_class}
+use Rattle.vl_elab_accepted_laws.specs.Unrefused.{NoStepRefused}
+use Rattle.vl_elab_spec.specs.Statements.{initial_refusals, all_initial_refusals}
+use Rattle.vl_elab_accepted_laws.specs.Sized.{AreSound}
+use Rattle.vl_elab_accepted_laws.specs.Right.{AreRight, IsRight}
+use Rattle.vl_elab_accepted_laws.proofs.MeantWalked.{walk_is_right}
+use Rattle.vl_elab_accepted_laws.specs.SoundSteps.{HasSoundNames, IsFormedStep}
+use Rattle.vl_elab_accepted_laws.proofs.SoundWalked.{walk_sound, walk_formed}
+use Rattle.vl_elab_emit.proofs.Refusing.{starts as starts_are}
+use Rattle.vl_elab_emit.specs.Begins.{Begins}
+use Rattle.vl_elab_emit.specs.Starts.{IsStart}
 
 module _ (ns : List Names) (ss : List Scope) (r : AreRight ns ss) (s : AreSound ns) where
   -- wherever the name stands

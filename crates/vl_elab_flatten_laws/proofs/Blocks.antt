@@ -34,19 +34,19 @@ use Rattle.vl_mean.specs.Execution.{arms_sign, arms_size, labels_sign, labels_si
 use Rattle.vl_mean.specs.FlatLaw.{AreArms, AreBlocks, IsBlock, IsReadIn, case_context as flat_context, flat_scopes}
 use Rattle.vl_mean.specs.Runs.{Each}
 use Rattle.vl_mean.specs.Scopes.{Scope, no_values, operand_in}
-use Rattle.vl_same.specs.FullNames.{flat_arms, flat_expr, flat_exprs, flat_stmt, flat_stmts}
-use Rattle.vl_same.proofs.FoundNames.{AreScopes}
-use Rattle.vl_same.proofs.SameTarget.{flat_operand}
-use Rattle.vl_refusal.specs.Expressions.{expr_refusals, known, own_refusals}
-use Rattle.vl_refusal.specs.Meanings.{Names, objects}
-use Rattle.vl_refusal.specs.Statements.{arms_refusals, assignment_refusals, case_context, labels_refusals}
-use Rattle.vl_refusal.specs.Statements.{stmt_refusals, stmts_refusals, with_label, with_labels}
-use Rattle.vl_names.proofs.Fresh.{NoneOf, none-front, none-back}
-use Rattle.vl_names.proofs.Plain.{all-each}
-use Rattle.vl_scope.specs.Seen.{AllNamed}
-use Rattle.vl_known.specs.Means.{AreMeant}
-use Rattle.vl_lawful.proofs.Expressions.{IsFlat, IsNoClock, flat_own, flat_so, read_in}
-use Rattle.vl_lawful.proofs.Targets.{flat_assignment}
+use Rattle.vl_mean_flat.specs.FullNames.{flat_arms, flat_expr, flat_exprs, flat_stmt, flat_stmts}
+use Rattle.vl_mean_flat.proofs.FoundNames.{AreScopes}
+use Rattle.vl_mean_flat.proofs.SameTarget.{flat_operand}
+use Rattle.vl_elab_spec.specs.Expressions.{expr_refusals, known, own_refusals}
+use Rattle.vl_elab_spec.specs.Meanings.{Names, objects}
+use Rattle.vl_elab_spec.specs.Statements.{arms_refusals, assignment_refusals, case_context, labels_refusals}
+use Rattle.vl_elab_spec.specs.Statements.{stmt_refusals, stmts_refusals, with_label, with_labels}
+use Rattle.vl_elab_accepted_laws.proofs.Fresh.{NoneOf, none-front, none-back}
+use Rattle.vl_elab_accepted_laws.proofs.Plain.{all-each}
+use Rattle.vl_elab_scope.specs.Seen.{AllNamed}
+use Rattle.vl_elab_accepted_laws.specs.Means.{AreMeant}
+use Rattle.vl_elab_flatten_laws.proofs.Expressions.{IsFlat, IsNoClock, flat_own, flat_so, read_in}
+use Rattle.vl_elab_flatten_laws.proofs.Targets.{flat_assignment}
 
 -- sizes and signs of labels, one behind the other
 max_zero : (m : ℕ) → max m 0 ≡ m

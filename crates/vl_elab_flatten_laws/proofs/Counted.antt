@@ -50,19 +50,19 @@ use Rattle.vl_mean.specs.Parts.{optional_value, parts_of_steps, plain, plain_tar
 use Rattle.vl_mean.specs.Parts.{target_of, targets_of, values_of, with_target}
 use Rattle.vl_mean.specs.Scopes.{Scope, is_clock}
 use Rattle.vl_mean.specs.Walk.{Place, Step, header, port, item, override, connection, first_turn, walk}
-use Rattle.vl_same.specs.Flattened.{decls_of}
-use Rattle.vl_refusal.specs.declared.elab_fault.ElabFault.{ElabFault}
-use Rattle.vl_refusal.specs.declared.elab_fault.ElabFault.TheVariants as f
-use Rattle.vl_refusal.specs.Counts.{assignment_nodes, item_nodes, name_nodes, step_names, step_nodes}
-use Rattle.vl_refusal.specs.Counts.{turn_nodes, value_nodes}
-use Rattle.vl_refusal.specs.Items.{step_refusals}
-use Rattle.vl_refusal.specs.Refused.{Totals, counted, first_refused, is_too_large, lowest}
-use Rattle.vl_refusal.specs.Refused.{or_later, refusals_at}
-use Rattle.vl_names.specs.Unrefused.{NoStepRefused}
-use Rattle.vl_names.proofs.Contained.{or_first, or_second}
-use Rattle.vl_names.proofs.Fresh.{NoneOf, none-back, not-refused}
-use Rattle.vl_draft.specs.Drawn.{drivers_of, starts_of}
-use Rattle.vl_counted.proofs.Nodes.{flat_nodes, flat_target_nodes, flat_stmt_nodes}
+use Rattle.vl_mean_flat.specs.Flattened.{decls_of}
+use Rattle.vl_elab_spec.specs.declared.elab_fault.ElabFault.{ElabFault}
+use Rattle.vl_elab_spec.specs.declared.elab_fault.ElabFault.TheVariants as f
+use Rattle.vl_elab_spec.specs.Counts.{assignment_nodes, item_nodes, name_nodes, step_names, step_nodes}
+use Rattle.vl_elab_spec.specs.Counts.{turn_nodes, value_nodes}
+use Rattle.vl_elab_spec.specs.Items.{step_refusals}
+use Rattle.vl_elab_spec.specs.Refused.{Totals, counted, first_refused, is_too_large, lowest}
+use Rattle.vl_elab_spec.specs.Refused.{or_later, refusals_at}
+use Rattle.vl_elab_accepted_laws.specs.Unrefused.{NoStepRefused}
+use Rattle.vl_elab_accepted_laws.proofs.Contained.{or_first, or_second}
+use Rattle.vl_elab_accepted_laws.proofs.Fresh.{NoneOf, none-back, not-refused}
+use Rattle.vl_elab_draft.specs.Drawn.{drivers_of, starts_of}
+use Rattle.vl_elab_flatten_laws.proofs.Nodes.{flat_nodes, flat_target_nodes, flat_stmt_nodes}
 
 -- ---- nodes of parts
 

@@ -26,36 +26,38 @@ use Rattle.vl_mean.specs.Parts.{item_parts, optional_value, parts_of_steps, port
 use Rattle.vl_mean.specs.Runs.{Each}
 use Rattle.vl_mean.specs.Scopes.{Scope, constant_in}
 use Rattle.vl_mean.specs.Walk.{Place, Step, header, port, item, override, connection, walk}
-use Rattle.vl_same.specs.Flattened.{decls_of}
-use Rattle.vl_same.proofs.EachOf.{both}
-use Rattle.vl_same.proofs.LaidScopes.{decls_append}
-use Rattle.vl_refusal.specs.Items.{declared_value, given_value, item_refusals, name_refusals, names_refusals, port_net}
-use Rattle.vl_refusal.specs.Items.{range_refusals, width_refusals}
-use Rattle.vl_refusal.specs.Meanings.{Names, constants, declared_width, is_known_range, meanings_at}
-use Rattle.vl_names.specs.Unrefused.{NoStepRefused}
-use Rattle.vl_names.proofs.Declared.{assignments-none, block-none, connection-none, initial-none, optional-none}
-use Rattle.vl_names.proofs.Declared.{part_names, values-none}
-use Rattle.vl_names.proofs.Fresh.{IsFine, NoneOf, none-front, none-back}
-use Rattle.vl_names.proofs.Loops.{AreFine}
-use Rattle.vl_names.proofs.Names.{names_differ, walk-fine}
-use Rattle.vl_names.proofs.Plain.{all-each}
-use Rattle.vl_scope.specs.Seen.{AllNamed}
-use Rattle.vl_sized.specs.Sized.{AreSound, AreSure}
-use Rattle.vl_fixed.specs.Among.{AreAmong}
-use Rattle.vl_fixed.proofs.Stays.{known_bound}
-use Rattle.vl_meant.specs.Right.{IsRight}
-use Rattle.vl_meant.proofs.Walked.{walk_is_right}
-use Rattle.vl_sound.specs.SoundSteps.{HasSoundBounds, HasSoundNames, IsFormedStep}
-use Rattle.vl_sound.proofs.Constants.{IsNarrow, first_true, second_true, shape_known}
-use Rattle.vl_sound.proofs.Reached.{sure_sound}
-use Rattle.vl_sound.proofs.Walked.{walk_bounds, walk_formed, walk_sound}
-use Rattle.vl_clean.proofs.Paths.{IsClean}
-use Rattle.vl_clean.proofs.Printed.{walk_clean}
-use Rattle.vl_draft.specs.Ends.{EndsPlain}
-use Rattle.vl_draft.specs.Written.{nothing}
-use Rattle.vl_begun.proofs.Begun.{all_begin}
-use Rattle.vl_write.specs.Behind.{MayStandBehind}
-use Rattle.vl_behind.proofs.Ended.{name_behind}
+use Rattle.vl_mean_flat.specs.Flattened.{decls_of}
+use Rattle.vl_mean_flat.proofs.EachOf.{both}
+use Rattle.vl_mean_flat.proofs.LaidScopes.{decls_append}
+use Rattle.vl_elab_spec.specs.Items.{declared_value, given_value, item_refusals, name_refusals, names_refusals}
+use Rattle.vl_elab_spec.specs.Items.{port_net}
+use Rattle.vl_elab_spec.specs.Items.{range_refusals, width_refusals}
+use Rattle.vl_elab_spec.specs.Meanings.{Names, constants, declared_width, is_known_range, meanings_at}
+use Rattle.vl_elab_accepted_laws.specs.Unrefused.{NoStepRefused}
+use Rattle.vl_elab_accepted_laws.proofs.Declared.{assignments-none, block-none, connection-none, initial-none}
+use Rattle.vl_elab_accepted_laws.proofs.Declared.{optional-none}
+use Rattle.vl_elab_accepted_laws.proofs.Declared.{part_names, values-none}
+use Rattle.vl_elab_accepted_laws.proofs.Fresh.{IsFine, NoneOf, none-front, none-back}
+use Rattle.vl_elab_accepted_laws.proofs.Loops.{AreFine}
+use Rattle.vl_elab_accepted_laws.proofs.Names.{names_differ, walk-fine}
+use Rattle.vl_elab_accepted_laws.proofs.Plain.{all-each}
+use Rattle.vl_elab_scope.specs.Seen.{AllNamed}
+use Rattle.vl_elab_accepted_laws.specs.Sized.{AreSound, AreSure}
+use Rattle.vl_elab_spec.specs.Among.{AreAmong}
+use Rattle.vl_elab_spec.proofs.Stays.{known_bound}
+use Rattle.vl_elab_accepted_laws.specs.Right.{IsRight}
+use Rattle.vl_elab_accepted_laws.proofs.MeantWalked.{walk_is_right}
+use Rattle.vl_elab_accepted_laws.specs.SoundSteps.{HasSoundBounds, HasSoundNames, IsFormedStep}
+use Rattle.vl_elab_accepted_laws.proofs.Constants.{IsNarrow, first_true, second_true, shape_known}
+use Rattle.vl_elab_accepted_laws.proofs.Reached.{sure_sound}
+use Rattle.vl_elab_accepted_laws.proofs.SoundWalked.{walk_bounds, walk_formed, walk_sound}
+use Rattle.vl_elab_accepted_laws.proofs.Paths.{IsClean}
+use Rattle.vl_elab_accepted_laws.proofs.Printed.{walk_clean}
+use Rattle.vl_elab_draft.specs.Ends.{EndsPlain}
+use Rattle.vl_elab_draft.specs.Written.{nothing}
+use Rattle.vl_elab_flatten_laws.proofs.Begun.{all_begin}
+use Rattle.vl_elab_emit.specs.Behind.{MayStandBehind}
+use Rattle.vl_elab_flatten_laws.proofs.Ended.{name_behind}
 
 -- ---- what declares nothing
 

@@ -7,21 +7,21 @@ use Rattle.vl_mean.specs.FlatParts.{flat_parts}
 use Rattle.vl_mean.specs.Parts.{design, parts_of_steps, step_parts}
 use Rattle.vl_mean.specs.Runs.{Each}
 use Rattle.vl_mean.specs.Walk.{Step, header, port, item, override, connection, walk}
-use Rattle.vl_same.specs.Flattened.{Known}
-use Rattle.vl_same.specs.SameMaps.{AreSameMaps}
-use Rattle.vl_same.proofs.EachOf.{both}
-use Rattle.vl_names.specs.Unrefused.{NoStepRefused}
-use Rattle.vl_names.proofs.Fresh.{IsFine}
-use Rattle.vl_names.proofs.Loops.{AreFine}
-use Rattle.vl_names.proofs.Names.{names_differ, walk-fine}
-use Rattle.vl_draft.specs.Drawn.{IsDrawn}
-use Rattle.vl_draft.proofs.Drawing.{same_maps}
-use Rattle.vl_meant.specs.Right.{IsRight}
-use Rattle.vl_meant.proofs.Walked.{walk_is_right}
-use Rattle.vl_parts.proofs.Joining.{known_connection}
-use Rattle.vl_parts.proofs.Parting.{known_item, known_port}
-use Rattle.vl_sound.specs.SoundSteps.{HasSoundNames, IsFormedStep}
-use Rattle.vl_sound.proofs.Walked.{walk_sound, walk_formed}
+use Rattle.vl_mean_flat.specs.Flattened.{Known}
+use Rattle.vl_mean_flat.specs.SameMaps.{AreSameMaps}
+use Rattle.vl_mean_flat.proofs.EachOf.{both}
+use Rattle.vl_elab_accepted_laws.specs.Unrefused.{NoStepRefused}
+use Rattle.vl_elab_accepted_laws.proofs.Fresh.{IsFine}
+use Rattle.vl_elab_accepted_laws.proofs.Loops.{AreFine}
+use Rattle.vl_elab_accepted_laws.proofs.Names.{names_differ, walk-fine}
+use Rattle.vl_elab_draft.specs.Drawn.{IsDrawn}
+use Rattle.vl_elab_draft.proofs.Drawing.{same_maps}
+use Rattle.vl_elab_accepted_laws.specs.Right.{IsRight}
+use Rattle.vl_elab_accepted_laws.proofs.MeantWalked.{walk_is_right}
+use Rattle.vl_elab_accepted_laws.proofs.Joining.{known_connection}
+use Rattle.vl_elab_accepted_laws.proofs.Parting.{known_item, known_port}
+use Rattle.vl_elab_accepted_laws.specs.SoundSteps.{HasSoundNames, IsFormedStep}
+use Rattle.vl_elab_accepted_laws.proofs.SoundWalked.{walk_sound, walk_formed}
 
 known_step : (ms : List Module) (x : Step) → IsRight x → HasSoundNames x → IsFormedStep x → IsFine ms x
     → Each Known (step_parts x)

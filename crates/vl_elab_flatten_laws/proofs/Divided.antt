@@ -32,10 +32,10 @@ use Rattle.vl_size.specs.Divisors.{zero_divisor}
 use Rattle.vl_size.specs.Places.{earlier_place}
 use Rattle.vl_size.specs.Size.{divides, no_names}
 use Rattle.vl_size.specs.Way.{keeps_size, way}
-use Rattle.vl_same.specs.Found.{IsFound}
-use Rattle.vl_same.specs.FullNames.{renamed, renamed_exprs, renamed_selects}
-use Rattle.vl_same.specs.Names.{Names, AllNames, SelectsNames}
-use Rattle.vl_same.proofs.SameExpr.{same_constant, same_sign, same_size, same_value}
+use Rattle.vl_mean_flat.specs.Found.{IsFound}
+use Rattle.vl_mean_flat.specs.FullNames.{renamed, renamed_exprs, renamed_selects}
+use Rattle.vl_mean_flat.specs.Names.{Names, AllNames, SelectsNames}
+use Rattle.vl_mean_flat.proofs.SameExpr.{same_constant, same_sign, same_size, same_value}
 
 module _ (f : List ℕ → List ℕ) (ds es : List Decl) where
   abbrev Found : List ℕ → Type 0

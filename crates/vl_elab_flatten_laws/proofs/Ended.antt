@@ -5,8 +5,8 @@ use Rattle.std.proofs.Common.{ap, sym, ◌∙◌, true≢false, arith}
 use Rattle.std.proofs.lemmas.Bool.Decides.{nat_tests}
 use Rattle.fv_base.specs.Name.{is_name, is_word, begins_word, continues_word}
 use Rattle.vl_tree.specs.ExprWellFormed.{IsName}
-use Rattle.vl_draft.specs.Ends.{ends_plain}
-use Rattle.vl_sound.proofs.Constants.{first_true, second_true}
+use Rattle.vl_elab_draft.specs.Ends.{ends_plain}
+use Rattle.vl_elab_accepted_laws.proofs.Constants.{first_true, second_true}
 
 same_number : (m n : ℕ) → (m == n) ≡ true → m ≡ n
 same_number m n h = grind (arith, nat_tests)

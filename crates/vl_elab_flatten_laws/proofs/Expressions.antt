@@ -15,29 +15,29 @@ use Rattle.vl_size.specs.Table.{declared_as}
 use Rattle.vl_mean.specs.Constants.{settled, settled_selects}
 use Rattle.vl_mean.specs.FlatLaw.{IsReadIn, IsRead as IsReadFlat, names_in}
 use Rattle.vl_mean.specs.Scopes.{Scope, constant_in, full, visible, is_clock_decl, is_clock_class}
-use Rattle.vl_same.specs.Flattened.{IsSeen}
-use Rattle.vl_same.specs.Found.{Found, IsFound}
-use Rattle.vl_same.specs.FullNames.{flat_expr, renamed}
-use Rattle.vl_same.specs.Names.{Names as EachName, ExprNames, SelectsNames}
-use Rattle.vl_same.proofs.FoundNames.{AreScopes, found}
-use Rattle.vl_same.proofs.NamesMap.{expr_map}
-use Rattle.vl_same.proofs.SameExpr as same
-use Rattle.vl_refusal.specs.Expressions.{expr_refusals, known, own_refusals, refusals}
-use Rattle.vl_refusal.specs.Meanings.{Meaning, undeclared, constant, loop_variable, object, faulty, shapeless, later}
-use Rattle.vl_refusal.specs.Meanings.{Names, constants, meaning_in, objects}
-use Rattle.vl_names.proofs.Contained.{each-has}
-use Rattle.vl_names.proofs.Fresh.{NoneOf, none-front, none-back}
-use Rattle.vl_scope.specs.Seen.{AllNamed, object_of}
-use Rattle.vl_scope.specs.Texts.{AgreeOn, texts}
-use Rattle.vl_scope.proofs.Agree as agree
-use Rattle.vl_scope.proofs.Objects.{object_is}
-use Rattle.vl_sized.specs.Sized.{IsRead, IsSized}
-use Rattle.vl_sized.proofs.Sizes.{read}
-use Rattle.vl_sized.proofs.Tests.{undivided}
-use Rattle.vl_known.specs.Means.{AreMeant, MeansIn}
-use Rattle.vl_known.proofs.Agreeing.{known_is, seen, sound}
-use Rattle.vl_lawful.proofs.Divided.{same_divisor}
-use Rattle.vl_lawful.proofs.Names.{each_text, all_renamed}
+use Rattle.vl_mean_flat.specs.Flattened.{IsSeen}
+use Rattle.vl_mean_flat.specs.Found.{Found, IsFound}
+use Rattle.vl_mean_flat.specs.FullNames.{flat_expr, renamed}
+use Rattle.vl_mean_flat.specs.Names.{Names as EachName, ExprNames, SelectsNames}
+use Rattle.vl_mean_flat.proofs.FoundNames.{AreScopes, found}
+use Rattle.vl_mean_flat.proofs.NamesMap.{expr_map}
+use Rattle.vl_mean_flat.proofs.SameExpr as same
+use Rattle.vl_elab_spec.specs.Expressions.{expr_refusals, known, own_refusals, refusals}
+use Rattle.vl_elab_spec.specs.Meanings.{Meaning, undeclared, constant, loop_variable, object, faulty, shapeless, later}
+use Rattle.vl_elab_spec.specs.Meanings.{Names, constants, meaning_in, objects}
+use Rattle.vl_elab_accepted_laws.proofs.Contained.{each-has}
+use Rattle.vl_elab_accepted_laws.proofs.Fresh.{NoneOf, none-front, none-back}
+use Rattle.vl_elab_scope.specs.Seen.{AllNamed, object_of}
+use Rattle.vl_elab_scope.specs.Texts.{AgreeOn, texts}
+use Rattle.vl_elab_scope.proofs.Agree as agree
+use Rattle.vl_elab_scope.proofs.ScopeObjects.{object_is}
+use Rattle.vl_elab_accepted_laws.specs.Sized.{IsRead, IsSized}
+use Rattle.vl_elab_accepted_laws.proofs.Sizes.{read}
+use Rattle.vl_elab_accepted_laws.proofs.Tests.{undivided}
+use Rattle.vl_elab_accepted_laws.specs.Means.{AreMeant, MeansIn}
+use Rattle.vl_elab_accepted_laws.proofs.Agreeing.{known_is, seen, sound}
+use Rattle.vl_elab_flatten_laws.proofs.Divided.{same_divisor}
+use Rattle.vl_elab_flatten_laws.proofs.LawfulNames.{each_text, all_renamed}
 
 -- a name that is read, in scopes that are laid out over the declarations of the design
 module _ (ns : List Names) (ss : List Scope) (es : List Decl) (named_so : AllNamed ns) (meant : AreMeant ns ss)

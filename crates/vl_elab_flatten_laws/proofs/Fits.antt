@@ -31,19 +31,19 @@ use Rattle.vl_mean.specs.Parts.{block_part, connection_part, declares_all, initi
 use Rattle.vl_mean.specs.Parts.{plain_target, port_part, target_of, values_of, with_target}
 use Rattle.vl_mean.specs.Runs.{Each}
 use Rattle.vl_mean.specs.Scopes.{Scope, constant_in, is_clock}
-use Rattle.vl_same.specs.Flattened.{decls_of}
-use Rattle.vl_same.proofs.EachOf.{both}
-use Rattle.vl_refusal.specs.declared.elab_fault.ElabFault.{ElabFault}
-use Rattle.vl_refusal.specs.Expressions.{refused_if}
-use Rattle.vl_refusal.specs.Items.{declared_value, name_refusals, names_refusals, range_refusals, width_refusals}
-use Rattle.vl_refusal.specs.Meanings.{Names, bound, constants, is_known, is_known_bound, is_known_range}
-use Rattle.vl_refusal.specs.Meanings.{is_variable_class, may_have_words}
-use Rattle.vl_names.proofs.Fresh.{NoneOf, none-front, none-back, not-refused}
-use Rattle.vl_scope.specs.Seen.{AllNamed}
-use Rattle.vl_sized.specs.Sized.{AreSure}
-use Rattle.vl_fixed.specs.Among.{AreAmong}
-use Rattle.vl_fixed.proofs.Stays.{known_bound}
-use Rattle.vl_sound.proofs.Constants.{first_true, range_known, second_true}
+use Rattle.vl_mean_flat.specs.Flattened.{decls_of}
+use Rattle.vl_mean_flat.proofs.EachOf.{both}
+use Rattle.vl_elab_spec.specs.declared.elab_fault.ElabFault.{ElabFault}
+use Rattle.vl_elab_spec.specs.Expressions.{refused_if}
+use Rattle.vl_elab_spec.specs.Items.{declared_value, name_refusals, names_refusals, range_refusals, width_refusals}
+use Rattle.vl_elab_spec.specs.Meanings.{Names, bound, constants, is_known, is_known_bound, is_known_range}
+use Rattle.vl_elab_spec.specs.Meanings.{is_variable_class, may_have_words}
+use Rattle.vl_elab_accepted_laws.proofs.Fresh.{NoneOf, none-front, none-back, not-refused}
+use Rattle.vl_elab_scope.specs.Seen.{AllNamed}
+use Rattle.vl_elab_accepted_laws.specs.Sized.{AreSure}
+use Rattle.vl_elab_spec.specs.Among.{AreAmong}
+use Rattle.vl_elab_spec.proofs.Stays.{known_bound}
+use Rattle.vl_elab_accepted_laws.proofs.Constants.{first_true, range_known, second_true}
 
 -- all that is asked of a declaration, but its name
 pub record IsFit (d : Decl) : Type 0 where

@@ -30,27 +30,27 @@ use Rattle.vl_mean.specs.Parts.{target_of, with_target}
 use Rattle.vl_mean.specs.Runs.{Each}
 use Rattle.vl_mean.specs.Scopes.{Scope, constant_in, full, is_clock, is_clock_class, is_clock_decl, visible}
 use Rattle.vl_mean.specs.Walk.{Place, Use, connection, module_around, module_contents, module_scope}
-use Rattle.vl_same.specs.Found.{IsFound}
+use Rattle.vl_mean_flat.specs.Found.{IsFound}
 use Rattle.vl_mean.specs.Targets.{is_decl}
-use Rattle.vl_same.specs.FullNames.{flat_expr, flat_lval, renamed}
-use Rattle.vl_same.proofs.FoundNames.{AreScopes, found}
-use Rattle.vl_refusal.specs.Expressions.{expr_refusals}
-use Rattle.vl_refusal.specs.Items.{connection_refusals, inner_meanings, joined_context, joined_refusals, joined_value}
-use Rattle.vl_refusal.specs.Items.{object_width, output_target}
-use Rattle.vl_refusal.specs.Meanings.{Meaning, undeclared, constant, loop_variable, object, faulty, shapeless, later}
-use Rattle.vl_refusal.specs.Meanings.{Names, is_undeclared, meaning_in, meaning_of, meanings_at, scope_meanings}
-use Rattle.vl_refusal.specs.Statements.{assigned_in}
-use Rattle.vl_names.proofs.Fresh.{NoneOf, none-back}
-use Rattle.vl_scope.specs.Seen.{AllNamed}
-use Rattle.vl_sized.specs.Sized.{AreSound}
-use Rattle.vl_known.specs.Means.{AreMeant, MeansIn}
-use Rattle.vl_meant.specs.Right.{AreRight}
-use Rattle.vl_meant.proofs.Laid.{module_laid}
-use Rattle.vl_meant.proofs.Level.{LevelMeans, level_means}
-use Rattle.vl_parts.specs.Joined.{IsObject, PortsAreObjects}
-use Rattle.vl_parts.proofs.Joining.{target_formed}
-use Rattle.vl_lawful.proofs.Steps.{IsDrawnPart}
-use Rattle.vl_lawful.proofs.Targets.{assigned_read, flat_assigned}
+use Rattle.vl_mean_flat.specs.FullNames.{flat_expr, flat_lval, renamed}
+use Rattle.vl_mean_flat.proofs.FoundNames.{AreScopes, found}
+use Rattle.vl_elab_spec.specs.Expressions.{expr_refusals}
+use Rattle.vl_elab_spec.specs.Items.{connection_refusals, inner_meanings, joined_context, joined_refusals, joined_value}
+use Rattle.vl_elab_spec.specs.Items.{object_width, output_target}
+use Rattle.vl_elab_spec.specs.Meanings.{Meaning, undeclared, constant, loop_variable, object, faulty, shapeless, later}
+use Rattle.vl_elab_spec.specs.Meanings.{Names, is_undeclared, meaning_in, meaning_of, meanings_at, scope_meanings}
+use Rattle.vl_elab_spec.specs.Statements.{assigned_in}
+use Rattle.vl_elab_accepted_laws.proofs.Fresh.{NoneOf, none-back}
+use Rattle.vl_elab_scope.specs.Seen.{AllNamed}
+use Rattle.vl_elab_accepted_laws.specs.Sized.{AreSound}
+use Rattle.vl_elab_accepted_laws.specs.Means.{AreMeant, MeansIn}
+use Rattle.vl_elab_accepted_laws.specs.Right.{AreRight}
+use Rattle.vl_elab_accepted_laws.proofs.Laid.{module_laid}
+use Rattle.vl_elab_accepted_laws.proofs.Level.{LevelMeans, level_means}
+use Rattle.vl_elab_accepted_laws.specs.Joined.{IsObject, PortsAreObjects}
+use Rattle.vl_elab_accepted_laws.proofs.Joining.{target_formed}
+use Rattle.vl_elab_flatten_laws.proofs.LawfulSteps.{IsDrawnPart}
+use Rattle.vl_elab_flatten_laws.proofs.Targets.{assigned_read, flat_assigned}
 
 -- ---- a port as its module declares it
 

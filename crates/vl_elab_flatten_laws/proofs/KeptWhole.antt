@@ -20,30 +20,32 @@ use Rattle.vl_mean.specs.Parts.{optional_value}
 use Rattle.vl_mean.specs.Runs.{Each}
 use Rattle.vl_mean.specs.Scopes.{constant_in}
 use Rattle.vl_mean.specs.Walk.{Place, Step, header, port, item, override, connection, walk}
-use Rattle.vl_same.specs.Flattened.{decls_of}
-use Rattle.vl_same.proofs.EachOf.{both}
-use Rattle.vl_refusal.specs.Items.{item_refusals, given_value, names_refusals, port_net, range_refusals, width_refusals}
-use Rattle.vl_refusal.specs.Meanings.{constants, meanings_at}
-use Rattle.vl_names.specs.Unrefused.{NoStepRefused}
-use Rattle.vl_names.proofs.Fresh.{IsFine, NoneOf, none-front, none-back}
-use Rattle.vl_names.proofs.Loops.{AreFine}
-use Rattle.vl_names.proofs.Names.{walk-fine}
-use Rattle.vl_names.proofs.Plain.{all-head, all-tail, all-each}
-use Rattle.vl_scope.specs.Seen.{AllNamed}
-use Rattle.vl_sized.specs.Sized.{AreSound, AreSure}
-use Rattle.vl_fixed.specs.Among.{AreAmong}
-use Rattle.vl_meant.specs.Right.{IsRight}
-use Rattle.vl_meant.proofs.Walked.{walk_is_right}
-use Rattle.vl_sound.specs.SoundSteps.{HasSoundBounds, HasSoundNames, IsFormedStep}
-use Rattle.vl_sound.proofs.Reached.{sure_sound}
-use Rattle.vl_sound.proofs.Walked.{walk_bounds, walk_formed, walk_sound}
-use Rattle.vl_draft.specs.Drawn.{drivers_of, starts_of}
-use Rattle.vl_clean.proofs.Paths.{IsClean}
-use Rattle.vl_clean.proofs.Printed.{design_printed, IsPrinted, walk_clean}
-use Rattle.vl_counted.proofs.Counted.{design_names, design_nodes}
-use Rattle.vl_lawful.proofs.Whole.{design_driven, design_started}
-use Rattle.vl_kept.proofs.Fits.{IsFit, PartFits, assignments_fit, block_fits, declared_fit, initial_fits, integers_fit}
-use Rattle.vl_kept.proofs.Fits.{names_fit, optional_fits, port_decl_fits, port_fits, under_fit, values_fit}
+use Rattle.vl_mean_flat.specs.Flattened.{decls_of}
+use Rattle.vl_mean_flat.proofs.EachOf.{both}
+use Rattle.vl_elab_spec.specs.Items.{item_refusals, given_value, names_refusals, port_net, range_refusals}
+use Rattle.vl_elab_spec.specs.Items.{width_refusals}
+use Rattle.vl_elab_spec.specs.Meanings.{constants, meanings_at}
+use Rattle.vl_elab_accepted_laws.specs.Unrefused.{NoStepRefused}
+use Rattle.vl_elab_accepted_laws.proofs.Fresh.{IsFine, NoneOf, none-front, none-back}
+use Rattle.vl_elab_accepted_laws.proofs.Loops.{AreFine}
+use Rattle.vl_elab_accepted_laws.proofs.Names.{walk-fine}
+use Rattle.vl_elab_accepted_laws.proofs.Plain.{all-head, all-tail, all-each}
+use Rattle.vl_elab_scope.specs.Seen.{AllNamed}
+use Rattle.vl_elab_accepted_laws.specs.Sized.{AreSound, AreSure}
+use Rattle.vl_elab_spec.specs.Among.{AreAmong}
+use Rattle.vl_elab_accepted_laws.specs.Right.{IsRight}
+use Rattle.vl_elab_accepted_laws.proofs.MeantWalked.{walk_is_right}
+use Rattle.vl_elab_accepted_laws.specs.SoundSteps.{HasSoundBounds, HasSoundNames, IsFormedStep}
+use Rattle.vl_elab_accepted_laws.proofs.Reached.{sure_sound}
+use Rattle.vl_elab_accepted_laws.proofs.SoundWalked.{walk_bounds, walk_formed, walk_sound}
+use Rattle.vl_elab_draft.specs.Drawn.{drivers_of, starts_of}
+use Rattle.vl_elab_accepted_laws.proofs.Paths.{IsClean}
+use Rattle.vl_elab_accepted_laws.proofs.Printed.{design_printed, IsPrinted, walk_clean}
+use Rattle.vl_elab_flatten_laws.proofs.Counted.{design_names, design_nodes}
+use Rattle.vl_elab_flatten_laws.proofs.LawfulWhole.{design_driven, design_started}
+use Rattle.vl_elab_flatten_laws.proofs.Fits.{IsFit, PartFits, assignments_fit, block_fits, declared_fit, initial_fits}
+use Rattle.vl_elab_flatten_laws.proofs.Fits.{integers_fit}
+use Rattle.vl_elab_flatten_laws.proofs.Fits.{names_fit, optional_fits, port_decl_fits, port_fits, under_fit, values_fit}
 
 -- the bounds of what a step declares are read over the constants that are judged
 fit_item : (ms : List Module) (at : Place) (x : Item) → AllNamed (meanings_at at) → AreSure (meanings_at at)

@@ -23,10 +23,10 @@ use Rattle.vl_tree.specs.Expr.{
 }
 use Rattle.vl_mean.specs.FlatLaw.{names_in, names_in_all, names_in_selects}
 use Rattle.vl_mean.specs.Runs.{Each}
-use Rattle.vl_same.specs.FullNames.{renamed, renamed_exprs, renamed_selects}
-use Rattle.vl_same.specs.Names.{Names, AllNames, SelectsNames}
-use Rattle.vl_same.proofs.EachOf.{both}
-use Rattle.vl_scope.specs.Texts.{texts, exprs_texts, selects_texts}
+use Rattle.vl_mean_flat.specs.FullNames.{renamed, renamed_exprs, renamed_selects}
+use Rattle.vl_mean_flat.specs.Names.{Names, AllNames, SelectsNames}
+use Rattle.vl_mean_flat.proofs.EachOf.{both}
+use Rattle.vl_elab_scope.specs.Texts.{texts, exprs_texts, selects_texts}
 
 module _ (P : List ℕ → Type 0) where
   mutual

@@ -40,22 +40,22 @@ use Rattle.vl_mean.specs.Parts.{all_initial_parts, declares_all}
 use Rattle.vl_mean.specs.Declarations.{class_of_attributes}
 use Rattle.vl_mean.specs.Runs.{Each}
 use Rattle.vl_mean.specs.Scopes.{Scope}
-use Rattle.vl_same.specs.FullNames.{flat_expr, flat_lval, flat_stmt}
-use Rattle.vl_same.proofs.EachOf.{both}
-use Rattle.vl_same.proofs.FoundNames.{AreScopes}
-use Rattle.vl_refusal.specs.declared.elab_fault.ElabFault.{ElabFault}
-use Rattle.vl_refusal.specs.Expressions.{expr_refusals, refused_if}
-use Rattle.vl_refusal.specs.Items.{assignments_refusals, declared_value, event_refusals, given_value, name_refusals}
-use Rattle.vl_refusal.specs.Items.{names_refusals, port_net}
-use Rattle.vl_refusal.specs.Meanings.{Names, is_variable_class, may_have_words}
-use Rattle.vl_refusal.specs.Statements.{all_initial_refusals, assigned_in, assignment_refusals, initial_refusals}
-use Rattle.vl_refusal.specs.Statements.{stmt_refusals, target_refusals, target_width}
-use Rattle.vl_names.proofs.Fresh.{NoneOf, none-front, none-back, not-refused}
-use Rattle.vl_names.proofs.Plain.{all-each}
-use Rattle.vl_scope.specs.Seen.{AllNamed}
-use Rattle.vl_known.specs.Means.{AreMeant}
-use Rattle.vl_lawful.proofs.Blocks.{flat_block}
-use Rattle.vl_lawful.proofs.Targets.{flat_assigned, flat_assignment}
+use Rattle.vl_mean_flat.specs.FullNames.{flat_expr, flat_lval, flat_stmt}
+use Rattle.vl_mean_flat.proofs.EachOf.{both}
+use Rattle.vl_mean_flat.proofs.FoundNames.{AreScopes}
+use Rattle.vl_elab_spec.specs.declared.elab_fault.ElabFault.{ElabFault}
+use Rattle.vl_elab_spec.specs.Expressions.{expr_refusals, refused_if}
+use Rattle.vl_elab_spec.specs.Items.{assignments_refusals, declared_value, event_refusals, given_value, name_refusals}
+use Rattle.vl_elab_spec.specs.Items.{names_refusals, port_net}
+use Rattle.vl_elab_spec.specs.Meanings.{Names, is_variable_class, may_have_words}
+use Rattle.vl_elab_spec.specs.Statements.{all_initial_refusals, assigned_in, assignment_refusals, initial_refusals}
+use Rattle.vl_elab_spec.specs.Statements.{stmt_refusals, target_refusals, target_width}
+use Rattle.vl_elab_accepted_laws.proofs.Fresh.{NoneOf, none-front, none-back, not-refused}
+use Rattle.vl_elab_accepted_laws.proofs.Plain.{all-each}
+use Rattle.vl_elab_scope.specs.Seen.{AllNamed}
+use Rattle.vl_elab_accepted_laws.specs.Means.{AreMeant}
+use Rattle.vl_elab_flatten_laws.proofs.Blocks.{flat_block}
+use Rattle.vl_elab_flatten_laws.proofs.Targets.{flat_assigned, flat_assignment}
 
 module _ (es : List Decl) where
   -- what an equation is without hierarchy

@@ -20,28 +20,29 @@ use Rattle.vl_mean.specs.Parts.{Part, declares, equation, combinational, clocked
 use Rattle.vl_mean.specs.Parts.{parts_of_steps, step_parts, values_of}
 use Rattle.vl_mean.specs.Runs.{Each}
 use Rattle.vl_mean.specs.Walk.{Place, Step, header, port, item, override, connection, walk}
-use Rattle.vl_same.specs.Flattened.{decls_of}
-use Rattle.vl_same.specs.StepScopes.{StepScopes}
-use Rattle.vl_same.proofs.EachOf.{both}
-use Rattle.vl_same.proofs.FoundNames.{AreScopes}
-use Rattle.vl_same.proofs.LaidScopes.{laid_walk}
-use Rattle.vl_refusal.specs.Items.{event_refusals, given_value, item_refusals, port_net}
-use Rattle.vl_refusal.specs.Meanings.{meanings_at}
-use Rattle.vl_names.specs.Unrefused.{NoStepRefused}
-use Rattle.vl_refusal.specs.Statements.{stmt_refusals}
-use Rattle.vl_names.proofs.Fresh.{IsFine, NoneOf, none-back}
-use Rattle.vl_names.proofs.Loops.{AreFine}
-use Rattle.vl_names.proofs.Names.{names_differ, walk-fine}
-use Rattle.vl_names.proofs.Plain.{all-each}
-use Rattle.vl_draft.specs.Drawn.{drivers_of, starts_of}
-use Rattle.vl_sized.specs.Sized.{AreSound}
-use Rattle.vl_meant.specs.Right.{AreRight, IsRight}
-use Rattle.vl_meant.proofs.Walked.{walk_is_right}
-use Rattle.vl_sound.specs.SoundSteps.{HasOwnInput, HasSoundNames, IsFormedStep}
-use Rattle.vl_sound.proofs.Walked.{walk_formed, walk_inputs, walk_sound}
-use Rattle.vl_lawful.proofs.Joins.{drawn_connection}
-use Rattle.vl_lawful.proofs.Steps.{IsDrawnPart, declarations_drawn, drawn_assignments, drawn_block, drawn_given}
-use Rattle.vl_lawful.proofs.Steps.{drawn_initial, drawn_names}
+use Rattle.vl_mean_flat.specs.Flattened.{decls_of}
+use Rattle.vl_mean_flat.specs.StepScopes.{StepScopes}
+use Rattle.vl_mean_flat.proofs.EachOf.{both}
+use Rattle.vl_mean_flat.proofs.FoundNames.{AreScopes}
+use Rattle.vl_mean_flat.proofs.LaidScopes.{laid_walk}
+use Rattle.vl_elab_spec.specs.Items.{event_refusals, given_value, item_refusals, port_net}
+use Rattle.vl_elab_spec.specs.Meanings.{meanings_at}
+use Rattle.vl_elab_accepted_laws.specs.Unrefused.{NoStepRefused}
+use Rattle.vl_elab_spec.specs.Statements.{stmt_refusals}
+use Rattle.vl_elab_accepted_laws.proofs.Fresh.{IsFine, NoneOf, none-back}
+use Rattle.vl_elab_accepted_laws.proofs.Loops.{AreFine}
+use Rattle.vl_elab_accepted_laws.proofs.Names.{names_differ, walk-fine}
+use Rattle.vl_elab_accepted_laws.proofs.Plain.{all-each}
+use Rattle.vl_elab_draft.specs.Drawn.{drivers_of, starts_of}
+use Rattle.vl_elab_accepted_laws.specs.Sized.{AreSound}
+use Rattle.vl_elab_accepted_laws.specs.Right.{AreRight, IsRight}
+use Rattle.vl_elab_accepted_laws.proofs.MeantWalked.{walk_is_right}
+use Rattle.vl_elab_accepted_laws.specs.SoundSteps.{HasOwnInput, HasSoundNames, IsFormedStep}
+use Rattle.vl_elab_accepted_laws.proofs.SoundWalked.{walk_formed, walk_inputs, walk_sound}
+use Rattle.vl_elab_flatten_laws.proofs.Joins.{drawn_connection}
+use Rattle.vl_elab_flatten_laws.proofs.LawfulSteps.{IsDrawnPart, declarations_drawn, drawn_assignments, drawn_block}
+use Rattle.vl_elab_flatten_laws.proofs.LawfulSteps.{drawn_given}
+use Rattle.vl_elab_flatten_laws.proofs.LawfulSteps.{drawn_initial, drawn_names}
 
 same_kind : (o : Option NetKind) → port_net o ≡ port_kind o
 same_kind None = refl

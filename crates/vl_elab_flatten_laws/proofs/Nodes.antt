@@ -47,8 +47,9 @@ use Rattle.vl_mean.specs.FlatLaw.{all_nodes, all_stmt_nodes, all_target_nodes, a
 use Rattle.vl_mean.specs.FlatLaw.{select_nodes}
 use Rattle.vl_mean.specs.FlatLaw.{stmt_nodes, target_nodes}
 use Rattle.vl_mean.specs.Scopes.{Scope, constant_in, full}
-use Rattle.vl_same.specs.FullNames.{flat_arms, flat_expr, flat_exprs, flat_lval, flat_lvals, flat_selects, flat_stmt}
-use Rattle.vl_same.specs.FullNames.{flat_stmts, renamed, renamed_exprs, renamed_selects}
+use Rattle.vl_mean_flat.specs.FullNames.{flat_arms, flat_expr, flat_exprs, flat_lval, flat_lvals, flat_selects}
+use Rattle.vl_mean_flat.specs.FullNames.{flat_stmt}
+use Rattle.vl_mean_flat.specs.FullNames.{flat_stmts, renamed, renamed_exprs, renamed_selects}
 
 module _ (f : List ℕ → List ℕ) where
   mutual

@@ -10,15 +10,16 @@ use Rattle.vl_size.specs.declared.decl.Decl.{Decl}
 use Rattle.vl_size.specs.Table.{AreDifferent, is_declared, is_plain}
 use Rattle.vl_mean.specs.Cells.{contains_name}
 use Rattle.vl_mean.specs.Walk.{Place, parameter_names}
-use Rattle.vl_same.proofs.EachOf.{both, each_map}
-use Rattle.vl_refusal.specs.Items.{parameters_refusals}
-use Rattle.vl_names.proofs.Contained.{Has, Lacks, clash, different-append, each-of, lacks-back, lacks-front}
-use Rattle.vl_names.proofs.Contained.{Different as AllDifferent}
-use Rattle.vl_names.proofs.Fresh.{AreNew, NoneOf, none-front, none-back, not-refused}
-use Rattle.vl_names.proofs.Genblk.{is_mark}
-use Rattle.vl_names.proofs.Plain.{name-plain}
-use Rattle.vl_names.proofs.Texts.{is_free}
-use Rattle.vl_openable.specs.Openable.{Different}
+use Rattle.vl_mean_flat.proofs.EachOf.{both, each_map}
+use Rattle.vl_elab_spec.specs.Items.{parameters_refusals}
+use Rattle.vl_elab_accepted_laws.proofs.Contained.{Has, Lacks, clash, different-append, each-of, lacks-back}
+use Rattle.vl_elab_accepted_laws.proofs.Contained.{lacks-front}
+use Rattle.vl_elab_accepted_laws.proofs.Contained.{Different as AllDifferent}
+use Rattle.vl_elab_accepted_laws.proofs.Fresh.{AreNew, NoneOf, none-front, none-back, not-refused}
+use Rattle.vl_elab_accepted_laws.proofs.Genblk.{is_mark}
+use Rattle.vl_elab_accepted_laws.proofs.Plain.{name-plain}
+use Rattle.vl_elab_accepted_laws.proofs.Texts.{is_free}
+use Rattle.vl_elab_const.specs.Openable.{Different}
 
 -- ---- names that are new, and differ
 

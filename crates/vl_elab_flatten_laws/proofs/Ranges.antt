@@ -11,21 +11,21 @@ use Rattle.vl_mean.specs.FlatLaw.{IsKept, IsMemory}
 use Rattle.vl_mean.specs.Parts.{Part, declares_all, design, here, parts_of_steps, step_parts}
 use Rattle.vl_mean.specs.Runs.{Each}
 use Rattle.vl_mean.specs.Walk.{Step, walk}
-use Rattle.vl_same.specs.Flattened.{decls_of}
-use Rattle.vl_same.proofs.EachOf.{front, back}
-use Rattle.vl_same.proofs.LaidScopes.{decls_append}
-use Rattle.vl_names.specs.Unrefused.{NoStepRefused}
-use Rattle.vl_names.proofs.Fresh.{IsFine}
-use Rattle.vl_names.proofs.Loops.{AreFine}
-use Rattle.vl_names.proofs.Names.{walk-fine}
-use Rattle.vl_names.proofs.Plain.{all-each}
-use Rattle.vl_sound.specs.SoundSteps.{IsFormedStep}
-use Rattle.vl_sound.proofs.Walked.{walk_formed}
-use Rattle.vl_draft.specs.Drawn.{drivers_of}
-use Rattle.vl_extent.specs.InRange.{AreWords}
-use Rattle.vl_openable.specs.Openable.{IsInRange}
-use Rattle.vl_behind.proofs.Declared.{may_be_written}
-use Rattle.vl_kept.proofs.Whole.{design_lawful}
+use Rattle.vl_mean_flat.specs.Flattened.{decls_of}
+use Rattle.vl_mean_flat.proofs.EachOf.{front, back}
+use Rattle.vl_mean_flat.proofs.LaidScopes.{decls_append}
+use Rattle.vl_elab_accepted_laws.specs.Unrefused.{NoStepRefused}
+use Rattle.vl_elab_accepted_laws.proofs.Fresh.{IsFine}
+use Rattle.vl_elab_accepted_laws.proofs.Loops.{AreFine}
+use Rattle.vl_elab_accepted_laws.proofs.Names.{walk-fine}
+use Rattle.vl_elab_accepted_laws.proofs.Plain.{all-each}
+use Rattle.vl_elab_accepted_laws.specs.SoundSteps.{IsFormedStep}
+use Rattle.vl_elab_accepted_laws.proofs.SoundWalked.{walk_formed}
+use Rattle.vl_elab_draft.specs.Drawn.{drivers_of}
+use Rattle.vl_elab_const.specs.InRange.{AreWords}
+use Rattle.vl_elab_const.specs.Openable.{IsInRange}
+use Rattle.vl_elab_flatten_laws.proofs.Declared.{may_be_written}
+use Rattle.vl_elab_flatten_laws.proofs.KeptWhole.{design_lawful}
 
 -- ---- of what the whole design declares
 

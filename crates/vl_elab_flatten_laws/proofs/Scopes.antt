@@ -45,18 +45,19 @@ use Rattle.vl_mean.specs.Scopes.{Scope}
 use Rattle.vl_mean.specs.Walk.{Place, Step, Use, block_place, header_steps, item, module_constants, module_parameters}
 use Rattle.vl_mean.specs.Walk.{module_place, module_scope, optional_name, parameter_names, port_names, port_step}
 use Rattle.vl_mean.specs.Walk.{port_steps, with_earlier, written_ports}
-use Rattle.vl_same.proofs.EachOf.{both, each_map, front, back}
-use Rattle.vl_refusal.specs.Meanings.{parameters_of}
-use Rattle.vl_names.proofs.Declared.{name_list}
-use Rattle.vl_names.proofs.Fresh.{AreNew, names-new, none-front, not-refused, ports-new}
-use Rattle.vl_names.proofs.Loops.{AreFine}
-use Rattle.vl_names.proofs.Plain.{all-each}
-use Rattle.vl_meant.proofs.Laid.{items_list, parameters_list}
-use Rattle.vl_openable.specs.Openable.{IsInRange, IsOpenable, constant_names, item_constants, items_constants}
-use Rattle.vl_opens.proofs.Names.{decl_names, decls_differ, differ, names_append, new_both, new_fewer, new_none}
-use Rattle.vl_opens.proofs.Names.{new_one}
-use Rattle.vl_opens.proofs.Names.{parameters_new, plain_name}
-use Rattle.vl_opens.proofs.Ranges.{IsKnown, own_range, own_ranges}
+use Rattle.vl_mean_flat.proofs.EachOf.{both, each_map, front, back}
+use Rattle.vl_elab_spec.specs.Meanings.{parameters_of}
+use Rattle.vl_elab_accepted_laws.proofs.Declared.{name_list}
+use Rattle.vl_elab_accepted_laws.proofs.Fresh.{AreNew, names-new, none-front, not-refused, ports-new}
+use Rattle.vl_elab_accepted_laws.proofs.Loops.{AreFine}
+use Rattle.vl_elab_accepted_laws.proofs.Plain.{all-each}
+use Rattle.vl_elab_accepted_laws.proofs.Laid.{items_list, parameters_list}
+use Rattle.vl_elab_const.specs.Openable.{IsInRange, IsOpenable, constant_names, item_constants, items_constants}
+use Rattle.vl_elab_flatten_laws.proofs.OpensNames.{decl_names, decls_differ, differ, names_append, new_both, new_fewer}
+use Rattle.vl_elab_flatten_laws.proofs.OpensNames.{new_none}
+use Rattle.vl_elab_flatten_laws.proofs.OpensNames.{new_one}
+use Rattle.vl_elab_flatten_laws.proofs.OpensNames.{parameters_new, plain_name}
+use Rattle.vl_elab_flatten_laws.proofs.Ranges.{IsKnown, own_range, own_ranges}
 
 -- nets and variables that may be declared behind these names
 pub record AreDeclarable (earlier : List (List ℕ)) (ds : List Decl) : Type 0 where

@@ -45,36 +45,38 @@ use Rattle.vl_mean.specs.FlatLaw.{IsReadIn, IsRead as IsReadFlat, IsTarget, AreT
 use Rattle.vl_mean.specs.FlatLaw.{target_size, all_target_sizes, flat_scopes, is_net, is_variable, names_in_selects}
 use Rattle.vl_mean.specs.Scopes.{Scope, constant_in, full, visible, is_clock_class}
 use Rattle.vl_mean.specs.Targets.{are_fixed, is_decl}
-use Rattle.vl_same.specs.Found.{Found, IsFound}
-use Rattle.vl_same.specs.FullNames.{flat_expr, flat_lval, flat_lvals, flat_selects, renamed, renamed_selects}
-use Rattle.vl_same.specs.Names.{Names as EachName, SelectsNames}
-use Rattle.vl_same.proofs.FoundNames.{AreScopes, found}
-use Rattle.vl_same.proofs.NamesMap.{target_map}
-use Rattle.vl_same.proofs.SameExpr as same
-use Rattle.vl_path.proofs.Flat.{fixed as fixed_in, flat_fixed}
-use Rattle.vl_refusal.specs.declared.elab_fault.ElabFault.TheVariants as f
-use Rattle.vl_refusal.specs.Expressions.{divided_by_zero, expr_refusals, is_constant_name, known, name_width}
-use Rattle.vl_refusal.specs.Expressions.{object_selects, refused_if, select_refusals, too_wide}
-use Rattle.vl_refusal.specs.Meanings.{Meaning, undeclared, constant, loop_variable, object, faulty, shapeless, later}
-use Rattle.vl_refusal.specs.Meanings.{Names, constants, meaning_in, objects, value_of}
-use Rattle.vl_refusal.specs.Statements.{assigned_in, assigned_refusals, assignment_refusals, may_be_assigned}
-use Rattle.vl_refusal.specs.Statements.{target_refusals, target_selects, target_width, targets_refusals, targets_width}
-use Rattle.vl_refusal.specs.Statements.{widened}
-use Rattle.vl_names.proofs.Contained.{each-has, or_second}
-use Rattle.vl_names.proofs.Fresh.{NoneOf, none-front, none-back, not-refused}
-use Rattle.vl_scope.specs.Seen.{AllNamed, object_of}
-use Rattle.vl_scope.specs.Texts.{AgreeOn, exprs_texts, selects_texts, texts}
-use Rattle.vl_scope.proofs.Agree as agree
-use Rattle.vl_scope.proofs.Objects.{object_is}
-use Rattle.vl_sized.specs.Sized.{IsRead}
-use Rattle.vl_sized.proofs.Parts.{AreSelected, selected}
-use Rattle.vl_sized.proofs.Sizes.{vector, word}
-use Rattle.vl_sized.proofs.Tests.{few_uncapped, narrow, uncapped, undivided}
-use Rattle.vl_known.specs.Means.{AreMeant, MeansIn}
-use Rattle.vl_known.proofs.Agreeing.{refused_name, selects_are, sound}
-use Rattle.vl_lawful.proofs.Divided.{same_selects_divisor}
-use Rattle.vl_lawful.proofs.Names.{selects_renamed, selects_text}
-use Rattle.vl_lawful.proofs.Expressions.{IsFlat, IsNoClock, Reads, flat_so, found_name, no_clock, read_in, same_decl}
+use Rattle.vl_mean_flat.specs.Found.{Found, IsFound}
+use Rattle.vl_mean_flat.specs.FullNames.{flat_expr, flat_lval, flat_lvals, flat_selects, renamed, renamed_selects}
+use Rattle.vl_mean_flat.specs.Names.{Names as EachName, SelectsNames}
+use Rattle.vl_mean_flat.proofs.FoundNames.{AreScopes, found}
+use Rattle.vl_mean_flat.proofs.NamesMap.{target_map}
+use Rattle.vl_mean_flat.proofs.SameExpr as same
+use Rattle.vl_flow_spec.proofs.Flat.{fixed as fixed_in, flat_fixed}
+use Rattle.vl_elab_spec.specs.declared.elab_fault.ElabFault.TheVariants as f
+use Rattle.vl_elab_spec.specs.Expressions.{divided_by_zero, expr_refusals, is_constant_name, known, name_width}
+use Rattle.vl_elab_spec.specs.Expressions.{object_selects, refused_if, select_refusals, too_wide}
+use Rattle.vl_elab_spec.specs.Meanings.{Meaning, undeclared, constant, loop_variable, object, faulty, shapeless, later}
+use Rattle.vl_elab_spec.specs.Meanings.{Names, constants, meaning_in, objects, value_of}
+use Rattle.vl_elab_spec.specs.Statements.{assigned_in, assigned_refusals, assignment_refusals, may_be_assigned}
+use Rattle.vl_elab_spec.specs.Statements.{target_refusals, target_selects, target_width, targets_refusals}
+use Rattle.vl_elab_spec.specs.Statements.{targets_width}
+use Rattle.vl_elab_spec.specs.Statements.{widened}
+use Rattle.vl_elab_accepted_laws.proofs.Contained.{each-has, or_second}
+use Rattle.vl_elab_accepted_laws.proofs.Fresh.{NoneOf, none-front, none-back, not-refused}
+use Rattle.vl_elab_scope.specs.Seen.{AllNamed, object_of}
+use Rattle.vl_elab_scope.specs.Texts.{AgreeOn, exprs_texts, selects_texts, texts}
+use Rattle.vl_elab_scope.proofs.Agree as agree
+use Rattle.vl_elab_scope.proofs.ScopeObjects.{object_is}
+use Rattle.vl_elab_accepted_laws.specs.Sized.{IsRead}
+use Rattle.vl_elab_accepted_laws.proofs.Parts.{AreSelected, selected}
+use Rattle.vl_elab_accepted_laws.proofs.Sizes.{vector, word}
+use Rattle.vl_elab_accepted_laws.proofs.Tests.{few_uncapped, narrow, uncapped, undivided}
+use Rattle.vl_elab_accepted_laws.specs.Means.{AreMeant, MeansIn}
+use Rattle.vl_elab_accepted_laws.proofs.Agreeing.{refused_name, selects_are, sound}
+use Rattle.vl_elab_flatten_laws.proofs.Divided.{same_selects_divisor}
+use Rattle.vl_elab_flatten_laws.proofs.LawfulNames.{selects_renamed, selects_text}
+use Rattle.vl_elab_flatten_laws.proofs.Expressions.{IsFlat, IsNoClock, Reads, flat_so, found_name, no_clock, read_in}
+use Rattle.vl_elab_flatten_laws.proofs.Expressions.{same_decl}
 
 -- ---- what has no names is constant
 

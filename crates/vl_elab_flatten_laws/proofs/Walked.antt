@@ -45,12 +45,12 @@ use Rattle.vl_mean.specs.Walk.{items_steps, loop_turns, module_named, module_par
 use Rattle.vl_mean.specs.Walk.{next_turn, optional_name, override_steps, parameter_names, port_names, port_step}
 use Rattle.vl_mean.specs.Walk.{port_steps, top_input, turn_path, turn_place, turn_steps, turns, unfolded, use_of, walk}
 use Rattle.vl_mean.specs.Walk.{with_earlier, with_genvar, with_module, written_ports}
-use Rattle.vl_same.specs.StepScopes.{StepScopes}
-use Rattle.vl_same.proofs.EachOf.{both, front, back}
-use Rattle.vl_names.specs.Unrefused.{NoStepRefused}
-use Rattle.vl_openable.specs.Openable.{AreOpenable, IsOpenable}
-use Rattle.vl_opens.proofs.Ranges.{IsKnown, walk_known}
-use Rattle.vl_opens.proofs.Scopes.{KnownItems, block_openable, module_openable}
+use Rattle.vl_mean_flat.specs.StepScopes.{StepScopes}
+use Rattle.vl_mean_flat.proofs.EachOf.{both, front, back}
+use Rattle.vl_elab_accepted_laws.specs.Unrefused.{NoStepRefused}
+use Rattle.vl_elab_const.specs.Openable.{AreOpenable, IsOpenable}
+use Rattle.vl_elab_flatten_laws.proofs.Ranges.{IsKnown, walk_known}
+use Rattle.vl_elab_flatten_laws.proofs.Scopes.{KnownItems, block_openable, module_openable}
 
 abbrev Good : List Step → Type 0
 Good xs = Each (StepScopes AreOpenable) xs

@@ -4,8 +4,8 @@ ghost use Rattle.vl_tree.specs.WellFormed.{IsModule};
 ghost use Rattle.vl_tree.specs.declared.source.Module.{Module};
 ghost use Rattle.vl_mean.specs.Parts.{design};
 ghost use Rattle.vl_mean.specs.Runs.{Each};
-ghost use Rattle.vl_names.specs.Unrefused.{NoStepRefused};
-ghost use Rattle.vl_start.specs.Begins.{Begins};
+ghost use Rattle.vl_elab_accepted_laws.specs.Unrefused.{NoStepRefused};
+ghost use Rattle.vl_elab_emit.specs.Begins.{Begins};
 
 /// Where no step of the walk through well formed modules is refused, the targets of its values at first have constant
 /// indices, and the values are constant.

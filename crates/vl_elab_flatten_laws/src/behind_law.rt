@@ -3,9 +3,9 @@ ghost use Rattle.std.specs.Prelude.{ℕ, List, All};
 ghost use Rattle.vl_tree.specs.WellFormed.{IsModule};
 ghost use Rattle.vl_tree.specs.declared.source.Module.{Module};
 ghost use Rattle.vl_mean.specs.Parts.{design};
-ghost use Rattle.vl_names.specs.Unrefused.{NoStepRefused};
-ghost use Rattle.vl_draft.specs.Written.{nothing};
-ghost use Rattle.vl_write.specs.Behind.{MayStandBehind};
+ghost use Rattle.vl_elab_accepted_laws.specs.Unrefused.{NoStepRefused};
+ghost use Rattle.vl_elab_draft.specs.Written.{nothing};
+ghost use Rattle.vl_elab_emit.specs.Behind.{MayStandBehind};
 
 /// Where no step of the walk through well formed modules is refused, its parts may be written where nothing is yet:
 /// full names differ and are none of a memory's word, shapes are in range, and what begins with a value may.

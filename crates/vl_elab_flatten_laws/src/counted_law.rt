@@ -4,9 +4,9 @@ ghost use Rattle.vl_tree.specs.declared.source.Module.{Module};
 ghost use Rattle.vl_mean.specs.FlatLaw.{all_names_count, node_count};
 ghost use Rattle.vl_mean.specs.Parts.{design};
 ghost use Rattle.vl_mean.specs.declared.driver.Driver.{Driver};
-ghost use Rattle.vl_same.specs.Flattened.{decls_of};
-ghost use Rattle.vl_names.specs.Unrefused.{NoStepRefused};
-ghost use Rattle.vl_draft.specs.Drawn.{drivers_of, starts_of};
+ghost use Rattle.vl_mean_flat.specs.Flattened.{decls_of};
+ghost use Rattle.vl_elab_accepted_laws.specs.Unrefused.{NoStepRefused};
+ghost use Rattle.vl_elab_draft.specs.Drawn.{drivers_of, starts_of};
 
 /// What is drawn from modules no step of which is refused has at most 200,000 names, a memory's words counting beside
 /// it.

@@ -5,9 +5,9 @@ ghost use Rattle.vl_tree.specs.declared.source.Module.{Module};
 ghost use Rattle.vl_mean.specs.FlatLaw.{IsLawful};
 ghost use Rattle.vl_mean.specs.Parts.{design};
 ghost use Rattle.vl_mean.specs.declared.driver.Driver.{Driver};
-ghost use Rattle.vl_same.specs.Flattened.{decls_of};
-ghost use Rattle.vl_names.specs.Unrefused.{NoStepRefused};
-ghost use Rattle.vl_draft.specs.Drawn.{drivers_of, starts_of};
+ghost use Rattle.vl_mean_flat.specs.Flattened.{decls_of};
+ghost use Rattle.vl_elab_accepted_laws.specs.Unrefused.{NoStepRefused};
+ghost use Rattle.vl_elab_draft.specs.Drawn.{drivers_of, starts_of};
 
 /// What is drawn from well formed modules no step of which is refused keeps the law of a design without hierarchy: its
 /// names can be printed and its bounds have 32 signed bits, its drivers and values at first are what they may be, and

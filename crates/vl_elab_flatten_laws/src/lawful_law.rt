@@ -5,14 +5,14 @@ ghost use Rattle.vl_tree.specs.declared.source.Module.{Module};
 ghost use Rattle.vl_mean.specs.FlatLaw.{IsAssigned, IsDriver, is_variable};
 ghost use Rattle.vl_mean.specs.Parts.{design};
 ghost use Rattle.vl_mean.specs.declared.driver.Driver.{Driver};
-ghost use Rattle.vl_same.specs.Flattened.{decls_of};
-ghost use Rattle.vl_names.specs.Unrefused.{NoStepRefused};
-ghost use Rattle.vl_draft.specs.Drawn.{drivers_of, starts_of};
+ghost use Rattle.vl_mean_flat.specs.Flattened.{decls_of};
+ghost use Rattle.vl_elab_accepted_laws.specs.Unrefused.{NoStepRefused};
+ghost use Rattle.vl_elab_draft.specs.Drawn.{drivers_of, starts_of};
 
 /// What is drawn from well formed modules no step of which is refused is driven as it may be: each expression has a
 /// size, no divisor in it is 0 and the clock doesn't stand in it; each target is a net of a continuous assignment or a
 /// variable of a block, with constant indices where they have to be.
-#[tactic(auto, using(crate::proofs::Whole::design_driven))]
+#[tactic(auto, using(crate::proofs::LawfulWhole::design_driven))]
 pub fn drawn_drivers_are_lawful()
     ensures { (ms : List Module) (top : List ℕ) (drivers : List Driver) → All IsModule ms → NoStepRefused ms top
         → map (λ x. x.what) drivers ≡ drivers_of (design ms top)

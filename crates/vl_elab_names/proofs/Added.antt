@@ -3,7 +3,7 @@ use Rattle.std.specs.Prelude.{◌≡◌, refl, ℕ, List, Bool, true, false, ◌
 use Rattle.std.specs.Prelude.{if◌then◌else◌, Result, Ok, Err, OnOk, OnErr}
 use Rattle.std.proofs.Common.{ap, ◌∙◌}
 use Rattle.vl_mean.proofs.Lookups.{bytes_eq-swap}
-use Rattle.name_set.specs.Known.{is_apart}
+use Rattle.vl_elab_names.specs.Known.{is_apart}
 
 some_if : {A : Type 0} (b : Bool) (w : A) (o : Option A) → is_some (if b then Some w else o) ≡ (b || is_some o)
 some_if true w o = refl

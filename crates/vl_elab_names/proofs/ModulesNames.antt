@@ -9,7 +9,7 @@ use Rattle.std.proofs.Common.{ap, sym, ◌∙◌, arith, append-nil}
 use Rattle.std.proofs.lemmas.List.{append_assoc, same_from_push}
 use Rattle.std.proofs.lemmas.Option.{same_Some}
 use Rattle.vl_mean.specs.Cells.{contains_name}
-use Rattle.vl_modules.specs.Path.{Entry, texts_of}
+use Rattle.vl_elab_names.specs.Path.{Entry, texts_of}
 
 pub contains_lookup : (text : List ℕ) (es : List Entry)
     → is_some (lookup (λ key. bytes_eq text key.items) es) ≡ contains_name (texts_of es) text

@@ -6,9 +6,9 @@ use Rattle.std.proofs.lemmas.List.{append_assoc, length-append}
 use Rattle.vl_tree.specs.declared.source.Module.{Module}
 use Rattle.vl_mean.specs.Cells.{contains_name}
 use Rattle.vl_mean.specs.Walk.{module_named}
-use Rattle.vl_refusal.specs.declared.elab_fault.ElabFault.TheVariants as f
-use Rattle.vl_refusal.specs.Refused.{modules_twice}
-use Rattle.vl_modules.specs.Table.{place_from, with_name, twice_by}
+use Rattle.vl_elab_spec.specs.declared.elab_fault.ElabFault.TheVariants as f
+use Rattle.vl_elab_spec.specs.Refused.{modules_twice}
+use Rattle.vl_elab_names.specs.Table.{place_from, with_name, twice_by}
 
 -- ---- the module at a place
 

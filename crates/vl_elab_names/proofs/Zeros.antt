@@ -2,8 +2,8 @@
 use Rattle.std.specs.Prelude.{◌≡◌, refl, ℕ, suc, ◌+◌, ◌-◌, ◌<◌, List, replicate, Bool, true, false}
 use Rattle.std.specs.Prelude.{if◌then◌else◌, not}
 use Rattle.std.proofs.Common.{ap, sym, ◌∙◌, true≢false, arith}
-use Rattle.name_set.specs.declared.set.NameSet.{NameSet}
-use Rattle.name_set.specs.Known.{AreNames, contains}
+use Rattle.vl_elab_names.specs.declared.set.NameSet.{NameSet}
+use Rattle.vl_elab_names.specs.Known.{AreNames, contains}
 use Rattle.vl_mean.specs.Cells.{contains_name}
 use Rattle.vl_mean.specs.Declarations.{genblk, unused_genblk}
 

@@ -3,8 +3,8 @@ use Rattle.std.specs.Prelude.{◌≡◌, ℕ, List, Bool, false, ◌||◌, Optio
 use Rattle.std.specs.declared.alloc.Global.{Global}
 use Rattle.std.specs.Map.{lookup}
 use Rattle.vl_mean.specs.Cells.{contains_name}
-use Rattle.name_set.specs.declared.set.NameSet.{NameSet}
-use Rattle.name_set.specs.declared.set.Others.{Others}
+use Rattle.vl_elab_names.specs.declared.set.NameSet.{NameSet}
+use Rattle.vl_elab_names.specs.declared.set.Others.{Others}
 
 -- a name that stands apart
 abbrev pub is_apart : Option (List ℕ) → List ℕ → Bool

@@ -1,11 +1,11 @@
 //! Names of generate blocks.
 ghost use Rattle.std.specs.Prelude.{◌≡◌, ◌++◌, ℕ, List, IfOk, codes, decimal, length, replicate};
 ghost use Rattle.vl_mean.specs.Declarations as spec;
-ghost use Rattle.name_set.specs.Known.{AreNames};
+ghost use Rattle.vl_elab_names.specs.Known.{AreNames};
 
+use crate::set::NameSet;
 use fv_base::{Memory, Text};
 use itoa::Buffer;
-use name_set::NameSet;
 use std::alloc::Global;
 
 /// The name of a block of a generate construct (IEEE 1364-2005, section 12.4.3): its label, or `genblk` with the

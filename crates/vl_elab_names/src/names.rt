@@ -3,11 +3,11 @@ ghost use Rattle.std.specs.Prelude.{◌≡◌, ◌++◌, map, length, IfOk};
 ghost use Rattle.vl_tree.specs.Item.{items};
 ghost use Rattle.vl_mean.specs.Declarations.{all_names, header_parameters};
 ghost use Rattle.vl_mean.specs.Walk.{parameter_names};
-ghost use Rattle.name_set.specs.Known.{AreNames};
+ghost use Rattle.vl_elab_names.specs.Known.{AreNames};
 
-use crate::labels::{add_decls, add_header, add_items};
+use crate::scope_names_labels::{add_decls, add_header, add_items};
+use crate::set::NameSet;
 use fv_base::{List, Memory, Text};
-use name_set::NameSet;
 use std::alloc::Global;
 use std::marker::Model;
 use vl_size::Decl;
@@ -22,7 +22,7 @@ pub struct ScopeNames {
 
 impl Model for ScopeNames {
     ghost use Rattle.std.specs.Prelude.{ℕ, List};
-    ghost use Rattle.name_set.specs.Known.{AreNames};
+    ghost use Rattle.vl_elab_names.specs.Known.{AreNames};
 
     ghost Value = { List (List ℕ) };
 

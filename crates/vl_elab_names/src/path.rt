@@ -3,7 +3,7 @@ ghost use Rattle.std.specs.Prelude.{◌≡◌, ◌++◌, ◌∷◌, [], ◌+◌,
 ghost use Rattle.std.specs.Prelude.{IfOk, OnOk, OnErr};
 ghost use Rattle.std.specs.Map.{lookup};
 ghost use Rattle.vl_mean.specs.Cells.{contains_name};
-ghost use Rattle.vl_modules.specs.Path.{texts_of};
+ghost use Rattle.vl_elab_names.specs.Path.{texts_of};
 
 use fv_base::{List, Memory, Text};
 use indexmap::IndexMap;
@@ -20,7 +20,7 @@ pub struct ModulePath {
 
 impl Model for ModulePath {
     ghost use Rattle.std.specs.Prelude.{List, ℕ};
-    ghost use Rattle.vl_modules.specs.Path.{texts_of};
+    ghost use Rattle.vl_elab_names.specs.Path.{texts_of};
 
     ghost Value = { List (List ℕ) };
 

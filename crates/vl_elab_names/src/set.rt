@@ -1,6 +1,6 @@
 //! Sets of names.
 ghost use Rattle.std.specs.Prelude.{◌≡◌, ◌||◌, ℕ, List, false, bytes_eq, IfOk, OnOk, OnErr};
-ghost use Rattle.name_set.specs.Known as spec;
+ghost use Rattle.vl_elab_names.specs.Known as spec;
 
 use fv_base::{Memory, Text};
 use indexmap::IndexMap;

@@ -2,7 +2,7 @@
 ghost use Rattle.std.specs.Prelude.{◌≡◌, ℕ, List, Some, bytes_eq, slice_get, IfOk, OnOk, if◌then◌else◌};
 ghost use Rattle.std.specs.Option.{option_copied};
 ghost use Rattle.vl_mean.specs.Walk.{module_named};
-ghost use Rattle.vl_modules.specs.Table as spec;
+ghost use Rattle.vl_elab_names.specs.Table as spec;
 
 use fv_base::{Memory, Text};
 use indexmap::IndexMap;

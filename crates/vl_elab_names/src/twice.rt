@@ -1,12 +1,12 @@
 //! Modules that stand twice.
 ghost use Rattle.std.specs.Prelude.{◌≡◌, [], false, IfOk};
-ghost use Rattle.vl_refusal.specs.Refused as refused;
-ghost use Rattle.vl_modules.specs.Table as spec;
+ghost use Rattle.vl_elab_spec.specs.Refused as refused;
+ghost use Rattle.vl_elab_names.specs.Table as spec;
 
+use crate::set::NameSet;
 use fv_base::Memory;
-use name_set::NameSet;
 use std::alloc::Global;
-use vl_refusal::ElabFault;
+use vl_elab_spec::ElabFault;
 use vl_tree::Module;
 
 fn first_twice(alloc: Global, all: &[Module]) -> Result<Option<ElabFault>, Memory>

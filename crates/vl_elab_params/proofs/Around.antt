@@ -22,9 +22,10 @@ use Rattle.vl_tree.specs.Item.{
   no_items,
   more_items,
 }
-use Rattle.vl_refusal.specs.Meanings.{Names}
-use Rattle.vl_param.specs.Entered.{Stacks, stacks, with_parameter, with_parameters, none_given, with_item, with_items}
-use Rattle.vl_param.specs.Entered.{entered}
+use Rattle.vl_elab_spec.specs.Meanings.{Names}
+use Rattle.vl_elab_params.specs.Entered.{Stacks, stacks, with_parameter, with_parameters, none_given, with_item}
+use Rattle.vl_elab_params.specs.Entered.{with_items}
+use Rattle.vl_elab_params.specs.Entered.{entered}
 
 -- ---- the scopes around stay
 

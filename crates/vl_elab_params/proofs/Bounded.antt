@@ -9,13 +9,13 @@ use Rattle.vl_tree.specs.declared.declaration.Parameter.{Parameter}
 use Rattle.vl_tree.specs.declared.declaration.Range.{Range}
 use Rattle.vl_tree.specs.Expr.{Expr}
 use Rattle.vl_size.specs.Size.{is_bound}
-use Rattle.vl_refusal.specs.Meanings.{Names, is_known_value, is_known_range, is_known_shape, declared_width}
-use Rattle.vl_refusal.specs.Meanings.{may_be_selected}
-use Rattle.vl_param.specs.Entered.{selected_if_known}
-use Rattle.vl_enter.specs.declared.extents.Bounds.{Bounds}
-use Rattle.vl_enter.specs.declared.extents.Extent.{Extent}
-use Rattle.vl_enter.specs.Known.{as_extent, bounds_of, few_bits, known_extent, extent_of, left_bound, right_bound}
-use Rattle.vl_enter.specs.Known.{goes_down_to_0}
+use Rattle.vl_elab_spec.specs.Meanings.{Names, is_known_value, is_known_range, is_known_shape, declared_width}
+use Rattle.vl_elab_spec.specs.Meanings.{may_be_selected}
+use Rattle.vl_elab_params.specs.Entered.{selected_if_known}
+use Rattle.vl_elab_params.specs.declared.extents.Bounds.{Bounds}
+use Rattle.vl_elab_params.specs.declared.extents.Extent.{Extent}
+use Rattle.vl_elab_params.specs.Known.{as_extent, bounds_of, few_bits, known_extent, extent_of, left_bound, right_bound}
+use Rattle.vl_elab_params.specs.Known.{goes_down_to_0}
 
 -- a bound that is there
 module _ (i x : ℤ) (o : Option ℤ) (h : o ≡ (if is_bound i then Some i else None)) (k : o ≡ Some x) where

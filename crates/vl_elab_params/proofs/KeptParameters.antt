@@ -32,24 +32,24 @@ use Rattle.vl_mean.specs.Constants.{Constants, constant_of}
 use Rattle.vl_mean.specs.Declarations as d
 use Rattle.vl_mean.specs.Declarations.{Overrides, parameter_value, with_constants}
 use Rattle.vl_mean.specs.Scopes.{Scope, constant_in, constant_unless}
-use Rattle.vl_refusal.specs.Meanings as m
-use Rattle.vl_refusal.specs.Meanings.{Meaning, undeclared, constant, loop_variable, object, faulty, shapeless, later}
-use Rattle.vl_refusal.specs.Meanings.{Names}
-use Rattle.vl_refusal.specs.Meanings.{is_undeclared, meaning_of, meaning_in, value_of, is_known_in, is_known_value}
-use Rattle.vl_refusal.specs.Meanings.{is_known_shape, may_be_selected, constant_or, with_parameter_meanings}
-use Rattle.vl_refusal.specs.Meanings.{with_item_constants}
-use Rattle.vl_scope.specs.Seen.{IsNamed, AreNamed, with_name}
-use Rattle.vl_alike.specs.Alike.{Alike}
-use Rattle.vl_alike.proofs.Items.{same_known_range, same_declared_width}
-use Rattle.vl_alike.proofs.Sizes.{same_known, same_is_known, same_bound}
-use Rattle.vl_number.specs.Given.{IsGiven}
-use Rattle.vl_number.specs.Numbers.{HaveNumbers, parameter_number}
-use Rattle.vl_number.proofs.Values.{number_is}
-use Rattle.vl_param.specs.Entered.{Stacks, stacks, constant_if, is_known_parameter, selected_if_known}
-use Rattle.vl_param.specs.Entered.{with_parameters, none_given, with_items}
-use Rattle.vl_param.proofs.Listed.{inner_or, inner_assoc, named_only, meaning_append, named_append, meaning_with}
-use Rattle.vl_param.proofs.Listed.{named_with}
-use Rattle.vl_param.proofs.Listed.{constant_else, constant_append, kept_constant}
+use Rattle.vl_elab_spec.specs.Meanings as m
+use Rattle.vl_elab_spec.specs.Meanings.{Meaning, undeclared, constant, loop_variable, object, faulty, shapeless, later}
+use Rattle.vl_elab_spec.specs.Meanings.{Names}
+use Rattle.vl_elab_spec.specs.Meanings.{is_undeclared, meaning_of, meaning_in, value_of, is_known_in, is_known_value}
+use Rattle.vl_elab_spec.specs.Meanings.{is_known_shape, may_be_selected, constant_or, with_parameter_meanings}
+use Rattle.vl_elab_spec.specs.Meanings.{with_item_constants}
+use Rattle.vl_elab_scope.specs.Seen.{IsNamed, AreNamed, with_name}
+use Rattle.vl_elab_scope.specs.Alike.{Alike}
+use Rattle.vl_elab_scope.proofs.Items.{same_known_range, same_declared_width}
+use Rattle.vl_elab_scope.proofs.Sizes.{same_known, same_is_known, same_bound}
+use Rattle.vl_elab_const.specs.Given.{IsGiven}
+use Rattle.vl_elab_const.specs.Numbers.{HaveNumbers, parameter_number}
+use Rattle.vl_elab_const.proofs.Values.{number_is}
+use Rattle.vl_elab_params.specs.Entered.{Stacks, stacks, constant_if, is_known_parameter, selected_if_known}
+use Rattle.vl_elab_params.specs.Entered.{with_parameters, none_given, with_items}
+use Rattle.vl_elab_params.proofs.Listed.{inner_or, inner_assoc, named_only, meaning_append, named_append, meaning_with}
+use Rattle.vl_elab_params.proofs.Listed.{named_with}
+use Rattle.vl_elab_params.proofs.Listed.{constant_else, constant_append, kept_constant}
 
 -- ---- what is known over names that mean the same
 

@@ -10,12 +10,12 @@ use Rattle.vl_tree.specs.declared.declaration.PortKind.TheVariants as port
 use Rattle.vl_tree.specs.Item.{Item, items}
 use Rattle.vl_mean.specs.Declarations.{Overrides, header_parameters, full_port, full_ports}
 use Rattle.vl_mean.specs.Walk.{Contents, parameter_names, port_names}
-use Rattle.vl_refusal.specs.Meanings.{Meaning, undeclared, constant, loop_variable, object, faulty, shapeless, later}
-use Rattle.vl_refusal.specs.Meanings.{Names, meaning_of, all_later, items_names}
-use Rattle.vl_scope.specs.Seen.{AreNamed, with_name}
-use Rattle.vl_param.specs.Among.{contents}
-use Rattle.vl_param.specs.Entered.{with_later, all_are_later, port_text, is_full, port_texts, names_behind}
-use Rattle.vl_param.proofs.Listed.{inner_or, inner_assoc, named_only, meaning_with, named_with, meaning_one}
+use Rattle.vl_elab_spec.specs.Meanings.{Meaning, undeclared, constant, loop_variable, object, faulty, shapeless, later}
+use Rattle.vl_elab_spec.specs.Meanings.{Names, meaning_of, all_later, items_names}
+use Rattle.vl_elab_scope.specs.Seen.{AreNamed, with_name}
+use Rattle.vl_elab_params.specs.Among.{contents}
+use Rattle.vl_elab_params.specs.Entered.{with_later, all_are_later, port_text, is_full, port_texts, names_behind}
+use Rattle.vl_elab_params.proofs.Listed.{inner_or, inner_assoc, named_only, meaning_with, named_with, meaning_one}
 
 pub later_append : (ns : Names) (xs ys : List (List ℕ)) → with_later ns (xs ++ ys) ≡ with_later (with_later ns xs) ys
 later_append ns [] ys = refl

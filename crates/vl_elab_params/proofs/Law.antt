@@ -6,14 +6,14 @@ use Rattle.std.proofs.lemmas.Slice.Eq.{bytes_eq-Decides}
 use Rattle.vl_mean.specs.Cells.{contains_name}
 use Rattle.vl_mean.specs.Scopes.{Scope}
 use Rattle.vl_mean.specs.Walk.{Contents, Place}
-use Rattle.vl_refusal.specs.Meanings.{Meaning, undeclared, constant, loop_variable, object, faulty, shapeless, later}
-use Rattle.vl_refusal.specs.Meanings.{Names, is_undeclared, meaning_of, meaning_in, not_reached, first_reached}
-use Rattle.vl_refusal.specs.Meanings.{all_meanings, meanings_at, meanings_before, scope_meanings}
-use Rattle.vl_scope.specs.Seen.{IsNamed, AreNamed}
-use Rattle.vl_alike.specs.Alike.{Alike}
-use Rattle.vl_param.proofs.Listed.{inner_or}
-use Rattle.vl_reach.specs.Reached.{AreReached, scope_parameters, innermost_parameters, parameters_at}
-use Rattle.vl_reach.proofs.Listing.{is_parameter, parameter_found}
+use Rattle.vl_elab_spec.specs.Meanings.{Meaning, undeclared, constant, loop_variable, object, faulty, shapeless, later}
+use Rattle.vl_elab_spec.specs.Meanings.{Names, is_undeclared, meaning_of, meaning_in, not_reached, first_reached}
+use Rattle.vl_elab_spec.specs.Meanings.{all_meanings, meanings_at, meanings_before, scope_meanings}
+use Rattle.vl_elab_scope.specs.Seen.{IsNamed, AreNamed}
+use Rattle.vl_elab_scope.specs.Alike.{Alike}
+use Rattle.vl_elab_params.proofs.Listed.{inner_or}
+use Rattle.vl_elab_params.specs.Reached.{AreReached, scope_parameters, innermost_parameters, parameters_at}
+use Rattle.vl_elab_params.proofs.Listing.{is_parameter, parameter_found}
 
 there_named : (text : List ℕ) (m : Meaning) → IsNamed (text, m) → is_undeclared m ≡ false
 there_named text undeclared h = absurd h

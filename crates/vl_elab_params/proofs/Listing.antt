@@ -28,12 +28,12 @@ use Rattle.vl_mean.specs.Constants.{constant_of}
 use Rattle.vl_mean.specs.Declarations.{Overrides}
 use Rattle.vl_mean.specs.Scopes.{Scope}
 use Rattle.vl_mean.specs.Walk.{Contents, parameter_names}
-use Rattle.vl_refusal.specs.Meanings as m
-use Rattle.vl_refusal.specs.Meanings.{Meaning, constant, faulty}
-use Rattle.vl_refusal.specs.Meanings.{Names, meaning_of, all_later, constant_or, may_be_selected, scope_meanings}
-use Rattle.vl_refusal.specs.Meanings.{with_parameter_meanings, with_item_constants, parameters_of}
-use Rattle.vl_refusal.specs.Meanings.{port_meanings, items_meanings}
-use Rattle.vl_reach.specs.Reached.{scope_parameters}
+use Rattle.vl_elab_spec.specs.Meanings as m
+use Rattle.vl_elab_spec.specs.Meanings.{Meaning, constant, faulty}
+use Rattle.vl_elab_spec.specs.Meanings.{Names, meaning_of, all_later, constant_or, may_be_selected, scope_meanings}
+use Rattle.vl_elab_spec.specs.Meanings.{with_parameter_meanings, with_item_constants, parameters_of}
+use Rattle.vl_elab_spec.specs.Meanings.{port_meanings, items_meanings}
+use Rattle.vl_elab_params.specs.Reached.{scope_parameters}
 
 abbrev pub is_parameter : Meaning → Bool
 is_parameter (constant c selected) = true

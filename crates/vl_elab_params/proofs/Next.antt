@@ -6,17 +6,17 @@ use Rattle.std.proofs.lemmas.Slice.Eq.{bytes_eq-Decides}
 use Rattle.vl_mean.specs.Cells.{contains_name}
 use Rattle.vl_mean.specs.Scopes.{Scope}
 use Rattle.vl_mean.specs.Walk.{Contents, Place}
-use Rattle.vl_refusal.specs.Meanings.{Meaning, undeclared, constant, loop_variable, object, faulty, shapeless, later}
-use Rattle.vl_refusal.specs.Meanings.{Names, is_undeclared, meaning_of, meaning_in, all_meanings, meanings_at}
-use Rattle.vl_refusal.specs.Meanings.{scope_meanings}
-use Rattle.vl_scope.specs.Seen.{IsNamed, AreNamed, with_name}
-use Rattle.vl_alike.specs.Alike.{Alike}
-use Rattle.vl_param.specs.Entered.{with_later}
-use Rattle.vl_param.proofs.LaterNames.{later_named}
-use Rattle.vl_param.proofs.Listed.{inner_or, inner_assoc, named_only, meaning_with, named_with}
-use Rattle.vl_reach.specs.Passed.{parameter_meaning, with_passed, with_all_passed, all_pending}
-use Rattle.vl_reach.specs.Reached.{AreReached, innermost_parameters, parameters_at}
-use Rattle.vl_reach.proofs.Listing.{is_parameter, parameter_found}
+use Rattle.vl_elab_spec.specs.Meanings.{Meaning, undeclared, constant, loop_variable, object, faulty, shapeless, later}
+use Rattle.vl_elab_spec.specs.Meanings.{Names, is_undeclared, meaning_of, meaning_in, all_meanings, meanings_at}
+use Rattle.vl_elab_spec.specs.Meanings.{scope_meanings}
+use Rattle.vl_elab_scope.specs.Seen.{IsNamed, AreNamed, with_name}
+use Rattle.vl_elab_scope.specs.Alike.{Alike}
+use Rattle.vl_elab_params.specs.Entered.{with_later}
+use Rattle.vl_elab_params.proofs.LaterNames.{later_named}
+use Rattle.vl_elab_params.proofs.Listed.{inner_or, inner_assoc, named_only, meaning_with, named_with}
+use Rattle.vl_elab_params.specs.Passed.{parameter_meaning, with_passed, with_all_passed, all_pending}
+use Rattle.vl_elab_params.specs.Reached.{AreReached, innermost_parameters, parameters_at}
+use Rattle.vl_elab_params.proofs.Listing.{is_parameter, parameter_found}
 
 -- ---- before the first step
 

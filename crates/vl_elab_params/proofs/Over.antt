@@ -1,10 +1,10 @@
 -- What names mean in the value of a parameter, over the names of its scope.
 use Rattle.std.specs.Prelude.{◌≡◌, List, ◌∷◌, drop}
 use Rattle.std.proofs.Common.{ap, ◌∙◌}
-use Rattle.vl_refusal.specs.Meanings.{Names}
-use Rattle.vl_scope.specs.Seen.{innermost}
-use Rattle.vl_reach.specs.declared.reached.Reached.{Reached}
-use Rattle.vl_reach.specs.Reached.{over}
+use Rattle.vl_elab_spec.specs.Meanings.{Names}
+use Rattle.vl_elab_scope.specs.Seen.{innermost}
+use Rattle.vl_elab_params.specs.declared.reached.Reached.{Reached}
+use Rattle.vl_elab_params.specs.Reached.{over}
 
 pub entered_over : (reached : Reached) (first second : Names) (old between new : List Names)
     → first ≡ reached.pending → second ≡ reached.passed → between ≡ first ∷ old → new ≡ second ∷ between

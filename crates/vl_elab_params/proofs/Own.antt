@@ -9,17 +9,17 @@ use Rattle.vl_mean.specs.Constants.{Constants}
 use Rattle.vl_mean.specs.Declarations.{Overrides, header_parameters, with_constants}
 use Rattle.vl_mean.specs.Scopes.{Scope}
 use Rattle.vl_mean.specs.Walk.{Contents}
-use Rattle.vl_refusal.specs.Meanings.{Names, all_later, meaning_of}
-use Rattle.vl_scope.specs.Seen.{innermost, AreNamed}
-use Rattle.vl_alike.specs.Alike.{Alike}
-use Rattle.vl_number.specs.Given.{IsGiven}
-use Rattle.vl_number.specs.Numbers.{HaveNumbers}
-use Rattle.vl_param.specs.Among.{among_parameters, constants_of, contents, parameter_meanings}
-use Rattle.vl_param.specs.Entered.{Stacks, stacks, entered}
-use Rattle.vl_param.proofs.KeptParameters.{all_kept}
-use Rattle.vl_param.proofs.LaterNames.{all_named}
-use Rattle.vl_param.proofs.Whole.{entered_alike, entered_numbers}
-use Rattle.vl_enter.specs.Own.{AreOwn}
+use Rattle.vl_elab_spec.specs.Meanings.{Names, all_later, meaning_of}
+use Rattle.vl_elab_scope.specs.Seen.{innermost, AreNamed}
+use Rattle.vl_elab_scope.specs.Alike.{Alike}
+use Rattle.vl_elab_const.specs.Given.{IsGiven}
+use Rattle.vl_elab_const.specs.Numbers.{HaveNumbers}
+use Rattle.vl_elab_params.specs.Among.{among_parameters, constants_of, contents, parameter_meanings}
+use Rattle.vl_elab_params.specs.Entered.{Stacks, stacks, entered}
+use Rattle.vl_elab_params.proofs.KeptParameters.{all_kept}
+use Rattle.vl_elab_params.proofs.LaterNames.{all_named}
+use Rattle.vl_elab_params.proofs.Whole.{entered_alike, entered_numbers}
+use Rattle.vl_elab_params.specs.Own.{AreOwn}
 
 module _ (s : Scope) (c : Contents) (behind : Names) (outer around beneath : List Names) (ss : List Scope)
     (same_behind : (text : List ℕ) → meaning_of behind text ≡ meaning_of (all_later c) text) (named : AreNamed behind)

@@ -18,8 +18,8 @@ use Rattle.vl_tree.specs.Item.{
   if_else,
   more_items,
 }
-use Rattle.vl_refusal.specs.Meanings.{Names, parameters_of}
-use Rattle.vl_reach.specs.Passed.{with_passed, with_all_passed, item_parameters}
+use Rattle.vl_elab_spec.specs.Meanings.{Names, parameters_of}
+use Rattle.vl_elab_params.specs.Passed.{with_passed, with_all_passed, item_parameters}
 
 -- the parameters of one item, and those behind it
 pub parameters_first : (x : Item) (xs : Items)

@@ -8,7 +8,7 @@ use Rattle.vl_mean.specs.Constants.{Constants}
 use Rattle.vl_mean.specs.Declarations.{Overrides, with_parameters, with_items_parameters, header_parameters, full_ports}
 use Rattle.vl_mean.specs.Scopes.{Scope}
 use Rattle.vl_mean.specs.Walk.{Contents}
-use Rattle.vl_refusal.specs.Meanings.{Names, all_later, with_parameter_meanings, with_item_constants}
+use Rattle.vl_elab_spec.specs.Meanings.{Names, all_later, with_parameter_meanings, with_item_constants}
 
 -- of the parameters of a head, ports and items, to whose parameters this is given
 abbrev pub contents : Overrides → List HeaderParameter → List Port → List Item → Contents

@@ -13,10 +13,10 @@ use Rattle.vl_tree.specs.Item.{Item, Items, parameter, no_items, more_items, ite
 use Rattle.vl_mean.specs.declared.const_number.Const.{Const}
 use Rattle.vl_mean.specs.Declarations.{header_parameters}
 use Rattle.vl_mean.specs.Walk.{parameter_names}
-use Rattle.vl_refusal.specs.Meanings.{Meaning, constant, faulty, later, Names, is_known_value, is_known_shape}
-use Rattle.vl_refusal.specs.Meanings.{may_be_selected, items_names}
-use Rattle.vl_scope.specs.Seen.{innermost, with_name}
-use Rattle.vl_number.specs.Numbers.{parameter_number}
+use Rattle.vl_elab_spec.specs.Meanings.{Meaning, constant, faulty, later, Names, is_known_value, is_known_shape}
+use Rattle.vl_elab_spec.specs.Meanings.{may_be_selected, items_names}
+use Rattle.vl_elab_scope.specs.Seen.{innermost, with_name}
+use Rattle.vl_elab_const.specs.Numbers.{parameter_number}
 
 -- what names mean, and the numbers of constants
 pub record Stacks : Type 0 where

@@ -4,9 +4,9 @@ use Rattle.std.specs.Prelude.{List, Bool, ◌&&◌, int_le, nat_le, ℤ, pos, Op
 use Rattle.vl_tree.specs.declared.declaration.Range.{Range}
 use Rattle.vl_size.specs.Size.{is_bound}
 use Rattle.vl_size.specs.Table.{span}
-use Rattle.vl_refusal.specs.Meanings.{Names, bound, is_known_shape, declared_width}
-use Rattle.vl_enter.specs.declared.extents.Bounds.{Bounds}
-use Rattle.vl_enter.specs.declared.extents.Extent.{Extent}
+use Rattle.vl_elab_spec.specs.Meanings.{Names, bound, is_known_shape, declared_width}
+use Rattle.vl_elab_params.specs.declared.extents.Bounds.{Bounds}
+use Rattle.vl_elab_params.specs.declared.extents.Extent.{Extent}
 
 -- it is `[width - 1 : 0]`
 abbrev pub goes_down_to_0 : ℤ → ℤ → Bool

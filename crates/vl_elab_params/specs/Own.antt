@@ -1,8 +1,8 @@
 -- The parameters of a scope that are entered. IEEE 1364-2005, sections 3.11 and 12.2.
 use Rattle.std.specs.Prelude.{◌≡◌, ℕ, List, is_none}
 use Rattle.vl_mean.specs.Constants.{Constants, constant_of}
-use Rattle.vl_refusal.specs.Meanings.{Names, is_undeclared, meaning_of, value_of}
-use Rattle.vl_scope.specs.Seen.{AreNamed}
+use Rattle.vl_elab_spec.specs.Meanings.{Names, is_undeclared, meaning_of, value_of}
+use Rattle.vl_elab_scope.specs.Seen.{AreNamed}
 
 -- what is kept of them is what they mean, and their numbers, of which none isn't known, are these constants
 pub record AreOwn (own values meant : Names) (cs : Constants) : Type 0 where

@@ -2,9 +2,9 @@
 use Rattle.std.specs.Prelude.{ℕ, List, [], ◌∷◌, if◌then◌else◌}
 use Rattle.vl_tree.specs.Item.{Item, parameter}
 use Rattle.vl_mean.specs.Walk.{parameter_names}
-use Rattle.vl_refusal.specs.Meanings.{Meaning, constant, faulty, Names, is_undeclared, meaning_of, meaning_in}
-use Rattle.vl_scope.specs.Seen.{with_name}
-use Rattle.vl_param.specs.Entered.{with_later}
+use Rattle.vl_elab_spec.specs.Meanings.{Meaning, constant, faulty, Names, is_undeclared, meaning_of, meaning_in}
+use Rattle.vl_elab_scope.specs.Seen.{with_name}
+use Rattle.vl_elab_params.specs.Entered.{with_later}
 
 -- what a parameter means: it is known, or faulty
 abbrev pub parameter_meaning : Meaning → Meaning

@@ -4,9 +4,9 @@ use Rattle.std.specs.Prelude.{◌≡◌, ℕ, List, [], ◌∷◌, ◌++◌, ◌
 use Rattle.vl_mean.specs.Cells.{contains_name}
 use Rattle.vl_mean.specs.Scopes.{Scope}
 use Rattle.vl_mean.specs.Walk.{Contents, Place, parameter_names}
-use Rattle.vl_refusal.specs.Meanings.{undeclared, later, Names, meaning_of, meaning_in, meanings_at, parameters_of}
-use Rattle.vl_scope.specs.Seen.{AreNamed}
-use Rattle.vl_reach.specs.declared.reached.Reached.{Reached}
+use Rattle.vl_elab_spec.specs.Meanings.{undeclared, later, Names, meaning_of, meaning_in, meanings_at, parameters_of}
+use Rattle.vl_elab_scope.specs.Seen.{AreNamed}
+use Rattle.vl_elab_params.specs.declared.reached.Reached.{Reached}
 
 -- all parameters of a scope
 abbrev pub scope_parameters : Contents → List (List ℕ)

@@ -3,14 +3,14 @@ ghost use Rattle.std.specs.Prelude.{◌≡◌, ◌||◌, ℕ, List, false, IfOk,
 ghost use Rattle.vl_tree.specs.Item.{items};
 ghost use Rattle.vl_mean.specs.Declarations.{header_parameters, Overrides};
 ghost use Rattle.vl_mean.specs.Walk.{parameter_names};
-ghost use Rattle.vl_refusal.specs.Meanings.{all_later, item_names, items_names, later, meaning_of};
-ghost use Rattle.vl_scope.specs.Seen.{with_name, AreNamed};
-ghost use Rattle.vl_param.specs.Among.{contents};
-ghost use Rattle.vl_param.specs.Entered as spec;
+ghost use Rattle.vl_elab_spec.specs.Meanings.{all_later, item_names, items_names, later, meaning_of};
+ghost use Rattle.vl_elab_scope.specs.Seen.{with_name, AreNamed};
+ghost use Rattle.vl_elab_params.specs.Among.{contents};
+ghost use Rattle.vl_elab_params.specs.Entered as spec;
 
 use fv_base::{Memory, Text};
 use std::alloc::Global;
-use vl_scope::{Level, Meaning};
+use vl_elab_scope::{Level, Meaning};
 use vl_tree::{DeclaredName, HeaderParameter, Item, ItemKind, Parameter, Port, PortKind};
 
 fn add_later(alloc: Global, text: &Text, level: &mut Level) -> Result<(), Memory>

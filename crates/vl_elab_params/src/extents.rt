@@ -2,12 +2,12 @@
 ghost use Rattle.std.specs.Prelude.{◌≡◌, ◌&&◌, Some, None, IfOk, if◌then◌else◌};
 ghost use Rattle.fv_bits.specs.Bits.{as_int};
 ghost use Rattle.vl_size.specs.Size.{is_bound};
-ghost use Rattle.vl_enter.specs.Known as spec;
+ghost use Rattle.vl_elab_params.specs.Known as spec;
 
 use fv_base::Memory;
 use std::alloc::Global;
+use vl_elab_scope::{Names, value_of};
 use vl_mean::widths::bound;
-use vl_scope::{Names, value_of};
 use vl_size::Own;
 use vl_tree::Range;
 

@@ -4,16 +4,16 @@ ghost use Rattle.vl_size.specs.Divisors as divisors;
 ghost use Rattle.vl_size.specs.Divisors.{larger};
 ghost use Rattle.vl_size.specs.Sign.{sign};
 ghost use Rattle.vl_size.specs.Size.{size};
-ghost use Rattle.vl_refusal.specs.Meanings as meanings;
-ghost use Rattle.vl_number.specs.Given.{value_given};
-ghost use Rattle.vl_param.specs.Entered as spec;
-ghost use Rattle.vl_enter.specs.Known as known;
+ghost use Rattle.vl_elab_spec.specs.Meanings as meanings;
+ghost use Rattle.vl_elab_const.specs.Given.{value_given};
+ghost use Rattle.vl_elab_params.specs.Entered as spec;
+ghost use Rattle.vl_elab_params.specs.Known as known;
 
 use crate::extents::{Extent, known_extent};
 use fv_base::Memory;
 use std::alloc::Global;
-use vl_number::Given;
-use vl_scope::{Names, known_expr, value_of};
+use vl_elab_const::Given;
+use vl_elab_scope::{Names, known_expr, value_of};
 use vl_size::{Context, Decls, self_size, sign_of, zero_divisor};
 use vl_tree::{Expr, Parameter};
 

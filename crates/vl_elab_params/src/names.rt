@@ -4,13 +4,13 @@ ghost use Rattle.std.specs.Option.{option_copied};
 ghost use Rattle.vl_tree.specs.Item.{single};
 ghost use Rattle.vl_tree.specs.ItemView.{block as block_of};
 ghost use Rattle.vl_mean.specs.Declarations.{block_labels, names_of};
-ghost use Rattle.vl_refusal.specs.Meanings.{meaning_in};
-ghost use Rattle.vl_scope.specs.Seen.{seen, seen_or, with_name};
-ghost use Rattle.vl_reach.specs.Passed as spec;
+ghost use Rattle.vl_elab_spec.specs.Meanings.{meaning_in};
+ghost use Rattle.vl_elab_scope.specs.Seen.{seen, seen_or, with_name};
+ghost use Rattle.vl_elab_params.specs.Passed as spec;
 
 use fv_base::{Memory, Text};
 use std::alloc::Global;
-use vl_scope::{Level, Meaning, Names};
+use vl_elab_scope::{Level, Meaning, Names};
 use vl_tree::{Block, DeclaredName, Item, ItemKind, Parameter};
 
 /// A parameter is known or faulty.
@@ -39,7 +39,7 @@ fn add_parameter(
 }
 
 /// A name, which counts where it is that of a parameter.
-#[tactic(auto, using(vl_scope::proofs::Levels::seen_declared))]
+#[tactic(auto, using(vl_elab_scope::proofs::Levels::seen_declared))]
 pub(crate) fn pass_name(
     alloc: Global,
     text: &Text,

@@ -4,13 +4,13 @@ ghost use Rattle.vl_tree.specs.Expr.{Expr};
 ghost use Rattle.vl_mean.specs.Declarations.{with_constants};
 ghost use Rattle.vl_mean.specs.Scopes.{Scope};
 ghost use Rattle.vl_mean.specs.Walk.{Contents};
-ghost use Rattle.vl_refusal.specs.Meanings.{Names, all_later, meaning_of};
-ghost use Rattle.vl_scope.specs.Seen.{AreNamed};
-ghost use Rattle.vl_alike.specs.Alike.{Alike};
-ghost use Rattle.vl_number.specs.Given.{IsGiven};
-ghost use Rattle.vl_number.specs.Numbers.{HaveNumbers};
-ghost use Rattle.vl_param.specs.Among.{among_parameters, constants_of};
-ghost use Rattle.vl_param.specs.Entered.{entered};
+ghost use Rattle.vl_elab_spec.specs.Meanings.{Names, all_later, meaning_of};
+ghost use Rattle.vl_elab_scope.specs.Seen.{AreNamed};
+ghost use Rattle.vl_elab_scope.specs.Alike.{Alike};
+ghost use Rattle.vl_elab_const.specs.Given.{IsGiven};
+ghost use Rattle.vl_elab_const.specs.Numbers.{HaveNumbers};
+ghost use Rattle.vl_elab_params.specs.Among.{among_parameters, constants_of};
+ghost use Rattle.vl_elab_params.specs.Entered.{entered};
 
 /// Where each parameter is added behind those before it, with what is known of it over the names so far and with its
 /// number over the numbers so far, names mean what the definitions say where the shapes of a scope are read, and

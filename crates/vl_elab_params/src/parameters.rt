@@ -3,22 +3,22 @@ ghost use Rattle.std.specs.Prelude.{◌≡◌, ◌∷◌, [], ℕ, List, None, O
 ghost use Rattle.vl_tree.specs.Item.{items};
 ghost use Rattle.vl_mean.specs.Declarations.{header_parameters, with_constants, Overrides};
 ghost use Rattle.vl_mean.specs.Scopes.{Scope};
-ghost use Rattle.vl_refusal.specs.Meanings.{Names as Scoped};
-ghost use Rattle.vl_scope.specs.Seen.{seen, innermost, IsNamed};
-ghost use Rattle.vl_alike.specs.Alike.{Alike};
-ghost use Rattle.vl_number.specs.Given.{value_given, IsGiven};
-ghost use Rattle.vl_number.specs.Numbers.{HaveNumbers};
-ghost use Rattle.vl_param.specs.Among as among;
-ghost use Rattle.vl_param.specs.Entered as spec;
-ghost use Rattle.vl_enter.specs.Own.{AreOwn};
+ghost use Rattle.vl_elab_spec.specs.Meanings.{Names as Scoped};
+ghost use Rattle.vl_elab_scope.specs.Seen.{seen, innermost, IsNamed};
+ghost use Rattle.vl_elab_scope.specs.Alike.{Alike};
+ghost use Rattle.vl_elab_const.specs.Given.{value_given, IsGiven};
+ghost use Rattle.vl_elab_const.specs.Numbers.{HaveNumbers};
+ghost use Rattle.vl_elab_params.specs.Among as among;
+ghost use Rattle.vl_elab_params.specs.Entered as spec;
+ghost use Rattle.vl_elab_params.specs.Own.{AreOwn};
 
+use crate::behind::names_behind;
 use crate::known::selected_if_known;
 use fv_base::{Memory, Text};
 use std::alloc::Global;
+use vl_elab_const::{Given, parameter_value};
+use vl_elab_scope::{Level, Meaning, Names};
 use vl_mean::Const;
-use vl_number::{Given, parameter_value};
-use vl_param::names_behind;
-use vl_scope::{Level, Meaning, Names};
 use vl_tree::{HeaderParameter, Item, ItemKind, Parameter, ParameterKind, Port};
 
 /// A name more in the innermost scope.

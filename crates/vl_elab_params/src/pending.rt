@@ -3,14 +3,14 @@ ghost use Rattle.std.specs.Prelude.{◌≡◌, ◌++◌, IfOk, OnOk};
 ghost use Rattle.vl_tree.specs.Item.{items};
 ghost use Rattle.vl_mean.specs.Declarations.{header_parameters};
 ghost use Rattle.vl_mean.specs.Walk.{parameter_names};
-ghost use Rattle.vl_refusal.specs.Meanings.{later, parameters_of};
-ghost use Rattle.vl_scope.specs.Seen.{with_name};
-ghost use Rattle.vl_param.specs.Entered.{with_later};
-ghost use Rattle.vl_reach.specs.Passed as spec;
+ghost use Rattle.vl_elab_spec.specs.Meanings.{later, parameters_of};
+ghost use Rattle.vl_elab_scope.specs.Seen.{with_name};
+ghost use Rattle.vl_elab_params.specs.Entered.{with_later};
+ghost use Rattle.vl_elab_params.specs.Passed as spec;
 
 use fv_base::{Memory, Text};
 use std::alloc::Global;
-use vl_scope::{Level, Meaning};
+use vl_elab_scope::{Level, Meaning};
 use vl_tree::{HeaderParameter, Item, ItemKind, Parameter};
 
 fn add_later(alloc: Global, text: &Text, level: &mut Level) -> Result<(), Memory>

@@ -3,18 +3,18 @@ ghost use Rattle.std.specs.Prelude.{◌≡◌, ◌∷◌, ◌++◌, [], ℕ, Lis
 ghost use Rattle.vl_tree.specs.Item.{items};
 ghost use Rattle.vl_mean.specs.Declarations.{header_parameters, names_of};
 ghost use Rattle.vl_mean.specs.Walk.{Place, parameter_names};
-ghost use Rattle.vl_refusal.specs.Meanings as meanings;
-ghost use Rattle.vl_refusal.specs.Meanings.{meanings_at, meanings_before, parameters_of};
-ghost use Rattle.vl_alike.specs.Alike.{Alike};
-ghost use Rattle.vl_reach.specs.declared.reached.Reached.{Reached};
-ghost use Rattle.vl_reach.specs.Reached as spec;
+ghost use Rattle.vl_elab_spec.specs.Meanings as meanings;
+ghost use Rattle.vl_elab_spec.specs.Meanings.{meanings_at, meanings_before, parameters_of};
+ghost use Rattle.vl_elab_scope.specs.Alike.{Alike};
+ghost use Rattle.vl_elab_params.specs.declared.reached.Reached.{Reached};
+ghost use Rattle.vl_elab_params.specs.Reached as spec;
 
 use crate::names::{pass_item, pass_name};
 use crate::pending::all_pending;
 use fv_base::{Memory, Text};
 use std::alloc::Global;
 use std::mem;
-use vl_scope::{Level, Names};
+use vl_elab_scope::{Level, Names};
 use vl_tree::{HeaderParameter, Item};
 
 /// The parameters of a scope: all of them, and those that stand before a step of the walk with what they mean.

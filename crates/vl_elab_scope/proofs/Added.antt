@@ -7,11 +7,11 @@ use Rattle.std.specs.Map.{lookup}
 use Rattle.std.specs.Option.{option_copied}
 use Rattle.std.proofs.Common.{ap, sym, ◌∙◌, subst, Bor}
 use Rattle.vl_size.proofs.Entries.{copied_some}
-use Rattle.vl_refusal.specs.Meanings.{Meaning, Names, is_undeclared, meaning_of}
-use Rattle.vl_scope.specs.declared.meaning.Meaning.{Meaning as Kept}
-use Rattle.vl_scope.specs.declared.meaning.Named.{Named}
-use Rattle.vl_scope.specs.Seen.{Entry, seen, seen_or, names_of, names_from, with_name, IsNamed, AreNamed}
-use Rattle.vl_scope.proofs.Levels.{lookup_seen, seen_declared}
+use Rattle.vl_elab_spec.specs.Meanings.{Meaning, Names, is_undeclared, meaning_of}
+use Rattle.vl_elab_scope.specs.declared.meaning.Meaning.{Meaning as Kept}
+use Rattle.vl_elab_scope.specs.declared.meaning.Named.{Named}
+use Rattle.vl_elab_scope.specs.Seen.{Entry, seen, seen_or, names_of, names_from, with_name, IsNamed, AreNamed}
+use Rattle.vl_elab_scope.proofs.Levels.{lookup_seen, seen_declared}
 
 append_names : (es : List Entry) (e : Entry)
     → names_of (es ++ e ∷ []) ≡ names_of es ++ (e.0.items, seen e.1) ∷ []

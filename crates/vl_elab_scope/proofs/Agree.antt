@@ -44,7 +44,7 @@ use Rattle.vl_size.specs.Way.{way, keeps_size}
 use Rattle.vl_mean.specs.declared.const_number.Const.{Const}
 use Rattle.vl_mean.specs.Cells.{contains_name}
 use Rattle.vl_mean.specs.Constants.{settled, settled_exprs, settled_selects, named_constant}
-use Rattle.vl_scope.specs.Texts.{texts, exprs_texts, selects_texts, AgreeOn}
+use Rattle.vl_elab_scope.specs.Texts.{texts, exprs_texts, selects_texts, AgreeOn}
 
 -- ---- lists of names
 

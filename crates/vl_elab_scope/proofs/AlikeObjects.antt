@@ -2,10 +2,10 @@
 use Rattle.std.specs.Prelude.{◌≡◌, ℕ, List}
 use Rattle.std.proofs.Common.{ap, sym, ◌∙◌}
 use Rattle.vl_size.specs.Table.{declared_as}
-use Rattle.vl_refusal.specs.Meanings.{Names, objects}
-use Rattle.vl_scope.specs.Seen.{object_of}
-use Rattle.vl_scope.proofs.Objects.{object_is}
-use Rattle.vl_alike.specs.Alike.{Alike}
+use Rattle.vl_elab_spec.specs.Meanings.{Names, objects}
+use Rattle.vl_elab_scope.specs.Seen.{object_of}
+use Rattle.vl_elab_scope.proofs.ScopeObjects.{object_is}
+use Rattle.vl_elab_scope.specs.Alike.{Alike}
 
 pub same_object : (ns ms : List Names) → Alike ns ms → (text : List ℕ)
     → declared_as (objects ns) text ≡ declared_as (objects ms) text

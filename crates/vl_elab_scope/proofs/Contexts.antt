@@ -11,12 +11,12 @@ use Rattle.vl_size.specs.Sign.{declared_sign, name_sign}
 use Rattle.vl_size.specs.Size.{◌>>=◌}
 use Rattle.vl_size.specs.Table.{declared_as}
 use Rattle.vl_mean.specs.Constants.{named_constant}
-use Rattle.vl_refusal.specs.Expressions.{known}
-use Rattle.vl_refusal.specs.Meanings.{Meaning, undeclared, constant, loop_variable, object, faulty, shapeless, later}
-use Rattle.vl_refusal.specs.Meanings.{Names, meaning_in, objects, value_of}
-use Rattle.vl_scope.specs.Contexts.{choice_context, meant_context, no_context}
-use Rattle.vl_scope.specs.Seen.{object_of, AllNamed}
-use Rattle.vl_scope.proofs.Objects.{object_is}
+use Rattle.vl_elab_spec.specs.Expressions.{known}
+use Rattle.vl_elab_spec.specs.Meanings.{Meaning, undeclared, constant, loop_variable, object, faulty, shapeless, later}
+use Rattle.vl_elab_spec.specs.Meanings.{Names, meaning_in, objects, value_of}
+use Rattle.vl_elab_scope.specs.Contexts.{choice_context, meant_context, no_context}
+use Rattle.vl_elab_scope.specs.Seen.{object_of, AllNamed}
+use Rattle.vl_elab_scope.proofs.ScopeObjects.{object_is}
 
 abbrev the_context : Option ℕ → Bool → Context
 the_context n signed = record { size = n; signed = signed }

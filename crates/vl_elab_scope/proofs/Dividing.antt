@@ -39,7 +39,7 @@ use Rattle.vl_size.specs.Way.{way, keeps_size}
 use Rattle.vl_mean.specs.declared.const_number.Const.{Const}
 use Rattle.vl_mean.specs.Constants.{settled, settled_exprs, settled_selects, named_constant, selected_constant}
 use Rattle.vl_mean.specs.Constants.{number_or, values_at, vector_of}
-use Rattle.vl_scope.specs.Divisions.{has_division, parts_have_division, selects_have_division, select_has_division}
+use Rattle.vl_elab_scope.specs.Divisions.{has_division, parts_have_division, selects_have_division, select_has_division}
 
 -- one select before the others
 pub selects_next : (x : Select) (ss : Selects)

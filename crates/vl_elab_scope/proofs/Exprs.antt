@@ -28,16 +28,16 @@ use Rattle.vl_size.specs.declared.decl.Decl.{Decl}
 use Rattle.vl_size.specs.Size.{divides, is_bound, goes_along}
 use Rattle.vl_mean.specs.Constants.{vector_of}
 use Rattle.vl_mean.specs.Scopes.{is_clock_class}
-use Rattle.vl_refusal.specs.declared.elab_fault.ElabFault.{ElabFault}
-use Rattle.vl_refusal.specs.declared.elab_fault.ElabFault.TheVariants as f
-use Rattle.vl_refusal.specs.Expressions.{refused_if, too_wide, divided_by_zero, far, against, no_copies, none_behind}
-use Rattle.vl_refusal.specs.Expressions.{vector_selects, memory_selects, object_selects, read_refusals}
-use Rattle.vl_refusal.specs.Expressions.{is_constant_name, refusals, all_refusals, select_refusals, expr_refusals}
-use Rattle.vl_refusal.specs.Expressions.{own_refusals, wide_size}
-use Rattle.vl_refusal.specs.Meanings.{Meaning, undeclared, constant, loop_variable, object, faulty, shapeless, later}
-use Rattle.vl_refusal.specs.Meanings.{Names, meaning_in}
-use Rattle.vl_alike.specs.Alike.{Alike}
-use Rattle.vl_alike.proofs.Sizes as z
+use Rattle.vl_elab_spec.specs.declared.elab_fault.ElabFault.{ElabFault}
+use Rattle.vl_elab_spec.specs.declared.elab_fault.ElabFault.TheVariants as f
+use Rattle.vl_elab_spec.specs.Expressions.{refused_if, too_wide, divided_by_zero, far, against, no_copies, none_behind}
+use Rattle.vl_elab_spec.specs.Expressions.{vector_selects, memory_selects, object_selects, read_refusals}
+use Rattle.vl_elab_spec.specs.Expressions.{is_constant_name, refusals, all_refusals, select_refusals, expr_refusals}
+use Rattle.vl_elab_spec.specs.Expressions.{own_refusals, wide_size}
+use Rattle.vl_elab_spec.specs.Meanings.{Meaning, undeclared, constant, loop_variable, object, faulty, shapeless, later}
+use Rattle.vl_elab_spec.specs.Meanings.{Names, meaning_in}
+use Rattle.vl_elab_scope.specs.Alike.{Alike}
+use Rattle.vl_elab_scope.proofs.Sizes as z
 
 module _ (ns ms : List Names) (h : Alike ns ms) where
   pub same_far : (q : Pos) (e : Expr) → far ns q e ≡ far ms q e

@@ -17,20 +17,20 @@ use Rattle.vl_size.specs.declared.decl.Class.{Class}
 use Rattle.vl_size.specs.Divisors.{own_context}
 use Rattle.vl_size.specs.Size.{is_bound}
 use Rattle.vl_size.specs.Table.{span}
-use Rattle.vl_refusal.specs.declared.elab_fault.ElabFault.{ElabFault}
-use Rattle.vl_refusal.specs.declared.elab_fault.ElabFault.TheVariants as f
-use Rattle.vl_refusal.specs.Expressions.{refused_if, too_wide, refusals, expr_refusals, known}
-use Rattle.vl_refusal.specs.Items.{range_refusals, width_refusals, value_context, given_value, declared_value}
-use Rattle.vl_refusal.specs.Items.{name_refusals, names_refusals, assignments_refusals, edge_refusals, event_refusals}
-use Rattle.vl_refusal.specs.Items.{genvar_refusals, given_context, override_value, is_net, is_net_name, varies_by}
-use Rattle.vl_refusal.specs.Items.{is_net_target, are_net_targets, output_target, joined_context}
-use Rattle.vl_refusal.specs.Meanings.{Names, meaning_in, is_known_range, is_known_bound, declared_width, bound}
-use Rattle.vl_refusal.specs.Meanings.{may_have_words, objects}
-use Rattle.vl_refusal.specs.Statements.{assigned_in}
-use Rattle.vl_alike.specs.Alike.{Alike}
-use Rattle.vl_alike.proofs.Exprs as x
-use Rattle.vl_alike.proofs.Sizes as z
-use Rattle.vl_alike.proofs.Stmts as s
+use Rattle.vl_elab_spec.specs.declared.elab_fault.ElabFault.{ElabFault}
+use Rattle.vl_elab_spec.specs.declared.elab_fault.ElabFault.TheVariants as f
+use Rattle.vl_elab_spec.specs.Expressions.{refused_if, too_wide, refusals, expr_refusals, known}
+use Rattle.vl_elab_spec.specs.Items.{range_refusals, width_refusals, value_context, given_value, declared_value}
+use Rattle.vl_elab_spec.specs.Items.{name_refusals, names_refusals, assignments_refusals, edge_refusals, event_refusals}
+use Rattle.vl_elab_spec.specs.Items.{genvar_refusals, given_context, override_value, is_net, is_net_name, varies_by}
+use Rattle.vl_elab_spec.specs.Items.{is_net_target, are_net_targets, output_target, joined_context}
+use Rattle.vl_elab_spec.specs.Meanings.{Names, meaning_in, is_known_range, is_known_bound, declared_width, bound}
+use Rattle.vl_elab_spec.specs.Meanings.{may_have_words, objects}
+use Rattle.vl_elab_spec.specs.Statements.{assigned_in}
+use Rattle.vl_elab_scope.specs.Alike.{Alike}
+use Rattle.vl_elab_scope.proofs.Exprs as x
+use Rattle.vl_elab_scope.proofs.Sizes as z
+use Rattle.vl_elab_scope.proofs.Stmts as s
 
 module _ (ns ms : List Names) (h : Alike ns ms) where
   -- ---- ranges

@@ -5,10 +5,10 @@ use Rattle.std.specs.Prelude.{if◌then◌else◌, drop, Option, option_to_list}
 use Rattle.std.specs.Map.{lookup}
 use Rattle.std.specs.Prelude.{Result, Ok, Err, OnOk, OnErr, MatchOption}
 use Rattle.std.proofs.Common.{ap, sym, ◌∙◌, subst, arith}
-use Rattle.vl_refusal.specs.Meanings.{Meaning, undeclared, Names, is_undeclared, meaning_of, meaning_in}
-use Rattle.vl_scope.specs.declared.meaning.Meaning.{Meaning as Kept}
-use Rattle.vl_scope.specs.declared.meaning.Meaning.TheVariants as k
-use Rattle.vl_scope.specs.Seen.{Entry, seen, seen_or, names_of, inward, innermost, names_or, AreNamed, AllNamed}
+use Rattle.vl_elab_spec.specs.Meanings.{Meaning, undeclared, Names, is_undeclared, meaning_of, meaning_in}
+use Rattle.vl_elab_scope.specs.declared.meaning.Meaning.{Meaning as Kept}
+use Rattle.vl_elab_scope.specs.declared.meaning.Meaning.TheVariants as k
+use Rattle.vl_elab_scope.specs.Seen.{Entry, seen, seen_or, names_of, inward, innermost, names_or, AreNamed, AllNamed}
 
 pub inward_last : (ls : List Names) (l : Names) → inward (ls ++ l ∷ []) ≡ l ∷ inward ls
 inward_last [] l = refl

@@ -11,8 +11,8 @@ use Rattle.vl_size.specs.Sign.{sign}
 use Rattle.vl_size.specs.Size.{Cells, index_of, no_names, operand_of, or_none, size, value}
 use Rattle.vl_mean.specs.declared.const_number.Const.{Const}
 use Rattle.vl_mean.specs.Constants.{settled}
-use Rattle.vl_scope.specs.Texts.{texts, AgreeOn}
-use Rattle.vl_scope.proofs.Agree.{same_settled}
+use Rattle.vl_elab_scope.specs.Texts.{texts, AgreeOn}
+use Rattle.vl_elab_scope.proofs.Agree.{same_settled}
 
 pub ok_settled : {F : Type 0} (r : Result Expr F) (g f : List ℕ → Option Const) (e : Expr) → AgreeOn g f (texts e)
     → IfOk r (λ x. x ≡ settled g e) → IfOk r (λ x. x ≡ settled f e)

@@ -6,7 +6,7 @@ use Rattle.std.proofs.Common.{ap, sym, ◌∙◌}
 use Rattle.std.proofs.lemmas.Slice.Eq.{bytes_eq-Decides}
 use Rattle.vl_mean.proofs.Lookups.{bytes_eq-swap}
 use Rattle.vl_mean.specs.Cells.{contains_name}
-use Rattle.vl_scope.specs.Texts.{of_names, or_else, AgreeOn}
+use Rattle.vl_elab_scope.specs.Texts.{of_names, or_else, AgreeOn}
 
 module _ {A : Type 0} (f : List ℕ → Option A) where
   or_none : (x : Option A) → or_else x None ≡ x

@@ -6,11 +6,12 @@ use Rattle.std.proofs.Common.{ap, sym, ◌∙◌}
 use Rattle.std.proofs.lemmas.Slice.Eq.{bytes_eq-Decides}
 use Rattle.vl_size.specs.declared.decl.Decl.{Decl}
 use Rattle.vl_size.specs.Table.{declared_as, is_declared}
-use Rattle.vl_refusal.specs.Meanings.{Meaning, undeclared, constant, loop_variable, object, faulty, shapeless, later}
-use Rattle.vl_refusal.specs.Meanings.{Names}
-use Rattle.vl_refusal.specs.Meanings.{is_undeclared, is_object, meaning_of, meaning_in, objects_of, objects_in, objects}
-use Rattle.vl_scope.specs.Seen.{object_of, AreNamed, AllNamed}
-use Rattle.vl_scope.specs.Texts.{or_else}
+use Rattle.vl_elab_spec.specs.Meanings.{Meaning, undeclared, constant, loop_variable, object, faulty, shapeless, later}
+use Rattle.vl_elab_spec.specs.Meanings.{Names}
+use Rattle.vl_elab_spec.specs.Meanings.{is_undeclared, is_object, meaning_of, meaning_in, objects_of, objects_in}
+use Rattle.vl_elab_spec.specs.Meanings.{objects}
+use Rattle.vl_elab_scope.specs.Seen.{object_of, AreNamed, AllNamed}
+use Rattle.vl_elab_scope.specs.Texts.{or_else}
 
 declared_append : (ds es : List Decl) (text : List ℕ)
     → declared_as (ds ++ es) text ≡ or_else (declared_as ds text) (declared_as es text)

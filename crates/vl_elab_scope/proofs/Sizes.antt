@@ -34,13 +34,13 @@ use Rattle.vl_size.specs.Way.{way}
 use Rattle.vl_mean.specs.declared.const_number.Const.{Const}
 use Rattle.vl_mean.specs.ConstantFaults.{capped, wide_times}
 use Rattle.vl_mean.specs.Constants.{settled, settled_selects, vector_of}
-use Rattle.vl_refusal.specs.Expressions.{known, if_known, part_width, count_width, vector_width, word_width}
-use Rattle.vl_refusal.specs.Expressions.{name_width, wide_size, wide_sizes}
-use Rattle.vl_refusal.specs.Meanings.{Meaning, undeclared, constant, loop_variable, object, faulty, shapeless, later}
-use Rattle.vl_refusal.specs.Meanings.{Names, meaning_in, value_of, is_known, bound, objects}
-use Rattle.vl_scope.proofs.Agree.{same_own, same_divisor, same_selects_divisor}
-use Rattle.vl_alike.proofs.Objects.{same_object}
-use Rattle.vl_alike.specs.Alike.{Alike}
+use Rattle.vl_elab_spec.specs.Expressions.{known, if_known, part_width, count_width, vector_width, word_width}
+use Rattle.vl_elab_spec.specs.Expressions.{name_width, wide_size, wide_sizes}
+use Rattle.vl_elab_spec.specs.Meanings.{Meaning, undeclared, constant, loop_variable, object, faulty, shapeless, later}
+use Rattle.vl_elab_spec.specs.Meanings.{Names, meaning_in, value_of, is_known, bound, objects}
+use Rattle.vl_elab_scope.proofs.Agree.{same_own, same_divisor, same_selects_divisor}
+use Rattle.vl_elab_scope.proofs.AlikeObjects.{same_object}
+use Rattle.vl_elab_scope.specs.Alike.{Alike}
 
 module _ (ns ms : List Names) (h : Alike ns ms) where
   -- ---- constants

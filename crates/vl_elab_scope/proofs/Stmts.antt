@@ -26,16 +26,16 @@ use Rattle.vl_size.specs.Divisors.{larger}
 use Rattle.vl_size.specs.Size.{◌>>=◌}
 use Rattle.vl_mean.specs.ConstantFaults.{capped}
 use Rattle.vl_mean.specs.Constants.{vector_of}
-use Rattle.vl_refusal.specs.Expressions.{too_wide, divided_by_zero, expr_refusals}
-use Rattle.vl_refusal.specs.Meanings.{Meaning, undeclared, constant, loop_variable, object, faulty, shapeless, later}
-use Rattle.vl_refusal.specs.Meanings.{Names, meaning_in}
-use Rattle.vl_refusal.specs.Statements.{widened, assigned_refusals, target_selects, target_width, targets_width}
-use Rattle.vl_refusal.specs.Statements.{target_refusals, targets_refusals, assigned_in, assignment_refusals}
-use Rattle.vl_refusal.specs.Statements.{with_label, with_labels, case_context, labels_refusals, stmt_refusals}
-use Rattle.vl_refusal.specs.Statements.{stmts_refusals, arms_refusals, initial_refusals, all_initial_refusals}
-use Rattle.vl_alike.specs.Alike.{Alike}
-use Rattle.vl_alike.proofs.Exprs as x
-use Rattle.vl_alike.proofs.Sizes as z
+use Rattle.vl_elab_spec.specs.Expressions.{too_wide, divided_by_zero, expr_refusals}
+use Rattle.vl_elab_spec.specs.Meanings.{Meaning, undeclared, constant, loop_variable, object, faulty, shapeless, later}
+use Rattle.vl_elab_spec.specs.Meanings.{Names, meaning_in}
+use Rattle.vl_elab_spec.specs.Statements.{widened, assigned_refusals, target_selects, target_width, targets_width}
+use Rattle.vl_elab_spec.specs.Statements.{target_refusals, targets_refusals, assigned_in, assignment_refusals}
+use Rattle.vl_elab_spec.specs.Statements.{with_label, with_labels, case_context, labels_refusals, stmt_refusals}
+use Rattle.vl_elab_spec.specs.Statements.{stmts_refusals, arms_refusals, initial_refusals, all_initial_refusals}
+use Rattle.vl_elab_scope.specs.Alike.{Alike}
+use Rattle.vl_elab_scope.proofs.Exprs as x
+use Rattle.vl_elab_scope.proofs.Sizes as z
 
 module _ (ns ms : List Names) (h : Alike ns ms) where
   -- ---- targets

@@ -5,7 +5,7 @@ use Rattle.vl_tree.specs.declared.expr.Select.{Select}
 use Rattle.std.proofs.lemmas.List.{append_assoc}
 use Rattle.vl_tree.specs.Expr.{Expr, Selects, exprs}
 use Rattle.vl_tree.specs.ExprView.{selects, with_select}
-use Rattle.vl_scope.specs.Texts.{texts, exprs_texts, selects_texts}
+use Rattle.vl_elab_scope.specs.Texts.{texts, exprs_texts, selects_texts}
 use Rattle.vl_size.proofs.Falls.{select_depth}
 use Rattle.vl_size.proofs.Rest.{part_depth}
 

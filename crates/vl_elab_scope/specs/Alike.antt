@@ -1,7 +1,7 @@
 -- Scopes in which each name means the same, however they are kept. Rule of this project.
 use Rattle.std.specs.Prelude.{◌≡◌, ℕ, List}
-use Rattle.vl_refusal.specs.Meanings.{Names, meaning_in}
-use Rattle.vl_scope.specs.Seen.{AllNamed}
+use Rattle.vl_elab_spec.specs.Meanings.{Names, meaning_in}
+use Rattle.vl_elab_scope.specs.Seen.{AllNamed}
 
 -- each name means the same in both, and each net and variable stands under its own name
 pub record Alike (ns ms : List Names) : Type 0 where

@@ -9,7 +9,7 @@ use Rattle.vl_size.specs.declared.decl.Decl.{Decl}
 use Rattle.vl_size.specs.Sign.{cast_sign, sign_by}
 use Rattle.vl_size.specs.Size.{◌>>=◌, size_by, unary_size}
 use Rattle.vl_size.specs.Way.{keeps_size, way}
-use Rattle.vl_refusal.specs.Meanings.{Meaning, constant, object}
+use Rattle.vl_elab_spec.specs.Meanings.{Meaning, constant, object}
 
 abbrev pub no_context : Context
 no_context = record { size = None; signed = false }

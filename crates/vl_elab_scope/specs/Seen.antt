@@ -3,12 +3,12 @@ use Rattle.std.specs.Prelude.{◌≡◌, ℕ, List, [], ◌∷◌, ◌++◌, map
 use Rattle.std.specs.Prelude.{if◌then◌else◌}
 use Rattle.std.specs.declared.alloc.Global.{Global}
 use Rattle.vl_size.specs.declared.decl.Decl.{Decl}
-use Rattle.vl_refusal.specs.Meanings.{Meaning, undeclared, constant, loop_variable, object, faulty, shapeless, later}
-use Rattle.vl_refusal.specs.Meanings.{Names, is_undeclared, meaning_of}
-use Rattle.vl_scope.specs.declared.meaning.Meaning.{Meaning as Kept}
-use Rattle.vl_scope.specs.declared.meaning.Meaning.TheVariants as k
-use Rattle.vl_scope.specs.declared.meaning.Filled.{Filled}
-use Rattle.vl_scope.specs.declared.meaning.Named.{Named}
+use Rattle.vl_elab_spec.specs.Meanings.{Meaning, undeclared, constant, loop_variable, object, faulty, shapeless, later}
+use Rattle.vl_elab_spec.specs.Meanings.{Names, is_undeclared, meaning_of}
+use Rattle.vl_elab_scope.specs.declared.meaning.Meaning.{Meaning as Kept}
+use Rattle.vl_elab_scope.specs.declared.meaning.Meaning.TheVariants as k
+use Rattle.vl_elab_scope.specs.declared.meaning.Filled.{Filled}
+use Rattle.vl_elab_scope.specs.declared.meaning.Named.{Named}
 
 abbrev pub seen : Kept → Meaning
 seen (k.Constant c selected) = constant c selected

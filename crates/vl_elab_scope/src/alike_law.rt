@@ -12,11 +12,11 @@ ghost use Rattle.vl_tree.specs.Stmt.{Stmt};
 ghost use Rattle.vl_size.specs.declared.context.Context.{Context};
 ghost use Rattle.vl_size.specs.declared.decl.Class.{Class};
 ghost use Rattle.vl_size.specs.Table.{declared_as};
-ghost use Rattle.vl_refusal.specs.Expressions.{expr_refusals, own_refusals};
-ghost use Rattle.vl_refusal.specs.Items as items;
-ghost use Rattle.vl_refusal.specs.Meanings.{Names, objects};
-ghost use Rattle.vl_refusal.specs.Statements as stmts;
-ghost use Rattle.vl_alike.specs.Alike.{Alike};
+ghost use Rattle.vl_elab_spec.specs.Expressions.{expr_refusals, own_refusals};
+ghost use Rattle.vl_elab_spec.specs.Items as items;
+ghost use Rattle.vl_elab_spec.specs.Meanings.{Names, objects};
+ghost use Rattle.vl_elab_spec.specs.Statements as stmts;
+ghost use Rattle.vl_elab_scope.specs.Alike.{Alike};
 
 /// The nets and variables that the names mean.
 pub fn meanings_decide_declarations()

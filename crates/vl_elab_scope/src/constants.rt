@@ -3,8 +3,8 @@ ghost use Rattle.std.specs.Prelude.{◌≡◌, IfOk, is_some};
 ghost use Rattle.std.specs.Option.{option_copied};
 ghost use Rattle.vl_tree.specs.Expr.{whole};
 ghost use Rattle.vl_mean.specs.Constants as spec;
-ghost use Rattle.vl_refusal.specs.Meanings as meanings;
-ghost use Rattle.vl_scope.specs.Seen.{seen_or};
+ghost use Rattle.vl_elab_spec.specs.Meanings as meanings;
+ghost use Rattle.vl_elab_scope.specs.Seen.{seen_or};
 
 use crate::meaning::Meaning;
 use crate::names::Names;

@@ -7,10 +7,10 @@ ghost use Rattle.vl_tree.specs.Expr.{whole};
 ghost use Rattle.vl_size.specs.Divisors.{own_context as own_context_of};
 ghost use Rattle.vl_size.specs.Sign.{sign_by};
 ghost use Rattle.vl_size.specs.Way.{way};
-ghost use Rattle.vl_refusal.specs.Expressions.{known};
-ghost use Rattle.vl_refusal.specs.Meanings.{objects};
-ghost use Rattle.vl_scope.specs.Contexts as spec;
-ghost use Rattle.vl_scope.specs.Seen.{seen_or};
+ghost use Rattle.vl_elab_spec.specs.Expressions.{known};
+ghost use Rattle.vl_elab_spec.specs.Meanings.{objects};
+ghost use Rattle.vl_elab_scope.specs.Contexts as spec;
+ghost use Rattle.vl_elab_scope.specs.Seen.{seen_or};
 
 use crate::meaning::{Meaning, Object};
 use crate::names::Names;

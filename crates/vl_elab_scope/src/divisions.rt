@@ -2,7 +2,7 @@
 ghost use Rattle.std.specs.Prelude.{◌≡◌, ◌||◌};
 ghost use Rattle.vl_tree.specs.Expr.{exprs};
 ghost use Rattle.vl_tree.specs.ExprView.{selects};
-ghost use Rattle.vl_scope.specs.Divisions as spec;
+ghost use Rattle.vl_elab_scope.specs.Divisions as spec;
 
 use vl_size::way::divides;
 use vl_tree::{Expr, ExprKind, Select};

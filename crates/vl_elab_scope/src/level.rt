@@ -2,8 +2,8 @@
 ghost use Rattle.std.specs.Prelude.{◌≡◌, ◌++◌, ◌∷◌, [], None, IfOk, OnOk, OnErr, bytes_eq};
 ghost use Rattle.std.specs.Option.{option_copied};
 ghost use Rattle.std.specs.Map.{lookup};
-ghost use Rattle.vl_refusal.specs.Meanings.{meaning_of};
-ghost use Rattle.vl_scope.specs.Seen as spec;
+ghost use Rattle.vl_elab_spec.specs.Meanings.{meaning_of};
+ghost use Rattle.vl_elab_scope.specs.Seen as spec;
 
 use crate::meaning::{Filled, Meaning, Named};
 use fv_base::{Memory, Text};
@@ -21,8 +21,8 @@ pub struct Level {
 }
 
 impl Model for Level {
-    ghost use Rattle.vl_refusal.specs.Meanings as meanings;
-    ghost use Rattle.vl_scope.specs.Seen.{names_in, AreNamed};
+    ghost use Rattle.vl_elab_spec.specs.Meanings as meanings;
+    ghost use Rattle.vl_elab_scope.specs.Seen.{names_in, AreNamed};
 
     ghost Value = { meanings.Names };
 

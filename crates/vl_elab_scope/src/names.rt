@@ -1,8 +1,8 @@
 //! What names mean in scopes.
 ghost use Rattle.std.specs.Prelude.{◌≡◌, ◌++◌, ◌∷◌, [], drop, OnOk, OnErr};
 ghost use Rattle.std.specs.Option.{option_copied};
-ghost use Rattle.vl_refusal.specs.Meanings.{meaning_in};
-ghost use Rattle.vl_scope.specs.Seen as spec;
+ghost use Rattle.vl_elab_spec.specs.Meanings.{meaning_in};
+ghost use Rattle.vl_elab_scope.specs.Seen as spec;
 
 use crate::level::Level;
 use crate::meaning::Meaning;
@@ -19,8 +19,8 @@ pub struct Names {
 
 impl Model for Names {
     ghost use Rattle.std.specs.Prelude.{List};
-    ghost use Rattle.vl_refusal.specs.Meanings as meanings;
-    ghost use Rattle.vl_scope.specs.Seen.{inward, AllNamed};
+    ghost use Rattle.vl_elab_spec.specs.Meanings as meanings;
+    ghost use Rattle.vl_elab_scope.specs.Seen.{inward, AllNamed};
 
     ghost Value = { List meanings.Names };
 

@@ -5,8 +5,8 @@ ghost use Rattle.vl_size.specs.Divisors as divisors;
 ghost use Rattle.vl_size.specs.Sign.{sign};
 ghost use Rattle.vl_size.specs.Size as size_spec;
 ghost use Rattle.vl_mean.specs.Env.{cells_of};
-ghost use Rattle.vl_refusal.specs.Expressions.{known};
-ghost use Rattle.vl_refusal.specs.Meanings.{bound, is_known, objects};
+ghost use Rattle.vl_elab_spec.specs.Expressions.{known};
+ghost use Rattle.vl_elab_spec.specs.Meanings.{bound, is_known, objects};
 
 use crate::divisions::has_division;
 use crate::names::Names;

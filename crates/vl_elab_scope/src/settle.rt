@@ -4,8 +4,8 @@ ghost use Rattle.vl_tree.specs.Expr.{exprs};
 ghost use Rattle.vl_tree.specs.ExprView.{selects, with_select};
 ghost use Rattle.vl_tree.specs.Expr as tree;
 ghost use Rattle.vl_mean.specs.Constants as spec;
-ghost use Rattle.vl_refusal.specs.Expressions.{known};
-ghost use Rattle.vl_refusal.specs.Meanings as meanings;
+ghost use Rattle.vl_elab_spec.specs.Expressions.{known};
+ghost use Rattle.vl_elab_spec.specs.Meanings as meanings;
 
 use crate::constants::{is_constant, whole_name};
 use crate::names::Names;

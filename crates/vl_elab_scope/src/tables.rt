@@ -4,10 +4,10 @@ ghost use Rattle.std.specs.Prelude.{bytes_eq};
 ghost use Rattle.std.specs.Prelude.{option_to_list, if◌then◌else◌};
 ghost use Rattle.vl_size.specs.Table.{declared_as, is_declared, IsPlain};
 ghost use Rattle.vl_mean.specs.Params.{constant};
-ghost use Rattle.vl_refusal.specs.Expressions.{known};
-ghost use Rattle.vl_refusal.specs.Meanings as meanings;
-ghost use Rattle.vl_scope.specs.Seen.{seen, object_of};
-ghost use Rattle.vl_scope.specs.Texts.{texts, of_names, or_else, AgreeOn};
+ghost use Rattle.vl_elab_spec.specs.Expressions.{known};
+ghost use Rattle.vl_elab_spec.specs.Meanings as meanings;
+ghost use Rattle.vl_elab_scope.specs.Seen.{seen, object_of};
+ghost use Rattle.vl_elab_scope.specs.Texts.{texts, of_names, or_else, AgreeOn};
 
 use crate::meaning::{Meaning, Object};
 use crate::names::Names;

@@ -3,7 +3,7 @@ ghost use Rattle.std.specs.Prelude.{◌≡◌, ◌++◌, OnOk};
 ghost use Rattle.vl_tree.specs.Expr.{exprs};
 ghost use Rattle.vl_tree.specs.ExprView.{selects, with_select};
 ghost use Rattle.vl_tree.specs.Expr as tree;
-ghost use Rattle.vl_scope.specs.Texts as spec;
+ghost use Rattle.vl_elab_scope.specs.Texts as spec;
 
 use fv_base::{List, Memory, Text};
 use std::alloc::Global;

@@ -7,12 +7,12 @@ use Rattle.vl_tree.specs.Item.{Item, Items, no_items, more_items}
 use Rattle.vl_mean.specs.declared.const_number.Const.{Const}
 use Rattle.vl_mean.specs.Declarations.{names_of, constructs}
 use Rattle.vl_mean.specs.Walk.{Place, Step, Unfolding, with_earlier, item_steps, items_steps, turns}
-use Rattle.vl_refusal.specs.declared.elab_fault.ElabFault.{ElabFault}
-use Rattle.vl_refusal.specs.Refused.{Totals, all_counted}
-use Rattle.vl_walked.specs.declared.totals.Totals as kept
-use Rattle.vl_walked.specs.Walked.{AreTotals, AreWalked}
-use Rattle.vl_walked.proofs.Passed.{none_walked, passed_walked, stopped_walked}
-use Rattle.vl_unfold.specs.Left.{AreLeft, ItemsAreLeft}
+use Rattle.vl_elab_spec.specs.declared.elab_fault.ElabFault.{ElabFault}
+use Rattle.vl_elab_spec.specs.Refused.{Totals, all_counted}
+use Rattle.vl_elab_spec.specs.declared.totals.Totals as kept
+use Rattle.vl_elab_spec.specs.Walked.{AreTotals, AreWalked}
+use Rattle.vl_elab_spec.proofs.Passed.{none_walked, passed_walked, stopped_walked}
+use Rattle.vl_elab_spec.specs.Left.{AreLeft, ItemsAreLeft}
 
 -- behind all totals that are so much, these steps are walked so
 abbrev pub WalkedFrom : List Module → kept.Totals → kept.Totals → List Step → Option ElabFault → Type 0

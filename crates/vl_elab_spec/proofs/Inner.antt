@@ -22,16 +22,16 @@ use Rattle.vl_mean.specs.Declarations.{block_name, is_if, label_of}
 use Rattle.vl_mean.specs.Scopes.{constant_in}
 use Rattle.vl_mean.specs.Walk.{Place, Step, Unfolding, item, with_earlier, module_named, block_place, block_path}
 use Rattle.vl_mean.specs.Walk.{item_steps, items_steps, turn_steps, block_steps}
-use Rattle.vl_refusal.specs.declared.elab_fault.ElabFault.{ElabFault}
-use Rattle.vl_refusal.specs.declared.elab_fault.ElabFault.TheVariants as f
-use Rattle.vl_refusal.specs.Counts.{step_pos}
-use Rattle.vl_refusal.specs.Expressions.{refused_if}
-use Rattle.vl_refusal.specs.Items.{instance_refusals}
-use Rattle.vl_refusal.specs.Meanings.{item_names}
-use Rattle.vl_refusal.specs.Refused.{Totals, counted, is_too_large, lowest, or_later}
-use Rattle.vl_walked.specs.declared.totals.Totals as kept
-use Rattle.vl_walked.specs.Walked.{AreWalked}
-use Rattle.vl_unfold.specs.Within.{block_items, nested_if, chosen_block, chosen_steps, inner_steps, IsNotRecursive}
+use Rattle.vl_elab_spec.specs.declared.elab_fault.ElabFault.{ElabFault}
+use Rattle.vl_elab_spec.specs.declared.elab_fault.ElabFault.TheVariants as f
+use Rattle.vl_elab_spec.specs.Counts.{step_pos}
+use Rattle.vl_elab_spec.specs.Expressions.{refused_if}
+use Rattle.vl_elab_spec.specs.Items.{instance_refusals}
+use Rattle.vl_elab_spec.specs.Meanings.{item_names}
+use Rattle.vl_elab_spec.specs.Refused.{Totals, counted, is_too_large, lowest, or_later}
+use Rattle.vl_elab_spec.specs.declared.totals.Totals as kept
+use Rattle.vl_elab_spec.specs.Walked.{AreWalked}
+use Rattle.vl_elab_spec.specs.Within.{block_items, nested_if, chosen_block, chosen_steps, inner_steps, IsNotRecursive}
 
 -- ---- an instance that isn't refused
 

@@ -8,11 +8,11 @@ use Rattle.vl_mean.specs.declared.const_number.Const.{Const}
 use Rattle.vl_mean.specs.Cells.{words_from}
 use Rattle.vl_mean.specs.Parts.{Part}
 use Rattle.vl_mean.specs.Walk.{Place, next_turn, first_turn}
-use Rattle.vl_refusal.specs.declared.elab_fault.ElabFault.TheVariants as f
-use Rattle.vl_refusal.specs.Items.{head_refusals, turns_refusals}
-use Rattle.vl_refusal.specs.Meanings.{loop_variable}
-use Rattle.vl_refusal.specs.Refused.{kept_bits, all_kept_bits, state_bits}
-use Rattle.vl_refusal.specs.RefusedDesigns.{endless_head, memory_part}
+use Rattle.vl_elab_spec.specs.declared.elab_fault.ElabFault.TheVariants as f
+use Rattle.vl_elab_spec.specs.Items.{head_refusals, turns_refusals}
+use Rattle.vl_elab_spec.specs.Meanings.{loop_variable}
+use Rattle.vl_elab_spec.specs.Refused.{kept_bits, all_kept_bits, state_bits}
+use Rattle.vl_elab_spec.specs.RefusedDesigns.{endless_head, memory_part}
 
 endless-turns : (n : ℕ) (at : Place) (p : Pos) (c : Const) → turns_refusals n endless_head at p c ≡ f.GenLoop p ∷ []
 endless-turns zero at p c = refl

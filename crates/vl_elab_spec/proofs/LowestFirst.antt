@@ -9,9 +9,9 @@ use Rattle.vl_tree.specs.declared.source.Module.{Module}
 use Rattle.vl_size.specs.Places.{is_earlier}
 use Rattle.vl_mean.specs.Runs.{Each}
 use Rattle.vl_mean.specs.Walk.{Step}
-use Rattle.vl_refusal.specs.declared.elab_fault.ElabFault.{ElabFault}
-use Rattle.vl_refusal.specs.Refused.{Totals, counted, all_counted, comes_before, first_refused, IsAmong, IsLowest}
-use Rattle.vl_refusal.specs.Refused.{lower, lower_of, lowest, or_later, place, rank, refusals_at}
+use Rattle.vl_elab_spec.specs.declared.elab_fault.ElabFault.{ElabFault}
+use Rattle.vl_elab_spec.specs.Refused.{Totals, counted, all_counted, comes_before, first_refused, IsAmong, IsLowest}
+use Rattle.vl_elab_spec.specs.Refused.{lower, lower_of, lowest, or_later, place, rank, refusals_at}
 
 -- ---- order by several numbers
 

@@ -3,10 +3,10 @@ use Rattle.std.specs.Prelude.{◌≡◌, refl, List, [], ◌∷◌, ◌++◌, Op
 use Rattle.std.proofs.Common.{ap, sym, ◌∙◌, subst}
 use Rattle.vl_tree.specs.declared.source.Module.{Module}
 use Rattle.vl_mean.specs.Walk.{Step}
-use Rattle.vl_refusal.specs.declared.elab_fault.ElabFault.{ElabFault}
-use Rattle.vl_refusal.specs.Refused.{Totals, all_counted, counted, first_refused, lowest, or_later, refusals_at}
-use Rattle.vl_walked.specs.declared.totals.Totals as kept
-use Rattle.vl_walked.specs.Walked.{AreTotals, AreWalked}
+use Rattle.vl_elab_spec.specs.declared.elab_fault.ElabFault.{ElabFault}
+use Rattle.vl_elab_spec.specs.Refused.{Totals, all_counted, counted, first_refused, lowest, or_later, refusals_at}
+use Rattle.vl_elab_spec.specs.declared.totals.Totals as kept
+use Rattle.vl_elab_spec.specs.Walked.{AreTotals, AreWalked}
 
 later_none : (g : Option ElabFault) → g ≡ or_later g None
 later_none None = refl

@@ -36,8 +36,8 @@ use Rattle.vl_size.specs.Way.{way, keeps_size}
 use Rattle.vl_mean.specs.declared.const_number.Const.{Const}
 use Rattle.vl_mean.specs.Constants.{settled, settled_exprs, settled_selects, named_constant, vector_of, number_or}
 use Rattle.vl_mean.specs.Constants.{constant_operand}
-use Rattle.vl_refusal.specs.Meanings.{Names, bound, constants, is_known}
-use Rattle.vl_fixed.specs.Among.{AreAmong}
+use Rattle.vl_elab_spec.specs.Meanings.{Names, bound, constants, is_known}
+use Rattle.vl_elab_spec.specs.Among.{AreAmong}
 
 -- ---- what is there
 

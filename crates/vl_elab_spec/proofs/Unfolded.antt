@@ -12,7 +12,7 @@ use Rattle.vl_mean.specs.Walk.{Place, Step, Unfolding, Use, module_named, with_m
 use Rattle.vl_mean.specs.Walk.{module_parameters, header_steps, port_steps, items_steps, parameter_names}
 use Rattle.vl_mean.specs.Walk.{written_ports, with_earlier}
 use Rattle.vl_mean.specs.Walk.{instance_steps, unfolded, use_of}
-use Rattle.vl_unfold.specs.Within.{behind_head, front_steps, module_steps, deepest}
+use Rattle.vl_elab_spec.specs.Within.{behind_head, front_steps, module_steps, deepest}
 
 -- ---- the module of a name
 

@@ -49,10 +49,10 @@ use Rattle.vl_size.specs.Way.{way}
 use Rattle.vl_mean.specs.ConstantFaults.{capped, wide_times}
 use Rattle.vl_mean.specs.Constants.{settled, vector_of}
 use Rattle.vl_mean.specs.Scopes.{is_clock_class}
-use Rattle.vl_refusal.specs.declared.elab_fault.ElabFault.{ElabFault}
-use Rattle.vl_refusal.specs.declared.elab_fault.ElabFault.TheVariants as f
-use Rattle.vl_refusal.specs.Meanings.{Meaning, undeclared, constant, loop_variable, object, faulty, shapeless, later}
-use Rattle.vl_refusal.specs.Meanings.{Names, meaning_in, constants, is_known, bound, objects}
+use Rattle.vl_elab_spec.specs.declared.elab_fault.ElabFault.{ElabFault}
+use Rattle.vl_elab_spec.specs.declared.elab_fault.ElabFault.TheVariants as f
+use Rattle.vl_elab_spec.specs.Meanings.{Meaning, undeclared, constant, loop_variable, object, faulty, shapeless, later}
+use Rattle.vl_elab_spec.specs.Meanings.{Names, meaning_in, constants, is_known, bound, objects}
 
 -- one, where the test says so
 abbrev pub refused_if : Bool → ElabFault → List ElabFault

@@ -74,16 +74,17 @@ use Rattle.vl_mean.specs.Scopes.{is_clock, is_clock_class}
 use Rattle.vl_mean.specs.Walk.{Place, Contents, Use, Step, header, port, item, override, connection, module_named}
 use Rattle.vl_mean.specs.Walk.{module_parameters, module_scope, module_contents, turn_place, goes_on, next_turn}
 use Rattle.vl_mean.specs.Walk.{first_turn}
-use Rattle.vl_refusal.specs.declared.elab_fault.ElabFault.{ElabFault}
-use Rattle.vl_refusal.specs.declared.elab_fault.ElabFault.TheVariants as f
-use Rattle.vl_refusal.specs.Expressions.{refused_if, far, too_wide, select_refusals, refusals, own_refusals}
-use Rattle.vl_refusal.specs.Expressions.{expr_refusals, known}
-use Rattle.vl_refusal.specs.Meanings.{Meaning, undeclared, loop_variable, object, faulty, shapeless, Names, meaning_in}
-use Rattle.vl_refusal.specs.Meanings.{is_known_range, declared_width, is_overridden}
-use Rattle.vl_refusal.specs.Meanings.{is_variable_class, may_have_words, all_meanings, meanings_at, meanings_before}
-use Rattle.vl_refusal.specs.Meanings.{objects}
-use Rattle.vl_refusal.specs.Statements.{assignment_refusals, assigned_in, stmt_refusals, initial_refusals}
-use Rattle.vl_refusal.specs.Statements.{target_refusals}
+use Rattle.vl_elab_spec.specs.declared.elab_fault.ElabFault.{ElabFault}
+use Rattle.vl_elab_spec.specs.declared.elab_fault.ElabFault.TheVariants as f
+use Rattle.vl_elab_spec.specs.Expressions.{refused_if, far, too_wide, select_refusals, refusals, own_refusals}
+use Rattle.vl_elab_spec.specs.Expressions.{expr_refusals, known}
+use Rattle.vl_elab_spec.specs.Meanings.{Meaning, undeclared, loop_variable, object, faulty, shapeless, Names}
+use Rattle.vl_elab_spec.specs.Meanings.{meaning_in}
+use Rattle.vl_elab_spec.specs.Meanings.{is_known_range, declared_width, is_overridden}
+use Rattle.vl_elab_spec.specs.Meanings.{is_variable_class, may_have_words, all_meanings, meanings_at, meanings_before}
+use Rattle.vl_elab_spec.specs.Meanings.{objects}
+use Rattle.vl_elab_spec.specs.Statements.{assignment_refusals, assigned_in, stmt_refusals, initial_refusals}
+use Rattle.vl_elab_spec.specs.Statements.{target_refusals}
 
 -- ---- names that stand twice
 

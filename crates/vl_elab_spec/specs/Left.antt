@@ -3,10 +3,10 @@ use Rattle.std.specs.Prelude.{ℕ, List, Option}
 use Rattle.vl_tree.specs.declared.source.Module.{Module}
 use Rattle.vl_tree.specs.Item.{Items}
 use Rattle.vl_mean.specs.Walk.{Place, Step, Unfolding, items_steps}
-use Rattle.vl_refusal.specs.declared.elab_fault.ElabFault.{ElabFault}
-use Rattle.vl_refusal.specs.Refused.{Totals}
-use Rattle.vl_walked.specs.declared.totals.Totals as kept
-use Rattle.vl_walked.specs.Walked.{AreTotals, AreWalked}
+use Rattle.vl_elab_spec.specs.declared.elab_fault.ElabFault.{ElabFault}
+use Rattle.vl_elab_spec.specs.Refused.{Totals}
+use Rattle.vl_elab_spec.specs.declared.totals.Totals as kept
+use Rattle.vl_elab_spec.specs.Walked.{AreTotals, AreWalked}
 
 -- So much was walked of all steps that these are left: what is answered of them is answered of all.
 pub record AreLeft (ms : List Module) (t : Totals) (all : List Step) (walked : kept.Totals) (left : List Step)

@@ -28,11 +28,11 @@ use Rattle.vl_mean.specs.Cells.{cells, contains_name}
 use Rattle.vl_mean.specs.Parts.{Part, declares, design}
 use Rattle.vl_mean.specs.Runs.{Each, is_driven}
 use Rattle.vl_mean.specs.Walk.{Step, module_named, walk}
-use Rattle.vl_refusal.specs.declared.elab_fault.ElabFault.{ElabFault}
-use Rattle.vl_refusal.specs.declared.elab_fault.ElabFault.TheVariants as f
-use Rattle.vl_refusal.specs.Counts.{step_nodes, step_names, step_pos}
-use Rattle.vl_refusal.specs.Expressions.{refused_if}
-use Rattle.vl_refusal.specs.Items.{step_refusals}
+use Rattle.vl_elab_spec.specs.declared.elab_fault.ElabFault.{ElabFault}
+use Rattle.vl_elab_spec.specs.declared.elab_fault.ElabFault.TheVariants as f
+use Rattle.vl_elab_spec.specs.Counts.{step_nodes, step_names, step_pos}
+use Rattle.vl_elab_spec.specs.Expressions.{refused_if}
+use Rattle.vl_elab_spec.specs.Items.{step_refusals}
 
 abbrev pub rank : ElabFault → ℕ
 rank (f.NoModule text) = 1

@@ -48,13 +48,13 @@ use Rattle.vl_size.specs.Size.{◌>>=◌, size}
 use Rattle.vl_mean.specs.ConstantFaults.{capped}
 use Rattle.vl_mean.specs.Constants.{settled_selects, vector_of}
 use Rattle.vl_mean.specs.Scopes.{is_clock_class}
-use Rattle.vl_refusal.specs.declared.elab_fault.ElabFault.{ElabFault}
-use Rattle.vl_refusal.specs.declared.elab_fault.ElabFault.TheVariants as f
-use Rattle.vl_refusal.specs.Expressions.{refused_if, name_width, too_wide, object_selects, select_refusals}
-use Rattle.vl_refusal.specs.Expressions.{divided_by_zero, is_constant_name, vector_selects}
-use Rattle.vl_refusal.specs.Expressions.{expr_refusals, own_refusals, known}
-use Rattle.vl_refusal.specs.Meanings.{Meaning, undeclared, constant, loop_variable, object, faulty, shapeless, later}
-use Rattle.vl_refusal.specs.Meanings.{Names, meaning_in, constants, objects}
+use Rattle.vl_elab_spec.specs.declared.elab_fault.ElabFault.{ElabFault}
+use Rattle.vl_elab_spec.specs.declared.elab_fault.ElabFault.TheVariants as f
+use Rattle.vl_elab_spec.specs.Expressions.{refused_if, name_width, too_wide, object_selects, select_refusals}
+use Rattle.vl_elab_spec.specs.Expressions.{divided_by_zero, is_constant_name, vector_selects}
+use Rattle.vl_elab_spec.specs.Expressions.{expr_refusals, own_refusals, known}
+use Rattle.vl_elab_spec.specs.Meanings.{Meaning, undeclared, constant, loop_variable, object, faulty, shapeless, later}
+use Rattle.vl_elab_spec.specs.Meanings.{Names, meaning_in, constants, objects}
 
 -- by a continuous assignment, or by one of a block
 abbrev pub may_be_assigned : Bool → Class → Bool

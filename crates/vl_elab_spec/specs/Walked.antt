@@ -3,9 +3,9 @@ use Rattle.std.specs.Prelude.{◌≡◌, List, Option, None}
 use Rattle.vl_tree.specs.declared.source.Module.{Module}
 use Rattle.vl_mean.specs.ConstantFaults.{capped}
 use Rattle.vl_mean.specs.Walk.{Step}
-use Rattle.vl_refusal.specs.declared.elab_fault.ElabFault.{ElabFault}
-use Rattle.vl_refusal.specs.Refused.{Totals, all_counted, first_refused}
-use Rattle.vl_walked.specs.declared.totals.Totals as kept
+use Rattle.vl_elab_spec.specs.declared.elab_fault.ElabFault.{ElabFault}
+use Rattle.vl_elab_spec.specs.Refused.{Totals, all_counted, first_refused}
+use Rattle.vl_elab_spec.specs.declared.totals.Totals as kept
 
 -- so many nodes and names, each up to 2 ^ 64 - 1
 pub record AreTotals (x : kept.Totals) (t : Totals) : Type 0 where

@@ -4,11 +4,11 @@ ghost use Rattle.std.specs.Prelude.{◌≡◌, ◌∷◌, [], ◌*◌, ℤ, None
 ghost use Rattle.vl_mean.specs.Examples.{blocks, choice, counter, exchange, is_one, looped};
 ghost use Rattle.vl_mean.specs.Parts.{here};
 ghost use Rattle.vl_mean.specs.Walk.{Place};
-ghost use Rattle.vl_refusal.specs.Items.{head_refusals};
-ghost use Rattle.vl_refusal.specs.Meanings.{loop_variable};
-ghost use Rattle.vl_refusal.specs.RefusedDesigns as designs;
-ghost use Rattle.vl_refusal.specs.Refused.{refusal, state_bits, too_many_bits};
-ghost use Rattle.vl_refusal.specs.declared.elab_fault.ElabFault.TheVariants as fault;
+ghost use Rattle.vl_elab_spec.specs.Items.{head_refusals};
+ghost use Rattle.vl_elab_spec.specs.Meanings.{loop_variable};
+ghost use Rattle.vl_elab_spec.specs.RefusedDesigns as designs;
+ghost use Rattle.vl_elab_spec.specs.Refused.{refusal, state_bits, too_many_bits};
+ghost use Rattle.vl_elab_spec.specs.declared.elab_fault.ElabFault.TheVariants as fault;
 ghost use Rattle.vl_size.specs.Table.{span};
 
 /// The small designs whose meaning is shown elsewhere are designs.

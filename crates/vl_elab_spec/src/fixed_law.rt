@@ -4,8 +4,8 @@ ghost use Rattle.vl_tree.specs.Expr.{Expr};
 ghost use Rattle.vl_mean.specs.declared.const_number.Const.{Const};
 ghost use Rattle.vl_mean.specs.Constants.{constant_operand, settled};
 ghost use Rattle.vl_size.specs.Size.{index_of};
-ghost use Rattle.vl_refusal.specs.Meanings.{Names, bound, constants, is_known};
-ghost use Rattle.vl_fixed.specs.Among.{AreAmong};
+ghost use Rattle.vl_elab_spec.specs.Meanings.{Names, bound, constants, is_known};
+ghost use Rattle.vl_elab_spec.specs.Among.{AreAmong};
 
 /// While a design is judged, a parameter whose own declaration is refused isn't known; by the definitions it has a
 /// number all the same. An expression that is known has no such name in it.

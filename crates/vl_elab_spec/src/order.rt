@@ -1,8 +1,8 @@
 //! Which refusal is answered.
 ghost use Rattle.std.specs.Prelude.{◌≡◌, ◌++◌, List, Some};
 ghost use Rattle.vl_mean.specs.Walk.{Step};
-ghost use Rattle.vl_refusal.specs.Refused.{all_counted, first_refused, lower_of, lowest, or_later, IsLowest, Totals};
-ghost use Rattle.vl_refusal.specs.declared.elab_fault.ElabFault.{ElabFault as SpecFault};
+ghost use Rattle.vl_elab_spec.specs.Refused.{all_counted, first_refused, lower_of, lowest, or_later, IsLowest, Totals};
+ghost use Rattle.vl_elab_spec.specs.declared.elab_fault.ElabFault.{ElabFault as SpecFault};
 ghost use Rattle.vl_tree.specs.declared.source.Module.{Module};
 
 /// Of the refusals of a step, one is answered that is there, and none of them has a lower number, or the same at an

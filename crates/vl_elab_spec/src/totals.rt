@@ -1,8 +1,8 @@
 //! How much of a design was walked.
 ghost use Rattle.std.specs.Prelude.{◌≡◌, ◌+◌, ℕ};
 ghost use Rattle.vl_mean.specs.ConstantFaults.{capped};
-ghost use Rattle.vl_refusal.specs.Refused as refused;
-ghost use Rattle.vl_walked.specs.Walked.{AreTotals};
+ghost use Rattle.vl_elab_spec.specs.Refused as refused;
+ghost use Rattle.vl_elab_spec.specs.Walked.{AreTotals};
 
 /// Nodes of trees, each time that the walk goes through them, and declared names; each number up to `2^64 - 1`.
 #[derive(Clone, Copy)]

@@ -5,10 +5,10 @@ ghost use Rattle.vl_tree.specs.Item as tree;
 ghost use Rattle.vl_mean.specs.Declarations.{block_name, label_of};
 ghost use Rattle.vl_mean.specs.Walk.{Place, Step, Unfolding, Use, block_path, block_place, block_steps};
 ghost use Rattle.vl_mean.specs.Walk.{item, item_steps, items_steps, module_place, turn_steps, unfolded};
-ghost use Rattle.vl_refusal.specs.Refused.{Totals};
-ghost use Rattle.vl_walked.specs.declared.totals.Totals as kept;
-ghost use Rattle.vl_walked.specs.Walked.{AreWalked};
-ghost use Rattle.vl_unfold.specs.Within as within;
+ghost use Rattle.vl_elab_spec.specs.Refused.{Totals};
+ghost use Rattle.vl_elab_spec.specs.declared.totals.Totals as kept;
+ghost use Rattle.vl_elab_spec.specs.Walked.{AreWalked};
+ghost use Rattle.vl_elab_spec.specs.Within as within;
 
 /// An item's own step comes first, and then those within it.
 pub fn an_item_comes_before_what_is_in_it()

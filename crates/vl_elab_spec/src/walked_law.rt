@@ -2,10 +2,10 @@
 ghost use Rattle.std.specs.Prelude.{◌≡◌, ◌∷◌, ◌++◌, [], List, Option, Some, None};
 ghost use Rattle.vl_tree.specs.declared.source.Module.{Module};
 ghost use Rattle.vl_mean.specs.Walk.{Step};
-ghost use Rattle.vl_refusal.specs.declared.elab_fault.ElabFault.{ElabFault};
-ghost use Rattle.vl_refusal.specs.Refused.{Totals, all_counted, counted, lowest, refusals_at};
-ghost use Rattle.vl_walked.specs.declared.totals.Totals as kept;
-ghost use Rattle.vl_walked.specs.Walked.{AreTotals, AreWalked};
+ghost use Rattle.vl_elab_spec.specs.declared.elab_fault.ElabFault.{ElabFault};
+ghost use Rattle.vl_elab_spec.specs.Refused.{Totals, all_counted, counted, lowest, refusals_at};
+ghost use Rattle.vl_elab_spec.specs.declared.totals.Totals as kept;
+ghost use Rattle.vl_elab_spec.specs.Walked.{AreTotals, AreWalked};
 
 /// Where the first steps are refused, no others are looked at, and else these go on behind them.
 pub fn steps_are_walked_in_order()

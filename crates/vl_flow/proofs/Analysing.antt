@@ -9,21 +9,21 @@ use Rattle.vl_mean.specs.declared.driver.DriverKind.{DriverKind}
 use Rattle.vl_mean.specs.declared.driver.DriverKind.TheVariants as k
 use Rattle.vl_mean.specs.declared.driver.Start.{Start}
 use Rattle.vl_mean.specs.FlatLaw.{IsDriver, driver_nodes, node_count, stmt_nodes, target_nodes}
-use Rattle.vl_order.specs.Refusals.{changed_by, latched_by}
-use Rattle.vl_order.proofs.Changed.{driver_changed}
-use Rattle.flow_cells.proofs.Lists.{all_at}
-use Rattle.flow_effects.specs.declared.uses.Uses.{Uses}
-use Rattle.flow_effects.specs.Effects.{AreEach}
-use Rattle.flow_effects.specs.Uses.{AreUsesOf}
-use Rattle.flow_effects.proofs.Halves.{each_push}
-use Rattle.flow_reads.specs.declared.footprint.Footprint.{Footprint}
-use Rattle.flow_reads.specs.declared.groups.Groups.{Groups}
-use Rattle.flow_order.specs.CellGroups.{AreGroupsOf}
-use Rattle.flow_order.specs.Footprints.{AreFootprintsOf, IsFootprintOf}
-use Rattle.flow_order.specs.Found.{Tells}
-use Rattle.flow_order.specs.declared.found.Found.{Found}
-use Rattle.flow_order.proofs.Cells.{number_of}
-use Rattle.flow_judge.specs.Rows.{AreSets}
+use Rattle.vl_flow_spec.specs.Refusals.{changed_by, latched_by}
+use Rattle.vl_flow_spec.proofs.Changed.{driver_changed}
+use Rattle.vl_flow_cells.proofs.Lists.{all_at}
+use Rattle.vl_flow_effects.specs.declared.uses.Uses.{Uses}
+use Rattle.vl_flow_effects.specs.Effects.{AreEach}
+use Rattle.vl_flow_effects.specs.Uses.{AreUsesOf}
+use Rattle.vl_flow_effects.proofs.Halves.{each_push}
+use Rattle.vl_flow_order.specs.declared.footprint.Footprint.{Footprint}
+use Rattle.vl_flow_order.specs.declared.reads_groups.Groups.{Groups}
+use Rattle.vl_flow_order.specs.CellGroups.{AreGroupsOf}
+use Rattle.vl_flow_order.specs.Footprints.{AreFootprintsOf, IsFootprintOf}
+use Rattle.vl_flow_order.specs.Found.{Tells}
+use Rattle.vl_flow_order.specs.declared.found.Found.{Found}
+use Rattle.vl_flow_order.proofs.Cells.{number_of}
+use Rattle.vl_flow_check.specs.Rows.{AreSets}
 use Rattle.vl_flow.specs.declared.drivers.DriverSets.{DriverSets}
 use Rattle.vl_flow.specs.Analyses.{AddsUses, AreSetsOf}
 use Rattle.vl_flow.proofs.Each.{each_at, each_size, set_behind}

@@ -5,12 +5,12 @@ use Rattle.std.proofs.lemmas.Option.{same_Some}
 use Rattle.vl_size.specs.declared.decl.Decl.{Decl}
 use Rattle.vl_mean.specs.declared.driver.Driver.{Driver}
 use Rattle.vl_mean.specs.declared.driver.DriverKind.{DriverKind}
-use Rattle.bit_sets.specs.declared.step.Step.{Step}
-use Rattle.bit_sets.specs.Cells.{has}
-use Rattle.vl_path.specs.Reads.{Bits}
-use Rattle.flow_cells.specs.Numbered.{Shows}
-use Rattle.flow_effects.specs.Effects.{AreEach}
-use Rattle.flow_judge.specs.Rows.{AreSets}
+use Rattle.fv_bit_sets.specs.declared.step.Step.{Step}
+use Rattle.fv_bit_sets.specs.Cells.{has}
+use Rattle.vl_flow_spec.specs.Reads.{Bits}
+use Rattle.vl_flow_cells.specs.Numbered.{Shows}
+use Rattle.vl_flow_effects.specs.Effects.{AreEach}
+use Rattle.vl_flow_check.specs.Rows.{AreSets}
 
 module _ {A B : Type 0} (R : A → B → Type 0) where
   pub each_size : (xs : List A) (ys : List B) → AreEach R xs ys → length xs ≡ length ys

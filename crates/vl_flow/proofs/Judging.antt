@@ -6,7 +6,7 @@ use Rattle.std.proofs.lemmas.Option.{same_Some}
 use Rattle.fv_base.specs.declared.pos.Pos.{Pos}
 use Rattle.vl_size.specs.declared.decl.Decl.{Decl}
 use Rattle.vl_mean.specs.declared.driver.Driver.{Driver}
-use Rattle.vl_order.specs.Refusals.{HasNoRefusal, blocking_shared, latch, mixed, two_drivers, undriven}
+use Rattle.vl_flow_spec.specs.Refusals.{HasNoRefusal, blocking_shared, latch, mixed, two_drivers, undriven}
 use Rattle.vl_flow.specs.declared.fault.FlowFault.{FlowFault}
 use Rattle.vl_flow.specs.declared.fault.FlowFault.TheVariants as f
 use Rattle.vl_flow.specs.Faults.{Answers, AreLoop, HasNoLoop, IsAnswer, IsFault, later_fault, or_else}

@@ -2,13 +2,13 @@
 use Rattle.std.specs.Prelude.{◌≡◌, List, [], ◌∷◌, ◌++◌, true, false}
 use Rattle.vl_size.specs.declared.decl.Decl.{Decl}
 use Rattle.vl_mean.specs.declared.driver.Driver.{Driver}
-use Rattle.vl_order.specs.Refusals.{changed_by, latched_by}
-use Rattle.flow_cells.specs.Numbering.{IsNumberingOf}
-use Rattle.flow_effects.specs.declared.uses.Uses.{Uses}
-use Rattle.flow_effects.specs.Effects.{AreEach}
-use Rattle.flow_order.specs.Footprints.{IsFootprintOf}
-use Rattle.flow_judge.specs.Layouts.{IsLayoutOf}
-use Rattle.flow_judge.specs.Rows.{AreSets}
+use Rattle.vl_flow_spec.specs.Refusals.{changed_by, latched_by}
+use Rattle.vl_flow_cells.specs.Numbering.{IsNumberingOf}
+use Rattle.vl_flow_effects.specs.declared.uses.Uses.{Uses}
+use Rattle.vl_flow_effects.specs.Effects.{AreEach}
+use Rattle.vl_flow_order.specs.Footprints.{IsFootprintOf}
+use Rattle.vl_flow_check.specs.Layouts.{IsLayoutOf}
+use Rattle.vl_flow_check.specs.Rows.{AreSets}
 use Rattle.vl_flow.specs.declared.analysis.Analysis.{Analysis}
 use Rattle.vl_flow.specs.declared.drivers.DriverSets.{DriverSets}
 

@@ -5,9 +5,9 @@ use Rattle.std.specs.Option.{option_map}
 use Rattle.fv_base.specs.declared.pos.Pos.{Pos}
 use Rattle.vl_size.specs.declared.decl.Decl.{Decl}
 use Rattle.vl_mean.specs.declared.driver.Driver.{Driver}
-use Rattle.vl_order.specs.Refusals.{IsLoop, blocking_shared, latch, mixed, two_drivers, undriven}
-use Rattle.vl_ordered.specs.declared.ordered.Ordered.{Ordered}
-use Rattle.flow_order.specs.Numbers.{places}
+use Rattle.vl_flow_spec.specs.Refusals.{IsLoop, blocking_shared, latch, mixed, two_drivers, undriven}
+use Rattle.vl_flow.specs.declared.ordered.Ordered.{Ordered}
+use Rattle.vl_flow_order.specs.Numbers.{places}
 use Rattle.vl_flow.specs.declared.fault.FlowFault.{FlowFault}
 use Rattle.vl_flow.specs.declared.fault.FlowFault.TheVariants as f
 

@@ -2,12 +2,12 @@ ghost use Rattle.std.specs.Prelude.{IfOk};
 ghost use Rattle.vl_flow.specs.Analyses.{IsAnalysisOf};
 
 use crate::drivers::{DriverSets, sets_of};
-use bit_sets::Bits;
-use flow_cells::Numbering;
-use flow_judge::{Layout, Names, bits_of_names};
-use flow_order::groups_of;
 use fv_base::{List, Memory};
+use fv_bit_sets::Bits;
 use std::alloc::Global;
+use vl_flow_cells::Numbering;
+use vl_flow_check::{Layout, Names, bits_of_names};
+use vl_flow_order::groups_of;
 use vl_mean::Flat;
 
 /// A design's names and drivers as sets of bits of numbered cells.

@@ -1,15 +1,15 @@
 ghost use Rattle.std.specs.Prelude.{All, IfOk, OnOk};
-ghost use Rattle.flow_cells.specs.Numbering.{IsNumberingOf};
+ghost use Rattle.vl_flow_cells.specs.Numbering.{IsNumberingOf};
 ghost use Rattle.vl_flow.specs.Analyses.{AreSetsOf, AddsUses};
 ghost use Rattle.vl_mean.specs.FlatLaw.{IsDriver};
 
-use bit_sets::Bits;
-use flow_cells::Numbering;
-use flow_effects::{Uses, uses_of};
-use flow_reads::Footprint;
-use flow_uses::law::drivers_are_sized;
 use fv_base::{List, Memory};
+use fv_bit_sets::Bits;
 use std::alloc::Global;
+use vl_flow_cells::Numbering;
+use vl_flow_cells::uses_law::drivers_are_sized;
+use vl_flow_effects::{Uses, uses_of};
+use vl_flow_order::Footprint;
 use vl_mean::Driver;
 use vl_size::Decls;
 

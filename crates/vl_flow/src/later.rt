@@ -5,10 +5,9 @@ ghost use Rattle.vl_mean.specs.FlatLaw.{IsDriver, IsKept};
 
 use crate::analysis::Analysis;
 use crate::fault::FlowFault;
-use flow_judge::{blocking_shared, latch, mixed, undriven};
-use flow_twice::two_drivers;
 use fv_base::Memory;
 use std::alloc::Global;
+use vl_flow_check::{blocking_shared, latch, mixed, two_drivers, undriven};
 use vl_mean::Driver;
 use vl_size::Decls;
 

@@ -3,7 +3,7 @@ ghost use Rattle.vl_mean.specs.Runs.{Agrees, ChoosesAlike, Each, Holds, InRange}
 ghost use Rattle.vl_size.specs.Size.{Values};
 
 use crate::ordered::Ordered;
-use vl_order::law::{a_choice_has_one_map, each_choice_has_a_map};
+use vl_flow_spec::order_law::{a_choice_has_one_map, each_choice_has_a_map};
 
 /// For each choice of numbers for inputs, free names and kept bits there is a map that holds, and any two maps that
 /// hold with one choice agree on each declared name but the clock.

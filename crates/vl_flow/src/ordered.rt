@@ -1,13 +1,13 @@
 ghost use Rattle.std.specs.Prelude.{◌≡◌};
-ghost use Rattle.vl_order.specs.OrderProps.{no_refusal_prop, sequence_prop};
-ghost use Rattle.vl_order.specs.Refusals.{HasNoRefusal};
-ghost use Rattle.vl_order.specs.Sequence.{IsSequence};
-ghost use Rattle.vl_order.specs.Weight.{design_weight};
+ghost use Rattle.vl_flow_spec.specs.OrderProps.{no_refusal_prop, sequence_prop};
+ghost use Rattle.vl_flow_spec.specs.Refusals.{HasNoRefusal};
+ghost use Rattle.vl_flow_spec.specs.Sequence.{IsSequence};
+ghost use Rattle.vl_flow_spec.specs.Weight.{design_weight};
 
 use fv_base::List;
 use vl_mean::Flat;
 
-/// A design in which no driver is refused, by specs/Refusals of vl_order, with the order of those that aren't clocked
+/// A design in which no driver is refused, by specs/Refusals of vl_flow_spec, with the order of those that aren't clocked
 /// blocks: each stands once, behind all that drive what it reads.
 #[derive(Drop)]
 pub struct Ordered {

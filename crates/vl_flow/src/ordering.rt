@@ -2,18 +2,18 @@ ghost use Rattle.std.specs.Prelude.{◌≡◌, IfErr, IfOk};
 ghost use Rattle.vl_flow.specs.Analyses.{IsAnalysisOf};
 ghost use Rattle.vl_flow.specs.Faults.{Answers, IsAnswer, IsFault};
 ghost use Rattle.vl_flow.specs.declared.fault.FlowFault.{FlowFault};
-ghost use Rattle.vl_order.specs.Sequence.{IsSequence};
+ghost use Rattle.vl_flow_spec.specs.Sequence.{IsSequence};
 
 use crate::analysis::{Analysis, analyzed};
 use crate::fault::FlowFault;
 use crate::later::later_fault;
-use flow_order::{Found, sequence_of};
+use crate::ordered::Ordered;
 use fv_base::List;
 use std::alloc::Global;
+use vl_flow_order::{Found, sequence_of};
+use vl_flow_spec::order_law::an_order_has_no_loop;
+use vl_flow_weight::weight_of;
 use vl_mean::Flat;
-use vl_order::law::an_order_has_no_loop;
-use vl_ordered::Ordered;
-use vl_weight::weight_of;
 
 /// The design with its order and its weight, where none of the refusals 2 to 6 is there.
 fn judged(

@@ -1,5 +1,5 @@
 ghost use Rattle.std.specs.Prelude.{◌≡◌};
-ghost use Rattle.vl_order.specs.Weight.{design_weight};
+ghost use Rattle.vl_flow_spec.specs.Weight.{design_weight};
 
 use crate::ordered::Ordered;
 

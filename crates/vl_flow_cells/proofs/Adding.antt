@@ -7,10 +7,10 @@ use Rattle.vl_tree.specs.declared.expr.Select.TheVariants as k
 use Rattle.vl_tree.specs.Expr.{Expr, Selects, name, whole}
 use Rattle.vl_tree.specs.ExprView.{selects, with_select}
 use Rattle.vl_size.specs.declared.decl.Decl.{Decl}
-use Rattle.vl_path.specs.Reads.{Bits, reads, selected, selects_read}
-use Rattle.flow_cells.specs.declared.cell_run.CellRun.{CellRun}
-use Rattle.flow_cells.specs.Numbered.{Adds, HasSize, Shows, any_takes, some_takes}
-use Rattle.flow_uses.specs.Sized.{IsSized, SelectsAreSized}
+use Rattle.vl_flow_spec.specs.Reads.{Bits, reads, selected, selects_read}
+use Rattle.vl_flow_cells.specs.declared.cell_run.CellRun.{CellRun}
+use Rattle.vl_flow_cells.specs.Numbered.{Adds, HasSize, Shows, any_takes, some_takes}
+use Rattle.vl_flow_cells.specs.Sized.{IsSized, SelectsAreSized}
 
 assoc : (a b c : Bool) → (a || (b || c)) ≡ ((a || b) || c)
 assoc true b c = refl

@@ -11,7 +11,7 @@ use Rattle.vl_size.specs.Sign.{sign, sign_by}
 use Rattle.vl_size.specs.Size.{◌>>=◌, Cells, operand, operand_of, within, some_bits, or_none, with_size, index_of, own}
 use Rattle.vl_size.specs.Size.{is_constant, are_constant, no_names, unary_size, operation_size, times, is_true, copies}
 use Rattle.vl_size.specs.Size.{unary_number, binary_number, size, sizes, value, concatenated}
-use Rattle.vl_path.proofs.Bools.{and_left, and_right}
+use Rattle.vl_flow_spec.proofs.Bools.{and_left, and_right}
 
 module _ (ds es : List Decl) where
   pub one_sign : (e : Expr) → is_constant e ≡ true → sign ds e ≡ sign es e

@@ -7,8 +7,8 @@ use Rattle.vl_size.specs.declared.decl.Decl.{Decl}
 use Rattle.vl_size.specs.Size.{is_constant}
 use Rattle.vl_mean.specs.FlatLaw.{flat_scopes}
 use Rattle.vl_mean.specs.Targets.{are_fixed}
-use Rattle.vl_path.proofs.Bools.{and_left, and_right}
-use Rattle.vl_path.proofs.Flat.{fixed, flat_fixed}
+use Rattle.vl_flow_spec.proofs.Bools.{and_left, and_right}
+use Rattle.vl_flow_spec.proofs.Flat.{fixed, flat_fixed}
 
 pub fixed_bit : (ds : List Decl) (p : Pos) (i : Expr) (rest : Selects) (b : Bool) → b ≡ is_constant i
     → are_fixed (flat_scopes ds) (bit p i rest) ≡ (b && are_fixed (flat_scopes ds) rest)

@@ -8,7 +8,7 @@ use Rattle.std.proofs.lemmas.Slice.Eq.{bytes_eq-Decides}
 use Rattle.vl_size.specs.declared.decl.Decl.{Decl}
 use Rattle.vl_size.specs.Table.{is_declared, declared_as, AreDifferent}
 use Rattle.vl_mean.specs.Cells.{contains_name}
-use Rattle.vl_path.proofs.Bools.{or_left, or_right, or_case, not_both, none_of}
+use Rattle.vl_flow_spec.proofs.Bools.{or_left, or_right, or_case, not_both, none_of}
 
 pub get_less : {A : Type 0} (xs : List A) (k : ℕ) (x : A) → slice_get xs k ≡ Some x → k < length xs
 get_less [] k x e = absurd (true≢false (ap is_none e))

@@ -7,7 +7,7 @@ use Rattle.fv_base.specs.declared.pos.Pos.{Pos}
 use Rattle.vl_tree.specs.Expr.{Expr, whole, bit, part, indexed}
 use Rattle.vl_tree.specs.declared.expr.Select.{Select}
 use Rattle.vl_tree.specs.ExprView.{selects}
-use Rattle.bit_sets.specs.Cells.{is_set}
+use Rattle.fv_bit_sets.specs.Cells.{is_set}
 use Rattle.fv_bits.specs.Bits.{ones}
 use Rattle.vl_size.specs.declared.decl.Decl.{Decl}
 use Rattle.vl_size.specs.Size.{index_of, is_constant, no_names, operand_of, offset_of, start_of, part_size, times}
@@ -16,11 +16,11 @@ use Rattle.vl_size.specs.Table.{span}
 use Rattle.vl_mean.specs.FlatLaw.{flat_scopes}
 use Rattle.vl_mean.specs.Scopes.{no_values, operand_in}
 use Rattle.vl_mean.specs.Targets.{are_fixed, has_spot, spots_from}
-use Rattle.vl_same.proofs.SameTarget.{flat_operand}
-use Rattle.flow_cells.specs.Places.{IsMaskOf}
-use Rattle.flow_cells.proofs.FixedSelects.{bit_fixed, indexed_fixed}
-use Rattle.flow_cells.proofs.Ranges.{all_below, between_is_spot, bits_of_mask, none_under}
-use Rattle.flow_cells.proofs.Sizes.{part_sized, indexed_sized}
+use Rattle.vl_mean_flat.proofs.SameTarget.{flat_operand}
+use Rattle.vl_flow_cells.specs.Places.{IsMaskOf}
+use Rattle.vl_flow_cells.proofs.FixedSelects.{bit_fixed, indexed_fixed}
+use Rattle.vl_flow_cells.proofs.Ranges.{all_below, between_is_spot, bits_of_mask, none_under}
+use Rattle.vl_flow_cells.proofs.Sizes.{part_sized, indexed_sized}
 
 -- all bits of w
 pub all_set : (w k : ℕ) → is_set (ones w) k ≡ nat_lt k w

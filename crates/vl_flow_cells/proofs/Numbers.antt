@@ -8,11 +8,11 @@ use Rattle.vl_size.specs.Size.{is_bound}
 use Rattle.vl_size.specs.Table.{span, AreApart, AreDifferent}
 use Rattle.vl_mean.specs.Cells.{cells, cells_of, contains_name}
 use Rattle.vl_mean.specs.FlatLaw.{IsKept, IsMemory, name_count, all_names_count}
-use Rattle.vl_path.proofs.Cells.{own_cells}
-use Rattle.flow_cells.specs.Numbered.{all_cells, first_cell}
-use Rattle.flow_cells.proofs.Lists.{get_some, get_left, get_right, get_either, contained_at, place_in, one_place}
-use Rattle.flow_cells.proofs.Lists.{all_at, declared_own}
-use Rattle.flow_cells.proofs.Words.{own_place, words_length}
+use Rattle.vl_flow_spec.proofs.Cells.{own_cells}
+use Rattle.vl_flow_cells.specs.Numbered.{all_cells, first_cell}
+use Rattle.vl_flow_cells.proofs.Lists.{get_some, get_left, get_right, get_either, contained_at, place_in, one_place}
+use Rattle.vl_flow_cells.proofs.Lists.{all_at, declared_own}
+use Rattle.vl_flow_cells.proofs.Words.{own_place, words_length}
 
 -- where a numbered cell stands
 pub record StandsAt (ds : List Decl) (c : ℕ) (n : List ℕ) : Type 0 where

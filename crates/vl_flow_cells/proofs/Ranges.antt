@@ -9,17 +9,17 @@ use Rattle.std.proofs.lemmas.Int.{ints}
 use Rattle.std.proofs.lemmas.Option.{same_Some}
 use Rattle.std.proofs.lemmas.Nat.{pow_pos}
 use Rattle.std.proofs.lemmas.Nat.Bits.{bit_at_mask_inside, bit_at_mask_below, bit_at_mask_above}
-use Rattle.bit_sets.specs.Cells.{is_set}
-use Rattle.bit_sets.proofs.Masks.{set_zero}
+use Rattle.fv_bit_sets.specs.Cells.{is_set}
+use Rattle.fv_bit_sets.proofs.Masks.{set_zero}
 use Rattle.fv_bits.specs.Bits.{ones}
 use Rattle.fv_bits.proofs.Limits.{wider_le}
 use Rattle.vl_size.specs.declared.decl.Decl.{Decl}
 use Rattle.vl_size.specs.Size.{is_bound, offset_of, start_of}
 use Rattle.vl_size.specs.Table.{is_between, span}
 use Rattle.vl_mean.specs.Targets.{Spot, spot_at, spots_from, has_spot}
-use Rattle.flow_cells.specs.Places.{AreBelow, index_at, is_near}
-use Rattle.vl_path.proofs.Bools.{or_case, and_both, and_left, and_right, none_of}
-use Rattle.vl_path.proofs.Spots.{spot_is, spot_there}
+use Rattle.vl_flow_cells.specs.Places.{AreBelow, index_at, is_near}
+use Rattle.vl_flow_spec.proofs.Bools.{or_case, and_both, and_left, and_right, none_of}
+use Rattle.vl_flow_spec.proofs.Spots.{spot_is, spot_there}
 
 -- ---- tests
 

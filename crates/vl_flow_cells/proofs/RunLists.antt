@@ -3,8 +3,8 @@ use Rattle.std.specs.Prelude.{◌≡◌, refl, ℕ, ◌-◌, ◌≤◌, List, []
 use Rattle.std.specs.Prelude.{take, drop}
 use Rattle.std.proofs.Common.{ap, sym, ◌∙◌, arith, length-drop}
 use Rattle.std.proofs.lemmas.List.{take_all, take-append-drop}
-use Rattle.flow_cells.specs.declared.cell_run.CellRun.{CellRun}
-use Rattle.flow_cells.specs.Numbered.{takes, any_takes}
+use Rattle.vl_flow_cells.specs.declared.cell_run.CellRun.{CellRun}
+use Rattle.vl_flow_cells.specs.Numbered.{takes, any_takes}
 
 assoc : (a b c : Bool) → (a || (b || c)) ≡ ((a || b) || c)
 assoc true b c = refl

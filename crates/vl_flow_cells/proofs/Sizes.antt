@@ -10,8 +10,8 @@ use Rattle.vl_size.specs.Sign.{sign}
 use Rattle.vl_size.specs.Size.{◌>>=◌, only_if, within, part_size, times, is_bound, goes_along, operand, index_of}
 use Rattle.vl_size.specs.Size.{is_constant, no_names, size, vector_size, word_size, value}
 use Rattle.vl_size.specs.Table.{span, declared_as}
-use Rattle.vl_path.proofs.Same.{bind_next}
-use Rattle.flow_cells.specs.Numbered.{HasSize}
+use Rattle.vl_flow_spec.proofs.Same.{bind_next}
+use Rattle.vl_flow_cells.specs.Numbered.{HasSize}
 
 module _ (ds : List Decl) where
   abbrev pub index_by : Option ℕ → Expr → ℤ

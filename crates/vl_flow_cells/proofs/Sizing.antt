@@ -53,9 +53,10 @@ use Rattle.vl_mean.specs.declared.driver.DriverKind.TheVariants as k
 use Rattle.vl_mean.specs.FlatLaw.{case_context}
 use Rattle.vl_mean.specs.FlatLaw.{IsTarget, AreTargets, IsReadIn, IsBlock, AreBlocks, AreArms}
 use Rattle.vl_mean.specs.FlatLaw.{IsDriver, is_net, is_variable}
-use Rattle.vl_path.proofs.Same.{bind_first, bind_then, bind_next, bind_last, some_size}
-use Rattle.flow_uses.specs.Sized.{IsSized, AreSized, SelectsAreSized, TargetIsSized, TargetsAreSized, LabelsAreSized}
-use Rattle.flow_uses.specs.Sized.{StmtIsSized, StmtsAreSized, ArmsAreSized, DriverIsSized}
+use Rattle.vl_flow_spec.proofs.Same.{bind_first, bind_then, bind_next, bind_last, some_size}
+use Rattle.vl_flow_cells.specs.Sized.{IsSized, AreSized, SelectsAreSized, TargetIsSized, TargetsAreSized}
+use Rattle.vl_flow_cells.specs.Sized.{LabelsAreSized}
+use Rattle.vl_flow_cells.specs.Sized.{StmtIsSized, StmtsAreSized, ArmsAreSized, DriverIsSized}
 
 module _ (ds : List Decl) where
   by_words : (xs : Selects) (d : Decl) (b : Bool) → (IsSome (vector_size ds d xs) → SelectsAreSized ds xs)

@@ -9,7 +9,7 @@ use Rattle.std.proofs.lemmas.List.Folds.{find_at}
 use Rattle.std.proofs.lemmas.Option.{same_Some}
 use Rattle.fv_base.specs.declared.pos.Pos.{Pos}
 use Rattle.vl_tree.specs.Expr.{Expr, Selects, whole, bit, part, indexed}
-use Rattle.bit_sets.specs.Cells.{is_set}
+use Rattle.fv_bit_sets.specs.Cells.{is_set}
 use Rattle.fv_bits.specs.Bits.{ones}
 use Rattle.vl_size.specs.declared.decl.Decl.{Decl}
 use Rattle.vl_size.specs.Size.{index_of, no_names, operand_of, offset_of, start_of}
@@ -19,18 +19,18 @@ use Rattle.vl_mean.specs.FlatLaw.{flat_scopes, IsKept}
 use Rattle.vl_mean.specs.Scopes.{Scope, full, no_values, operand_in}
 use Rattle.vl_mean.specs.Targets.{word_index, full_word, spots_of, is_decl, has_spot, vector_spots}
 use Rattle.vl_mean.specs.Targets.{word_spots, name_spots, are_fixed}
-use Rattle.vl_same.proofs.SameTarget.{flat_declared, flat_full}
-use Rattle.vl_path.specs.Reads.{Bits, selected}
-use Rattle.vl_path.proofs.Bools.{and_both, and_left, and_right, none_of}
-use Rattle.vl_path.proofs.Same.{declared_name}
-use Rattle.vl_path.proofs.Spots.{spot_is}
-use Rattle.flow_cells.specs.Numbered.{all_cells, first_cell, Shows}
-use Rattle.flow_cells.specs.Places.{index_at, IsMaskOf}
-use Rattle.flow_cells.proofs.Lists.{get_less}
-use Rattle.flow_cells.proofs.Masks.{all_set, index_is}
-use Rattle.flow_cells.proofs.Numbers.{numbered, own_number, cell_between, between_cells}
-use Rattle.flow_cells.proofs.Ranges.{same_test}
-use Rattle.flow_cells.proofs.Words.{place_of_word}
+use Rattle.vl_mean_flat.proofs.SameTarget.{flat_declared, flat_full}
+use Rattle.vl_flow_spec.specs.Reads.{Bits, selected}
+use Rattle.vl_flow_spec.proofs.Bools.{and_both, and_left, and_right, none_of}
+use Rattle.vl_flow_spec.proofs.Same.{declared_name}
+use Rattle.vl_flow_spec.proofs.Spots.{spot_is}
+use Rattle.vl_flow_cells.specs.Numbered.{all_cells, first_cell, Shows}
+use Rattle.vl_flow_cells.specs.Places.{index_at, IsMaskOf}
+use Rattle.vl_flow_cells.proofs.Lists.{get_less}
+use Rattle.vl_flow_cells.proofs.Masks.{all_set, index_is}
+use Rattle.vl_flow_cells.proofs.Numbers.{numbered, own_number, cell_between, between_cells}
+use Rattle.vl_flow_cells.proofs.Ranges.{same_test}
+use Rattle.vl_flow_cells.proofs.Words.{place_of_word}
 
 -- ---- the place of a declared name
 

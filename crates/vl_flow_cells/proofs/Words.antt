@@ -13,7 +13,7 @@ use Rattle.vl_size.specs.Size.{is_bound}
 use Rattle.vl_size.specs.Table.{span, word_name}
 use Rattle.vl_mean.specs.Cells.{words_from, cells_of, cells}
 use Rattle.vl_mean.specs.FlatLaw.{IsKept, IsMemory}
-use Rattle.flow_cells.specs.Places.{index_at}
+use Rattle.vl_flow_cells.specs.Places.{index_at}
 
 first_index : (up : Bool) (i : ℤ) → i ≡ index_at up i 0
 first_index true i = omega (arith, ints)

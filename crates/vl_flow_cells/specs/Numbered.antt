@@ -7,9 +7,9 @@ use Rattle.vl_size.specs.declared.decl.Decl.{Decl}
 use Rattle.vl_size.specs.Size.{◌>>=◌, vector_size, word_size}
 use Rattle.vl_size.specs.Table.{declared_as}
 use Rattle.vl_mean.specs.Cells.{cells}
-use Rattle.bit_sets.specs.Cells.{is_set}
-use Rattle.vl_path.specs.Reads.{Bits}
-use Rattle.flow_cells.specs.declared.cell_run.CellRun.{CellRun}
+use Rattle.fv_bit_sets.specs.Cells.{is_set}
+use Rattle.vl_flow_spec.specs.Reads.{Bits}
+use Rattle.vl_flow_cells.specs.declared.cell_run.CellRun.{CellRun}
 
 -- a cell's number is its place here
 abbrev pub all_cells : List Decl → List (List ℕ)

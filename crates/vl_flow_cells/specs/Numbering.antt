@@ -4,8 +4,8 @@ use Rattle.vl_size.specs.declared.decl.Decl.{Decl}
 use Rattle.vl_size.specs.Table.{AreApart, AreDifferent, IsShaped}
 use Rattle.vl_mean.specs.Env.{values_of}
 use Rattle.vl_mean.specs.FlatLaw.{IsKept, all_names_count}
-use Rattle.flow_cells.specs.Numbered.{first_cell}
-use Rattle.flow_cells.specs.declared.numbering.Numbering.{Numbering}
+use Rattle.vl_flow_cells.specs.Numbered.{first_cell}
+use Rattle.vl_flow_cells.specs.declared.numbering.Numbering.{Numbering}
 
 -- where the cells of each declaration begin, of declarations that a design without hierarchy may have
 pub record IsNumberingOf (ds : List Decl) (x : Numbering) : Type 0 where

@@ -2,7 +2,7 @@
 use Rattle.std.specs.Prelude.{◌≡◌, ℕ, ◌<◌, ◌≤◌, ◌-◌, ◌^◌, List, Bool, nat_lt, Some, ℤ, pos, negsuc, ◌+ℤ◌, ◌-ℤ◌}
 use Rattle.std.specs.Prelude.{int_lt, if◌then◌else◌}
 use Rattle.vl_tree.specs.Expr.{Selects}
-use Rattle.bit_sets.specs.Cells.{is_set}
+use Rattle.fv_bit_sets.specs.Cells.{is_set}
 use Rattle.vl_size.specs.declared.decl.Decl.{Decl}
 use Rattle.vl_size.specs.Table.{is_between}
 use Rattle.vl_mean.specs.FlatLaw.{flat_scopes}

@@ -41,7 +41,7 @@ use Rattle.vl_tree.specs.Stmt.{
 use Rattle.vl_size.specs.declared.decl.Decl.{Decl}
 use Rattle.vl_mean.specs.declared.driver.DriverKind.{DriverKind}
 use Rattle.vl_mean.specs.declared.driver.DriverKind.TheVariants as k
-use Rattle.flow_cells.specs.Numbered.{HasSize}
+use Rattle.vl_flow_cells.specs.Numbered.{HasSize}
 
 module _ (ds : List Decl) where
   abbrev mutual

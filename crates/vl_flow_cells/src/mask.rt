@@ -1,6 +1,6 @@
 ghost use Rattle.std.specs.Prelude.{◌≡◌, ◌≤◌, ◌-◌, ◌^◌, ℕ, ℤ, List, ◌&&◌, nat_le, nat_lt, nat_abs, Some, IsSome, true};
 ghost use Rattle.std.specs.Prelude.{pos, negsuc, ◌+ℤ◌, ◌≤ℤ◌};
-ghost use Rattle.bit_sets.specs.Cells.{is_set};
+ghost use Rattle.fv_bit_sets.specs.Cells.{is_set};
 ghost use Rattle.fv_bits.specs.Bits.{as_int};
 ghost use Rattle.vl_mean.specs.FlatLaw.{flat_scopes};
 ghost use Rattle.vl_mean.specs.Targets.{are_fixed, has_spot, spots_from};
@@ -11,7 +11,7 @@ ghost use Rattle.vl_size.specs.declared.decl.Decl.{Decl};
 ghost use Rattle.fv_base.specs.declared.pos.Pos.{Pos};
 ghost use Rattle.vl_tree.specs.Expr.{bit, indexed, part, whole};
 ghost use Rattle.vl_tree.specs.ExprView.{selects, with_select};
-ghost use Rattle.flow_cells.specs.Places.{AreBelow, IsMaskOf};
+ghost use Rattle.vl_flow_cells.specs.Places.{AreBelow, IsMaskOf};
 
 use crate::constant::constant;
 use crate::place::{near, offset_of, start_of};

@@ -3,7 +3,7 @@ ghost use Rattle.vl_mean.specs.Cells.{cells};
 ghost use Rattle.vl_mean.specs.FlatLaw.{IsKept, all_names_count};
 ghost use Rattle.vl_size.specs.Size.{is_bound};
 ghost use Rattle.vl_size.specs.Table.{span};
-ghost use Rattle.flow_cells.specs.Numbering.{IsNumberingOf};
+ghost use Rattle.vl_flow_cells.specs.Numbering.{IsNumberingOf};
 
 use fv_base::{List, Memory};
 use std::alloc::Global;

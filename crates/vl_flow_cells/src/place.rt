@@ -3,7 +3,7 @@ ghost use Rattle.std.specs.Prelude.{pos, negsuc, ◌+ℤ◌, ◌≤ℤ◌, int_l
 ghost use Rattle.fv_bits.specs.Bits.{as_int};
 ghost use Rattle.vl_size.specs.Size as spec;
 ghost use Rattle.vl_size.specs.Table.{is_between, span};
-ghost use Rattle.flow_cells.specs.Places.{index_at, is_near};
+ghost use Rattle.vl_flow_cells.specs.Places.{index_at, is_near};
 
 use vl_size::place::word_of;
 use vl_size::{Decl, Own};

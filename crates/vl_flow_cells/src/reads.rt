@@ -1,13 +1,15 @@
 ghost use Rattle.std.specs.Prelude.{◌≡◌, OnOk};
 ghost use Rattle.vl_tree.specs.Expr.{exprs, whole};
 ghost use Rattle.vl_tree.specs.ExprView.{selects, with_select};
-ghost use Rattle.vl_path.specs.Paths as paths;
-ghost use Rattle.vl_path.specs.Reads as spec;
-ghost use Rattle.flow_cells.specs.Numbered.{Adds};
-ghost use Rattle.flow_cells.specs.Numbering.{IsNumberingOf};
-ghost use Rattle.flow_uses.specs.Sized.{AreSized, IsSized, LabelsAreSized, SelectsAreSized};
+ghost use Rattle.vl_flow_spec.specs.Paths as paths;
+ghost use Rattle.vl_flow_spec.specs.Reads as spec;
+ghost use Rattle.vl_flow_cells.specs.Numbered.{Adds};
+ghost use Rattle.vl_flow_cells.specs.Numbering.{IsNumberingOf};
+ghost use Rattle.vl_flow_cells.specs.Sized.{AreSized, IsSized, LabelsAreSized, SelectsAreSized};
 
-use flow_cells::{CellRun, Numbering, put};
+use crate::cell_run::CellRun;
+use crate::numbering::Numbering;
+use crate::runs::put;
 use fv_base::Memory;
 use vl_size::Decls;
 use vl_tree::{Expr, ExprKind, Select};

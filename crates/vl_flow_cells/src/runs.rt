@@ -1,10 +1,10 @@
 ghost use Rattle.std.specs.Prelude.{◌≡◌, ℕ, ◌||◌, IfOk, OnOk};
-ghost use Rattle.bit_sets.specs.Cells.{has};
-ghost use Rattle.flow_cells.specs.Numbered.{any_takes, some_takes};
+ghost use Rattle.fv_bit_sets.specs.Cells.{has};
+ghost use Rattle.vl_flow_cells.specs.Numbered.{any_takes, some_takes};
 
 use crate::cell_run::CellRun;
-use bit_sets::Bits;
 use fv_base::Memory;
+use fv_bit_sets::Bits;
 use std::alloc::Global;
 
 /// Puts the run behind the others, where there is one.

@@ -4,12 +4,12 @@ ghost use Rattle.fv_bits.specs.Bits as bits;
 ghost use Rattle.vl_mean.specs.Cells.{cells};
 ghost use Rattle.vl_mean.specs.FlatLaw.{IsKept, flat_scopes};
 ghost use Rattle.vl_mean.specs.Targets as targets;
-ghost use Rattle.vl_path.specs.Reads.{selected};
+ghost use Rattle.vl_flow_spec.specs.Reads.{selected};
 ghost use Rattle.vl_size.specs.declared.decl.Decl.{Decl};
 ghost use Rattle.vl_tree.specs.Expr.{bit};
 ghost use Rattle.vl_tree.specs.ExprView.{selects, with_select};
-ghost use Rattle.flow_cells.specs.Numbered.{HasSize, Shows, some_takes, takes};
-ghost use Rattle.flow_cells.specs.Numbering.{BeginsAt, IsNumberingOf};
+ghost use Rattle.vl_flow_cells.specs.Numbered.{HasSize, Shows, some_takes, takes};
+ghost use Rattle.vl_flow_cells.specs.Numbering.{BeginsAt, IsNumberingOf};
 
 use crate::cell_run::CellRun;
 use crate::constant::constant;

@@ -1,13 +1,16 @@
 ghost use Rattle.std.specs.Prelude.{◌≡◌, OnOk};
 ghost use Rattle.vl_mean.specs.FlatLaw.{flat_scopes};
 ghost use Rattle.vl_mean.specs.Targets.{may_change};
-ghost use Rattle.vl_path.specs.Paths as spec;
-ghost use Rattle.flow_cells.specs.Numbered.{Adds};
-ghost use Rattle.flow_cells.specs.Numbering.{IsNumberingOf};
-ghost use Rattle.flow_uses.specs.Sized.{TargetIsSized};
+ghost use Rattle.vl_flow_spec.specs.Paths as spec;
+ghost use Rattle.vl_flow_cells.specs.Numbered.{Adds};
+ghost use Rattle.vl_flow_cells.specs.Numbering.{IsNumberingOf};
+ghost use Rattle.vl_flow_cells.specs.Sized.{TargetIsSized};
 
+use crate::cell_run::CellRun;
+use crate::fixed::are_fixed;
+use crate::numbering::Numbering;
 use crate::reads::selects_read;
-use flow_cells::{CellRun, Numbering, are_fixed, put};
+use crate::runs::put;
 use fv_base::Memory;
 use vl_size::Decls;
 use vl_tree::{Lval, LvalKind};

@@ -3,7 +3,7 @@ ghost use Rattle.std.specs.Prelude.{List};
 ghost use Rattle.vl_mean.specs.FlatLaw.{IsDriver};
 ghost use Rattle.vl_mean.specs.declared.driver.DriverKind.{DriverKind};
 ghost use Rattle.vl_size.specs.declared.decl.Decl.{Decl};
-ghost use Rattle.flow_uses.specs.Sized.{DriverIsSized};
+ghost use Rattle.vl_flow_cells.specs.Sized.{DriverIsSized};
 
 /// In each driver of a lawful design each name is declared, and its selects have a size.
 #[tactic(auto, using(crate::proofs::Sizing::driver_sized))]

@@ -14,20 +14,20 @@ use Rattle.vl_mean.specs.Cells.{cells, cells_of}
 use Rattle.vl_mean.specs.declared.driver.Driver.{Driver}
 use Rattle.vl_mean.specs.declared.driver.DriverKind.{DriverKind}
 use Rattle.vl_mean.specs.declared.driver.DriverKind.TheVariants as k
-use Rattle.bit_sets.specs.declared.step.Step.{Step}
-use Rattle.bit_sets.specs.Cells.{has}
-use Rattle.vl_path.specs.Drivers.{driven_by}
-use Rattle.vl_path.specs.Reads.{Bits}
-use Rattle.vl_order.specs.Refusals.{has_bit, places_of, times_driven, times_of}
-use Rattle.flow_cells.specs.Numbered.{all_cells, first_cell, Shows}
-use Rattle.flow_cells.proofs.Lists.{get_less}
-use Rattle.flow_cells.proofs.Numbers.{numbered}
-use Rattle.flow_judge.specs.Layouts.{Marks}
-use Rattle.flow_judge.proofs.Tests.{or_same}
-use Rattle.flow_twice.specs.declared.share.Share.{Share}
-use Rattle.flow_twice.specs.Shares.{places_at, target_places, AddsPlaces, AreBitShares, AreNameShares}
-use Rattle.flow_twice.proofs.Once.{one_if}
-use Rattle.flow_twice.proofs.Places.{share_more}
+use Rattle.fv_bit_sets.specs.declared.step.Step.{Step}
+use Rattle.fv_bit_sets.specs.Cells.{has}
+use Rattle.vl_flow_spec.specs.Drivers.{driven_by}
+use Rattle.vl_flow_spec.specs.Reads.{Bits}
+use Rattle.vl_flow_spec.specs.Refusals.{has_bit, places_of, times_driven, times_of}
+use Rattle.vl_flow_cells.specs.Numbered.{all_cells, first_cell, Shows}
+use Rattle.vl_flow_cells.proofs.Lists.{get_less}
+use Rattle.vl_flow_cells.proofs.Numbers.{numbered}
+use Rattle.vl_flow_check.specs.Layouts.{Marks}
+use Rattle.vl_flow_check.proofs.Tests.{or_same}
+use Rattle.vl_flow_check.specs.declared.share.Share.{Share}
+use Rattle.vl_flow_check.specs.Shares.{places_at, target_places, AddsPlaces, AreBitShares, AreNameShares}
+use Rattle.vl_flow_check.proofs.Once.{one_if}
+use Rattle.vl_flow_check.proofs.Places.{share_more}
 
 -- ---- one driver
 

@@ -9,16 +9,16 @@ use Rattle.fv_base.specs.declared.pos.Pos.{Pos}
 use Rattle.vl_size.specs.declared.decl.Decl.{Decl}
 use Rattle.vl_size.specs.Places.{earlier_place}
 use Rattle.vl_mean.specs.declared.driver.Driver.{Driver}
-use Rattle.bit_sets.specs.declared.step.Step.{Step}
-use Rattle.bit_sets.specs.Cells.{has, IsBare, IsBefore}
-use Rattle.vl_path.specs.Drivers.{driven_by}
-use Rattle.vl_order.specs.Refusals.{first_of_names, has_bit, named_if, place_of, with_name}
-use Rattle.flow_reads.specs.declared.footprint.Footprint.{Footprint}
-use Rattle.flow_cells.proofs.Lists.{get_less}
-use Rattle.flow_order.specs.Footprints.{IsFootprintOf}
-use Rattle.flow_judge.specs.declared.layout.Span.{Span}
-use Rattle.flow_judge.specs.Layouts.{AreAllBits, IsSpan, Marks}
-use Rattle.flow_judge.proofs.NameMarks.{from_name, to_name}
+use Rattle.fv_bit_sets.specs.declared.step.Step.{Step}
+use Rattle.fv_bit_sets.specs.Cells.{has, IsBare, IsBefore}
+use Rattle.vl_flow_spec.specs.Drivers.{driven_by}
+use Rattle.vl_flow_spec.specs.Refusals.{first_of_names, has_bit, named_if, place_of, with_name}
+use Rattle.vl_flow_order.specs.declared.footprint.Footprint.{Footprint}
+use Rattle.vl_flow_cells.proofs.Lists.{get_less}
+use Rattle.vl_flow_order.specs.Footprints.{IsFootprintOf}
+use Rattle.vl_flow_check.specs.declared.layout.Span.{Span}
+use Rattle.vl_flow_check.specs.Layouts.{AreAllBits, IsSpan, Marks}
+use Rattle.vl_flow_check.proofs.NameMarks.{from_name, to_name}
 
 -- ---- whether a driver may change a bit of the name
 

@@ -6,19 +6,19 @@ use Rattle.std.proofs.lemmas.Bool.{cases_order}
 use Rattle.std.proofs.lemmas.Bool.Decides.{nat_tests}
 use Rattle.std.proofs.lemmas.Option.{same_Some}
 use Rattle.vl_size.specs.declared.decl.Decl.{Decl}
-use Rattle.bit_sets.specs.declared.step.Step.{Step}
-use Rattle.bit_sets.specs.Cells.{has, is_set, IsBare}
-use Rattle.flow_reads.specs.declared.groups.Groups.{Groups}
-use Rattle.flow_sets.specs.Sets.{some_has}
-use Rattle.flow_sets.proofs.Halves.{some_append}
-use Rattle.flow_sets.proofs.Tests.{or_none}
-use Rattle.flow_cells.specs.Numbered.{first_cell}
-use Rattle.flow_cells.proofs.Lists.{get_less}
-use Rattle.flow_cells.proofs.Numbers.{first_none}
-use Rattle.flow_order.specs.CellGroups.{AreGroupsOf, IsCellAt}
-use Rattle.flow_order.proofs.Cells.{one_group}
-use Rattle.flow_judge.specs.declared.layout.Span.{Span}
-use Rattle.flow_judge.specs.Layouts.{AreBitsAt, AreBitsOf, IsFilled, IsSpan}
+use Rattle.fv_bit_sets.specs.declared.step.Step.{Step}
+use Rattle.fv_bit_sets.specs.Cells.{has, is_set, IsBare}
+use Rattle.vl_flow_order.specs.declared.reads_groups.Groups.{Groups}
+use Rattle.vl_flow_order.specs.Sets.{some_has}
+use Rattle.vl_flow_order.proofs.Halves.{some_append}
+use Rattle.vl_flow_order.proofs.Tests.{or_none}
+use Rattle.vl_flow_cells.specs.Numbered.{first_cell}
+use Rattle.vl_flow_cells.proofs.Lists.{get_less}
+use Rattle.vl_flow_cells.proofs.Numbers.{first_none}
+use Rattle.vl_flow_order.specs.CellGroups.{AreGroupsOf, IsCellAt}
+use Rattle.vl_flow_order.proofs.Cells.{one_group}
+use Rattle.vl_flow_check.specs.declared.layout.Span.{Span}
+use Rattle.vl_flow_check.specs.Layouts.{AreBitsAt, AreBitsOf, IsFilled, IsSpan}
 
 module _ (ds : List Decl) (test : Decl → Bool) where
   -- all bits of the names before the place

@@ -12,23 +12,24 @@ use Rattle.fv_base.specs.declared.pos.Pos.{Pos}
 use Rattle.vl_size.specs.declared.decl.Decl.{Decl}
 use Rattle.vl_mean.specs.Cells.{cells}
 use Rattle.vl_mean.specs.declared.driver.Driver.{Driver}
-use Rattle.bit_sets.specs.declared.step.Step.{Step}
-use Rattle.bit_sets.specs.Cells.{has, is_set}
-use Rattle.bit_sets.proofs.Masks.{set_zero}
-use Rattle.vl_order.specs.Refusals.{are_two, bits_counted, first_below, in_order, places_of, twice_driven, two_drivers}
-use Rattle.vl_order.specs.Refusals.{with_two}
-use Rattle.flow_cells.specs.Numbered.{first_cell}
-use Rattle.flow_cells.proofs.Lists.{get_less}
-use Rattle.flow_cells.proofs.Numbers.{next_first}
-use Rattle.flow_order.specs.CellGroups.{IsCellAt}
-use Rattle.flow_judge.specs.Layouts.{AreAllBits}
-use Rattle.flow_judge.proofs.Firsts.{first_at, none_at}
-use Rattle.flow_judge.proofs.OpenBits.{lowest_below, none_below}
-use Rattle.flow_twice.specs.declared.overlap.Overlap.{Overlap}
-use Rattle.flow_twice.specs.declared.share.Share.{Share}
-use Rattle.flow_twice.specs.Doubled.{doubled_of, Tells}
-use Rattle.flow_twice.specs.Shares.{places_at, AreBitShares, AreNameShares, IsOverlapOf}
-use Rattle.flow_twice.proofs.Drivers.{one_cell}
+use Rattle.fv_bit_sets.specs.declared.step.Step.{Step}
+use Rattle.fv_bit_sets.specs.Cells.{has, is_set}
+use Rattle.fv_bit_sets.proofs.Masks.{set_zero}
+use Rattle.vl_flow_spec.specs.Refusals.{are_two, bits_counted, first_below, in_order, places_of, twice_driven}
+use Rattle.vl_flow_spec.specs.Refusals.{two_drivers}
+use Rattle.vl_flow_spec.specs.Refusals.{with_two}
+use Rattle.vl_flow_cells.specs.Numbered.{first_cell}
+use Rattle.vl_flow_cells.proofs.Lists.{get_less}
+use Rattle.vl_flow_cells.proofs.Numbers.{next_first}
+use Rattle.vl_flow_order.specs.CellGroups.{IsCellAt}
+use Rattle.vl_flow_check.specs.Layouts.{AreAllBits}
+use Rattle.vl_flow_check.proofs.Firsts.{first_at, none_at}
+use Rattle.vl_flow_check.proofs.OpenBits.{lowest_below, none_below}
+use Rattle.vl_flow_check.specs.declared.overlap.Overlap.{Overlap}
+use Rattle.vl_flow_check.specs.declared.share.Share.{Share}
+use Rattle.vl_flow_check.specs.Doubled.{doubled_of, Tells}
+use Rattle.vl_flow_check.specs.Shares.{places_at, AreBitShares, AreNameShares, IsOverlapOf}
+use Rattle.vl_flow_check.proofs.Drivers.{one_cell}
 
 -- ---- the lowest bit of a mask
 

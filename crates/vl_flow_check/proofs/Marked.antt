@@ -5,22 +5,22 @@ use Rattle.vl_size.specs.declared.decl.Decl.{Decl}
 use Rattle.vl_size.specs.Table.{AreApart, AreDifferent}
 use Rattle.vl_mean.specs.FlatLaw.{IsDriver}
 use Rattle.vl_mean.specs.declared.driver.DriverKind.{DriverKind}
-use Rattle.bit_sets.specs.declared.step.Step.{Step}
-use Rattle.bit_sets.specs.Cells.{has}
-use Rattle.vl_path.specs.Drivers.{driven_by}
-use Rattle.vl_path.proofs.Cells.{own_cells}
-use Rattle.vl_order.specs.Refusals.{has_bit}
-use Rattle.vl_order.proofs.Changed.{driver_changed}
-use Rattle.vl_order.proofs.Found.{has_it}
-use Rattle.flow_reads.specs.declared.groups.Groups.{Groups}
-use Rattle.flow_sets.specs.Named.{AreNamesOf, HasBitOf}
-use Rattle.flow_cells.specs.Numbered.{all_cells, Shows}
-use Rattle.flow_cells.proofs.Lists.{declared_own, get_some}
-use Rattle.flow_cells.proofs.Numbers.{cell_between, next_first}
-use Rattle.flow_cells.proofs.Ranges.{same_test}
-use Rattle.flow_order.specs.CellGroups.{AreGroupsOf}
-use Rattle.flow_judge.specs.Layouts.{AreAllBits, Marks}
-use Rattle.flow_judge.proofs.NameMarks.{cell_less, from_name, group_at, HasBitAt}
+use Rattle.fv_bit_sets.specs.declared.step.Step.{Step}
+use Rattle.fv_bit_sets.specs.Cells.{has}
+use Rattle.vl_flow_spec.specs.Drivers.{driven_by}
+use Rattle.vl_flow_spec.proofs.Cells.{own_cells}
+use Rattle.vl_flow_spec.specs.Refusals.{has_bit}
+use Rattle.vl_flow_spec.proofs.Changed.{driver_changed}
+use Rattle.vl_flow_spec.proofs.Found.{has_it}
+use Rattle.vl_flow_order.specs.declared.reads_groups.Groups.{Groups}
+use Rattle.vl_flow_order.specs.Named.{AreNamesOf, HasBitOf}
+use Rattle.vl_flow_cells.specs.Numbered.{all_cells, Shows}
+use Rattle.vl_flow_cells.proofs.Lists.{declared_own, get_some}
+use Rattle.vl_flow_cells.proofs.Numbers.{cell_between, next_first}
+use Rattle.vl_flow_cells.proofs.Ranges.{same_test}
+use Rattle.vl_flow_order.specs.CellGroups.{AreGroupsOf}
+use Rattle.vl_flow_check.specs.Layouts.{AreAllBits, Marks}
+use Rattle.vl_flow_check.proofs.NameMarks.{cell_less, from_name, group_at, HasBitAt}
 
 module _ (ds : List Decl) (groups : Groups) (all : List Step) (x : DriverKind) (s made : List Step)
     (different : AreDifferent ds) (apart : AreApart ds) (w : AreGroupsOf ds groups) (whole : AreAllBits ds all)

@@ -6,20 +6,20 @@ use Rattle.std.proofs.lemmas.Bool.{and_from, and_parts}
 use Rattle.std.proofs.lemmas.Bool.Decides.{nat_tests}
 use Rattle.vl_size.specs.declared.decl.Decl.{Decl}
 use Rattle.vl_mean.specs.Cells.{cells}
-use Rattle.bit_sets.specs.declared.step.Step.{Step}
-use Rattle.bit_sets.specs.Cells.{has, IsBare}
-use Rattle.vl_path.specs.Reads.{Bits}
-use Rattle.vl_order.specs.Refusals.{has_bit}
-use Rattle.vl_order.proofs.Found.{bit_found, has_it}
-use Rattle.flow_reads.specs.declared.groups.Groups.{Groups}
-use Rattle.flow_sets.specs.Named.{AreNamesOf, HasBitOf}
-use Rattle.flow_cells.specs.Numbered.{all_cells, first_cell, Shows}
-use Rattle.flow_cells.proofs.Lists.{get_less, get_some, place_in}
-use Rattle.flow_cells.proofs.Numbers.{cell_between, next_first, numbered}
-use Rattle.flow_cells.proofs.Ranges.{same_test}
-use Rattle.flow_order.specs.CellGroups.{AreGroupsOf, IsCellAt}
-use Rattle.flow_order.proofs.Cells.{all_length, first_rises, one_group}
-use Rattle.flow_judge.specs.Layouts.{AreAllBits, Marks}
+use Rattle.fv_bit_sets.specs.declared.step.Step.{Step}
+use Rattle.fv_bit_sets.specs.Cells.{has, IsBare}
+use Rattle.vl_flow_spec.specs.Reads.{Bits}
+use Rattle.vl_flow_spec.specs.Refusals.{has_bit}
+use Rattle.vl_flow_spec.proofs.Found.{bit_found, has_it}
+use Rattle.vl_flow_order.specs.declared.reads_groups.Groups.{Groups}
+use Rattle.vl_flow_order.specs.Named.{AreNamesOf, HasBitOf}
+use Rattle.vl_flow_cells.specs.Numbered.{all_cells, first_cell, Shows}
+use Rattle.vl_flow_cells.proofs.Lists.{get_less, get_some, place_in}
+use Rattle.vl_flow_cells.proofs.Numbers.{cell_between, next_first, numbered}
+use Rattle.vl_flow_cells.proofs.Ranges.{same_test}
+use Rattle.vl_flow_order.specs.CellGroups.{AreGroupsOf, IsCellAt}
+use Rattle.vl_flow_order.proofs.Cells.{all_length, first_rises, one_group}
+use Rattle.vl_flow_check.specs.Layouts.{AreAllBits, Marks}
 
 -- a bit of the set that is a bit of the name
 pub record HasBitAt (ds : List Decl) (s all : List Step) (place : ℕ) : Type 0 where

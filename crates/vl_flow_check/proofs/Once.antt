@@ -17,9 +17,9 @@ use Rattle.vl_mean.specs.Scopes.{Scope, declared_in, full, no_values, operand_in
 use Rattle.vl_mean.specs.Targets.{Spot, are_fixed, has_spot, is_decl, may_change, name_spots, spot_at, spots}
 use Rattle.vl_mean.specs.Targets.{spots_from, full_word, spots_of, vector_spots, word_index, word_spots}
 use Rattle.vl_mean.specs.Cells.{is_cell}
-use Rattle.vl_path.proofs.Bools.{and_right}
-use Rattle.vl_order.specs.Refusals.{count_spot}
-use Rattle.flow_cells.proofs.Ranges.{spot_place}
+use Rattle.vl_flow_spec.proofs.Bools.{and_right}
+use Rattle.vl_flow_spec.specs.Refusals.{count_spot}
+use Rattle.vl_flow_cells.proofs.Ranges.{spot_place}
 
 abbrev pub one_if : Bool → ℕ
 one_if b = if b then 1 else 0

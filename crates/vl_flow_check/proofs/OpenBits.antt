@@ -14,23 +14,23 @@ use Rattle.vl_size.specs.declared.decl.Decl.{Decl}
 use Rattle.vl_mean.specs.Cells.{cells, cells_of}
 use Rattle.vl_mean.specs.FlatLaw.{is_net, is_variable, IsKept, IsMemory}
 use Rattle.vl_mean.specs.declared.driver.Driver.{Driver}
-use Rattle.vl_path.specs.Drivers.{driven_by}
-use Rattle.vl_order.specs.Refusals.{driven_in, first_below, undriven, with_bit_of}
-use Rattle.bit_sets.specs.declared.step.Step.{Step}
-use Rattle.bit_sets.specs.Cells.{has, is_set, IsBare, IsBefore}
-use Rattle.bit_sets.proofs.Masks.{set_zero}
-use Rattle.flow_cells.specs.Numbered.{all_cells, first_cell}
-use Rattle.flow_cells.proofs.Lists.{all_at, get_some}
-use Rattle.flow_cells.proofs.Numbers.{next_first, numbered}
-use Rattle.flow_reads.specs.declared.groups.Groups.{Groups}
-use Rattle.flow_order.specs.CellGroups.{AreGroupsOf, IsCellAt}
-use Rattle.flow_order.proofs.Cells.{first_rises}
-use Rattle.flow_sets.specs.Sets.{some_has}
-use Rattle.flow_judge.specs.Layouts.{AreBitsOf}
-use Rattle.flow_judge.specs.Rows.{AreSets}
-use Rattle.flow_judge.specs.Undriven.{IsUndriven, TellsBit}
-use Rattle.flow_judge.proofs.Firsts.{first_at, none_at}
-use Rattle.flow_judge.proofs.NameMarks.{cell_less}
+use Rattle.vl_flow_spec.specs.Drivers.{driven_by}
+use Rattle.vl_flow_spec.specs.Refusals.{driven_in, first_below, undriven, with_bit_of}
+use Rattle.fv_bit_sets.specs.declared.step.Step.{Step}
+use Rattle.fv_bit_sets.specs.Cells.{has, is_set, IsBare, IsBefore}
+use Rattle.fv_bit_sets.proofs.Masks.{set_zero}
+use Rattle.vl_flow_cells.specs.Numbered.{all_cells, first_cell}
+use Rattle.vl_flow_cells.proofs.Lists.{all_at, get_some}
+use Rattle.vl_flow_cells.proofs.Numbers.{next_first, numbered}
+use Rattle.vl_flow_order.specs.declared.reads_groups.Groups.{Groups}
+use Rattle.vl_flow_order.specs.CellGroups.{AreGroupsOf, IsCellAt}
+use Rattle.vl_flow_order.proofs.Cells.{first_rises}
+use Rattle.vl_flow_order.specs.Sets.{some_has}
+use Rattle.vl_flow_check.specs.Layouts.{AreBitsOf}
+use Rattle.vl_flow_check.specs.Rows.{AreSets}
+use Rattle.vl_flow_check.specs.Undriven.{IsUndriven, TellsBit}
+use Rattle.vl_flow_check.proofs.Firsts.{first_at, none_at}
+use Rattle.vl_flow_check.proofs.NameMarks.{cell_less}
 
 pub driven_shown : (ds : List Decl) (sets : List (List Step)) (xs : List Driver) → AreSets ds (driven_by ds) sets xs
     → (c : ℕ) (n : List ℕ) (i : ℕ) → slice_get (all_cells ds) c ≡ Some n → some_has sets c i ≡ driven_in ds xs n i

@@ -5,10 +5,10 @@ use Rattle.std.proofs.Common.{ap, sym, ◌∙◌, arith, get_or}
 use Rattle.std.proofs.Math.Seq.{drop-cons}
 use Rattle.fv_base.specs.declared.pos.Pos.{Pos}
 use Rattle.vl_size.specs.Places.{is_earlier}
-use Rattle.bit_sets.specs.Cells.{has}
-use Rattle.vl_order.specs.Refusals.{in_order, with_place}
-use Rattle.flow_twice.specs.declared.share.Share.{Share}
-use Rattle.flow_twice.specs.Shares.{places_at}
+use Rattle.fv_bit_sets.specs.Cells.{has}
+use Rattle.vl_flow_spec.specs.Refusals.{in_order, with_place}
+use Rattle.vl_flow_check.specs.declared.share.Share.{Share}
+use Rattle.vl_flow_check.specs.Shares.{places_at}
 
 -- what is put among places leaves the first two of them to be told
 pub two_with : (p : Pos) (qs : List Pos) → take 2 (with_place p (take 2 qs)) ≡ take 2 (with_place p qs)

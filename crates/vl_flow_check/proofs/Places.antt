@@ -5,14 +5,14 @@ use Rattle.std.proofs.Common.{ap, sym, ◌∙◌, arith, subst, length-drop, get
 use Rattle.std.proofs.lemmas.List.{append_assoc, take_all, take-append-drop}
 use Rattle.fv_base.specs.declared.pos.Pos.{Pos}
 use Rattle.vl_size.specs.declared.decl.Decl.{Decl}
-use Rattle.bit_sets.specs.declared.step.Step.{Step}
-use Rattle.bit_sets.specs.Cells.{has, IsBare}
-use Rattle.vl_order.specs.Refusals.{are_two}
-use Rattle.flow_sets.proofs.Tests.{or_none}
-use Rattle.flow_twice.specs.declared.overlap.Overlap.{Overlap}
-use Rattle.flow_twice.specs.declared.share.Share.{Share}
-use Rattle.flow_twice.specs.Shares.{are_some, places_at, AddsPlaces, IsJoined, IsOverlapOf}
-use Rattle.flow_twice.proofs.Once.{one_if}
+use Rattle.fv_bit_sets.specs.declared.step.Step.{Step}
+use Rattle.fv_bit_sets.specs.Cells.{has, IsBare}
+use Rattle.vl_flow_spec.specs.Refusals.{are_two}
+use Rattle.vl_flow_order.proofs.Tests.{or_none}
+use Rattle.vl_flow_check.specs.declared.overlap.Overlap.{Overlap}
+use Rattle.vl_flow_check.specs.declared.share.Share.{Share}
+use Rattle.vl_flow_check.specs.Shares.{are_some, places_at, AddsPlaces, IsJoined, IsOverlapOf}
+use Rattle.vl_flow_check.proofs.Once.{one_if}
 
 pub places_append : (xs ys : List Share) (c i : ℕ) → places_at (xs ++ ys) c i ≡ places_at xs c i ++ places_at ys c i
 places_append [] ys c i = refl

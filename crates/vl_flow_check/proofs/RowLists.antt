@@ -7,19 +7,19 @@ use Rattle.std.proofs.lemmas.Option.{same_Some, slice_get-get_or}
 use Rattle.vl_size.specs.declared.decl.Decl.{Decl}
 use Rattle.vl_mean.specs.declared.driver.Driver.{Driver}
 use Rattle.vl_mean.specs.declared.driver.DriverKind.{DriverKind}
-use Rattle.bit_sets.specs.declared.step.Step.{Step}
-use Rattle.bit_sets.specs.Cells.{has}
-use Rattle.vl_path.specs.Drivers.{driven_by, needed_by}
-use Rattle.vl_path.specs.Reads.{Bits}
-use Rattle.vl_order.specs.Refusals.{has_bit}
-use Rattle.flow_reads.specs.declared.footprint.Footprint.{Footprint}
-use Rattle.flow_cells.specs.Numbered.{Shows}
-use Rattle.flow_cells.proofs.Lists.{get_less, get_some}
-use Rattle.flow_judge.specs.declared.layout.Layout.{Layout}
-use Rattle.flow_judge.specs.declared.which.Which.{Which}
-use Rattle.flow_judge.specs.Layouts.{IsLayoutOf, Marks}
-use Rattle.flow_judge.specs.Rows.{AreNameRows, AreSets, picked, picks}
-use Rattle.flow_judge.proofs.Tests.{or_same}
+use Rattle.fv_bit_sets.specs.declared.step.Step.{Step}
+use Rattle.fv_bit_sets.specs.Cells.{has}
+use Rattle.vl_flow_spec.specs.Drivers.{driven_by, needed_by}
+use Rattle.vl_flow_spec.specs.Reads.{Bits}
+use Rattle.vl_flow_spec.specs.Refusals.{has_bit}
+use Rattle.vl_flow_order.specs.declared.footprint.Footprint.{Footprint}
+use Rattle.vl_flow_cells.specs.Numbered.{Shows}
+use Rattle.vl_flow_cells.proofs.Lists.{get_less, get_some}
+use Rattle.vl_flow_check.specs.declared.layout.Layout.{Layout}
+use Rattle.vl_flow_check.specs.declared.which.Which.{Which}
+use Rattle.vl_flow_check.specs.Layouts.{IsLayoutOf, Marks}
+use Rattle.vl_flow_check.specs.Rows.{AreNameRows, AreSets, picked, picks}
+use Rattle.vl_flow_check.proofs.Tests.{or_same}
 
 module _ (ds : List Decl) where
   pub sets_length : (K : DriverKind → Bits) (sets : List (List Step)) (drivers : List Driver)

@@ -7,18 +7,18 @@ use Rattle.vl_mean.specs.Cells.{cells}
 use Rattle.vl_mean.specs.declared.driver.Driver.{Driver}
 use Rattle.vl_mean.specs.declared.driver.DriverKind.{DriverKind}
 use Rattle.vl_mean.specs.declared.driver.DriverKind.TheVariants as k
-use Rattle.bit_sets.specs.declared.step.Step.{Step}
-use Rattle.bit_sets.specs.Cells.{has}
-use Rattle.vl_path.specs.Drivers.{is_clocked, needed_by}
-use Rattle.vl_path.proofs.Bools.{or_case}
-use Rattle.vl_order.specs.Refusals.{has_bit, some_below, some_cell, latched, latched_by, changed_by, blocking_in}
-use Rattle.vl_order.specs.Refusals.{some_reads, is_shared, some_changes, some_waits}
-use Rattle.flow_cells.specs.Numbered.{all_cells}
-use Rattle.flow_sets.specs.Sets.{some_has, crosses}
-use Rattle.flow_judge.specs.declared.which.Which.TheVariants as w
-use Rattle.flow_judge.specs.Layouts.{Marks}
-use Rattle.flow_judge.specs.Rows.{AreNameRows, AreSets, picked, some_test}
-use Rattle.flow_judge.proofs.Tests.{none_and, shared_one}
+use Rattle.fv_bit_sets.specs.declared.step.Step.{Step}
+use Rattle.fv_bit_sets.specs.Cells.{has}
+use Rattle.vl_flow_spec.specs.Drivers.{is_clocked, needed_by}
+use Rattle.vl_flow_spec.proofs.Bools.{or_case}
+use Rattle.vl_flow_spec.specs.Refusals.{has_bit, some_below, some_cell, latched, latched_by, changed_by, blocking_in}
+use Rattle.vl_flow_spec.specs.Refusals.{some_reads, is_shared, some_changes, some_waits}
+use Rattle.vl_flow_cells.specs.Numbered.{all_cells}
+use Rattle.vl_flow_order.specs.Sets.{some_has, crosses}
+use Rattle.vl_flow_check.specs.declared.which.Which.TheVariants as w
+use Rattle.vl_flow_check.specs.Layouts.{Marks}
+use Rattle.vl_flow_check.specs.Rows.{AreNameRows, AreSets, picked, some_test}
+use Rattle.vl_flow_check.proofs.Tests.{none_and, shared_one}
 
 cross_tests : (Driver → Decl → Bool) → (Driver → Decl → Bool) → List Driver → Decl → Bool
 cross_tests t u [] d = false

@@ -9,14 +9,14 @@ use Rattle.vl_size.specs.declared.decl.Decl.{Decl}
 use Rattle.vl_mean.specs.FlatLaw.{flat_scopes, is_net, IsTarget}
 use Rattle.vl_mean.specs.Scopes.{no_values}
 use Rattle.vl_mean.specs.Targets.{all_spots, may_change, spots}
-use Rattle.bit_sets.specs.declared.step.Step.{Step}
-use Rattle.bit_sets.specs.Cells.{has}
-use Rattle.vl_order.specs.Refusals.{count_spot}
-use Rattle.flow_cells.specs.Numbered.{Shows}
-use Rattle.flow_twice.specs.declared.share.Share.{Share}
-use Rattle.flow_twice.specs.Shares.{places_at, target_places, AddsPlaces}
-use Rattle.flow_twice.proofs.Once.{count_append, name_once, one_if}
-use Rattle.flow_twice.proofs.Places.{share_more}
+use Rattle.fv_bit_sets.specs.declared.step.Step.{Step}
+use Rattle.fv_bit_sets.specs.Cells.{has}
+use Rattle.vl_flow_spec.specs.Refusals.{count_spot}
+use Rattle.vl_flow_cells.specs.Numbered.{Shows}
+use Rattle.vl_flow_check.specs.declared.share.Share.{Share}
+use Rattle.vl_flow_check.specs.Shares.{places_at, target_places, AddsPlaces}
+use Rattle.vl_flow_check.proofs.Once.{count_append, name_once, one_if}
+use Rattle.vl_flow_check.proofs.Places.{share_more}
 
 -- of targets one behind the other
 abbrev pub all_target_places : List Decl → Lvals → Pos → List ℕ → ℕ → List Pos

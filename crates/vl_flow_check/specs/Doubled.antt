@@ -3,13 +3,13 @@ use Rattle.std.specs.Prelude.{◌≡◌, ℕ, ◌<◌, List, true, false, ◌&&�
 use Rattle.fv_base.specs.declared.pos.Pos.{Pos}
 use Rattle.vl_size.specs.declared.decl.Decl.{Decl}
 use Rattle.vl_mean.specs.declared.driver.Driver.{Driver}
-use Rattle.bit_sets.specs.declared.step.Step.{Step}
-use Rattle.bit_sets.specs.Cells.{has}
-use Rattle.vl_order.specs.Refusals.{are_two, bits_counted, first_below, places_of, twice_driven}
-use Rattle.flow_cells.specs.Numbered.{first_cell}
-use Rattle.flow_twice.specs.Shares.{places_at}
-use Rattle.flow_twice.specs.declared.doubled.Doubled.{Doubled}
-use Rattle.flow_twice.specs.declared.share.Share.{Share}
+use Rattle.fv_bit_sets.specs.declared.step.Step.{Step}
+use Rattle.fv_bit_sets.specs.Cells.{has}
+use Rattle.vl_flow_spec.specs.Refusals.{are_two, bits_counted, first_below, places_of, twice_driven}
+use Rattle.vl_flow_cells.specs.Numbered.{first_cell}
+use Rattle.vl_flow_check.specs.Shares.{places_at}
+use Rattle.vl_flow_check.specs.declared.doubled.Doubled.{Doubled}
+use Rattle.vl_flow_check.specs.declared.share.Share.{Share}
 
 module _ (ds : List Decl) (drivers : List Driver) where
   -- the lowest bit of the name that two drivers have, with their places

@@ -1,8 +1,8 @@
 -- The first two of places. Rule of this project.
 use Rattle.std.specs.Prelude.{List, [], ◌∷◌}
 use Rattle.fv_base.specs.declared.pos.Pos.{Pos}
-use Rattle.flow_twice.specs.declared.earliest.Earliest.{Earliest}
-use Rattle.flow_twice.specs.declared.earliest.Earliest.TheVariants as e
+use Rattle.vl_flow_check.specs.declared.earliest.Earliest.{Earliest}
+use Rattle.vl_flow_check.specs.declared.earliest.Earliest.TheVariants as e
 
 -- the places that there are, the earlier one first
 abbrev pub listed : Earliest → List Pos

@@ -3,15 +3,15 @@ use Rattle.std.specs.Prelude.{◌≡◌, ℕ, suc, ◌<◌, ◌≤◌, List, len
 use Rattle.vl_size.specs.declared.decl.Decl.{Decl}
 use Rattle.vl_mean.specs.FlatLaw.{is_net}
 use Rattle.vl_mean.specs.declared.driver.Driver.{Driver}
-use Rattle.bit_sets.specs.declared.step.Step.{Step}
-use Rattle.bit_sets.specs.Cells.{has, IsBare}
-use Rattle.flow_cells.specs.Numbered.{first_cell}
-use Rattle.flow_order.specs.CellGroups.{IsCellAt}
-use Rattle.flow_order.specs.Footprints.{AreFootprintsOf}
-use Rattle.flow_judge.specs.declared.layout.Layout.{Layout}
-use Rattle.flow_judge.specs.declared.layout.Names.{Names}
-use Rattle.flow_judge.specs.declared.layout.Names.TheVariants as n
-use Rattle.flow_judge.specs.declared.layout.Span.{Span}
+use Rattle.fv_bit_sets.specs.declared.step.Step.{Step}
+use Rattle.fv_bit_sets.specs.Cells.{has, IsBare}
+use Rattle.vl_flow_cells.specs.Numbered.{first_cell}
+use Rattle.vl_flow_order.specs.CellGroups.{IsCellAt}
+use Rattle.vl_flow_order.specs.Footprints.{AreFootprintsOf}
+use Rattle.vl_flow_check.specs.declared.layout.Layout.{Layout}
+use Rattle.vl_flow_check.specs.declared.layout.Names.{Names}
+use Rattle.vl_flow_check.specs.declared.layout.Names.TheVariants as n
+use Rattle.vl_flow_check.specs.declared.layout.Span.{Span}
 
 -- which names count
 abbrev pub counts : Names → Decl → Bool

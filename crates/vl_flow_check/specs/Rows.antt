@@ -3,15 +3,15 @@ use Rattle.std.specs.Prelude.{List, [], ◌∷◌, Bool, true, false, ◌&&◌, 
 use Rattle.vl_size.specs.declared.decl.Decl.{Decl}
 use Rattle.vl_mean.specs.declared.driver.Driver.{Driver}
 use Rattle.vl_mean.specs.declared.driver.DriverKind.{DriverKind}
-use Rattle.bit_sets.specs.declared.step.Step.{Step}
-use Rattle.bit_sets.specs.Cells.{has}
-use Rattle.vl_path.specs.Drivers.{is_clocked}
-use Rattle.vl_path.specs.Reads.{Bits}
-use Rattle.vl_order.specs.Refusals.{has_bit}
-use Rattle.flow_cells.specs.Numbered.{Shows}
-use Rattle.flow_judge.specs.declared.which.Which.{Which}
-use Rattle.flow_judge.specs.declared.which.Which.TheVariants as w
-use Rattle.flow_judge.specs.Layouts.{Marks}
+use Rattle.fv_bit_sets.specs.declared.step.Step.{Step}
+use Rattle.fv_bit_sets.specs.Cells.{has}
+use Rattle.vl_flow_spec.specs.Drivers.{is_clocked}
+use Rattle.vl_flow_spec.specs.Reads.{Bits}
+use Rattle.vl_flow_spec.specs.Refusals.{has_bit}
+use Rattle.vl_flow_cells.specs.Numbered.{Shows}
+use Rattle.vl_flow_check.specs.declared.which.Which.{Which}
+use Rattle.vl_flow_check.specs.declared.which.Which.TheVariants as w
+use Rattle.vl_flow_check.specs.Layouts.{Marks}
 
 abbrev pub picks : Which → Bool → Bool
 picks w.All clocked = true

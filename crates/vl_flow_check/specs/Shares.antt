@@ -8,11 +8,11 @@ use Rattle.vl_mean.specs.FlatLaw.{flat_scopes}
 use Rattle.vl_mean.specs.Scopes.{no_values}
 use Rattle.vl_mean.specs.Targets.{spots}
 use Rattle.vl_mean.specs.declared.driver.Driver.{Driver}
-use Rattle.bit_sets.specs.Cells.{has}
-use Rattle.vl_order.specs.Refusals.{are_two, count_spot, places_of}
-use Rattle.flow_cells.specs.Numbered.{all_cells, first_cell}
-use Rattle.flow_twice.specs.declared.overlap.Overlap.{Overlap}
-use Rattle.flow_twice.specs.declared.share.Share.{Share}
+use Rattle.fv_bit_sets.specs.Cells.{has}
+use Rattle.vl_flow_spec.specs.Refusals.{are_two, count_spot, places_of}
+use Rattle.vl_flow_cells.specs.Numbered.{all_cells, first_cell}
+use Rattle.vl_flow_check.specs.declared.overlap.Overlap.{Overlap}
+use Rattle.vl_flow_check.specs.declared.share.Share.{Share}
 
 -- the places of the shares that have the bit, in their order
 abbrev pub places_at : List Share → ℕ → ℕ → List Pos

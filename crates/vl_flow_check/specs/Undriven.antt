@@ -3,11 +3,11 @@ use Rattle.std.specs.Prelude.{◌≡◌, ◌≤◌, ℕ, List, length, ◌&&◌,
 use Rattle.vl_size.specs.declared.decl.Decl.{Decl}
 use Rattle.vl_mean.specs.FlatLaw.{is_net}
 use Rattle.vl_mean.specs.declared.driver.Driver.{Driver}
-use Rattle.vl_order.specs.Refusals.{driven_in}
-use Rattle.bit_sets.specs.declared.step.Step.{Step}
-use Rattle.bit_sets.specs.Cells.{has}
-use Rattle.flow_cells.specs.Numbered.{all_cells}
-use Rattle.flow_order.specs.CellGroups.{IsCellAt}
+use Rattle.vl_flow_spec.specs.Refusals.{driven_in}
+use Rattle.fv_bit_sets.specs.declared.step.Step.{Step}
+use Rattle.fv_bit_sets.specs.Cells.{has}
+use Rattle.vl_flow_cells.specs.Numbered.{all_cells}
+use Rattle.vl_flow_order.specs.CellGroups.{IsCellAt}
 
 abbrev pub IsUndriven : List Decl → List Driver → List Step → Type 0
 IsUndriven ds drivers made =

@@ -1,8 +1,8 @@
 ghost use Rattle.std.specs.Prelude.{◌≡◌, ◌<◌, ◌∷◌, [], List, take};
-ghost use Rattle.vl_order.specs.Refusals.{in_order, with_place};
-ghost use Rattle.flow_twice.specs.Earliest.{listed};
-ghost use Rattle.flow_twice.specs.Shares.{places_at};
-ghost use Rattle.flow_twice.specs.declared.share.Share.{Share};
+ghost use Rattle.vl_flow_spec.specs.Refusals.{in_order, with_place};
+ghost use Rattle.vl_flow_check.specs.Earliest.{listed};
+ghost use Rattle.vl_flow_check.specs.Shares.{places_at};
+ghost use Rattle.vl_flow_check.specs.declared.share.Share.{Share};
 
 use crate::share::Share;
 use fv_base::Pos;

@@ -1,17 +1,17 @@
 ghost use Rattle.std.specs.Prelude.{◌≡◌, ◌<◌, ℕ, Bool, List, Some, None, IfOk, length, slice_get};
 ghost use Rattle.std.specs.Prelude.{if◌then◌else◌};
-ghost use Rattle.flow_judge.specs.Layouts.{AreAllBits, IsLayoutOf, IsSpan, Marks};
-ghost use Rattle.flow_order.specs.Footprints.{IsFootprintOf};
-ghost use Rattle.vl_order.specs.Refusals.{first_of_names, has_bit, named_if, place_of, with_name};
-ghost use Rattle.vl_path.specs.Drivers.{driven_by};
+ghost use Rattle.vl_flow_check.specs.Layouts.{AreAllBits, IsLayoutOf, IsSpan, Marks};
+ghost use Rattle.vl_flow_order.specs.Footprints.{IsFootprintOf};
+ghost use Rattle.vl_flow_spec.specs.Refusals.{first_of_names, has_bit, named_if, place_of, with_name};
+ghost use Rattle.vl_flow_spec.specs.Drivers.{driven_by};
 ghost use Rattle.vl_size.specs.declared.decl.Decl.{Decl};
 
 use crate::layout::{Layout, Span, span_of};
 use crate::name::name_of;
-use bit_sets::Bits;
-use flow_reads::Footprint;
 use fv_base::{Memory, Pos, Text};
+use fv_bit_sets::Bits;
 use std::alloc::Global;
+use vl_flow_order::Footprint;
 use vl_mean::Driver;
 use vl_size::Decls;
 use vl_size::earlier::earlier_place;

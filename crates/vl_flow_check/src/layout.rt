@@ -1,20 +1,19 @@
 ghost use Rattle.std.specs.Prelude.{◌≡◌, ℕ, ◌&&◌, ◌<◌, ◌≤◌, ◌++◌, ◌∷◌, [], IfOk, OnOk, List, length, nat_lt};
-ghost use Rattle.flow_cells.specs.Numbered.{Shows};
-ghost use Rattle.bit_sets.specs.Cells.{has, is_set};
-ghost use Rattle.flow_judge.specs.Layouts.{AreBitsAt, AreBitsOf, counts, IsFilled, IsLayoutOf, IsSpan, Marks};
-ghost use Rattle.flow_order.specs.CellGroups.{AreGroupsOf};
+ghost use Rattle.vl_flow_cells.specs.Numbered.{Shows};
+ghost use Rattle.fv_bit_sets.specs.Cells.{has, is_set};
+ghost use Rattle.vl_flow_check.specs.Layouts.{AreBitsAt, AreBitsOf, counts, IsFilled, IsLayoutOf, IsSpan, Marks};
+ghost use Rattle.vl_flow_order.specs.CellGroups.{AreGroupsOf};
 ghost use Rattle.vl_mean.specs.declared.driver.Driver.{Driver};
-ghost use Rattle.vl_order.specs.Refusals.{has_bit};
-ghost use Rattle.vl_path.specs.Reads.{Bits as BitsOf};
+ghost use Rattle.vl_flow_spec.specs.Refusals.{has_bit};
+ghost use Rattle.vl_flow_spec.specs.Reads.{Bits as BitsOf};
 ghost use Rattle.vl_mean.specs.FlatLaw as spec;
 ghost use Rattle.vl_size.specs.declared.decl.Decl.{Decl};
 
-use bit_sets::Bits;
-use flow_reads::{Footprint, Groups};
-use flow_sets::{named, union_of};
 use fv_base::{List, Memory};
+use fv_bit_sets::Bits;
 use fv_bits::ones;
 use std::alloc::Global;
+use vl_flow_order::{Footprint, Groups, named, union_of};
 use vl_size::{Class, Decl, Decls};
 
 /// Which declared names count.

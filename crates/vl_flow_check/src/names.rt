@@ -1,13 +1,13 @@
 ghost use Rattle.std.specs.Prelude.{All, IfOk};
-ghost use Rattle.flow_judge.specs.Layouts.{IsLayoutOf};
+ghost use Rattle.vl_flow_check.specs.Layouts.{IsLayoutOf};
 ghost use Rattle.vl_mean.specs.FlatLaw.{IsDriver};
-ghost use Rattle.flow_twice.specs.Shares.{AreNameShares};
+ghost use Rattle.vl_flow_check.specs.Shares.{AreNameShares};
 
+use crate::layout::Layout;
 use crate::share::{Share, push};
-use flow_judge::Layout;
-use flow_sets::named;
 use fv_base::Memory;
 use std::alloc::Global;
+use vl_flow_order::named;
 use vl_mean::Driver;
 use vl_size::Decls;
 

@@ -1,21 +1,20 @@
 ghost use Rattle.std.specs.Prelude.{◌≡◌, ◌++◌, ◌∷◌, [], All, List, IfOk, OnOk, slice_get};
-ghost use Rattle.flow_order.specs.CellGroups.{AreGroupsOf};
-ghost use Rattle.flow_judge.specs.Layouts.{IsLayoutOf};
-ghost use Rattle.flow_judge.specs.Rows.{AreSets};
-ghost use Rattle.flow_judge.specs.Undriven.{IsUndriven, TellsBit};
+ghost use Rattle.vl_flow_order.specs.CellGroups.{AreGroupsOf};
+ghost use Rattle.vl_flow_check.specs.Layouts.{IsLayoutOf};
+ghost use Rattle.vl_flow_check.specs.Rows.{AreSets};
+ghost use Rattle.vl_flow_check.specs.Undriven.{IsUndriven, TellsBit};
 ghost use Rattle.vl_mean.specs.FlatLaw.{IsKept};
 ghost use Rattle.vl_mean.specs.declared.driver.Driver.{Driver};
-ghost use Rattle.vl_order.specs.Refusals as spec;
-ghost use Rattle.vl_path.specs.Drivers.{driven_by};
+ghost use Rattle.vl_flow_spec.specs.Refusals as spec;
+ghost use Rattle.vl_flow_spec.specs.Drivers.{driven_by};
 ghost use Rattle.vl_size.specs.declared.decl.Decl.{Decl};
 
 use crate::layout::{Layout, Names, bits_of_names};
 use crate::name::name_of;
-use bit_sets::Bits;
-use flow_reads::Groups;
-use flow_sets::union_of;
 use fv_base::{Memory, Text};
+use fv_bit_sets::Bits;
 use std::alloc::Global;
+use vl_flow_order::{Groups, union_of};
 use vl_size::Decls;
 
 fn push(sets: &mut Vec<Bits>, set: Bits) -> Result<(), Memory>

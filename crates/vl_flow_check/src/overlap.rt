@@ -1,9 +1,9 @@
 ghost use Rattle.std.specs.Prelude.{[], IfOk};
-ghost use Rattle.flow_twice.specs.Shares.{IsJoined, IsOverlapOf};
+ghost use Rattle.vl_flow_check.specs.Shares.{IsJoined, IsOverlapOf};
 
 use crate::share::Share;
-use bit_sets::Bits;
 use fv_base::Memory;
+use fv_bit_sets::Bits;
 use std::alloc::Global;
 
 /// The bits that some share has, and those that two have.

@@ -1,16 +1,16 @@
 ghost use Rattle.std.specs.Prelude.{◌≡◌, false, true, IfOk};
-ghost use Rattle.flow_judge.specs.Layouts.{IsLayoutOf};
-ghost use Rattle.flow_judge.specs.Rows.{AreSets};
-ghost use Rattle.vl_order.specs.Refusals as spec;
+ghost use Rattle.vl_flow_check.specs.Layouts.{IsLayoutOf};
+ghost use Rattle.vl_flow_check.specs.Rows.{AreSets};
+ghost use Rattle.vl_flow_spec.specs.Refusals as spec;
 
 use crate::first::first_named;
 use crate::layout::Layout;
 use crate::rows::{name_rows, names_of, read_rows};
 use crate::which::Which;
-use bit_sets::Bits;
-use flow_sets::{crossing_of, union_of};
 use fv_base::{Memory, Pos, Text};
+use fv_bit_sets::Bits;
 use std::alloc::Global;
+use vl_flow_order::{crossing_of, union_of};
 use vl_mean::Driver;
 use vl_size::Decls;
 

@@ -1,21 +1,21 @@
 ghost use Rattle.std.specs.Prelude.{◌≡◌, ◌&&◌, ◌<◌, ◌++◌, ◌∷◌, [], length, List, IfOk, OnOk, take};
-ghost use Rattle.bit_sets.specs.Cells.{has};
-ghost use Rattle.flow_cells.specs.Numbered.{Shows};
-ghost use Rattle.flow_judge.specs.Layouts.{IsLayoutOf, Marks};
-ghost use Rattle.flow_judge.specs.Rows.{AreNameRows, AreSets, picked, picks, some_test};
+ghost use Rattle.fv_bit_sets.specs.Cells.{has};
+ghost use Rattle.vl_flow_cells.specs.Numbered.{Shows};
+ghost use Rattle.vl_flow_check.specs.Layouts.{IsLayoutOf, Marks};
+ghost use Rattle.vl_flow_check.specs.Rows.{AreNameRows, AreSets, picked, picks, some_test};
 ghost use Rattle.vl_mean.specs.declared.driver.Driver.{Driver};
 ghost use Rattle.vl_mean.specs.declared.driver.DriverKind.{DriverKind};
-ghost use Rattle.vl_order.specs.Refusals.{has_bit};
-ghost use Rattle.vl_path.specs.Drivers.{needed_by};
-ghost use Rattle.vl_path.specs.Reads.{Bits as BitsOf};
+ghost use Rattle.vl_flow_spec.specs.Refusals.{has_bit};
+ghost use Rattle.vl_flow_spec.specs.Drivers.{needed_by};
+ghost use Rattle.vl_flow_spec.specs.Reads.{Bits as BitsOf};
 ghost use Rattle.vl_size.specs.declared.decl.Decl.{Decl};
 
 use crate::layout::Layout;
 use crate::which::Which;
-use bit_sets::Bits;
-use flow_sets::union_of;
 use fv_base::Memory;
+use fv_bit_sets::Bits;
 use std::alloc::Global;
+use vl_flow_order::union_of;
 
 fn push(rows: &mut Vec<Bits>, row: Bits) -> Result<(), Memory>
     ensures { OnOk result (rows.new.items ≡ rows.old.items ++ row ∷ []) }

@@ -1,8 +1,8 @@
 ghost use Rattle.std.specs.Prelude.{◌≡◌, ◌++◌, ◌∷◌, ◌<◌, [], OnOk};
-ghost use Rattle.bit_sets.specs.Cells.{has};
+ghost use Rattle.fv_bit_sets.specs.Cells.{has};
 
-use bit_sets::Bits;
 use fv_base::{Memory, Pos};
+use fv_bit_sets::Bits;
 
 /// Bits that a driver has, with its place.
 #[derive(Drop)]

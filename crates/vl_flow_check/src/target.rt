@@ -1,14 +1,14 @@
 ghost use Rattle.std.specs.Prelude.{OnOk, true};
-ghost use Rattle.flow_cells.specs.Numbering.{IsNumberingOf};
-ghost use Rattle.flow_uses.specs.Sized.{TargetIsSized};
+ghost use Rattle.vl_flow_cells.specs.Numbering.{IsNumberingOf};
+ghost use Rattle.vl_flow_cells.specs.Sized.{TargetIsSized};
 ghost use Rattle.vl_mean.specs.FlatLaw.{IsTarget, is_net};
-ghost use Rattle.flow_twice.specs.Shares.{AddsPlaces, target_places};
+ghost use Rattle.vl_flow_check.specs.Shares.{AddsPlaces, target_places};
 
 use crate::share::{Share, push};
-use flow_cells::Numbering;
-use flow_effects::changes_of;
 use fv_base::{Memory, Pos};
 use std::alloc::Global;
+use vl_flow_cells::Numbering;
+use vl_flow_effects::changes_of;
 use vl_size::Decls;
 use vl_tree::{Lval, LvalKind};
 

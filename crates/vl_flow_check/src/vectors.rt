@@ -1,22 +1,22 @@
 ghost use Rattle.std.specs.Prelude.{All, IfOk, List, OnOk, replicate, if◌then◌else◌};
-ghost use Rattle.bit_sets.specs.Cells.{has};
-ghost use Rattle.flow_cells.specs.Numbered.{Shows};
-ghost use Rattle.flow_cells.specs.Numbering.{IsNumberingOf};
-ghost use Rattle.flow_judge.specs.Layouts.{IsLayoutOf};
-ghost use Rattle.flow_order.specs.Footprints.{IsFootprintOf};
+ghost use Rattle.fv_bit_sets.specs.Cells.{has};
+ghost use Rattle.vl_flow_cells.specs.Numbered.{Shows};
+ghost use Rattle.vl_flow_cells.specs.Numbering.{IsNumberingOf};
+ghost use Rattle.vl_flow_check.specs.Layouts.{IsLayoutOf};
+ghost use Rattle.vl_flow_order.specs.Footprints.{IsFootprintOf};
 ghost use Rattle.vl_mean.specs.FlatLaw.{IsDriver};
-ghost use Rattle.vl_order.specs.Refusals.{times_driven};
-ghost use Rattle.vl_path.specs.Reads.{Bits as BitsOf};
+ghost use Rattle.vl_flow_spec.specs.Refusals.{times_driven};
+ghost use Rattle.vl_flow_spec.specs.Reads.{Bits as BitsOf};
 ghost use Rattle.vl_size.specs.declared.decl.Decl.{Decl};
-ghost use Rattle.flow_twice.specs.Shares.{AddsPlaces, AreBitShares};
+ghost use Rattle.vl_flow_check.specs.Shares.{AddsPlaces, AreBitShares};
 
+use crate::layout::Layout;
 use crate::share::{Share, push};
 use crate::target::target_shares;
-use flow_cells::Numbering;
-use flow_judge::Layout;
-use flow_reads::Footprint;
 use fv_base::{Memory, Pos};
 use std::alloc::Global;
+use vl_flow_cells::Numbering;
+use vl_flow_order::Footprint;
 use vl_mean::{Driver, DriverKind};
 use vl_size::Decls;
 

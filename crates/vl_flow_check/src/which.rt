@@ -1,5 +1,5 @@
 ghost use Rattle.std.specs.Prelude.{◌≡◌};
-ghost use Rattle.flow_judge.specs.Rows.{picks};
+ghost use Rattle.vl_flow_check.specs.Rows.{picks};
 
 /// Which drivers count.
 #[derive(Debug, Clone, Copy, PartialEq, Eq)]

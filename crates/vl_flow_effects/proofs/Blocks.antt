@@ -8,7 +8,7 @@ use Rattle.vl_mean.specs.FlatLaw.{flat_scopes}
 use Rattle.vl_mean.specs.FlatParts.{driver_part, parts_of, start_part}
 use Rattle.vl_mean.specs.Parts.{Part, declares}
 use Rattle.vl_mean.specs.Runs.{is_driven, is_driven_by}
-use Rattle.flow_sets.proofs.Tests.{or_assoc, or_none}
+use Rattle.vl_flow_order.proofs.Tests.{or_assoc, or_none}
 
 -- the parts of drivers
 abbrev pub driver_parts : List Decl → List Driver → List Part

@@ -22,14 +22,14 @@ use Rattle.vl_size.specs.declared.decl.Decl.{Decl}
 use Rattle.vl_mean.specs.Execution.{assigns, any_assigns, arms_assign}
 use Rattle.vl_mean.specs.FlatLaw.{flat_scopes}
 use Rattle.vl_mean.specs.Targets.{may_change}
-use Rattle.bit_sets.specs.declared.step.Step.{Step}
-use Rattle.bit_sets.specs.Cells.{has}
-use Rattle.vl_path.specs.Paths.{is_blocking, is_nonblocking, any_kind, changes, any_changes, arms_change, sure}
-use Rattle.flow_cells.specs.Numbered.{Shows}
-use Rattle.flow_effects.specs.declared.effect.Effect.{Effect}
-use Rattle.flow_effects.specs.Effects.{IsEffectOf}
-use Rattle.flow_effects.proofs.Joining.{shows_as, shows_or}
-use Rattle.flow_effects.proofs.Tests.{or_pairs, either_way}
+use Rattle.fv_bit_sets.specs.declared.step.Step.{Step}
+use Rattle.fv_bit_sets.specs.Cells.{has}
+use Rattle.vl_flow_spec.specs.Paths.{is_blocking, is_nonblocking, any_kind, changes, any_changes, arms_change, sure}
+use Rattle.vl_flow_cells.specs.Numbered.{Shows}
+use Rattle.vl_flow_effects.specs.declared.effect.Effect.{Effect}
+use Rattle.vl_flow_effects.specs.Effects.{IsEffectOf}
+use Rattle.vl_flow_effects.proofs.Joining.{shows_as, shows_or}
+use Rattle.vl_flow_effects.proofs.Tests.{or_pairs, either_way}
 
 module _ (ds : List Decl) where
   two : (a b c d x y : Bool) → (a || c) ≡ x → (b || d) ≡ y → ((a || b) || (c || d)) ≡ (x || y)

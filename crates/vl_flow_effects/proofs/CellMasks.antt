@@ -5,17 +5,17 @@ use Rattle.std.proofs.Common.{ap, sym, ◌∙◌, arith, ◌⊎◌, inl, inr}
 use Rattle.std.proofs.lemmas.Bool.{cases_order}
 use Rattle.std.proofs.lemmas.List.{get_or_append_left}
 use Rattle.std.proofs.Math.Seq.{get_or-append_seam}
-use Rattle.bit_sets.specs.declared.step.Step.{Step}
-use Rattle.bit_sets.specs.Cells.{has, is_set}
+use Rattle.fv_bit_sets.specs.declared.step.Step.{Step}
+use Rattle.fv_bit_sets.specs.Cells.{has, is_set}
 use Rattle.vl_size.specs.declared.decl.Decl.{Decl}
-use Rattle.vl_path.specs.Reads.{Bits}
-use Rattle.flow_cells.specs.Numbered.{Shows, all_cells}
-use Rattle.flow_cells.proofs.Lists.{get_less}
-use Rattle.flow_cells.proofs.Numbers.{length_more}
-use Rattle.flow_sets.specs.Sets.{some_has}
-use Rattle.flow_sets.proofs.Halves.{some_append}
-use Rattle.flow_sets.proofs.Tests.{or_none}
-use Rattle.vl_driven.specs.Masks.{AreMasks}
+use Rattle.vl_flow_spec.specs.Reads.{Bits}
+use Rattle.vl_flow_cells.specs.Numbered.{Shows, all_cells}
+use Rattle.vl_flow_cells.proofs.Lists.{get_less}
+use Rattle.vl_flow_cells.proofs.Numbers.{length_more}
+use Rattle.vl_flow_order.specs.Sets.{some_has}
+use Rattle.vl_flow_order.proofs.Halves.{some_append}
+use Rattle.vl_flow_order.proofs.Tests.{or_none}
+use Rattle.vl_flow_effects.specs.Masks.{AreMasks}
 
 -- of the first cells, the bits that a set has
 pub record AreMasksBelow (bits : List Step) (masks : List ℕ) (n : ℕ) : Type 0 where

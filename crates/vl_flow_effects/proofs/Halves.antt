@@ -7,10 +7,10 @@ use Rattle.vl_tree.specs.declared.stmt.Arm.TheVariants as a
 use Rattle.vl_tree.specs.Stmt.{Stmt, stmts}
 use Rattle.vl_tree.specs.StmtView.{arms}
 use Rattle.vl_size.specs.declared.decl.Decl.{Decl}
-use Rattle.vl_path.specs.Paths.{is_blocking, sure, changes, needs, all_sure, any_changes, all_need, arms_sure}
-use Rattle.vl_path.specs.Paths.{arms_change, arms_need, labels_read}
-use Rattle.flow_effects.specs.Effects.{AreEach}
-use Rattle.flow_effects.proofs.Tests.{or_assoc, and_all, and_assoc, needed, or_three}
+use Rattle.vl_flow_spec.specs.Paths.{is_blocking, sure, changes, needs, all_sure, any_changes, all_need, arms_sure}
+use Rattle.vl_flow_spec.specs.Paths.{arms_change, arms_need, labels_read}
+use Rattle.vl_flow_effects.specs.Effects.{AreEach}
+use Rattle.vl_flow_effects.proofs.Tests.{or_assoc, and_all, and_assoc, needed, or_three}
 
 module _ (ds : List Decl) where
   pub sure_halves : (counts : AssignKind → Bool) (xs ys : List Stmt) (n : List ℕ) (i : ℕ)

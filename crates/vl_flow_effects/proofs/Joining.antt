@@ -1,16 +1,16 @@
 -- The sets of effects that are joined.
 use Rattle.std.specs.Prelude.{◌≡◌, ℕ, List, [], Bool, ◌&&◌, ◌||◌, not}
 use Rattle.std.proofs.Common.{ap, ◌∙◌}
-use Rattle.bit_sets.specs.declared.step.Step.{Step}
-use Rattle.bit_sets.specs.Cells.{has}
+use Rattle.fv_bit_sets.specs.declared.step.Step.{Step}
+use Rattle.fv_bit_sets.specs.Cells.{has}
 use Rattle.vl_size.specs.declared.decl.Decl.{Decl}
-use Rattle.vl_path.specs.Reads.{Bits}
-use Rattle.flow_cells.specs.declared.cell_run.CellRun.{CellRun}
-use Rattle.flow_cells.specs.Numbered.{Adds, Shows, any_takes}
-use Rattle.flow_effects.specs.declared.effect.Effect.{Effect}
-use Rattle.flow_effects.specs.Effects.{HasSets}
-use Rattle.flow_effects.specs.Joins.{IsThen, IsEither, IsBehind}
-use Rattle.flow_effects.proofs.Tests.{or_assoc}
+use Rattle.vl_flow_spec.specs.Reads.{Bits}
+use Rattle.vl_flow_cells.specs.declared.cell_run.CellRun.{CellRun}
+use Rattle.vl_flow_cells.specs.Numbered.{Adds, Shows, any_takes}
+use Rattle.vl_flow_effects.specs.declared.effect.Effect.{Effect}
+use Rattle.vl_flow_effects.specs.Effects.{HasSets}
+use Rattle.vl_flow_effects.specs.Joins.{IsThen, IsEither, IsBehind}
+use Rattle.vl_flow_effects.proofs.Tests.{or_assoc}
 
 module _ (ds : List Decl) where
   -- the same bits by another name

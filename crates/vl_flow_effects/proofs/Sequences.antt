@@ -7,17 +7,17 @@ use Rattle.vl_tree.specs.declared.stmt.Arm.{Arm}
 use Rattle.vl_tree.specs.Stmt.{Stmt, stmts}
 use Rattle.vl_tree.specs.StmtView.{arms}
 use Rattle.vl_size.specs.declared.decl.Decl.{Decl}
-use Rattle.vl_path.specs.Reads.{Bits}
-use Rattle.vl_path.specs.Paths.{is_blocking, is_nonblocking, any_kind, has_default, sure, changes, needs, all_sure}
-use Rattle.vl_path.specs.Paths.{any_changes, all_need, arms_sure, arms_change, arms_need}
-use Rattle.flow_effects.specs.declared.effect.Effect.{Effect}
-use Rattle.flow_effects.specs.Effects.{AreEach, HasSets, IsEffectOf, IsEffectOfAll, IsEffectOfSome, IsEffectOfArm}
-use Rattle.flow_effects.specs.Effects.{IsEffectOfArms}
-use Rattle.flow_effects.specs.Joins.{IsNone, IsThen, IsEither}
-use Rattle.flow_effects.proofs.Tests.{or_none, and_none, needed_one}
-use Rattle.flow_effects.proofs.Halves.{sure_halves, change_halves, need_halves, arms_sure_halves, arms_change_halves}
-use Rattle.flow_effects.proofs.Halves.{arms_need_halves}
-use Rattle.flow_effects.proofs.Joining.{then_sets, either_sets, sets_as}
+use Rattle.vl_flow_spec.specs.Reads.{Bits}
+use Rattle.vl_flow_spec.specs.Paths.{is_blocking, is_nonblocking, any_kind, has_default, sure, changes, needs, all_sure}
+use Rattle.vl_flow_spec.specs.Paths.{any_changes, all_need, arms_sure, arms_change, arms_need}
+use Rattle.vl_flow_effects.specs.declared.effect.Effect.{Effect}
+use Rattle.vl_flow_effects.specs.Effects.{AreEach, HasSets, IsEffectOf, IsEffectOfAll, IsEffectOfSome, IsEffectOfArm}
+use Rattle.vl_flow_effects.specs.Effects.{IsEffectOfArms}
+use Rattle.vl_flow_effects.specs.Joins.{IsNone, IsThen, IsEither}
+use Rattle.vl_flow_effects.proofs.Tests.{or_none, and_none, needed_one}
+use Rattle.vl_flow_effects.proofs.Halves.{sure_halves, change_halves, need_halves, arms_sure_halves, arms_change_halves}
+use Rattle.vl_flow_effects.proofs.Halves.{arms_need_halves}
+use Rattle.vl_flow_effects.proofs.Joining.{then_sets, either_sets, sets_as}
 
 abbrev pub nothing : Bits
 nothing n i = false

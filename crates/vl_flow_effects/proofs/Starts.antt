@@ -21,11 +21,11 @@ use Rattle.vl_mean.specs.Scopes.{declared_in, full, no_values, operand_in}
 use Rattle.vl_mean.specs.Targets.{Spot, Write, all_spots, any_may_change, are_fixed, bit_of, has_spot}
 use Rattle.vl_mean.specs.Targets.{is_decl, may_change}
 use Rattle.vl_mean.specs.Targets.{name_may_change, name_spots, spots, spots_of, vector_spots, word_spots, written}
-use Rattle.vl_path.proofs.Spots.{spot_append}
-use Rattle.flow_sets.proofs.Tests.{or_assoc, or_none}
-use Rattle.flow_uses.specs.Sized.{TargetIsSized, TargetsAreSized}
-use Rattle.flow_uses.proofs.Sizing.{sized}
-use Rattle.vl_driven.specs.Masks.{begins}
+use Rattle.vl_flow_spec.proofs.Spots.{spot_append}
+use Rattle.vl_flow_order.proofs.Tests.{or_assoc, or_none}
+use Rattle.vl_flow_cells.specs.Sized.{TargetIsSized, TargetsAreSized}
+use Rattle.vl_flow_cells.proofs.Sizing.{sized}
+use Rattle.vl_flow_effects.specs.Masks.{begins}
 
 -- ---- what is written
 

@@ -10,19 +10,20 @@ use Rattle.vl_tree.specs.Expr.{Expr}
 use Rattle.vl_tree.specs.Stmt.{Stmt, Arms, if_only, if_else, case, assume, empty, no_arms, labels, default}
 use Rattle.vl_tree.specs.StmtView.{with_arm}
 use Rattle.vl_size.specs.declared.decl.Decl.{Decl}
-use Rattle.bit_sets.specs.declared.step.Step.{Step}
-use Rattle.bit_sets.specs.Cells.{has}
-use Rattle.vl_path.specs.Reads.{Bits, reads}
-use Rattle.vl_path.specs.Paths.{is_blocking, is_nonblocking, any_kind, has_default, sure, changes, needs, arms_sure}
-use Rattle.vl_path.specs.Paths.{arms_change, arms_need, labels_read}
-use Rattle.flow_cells.specs.Numbered.{Shows}
-use Rattle.flow_uses.specs.Sized.{ArmsAreSized, LabelsAreSized, StmtIsSized}
-use Rattle.flow_effects.specs.declared.effect.Effect.{Effect}
-use Rattle.flow_effects.specs.Effects.{HasSets, IsEffectOf, IsEffectOfArms}
-use Rattle.flow_effects.specs.Joins.{IsNone, IsEither, IsBehind}
-use Rattle.flow_effects.proofs.Tests.{or_none, and_all, and_none}
-use Rattle.flow_effects.proofs.Joining.{either_sets, behind_sets, sets_as}
-use Rattle.flow_effects.proofs.Sequences.{nothing, none_sets}
+use Rattle.fv_bit_sets.specs.declared.step.Step.{Step}
+use Rattle.fv_bit_sets.specs.Cells.{has}
+use Rattle.vl_flow_spec.specs.Reads.{Bits, reads}
+use Rattle.vl_flow_spec.specs.Paths.{is_blocking, is_nonblocking, any_kind, has_default, sure, changes, needs}
+use Rattle.vl_flow_spec.specs.Paths.{arms_sure}
+use Rattle.vl_flow_spec.specs.Paths.{arms_change, arms_need, labels_read}
+use Rattle.vl_flow_cells.specs.Numbered.{Shows}
+use Rattle.vl_flow_cells.specs.Sized.{ArmsAreSized, LabelsAreSized, StmtIsSized}
+use Rattle.vl_flow_effects.specs.declared.effect.Effect.{Effect}
+use Rattle.vl_flow_effects.specs.Effects.{HasSets, IsEffectOf, IsEffectOfArms}
+use Rattle.vl_flow_effects.specs.Joins.{IsNone, IsEither, IsBehind}
+use Rattle.vl_flow_effects.proofs.Tests.{or_none, and_all, and_none}
+use Rattle.vl_flow_effects.proofs.Joining.{either_sets, behind_sets, sets_as}
+use Rattle.vl_flow_effects.proofs.Sequences.{nothing, none_sets}
 
 module _ (ds : List Decl) (attrs : Attributes) (p : Pos) where
   pub empty_effect : (e : Effect) → IsNone e → IsEffectOf ds e (empty attrs p)

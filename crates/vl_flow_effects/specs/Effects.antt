@@ -4,12 +4,12 @@ use Rattle.vl_tree.specs.declared.stmt.Arm.{Arm}
 use Rattle.vl_tree.specs.Stmt.{Stmt, Arms, stmts, no_arms}
 use Rattle.vl_tree.specs.StmtView.{with_arm}
 use Rattle.vl_size.specs.declared.decl.Decl.{Decl}
-use Rattle.bit_sets.specs.Cells.{has}
-use Rattle.vl_path.specs.Reads.{Bits}
-use Rattle.vl_path.specs.Paths.{is_blocking, is_nonblocking, any_kind, has_default, sure, changes, needs, all_sure}
-use Rattle.vl_path.specs.Paths.{any_changes, all_need, arms_sure, arms_change, arms_need}
-use Rattle.flow_cells.specs.Numbered.{Shows}
-use Rattle.flow_effects.specs.declared.effect.Effect.{Effect}
+use Rattle.fv_bit_sets.specs.Cells.{has}
+use Rattle.vl_flow_spec.specs.Reads.{Bits}
+use Rattle.vl_flow_spec.specs.Paths.{is_blocking, is_nonblocking, any_kind, has_default, sure, changes, needs, all_sure}
+use Rattle.vl_flow_spec.specs.Paths.{any_changes, all_need, arms_sure, arms_change, arms_need}
+use Rattle.vl_flow_cells.specs.Numbered.{Shows}
+use Rattle.vl_flow_effects.specs.declared.effect.Effect.{Effect}
 
 -- in the order of the two lists, each of the first with its one of the second
 abbrev pub AreEach : {A B : Type 0} → (A → B → Type 0) → List A → List B → Type 0

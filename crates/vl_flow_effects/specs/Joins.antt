@@ -1,8 +1,8 @@
 -- Effects one after the other, one of two, and behind what is read. Rule of this project.
 use Rattle.std.specs.Prelude.{◌≡◌, ℕ, List, ◌&&◌, ◌||◌, not}
-use Rattle.bit_sets.specs.declared.step.Step.{Step}
-use Rattle.bit_sets.specs.Cells.{has, IsBare}
-use Rattle.flow_effects.specs.declared.effect.Effect.{Effect}
+use Rattle.fv_bit_sets.specs.declared.step.Step.{Step}
+use Rattle.fv_bit_sets.specs.Cells.{has, IsBare}
+use Rattle.vl_flow_effects.specs.declared.effect.Effect.{Effect}
 
 -- no bit is in its sets
 pub record IsNone (e : Effect) : Type 0 where

@@ -7,9 +7,9 @@ use Rattle.vl_mean.specs.declared.driver.Start.{Start}
 use Rattle.vl_mean.specs.FlatParts.{parts_of}
 use Rattle.vl_mean.specs.Parts.{Part}
 use Rattle.vl_mean.specs.Runs.{initial_writes, is_driven, last_value}
-use Rattle.bit_sets.specs.Cells.{is_set}
-use Rattle.vl_path.specs.Reads.{Bits}
-use Rattle.flow_cells.specs.Numbered.{Shows, all_cells}
+use Rattle.fv_bit_sets.specs.Cells.{is_set}
+use Rattle.vl_flow_spec.specs.Reads.{Bits}
+use Rattle.vl_flow_cells.specs.Numbered.{Shows, all_cells}
 
 -- one for each cell, with these bits of it
 abbrev pub AreMasks : List Decl → List ℕ → Bits → Type 0

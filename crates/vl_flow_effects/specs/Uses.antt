@@ -2,11 +2,11 @@
 use Rattle.std.specs.Prelude.{◌≡◌, List, true, false}
 use Rattle.vl_size.specs.declared.decl.Decl.{Decl}
 use Rattle.vl_mean.specs.declared.driver.DriverKind.{DriverKind}
-use Rattle.bit_sets.specs.Cells.{has}
-use Rattle.vl_path.specs.Drivers.{is_clocked, needed_by, driven_by}
-use Rattle.vl_order.specs.Refusals.{latched_by, changed_by}
-use Rattle.flow_cells.specs.Numbered.{Shows}
-use Rattle.flow_effects.specs.declared.uses.Uses.{Uses}
+use Rattle.fv_bit_sets.specs.Cells.{has}
+use Rattle.vl_flow_spec.specs.Drivers.{is_clocked, needed_by, driven_by}
+use Rattle.vl_flow_spec.specs.Refusals.{latched_by, changed_by}
+use Rattle.vl_flow_cells.specs.Numbered.{Shows}
+use Rattle.vl_flow_effects.specs.declared.uses.Uses.{Uses}
 
 -- What a driver reads before it has surely assigned it, what it may assign, what a combinational block doesn't assign
 -- on each path, and what blocks assign at once and for their end.

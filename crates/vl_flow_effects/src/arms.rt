@@ -1,5 +1,5 @@
 ghost use Rattle.std.specs.Prelude.{◌≡◌, ◌||◌};
-ghost use Rattle.vl_path.specs.Paths as spec;
+ghost use Rattle.vl_flow_spec.specs.Paths as spec;
 ghost use Rattle.vl_tree.specs.Stmt.{Arms};
 ghost use Rattle.vl_tree.specs.StmtView.{arms, with_arm};
 

@@ -1,18 +1,19 @@
 ghost use Rattle.std.specs.Prelude.{◌≡◌, ◌||◌, IfOk, ℕ, List};
-ghost use Rattle.bit_sets.specs.Cells.{has};
+ghost use Rattle.fv_bit_sets.specs.Cells.{has};
 ghost use Rattle.vl_mean.specs.FlatLaw.{flat_scopes};
 ghost use Rattle.vl_mean.specs.Targets.{may_change};
-ghost use Rattle.vl_path.specs.Paths as paths;
-ghost use Rattle.vl_path.specs.Reads.{reads};
-ghost use Rattle.flow_cells.specs.Numbered.{Shows};
-ghost use Rattle.flow_cells.specs.Numbering.{IsNumberingOf};
-ghost use Rattle.flow_uses.specs.Sized.{IsSized, LabelsAreSized, TargetIsSized};
+ghost use Rattle.vl_flow_spec.specs.Paths as paths;
+ghost use Rattle.vl_flow_spec.specs.Reads.{reads};
+ghost use Rattle.vl_flow_cells.specs.Numbered.{Shows};
+ghost use Rattle.vl_flow_cells.specs.Numbering.{IsNumberingOf};
+ghost use Rattle.vl_flow_cells.specs.Sized.{IsSized, LabelsAreSized, TargetIsSized};
 
-use bit_sets::Bits;
-use flow_cells::{Numbering, bits_of};
-use flow_uses::{expr_reads, labels_read, target_changes, target_reads, target_sets};
 use fv_base::Memory;
+use fv_bit_sets::Bits;
 use std::alloc::Global;
+use vl_flow_cells::{
+    Numbering, bits_of, expr_reads, labels_read, target_changes, target_reads, target_sets,
+};
 use vl_size::Decls;
 use vl_tree::{Expr, Lval};
 

@@ -1,22 +1,21 @@
 ghost use Rattle.std.specs.Prelude.{◌≡◌, All, IfOk};
-ghost use Rattle.bit_sets.specs.Cells.{has};
-ghost use Rattle.flow_cells.specs.Numbered.{Shows};
-ghost use Rattle.flow_cells.specs.Numbering.{IsNumberingOf};
-ghost use Rattle.flow_uses.specs.Sized.{DriverIsSized};
+ghost use Rattle.fv_bit_sets.specs.Cells.{has};
+ghost use Rattle.vl_flow_cells.specs.Numbered.{Shows};
+ghost use Rattle.vl_flow_cells.specs.Numbering.{IsNumberingOf};
+ghost use Rattle.vl_flow_cells.specs.Sized.{DriverIsSized};
 ghost use Rattle.vl_mean.specs.FlatLaw.{IsDriver, flat_scopes};
 ghost use Rattle.vl_mean.specs.FlatParts.{driver_part};
 ghost use Rattle.vl_mean.specs.Runs.{is_driven_by};
-ghost use Rattle.vl_driven.specs.Masks.{AreDriven};
+ghost use Rattle.vl_flow_effects.specs.Masks.{AreDriven};
 
 use crate::masks::{masks_of, push};
-use bit_sets::Bits;
-use flow_cells::Numbering;
-use flow_effects::{Uses, uses_of};
-use flow_reads::Footprint;
-use flow_sets::union_of;
-use flow_uses::law::drivers_are_sized;
+use crate::uses::{Uses, uses_of};
 use fv_base::{List, Memory};
+use fv_bit_sets::Bits;
 use std::alloc::Global;
+use vl_flow_cells::Numbering;
+use vl_flow_cells::uses_law::drivers_are_sized;
+use vl_flow_order::{Footprint, union_of};
 use vl_mean::{Driver, DriverKind};
 use vl_size::Decls;
 

@@ -1,11 +1,11 @@
 ghost use Rattle.std.specs.Prelude.{IfOk, List, ◌<◌, ◌≡◌, length};
-ghost use Rattle.vl_path.specs.Paths.{has_default};
+ghost use Rattle.vl_flow_spec.specs.Paths.{has_default};
 ghost use Rattle.vl_size.specs.declared.decl.Decl.{Decl};
 ghost use Rattle.vl_tree.specs.Stmt.{Stmt};
 ghost use Rattle.vl_tree.specs.StmtView.{arms};
 ghost use Rattle.vl_tree.specs.declared.stmt.Arm.{Arm};
-ghost use Rattle.flow_effects.specs.Effects.{AreEach, IsEffectOf, IsEffectOfAll, IsEffectOfArm, IsEffectOfArms};
-ghost use Rattle.flow_effects.specs.Effects.{IsEffectOfSome};
+ghost use Rattle.vl_flow_effects.specs.Effects.{AreEach, IsEffectOf, IsEffectOfAll, IsEffectOfArm, IsEffectOfArms};
+ghost use Rattle.vl_flow_effects.specs.Effects.{IsEffectOfSome};
 
 use crate::effect::Effect;
 use fv_base::Memory;

@@ -1,14 +1,14 @@
 ghost use Rattle.std.specs.Prelude.{◌≡◌, ◌≤◌, ◌++◌, ◌∷◌, [], All, IfOk, OnOk, length};
-ghost use Rattle.bit_sets.specs.Cells.{has};
-ghost use Rattle.flow_cells.specs.Numbered.{Shows, all_cells};
+ghost use Rattle.fv_bit_sets.specs.Cells.{has};
+ghost use Rattle.vl_flow_cells.specs.Numbered.{Shows, all_cells};
 ghost use Rattle.vl_mean.specs.FlatLaw.{IsKept, all_names_count};
-ghost use Rattle.vl_path.specs.Reads.{Bits as BitsOf};
-ghost use Rattle.vl_driven.specs.Masks.{AreMasks};
+ghost use Rattle.vl_flow_spec.specs.Reads.{Bits as BitsOf};
+ghost use Rattle.vl_flow_effects.specs.Masks.{AreMasks};
 
-use bit_sets::Bits;
-use flow_cells::cell_count;
 use fv_base::{List, Memory};
+use fv_bit_sets::Bits;
 use std::alloc::Global;
+use vl_flow_cells::cell_count;
 use vl_size::Decls;
 
 /// How many cells declarations have.

@@ -1,14 +1,14 @@
 ghost use Rattle.std.specs.Prelude.{All, IfOk, true};
-ghost use Rattle.flow_cells.specs.Numbering.{IsNumberingOf};
+ghost use Rattle.vl_flow_cells.specs.Numbering.{IsNumberingOf};
 ghost use Rattle.vl_mean.specs.FlatLaw.{IsAssigned, is_variable};
-ghost use Rattle.vl_driven.specs.Masks.{AreStarted};
+ghost use Rattle.vl_flow_effects.specs.Masks.{AreStarted};
 
+use crate::bits::changes_of;
 use crate::masks::{masks_of, push};
-use flow_cells::Numbering;
-use flow_effects::changes_of;
-use flow_sets::union_of;
 use fv_base::{List, Memory};
 use std::alloc::Global;
+use vl_flow_cells::Numbering;
+use vl_flow_order::union_of;
 use vl_mean::Start;
 use vl_size::Decls;
 

@@ -3,18 +3,18 @@ ghost use Rattle.fv_base.specs.declared.pos.Pos.{Pos};
 ghost use Rattle.vl_tree.specs.Attributes.{Attributes};
 ghost use Rattle.vl_tree.specs.Stmt as s;
 ghost use Rattle.vl_tree.specs.StmtView.{arms, with_arm};
-ghost use Rattle.flow_cells.specs.Numbering.{IsNumberingOf};
-ghost use Rattle.flow_effects.specs.Effects.{IsEffectOf, IsEffectOfAll, IsEffectOfArm, IsEffectOfArms};
-ghost use Rattle.flow_uses.specs.Sized.{ArmsAreSized, IsSized, StmtIsSized, StmtsAreSized, TargetIsSized};
+ghost use Rattle.vl_flow_cells.specs.Numbering.{IsNumberingOf};
+ghost use Rattle.vl_flow_effects.specs.Effects.{IsEffectOf, IsEffectOfAll, IsEffectOfArm, IsEffectOfArms};
+ghost use Rattle.vl_flow_cells.specs.Sized.{ArmsAreSized, IsSized, StmtIsSized, StmtsAreSized, TargetIsSized};
 
 use crate::arms::has_default;
 use crate::bits::{assign_reads, changes_of, label_bits, reads_of, sets_of};
 use crate::effect::Effect;
 use crate::joined::{in_sequence, of_case};
-use bit_sets::Bits;
-use flow_cells::Numbering;
 use fv_base::Memory;
+use fv_bit_sets::Bits;
 use std::alloc::Global;
+use vl_flow_cells::Numbering;
 use vl_size::Decls;
 use vl_tree::{Arm, AssignKind, Expr, Lval, Stmt, StmtKind};
 

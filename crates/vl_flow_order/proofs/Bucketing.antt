@@ -4,19 +4,19 @@ use Rattle.std.specs.Prelude.{◌++◌, length, true, false}
 use Rattle.std.specs.Prelude.{Option, Some, None, is_none, slice_get}
 use Rattle.std.proofs.Common.{ap, sym, ◌∙◌, subst, arith, get_or, true≢false, ◌⊎◌, inl, inr}
 use Rattle.std.proofs.lemmas.Option.{same_Some, slice_get-get_or}
-use Rattle.bit_sets.specs.Cells.{has}
-use Rattle.graph_walk.specs.Graph.{or_empty, targets, Leads}
-use Rattle.graph_walk.proofs.Lists.{get_cases, get_less}
-use Rattle.graph_walk.proofs.Moves.{same_or_not}
-use Rattle.graph_walk.proofs.Rows.{row_at}
-use Rattle.bit_sets.specs.declared.step.Step.{Step}
-use Rattle.flow_reads.specs.declared.footprint.Footprint.{Footprint}
-use Rattle.flow_reads.specs.declared.groups.Groups.{Groups}
-use Rattle.flow_reads.specs.declared.visit.Visit.{Visit}
-use Rattle.flow_reads.specs.Edges.{HasNoEdges, AddsEdge}
-use Rattle.flow_reads.specs.Visits.{AreVisits, AreWithin}
-use Rattle.flow_reads.specs.Buckets.{AddsDriver, AddsSettled, AreBuckets}
-use Rattle.flow_reads.proofs.Growing.{grows_none, grows_edge, grows_then, grows_as}
+use Rattle.fv_bit_sets.specs.Cells.{has}
+use Rattle.fv_graph.specs.Graph.{or_empty, targets, Leads}
+use Rattle.fv_graph.proofs.Lists.{get_cases, get_less}
+use Rattle.fv_graph.proofs.Moves.{same_or_not}
+use Rattle.fv_graph.proofs.Rows.{row_at}
+use Rattle.fv_bit_sets.specs.declared.step.Step.{Step}
+use Rattle.vl_flow_order.specs.declared.footprint.Footprint.{Footprint}
+use Rattle.vl_flow_order.specs.declared.reads_groups.Groups.{Groups}
+use Rattle.vl_flow_order.specs.declared.visit.Visit.{Visit}
+use Rattle.vl_flow_order.specs.Edges.{HasNoEdges, AddsEdge}
+use Rattle.vl_flow_order.specs.Visits.{AreVisits, AreWithin}
+use Rattle.vl_flow_order.specs.Buckets.{AddsDriver, AddsSettled, AreBuckets}
+use Rattle.vl_flow_order.proofs.Growing.{grows_none, grows_edge, grows_then, grows_as}
 
 -- ---- rows without a target
 

@@ -6,14 +6,14 @@ use Rattle.std.proofs.lemmas.Bool.{cases_order}
 use Rattle.vl_size.specs.declared.decl.Decl.{Decl}
 use Rattle.vl_size.specs.Table.{declared_as}
 use Rattle.vl_mean.specs.Cells.{cells}
-use Rattle.flow_cells.specs.Numbered.{all_cells, first_cell}
-use Rattle.flow_cells.proofs.Lists.{get_some, place_in}
-use Rattle.flow_cells.proofs.Numbers.{first_none, numbered}
-use Rattle.graph_walk.proofs.Lists.{get_cases, length_more}
-use Rattle.flow_reads.specs.declared.groups.Groups.{Groups}
-use Rattle.flow_reads.specs.Groups.{AreGroups}
-use Rattle.vl_path.specs.Reads.{IsCellOf}
-use Rattle.flow_order.specs.CellGroups.{IsCellAt, AreGroupsBelow, AreGroupsOf, PutsCells}
+use Rattle.vl_flow_cells.specs.Numbered.{all_cells, first_cell}
+use Rattle.vl_flow_cells.proofs.Lists.{get_some, place_in}
+use Rattle.vl_flow_cells.proofs.Numbers.{first_none, numbered}
+use Rattle.fv_graph.proofs.Lists.{get_cases, length_more}
+use Rattle.vl_flow_order.specs.declared.reads_groups.Groups.{Groups}
+use Rattle.vl_flow_order.specs.Groups.{AreGroups}
+use Rattle.vl_flow_spec.specs.Reads.{IsCellOf}
+use Rattle.vl_flow_order.specs.CellGroups.{IsCellAt, AreGroupsBelow, AreGroupsOf, PutsCells}
 
 pub first_rises : (ds : List Decl) (i j : ℕ) → i ≤ j → first_cell ds i ≤ first_cell ds j
 first_rises [] i j le = omega arith

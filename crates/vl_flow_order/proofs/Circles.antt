@@ -9,17 +9,17 @@ use Rattle.vl_size.specs.Places.{is_earlier}
 use Rattle.fv_base.specs.declared.pos.Pos.{Pos}
 use Rattle.vl_mean.specs.declared.driver.Driver.{Driver}
 use Rattle.vl_mean.specs.Runs.{FollowedBy}
-use Rattle.vl_path.specs.Drivers.{is_clocked}
-use Rattle.vl_order.specs.Refusals.{IsLoop, ReadsFrom, Stands, last_of}
-use Rattle.flow_cells.proofs.Lists.{get_less, get_some}
-use Rattle.graph_walk.specs.Graph.{IsChain, IsCircle, Leads, last_node}
-use Rattle.flow_reads.specs.declared.footprint.Footprint.{Footprint}
-use Rattle.flow_reads.specs.declared.groups.Groups.{Groups}
-use Rattle.flow_reads.specs.Reads.{IsReadingGraph}
-use Rattle.flow_order.specs.Footprints.{AreFootprintsOf}
-use Rattle.flow_order.specs.Numbers.{AreNumbers, IsTurned, numbered, places, with_driver}
-use Rattle.flow_order.proofs.Reading.{driver_at, reads_from, reader_settled}
-use Rattle.flow_order.proofs.Turns.{turned_first, turned_from}
+use Rattle.vl_flow_spec.specs.Drivers.{is_clocked}
+use Rattle.vl_flow_spec.specs.Refusals.{IsLoop, ReadsFrom, Stands, last_of}
+use Rattle.vl_flow_cells.proofs.Lists.{get_less, get_some}
+use Rattle.fv_graph.specs.Graph.{IsChain, IsCircle, Leads, last_node}
+use Rattle.vl_flow_order.specs.declared.footprint.Footprint.{Footprint}
+use Rattle.vl_flow_order.specs.declared.reads_groups.Groups.{Groups}
+use Rattle.vl_flow_order.specs.Reads.{IsReadingGraph}
+use Rattle.vl_flow_order.specs.Footprints.{AreFootprintsOf}
+use Rattle.vl_flow_order.specs.Numbers.{AreNumbers, IsTurned, numbered, places, with_driver}
+use Rattle.vl_flow_order.proofs.OrderReading.{driver_at, reads_from, reader_settled}
+use Rattle.vl_flow_order.proofs.Turns.{turned_first, turned_from}
 
 -- ---- numbers of a circle
 

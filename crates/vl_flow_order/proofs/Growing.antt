@@ -2,10 +2,10 @@
 use Rattle.std.specs.Prelude.{◌≡◌, refl, ℕ, ◌<◌, List, [], ◌∷◌, ◌++◌, length, Some, slice_get}
 use Rattle.std.specs.Prelude.{slice_set}
 use Rattle.std.proofs.Common.{ap, sym, ◌∙◌, subst, ◌⊎◌, inl, inr}
-use Rattle.graph_walk.specs.Graph.{or_empty, targets, Leads}
-use Rattle.graph_walk.proofs.Lists.{get_set, get_unset, length_set, get_front, get_last, get_cases}
-use Rattle.graph_walk.proofs.Moves.{same_or_not}
-use Rattle.flow_reads.specs.Edges.{AddsEdge, Grows}
+use Rattle.fv_graph.specs.Graph.{or_empty, targets, Leads}
+use Rattle.fv_graph.proofs.Lists.{get_set, get_unset, length_set, get_front, get_last, get_cases}
+use Rattle.fv_graph.proofs.Moves.{same_or_not}
+use Rattle.vl_flow_order.specs.Edges.{AddsEdge, Grows}
 
 pub adds_edge : (g new : List (List ℕ)) (i j : ℕ) → i < length g
     → new ≡ slice_set g i (targets g i ++ j ∷ []) → AddsEdge g i j new

@@ -3,11 +3,11 @@ use Rattle.std.specs.Prelude.{◌≡◌, refl, ℕ, zero, suc, ◌-◌, ◌≤�
 use Rattle.std.specs.Prelude.{Bool, ◌&&◌, ◌||◌}
 use Rattle.std.proofs.Common.{ap, sym, ◌∙◌, arith, subst, length-drop, get_or}
 use Rattle.std.proofs.lemmas.List.{take_all, take-append-drop, length-take}
-use Rattle.bit_sets.specs.declared.step.Step.{Step}
-use Rattle.bit_sets.specs.Cells.{has, IsBare}
-use Rattle.flow_sets.specs.declared.crossing.Crossing.{Crossing}
-use Rattle.flow_sets.specs.Sets.{some_has, crosses, IsCrossing, IsJoined}
-use Rattle.flow_sets.proofs.Tests.{or_assoc, nothing_across, across}
+use Rattle.fv_bit_sets.specs.declared.step.Step.{Step}
+use Rattle.fv_bit_sets.specs.Cells.{has, IsBare}
+use Rattle.vl_flow_order.specs.declared.crossing.Crossing.{Crossing}
+use Rattle.vl_flow_order.specs.Sets.{some_has, crosses, IsCrossing, IsJoined}
+use Rattle.vl_flow_order.proofs.Tests.{or_assoc, nothing_across, across}
 
 pub some_append : (xs ys : List (List Step)) (c i : ℕ) → some_has (xs ++ ys) c i ≡ (some_has xs c i || some_has ys c i)
 some_append [] ys c i = refl

@@ -7,16 +7,16 @@ use Rattle.std.proofs.lemmas.Bool.Decides.{nat_tests}
 use Rattle.std.proofs.lemmas.Nat.Bits.{bit_at_above}
 use Rattle.std.proofs.lemmas.Option.{same_Some}
 use Rattle.std.specs.Int.{bit_at}
-use Rattle.bit_sets.specs.declared.step.Step.{Step}
-use Rattle.bit_sets.specs.Cells.{has, is_set, IsBare}
-use Rattle.graph_walk.proofs.Lists.{get_less}
-use Rattle.flow_reads.specs.declared.groups.Groups.{Groups}
-use Rattle.flow_reads.specs.declared.visit.Visit.{Visit}
-use Rattle.flow_reads.specs.Visits.{AreVisits}
-use Rattle.flow_sets.specs.Sets.{some_has}
-use Rattle.flow_sets.specs.Named.{AreMarks, AreNamesOf, HasBitOf, IsMark, some_visits}
-use Rattle.flow_sets.proofs.Halves.{some_append}
-use Rattle.flow_sets.proofs.Tests.{or_none, and_or}
+use Rattle.fv_bit_sets.specs.declared.step.Step.{Step}
+use Rattle.fv_bit_sets.specs.Cells.{has, is_set, IsBare}
+use Rattle.fv_graph.proofs.Lists.{get_less}
+use Rattle.vl_flow_order.specs.declared.reads_groups.Groups.{Groups}
+use Rattle.vl_flow_order.specs.declared.visit.Visit.{Visit}
+use Rattle.vl_flow_order.specs.Visits.{AreVisits}
+use Rattle.vl_flow_order.specs.Sets.{some_has}
+use Rattle.vl_flow_order.specs.Named.{AreMarks, AreNamesOf, HasBitOf, IsMark, some_visits}
+use Rattle.vl_flow_order.proofs.Halves.{some_append}
+use Rattle.vl_flow_order.proofs.Tests.{or_none, and_or}
 
 pub visits_append : (vs ws : List Visit) (g : ℕ) → some_visits (vs ++ ws) g ≡ (some_visits vs g || some_visits ws g)
 visits_append [] ws g = refl

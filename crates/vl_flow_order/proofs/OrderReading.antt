@@ -3,15 +3,15 @@ use Rattle.std.specs.Prelude.{◌≡◌, ℕ, ◌≤◌, ◌^◌, List, length, 
 use Rattle.std.proofs.Common.{ap, sym, ◌∙◌, arith, subst}
 use Rattle.vl_size.specs.declared.decl.Decl.{Decl}
 use Rattle.vl_mean.specs.declared.driver.Driver.{Driver}
-use Rattle.vl_path.specs.Drivers.{is_clocked}
-use Rattle.vl_order.specs.Refusals.{ReadsFrom}
-use Rattle.flow_cells.specs.Numbered.{all_cells}
-use Rattle.flow_cells.proofs.Lists.{get_less, get_some}
-use Rattle.graph_walk.specs.Graph.{IsWithin}
-use Rattle.flow_reads.specs.declared.footprint.Footprint.{Footprint}
-use Rattle.flow_reads.specs.declared.groups.Groups.{Groups}
-use Rattle.flow_reads.specs.Reads.{IsReadingGraph, ReadsAt}
-use Rattle.flow_order.specs.Footprints.{AreFootprintsOf}
+use Rattle.vl_flow_spec.specs.Drivers.{is_clocked}
+use Rattle.vl_flow_spec.specs.Refusals.{ReadsFrom}
+use Rattle.vl_flow_cells.specs.Numbered.{all_cells}
+use Rattle.vl_flow_cells.proofs.Lists.{get_less, get_some}
+use Rattle.fv_graph.specs.Graph.{IsWithin}
+use Rattle.vl_flow_order.specs.declared.footprint.Footprint.{Footprint}
+use Rattle.vl_flow_order.specs.declared.reads_groups.Groups.{Groups}
+use Rattle.vl_flow_order.specs.Reads.{IsReadingGraph, ReadsAt}
+use Rattle.vl_flow_order.specs.Footprints.{AreFootprintsOf}
 
 pub graph_within : (groups : Groups) (fs : List Footprint) (g h : List (List ℕ)) → IsReadingGraph groups fs g → h ≡ g
     → IsWithin h

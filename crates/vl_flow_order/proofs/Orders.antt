@@ -9,18 +9,18 @@ use Rattle.std.proofs.lemmas.List.{append-nil, take_more}
 use Rattle.std.proofs.lemmas.Option.{same_Some}
 use Rattle.vl_size.specs.declared.decl.Decl.{Decl}
 use Rattle.vl_mean.specs.declared.driver.Driver.{Driver}
-use Rattle.vl_path.specs.Drivers.{is_clocked}
-use Rattle.vl_path.proofs.Bools.{or_left, or_right, or_case}
-use Rattle.vl_order.specs.Refusals.{ReadsFrom}
-use Rattle.vl_order.specs.Sequence.{IsSequence, is_settled, has_number}
-use Rattle.flow_cells.proofs.Lists.{get_less, get_some}
-use Rattle.graph_walk.specs.Graph.{IsOrder, has_node}
-use Rattle.flow_reads.specs.declared.footprint.Footprint.{Footprint}
-use Rattle.flow_reads.specs.declared.groups.Groups.{Groups}
-use Rattle.flow_reads.specs.Reads.{IsReadingGraph}
-use Rattle.flow_order.specs.Footprints.{AreFootprintsOf}
-use Rattle.flow_order.specs.Numbers.{AreNumbers, settles, settled_of}
-use Rattle.flow_order.proofs.Reading.{reads_at}
+use Rattle.vl_flow_spec.specs.Drivers.{is_clocked}
+use Rattle.vl_flow_spec.proofs.Bools.{or_left, or_right, or_case}
+use Rattle.vl_flow_spec.specs.Refusals.{ReadsFrom}
+use Rattle.vl_flow_spec.specs.Sequence.{IsSequence, is_settled, has_number}
+use Rattle.vl_flow_cells.proofs.Lists.{get_less, get_some}
+use Rattle.fv_graph.specs.Graph.{IsOrder, has_node}
+use Rattle.vl_flow_order.specs.declared.footprint.Footprint.{Footprint}
+use Rattle.vl_flow_order.specs.declared.reads_groups.Groups.{Groups}
+use Rattle.vl_flow_order.specs.Reads.{IsReadingGraph}
+use Rattle.vl_flow_order.specs.Footprints.{AreFootprintsOf}
+use Rattle.vl_flow_order.specs.Numbers.{AreNumbers, settles, settled_of}
+use Rattle.vl_flow_order.proofs.OrderReading.{reads_at}
 
 module _ (fs : List Footprint) where
   pub settled_append : (xs ys : List ℕ) → settled_of fs (xs ++ ys) ≡ settled_of fs xs ++ settled_of fs ys

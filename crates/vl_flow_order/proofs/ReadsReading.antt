@@ -5,22 +5,22 @@ use Rattle.std.specs.Prelude.{Some, None, slice_get}
 use Rattle.std.proofs.Common.{ap, sym, ◌∙◌, subst, arith, get_or, true≢false, ◌⊎◌, inl, inr}
 use Rattle.std.proofs.lemmas.Bool.{and_from}
 use Rattle.std.proofs.lemmas.Option.{same_Some, slice_get-get_or}
-use Rattle.bit_sets.specs.declared.step.Step.{Step}
-use Rattle.bit_sets.specs.Cells.{has}
-use Rattle.graph_walk.specs.Graph.{Leads, targets}
-use Rattle.graph_walk.proofs.Lists.{get_less}
-use Rattle.graph_walk.proofs.Moves.{same_or_not}
-use Rattle.graph_walk.proofs.Rows.{row_at}
-use Rattle.flow_reads.specs.declared.footprint.Footprint.{Footprint}
-use Rattle.flow_reads.specs.declared.groups.Groups.{Groups}
-use Rattle.flow_reads.specs.declared.visit.Visit.{Visit}
-use Rattle.flow_reads.specs.Buckets.{AreBuckets}
-use Rattle.flow_reads.specs.Edges.{HasNoEdges, AddsEdge}
-use Rattle.flow_reads.specs.Reads.{AddsRead, AddsReader, AddsRow, AddsVisits, AreReaders, Drives, DrivesInGroup}
-use Rattle.flow_reads.specs.Reads.{ReadsAt}
-use Rattle.flow_reads.specs.Reads.{IsReadingGraph}
-use Rattle.flow_reads.specs.Visits.{AreVisits, AreWithin}
-use Rattle.flow_reads.proofs.Growing.{grows_none, grows_edge, grows_then, grows_as}
+use Rattle.fv_bit_sets.specs.declared.step.Step.{Step}
+use Rattle.fv_bit_sets.specs.Cells.{has}
+use Rattle.fv_graph.specs.Graph.{Leads, targets}
+use Rattle.fv_graph.proofs.Lists.{get_less}
+use Rattle.fv_graph.proofs.Moves.{same_or_not}
+use Rattle.fv_graph.proofs.Rows.{row_at}
+use Rattle.vl_flow_order.specs.declared.footprint.Footprint.{Footprint}
+use Rattle.vl_flow_order.specs.declared.reads_groups.Groups.{Groups}
+use Rattle.vl_flow_order.specs.declared.visit.Visit.{Visit}
+use Rattle.vl_flow_order.specs.Buckets.{AreBuckets}
+use Rattle.vl_flow_order.specs.Edges.{HasNoEdges, AddsEdge}
+use Rattle.vl_flow_order.specs.Reads.{AddsRead, AddsReader, AddsRow, AddsVisits, AreReaders, Drives, DrivesInGroup}
+use Rattle.vl_flow_order.specs.Reads.{ReadsAt}
+use Rattle.vl_flow_order.specs.Reads.{IsReadingGraph}
+use Rattle.vl_flow_order.specs.Visits.{AreVisits, AreWithin}
+use Rattle.vl_flow_order.proofs.Growing.{grows_none, grows_edge, grows_then, grows_as}
 
 module _ (i : ℕ) (needs : List Step) (xs : List Footprint) where
   -- ---- one driver

@@ -8,9 +8,9 @@ use Rattle.std.proofs.lemmas.Option.{same_Some, slice_get_read, slice_get-get_or
 use Rattle.fv_base.specs.declared.pos.Pos.{Pos}
 use Rattle.vl_size.specs.Places.{is_earlier}
 use Rattle.vl_mean.specs.declared.driver.Driver.{Driver}
-use Rattle.flow_cells.proofs.Lists.{get_either, get_left, get_some}
-use Rattle.graph_walk.proofs.Moves.{same_or_not}
-use Rattle.flow_order.specs.Numbers.{AreNumbers, IsEarliest, numbered, places, with_driver}
+use Rattle.vl_flow_cells.proofs.Lists.{get_either, get_left, get_some}
+use Rattle.fv_graph.proofs.Moves.{same_or_not}
+use Rattle.vl_flow_order.specs.Numbers.{AreNumbers, IsEarliest, numbered, places, with_driver}
 
 -- ---- places compare by several numbers
 

@@ -5,12 +5,12 @@ use Rattle.std.specs.Prelude.{Option, Some, None, is_none, slice_get}
 use Rattle.std.proofs.Common.{ap, sym, ◌∙◌, subst, arith, true≢false, ◌⊎◌, inl, inr}
 use Rattle.std.proofs.lemmas.Bool.{cases_lt}
 use Rattle.std.proofs.lemmas.Option.{same_Some}
-use Rattle.bit_sets.specs.declared.step.Step.{Step}
-use Rattle.bit_sets.specs.Cells.{has, IsBare, IsBefore}
-use Rattle.graph_walk.proofs.Lists.{get_front, get_last, get_cases}
-use Rattle.flow_reads.specs.declared.groups.Groups.{Groups}
-use Rattle.flow_reads.specs.declared.visit.Visit.{Visit}
-use Rattle.flow_reads.specs.Visits.{AreVisits, HasBit, Stands}
+use Rattle.fv_bit_sets.specs.declared.step.Step.{Step}
+use Rattle.fv_bit_sets.specs.Cells.{has, IsBare, IsBefore}
+use Rattle.fv_graph.proofs.Lists.{get_front, get_last, get_cases}
+use Rattle.vl_flow_order.specs.declared.reads_groups.Groups.{Groups}
+use Rattle.vl_flow_order.specs.declared.visit.Visit.{Visit}
+use Rattle.vl_flow_order.specs.Visits.{AreVisits, HasBit, Stands}
 
 abbrev pub ahead : Option ℕ → ℕ
 ahead None = 0

@@ -1,11 +1,11 @@
 -- For each group the drivers that assign a bit of it. Rule of this project.
 use Rattle.std.specs.Prelude.{◌≡◌, ℕ, ◌<◌, List, length, slice_get, true, false, Some}
-use Rattle.bit_sets.specs.Cells.{has}
-use Rattle.graph_walk.specs.Graph.{Leads}
-use Rattle.flow_reads.specs.declared.footprint.Footprint.{Footprint}
-use Rattle.flow_reads.specs.declared.groups.Groups.{Groups}
-use Rattle.flow_reads.specs.declared.visit.Visit.{Visit}
-use Rattle.flow_reads.specs.Edges.{Grows}
+use Rattle.fv_bit_sets.specs.Cells.{has}
+use Rattle.fv_graph.specs.Graph.{Leads}
+use Rattle.vl_flow_order.specs.declared.footprint.Footprint.{Footprint}
+use Rattle.vl_flow_order.specs.declared.reads_groups.Groups.{Groups}
+use Rattle.vl_flow_order.specs.declared.visit.Visit.{Visit}
+use Rattle.vl_flow_order.specs.Edges.{Grows}
 
 -- the first of the visited groups lead to the driver
 pub record AddsDriver (before : List (List ℕ)) (visits : List Visit) (count driver : ℕ) (after : List (List ℕ))

@@ -1,8 +1,8 @@
 -- The cells of each declared name as one group, under the number of the name's place. Rule of this project.
 use Rattle.std.specs.Prelude.{◌≡◌, ℕ, suc, ◌+◌, ◌<◌, ◌≤◌, List, length, Some, slice_get, ◌⊎◌}
 use Rattle.vl_size.specs.declared.decl.Decl.{Decl}
-use Rattle.flow_cells.specs.Numbered.{all_cells, first_cell}
-use Rattle.flow_reads.specs.declared.groups.Groups.{Groups}
+use Rattle.vl_flow_cells.specs.Numbered.{all_cells, first_cell}
+use Rattle.vl_flow_order.specs.declared.reads_groups.Groups.{Groups}
 
 -- the cell is one of the declaration at the place
 abbrev pub IsCellAt : List Decl → ℕ → ℕ → Type 0

@@ -1,7 +1,7 @@
 -- Graphs to which edges are added. Rule of this project.
 use Rattle.std.specs.Prelude.{◌≡◌, ℕ, List, length}
 use Rattle.std.proofs.Common.{◌⊎◌}
-use Rattle.graph_walk.specs.Graph.{Leads}
+use Rattle.fv_graph.specs.Graph.{Leads}
 
 pub record HasNoEdges (count : ℕ) (graph : List (List ℕ)) : Type 0 where
   pub size : length graph ≡ count

@@ -3,12 +3,12 @@ use Rattle.std.specs.Prelude.{◌≡◌, ℕ, List, length, Some, slice_get, tru
 use Rattle.vl_size.specs.declared.decl.Decl.{Decl}
 use Rattle.vl_mean.specs.declared.driver.Driver.{Driver}
 use Rattle.vl_mean.specs.declared.driver.DriverKind.{DriverKind}
-use Rattle.vl_path.specs.Drivers.{is_clocked, needed_by, driven_by}
-use Rattle.bit_sets.specs.Cells.{has}
-use Rattle.flow_cells.specs.Numbered.{all_cells, Shows}
-use Rattle.flow_reads.specs.declared.footprint.Footprint.{Footprint}
-use Rattle.flow_reads.specs.declared.groups.Groups.{Groups}
-use Rattle.flow_order.specs.CellGroups.{AreGroupsOf}
+use Rattle.vl_flow_spec.specs.Drivers.{is_clocked, needed_by, driven_by}
+use Rattle.fv_bit_sets.specs.Cells.{has}
+use Rattle.vl_flow_cells.specs.Numbered.{all_cells, Shows}
+use Rattle.vl_flow_order.specs.declared.footprint.Footprint.{Footprint}
+use Rattle.vl_flow_order.specs.declared.reads_groups.Groups.{Groups}
+use Rattle.vl_flow_order.specs.CellGroups.{AreGroupsOf}
 
 pub record IsFootprintOf (ds : List Decl) (f : Footprint) (x : DriverKind) : Type 0 where
   pub clocked : f.is_clocked ≡ is_clocked x

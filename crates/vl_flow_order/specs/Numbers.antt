@@ -4,7 +4,7 @@ use Rattle.std.specs.Prelude.{Option, Some, None, slice_get, if◌then◌else◌
 use Rattle.fv_base.specs.declared.pos.Pos.{Pos}
 use Rattle.vl_size.specs.Places.{is_earlier}
 use Rattle.vl_mean.specs.declared.driver.Driver.{Driver}
-use Rattle.flow_reads.specs.declared.footprint.Footprint.{Footprint}
+use Rattle.vl_flow_order.specs.declared.footprint.Footprint.{Footprint}
 
 abbrev pub AreNumbers : ℕ → List ℕ → Type 0
 AreNumbers count numbers = (k n : ℕ) → slice_get numbers k ≡ Some n → n < count

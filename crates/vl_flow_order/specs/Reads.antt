@@ -1,12 +1,12 @@
 -- Which drivers read bits that others assign. Rule of this project.
 use Rattle.std.specs.Prelude.{◌≡◌, ℕ, ◌<◌, ◌≤◌, List, length, slice_get, true, false, Some}
-use Rattle.bit_sets.specs.declared.step.Step.{Step}
-use Rattle.bit_sets.specs.Cells.{has}
-use Rattle.graph_walk.specs.Graph.{Leads}
-use Rattle.flow_reads.specs.declared.footprint.Footprint.{Footprint}
-use Rattle.flow_reads.specs.declared.groups.Groups.{Groups}
-use Rattle.flow_reads.specs.declared.visit.Visit.{Visit}
-use Rattle.flow_reads.specs.Edges.{Grows}
+use Rattle.fv_bit_sets.specs.declared.step.Step.{Step}
+use Rattle.fv_bit_sets.specs.Cells.{has}
+use Rattle.fv_graph.specs.Graph.{Leads}
+use Rattle.vl_flow_order.specs.declared.footprint.Footprint.{Footprint}
+use Rattle.vl_flow_order.specs.declared.reads_groups.Groups.{Groups}
+use Rattle.vl_flow_order.specs.declared.visit.Visit.{Visit}
+use Rattle.vl_flow_order.specs.Edges.{Grows}
 
 abbrev pub AreDrivers : List Footprint → List ℕ → Type 0
 AreDrivers xs row = (m j : ℕ) → slice_get row m ≡ Some j → j < length xs

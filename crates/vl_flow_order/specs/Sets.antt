@@ -1,8 +1,8 @@
 -- Which bits several sets have. Rule of this project.
 use Rattle.std.specs.Prelude.{◌≡◌, ℕ, List, [], ◌∷◌, Bool, false, ◌&&◌, ◌||◌}
-use Rattle.bit_sets.specs.declared.step.Step.{Step}
-use Rattle.bit_sets.specs.Cells.{has}
-use Rattle.flow_sets.specs.declared.crossing.Crossing.{Crossing}
+use Rattle.fv_bit_sets.specs.declared.step.Step.{Step}
+use Rattle.fv_bit_sets.specs.Cells.{has}
+use Rattle.vl_flow_order.specs.declared.crossing.Crossing.{Crossing}
 
 -- one of the sets has the bit
 abbrev pub some_has : List (List Step) → ℕ → ℕ → Bool

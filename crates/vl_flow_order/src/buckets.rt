@@ -1,11 +1,11 @@
 ghost use Rattle.std.specs.Prelude.{◌≡◌, ◌≤◌, ◌^◌, length, IfOk, OnOk};
-ghost use Rattle.flow_reads.specs.Buckets.{AddsDriver, AddsSettled, AreBuckets};
-ghost use Rattle.flow_reads.specs.Edges.{HasNoEdges};
-ghost use Rattle.flow_reads.specs.Visits.{AreWithin};
+ghost use Rattle.vl_flow_order.specs.Buckets.{AddsDriver, AddsSettled, AreBuckets};
+ghost use Rattle.vl_flow_order.specs.Edges.{HasNoEdges};
+ghost use Rattle.vl_flow_order.specs.Visits.{AreWithin};
 
 use crate::edge::add_edge;
 use crate::footprint::Footprint;
-use crate::groups::Groups;
+use crate::reads_groups::Groups;
 use crate::visit::{Visit, visits_of};
 use fv_base::{List, Memory};
 use std::alloc::Global;

@@ -1,6 +1,6 @@
 ghost use Rattle.std.specs.Prelude.{◌≡◌, ◌<◌, ◌++◌, ◌∷◌, [], length, slice_set, OnOk};
-ghost use Rattle.graph_walk.specs.Graph.{targets};
-ghost use Rattle.flow_reads.specs.Edges.{AddsEdge};
+ghost use Rattle.fv_graph.specs.Graph.{targets};
+ghost use Rattle.vl_flow_order.specs.Edges.{AddsEdge};
 
 use fv_base::{List, Memory};
 

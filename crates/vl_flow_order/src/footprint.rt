@@ -1,4 +1,4 @@
-use bit_sets::Bits;
+use fv_bit_sets::Bits;
 
 /// What a driver reads before it has surely assigned it, and what it may assign.
 #[derive(Debug, Drop)]

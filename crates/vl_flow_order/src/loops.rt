@@ -1,10 +1,10 @@
 ghost use Rattle.std.specs.Prelude.{◌≡◌, ◌+◌, ◌<◌, ℕ, List, Some, IfOk, length, slice_get};
-ghost use Rattle.graph_walk.specs.Graph.{IsCircle};
+ghost use Rattle.fv_graph.specs.Graph.{IsCircle};
 ghost use Rattle.vl_mean.specs.declared.driver.Driver.{Driver};
-ghost use Rattle.flow_order.specs.Numbers.{AreNumbers, IsEarliest, IsTurned, numbered, places};
+ghost use Rattle.vl_flow_order.specs.Numbers.{AreNumbers, IsEarliest, IsTurned, numbered, places};
 
 use fv_base::{List, Memory, Pos};
-use graph_walk::circle_from;
+use fv_graph::circle_from;
 use std::alloc::Global;
 use vl_mean::Driver;
 use vl_size::earlier::is_earlier;

@@ -1,11 +1,12 @@
 ghost use Rattle.std.specs.Prelude.{◌≡◌, ◌++◌, ◌∷◌, [], IfOk, OnOk};
-ghost use Rattle.bit_sets.specs.Cells.{has};
-ghost use Rattle.flow_sets.specs.Named.{AreMarks, AreNamesOf, IsMark};
+ghost use Rattle.fv_bit_sets.specs.Cells.{has};
+ghost use Rattle.vl_flow_order.specs.Named.{AreMarks, AreNamesOf, IsMark};
 
+use crate::reads_groups::Groups;
 use crate::union::union_of;
-use bit_sets::Bits;
-use flow_reads::{Groups, visits_of};
+use crate::visit::visits_of;
 use fv_base::Memory;
+use fv_bit_sets::Bits;
 use std::alloc::Global;
 
 /// Bit 0 of the cell with this number.

@@ -1,12 +1,12 @@
 ghost use Rattle.std.specs.Prelude.{◌≡◌, ◌+◌, ◌<◌, ◌≤◌, suc, length, All, IfOk, OnOk};
 ghost use Rattle.vl_mean.specs.FlatLaw.{IsKept, all_names_count};
-ghost use Rattle.flow_cells.specs.Numbered.{first_cell};
-ghost use Rattle.flow_order.specs.CellGroups.{AreGroupsOf, PutsCells};
+ghost use Rattle.vl_flow_cells.specs.Numbered.{first_cell};
+ghost use Rattle.vl_flow_order.specs.CellGroups.{AreGroupsOf, PutsCells};
 
-use flow_cells::cell_count;
-use flow_reads::Groups;
+use crate::reads_groups::Groups;
 use fv_base::{List, Memory};
 use std::alloc::Global;
+use vl_flow_cells::cell_count;
 use vl_size::Decls;
 
 /// How many cells the declaration at a place has.

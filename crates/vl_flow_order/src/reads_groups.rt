@@ -1,4 +1,4 @@
-ghost use Rattle.flow_reads.specs.Groups.{AreGroups, groups_prop};
+ghost use Rattle.vl_flow_order.specs.Groups.{AreGroups, groups_prop};
 
 use fv_base::List;
 

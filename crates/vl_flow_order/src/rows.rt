@@ -1,16 +1,16 @@
 ghost use Rattle.std.specs.Prelude.{◌≡◌, ◌<◌, ◌≤◌, ◌^◌, ℕ, length, IfOk, OnOk};
-ghost use Rattle.graph_walk.specs.Graph.{Leads};
-ghost use Rattle.flow_reads.specs.Buckets.{AreBuckets};
-ghost use Rattle.flow_reads.specs.Reads.{AddsRead, AddsReader, AddsRow, AddsVisits, AreDrivers, IsReadingGraph};
-ghost use Rattle.flow_reads.specs.Visits.{AreWithin};
+ghost use Rattle.fv_graph.specs.Graph.{Leads};
+ghost use Rattle.vl_flow_order.specs.Buckets.{AreBuckets};
+ghost use Rattle.vl_flow_order.specs.Reads.{AddsRead, AddsReader, AddsRow, AddsVisits, AreDrivers, IsReadingGraph};
+ghost use Rattle.vl_flow_order.specs.Visits.{AreWithin};
 
 use crate::buckets::{buckets_of, empty_rows};
 use crate::edge::add_edge;
 use crate::footprint::Footprint;
-use crate::groups::Groups;
+use crate::reads_groups::Groups;
 use crate::visit::{Visit, visits_of};
-use bit_sets::Bits;
 use fv_base::{List, Memory};
+use fv_bit_sets::Bits;
 use std::alloc::Global;
 
 /// Lets the reader lead to the driver where they have a bit in common in the visited group.

@@ -1,14 +1,16 @@
 ghost use Rattle.std.specs.Prelude.{◌≡◌, ◌++◌, ◌∷◌, [], ◌<◌, ◌≤◌, ◌^◌, List, length, IfOk, OnOk};
 ghost use Rattle.vl_size.specs.declared.decl.Decl.{Decl};
-ghost use Rattle.flow_order.specs.Footprints.{AreFootprintsOf};
-ghost use Rattle.flow_order.specs.Found.{Tells};
-ghost use Rattle.flow_order.specs.Numbers.{AreNumbers, settled_of};
+ghost use Rattle.vl_flow_order.specs.Footprints.{AreFootprintsOf};
+ghost use Rattle.vl_flow_order.specs.Found.{Tells};
+ghost use Rattle.vl_flow_order.specs.Numbers.{AreNumbers, settled_of};
 
+use crate::footprint::Footprint;
 use crate::found::Found;
 use crate::loops::loop_of;
-use flow_reads::{Footprint, Groups, reading_graph};
+use crate::reads_groups::Groups;
+use crate::rows::reading_graph;
 use fv_base::{List, Memory};
-use graph_walk::{Walked, walk};
+use fv_graph::{Walked, walk};
 use std::alloc::Global;
 use vl_mean::Driver;
 

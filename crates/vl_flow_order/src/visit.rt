@@ -1,10 +1,10 @@
 ghost use Rattle.std.specs.Prelude.{◌≡◌, ◌<◌, ◌≤◌, ◌++◌, ◌∷◌, [], length, None, IfOk};
 ghost use Rattle.std.specs.Prelude.{IfNone, IfSome, OnOk};
-ghost use Rattle.flow_reads.specs.Visits.{AreVisits, Stands};
+ghost use Rattle.vl_flow_order.specs.Visits.{AreVisits, Stands};
 
-use crate::groups::Groups;
-use bit_sets::Bits;
+use crate::reads_groups::Groups;
 use fv_base::Memory;
+use fv_bit_sets::Bits;
 use std::alloc::Global;
 
 /// A group of which some bit is in a set: the first such cell, and the cell behind the group.

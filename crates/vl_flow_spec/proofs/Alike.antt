@@ -17,12 +17,12 @@ use Rattle.vl_mean.specs.Execution.{assigned, wild_bits, matches}
 use Rattle.vl_mean.specs.FlatLaw.{flat_scopes, IsReadIn, IsTarget, AreTargets}
 use Rattle.vl_mean.specs.Scopes.{operand_in, is_clock_class}
 use Rattle.vl_mean.specs.Targets.{Spot, bit_of, spots_from, word_index, full_word, spots_of, spots, all_spots, written}
-use Rattle.vl_same.proofs.SameTarget.{flat_operand}
-use Rattle.vl_path.specs.Reads.{Bits, Covers, IsCellOf, AgreeOn, AreInRange, reads, selects_read}
-use Rattle.vl_path.specs.Paths.{target_reads, targets_read, labels_read}
-use Rattle.vl_path.proofs.Bools.{or_left, or_right, or_either}
-use Rattle.vl_path.proofs.Flat.{index_in, vector_bits, word_bits, name_bits, flat_name}
-use Rattle.vl_path.proofs.Same.{bind_first, bind_then, bind_next, index_same, same_value}
+use Rattle.vl_mean_flat.proofs.SameTarget.{flat_operand}
+use Rattle.vl_flow_spec.specs.Reads.{Bits, Covers, IsCellOf, AgreeOn, AreInRange, reads, selects_read}
+use Rattle.vl_flow_spec.specs.Paths.{target_reads, targets_read, labels_read}
+use Rattle.vl_flow_spec.proofs.Bools.{or_left, or_right, or_either}
+use Rattle.vl_flow_spec.proofs.Flat.{index_in, vector_bits, word_bits, name_bits, flat_name}
+use Rattle.vl_flow_spec.proofs.Same.{bind_first, bind_then, bind_next, index_same, same_value}
 
 infixl 20 ◌∪◌
 abbrev pub ◌∪◌ : Bits → Bits → Bits

@@ -16,8 +16,8 @@ use Rattle.vl_size.specs.declared.decl.Decl.{Decl}
 use Rattle.vl_size.specs.Table.{span, is_between, word_name, declared_as, IsNoWordIn, HasNoWord, AreApart}
 use Rattle.vl_mean.specs.Cells.{contains_name, words_from, cells_of, is_cell}
 use Rattle.vl_mean.specs.Runs.{Each}
-use Rattle.vl_path.specs.Reads.{IsCellOf}
-use Rattle.vl_path.proofs.Bools.{or_left, or_right, or_case}
+use Rattle.vl_flow_spec.specs.Reads.{IsCellOf}
+use Rattle.vl_flow_spec.proofs.Bools.{or_left, or_right, or_case}
 
 -- ---- each of the cells
 

@@ -11,15 +11,15 @@ use Rattle.vl_mean.specs.declared.driver.Driver.{Driver}
 use Rattle.vl_mean.specs.declared.driver.DriverKind.{DriverKind}
 use Rattle.vl_mean.specs.declared.driver.DriverKind.TheVariants as k
 use Rattle.vl_mean.specs.FlatLaw.{IsDriver, IsKept}
-use Rattle.vl_path.specs.Drivers.{is_clocked, needed_by, driven_by, driven_by_any, Apart, AreInOrder, IsWhole}
-use Rattle.vl_path.specs.Settle.{driven, AreOneOn, AreMet, AreAccepted}
-use Rattle.vl_path.proofs.Bools.{or_left, or_right, or_case, none_of}
-use Rattle.vl_path.proofs.Cells.{HaveOwnCells}
-use Rattle.vl_order.specs.Refusals.{ReadsFrom, latch, two_drivers, mixed, HasNoRefusal}
-use Rattle.vl_order.specs.Sequence.{is_settled, has_number}
-use Rattle.vl_order.proofs.Elements.{nothing, all_at}
-use Rattle.vl_order.proofs.Single.{single, target_once}
-use Rattle.vl_order.proofs.Whole.{comb_is_whole}
+use Rattle.vl_flow_spec.specs.Drivers.{is_clocked, needed_by, driven_by, driven_by_any, Apart, AreInOrder, IsWhole}
+use Rattle.vl_flow_spec.specs.Settle.{driven, AreOneOn, AreMet, AreAccepted}
+use Rattle.vl_flow_spec.proofs.Bools.{or_left, or_right, or_case, none_of}
+use Rattle.vl_flow_spec.proofs.Cells.{HaveOwnCells}
+use Rattle.vl_flow_spec.specs.Refusals.{ReadsFrom, latch, two_drivers, mixed, HasNoRefusal}
+use Rattle.vl_flow_spec.specs.Sequence.{is_settled, has_number}
+use Rattle.vl_flow_spec.proofs.Elements.{nothing, all_at}
+use Rattle.vl_flow_spec.proofs.Single.{single, target_once}
+use Rattle.vl_flow_spec.proofs.Whole.{comb_is_whole}
 
 -- ---- numbers and places
 

@@ -34,12 +34,12 @@ use Rattle.vl_mean.specs.FlatLaw.{flat_scopes, IsTarget, AreTargets, IsBlock, Ar
 use Rattle.vl_mean.specs.FlatLaw.{is_variable, case_context}
 use Rattle.vl_mean.specs.Scopes.{no_values}
 use Rattle.vl_mean.specs.Targets.{is_decl, has_spot, may_change, any_may_change}
-use Rattle.vl_path.specs.Drivers.{driven_by}
-use Rattle.vl_path.specs.Reads.{IsCellOf}
-use Rattle.vl_path.proofs.Bools.{or_case, and_left, and_right}
-use Rattle.vl_path.proofs.Flat.{fixed, name_bits}
-use Rattle.vl_path.proofs.Same.{declared_name, selected_at}
-use Rattle.vl_path.proofs.Targets.{name_spot_is}
+use Rattle.vl_flow_spec.specs.Drivers.{driven_by}
+use Rattle.vl_flow_spec.specs.Reads.{IsCellOf}
+use Rattle.vl_flow_spec.proofs.Bools.{or_case, and_left, and_right}
+use Rattle.vl_flow_spec.proofs.Flat.{fixed, name_bits}
+use Rattle.vl_flow_spec.proofs.Same.{declared_name, selected_at}
+use Rattle.vl_flow_spec.proofs.Targets.{name_spot_is}
 
 -- a bit of a declared name of such a kind
 pub record IsBitOfKind (ds : List Decl) (may : Decl → Bool) (n : List ℕ) (i : ℕ) : Type 0 where

@@ -20,20 +20,21 @@ use Rattle.vl_mean.specs.Runs.{Each, EachBelow, EachBit, EachDeclared, OnlyIf, A
 use Rattle.vl_mean.specs.Runs.{is_driven, is_chosen, ChoosesAlike}
 use Rattle.vl_mean.specs.Scopes.{Scope, is_clock_class}
 use Rattle.vl_mean.specs.Targets.{bit_of}
-use Rattle.vl_path.specs.Drivers.{is_clocked, driven_by, driven_by_any}
-use Rattle.vl_path.specs.Reads.{IsCellOf, AreInRange}
-use Rattle.vl_path.specs.Settle.{IsBitOf}
-use Rattle.vl_same.proofs.EachOf.{each_map}
-use Rattle.vl_path.proofs.Bools.{or_left, or_right, or_case, none_of}
-use Rattle.vl_path.proofs.Cells.{HaveOwnCells, each_contained, each_of_contained}
-use Rattle.vl_order.specs.Refusals.{undriven, driven_in, with_bit_of, first_below}
-use Rattle.vl_order.specs.Sequence.{is_settled, has_number}
-use Rattle.vl_order.proofs.Chain.{AreSettled, kinds, driver_of, driven_of, settled_there}
-use Rattle.vl_order.proofs.Changed.{driver_changed, may_drive}
-use Rattle.vl_order.proofs.Elements.{all_at, each_declared_as, each_below_at, each_below_of, driver_parts, start_parts}
-use Rattle.vl_order.proofs.Elements.{decl_parts}
-use Rattle.vl_order.proofs.Found.{none_below, none_of_names}
-use Rattle.vl_order.proofs.Single.{net_is_vector, vector_cell, not_both_kinds}
+use Rattle.vl_flow_spec.specs.Drivers.{is_clocked, driven_by, driven_by_any}
+use Rattle.vl_flow_spec.specs.Reads.{IsCellOf, AreInRange}
+use Rattle.vl_flow_spec.specs.Settle.{IsBitOf}
+use Rattle.vl_mean_flat.proofs.EachOf.{each_map}
+use Rattle.vl_flow_spec.proofs.Bools.{or_left, or_right, or_case, none_of}
+use Rattle.vl_flow_spec.proofs.Cells.{HaveOwnCells, each_contained, each_of_contained}
+use Rattle.vl_flow_spec.specs.Refusals.{undriven, driven_in, with_bit_of, first_below}
+use Rattle.vl_flow_spec.specs.Sequence.{is_settled, has_number}
+use Rattle.vl_flow_spec.proofs.Chain.{AreSettled, kinds, driver_of, driven_of, settled_there}
+use Rattle.vl_flow_spec.proofs.Changed.{driver_changed, may_drive}
+use Rattle.vl_flow_spec.proofs.Elements.{all_at, each_declared_as, each_below_at, each_below_of, driver_parts}
+use Rattle.vl_flow_spec.proofs.Elements.{start_parts}
+use Rattle.vl_flow_spec.proofs.Elements.{decl_parts}
+use Rattle.vl_flow_spec.proofs.Found.{none_below, none_of_names}
+use Rattle.vl_flow_spec.proofs.Single.{net_is_vector, vector_cell, not_both_kinds}
 
 -- ---- declared names among the parts
 

@@ -50,13 +50,14 @@ use Rattle.vl_mean.specs.FlatLaw.{is_variable}
 use Rattle.vl_mean.specs.FlatLaw.{names_in, names_in_all, names_in_selects}
 use Rattle.vl_mean.specs.Scopes.{is_clock_class, is_clock_decl, no_values}
 use Rattle.vl_mean.specs.Targets.{is_decl, has_spot}
-use Rattle.vl_path.specs.Reads.{Bits, IsCellOf, selected, reads, parts_read, selects_read}
-use Rattle.vl_path.specs.Paths.{is_blocking, target_reads, targets_read, labels_read, sure, needs, all_need, arms_need}
-use Rattle.vl_path.proofs.Bools.{or_case, and_left, and_right}
-use Rattle.vl_path.proofs.Cells.{HaveOwnCells}
-use Rattle.vl_path.proofs.Flat.{fixed, name_bits, decl_selected, flat_selected}
-use Rattle.vl_path.proofs.Same.{declared_name}
-use Rattle.vl_path.proofs.Targets.{name_spot_is}
+use Rattle.vl_flow_spec.specs.Reads.{Bits, IsCellOf, selected, reads, parts_read, selects_read}
+use Rattle.vl_flow_spec.specs.Paths.{is_blocking, target_reads, targets_read, labels_read, sure, needs, all_need}
+use Rattle.vl_flow_spec.specs.Paths.{arms_need}
+use Rattle.vl_flow_spec.proofs.Bools.{or_case, and_left, and_right}
+use Rattle.vl_flow_spec.proofs.Cells.{HaveOwnCells}
+use Rattle.vl_flow_spec.proofs.Flat.{fixed, name_bits, decl_selected, flat_selected}
+use Rattle.vl_flow_spec.proofs.Same.{declared_name}
+use Rattle.vl_flow_spec.proofs.Targets.{name_spot_is}
 
 module _ {X : Type 0} (P : X → Type 0) where
   all_front : (xs ys : List X) → All P (xs ++ ys) → All P xs

@@ -14,7 +14,7 @@ use Rattle.vl_mean.specs.FlatParts.{driver_part, start_part}
 use Rattle.vl_mean.specs.Parts.{Part, declares}
 use Rattle.vl_mean.specs.Runs.{Each, EachBelow}
 use Rattle.vl_mean.specs.Scopes.{Scope}
-use Rattle.vl_path.proofs.Bools.{left_none, right_none, none_of}
+use Rattle.vl_flow_spec.proofs.Bools.{left_none, right_none, none_of}
 
 -- ---- nothing
 

@@ -34,16 +34,17 @@ use Rattle.vl_mean.specs.FlatLaw.{is_variable}
 use Rattle.vl_mean.specs.FlatLaw.{is_net}
 use Rattle.vl_mean.specs.Scopes.{operand_in, is_clock_class}
 use Rattle.vl_mean.specs.Targets.{Write, bit_of, put_all, spots, has_spot}
-use Rattle.vl_path.specs.Reads.{Bits, Covers, IsCellOf, reads}
-use Rattle.vl_path.specs.Paths.{is_blocking, target_reads, sets, labels_read, has_default, sure, all_sure, arms_sure}
-use Rattle.vl_path.specs.Paths.{needs, all_need, arms_need}
-use Rattle.vl_path.specs.Settle.{IsBitOf}
-use Rattle.vl_path.proofs.Alike.{Alike, ◌∪◌, fewer, operand_same, assigned_alike, matches_alike}
-use Rattle.vl_path.proofs.Bools.{or_left, or_right, or_either, or_moved, or_sure, or_other, and_both, and_left}
-use Rattle.vl_path.proofs.Bools.{and_right}
-use Rattle.vl_path.proofs.Cells.{HaveOwnCells}
-use Rattle.vl_path.proofs.Targets.{Marks, marks}
-use Rattle.vl_path.proofs.Writes.{writes_to, AreSmall, written_to, written_small, puts_bit, puts_fit}
+use Rattle.vl_flow_spec.specs.Reads.{Bits, Covers, IsCellOf, reads}
+use Rattle.vl_flow_spec.specs.Paths.{is_blocking, target_reads, sets, labels_read, has_default, sure, all_sure}
+use Rattle.vl_flow_spec.specs.Paths.{arms_sure}
+use Rattle.vl_flow_spec.specs.Paths.{needs, all_need, arms_need}
+use Rattle.vl_flow_spec.specs.Settle.{IsBitOf}
+use Rattle.vl_flow_spec.proofs.Alike.{Alike, ◌∪◌, fewer, operand_same, assigned_alike, matches_alike}
+use Rattle.vl_flow_spec.proofs.Bools.{or_left, or_right, or_either, or_moved, or_sure, or_other, and_both, and_left}
+use Rattle.vl_flow_spec.proofs.Bools.{and_right}
+use Rattle.vl_flow_spec.proofs.Cells.{HaveOwnCells}
+use Rattle.vl_flow_spec.proofs.Targets.{Marks, marks}
+use Rattle.vl_flow_spec.proofs.Writes.{writes_to, AreSmall, written_to, written_small, puts_bit, puts_fit}
 
 -- both states have these bits in common, and what waits and what was assumed
 pub record SameState (ds : List Decl) (K : Bits) (t u : State) : Type 0 where

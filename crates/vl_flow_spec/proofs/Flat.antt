@@ -12,7 +12,7 @@ use Rattle.vl_mean.specs.FlatLaw.{flat_scopes}
 use Rattle.vl_mean.specs.Scopes.{constant_in, full, no_values, operand_in}
 use Rattle.vl_mean.specs.Targets.{Spot, spots_from, word_index, full_word, spots_of, is_decl, has_spot, vector_spots}
 use Rattle.vl_mean.specs.Targets.{word_spots, name_spots, are_fixed, name_may_change}
-use Rattle.vl_same.proofs.SameTarget.{flat_constant, flat_full, flat_declared, flat_operand, settled-none}
+use Rattle.vl_mean_flat.proofs.SameTarget.{flat_constant, flat_full, flat_declared, flat_operand, settled-none}
 
 module _ (ds : List Decl) where
   abbrev pub index_in : Values → Expr → ℤ

@@ -10,9 +10,10 @@ use Rattle.vl_size.specs.declared.decl.Decl.{Decl}
 use Rattle.vl_size.specs.Places.{is_earlier}
 use Rattle.vl_mean.specs.Cells.{contains_name, cells, is_cell}
 use Rattle.vl_mean.specs.Runs.{Each}
-use Rattle.vl_path.specs.Reads.{Bits}
-use Rattle.vl_path.proofs.Bools.{or_left, or_right, or_case}
-use Rattle.vl_order.specs.Refusals.{first_below, some_below, some_cell, has_bit, first_of_names, with_place, in_order}
+use Rattle.vl_flow_spec.specs.Reads.{Bits}
+use Rattle.vl_flow_spec.proofs.Bools.{or_left, or_right, or_case}
+use Rattle.vl_flow_spec.specs.Refusals.{first_below, some_below, some_cell, has_bit, first_of_names, with_place}
+use Rattle.vl_flow_spec.specs.Refusals.{in_order}
 
 -- ---- bits
 

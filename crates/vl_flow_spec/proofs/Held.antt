@@ -17,22 +17,22 @@ use Rattle.vl_mean.specs.Parts.{Part, declares}
 use Rattle.vl_mean.specs.Runs.{Each, InRange, Agrees, PartHolds, Holds, ChoosesAlike}
 use Rattle.vl_mean.specs.Runs.{is_chosen}
 use Rattle.vl_mean.specs.Scopes.{Scope, is_clock_class}
-use Rattle.vl_path.specs.Drivers.{is_clocked, AreInOrder}
-use Rattle.vl_path.specs.Reads.{AreInRange}
-use Rattle.vl_path.specs.Settle.{driven, settle, AreMet, AreAccepted}
-use Rattle.vl_path.proofs.Cells.{HaveOwnCells, declared_all, own_cells}
-use Rattle.vl_path.proofs.Settling.{settled_in_range, settled_keeps, settled_is_met, one_map}
-use Rattle.vl_same.proofs.EachOf.{both, front, back}
-use Rattle.vl_order.specs.Refusals.{undriven, HasNoRefusal}
-use Rattle.vl_order.specs.Sequence.{IsSequence}
-use Rattle.vl_order.proofs.Chain.{kinds, Leaves, met_of, leaves_of, accepted, in_order_of, settled_there}
-use Rattle.vl_order.proofs.Chain.{whole_as}
-use Rattle.vl_order.proofs.Choices.{agree_at, agrees_all, in_range_of, in_range_all, chosen_at, chooses_alike}
-use Rattle.vl_order.proofs.Choices.{chosen_is_free, free_is_chosen}
-use Rattle.vl_order.proofs.Elements.{nothing, all_at, each_at, each_of_places, all_declared, driver_parts}
-use Rattle.vl_order.proofs.Elements.{start_parts, decl_parts}
-use Rattle.vl_order.proofs.Elements.{each_mapped, each_map_of}
-use Rattle.vl_order.proofs.Leaving.{leaves_assigned, assigned_meets, leaves_run, run_same, same_numbers}
+use Rattle.vl_flow_spec.specs.Drivers.{is_clocked, AreInOrder}
+use Rattle.vl_flow_spec.specs.Reads.{AreInRange}
+use Rattle.vl_flow_spec.specs.Settle.{driven, settle, AreMet, AreAccepted}
+use Rattle.vl_flow_spec.proofs.Cells.{HaveOwnCells, declared_all, own_cells}
+use Rattle.vl_flow_spec.proofs.Settling.{settled_in_range, settled_keeps, settled_is_met, one_map}
+use Rattle.vl_mean_flat.proofs.EachOf.{both, front, back}
+use Rattle.vl_flow_spec.specs.Refusals.{undriven, HasNoRefusal}
+use Rattle.vl_flow_spec.specs.Sequence.{IsSequence}
+use Rattle.vl_flow_spec.proofs.Chain.{kinds, Leaves, met_of, leaves_of, accepted, in_order_of, settled_there}
+use Rattle.vl_flow_spec.proofs.Chain.{whole_as}
+use Rattle.vl_flow_spec.proofs.Choices.{agree_at, agrees_all, in_range_of, in_range_all, chosen_at, chooses_alike}
+use Rattle.vl_flow_spec.proofs.Choices.{chosen_is_free, free_is_chosen}
+use Rattle.vl_flow_spec.proofs.Elements.{nothing, all_at, each_at, each_of_places, all_declared, driver_parts}
+use Rattle.vl_flow_spec.proofs.Elements.{start_parts, decl_parts}
+use Rattle.vl_flow_spec.proofs.Elements.{each_mapped, each_map_of}
+use Rattle.vl_flow_spec.proofs.Leaving.{leaves_assigned, assigned_meets, leaves_run, run_same, same_numbers}
 
 wide_of : (ds : List Decl) → All IsShaped ds → (d : Decl) → declared_as ds d.name ≡ Some d → 1 ≤ d.width
 wide_of ds shaped d own = (declared_all IsShaped ds d.name d own shaped).some_bits

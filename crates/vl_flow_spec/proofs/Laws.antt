@@ -8,16 +8,16 @@ use Rattle.vl_size.specs.Table.{declared_as, IsShaped, AreApart}
 use Rattle.vl_mean.specs.Execution.{begun, exec, assigns}
 use Rattle.vl_mean.specs.FlatLaw.{flat_scopes, IsBlock}
 use Rattle.vl_mean.specs.Targets.{bit_of}
-use Rattle.vl_path.specs.Depends.{done, EndsAlike}
-use Rattle.vl_path.specs.Paths.{is_blocking, sure, needs}
-use Rattle.vl_path.specs.Reads.{AgreeOn, AreInRange, Bits, IsCellOf, reads}
-use Rattle.vl_path.proofs.Alike.{Alike, fewer, agree_of, ◌∪◌}
-use Rattle.vl_path.proofs.Bools.{or_right}
-use Rattle.vl_path.proofs.Cells.{declared_all, own_cells}
-use Rattle.vl_path.proofs.Clockless.{needs_no_clock}
-use Rattle.vl_path.proofs.Execs.{SameState, exec_same}
-use Rattle.vl_path.proofs.Same.{same_value}
-use Rattle.vl_path.proofs.Stays.{exec_stays}
+use Rattle.vl_flow_spec.specs.Depends.{done, EndsAlike}
+use Rattle.vl_flow_spec.specs.Paths.{is_blocking, sure, needs}
+use Rattle.vl_flow_spec.specs.Reads.{AgreeOn, AreInRange, Bits, IsCellOf, reads}
+use Rattle.vl_flow_spec.proofs.Alike.{Alike, fewer, agree_of, ◌∪◌}
+use Rattle.vl_flow_spec.proofs.Bools.{or_right}
+use Rattle.vl_flow_spec.proofs.Cells.{declared_all, own_cells}
+use Rattle.vl_flow_spec.proofs.Clockless.{needs_no_clock}
+use Rattle.vl_flow_spec.proofs.Execs.{SameState, exec_same}
+use Rattle.vl_flow_spec.proofs.Same.{same_value}
+use Rattle.vl_flow_spec.proofs.Stays.{exec_stays}
 
 wide_of : (ds : List Decl) → All IsShaped ds → (d : Decl) → declared_as ds d.name ≡ Some d → 1 ≤ d.width
 wide_of ds shaped d own = (declared_all IsShaped ds d.name d own shaped).some_bits

@@ -21,21 +21,21 @@ use Rattle.vl_mean.specs.FlatLaw.{flat_scopes, IsAssigned, IsTarget, AreTargets,
 use Rattle.vl_mean.specs.Runs.{Each, Meets}
 use Rattle.vl_mean.specs.Scopes.{is_clock_class, no_values, operand_in}
 use Rattle.vl_mean.specs.Targets.{Spot, Write, bit_of, with_bit, put, put_all, written, has_spot, spots, all_spots}
-use Rattle.vl_path.specs.Drivers.{driven_by, AreOnce}
-use Rattle.vl_path.specs.Paths.{is_blocking, sure}
-use Rattle.vl_path.specs.Reads.{Covers, IsCellOf, AreInRange}
-use Rattle.vl_path.specs.Settle.{IsBitOf, driven, AreOneOn}
-use Rattle.vl_path.proofs.Bools.{or_left, and_both}
-use Rattle.vl_path.proofs.Cells.{HaveOwnCells}
-use Rattle.vl_path.proofs.Execs.{net_counted}
-use Rattle.vl_path.proofs.Flat.{flat_name, flat_fixed}
-use Rattle.vl_path.proofs.Puts.{bit_here}
-use Rattle.vl_path.proofs.Spots.{spot_behind}
-use Rattle.vl_path.proofs.Stages.{comb_is}
-use Rattle.vl_path.proofs.Stays.{exec_stays}
-use Rattle.vl_path.proofs.Targets.{Marks, marks, name_fixed}
-use Rattle.vl_path.proofs.Writes.{written_to, written_small, puts_stay}
-use Rattle.vl_same.proofs.EachOf.{each_map}
+use Rattle.vl_flow_spec.specs.Drivers.{driven_by, AreOnce}
+use Rattle.vl_flow_spec.specs.Paths.{is_blocking, sure}
+use Rattle.vl_flow_spec.specs.Reads.{Covers, IsCellOf, AreInRange}
+use Rattle.vl_flow_spec.specs.Settle.{IsBitOf, driven, AreOneOn}
+use Rattle.vl_flow_spec.proofs.Bools.{or_left, and_both}
+use Rattle.vl_flow_spec.proofs.Cells.{HaveOwnCells}
+use Rattle.vl_flow_spec.proofs.Execs.{net_counted}
+use Rattle.vl_flow_spec.proofs.Flat.{flat_name, flat_fixed}
+use Rattle.vl_flow_spec.proofs.Puts.{bit_here}
+use Rattle.vl_flow_spec.proofs.Spots.{spot_behind}
+use Rattle.vl_flow_spec.proofs.Stages.{comb_is}
+use Rattle.vl_flow_spec.proofs.Stays.{exec_stays}
+use Rattle.vl_flow_spec.proofs.Targets.{Marks, marks, name_fixed}
+use Rattle.vl_flow_spec.proofs.Writes.{written_to, written_small, puts_stay}
+use Rattle.vl_mean_flat.proofs.EachOf.{each_map}
 
 -- ---- writes that a map meets change nothing
 

@@ -7,11 +7,11 @@ use Rattle.vl_size.specs.declared.decl.Decl.{Decl}
 use Rattle.vl_mean.specs.declared.driver.Driver.{Driver}
 use Rattle.vl_mean.specs.Runs.{FollowedBy}
 use Rattle.vl_mean.specs.Parts.{plain, plain_target}
-use Rattle.vl_path.specs.Drivers.{is_clocked, needed_by, driven_by}
-use Rattle.vl_order.specs.FlowExamples.{a, b, always, copies, high, low, net, now, variable}
-use Rattle.vl_order.specs.Refusals.{Stands, ReadsFrom, IsLoop, last_of}
-use Rattle.vl_order.specs.Sequence.{is_settled, IsSequence}
-use Rattle.vl_order.proofs.Chain.{place_of_number}
+use Rattle.vl_flow_spec.specs.Drivers.{is_clocked, needed_by, driven_by}
+use Rattle.vl_flow_spec.specs.FlowExamples.{a, b, always, copies, high, low, net, now, variable}
+use Rattle.vl_flow_spec.specs.Refusals.{Stands, ReadsFrom, IsLoop, last_of}
+use Rattle.vl_flow_spec.specs.Sequence.{is_settled, IsSequence}
+use Rattle.vl_flow_spec.proofs.Chain.{place_of_number}
 
 -- ---- an order has no loop
 

@@ -4,10 +4,10 @@ use Rattle.std.specs.Prelude.{◌≡◌, refl, ℕ, List, [], ◌∷◌, Bool, t
 use Rattle.std.proofs.Common.{ap, sym, ◌∙◌, true≢false}
 use Rattle.vl_size.specs.Size.{Values}
 use Rattle.vl_mean.specs.Targets.{bit_of}
-use Rattle.vl_path.specs.Reads.{Bits, Covers}
-use Rattle.vl_path.specs.Drivers.{Apart}
-use Rattle.vl_path.proofs.Alike.{◌∪◌}
-use Rattle.vl_path.proofs.Bools.{or_left, or_right, or_none, left_none, right_none, not_both}
+use Rattle.vl_flow_spec.specs.Reads.{Bits, Covers}
+use Rattle.vl_flow_spec.specs.Drivers.{Apart}
+use Rattle.vl_flow_spec.proofs.Alike.{◌∪◌}
+use Rattle.vl_flow_spec.proofs.Bools.{or_left, or_right, or_none, left_none, right_none, not_both}
 
 -- the bits that a driver reads, those that it drives, and what it makes of a map
 pub record Stage : Type 0 where

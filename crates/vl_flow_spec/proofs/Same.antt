@@ -42,11 +42,11 @@ use Rattle.vl_size.specs.Table.{span, is_between, word_name, declared_as}
 use Rattle.vl_mean.specs.Cells.{is_cell}
 use Rattle.vl_mean.specs.Scopes.{no_values}
 use Rattle.vl_mean.specs.Targets.{bit_of, has_spot, spots_from, spots_of, is_decl, word_index, full_word}
-use Rattle.vl_path.specs.Reads.{Bits, Covers, IsCellOf, selected, reads, parts_read, selects_read, AgreeOn}
-use Rattle.vl_path.proofs.Bools.{or_left, or_right, or_none as neither, and_both, and_left, and_right}
-use Rattle.vl_path.proofs.Cells.{own_cell, word_is_cell}
-use Rattle.vl_path.proofs.Flat.{index_in, fixed, vector_bits, word_bits, name_bits, decl_selected, flat_selected}
-use Rattle.vl_path.proofs.Spots.{spot_there, bits_same, one_bit_same}
+use Rattle.vl_flow_spec.specs.Reads.{Bits, Covers, IsCellOf, selected, reads, parts_read, selects_read, AgreeOn}
+use Rattle.vl_flow_spec.proofs.Bools.{or_left, or_right, or_none as neither, and_both, and_left, and_right}
+use Rattle.vl_flow_spec.proofs.Cells.{own_cell, word_is_cell}
+use Rattle.vl_flow_spec.proofs.Flat.{index_in, fixed, vector_bits, word_bits, name_bits, decl_selected, flat_selected}
+use Rattle.vl_flow_spec.proofs.Spots.{spot_there, bits_same, one_bit_same}
 
 -- ---- what has a size has parts with sizes
 

@@ -8,13 +8,13 @@ use Rattle.vl_mean.specs.declared.driver.DriverKind.{DriverKind}
 use Rattle.vl_mean.specs.declared.driver.DriverKind.TheVariants as k
 use Rattle.vl_mean.specs.FlatLaw.{flat_scopes, IsDriver}
 use Rattle.vl_mean.specs.Targets.{bit_of}
-use Rattle.vl_path.specs.Drivers.{is_clocked, needed_by, driven_by, driven_by_any, Apart, AreInOrder, IsWhole}
-use Rattle.vl_path.specs.Reads.{Bits, Covers, AreInRange}
-use Rattle.vl_path.specs.Settle.{IsBitOf, driven, settle, AreOneOn, AreMet, AreAccepted}
-use Rattle.vl_path.proofs.Cells.{HaveOwnCells, declared_all, own_cells}
-use Rattle.vl_path.proofs.OneMap as stages
-use Rattle.vl_path.proofs.OneMap.{Stage, IsPart, AreParts}
-use Rattle.vl_path.proofs.Stages.{comb_is, assign_is}
+use Rattle.vl_flow_spec.specs.Drivers.{is_clocked, needed_by, driven_by, driven_by_any, Apart, AreInOrder, IsWhole}
+use Rattle.vl_flow_spec.specs.Reads.{Bits, Covers, AreInRange}
+use Rattle.vl_flow_spec.specs.Settle.{IsBitOf, driven, settle, AreOneOn, AreMet, AreAccepted}
+use Rattle.vl_flow_spec.proofs.Cells.{HaveOwnCells, declared_all, own_cells}
+use Rattle.vl_flow_spec.proofs.OneMap as stages
+use Rattle.vl_flow_spec.proofs.OneMap.{Stage, IsPart, AreParts}
+use Rattle.vl_flow_spec.proofs.Stages.{comb_is, assign_is}
 
 module _ (ds : List Decl) where
   abbrev stage : DriverKind → Stage

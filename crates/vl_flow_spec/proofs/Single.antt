@@ -22,17 +22,17 @@ use Rattle.vl_mean.specs.Execution.{assigns}
 use Rattle.vl_mean.specs.FlatLaw.{flat_scopes, is_net, is_variable, IsKept, IsMemory, IsDriver, IsAssigned}
 use Rattle.vl_mean.specs.Scopes.{no_values}
 use Rattle.vl_mean.specs.Targets.{Spot, has_spot, spots, may_change}
-use Rattle.vl_path.specs.Drivers.{driven_by, AreOnce}
-use Rattle.vl_path.proofs.Bools.{and_both, or_left}
-use Rattle.vl_path.proofs.Cells.{HaveOwnCells, declared_all, own_name}
-use Rattle.vl_path.proofs.Execs.{net_counted}
-use Rattle.vl_path.proofs.Stages.{fixed_sets}
-use Rattle.vl_path.proofs.Targets.{marks}
-use Rattle.vl_order.specs.Refusals.{has_bit, count_spot, times_driven, times_of, places_of, are_two, bits_counted}
-use Rattle.vl_order.specs.Refusals.{with_two, twice_driven, two_drivers, first_below, in_order}
-use Rattle.vl_order.proofs.Changed.{IsBitOfKind, driver_changed, target_changed, may_drive}
-use Rattle.vl_order.proofs.Elements.{all_at, each_declared_as}
-use Rattle.vl_order.proofs.Found.{has_it, none_below, lowest_is, none_of_names, ordered}
+use Rattle.vl_flow_spec.specs.Drivers.{driven_by, AreOnce}
+use Rattle.vl_flow_spec.proofs.Bools.{and_both, or_left}
+use Rattle.vl_flow_spec.proofs.Cells.{HaveOwnCells, declared_all, own_name}
+use Rattle.vl_flow_spec.proofs.Execs.{net_counted}
+use Rattle.vl_flow_spec.proofs.Stages.{fixed_sets}
+use Rattle.vl_flow_spec.proofs.Targets.{marks}
+use Rattle.vl_flow_spec.specs.Refusals.{has_bit, count_spot, times_driven, times_of, places_of, are_two, bits_counted}
+use Rattle.vl_flow_spec.specs.Refusals.{with_two, twice_driven, two_drivers, first_below, in_order}
+use Rattle.vl_flow_spec.proofs.Changed.{IsBitOfKind, driver_changed, target_changed, may_drive}
+use Rattle.vl_flow_spec.proofs.Elements.{all_at, each_declared_as}
+use Rattle.vl_flow_spec.proofs.Found.{has_it, none_below, lowest_is, none_of_names, ordered}
 
 -- ---- spots that are counted
 

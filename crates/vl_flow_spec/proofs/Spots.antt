@@ -10,7 +10,7 @@ use Rattle.std.proofs.lemmas.Int.{ints}
 use Rattle.std.proofs.lemmas.Slice.Eq.{bytes_eq-Decides}
 use Rattle.vl_size.specs.Size.{bit_at, bits_from}
 use Rattle.vl_mean.specs.Targets.{Spot, bit_of, spot_at, spots_from, has_spot}
-use Rattle.vl_path.proofs.Bools.{or_left, or_right, or_case, and_both, and_left, and_right}
+use Rattle.vl_flow_spec.proofs.Bools.{or_left, or_right, or_case, and_both, and_left, and_right}
 
 -- ---- a spot among others
 

@@ -12,17 +12,17 @@ use Rattle.vl_mean.specs.FlatLaw.{flat_scopes, IsBlock, IsDriver, IsTarget, AreT
 use Rattle.vl_mean.specs.FlatLaw.{assigned_context}
 use Rattle.vl_mean.specs.FlatLaw.{IsAssigned, IsReadIn}
 use Rattle.vl_mean.specs.Targets.{bit_of, put_all, are_fixed, may_change, any_may_change}
-use Rattle.vl_path.specs.Reads.{Bits, Covers, IsCellOf, AreInRange, selected, reads}
-use Rattle.vl_path.specs.Paths.{is_blocking, target_reads, sets, any_sets, sure, needs}
-use Rattle.vl_path.specs.Settle.{IsBitOf}
-use Rattle.vl_path.proofs.Alike.{Alike, ◌∪◌}
-use Rattle.vl_path.proofs.Bools.{or_left, or_right, or_either, or_case, and_both}
-use Rattle.vl_path.proofs.Cells.{HaveOwnCells}
-use Rattle.vl_path.proofs.Clockless.{HasNoClock, reads_no_clock, target_no_clock, needs_no_clock}
-use Rattle.vl_path.proofs.Execs.{SameState, exec_same, puts_alike, net_counted, assigned_small}
-use Rattle.vl_path.proofs.OneMap.{Stage, IsPart, Agree}
-use Rattle.vl_path.proofs.Stays.{exec_stays, assigned_stays}
-use Rattle.vl_path.proofs.Targets.{Marks, marks}
+use Rattle.vl_flow_spec.specs.Reads.{Bits, Covers, IsCellOf, AreInRange, selected, reads}
+use Rattle.vl_flow_spec.specs.Paths.{is_blocking, target_reads, sets, any_sets, sure, needs}
+use Rattle.vl_flow_spec.specs.Settle.{IsBitOf}
+use Rattle.vl_flow_spec.proofs.Alike.{Alike, ◌∪◌}
+use Rattle.vl_flow_spec.proofs.Bools.{or_left, or_right, or_either, or_case, and_both}
+use Rattle.vl_flow_spec.proofs.Cells.{HaveOwnCells}
+use Rattle.vl_flow_spec.proofs.Clockless.{HasNoClock, reads_no_clock, target_no_clock, needs_no_clock}
+use Rattle.vl_flow_spec.proofs.Execs.{SameState, exec_same, puts_alike, net_counted, assigned_small}
+use Rattle.vl_flow_spec.proofs.OneMap.{Stage, IsPart, Agree}
+use Rattle.vl_flow_spec.proofs.Stays.{exec_stays, assigned_stays}
+use Rattle.vl_flow_spec.proofs.Targets.{Marks, marks}
 
 either_bit : {A : Type 0} (b c : Bool) → (c || b) ≡ true → (b ≡ true → A) → (b ≡ false → c ≡ true → A) → A
 either_bit true c h f g = f refl

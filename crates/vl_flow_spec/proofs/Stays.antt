@@ -28,10 +28,10 @@ use Rattle.vl_size.specs.Table.{declared_as}
 use Rattle.vl_mean.specs.Execution.{State, assigned, exec, exec_all, pick, otherwise, assigns, any_assigns, arms_assign}
 use Rattle.vl_mean.specs.FlatLaw.{flat_scopes, IsBlock, AreBlocks, AreArms, case_context, is_variable}
 use Rattle.vl_mean.specs.Targets.{bit_of, put_all, may_change}
-use Rattle.vl_path.proofs.Bools.{left_none, right_none, none_of, not_both}
-use Rattle.vl_path.proofs.Execs.{assigned_small, assigned_to, variable_counted}
-use Rattle.vl_path.proofs.Targets.{Marks, marks}
-use Rattle.vl_path.proofs.Writes.{writes_to, puts_stay}
+use Rattle.vl_flow_spec.proofs.Bools.{left_none, right_none, none_of, not_both}
+use Rattle.vl_flow_spec.proofs.Execs.{assigned_small, assigned_to, variable_counted}
+use Rattle.vl_flow_spec.proofs.Targets.{Marks, marks}
+use Rattle.vl_flow_spec.proofs.Writes.{writes_to, puts_stay}
 
 after_choice : (b : Bool) (x y t : State) (n : List ℕ) (k : ℕ) → bit_of (x.now n) k ≡ bit_of (t.now n) k
     → bit_of (y.now n) k ≡ bit_of (t.now n) k → bit_of ((if b then x else y).now n) k ≡ bit_of (t.now n) k

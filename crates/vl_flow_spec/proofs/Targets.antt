@@ -20,16 +20,17 @@ use Rattle.vl_mean.specs.Scopes.{is_clock_class, no_values}
 use Rattle.vl_mean.specs.Targets.{Spot, spots_from, word_index, full_word, spots_of, is_decl, has_spot, spots}
 use Rattle.vl_mean.specs.Targets.{all_spots}
 use Rattle.vl_mean.specs.Targets.{are_fixed, may_change, any_may_change}
-use Rattle.vl_path.specs.Reads.{IsCellOf, selected}
-use Rattle.vl_path.specs.Paths.{sets, any_sets}
-use Rattle.vl_path.specs.Settle.{IsBitOf}
-use Rattle.vl_path.proofs.Bools.{or_left, or_right, or_either, or_case, and_both, and_left, and_right}
-use Rattle.vl_path.proofs.Cells.{own_cell, word_is_cell}
-use Rattle.vl_path.proofs.Flat.{index_in, fixed, vector_bits, word_bits, name_bits, decl_selected, flat_fixed}
-use Rattle.vl_path.proofs.Flat.{flat_name, flat_selected}
-use Rattle.vl_path.proofs.Same.{bind_first, bind_then, bind_next, bind_test, declared_name, constant_index, same_value}
-use Rattle.vl_path.proofs.Same.{selected_at}
-use Rattle.vl_path.proofs.Spots.{spot_is, spot_append}
+use Rattle.vl_flow_spec.specs.Reads.{IsCellOf, selected}
+use Rattle.vl_flow_spec.specs.Paths.{sets, any_sets}
+use Rattle.vl_flow_spec.specs.Settle.{IsBitOf}
+use Rattle.vl_flow_spec.proofs.Bools.{or_left, or_right, or_either, or_case, and_both, and_left, and_right}
+use Rattle.vl_flow_spec.proofs.Cells.{own_cell, word_is_cell}
+use Rattle.vl_flow_spec.proofs.Flat.{index_in, fixed, vector_bits, word_bits, name_bits, decl_selected, flat_fixed}
+use Rattle.vl_flow_spec.proofs.Flat.{flat_name, flat_selected}
+use Rattle.vl_flow_spec.proofs.Same.{bind_first, bind_then, bind_next, bind_test, declared_name, constant_index}
+use Rattle.vl_flow_spec.proofs.Same.{same_value}
+use Rattle.vl_flow_spec.proofs.Same.{selected_at}
+use Rattle.vl_flow_spec.proofs.Spots.{spot_is, spot_append}
 
 module _ (ds : List Decl) where
   -- ---- each spot is a bit of the name

@@ -73,13 +73,14 @@ use Rattle.vl_mean.specs.FlatLaw.{arm_nodes, driver_nodes, node_count, IsLawful,
 use Rattle.vl_mean.specs.FlatLaw.{case_context}
 use Rattle.vl_mean.specs.Scopes.{operand_in, no_values}
 use Rattle.vl_mean.specs.Targets.{are_fixed}
-use Rattle.vl_same.proofs.SameTarget.{flat_operand}
-use Rattle.vl_path.proofs.Cells.{declared_all}
-use Rattle.vl_order.specs.Weight.{operation_weight, unary_weight, word_count, access_weight, own_size, left_size}
-use Rattle.vl_order.specs.Weight as weigh
-use Rattle.vl_order.specs.Weight.{right_size, weight, parts_weight, selects_weight, target_weight, targets_weight}
-use Rattle.vl_order.specs.Weight.{assigned_weight, widths_of, merge_weight, labels_weight, stmt_weight, stmts_weight}
-use Rattle.vl_order.specs.Weight.{arms_weight, driver_weight, design_weight, assigned_names, arms_assigned_names}
+use Rattle.vl_mean_flat.proofs.SameTarget.{flat_operand}
+use Rattle.vl_flow_spec.proofs.Cells.{declared_all}
+use Rattle.vl_flow_spec.specs.Weight.{operation_weight, unary_weight, word_count, access_weight, own_size, left_size}
+use Rattle.vl_flow_spec.specs.Weight as weigh
+use Rattle.vl_flow_spec.specs.Weight.{right_size, weight, parts_weight, selects_weight, target_weight, targets_weight}
+use Rattle.vl_flow_spec.specs.Weight.{assigned_weight, widths_of, merge_weight, labels_weight, stmt_weight}
+use Rattle.vl_flow_spec.specs.Weight.{stmts_weight}
+use Rattle.vl_flow_spec.specs.Weight.{arms_weight, driver_weight, design_weight, assigned_names, arms_assigned_names}
 
 -- ---- sizes
 

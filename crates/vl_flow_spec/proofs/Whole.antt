@@ -35,17 +35,17 @@ use Rattle.vl_mean.specs.declared.driver.DriverKind.TheVariants as k
 use Rattle.vl_mean.specs.Execution.{assigns, any_assigns, arms_assign}
 use Rattle.vl_mean.specs.FlatLaw.{flat_scopes, is_variable, IsDriver}
 use Rattle.vl_mean.specs.Targets.{may_change, any_may_change, are_fixed}
-use Rattle.vl_path.specs.Drivers.{is_clocked, driven_by}
-use Rattle.vl_path.specs.Paths.{is_blocking, is_nonblocking, any_kind, has_default, sets, any_sets, sure, all_sure}
-use Rattle.vl_path.specs.Paths.{arms_sure, changes, any_changes, arms_change}
-use Rattle.vl_path.specs.Reads.{Covers, selected}
-use Rattle.vl_path.proofs.Bools.{or_left, or_right, or_either, or_case, left_none, right_none, and_both, and_left}
-use Rattle.vl_path.proofs.Bools.{and_right, none_of, not_both}
-use Rattle.vl_order.specs.Refusals.{has_bit, named_if, with_name, place_of, latched_by, latched, latch}
-use Rattle.vl_order.specs.Refusals.{mixed, some_changes, some_waits, changed_by}
-use Rattle.vl_order.proofs.Changed.{IsBitOfKind, block_changed}
-use Rattle.vl_order.proofs.Elements.{all_at, each_declared_as}
-use Rattle.vl_order.proofs.Found.{bit_found, has_it, more_bits, none_of_names}
+use Rattle.vl_flow_spec.specs.Drivers.{is_clocked, driven_by}
+use Rattle.vl_flow_spec.specs.Paths.{is_blocking, is_nonblocking, any_kind, has_default, sets, any_sets, sure, all_sure}
+use Rattle.vl_flow_spec.specs.Paths.{arms_sure, changes, any_changes, arms_change}
+use Rattle.vl_flow_spec.specs.Reads.{Covers, selected}
+use Rattle.vl_flow_spec.proofs.Bools.{or_left, or_right, or_either, or_case, left_none, right_none, and_both, and_left}
+use Rattle.vl_flow_spec.proofs.Bools.{and_right, none_of, not_both}
+use Rattle.vl_flow_spec.specs.Refusals.{has_bit, named_if, with_name, place_of, latched_by, latched, latch}
+use Rattle.vl_flow_spec.specs.Refusals.{mixed, some_changes, some_waits, changed_by}
+use Rattle.vl_flow_spec.proofs.Changed.{IsBitOfKind, block_changed}
+use Rattle.vl_flow_spec.proofs.Elements.{all_at, each_declared_as}
+use Rattle.vl_flow_spec.proofs.Found.{bit_found, has_it, more_bits, none_of_names}
 
 -- ---- sure by some assignments: by blocking ones, or some other one may change the bit
 

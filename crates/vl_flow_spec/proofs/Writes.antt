@@ -9,11 +9,11 @@ use Rattle.vl_size.specs.Size.{Values}
 use Rattle.vl_mean.specs.Runs.{Each}
 use Rattle.vl_mean.specs.Scopes.{is_clock_class}
 use Rattle.vl_mean.specs.Targets.{Spot, Write, bit_of, with_bit, put, put_all, written, has_spot}
-use Rattle.vl_path.specs.Reads.{Bits, IsCellOf, AreInRange}
-use Rattle.vl_path.specs.Settle.{IsBitOf}
-use Rattle.vl_path.proofs.Bools.{or_left, or_right, left_none, right_none, and_both}
-use Rattle.vl_path.proofs.Cells.{HaveOwnCells}
-use Rattle.vl_path.proofs.Puts.{bit_here, bit_there, with_bit_fits}
+use Rattle.vl_flow_spec.specs.Reads.{Bits, IsCellOf, AreInRange}
+use Rattle.vl_flow_spec.specs.Settle.{IsBitOf}
+use Rattle.vl_flow_spec.proofs.Bools.{or_left, or_right, left_none, right_none, and_both}
+use Rattle.vl_flow_spec.proofs.Cells.{HaveOwnCells}
+use Rattle.vl_flow_spec.proofs.Puts.{bit_here, bit_there, with_bit_fits}
 
 -- some write is to the bit
 abbrev pub writes_to : List Write → Bits

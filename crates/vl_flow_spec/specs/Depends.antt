@@ -6,8 +6,8 @@ use Rattle.vl_size.specs.Size.{Values}
 use Rattle.vl_mean.specs.Execution.{State, begun, exec, assigns}
 use Rattle.vl_mean.specs.FlatLaw.{flat_scopes}
 use Rattle.vl_mean.specs.Targets.{bit_of}
-use Rattle.vl_path.specs.Reads.{Bits, IsCellOf, AgreeOn}
-use Rattle.vl_path.specs.Paths.{is_blocking, sure}
+use Rattle.vl_flow_spec.specs.Reads.{Bits, IsCellOf, AgreeOn}
+use Rattle.vl_flow_spec.specs.Paths.{is_blocking, sure}
 
 module _ (ds : List Decl) where
   -- after a statement

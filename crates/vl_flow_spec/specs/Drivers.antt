@@ -9,8 +9,8 @@ use Rattle.vl_mean.specs.Execution.{assigns}
 use Rattle.vl_mean.specs.FlatLaw.{flat_scopes}
 use Rattle.vl_mean.specs.Scopes.{no_values}
 use Rattle.vl_mean.specs.Targets.{Spot, may_change, has_spot, spots}
-use Rattle.vl_path.specs.Reads.{Bits, Covers, reads}
-use Rattle.vl_path.specs.Paths.{is_blocking, target_reads, sure, needs}
+use Rattle.vl_flow_spec.specs.Reads.{Bits, Covers, reads}
+use Rattle.vl_flow_spec.specs.Paths.{is_blocking, target_reads, sure, needs}
 
 abbrev pub is_clocked : DriverKind → Bool
 is_clocked (k.Clocked s) = true

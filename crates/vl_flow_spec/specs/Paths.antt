@@ -26,7 +26,7 @@ use Rattle.vl_tree.specs.Stmt.{
 use Rattle.vl_size.specs.declared.decl.Decl.{Decl}
 use Rattle.vl_mean.specs.FlatLaw.{flat_scopes}
 use Rattle.vl_mean.specs.Targets.{are_fixed, may_change}
-use Rattle.vl_path.specs.Reads.{Bits, selected, reads, selects_read}
+use Rattle.vl_flow_spec.specs.Reads.{Bits, selected, reads, selects_read}
 
 abbrev pub is_blocking : AssignKind → Bool
 is_blocking a.Blocking = true

@@ -32,9 +32,9 @@ use Rattle.vl_mean.specs.FlatLaw.{flat_scopes, is_net}
 use Rattle.vl_mean.specs.Runs.{FollowedBy}
 use Rattle.vl_mean.specs.Scopes.{no_values}
 use Rattle.vl_mean.specs.Targets.{Spot, spots}
-use Rattle.vl_path.specs.Reads.{Bits}
-use Rattle.vl_path.specs.Paths.{is_blocking, is_nonblocking, any_kind, sure, changes}
-use Rattle.vl_path.specs.Drivers.{is_clocked, needed_by, driven_by}
+use Rattle.vl_flow_spec.specs.Reads.{Bits}
+use Rattle.vl_flow_spec.specs.Paths.{is_blocking, is_nonblocking, any_kind, sure, changes}
+use Rattle.vl_flow_spec.specs.Drivers.{is_clocked, needed_by, driven_by}
 
 -- ---- bits of a name
 

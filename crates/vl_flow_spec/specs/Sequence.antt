@@ -4,8 +4,8 @@ use Rattle.std.specs.Prelude.{◌≡◌, ℕ, ◌<◌, ◌==◌, List, [], ◌�
 use Rattle.std.specs.Prelude.{Option, Some, None, slice_get}
 use Rattle.vl_size.specs.declared.decl.Decl.{Decl}
 use Rattle.vl_mean.specs.declared.driver.Driver.{Driver}
-use Rattle.vl_path.specs.Drivers.{is_clocked}
-use Rattle.vl_order.specs.Refusals.{ReadsFrom}
+use Rattle.vl_flow_spec.specs.Drivers.{is_clocked}
+use Rattle.vl_flow_spec.specs.Refusals.{ReadsFrom}
 
 -- the driver of the number is there, and is no clocked block
 abbrev pub is_settled : Option Driver → Bool

@@ -8,9 +8,9 @@ use Rattle.vl_mean.specs.Execution.{assigned}
 use Rattle.vl_mean.specs.FlatLaw.{flat_scopes, IsDriver}
 use Rattle.vl_mean.specs.Scopes.{is_clock_class}
 use Rattle.vl_mean.specs.Targets.{bit_of, put_all}
-use Rattle.vl_path.specs.Depends.{done}
-use Rattle.vl_path.specs.Drivers.{is_clocked, driven_by, driven_by_any, IsWhole}
-use Rattle.vl_path.specs.Reads.{Bits, IsCellOf}
+use Rattle.vl_flow_spec.specs.Depends.{done}
+use Rattle.vl_flow_spec.specs.Drivers.{is_clocked, driven_by, driven_by_any, IsWhole}
+use Rattle.vl_flow_spec.specs.Reads.{Bits, IsCellOf}
 
 -- a bit of a declared name that isn't the clock
 pub record IsBitOf (ds : List Decl) (n : List ℕ) (k : ℕ) : Type 0 where

@@ -1,10 +1,10 @@
 //! Small designs that are refused, one for each way in which drivers may stand wrong, and some that aren't.
 ghost use Rattle.std.specs.Prelude.{◌≡◌, ◌∷◌, [], Some, None};
 ghost use Rattle.vl_mean.specs.Parts.{plain, plain_target};
-ghost use Rattle.vl_order.specs.FlowExamples.{a, b, c, m, always, assigns, at_clock, at_line, bit_of, both, copies};
-ghost use Rattle.vl_order.specs.FlowExamples.{decimal, each, first_set, free, high, input, later, low, memory, net};
-ghost use Rattle.vl_order.specs.FlowExamples.{now, to_bit, to_both, to_part, two_labels, variable, under, each};
-ghost use Rattle.vl_order.specs.Refusals.{blocking_shared, latch, mixed, IsLoop, two_drivers, undriven};
+ghost use Rattle.vl_flow_spec.specs.FlowExamples.{a, b, c, m, always, assigns, at_clock, at_line, bit_of, both, copies};
+ghost use Rattle.vl_flow_spec.specs.FlowExamples.{decimal, each, first_set, free, high, input, later, low, memory, net};
+ghost use Rattle.vl_flow_spec.specs.FlowExamples.{now, to_bit, to_both, to_part, two_labels, variable, under, each};
+ghost use Rattle.vl_flow_spec.specs.Refusals.{blocking_shared, latch, mixed, IsLoop, two_drivers, undriven};
 
 /// A bit that a combinational block doesn't assign on each path: whole names, single bits, a varying index, one word
 /// of a memory, and a case without default.

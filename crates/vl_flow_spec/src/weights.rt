@@ -4,10 +4,12 @@ ghost use Rattle.vl_mean.specs.FlatLaw.{IsLawful};
 ghost use Rattle.vl_mean.specs.Parts.{plain, plain_target};
 ghost use Rattle.vl_mean.specs.declared.driver.Driver.{Driver};
 ghost use Rattle.vl_mean.specs.declared.driver.Start.{Start};
-ghost use Rattle.vl_order.specs.FlowExamples.{a, b, m, always, any_bit, assigns, bit_of, both, copies, decimal, equal};
-ghost use Rattle.vl_order.specs.FlowExamples.{input, less, memory, net, now, plus, product, to_bit, two_labels, under};
-ghost use Rattle.vl_order.specs.FlowExamples.{variable};
-ghost use Rattle.vl_order.specs.Weight.{design_weight};
+ghost use Rattle.vl_flow_spec.specs.FlowExamples.{a, b, m, always, any_bit, assigns, bit_of, both, copies, decimal};
+ghost use Rattle.vl_flow_spec.specs.FlowExamples.{equal};
+ghost use Rattle.vl_flow_spec.specs.FlowExamples.{input, less, memory, net, now, plus, product, to_bit, two_labels};
+ghost use Rattle.vl_flow_spec.specs.FlowExamples.{under};
+ghost use Rattle.vl_flow_spec.specs.FlowExamples.{variable};
+ghost use Rattle.vl_flow_spec.specs.Weight.{design_weight};
 ghost use Rattle.vl_size.specs.Table.{IsShaped};
 ghost use Rattle.vl_size.specs.declared.decl.Decl.{Decl};
 

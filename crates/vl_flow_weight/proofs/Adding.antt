@@ -2,9 +2,9 @@
 use Rattle.std.specs.Prelude.{◌≡◌, refl, ℕ, ◌+◌, ◌<◌, ◌^◌, max}
 use Rattle.std.proofs.Common.{ap, sym, ◌∙◌, arith}
 use Rattle.vl_mean.specs.ConstantFaults.{capped}
-use Rattle.vl_gates.specs.declared.gates.Gates.{Gates}
-use Rattle.vl_gates.specs.Gates.{gates_at}
-use Rattle.vl_gates.proofs.Sums.{cap_add, cap_again, cap_bits}
+use Rattle.vl_flow_weight.specs.declared.gates.Gates.{Gates}
+use Rattle.vl_flow_weight.specs.Gates.{gates_at}
+use Rattle.vl_flow_weight.proofs.Sums.{cap_add, cap_again, cap_bits}
 
 -- what is summed up and what is left are all
 pub record Sums (sum rest all : ℕ) : Type 0 where

@@ -14,15 +14,15 @@ use Rattle.vl_size.specs.Table.{declared_as}
 use Rattle.vl_mean.specs.ConstantFaults.{capped}
 use Rattle.vl_mean.specs.FlatLaw.{flat_scopes}
 use Rattle.vl_mean.specs.Targets.{are_fixed}
-use Rattle.vl_order.specs.Weight.{access_weight, own_size, parts_weight, selects_weight, weight}
-use Rattle.vl_gates.specs.declared.weighed.Weighed.{Weighed}
-use Rattle.vl_gates.specs.Gates.{gates_at}
-use Rattle.vl_gates.specs.Weighing.{IsWeightOf}
-use Rattle.vl_gates.proofs.Sums.{two}
-use Rattle.vl_gates.proofs.Operands.{own_gates}
-use Rattle.vl_weight.specs.declared.expr.Parts.{Parts}
-use Rattle.vl_weight.specs.Shares.{ArePartsOf}
-use Rattle.vl_weight.proofs.Adding.{Sums, sum_more}
+use Rattle.vl_flow_spec.specs.Weight.{access_weight, own_size, parts_weight, selects_weight, weight}
+use Rattle.vl_flow_weight.specs.declared.weighed.Weighed.{Weighed}
+use Rattle.vl_flow_weight.specs.Gates.{gates_at}
+use Rattle.vl_flow_weight.specs.Weighing.{IsWeightOf}
+use Rattle.vl_flow_weight.proofs.Sums.{two}
+use Rattle.vl_flow_weight.proofs.Operands.{own_gates}
+use Rattle.vl_flow_weight.specs.declared.expr.Parts.{Parts}
+use Rattle.vl_flow_weight.specs.Shares.{ArePartsOf}
+use Rattle.vl_flow_weight.proofs.Adding.{Sums, sum_more}
 
 pub and_true : (a : Bool) → a ≡ (a && true)
 and_true true = refl

@@ -7,12 +7,12 @@ use Rattle.std.proofs.lemmas.Option.{same_Some}
 use Rattle.vl_size.specs.declared.decl.Decl.{Decl}
 use Rattle.vl_mean.specs.Cells.{contains_name}
 use Rattle.vl_mean.specs.ConstantFaults.{capped}
-use Rattle.vl_order.specs.Weight.{widths_of}
-use Rattle.bit_sets.specs.declared.step.Step.{Step}
-use Rattle.bit_sets.specs.Cells.{has, IsBare, IsBefore}
-use Rattle.flow_cells.proofs.Lists.{get_less}
-use Rattle.vl_weight.specs.Names.{AreNames}
-use Rattle.vl_weight.proofs.Adding.{Sums, sum_begun, sum_done, sum_one}
+use Rattle.vl_flow_spec.specs.Weight.{widths_of}
+use Rattle.fv_bit_sets.specs.declared.step.Step.{Step}
+use Rattle.fv_bit_sets.specs.Cells.{has, IsBare, IsBefore}
+use Rattle.vl_flow_cells.proofs.Lists.{get_less}
+use Rattle.vl_flow_weight.specs.Names.{AreNames}
+use Rattle.vl_flow_weight.proofs.Adding.{Sums, sum_begun, sum_done, sum_one}
 
 -- the width, where it is that of a vector
 abbrev pub vector_width : Decl → ℕ

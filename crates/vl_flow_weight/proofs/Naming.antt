@@ -13,20 +13,20 @@ use Rattle.vl_tree.specs.StmtView.{arms, with_arm}
 use Rattle.vl_size.specs.declared.decl.Decl.{Decl}
 use Rattle.vl_size.specs.Table.{AreDifferent, declared_as, place}
 use Rattle.vl_mean.specs.Cells.{contains_name}
-use Rattle.vl_order.specs.Weight.{all_assigned_names, all_target_names, arms_assigned_names, assigned_names}
-use Rattle.vl_order.specs.Weight.{target_names}
-use Rattle.bit_sets.specs.declared.step.Step.{Step}
-use Rattle.bit_sets.specs.Cells.{has}
-use Rattle.vl_path.proofs.Bools.{none_of}
-use Rattle.vl_path.proofs.Same.{declared_name}
-use Rattle.flow_sets.specs.Named.{IsMark}
-use Rattle.flow_sets.specs.Sets.{some_has}
-use Rattle.flow_sets.proofs.Halves.{some_append}
-use Rattle.flow_sets.proofs.Tests.{or_assoc, or_none}
-use Rattle.flow_cells.proofs.Lists.{declared_own, one_place}
-use Rattle.flow_cells.proofs.Ranges.{same_test}
-use Rattle.flow_cells.proofs.Taking.{place_none, place_some}
-use Rattle.vl_weight.specs.Names.{AreNames}
+use Rattle.vl_flow_spec.specs.Weight.{all_assigned_names, all_target_names, arms_assigned_names, assigned_names}
+use Rattle.vl_flow_spec.specs.Weight.{target_names}
+use Rattle.fv_bit_sets.specs.declared.step.Step.{Step}
+use Rattle.fv_bit_sets.specs.Cells.{has}
+use Rattle.vl_flow_spec.proofs.Bools.{none_of}
+use Rattle.vl_flow_spec.proofs.Same.{declared_name}
+use Rattle.vl_flow_order.specs.Named.{IsMark}
+use Rattle.vl_flow_order.specs.Sets.{some_has}
+use Rattle.vl_flow_order.proofs.Halves.{some_append}
+use Rattle.vl_flow_order.proofs.Tests.{or_assoc, or_none}
+use Rattle.vl_flow_cells.proofs.Lists.{declared_own, one_place}
+use Rattle.vl_flow_cells.proofs.Ranges.{same_test}
+use Rattle.vl_flow_cells.proofs.Taking.{place_none, place_some}
+use Rattle.vl_flow_weight.specs.Names.{AreNames}
 
 pub contains_both : (xs ys : List (List ℕ)) (n : List ℕ)
     → contains_name (xs ++ ys) n ≡ (contains_name xs n || contains_name ys n)

@@ -11,14 +11,14 @@ use Rattle.vl_size.specs.Divisors.{is_logical}
 use Rattle.vl_size.specs.Size.{◌>>=◌, is_constant, or_none, size, unary_size, operation_size as size_of_operation}
 use Rattle.vl_size.specs.Way.{way, keeps_size}
 use Rattle.vl_mean.specs.ConstantFaults.{capped}
-use Rattle.vl_order.specs.Weight.{operation_weight, unary_weight, own_size, weight}
-use Rattle.vl_gates.specs.declared.gates.Gates.{Gates}
-use Rattle.vl_gates.specs.declared.weighed.Weighed.{Weighed}
-use Rattle.vl_gates.specs.Gates.{gates_at}
-use Rattle.vl_gates.specs.Weighing.{IsWeightOf}
-use Rattle.vl_gates.proofs.Sums.{three, two}
-use Rattle.vl_gates.proofs.Ways.{by_choice, by_compared, by_larger, by_left, by_logical, by_unary, of_constant}
-use Rattle.vl_gates.proofs.Ways.{of_constant_choice, of_constants}
+use Rattle.vl_flow_spec.specs.Weight.{operation_weight, unary_weight, own_size, weight}
+use Rattle.vl_flow_weight.specs.declared.gates.Gates.{Gates}
+use Rattle.vl_flow_weight.specs.declared.weighed.Weighed.{Weighed}
+use Rattle.vl_flow_weight.specs.Gates.{gates_at}
+use Rattle.vl_flow_weight.specs.Weighing.{IsWeightOf}
+use Rattle.vl_flow_weight.proofs.Sums.{three, two}
+use Rattle.vl_flow_weight.proofs.Ways.{by_choice, by_compared, by_larger, by_left, by_logical, by_unary, of_constant}
+use Rattle.vl_flow_weight.proofs.Ways.{of_constant_choice, of_constants}
 
 free : (t : ℕ) → t ≡ 0 → 0 ≡ capped t
 free t e = let none : 0 ≡ capped 0 = omega arith in none ∙ ap capped (sym e)

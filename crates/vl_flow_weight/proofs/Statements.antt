@@ -16,20 +16,20 @@ use Rattle.vl_mean.specs.ConstantFaults.{capped}
 use Rattle.vl_mean.specs.Execution.{arms_size}
 use Rattle.vl_mean.specs.FlatLaw.{flat_scopes, target_size}
 use Rattle.vl_mean.specs.Scopes.{no_values, operand_in}
-use Rattle.vl_same.proofs.SameTarget.{flat_operand}
-use Rattle.vl_order.specs.Weight.{arms_assigned_names, arms_weight, assigned_names, assigned_weight, merge_weight}
-use Rattle.vl_order.specs.Weight.{labels_weight, own_size, stmt_weight, target_weight, weight}
+use Rattle.vl_mean_flat.proofs.SameTarget.{flat_operand}
+use Rattle.vl_flow_spec.specs.Weight.{arms_assigned_names, arms_weight, assigned_names, assigned_weight, merge_weight}
+use Rattle.vl_flow_spec.specs.Weight.{labels_weight, own_size, stmt_weight, target_weight, weight}
 use Rattle.std.proofs.lemmas.List.{append-nil}
-use Rattle.vl_gates.specs.declared.weighed.Weighed.{Weighed}
-use Rattle.vl_gates.specs.Gates.{gates_at}
-use Rattle.vl_gates.specs.Weighing.{IsWeightOf}
-use Rattle.vl_gates.proofs.Sums.{two}
-use Rattle.vl_gates.proofs.Operands.{own_bits}
-use Rattle.vl_weight.specs.declared.branch.Branch.{Branch}
-use Rattle.bit_sets.specs.Cells.{has}
-use Rattle.vl_weight.specs.Branches.{IsBranchOf}
-use Rattle.vl_weight.specs.Names.{AreNames}
-use Rattle.vl_weight.proofs.Adding.{gates_capped, larger_capped}
+use Rattle.vl_flow_weight.specs.declared.weighed.Weighed.{Weighed}
+use Rattle.vl_flow_weight.specs.Gates.{gates_at}
+use Rattle.vl_flow_weight.specs.Weighing.{IsWeightOf}
+use Rattle.vl_flow_weight.proofs.Sums.{two}
+use Rattle.vl_flow_weight.proofs.Operands.{own_bits}
+use Rattle.vl_flow_weight.specs.declared.branch.Branch.{Branch}
+use Rattle.fv_bit_sets.specs.Cells.{has}
+use Rattle.vl_flow_weight.specs.Branches.{IsBranchOf}
+use Rattle.vl_flow_weight.specs.Names.{AreNames}
+use Rattle.vl_flow_weight.proofs.Adding.{gates_capped, larger_capped}
 
 -- ---- the largest
 

@@ -10,8 +10,8 @@ use Rattle.vl_size.specs.declared.way.Way.TheVariants as w
 use Rattle.vl_size.specs.Divisors.{is_logical}
 use Rattle.vl_size.specs.Size.{is_constant}
 use Rattle.vl_size.specs.Way.{way, keeps_size}
-use Rattle.vl_order.specs.Weight.{operation_weight, unary_weight, own_size}
-use Rattle.vl_order.specs.Weight.{operation_size, left_size, right_size, weight}
+use Rattle.vl_flow_spec.specs.Weight.{operation_weight, unary_weight, own_size}
+use Rattle.vl_flow_spec.specs.Weight.{operation_size, left_size, right_size, weight}
 
 module _ (ds : List Decl) (p : Pos) where
   pub by_larger : (op : BinaryOperator) (x y : Expr) (n : ℕ) → way op ≡ w.Larger

@@ -2,7 +2,7 @@
 -- for the square of the bits. Rule of this project.
 use Rattle.std.specs.Prelude.{ℕ, ◌+◌, ◌*◌}
 use Rattle.vl_mean.specs.ConstantFaults.{capped}
-use Rattle.vl_gates.specs.declared.gates.Gates.{Gates}
+use Rattle.vl_flow_weight.specs.declared.gates.Gates.{Gates}
 
 -- with n bits, up to 2^64 - 1
 abbrev pub gates_at : Gates → ℕ → ℕ

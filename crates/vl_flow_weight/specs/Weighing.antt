@@ -6,9 +6,9 @@ use Rattle.vl_tree.specs.Expr.{Expr}
 use Rattle.vl_size.specs.declared.decl.Decl.{Decl}
 use Rattle.vl_size.specs.Size.{◌>>=◌, is_constant, operation_size, size, unary_size}
 use Rattle.vl_mean.specs.ConstantFaults.{capped}
-use Rattle.vl_order.specs.Weight.{weight}
-use Rattle.vl_gates.specs.declared.weighed.Weighed.{Weighed}
-use Rattle.vl_gates.specs.Gates.{gates_at}
+use Rattle.vl_flow_spec.specs.Weight.{weight}
+use Rattle.vl_flow_weight.specs.declared.weighed.Weighed.{Weighed}
+use Rattle.vl_flow_weight.specs.Gates.{gates_at}
 
 -- its size by itself, whether it has no names, and its gates
 pub record IsWeightOf (ds : List Decl) (e : Expr) (x : Weighed) : Type 0 where

@@ -2,12 +2,12 @@ ghost use Rattle.std.specs.Prelude.{◌≡◌, ◌*◌, Option, Some, None};
 ghost use Rattle.vl_mean.specs.ConstantFaults.{capped};
 ghost use Rattle.vl_mean.specs.FlatLaw.{flat_scopes};
 ghost use Rattle.vl_mean.specs.Targets as targets;
-ghost use Rattle.vl_order.specs.Weight as spec;
+ghost use Rattle.vl_flow_spec.specs.Weight as spec;
 ghost use Rattle.vl_size.specs.Table.{declared_as, span};
 ghost use Rattle.vl_tree.specs.ExprView.{selects};
 
-use flow_cells::are_fixed;
 use fv_base::Text;
+use vl_flow_cells::are_fixed;
 use vl_size::{Decl, Decls};
 use vl_tree::Select;
 

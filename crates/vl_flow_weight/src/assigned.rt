@@ -1,10 +1,10 @@
 ghost use Rattle.std.specs.Prelude.{◌≡◌};
 ghost use Rattle.vl_mean.specs.ConstantFaults.{capped};
-ghost use Rattle.vl_order.specs.Weight as spec;
+ghost use Rattle.vl_flow_spec.specs.Weight as spec;
 
 use crate::expr::weigh;
 use crate::target::{target_bits, target_weight};
-use vl_gates::bits_of;
+use crate::weighed::bits_of;
 use vl_mean::Env;
 use vl_mean::widths::plus;
 use vl_size::Decls;

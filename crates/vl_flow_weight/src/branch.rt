@@ -1,12 +1,12 @@
 ghost use Rattle.std.specs.Prelude.{◌≡◌, ◌+◌, ◌++◌, [], ℕ, List, IfOk};
 ghost use Rattle.vl_mean.specs.ConstantFaults.{capped};
-ghost use Rattle.vl_order.specs.Weight as spec;
+ghost use Rattle.vl_flow_spec.specs.Weight as spec;
 ghost use Rattle.vl_size.specs.declared.decl.Decl.{Decl};
-ghost use Rattle.vl_weight.specs.Branches.{IsBranchOf};
+ghost use Rattle.vl_flow_weight.specs.Branches.{IsBranchOf};
 
 use crate::names::merge_weight;
-use bit_sets::Bits;
 use fv_base::Memory;
+use fv_bit_sets::Bits;
 use std::alloc::Global;
 use vl_mean::widths::plus;
 use vl_size::Decls;

@@ -1,14 +1,14 @@
 ghost use Rattle.std.specs.Prelude.{◌≡◌, IfOk};
 ghost use Rattle.vl_mean.specs.ConstantFaults.{capped};
-ghost use Rattle.vl_order.specs.Weight as spec;
+ghost use Rattle.vl_flow_spec.specs.Weight as spec;
 
 use crate::assigned::assigned_weight;
 use crate::stmt::stmt_branch;
 use fv_base::Memory;
 use std::alloc::Global;
+use vl_flow_spec::weights::a_weight_has_64_bits;
 use vl_mean::widths::plus;
 use vl_mean::{Driver, DriverKind, Env, Flat};
-use vl_order::weights::a_weight_has_64_bits;
 use vl_size::Decls;
 
 fn driver_weight(alloc: Global, what: &DriverKind, decls: &Decls, bare: &Env) -> Result<u64, Memory>

@@ -1,13 +1,15 @@
 ghost use Rattle.std.specs.Prelude.{◌≡◌, ◌&&◌};
-ghost use Rattle.vl_gates.specs.Weighing.{IsWeightOf};
+ghost use Rattle.vl_flow_weight.specs.Weighing.{IsWeightOf};
 ghost use Rattle.vl_mean.specs.ConstantFaults.{capped};
-ghost use Rattle.vl_order.specs.Weight as spec;
+ghost use Rattle.vl_flow_spec.specs.Weight as spec;
 ghost use Rattle.vl_tree.specs.Expr.{exprs, whole};
 ghost use Rattle.vl_tree.specs.ExprView.{selects, with_select};
-ghost use Rattle.vl_weight.specs.Shares.{ArePartsOf};
+ghost use Rattle.vl_flow_weight.specs.Shares.{ArePartsOf};
 
 use crate::access::access_weight;
-use vl_gates::{Gates, Weighed, binary, conditional, unary};
+use crate::gates::Gates;
+use crate::operations::{binary, conditional, unary};
+use crate::weighed::Weighed;
 use vl_mean::widths::plus;
 use vl_size::{Decls, self_size};
 use vl_tree::{Expr, ExprKind, Select};

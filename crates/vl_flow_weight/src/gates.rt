@@ -1,7 +1,7 @@
 ghost use Rattle.std.specs.Prelude.{◌≡◌, ◌+◌, ◌*◌, ℕ};
 ghost use Rattle.vl_mean.specs.ConstantFaults.{capped};
-ghost use Rattle.vl_order.specs.Weight as spec;
-ghost use Rattle.vl_gates.specs.Gates.{gates_at};
+ghost use Rattle.vl_flow_spec.specs.Weight as spec;
+ghost use Rattle.vl_flow_weight.specs.Gates.{gates_at};
 
 use vl_mean::widths::plus;
 use vl_tree::{BinaryOperator, UnaryOperator};

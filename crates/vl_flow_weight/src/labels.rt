@@ -2,12 +2,12 @@ ghost use Rattle.std.specs.Prelude.{◌≡◌, max};
 ghost use Rattle.vl_mean.specs.ConstantFaults.{capped};
 ghost use Rattle.vl_mean.specs.Execution as exec;
 ghost use Rattle.vl_mean.specs.FlatLaw.{flat_scopes};
-ghost use Rattle.vl_order.specs.Weight as spec;
+ghost use Rattle.vl_flow_spec.specs.Weight as spec;
 ghost use Rattle.vl_tree.specs.Stmt.{Arms};
 ghost use Rattle.vl_tree.specs.StmtView.{arms, with_arm};
 
 use crate::expr::weigh;
-use vl_gates::bits_of;
+use crate::weighed::bits_of;
 use vl_mean::widths::plus;
 use vl_size::{Decls, self_size};
 use vl_tree::{Arm, Expr};

@@ -1,15 +1,15 @@
 ghost use Rattle.std.specs.Prelude.{◌≡◌, ◌++◌, ◌∷◌, [], List, ℕ, Some, IfOk, OnOk, is_none, slice_get};
 ghost use Rattle.std.specs.Prelude.{if◌then◌else◌};
 ghost use Rattle.std.specs.Option.{option_map};
-ghost use Rattle.bit_sets.specs.Cells.{has};
+ghost use Rattle.fv_bit_sets.specs.Cells.{has};
 ghost use Rattle.vl_mean.specs.ConstantFaults.{capped};
-ghost use Rattle.vl_order.specs.Weight as spec;
-ghost use Rattle.vl_weight.specs.Names.{AreNames};
+ghost use Rattle.vl_flow_spec.specs.Weight as spec;
+ghost use Rattle.vl_flow_weight.specs.Names.{AreNames};
 
-use bit_sets::Bits;
-use flow_sets::union_of;
 use fv_base::{Memory, Text};
+use fv_bit_sets::Bits;
 use std::alloc::Global;
+use vl_flow_order::union_of;
 use vl_mean::widths::plus;
 use vl_size::Decls;
 use vl_tree::{Lval, LvalKind};

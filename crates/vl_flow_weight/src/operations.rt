@@ -1,7 +1,7 @@
 ghost use Rattle.std.specs.Prelude.{◌≡◌, ◌&&◌, ℕ, List, false};
 ghost use Rattle.fv_base.specs.declared.pos.Pos.{Pos};
 ghost use Rattle.vl_mean.specs.ConstantFaults.{capped};
-ghost use Rattle.vl_order.specs.Weight as spec;
+ghost use Rattle.vl_flow_spec.specs.Weight as spec;
 ghost use Rattle.vl_size.specs.Size as sizes;
 ghost use Rattle.vl_size.specs.Divisors as divisors;
 ghost use Rattle.vl_size.specs.Way.{way};
@@ -9,8 +9,8 @@ ghost use Rattle.vl_size.specs.declared.way.Way.TheVariants as w;
 ghost use Rattle.vl_size.specs.declared.decl.Decl.{Decl};
 ghost use Rattle.vl_tree.specs.Expr as e;
 ghost use Rattle.vl_tree.specs.Expr.{Expr};
-ghost use Rattle.vl_gates.specs.Gates.{gates_at};
-ghost use Rattle.vl_gates.specs.Weighing.{binary_size_of, IsWeightOf, larger_size_of, unary_size_of};
+ghost use Rattle.vl_flow_weight.specs.Gates.{gates_at};
+ghost use Rattle.vl_flow_weight.specs.Weighing.{binary_size_of, IsWeightOf, larger_size_of, unary_size_of};
 
 use crate::gates::{Gates, operation, unary_operation};
 use crate::weighed::{Weighed, bits_of};

@@ -1,18 +1,18 @@
 ghost use Rattle.std.specs.Prelude.{IfOk};
-ghost use Rattle.vl_order.specs.Weight as spec;
+ghost use Rattle.vl_flow_spec.specs.Weight as spec;
 ghost use Rattle.vl_tree.specs.Stmt as s;
 ghost use Rattle.vl_tree.specs.StmtView.{arms, with_arm};
-ghost use Rattle.vl_weight.specs.Branches.{IsBranchOf};
+ghost use Rattle.vl_flow_weight.specs.Branches.{IsBranchOf};
 
 use crate::assigned::assigned_weight;
 use crate::branch::Branch;
 use crate::expr::weigh;
 use crate::labels::{arms_bits, labels_weight};
 use crate::names::{push, target_names};
-use flow_sets::union_of;
+use crate::weighed::bits_of;
 use fv_base::Memory;
 use std::alloc::Global;
-use vl_gates::bits_of;
+use vl_flow_order::union_of;
 use vl_mean::Env;
 use vl_mean::widths::plus;
 use vl_size::Decls;

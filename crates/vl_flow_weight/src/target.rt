@@ -1,12 +1,12 @@
 ghost use Rattle.std.specs.Prelude.{◌≡◌};
 ghost use Rattle.vl_mean.specs.ConstantFaults.{capped};
 ghost use Rattle.vl_mean.specs.FlatLaw as law;
-ghost use Rattle.vl_order.specs.Weight as spec;
+ghost use Rattle.vl_flow_spec.specs.Weight as spec;
 
 use crate::access::access_weight;
 use crate::expr::indices_weight;
 use crate::size::name_bits;
-use vl_gates::bits_of;
+use crate::weighed::bits_of;
 use vl_mean::Env;
 use vl_mean::widths::plus;
 use vl_size::Decls;

@@ -1,6 +1,6 @@
 ghost use Rattle.std.specs.Prelude.{◌≡◌};
 ghost use Rattle.vl_size.specs.Size as sizes;
-ghost use Rattle.vl_gates.specs.Gates.{gates_at};
+ghost use Rattle.vl_flow_weight.specs.Gates.{gates_at};
 
 use crate::gates::Gates;
 

@@ -7,22 +7,22 @@ use Rattle.vl_size.specs.Table.{IsShaped}
 use Rattle.vl_mean.specs.Cells.{cells}
 use Rattle.vl_mean.specs.Parts.{Part}
 use Rattle.vl_mean.specs.Runs.{Each}
-use Rattle.flow_cells.specs.Numbered.{all_cells}
+use Rattle.vl_flow_cells.specs.Numbered.{all_cells}
 use Rattle.wn_net.specs.declared.parts.Mem.{Mem}
 use Rattle.wn_net.specs.Changes.{AddsNodes, Keeps}
 use Rattle.wn_net.specs.Net.{AreNodes, Netlist}
-use Rattle.vl_frames.specs.Frames.{AreCellsOf, cell_widths}
-use Rattle.vl_named.specs.Sources.{AreEach}
-use Rattle.vl_keeps.specs.declared.keep.Keep.{Keep}
-use Rattle.vl_sources.specs.Listing.{HasSources}
-use Rattle.vl_close.specs.Nexts.{AreBitsOfCells, AreNexts, ShowBits}
-use Rattle.vl_stores.specs.Stores.{MayStore}
-use Rattle.vl_stores.proofs.Together.{as_many}
-use Rattle.vl_ready.specs.Ready.{AreReady, HasNoWrites}
-use Rattle.vl_ready.proofs.Memories.{may_be_stored}
-use Rattle.vl_ready.proofs.Registers.{are_ready}
-use Rattle.vl_declare.specs.declared.sources.Sources.{Sources}
-use Rattle.vl_declare.specs.Design.{AreKeepsOf, Declares, keeping, names_with}
+use Rattle.vl_lower_assign.specs.Frames.{AreCellsOf, cell_widths}
+use Rattle.vl_lower_spec.specs.Sources.{AreEach}
+use Rattle.vl_lower_cell_laws.specs.declared.keep.Keep.{Keep}
+use Rattle.vl_lower_cell_laws.specs.Listing.{HasSources}
+use Rattle.vl_lower_state.specs.Nexts.{AreBitsOfCells, AreNexts, ShowBits}
+use Rattle.vl_lower_state.specs.Stores.{MayStore}
+use Rattle.vl_lower_state.proofs.StoresTogether.{as_many}
+use Rattle.vl_lower_state.specs.Ready.{AreReady, HasNoWrites}
+use Rattle.vl_lower_state.proofs.Memories.{may_be_stored}
+use Rattle.vl_lower_state.proofs.Registers.{are_ready}
+use Rattle.vl_lower.specs.declared.sources.Sources.{Sources}
+use Rattle.vl_lower.specs.Design.{AreKeepsOf, Declares, keeping, names_with}
 
 both_many : (xs ys : List (List ℕ)) → length (xs ++ ys) ≡ length xs + length ys
 both_many [] ys = omega arith

@@ -6,12 +6,12 @@ use Rattle.vl_size.specs.Size.{Values}
 use Rattle.wn_net.specs.declared.parts.Mem.{Mem}
 use Rattle.wn_net.specs.Changes.{Keeps}
 use Rattle.wn_net.specs.Net.{Netlist}
-use Rattle.vl_frames.specs.Frames.{Cells}
-use Rattle.vl_named.specs.Sources.{AreEach}
-use Rattle.vl_cycle.specs.Cycles.{Turns}
-use Rattle.vl_stores.specs.Stores.{MayStore}
-use Rattle.vl_stores.proofs.Carried.{may_kept}
-use Rattle.vl_phased.specs.Closing.{over}
+use Rattle.vl_lower_assign.specs.Frames.{Cells}
+use Rattle.vl_lower_spec.specs.Sources.{AreEach}
+use Rattle.vl_lower_cell_laws.specs.Cycles.{Turns}
+use Rattle.vl_lower_state.specs.Stores.{MayStore}
+use Rattle.vl_lower_state.proofs.Carried.{may_kept}
+use Rattle.vl_lower.specs.Closing.{over}
 
 pub turns_over : (old new : Netlist) (ds : List Decl) (before after : Cells) (nodes b1 b2 : List ℕ)
     (now : Values → Values) (next : Values → Values → Values) (seen : Values → List ℕ)

@@ -4,9 +4,9 @@ use Rattle.std.specs.Prelude.{if◌then◌else◌, length, slice_index}
 use Rattle.std.proofs.Common.{ap, sym, ◌∙◌, arith}
 use Rattle.std.proofs.Math.Nat.{add-mul, mul_assoc, pow-suc}
 use Rattle.fv_bits.specs.Bits.{joined}
-use Rattle.vl_keeps.specs.declared.keep.Keep.{Keep}
-use Rattle.vl_keeps.specs.Keeps.{Kept, bits_number, has_bit, kept_bit, kept_bits}
-use Rattle.vl_registers.specs.Held.{bit_number, bit_registers}
+use Rattle.vl_lower_cell_laws.specs.declared.keep.Keep.{Keep}
+use Rattle.vl_lower_cell_laws.specs.Keeps.{Kept, bits_number, has_bit, kept_bit, kept_bits}
+use Rattle.vl_lower.specs.Held.{bit_number, bit_registers}
 
 -- the highest of the registers stands in front
 pub bits_more : (keep : Keep) (k : ℕ) → kept_bits keep (suc k) ≡ bit_registers keep k ++ kept_bits keep k

@@ -15,21 +15,21 @@ use Rattle.vl_size.specs.Size.{Values}
 use Rattle.vl_mean.specs.declared.driver.Driver.{Driver}
 use Rattle.vl_mean.specs.declared.driver.DriverKind.{DriverKind}
 use Rattle.vl_mean.specs.declared.driver.DriverKind.TheVariants as k
-use Rattle.vl_path.specs.Drivers.{is_clocked}
-use Rattle.vl_order.specs.Sequence.{is_settled}
-use Rattle.vl_ticked.specs.Ticked.{stored_by}
-use Rattle.vl_settled.specs.Left.{seen_at_edge}
+use Rattle.vl_flow_spec.specs.Drivers.{is_clocked}
+use Rattle.vl_flow_spec.specs.Sequence.{is_settled}
+use Rattle.vl_lower_cell_laws.specs.Ticked.{stored_by}
+use Rattle.vl_lower_cell_laws.specs.Left.{seen_at_edge}
 use Rattle.wn_net.proofs.Laws.{adds_none}
 use Rattle.vl_mean.specs.Execution.{begun, exec}
 use Rattle.vl_mean.specs.FlatLaw.{flat_scopes}
 use Rattle.vl_mean.specs.Runs.{Each}
 use Rattle.wn_net.specs.Value.{Given}
 use Rattle.wn_net.specs.Net.{Netlist, AreNodes, value_at}
-use Rattle.vl_frames.specs.Frames.{AreCellsOf, Cells, IsFrame, Stand, StandsFor, taken_back}
-use Rattle.vl_frames.specs.Stored.{stored}
-use Rattle.vl_frames.proofs.Behind.{cells_on, stand_on}
-use Rattle.vl_steps.specs.Executes.{Executes}
-use Rattle.vl_cycle.specs.Cycles.{Settles, Tell, Ticks, Turns}
+use Rattle.vl_lower_assign.specs.Frames.{AreCellsOf, Cells, IsFrame, Stand, StandsFor, taken_back}
+use Rattle.vl_lower_assign.specs.Stored.{stored}
+use Rattle.vl_lower_assign.proofs.Behind.{cells_on, stand_on}
+use Rattle.vl_lower_stmt.specs.Executes.{Executes}
+use Rattle.vl_lower_cell_laws.specs.Cycles.{Settles, Tell, Ticks, Turns}
 
 module _ (ds : List Decl) (old new : Netlist) (f h : Cells) (empty : f.assumed ≡ []) where
   stands : (g : Given) (v w : Values) → Stand old g ds f.now v → Stand old g ds f.next w

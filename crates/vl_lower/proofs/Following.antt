@@ -2,15 +2,15 @@
 use Rattle.std.specs.Prelude.{◌≡◌, ℕ, ◌+◌, ◌<◌, ◌≤◌, List, [], ◌∷◌, length, drop}
 use Rattle.std.specs.Prelude.{Bool, true, false, if◌then◌else◌}
 use Rattle.std.proofs.Common.{ap, arith, subst, sym, ◌∙◌}
-use Rattle.vl_keeps.specs.declared.keep.Keep.{Keep}
-use Rattle.vl_keeps.specs.Keeps.{Kept, is_whole, kept_bits, registers_of, whole_kept}
-use Rattle.vl_registers.proofs.Bits.{few_bits}
-use Rattle.vl_sources.specs.Listing.{Keeping}
-use Rattle.vl_sources.proofs.Lists.{named_many}
-use Rattle.vl_declare.specs.declared.sources.Sources.{Sources}
-use Rattle.vl_declare.specs.Added.{Added, Adds, cell_added, cells_added, word_added, words_added}
-use Rattle.vl_declare.proofs.Lists.{drop_at, drop_none}
-use Rattle.vl_declare.proofs.Sums.{SoFar, many_cells, many_regs, so_far_all, so_far_more}
+use Rattle.vl_lower_cell_laws.specs.declared.keep.Keep.{Keep}
+use Rattle.vl_lower_cell_laws.specs.Keeps.{Kept, is_whole, kept_bits, registers_of, whole_kept}
+use Rattle.vl_lower.proofs.Bits.{few_bits}
+use Rattle.vl_lower_cell_laws.specs.Listing.{Keeping}
+use Rattle.vl_lower_cell_laws.proofs.SourcesLists.{named_many}
+use Rattle.vl_lower.specs.declared.sources.Sources.{Sources}
+use Rattle.vl_lower.specs.Added.{Added, Adds, cell_added, cells_added, word_added, words_added}
+use Rattle.vl_lower.proofs.Lists.{drop_at, drop_none}
+use Rattle.vl_lower.proofs.Sums.{SoFar, many_cells, many_regs, so_far_all, so_far_more}
 
 -- a cell has no more registers than bits
 pub few_registers : (keep : Keep) (w : ℕ) → 1 ≤ w → length (registers_of keep w) ≤ w

@@ -9,9 +9,9 @@ use Rattle.vl_mean.specs.declared.driver.Start.{Start}
 use Rattle.vl_mean.specs.FlatLaw.{IsLawful}
 use Rattle.vl_mean.specs.FlatParts.{parts_of}
 use Rattle.vl_mean.specs.Parts.{Part}
-use Rattle.vl_order.specs.Refusals.{HasNoRefusal}
-use Rattle.vl_order.specs.Sequence.{IsSequence}
-use Rattle.vl_evals.specs.Evaluations.{IsLowered}
+use Rattle.vl_flow_spec.specs.Refusals.{HasNoRefusal}
+use Rattle.vl_flow_spec.specs.Sequence.{IsSequence}
+use Rattle.vl_lower_spec.specs.Evaluations.{IsLowered}
 use Rattle.wn_net.specs.declared.names.NetName.{NetName}
 use Rattle.wn_net.specs.declared.names.Names.{Names}
 use Rattle.wn_net.specs.declared.parts.Mem.{Mem}
@@ -21,26 +21,26 @@ use Rattle.wn_net.specs.Given.{IsGiven}
 use Rattle.wn_net.specs.Net.{IsNet, Netlist}
 use Rattle.wn_net.specs.Value.{Given}
 use Rattle.wn_net.proofs.Laws.{keeps_on}
-use Rattle.vl_frames.specs.Frames.{Stand}
-use Rattle.vl_cycle.specs.Cycles.{SettlesAll, TicksAll}
-use Rattle.vl_keeps.specs.declared.keep.Keep.{Keep}
-use Rattle.vl_entries.specs.Entries.{all_entries}
-use Rattle.vl_sources.specs.Listing.{HasSources, Keeping}
-use Rattle.vl_close.specs.Nexts.{ShowBits, with_nexts}
-use Rattle.vl_stores.specs.Stores.{AreStored, words_at}
-use Rattle.vl_stores.proofs.Carried.{put_nodes_kept}
-use Rattle.vl_held.proofs.Whole.{registers_next, words_next}
-use Rattle.vl_phases.specs.Phases.{BeginCycle, ClosesCycle}
-use Rattle.vl_phases.proofs.Fitting.{cells_kept, stand_kept}
-use Rattle.vl_phases.proofs.Together as together
-use Rattle.vl_begins.proofs.Begun as begun
-use Rattle.vl_declare.specs.declared.sources.Sources.{Sources}
-use Rattle.vl_declare.specs.Design.{AreKeepsOf, Declares, keeping, names_with}
-use Rattle.vl_few.specs.Few.{AreFew}
-use Rattle.vl_few.proofs.Few.{are_few}
-use Rattle.vl_phased.specs.Closing.{Closes, over}
-use Rattle.vl_listed.specs.Listed.{entries_by}
-use Rattle.vl_listed.proofs.Those.{those}
+use Rattle.vl_lower_assign.specs.Frames.{Stand}
+use Rattle.vl_lower_cell_laws.specs.Cycles.{SettlesAll, TicksAll}
+use Rattle.vl_lower_cell_laws.specs.declared.keep.Keep.{Keep}
+use Rattle.vl_lower_cell_laws.specs.Entries.{all_entries}
+use Rattle.vl_lower_cell_laws.specs.Listing.{HasSources, Keeping}
+use Rattle.vl_lower_state.specs.Nexts.{ShowBits, with_nexts}
+use Rattle.vl_lower_state.specs.Stores.{AreStored, words_at}
+use Rattle.vl_lower_state.proofs.Carried.{put_nodes_kept}
+use Rattle.vl_lower_state.proofs.Whole.{registers_next, words_next}
+use Rattle.vl_lower_state.specs.Phases.{BeginCycle, ClosesCycle}
+use Rattle.vl_lower_state.proofs.Fitting.{cells_kept, stand_kept}
+use Rattle.vl_lower_state.proofs.PhasesTogether as together
+use Rattle.vl_lower_state.proofs.Begun as begun
+use Rattle.vl_lower.specs.declared.sources.Sources.{Sources}
+use Rattle.vl_lower.specs.Design.{AreKeepsOf, Declares, keeping, names_with}
+use Rattle.vl_lower_cell_laws.specs.Few.{AreFew}
+use Rattle.vl_lower_cell_laws.proofs.Few.{are_few}
+use Rattle.vl_lower.specs.Closing.{Closes, over}
+use Rattle.vl_lower.specs.Listed.{entries_by}
+use Rattle.vl_lower.proofs.Those.{those}
 
 -- with next nodes registers have the widths and the starts that they had
 kept_regs : {B : Type 0} (f : Reg → B) → ((r : Reg) (n : ℕ) → f (record r { next = n }) ≡ f r) → (ns : List ℕ)

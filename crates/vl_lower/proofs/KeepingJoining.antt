@@ -4,10 +4,10 @@ use Rattle.std.proofs.Common.{ap, sym, ◌∙◌, arith, ◌⊎◌, inl, inr}
 use Rattle.std.proofs.lemmas.Bool.{cases_order}
 use Rattle.std.proofs.lemmas.List.{get_or_append_left}
 use Rattle.std.proofs.Math.Seq.{get_or-append_seam}
-use Rattle.flow_cells.proofs.Numbers.{length_more}
-use Rattle.vl_keeps.specs.declared.keep.Keep.{Keep}
-use Rattle.vl_declare.specs.Design.{keeping}
-use Rattle.vl_keeping.specs.Keeping.{AreJoined}
+use Rattle.vl_flow_cells.proofs.Numbers.{length_more}
+use Rattle.vl_lower_cell_laws.specs.declared.keep.Keep.{Keep}
+use Rattle.vl_lower.specs.Design.{keeping}
+use Rattle.vl_lower.specs.Keeping.{AreJoined}
 
 module _ (driven known values : List ℕ) where
   abbrev pub kept_in : ℕ → Keep

@@ -11,16 +11,16 @@ use Rattle.vl_mean.specs.Parts.{Part, clocked, combinational, declares, equation
 use Rattle.vl_mean.specs.Runs.{initial_writes, last_value}
 use Rattle.vl_mean.specs.Scopes.{no_values, operand_in}
 use Rattle.vl_mean.specs.Targets.{Spot, Write, bit_of, spots, written}
-use Rattle.flow_cells.specs.Numbered.{all_cells}
-use Rattle.flow_cells.proofs.Lists.{get_left, get_less, get_right}
-use Rattle.vl_keeps.specs.declared.keep.Keep.{Keep}
-use Rattle.vl_keeps.specs.Keeps.{AreSmall, IsKeepOf, value_or}
-use Rattle.vl_keeps.proofs.Starting.{leave_last}
-use Rattle.vl_sources.specs.Listing.{AreKeeps}
-use Rattle.vl_driven.specs.Masks.{AreDriven, AreStarted}
-use Rattle.vl_initial.specs.First.{AreFirst}
-use Rattle.vl_declare.specs.Design.{keeping}
-use Rattle.vl_keeping.specs.Keeping.{AreJoined}
+use Rattle.vl_flow_cells.specs.Numbered.{all_cells}
+use Rattle.vl_flow_cells.proofs.Lists.{get_left, get_less, get_right}
+use Rattle.vl_lower_cell_laws.specs.declared.keep.Keep.{Keep}
+use Rattle.vl_lower_cell_laws.specs.Keeps.{AreSmall, IsKeepOf, value_or}
+use Rattle.vl_lower_cell_laws.proofs.Starting.{leave_last}
+use Rattle.vl_lower_cell_laws.specs.Listing.{AreKeeps}
+use Rattle.vl_flow_effects.specs.Masks.{AreDriven, AreStarted}
+use Rattle.vl_lower_stmt.specs.First.{AreFirst}
+use Rattle.vl_lower.specs.Design.{keeping}
+use Rattle.vl_lower.specs.Keeping.{AreJoined}
 
 -- ---- what is written are bits
 

@@ -3,13 +3,13 @@ use Rattle.std.specs.Prelude.{◌≡◌, refl, ℕ, zero, suc, ◌+◌, ◌<◌,
 use Rattle.std.specs.Prelude.{slice_index}
 use Rattle.std.proofs.Common.{ap, append_assoc, arith, sym, ◌∙◌}
 use Rattle.std.proofs.lemmas.List.{length-append, length-map, map-append}
-use Rattle.vl_keeps.specs.Keeps.{Kept}
+use Rattle.vl_lower_cell_laws.specs.Keeps.{Kept}
 use Rattle.wn_net.specs.Value.{Given}
 use Rattle.wn_net.specs.Net.{IsNodeOf, Netlist, value_at}
 use Rattle.wn_net.specs.Changes.{Grows}
 use Rattle.wn_net.proofs.Laws.{grown_node, grown_value}
-use Rattle.vl_named.specs.Sources.{AreEach}
-use Rattle.vl_sources.specs.Listing.{named_registers}
+use Rattle.vl_lower_spec.specs.Sources.{AreEach}
+use Rattle.vl_lower_cell_laws.specs.Listing.{named_registers}
 
 pub chained : {A : Type 0} (p q r xs ys : List A) → q ≡ p ++ xs → r ≡ q ++ ys → r ≡ p ++ (xs ++ ys)
 chained p q r xs ys h k = k ∙ ap (λ z. z ++ ys) h ∙ append_assoc p xs ys

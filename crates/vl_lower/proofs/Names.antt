@@ -13,35 +13,35 @@ use Rattle.vl_mean.specs.Cells.{cells, cells_of}
 use Rattle.vl_mean.specs.FlatLaw.{IsKept, IsMemory, all_names_count, is_variable}
 use Rattle.vl_mean.specs.Parts.{Part}
 use Rattle.vl_mean.specs.Runs.{Each}
-use Rattle.flow_cells.specs.Numbered.{all_cells, first_cell}
-use Rattle.flow_cells.proofs.Numbers.{first_few, first_none, next_first}
-use Rattle.flow_cells.proofs.Words.{words_length}
+use Rattle.vl_flow_cells.specs.Numbered.{all_cells, first_cell}
+use Rattle.vl_flow_cells.proofs.Numbers.{first_few, first_none, next_first}
+use Rattle.vl_flow_cells.proofs.Words.{words_length}
 use Rattle.wn_net.specs.declared.names.NetName.{NetName}
 use Rattle.wn_net.specs.declared.parts.InputKind.{InputKind}
 use Rattle.wn_net.specs.declared.parts.Mem.{Mem}
 use Rattle.wn_net.specs.declared.parts.Reg.{Reg}
 use Rattle.wn_net.specs.Value.{Given}
 use Rattle.wn_net.specs.Net.{IsNet, IsNodeOf, value_at}
-use Rattle.vl_named.specs.Sources.{kind_of}
-use Rattle.vl_frames.specs.Frames.{AreCellsOf, cell_widths}
-use Rattle.vl_keeps.specs.declared.keep.Keep.{Keep}
-use Rattle.vl_keeps.specs.Keeps.{IsKeepOf, Kept, registers_of}
-use Rattle.vl_entries.specs.Entries.{is_memory}
-use Rattle.vl_sources.specs.Listing.{AreKeeps, HasSources, Keeping, Stored, cell_registers, entry_count}
-use Rattle.vl_sources.specs.Listing.{inputs_named, memories_in, memory_count, named_registers}
-use Rattle.vl_sources.specs.Listing.{registers_in, stored}
-use Rattle.vl_sources.specs.Numbers.{all_numbers}
-use Rattle.vl_sources.proofs.Along.{inputs_many, registers_many}
-use Rattle.vl_sources.proofs.Lists.{named_many}
-use Rattle.vl_sources.proofs.Words.{counted}
-use Rattle.vl_declare.specs.declared.sources.Sources.{Sources}
-use Rattle.vl_declare.specs.Added.{Added, Adds, IsNone, IsSmall, all_added, name_added}
-use Rattle.vl_declare.specs.Design.{Declares, is_stored, keeping, names_with}
-use Rattle.vl_declare.proofs.Following.{few_registers}
-use Rattle.vl_declare.proofs.Lists.{alone, alone_map, drop_none, each_many, index_of_map, node_at}
-use Rattle.vl_declare.proofs.Splitting.{memory_stored}
-use Rattle.vl_declare.proofs.Sums.{SoFar, many_cells, many_inputs, many_mems, many_regs, so_far_all, so_far_more}
-use Rattle.vl_declare.proofs.Sums.{so_far_none}
+use Rattle.vl_lower_spec.specs.Sources.{kind_of}
+use Rattle.vl_lower_assign.specs.Frames.{AreCellsOf, cell_widths}
+use Rattle.vl_lower_cell_laws.specs.declared.keep.Keep.{Keep}
+use Rattle.vl_lower_cell_laws.specs.Keeps.{IsKeepOf, Kept, registers_of}
+use Rattle.vl_lower_cell_laws.specs.Entries.{is_memory}
+use Rattle.vl_lower_cell_laws.specs.Listing.{AreKeeps, HasSources, Keeping, Stored, cell_registers, entry_count}
+use Rattle.vl_lower_cell_laws.specs.Listing.{inputs_named, memories_in, memory_count, named_registers}
+use Rattle.vl_lower_cell_laws.specs.Listing.{registers_in, stored}
+use Rattle.vl_lower_cell_laws.specs.Numbers.{all_numbers}
+use Rattle.vl_lower_cell_laws.proofs.Along.{inputs_many, registers_many}
+use Rattle.vl_lower_cell_laws.proofs.SourcesLists.{named_many}
+use Rattle.vl_lower_cell_laws.proofs.Words.{counted}
+use Rattle.vl_lower.specs.declared.sources.Sources.{Sources}
+use Rattle.vl_lower.specs.Added.{Added, Adds, IsNone, IsSmall, all_added, name_added}
+use Rattle.vl_lower.specs.Design.{Declares, is_stored, keeping, names_with}
+use Rattle.vl_lower.proofs.Following.{few_registers}
+use Rattle.vl_lower.proofs.Lists.{alone, alone_map, drop_none, each_many, index_of_map, node_at}
+use Rattle.vl_lower.proofs.Splitting.{memory_stored}
+use Rattle.vl_lower.proofs.Sums.{SoFar, many_cells, many_inputs, many_mems, many_regs, so_far_all, so_far_more}
+use Rattle.vl_lower.proofs.Sums.{so_far_none}
 
 -- ---- how many a name adds
 

@@ -3,16 +3,16 @@ use Rattle.std.specs.Prelude.{◌≡◌, ℕ, suc, ◌+◌, ◌-◌, ◌*◌, �
 use Rattle.std.proofs.Common.{ap, append-nil, append_assoc, arith, subst, sym, ◌∙◌}
 use Rattle.std.proofs.lemmas.List.{length-append, length-map, map-append}
 use Rattle.fv_bits.specs.Bits.{joined}
-use Rattle.vl_keeps.specs.declared.keep.Keep.{Keep}
-use Rattle.vl_keeps.specs.Keeps.{Kept, bits_number, kept_bits}
+use Rattle.vl_lower_cell_laws.specs.declared.keep.Keep.{Keep}
+use Rattle.vl_lower_cell_laws.specs.Keeps.{Kept, bits_number, kept_bits}
 use Rattle.wn_net.specs.declared.node.Node.{Node}
 use Rattle.wn_net.specs.declared.parts.Reg.{Reg}
 use Rattle.wn_net.specs.Value.{Given}
 use Rattle.wn_net.specs.Net.{IsNodeOf, Netlist, value_at, width_at}
 use Rattle.wn_net.specs.Changes.{AddsRegs, Builds}
 use Rattle.wn_net.proofs.Laws.{adds_regs, built_node, regs_node_on, regs_on}
-use Rattle.vl_registers.specs.Held.{Holds, bit_number, bit_registers}
-use Rattle.vl_registers.proofs.Bits.{bits_more, few_bits, joined_more, number_more, number_none}
+use Rattle.vl_lower.specs.Held.{Holds, bit_number, bit_registers}
+use Rattle.vl_lower.proofs.Bits.{bits_more, few_bits, joined_more, number_more, number_none}
 
 pub record IsJoined (old new : Netlist) (keep : Keep) (width left id : ℕ) : Type 0 where
   pub within : left < width

@@ -8,11 +8,11 @@ use Rattle.std.proofs.lemmas.Option.{same_Some}
 use Rattle.vl_size.specs.declared.decl.Decl.{Decl}
 use Rattle.vl_size.specs.Table.{span, word_name}
 use Rattle.vl_mean.specs.Cells.{cells, cells_of, words_from}
-use Rattle.flow_cells.specs.Numbered.{all_cells}
-use Rattle.flow_cells.specs.Places.{index_at}
+use Rattle.vl_flow_cells.specs.Numbered.{all_cells}
+use Rattle.vl_flow_cells.specs.Places.{index_at}
 use Rattle.wn_net.specs.declared.names.NetName.{NetName}
-use Rattle.vl_entries.specs.Entries.{node_entries, node_entry}
-use Rattle.vl_listed.specs.Listed.{entries_by, name_entries, next_memory}
+use Rattle.vl_lower_cell_laws.specs.Entries.{node_entries, node_entry}
+use Rattle.vl_lower.specs.Listed.{entries_by, name_entries, next_memory}
 
 pub grouped : {A : Type 0} (xs ys zs : List A) → (xs ++ ys) ++ zs ≡ xs ++ (ys ++ zs)
 grouped [] ys zs = refl

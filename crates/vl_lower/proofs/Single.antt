@@ -11,19 +11,19 @@ use Rattle.wn_net.specs.Net.{IsNodeOf, Netlist, value_at}
 use Rattle.wn_net.specs.Changes.{AddsNodes, AddsRegs, BuildsInput, Grows, with_mem}
 use Rattle.wn_net.proofs.Laws.{built_input_node, nodes_grow, regs_grow}
 use Rattle.vl_mean.specs.Runs.{Each}
-use Rattle.vl_named.specs.Sources.{below}
+use Rattle.vl_lower_spec.specs.Sources.{below}
 use Rattle.vl_size.specs.declared.decl.Decl.{Decl}
 use Rattle.vl_mean.specs.Cells.{cells}
-use Rattle.vl_keeps.specs.declared.keep.Keep.{Keep}
-use Rattle.vl_keeps.specs.Keeps.{Kept, cell_number, registers_of}
-use Rattle.vl_registers.specs.Held.{Holds}
-use Rattle.vl_sources.specs.Listing.{Keeping, named_registers, register_spot, word_starts}
-use Rattle.vl_sources.proofs.Lists.{each_both, named_many}
-use Rattle.vl_declare.specs.declared.sources.Sources.{Sources}
-use Rattle.vl_sources.specs.Numbers.{memory_numbers}
-use Rattle.vl_declare.specs.Added.{Added, Adds, both, cell_added, input_added, memory_added, nothing, words_added}
-use Rattle.vl_declare.proofs.Lists.{constant_map, named_map}
-use Rattle.vl_declare.proofs.Sums.{adds_both}
+use Rattle.vl_lower_cell_laws.specs.declared.keep.Keep.{Keep}
+use Rattle.vl_lower_cell_laws.specs.Keeps.{Kept, cell_number, registers_of}
+use Rattle.vl_lower.specs.Held.{Holds}
+use Rattle.vl_lower_cell_laws.specs.Listing.{Keeping, named_registers, register_spot, word_starts}
+use Rattle.vl_lower_cell_laws.proofs.SourcesLists.{each_both, named_many}
+use Rattle.vl_lower.specs.declared.sources.Sources.{Sources}
+use Rattle.vl_lower_cell_laws.specs.Numbers.{memory_numbers}
+use Rattle.vl_lower.specs.Added.{Added, Adds, both, cell_added, input_added, memory_added, nothing, words_added}
+use Rattle.vl_lower.proofs.Lists.{constant_map, named_map}
+use Rattle.vl_lower.proofs.Sums.{adds_both}
 
 module _ (old new : Sources) where
   -- the lists of sources are as they were, but perhaps those of registers

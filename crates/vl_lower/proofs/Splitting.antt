@@ -13,14 +13,14 @@ use Rattle.vl_mean.specs.Cells.{cells}
 use Rattle.vl_mean.specs.Parts.{Part}
 use Rattle.vl_mean.specs.Runs.{initial_writes, is_driven, last_value}
 use Rattle.vl_mean.specs.Targets.{bit_of}
-use Rattle.vl_path.proofs.Bools.{and_both, and_left, and_right, left_none, or_left, or_right, right_none}
-use Rattle.vl_evals.specs.Maps.{is_split_at, some_below}
-use Rattle.vl_keeps.specs.declared.keep.Keep.{Keep}
-use Rattle.vl_keeps.specs.Keeps.{IsKeepOf, has_bit, is_whole}
-use Rattle.vl_entries.specs.Entries.{is_memory}
-use Rattle.vl_sources.specs.Listing.{Keeping}
-use Rattle.vl_sources.proofs.Memories.{word_kept}
-use Rattle.vl_declare.specs.Design.{are_whole, is_stored}
+use Rattle.vl_flow_spec.proofs.Bools.{and_both, and_left, and_right, left_none, or_left, or_right, right_none}
+use Rattle.vl_lower_spec.specs.Maps.{is_split_at, some_below}
+use Rattle.vl_lower_cell_laws.specs.declared.keep.Keep.{Keep}
+use Rattle.vl_lower_cell_laws.specs.Keeps.{IsKeepOf, has_bit, is_whole}
+use Rattle.vl_lower_cell_laws.specs.Entries.{is_memory}
+use Rattle.vl_lower_cell_laws.specs.Listing.{Keeping}
+use Rattle.vl_lower_cell_laws.proofs.Memories.{word_kept}
+use Rattle.vl_lower.specs.Design.{are_whole, is_stored}
 
 is_equal : (a b : ℕ) → (a == b) ≡ true → a ≡ b
 is_equal a b e = grind (arith, nat_tests, e)

@@ -9,13 +9,13 @@ use Rattle.wn_net.specs.declared.names.Spot.{Spot}
 use Rattle.wn_net.specs.declared.parts.Init.{Init}
 use Rattle.wn_net.specs.declared.parts.Init.TheVariants as init
 use Rattle.wn_net.specs.Net.{IsInitOf}
-use Rattle.vl_keeps.specs.declared.keep.Keep.{Keep}
-use Rattle.vl_keeps.specs.Keeps.{Kept, has_bit, is_whole, kept_bit, kept_bits, registers_of, whole_kept}
-use Rattle.vl_registers.specs.Held.{bit_registers}
-use Rattle.vl_registers.proofs.Bits.{bits_more}
-use Rattle.vl_sources.specs.Listing.{Keeping, named_registers, register_spot, word_starts}
-use Rattle.vl_declare.specs.Design.{are_whole}
-use Rattle.vl_declare.proofs.Lists.{drop_at, drop_none}
+use Rattle.vl_lower_cell_laws.specs.declared.keep.Keep.{Keep}
+use Rattle.vl_lower_cell_laws.specs.Keeps.{Kept, has_bit, is_whole, kept_bit, kept_bits, registers_of, whole_kept}
+use Rattle.vl_lower.specs.Held.{bit_registers}
+use Rattle.vl_lower.proofs.Bits.{bits_more}
+use Rattle.vl_lower_cell_laws.specs.Listing.{Keeping, named_registers, register_spot, word_starts}
+use Rattle.vl_lower.specs.Design.{are_whole}
+use Rattle.vl_lower.proofs.Lists.{drop_at, drop_none}
 
 abbrev pub spots_of : ℕ → List Kept → List Spot
 spots_of name xs = map register_spot (named_registers name xs)

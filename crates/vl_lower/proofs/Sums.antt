@@ -8,11 +8,11 @@ use Rattle.wn_net.specs.declared.parts.Reg.{Reg}
 use Rattle.wn_net.specs.Net.{IsNodeOf, value_at}
 use Rattle.wn_net.proofs.Begun.{grows_none}
 use Rattle.wn_net.proofs.Laws.{grows_on}
-use Rattle.vl_keeps.specs.Keeps.{Kept}
-use Rattle.vl_sources.specs.Listing.{Stored, input_spot, register_spot}
-use Rattle.vl_declare.specs.declared.sources.Sources.{Sources}
-use Rattle.vl_declare.specs.Added.{Added, Adds, both, nothing}
-use Rattle.vl_declare.proofs.Lists.{chained, chained_map, each_both, each_many, many_of, nodes_stay, values_stay}
+use Rattle.vl_lower_cell_laws.specs.Keeps.{Kept}
+use Rattle.vl_lower_cell_laws.specs.Listing.{Stored, input_spot, register_spot}
+use Rattle.vl_lower.specs.declared.sources.Sources.{Sources}
+use Rattle.vl_lower.specs.Added.{Added, Adds, both, nothing}
+use Rattle.vl_lower.proofs.Lists.{chained, chained_map, each_both, each_many, many_of, nodes_stay, values_stay}
 
 pub adds_none : (x : Sources) → Adds x x nothing
 adds_none x = record {

@@ -5,9 +5,9 @@ use Rattle.std.specs.Prelude.{slice_get, slice_set}
 use Rattle.std.proofs.lemmas.List.{take_more}
 use Rattle.std.proofs.lemmas.Option.{get_or_from_slice_get}
 use Rattle.std.proofs.Common.{ap, sym, ◌∙◌, arith, true≢false}
-use Rattle.vl_frames.specs.declared.change.Change.{Change}
-use Rattle.vl_frames.specs.Frames.{taken_back}
-use Rattle.vl_frames.proofs.Logging.{back_append}
+use Rattle.vl_lower_assign.specs.declared.change.Change.{Change}
+use Rattle.vl_lower_assign.specs.Frames.{taken_back}
+use Rattle.vl_lower_assign.proofs.Logging.{back_append}
 
 -- past the last cell nothing is set
 pub set_past : (xs : List ℕ) (i x : ℕ) → length xs ≤ i → slice_set xs i x ≡ xs

@@ -12,12 +12,12 @@ use Rattle.vl_mean.specs.Cells.{cells}
 use Rattle.vl_mean.specs.FlatLaw.{IsKept}
 use Rattle.vl_mean.specs.Parts.{Part}
 use Rattle.vl_mean.specs.Scopes.{is_clock_class}
-use Rattle.vl_lowered.proofs.Kept.{variable_is}
-use Rattle.vl_entries.specs.Entries.{all_entries, is_memory, memory_entry, node_entries}
-use Rattle.vl_held.specs.Held.{firsts_in, memory_firsts}
-use Rattle.vl_shown.proofs.Counted.{memory_is_variable}
-use Rattle.vl_ready.proofs.Memories.{some_cell}
-use Rattle.vl_listed.specs.Listed.{EntriesAreThose, entries_by, is_first, is_some_of}
+use Rattle.vl_lower_spec.proofs.Kept.{variable_is}
+use Rattle.vl_lower_cell_laws.specs.Entries.{all_entries, is_memory, memory_entry, node_entries}
+use Rattle.vl_lower_state.specs.Held.{firsts_in, memory_firsts}
+use Rattle.vl_lower_cell_laws.proofs.ShownCounted.{memory_is_variable}
+use Rattle.vl_lower_state.proofs.Memories.{some_cell}
+use Rattle.vl_lower.specs.Listed.{EntriesAreThose, entries_by, is_first, is_some_of}
 
 -- what is first behind a list's front
 pub behind : (xs : List ℕ) (m x : ℕ) (ys : List ℕ) → drop m xs ≡ x ∷ ys

@@ -10,16 +10,16 @@ use Rattle.wn_net.specs.declared.parts.Input.{Input}
 use Rattle.wn_net.specs.Changes.{Grows}
 use Rattle.wn_net.specs.Net.{IsNodeOf, value_at}
 use Rattle.wn_net.specs.Value.{Given, word_at, words_of}
-use Rattle.vl_named.specs.Sources.{AreEach, kind_of}
-use Rattle.vl_frames.specs.Frames.{cell_widths}
-use Rattle.vl_keeps.specs.declared.keep.Keep.{Keep}
-use Rattle.vl_keeps.specs.Keeps.{Kept, cell_number, registers_of}
-use Rattle.vl_sources.specs.Listing.{Keeping, Stored, all_inputs, all_memories, all_registers, cell_registers}
-use Rattle.vl_sources.specs.Listing.{input_spot, inputs_named, memories_in, named_registers, register_spot}
-use Rattle.vl_sources.specs.Listing.{registers_in, stored}
-use Rattle.vl_sources.specs.Numbers.{all_numbers, memory_numbers, name_numbers, word_numbers}
-use Rattle.vl_held.specs.Held.{cell_places, firsts_in, memory_firsts, places_in, register_places}
-use Rattle.vl_declare.specs.declared.sources.Sources.{Sources}
+use Rattle.vl_lower_spec.specs.Sources.{AreEach, kind_of}
+use Rattle.vl_lower_assign.specs.Frames.{cell_widths}
+use Rattle.vl_lower_cell_laws.specs.declared.keep.Keep.{Keep}
+use Rattle.vl_lower_cell_laws.specs.Keeps.{Kept, cell_number, registers_of}
+use Rattle.vl_lower_cell_laws.specs.Listing.{Keeping, Stored, all_inputs, all_memories, all_registers, cell_registers}
+use Rattle.vl_lower_cell_laws.specs.Listing.{input_spot, inputs_named, memories_in, named_registers, register_spot}
+use Rattle.vl_lower_cell_laws.specs.Listing.{registers_in, stored}
+use Rattle.vl_lower_cell_laws.specs.Numbers.{all_numbers, memory_numbers, name_numbers, word_numbers}
+use Rattle.vl_lower_state.specs.Held.{cell_places, firsts_in, memory_firsts, places_in, register_places}
+use Rattle.vl_lower.specs.declared.sources.Sources.{Sources}
 
 -- inputs, registers and memories with the places of their entries, the cells that these are of, and the widths and the
 -- numbers of cells in a cycle

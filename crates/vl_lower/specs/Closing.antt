@@ -3,9 +3,9 @@ use Rattle.std.specs.Prelude.{◌≡◌, ℕ, List, [], map}
 use Rattle.wn_net.specs.declared.names.Spot.{Spot}
 use Rattle.wn_net.specs.Changes.{AddsNodes, Keeps}
 use Rattle.wn_net.specs.Net.{Netlist}
-use Rattle.vl_frames.specs.Frames.{Cells}
-use Rattle.vl_close.specs.Nexts.{ShowBits, with_nexts}
-use Rattle.vl_stores.specs.Stores.{AreStored}
+use Rattle.vl_lower_assign.specs.Frames.{Cells}
+use Rattle.vl_lower_state.specs.Nexts.{ShowBits, with_nexts}
+use Rattle.vl_lower_state.specs.Stores.{AreStored}
 
 -- cells of a cycle and of the next one, between blocks: nothing is assumed, and nothing is to be taken back
 abbrev pub over : List ℕ → List ℕ → Cells

@@ -5,18 +5,18 @@ use Rattle.vl_size.specs.declared.decl.Decl.{Decl}
 use Rattle.vl_mean.specs.Cells.{cells}
 use Rattle.vl_mean.specs.Parts.{Part}
 use Rattle.vl_mean.specs.Runs.{Each}
-use Rattle.flow_cells.specs.Numbered.{all_cells}
+use Rattle.vl_flow_cells.specs.Numbered.{all_cells}
 use Rattle.wn_net.specs.declared.names.Names.{Names}
 use Rattle.wn_net.specs.declared.names.NetName.{NetName}
 use Rattle.wn_net.specs.Net.{IsNet, value_at}
 use Rattle.wn_net.specs.Value.{Given}
-use Rattle.vl_frames.specs.Frames.{AreCellsOf}
-use Rattle.vl_keeps.specs.declared.keep.Keep.{Keep}
-use Rattle.vl_keeps.specs.Keeps.{is_whole}
-use Rattle.vl_sources.specs.Listing.{AreKeeps, HasSources, Keeping}
-use Rattle.vl_sources.specs.Numbers.{all_numbers}
-use Rattle.vl_held.specs.Held.{memory_firsts, register_places}
-use Rattle.vl_declare.specs.declared.sources.Sources.{Sources}
+use Rattle.vl_lower_assign.specs.Frames.{AreCellsOf}
+use Rattle.vl_lower_cell_laws.specs.declared.keep.Keep.{Keep}
+use Rattle.vl_lower_cell_laws.specs.Keeps.{is_whole}
+use Rattle.vl_lower_cell_laws.specs.Listing.{AreKeeps, HasSources, Keeping}
+use Rattle.vl_lower_cell_laws.specs.Numbers.{all_numbers}
+use Rattle.vl_lower_state.specs.Held.{memory_firsts, register_places}
+use Rattle.vl_lower.specs.declared.sources.Sources.{Sources}
 
 -- what a list of keeps says of each cell; of cells past its end nothing
 abbrev pub keeping : List Keep → Keeping

@@ -1,7 +1,7 @@
 -- Registers that are added to a net for the bits of one cell, and a node that has their number. Rule of this project.
 use Rattle.std.specs.Prelude.{◌≡◌, ℕ, List, [], ◌∷◌, ◌++◌, length, map, if◌then◌else◌, slice_index}
-use Rattle.vl_keeps.specs.declared.keep.Keep.{Keep}
-use Rattle.vl_keeps.specs.Keeps.{Kept, has_bit, kept_bit}
+use Rattle.vl_lower_cell_laws.specs.declared.keep.Keep.{Keep}
+use Rattle.vl_lower_cell_laws.specs.Keeps.{Kept, has_bit, kept_bit}
 use Rattle.wn_net.specs.Value.{Given}
 use Rattle.wn_net.specs.Net.{IsNodeOf, Netlist, value_at}
 

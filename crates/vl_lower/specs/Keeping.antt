@@ -1,7 +1,7 @@
 -- What is kept of numbered cells, from masks and numbers of them. Rule of this project.
 use Rattle.std.specs.Prelude.{◌≡◌, ℕ, ◌<◌, List, length, slice_index}
-use Rattle.vl_keeps.specs.declared.keep.Keep.{Keep}
-use Rattle.vl_declare.specs.Design.{keeping}
+use Rattle.vl_lower_cell_laws.specs.declared.keep.Keep.{Keep}
+use Rattle.vl_lower.specs.Design.{keeping}
 
 -- of each cell the bits that are driven, those that are known, and its number
 pub record AreJoined (driven known values : List ℕ) (keeps : List Keep) : Type 0 where

@@ -7,8 +7,8 @@ use Rattle.vl_mean.specs.FlatLaw.{IsKept}
 use Rattle.vl_mean.specs.Parts.{Part}
 use Rattle.vl_mean.specs.Scopes.{is_clock_class}
 use Rattle.wn_net.specs.declared.names.NetName.{NetName}
-use Rattle.vl_entries.specs.Entries.{all_entries, memory_entry, node_entries}
-use Rattle.vl_held.specs.Held.{memory_firsts}
+use Rattle.vl_lower_cell_laws.specs.Entries.{all_entries, memory_entry, node_entries}
+use Rattle.vl_lower_state.specs.Held.{memory_firsts}
 
 abbrev pub is_some_of : Option ℕ → ℕ → Bool
 is_some_of None first = false

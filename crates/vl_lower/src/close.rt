@@ -3,15 +3,14 @@
 ghost use Rattle.std.specs.Prelude.{◌≡◌, ◌++◌, ℕ, List, OnOk};
 ghost use Rattle.wn_net.specs.Changes.{Keeps};
 ghost use Rattle.wn_net.specs.Net.{AreNodes, Netlist};
-ghost use Rattle.vl_named.specs.Sources.{AreEach};
-ghost use Rattle.vl_close.specs.Nexts.{AreBitsOfCells, AreNexts, ShowBits};
-ghost use Rattle.vl_stores.specs.Stores.{MayStore};
-ghost use Rattle.vl_phased.specs.Closing.{Closes};
+ghost use Rattle.vl_lower_spec.specs.Sources.{AreEach};
+ghost use Rattle.vl_lower_state.specs.Nexts.{AreBitsOfCells, AreNexts, ShowBits};
+ghost use Rattle.vl_lower_state.specs.Stores.{MayStore};
+ghost use Rattle.vl_lower.specs.Closing.{Closes};
 
 use fv_base::Memory;
 use std::alloc::Global;
-use vl_close::{gather_all, set_nexts};
-use vl_stores::store_words;
+use vl_lower_state::{gather_all, set_nexts, store_words};
 use wn_net::{Net, NodeId, Spot};
 
 /// Gives registers and memories their cells of the next cycle: of each register the number of the cell whose bits it

@@ -1,11 +1,11 @@
 //! What a frame has assumed, and what stood in it before.
 
 ghost use Rattle.std.specs.Prelude.{◌≡◌, [], ◌++◌, OnOk};
-ghost use Rattle.vl_frames.specs.Frames.{taken_back};
+ghost use Rattle.vl_lower_assign.specs.Frames.{taken_back};
 
 use fv_base::{List, Memory};
 use std::alloc::Global;
-use vl_frames::{Change, Frame};
+use vl_lower_assign::{Change, Frame};
 use wn_net::NodeId;
 
 /// Hands the nodes over that a frame has assumed, behind others.

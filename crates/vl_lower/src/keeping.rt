@@ -1,11 +1,11 @@
 //! What is kept of a cell, by its masks.
 
 ghost use Rattle.std.specs.Prelude.{◌≡◌, ◌≤◌, ◌<◌, ◌%◌};
-ghost use Rattle.vl_keeps.specs.Keeps as spec;
+ghost use Rattle.vl_lower_cell_laws.specs.Keeps as spec;
 ghost use Rattle.wn_net.specs.Net.{IsInitOf};
 
 use fv_bits::{low, ones};
-use vl_keeps::Keep;
+use vl_lower_cell_laws::Keep;
 use wn_net::Init;
 
 /// Whether the mask has the bit.

@@ -1,14 +1,14 @@
 ghost use Rattle.std.specs.Prelude.{◌≡◌, IfOk, length};
 ghost use Rattle.vl_mean.specs.FlatParts.{flat_parts};
-ghost use Rattle.vl_declare.specs.Design.{AreKeepsOf};
-ghost use Rattle.vl_keeping.specs.Keeping.{AreJoined};
+ghost use Rattle.vl_lower.specs.Design.{AreKeepsOf};
+ghost use Rattle.vl_lower.specs.Keeping.{AreJoined};
 
-use flow_cells::Numbering;
 use fv_base::{List, Memory};
 use std::alloc::Global;
-use vl_driven::{driven_masks, started_masks};
-use vl_initial::first_numbers;
-use vl_keeps::Keep;
+use vl_flow_cells::Numbering;
+use vl_flow_effects::{driven_masks, started_masks};
+use vl_lower_cell_laws::Keep;
+use vl_lower_stmt::first_numbers;
 use vl_mean::Flat;
 
 /// Masks and numbers of the same cells, put together.

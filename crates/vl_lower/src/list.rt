@@ -2,13 +2,13 @@
 
 ghost use Rattle.std.specs.Prelude.{◌≡◌, ◌<◌, ◌^◌, All, IfOk, length};
 ghost use Rattle.vl_mean.specs.FlatLaw.{IsKept};
-ghost use Rattle.flow_cells.specs.Numbered.{all_cells};
-ghost use Rattle.vl_listed.specs.Listed.{entries_by};
+ghost use Rattle.vl_flow_cells.specs.Numbered.{all_cells};
+ghost use Rattle.vl_lower.specs.Listed.{entries_by};
 
 use crate::name::put_name;
-use flow_cells::cell_count;
 use fv_base::{List, Memory};
 use std::alloc::Global;
+use vl_flow_cells::cell_count;
 use vl_size::Decls;
 use wn_net::{NetName, NodeId};
 

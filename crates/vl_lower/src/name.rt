@@ -1,19 +1,19 @@
 //! Entries of one name.
 
 ghost use Rattle.std.specs.Prelude.{◌≡◌, ◌+◌, ◌++◌, ◌≤◌, ◌<◌, ◌^◌, int_le, length, true, IfOk, OnOk, Some};
-ghost use Rattle.flow_cells.specs.Places.{index_at};
+ghost use Rattle.vl_flow_cells.specs.Places.{index_at};
 ghost use Rattle.vl_size.specs.Size.{is_bound};
 ghost use Rattle.vl_size.specs.Table.{span, word_name};
 ghost use Rattle.vl_mean.specs.Cells.{cells, words_from};
 ghost use Rattle.vl_mean.specs.FlatLaw.{IsKept};
 ghost use Rattle.vl_mean.specs.Scopes.{is_clock_class};
-ghost use Rattle.vl_entries.specs.Entries as spec;
-ghost use Rattle.vl_listed.specs.Listed.{is_first, name_entries, next_memory};
+ghost use Rattle.vl_lower_cell_laws.specs.Entries as spec;
+ghost use Rattle.vl_lower.specs.Listed.{is_first, name_entries, next_memory};
 
-use flow_cells::cell_count;
 use fv_base::{List, Memory, Text};
 use itoa::Buffer;
 use std::alloc::Global;
+use vl_flow_cells::cell_count;
 use vl_size::{Class, Decl};
 use wn_net::{NetName, NodeId, Place};
 

@@ -1,13 +1,13 @@
 //! The node of a cell.
 
 ghost use Rattle.std.specs.Prelude.{◌≡◌, ◌≤◌, ◌<◌, ◌+◌, ◌-◌, ◌^◌, IfOk, length};
-ghost use Rattle.vl_keeps.specs.Keeps.{bits_number, cell_number, kept_bits, registers_of};
+ghost use Rattle.vl_lower_cell_laws.specs.Keeps.{bits_number, cell_number, kept_bits, registers_of};
 ghost use Rattle.wn_net.specs.Changes.{AddsRegs};
-ghost use Rattle.vl_registers.specs.Held.{Holds, bit_number, bit_registers};
+ghost use Rattle.vl_lower.specs.Held.{Holds, bit_number, bit_registers};
 
 use crate::keeping::{bit_start, has_bit, is_whole, whole_start};
 use fv_base::{Memory, Word};
-use vl_keeps::Keep;
+use vl_lower_cell_laws::Keep;
 use wn_net::{Net, NodeId};
 
 /// The register of a bit, or 0 where a combinational block drives it.

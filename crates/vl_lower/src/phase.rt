@@ -2,17 +2,18 @@
 
 ghost use Rattle.std.specs.Prelude.{◌≡◌, ℕ, [], true, All, IfOk, Some, slice_get};
 ghost use Rattle.vl_mean.specs.FlatLaw.{IsDriver};
-ghost use Rattle.vl_order.specs.Sequence.{is_settled};
-ghost use Rattle.vl_frames.specs.Frames.{AreCellsOf, cells_of};
-ghost use Rattle.vl_steps.specs.Layout.{IsLayout};
-ghost use Rattle.vl_cycle.specs.Cycles.{SettlesAll, TicksAll};
-ghost use Rattle.vl_phased.specs.Closing.{over};
+ghost use Rattle.vl_flow_spec.specs.Sequence.{is_settled};
+ghost use Rattle.vl_lower_assign.specs.Frames.{AreCellsOf, cells_of};
+ghost use Rattle.vl_lower_stmt.specs.Layout.{IsLayout};
+ghost use Rattle.vl_lower_cell_laws.specs.Cycles.{SettlesAll, TicksAll};
+ghost use Rattle.vl_lower.specs.Closing.{over};
 
+use crate::settle::settle_all;
+use crate::tick::tick_all;
 use fv_base::{List, Memory};
 use std::alloc::Global;
-use vl_drive::{settle_all, tick_all};
-use vl_frames::Frame;
-use vl_locate::Layout;
+use vl_lower_assign::Frame;
+use vl_lower_stmt::Layout;
 use vl_mean::Driver;
 use wn_net::{Net, NodeId};
 

@@ -2,17 +2,16 @@
 
 ghost use Rattle.std.specs.Prelude.{◌≡◌, ℕ, [], false, true, All, IfOk, OnOk, Some, slice_get};
 ghost use Rattle.vl_mean.specs.FlatLaw.{IsDriver};
-ghost use Rattle.vl_path.specs.Drivers.{is_clocked};
-ghost use Rattle.vl_order.specs.Sequence.{is_settled};
-ghost use Rattle.vl_frames.specs.Frames.{IsFrame, cells_of};
-ghost use Rattle.vl_steps.specs.Layout.{IsLayout};
-ghost use Rattle.vl_cycle.specs.Cycles.{Settles, SettlesAll};
+ghost use Rattle.vl_flow_spec.specs.Drivers.{is_clocked};
+ghost use Rattle.vl_flow_spec.specs.Sequence.{is_settled};
+ghost use Rattle.vl_lower_assign.specs.Frames.{IsFrame, cells_of};
+ghost use Rattle.vl_lower_stmt.specs.Layout.{IsLayout};
+ghost use Rattle.vl_lower_cell_laws.specs.Cycles.{Settles, SettlesAll};
 
 use crate::handed::hand_over;
 use fv_base::{List, Memory};
-use vl_execute::{assign, execute};
-use vl_frames::Frame;
-use vl_locate::Layout;
+use vl_lower_assign::Frame;
+use vl_lower_stmt::{Layout, assign, execute};
 use vl_mean::{Driver, DriverKind};
 use vl_tree::AssignKind;
 use wn_net::{Net, NodeId};

@@ -1,4 +1,4 @@
-ghost use Rattle.vl_declare.specs.Added.{IsNone};
+ghost use Rattle.vl_lower.specs.Added.{IsNone};
 
 use fv_base::List;
 use std::alloc::Global;

@@ -4,12 +4,12 @@ ghost use Rattle.std.specs.Prelude.{◌≡◌, ◌≤◌, ◌+◌, length};
 ghost use Rattle.vl_size.specs.Table.{IsShaped};
 ghost use Rattle.vl_mean.specs.Cells.{cells};
 ghost use Rattle.vl_mean.specs.FlatLaw.{IsKept};
-ghost use Rattle.vl_declare.specs.Design as spec;
-ghost use Rattle.vl_declare.specs.Design.{keeping};
+ghost use Rattle.vl_lower.specs.Design as spec;
+ghost use Rattle.vl_lower.specs.Design.{keeping};
 
-use flow_cells::cell_count;
-use vl_keeps::Keep;
-use vl_registers::is_whole;
+use crate::keeping::is_whole;
+use vl_flow_cells::cell_count;
+use vl_lower_cell_laws::Keep;
 use vl_size::Decl;
 
 /// Whether a name is a memory of which each word takes one register: its first cell has the number.

@@ -2,15 +2,14 @@
 
 ghost use Rattle.std.specs.Prelude.{◌≡◌, [], All, IfOk, OnOk};
 ghost use Rattle.vl_mean.specs.FlatLaw.{IsDriver};
-ghost use Rattle.vl_frames.specs.Frames.{IsFrame, cells_of};
-ghost use Rattle.vl_steps.specs.Layout.{IsLayout};
-ghost use Rattle.vl_cycle.specs.Cycles.{Ticks, TicksAll};
+ghost use Rattle.vl_lower_assign.specs.Frames.{IsFrame, cells_of};
+ghost use Rattle.vl_lower_stmt.specs.Layout.{IsLayout};
+ghost use Rattle.vl_lower_cell_laws.specs.Cycles.{Ticks, TicksAll};
 
 use crate::handed::{hand_over, take_back};
 use fv_base::{List, Memory};
-use vl_execute::execute;
-use vl_frames::Frame;
-use vl_locate::Layout;
+use vl_lower_assign::Frame;
+use vl_lower_stmt::{Layout, execute};
 use vl_mean::{Driver, DriverKind};
 use wn_net::{Net, NodeId};
 

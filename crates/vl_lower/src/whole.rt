@@ -1,24 +1,26 @@
 //! The whole of lowering.
 
 ghost use Rattle.std.specs.Prelude.{◌≡◌, IfOk};
-ghost use Rattle.vl_few.specs.Few.{AreFew};
+ghost use Rattle.vl_lower_cell_laws.specs.Few.{AreFew};
 ghost use Rattle.vl_mean.specs.FlatParts.{flat_parts};
-ghost use Rattle.vl_declare.specs.Design.{AreKeepsOf, Declares};
-ghost use Rattle.vl_steps.specs.Layout.{IsLayout};
-ghost use Rattle.vl_evals.specs.Evaluations.{IsLowered};
+ghost use Rattle.vl_lower.specs.Design.{AreKeepsOf, Declares};
+ghost use Rattle.vl_lower_stmt.specs.Layout.{IsLayout};
+ghost use Rattle.vl_lower_spec.specs.Evaluations.{IsLowered};
 
+use crate::close::{assume_all, close_cells};
+use crate::declare::declare_sources;
+use crate::keeps::keeps_of;
+use crate::list::entries_of;
+use crate::phase::{settle_cells, tick_cells};
+use crate::sources::Sources;
 use fv_base::Memory;
 use std::alloc::Global;
-use vl_declare::{Sources, declare_sources};
-use vl_keeping::keeps_of;
-use vl_keeps::Keep;
-use vl_listed::entries_of;
-use vl_locate::{Layout, places_of};
+use vl_flow::Ordered;
+use vl_lower_cell_laws::Keep;
+use vl_lower_expr::Place;
+use vl_lower_stmt::{Layout, places_of};
 use vl_mean::Env;
-use vl_ordered::Ordered;
-use vl_phased::{assume_all, close_cells, settle_cells, tick_cells};
 use vl_size::Decls;
-use vl_terms::Place;
 use wn_net::{Names, Net};
 
 /// A net with its names.

@@ -5,16 +5,16 @@ ghost use Rattle.vl_size.specs.Table.{IsShaped};
 ghost use Rattle.vl_mean.specs.Cells.{cells};
 ghost use Rattle.vl_mean.specs.FlatLaw.{IsKept};
 ghost use Rattle.wn_net.specs.Changes.{mem_width};
-ghost use Rattle.vl_sources.specs.Listing.{word_starts};
-ghost use Rattle.vl_declare.specs.Added.{Adds, memory_added, word_added, words_added};
-ghost use Rattle.vl_declare.specs.Design.{keeping};
+ghost use Rattle.vl_lower_cell_laws.specs.Listing.{word_starts};
+ghost use Rattle.vl_lower.specs.Added.{Adds, memory_added, word_added, words_added};
+ghost use Rattle.vl_lower.specs.Design.{keeping};
 
+use crate::keeping::whole_start;
 use crate::sources::Sources;
-use flow_cells::cell_count;
 use fv_base::{List, Memory, Word};
 use std::alloc::Global;
-use vl_keeps::Keep;
-use vl_registers::whole_start;
+use vl_flow_cells::cell_count;
+use vl_lower_cell_laws::Keep;
 use vl_size::Decl;
 use wn_net::Init;
 

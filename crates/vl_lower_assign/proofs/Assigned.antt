@@ -4,7 +4,7 @@ use Rattle.std.specs.Prelude.{List, ◌∷◌, length, Option, Some, None, ℤ, 
 use Rattle.std.proofs.Common.{ap, ◌∙◌}
 use Rattle.vl_size.specs.Size.{Values}
 use Rattle.vl_mean.specs.Targets.{Spot, bit_of, with_bit, spot_at, spots_from, written, put, put_all}
-use Rattle.vl_puts.specs.Puts.{put_bit, put_bits}
+use Rattle.vl_lower_assign.specs.Puts.{put_bit, put_bits}
 
 -- what is written to a spot, where there is one
 abbrev put_spot : Option Spot → ℕ → Values → Values

@@ -17,18 +17,18 @@ use Rattle.wn_net.specs.Value.{Given}
 use Rattle.wn_net.specs.Net.{Netlist, IsNode, AreNodes, value_at}
 use Rattle.wn_net.specs.Changes.{AddsNodes}
 use Rattle.wn_net.proofs.Laws.{adds_on, value_on, given_on}
-use Rattle.vl_slots.specs.declared.slot.Holder.{Holder}
-use Rattle.vl_slots.specs.declared.slot.Holder.TheVariants as holder
-use Rattle.vl_slots.specs.declared.slot.Slot.{Slot}
-use Rattle.vl_slots.specs.Slots.{IsPath, Writes, is_taken, is_among}
-use Rattle.vl_slots.proofs.Tests.{path_on}
-use Rattle.vl_slots.proofs.Written.{same_or}
-use Rattle.vl_frames.specs.Frames.{AreCellsOf, Stand, Cells, IsFrame, taken_back, IsSlotFor, IsSlotOf}
-use Rattle.vl_frames.specs.Frames.{AreSlotsOf, Assigns, with_writes}
-use Rattle.vl_frames.specs.Logs.{noted_of, IsWithin}
-use Rattle.vl_frames.proofs.Behind.{cells_on, nodes_on, met_on, met_back, stand_on}
-use Rattle.vl_frames.proofs.Logging.{back_append, DifferIn, noted_back}
-use Rattle.vl_frames.proofs.Standing.{slot_on, cells_written, stand_written}
+use Rattle.vl_lower_assign.specs.declared.slot.Holder.{Holder}
+use Rattle.vl_lower_assign.specs.declared.slot.Holder.TheVariants as holder
+use Rattle.vl_lower_assign.specs.declared.slot.Slot.{Slot}
+use Rattle.vl_lower_assign.specs.Slots.{IsPath, Writes, is_taken, is_among}
+use Rattle.vl_lower_assign.proofs.Tests.{path_on}
+use Rattle.vl_lower_assign.proofs.Written.{same_or}
+use Rattle.vl_lower_assign.specs.Frames.{AreCellsOf, Stand, Cells, IsFrame, taken_back, IsSlotFor, IsSlotOf}
+use Rattle.vl_lower_assign.specs.Frames.{AreSlotsOf, Assigns, with_writes}
+use Rattle.vl_lower_assign.specs.Logs.{noted_of, IsWithin}
+use Rattle.vl_lower_assign.proofs.Behind.{cells_on, nodes_on, met_on, met_back, stand_on}
+use Rattle.vl_lower_assign.proofs.Logging.{back_append, DifferIn, noted_back}
+use Rattle.vl_lower_assign.proofs.Standing.{slot_on, cells_written, stand_written}
 
 -- ---- the log
 

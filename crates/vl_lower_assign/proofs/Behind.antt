@@ -13,8 +13,8 @@ use Rattle.wn_net.specs.Net.{Netlist, AreNodes, value_at}
 use Rattle.wn_net.specs.Given.{IsGiven}
 use Rattle.wn_net.specs.Changes.{AddsNodes}
 use Rattle.wn_net.proofs.Laws.{adds_on, adds_none, node_on, there_on, value_on, given_on}
-use Rattle.flow_cells.specs.Numbered.{all_cells}
-use Rattle.vl_frames.specs.Frames.{AreCellsOf, Stand, Cells, IsFrame, StandsFor, Steps, cell_widths}
+use Rattle.vl_flow_cells.specs.Numbered.{all_cells}
+use Rattle.vl_lower_assign.specs.Frames.{AreCellsOf, Stand, Cells, IsFrame, StandsFor, Steps, cell_widths}
 
 -- ---- frames stay
 

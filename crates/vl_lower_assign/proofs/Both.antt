@@ -6,16 +6,16 @@ use Rattle.vl_size.specs.declared.decl.Decl.{Decl}
 use Rattle.wn_net.specs.Net.{Netlist, IsNodeOf, value_at}
 use Rattle.wn_net.specs.Changes.{AddsNodes}
 use Rattle.wn_net.proofs.Laws.{adds_none}
-use Rattle.vl_slots.specs.declared.slot.Holder.{Holder}
-use Rattle.vl_slots.specs.declared.slot.Holder.TheVariants as holder
-use Rattle.vl_slots.specs.declared.slot.Slot.{Slot}
-use Rattle.vl_slots.specs.Slots.{HoldsCells, IsPath, IsSlotIn, Writes}
-use Rattle.vl_frames.specs.Frames.{Cells, IsFrame, IsSlotFor, Assigns}
-use Rattle.vl_frames.specs.Logs.{noted_of, IsWithin}
-use Rattle.vl_frames.proofs.Assigning.{assigned_now}
-use Rattle.vl_frames.proofs.Behind.{cells_on}
-use Rattle.vl_frames.proofs.Sharing.{shared_writes}
-use Rattle.vl_frames.proofs.Standing.{are_cells, slot_in, slot_for_on}
+use Rattle.vl_lower_assign.specs.declared.slot.Holder.{Holder}
+use Rattle.vl_lower_assign.specs.declared.slot.Holder.TheVariants as holder
+use Rattle.vl_lower_assign.specs.declared.slot.Slot.{Slot}
+use Rattle.vl_lower_assign.specs.Slots.{HoldsCells, IsPath, IsSlotIn, Writes}
+use Rattle.vl_lower_assign.specs.Frames.{Cells, IsFrame, IsSlotFor, Assigns}
+use Rattle.vl_lower_assign.specs.Logs.{noted_of, IsWithin}
+use Rattle.vl_lower_assign.proofs.Assigning.{assigned_now}
+use Rattle.vl_lower_assign.proofs.Behind.{cells_on}
+use Rattle.vl_lower_assign.proofs.Sharing.{shared_writes}
+use Rattle.vl_lower_assign.proofs.Standing.{are_cells, slot_in, slot_for_on}
 
 held_within : (net : Netlist) (cells : List ℕ) (width : ℕ) (h : Holder) → HoldsCells net cells width h
     → IsWithin (length cells) h

@@ -3,10 +3,10 @@ use Rattle.std.specs.Prelude.{◌≡◌, refl, ℕ, zero, suc, ◌+◌, ◌<◌,
 use Rattle.std.specs.Prelude.{slice_set}
 use Rattle.std.proofs.Common.{ap, sym, ◌∙◌, arith, ◌⊎◌, inl, inr}
 use Rattle.std.proofs.lemmas.Bool.{cases_lt}
-use Rattle.vl_slots.proofs.Written.{set_length, set_here, set_there}
-use Rattle.vl_frames.specs.declared.change.Change.{Change}
-use Rattle.vl_frames.specs.Frames.{taken_back}
-use Rattle.vl_frames.specs.Logs.{noted}
+use Rattle.vl_lower_assign.proofs.Written.{set_length, set_here, set_there}
+use Rattle.vl_lower_assign.specs.declared.change.Change.{Change}
+use Rattle.vl_lower_assign.specs.Frames.{taken_back}
+use Rattle.vl_lower_assign.specs.Logs.{noted}
 
 pub back_append : (xs ys : List Change) (cells : List ℕ) → taken_back (xs ++ ys) cells ≡ taken_back xs (taken_back ys cells)
 back_append [] ys cells = refl

@@ -15,8 +15,8 @@ use Rattle.fv_bits.proofs.SingleBits.{bit_at_complement}
 use Rattle.wn_net.proofs.Written.{masked_fits}
 use Rattle.vl_size.specs.Size.{bit_at, bits_from}
 use Rattle.vl_mean.specs.Targets.{bit_of}
-use Rattle.vl_puts.specs.Puts.{put_bits}
-use Rattle.vl_puts.proofs.Spliced.{put_fits, inside, outside}
+use Rattle.vl_lower_assign.specs.Puts.{put_bits}
+use Rattle.vl_lower_assign.proofs.Spliced.{put_fits, inside, outside}
 
 -- ---- bits from a place on
 

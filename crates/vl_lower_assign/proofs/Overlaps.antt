@@ -2,7 +2,7 @@
 use Rattle.std.specs.Prelude.{◌≡◌, ℕ, ◌+◌, ◌-◌, ◌<◌, ◌≤◌, min, ℤ, pos, ◌+ℤ◌}
 use Rattle.std.proofs.Common.{arith, sym}
 use Rattle.std.proofs.lemmas.Int.{ints}
-use Rattle.vl_puts.specs.Overlap.{IsOverlap}
+use Rattle.vl_lower_assign.specs.Overlap.{IsOverlap}
 
 pub low_overlap : (n w : ℕ) (p : ℤ) (k past : ℕ) → (p +ℤ pos k) ≡ pos 0 → k < n → 1 ≤ w → past ≡ min (n - k) w
     → IsOverlap n w p 0 past k

@@ -11,11 +11,11 @@ use Rattle.wn_net.specs.Net.{Netlist, IsNode, value_at}
 use Rattle.wn_net.specs.declared.node.Node.TheVariants as n
 use Rattle.wn_net.specs.Changes.{AddsNodes, Builds}
 use Rattle.wn_net.proofs.Laws.{adds_on, value_on}
-use Rattle.vl_slots.specs.declared.slot.Slot.{Slot}
-use Rattle.vl_slots.specs.Slots.{IsPath, is_taken}
-use Rattle.vl_frames.specs.Frames.{Cells, StandsFor, IsSlotFor, AllSlots, Assigns, slots_width, with_writes}
-use Rattle.vl_frames.proofs.Behind.{frame_on, stands_on}
-use Rattle.vl_frames.proofs.Several.{assigned_more}
+use Rattle.vl_lower_assign.specs.declared.slot.Slot.{Slot}
+use Rattle.vl_lower_assign.specs.Slots.{IsPath, is_taken}
+use Rattle.vl_lower_assign.specs.Frames.{Cells, StandsFor, IsSlotFor, AllSlots, Assigns, slots_width, with_writes}
+use Rattle.vl_lower_assign.proofs.Behind.{frame_on, stands_on}
+use Rattle.vl_lower_assign.proofs.Several.{assigned_more}
 
 -- ---- the slots that are left
 

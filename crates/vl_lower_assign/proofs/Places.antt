@@ -9,16 +9,16 @@ use Rattle.wn_net.specs.Net.{Netlist, IsNode, IsNodeOf, AreNodesOf, value_at, wi
 use Rattle.wn_net.specs.Changes.{AddsNodes}
 use Rattle.wn_net.proofs.Laws.{there_on, value_on}
 use Rattle.wn_mem.specs.Words.{words_width}
-use Rattle.vl_points.specs.Points.{GivePlace}
-use Rattle.vl_puts.specs.declared.spread.BitPlace.{BitPlace}
-use Rattle.vl_puts.specs.declared.spread.BitPlace.TheVariants as place
-use Rattle.vl_puts.specs.Places.{IsAt, IsPlaceIn}
-use Rattle.vl_puts.specs.Puts.{put_bits}
-use Rattle.vl_puts.proofs.Masking.{mask_of, masked_is}
-use Rattle.vl_slots.specs.declared.slot.Holder.{Holder}
-use Rattle.vl_slots.specs.declared.slot.Holder.TheVariants as holder
-use Rattle.vl_slots.specs.Slots.{HoldsCells}
-use Rattle.vl_slots.proofs.Written.{after_put, same_or, set_here, set_there}
+use Rattle.vl_lower_nodes.specs.Points.{GivePlace}
+use Rattle.vl_lower_assign.specs.declared.spread.BitPlace.{BitPlace}
+use Rattle.vl_lower_assign.specs.declared.spread.BitPlace.TheVariants as place
+use Rattle.vl_lower_assign.specs.Places.{IsAt, IsPlaceIn}
+use Rattle.vl_lower_assign.specs.Puts.{put_bits}
+use Rattle.vl_lower_assign.proofs.Masking.{mask_of, masked_is}
+use Rattle.vl_lower_assign.specs.declared.slot.Holder.{Holder}
+use Rattle.vl_lower_assign.specs.declared.slot.Holder.TheVariants as holder
+use Rattle.vl_lower_assign.specs.Slots.{HoldsCells}
+use Rattle.vl_lower_assign.proofs.Written.{after_put, same_or, set_here, set_there}
 
 pub place_on : (old new : Netlist) (p : BitPlace) → AddsNodes old new → IsPlaceIn old p → IsPlaceIn new p
 place_on old new (place.Fixed q) adds h = h

@@ -14,13 +14,13 @@ use Rattle.wn_net.specs.Net.{Netlist}
 use Rattle.wn_net.specs.Given.{IsGiven}
 use Rattle.wn_net.specs.Changes.{AddsNodes}
 use Rattle.wn_net.proofs.Laws.{adds_on, adds_none, given_on}
-use Rattle.vl_slots.specs.declared.slot.Slot.{Slot}
-use Rattle.vl_slots.specs.Slots.{IsPath, is_taken}
-use Rattle.vl_frames.specs.Frames.{Cells, IsFrame, StandsFor, IsSlotFor, IsSlotOf, AreSlotsOf, AllSlots, Assigns}
-use Rattle.vl_frames.specs.Frames.{with_writes}
-use Rattle.vl_frames.proofs.Writing.{puts_append, written_append, written_low, spots_count}
-use Rattle.vl_frames.proofs.Standing.{slot_for_on, slot_on}
-use Rattle.vl_slots.proofs.Tests.{path_on}
+use Rattle.vl_lower_assign.specs.declared.slot.Slot.{Slot}
+use Rattle.vl_lower_assign.specs.Slots.{IsPath, is_taken}
+use Rattle.vl_lower_assign.specs.Frames.{Cells, IsFrame, StandsFor, IsSlotFor, IsSlotOf, AreSlotsOf, AllSlots, Assigns}
+use Rattle.vl_lower_assign.specs.Frames.{with_writes}
+use Rattle.vl_lower_assign.proofs.Writing.{puts_append, written_append, written_low, spots_count}
+use Rattle.vl_lower_assign.proofs.Standing.{slot_for_on, slot_on}
+use Rattle.vl_lower_assign.proofs.Tests.{path_on}
 
 -- ---- lists of slots
 

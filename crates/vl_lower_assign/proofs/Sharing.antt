@@ -5,10 +5,10 @@ use Rattle.std.proofs.Common.{ap, sym, ◌∙◌, subst}
 use Rattle.std.proofs.lemmas.Bool.{eq-eqb}
 use Rattle.wn_net.specs.Value.{Given}
 use Rattle.wn_net.specs.Net.{Netlist, IsNodeOf, value_at, width_at}
-use Rattle.vl_slots.specs.declared.slot.Holder.TheVariants as holder
-use Rattle.vl_slots.specs.declared.slot.Slot.{Slot}
-use Rattle.vl_slots.specs.Slots.{AreCells, Writes, hits, is_taken}
-use Rattle.vl_slots.proofs.Written.{after_put, cell_writes}
+use Rattle.vl_lower_assign.specs.declared.slot.Holder.TheVariants as holder
+use Rattle.vl_lower_assign.specs.declared.slot.Slot.{Slot}
+use Rattle.vl_lower_assign.specs.Slots.{AreCells, Writes, hits, is_taken}
+use Rattle.vl_lower_assign.proofs.Written.{after_put, cell_writes}
 
 pub shared_writes : (old new : Netlist) (now after next : List ℕ) (path : Option ℕ) (slot : Slot) (value at : ℕ)
     → slot.holder ≡ holder.Cell at → Writes old new now after path slot value → AreCells old next

@@ -11,9 +11,9 @@ use Rattle.std.proofs.lemmas.Nat.{pow_pos, pow-add, mod_below, shr_split, shr-sh
 use Rattle.std.proofs.lemmas.Nat.Bits.{bit_at_cat_low, bit_at_cat_high, same_from_bits_below}
 use Rattle.fv_bits.specs.Bits.{joined, low, part}
 use Rattle.vl_mean.specs.Targets.{bit_of, with_bit}
-use Rattle.vl_path.proofs.Puts.{bit_here, bit_there, with_bit_fits}
-use Rattle.vl_puts.specs.Overlap.{IsOverlap}
-use Rattle.vl_puts.specs.Puts.{put_bit, put_bits}
+use Rattle.vl_flow_spec.proofs.Puts.{bit_here, bit_there, with_bit_fits}
+use Rattle.vl_lower_assign.specs.Overlap.{IsOverlap}
+use Rattle.vl_lower_assign.specs.Puts.{put_bit, put_bits}
 
 small : (y n : ℕ) → bit_of y n < 2
 small y n = omega arith

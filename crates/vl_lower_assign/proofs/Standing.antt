@@ -11,15 +11,15 @@ use Rattle.wn_net.specs.Net.{Netlist, IsNodeOf, value_at}
 use Rattle.wn_net.specs.Given.{IsGiven}
 use Rattle.wn_net.specs.Changes.{AddsNodes}
 use Rattle.wn_net.proofs.Laws.{there_on, value_on}
-use Rattle.vl_puts.specs.Puts.{put_bits}
-use Rattle.vl_slots.specs.declared.slot.Holder.{Holder}
-use Rattle.vl_slots.specs.declared.slot.Holder.TheVariants as holder
-use Rattle.vl_slots.specs.declared.slot.Slot.{Slot}
-use Rattle.vl_slots.specs.Slots.{AreCells, HoldsCells, IsSlotIn, Writes, hits, is_taken}
-use Rattle.vl_slots.proofs.Places.{at_on, place_on}
-use Rattle.vl_frames.specs.Frames.{AreCellsOf, AreWide, IsHolderIn, IsSlotFor, IsSlotOf, Stand, cell_widths}
-use Rattle.vl_frames.proofs.Behind.{cell_there}
-use Rattle.vl_frames.proofs.Writing.{puts_at}
+use Rattle.vl_lower_assign.specs.Puts.{put_bits}
+use Rattle.vl_lower_assign.specs.declared.slot.Holder.{Holder}
+use Rattle.vl_lower_assign.specs.declared.slot.Holder.TheVariants as holder
+use Rattle.vl_lower_assign.specs.declared.slot.Slot.{Slot}
+use Rattle.vl_lower_assign.specs.Slots.{AreCells, HoldsCells, IsSlotIn, Writes, hits, is_taken}
+use Rattle.vl_lower_assign.proofs.Places.{at_on, place_on}
+use Rattle.vl_lower_assign.specs.Frames.{AreCellsOf, AreWide, IsHolderIn, IsSlotFor, IsSlotOf, Stand, cell_widths}
+use Rattle.vl_lower_assign.proofs.Behind.{cell_there}
+use Rattle.vl_lower_assign.proofs.Writing.{puts_at}
 
 -- ---- a slot is of the cells
 

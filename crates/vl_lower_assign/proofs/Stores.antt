@@ -30,14 +30,14 @@ use Rattle.vl_size.specs.Table.{declared_as}
 use Rattle.vl_mean.specs.Execution.{State, begun, ended, assigned, exec, exec_all, pick, otherwise}
 use Rattle.vl_mean.specs.FlatLaw.{flat_scopes, IsBlock, AreBlocks, AreArms, case_context, is_variable, IsTarget}
 use Rattle.vl_mean.specs.Targets.{Write, bit_of, put_all, may_change}
-use Rattle.vl_path.specs.Paths.{changes, any_changes, arms_change, is_blocking, is_nonblocking}
-use Rattle.vl_path.proofs.Bools.{left_none, right_none, or_none}
-use Rattle.vl_path.proofs.Execs.{assigned_small, variable_counted}
-use Rattle.vl_path.proofs.Stays.{no_write}
-use Rattle.vl_path.proofs.Targets.{marks}
-use Rattle.vl_path.proofs.Writes.{writes_to, AreSmall, puts_bit, puts_stay}
-use Rattle.vl_frames.specs.Stored.{stored, all_stored, arm_stored, otherwise_stored}
-use Rattle.vl_frames.proofs.Writing.{puts_append}
+use Rattle.vl_flow_spec.specs.Paths.{changes, any_changes, arms_change, is_blocking, is_nonblocking}
+use Rattle.vl_flow_spec.proofs.Bools.{left_none, right_none, or_none}
+use Rattle.vl_flow_spec.proofs.Execs.{assigned_small, variable_counted}
+use Rattle.vl_flow_spec.proofs.Stays.{no_write}
+use Rattle.vl_flow_spec.proofs.Targets.{marks}
+use Rattle.vl_flow_spec.proofs.Writes.{writes_to, AreSmall, puts_bit, puts_stay}
+use Rattle.vl_lower_assign.specs.Stored.{stored, all_stored, arm_stored, otherwise_stored}
+use Rattle.vl_lower_assign.proofs.Writing.{puts_append}
 
 -- ---- writes behind writes
 

@@ -6,7 +6,7 @@ use Rattle.wn_net.specs.Value.{Given}
 use Rattle.wn_net.specs.Net.{Netlist, IsNodeOf, value_at}
 use Rattle.wn_net.specs.Changes.{AddsNodes}
 use Rattle.wn_net.proofs.Laws.{node_on, value_on}
-use Rattle.vl_slots.specs.Slots.{IsPath, is_taken}
+use Rattle.vl_lower_assign.specs.Slots.{IsPath, is_taken}
 
 pub both_one : (a b : ℕ) → a < 2 → b < 2 → (bit_and a b == 1) ≡ ((a == 1) && (b == 1))
 both_one zero zero h k = refl

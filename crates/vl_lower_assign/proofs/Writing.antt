@@ -6,9 +6,9 @@ use Rattle.std.proofs.lemmas.Nat.{shr-shr}
 use Rattle.fv_bits.proofs.SingleBits.{bit_at_low}
 use Rattle.vl_size.specs.Size.{Values}
 use Rattle.vl_mean.specs.Targets.{Spot, Write, bit_of, spots_from, written, put, put_all}
-use Rattle.vl_puts.specs.Puts.{put_bits}
-use Rattle.vl_puts.proofs.Assigned.{assigned}
-use Rattle.vl_frames.specs.Frames.{is_named}
+use Rattle.vl_lower_assign.specs.Puts.{put_bits}
+use Rattle.vl_lower_assign.proofs.Assigned.{assigned}
+use Rattle.vl_lower_assign.specs.Frames.{is_named}
 
 pub puts_append : (ps ws : List Write) (v : Values) → put_all (ps ++ ws) v ≡ put_all ws (put_all ps v)
 puts_append [] ws v = refl

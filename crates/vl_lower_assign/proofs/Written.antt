@@ -10,13 +10,13 @@ use Rattle.wn_net.specs.Net.{Netlist, IsNode, IsNodeOf, AreNodesOf, value_at, wi
 use Rattle.wn_net.specs.Given.{IsGiven}
 use Rattle.wn_net.specs.Changes.{AddsNodes}
 use Rattle.wn_net.proofs.Laws.{node_on, value_on}
-use Rattle.vl_puts.specs.Places.{IsAt}
-use Rattle.vl_puts.specs.Puts.{put_bits}
-use Rattle.vl_slots.specs.declared.slot.Holder.{Holder}
-use Rattle.vl_slots.specs.declared.slot.Holder.TheVariants as holder
-use Rattle.vl_slots.specs.declared.slot.Slot.{Slot}
-use Rattle.vl_slots.specs.Slots.{AreCells, AreAlike, HoldsCells, Writes, hits, is_among, is_taken}
-use Rattle.vl_slots.proofs.Ranges.{node_among}
+use Rattle.vl_lower_assign.specs.Places.{IsAt}
+use Rattle.vl_lower_assign.specs.Puts.{put_bits}
+use Rattle.vl_lower_assign.specs.declared.slot.Holder.{Holder}
+use Rattle.vl_lower_assign.specs.declared.slot.Holder.TheVariants as holder
+use Rattle.vl_lower_assign.specs.declared.slot.Slot.{Slot}
+use Rattle.vl_lower_assign.specs.Slots.{AreCells, AreAlike, HoldsCells, Writes, hits, is_among, is_taken}
+use Rattle.vl_lower_assign.proofs.Ranges.{node_among}
 
 -- ---- lists
 

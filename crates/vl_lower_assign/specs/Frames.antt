@@ -14,14 +14,14 @@ use Rattle.wn_net.specs.Value.{Given}
 use Rattle.wn_net.specs.Net.{Netlist, IsNode, IsNodeOf, AreNodes, value_at}
 use Rattle.wn_net.specs.Given.{IsGiven}
 use Rattle.wn_net.specs.Changes.{AddsNodes}
-use Rattle.flow_cells.specs.Numbered.{all_cells}
-use Rattle.vl_puts.specs.Places.{IsPlaceIn, IsAt}
-use Rattle.vl_slots.specs.declared.slot.Holder.{Holder}
-use Rattle.vl_slots.specs.declared.slot.Holder.TheVariants as holder
-use Rattle.vl_slots.specs.declared.slot.Slot.{Slot}
-use Rattle.vl_slots.specs.Slots.{hits, is_taken}
-use Rattle.vl_frames.specs.declared.change.Change.{Change}
-use Rattle.vl_frames.specs.declared.frame.Frame.{Frame}
+use Rattle.vl_flow_cells.specs.Numbered.{all_cells}
+use Rattle.vl_lower_assign.specs.Places.{IsPlaceIn, IsAt}
+use Rattle.vl_lower_assign.specs.declared.slot.Holder.{Holder}
+use Rattle.vl_lower_assign.specs.declared.slot.Holder.TheVariants as holder
+use Rattle.vl_lower_assign.specs.declared.slot.Slot.{Slot}
+use Rattle.vl_lower_assign.specs.Slots.{hits, is_taken}
+use Rattle.vl_lower_assign.specs.declared.change.Change.{Change}
+use Rattle.vl_lower_assign.specs.declared.frame.Frame.{Frame}
 
 -- ---- cells in the order of the names
 

@@ -1,8 +1,8 @@
 -- What a log keeps before cells are written. Rule of this project.
 use Rattle.std.specs.Prelude.{ℕ, zero, suc, ◌+◌, ◌<◌, ◌≤◌, List, [], ◌∷◌, ◌++◌, slice_index}
-use Rattle.vl_slots.specs.declared.slot.Holder.{Holder}
-use Rattle.vl_slots.specs.declared.slot.Holder.TheVariants as holder
-use Rattle.vl_frames.specs.declared.change.Change.{Change}
+use Rattle.vl_lower_assign.specs.declared.slot.Holder.{Holder}
+use Rattle.vl_lower_assign.specs.declared.slot.Holder.TheVariants as holder
+use Rattle.vl_lower_assign.specs.declared.change.Change.{Change}
 
 -- so many cells from the first on, as they stand
 abbrev pub noted : ℕ → ℕ → List ℕ → List Change

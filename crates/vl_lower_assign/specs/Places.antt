@@ -2,9 +2,9 @@
 use Rattle.std.specs.Prelude.{◌≡◌, ℕ, true, ℤ}
 use Rattle.wn_net.specs.Value.{Given}
 use Rattle.wn_net.specs.Net.{Netlist, IsNode, value_at}
-use Rattle.vl_points.specs.Points.{GivePlace, is_place}
-use Rattle.vl_puts.specs.declared.spread.BitPlace.{BitPlace}
-use Rattle.vl_puts.specs.declared.spread.BitPlace.TheVariants as place
+use Rattle.vl_lower_nodes.specs.Points.{GivePlace, is_place}
+use Rattle.vl_lower_assign.specs.declared.spread.BitPlace.{BitPlace}
+use Rattle.vl_lower_assign.specs.declared.spread.BitPlace.TheVariants as place
 
 -- no index of a bound is so far, and the nodes are there
 abbrev pub IsPlaceIn : Netlist → BitPlace → Type 0

@@ -7,11 +7,11 @@ use Rattle.wn_net.specs.Value.{Given}
 use Rattle.wn_net.specs.Net.{Netlist, IsNode, IsNodeOf, value_at, width_at}
 use Rattle.wn_net.specs.Given.{IsGiven}
 use Rattle.wn_net.specs.Changes.{AddsNodes}
-use Rattle.vl_puts.specs.Places.{IsPlaceIn, IsAt}
-use Rattle.vl_puts.specs.Puts.{put_bits}
-use Rattle.vl_slots.specs.declared.slot.Holder.{Holder}
-use Rattle.vl_slots.specs.declared.slot.Holder.TheVariants as holder
-use Rattle.vl_slots.specs.declared.slot.Slot.{Slot}
+use Rattle.vl_lower_assign.specs.Places.{IsPlaceIn, IsAt}
+use Rattle.vl_lower_assign.specs.Puts.{put_bits}
+use Rattle.vl_lower_assign.specs.declared.slot.Holder.{Holder}
+use Rattle.vl_lower_assign.specs.declared.slot.Holder.TheVariants as holder
+use Rattle.vl_lower_assign.specs.declared.slot.Slot.{Slot}
 
 -- ---- paths
 

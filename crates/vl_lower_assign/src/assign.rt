@@ -4,17 +4,18 @@
 ghost use Rattle.std.specs.Prelude.{◌≡◌, ◌∷◌, [], ◌++◌, ◌+◌, ◌≤◌, OnOk, IfSome, length, slice_index};
 ghost use Rattle.vl_tree.specs.declared.stmt.AssignKind.TheVariants as a;
 ghost use Rattle.wn_net.specs.Net.{IsNodeOf, value_at};
-ghost use Rattle.vl_slots.specs.declared.slot.Holder.TheVariants as of;
-ghost use Rattle.vl_slots.specs.Slots.{AreCells, IsPath, IsSlotIn, Writes};
-ghost use Rattle.vl_frames.specs.Frames.{AllSlots, Assigns, IsFrame, IsSlotFor, cells_of, slots_width};
-ghost use Rattle.vl_frames.specs.Logs.{noted, noted_of, IsWithin};
+ghost use Rattle.vl_lower_assign.specs.declared.slot.Holder.TheVariants as of;
+ghost use Rattle.vl_lower_assign.specs.Slots.{AreCells, IsPath, IsSlotIn, Writes};
+ghost use Rattle.vl_lower_assign.specs.Frames.{AllSlots, Assigns, IsFrame, IsSlotFor, cells_of, slots_width};
+ghost use Rattle.vl_lower_assign.specs.Logs.{noted, noted_of, IsWithin};
 
 use crate::change::Change;
 use crate::frame::Frame;
+use crate::slot::{Holder, Slot};
+use crate::write::write_slot;
 use fv_base::Memory;
 use std::alloc::Global;
 use vl_size::Decls;
-use vl_slots::{Holder, Slot, write_slot};
 use vl_tree::AssignKind;
 use wn_net::{Net, NodeId};
 

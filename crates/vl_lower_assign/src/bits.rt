@@ -5,9 +5,9 @@ ghost use Rattle.std.specs.Prelude.{◌≡◌, ◌+◌, ◌/◌, ◌^◌, ◌≤
 ghost use Rattle.fv_bits.specs.Bits.{joined, low, part};
 ghost use Rattle.wn_net.specs.Net.{IsNode, width_at, value_at};
 ghost use Rattle.wn_net.specs.Changes.{AddsNodes, Shows};
-ghost use Rattle.vl_points.specs.Points.{is_place};
-ghost use Rattle.vl_puts.specs.Overlap.{IsOverlap};
-ghost use Rattle.vl_puts.specs.Puts.{put_bits};
+ghost use Rattle.vl_lower_nodes.specs.Points.{is_place};
+ghost use Rattle.vl_lower_assign.specs.Overlap.{IsOverlap};
+ghost use Rattle.vl_lower_assign.specs.Puts.{put_bits};
 
 use fv_base::Memory;
 use wn_net::{Net, NodeId};

@@ -6,10 +6,10 @@ ghost use Rattle.wn_net.specs.Value.{Given};
 ghost use Rattle.wn_net.specs.Net.{IsNode, IsNodeOf, width_at, value_at};
 ghost use Rattle.wn_net.specs.Given.{IsGiven};
 ghost use Rattle.wn_net.specs.Changes.{AddsNodes, Shows};
-ghost use Rattle.vl_slots.specs.Slots.{IsPath, is_taken};
+ghost use Rattle.vl_lower_assign.specs.Slots.{IsPath, is_taken};
 
 use fv_base::Memory;
-use vl_nodes::number;
+use vl_lower_nodes::number;
 use wn_net::{Net, NodeId};
 
 /// One node where the path is taken, and else another.

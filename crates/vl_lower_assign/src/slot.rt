@@ -1,4 +1,4 @@
-use vl_puts::BitPlace;
+use crate::spread::BitPlace;
 use wn_net::NodeId;
 
 /// What holds the bits of a slot: a cell, or one of so many cells by a node that counts from the first.

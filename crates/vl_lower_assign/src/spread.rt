@@ -7,14 +7,13 @@ ghost use Rattle.wn_net.specs.Value.{Given};
 ghost use Rattle.wn_net.specs.Net.{IsNode, IsNodeOf, width_at, value_at};
 ghost use Rattle.wn_net.specs.Given.{IsGiven};
 ghost use Rattle.wn_net.specs.Changes.{AddsNodes, Shows};
-ghost use Rattle.vl_puts.specs.Places.{IsAt, IsPlaceIn};
-ghost use Rattle.vl_puts.specs.Puts.{put_bits};
+ghost use Rattle.vl_lower_assign.specs.Places.{IsAt, IsPlaceIn};
+ghost use Rattle.vl_lower_assign.specs.Puts.{put_bits};
 
 use crate::bits::put;
 use fv_base::Memory;
 use fv_bits::ones;
-use vl_nodes::number;
-use vl_points::{VaryingPlace, part_by};
+use vl_lower_nodes::{VaryingPlace, number, part_by};
 use wn_net::{Net, NodeId};
 
 /// Where bits are put into a vector, counted from its lowest bit.

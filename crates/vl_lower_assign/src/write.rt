@@ -7,15 +7,15 @@ ghost use Rattle.wn_net.specs.Value.{Given};
 ghost use Rattle.wn_net.specs.Net.{IsNode, IsNodeOf, AreNodesOf, width_at, value_at};
 ghost use Rattle.wn_net.specs.Given.{IsGiven};
 ghost use Rattle.wn_net.specs.Changes.{AddsNodes};
-ghost use Rattle.vl_puts.specs.Places.{IsAt, IsPlaceIn};
-ghost use Rattle.vl_puts.specs.Puts.{put_bits};
-ghost use Rattle.vl_slots.specs.Slots.{AreAlike, AreCells, IsPath, IsSlotIn, Writes, is_taken};
+ghost use Rattle.vl_lower_assign.specs.Places.{IsAt, IsPlaceIn};
+ghost use Rattle.vl_lower_assign.specs.Puts.{put_bits};
+ghost use Rattle.vl_lower_assign.specs.Slots.{AreAlike, AreCells, IsPath, IsSlotIn, Writes, is_taken};
 
 use crate::path::{test_of, where_taken};
 use crate::slot::{Holder, Slot};
+use crate::spread::{BitPlace, put_at, spread_bits};
 use fv_base::Memory;
 use std::alloc::Global;
-use vl_puts::{BitPlace, put_at, spread_bits};
 use wn_mem::write_all;
 use wn_net::{MemWrite, Net, NodeId};
 

@@ -15,17 +15,18 @@ use Rattle.vl_mean.specs.FlatParts.{parts_of}
 use Rattle.vl_mean.specs.Parts.{Part}
 use Rattle.vl_mean.specs.Runs.{AgreesAt, Each}
 use Rattle.vl_mean.specs.Scopes.{is_clock_class}
-use Rattle.vl_path.proofs.Bools.{or_left, or_right}
-use Rattle.vl_path.proofs.Cells.{each_of_contained}
-use Rattle.vl_order.proofs.Choices.{declared_of}
-use Rattle.vl_evals.specs.Maps.{map_in, map_of, number_or, place_number}
-use Rattle.flow_cells.specs.Numbered.{all_cells}
+use Rattle.vl_flow_spec.proofs.Bools.{or_left, or_right}
+use Rattle.vl_flow_spec.proofs.Cells.{each_of_contained}
+use Rattle.vl_flow_spec.proofs.Choices.{declared_of}
+use Rattle.vl_lower_spec.specs.Maps.{map_in, map_of, number_or, place_number}
+use Rattle.vl_flow_cells.specs.Numbered.{all_cells}
 use Rattle.wn_net.specs.declared.names.NetName.{NetName}
 use Rattle.wn_net.specs.declared.names.Place.TheVariants as place
 use Rattle.wn_net.specs.Value.{Given, word_at, words_of}
 use Rattle.wn_net.specs.Net.{Netlist, value_at}
-use Rattle.vl_entries.specs.Entries.{EntriesAgree, MemoriesStand, all_entries, entries_of, is_memory, memories_of}
-use Rattle.vl_entries.specs.Entries.{memory_entry, node_entries}
+use Rattle.vl_lower_cell_laws.specs.Entries.{EntriesAgree, MemoriesStand, all_entries, entries_of, is_memory}
+use Rattle.vl_lower_cell_laws.specs.Entries.{memories_of}
+use Rattle.vl_lower_cell_laws.specs.Entries.{memory_entry, node_entries}
 
 -- ---- where a text stands
 

@@ -9,10 +9,10 @@ use Rattle.vl_size.specs.declared.decl.Decl.{Decl}
 use Rattle.vl_mean.specs.Cells.{cells}
 use Rattle.vl_mean.specs.Parts.{Part}
 use Rattle.wn_net.specs.declared.parts.InputKind.{InputKind}
-use Rattle.vl_keeps.specs.Keeps.{Kept, registers_of}
-use Rattle.vl_entries.specs.Entries.{is_memory}
-use Rattle.vl_sources.specs.Listing.{Keeping, cell_registers, inputs_named, named_registers, registers_in}
-use Rattle.vl_sources.proofs.Lists.{further, named_many, within}
+use Rattle.vl_lower_cell_laws.specs.Keeps.{Kept, registers_of}
+use Rattle.vl_lower_cell_laws.specs.Entries.{is_memory}
+use Rattle.vl_lower_cell_laws.specs.Listing.{Keeping, cell_registers, inputs_named, named_registers, registers_in}
+use Rattle.vl_lower_cell_laws.proofs.SourcesLists.{further, named_many, within}
 
 abbrev pub AllFrom : {A : Type 0} → (A → ℕ → Type 0) → List A → ℕ → Type 0
 AllFrom P xs r = (j : ℕ) (x : _) → slice_get xs j ≡ Some x → P x (r + j)

@@ -12,13 +12,14 @@ use Rattle.vl_mean.specs.declared.driver.Driver.{Driver}
 use Rattle.vl_mean.specs.declared.driver.DriverKind.TheVariants as k
 use Rattle.vl_mean.specs.Execution.{assigns}
 use Rattle.vl_mean.specs.FlatLaw.{flat_scopes}
-use Rattle.vl_path.specs.Drivers.{driven_by}
-use Rattle.vl_path.specs.Paths.{changes, is_blocking, is_nonblocking}
-use Rattle.vl_path.specs.Reads.{IsCellOf}
-use Rattle.vl_path.proofs.Bools.{and_both, none_of, or_left, or_right}
-use Rattle.vl_order.specs.Refusals.{changed_by, has_bit, mixed, named_if, place_of, some_changes, some_waits, with_name}
-use Rattle.vl_order.proofs.Elements.{each_declared_as}
-use Rattle.vl_order.proofs.Found.{has_it, none_of_names}
+use Rattle.vl_flow_spec.specs.Drivers.{driven_by}
+use Rattle.vl_flow_spec.specs.Paths.{changes, is_blocking, is_nonblocking}
+use Rattle.vl_flow_spec.specs.Reads.{IsCellOf}
+use Rattle.vl_flow_spec.proofs.Bools.{and_both, none_of, or_left, or_right}
+use Rattle.vl_flow_spec.specs.Refusals.{changed_by, has_bit, mixed, named_if, place_of, some_changes, some_waits}
+use Rattle.vl_flow_spec.specs.Refusals.{with_name}
+use Rattle.vl_flow_spec.proofs.Elements.{each_declared_as}
+use Rattle.vl_flow_spec.proofs.Found.{has_it, none_of_names}
 
 -- a place is there if that of the first or the second is
 first_there : (p : Pos) (o : Option Pos) → is_none (earlier_place (Some p) o) ≡ false

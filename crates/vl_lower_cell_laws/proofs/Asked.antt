@@ -11,15 +11,15 @@ use Rattle.vl_mean.specs.FlatLaw.{IsMemory, is_variable}
 use Rattle.vl_mean.specs.Parts.{Part}
 use Rattle.vl_mean.specs.Runs.{Each}
 use Rattle.vl_mean.specs.Scopes.{is_clock_class}
-use Rattle.vl_evals.specs.Maps.{is_split, text_of}
+use Rattle.vl_lower_spec.specs.Maps.{is_split, text_of}
 use Rattle.wn_net.specs.declared.names.NetName.{NetName}
 use Rattle.wn_net.specs.declared.parts.Input.{Input}
 use Rattle.wn_net.specs.declared.parts.InputKind.{InputKind}
-use Rattle.vl_named.specs.Sources.{kind_of}
-use Rattle.vl_entries.specs.Entries.{is_memory}
-use Rattle.vl_sources.specs.Listing.{all_inputs, entry_count, inputs_named, memory_count}
-use Rattle.vl_sources.proofs.Lists.{AreIn, back_in, each_both, front_in}
-use Rattle.vl_sources.proofs.Places.{AllAt, HeadAt, text_there}
+use Rattle.vl_lower_spec.specs.Sources.{kind_of}
+use Rattle.vl_lower_cell_laws.specs.Entries.{is_memory}
+use Rattle.vl_lower_cell_laws.specs.Listing.{all_inputs, entry_count, inputs_named, memory_count}
+use Rattle.vl_lower_cell_laws.proofs.SourcesLists.{AreIn, back_in, each_both, front_in}
+use Rattle.vl_lower_cell_laws.proofs.Places.{AllAt, HeadAt, text_there}
 
 -- a name that is chosen is no variable, and not the clock
 not_variable : (d : Decl) (c : Class) (k : InputKind) → d.class ≡ c → kind_of c ≡ Some k → is_variable d ≡ true → ⊥

@@ -17,29 +17,29 @@ use Rattle.vl_mean.specs.FlatParts.{driver_part, parts_of}
 use Rattle.vl_mean.specs.Parts.{Part}
 use Rattle.vl_mean.specs.Runs.{Each, PartAssumes}
 use Rattle.vl_mean.specs.Targets.{bit_of}
-use Rattle.vl_path.specs.Drivers.{AreInOrder, is_clocked, needed_by}
-use Rattle.vl_path.specs.Paths.{needs}
-use Rattle.vl_path.specs.Reads.{AreInRange}
-use Rattle.vl_path.specs.Settle.{AreAccepted, IsBitOf, driven, settle}
-use Rattle.vl_path.proofs.Cells.{HaveOwnCells}
-use Rattle.vl_path.proofs.Clockless.{needs_no_clock}
-use Rattle.vl_path.proofs.Execs.{exec_same}
-use Rattle.vl_path.proofs.Settling.{settled_in_range, settled_keeps}
-use Rattle.vl_same.proofs.EachOf.{back, both, front}
-use Rattle.vl_order.specs.Refusals.{HasNoRefusal}
-use Rattle.vl_order.specs.Sequence.{IsSequence, has_number}
-use Rattle.vl_order.proofs.Chain.{kinds, settled_there, with_kind}
-use Rattle.vl_order.proofs.Choices.{in_range_of}
-use Rattle.vl_order.proofs.Elements.{decl_parts, driver_parts, each_at, each_mapped, start_parts}
-use Rattle.vl_order.proofs.Held as held
-use Rattle.vl_path.proofs.Bools.{or_case}
-use Rattle.vl_lowered.specs.Built.{AreRanged}
-use Rattle.vl_lowered.specs.Settled.{driven_by_this, settled}
-use Rattle.vl_lowered.proofs.Agreeing as agreeing
-use Rattle.vl_lowered.proofs.Whole.{settled_is}
+use Rattle.vl_flow_spec.specs.Drivers.{AreInOrder, is_clocked, needed_by}
+use Rattle.vl_flow_spec.specs.Paths.{needs}
+use Rattle.vl_flow_spec.specs.Reads.{AreInRange}
+use Rattle.vl_flow_spec.specs.Settle.{AreAccepted, IsBitOf, driven, settle}
+use Rattle.vl_flow_spec.proofs.Cells.{HaveOwnCells}
+use Rattle.vl_flow_spec.proofs.Clockless.{needs_no_clock}
+use Rattle.vl_flow_spec.proofs.Execs.{exec_same}
+use Rattle.vl_flow_spec.proofs.Settling.{settled_in_range, settled_keeps}
+use Rattle.vl_mean_flat.proofs.EachOf.{back, both, front}
+use Rattle.vl_flow_spec.specs.Refusals.{HasNoRefusal}
+use Rattle.vl_flow_spec.specs.Sequence.{IsSequence, has_number}
+use Rattle.vl_flow_spec.proofs.Chain.{kinds, settled_there, with_kind}
+use Rattle.vl_flow_spec.proofs.Choices.{in_range_of}
+use Rattle.vl_flow_spec.proofs.Elements.{decl_parts, driver_parts, each_at, each_mapped, start_parts}
+use Rattle.vl_flow_spec.proofs.Held as held
+use Rattle.vl_flow_spec.proofs.Bools.{or_case}
+use Rattle.vl_lower_spec.specs.Built.{AreRanged}
+use Rattle.vl_lower_spec.specs.Settled.{driven_by_this, settled}
+use Rattle.vl_lower_spec.proofs.Agreeing as agreeing
+use Rattle.vl_lower_spec.proofs.LoweredWhole.{settled_is}
 use Rattle.std.proofs.lemmas.Bool.Decides.{nat_tests}
 use Rattle.std.proofs.Common.{arith}
-use Rattle.vl_settled.specs.Left.{SeenIsAssumed, seen_at_edge, seen_at_edges, seen_by, seen_by_this, seen_in}
+use Rattle.vl_lower_cell_laws.specs.Left.{SeenIsAssumed, seen_at_edge, seen_at_edges, seen_by, seen_by_this, seen_in}
 
 abbrev Hold : List ℕ → Type 0
 Hold xs = Each (λ x. 0 < x) xs

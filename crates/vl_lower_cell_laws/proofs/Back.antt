@@ -5,13 +5,13 @@ use Rattle.std.proofs.Common.{ap, sym, ◌∙◌, arith, subst, true≢false}
 use Rattle.std.proofs.lemmas.Option.{same_Some}
 use Rattle.vl_size.specs.Size.{Values}
 use Rattle.vl_mean.specs.Parts.{Part}
-use Rattle.vl_evals.specs.Maps.{gathered, text_of}
+use Rattle.vl_lower_spec.specs.Maps.{gathered, text_of}
 use Rattle.wn_net.specs.declared.names.NetName.{NetName}
-use Rattle.vl_keeps.specs.Keeps.{IsKeepOf, Kept, registers_of}
-use Rattle.vl_keeps.proofs.Whole.{keep_bits}
-use Rattle.vl_sources.specs.Listing.{Keeping, cell_registers, named_registers}
-use Rattle.vl_sources.specs.Numbers.{word_numbers}
-use Rattle.vl_sources.proofs.Lists.{further, named_at, named_many, within}
+use Rattle.vl_lower_cell_laws.specs.Keeps.{IsKeepOf, Kept, registers_of}
+use Rattle.vl_lower_cell_laws.proofs.KeepsWhole.{keep_bits}
+use Rattle.vl_lower_cell_laws.specs.Listing.{Keeping, cell_registers, named_registers}
+use Rattle.vl_lower_cell_laws.specs.Numbers.{word_numbers}
+use Rattle.vl_lower_cell_laws.proofs.SourcesLists.{further, named_at, named_many, within}
 
 module _ (ps : List Part) (keep : Keeping) (numbers : List ℕ) (w : ℕ) (some : 1 ≤ w) where
   -- registers from a place on have numbers of their widths

@@ -10,19 +10,20 @@ use Rattle.vl_mean.specs.Cells.{cells}
 use Rattle.vl_mean.specs.Parts.{Part}
 use Rattle.vl_mean.specs.Runs.{Each}
 use Rattle.vl_mean.specs.Scopes.{is_clock_class}
-use Rattle.vl_evals.specs.Maps.{gathered, text_of}
+use Rattle.vl_lower_spec.specs.Maps.{gathered, text_of}
 use Rattle.wn_net.specs.declared.names.NetName.{NetName}
 use Rattle.wn_net.specs.Value.{Given, word_at, words_of}
-use Rattle.vl_named.specs.Sources.{kind_of}
-use Rattle.vl_keeps.specs.Keeps.{IsKeepOf, Kept}
-use Rattle.vl_entries.specs.Entries.{is_memory}
-use Rattle.vl_sources.specs.Listing.{AreKeeps, Keeping, all_registers, cell_registers, entry_count, inputs_named}
-use Rattle.vl_sources.specs.Listing.{memory_count, registers_in}
-use Rattle.vl_sources.specs.Numbers.{memory_numbers, name_numbers, word_numbers}
-use Rattle.vl_sources.proofs.Along.{AllFrom, from_back, from_both, from_front, registers_many}
-use Rattle.vl_sources.proofs.Places.{AllAt, HeadAt, text_there}
-use Rattle.vl_sources.proofs.Counted.{AllHave, NameHas, memory_index}
-use Rattle.vl_sources.proofs.Back.{words_back, words_small}
+use Rattle.vl_lower_spec.specs.Sources.{kind_of}
+use Rattle.vl_lower_cell_laws.specs.Keeps.{IsKeepOf, Kept}
+use Rattle.vl_lower_cell_laws.specs.Entries.{is_memory}
+use Rattle.vl_lower_cell_laws.specs.Listing.{AreKeeps, Keeping, all_registers, cell_registers, entry_count}
+use Rattle.vl_lower_cell_laws.specs.Listing.{inputs_named}
+use Rattle.vl_lower_cell_laws.specs.Listing.{memory_count, registers_in}
+use Rattle.vl_lower_cell_laws.specs.Numbers.{memory_numbers, name_numbers, word_numbers}
+use Rattle.vl_lower_cell_laws.proofs.Along.{AllFrom, from_back, from_both, from_front, registers_many}
+use Rattle.vl_lower_cell_laws.proofs.Places.{AllAt, HeadAt, text_there}
+use Rattle.vl_lower_cell_laws.proofs.SourcesCounted.{AllHave, NameHas, memory_index}
+use Rattle.vl_lower_cell_laws.proofs.Back.{words_back, words_small}
 
 module _ (ds : List Decl) (ps : List Part) (keep : Keeping) (nodes : List ℕ) (list : List NetName) (g : Given)
     (v : Values) where

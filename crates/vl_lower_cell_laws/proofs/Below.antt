@@ -3,9 +3,9 @@ use Rattle.std.specs.Prelude.{◌≡◌, refl, ℕ, zero, suc, ◌+◌, ◌<◌,
 use Rattle.std.specs.Prelude.{slice_get}
 use Rattle.std.proofs.Common.{ap, sym, ◌∙◌, arith}
 use Rattle.std.proofs.lemmas.Bool.Decides.{nat_tests}
-use Rattle.vl_named.specs.Sources.{below}
-use Rattle.vl_named.proofs.Bits.{below_many}
-use Rattle.vl_sources.proofs.Lists.{further, within}
+use Rattle.vl_lower_spec.specs.Sources.{below}
+use Rattle.vl_lower_spec.proofs.Bits.{below_many}
+use Rattle.vl_lower_cell_laws.proofs.SourcesLists.{further, within}
 
 pub below_there : (n k : ℕ) → k < n → slice_get (below n) k ≡ Some k
 below_there zero k less = absurd (omega (arith, less))

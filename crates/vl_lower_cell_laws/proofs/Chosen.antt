@@ -11,20 +11,20 @@ use Rattle.vl_mean.specs.Cells.{cells, cells_of}
 use Rattle.vl_mean.specs.FlatLaw.{IsMemory}
 use Rattle.vl_mean.specs.Parts.{Part}
 use Rattle.vl_mean.specs.Runs.{Each}
-use Rattle.vl_evals.specs.Maps.{gathered, text_of}
+use Rattle.vl_lower_spec.specs.Maps.{gathered, text_of}
 use Rattle.wn_net.specs.declared.names.NetName.{NetName}
 use Rattle.wn_net.specs.declared.parts.Input.{Input}
 use Rattle.wn_net.specs.declared.parts.InputKind.{InputKind}
 use Rattle.wn_net.specs.Value.{Given}
-use Rattle.vl_named.specs.Sources.{below, kind_of}
-use Rattle.vl_named.proofs.Bits.{gathered_whole}
-use Rattle.vl_named.proofs.Pairs.{index_map}
-use Rattle.vl_sources.specs.Listing.{Keeping, all_inputs, entry_count, inputs_named, memory_count, registers_in}
-use Rattle.vl_sources.specs.Numbers.{name_numbers}
-use Rattle.vl_sources.proofs.Along.{AllFrom, from_back, from_both, from_front, inputs_many}
-use Rattle.vl_sources.proofs.Places.{AllAt, HeadAt}
-use Rattle.vl_sources.proofs.Asked.{own_text, vector_of}
-use Rattle.vl_sources.proofs.Counted.{AllHave, NameHas}
+use Rattle.vl_lower_spec.specs.Sources.{below, kind_of}
+use Rattle.vl_lower_spec.proofs.Bits.{gathered_whole}
+use Rattle.vl_lower_spec.proofs.Pairs.{index_map}
+use Rattle.vl_lower_cell_laws.specs.Listing.{Keeping, all_inputs, entry_count, inputs_named, memory_count, registers_in}
+use Rattle.vl_lower_cell_laws.specs.Numbers.{name_numbers}
+use Rattle.vl_lower_cell_laws.proofs.Along.{AllFrom, from_back, from_both, from_front, inputs_many}
+use Rattle.vl_lower_cell_laws.proofs.Places.{AllAt, HeadAt}
+use Rattle.vl_lower_cell_laws.proofs.Asked.{own_text, vector_of}
+use Rattle.vl_lower_cell_laws.proofs.SourcesCounted.{AllHave, NameHas}
 
 module _ (ds : List Decl) (ps : List Part) (keep : Keeping) (nodes : List ℕ) (list : List NetName) (g : Given)
     (v : Values) where

@@ -10,28 +10,29 @@ use Rattle.vl_size.specs.Table.{AreDifferent, IsShaped, declared_as}
 use Rattle.vl_mean.specs.FlatLaw.{IsKept, IsMemory}
 use Rattle.vl_mean.specs.Parts.{Part}
 use Rattle.vl_mean.specs.Runs.{Each, InRange}
-use Rattle.flow_cells.specs.Numbered.{all_cells}
-use Rattle.vl_evals.specs.Maps.{cells_named, inputs_of, spot_number}
+use Rattle.vl_flow_cells.specs.Numbered.{all_cells}
+use Rattle.vl_lower_spec.specs.Maps.{cells_named, inputs_of, spot_number}
 use Rattle.wn_net.specs.declared.names.Names.{Names}
 use Rattle.wn_net.specs.declared.parts.Input.{Input}
 use Rattle.wn_net.specs.declared.parts.Mem.{Mem}
 use Rattle.wn_net.specs.Value.{Given, word_at, words_at, words_of}
 use Rattle.wn_net.specs.Net.{Netlist}
 use Rattle.wn_net.specs.Given.{AreMemsOf, IsGiven}
-use Rattle.vl_named.proofs.Pairs.{index_map}
-use Rattle.vl_keeps.specs.Keeps.{Kept}
-use Rattle.vl_entries.specs.Entries.{all_entries}
-use Rattle.vl_sources.specs.Listing.{AreKeeps, HasSources, Keeping, Stored, all_inputs, all_memories, all_registers}
-use Rattle.vl_sources.specs.Listing.{input_spot, register_spot}
-use Rattle.vl_sources.specs.Numbers.{BeginsCycle, NumbersBeginCycles, all_numbers}
-use Rattle.vl_sources.proofs.Along.{AllFrom}
-use Rattle.vl_sources.proofs.Beginning.{IsFit, all_back}
-use Rattle.vl_sources.proofs.Chosen.{IsWithin, all_gathered}
-use Rattle.vl_sources.proofs.Counted.{AllHave, all_have}
-use Rattle.vl_sources.proofs.Places.{AllAt}
-use Rattle.vl_sources.proofs.Ranged.{all_ranged}
-use Rattle.vl_sources.proofs.Whole.{memories, own, placed}
-use Rattle.vl_sources.proofs.Words.{all_these, mapped}
+use Rattle.vl_lower_spec.proofs.Pairs.{index_map}
+use Rattle.vl_lower_cell_laws.specs.Keeps.{Kept}
+use Rattle.vl_lower_cell_laws.specs.Entries.{all_entries}
+use Rattle.vl_lower_cell_laws.specs.Listing.{AreKeeps, HasSources, Keeping, Stored, all_inputs, all_memories}
+use Rattle.vl_lower_cell_laws.specs.Listing.{all_registers}
+use Rattle.vl_lower_cell_laws.specs.Listing.{input_spot, register_spot}
+use Rattle.vl_lower_cell_laws.specs.Numbers.{BeginsCycle, NumbersBeginCycles, all_numbers}
+use Rattle.vl_lower_cell_laws.proofs.Along.{AllFrom}
+use Rattle.vl_lower_cell_laws.proofs.Beginning.{IsFit, all_back}
+use Rattle.vl_lower_cell_laws.proofs.Chosen.{IsWithin, all_gathered}
+use Rattle.vl_lower_cell_laws.proofs.SourcesCounted.{AllHave, all_have}
+use Rattle.vl_lower_cell_laws.proofs.Places.{AllAt}
+use Rattle.vl_lower_cell_laws.proofs.Ranged.{all_ranged}
+use Rattle.vl_lower_cell_laws.proofs.SourcesWhole.{memories, own, placed}
+use Rattle.vl_lower_cell_laws.proofs.Words.{all_these, mapped}
 
 abbrev behind : {A : Type 0} → List A → List A
 behind [] = []

@@ -13,16 +13,17 @@ use Rattle.vl_mean.specs.FlatLaw.{IsKept}
 use Rattle.vl_mean.specs.Parts.{Part}
 use Rattle.vl_mean.specs.Runs.{Each}
 use Rattle.vl_mean.specs.Scopes.{is_clock_class}
-use Rattle.vl_path.proofs.Bools.{none_of}
-use Rattle.flow_cells.proofs.Lists.{contained_at, one_place}
-use Rattle.flow_cells.proofs.Numbers.{stands_at}
-use Rattle.flow_cells.proofs.Words.{own_place}
+use Rattle.vl_flow_spec.proofs.Bools.{none_of}
+use Rattle.vl_flow_cells.proofs.Lists.{contained_at, one_place}
+use Rattle.vl_flow_cells.proofs.Numbers.{stands_at}
+use Rattle.vl_flow_cells.proofs.Words.{own_place}
 use Rattle.wn_net.specs.declared.names.NetName.{NetName}
-use Rattle.vl_entries.specs.Entries.{all_entries, entries_of, is_memory, memories_of, memory_entry, node_entries}
-use Rattle.vl_sources.specs.Listing.{Keeping}
-use Rattle.vl_shown.proofs.Lists.{all_of_places, distinct_both}
-use Rattle.vl_shown.proofs.Entries.{AtCell, AtMemory, entries_are, of_node}
-use Rattle.vl_shown.proofs.Owners.{Belongs, one_owner}
+use Rattle.vl_lower_cell_laws.specs.Entries.{all_entries, entries_of, is_memory, memories_of, memory_entry}
+use Rattle.vl_lower_cell_laws.specs.Entries.{node_entries}
+use Rattle.vl_lower_cell_laws.specs.Listing.{Keeping}
+use Rattle.vl_lower_cell_laws.proofs.ShownLists.{all_of_places, distinct_both}
+use Rattle.vl_lower_cell_laws.proofs.Entries.{AtCell, AtMemory, entries_are, of_node}
+use Rattle.vl_lower_cell_laws.proofs.Owners.{Belongs, one_owner}
 
 abbrev pub same_text : NetName → NetName → Bool
 same_text a b = bytes_eq a.text b.text

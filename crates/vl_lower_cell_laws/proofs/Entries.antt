@@ -11,17 +11,19 @@ use Rattle.vl_mean.specs.Cells.{cells}
 use Rattle.vl_mean.specs.FlatLaw.{IsKept, IsMemory}
 use Rattle.vl_mean.specs.Parts.{Part}
 use Rattle.vl_mean.specs.Scopes.{is_clock_class}
-use Rattle.flow_cells.specs.Numbered.{all_cells}
-use Rattle.flow_cells.proofs.Lists.{get_either, get_left, get_right}
+use Rattle.vl_flow_cells.specs.Numbered.{all_cells}
+use Rattle.vl_flow_cells.proofs.Lists.{get_either, get_left, get_right}
 use Rattle.wn_net.specs.declared.names.NetName.{NetName}
 use Rattle.wn_net.specs.declared.names.Place.TheVariants as place
-use Rattle.vl_frames.specs.Frames.{cell_widths}
-use Rattle.vl_lowered.proofs.Kept.{variable_is}
-use Rattle.vl_entries.specs.Entries.{all_entries, entries_of, is_memory, memories_of, memory_entry, node_entries}
-use Rattle.vl_entries.specs.Entries.{node_entry}
-use Rattle.vl_sources.specs.Listing.{Keeping, Stored, all_memories, entry_count, memories_in, memory_count, stored}
-use Rattle.vl_sources.proofs.Lists.{map_get}
-use Rattle.vl_shown.proofs.Counted.{memories_many, memory_is_variable}
+use Rattle.vl_lower_assign.specs.Frames.{cell_widths}
+use Rattle.vl_lower_spec.proofs.Kept.{variable_is}
+use Rattle.vl_lower_cell_laws.specs.Entries.{all_entries, entries_of, is_memory, memories_of, memory_entry}
+use Rattle.vl_lower_cell_laws.specs.Entries.{node_entries}
+use Rattle.vl_lower_cell_laws.specs.Entries.{node_entry}
+use Rattle.vl_lower_cell_laws.specs.Listing.{Keeping, Stored, all_memories, entry_count, memories_in, memory_count}
+use Rattle.vl_lower_cell_laws.specs.Listing.{stored}
+use Rattle.vl_lower_cell_laws.proofs.SourcesLists.{map_get}
+use Rattle.vl_lower_cell_laws.proofs.ShownCounted.{memories_many, memory_is_variable}
 
 module _ (ps : List Part) (nodes : List ℕ) where
   -- at the node of a cell, from a cell on

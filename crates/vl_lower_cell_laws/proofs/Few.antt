@@ -11,18 +11,18 @@ use Rattle.vl_size.specs.Table.{IsShaped, span}
 use Rattle.vl_mean.specs.Cells.{cells, cells_of}
 use Rattle.vl_mean.specs.FlatLaw.{all_names_count, name_count}
 use Rattle.vl_mean.specs.Parts.{Part}
-use Rattle.flow_cells.proofs.Words.{words_length}
+use Rattle.vl_flow_cells.proofs.Words.{words_length}
 use Rattle.wn_net.specs.declared.parts.Input.{Input}
 use Rattle.wn_net.specs.declared.parts.InputKind.{InputKind}
-use Rattle.vl_named.specs.Sources.{kind_of}
-use Rattle.vl_keeps.specs.declared.keep.Keep.{Keep}
-use Rattle.vl_keeps.specs.Keeps.{Kept, has_bit, is_whole, kept_bit, kept_bits, registers_of, whole_kept}
-use Rattle.vl_entries.specs.Entries.{is_memory}
-use Rattle.vl_sources.specs.Listing.{Keeping, Stored, all_inputs, all_memories, all_registers}
-use Rattle.vl_sources.specs.Listing.{cell_registers, entry_count, inputs_named, memories_in, named_registers}
-use Rattle.vl_sources.specs.Listing.{registers_in, stored}
-use Rattle.vl_sources.proofs.Lists.{named_many}
-use Rattle.vl_few.specs.Few.{SourcesAreFew}
+use Rattle.vl_lower_spec.specs.Sources.{kind_of}
+use Rattle.vl_lower_cell_laws.specs.declared.keep.Keep.{Keep}
+use Rattle.vl_lower_cell_laws.specs.Keeps.{Kept, has_bit, is_whole, kept_bit, kept_bits, registers_of, whole_kept}
+use Rattle.vl_lower_cell_laws.specs.Entries.{is_memory}
+use Rattle.vl_lower_cell_laws.specs.Listing.{Keeping, Stored, all_inputs, all_memories, all_registers}
+use Rattle.vl_lower_cell_laws.specs.Listing.{cell_registers, entry_count, inputs_named, memories_in, named_registers}
+use Rattle.vl_lower_cell_laws.specs.Listing.{registers_in, stored}
+use Rattle.vl_lower_cell_laws.proofs.SourcesLists.{named_many}
+use Rattle.vl_lower_cell_laws.specs.Few.{SourcesAreFew}
 
 many_both : {A : Type 0} (xs ys : List A) → length (xs ++ ys) ≡ length xs + length ys
 many_both [] ys = omega arith

@@ -17,29 +17,29 @@ use Rattle.vl_mean.specs.FlatParts.{driver_part, parts_of}
 use Rattle.vl_mean.specs.Parts.{Part}
 use Rattle.vl_mean.specs.Runs.{is_chosen, is_driven, is_driven_by}
 use Rattle.vl_mean.specs.Targets.{bit_of}
-use Rattle.vl_path.specs.Drivers.{driven_by, is_clocked}
-use Rattle.vl_path.specs.Reads.{IsCellOf}
-use Rattle.vl_path.specs.Settle.{settle}
-use Rattle.vl_path.proofs.Bools.{none_of}
-use Rattle.vl_path.proofs.Execs.{assigned_small, net_counted}
-use Rattle.vl_path.proofs.Stays.{no_write}
-use Rattle.vl_path.proofs.Targets.{marks}
-use Rattle.vl_path.proofs.Writes.{puts_stay}
-use Rattle.vl_order.specs.Refusals.{HasNoRefusal}
-use Rattle.vl_order.specs.Sequence.{IsSequence, is_settled}
-use Rattle.vl_order.proofs.Changed.{driver_changed}
-use Rattle.vl_order.proofs.Chain.{AreSettled, kinds}
-use Rattle.vl_order.proofs.Choices.{chosen_at, driven_among, driven_parts}
-use Rattle.vl_order.proofs.Elements.{all_at}
-use Rattle.vl_order.proofs.Held as held
-use Rattle.vl_lowered.specs.Built.{AreKeptAlike, AreRanged, is_kept}
-use Rattle.vl_lowered.specs.Settled.{driven_by_this, settled}
-use Rattle.vl_lowered.proofs.Agreeing as agreeing
-use Rattle.vl_lowered.proofs.Kept as kept
-use Rattle.vl_lowered.proofs.Whole.{settled_is}
-use Rattle.vl_ticked.proofs.Next.{not_net}
-use Rattle.vl_ticked.proofs.Stays.{stored_stays}
-use Rattle.vl_settled.specs.Left.{LeftBitsAreKept, left, left_by, left_by_this}
+use Rattle.vl_flow_spec.specs.Drivers.{driven_by, is_clocked}
+use Rattle.vl_flow_spec.specs.Reads.{IsCellOf}
+use Rattle.vl_flow_spec.specs.Settle.{settle}
+use Rattle.vl_flow_spec.proofs.Bools.{none_of}
+use Rattle.vl_flow_spec.proofs.Execs.{assigned_small, net_counted}
+use Rattle.vl_flow_spec.proofs.Stays.{no_write}
+use Rattle.vl_flow_spec.proofs.Targets.{marks}
+use Rattle.vl_flow_spec.proofs.Writes.{puts_stay}
+use Rattle.vl_flow_spec.specs.Refusals.{HasNoRefusal}
+use Rattle.vl_flow_spec.specs.Sequence.{IsSequence, is_settled}
+use Rattle.vl_flow_spec.proofs.Changed.{driver_changed}
+use Rattle.vl_flow_spec.proofs.Chain.{AreSettled, kinds}
+use Rattle.vl_flow_spec.proofs.Choices.{chosen_at, driven_among, driven_parts}
+use Rattle.vl_flow_spec.proofs.Elements.{all_at}
+use Rattle.vl_flow_spec.proofs.Held as held
+use Rattle.vl_lower_spec.specs.Built.{AreKeptAlike, AreRanged, is_kept}
+use Rattle.vl_lower_spec.specs.Settled.{driven_by_this, settled}
+use Rattle.vl_lower_spec.proofs.Agreeing as agreeing
+use Rattle.vl_lower_spec.proofs.Kept as kept
+use Rattle.vl_lower_spec.proofs.LoweredWhole.{settled_is}
+use Rattle.vl_lower_cell_laws.proofs.Next.{not_net}
+use Rattle.vl_lower_cell_laws.proofs.Stays.{stored_stays}
+use Rattle.vl_lower_cell_laws.specs.Left.{LeftBitsAreKept, left, left_by, left_by_this}
 
 module _ (ds : List Decl) (wide : (d : Decl) → declared_as ds d.name ≡ Some d → 1 ≤ d.width) (n : List ℕ) (i : ℕ) where
   -- what a driver doesn't drive it leaves

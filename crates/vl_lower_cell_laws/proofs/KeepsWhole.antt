@@ -15,15 +15,15 @@ use Rattle.fv_bits.proofs.SingleBits.{bit_at_low}
 use Rattle.vl_mean.specs.Parts.{Part}
 use Rattle.vl_mean.specs.Runs.{initial_writes, is_driven, last_value}
 use Rattle.vl_mean.specs.Targets.{bit_of}
-use Rattle.vl_path.proofs.Bools.{and_left, and_right}
-use Rattle.vl_evals.specs.Maps.{gathered}
+use Rattle.vl_flow_spec.proofs.Bools.{and_left, and_right}
+use Rattle.vl_lower_spec.specs.Maps.{gathered}
 use Rattle.wn_net.specs.declared.parts.Init.{Init}
 use Rattle.wn_net.specs.declared.parts.Init.TheVariants as init
-use Rattle.vl_named.specs.Sources.{BeginsAs, IsBelow, below}
-use Rattle.vl_named.proofs.Bits.{below_at, below_many, gathered_whole}
-use Rattle.vl_keeps.specs.declared.keep.Keep.{Keep}
-use Rattle.vl_keeps.specs.Keeps.{AllRegistersKeepBits, IsIn, IsKeepOf, IsKept, Kept, bits_number}
-use Rattle.vl_keeps.specs.Keeps.{has_bit, is_whole, kept_bit, kept_bits, whole_kept}
+use Rattle.vl_lower_spec.specs.Sources.{BeginsAs, IsBelow, below}
+use Rattle.vl_lower_spec.proofs.Bits.{below_at, below_many, gathered_whole}
+use Rattle.vl_lower_cell_laws.specs.declared.keep.Keep.{Keep}
+use Rattle.vl_lower_cell_laws.specs.Keeps.{AllRegistersKeepBits, IsIn, IsKeepOf, IsKept, Kept, bits_number}
+use Rattle.vl_lower_cell_laws.specs.Keeps.{has_bit, is_whole, kept_bit, kept_bits, whole_kept}
 
 -- ---- bits
 

@@ -13,10 +13,11 @@ use Rattle.vl_mean.specs.FlatLaw.{flat_scopes}
 use Rattle.vl_mean.specs.FlatParts.{driver_part, parts_of}
 use Rattle.vl_mean.specs.Parts.{Part}
 use Rattle.vl_mean.specs.Scopes.{is_clock_class}
-use Rattle.vl_order.proofs.Elements.{decl_parts, driver_parts, start_parts}
-use Rattle.vl_evals.specs.Maps.{AreEntriesOf, as_vectors, is_split, listed_in, listed_of}
+use Rattle.vl_flow_spec.proofs.Elements.{decl_parts, driver_parts, start_parts}
+use Rattle.vl_lower_spec.specs.Maps.{AreEntriesOf, as_vectors, is_split, listed_in, listed_of}
 use Rattle.wn_net.specs.declared.names.NetName.{NetName}
-use Rattle.vl_entries.specs.Entries.{EntriesAreListed, all_entries, entries_of, memories_of, memory_entry, node_entries}
+use Rattle.vl_lower_cell_laws.specs.Entries.{EntriesAreListed, all_entries, entries_of, memories_of, memory_entry}
+use Rattle.vl_lower_cell_laws.specs.Entries.{node_entries}
 
 entries_both : (ds es : List Decl) (xs ys : List NetName) → AreEntriesOf ds xs → AreEntriesOf es ys
     → AreEntriesOf (ds ++ es) (xs ++ ys)

@@ -14,15 +14,16 @@ use Rattle.vl_mean.specs.Cells.{cells}
 use Rattle.vl_mean.specs.Parts.{Part}
 use Rattle.vl_mean.specs.Runs.{initial_writes, is_driven, last_value}
 use Rattle.vl_mean.specs.Targets.{bit_of}
-use Rattle.vl_path.proofs.Bools.{and_both, and_left, and_right, left_none, or_left, or_right, right_none}
-use Rattle.vl_evals.specs.Maps.{is_split, is_split_at, some_below}
-use Rattle.vl_named.specs.Sources.{BeginsAs, below}
-use Rattle.vl_named.proofs.Bits.{below_at}
-use Rattle.vl_keeps.specs.declared.keep.Keep.{Keep}
-use Rattle.vl_keeps.specs.Keeps.{IsIn, IsKeepOf, IsKept, Kept, RegistersKeepBits, has_bit, is_whole, kept_bits}
-use Rattle.vl_keeps.specs.Keeps.{registers_of, whole_kept}
-use Rattle.vl_keeps.proofs.Whole.{keep_bits}
-use Rattle.vl_entries.specs.Entries.{is_memory}
+use Rattle.vl_flow_spec.proofs.Bools.{and_both, and_left, and_right, left_none, or_left, or_right, right_none}
+use Rattle.vl_lower_spec.specs.Maps.{is_split, is_split_at, some_below}
+use Rattle.vl_lower_spec.specs.Sources.{BeginsAs, below}
+use Rattle.vl_lower_spec.proofs.Bits.{below_at}
+use Rattle.vl_lower_cell_laws.specs.declared.keep.Keep.{Keep}
+use Rattle.vl_lower_cell_laws.specs.Keeps.{IsIn, IsKeepOf, IsKept, Kept, RegistersKeepBits, has_bit, is_whole}
+use Rattle.vl_lower_cell_laws.specs.Keeps.{kept_bits}
+use Rattle.vl_lower_cell_laws.specs.Keeps.{registers_of, whole_kept}
+use Rattle.vl_lower_cell_laws.proofs.KeepsWhole.{keep_bits}
+use Rattle.vl_lower_cell_laws.specs.Entries.{is_memory}
 
 -- ---- tests
 

@@ -22,25 +22,25 @@ use Rattle.vl_mean.specs.FlatParts.{driver_part, parts_of}
 use Rattle.vl_mean.specs.Parts.{Part}
 use Rattle.vl_mean.specs.Runs.{Each, EachBelow, Keeps, Next, OnlyIf, PartSteps, is_assigned, is_assigned_by, is_driven}
 use Rattle.vl_mean.specs.Targets.{bit_of}
-use Rattle.vl_path.specs.Drivers.{driven_by}
-use Rattle.vl_path.specs.Paths.{changes, is_blocking}
-use Rattle.vl_path.specs.Reads.{IsCellOf}
-use Rattle.vl_path.proofs.Bools.{none_of, or_case, or_left, or_right}
-use Rattle.vl_path.proofs.Cells.{each_of_contained}
-use Rattle.vl_order.specs.Refusals.{HasNoRefusal, mixed, two_drivers}
-use Rattle.vl_order.specs.Sequence.{IsSequence}
-use Rattle.vl_order.proofs.Changed.{block_changed, driver_changed}
-use Rattle.vl_order.proofs.Elements.{all_at, decl_parts, driver_parts, each_below_of, nothing, start_parts}
-use Rattle.vl_order.proofs.Held as held
-use Rattle.vl_order.proofs.Single.{single}
-use Rattle.vl_frames.specs.Stored.{stored}
-use Rattle.vl_frames.proofs.Stores.{stored_later, stored_now}
-use Rattle.vl_lowered.specs.Built.{AreKeptAlike}
-use Rattle.vl_lowered.proofs.Agreeing as agreeing
-use Rattle.vl_lowered.proofs.Kept as kept
-use Rattle.vl_ticked.specs.Ticked.{TickedMapsAreNext, stored_by, ticked}
-use Rattle.vl_ticked.proofs.Apart.{one_way}
-use Rattle.vl_ticked.proofs.Stays.{stored_stays}
+use Rattle.vl_flow_spec.specs.Drivers.{driven_by}
+use Rattle.vl_flow_spec.specs.Paths.{changes, is_blocking}
+use Rattle.vl_flow_spec.specs.Reads.{IsCellOf}
+use Rattle.vl_flow_spec.proofs.Bools.{none_of, or_case, or_left, or_right}
+use Rattle.vl_flow_spec.proofs.Cells.{each_of_contained}
+use Rattle.vl_flow_spec.specs.Refusals.{HasNoRefusal, mixed, two_drivers}
+use Rattle.vl_flow_spec.specs.Sequence.{IsSequence}
+use Rattle.vl_flow_spec.proofs.Changed.{block_changed, driver_changed}
+use Rattle.vl_flow_spec.proofs.Elements.{all_at, decl_parts, driver_parts, each_below_of, nothing, start_parts}
+use Rattle.vl_flow_spec.proofs.Held as held
+use Rattle.vl_flow_spec.proofs.Single.{single}
+use Rattle.vl_lower_assign.specs.Stored.{stored}
+use Rattle.vl_lower_assign.proofs.Stores.{stored_later, stored_now}
+use Rattle.vl_lower_spec.specs.Built.{AreKeptAlike}
+use Rattle.vl_lower_spec.proofs.Agreeing as agreeing
+use Rattle.vl_lower_spec.proofs.Kept as kept
+use Rattle.vl_lower_cell_laws.specs.Ticked.{TickedMapsAreNext, stored_by, ticked}
+use Rattle.vl_lower_cell_laws.proofs.Apart.{one_way}
+use Rattle.vl_lower_cell_laws.proofs.Stays.{stored_stays}
 
 pub not_net : (d : Decl) (c : Class) → d.class ≡ c → is_net d ≡ true → is_variable d ≡ true → ⊥
 not_net d class.Net e n v = true≢false (sym v ∙ ap (λ c. is_variable (record d { class = c })) e)

@@ -6,10 +6,10 @@ use Rattle.vl_size.specs.declared.decl.Decl.{Decl}
 use Rattle.vl_size.specs.Table.{AreApart, HasNoWord, IsNoWordIn, declared_as}
 use Rattle.vl_mean.specs.Cells.{is_cell}
 use Rattle.vl_mean.specs.Parts.{Part}
-use Rattle.vl_path.specs.Reads.{IsCellOf}
-use Rattle.vl_path.proofs.Cells.{cell_is_word, declared_all, own_cells, own_name}
-use Rattle.vl_entries.specs.Entries.{is_memory}
-use Rattle.vl_shown.proofs.Counted.{has_words}
+use Rattle.vl_flow_spec.specs.Reads.{IsCellOf}
+use Rattle.vl_flow_spec.proofs.Cells.{cell_is_word, declared_all, own_cells, own_name}
+use Rattle.vl_lower_cell_laws.specs.Entries.{is_memory}
+use Rattle.vl_lower_cell_laws.proofs.ShownCounted.{has_words}
 
 module _ (ds : List Decl) (apart : AreApart ds) where
   pub record Belongs (d : Decl) (text : List ℕ) : Type 0 where

@@ -8,12 +8,13 @@ use Rattle.vl_size.specs.declared.decl.Decl.{Decl}
 use Rattle.vl_mean.specs.Cells.{cells}
 use Rattle.vl_mean.specs.Parts.{Part}
 use Rattle.vl_mean.specs.Scopes.{is_clock_class}
-use Rattle.vl_evals.specs.Maps.{cells_named, text_of}
+use Rattle.vl_lower_spec.specs.Maps.{cells_named, text_of}
 use Rattle.wn_net.specs.declared.names.NetName.{NetName}
-use Rattle.vl_entries.specs.Entries.{all_entries, entries_of, is_memory, memories_of, memory_entry, node_entries}
-use Rattle.vl_entries.specs.Entries.{node_entry}
-use Rattle.vl_sources.specs.Listing.{entry_count, memory_count}
-use Rattle.vl_sources.proofs.Lists.{further, within}
+use Rattle.vl_lower_cell_laws.specs.Entries.{all_entries, entries_of, is_memory, memories_of, memory_entry}
+use Rattle.vl_lower_cell_laws.specs.Entries.{node_entries}
+use Rattle.vl_lower_cell_laws.specs.Entries.{node_entry}
+use Rattle.vl_lower_cell_laws.specs.Listing.{entry_count, memory_count}
+use Rattle.vl_lower_cell_laws.proofs.SourcesLists.{further, within}
 
 module _ (ps : List Part) (nodes : List ℕ) (list : List NetName) where
   -- those of a name stand from a place on

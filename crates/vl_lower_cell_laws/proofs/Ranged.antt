@@ -11,25 +11,25 @@ use Rattle.vl_mean.specs.Cells.{cells}
 use Rattle.vl_mean.specs.FlatLaw.{IsMemory}
 use Rattle.vl_mean.specs.Parts.{Part}
 use Rattle.vl_mean.specs.Runs.{Each, InRange}
-use Rattle.vl_order.proofs.Elements.{each_of_places}
+use Rattle.vl_flow_spec.proofs.Elements.{each_of_places}
 use Rattle.wn_net.specs.declared.names.NetName.{NetName}
 use Rattle.wn_net.specs.declared.parts.Input.{Input}
 use Rattle.wn_net.specs.declared.parts.InputKind.{InputKind}
 use Rattle.wn_net.specs.declared.parts.InputKind.TheVariants as kind
 use Rattle.wn_net.specs.Value.{Given, word_at, words_of}
-use Rattle.vl_named.specs.Sources.{kind_of}
-use Rattle.vl_named.proofs.Pairs.{index_map}
-use Rattle.vl_keeps.specs.Keeps.{IsKeepOf, Kept}
-use Rattle.vl_entries.specs.Entries.{is_memory}
-use Rattle.vl_sources.specs.Listing.{AreKeeps, Keeping, Stored, all_inputs, all_memories, all_registers}
-use Rattle.vl_sources.specs.Listing.{entry_count, inputs_named, memories_in, memory_count, registers_in, stored}
-use Rattle.vl_sources.specs.Numbers.{name_numbers}
-use Rattle.vl_sources.proofs.Along.{AllFrom, from_back, from_front, inputs_many, registers_many}
-use Rattle.vl_sources.proofs.Places.{AllAt, HeadAt}
-use Rattle.vl_sources.proofs.Counted.{AllHave, NameHas}
-use Rattle.vl_sources.proofs.Beginning.{IsFit, memory_has, name_small}
-use Rattle.vl_sources.proofs.Chosen.{IsWithin, chosen_number}
-use Rattle.vl_sources.proofs.Words.{counted}
+use Rattle.vl_lower_spec.specs.Sources.{kind_of}
+use Rattle.vl_lower_spec.proofs.Pairs.{index_map}
+use Rattle.vl_lower_cell_laws.specs.Keeps.{IsKeepOf, Kept}
+use Rattle.vl_lower_cell_laws.specs.Entries.{is_memory}
+use Rattle.vl_lower_cell_laws.specs.Listing.{AreKeeps, Keeping, Stored, all_inputs, all_memories, all_registers}
+use Rattle.vl_lower_cell_laws.specs.Listing.{entry_count, inputs_named, memories_in, memory_count, registers_in, stored}
+use Rattle.vl_lower_cell_laws.specs.Numbers.{name_numbers}
+use Rattle.vl_lower_cell_laws.proofs.Along.{AllFrom, from_back, from_front, inputs_many, registers_many}
+use Rattle.vl_lower_cell_laws.proofs.Places.{AllAt, HeadAt}
+use Rattle.vl_lower_cell_laws.proofs.SourcesCounted.{AllHave, NameHas}
+use Rattle.vl_lower_cell_laws.proofs.Beginning.{IsFit, memory_has, name_small}
+use Rattle.vl_lower_cell_laws.proofs.Chosen.{IsWithin, chosen_number}
+use Rattle.vl_lower_cell_laws.proofs.Words.{counted}
 
 module _ (ds : List Decl) (ps : List Part) (keep : Keeping) (nodes : List ℕ) (list : List NetName) (g : Given)
     (v : Values) where

@@ -11,17 +11,18 @@ use Rattle.vl_mean.specs.Cells.{cells}
 use Rattle.vl_mean.specs.Parts.{Part}
 use Rattle.vl_mean.specs.Runs.{Each, is_driven}
 use Rattle.vl_mean.specs.Scopes.{is_clock_class}
-use Rattle.vl_path.specs.Reads.{IsCellOf}
-use Rattle.flow_cells.proofs.Lists.{contained_at}
-use Rattle.vl_evals.specs.Maps.{text_of}
+use Rattle.vl_flow_spec.specs.Reads.{IsCellOf}
+use Rattle.vl_flow_cells.proofs.Lists.{contained_at}
+use Rattle.vl_lower_spec.specs.Maps.{text_of}
 use Rattle.wn_net.specs.declared.names.NetName.{NetName}
-use Rattle.vl_keeps.specs.Keeps.{IsIn, IsKeepOf, IsKept, Kept, RegistersKeepBits, registers_of}
-use Rattle.vl_keeps.proofs.Whole.{keep_bits}
-use Rattle.vl_entries.specs.Entries.{is_memory}
-use Rattle.vl_sources.specs.Listing.{AreKeeps, Keeping, all_registers, cell_registers, entry_count, memory_count}
-use Rattle.vl_sources.specs.Listing.{named_registers, registers_in}
-use Rattle.vl_sources.proofs.Lists.{AreIn, back_in, each_both, front_in, named_at}
-use Rattle.vl_sources.proofs.Places.{AllAt, HeadAt, text_there}
+use Rattle.vl_lower_cell_laws.specs.Keeps.{IsIn, IsKeepOf, IsKept, Kept, RegistersKeepBits, registers_of}
+use Rattle.vl_lower_cell_laws.proofs.KeepsWhole.{keep_bits}
+use Rattle.vl_lower_cell_laws.specs.Entries.{is_memory}
+use Rattle.vl_lower_cell_laws.specs.Listing.{AreKeeps, Keeping, all_registers, cell_registers, entry_count}
+use Rattle.vl_lower_cell_laws.specs.Listing.{memory_count}
+use Rattle.vl_lower_cell_laws.specs.Listing.{named_registers, registers_in}
+use Rattle.vl_lower_cell_laws.proofs.SourcesLists.{AreIn, back_in, each_both, front_in, named_at}
+use Rattle.vl_lower_cell_laws.proofs.Places.{AllAt, HeadAt, text_there}
 
 module _ (ds : List Decl) (ps : List Part) (keep : Keeping) (nodes : List ℕ) (list : List NetName) where
   -- bits of a variable's cell, under the entry's text

@@ -8,8 +8,8 @@ use Rattle.vl_size.specs.Size.{Values}
 use Rattle.vl_size.specs.Table.{AreApart, AreDifferent}
 use Rattle.vl_mean.specs.FlatLaw.{IsKept}
 use Rattle.vl_mean.specs.Parts.{Part}
-use Rattle.vl_path.specs.Reads.{IsCellOf}
-use Rattle.flow_cells.proofs.Lists.{declared_own, get_some}
+use Rattle.vl_flow_spec.specs.Reads.{IsCellOf}
+use Rattle.vl_flow_cells.proofs.Lists.{declared_own, get_some}
 use Rattle.wn_net.specs.declared.names.NetName.{NetName}
 use Rattle.wn_net.specs.declared.names.Names.{Names}
 use Rattle.wn_net.specs.declared.names.Place.TheVariants as place
@@ -17,18 +17,18 @@ use Rattle.wn_net.specs.declared.names.Spot.{Spot}
 use Rattle.wn_net.specs.Names.{AreShown, IsShown, ShowNames, number_at}
 use Rattle.wn_net.specs.Net.{Netlist}
 use Rattle.wn_net.specs.Value.{Given}
-use Rattle.vl_evals.specs.Maps.{gathered, given_of, spot_number, text_of}
-use Rattle.vl_frames.specs.Frames.{Stand}
-use Rattle.vl_named.specs.Sources.{AreSources, IsInputOf, IsRegOf}
-use Rattle.vl_named.proofs.Bits.{gathered_at}
-use Rattle.vl_named.proofs.Free.{vector_cell}
-use Rattle.vl_named.proofs.Pairs.{first_of}
-use Rattle.vl_entries.specs.Entries.{all_entries}
-use Rattle.vl_sources.specs.Listing.{Keeping}
-use Rattle.vl_shown.specs.Shown.{NamesAreShown}
-use Rattle.vl_shown.proofs.Entries.{AtCell, AtMemory, entries_are}
-use Rattle.vl_shown.proofs.Lists.{index_is}
-use Rattle.vl_shown.proofs.Owners.{memory_no_cell}
+use Rattle.vl_lower_spec.specs.Maps.{gathered, given_of, spot_number, text_of}
+use Rattle.vl_lower_assign.specs.Frames.{Stand}
+use Rattle.vl_lower_spec.specs.Sources.{AreSources, IsInputOf, IsRegOf}
+use Rattle.vl_lower_spec.proofs.Bits.{gathered_at}
+use Rattle.vl_lower_spec.proofs.Free.{vector_cell}
+use Rattle.vl_lower_spec.proofs.Pairs.{first_of}
+use Rattle.vl_lower_cell_laws.specs.Entries.{all_entries}
+use Rattle.vl_lower_cell_laws.specs.Listing.{Keeping}
+use Rattle.vl_lower_cell_laws.specs.Shown.{NamesAreShown}
+use Rattle.vl_lower_cell_laws.proofs.Entries.{AtCell, AtMemory, entries_are}
+use Rattle.vl_lower_cell_laws.proofs.ShownLists.{index_is}
+use Rattle.vl_lower_cell_laws.proofs.Owners.{memory_no_cell}
 
 module _ (ds : List Decl) (ps : List Part) (nodes : List ℕ) (net : Netlist) (names : Names) (g : Given) (v : Values)
     (different : AreDifferent ds) (apart : AreApart ds) (kept : All IsKept ds)

@@ -8,9 +8,9 @@ use Rattle.vl_size.specs.declared.decl.Decl.{Decl}
 use Rattle.vl_mean.specs.FlatLaw.{IsMemory, is_variable}
 use Rattle.vl_mean.specs.Parts.{Part}
 use Rattle.vl_mean.specs.Scopes.{is_clock_class}
-use Rattle.vl_evals.specs.Maps.{is_split}
-use Rattle.vl_entries.specs.Entries.{is_memory, memories_of}
-use Rattle.vl_sources.specs.Listing.{Keeping, Stored, memories_in, memory_count, stored}
+use Rattle.vl_lower_spec.specs.Maps.{is_split}
+use Rattle.vl_lower_cell_laws.specs.Entries.{is_memory, memories_of}
+use Rattle.vl_lower_cell_laws.specs.Listing.{Keeping, Stored, memories_in, memory_count, stored}
 
 -- what is no variable is no memory
 pub no_memory : (ps : List Part) (d : Decl) → is_variable d ≡ false → IsMemory d.words d → is_memory ps d ≡ false

@@ -5,7 +5,7 @@ use Rattle.std.specs.List.{AllByRecursion, IsDistinct}
 use Rattle.std.proofs.Common.{ap, arith, true≢false}
 use Rattle.std.proofs.lemmas.Option.{same_Some}
 use Rattle.std.proofs.lemmas.Bool.Decides.{nat_tests}
-use Rattle.vl_path.proofs.Bools.{none_of}
+use Rattle.vl_flow_spec.proofs.Bools.{none_of}
 
 pub all_of_places : {A : Type 0} (P : A → Type 0) (xs : List A)
     → ((j : ℕ) (x : A) → slice_get xs j ≡ Some x → P x) → AllByRecursion P xs

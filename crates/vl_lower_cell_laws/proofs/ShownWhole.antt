@@ -12,9 +12,9 @@ use Rattle.vl_mean.specs.Cells.{cells, cells_of}
 use Rattle.vl_mean.specs.FlatLaw.{IsKept, IsMemory}
 use Rattle.vl_mean.specs.Parts.{Part}
 use Rattle.vl_mean.specs.Runs.{Each}
-use Rattle.vl_order.proofs.Elements.{all_declared}
-use Rattle.flow_cells.proofs.Lists as lists
-use Rattle.flow_cells.proofs.Words.{words_length}
+use Rattle.vl_flow_spec.proofs.Elements.{all_declared}
+use Rattle.vl_flow_cells.proofs.Lists as lists
+use Rattle.vl_flow_cells.proofs.Words.{words_length}
 use Rattle.wn_net.specs.declared.names.NetName.{NetName}
 use Rattle.wn_net.specs.declared.names.Names.{Names}
 use Rattle.wn_net.specs.declared.names.Place.TheVariants as place
@@ -23,18 +23,19 @@ use Rattle.wn_net.specs.Changes.{mem_width}
 use Rattle.wn_net.specs.Names.{AreMemNames, AreNamesOf, AreSpotsOf, HaveAll, IsNameOf, IsPlaced, IsRangeOf}
 use Rattle.wn_net.specs.Names.{IsSpotOf, words_in}
 use Rattle.wn_net.specs.Net.{IsNodeOf, Netlist}
-use Rattle.vl_frames.specs.Frames.{AreCellsOf, cell_widths}
-use Rattle.vl_entries.specs.Entries.{all_entries, memory_entry}
-use Rattle.vl_sources.specs.Listing.{AreKeeps, HasSources, Keeping, Stored, all_inputs, all_memories, all_registers}
-use Rattle.vl_sources.specs.Listing.{input_spot, register_spot}
-use Rattle.vl_sources.proofs.Lists.{map_get}
-use Rattle.vl_sources.proofs.Places.{AllAt, all_at}
-use Rattle.vl_shown.specs.Shown.{NamesAreWhole}
-use Rattle.vl_shown.proofs.Counted.{has_words}
-use Rattle.vl_shown.proofs.Differ.{all_differ, same_text}
-use Rattle.vl_shown.proofs.Entries.{AtCell, AtMemory, entries_are}
-use Rattle.vl_shown.proofs.Lists.{all_of_places, index_is}
-use Rattle.vl_shown.proofs.Spots.{input_spots, memory_names, register_spots}
+use Rattle.vl_lower_assign.specs.Frames.{AreCellsOf, cell_widths}
+use Rattle.vl_lower_cell_laws.specs.Entries.{all_entries, memory_entry}
+use Rattle.vl_lower_cell_laws.specs.Listing.{AreKeeps, HasSources, Keeping, Stored, all_inputs, all_memories}
+use Rattle.vl_lower_cell_laws.specs.Listing.{all_registers}
+use Rattle.vl_lower_cell_laws.specs.Listing.{input_spot, register_spot}
+use Rattle.vl_lower_cell_laws.proofs.SourcesLists.{map_get}
+use Rattle.vl_lower_cell_laws.proofs.Places.{AllAt, all_at}
+use Rattle.vl_lower_cell_laws.specs.Shown.{NamesAreWhole}
+use Rattle.vl_lower_cell_laws.proofs.ShownCounted.{has_words}
+use Rattle.vl_lower_cell_laws.proofs.Differ.{all_differ, same_text}
+use Rattle.vl_lower_cell_laws.proofs.Entries.{AtCell, AtMemory, entries_are}
+use Rattle.vl_lower_cell_laws.proofs.ShownLists.{all_of_places, index_is}
+use Rattle.vl_lower_cell_laws.proofs.Spots.{input_spots, memory_names, register_spots}
 
 -- spots, each of the width beside it
 spots_of : {A : Type 0} (names : Names) (width : A → ℕ) (spot : A → Spot) (xs : List A)

@@ -9,13 +9,13 @@ use Rattle.vl_size.specs.declared.decl.Decl.{Decl}
 use Rattle.vl_size.specs.Size.{Values}
 use Rattle.vl_mean.specs.Cells.{cells}
 use Rattle.vl_mean.specs.Parts.{Part}
-use Rattle.flow_cells.specs.Numbered.{all_cells}
+use Rattle.vl_flow_cells.specs.Numbered.{all_cells}
 use Rattle.wn_net.specs.Value.{Given, words_of}
-use Rattle.vl_named.specs.Sources.{kind_of}
-use Rattle.vl_entries.specs.Entries.{is_memory}
-use Rattle.vl_sources.specs.Listing.{Keeping, inputs_named, memory_count, registers_in}
-use Rattle.vl_sources.specs.Numbers.{all_numbers, memory_numbers, name_numbers, word_numbers}
-use Rattle.vl_sources.proofs.Lists.{further, within}
+use Rattle.vl_lower_spec.specs.Sources.{kind_of}
+use Rattle.vl_lower_cell_laws.specs.Entries.{is_memory}
+use Rattle.vl_lower_cell_laws.specs.Listing.{Keeping, inputs_named, memory_count, registers_in}
+use Rattle.vl_lower_cell_laws.specs.Numbers.{all_numbers, memory_numbers, name_numbers, word_numbers}
+use Rattle.vl_lower_cell_laws.proofs.SourcesLists.{further, within}
 
 pub below_length : {A : Type 0} (xs : List A) (j : ℕ) (x : A) → slice_get xs j ≡ Some x → j < length xs
 below_length [] j x e = absurd (true≢false (ap is_none e))

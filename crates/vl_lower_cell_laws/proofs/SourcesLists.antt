@@ -3,8 +3,8 @@ use Rattle.std.specs.Prelude.{◌≡◌, refl, ℕ, zero, suc, ◌+◌, List, []
 use Rattle.std.proofs.Common.{ap, ◌∙◌, arith, true≢false}
 use Rattle.std.proofs.lemmas.Option.{same_Some}
 use Rattle.vl_mean.specs.Runs.{Each}
-use Rattle.vl_keeps.specs.Keeps.{Kept}
-use Rattle.vl_sources.specs.Listing.{named_registers}
+use Rattle.vl_lower_cell_laws.specs.Keeps.{Kept}
+use Rattle.vl_lower_cell_laws.specs.Listing.{named_registers}
 
 pub within : {A : Type 0} (xs ys : List A) (j : ℕ) (x : A) → slice_get xs j ≡ Some x → slice_get (xs ++ ys) j ≡ Some x
 within [] ys j x e = absurd (true≢false (ap is_none e))

@@ -12,10 +12,10 @@ use Rattle.vl_mean.specs.Cells.{cells, is_cell}
 use Rattle.vl_mean.specs.FlatLaw.{IsKept, IsMemory}
 use Rattle.vl_mean.specs.Parts.{Part}
 use Rattle.vl_mean.specs.Runs.{Each, initial_writes, is_chosen, is_driven, last_value}
-use Rattle.vl_path.specs.Reads.{IsCellOf}
-use Rattle.vl_path.proofs.Cells.{own_name}
-use Rattle.flow_cells.proofs.Lists.{place_in}
-use Rattle.vl_order.proofs.Elements.{all_declared, each_declared_as}
+use Rattle.vl_flow_spec.specs.Reads.{IsCellOf}
+use Rattle.vl_flow_spec.proofs.Cells.{own_name}
+use Rattle.vl_flow_cells.proofs.Lists.{place_in}
+use Rattle.vl_flow_spec.proofs.Elements.{all_declared, each_declared_as}
 use Rattle.wn_net.specs.declared.names.Names.{Names}
 use Rattle.wn_net.specs.declared.parts.Input.{Input}
 use Rattle.wn_net.specs.declared.parts.InputKind.{InputKind}
@@ -23,19 +23,20 @@ use Rattle.wn_net.specs.declared.parts.InputKind.TheVariants as kind
 use Rattle.wn_net.specs.declared.parts.Mem.{Mem}
 use Rattle.wn_net.specs.declared.parts.Reg.{Reg}
 use Rattle.wn_net.specs.Net.{Netlist}
-use Rattle.vl_named.specs.Sources.{AreEach, AreSources, BeginsAs, IsAtSpot, IsInputOf, IsMemOf, IsRegOf, IsSource}
-use Rattle.vl_named.specs.Sources.{IsWordOf}
-use Rattle.vl_named.specs.Sources.{below, kind_of}
-use Rattle.vl_keeps.specs.Keeps.{Kept}
-use Rattle.vl_entries.specs.Entries.{all_entries, is_memory}
-use Rattle.vl_sources.specs.Listing.{AreKeeps, HasSources, Keeping, SourcesAreNamed, Stored, all_inputs, all_memories}
-use Rattle.vl_sources.specs.Listing.{all_registers, input_spot, register_spot}
-use Rattle.vl_sources.proofs.Lists.{map_get}
-use Rattle.vl_sources.proofs.Places.{AllAt, all_at}
-use Rattle.vl_sources.proofs.Registers.{IsHeld, IsHere, all_held, all_here}
-use Rattle.vl_sources.proofs.Stored.{HasWords, IsStored, all_stored, all_words}
-use Rattle.vl_sources.proofs.Asked.{IsAsked, IsTaken, all_asked, all_taken, vector_of}
-use Rattle.vl_sources.proofs.Below.{below_there}
+use Rattle.vl_lower_spec.specs.Sources.{AreEach, AreSources, BeginsAs, IsAtSpot, IsInputOf, IsMemOf, IsRegOf, IsSource}
+use Rattle.vl_lower_spec.specs.Sources.{IsWordOf}
+use Rattle.vl_lower_spec.specs.Sources.{below, kind_of}
+use Rattle.vl_lower_cell_laws.specs.Keeps.{Kept}
+use Rattle.vl_lower_cell_laws.specs.Entries.{all_entries, is_memory}
+use Rattle.vl_lower_cell_laws.specs.Listing.{AreKeeps, HasSources, Keeping, SourcesAreNamed, Stored, all_inputs}
+use Rattle.vl_lower_cell_laws.specs.Listing.{all_memories}
+use Rattle.vl_lower_cell_laws.specs.Listing.{all_registers, input_spot, register_spot}
+use Rattle.vl_lower_cell_laws.proofs.SourcesLists.{map_get}
+use Rattle.vl_lower_cell_laws.proofs.Places.{AllAt, all_at}
+use Rattle.vl_lower_cell_laws.proofs.Registers.{IsHeld, IsHere, all_held, all_here}
+use Rattle.vl_lower_cell_laws.proofs.Stored.{HasWords, IsStored, all_stored, all_words}
+use Rattle.vl_lower_cell_laws.proofs.Asked.{IsAsked, IsTaken, all_asked, all_taken, vector_of}
+use Rattle.vl_lower_cell_laws.proofs.Below.{below_there}
 
 each_of_all : {A : Type 0} (P : A → Type 0) (xs : List A) → All P xs → Each P xs
 each_of_all P [] h = tt

@@ -17,22 +17,24 @@ use Rattle.wn_net.specs.declared.names.Names.{Names}
 use Rattle.wn_net.specs.declared.parts.Input.{Input}
 use Rattle.wn_net.specs.declared.parts.InputKind.{InputKind}
 use Rattle.wn_net.specs.Names.{AreMemNames, IsSpotOf}
-use Rattle.vl_evals.specs.Maps.{is_split}
-use Rattle.vl_named.specs.Sources.{below, kind_of}
-use Rattle.vl_named.proofs.Bits.{below_at, below_many}
-use Rattle.vl_keeps.specs.declared.keep.Keep.{Keep}
-use Rattle.vl_keeps.specs.Keeps.{IsKeepOf, Kept, has_bit, is_whole, kept_bit, kept_bits, registers_of, whole_kept}
-use Rattle.vl_keeps.proofs.Whole.{keep_bits}
-use Rattle.vl_entries.specs.Entries.{is_memory, memories_of, memory_entry, node_entries, node_entry}
-use Rattle.vl_sources.specs.Listing.{AreKeeps, Keeping, Stored, all_inputs, all_memories, all_registers}
-use Rattle.vl_sources.specs.Listing.{cell_registers, entry_count, input_spot, inputs_named, memories_in, memory_count}
-use Rattle.vl_sources.specs.Listing.{named_registers, register_spot, registers_in, stored}
-use Rattle.vl_sources.proofs.Asked.{not_clock, vector_of}
-use Rattle.vl_sources.proofs.Lists.{each_both}
-use Rattle.vl_sources.proofs.Places.{AllAt, HeadAt}
-use Rattle.vl_shown.proofs.Counted.{count_of}
-use Rattle.vl_shown.proofs.Entries.{node_there}
-use Rattle.vl_shown.proofs.Lists.{all_of_places, numbers_once}
+use Rattle.vl_lower_spec.specs.Maps.{is_split}
+use Rattle.vl_lower_spec.specs.Sources.{below, kind_of}
+use Rattle.vl_lower_spec.proofs.Bits.{below_at, below_many}
+use Rattle.vl_lower_cell_laws.specs.declared.keep.Keep.{Keep}
+use Rattle.vl_lower_cell_laws.specs.Keeps.{IsKeepOf, Kept, has_bit, is_whole, kept_bit, kept_bits, registers_of}
+use Rattle.vl_lower_cell_laws.specs.Keeps.{whole_kept}
+use Rattle.vl_lower_cell_laws.proofs.KeepsWhole.{keep_bits}
+use Rattle.vl_lower_cell_laws.specs.Entries.{is_memory, memories_of, memory_entry, node_entries, node_entry}
+use Rattle.vl_lower_cell_laws.specs.Listing.{AreKeeps, Keeping, Stored, all_inputs, all_memories, all_registers}
+use Rattle.vl_lower_cell_laws.specs.Listing.{cell_registers, entry_count, input_spot, inputs_named, memories_in}
+use Rattle.vl_lower_cell_laws.specs.Listing.{memory_count}
+use Rattle.vl_lower_cell_laws.specs.Listing.{named_registers, register_spot, registers_in, stored}
+use Rattle.vl_lower_cell_laws.proofs.Asked.{not_clock, vector_of}
+use Rattle.vl_lower_cell_laws.proofs.SourcesLists.{each_both}
+use Rattle.vl_lower_cell_laws.proofs.Places.{AllAt, HeadAt}
+use Rattle.vl_lower_cell_laws.proofs.ShownCounted.{count_of}
+use Rattle.vl_lower_cell_laws.proofs.Entries.{node_there}
+use Rattle.vl_lower_cell_laws.proofs.ShownLists.{all_of_places, numbers_once}
 
 -- ---- bits of registers differ
 

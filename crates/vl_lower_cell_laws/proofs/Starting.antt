@@ -7,8 +7,8 @@ use Rattle.std.proofs.lemmas.Bool.Decides.{nat_tests}
 use Rattle.vl_size.specs.Size.{Values}
 use Rattle.vl_mean.specs.Runs.{is_spot, last_value, later_or}
 use Rattle.vl_mean.specs.Targets.{Write, bit_of, put, with_bit}
-use Rattle.vl_path.proofs.Puts.{bit_here, bit_there}
-use Rattle.vl_keeps.specs.Keeps.{WritesLeaveLast, value_or}
+use Rattle.vl_flow_spec.proofs.Puts.{bit_here, bit_there}
+use Rattle.vl_lower_cell_laws.specs.Keeps.{WritesLeaveLast, value_or}
 
 -- one write
 one_left : (w : Write) (v : Values) (n : List ℕ) (k : ℕ) → w.value < 2

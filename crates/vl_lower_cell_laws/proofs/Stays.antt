@@ -27,12 +27,12 @@ use Rattle.vl_mean.specs.Execution.{State, any_assigns, arms_assign, assigned, a
 use Rattle.vl_mean.specs.FlatLaw.{AreArms, AreBlocks, IsBlock, case_context, flat_scopes, is_variable}
 use Rattle.vl_mean.specs.Scopes.{operand_in}
 use Rattle.vl_mean.specs.Targets.{bit_of}
-use Rattle.vl_path.proofs.Bools.{left_none, right_none}
-use Rattle.vl_path.proofs.Execs.{assigned_small, variable_counted}
-use Rattle.vl_path.proofs.Stays.{no_write}
-use Rattle.vl_path.proofs.Targets.{marks}
-use Rattle.vl_path.proofs.Writes.{puts_stay}
-use Rattle.vl_frames.specs.Stored.{all_stored, arm_stored, otherwise_stored, stored}
+use Rattle.vl_flow_spec.proofs.Bools.{left_none, right_none}
+use Rattle.vl_flow_spec.proofs.Execs.{assigned_small, variable_counted}
+use Rattle.vl_flow_spec.proofs.Stays.{no_write}
+use Rattle.vl_flow_spec.proofs.Targets.{marks}
+use Rattle.vl_flow_spec.proofs.Writes.{puts_stay}
+use Rattle.vl_lower_assign.specs.Stored.{all_stored, arm_stored, otherwise_stored, stored}
 
 either : (b : Bool) (x y w : Values) (n : List ℕ) (k : ℕ) → bit_of (x n) k ≡ bit_of (w n) k
     → bit_of (y n) k ≡ bit_of (w n) k → bit_of ((if b then x else y) n) k ≡ bit_of (w n) k

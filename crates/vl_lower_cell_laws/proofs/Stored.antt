@@ -11,20 +11,21 @@ use Rattle.vl_mean.specs.Cells.{cells}
 use Rattle.vl_mean.specs.Parts.{Part}
 use Rattle.vl_mean.specs.Runs.{Each, initial_writes, is_driven, last_value}
 use Rattle.vl_mean.specs.Scopes.{is_clock_class}
-use Rattle.vl_path.specs.Reads.{IsCellOf}
-use Rattle.flow_cells.proofs.Lists.{place_in}
-use Rattle.vl_evals.specs.Maps.{cells_named}
+use Rattle.vl_flow_spec.specs.Reads.{IsCellOf}
+use Rattle.vl_flow_cells.proofs.Lists.{place_in}
+use Rattle.vl_lower_spec.specs.Maps.{cells_named}
 use Rattle.wn_net.specs.declared.names.NetName.{NetName}
 use Rattle.wn_net.specs.declared.parts.Init.{Init}
 use Rattle.wn_net.specs.declared.parts.Init.TheVariants as init
-use Rattle.vl_named.specs.Sources.{BeginsAs}
-use Rattle.vl_keeps.specs.Keeps.{IsKeepOf, whole_kept}
-use Rattle.vl_entries.specs.Entries.{is_memory}
-use Rattle.vl_sources.specs.Listing.{AreKeeps, Keeping, Stored, all_memories, entry_count, memories_in, memory_count}
-use Rattle.vl_sources.specs.Listing.{stored, word_starts}
-use Rattle.vl_sources.proofs.Lists.{AreIn, back_in, each_both, front_in}
-use Rattle.vl_sources.proofs.Places.{AllAt, HeadAt, memory_there}
-use Rattle.vl_sources.proofs.Memories.{word_begins, word_is, word_kept, words_whole}
+use Rattle.vl_lower_spec.specs.Sources.{BeginsAs}
+use Rattle.vl_lower_cell_laws.specs.Keeps.{IsKeepOf, whole_kept}
+use Rattle.vl_lower_cell_laws.specs.Entries.{is_memory}
+use Rattle.vl_lower_cell_laws.specs.Listing.{AreKeeps, Keeping, Stored, all_memories, entry_count, memories_in}
+use Rattle.vl_lower_cell_laws.specs.Listing.{memory_count}
+use Rattle.vl_lower_cell_laws.specs.Listing.{stored, word_starts}
+use Rattle.vl_lower_cell_laws.proofs.SourcesLists.{AreIn, back_in, each_both, front_in}
+use Rattle.vl_lower_cell_laws.proofs.Places.{AllAt, HeadAt, memory_there}
+use Rattle.vl_lower_cell_laws.proofs.Memories.{word_begins, word_is, word_kept, words_whole}
 
 starts_many : (keep : Keeping) (w first : ℕ) (texts : List (List ℕ))
     → length (word_starts keep w first texts) ≡ length texts

@@ -5,17 +5,17 @@ use Rattle.vl_size.specs.declared.decl.Decl.{Decl}
 use Rattle.vl_size.specs.Size.{Values}
 use Rattle.vl_mean.specs.declared.driver.Driver.{Driver}
 use Rattle.vl_mean.specs.Runs.{Each}
-use Rattle.vl_same.proofs.EachOf.{back, both, front}
+use Rattle.vl_mean_flat.proofs.EachOf.{back, both, front}
 use Rattle.wn_net.specs.Value.{Given}
 use Rattle.wn_net.specs.Net.{Netlist, AreNodes, value_at}
 use Rattle.wn_net.specs.Changes.{AddsNodes}
 use Rattle.wn_net.proofs.Laws.{adds_none, adds_on}
-use Rattle.vl_frames.specs.Frames.{Cells, IsFrame, Stand}
-use Rattle.vl_frames.proofs.Behind.{met_back, met_on, nodes_on}
-use Rattle.vl_lowered.specs.Settled.{driven_by_this, settled}
-use Rattle.vl_ticked.specs.Ticked.{stored_by, ticked}
-use Rattle.vl_settled.specs.Left.{left, left_by_this, seen_at_edge, seen_at_edges, seen_by_this, seen_in}
-use Rattle.vl_cycle.specs.Cycles.{AllCyclesGrow, Tell, Turns}
+use Rattle.vl_lower_assign.specs.Frames.{Cells, IsFrame, Stand}
+use Rattle.vl_lower_assign.proofs.Behind.{met_back, met_on, nodes_on}
+use Rattle.vl_lower_spec.specs.Settled.{driven_by_this, settled}
+use Rattle.vl_lower_cell_laws.specs.Ticked.{stored_by, ticked}
+use Rattle.vl_lower_cell_laws.specs.Left.{left, left_by_this, seen_at_edge, seen_at_edges, seen_by_this, seen_in}
+use Rattle.vl_lower_cell_laws.specs.Cycles.{AllCyclesGrow, Tell, Turns}
 
 -- ---- one more in a list
 

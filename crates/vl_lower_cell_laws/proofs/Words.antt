@@ -12,18 +12,18 @@ use Rattle.vl_mean.specs.FlatLaw.{IsMemory, is_variable}
 use Rattle.vl_mean.specs.Parts.{Part}
 use Rattle.vl_mean.specs.Runs.{Each}
 use Rattle.vl_mean.specs.Scopes.{is_clock_class}
-use Rattle.vl_evals.specs.Maps.{cells_named, is_split}
+use Rattle.vl_lower_spec.specs.Maps.{cells_named, is_split}
 use Rattle.wn_net.specs.declared.names.NetName.{NetName}
 use Rattle.wn_net.specs.Value.{Given, words_of}
-use Rattle.vl_named.specs.Sources.{kind_of}
-use Rattle.vl_entries.specs.Entries.{is_memory, memories_of}
-use Rattle.vl_sources.specs.Listing.{Keeping, Stored, all_memories, entry_count, inputs_named, memories_in}
-use Rattle.vl_sources.specs.Listing.{memory_count}
-use Rattle.vl_sources.specs.Listing.{registers_in, stored}
-use Rattle.vl_sources.proofs.Along.{AllFrom, from_back, from_both, from_front}
-use Rattle.vl_sources.proofs.Places.{AllAt, HeadAt, memory_there}
-use Rattle.vl_sources.proofs.Counted.{AllHave, NameHas}
-use Rattle.vl_sources.proofs.Beginning.{memory_has}
+use Rattle.vl_lower_spec.specs.Sources.{kind_of}
+use Rattle.vl_lower_cell_laws.specs.Entries.{is_memory, memories_of}
+use Rattle.vl_lower_cell_laws.specs.Listing.{Keeping, Stored, all_memories, entry_count, inputs_named, memories_in}
+use Rattle.vl_lower_cell_laws.specs.Listing.{memory_count}
+use Rattle.vl_lower_cell_laws.specs.Listing.{registers_in, stored}
+use Rattle.vl_lower_cell_laws.proofs.Along.{AllFrom, from_back, from_both, from_front}
+use Rattle.vl_lower_cell_laws.proofs.Places.{AllAt, HeadAt, memory_there}
+use Rattle.vl_lower_cell_laws.proofs.SourcesCounted.{AllHave, NameHas}
+use Rattle.vl_lower_cell_laws.proofs.Beginning.{memory_has}
 
 pub mapped : {A B : Type 0} (f : B → ℕ) (s : A → B) (xs : List A) (ys : List ℕ) → length ys ≡ length xs
     → ((j : ℕ) (x : A) → slice_get xs j ≡ Some x → f (s x) ≡ slice_index ys j) → map f (map s xs) ≡ ys

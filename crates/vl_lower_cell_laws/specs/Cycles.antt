@@ -6,15 +6,15 @@ use Rattle.vl_size.specs.Size.{Values}
 use Rattle.vl_mean.specs.declared.driver.Driver.{Driver}
 use Rattle.vl_mean.specs.declared.driver.DriverKind.{DriverKind}
 use Rattle.vl_mean.specs.Runs.{Each}
-use Rattle.vl_path.specs.Settle.{driven}
+use Rattle.vl_flow_spec.specs.Settle.{driven}
 use Rattle.wn_net.specs.Value.{Given}
 use Rattle.wn_net.specs.Net.{Netlist, AreNodes, value_at}
 use Rattle.wn_net.specs.Given.{IsGiven}
 use Rattle.wn_net.specs.Changes.{AddsNodes}
-use Rattle.vl_frames.specs.Frames.{Cells, IsFrame, Stand}
-use Rattle.vl_lowered.specs.Settled.{settled}
-use Rattle.vl_ticked.specs.Ticked.{stored_by, ticked}
-use Rattle.vl_settled.specs.Left.{left, left_by, seen_at_edge, seen_at_edges, seen_by, seen_in}
+use Rattle.vl_lower_assign.specs.Frames.{Cells, IsFrame, Stand}
+use Rattle.vl_lower_spec.specs.Settled.{settled}
+use Rattle.vl_lower_cell_laws.specs.Ticked.{stored_by, ticked}
+use Rattle.vl_lower_cell_laws.specs.Left.{left, left_by, seen_at_edge, seen_at_edges, seen_by, seen_in}
 
 -- the nodes tell in a cycle whether all numbers that are assumed are other than 0
 abbrev pub Tell : Netlist → Given → List ℕ → List ℕ → Type 0

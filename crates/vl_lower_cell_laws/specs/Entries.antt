@@ -10,8 +10,8 @@ use Rattle.vl_mean.specs.FlatParts.{parts_of}
 use Rattle.vl_mean.specs.Parts.{Part}
 use Rattle.vl_mean.specs.Runs.{Agrees}
 use Rattle.vl_mean.specs.Scopes.{is_clock_class}
-use Rattle.vl_frames.specs.Frames.{Stand}
-use Rattle.vl_evals.specs.Maps.{AreEntriesOf, is_split, listed, map_of}
+use Rattle.vl_lower_assign.specs.Frames.{Stand}
+use Rattle.vl_lower_spec.specs.Maps.{AreEntriesOf, is_split, listed, map_of}
 use Rattle.wn_net.specs.declared.names.Names.{Names}
 use Rattle.wn_net.specs.declared.names.NetName.{NetName}
 use Rattle.wn_net.specs.declared.names.Place.TheVariants as place

@@ -6,7 +6,7 @@ use Rattle.vl_mean.specs.FlatLaw.{IsKept, all_names_count}
 use Rattle.vl_mean.specs.Parts.{Part}
 use Rattle.wn_net.specs.declared.names.Names.{Names}
 use Rattle.wn_net.specs.Net.{Netlist}
-use Rattle.vl_sources.specs.Listing.{HasSources, Keeping}
+use Rattle.vl_lower_cell_laws.specs.Listing.{HasSources, Keeping}
 
 pub record AreFew (net : Netlist) : Type 0 where
   pub inputs : length net.inputs ≤ 1000000

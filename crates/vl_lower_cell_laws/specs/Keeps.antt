@@ -6,11 +6,11 @@ use Rattle.vl_mean.specs.Parts.{Part}
 use Rattle.vl_mean.specs.Runs.{Each, initial_writes, is_driven, last_value}
 use Rattle.vl_size.specs.Size.{Values}
 use Rattle.vl_mean.specs.Targets.{Write, bit_of, put_all}
-use Rattle.vl_evals.specs.Maps.{gathered}
+use Rattle.vl_lower_spec.specs.Maps.{gathered}
 use Rattle.wn_net.specs.declared.parts.Init.{Init}
 use Rattle.wn_net.specs.declared.parts.Init.TheVariants as init
-use Rattle.vl_named.specs.Sources.{BeginsAs, IsBelow, below}
-use Rattle.vl_keeps.specs.declared.keep.Keep.{Keep}
+use Rattle.vl_lower_spec.specs.Sources.{BeginsAs, IsBelow, below}
+use Rattle.vl_lower_cell_laws.specs.declared.keep.Keep.{Keep}
 
 abbrev pub has_bit : ℕ → ℕ → Bool
 has_bit x k = bit_of x k == 1

@@ -13,11 +13,11 @@ use Rattle.vl_mean.specs.FlatLaw.{IsLawful, flat_scopes}
 use Rattle.vl_mean.specs.FlatParts.{parts_of}
 use Rattle.vl_mean.specs.Runs.{Each, PartAssumes}
 use Rattle.vl_mean.specs.Targets.{put_all}
-use Rattle.vl_order.specs.Refusals.{HasNoRefusal}
-use Rattle.vl_order.specs.Sequence.{IsSequence}
-use Rattle.vl_frames.specs.Stored.{stored}
-use Rattle.vl_lowered.specs.Built.{AreKeptAlike, AreRanged}
-use Rattle.vl_lowered.specs.Settled.{driven_by_this, settled}
+use Rattle.vl_flow_spec.specs.Refusals.{HasNoRefusal}
+use Rattle.vl_flow_spec.specs.Sequence.{IsSequence}
+use Rattle.vl_lower_assign.specs.Stored.{stored}
+use Rattle.vl_lower_spec.specs.Built.{AreKeptAlike, AreRanged}
+use Rattle.vl_lower_spec.specs.Settled.{driven_by_this, settled}
 
 -- what a driver leaves of its bits in a map for the next cycle, over the values v
 abbrev pub left_by : List Decl → DriverKind → Values → Values → Values

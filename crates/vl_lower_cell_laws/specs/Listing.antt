@@ -16,10 +16,10 @@ use Rattle.wn_net.specs.declared.parts.Init.{Init}
 use Rattle.wn_net.specs.declared.parts.Input.{Input}
 use Rattle.wn_net.specs.declared.parts.InputKind.{InputKind}
 use Rattle.wn_net.specs.Net.{Netlist}
-use Rattle.vl_named.specs.Sources.{AreSources, below, kind_of}
-use Rattle.vl_keeps.specs.declared.keep.Keep.{Keep}
-use Rattle.vl_keeps.specs.Keeps.{IsKeepOf, Kept, registers_of, whole_kept}
-use Rattle.vl_entries.specs.Entries.{all_entries, is_memory, memories_of}
+use Rattle.vl_lower_spec.specs.Sources.{AreSources, below, kind_of}
+use Rattle.vl_lower_cell_laws.specs.declared.keep.Keep.{Keep}
+use Rattle.vl_lower_cell_laws.specs.Keeps.{IsKeepOf, Kept, registers_of, whole_kept}
+use Rattle.vl_lower_cell_laws.specs.Entries.{all_entries, is_memory, memories_of}
 
 -- what is kept of each cell, by its number
 abbrev pub Keeping : Type 0

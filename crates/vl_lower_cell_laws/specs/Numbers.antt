@@ -10,17 +10,17 @@ use Rattle.vl_size.specs.Table.{AreDifferent, IsShaped}
 use Rattle.vl_mean.specs.Cells.{cells}
 use Rattle.vl_mean.specs.FlatLaw.{IsKept}
 use Rattle.vl_mean.specs.Parts.{Part}
-use Rattle.vl_evals.specs.Maps.{given_of}
-use Rattle.vl_lowered.specs.Built.{AreRanged}
-use Rattle.flow_cells.specs.Numbered.{all_cells}
+use Rattle.vl_lower_spec.specs.Maps.{given_of}
+use Rattle.vl_lower_spec.specs.Built.{AreRanged}
+use Rattle.vl_flow_cells.specs.Numbered.{all_cells}
 use Rattle.wn_net.specs.declared.names.Names.{Names}
 use Rattle.wn_net.specs.Value.{Given, word_at, words_of}
 use Rattle.wn_net.specs.Net.{Netlist}
 use Rattle.wn_net.specs.Given.{IsGiven}
-use Rattle.vl_named.specs.Sources.{kind_of}
-use Rattle.vl_keeps.specs.Keeps.{cell_number, registers_of}
-use Rattle.vl_entries.specs.Entries.{all_entries, is_memory}
-use Rattle.vl_sources.specs.Listing.{AreKeeps, HasSources, Keeping, inputs_named, memory_count, registers_in}
+use Rattle.vl_lower_spec.specs.Sources.{kind_of}
+use Rattle.vl_lower_cell_laws.specs.Keeps.{cell_number, registers_of}
+use Rattle.vl_lower_cell_laws.specs.Entries.{all_entries, is_memory}
+use Rattle.vl_lower_cell_laws.specs.Listing.{AreKeeps, HasSources, Keeping, inputs_named, memory_count, registers_in}
 
 -- cells from a number on, by the numbers of registers, those from a place on
 abbrev pub word_numbers : Keeping → ℕ → List ℕ → ℕ → ℕ → List (List ℕ) → List ℕ

@@ -6,15 +6,15 @@ use Rattle.vl_size.specs.Size.{Values}
 use Rattle.vl_size.specs.Table.{AreApart, AreDifferent, IsShaped}
 use Rattle.vl_mean.specs.FlatLaw.{IsKept}
 use Rattle.vl_mean.specs.Parts.{Part}
-use Rattle.vl_evals.specs.Maps.{given_of}
+use Rattle.vl_lower_spec.specs.Maps.{given_of}
 use Rattle.wn_net.specs.declared.names.Names.{Names}
 use Rattle.wn_net.specs.Names.{AreNamesOf, HaveAll, ShowNames}
 use Rattle.wn_net.specs.Net.{Netlist}
 use Rattle.wn_net.specs.Value.{Given}
-use Rattle.vl_frames.specs.Frames.{AreCellsOf, Stand}
-use Rattle.vl_named.specs.Sources.{AreSources}
-use Rattle.vl_entries.specs.Entries.{all_entries}
-use Rattle.vl_sources.specs.Listing.{AreKeeps, HasSources, Keeping}
+use Rattle.vl_lower_assign.specs.Frames.{AreCellsOf, Stand}
+use Rattle.vl_lower_spec.specs.Sources.{AreSources}
+use Rattle.vl_lower_cell_laws.specs.Entries.{all_entries}
+use Rattle.vl_lower_cell_laws.specs.Listing.{AreKeeps, HasSources, Keeping}
 
 -- entries over nodes for the cells, and spots of all inputs, registers and memories, are names of the net
 abbrev pub NamesAreWhole : Type 0

@@ -12,10 +12,10 @@ use Rattle.vl_mean.specs.Execution.{begun}
 use Rattle.vl_mean.specs.FlatLaw.{IsLawful, flat_scopes}
 use Rattle.vl_mean.specs.FlatParts.{parts_of}
 use Rattle.vl_mean.specs.Runs.{Next}
-use Rattle.vl_order.specs.Refusals.{HasNoRefusal}
-use Rattle.vl_order.specs.Sequence.{IsSequence}
-use Rattle.vl_frames.specs.Stored.{stored}
-use Rattle.vl_lowered.specs.Built.{AreKeptAlike}
+use Rattle.vl_flow_spec.specs.Refusals.{HasNoRefusal}
+use Rattle.vl_flow_spec.specs.Sequence.{IsSequence}
+use Rattle.vl_lower_assign.specs.Stored.{stored}
+use Rattle.vl_lower_spec.specs.Built.{AreKeptAlike}
 
 -- over the values v of a cycle, into a map
 abbrev pub stored_by : List Decl → DriverKind → Values → Values → Values

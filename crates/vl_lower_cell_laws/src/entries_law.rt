@@ -1,7 +1,5 @@
 //! The entries of a design's names over the nodes of its cells: definitions and laws, without code.
-#![tactic(auto)]
-
-ghost use Rattle.vl_entries.specs.Entries.{EntriesAgree, EntriesAreListed};
+ghost use Rattle.vl_lower_cell_laws.specs.Entries.{EntriesAgree, EntriesAreListed};
 
 /// They are one for each declared name but the clock, or for each word of a memory that isn't kept as one.
 pub fn entries_are_listed()

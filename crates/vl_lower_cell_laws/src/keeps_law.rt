@@ -1,11 +1,5 @@
 //! Registers for the bits of a cell that are kept over the clock's edge: definitions and laws.
-#![tactic(auto)]
-
-mod keep;
-
-ghost use Rattle.vl_keeps.specs.Keeps.{AllRegistersKeepBits, WritesLeaveLast};
-
-pub use keep::Keep;
+ghost use Rattle.vl_lower_cell_laws.specs.Keeps.{AllRegistersKeepBits, WritesLeaveLast};
 
 /// Each register is kept bits that begin as it does, each kept bit is one of a register, and the number that the
 /// registers' numbers make of the cell has these numbers at these bits.

@@ -1,7 +1,5 @@
 //! What the drivers of a design leave for the next cycle and assume, settled in their order: laws, without code.
-#![tactic(auto)]
-
-ghost use Rattle.vl_settled.specs.Left.{LeftBitsAreKept, SeenIsAssumed};
+ghost use Rattle.vl_lower_cell_laws.specs.Left.{LeftBitsAreKept, SeenIsAssumed};
 
 /// What drivers leave in a map for the next cycle has the kept bits of the map that they settle.
 pub fn left_bits_are_kept()

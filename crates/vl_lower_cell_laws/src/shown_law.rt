@@ -1,7 +1,5 @@
 //! Names of a net over the inputs, registers and memories of a design, and entries for its cells: laws, without code.
-#![tactic(auto)]
-
-ghost use Rattle.vl_shown.specs.Shown.{NamesAreShown, NamesAreWhole};
+ghost use Rattle.vl_lower_cell_laws.specs.Shown.{NamesAreShown, NamesAreWhole};
 
 /// They are names of the net: texts differ, each place is there with its width, and each input, register and memory
 /// has its entry.

@@ -1,9 +1,7 @@
 //! The inputs, registers and memories that the declared names of a design come to, and the numbers of its cells at the
 //! beginning of a cycle: definitions and laws, without code.
-#![tactic(auto)]
-
-ghost use Rattle.vl_sources.specs.Listing.{SourcesAreNamed};
-ghost use Rattle.vl_sources.specs.Numbers.{NumbersBeginCycles};
+ghost use Rattle.vl_lower_cell_laws.specs.Listing.{SourcesAreNamed};
+ghost use Rattle.vl_lower_cell_laws.specs.Numbers.{NumbersBeginCycles};
 
 /// They are bits of the free names, all of them, and begin as the design's do.
 pub fn sources_are_named()

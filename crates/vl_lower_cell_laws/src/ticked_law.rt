@@ -1,7 +1,5 @@
 //! What the clocked blocks of a design store for the next cycle: a law, without code.
-#![tactic(auto)]
-
-ghost use Rattle.vl_ticked.specs.Ticked.{TickedMapsAreNext};
+ghost use Rattle.vl_lower_cell_laws.specs.Ticked.{TickedMapsAreNext};
 
 /// What the clocked blocks store, one after the other, makes of the kept bits of a cycle a map that may come next.
 pub fn ticked_maps_are_next()

@@ -14,11 +14,11 @@ use Rattle.wn_net.specs.Net.{Netlist, IsNode, IsNodeOf, value_at, width_at}
 use Rattle.wn_net.specs.Given.{IsGiven}
 use Rattle.wn_net.specs.Changes.{AddsNodes, Builds, Shows}
 use Rattle.wn_net.proofs.Laws.{adds_on, adds_none, node_on, value_on, given_on, built_node}
-use Rattle.vl_terms.specs.declared.place.Place.{Place}
-use Rattle.vl_terms.specs.declared.place.Place.TheVariants as place
-use Rattle.vl_terms.specs.Bound.{Bound, HasCell, IsMemoryIn, FitsPlace, AreBound, HasNumber, HaveNumbers}
-use Rattle.vl_terms.specs.Bound.{word_index}
-use Rattle.vl_terms.specs.Lowers.{Lowers}
+use Rattle.vl_lower_expr.specs.declared.place.Place.{Place}
+use Rattle.vl_lower_expr.specs.declared.place.Place.TheVariants as place
+use Rattle.vl_lower_expr.specs.Bound.{Bound, HasCell, IsMemoryIn, FitsPlace, AreBound, HasNumber, HaveNumbers}
+use Rattle.vl_lower_expr.specs.Bound.{word_index}
+use Rattle.vl_lower_expr.specs.Lowers.{Lowers}
 
 -- ---- places stay
 

@@ -9,7 +9,7 @@ use Rattle.std.proofs.Math.Nat.{mul-le-mul_right}
 use Rattle.std.proofs.lemmas.Int.{ints}
 use Rattle.fv_bits.specs.Bits.{joined}
 use Rattle.vl_size.specs.Size.{copies, is_bound}
-use Rattle.vl_points.specs.Points.{is_base}
+use Rattle.vl_lower_nodes.specs.Points.{is_base}
 
 -- where there is something in the first list, there is in the second
 pub other_there : {A B : Type 0} (xs : List A) (ys : List B) (i : ℕ) (x : A) → length ys ≡ length xs

@@ -17,7 +17,7 @@ use Rattle.vl_size.specs.Size.{is_bound, part_size, goes_along, times, index_of,
 use Rattle.vl_size.specs.Size.{value}
 use Rattle.vl_size.specs.Size.{vector_size, word_size, with_size, with_decl}
 use Rattle.vl_size.specs.Table.{span, declared_as}
-use Rattle.flow_cells.proofs.Constants.{one_operand}
+use Rattle.vl_flow_cells.proofs.Constants.{one_operand}
 
 pub some_first : {A B : Type 0} (o : Option A) (f : A → Option B) → IsSome (o >>= f) → IsSome o
 some_first None f h = h

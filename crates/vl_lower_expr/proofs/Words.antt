@@ -17,12 +17,12 @@ use Rattle.vl_mean.specs.FlatLaw.{IsMemory, name_count}
 use Rattle.wn_net.specs.Value.{Given, word_at, words_of}
 use Rattle.wn_net.specs.Net.{Netlist, IsNodeOf, AreNodesOf, value_at}
 use Rattle.wn_net.specs.Given.{AreMemsOf}
-use Rattle.flow_cells.proofs.Ranges as ranges
-use Rattle.vl_points.specs.Points.{IsAddress, distance, past}
+use Rattle.vl_flow_cells.proofs.Ranges as ranges
+use Rattle.vl_lower_nodes.specs.Points.{IsAddress, distance, past}
 use Rattle.wn_mem.specs.Words.{words_width}
-use Rattle.vl_terms.specs.declared.place.Place.{Place}
-use Rattle.vl_terms.specs.declared.place.Place.TheVariants as place
-use Rattle.vl_terms.specs.Bound.{HasCell, IsMemoryIn, FitsPlace, IsPlaced, HasNumber, word_index}
+use Rattle.vl_lower_expr.specs.declared.place.Place.{Place}
+use Rattle.vl_lower_expr.specs.declared.place.Place.TheVariants as place
+use Rattle.vl_lower_expr.specs.Bound.{HasCell, IsMemoryIn, FitsPlace, IsPlaced, HasNumber, word_index}
 
 -- ---- the address of an index
 

@@ -8,11 +8,11 @@ use Rattle.vl_mean.specs.FlatLaw.{IsKept, name_count}
 use Rattle.wn_net.specs.Value.{Given, word_at, words_of}
 use Rattle.wn_net.specs.Net.{Netlist, IsNodeOf, value_at}
 use Rattle.wn_net.specs.declared.parts.Mem.{Mem}
-use Rattle.flow_cells.specs.Places.{index_at}
-use Rattle.vl_points.specs.Points.{past}
-use Rattle.vl_terms.specs.declared.place.Place.{Place}
-use Rattle.vl_terms.specs.declared.place.Place.TheVariants as place
-use Rattle.vl_terms.specs.declared.bindings.Bindings.{Bindings}
+use Rattle.vl_flow_cells.specs.Places.{index_at}
+use Rattle.vl_lower_nodes.specs.Points.{past}
+use Rattle.vl_lower_expr.specs.declared.place.Place.{Place}
+use Rattle.vl_lower_expr.specs.declared.place.Place.TheVariants as place
+use Rattle.vl_lower_expr.specs.declared.bindings.Bindings.{Bindings}
 
 -- declarations, a place for each, and the nodes in the cells
 pub record Bound : Type 0 where

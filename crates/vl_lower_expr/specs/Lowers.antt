@@ -5,7 +5,7 @@ use Rattle.wn_net.specs.Value.{Given}
 use Rattle.wn_net.specs.Net.{Netlist, IsNodeOf, value_at}
 use Rattle.wn_net.specs.Given.{IsGiven}
 use Rattle.wn_net.specs.Changes.{AddsNodes}
-use Rattle.vl_terms.specs.Bound.{Bound, HaveNumbers}
+use Rattle.vl_lower_expr.specs.Bound.{Bound, HaveNumbers}
 
 -- Nodes are added, and this one is there with this width. In each cycle of the old net in which the places have the
 -- numbers of a map, it has what is meant over the map.

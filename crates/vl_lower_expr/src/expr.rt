@@ -15,8 +15,8 @@ ghost use Rattle.vl_mean.specs.FlatLaw.{IsKept};
 ghost use Rattle.vl_size.specs.Way.{way};
 ghost use Rattle.wn_net.specs.Net.{IsNode, IsNodeOf, width_at, value_at};
 ghost use Rattle.wn_net.specs.Changes.{AddsNodes, Shows};
-ghost use Rattle.vl_terms.specs.Bound.{bound, AreBound, HasPlace};
-ghost use Rattle.vl_terms.specs.Lowers.{Lowers};
+ghost use Rattle.vl_lower_expr.specs.Bound.{bound, AreBound, HasPlace};
+ghost use Rattle.vl_lower_expr.specs.Lowers.{Lowers};
 
 use crate::bindings::Bindings;
 use crate::constants::constant_node;
@@ -27,8 +27,9 @@ use crate::place::Place;
 use crate::range::{count_of, part_select};
 use crate::word_type::WordType;
 use fv_base::{Memory, Number, Text};
-use vl_nodes::{arithmetic, compared, fit, is_some, negative, number, reduced, shifted};
-use vl_points::{bit_at, part_at};
+use vl_lower_nodes::{
+    arithmetic, bit_at, compared, fit, is_some, negative, number, part_at, reduced, shifted,
+};
 use vl_size::way::{Way, divides, keeps_size, way_of};
 use vl_size::{Decl, self_size, sign_of};
 use vl_tree::{BinaryOperator, Expr, ExprKind, Select, UnaryOperator};

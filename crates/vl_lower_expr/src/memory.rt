@@ -10,13 +10,13 @@ ghost use Rattle.wn_net.specs.Net.{IsNode, IsNodeOf, width_at, value_at};
 ghost use Rattle.wn_net.specs.Given.{IsGiven};
 ghost use Rattle.wn_net.specs.Changes.{AddsNodes};
 ghost use Rattle.wn_mem.specs.Words.{AreWords, words_width, numbers_of};
-ghost use Rattle.vl_terms.specs.Bound.{bound, HasPlace, AreBound};
-ghost use Rattle.vl_terms.specs.Lowers.{Lowers};
+ghost use Rattle.vl_lower_expr.specs.Bound.{bound, HasPlace, AreBound};
+ghost use Rattle.vl_lower_expr.specs.Lowers.{Lowers};
 
 use crate::bindings::Bindings;
 use crate::place::Place;
 use fv_base::Memory;
-use vl_points::address;
+use vl_lower_nodes::address;
 use vl_size::Decl;
 use wn_mem::read_after;
 use wn_net::{Net, NodeId};

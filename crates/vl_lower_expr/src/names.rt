@@ -1,6 +1,6 @@
 ghost use Rattle.std.specs.Prelude.{◌≡◌, Some, IsSome, length};
 ghost use Rattle.vl_size.specs.Table.{declared_as};
-ghost use Rattle.vl_terms.specs.Bound.{bound, HasPlace};
+ghost use Rattle.vl_lower_expr.specs.Bound.{bound, HasPlace};
 
 use crate::bindings::Bindings;
 use crate::place::Place;

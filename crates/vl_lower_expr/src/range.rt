@@ -9,14 +9,13 @@ ghost use Rattle.vl_size.specs.Size.{Cells, is_bound};
 ghost use Rattle.vl_size.specs.Table as table;
 ghost use Rattle.wn_net.specs.Net.{IsNodeOf, value_at};
 ghost use Rattle.wn_net.specs.Changes.{AddsNodes, Shows};
-ghost use Rattle.vl_points.specs.Points.{is_place};
+ghost use Rattle.vl_lower_nodes.specs.Points.{is_place};
 
 use crate::bindings::Bindings;
 use crate::constants::constant;
 use crate::word_type::WordType;
 use fv_base::Memory;
-use vl_nodes::fit;
-use vl_points::part_from;
+use vl_lower_nodes::{fit, part_from};
 use vl_size::Decl;
 use vl_size::place::word_of;
 use vl_size::select::{part_size, times};

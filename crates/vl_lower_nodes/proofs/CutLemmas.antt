@@ -8,7 +8,7 @@ use Rattle.std.proofs.lemmas.Nat.{pow-add, pow_pos, mod_below}
 use Rattle.std.proofs.lemmas.Bool.{leb-true, leb-false, le-leb, lt-leb, ltb-true, lt-ltb, eqb-true, eq-eqb}
 use Rattle.fv_bits.specs.Bits.{extended, is_negative, to_int, as_int, bit}
 use Rattle.vl_size.proofs.PlaceLemmas.{twice_fits}
-use Rattle.vl_points.specs.Near.{is_near, IsCut}
+use Rattle.vl_lower_nodes.specs.Near.{is_near, IsCut}
 
 -- a signed number by its sign
 below : (w n : ℕ) → is_negative w n ≡ true → to_int w n ≡ negsuc (2 ^ w - 1 - n)

@@ -6,8 +6,8 @@ use Rattle.std.specs.Int.Bits.{and_zero_r}
 use Rattle.std.proofs.lemmas.Int.{ints}
 use Rattle.std.proofs.lemmas.Bool.{leb-true, leb-false, le-leb, ltb-true, ltb-false, lt-ltb}
 use Rattle.fv_bits.specs.Bits.{difference, complement, part, is_negative, to_int, as_int, of_int}
-use Rattle.vl_points.specs.Near.{is_near, IsCut, chosen}
-use Rattle.vl_points.specs.Points.{distance, past, is_base, IsAddress}
+use Rattle.vl_lower_nodes.specs.Near.{is_near, IsCut, chosen}
+use Rattle.vl_lower_nodes.specs.Points.{distance, past, is_base, IsAddress}
 
 -- a number of 34 bits, read as signed
 to_int_is : (x : ℕ) (z : ℤ) → (x < 2 ^ 33 → pos x ≡ z) → (2 ^ 33 ≤ x → negsuc (2 ^ 34 - 1 - x) ≡ z) → to_int 34 x ≡ z

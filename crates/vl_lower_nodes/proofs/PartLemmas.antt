@@ -13,7 +13,7 @@ use Rattle.fv_bits.specs.Bits.{part, extended, shifted_left, shifted_right}
 use Rattle.fv_bits.proofs.Limits.{low_of_shifted}
 use Rattle.vl_size.specs.Size.{bit_at, bits_from}
 use Rattle.vl_mean.proofs.SelectLemmas.{bits_up, bits_down, above_all}
-use Rattle.vl_points.specs.Points.{IsAddress, past}
+use Rattle.vl_lower_nodes.specs.Points.{IsAddress, past}
 
 -- ---- to the right
 

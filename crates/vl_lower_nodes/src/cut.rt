@@ -7,10 +7,10 @@ ghost use Rattle.wn_net.specs.Value.{Given};
 ghost use Rattle.wn_net.specs.Net.{IsNode, IsNodeOf, width_at, value_at};
 ghost use Rattle.wn_net.specs.Given.{IsGiven};
 ghost use Rattle.wn_net.specs.Changes.{AddsNodes};
-ghost use Rattle.vl_points.specs.Near.{IsCut};
+ghost use Rattle.vl_lower_nodes.specs.Near.{IsCut};
 
+use crate::width::fit;
 use fv_base::Memory;
-use vl_nodes::fit;
 use wn_net::{Net, NodeId};
 
 /// An index in 34 bits, read as signed.

@@ -7,12 +7,12 @@ ghost use Rattle.wn_net.specs.Value.{Given};
 ghost use Rattle.wn_net.specs.Net.{IsNode, IsNodeOf, width_at, value_at};
 ghost use Rattle.wn_net.specs.Given.{IsGiven};
 ghost use Rattle.wn_net.specs.Changes.{AddsNodes, Shows};
-ghost use Rattle.vl_points.specs.Points.{IsAddress, distance, is_base};
-ghost use Rattle.vl_points.specs.Near.{chosen};
+ghost use Rattle.vl_lower_nodes.specs.Points.{IsAddress, distance, is_base};
+ghost use Rattle.vl_lower_nodes.specs.Near.{chosen};
 
 use crate::cut::cut;
+use crate::width::number;
 use fv_base::Memory;
-use vl_nodes::number;
 use wn_net::{Net, NodeId};
 
 /// A base as a number of 34 bits.

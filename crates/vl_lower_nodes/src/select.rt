@@ -9,11 +9,11 @@ ghost use Rattle.wn_net.specs.Value.{Given};
 ghost use Rattle.wn_net.specs.Net.{IsNode, IsNodeOf, width_at, value_at};
 ghost use Rattle.wn_net.specs.Given.{IsGiven};
 ghost use Rattle.wn_net.specs.Changes.{AddsNodes, Shows};
-ghost use Rattle.vl_points.specs.Points.{IsAddress, GivePlace, distance, is_base, is_place};
+ghost use Rattle.vl_lower_nodes.specs.Points.{IsAddress, GivePlace, distance, is_base, is_place};
 
 use crate::place::address;
+use crate::width::{fit, number};
 use fv_base::Memory;
-use vl_nodes::{fit, number};
 use vl_size::Decl;
 use wn_net::{Net, NodeId};
 

@@ -23,28 +23,28 @@ use Rattle.vl_mean.specs.Runs.{Agrees, ChoosesAlike, Clocks, Each, EachBelow, Ea
 use Rattle.vl_mean.specs.Runs.{OnlyIf, PartAssumes, PartSteps, is_assigned, is_chosen}
 use Rattle.vl_mean.specs.Scopes.{Scope, is_clock_class}
 use Rattle.vl_mean.specs.Targets.{Write, bit_of, put, put_all, with_bit}
-use Rattle.vl_path.specs.Drivers.{IsWhole, is_clocked}
-use Rattle.vl_path.specs.Paths.{is_blocking, needs, sure}
-use Rattle.vl_path.specs.Reads.{AreInRange, Bits, Covers, IsCellOf}
-use Rattle.vl_path.specs.Settle.{AreAccepted, AreMet, IsBitOf, driven}
-use Rattle.vl_path.proofs.Alike.{◌∪◌}
-use Rattle.vl_path.proofs.Bools.{or_case, or_left, or_right}
-use Rattle.vl_path.proofs.Cells.{HaveOwnCells, each_contained, each_of_contained}
-use Rattle.vl_path.proofs.Clockless.{needs_no_clock}
-use Rattle.vl_path.proofs.Execs.{SameState, exec_same, variable_counted}
-use Rattle.vl_path.proofs.Stages.{assign_is, comb_is}
-use Rattle.vl_same.proofs.EachOf.{back, both, each_map, front}
-use Rattle.vl_order.specs.Refusals.{HasNoRefusal}
-use Rattle.vl_order.specs.Sequence.{IsSequence}
-use Rattle.vl_order.proofs.Changed.{block_changed}
-use Rattle.vl_order.proofs.Chain.{kinds}
-use Rattle.vl_order.proofs.Choices.{agree_at, agrees_all, chooses_alike, declared_of, in_range_all, in_range_of}
-use Rattle.vl_order.proofs.Choices.{of_declared}
-use Rattle.vl_order.proofs.Elements.{all_at, decl_parts, driver_parts, each_at, each_below_at, each_below_of}
-use Rattle.vl_order.proofs.Elements.{each_map_of}
-use Rattle.vl_order.proofs.Elements.{each_mapped, each_of_places, start_parts}
-use Rattle.vl_order.proofs.Held as held
-use Rattle.vl_lowered.specs.Built.{AreRanged}
+use Rattle.vl_flow_spec.specs.Drivers.{IsWhole, is_clocked}
+use Rattle.vl_flow_spec.specs.Paths.{is_blocking, needs, sure}
+use Rattle.vl_flow_spec.specs.Reads.{AreInRange, Bits, Covers, IsCellOf}
+use Rattle.vl_flow_spec.specs.Settle.{AreAccepted, AreMet, IsBitOf, driven}
+use Rattle.vl_flow_spec.proofs.Alike.{◌∪◌}
+use Rattle.vl_flow_spec.proofs.Bools.{or_case, or_left, or_right}
+use Rattle.vl_flow_spec.proofs.Cells.{HaveOwnCells, each_contained, each_of_contained}
+use Rattle.vl_flow_spec.proofs.Clockless.{needs_no_clock}
+use Rattle.vl_flow_spec.proofs.Execs.{SameState, exec_same, variable_counted}
+use Rattle.vl_flow_spec.proofs.Stages.{assign_is, comb_is}
+use Rattle.vl_mean_flat.proofs.EachOf.{back, both, each_map, front}
+use Rattle.vl_flow_spec.specs.Refusals.{HasNoRefusal}
+use Rattle.vl_flow_spec.specs.Sequence.{IsSequence}
+use Rattle.vl_flow_spec.proofs.Changed.{block_changed}
+use Rattle.vl_flow_spec.proofs.Chain.{kinds}
+use Rattle.vl_flow_spec.proofs.Choices.{agree_at, agrees_all, chooses_alike, declared_of, in_range_all, in_range_of}
+use Rattle.vl_flow_spec.proofs.Choices.{of_declared}
+use Rattle.vl_flow_spec.proofs.Elements.{all_at, decl_parts, driver_parts, each_at, each_below_at, each_below_of}
+use Rattle.vl_flow_spec.proofs.Elements.{each_map_of}
+use Rattle.vl_flow_spec.proofs.Elements.{each_mapped, each_of_places, start_parts}
+use Rattle.vl_flow_spec.proofs.Held as held
+use Rattle.vl_lower_spec.specs.Built.{AreRanged}
 
 -- a map after writes depends at each name on its number there alone
 pub put_same : (ws : List Write) (u v : Values) (n : List ℕ) → u n ≡ v n → put_all ws u n ≡ put_all ws v n

@@ -11,9 +11,9 @@ use Rattle.wn_net.specs.Given.{IsGiven}
 use Rattle.wn_net.specs.Next.{next_state}
 use Rattle.wn_run.specs.Runs.{Choices, AreChoicesOf, IsMet, cycle_at, inputs_at, reset_at, start_of}
 use Rattle.wn_run.proofs.Given.{choices_run, cycles_given}
-use Rattle.vl_evals.specs.Maps.{map_of, given_of}
-use Rattle.vl_evals.specs.Evaluations.{IsLowered, HaveReset, KeepOnce, maps_from, run_of}
-use Rattle.vl_evals.proofs.Inputs.{has_reset, keeps_once, reset_later}
+use Rattle.vl_lower_spec.specs.Maps.{map_of, given_of}
+use Rattle.vl_lower_spec.specs.Evaluations.{IsLowered, HaveReset, KeepOnce, maps_from, run_of}
+use Rattle.vl_lower_spec.proofs.Inputs.{has_reset, keeps_once, reset_later}
 
 module _ (ps : List Part) (net : Netlist) (names : Names) (h : IsLowered ps net names) (whole : IsNet net)
     (ch : Choices) (of : AreChoicesOf net ch) where

@@ -28,22 +28,22 @@ use Rattle.vl_mean.specs.Runs.{last_value}
 use Rattle.vl_mean.specs.Runs.{later_or}
 use Rattle.vl_mean.specs.Scopes.{is_clock_class, no_values}
 use Rattle.vl_mean.specs.Targets.{Write, bit_of}
-use Rattle.vl_path.specs.Reads.{AreInRange, IsCellOf}
-use Rattle.vl_path.proofs.Bools.{or_case, or_left, or_right}
-use Rattle.vl_path.proofs.Cells.{each_contained, each_of_contained}
-use Rattle.vl_path.proofs.Execs.{assigned_to, variable_counted}
-use Rattle.vl_path.proofs.Targets.{Marks, marks}
-use Rattle.vl_path.proofs.Writes.{writes_to}
-use Rattle.vl_same.proofs.EachOf.{both, front}
-use Rattle.vl_order.specs.Refusals.{HasNoRefusal}
-use Rattle.vl_order.specs.Sequence.{IsSequence}
-use Rattle.vl_order.proofs.Changed.{IsBitOfKind, target_changed}
-use Rattle.vl_order.proofs.Elements.{decl_parts, driver_parts, each_below_at, each_below_of, each_declared_as}
-use Rattle.vl_order.proofs.Elements.{each_mapped}
-use Rattle.vl_order.proofs.Elements.{start_parts}
-use Rattle.vl_order.proofs.Held as held
-use Rattle.vl_evals.specs.Evaluations.{IsStart}
-use Rattle.vl_evals.specs.Maps.{cells_named, spot_number, state_of, text_of}
+use Rattle.vl_flow_spec.specs.Reads.{AreInRange, IsCellOf}
+use Rattle.vl_flow_spec.proofs.Bools.{or_case, or_left, or_right}
+use Rattle.vl_flow_spec.proofs.Cells.{each_contained, each_of_contained}
+use Rattle.vl_flow_spec.proofs.Execs.{assigned_to, variable_counted}
+use Rattle.vl_flow_spec.proofs.Targets.{Marks, marks}
+use Rattle.vl_flow_spec.proofs.Writes.{writes_to}
+use Rattle.vl_mean_flat.proofs.EachOf.{both, front}
+use Rattle.vl_flow_spec.specs.Refusals.{HasNoRefusal}
+use Rattle.vl_flow_spec.specs.Sequence.{IsSequence}
+use Rattle.vl_flow_spec.proofs.Changed.{IsBitOfKind, target_changed}
+use Rattle.vl_flow_spec.proofs.Elements.{decl_parts, driver_parts, each_below_at, each_below_of, each_declared_as}
+use Rattle.vl_flow_spec.proofs.Elements.{each_mapped}
+use Rattle.vl_flow_spec.proofs.Elements.{start_parts}
+use Rattle.vl_flow_spec.proofs.Held as held
+use Rattle.vl_lower_spec.specs.Evaluations.{IsStart}
+use Rattle.vl_lower_spec.specs.Maps.{cells_named, spot_number, state_of, text_of}
 use Rattle.wn_net.specs.declared.names.Names.{Names}
 use Rattle.wn_net.specs.declared.names.Spot.{Spot}
 use Rattle.wn_net.specs.declared.parts.Init.{Init as Beginning}
@@ -54,13 +54,13 @@ use Rattle.wn_net.specs.Net.{Netlist}
 use Rattle.wn_net.specs.Given.{AreMemsOf}
 use Rattle.wn_net.specs.Value.{words_at}
 use Rattle.wn_run.specs.Runs.{Choices, AreChoicesOf, mems_from, regs_from, start_number, words_from}
-use Rattle.vl_lowered.proofs.Agreeing as agreeing
-use Rattle.vl_lowered.proofs.Kept as kept
-use Rattle.vl_named.specs.Sources.{AreEach, AreSources, BeginsAs, IsAtSpot, IsMemOf, IsRegOf, IsWordOf}
-use Rattle.vl_named.proofs.Bits.{gathered_at, gathered_is}
-use Rattle.vl_named.proofs.Fits.{fits}
-use Rattle.vl_named.proofs.Free as free
-use Rattle.vl_named.proofs.Pairs.{first_of, index_map}
+use Rattle.vl_lower_spec.proofs.Agreeing as agreeing
+use Rattle.vl_lower_spec.proofs.Kept as kept
+use Rattle.vl_lower_spec.specs.Sources.{AreEach, AreSources, BeginsAs, IsAtSpot, IsMemOf, IsRegOf, IsWordOf}
+use Rattle.vl_lower_spec.proofs.Bits.{gathered_at, gathered_is}
+use Rattle.vl_lower_spec.proofs.Fits.{fits}
+use Rattle.vl_lower_spec.proofs.Free as free
+use Rattle.vl_lower_spec.proofs.Pairs.{first_of, index_map}
 
 -- ---- values at first are of variables
 

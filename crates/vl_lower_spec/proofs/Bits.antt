@@ -6,8 +6,8 @@ use Rattle.std.proofs.lemmas.Nat.{mod_below}
 use Rattle.std.proofs.lemmas.Nat.Bits.{bit_at-suc, bit_at_lowest, same_from_bits_below}
 use Rattle.std.proofs.lemmas.Option.{same_Some}
 use Rattle.vl_mean.specs.Targets.{bit_of}
-use Rattle.vl_evals.specs.Maps.{gathered}
-use Rattle.vl_named.specs.Sources.{below}
+use Rattle.vl_lower_spec.specs.Maps.{gathered}
+use Rattle.vl_lower_spec.specs.Sources.{below}
 
 bit_small : (x k : ℕ) → bit_of x k < 2
 bit_small x k = mod_below (x / 2 ^ k) 2 (omega arith)

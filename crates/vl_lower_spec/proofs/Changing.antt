@@ -15,28 +15,28 @@ use Rattle.vl_mean.specs.FlatParts.{parts_of}
 use Rattle.vl_mean.specs.Parts.{Part}
 use Rattle.vl_mean.specs.Runs.{EachDeclared, HasReset, KeepsOnce, OnceIs, ResetIs, is_chosen}
 use Rattle.vl_mean.specs.Scopes.{is_clock_class}
-use Rattle.vl_path.specs.Reads.{AreInRange}
-use Rattle.vl_path.proofs.Cells.{declared_all}
-use Rattle.vl_order.specs.Refusals.{HasNoRefusal}
-use Rattle.vl_order.specs.Sequence.{IsSequence}
-use Rattle.vl_same.proofs.EachOf.{each_map}
-use Rattle.vl_order.proofs.Choices.{declared_of, of_declared}
-use Rattle.vl_order.proofs.Elements.{each_declared_as}
-use Rattle.vl_order.proofs.Held as held
-use Rattle.vl_evals.specs.Evaluations as net_kinds
-use Rattle.vl_evals.specs.Evaluations.{HaveReset, KeepOnce}
-use Rattle.vl_evals.specs.Maps.{gathered, given_of, spot_number}
+use Rattle.vl_flow_spec.specs.Reads.{AreInRange}
+use Rattle.vl_flow_spec.proofs.Cells.{declared_all}
+use Rattle.vl_flow_spec.specs.Refusals.{HasNoRefusal}
+use Rattle.vl_flow_spec.specs.Sequence.{IsSequence}
+use Rattle.vl_mean_flat.proofs.EachOf.{each_map}
+use Rattle.vl_flow_spec.proofs.Choices.{declared_of, of_declared}
+use Rattle.vl_flow_spec.proofs.Elements.{each_declared_as}
+use Rattle.vl_flow_spec.proofs.Held as held
+use Rattle.vl_lower_spec.specs.Evaluations as net_kinds
+use Rattle.vl_lower_spec.specs.Evaluations.{HaveReset, KeepOnce}
+use Rattle.vl_lower_spec.specs.Maps.{gathered, given_of, spot_number}
 use Rattle.wn_net.specs.declared.names.Names.{Names}
 use Rattle.wn_net.specs.declared.names.Spot.{Spot}
 use Rattle.wn_net.specs.declared.parts.Input.{Input}
 use Rattle.wn_net.specs.declared.parts.InputKind.{InputKind}
 use Rattle.wn_net.specs.declared.parts.InputKind.TheVariants as kind
 use Rattle.wn_net.specs.Net.{Netlist}
-use Rattle.vl_lowered.proofs.Agreeing as agreeing
-use Rattle.vl_named.specs.Sources.{AreSources, IsAtSpot, IsInputOf, IsSource, kind_of}
-use Rattle.vl_named.proofs.Bits.{gathered_whole}
-use Rattle.vl_named.proofs.Free.{vector_cell}
-use Rattle.vl_named.proofs.Pairs.{first_of, index_map, second_of}
+use Rattle.vl_lower_spec.proofs.Agreeing as agreeing
+use Rattle.vl_lower_spec.specs.Sources.{AreSources, IsAtSpot, IsInputOf, IsSource, kind_of}
+use Rattle.vl_lower_spec.proofs.Bits.{gathered_whole}
+use Rattle.vl_lower_spec.proofs.Free.{vector_cell}
+use Rattle.vl_lower_spec.proofs.Pairs.{first_of, index_map, second_of}
 
 abbrev is_reset : Option InputKind → Bool
 is_reset (Some kind.Reset) = true

@@ -17,9 +17,9 @@ use Rattle.wn_net.specs.Given.{given}
 use Rattle.wn_net.specs.Next.{next_state}
 use Rattle.wn_run.specs.Runs.{Choices, AreChoicesOf, by_kind, inputs_at, reset_at, start_of, state_at}
 use Rattle.wn_run.proofs.Given.{choices_run}
-use Rattle.vl_evals.specs.Maps.{inputs_of, state_of}
-use Rattle.vl_evals.specs.Evaluations.{IsLowered, IsStart, IsEvaluated, HaveReset, ResetIs, OnceIs}
-use Rattle.vl_evals.proofs.Inputs.{input_at, reset_later}
+use Rattle.vl_lower_spec.specs.Maps.{inputs_of, state_of}
+use Rattle.vl_lower_spec.specs.Evaluations.{IsLowered, IsStart, IsEvaluated, HaveReset, ResetIs, OnceIs}
+use Rattle.vl_lower_spec.proofs.Inputs.{input_at, reset_later}
 
 -- ---- lists
 

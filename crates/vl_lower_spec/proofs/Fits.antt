@@ -10,9 +10,9 @@ use Rattle.vl_mean.specs.Cells.{cells}
 use Rattle.vl_mean.specs.Parts.{Part}
 use Rattle.vl_mean.specs.Runs.{Each}
 use Rattle.vl_mean.specs.Scopes.{is_clock_class}
-use Rattle.vl_path.specs.Reads.{AreInRange}
-use Rattle.vl_path.proofs.Cells.{each_of_contained}
-use Rattle.vl_evals.specs.Maps.{cells_named, gathered, given_of, spot_number, text_of}
+use Rattle.vl_flow_spec.specs.Reads.{AreInRange}
+use Rattle.vl_flow_spec.proofs.Cells.{each_of_contained}
+use Rattle.vl_lower_spec.specs.Maps.{cells_named, gathered, given_of, spot_number, text_of}
 use Rattle.wn_net.specs.declared.names.Names.{Names}
 use Rattle.wn_net.specs.declared.names.Spot.{Spot}
 use Rattle.wn_net.specs.declared.parts.Input.{Input}
@@ -20,8 +20,8 @@ use Rattle.wn_net.specs.declared.parts.Mem.{Mem}
 use Rattle.wn_net.specs.declared.parts.Reg.{Reg}
 use Rattle.wn_net.specs.Net.{Netlist}
 use Rattle.wn_net.specs.Given.{AreMemsOf, AreNumbersOf, HasWords, IsGiven}
-use Rattle.vl_named.specs.Sources.{AreEach, AreSources, IsInputOf, IsMemOf, IsRegOf}
-use Rattle.vl_named.proofs.Bits.{below_many, gathered_small}
+use Rattle.vl_lower_spec.specs.Sources.{AreEach, AreSources, IsInputOf, IsMemOf, IsRegOf}
+use Rattle.vl_lower_spec.proofs.Bits.{below_many, gathered_small}
 
 numbers_of : {A : Type 0} (width : A → ℕ) (f : Spot → ℕ) (R : A → Spot → Type 0)
     → ((x : A) (p : Spot) → R x p → f p < 2 ^ width x) → (xs : List A) (ps : List Spot) → AreEach R xs ps

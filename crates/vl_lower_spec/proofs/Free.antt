@@ -17,12 +17,12 @@ use Rattle.vl_mean.specs.Parts.{Part}
 use Rattle.vl_mean.specs.Runs.{ChoosesAlike, Each, is_chosen, is_driven}
 use Rattle.vl_mean.specs.Scopes.{is_clock_class}
 use Rattle.vl_mean.specs.Targets.{bit_of}
-use Rattle.vl_path.specs.Reads.{AreInRange, IsCellOf}
-use Rattle.vl_path.proofs.Cells.{each_of_contained, own_cell}
-use Rattle.vl_order.specs.Refusals.{HasNoRefusal}
-use Rattle.vl_order.specs.Sequence.{IsSequence}
-use Rattle.vl_order.proofs.Choices.{chooses_alike, chosen_at}
-use Rattle.vl_evals.specs.Maps.{cells_named, given_of, spot_number, state_of, text_of}
+use Rattle.vl_flow_spec.specs.Reads.{AreInRange, IsCellOf}
+use Rattle.vl_flow_spec.proofs.Cells.{each_of_contained, own_cell}
+use Rattle.vl_flow_spec.specs.Refusals.{HasNoRefusal}
+use Rattle.vl_flow_spec.specs.Sequence.{IsSequence}
+use Rattle.vl_flow_spec.proofs.Choices.{chooses_alike, chosen_at}
+use Rattle.vl_lower_spec.specs.Maps.{cells_named, given_of, spot_number, state_of, text_of}
 use Rattle.wn_net.specs.declared.names.Names.{Names}
 use Rattle.wn_net.specs.declared.names.Spot.{Spot}
 use Rattle.wn_net.specs.declared.parts.Input.{Input}
@@ -30,12 +30,12 @@ use Rattle.wn_net.specs.declared.parts.InputKind.{InputKind}
 use Rattle.wn_net.specs.declared.parts.Mem.{Mem}
 use Rattle.wn_net.specs.declared.parts.Reg.{Reg}
 use Rattle.wn_net.specs.Net.{Netlist}
-use Rattle.vl_lowered.specs.Built.{AreKeptAlike, is_kept}
-use Rattle.vl_lowered.proofs.Agreeing as agreeing
-use Rattle.vl_lowered.proofs.Kept as kept
-use Rattle.vl_named.specs.Sources.{AreSources, IsAtSpot, IsInputOf, IsMemOf, IsRegOf, IsSource, IsWordOf, kind_of}
-use Rattle.vl_named.proofs.Bits.{below_at, gathered_bit, gathered_same}
-use Rattle.vl_named.proofs.Pairs.{map_at, same_map}
+use Rattle.vl_lower_spec.specs.Built.{AreKeptAlike, is_kept}
+use Rattle.vl_lower_spec.proofs.Agreeing as agreeing
+use Rattle.vl_lower_spec.proofs.Kept as kept
+use Rattle.vl_lower_spec.specs.Sources.{AreSources, IsAtSpot, IsInputOf, IsMemOf, IsRegOf, IsSource, IsWordOf, kind_of}
+use Rattle.vl_lower_spec.proofs.Bits.{below_at, gathered_bit, gathered_same}
+use Rattle.vl_lower_spec.proofs.Pairs.{map_at, same_map}
 
 -- an input's name is free in all of its bits
 pub input_chosen : (ps : List Part) (c : Class) (k : InputKind) → kind_of c ≡ Some k → (n : List ℕ) (i : ℕ)

@@ -14,9 +14,9 @@ use Rattle.vl_mean.specs.FlatParts.{driver_part, parts_of, start_part}
 use Rattle.vl_mean.specs.Parts.{Part, declares, equation, combinational, clocked, starts}
 use Rattle.vl_mean.specs.Scopes.{Scope, is_clock_class}
 use Rattle.wn_net.specs.declared.names.NetName.{NetName}
-use Rattle.vl_evals.specs.Maps.{AreEntriesOf, as_vectors, is_split, listed, listed_in, listed_of}
-use Rattle.vl_graphic.specs.Graphic.{NamesAreGraphic}
-use Rattle.vl_graphic.proofs.Texts.{IsShown, Shown, both, cells_shown}
+use Rattle.vl_lower_spec.specs.Maps.{AreEntriesOf, as_vectors, is_split, listed, listed_in, listed_of}
+use Rattle.vl_lower_spec.specs.Graphic.{NamesAreGraphic}
+use Rattle.vl_lower_spec.proofs.Texts.{IsShown, Shown, both, cells_shown}
 
 -- ---- names that are listed
 

@@ -9,7 +9,7 @@ use Rattle.wn_net.specs.declared.parts.InputKind.{InputKind}
 use Rattle.wn_net.specs.declared.parts.InputKind.TheVariants as kind
 use Rattle.wn_net.specs.Net.{Netlist}
 use Rattle.wn_run.specs.Runs.{Choices, by_kind, inputs_from, inputs_at, reset_at}
-use Rattle.vl_evals.specs.Evaluations.{ResetIs, OnceIs, HaveReset, KeepOnce}
+use Rattle.vl_lower_spec.specs.Evaluations.{ResetIs, OnceIs, HaveReset, KeepOnce}
 
 -- the input at a place
 pub input_from : (each once : ℕ → ℕ) (reset j : ℕ) (xs : List Input) (i : ℕ) (x : Input) → slice_get xs i ≡ Some x

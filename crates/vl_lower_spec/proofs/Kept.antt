@@ -22,21 +22,22 @@ use Rattle.vl_mean.specs.Runs.{is_assigned}
 use Rattle.vl_mean.specs.Runs.{is_assigned_by, is_driven, is_driven_by}
 use Rattle.vl_mean.specs.Scopes.{Scope}
 use Rattle.vl_mean.specs.Targets.{bit_of}
-use Rattle.vl_path.specs.Drivers.{driven_by, is_clocked}
-use Rattle.vl_path.specs.Reads.{IsCellOf}
-use Rattle.vl_path.proofs.Bools.{or_case, or_left, or_right, none_of}
-use Rattle.vl_path.proofs.Cells.{each_contained}
-use Rattle.vl_same.proofs.EachOf.{front}
-use Rattle.vl_order.specs.Refusals.{HasNoRefusal, two_drivers}
-use Rattle.vl_order.specs.Sequence.{IsSequence}
-use Rattle.vl_order.proofs.Changed.{block_changed}
-use Rattle.vl_order.proofs.Choices.{driven_parts, found_among, of_declared}
-use Rattle.vl_order.proofs.Elements.{decl_parts, driver_parts, each_below_at, each_declared_as, each_mapped, nothing}
-use Rattle.vl_order.proofs.Elements.{start_parts}
-use Rattle.vl_order.proofs.Held as held
-use Rattle.vl_order.proofs.Single.{single}
-use Rattle.vl_lowered.specs.Built.{AreKeptAlike, is_kept}
-use Rattle.vl_lowered.proofs.Agreeing as agreeing
+use Rattle.vl_flow_spec.specs.Drivers.{driven_by, is_clocked}
+use Rattle.vl_flow_spec.specs.Reads.{IsCellOf}
+use Rattle.vl_flow_spec.proofs.Bools.{or_case, or_left, or_right, none_of}
+use Rattle.vl_flow_spec.proofs.Cells.{each_contained}
+use Rattle.vl_mean_flat.proofs.EachOf.{front}
+use Rattle.vl_flow_spec.specs.Refusals.{HasNoRefusal, two_drivers}
+use Rattle.vl_flow_spec.specs.Sequence.{IsSequence}
+use Rattle.vl_flow_spec.proofs.Changed.{block_changed}
+use Rattle.vl_flow_spec.proofs.Choices.{driven_parts, found_among, of_declared}
+use Rattle.vl_flow_spec.proofs.Elements.{decl_parts, driver_parts, each_below_at, each_declared_as, each_mapped}
+use Rattle.vl_flow_spec.proofs.Elements.{nothing}
+use Rattle.vl_flow_spec.proofs.Elements.{start_parts}
+use Rattle.vl_flow_spec.proofs.Held as held
+use Rattle.vl_flow_spec.proofs.Single.{single}
+use Rattle.vl_lower_spec.specs.Built.{AreKeptAlike, is_kept}
+use Rattle.vl_lower_spec.proofs.Agreeing as agreeing
 
 -- what some combinational block drives some block assigns
 pub driven_less : (qs : List Part) (n : List ℕ) (i : ℕ) → is_driven qs n i ≡ true → is_assigned qs n i ≡ true

@@ -10,22 +10,22 @@ use Rattle.vl_mean.specs.FlatLaw.{IsLawful}
 use Rattle.vl_mean.specs.FlatParts.{parts_of}
 use Rattle.vl_mean.specs.Parts.{Part}
 use Rattle.vl_mean.specs.Runs.{Agrees, ChoosesAlike, Holds, Next}
-use Rattle.vl_path.specs.Settle.{settle}
-use Rattle.vl_order.specs.Refusals.{HasNoRefusal}
-use Rattle.vl_order.specs.Sequence.{IsSequence}
-use Rattle.vl_order.proofs.Chain.{kinds, with_kind}
-use Rattle.vl_order.proofs.Held as held
-use Rattle.vl_evals.specs.Evaluations.{IsLowered}
-use Rattle.vl_evals.specs.Maps.{given_of, map_of, state_of}
+use Rattle.vl_flow_spec.specs.Settle.{settle}
+use Rattle.vl_flow_spec.specs.Refusals.{HasNoRefusal}
+use Rattle.vl_flow_spec.specs.Sequence.{IsSequence}
+use Rattle.vl_flow_spec.proofs.Chain.{kinds, with_kind}
+use Rattle.vl_flow_spec.proofs.Held as held
+use Rattle.vl_lower_spec.specs.Evaluations.{IsLowered}
+use Rattle.vl_lower_spec.specs.Maps.{given_of, map_of, state_of}
 use Rattle.wn_net.specs.declared.names.Names.{Names}
 use Rattle.wn_net.specs.Value.{Given}
 use Rattle.wn_net.specs.Net.{Netlist}
 use Rattle.wn_net.specs.Given.{IsGiven}
 use Rattle.wn_net.specs.Next.{next_state}
-use Rattle.vl_lowered.specs.Built.{AreRanged, AreSettledNames, BuiltNetsAreLowered, HasNextMap, IsBuilt}
-use Rattle.vl_lowered.specs.Settled.{driven_by_this, settled}
-use Rattle.vl_lowered.proofs.Agreeing as agreeing
-use Rattle.vl_lowered.proofs.Kept as kept
+use Rattle.vl_lower_spec.specs.Built.{AreRanged, AreSettledNames, BuiltNetsAreLowered, HasNextMap, IsBuilt}
+use Rattle.vl_lower_spec.specs.Settled.{driven_by_this, settled}
+use Rattle.vl_lower_spec.proofs.Agreeing as agreeing
+use Rattle.vl_lower_spec.proofs.Kept as kept
 
 -- by numbers of drivers as by the drivers
 pub settled_is : (ds : List Decl) (drivers : List Driver) (s : List ℕ) (v : Values)

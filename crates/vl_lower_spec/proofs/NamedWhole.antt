@@ -7,18 +7,18 @@ use Rattle.vl_mean.specs.declared.driver.Driver.{Driver}
 use Rattle.vl_mean.specs.declared.driver.Start.{Start}
 use Rattle.vl_mean.specs.FlatLaw.{IsLawful}
 use Rattle.vl_mean.specs.FlatParts.{parts_of}
-use Rattle.vl_path.specs.Reads.{AreInRange}
-use Rattle.vl_order.specs.Refusals.{HasNoRefusal}
-use Rattle.vl_order.specs.Sequence.{IsSequence}
-use Rattle.vl_order.proofs.Choices.{in_range_of}
+use Rattle.vl_flow_spec.specs.Reads.{AreInRange}
+use Rattle.vl_flow_spec.specs.Refusals.{HasNoRefusal}
+use Rattle.vl_flow_spec.specs.Sequence.{IsSequence}
+use Rattle.vl_flow_spec.proofs.Choices.{in_range_of}
 use Rattle.wn_net.specs.declared.names.Names.{Names}
 use Rattle.wn_net.specs.Net.{Netlist}
-use Rattle.vl_lowered.specs.Built.{AreRanged, NameWhatIsFree}
-use Rattle.vl_named.specs.Sources.{AreSources, NamedSourcesAreFree}
-use Rattle.vl_named.proofs.Begins as begins
-use Rattle.vl_named.proofs.Changing as changing
-use Rattle.vl_named.proofs.Fits.{fits}
-use Rattle.vl_named.proofs.Free as free
+use Rattle.vl_lower_spec.specs.Built.{AreRanged, NameWhatIsFree}
+use Rattle.vl_lower_spec.specs.Sources.{AreSources, NamedSourcesAreFree}
+use Rattle.vl_lower_spec.proofs.Begins as begins
+use Rattle.vl_lower_spec.proofs.Changing as changing
+use Rattle.vl_lower_spec.proofs.Fits.{fits}
+use Rattle.vl_lower_spec.proofs.Free as free
 
 module _ (ds : List Decl) (drivers : List Driver) (firsts : List Start) (s : List ℕ) (net : Netlist) (names : Names)
     (shaped : All IsShaped ds) (different : AreDifferent ds) (apart : AreApart ds) (lawful : IsLawful ds drivers firsts)

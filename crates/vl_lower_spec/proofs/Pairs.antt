@@ -3,7 +3,7 @@ use Rattle.std.specs.Prelude.{◌≡◌, refl, ℕ, zero, suc, List, [], ◌∷�
 use Rattle.std.specs.Prelude.{Some, is_none, slice_get, slice_index}
 use Rattle.std.proofs.Common.{ap, sym, ◌∙◌, subst, true≢false}
 use Rattle.std.proofs.lemmas.Option.{same_Some}
-use Rattle.vl_named.specs.Sources.{AreEach}
+use Rattle.vl_lower_spec.specs.Sources.{AreEach}
 
 module _ {A B : Type 0} (R : A → B → Type 0) where
   pub first_of : (xs : List A) (ys : List B) → AreEach R xs ys → (i : ℕ) (y : B) → slice_get ys i ≡ Some y

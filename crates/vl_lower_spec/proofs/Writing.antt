@@ -7,7 +7,7 @@ use Rattle.std.specs.Int.Bits.{and_zero_r, or_zero_r}
 use Rattle.std.proofs.Math.Nat.{mod-eq_of_lt}
 use Rattle.fv_bits.specs.Bits.{complement, masked, ones}
 use Rattle.vl_size.specs.Size.{Values}
-use Rattle.vl_evals.specs.Maps.{cells_named, spot_number}
+use Rattle.vl_lower_spec.specs.Maps.{cells_named, spot_number}
 use Rattle.wn_net.specs.declared.names.Names.{Names}
 use Rattle.wn_net.specs.declared.names.Spot.{Spot}
 use Rattle.wn_net.specs.declared.parts.Mem.{Mem}
@@ -17,8 +17,8 @@ use Rattle.wn_net.specs.Value.{Given, word_at}
 use Rattle.wn_net.specs.Net.{Netlist, value_at, values_of}
 use Rattle.wn_net.specs.Given.{AreMemsOf, HasWords}
 use Rattle.wn_net.specs.Next.{next_mems, write, write_each, written}
-use Rattle.vl_named.specs.Sources.{AreEach}
-use Rattle.vl_edge.specs.Edges.{IsNextOf, IsWritten, NextStatesAreNext, WriteWords, WritesWord}
+use Rattle.vl_lower_spec.specs.Sources.{AreEach}
+use Rattle.vl_lower_spec.specs.Edges.{IsNextOf, IsWritten, NextStatesAreNext, WriteWords, WritesWord}
 
 -- under a mask of ones all bits are new
 all_new : (w from to : ℕ) → to < 2 ^ w → masked w (ones w) from to ≡ to

@@ -15,10 +15,10 @@ use Rattle.vl_mean.specs.Parts.{Part}
 use Rattle.vl_mean.specs.Runs.{Agrees, ChoosesAlike, Each, EachBit, EachDeclared, HasReset, Init, InRange, KeepsOnce}
 use Rattle.vl_mean.specs.Runs.{Next, OnlyIf, PartAssumes, is_driven}
 use Rattle.vl_mean.specs.Targets.{bit_of}
-use Rattle.vl_order.specs.Refusals.{HasNoRefusal}
-use Rattle.vl_order.specs.Sequence.{IsSequence}
-use Rattle.vl_evals.specs.Evaluations.{HaveReset, IsLowered, IsStart, KeepOnce}
-use Rattle.vl_evals.specs.Maps.{AreEntriesOf, given_of, listed, map_of, state_of}
+use Rattle.vl_flow_spec.specs.Refusals.{HasNoRefusal}
+use Rattle.vl_flow_spec.specs.Sequence.{IsSequence}
+use Rattle.vl_lower_spec.specs.Evaluations.{HaveReset, IsLowered, IsStart, KeepOnce}
+use Rattle.vl_lower_spec.specs.Maps.{AreEntriesOf, given_of, listed, map_of, state_of}
 use Rattle.wn_net.specs.declared.names.Names.{Names}
 use Rattle.wn_net.specs.Value.{Given}
 use Rattle.wn_net.specs.Net.{Netlist}
@@ -26,7 +26,7 @@ use Rattle.wn_net.specs.Given.{IsGiven}
 use Rattle.wn_net.specs.Names.{AreNamesOf, HaveAll, ShowNames}
 use Rattle.wn_net.specs.Next.{next_state}
 use Rattle.wn_run.specs.Runs.{IsMet}
-use Rattle.vl_lowered.specs.Settled.{settled}
+use Rattle.vl_lower_spec.specs.Settled.{settled}
 
 -- each name but the clock has a number of its width, or numbers, a memory
 abbrev pub AreRanged : List Decl → Values → Type 0

@@ -2,7 +2,7 @@
 use Rattle.std.specs.Prelude.{◌≡◌, ℕ, ◌+◌, ◌<◌, ◌^◌, List, [], ◌∷◌, length, slice_get}
 use Rattle.fv_bits.specs.Bits.{ones}
 use Rattle.vl_size.specs.Size.{Values}
-use Rattle.vl_evals.specs.Maps.{cells_named, spot_number, state_of}
+use Rattle.vl_lower_spec.specs.Maps.{cells_named, spot_number, state_of}
 use Rattle.wn_net.specs.declared.names.Names.{Names}
 use Rattle.wn_net.specs.declared.names.Spot.{Spot}
 use Rattle.wn_net.specs.declared.parts.Mem.{Mem}
@@ -12,7 +12,7 @@ use Rattle.wn_net.specs.Value.{Given}
 use Rattle.wn_net.specs.Net.{Netlist, value_at}
 use Rattle.wn_net.specs.Given.{IsGiven}
 use Rattle.wn_net.specs.Next.{next_state}
-use Rattle.vl_named.specs.Sources.{AreEach}
+use Rattle.vl_lower_spec.specs.Sources.{AreEach}
 
 -- a register's next node has the named bits of the map
 abbrev pub IsNextOf : Netlist → Names → Given → Values → Reg → Spot → Type 0

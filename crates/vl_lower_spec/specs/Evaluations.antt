@@ -28,7 +28,7 @@ use Rattle.wn_net.specs.Given.{IsGiven}
 use Rattle.wn_net.specs.Names.{AreNamesOf, HaveAll, ShowNames}
 use Rattle.wn_net.specs.Next.{next_state}
 use Rattle.wn_run.specs.Runs.{Choices, AreChoicesOf, IsMet, cycle_at, inputs_at, start_of}
-use Rattle.vl_evals.specs.Maps.{AreEntriesOf, given_of, listed, map_of, state_of}
+use Rattle.vl_lower_spec.specs.Maps.{AreEntriesOf, given_of, listed, map_of, state_of}
 
 -- the state is one in which a run may begin
 pub record IsStart (net : Netlist) (s : State) : Type 0 where

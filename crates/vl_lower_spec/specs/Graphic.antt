@@ -7,7 +7,7 @@ use Rattle.vl_mean.specs.FlatLaw.{IsKept, is_graphic}
 use Rattle.vl_mean.specs.FlatParts.{parts_of}
 use Rattle.wn_net.specs.declared.names.Names.{Names}
 use Rattle.wn_net.specs.Net.{Netlist}
-use Rattle.vl_evals.specs.Evaluations.{IsLowered}
+use Rattle.vl_lower_spec.specs.Evaluations.{IsLowered}
 
 -- no text has a blank or a control byte in it
 abbrev pub AreGraphic : Names → Type 0

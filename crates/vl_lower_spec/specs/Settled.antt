@@ -3,7 +3,7 @@ use Rattle.std.specs.Prelude.{ℕ, List, [], ◌∷◌, Option, Some, None, slic
 use Rattle.vl_size.specs.declared.decl.Decl.{Decl}
 use Rattle.vl_size.specs.Size.{Values}
 use Rattle.vl_mean.specs.declared.driver.Driver.{Driver}
-use Rattle.vl_path.specs.Settle.{driven}
+use Rattle.vl_flow_spec.specs.Settle.{driven}
 
 abbrev pub driven_by_this : List Decl → Option Driver → Values → Values
 driven_by_this ds None v = v

@@ -14,10 +14,10 @@ use Rattle.vl_mean.specs.FlatParts.{parts_of}
 use Rattle.vl_mean.specs.Parts.{Part}
 use Rattle.vl_mean.specs.Runs.{initial_writes, is_chosen, is_driven, last_value}
 use Rattle.vl_mean.specs.Targets.{bit_of}
-use Rattle.vl_path.specs.Reads.{IsCellOf}
-use Rattle.vl_order.specs.Refusals.{HasNoRefusal}
-use Rattle.vl_order.specs.Sequence.{IsSequence}
-use Rattle.vl_evals.specs.Maps.{cells_named, text_of}
+use Rattle.vl_flow_spec.specs.Reads.{IsCellOf}
+use Rattle.vl_flow_spec.specs.Refusals.{HasNoRefusal}
+use Rattle.vl_flow_spec.specs.Sequence.{IsSequence}
+use Rattle.vl_lower_spec.specs.Maps.{cells_named, text_of}
 use Rattle.wn_net.specs.declared.names.Names.{Names}
 use Rattle.wn_net.specs.declared.names.Spot.{Spot}
 use Rattle.wn_net.specs.declared.parts.Init.{Init}
@@ -28,7 +28,7 @@ use Rattle.wn_net.specs.declared.parts.InputKind.TheVariants as kind
 use Rattle.wn_net.specs.declared.parts.Mem.{Mem}
 use Rattle.wn_net.specs.declared.parts.Reg.{Reg}
 use Rattle.wn_net.specs.Net.{Netlist}
-use Rattle.vl_lowered.specs.Built.{NameWhatIsFree}
+use Rattle.vl_lower_spec.specs.Built.{NameWhatIsFree}
 
 -- in the order of the two lists, each of the first with its one of the second
 abbrev pub AreEach : {A B : Type 0} → (A → B → Type 0) → List A → List B → Type 0

@@ -1,7 +1,5 @@
 //! What it means that a net is that of a design: definitions, and the law that their runs are one, without code.
-#![tactic(auto)]
-
-ghost use Rattle.vl_evals.specs.Evaluations.{AssumptionsAreMet, RunsAreAllowed, RunsAreEvaluated};
+ghost use Rattle.vl_lower_spec.specs.Evaluations.{AssumptionsAreMet, RunsAreAllowed, RunsAreEvaluated};
 
 /// Each run of a lowered net, with any choices, is a run that the design allows, map by map.
 pub fn runs_are_allowed()

@@ -1,8 +1,6 @@
 //! That the names of a lowered net can be printed: laws, without code.
-#![tactic(auto)]
-
-ghost use Rattle.vl_evals.specs.Evaluations.{IsLowered};
-ghost use Rattle.vl_graphic.specs.Graphic.{AreGraphic, NamesAreGraphic};
+ghost use Rattle.vl_lower_spec.specs.Evaluations.{IsLowered};
+ghost use Rattle.vl_lower_spec.specs.Graphic.{AreGraphic, NamesAreGraphic};
 ghost use Rattle.vl_mean.specs.FlatParts.{flat_parts};
 
 use vl_mean::Flat;

@@ -12,10 +12,10 @@ use Rattle.vl_mean.specs.Cells.{cells}
 use Rattle.vl_mean.specs.FlatLaw.{IsKept, IsMemory, is_variable}
 use Rattle.vl_mean.specs.Parts.{Part}
 use Rattle.vl_mean.specs.Runs.{Each}
-use Rattle.flow_cells.specs.Numbered.{all_cells}
-use Rattle.flow_cells.proofs.Lists.{get_less}
-use Rattle.flow_cells.proofs.Numbers.{own_number}
-use Rattle.vl_evals.specs.Maps.{is_split}
+use Rattle.vl_flow_cells.specs.Numbered.{all_cells}
+use Rattle.vl_flow_cells.proofs.Lists.{get_less}
+use Rattle.vl_flow_cells.proofs.Numbers.{own_number}
+use Rattle.vl_lower_spec.specs.Maps.{is_split}
 use Rattle.wn_net.specs.declared.names.Names.{Names}
 use Rattle.wn_net.specs.declared.names.NetName.{NetName}
 use Rattle.wn_net.specs.declared.parts.Input.{Input}
@@ -23,18 +23,18 @@ use Rattle.wn_net.specs.declared.parts.Mem.{Mem}
 use Rattle.wn_net.specs.Value.{Given}
 use Rattle.wn_net.specs.Net.{Netlist, value_at}
 use Rattle.wn_net.specs.Given.{AreMemsOf, AreNumbersOf, IsGiven}
-use Rattle.vl_named.specs.Sources.{kind_of}
-use Rattle.vl_frames.specs.Frames.{AreCellsOf, Cells, Stand}
-use Rattle.vl_entries.specs.Entries.{MemoriesStand, all_entries, is_memory}
-use Rattle.vl_sources.specs.Listing.{AreKeeps, HasSources, Keeping, inputs_named, memory_count, registers_in}
-use Rattle.vl_sources.specs.Numbers.{BeginsCycle, all_numbers}
-use Rattle.vl_sources.proofs.Beginning.{memory_has}
-use Rattle.vl_sources.proofs.Counted.{AllHave, all_have}
-use Rattle.vl_sources.proofs.Cycle.{begin_cycles}
-use Rattle.vl_sources.proofs.Whole.{memories}
-use Rattle.vl_phases.specs.Phases.{BeginCycle}
-use Rattle.vl_begins.specs.Begins.{SourcesBeginCycles}
-use Rattle.vl_begins.proofs.Numbered.{as_many, found, number_by}
+use Rattle.vl_lower_spec.specs.Sources.{kind_of}
+use Rattle.vl_lower_assign.specs.Frames.{AreCellsOf, Cells, Stand}
+use Rattle.vl_lower_cell_laws.specs.Entries.{MemoriesStand, all_entries, is_memory}
+use Rattle.vl_lower_cell_laws.specs.Listing.{AreKeeps, HasSources, Keeping, inputs_named, memory_count, registers_in}
+use Rattle.vl_lower_cell_laws.specs.Numbers.{BeginsCycle, all_numbers}
+use Rattle.vl_lower_cell_laws.proofs.Beginning.{memory_has}
+use Rattle.vl_lower_cell_laws.proofs.SourcesCounted.{AllHave, all_have}
+use Rattle.vl_lower_cell_laws.proofs.Cycle.{begin_cycles}
+use Rattle.vl_lower_cell_laws.proofs.SourcesWhole.{memories}
+use Rattle.vl_lower_state.specs.Phases.{BeginCycle}
+use Rattle.vl_lower_state.specs.Begins.{SourcesBeginCycles}
+use Rattle.vl_lower_state.proofs.Numbered.{as_many, found, number_by}
 
 -- ---- numbers of a cycle fit nets with the same sources
 

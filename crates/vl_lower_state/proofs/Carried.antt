@@ -6,7 +6,7 @@ use Rattle.wn_net.specs.declared.parts.Mem.{Mem}
 use Rattle.wn_net.specs.declared.parts.MemWrite.{MemWrite}
 use Rattle.wn_net.specs.Changes.{AddsNodes, Keeps, with_write}
 use Rattle.wn_net.specs.Net.{IsNodeOf, Netlist}
-use Rattle.vl_stores.specs.Stores.{AddsWrites, IsConstant, MayStore, PutNodes, PutsNode}
+use Rattle.vl_lower_state.specs.Stores.{AddsWrites, IsConstant, MayStore, PutNodes, PutsNode}
 
 pub keeps_same : (net : Netlist) → Keeps net net
 keeps_same net = record {

@@ -8,15 +8,15 @@ use Rattle.vl_size.specs.declared.decl.Decl.{Decl}
 use Rattle.vl_size.specs.Size.{Values}
 use Rattle.vl_mean.specs.Cells.{cells}
 use Rattle.vl_mean.specs.Runs.{Each, InRange}
-use Rattle.flow_cells.specs.Numbered.{all_cells}
+use Rattle.vl_flow_cells.specs.Numbered.{all_cells}
 use Rattle.wn_net.specs.Value.{Given}
 use Rattle.wn_net.specs.Net.{AreNodes, IsNet, Netlist, value_at}
 use Rattle.wn_net.specs.Given.{IsGiven}
 use Rattle.wn_net.specs.Changes.{Keeps}
 use Rattle.wn_net.proofs.Moved.{value_within}
-use Rattle.vl_frames.specs.Frames.{AreCellsOf, Stand, cell_widths}
-use Rattle.vl_frames.proofs.Behind.{cell_there}
-use Rattle.vl_lowered.specs.Built.{AreRanged}
+use Rattle.vl_lower_assign.specs.Frames.{AreCellsOf, Stand, cell_widths}
+use Rattle.vl_lower_assign.proofs.Behind.{cell_there}
+use Rattle.vl_lower_spec.specs.Built.{AreRanged}
 
 pub stand_kept : (old new : Netlist) (g : Given) (ds : List Decl) (cells : List ℕ) (v : Values) → Keeps old new
     → AreCellsOf old ds cells → Stand old g ds cells v → Stand new g ds cells v

@@ -4,13 +4,13 @@ use Rattle.std.specs.Prelude.{Some, length, take, slice_get, slice_index}
 use Rattle.std.proofs.Common.{ap, ◌∙◌, arith}
 use Rattle.std.proofs.lemmas.List.{take_more}
 use Rattle.std.proofs.lemmas.Option.{get_or_from_slice_get, slice_get_within}
-use Rattle.vl_evals.specs.Maps.{gathered}
+use Rattle.vl_lower_spec.specs.Maps.{gathered}
 use Rattle.wn_net.specs.declared.names.Spot.{Spot}
 use Rattle.wn_net.specs.Value.{Given}
 use Rattle.wn_net.specs.Changes.{AddsNodes, Shows}
 use Rattle.wn_net.specs.Net.{Netlist, value_at}
 use Rattle.wn_net.proofs.Laws.{node_on, value_on, given_on}
-use Rattle.vl_close.specs.Nexts.{AreBitsOfCell, AreBitsOfCells, ShowBits}
+use Rattle.vl_lower_state.specs.Nexts.{AreBitsOfCell, AreBitsOfCells, ShowBits}
 
 pub shows_on : (old mid new : Netlist) (bits : ℕ) (m : Given → ℕ) (id : ℕ) → AddsNodes mid new
     → Shows old mid bits m id → Shows old new bits m id

@@ -9,19 +9,19 @@ use Rattle.vl_size.specs.Table.{span}
 use Rattle.vl_mean.specs.Cells.{cells, cells_of}
 use Rattle.vl_mean.specs.Parts.{Part}
 use Rattle.vl_mean.specs.Runs.{Each}
-use Rattle.flow_cells.proofs.Lists.{get_some}
-use Rattle.flow_cells.proofs.Words.{words_length}
+use Rattle.vl_flow_cells.proofs.Lists.{get_some}
+use Rattle.vl_flow_cells.proofs.Words.{words_length}
 use Rattle.wn_net.specs.declared.parts.Mem.{Mem}
 use Rattle.wn_net.specs.Net.{IsNodeOf, Netlist}
-use Rattle.vl_frames.specs.Frames.{AreCellsOf, cell_widths}
-use Rattle.vl_named.specs.Sources.{AreEach}
-use Rattle.vl_entries.specs.Entries.{is_memory}
-use Rattle.vl_sources.specs.Listing.{Keeping, Stored, all_memories, entry_count, memories_in, stored}
-use Rattle.vl_stores.specs.Stores.{MayStore}
-use Rattle.vl_held.specs.Held.{firsts_in, memory_firsts}
-use Rattle.vl_held.proofs.Pairs.{pairs_both}
-use Rattle.vl_ready.specs.Ready.{HasNoWrites, MemoriesAreReady}
-use Rattle.vl_ready.proofs.Widths.{WideFrom, from_none, node_of, own_widths, wide_back, wide_each, wide_front}
+use Rattle.vl_lower_assign.specs.Frames.{AreCellsOf, cell_widths}
+use Rattle.vl_lower_spec.specs.Sources.{AreEach}
+use Rattle.vl_lower_cell_laws.specs.Entries.{is_memory}
+use Rattle.vl_lower_cell_laws.specs.Listing.{Keeping, Stored, all_memories, entry_count, memories_in, stored}
+use Rattle.vl_lower_state.specs.Stores.{MayStore}
+use Rattle.vl_lower_state.specs.Held.{firsts_in, memory_firsts}
+use Rattle.vl_lower_state.proofs.Pairs.{pairs_both}
+use Rattle.vl_lower_state.specs.Ready.{HasNoWrites, MemoriesAreReady}
+use Rattle.vl_lower_state.proofs.Widths.{WideFrom, from_none, node_of, own_widths, wide_back, wide_each, wide_front}
 
 abbrev is_nil : List ℕ → Bool
 is_nil [] = true

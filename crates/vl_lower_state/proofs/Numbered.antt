@@ -8,8 +8,8 @@ use Rattle.std.proofs.lemmas.Slice.Eq.{bytes_eq-Decides}
 use Rattle.vl_size.specs.declared.decl.Decl.{Decl}
 use Rattle.vl_size.specs.Size.{Values}
 use Rattle.vl_mean.specs.Cells.{cells}
-use Rattle.flow_cells.specs.Numbered.{all_cells}
-use Rattle.vl_frames.specs.Frames.{cell_widths}
+use Rattle.vl_flow_cells.specs.Numbered.{all_cells}
+use Rattle.vl_lower_assign.specs.Frames.{cell_widths}
 
 -- the number of the first text that is the name
 abbrev pub number_by : (ℕ → ℕ) → List (List ℕ) → ℕ → Values

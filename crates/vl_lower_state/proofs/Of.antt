@@ -8,18 +8,18 @@ use Rattle.vl_size.specs.declared.decl.Decl.{Decl}
 use Rattle.vl_mean.specs.Cells.{cells}
 use Rattle.vl_mean.specs.Parts.{Part}
 use Rattle.vl_mean.specs.Scopes.{is_clock_class}
-use Rattle.flow_cells.specs.Numbered.{all_cells}
-use Rattle.flow_cells.proofs.Lists.{get_left, get_right}
-use Rattle.vl_evals.specs.Maps.{cells_named, text_of}
+use Rattle.vl_flow_cells.specs.Numbered.{all_cells}
+use Rattle.vl_flow_cells.proofs.Lists.{get_left, get_right}
+use Rattle.vl_lower_spec.specs.Maps.{cells_named, text_of}
 use Rattle.wn_net.specs.declared.names.NetName.{NetName}
-use Rattle.vl_named.specs.Sources.{AreEach}
-use Rattle.vl_keeps.specs.Keeps.{Kept, registers_of}
-use Rattle.vl_entries.specs.Entries.{is_memory}
-use Rattle.vl_sources.specs.Listing.{Keeping, Stored, all_memories, all_registers, cell_registers, entry_count}
-use Rattle.vl_sources.specs.Listing.{memories_in, memory_count, named_registers, registers_in, stored}
-use Rattle.vl_sources.proofs.Places.{AllAt, HeadAt, memory_there, text_there}
-use Rattle.vl_held.specs.Held.{cell_places, firsts_in, memory_firsts, places_in, register_places}
-use Rattle.vl_held.proofs.Pairs.{pairs_both}
+use Rattle.vl_lower_spec.specs.Sources.{AreEach}
+use Rattle.vl_lower_cell_laws.specs.Keeps.{Kept, registers_of}
+use Rattle.vl_lower_cell_laws.specs.Entries.{is_memory}
+use Rattle.vl_lower_cell_laws.specs.Listing.{Keeping, Stored, all_memories, all_registers, cell_registers, entry_count}
+use Rattle.vl_lower_cell_laws.specs.Listing.{memories_in, memory_count, named_registers, registers_in, stored}
+use Rattle.vl_lower_cell_laws.proofs.Places.{AllAt, HeadAt, memory_there, text_there}
+use Rattle.vl_lower_state.specs.Held.{cell_places, firsts_in, memory_firsts, places_in, register_places}
+use Rattle.vl_lower_state.proofs.Pairs.{pairs_both}
 
 module _ (whole : List (List ℕ)) (ps : List Part) (keep : Keeping) (nodes : List ℕ) (list : List NetName) where
   -- the cell has the text of the register's entry

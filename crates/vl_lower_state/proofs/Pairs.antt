@@ -1,6 +1,6 @@
 -- Lists in pairs, one behind another.
 use Rattle.std.specs.Prelude.{List, [], ◌∷◌, ◌++◌}
-use Rattle.vl_named.specs.Sources.{AreEach}
+use Rattle.vl_lower_spec.specs.Sources.{AreEach}
 
 module _ {A B : Type 0} (R : A → B → Type 0) where
   pub pairs_both : (xs xs2 : List A) (ys ys2 : List B) → AreEach R xs ys → AreEach R xs2 ys2

@@ -11,10 +11,10 @@ use Rattle.vl_mean.specs.FlatLaw.{IsLawful}
 use Rattle.vl_mean.specs.FlatParts.{parts_of}
 use Rattle.vl_mean.specs.Parts.{Part}
 use Rattle.vl_mean.specs.Runs.{Agrees, ChoosesAlike, Each, Holds, PartAssumes}
-use Rattle.vl_order.specs.Refusals.{HasNoRefusal}
-use Rattle.vl_order.specs.Sequence.{IsSequence}
-use Rattle.vl_order.proofs.Held as held
-use Rattle.vl_evals.specs.Maps.{AreEntriesOf, listed, map_of}
+use Rattle.vl_flow_spec.specs.Refusals.{HasNoRefusal}
+use Rattle.vl_flow_spec.specs.Sequence.{IsSequence}
+use Rattle.vl_flow_spec.proofs.Held as held
+use Rattle.vl_lower_spec.specs.Maps.{AreEntriesOf, listed, map_of}
 use Rattle.wn_net.specs.declared.names.Names.{Names}
 use Rattle.wn_net.specs.Value.{Given}
 use Rattle.wn_net.specs.Net.{Netlist, value_at}
@@ -23,29 +23,29 @@ use Rattle.wn_net.specs.Changes.{Keeps}
 use Rattle.wn_net.specs.Names.{AreNamesOf, HaveAll, ShowNames}
 use Rattle.wn_net.proofs.Laws.{keeps_on}
 use Rattle.wn_run.specs.Runs.{IsMet}
-use Rattle.vl_frames.specs.Frames.{Stand}
-use Rattle.vl_lowered.specs.Built.{AreRanged, AreSettledNames, HasNextMap, IsBuilt, NameWhatIsFree}
-use Rattle.vl_lowered.specs.Settled.{settled}
-use Rattle.vl_lowered.proofs.Agreeing as agreeing
-use Rattle.vl_lowered.proofs.Whole.{lowered, settled_is}
-use Rattle.vl_named.specs.Sources.{AreSources}
-use Rattle.vl_named.proofs.Whole.{are_free}
-use Rattle.vl_edge.proofs.Writing.{next_is}
-use Rattle.vl_ticked.specs.Ticked.{ticked}
-use Rattle.vl_ticked.proofs.Next.{may_come}
-use Rattle.vl_settled.specs.Left.{left, seen_at_edges, seen_in}
-use Rattle.vl_settled.proofs.Assumes.{seen_assumed}
-use Rattle.vl_settled.proofs.Keeps.{kept_bits}
-use Rattle.vl_cycle.specs.Cycles.{Tell}
-use Rattle.vl_entries.proofs.Agree.{agree}
-use Rattle.vl_entries.proofs.Listed.{are_listed}
-use Rattle.vl_sources.proofs.Whole.{are_named}
-use Rattle.vl_shown.proofs.Showing.{are_shown}
-use Rattle.vl_shown.proofs.Whole.{are_whole}
-use Rattle.vl_phases.specs.Phases.{ArePhases, BeginCycle, ClosesCycle, PhasesLower}
-use Rattle.vl_phases.proofs.Remaining.{memories_stay}
-use Rattle.vl_phases.proofs.Fitting.{cells_kept, met_behind, met_both, met_front, met_of, of_met, stand_kept}
-use Rattle.vl_phases.proofs.Fitting.{stands_in_range}
+use Rattle.vl_lower_assign.specs.Frames.{Stand}
+use Rattle.vl_lower_spec.specs.Built.{AreRanged, AreSettledNames, HasNextMap, IsBuilt, NameWhatIsFree}
+use Rattle.vl_lower_spec.specs.Settled.{settled}
+use Rattle.vl_lower_spec.proofs.Agreeing as agreeing
+use Rattle.vl_lower_spec.proofs.LoweredWhole.{lowered, settled_is}
+use Rattle.vl_lower_spec.specs.Sources.{AreSources}
+use Rattle.vl_lower_spec.proofs.NamedWhole.{are_free}
+use Rattle.vl_lower_spec.proofs.Writing.{next_is}
+use Rattle.vl_lower_cell_laws.specs.Ticked.{ticked}
+use Rattle.vl_lower_cell_laws.proofs.Next.{may_come}
+use Rattle.vl_lower_cell_laws.specs.Left.{left, seen_at_edges, seen_in}
+use Rattle.vl_lower_cell_laws.proofs.Assumes.{seen_assumed}
+use Rattle.vl_lower_cell_laws.proofs.Keeps.{kept_bits}
+use Rattle.vl_lower_cell_laws.specs.Cycles.{Tell}
+use Rattle.vl_lower_cell_laws.proofs.Agree.{agree}
+use Rattle.vl_lower_cell_laws.proofs.Listed.{are_listed}
+use Rattle.vl_lower_cell_laws.proofs.SourcesWhole.{are_named}
+use Rattle.vl_lower_cell_laws.proofs.Showing.{are_shown}
+use Rattle.vl_lower_cell_laws.proofs.ShownWhole.{are_whole}
+use Rattle.vl_lower_state.specs.Phases.{ArePhases, BeginCycle, ClosesCycle, PhasesLower}
+use Rattle.vl_lower_state.proofs.Remaining.{memories_stay}
+use Rattle.vl_lower_state.proofs.Fitting.{cells_kept, met_behind, met_both, met_front, met_of, of_met, stand_kept}
+use Rattle.vl_lower_state.proofs.Fitting.{stands_in_range}
 
 module _ (ds : List Decl) (drivers : List Driver) (firsts : List Start) (s : List ℕ) (net : Netlist) (names : Names)
     (shaped : All IsShaped ds) (different : AreDifferent ds) (apart : AreApart ds) (lawful : IsLawful ds drivers firsts)

@@ -8,8 +8,8 @@ use Rattle.wn_net.specs.declared.parts.Mem.{Mem}
 use Rattle.wn_net.specs.declared.parts.MemWrite.{MemWrite}
 use Rattle.wn_net.specs.Changes.{with_write}
 use Rattle.wn_net.specs.Net.{Netlist}
-use Rattle.vl_stores.specs.Stores.{PutNodes, PutsNode}
-use Rattle.vl_stores.specs.Writing.{with_writes, writes_at}
+use Rattle.vl_lower_state.specs.Stores.{PutNodes, PutsNode}
+use Rattle.vl_lower_state.specs.Writing.{with_writes, writes_at}
 
 -- ---- one memory's writes
 

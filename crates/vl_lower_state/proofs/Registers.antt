@@ -13,16 +13,16 @@ use Rattle.vl_mean.specs.Parts.{Part}
 use Rattle.wn_net.specs.declared.names.Spot.{Spot}
 use Rattle.wn_net.specs.declared.parts.Reg.{Reg}
 use Rattle.wn_net.specs.Net.{IsNodeOf, Netlist}
-use Rattle.vl_frames.specs.Frames.{AreCellsOf, cell_widths}
-use Rattle.vl_keeps.specs.Keeps.{IsKeepOf, Kept, registers_of}
-use Rattle.vl_keeps.proofs.Whole.{keep_bits}
-use Rattle.vl_entries.specs.Entries.{is_memory}
-use Rattle.vl_sources.specs.Listing.{AreKeeps, Keeping, all_registers, cell_registers, entry_count}
-use Rattle.vl_sources.specs.Listing.{named_registers, register_spot, registers_in}
-use Rattle.vl_close.specs.Nexts.{AreBitsOfCell, AreBitsOfCells, AreNexts, ShowBits}
-use Rattle.vl_held.specs.Held.{cell_places, places_in, register_places}
-use Rattle.vl_ready.specs.Ready.{RegistersAreReady}
-use Rattle.vl_ready.proofs.Widths.{WideFrom, from_none, node_of, own_widths, wide_back, wide_each, wide_front}
+use Rattle.vl_lower_assign.specs.Frames.{AreCellsOf, cell_widths}
+use Rattle.vl_lower_cell_laws.specs.Keeps.{IsKeepOf, Kept, registers_of}
+use Rattle.vl_lower_cell_laws.proofs.KeepsWhole.{keep_bits}
+use Rattle.vl_lower_cell_laws.specs.Entries.{is_memory}
+use Rattle.vl_lower_cell_laws.specs.Listing.{AreKeeps, Keeping, all_registers, cell_registers, entry_count}
+use Rattle.vl_lower_cell_laws.specs.Listing.{named_registers, register_spot, registers_in}
+use Rattle.vl_lower_state.specs.Nexts.{AreBitsOfCell, AreBitsOfCells, AreNexts, ShowBits}
+use Rattle.vl_lower_state.specs.Held.{cell_places, places_in, register_places}
+use Rattle.vl_lower_state.specs.Ready.{RegistersAreReady}
+use Rattle.vl_lower_state.proofs.Widths.{WideFrom, from_none, node_of, own_widths, wide_back, wide_each, wide_front}
 
 abbrev is_nil : List ℕ → Bool
 is_nil [] = true

@@ -19,19 +19,19 @@ use Rattle.vl_mean.specs.FlatParts.{parts_of}
 use Rattle.vl_mean.specs.Parts.{Part}
 use Rattle.vl_mean.specs.Runs.{ChoosesAlike, Each, is_chosen, initial_writes, is_driven, last_value}
 use Rattle.vl_mean.specs.Scopes.{is_clock_class}
-use Rattle.vl_path.specs.Reads.{IsCellOf}
-use Rattle.vl_path.proofs.Bools.{and_left, and_right, left_none, right_none}
-use Rattle.vl_order.specs.Refusals.{HasNoRefusal}
-use Rattle.vl_order.specs.Sequence.{IsSequence}
-use Rattle.vl_order.proofs.Choices.{chosen_at, in_range_of}
-use Rattle.vl_order.proofs.Elements.{each_of_places}
-use Rattle.flow_cells.proofs.Lists.{all_at, contained_at, declared_own}
-use Rattle.vl_evals.specs.Maps.{is_split, is_split_at, some_below}
+use Rattle.vl_flow_spec.specs.Reads.{IsCellOf}
+use Rattle.vl_flow_spec.proofs.Bools.{and_left, and_right, left_none, right_none}
+use Rattle.vl_flow_spec.specs.Refusals.{HasNoRefusal}
+use Rattle.vl_flow_spec.specs.Sequence.{IsSequence}
+use Rattle.vl_flow_spec.proofs.Choices.{chosen_at, in_range_of}
+use Rattle.vl_flow_spec.proofs.Elements.{each_of_places}
+use Rattle.vl_flow_cells.proofs.Lists.{all_at, contained_at, declared_own}
+use Rattle.vl_lower_spec.specs.Maps.{is_split, is_split_at, some_below}
 use Rattle.wn_net.specs.Value.{Given}
-use Rattle.vl_lowered.specs.Built.{AreRanged}
-use Rattle.vl_lowered.proofs.Agreeing as agreeing
-use Rattle.vl_lowered.proofs.Kept.{variable_is}
-use Rattle.vl_entries.specs.Entries.{MemoriesStand, is_memory, memories_of}
+use Rattle.vl_lower_spec.specs.Built.{AreRanged}
+use Rattle.vl_lower_spec.proofs.Agreeing as agreeing
+use Rattle.vl_lower_spec.proofs.Kept.{variable_is}
+use Rattle.vl_lower_cell_laws.specs.Entries.{MemoriesStand, is_memory, memories_of}
 
 -- ---- where no word is split, none of its bits is driven
 

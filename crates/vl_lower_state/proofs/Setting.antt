@@ -6,7 +6,7 @@ use Rattle.std.proofs.lemmas.Option.{same_Some}
 use Rattle.wn_net.specs.declared.parts.Reg.{Reg}
 use Rattle.wn_net.specs.Changes.{with_next}
 use Rattle.wn_net.specs.Net.{IsNodeOf, Netlist}
-use Rattle.vl_close.specs.Nexts.{AreNexts, with_nexts}
+use Rattle.vl_lower_state.specs.Nexts.{AreNexts, with_nexts}
 
 pub one_more : (ns : List ℕ) (rs : List Reg) (at n : ℕ) → slice_get ns at ≡ Some n
     → with_next at n (with_nexts (take at ns) rs) ≡ with_nexts (take (at + 1) ns) rs

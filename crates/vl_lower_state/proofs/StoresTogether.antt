@@ -7,11 +7,11 @@ use Rattle.std.proofs.lemmas.Option.{same_Some}
 use Rattle.wn_net.specs.declared.parts.Mem.{Mem}
 use Rattle.wn_net.specs.Changes.{Keeps}
 use Rattle.wn_net.specs.Net.{Netlist}
-use Rattle.vl_named.specs.Sources.{AreEach}
-use Rattle.vl_stores.specs.Stores.{AreStored, IsStored, MayStore, words_at}
-use Rattle.vl_stores.specs.Writing.{IsAt, IsStoredAt, with_writes, writes_at}
-use Rattle.vl_stores.proofs.Carried.{may_kept, put_nodes_kept}
-use Rattle.vl_stores.proofs.Placed.{other_at, this_at}
+use Rattle.vl_lower_spec.specs.Sources.{AreEach}
+use Rattle.vl_lower_state.specs.Stores.{AreStored, IsStored, MayStore, words_at}
+use Rattle.vl_lower_state.specs.Writing.{IsAt, IsStoredAt, with_writes, writes_at}
+use Rattle.vl_lower_state.proofs.Carried.{may_kept, put_nodes_kept}
+use Rattle.vl_lower_state.proofs.Placed.{other_at, this_at}
 
 -- so many of them are written
 abbrev pub AreStoredTo : Netlist → List ℕ → ℕ → List Mem → List ℕ → Type 0

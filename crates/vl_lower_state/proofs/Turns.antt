@@ -9,11 +9,12 @@ use Rattle.wn_net.specs.declared.parts.MemWrite.{MemWrite}
 use Rattle.wn_net.specs.Changes.{AddsNodes, Keeps, mem_width, with_write}
 use Rattle.wn_net.specs.Net.{IsNodeOf, IsWriteOf, Netlist}
 use Rattle.wn_net.proofs.Laws.{keeps_on}
-use Rattle.vl_stores.specs.Stores.{AddsWrites, IsConstant, MayStore, PutNodes, PutsNode}
-use Rattle.vl_stores.specs.Writing.{with_writes, writes_at, writes_of}
-use Rattle.vl_stores.proofs.Carried.{constant_kept, node_kept, one_write, put_nodes_kept, writes_none, writes_on}
-use Rattle.vl_stores.proofs.Placed.{left_over, next_node, own_writes, put_more, taken, width_at_place, write_behind}
-use Rattle.vl_stores.proofs.Placed.{written_at}
+use Rattle.vl_lower_state.specs.Stores.{AddsWrites, IsConstant, MayStore, PutNodes, PutsNode}
+use Rattle.vl_lower_state.specs.Writing.{with_writes, writes_at, writes_of}
+use Rattle.vl_lower_state.proofs.Carried.{constant_kept, node_kept, one_write, put_nodes_kept, writes_none, writes_on}
+use Rattle.vl_lower_state.proofs.Placed.{left_over, next_node, own_writes, put_more, taken, width_at_place}
+use Rattle.vl_lower_state.proofs.Placed.{write_behind}
+use Rattle.vl_lower_state.proofs.Placed.{written_at}
 
 -- nothing is written yet
 pub none_written : (old new : Netlist) (mem : ℕ) (m : Mem) → AddsNodes old new → slice_get old.mems mem ≡ Some m

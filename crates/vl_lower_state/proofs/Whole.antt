@@ -7,8 +7,8 @@ use Rattle.std.proofs.lemmas.Option.{same_Some}
 use Rattle.vl_size.specs.declared.decl.Decl.{Decl}
 use Rattle.vl_size.specs.Size.{Values}
 use Rattle.vl_mean.specs.Parts.{Part}
-use Rattle.flow_cells.specs.Numbered.{all_cells}
-use Rattle.flow_cells.proofs.Lists.{get_some}
+use Rattle.vl_flow_cells.specs.Numbered.{all_cells}
+use Rattle.vl_flow_cells.proofs.Lists.{get_some}
 use Rattle.wn_net.specs.declared.names.Names.{Names}
 use Rattle.wn_net.specs.declared.names.Spot.{Spot}
 use Rattle.wn_net.specs.declared.parts.Mem.{Mem}
@@ -19,21 +19,21 @@ use Rattle.wn_net.specs.Given.{IsGiven}
 use Rattle.wn_net.specs.Net.{IsNet, Netlist, value_at}
 use Rattle.wn_net.specs.Value.{Given}
 use Rattle.wn_net.proofs.Moved.{value_within}
-use Rattle.vl_evals.specs.Maps.{cells_named, gathered, text_of}
-use Rattle.vl_frames.specs.Frames.{AreCellsOf, Stand}
-use Rattle.vl_frames.proofs.Behind.{cell_there}
-use Rattle.vl_named.specs.Sources.{AreEach}
-use Rattle.vl_edge.specs.Edges.{IsNextOf, IsWritten, WriteWords}
-use Rattle.vl_entries.specs.Entries.{all_entries}
-use Rattle.vl_keeps.specs.Keeps.{Kept}
-use Rattle.vl_sources.specs.Listing.{Keeping, Stored, all_memories, all_registers, register_spot}
-use Rattle.vl_sources.proofs.Places.{AllAt, all_at}
-use Rattle.vl_close.specs.Nexts.{ShowBits, with_nexts}
-use Rattle.vl_stores.specs.Stores.{IsStored, PutNodes}
-use Rattle.vl_stores.proofs.Placed.{index_behind, left_over, taken}
-use Rattle.vl_held.specs.Held.{memory_firsts, register_places}
-use Rattle.vl_held.specs.Next.{RegistersAreNext, WordsAreNext}
-use Rattle.vl_held.proofs.Of.{AreOf, IsOf, memories_are_of, registers_are_of}
+use Rattle.vl_lower_spec.specs.Maps.{cells_named, gathered, text_of}
+use Rattle.vl_lower_assign.specs.Frames.{AreCellsOf, Stand}
+use Rattle.vl_lower_assign.proofs.Behind.{cell_there}
+use Rattle.vl_lower_spec.specs.Sources.{AreEach}
+use Rattle.vl_lower_spec.specs.Edges.{IsNextOf, IsWritten, WriteWords}
+use Rattle.vl_lower_cell_laws.specs.Entries.{all_entries}
+use Rattle.vl_lower_cell_laws.specs.Keeps.{Kept}
+use Rattle.vl_lower_cell_laws.specs.Listing.{Keeping, Stored, all_memories, all_registers, register_spot}
+use Rattle.vl_lower_cell_laws.proofs.Places.{AllAt, all_at}
+use Rattle.vl_lower_state.specs.Nexts.{ShowBits, with_nexts}
+use Rattle.vl_lower_state.specs.Stores.{IsStored, PutNodes}
+use Rattle.vl_lower_state.proofs.Placed.{index_behind, left_over, taken}
+use Rattle.vl_lower_state.specs.Held.{memory_firsts, register_places}
+use Rattle.vl_lower_state.specs.Next.{RegistersAreNext, WordsAreNext}
+use Rattle.vl_lower_state.proofs.Of.{AreOf, IsOf, memories_are_of, registers_are_of}
 
 standing : (ds : List Decl) (ps : List Part) (nodes : List ℕ) (names : Names)
     → names.list ≡ all_entries ps ds nodes 0 0 → AllAt ps nodes names.list ds 0 0 0

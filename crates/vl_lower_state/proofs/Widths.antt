@@ -4,11 +4,11 @@ use Rattle.std.proofs.Common.{ap, sym, ◌∙◌, arith, subst}
 use Rattle.std.proofs.lemmas.List.{length-map}
 use Rattle.vl_size.specs.declared.decl.Decl.{Decl}
 use Rattle.vl_mean.specs.Cells.{cells}
-use Rattle.flow_cells.proofs.Lists.{get_left, get_less, get_right}
+use Rattle.vl_flow_cells.proofs.Lists.{get_left, get_less, get_right}
 use Rattle.wn_net.specs.Net.{IsNodeOf, Netlist}
-use Rattle.vl_frames.specs.Frames.{AreCellsOf, cell_widths}
-use Rattle.vl_sources.proofs.Lists.{map_get}
-use Rattle.vl_shown.proofs.Lists.{index_is}
+use Rattle.vl_lower_assign.specs.Frames.{AreCellsOf, cell_widths}
+use Rattle.vl_lower_cell_laws.proofs.SourcesLists.{map_get}
+use Rattle.vl_lower_cell_laws.proofs.ShownLists.{index_is}
 
 -- cells from a number on have these widths
 abbrev pub WideFrom : List ℕ → ℕ → List ℕ → Type 0

@@ -9,11 +9,11 @@ use Rattle.wn_net.specs.declared.names.Names.{Names}
 use Rattle.wn_net.specs.Value.{Given}
 use Rattle.wn_net.specs.Net.{Netlist, value_at}
 use Rattle.wn_net.specs.Given.{IsGiven}
-use Rattle.vl_frames.specs.Frames.{AreCellsOf, Cells}
-use Rattle.vl_entries.specs.Entries.{all_entries}
-use Rattle.vl_sources.specs.Listing.{AreKeeps, HasSources, Keeping}
-use Rattle.vl_sources.specs.Numbers.{all_numbers}
-use Rattle.vl_phases.specs.Phases.{BeginCycle}
+use Rattle.vl_lower_assign.specs.Frames.{AreCellsOf, Cells}
+use Rattle.vl_lower_cell_laws.specs.Entries.{all_entries}
+use Rattle.vl_lower_cell_laws.specs.Listing.{AreKeeps, HasSources, Keeping}
+use Rattle.vl_lower_cell_laws.specs.Numbers.{all_numbers}
+use Rattle.vl_lower_state.specs.Phases.{BeginCycle}
 
 -- the first net has the sources, and so has the last one, which may have any nodes, next nodes and writes
 abbrev pub SourcesBeginCycles : Type 0

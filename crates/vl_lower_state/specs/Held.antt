@@ -6,9 +6,9 @@ use Rattle.vl_size.specs.declared.decl.Class.TheVariants as class
 use Rattle.vl_size.specs.declared.decl.Decl.{Decl}
 use Rattle.vl_mean.specs.Cells.{cells}
 use Rattle.vl_mean.specs.Parts.{Part}
-use Rattle.vl_keeps.specs.Keeps.{Kept, registers_of}
-use Rattle.vl_entries.specs.Entries.{is_memory}
-use Rattle.vl_sources.specs.Listing.{Keeping}
+use Rattle.vl_lower_cell_laws.specs.Keeps.{Kept, registers_of}
+use Rattle.vl_lower_cell_laws.specs.Entries.{is_memory}
+use Rattle.vl_lower_cell_laws.specs.Listing.{Keeping}
 
 -- the cell of each register of cells from a number on
 abbrev pub cell_places : Keeping → ℕ → ℕ → List (List ℕ) → List ℕ

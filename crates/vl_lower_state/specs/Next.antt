@@ -9,14 +9,14 @@ use Rattle.wn_net.specs.Changes.{Keeps}
 use Rattle.wn_net.specs.Given.{IsGiven}
 use Rattle.wn_net.specs.Net.{IsNet, Netlist}
 use Rattle.wn_net.specs.Value.{Given}
-use Rattle.vl_frames.specs.Frames.{AreCellsOf, Stand}
-use Rattle.vl_named.specs.Sources.{AreEach}
-use Rattle.vl_edge.specs.Edges.{IsNextOf, IsWritten}
-use Rattle.vl_entries.specs.Entries.{all_entries}
-use Rattle.vl_sources.specs.Listing.{HasSources, Keeping}
-use Rattle.vl_close.specs.Nexts.{ShowBits, with_nexts}
-use Rattle.vl_stores.specs.Stores.{AreStored}
-use Rattle.vl_held.specs.Held.{memory_firsts, register_places}
+use Rattle.vl_lower_assign.specs.Frames.{AreCellsOf, Stand}
+use Rattle.vl_lower_spec.specs.Sources.{AreEach}
+use Rattle.vl_lower_spec.specs.Edges.{IsNextOf, IsWritten}
+use Rattle.vl_lower_cell_laws.specs.Entries.{all_entries}
+use Rattle.vl_lower_cell_laws.specs.Listing.{HasSources, Keeping}
+use Rattle.vl_lower_state.specs.Nexts.{ShowBits, with_nexts}
+use Rattle.vl_lower_state.specs.Stores.{AreStored}
+use Rattle.vl_lower_state.specs.Held.{memory_firsts, register_places}
 
 -- registers whose next nodes are gathered from the cells
 abbrev pub RegistersAreNext : Type 0

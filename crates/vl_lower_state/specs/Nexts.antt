@@ -1,6 +1,6 @@
 -- Next nodes of registers that are bits of a design's cells. Rule of this project.
 use Rattle.std.specs.Prelude.{◌≡◌, ℕ, ◌≤◌, ◌<◌, List, [], ◌∷◌, Some, length, slice_get, slice_index}
-use Rattle.vl_evals.specs.Maps.{gathered}
+use Rattle.vl_lower_spec.specs.Maps.{gathered}
 use Rattle.wn_net.specs.declared.names.Spot.{Spot}
 use Rattle.wn_net.specs.declared.parts.Reg.{Reg}
 use Rattle.wn_net.specs.Changes.{Shows}

@@ -10,22 +10,22 @@ use Rattle.vl_mean.specs.declared.driver.Start.{Start}
 use Rattle.vl_mean.specs.FlatLaw.{IsLawful}
 use Rattle.vl_mean.specs.FlatParts.{parts_of}
 use Rattle.vl_mean.specs.Parts.{Part}
-use Rattle.vl_order.specs.Refusals.{HasNoRefusal}
-use Rattle.vl_order.specs.Sequence.{IsSequence}
-use Rattle.vl_evals.specs.Maps.{given_of}
-use Rattle.vl_evals.specs.Evaluations.{IsLowered}
+use Rattle.vl_flow_spec.specs.Refusals.{HasNoRefusal}
+use Rattle.vl_flow_spec.specs.Sequence.{IsSequence}
+use Rattle.vl_lower_spec.specs.Maps.{given_of}
+use Rattle.vl_lower_spec.specs.Evaluations.{IsLowered}
 use Rattle.wn_net.specs.Value.{Given}
 use Rattle.wn_net.specs.Net.{IsNet, Netlist}
 use Rattle.wn_net.specs.Given.{IsGiven}
 use Rattle.wn_net.specs.Changes.{Keeps}
 use Rattle.wn_net.specs.declared.names.Names.{Names}
-use Rattle.vl_frames.specs.Frames.{Cells, Stand}
-use Rattle.vl_lowered.specs.Built.{AreRanged}
-use Rattle.vl_named.specs.Sources.{AreEach}
-use Rattle.vl_edge.specs.Edges.{IsNextOf, IsWritten}
-use Rattle.vl_cycle.specs.Cycles.{SettlesAll, TicksAll}
-use Rattle.vl_entries.specs.Entries.{MemoriesStand, all_entries}
-use Rattle.vl_sources.specs.Listing.{AreKeeps, HasSources, Keeping}
+use Rattle.vl_lower_assign.specs.Frames.{Cells, Stand}
+use Rattle.vl_lower_spec.specs.Built.{AreRanged}
+use Rattle.vl_lower_spec.specs.Sources.{AreEach}
+use Rattle.vl_lower_spec.specs.Edges.{IsNextOf, IsWritten}
+use Rattle.vl_lower_cell_laws.specs.Cycles.{SettlesAll, TicksAll}
+use Rattle.vl_lower_cell_laws.specs.Entries.{MemoriesStand, all_entries}
+use Rattle.vl_lower_cell_laws.specs.Listing.{AreKeeps, HasSources, Keeping}
 
 -- In a cycle the cells have the numbers of a map that names what is free in it.
 pub record BeginCycle (ds : List Decl) (ps : List Part) (net : Netlist) (names : Names) (cells : Cells) (g : Given)

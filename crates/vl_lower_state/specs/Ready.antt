@@ -8,12 +8,12 @@ use Rattle.vl_mean.specs.Runs.{Each}
 use Rattle.wn_net.specs.declared.names.Names.{Names}
 use Rattle.wn_net.specs.declared.parts.Mem.{Mem}
 use Rattle.wn_net.specs.Net.{Netlist}
-use Rattle.vl_frames.specs.Frames.{AreCellsOf}
-use Rattle.vl_named.specs.Sources.{AreEach}
-use Rattle.vl_sources.specs.Listing.{AreKeeps, HasSources, Keeping}
-use Rattle.vl_close.specs.Nexts.{AreBitsOfCells, AreNexts, ShowBits}
-use Rattle.vl_stores.specs.Stores.{MayStore}
-use Rattle.vl_held.specs.Held.{memory_firsts, register_places}
+use Rattle.vl_lower_assign.specs.Frames.{AreCellsOf}
+use Rattle.vl_lower_spec.specs.Sources.{AreEach}
+use Rattle.vl_lower_cell_laws.specs.Listing.{AreKeeps, HasSources, Keeping}
+use Rattle.vl_lower_state.specs.Nexts.{AreBitsOfCells, AreNexts, ShowBits}
+use Rattle.vl_lower_state.specs.Stores.{MayStore}
+use Rattle.vl_lower_state.specs.Held.{memory_firsts, register_places}
 
 -- What next nodes of registers want: their bits are some of a cell, and nodes of these bits have their widths.
 pub record AreReady (ds : List Decl) (ps : List Part) (keep : Keeping) (net : Netlist) (names : Names) (cells : List ℕ)

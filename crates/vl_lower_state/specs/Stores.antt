@@ -5,7 +5,7 @@ use Rattle.wn_net.specs.declared.parts.Mem.{Mem}
 use Rattle.wn_net.specs.declared.parts.MemWrite.{MemWrite}
 use Rattle.wn_net.specs.Value.{Given}
 use Rattle.wn_net.specs.Net.{IsNodeOf, Netlist, value_at}
-use Rattle.vl_named.specs.Sources.{AreEach}
+use Rattle.vl_lower_spec.specs.Sources.{AreEach}
 
 -- the node has this number in each cycle
 pub record IsConstant (net : Netlist) (bits number id : ℕ) : Type 0 where

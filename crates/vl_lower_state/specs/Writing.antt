@@ -3,7 +3,7 @@ use Rattle.std.specs.Prelude.{◌≡◌, ℕ, zero, suc, List, [], ◌∷◌, Op
 use Rattle.wn_net.specs.declared.parts.Mem.{Mem}
 use Rattle.wn_net.specs.declared.parts.MemWrite.{MemWrite}
 use Rattle.wn_net.specs.Net.{Netlist}
-use Rattle.vl_stores.specs.Stores.{MayStore, PutNodes, words_at}
+use Rattle.vl_lower_state.specs.Stores.{MayStore, PutNodes, words_at}
 
 -- the memories, but that the one at a place has these writes
 abbrev pub with_writes : ℕ → List MemWrite → List Mem → List Mem

@@ -1,10 +1,11 @@
 //! Bits gathered from a node.
+#![tactic(auto, using(wn_net::proofs::Laws::additions))]
 
 ghost use Rattle.std.specs.Prelude.{◌≡◌, ◌≤◌, ◌<◌, ℕ, Some, IfOk, IsTrue, length, slice_get};
 ghost use Rattle.wn_net.specs.Net.{IsNode, width_at, value_at};
 ghost use Rattle.wn_net.specs.Changes.{AddsNodes, Shows};
-ghost use Rattle.vl_evals.specs.Maps.{gathered};
-ghost use Rattle.vl_named.specs.Sources.{below};
+ghost use Rattle.vl_lower_spec.specs.Maps.{gathered};
+ghost use Rattle.vl_lower_spec.specs.Sources.{below};
 
 use fv_base::Memory;
 use wn_net::{Net, NodeId};

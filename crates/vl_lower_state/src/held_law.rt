@@ -1,8 +1,6 @@
 //! Of which cells registers and memories are, and that they get these cells of the next cycle: definitions and laws,
 //! without code.
-#![tactic(auto)]
-
-ghost use Rattle.vl_held.specs.Next.{RegistersAreNext, WordsAreNext};
+ghost use Rattle.vl_lower_state.specs.Next.{RegistersAreNext, WordsAreNext};
 
 /// Where next nodes are gathered from cells that have the numbers of a map, registers get the map's bits.
 pub fn registers_are_next()

@@ -1,12 +1,13 @@
 //! Next nodes of registers.
+#![tactic(auto, using(wn_net::proofs::Laws::additions))]
 
 ghost use Rattle.std.specs.Prelude.{◌≡◌, IfOk};
 ghost use Rattle.wn_net.specs.Changes.{AddsNodes, Keeps};
-ghost use Rattle.vl_close.specs.Nexts.{AreBitsOfCells, AreNexts, ShowBits, with_nexts};
+ghost use Rattle.vl_lower_state.specs.Nexts.{AreBitsOfCells, AreNexts, ShowBits, with_nexts};
 
+use crate::bits::gather;
 use fv_base::{List, Memory};
 use std::alloc::Global;
-use vl_gather::gather;
 use wn_net::{Net, NodeId, Spot};
 
 /// For each spot the node of its bits, which are bits of the cell with this number.

@@ -1,7 +1,5 @@
 //! What registers and memories want of cells before they get them: laws, without code.
-#![tactic(auto)]
-
-ghost use Rattle.vl_ready.specs.Ready.{MemoriesAreReady, RegistersAreReady};
+ghost use Rattle.vl_lower_state.specs.Ready.{MemoriesAreReady, RegistersAreReady};
 
 /// The bits of registers are some of the cells that they are of, and nodes of them have their widths.
 pub fn registers_are_ready()

@@ -1,12 +1,13 @@
 //! Writes of memories, one for each word.
+#![tactic(auto, using(wn_net::proofs::Laws::additions))]
 
 ghost use Rattle.std.specs.Prelude.{◌≡◌, ◌≤◌, ◌<◌, ◌^◌, length, IfOk, OnOk, Some, slice_get};
 ghost use Rattle.fv_bits.specs.Bits as bits;
 ghost use Rattle.wn_net.specs.Changes.{AddsNodes, Keeps};
 ghost use Rattle.wn_net.specs.Net.{IsNodeOf};
-ghost use Rattle.vl_named.specs.Sources.{AreEach};
-ghost use Rattle.vl_stores.specs.Stores.{AddsWrites, AreStored, IsConstant, MayStore};
-ghost use Rattle.vl_stores.specs.Writing.{IsAt, IsStoredAt};
+ghost use Rattle.vl_lower_spec.specs.Sources.{AreEach};
+ghost use Rattle.vl_lower_state.specs.Stores.{AddsWrites, AreStored, IsConstant, MayStore};
+ghost use Rattle.vl_lower_state.specs.Writing.{IsAt, IsStoredAt};
 
 use fv_base::{Memory, Word};
 use fv_bits::ones;

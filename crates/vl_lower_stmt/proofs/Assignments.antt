@@ -22,17 +22,17 @@ use Rattle.wn_net.specs.Net.{Netlist, value_at}
 use Rattle.wn_net.specs.Given.{IsGiven}
 use Rattle.wn_net.specs.Changes.{AddsNodes}
 use Rattle.wn_net.proofs.Laws.{adds_on, given_on}
-use Rattle.vl_slots.specs.declared.slot.Slot.{Slot}
-use Rattle.vl_slots.specs.Slots.{IsPath, is_taken}
-use Rattle.vl_frames.specs.Frames.{Cells, IsFrame, StandsFor, AreSlotsOf, Assigns, slots_width}
-use Rattle.vl_frames.specs.Frames.{with_writes}
-use Rattle.vl_frames.specs.Stored.{stored}
-use Rattle.vl_slots.proofs.Tests.{path_on}
-use Rattle.vl_frames.proofs.Behind.{stand_on, stands_on, steps_as, steps_before, steps_none}
-use Rattle.vl_frames.proofs.Several.{slots_on}
-use Rattle.vl_frames.proofs.Writing.{spots_count, written_low}
-use Rattle.vl_steps.specs.Executes.{Evaluates, Executes}
-use Rattle.vl_steps.specs.Located.{Locates}
+use Rattle.vl_lower_assign.specs.declared.slot.Slot.{Slot}
+use Rattle.vl_lower_assign.specs.Slots.{IsPath, is_taken}
+use Rattle.vl_lower_assign.specs.Frames.{Cells, IsFrame, StandsFor, AreSlotsOf, Assigns, slots_width}
+use Rattle.vl_lower_assign.specs.Frames.{with_writes}
+use Rattle.vl_lower_assign.specs.Stored.{stored}
+use Rattle.vl_lower_assign.proofs.Tests.{path_on}
+use Rattle.vl_lower_assign.proofs.Behind.{stand_on, stands_on, steps_as, steps_before, steps_none}
+use Rattle.vl_lower_assign.proofs.Several.{slots_on}
+use Rattle.vl_lower_assign.proofs.Writing.{spots_count, written_low}
+use Rattle.vl_lower_stmt.specs.Executes.{Evaluates, Executes}
+use Rattle.vl_lower_stmt.specs.Located.{Locates}
 
 slots_count : (net : Netlist) (g : Given) (ds : List Decl) (slots : List Slot) (bits : List (Option Spot))
     → AreSlotsOf net g ds slots bits → length bits ≡ slots_width slots

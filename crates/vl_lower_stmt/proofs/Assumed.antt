@@ -20,11 +20,11 @@ use Rattle.wn_net.specs.Net.{Netlist, IsNode, IsNodeOf, AreNodes, value_at}
 use Rattle.wn_net.specs.Given.{IsGiven}
 use Rattle.wn_net.specs.Changes.{AddsNodes}
 use Rattle.wn_net.proofs.Laws.{adds_on, given_on}
-use Rattle.vl_slots.specs.Slots.{IsPath, is_taken}
-use Rattle.vl_frames.specs.Frames.{Cells, IsFrame, StandsFor, Stand, AreCellsOf, taken_back}
-use Rattle.vl_frames.proofs.Behind.{cells_on, nodes_on, met_on, met_back, stand_on}
-use Rattle.vl_steps.specs.Executes.{Executes}
-use Rattle.vl_steps.proofs.Branches.{Tests, told}
+use Rattle.vl_lower_assign.specs.Slots.{IsPath, is_taken}
+use Rattle.vl_lower_assign.specs.Frames.{Cells, IsFrame, StandsFor, Stand, AreCellsOf, taken_back}
+use Rattle.vl_lower_assign.proofs.Behind.{cells_on, nodes_on, met_on, met_back, stand_on}
+use Rattle.vl_lower_stmt.specs.Executes.{Executes}
+use Rattle.vl_lower_stmt.proofs.Branches.{Tests, told}
 
 -- ---- one more
 

@@ -22,15 +22,15 @@ use Rattle.wn_net.specs.Net.{Netlist, IsNode, value_at, width_at}
 use Rattle.wn_net.specs.Given.{IsGiven}
 use Rattle.wn_net.specs.Changes.{AddsNodes}
 use Rattle.wn_net.proofs.Laws.{adds_none, adds_on, given_on}
-use Rattle.vl_points.specs.declared.select.VaryingPlace.{VaryingPlace}
-use Rattle.vl_points.specs.Points.{GivePlace, is_place}
-use Rattle.vl_terms.proofs.Sized.{some_first}
-use Rattle.vl_puts.specs.declared.spread.BitPlace.{BitPlace}
-use Rattle.vl_puts.specs.declared.spread.BitPlace.TheVariants as place
-use Rattle.vl_slots.specs.declared.slot.Holder.{Holder}
-use Rattle.vl_steps.specs.Executes.{Evaluates}
-use Rattle.vl_steps.specs.Located.{HasBits, IsPlaced}
-use Rattle.vl_steps.proofs.Contexts.{sign_in, size_in}
+use Rattle.vl_lower_nodes.specs.declared.select.VaryingPlace.{VaryingPlace}
+use Rattle.vl_lower_nodes.specs.Points.{GivePlace, is_place}
+use Rattle.vl_lower_expr.proofs.Sized.{some_first}
+use Rattle.vl_lower_assign.specs.declared.spread.BitPlace.{BitPlace}
+use Rattle.vl_lower_assign.specs.declared.spread.BitPlace.TheVariants as place
+use Rattle.vl_lower_assign.specs.declared.slot.Holder.{Holder}
+use Rattle.vl_lower_stmt.specs.Executes.{Evaluates}
+use Rattle.vl_lower_stmt.specs.Located.{HasBits, IsPlaced}
+use Rattle.vl_lower_stmt.proofs.Contexts.{sign_in, size_in}
 
 -- what lies between the least and the greatest bound is one
 pub bound_between : (i : ℤ) → is_between (negsuc (2 ^ 31 - 1)) (pos (2 ^ 31 - 1)) i ≡ true → is_bound i ≡ true

@@ -17,14 +17,15 @@ use Rattle.wn_net.specs.Net.{Netlist, IsNodeOf, value_at}
 use Rattle.wn_net.specs.Given.{IsGiven}
 use Rattle.wn_net.specs.Changes.{AddsNodes}
 use Rattle.wn_net.proofs.Laws.{adds_on, node_on, given_on}
-use Rattle.vl_slots.specs.Slots.{IsPath, is_taken}
-use Rattle.vl_frames.specs.Frames.{Cells, IsFrame, StandsFor}
-use Rattle.vl_frames.specs.Stored.{stored, all_stored}
-use Rattle.vl_slots.proofs.Tests.{path_on}
-use Rattle.vl_frames.proofs.Behind.{steps_none, steps_then, steps_as, steps_behind}
-use Rattle.vl_steps.specs.Executes.{Enters, Evaluates, Executes, ExecutesAll}
-use Rattle.vl_steps.proofs.Choices.{bit_one, where_both, where_either, where_either_also, where_then, where_then_also}
-use Rattle.vl_steps.proofs.Lists.{exec_behind, stored_behind}
+use Rattle.vl_lower_assign.specs.Slots.{IsPath, is_taken}
+use Rattle.vl_lower_assign.specs.Frames.{Cells, IsFrame, StandsFor}
+use Rattle.vl_lower_assign.specs.Stored.{stored, all_stored}
+use Rattle.vl_lower_assign.proofs.Tests.{path_on}
+use Rattle.vl_lower_assign.proofs.Behind.{steps_none, steps_then, steps_as, steps_behind}
+use Rattle.vl_lower_stmt.specs.Executes.{Enters, Evaluates, Executes, ExecutesAll}
+use Rattle.vl_lower_stmt.proofs.Choices.{bit_one, where_both, where_either, where_either_also, where_then}
+use Rattle.vl_lower_stmt.proofs.Choices.{where_then_also}
+use Rattle.vl_lower_stmt.proofs.Lists.{exec_behind, stored_behind}
 
 module _ (ds : List Decl) where
   -- the test of a condition

@@ -17,16 +17,16 @@ use Rattle.wn_net.specs.Net.{Netlist, IsNodeOf, value_at}
 use Rattle.wn_net.specs.Given.{IsGiven}
 use Rattle.wn_net.specs.Changes.{AddsNodes}
 use Rattle.wn_net.proofs.Laws.{adds_on, given_on, node_on, value_on}
-use Rattle.vl_slots.specs.Slots.{IsPath, is_taken}
-use Rattle.vl_frames.specs.Frames.{Cells, IsFrame, StandsFor, Steps}
-use Rattle.vl_frames.specs.Stored.{stored, arm_stored}
-use Rattle.vl_slots.proofs.Tests.{path_on}
-use Rattle.vl_frames.proofs.Behind.{steps_none, steps_then, steps_as, steps_behind}
-use Rattle.vl_steps.specs.Arms.{ArmsDone, matched, picked, picked_stored}
-use Rattle.vl_steps.specs.Executes.{Executes}
-use Rattle.vl_steps.proofs.Choices.{bit_one}
-use Rattle.vl_steps.proofs.Lists.{matched_labels, none_picked, none_stored, pick_is, picked_behind}
-use Rattle.vl_steps.proofs.Lists.{picked_stored_behind, stored_is}
+use Rattle.vl_lower_assign.specs.Slots.{IsPath, is_taken}
+use Rattle.vl_lower_assign.specs.Frames.{Cells, IsFrame, StandsFor, Steps}
+use Rattle.vl_lower_assign.specs.Stored.{stored, arm_stored}
+use Rattle.vl_lower_assign.proofs.Tests.{path_on}
+use Rattle.vl_lower_assign.proofs.Behind.{steps_none, steps_then, steps_as, steps_behind}
+use Rattle.vl_lower_stmt.specs.StepsArms.{ArmsDone, matched, picked, picked_stored}
+use Rattle.vl_lower_stmt.specs.Executes.{Executes}
+use Rattle.vl_lower_stmt.proofs.Choices.{bit_one}
+use Rattle.vl_lower_stmt.proofs.Lists.{matched_labels, none_picked, none_stored, pick_is, picked_behind}
+use Rattle.vl_lower_stmt.proofs.Lists.{picked_stored_behind, stored_is}
 
 module _ (ds : List Decl) (old : Netlist) (f : Cells) (path : Option ℕ) (test : Given → State → List Expr → Bool) where
   pub arms_none : IsFrame old ds f → IsPath old path → ArmsDone ds old f path test old f path []

@@ -24,15 +24,15 @@ use Rattle.wn_net.specs.Net.{Netlist, IsNode, IsNodeOf, value_at}
 use Rattle.wn_net.specs.Given.{IsGiven}
 use Rattle.wn_net.specs.Changes.{AddsNodes}
 use Rattle.wn_net.proofs.Laws.{given_on, value_on}
-use Rattle.vl_slots.specs.Slots.{IsPath, is_taken}
-use Rattle.vl_slots.proofs.Tests.{path_on}
-use Rattle.vl_frames.specs.Frames.{Cells, IsFrame, Stand, StandsFor}
-use Rattle.vl_frames.specs.Stored.{stored, arm_stored, otherwise_stored}
-use Rattle.vl_frames.proofs.Behind.{steps_as, steps_behind, steps_none}
-use Rattle.vl_steps.specs.Arms.{AreLedTo, AreSized, ArmsDone, case_test, matched, picked, picked_stored}
-use Rattle.vl_steps.specs.Executes.{Evaluates, Executes, ExecutesOther, Matches}
-use Rattle.vl_steps.proofs.Cases.{arms_labels, arms_whole}
-use Rattle.vl_steps.proofs.Lists.{none_picked}
+use Rattle.vl_lower_assign.specs.Slots.{IsPath, is_taken}
+use Rattle.vl_lower_assign.proofs.Tests.{path_on}
+use Rattle.vl_lower_assign.specs.Frames.{Cells, IsFrame, Stand, StandsFor}
+use Rattle.vl_lower_assign.specs.Stored.{stored, arm_stored, otherwise_stored}
+use Rattle.vl_lower_assign.proofs.Behind.{steps_as, steps_behind, steps_none}
+use Rattle.vl_lower_stmt.specs.StepsArms.{AreLedTo, AreSized, ArmsDone, case_test, matched, picked, picked_stored}
+use Rattle.vl_lower_stmt.specs.Executes.{Evaluates, Executes, ExecutesOther, Matches}
+use Rattle.vl_lower_stmt.proofs.Cases.{arms_labels, arms_whole}
+use Rattle.vl_lower_stmt.proofs.Lists.{none_picked}
 
 stays : {A : Type 0} (p m : Bool) (x t : A) → (p && not m) ≡ true → (m ≡ false → x ≡ t) → (if p then x else t) ≡ t
 stays true true x t e h = absurd (true≢false (sym e))

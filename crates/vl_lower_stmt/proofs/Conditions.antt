@@ -7,7 +7,7 @@ use Rattle.vl_size.specs.Size.{Values}
 use Rattle.wn_net.specs.Net.{Netlist}
 use Rattle.wn_net.specs.Changes.{AddsNodes}
 use Rattle.wn_net.proofs.Laws.{adds_on, node_on, value_on}
-use Rattle.vl_steps.specs.Executes.{Evaluates}
+use Rattle.vl_lower_stmt.specs.Executes.{Evaluates}
 
 pub only_met : (y : ℕ) → y < 2 → y ≡ bit (not true || (y == 1))
 only_met zero h = refl

@@ -9,8 +9,8 @@ use Rattle.vl_size.specs.Size.{Values, cells_in, index_of, operand_of, or_none, 
 use Rattle.vl_mean.specs.Execution.{labels_sign, labels_size}
 use Rattle.vl_mean.specs.FlatLaw.{AreTargets, IsTarget, flat_scopes}
 use Rattle.vl_mean.specs.Scopes.{no_values, operand_in}
-use Rattle.vl_same.proofs.SameTarget.{flat_operand}
-use Rattle.vl_steps.specs.Located.{AreSizedTargets, IsSizedTarget}
+use Rattle.vl_mean_flat.proofs.SameTarget.{flat_operand}
+use Rattle.vl_lower_stmt.specs.Located.{AreSizedTargets, IsSizedTarget}
 
 pub max_assoc : (a b c : ℕ) → max a (max b c) ≡ max (max a b) c
 max_assoc a b c = omega arith

@@ -9,9 +9,9 @@ use Rattle.vl_size.specs.Sign.{sign}
 use Rattle.vl_size.specs.Size.{◌>>=◌, Cells, index_of, is_constant, no_names, operand, operand_of, or_none, part_size}
 use Rattle.vl_size.specs.Size.{size, times, value, vector_size}
 use Rattle.vl_size.specs.Table.{span}
-use Rattle.flow_cells.proofs.Constants.{one_operand}
-use Rattle.vl_terms.proofs.Parts.{times_is}
-use Rattle.vl_terms.proofs.Sized.{is_or_none, is_range}
+use Rattle.vl_flow_cells.proofs.Constants.{one_operand}
+use Rattle.vl_lower_expr.proofs.Parts.{times_is}
+use Rattle.vl_lower_expr.proofs.Sized.{is_or_none, is_range}
 
 module _ (ds : List Decl) where
   -- a constant's value as it stands in a size

@@ -23,12 +23,12 @@ use Rattle.wn_net.specs.declared.parts.Reg.{Reg}
 use Rattle.wn_net.specs.Value.{Given}
 use Rattle.wn_net.specs.Net.{Netlist, AreNodes, value_at}
 use Rattle.wn_net.specs.Given.{AreMemsOf, AreNumbersOf, IsGiven}
-use Rattle.flow_cells.specs.Numbered.{all_cells}
-use Rattle.vl_frames.specs.Frames.{AreCellsOf, Cells, IsFrame, cell_widths}
-use Rattle.vl_frames.proofs.Behind.{cell_there, steps_as, steps_none, steps_then}
-use Rattle.vl_frames.proofs.Writing.{puts_append}
-use Rattle.vl_initial.specs.First.{AreFirst, IsZeroFrame, Starts, all_written, nothing_given, written_by}
-use Rattle.vl_initial.proofs.ZeroCells.{stands_for_zeros}
+use Rattle.vl_flow_cells.specs.Numbered.{all_cells}
+use Rattle.vl_lower_assign.specs.Frames.{AreCellsOf, Cells, IsFrame, cell_widths}
+use Rattle.vl_lower_assign.proofs.Behind.{cell_there, steps_as, steps_none, steps_then}
+use Rattle.vl_lower_assign.proofs.Writing.{puts_append}
+use Rattle.vl_lower_stmt.specs.First.{AreFirst, IsZeroFrame, Starts, all_written, nothing_given, written_by}
+use Rattle.vl_lower_stmt.proofs.ZeroCells.{stands_for_zeros}
 
 module _ (ds : List Decl) where
   -- ---- starts one after the other

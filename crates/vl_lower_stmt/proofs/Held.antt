@@ -16,17 +16,17 @@ use Rattle.wn_net.specs.Net.{Netlist, IsNode, value_at}
 use Rattle.wn_net.specs.Given.{IsGiven}
 use Rattle.wn_net.specs.Changes.{AddsNodes}
 use Rattle.wn_net.proofs.Laws.{adds_none}
-use Rattle.flow_cells.specs.Numbered.{all_cells, first_cell}
-use Rattle.flow_cells.specs.Places.{index_at}
-use Rattle.flow_cells.proofs.Numbers.{numbered, own_number}
-use Rattle.flow_cells.proofs.Ranges as ranges
-use Rattle.vl_points.specs.Points.{IsAddress, distance, past}
-use Rattle.vl_terms.proofs.Words.{address_at, address_past}
-use Rattle.vl_slots.specs.declared.slot.Holder.TheVariants as holder
-use Rattle.vl_slots.specs.Slots.{hits}
-use Rattle.vl_frames.specs.Frames.{Stand, is_named}
-use Rattle.vl_steps.specs.Located.{IsHeld}
-use Rattle.vl_steps.proofs.Named.{vector_cell, width_of, word_cell}
+use Rattle.vl_flow_cells.specs.Numbered.{all_cells, first_cell}
+use Rattle.vl_flow_cells.specs.Places.{index_at}
+use Rattle.vl_flow_cells.proofs.Numbers.{numbered, own_number}
+use Rattle.vl_flow_cells.proofs.Ranges as ranges
+use Rattle.vl_lower_nodes.specs.Points.{IsAddress, distance, past}
+use Rattle.vl_lower_expr.proofs.Words.{address_at, address_past}
+use Rattle.vl_lower_assign.specs.declared.slot.Holder.TheVariants as holder
+use Rattle.vl_lower_assign.specs.Slots.{hits}
+use Rattle.vl_lower_assign.specs.Frames.{Stand, is_named}
+use Rattle.vl_lower_stmt.specs.Located.{IsHeld}
+use Rattle.vl_lower_stmt.proofs.Named.{vector_cell, width_of, word_cell}
 
 -- what isn't there isn't between
 pub unpassed : {A : Type 0} (t : Bool) (x : A) → (if t then Some x else None) ≡ None → t ≡ false

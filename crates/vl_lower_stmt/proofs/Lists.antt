@@ -9,8 +9,8 @@ use Rattle.vl_tree.specs.StmtView.{arms}
 use Rattle.vl_size.specs.Size.{Values}
 use Rattle.vl_mean.specs.Scopes.{Scope}
 use Rattle.vl_mean.specs.Execution.{State, exec, exec_all, pick}
-use Rattle.vl_frames.specs.Stored.{stored, all_stored, arm_stored}
-use Rattle.vl_steps.specs.Arms.{matched, picked, picked_stored}
+use Rattle.vl_lower_assign.specs.Stored.{stored, all_stored, arm_stored}
+use Rattle.vl_lower_stmt.specs.StepsArms.{matched, picked, picked_stored}
 
 module _ (ss : List Scope) where
   pub exec_behind : (xs : List Stmt) (s : Stmt) (t : State)

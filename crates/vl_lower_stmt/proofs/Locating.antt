@@ -13,21 +13,21 @@ use Rattle.vl_mean.specs.FlatLaw.{all_target_sizes, flat_scopes, target_size}
 use Rattle.vl_mean.specs.Scopes.{full, operand_in}
 use Rattle.vl_mean.specs.Targets.{Spot, all_spots, full_word, name_spots, spots, spots_from, spots_of, vector_spots}
 use Rattle.vl_mean.specs.Targets.{word_index, word_spots}
-use Rattle.vl_same.proofs.SameTarget.{flat_declared, flat_full}
-use Rattle.vl_path.proofs.Same.{declared_name}
+use Rattle.vl_mean_flat.proofs.SameTarget.{flat_declared, flat_full}
+use Rattle.vl_flow_spec.proofs.Same.{declared_name}
 use Rattle.wn_net.specs.Value.{Given}
 use Rattle.wn_net.specs.Net.{Netlist}
 use Rattle.wn_net.specs.Changes.{AddsNodes}
 use Rattle.wn_net.proofs.Laws.{adds_on, adds_none, given_on, there_on, value_on}
-use Rattle.vl_slots.specs.declared.slot.Holder.{Holder}
-use Rattle.vl_slots.specs.declared.slot.Holder.TheVariants as holder
-use Rattle.vl_slots.specs.declared.slot.Slot.{Slot}
-use Rattle.vl_slots.specs.Slots.{hits}
-use Rattle.vl_frames.specs.Frames.{AllSlots, AreCellsOf, AreSlotsOf, AreWide, IsHolderIn, IsSlotFor, IsSlotOf}
-use Rattle.vl_frames.specs.Frames.{slots_width}
-use Rattle.vl_frames.proofs.Behind.{stand_on}
-use Rattle.vl_frames.proofs.Several.{all_slots_on, slots_on}
-use Rattle.vl_steps.specs.Located.{HasBits, IsHeld, IsLocated, Locates}
+use Rattle.vl_lower_assign.specs.declared.slot.Holder.{Holder}
+use Rattle.vl_lower_assign.specs.declared.slot.Holder.TheVariants as holder
+use Rattle.vl_lower_assign.specs.declared.slot.Slot.{Slot}
+use Rattle.vl_lower_assign.specs.Slots.{hits}
+use Rattle.vl_lower_assign.specs.Frames.{AllSlots, AreCellsOf, AreSlotsOf, AreWide, IsHolderIn, IsSlotFor, IsSlotOf}
+use Rattle.vl_lower_assign.specs.Frames.{slots_width}
+use Rattle.vl_lower_assign.proofs.Behind.{stand_on}
+use Rattle.vl_lower_assign.proofs.Several.{all_slots_on, slots_on}
+use Rattle.vl_lower_stmt.specs.Located.{HasBits, IsHeld, IsLocated, Locates}
 
 -- ---- the slot of a name
 

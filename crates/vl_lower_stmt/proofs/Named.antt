@@ -13,18 +13,18 @@ use Rattle.vl_mean.specs.Cells.{cells, cells_of}
 use Rattle.vl_mean.specs.FlatLaw.{IsKept, name_count, all_names_count}
 use Rattle.wn_net.specs.Value.{Given}
 use Rattle.wn_net.specs.Net.{Netlist, IsNodeOf, value_at}
-use Rattle.flow_cells.specs.Numbered.{first_cell}
-use Rattle.flow_cells.proofs.Lists.{get_some, get_left, get_right, all_at}
-use Rattle.flow_cells.proofs.Numbers.{first_few, numbered}
-use Rattle.flow_cells.proofs.Words.{place_of_word}
-use Rattle.vl_points.specs.Points.{past}
-use Rattle.vl_terms.specs.declared.place.Place.{Place}
-use Rattle.vl_terms.specs.declared.place.Place.TheVariants as place
-use Rattle.vl_terms.specs.Bound.{Bound, word_index, HasCell, FitsPlace, HasPlace, AreBound, HasNumber}
-use Rattle.vl_terms.specs.Bound.{HaveNumbers}
-use Rattle.vl_frames.specs.Frames.{cell_widths, AreCellsOf, Stand}
-use Rattle.vl_frames.proofs.Standing.{wide_cell}
-use Rattle.vl_steps.specs.Layout.{place_at, IsDeclaredAt, IsLayout}
+use Rattle.vl_flow_cells.specs.Numbered.{first_cell}
+use Rattle.vl_flow_cells.proofs.Lists.{get_some, get_left, get_right, all_at}
+use Rattle.vl_flow_cells.proofs.Numbers.{first_few, numbered}
+use Rattle.vl_flow_cells.proofs.Words.{place_of_word}
+use Rattle.vl_lower_nodes.specs.Points.{past}
+use Rattle.vl_lower_expr.specs.declared.place.Place.{Place}
+use Rattle.vl_lower_expr.specs.declared.place.Place.TheVariants as place
+use Rattle.vl_lower_expr.specs.Bound.{Bound, word_index, HasCell, FitsPlace, HasPlace, AreBound, HasNumber}
+use Rattle.vl_lower_expr.specs.Bound.{HaveNumbers}
+use Rattle.vl_lower_assign.specs.Frames.{cell_widths, AreCellsOf, Stand}
+use Rattle.vl_lower_assign.proofs.Standing.{wide_cell}
+use Rattle.vl_lower_stmt.specs.Layout.{place_at, IsDeclaredAt, IsLayout}
 
 -- names over some cells
 abbrev pub over : List Decl → List Place → List ℕ → Bound

@@ -14,11 +14,11 @@ use Rattle.wn_net.specs.Net.{Netlist, IsNodeOf, value_at}
 use Rattle.wn_net.specs.Given.{IsGiven}
 use Rattle.wn_net.specs.Changes.{AddsNodes, Shows}
 use Rattle.wn_net.proofs.Laws.{adds_on, given_on, node_on, value_on}
-use Rattle.vl_terms.proofs.Compose.{bits_or}
-use Rattle.vl_frames.specs.Frames.{AreCellsOf}
-use Rattle.vl_frames.proofs.Behind.{stand_on}
-use Rattle.vl_steps.specs.Arms.{number_or}
-use Rattle.vl_steps.specs.Executes.{Evaluates, Matches}
+use Rattle.vl_lower_expr.proofs.Compose.{bits_or}
+use Rattle.vl_lower_assign.specs.Frames.{AreCellsOf}
+use Rattle.vl_lower_assign.proofs.Behind.{stand_on}
+use Rattle.vl_lower_stmt.specs.StepsArms.{number_or}
+use Rattle.vl_lower_stmt.specs.Executes.{Evaluates, Matches}
 
 or_none_false : (b : Bool) → b ≡ (b || false)
 or_none_false true = refl

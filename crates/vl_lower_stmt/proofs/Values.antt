@@ -7,16 +7,16 @@ use Rattle.vl_size.specs.declared.decl.Decl.{Decl}
 use Rattle.vl_size.specs.Size.{Values, Cells, cells_in, is_true, operand_of, own, size, value}
 use Rattle.vl_mean.specs.FlatLaw.{flat_scopes}
 use Rattle.vl_mean.specs.Scopes.{operand_in}
-use Rattle.vl_same.proofs.SameTarget.{flat_operand}
+use Rattle.vl_mean_flat.proofs.SameTarget.{flat_operand}
 use Rattle.wn_net.specs.Value.{Given}
 use Rattle.wn_net.specs.Net.{Netlist}
-use Rattle.vl_terms.specs.declared.place.Place.{Place}
-use Rattle.vl_terms.specs.Bound.{Bound, AreBound, HaveNumbers}
-use Rattle.vl_terms.specs.Lowers.{Lowers}
-use Rattle.vl_frames.specs.Frames.{AreCellsOf}
-use Rattle.vl_steps.specs.Executes.{Evaluates}
-use Rattle.vl_steps.specs.Layout.{IsLayout}
-use Rattle.vl_steps.proofs.Named.{over, bound_over, numbers_over}
+use Rattle.vl_lower_expr.specs.declared.place.Place.{Place}
+use Rattle.vl_lower_expr.specs.Bound.{Bound, AreBound, HaveNumbers}
+use Rattle.vl_lower_expr.specs.Lowers.{Lowers}
+use Rattle.vl_lower_assign.specs.Frames.{AreCellsOf}
+use Rattle.vl_lower_stmt.specs.Executes.{Evaluates}
+use Rattle.vl_lower_stmt.specs.Layout.{IsLayout}
+use Rattle.vl_lower_stmt.proofs.Named.{over, bound_over, numbers_over}
 
 module _ (ds : List Decl) (places : List Place) (own : IsLayout ds places) where
   -- bindings that are names over the cells

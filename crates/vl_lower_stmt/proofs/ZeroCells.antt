@@ -12,10 +12,10 @@ use Rattle.wn_net.specs.Value.{Given}
 use Rattle.wn_net.specs.Net.{Netlist, AreNodes, value_at}
 use Rattle.wn_net.specs.Changes.{AddsNodes}
 use Rattle.wn_net.proofs.Laws.{node_on, value_on}
-use Rattle.vl_frames.specs.Frames.{AreCellsOf, Cells, IsFrame, Stand, StandsFor, cell_widths}
-use Rattle.vl_frames.proofs.Behind.{cell_there}
-use Rattle.vl_initial.specs.First.{IsZeroFrame}
-use Rattle.vl_initial.specs.Zeros.{AreZeros, IsZero, PutsZeros}
+use Rattle.vl_lower_assign.specs.Frames.{AreCellsOf, Cells, IsFrame, Stand, StandsFor, cell_widths}
+use Rattle.vl_lower_assign.proofs.Behind.{cell_there}
+use Rattle.vl_lower_stmt.specs.First.{IsZeroFrame}
+use Rattle.vl_lower_stmt.specs.Zeros.{AreZeros, IsZero, PutsZeros}
 
 pub zeros_on : (old new : Netlist) (ws ids : List ℕ) → AddsNodes old new → AreZeros old ws ids → AreZeros new ws ids
 zeros_on old new [] [] adds h = tt

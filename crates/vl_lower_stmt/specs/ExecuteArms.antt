@@ -4,8 +4,8 @@ use Rattle.vl_tree.specs.declared.stmt.Arm.{Arm}
 use Rattle.vl_tree.specs.declared.stmt.CaseKind.{CaseKind}
 use Rattle.vl_size.specs.declared.decl.Decl.{Decl}
 use Rattle.wn_net.specs.Net.{Netlist, IsNode}
-use Rattle.vl_frames.specs.Frames.{Cells}
-use Rattle.vl_steps.specs.Arms.{ArmsDone, case_test}
+use Rattle.vl_lower_assign.specs.Frames.{Cells}
+use Rattle.vl_lower_stmt.specs.StepsArms.{ArmsDone, case_test}
 
 -- Wherever some arms of a case are done, this one is done behind them: it goes on from their path.
 abbrev pub DoesArm : List Decl → Netlist → Netlist → Cells → Cells → Option ℕ → Option ℕ → CaseKind → ℕ → Bool → ℕ

@@ -14,9 +14,9 @@ use Rattle.wn_net.specs.Value.{Given}
 use Rattle.wn_net.specs.Net.{Netlist, IsNodeOf, value_at}
 use Rattle.wn_net.specs.Given.{IsGiven}
 use Rattle.wn_net.specs.Changes.{AddsNodes}
-use Rattle.vl_slots.specs.Slots.{is_taken}
-use Rattle.vl_frames.specs.Frames.{Cells, Stand, Steps}
-use Rattle.vl_frames.specs.Stored.{stored, all_stored, otherwise_stored}
+use Rattle.vl_lower_assign.specs.Slots.{is_taken}
+use Rattle.vl_lower_assign.specs.Frames.{Cells, Stand, Steps}
+use Rattle.vl_lower_assign.specs.Stored.{stored, all_stored, otherwise_stored}
 
 -- where a path is taken, and else nothing is done
 abbrev pub done_where : Netlist → Option ℕ → (State → State) → Given → State → State

@@ -13,11 +13,11 @@ use Rattle.vl_mean.specs.Parts.{here}
 use Rattle.vl_mean.specs.Runs.{initial_writes}
 use Rattle.vl_mean.specs.Scopes.{no_values}
 use Rattle.vl_mean.specs.Targets.{Write, put_all}
-use Rattle.flow_cells.specs.Numbered.{all_cells}
-use Rattle.vl_frames.specs.Frames.{Cells, Steps, cell_widths}
+use Rattle.vl_flow_cells.specs.Numbered.{all_cells}
+use Rattle.vl_lower_assign.specs.Frames.{Cells, Steps, cell_widths}
 use Rattle.wn_net.specs.Value.{Given}
 use Rattle.wn_net.specs.Net.{Netlist}
-use Rattle.vl_initial.specs.Zeros.{AreZeros}
+use Rattle.vl_lower_stmt.specs.Zeros.{AreZeros}
 
 -- a cycle of a net without inputs, registers and memories
 abbrev pub nothing_given : Given

@@ -3,10 +3,10 @@ use Rattle.std.specs.Prelude.{◌≡◌, ℕ, ◌≤◌, List, All, length, slic
 use Rattle.vl_size.specs.declared.decl.Decl.{Decl}
 use Rattle.vl_size.specs.Table.{IsShaped, AreDifferent, AreApart}
 use Rattle.vl_mean.specs.FlatLaw.{IsKept, all_names_count}
-use Rattle.flow_cells.specs.Numbered.{first_cell}
-use Rattle.vl_points.specs.Points.{past}
-use Rattle.vl_terms.specs.declared.place.Place.{Place}
-use Rattle.vl_terms.specs.declared.place.Place.TheVariants as place
+use Rattle.vl_flow_cells.specs.Numbered.{first_cell}
+use Rattle.vl_lower_nodes.specs.Points.{past}
+use Rattle.vl_lower_expr.specs.declared.place.Place.{Place}
+use Rattle.vl_lower_expr.specs.declared.place.Place.TheVariants as place
 
 -- a vector has a cell, and a memory one for each word
 abbrev pub place_at : Decl → ℕ → Place

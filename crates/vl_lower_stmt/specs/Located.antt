@@ -10,14 +10,15 @@ use Rattle.wn_net.specs.Value.{Given}
 use Rattle.wn_net.specs.Net.{Netlist}
 use Rattle.wn_net.specs.Given.{IsGiven}
 use Rattle.wn_net.specs.Changes.{AddsNodes}
-use Rattle.flow_cells.specs.Numbered.{all_cells}
-use Rattle.vl_puts.specs.declared.spread.BitPlace.{BitPlace}
-use Rattle.vl_puts.specs.Places.{IsPlaceIn, IsAt}
-use Rattle.vl_slots.specs.declared.slot.Holder.{Holder}
-use Rattle.vl_slots.specs.declared.slot.Slot.{Slot}
-use Rattle.vl_slots.specs.Slots.{hits}
-use Rattle.vl_frames.specs.Frames.{Stand, AllSlots, AreSlotsOf, AreWide, IsHolderIn, IsSlotFor, IsSlotOf, is_named}
-use Rattle.vl_frames.specs.Frames.{slots_width}
+use Rattle.vl_flow_cells.specs.Numbered.{all_cells}
+use Rattle.vl_lower_assign.specs.declared.spread.BitPlace.{BitPlace}
+use Rattle.vl_lower_assign.specs.Places.{IsPlaceIn, IsAt}
+use Rattle.vl_lower_assign.specs.declared.slot.Holder.{Holder}
+use Rattle.vl_lower_assign.specs.declared.slot.Slot.{Slot}
+use Rattle.vl_lower_assign.specs.Slots.{hits}
+use Rattle.vl_lower_assign.specs.Frames.{Stand, AllSlots, AreSlotsOf, AreWide, IsHolderIn, IsSlotFor, IsSlotOf}
+use Rattle.vl_lower_assign.specs.Frames.{is_named}
+use Rattle.vl_lower_assign.specs.Frames.{slots_width}
 
 -- each name of a target is declared, and its selects have a size
 abbrev mutual

@@ -16,9 +16,9 @@ use Rattle.vl_mean.specs.Scopes.{Scope}
 use Rattle.wn_net.specs.Value.{Given}
 use Rattle.wn_net.specs.Net.{Netlist, IsNodeOf, value_at}
 use Rattle.wn_net.specs.Given.{IsGiven}
-use Rattle.vl_slots.specs.Slots.{IsPath, is_taken}
-use Rattle.vl_frames.specs.Frames.{Cells, StandsFor, Steps}
-use Rattle.vl_frames.specs.Stored.{arm_stored}
+use Rattle.vl_lower_assign.specs.Slots.{IsPath, is_taken}
+use Rattle.vl_lower_assign.specs.Frames.{Cells, StandsFor, Steps}
+use Rattle.vl_lower_assign.specs.Stored.{arm_stored}
 
 -- ---- what may stand in arms
 

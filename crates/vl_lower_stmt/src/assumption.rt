@@ -11,14 +11,15 @@ ghost use Rattle.wn_net.specs.Value.{Given};
 ghost use Rattle.wn_net.specs.Net.{IsNodeOf, value_at};
 ghost use Rattle.wn_net.specs.Given.{IsGiven};
 ghost use Rattle.wn_net.specs.Changes.{AddsNodes};
-ghost use Rattle.vl_slots.specs.Slots.{IsPath, is_taken};
-ghost use Rattle.vl_frames.specs.Frames.{IsFrame, cells_of};
-ghost use Rattle.vl_steps.specs.Layout.{IsLayout};
-ghost use Rattle.vl_steps.specs.Executes.{Executes};
+ghost use Rattle.vl_lower_assign.specs.Slots.{IsPath, is_taken};
+ghost use Rattle.vl_lower_assign.specs.Frames.{IsFrame, cells_of};
+ghost use Rattle.vl_lower_stmt.specs.Layout.{IsLayout};
+ghost use Rattle.vl_lower_stmt.specs.Executes.{Executes};
 
+use crate::layout::Layout;
+use crate::value::condition;
 use fv_base::Memory;
-use vl_frames::Frame;
-use vl_locate::{Layout, condition};
+use vl_lower_assign::Frame;
 use vl_tree::Expr;
 use wn_net::{Net, NodeId};
 

@@ -10,16 +10,17 @@ ghost use Rattle.vl_size.specs.Size.{or_none, size};
 ghost use Rattle.vl_mean.specs.Execution.{arms_sign, arms_size, labels_sign, labels_size};
 ghost use Rattle.vl_mean.specs.FlatLaw.{flat_scopes};
 ghost use Rattle.vl_mean.specs.Scopes.{operand_in};
-ghost use Rattle.vl_frames.specs.Frames.{AreCellsOf};
-ghost use Rattle.vl_steps.specs.Arms.{AreLedTo, AreSized};
-ghost use Rattle.vl_steps.specs.Executes.{Evaluates};
-ghost use Rattle.vl_steps.specs.Layout.{IsLayout};
+ghost use Rattle.vl_lower_assign.specs.Frames.{AreCellsOf};
+ghost use Rattle.vl_lower_stmt.specs.StepsArms.{AreLedTo, AreSized};
+ghost use Rattle.vl_lower_stmt.specs.Executes.{Evaluates};
+ghost use Rattle.vl_lower_stmt.specs.Layout.{IsLayout};
 
 use crate::labels::CaseWord;
+use crate::layout::Layout;
+use crate::value::number_in;
 use fv_base::Memory;
-use vl_locate::{Layout, number_in};
+use vl_lower_expr::WordType;
 use vl_size::{Decls, self_size, sign_of};
-use vl_terms::WordType;
 use vl_tree::{Arm, CaseKind, Expr};
 use wn_net::{Net, NodeId};
 

@@ -1,16 +1,16 @@
 ghost use Rattle.std.specs.Prelude.{◌≤◌, All, IfOk, OnOk, true};
 ghost use Rattle.vl_mean.specs.FlatLaw.{IsAssigned, IsKept, all_names_count, is_variable};
-ghost use Rattle.vl_frames.specs.Frames.{cells_of, cell_widths};
+ghost use Rattle.vl_lower_assign.specs.Frames.{cells_of, cell_widths};
 ghost use Rattle.wn_net.specs.Changes.{AddsNodes};
-ghost use Rattle.vl_initial.specs.First.{AreFirst, IsZeroFrame};
+ghost use Rattle.vl_lower_stmt.specs.First.{AreFirst, IsZeroFrame};
 
+use crate::layout::{Layout, places_of};
 use crate::number::numbers_of;
 use crate::start::write_start;
 use crate::zeros::zero_cells;
 use fv_base::{List, Memory};
 use std::alloc::Global;
-use vl_frames::Frame;
-use vl_locate::{Layout, places_of};
+use vl_lower_assign::Frame;
 use vl_mean::{Env, Start};
 use vl_size::Decls;
 use wn_net::Net;

@@ -10,15 +10,16 @@ ghost use Rattle.wn_net.specs.Value.{Given};
 ghost use Rattle.wn_net.specs.Net.{IsNode, IsNodeOf, value_at, width_at};
 ghost use Rattle.wn_net.specs.Given.{IsGiven};
 ghost use Rattle.wn_net.specs.Changes.{AddsNodes, Shows};
-ghost use Rattle.vl_frames.specs.Frames.{AreCellsOf};
-ghost use Rattle.vl_steps.specs.Arms.{AreSized, IsNodeOr, number_or};
-ghost use Rattle.vl_steps.specs.Executes.{Matches};
-ghost use Rattle.vl_steps.specs.Layout.{IsLayout};
+ghost use Rattle.vl_lower_assign.specs.Frames.{AreCellsOf};
+ghost use Rattle.vl_lower_stmt.specs.StepsArms.{AreSized, IsNodeOr, number_or};
+ghost use Rattle.vl_lower_stmt.specs.Executes.{Matches};
+ghost use Rattle.vl_lower_stmt.specs.Layout.{IsLayout};
 
+use crate::layout::Layout;
+use crate::value::number_in;
 use fv_base::Memory;
-use vl_locate::{Layout, number_in};
-use vl_nodes::{fit, number};
-use vl_terms::WordType;
+use vl_lower_expr::WordType;
+use vl_lower_nodes::{fit, number};
 use vl_tree::{CaseKind, Expr, ExprKind};
 use wn_net::{Net, NodeId};
 

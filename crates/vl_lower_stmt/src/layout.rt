@@ -3,15 +3,15 @@
 
 ghost use Rattle.std.specs.Prelude.{◌≡◌, ◌≤◌, All, IfOk};
 ghost use Rattle.vl_mean.specs.FlatLaw.{IsKept, all_names_count};
-ghost use Rattle.vl_terms.specs.Bound.{bound};
-ghost use Rattle.vl_steps.specs.Layout as spec;
+ghost use Rattle.vl_lower_expr.specs.Bound.{bound};
+ghost use Rattle.vl_lower_stmt.specs.Layout as spec;
 
-use flow_cells::cell_count;
 use fv_base::{List, Memory};
 use std::alloc::Global;
+use vl_flow_cells::cell_count;
+use vl_lower_expr::{Bindings, Place};
 use vl_mean::Env;
 use vl_size::{Decl, Decls};
-use vl_terms::{Bindings, Place};
 use wn_net::NodeId;
 
 /// The declarations of a design, and in which cells their numbers stand.

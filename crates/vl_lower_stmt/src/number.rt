@@ -3,7 +3,7 @@
 ghost use Rattle.std.specs.Prelude.{◌≡◌, [], IfOk, map};
 ghost use Rattle.wn_net.specs.Net as spec;
 ghost use Rattle.wn_net.specs.Net.{AreNodes, value_at};
-ghost use Rattle.vl_initial.specs.First.{nothing_given};
+ghost use Rattle.vl_lower_stmt.specs.First.{nothing_given};
 
 use fv_base::{List, Memory};
 use std::alloc::Global;

@@ -3,14 +3,15 @@
 
 ghost use Rattle.std.specs.Prelude.{not, IsSome, IfOk};
 ghost use Rattle.vl_size.specs.Size.{size};
-ghost use Rattle.vl_slots.specs.Slots.{IsPath};
-ghost use Rattle.vl_frames.specs.Frames.{AreCellsOf};
-ghost use Rattle.vl_steps.specs.Layout.{IsLayout};
-ghost use Rattle.vl_steps.specs.Executes.{Enters};
+ghost use Rattle.vl_lower_assign.specs.Slots.{IsPath};
+ghost use Rattle.vl_lower_assign.specs.Frames.{AreCellsOf};
+ghost use Rattle.vl_lower_stmt.specs.Layout.{IsLayout};
+ghost use Rattle.vl_lower_stmt.specs.Executes.{Enters};
 
+use crate::layout::Layout;
+use crate::value::condition;
 use fv_base::Memory;
-use vl_locate::{Layout, condition};
-use vl_slots::{path_unless, path_where};
+use vl_lower_assign::{path_unless, path_where};
 use vl_tree::Expr;
 use wn_net::{Net, NodeId};
 

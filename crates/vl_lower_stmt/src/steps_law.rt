@@ -6,9 +6,9 @@ ghost use Rattle.vl_tree.specs.Expr.{Expr};
 ghost use Rattle.vl_tree.specs.Stmt.{Stmt, if_else, stmts};
 ghost use Rattle.vl_size.specs.declared.decl.Decl.{Decl};
 ghost use Rattle.wn_net.specs.Net.{Netlist};
-ghost use Rattle.vl_slots.specs.Slots.{IsPath};
-ghost use Rattle.vl_frames.specs.Frames.{Cells, IsFrame};
-ghost use Rattle.vl_steps.specs.Executes.{Enters, Executes, ExecutesAll};
+ghost use Rattle.vl_lower_assign.specs.Slots.{IsPath};
+ghost use Rattle.vl_lower_assign.specs.Frames.{Cells, IsFrame};
+ghost use Rattle.vl_lower_stmt.specs.Executes.{Enters, Executes, ExecutesAll};
 
 /// Where statements are executed and then one more, all of them are (IEEE 1364-2005, section 9.8.1).
 #[tactic(auto, using(crate::proofs::Branches::all_more))]

@@ -9,16 +9,16 @@ ghost use Rattle.vl_tree.specs.Lval.{lvals};
 ghost use Rattle.vl_size.specs.Size.{or_none, size};
 ghost use Rattle.vl_mean.specs.FlatLaw.{all_target_sizes, flat_scopes, target_size};
 ghost use Rattle.vl_mean.specs.Targets.{all_spots, name_spots, spots};
-ghost use Rattle.vl_frames.specs.Frames.{AllSlots, AreCellsOf, slots_width};
-ghost use Rattle.vl_steps.specs.Layout.{IsLayout};
-ghost use Rattle.vl_steps.specs.Located.{AreSizedTargets, IsLocated, IsSizedTarget, Locates};
+ghost use Rattle.vl_lower_assign.specs.Frames.{AllSlots, AreCellsOf, slots_width};
+ghost use Rattle.vl_lower_stmt.specs.Layout.{IsLayout};
+ghost use Rattle.vl_lower_stmt.specs.Located.{AreSizedTargets, IsLocated, IsSizedTarget, Locates};
 
 use crate::layout::{Layout, names_over};
 use crate::place::slot_in;
 use crate::word::word_slot;
 use fv_base::{List, Memory, Text};
-use vl_slots::{Holder, Slot};
-use vl_terms::{Place, found};
+use vl_lower_assign::{Holder, Slot};
+use vl_lower_expr::{Place, found};
 use vl_tree::{Lval, LvalKind, Select};
 use wn_net::{Net, NodeId};
 

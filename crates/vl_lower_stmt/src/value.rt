@@ -7,13 +7,13 @@ ghost use Rattle.vl_size.specs.Size as spec;
 ghost use Rattle.vl_size.specs.Size.{is_true, or_none, size};
 ghost use Rattle.vl_mean.specs.FlatLaw.{flat_scopes};
 ghost use Rattle.vl_mean.specs.Scopes.{operand_in};
-ghost use Rattle.vl_frames.specs.Frames.{AreCellsOf};
-ghost use Rattle.vl_steps.specs.Layout.{IsLayout};
-ghost use Rattle.vl_steps.specs.Executes.{Evaluates};
+ghost use Rattle.vl_lower_assign.specs.Frames.{AreCellsOf};
+ghost use Rattle.vl_lower_stmt.specs.Layout.{IsLayout};
+ghost use Rattle.vl_lower_stmt.specs.Executes.{Evaluates};
 
 use crate::layout::{Layout, names_over};
 use fv_base::Memory;
-use vl_terms::{WordType, own, term, truth};
+use vl_lower_expr::{WordType, own, term, truth};
 use vl_tree::Expr;
 use wn_net::{Net, NodeId};
 

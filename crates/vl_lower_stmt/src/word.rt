@@ -13,20 +13,20 @@ ghost use Rattle.vl_mean.specs.Scopes.{operand_in};
 ghost use Rattle.vl_mean.specs.Targets.{full_word, word_index, word_spots};
 ghost use Rattle.vl_mean.specs.Targets as targets;
 ghost use Rattle.wn_net.specs.Net.{Netlist};
-ghost use Rattle.vl_frames.specs.Frames.{AreCellsOf};
-ghost use Rattle.vl_steps.specs.Layout.{IsDeclaredAt, IsLayout};
-ghost use Rattle.vl_steps.specs.Located.{IsHeld, IsLocated};
+ghost use Rattle.vl_lower_assign.specs.Frames.{AreCellsOf};
+ghost use Rattle.vl_lower_stmt.specs.Layout.{IsDeclaredAt, IsLayout};
+ghost use Rattle.vl_lower_stmt.specs.Located.{IsHeld, IsLocated};
 
 use crate::layout::{Layout, names_over};
 use crate::place::slot_in;
 use crate::value::own_number;
-use flow_cells::are_fixed;
 use fv_base::Memory;
-use vl_points::address;
+use vl_flow_cells::are_fixed;
+use vl_lower_assign::{Holder, Slot};
+use vl_lower_expr::constant;
+use vl_lower_nodes::address;
 use vl_size::place::word_of;
 use vl_size::{Decl, sign_of};
-use vl_slots::{Holder, Slot};
-use vl_terms::constant;
 use vl_tree::{Expr, Select};
 use wn_net::{Net, NodeId};
 

@@ -3,13 +3,13 @@
 
 ghost use Rattle.std.specs.Prelude.{◌≡◌, ◌≤◌, ◌++◌, All, IfOk, OnOk, replicate};
 ghost use Rattle.vl_mean.specs.FlatLaw.{IsKept};
-ghost use Rattle.vl_frames.specs.Frames.{cell_widths};
+ghost use Rattle.vl_lower_assign.specs.Frames.{cell_widths};
 ghost use Rattle.wn_net.specs.Changes.{AddsNodes};
-ghost use Rattle.vl_initial.specs.Zeros.{AreZeros, PutsZeros};
+ghost use Rattle.vl_lower_stmt.specs.Zeros.{AreZeros, PutsZeros};
 
-use flow_cells::cell_count;
 use fv_base::{Memory, Word};
 use std::alloc::Global;
+use vl_flow_cells::cell_count;
 use vl_size::{Decl, Decls};
 use wn_net::{Net, NodeId};
 

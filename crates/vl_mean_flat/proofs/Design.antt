@@ -7,15 +7,15 @@ use Rattle.vl_mean.specs.Parts.{Part, declares, equation, combinational, clocked
 use Rattle.vl_mean.specs.Runs.{Each}
 use Rattle.vl_mean.specs.Scopes.{Scope}
 use Rattle.vl_mean.specs.Walk.{walk}
-use Rattle.vl_same.specs.Flattened.{decls_of, flattened, PartNames, IsSeen, Known}
-use Rattle.vl_same.specs.Found.{Found}
-use Rattle.vl_same.specs.SameMaps.{AreSameMaps}
-use Rattle.vl_same.specs.StepScopes.{PartScopes}
-use Rattle.vl_same.proofs.FoundNames.{AreScopes, found}
-use Rattle.vl_same.proofs.LaidScopes.{laid_walk}
-use Rattle.vl_same.proofs.NamesMap.{expr_map, target_map, stmt_map}
-use Rattle.vl_same.proofs.SameMaps.{same_holds, same_choices, same_next, same_init, same_run, same_assumed}
-use Rattle.vl_same.proofs.StepParts.{of_steps}
+use Rattle.vl_mean_flat.specs.Flattened.{decls_of, flattened, PartNames, IsSeen, Known}
+use Rattle.vl_mean_flat.specs.Found.{Found}
+use Rattle.vl_mean_flat.specs.SameMaps.{AreSameMaps}
+use Rattle.vl_mean_flat.specs.StepScopes.{PartScopes}
+use Rattle.vl_mean_flat.proofs.FoundNames.{AreScopes, found}
+use Rattle.vl_mean_flat.proofs.LaidScopes.{laid_walk}
+use Rattle.vl_mean_flat.proofs.NamesMap.{expr_map, target_map, stmt_map}
+use Rattle.vl_mean_flat.proofs.SameMaps.{same_holds, same_choices, same_next, same_init, same_run, same_assumed}
+use Rattle.vl_mean_flat.proofs.StepParts.{of_steps}
 
 module _ (es : List Decl) where
   seen_found : (ss : List Scope) → AreScopes es ss → (text : List ℕ) → IsSeen ss text → Found es ss text

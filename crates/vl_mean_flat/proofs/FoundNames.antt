@@ -7,7 +7,7 @@ use Rattle.std.proofs.lemmas.Slice.Eq.{bytes_eq-Decides}
 use Rattle.vl_size.specs.declared.decl.Decl.{Decl}
 use Rattle.vl_size.specs.Table.{is_declared, declared_as}
 use Rattle.vl_mean.specs.Scopes.{Scope, full, visible}
-use Rattle.vl_same.specs.Found.{Found}
+use Rattle.vl_mean_flat.specs.Found.{Found}
 
 -- what a scope with this path declares stands in the design under its full names
 abbrev pub AreOf : List Decl → List ℕ → List Decl → Type 0

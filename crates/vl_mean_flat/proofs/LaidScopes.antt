@@ -53,10 +53,10 @@ use Rattle.vl_mean.specs.Walk.{port_step, optional_name, port_steps, use_of, con
 use Rattle.vl_mean.specs.Walk.{connection_steps, with_module, turn_place, turns, goes_on, next_turn, first_turn}
 use Rattle.vl_mean.specs.Walk.{loop_turns, turn_path, block_place, block_path, single_number, item_steps, items_steps}
 use Rattle.vl_mean.specs.Walk.{turn_steps, block_steps, unfolded, walk}
-use Rattle.vl_same.specs.Flattened.{decls_of}
-use Rattle.vl_same.specs.StepScopes.{StepScopes}
-use Rattle.vl_same.proofs.EachOf.{both, front, back}
-use Rattle.vl_same.proofs.FoundNames.{AreOf, AreScopes}
+use Rattle.vl_mean_flat.specs.Flattened.{decls_of}
+use Rattle.vl_mean_flat.specs.StepScopes.{StepScopes}
+use Rattle.vl_mean_flat.proofs.EachOf.{both, front, back}
+use Rattle.vl_mean_flat.proofs.FoundNames.{AreOf, AreScopes}
 
 pub decls_append : (ps qs : List Part) → decls_of (ps ++ qs) ≡ decls_of ps ++ decls_of qs
 decls_append [] qs = refl

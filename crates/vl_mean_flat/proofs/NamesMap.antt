@@ -40,8 +40,8 @@ use Rattle.vl_tree.specs.Stmt.{
 }
 use Rattle.vl_mean.specs.Constants.{settled, settled_selects}
 use Rattle.vl_mean.specs.Scopes.{Scope, constant_in}
-use Rattle.vl_same.specs.Names.{Names, AllNames, SelectsNames, ExprNames, ExprsNames, TargetNames, TargetsNames}
-use Rattle.vl_same.specs.Names.{StmtNames, StmtsNames, ArmsNames}
+use Rattle.vl_mean_flat.specs.Names.{Names, AllNames, SelectsNames, ExprNames, ExprsNames, TargetNames, TargetsNames}
+use Rattle.vl_mean_flat.specs.Names.{StmtNames, StmtsNames, ArmsNames}
 
 module _ {P Q : List ℕ → Type 0} (f : (text : List ℕ) → P text → Q text) where
   mutual

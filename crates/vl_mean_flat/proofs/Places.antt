@@ -48,8 +48,8 @@ use Rattle.vl_mean.specs.Walk.{turn_place}
 use Rattle.vl_mean.specs.Walk.{no_contents, turns, goes_on, next_turn, first_turn, turn_path, block_place}
 use Rattle.vl_mean.specs.Walk.{block_path, single_number, item_steps, items_steps, turn_steps, block_steps}
 use Rattle.vl_mean.specs.Walk.{module_contents}
-use Rattle.vl_placed.specs.DriverPlaces.{places_of_step, places_of_steps}
-use Rattle.vl_placed.specs.Seen.{beside, inner, parts_of_seen, places_of_seen, seen_step, seen_steps}
+use Rattle.vl_mean_flat.specs.DriverPlaces.{places_of_step, places_of_steps}
+use Rattle.vl_mean_flat.specs.Seen.{beside, inner, parts_of_seen, places_of_seen, seen_step, seen_steps}
 
 seen_append : (xs ys : List Step) → seen_steps (xs ++ ys) ≡ seen_steps xs ++ seen_steps ys
 seen_append xs ys = map-append seen_step xs ys

@@ -32,9 +32,9 @@ use Rattle.vl_size.specs.Size.{is_true, index_of, own, offset_of, start_of, bit_
 use Rattle.vl_size.specs.Size.{unary_number, binary_number, copies, size, sizes, vector_size, word_size, value}
 use Rattle.vl_size.specs.Size.{concatenated, vector_value, word_value}
 use Rattle.vl_size.specs.Table.{span, is_between}
-use Rattle.vl_same.specs.Found.{IsFound}
-use Rattle.vl_same.specs.FullNames.{renamed, renamed_exprs, renamed_selects}
-use Rattle.vl_same.specs.Names.{Names, AllNames, SelectsNames}
+use Rattle.vl_mean_flat.specs.Found.{IsFound}
+use Rattle.vl_mean_flat.specs.FullNames.{renamed, renamed_exprs, renamed_selects}
+use Rattle.vl_mean_flat.specs.Names.{Names, AllNames, SelectsNames}
 
 module _ (f : List ℕ → List ℕ) where
   -- ---- constants stay constants

@@ -16,12 +16,13 @@ use Rattle.vl_mean.specs.Runs.{Each, OnlyIf, EachBit, Meets, EachDeclared, Agree
 use Rattle.vl_mean.specs.Runs.{Holds, is_driven, is_assigned, is_chosen, ChoosesAlike, Clocks, Keeps, PartSteps, Next}
 use Rattle.vl_mean.specs.Runs.{initial_writes, last_value, Begins, PartBegins, Init, ResetIs, HasReset, OnceIs}
 use Rattle.vl_mean.specs.Runs.{KeepsOnce, IsRun, PartAssumes, IsAssumed}
-use Rattle.vl_same.specs.Flattened.{decls_of, flat_part, flat_decls, flat_drivers, flat_starts, flattened, PartNames}
-use Rattle.vl_same.specs.Found.{Found}
-use Rattle.vl_same.specs.SameMaps.{Iff}
-use Rattle.vl_same.proofs.EachOf.{each_map, first_map, rest_map, neighbours_map, both, front, back}
-use Rattle.vl_same.proofs.SameStmt.{same_assigned, same_exec, same_assigns}
-use Rattle.vl_same.proofs.Started.{same_start}
+use Rattle.vl_mean_flat.specs.Flattened.{decls_of, flat_part, flat_decls, flat_drivers, flat_starts, flattened}
+use Rattle.vl_mean_flat.specs.Flattened.{PartNames}
+use Rattle.vl_mean_flat.specs.Found.{Found}
+use Rattle.vl_mean_flat.specs.SameMaps.{Iff}
+use Rattle.vl_mean_flat.proofs.EachOf.{each_map, first_map, rest_map, neighbours_map, both, front, back}
+use Rattle.vl_mean_flat.proofs.SameStmt.{same_assigned, same_exec, same_assigns}
+use Rattle.vl_mean_flat.proofs.Started.{same_start}
 
 same_iff : (A : Type 0) → Iff A A
 same_iff A = (λ x. x, λ x. x)

@@ -54,10 +54,10 @@ use Rattle.vl_mean.specs.Scopes.{Scope, full, constant_in, operand_in, no_values
 use Rattle.vl_mean.specs.Targets.{written, put_all}
 use Rattle.vl_mean.specs.Execution.{State, wild_bits, assigned, labels_size, labels_sign, arms_size, arms_sign}
 use Rattle.vl_mean.specs.Execution.{matches, exec, exec_all, pick, otherwise, assigns, any_assigns, arms_assign}
-use Rattle.vl_same.specs.Found.{Found}
-use Rattle.vl_same.specs.FullNames.{renamed, flat_expr, flat_exprs, flat_lval, flat_stmt, flat_stmts, flat_arms}
-use Rattle.vl_same.specs.Names.{ExprNames, ExprsNames, TargetNames, StmtNames, StmtsNames, ArmsNames}
-use Rattle.vl_same.proofs.SameTarget.{same_operand_in, same_spots, same_may_change}
+use Rattle.vl_mean_flat.specs.Found.{Found}
+use Rattle.vl_mean_flat.specs.FullNames.{renamed, flat_expr, flat_exprs, flat_lval, flat_stmt, flat_stmts, flat_arms}
+use Rattle.vl_mean_flat.specs.Names.{ExprNames, ExprsNames, TargetNames, StmtNames, StmtsNames, ArmsNames}
+use Rattle.vl_mean_flat.proofs.SameTarget.{same_operand_in, same_spots, same_may_change}
 
 -- ---- wild bits: those of a number, which stays; a constant has none
 

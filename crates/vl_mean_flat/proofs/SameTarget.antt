@@ -35,10 +35,10 @@ use Rattle.vl_mean.specs.Scopes.{operand_in, no_values}
 use Rattle.vl_mean.specs.Targets.{spots_from, word_index, full_word, spots_of, is_decl, has_spot, vector_spots}
 use Rattle.vl_mean.specs.Targets.{word_spots, name_spots, spots, all_spots, are_fixed, name_may_change, may_change}
 use Rattle.vl_mean.specs.Targets.{any_may_change}
-use Rattle.vl_same.specs.Found.{Found}
-use Rattle.vl_same.specs.FullNames.{flat_expr, flat_selects, flat_lval, flat_lvals}
-use Rattle.vl_same.specs.Names.{SelectsNames, ExprNames, TargetNames, TargetsNames}
-use Rattle.vl_same.proofs.SameExpr.{same_constant, same_operand}
+use Rattle.vl_mean_flat.specs.Found.{Found}
+use Rattle.vl_mean_flat.specs.FullNames.{flat_expr, flat_selects, flat_lval, flat_lvals}
+use Rattle.vl_mean_flat.specs.Names.{SelectsNames, ExprNames, TargetNames, TargetsNames}
+use Rattle.vl_mean_flat.proofs.SameExpr.{same_constant, same_operand}
 
 -- ---- without constants nothing is settled
 

@@ -15,11 +15,11 @@ use Rattle.vl_mean.specs.Scopes.{Scope, operand_in, no_values}
 use Rattle.vl_mean.specs.Targets.{Spot, spots, written, bit_of}
 use Rattle.vl_mean.specs.Execution.{assigned}
 use Rattle.vl_mean.specs.Parts.{here}
-use Rattle.vl_same.specs.Found.{Found}
-use Rattle.vl_same.specs.FullNames.{flat_lval}
-use Rattle.vl_same.specs.Flattened.{start_width, start_value}
-use Rattle.vl_same.specs.Names.{TargetNames}
-use Rattle.vl_same.proofs.SameTarget.{same_spots}
+use Rattle.vl_mean_flat.specs.Found.{Found}
+use Rattle.vl_mean_flat.specs.FullNames.{flat_lval}
+use Rattle.vl_mean_flat.specs.Flattened.{start_width, start_value}
+use Rattle.vl_mean_flat.specs.Names.{TargetNames}
+use Rattle.vl_mean_flat.proofs.SameTarget.{same_spots}
 
 -- a bit below the cut
 low_part : (x j k : ℕ) → x % 2 ^ (j + k) / 2 ^ k ≡ x / 2 ^ k % 2 ^ j

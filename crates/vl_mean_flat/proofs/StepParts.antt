@@ -23,8 +23,8 @@ use Rattle.vl_mean.specs.Parts.{port_part, item_parts, step_parts, parts_of_step
 use Rattle.vl_mean.specs.Runs.{Each}
 use Rattle.vl_mean.specs.Scopes.{Scope, is_clock}
 use Rattle.vl_mean.specs.Walk.{Place, Step, header, port, item, override, connection}
-use Rattle.vl_same.specs.StepScopes.{StepScopes, PartScopes}
-use Rattle.vl_same.proofs.EachOf.{both}
+use Rattle.vl_mean_flat.specs.StepScopes.{StepScopes, PartScopes}
+use Rattle.vl_mean_flat.proofs.EachOf.{both}
 
 module _ (P : List Scope → Type 0) where
   abbrev Of : List Part → Type 0

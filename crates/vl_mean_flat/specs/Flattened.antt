@@ -11,8 +11,8 @@ use Rattle.vl_mean.specs.FlatLaw.{flat_scopes}
 use Rattle.vl_mean.specs.Parts.{Part, declares, equation, combinational, clocked, starts, here}
 use Rattle.vl_mean.specs.Scopes.{Scope, visible, operand_in, no_values}
 use Rattle.vl_mean.specs.Targets.{spots}
-use Rattle.vl_same.specs.FullNames.{flat_expr, flat_lval, flat_stmt}
-use Rattle.vl_same.specs.Names.{ExprNames, TargetNames, StmtNames}
+use Rattle.vl_mean_flat.specs.FullNames.{flat_expr, flat_lval, flat_stmt}
+use Rattle.vl_mean_flat.specs.Names.{ExprNames, TargetNames, StmtNames}
 
 abbrev pub decls_of : List Part → List Decl
 decls_of [] = []

@@ -6,7 +6,7 @@ use Rattle.vl_tree.specs.declared.source.Module.{Module}
 use Rattle.vl_mean.specs.Parts.{Part, step_parts}
 use Rattle.vl_mean.specs.Scopes.{Scope}
 use Rattle.vl_mean.specs.Walk.{Contents, Place, Step, Unfolding, header, port, item, override, connection, unfolded}
-use Rattle.vl_placed.specs.DriverPlaces.{places_of_step}
+use Rattle.vl_mean_flat.specs.DriverPlaces.{places_of_step}
 
 pub record Seen : Type 0 where
   pub parts : List Part

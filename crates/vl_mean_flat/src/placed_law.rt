@@ -4,8 +4,8 @@ ghost use Rattle.vl_tree.specs.Item.{Item, Items};
 ghost use Rattle.vl_tree.specs.declared.source.Module.{Module};
 ghost use Rattle.vl_mean.specs.Parts.{parts_of_steps};
 ghost use Rattle.vl_mean.specs.Walk.{Contents, Place, Step, item_steps, items_steps};
-ghost use Rattle.vl_placed.specs.DriverPlaces.{places_of_steps};
-ghost use Rattle.vl_placed.specs.Seen.{beside, inner, parts_of_seen, places_of_seen, seen_steps};
+ghost use Rattle.vl_mean_flat.specs.DriverPlaces.{places_of_steps};
+ghost use Rattle.vl_mean_flat.specs.Seen.{beside, inner, parts_of_seen, places_of_seen, seen_steps};
 
 /// What scopes are made from, the names that are declared before an item and the modules that it stands in change
 /// neither the parts of its steps, nor the places of the drivers among these, nor the scopes in which their names are

@@ -2,8 +2,8 @@
 ghost use Rattle.std.specs.Prelude.{ℕ, List};
 ghost use Rattle.vl_mean.specs.Parts.{design};
 ghost use Rattle.vl_mean.specs.Runs.{Each};
-ghost use Rattle.vl_same.specs.Flattened.{decls_of, flattened, Known};
-ghost use Rattle.vl_same.specs.SameMaps.{AreSameMaps};
+ghost use Rattle.vl_mean_flat.specs.Flattened.{decls_of, flattened, Known};
+ghost use Rattle.vl_mean_flat.specs.SameMaps.{AreSameMaps};
 ghost use Rattle.vl_size.specs.Table.{AreDifferent};
 ghost use Rattle.vl_tree.specs.declared.source.Module.{Module};
 

@@ -11,17 +11,17 @@ use Rattle.vl_tree.specs.declared.declaration.NetKind.TheVariants as n
 use Rattle.vl_tree.specs.declared.declaration.ParameterKind.{ParameterKind}
 use Rattle.vl_tree.specs.declared.declaration.ParameterKind.TheVariants as p
 use Rattle.vl_tree.specs.DeclarationSpelling.{net_word, parameter_word}
-use Rattle.vl_grammar.specs.Machine.{syntax, deep, then}
-use Rattle.vl_grammar.specs.Machine as machine
-use Rattle.vl_grammar.specs.Grammar.{read, read_all, sign, name, shape}
-use Rattle.vl_grammar.specs.Grammar.{declared_name, declared_names, names, parameters, parameter, assignment}
-use Rattle.vl_grammar.specs.Grammar.{assignments, stmt, initial_stmt, item, event, overrides}
-use Rattle.vl_plain.specs.declared.plain.ItemLead.TheVariants as lead
-use Rattle.vl_plain.specs.ItemLead.{item_lead_of}
-use Rattle.vl_take.specs.Next.{behind_name}
-use Rattle.vl_take.specs.Parts.{list_row}
-use Rattle.vl_take.proofs.Tokens.{name_here}
-use Rattle.vl_plain.proofs.PlainRows.{item_wire, item_reg, item_always, item_initial, item_name}
+use Rattle.vl_parse_grammar.specs.Machine.{syntax, deep, then}
+use Rattle.vl_parse_grammar.specs.Machine as machine
+use Rattle.vl_parse_grammar.specs.Grammar.{read, read_all, sign, name, shape}
+use Rattle.vl_parse_grammar.specs.Grammar.{declared_name, declared_names, names, parameters, parameter, assignment}
+use Rattle.vl_parse_grammar.specs.Grammar.{assignments, stmt, initial_stmt, item, event, overrides}
+use Rattle.vl_parse.specs.declared.plain.ItemLead.TheVariants as lead
+use Rattle.vl_parse.specs.ItemLead.{item_lead_of}
+use Rattle.vl_parse_cursor.specs.Next.{behind_name}
+use Rattle.vl_parse_cursor.specs.Parts.{list_row}
+use Rattle.vl_parse_cursor.proofs.Tokens.{name_here}
+use Rattle.vl_parse.proofs.PlainRows.{item_wire, item_reg, item_always, item_initial, item_name}
 
 pub kind_integer : (t : Kind) → item_lead_of t ≡ lead.Integer → t ≡ k.Keyword w.Integer
 kind_integer (k.Keyword w.Integer) h = refl

@@ -5,14 +5,14 @@ use Rattle.fv_base.specs.declared.kind.Kind.{Kind}
 use Rattle.fv_base.specs.declared.kind.Kind.TheVariants as k
 use Rattle.fv_base.specs.declared.keyword.Keyword.TheVariants as w
 use Rattle.fv_base.specs.declared.symbol.Symbol.TheVariants as s
-use Rattle.vl_grammar.specs.Machine as machine
-use Rattle.vl_grammar.specs.Machine.{pop, bad, syntax, deep, then}
-use Rattle.vl_grammar.specs.Grammar.{endgenerate, end, expand, read, name, in_parens}
-use Rattle.vl_grammar.specs.Grammar.{item, items, loop_head, generate_block}
-use Rattle.vl_grammar.specs.Grammar.{generate_block_label, generate_otherwise}
-use Rattle.vl_region.proofs.ItemsRows.{item_empty}
-use Rattle.vl_take.specs.Next.{IsOther}
-use Rattle.vl_take.specs.Parts.{row_read, row_deep, row_bad, same_row}
+use Rattle.vl_parse_grammar.specs.Machine as machine
+use Rattle.vl_parse_grammar.specs.Machine.{pop, bad, syntax, deep, then}
+use Rattle.vl_parse_grammar.specs.Grammar.{endgenerate, end, expand, read, name, in_parens}
+use Rattle.vl_parse_grammar.specs.Grammar.{item, items, loop_head, generate_block}
+use Rattle.vl_parse_grammar.specs.Grammar.{generate_block_label, generate_otherwise}
+use Rattle.vl_parse.proofs.ItemsRows.{item_empty}
+use Rattle.vl_parse_cursor.specs.Next.{IsOther}
+use Rattle.vl_parse_cursor.specs.Parts.{row_read, row_deep, row_bad, same_row}
 
 pub item_generate : (n : ℕ) (ts : List Kind) → read item n (k.Keyword w.Generate ∷ ts) ≡ read (items endgenerate) n ts
 item_generate n ts = row_read item n (k.Keyword w.Generate) ts 0 _ refl (omega arith)

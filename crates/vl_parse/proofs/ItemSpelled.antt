@@ -11,8 +11,8 @@ use Rattle.vl_tree.specs.Expr.{Expr}
 use Rattle.vl_tree.specs.ExprSpelling as expr
 use Rattle.vl_tree.specs.Item.{Items, Block, region, for_loop, if_only, if_else}
 use Rattle.vl_tree.specs.ItemSpelling.{spell, spell_all, spell_block, spell_head}
-use Rattle.vl_region.specs.Items.{LeavesElse}
-use Rattle.vl_take.specs.Next.{IsOther}
+use Rattle.vl_parse.specs.Items.{LeavesElse}
+use Rattle.vl_parse_cursor.specs.Next.{IsOther}
 
 pub region_found : (xs : Items) (p : Pos) (start tokens rest : List Token) → BeginsAt p start
     → Spells (word w.Generate) start tokens

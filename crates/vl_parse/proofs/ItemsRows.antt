@@ -5,14 +5,14 @@ use Rattle.fv_base.specs.declared.kind.Kind.{Kind}
 use Rattle.fv_base.specs.declared.kind.Kind.TheVariants as k
 use Rattle.fv_base.specs.declared.keyword.Keyword.TheVariants as w
 use Rattle.fv_base.specs.declared.symbol.Symbol.TheVariants as s
-use Rattle.vl_grammar.specs.Machine as machine
-use Rattle.vl_grammar.specs.Machine.{pop, syntax, then}
-use Rattle.vl_grammar.specs.Grammar.{endmodule, endgenerate, end, many, expand, read, item, items, on_item}
-use Rattle.vl_region.specs.declared.reading.Ending as block
-use Rattle.vl_region.specs.declared.reading.Ending.TheVariants as e
-use Rattle.vl_region.specs.Items.{word_of, ending_of}
-use Rattle.vl_take.specs.Next.{IsOther}
-use Rattle.vl_take.specs.Parts.{row_read, many_read}
+use Rattle.vl_parse_grammar.specs.Machine as machine
+use Rattle.vl_parse_grammar.specs.Machine.{pop, syntax, then}
+use Rattle.vl_parse_grammar.specs.Grammar.{endmodule, endgenerate, end, many, expand, read, item, items, on_item}
+use Rattle.vl_parse.specs.declared.reading.Ending as block
+use Rattle.vl_parse.specs.declared.reading.Ending.TheVariants as e
+use Rattle.vl_parse.specs.Items.{word_of, ending_of}
+use Rattle.vl_parse_cursor.specs.Next.{IsOther}
+use Rattle.vl_parse_cursor.specs.Parts.{row_read, many_read}
 
 pub items_end : (e : block.Ending) (n : ℕ) (ts : List Kind)
     → read (items (ending_of e)) n (k.Keyword (word_of e) ∷ ts) ≡ Ok ts

@@ -20,15 +20,15 @@ use Rattle.vl_tree.specs.declared.item.RegionMark.TheVariants as mark
 use Rattle.vl_tree.specs.declared.item.ItemKind.{ItemKind}
 use Rattle.vl_tree.specs.declared.item.ItemKind.TheVariants as kind
 use Rattle.vl_tree.specs.ItemView.{shown}
-use Rattle.vl_grammar.proofs.Regions.{some_none}
-use Rattle.vl_grammar.specs.Machine.{then}
-use Rattle.vl_grammar.specs.Grammar as grammar
-use Rattle.vl_grammar.specs.Grammar.{Outcome, read}
-use Rattle.vl_region.specs.declared.reading.Ending.{Ending}
-use Rattle.vl_region.specs.declared.reading.Ending.TheVariants as e
-use Rattle.vl_region.specs.Items.{word_of, ending_of, innermost, still, AreOpen, LeavesElse, with_attributes}
-use Rattle.vl_take.specs.Next.{IsOther}
-use Rattle.vl_region.proofs.ItemsRows.{items_end, items_more}
+use Rattle.vl_parse_grammar.proofs.Regions.{some_none}
+use Rattle.vl_parse_grammar.specs.Machine.{then}
+use Rattle.vl_parse_grammar.specs.Grammar as grammar
+use Rattle.vl_parse_grammar.specs.Grammar.{Outcome, read}
+use Rattle.vl_parse.specs.declared.reading.Ending.{Ending}
+use Rattle.vl_parse.specs.declared.reading.Ending.TheVariants as e
+use Rattle.vl_parse.specs.Items.{word_of, ending_of, innermost, still, AreOpen, LeavesElse, with_attributes}
+use Rattle.vl_parse_cursor.specs.Next.{IsOther}
+use Rattle.vl_parse.proofs.ItemsRows.{items_end, items_more}
 
 -- trees
 

@@ -4,11 +4,11 @@ use Rattle.std.specs.Prelude.{Ok, Err}
 use Rattle.fv_base.specs.declared.kind.Kind.{Kind}
 use Rattle.fv_base.specs.declared.kind.Kind.TheVariants as k
 use Rattle.fv_base.specs.declared.keyword.Keyword.TheVariants as w
-use Rattle.vl_grammar.specs.Machine as machine
-use Rattle.vl_grammar.specs.Machine.{bad, syntax, then}
-use Rattle.vl_grammar.specs.Grammar.{endmodule, expand, read, name, items, modules, module_head}
-use Rattle.vl_take.specs.Next.{IsOther}
-use Rattle.vl_take.specs.Parts.{row_read, row_bad}
+use Rattle.vl_parse_grammar.specs.Machine as machine
+use Rattle.vl_parse_grammar.specs.Machine.{bad, syntax, then}
+use Rattle.vl_parse_grammar.specs.Grammar.{endmodule, expand, read, name, items, modules, module_head}
+use Rattle.vl_parse_cursor.specs.Next.{IsOther}
+use Rattle.vl_parse_cursor.specs.Parts.{row_read, row_bad}
 
 pub module_row : (n : ℕ) (ts : List Kind)
     → read modules n (k.Keyword w.Module ∷ ts) ≡

@@ -4,10 +4,10 @@ use Rattle.fv_base.specs.declared.kind.Kind.{Kind}
 use Rattle.fv_base.specs.declared.kind.Kind.TheVariants as k
 use Rattle.fv_base.specs.declared.keyword.Keyword.TheVariants as w
 use Rattle.fv_base.specs.declared.symbol.Symbol.TheVariants as s
-use Rattle.vl_grammar.specs.Machine.{then}
-use Rattle.vl_grammar.specs.Grammar.{read, sign, name, expr, target, shape, declared_name, declared_names, names}
-use Rattle.vl_grammar.specs.Grammar.{parameters, assignments, stmt, initial_stmt, item, event, overrides}
-use Rattle.vl_take.specs.Parts.{row_read}
+use Rattle.vl_parse_grammar.specs.Machine.{then}
+use Rattle.vl_parse_grammar.specs.Grammar.{read, sign, name, expr, target, shape, declared_name, declared_names, names}
+use Rattle.vl_parse_grammar.specs.Grammar.{parameters, assignments, stmt, initial_stmt, item, event, overrides}
+use Rattle.vl_parse_cursor.specs.Parts.{row_read}
 
 pub item_wire : (n : ℕ) (ts : List Kind)
     → read item n (k.Keyword w.Wire ∷ ts) ≡ then (read shape n ts)

@@ -6,15 +6,15 @@ use Rattle.vl_tree.specs.declared.source.Source.{Source}
 use Rattle.vl_tree.specs.ItemSpelling.{spell_source}
 use Rattle.vl_tree.specs.Phrase.{Spells, kinds_of}
 use Rattle.vl_tree.specs.WellFormed.{IsSource}
-use Rattle.vl_grammar.specs.Machine.{Fault, syntax, deep}
-use Rattle.vl_grammar.specs.Grammar.{run}
-use Rattle.vl_grammar.specs.Depth.{too_deep_at, unless_too_deep, IsTooDeep}
-use Rattle.vl_grammar.specs.Text.{IsFaulty}
-use Rattle.vl_grammar.proofs.FirstFault.{faulty}
-use Rattle.vl_grammar.proofs.TooDeep.{too_deep}
-use Rattle.vl_grammar.proofs.OneFault.{only_syntax, only_deep}
-use Rattle.vl_grammar.proofs.OneSource.{one_source}
-use Rattle.vl_grammar.proofs.Spelled.{spelled_run}
+use Rattle.vl_parse_grammar.specs.Machine.{Fault, syntax, deep}
+use Rattle.vl_parse_grammar.specs.Grammar.{run}
+use Rattle.vl_parse_grammar.specs.Depth.{too_deep_at, unless_too_deep, IsTooDeep}
+use Rattle.vl_parse_grammar.specs.Text.{IsFaulty}
+use Rattle.vl_parse_grammar.proofs.FirstFault.{faulty}
+use Rattle.vl_parse_grammar.proofs.TooDeep.{too_deep}
+use Rattle.vl_parse_grammar.proofs.OneFault.{only_syntax, only_deep}
+use Rattle.vl_parse_grammar.proofs.OneSource.{one_source}
+use Rattle.vl_parse_grammar.proofs.Spelled.{spelled_run}
 use Rattle.vl_parse.specs.declared.fault.ParseFault.{ParseFault}
 use Rattle.vl_parse.specs.declared.fault.ParseFault.TheVariants as f
 use Rattle.vl_parse.specs.Faults.{Answers, IsMemoryOr, wrong_token, deep_fault}

@@ -7,11 +7,11 @@ use Rattle.vl_tree.specs.declared.source.Module.{Module}
 use Rattle.vl_tree.specs.Phrase.{Spells, each}
 use Rattle.vl_tree.specs.ItemSpelling.{spell_module, spell_modules}
 use Rattle.vl_tree.specs.WellFormed.{IsModule, HasPlace}
-use Rattle.vl_grammar.specs.Grammar.{read, modules}
-use Rattle.vl_take.specs.Next.{kinds_in}
+use Rattle.vl_parse_grammar.specs.Grammar.{read, modules}
+use Rattle.vl_parse_cursor.specs.Next.{kinds_in}
 use Rattle.vl_parse.specs.Sources.{IsStart}
 use Rattle.vl_parse.proofs.ModuleRows.{modules_end}
-use Rattle.vl_part.proofs.ListLaws.{all_pushed}
+use Rattle.vl_parse_decl.proofs.ListLaws.{all_pushed}
 
 pub modules_pushed : (ms : List Module) (x : Module) (start middle rest : List Token)
     → Spells (each spell_module ms) start middle

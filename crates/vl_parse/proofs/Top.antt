@@ -6,13 +6,13 @@ use Rattle.fv_base.specs.declared.pos.Pos.{Pos}
 use Rattle.fv_base.specs.declared.token.Token.{Token}
 use Rattle.vl_tree.specs.declared.source.Source.{Source}
 use Rattle.vl_tree.specs.Phrase.{kinds_of}
-use Rattle.vl_grammar.specs.Machine.{Fault, then}
-use Rattle.vl_grammar.specs.Grammar.{expand, ends, read, modules, run, start}
-use Rattle.vl_grammar.proofs.InParts as parts
+use Rattle.vl_parse_grammar.specs.Machine.{Fault, then}
+use Rattle.vl_parse_grammar.specs.Grammar.{expand, ends, read, modules, run, start}
+use Rattle.vl_parse_grammar.proofs.InParts as parts
 use Rattle.vl_parse.specs.declared.fault.ParseFault.{ParseFault}
 use Rattle.vl_parse.specs.declared.fault.ParseFault.TheVariants as f
 use Rattle.vl_parse.specs.Faults.{Answers, IsMemoryOr, fault_of, deep_fault, token_at, place_at, named_at}
-use Rattle.vl_take.specs.Next.{kinds_in}
+use Rattle.vl_parse_cursor.specs.Next.{kinds_in}
 
 kinds_same : (ts : List Token) → kinds_of ts ≡ kinds_in ts
 kinds_same [] = refl

@@ -28,9 +28,9 @@ use Rattle.fv_base.specs.declared.symbol.Symbol.TheVariants as s
 use Rattle.fv_base.specs.declared.token.Token.{Token}
 use Rattle.vl_tree.specs.declared.source.Source.{Source}
 use Rattle.vl_tree.specs.declared.operator.Cast.{Cast}
-use Rattle.vl_grammar.specs.Machine.{Fault, syntax, deep}
-use Rattle.vl_grammar.specs.Operators.{cast_of}
-use Rattle.vl_grammar.specs.Grammar.{is_known}
+use Rattle.vl_parse_grammar.specs.Machine.{Fault, syntax, deep}
+use Rattle.vl_parse_grammar.specs.Operators.{cast_of}
+use Rattle.vl_parse_grammar.specs.Grammar.{is_known}
 use Rattle.vl_parse.specs.declared.fault.ParseFault.{ParseFault}
 use Rattle.vl_parse.specs.declared.fault.ParseFault.TheVariants as f
 

@@ -6,8 +6,8 @@ use Rattle.fv_base.specs.declared.keyword.Keyword.{Keyword}
 use Rattle.fv_base.specs.declared.keyword.Keyword.TheVariants as w
 use Rattle.vl_tree.specs.declared.declaration.NetKind.TheVariants as n
 use Rattle.vl_tree.specs.declared.declaration.ParameterKind.TheVariants as p
-use Rattle.vl_plain.specs.declared.plain.ItemLead.{ItemLead}
-use Rattle.vl_plain.specs.declared.plain.ItemLead.TheVariants as lead
+use Rattle.vl_parse.specs.declared.plain.ItemLead.{ItemLead}
+use Rattle.vl_parse.specs.declared.plain.ItemLead.TheVariants as lead
 
 abbrev pub item_lead_of_word : Keyword → ItemLead
 item_lead_of_word w.Wire = lead.Net n.Wire

@@ -14,14 +14,14 @@ use Rattle.vl_tree.specs.ItemSpelling.{spell, spell_all}
 use Rattle.vl_tree.specs.WellFormed.{mark_of, open_behind, IsWellFormed, AreWellFormed}
 use Rattle.vl_tree.specs.Item.{Item, items, declaration, integer, genvar, parameter, assign, always, initial}
 use Rattle.vl_tree.specs.Item.{instance, generate, for_loop, if_only, if_else}
-use Rattle.vl_grammar.specs.Machine.{then}
-use Rattle.vl_grammar.specs.Grammar as grammar
-use Rattle.vl_region.specs.declared.reading.Ending.{Ending}
-use Rattle.vl_region.specs.declared.reading.Ending.TheVariants as e
-use Rattle.vl_region.specs.declared.reading.Front.{Front}
-use Rattle.vl_region.specs.declared.reading.Front.TheVariants as f
-use Rattle.vl_region.specs.declared.reading.Reading.{Reading}
-use Rattle.vl_take.specs.Next.{IsOther}
+use Rattle.vl_parse_grammar.specs.Machine.{then}
+use Rattle.vl_parse_grammar.specs.Grammar as grammar
+use Rattle.vl_parse.specs.declared.reading.Ending.{Ending}
+use Rattle.vl_parse.specs.declared.reading.Ending.TheVariants as e
+use Rattle.vl_parse.specs.declared.reading.Front.{Front}
+use Rattle.vl_parse.specs.declared.reading.Front.TheVariants as f
+use Rattle.vl_parse.specs.declared.reading.Reading.{Reading}
+use Rattle.vl_parse_cursor.specs.Next.{IsOther}
 
 abbrev pub word_of : Ending → Keyword
 word_of e.Endmodule = w.Endmodule

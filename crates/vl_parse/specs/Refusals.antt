@@ -6,8 +6,8 @@ use Rattle.vl_tree.specs.declared.source.Source.{Source}
 use Rattle.vl_tree.specs.ItemSpelling.{spell_source}
 use Rattle.vl_tree.specs.Phrase.{Spells, kinds_of}
 use Rattle.vl_tree.specs.WellFormed.{IsSource}
-use Rattle.vl_grammar.specs.Depth.{too_deep_at, IsTooDeep}
-use Rattle.vl_grammar.specs.Text.{IsFaulty}
+use Rattle.vl_parse_grammar.specs.Depth.{too_deep_at, IsTooDeep}
+use Rattle.vl_parse_grammar.specs.Text.{IsFaulty}
 use Rattle.vl_parse.specs.declared.fault.ParseFault.{ParseFault}
 use Rattle.vl_parse.specs.declared.fault.ParseFault.TheVariants as f
 use Rattle.vl_parse.specs.Faults.{wrong_token, deep_fault, IsMemoryOr}

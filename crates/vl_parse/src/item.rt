@@ -26,24 +26,24 @@ ghost use Rattle.vl_tree.specs.ItemSpelling as spec;
 ghost use Rattle.vl_tree.specs.StmtSpelling.{spell_label};
 ghost use Rattle.vl_tree.specs.StmtWellFormed.{IsOptionalName};
 ghost use Rattle.vl_tree.specs.WellFormed as formed;
-ghost use Rattle.vl_grammar.specs.Machine.{then};
-ghost use Rattle.vl_grammar.specs.Grammar as grammar;
-ghost use Rattle.vl_take.specs.Goes.{Goes, IsMemory};
-ghost use Rattle.vl_take.specs.Next.{kinds_in, IsOther};
-ghost use Rattle.vl_region.specs.Items as items;
+ghost use Rattle.vl_parse_grammar.specs.Machine.{then};
+ghost use Rattle.vl_parse_grammar.specs.Grammar as grammar;
+ghost use Rattle.vl_parse_cursor.specs.Goes.{Goes, IsMemory};
+ghost use Rattle.vl_parse_cursor.specs.Next.{kinds_in, IsOther};
+ghost use Rattle.vl_parse.specs.Items as items;
 
+use crate::plain::read_plain;
+use crate::reading::{Ending, Front, Reading, bare, with_attributes};
 use fv_base::{Keyword, List, Pos, Symbol, Text, Token};
 use std::alloc::Global;
-use vl_expr::read_parens;
-use vl_part::{Before, read_attributes, read_head};
-use vl_plain::read_plain;
-use vl_region::{Ending, Front, Reading, bare, with_attributes};
-use vl_take::{Stop, enter, first_place, past_sign, past_word, read_name};
+use vl_parse_cursor::{Stop, enter, first_place, past_sign, past_word, read_name};
+use vl_parse_decl::{Before, read_attributes, read_head};
+use vl_parse_expr::read_parens;
 use vl_tree::{Block, Item, ItemKind};
 
 /// An item behind its attributes, which isn't a region.
 #[cycle(item)]
-#[tactic(auto, using(crate::proofs::ItemRows::of_item, crate::proofs::ItemSpelled::item_spelled, vl_part::proofs::DeclarationRows::basics))]
+#[tactic(auto, using(crate::proofs::ItemRows::of_item, crate::proofs::ItemSpelled::item_spelled, vl_parse_decl::proofs::DeclarationRows::basics))]
 fn read_item(alloc: Global, room: u32, tokens: &[Token]) -> Result<(Item, &[Token]), Stop>
     requires bare { IsOther (k.Symbol s.OpenAttribute) (kinds_in tokens.now) }
     requires no_generate { IsOther (k.Keyword Keyword.Generate) (kinds_in tokens.now) }
@@ -89,7 +89,7 @@ fn read_for(alloc: Global, pos: Pos, room: u32, tokens: &[Token]) -> Result<(Ite
 
 /// What is behind the `if` of a generate construct. An `else` belongs to the nearest one.
 #[cycle(item)]
-#[tactic(auto, using(crate::proofs::ItemRows::of_generate_otherwise, crate::proofs::ItemSpelled::if_spelled, vl_part::proofs::DeclarationRows::basics))]
+#[tactic(auto, using(crate::proofs::ItemRows::of_generate_otherwise, crate::proofs::ItemSpelled::if_spelled, vl_parse_decl::proofs::DeclarationRows::basics))]
 fn read_if(alloc: Global, pos: Pos, room: u32, tokens: &[Token]) -> Result<(Item, &[Token]), Stop>
     ensures bare { IfOk result (λ x. formed.attributes_of x.0 ≡ []) }
     ensures unmarked { IfOk result (λ x. formed.mark_of x.0 ≡ None) }
@@ -117,7 +117,7 @@ fn read_if(alloc: Global, pos: Pos, room: u32, tokens: &[Token]) -> Result<(Item
 
 /// Items up to the closing word. A region within is two marks, so it is read without recursion.
 #[cycle(item)]
-#[tactic(auto, using(vl_region::proofs::ItemsSpelled::still_read, vl_region::proofs::ItemsSpelled::whole_read, vl_part::proofs::DeclarationRows::basics))]
+#[tactic(auto, using(crate::proofs::ItemsSpelled::still_read, crate::proofs::ItemsSpelled::whole_read, vl_parse_decl::proofs::DeclarationRows::basics))]
 pub fn read_items(
     alloc: Global,
     room: u32,
@@ -155,7 +155,7 @@ pub fn read_items(
 
 /// An item with its attributes, or what begins a generate region.
 #[cycle(item)]
-#[tactic(auto, using(crate::proofs::ItemRows::of_front, vl_region::proofs::ItemsSpelled::with_found, vl_part::proofs::DeclarationRows::basics))]
+#[tactic(auto, using(crate::proofs::ItemRows::of_front, crate::proofs::ItemsSpelled::with_found, vl_parse_decl::proofs::DeclarationRows::basics))]
 fn read_front(alloc: Global, room: u32, tokens: &[Token]) -> Result<(Front, &[Token]), Stop>
     ensures found { IfOk result (λ x. Spells (items.spell_front x.0) tokens.now x.1.now) }
     ensures formed { IfOk result (λ x. items.IsFront x.0) }
@@ -178,7 +178,7 @@ fn read_front(alloc: Global, room: u32, tokens: &[Token]) -> Result<(Front, &[To
 
 /// `: label`, where it is there, and items up to `end`.
 #[cycle(item)]
-#[tactic(auto, using(crate::proofs::ItemRows::of_generate_block_label, vl_part::proofs::DeclarationRows::basics))]
+#[tactic(auto, using(crate::proofs::ItemRows::of_generate_block_label, vl_parse_decl::proofs::DeclarationRows::basics))]
 fn read_labelled(
     alloc: Global,
     room: u32,
@@ -208,7 +208,7 @@ fn read_labelled(
 
 /// A block of a generate construct. No attributes stand before its one item.
 #[cycle(item)]
-#[tactic(auto, using(crate::proofs::ItemRows::of_generate_block, vl_part::proofs::DeclarationRows::basics))]
+#[tactic(auto, using(crate::proofs::ItemRows::of_generate_block, vl_parse_decl::proofs::DeclarationRows::basics))]
 fn read_block(alloc: Global, room: u32, tokens: &[Token]) -> Result<(Block, &[Token]), Stop>
     ensures found { IfOk result (λ x. Spells (spec.spell_block (block x.0)) tokens.now x.1.now) }
     ensures formed { IfOk result (λ x. formed.IsBlock (block x.0)) }
@@ -230,7 +230,7 @@ fn read_block(alloc: Global, room: u32, tokens: &[Token]) -> Result<(Block, &[To
 
 /// A block without `begin`: a region, or one item.
 #[cycle(item)]
-#[tactic(auto, using(crate::proofs::ItemRows::of_short_block, crate::proofs::ItemSpelled::block_spelled, vl_part::proofs::DeclarationRows::basics))]
+#[tactic(auto, using(crate::proofs::ItemRows::of_short_block, crate::proofs::ItemSpelled::block_spelled, vl_parse_decl::proofs::DeclarationRows::basics))]
 fn read_short_block(alloc: Global, room: u32, tokens: &[Token]) -> Result<(Block, &[Token]), Stop>
     requires no_begin { IsOther (k.Keyword Keyword.Begin) (kinds_in tokens.now) }
     ensures found { IfOk result (λ x. Spells (spec.spell_block (block x.0)) tokens.now x.1.now) }

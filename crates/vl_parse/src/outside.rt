@@ -5,7 +5,7 @@ ghost use Rattle.vl_parse.specs.Faults as spec;
 
 use fv_base::{Keyword, Kind, Memory, Symbol, Text};
 use std::alloc::Global;
-use vl_take::{cast_of, is_known};
+use vl_parse_cursor::{cast_of, is_known};
 
 /// How a token outside of the subset is named: as it is written, but for strings and numbers. None exactly where it
 /// isn't outside.

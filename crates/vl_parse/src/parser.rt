@@ -4,9 +4,9 @@ ghost use Rattle.vl_tree.specs.Phrase.{Spells, kinds_of};
 ghost use Rattle.vl_tree.specs.ItemSpelling.{spell_source};
 ghost use Rattle.vl_tree.specs.WellFormed.{IsSource};
 ghost use Rattle.vl_tree.specs.declared.source.Source as declared;
-ghost use Rattle.vl_grammar.specs.Depth.{IsTooDeep};
-ghost use Rattle.vl_grammar.specs.Grammar.{run};
-ghost use Rattle.vl_grammar.specs.Text.{IsFaulty};
+ghost use Rattle.vl_parse_grammar.specs.Depth.{IsTooDeep};
+ghost use Rattle.vl_parse_grammar.specs.Grammar.{run};
+ghost use Rattle.vl_parse_grammar.specs.Text.{IsFaulty};
 ghost use Rattle.vl_parse.specs.Faults as faults;
 ghost use Rattle.vl_parse.specs.Faults.{Answers, wrong_token, deep_fault};
 ghost use Rattle.vl_parse.specs.Refusals.{
@@ -23,7 +23,7 @@ use crate::outside::outside_word;
 use crate::source::{START, read_source};
 use fv_base::{Pos, Token};
 use std::alloc::Global;
-use vl_take::Stop;
+use vl_parse_cursor::Stop;
 use vl_tree::Source;
 
 /// How many constructs may be open at a token.

@@ -7,19 +7,19 @@ ghost use Rattle.vl_tree.specs.Phrase.{Spells, sign, between_commas, ◌▸◌};
 ghost use Rattle.vl_tree.specs.ItemSpelling as spec;
 ghost use Rattle.vl_tree.specs.DeclarationSpelling as declared;
 ghost use Rattle.vl_tree.specs.WellFormed as formed;
-ghost use Rattle.vl_grammar.specs.Machine.{then};
-ghost use Rattle.vl_grammar.specs.Grammar as grammar;
-ghost use Rattle.vl_take.specs.Goes.{Goes};
-ghost use Rattle.vl_take.specs.Next.{kinds_in, IsOther};
-ghost use Rattle.vl_plain.specs.ItemLead as lead;
-ghost use Rattle.vl_region.specs.Items as items;
+ghost use Rattle.vl_parse_grammar.specs.Machine.{then};
+ghost use Rattle.vl_parse_grammar.specs.Grammar as grammar;
+ghost use Rattle.vl_parse_cursor.specs.Goes.{Goes};
+ghost use Rattle.vl_parse_cursor.specs.Next.{kinds_in, IsOther};
+ghost use Rattle.vl_parse.specs.ItemLead as lead;
+ghost use Rattle.vl_parse.specs.Items as items;
 
+use crate::reading::bare;
 use fv_base::{Keyword, Kind, Symbol, Token};
 use std::alloc::Global;
-use vl_part::{read_event, read_instance, read_list, read_shape};
-use vl_region::bare;
-use vl_stmt::{read_initial, read_stmt};
-use vl_take::{Stop, next, read_sign};
+use vl_parse_cursor::{Stop, next, read_sign};
+use vl_parse_decl::{read_event, read_instance, read_list, read_shape};
+use vl_parse_stmt::{read_initial, read_stmt};
 use vl_tree::{Declaration, Item, ItemKind, NetKind, ParameterKind};
 
 /// What a token begins as the first of an item that has no items in it, behind its attributes.
@@ -64,7 +64,7 @@ fn item_lead_of_word(keyword: Keyword) -> ItemLead
 }
 
 /// An item that has no items in it.
-#[tactic(auto, using(crate::proofs::ItemLeads::item_leads, crate::proofs::ItemLeads::item_kinds, vl_part::specs::Tails::tails, vl_part::proofs::DeclarationRows::basics))]
+#[tactic(auto, using(crate::proofs::ItemLeads::item_leads, crate::proofs::ItemLeads::item_kinds, vl_parse_decl::specs::Tails::tails, vl_parse_decl::proofs::DeclarationRows::basics))]
 pub fn read_plain(alloc: Global, room: u32, tokens: &[Token]) -> Result<(Item, &[Token]), Stop>
     requires bare { IsOther (k.Symbol s.OpenAttribute) (kinds_in tokens.now) }
     requires no_if { IsOther (k.Keyword Keyword.If) (kinds_in tokens.now) }
@@ -121,7 +121,7 @@ pub fn read_plain(alloc: Global, room: u32, tokens: &[Token]) -> Result<(Item, &
     }
 }
 
-#[tactic(auto, using(vl_part::specs::Tails::tails, vl_part::proofs::DeclarationRows::basics))]
+#[tactic(auto, using(vl_parse_decl::specs::Tails::tails, vl_parse_decl::proofs::DeclarationRows::basics))]
 fn read_declaration(
     alloc: Global,
     net: NetKind,

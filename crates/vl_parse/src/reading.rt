@@ -9,14 +9,14 @@ ghost use Rattle.vl_tree.specs.ItemView.{shown};
 ghost use Rattle.vl_tree.specs.ItemSpelling as spec;
 ghost use Rattle.vl_tree.specs.DeclarationSpelling as declared;
 ghost use Rattle.vl_tree.specs.WellFormed as formed;
-ghost use Rattle.vl_grammar.specs.Machine.{then};
-ghost use Rattle.vl_take.specs.Goes.{IsMemory};
-ghost use Rattle.vl_region.specs.declared.reading.Ending.{Ending};
-ghost use Rattle.vl_region.specs.Items as items;
+ghost use Rattle.vl_parse_grammar.specs.Machine.{then};
+ghost use Rattle.vl_parse_cursor.specs.Goes.{IsMemory};
+ghost use Rattle.vl_parse.specs.declared.reading.Ending.{Ending};
+ghost use Rattle.vl_parse.specs.Items as items;
 
 use fv_base::{Keyword, List, Pos};
 use std::alloc::Global;
-use vl_take::{Stop, add};
+use vl_parse_cursor::{Stop, add};
 use vl_tree::{AttributeInstance, Item, ItemKind, RegionMark};
 
 /// An item without attributes.

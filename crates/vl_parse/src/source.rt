@@ -4,18 +4,18 @@ ghost use Rattle.std.specs.Prelude.{◌≡◌, ◌<◌, [], Ok, length, IfOk, Al
 ghost use Rattle.vl_tree.specs.Phrase.{Spells, each};
 ghost use Rattle.vl_tree.specs.ItemSpelling as spec;
 ghost use Rattle.vl_tree.specs.WellFormed as formed;
-ghost use Rattle.vl_grammar.specs.Machine.{then};
-ghost use Rattle.vl_grammar.specs.Grammar as grammar;
-ghost use Rattle.vl_take.specs.Goes.{Goes};
-ghost use Rattle.vl_take.specs.Next.{kinds_in};
+ghost use Rattle.vl_parse_grammar.specs.Machine.{then};
+ghost use Rattle.vl_parse_grammar.specs.Grammar as grammar;
+ghost use Rattle.vl_parse_cursor.specs.Goes.{Goes};
+ghost use Rattle.vl_parse_cursor.specs.Next.{kinds_in};
 ghost use Rattle.vl_parse.specs.Sources.{IsStart};
 
+use crate::item::read_items;
+use crate::reading::Ending;
 use fv_base::{Keyword, List, Pos, Token};
 use std::alloc::Global;
-use vl_body::read_items;
-use vl_part::{read_parameters, read_ports};
-use vl_region::Ending;
-use vl_take::{Stop, add, first_place, next, read_name, read_word};
+use vl_parse_cursor::{Stop, add, first_place, next, read_name, read_word};
+use vl_parse_decl::{read_parameters, read_ports};
 use vl_tree::{Module, Source};
 
 /// The place of a source without tokens.
@@ -63,7 +63,7 @@ fn read_modules(alloc: Global, room: u32, tokens: &[Token]) -> Result<List<Modul
     Ok(modules)
 }
 
-#[tactic(auto, using(vl_part::proofs::HeadSpelled::module_spelled, crate::proofs::ModuleRows::of_modules, vl_part::proofs::DeclarationRows::basics))]
+#[tactic(auto, using(vl_parse_decl::proofs::HeadSpelled::module_spelled, crate::proofs::ModuleRows::of_modules, vl_parse_decl::proofs::DeclarationRows::basics))]
 fn read_module(alloc: Global, room: u32, tokens: &[Token]) -> Result<(Module, &[Token]), Stop>
     requires { tokens.now ≡ [] → ⊥ }
     ensures found { IfOk result (λ x. Spells (spec.spell_module x.0) tokens.now x.1.now) }

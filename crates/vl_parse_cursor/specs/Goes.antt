@@ -1,9 +1,9 @@
 -- What the public calls promise. How what a function answers goes with reading by the grammar. Rule of this project.
 use Rattle.std.specs.Prelude.{◌≡◌, Result, Ok, Err}
-use Rattle.vl_grammar.specs.Machine.{syntax, deep}
-use Rattle.vl_grammar.specs.Grammar.{Outcome}
-use Rattle.vl_take.specs.declared.stop.Stop.{Stop}
-use Rattle.vl_take.specs.declared.stop.Stop.TheVariants as stop
+use Rattle.vl_parse_grammar.specs.Machine.{syntax, deep}
+use Rattle.vl_parse_grammar.specs.Grammar.{Outcome}
+use Rattle.vl_parse_cursor.specs.declared.stop.Stop.{Stop}
+use Rattle.vl_parse_cursor.specs.declared.stop.Stop.TheVariants as stop
 
 -- reading ends where the function stops
 abbrev pub Ends : Stop → Outcome → Type 0

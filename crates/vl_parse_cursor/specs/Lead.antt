@@ -9,12 +9,12 @@ use Rattle.fv_base.specs.declared.symbol.Symbol.TheVariants as s
 use Rattle.vl_tree.specs.declared.operator.UnaryOperator.{UnaryOperator}
 use Rattle.vl_tree.specs.declared.operator.BinaryOperator.{BinaryOperator}
 use Rattle.vl_tree.specs.declared.operator.Cast.{Cast}
-use Rattle.vl_grammar.specs.Operators.{unary_of, binary_of, cast_of}
-use Rattle.vl_grammar.specs.Grammar.{is_known}
-use Rattle.vl_take.specs.declared.lead.Lead.{Lead}
-use Rattle.vl_take.specs.declared.lead.Lead.TheVariants as lead
-use Rattle.vl_take.specs.declared.lead.Joint.{Joint}
-use Rattle.vl_take.specs.declared.lead.Joint.TheVariants as joint
+use Rattle.vl_parse_grammar.specs.Operators.{unary_of, binary_of, cast_of}
+use Rattle.vl_parse_grammar.specs.Grammar.{is_known}
+use Rattle.vl_parse_cursor.specs.declared.lead.Lead.{Lead}
+use Rattle.vl_parse_cursor.specs.declared.lead.Lead.TheVariants as lead
+use Rattle.vl_parse_cursor.specs.declared.lead.Joint.{Joint}
+use Rattle.vl_parse_cursor.specs.declared.lead.Joint.TheVariants as joint
 
 abbrev pub lead_of_number : Bool → Number → Lead
 lead_of_number true n = lead.Number n

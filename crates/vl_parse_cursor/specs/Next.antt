@@ -3,7 +3,7 @@ use Rattle.std.specs.Prelude.{◌≡◌, List, [], ◌∷◌}
 use Rattle.fv_base.specs.declared.kind.Kind.{Kind}
 use Rattle.fv_base.specs.declared.kind.Kind.TheVariants as k
 use Rattle.fv_base.specs.declared.token.Token.{Token}
-use Rattle.vl_grammar.specs.Grammar.{Outcome, read, sign, name}
+use Rattle.vl_parse_grammar.specs.Grammar.{Outcome, read, sign, name}
 use Rattle.fv_base.specs.declared.symbol.Symbol.{Symbol}
 
 -- the kinds of the tokens

@@ -20,12 +20,12 @@ use Rattle.std.proofs.Common.{
 use Rattle.std.proofs.Common.{sym, ap, ◌∙◌, arith}
 use Rattle.std.specs.Prelude.{Ok, Err, map}
 use Rattle.fv_base.specs.declared.kind.Kind.{Kind}
-use Rattle.vl_grammar.specs.Machine as machine
-use Rattle.vl_grammar.specs.Machine.{Row, Move, take, pop, bad, syntax, deep, placed, left, then}
-use Rattle.vl_grammar.specs.Grammar.{Rule, Outcome, expand, ends, read, read_all, row, many}
+use Rattle.vl_parse_grammar.specs.Machine as machine
+use Rattle.vl_parse_grammar.specs.Machine.{Row, Move, take, pop, bad, syntax, deep, placed, left, then}
+use Rattle.vl_parse_grammar.specs.Grammar.{Rule, Outcome, expand, ends, read, read_all, row, many}
 use Rattle.fv_base.specs.declared.kind.Kind.TheVariants as k
 use Rattle.fv_base.specs.declared.symbol.Symbol.TheVariants as s
-use Rattle.vl_grammar.proofs.InParts as parts
+use Rattle.vl_parse_grammar.proofs.InParts as parts
 
 -- the room that is left behind so many constructs
 abbrev pub less : ℕ → ℕ → ℕ

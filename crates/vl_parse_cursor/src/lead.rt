@@ -2,9 +2,9 @@
 
 ghost use Rattle.std.specs.Prelude.{◌≡◌};
 ghost use Rattle.vl_tree.specs.ExprWellFormed as formed;
-ghost use Rattle.vl_grammar.specs.Operators as operators;
-ghost use Rattle.vl_grammar.specs.Grammar as grammar;
-ghost use Rattle.vl_take.specs.Lead as spec;
+ghost use Rattle.vl_parse_grammar.specs.Operators as operators;
+ghost use Rattle.vl_parse_grammar.specs.Grammar as grammar;
+ghost use Rattle.vl_parse_cursor.specs.Lead as spec;
 
 use fv_base::{Kind, Number, Symbol, Text};
 use vl_tree::{BinaryOperator, Cast, UnaryOperator};

@@ -1,7 +1,7 @@
 //! Why reading stops.
 
 ghost use Rattle.std.specs.Prelude.{◌++◌, ◌∷◌, [], ◌≡◌, IfErr, OnOk};
-ghost use Rattle.vl_take.specs.Goes.{IsMemory};
+ghost use Rattle.vl_parse_cursor.specs.Goes.{IsMemory};
 
 use fv_base::{List, Memory};
 

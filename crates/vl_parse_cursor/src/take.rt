@@ -18,9 +18,9 @@ ghost use Rattle.std.specs.Prelude.{
 ghost use Rattle.fv_base.specs.declared.kind.Kind.TheVariants as k;
 ghost use Rattle.vl_tree.specs.Phrase.{sign, word, a_name, Spells, BeginsAt};
 ghost use Rattle.vl_tree.specs.ExprWellFormed.{IsName};
-ghost use Rattle.vl_grammar.specs.Machine.{syntax, deep};
-ghost use Rattle.vl_take.specs.Goes.{Goes, IsMemory, Means};
-ghost use Rattle.vl_take.specs.Next.{IsOther, IsNoName, behind, behind_name, kinds_in};
+ghost use Rattle.vl_parse_grammar.specs.Machine.{syntax, deep};
+ghost use Rattle.vl_parse_cursor.specs.Goes.{Goes, IsMemory, Means};
+ghost use Rattle.vl_parse_cursor.specs.Next.{IsOther, IsNoName, behind, behind_name, kinds_in};
 
 use crate::stop::Stop;
 use fv_base::{Keyword, Kind, Pos, Symbol, Text, Token};

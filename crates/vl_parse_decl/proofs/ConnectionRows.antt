@@ -4,13 +4,14 @@ use Rattle.std.specs.Prelude.{Ok, Err}
 use Rattle.fv_base.specs.declared.kind.Kind.{Kind}
 use Rattle.fv_base.specs.declared.kind.Kind.TheVariants as k
 use Rattle.fv_base.specs.declared.symbol.Symbol.TheVariants as s
-use Rattle.vl_grammar.specs.Machine as machine
-use Rattle.vl_grammar.specs.Machine.{then}
-use Rattle.vl_grammar.specs.Grammar.{Outcome, read, read_all, name, first_connection, connection, more_connections}
-use Rattle.vl_grammar.specs.Grammar.{connected}
-use Rattle.vl_take.specs.Next.{IsOther}
-use Rattle.vl_part.specs.Tails.{more_connections_all}
-use Rattle.vl_part.proofs.PartRows.{first_connection_dot, connection_row}
+use Rattle.vl_parse_grammar.specs.Machine as machine
+use Rattle.vl_parse_grammar.specs.Machine.{then}
+use Rattle.vl_parse_grammar.specs.Grammar.{Outcome, read, read_all, name, first_connection, connection}
+use Rattle.vl_parse_grammar.specs.Grammar.{more_connections}
+use Rattle.vl_parse_grammar.specs.Grammar.{connected}
+use Rattle.vl_parse_cursor.specs.Next.{IsOther}
+use Rattle.vl_parse_decl.specs.Tails.{more_connections_all}
+use Rattle.vl_parse_decl.proofs.PartRows.{first_connection_dot, connection_row}
 
 then_two : (a : Outcome) (f g : List Kind → Outcome) → then a (λ r. then (f r) g) ≡ then (then a f) g
 then_two (Ok r) f g = refl

@@ -8,21 +8,21 @@ use Rattle.fv_base.specs.declared.keyword.Keyword.{Keyword}
 use Rattle.fv_base.specs.declared.keyword.Keyword.TheVariants as w
 use Rattle.fv_base.specs.declared.symbol.Symbol.{Symbol}
 use Rattle.fv_base.specs.declared.symbol.Symbol.TheVariants as s
-use Rattle.vl_grammar.specs.Machine as machine
-use Rattle.vl_grammar.specs.Machine.{Row, Move, take, pop, bad, syntax, deep, then}
-use Rattle.vl_grammar.specs.Grammar.{Rule, Outcome, expand, ends, read, read_all, sign, the_parameter, name, expr}
-use Rattle.vl_grammar.specs.Grammar.{selects, value, target, targets, attributes, range, shape, declared_name}
-use Rattle.vl_grammar.specs.Grammar.{declared_names, names, parameters, parameter, assignment, assignments, stmt}
-use Rattle.vl_grammar.specs.Grammar.{item, module_head, module_ports, header_parameters, more_header_parameters}
-use Rattle.vl_grammar.specs.Grammar.{optional_parameter, first_port, port, more_ports, full_port, net, connection}
-use Rattle.vl_grammar.specs.Grammar.{more_connections, on_shape, on_range, on_full_port, many}
-use Rattle.vl_part.specs.declared.attribute.Before.{Before}
-use Rattle.vl_part.specs.declared.attribute.Before.TheVariants as before
-use Rattle.vl_part.specs.Before.{rule_of}
-use Rattle.vl_part.specs.Tails.{attributes_all}
-use Rattle.vl_take.specs.Next.{IsOther, IsNoName, behind, behind_name}
-use Rattle.vl_take.specs.Parts.{row_read, row_deep, row_popped, row_bad, same_row, in_turn, less, many_read}
-use Rattle.vl_take.proofs.Tokens.{sign_row, name_row, name_end, behind_here, behind_wrong, kinds_length}
+use Rattle.vl_parse_grammar.specs.Machine as machine
+use Rattle.vl_parse_grammar.specs.Machine.{Row, Move, take, pop, bad, syntax, deep, then}
+use Rattle.vl_parse_grammar.specs.Grammar.{Rule, Outcome, expand, ends, read, read_all, sign, the_parameter, name, expr}
+use Rattle.vl_parse_grammar.specs.Grammar.{selects, value, target, targets, attributes, range, shape, declared_name}
+use Rattle.vl_parse_grammar.specs.Grammar.{declared_names, names, parameters, parameter, assignment, assignments, stmt}
+use Rattle.vl_parse_grammar.specs.Grammar.{item, module_head, module_ports, header_parameters, more_header_parameters}
+use Rattle.vl_parse_grammar.specs.Grammar.{optional_parameter, first_port, port, more_ports, full_port, net, connection}
+use Rattle.vl_parse_grammar.specs.Grammar.{more_connections, on_shape, on_range, on_full_port, many}
+use Rattle.vl_parse_decl.specs.declared.attribute.Before.{Before}
+use Rattle.vl_parse_decl.specs.declared.attribute.Before.TheVariants as before
+use Rattle.vl_parse_decl.specs.Before.{rule_of}
+use Rattle.vl_parse_decl.specs.Tails.{attributes_all}
+use Rattle.vl_parse_cursor.specs.Next.{IsOther, IsNoName, behind, behind_name}
+use Rattle.vl_parse_cursor.specs.Parts.{row_read, row_deep, row_popped, row_bad, same_row, in_turn, less, many_read}
+use Rattle.vl_parse_cursor.proofs.Tokens.{sign_row, name_row, name_end, behind_here, behind_wrong, kinds_length}
 
 pub target_brace : (n : ℕ) (ts : List Kind) → 0 < n
     → read target n (k.Symbol s.OpenBrace ∷ ts) ≡ then (read target (n - 1) ts) (λ r. read targets (n - 1) r)

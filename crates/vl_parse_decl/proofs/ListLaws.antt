@@ -9,7 +9,7 @@ use Rattle.vl_tree.specs.Phrase.{Phrase, Spells, IsNext, with_commas, between_co
 use Rattle.vl_tree.specs.declared.attribute.AttributeInstance.{AttributeInstance}
 use Rattle.vl_tree.specs.DeclarationSpelling.{spell_instance, spell_attributes}
 use Rattle.vl_tree.specs.DeclarationWellFormed.{AreSome, IsInstance, AreAttributes}
-use Rattle.vl_part.specs.Lists.{BeginsWith}
+use Rattle.vl_parse_decl.specs.Lists.{BeginsWith}
 
 module _ {A : Type 0} (one : A → Phrase) where
   with_pushed : (xs : List A) (x : A) (start middle behind rest : List Token) → Spells (with_commas one xs) start middle

@@ -6,20 +6,22 @@ use Rattle.fv_base.specs.declared.kind.Kind.{Kind}
 use Rattle.fv_base.specs.declared.kind.Kind.TheVariants as k
 use Rattle.fv_base.specs.declared.keyword.Keyword.TheVariants as w
 use Rattle.fv_base.specs.declared.symbol.Symbol.TheVariants as s
-use Rattle.vl_grammar.specs.Machine as machine
-use Rattle.vl_grammar.specs.Machine.{pop, bad, syntax, deep, then}
-use Rattle.vl_grammar.specs.Grammar.{Outcome, many, expand, read, sign, name, this_name, expr, event, event_inside}
-use Rattle.vl_grammar.specs.Grammar.{overrides, connections, first_connection, connection, more_connections}
-use Rattle.vl_grammar.specs.Grammar.{connected, connected_value, loop_head, loop_variable, on_operand, plain, take_if}
+use Rattle.vl_parse_grammar.specs.Machine as machine
+use Rattle.vl_parse_grammar.specs.Machine.{pop, bad, syntax, deep, then}
+use Rattle.vl_parse_grammar.specs.Grammar.{Outcome, many, expand, read, sign, name, this_name, expr, event}
+use Rattle.vl_parse_grammar.specs.Grammar.{event_inside}
+use Rattle.vl_parse_grammar.specs.Grammar.{overrides, connections, first_connection, connection, more_connections}
+use Rattle.vl_parse_grammar.specs.Grammar.{connected, connected_value, loop_head, loop_variable, on_operand, plain}
+use Rattle.vl_parse_grammar.specs.Grammar.{take_if}
 use Rattle.std.specs.Prelude.{bytes_eq}
 use Rattle.std.proofs.lemmas.Slice.Eq.{bytes_eq-Decides}
-use Rattle.vl_take.specs.declared.lead.Lead.{Lead}
-use Rattle.vl_take.specs.declared.lead.Lead.TheVariants as lead
-use Rattle.vl_take.specs.Lead.{lead_of}
-use Rattle.vl_expr.proofs.ExprRows.{by_lead, lead_made}
-use Rattle.vl_part.specs.LoopHead.{step, condition, steps}
-use Rattle.vl_take.specs.Next.{IsOther, IsNoName, behind_name}
-use Rattle.vl_take.specs.Parts.{row_read, row_deep, row_bad, many_read}
+use Rattle.vl_parse_cursor.specs.declared.lead.Lead.{Lead}
+use Rattle.vl_parse_cursor.specs.declared.lead.Lead.TheVariants as lead
+use Rattle.vl_parse_cursor.specs.Lead.{lead_of}
+use Rattle.vl_parse_expr.proofs.ExprRows.{by_lead, lead_made}
+use Rattle.vl_parse_decl.specs.LoopHead.{step, condition, steps}
+use Rattle.vl_parse_cursor.specs.Next.{IsOther, IsNoName, behind_name}
+use Rattle.vl_parse_cursor.specs.Parts.{row_read, row_deep, row_bad, many_read}
 
 pub event_star : (n : ℕ) (ts : List Kind) → read event n (k.Symbol s.Star ∷ ts) ≡ Ok ts
 event_star n ts = row_read event n (k.Symbol s.Star) ts 0 _ refl (omega arith)

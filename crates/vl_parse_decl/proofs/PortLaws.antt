@@ -8,13 +8,14 @@ use Rattle.vl_tree.specs.declared.declaration.HeaderParameter.{HeaderParameter}
 use Rattle.vl_tree.specs.declared.declaration.Port.{Port}
 use Rattle.vl_tree.specs.DeclarationWellFormed.{AreSome, AreHeaderParameters, ArePorts, BeginsWithKeyword}
 use Rattle.vl_tree.specs.DeclarationWellFormed.{BeginsWithFull, IsHeaderParameter, IsPort, IsFull}
-use Rattle.vl_grammar.specs.Machine as machine
-use Rattle.vl_grammar.specs.Machine.{syntax, deep, then}
-use Rattle.vl_grammar.specs.Grammar.{Outcome, read, read_all, sign, name, expr, shape, parameter, header_parameters}
-use Rattle.vl_grammar.specs.Grammar.{more_header_parameters, the_parameter, full_port, port}
-use Rattle.vl_part.specs.Lists.{BeginsWith}
-use Rattle.vl_part.specs.Tails.{parameters_all, more_ports_all}
-use Rattle.vl_part.proofs.DeclarationRows.{header_row, header_row_deep, header_wrong}
+use Rattle.vl_parse_grammar.specs.Machine as machine
+use Rattle.vl_parse_grammar.specs.Machine.{syntax, deep, then}
+use Rattle.vl_parse_grammar.specs.Grammar.{Outcome, read, read_all, sign, name, expr, shape, parameter}
+use Rattle.vl_parse_grammar.specs.Grammar.{header_parameters}
+use Rattle.vl_parse_grammar.specs.Grammar.{more_header_parameters, the_parameter, full_port, port}
+use Rattle.vl_parse_decl.specs.Lists.{BeginsWith}
+use Rattle.vl_parse_decl.specs.Tails.{parameters_all, more_ports_all}
+use Rattle.vl_parse_decl.proofs.DeclarationRows.{header_row, header_row_deep, header_wrong}
 
 then_two : (a : Outcome) (f g : List Kind → Outcome) → then a (λ r. then (f r) g) ≡ then (then a f) g
 then_two (Ok r) f g = refl

@@ -26,14 +26,14 @@ use Rattle.fv_base.specs.declared.keyword.Keyword.{Keyword}
 use Rattle.fv_base.specs.declared.keyword.Keyword.TheVariants as w
 use Rattle.fv_base.specs.declared.symbol.Symbol.{Symbol}
 use Rattle.fv_base.specs.declared.symbol.Symbol.TheVariants as s
-use Rattle.vl_grammar.specs.Machine as machine
-use Rattle.vl_grammar.specs.Machine.{Row, Move, take, pop, bad, syntax, deep, then}
-use Rattle.vl_grammar.specs.Grammar.{Rule, Outcome, expand, ends, read, read_all, sign, name, expr, value, target}
-use Rattle.vl_grammar.specs.Grammar.{attributes, range, shape, declared_name, declared_names, names, parameters}
-use Rattle.vl_grammar.specs.Grammar.{parameter, assignment, assignments, connection, more_connections}
-use Rattle.vl_grammar.specs.Grammar.{optional_parameter, more_header_parameters, port, more_ports, label, labels}
-use Rattle.vl_take.specs.Next.{IsOther, behind}
-use Rattle.vl_take.specs.Parts.{tail_comma, read_all_turn}
+use Rattle.vl_parse_grammar.specs.Machine as machine
+use Rattle.vl_parse_grammar.specs.Machine.{Row, Move, take, pop, bad, syntax, deep, then}
+use Rattle.vl_parse_grammar.specs.Grammar.{Rule, Outcome, expand, ends, read, read_all, sign, name, expr, value, target}
+use Rattle.vl_parse_grammar.specs.Grammar.{attributes, range, shape, declared_name, declared_names, names, parameters}
+use Rattle.vl_parse_grammar.specs.Grammar.{parameter, assignment, assignments, connection, more_connections}
+use Rattle.vl_parse_grammar.specs.Grammar.{optional_parameter, more_header_parameters, port, more_ports, label, labels}
+use Rattle.vl_parse_cursor.specs.Next.{IsOther, behind}
+use Rattle.vl_parse_cursor.specs.Parts.{tail_comma, read_all_turn}
 
 pub attributes_comma_all : (n : ℕ) (ts : List Kind)
     → read attributes n (k.Symbol s.Comma ∷ ts)

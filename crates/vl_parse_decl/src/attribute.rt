@@ -5,20 +5,20 @@ ghost use Rattle.vl_tree.specs.Phrase.{Spells, a_name, sign, ◌▸◌};
 ghost use Rattle.vl_tree.specs.DeclarationSpelling as spec;
 ghost use Rattle.vl_tree.specs.ExprSpelling.{spell_value};
 ghost use Rattle.vl_tree.specs.ExprWellFormed.{IsName, IsValue};
-ghost use Rattle.vl_part.specs.Before.{rule_of};
+ghost use Rattle.vl_parse_decl.specs.Before.{rule_of};
 ghost use Rattle.fv_base.specs.declared.kind.Kind.TheVariants as k;
 ghost use Rattle.fv_base.specs.declared.symbol.Symbol.TheVariants as s;
 ghost use Rattle.vl_tree.specs.DeclarationWellFormed as formed;
-ghost use Rattle.vl_grammar.specs.Machine.{then};
-ghost use Rattle.vl_grammar.specs.Grammar as grammar;
-ghost use Rattle.vl_take.specs.Goes.{Goes};
-ghost use Rattle.vl_take.specs.Next.{kinds_in, IsOther};
+ghost use Rattle.vl_parse_grammar.specs.Machine.{then};
+ghost use Rattle.vl_parse_grammar.specs.Grammar as grammar;
+ghost use Rattle.vl_parse_cursor.specs.Goes.{Goes};
+ghost use Rattle.vl_parse_cursor.specs.Next.{kinds_in, IsOther};
 
 use crate::list::{Element, read_list};
 use fv_base::{List, Symbol, Text, Token};
 use std::alloc::Global;
-use vl_expr::read_expr;
-use vl_take::{Stop, add, enter, first_place, past_sign, read_name};
+use vl_parse_cursor::{Stop, add, enter, first_place, past_sign, read_name};
+use vl_parse_expr::read_expr;
 use vl_tree::{Attribute, AttributeInstance, Expr};
 
 /// `= expr`, where it is there.
@@ -82,7 +82,7 @@ impl Element for Attribute {
         Ok((Attribute { pos, name, value }, rest))
     }
 
-    ghost use Rattle.vl_part.specs.Tails.{attributes_comma_all, attributes_ending};
+    ghost use Rattle.vl_parse_decl.specs.Tails.{attributes_comma_all, attributes_ending};
 
     ghost comma = { attributes_comma_all };
 

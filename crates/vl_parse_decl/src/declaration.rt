@@ -7,19 +7,19 @@ ghost use Rattle.vl_tree.specs.ExprWellFormed.{IsName, IsWellFormed};
 ghost use Rattle.vl_tree.specs.DeclarationSpelling as spec;
 ghost use Rattle.vl_tree.specs.DeclarationWellFormed as formed;
 ghost use Rattle.fv_base.specs.declared.symbol.Symbol.TheVariants as s;
-ghost use Rattle.vl_grammar.specs.Machine.{then};
-ghost use Rattle.vl_grammar.specs.Grammar as grammar;
-ghost use Rattle.vl_take.specs.Goes.{Goes};
-ghost use Rattle.vl_take.specs.Next.{kinds_in, IsOther};
-ghost use Rattle.vl_part.specs.LoopHead.{step};
+ghost use Rattle.vl_parse_grammar.specs.Machine.{then};
+ghost use Rattle.vl_parse_grammar.specs.Grammar as grammar;
+ghost use Rattle.vl_parse_cursor.specs.Goes.{Goes};
+ghost use Rattle.vl_parse_cursor.specs.Next.{kinds_in, IsOther};
+ghost use Rattle.vl_parse_decl.specs.LoopHead.{step};
 
 use crate::attribute::read_value;
 use crate::list::Element;
 use crate::part::read_step;
 use fv_base::{Keyword, Symbol, Text, Token};
 use std::alloc::Global;
-use vl_expr::read_expr;
-use vl_take::{Stop, enter, first_place, past_sign, past_word, read_name, read_sign};
+use vl_parse_cursor::{Stop, enter, first_place, past_sign, past_word, read_name, read_sign};
+use vl_parse_expr::read_expr;
 use vl_tree::{DeclaredName, Expr, Parameter, Range, Shape};
 
 /// `[left : right]`, where it is there.
@@ -101,7 +101,7 @@ impl Element for DeclaredName {
         ))
     }
 
-    ghost use Rattle.vl_part.specs.Tails.{declared_names_comma_all, declared_names_ending};
+    ghost use Rattle.vl_parse_decl.specs.Tails.{declared_names_comma_all, declared_names_ending};
 
     ghost comma = { declared_names_comma_all };
 
@@ -127,7 +127,7 @@ impl Element for Text {
         read_name(alloc, tokens)
     }
 
-    ghost use Rattle.vl_part.specs.Tails.{names_comma_all, names_ending};
+    ghost use Rattle.vl_parse_decl.specs.Tails.{names_comma_all, names_ending};
 
     ghost comma = { names_comma_all };
 
@@ -184,7 +184,7 @@ impl Element for Parameter {
         ))
     }
 
-    ghost use Rattle.vl_part.specs.Tails.{parameters_comma_all, parameters_ending};
+    ghost use Rattle.vl_parse_decl.specs.Tails.{parameters_comma_all, parameters_ending};
 
     ghost comma = { parameters_comma_all };
 

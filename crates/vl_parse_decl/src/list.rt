@@ -4,15 +4,15 @@ ghost use Rattle.std.specs.Prelude.{◌≡◌, ◌<◌, Ok, List, length, IfOk};
 ghost use Rattle.fv_base.specs.declared.token.Token.{Token};
 ghost use Rattle.vl_tree.specs.DeclarationWellFormed.{AreSome};
 ghost use Rattle.vl_tree.specs.Phrase.{Spells, sign, between_commas, ◌▸◌};
-ghost use Rattle.vl_grammar.specs.Machine.{then};
-ghost use Rattle.vl_grammar.specs.Grammar as grammar;
-ghost use Rattle.vl_take.specs.Goes.{Goes};
-ghost use Rattle.vl_part.specs.Lists.{BeginsWith};
-ghost use Rattle.vl_take.specs.Next.{kinds_in};
+ghost use Rattle.vl_parse_grammar.specs.Machine.{then};
+ghost use Rattle.vl_parse_grammar.specs.Grammar as grammar;
+ghost use Rattle.vl_parse_cursor.specs.Goes.{Goes};
+ghost use Rattle.vl_parse_decl.specs.Lists.{BeginsWith};
+ghost use Rattle.vl_parse_cursor.specs.Next.{kinds_in};
 
 use fv_base::{List, Symbol, Token};
 use std::alloc::Global;
-use vl_take::{Stop, add, past_sign, read_sign};
+use vl_parse_cursor::{Stop, add, past_sign, read_sign};
 
 /// What such a list has as an element.
 pub trait Element: Drop {
@@ -22,9 +22,9 @@ pub trait Element: Drop {
     ghost use Rattle.fv_base.specs.declared.symbol.Symbol as symbol;
     ghost use Rattle.fv_base.specs.declared.symbol.Symbol.TheVariants as s;
     ghost use Rattle.vl_tree.specs.Phrase.{Phrase};
-    ghost use Rattle.vl_grammar.specs.Machine as machine;
-    ghost use Rattle.vl_grammar.specs.Grammar.{Rule, read, read_all};
-    ghost use Rattle.vl_take.specs.Next.{IsOther, behind};
+    ghost use Rattle.vl_parse_grammar.specs.Machine as machine;
+    ghost use Rattle.vl_parse_grammar.specs.Grammar.{Rule, read, read_all};
+    ghost use Rattle.vl_parse_cursor.specs.Next.{IsOther, behind};
 
     ghost phrase: { Self → Phrase };
 

@@ -5,15 +5,15 @@ ghost use Rattle.vl_tree.specs.Lval.{lvals};
 ghost use Rattle.vl_tree.specs.LvalSpelling as spec;
 ghost use Rattle.vl_tree.specs.LvalWellFormed as formed;
 ghost use Rattle.vl_tree.specs.Phrase.{Spells, sign, ◌▸◌};
-ghost use Rattle.vl_grammar.specs.Machine.{then};
-ghost use Rattle.vl_grammar.specs.Grammar as grammar;
-ghost use Rattle.vl_take.specs.Goes.{Goes};
-ghost use Rattle.vl_take.specs.Next.{kinds_in};
+ghost use Rattle.vl_parse_grammar.specs.Machine.{then};
+ghost use Rattle.vl_parse_grammar.specs.Grammar as grammar;
+ghost use Rattle.vl_parse_cursor.specs.Goes.{Goes};
+ghost use Rattle.vl_parse_cursor.specs.Next.{kinds_in};
 
 use fv_base::{List, Symbol, Token};
 use std::alloc::Global;
-use vl_expr::read_selects;
-use vl_take::{Stop, add, enter, first_place, past_sign, read_name, read_sign};
+use vl_parse_cursor::{Stop, add, enter, first_place, past_sign, read_name, read_sign};
+use vl_parse_expr::read_selects;
 use vl_tree::{Lval, LvalKind};
 
 #[cycle(lval)]

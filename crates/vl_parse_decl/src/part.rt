@@ -8,20 +8,20 @@ ghost use Rattle.vl_tree.specs.ExprWellFormed.{IsValue, IsName, IsWellFormed};
 ghost use Rattle.vl_tree.specs.ItemSpelling as spec;
 ghost use Rattle.vl_tree.specs.WellFormed as formed;
 ghost use Rattle.fv_base.specs.declared.symbol.Symbol.TheVariants as s;
-ghost use Rattle.vl_grammar.specs.Grammar as grammar;
-ghost use Rattle.vl_take.specs.Goes.{Goes};
-ghost use Rattle.vl_take.specs.Next.{kinds_in, behind, behind_name};
-ghost use Rattle.vl_grammar.specs.Machine.{then};
-ghost use Rattle.vl_part.specs.LoopHead.{step, condition, last_step, steps};
+ghost use Rattle.vl_parse_grammar.specs.Grammar as grammar;
+ghost use Rattle.vl_parse_cursor.specs.Goes.{Goes};
+ghost use Rattle.vl_parse_cursor.specs.Next.{kinds_in, behind, behind_name};
+ghost use Rattle.vl_parse_grammar.specs.Machine.{then};
+ghost use Rattle.vl_parse_decl.specs.LoopHead.{step, condition, last_step, steps};
 
 use crate::list::{Element, read_list};
 use crate::lval::read_lval;
 use fv_base::{Keyword, Kind, List, Symbol, Text, Token};
 use std::alloc::Global;
-use vl_expr::read_expr;
-use vl_take::{
+use vl_parse_cursor::{
     Stop, copied, enter, first_place, next, past_name, past_sign, read_name, read_sign, read_word,
 };
+use vl_parse_expr::read_expr;
 use vl_tree::{Assignment, Connection, Event, EventKind, Expr, Instance, LoopHead};
 
 impl Element for Assignment {
@@ -45,7 +45,7 @@ impl Element for Assignment {
         Ok((Assignment { target, value }, rest))
     }
 
-    ghost use Rattle.vl_part.specs.Tails.{assignments_comma_all, assignments_ending};
+    ghost use Rattle.vl_parse_decl.specs.Tails.{assignments_comma_all, assignments_ending};
 
     ghost comma = { assignments_comma_all };
 
@@ -100,7 +100,7 @@ impl Element for Connection {
         Ok((Connection { pos, port, value }, rest))
     }
 
-    ghost use Rattle.vl_part.specs.Tails.{more_connections_comma_all, more_connections_ending};
+    ghost use Rattle.vl_parse_decl.specs.Tails.{more_connections_comma_all, more_connections_ending};
 
     ghost comma = { more_connections_comma_all };
 

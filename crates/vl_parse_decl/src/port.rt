@@ -20,18 +20,20 @@ ghost use Rattle.vl_tree.specs.DeclarationSpelling as spec;
 ghost use Rattle.vl_tree.specs.DeclarationWellFormed as formed;
 ghost use Rattle.vl_tree.specs.ItemSpelling.{spell_parameters, spell_ports};
 ghost use Rattle.vl_tree.specs.WellFormed.{AreOptionalParameters, AreOptionalPorts};
-ghost use Rattle.vl_grammar.specs.Machine.{then};
+ghost use Rattle.vl_parse_grammar.specs.Machine.{then};
 ghost use Rattle.fv_base.specs.declared.symbol.Symbol.TheVariants as s;
-ghost use Rattle.vl_grammar.specs.Grammar as grammar;
-ghost use Rattle.vl_take.specs.Goes.{Goes};
-ghost use Rattle.vl_take.specs.Next.{kinds_in, IsOther};
+ghost use Rattle.vl_parse_grammar.specs.Grammar as grammar;
+ghost use Rattle.vl_parse_cursor.specs.Goes.{Goes};
+ghost use Rattle.vl_parse_cursor.specs.Next.{kinds_in, IsOther};
 
 use crate::attribute::{Before, read_attributes, read_named_value, read_value};
 use crate::declaration::read_shape;
 use crate::list::{Element, read_list_behind};
 use fv_base::{Keyword, List, Symbol, Token};
 use std::alloc::Global;
-use vl_take::{Stop, enter, first_place, past_name, past_sign, past_word, read_sign, read_word};
+use vl_parse_cursor::{
+    Stop, enter, first_place, past_name, past_sign, past_word, read_sign, read_word,
+};
 use vl_tree::{Direction, FullPort, HeaderParameter, NetKind, Parameter, Port, PortKind};
 
 impl Element for HeaderParameter {
@@ -59,7 +61,7 @@ impl Element for HeaderParameter {
         Ok((HeaderParameter { keyword, parameter }, rest))
     }
 
-    ghost use Rattle.vl_part.specs.Tails.{more_header_parameters_comma_all, more_header_parameters_ending};
+    ghost use Rattle.vl_parse_decl.specs.Tails.{more_header_parameters_comma_all, more_header_parameters_ending};
 
     ghost comma = { more_header_parameters_comma_all };
 
@@ -259,7 +261,7 @@ impl Element for Port {
         }
     }
 
-    ghost use Rattle.vl_part.specs.Tails.{more_ports_comma_all, more_ports_ending};
+    ghost use Rattle.vl_parse_decl.specs.Tails.{more_ports_comma_all, more_ports_ending};
 
     ghost comma = { more_ports_comma_all };
 

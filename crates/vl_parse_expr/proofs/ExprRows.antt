@@ -10,24 +10,25 @@ use Rattle.fv_base.specs.declared.symbol.Symbol.TheVariants as s
 use Rattle.vl_tree.specs.declared.operator.UnaryOperator.{UnaryOperator}
 use Rattle.vl_tree.specs.declared.operator.BinaryOperator.{BinaryOperator}
 use Rattle.vl_tree.specs.declared.operator.Cast.{Cast}
-use Rattle.vl_grammar.specs.Machine as machine
-use Rattle.vl_grammar.specs.Machine.{Move, take, bad, syntax, deep, then}
-use Rattle.vl_grammar.specs.Operators.{unary_of, binary_of, cast_of}
-use Rattle.vl_grammar.specs.Grammar.{Rule, Stand, plain, first_in_braces, Outcome, expand, read, sign, expr, operand}
-use Rattle.vl_grammar.specs.Grammar.{more, selects, select_end, parts, in_parens, is_known, if_known, on_operand}
-use Rattle.vl_grammar.specs.Grammar.{on_operand_sign, on_unary, on_cast, on_binary}
-use Rattle.vl_take.specs.declared.lead.Lead.{Lead}
-use Rattle.vl_take.specs.declared.lead.Lead.TheVariants as lead
-use Rattle.vl_take.specs.declared.lead.Joint.{Joint}
-use Rattle.vl_take.specs.declared.lead.Joint.TheVariants as joint
-use Rattle.vl_take.specs.Lead.{lead_of, lead_of_number, lead_of_unary, lead_of_sign, lead_of_cast, joint_of}
-use Rattle.vl_take.specs.Lead.{joint_of_binary, joint_of_sign}
-use Rattle.vl_expr.specs.Levels.{Rests, RestsAt}
-use Rattle.vl_take.specs.Next.{IsOther, behind, behind_name}
+use Rattle.vl_parse_grammar.specs.Machine as machine
+use Rattle.vl_parse_grammar.specs.Machine.{Move, take, bad, syntax, deep, then}
+use Rattle.vl_parse_grammar.specs.Operators.{unary_of, binary_of, cast_of}
+use Rattle.vl_parse_grammar.specs.Grammar.{Rule, Stand, plain, first_in_braces, Outcome, expand, read, sign, expr}
+use Rattle.vl_parse_grammar.specs.Grammar.{operand}
+use Rattle.vl_parse_grammar.specs.Grammar.{more, selects, select_end, parts, in_parens, is_known, if_known, on_operand}
+use Rattle.vl_parse_grammar.specs.Grammar.{on_operand_sign, on_unary, on_cast, on_binary}
+use Rattle.vl_parse_cursor.specs.declared.lead.Lead.{Lead}
+use Rattle.vl_parse_cursor.specs.declared.lead.Lead.TheVariants as lead
+use Rattle.vl_parse_cursor.specs.declared.lead.Joint.{Joint}
+use Rattle.vl_parse_cursor.specs.declared.lead.Joint.TheVariants as joint
+use Rattle.vl_parse_cursor.specs.Lead.{lead_of, lead_of_number, lead_of_unary, lead_of_sign, lead_of_cast, joint_of}
+use Rattle.vl_parse_cursor.specs.Lead.{joint_of_binary, joint_of_sign}
+use Rattle.vl_parse_expr.specs.Levels.{Rests, RestsAt}
+use Rattle.vl_parse_cursor.specs.Next.{IsOther, behind, behind_name}
 use Rattle.vl_tree.specs.declared.operator.BinaryOperator.TheVariants as b
 use Rattle.vl_tree.specs.ExprWellFormed.{binds}
-use Rattle.vl_take.proofs.Tokens.{sign_row, kinds_length, name_here}
-use Rattle.vl_take.specs.Parts.{row_read, row_deep, row_bad}
+use Rattle.vl_parse_cursor.proofs.Tokens.{sign_row, kinds_length, name_here}
+use Rattle.vl_parse_cursor.specs.Parts.{row_read, row_deep, row_bad}
 
 abbrev pub is_unary : Lead → Bool
 is_unary (lead.Unary op) = true

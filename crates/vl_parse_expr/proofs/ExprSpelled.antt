@@ -17,10 +17,10 @@ use Rattle.vl_tree.specs.Expr.{cast, whole, bit, exprs}
 use Rattle.vl_tree.specs.ExprView.{selects}
 use Rattle.vl_tree.specs.ExprSpelling.{spell, spell_parts, spell_more, spell_selects, binary_sign}
 use Rattle.vl_tree.specs.ExprWellFormed.{IsWellFormed, AreWellFormed, AreSelects, IsSome}
-use Rattle.vl_take.specs.declared.lead.Joint.TheVariants as joint
-use Rattle.vl_grammar.specs.Operators.{binary_of}
-use Rattle.vl_take.specs.Lead.{joint_of, joint_of_sign, joint_of_binary}
-use Rattle.vl_expr.specs.Levels.{place}
+use Rattle.vl_parse_cursor.specs.declared.lead.Joint.TheVariants as joint
+use Rattle.vl_parse_grammar.specs.Operators.{binary_of}
+use Rattle.vl_parse_cursor.specs.Lead.{joint_of, joint_of_sign, joint_of_binary}
+use Rattle.vl_parse_expr.specs.Levels.{place}
 
 -- a fact of the value of a result, from another
 pub if_ok_then : {A E : Type 0} (P Q : A → Type 0) (r : Result A E) → IfOk r P → ((x : A) → P x → Q x) → IfOk r Q

@@ -9,19 +9,19 @@ use Rattle.fv_base.specs.declared.token.Token.{Token}
 use Rattle.vl_tree.specs.declared.operator.UnaryOperator.{UnaryOperator}
 use Rattle.vl_tree.specs.declared.operator.BinaryOperator.{BinaryOperator}
 use Rattle.vl_tree.specs.declared.operator.Cast.{Cast}
-use Rattle.vl_grammar.specs.Machine.{syntax, deep, then}
-use Rattle.vl_grammar.specs.Grammar.{Outcome, read, selects, in_parens, first_in_braces, operand, more}
-use Rattle.vl_take.specs.declared.stop.Stop.{Stop}
-use Rattle.vl_take.specs.declared.stop.Stop.TheVariants as stop
-use Rattle.vl_take.specs.declared.lead.Lead.TheVariants as lead
-use Rattle.vl_take.specs.declared.lead.Joint.TheVariants as joint
-use Rattle.vl_take.specs.Goes.{Goes, Ends}
-use Rattle.vl_take.specs.Lead.{lead_of, joint_of}
-use Rattle.vl_take.specs.Next.{behind, behind_name, kinds_in}
-use Rattle.vl_take.proofs.Tokens.{kinds_length}
-use Rattle.vl_expr.specs.declared.level.Level.{Level}
-use Rattle.vl_expr.specs.Levels.{stand_of, operand_at, more_at, Rests}
-use Rattle.vl_expr.proofs.ExprRows as rows
+use Rattle.vl_parse_grammar.specs.Machine.{syntax, deep, then}
+use Rattle.vl_parse_grammar.specs.Grammar.{Outcome, read, selects, in_parens, first_in_braces, operand, more}
+use Rattle.vl_parse_cursor.specs.declared.stop.Stop.{Stop}
+use Rattle.vl_parse_cursor.specs.declared.stop.Stop.TheVariants as stop
+use Rattle.vl_parse_cursor.specs.declared.lead.Lead.TheVariants as lead
+use Rattle.vl_parse_cursor.specs.declared.lead.Joint.TheVariants as joint
+use Rattle.vl_parse_cursor.specs.Goes.{Goes, Ends}
+use Rattle.vl_parse_cursor.specs.Lead.{lead_of, joint_of}
+use Rattle.vl_parse_cursor.specs.Next.{behind, behind_name, kinds_in}
+use Rattle.vl_parse_cursor.proofs.Tokens.{kinds_length}
+use Rattle.vl_parse_expr.specs.declared.level.Level.{Level}
+use Rattle.vl_parse_expr.specs.Levels.{stand_of, operand_at, more_at, Rests}
+use Rattle.vl_parse_expr.proofs.ExprRows as rows
 
 -- where a part ends, the whole does
 pub ends_then : (e : Stop) (o : Outcome) (f : List Kind → Outcome) → Ends e o → Ends e (then o f)

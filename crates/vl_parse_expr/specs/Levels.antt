@@ -4,14 +4,14 @@ use Rattle.fv_base.specs.declared.kind.Kind.{Kind}
 use Rattle.fv_base.specs.declared.pos.Pos.{Pos}
 use Rattle.vl_tree.specs.Expr.{Expr, number, name, paren, unary, binary, conditional, concat, repeat, cast}
 use Rattle.vl_tree.specs.ExprWellFormed.{binds}
-use Rattle.vl_grammar.specs.Grammar as grammar
-use Rattle.vl_grammar.specs.Grammar.{Outcome, read, operand, more}
-use Rattle.vl_take.specs.declared.lead.Joint.{Joint}
-use Rattle.vl_take.specs.declared.lead.Joint.TheVariants as joint
-use Rattle.vl_expr.specs.declared.level.Level.{Level}
-use Rattle.vl_expr.specs.declared.level.Stand.{Stand}
-use Rattle.vl_expr.specs.declared.level.Stand.TheVariants as stand
-use Rattle.vl_take.specs.Lead.{joint_of}
+use Rattle.vl_parse_grammar.specs.Grammar as grammar
+use Rattle.vl_parse_grammar.specs.Grammar.{Outcome, read, operand, more}
+use Rattle.vl_parse_cursor.specs.declared.lead.Joint.{Joint}
+use Rattle.vl_parse_cursor.specs.declared.lead.Joint.TheVariants as joint
+use Rattle.vl_parse_expr.specs.declared.level.Level.{Level}
+use Rattle.vl_parse_expr.specs.declared.level.Stand.{Stand}
+use Rattle.vl_parse_expr.specs.declared.level.Stand.TheVariants as stand
+use Rattle.vl_parse_cursor.specs.Lead.{joint_of}
 
 -- the place of its first token
 abbrev pub place : Expr → Pos

@@ -22,16 +22,16 @@ ghost use Rattle.vl_tree.specs.Expr.{exprs};
 ghost use Rattle.vl_tree.specs.ExprView.{selects};
 ghost use Rattle.vl_tree.specs.ExprSpelling as spec;
 ghost use Rattle.vl_tree.specs.ExprWellFormed as formed;
-ghost use Rattle.vl_grammar.specs.Grammar as grammar;
-ghost use Rattle.vl_take.specs.Goes.{Goes};
-ghost use Rattle.vl_expr.specs.Levels.{operand_at, more_at, Rests};
-ghost use Rattle.vl_take.specs.Next.{kinds_in};
+ghost use Rattle.vl_parse_grammar.specs.Grammar as grammar;
+ghost use Rattle.vl_parse_cursor.specs.Goes.{Goes};
+ghost use Rattle.vl_parse_expr.specs.Levels.{operand_at, more_at, Rests};
+ghost use Rattle.vl_parse_cursor.specs.Next.{kinds_in};
 
 use crate::level::{Level, Stand};
 use crate::make;
 use fv_base::{List, Pos, Symbol, Token};
 use std::alloc::Global;
-use vl_take::{
+use vl_parse_cursor::{
     Joint, Lead, Stop, add, binds, enter, first_place, joint_of, lead_of, next, past_sign,
     read_name, read_sign,
 };

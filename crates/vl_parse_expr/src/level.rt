@@ -1,7 +1,7 @@
 //! Where reading stands within the brackets around an operator.
 
 use fv_base::Token;
-use vl_take::Stop;
+use vl_parse_cursor::Stop;
 
 #[derive(Clone, Copy)]
 pub(crate) enum Stand {
@@ -22,8 +22,8 @@ pub(crate) struct Level {
 
 impl Level {
     ghost use Rattle.std.specs.Prelude.{◌≡◌, ◌+◌, ◌<◌, ◌≤◌, ◌^◌, Err, length, IfOk, IfErr};
-    ghost use Rattle.vl_grammar.specs.Machine.{deep};
-    ghost use Rattle.vl_take.specs.Goes.{Means};
+    ghost use Rattle.vl_parse_grammar.specs.Machine.{deep};
+    ghost use Rattle.vl_parse_cursor.specs.Goes.{Means};
 
     pub(crate) fn new(stand: Stand, room: u32) -> Level
         ensures stand { result.stand ≡ stand }

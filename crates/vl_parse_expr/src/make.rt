@@ -3,12 +3,12 @@
 ghost use Rattle.std.specs.Prelude.{◌≡◌, ◌∷◌, [], IfOk, IfErr};
 ghost use Rattle.vl_tree.specs.Expr as tree;
 ghost use Rattle.vl_tree.specs.ExprView.{selects};
-ghost use Rattle.vl_expr.specs.Levels.{place};
-ghost use Rattle.vl_take.specs.Goes.{IsMemory};
+ghost use Rattle.vl_parse_expr.specs.Levels.{place};
+ghost use Rattle.vl_parse_cursor.specs.Goes.{IsMemory};
 
 use fv_base::{List, Number, Pos, Text};
 use std::alloc::Global;
-use vl_take::Stop;
+use vl_parse_cursor::Stop;
 use vl_tree::{BinaryOperator, Cast, Expr, ExprKind, Select, UnaryOperator};
 
 fn boxed<T: Drop>(alloc: Global, value: T) -> Result<Box<T>, Stop>

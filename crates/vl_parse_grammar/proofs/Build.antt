@@ -8,7 +8,7 @@ use Rattle.vl_tree.specs.declared.operator.BinaryOperator.{BinaryOperator}
 use Rattle.vl_tree.specs.Expr.{Expr, number, paren, unary, binary, conditional, concat, repeat, cast}
 use Rattle.vl_tree.specs.Expr as tree
 use Rattle.vl_tree.specs.ExprWellFormed.{IsWellFormed, binds, level}
-use Rattle.vl_grammar.proofs.Spine.{binds_range}
+use Rattle.vl_parse_grammar.proofs.Spine.{binds_range}
 
 pub data Elem : Type 0 where
   prefix_at : Pos → UnaryOperator → Elem

@@ -8,7 +8,7 @@ use Rattle.fv_base.specs.declared.kind.Kind.{Kind}
 use Rattle.fv_base.specs.declared.kind.Kind.TheVariants as k
 use Rattle.fv_base.specs.declared.symbol.Symbol.{Symbol}
 use Rattle.fv_base.specs.declared.symbol.Symbol.TheVariants as s
-use Rattle.vl_grammar.specs.Grammar.{
+use Rattle.vl_parse_grammar.specs.Grammar.{
   Rule,
   Stand,
   Ending,
@@ -48,16 +48,16 @@ use Rattle.vl_grammar.specs.Grammar.{
 use Rattle.vl_tree.specs.declared.operator.BinaryOperator.{BinaryOperator}
 use Rattle.vl_tree.specs.declared.stmt.CaseKind.{CaseKind}
 use Rattle.vl_tree.specs.declared.stmt.CaseKind.TheVariants as c
-use Rattle.vl_grammar.specs.Machine as machine
-use Rattle.vl_grammar.specs.Machine.{free_step, symbols, take, pop, bad}
-use Rattle.vl_grammar.specs.Grammar as grammar
-use Rattle.vl_grammar.specs.Operators.{binary_of}
-use Rattle.vl_grammar.proofs.Named.{Named, on, accepts}
-use Rattle.vl_grammar.proofs.Viable as viable
-use Rattle.vl_grammar.proofs.Steps.{apart, is_pop, popped, took}
-use Rattle.vl_grammar.proofs.Viable.{both}
-use Rattle.vl_grammar.proofs.Words.{word, name_word, behind, left_out, follow, follow_expr, sound, ending_word}
-use Rattle.vl_grammar.proofs.Words.{a_is_name}
+use Rattle.vl_parse_grammar.specs.Machine as machine
+use Rattle.vl_parse_grammar.specs.Machine.{free_step, symbols, take, pop, bad}
+use Rattle.vl_parse_grammar.specs.Grammar as grammar
+use Rattle.vl_parse_grammar.specs.Operators.{binary_of}
+use Rattle.vl_parse_grammar.proofs.Named.{Named, on, accepts}
+use Rattle.vl_parse_grammar.proofs.Viable as viable
+use Rattle.vl_parse_grammar.proofs.Steps.{apart, is_pop, popped, took}
+use Rattle.vl_parse_grammar.proofs.Viable.{both}
+use Rattle.vl_parse_grammar.proofs.Words.{word, name_word, behind, left_out, follow, follow_expr, sound, ending_word}
+use Rattle.vl_parse_grammar.proofs.Words.{a_is_name}
 
 abbrev pub Lets : ℕ → List Named → Type 0
 Lets c ts = viable.Lets on ends word follow left_out sound c ts

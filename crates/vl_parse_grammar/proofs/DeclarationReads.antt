@@ -48,8 +48,8 @@ use Rattle.vl_tree.specs.DeclarationWellFormed.{
   IsPort,
   IsFull,
 }
-use Rattle.vl_grammar.specs.Grammar as g
-use Rattle.vl_grammar.specs.Grammar.{
+use Rattle.vl_parse_grammar.specs.Grammar as g
+use Rattle.vl_parse_grammar.specs.Grammar.{
   Rule,
   plain,
   more,
@@ -75,10 +75,10 @@ use Rattle.vl_grammar.specs.Grammar.{
   ends,
   attributed,
 }
-use Rattle.vl_grammar.proofs.Onto.{onto}
-use Rattle.vl_grammar.proofs.Steps as steps
+use Rattle.vl_parse_grammar.proofs.Onto.{onto}
+use Rattle.vl_parse_grammar.proofs.Steps as steps
 use Rattle.vl_tree.specs.DeclarationWellFormed as well_declared
-use Rattle.vl_grammar.proofs.ExprReads.{Leaves, leaves, whole_read, selects_read, value_read}
+use Rattle.vl_parse_grammar.proofs.ExprReads.{Leaves, leaves, whole_read, selects_read, value_read}
 
 -- behind an element of a list: nothing goes on
 abbrev pub Behind : List Kind → Type 0

@@ -50,8 +50,8 @@ use Rattle.vl_tree.specs.DeclarationWellFormed.{
   IsPort,
   IsFull,
 }
-use Rattle.vl_grammar.specs.Grammar as g
-use Rattle.vl_grammar.specs.Grammar.{
+use Rattle.vl_parse_grammar.specs.Grammar as g
+use Rattle.vl_parse_grammar.specs.Grammar.{
   Rule,
   plain,
   more,
@@ -77,13 +77,13 @@ use Rattle.vl_grammar.specs.Grammar.{
   ends,
   attributed,
 }
-use Rattle.vl_grammar.proofs.Onto.{onto}
+use Rattle.vl_parse_grammar.proofs.Onto.{onto}
 use Rattle.vl_tree.specs.DeclarationWellFormed as well_declared
-use Rattle.vl_grammar.specs.Machine.{Row, fits, left}
-use Rattle.vl_grammar.proofs.ExprReads.{Leaves}
-use Rattle.vl_grammar.proofs.DeclarationReads.{Behind, behind_target, range_behind, no_keyword, no_net}
-use Rattle.vl_grammar.proofs.Measured.{Ran, run, open_after, measured, opened_run, took_run, leaves_run, shifted}
-use Rattle.vl_grammar.proofs.ExprRuns.{selects_closed, selects_run, whole_run, value_run}
+use Rattle.vl_parse_grammar.specs.Machine.{Row, fits, left}
+use Rattle.vl_parse_grammar.proofs.ExprReads.{Leaves}
+use Rattle.vl_parse_grammar.proofs.DeclarationReads.{Behind, behind_target, range_behind, no_keyword, no_net}
+use Rattle.vl_parse_grammar.proofs.Measured.{Ran, run, open_after, measured, opened_run, took_run, leaves_run, shifted}
+use Rattle.vl_parse_grammar.proofs.ExprRuns.{selects_closed, selects_run, whole_run, value_run}
 
 -- behind a phrase that leaves nothing open
 pub behind : (a b : Phrase) (room : ℕ) (rest : List Kind) (out : Ran) → open_after a 0 ≡ 0

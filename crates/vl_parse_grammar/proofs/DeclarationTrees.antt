@@ -26,8 +26,8 @@ use Rattle.vl_tree.specs.DeclarationSpelling.{spell_attribute, spell_instance, s
 use Rattle.vl_tree.specs.DeclarationSpelling.{spell_declared_name, spell_parameter, spell_header_parameter}
 use Rattle.vl_tree.specs.DeclarationWellFormed.{AreSome, IsAttribute, IsInstance, IsOptionalRange, IsShape}
 use Rattle.vl_tree.specs.DeclarationWellFormed.{IsDeclaredName, IsParameter, IsHeaderParameter, AreHeaderParameters}
-use Rattle.vl_grammar.specs.Grammar as g
-use Rattle.vl_grammar.specs.Grammar.{
+use Rattle.vl_parse_grammar.specs.Grammar as g
+use Rattle.vl_parse_grammar.specs.Grammar.{
   Rule,
   Moves,
   selects,
@@ -54,14 +54,14 @@ use Rattle.vl_grammar.specs.Grammar.{
   net,
   many,
 }
-use Rattle.vl_grammar.specs.Machine.{Row, take, pop, bad, symbols}
-use Rattle.vl_grammar.proofs.Named.{Named, Derives, plain}
-use Rattle.vl_grammar.proofs.Onto.{onto}
-use Rattle.vl_grammar.proofs.Runs as runs
-use Rattle.vl_grammar.proofs.Steps.{apart}
-use Rattle.vl_grammar.proofs.Spine.{nowhere}
-use Rattle.vl_grammar.proofs.TokenTrees.{Moved, sign_tree, name_tree, parameter_word_tree}
-use Rattle.vl_grammar.proofs.ExprTrees.{expr_tree, selects_tree, value_tree}
+use Rattle.vl_parse_grammar.specs.Machine.{Row, take, pop, bad, symbols}
+use Rattle.vl_parse_grammar.proofs.Named.{Named, Derives, plain}
+use Rattle.vl_parse_grammar.proofs.Onto.{onto}
+use Rattle.vl_parse_grammar.proofs.Runs as runs
+use Rattle.vl_parse_grammar.proofs.Steps.{apart}
+use Rattle.vl_parse_grammar.proofs.Spine.{nowhere}
+use Rattle.vl_parse_grammar.proofs.TokenTrees.{Moved, sign_tree, name_tree, parameter_word_tree}
+use Rattle.vl_parse_grammar.proofs.ExprTrees.{expr_tree, selects_tree, value_tree}
 
 -- rules one behind the other are read in turn
 abbrev pub Turn : ℕ → List Rule → List Named → List Named → Type 0

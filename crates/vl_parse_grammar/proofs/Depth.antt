@@ -7,11 +7,11 @@ use Rattle.std.proofs.lemmas.List.{length-append}
 use Rattle.fv_base.specs.declared.kind.Kind.{Kind}
 use Rattle.vl_tree.proofs.Readings.{counted}
 use Rattle.vl_tree.specs.Phrase.{Phrase, nothing, token, operator, ◌▸◌, at, within, level, kinds, open_at, open_behind}
-use Rattle.vl_grammar.specs.Machine.{deep, fits}
-use Rattle.vl_grammar.specs.Depth.{first_above, unless_too_deep}
-use Rattle.vl_grammar.proofs.Onto.{onto, onto_kinds}
-use Rattle.vl_grammar.proofs.Steps.{apart}
-use Rattle.vl_grammar.proofs.Measured.{Ran, held, opening, either, has_token, open_after, measured, inner}
+use Rattle.vl_parse_grammar.specs.Machine.{deep, fits}
+use Rattle.vl_parse_grammar.specs.Depth.{first_above, unless_too_deep}
+use Rattle.vl_parse_grammar.proofs.Onto.{onto, onto_kinds}
+use Rattle.vl_parse_grammar.proofs.Steps.{apart}
+use Rattle.vl_parse_grammar.proofs.Measured.{Ran, held, opening, either, has_token, open_after, measured, inner}
 
 fits_bound : (n room : ℕ) → fits n room ≡ true → n ≤ room
 fits_bound zero room h = omega arith

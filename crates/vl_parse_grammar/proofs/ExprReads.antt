@@ -17,9 +17,9 @@ use Rattle.vl_tree.specs.Expr.{none, whole, bit, part, indexed}
 use Rattle.vl_tree.specs.ExprSpelling.{spell, spell_more, spell_selects, spell_value, unary_sign, binary_sign}
 use Rattle.vl_tree.specs.ExprSpelling.{cast_name}
 use Rattle.vl_tree.specs.ExprWellFormed.{IsWellFormed, AreWellFormed, AreSelects, IsKnown, IsValue}
-use Rattle.vl_grammar.specs.Machine.{take}
-use Rattle.vl_grammar.specs.Operators.{cast_of, binary_of}
-use Rattle.vl_grammar.specs.Grammar.{
+use Rattle.vl_parse_grammar.specs.Machine.{take}
+use Rattle.vl_parse_grammar.specs.Operators.{cast_of, binary_of}
+use Rattle.vl_parse_grammar.specs.Grammar.{
   Rule,
   Stand,
   plain,
@@ -45,9 +45,9 @@ use Rattle.vl_grammar.specs.Grammar.{
   on_no_operator,
   on_binary,
 }
-use Rattle.vl_grammar.proofs.Onto.{onto}
-use Rattle.vl_grammar.proofs.Steps as steps
-use Rattle.vl_grammar.proofs.Steps.{is_pop}
+use Rattle.vl_parse_grammar.proofs.Onto.{onto}
+use Rattle.vl_parse_grammar.proofs.Steps as steps
+use Rattle.vl_parse_grammar.proofs.Steps.{is_pop}
 
 abbrev pub Leaves : Rule → List Kind → Type 0
 Leaves x ts = steps.Leaves expand ends x ts

@@ -10,9 +10,9 @@ use Rattle.vl_tree.specs.ExprSpelling.{spell, spell_parts, spell_more, spell_sel
 use Rattle.vl_tree.specs.ExprSpelling.{binary_sign, cast_name}
 use Rattle.vl_tree.specs.ExprWellFormed.{IsWellFormed, AreWellFormed, AreSelects, IsValue}
 use Rattle.vl_tree.specs.Phrase.{◌▸◌, level, sign, parens, braces}
-use Rattle.vl_grammar.specs.Machine.{Row, take, fits, left}
-use Rattle.vl_grammar.specs.Grammar as g
-use Rattle.vl_grammar.specs.Grammar.{
+use Rattle.vl_parse_grammar.specs.Machine.{Row, take, fits, left}
+use Rattle.vl_parse_grammar.specs.Grammar as g
+use Rattle.vl_parse_grammar.specs.Grammar.{
   Rule,
   Stand,
   plain,
@@ -28,8 +28,8 @@ use Rattle.vl_grammar.specs.Grammar.{
   if_known,
   on_cast,
 }
-use Rattle.vl_grammar.proofs.Onto.{onto}
-use Rattle.vl_grammar.proofs.ExprReads.{
+use Rattle.vl_parse_grammar.proofs.Onto.{onto}
+use Rattle.vl_parse_grammar.proofs.ExprReads.{
   Leaves,
   Ends,
   known,
@@ -41,7 +41,8 @@ use Rattle.vl_grammar.proofs.ExprReads.{
   select_behind,
   part_behind,
 }
-use Rattle.vl_grammar.proofs.Measured.{run, open_after, measured, opened_run, took_run, leaves_run, shifted, inner}
+use Rattle.vl_parse_grammar.proofs.Measured.{run, open_after, measured, opened_run, took_run, leaves_run, shifted}
+use Rattle.vl_parse_grammar.proofs.Measured.{inner}
 
 -- no operator is open behind selects
 pub selects_closed : (ss : Selects) (n : ℕ) → open_after (spell_selects ss) n ≡ n

@@ -13,9 +13,9 @@ use Rattle.vl_tree.specs.Expr as tree
 use Rattle.vl_tree.specs.Expr.{Expr, Exprs, Selects}
 use Rattle.vl_tree.specs.ExprSpelling.{spell, spell_more, spell_selects, spell_value}
 use Rattle.vl_tree.specs.ExprWellFormed.{IsWellFormed, AreWellFormed, AreSelects, IsValue, binds, level}
-use Rattle.vl_grammar.specs.Machine.{take}
-use Rattle.vl_grammar.specs.Operators.{cast_of, binary_of, unary_of}
-use Rattle.vl_grammar.specs.Grammar.{
+use Rattle.vl_parse_grammar.specs.Machine.{take}
+use Rattle.vl_parse_grammar.specs.Operators.{cast_of, binary_of, unary_of}
+use Rattle.vl_parse_grammar.specs.Grammar.{
   Stand,
   first_in_braces,
   sign,
@@ -36,13 +36,14 @@ use Rattle.vl_grammar.specs.Grammar.{
   on_binary,
   on_end,
 }
-use Rattle.vl_grammar.specs.Grammar as g
-use Rattle.vl_grammar.proofs.Named.{Named, Derives, plain}
-use Rattle.vl_grammar.proofs.Onto.{onto}
-use Rattle.vl_grammar.proofs.Steps.{apart}
-use Rattle.vl_grammar.proofs.TokenTrees.{Moved, unary_same, binary_same, cast_text, known_number, sign_tree}
-use Rattle.vl_grammar.proofs.Spine.{Spine, start, prefix, left, ask, choice, before, waits, IsFormed, State, reduce}
-use Rattle.vl_grammar.proofs.Spine.{Whole, done, asked, applied, nowhere, binds_range, floor_range, floor_none}
+use Rattle.vl_parse_grammar.specs.Grammar as g
+use Rattle.vl_parse_grammar.proofs.Named.{Named, Derives, plain}
+use Rattle.vl_parse_grammar.proofs.Onto.{onto}
+use Rattle.vl_parse_grammar.proofs.Steps.{apart}
+use Rattle.vl_parse_grammar.proofs.TokenTrees.{Moved, unary_same, binary_same, cast_text, known_number, sign_tree}
+use Rattle.vl_parse_grammar.proofs.Spine.{Spine, start, prefix, left, ask, choice, before, waits, IsFormed, State}
+use Rattle.vl_parse_grammar.proofs.Spine.{reduce}
+use Rattle.vl_parse_grammar.proofs.Spine.{Whole, done, asked, applied, nowhere, binds_range, floor_range, floor_none}
 
 -- an expression that the tokens are, up to others
 pub record Found (ts ks : List Kind) : Type 0 where

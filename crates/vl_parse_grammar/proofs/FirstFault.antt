@@ -6,20 +6,21 @@ use Rattle.fv_base.specs.declared.kind.Kind.{Kind}
 use Rattle.fv_base.specs.declared.token.Token.{Token}
 use Rattle.vl_tree.specs.Phrase.{kinds, kinds_of}
 use Rattle.vl_tree.specs.ItemSpelling.{spell_source}
-use Rattle.vl_grammar.specs.Machine as machine
-use Rattle.vl_grammar.specs.Machine.{Row, Move, take, pop, bad, Fault, syntax, deep, Stepped, stuck, emptied, over}
-use Rattle.vl_grammar.specs.Machine.{goes, fits, placed, taken, symbols, step, free_step, IsStuck}
-use Rattle.vl_grammar.specs.Grammar as grammar
-use Rattle.vl_grammar.specs.Grammar.{Rule, Moves, expand, ends, modules, start}
-use Rattle.vl_grammar.specs.Text.{IsText, IsFaulty}
-use Rattle.vl_grammar.proofs.Named.{Named, on, plain, accepts, plain_both, step_plain, accepts_plain}
-use Rattle.vl_grammar.proofs.Onto.{onto_kinds, all_of}
-use Rattle.vl_grammar.proofs.RowsFit.{goes_on}
-use Rattle.vl_grammar.proofs.Runs as runs
-use Rattle.vl_grammar.proofs.SourceReads.{source_reads}
-use Rattle.vl_grammar.proofs.SourceTrees.{source_tree}
-use Rattle.vl_grammar.proofs.Viable as viable
-use Rattle.vl_grammar.proofs.Words.{word, left_out, follow, sound}
+use Rattle.vl_parse_grammar.specs.Machine as machine
+use Rattle.vl_parse_grammar.specs.Machine.{Row, Move, take, pop, bad, Fault, syntax, deep, Stepped, stuck, emptied}
+use Rattle.vl_parse_grammar.specs.Machine.{over}
+use Rattle.vl_parse_grammar.specs.Machine.{goes, fits, placed, taken, symbols, step, free_step, IsStuck}
+use Rattle.vl_parse_grammar.specs.Grammar as grammar
+use Rattle.vl_parse_grammar.specs.Grammar.{Rule, Moves, expand, ends, modules, start}
+use Rattle.vl_parse_grammar.specs.Text.{IsText, IsFaulty}
+use Rattle.vl_parse_grammar.proofs.Named.{Named, on, plain, accepts, plain_both, step_plain, accepts_plain}
+use Rattle.vl_parse_grammar.proofs.Onto.{onto_kinds, all_of}
+use Rattle.vl_parse_grammar.proofs.RowsFit.{goes_on}
+use Rattle.vl_parse_grammar.proofs.Runs as runs
+use Rattle.vl_parse_grammar.proofs.SourceReads.{source_reads}
+use Rattle.vl_parse_grammar.proofs.SourceTrees.{source_tree}
+use Rattle.vl_parse_grammar.proofs.Viable as viable
+use Rattle.vl_parse_grammar.proofs.Words.{word, left_out, follow, sound}
 
 -- The token with so many tokens from it on is right: some text begins with the tokens up to it.
 pub record IsRight (ks : List Kind) (left : ℕ) : Type 0 where

@@ -10,9 +10,9 @@ use Rattle.vl_tree.specs.ExprWellFormed as expr_well
 use Rattle.vl_tree.specs.Phrase.{Phrase, kinds_of, IsNext, Spells}
 use Rattle.vl_tree.specs.Stmt.{Stmt}
 use Rattle.vl_tree.specs.StmtSpelling as stmt
-use Rattle.vl_grammar.proofs.Onto.{onto, onto_kinds}
-use Rattle.vl_grammar.proofs.OneToken.{first}
-use Rattle.vl_grammar.proofs.StmtReads.{Plain, expr_front, Begins, stmt_front}
+use Rattle.vl_parse_grammar.proofs.Onto.{onto, onto_kinds}
+use Rattle.vl_parse_grammar.proofs.OneToken.{first}
+use Rattle.vl_parse_grammar.proofs.StmtReads.{Plain, expr_front, Begins, stmt_front}
 
 abbrev pub head : List Kind → Kind
 head [] = k.Quoted

@@ -70,9 +70,9 @@ use Rattle.vl_tree.specs.StmtWellFormed as stmt_well
 use Rattle.vl_tree.specs.WellFormed.{IsAssignment, IsConnection, AreOverrides, IsHead, attributes_of, mark_of}
 use Rattle.vl_tree.specs.WellFormed.{ends_open, block_ends_open, open_behind, AreBalanced, IsWellFormed}
 use Rattle.vl_tree.specs.WellFormed.{AreWellFormed, IsBlock}
-use Rattle.vl_grammar.specs.Machine.{Row, take, pop, bad, symbols}
-use Rattle.vl_grammar.specs.Grammar as g
-use Rattle.vl_grammar.specs.Grammar.{
+use Rattle.vl_parse_grammar.specs.Machine.{Row, take, pop, bad, symbols}
+use Rattle.vl_parse_grammar.specs.Grammar as g
+use Rattle.vl_parse_grammar.specs.Grammar.{
   Rule,
   Moves,
   Ending,
@@ -112,13 +112,13 @@ use Rattle.vl_grammar.specs.Grammar.{
   on_otherwise,
   on_generate_otherwise,
 }
-use Rattle.vl_grammar.proofs.Onto.{onto}
-use Rattle.vl_grammar.proofs.Regions.{NoClose, some_none, no_open, no_mark, never, first_opens}
-use Rattle.vl_grammar.proofs.Steps as steps
-use Rattle.vl_grammar.proofs.Steps.{is_pop, apart}
-use Rattle.vl_grammar.proofs.Words.{ending_word}
-use Rattle.vl_grammar.proofs.ExprReads.{Leaves, leaves, whole_read, parens_read, selects_read}
-use Rattle.vl_grammar.proofs.DeclarationReads.{
+use Rattle.vl_parse_grammar.proofs.Onto.{onto}
+use Rattle.vl_parse_grammar.proofs.Regions.{NoClose, some_none, no_open, no_mark, never, first_opens}
+use Rattle.vl_parse_grammar.proofs.Steps as steps
+use Rattle.vl_parse_grammar.proofs.Steps.{is_pop, apart}
+use Rattle.vl_parse_grammar.proofs.Words.{ending_word}
+use Rattle.vl_parse_grammar.proofs.ExprReads.{Leaves, leaves, whole_read, parens_read, selects_read}
+use Rattle.vl_parse_grammar.proofs.DeclarationReads.{
   Behind,
   attributes_read,
   target_read,
@@ -129,7 +129,7 @@ use Rattle.vl_grammar.proofs.DeclarationReads.{
   declared_names_read,
   parameters_read,
 }
-use Rattle.vl_grammar.proofs.StmtReads.{Plain, expr_front, stmt_reads, stepped, on_step, never_operand}
+use Rattle.vl_parse_grammar.proofs.StmtReads.{Plain, expr_front, stmt_reads, stepped, on_step, never_operand}
 
 -- what may stand behind `initial`
 pub data BeginsInitial : Kind → Type 0 where

@@ -37,9 +37,9 @@ use Rattle.vl_tree.specs.StmtSpelling as stmt_spelling
 use Rattle.vl_tree.specs.StmtSpelling.{spell_label}
 use Rattle.vl_tree.specs.WellFormed.{mark_of, ends_open, block_ends_open, open_behind, AreBalanced, IsWellFormed}
 use Rattle.vl_tree.specs.WellFormed.{AreWellFormed, IsBlock}
-use Rattle.vl_grammar.specs.Machine.{Row, left}
-use Rattle.vl_grammar.specs.Grammar as g
-use Rattle.vl_grammar.specs.Grammar.{
+use Rattle.vl_parse_grammar.specs.Machine.{Row, left}
+use Rattle.vl_parse_grammar.specs.Grammar as g
+use Rattle.vl_parse_grammar.specs.Grammar.{
   Rule,
   Moves,
   Ending,
@@ -79,18 +79,19 @@ use Rattle.vl_grammar.specs.Grammar.{
   on_otherwise,
   on_generate_otherwise,
 }
-use Rattle.vl_grammar.proofs.Onto.{onto}
-use Rattle.vl_grammar.proofs.Regions.{NoClose, some_none, no_open, no_mark, never}
-use Rattle.vl_grammar.proofs.Steps.{apart}
-use Rattle.vl_grammar.proofs.Words.{ending_word}
-use Rattle.vl_grammar.proofs.ItemReads.{NoElse, items_leave, current}
-use Rattle.vl_grammar.proofs.Measured.{run, measured, opened_run, leaves_run, shifted}
-use Rattle.vl_grammar.proofs.ExprRuns.{parens_run}
-use Rattle.vl_grammar.proofs.DeclarationRuns.{behind, attributed_run, declared_names_run, parameters_run}
-use Rattle.vl_grammar.proofs.StmtRuns.{stmt_runs}
-use Rattle.vl_grammar.proofs.PartRuns.{initial_runs, names_run, declaration_at, parameter_at, genvars_run}
-use Rattle.vl_grammar.proofs.PartRuns.{assignments_run, event_run, event_closed, overrides_run, head_run, head_closed}
-use Rattle.vl_grammar.proofs.PartRuns.{item_closed, block_closed, label_by, in_list, as_block, read_ending}
+use Rattle.vl_parse_grammar.proofs.Onto.{onto}
+use Rattle.vl_parse_grammar.proofs.Regions.{NoClose, some_none, no_open, no_mark, never}
+use Rattle.vl_parse_grammar.proofs.Steps.{apart}
+use Rattle.vl_parse_grammar.proofs.Words.{ending_word}
+use Rattle.vl_parse_grammar.proofs.ItemReads.{NoElse, items_leave, current}
+use Rattle.vl_parse_grammar.proofs.Measured.{run, measured, opened_run, leaves_run, shifted}
+use Rattle.vl_parse_grammar.proofs.ExprRuns.{parens_run}
+use Rattle.vl_parse_grammar.proofs.DeclarationRuns.{behind, attributed_run, declared_names_run, parameters_run}
+use Rattle.vl_parse_grammar.proofs.StmtRuns.{stmt_runs}
+use Rattle.vl_parse_grammar.proofs.PartRuns.{initial_runs, names_run, declaration_at, parameter_at, genvars_run}
+use Rattle.vl_parse_grammar.proofs.PartRuns.{assignments_run, event_run, event_closed, overrides_run, head_run}
+use Rattle.vl_parse_grammar.proofs.PartRuns.{head_closed}
+use Rattle.vl_parse_grammar.proofs.PartRuns.{item_closed, block_closed, label_by, in_list, as_block, read_ending}
 
 -- what is to come behind the list that is read, where so many regions are open in a list with the ending
 abbrev around : ℕ → Ending → ℕ → Row Rule → Row Rule

@@ -47,8 +47,8 @@ use Rattle.vl_tree.specs.StmtSpelling.{spell_label}
 use Rattle.vl_tree.specs.StmtWellFormed.{IsOptionalName}
 use Rattle.vl_tree.specs.WellFormed.{attributes_of, mark_of, ends_open, block_ends_open, AreBalanced, IsWellFormed}
 use Rattle.vl_tree.specs.WellFormed.{AreWellFormed, IsBlock}
-use Rattle.vl_grammar.specs.Grammar as g
-use Rattle.vl_grammar.specs.Grammar.{
+use Rattle.vl_parse_grammar.specs.Grammar as g
+use Rattle.vl_parse_grammar.specs.Grammar.{
   Rule,
   Moves,
   Ending,
@@ -67,20 +67,21 @@ use Rattle.vl_grammar.specs.Grammar.{
   on_item_word,
   on_bare_item,
 }
-use Rattle.vl_grammar.proofs.Named.{Named, Derives, plain}
-use Rattle.vl_grammar.proofs.Onto.{onto}
-use Rattle.vl_grammar.proofs.Regions.{some_none, joined, joined_spelled, joined_formed, region_behind, unmarked_behind}
-use Rattle.vl_grammar.proofs.Steps.{apart}
-use Rattle.vl_grammar.proofs.Words.{ending_word}
-use Rattle.vl_grammar.proofs.ExprReads.{Leaves}
-use Rattle.vl_grammar.proofs.ItemReads.{NoElse}
-use Rattle.vl_grammar.proofs.Spine.{nowhere}
-use Rattle.vl_grammar.proofs.TokenTrees.{Moved, sign_tree, name_tree}
-use Rattle.vl_grammar.proofs.ExprTrees.{parens_tree}
-use Rattle.vl_grammar.proofs.DeclarationTrees.{Turn, Split, many_split, last_of, attributed_tree, FoundList}
-use Rattle.vl_grammar.proofs.DeclarationTrees.{shape_tree, declared_names_tree, names_tree, parameters_tree}
-use Rattle.vl_grammar.proofs.StmtTrees.{no_attributes, not_open, stmt_tree}
-use Rattle.vl_grammar.proofs.PartTrees.{initial_tree, assignments_tree, event_tree, overrides_tree, head_tree}
+use Rattle.vl_parse_grammar.proofs.Named.{Named, Derives, plain}
+use Rattle.vl_parse_grammar.proofs.Onto.{onto}
+use Rattle.vl_parse_grammar.proofs.Regions.{some_none, joined, joined_spelled, joined_formed, region_behind}
+use Rattle.vl_parse_grammar.proofs.Regions.{unmarked_behind}
+use Rattle.vl_parse_grammar.proofs.Steps.{apart}
+use Rattle.vl_parse_grammar.proofs.Words.{ending_word}
+use Rattle.vl_parse_grammar.proofs.ExprReads.{Leaves}
+use Rattle.vl_parse_grammar.proofs.ItemReads.{NoElse}
+use Rattle.vl_parse_grammar.proofs.Spine.{nowhere}
+use Rattle.vl_parse_grammar.proofs.TokenTrees.{Moved, sign_tree, name_tree}
+use Rattle.vl_parse_grammar.proofs.ExprTrees.{parens_tree}
+use Rattle.vl_parse_grammar.proofs.DeclarationTrees.{Turn, Split, many_split, last_of, attributed_tree, FoundList}
+use Rattle.vl_parse_grammar.proofs.DeclarationTrees.{shape_tree, declared_names_tree, names_tree, parameters_tree}
+use Rattle.vl_parse_grammar.proofs.StmtTrees.{no_attributes, not_open, stmt_tree}
+use Rattle.vl_parse_grammar.proofs.PartTrees.{initial_tree, assignments_tree, event_tree, overrides_tree, head_tree}
 
 -- an item without attributes
 pub record FoundBare (ts ks : List Kind) : Type 0 where

@@ -4,13 +4,14 @@ use Rattle.std.proofs.Common.{◌≡◌, ℕ, zero, suc, Bool, true, false, List
 use Rattle.std.specs.Prelude.{Result, Ok, Err}
 use Rattle.fv_base.specs.declared.kind.Kind.{Kind}
 use Rattle.vl_tree.specs.Phrase.{Phrase, nothing, token, operator, ◌▸◌, at, within, level}
-use Rattle.vl_grammar.specs.Machine as machine
-use Rattle.vl_grammar.specs.Machine.{Row, Move, take, pop, bad, Fault, syntax, deep, Stepped, stuck, emptied, over}
-use Rattle.vl_grammar.specs.Machine.{goes, fits, left, placed, taken, step, all_end}
-use Rattle.vl_grammar.specs.Grammar.{Rule, Moves, expand, ends}
-use Rattle.vl_grammar.proofs.Onto.{onto}
-use Rattle.vl_grammar.proofs.Steps as steps
-use Rattle.vl_grammar.proofs.Steps.{apart, is_pop}
+use Rattle.vl_parse_grammar.specs.Machine as machine
+use Rattle.vl_parse_grammar.specs.Machine.{Row, Move, take, pop, bad, Fault, syntax, deep, Stepped, stuck, emptied}
+use Rattle.vl_parse_grammar.specs.Machine.{over}
+use Rattle.vl_parse_grammar.specs.Machine.{goes, fits, left, placed, taken, step, all_end}
+use Rattle.vl_parse_grammar.specs.Grammar.{Rule, Moves, expand, ends}
+use Rattle.vl_parse_grammar.proofs.Onto.{onto}
+use Rattle.vl_parse_grammar.proofs.Steps as steps
+use Rattle.vl_parse_grammar.proofs.Steps.{apart, is_pop}
 
 abbrev pub Ran : Type 0
 Ran = Result (Unit {0}) Fault

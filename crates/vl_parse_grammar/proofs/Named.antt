@@ -2,11 +2,11 @@
 use Rattle.std.proofs.Common.{◌≡◌, ℕ, Bool, true, false, List, [], ◌∷◌, ◌++◌, Option, Some, None, refl, ap, ◌∙◌}
 use Rattle.fv_base.specs.Named.{is_well_named}
 use Rattle.fv_base.specs.declared.kind.Kind.{Kind}
-use Rattle.vl_grammar.specs.Machine as machine
-use Rattle.vl_grammar.specs.Machine.{Move, take, pop, bad, symbols, free_step}
-use Rattle.vl_grammar.specs.Grammar as grammar
-use Rattle.vl_grammar.specs.Grammar.{Rule, Moves, expand, ends}
-use Rattle.vl_grammar.proofs.Runs as runs
+use Rattle.vl_parse_grammar.specs.Machine as machine
+use Rattle.vl_parse_grammar.specs.Machine.{Move, take, pop, bad, symbols, free_step}
+use Rattle.vl_parse_grammar.specs.Grammar as grammar
+use Rattle.vl_parse_grammar.specs.Grammar.{Rule, Moves, expand, ends}
+use Rattle.vl_parse_grammar.proofs.Runs as runs
 
 abbrev pub Named : Type 0
 Named = (kind : Kind) × (is_well_named kind ≡ true)

@@ -14,12 +14,13 @@ use Rattle.vl_tree.specs.Expr as tree
 use Rattle.vl_tree.specs.ExprSpelling.{spell, spell_parts, spell_more, spell_selects, cast_name}
 use Rattle.vl_tree.specs.ExprWellFormed.{IsWellFormed, AreWellFormed, AreSelects, IsSome}
 use Rattle.vl_tree.specs.Phrase.{IsNext, Spells}
-use Rattle.vl_grammar.specs.Operators.{cast_of}
-use Rattle.vl_grammar.proofs.Steps.{apart}
-use Rattle.vl_grammar.proofs.ExprReads.{cast_same}
-use Rattle.vl_grammar.proofs.OneToken.{first, next_first, next_shorter, one_rest, one_kind, one_place, differ}
-use Rattle.vl_grammar.proofs.OneToken.{shorter, name_same}
-use Rattle.vl_grammar.proofs.OneExpr.{NoSelect, NoMore, by_first, is_select_end, is_expr_end, IsAtom, one_by_atoms}
+use Rattle.vl_parse_grammar.specs.Operators.{cast_of}
+use Rattle.vl_parse_grammar.proofs.Steps.{apart}
+use Rattle.vl_parse_grammar.proofs.ExprReads.{cast_same}
+use Rattle.vl_parse_grammar.proofs.OneToken.{first, next_first, next_shorter, one_rest, one_kind, one_place, differ}
+use Rattle.vl_parse_grammar.proofs.OneToken.{shorter, name_same}
+use Rattle.vl_parse_grammar.proofs.OneExpr.{NoSelect, NoMore, by_first, is_select_end, is_expr_end, IsAtom}
+use Rattle.vl_parse_grammar.proofs.OneExpr.{one_by_atoms}
 
 -- behind an expression
 abbrev pub Closed : List Token → Type 0

@@ -42,11 +42,11 @@ use Rattle.vl_tree.specs.DeclarationWellFormed.{
   IsDeclaredName,
   IsParameter,
 }
-use Rattle.vl_grammar.specs.Grammar.{on_range, on_value}
-use Rattle.vl_grammar.proofs.Steps.{is_pop, apart}
-use Rattle.vl_grammar.proofs.OneToken.{first, next_first, one_rest, one_kind, one_place, differ, name_same}
-use Rattle.vl_grammar.proofs.OneExpr.{NoSelect, NoMore, by_first, is_select_end, is_expr_end}
-use Rattle.vl_grammar.proofs.OneAtom.{closed_by, is_comma, one_expr, one_selects}
+use Rattle.vl_parse_grammar.specs.Grammar.{on_range, on_value}
+use Rattle.vl_parse_grammar.proofs.Steps.{is_pop, apart}
+use Rattle.vl_parse_grammar.proofs.OneToken.{first, next_first, one_rest, one_kind, one_place, differ, name_same}
+use Rattle.vl_parse_grammar.proofs.OneExpr.{NoSelect, NoMore, by_first, is_select_end, is_expr_end}
+use Rattle.vl_parse_grammar.proofs.OneAtom.{closed_by, is_comma, one_expr, one_selects}
 
 abbrev pub is_range_end : Kind → Bool
 is_range_end t = is_pop (on_range t)

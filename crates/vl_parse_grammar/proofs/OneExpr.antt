@@ -15,15 +15,15 @@ use Rattle.vl_tree.specs.Expr as tree
 use Rattle.vl_tree.specs.ExprSpelling.{spell, unary_sign, binary_sign, cast_name}
 use Rattle.vl_tree.specs.ExprWellFormed.{IsWellFormed}
 use Rattle.vl_tree.specs.Phrase.{BeginsAt, IsNext, Spells}
-use Rattle.vl_grammar.specs.Operators.{unary_of, binary_of}
-use Rattle.vl_grammar.specs.Grammar as g
-use Rattle.vl_grammar.specs.Grammar.{on_more, on_selects}
-use Rattle.vl_grammar.proofs.Steps.{is_pop, apart}
-use Rattle.vl_grammar.proofs.ExprReads.{no_select}
-use Rattle.vl_grammar.proofs.OneToken.{first, next_first, next_shorter, one_rest, one_kind, one_place, differ}
-use Rattle.vl_grammar.proofs.OneToken.{shorter, symbol_same}
-use Rattle.vl_grammar.proofs.Build.{Elem, prefix_at, atom, operation, question, colon, flat, place_of, IsPlaced}
-use Rattle.vl_grammar.proofs.Build.{one_of_list}
+use Rattle.vl_parse_grammar.specs.Operators.{unary_of, binary_of}
+use Rattle.vl_parse_grammar.specs.Grammar as g
+use Rattle.vl_parse_grammar.specs.Grammar.{on_more, on_selects}
+use Rattle.vl_parse_grammar.proofs.Steps.{is_pop, apart}
+use Rattle.vl_parse_grammar.proofs.ExprReads.{no_select}
+use Rattle.vl_parse_grammar.proofs.OneToken.{first, next_first, next_shorter, one_rest, one_kind, one_place, differ}
+use Rattle.vl_parse_grammar.proofs.OneToken.{shorter, symbol_same}
+use Rattle.vl_parse_grammar.proofs.Build.{Elem, prefix_at, atom, operation, question, colon, flat, place_of, IsPlaced}
+use Rattle.vl_parse_grammar.proofs.Build.{one_of_list}
 
 -- no bracket of a select comes next
 abbrev pub NoSelect : List Token → Type 0

@@ -5,15 +5,15 @@ use Rattle.std.proofs.lemmas.List.{append_assoc}
 use Rattle.fv_base.specs.declared.kind.Kind.{Kind}
 use Rattle.fv_base.specs.declared.token.Token.{Token}
 use Rattle.vl_tree.specs.Phrase.{kinds_of}
-use Rattle.vl_grammar.specs.Machine.{syntax, deep}
-use Rattle.vl_grammar.specs.Grammar as grammar
-use Rattle.vl_grammar.specs.Grammar.{start}
-use Rattle.vl_grammar.specs.Depth.{IsTooDeep, unless_too_deep}
-use Rattle.vl_grammar.specs.Text.{IsText, IsFaulty}
-use Rattle.vl_grammar.proofs.Onto.{all_of}
-use Rattle.vl_grammar.proofs.Measured.{Ran}
-use Rattle.vl_grammar.proofs.FirstFault.{faulty, whole}
-use Rattle.vl_grammar.proofs.TooDeep.{text_run, same_stop, too_deep}
+use Rattle.vl_parse_grammar.specs.Machine.{syntax, deep}
+use Rattle.vl_parse_grammar.specs.Grammar as grammar
+use Rattle.vl_parse_grammar.specs.Grammar.{start}
+use Rattle.vl_parse_grammar.specs.Depth.{IsTooDeep, unless_too_deep}
+use Rattle.vl_parse_grammar.specs.Text.{IsText, IsFaulty}
+use Rattle.vl_parse_grammar.proofs.Onto.{all_of}
+use Rattle.vl_parse_grammar.proofs.Measured.{Ran}
+use Rattle.vl_parse_grammar.proofs.FirstFault.{faulty, whole}
+use Rattle.vl_parse_grammar.proofs.TooDeep.{text_run, same_stop, too_deep}
 
 -- one of two places in a list is earlier, and the tokens before the other go on from it
 record Earlier (before behind other : List Kind) : Type 0 where

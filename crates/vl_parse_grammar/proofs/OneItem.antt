@@ -48,18 +48,18 @@ use Rattle.vl_tree.specs.Stmt.{Stmt}
 use Rattle.vl_tree.specs.StmtWellFormed as stmt_well
 use Rattle.vl_tree.specs.WellFormed.{IsAssignment, attributes_of, mark_of, ends_open, block_ends_open}
 use Rattle.vl_tree.specs.WellFormed.{open_behind_mark, open_behind, IsWellFormed, AreWellFormed, IsBlock}
-use Rattle.vl_grammar.specs.Grammar as grammar
-use Rattle.vl_grammar.specs.Grammar.{Ending, endmodule, endgenerate}
-use Rattle.vl_grammar.proofs.Regions.{NoClose, some_none, no_mark, first_opens}
-use Rattle.vl_grammar.proofs.Steps.{apart}
-use Rattle.vl_grammar.proofs.Words.{ending_word}
-use Rattle.vl_grammar.proofs.OneToken.{first, next_first, one_rest, one_kind, one_place, name_same}
-use Rattle.vl_grammar.proofs.OneExpr.{by_first}
-use Rattle.vl_grammar.proofs.OneDeclaration.{After, after_by, clash_next, some_one, shape_one, declared_one}
-use Rattle.vl_grammar.proofs.OneDeclaration.{parameter_one, is_no_attribute, attributes_one}
-use Rattle.vl_grammar.proofs.OnePort.{net_word_one}
-use Rattle.vl_grammar.proofs.OneStmt.{NoElse, is_no_else, is_colon, parens_one, label_name_one, no_open, one_stmt}
-use Rattle.vl_grammar.proofs.OnePart.{assignment_one, event_one, instance_one, head_one}
+use Rattle.vl_parse_grammar.specs.Grammar as grammar
+use Rattle.vl_parse_grammar.specs.Grammar.{Ending, endmodule, endgenerate}
+use Rattle.vl_parse_grammar.proofs.Regions.{NoClose, some_none, no_mark, first_opens}
+use Rattle.vl_parse_grammar.proofs.Steps.{apart}
+use Rattle.vl_parse_grammar.proofs.Words.{ending_word}
+use Rattle.vl_parse_grammar.proofs.OneToken.{first, next_first, one_rest, one_kind, one_place, name_same}
+use Rattle.vl_parse_grammar.proofs.OneExpr.{by_first}
+use Rattle.vl_parse_grammar.proofs.OneDeclaration.{After, after_by, clash_next, some_one, shape_one, declared_one}
+use Rattle.vl_parse_grammar.proofs.OneDeclaration.{parameter_one, is_no_attribute, attributes_one}
+use Rattle.vl_parse_grammar.proofs.OnePort.{net_word_one}
+use Rattle.vl_parse_grammar.proofs.OneStmt.{NoElse, is_no_else, is_colon, parens_one, label_name_one, no_open, one_stmt}
+use Rattle.vl_parse_grammar.proofs.OnePart.{assignment_one, event_one, instance_one, head_one}
 
 -- what an item is by its first token behind its attributes
 abbrev class : Kind → ℕ

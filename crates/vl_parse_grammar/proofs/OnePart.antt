@@ -28,13 +28,14 @@ use Rattle.vl_tree.specs.ItemSpelling.{
 }
 use Rattle.vl_tree.specs.Phrase.{IsNext, Spells}
 use Rattle.vl_tree.specs.WellFormed.{IsAssignment, IsConnection, AreOverrides, IsInstance, IsHead}
-use Rattle.vl_grammar.proofs.Steps.{apart}
-use Rattle.vl_grammar.proofs.StmtReads.{Plain}
-use Rattle.vl_grammar.proofs.OneToken.{first, behind, next_first, one_rest, one_kind, one_place, differ, name_same}
-use Rattle.vl_grammar.proofs.OneExpr.{by_first, is_select_end}
-use Rattle.vl_grammar.proofs.OneAtom.{closed_by, one_expr}
-use Rattle.vl_grammar.proofs.OneDeclaration.{After, after_by, list_one, target_one}
-use Rattle.vl_grammar.proofs.Front.{expr_first}
+use Rattle.vl_parse_grammar.proofs.Steps.{apart}
+use Rattle.vl_parse_grammar.proofs.StmtReads.{Plain}
+use Rattle.vl_parse_grammar.proofs.OneToken.{first, behind, next_first, one_rest, one_kind, one_place, differ}
+use Rattle.vl_parse_grammar.proofs.OneToken.{name_same}
+use Rattle.vl_parse_grammar.proofs.OneExpr.{by_first, is_select_end}
+use Rattle.vl_parse_grammar.proofs.OneAtom.{closed_by, one_expr}
+use Rattle.vl_parse_grammar.proofs.OneDeclaration.{After, after_by, list_one, target_one}
+use Rattle.vl_parse_grammar.proofs.Front.{expr_first}
 
 pub assignment_one : (x y : Assignment) (ts us r q : List Token) → ts ≡ us → IsAssignment x → IsAssignment y
     → Spells (spell_assignment x) ts r

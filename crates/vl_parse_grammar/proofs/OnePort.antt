@@ -22,12 +22,13 @@ use Rattle.vl_tree.specs.DeclarationSpelling.{spell_attributes, spell_if, spell_
 use Rattle.vl_tree.specs.DeclarationSpelling.{spell_parameter, spell_header_parameter, spell_port_kind, spell_port}
 use Rattle.vl_tree.specs.DeclarationWellFormed.{IsHeaderParameter, AreHeaderParameters, IsParameter, IsPortKind}
 use Rattle.vl_tree.specs.DeclarationWellFormed.{IsPort, ArePorts}
-use Rattle.vl_grammar.proofs.Steps.{apart}
-use Rattle.vl_grammar.proofs.OneToken.{first, next_first, one_rest, one_kind, one_place, name_same}
-use Rattle.vl_grammar.proofs.OneExpr.{by_first}
-use Rattle.vl_grammar.proofs.OneDeclaration.{After, after_by, clash_next, list_one, value_one, shape_one, shape_first}
-use Rattle.vl_grammar.proofs.OneDeclaration.{parameter_one, parameter_first, is_signed_or_plain, is_no_attribute}
-use Rattle.vl_grammar.proofs.OneDeclaration.{attributes_one}
+use Rattle.vl_parse_grammar.proofs.Steps.{apart}
+use Rattle.vl_parse_grammar.proofs.OneToken.{first, next_first, one_rest, one_kind, one_place, name_same}
+use Rattle.vl_parse_grammar.proofs.OneExpr.{by_first}
+use Rattle.vl_parse_grammar.proofs.OneDeclaration.{After, after_by, clash_next, list_one, value_one, shape_one}
+use Rattle.vl_parse_grammar.proofs.OneDeclaration.{shape_first}
+use Rattle.vl_parse_grammar.proofs.OneDeclaration.{parameter_one, parameter_first, is_signed_or_plain, is_no_attribute}
+use Rattle.vl_parse_grammar.proofs.OneDeclaration.{attributes_one}
 
 header_by : (b c : Bool) (x y : Parameter) (ts us r q : List Token) → ts ≡ us → IsParameter x → IsParameter y
     → (m : List Token) × Spells (spell_if b word.Parameter) ts m × Spells (spell_parameter x) m r

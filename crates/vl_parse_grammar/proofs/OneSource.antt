@@ -15,12 +15,12 @@ use Rattle.vl_tree.specs.Item.{Item, Items, no_items, more_items, items}
 use Rattle.vl_tree.specs.ItemSpelling.{spell_parameters, spell_ports, spell_module, spell_modules, spell_source}
 use Rattle.vl_tree.specs.Phrase.{each, IsNext, Spells}
 use Rattle.vl_tree.specs.WellFormed.{AreOptionalParameters, AreOptionalPorts, IsModule, HasPlace, IsSource}
-use Rattle.vl_grammar.specs.Grammar.{endmodule}
-use Rattle.vl_grammar.proofs.OneToken.{first, one_rest, one_kind, one_place, differ, name_same}
-use Rattle.vl_grammar.proofs.OneExpr.{by_first}
-use Rattle.vl_grammar.proofs.OneDeclaration.{clash_next}
-use Rattle.vl_grammar.proofs.OnePort.{headers_one, ports_one}
-use Rattle.vl_grammar.proofs.OneItem.{one_items}
+use Rattle.vl_parse_grammar.specs.Grammar.{endmodule}
+use Rattle.vl_parse_grammar.proofs.OneToken.{first, one_rest, one_kind, one_place, differ, name_same}
+use Rattle.vl_parse_grammar.proofs.OneExpr.{by_first}
+use Rattle.vl_parse_grammar.proofs.OneDeclaration.{clash_next}
+use Rattle.vl_parse_grammar.proofs.OnePort.{headers_one, ports_one}
+use Rattle.vl_parse_grammar.proofs.OneItem.{one_items}
 
 abbrev is_no_hash : Kind → Bool
 is_no_hash (k.Symbol s.Hash) = false

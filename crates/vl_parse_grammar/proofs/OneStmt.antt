@@ -27,14 +27,14 @@ use Rattle.vl_tree.specs.Stmt.{more_stmts, no_arms, labels, default}
 use Rattle.vl_tree.specs.StmtSpelling.{spell, spell_all, spell_arms, spell_label, spell_one_label, spell_colon}
 use Rattle.vl_tree.specs.StmtSpelling.{assign_sign, case_word}
 use Rattle.vl_tree.specs.StmtWellFormed.{IsWellFormed, AreWellFormed, AreArms, IsLabel, ends_open}
-use Rattle.vl_grammar.specs.Grammar.{on_otherwise}
-use Rattle.vl_grammar.proofs.Steps.{is_pop, apart}
-use Rattle.vl_grammar.proofs.StmtReads.{Plain, Begins, by_begin, by_if, by_case, by_casez, by_assume, by_name}
-use Rattle.vl_grammar.proofs.StmtReads.{by_brace, by_semicolon, by_attribute}
-use Rattle.vl_grammar.proofs.OneToken.{first, next_first, one_rest, one_kind, one_place, differ, name_same}
-use Rattle.vl_grammar.proofs.OneExpr.{by_first, is_select_end}
-use Rattle.vl_grammar.proofs.OneAtom.{Closed, closed_by, one_expr, number_one}
-use Rattle.vl_grammar.proofs.OneDeclaration.{
+use Rattle.vl_parse_grammar.specs.Grammar.{on_otherwise}
+use Rattle.vl_parse_grammar.proofs.Steps.{is_pop, apart}
+use Rattle.vl_parse_grammar.proofs.StmtReads.{Plain, Begins, by_begin, by_if, by_case, by_casez, by_assume, by_name}
+use Rattle.vl_parse_grammar.proofs.StmtReads.{by_brace, by_semicolon, by_attribute}
+use Rattle.vl_parse_grammar.proofs.OneToken.{first, next_first, one_rest, one_kind, one_place, differ, name_same}
+use Rattle.vl_parse_grammar.proofs.OneExpr.{by_first, is_select_end}
+use Rattle.vl_parse_grammar.proofs.OneAtom.{Closed, closed_by, one_expr, number_one}
+use Rattle.vl_parse_grammar.proofs.OneDeclaration.{
   After,
   after_by,
   clash_next,
@@ -45,7 +45,7 @@ use Rattle.vl_grammar.proofs.OneDeclaration.{
   attributes_one,
   target_one,
 }
-use Rattle.vl_grammar.proofs.Front.{expr_first, stmt_first}
+use Rattle.vl_parse_grammar.proofs.Front.{expr_first, stmt_first}
 
 abbrev pub is_no_else : Kind → Bool
 is_no_else t = is_pop (on_otherwise t)

@@ -6,7 +6,7 @@ use Rattle.fv_base.specs.declared.pos.Pos.{Pos}
 use Rattle.fv_base.specs.declared.token.Token.{Token}
 use Rattle.fv_base.specs.declared.symbol.Symbol.{Symbol}
 use Rattle.vl_tree.specs.Phrase.{Phrase, nothing, token, operator, ◌▸◌, at, within, level, BeginsAt, IsNext, Spells}
-use Rattle.vl_grammar.proofs.Steps.{apart}
+use Rattle.vl_parse_grammar.proofs.Steps.{apart}
 
 abbrev pub first : List Token → Kind
 first [] = k.Quoted

@@ -60,9 +60,9 @@ use Rattle.vl_tree.specs.StmtSpelling as stmt_spelling
 use Rattle.vl_tree.specs.StmtSpelling.{spell_label}
 use Rattle.vl_tree.specs.StmtWellFormed as stmt_well
 use Rattle.vl_tree.specs.WellFormed.{IsAssignment, IsConnection, AreOverrides, IsHead, attributes_of, AreBalanced}
-use Rattle.vl_grammar.specs.Machine.{Row, take, pop, bad, fits, left, placed, taken}
-use Rattle.vl_grammar.specs.Grammar as g
-use Rattle.vl_grammar.specs.Grammar.{
+use Rattle.vl_parse_grammar.specs.Machine.{Row, take, pop, bad, fits, left, placed, taken}
+use Rattle.vl_parse_grammar.specs.Grammar as g
+use Rattle.vl_parse_grammar.specs.Grammar.{
   Rule,
   Moves,
   Ending,
@@ -102,20 +102,21 @@ use Rattle.vl_grammar.specs.Grammar.{
   on_otherwise,
   on_generate_otherwise,
 }
-use Rattle.vl_grammar.proofs.Onto.{onto}
-use Rattle.vl_grammar.proofs.Regions.{NoClose, first_opens}
-use Rattle.vl_grammar.proofs.Steps.{is_pop, apart}
-use Rattle.vl_grammar.proofs.Words.{ending_word}
-use Rattle.vl_grammar.proofs.DeclarationReads.{Behind, behind_target}
-use Rattle.vl_grammar.proofs.StmtReads.{Plain, expr_front, never_operand}
-use Rattle.vl_grammar.proofs.ItemReads.{BeginsInitial, by_begin, by_name, by_brace, initial_front, BeginsItem}
-use Rattle.vl_grammar.proofs.ItemReads.{by_wire, behind_attributes, split, bare_front, item_front}
-use Rattle.vl_grammar.proofs.Measured.{Ran, run, open_after, measured, opened_run, took_run, shifted, moved, on_step}
-use Rattle.vl_grammar.proofs.ExprRuns.{selects_run, whole_run}
-use Rattle.vl_grammar.proofs.DeclarationRuns.{behind, list_run, attributes_closed, target_run, targets_run}
-use Rattle.vl_grammar.proofs.DeclarationRuns.{target_closed, shape_run, shape_closed, declared_closed}
-use Rattle.vl_grammar.proofs.DeclarationRuns.{declared_names_run, parameter_row, parameter_closed}
-use Rattle.vl_grammar.proofs.StmtRuns.{stmt_closed}
+use Rattle.vl_parse_grammar.proofs.Onto.{onto}
+use Rattle.vl_parse_grammar.proofs.Regions.{NoClose, first_opens}
+use Rattle.vl_parse_grammar.proofs.Steps.{is_pop, apart}
+use Rattle.vl_parse_grammar.proofs.Words.{ending_word}
+use Rattle.vl_parse_grammar.proofs.DeclarationReads.{Behind, behind_target}
+use Rattle.vl_parse_grammar.proofs.StmtReads.{Plain, expr_front, never_operand}
+use Rattle.vl_parse_grammar.proofs.ItemReads.{BeginsInitial, by_begin, by_name, by_brace, initial_front, BeginsItem}
+use Rattle.vl_parse_grammar.proofs.ItemReads.{by_wire, behind_attributes, split, bare_front, item_front}
+use Rattle.vl_parse_grammar.proofs.Measured.{Ran, run, open_after, measured, opened_run, took_run, shifted, moved}
+use Rattle.vl_parse_grammar.proofs.Measured.{on_step}
+use Rattle.vl_parse_grammar.proofs.ExprRuns.{selects_run, whole_run}
+use Rattle.vl_parse_grammar.proofs.DeclarationRuns.{behind, list_run, attributes_closed, target_run, targets_run}
+use Rattle.vl_parse_grammar.proofs.DeclarationRuns.{target_closed, shape_run, shape_closed, declared_closed}
+use Rattle.vl_parse_grammar.proofs.DeclarationRuns.{declared_names_run, parameter_row, parameter_closed}
+use Rattle.vl_parse_grammar.proofs.StmtRuns.{stmt_closed}
 
 in_initial_stmts : (t : Kind) → BeginsInitial t → (room : ℕ) (xs : Row Rule) (ts : List Kind)
     → run ((initial_stmts, room) ∷ xs) (t ∷ ts) ≡ run ((initial_stmt, room) ∷ (initial_stmts, room) ∷ xs) (t ∷ ts)

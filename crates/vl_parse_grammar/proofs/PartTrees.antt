@@ -32,8 +32,8 @@ use Rattle.vl_tree.specs.Stmt.{Stmt, Stmts, begin, assign, no_stmts, more_stmts}
 use Rattle.vl_tree.specs.StmtSpelling.{spell, spell_all}
 use Rattle.vl_tree.specs.StmtWellFormed.{IsWellFormed, AreWellFormed, IsInitial, AreInitial}
 use Rattle.vl_tree.specs.WellFormed.{IsAssignment, IsConnection, AreOverrides, IsEvent, IsHead}
-use Rattle.vl_grammar.specs.Grammar as g
-use Rattle.vl_grammar.specs.Grammar.{
+use Rattle.vl_parse_grammar.specs.Grammar as g
+use Rattle.vl_parse_grammar.specs.Grammar.{
   Rule,
   sign,
   name,
@@ -55,15 +55,15 @@ use Rattle.vl_grammar.specs.Grammar.{
   on_operand,
   on_initial_stmt,
 }
-use Rattle.vl_grammar.proofs.Named.{Named, Derives, plain}
-use Rattle.vl_grammar.proofs.Onto.{onto}
-use Rattle.vl_grammar.proofs.Steps.{apart}
-use Rattle.vl_grammar.proofs.Spine.{nowhere}
-use Rattle.vl_grammar.proofs.TokenTrees.{sign_tree, name_tree, again_tree}
-use Rattle.vl_grammar.proofs.ExprTrees.{expr_tree, selects_tree}
-use Rattle.vl_grammar.proofs.DeclarationTrees.{Turn, Split, many_split, last_of, Tail, closes, goes_on, tail_tree}
-use Rattle.vl_grammar.proofs.DeclarationTrees.{FoundList, list_of, target_tree, targets_tree}
-use Rattle.vl_grammar.proofs.StmtTrees.{no_attributes}
+use Rattle.vl_parse_grammar.proofs.Named.{Named, Derives, plain}
+use Rattle.vl_parse_grammar.proofs.Onto.{onto}
+use Rattle.vl_parse_grammar.proofs.Steps.{apart}
+use Rattle.vl_parse_grammar.proofs.Spine.{nowhere}
+use Rattle.vl_parse_grammar.proofs.TokenTrees.{sign_tree, name_tree, again_tree}
+use Rattle.vl_parse_grammar.proofs.ExprTrees.{expr_tree, selects_tree}
+use Rattle.vl_parse_grammar.proofs.DeclarationTrees.{Turn, Split, many_split, last_of, Tail, closes, goes_on, tail_tree}
+use Rattle.vl_parse_grammar.proofs.DeclarationTrees.{FoundList, list_of, target_tree, targets_tree}
+use Rattle.vl_parse_grammar.proofs.StmtTrees.{no_attributes}
 
 -- behind `initial`
 pub record FoundInitial (ts ks : List Kind) : Type 0 where

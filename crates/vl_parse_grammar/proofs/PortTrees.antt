@@ -24,15 +24,16 @@ use Rattle.vl_tree.specs.DeclarationSpelling.{
   spell_port,
 }
 use Rattle.vl_tree.specs.DeclarationWellFormed.{IsInstance, IsPortKind, IsPort, ArePorts}
-use Rattle.vl_grammar.specs.Grammar.{value, name, shape, port, full_port, first_port, more_ports, net, on_full_port}
-use Rattle.vl_grammar.proofs.Named.{Named, Derives, plain}
-use Rattle.vl_grammar.proofs.Onto.{onto}
-use Rattle.vl_grammar.proofs.Steps.{apart}
-use Rattle.vl_grammar.proofs.Spine.{nowhere}
-use Rattle.vl_grammar.proofs.TokenTrees.{name_tree}
-use Rattle.vl_grammar.proofs.ExprTrees.{value_tree}
-use Rattle.vl_grammar.proofs.DeclarationTrees.{Turn, Split, many_split, last_of, Tail, closes, goes_on, tail_tree}
-use Rattle.vl_grammar.proofs.DeclarationTrees.{attributed_tree, shape_tree}
+use Rattle.vl_parse_grammar.specs.Grammar.{value, name, shape, port, full_port, first_port, more_ports, net}
+use Rattle.vl_parse_grammar.specs.Grammar.{on_full_port}
+use Rattle.vl_parse_grammar.proofs.Named.{Named, Derives, plain}
+use Rattle.vl_parse_grammar.proofs.Onto.{onto}
+use Rattle.vl_parse_grammar.proofs.Steps.{apart}
+use Rattle.vl_parse_grammar.proofs.Spine.{nowhere}
+use Rattle.vl_parse_grammar.proofs.TokenTrees.{name_tree}
+use Rattle.vl_parse_grammar.proofs.ExprTrees.{value_tree}
+use Rattle.vl_parse_grammar.proofs.DeclarationTrees.{Turn, Split, many_split, last_of, Tail, closes, goes_on, tail_tree}
+use Rattle.vl_parse_grammar.proofs.DeclarationTrees.{attributed_tree, shape_tree}
 
 record FoundNet (ts ks : List Kind) : Type 0 where
   tree : Option NetKind

@@ -6,7 +6,7 @@ use Rattle.vl_tree.specs.declared.item.RegionMark.TheVariants as mark
 use Rattle.vl_tree.specs.Item.{Item, Items, generate, no_items, more_items}
 use Rattle.vl_tree.specs.ItemSpelling.{spell, spell_all}
 use Rattle.vl_tree.specs.WellFormed.{mark_of, open_behind_mark, open_behind, AreBalanced, AreWellFormed}
-use Rattle.vl_grammar.proofs.Onto.{onto}
+use Rattle.vl_parse_grammar.proofs.Onto.{onto}
 
 -- no `endgenerate`
 abbrev pub NoClose : Item → Type 0

@@ -7,10 +7,10 @@ use Rattle.fv_base.specs.declared.kind.Kind.TheVariants as k
 use Rattle.fv_base.specs.declared.symbol.Symbol.TheVariants as s
 use Rattle.vl_tree.specs.declared.operator.UnaryOperator.{UnaryOperator}
 use Rattle.vl_tree.specs.declared.operator.Cast.{Cast}
-use Rattle.vl_grammar.specs.Operators.{unary_of, cast_of}
-use Rattle.vl_grammar.specs.Machine as machine
-use Rattle.vl_grammar.specs.Machine.{take, pop, bad, symbols}
-use Rattle.vl_grammar.specs.Grammar.{
+use Rattle.vl_parse_grammar.specs.Operators.{unary_of, cast_of}
+use Rattle.vl_parse_grammar.specs.Machine as machine
+use Rattle.vl_parse_grammar.specs.Machine.{take, pop, bad, symbols}
+use Rattle.vl_parse_grammar.specs.Grammar.{
   Rule,
   Stand,
   Ending,
@@ -83,18 +83,20 @@ use Rattle.vl_grammar.specs.Grammar.{
   full_port,
   net,
 }
-use Rattle.vl_grammar.specs.Grammar as g
-use Rattle.vl_grammar.proofs.Named.{Named, on, accepts}
-use Rattle.vl_grammar.proofs.Viable as viable
-use Rattle.vl_grammar.proofs.Words.{word, left_out, follow, sound}
-use Rattle.vl_grammar.proofs.Completions.{words_read}
-use Rattle.vl_grammar.proofs.StmtRowsFit.{Fit, fit_sign, fit_parameter_word, fit_name, fit_this_name, fit_operand}
-use Rattle.vl_grammar.proofs.StmtRowsFit.{fit_more, fit_selects, fit_select_end, fit_parts, fit_in_parens, fit_value}
-use Rattle.vl_grammar.proofs.StmtRowsFit.{fit_target, fit_targets, fit_attributes, fit_range, fit_shape}
-use Rattle.vl_grammar.proofs.StmtRowsFit.{fit_declared_name, fit_declared_names, fit_names, fit_parameters, fit_stmt}
-use Rattle.vl_grammar.proofs.StmtRowsFit.{fit_stmts, fit_block, fit_otherwise, fit_assign_sign, fit_arm, fit_arms}
-use Rattle.vl_grammar.proofs.StmtRowsFit.{fit_label, fit_labels, fit_behind_default, fit_initial_stmt}
-use Rattle.vl_grammar.proofs.StmtRowsFit.{fit_initial_stmts}
+use Rattle.vl_parse_grammar.specs.Grammar as g
+use Rattle.vl_parse_grammar.proofs.Named.{Named, on, accepts}
+use Rattle.vl_parse_grammar.proofs.Viable as viable
+use Rattle.vl_parse_grammar.proofs.Words.{word, left_out, follow, sound}
+use Rattle.vl_parse_grammar.proofs.Completions.{words_read}
+use Rattle.vl_parse_grammar.proofs.StmtRowsFit.{Fit, fit_sign, fit_parameter_word, fit_name, fit_this_name, fit_operand}
+use Rattle.vl_parse_grammar.proofs.StmtRowsFit.{fit_more, fit_selects, fit_select_end, fit_parts, fit_in_parens}
+use Rattle.vl_parse_grammar.proofs.StmtRowsFit.{fit_value}
+use Rattle.vl_parse_grammar.proofs.StmtRowsFit.{fit_target, fit_targets, fit_attributes, fit_range, fit_shape}
+use Rattle.vl_parse_grammar.proofs.StmtRowsFit.{fit_declared_name, fit_declared_names, fit_names, fit_parameters}
+use Rattle.vl_parse_grammar.proofs.StmtRowsFit.{fit_stmt}
+use Rattle.vl_parse_grammar.proofs.StmtRowsFit.{fit_stmts, fit_block, fit_otherwise, fit_assign_sign, fit_arm, fit_arms}
+use Rattle.vl_parse_grammar.proofs.StmtRowsFit.{fit_label, fit_labels, fit_behind_default, fit_initial_stmt}
+use Rattle.vl_parse_grammar.proofs.StmtRowsFit.{fit_initial_stmts}
 
 fit_item_word : (x : Keyword) → Fit (g.on_item_word x) 9
 fit_item_word w.Wire = refl

@@ -3,9 +3,11 @@
 use Rattle.std.proofs.Common.{◌≡◌, ℕ, zero, suc, ◌≤◌, Bool, true, false, List, [], ◌∷◌, ◌++◌, length, Option, Some}
 use Rattle.std.proofs.Common.{None, refl, sym, ap, ◌∙◌, arith}
 use Rattle.std.specs.Prelude.{Result, Ok, Err}
-use Rattle.vl_grammar.specs.Machine.{Row, Move, take, pop, bad, Fault, syntax, deep, Stepped, stuck, emptied, over}
-use Rattle.vl_grammar.specs.Machine.{goes, fits, placed, taken, step, all_end, run, symbols, free_step, free_after}
-use Rattle.vl_grammar.specs.Machine.{all_may_end, accepts, IsStuck}
+use Rattle.vl_parse_grammar.specs.Machine.{Row, Move, take, pop, bad, Fault, syntax, deep, Stepped, stuck, emptied}
+use Rattle.vl_parse_grammar.specs.Machine.{over}
+use Rattle.vl_parse_grammar.specs.Machine.{goes, fits, placed, taken, step, all_end, run, symbols, free_step}
+use Rattle.vl_parse_grammar.specs.Machine.{free_after}
+use Rattle.vl_parse_grammar.specs.Machine.{all_may_end, accepts, IsStuck}
 
 -- rules in turn, each from some tokens up to others
 abbrev pub InTurn : {S T : Type 0} → (S → List T → List T → Type 0) → List S → List T → List T → Type 0

@@ -6,8 +6,8 @@ use Rattle.fv_base.specs.declared.kind.Kind.{Kind}
 use Rattle.fv_base.specs.declared.kind.Kind.TheVariants as k
 use Rattle.fv_base.specs.declared.symbol.Symbol.{Symbol}
 use Rattle.fv_base.specs.declared.symbol.Symbol.TheVariants as s
-use Rattle.vl_grammar.specs.Machine.{syntax}
-use Rattle.vl_grammar.specs.Grammar.{accepts, expr, stmt, run}
+use Rattle.vl_parse_grammar.specs.Machine.{syntax}
+use Rattle.vl_parse_grammar.specs.Grammar.{accepts, expr, stmt, run}
 
 abbrev a : Kind
 a = k.Name (97 ∷ [])

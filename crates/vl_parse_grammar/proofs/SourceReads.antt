@@ -18,8 +18,8 @@ use Rattle.vl_tree.specs.ItemSpelling.{spell_all, spell_parameters, spell_ports,
 use Rattle.vl_tree.specs.ItemSpelling.{spell_source}
 use Rattle.vl_tree.specs.Phrase.{between_commas, with_commas, each}
 use Rattle.vl_tree.specs.WellFormed.{AreOptionalParameters, AreOptionalPorts, IsModule, IsSource}
-use Rattle.vl_grammar.specs.Grammar as g
-use Rattle.vl_grammar.specs.Grammar.{
+use Rattle.vl_parse_grammar.specs.Grammar as g
+use Rattle.vl_parse_grammar.specs.Grammar.{
   Rule,
   endmodule,
   sign,
@@ -34,9 +34,10 @@ use Rattle.vl_grammar.specs.Grammar.{
   more_header_parameters,
   accepts,
 }
-use Rattle.vl_grammar.proofs.Onto.{onto}
-use Rattle.vl_grammar.proofs.DeclarationReads.{Behind, tail_read, parameter_read, header_parameter_read, ports_read}
-use Rattle.vl_grammar.proofs.ItemReads.{items_read}
+use Rattle.vl_parse_grammar.proofs.Onto.{onto}
+use Rattle.vl_parse_grammar.proofs.DeclarationReads.{Behind, tail_read, parameter_read, header_parameter_read}
+use Rattle.vl_parse_grammar.proofs.DeclarationReads.{ports_read}
+use Rattle.vl_parse_grammar.proofs.ItemReads.{items_read}
 
 parameters_read : (vs : List HeaderParameter) (xs : List Rule) (ts : List Kind) → AreHeaderParameters vs
     → accepts (header_parameters ∷ xs)

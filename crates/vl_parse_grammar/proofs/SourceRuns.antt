@@ -19,9 +19,9 @@ use Rattle.vl_tree.specs.ItemSpelling.{spell_source}
 use Rattle.vl_tree.specs.Phrase.{Phrase, ◌▸◌, parens, between_commas, with_commas, each}
 use Rattle.vl_tree.specs.Phrase as phrase
 use Rattle.vl_tree.specs.WellFormed.{AreOptionalParameters, AreOptionalPorts, IsModule, IsSource}
-use Rattle.vl_grammar.specs.Machine.{Row, left}
-use Rattle.vl_grammar.specs.Grammar as g
-use Rattle.vl_grammar.specs.Grammar.{
+use Rattle.vl_parse_grammar.specs.Machine.{Row, left}
+use Rattle.vl_parse_grammar.specs.Grammar as g
+use Rattle.vl_parse_grammar.specs.Grammar.{
   Rule,
   endmodule,
   sign,
@@ -33,13 +33,13 @@ use Rattle.vl_grammar.specs.Grammar.{
   header_parameters,
   more_header_parameters,
 }
-use Rattle.vl_grammar.proofs.Onto.{onto}
-use Rattle.vl_grammar.proofs.DeclarationReads.{Behind}
-use Rattle.vl_grammar.proofs.Measured.{Ran, run, open_after, measured, opened_run, shifted}
-use Rattle.vl_grammar.proofs.DeclarationRuns.{behind, tail_run, parameter_row, header_row, parameter_run}
-use Rattle.vl_grammar.proofs.DeclarationRuns.{parameter_closed, header_run, header_closed, ports_run}
-use Rattle.vl_grammar.proofs.PartRuns.{items_closed}
-use Rattle.vl_grammar.proofs.ItemRuns.{items_run}
+use Rattle.vl_parse_grammar.proofs.Onto.{onto}
+use Rattle.vl_parse_grammar.proofs.DeclarationReads.{Behind}
+use Rattle.vl_parse_grammar.proofs.Measured.{Ran, run, open_after, measured, opened_run, shifted}
+use Rattle.vl_parse_grammar.proofs.DeclarationRuns.{behind, tail_run, parameter_row, header_row, parameter_run}
+use Rattle.vl_parse_grammar.proofs.DeclarationRuns.{parameter_closed, header_run, header_closed, ports_run}
+use Rattle.vl_parse_grammar.proofs.PartRuns.{items_closed}
+use Rattle.vl_parse_grammar.proofs.ItemRuns.{items_run}
 
 headers_by : (x : HeaderParameter) (vs : List HeaderParameter) (room : ℕ) (xs : Row Rule) (ts : List Kind)
     → AreHeaderParameters (x ∷ vs)

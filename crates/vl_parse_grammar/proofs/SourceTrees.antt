@@ -17,17 +17,17 @@ use Rattle.vl_tree.specs.ItemSpelling.{spell_all, spell_parameters, spell_ports,
 use Rattle.vl_tree.specs.Phrase.{between_commas, each}
 use Rattle.vl_tree.specs.WellFormed.{AreBalanced, AreWellFormed, AreOptionalParameters, AreOptionalPorts, IsModule}
 use Rattle.vl_tree.specs.WellFormed.{IsSource}
-use Rattle.vl_grammar.specs.Grammar.{Rule, endmodule, sign, first_port, modules, module_head, module_ports}
-use Rattle.vl_grammar.specs.Grammar as g
-use Rattle.vl_grammar.proofs.Named.{Named, on, Derives, plain, accepts}
-use Rattle.vl_grammar.proofs.Onto.{onto}
-use Rattle.vl_grammar.proofs.Runs as runs
-use Rattle.vl_grammar.proofs.Steps.{apart}
-use Rattle.vl_grammar.proofs.Spine.{nowhere}
-use Rattle.vl_grammar.proofs.TokenTrees.{sign_tree, name_tree}
-use Rattle.vl_grammar.proofs.DeclarationTrees.{Turn, header_parameters_tree}
-use Rattle.vl_grammar.proofs.PortTrees.{ports_tree}
-use Rattle.vl_grammar.proofs.ItemTrees.{items_tree}
+use Rattle.vl_parse_grammar.specs.Grammar.{Rule, endmodule, sign, first_port, modules, module_head, module_ports}
+use Rattle.vl_parse_grammar.specs.Grammar as g
+use Rattle.vl_parse_grammar.proofs.Named.{Named, on, Derives, plain, accepts}
+use Rattle.vl_parse_grammar.proofs.Onto.{onto}
+use Rattle.vl_parse_grammar.proofs.Runs as runs
+use Rattle.vl_parse_grammar.proofs.Steps.{apart}
+use Rattle.vl_parse_grammar.proofs.Spine.{nowhere}
+use Rattle.vl_parse_grammar.proofs.TokenTrees.{sign_tree, name_tree}
+use Rattle.vl_parse_grammar.proofs.DeclarationTrees.{Turn, header_parameters_tree}
+use Rattle.vl_parse_grammar.proofs.PortTrees.{ports_tree}
+use Rattle.vl_parse_grammar.proofs.ItemTrees.{items_tree}
 
 record FoundPorts (ts ks : List Kind) : Type 0 where
   tree : Option (List Port)

@@ -6,11 +6,11 @@ use Rattle.vl_tree.specs.declared.source.Source.{Source}
 use Rattle.vl_tree.specs.ItemSpelling.{spell_source}
 use Rattle.vl_tree.specs.Phrase.{kinds, kinds_of, Spells}
 use Rattle.vl_tree.specs.WellFormed.{IsSource}
-use Rattle.vl_grammar.specs.Depth.{too_deep_at, unless_too_deep}
-use Rattle.vl_grammar.specs.Grammar.{run}
-use Rattle.vl_grammar.specs.Text.{IsText}
-use Rattle.vl_grammar.proofs.Onto.{all_of}
-use Rattle.vl_grammar.proofs.TooDeep.{text_run}
+use Rattle.vl_parse_grammar.specs.Depth.{too_deep_at, unless_too_deep}
+use Rattle.vl_parse_grammar.specs.Grammar.{run}
+use Rattle.vl_parse_grammar.specs.Text.{IsText}
+use Rattle.vl_parse_grammar.proofs.Onto.{all_of}
+use Rattle.vl_parse_grammar.proofs.TooDeep.{text_run}
 
 pub spelled_kinds : (tree : Source) (tokens : List Token) → Spells (spell_source tree) tokens []
     → kinds (spell_source tree) ≡ kinds_of tokens

@@ -11,7 +11,7 @@ use Rattle.vl_tree.specs.declared.operator.BinaryOperator.TheVariants as b
 use Rattle.vl_tree.specs.Expr.{Expr, unary, binary, conditional}
 use Rattle.vl_tree.specs.ExprSpelling.{spell, unary_sign, binary_sign}
 use Rattle.vl_tree.specs.ExprWellFormed.{IsWellFormed, binds, level}
-use Rattle.vl_grammar.proofs.Onto.{onto}
+use Rattle.vl_parse_grammar.proofs.Onto.{onto}
 
 -- a place, where none is known
 abbrev pub nowhere : Pos

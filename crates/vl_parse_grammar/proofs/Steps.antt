@@ -1,6 +1,6 @@
 -- One token of a text: it is taken, or the next rule is left out before it.
 use Rattle.std.proofs.Common.{◌≡◌, ℕ, Bool, true, false, List, [], ◌∷◌, ◌++◌, Option, Some, None, refl, ap}
-use Rattle.vl_grammar.specs.Machine.{Move, take, pop, bad, symbols, free_step, all_may_end, accepts}
+use Rattle.vl_parse_grammar.specs.Machine.{Move, take, pop, bad, symbols, free_step, all_may_end, accepts}
 
 pub apart : {A : Type 0} → false ≡ true → A
 apart h = absurd (no h)

@@ -46,10 +46,10 @@ use Rattle.vl_tree.specs.StmtSpelling.{spell, spell_all, spell_arms, spell_label
 use Rattle.vl_tree.specs.StmtSpelling.{assign_sign, case_word}
 use Rattle.vl_tree.specs.StmtWellFormed.{IsWellFormed, AreWellFormed, AreArms, AreArmsSome, IsLabel, ends_open}
 use Rattle.vl_tree.specs.StmtWellFormed.{default_count}
-use Rattle.vl_grammar.specs.Machine.{Row, take, pop, bad, symbols, free_step}
-use Rattle.vl_grammar.specs.Operators.{cast_of, unary_of}
-use Rattle.vl_grammar.specs.Grammar as g
-use Rattle.vl_grammar.specs.Grammar.{
+use Rattle.vl_parse_grammar.specs.Machine.{Row, take, pop, bad, symbols, free_step}
+use Rattle.vl_parse_grammar.specs.Operators.{cast_of, unary_of}
+use Rattle.vl_parse_grammar.specs.Grammar as g
+use Rattle.vl_parse_grammar.specs.Grammar.{
   Rule,
   Moves,
   plain,
@@ -82,11 +82,11 @@ use Rattle.vl_grammar.specs.Grammar.{
   if_known,
   is_known,
 }
-use Rattle.vl_grammar.proofs.Onto.{onto}
-use Rattle.vl_grammar.proofs.Steps.{is_pop, apart}
-use Rattle.vl_grammar.proofs.ExprReads.{Leaves, leaves, whole_read, parens_read, selects_read}
-use Rattle.vl_grammar.proofs.DeclarationReads.{Behind, attributes_read, target_read, targets_read, behind_target}
-use Rattle.vl_grammar.proofs.DeclarationReads.{list_read}
+use Rattle.vl_parse_grammar.proofs.Onto.{onto}
+use Rattle.vl_parse_grammar.proofs.Steps.{is_pop, apart}
+use Rattle.vl_parse_grammar.proofs.ExprReads.{Leaves, leaves, whole_read, parens_read, selects_read}
+use Rattle.vl_parse_grammar.proofs.DeclarationReads.{Behind, attributes_read, target_read, targets_read, behind_target}
+use Rattle.vl_parse_grammar.proofs.DeclarationReads.{list_read}
 
 -- what an expression may begin with
 abbrev pub Plain : Kind → Type 0

@@ -13,10 +13,10 @@ use Rattle.vl_tree.specs.declared.operator.Cast.{Cast}
 use Rattle.vl_tree.specs.declared.stmt.CaseKind.{CaseKind}
 use Rattle.vl_tree.specs.declared.stmt.CaseKind.TheVariants as c
 use Rattle.std.specs.Prelude.{bytes_eq}
-use Rattle.vl_grammar.specs.Signs.{same_sign}
-use Rattle.vl_grammar.specs.Operators.{unary_of, binary_of, cast_of}
-use Rattle.vl_grammar.specs.Machine.{take}
-use Rattle.vl_grammar.specs.Grammar.{
+use Rattle.vl_parse_grammar.specs.Signs.{same_sign}
+use Rattle.vl_parse_grammar.specs.Operators.{unary_of, binary_of, cast_of}
+use Rattle.vl_parse_grammar.specs.Machine.{take}
+use Rattle.vl_parse_grammar.specs.Grammar.{
   Rule,
   Stand,
   Ending,
@@ -89,10 +89,10 @@ use Rattle.vl_grammar.specs.Grammar.{
   full_port,
   net,
 }
-use Rattle.vl_grammar.specs.Grammar as g
-use Rattle.vl_grammar.proofs.Named.{on}
-use Rattle.vl_grammar.proofs.Viable as viable
-use Rattle.vl_grammar.proofs.Words.{word, left_out, follow, follow_expr, sound}
+use Rattle.vl_parse_grammar.specs.Grammar as g
+use Rattle.vl_parse_grammar.proofs.Named.{on}
+use Rattle.vl_parse_grammar.proofs.Viable as viable
+use Rattle.vl_parse_grammar.proofs.Words.{word, left_out, follow, follow_expr, sound}
 
 abbrev pub Fit : Moves → ℕ → Type 0
 Fit m b = viable.Fit on ends word follow left_out sound m b

@@ -29,9 +29,9 @@ use Rattle.vl_tree.specs.StmtSpelling.{spell, spell_all, spell_arms, spell_label
 use Rattle.vl_tree.specs.StmtSpelling.{assign_sign, case_word}
 use Rattle.vl_tree.specs.StmtWellFormed.{IsWellFormed, AreWellFormed, AreArms, AreArmsSome, IsLabel, ends_open}
 use Rattle.vl_tree.specs.StmtWellFormed.{default_count}
-use Rattle.vl_grammar.specs.Machine.{Row, take, pop, bad, fits, left, placed, taken}
-use Rattle.vl_grammar.specs.Grammar as g
-use Rattle.vl_grammar.specs.Grammar.{
+use Rattle.vl_parse_grammar.specs.Machine.{Row, take, pop, bad, fits, left, placed, taken}
+use Rattle.vl_parse_grammar.specs.Grammar as g
+use Rattle.vl_parse_grammar.specs.Grammar.{
   Rule,
   Moves,
   plain,
@@ -56,19 +56,20 @@ use Rattle.vl_grammar.specs.Grammar.{
   if_known,
   is_known,
 }
-use Rattle.vl_grammar.proofs.Onto.{onto}
-use Rattle.vl_grammar.proofs.Steps.{apart}
-use Rattle.vl_grammar.proofs.Front.{head}
-use Rattle.vl_grammar.proofs.ExprReads.{Leaves, known, cast_same}
-use Rattle.vl_grammar.proofs.DeclarationReads.{Behind, behind_target}
-use Rattle.vl_grammar.proofs.StmtReads.{Plain, expr_front, Begins, by_begin, by_if, by_case, by_casez, by_assume}
-use Rattle.vl_grammar.proofs.StmtReads.{by_name, by_brace, by_semicolon, by_attribute, Front, stmt_front, NoWord}
-use Rattle.vl_grammar.proofs.StmtReads.{labels_front, arms_leave, stmts_leave, no_bracket, seen}
-use Rattle.vl_grammar.proofs.Measured.{Ran, run, held, opening, has_token, either, open_after, measured, opened_run}
-use Rattle.vl_grammar.proofs.Measured.{leaves_run, shifted, moved, on_step}
-use Rattle.vl_grammar.proofs.ExprRuns.{selects_run, whole_run, parens_run}
-use Rattle.vl_grammar.proofs.DeclarationRuns.{behind, list_run, attributed_run, attributes_closed, target_run}
-use Rattle.vl_grammar.proofs.DeclarationRuns.{targets_run, target_closed}
+use Rattle.vl_parse_grammar.proofs.Onto.{onto}
+use Rattle.vl_parse_grammar.proofs.Steps.{apart}
+use Rattle.vl_parse_grammar.proofs.Front.{head}
+use Rattle.vl_parse_grammar.proofs.ExprReads.{Leaves, known, cast_same}
+use Rattle.vl_parse_grammar.proofs.DeclarationReads.{Behind, behind_target}
+use Rattle.vl_parse_grammar.proofs.StmtReads.{Plain, expr_front, Begins, by_begin, by_if, by_case, by_casez, by_assume}
+use Rattle.vl_parse_grammar.proofs.StmtReads.{by_name, by_brace, by_semicolon, by_attribute, Front, stmt_front, NoWord}
+use Rattle.vl_parse_grammar.proofs.StmtReads.{labels_front, arms_leave, stmts_leave, no_bracket, seen}
+use Rattle.vl_parse_grammar.proofs.Measured.{Ran, run, held, opening, has_token, either, open_after, measured}
+use Rattle.vl_parse_grammar.proofs.Measured.{opened_run}
+use Rattle.vl_parse_grammar.proofs.Measured.{leaves_run, shifted, moved, on_step}
+use Rattle.vl_parse_grammar.proofs.ExprRuns.{selects_run, whole_run, parens_run}
+use Rattle.vl_parse_grammar.proofs.DeclarationRuns.{behind, list_run, attributed_run, attributes_closed, target_run}
+use Rattle.vl_parse_grammar.proofs.DeclarationRuns.{targets_run, target_closed}
 
 -- no construct is open behind a statement
 pub stmt_closed : (x : Stmt) (n : ℕ) → open_after (spell x) n ≡ n

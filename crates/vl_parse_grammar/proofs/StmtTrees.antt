@@ -31,9 +31,9 @@ use Rattle.vl_tree.specs.StmtSpelling.{spell, spell_all, spell_arms, spell_label
 use Rattle.vl_tree.specs.StmtSpelling.{assign_sign, case_word}
 use Rattle.vl_tree.specs.StmtWellFormed.{IsWellFormed, AreWellFormed, AreArms, AreArmsSome, IsLabel, IsOptionalName}
 use Rattle.vl_tree.specs.StmtWellFormed.{ends_open, default_count}
-use Rattle.vl_grammar.specs.Machine.{Row, take, pop, bad, symbols}
-use Rattle.vl_grammar.specs.Grammar as g
-use Rattle.vl_grammar.specs.Grammar.{
+use Rattle.vl_parse_grammar.specs.Machine.{Row, take, pop, bad, symbols}
+use Rattle.vl_parse_grammar.specs.Grammar as g
+use Rattle.vl_parse_grammar.specs.Grammar.{
   Rule,
   Moves,
   selects,
@@ -57,16 +57,16 @@ use Rattle.vl_grammar.specs.Grammar.{
   on_casez_number,
   if_known,
 }
-use Rattle.vl_grammar.proofs.Named.{Named, Derives, plain}
-use Rattle.vl_grammar.proofs.Onto.{onto}
-use Rattle.vl_grammar.proofs.Steps.{apart}
-use Rattle.vl_grammar.proofs.ExprReads.{Leaves}
-use Rattle.vl_grammar.proofs.StmtReads.{seen}
-use Rattle.vl_grammar.proofs.Spine.{nowhere}
-use Rattle.vl_grammar.proofs.TokenTrees.{Moved, sign_tree, name_tree}
-use Rattle.vl_grammar.proofs.ExprTrees.{expr_tree, selects_tree, parens_tree}
-use Rattle.vl_grammar.proofs.DeclarationTrees.{Turn, Split, many_split, last_of, attributed_tree, target_tree}
-use Rattle.vl_grammar.proofs.DeclarationTrees.{targets_tree}
+use Rattle.vl_parse_grammar.proofs.Named.{Named, Derives, plain}
+use Rattle.vl_parse_grammar.proofs.Onto.{onto}
+use Rattle.vl_parse_grammar.proofs.Steps.{apart}
+use Rattle.vl_parse_grammar.proofs.ExprReads.{Leaves}
+use Rattle.vl_parse_grammar.proofs.StmtReads.{seen}
+use Rattle.vl_parse_grammar.proofs.Spine.{nowhere}
+use Rattle.vl_parse_grammar.proofs.TokenTrees.{Moved, sign_tree, name_tree}
+use Rattle.vl_parse_grammar.proofs.ExprTrees.{expr_tree, selects_tree, parens_tree}
+use Rattle.vl_parse_grammar.proofs.DeclarationTrees.{Turn, Split, many_split, last_of, attributed_tree, target_tree}
+use Rattle.vl_parse_grammar.proofs.DeclarationTrees.{targets_tree}
 
 pub record FoundStmt (ts ks : List Kind) : Type 0 where
   pub tree : Stmt

@@ -14,13 +14,13 @@ use Rattle.vl_tree.specs.declared.operator.Cast.{Cast}
 use Rattle.vl_tree.specs.declared.operator.Cast.TheVariants as c
 use Rattle.vl_tree.specs.ExprSpelling.{unary_sign, binary_sign, cast_name}
 use Rattle.vl_tree.specs.ExprWellFormed.{IsKnown, IsName}
-use Rattle.vl_grammar.specs.Operators.{unary_of, binary_of, cast_of, cast_unless}
-use Rattle.vl_grammar.specs.Signs.{place, same_sign}
-use Rattle.vl_grammar.specs.Grammar.{sign, name, this_name, the_parameter, is_known, take_if, Moves}
-use Rattle.vl_grammar.proofs.Named.{Named, Derives, plain}
-use Rattle.vl_grammar.proofs.Runs as runs
-use Rattle.vl_grammar.proofs.Steps.{apart}
-use Rattle.vl_grammar.proofs.Viable.{both}
+use Rattle.vl_parse_grammar.specs.Operators.{unary_of, binary_of, cast_of, cast_unless}
+use Rattle.vl_parse_grammar.specs.Signs.{place, same_sign}
+use Rattle.vl_parse_grammar.specs.Grammar.{sign, name, this_name, the_parameter, is_known, take_if, Moves}
+use Rattle.vl_parse_grammar.proofs.Named.{Named, Derives, plain}
+use Rattle.vl_parse_grammar.proofs.Runs as runs
+use Rattle.vl_parse_grammar.proofs.Steps.{apart}
+use Rattle.vl_parse_grammar.proofs.Viable.{both}
 
 abbrev pub Moved : ℕ → Named → List Named → List Named → Moves → Type 0
 Moved d t ts rest m = runs.Moved (λ y us vs. Derives d y us vs) t ts rest m

@@ -9,17 +9,17 @@ use Rattle.vl_tree.specs.declared.source.Source.{Source}
 use Rattle.vl_tree.specs.ItemSpelling.{spell_source}
 use Rattle.vl_tree.specs.Phrase.{kinds, kinds_of}
 use Rattle.vl_tree.specs.WellFormed.{IsSource}
-use Rattle.vl_grammar.specs.Machine as machine
-use Rattle.vl_grammar.specs.Machine.{Row, Fault, syntax, deep, Stepped, stuck, emptied, over, goes, step}
-use Rattle.vl_grammar.specs.Grammar as grammar
-use Rattle.vl_grammar.specs.Grammar.{Rule, expand, ends, start}
-use Rattle.vl_grammar.specs.Depth.{too_deep_at, unless_too_deep, IsTooDeep}
-use Rattle.vl_grammar.proofs.Onto.{onto_kinds, all_of}
-use Rattle.vl_grammar.proofs.Runs as runs
-use Rattle.vl_grammar.proofs.Measured.{Ran, run}
-use Rattle.vl_grammar.proofs.SourceRuns.{source_runs}
-use Rattle.vl_grammar.proofs.Depth.{by_first}
-use Rattle.vl_grammar.proofs.FirstFault.{right}
+use Rattle.vl_parse_grammar.specs.Machine as machine
+use Rattle.vl_parse_grammar.specs.Machine.{Row, Fault, syntax, deep, Stepped, stuck, emptied, over, goes, step}
+use Rattle.vl_parse_grammar.specs.Grammar as grammar
+use Rattle.vl_parse_grammar.specs.Grammar.{Rule, expand, ends, start}
+use Rattle.vl_parse_grammar.specs.Depth.{too_deep_at, unless_too_deep, IsTooDeep}
+use Rattle.vl_parse_grammar.proofs.Onto.{onto_kinds, all_of}
+use Rattle.vl_parse_grammar.proofs.Runs as runs
+use Rattle.vl_parse_grammar.proofs.Measured.{Ran, run}
+use Rattle.vl_parse_grammar.proofs.SourceRuns.{source_runs}
+use Rattle.vl_parse_grammar.proofs.Depth.{by_first}
+use Rattle.vl_parse_grammar.proofs.FirstFault.{right}
 
 -- a text is read, or cut off where 257 constructs are open
 pub text_run : (tree : Source) → IsSource tree

@@ -2,8 +2,8 @@
 use Rattle.std.proofs.Common.{◌≡◌, ℕ, zero, suc, Bool, true, false, ◌&&◌, List, [], ◌∷◌, ◌++◌, Option, Some, None}
 use Rattle.std.proofs.Common.{refl, sym, ap, ◌∙◌, subst, inl, inr}
 use Rattle.std.specs.Prelude.{◌⊎◌}
-use Rattle.vl_grammar.proofs.Steps.{is_pop, apart}
-use Rattle.vl_grammar.specs.Machine.{Move, take, pop, bad, symbols, free_step, accepts, free_after}
+use Rattle.vl_parse_grammar.proofs.Steps.{is_pop, apart}
+use Rattle.vl_parse_grammar.specs.Machine.{Move, take, pop, bad, symbols, free_step, accepts, free_after}
 
 pub both : (a b : Bool) → (a && b) ≡ true → (a ≡ true) × (b ≡ true)
 both true b h = (refl, h)

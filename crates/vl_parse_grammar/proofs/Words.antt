@@ -8,7 +8,7 @@ use Rattle.fv_base.specs.declared.kind.Kind.TheVariants as k
 use Rattle.fv_base.specs.declared.number.Number.{Number}
 use Rattle.fv_base.specs.declared.symbol.Symbol.{Symbol}
 use Rattle.fv_base.specs.declared.symbol.Symbol.TheVariants as s
-use Rattle.vl_grammar.specs.Grammar.{
+use Rattle.vl_parse_grammar.specs.Grammar.{
   Rule,
   Stand,
   Ending,
@@ -78,7 +78,7 @@ use Rattle.vl_grammar.specs.Grammar.{
   full_port,
   net,
 }
-use Rattle.vl_grammar.proofs.Named.{Named}
+use Rattle.vl_parse_grammar.proofs.Named.{Named}
 
 abbrev pub mark : Symbol → Named
 mark x = (k.Symbol x, refl)

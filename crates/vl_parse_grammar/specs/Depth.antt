@@ -21,7 +21,7 @@ use Rattle.vl_tree.specs.declared.source.Source.{Source}
 use Rattle.vl_tree.specs.ItemSpelling.{spell_source}
 use Rattle.vl_tree.specs.Phrase.{kinds, open_at}
 use Rattle.vl_tree.specs.WellFormed.{IsSource}
-use Rattle.vl_grammar.specs.Machine.{Fault, deep}
+use Rattle.vl_parse_grammar.specs.Machine.{Fault, deep}
 
 -- how many numbers there are from the first one on that is above the limit
 abbrev pub first_above : ℕ → List ℕ → Option ℕ

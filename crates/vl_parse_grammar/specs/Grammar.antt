@@ -33,10 +33,10 @@ use Rattle.vl_tree.specs.declared.operator.BinaryOperator.{BinaryOperator}
 use Rattle.vl_tree.specs.declared.operator.Cast.{Cast}
 use Rattle.vl_tree.specs.declared.stmt.CaseKind.{CaseKind}
 use Rattle.vl_tree.specs.declared.stmt.CaseKind.TheVariants as c
-use Rattle.vl_grammar.specs.Machine as machine
-use Rattle.vl_grammar.specs.Machine.{Move, take, pop, bad, Fault, syntax, deep, Row}
-use Rattle.vl_grammar.specs.Operators.{unary_of, binary_of, cast_of}
-use Rattle.vl_grammar.specs.Signs.{same_sign}
+use Rattle.vl_parse_grammar.specs.Machine as machine
+use Rattle.vl_parse_grammar.specs.Machine.{Move, take, pop, bad, Fault, syntax, deep, Row}
+use Rattle.vl_parse_grammar.specs.Operators.{unary_of, binary_of, cast_of}
+use Rattle.vl_parse_grammar.specs.Signs.{same_sign}
 
 -- Where an expression stands. The first one in braces may turn out to be the count of a replication: behind it comes a
 -- comma, the closing brace, or another brace, in which its operators are still open.

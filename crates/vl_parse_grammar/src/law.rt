@@ -7,10 +7,10 @@ ghost use Rattle.vl_tree.specs.Phrase.{kinds, kinds_of, Spells};
 ghost use Rattle.vl_tree.specs.declared.source.Source.{Source};
 ghost use Rattle.vl_tree.specs.ItemSpelling.{spell_source};
 ghost use Rattle.vl_tree.specs.WellFormed.{IsSource};
-ghost use Rattle.vl_grammar.specs.Machine.{syntax, deep};
-ghost use Rattle.vl_grammar.specs.Grammar.{accepts, modules, run};
-ghost use Rattle.vl_grammar.specs.Text.{IsText, IsFaulty};
-ghost use Rattle.vl_grammar.specs.Depth.{IsTooDeep, too_deep_at, unless_too_deep};
+ghost use Rattle.vl_parse_grammar.specs.Machine.{syntax, deep};
+ghost use Rattle.vl_parse_grammar.specs.Grammar.{accepts, modules, run};
+ghost use Rattle.vl_parse_grammar.specs.Text.{IsText, IsFaulty};
+ghost use Rattle.vl_parse_grammar.specs.Depth.{IsTooDeep, too_deep_at, unless_too_deep};
 
 /// The grammar has exactly the texts that well formed trees are spelled by.
 pub fn the_grammar_has_what_trees_spell()

@@ -11,19 +11,19 @@ use Rattle.fv_base.specs.declared.symbol.Symbol.{Symbol}
 use Rattle.fv_base.specs.declared.symbol.Symbol.TheVariants as s
 use Rattle.vl_tree.specs.declared.stmt.CaseKind.{CaseKind}
 use Rattle.vl_tree.specs.declared.stmt.CaseKind.TheVariants as c
-use Rattle.vl_grammar.specs.Machine as machine
-use Rattle.vl_grammar.specs.Machine.{Row, Move, take, pop, bad, syntax, deep, placed, left, then}
-use Rattle.vl_grammar.specs.Grammar.{Rule, Outcome, expand, ends, read, sign, expr, plain, operand, more, stmt}
-use Rattle.vl_grammar.specs.Grammar.{first_arm, arms, label, labels, behind_default, on_label, on_arm, on_operand}
-use Rattle.vl_grammar.specs.Grammar.{arm_with, inside, on_casez_number, if_known}
-use Rattle.vl_grammar.proofs.InParts as parts
-use Rattle.vl_take.specs.declared.lead.Lead.{Lead}
-use Rattle.vl_take.specs.declared.lead.Lead.TheVariants as lead
-use Rattle.vl_take.specs.Lead.{lead_of}
-use Rattle.vl_stmt.specs.Arms.{wild_if, wild_label, is_something, begins, begins_label}
-use Rattle.vl_take.specs.Next.{IsOther}
-use Rattle.vl_take.specs.Parts.{row_read, row_deep, row_bad, same_row, fits_true, fits_false}
-use Rattle.vl_expr.proofs.ExprRows.{by_lead, lead_made}
+use Rattle.vl_parse_grammar.specs.Machine as machine
+use Rattle.vl_parse_grammar.specs.Machine.{Row, Move, take, pop, bad, syntax, deep, placed, left, then}
+use Rattle.vl_parse_grammar.specs.Grammar.{Rule, Outcome, expand, ends, read, sign, expr, plain, operand, more, stmt}
+use Rattle.vl_parse_grammar.specs.Grammar.{first_arm, arms, label, labels, behind_default, on_label, on_arm, on_operand}
+use Rattle.vl_parse_grammar.specs.Grammar.{arm_with, inside, on_casez_number, if_known}
+use Rattle.vl_parse_grammar.proofs.InParts as parts
+use Rattle.vl_parse_cursor.specs.declared.lead.Lead.{Lead}
+use Rattle.vl_parse_cursor.specs.declared.lead.Lead.TheVariants as lead
+use Rattle.vl_parse_cursor.specs.Lead.{lead_of}
+use Rattle.vl_parse_stmt.specs.Arms.{wild_if, wild_label, is_something, begins, begins_label}
+use Rattle.vl_parse_cursor.specs.Next.{IsOther}
+use Rattle.vl_parse_cursor.specs.Parts.{row_read, row_deep, row_bad, same_row, fits_true, fits_false}
+use Rattle.vl_parse_expr.proofs.ExprRows.{by_lead, lead_made}
 
 number_wild : (b d : Bool) (n m : Number) → n.wild == 0 ≡ b → n.unknown == 0 ≡ d → wild_if b d n ≡ Some m
     → on_label c.Casez (k.Number n) ≡ take 0 []

@@ -11,17 +11,17 @@ use Rattle.fv_base.specs.declared.symbol.Symbol.TheVariants as s
 use Rattle.vl_tree.specs.declared.stmt.CaseKind.{CaseKind}
 use Rattle.vl_tree.specs.declared.stmt.CaseKind.TheVariants as c
 use Rattle.vl_tree.specs.StmtSpelling.{case_word}
-use Rattle.vl_grammar.specs.Machine.{syntax, deep, then}
-use Rattle.vl_grammar.specs.Machine as machine
-use Rattle.vl_grammar.specs.Grammar.{Rule, Outcome, expand, ends, read, sign, selects, in_parens, target, targets}
-use Rattle.vl_grammar.specs.Grammar.{stmt, block, otherwise, assign_sign, first_arm}
-use Rattle.vl_stmt.specs.declared.stmt.StmtLead.{StmtLead}
-use Rattle.vl_stmt.specs.declared.stmt.StmtLead.TheVariants as lead
-use Rattle.vl_stmt.specs.StmtLead.{stmt_lead_of}
-use Rattle.vl_take.specs.Next.{IsOther}
-use Rattle.vl_take.specs.Parts.{row_read, row_deep, row_bad}
-use Rattle.vl_stmt.proofs.StmtRows.{stmt_begin, stmt_begin_deep, stmt_if, stmt_if_deep, stmt_case, stmt_case_deep}
-use Rattle.vl_stmt.proofs.StmtRows.{stmt_casez, stmt_casez_deep, stmt_assume, stmt_semicolon}
+use Rattle.vl_parse_grammar.specs.Machine.{syntax, deep, then}
+use Rattle.vl_parse_grammar.specs.Machine as machine
+use Rattle.vl_parse_grammar.specs.Grammar.{Rule, Outcome, expand, ends, read, sign, selects, in_parens, target, targets}
+use Rattle.vl_parse_grammar.specs.Grammar.{stmt, block, otherwise, assign_sign, first_arm}
+use Rattle.vl_parse_stmt.specs.declared.stmt.StmtLead.{StmtLead}
+use Rattle.vl_parse_stmt.specs.declared.stmt.StmtLead.TheVariants as lead
+use Rattle.vl_parse_stmt.specs.StmtLead.{stmt_lead_of}
+use Rattle.vl_parse_cursor.specs.Next.{IsOther}
+use Rattle.vl_parse_cursor.specs.Parts.{row_read, row_deep, row_bad}
+use Rattle.vl_parse_stmt.proofs.StmtRows.{stmt_begin, stmt_begin_deep, stmt_if, stmt_if_deep, stmt_case, stmt_case_deep}
+use Rattle.vl_parse_stmt.proofs.StmtRows.{stmt_casez, stmt_casez_deep, stmt_assume, stmt_semicolon}
 
 pub kind_begin : (t : Kind) → stmt_lead_of t ≡ lead.Begin → t ≡ k.Keyword w.Begin
 kind_begin (k.Keyword w.Begin) h = refl

@@ -18,9 +18,9 @@ use Rattle.vl_tree.specs.Stmt.{Stmt, Stmts, Arms, begin, if_only, if_else, case}
 use Rattle.vl_tree.specs.StmtView.{shown}
 use Rattle.vl_tree.specs.StmtSpelling.{spell, spell_all, spell_arms, spell_label, case_word}
 use Rattle.vl_tree.specs.StmtWellFormed.{ends_open}
-use Rattle.vl_take.specs.Next.{IsOther}
-use Rattle.vl_stmt.specs.Bare.{HasNoAttributes}
-use Rattle.vl_stmt.specs.Statements.{LeavesElse}
+use Rattle.vl_parse_cursor.specs.Next.{IsOther}
+use Rattle.vl_parse_stmt.specs.Bare.{HasNoAttributes}
+use Rattle.vl_parse_stmt.specs.Statements.{LeavesElse}
 
 pub block_found : (p : Pos) (label : Option (List ℕ)) (ss : Stmts) (start inside rest : List Token)
     → BeginsAt p start → IsNext (k.Keyword w.Begin) start inside

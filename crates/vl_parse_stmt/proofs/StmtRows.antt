@@ -8,19 +8,21 @@ use Rattle.fv_base.specs.declared.keyword.Keyword.{Keyword}
 use Rattle.fv_base.specs.declared.keyword.Keyword.TheVariants as w
 use Rattle.fv_base.specs.declared.symbol.Symbol.{Symbol}
 use Rattle.fv_base.specs.declared.symbol.Symbol.TheVariants as s
-use Rattle.vl_grammar.specs.Machine as machine
-use Rattle.vl_grammar.specs.Machine.{Row, Move, take, pop, bad, syntax, deep, then}
+use Rattle.vl_parse_grammar.specs.Machine as machine
+use Rattle.vl_parse_grammar.specs.Machine.{Row, Move, take, pop, bad, syntax, deep, then}
 use Rattle.fv_base.specs.declared.number.Number.{Number}
 use Rattle.vl_tree.specs.declared.stmt.CaseKind.{CaseKind}
 use Rattle.vl_tree.specs.declared.stmt.CaseKind.TheVariants as c
-use Rattle.vl_grammar.specs.Grammar.{Rule, Outcome, expand, ends, read, sign, name, expr, selects, in_parens, target}
-use Rattle.vl_grammar.specs.Grammar.{targets, stmt, stmts, block, otherwise, assign_sign, first_arm, arms, label}
-use Rattle.vl_grammar.specs.Grammar.{labels, behind_default, initial_stmt, initial_stmts, on_stmt, on_arm, on_label}
-use Rattle.vl_grammar.specs.Grammar.{on_initial_stmt}
-use Rattle.vl_take.specs.Next.{IsOther, behind, behind_name}
-use Rattle.vl_take.specs.Parts.{row_read, row_deep, row_popped, row_bad, same_row, in_turn, less, many_read}
-use Rattle.vl_take.proofs.Tokens.{sign_row, name_row, behind_here, behind_wrong, kinds_length}
-use Rattle.vl_grammar.specs.Grammar.{many}
+use Rattle.vl_parse_grammar.specs.Grammar.{Rule, Outcome, expand, ends, read, sign, name, expr, selects, in_parens}
+use Rattle.vl_parse_grammar.specs.Grammar.{target}
+use Rattle.vl_parse_grammar.specs.Grammar.{targets, stmt, stmts, block, otherwise, assign_sign, first_arm, arms, label}
+use Rattle.vl_parse_grammar.specs.Grammar.{labels, behind_default, initial_stmt, initial_stmts, on_stmt, on_arm}
+use Rattle.vl_parse_grammar.specs.Grammar.{on_label}
+use Rattle.vl_parse_grammar.specs.Grammar.{on_initial_stmt}
+use Rattle.vl_parse_cursor.specs.Next.{IsOther, behind, behind_name}
+use Rattle.vl_parse_cursor.specs.Parts.{row_read, row_deep, row_popped, row_bad, same_row, in_turn, less, many_read}
+use Rattle.vl_parse_cursor.proofs.Tokens.{sign_row, name_row, behind_here, behind_wrong, kinds_length}
+use Rattle.vl_parse_grammar.specs.Grammar.{many}
 
 then_then : (a : Outcome) (f g : List Kind → Outcome) → then (then a f) g ≡ then a (λ r. then (f r) g)
 then_then (Ok r) f g = refl

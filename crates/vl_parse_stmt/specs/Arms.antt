@@ -6,9 +6,9 @@ use Rattle.fv_base.specs.declared.kind.Kind.TheVariants as k
 use Rattle.fv_base.specs.declared.number.Number.{Number}
 use Rattle.vl_tree.specs.declared.stmt.CaseKind.{CaseKind}
 use Rattle.vl_tree.specs.declared.stmt.CaseKind.TheVariants as c
-use Rattle.vl_take.specs.declared.lead.Lead.{Lead}
-use Rattle.vl_take.specs.declared.lead.Lead.TheVariants as lead
-use Rattle.vl_take.specs.Lead.{lead_of}
+use Rattle.vl_parse_cursor.specs.declared.lead.Lead.{Lead}
+use Rattle.vl_parse_cursor.specs.declared.lead.Lead.TheVariants as lead
+use Rattle.vl_parse_cursor.specs.Lead.{lead_of}
 
 abbrev pub wild_if : Bool → Bool → Number → Option Number
 wild_if false true n = Some n

@@ -5,7 +5,7 @@ use Rattle.fv_base.specs.declared.kind.Kind.TheVariants as k
 use Rattle.fv_base.specs.declared.keyword.Keyword.TheVariants as w
 use Rattle.vl_tree.specs.Stmt.{Stmt}
 use Rattle.vl_tree.specs.StmtWellFormed.{ends_open}
-use Rattle.vl_take.specs.Next.{IsOther}
+use Rattle.vl_parse_cursor.specs.Next.{IsOther}
 
 -- no `else` comes next that would belong to an `if` in it
 abbrev pub LeavesElse : Stmt → List Kind → Type 0

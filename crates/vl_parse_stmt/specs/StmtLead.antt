@@ -5,8 +5,8 @@ use Rattle.fv_base.specs.declared.kind.Kind.TheVariants as k
 use Rattle.fv_base.specs.declared.keyword.Keyword.TheVariants as w
 use Rattle.fv_base.specs.declared.symbol.Symbol.TheVariants as s
 use Rattle.vl_tree.specs.declared.stmt.CaseKind.TheVariants as c
-use Rattle.vl_stmt.specs.declared.stmt.StmtLead.{StmtLead}
-use Rattle.vl_stmt.specs.declared.stmt.StmtLead.TheVariants as lead
+use Rattle.vl_parse_stmt.specs.declared.stmt.StmtLead.{StmtLead}
+use Rattle.vl_parse_stmt.specs.declared.stmt.StmtLead.TheVariants as lead
 
 abbrev pub stmt_lead_of : Kind → StmtLead
 stmt_lead_of (k.Keyword w.Begin) = lead.Begin

@@ -5,16 +5,16 @@ ghost use Rattle.vl_tree.specs.DeclarationWellFormed.{AreSome};
 ghost use Rattle.vl_tree.specs.Phrase.{Spells, sign, between_commas, ◌▸◌};
 ghost use Rattle.vl_tree.specs.StmtSpelling as spec;
 ghost use Rattle.vl_tree.specs.StmtWellFormed as formed;
-ghost use Rattle.vl_grammar.specs.Machine.{then};
-ghost use Rattle.vl_grammar.specs.Grammar as grammar;
-ghost use Rattle.vl_stmt.specs.Arms as labels;
-ghost use Rattle.vl_take.specs.Goes.{Goes};
-ghost use Rattle.vl_take.specs.Next.{kinds_in};
+ghost use Rattle.vl_parse_grammar.specs.Machine.{then};
+ghost use Rattle.vl_parse_grammar.specs.Grammar as grammar;
+ghost use Rattle.vl_parse_stmt.specs.Arms as labels;
+ghost use Rattle.vl_parse_cursor.specs.Goes.{Goes};
+ghost use Rattle.vl_parse_cursor.specs.Next.{kinds_in};
 
 use fv_base::{Kind, List, Number, Symbol, Token};
 use std::alloc::Global;
-use vl_expr::{number, read_expr};
-use vl_take::{Lead, Stop, add, lead_of, next, past_sign, read_sign};
+use vl_parse_cursor::{Lead, Stop, add, lead_of, next, past_sign, read_sign};
+use vl_parse_expr::{number, read_expr};
 use vl_tree::{CaseKind, Expr};
 
 /// A colon, where it is there.
@@ -60,7 +60,7 @@ fn wild_label(case: CaseKind, kind: &Kind) -> Option<Number>
 }
 
 /// The labels of an arm, up to the colon.
-#[tactic(auto, using(crate::proofs::ArmRows::of_labels, vl_part::proofs::ListLaws::list_laws, vl_part::proofs::DeclarationRows::basics))]
+#[tactic(auto, using(crate::proofs::ArmRows::of_labels, vl_parse_decl::proofs::ListLaws::list_laws, vl_parse_decl::proofs::DeclarationRows::basics))]
 pub(crate) fn read_labels(
     alloc: Global,
     room: u32,
@@ -87,7 +87,7 @@ pub(crate) fn read_labels(
     Ok((all, rest))
 }
 
-#[tactic(auto, using(crate::proofs::ArmRows::of_label, vl_part::proofs::DeclarationRows::basics))]
+#[tactic(auto, using(crate::proofs::ArmRows::of_label, vl_parse_decl::proofs::DeclarationRows::basics))]
 fn read_case_label(
     alloc: Global,
     room: u32,

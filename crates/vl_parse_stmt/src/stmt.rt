@@ -28,22 +28,24 @@ ghost use Rattle.vl_tree.specs.Stmt as tree;
 ghost use Rattle.vl_tree.specs.StmtView.{shown, arms};
 ghost use Rattle.vl_tree.specs.StmtSpelling as spec;
 ghost use Rattle.vl_tree.specs.StmtWellFormed as formed;
-ghost use Rattle.vl_grammar.specs.Machine.{then};
-ghost use Rattle.vl_grammar.specs.Grammar as grammar;
-ghost use Rattle.vl_take.specs.Goes.{Goes, IsMemory};
-ghost use Rattle.vl_take.specs.Next.{kinds_in, IsOther};
+ghost use Rattle.vl_parse_grammar.specs.Machine.{then};
+ghost use Rattle.vl_parse_grammar.specs.Grammar as grammar;
+ghost use Rattle.vl_parse_cursor.specs.Goes.{Goes, IsMemory};
+ghost use Rattle.vl_parse_cursor.specs.Next.{kinds_in, IsOther};
 ghost use Rattle.fv_base.specs.declared.keyword.Keyword.TheVariants as w;
-ghost use Rattle.vl_stmt.specs.Arms as labels;
-ghost use Rattle.vl_stmt.specs.StmtLead as lead;
-ghost use Rattle.vl_stmt.specs.Bare.{HasNoAttributes};
-ghost use Rattle.vl_stmt.specs.Statements.{LeavesElse};
+ghost use Rattle.vl_parse_stmt.specs.Arms as labels;
+ghost use Rattle.vl_parse_stmt.specs.StmtLead as lead;
+ghost use Rattle.vl_parse_stmt.specs.Bare.{HasNoAttributes};
+ghost use Rattle.vl_parse_stmt.specs.Statements.{LeavesElse};
 
 use crate::arm::{begins_label, read_colon, read_labels};
 use fv_base::{Keyword, Kind, List, Pos, Symbol, Text, Token};
 use std::alloc::Global;
-use vl_expr::{read_expr, read_parens};
-use vl_part::{Before, read_attributes, read_lval};
-use vl_take::{Stop, add, enter, first_place, next, past_sign, past_word, read_name, read_sign};
+use vl_parse_cursor::{
+    Stop, add, enter, first_place, next, past_sign, past_word, read_name, read_sign,
+};
+use vl_parse_decl::{Before, read_attributes, read_lval};
+use vl_parse_expr::{read_expr, read_parens};
 use vl_tree::{Arm, AssignKind, CaseKind, Expr, Stmt, StmtKind};
 
 /// What a token begins as the first of a statement behind its attributes.
@@ -94,7 +96,7 @@ fn boxed<T: Drop>(alloc: Global, value: T) -> Result<Box<T>, Stop>
 }
 
 #[cycle(stmt)]
-#[tactic(auto, using(vl_part::proofs::DeclarationRows::basics))]
+#[tactic(auto, using(vl_parse_decl::proofs::DeclarationRows::basics))]
 pub fn read_stmt(alloc: Global, room: u32, tokens: &[Token]) -> Result<(Stmt, &[Token]), Stop>
     ensures found { IfOk result (λ x. Spells (spec.spell x.0) tokens.now x.1.now) }
     ensures formed { IfOk result (λ x. formed.IsWellFormed x.0) }
@@ -127,7 +129,7 @@ fn read_boxed(alloc: Global, room: u32, tokens: &[Token]) -> Result<(Box<Stmt>, 
 
 /// A statement behind its attributes.
 #[cycle(stmt)]
-#[tactic(auto, using(crate::proofs::StmtLeads::stmt_leads, vl_part::proofs::DeclarationRows::basics))]
+#[tactic(auto, using(crate::proofs::StmtLeads::stmt_leads, vl_parse_decl::proofs::DeclarationRows::basics))]
 fn read_bare(alloc: Global, room: u32, tokens: &[Token]) -> Result<(Stmt, &[Token]), Stop>
     requires bare { IsOther (k.Symbol s.OpenAttribute) (kinds_in tokens.now) }
     ensures bare { IfOk result (λ x. HasNoAttributes x.0) }
@@ -163,7 +165,7 @@ fn read_bare(alloc: Global, room: u32, tokens: &[Token]) -> Result<(Stmt, &[Toke
 
 /// What is behind an `if`. An `else` belongs to the nearest one.
 #[cycle(stmt)]
-#[tactic(auto, using(crate::proofs::StmtRows::of_otherwise, vl_part::proofs::DeclarationRows::basics))]
+#[tactic(auto, using(crate::proofs::StmtRows::of_otherwise, vl_parse_decl::proofs::DeclarationRows::basics))]
 fn read_if(alloc: Global, pos: Pos, room: u32, tokens: &[Token]) -> Result<(Stmt, &[Token]), Stop>
     ensures bare { IfOk result (λ x. HasNoAttributes x.0) }
     ensures found { IfOk result (λ x. (start : List Token) → BeginsAt pos start
@@ -189,7 +191,7 @@ fn read_if(alloc: Global, pos: Pos, room: u32, tokens: &[Token]) -> Result<(Stmt
 
 /// What is behind a `case` or `casez`.
 #[cycle(stmt)]
-#[tactic(auto, using(vl_part::proofs::DeclarationRows::basics))]
+#[tactic(auto, using(vl_parse_decl::proofs::DeclarationRows::basics))]
 fn read_case(
     alloc: Global,
     pos: Pos,
@@ -213,7 +215,7 @@ fn read_case(
 }
 
 /// What is behind an `assume`.
-#[tactic(auto, using(vl_part::proofs::DeclarationRows::basics))]
+#[tactic(auto, using(vl_parse_decl::proofs::DeclarationRows::basics))]
 fn read_assume(
     alloc: Global,
     pos: Pos,
@@ -237,7 +239,7 @@ fn read_assume(
 
 /// `: label`, where it is there, and statements up to `end`.
 #[cycle(stmt)]
-#[tactic(auto, using(crate::proofs::StmtRows::of_block, vl_part::proofs::DeclarationRows::basics))]
+#[tactic(auto, using(crate::proofs::StmtRows::of_block, vl_parse_decl::proofs::DeclarationRows::basics))]
 fn read_labelled(
     alloc: Global,
     room: u32,
@@ -265,7 +267,7 @@ fn read_labelled(
 
 /// Statements up to `end`.
 #[cycle(stmt)]
-#[tactic(auto, using(crate::proofs::StmtRows::of_stmts, crate::proofs::StmtSpelled::stmt_spelled, vl_part::proofs::DeclarationRows::basics))]
+#[tactic(auto, using(crate::proofs::StmtRows::of_stmts, crate::proofs::StmtSpelled::stmt_spelled, vl_parse_decl::proofs::DeclarationRows::basics))]
 fn read_stmts(alloc: Global, room: u32, tokens: &[Token]) -> Result<(List<Stmt>, &[Token]), Stop>
     ensures found { IfOk result (λ x. Spells (spec.spell_all (tree.stmts x.0)
         ▸ word Keyword.End) tokens.now x.1.now) }
@@ -287,7 +289,7 @@ fn read_stmts(alloc: Global, room: u32, tokens: &[Token]) -> Result<(List<Stmt>,
 
 /// One arm or more, up to `endcase`. At most one has a default.
 #[cycle(stmt)]
-#[tactic(auto, using(crate::proofs::ArmRows::of_arms, crate::proofs::StmtSpelled::arms_spelled, vl_part::proofs::DeclarationRows::basics))]
+#[tactic(auto, using(crate::proofs::ArmRows::of_arms, crate::proofs::StmtSpelled::arms_spelled, vl_parse_decl::proofs::DeclarationRows::basics))]
 fn read_arms(
     alloc: Global,
     room: u32,
@@ -322,7 +324,7 @@ fn read_arms(
 
 /// An arm, and whether a default is there then. The arm is open from its first token on.
 #[cycle(stmt)]
-#[tactic(auto, using(crate::proofs::ArmRows::of_arm, vl_part::proofs::DeclarationRows::basics))]
+#[tactic(auto, using(crate::proofs::ArmRows::of_arm, vl_parse_decl::proofs::DeclarationRows::basics))]
 fn read_arm(
     alloc: Global,
     room: u32,
@@ -366,7 +368,7 @@ fn read_arm(
 }
 
 /// `target = value;` or `target <= value;`
-#[tactic(auto, using(vl_part::proofs::DeclarationRows::basics))]
+#[tactic(auto, using(vl_parse_decl::proofs::DeclarationRows::basics))]
 fn read_assignment(
     alloc: Global,
     pos: Pos,
@@ -392,7 +394,7 @@ fn read_assignment(
 }
 
 /// `= value;` or `<= value;`
-#[tactic(auto, using(vl_part::proofs::DeclarationRows::basics))]
+#[tactic(auto, using(vl_parse_decl::proofs::DeclarationRows::basics))]
 fn read_behind_target(
     alloc: Global,
     room: u32,
@@ -411,7 +413,7 @@ fn read_behind_target(
 }
 
 /// `value;`
-#[tactic(auto, using(vl_part::proofs::DeclarationRows::basics))]
+#[tactic(auto, using(vl_parse_decl::proofs::DeclarationRows::basics))]
 fn read_value(alloc: Global, room: u32, tokens: &[Token]) -> Result<(Expr, &[Token]), Stop>
     ensures found { IfOk result (λ x. Spells
         (level (written.spell x.0) ▸ sign Symbol.Semicolon) tokens.now x.1.now) }
@@ -426,7 +428,7 @@ fn read_value(alloc: Global, room: u32, tokens: &[Token]) -> Result<(Expr, &[Tok
     Ok((value, rest))
 }
 
-#[tactic(auto, using(crate::proofs::StmtRows::of_assign_sign, vl_part::proofs::DeclarationRows::basics))]
+#[tactic(auto, using(crate::proofs::StmtRows::of_assign_sign, vl_parse_decl::proofs::DeclarationRows::basics))]
 fn read_assign_sign(tokens: &[Token]) -> Result<(AssignKind, &[Token]), Stop>
     ensures found { IfOk result (λ x. Spells (sign (spec.assign_sign x.0)) tokens.now x.1.now) }
     ensures shorter { IfOk result (λ x. length x.1.now < length tokens.now) }
@@ -443,7 +445,7 @@ fn read_assign_sign(tokens: &[Token]) -> Result<(AssignKind, &[Token]), Stop>
 
 /// What stands behind `initial`: a blocking assignment, or a block of such.
 #[cycle(initial)]
-#[tactic(auto, using(crate::proofs::StmtRows::of_initial_stmt, vl_part::proofs::DeclarationRows::basics))]
+#[tactic(auto, using(crate::proofs::StmtRows::of_initial_stmt, vl_parse_decl::proofs::DeclarationRows::basics))]
 pub fn read_initial(alloc: Global, room: u32, tokens: &[Token]) -> Result<(Stmt, &[Token]), Stop>
     ensures found { IfOk result (λ x. Spells (spec.spell x.0) tokens.now x.1.now) }
     ensures formed { IfOk result (λ x. formed.IsWellFormed x.0) }
@@ -464,7 +466,7 @@ pub fn read_initial(alloc: Global, room: u32, tokens: &[Token]) -> Result<(Stmt,
 }
 
 /// `target = value;`
-#[tactic(auto, using(vl_part::proofs::DeclarationRows::basics))]
+#[tactic(auto, using(vl_parse_decl::proofs::DeclarationRows::basics))]
 fn read_blocking(
     alloc: Global,
     pos: Pos,
@@ -491,7 +493,7 @@ fn read_blocking(
 
 /// Such statements up to `end`.
 #[cycle(initial)]
-#[tactic(auto, using(crate::proofs::StmtRows::of_initial_stmts, crate::proofs::StmtSpelled::stmt_spelled, vl_part::proofs::DeclarationRows::basics))]
+#[tactic(auto, using(crate::proofs::StmtRows::of_initial_stmts, crate::proofs::StmtSpelled::stmt_spelled, vl_parse_decl::proofs::DeclarationRows::basics))]
 fn read_initials(alloc: Global, room: u32, tokens: &[Token]) -> Result<(List<Stmt>, &[Token]), Stop>
     ensures found { IfOk result (λ x. Spells (spec.spell_all (tree.stmts x.0)
         ▸ word Keyword.End) tokens.now x.1.now) }

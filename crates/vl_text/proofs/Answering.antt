@@ -2,11 +2,11 @@
 use Rattle.std.proofs.Common.{◌≡◌, List, Result, Ok, Err, refl, sym, ap, ◌∙◌, subst}
 use Rattle.vl_prep.specs.Prep.{Outcome}
 use Rattle.vl_tree.specs.declared.source.Source.{Source}
-use Rattle.rvf_text.specs.Assumptions.{with_assumptions}
-use Rattle.rvf_text.specs.SourceText.{Then, InTurn, Only, Answers, AreParsed, AreRead, with_macros}
-use Rattle.rvf_text.specs.Texts.{Text}
-use Rattle.rvf_text.specs.declared.fault.TextFault.{TextFault}
-use Rattle.rvf_text.specs.declared.fault.TextFault.TheVariants.{Lex, Prep, Parse, Memory}
+use Rattle.vl_text.specs.Assumptions.{with_assumptions}
+use Rattle.vl_text.specs.SourceText.{Then, InTurn, Only, Answers, AreParsed, AreRead, with_macros}
+use Rattle.vl_text.specs.Texts.{Text}
+use Rattle.vl_text.specs.declared.fault.TextFault.{TextFault}
+use Rattle.vl_text.specs.declared.fault.TextFault.TheVariants.{Lex, Prep, Parse, Memory}
 
 pub only_answers : {A : Type 0} (Is : Result A TextFault → Type 0) (r : Result A TextFault) → Only Is r → Answers Is r
 only_answers Is (Ok a) h = h

@@ -1,7 +1,7 @@
 -- The end of the top module, token by token.
 use Rattle.std.proofs.Common.{◌≡◌, ℕ, ◌+◌, List, [], ◌∷◌, None, Some, true, false, refl, sym, ap, ◌∙◌}
 use Rattle.fv_base.specs.declared.token.Token.{Token}
-use Rattle.rvf_text.specs.Assumptions.{is_endmodule, first_end, begins_top, end_of_top}
+use Rattle.vl_text.specs.Assumptions.{is_endmodule, first_end, begins_top, end_of_top}
 
 module _ (before : ℕ) (left ts : List Token) (t : Token) (is : left ≡ t ∷ ts) where
   pub end_later : begins_top t ts ≡ false → end_of_top before left ≡ end_of_top (before + 1) ts

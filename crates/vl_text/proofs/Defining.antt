@@ -4,9 +4,9 @@ use Rattle.fv_base.specs.declared.token.Token.{Token}
 use Rattle.vl_token.specs.Tokens.{AreTokens}
 use Rattle.vl_prep.specs.Macros.{Held}
 use Rattle.vl_prep.specs.Prep.{Outcome, preprocessed}
-use Rattle.rvf_text.specs.Predefined.{prologue, none, ArePredefinedFor}
-use Rattle.rvf_text.specs.declared.macros.Core.{Core}
-use Rattle.rvf_text.proofs.Preparing.{ok_same}
+use Rattle.vl_text.specs.Predefined.{prologue, none, ArePredefinedFor}
+use Rattle.vl_text.specs.declared.macros.Core.{Core}
+use Rattle.vl_text.proofs.Preparing.{ok_same}
 
 module _ (core : Core) (text : List ℕ) (tokens : List Token) (empty macros : Held) (output : List Token)
     (is : text ≡ prologue core) (lexes : AreTokens 0 1 text tokens)

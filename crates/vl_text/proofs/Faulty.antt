@@ -14,18 +14,18 @@ use Rattle.vl_prep.specs.declared.fault.PrepFault.TheVariants as prep
 use Rattle.vl_tree.specs.Phrase.{kinds_of}
 use Rattle.vl_tree.specs.declared.source.Module.{Module}
 use Rattle.vl_tree.specs.WellFormed.{IsModule}
-use Rattle.vl_grammar.specs.Depth.{IsTooDeep}
-use Rattle.vl_grammar.specs.Text.{IsText, IsFaulty}
+use Rattle.vl_parse_grammar.specs.Depth.{IsTooDeep}
+use Rattle.vl_parse_grammar.specs.Text.{IsText, IsFaulty}
 use Rattle.vl_parse.specs.Faults as parser
 use Rattle.vl_parse.specs.Faults.{token_at, place_at, named_at, wrong_at, outside_word}
 use Rattle.vl_parse.specs.Refusals.{IsOfFaulty, IsOfTooDeep, IsFaultOf}
 use Rattle.vl_parse.specs.declared.fault.ParseFault.{ParseFault}
 use Rattle.vl_parse.specs.declared.fault.ParseFault.TheVariants as parse
-use Rattle.rvf_text.specs.Faults.{of_prep, of_parse}
-use Rattle.rvf_text.specs.Places.{parse_place, IsAtToken}
-use Rattle.rvf_text.specs.declared.fault.TextFault.{TextFault}
-use Rattle.rvf_text.specs.declared.fault.TextFault.TheVariants.{Parse}
-use Rattle.rvf_text.proofs.Standing.{own_places}
+use Rattle.vl_text.specs.Faults.{of_prep, of_parse}
+use Rattle.vl_text.specs.Places.{parse_place, IsAtToken}
+use Rattle.vl_text.specs.declared.fault.TextFault.{TextFault}
+use Rattle.vl_text.specs.declared.fault.TextFault.TheVariants.{Parse}
+use Rattle.vl_text.proofs.Standing.{own_places}
 
 pub prep_at : (ts : List Token) (fault : PrepFault) → IsPlacedFault ts fault → IsAtToken ts (of_prep fault)
 prep_at ts (prep.UnknownMacro name at) h = h

@@ -7,17 +7,17 @@ use Rattle.fv_base.specs.declared.token.Token.{Token}
 use Rattle.vl_token.specs.Fault.{OnNotMemory, is_of_text}
 use Rattle.vl_token.specs.declared.fault.LexFault.{LexFault}
 use Rattle.vl_token.specs.Place.{start_of}
-use Rattle.rvf_text.specs.Assumptions.{item, as_item, as_items}
-use Rattle.rvf_text.specs.SourceText.{AreLaid, tokens_or, Only, Answers}
-use Rattle.rvf_text.proofs.Answering.{only_answers}
-use Rattle.rvf_text.proofs.OneText.{of_text}
-use Rattle.rvf_text.specs.Steps.{IsOnlyLexed, AddsText, AddsItem, AreOnlyLexed, AddsTexts, AddsItems}
-use Rattle.rvf_text.specs.Texts.{Text, Lexing, IsLexed, AreLexed, nothing_lexed, with_lexing, laid_behind}
-use Rattle.rvf_text.specs.Texts.{text_seen, texts_seen, line_seen, lines_seen}
-use Rattle.rvf_text.specs.declared.text.Assumption.{Assumption}
-use Rattle.rvf_text.specs.declared.text.SourceText.{SourceText}
-use Rattle.rvf_text.specs.declared.fault.TextFault.{TextFault}
-use Rattle.rvf_text.specs.declared.lexing.Lexed.{Lexed}
+use Rattle.vl_text.specs.Assumptions.{item, as_item, as_items}
+use Rattle.vl_text.specs.SourceText.{AreLaid, tokens_or, Only, Answers}
+use Rattle.vl_text.proofs.Answering.{only_answers}
+use Rattle.vl_text.proofs.OneText.{of_text}
+use Rattle.vl_text.specs.Steps.{IsOnlyLexed, AddsText, AddsItem, AreOnlyLexed, AddsTexts, AddsItems}
+use Rattle.vl_text.specs.Texts.{Text, Lexing, IsLexed, AreLexed, nothing_lexed, with_lexing, laid_behind}
+use Rattle.vl_text.specs.Texts.{text_seen, texts_seen, line_seen, lines_seen}
+use Rattle.vl_text.specs.declared.text.Assumption.{Assumption}
+use Rattle.vl_text.specs.declared.text.SourceText.{SourceText}
+use Rattle.vl_text.specs.declared.fault.TextFault.{TextFault}
+use Rattle.vl_text.specs.declared.lexing.Lexed.{Lexed}
 
 pub no_texts : (all : Lexed) → AddsTexts [] all all
 no_texts all = record { lexings = []; lexed = tt; new_is = refl }

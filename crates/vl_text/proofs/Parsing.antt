@@ -5,16 +5,16 @@ use Rattle.vl_tree.specs.Phrase.{Spells, kinds_of}
 use Rattle.vl_tree.specs.ItemSpelling.{spell_source}
 use Rattle.vl_tree.specs.WellFormed.{IsSource}
 use Rattle.vl_tree.specs.declared.source.Source.{Source}
-use Rattle.vl_grammar.specs.Depth.{IsTooDeep}
-use Rattle.vl_grammar.specs.Text.{IsFaulty}
+use Rattle.vl_parse_grammar.specs.Depth.{IsTooDeep}
+use Rattle.vl_parse_grammar.specs.Text.{IsFaulty}
 use Rattle.vl_parse.specs.Faults.{wrong_token, deep_fault, IsMemoryOr}
 use Rattle.vl_parse.specs.Refusals.{IsTreeOf, IsShallow, NoneIsTooDeep, IsOfFaulty, IsOfTooDeep, IsFaultOf, Gives}
 use Rattle.vl_parse.specs.declared.fault.ParseFault.{ParseFault}
 use Rattle.vl_parse.specs.declared.fault.ParseFault.TheVariants as parse
-use Rattle.rvf_text.specs.Faults.{of_parse}
-use Rattle.rvf_text.specs.SourceText.{IsMisparsed, AreParsed, Only, Answers}
-use Rattle.rvf_text.specs.declared.fault.TextFault.{TextFault}
-use Rattle.rvf_text.specs.declared.fault.TextFault.TheVariants.{Lex, Prep, Parse, Memory}
+use Rattle.vl_text.specs.Faults.{of_parse}
+use Rattle.vl_text.specs.SourceText.{IsMisparsed, AreParsed, Only, Answers}
+use Rattle.vl_text.specs.declared.fault.TextFault.{TextFault}
+use Rattle.vl_text.specs.declared.fault.TextFault.TheVariants.{Lex, Prep, Parse, Memory}
 
 module _ (ts : List Token) where
   abbrev Answer : Type 0

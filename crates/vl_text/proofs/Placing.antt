@@ -18,14 +18,14 @@ use Rattle.vl_token.specs.declared.fault.LexFault.TheVariants as lex
 use Rattle.vl_prep.specs.Places.{places}
 use Rattle.vl_prep.specs.declared.macros.Macros.{Macros}
 use Rattle.vl_tree.specs.declared.source.Source.{Source}
-use Rattle.rvf_text.specs.Assumptions.{item, front_at, end_at, as_item, as_items}
-use Rattle.rvf_text.specs.Places.{IsPlaceIn, place_of, IsPlacedIn, IsAtToken, AreAtTokens, HasTokenPlaces}
-use Rattle.rvf_text.specs.SourceText.{AreLaid, tokens_or, Only, Answers}
-use Rattle.rvf_text.specs.Texts.{Text, Lexing, IsLexed, AreLexed, lexed_bytes, is_before, least, nothing_lexed}
-use Rattle.rvf_text.specs.Texts.{with_lexing, laid_behind}
-use Rattle.rvf_text.specs.declared.fault.TextFault.{TextFault}
-use Rattle.rvf_text.specs.declared.fault.TextFault.TheVariants.{Lex, Prep, Parse, Memory}
-use Rattle.rvf_text.specs.declared.lexing.Lexed.{Lexed}
+use Rattle.vl_text.specs.Assumptions.{item, front_at, end_at, as_item, as_items}
+use Rattle.vl_text.specs.Places.{IsPlaceIn, place_of, IsPlacedIn, IsAtToken, AreAtTokens, HasTokenPlaces}
+use Rattle.vl_text.specs.SourceText.{AreLaid, tokens_or, Only, Answers}
+use Rattle.vl_text.specs.Texts.{Text, Lexing, IsLexed, AreLexed, lexed_bytes, is_before, least, nothing_lexed}
+use Rattle.vl_text.specs.Texts.{with_lexing, laid_behind}
+use Rattle.vl_text.specs.declared.fault.TextFault.{TextFault}
+use Rattle.vl_text.specs.declared.fault.TextFault.TheVariants.{Lex, Prep, Parse, Memory}
+use Rattle.vl_text.specs.declared.lexing.Lexed.{Lexed}
 
 place_after_both : (p : Pos) (a b : List ℕ) → place_after p (a ++ b) ≡ place_after (place_after p a) b
 place_after_both p [] b = refl

@@ -6,12 +6,12 @@ use Rattle.vl_prep.specs.Macros.{Held}
 use Rattle.vl_prep.specs.Prep.{Outcome, preprocessed}
 use Rattle.vl_prep.specs.declared.fault.PrepFault.{PrepFault}
 use Rattle.vl_prep.specs.declared.fault.PrepFault.TheVariants as prep
-use Rattle.rvf_text.specs.Faults.{of_prep}
-use Rattle.rvf_text.specs.Predefined.{ArePredefinedFor}
-use Rattle.rvf_text.specs.SourceText.{ArePrepared, outcome_or_fault, Only, Answers}
-use Rattle.rvf_text.specs.declared.fault.TextFault.{TextFault}
-use Rattle.rvf_text.specs.declared.fault.TextFault.TheVariants.{Lex, Prep, Parse, Memory}
-use Rattle.rvf_text.specs.declared.macros.Core.{Core}
+use Rattle.vl_text.specs.Faults.{of_prep}
+use Rattle.vl_text.specs.Predefined.{ArePredefinedFor}
+use Rattle.vl_text.specs.SourceText.{ArePrepared, outcome_or_fault, Only, Answers}
+use Rattle.vl_text.specs.declared.fault.TextFault.{TextFault}
+use Rattle.vl_text.specs.declared.fault.TextFault.TheVariants.{Lex, Prep, Parse, Memory}
+use Rattle.vl_text.specs.declared.macros.Core.{Core}
 
 pub ok_same : {A E : Type 0} (r : Result A E) (a b : A) → r ≡ Ok a → r ≡ Ok b → a ≡ b
 ok_same r a b p q = cc

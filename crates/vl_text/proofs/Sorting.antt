@@ -3,10 +3,10 @@ use Rattle.std.proofs.Common.{◌≡◌, List, [], ◌∷◌, ◌++◌, refl, sy
 use Rattle.std.proofs.lemmas.List.Elements.{filter-append}
 use Rattle.std.specs.List.{filter}
 use Rattle.fv_base.specs.declared.token.Token.{Token}
-use Rattle.rvf_text.specs.Assumptions.{is_assumed, is_not_assumed}
-use Rattle.rvf_text.specs.Steps.{sorted, with_token}
-use Rattle.rvf_text.specs.declared.assumptions.Section.{Section}
-use Rattle.rvf_text.specs.declared.assumptions.Sorted.{Sorted}
+use Rattle.vl_text.specs.Assumptions.{is_assumed, is_not_assumed}
+use Rattle.vl_text.specs.Steps.{sorted, with_token}
+use Rattle.vl_text.specs.declared.assumptions.Section.{Section}
+use Rattle.vl_text.specs.declared.assumptions.Sorted.{Sorted}
 
 both : (a b c d : List Token) → a ≡ b → c ≡ d
     → ◌≡◌ {A = Sorted} (record { assumed = a; others = c }) (record { assumed = b; others = d })

@@ -16,21 +16,21 @@ use Rattle.vl_prep.specs.declared.macros.Macros.{Macros}
 use Rattle.vl_tree.specs.ItemSpelling.{spell_source}
 use Rattle.vl_tree.specs.Phrase.{Phrase, nothing, token, operator, ◌▸◌, at, within, level, kinds_of, Spells}
 use Rattle.vl_tree.specs.declared.source.Source.{Source}
-use Rattle.vl_grammar.specs.Depth.{IsTooDeep}
-use Rattle.vl_grammar.specs.Text.{IsFaulty}
+use Rattle.vl_parse_grammar.specs.Depth.{IsTooDeep}
+use Rattle.vl_parse_grammar.specs.Text.{IsFaulty}
 use Rattle.vl_parse.specs.Faults as parser
 use Rattle.vl_parse.specs.Faults.{token_at, place_at, named_at, wrong_at, outside_word}
 use Rattle.vl_parse.specs.Refusals.{IsOfFaulty, IsOfTooDeep, IsFaultOf}
 use Rattle.vl_parse.specs.declared.fault.ParseFault.{ParseFault}
 use Rattle.vl_parse.specs.declared.fault.ParseFault.TheVariants as parse
-use Rattle.rvf_text.specs.Assumptions.{put_in, placed, with_assumptions, end_of_top, section_of, is_assumed}
-use Rattle.rvf_text.specs.Assumptions.{is_not_assumed}
-use Rattle.rvf_text.specs.Faults.{of_parse}
-use Rattle.rvf_text.specs.Places.{parse_place, place_of, node_places, AreAtTokens, IsAtToken}
-use Rattle.rvf_text.specs.SourceText.{tree_seen}
-use Rattle.rvf_text.specs.Texts.{Text}
-use Rattle.rvf_text.specs.declared.assumptions.Section.{Section}
-use Rattle.rvf_text.specs.declared.fault.TextFault.{TextFault}
+use Rattle.vl_text.specs.Assumptions.{put_in, placed, with_assumptions, end_of_top, section_of, is_assumed}
+use Rattle.vl_text.specs.Assumptions.{is_not_assumed}
+use Rattle.vl_text.specs.Faults.{of_parse}
+use Rattle.vl_text.specs.Places.{parse_place, place_of, node_places, AreAtTokens, IsAtToken}
+use Rattle.vl_text.specs.SourceText.{tree_seen}
+use Rattle.vl_text.specs.Texts.{Text}
+use Rattle.vl_text.specs.declared.assumptions.Section.{Section}
+use Rattle.vl_text.specs.declared.fault.TextFault.{TextFault}
 
 module _ (P : Pos → Type 0) where
   abbrev AreAt : List Token → Type 0

@@ -28,8 +28,8 @@ use Rattle.fv_base.specs.declared.symbol.Symbol.{Symbol}
 use Rattle.fv_base.specs.declared.symbol.Symbol.TheVariants as s
 use Rattle.fv_base.specs.declared.token.Token.{Token}
 use Rattle.vl_token.specs.Place.{start_of}
-use Rattle.rvf_text.specs.Texts.{Text, Lexing}
-use Rattle.rvf_text.specs.declared.assumptions.Section.{Section}
+use Rattle.vl_text.specs.Texts.{Text, Lexing}
+use Rattle.vl_text.specs.declared.assumptions.Section.{Section}
 
 abbrev pub word_at : Keyword → Pos → Token
 word_at word at = record { kind = k.Keyword word; pos = at; named = refl }

@@ -5,8 +5,8 @@ use Rattle.vl_prep.specs.declared.fault.PrepFault.{PrepFault}
 use Rattle.vl_prep.specs.declared.fault.PrepFault.TheVariants as prep
 use Rattle.vl_parse.specs.declared.fault.ParseFault.{ParseFault}
 use Rattle.vl_parse.specs.declared.fault.ParseFault.TheVariants as parse
-use Rattle.rvf_text.specs.declared.fault.TextFault.{TextFault}
-use Rattle.rvf_text.specs.declared.fault.TextFault.TheVariants.{Lex, Prep, Parse, Memory}
+use Rattle.vl_text.specs.declared.fault.TextFault.{TextFault}
+use Rattle.vl_text.specs.declared.fault.TextFault.TheVariants.{Lex, Prep, Parse, Memory}
 
 abbrev pub of_lex : LexFault → TextFault
 of_lex lex.Memory = Memory

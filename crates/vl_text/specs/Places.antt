@@ -11,10 +11,10 @@ use Rattle.vl_tree.specs.Phrase.{Phrase, nothing, token, operator, ◌▸◌, at
 use Rattle.vl_tree.specs.declared.source.Source.{Source}
 use Rattle.vl_parse.specs.declared.fault.ParseFault.{ParseFault}
 use Rattle.vl_parse.specs.declared.fault.ParseFault.TheVariants as parse
-use Rattle.rvf_text.specs.SourceText.{AreLaid}
-use Rattle.rvf_text.specs.Texts.{Text, lexed_bytes}
-use Rattle.rvf_text.specs.declared.fault.TextFault.{TextFault}
-use Rattle.rvf_text.specs.declared.fault.TextFault.TheVariants.{Lex, Prep, Parse, Memory}
+use Rattle.vl_text.specs.SourceText.{AreLaid}
+use Rattle.vl_text.specs.Texts.{Text, lexed_bytes}
+use Rattle.vl_text.specs.declared.fault.TextFault.{TextFault}
+use Rattle.vl_text.specs.declared.fault.TextFault.TheVariants.{Lex, Prep, Parse, Memory}
 
 -- the place behind a front of one of the texts: that of the byte there, or of its end
 pub record IsPlaceIn (texts : List Text) (place : Pos) : Type 0 where

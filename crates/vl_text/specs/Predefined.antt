@@ -17,9 +17,9 @@ use Rattle.fv_base.specs.declared.token.Token.{Token}
 use Rattle.vl_token.specs.Tokens.{AreTokens}
 use Rattle.vl_prep.specs.Macros.{Held}
 use Rattle.vl_prep.specs.Prep.{preprocessed}
-use Rattle.rvf_text.specs.declared.macros.Core.{Core}
-use Rattle.rvf_text.specs.declared.macros.Retirements.{Retirements}
-use Rattle.rvf_text.specs.declared.macros.Retirements.TheVariants.{One}
+use Rattle.vl_text.specs.declared.macros.Core.{Core}
+use Rattle.vl_text.specs.declared.macros.Retirements.{Retirements}
+use Rattle.vl_text.specs.declared.macros.Retirements.TheVariants.{One}
 
 abbrev Field : Type 0
 Field = List ℕ × List ℕ

@@ -12,13 +12,13 @@ use Rattle.vl_tree.specs.declared.source.Source.{Source}
 use Rattle.vl_parse.specs.Refusals.{IsTreeOf, IsShallow, IsFaultOf}
 use Rattle.vl_parse.specs.declared.fault.ParseFault.{ParseFault}
 use Rattle.vl_parse.specs.declared.fault.ParseFault.TheVariants as parse
-use Rattle.rvf_text.specs.Assumptions.{as_items, with_assumptions}
-use Rattle.rvf_text.specs.Predefined.{ArePredefinedFor}
-use Rattle.rvf_text.specs.Texts.{Text, Lexing, AreLexed, nothing_lexed, laid_behind}
-use Rattle.rvf_text.specs.declared.fault.TextFault.{TextFault}
-use Rattle.rvf_text.specs.declared.fault.TextFault.TheVariants.{Lex, Prep, Parse, Memory}
-use Rattle.rvf_text.specs.declared.lexing.Lexed.{Lexed}
-use Rattle.rvf_text.specs.declared.macros.Core.{Core}
+use Rattle.vl_text.specs.Assumptions.{as_items, with_assumptions}
+use Rattle.vl_text.specs.Predefined.{ArePredefinedFor}
+use Rattle.vl_text.specs.Texts.{Text, Lexing, AreLexed, nothing_lexed, laid_behind}
+use Rattle.vl_text.specs.declared.fault.TextFault.{TextFault}
+use Rattle.vl_text.specs.declared.fault.TextFault.TheVariants.{Lex, Prep, Parse, Memory}
+use Rattle.vl_text.specs.declared.lexing.Lexed.{Lexed}
+use Rattle.vl_text.specs.declared.macros.Core.{Core}
 
 -- what is there in the end: the tree of all texts, and the macros that are defined behind them
 pub record Reading : Type 0 where

@@ -5,11 +5,11 @@ use Rattle.std.specs.Global.{Vec}
 use Rattle.fv_base.specs.declared.token.Token.{Token}
 use Rattle.vl_token.specs.Fault.{OnNotMemory}
 use Rattle.vl_token.specs.declared.fault.LexFault.{LexFault}
-use Rattle.rvf_text.specs.Assumptions.{as_item, as_items, is_assumed, is_not_assumed}
-use Rattle.rvf_text.specs.Texts.{Text, Lexing, IsLexed, with_lexing, laid_behind}
-use Rattle.rvf_text.specs.declared.assumptions.Section.{Section}
-use Rattle.rvf_text.specs.declared.assumptions.Sorted.{Sorted}
-use Rattle.rvf_text.specs.declared.lexing.Lexed.{Lexed}
+use Rattle.vl_text.specs.Assumptions.{as_item, as_items, is_assumed, is_not_assumed}
+use Rattle.vl_text.specs.Texts.{Text, Lexing, IsLexed, with_lexing, laid_behind}
+use Rattle.vl_text.specs.declared.assumptions.Section.{Section}
+use Rattle.vl_text.specs.declared.assumptions.Sorted.{Sorted}
+use Rattle.vl_text.specs.declared.lexing.Lexed.{Lexed}
 
 -- the lexer makes this of the text, and nothing else
 pub record IsOnlyLexed (x : Text) (r : Lexing) : Type 0 where

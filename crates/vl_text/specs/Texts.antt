@@ -24,9 +24,9 @@ use Rattle.vl_token.specs.FaultPlace.{fault_place}
 use Rattle.vl_token.specs.Tokens.{AreTokens}
 use Rattle.vl_token.specs.declared.fault.LexFault.{LexFault}
 use Rattle.vl_prep.specs.Refusals.{is_place, is_sooner}
-use Rattle.rvf_text.specs.declared.lexing.Lexed.{Lexed}
-use Rattle.rvf_text.specs.declared.text.Assumption.{Assumption}
-use Rattle.rvf_text.specs.declared.text.SourceText.{SourceText}
+use Rattle.vl_text.specs.declared.lexing.Lexed.{Lexed}
+use Rattle.vl_text.specs.declared.text.Assumption.{Assumption}
+use Rattle.vl_text.specs.declared.text.SourceText.{SourceText}
 
 -- a text: the number of its file, that of its first line, and its bytes
 pub record Text : Type 0 where

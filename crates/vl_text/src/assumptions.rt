@@ -2,9 +2,9 @@
 
 ghost use Rattle.std.specs.Prelude.{◌≡◌, ◌≤◌, ◌++◌, length, take, drop, IfOk, OnOk};
 ghost use Rattle.vl_token.specs.Place.{start_of};
-ghost use Rattle.rvf_text.specs.Assumptions as spec;
-ghost use Rattle.rvf_text.specs.Steps.{sorted, with_token};
-ghost use Rattle.rvf_text.specs.Texts.{lines_seen};
+ghost use Rattle.vl_text.specs.Assumptions as spec;
+ghost use Rattle.vl_text.specs.Steps.{sorted, with_token};
+ghost use Rattle.vl_text.specs.Texts.{lines_seen};
 
 use crate::text::Assumption;
 use crate::top_module::end_of_top;

@@ -21,7 +21,7 @@ pub enum TextFault {
 }
 
 impl From<Memory> for TextFault {
-    ghost use Rattle.rvf_text.specs.declared.fault.TextFault.TheVariants as fault;
+    ghost use Rattle.vl_text.specs.declared.fault.TextFault.TheVariants as fault;
 
     ghost from_gives = { λ _ e. e ≡ fault.Memory };
 

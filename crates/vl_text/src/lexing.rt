@@ -2,9 +2,9 @@
 
 ghost use Rattle.std.specs.Prelude.{◌≡◌, ◌++◌, ◌∷◌, [], true, Ok, Err, IfOk, OnOk};
 ghost use Rattle.vl_token.specs.Fault.{is_of_text};
-ghost use Rattle.rvf_text.specs.Steps.{AddsItem, AddsItems, AddsText, AddsTexts, Lexes};
-ghost use Rattle.rvf_text.specs.Texts as texts;
-ghost use Rattle.rvf_text.specs.Texts.{line_seen, lines_seen, nothing_lexed, text_seen, texts_seen, with_lexing};
+ghost use Rattle.vl_text.specs.Steps.{AddsItem, AddsItems, AddsText, AddsTexts, Lexes};
+ghost use Rattle.vl_text.specs.Texts as texts;
+ghost use Rattle.vl_text.specs.Texts.{line_seen, lines_seen, nothing_lexed, text_seen, texts_seen, with_lexing};
 
 use crate::assumptions::item;
 use crate::text::{Assumption, SourceText};

@@ -1,7 +1,7 @@
 ghost use Rattle.std.specs.Prelude.{◌≡◌, IfOk};
 ghost use Rattle.vl_prep.specs.Macros.{Held, held};
-ghost use Rattle.rvf_text.specs.Predefined.{common, define_compressed, define_retirements, digits_of, prologue};
-ghost use Rattle.rvf_text.specs.Predefined.{ArePredefinedFor};
+ghost use Rattle.vl_text.specs.Predefined.{common, define_compressed, define_retirements, digits_of, prologue};
+ghost use Rattle.vl_text.specs.Predefined.{ArePredefinedFor};
 
 use fv_base::Memory;
 use std::alloc::Global;

@@ -3,12 +3,12 @@
 ghost use Rattle.std.specs.Prelude.{◌≡◌, ◌++◌, IfErr, IfOk, MatchResult};
 ghost use Rattle.vl_prep.specs.Macros.{held};
 ghost use Rattle.vl_prep.specs.Places.{IsPlaced};
-ghost use Rattle.rvf_text.specs.Faults as faults;
-ghost use Rattle.rvf_text.specs.Places.{AreAtTokens, HasTokenPlaces, IsAtToken, IsPlacedIn};
-ghost use Rattle.rvf_text.specs.SourceText.{Answers, AreLaid, AreParsed, ArePrepared, Comes, FromTokens};
-ghost use Rattle.rvf_text.specs.Assumptions as assumed;
-ghost use Rattle.rvf_text.specs.SourceText.{outcome_seen, reading_seen, tree_seen, with_macros};
-ghost use Rattle.rvf_text.specs.Texts.{lines_seen, texts_seen};
+ghost use Rattle.vl_text.specs.Faults as faults;
+ghost use Rattle.vl_text.specs.Places.{AreAtTokens, HasTokenPlaces, IsAtToken, IsPlacedIn};
+ghost use Rattle.vl_text.specs.SourceText.{Answers, AreLaid, AreParsed, ArePrepared, Comes, FromTokens};
+ghost use Rattle.vl_text.specs.Assumptions as assumed;
+ghost use Rattle.vl_text.specs.SourceText.{outcome_seen, reading_seen, tree_seen, with_macros};
+ghost use Rattle.vl_text.specs.Texts.{lines_seen, texts_seen};
 
 use crate::assumptions::with_assumptions;
 use crate::fault::TextFault;

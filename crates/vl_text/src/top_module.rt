@@ -1,7 +1,7 @@
 //! The end of the top module, in which assumptions stand.
 
 ghost use Rattle.std.specs.Prelude.{◌≡◌, ◌≤◌, length, drop, IfSome};
-ghost use Rattle.rvf_text.specs.Assumptions as spec;
+ghost use Rattle.vl_text.specs.Assumptions as spec;
 
 use fv_base::{Keyword, Kind, Token};
 

@@ -15,7 +15,7 @@ use Rattle.wn_net.specs.Net.{width_at, value_at}
 use Rattle.wn_net.specs.Changes.{AddsNodes, cut_to}
 use Rattle.wn_net.proofs.Sweep.{widths-append, values-append, length-widths, length-values, widths_begin}
 use Rattle.wn_net.proofs.Sweep.{values_begin, fitting_first}
-use Rattle.wn_early.specs.Named.{AreBelow, AreRegsBelow, AreWritesBelow, AreMemsBelow}
+use Rattle.wn_run.specs.Named.{AreBelow, AreRegsBelow, AreWritesBelow, AreMemsBelow}
 
 abbrev pub front : ℕ → Netlist → Netlist
 front n net = record net { nodes = take n net.nodes }

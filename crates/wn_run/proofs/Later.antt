@@ -6,8 +6,8 @@ use Rattle.std.proofs.lemmas.Bool.Decides.{nat_tests}
 use Rattle.std.proofs.lemmas.List.{get_or-map, get_or_default}
 use Rattle.wn_net.specs.declared.parts.Mem.{Mem}
 use Rattle.wn_net.specs.declared.parts.MemWrite.{MemWrite}
-use Rattle.wn_early.specs.Named.{AreWritesBelow}
-use Rattle.wn_early.proofs.Front.{writes_more}
+use Rattle.wn_run.specs.Named.{AreWritesBelow}
+use Rattle.wn_run.proofs.Front.{writes_more}
 
 -- one more
 pub one_more : (P : ℕ → Type 0) (i : ℕ) → ((k : ℕ) → k < i → P k) → P i → (k : ℕ) → k < i + 1 → P k

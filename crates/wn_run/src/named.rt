@@ -1,6 +1,6 @@
 //! The latest node that something names.
 ghost use Rattle.std.specs.Prelude.{◌+◌, ◌≤◌, ◌<◌, length, map, slice_index, slice_index_or, []};
-ghost use Rattle.wn_early.specs.Named.{AreBelow, AreMemsBelow, AreRegsBelow, AreWritesBelow};
+ghost use Rattle.wn_run.specs.Named.{AreBelow, AreMemsBelow, AreRegsBelow, AreWritesBelow};
 
 use wn_net::{Mem, MemWrite, NodeId, Reg};
 

@@ -1,7 +1,7 @@
 use Rattle.std.proofs.Common.{◌≡◌, ◌++◌, length, take, drop}
 use Rattle.std.specs.Prelude.{slice_index}
 use Rattle.wn_run.specs.Runs.{inputs_from, reset_at}
-use Rattle.net_examples.proofs.running.put_inputs.Given as goal
+use Rattle.base_tests.proofs.running.put_inputs.Given as goal
 
 abbrev pub invariant-loop-index : goal.invariant-loop-index
 invariant-loop-index l = record {

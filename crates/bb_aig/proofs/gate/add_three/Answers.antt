@@ -1,7 +1,7 @@
 use Rattle.std.specs.Prelude.{not, ◌&&◌, ◌||◌}
-use Rattle.bb_bits.specs.Bits.{differ, summed}
-use Rattle.bb_gates.proofs.Growth.{made_on, made_self, lit_on}
-use Rattle.bb_gates.proofs.gate.add_three.Goals as goal
+use Rattle.bb_aig.specs.Bits.{differ, summed}
+use Rattle.bb_aig.proofs.Growth.{made_on, made_self, lit_on}
+use Rattle.bb_aig.proofs.gate.add_three.Goals as goal
 
 pub add_two-requires-2-clause-left : goal.add_two-requires-2-clause-left
 add_two-requires-2-clause-left c =

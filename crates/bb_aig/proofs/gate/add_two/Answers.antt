@@ -1,8 +1,8 @@
 use Rattle.std.specs.Prelude.{not, ◌&&◌, ◌||◌}
 use Rattle.bb_aig.specs.Graph.{lit_at}
-use Rattle.bb_bits.specs.Bits.{differ}
-use Rattle.bb_gates.proofs.Growth.{made_by, made_other, made_on, made_self, lit_on, grows_on, two_of}
-use Rattle.bb_gates.proofs.gate.add_two.Goals as goal
+use Rattle.bb_aig.specs.Bits.{differ}
+use Rattle.bb_aig.proofs.Growth.{made_by, made_other, made_on, made_self, lit_on, grows_on, two_of}
+use Rattle.bb_aig.proofs.gate.add_two.Goals as goal
 
 pub and-requires-3-clause-left : goal.and-requires-3-clause-left
 and-requires-3-clause-left c =

@@ -1,6 +1,6 @@
 use Rattle.std.specs.Prelude.{not, ◌&&◌, ◌||◌}
-use Rattle.bb_gates.proofs.Growth.{made_by, made_other, or_of}
-use Rattle.bb_gates.proofs.gate.either.Goals as goal
+use Rattle.bb_aig.proofs.Growth.{made_by, made_other, or_of}
+use Rattle.bb_aig.proofs.gate.either.Goals as goal
 
 pub returns-clause-made : goal.returns-clause-made
 returns-clause-made c = λ f h p q.

@@ -1,7 +1,7 @@
 use Rattle.std.specs.Prelude.{not, ◌&&◌, ◌||◌}
-use Rattle.bb_bits.specs.Bits.{pick}
-use Rattle.bb_gates.proofs.Growth.{made_by, made_other, made_on, made_self, lit_on, pick_of}
-use Rattle.bb_gates.proofs.gate.mux.Goals as goal
+use Rattle.bb_aig.specs.Bits.{pick}
+use Rattle.bb_aig.proofs.Growth.{made_by, made_other, made_on, made_self, lit_on, pick_of}
+use Rattle.bb_aig.proofs.gate.mux.Goals as goal
 
 pub either-requires-clause-left : goal.either-requires-clause-left
 either-requires-clause-left c =

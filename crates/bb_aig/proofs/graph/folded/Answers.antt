@@ -1,5 +1,5 @@
-use Rattle.bb_gates.proofs.Growth.{both_left_0, both_left_1, both_right_0, both_right_1, both_other}
-use Rattle.bb_gates.proofs.graph.folded.Goals as goal
+use Rattle.bb_aig.proofs.Growth.{both_left_0, both_left_1, both_right_0, both_right_1, both_other}
+use Rattle.bb_aig.proofs.graph.folded.Goals as goal
 
 pub returns-then-a-eq0-clause-both : goal.returns-then-a-eq0-clause-both
 returns-then-a-eq0-clause-both c = both_left_0 c.args.aig.now c.args.a c.args.b c.len.ensures.whole c.if-a-eq0.true

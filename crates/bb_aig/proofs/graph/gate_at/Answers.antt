@@ -1,7 +1,7 @@
 use Rattle.std.specs.Prelude.{◌≡◌, slice_get, Some}
 use Rattle.bb_aig.specs.declared.node.AigNode.TheVariants as n
-use Rattle.bb_aig.proofs.Gates.{gate_value}
-use Rattle.bb_gates.proofs.graph.gate_at.Goals as goal
+use Rattle.bb_aig.proofs.AigGates.{gate_value}
+use Rattle.bb_aig.proofs.graph.gate_at.Goals as goal
 
 pub returns-then-d-b-clause-both : goal.returns-then-d-b-clause-both
 returns-then-d-b-clause-both c =

@@ -3,12 +3,12 @@ use Rattle.std.specs.List.{AllByRecursion}
 use Rattle.std.proofs.Common.{ap, sym, ◌∙◌, subst}
 use Rattle.bb_aig.specs.declared.node.AigNode.{AigNode}
 use Rattle.bb_aig.specs.Graph.{inputs_of}
-use Rattle.bb_gates.specs.Gates.{Grows, IsMade}
-use Rattle.bb_operators.specs.Words.{AreWords}
+use Rattle.bb_aig.specs.Gates.{Grows, IsMade}
+use Rattle.bb_words.specs.Words.{AreWords}
 use Rattle.bb_blast.specs.Choice.{InputsAreFirst, HasInputsAlone, numbers_of}
 use Rattle.bb_blast.specs.Walk.{Reads, AreReady, values_by, widths_by, all_other_than_0}
 use Rattle.bb_blast.proofs.Nodes.{words_on}
-use Rattle.bb_gates.proofs.Growth.{grows_on}
+use Rattle.bb_aig.proofs.Growth.{grows_on}
 use Rattle.bb_blast.proofs.Sources.{no_inputs, inputs_on}
 use Rattle.bb_blast.proofs.Joining.{ready, walked, roots_ready, ids_there, all_there, watch_words}
 use Rattle.bb_blast.proofs.blasted.blast.Goals as goal

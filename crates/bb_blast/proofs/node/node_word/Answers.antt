@@ -1,7 +1,7 @@
 use Rattle.wn_net.specs.Width.{AreThere}
 use Rattle.wn_net.specs.declared.node.Node.TheVariants as n
-use Rattle.bb_operators.specs.declared.operator.PairOperator.TheVariants as pair
-use Rattle.bb_operators.specs.declared.operator.ShiftOperator.TheVariants as moves
+use Rattle.bb_words.specs.declared.operator.PairOperator.TheVariants as pair
+use Rattle.bb_words.specs.declared.operator.ShiftOperator.TheVariants as moves
 use Rattle.bb_blast.proofs.Nodes.{reads, means_here, means_input, means_konst, means_pair, means_shift}
 use Rattle.bb_blast.proofs.node.node_word.Goals as goal
 

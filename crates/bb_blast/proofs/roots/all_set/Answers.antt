@@ -1,6 +1,6 @@
 use Rattle.std.specs.Prelude.{◌≤◌, length}
 use Rattle.std.proofs.Common.{arith}
-use Rattle.bb_gates.proofs.Growth.{lit_on}
+use Rattle.bb_aig.proofs.Growth.{lit_on}
 use Rattle.bb_words.proofs.Lits.{lits_on}
 use Rattle.bb_blast.proofs.Nodes.{word_is}
 use Rattle.bb_blast.proofs.Rooting.{rooting_none, rooting_next, rooted_all, root_in}

@@ -3,7 +3,7 @@ use Rattle.std.specs.Prelude.{drop}
 use Rattle.std.proofs.Common.{ap, sym, subst, arith, ◌∙◌}
 use Rattle.std.proofs.lemmas.List.{drop_more, drop_all}
 use Rattle.wn_net.specs.declared.node.Node.{Node}
-use Rattle.bb_gates.proofs.Growth.{grows_none, grows_on}
+use Rattle.bb_aig.proofs.Growth.{grows_none, grows_on}
 use Rattle.bb_blast.specs.Walk.{IsReady, MeansNode}
 use Rattle.bb_blast.proofs.Nodes.{words_on}
 use Rattle.bb_blast.proofs.Walking.{Blasting, blasting_none, blasting_next, blasted_all, node_ready}

@@ -1,7 +1,7 @@
 use Rattle.std.specs.Prelude.{ℕ, List, [], drop}
-use Rattle.bb_gates.specs.Gates.{Grows}
+use Rattle.bb_aig.specs.Gates.{Grows}
 use Rattle.wn_net.specs.Width.{AreFitting}
-use Rattle.bb_operators.specs.Words.{Numbers, AreWords}
+use Rattle.bb_words.specs.Words.{Numbers, AreWords}
 use Rattle.bb_blast.specs.Walk.{sources, AreWidths}
 use Rattle.bb_blast.proofs.Walking.{Blasting}
 use Rattle.bb_blast.proofs.walk.blast_nodes.Given as goal

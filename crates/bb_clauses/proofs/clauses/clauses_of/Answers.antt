@@ -1,10 +1,10 @@
 use Rattle.std.specs.Prelude.{◌≡◌, ◌++◌, ◌∷◌, [], length, pos, ◌+◌, ◌≤◌}
 use Rattle.std.proofs.Common.{ap, sym, ◌∙◌, arith}
 use Rattle.bb_aig.specs.declared.node.AigNode.TheVariants as n
-use Rattle.cnf_gates.specs.Clauses.{clauses_before, clauses_from}
-use Rattle.cnf_gates.proofs.ClauseLaws.{begun, fits_begun, clauses_next, fits_next, all_clauses}
-use Rattle.cnf_gates.proofs.Models.{tells}
-use Rattle.cnf_gates.proofs.clauses.clauses_of.Goals as goal
+use Rattle.bb_clauses.specs.Clauses.{clauses_before, clauses_from}
+use Rattle.bb_clauses.proofs.ClauseLaws.{begun, fits_begun, clauses_next, fits_next, all_clauses}
+use Rattle.bb_clauses.proofs.GatesModels.{tells}
+use Rattle.bb_clauses.proofs.clauses.clauses_of.Goals as goal
 
 pub loop-index-init : goal.loop-index-init
 loop-index-init c =

@@ -1,7 +1,7 @@
 use Rattle.std.proofs.Common.{ℕ, ◌≡◌, ◌+◌, ◌++◌, drop, length}
 use Rattle.bb_aig.specs.Graph.{AreFitting}
-use Rattle.cnf_gates.specs.Clauses.{clauses_from}
-use Rattle.cnf_gates.proofs.clauses.clauses_of.Given as goal
+use Rattle.bb_clauses.specs.Clauses.{clauses_from}
+use Rattle.bb_clauses.proofs.clauses.clauses_of.Given as goal
 
 abbrev pub invariant-loop-index : goal.invariant-loop-index
 invariant-loop-index l = record {

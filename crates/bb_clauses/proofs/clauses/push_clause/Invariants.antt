@@ -1,7 +1,7 @@
 use Rattle.std.proofs.Common.{◌≡◌, drop, []}
-use Rattle.cnf_gates.specs.Clauses.{clause_of}
+use Rattle.bb_clauses.specs.Clauses.{clause_of}
 use Rattle.cnf_form.specs.Cnf.{AreLiterals}
-use Rattle.cnf_gates.proofs.clauses.push_clause.Given as goal
+use Rattle.bb_clauses.proofs.clauses.push_clause.Given as goal
 
 abbrev pub invariant-loop-lit : goal.invariant-loop-lit
 invariant-loop-lit l = record {

@@ -3,9 +3,9 @@ use Rattle.std.proofs.Common.{sym, ◌∙◌}
 use Rattle.std.proofs.lemmas.List.{length-map}
 use Rattle.bb_blast.specs.Choice.{numbers_of}
 use Rattle.bb_blast.specs.Walk.{values_by, widths_by, all_other_than_0}
-use Rattle.cnf_nodes.proofs.Joined.{joined}
-use Rattle.cnf_nodes.proofs.Reading.{by_numbers}
-use Rattle.cnf_nodes.proofs.models.clauses_of_nodes.Goals as goal
+use Rattle.bb_clauses.proofs.Joined.{joined}
+use Rattle.bb_clauses.proofs.Reading.{by_numbers}
+use Rattle.bb_clauses.proofs.models.clauses_of_nodes.Goals as goal
 
 pub clauses_of-requires : goal.clauses_of-requires
 clauses_of-requires c = c.in_ok-blasted.ensures.root.there

@@ -1,7 +1,7 @@
 use Rattle.std.specs.Prelude.{◌++◌}
 use Rattle.std.proofs.Common.{ap, ◌∙◌}
-use Rattle.bb_operators.proofs.Numbers.{word_joined}
-use Rattle.bb_operators.proofs.ends.joined.Goals as goal
+use Rattle.bb_words.proofs.Numbers.{word_joined}
+use Rattle.bb_words.proofs.ends.joined.Goals as goal
 
 pub returns : goal.returns
 returns c = λ graph h k.

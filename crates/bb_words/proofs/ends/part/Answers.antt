@@ -1,7 +1,7 @@
 use Rattle.std.specs.Prelude.{◌≡◌, ◌+◌, ◌-◌, take, drop}
 use Rattle.std.proofs.Common.{arith, ap, ◌∙◌}
-use Rattle.bb_operators.proofs.Numbers.{word_part}
-use Rattle.bb_operators.proofs.ends.part.Goals as goal
+use Rattle.bb_words.proofs.Numbers.{word_part}
+use Rattle.bb_words.proofs.ends.part.Goals as goal
 
 pub returns : goal.returns
 returns c = λ graph h.

@@ -1,5 +1,5 @@
-use Rattle.bb_operators.proofs.Numbers.{word_signs}
-use Rattle.bb_operators.proofs.ends.sign_extended.Goals as goal
+use Rattle.bb_words.proofs.Numbers.{word_signs}
+use Rattle.bb_words.proofs.ends.sign_extended.Goals as goal
 
 pub returns : goal.returns
 returns c = λ graph h.

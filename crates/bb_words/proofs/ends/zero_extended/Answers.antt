@@ -1,5 +1,5 @@
-use Rattle.bb_operators.proofs.Numbers.{word_zeros}
-use Rattle.bb_operators.proofs.ends.zero_extended.Goals as goal
+use Rattle.bb_words.proofs.Numbers.{word_zeros}
+use Rattle.bb_words.proofs.ends.zero_extended.Goals as goal
 
 pub returns : goal.returns
 returns c =

@@ -1,5 +1,5 @@
-use Rattle.bb_operators.proofs.Made as made
-use Rattle.bb_operators.proofs.gates.chosen.Goals as goal
+use Rattle.bb_words.proofs.Made as made
+use Rattle.bb_words.proofs.gates.chosen.Goals as goal
 
 pub returns-clause-word : goal.returns-clause-word
 returns-clause-word c =

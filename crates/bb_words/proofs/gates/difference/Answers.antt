@@ -2,10 +2,10 @@ use Rattle.std.specs.Prelude.{ℕ, List, length}
 use Rattle.std.proofs.Common.{sym, ap, ◌∙◌, subst}
 use Rattle.std.proofs.lemmas.List.{length-map}
 use Rattle.bb_aig.specs.Graph.{complement}
-use Rattle.bb_gates.specs.Gates.{AreLits}
+use Rattle.bb_aig.specs.Gates.{AreLits}
 use Rattle.bb_words.proofs.Copies.{lits_complement}
-use Rattle.bb_operators.proofs.Made as made
-use Rattle.bb_operators.proofs.gates.difference.Goals as goal
+use Rattle.bb_words.proofs.Made as made
+use Rattle.bb_words.proofs.gates.difference.Goals as goal
 
 pub add-requires-clause-each : goal.add-requires-clause-each
 add-requires-clause-each c =

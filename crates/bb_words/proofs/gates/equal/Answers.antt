@@ -1,5 +1,5 @@
-use Rattle.bb_operators.proofs.Made as made
-use Rattle.bb_operators.proofs.gates.equal.Goals as goal
+use Rattle.bb_words.proofs.Made as made
+use Rattle.bb_words.proofs.gates.equal.Goals as goal
 
 pub is_same-requires-clause-told : goal.is_same-requires-clause-told
 is_same-requires-clause-told c = c.constant-yes.ensures.there

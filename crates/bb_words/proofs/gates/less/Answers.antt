@@ -1,5 +1,5 @@
-use Rattle.bb_operators.proofs.Made as made
-use Rattle.bb_operators.proofs.gates.less.Goals as goal
+use Rattle.bb_words.proofs.Made as made
+use Rattle.bb_words.proofs.gates.less.Goals as goal
 
 pub is_less-requires-clause-below : goal.is_less-requires-clause-below
 is_less-requires-clause-below c = c.constant-none.ensures.there

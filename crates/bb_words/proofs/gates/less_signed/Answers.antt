@@ -1,9 +1,9 @@
 use Rattle.std.specs.Prelude.{ℕ, List, length}
 use Rattle.std.proofs.Common.{sym, ap, ◌∙◌, subst}
-use Rattle.bb_gates.specs.Gates.{AreLits}
+use Rattle.bb_aig.specs.Gates.{AreLits}
 use Rattle.bb_words.proofs.Copies.{made_as}
-use Rattle.bb_operators.proofs.Made as made
-use Rattle.bb_operators.proofs.gates.less_signed.Goals as goal
+use Rattle.bb_words.proofs.Made as made
+use Rattle.bb_words.proofs.gates.less_signed.Goals as goal
 
 pub is_less-requires-clause-each : goal.is_less-requires-clause-each
 is_less-requires-clause-each c =

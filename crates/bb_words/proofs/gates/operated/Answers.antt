@@ -1,8 +1,8 @@
 use Rattle.std.specs.Prelude.{IfOk}
 use Rattle.std.proofs.Common.{sym, subst}
-use Rattle.bb_operators.specs.Operators.{MeansPair}
-use Rattle.bb_operators.specs.declared.operator.PairOperator.{PairOperator}
-use Rattle.bb_operators.proofs.gates.operated.Goals as goal
+use Rattle.bb_words.specs.Operators.{MeansPair}
+use Rattle.bb_words.specs.declared.operator.PairOperator.{PairOperator}
+use Rattle.bb_words.proofs.gates.operated.Goals as goal
 
 pub returns-in-And-clause-word : goal.returns-in-And-clause-word
 returns-in-And-clause-word c =

@@ -1,5 +1,5 @@
-use Rattle.bb_operators.proofs.Made as made
-use Rattle.bb_operators.proofs.gates.right_by_sign.Goals as goal
+use Rattle.bb_words.proofs.Made as made
+use Rattle.bb_words.proofs.gates.right_by_sign.Goals as goal
 
 pub shift-requires-clause-fill : goal.shift-requires-clause-fill
 shift-requires-clause-fill c = c.top-fill.ensures.there c.args.gates.now c.requires.left

@@ -1,8 +1,8 @@
 use Rattle.std.specs.Prelude.{IfOk}
 use Rattle.std.proofs.Common.{sym, subst}
-use Rattle.bb_operators.specs.Operators.{MeansShift}
-use Rattle.bb_operators.specs.declared.operator.ShiftOperator.{ShiftOperator}
-use Rattle.bb_operators.proofs.gates.shifted.Goals as goal
+use Rattle.bb_words.specs.Operators.{MeansShift}
+use Rattle.bb_words.specs.declared.operator.ShiftOperator.{ShiftOperator}
+use Rattle.bb_words.proofs.gates.shifted.Goals as goal
 
 pub returns-in-Shl-clause-word : goal.returns-in-Shl-clause-word
 returns-in-Shl-clause-word c =

@@ -1,5 +1,5 @@
-use Rattle.bb_operators.proofs.Made as made
-use Rattle.bb_operators.proofs.gates.sum.Goals as goal
+use Rattle.bb_words.proofs.Made as made
+use Rattle.bb_words.proofs.gates.sum.Goals as goal
 
 pub add-requires-clause-below : goal.add-requires-clause-below
 add-requires-clause-below c = c.constant-none.ensures.there

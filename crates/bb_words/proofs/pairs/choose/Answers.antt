@@ -1,7 +1,7 @@
 use Rattle.std.specs.Prelude.{◌<◌, ◌≤◌, length}
 use Rattle.std.proofs.Common.{arith}
 use Rattle.bb_aig.specs.Graph.{lit_at}
-use Rattle.bb_bits.specs.Bits.{pick}
+use Rattle.bb_aig.specs.Bits.{pick}
 use Rattle.bb_words.proofs.Lits.{meant}
 use Rattle.bb_words.proofs.Pairing.{pairing_next, paired_all}
 use Rattle.bb_words.proofs.pairs.choose.Goals as goal

@@ -1,5 +1,5 @@
 use Rattle.bb_aig.specs.Graph.{lit_at}
-use Rattle.bb_bits.specs.Bits.{pick}
+use Rattle.bb_aig.specs.Bits.{pick}
 use Rattle.bb_words.proofs.Pairing.{Pairing}
 use Rattle.bb_words.proofs.pairs.choose.Given as goal
 

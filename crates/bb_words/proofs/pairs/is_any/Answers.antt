@@ -1,6 +1,6 @@
 use Rattle.std.specs.Prelude.{◌||◌, ◌<◌, ◌≤◌, refl, length}
 use Rattle.std.proofs.Common.{arith}
-use Rattle.bb_bits.specs.Bits.{any_bit}
+use Rattle.bb_aig.specs.Bits.{any_bit}
 use Rattle.bb_words.proofs.Folding.{any_steps, folding_next, folded_all}
 use Rattle.bb_words.proofs.pairs.is_any.Goals as goal
 

@@ -1,4 +1,4 @@
-use Rattle.bb_bits.specs.Bits.{any_bit}
+use Rattle.bb_aig.specs.Bits.{any_bit}
 use Rattle.bb_words.proofs.Folding.{Folding}
 use Rattle.bb_words.proofs.pairs.is_any.Given as goal
 

@@ -1,6 +1,6 @@
 use Rattle.std.specs.Prelude.{◌<◌, ◌≤◌, length}
 use Rattle.std.proofs.Common.{arith}
-use Rattle.bb_bits.specs.Bits.{differ, less_bits, pick}
+use Rattle.bb_aig.specs.Bits.{differ, less_bits, pick}
 use Rattle.bb_words.proofs.Folding.{less_steps, folding_next, folded_all}
 use Rattle.bb_words.proofs.pairs.is_less.Goals as goal
 

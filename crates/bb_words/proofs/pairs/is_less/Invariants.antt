@@ -1,4 +1,4 @@
-use Rattle.bb_bits.specs.Bits.{less_bits}
+use Rattle.bb_aig.specs.Bits.{less_bits}
 use Rattle.bb_words.proofs.Folding.{Folding}
 use Rattle.bb_words.proofs.pairs.is_less.Given as goal
 

@@ -1,6 +1,6 @@
 use Rattle.std.specs.Prelude.{◌&&◌, not, ◌<◌, ◌≤◌, length}
 use Rattle.std.proofs.Common.{arith}
-use Rattle.bb_bits.specs.Bits.{differ, same_bits}
+use Rattle.bb_aig.specs.Bits.{differ, same_bits}
 use Rattle.bb_words.proofs.Folding.{same_steps, folding_next, folded_all}
 use Rattle.bb_words.proofs.pairs.is_same.Goals as goal
 

@@ -1,6 +1,6 @@
 use Rattle.std.specs.Prelude.{◌≡◌, refl, Bool, true, false, not, ◌&&◌, ◌||◌}
-use Rattle.bb_bits.specs.Bits.{differ, pick}
-use Rattle.bb_gates.proofs.Growth.{made_by, made_on, made_other, made_self, lit_on, grows_on}
+use Rattle.bb_aig.specs.Bits.{differ, pick}
+use Rattle.bb_aig.proofs.Growth.{made_by, made_on, made_other, made_self, lit_on, grows_on}
 use Rattle.bb_words.proofs.pairs.less_step.Goals as goal
 
 -- less, or not above and less so far

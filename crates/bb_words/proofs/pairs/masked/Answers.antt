@@ -1,8 +1,8 @@
 use Rattle.std.specs.Prelude.{◌<◌, ◌≤◌, ◌&&◌, refl, length, map}
 use Rattle.std.proofs.Common.{arith}
 use Rattle.bb_aig.specs.Graph.{lit_at}
-use Rattle.bb_bits.specs.Bits.{paired}
-use Rattle.bb_gates.specs.Gates.{bits}
+use Rattle.bb_aig.specs.Bits.{paired}
+use Rattle.bb_aig.specs.Gates.{bits}
 use Rattle.bb_words.proofs.Lits.{meant, are_made_by}
 use Rattle.bb_words.proofs.Pairing.{pairing_next, paired_all}
 use Rattle.bb_words.proofs.Masking.{paired_masked}

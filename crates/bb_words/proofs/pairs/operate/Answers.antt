@@ -1,6 +1,6 @@
 use Rattle.std.specs.Prelude.{◌<◌, ◌≤◌, length}
 use Rattle.std.proofs.Common.{arith}
-use Rattle.bb_words.specs.Operators.{of_operator}
+use Rattle.bb_words.specs.WordsOperators.{of_operator}
 use Rattle.bb_words.proofs.Pairing.{pairing_next, paired_all}
 use Rattle.bb_words.proofs.pairs.operate.Goals as goal
 

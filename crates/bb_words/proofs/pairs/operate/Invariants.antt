@@ -1,4 +1,4 @@
-use Rattle.bb_words.specs.Operators.{of_operator}
+use Rattle.bb_words.specs.WordsOperators.{of_operator}
 use Rattle.bb_words.proofs.Pairing.{Pairing}
 use Rattle.bb_words.proofs.pairs.operate.Given as goal
 

@@ -1,6 +1,6 @@
 use Rattle.std.specs.Prelude.{not}
-use Rattle.bb_bits.specs.Bits.{differ}
-use Rattle.bb_gates.proofs.Growth.{made_on, made_other, made_self}
+use Rattle.bb_aig.specs.Bits.{differ}
+use Rattle.bb_aig.proofs.Growth.{made_on, made_other, made_self}
 use Rattle.bb_words.proofs.pairs.same_step.Goals as goal
 
 pub and-requires-clause-right : goal.and-requires-clause-right

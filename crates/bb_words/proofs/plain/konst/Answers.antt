@@ -1,8 +1,8 @@
 use Rattle.std.specs.Prelude.{◌≡◌, ℕ}
 use Rattle.std.proofs.Common.{arith, subst}
 use Rattle.fv_base.specs.Word.{number}
-use Rattle.bb_operators.proofs.Numbers.{Taking, taking_start, taking_next, taken_all}
-use Rattle.bb_operators.proofs.plain.konst.Goals as goal
+use Rattle.bb_words.proofs.Numbers.{Taking, taking_start, taking_next, taken_all}
+use Rattle.bb_words.proofs.plain.konst.Goals as goal
 
 pub loop-index-init : goal.loop-index-init
 loop-index-init c =

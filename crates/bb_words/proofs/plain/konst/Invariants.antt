@@ -1,6 +1,6 @@
 use Rattle.fv_base.specs.Word.{number}
-use Rattle.bb_operators.proofs.Numbers.{Taking}
-use Rattle.bb_operators.proofs.plain.konst.Given as goal
+use Rattle.bb_words.proofs.Numbers.{Taking}
+use Rattle.bb_words.proofs.plain.konst.Given as goal
 
 abbrev pub invariant-loop-index : goal.invariant-loop-index
 invariant-loop-index l = Taking l.gates (number l.word) l.index l.left l.made.items

@@ -1,5 +1,5 @@
-use Rattle.bb_operators.proofs.Numbers as plain
-use Rattle.bb_operators.proofs.plain.negated.Goals as goal
+use Rattle.bb_words.proofs.Numbers as plain
+use Rattle.bb_words.proofs.plain.negated.Goals as goal
 
 pub returns : goal.returns
 returns c = λ graph h.

@@ -2,11 +2,11 @@ use Rattle.std.specs.Prelude.{◌&&◌, ℕ, Bool, false, List, length}
 use Rattle.std.proofs.Common.{ap, sym, ◌∙◌, subst}
 use Rattle.std.proofs.lemmas.List.{length-map}
 use Rattle.bb_aig.specs.Graph.{lit_at}
-use Rattle.bb_gates.specs.Gates.{AreLits, bits}
+use Rattle.bb_aig.specs.Gates.{AreLits, bits}
 use Rattle.bb_words.proofs.Lits.{lits_on}
 use Rattle.bb_words.proofs.Copies.{wide_bits, wide_by, made_as}
-use Rattle.bb_shifts.proofs.Multiplying.{row_added}
-use Rattle.bb_shifts.proofs.product.add_row.Goals as goal
+use Rattle.bb_words.proofs.Multiplying.{row_added}
+use Rattle.bb_words.proofs.product.add_row.Goals as goal
 
 pub add-requires-clause-each : goal.add-requires-clause-each
 add-requires-clause-each c =

@@ -2,14 +2,14 @@ use Rattle.std.specs.Prelude.{◌&&◌, ◌≤◌, ℕ, false, List, length, map
 use Rattle.std.specs.Prelude.{slice_index_or}
 use Rattle.std.proofs.Common.{ap, sym, ◌∙◌, subst, arith}
 use Rattle.bb_aig.specs.Graph.{lit_at}
-use Rattle.bb_bits.specs.Bits.{add_bits}
-use Rattle.bb_gates.specs.Gates.{AreLits, AreMade, bits}
-use Rattle.bb_gates.proofs.Growth.{lit_on}
-use Rattle.bb_shifts.specs.declared.shifts.Direction.TheVariants.{Up}
-use Rattle.bb_shifts.specs.Moves.{moved}
+use Rattle.bb_aig.specs.Bits.{add_bits}
+use Rattle.bb_aig.specs.Gates.{AreLits, AreMade, bits}
+use Rattle.bb_aig.proofs.Growth.{lit_on}
+use Rattle.bb_words.specs.declared.shifts.Direction.TheVariants.{Up}
+use Rattle.bb_words.specs.Moves.{moved}
 use Rattle.bb_words.proofs.Lits.{lit_in}
-use Rattle.bb_shifts.proofs.Multiplying.{multiplying_none, multiplying_next, multiplied_all}
-use Rattle.bb_shifts.proofs.product.multiply.Goals as goal
+use Rattle.bb_words.proofs.Multiplying.{multiplying_none, multiplying_next, multiplied_all}
+use Rattle.bb_words.proofs.product.multiply.Goals as goal
 
 pub loop-bit-init : goal.loop-bit-init
 loop-bit-init c =

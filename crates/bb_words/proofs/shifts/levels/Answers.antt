@@ -1,7 +1,7 @@
 use Rattle.std.specs.Prelude.{◌<◌, ◌^◌}
 use Rattle.std.proofs.Common.{arith}
 use borrow.Author.Count.{below_more}
-use Rattle.bb_shifts.proofs.shifts.levels.Goals as goal
+use Rattle.bb_words.proofs.shifts.levels.Goals as goal
 
 pub loop-levels-preserved : goal.loop-levels-preserved
 loop-levels-preserved c = record {

@@ -1,5 +1,5 @@
 use Rattle.std.specs.Prelude.{ℕ, ◌<◌, ◌≤◌, ◌^◌}
-use Rattle.bb_shifts.proofs.shifts.levels.Given as goal
+use Rattle.bb_words.proofs.shifts.levels.Given as goal
 
 abbrev pub invariant-loop-levels : goal.invariant-loop-levels
 invariant-loop-levels l = record {

@@ -1,8 +1,8 @@
 use Rattle.std.specs.Prelude.{◌++◌, drop}
 use Rattle.std.proofs.Common.{ap, ◌∙◌}
 use Rattle.std.proofs.lemmas.List.{take_rest}
-use Rattle.bb_shifts.proofs.Past.{down_made}
-use Rattle.bb_shifts.proofs.shifts.moved_down.Goals as goal
+use Rattle.bb_words.proofs.Past.{down_made}
+use Rattle.bb_words.proofs.shifts.moved_down.Goals as goal
 
 pub returns : goal.returns
 returns c =

@@ -1,7 +1,7 @@
 use Rattle.std.specs.Prelude.{◌-◌, ◌++◌, length, take}
 use Rattle.std.proofs.Common.{ap, ◌∙◌}
-use Rattle.bb_shifts.proofs.Past.{up_made}
-use Rattle.bb_shifts.proofs.shifts.moved_up.Goals as goal
+use Rattle.bb_words.proofs.Past.{up_made}
+use Rattle.bb_words.proofs.shifts.moved_up.Goals as goal
 
 pub returns : goal.returns
 returns c =

@@ -3,13 +3,13 @@ use Rattle.std.specs.Prelude.{slice_index_or}
 use Rattle.std.proofs.Common.{ap, sym, subst, arith}
 use Rattle.std.proofs.lemmas.List.{take_rest}
 use Rattle.bb_aig.specs.Graph.{lit_at}
-use Rattle.bb_bits.specs.Bits.{paired, pick}
-use Rattle.bb_gates.specs.Gates.{AreLits, AreMade, bits}
-use Rattle.bb_gates.proofs.Growth.{lit_on}
-use Rattle.bb_shifts.specs.Moves.{moved}
+use Rattle.bb_aig.specs.Bits.{paired, pick}
+use Rattle.bb_aig.specs.Gates.{AreLits, AreMade, bits}
+use Rattle.bb_aig.proofs.Growth.{lit_on}
+use Rattle.bb_words.specs.Moves.{moved}
 use Rattle.bb_words.proofs.Lits.{lit_in}
-use Rattle.bb_shifts.proofs.Shifting.{Shifting, shifting_none, shifting_next, shifted_all}
-use Rattle.bb_shifts.proofs.shifts.shift.Goals as goal
+use Rattle.bb_words.proofs.Shifting.{Shifting, shifting_none, shifting_next, shifted_all}
+use Rattle.bb_words.proofs.shifts.shift.Goals as goal
 
 pub loop-index-init : goal.loop-index-init
 loop-index-init c =

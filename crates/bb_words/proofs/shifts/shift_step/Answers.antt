@@ -1,9 +1,9 @@
 use Rattle.std.specs.Prelude.{ℕ, List, length}
 use Rattle.std.proofs.Common.{ap, sym, ◌∙◌, subst}
-use Rattle.bb_gates.specs.Gates.{AreLits}
-use Rattle.bb_shifts.proofs.Past.{lits_moved, length-moved}
-use Rattle.bb_shifts.proofs.Shifting.{step_made}
-use Rattle.bb_shifts.proofs.shifts.shift_step.Goals as goal
+use Rattle.bb_aig.specs.Gates.{AreLits}
+use Rattle.bb_words.proofs.Past.{lits_moved, length-moved}
+use Rattle.bb_words.proofs.Shifting.{step_made}
+use Rattle.bb_words.proofs.shifts.shift_step.Goals as goal
 
 pub choose-requires-clause-each : goal.choose-requires-clause-each
 choose-requires-clause-each c =

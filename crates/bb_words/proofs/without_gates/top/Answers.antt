@@ -1,7 +1,7 @@
 use Rattle.std.proofs.Common.{arith}
 use Rattle.bb_words.proofs.Lits.{lit_in}
 use Rattle.bb_words.proofs.Copies.{top_is}
-use Rattle.bb_shifts.proofs.without_gates.top.Goals as goal
+use Rattle.bb_words.proofs.without_gates.top.Goals as goal
 
 pub returns-clause-there : goal.returns-clause-there
 returns-clause-there c = λ graph h. lit_in graph c.args.word.now _ _ h (omega arith)

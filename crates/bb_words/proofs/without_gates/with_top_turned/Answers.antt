@@ -1,7 +1,7 @@
 use Rattle.std.specs.Prelude.{◌≡◌, ◌-◌, ◌∷◌, ◌++◌, [], length, take}
 use Rattle.std.proofs.Common.{arith, ap, ◌∙◌}
 use Rattle.bb_words.proofs.Copies.{made_top_turned}
-use Rattle.bb_shifts.proofs.without_gates.with_top_turned.Goals as goal
+use Rattle.bb_words.proofs.without_gates.with_top_turned.Goals as goal
 
 pub returns : goal.returns
 returns c = λ graph h.

@@ -1,7 +1,7 @@
 use Rattle.std.proofs.Common.{refl}
 use Rattle.tr_replay.specs.Traces.{choices_of}
-use Rattle.bm_chosen.proofs.OneByOne.{have_next}
-use Rattle.bm_chosen.proofs.choosing.choices.Goals as goal
+use Rattle.bm_decide.proofs.OneByOne.{have_next}
+use Rattle.bm_decide.proofs.choosing.choices.Goals as goal
 
 pub loop-index-preserved : goal.loop-index-preserved
 loop-index-preserved c =

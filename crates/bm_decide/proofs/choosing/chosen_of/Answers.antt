@@ -2,9 +2,9 @@ use Rattle.std.proofs.Common.{ap, sym, ◌∙◌, length, subst, List}
 use Rattle.std.proofs.lemmas.Result.{IfOk-weaker}
 use Rattle.bm_unroll.specs.declared.frames.Source.{Source}
 use Rattle.tr_replay.specs.Traces.{choices_of}
-use Rattle.bm_chosen.specs.Chosen.{HaveNumbers}
-use Rattle.bm_chosen.proofs.Fails.{have_read, numbers_are, numbers_each}
-use Rattle.bm_chosen.proofs.choosing.chosen_of.Goals as goal
+use Rattle.bm_decide.specs.Chosen.{HaveNumbers}
+use Rattle.bm_decide.proofs.Fails.{have_read, numbers_are, numbers_each}
+use Rattle.bm_decide.proofs.choosing.chosen_of.Goals as goal
 
 pub choices-requires-clause-each : goal.choices-requires-clause-each
 choices-requires-clause-each c =

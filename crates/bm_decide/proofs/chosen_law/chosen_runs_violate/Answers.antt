@@ -1,5 +1,5 @@
-use Rattle.bm_chosen.proofs.Fails.{bits_are_readable, chosen_violate}
-use Rattle.bm_chosen.proofs.law.chosen_runs_violate.Goals as goal
+use Rattle.bm_decide.proofs.Fails.{bits_are_readable, chosen_violate}
+use Rattle.bm_decide.proofs.chosen_law.chosen_runs_violate.Goals as goal
 
 pub returns-clause-readable : goal.returns-clause-readable
 returns-clause-readable c = bits_are_readable

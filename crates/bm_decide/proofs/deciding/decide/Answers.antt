@@ -3,18 +3,18 @@ use Rattle.std.specs.List.{AllByRecursion}
 use Rattle.std.proofs.Common.{ap, sym, ◌∙◌, subst}
 use Rattle.wn_net.specs.Net.{Netlist, AreNodes}
 use Rattle.cnf_form.specs.Cnf.{AreClauses}
-use Rattle.bm_clauses.specs.Runs.{ModelsAreRuns, values_in}
+use Rattle.bm_decide.specs.Runs.{ModelsAreRuns, values_in}
 use Rattle.rvfi_port.specs.declared.port.Channel.{Channel}
 use Rattle.rvfi_port.specs.Channels.{nodes_of}
 use Rattle.rvfi_port.specs.Ports.{AreChannelNodes}
 use Rattle.rvfi_port.proofs.AddedRegs.{channel_nodes_on}
-use Rattle.ck_past.proofs.Words.{channel_here}
+use Rattle.ck_gen.proofs.Words.{channel_here}
 use Rattle.ck_gen.specs.Monitors.{AddsFew}
 use Rattle.ck_gen.proofs.Once.{no_channel}
-use Rattle.cnf_nodes.specs.Models.{read_at}
+use Rattle.bb_clauses.specs.Models.{read_at}
 use Rattle.bm_decide.specs.declared.verdict.Verdict.{Verdict}
 use Rattle.bm_decide.specs.Verdicts.{AreBitsOf, IsVerdict, Violates, field_nodes}
-use Rattle.bm_decide.specs.Parts.{bits_of}
+use Rattle.bm_decide.specs.DecideParts.{bits_of}
 use Rattle.bm_decide.proofs.Channels.{nodes_at, nodes_there}
 use Rattle.bm_decide.proofs.Sources.{old_choices, old_widths}
 use Rattle.bm_decide.proofs.Tight.{decided, tight}

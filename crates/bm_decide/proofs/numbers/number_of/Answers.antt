@@ -1,6 +1,6 @@
 use Rattle.std.proofs.Common.{arith}
-use Rattle.bm_chosen.proofs.Bits.{bit_small, number_small}
-use Rattle.bm_chosen.proofs.numbers.number_of.Goals as goal
+use Rattle.bm_decide.proofs.Bits.{bit_small, number_small}
+use Rattle.bm_decide.proofs.numbers.number_of.Goals as goal
 
 pub overflow_mul-made : goal.overflow_mul-made
 overflow_mul-made c =

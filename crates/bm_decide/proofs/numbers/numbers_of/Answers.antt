@@ -1,6 +1,6 @@
 use Rattle.std.proofs.Common.{get_or, refl}
-use Rattle.bm_chosen.proofs.Bits.{numbers_next, widths_left}
-use Rattle.bm_chosen.proofs.numbers.numbers_of.Goals as goal
+use Rattle.bm_decide.proofs.Bits.{numbers_next, widths_left}
+use Rattle.bm_decide.proofs.numbers.numbers_of.Goals as goal
 
 pub loop-width-preserved : goal.loop-width-preserved
 loop-width-preserved c =

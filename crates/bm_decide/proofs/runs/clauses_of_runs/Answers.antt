@@ -3,13 +3,13 @@ use Rattle.std.specs.List.{AllByRecursion}
 use Rattle.std.proofs.Common.{ap, sym, ◌∙◌, subst, arith}
 use Rattle.wn_net.specs.declared.node.Node.{Node}
 use Rattle.wn_net.specs.Width.{IsWidth, AreFitting}
-use Rattle.bb_operators.specs.Words.{AreWords}
+use Rattle.bb_words.specs.Words.{AreWords}
 use Rattle.bb_blast.specs.Choice.{numbers_of, all_places}
 use Rattle.bb_blast.specs.Walk.{AreWidths, all_other_than_0, sources, values_by, widths_by}
-use Rattle.cnf_nodes.specs.Models.{ModelsAreNumbers, read_at}
+use Rattle.bb_clauses.specs.Models.{ModelsAreNumbers, read_at}
 use Rattle.bm_unroll.proofs.Items.{all_at}
-use Rattle.bm_clauses.proofs.Joining.{models_are_runs}
-use Rattle.bm_clauses.proofs.runs.clauses_of_runs.Goals as goal
+use Rattle.bm_decide.proofs.Joining.{models_are_runs}
+use Rattle.bm_decide.proofs.runs.clauses_of_runs.Goals as goal
 
 pub clauses_of_nodes-requires-clause-small : goal.clauses_of_nodes-requires-clause-small
 clauses_of_nodes-requires-clause-small c =

@@ -1,6 +1,6 @@
 use Rattle.std.proofs.Common.{◌≡◌, ℕ, ◌+◌, ◌-◌, length}
 use Rattle.std.specs.Prelude.{slice_index}
-use Rattle.bm_chosen.proofs.store.pad.Given as goal
+use Rattle.bm_decide.proofs.store.pad.Given as goal
 
 abbrev pub invariant-loop-numbers : goal.invariant-loop-numbers
 invariant-loop-numbers l = (i : ℕ) → slice_index l.numbers i ≡ slice_index l.initial.numbers i

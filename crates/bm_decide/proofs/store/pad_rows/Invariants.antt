@@ -1,6 +1,6 @@
 use Rattle.std.proofs.Common.{◌≡◌, ℕ, ◌+◌, ◌-◌, length}
 use Rattle.std.specs.Prelude.{[], slice_index_or}
-use Rattle.bm_chosen.proofs.store.pad_rows.Given as goal
+use Rattle.bm_decide.proofs.store.pad_rows.Given as goal
 
 abbrev pub invariant-loop-alloc : goal.invariant-loop-alloc
 invariant-loop-alloc l = (i : ℕ) → slice_index_or l.rows i [] ≡ slice_index_or l.initial.rows i []

@@ -1,8 +1,8 @@
 use Rattle.std.proofs.lemmas.Result.{IfOk-weaker}
 use Rattle.tr_replay.specs.Traces.{choices_of}
-use Rattle.bm_chosen.specs.Chosen.{numbers_read}
-use Rattle.bm_chosen.proofs.Fails.{bits_are_readable, chosen_of_net, chosen_violate}
-use Rattle.bm_chosen.proofs.tracing.violating_trace.Goals as goal
+use Rattle.bm_decide.specs.Chosen.{numbers_read}
+use Rattle.bm_decide.proofs.Fails.{bits_are_readable, chosen_of_net, chosen_violate}
+use Rattle.bm_decide.proofs.tracing.violating_trace.Goals as goal
 
 pub chosen_of-requires : goal.chosen_of-requires
 chosen_of-requires c =

@@ -1,9 +1,9 @@
 use Rattle.std.specs.Prelude.{◌+◌, ◌<◌, ℕ, List, length, drop}
 use Rattle.std.proofs.Common.{sym, subst, arith}
 use Rattle.wn_net.specs.declared.node.Node.{Node}
-use Rattle.bm_cycle.specs.Cycle.{IsCopyable, Copies}
-use Rattle.bm_cycle.proofs.Copying.{Copying, copyable_here, copying_next, front}
-use Rattle.bm_cycle.proofs.copy.copy_cycle.Goals as goal
+use Rattle.bm_unroll.specs.Cycle.{IsCopyable, Copies}
+use Rattle.bm_unroll.proofs.Copying.{Copying, copyable_here, copying_next, front}
+use Rattle.bm_unroll.proofs.copy.copy_cycle.Goals as goal
 
 pub copy_node-requires : goal.copy_node-requires
 copy_node-requires c =

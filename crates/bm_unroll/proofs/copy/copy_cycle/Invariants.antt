@@ -1,6 +1,6 @@
 use Rattle.std.specs.Prelude.{drop}
-use Rattle.bm_cycle.proofs.Copying.{Copying}
-use Rattle.bm_cycle.proofs.copy.copy_cycle.Given as goal
+use Rattle.bm_unroll.proofs.Copying.{Copying}
+use Rattle.bm_unroll.proofs.copy.copy_cycle.Given as goal
 
 abbrev pub invariant-loop-node : goal.invariant-loop-node
 invariant-loop-node l =

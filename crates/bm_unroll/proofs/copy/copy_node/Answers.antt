@@ -1,5 +1,5 @@
-use Rattle.bm_cycle.proofs.EachKind as kind
-use Rattle.bm_cycle.proofs.copy.copy_node.Goals as goal
+use Rattle.bm_unroll.proofs.EachKind as kind
+use Rattle.bm_unroll.proofs.copy.copy_node.Goals as goal
 
 pub returns-in_ok-not-in-Not-clause-copies : goal.returns-in_ok-not-in-Not-clause-copies
 returns-in_ok-not-in-Not-clause-copies c =

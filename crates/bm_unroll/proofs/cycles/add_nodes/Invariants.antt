@@ -1,5 +1,5 @@
 use Rattle.std.specs.Prelude.{◌≡◌, ◌++◌, map, take, slice_index}
-use Rattle.bm_walk.proofs.cycles.add_nodes.Given as goal
+use Rattle.bm_unroll.proofs.cycles.add_nodes.Given as goal
 
 abbrev pub invariant-loop-id : goal.invariant-loop-id
 invariant-loop-id l = l.made.items ≡ l.initial.made.items ++ map (slice_index l.table) (take l.id-index l.ids)

@@ -2,10 +2,10 @@ use Rattle.std.specs.Prelude.{◌<◌, ◌++◌, ℕ, List, length, map, slice_i
 use Rattle.std.specs.List.{AllByRecursion}
 use Rattle.std.proofs.Common.{ap, sym, ◌∙◌, subst}
 use Rattle.wn_net.specs.Net.{values_of}
-use Rattle.bm_cycle.specs.Cycle.{StandFor, given_by}
-use Rattle.bm_cycle.proofs.Moving.{table_long}
-use Rattle.bm_walk.proofs.Walking.{all_below}
-use Rattle.bm_walk.proofs.cycles.assumed_cycle.Goals as goal
+use Rattle.bm_unroll.specs.Cycle.{StandFor, given_by}
+use Rattle.bm_unroll.proofs.Moving.{table_long}
+use Rattle.bm_unroll.proofs.Walking.{all_below}
+use Rattle.bm_unroll.proofs.cycles.assumed_cycle.Goals as goal
 
 pub copy_cycle-requires : goal.copy_cycle-requires
 copy_cycle-requires c =

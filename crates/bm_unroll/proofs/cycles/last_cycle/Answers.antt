@@ -3,10 +3,10 @@ use Rattle.std.specs.List.{AllByRecursion}
 use Rattle.std.proofs.Common.{ap, sym, ◌∙◌, subst, arith}
 use Rattle.wn_mem.specs.Words.{numbers_of}
 use Rattle.wn_net.specs.Net.{AreNodes}
-use Rattle.bm_cycle.specs.Cycle.{given_by}
-use Rattle.bm_cycle.proofs.Moving.{table_long}
-use Rattle.bm_walk.proofs.Walking.{all_below, copies_there, copies_values, last_says, last_there}
-use Rattle.bm_walk.proofs.cycles.last_cycle.Goals as goal
+use Rattle.bm_unroll.specs.Cycle.{given_by}
+use Rattle.bm_unroll.proofs.Moving.{table_long}
+use Rattle.bm_unroll.proofs.Walking.{all_below, copies_there, copies_values, last_says, last_there}
+use Rattle.bm_unroll.proofs.cycles.last_cycle.Goals as goal
 
 pub node_at-last-requires : goal.node_at-last-requires
 node_at-last-requires c =

@@ -2,12 +2,12 @@ use Rattle.std.specs.Prelude.{◌≡◌, ◌<◌, ℕ, List, length}
 use Rattle.std.proofs.Common.{ap, sym, ◌∙◌, subst, arith}
 use Rattle.wn_net.specs.Net.{AreNodes, shape_of}
 use Rattle.wn_mem.specs.Words.{numbers_of}
-use Rattle.bm_cycle.specs.Cycle.{state_by, widths_at}
-use Rattle.bm_cycle.specs.Moved.{moved}
-use Rattle.bm_cycle.proofs.Copying.{memories_there, mem_widths_kept}
-use Rattle.bm_walk.specs.Walk.{Passes}
-use Rattle.bm_walk.proofs.Walking.{passes_none, passes_next, row_read, stand_here}
-use Rattle.bm_walk.proofs.cycles.pass_cycles.Goals as goal
+use Rattle.bm_unroll.specs.Cycle.{state_by, widths_at}
+use Rattle.bm_unroll.specs.Moved.{moved}
+use Rattle.bm_unroll.proofs.Copying.{memories_there, mem_widths_kept}
+use Rattle.bm_unroll.specs.Walk.{Passes}
+use Rattle.bm_unroll.proofs.Walking.{passes_none, passes_next, row_read, stand_here}
+use Rattle.bm_unroll.proofs.cycles.pass_cycles.Goals as goal
 
 pub loop-index-init : goal.loop-index-init
 loop-index-init c =

@@ -4,11 +4,11 @@ use Rattle.wn_net.specs.Net.{shape_of, value_at}
 use Rattle.wn_net.specs.Width.{Shape}
 use Rattle.wn_net.proofs.Laws.{given_on}
 use Rattle.wn_mem.specs.Words.{numbers_of}
-use Rattle.bm_cycle.specs.Cycle.{given_by, state_by}
-use Rattle.bm_walk.specs.Walk.{AreRows, IsStart, rows_by}
-use Rattle.bm_walk.proofs.Walking.{bad_at, cycle_is, row_read, stand_here}
-use Rattle.bm_walk.proofs.Early.{passes_early, shape_same}
-use Rattle.bm_walk.proofs.cycles.walk_cycles.Goals as goal
+use Rattle.bm_unroll.specs.Cycle.{given_by, state_by}
+use Rattle.bm_unroll.specs.Walk.{AreRows, IsStart, rows_by}
+use Rattle.bm_unroll.proofs.Walking.{bad_at, cycle_is, row_read, stand_here}
+use Rattle.bm_unroll.proofs.Early.{passes_early, shape_same}
+use Rattle.bm_unroll.proofs.cycles.walk_cycles.Goals as goal
 
 pub pass_cycles-requires-clause-rows : goal.pass_cycles-requires-clause-rows
 pass_cycles-requires-clause-rows c =

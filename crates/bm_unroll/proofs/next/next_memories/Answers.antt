@@ -1,7 +1,7 @@
 use Rattle.std.specs.Prelude.{◌<◌, ◌≤◌, length}
 use Rattle.std.proofs.Common.{arith, ap}
-use Rattle.bm_cycle.proofs.Moving.{mems_long, memory_read, moved_numbers, moved_shape, moving_read, writes_read}
-use Rattle.bm_cycle.proofs.next.next_memories.Goals as goal
+use Rattle.bm_unroll.proofs.Moving.{mems_long, memory_read, moved_numbers, moved_shape, moving_read, writes_read}
+use Rattle.bm_unroll.proofs.next.next_memories.Goals as goal
 
 pub next_memory-requires-clause-memory : goal.next_memory-requires-clause-memory
 next_memory-requires-clause-memory c =

@@ -1,9 +1,9 @@
 use Rattle.std.proofs.Common.{ap, ◌∙◌, subst, sym}
 use Rattle.std.specs.Prelude.{List, ℕ, map}
 use Rattle.wn_mem.specs.Words.{words_width, numbers_of}
-use Rattle.bm_cycle.specs.Cycle.{AreMemories}
-use Rattle.bm_cycle.proofs.Moving.{regs_there, regs_widths, regs_numbers, table_long}
-use Rattle.bm_cycle.proofs.next.next_nodes.Goals as goal
+use Rattle.bm_unroll.specs.Cycle.{AreMemories}
+use Rattle.bm_unroll.proofs.Moving.{regs_there, regs_widths, regs_numbers, table_long}
+use Rattle.bm_unroll.proofs.next.next_nodes.Goals as goal
 
 pub next_regs-requires : goal.next_regs-requires
 next_regs-requires c = table_long c.args.net.now c.args.frames.now c.args.table.now c.requires.widths

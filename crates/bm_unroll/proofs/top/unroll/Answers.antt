@@ -2,7 +2,7 @@ use Rattle.std.specs.Prelude.{ℕ, List, length, map}
 use Rattle.std.specs.List.{AllByRecursion}
 use Rattle.std.proofs.Common.{ap, sym, ◌∙◌, subst, arith}
 use Rattle.wn_net.specs.Net.{shape_of}
-use Rattle.bm_walk.specs.Walk.{AreRows}
+use Rattle.bm_unroll.specs.Walk.{AreRows}
 use Rattle.bm_unroll.specs.declared.frames.Source.{Source}
 use Rattle.bm_unroll.specs.Frames.{AreDistinct, AreChosen, IsChoice, source_width}
 use Rattle.bm_unroll.proofs.Choosing.{are_chosen}

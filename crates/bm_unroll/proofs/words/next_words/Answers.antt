@@ -1,9 +1,9 @@
 use Rattle.std.specs.Prelude.{◌<◌, ◌≤◌, length}
 use Rattle.std.proofs.Common.{arith}
 use Rattle.wn_mem.specs.Words.{words_width}
-use Rattle.bm_cycle.specs.Cycle.{widths_at}
-use Rattle.bm_cycle.proofs.Writing.{writing_next, write_fits, write_in, first_width}
-use Rattle.bm_cycle.proofs.words.next_words.Goals as goal
+use Rattle.bm_unroll.specs.Cycle.{widths_at}
+use Rattle.bm_unroll.proofs.Writing.{writing_next, write_fits, write_in, first_width}
+use Rattle.bm_unroll.proofs.words.next_words.Goals as goal
 
 pub write_once-requires-clause-write : goal.write_once-requires-clause-write
 write_once-requires-clause-write c =

@@ -1,5 +1,5 @@
-use Rattle.ck_traces.proofs.Whole.{traces}
-use Rattle.ck_traces.proofs.traces_are_the_designs.Goals as goal
+use Rattle.ck_design.proofs.TracesWhole.{traces}
+use Rattle.ck_design.proofs.traces_law.traces_are_the_designs.Goals as goal
 
 pub returns : goal.returns
 returns c = traces

@@ -1,5 +1,5 @@
-use Rattle.ck_traces.proofs.Dumps.{dumps}
-use Rattle.ck_traces.proofs.traces_have_dumps.Goals as goal
+use Rattle.ck_design.proofs.Dumps.{dumps}
+use Rattle.ck_design.proofs.traces_law.traces_have_dumps.Goals as goal
 
 pub returns : goal.returns
 returns c = dumps

@@ -1,8 +1,8 @@
 use Rattle.std.specs.Prelude.{not}
 use Rattle.std.proofs.Common.{ap, ◌∙◌}
 use Rattle.wn_net.proofs.Laws.{given_on}
-use Rattle.wn_truth.proofs.Laws.{told}
-use Rattle.ck_around.proofs.around.has_next.Goals as goal
+use Rattle.ck_history.proofs.Laws.{told}
+use Rattle.ck_gen.proofs.around.has_next.Goals as goal
 
 pub returns-clause-tells : goal.returns-clause-tells
 returns-clause-tells c = λ g es given show.

@@ -1,11 +1,11 @@
 use Rattle.std.specs.Prelude.{◌&&◌}
 use Rattle.std.proofs.Common.{◌∙◌}
 use Rattle.wn_net.proofs.Laws.{adds_on, given_on}
-use Rattle.wn_truth.proofs.Laws.{told, one_on}
-use Rattle.ck_lines.proofs.Entries.{entry_on, show_on}
-use Rattle.ck_found.specs.Searches.{first_agrees}
-use Rattle.ck_past.specs.Kept.{sought_same}
-use Rattle.ck_around.proofs.around.has_own_order.Goals as goal
+use Rattle.ck_history.proofs.Laws.{told, one_on}
+use Rattle.ck_history.proofs.Entries.{entry_on, show_on}
+use Rattle.ck_history.specs.Searches.{first_agrees}
+use Rattle.ck_gen.specs.Kept.{sought_same}
+use Rattle.ck_gen.proofs.around.has_own_order.Goals as goal
 
 pub returns-clause-tells : goal.returns-clause-tells
 returns-clause-tells c = λ g es fs given front back.

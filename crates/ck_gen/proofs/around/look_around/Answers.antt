@@ -1,9 +1,9 @@
 use Rattle.std.specs.Prelude.{◌+◌, ℕ, List, take, drop}
 use Rattle.std.proofs.Common.{ap, sym, ◌∙◌, subst}
-use Rattle.ck_lines.specs.Entries.{Show, entry_at}
-use Rattle.ck_lines.proofs.Entries.{show_take, show_drop}
-use Rattle.ck_around.specs.Around.{holds_around}
-use Rattle.ck_around.proofs.around.look_around.Goals as goal
+use Rattle.ck_history.specs.Entries.{Show, entry_at}
+use Rattle.ck_history.proofs.Entries.{show_take, show_drop}
+use Rattle.ck_gen.specs.Around.{holds_around}
+use Rattle.ck_gen.proofs.around.look_around.Goals as goal
 
 pub returns-in_ok-id-in-Unique-clause-tells : goal.returns-in_ok-id-in-Unique-clause-tells
 returns-in_ok-id-in-Unique-clause-tells c = λ g es given show.

@@ -1,11 +1,11 @@
 use Rattle.std.specs.Prelude.{◌==◌, ◌&&◌, ◌||◌}
 use Rattle.std.proofs.Common.{◌∙◌}
 use Rattle.wn_net.proofs.Laws.{adds_on, given_on, value_on}
-use Rattle.wn_truth.proofs.Laws.{told, one_on}
-use Rattle.ck_lines.proofs.Entries.{entry_on, show_on}
-use Rattle.ck_lines.specs.declared.entry.EntryNodes.{EntryNodes}
-use Rattle.ck_found.specs.Searches.{first_agrees}
-use Rattle.ck_past.specs.Kept.{sought_write}
+use Rattle.ck_history.proofs.Laws.{told, one_on}
+use Rattle.ck_history.proofs.Entries.{entry_on, show_on}
+use Rattle.ck_history.specs.declared.entry.EntryNodes.{EntryNodes}
+use Rattle.ck_history.specs.Searches.{first_agrees}
+use Rattle.ck_gen.specs.Kept.{sought_write}
 use Rattle.ck_gen.proofs.earlier.both_as_written.Goals as goal
 
 pub returns-clause-tells : goal.returns-clause-tells

@@ -1,7 +1,7 @@
 use Rattle.std.specs.Prelude.{◌||◌}
 use Rattle.std.proofs.Common.{◌∙◌}
 use Rattle.wn_net.proofs.Laws.{given_on}
-use Rattle.wn_truth.proofs.Laws.{told, one_on}
+use Rattle.ck_history.proofs.Laws.{told, one_on}
 use Rattle.ck_gen.proofs.earlier.or_agrees.Goals as goal
 
 pub returns-clause-tells : goal.returns-clause-tells

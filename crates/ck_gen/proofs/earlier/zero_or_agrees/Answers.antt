@@ -1,9 +1,9 @@
 use Rattle.std.specs.Prelude.{◌||◌}
 use Rattle.std.proofs.Common.{◌∙◌}
 use Rattle.wn_net.proofs.Laws.{given_on}
-use Rattle.wn_truth.proofs.Laws.{told}
-use Rattle.ck_lines.proofs.Entries.{entry_on, show_on}
-use Rattle.ck_found.specs.Searches.{first_agrees}
+use Rattle.ck_history.proofs.Laws.{told}
+use Rattle.ck_history.proofs.Entries.{entry_on, show_on}
+use Rattle.ck_history.specs.Searches.{first_agrees}
 use Rattle.ck_gen.proofs.earlier.zero_or_agrees.Goals as goal
 
 pub returns-clause-tells : goal.returns-clause-tells

@@ -4,12 +4,12 @@ use Rattle.std.proofs.lemmas.List.{length_push}
 use Rattle.wn_net.specs.Net.{AreNodesOf, value_at}
 use Rattle.wn_net.proofs.Laws.{adds_on, nodes_on}
 use Rattle.rvfi_port.specs.declared.port.Channel.{Channel}
-use Rattle.ck_lines.specs.Entries.{packed}
-use Rattle.ck_lines.proofs.Lines.{nodes_push}
+use Rattle.ck_history.specs.Entries.{packed}
+use Rattle.ck_history.proofs.Lines.{nodes_push}
 use Rattle.rvfi_port.specs.Ports.{AreChannelNodes}
-use Rattle.ck_past.specs.Kept.{kept_in}
-use Rattle.ck_past.proofs.Words.{channel_here, dropped, words_push}
-use Rattle.ck_past.proofs.kept.kept_words.Goals as goal
+use Rattle.ck_gen.specs.Kept.{kept_in}
+use Rattle.ck_gen.proofs.Words.{channel_here, dropped, words_push}
+use Rattle.ck_gen.proofs.kept.kept_words.Goals as goal
 
 abbrev no_channel : Channel
 no_channel = record {

@@ -3,9 +3,9 @@ use Rattle.std.specs.Prelude.{drop}
 use Rattle.wn_net.specs.Value.{Given}
 use Rattle.wn_net.specs.Net.{AreNodesOf, value_at}
 use Rattle.wn_net.specs.Changes.{AddsNodes}
-use Rattle.ck_lines.specs.Entries.{packed}
-use Rattle.ck_past.specs.Kept.{kept_in}
-use Rattle.ck_past.proofs.kept.kept_words.Given as goal
+use Rattle.ck_history.specs.Entries.{packed}
+use Rattle.ck_gen.specs.Kept.{kept_in}
+use Rattle.ck_gen.proofs.kept.kept_words.Given as goal
 
 abbrev pub invariant-loop-place : goal.invariant-loop-place
 invariant-loop-place l = record {

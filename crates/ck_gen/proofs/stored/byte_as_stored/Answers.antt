@@ -1,10 +1,10 @@
 use Rattle.std.specs.Prelude.{◌||◌}
 use Rattle.std.proofs.Common.{◌∙◌}
 use Rattle.wn_net.proofs.Laws.{given_on}
-use Rattle.wn_truth.proofs.Laws.{told}
-use Rattle.ck_lines.proofs.Entries.{entry_on, show_on}
-use Rattle.ck_found.specs.Searches.{first_agrees}
-use Rattle.ck_past.specs.Kept.{sought_store}
+use Rattle.ck_history.proofs.Laws.{told}
+use Rattle.ck_history.proofs.Entries.{entry_on, show_on}
+use Rattle.ck_history.specs.Searches.{first_agrees}
+use Rattle.ck_gen.specs.Kept.{sought_store}
 use Rattle.ck_gen.proofs.stored.byte_as_stored.Goals as goal
 
 pub returns-clause-tells : goal.returns-clause-tells

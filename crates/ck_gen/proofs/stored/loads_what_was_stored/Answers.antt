@@ -1,9 +1,9 @@
 use Rattle.std.specs.Prelude.{◌||◌}
 use Rattle.std.proofs.Common.{◌∙◌}
 use Rattle.wn_net.proofs.Laws.{adds_on, adds_regs, given_on, value_on}
-use Rattle.wn_truth.proofs.Laws.{told, told_on}
-use Rattle.ck_lines.proofs.Entries.{show_on}
-use Rattle.ck_past.specs.Kept.{all_as_stored}
+use Rattle.ck_history.proofs.Laws.{told, told_on}
+use Rattle.ck_history.proofs.Entries.{show_on}
+use Rattle.ck_gen.specs.Kept.{all_as_stored}
 use Rattle.rvfi_port.proofs.AddedRegs.{retire_on}
 use Rattle.ck_gen.proofs.stored.loads_what_was_stored.Goals as goal
 

@@ -3,10 +3,10 @@ use Rattle.std.proofs.Common.{ap, sym, ◌∙◌, arith, subst}
 use Rattle.wn_net.specs.Net.{AreNodesOf, value_at}
 use Rattle.wn_net.proofs.Laws.{adds_on, adds_regs, regs_on}
 use Rattle.rvfi_port.specs.Channels.{retire_at}
-use Rattle.ck_lines.specs.Entries.{packed}
-use Rattle.ck_past.specs.Retirements.{dmem_addr_at}
-use Rattle.ck_past.specs.Kept.{kept_in, holds_over}
-use Rattle.ck_past.proofs.Monitored.{is_among}
+use Rattle.ck_history.specs.Entries.{packed}
+use Rattle.ck_gen.specs.Retirements.{dmem_addr_at}
+use Rattle.ck_gen.specs.Kept.{kept_in, holds_over}
+use Rattle.ck_gen.proofs.Monitored.{is_among}
 use Rattle.ck_gen.specs.Monitors.{TellsOver}
 use Rattle.ck_gen.proofs.Back.{IsBuilt, fails}
 use Rattle.ck_gen.proofs.Places.{channel_at}

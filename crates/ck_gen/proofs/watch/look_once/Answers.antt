@@ -1,6 +1,6 @@
 use Rattle.std.specs.Prelude.{◌≡◌, ◌<◌, length, slice_index_or}
 use Rattle.std.proofs.Common.{arith, ap}
-use Rattle.ck_past.proofs.Monitored.{IsAmong, is_among}
+use Rattle.ck_gen.proofs.Monitored.{IsAmong, is_among}
 use Rattle.wn_net.proofs.Laws.{adds_regs, regs_none}
 use Rattle.ck_gen.proofs.Once.{IsOnce, once_fails, each_fails, no_channel}
 use Rattle.ck_gen.proofs.Places.{channel_at}

@@ -3,14 +3,14 @@ use Rattle.std.proofs.Common.{ap, sym, ◌∙◌, arith, subst}
 use Rattle.std.proofs.lemmas.List.{get_or_read}
 use Rattle.wn_net.specs.Net.{AreNodesOf, value_at}
 use Rattle.wn_net.proofs.Laws.{adds_on}
-use Rattle.ck_lines.specs.Entries.{Show, entry_at, packed}
-use Rattle.ck_past.specs.Kept.{kept_in}
-use Rattle.ck_past.proofs.Monitored.{is_among}
-use Rattle.ck_around.specs.Around.{holds_around, place_of}
+use Rattle.ck_history.specs.Entries.{Show, entry_at, packed}
+use Rattle.ck_gen.specs.Kept.{kept_in}
+use Rattle.ck_gen.proofs.Monitored.{is_among}
+use Rattle.ck_gen.specs.Around.{holds_around, place_of}
 use Rattle.ck_gen.proofs.Counts.{known_between}
 use Rattle.ck_gen.proofs.Once.{no_channel}
 use Rattle.ck_gen.proofs.Recalled.{IsRecalled, to_new}
-use Rattle.ck_gen.proofs.Trigger.{IsTriggered, turned_fails}
+use Rattle.ck_gen.proofs.GenTrigger.{IsTriggered, turned_fails}
 use Rattle.ck_gen.proofs.watch.turn_around.Goals.{After-drop-words-2}
 use Rattle.ck_gen.proofs.watch.turn_around.Goals as goal
 

@@ -2,7 +2,7 @@ use Rattle.std.specs.Prelude.{◌==◌}
 use Rattle.std.proofs.Common.{ap, ◌∙◌}
 use Rattle.fv_bits.specs.Bits.{bit}
 use Rattle.wn_net.proofs.Laws.{given_on}
-use Rattle.ck_found.proofs.compare.has_bit.Goals as goal
+use Rattle.ck_history.proofs.compare.has_bit.Goals as goal
 
 pub returns-clause-tells : goal.returns-clause-tells
 returns-clause-tells c =

@@ -2,12 +2,12 @@ use Rattle.std.specs.Prelude.{◌≡◌, ◌&&◌}
 use Rattle.std.proofs.Common.{◌∙◌}
 use Rattle.fv_bits.specs.Bits.{bit}
 use Rattle.wn_net.proofs.Laws.{adds_on, given_on}
-use Rattle.wn_truth.specs.Truths.{is_one}
-use Rattle.wn_truth.proofs.Laws.{told, told_on, one_on}
-use Rattle.ck_lines.specs.Entries.{entry_at}
-use Rattle.ck_lines.proofs.Entries.{entry_on}
-use Rattle.ck_found.specs.Searches.{key_meets, small_meets}
-use Rattle.ck_found.proofs.compare.is_sought.Goals as goal
+use Rattle.ck_history.specs.Truths.{is_one}
+use Rattle.ck_history.proofs.Laws.{told, told_on, one_on}
+use Rattle.ck_history.specs.Entries.{entry_at}
+use Rattle.ck_history.proofs.Entries.{entry_on}
+use Rattle.ck_history.specs.Searches.{key_meets, small_meets}
+use Rattle.ck_history.proofs.compare.is_sought.Goals as goal
 
 pub returns-clause-tells : goal.returns-clause-tells
 returns-clause-tells c =

@@ -2,8 +2,8 @@ use Rattle.std.specs.Prelude.{◌==◌, ◌||◌}
 use Rattle.std.proofs.Common.{◌∙◌}
 use Rattle.fv_bits.specs.Bits.{bit}
 use Rattle.wn_net.proofs.Laws.{adds_on, given_on, value_on}
-use Rattle.wn_truth.proofs.Laws.{told, told_on}
-use Rattle.ck_found.proofs.compare.one_of_two.Goals as goal
+use Rattle.ck_history.proofs.Laws.{told, told_on}
+use Rattle.ck_history.proofs.compare.one_of_two.Goals as goal
 
 pub returns-clause-tells : goal.returns-clause-tells
 returns-clause-tells c =

@@ -2,7 +2,7 @@ use Rattle.std.specs.Prelude.{◌==◌, ◌*◌}
 use Rattle.std.proofs.Common.{ap, ◌∙◌}
 use Rattle.fv_bits.specs.Bits.{bit, part}
 use Rattle.wn_net.proofs.Laws.{adds_on, given_on, value_on, built_node}
-use Rattle.ck_found.proofs.compare.same_byte.Goals as goal
+use Rattle.ck_history.proofs.compare.same_byte.Goals as goal
 
 pub returns-clause-tells : goal.returns-clause-tells
 returns-clause-tells c =

@@ -1,8 +1,8 @@
 use Rattle.std.specs.Prelude.{◌≡◌, length}
 use Rattle.std.proofs.Common.{ap, ◌∙◌}
 use Rattle.wn_net.specs.Changes.{with_next}
-use Rattle.ck_lines.proofs.Lines.{delay_adds, delay_behind}
-use Rattle.ck_lines.proofs.line.delay.Goals as goal
+use Rattle.ck_history.proofs.Lines.{delay_adds, delay_behind}
+use Rattle.ck_history.proofs.line.delay.Goals as goal
 
 pub returns-clause-adds : goal.returns-clause-adds
 returns-clause-adds c =

@@ -2,9 +2,9 @@ use Rattle.std.specs.Prelude.{◌≡◌, ◌+◌, ◌*◌, ◌<◌, ◌++◌, �
 use Rattle.std.proofs.Common.{ap, sym, ◌∙◌, arith, subst}
 use Rattle.std.proofs.lemmas.List.{length_push, take-append-le, get_or_read}
 use Rattle.wn_net.specs.Net.{AreNodesOf}
-use Rattle.ck_lines.specs.Lines.{IsBehind, IsHistory}
-use Rattle.ck_lines.proofs.Lines.{some_words, known_on, nodes_with, nodes_push, history_on, history_push}
-use Rattle.ck_lines.proofs.line.history.Goals as goal
+use Rattle.ck_history.specs.Lines.{IsBehind, IsHistory}
+use Rattle.ck_history.proofs.Lines.{some_words, known_on, nodes_with, nodes_push, history_on, history_push}
+use Rattle.ck_history.proofs.line.history.Goals as goal
 
 pub loop-place-preserved : goal.loop-place-preserved
 loop-place-preserved c =

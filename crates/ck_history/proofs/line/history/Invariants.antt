@@ -1,7 +1,7 @@
 use Rattle.std.proofs.Common.{◌≡◌, ◌+◌, length, take}
 use Rattle.wn_net.specs.Net.{AreNodesOf}
-use Rattle.ck_lines.specs.Lines.{IsHistory, AddsKnown}
-use Rattle.ck_lines.proofs.line.history.Given as goal
+use Rattle.ck_history.specs.Lines.{IsHistory, AddsKnown}
+use Rattle.ck_history.proofs.line.history.Given as goal
 
 abbrev pub invariant-loop-place : goal.invariant-loop-place
 invariant-loop-place l = record {

@@ -2,13 +2,13 @@ use Rattle.std.specs.Prelude.{◌≡◌, ◌==◌, if◌then◌else◌}
 use Rattle.std.proofs.Common.{ap, ◌∙◌}
 use Rattle.wn_net.specs.Net.{value_at}
 use Rattle.wn_net.proofs.Laws.{adds_on, given_on}
-use Rattle.wn_truth.specs.Truths.{is_one}
-use Rattle.wn_truth.proofs.Laws.{told, told_on, one_on}
-use Rattle.ck_lines.specs.Entries.{entry_at}
-use Rattle.ck_lines.proofs.Entries.{entry_on}
-use Rattle.ck_found.specs.Searches.{is_sought, agrees}
-use Rattle.ck_found.proofs.Found.{chosen_is}
-use Rattle.ck_found.proofs.search.agrees_or.Goals as goal
+use Rattle.ck_history.specs.Truths.{is_one}
+use Rattle.ck_history.proofs.Laws.{told, told_on, one_on}
+use Rattle.ck_history.specs.Entries.{entry_at}
+use Rattle.ck_history.proofs.Entries.{entry_on}
+use Rattle.ck_history.specs.Searches.{is_sought, agrees}
+use Rattle.ck_history.proofs.Found.{chosen_is}
+use Rattle.ck_history.proofs.search.agrees_or.Goals as goal
 
 pub returns-clause-tells : goal.returns-clause-tells
 returns-clause-tells c = λ g e given entry show.

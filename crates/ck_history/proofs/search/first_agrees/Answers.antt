@@ -1,13 +1,13 @@
 use Rattle.std.specs.Prelude.{◌≡◌, ◌+◌, ◌-◌, ◌<◌, true, if◌then◌else◌, length, drop, slice_index}
 use Rattle.std.proofs.Common.{ap, sym, ◌∙◌, arith}
 use Rattle.wn_net.proofs.Laws.{adds_on, given_on, value_on}
-use Rattle.wn_truth.proofs.Laws.{told}
-use Rattle.ck_lines.specs.Entries.{entry_at}
-use Rattle.ck_lines.proofs.Lines.{node_here}
-use Rattle.ck_lines.proofs.Entries.{entry_on, show_long, shown_at}
-use Rattle.ck_found.specs.Searches.{is_sought, agrees, first_agrees}
-use Rattle.ck_found.proofs.Found.{agrees_at_end, agrees_from}
-use Rattle.ck_found.proofs.search.first_agrees.Goals as goal
+use Rattle.ck_history.proofs.Laws.{told}
+use Rattle.ck_history.specs.Entries.{entry_at}
+use Rattle.ck_history.proofs.Lines.{node_here}
+use Rattle.ck_history.proofs.Entries.{entry_on, show_long, shown_at}
+use Rattle.ck_history.specs.Searches.{is_sought, agrees, first_agrees}
+use Rattle.ck_history.proofs.Found.{agrees_at_end, agrees_from}
+use Rattle.ck_history.proofs.search.first_agrees.Goals as goal
 
 pub loop-place-init : goal.loop-place-init
 loop-place-init c =

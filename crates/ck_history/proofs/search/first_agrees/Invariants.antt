@@ -3,10 +3,10 @@ use Rattle.wn_net.specs.Value.{Given}
 use Rattle.wn_net.specs.Net.{IsNodeOf}
 use Rattle.wn_net.specs.Given.{IsGiven}
 use Rattle.wn_net.specs.Changes.{AddsNodes}
-use Rattle.wn_truth.specs.Truths.{is_one}
-use Rattle.ck_lines.specs.Entries.{Entry, Show, entry_at}
-use Rattle.ck_found.specs.Searches.{first_agrees}
-use Rattle.ck_found.proofs.search.first_agrees.Given as goal
+use Rattle.ck_history.specs.Truths.{is_one}
+use Rattle.ck_history.specs.Entries.{Entry, Show, entry_at}
+use Rattle.ck_history.specs.Searches.{first_agrees}
+use Rattle.ck_history.proofs.search.first_agrees.Given as goal
 
 abbrev pub decreases-loop-place : goal.decreases-loop-place
 decreases-loop-place l = l.place

@@ -1,8 +1,8 @@
 use Rattle.std.proofs.Common.{◌∙◌}
 use Rattle.wn_net.specs.Net.{value_at}
 use Rattle.wn_net.proofs.Laws.{built_node}
-use Rattle.wn_truth.proofs.Laws.{and_is, bit_below}
-use Rattle.wn_truth.proofs.test.both.Goals as goal
+use Rattle.ck_history.proofs.Laws.{and_is, bit_below}
+use Rattle.ck_history.proofs.test.both.Goals as goal
 
 pub returns-clause-tells : goal.returns-clause-tells
 returns-clause-tells c =

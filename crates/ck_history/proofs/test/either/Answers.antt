@@ -1,8 +1,8 @@
 use Rattle.std.proofs.Common.{◌∙◌}
 use Rattle.wn_net.specs.Net.{value_at}
 use Rattle.wn_net.proofs.Laws.{built_node}
-use Rattle.wn_truth.proofs.Laws.{or_is, bit_below}
-use Rattle.wn_truth.proofs.test.either.Goals as goal
+use Rattle.ck_history.proofs.Laws.{or_is, bit_below}
+use Rattle.ck_history.proofs.test.either.Goals as goal
 
 pub returns-clause-tells : goal.returns-clause-tells
 returns-clause-tells c =

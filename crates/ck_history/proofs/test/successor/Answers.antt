@@ -4,8 +4,8 @@ use Rattle.fv_bits.specs.Bits.{sum}
 use Rattle.wn_net.specs.Net.{value_at, width_at}
 use Rattle.wn_net.proofs.Laws.{built_node, value_on}
 use Rattle.wn_net.proofs.Moved.{value_within}
-use Rattle.wn_truth.proofs.Laws.{next_is}
-use Rattle.wn_truth.proofs.test.successor.Goals as goal
+use Rattle.ck_history.proofs.Laws.{next_is}
+use Rattle.ck_history.proofs.test.successor.Goals as goal
 
 pub returns-clause-shows : goal.returns-clause-shows
 returns-clause-shows c =

@@ -2,8 +2,8 @@ use Rattle.std.proofs.Common.{ap, ◌∙◌}
 use Rattle.fv_bits.specs.Bits.{complement}
 use Rattle.wn_net.specs.Net.{value_at}
 use Rattle.wn_net.proofs.Laws.{built_node}
-use Rattle.wn_truth.proofs.Laws.{turned_is, bit_below}
-use Rattle.wn_truth.proofs.test.turned.Goals as goal
+use Rattle.ck_history.proofs.Laws.{turned_is, bit_below}
+use Rattle.ck_history.proofs.test.turned.Goals as goal
 
 pub returns-clause-tells : goal.returns-clause-tells
 returns-clause-tells c =

@@ -1,6 +1,6 @@
 use Rattle.std.proofs.Common.{rules, ◌≡◌, ◌<◌, ◌^◌, Some, subst}
-use Rattle.bit_sets.proofs.Turning.{IsFrom, has_found}
-use Rattle.bit_sets.proofs.merge.first_in.Goals as goal
+use Rattle.fv_bit_sets.proofs.Turning.{IsFrom, has_found}
+use Rattle.fv_bit_sets.proofs.merge.first_in.Goals as goal
 
 pub returns-then-run-ne0-clause-found : goal.returns-then-run-ne0-clause-found
 returns-then-run-ne0-clause-found c =

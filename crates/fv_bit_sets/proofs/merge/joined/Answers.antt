@@ -1,6 +1,6 @@
 use Rattle.std.proofs.Common.{rules, ◌≡◌, ◌<◌, ◌^◌, Some, subst, sym}
-use Rattle.bit_sets.proofs.Turning.{ahead, nearer, IsJoinedTo, joined_on, rising_on}
-use Rattle.bit_sets.proofs.merge.joined.Goals as goal
+use Rattle.fv_bit_sets.proofs.Turning.{ahead, nearer, IsJoinedTo, joined_on, rising_on}
+use Rattle.fv_bit_sets.proofs.merge.joined.Goals as goal
 
 pub loop-next-smaller : goal.loop-next-smaller
 loop-next-smaller c =

@@ -1,6 +1,6 @@
-use Rattle.bit_sets.specs.Cells.{AreRising}
-use Rattle.bit_sets.proofs.Turning.{ahead, IsJoinedTo}
-use Rattle.bit_sets.proofs.merge.joined.Given as goal
+use Rattle.fv_bit_sets.specs.Cells.{AreRising}
+use Rattle.fv_bit_sets.proofs.Turning.{ahead, IsJoinedTo}
+use Rattle.fv_bit_sets.proofs.merge.joined.Given as goal
 
 abbrev pub invariant-loop-next : goal.invariant-loop-next
 invariant-loop-next l = record {

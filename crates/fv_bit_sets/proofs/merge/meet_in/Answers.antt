@@ -1,6 +1,6 @@
 use Rattle.std.proofs.Common.{rules, ◌≡◌, ◌<◌, ◌^◌, Some, subst, sym, bit_and}
-use Rattle.bit_sets.proofs.Turning.{ahead, nearer, IsFrom, from_on, AreApartTo, apart_on, both_found, none_both}
-use Rattle.bit_sets.proofs.merge.meet_in.Goals as goal
+use Rattle.fv_bit_sets.proofs.Turning.{ahead, nearer, IsFrom, from_on, AreApartTo, apart_on, both_found, none_both}
+use Rattle.fv_bit_sets.proofs.merge.meet_in.Goals as goal
 
 pub returns-then-left-right-ne0-clause-some : goal.returns-then-left-right-ne0-clause-some
 returns-then-left-right-ne0-clause-some c =

@@ -1,5 +1,5 @@
-use Rattle.bit_sets.proofs.Turning.{ahead, IsFrom, AreApartTo}
-use Rattle.bit_sets.proofs.merge.meet_in.Given as goal
+use Rattle.fv_bit_sets.proofs.Turning.{ahead, IsFrom, AreApartTo}
+use Rattle.fv_bit_sets.proofs.merge.meet_in.Given as goal
 
 abbrev pub invariant-loop-next : goal.invariant-loop-next
 invariant-loop-next l = record {

@@ -1,7 +1,7 @@
 use Rattle.std.proofs.Common.{subst, sym}
-use Rattle.bit_sets.specs.Runs.{KeepsTo}
-use Rattle.bit_sets.proofs.Turning.{keeps_both}
-use Rattle.bit_sets.proofs.merge.past_of.Goals as goal
+use Rattle.fv_bit_sets.specs.Runs.{KeepsTo}
+use Rattle.fv_bit_sets.proofs.Turning.{keeps_both}
+use Rattle.fv_bit_sets.proofs.merge.past_of.Goals as goal
 
 pub returns-in-Either-clause-same : goal.returns-in-Either-clause-same
 returns-in-Either-clause-same c =

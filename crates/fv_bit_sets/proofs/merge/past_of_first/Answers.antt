@@ -1,7 +1,7 @@
 use Rattle.std.specs.Prelude.{not}
-use Rattle.bit_sets.specs.declared.how.How.TheVariants as h
-use Rattle.bit_sets.proofs.Turning.{keeps_both, keeps_left, none_first}
-use Rattle.bit_sets.proofs.merge.past_of_first.Goals as goal
+use Rattle.fv_bit_sets.specs.declared.how.How.TheVariants as h
+use Rattle.fv_bit_sets.proofs.Turning.{keeps_both, keeps_left, none_first}
+use Rattle.fv_bit_sets.proofs.merge.past_of_first.Goals as goal
 
 pub returns-then-left-eq0-clause-same : goal.returns-then-left-eq0-clause-same
 returns-then-left-eq0-clause-same c =

@@ -1,6 +1,6 @@
 use Rattle.std.proofs.Common.{◌<◌, length, arith}
-use Rattle.bit_sets.proofs.Rising.{last_is}
-use Rattle.bit_sets.proofs.put.last_mask.Goals as goal
+use Rattle.fv_bit_sets.proofs.Rising.{last_is}
+use Rattle.fv_bit_sets.proofs.put.last_mask.Goals as goal
 
 pub returns : goal.returns
 returns c =

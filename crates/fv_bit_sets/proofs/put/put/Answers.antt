@@ -1,6 +1,6 @@
 use Rattle.std.proofs.Common.{rules, ◌≡◌, ◌++◌, ◌∷◌, []}
-use Rattle.bit_sets.proofs.Rising.{put_none, put_more}
-use Rattle.bit_sets.proofs.put.put.Goals as goal
+use Rattle.fv_bit_sets.proofs.Rising.{put_none, put_more}
+use Rattle.fv_bit_sets.proofs.put.put.Goals as goal
 
 pub returns-then-last_mask-step : goal.returns-then-last_mask-step
 returns-then-last_mask-step c =

@@ -1,6 +1,6 @@
 use Rattle.std.proofs.Common.{◌<◌, ◌/◌, length, arith}
-use Rattle.bit_sets.proofs.Rising.{lower_rising, upper_rising, in_lower, in_upper, lower_length, upper_length}
-use Rattle.bit_sets.proofs.run.+run_in.Goals as goal
+use Rattle.fv_bit_sets.proofs.Rising.{lower_rising, upper_rising, in_lower, in_upper, lower_length, upper_length}
+use Rattle.fv_bit_sets.proofs.run.+run_in.Goals as goal
 
 pub run_in-requires : goal.run_in-requires
 run_in-requires t c =

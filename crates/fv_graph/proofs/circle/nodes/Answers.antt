@@ -1,5 +1,5 @@
-use Rattle.graph_walk.proofs.Rests.{one_more_node}
-use Rattle.graph_walk.proofs.circle.nodes.Goals as goal
+use Rattle.fv_graph.proofs.Rests.{one_more_node}
+use Rattle.fv_graph.proofs.circle.nodes.Goals as goal
 
 pub loop-step-preserved : goal.loop-step-preserved
 loop-step-preserved c =

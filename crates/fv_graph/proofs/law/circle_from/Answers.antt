@@ -1,6 +1,6 @@
 use Rattle.std.proofs.Common.{◌∙◌}
-use Rattle.graph_walk.proofs.Circles.{circle_turned}
-use Rattle.graph_walk.proofs.law.circle_from.Goals as goal
+use Rattle.fv_graph.proofs.Circles.{circle_turned}
+use Rattle.fv_graph.proofs.law.circle_from.Goals as goal
 
 pub returns-clause-closed : goal.returns-clause-closed
 returns-clause-closed c =

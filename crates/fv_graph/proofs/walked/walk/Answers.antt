@@ -1,7 +1,7 @@
 use Rattle.std.proofs.Common.{subst, sym}
-use Rattle.graph_walk.specs.Graph.{IsOrder}
-use Rattle.graph_walk.proofs.Ends.{ordered}
-use Rattle.graph_walk.proofs.walked.walk.Goals as goal
+use Rattle.fv_graph.specs.Graph.{IsOrder}
+use Rattle.fv_graph.proofs.Ends.{ordered}
+use Rattle.fv_graph.proofs.walked.walk.Goals as goal
 
 pub returns : goal.returns
 returns c =

@@ -1,7 +1,7 @@
 use Rattle.std.proofs.Common.{◌≡◌, []}
-use Rattle.graph_walk.specs.Walking.{Walks}
-use Rattle.graph_walk.proofs.Ends.{NoneNewBelow}
-use Rattle.graph_walk.proofs.walked.walk.Given as goal
+use Rattle.fv_graph.specs.Walking.{Walks}
+use Rattle.fv_graph.proofs.Ends.{NoneNewBelow}
+use Rattle.fv_graph.proofs.walked.walk.Given as goal
 
 abbrev pub invariant-loop-node : goal.invariant-loop-node
 invariant-loop-node l =

@@ -1,7 +1,7 @@
 use Rattle.std.proofs.Common.{refl}
 use Rattle.std.proofs.lemmas.Bool.{false≢true}
-use Rattle.graph_walk.proofs.AllRows.{more_within, all_within, row_within}
-use Rattle.graph_walk.proofs.within.is_within.Goals as goal
+use Rattle.fv_graph.proofs.AllRows.{more_within, all_within, row_within}
+use Rattle.fv_graph.proofs.within.is_within.Goals as goal
 
 pub returns-then-not-is_row_within : goal.returns-then-not-is_row_within
 returns-then-not-is_row_within c = (

@@ -1,6 +1,6 @@
 -- The law of proofs.
-use Rattle.cert_texts.proofs.Steps.{steps_law}
-use Rattle.cert_texts.proofs.law.proofs_say_what_is_read.Goals as goal
+use Rattle.lrat_texts.proofs.Steps.{steps_law}
+use Rattle.lrat_texts.proofs.law.proofs_say_what_is_read.Goals as goal
 
 pub returns : goal.returns
 returns c = steps_law

@@ -9,7 +9,7 @@ use Rattle.rv_rows.specs.Effects.{effect_at}
 use Rattle.rv_rows.proofs.StepLemmas.{effect_on}
 use Rattle.rv_circ.specs.Effects.{outcome_of}
 use Rattle.rvfi_port.proofs.AddedNodes.{retire_on}
-use Rattle.rv_agree.proofs.agree.add_agreement.Goals as goal
+use Rattle.rv_circ.proofs.agree.add_agreement.Goals as goal
 
 pub returns-clause-shows : goal.returns-clause-shows
 unfolding agrees

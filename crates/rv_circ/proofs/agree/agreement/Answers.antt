@@ -3,7 +3,7 @@ use Rattle.std.proofs.Common.{sym, ◌∙◌, subst}
 use Rattle.wn_net.specs.Net.{Netlist, IsNet}
 use Rattle.wn_net.specs.Changes.{AddsNodes, cut_to}
 use Rattle.wn_net.proofs.Laws.{adds_none, cut_nodes_back}
-use Rattle.rv_agree.proofs.agree.agreement.Goals as goal
+use Rattle.rv_circ.proofs.agree.agreement.Goals as goal
 
 pub cut-requires-clause-whole : goal.cut-requires-clause-whole
 cut-requires-clause-whole c =

@@ -7,7 +7,7 @@ use Rattle.rvfi_port.specs.Channels.{retire_at}
 use Rattle.rv_words.proofs.BitLemmas.{both_is}
 use Rattle.rv_rows.specs.Effects.{effect_at}
 use Rattle.rv_circ.specs.Effects.{outcome_of}
-use Rattle.rv_agree.proofs.agree.results_agree.Goals as goal
+use Rattle.rv_circ.proofs.agree.results_agree.Goals as goal
 
 pub returns-clause-shows : goal.returns-clause-shows
 returns-clause-shows c =

@@ -1,7 +1,7 @@
 use Rattle.std.specs.Prelude.{bit_and}
 use Rattle.std.proofs.Common.{◌∙◌}
 use Rattle.wn_net.proofs.Laws.{built_node}
-use Rattle.rv_agree.proofs.byte.byte_agrees_and.Goals as goal
+use Rattle.rv_circ.proofs.byte.byte_agrees_and.Goals as goal
 
 pub returns-clause-shows : goal.returns-clause-shows
 returns-clause-shows c =

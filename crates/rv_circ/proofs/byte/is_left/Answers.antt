@@ -6,7 +6,7 @@ use Rattle.wn_net.proofs.Laws.{adds_on, node_on, built_node}
 use Rattle.rvfi_port.specs.Channels.{retire_at}
 use Rattle.rv_words.proofs.BitLemmas.{not_bit, either_is}
 use Rattle.rvfi_port.proofs.AddedNodes.{retire_on}
-use Rattle.rv_agree.proofs.byte.is_left.Goals as goal
+use Rattle.rv_circ.proofs.byte.is_left.Goals as goal
 
 pub returns-clause-shows : goal.returns-clause-shows
 returns-clause-shows c =

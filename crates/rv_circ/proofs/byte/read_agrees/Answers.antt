@@ -5,7 +5,7 @@ use Rattle.rv_table.specs.Agree.{has}
 use Rattle.wn_net.specs.Net.{value_at}
 use Rattle.wn_net.proofs.Laws.{adds_on, node_on, built_node}
 use Rattle.rv_words.proofs.BitLemmas.{not_bit, either_is}
-use Rattle.rv_agree.proofs.byte.read_agrees.Goals as goal
+use Rattle.rv_circ.proofs.byte.read_agrees.Goals as goal
 
 pub returns-clause-shows : goal.returns-clause-shows
 returns-clause-shows c =

@@ -6,8 +6,8 @@ use Rattle.wn_net.specs.Net.{value_at}
 use Rattle.wn_net.proofs.Laws.{adds_on, node_on, built_node}
 use Rattle.rvfi_port.specs.Channels.{retire_at}
 use Rattle.rvfi_port.proofs.AddedNodes.{retire_on}
-use Rattle.rv_agree.proofs.TestLemmas.{chosen_is}
-use Rattle.rv_agree.proofs.byte.written_agrees.Goals as goal
+use Rattle.rv_circ.proofs.TestLemmas.{chosen_is}
+use Rattle.rv_circ.proofs.byte.written_agrees.Goals as goal
 
 pub returns-clause-shows : goal.returns-clause-shows
 returns-clause-shows c =

@@ -1,6 +1,6 @@
 use Rattle.std.specs.Prelude.{◌≡◌, ◌+◌, ◌-◌, ◌*◌}
 use Rattle.std.proofs.Common.{◌∙◌, arith}
-use Rattle.rv_agree.proofs.test.byte.Goals as goal
+use Rattle.rv_circ.proofs.test.byte.Goals as goal
 
 pub returns-clause-shows : goal.returns-clause-shows
 returns-clause-shows c =

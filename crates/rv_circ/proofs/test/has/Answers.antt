@@ -1,8 +1,8 @@
 use Rattle.std.proofs.Common.{◌∙◌}
 use Rattle.wn_net.specs.Net.{value_at}
 use Rattle.wn_net.proofs.Laws.{built_node}
-use Rattle.rv_agree.proofs.TestLemmas.{has_is}
-use Rattle.rv_agree.proofs.test.has.Goals as goal
+use Rattle.rv_circ.proofs.TestLemmas.{has_is}
+use Rattle.rv_circ.proofs.test.has.Goals as goal
 
 pub returns-clause-shows : goal.returns-clause-shows
 returns-clause-shows c =

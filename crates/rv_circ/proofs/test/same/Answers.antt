@@ -2,8 +2,8 @@ use Rattle.std.proofs.Common.{◌∙◌}
 use Rattle.wn_net.specs.Net.{value_at}
 use Rattle.wn_net.proofs.Laws.{built_node}
 use Rattle.wn_net.proofs.Moved.{value_within}
-use Rattle.rv_agree.proofs.TestLemmas.{same_is}
-use Rattle.rv_agree.proofs.test.same.Goals as goal
+use Rattle.rv_circ.proofs.TestLemmas.{same_is}
+use Rattle.rv_circ.proofs.test.same.Goals as goal
 
 pub returns-clause-shows : goal.returns-clause-shows
 returns-clause-shows c =

@@ -3,8 +3,8 @@ use Rattle.std.proofs.Common.{sym, refl, arith, subst, ℕ}
 use Rattle.wn_net.specs.Net.{value_at}
 use Rattle.wn_net.proofs.Laws.{adds_on}
 use Rattle.rv_words.proofs.WordLemmas.{word_below}
-use Rattle.rv_divide.proofs.DivisionLemmas.{starts, divided_at}
-use Rattle.rv_divide.proofs.division.divide.Goals as goal
+use Rattle.rv_rows.proofs.DivisionLemmas.{starts, divided_at}
+use Rattle.rv_rows.proofs.division.divide.Goals as goal
 
 pub loop-done-init : goal.loop-done-init
 loop-done-init c =

@@ -3,8 +3,8 @@ use Rattle.wn_net.specs.Value.{Given}
 use Rattle.wn_net.specs.Given.{IsGiven}
 use Rattle.wn_net.specs.Net.{value_at}
 use Rattle.wn_net.specs.Changes.{AddsNodes}
-use Rattle.rv_divide.specs.Division.{IsDivided, AreDivision}
-use Rattle.rv_divide.proofs.division.divide.Given as goal
+use Rattle.rv_rows.specs.Division.{IsDivided, AreDivision}
+use Rattle.rv_rows.proofs.division.divide.Given as goal
 
 abbrev pub invariant-loop-done : goal.invariant-loop-done
 invariant-loop-done l = record {

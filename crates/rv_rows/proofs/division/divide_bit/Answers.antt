@@ -4,8 +4,8 @@ use Rattle.fv_bits.specs.Bits as bits
 use Rattle.wn_net.specs.Net.{value_at}
 use Rattle.wn_net.proofs.Laws.{node_on, adds_on, built_node}
 use Rattle.rv_words.proofs.WordLemmas.{word_below}
-use Rattle.rv_divide.proofs.DivisionLemmas.{bit_divided}
-use Rattle.rv_divide.proofs.division.divide_bit.Goals as goal
+use Rattle.rv_rows.proofs.DivisionLemmas.{bit_divided}
+use Rattle.rv_rows.proofs.division.divide_bit.Goals as goal
 
 pub returns-clause-value : goal.returns-clause-value
 returns-clause-value c = λ g given some divided.

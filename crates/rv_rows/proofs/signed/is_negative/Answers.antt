@@ -2,8 +2,8 @@ use Rattle.std.proofs.Common.{◌∙◌}
 use Rattle.wn_net.specs.Net.{value_at}
 use Rattle.wn_net.proofs.Laws.{built_node}
 use Rattle.rv_words.proofs.WordLemmas.{word_below}
-use Rattle.rv_divide.proofs.SignedLemmas.{sign_is}
-use Rattle.rv_divide.proofs.signed.is_negative.Goals as goal
+use Rattle.rv_rows.proofs.SignedLemmas.{sign_is}
+use Rattle.rv_rows.proofs.signed.is_negative.Goals as goal
 
 pub returns-clause-shows : goal.returns-clause-shows
 returns-clause-shows c =

@@ -5,9 +5,9 @@ use Rattle.wn_net.specs.Net.{value_at}
 use Rattle.wn_net.proofs.Laws.{adds_on, node_on, built_node}
 use Rattle.rv_words.proofs.BitLemmas.{set_is}
 use Rattle.rv_words.proofs.WordLemmas.{word_below}
-use Rattle.rv_divide.specs.Signed.{rounded_quotient}
-use Rattle.rv_divide.proofs.SignedLemmas.{quotient_signed_is}
-use Rattle.rv_divide.proofs.signed.quotient_signed.Goals as goal
+use Rattle.rv_rows.specs.Signed.{rounded_quotient}
+use Rattle.rv_rows.proofs.SignedLemmas.{quotient_signed_is}
+use Rattle.rv_rows.proofs.signed.quotient_signed.Goals as goal
 
 pub returns-clause-shows : goal.returns-clause-shows
 returns-clause-shows c =

@@ -3,8 +3,8 @@ use Rattle.std.proofs.Common.{◌∙◌}
 use Rattle.rv_table.specs.Arithmetic.{difference, remainder, signed}
 use Rattle.wn_net.specs.Net.{value_at}
 use Rattle.rv_words.proofs.WordLemmas.{word_below}
-use Rattle.rv_divide.proofs.SignedLemmas.{remainder_signed_is}
-use Rattle.rv_divide.proofs.signed.remainder_signed.Goals as goal
+use Rattle.rv_rows.proofs.SignedLemmas.{remainder_signed_is}
+use Rattle.rv_rows.proofs.signed.remainder_signed.Goals as goal
 
 pub returns-clause-shows : goal.returns-clause-shows
 returns-clause-shows c =

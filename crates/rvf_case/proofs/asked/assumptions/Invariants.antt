@@ -1,6 +1,6 @@
 use Rattle.std.proofs.Common.{◌≡◌, ◌++◌, drop}
 use Rattle.std.specs.Prelude.{map}
-use Rattle.rvf_text.specs.Texts.{lines_seen}
+use Rattle.vl_text.specs.Texts.{lines_seen}
 use Rattle.rvf_case.specs.Texts.{line_text}
 use Rattle.rvf_case.proofs.asked.assumptions.Given as goal
 

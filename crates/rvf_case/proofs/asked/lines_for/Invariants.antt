@@ -2,7 +2,7 @@ use Rattle.std.proofs.Common.{◌≡◌, ◌++◌, drop}
 use Rattle.std.specs.Prelude.{map}
 use Rattle.std.specs.List.{filter}
 use Rattle.ck_cfg.specs.Kind.{is_kind}
-use Rattle.rvf_text.specs.Texts.{texts_seen}
+use Rattle.vl_text.specs.Texts.{texts_seen}
 use Rattle.rvf_case.specs.Texts.{line_text, lines_for}
 use Rattle.rvf_case.proofs.asked.lines_for.Given as goal
 

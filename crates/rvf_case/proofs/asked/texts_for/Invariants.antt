@@ -1,6 +1,6 @@
 use Rattle.std.proofs.Common.{◌≡◌, ◌+◌, ◌-◌, ◌^◌, ◌++◌, drop}
 use Rattle.std.specs.Prelude.{min}
-use Rattle.rvf_text.specs.Texts.{texts_seen}
+use Rattle.vl_text.specs.Texts.{texts_seen}
 use Rattle.rvf_case.specs.Texts.{file_texts, texts_for}
 use Rattle.rvf_case.proofs.asked.texts_for.Given as goal
 

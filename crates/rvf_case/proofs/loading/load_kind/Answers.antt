@@ -1,7 +1,7 @@
 use Rattle.std.proofs.Common.{◌∙◌, ap, refl, subst, sym}
 use Rattle.std.specs.List.{AllByRecursion}
 use Rattle.ck_cfg.specs.Lawful.{IsCheck}
-use Rattle.rvf_text.specs.Texts.{lines_seen, texts_seen}
+use Rattle.vl_text.specs.Texts.{lines_seen, texts_seen}
 use Rattle.rvf_case.proofs.Counting.{few_factors}
 use Rattle.rvf_case.proofs.Turns.{answered}
 use Rattle.rvf_case.proofs.loading.load_kind.Goals as goal

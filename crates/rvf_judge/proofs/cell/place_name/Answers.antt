@@ -2,8 +2,8 @@ use mir.Val.{SFits}
 use mir.Syntax.{w128}
 use Rattle.std.proofs.Common.{◌≡◌, ◌∙◌, sym, subst, arith, rules, IfOk, ℕ, List}
 use Rattle.std.proofs.lemmas.Int.{to_z-of_z}
-use Rattle.note_lines.proofs.Words.{named_word, no_word}
-use Rattle.note_lines.proofs.cell.place_name.Goals as goal
+use Rattle.rvf_judge.proofs.Words.{named_word, no_word}
+use Rattle.rvf_judge.proofs.cell.place_name.Goals as goal
 
 pub returns-then-from-distance : goal.returns-then-from-distance
 returns-then-from-distance c =

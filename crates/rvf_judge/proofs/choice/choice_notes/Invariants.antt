@@ -1,6 +1,6 @@
 use Rattle.std.proofs.Common.{◌≡◌, ◌++◌, drop}
-use Rattle.note_lines.specs.Parts.{placed_notes}
-use Rattle.note_lines.proofs.choice.choice_notes.Given as goal
+use Rattle.rvf_judge.specs.NoteLinesParts.{placed_notes}
+use Rattle.rvf_judge.proofs.choice.choice_notes.Given as goal
 
 abbrev pub invariant-loop-place : goal.invariant-loop-place
 invariant-loop-place l =

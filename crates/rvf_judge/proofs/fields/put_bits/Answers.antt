@@ -1,5 +1,5 @@
-use Rattle.note_lines.proofs.FieldBits.{bits_step}
-use Rattle.note_lines.proofs.fields.put_bits.Goals as goal
+use Rattle.rvf_judge.proofs.FieldBits.{bits_step}
+use Rattle.rvf_judge.proofs.fields.put_bits.Goals as goal
 
 pub loop-bit-preserved : goal.loop-bit-preserved
 loop-bit-preserved c =

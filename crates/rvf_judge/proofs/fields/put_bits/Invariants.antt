@@ -1,6 +1,6 @@
 use Rattle.std.proofs.Common.{◌≡◌, ◌++◌, ◌-◌}
-use Rattle.note_lines.specs.Parts.{bits_from}
-use Rattle.note_lines.proofs.fields.put_bits.Given as goal
+use Rattle.rvf_judge.specs.NoteLinesParts.{bits_from}
+use Rattle.rvf_judge.proofs.fields.put_bits.Given as goal
 
 abbrev pub invariant-loop-bit : goal.invariant-loop-bit
 invariant-loop-bit l =

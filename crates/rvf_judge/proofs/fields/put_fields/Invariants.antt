@@ -1,6 +1,6 @@
 use Rattle.std.proofs.Common.{◌≡◌, ◌++◌, drop}
-use Rattle.ck_notes.specs.Notes.{field_notes}
-use Rattle.note_lines.proofs.fields.put_fields.Given as goal
+use Rattle.ck_design.specs.Notes.{field_notes}
+use Rattle.rvf_judge.proofs.fields.put_fields.Given as goal
 
 abbrev pub invariant-loop-index : goal.invariant-loop-index
 invariant-loop-index l =

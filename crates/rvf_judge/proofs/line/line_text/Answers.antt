@@ -1,7 +1,7 @@
 use Rattle.std.proofs.Common.{sym, subst, ◌∙◌, arith}
 use Rattle.cnf_text.specs.Dimacs.{HasNoEnd}
-use Rattle.note_lines.proofs.Lines.{line_no_end}
-use Rattle.note_lines.proofs.line.line_text.Goals as goal
+use Rattle.rvf_judge.proofs.NoteLinesLines.{line_no_end}
+use Rattle.rvf_judge.proofs.line.line_text.Goals as goal
 
 pub returns-clause-one_line : goal.returns-clause-one_line
 returns-clause-one_line c =

@@ -1,5 +1,5 @@
 use Rattle.std.proofs.Common.{◌≡◌, ◌++◌, drop, map}
-use Rattle.note_lines.specs.Lines.{note_text}
+use Rattle.rvf_judge.specs.Lines.{note_text}
 use Rattle.rvf_judge.proofs.texts.note_texts.Given as goal
 
 abbrev pub invariant-loop-note : goal.invariant-loop-note

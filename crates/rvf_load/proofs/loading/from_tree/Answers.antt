@@ -5,7 +5,7 @@ use Rattle.vl_tree.specs.WellFormed.{IsModule}
 use Rattle.vl_tree.specs.declared.source.Module.{Module}
 use Rattle.rv_table.specs.declared.retire.Opts.{Opts}
 use Rattle.rvfi_port.specs.declared.port.Wants.{Wants}
-use Rattle.rvf_text.specs.SourceText.{Reading}
+use Rattle.vl_text.specs.SourceText.{Reading}
 use Rattle.rvf_load.specs.Loads.{Asked, IsFlat, opts_of}
 use Rattle.rvf_load.specs.Stages.{IsInOrder, IsWeighed}
 use Rattle.rvf_load.proofs.Joining.{ordered_there, refused_there}

@@ -1,6 +1,6 @@
 use Rattle.vl_prep.specs.Macros.{held}
-use Rattle.rvf_text.specs.SourceText.{Reading}
-use Rattle.rvf_text.specs.Texts.{lines_seen, texts_seen}
+use Rattle.vl_text.specs.SourceText.{Reading}
+use Rattle.vl_text.specs.Texts.{lines_seen, texts_seen}
 use Rattle.rvf_load.specs.Loads.{Asked}
 use Rattle.rvf_load.proofs.Joining.{are_modules, text_answered, tree_answered}
 use Rattle.rvf_load.proofs.loading.load.Goals as goal

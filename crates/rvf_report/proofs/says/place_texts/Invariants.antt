@@ -1,6 +1,6 @@
 use Rattle.std.proofs.Common.{◌≡◌, ◌++◌, drop, map}
-use Rattle.rvf_lines.specs.Printed.{place_text}
-use Rattle.rvf_lines.proofs.says.place_texts.Given as goal
+use Rattle.rvf_report.specs.Printed.{place_text}
+use Rattle.rvf_report.proofs.says.place_texts.Given as goal
 
 abbrev pub invariant-loop-place : goal.invariant-loop-place
 invariant-loop-place l =

@@ -1,6 +1,6 @@
 use Rattle.std.proofs.Common.{◌≡◌, ◌++◌, drop}
-use Rattle.rvf_lines.specs.Printed.{more_values}
-use Rattle.rvf_lines.proofs.word.put_values.Given as goal
+use Rattle.rvf_report.specs.Printed.{more_values}
+use Rattle.rvf_report.proofs.word.put_values.Given as goal
 
 abbrev pub invariant-loop-value : goal.invariant-loop-value
 invariant-loop-value l =

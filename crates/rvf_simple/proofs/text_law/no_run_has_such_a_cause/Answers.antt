@@ -1,6 +1,6 @@
 use Rattle.rvf_case.specs.Texts.{asked_for}
 use Rattle.rvf_simple.proofs.Elaborated.{never_refused_by_elaboration}
-use Rattle.rvf_simple.proofs.law.no_run_has_such_a_cause.Goals as goal
+use Rattle.rvf_simple.proofs.text_law.no_run_has_such_a_cause.Goals as goal
 
 pub returns : goal.returns
 returns c q seen f names it h =

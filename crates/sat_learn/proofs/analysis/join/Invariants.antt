@@ -1,6 +1,6 @@
 use Rattle.std.proofs.Common.{◌≡◌, ◌&&◌, ◌||◌, ℤ, take}
 use Rattle.lrat_check.specs.Sets.{has}
-use Rattle.sat_watch.specs.Watches.{is_other}
+use Rattle.sat_propagate.specs.Watches.{is_other}
 use Rattle.sat_learn.proofs.analysis.join.Given as goal
 
 -- so many literals of the clause came

@@ -3,7 +3,7 @@ use Rattle.std.proofs.lemmas.Bool.{true≢false}
 use Rattle.lrat_check.specs.Sets.{reading}
 use Rattle.sat_trail.specs.Trail.{Entries, lits, below, Stand}
 use Rattle.sat_trail.specs.Clauses.{Within}
-use Rattle.sat_watch.specs.Laws.{IsOlder}
+use Rattle.sat_propagate.specs.Laws.{IsOlder}
 use Rattle.sat_learn.proofs.Cuts.{older_below, older_on}
 use Rattle.sat_learn.specs.Analysis.{FalseLast, is_unit}
 use Rattle.sat_learn.proofs.Levels.{below_within}

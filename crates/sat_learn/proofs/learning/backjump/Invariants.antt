@@ -2,7 +2,7 @@ use Rattle.std.proofs.Common.{◌≡◌, true, length}
 use Rattle.lrat_check.specs.Sets.{reading}
 use Rattle.sat_trail.specs.Trail.{lits, Stand}
 use Rattle.sat_trail.specs.Clauses.{Within}
-use Rattle.sat_watch.specs.Laws.{IsOlder}
+use Rattle.sat_propagate.specs.Laws.{IsOlder}
 use Rattle.sat_learn.specs.Analysis.{FalseLast, is_unit}
 use Rattle.sat_learn.proofs.learning.backjump.Given as goal
 

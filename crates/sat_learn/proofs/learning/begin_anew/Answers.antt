@@ -1,7 +1,7 @@
 use Rattle.std.proofs.Common.{sym, ◌∙◌, subst, length, ◌<◌}
 use Rattle.sat_trail.specs.Trail.{Entries, lits, below, Stand}
 use Rattle.sat_trail.specs.Clauses.{Within}
-use Rattle.sat_watch.specs.Laws.{IsOlder}
+use Rattle.sat_propagate.specs.Laws.{IsOlder}
 use Rattle.sat_learn.proofs.Cuts.{older_below, older_on}
 use Rattle.sat_learn.proofs.Levels.{below_within}
 use Rattle.sat_learn.proofs.Jumps.{stand_below, below_shorter}

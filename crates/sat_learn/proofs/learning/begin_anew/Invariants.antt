@@ -1,7 +1,7 @@
 use Rattle.std.proofs.Common.{List, ℤ, length}
 use Rattle.sat_trail.specs.Trail.{lits, Stand}
 use Rattle.sat_trail.specs.Clauses.{Within}
-use Rattle.sat_watch.specs.Laws.{IsOlder}
+use Rattle.sat_propagate.specs.Laws.{IsOlder}
 use Rattle.sat_learn.proofs.learning.begin_anew.Given as goal
 
 abbrev pub invariant-loop-trail : goal.invariant-loop-trail

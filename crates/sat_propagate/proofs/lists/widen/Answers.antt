@@ -1,6 +1,6 @@
 use Rattle.std.proofs.Common.{◌∙◌}
-use Rattle.sat_watch.proofs.ListSteps.{widened}
-use Rattle.sat_watch.proofs.lists.widen.Goals as goal
+use Rattle.sat_propagate.proofs.ListSteps.{widened}
+use Rattle.sat_propagate.proofs.lists.widen.Goals as goal
 
 pub grow-preserved : goal.grow-preserved
 grow-preserved c =

@@ -1,6 +1,6 @@
 use Rattle.sat_trail.specs.Trail.{true_codes}
-use Rattle.sat_watch.specs.Watching.{NoneFrom}
-use Rattle.sat_watch.proofs.look.find.Given as goal
+use Rattle.sat_propagate.specs.Watching.{NoneFrom}
+use Rattle.sat_propagate.proofs.look.find.Given as goal
 
 -- the literals so far are false or the other one
 abbrev pub invariant-loop-k : goal.invariant-loop-k

@@ -1,7 +1,7 @@
 use Rattle.std.proofs.Common.{◌-◌, ap, sym, ◌∙◌, arith}
 use Rattle.sat_trail.specs.Trail.{true_codes, has_code}
-use Rattle.sat_watch.proofs.Looks.{has_index, last_one, all_false}
-use Rattle.sat_watch.proofs.look.look_at.Goals as goal
+use Rattle.sat_propagate.proofs.Looks.{has_index, last_one, all_false}
+use Rattle.sat_propagate.proofs.look.look_at.Goals as goal
 
 pub returns-then-is_false : goal.returns-then-is_false
 returns-then-is_false c =

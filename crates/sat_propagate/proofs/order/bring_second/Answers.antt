@@ -1,8 +1,8 @@
 use Rattle.std.proofs.Common.{◌≡◌, length, w64, to_z, of_z, Some, None, refl, ap, sym, subst, ◌∙◌, arith}
 use Rattle.lrat_check.specs.Sets.{has}
-use Rattle.sat_watch.specs.Watches.{Latest, lit_at}
-use Rattle.sat_watch.proofs.Orders.{same_swap, second_beyond, lead_second, one_alone, first_kept}
-use Rattle.sat_watch.proofs.order.bring_second.Goals as goal
+use Rattle.sat_propagate.specs.Watches.{Latest, lit_at}
+use Rattle.sat_propagate.proofs.Orders.{same_swap, second_beyond, lead_second, one_alone, first_kept}
+use Rattle.sat_propagate.proofs.order.bring_second.Goals as goal
 
 pub returns-in-Some-clause-found : goal.returns-in-Some-clause-found
 returns-in-Some-clause-found c =

@@ -1,5 +1,5 @@
-use Rattle.sat_watch.specs.Watches.{Latest}
-use Rattle.sat_watch.proofs.order.latest.Given as goal
+use Rattle.sat_propagate.specs.Watches.{Latest}
+use Rattle.sat_propagate.proofs.order.latest.Given as goal
 
 -- so many literals were looked at
 abbrev pub invariant-loop-place : goal.invariant-loop-place

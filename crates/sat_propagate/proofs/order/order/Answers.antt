@@ -1,8 +1,8 @@
 use Rattle.std.proofs.Common.{length, Some, None, ap, sym, subst, ◌∙◌, arith}
 use Rattle.lrat_check.specs.Sets.{has}
-use Rattle.sat_watch.specs.Watches.{Latest, Leads, SameLits}
-use Rattle.sat_watch.proofs.Orders.{same_swap, lead_first, alone_on}
-use Rattle.sat_watch.proofs.order.order.Goals as goal
+use Rattle.sat_propagate.specs.Watches.{Latest, Leads, SameLits}
+use Rattle.sat_propagate.proofs.Orders.{same_swap, lead_first, alone_on}
+use Rattle.sat_propagate.proofs.order.order.Goals as goal
 
 pub bring_second-requires-clause-first : goal.bring_second-requires-clause-first
 bring_second-requires-clause-first c =

@@ -2,10 +2,11 @@ use Rattle.std.proofs.Common.{◌≡◌, [], ◌∷◌, ◌++◌, refl, ap, sym,
 use Rattle.std.proofs.lemmas.List.{append-nil}
 use Rattle.lrat_check.specs.Store.{coded, next}
 use Rattle.sat_trail.specs.Trail.{true_codes}
-use Rattle.sat_watch.specs.Watching.{lists_of, watch_at, Ready, Fits, AreFit, KeepsFit}
-use Rattle.sat_watch.proofs.Goings.{fit_parts, fit_on, going_on, going_new, going_same, passes_of, unit_of, conflict_of}
-use Rattle.sat_watch.proofs.Readies.{same_on, all_last, fits_new}
-use Rattle.sat_watch.proofs.visit.visit_list.Goals as goal
+use Rattle.sat_propagate.specs.Watching.{lists_of, watch_at, Ready, Fits, AreFit, KeepsFit}
+use Rattle.sat_propagate.proofs.Goings.{fit_parts, fit_on, going_on, going_new, going_same, passes_of, unit_of}
+use Rattle.sat_propagate.proofs.Goings.{conflict_of}
+use Rattle.sat_propagate.proofs.Readies.{same_on, all_last, fits_new}
+use Rattle.sat_propagate.proofs.visit.visit_list.Goals as goal
 
 pub loop-watch-preserved : goal.loop-watch-preserved
 loop-watch-preserved c =

@@ -1,8 +1,8 @@
 use Rattle.std.proofs.Common.{◌≡◌, vec_len}
 use Rattle.lrat_check.specs.Store.{coded, next}
 use Rattle.sat_trail.specs.Trail.{true_codes}
-use Rattle.sat_watch.specs.Watching.{lists_of, Ready, AreFit, SameHeld, Going}
-use Rattle.sat_watch.proofs.visit.visit_list.Given as goal
+use Rattle.sat_propagate.specs.Watching.{lists_of, Ready, AreFit, SameHeld, Going}
+use Rattle.sat_propagate.proofs.visit.visit_list.Given as goal
 
 -- the list was gone through up to what is left
 abbrev pub invariant-loop-watch : goal.invariant-loop-watch

@@ -1,10 +1,10 @@
 use Rattle.std.proofs.Common.{◌≡◌, refl, ap, sym, ◌∙◌, arith}
 use Rattle.lrat_check.specs.Store.{coded, next}
 use Rattle.sat_trail.specs.Trail.{true_codes}
-use Rattle.sat_watch.specs.Watching.{lists_of, with_watch, watch_at}
-use Rattle.sat_watch.proofs.Visits.{satisfies, passed, passed_by, moved, calm_moved}
-use Rattle.sat_watch.proofs.Readies.{ready_push, ready_moved, fits_move, fits_new, same_moved}
-use Rattle.sat_watch.proofs.visit.visit_watch.Goals as goal
+use Rattle.sat_propagate.specs.Watching.{lists_of, with_watch, watch_at}
+use Rattle.sat_propagate.proofs.Visits.{satisfies, passed, passed_by, moved, calm_moved}
+use Rattle.sat_propagate.proofs.Readies.{ready_push, ready_moved, fits_move, fits_new, same_moved}
+use Rattle.sat_propagate.proofs.visit.visit_watch.Goals as goal
 
 pub returns-then-is_true-clause-visits : goal.returns-then-is_true-clause-visits
 returns-then-is_true-clause-visits c =

@@ -1,6 +1,6 @@
 use Rattle.lrat_check.specs.Store.{coded}
-use Rattle.sat_watch.proofs.Gaps.{left_out}
-use Rattle.sat_watch.proofs.watches.leave_out.Goals as goal
+use Rattle.sat_propagate.proofs.Gaps.{left_out}
+use Rattle.sat_propagate.proofs.watches.leave_out.Goals as goal
 
 pub returns-clause-same : goal.returns-clause-same
 returns-clause-same c =

@@ -4,7 +4,7 @@ use Rattle.lrat_check.specs.declared.step.Step.{Step}
 use Rattle.lrat_check.specs.Resolved.{Resolved, derived}
 use Rattle.lrat_check.specs.Steps.{Refutes, Valid, AreSteps}
 use Rattle.sat_trail.specs.Trail.{lits}
-use Rattle.sat_ledger.specs.Added.{AreAdded}
+use Rattle.sat_search.specs.Added.{AreAdded}
 use Rattle.sat_search.specs.declared.turn.Turn.TheVariants as turn
 use Rattle.sat_search.specs.Found.{nonempty}
 use Rattle.sat_search.proofs.Comes.{comes}

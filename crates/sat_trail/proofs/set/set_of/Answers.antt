@@ -2,9 +2,9 @@ use Rattle.std.proofs.Common.{◌≡◌, ◌+◌, suc, arith, [], pos, get_or, t
 use Rattle.std.specs.Ordering.{int_cmp}
 use Rattle.std.specs.BTreeSet.{insert_key}
 use Rattle.std.proofs.Math.Seq.{take-suc}
-use Rattle.clause_set.specs.Sorted.{sorted}
-use Rattle.clause_set.proofs.Same.{into_more, kept_at}
-use Rattle.clause_set.proofs.set.set_of.Goals as goal
+use Rattle.sat_trail.specs.Sorted.{sorted}
+use Rattle.sat_trail.proofs.Same.{into_more, kept_at}
+use Rattle.sat_trail.proofs.set.set_of.Goals as goal
 
 pub loop-lit-preserved : goal.loop-lit-preserved
 loop-lit-preserved c =

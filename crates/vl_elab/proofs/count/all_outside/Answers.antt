@@ -1,8 +1,8 @@
 use Rattle.std.proofs.Common.{arith, get_or}
 use Rattle.std.proofs.lemmas.Option.{slice_get-get_or}
-use Rattle.vl_state.proofs.Counting.{mask_more, masks_end}
-use Rattle.vl_state.specs.Bits.{all_outside}
-use Rattle.vl_state.proofs.count.all_outside.Goals as goal
+use Rattle.vl_elab.proofs.Counting.{mask_more, masks_end}
+use Rattle.vl_elab.specs.Bits.{all_outside}
+use Rattle.vl_elab.proofs.count.all_outside.Goals as goal
 
 pub loop-mask-init : goal.loop-mask-init
 loop-mask-init c = record { count = omega arith; few = omega arith }

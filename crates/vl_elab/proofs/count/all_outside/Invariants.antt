@@ -1,6 +1,6 @@
 use Rattle.std.proofs.Common.{◌≡◌, ◌+◌, ◌*◌, ◌≤◌, drop}
-use Rattle.vl_state.specs.Bits.{all_outside}
-use Rattle.vl_state.proofs.count.all_outside.Given as goal
+use Rattle.vl_elab.specs.Bits.{all_outside}
+use Rattle.vl_elab.proofs.count.all_outside.Given as goal
 
 abbrev pub invariant-loop-mask : goal.invariant-loop-mask
 invariant-loop-mask l = record {

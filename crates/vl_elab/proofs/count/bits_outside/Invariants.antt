@@ -1,6 +1,6 @@
 use Rattle.std.proofs.Common.{◌≡◌, ◌≤◌}
-use Rattle.vl_state.specs.Bits.{bits_outside}
-use Rattle.vl_state.proofs.count.bits_outside.Given as goal
+use Rattle.vl_elab.specs.Bits.{bits_outside}
+use Rattle.vl_elab.proofs.count.bits_outside.Given as goal
 
 abbrev pub invariant-loop-bit : goal.invariant-loop-bit
 invariant-loop-bit l = record {

@@ -1,11 +1,11 @@
 use Rattle.std.proofs.Common.{◌≡◌, ◌≤◌, ap, arith, length, subst, sym, ◌∙◌}
 use Rattle.vl_mean.specs.FlatLaw.{all_names_count}
-use Rattle.flow_cells.specs.Numbered.{all_cells, first_cell}
-use Rattle.flow_cells.proofs.Numbers.{first_few}
-use Rattle.flow_order.proofs.Cells.{all_length}
-use Rattle.vl_driven.specs.Masks.{AreDriven}
-use Rattle.vl_state.proofs.Told.{counted}
-use Rattle.vl_state.proofs.count.state_bits.Goals as goal
+use Rattle.vl_flow_cells.specs.Numbered.{all_cells, first_cell}
+use Rattle.vl_flow_cells.proofs.Numbers.{first_few}
+use Rattle.vl_flow_order.proofs.Cells.{all_length}
+use Rattle.vl_flow_effects.specs.Masks.{AreDriven}
+use Rattle.vl_elab.proofs.Told.{counted}
+use Rattle.vl_elab.proofs.count.state_bits.Goals as goal
 
 pub variable_bits-requires-clause-cells : goal.variable_bits-requires-clause-cells
 variable_bits-requires-clause-cells c =

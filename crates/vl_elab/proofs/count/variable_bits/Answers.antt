@@ -5,10 +5,10 @@ use Rattle.std.specs.Option.{option_copied}
 use Rattle.vl_mean.specs.Cells.{cells}
 use Rattle.vl_mean.specs.FlatLaw.{IsKept}
 use Rattle.vl_size.specs.Table.{IsShaped}
-use Rattle.flow_cells.proofs.Lists.{all_at, get_some}
-use Rattle.vl_state.proofs.Counting.{AreLeft, next, room, starts}
-use Rattle.vl_state.specs.Bits.{mask_bits}
-use Rattle.vl_state.proofs.count.variable_bits.Goals as goal
+use Rattle.vl_flow_cells.proofs.Lists.{all_at, get_some}
+use Rattle.vl_elab.proofs.Counting.{AreLeft, next, room, starts}
+use Rattle.vl_elab.specs.Bits.{mask_bits}
+use Rattle.vl_elab.proofs.count.variable_bits.Goals as goal
 
 pub loop-index-init : goal.loop-index-init
 loop-index-init c = starts c.args.decls.now c.args.masks.now c.requires.cells

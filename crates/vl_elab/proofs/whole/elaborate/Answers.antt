@@ -1,7 +1,7 @@
 use Rattle.std.proofs.Common.{◌≡◌, None, ap, sym, ◌∙◌}
 use Rattle.vl_mean.specs.Parts.{design}
-use Rattle.vl_refusal.specs.Refused.{or_later, state_bits, too_many_bits}
-use Rattle.vl_design.proofs.Steps.{design_maps}
+use Rattle.vl_elab_spec.specs.Refused.{or_later, state_bits, too_many_bits}
+use Rattle.vl_elab_flatten_laws.proofs.DesignSteps.{design_maps}
 use Rattle.vl_elab.proofs.Deciding.{bits_decide, no_fault, no_step}
 use Rattle.vl_elab.proofs.whole.elaborate.Goals as goal
 

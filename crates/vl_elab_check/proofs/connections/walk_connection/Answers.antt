@@ -1,8 +1,8 @@
 use Rattle.std.proofs.Common.{refl, ◌∙◌, ◌∷◌, []}
 use Rattle.vl_mean.specs.Walk.{connection}
-use Rattle.name_set.specs.Known.{contains}
-use Rattle.vl_step.proofs.NameLemmas.{same_names}
-use Rattle.vl_weigh.proofs.connections.walk_connection.Goals as goal
+use Rattle.vl_elab_names.specs.Known.{contains}
+use Rattle.vl_elab_check_scope.proofs.NameLemmas.{same_names}
+use Rattle.vl_elab_check.proofs.connections.walk_connection.Goals as goal
 
 pub returns-clause-walked : goal.returns-clause-walked
 returns-clause-walked c ms at m u inside t before directions stands inner names known =

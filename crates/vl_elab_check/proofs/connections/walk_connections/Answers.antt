@@ -2,9 +2,9 @@ use Rattle.std.proofs.Common.{◌≡◌, ◌∙◌, ◌+◌, ◌++◌, [], ◌�
 use Rattle.std.specs.Prelude.{drop}
 use Rattle.std.proofs.lemmas.Grind.{common_steps}
 use Rattle.vl_mean.specs.Walk.{connection, connection_steps}
-use Rattle.vl_weigh.specs.Left.{AreLeft}
-use Rattle.vl_weigh.proofs.Rest.{found_none, none_at_all, left_start, left_on, left_stop, left_end}
-use Rattle.vl_weigh.proofs.connections.walk_connections.Goals as goal
+use Rattle.vl_elab_check.specs.Left.{AreLeft}
+use Rattle.vl_elab_check.proofs.Rest.{found_none, none_at_all, left_start, left_on, left_stop, left_end}
+use Rattle.vl_elab_check.proofs.connections.walk_connections.Goals as goal
 
 pub returns-then-is_empty : goal.returns-then-is_empty
 returns-then-is_empty c ms at u inside t same inner known =

@@ -3,15 +3,15 @@ use Rattle.std.specs.Prelude.{drop}
 use Rattle.vl_tree.specs.declared.source.Module.{Module}
 use Rattle.vl_mean.specs.Scopes.{Scope}
 use Rattle.vl_mean.specs.Walk.{Place, Use, connection_steps}
-use Rattle.vl_refusal.specs.Items.{inner_meanings}
-use Rattle.vl_refusal.specs.Meanings.{meanings_at}
-use Rattle.vl_refusal.specs.Refused.{Totals}
-use Rattle.vl_alike.specs.Alike.{Alike}
-use Rattle.name_set.specs.Known.{AreNames, contains}
-use Rattle.vl_stand.specs.Stands.{Stands}
-use Rattle.vl_walked.specs.Walked.{AreTotals}
-use Rattle.vl_weigh.specs.Left.{AreLeft}
-use Rattle.vl_weigh.proofs.connections.walk_connections.Given as goal
+use Rattle.vl_elab_spec.specs.Items.{inner_meanings}
+use Rattle.vl_elab_spec.specs.Meanings.{meanings_at}
+use Rattle.vl_elab_spec.specs.Refused.{Totals}
+use Rattle.vl_elab_scope.specs.Alike.{Alike}
+use Rattle.vl_elab_names.specs.Known.{AreNames, contains}
+use Rattle.vl_elab_decls.specs.Stands.{Stands}
+use Rattle.vl_elab_spec.specs.Walked.{AreTotals}
+use Rattle.vl_elab_check.specs.Left.{AreLeft}
+use Rattle.vl_elab_check.proofs.connections.walk_connections.Given as goal
 
 abbrev pub invariant-loop-given : goal.invariant-loop-given
 invariant-loop-given l =

@@ -1,6 +1,6 @@
 use Rattle.std.proofs.Common.{refl}
 use Rattle.vl_mean.specs.Walk.{header}
-use Rattle.vl_weigh.proofs.headers.walk_header.Goals as goal
+use Rattle.vl_elab_check.proofs.headers.walk_header.Goals as goal
 
 pub returns-clause-walked : goal.returns-clause-walked
 returns-clause-walked c ms at t same names reached gives known =

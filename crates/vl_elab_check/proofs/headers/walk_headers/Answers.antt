@@ -4,13 +4,13 @@ use Rattle.std.proofs.lemmas.Grind.{common_steps}
 use Rattle.std.proofs.lemmas.List.{append_assoc, append-nil}
 use Rattle.vl_mean.specs.Declarations.{header_parameters}
 use Rattle.vl_mean.specs.Walk.{Place, header, header_steps, parameter_names, with_earlier}
-use Rattle.vl_refusal.specs.Meanings.{meanings_at}
-use Rattle.vl_alike.specs.Alike.{Alike}
-use Rattle.name_set.specs.Known.{AreNames}
-use Rattle.vl_reach.specs.Reached.{IsReached}
-use Rattle.vl_weigh.specs.Left.{AreLeft}
-use Rattle.vl_weigh.proofs.Rest.{found_none, none_found, left_start, left_on, left_stop, left_end}
-use Rattle.vl_weigh.proofs.headers.walk_headers.Goals as goal
+use Rattle.vl_elab_spec.specs.Meanings.{meanings_at}
+use Rattle.vl_elab_scope.specs.Alike.{Alike}
+use Rattle.vl_elab_names.specs.Known.{AreNames}
+use Rattle.vl_elab_params.specs.Reached.{IsReached}
+use Rattle.vl_elab_check.specs.Left.{AreLeft}
+use Rattle.vl_elab_check.proofs.Rest.{found_none, none_found, left_start, left_on, left_stop, left_end}
+use Rattle.vl_elab_check.proofs.headers.walk_headers.Goals as goal
 
 pub loop-parameter-init : goal.loop-parameter-init
 loop-parameter-init c = record {

@@ -3,15 +3,15 @@ use Rattle.std.specs.Prelude.{drop}
 use Rattle.vl_tree.specs.declared.source.Module.{Module}
 use Rattle.vl_mean.specs.Declarations.{header_parameters}
 use Rattle.vl_mean.specs.Walk.{Place, header_steps, parameter_names}
-use Rattle.vl_refusal.specs.Meanings.{meanings_at}
-use Rattle.vl_refusal.specs.Refused.{Totals}
-use Rattle.vl_alike.specs.Alike.{Alike}
-use Rattle.name_set.specs.Known.{AreNames}
-use Rattle.vl_reach.specs.Reached.{IsReached}
-use Rattle.vl_earlier.specs.Gives.{Gives}
-use Rattle.vl_walked.specs.Walked.{AreTotals}
-use Rattle.vl_weigh.specs.Left.{AreLeft}
-use Rattle.vl_weigh.proofs.headers.walk_headers.Given as goal
+use Rattle.vl_elab_spec.specs.Meanings.{meanings_at}
+use Rattle.vl_elab_spec.specs.Refused.{Totals}
+use Rattle.vl_elab_scope.specs.Alike.{Alike}
+use Rattle.vl_elab_names.specs.Known.{AreNames}
+use Rattle.vl_elab_params.specs.Reached.{IsReached}
+use Rattle.vl_elab_check_scope.specs.Gives.{Gives}
+use Rattle.vl_elab_spec.specs.Walked.{AreTotals}
+use Rattle.vl_elab_check.specs.Left.{AreLeft}
+use Rattle.vl_elab_check.proofs.headers.walk_headers.Given as goal
 
 abbrev pub invariant-loop-parameter : goal.invariant-loop-parameter
 invariant-loop-parameter l =

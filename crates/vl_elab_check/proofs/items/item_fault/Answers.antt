@@ -14,10 +14,10 @@ use Rattle.vl_tree.specs.Item.{
   generate,
   for_loop,
 }
-use Rattle.vl_refusal.specs.Meanings.{meanings_at}
-use Rattle.vl_weigh.proofs.ItemKinds.{on_ok_always, refused_as, named_as, reached_as, no_names, none_reached}
-use Rattle.vl_weigh.proofs.ItemKinds.{loop_refused, if_refused, if_named, if_reached}
-use Rattle.vl_weigh.proofs.items.item_fault.Goals as goal
+use Rattle.vl_elab_spec.specs.Meanings.{meanings_at}
+use Rattle.vl_elab_check.proofs.ItemKinds.{on_ok_always, refused_as, named_as, reached_as, no_names, none_reached}
+use Rattle.vl_elab_check.proofs.ItemKinds.{loop_refused, if_refused, if_named, if_reached}
+use Rattle.vl_elab_check.proofs.items.item_fault.Goals as goal
 
 pub returns-in-Declaration-clause-fault : goal.returns-in-Declaration-clause-fault
 returns-in-Declaration-clause-fault c =

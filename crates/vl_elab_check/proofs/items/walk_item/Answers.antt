@@ -1,12 +1,12 @@
 use Rattle.std.proofs.Common.{◌∙◌, ◌++◌, ap, sym, subst}
 use Rattle.vl_mean.specs.Walk.{item}
-use Rattle.vl_refusal.specs.Counts.{item_pos}
-use Rattle.vl_refusal.specs.Meanings.{meanings_at}
-use Rattle.vl_alike.specs.Alike.{Alike}
-use Rattle.vl_reach.specs.Reached.{IsReached}
-use Rattle.vl_weigh.specs.Here.{IsAt, own_parameters}
-use Rattle.vl_weigh.proofs.ItemKinds.{all_own, shown_pos}
-use Rattle.vl_weigh.proofs.items.walk_item.Goals as goal
+use Rattle.vl_elab_spec.specs.Counts.{item_pos}
+use Rattle.vl_elab_spec.specs.Meanings.{meanings_at}
+use Rattle.vl_elab_scope.specs.Alike.{Alike}
+use Rattle.vl_elab_params.specs.Reached.{IsReached}
+use Rattle.vl_elab_check.specs.Here.{IsAt, own_parameters}
+use Rattle.vl_elab_check.proofs.ItemKinds.{all_own, shown_pos}
+use Rattle.vl_elab_check.proofs.items.walk_item.Goals as goal
 
 pub returns-clause-walked : goal.returns-clause-walked
 returns-clause-walked c at t here path known =

@@ -4,11 +4,11 @@ use Rattle.std.proofs.lemmas.Result.{on_ok_weaker}
 use Rattle.std.proofs.lemmas.List.{append_assoc}
 use Rattle.vl_mean.specs.Cells.{contains_name}
 use Rattle.vl_mean.specs.Declarations.{labels_of}
-use Rattle.vl_refusal.specs.Meanings.{item_names}
-use Rattle.name_set.specs.Known.{AreNames, contains}
-use Rattle.vl_step.proofs.NameLemmas.{same_names}
-use Rattle.vl_weigh.proofs.ItemKinds.{named_instance, labels_behind}
-use Rattle.vl_weigh.proofs.passed.add_rest.Goals as goal
+use Rattle.vl_elab_spec.specs.Meanings.{item_names}
+use Rattle.vl_elab_names.specs.Known.{AreNames, contains}
+use Rattle.vl_elab_check_scope.proofs.NameLemmas.{same_names}
+use Rattle.vl_elab_check.proofs.ItemKinds.{named_instance, labels_behind}
+use Rattle.vl_elab_check.proofs.passed.add_rest.Goals as goal
 
 pub returns-in-None : goal.returns-in-None
 returns-in-None c =

@@ -1,9 +1,9 @@
 use Rattle.std.proofs.Common.{◌∙◌, ◌++◌, ap, sym, subst}
 use Rattle.std.proofs.lemmas.Result.{on_ok_weaker}
 use Rattle.std.proofs.lemmas.List.{append-nil}
-use Rattle.vl_reach.specs.Reached.{IsReached}
-use Rattle.vl_weigh.proofs.ItemKinds.{objects_own, no_objects_own}
-use Rattle.vl_weigh.proofs.passed.pass_declared.Goals as goal
+use Rattle.vl_elab_params.specs.Reached.{IsReached}
+use Rattle.vl_elab_check.proofs.ItemKinds.{objects_own, no_objects_own}
+use Rattle.vl_elab_check.proofs.passed.pass_declared.Goals as goal
 
 pub returns-then-is_of_objects : goal.returns-then-is_of_objects
 returns-then-is_of_objects c =

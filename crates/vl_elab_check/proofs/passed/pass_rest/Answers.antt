@@ -1,9 +1,9 @@
 use Rattle.std.proofs.Common.{◌∙◌, ◌++◌, ap, sym, subst}
 use Rattle.std.proofs.lemmas.Result.{on_ok_weaker}
 use Rattle.std.proofs.lemmas.List.{append-nil}
-use Rattle.vl_reach.specs.Reached.{IsReached}
-use Rattle.vl_weigh.proofs.ItemKinds.{within_names, other_names}
-use Rattle.vl_weigh.proofs.passed.pass_rest.Goals as goal
+use Rattle.vl_elab_params.specs.Reached.{IsReached}
+use Rattle.vl_elab_check.proofs.ItemKinds.{within_names, other_names}
+use Rattle.vl_elab_check.proofs.passed.pass_rest.Goals as goal
 
 pub returns-then-has_steps_within : goal.returns-then-has_steps_within
 returns-then-has_steps_within c =

@@ -1,10 +1,10 @@
 use Rattle.std.proofs.Common.{refl, ◌∷◌, []}
 use Rattle.vl_mean.specs.Walk.{port}
-use Rattle.name_set.specs.Known.{contains}
-use Rattle.vl_step.proofs.NameLemmas.{same_names}
-use Rattle.vl_refuse.specs.Short.{renamed}
+use Rattle.vl_elab_names.specs.Known.{contains}
+use Rattle.vl_elab_check_scope.proofs.NameLemmas.{same_names}
+use Rattle.vl_elab_check_scope.specs.Short.{renamed}
 use Rattle.std.proofs.Common.{◌∙◌}
-use Rattle.vl_weigh.proofs.ports.walk_full.Goals as goal
+use Rattle.vl_elab_check.proofs.ports.walk_full.Goals as goal
 
 pub returns-clause-walked : goal.returns-clause-walked
 returns-clause-walked c ms at u t same names known =

@@ -3,13 +3,13 @@ use Rattle.std.specs.Option.{option_copied}
 use Rattle.std.specs.Prelude.{None}
 use Rattle.std.proofs.lemmas.Result.{IfOk-weaker, on_ok_weaker}
 use Rattle.vl_mean.specs.Walk.{optional_name, port_step}
-use Rattle.name_set.specs.Known.{AreNames}
-use Rattle.vl_reach.specs.Reached.{IsReached}
-use Rattle.vl_walked.specs.Walked.{AreWalked}
-use Rattle.vl_walked.proofs.Passed.{none_walked}
-use Rattle.vl_weigh.proofs.ItemKinds.{no_names, none_reached}
-use Rattle.vl_weigh.proofs.Rest.{full_is, none_of}
-use Rattle.vl_weigh.proofs.ports.walk_port.Goals as goal
+use Rattle.vl_elab_names.specs.Known.{AreNames}
+use Rattle.vl_elab_params.specs.Reached.{IsReached}
+use Rattle.vl_elab_spec.specs.Walked.{AreWalked}
+use Rattle.vl_elab_spec.proofs.Passed.{none_walked}
+use Rattle.vl_elab_check.proofs.ItemKinds.{no_names, none_reached}
+use Rattle.vl_elab_check.proofs.Rest.{full_is, none_of}
+use Rattle.vl_elab_check.proofs.ports.walk_port.Goals as goal
 
 pub returns-in-None-clause-walked : goal.returns-in-None-clause-walked
 returns-in-None-clause-walked c ms at u t same names known =

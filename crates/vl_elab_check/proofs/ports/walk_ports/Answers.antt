@@ -5,12 +5,12 @@ use Rattle.std.proofs.lemmas.Grind.{common_steps}
 use Rattle.std.proofs.lemmas.List.{append-nil}
 use Rattle.vl_mean.specs.Declarations.{full_port, full_ports}
 use Rattle.vl_mean.specs.Walk.{Place, optional_name, port_names, port_step, port_steps, with_earlier}
-use Rattle.name_set.specs.Known.{AreNames}
-use Rattle.vl_reach.specs.Reached.{IsReached}
-use Rattle.vl_weigh.specs.Left.{AreLeft}
-use Rattle.vl_weigh.proofs.Rest.{found_none, none_found, left_start, left_on, left_stop, left_end, next_steps}
-use Rattle.vl_weigh.proofs.Rest.{next_names}
-use Rattle.vl_weigh.proofs.ports.walk_ports.Goals as goal
+use Rattle.vl_elab_names.specs.Known.{AreNames}
+use Rattle.vl_elab_params.specs.Reached.{IsReached}
+use Rattle.vl_elab_check.specs.Left.{AreLeft}
+use Rattle.vl_elab_check.proofs.Rest.{found_none, none_found, left_start, left_on, left_stop, left_end, next_steps}
+use Rattle.vl_elab_check.proofs.Rest.{next_names}
+use Rattle.vl_elab_check.proofs.ports.walk_ports.Goals as goal
 
 pub loop-port-init : goal.loop-port-init
 loop-port-init c = record {

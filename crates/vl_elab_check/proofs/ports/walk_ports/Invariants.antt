@@ -4,14 +4,14 @@ use Rattle.std.specs.Prelude.{drop, None}
 use Rattle.vl_tree.specs.declared.source.Module.{Module}
 use Rattle.vl_mean.specs.Declarations.{full_ports}
 use Rattle.vl_mean.specs.Walk.{Place, Use, port_names, port_steps}
-use Rattle.vl_refusal.specs.Meanings.{meanings_at}
-use Rattle.vl_refusal.specs.Refused.{Totals}
-use Rattle.vl_alike.specs.Alike.{Alike}
-use Rattle.name_set.specs.Known.{AreNames}
-use Rattle.vl_reach.specs.Reached.{IsReached}
-use Rattle.vl_walked.specs.Walked.{AreTotals}
-use Rattle.vl_weigh.specs.Left.{AreLeft}
-use Rattle.vl_weigh.proofs.ports.walk_ports.Given as goal
+use Rattle.vl_elab_spec.specs.Meanings.{meanings_at}
+use Rattle.vl_elab_spec.specs.Refused.{Totals}
+use Rattle.vl_elab_scope.specs.Alike.{Alike}
+use Rattle.vl_elab_names.specs.Known.{AreNames}
+use Rattle.vl_elab_params.specs.Reached.{IsReached}
+use Rattle.vl_elab_spec.specs.Walked.{AreTotals}
+use Rattle.vl_elab_check.specs.Left.{AreLeft}
+use Rattle.vl_elab_check.proofs.ports.walk_ports.Given as goal
 
 abbrev pub invariant-loop-port : goal.invariant-loop-port
 invariant-loop-port l =

@@ -1,8 +1,8 @@
 use Rattle.std.proofs.Common.{sym, subst}
 use Rattle.vl_mean.specs.Walk.{overrides_of, use_of}
-use Rattle.vl_number.specs.Given.{IsGiven, value_given}
-use Rattle.vl_refusal.specs.Meanings.{meanings_at}
-use Rattle.vl_judged.proofs.scopes.enter_instance.Goals as goal
+use Rattle.vl_elab_const.specs.Given.{IsGiven, value_given}
+use Rattle.vl_elab_spec.specs.Meanings.{meanings_at}
+use Rattle.vl_elab_check.proofs.scopes.enter_instance.Goals as goal
 
 pub returns-clause-here : goal.returns-clause-here
 returns-clause-here c at text path h formed e =

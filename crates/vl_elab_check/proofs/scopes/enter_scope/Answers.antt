@@ -1,8 +1,8 @@
 use Rattle.vl_tree.specs.Item.{items}
-use Rattle.vl_judged.proofs.Places.{block_entered}
-use Rattle.vl_judged.proofs.Plain.{items_plain}
-use Rattle.name_set.specs.Known.{contains}
-use Rattle.vl_judged.proofs.scopes.enter_scope.Goals as goal
+use Rattle.vl_elab_check.proofs.Places.{block_entered}
+use Rattle.vl_elab_check.proofs.Plain.{items_plain}
+use Rattle.vl_elab_names.specs.Known.{contains}
+use Rattle.vl_elab_check.proofs.scopes.enter_scope.Goals as goal
 
 pub returns-clause-here : goal.returns-clause-here
 returns-clause-here c at path text h formed =

@@ -1,8 +1,8 @@
 use Rattle.std.specs.Prelude.{refl, []}
-use Rattle.vl_number.specs.Given.{value_given}
-use Rattle.vl_stand.proofs.Whole.{nothing_given}
-use Rattle.vl_judged.specs.Judged.{top_use}
-use Rattle.vl_judged.proofs.scopes.enter_top.Goals as goal
+use Rattle.vl_elab_const.specs.Given.{value_given}
+use Rattle.vl_elab_decls.proofs.StandWhole.{nothing_given}
+use Rattle.vl_elab_check.specs.Judged.{top_use}
+use Rattle.vl_elab_check.proofs.scopes.enter_top.Goals as goal
 
 pub returns-clause-here : goal.returns-clause-here
 returns-clause-here c path formed e =

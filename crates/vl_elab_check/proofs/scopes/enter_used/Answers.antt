@@ -3,10 +3,10 @@ use Rattle.std.specs.Prelude.{◌++◌}
 use Rattle.vl_tree.specs.Item.{items}
 use Rattle.vl_mean.specs.Declarations.{header_parameters}
 use Rattle.vl_mean.specs.Walk.{parameter_names}
-use Rattle.vl_refusal.specs.Meanings.{parameters_of}
-use Rattle.vl_judged.proofs.Places.{module_entered}
-use Rattle.vl_judged.proofs.Plain.{module_plain}
-use Rattle.vl_judged.proofs.scopes.enter_used.Goals as goal
+use Rattle.vl_elab_spec.specs.Meanings.{parameters_of}
+use Rattle.vl_elab_check.proofs.Places.{module_entered}
+use Rattle.vl_elab_check.proofs.Plain.{module_plain}
+use Rattle.vl_elab_check.proofs.scopes.enter_used.Goals as goal
 
 pub returns-clause-here : goal.returns-clause-here
 returns-clause-here c u text modules path inputs given formed e =

@@ -1,14 +1,14 @@
 use Rattle.std.proofs.Common.{◌∙◌, ap, sym}
 use Rattle.std.specs.Prelude.{None, true}
-use Rattle.vl_refusal.specs.declared.elab_fault.ElabFault.TheVariants as f
-use Rattle.vl_refusal.specs.Counts.{step_names, step_nodes, step_pos}
-use Rattle.vl_refusal.specs.Expressions.{refused_if}
-use Rattle.vl_refusal.specs.Items.{step_refusals}
-use Rattle.vl_refusal.specs.Refused.{counted, is_too_large, lowest}
-use Rattle.vl_judge.proofs.Lowest.{lowest_two}
-use Rattle.vl_walked.proofs.Passed.{one_walked}
-use Rattle.vl_weigh.proofs.Rest.{lower_alone}
-use Rattle.vl_weigh.proofs.step.weighed.Goals as goal
+use Rattle.vl_elab_spec.specs.declared.elab_fault.ElabFault.TheVariants as f
+use Rattle.vl_elab_spec.specs.Counts.{step_names, step_nodes, step_pos}
+use Rattle.vl_elab_spec.specs.Expressions.{refused_if}
+use Rattle.vl_elab_spec.specs.Items.{step_refusals}
+use Rattle.vl_elab_spec.specs.Refused.{counted, is_too_large, lowest}
+use Rattle.vl_elab_check_expr.proofs.Lowest.{lowest_two}
+use Rattle.vl_elab_spec.proofs.Passed.{one_walked}
+use Rattle.vl_elab_check.proofs.Rest.{lower_alone}
+use Rattle.vl_elab_check.proofs.step.weighed.Goals as goal
 
 pub returns-then-is_too_large : goal.returns-then-is_too_large
 returns-then-is_too_large c ms x t fault nodes names pos known =

@@ -1,9 +1,9 @@
 use Rattle.std.specs.Prelude.{[], ◌∷◌}
 use Rattle.std.proofs.Common.{subst, sym, ◌∙◌}
 use Rattle.vl_mean.specs.Walk.{connections_of, connection_steps, module_scope, override_steps}
-use Rattle.vl_walked.specs.Walked.{AreWalked}
-use Rattle.vl_unfold.proofs.Behind.{goes_on, stops}
-use Rattle.vl_judged.proofs.steps.front.Goals as goal
+use Rattle.vl_elab_spec.specs.Walked.{AreWalked}
+use Rattle.vl_elab_spec.proofs.Behind.{goes_on, stops}
+use Rattle.vl_elab_check.proofs.steps.front.Goals as goal
 
 pub returns-then-is_some : goal.returns-then-is_some
 returns-then-is_some c ms t at u text modules totals h inner =

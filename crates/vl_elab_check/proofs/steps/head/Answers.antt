@@ -1,6 +1,6 @@
 use Rattle.std.proofs.Common.{sym, ◌∙◌}
-use Rattle.vl_judged.proofs.Opening.{head_here, head_on, head_stop, none_here}
-use Rattle.vl_judged.proofs.steps.head.Goals as goal
+use Rattle.vl_elab_check.proofs.Opening.{head_here, head_on, head_stop, none_here}
+use Rattle.vl_elab_check.proofs.steps.head.Goals as goal
 
 pub returns-then-is_some-clause-walked : goal.returns-then-is_some-clause-walked
 returns-then-is_some-clause-walked c ms t u text modules path totals h =

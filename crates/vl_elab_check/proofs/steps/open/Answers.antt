@@ -1,10 +1,10 @@
 use Rattle.std.specs.Prelude.{[]}
 use Rattle.std.proofs.Common.{sym, ◌∙◌}
 use Rattle.vl_mean.specs.Walk.{module_place}
-use Rattle.vl_unfold.specs.Within.{front_steps, head_steps}
-use Rattle.vl_unfold.proofs.Behind.{goes_on, stops}
-use Rattle.vl_judged.proofs.Opening.{none_here}
-use Rattle.vl_judged.proofs.steps.open.Goals as goal
+use Rattle.vl_elab_spec.specs.Within.{front_steps, head_steps}
+use Rattle.vl_elab_spec.proofs.Behind.{goes_on, stops}
+use Rattle.vl_elab_check.proofs.Opening.{none_here}
+use Rattle.vl_elab_check.proofs.steps.open.Goals as goal
 
 pub returns-then-is_some-clause-walked : goal.returns-then-is_some-clause-walked
 returns-then-is_some-clause-walked c ms t at u text modules path totals h inner =

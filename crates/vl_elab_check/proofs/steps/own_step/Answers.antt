@@ -1,9 +1,9 @@
 use Rattle.std.proofs.Common.{subst, sym}
-use Rattle.vl_refusal.specs.Meanings.{item_names}
+use Rattle.vl_elab_spec.specs.Meanings.{item_names}
 use Rattle.vl_mean.specs.Walk.{with_earlier}
-use Rattle.vl_judged.specs.Standing.{IsHere}
-use Rattle.vl_judged.proofs.Places.{goes_past, here_with, same_inside}
-use Rattle.vl_judged.proofs.steps.own_step.Goals as goal
+use Rattle.vl_elab_check.specs.Standing.{IsHere}
+use Rattle.vl_elab_check.proofs.Places.{goes_past, here_with, same_inside}
+use Rattle.vl_elab_check.proofs.steps.own_step.Goals as goal
 
 pub returns-clause-inside : goal.returns-clause-inside
 returns-clause-inside c =

@@ -1,7 +1,7 @@
 use Rattle.vl_mean.specs.Declarations.{names_of}
-use Rattle.vl_refusal.specs.Meanings.{item_names}
-use Rattle.vl_judged.proofs.Places.{goes_further}
-use Rattle.vl_judged.proofs.steps.pass.Goals as goal
+use Rattle.vl_elab_spec.specs.Meanings.{item_names}
+use Rattle.vl_elab_check.proofs.Places.{goes_further}
+use Rattle.vl_elab_check.proofs.steps.pass.Goals as goal
 
 pub returns : goal.returns
 returns c at path h =

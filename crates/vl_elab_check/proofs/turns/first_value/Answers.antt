@@ -1,7 +1,7 @@
 use Rattle.std.proofs.Common.{◌∙◌}
 use Rattle.vl_mean.specs.Constants.{constant_operand}
 use Rattle.vl_mean.specs.Walk.{genvar_value}
-use Rattle.vl_judged.proofs.turns.first_value.Goals as goal
+use Rattle.vl_elab_check.proofs.turns.first_value.Goals as goal
 
 pub returns : goal.returns
 returns c ss h =

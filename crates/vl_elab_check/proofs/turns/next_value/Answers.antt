@@ -1,7 +1,7 @@
 use Rattle.std.proofs.Common.{◌∙◌, None, Some, if◌then◌else◌}
-use Rattle.vl_number.specs.Numbers.{genvar_number, holds}
-use Rattle.vl_judged.proofs.Places.{turn_value}
-use Rattle.vl_judged.proofs.turns.next_value.Goals as goal
+use Rattle.vl_elab_const.specs.Numbers.{genvar_number, holds}
+use Rattle.vl_elab_check.proofs.Places.{turn_value}
+use Rattle.vl_elab_check.proofs.turns.next_value.Goals as goal
 
 pub returns-clause-next : goal.returns-clause-next
 returns-clause-next c at path h =

@@ -14,24 +14,24 @@ use Rattle.vl_mean.specs.Walk.{module_place, next_turn, turn_path}
 use Rattle.vl_mean.specs.Cells.{contains_name}
 use Rattle.vl_mean.specs.Walk.{turn_place, turn_steps, unfolded, use_of, with_earlier}
 use Rattle.vl_mean.specs.Declarations.{block_name, label_of}
-use Rattle.vl_refusal.specs.Meanings.{item_names}
-use Rattle.vl_refusal.specs.Refused.{Totals, nowhere}
-use Rattle.vl_walked.specs.Walked.{AreWalked}
-use Rattle.vl_unfold.specs.Left.{ItemsAreLeft}
-use Rattle.vl_unfold.specs.Within.{IsNotRecursive, behind_head, chosen_block, deepest, inner_steps, nested_if}
-use Rattle.vl_unfold.proofs.Behind.{items_end, items_on, items_stop, turns_end, turns_gone, turns_on, turns_stop}
-use Rattle.vl_unfold.proofs.Inner.{chosen_is, nested_is}
-use Rattle.vl_unfold.proofs.Unfolded.{named_is}
-use Rattle.vl_judged.specs.Standing.{HasScope, IsHere, IsSoFar, IsWithin}
-use Rattle.vl_judged.proofs.Going.{all_items, first_turn_left, if_names, items_formed, leaf_walked}
-use Rattle.vl_judged.proofs.Going.{nested_walked, none_chosen, none_of}
-use Rattle.vl_judged.proofs.Going.{opening_passes, opening_stops, own_passes, own_stops, scope_walked, some_chosen}
-use Rattle.vl_judged.proofs.Going.{bare_walked, deep_walked, module_walked, not_around, turn_walked, unnamed_walked}
-use Rattle.vl_judged.proofs.Depths.{module_below, part_depth, slice_depth}
-use Rattle.vl_judged.proofs.Going.{if_depth, none_within}
-use Rattle.vl_judged.proofs.Places.{scope_again, scope_left, stays_here, stays_within}
-use Rattle.vl_judged.proofs.Places.{turn_entered, turn_left, within_again}
-use Rattle.vl_judged.proofs.walk.+walk.Goals as goal
+use Rattle.vl_elab_spec.specs.Meanings.{item_names}
+use Rattle.vl_elab_spec.specs.Refused.{Totals, nowhere}
+use Rattle.vl_elab_spec.specs.Walked.{AreWalked}
+use Rattle.vl_elab_spec.specs.Left.{ItemsAreLeft}
+use Rattle.vl_elab_spec.specs.Within.{IsNotRecursive, behind_head, chosen_block, deepest, inner_steps, nested_if}
+use Rattle.vl_elab_spec.proofs.Behind.{items_end, items_on, items_stop, turns_end, turns_gone, turns_on, turns_stop}
+use Rattle.vl_elab_spec.proofs.Inner.{chosen_is, nested_is}
+use Rattle.vl_elab_spec.proofs.Unfolded.{named_is}
+use Rattle.vl_elab_check.specs.Standing.{HasScope, IsHere, IsSoFar, IsWithin}
+use Rattle.vl_elab_check.proofs.Going.{all_items, first_turn_left, if_names, items_formed, leaf_walked}
+use Rattle.vl_elab_check.proofs.Going.{nested_walked, none_chosen, none_of}
+use Rattle.vl_elab_check.proofs.Going.{opening_passes, opening_stops, own_passes, own_stops, scope_walked, some_chosen}
+use Rattle.vl_elab_check.proofs.Going.{bare_walked, deep_walked, module_walked, not_around, turn_walked, unnamed_walked}
+use Rattle.vl_elab_check.proofs.Depths.{module_below, part_depth, slice_depth}
+use Rattle.vl_elab_check.proofs.Going.{if_depth, none_within}
+use Rattle.vl_elab_check.proofs.Places.{scope_again, scope_left, stays_here, stays_within}
+use Rattle.vl_elab_check.proofs.Places.{turn_entered, turn_left, within_again}
+use Rattle.vl_elab_check.proofs.walk.+walk.Goals as goal
 
 -- ---- the items of a scope
 

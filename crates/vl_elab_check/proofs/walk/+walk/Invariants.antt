@@ -7,11 +7,11 @@ use Rattle.vl_tree.specs.WellFormed.{AreWellFormed, IsBlock}
 use Rattle.vl_mean.specs.declared.const_number.Const.{Const}
 use Rattle.vl_mean.specs.Walk.{Place, Step, goes_on, items_steps, loop_turns, next_turn, turn_place}
 use Rattle.vl_mean.specs.Walk.{turn_steps, turns, unfolded}
-use Rattle.vl_refusal.specs.Refused.{Totals, nowhere}
-use Rattle.vl_unfold.specs.Left.{AreLeft, ItemsAreLeft}
-use Rattle.vl_unfold.specs.Within.{deepest}
-use Rattle.vl_judged.specs.Standing.{HasScope, IsHere, IsSoFar, IsWithin}
-use Rattle.vl_judged.proofs.walk.+walk.Given as goal
+use Rattle.vl_elab_spec.specs.Refused.{Totals, nowhere}
+use Rattle.vl_elab_spec.specs.Left.{AreLeft, ItemsAreLeft}
+use Rattle.vl_elab_spec.specs.Within.{deepest}
+use Rattle.vl_elab_check.specs.Standing.{HasScope, IsHere, IsSoFar, IsWithin}
+use Rattle.vl_elab_check.proofs.walk.+walk.Given as goal
 
 abbrev pub invariant-walk_items-loop-part : goal.invariant-walk_items-loop-part
 invariant-walk_items-loop-part l = record {

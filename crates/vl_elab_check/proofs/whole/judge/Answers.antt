@@ -1,9 +1,9 @@
 use Rattle.std.proofs.Common.{ap, sym, ◌∙◌}
 use Rattle.vl_mean.specs.Parts.{design}
-use Rattle.vl_refusal.specs.Refused.{or_later, state_bits, too_many_bits}
-use Rattle.vl_unfold.proofs.Unfolded.{named_is}
-use Rattle.vl_judged.proofs.Judging.{bits_last, some_named}
-use Rattle.vl_judged.proofs.whole.judge.Goals as goal
+use Rattle.vl_elab_spec.specs.Refused.{or_later, state_bits, too_many_bits}
+use Rattle.vl_elab_spec.proofs.Unfolded.{named_is}
+use Rattle.vl_elab_check.proofs.Judging.{bits_last, some_named}
+use Rattle.vl_elab_check.proofs.whole.judge.Goals as goal
 
 pub returns-clause-fault : goal.returns-clause-fault
 returns-clause-fault c formed =

@@ -1,9 +1,9 @@
 use Rattle.std.specs.Prelude.{◌-◌, length}
 use Rattle.std.proofs.Common.{ap, sym, ◌∙◌}
-use Rattle.vl_refusal.specs.Refused.{first_refused, or_later}
-use Rattle.vl_judged.specs.Judged.{nothing, top_steps}
-use Rattle.vl_judged.proofs.Judging.{twice_first, twice_none}
-use Rattle.vl_judged.proofs.whole.judge_top.Goals as goal
+use Rattle.vl_elab_spec.specs.Refused.{first_refused, or_later}
+use Rattle.vl_elab_check.specs.Judged.{nothing, top_steps}
+use Rattle.vl_elab_check.proofs.Judging.{twice_first, twice_none}
+use Rattle.vl_elab_check.proofs.whole.judge_top.Goals as goal
 
 pub returns-then-is_some : goal.returns-then-is_some
 returns-then-is_some c formed w =

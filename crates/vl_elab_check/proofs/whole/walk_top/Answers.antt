@@ -3,14 +3,14 @@ use Rattle.std.proofs.Common.{ap, subst, sym, ◌∙◌}
 use Rattle.vl_tree.specs.Item.{items}
 use Rattle.vl_tree.specs.WellFormed.{AreWellFormed}
 use Rattle.vl_mean.specs.Walk.{items_steps, module_place, unfolded}
-use Rattle.vl_walked.specs.Walked.{AreWalked}
-use Rattle.vl_unfold.specs.Within.{behind_head}
-use Rattle.vl_judged.specs.Judged.{nothing, top_use}
+use Rattle.vl_elab_spec.specs.Walked.{AreWalked}
+use Rattle.vl_elab_spec.specs.Within.{behind_head}
+use Rattle.vl_elab_check.specs.Judged.{nothing, top_use}
 use Rattle.vl_mean.specs.Cells.{contains_name}
-use Rattle.vl_judged.proofs.Going.{none_of}
-use Rattle.vl_judged.proofs.Places.{scope_again}
-use Rattle.vl_judged.proofs.Judging.{head_passes, head_stops}
-use Rattle.vl_judged.proofs.whole.walk_top.Goals as goal
+use Rattle.vl_elab_check.proofs.Going.{none_of}
+use Rattle.vl_elab_check.proofs.Places.{scope_again}
+use Rattle.vl_elab_check.proofs.Judging.{head_passes, head_stops}
+use Rattle.vl_elab_check.proofs.whole.walk_top.Goals as goal
 
 pub returns-then-is_some : goal.returns-then-is_some
 returns-then-is_some c formed w =

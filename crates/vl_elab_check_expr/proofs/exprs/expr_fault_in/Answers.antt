@@ -1,10 +1,10 @@
 use Rattle.std.proofs.Common.{◌∙◌, ap}
 use Rattle.vl_size.specs.Divisors.{zero_divisor}
-use Rattle.vl_refusal.specs.Expressions.{divided_by_zero, known, refusals}
-use Rattle.vl_refusal.specs.Meanings.{objects}
-use Rattle.vl_refusal.specs.Refused.{lowest}
-use Rattle.vl_judge.proofs.Lowest.{lowest_two}
-use Rattle.vl_judge.proofs.exprs.expr_fault_in.Goals as goal
+use Rattle.vl_elab_spec.specs.Expressions.{divided_by_zero, known, refusals}
+use Rattle.vl_elab_spec.specs.Meanings.{objects}
+use Rattle.vl_elab_spec.specs.Refused.{lowest}
+use Rattle.vl_elab_check_expr.proofs.Lowest.{lowest_two}
+use Rattle.vl_elab_check_expr.proofs.exprs.expr_fault_in.Goals as goal
 
 pub returns : goal.returns
 returns c =

@@ -1,7 +1,7 @@
 use Rattle.vl_tree.specs.ExprView.{selects}
-use Rattle.vl_scope.specs.Seen.{seen}
-use Rattle.vl_judge.proofs.Lowest.{name_is}
-use Rattle.vl_judge.proofs.judge.+judge.Goals as goal
+use Rattle.vl_elab_scope.specs.Seen.{seen}
+use Rattle.vl_elab_check_expr.proofs.Lowest.{name_is}
+use Rattle.vl_elab_check_expr.proofs.judge.+judge.Goals as goal
 
 pub judge_name-returns-in_ok-own-in-Some-clause-fault : goal.judge_name-returns-in_ok-own-in-Some-clause-fault
 judge_name-returns-in_ok-own-in-Some-clause-fault t c =

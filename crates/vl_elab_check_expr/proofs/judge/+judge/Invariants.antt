@@ -2,9 +2,9 @@ use Rattle.std.proofs.Common.{◌≡◌, ◌≤◌, ◌*◌, ◌+◌, length}
 use Rattle.std.specs.Prelude.{drop}
 use Rattle.vl_tree.specs.Expr.{exprs, depth, exprs_depth, selects_depth, whole}
 use Rattle.vl_tree.specs.ExprView.{selects, with_select}
-use Rattle.vl_refusal.specs.Expressions.{wide_sizes}
-use Rattle.vl_judge.specs.Judged.{faults, selects_fault}
-use Rattle.vl_judge.proofs.judge.+judge.Given as goal
+use Rattle.vl_elab_spec.specs.Expressions.{wide_sizes}
+use Rattle.vl_elab_check_expr.specs.Judged.{faults, selects_fault}
+use Rattle.vl_elab_check_expr.proofs.judge.+judge.Given as goal
 
 abbrev pub decreases-judge : goal.decreases-judge
 decreases-judge l = 5 * depth l.expr.now

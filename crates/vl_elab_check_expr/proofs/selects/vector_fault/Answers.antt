@@ -1,12 +1,12 @@
 use Rattle.std.proofs.Common.{◌∙◌, ap, sym}
 use Rattle.std.specs.Prelude.{◌-◌, length, take, drop}
 use Rattle.vl_tree.specs.ExprView.{selects}
-use Rattle.vl_refusal.specs.Expressions.{none_behind}
-use Rattle.vl_refusal.specs.Refused.{lowest}
-use Rattle.vl_judge.specs.Judged.{alone}
-use Rattle.vl_judge.proofs.Lowest.{lowest_two}
-use Rattle.vl_judge.proofs.Values.{next_selects}
-use Rattle.vl_judge.proofs.selects.vector_fault.Goals as goal
+use Rattle.vl_elab_spec.specs.Expressions.{none_behind}
+use Rattle.vl_elab_spec.specs.Refused.{lowest}
+use Rattle.vl_elab_check_expr.specs.Judged.{alone}
+use Rattle.vl_elab_check_expr.proofs.Lowest.{lowest_two}
+use Rattle.vl_elab_check_expr.proofs.Values.{next_selects}
+use Rattle.vl_elab_check_expr.proofs.selects.vector_fault.Goals as goal
 
 pub returns-in_ok-alone-in-len1-up : goal.returns-in_ok-alone-in-len1-up
 returns-in_ok-alone-in-len1-up c =

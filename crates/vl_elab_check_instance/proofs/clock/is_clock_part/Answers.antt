@@ -1,6 +1,6 @@
-use Rattle.name_set.specs.Known.{contains}
-use Rattle.vl_connect.proofs.Clocks.{no_part}
-use Rattle.vl_connect.proofs.clock.is_clock_part.Goals as goal
+use Rattle.vl_elab_names.specs.Known.{contains}
+use Rattle.vl_elab_check_instance.proofs.Clocks.{no_part}
+use Rattle.vl_elab_check_instance.proofs.clock.is_clock_part.Goals as goal
 
 pub returns-in-len1-up : goal.returns-in-len1-up
 returns-in-len1-up c =

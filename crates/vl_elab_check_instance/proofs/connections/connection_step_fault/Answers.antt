@@ -4,18 +4,18 @@ use Rattle.vl_tree.specs.declared.source.Module.{Module}
 use Rattle.vl_mean.specs.Declarations.{ports_of, port_named}
 use Rattle.vl_mean.specs.Scopes.{is_clock}
 use Rattle.vl_mean.specs.Walk.{Place, Use}
-use Rattle.vl_refusal.specs.Items.{inner_meanings, connection_refusals}
-use Rattle.vl_refusal.specs.Meanings.{meanings_at}
-use Rattle.vl_refusal.specs.Refused.{lowest}
-use Rattle.vl_alike.specs.Alike.{Alike}
-use Rattle.name_set.specs.Known.{AreNames, contains}
-use Rattle.vl_stand.specs.Stands.{Stands}
-use Rattle.vl_connect.specs.Joined.{connection_parts, port_if}
-use Rattle.vl_connect.specs.Ports.{AreDirectionsOf, direction_of}
-use Rattle.vl_connect.proofs.Clocks.{same_clock}
-use Rattle.vl_connect.proofs.Directions.{ports_are}
-use Rattle.vl_connect.proofs.Joins.{connection_alike, port_alike}
-use Rattle.vl_connect.proofs.connections.connection_step_fault.Goals as goal
+use Rattle.vl_elab_spec.specs.Items.{inner_meanings, connection_refusals}
+use Rattle.vl_elab_spec.specs.Meanings.{meanings_at}
+use Rattle.vl_elab_spec.specs.Refused.{lowest}
+use Rattle.vl_elab_scope.specs.Alike.{Alike}
+use Rattle.vl_elab_names.specs.Known.{AreNames, contains}
+use Rattle.vl_elab_decls.specs.Stands.{Stands}
+use Rattle.vl_elab_check_instance.specs.Joined.{connection_parts, port_if}
+use Rattle.vl_elab_check_instance.specs.Ports.{AreDirectionsOf, direction_of}
+use Rattle.vl_elab_check_instance.proofs.Clocks.{same_clock}
+use Rattle.vl_elab_check_instance.proofs.Directions.{ports_are}
+use Rattle.vl_elab_check_instance.proofs.Joins.{connection_alike, port_alike}
+use Rattle.vl_elab_check_instance.proofs.connections.connection_step_fault.Goals as goal
 
 pub returns : goal.returns
 returns c =

@@ -1,9 +1,9 @@
 use Rattle.std.proofs.Common.{◌≡◌, ◌∙◌, ◌+◌, [], ◌∷◌, ap, sym, arith, Bool}
 use Rattle.std.specs.Prelude.{drop}
 use Rattle.std.proofs.lemmas.Grind.{common_steps}
-use Rattle.name_set.specs.Known.{contains}
-use Rattle.vl_connect.specs.Clock.{is_clock, joined_to, with_clock, with_name}
-use Rattle.vl_connect.proofs.inputs.all_joined.Goals as goal
+use Rattle.vl_elab_names.specs.Known.{contains}
+use Rattle.vl_elab_check_instance.specs.Clock.{is_clock, joined_to, with_clock, with_name}
+use Rattle.vl_elab_check_instance.proofs.inputs.all_joined.Goals as goal
 
 pub loop-given-init : goal.loop-given-init
 loop-given-init c other =

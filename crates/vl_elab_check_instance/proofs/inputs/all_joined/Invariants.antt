@@ -1,8 +1,8 @@
 use Rattle.std.proofs.Common.{◌≡◌, false, ℕ, List}
 use Rattle.std.specs.Prelude.{drop}
-use Rattle.name_set.specs.Known.{contains}
-use Rattle.vl_connect.specs.Clock.{is_clock, joined_to}
-use Rattle.vl_connect.proofs.inputs.all_joined.Given as goal
+use Rattle.vl_elab_names.specs.Known.{contains}
+use Rattle.vl_elab_check_instance.specs.Clock.{is_clock, joined_to}
+use Rattle.vl_elab_check_instance.proofs.inputs.all_joined.Given as goal
 
 abbrev pub invariant-loop-given : goal.invariant-loop-given
 invariant-loop-given l =

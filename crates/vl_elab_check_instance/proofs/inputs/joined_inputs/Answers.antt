@@ -1,6 +1,6 @@
-use Rattle.name_set.specs.Known.{contains}
-use Rattle.vl_connect.proofs.Clocks.{joined_are}
-use Rattle.vl_connect.proofs.inputs.joined_inputs.Goals as goal
+use Rattle.vl_elab_names.specs.Known.{contains}
+use Rattle.vl_elab_check_instance.proofs.Clocks.{joined_are}
+use Rattle.vl_elab_check_instance.proofs.inputs.joined_inputs.Goals as goal
 
 pub returns : goal.returns
 returns c names known ss x h e =

@@ -1,9 +1,9 @@
 use Rattle.std.proofs.Common.{◌∙◌, refl, ap}
 use Rattle.std.specs.Prelude.{is_none}
 use Rattle.vl_mean.specs.Cells.{contains_name}
-use Rattle.vl_item.proofs.Contexts.{copied_none}
-use Rattle.vl_connect.proofs.Reasons.{none_refused, same_reasons}
-use Rattle.vl_connect.proofs.instances.instance_fault.Goals as goal
+use Rattle.vl_elab_check_item.proofs.Contexts.{copied_none}
+use Rattle.vl_elab_check_instance.proofs.Reasons.{none_refused, same_reasons}
+use Rattle.vl_elab_check_instance.proofs.instances.instance_fault.Goals as goal
 
 pub returns-then-are_none : goal.returns-then-are_none
 returns-then-are_none c at names path =

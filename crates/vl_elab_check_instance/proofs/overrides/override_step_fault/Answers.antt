@@ -2,14 +2,14 @@ use Rattle.std.proofs.Common.{◌≡◌, ◌∙◌, ap, List, ℕ}
 use Rattle.std.specs.Option.{option_copied}
 use Rattle.std.proofs.lemmas.Result.{IfOk-weaker}
 use Rattle.vl_mean.specs.Walk.{Place, Use}
-use Rattle.vl_refusal.specs.Items.{inner_meanings, override_refusals}
-use Rattle.vl_refusal.specs.Meanings.{meanings_at}
-use Rattle.vl_refusal.specs.Refused.{lowest}
-use Rattle.vl_alike.specs.Alike.{Alike}
-use Rattle.name_set.specs.Known.{AreNames}
-use Rattle.vl_item.specs.Parts.{override_parts}
-use Rattle.vl_connect.proofs.Joins.{override_alike}
-use Rattle.vl_connect.proofs.overrides.override_step_fault.Goals as goal
+use Rattle.vl_elab_spec.specs.Items.{inner_meanings, override_refusals}
+use Rattle.vl_elab_spec.specs.Meanings.{meanings_at}
+use Rattle.vl_elab_spec.specs.Refused.{lowest}
+use Rattle.vl_elab_scope.specs.Alike.{Alike}
+use Rattle.vl_elab_names.specs.Known.{AreNames}
+use Rattle.vl_elab_check_item.specs.ItemParts.{override_parts}
+use Rattle.vl_elab_check_instance.proofs.Joins.{override_alike}
+use Rattle.vl_elab_check_instance.proofs.overrides.override_step_fault.Goals as goal
 
 pub returns : goal.returns
 returns c =

@@ -1,8 +1,8 @@
 use Rattle.std.proofs.Common.{◌≡◌, ◌≤◌, ◌*◌, ◌+◌, length}
 use Rattle.std.specs.Prelude.{drop}
 use Rattle.vl_tree.specs.Lval.{lvals, depth, lvals_depth}
-use Rattle.vl_refusal.specs.Items.{are_net_targets}
-use Rattle.vl_join.proofs.varying.+net.Given as goal
+use Rattle.vl_elab_spec.specs.Items.{are_net_targets}
+use Rattle.vl_elab_check_instance.proofs.varying.+net.Given as goal
 
 abbrev pub decreases-is_net_target : goal.decreases-is_net_target
 decreases-is_net_target l = 4 * depth l.target.now

@@ -1,7 +1,7 @@
 use Rattle.vl_tree.specs.ExprView.{selects}
-use Rattle.vl_scope.specs.Seen.{seen}
-use Rattle.vl_join.proofs.Vary.{name_is}
-use Rattle.vl_join.proofs.varying.+varies.Goals as goal
+use Rattle.vl_elab_scope.specs.Seen.{seen}
+use Rattle.vl_elab_check_instance.proofs.Vary.{name_is}
+use Rattle.vl_elab_check_instance.proofs.varying.+varies.Goals as goal
 
 pub name_varies-returns-in-Some : goal.name_varies-returns-in-Some
 name_varies-returns-in-Some t c =

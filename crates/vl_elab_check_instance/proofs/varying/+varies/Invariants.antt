@@ -2,8 +2,8 @@ use Rattle.std.proofs.Common.{◌≡◌, ◌≤◌, ◌*◌, ◌+◌, length}
 use Rattle.std.specs.Prelude.{drop}
 use Rattle.vl_tree.specs.Expr.{exprs, depth, exprs_depth, selects_depth, whole}
 use Rattle.vl_tree.specs.ExprView.{selects, with_select}
-use Rattle.vl_join.specs.Parts.{any_varies, selects_vary}
-use Rattle.vl_join.proofs.varying.+varies.Given as goal
+use Rattle.vl_elab_check_instance.specs.Parts.{any_varies, selects_vary}
+use Rattle.vl_elab_check_instance.proofs.varying.+varies.Given as goal
 
 abbrev pub decreases-varies : goal.decreases-varies
 decreases-varies l = 4 * depth l.expr.now

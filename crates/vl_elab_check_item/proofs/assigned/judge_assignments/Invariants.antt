@@ -1,7 +1,7 @@
 use Rattle.std.proofs.Common.{◌≡◌, ◌≤◌, length}
 use Rattle.std.specs.Prelude.{drop}
-use Rattle.vl_item.specs.Parts.{assignments_fault}
-use Rattle.vl_item.proofs.assigned.judge_assignments.Given as goal
+use Rattle.vl_elab_check_item.specs.ItemParts.{assignments_fault}
+use Rattle.vl_elab_check_item.proofs.assigned.judge_assignments.Given as goal
 
 abbrev pub invariant-loop-place : goal.invariant-loop-place
 invariant-loop-place l = record {

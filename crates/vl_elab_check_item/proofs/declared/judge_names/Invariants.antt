@@ -1,7 +1,7 @@
 use Rattle.std.proofs.Common.{◌≡◌, ◌≤◌, length}
 use Rattle.std.specs.Prelude.{drop}
-use Rattle.vl_item.specs.Parts.{names_fault}
-use Rattle.vl_item.proofs.declared.judge_names.Given as goal
+use Rattle.vl_elab_check_item.specs.ItemParts.{names_fault}
+use Rattle.vl_elab_check_item.proofs.declared.judge_names.Given as goal
 
 abbrev pub invariant-loop-place : goal.invariant-loop-place
 invariant-loop-place l = record {

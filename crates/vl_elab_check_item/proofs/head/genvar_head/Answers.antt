@@ -1,8 +1,8 @@
 use Rattle.std.proofs.Common.{◌∙◌, ap}
-use Rattle.vl_refusal.specs.Items.{genvar_refusals}
-use Rattle.vl_refusal.specs.Refused.{lower_of, lowest}
-use Rattle.vl_turn.specs.Parts.{turns_fault}
-use Rattle.vl_turn.proofs.head.genvar_head.Goals as goal
+use Rattle.vl_elab_spec.specs.Items.{genvar_refusals}
+use Rattle.vl_elab_spec.specs.Refused.{lower_of, lowest}
+use Rattle.vl_elab_check_item.specs.TurnParts.{turns_fault}
+use Rattle.vl_elab_check_item.proofs.head.genvar_head.Goals as goal
 
 pub returns-clause-fault : goal.returns-clause-fault
 returns-clause-fault c =

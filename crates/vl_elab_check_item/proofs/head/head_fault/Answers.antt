@@ -1,14 +1,14 @@
 use Rattle.std.proofs.Common.{◌≡◌, ◌∙◌}
 use Rattle.std.proofs.lemmas.Result.{IfOk-weaker}
 use Rattle.vl_mean.specs.Walk.{Place}
-use Rattle.vl_refusal.specs.Items.{head_refusals}
-use Rattle.vl_refusal.specs.Meanings.{meaning_in, meanings_at}
-use Rattle.vl_refusal.specs.Refused.{lowest}
-use Rattle.vl_alike.specs.Alike.{Alike}
-use Rattle.vl_number.specs.Numbers.{HaveNumbers}
-use Rattle.vl_turn.specs.Parts.{variable_of, head_fault}
-use Rattle.vl_turn.proofs.Heads.{same_head}
-use Rattle.vl_turn.proofs.head.head_fault.Goals as goal
+use Rattle.vl_elab_spec.specs.Items.{head_refusals}
+use Rattle.vl_elab_spec.specs.Meanings.{meaning_in, meanings_at}
+use Rattle.vl_elab_spec.specs.Refused.{lowest}
+use Rattle.vl_elab_scope.specs.Alike.{Alike}
+use Rattle.vl_elab_const.specs.Numbers.{HaveNumbers}
+use Rattle.vl_elab_check_item.specs.TurnParts.{variable_of, head_fault}
+use Rattle.vl_elab_check_item.proofs.Heads.{same_head}
+use Rattle.vl_elab_check_item.proofs.head.head_fault.Goals as goal
 
 pub returns-clause-fault : goal.returns-clause-fault
 returns-clause-fault c =

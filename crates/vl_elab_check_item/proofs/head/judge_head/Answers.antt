@@ -1,9 +1,9 @@
 use Rattle.std.proofs.Common.{◌≡◌, ◌∙◌, ap, sym, List}
 use Rattle.std.proofs.lemmas.Result.{IfOk-weaker}
-use Rattle.vl_refusal.specs.Meanings.{Names, meaning_in}
-use Rattle.vl_turn.specs.declared.head.Variable.TheVariants as v
-use Rattle.vl_turn.specs.Parts.{variable_of, head_fault}
-use Rattle.vl_turn.proofs.head.judge_head.Goals as goal
+use Rattle.vl_elab_spec.specs.Meanings.{Names, meaning_in}
+use Rattle.vl_elab_check_item.specs.declared.head.Variable.TheVariants as v
+use Rattle.vl_elab_check_item.specs.TurnParts.{variable_of, head_fault}
+use Rattle.vl_elab_check_item.proofs.head.judge_head.Goals as goal
 
 pub returns-in-Genvar-clause-fault : goal.returns-in-Genvar-clause-fault
 returns-in-Genvar-clause-fault c =

@@ -1,9 +1,9 @@
 use Rattle.std.proofs.Common.{◌∙◌, true}
-use Rattle.vl_refusal.specs.declared.elab_fault.ElabFault.TheVariants as f
-use Rattle.vl_refusal.specs.Expressions.{own_refusals, refused_if}
-use Rattle.vl_refusal.specs.Refused.{lower_of, lowest}
-use Rattle.vl_number.specs.Numbers.{holds}
-use Rattle.vl_turn.proofs.head.last_turn.Goals as goal
+use Rattle.vl_elab_spec.specs.declared.elab_fault.ElabFault.TheVariants as f
+use Rattle.vl_elab_spec.specs.Expressions.{own_refusals, refused_if}
+use Rattle.vl_elab_spec.specs.Refused.{lower_of, lowest}
+use Rattle.vl_elab_const.specs.Numbers.{holds}
+use Rattle.vl_elab_check_item.proofs.head.last_turn.Goals as goal
 
 pub returns-clause-fault : goal.returns-clause-fault
 returns-clause-fault c =

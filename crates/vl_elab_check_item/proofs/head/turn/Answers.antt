@@ -1,10 +1,10 @@
 use Rattle.std.proofs.Common.{◌∙◌, true}
 use Rattle.std.specs.Prelude.{None, if◌then◌else◌}
-use Rattle.vl_refusal.specs.Expressions.{own_refusals}
-use Rattle.vl_refusal.specs.Items.{genvar_refusals}
-use Rattle.vl_refusal.specs.Refused.{lower_of, lowest}
-use Rattle.vl_number.specs.Numbers.{holds}
-use Rattle.vl_turn.proofs.head.turn.Goals as goal
+use Rattle.vl_elab_spec.specs.Expressions.{own_refusals}
+use Rattle.vl_elab_spec.specs.Items.{genvar_refusals}
+use Rattle.vl_elab_spec.specs.Refused.{lower_of, lowest}
+use Rattle.vl_elab_const.specs.Numbers.{holds}
+use Rattle.vl_elab_check_item.proofs.head.turn.Goals as goal
 
 pub returns-clause-fault : goal.returns-clause-fault
 returns-clause-fault c =

@@ -1,13 +1,13 @@
 use Rattle.std.proofs.Common.{◌≡◌, ◌<◌, ◌∙◌, ap, sym, arith, true}
 use Rattle.std.specs.Prelude.{Some, None, if◌then◌else◌}
 use Rattle.std.proofs.lemmas.Grind.{common_steps}
-use Rattle.vl_refusal.specs.Expressions.{own_refusals}
-use Rattle.vl_refusal.specs.Items.{genvar_refusals}
-use Rattle.vl_refusal.specs.Refused.{lower_of, lowest}
-use Rattle.vl_number.specs.Numbers.{holds, genvar_number}
-use Rattle.vl_turn.specs.Parts.{in_turn, turns_fault}
-use Rattle.vl_turn.proofs.Heads.{turns_on, turns_stop}
-use Rattle.vl_turn.proofs.head.turns.Goals as goal
+use Rattle.vl_elab_spec.specs.Expressions.{own_refusals}
+use Rattle.vl_elab_spec.specs.Items.{genvar_refusals}
+use Rattle.vl_elab_spec.specs.Refused.{lower_of, lowest}
+use Rattle.vl_elab_const.specs.Numbers.{holds, genvar_number}
+use Rattle.vl_elab_check_item.specs.TurnParts.{in_turn, turns_fault}
+use Rattle.vl_elab_check_item.proofs.Heads.{turns_on, turns_stop}
+use Rattle.vl_elab_check_item.proofs.head.turns.Goals as goal
 
 pub loop-left-preserved : goal.loop-left-preserved
 loop-left-preserved c =

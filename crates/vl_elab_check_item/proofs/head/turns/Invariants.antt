@@ -1,7 +1,7 @@
 use Rattle.std.proofs.Common.{◌≡◌, ◌≤◌}
-use Rattle.vl_refusal.specs.Refused.{lower_of}
-use Rattle.vl_turn.specs.Parts.{turns_fault}
-use Rattle.vl_turn.proofs.head.turns.Given as goal
+use Rattle.vl_elab_spec.specs.Refused.{lower_of}
+use Rattle.vl_elab_check_item.specs.TurnParts.{turns_fault}
+use Rattle.vl_elab_check_item.proofs.head.turns.Given as goal
 
 abbrev pub invariant-loop-left : goal.invariant-loop-left
 invariant-loop-left l = record {

@@ -1,13 +1,13 @@
 use Rattle.std.proofs.Common.{◌∙◌, ap, ◌++◌}
 use Rattle.std.specs.Option.{option_copied}
 use Rattle.std.specs.Prelude.{is_none}
-use Rattle.vl_refusal.specs.declared.elab_fault.ElabFault.TheVariants as f
-use Rattle.vl_refusal.specs.Expressions.{refused_if}
-use Rattle.vl_refusal.specs.Items.{override_value}
-use Rattle.vl_refusal.specs.Refused.{lowest}
-use Rattle.vl_judge.proofs.Lowest.{lowest_two}
-use Rattle.vl_item.proofs.Contexts.{copied_none}
-use Rattle.vl_item.proofs.parameters.override_fault.Goals as goal
+use Rattle.vl_elab_spec.specs.declared.elab_fault.ElabFault.TheVariants as f
+use Rattle.vl_elab_spec.specs.Expressions.{refused_if}
+use Rattle.vl_elab_spec.specs.Items.{override_value}
+use Rattle.vl_elab_spec.specs.Refused.{lowest}
+use Rattle.vl_elab_check_expr.proofs.Lowest.{lowest_two}
+use Rattle.vl_elab_check_item.proofs.Contexts.{copied_none}
+use Rattle.vl_elab_check_item.proofs.parameters.override_fault.Goals as goal
 
 pub returns : goal.returns
 returns c =

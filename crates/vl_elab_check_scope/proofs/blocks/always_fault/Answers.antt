@@ -1,12 +1,12 @@
 use Rattle.std.proofs.Common.{◌≡◌, ◌++◌, ◌∙◌, ap, List}
 use Rattle.std.proofs.lemmas.Result.{IfOk-weaker}
-use Rattle.vl_refusal.specs.Items.{event_refusals}
-use Rattle.vl_refusal.specs.Meanings.{Names}
-use Rattle.vl_refusal.specs.Refused.{lowest}
-use Rattle.vl_refusal.specs.Statements.{stmt_refusals}
-use Rattle.vl_alike.specs.Alike.{Alike}
-use Rattle.vl_refuse.proofs.Known.{always_alike}
-use Rattle.vl_refuse.proofs.blocks.always_fault.Goals as goal
+use Rattle.vl_elab_spec.specs.Items.{event_refusals}
+use Rattle.vl_elab_spec.specs.Meanings.{Names}
+use Rattle.vl_elab_spec.specs.Refused.{lowest}
+use Rattle.vl_elab_spec.specs.Statements.{stmt_refusals}
+use Rattle.vl_elab_scope.specs.Alike.{Alike}
+use Rattle.vl_elab_check_scope.proofs.Known.{always_alike}
+use Rattle.vl_elab_check_scope.proofs.blocks.always_fault.Goals as goal
 
 pub returns : goal.returns
 returns c =

@@ -1,11 +1,11 @@
 use Rattle.std.proofs.Common.{◌≡◌, ◌∙◌, ap, List}
 use Rattle.std.proofs.lemmas.Result.{IfOk-weaker}
-use Rattle.vl_refusal.specs.Items.{assignments_refusals}
-use Rattle.vl_refusal.specs.Meanings.{Names}
-use Rattle.vl_refusal.specs.Refused.{lowest}
-use Rattle.vl_alike.specs.Alike.{Alike}
-use Rattle.vl_alike.proofs.Items.{same_assignments}
-use Rattle.vl_refuse.proofs.blocks.assign_fault.Goals as goal
+use Rattle.vl_elab_spec.specs.Items.{assignments_refusals}
+use Rattle.vl_elab_spec.specs.Meanings.{Names}
+use Rattle.vl_elab_spec.specs.Refused.{lowest}
+use Rattle.vl_elab_scope.specs.Alike.{Alike}
+use Rattle.vl_elab_scope.proofs.Items.{same_assignments}
+use Rattle.vl_elab_check_scope.proofs.blocks.assign_fault.Goals as goal
 
 pub returns : goal.returns
 returns c =

@@ -1,11 +1,11 @@
 use Rattle.std.proofs.Common.{◌≡◌, ◌∙◌, ap, List}
 use Rattle.std.proofs.lemmas.Result.{IfOk-weaker}
-use Rattle.vl_refusal.specs.Meanings.{Names}
-use Rattle.vl_refusal.specs.Refused.{lowest}
-use Rattle.vl_refusal.specs.Statements.{initial_refusals}
-use Rattle.vl_alike.specs.Alike.{Alike}
-use Rattle.vl_alike.proofs.Stmts.{same_initial}
-use Rattle.vl_refuse.proofs.blocks.initial_block_fault.Goals as goal
+use Rattle.vl_elab_spec.specs.Meanings.{Names}
+use Rattle.vl_elab_spec.specs.Refused.{lowest}
+use Rattle.vl_elab_spec.specs.Statements.{initial_refusals}
+use Rattle.vl_elab_scope.specs.Alike.{Alike}
+use Rattle.vl_elab_scope.proofs.Stmts.{same_initial}
+use Rattle.vl_elab_check_scope.proofs.blocks.initial_block_fault.Goals as goal
 
 pub returns : goal.returns
 returns c =

@@ -1,10 +1,10 @@
 use Rattle.std.proofs.Common.{◌∙◌, ap, true}
-use Rattle.vl_refusal.specs.Expressions.{own_refusals}
-use Rattle.vl_refusal.specs.Items.{labels_twice, placed_labels}
-use Rattle.vl_refusal.specs.Refused.{lowest}
-use Rattle.vl_judge.proofs.Lowest.{lowest_two}
-use Rattle.vl_alike.proofs.Exprs.{same_own}
-use Rattle.vl_refuse.proofs.constructs.if_fault.Goals as goal
+use Rattle.vl_elab_spec.specs.Expressions.{own_refusals}
+use Rattle.vl_elab_spec.specs.Items.{labels_twice, placed_labels}
+use Rattle.vl_elab_spec.specs.Refused.{lowest}
+use Rattle.vl_elab_check_expr.proofs.Lowest.{lowest_two}
+use Rattle.vl_elab_scope.proofs.Exprs.{same_own}
+use Rattle.vl_elab_check_scope.proofs.constructs.if_fault.Goals as goal
 
 pub returns : goal.returns
 returns c known before same names =

@@ -1,8 +1,8 @@
 use Rattle.std.proofs.Common.{◌∙◌}
-use Rattle.vl_refusal.specs.Items.{labels_twice, placed_labels, head_refusals}
-use Rattle.vl_refusal.specs.Meanings.{meaning_in, meanings_at}
-use Rattle.vl_judge.proofs.Lowest.{lowest_two}
-use Rattle.vl_refuse.proofs.constructs.loop_fault.Goals as goal
+use Rattle.vl_elab_spec.specs.Items.{labels_twice, placed_labels, head_refusals}
+use Rattle.vl_elab_spec.specs.Meanings.{meaning_in, meanings_at}
+use Rattle.vl_elab_check_expr.proofs.Lowest.{lowest_two}
+use Rattle.vl_elab_check_scope.proofs.constructs.loop_fault.Goals as goal
 
 pub returns-clause-fault : goal.returns-clause-fault
 returns-clause-fault c at same numbers names =

@@ -1,9 +1,9 @@
 use Rattle.std.proofs.Common.{◌∙◌, ap}
 use Rattle.vl_mean.specs.Declarations.{class_of_attributes, class_of_kind, joined_attributes}
-use Rattle.vl_refusal.specs.Items.{twice, placed_names}
-use Rattle.vl_refusal.specs.Refused.{lowest}
-use Rattle.vl_refuse.proofs.Known.{declared_alike}
-use Rattle.vl_refuse.proofs.declarations.declaration_fault.Goals as goal
+use Rattle.vl_elab_spec.specs.Items.{twice, placed_names}
+use Rattle.vl_elab_spec.specs.Refused.{lowest}
+use Rattle.vl_elab_check_scope.proofs.Known.{declared_alike}
+use Rattle.vl_elab_check_scope.proofs.declarations.declaration_fault.Goals as goal
 
 pub returns-clause-fault : goal.returns-clause-fault
 returns-clause-fault c known before same names =

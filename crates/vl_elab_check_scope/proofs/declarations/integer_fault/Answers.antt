@@ -2,9 +2,9 @@ use Rattle.std.specs.Prelude.{None}
 use Rattle.vl_tree.specs.declared.declaration.NetKind.TheVariants as net
 use Rattle.vl_size.specs.declared.decl.Class.TheVariants as class
 use Rattle.vl_mean.specs.Declarations.{class_of_attributes, joined_attributes}
-use Rattle.vl_refusal.specs.Items.{twice, placed_names}
-use Rattle.vl_refuse.proofs.Known.{integers_alike}
-use Rattle.vl_refuse.proofs.declarations.integer_fault.Goals as goal
+use Rattle.vl_elab_spec.specs.Items.{twice, placed_names}
+use Rattle.vl_elab_check_scope.proofs.Known.{integers_alike}
+use Rattle.vl_elab_check_scope.proofs.declarations.integer_fault.Goals as goal
 
 pub returns-clause-fault : goal.returns-clause-fault
 returns-clause-fault c known before same names =

@@ -1,9 +1,9 @@
 use Rattle.std.proofs.Common.{ap, ◌∙◌}
 use Rattle.std.proofs.lemmas.Result.{on_ok_weaker}
 use Rattle.vl_mean.specs.Declarations.{labels_of}
-use Rattle.name_set.specs.Known.{contains}
-use Rattle.vl_step.proofs.NameLemmas.{same_names}
-use Rattle.vl_step.proofs.labels.add_labels.Goals as goal
+use Rattle.vl_elab_names.specs.Known.{contains}
+use Rattle.vl_elab_check_scope.proofs.NameLemmas.{same_names}
+use Rattle.vl_elab_check_scope.proofs.labels.add_labels.Goals as goal
 
 pub returns : goal.returns
 returns c =

@@ -1,11 +1,11 @@
 use Rattle.std.proofs.Common.{ap, ◌∙◌, ◌≡◌, List, ℕ}
 use Rattle.std.proofs.lemmas.Result.{IfOk-weaker}
-use Rattle.vl_refusal.specs.Items.{labels_twice, placed_labels}
-use Rattle.vl_refusal.specs.Refused.{lowest}
-use Rattle.name_set.specs.Known.{AreNames, contains}
-use Rattle.vl_step.specs.Parts.{labels_by}
-use Rattle.vl_step.proofs.LabelLemmas.{same_labels}
-use Rattle.vl_step.proofs.labels.labels_fault.Goals as goal
+use Rattle.vl_elab_spec.specs.Items.{labels_twice, placed_labels}
+use Rattle.vl_elab_spec.specs.Refused.{lowest}
+use Rattle.vl_elab_names.specs.Known.{AreNames, contains}
+use Rattle.vl_elab_check_scope.specs.Parts.{labels_by}
+use Rattle.vl_elab_check_scope.proofs.LabelLemmas.{same_labels}
+use Rattle.vl_elab_check_scope.proofs.labels.labels_fault.Goals as goal
 
 pub returns : goal.returns
 returns c =

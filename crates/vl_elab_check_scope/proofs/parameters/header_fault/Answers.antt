@@ -1,15 +1,15 @@
 use Rattle.std.proofs.Common.{◌≡◌, ◌∙◌, ap, sym, List, ℕ}
 use Rattle.std.proofs.lemmas.Result.{IfOk-weaker}
 use Rattle.vl_mean.specs.Walk.{Place}
-use Rattle.vl_refusal.specs.Items.{is_given, parameter_refusals}
-use Rattle.vl_refusal.specs.Meanings.{meanings_at}
-use Rattle.vl_refusal.specs.Refused.{lowest}
-use Rattle.vl_alike.specs.Alike.{Alike}
-use Rattle.name_set.specs.Known.{AreNames}
-use Rattle.vl_reach.specs.Reached.{IsReached}
-use Rattle.vl_earlier.specs.Gives.{Gives}
-use Rattle.vl_earlier.proofs.Behind.{given_test}
-use Rattle.vl_earlier.proofs.parameters.header_fault.Goals as goal
+use Rattle.vl_elab_spec.specs.Items.{is_given, parameter_refusals}
+use Rattle.vl_elab_spec.specs.Meanings.{meanings_at}
+use Rattle.vl_elab_spec.specs.Refused.{lowest}
+use Rattle.vl_elab_scope.specs.Alike.{Alike}
+use Rattle.vl_elab_names.specs.Known.{AreNames}
+use Rattle.vl_elab_params.specs.Reached.{IsReached}
+use Rattle.vl_elab_check_scope.specs.Gives.{Gives}
+use Rattle.vl_elab_check_scope.proofs.Behind.{given_test}
+use Rattle.vl_elab_check_scope.proofs.parameters.header_fault.Goals as goal
 
 pub returns-clause-fault : goal.returns-clause-fault
 returns-clause-fault c =

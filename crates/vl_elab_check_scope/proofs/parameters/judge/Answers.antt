@@ -1,8 +1,8 @@
 use Rattle.std.proofs.Common.{◌∙◌, ap}
-use Rattle.vl_refusal.specs.Meanings.{meanings_before}
-use Rattle.vl_refusal.specs.Refused.{lowest}
-use Rattle.vl_earlier.proofs.Behind.{parameter_alike}
-use Rattle.vl_earlier.proofs.parameters.judge.Goals as goal
+use Rattle.vl_elab_spec.specs.Meanings.{meanings_before}
+use Rattle.vl_elab_spec.specs.Refused.{lowest}
+use Rattle.vl_elab_check_scope.proofs.Behind.{parameter_alike}
+use Rattle.vl_elab_check_scope.proofs.parameters.judge.Goals as goal
 
 pub returns-clause-names : goal.returns-clause-names
 returns-clause-names c = (c.leave.ensures c.args.reached.now c.args.names.now c.in_ok-enter.ensures.names).1

@@ -1,13 +1,14 @@
 use Rattle.std.proofs.Common.{◌≡◌, ◌∙◌, ◌+◌, ◌&&◌, [], ◌∷◌, ap, sym, subst, arith, refl}
 use Rattle.std.specs.Prelude.{drop, not}
 use Rattle.std.proofs.lemmas.Grind.{common_steps}
-use Rattle.vl_refusal.specs.Items.{is_localparam}
-use Rattle.vl_refusal.specs.Meanings.{meanings_at}
-use Rattle.vl_alike.specs.Alike.{Alike}
-use Rattle.name_set.specs.Known.{AreNames}
-use Rattle.vl_reach.specs.Reached.{IsReached}
-use Rattle.vl_earlier.proofs.Behind.{names_before, one_more, none_yet, all_passed, fault_on, fault_end, fault_start}
-use Rattle.vl_earlier.proofs.parameters.parameters_fault.Goals as goal
+use Rattle.vl_elab_spec.specs.Items.{is_localparam}
+use Rattle.vl_elab_spec.specs.Meanings.{meanings_at}
+use Rattle.vl_elab_scope.specs.Alike.{Alike}
+use Rattle.vl_elab_names.specs.Known.{AreNames}
+use Rattle.vl_elab_params.specs.Reached.{IsReached}
+use Rattle.vl_elab_check_scope.proofs.Behind.{names_before, one_more, none_yet, all_passed, fault_on, fault_end}
+use Rattle.vl_elab_check_scope.proofs.Behind.{fault_start}
+use Rattle.vl_elab_check_scope.proofs.parameters.parameters_fault.Goals as goal
 
 pub loop-parameter-init : goal.loop-parameter-init
 loop-parameter-init c =

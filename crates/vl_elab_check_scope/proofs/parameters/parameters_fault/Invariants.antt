@@ -1,15 +1,15 @@
 use Rattle.std.proofs.Common.{◌≡◌, List, ℕ}
 use Rattle.std.specs.Prelude.{drop}
 use Rattle.vl_mean.specs.Walk.{Place}
-use Rattle.vl_refusal.specs.Items.{parameters_refusals}
-use Rattle.vl_refusal.specs.Meanings.{meanings_at}
-use Rattle.vl_refusal.specs.Refused.{lower_of, lowest}
-use Rattle.vl_alike.specs.Alike.{Alike}
-use Rattle.name_set.specs.Known.{AreNames}
-use Rattle.vl_reach.specs.Reached.{IsReached}
-use Rattle.vl_earlier.specs.Gives.{Gives}
-use Rattle.vl_earlier.proofs.Behind.{names_before}
-use Rattle.vl_earlier.proofs.parameters.parameters_fault.Given as goal
+use Rattle.vl_elab_spec.specs.Items.{parameters_refusals}
+use Rattle.vl_elab_spec.specs.Meanings.{meanings_at}
+use Rattle.vl_elab_spec.specs.Refused.{lower_of, lowest}
+use Rattle.vl_elab_scope.specs.Alike.{Alike}
+use Rattle.vl_elab_names.specs.Known.{AreNames}
+use Rattle.vl_elab_params.specs.Reached.{IsReached}
+use Rattle.vl_elab_check_scope.specs.Gives.{Gives}
+use Rattle.vl_elab_check_scope.proofs.Behind.{names_before}
+use Rattle.vl_elab_check_scope.proofs.parameters.parameters_fault.Given as goal
 
 abbrev pub invariant-loop-parameter : goal.invariant-loop-parameter
 invariant-loop-parameter l = record {

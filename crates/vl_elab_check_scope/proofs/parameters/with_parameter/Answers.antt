@@ -1,10 +1,10 @@
 use Rattle.std.proofs.Common.{sym, subst, ◌∙◌, [], ◌∷◌}
-use Rattle.vl_refusal.specs.Meanings.{meanings_at}
-use Rattle.vl_alike.specs.Alike.{Alike}
-use Rattle.name_set.specs.Known.{contains}
-use Rattle.vl_reach.specs.Reached.{IsReached}
-use Rattle.vl_step.proofs.NameLemmas.{same_names}
-use Rattle.vl_earlier.proofs.parameters.with_parameter.Goals as goal
+use Rattle.vl_elab_spec.specs.Meanings.{meanings_at}
+use Rattle.vl_elab_scope.specs.Alike.{Alike}
+use Rattle.vl_elab_names.specs.Known.{contains}
+use Rattle.vl_elab_params.specs.Reached.{IsReached}
+use Rattle.vl_elab_check_scope.proofs.NameLemmas.{same_names}
+use Rattle.vl_elab_check_scope.proofs.parameters.with_parameter.Goals as goal
 
 pub returns-clause-earlier : goal.returns-clause-earlier
 returns-clause-earlier c before names text =

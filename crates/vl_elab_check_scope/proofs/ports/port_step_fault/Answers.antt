@@ -1,15 +1,15 @@
 use Rattle.std.proofs.Common.{◌≡◌, ◌∙◌, ap}
 use Rattle.std.proofs.lemmas.Result.{IfOk-weaker}
 use Rattle.vl_mean.specs.Walk.{Place}
-use Rattle.vl_refusal.specs.Items.{port_refusals}
-use Rattle.vl_refusal.specs.Meanings.{meanings_at}
-use Rattle.vl_refusal.specs.Refused.{lowest}
-use Rattle.vl_alike.specs.Alike.{Alike}
-use Rattle.name_set.specs.Known.{AreNames}
-use Rattle.vl_item.specs.Parts.{port_parts}
-use Rattle.vl_refuse.specs.Short.{renamed}
-use Rattle.vl_refuse.proofs.Known.{port_alike}
-use Rattle.vl_refuse.proofs.ports.port_step_fault.Goals as goal
+use Rattle.vl_elab_spec.specs.Items.{port_refusals}
+use Rattle.vl_elab_spec.specs.Meanings.{meanings_at}
+use Rattle.vl_elab_spec.specs.Refused.{lowest}
+use Rattle.vl_elab_scope.specs.Alike.{Alike}
+use Rattle.vl_elab_names.specs.Known.{AreNames}
+use Rattle.vl_elab_check_item.specs.ItemParts.{port_parts}
+use Rattle.vl_elab_check_scope.specs.Short.{renamed}
+use Rattle.vl_elab_check_scope.proofs.Known.{port_alike}
+use Rattle.vl_elab_check_scope.proofs.ports.port_step_fault.Goals as goal
 
 pub returns : goal.returns
 returns c =

@@ -1,10 +1,10 @@
 use Rattle.std.proofs.Common.{◌≡◌, ◌+◌, [], ◌∷◌, ap, arith}
 use Rattle.std.specs.Prelude.{drop, map}
 use Rattle.std.proofs.lemmas.Grind.{common_steps}
-use Rattle.vl_refusal.specs.Items.{placed_names}
-use Rattle.name_set.specs.Known.{contains}
-use Rattle.vl_step.proofs.NameLemmas.{twice_on, names_on, twice_end, names_end}
-use Rattle.vl_step.proofs.twice.all_declared.Goals as goal
+use Rattle.vl_elab_spec.specs.Items.{placed_names}
+use Rattle.vl_elab_names.specs.Known.{contains}
+use Rattle.vl_elab_check_scope.proofs.NameLemmas.{twice_on, names_on, twice_end, names_end}
+use Rattle.vl_elab_check_scope.proofs.twice.all_declared.Goals as goal
 
 pub loop-name-preserved : goal.loop-name-preserved
 loop-name-preserved c =

@@ -1,10 +1,10 @@
 use Rattle.std.proofs.Common.{◌≡◌}
 use Rattle.std.specs.Prelude.{drop, map}
-use Rattle.vl_refusal.specs.Items.{placed_names}
-use Rattle.vl_refusal.specs.Refused.{lower_of, lowest}
-use Rattle.name_set.specs.Known.{contains}
-use Rattle.vl_step.specs.Parts.{with_names, twice_by}
-use Rattle.vl_step.proofs.twice.all_declared.Given as goal
+use Rattle.vl_elab_spec.specs.Items.{placed_names}
+use Rattle.vl_elab_spec.specs.Refused.{lower_of, lowest}
+use Rattle.vl_elab_names.specs.Known.{contains}
+use Rattle.vl_elab_check_scope.specs.Parts.{with_names, twice_by}
+use Rattle.vl_elab_check_scope.proofs.twice.all_declared.Given as goal
 
 abbrev pub invariant-loop-name : goal.invariant-loop-name
 invariant-loop-name l = record {

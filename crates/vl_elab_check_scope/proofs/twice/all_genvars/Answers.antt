@@ -1,9 +1,9 @@
 use Rattle.std.proofs.Common.{◌≡◌, ◌+◌, [], ◌∷◌, ap, arith}
 use Rattle.std.specs.Prelude.{drop, map}
 use Rattle.std.proofs.lemmas.Grind.{common_steps}
-use Rattle.name_set.specs.Known.{contains}
-use Rattle.vl_step.proofs.NameLemmas.{twice_on, names_on, twice_end, names_end}
-use Rattle.vl_step.proofs.twice.all_genvars.Goals as goal
+use Rattle.vl_elab_names.specs.Known.{contains}
+use Rattle.vl_elab_check_scope.proofs.NameLemmas.{twice_on, names_on, twice_end, names_end}
+use Rattle.vl_elab_check_scope.proofs.twice.all_genvars.Goals as goal
 
 pub loop-text-preserved : goal.loop-text-preserved
 loop-text-preserved c =

@@ -1,12 +1,12 @@
 use Rattle.std.proofs.Common.{ap, ◌∙◌, ◌≡◌, List, ℕ}
 use Rattle.std.specs.Prelude.{map}
 use Rattle.std.proofs.lemmas.Result.{IfOk-weaker, on_ok_weaker}
-use Rattle.vl_refusal.specs.Items.{twice, placed_names}
-use Rattle.vl_refusal.specs.Refused.{lowest}
-use Rattle.name_set.specs.Known.{AreNames, contains}
-use Rattle.vl_step.specs.Parts.{twice_by}
-use Rattle.vl_step.proofs.NameLemmas.{same_twice, same_names}
-use Rattle.vl_step.proofs.twice.declared_twice.Goals as goal
+use Rattle.vl_elab_spec.specs.Items.{twice, placed_names}
+use Rattle.vl_elab_spec.specs.Refused.{lowest}
+use Rattle.vl_elab_names.specs.Known.{AreNames, contains}
+use Rattle.vl_elab_check_scope.specs.Parts.{twice_by}
+use Rattle.vl_elab_check_scope.proofs.NameLemmas.{same_twice, same_names}
+use Rattle.vl_elab_check_scope.proofs.twice.declared_twice.Goals as goal
 
 pub returns-clause-fault : goal.returns-clause-fault
 returns-clause-fault c =

@@ -1,5 +1,5 @@
-use Rattle.vl_target.proofs.Cases.{in_place}
-use Rattle.vl_target.proofs.contexts.assigned_in.Goals as goal
+use Rattle.vl_elab_check_stmt.proofs.Cases.{in_place}
+use Rattle.vl_elab_check_stmt.proofs.contexts.assigned_in.Goals as goal
 
 pub returns-clause-value : goal.returns-clause-value
 returns-clause-value c =

@@ -1,8 +1,8 @@
 use Rattle.std.proofs.Common.{◌≡◌, ◌≤◌}
 use Rattle.std.specs.Prelude.{drop, IfSome}
 use Rattle.vl_tree.specs.StmtView.{arms}
-use Rattle.vl_refusal.specs.Statements.{case_context}
-use Rattle.vl_target.proofs.contexts.with_arms.Given as goal
+use Rattle.vl_elab_spec.specs.Statements.{case_context}
+use Rattle.vl_elab_check_stmt.proofs.contexts.with_arms.Given as goal
 
 abbrev pub invariant-loop-arm : goal.invariant-loop-arm
 invariant-loop-arm l = record {

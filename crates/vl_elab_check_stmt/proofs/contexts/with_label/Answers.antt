@@ -1,5 +1,5 @@
-use Rattle.vl_target.proofs.Cases.{label_in}
-use Rattle.vl_target.proofs.contexts.with_label.Goals as goal
+use Rattle.vl_elab_check_stmt.proofs.Cases.{label_in}
+use Rattle.vl_elab_check_stmt.proofs.contexts.with_label.Goals as goal
 
 pub returns-clause-value : goal.returns-clause-value
 returns-clause-value c =

@@ -1,7 +1,7 @@
 use Rattle.std.proofs.Common.{◌≡◌, ◌≤◌}
 use Rattle.std.specs.Prelude.{drop, IfSome}
-use Rattle.vl_refusal.specs.Statements.{with_labels}
-use Rattle.vl_target.proofs.contexts.with_labels.Given as goal
+use Rattle.vl_elab_spec.specs.Statements.{with_labels}
+use Rattle.vl_elab_check_stmt.proofs.contexts.with_labels.Given as goal
 
 abbrev pub invariant-loop-label : goal.invariant-loop-label
 invariant-loop-label l = record {

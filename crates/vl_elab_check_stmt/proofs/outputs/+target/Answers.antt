@@ -1,8 +1,8 @@
 use Rattle.std.proofs.Common.{◌≡◌, ◌∙◌, ◌+◌, [], ◌∷◌, arith, sym}
 use Rattle.std.specs.Prelude.{drop}
 use Rattle.std.proofs.lemmas.Grind.{common_steps}
-use Rattle.vl_target.proofs.JoinedTargets.{targets_on, targets_end}
-use Rattle.vl_target.proofs.outputs.+target.Goals as goal
+use Rattle.vl_elab_check_stmt.proofs.JoinedTargets.{targets_on, targets_end}
+use Rattle.vl_elab_check_stmt.proofs.outputs.+target.Goals as goal
 
 pub targets_of-loop-part-preserved : goal.targets_of-loop-part-preserved
 targets_of-loop-part-preserved t c =

@@ -2,8 +2,8 @@ use Rattle.std.proofs.Common.{◌≡◌, ◌*◌, ◌+◌}
 use Rattle.std.specs.Prelude.{drop}
 use Rattle.vl_tree.specs.Expr.{exprs, depth, exprs_depth}
 use Rattle.vl_mean.specs.Parts.{targets_of}
-use Rattle.vl_target.specs.Outputs.{targets_before}
-use Rattle.vl_target.proofs.outputs.+target.Given as goal
+use Rattle.vl_elab_check_stmt.specs.Outputs.{targets_before}
+use Rattle.vl_elab_check_stmt.proofs.outputs.+target.Given as goal
 
 abbrev pub decreases-target_of : goal.decreases-target_of
 decreases-target_of l = 4 * depth l.expr.now

@@ -1,8 +1,8 @@
 use Rattle.std.proofs.Common.{◌≡◌, ◌≤◌, ◌*◌, ◌+◌, length}
 use Rattle.std.specs.Prelude.{drop}
 use Rattle.vl_tree.specs.Stmt.{stmts, depth, stmts_depth}
-use Rattle.vl_target.specs.Parts.{all_initial_fault}
-use Rattle.vl_target.proofs.stmts.+initial.Given as goal
+use Rattle.vl_elab_check_stmt.specs.Parts.{all_initial_fault}
+use Rattle.vl_elab_check_stmt.proofs.stmts.+initial.Given as goal
 
 abbrev pub decreases-judge_initial : goal.decreases-judge_initial
 decreases-judge_initial l = 4 * depth l.stmt.now

@@ -2,8 +2,8 @@ use Rattle.std.proofs.Common.{◌≡◌, ◌≤◌, ◌*◌, ◌+◌, length}
 use Rattle.std.specs.Prelude.{drop}
 use Rattle.vl_tree.specs.Stmt.{stmts, depth, stmts_depth, arms_depth, no_arms}
 use Rattle.vl_tree.specs.StmtView.{arms, with_arm}
-use Rattle.vl_target.specs.Parts.{stmts_fault, arms_fault}
-use Rattle.vl_target.proofs.stmts.+statement.Given as goal
+use Rattle.vl_elab_check_stmt.specs.Parts.{stmts_fault, arms_fault}
+use Rattle.vl_elab_check_stmt.proofs.stmts.+statement.Given as goal
 
 abbrev pub decreases-judge_stmt : goal.decreases-judge_stmt
 decreases-judge_stmt l = 5 * depth l.stmt.now

@@ -1,7 +1,7 @@
 use Rattle.std.proofs.Common.{◌≡◌, ◌≤◌, length}
 use Rattle.std.specs.Prelude.{drop}
-use Rattle.vl_target.specs.Parts.{labels_fault}
-use Rattle.vl_target.proofs.stmts.labels_fault.Given as goal
+use Rattle.vl_elab_check_stmt.specs.Parts.{labels_fault}
+use Rattle.vl_elab_check_stmt.proofs.stmts.labels_fault.Given as goal
 
 abbrev pub invariant-loop-place : goal.invariant-loop-place
 invariant-loop-place l = record {

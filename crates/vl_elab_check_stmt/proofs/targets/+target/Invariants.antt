@@ -1,9 +1,9 @@
 use Rattle.std.proofs.Common.{◌≡◌, ◌≤◌, ◌*◌, ◌+◌, length}
 use Rattle.std.specs.Prelude.{drop}
 use Rattle.vl_tree.specs.Lval.{lvals, depth, lvals_depth}
-use Rattle.vl_refusal.specs.Statements.{targets_width}
-use Rattle.vl_target.specs.Parts.{targets_fault}
-use Rattle.vl_target.proofs.targets.+target.Given as goal
+use Rattle.vl_elab_spec.specs.Statements.{targets_width}
+use Rattle.vl_elab_check_stmt.specs.Parts.{targets_fault}
+use Rattle.vl_elab_check_stmt.proofs.targets.+target.Given as goal
 
 abbrev pub decreases-judge_target : goal.decreases-judge_target
 decreases-judge_target l = 4 * depth l.target.now

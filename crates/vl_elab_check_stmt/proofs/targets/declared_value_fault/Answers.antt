@@ -1,11 +1,11 @@
 use Rattle.std.proofs.Common.{ap}
 use Rattle.vl_tree.specs.Expr.{whole}
 use Rattle.vl_tree.specs.Lval.{named}
-use Rattle.vl_refusal.specs.Expressions.{expr_refusals}
-use Rattle.vl_refusal.specs.Refused.{lowest}
-use Rattle.vl_refusal.specs.Statements.{assigned_in, target_refusals, target_width}
-use Rattle.vl_judge.proofs.Lowest.{lowest_two, ok_same}
-use Rattle.vl_target.proofs.targets.declared_value_fault.Goals as goal
+use Rattle.vl_elab_spec.specs.Expressions.{expr_refusals}
+use Rattle.vl_elab_spec.specs.Refused.{lowest}
+use Rattle.vl_elab_spec.specs.Statements.{assigned_in, target_refusals, target_width}
+use Rattle.vl_elab_check_expr.proofs.Lowest.{lowest_two, ok_same}
+use Rattle.vl_elab_check_stmt.proofs.targets.declared_value_fault.Goals as goal
 
 pub returns : goal.returns
 returns c =

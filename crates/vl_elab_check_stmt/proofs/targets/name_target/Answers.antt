@@ -2,14 +2,14 @@ use Rattle.std.proofs.Common.{ap, ◌∙◌, refl}
 use Rattle.std.specs.Prelude.{Some, None, false}
 use Rattle.vl_tree.specs.ExprView.{selects}
 use Rattle.vl_tree.specs.Lval.{named}
-use Rattle.vl_refusal.specs.declared.elab_fault.ElabFault.TheVariants as f
-use Rattle.vl_refusal.specs.Expressions.{too_wide}
-use Rattle.vl_refusal.specs.Meanings.{undeclared}
-use Rattle.vl_refusal.specs.Refused.{lower_of, lowest}
-use Rattle.vl_refusal.specs.Statements.{assigned_refusals, target_selects}
-use Rattle.vl_scope.specs.Seen.{seen}
-use Rattle.vl_target.proofs.TargetParts.{last_none, target_is}
-use Rattle.vl_target.proofs.targets.name_target.Goals as goal
+use Rattle.vl_elab_spec.specs.declared.elab_fault.ElabFault.TheVariants as f
+use Rattle.vl_elab_spec.specs.Expressions.{too_wide}
+use Rattle.vl_elab_spec.specs.Meanings.{undeclared}
+use Rattle.vl_elab_spec.specs.Refused.{lower_of, lowest}
+use Rattle.vl_elab_spec.specs.Statements.{assigned_refusals, target_selects}
+use Rattle.vl_elab_scope.specs.Seen.{seen}
+use Rattle.vl_elab_check_stmt.proofs.TargetParts.{last_none, target_is}
+use Rattle.vl_elab_check_stmt.proofs.targets.name_target.Goals as goal
 
 pub returns-in_ok-fault-in-Some-clause-fault : goal.returns-in_ok-fault-in-Some-clause-fault
 returns-in_ok-fault-in-Some-clause-fault c =

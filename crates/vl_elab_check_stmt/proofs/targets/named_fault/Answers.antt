@@ -1,6 +1,6 @@
 use Rattle.std.proofs.Common.{ap, ◌∙◌}
-use Rattle.vl_refusal.specs.Refused.{lower_of}
-use Rattle.vl_target.proofs.targets.named_fault.Goals as goal
+use Rattle.vl_elab_spec.specs.Refused.{lower_of}
+use Rattle.vl_elab_check_stmt.proofs.targets.named_fault.Goals as goal
 
 pub returns : goal.returns
 returns c =

@@ -3,8 +3,8 @@ use Rattle.std.specs.Prelude.{drop}
 use Rattle.vl_tree.specs.ExprView.{selects}
 use Rattle.vl_size.specs.Divisors.{selects_zero_divisor}
 use Rattle.vl_mean.specs.Constants.{settled_selects}
-use Rattle.vl_refusal.specs.Meanings.{constants, objects}
-use Rattle.vl_target.proofs.targets.selects_divisor.Given as goal
+use Rattle.vl_elab_spec.specs.Meanings.{constants, objects}
+use Rattle.vl_elab_check_stmt.proofs.targets.selects_divisor.Given as goal
 
 abbrev pub invariant-loop-place : goal.invariant-loop-place
 invariant-loop-place l = record {

@@ -1,7 +1,7 @@
 use Rattle.std.proofs.Common.{◌∙◌, ap}
-use Rattle.vl_refusal.specs.Expressions.{expr_refusals}
-use Rattle.vl_refusal.specs.Refused.{lower_of, lowest}
-use Rattle.vl_target.proofs.targets.with_value.Goals as goal
+use Rattle.vl_elab_spec.specs.Expressions.{expr_refusals}
+use Rattle.vl_elab_spec.specs.Refused.{lower_of, lowest}
+use Rattle.vl_elab_check_stmt.proofs.targets.with_value.Goals as goal
 
 pub returns : goal.returns
 returns c =

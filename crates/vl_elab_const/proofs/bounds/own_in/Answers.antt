@@ -1,7 +1,7 @@
 use Rattle.std.proofs.Common.{◌∙◌}
 use Rattle.fv_bits.specs.Bits.{as_int}
 use Rattle.vl_size.specs.Size.{operand_of, index_of}
-use Rattle.vl_extent.proofs.bounds.own_in.Goals as goal
+use Rattle.vl_elab_const.proofs.bounds.own_in.Goals as goal
 
 pub returns : goal.returns
 returns c =

@@ -1,9 +1,9 @@
 use Rattle.std.proofs.Common.{◌≡◌, ◌+◌, [], ◌∷◌, arith}
 use Rattle.std.specs.Prelude.{drop}
 use Rattle.std.proofs.lemmas.Grind.{common_steps}
-use Rattle.vl_number.specs.Given.{value_given}
-use Rattle.vl_number.proofs.Gives.{gives_start, gives_on, gives_end}
-use Rattle.vl_number.proofs.given.all_written.Goals as goal
+use Rattle.vl_elab_const.specs.Given.{value_given}
+use Rattle.vl_elab_const.proofs.Gives.{gives_start, gives_on, gives_end}
+use Rattle.vl_elab_const.proofs.given.all_written.Goals as goal
 
 pub loop-written-init : goal.loop-written-init
 loop-written-init c other =

@@ -1,8 +1,8 @@
 use Rattle.std.proofs.Common.{◌≡◌, ℕ, List}
 use Rattle.std.specs.Prelude.{drop}
-use Rattle.vl_scope.specs.Texts.{or_else}
-use Rattle.vl_number.specs.Given.{value_given, first_value}
-use Rattle.vl_number.proofs.given.all_written.Given as goal
+use Rattle.vl_elab_scope.specs.Texts.{or_else}
+use Rattle.vl_elab_const.specs.Given.{value_given, first_value}
+use Rattle.vl_elab_const.proofs.given.all_written.Given as goal
 
 abbrev pub invariant-loop-written : goal.invariant-loop-written
 invariant-loop-written l =

@@ -2,10 +2,10 @@ use Rattle.std.proofs.Common.{List, ℕ, ◌≡◌}
 use Rattle.std.proofs.lemmas.Result.{IfOk-weaker}
 use Rattle.vl_mean.specs.Scopes.{Scope}
 use Rattle.vl_mean.specs.Walk.{overrides_of}
-use Rattle.vl_number.specs.Given.{IsGiven, value_given, first_value}
-use Rattle.vl_number.specs.Numbers.{HaveNumbers}
-use Rattle.vl_number.proofs.Gives.{all_given}
-use Rattle.vl_number.proofs.given.given_by.Goals as goal
+use Rattle.vl_elab_const.specs.Given.{IsGiven, value_given, first_value}
+use Rattle.vl_elab_const.specs.Numbers.{HaveNumbers}
+use Rattle.vl_elab_const.proofs.Gives.{all_given}
+use Rattle.vl_elab_const.proofs.given.given_by.Goals as goal
 
 pub returns : goal.returns
 returns c =

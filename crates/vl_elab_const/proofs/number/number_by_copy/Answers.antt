@@ -1,7 +1,7 @@
 use Rattle.std.proofs.Common.{◌∙◌}
 use Rattle.std.specs.Prelude.{[], max}
 use Rattle.vl_size.specs.Size.{operand_of, no_names}
-use Rattle.vl_number.proofs.number.number_by_copy.Goals as goal
+use Rattle.vl_elab_const.proofs.number.number_by_copy.Goals as goal
 
 pub returns : goal.returns
 returns c =

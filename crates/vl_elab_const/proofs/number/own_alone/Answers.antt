@@ -1,7 +1,7 @@
 use Rattle.std.proofs.Common.{◌∙◌, ap}
 use Rattle.vl_size.specs.Sign.{sign}
 use Rattle.vl_size.specs.Size.{operand_of, or_none, own, size}
-use Rattle.vl_number.proofs.number.own_alone.Goals as goal
+use Rattle.vl_elab_const.proofs.number.own_alone.Goals as goal
 
 pub returns-clause-width : goal.returns-clause-width
 returns-clause-width c =

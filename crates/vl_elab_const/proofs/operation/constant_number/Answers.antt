@@ -1,5 +1,5 @@
-use Rattle.vl_number.proofs.Operating.{constant_is}
-use Rattle.vl_number.proofs.operation.constant_number.Goals as goal
+use Rattle.vl_elab_const.proofs.Operating.{constant_is}
+use Rattle.vl_elab_const.proofs.operation.constant_number.Goals as goal
 
 pub returns-in-Some : goal.returns-in-Some
 returns-in-Some c =

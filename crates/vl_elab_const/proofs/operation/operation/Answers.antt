@@ -2,8 +2,8 @@ use Rattle.std.proofs.Common.{ap, sym, ◌∙◌}
 use Rattle.fv_bits.specs.Bits.{bit, extended}
 use Rattle.vl_size.proofs.RowLemmas.{extended_same}
 use Rattle.vl_size.specs.Size.{arithmetic, binary_number, shifted}
-use Rattle.vl_number.specs.Operations.{number_operand}
-use Rattle.vl_number.proofs.operation.operation.Goals as goal
+use Rattle.vl_elab_const.specs.Operations.{number_operand}
+use Rattle.vl_elab_const.proofs.operation.operation.Goals as goal
 
 pub returns-in-Larger : goal.returns-in-Larger
 returns-in-Larger c =

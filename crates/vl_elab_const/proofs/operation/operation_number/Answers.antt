@@ -3,9 +3,9 @@ use Rattle.std.specs.Prelude.{max}
 use Rattle.vl_tree.specs.Expr.{binary}
 use Rattle.vl_tree.specs.ExprView.{shown}
 use Rattle.vl_size.specs.Size.{no_names, operand_of}
-use Rattle.vl_refusal.specs.Expressions.{known}
-use Rattle.vl_number.proofs.Operating.{operation_is}
-use Rattle.vl_number.proofs.operation.operation_number.Goals as goal
+use Rattle.vl_elab_spec.specs.Expressions.{known}
+use Rattle.vl_elab_const.proofs.Operating.{operation_is}
+use Rattle.vl_elab_const.proofs.operation.operation_number.Goals as goal
 
 pub returns-in_ok-y-in-Binary : goal.returns-in_ok-y-in-Binary
 returns-in_ok-y-in-Binary c =

@@ -2,9 +2,9 @@ use Rattle.std.proofs.Common.{◌≡◌, ◌∙◌, [], ap, sym}
 use Rattle.vl_tree.specs.declared.expr.ExprKind.TheVariants as k
 use Rattle.vl_tree.specs.Expr.{name, whole}
 use Rattle.vl_tree.specs.ExprView.{selects, shown}
-use Rattle.vl_refusal.specs.Expressions.{known}
-use Rattle.vl_number.proofs.Operating.{here, no_selects}
-use Rattle.vl_number.proofs.operation.own_number.Goals as goal
+use Rattle.vl_elab_spec.specs.Expressions.{known}
+use Rattle.vl_elab_const.proofs.Operating.{here, no_selects}
+use Rattle.vl_elab_const.proofs.operation.own_number.Goals as goal
 
 pub returns-in-Number : goal.returns-in-Number
 returns-in-Number c =

@@ -2,7 +2,7 @@ use Rattle.std.proofs.Common.{◌∙◌}
 use Rattle.std.specs.Prelude.{[], max}
 use Rattle.vl_size.specs.Size.{operand_of, no_names}
 use Rattle.vl_mean.specs.Constants.{cut_to}
-use Rattle.vl_number.proofs.parameter.assigned.Goals as goal
+use Rattle.vl_elab_const.proofs.parameter.assigned.Goals as goal
 
 pub returns : goal.returns
 returns c =

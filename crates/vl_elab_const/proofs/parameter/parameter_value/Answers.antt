@@ -2,10 +2,10 @@ use Rattle.std.proofs.Common.{List, ◌≡◌, ◌∙◌}
 use Rattle.std.proofs.lemmas.Result.{IfOk-weaker}
 use Rattle.vl_mean.specs.Declarations.{Overrides, parameter_value}
 use Rattle.vl_mean.specs.Scopes.{Scope}
-use Rattle.vl_number.specs.Given.{IsGiven, value_given}
-use Rattle.vl_number.specs.Numbers.{HaveNumbers, parameter_number}
-use Rattle.vl_number.proofs.Values.{number_is}
-use Rattle.vl_number.proofs.parameter.parameter_value.Goals as goal
+use Rattle.vl_elab_const.specs.Given.{IsGiven, value_given}
+use Rattle.vl_elab_const.specs.Numbers.{HaveNumbers, parameter_number}
+use Rattle.vl_elab_const.proofs.Values.{number_is}
+use Rattle.vl_elab_const.proofs.parameter.parameter_value.Goals as goal
 
 pub returns-clause-value : goal.returns-clause-value
 returns-clause-value c =

@@ -1,7 +1,7 @@
 use Rattle.std.proofs.Common.{◌∙◌, ap}
 use Rattle.std.specs.Prelude.{◌||◌}
 use Rattle.vl_mean.specs.Constants.{cut_to}
-use Rattle.vl_number.proofs.parameter.with_own_size.Goals as goal
+use Rattle.vl_elab_const.proofs.parameter.with_own_size.Goals as goal
 
 pub returns : goal.returns
 returns c =

@@ -2,10 +2,10 @@ use Rattle.std.proofs.Common.{◌≡◌, List}
 use Rattle.std.proofs.lemmas.Result.{IfOk-weaker}
 use Rattle.vl_mean.specs.Declarations.{bounds_of, vector_bounds}
 use Rattle.vl_mean.specs.Scopes.{Scope}
-use Rattle.vl_number.specs.Numbers.{HaveNumbers}
-use Rattle.vl_extent.specs.InRange.{AreBounds}
-use Rattle.vl_extent.proofs.Extents.{no_range, some_range}
-use Rattle.vl_extent.proofs.ranges.bounds_in.Goals as goal
+use Rattle.vl_elab_const.specs.Numbers.{HaveNumbers}
+use Rattle.vl_elab_const.specs.InRange.{AreBounds}
+use Rattle.vl_elab_const.proofs.Extents.{no_range, some_range}
+use Rattle.vl_elab_const.proofs.ranges.bounds_in.Goals as goal
 
 pub returns-in-None : goal.returns-in-None
 returns-in-None c = λ ss h b. no_range ss c.args.range.now c.in-None.is

@@ -1,6 +1,6 @@
 use Rattle.vl_mean.specs.Declarations.{vector_bounds}
-use Rattle.vl_extent.proofs.Extents.{covered}
-use Rattle.vl_extent.proofs.ranges.extent_in.Goals as goal
+use Rattle.vl_elab_const.proofs.Extents.{covered}
+use Rattle.vl_elab_const.proofs.ranges.extent_in.Goals as goal
 
 pub returns : goal.returns
 returns c = λ ss h b.

@@ -1,7 +1,7 @@
 use Rattle.std.proofs.Common.{rules}
 use Rattle.vl_mean.specs.Declarations.{bounds_of}
-use Rattle.vl_extent.proofs.Extents.{pair_is, through}
-use Rattle.vl_extent.proofs.ranges.pair_in.Goals as goal
+use Rattle.vl_elab_const.proofs.Extents.{pair_is, through}
+use Rattle.vl_elab_const.proofs.ranges.pair_in.Goals as goal
 
 pub returns : goal.returns
 returns c = λ ss h b.

@@ -1,5 +1,5 @@
-use Rattle.vl_extent.proofs.Extents.{no_words, some_words}
-use Rattle.vl_extent.proofs.ranges.words_in.Goals as goal
+use Rattle.vl_elab_const.proofs.Extents.{no_words, some_words}
+use Rattle.vl_elab_const.proofs.ranges.words_in.Goals as goal
 
 pub returns-in-None : goal.returns-in-None
 returns-in-None c = λ ss h b. no_words ss c.args.range.now c.in-None.is

@@ -1,7 +1,7 @@
 use Rattle.std.proofs.Common.{◌∙◌, ap, sym}
 use Rattle.vl_tree.specs.ItemView.{block, shown}
-use Rattle.vl_count.proofs.Loops.{loop_nodes}
-use Rattle.vl_count.proofs.items.item_nodes.Goals as goal
+use Rattle.vl_elab_count.proofs.Loops.{loop_nodes}
+use Rattle.vl_elab_count.proofs.count_items.item_nodes.Goals as goal
 
 pub returns-in-For : goal.returns-in-For
 returns-in-For c at holds turns =

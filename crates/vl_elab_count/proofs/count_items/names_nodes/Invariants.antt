@@ -1,8 +1,8 @@
 use Rattle.std.proofs.Common.{◌≡◌, ◌≤◌, length}
 use Rattle.std.specs.Prelude.{drop}
 use Rattle.vl_mean.specs.ConstantFaults.{capped}
-use Rattle.vl_refusal.specs.Counts.{name_nodes}
-use Rattle.vl_count.proofs.items.names_nodes.Given as goal
+use Rattle.vl_elab_spec.specs.Counts.{name_nodes}
+use Rattle.vl_elab_count.proofs.count_items.names_nodes.Given as goal
 
 abbrev pub invariant-loop-place : goal.invariant-loop-place
 invariant-loop-place l = record {

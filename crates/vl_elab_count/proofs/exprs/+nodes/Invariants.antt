@@ -4,7 +4,7 @@ use Rattle.vl_tree.specs.Expr.{exprs, depth, exprs_depth, selects_depth, whole}
 use Rattle.vl_tree.specs.ExprView.{selects, with_select}
 use Rattle.vl_mean.specs.ConstantFaults.{capped}
 use Rattle.vl_mean.specs.FlatLaw.{all_nodes, select_nodes}
-use Rattle.vl_count.proofs.exprs.+nodes.Given as goal
+use Rattle.vl_elab_count.proofs.exprs.+nodes.Given as goal
 
 abbrev pub decreases-expr_nodes : goal.decreases-expr_nodes
 decreases-expr_nodes l = 4 * depth l.expr.now

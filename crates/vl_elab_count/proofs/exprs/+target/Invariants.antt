@@ -3,7 +3,7 @@ use Rattle.std.specs.Prelude.{drop}
 use Rattle.vl_tree.specs.Lval.{lvals, depth, lvals_depth}
 use Rattle.vl_mean.specs.ConstantFaults.{capped}
 use Rattle.vl_mean.specs.FlatLaw.{all_target_nodes}
-use Rattle.vl_count.proofs.exprs.+target.Given as goal
+use Rattle.vl_elab_count.proofs.exprs.+target.Given as goal
 
 abbrev pub decreases-target_nodes : goal.decreases-target_nodes
 decreases-target_nodes l = 4 * depth l.target.now

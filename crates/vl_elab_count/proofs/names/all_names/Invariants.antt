@@ -1,8 +1,8 @@
 use Rattle.std.proofs.Common.{◌≡◌, ◌≤◌, length}
 use Rattle.std.specs.Prelude.{drop}
 use Rattle.vl_mean.specs.ConstantFaults.{capped}
-use Rattle.vl_totals.specs.Counts.{names_count}
-use Rattle.vl_totals.proofs.names.all_names.Given as goal
+use Rattle.vl_elab_count.specs.Counts.{names_count}
+use Rattle.vl_elab_count.proofs.names.all_names.Given as goal
 
 abbrev pub invariant-loop-place : goal.invariant-loop-place
 invariant-loop-place l = record {

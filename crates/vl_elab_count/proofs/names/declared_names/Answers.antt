@@ -5,10 +5,10 @@ use Rattle.vl_mean.specs.ConstantFaults.{capped}
 use Rattle.vl_mean.specs.Declarations.{declared_by}
 use Rattle.vl_mean.specs.FlatLaw.{all_names_count}
 use Rattle.vl_mean.specs.Scopes.{Scope}
-use Rattle.vl_number.specs.Numbers.{HaveNumbers}
-use Rattle.vl_totals.specs.Counts.{item_count}
-use Rattle.vl_totals.proofs.Numbers.{same_count}
-use Rattle.vl_totals.proofs.names.declared_names.Goals as goal
+use Rattle.vl_elab_const.specs.Numbers.{HaveNumbers}
+use Rattle.vl_elab_count.specs.Counts.{item_count}
+use Rattle.vl_elab_count.proofs.Numbers.{same_count}
+use Rattle.vl_elab_count.proofs.names.declared_names.Goals as goal
 
 pub returns-clause-count : goal.returns-clause-count
 returns-clause-count c =

@@ -1,7 +1,7 @@
 use Rattle.std.proofs.Common.{◌∙◌, ◌∷◌, sym, ap}
 use Rattle.vl_mean.specs.ConstantFaults.{capped}
-use Rattle.vl_totals.specs.Counts.{names_count}
-use Rattle.vl_totals.proofs.names.names_around.Goals as goal
+use Rattle.vl_elab_count.specs.Counts.{names_count}
+use Rattle.vl_elab_count.proofs.names.names_around.Goals as goal
 
 pub returns-clause-numbers : goal.returns-clause-numbers
 returns-clause-numbers c =

@@ -4,7 +4,7 @@ use Rattle.vl_tree.specs.Stmt.{stmts, depth, stmts_depth, arms_depth, no_arms}
 use Rattle.vl_tree.specs.StmtView.{arms, with_arm}
 use Rattle.vl_mean.specs.ConstantFaults.{capped}
 use Rattle.vl_mean.specs.FlatLaw.{all_stmt_nodes, arm_nodes}
-use Rattle.vl_count.proofs.stmts.+nodes.Given as goal
+use Rattle.vl_elab_count.proofs.stmts.+nodes.Given as goal
 
 abbrev pub decreases-stmt_nodes : goal.decreases-stmt_nodes
 decreases-stmt_nodes l = 4 * depth l.stmt.now

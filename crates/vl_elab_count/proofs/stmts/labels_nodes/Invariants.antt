@@ -2,7 +2,7 @@ use Rattle.std.proofs.Common.{◌≡◌, ◌≤◌, length}
 use Rattle.std.specs.Prelude.{drop}
 use Rattle.vl_mean.specs.ConstantFaults.{capped}
 use Rattle.vl_mean.specs.FlatLaw.{label_nodes}
-use Rattle.vl_count.proofs.stmts.labels_nodes.Given as goal
+use Rattle.vl_elab_count.proofs.stmts.labels_nodes.Given as goal
 
 abbrev pub invariant-loop-place : goal.invariant-loop-place
 invariant-loop-place l = record {

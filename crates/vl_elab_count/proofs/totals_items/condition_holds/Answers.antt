@@ -2,10 +2,10 @@ use Rattle.std.proofs.Common.{◌≡◌, ◌∙◌, ap, sym}
 use Rattle.std.proofs.lemmas.Result.{IfOk-weaker}
 use Rattle.vl_tree.specs.ItemView.{shown}
 use Rattle.vl_mean.specs.Walk.{Place}
-use Rattle.vl_number.specs.Numbers.{HaveNumbers, holds}
-use Rattle.vl_count.specs.Parts.{Holds}
-use Rattle.vl_totals.proofs.Numbers.{if_holds}
-use Rattle.vl_totals.proofs.items.condition_holds.Goals as goal
+use Rattle.vl_elab_const.specs.Numbers.{HaveNumbers, holds}
+use Rattle.vl_elab_count.specs.Parts.{Holds}
+use Rattle.vl_elab_count.proofs.Numbers.{if_holds}
+use Rattle.vl_elab_count.proofs.totals_items.condition_holds.Goals as goal
 
 pub returns-in-If-default-default-None : goal.returns-in-If-default-default-None
 returns-in-If-default-default-None c =

@@ -3,11 +3,11 @@ use Rattle.std.proofs.lemmas.Result.{IfOk-weaker}
 use Rattle.vl_tree.specs.ItemView.{shown}
 use Rattle.vl_mean.specs.ConstantFaults.{capped}
 use Rattle.vl_mean.specs.Walk.{Place, first_turn}
-use Rattle.vl_refusal.specs.Counts as counts
-use Rattle.vl_number.specs.Numbers.{HaveNumbers}
-use Rattle.vl_count.specs.Parts.{TurnsHave}
-use Rattle.vl_totals.proofs.Numbers.{turns_have}
-use Rattle.vl_totals.proofs.items.turns_of.Goals as goal
+use Rattle.vl_elab_spec.specs.Counts as counts
+use Rattle.vl_elab_const.specs.Numbers.{HaveNumbers}
+use Rattle.vl_elab_count.specs.Parts.{TurnsHave}
+use Rattle.vl_elab_count.proofs.Numbers.{turns_have}
+use Rattle.vl_elab_count.proofs.totals_items.turns_of.Goals as goal
 
 pub returns-in-For-clause-count : goal.returns-in-For-clause-count
 returns-in-For-clause-count c =

@@ -1,9 +1,9 @@
 use Rattle.std.proofs.Common.{◌≡◌, ◌∙◌, ap}
 use Rattle.std.proofs.lemmas.Result.{IfOk-weaker}
 use Rattle.vl_mean.specs.ConstantFaults.{capped}
-use Rattle.vl_number.specs.Numbers.{genvar_number}
-use Rattle.vl_totals.specs.Counts.{turn_nodes}
-use Rattle.vl_totals.proofs.turns.all_turns.Goals as goal
+use Rattle.vl_elab_const.specs.Numbers.{genvar_number}
+use Rattle.vl_elab_count.specs.Counts.{turn_nodes}
+use Rattle.vl_elab_count.proofs.turns.all_turns.Goals as goal
 
 pub returns-clause-count : goal.returns-clause-count
 returns-clause-count c =

@@ -2,11 +2,11 @@ use Rattle.std.proofs.Common.{◌≡◌, ◌∙◌, ap}
 use Rattle.std.proofs.lemmas.Result.{IfOk-weaker}
 use Rattle.vl_mean.specs.ConstantFaults.{capped}
 use Rattle.vl_mean.specs.Walk.{Place, first_turn}
-use Rattle.vl_refusal.specs.Counts as counts
-use Rattle.vl_number.specs.Numbers.{HaveNumbers, genvar_number}
-use Rattle.vl_totals.specs.Counts.{turn_nodes}
-use Rattle.vl_totals.proofs.Numbers.{all_turns}
-use Rattle.vl_totals.proofs.turns.loop_nodes.Goals as goal
+use Rattle.vl_elab_spec.specs.Counts as counts
+use Rattle.vl_elab_const.specs.Numbers.{HaveNumbers, genvar_number}
+use Rattle.vl_elab_count.specs.Counts.{turn_nodes}
+use Rattle.vl_elab_count.proofs.Numbers.{all_turns}
+use Rattle.vl_elab_count.proofs.turns.loop_nodes.Goals as goal
 
 pub returns-clause-count : goal.returns-clause-count
 returns-clause-count c =

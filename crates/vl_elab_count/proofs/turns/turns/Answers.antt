@@ -3,12 +3,12 @@ use Rattle.std.specs.Prelude.{Some, None, if◌then◌else◌}
 use Rattle.std.proofs.lemmas.Grind.{common_steps}
 use Rattle.vl_mean.specs.ConstantFaults.{capped}
 use Rattle.vl_mean.specs.FlatLaw.{nodes}
-use Rattle.vl_number.specs.Numbers.{holds, genvar_number}
-use Rattle.vl_turn.specs.Parts.{in_turn}
-use Rattle.vl_count.proofs.Sums.{one}
-use Rattle.vl_totals.specs.Counts.{turn_nodes}
-use Rattle.vl_totals.proofs.Sums.{turns_on, turns_stop, last_turn, once, none_yet}
-use Rattle.vl_totals.proofs.turns.turns.Goals as goal
+use Rattle.vl_elab_const.specs.Numbers.{holds, genvar_number}
+use Rattle.vl_elab_check_item.specs.TurnParts.{in_turn}
+use Rattle.vl_elab_count.proofs.CountSums.{one}
+use Rattle.vl_elab_count.specs.Counts.{turn_nodes}
+use Rattle.vl_elab_count.proofs.TotalsSums.{turns_on, turns_stop, last_turn, once, none_yet}
+use Rattle.vl_elab_count.proofs.turns.turns.Goals as goal
 
 pub loop-left-init : goal.loop-left-init
 loop-left-init c = record {

@@ -1,7 +1,7 @@
 use Rattle.std.proofs.Common.{◌≡◌, ◌≤◌, ◌+◌}
 use Rattle.vl_mean.specs.ConstantFaults.{capped}
-use Rattle.vl_totals.specs.Counts.{turn_nodes}
-use Rattle.vl_totals.proofs.turns.turns.Given as goal
+use Rattle.vl_elab_count.specs.Counts.{turn_nodes}
+use Rattle.vl_elab_count.proofs.turns.turns.Given as goal
 
 abbrev pub invariant-loop-left : goal.invariant-loop-left
 invariant-loop-left l = record {

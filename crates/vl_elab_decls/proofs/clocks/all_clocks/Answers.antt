@@ -1,9 +1,9 @@
 use Rattle.std.proofs.Common.{◌≡◌, ◌∙◌, ◌+◌, [], ◌∷◌, ap, sym, arith}
 use Rattle.std.specs.Prelude.{drop, None}
 use Rattle.std.proofs.lemmas.Grind.{common_steps}
-use Rattle.name_set.specs.Known.{contains}
-use Rattle.vl_stand.specs.Clocks.{clocks_of, with_clock, with_port}
-use Rattle.vl_stand.proofs.clocks.all_clocks.Goals as goal
+use Rattle.vl_elab_names.specs.Known.{contains}
+use Rattle.vl_elab_decls.specs.Clocks.{clocks_of, with_clock, with_port}
+use Rattle.vl_elab_decls.proofs.clocks.all_clocks.Goals as goal
 
 pub loop-port-init : goal.loop-port-init
 loop-port-init c other =

@@ -1,8 +1,8 @@
 use Rattle.std.proofs.Common.{◌≡◌, false, ℕ, List, None}
 use Rattle.std.specs.Prelude.{drop}
-use Rattle.name_set.specs.Known.{contains}
-use Rattle.vl_stand.specs.Clocks.{clocks_of}
-use Rattle.vl_stand.proofs.clocks.all_clocks.Given as goal
+use Rattle.vl_elab_names.specs.Known.{contains}
+use Rattle.vl_elab_decls.specs.Clocks.{clocks_of}
+use Rattle.vl_elab_decls.proofs.clocks.all_clocks.Given as goal
 
 abbrev pub invariant-loop-port : goal.invariant-loop-port
 invariant-loop-port l =

@@ -5,11 +5,11 @@ use Rattle.vl_size.specs.Table.{declared_as}
 use Rattle.vl_mean.specs.Declarations.{declared_ports, full_ports}
 use Rattle.vl_mean.specs.Scopes.{Scope, is_clock_decl}
 use Rattle.vl_mean.specs.Walk.{Use}
-use Rattle.name_set.specs.Known.{contains}
-use Rattle.vl_shape.specs.Inputs.{AreInputs}
-use Rattle.vl_stand.specs.Clocks.{clocks_of}
-use Rattle.vl_stand.proofs.PortClocks.{clocks_are}
-use Rattle.vl_stand.proofs.clocks.clock_inputs.Goals as goal
+use Rattle.vl_elab_names.specs.Known.{contains}
+use Rattle.vl_elab_decls.specs.Inputs.{AreInputs}
+use Rattle.vl_elab_decls.specs.Clocks.{clocks_of}
+use Rattle.vl_elab_decls.proofs.PortClocks.{clocks_are}
+use Rattle.vl_elab_decls.proofs.clocks.clock_inputs.Goals as goal
 
 pub returns : goal.returns
 returns c =

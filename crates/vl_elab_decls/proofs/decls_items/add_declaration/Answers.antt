@@ -1,7 +1,7 @@
 use Rattle.std.proofs.lemmas.Result.{on_ok_weaker}
-use Rattle.vl_decls.specs.Forms.{declared_class}
-use Rattle.vl_decls.proofs.Declared.{declared_so}
-use Rattle.vl_decls.proofs.items.add_declaration.Goals as goal
+use Rattle.vl_elab_decls.specs.Forms.{declared_class}
+use Rattle.vl_elab_decls.proofs.Declared.{declared_so}
+use Rattle.vl_elab_decls.proofs.decls_items.add_declaration.Goals as goal
 
 pub returns : goal.returns
 returns c =

@@ -1,6 +1,6 @@
 use Rattle.std.proofs.lemmas.Result.{on_ok_weaker}
-use Rattle.vl_decls.proofs.Declared.{integers_so}
-use Rattle.vl_decls.proofs.items.add_integers.Goals as goal
+use Rattle.vl_elab_decls.proofs.Declared.{integers_so}
+use Rattle.vl_elab_decls.proofs.decls_items.add_integers.Goals as goal
 
 pub returns : goal.returns
 returns c =

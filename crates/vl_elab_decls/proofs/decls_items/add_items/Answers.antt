@@ -3,9 +3,9 @@ use Rattle.std.specs.Prelude.{drop}
 use Rattle.std.proofs.lemmas.Grind.{common_steps}
 use Rattle.vl_tree.specs.Item.{items}
 use Rattle.vl_mean.specs.Declarations.{declared, declared_by}
-use Rattle.vl_openable.specs.Openable.{IsInRange}
-use Rattle.vl_decls.proofs.Going.{goes_first, goes_last, goes_on}
-use Rattle.vl_decls.proofs.items.add_items.Goals as goal
+use Rattle.vl_elab_const.specs.Openable.{IsInRange}
+use Rattle.vl_elab_decls.proofs.Going.{goes_first, goes_last, goes_on}
+use Rattle.vl_elab_decls.proofs.decls_items.add_items.Goals as goal
 
 pub loop-item-init : goal.loop-item-init
 loop-item-init c ss h k = goes_first IsInRange c.args.decls.now (declared ss (items c.args.all.now)) k

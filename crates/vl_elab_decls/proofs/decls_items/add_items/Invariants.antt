@@ -4,10 +4,10 @@ use Rattle.vl_tree.specs.Item.{items}
 use Rattle.vl_mean.specs.Declarations.{declared}
 use Rattle.vl_mean.specs.Runs.{Each}
 use Rattle.vl_mean.specs.Scopes.{Scope}
-use Rattle.vl_number.specs.Numbers.{HaveNumbers}
-use Rattle.vl_openable.specs.Openable.{IsInRange}
-use Rattle.vl_decls.proofs.Going.{Goes}
-use Rattle.vl_decls.proofs.items.add_items.Given as goal
+use Rattle.vl_elab_const.specs.Numbers.{HaveNumbers}
+use Rattle.vl_elab_const.specs.Openable.{IsInRange}
+use Rattle.vl_elab_decls.proofs.Going.{Goes}
+use Rattle.vl_elab_decls.proofs.decls_items.add_items.Given as goal
 
 abbrev pub invariant-loop-item : goal.invariant-loop-item
 invariant-loop-item l =

@@ -1,9 +1,9 @@
 use Rattle.std.proofs.Common.{◌≡◌, ◌+◌, ◌++◌, [], ◌∷◌, ap, arith}
 use Rattle.std.specs.Prelude.{drop}
 use Rattle.std.proofs.lemmas.Grind.{common_steps}
-use Rattle.vl_decls.specs.Forms.{HasWords, all_with, one_with}
-use Rattle.vl_decls.proofs.Going.{goes_first, goes_last, goes_on}
-use Rattle.vl_decls.proofs.items.add_names.Goals as goal
+use Rattle.vl_elab_decls.specs.Forms.{HasWords, all_with, one_with}
+use Rattle.vl_elab_decls.proofs.Going.{goes_first, goes_last, goes_on}
+use Rattle.vl_elab_decls.proofs.decls_items.add_names.Goals as goal
 
 pub loop-name-init : goal.loop-name-init
 loop-name-init c ss h k = goes_first HasWords c.args.decls.now (all_with ss c.args.form c.args.all.now) k

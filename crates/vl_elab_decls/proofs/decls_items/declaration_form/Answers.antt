@@ -1,7 +1,7 @@
 use Rattle.std.specs.Prelude.{refl}
 use Rattle.std.proofs.Common.{◌∙◌, ap}
 use Rattle.vl_mean.specs.Declarations.{class_of_attributes, joined_attributes}
-use Rattle.vl_decls.proofs.items.declaration_form.Goals as goal
+use Rattle.vl_elab_decls.proofs.decls_items.declaration_form.Goals as goal
 
 pub returns : goal.returns
 returns c ss h = record {

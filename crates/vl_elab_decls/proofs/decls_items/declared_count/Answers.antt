@@ -1,8 +1,8 @@
 use Rattle.std.proofs.Common.{◌≡◌, ◌∙◌, ap, sym}
 use Rattle.vl_tree.specs.Item.{declaration, integer}
 use Rattle.vl_tree.specs.ItemView.{shown}
-use Rattle.vl_decls.proofs.Declared.{declaration_count, integers_count}
-use Rattle.vl_decls.proofs.items.declared_count.Goals as goal
+use Rattle.vl_elab_decls.proofs.Declared.{declaration_count, integers_count}
+use Rattle.vl_elab_decls.proofs.decls_items.declared_count.Goals as goal
 
 pub returns-in-Declaration : goal.returns-in-Declaration
 returns-in-Declaration c ss =

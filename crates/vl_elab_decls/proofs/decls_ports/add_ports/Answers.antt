@@ -2,9 +2,9 @@ use Rattle.std.proofs.Common.{◌≡◌, ◌∙◌, ◌+◌, ◌++◌, [], ◌�
 use Rattle.std.specs.Prelude.{drop}
 use Rattle.std.proofs.lemmas.Grind.{common_steps}
 use Rattle.vl_mean.specs.Declarations.{declared_ports, full_ports}
-use Rattle.vl_decls.specs.Ports.{decls_with}
-use Rattle.vl_decls.proofs.PortDecls.{ports_first, ports_last, ports_on}
-use Rattle.vl_decls.proofs.ports.add_ports.Goals as goal
+use Rattle.vl_elab_decls.specs.Ports.{decls_with}
+use Rattle.vl_elab_decls.proofs.PortDecls.{ports_first, ports_last, ports_on}
+use Rattle.vl_elab_decls.proofs.decls_ports.add_ports.Goals as goal
 
 pub loop-port-init : goal.loop-port-init
 loop-port-init c ss u g h k = ports_first ss u c.args.inputs.now g c.args.decls.now c.args.all.now k

@@ -4,11 +4,11 @@ use Rattle.vl_mean.specs.Declarations.{declared_ports, full_ports}
 use Rattle.vl_mean.specs.Runs.{Each}
 use Rattle.vl_mean.specs.Scopes.{Scope}
 use Rattle.vl_mean.specs.Walk.{Use}
-use Rattle.vl_number.specs.Numbers.{HaveNumbers}
-use Rattle.vl_openable.specs.Openable.{IsInRange}
-use Rattle.vl_shape.specs.Inputs.{AreInputs}
-use Rattle.vl_decls.proofs.PortDecls.{PortsGo}
-use Rattle.vl_decls.proofs.ports.add_ports.Given as goal
+use Rattle.vl_elab_const.specs.Numbers.{HaveNumbers}
+use Rattle.vl_elab_const.specs.Openable.{IsInRange}
+use Rattle.vl_elab_decls.specs.Inputs.{AreInputs}
+use Rattle.vl_elab_decls.proofs.PortDecls.{PortsGo}
+use Rattle.vl_elab_decls.proofs.decls_ports.add_ports.Given as goal
 
 abbrev pub invariant-loop-port : goal.invariant-loop-port
 invariant-loop-port l =

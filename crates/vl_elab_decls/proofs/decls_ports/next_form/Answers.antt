@@ -1,5 +1,5 @@
-use Rattle.vl_decls.proofs.PortDecls.{next_full, next_short}
-use Rattle.vl_decls.proofs.ports.next_form.Goals as goal
+use Rattle.vl_elab_decls.proofs.PortDecls.{next_full, next_short}
+use Rattle.vl_elab_decls.proofs.decls_ports.next_form.Goals as goal
 
 pub returns-in_ok-form-in-Full : goal.returns-in_ok-form-in-Full
 returns-in_ok-form-in-Full c ss q h last =

@@ -1,5 +1,5 @@
 use Rattle.std.specs.Prelude.{refl}
-use Rattle.vl_decls.proofs.ports.port_form.Goals as goal
+use Rattle.vl_elab_decls.proofs.decls_ports.port_form.Goals as goal
 
 pub returns : goal.returns
 returns c ss h = record {

@@ -1,9 +1,9 @@
 use Rattle.std.proofs.Common.{◌≡◌, ◌∙◌, ◌+◌, [], ◌∷◌, ap, sym, arith}
 use Rattle.std.specs.Prelude.{drop}
 use Rattle.std.proofs.lemmas.Grind.{common_steps}
-use Rattle.vl_stand.specs.Hidden.{with_hidden}
+use Rattle.vl_elab_decls.specs.Hidden.{with_hidden}
 use Rattle.std.specs.Prelude.{map}
-use Rattle.vl_stand.proofs.hidden.add_names.Goals as goal
+use Rattle.vl_elab_decls.proofs.hidden.add_names.Goals as goal
 
 pub loop-name-preserved : goal.loop-name-preserved
 loop-name-preserved c =

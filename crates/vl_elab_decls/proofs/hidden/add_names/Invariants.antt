@@ -1,8 +1,8 @@
 use Rattle.std.proofs.Common.{◌≡◌}
 use Rattle.std.specs.Prelude.{drop}
-use Rattle.vl_stand.specs.Hidden.{with_hidden}
+use Rattle.vl_elab_decls.specs.Hidden.{with_hidden}
 use Rattle.std.specs.Prelude.{map}
-use Rattle.vl_stand.proofs.hidden.add_names.Given as goal
+use Rattle.vl_elab_decls.proofs.hidden.add_names.Given as goal
 
 abbrev pub invariant-loop-name : goal.invariant-loop-name
 invariant-loop-name l =

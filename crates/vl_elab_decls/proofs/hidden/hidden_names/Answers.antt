@@ -2,8 +2,8 @@ use Rattle.std.proofs.Common.{◌≡◌, ◌∙◌, ◌+◌, [], ◌∷◌, ap, 
 use Rattle.std.specs.Prelude.{drop}
 use Rattle.std.proofs.lemmas.Grind.{common_steps}
 use Rattle.vl_tree.specs.Item.{items}
-use Rattle.vl_stand.specs.Hidden.{with_hidden_items}
-use Rattle.vl_stand.proofs.hidden.hidden_names.Goals as goal
+use Rattle.vl_elab_decls.specs.Hidden.{with_hidden_items}
+use Rattle.vl_elab_decls.proofs.hidden.hidden_names.Goals as goal
 
 pub loop-item-init : goal.loop-item-init
 loop-item-init c = ap (λ l. with_hidden_items c.args.values.now l (items c.args.all.now)) c.new-level.ensures

@@ -1,8 +1,8 @@
 use Rattle.std.proofs.Common.{◌≡◌, []}
 use Rattle.std.specs.Prelude.{drop}
 use Rattle.vl_tree.specs.Item.{items}
-use Rattle.vl_stand.specs.Hidden.{with_hidden_items}
-use Rattle.vl_stand.proofs.hidden.hidden_names.Given as goal
+use Rattle.vl_elab_decls.specs.Hidden.{with_hidden_items}
+use Rattle.vl_elab_decls.proofs.hidden.hidden_names.Given as goal
 
 abbrev pub invariant-loop-item : goal.invariant-loop-item
 invariant-loop-item l =

@@ -2,10 +2,10 @@ use Rattle.std.proofs.Common.{ap, ◌∙◌}
 use Rattle.std.proofs.lemmas.Result.{on_ok_weaker}
 use Rattle.std.specs.Prelude.{[]}
 use Rattle.vl_tree.specs.Item.{items}
-use Rattle.vl_scope.specs.Seen.{innermost}
-use Rattle.vl_stand.specs.Hidden.{with_hidden_items}
-use Rattle.vl_stand.proofs.Stacks.{hidden_is}
-use Rattle.vl_stand.proofs.hidden.hide.Goals as goal
+use Rattle.vl_elab_scope.specs.Seen.{innermost}
+use Rattle.vl_elab_decls.specs.Hidden.{with_hidden_items}
+use Rattle.vl_elab_decls.proofs.Stacks.{hidden_is}
+use Rattle.vl_elab_decls.proofs.hidden.hide.Goals as goal
 
 pub returns : goal.returns
 returns c =

@@ -1,8 +1,8 @@
 use Rattle.std.specs.Prelude.{[], None}
 use Rattle.std.proofs.Common.{◌∙◌, ap}
 use Rattle.vl_tree.specs.Item.{items}
-use Rattle.vl_shape.specs.Objects.{with_items, with_ports}
-use Rattle.vl_shape.proofs.objects.all_objects.Goals as goal
+use Rattle.vl_elab_decls.specs.Objects.{with_items, with_ports}
+use Rattle.vl_elab_decls.proofs.objects.all_objects.Goals as goal
 
 pub returns : goal.returns
 returns c =

@@ -5,13 +5,13 @@ use Rattle.vl_tree.specs.Item.{items}
 use Rattle.vl_mean.specs.Declarations.{full_ports}
 use Rattle.vl_mean.specs.Scopes.{Scope}
 use Rattle.vl_mean.specs.Walk.{Use}
-use Rattle.vl_refusal.specs.Meanings.{Names, port_meanings, items_meanings}
-use Rattle.vl_alike.specs.Alike.{Alike}
-use Rattle.vl_shape.specs.Inputs.{AreInputs}
-use Rattle.vl_shape.specs.Objects.{scope_objects}
-use Rattle.vl_shape.specs.Shaped.{IsDeclared, AreShaped}
-use Rattle.vl_shape.proofs.Whole.{all_objects_shaped}
-use Rattle.vl_shape.proofs.objects.objects_of_scope.Goals as goal
+use Rattle.vl_elab_spec.specs.Meanings.{Names, port_meanings, items_meanings}
+use Rattle.vl_elab_scope.specs.Alike.{Alike}
+use Rattle.vl_elab_decls.specs.Inputs.{AreInputs}
+use Rattle.vl_elab_decls.specs.Objects.{scope_objects}
+use Rattle.vl_elab_decls.specs.Shaped.{IsDeclared, AreShaped}
+use Rattle.vl_elab_decls.proofs.ShapeWhole.{all_objects_shaped}
+use Rattle.vl_elab_decls.proofs.objects.objects_of_scope.Goals as goal
 
 pub returns : goal.returns
 returns c =

@@ -3,14 +3,15 @@ use Rattle.std.proofs.Common.{ap, sym, ◌∙◌, subst}
 use Rattle.std.proofs.lemmas.Result.{on_ok_weaker}
 use Rattle.vl_tree.specs.Item.{items}
 use Rattle.vl_mean.specs.Declarations.{with_constants}
-use Rattle.vl_refusal.specs.Meanings.{meanings_at}
-use Rattle.vl_scope.specs.Seen.{innermost}
-use Rattle.vl_param.specs.Among.{among_parameters}
-use Rattle.vl_number.specs.Numbers.{HaveNumbers}
-use Rattle.vl_stand.proofs.Whole.{nothing_given, block_use, block_inputs, block_contents, block_scope, block_entered}
-use Rattle.vl_stand.proofs.Whole.{block_declared}
-use Rattle.vl_stand.proofs.Stacks.{same_numbers}
-use Rattle.vl_stand.proofs.scopes.enter_block.Goals as goal
+use Rattle.vl_elab_spec.specs.Meanings.{meanings_at}
+use Rattle.vl_elab_scope.specs.Seen.{innermost}
+use Rattle.vl_elab_params.specs.Among.{among_parameters}
+use Rattle.vl_elab_const.specs.Numbers.{HaveNumbers}
+use Rattle.vl_elab_decls.proofs.StandWhole.{nothing_given, block_use, block_inputs, block_contents, block_scope}
+use Rattle.vl_elab_decls.proofs.StandWhole.{block_entered}
+use Rattle.vl_elab_decls.proofs.StandWhole.{block_declared}
+use Rattle.vl_elab_decls.proofs.Stacks.{same_numbers}
+use Rattle.vl_elab_decls.proofs.scopes.enter_block.Goals as goal
 
 pub returns-clause-names : goal.returns-clause-names
 returns-clause-names c =

@@ -2,11 +2,11 @@ use Rattle.std.specs.Prelude.{◌≡◌, ◌++◌, ℕ, List, [], ◌∷◌, dro
 use Rattle.std.proofs.Common.{ap, sym, ◌∙◌, subst}
 use Rattle.std.proofs.lemmas.Result.{IfOk-weaker}
 use Rattle.vl_mean.specs.Walk.{Use, module_scope, module_around, module_contents}
-use Rattle.vl_refusal.specs.Meanings.{scope_meanings}
-use Rattle.name_set.specs.Known.{contains}
-use Rattle.vl_stand.specs.Stands.{Stands}
-use Rattle.vl_stand.proofs.Whole.{made_is, module_constants_are, module_decls_are, plain_is}
-use Rattle.vl_stand.proofs.scopes.enter_module.Goals as goal
+use Rattle.vl_elab_spec.specs.Meanings.{scope_meanings}
+use Rattle.vl_elab_names.specs.Known.{contains}
+use Rattle.vl_elab_decls.specs.Stands.{Stands}
+use Rattle.vl_elab_decls.proofs.StandWhole.{made_is, module_constants_are, module_decls_are, plain_is}
+use Rattle.vl_elab_decls.proofs.scopes.enter_module.Goals as goal
 
 pub returns-clause-stands : goal.returns-clause-stands
 returns-clause-stands c =

@@ -3,10 +3,10 @@ use Rattle.std.proofs.Common.{subst, sym}
 use Rattle.std.proofs.lemmas.Result.{on_ok_weaker}
 use Rattle.vl_tree.specs.Item.{items}
 use Rattle.vl_mean.specs.Declarations.{full_ports}
-use Rattle.vl_refusal.specs.Meanings.{port_meanings, items_meanings}
-use Rattle.vl_shape.specs.Shaped.{AreShaped}
-use Rattle.vl_stand.proofs.Stacks.{stack_is, rest_is}
-use Rattle.vl_stand.proofs.scopes.enter_objects.Goals as goal
+use Rattle.vl_elab_spec.specs.Meanings.{port_meanings, items_meanings}
+use Rattle.vl_elab_decls.specs.Shaped.{AreShaped}
+use Rattle.vl_elab_decls.proofs.Stacks.{stack_is, rest_is}
+use Rattle.vl_elab_decls.proofs.scopes.enter_objects.Goals as goal
 
 pub returns-clause-stack : goal.returns-clause-stack
 returns-clause-stack c =

@@ -2,15 +2,15 @@ use Rattle.std.specs.Prelude.{◌≡◌, refl, ℕ, List, [], ◌∷◌, drop, N
 use Rattle.std.proofs.Common.{ap, sym, ◌∙◌, subst}
 use Rattle.vl_tree.specs.Item.{items}
 use Rattle.vl_mean.specs.Declarations.{with_constants}
-use Rattle.vl_refusal.specs.Meanings.{Names, scope_meanings}
-use Rattle.vl_alike.specs.Alike.{Alike}
-use Rattle.vl_number.specs.Numbers.{HaveNumbers}
-use Rattle.name_set.specs.Known.{contains}
-use Rattle.vl_param.specs.Among.{among_parameters, contents}
-use Rattle.vl_scope.specs.Seen.{innermost}
-use Rattle.vl_stand.specs.Stands.{Stands}
-use Rattle.vl_stand.proofs.Whole.{module_entered, module_declared, nothing_alike, nothing_numbers}
-use Rattle.vl_stand.proofs.scopes.enter_parts.Goals as goal
+use Rattle.vl_elab_spec.specs.Meanings.{Names, scope_meanings}
+use Rattle.vl_elab_scope.specs.Alike.{Alike}
+use Rattle.vl_elab_const.specs.Numbers.{HaveNumbers}
+use Rattle.vl_elab_names.specs.Known.{contains}
+use Rattle.vl_elab_params.specs.Among.{among_parameters, contents}
+use Rattle.vl_elab_scope.specs.Seen.{innermost}
+use Rattle.vl_elab_decls.specs.Stands.{Stands}
+use Rattle.vl_elab_decls.proofs.StandWhole.{module_entered, module_declared, nothing_alike, nothing_numbers}
+use Rattle.vl_elab_decls.proofs.scopes.enter_parts.Goals as goal
 
 pub returns-clause-stands : goal.returns-clause-stands
 returns-clause-stands c s u inputs given plain constants decls =

@@ -1,5 +1,5 @@
-use Rattle.vl_stand.proofs.Stacks.{left_four}
-use Rattle.vl_stand.proofs.scopes.leave_scope.Goals as goal
+use Rattle.vl_elab_decls.proofs.Stacks.{left_four}
+use Rattle.vl_elab_decls.proofs.scopes.leave_scope.Goals as goal
 
 pub returns-clause-names : goal.returns-clause-names
 returns-clause-names c = left_four c.args.names.now _ _ c.leave.ensures c.leave-2.ensures

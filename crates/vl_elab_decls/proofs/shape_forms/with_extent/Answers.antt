@@ -1,5 +1,5 @@
-use Rattle.vl_shape.proofs.Bounded.{decl_shaped, decl_plain}
-use Rattle.vl_shape.proofs.forms.with_extent.Goals as goal
+use Rattle.vl_elab_decls.proofs.Bounded.{decl_shaped, decl_plain}
+use Rattle.vl_elab_decls.proofs.shape_forms.with_extent.Goals as goal
 
 pub object-requires-clause-shaped : goal.object-requires-clause-shaped
 object-requires-clause-shaped c =

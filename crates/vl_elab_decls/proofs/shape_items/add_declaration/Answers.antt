@@ -1,5 +1,5 @@
-use Rattle.vl_shape.proofs.Bounded.{declared_fits}
-use Rattle.vl_shape.proofs.items.add_declaration.Goals as goal
+use Rattle.vl_elab_decls.proofs.Bounded.{declared_fits}
+use Rattle.vl_elab_decls.proofs.shape_items.add_declaration.Goals as goal
 
 pub add_names-requires : goal.add_names-requires
 add_names-requires c =

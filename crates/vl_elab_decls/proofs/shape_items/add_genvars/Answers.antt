@@ -1,8 +1,8 @@
 use Rattle.std.proofs.Common.{◌≡◌, ◌∙◌, ◌+◌, [], ◌∷◌, ap, sym, arith}
 use Rattle.std.specs.Prelude.{drop}
 use Rattle.std.proofs.lemmas.Grind.{common_steps}
-use Rattle.vl_shape.specs.Objects.{with_genvars}
-use Rattle.vl_shape.proofs.items.add_genvars.Goals as goal
+use Rattle.vl_elab_decls.specs.Objects.{with_genvars}
+use Rattle.vl_elab_decls.proofs.shape_items.add_genvars.Goals as goal
 
 pub loop-text-preserved : goal.loop-text-preserved
 loop-text-preserved c =

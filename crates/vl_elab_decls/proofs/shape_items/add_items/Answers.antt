@@ -1,9 +1,9 @@
 use Rattle.std.proofs.Common.{◌≡◌, ◌∙◌, ◌+◌, [], ◌∷◌, ap, sym, arith}
 use Rattle.std.specs.Prelude.{drop}
 use Rattle.std.proofs.lemmas.Grind.{common_steps}
-use Rattle.vl_shape.specs.Objects.{with_items}
+use Rattle.vl_elab_decls.specs.Objects.{with_items}
 use Rattle.vl_tree.specs.Item.{items}
-use Rattle.vl_shape.proofs.items.add_items.Goals as goal
+use Rattle.vl_elab_decls.proofs.shape_items.add_items.Goals as goal
 
 pub loop-item-preserved : goal.loop-item-preserved
 loop-item-preserved c =

@@ -1,8 +1,8 @@
 use Rattle.std.proofs.Common.{◌≡◌}
 use Rattle.std.specs.Prelude.{drop}
-use Rattle.vl_shape.specs.Objects.{with_items}
+use Rattle.vl_elab_decls.specs.Objects.{with_items}
 use Rattle.vl_tree.specs.Item.{items}
-use Rattle.vl_shape.proofs.items.add_items.Given as goal
+use Rattle.vl_elab_decls.proofs.shape_items.add_items.Given as goal
 
 abbrev pub invariant-loop-item : goal.invariant-loop-item
 invariant-loop-item l =

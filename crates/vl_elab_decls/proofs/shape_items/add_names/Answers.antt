@@ -1,8 +1,8 @@
 use Rattle.std.proofs.Common.{◌≡◌, ◌∙◌, ◌+◌, [], ◌∷◌, ap, sym, arith}
 use Rattle.std.specs.Prelude.{drop}
 use Rattle.std.proofs.lemmas.Grind.{common_steps}
-use Rattle.vl_shape.specs.Objects.{with_declared}
-use Rattle.vl_shape.proofs.items.add_names.Goals as goal
+use Rattle.vl_elab_decls.specs.Objects.{with_declared}
+use Rattle.vl_elab_decls.proofs.shape_items.add_names.Goals as goal
 
 pub loop-name-preserved : goal.loop-name-preserved
 loop-name-preserved c =

@@ -1,8 +1,8 @@
 use Rattle.std.specs.Prelude.{IfSome}
 use Rattle.std.proofs.Common.{subst}
-use Rattle.vl_shape.specs.Objects.{Fits}
-use Rattle.vl_shape.proofs.Bounded.{port_fits}
-use Rattle.vl_shape.proofs.ports.add_port.Goals as goal
+use Rattle.vl_elab_decls.specs.Objects.{Fits}
+use Rattle.vl_elab_decls.proofs.Bounded.{port_fits}
+use Rattle.vl_elab_decls.proofs.shape_ports.add_port.Goals as goal
 
 pub add_declared-requires : goal.add_declared-requires
 add_declared-requires c =

@@ -1,9 +1,9 @@
 use Rattle.std.proofs.Common.{◌≡◌, ◌∙◌, ◌+◌, [], ◌∷◌, ap, sym, arith}
 use Rattle.std.specs.Prelude.{drop}
 use Rattle.std.proofs.lemmas.Grind.{common_steps}
-use Rattle.vl_shape.specs.Objects.{with_ports, with_port, port_text}
-use Rattle.vl_shape.proofs.Bounded.{form_fits}
-use Rattle.vl_shape.proofs.ports.add_ports.Goals as goal
+use Rattle.vl_elab_decls.specs.Objects.{with_ports, with_port, port_text}
+use Rattle.vl_elab_decls.proofs.Bounded.{form_fits}
+use Rattle.vl_elab_decls.proofs.shape_ports.add_ports.Goals as goal
 
 pub loop-port-preserved : goal.loop-port-preserved
 loop-port-preserved c =

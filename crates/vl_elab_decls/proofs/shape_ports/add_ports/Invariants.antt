@@ -1,7 +1,7 @@
 use Rattle.std.proofs.Common.{◌≡◌, None}
 use Rattle.std.specs.Prelude.{drop, IfSome}
-use Rattle.vl_shape.specs.Objects.{Fits, with_ports}
-use Rattle.vl_shape.proofs.ports.add_ports.Given as goal
+use Rattle.vl_elab_decls.specs.Objects.{Fits, with_ports}
+use Rattle.vl_elab_decls.proofs.shape_ports.add_ports.Given as goal
 
 abbrev pub invariant-loop-port : goal.invariant-loop-port
 invariant-loop-port l = record {

@@ -2,8 +2,8 @@ use Rattle.std.proofs.Common.{◌≡◌, ◌≤◌, ◌∙◌, ◌+◌, ◌-◌,
 use Rattle.std.specs.Prelude.{drop}
 use Rattle.std.proofs.lemmas.Grind.{common_steps}
 use Rattle.vl_mean.specs.Declarations.{class_of_attributes, joined_attributes}
-use Rattle.vl_shape.proofs.ClassLemmas.{class_append}
-use Rattle.vl_shape.proofs.words.class_of_attributes.Goals as goal
+use Rattle.vl_elab_decls.proofs.ClassLemmas.{class_append}
+use Rattle.vl_elab_decls.proofs.words.class_of_attributes.Goals as goal
 
 pub loop-place-preserved : goal.loop-place-preserved
 loop-place-preserved c =

@@ -1,7 +1,7 @@
 use Rattle.std.proofs.Common.{◌≡◌, ◌≤◌, length}
 use Rattle.std.specs.Prelude.{drop}
 use Rattle.vl_mean.specs.Declarations.{class_of_attributes}
-use Rattle.vl_shape.proofs.words.class_of_instance.Given as goal
+use Rattle.vl_elab_decls.proofs.words.class_of_instance.Given as goal
 
 abbrev pub invariant-loop-place : goal.invariant-loop-place
 invariant-loop-place l = record {

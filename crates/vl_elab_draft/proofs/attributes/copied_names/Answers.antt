@@ -1,8 +1,8 @@
 use Rattle.std.proofs.Common.{◌≡◌, ◌+◌, [], ◌∷◌, arith, refl, ap}
 use Rattle.std.specs.Prelude.{drop}
 use Rattle.std.proofs.lemmas.Grind.{common_steps}
-use Rattle.vl_flat.proofs.Laid.{laid_on, laid_end, laid-list}
-use Rattle.vl_flat.proofs.attributes.copied_names.Goals as goal
+use Rattle.vl_elab_draft.proofs.Laid.{laid_on, laid_end, laid-list}
+use Rattle.vl_elab_draft.proofs.attributes.copied_names.Goals as goal
 
 pub loop-attribute-preserved : goal.loop-attribute-preserved
 loop-attribute-preserved c =

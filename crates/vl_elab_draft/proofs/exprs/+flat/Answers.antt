@@ -5,10 +5,10 @@ use Rattle.vl_tree.specs.Expr.{Exprs, exprs, more}
 use Rattle.vl_tree.specs.ExprView.{selects, with_select}
 use Rattle.vl_mean.specs.Constants.{settled_exprs}
 use Rattle.vl_mean.specs.Scopes.{constant_in, full}
-use Rattle.vl_same.specs.FullNames as spec
-use Rattle.vl_flat.proofs.Laid.{laid_on, laid_end, laid-exprs, laid-selects}
-use Rattle.vl_flat.proofs.Settling.{selected_flat}
-use Rattle.vl_flat.proofs.exprs.+flat.Goals as goal
+use Rattle.vl_mean_flat.specs.FullNames as spec
+use Rattle.vl_elab_draft.proofs.Laid.{laid_on, laid_end, laid-exprs, laid-selects}
+use Rattle.vl_elab_draft.proofs.Settling.{selected_flat}
+use Rattle.vl_elab_draft.proofs.exprs.+flat.Goals as goal
 
 pub flat_parts-loop-part-preserved : goal.flat_parts-loop-part-preserved
 flat_parts-loop-part-preserved t c =

@@ -4,9 +4,9 @@ use Rattle.vl_tree.specs.Expr.{exprs, more}
 use Rattle.vl_tree.specs.ExprView.{selects, with_select}
 use Rattle.vl_mean.specs.Constants.{settled_exprs}
 use Rattle.vl_mean.specs.Scopes.{constant_in, full}
-use Rattle.vl_same.specs.FullNames as spec
-use Rattle.vl_flat.proofs.Laid.{laid}
-use Rattle.vl_flat.proofs.exprs.+flat.Given as goal
+use Rattle.vl_mean_flat.specs.FullNames as spec
+use Rattle.vl_elab_draft.proofs.Laid.{laid}
+use Rattle.vl_elab_draft.proofs.exprs.+flat.Given as goal
 
 abbrev pub invariant-flat_parts-loop-part : goal.invariant-flat_parts-loop-part
 invariant-flat_parts-loop-part l =

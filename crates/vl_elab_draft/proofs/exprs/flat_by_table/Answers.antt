@@ -1,6 +1,6 @@
 use Rattle.vl_mean.specs.Params.{constant}
-use Rattle.vl_flat.proofs.Settling.{ok_flat}
-use Rattle.vl_flat.proofs.exprs.flat_by_table.Goals as goal
+use Rattle.vl_elab_draft.proofs.Settling.{ok_flat}
+use Rattle.vl_elab_draft.proofs.exprs.flat_by_table.Goals as goal
 
 pub returns : goal.returns
 returns c =

@@ -1,9 +1,9 @@
 use Rattle.std.proofs.Common.{◌≡◌, ◌+◌, [], ◌∷◌, arith, refl, ap}
 use Rattle.std.specs.Prelude.{drop}
 use Rattle.std.proofs.lemmas.Grind.{common_steps}
-use Rattle.vl_same.specs.FullNames as spec
-use Rattle.vl_flat.proofs.Laid.{laid_on, laid_end, laid-list}
-use Rattle.vl_flat.proofs.exprs.flat_exprs.Goals as goal
+use Rattle.vl_mean_flat.specs.FullNames as spec
+use Rattle.vl_elab_draft.proofs.Laid.{laid_on, laid_end, laid-list}
+use Rattle.vl_elab_draft.proofs.exprs.flat_exprs.Goals as goal
 
 pub loop-part-preserved : goal.loop-part-preserved
 loop-part-preserved c =

@@ -2,9 +2,9 @@ use Rattle.std.proofs.Common.{◌≡◌, ◌+◌, [], ◌∷◌, arith, refl}
 use Rattle.std.specs.Prelude.{drop}
 use Rattle.std.proofs.lemmas.Grind.{common_steps}
 use Rattle.vl_tree.specs.ExprView.{selects, with_select}
-use Rattle.vl_same.specs.FullNames as spec
-use Rattle.vl_flat.proofs.Laid.{laid_on, laid_end, laid-selects}
-use Rattle.vl_flat.proofs.exprs.flat_selects.Goals as goal
+use Rattle.vl_mean_flat.specs.FullNames as spec
+use Rattle.vl_elab_draft.proofs.Laid.{laid_on, laid_end, laid-selects}
+use Rattle.vl_elab_draft.proofs.exprs.flat_selects.Goals as goal
 
 pub loop-select-preserved : goal.loop-select-preserved
 loop-select-preserved c =

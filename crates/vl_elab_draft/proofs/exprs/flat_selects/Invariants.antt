@@ -1,9 +1,9 @@
 use Rattle.std.proofs.Common.{◌≡◌}
 use Rattle.std.specs.Prelude.{drop}
 use Rattle.vl_tree.specs.ExprView.{selects, with_select}
-use Rattle.vl_same.specs.FullNames as spec
-use Rattle.vl_flat.proofs.Laid.{laid}
-use Rattle.vl_flat.proofs.exprs.flat_selects.Given as goal
+use Rattle.vl_mean_flat.specs.FullNames as spec
+use Rattle.vl_elab_draft.proofs.Laid.{laid}
+use Rattle.vl_elab_draft.proofs.exprs.flat_selects.Given as goal
 
 abbrev pub invariant-loop-select : goal.invariant-loop-select
 invariant-loop-select l =

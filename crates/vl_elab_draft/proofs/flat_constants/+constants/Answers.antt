@@ -5,10 +5,10 @@ use Rattle.vl_tree.specs.Expr.{Selects, exprs}
 use Rattle.vl_tree.specs.ExprView.{with_select}
 use Rattle.vl_mean.specs.Params.{constant}
 use Rattle.vl_mean.specs.Scopes.{constant_in}
-use Rattle.vl_scope.specs.Texts.{texts, exprs_texts, selects_texts}
-use Rattle.vl_flat.proofs.Filling.{then_filled, three_filled, one_selected, two_selected}
-use Rattle.vl_flat.proofs.Filling.{exprs_on, exprs_end, selects_on, selects_end}
-use Rattle.vl_flat.proofs.constants.+constants.Goals as goal
+use Rattle.vl_elab_scope.specs.Texts.{texts, exprs_texts, selects_texts}
+use Rattle.vl_elab_draft.proofs.Filling.{then_filled, three_filled, one_selected, two_selected}
+use Rattle.vl_elab_draft.proofs.Filling.{exprs_on, exprs_end, selects_on, selects_end}
+use Rattle.vl_elab_draft.proofs.flat_constants.+constants.Goals as goal
 
 pub add_parts_constants-loop-part-preserved : goal.add_parts_constants-loop-part-preserved
 add_parts_constants-loop-part-preserved t c =

@@ -4,9 +4,9 @@ use Rattle.vl_tree.specs.Expr.{exprs}
 use Rattle.vl_tree.specs.ExprView.{selects}
 use Rattle.vl_mean.specs.Params.{constant}
 use Rattle.vl_mean.specs.Scopes.{constant_in}
-use Rattle.vl_scope.specs.Texts.{exprs_texts, selects_texts}
-use Rattle.vl_flat.specs.Filled.{filled}
-use Rattle.vl_flat.proofs.constants.+constants.Given as goal
+use Rattle.vl_elab_scope.specs.Texts.{exprs_texts, selects_texts}
+use Rattle.vl_elab_draft.specs.Filled.{filled}
+use Rattle.vl_elab_draft.proofs.flat_constants.+constants.Given as goal
 
 abbrev pub invariant-add_parts_constants-loop-part : goal.invariant-add_parts_constants-loop-part
 invariant-add_parts_constants-loop-part l =

@@ -1,8 +1,8 @@
 use Rattle.vl_mean.specs.Params.{constant}
 use Rattle.vl_mean.specs.Scopes.{constant_in}
-use Rattle.vl_scope.specs.Texts.{texts}
-use Rattle.vl_flat.proofs.Filling.{filled_agrees}
-use Rattle.vl_flat.proofs.constants.params_of.Goals as goal
+use Rattle.vl_elab_scope.specs.Texts.{texts}
+use Rattle.vl_elab_draft.proofs.Filling.{filled_agrees}
+use Rattle.vl_elab_draft.proofs.flat_constants.params_of.Goals as goal
 
 pub returns : goal.returns
 returns c =

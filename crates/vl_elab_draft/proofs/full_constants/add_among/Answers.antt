@@ -1,5 +1,5 @@
-use Rattle.vl_full.proofs.Tables.{no_constant, first_constant, constant_added, none_added, stay_behind}
-use Rattle.vl_full.proofs.constants.add_among.Goals as goal
+use Rattle.vl_elab_draft.proofs.Tables.{no_constant, first_constant, constant_added, none_added, stay_behind}
+use Rattle.vl_elab_draft.proofs.full_constants.add_among.Goals as goal
 
 pub returns-then-is_none-clause-ok : goal.returns-then-is_none-clause-ok
 returns-then-is_none-clause-ok c =

@@ -1,8 +1,8 @@
 use Rattle.std.proofs.Common.{◌∙◌, ap, sym}
 use Rattle.std.specs.Prelude.{Some, if◌then◌else◌}
 use Rattle.vl_mean.specs.Constants.{constant_of}
-use Rattle.vl_full.specs.Kept.{constants_of}
-use Rattle.vl_full.proofs.constants.constant_behind.Goals as goal
+use Rattle.vl_elab_draft.specs.Kept.{constants_of}
+use Rattle.vl_elab_draft.proofs.full_constants.constant_behind.Goals as goal
 
 pub returns-then-is_name : goal.returns-then-is_name
 returns-then-is_name c =

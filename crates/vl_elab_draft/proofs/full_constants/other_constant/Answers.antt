@@ -1,8 +1,8 @@
 use Rattle.std.proofs.Common.{◌∙◌, ap}
 use Rattle.vl_mean.specs.Constants.{constant_of}
-use Rattle.vl_full.specs.Kept.{constants_of}
-use Rattle.vl_full.proofs.Tables.{lookup_constant, none_kept}
-use Rattle.vl_full.proofs.constants.other_constant.Goals as goal
+use Rattle.vl_elab_draft.specs.Kept.{constants_of}
+use Rattle.vl_elab_draft.proofs.Tables.{lookup_constant, none_kept}
+use Rattle.vl_elab_draft.proofs.full_constants.other_constant.Goals as goal
 
 pub returns-then-is_empty : goal.returns-then-is_empty
 returns-then-is_empty c =

@@ -4,9 +4,9 @@ use Rattle.std.proofs.lemmas.Grind.{common_steps}
 use Rattle.vl_tree.specs.Expr.{exprs, more}
 use Rattle.vl_tree.specs.ExprView.{selects, with_select}
 use Rattle.vl_mean.specs.Scopes.{full}
-use Rattle.vl_same.specs.FullNames as spec
-use Rattle.vl_flat.proofs.Laid.{laid_on, laid_end, laid-exprs, laid-selects}
-use Rattle.vl_flat.proofs.names.+renamed.Goals as goal
+use Rattle.vl_mean_flat.specs.FullNames as spec
+use Rattle.vl_elab_draft.proofs.Laid.{laid_on, laid_end, laid-exprs, laid-selects}
+use Rattle.vl_elab_draft.proofs.names.+renamed.Goals as goal
 
 pub renamed_parts-loop-part-preserved : goal.renamed_parts-loop-part-preserved
 renamed_parts-loop-part-preserved t c =

@@ -3,9 +3,9 @@ use Rattle.std.specs.Prelude.{drop}
 use Rattle.vl_tree.specs.Expr.{exprs, more}
 use Rattle.vl_tree.specs.ExprView.{selects, with_select}
 use Rattle.vl_mean.specs.Scopes.{full}
-use Rattle.vl_same.specs.FullNames as spec
-use Rattle.vl_flat.proofs.Laid.{laid}
-use Rattle.vl_flat.proofs.names.+renamed.Given as goal
+use Rattle.vl_mean_flat.specs.FullNames as spec
+use Rattle.vl_elab_draft.proofs.Laid.{laid}
+use Rattle.vl_elab_draft.proofs.names.+renamed.Given as goal
 
 abbrev pub invariant-renamed_parts-loop-part : goal.invariant-renamed_parts-loop-part
 invariant-renamed_parts-loop-part l =

@@ -1,5 +1,5 @@
-use Rattle.vl_full.proofs.Inner.{constant_here}
-use Rattle.vl_full.proofs.scopes.+constant_among.Goals as goal
+use Rattle.vl_elab_draft.proofs.Inner.{constant_here}
+use Rattle.vl_elab_draft.proofs.scopes.+constant_among.Goals as goal
 
 pub returns-in-Some-constant : goal.returns-in-Some-constant
 returns-in-Some-constant t c =

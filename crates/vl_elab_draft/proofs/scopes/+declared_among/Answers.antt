@@ -1,5 +1,5 @@
-use Rattle.vl_full.proofs.Inner.{declared_constant, declared_here}
-use Rattle.vl_full.proofs.scopes.+declared_among.Goals as goal
+use Rattle.vl_elab_draft.proofs.Inner.{declared_constant, declared_here}
+use Rattle.vl_elab_draft.proofs.scopes.+declared_among.Goals as goal
 
 pub returns-in-Some-constant : goal.returns-in-Some-constant
 returns-in-Some-constant t c =

@@ -1,5 +1,5 @@
-use Rattle.vl_full.proofs.Inner.{full_here, full_around}
-use Rattle.vl_full.proofs.scopes.+full_among.Goals as goal
+use Rattle.vl_elab_draft.proofs.Inner.{full_here, full_around}
+use Rattle.vl_elab_draft.proofs.scopes.+full_among.Goals as goal
 
 pub returns-then-is_declared : goal.returns-then-is_declared
 returns-then-is_declared t c =

@@ -3,9 +3,9 @@ use Rattle.std.specs.Prelude.{drop}
 use Rattle.std.proofs.lemmas.Grind.{common_steps}
 use Rattle.vl_tree.specs.Stmt.{stmts, more_stmts}
 use Rattle.vl_tree.specs.StmtView.{arms, with_arm}
-use Rattle.vl_same.specs.FullNames as spec
-use Rattle.vl_flat.proofs.Laid.{laid_on, laid_end, laid-stmts, laid-arms}
-use Rattle.vl_flat.proofs.stmts.+stmt.Goals as goal
+use Rattle.vl_mean_flat.specs.FullNames as spec
+use Rattle.vl_elab_draft.proofs.Laid.{laid_on, laid_end, laid-stmts, laid-arms}
+use Rattle.vl_elab_draft.proofs.stmts.+stmt.Goals as goal
 
 pub flat_stmts-loop-stmt-preserved : goal.flat_stmts-loop-stmt-preserved
 flat_stmts-loop-stmt-preserved t c =

@@ -2,9 +2,9 @@ use Rattle.std.proofs.Common.{◌≡◌}
 use Rattle.std.specs.Prelude.{drop}
 use Rattle.vl_tree.specs.Stmt.{stmts, more_stmts}
 use Rattle.vl_tree.specs.StmtView.{arms, with_arm}
-use Rattle.vl_same.specs.FullNames as spec
-use Rattle.vl_flat.proofs.Laid.{laid}
-use Rattle.vl_flat.proofs.stmts.+stmt.Given as goal
+use Rattle.vl_mean_flat.specs.FullNames as spec
+use Rattle.vl_elab_draft.proofs.Laid.{laid}
+use Rattle.vl_elab_draft.proofs.stmts.+stmt.Given as goal
 
 abbrev pub invariant-flat_stmts-loop-stmt : goal.invariant-flat_stmts-loop-stmt
 invariant-flat_stmts-loop-stmt l =

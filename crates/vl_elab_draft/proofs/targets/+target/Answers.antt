@@ -2,9 +2,9 @@ use Rattle.std.proofs.Common.{◌≡◌, ◌+◌, [], ◌∷◌, arith, refl, ap
 use Rattle.std.specs.Prelude.{drop}
 use Rattle.std.proofs.lemmas.Grind.{common_steps}
 use Rattle.vl_tree.specs.Lval.{lvals, more_lvals}
-use Rattle.vl_same.specs.FullNames as spec
-use Rattle.vl_flat.proofs.Laid.{laid_on, laid_end, laid-lvals}
-use Rattle.vl_flat.proofs.targets.+target.Goals as goal
+use Rattle.vl_mean_flat.specs.FullNames as spec
+use Rattle.vl_elab_draft.proofs.Laid.{laid_on, laid_end, laid-lvals}
+use Rattle.vl_elab_draft.proofs.targets.+target.Goals as goal
 
 pub flat_lvals-loop-part-preserved : goal.flat_lvals-loop-part-preserved
 flat_lvals-loop-part-preserved t c =

@@ -1,9 +1,9 @@
 use Rattle.std.proofs.Common.{◌≡◌}
 use Rattle.std.specs.Prelude.{drop}
 use Rattle.vl_tree.specs.Lval.{lvals, more_lvals}
-use Rattle.vl_same.specs.FullNames as spec
-use Rattle.vl_flat.proofs.Laid.{laid}
-use Rattle.vl_flat.proofs.targets.+target.Given as goal
+use Rattle.vl_mean_flat.specs.FullNames as spec
+use Rattle.vl_elab_draft.proofs.Laid.{laid}
+use Rattle.vl_elab_draft.proofs.targets.+target.Given as goal
 
 abbrev pub invariant-flat_lvals-loop-part : goal.invariant-flat_lvals-loop-part
 invariant-flat_lvals-loop-part l =

@@ -1,8 +1,8 @@
 use Rattle.std.proofs.Common.{◌≡◌, ◌≤◌, ◌*◌, ◌+◌, length}
 use Rattle.std.specs.Prelude.{drop, IfSome}
 use Rattle.vl_tree.specs.Lval.{lvals, depth, lvals_depth}
-use Rattle.vl_start.specs.Starts as spec
-use Rattle.vl_start.proofs.bits.+target.Given as goal
+use Rattle.vl_elab_emit.specs.Starts as spec
+use Rattle.vl_elab_emit.proofs.bits.+target.Given as goal
 
 abbrev pub decreases-target_bits : goal.decreases-target_bits
 decreases-target_bits l = 4 * depth l.target.now

@@ -4,9 +4,9 @@ use Rattle.fv_base.specs.declared.pos.Pos.{Pos}
 use Rattle.vl_tree.specs.Expr.{bit}
 use Rattle.vl_tree.specs.ExprView.{selects, with_select}
 use Rattle.vl_size.specs.Size.{word_size}
-use Rattle.vl_same.specs.FullNames.{flat_expr, flat_selects}
-use Rattle.vl_start.proofs.Several.{word_selected, no_word_part, no_word_indexed}
-use Rattle.vl_start.proofs.bits.first_bits.Goals as goal
+use Rattle.vl_mean_flat.specs.FullNames.{flat_expr, flat_selects}
+use Rattle.vl_elab_emit.proofs.Several.{word_selected, no_word_part, no_word_indexed}
+use Rattle.vl_elab_emit.proofs.bits.first_bits.Goals as goal
 
 pub returns-in-Bit : goal.returns-in-Bit
 returns-in-Bit c =

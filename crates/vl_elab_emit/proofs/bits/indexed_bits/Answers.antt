@@ -1,8 +1,8 @@
 use Rattle.std.proofs.Common.{◌∙◌, sym, subst}
-use Rattle.vl_same.specs.FullNames.{flat_expr}
-use Rattle.vl_start.specs.Starts.{IsOwn}
-use Rattle.vl_start.proofs.Indices.{indexed_is}
-use Rattle.vl_start.proofs.bits.indexed_bits.Goals as goal
+use Rattle.vl_mean_flat.specs.FullNames.{flat_expr}
+use Rattle.vl_elab_emit.specs.Starts.{IsOwn}
+use Rattle.vl_elab_emit.proofs.Indices.{indexed_is}
+use Rattle.vl_elab_emit.proofs.bits.indexed_bits.Goals as goal
 
 pub returns : goal.returns
 returns c = λ d p.

@@ -5,9 +5,9 @@ use Rattle.vl_tree.specs.Expr.{whole, bit, part, indexed}
 use Rattle.vl_tree.specs.ExprView.{with_select}
 use Rattle.vl_size.specs.declared.decl.Decl.{Decl}
 use Rattle.vl_size.specs.Size.{vector_size}
-use Rattle.vl_same.specs.FullNames.{flat_expr, flat_selects}
-use Rattle.vl_start.proofs.Several.{bit_selected, part_selected, indexed_selected}
-use Rattle.vl_start.proofs.bits.select_bits.Goals as goal
+use Rattle.vl_mean_flat.specs.FullNames.{flat_expr, flat_selects}
+use Rattle.vl_elab_emit.proofs.Several.{bit_selected, part_selected, indexed_selected}
+use Rattle.vl_elab_emit.proofs.bits.select_bits.Goals as goal
 
 pub returns-in-Bit : goal.returns-in-Bit
 returns-in-Bit c =

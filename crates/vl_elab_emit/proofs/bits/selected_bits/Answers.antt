@@ -2,10 +2,10 @@ use Rattle.std.proofs.Common.{◌≡◌, []}
 use Rattle.std.proofs.lemmas.Result.{IfOk-weaker}
 use Rattle.vl_tree.specs.ExprView.{selects, with_select}
 use Rattle.vl_size.specs.Size.{word_size}
-use Rattle.vl_same.specs.FullNames.{flat_selects}
-use Rattle.vl_start.specs.Starts.{selected_bits}
-use Rattle.vl_start.proofs.Several.{memory_selected, memory_whole}
-use Rattle.vl_start.proofs.bits.selected_bits.Goals as goal
+use Rattle.vl_mean_flat.specs.FullNames.{flat_selects}
+use Rattle.vl_elab_emit.specs.Starts.{selected_bits}
+use Rattle.vl_elab_emit.proofs.Several.{memory_selected, memory_whole}
+use Rattle.vl_elab_emit.proofs.bits.selected_bits.Goals as goal
 
 pub returns-in-None : goal.returns-in-None
 returns-in-None c =

@@ -3,10 +3,10 @@ use Rattle.std.specs.Prelude.{List, drop}
 use Rattle.std.proofs.lemmas.Grind.{common_steps}
 use Rattle.vl_tree.specs.Stmt.{Stmt, stmts, depth, stmts_depth}
 use Rattle.vl_mean.specs.Parts.{all_initial_parts, initial_parts}
-use Rattle.vl_write.specs.Behind.{MayStandBehind, Placed, unplaced}
-use Rattle.vl_write.proofs.Standing.{rest_first, rest_next, rest_last, may_first, may_next}
-use Rattle.vl_write.proofs.Valued.{stmt_depth}
-use Rattle.vl_write.proofs.blocks.+initial.Goals as goal
+use Rattle.vl_elab_emit.specs.Behind.{MayStandBehind, Placed, unplaced}
+use Rattle.vl_elab_emit.proofs.Standing.{rest_first, rest_next, rest_last, may_first, may_next}
+use Rattle.vl_elab_emit.proofs.Valued.{stmt_depth}
+use Rattle.vl_elab_emit.proofs.blocks.+initial.Goals as goal
 
 pub write_all_initial-loop-stmt-init : goal.write_all_initial-loop-stmt-init
 write_all_initial-loop-stmt-init t c = record {

@@ -2,9 +2,9 @@ use Rattle.std.proofs.Common.{◌*◌, ◌+◌}
 use Rattle.std.specs.Prelude.{drop}
 use Rattle.vl_tree.specs.Stmt.{stmts, depth, stmts_depth}
 use Rattle.vl_mean.specs.Parts.{all_initial_parts}
-use Rattle.vl_write.specs.Behind.{MayStandBehind, unplaced}
-use Rattle.vl_write.proofs.Standing.{Rest}
-use Rattle.vl_write.proofs.blocks.+initial.Given as goal
+use Rattle.vl_elab_emit.specs.Behind.{MayStandBehind, unplaced}
+use Rattle.vl_elab_emit.proofs.Standing.{Rest}
+use Rattle.vl_elab_emit.proofs.blocks.+initial.Given as goal
 
 abbrev pub invariant-write_all_initial-loop-stmt : goal.invariant-write_all_initial-loop-stmt
 invariant-write_all_initial-loop-stmt l = record {

@@ -3,10 +3,10 @@ use Rattle.std.specs.Prelude.{List, drop}
 use Rattle.std.proofs.lemmas.Grind.{common_steps}
 use Rattle.vl_tree.specs.declared.part.Assignment.{Assignment}
 use Rattle.vl_mean.specs.Parts.{assignments, equation}
-use Rattle.vl_write.specs.Behind.{Placed, placed_at}
-use Rattle.vl_write.proofs.Standing.{rest_first, rest_next, rest_last}
-use Rattle.vl_write.proofs.Single.{equation_behind}
-use Rattle.vl_write.proofs.blocks.write_assignments.Goals as goal
+use Rattle.vl_elab_emit.specs.Behind.{Placed, placed_at}
+use Rattle.vl_elab_emit.proofs.Standing.{rest_first, rest_next, rest_last}
+use Rattle.vl_elab_emit.proofs.Single.{equation_behind}
+use Rattle.vl_elab_emit.proofs.blocks.write_assignments.Goals as goal
 
 pub loop-assignment-init : goal.loop-assignment-init
 loop-assignment-init c =

@@ -1,8 +1,8 @@
 use Rattle.std.specs.Prelude.{drop}
 use Rattle.vl_mean.specs.Parts.{assignments}
-use Rattle.vl_write.specs.Behind.{placed_at}
-use Rattle.vl_write.proofs.Standing.{Rest}
-use Rattle.vl_write.proofs.blocks.write_assignments.Given as goal
+use Rattle.vl_elab_emit.specs.Behind.{placed_at}
+use Rattle.vl_elab_emit.proofs.Standing.{Rest}
+use Rattle.vl_elab_emit.proofs.blocks.write_assignments.Given as goal
 
 abbrev pub invariant-loop-assignment : goal.invariant-loop-assignment
 invariant-loop-assignment l =

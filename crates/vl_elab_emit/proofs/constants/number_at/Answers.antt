@@ -1,7 +1,7 @@
 use Rattle.std.proofs.Common.{◌≡◌, ◌∙◌, []}
 use Rattle.vl_size.specs.Size.{cell_name, value, no_names}
 use Rattle.vl_mean.specs.Env.{cells_of}
-use Rattle.vl_start.proofs.constants.number_at.Goals as goal
+use Rattle.vl_elab_emit.proofs.constants.number_at.Goals as goal
 
 pub returns-clause-value : goal.returns-clause-value
 returns-clause-value c =

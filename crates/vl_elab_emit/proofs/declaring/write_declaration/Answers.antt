@@ -1,6 +1,6 @@
 use Rattle.std.proofs.lemmas.Result.{on_ok_weaker}
-use Rattle.vl_write.proofs.Valued.{under_fresh, under_ended, under_shaped, under_behind}
-use Rattle.vl_write.proofs.declaring.write_declaration.Goals as goal
+use Rattle.vl_elab_emit.proofs.Valued.{under_fresh, under_ended, under_shaped, under_behind}
+use Rattle.vl_elab_emit.proofs.declaring.write_declaration.Goals as goal
 
 pub declare-requires : goal.declare-requires
 declare-requires c = record {

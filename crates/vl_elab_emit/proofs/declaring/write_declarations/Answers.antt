@@ -3,9 +3,9 @@ use Rattle.std.specs.Prelude.{List, drop}
 use Rattle.std.proofs.lemmas.Grind.{common_steps}
 use Rattle.vl_size.specs.declared.decl.Decl.{Decl}
 use Rattle.vl_mean.specs.Parts.{declares_all}
-use Rattle.vl_write.specs.Behind.{Placed, unplaced}
-use Rattle.vl_write.proofs.Standing.{rest_first, rest_next, rest_last, may_first, may_next}
-use Rattle.vl_write.proofs.declaring.write_declarations.Goals as goal
+use Rattle.vl_elab_emit.specs.Behind.{Placed, unplaced}
+use Rattle.vl_elab_emit.proofs.Standing.{rest_first, rest_next, rest_last, may_first, may_next}
+use Rattle.vl_elab_emit.proofs.declaring.write_declarations.Goals as goal
 
 pub loop-decl-init : goal.loop-decl-init
 loop-decl-init c = record {

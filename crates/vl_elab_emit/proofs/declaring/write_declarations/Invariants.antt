@@ -1,8 +1,8 @@
 use Rattle.std.specs.Prelude.{drop}
 use Rattle.vl_mean.specs.Parts.{declares_all}
-use Rattle.vl_write.specs.Behind.{MayStandBehind, unplaced}
-use Rattle.vl_write.proofs.Standing.{Rest}
-use Rattle.vl_write.proofs.declaring.write_declarations.Given as goal
+use Rattle.vl_elab_emit.specs.Behind.{MayStandBehind, unplaced}
+use Rattle.vl_elab_emit.proofs.Standing.{Rest}
+use Rattle.vl_elab_emit.proofs.declaring.write_declarations.Given as goal
 
 abbrev pub invariant-loop-decl : goal.invariant-loop-decl
 invariant-loop-decl l = record {

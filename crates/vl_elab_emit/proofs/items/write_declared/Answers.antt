@@ -1,9 +1,9 @@
 use Rattle.std.proofs.lemmas.Result.{on_ok_weaker}
 use Rattle.vl_mean.specs.Parts.{declares_all, values_of}
-use Rattle.vl_write.specs.Behind.{unplaced}
-use Rattle.vl_write.specs.OwnParts.{placed_values}
-use Rattle.vl_write.proofs.Standing.{both_behind, may_front, may_back}
-use Rattle.vl_write.proofs.items.write_declared.Goals as goal
+use Rattle.vl_elab_emit.specs.Behind.{unplaced}
+use Rattle.vl_elab_emit.specs.OwnParts.{placed_values}
+use Rattle.vl_elab_emit.proofs.Standing.{both_behind, may_front, may_back}
+use Rattle.vl_elab_emit.proofs.items.write_declared.Goals as goal
 
 pub write_declarations-requires : goal.write_declarations-requires
 write_declarations-requires c =

@@ -1,7 +1,7 @@
 use Rattle.std.proofs.Common.{◌∙◌, ap, sym, true≢false}
 use Rattle.vl_tree.specs.ExprView.{shown}
-use Rattle.vl_write.proofs.Valued.{clock_selected}
-use Rattle.vl_write.proofs.joining.is_clock.Goals as goal
+use Rattle.vl_elab_emit.proofs.Valued.{clock_selected}
+use Rattle.vl_elab_emit.proofs.joining.is_clock.Goals as goal
 
 pub returns-else-is_empty : goal.returns-else-is_empty
 returns-else-is_empty c =

@@ -1,6 +1,6 @@
 use Rattle.std.proofs.lemmas.Result.{on_ok_weaker}
-use Rattle.vl_write.proofs.Valued.{no_value, value_may, value_behind}
-use Rattle.vl_write.proofs.values.write_optional_value.Goals as goal
+use Rattle.vl_elab_emit.proofs.Valued.{no_value, value_may, value_behind}
+use Rattle.vl_elab_emit.proofs.values.write_optional_value.Goals as goal
 
 pub write_value-requires : goal.write_value-requires
 write_value-requires c =

@@ -1,6 +1,6 @@
 use Rattle.std.proofs.lemmas.Result.{on_ok_weaker}
-use Rattle.vl_write.proofs.Valued.{wire_behind, reg_behind, reg_begins}
-use Rattle.vl_write.proofs.values.write_value.Goals as goal
+use Rattle.vl_elab_emit.proofs.Valued.{wire_behind, reg_behind, reg_begins}
+use Rattle.vl_elab_emit.proofs.values.write_value.Goals as goal
 
 pub write_start-requires : goal.write_start-requires
 write_start-requires c =

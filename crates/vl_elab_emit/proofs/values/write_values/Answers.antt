@@ -2,10 +2,10 @@ use Rattle.std.proofs.Common.{◌≡◌, ◌+◌, [], ◌∷◌, ap, arith}
 use Rattle.std.specs.Prelude.{drop}
 use Rattle.std.proofs.lemmas.Grind.{common_steps}
 use Rattle.vl_mean.specs.Parts.{optional_value, values_of}
-use Rattle.vl_write.specs.Behind.{placed_at}
-use Rattle.vl_write.specs.OwnParts.{placed_values}
-use Rattle.vl_write.proofs.Standing.{rest_first, rest_next, rest_last, may_first, may_next}
-use Rattle.vl_write.proofs.values.write_values.Goals as goal
+use Rattle.vl_elab_emit.specs.Behind.{placed_at}
+use Rattle.vl_elab_emit.specs.OwnParts.{placed_values}
+use Rattle.vl_elab_emit.proofs.Standing.{rest_first, rest_next, rest_last, may_first, may_next}
+use Rattle.vl_elab_emit.proofs.values.write_values.Goals as goal
 
 pub loop-name-init : goal.loop-name-init
 loop-name-init c = record {

@@ -1,9 +1,9 @@
 use Rattle.std.specs.Prelude.{drop}
 use Rattle.vl_mean.specs.Parts.{values_of}
-use Rattle.vl_write.specs.Behind.{MayStandBehind}
-use Rattle.vl_write.specs.OwnParts.{placed_values}
-use Rattle.vl_write.proofs.Standing.{Rest}
-use Rattle.vl_write.proofs.values.write_values.Given as goal
+use Rattle.vl_elab_emit.specs.Behind.{MayStandBehind}
+use Rattle.vl_elab_emit.specs.OwnParts.{placed_values}
+use Rattle.vl_elab_emit.proofs.Standing.{Rest}
+use Rattle.vl_elab_emit.proofs.values.write_values.Given as goal
 
 abbrev pub invariant-loop-name : goal.invariant-loop-name
 invariant-loop-name l = record {

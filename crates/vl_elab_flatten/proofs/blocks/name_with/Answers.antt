@@ -1,8 +1,8 @@
 use Rattle.std.specs.Prelude.{◌≡◌, ℕ, List, length}
 use Rattle.std.proofs.lemmas.Result.{IfOk-weaker}
 use Rattle.vl_mean.specs.Declarations.{block_name}
-use Rattle.name_set.specs.Known.{AreNames}
-use Rattle.vl_written.proofs.blocks.name_with.Goals as goal
+use Rattle.vl_elab_names.specs.Known.{AreNames}
+use Rattle.vl_elab_flatten.proofs.blocks.name_with.Goals as goal
 
 pub returns : goal.returns
 returns c =

@@ -3,7 +3,7 @@ use Rattle.std.specs.Prelude.{codes}
 use Rattle.std.proofs.lemmas.Result.{IfOk-weaker}
 use Rattle.vl_tree.specs.ItemView.{block as block_of}
 use Rattle.vl_mean.specs.Declarations.{block_name, label_of}
-use Rattle.vl_written.proofs.blocks.path_of.Goals as goal
+use Rattle.vl_elab_flatten.proofs.blocks.path_of.Goals as goal
 
 pub returns : goal.returns
 returns c =

@@ -1,7 +1,7 @@
 use Rattle.std.proofs.Common.{◌∙◌, ap, length, min}
 use Rattle.vl_mean.specs.Declarations.{declared_by}
-use Rattle.vl_written.proofs.Items.{first_of, second_of}
-use Rattle.vl_written.proofs.blocks.split_declared.Goals as goal
+use Rattle.vl_elab_flatten.proofs.Items.{first_of, second_of}
+use Rattle.vl_elab_flatten.proofs.blocks.split_declared.Goals as goal
 
 pub returns-clause-own : goal.returns-clause-own
 returns-clause-own c ss rest e =

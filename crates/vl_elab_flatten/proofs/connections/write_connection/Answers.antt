@@ -1,9 +1,9 @@
 use Rattle.std.proofs.Common.{◌∙◌, subst}
 use Rattle.std.proofs.lemmas.Result.{on_ok_weaker}
 use Rattle.vl_mean.specs.Declarations.{ports_of}
-use Rattle.vl_write.specs.Behind.{StandBehind, placed_at}
-use Rattle.vl_ports.proofs.Joined.{joined_so, written_directions}
-use Rattle.vl_ports.proofs.connections.write_connection.Goals as goal
+use Rattle.vl_elab_emit.specs.Behind.{StandBehind, placed_at}
+use Rattle.vl_elab_flatten.proofs.Joined.{joined_so, written_directions}
+use Rattle.vl_elab_flatten.proofs.connections.write_connection.Goals as goal
 
 pub returns : goal.returns
 returns c =

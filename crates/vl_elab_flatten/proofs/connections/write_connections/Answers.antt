@@ -1,10 +1,10 @@
 use Rattle.std.proofs.Common.{◌≡◌, ◌+◌, [], ◌∷◌, ap, arith}
 use Rattle.std.specs.Prelude.{drop}
 use Rattle.std.proofs.lemmas.Grind.{common_steps}
-use Rattle.vl_write.specs.Behind.{placed_at}
-use Rattle.vl_write.proofs.Standing.{rest_first, rest_last, rest_next}
-use Rattle.vl_ports.specs.PortParts.{connection_parts, placed_connections}
-use Rattle.vl_ports.proofs.connections.write_connections.Goals as goal
+use Rattle.vl_elab_emit.specs.Behind.{placed_at}
+use Rattle.vl_elab_emit.proofs.Standing.{rest_first, rest_last, rest_next}
+use Rattle.vl_elab_flatten.specs.PortParts.{connection_parts, placed_connections}
+use Rattle.vl_elab_flatten.proofs.connections.write_connections.Goals as goal
 
 pub loop-given-init : goal.loop-given-init
 loop-given-init c m d =

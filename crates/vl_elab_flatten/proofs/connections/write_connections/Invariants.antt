@@ -1,9 +1,9 @@
 use Rattle.std.specs.Prelude.{drop}
 use Rattle.vl_tree.specs.declared.source.Module.{Module}
-use Rattle.vl_connect.specs.Ports.{AreDirectionsOf}
-use Rattle.vl_write.proofs.Standing.{Rest}
-use Rattle.vl_ports.specs.PortParts.{placed_connections}
-use Rattle.vl_ports.proofs.connections.write_connections.Given as goal
+use Rattle.vl_elab_check_instance.specs.Ports.{AreDirectionsOf}
+use Rattle.vl_elab_emit.proofs.Standing.{Rest}
+use Rattle.vl_elab_flatten.specs.PortParts.{placed_connections}
+use Rattle.vl_elab_flatten.proofs.connections.write_connections.Given as goal
 
 abbrev pub invariant-loop-given : goal.invariant-loop-given
 invariant-loop-given l =

@@ -1,9 +1,9 @@
 use Rattle.std.proofs.Common.{◌∙◌, ap, sym}
 use Rattle.std.proofs.lemmas.Result.{on_ok_weaker}
 use Rattle.vl_mean.specs.Constants.{constant_of}
-use Rattle.vl_full.specs.Kept.{with_constant}
-use Rattle.vl_open.proofs.Adding.{constant_added, none_known, not_there}
-use Rattle.vl_open.proofs.constants.add_constant.Goals as goal
+use Rattle.vl_elab_draft.specs.Kept.{with_constant}
+use Rattle.vl_elab_flatten.proofs.Adding.{constant_added, none_known, not_there}
+use Rattle.vl_elab_flatten.proofs.constants.add_constant.Goals as goal
 
 pub returns-then-is_known : goal.returns-then-is_known
 returns-then-is_known c path cs outer fresh has =

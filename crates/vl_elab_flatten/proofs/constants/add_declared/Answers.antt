@@ -1,10 +1,10 @@
 use Rattle.std.proofs.Common.{subst, sym}
 use Rattle.std.proofs.lemmas.Result.{on_ok_weaker}
 use Rattle.vl_mean.specs.Walk.{parameter_names}
-use Rattle.vl_number.specs.Given.{value_given}
-use Rattle.vl_open.specs.Levels.{Adds, with_declared}
-use Rattle.vl_open.proofs.Adding.{local_added}
-use Rattle.vl_open.proofs.constants.add_declared.Goals as goal
+use Rattle.vl_elab_const.specs.Given.{value_given}
+use Rattle.vl_elab_flatten.specs.Levels.{Adds, with_declared}
+use Rattle.vl_elab_flatten.proofs.Adding.{local_added}
+use Rattle.vl_elab_flatten.proofs.constants.add_declared.Goals as goal
 
 pub returns-in-Parameter : goal.returns-in-Parameter
 returns-in-Parameter c =

@@ -1,11 +1,11 @@
 use Rattle.std.proofs.Common.{◌≡◌, ◌+◌, [], ◌∷◌, ap, arith}
 use Rattle.std.specs.Prelude.{drop}
 use Rattle.std.proofs.lemmas.Grind.{common_steps}
-use Rattle.vl_number.specs.Given.{value_given}
+use Rattle.vl_elab_const.specs.Given.{value_given}
 use Rattle.vl_mean.specs.Declarations.{header_parameters, with_parameters}
 use Rattle.vl_mean.specs.Walk.{parameter_names}
-use Rattle.vl_open.proofs.Adding.{parameters_first, parameters_last, parameters_on}
-use Rattle.vl_open.proofs.constants.add_header.Goals as goal
+use Rattle.vl_elab_flatten.proofs.Adding.{parameters_first, parameters_last, parameters_on}
+use Rattle.vl_elab_flatten.proofs.constants.add_header.Goals as goal
 
 pub loop-parameter-init : goal.loop-parameter-init
 loop-parameter-init c os ss path cs outer g h d has =

@@ -2,9 +2,9 @@ use Rattle.std.proofs.Common.{◌≡◌, ◌∙◌, ap, sym}
 use Rattle.std.proofs.lemmas.Result.{on_ok_weaker}
 use Rattle.vl_tree.specs.Item.{parameter}
 use Rattle.vl_tree.specs.ItemView.{shown}
-use Rattle.vl_number.specs.Given.{value_given}
-use Rattle.vl_open.proofs.Adding.{item_added}
-use Rattle.vl_open.proofs.constants.add_item.Goals as goal
+use Rattle.vl_elab_const.specs.Given.{value_given}
+use Rattle.vl_elab_flatten.proofs.Adding.{item_added}
+use Rattle.vl_elab_flatten.proofs.constants.add_item.Goals as goal
 
 pub returns-in-Parameter : goal.returns-in-Parameter
 returns-in-Parameter c =

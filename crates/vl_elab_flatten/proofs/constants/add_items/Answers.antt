@@ -1,11 +1,11 @@
 use Rattle.std.proofs.Common.{◌≡◌, ◌+◌, [], ◌∷◌, ap, arith}
 use Rattle.std.specs.Prelude.{drop}
 use Rattle.std.proofs.lemmas.Grind.{common_steps}
-use Rattle.vl_number.specs.Given.{value_given}
+use Rattle.vl_elab_const.specs.Given.{value_given}
 use Rattle.vl_tree.specs.Item.{items}
 use Rattle.vl_mean.specs.Declarations.{with_items_parameters}
-use Rattle.vl_open.proofs.Adding.{items_first, items_last, items_on}
-use Rattle.vl_open.proofs.constants.add_items.Goals as goal
+use Rattle.vl_elab_flatten.proofs.Adding.{items_first, items_last, items_on}
+use Rattle.vl_elab_flatten.proofs.constants.add_items.Goals as goal
 
 pub loop-item-init : goal.loop-item-init
 loop-item-init c os ss path cs outer g h d has =

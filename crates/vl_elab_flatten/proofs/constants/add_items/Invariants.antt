@@ -3,15 +3,15 @@ use Rattle.std.specs.Prelude.{drop}
 use Rattle.vl_mean.specs.Constants.{Constants}
 use Rattle.vl_mean.specs.Declarations.{Overrides}
 use Rattle.vl_mean.specs.Scopes.{Scope}
-use Rattle.vl_refusal.specs.Meanings.{Names}
-use Rattle.vl_number.specs.Given.{IsGiven, value_given}
-use Rattle.vl_number.specs.Numbers.{HaveNumbers}
-use Rattle.vl_openable.specs.Openable.{Different, constant_names, items_constants}
+use Rattle.vl_elab_spec.specs.Meanings.{Names}
+use Rattle.vl_elab_const.specs.Given.{IsGiven, value_given}
+use Rattle.vl_elab_const.specs.Numbers.{HaveNumbers}
+use Rattle.vl_elab_const.specs.Openable.{Different, constant_names, items_constants}
 use Rattle.vl_tree.specs.Item.{items}
 use Rattle.vl_mean.specs.Declarations.{with_items_parameters}
-use Rattle.vl_open.specs.Levels.{HasConstants}
-use Rattle.vl_open.proofs.Adding.{ItemsGo}
-use Rattle.vl_open.proofs.constants.add_items.Given as goal
+use Rattle.vl_elab_flatten.specs.Levels.{HasConstants}
+use Rattle.vl_elab_flatten.proofs.Adding.{ItemsGo}
+use Rattle.vl_elab_flatten.proofs.constants.add_items.Given as goal
 
 abbrev pub invariant-loop-item : goal.invariant-loop-item
 invariant-loop-item l =

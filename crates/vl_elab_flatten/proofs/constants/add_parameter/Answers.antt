@@ -1,7 +1,7 @@
 use Rattle.std.proofs.lemmas.Result.{on_ok_weaker}
-use Rattle.vl_number.specs.Given.{value_given}
-use Rattle.vl_open.proofs.Adding.{parameter_added}
-use Rattle.vl_open.proofs.constants.add_parameter.Goals as goal
+use Rattle.vl_elab_const.specs.Given.{value_given}
+use Rattle.vl_elab_flatten.proofs.Adding.{parameter_added}
+use Rattle.vl_elab_flatten.proofs.constants.add_parameter.Goals as goal
 
 pub returns : goal.returns
 returns c =

@@ -1,12 +1,12 @@
 use Rattle.std.proofs.Common.{subst, sym}
 use Rattle.std.proofs.lemmas.Result.{on_ok_weaker}
 use Rattle.vl_mean.specs.Parts.{declares_all, optional_value}
-use Rattle.vl_shape.specs.Objects.{port_text}
-use Rattle.vl_write.specs.Behind.{MayStandBehind, StandBehind, placed_at, unplaced}
-use Rattle.vl_write.proofs.Standing.{may_back, may_front}
-use Rattle.vl_ports.specs.PortParts.{port_value}
-use Rattle.vl_ports.proofs.Written.{port_behind}
-use Rattle.vl_ports.proofs.declared.write_port.Goals as goal
+use Rattle.vl_elab_decls.specs.Objects.{port_text}
+use Rattle.vl_elab_emit.specs.Behind.{MayStandBehind, StandBehind, placed_at, unplaced}
+use Rattle.vl_elab_emit.proofs.Standing.{may_back, may_front}
+use Rattle.vl_elab_flatten.specs.PortParts.{port_value}
+use Rattle.vl_elab_flatten.proofs.Written.{port_behind}
+use Rattle.vl_elab_flatten.proofs.declared.write_port.Goals as goal
 
 pub write_declarations-requires : goal.write_declarations-requires
 write_declarations-requires c =

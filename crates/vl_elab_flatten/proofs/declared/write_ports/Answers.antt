@@ -1,9 +1,9 @@
 use Rattle.std.proofs.Common.{◌≡◌, ◌+◌, [], ◌∷◌, arith}
 use Rattle.std.specs.Prelude.{drop}
 use Rattle.std.proofs.lemmas.Grind.{common_steps}
-use Rattle.vl_ports.specs.PortParts.{placed_ports}
-use Rattle.vl_ports.proofs.Written.{first_may, ports_first, ports_last, ports_on}
-use Rattle.vl_ports.proofs.declared.write_ports.Goals as goal
+use Rattle.vl_elab_flatten.specs.PortParts.{placed_ports}
+use Rattle.vl_elab_flatten.proofs.Written.{first_may, ports_first, ports_last, ports_on}
+use Rattle.vl_elab_flatten.proofs.declared.write_ports.Goals as goal
 
 pub loop-port-init : goal.loop-port-init
 loop-port-init c =

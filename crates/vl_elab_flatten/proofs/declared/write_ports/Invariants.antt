@@ -1,7 +1,7 @@
 use Rattle.std.specs.Prelude.{drop}
-use Rattle.vl_ports.specs.PortParts.{placed_ports}
-use Rattle.vl_ports.proofs.Written.{PortsLeft}
-use Rattle.vl_ports.proofs.declared.write_ports.Given as goal
+use Rattle.vl_elab_flatten.specs.PortParts.{placed_ports}
+use Rattle.vl_elab_flatten.proofs.Written.{PortsLeft}
+use Rattle.vl_elab_flatten.proofs.declared.write_ports.Given as goal
 
 abbrev pub invariant-loop-port : goal.invariant-loop-port
 invariant-loop-port l =

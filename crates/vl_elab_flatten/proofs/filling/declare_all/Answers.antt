@@ -1,9 +1,9 @@
 use Rattle.std.proofs.Common.{◌≡◌, ◌+◌, [], ◌∷◌, arith}
 use Rattle.std.specs.Prelude.{drop}
 use Rattle.std.proofs.lemmas.Grind.{common_steps}
-use Rattle.vl_open.specs.Levels.{with_decls}
-use Rattle.vl_open.proofs.Filled.{fills_first, fills_last, fills_on, next_fresh, next_plain, next_shaped}
-use Rattle.vl_open.proofs.filling.declare_all.Goals as goal
+use Rattle.vl_elab_flatten.specs.Levels.{with_decls}
+use Rattle.vl_elab_flatten.proofs.Filled.{fills_first, fills_last, fills_on, next_fresh, next_plain, next_shaped}
+use Rattle.vl_elab_flatten.proofs.filling.declare_all.Goals as goal
 
 pub loop-decl-init : goal.loop-decl-init
 loop-decl-init c =

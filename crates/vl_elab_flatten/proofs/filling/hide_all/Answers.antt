@@ -1,8 +1,8 @@
 use Rattle.std.proofs.Common.{◌≡◌, ◌∙◌, ◌+◌, [], ◌∷◌, ap, sym, arith}
 use Rattle.std.specs.Prelude.{drop}
 use Rattle.std.proofs.lemmas.Grind.{common_steps}
-use Rattle.vl_open.specs.Levels.{hidden}
-use Rattle.vl_open.proofs.filling.hide_all.Goals as goal
+use Rattle.vl_elab_flatten.specs.Levels.{hidden}
+use Rattle.vl_elab_flatten.proofs.filling.hide_all.Goals as goal
 
 pub loop-decl-preserved : goal.loop-decl-preserved
 loop-decl-preserved c =

@@ -4,12 +4,12 @@ use Rattle.vl_tree.specs.Item.{items}
 use Rattle.vl_mean.specs.Declarations.{declared}
 use Rattle.vl_mean.specs.Runs.{Each}
 use Rattle.vl_mean.specs.Scopes.{Scope}
-use Rattle.vl_number.specs.Given.{value_given}
-use Rattle.vl_number.specs.Numbers.{HaveNumbers}
-use Rattle.vl_openable.specs.Openable.{IsInRange}
-use Rattle.vl_open.specs.Here.{block_constants, block_scope}
-use Rattle.vl_open.specs.Levels.{HasConstants}
-use Rattle.vl_open.proofs.Blocks.{
+use Rattle.vl_elab_const.specs.Given.{value_given}
+use Rattle.vl_elab_const.specs.Numbers.{HaveNumbers}
+use Rattle.vl_elab_const.specs.Openable.{IsInRange}
+use Rattle.vl_elab_flatten.specs.Here.{block_constants, block_scope}
+use Rattle.vl_elab_flatten.specs.Levels.{HasConstants}
+use Rattle.vl_elab_flatten.proofs.OpenBlocks.{
   block_beneath,
   block_constants_are,
   block_decls_are,
@@ -19,7 +19,7 @@ use Rattle.vl_open.proofs.Blocks.{
   block_plain,
   block_scope_is,
 }
-use Rattle.vl_open.proofs.here.enter_block.Goals as goal
+use Rattle.vl_elab_flatten.proofs.here.enter_block.Goals as goal
 
 pub fill-requires : goal.fill-requires
 fill-requires c =

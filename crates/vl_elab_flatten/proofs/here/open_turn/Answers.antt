@@ -1,8 +1,8 @@
 use Rattle.std.proofs.Common.{ap}
 use Rattle.std.specs.Prelude.{drop}
 use Rattle.std.proofs.lemmas.Result.{on_ok_weaker}
-use Rattle.vl_open.proofs.Blocks.{turns_numbered}
-use Rattle.vl_open.proofs.here.open_turn.Goals as goal
+use Rattle.vl_elab_flatten.proofs.OpenBlocks.{turns_numbered}
+use Rattle.vl_elab_flatten.proofs.here.open_turn.Goals as goal
 
 pub returns-clause-numbers : goal.returns-clause-numbers
 returns-clause-numbers c =

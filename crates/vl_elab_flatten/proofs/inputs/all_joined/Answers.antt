@@ -2,9 +2,9 @@ use Rattle.std.proofs.Common.{◌≡◌, ◌∙◌, ◌+◌, [], ◌∷◌, ap, 
 use Rattle.std.specs.Prelude.{drop}
 use Rattle.std.proofs.lemmas.Grind.{common_steps}
 use Rattle.vl_mean.specs.Scopes.{is_clock}
-use Rattle.name_set.specs.Known.{contains}
-use Rattle.vl_connect.specs.Clock.{joined_to, with_clock, with_name}
-use Rattle.vl_ports.proofs.inputs.all_joined.Goals as goal
+use Rattle.vl_elab_names.specs.Known.{contains}
+use Rattle.vl_elab_check_instance.specs.Clock.{joined_to, with_clock, with_name}
+use Rattle.vl_elab_flatten.proofs.inputs.all_joined.Goals as goal
 
 pub loop-given-init : goal.loop-given-init
 loop-given-init c other =

@@ -1,9 +1,9 @@
 use Rattle.std.proofs.Common.{◌≡◌, false, ℕ, List}
 use Rattle.std.specs.Prelude.{drop}
 use Rattle.vl_mean.specs.Scopes.{is_clock}
-use Rattle.name_set.specs.Known.{contains}
-use Rattle.vl_connect.specs.Clock.{joined_to}
-use Rattle.vl_ports.proofs.inputs.all_joined.Given as goal
+use Rattle.vl_elab_names.specs.Known.{contains}
+use Rattle.vl_elab_check_instance.specs.Clock.{joined_to}
+use Rattle.vl_elab_flatten.proofs.inputs.all_joined.Given as goal
 
 abbrev pub invariant-loop-given : goal.invariant-loop-given
 invariant-loop-given l =

@@ -1,5 +1,5 @@
-use Rattle.vl_ports.proofs.Joined.{joined_are}
-use Rattle.vl_ports.proofs.inputs.joined_inputs.Goals as goal
+use Rattle.vl_elab_flatten.proofs.Joined.{joined_are}
+use Rattle.vl_elab_flatten.proofs.inputs.joined_inputs.Goals as goal
 
 pub returns : goal.returns
 returns c x e =

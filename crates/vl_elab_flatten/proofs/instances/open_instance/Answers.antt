@@ -2,12 +2,12 @@ use Rattle.std.proofs.Common.{◌++◌, subst, sym}
 use Rattle.std.specs.Prelude.{codes}
 use Rattle.std.proofs.lemmas.Result.{IfOk-weaker}
 use Rattle.vl_mean.specs.Walk.{Use, module_scope, use_of}
-use Rattle.vl_number.specs.Given.{IsGiven, value_given}
-use Rattle.vl_openable.specs.Openable.{IsOpenable}
-use Rattle.vl_shape.specs.Inputs.{AreInputs}
-use Rattle.vl_open.specs.Modules.{IsModuleOpened}
-use Rattle.vl_written.proofs.Given.{instance_given}
-use Rattle.vl_written.proofs.instances.open_instance.Goals as goal
+use Rattle.vl_elab_const.specs.Given.{IsGiven, value_given}
+use Rattle.vl_elab_const.specs.Openable.{IsOpenable}
+use Rattle.vl_elab_decls.specs.Inputs.{AreInputs}
+use Rattle.vl_elab_flatten.specs.Modules.{IsModuleOpened}
+use Rattle.vl_elab_flatten.proofs.Given.{instance_given}
+use Rattle.vl_elab_flatten.proofs.instances.open_instance.Goals as goal
 
 pub open_module-requires : goal.open_module-requires
 open_module-requires c =

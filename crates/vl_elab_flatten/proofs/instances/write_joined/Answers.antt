@@ -1,8 +1,8 @@
 use Rattle.std.proofs.Common.{subst}
 use Rattle.std.proofs.lemmas.Result.{on_ok_weaker}
-use Rattle.vl_ports.specs.PortParts.{placed_connections}
-use Rattle.vl_write.specs.Behind.{StandBehind}
-use Rattle.vl_written.proofs.instances.write_joined.Goals as goal
+use Rattle.vl_elab_flatten.specs.PortParts.{placed_connections}
+use Rattle.vl_elab_emit.specs.Behind.{StandBehind}
+use Rattle.vl_elab_flatten.proofs.instances.write_joined.Goals as goal
 
 pub returns : goal.returns
 returns c =

@@ -1,8 +1,8 @@
 use Rattle.std.proofs.lemmas.Result.{on_ok_weaker}
 use Rattle.vl_tree.specs.Item.{items}
-use Rattle.vl_number.specs.Given.{value_given}
-use Rattle.vl_open.proofs.Entered.{both_added}
-use Rattle.vl_open.proofs.modules.constants_of.Goals as goal
+use Rattle.vl_elab_const.specs.Given.{value_given}
+use Rattle.vl_elab_flatten.proofs.Entered.{both_added}
+use Rattle.vl_elab_flatten.proofs.modules.constants_of.Goals as goal
 
 pub returns : goal.returns
 returns c =

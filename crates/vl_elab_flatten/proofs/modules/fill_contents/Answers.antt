@@ -1,12 +1,12 @@
 use Rattle.std.proofs.Common.{◌∙◌, ◌∷◌, ◌++◌, ap, drop, refl, subst, sym}
 use Rattle.vl_size.specs.Table.{AreDifferent, IsPlain}
 use Rattle.vl_mean.specs.Runs.{Each}
-use Rattle.vl_scope.specs.Seen.{innermost}
-use Rattle.vl_same.proofs.EachOf.{back, front}
-use Rattle.vl_openable.specs.Openable.{IsInRange}
-use Rattle.vl_open.specs.Levels.{hidden, with_decls}
-use Rattle.vl_open.proofs.Entered.{both_filled, both_hidden, first_different, second_different}
-use Rattle.vl_open.proofs.modules.fill_contents.Goals as goal
+use Rattle.vl_elab_scope.specs.Seen.{innermost}
+use Rattle.vl_mean_flat.proofs.EachOf.{back, front}
+use Rattle.vl_elab_const.specs.Openable.{IsInRange}
+use Rattle.vl_elab_flatten.specs.Levels.{hidden, with_decls}
+use Rattle.vl_elab_flatten.proofs.Entered.{both_filled, both_hidden, first_different, second_different}
+use Rattle.vl_elab_flatten.proofs.modules.fill_contents.Goals as goal
 
 pub fill-requires : goal.fill-requires
 fill-requires c =

@@ -1,8 +1,8 @@
 use Rattle.std.proofs.Common.{refl}
 use Rattle.vl_tree.specs.Item.{items}
-use Rattle.vl_open.specs.declared.modules.Opened.{Opened}
-use Rattle.vl_open.proofs.Entered.{can_fill, opened}
-use Rattle.vl_open.proofs.modules.open_contents.Goals as goal
+use Rattle.vl_elab_flatten.specs.declared.modules.Opened.{Opened}
+use Rattle.vl_elab_flatten.proofs.Entered.{can_fill, opened}
+use Rattle.vl_elab_flatten.proofs.modules.open_contents.Goals as goal
 
 pub read_contents-requires : goal.read_contents-requires
 read_contents-requires c = c.requires

@@ -2,11 +2,11 @@ use Rattle.std.proofs.Common.{ap}
 use Rattle.std.proofs.lemmas.Result.{IfOk-weaker}
 use Rattle.vl_tree.specs.Item.{items}
 use Rattle.vl_mean.specs.Walk.{Use}
-use Rattle.vl_number.specs.Given.{IsGiven, value_given}
-use Rattle.vl_shape.specs.Inputs.{AreInputs}
-use Rattle.vl_open.specs.Modules.{IsModuleOpened, IsOpened}
-use Rattle.vl_open.proofs.Entered.{can_open, module_opened}
-use Rattle.vl_open.proofs.modules.open_module.Goals as goal
+use Rattle.vl_elab_const.specs.Given.{IsGiven, value_given}
+use Rattle.vl_elab_decls.specs.Inputs.{AreInputs}
+use Rattle.vl_elab_flatten.specs.Modules.{IsModuleOpened, IsOpened}
+use Rattle.vl_elab_flatten.proofs.Entered.{can_open, module_opened}
+use Rattle.vl_elab_flatten.proofs.modules.open_module.Goals as goal
 
 pub open_contents-requires : goal.open_contents-requires
 open_contents-requires c =

@@ -1,11 +1,11 @@
 use Rattle.std.proofs.Common.{[]}
 use Rattle.vl_tree.specs.Item.{items}
 use Rattle.vl_mean.specs.Walk.{Use}
-use Rattle.vl_number.specs.Given.{IsGiven, value_given}
-use Rattle.vl_open.specs.Levels.{HasConstants}
-use Rattle.vl_open.specs.Modules.{constants_with}
-use Rattle.vl_open.proofs.Entered.{constants_are, decls_read, ports_read}
-use Rattle.vl_open.proofs.modules.read_contents.Goals as goal
+use Rattle.vl_elab_const.specs.Given.{IsGiven, value_given}
+use Rattle.vl_elab_flatten.specs.Levels.{HasConstants}
+use Rattle.vl_elab_flatten.specs.Modules.{constants_with}
+use Rattle.vl_elab_flatten.proofs.Entered.{constants_are, decls_read, ports_read}
+use Rattle.vl_elab_flatten.proofs.modules.read_contents.Goals as goal
 
 pub returns : goal.returns
 returns c w a g =

@@ -1,7 +1,7 @@
 use Rattle.std.proofs.lemmas.Result.{on_ok_weaker}
 use Rattle.vl_mean.specs.Walk.{walk}
-use Rattle.vl_written.proofs.Seens.{steps_ready, steps_written}
-use Rattle.vl_written.proofs.top.write_design.Goals as goal
+use Rattle.vl_elab_flatten.proofs.Seens.{steps_ready, steps_written}
+use Rattle.vl_elab_flatten.proofs.top.write_design.Goals as goal
 
 pub write_top-requires : goal.write_top-requires
 write_top-requires c = record {

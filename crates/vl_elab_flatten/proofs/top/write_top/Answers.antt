@@ -1,18 +1,18 @@
 use Rattle.std.proofs.Common.{◌≡◌, ◌∙◌, ◌<◌, ◌-◌, [], ap, refl, subst, sym, length}
 use Rattle.std.specs.Option.{option_copied}
 use Rattle.std.proofs.lemmas.Result.{on_ok_weaker}
-use Rattle.vl_shape.specs.declared.inputs.Inputs.TheVariants as i
-use Rattle.vl_shape.specs.Inputs.{AreInputs}
+use Rattle.vl_elab_decls.specs.declared.inputs.Inputs.TheVariants as i
+use Rattle.vl_elab_decls.specs.Inputs.{AreInputs}
 use Rattle.vl_mean.specs.Walk.{module_scope}
-use Rattle.vl_number.specs.Given.{IsGiven, value_given}
-use Rattle.vl_openable.specs.Openable.{IsOpenable}
-use Rattle.vl_open.proofs.Adding.{given_nothing}
-use Rattle.vl_open.specs.Modules.{IsModuleOpened}
-use Rattle.vl_unfold.proofs.Unfolded.{named_is}
-use Rattle.vl_written.specs.Ready.{IsReady, Writes, design_seen, opened_seen, top_use}
-use Rattle.vl_written.proofs.Seens.{writes_nothing}
-use Rattle.vl_written.proofs.Unfolding.{no_top, opened_declares, top_opens, top_ready, top_written}
-use Rattle.vl_written.proofs.top.write_top.Goals as goal
+use Rattle.vl_elab_const.specs.Given.{IsGiven, value_given}
+use Rattle.vl_elab_const.specs.Openable.{IsOpenable}
+use Rattle.vl_elab_flatten.proofs.Adding.{given_nothing}
+use Rattle.vl_elab_flatten.specs.Modules.{IsModuleOpened}
+use Rattle.vl_elab_spec.proofs.Unfolded.{named_is}
+use Rattle.vl_elab_flatten.specs.Ready.{IsReady, Writes, design_seen, opened_seen, top_use}
+use Rattle.vl_elab_flatten.proofs.Seens.{writes_nothing}
+use Rattle.vl_elab_flatten.proofs.Unfolding.{no_top, opened_declares, top_opens, top_ready, top_written}
+use Rattle.vl_elab_flatten.proofs.top.write_top.Goals as goal
 
 pub find-requires : goal.find-requires
 find-requires c = c.requires.table

@@ -5,11 +5,11 @@ use Rattle.std.proofs.lemmas.Result.{IfOk-weaker}
 use Rattle.vl_mean.specs.declared.const_number.Const.{Const}
 use Rattle.vl_mean.specs.Scopes.{Scope}
 use Rattle.vl_mean.specs.Walk.{first_turn}
-use Rattle.vl_number.specs.Numbers.{HaveNumbers, genvar_number}
+use Rattle.vl_elab_const.specs.Numbers.{HaveNumbers, genvar_number}
 use Rattle.std.specs.Prelude.{◌≡◌, List}
-use Rattle.vl_written.specs.Ready.{IsTurn}
-use Rattle.vl_written.proofs.Values.{number_bounded}
-use Rattle.vl_written.proofs.turns.first_value.Goals as goal
+use Rattle.vl_elab_flatten.specs.Ready.{IsTurn}
+use Rattle.vl_elab_flatten.proofs.Values.{number_bounded}
+use Rattle.vl_elab_flatten.proofs.turns.first_value.Goals as goal
 
 pub returns-clause-value : goal.returns-clause-value
 returns-clause-value c =

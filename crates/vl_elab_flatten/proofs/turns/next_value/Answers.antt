@@ -1,8 +1,8 @@
 use Rattle.std.proofs.Common.{◌∙◌, None, Some, ap, if◌then◌else◌}
 use Rattle.std.specs.Prelude.{drop}
-use Rattle.vl_number.specs.Numbers.{genvar_number, holds}
-use Rattle.vl_written.proofs.Values.{turn_value}
-use Rattle.vl_written.proofs.turns.next_value.Goals as goal
+use Rattle.vl_elab_const.specs.Numbers.{genvar_number, holds}
+use Rattle.vl_elab_flatten.proofs.Values.{turn_value}
+use Rattle.vl_elab_flatten.proofs.turns.next_value.Goals as goal
 
 pub returns-clause-numbers : goal.returns-clause-numbers
 returns-clause-numbers c = c.leave.ensures ∙ ap (drop 1) c.in_ok-enter_turn.ensures.ok

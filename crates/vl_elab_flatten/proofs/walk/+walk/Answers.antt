@@ -10,31 +10,32 @@ use Rattle.vl_tree.specs.Item.{generate, for_loop, items, items_depth, block_dep
 use Rattle.vl_tree.specs.ItemView.{block, shown}
 use Rattle.vl_mean.specs.Declarations.{block_name, constructs, declared, declared_by, label_of}
 use Rattle.vl_mean.specs.Walk.{goes_on, module_named, next_turn, turn_path, turns, use_of}
-use Rattle.vl_refusal.specs.Refused.{nowhere}
-use Rattle.vl_number.specs.Numbers.{HaveNumbers}
-use Rattle.vl_placed.specs.Seen.{seen_steps}
-use Rattle.vl_unfold.specs.Within.{chosen_block, deepest, nested_if}
-use Rattle.vl_unfold.proofs.Inner.{chosen_is, nested_is}
-use Rattle.vl_unfold.proofs.Unfolded.{named_is}
-use Rattle.vl_openable.specs.Openable.{IsOpenable}
-use Rattle.vl_open.specs.declared.here.Here.{Here}
-use Rattle.vl_open.specs.Here.{around_of, block_scope, place_in}
-use Rattle.vl_write.specs.Behind.{StandBehind}
-use Rattle.vl_written.specs.Ready.{IsReady, IsTurn, Writes, block_seen, inner_seen, instance_seen, item_seen}
-use Rattle.vl_written.specs.Ready.{items_seen}
-use Rattle.vl_written.specs.Ready.{opened_seen, place_of, scope_seen, turn_body, turn_seen, turns_seen}
-use Rattle.vl_written.proofs.Depths.{module_falls, part_falls, slice_falls}
-use Rattle.vl_written.proofs.Items.{begun, block_nested, block_scoped, if_alike, if_falls, inner_ready, item_written}
-use Rattle.vl_written.proofs.Items.{items_left, nothing_within}
-use Rattle.vl_written.proofs.Items.{both_declared, nested_declares, none_chosen, own_may}
-use Rattle.vl_written.proofs.Items.{some_chosen, some_goes, some_next, turn_scoped, turns_on, turns_stopped}
-use Rattle.vl_written.proofs.Opening.{block_opens}
-use Rattle.vl_written.proofs.Places.{block_here, same_here, turn_scope}
-use Rattle.vl_written.proofs.Seens.{Left, fails, left_all, left_none, left_on, ready_first, writes_nothing}
-use Rattle.vl_written.proofs.Unfolding.{instance_opens, instance_written, none_found, opened_declares}
-use Rattle.vl_written.proofs.Unfolding.{opened_ready, opened_written, ports_may, too_deep, within_ready}
-use Rattle.vl_written.proofs.Values.{next_bounded}
-use Rattle.vl_written.proofs.walk.+walk.Goals as goal
+use Rattle.vl_elab_spec.specs.Refused.{nowhere}
+use Rattle.vl_elab_const.specs.Numbers.{HaveNumbers}
+use Rattle.vl_mean_flat.specs.Seen.{seen_steps}
+use Rattle.vl_elab_spec.specs.Within.{chosen_block, deepest, nested_if}
+use Rattle.vl_elab_spec.proofs.Inner.{chosen_is, nested_is}
+use Rattle.vl_elab_spec.proofs.Unfolded.{named_is}
+use Rattle.vl_elab_const.specs.Openable.{IsOpenable}
+use Rattle.vl_elab_flatten.specs.declared.here.Here.{Here}
+use Rattle.vl_elab_flatten.specs.Here.{around_of, block_scope, place_in}
+use Rattle.vl_elab_emit.specs.Behind.{StandBehind}
+use Rattle.vl_elab_flatten.specs.Ready.{IsReady, IsTurn, Writes, block_seen, inner_seen, instance_seen, item_seen}
+use Rattle.vl_elab_flatten.specs.Ready.{items_seen}
+use Rattle.vl_elab_flatten.specs.Ready.{opened_seen, place_of, scope_seen, turn_body, turn_seen, turns_seen}
+use Rattle.vl_elab_flatten.proofs.Depths.{module_falls, part_falls, slice_falls}
+use Rattle.vl_elab_flatten.proofs.Items.{begun, block_nested, block_scoped, if_alike, if_falls, inner_ready}
+use Rattle.vl_elab_flatten.proofs.Items.{item_written}
+use Rattle.vl_elab_flatten.proofs.Items.{items_left, nothing_within}
+use Rattle.vl_elab_flatten.proofs.Items.{both_declared, nested_declares, none_chosen, own_may}
+use Rattle.vl_elab_flatten.proofs.Items.{some_chosen, some_goes, some_next, turn_scoped, turns_on, turns_stopped}
+use Rattle.vl_elab_flatten.proofs.Opening.{block_opens}
+use Rattle.vl_elab_flatten.proofs.Places.{block_here, same_here, turn_scope}
+use Rattle.vl_elab_flatten.proofs.Seens.{Left, fails, left_all, left_none, left_on, ready_first, writes_nothing}
+use Rattle.vl_elab_flatten.proofs.Unfolding.{instance_opens, instance_written, none_found, opened_declares}
+use Rattle.vl_elab_flatten.proofs.Unfolding.{opened_ready, opened_written, ports_may, too_deep, within_ready}
+use Rattle.vl_elab_flatten.proofs.Values.{next_bounded}
+use Rattle.vl_elab_flatten.proofs.walk.+walk.Goals as goal
 
 -- ---- the items of a scope
 

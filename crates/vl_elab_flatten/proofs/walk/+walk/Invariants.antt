@@ -4,13 +4,13 @@ use Rattle.vl_tree.specs.Item.{items, items_depth, block_depth, depth}
 use Rattle.vl_tree.specs.ItemView.{block, shown}
 use Rattle.vl_mean.specs.Declarations.{block_name, declared, label_of}
 use Rattle.vl_mean.specs.Walk.{goes_on, next_turn, turns}
-use Rattle.vl_refusal.specs.Refused.{nowhere}
-use Rattle.vl_placed.specs.Seen.{seen_steps}
-use Rattle.vl_unfold.specs.Within.{deepest}
-use Rattle.vl_open.specs.Here.{around_of}
-use Rattle.vl_written.specs.Ready.{IsTurn, items_seen, place_of, turn_body, turns_seen}
-use Rattle.vl_written.proofs.Seens.{Left}
-use Rattle.vl_written.proofs.walk.+walk.Given as goal
+use Rattle.vl_elab_spec.specs.Refused.{nowhere}
+use Rattle.vl_mean_flat.specs.Seen.{seen_steps}
+use Rattle.vl_elab_spec.specs.Within.{deepest}
+use Rattle.vl_elab_flatten.specs.Here.{around_of}
+use Rattle.vl_elab_flatten.specs.Ready.{IsTurn, items_seen, place_of, turn_body, turns_seen}
+use Rattle.vl_elab_flatten.proofs.Seens.{Left}
+use Rattle.vl_elab_flatten.proofs.walk.+walk.Given as goal
 
 abbrev pub invariant-write_items-loop-part : goal.invariant-write_items-loop-part
 invariant-write_items-loop-part l = record {

@@ -1,11 +1,11 @@
 use Rattle.std.proofs.Common.{subst, sym}
 use Rattle.vl_mean.specs.Parts.{design}
-use Rattle.vl_draft.specs.Written.{nothing}
-use Rattle.vl_behind.proofs.Declared.{may_be_written}
-use Rattle.vl_opens.proofs.Walked.{walk_open}
-use Rattle.vl_write.specs.Behind.{MayStandBehind, StandBehind, placed_design}
-use Rattle.vl_unfolded.proofs.Drawing.{drawn, lawful, placed}
-use Rattle.vl_unfolded.proofs.unfolded.Goals as goal
+use Rattle.vl_elab_draft.specs.Written.{nothing}
+use Rattle.vl_elab_flatten_laws.proofs.Declared.{may_be_written}
+use Rattle.vl_elab_flatten_laws.proofs.Walked.{walk_open}
+use Rattle.vl_elab_emit.specs.Behind.{MayStandBehind, StandBehind, placed_design}
+use Rattle.vl_elab_flatten.proofs.Drawing.{drawn, lawful, placed}
+use Rattle.vl_elab_flatten.proofs.whole_design.unfolded.Goals as goal
 
 pub write_design-requires : goal.write_design-requires
 write_design-requires c =

@@ -1,5 +1,5 @@
-use Rattle.vl_kept.proofs.Whole.{design_lawful}
-use Rattle.vl_kept.proofs.law.a_drawn_design_is_lawful.Goals as goal
+use Rattle.vl_elab_flatten_laws.proofs.KeptWhole.{design_lawful}
+use Rattle.vl_elab_flatten_laws.proofs.kept_law.a_drawn_design_is_lawful.Goals as goal
 
 pub returns : goal.returns
 returns c = design_lawful

@@ -1,6 +1,6 @@
 use Rattle.std.proofs.Common.{◌≡◌, ◌++◌, codes}
-use Rattle.vl_label.proofs.Zeros.{noughts}
-use Rattle.vl_label.proofs.labels.genblk.Given as goal
+use Rattle.vl_elab_names.proofs.Zeros.{noughts}
+use Rattle.vl_elab_names.proofs.label_labels.genblk.Given as goal
 
 abbrev pub invariant-loop : goal.invariant-loop
 invariant-loop l = l.bytes.items ≡ codes "genblk" ++ noughts l.counter

@@ -1,9 +1,9 @@
 use Rattle.std.proofs.Common.{◌≡◌, ◌∙◌, ℕ, List, length, ap, true, false, arith}
 use Rattle.std.proofs.lemmas.Result.{IfOk-weaker}
 use Rattle.vl_mean.specs.Declarations.{genblk, unlabelled, unused_genblk}
-use Rattle.name_set.specs.Known.{AreNames}
-use Rattle.vl_label.proofs.Zeros.{goes_on, ends_here, ends_last, is_there}
-use Rattle.vl_label.proofs.labels.unlabelled.Goals as goal
+use Rattle.vl_elab_names.specs.Known.{AreNames}
+use Rattle.vl_elab_names.proofs.Zeros.{goes_on, ends_here, ends_last, is_there}
+use Rattle.vl_elab_names.proofs.label_labels.unlabelled.Goals as goal
 
 pub returns-then-not-contains : goal.returns-then-not-contains
 returns-then-not-contains c = λ all h e.

@@ -1,7 +1,7 @@
 use Rattle.std.proofs.Common.{◌≡◌, ℕ, List, length}
-use Rattle.name_set.specs.Known.{AreNames}
-use Rattle.vl_label.proofs.Zeros.{GoesOn}
-use Rattle.vl_label.proofs.labels.unlabelled.Given as goal
+use Rattle.vl_elab_names.specs.Known.{AreNames}
+use Rattle.vl_elab_names.proofs.Zeros.{GoesOn}
+use Rattle.vl_elab_names.proofs.label_labels.unlabelled.Given as goal
 
 abbrev pub invariant-loop-zeros : goal.invariant-loop-zeros
 invariant-loop-zeros l =

@@ -1,7 +1,7 @@
 use Rattle.std.proofs.Common.{◌≤◌, length}
 use Rattle.std.specs.Prelude.{drop}
-use Rattle.name_set.specs.Known.{AreNames}
-use Rattle.scope_names.proofs.names.set_of.Given as goal
+use Rattle.vl_elab_names.specs.Known.{AreNames}
+use Rattle.vl_elab_names.proofs.names.set_of.Given as goal
 
 abbrev pub invariant-loop-place : goal.invariant-loop-place
 invariant-loop-place l = record {

@@ -1,8 +1,8 @@
 use Rattle.std.proofs.Common.{◌∙◌, ap, sym}
 use Rattle.std.specs.Map.Iter.{deref_pair}
 use Rattle.std.specs.Option.{option_map}
-use Rattle.vl_modules.proofs.Names.{name_pushed, no_name}
-use Rattle.vl_modules.proofs.path.add_name.Goals as goal
+use Rattle.vl_elab_names.proofs.ModulesNames.{name_pushed, no_name}
+use Rattle.vl_elab_names.proofs.path.add_name.Goals as goal
 
 pub returns-in-None : goal.returns-in-None
 returns-in-None c =

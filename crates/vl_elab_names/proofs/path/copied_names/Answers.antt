@@ -1,9 +1,9 @@
 use Rattle.std.proofs.Common.{◌≡◌, ◌∙◌, ◌++◌, [], ap, arith}
 use Rattle.std.specs.Prelude.{drop}
 use Rattle.std.proofs.lemmas.Grind.{common_steps}
-use Rattle.vl_modules.specs.Path.{texts_of}
-use Rattle.vl_modules.proofs.Names.{all_named}
-use Rattle.vl_modules.proofs.path.copied_names.Goals as goal
+use Rattle.vl_elab_names.specs.Path.{texts_of}
+use Rattle.vl_elab_names.proofs.ModulesNames.{all_named}
+use Rattle.vl_elab_names.proofs.path.copied_names.Goals as goal
 
 pub loop-place-init : goal.loop-place-init
 loop-place-init c = ap (λ names. names ++ texts_of c.args.map.now.entries) c.new-names.ensures

@@ -1,7 +1,7 @@
 use Rattle.std.proofs.Common.{◌≡◌, ◌++◌}
 use Rattle.std.specs.Prelude.{drop}
 use Rattle.std.specs.Prelude.{map}
-use Rattle.scope_names.proofs.labels.add_declared.Given as goal
+use Rattle.vl_elab_names.proofs.scope_names_labels.add_declared.Given as goal
 
 abbrev pub invariant-loop-name : goal.invariant-loop-name
 invariant-loop-name l =

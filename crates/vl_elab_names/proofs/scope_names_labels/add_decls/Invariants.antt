@@ -1,7 +1,7 @@
 use Rattle.std.proofs.Common.{◌≡◌, ◌++◌}
 use Rattle.std.specs.Prelude.{drop}
 use Rattle.std.specs.Prelude.{map}
-use Rattle.scope_names.proofs.labels.add_decls.Given as goal
+use Rattle.vl_elab_names.proofs.scope_names_labels.add_decls.Given as goal
 
 abbrev pub invariant-loop-decl : goal.invariant-loop-decl
 invariant-loop-decl l =

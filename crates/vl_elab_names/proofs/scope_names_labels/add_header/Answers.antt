@@ -3,8 +3,8 @@ use Rattle.std.specs.Prelude.{drop}
 use Rattle.std.proofs.lemmas.Grind.{common_steps}
 use Rattle.vl_mean.specs.Declarations.{header_parameters}
 use Rattle.vl_mean.specs.Walk.{parameter_names}
-use Rattle.scope_names.proofs.Ahead.{on, ended}
-use Rattle.scope_names.proofs.labels.add_header.Goals as goal
+use Rattle.vl_elab_names.proofs.Ahead.{on, ended}
+use Rattle.vl_elab_names.proofs.scope_names_labels.add_header.Goals as goal
 
 pub loop-parameter-preserved : goal.loop-parameter-preserved
 loop-parameter-preserved c =

@@ -3,8 +3,8 @@ use Rattle.std.specs.Prelude.{drop}
 use Rattle.std.proofs.lemmas.Grind.{common_steps}
 use Rattle.vl_tree.specs.Item.{items}
 use Rattle.vl_mean.specs.Declarations.{all_names, names_of}
-use Rattle.scope_names.proofs.Ahead.{on, ended}
-use Rattle.scope_names.proofs.labels.add_items.Goals as goal
+use Rattle.vl_elab_names.proofs.Ahead.{on, ended}
+use Rattle.vl_elab_names.proofs.scope_names_labels.add_items.Goals as goal
 
 pub loop-item-preserved : goal.loop-item-preserved
 loop-item-preserved c =

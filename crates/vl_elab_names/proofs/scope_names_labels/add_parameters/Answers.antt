@@ -2,8 +2,8 @@ use Rattle.std.proofs.Common.{◌≡◌, ◌+◌, ◌++◌, [], ◌∷◌, ap, a
 use Rattle.std.specs.Prelude.{drop}
 use Rattle.std.proofs.lemmas.Grind.{common_steps}
 use Rattle.std.specs.Prelude.{map}
-use Rattle.scope_names.proofs.Ahead.{on, ended}
-use Rattle.scope_names.proofs.labels.add_parameters.Goals as goal
+use Rattle.vl_elab_names.proofs.Ahead.{on, ended}
+use Rattle.vl_elab_names.proofs.scope_names_labels.add_parameters.Goals as goal
 
 pub loop-parameter-preserved : goal.loop-parameter-preserved
 loop-parameter-preserved c =

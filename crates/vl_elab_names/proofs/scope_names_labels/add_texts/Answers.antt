@@ -1,8 +1,8 @@
 use Rattle.std.proofs.Common.{◌≡◌, ◌+◌, ◌++◌, [], ◌∷◌, ap, arith}
 use Rattle.std.specs.Prelude.{drop}
 use Rattle.std.proofs.lemmas.Grind.{common_steps}
-use Rattle.scope_names.proofs.Ahead.{on, ended}
-use Rattle.scope_names.proofs.labels.add_texts.Goals as goal
+use Rattle.vl_elab_names.proofs.Ahead.{on, ended}
+use Rattle.vl_elab_names.proofs.scope_names_labels.add_texts.Goals as goal
 
 pub loop-text-preserved : goal.loop-text-preserved
 loop-text-preserved c =

@@ -1,6 +1,6 @@
 use Rattle.std.proofs.Common.{◌≡◌, ◌++◌}
 use Rattle.std.specs.Prelude.{drop}
-use Rattle.scope_names.proofs.labels.add_texts.Given as goal
+use Rattle.vl_elab_names.proofs.scope_names_labels.add_texts.Given as goal
 
 abbrev pub invariant-loop-text : goal.invariant-loop-text
 invariant-loop-text l =

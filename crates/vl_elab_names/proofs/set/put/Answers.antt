@@ -1,6 +1,6 @@
 use Rattle.vl_mean.proofs.Lookups.{lookup_after}
-use Rattle.name_set.proofs.Added.{set_after}
-use Rattle.name_set.proofs.set.put.Goals as goal
+use Rattle.vl_elab_names.proofs.Added.{set_after}
+use Rattle.vl_elab_names.proofs.set.put.Goals as goal
 
 pub returns-clause-ok : goal.returns-clause-ok
 returns-clause-ok c other =

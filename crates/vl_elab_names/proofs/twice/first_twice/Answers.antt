@@ -1,10 +1,10 @@
 use Rattle.std.proofs.Common.{◌≡◌, ◌∙◌, ◌+◌, ◌∷◌, ap, sym, arith}
 use Rattle.std.specs.Prelude.{drop, ◌||◌, bytes_eq}
 use Rattle.std.proofs.lemmas.Grind.{common_steps}
-use Rattle.name_set.specs.Known.{contains}
-use Rattle.vl_modules.specs.Table.{twice_by}
-use Rattle.vl_modules.proofs.Places.{twice_on}
-use Rattle.vl_modules.proofs.twice.first_twice.Goals as goal
+use Rattle.vl_elab_names.specs.Known.{contains}
+use Rattle.vl_elab_names.specs.Table.{twice_by}
+use Rattle.vl_elab_names.proofs.Places.{twice_on}
+use Rattle.vl_elab_names.proofs.twice.first_twice.Goals as goal
 
 pub loop-module-init : goal.loop-module-init
 loop-module-init c = λ i. twice_by (λ text. c.new-earlier.ensures text i) c.args.all.now

@@ -1,8 +1,8 @@
 use Rattle.std.proofs.Common.{◌≡◌, false}
 use Rattle.std.specs.Prelude.{drop}
-use Rattle.name_set.specs.Known.{contains}
-use Rattle.vl_modules.specs.Table.{twice_by}
-use Rattle.vl_modules.proofs.twice.first_twice.Given as goal
+use Rattle.vl_elab_names.specs.Known.{contains}
+use Rattle.vl_elab_names.specs.Table.{twice_by}
+use Rattle.vl_elab_names.proofs.twice.first_twice.Given as goal
 
 abbrev pub invariant-loop-module : goal.invariant-loop-module
 invariant-loop-module l =

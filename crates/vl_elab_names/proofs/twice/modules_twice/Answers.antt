@@ -1,10 +1,10 @@
 use Rattle.std.specs.Prelude.{◌≡◌, [], false}
 use Rattle.std.proofs.Common.{◌∙◌, refl}
 use Rattle.std.proofs.lemmas.Result.{IfOk-weaker}
-use Rattle.vl_refusal.specs.Refused.{modules_twice}
-use Rattle.vl_modules.specs.Table.{twice_by}
-use Rattle.vl_modules.proofs.Places.{same_twice}
-use Rattle.vl_modules.proofs.twice.modules_twice.Goals as goal
+use Rattle.vl_elab_spec.specs.Refused.{modules_twice}
+use Rattle.vl_elab_names.specs.Table.{twice_by}
+use Rattle.vl_elab_names.proofs.Places.{same_twice}
+use Rattle.vl_elab_names.proofs.twice.modules_twice.Goals as goal
 
 pub returns : goal.returns
 returns c =

@@ -2,8 +2,8 @@ use Rattle.std.proofs.Common.{◌≡◌, ◌∙◌, ◌+◌, [], ◌∷◌, ap, 
 use Rattle.std.specs.Prelude.{drop}
 use Rattle.std.proofs.lemmas.Grind.{common_steps}
 use Rattle.std.specs.Prelude.{map}
-use Rattle.vl_param.specs.Entered.{with_later}
-use Rattle.vl_param.proofs.behind.add_declared.Goals as goal
+use Rattle.vl_elab_params.specs.Entered.{with_later}
+use Rattle.vl_elab_params.proofs.behind.add_declared.Goals as goal
 
 pub loop-name-preserved : goal.loop-name-preserved
 loop-name-preserved c =

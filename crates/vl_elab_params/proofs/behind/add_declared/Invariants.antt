@@ -1,8 +1,8 @@
 use Rattle.std.proofs.Common.{◌≡◌}
 use Rattle.std.specs.Prelude.{drop}
 use Rattle.std.specs.Prelude.{map}
-use Rattle.vl_param.specs.Entered.{with_later}
-use Rattle.vl_param.proofs.behind.add_declared.Given as goal
+use Rattle.vl_elab_params.specs.Entered.{with_later}
+use Rattle.vl_elab_params.proofs.behind.add_declared.Given as goal
 
 abbrev pub invariant-loop-name : goal.invariant-loop-name
 invariant-loop-name l =

@@ -2,10 +2,10 @@ use Rattle.std.proofs.Common.{◌≡◌, ◌∙◌, ◌+◌, [], ◌∷◌, ap, 
 use Rattle.std.specs.Prelude.{drop}
 use Rattle.std.proofs.lemmas.Grind.{common_steps}
 use Rattle.vl_tree.specs.Item.{items}
-use Rattle.vl_refusal.specs.Meanings.{item_names, items_names}
-use Rattle.vl_param.specs.Entered.{with_later}
-use Rattle.vl_param.proofs.LaterNames.{later_append}
-use Rattle.vl_param.proofs.behind.add_items.Goals as goal
+use Rattle.vl_elab_spec.specs.Meanings.{item_names, items_names}
+use Rattle.vl_elab_params.specs.Entered.{with_later}
+use Rattle.vl_elab_params.proofs.LaterNames.{later_append}
+use Rattle.vl_elab_params.proofs.behind.add_items.Goals as goal
 
 pub loop-item-preserved : goal.loop-item-preserved
 loop-item-preserved c =

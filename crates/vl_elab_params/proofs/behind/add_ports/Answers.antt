@@ -1,9 +1,9 @@
 use Rattle.std.proofs.Common.{◌≡◌, ◌∙◌, ◌+◌, [], ◌∷◌, ap, sym, arith}
 use Rattle.std.specs.Prelude.{drop, ◌||◌}
 use Rattle.std.proofs.lemmas.Grind.{common_steps}
-use Rattle.vl_param.specs.Entered.{with_later, port_text, port_texts, is_full}
-use Rattle.vl_param.proofs.LaterNames.{later_append}
-use Rattle.vl_param.proofs.behind.add_ports.Goals as goal
+use Rattle.vl_elab_params.specs.Entered.{with_later, port_text, port_texts, is_full}
+use Rattle.vl_elab_params.proofs.LaterNames.{later_append}
+use Rattle.vl_elab_params.proofs.behind.add_ports.Goals as goal
 
 pub loop-port-preserved : goal.loop-port-preserved
 loop-port-preserved c =

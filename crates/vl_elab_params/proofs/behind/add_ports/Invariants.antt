@@ -1,7 +1,7 @@
 use Rattle.std.proofs.Common.{◌≡◌, false}
 use Rattle.std.specs.Prelude.{drop}
-use Rattle.vl_param.specs.Entered.{with_later, port_texts}
-use Rattle.vl_param.proofs.behind.add_ports.Given as goal
+use Rattle.vl_elab_params.specs.Entered.{with_later, port_texts}
+use Rattle.vl_elab_params.proofs.behind.add_ports.Given as goal
 
 abbrev pub invariant-loop-port : goal.invariant-loop-port
 invariant-loop-port l =

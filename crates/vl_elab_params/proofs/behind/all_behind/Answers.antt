@@ -2,10 +2,10 @@ use Rattle.std.proofs.Common.{◌∙◌, ap, false}
 use Rattle.vl_tree.specs.Item.{items}
 use Rattle.vl_mean.specs.Declarations.{header_parameters}
 use Rattle.vl_mean.specs.Walk.{parameter_names}
-use Rattle.vl_refusal.specs.Meanings.{items_names}
-use Rattle.vl_param.specs.Entered.{with_later, port_texts}
-use Rattle.vl_param.proofs.LaterNames.{later_three}
-use Rattle.vl_param.proofs.behind.all_behind.Goals as goal
+use Rattle.vl_elab_spec.specs.Meanings.{items_names}
+use Rattle.vl_elab_params.specs.Entered.{with_later, port_texts}
+use Rattle.vl_elab_params.proofs.LaterNames.{later_three}
+use Rattle.vl_elab_params.proofs.behind.all_behind.Goals as goal
 
 pub returns : goal.returns
 returns c =

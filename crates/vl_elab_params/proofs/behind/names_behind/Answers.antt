@@ -1,12 +1,12 @@
 use Rattle.std.proofs.Common.{◌≡◌, ◌∙◌, ap, sym, subst, List, ℕ}
 use Rattle.std.proofs.lemmas.Result.{IfOk-weaker}
 use Rattle.vl_mean.specs.Declarations.{Overrides}
-use Rattle.vl_refusal.specs.Meanings.{all_later, meaning_of}
-use Rattle.vl_scope.specs.Seen.{AreNamed}
-use Rattle.vl_param.specs.Among.{contents}
-use Rattle.vl_param.specs.Entered.{names_behind}
-use Rattle.vl_param.proofs.LaterNames.{behind_meaning, behind_named}
-use Rattle.vl_param.proofs.behind.names_behind.Goals as goal
+use Rattle.vl_elab_spec.specs.Meanings.{all_later, meaning_of}
+use Rattle.vl_elab_scope.specs.Seen.{AreNamed}
+use Rattle.vl_elab_params.specs.Among.{contents}
+use Rattle.vl_elab_params.specs.Entered.{names_behind}
+use Rattle.vl_elab_params.proofs.LaterNames.{behind_meaning, behind_named}
+use Rattle.vl_elab_params.proofs.behind.names_behind.Goals as goal
 
 pub returns-clause-meaning : goal.returns-clause-meaning
 returns-clause-meaning c =

@@ -4,8 +4,8 @@ use Rattle.std.specs.Prelude.{◌≡◌, ◌+◌, nat_abs, Some}
 use Rattle.std.proofs.Common.{◌∙◌, arith, ◌-ℤ◌}
 use Rattle.std.proofs.lemmas.Int.{ints}
 use Rattle.fv_bits.specs.Bits.{as_int}
-use Rattle.vl_enter.proofs.Bounded.{bound_is, is_few, few_down, few_up, bounds_are, with_bounds}
-use Rattle.vl_enter.proofs.extents.bounds_between.Goals as goal
+use Rattle.vl_elab_params.proofs.Bounded.{bound_is, is_few, few_down, few_up, bounds_are, with_bounds}
+use Rattle.vl_elab_params.proofs.extents.bounds_between.Goals as goal
 
 pub returns : goal.returns
 returns c =

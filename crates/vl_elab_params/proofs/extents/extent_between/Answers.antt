@@ -2,9 +2,9 @@ use Rattle.std.specs.Prelude.{◌&&◌}
 use Rattle.std.proofs.Common.{◌∙◌, ap}
 use Rattle.fv_bits.specs.Bits.{as_int}
 use Rattle.vl_size.specs.Size.{is_bound}
-use Rattle.vl_enter.specs.Known.{bounds_of, few_bits}
-use Rattle.vl_enter.proofs.Bounded.{few_is}
-use Rattle.vl_enter.proofs.extents.extent_between.Goals as goal
+use Rattle.vl_elab_params.specs.Known.{bounds_of, few_bits}
+use Rattle.vl_elab_params.proofs.Bounded.{few_is}
+use Rattle.vl_elab_params.proofs.extents.extent_between.Goals as goal
 
 pub returns : goal.returns
 returns c =

@@ -3,7 +3,7 @@ use Rattle.std.proofs.Common.{◌∙◌}
 use Rattle.vl_size.specs.Divisors.{larger, zero_divisor}
 use Rattle.vl_size.specs.Sign.{sign}
 use Rattle.vl_size.specs.Size.{size}
-use Rattle.vl_enter.proofs.known.is_known_alone.Goals as goal
+use Rattle.vl_elab_params.proofs.known.is_known_alone.Goals as goal
 
 pub returns : goal.returns
 returns c =

@@ -1,7 +1,7 @@
 use Rattle.std.proofs.Common.{◌∙◌, sym}
-use Rattle.vl_number.specs.Given.{value_given}
-use Rattle.vl_enter.proofs.Bounded.{none_selected}
-use Rattle.vl_enter.proofs.known.selected_if_known.Goals as goal
+use Rattle.vl_elab_const.specs.Given.{value_given}
+use Rattle.vl_elab_params.proofs.Bounded.{none_selected}
+use Rattle.vl_elab_params.proofs.known.selected_if_known.Goals as goal
 
 pub returns-in-None : goal.returns-in-None
 returns-in-None c =

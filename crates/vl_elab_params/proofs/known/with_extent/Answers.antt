@@ -1,9 +1,9 @@
 use Rattle.std.specs.Prelude.{refl, true, false}
 use Rattle.std.proofs.Common.{◌∙◌}
-use Rattle.vl_number.specs.Given.{value_given}
-use Rattle.vl_number.proofs.Gives.{said}
-use Rattle.vl_enter.proofs.Bounded.{extent_few, extent_bits, given_selected, own_selected}
-use Rattle.vl_enter.proofs.known.with_extent.Goals as goal
+use Rattle.vl_elab_const.specs.Given.{value_given}
+use Rattle.vl_elab_const.proofs.Gives.{said}
+use Rattle.vl_elab_params.proofs.Bounded.{extent_few, extent_bits, given_selected, own_selected}
+use Rattle.vl_elab_params.proofs.known.with_extent.Goals as goal
 
 pub returns-then-is_some : goal.returns-then-is_some
 returns-then-is_some c =

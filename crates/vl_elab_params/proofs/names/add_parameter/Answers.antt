@@ -1,8 +1,8 @@
 use Rattle.std.proofs.Common.{sym, subst}
-use Rattle.vl_refusal.specs.Meanings.{Meaning}
-use Rattle.vl_scope.specs.Seen.{IsNamed}
-use Rattle.vl_reach.proofs.Next.{parameter_named}
-use Rattle.vl_reach.proofs.names.add_parameter.Goals as goal
+use Rattle.vl_elab_spec.specs.Meanings.{Meaning}
+use Rattle.vl_elab_scope.specs.Seen.{IsNamed}
+use Rattle.vl_elab_params.proofs.Next.{parameter_named}
+use Rattle.vl_elab_params.proofs.names.add_parameter.Goals as goal
 
 pub add-requires : goal.add-requires
 add-requires c =

@@ -2,8 +2,8 @@ use Rattle.std.proofs.Common.{◌≡◌, ◌∙◌, ◌+◌, [], ◌∷◌, ap, 
 use Rattle.std.specs.Prelude.{drop}
 use Rattle.std.proofs.lemmas.Grind.{common_steps}
 use Rattle.std.specs.Prelude.{map}
-use Rattle.vl_reach.specs.Passed.{with_all_passed}
-use Rattle.vl_reach.proofs.names.pass_parameters.Goals as goal
+use Rattle.vl_elab_params.specs.Passed.{with_all_passed}
+use Rattle.vl_elab_params.proofs.names.pass_parameters.Goals as goal
 
 pub loop-parameter-preserved : goal.loop-parameter-preserved
 loop-parameter-preserved c =

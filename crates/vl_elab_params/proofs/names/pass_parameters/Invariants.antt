@@ -1,8 +1,8 @@
 use Rattle.std.proofs.Common.{◌≡◌}
 use Rattle.std.specs.Prelude.{drop}
 use Rattle.std.specs.Prelude.{map}
-use Rattle.vl_reach.specs.Passed.{with_all_passed}
-use Rattle.vl_reach.proofs.names.pass_parameters.Given as goal
+use Rattle.vl_elab_params.specs.Passed.{with_all_passed}
+use Rattle.vl_elab_params.proofs.names.pass_parameters.Given as goal
 
 abbrev pub invariant-loop-parameter : goal.invariant-loop-parameter
 invariant-loop-parameter l =

@@ -1,8 +1,8 @@
 use Rattle.std.proofs.Common.{◌≡◌, ◌∙◌, ◌+◌, [], ◌∷◌, ap, sym, arith}
 use Rattle.std.specs.Prelude.{drop}
 use Rattle.std.proofs.lemmas.Grind.{common_steps}
-use Rattle.vl_reach.specs.Passed.{with_all_passed}
-use Rattle.vl_reach.proofs.names.pass_texts.Goals as goal
+use Rattle.vl_elab_params.specs.Passed.{with_all_passed}
+use Rattle.vl_elab_params.proofs.names.pass_texts.Goals as goal
 
 pub loop-text-preserved : goal.loop-text-preserved
 loop-text-preserved c =

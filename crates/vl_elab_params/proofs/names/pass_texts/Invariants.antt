@@ -1,7 +1,7 @@
 use Rattle.std.proofs.Common.{◌≡◌}
 use Rattle.std.specs.Prelude.{drop}
-use Rattle.vl_reach.specs.Passed.{with_all_passed}
-use Rattle.vl_reach.proofs.names.pass_texts.Given as goal
+use Rattle.vl_elab_params.specs.Passed.{with_all_passed}
+use Rattle.vl_elab_params.proofs.names.pass_texts.Given as goal
 
 abbrev pub invariant-loop-text : goal.invariant-loop-text
 invariant-loop-text l =

@@ -1,5 +1,5 @@
-use Rattle.vl_param.proofs.Whole.{entered_alike, entered_numbers}
-use Rattle.vl_param.proofs.law.entered_parameters_are_those_defined.Goals as goal
+use Rattle.vl_elab_params.proofs.Whole.{entered_alike, entered_numbers}
+use Rattle.vl_elab_params.proofs.param_law.entered_parameters_are_those_defined.Goals as goal
 
 pub returns-clause-names : goal.returns-clause-names
 returns-clause-names c = entered_alike

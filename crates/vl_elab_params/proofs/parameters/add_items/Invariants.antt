@@ -1,9 +1,9 @@
 use Rattle.std.proofs.Common.{◌≡◌}
 use Rattle.std.specs.Prelude.{drop}
 use Rattle.vl_tree.specs.Item.{items}
-use Rattle.vl_number.specs.Given.{value_given}
-use Rattle.vl_param.specs.Entered.{stacks, with_items}
-use Rattle.vl_enter.proofs.parameters.add_items.Given as goal
+use Rattle.vl_elab_const.specs.Given.{value_given}
+use Rattle.vl_elab_params.specs.Entered.{stacks, with_items}
+use Rattle.vl_elab_params.proofs.parameters.add_items.Given as goal
 
 abbrev pub invariant-loop-item : goal.invariant-loop-item
 invariant-loop-item l =

@@ -1,9 +1,9 @@
 use Rattle.std.proofs.Common.{◌≡◌, ◌∙◌, ◌+◌, [], ◌∷◌, ap, sym, arith}
 use Rattle.std.specs.Prelude.{drop}
 use Rattle.std.proofs.lemmas.Grind.{common_steps}
-use Rattle.vl_number.specs.Given.{value_given}
-use Rattle.vl_param.specs.Entered.{stacks, with_parameters}
-use Rattle.vl_enter.proofs.parameters.add_parameters.Goals as goal
+use Rattle.vl_elab_const.specs.Given.{value_given}
+use Rattle.vl_elab_params.specs.Entered.{stacks, with_parameters}
+use Rattle.vl_elab_params.proofs.parameters.add_parameters.Goals as goal
 
 pub loop-parameter-preserved : goal.loop-parameter-preserved
 loop-parameter-preserved c =

@@ -1,8 +1,8 @@
 use Rattle.std.proofs.Common.{◌≡◌}
 use Rattle.std.specs.Prelude.{drop}
-use Rattle.vl_number.specs.Given.{value_given}
-use Rattle.vl_param.specs.Entered.{stacks, with_parameters}
-use Rattle.vl_enter.proofs.parameters.add_parameters.Given as goal
+use Rattle.vl_elab_const.specs.Given.{value_given}
+use Rattle.vl_elab_params.specs.Entered.{stacks, with_parameters}
+use Rattle.vl_elab_params.proofs.parameters.add_parameters.Given as goal
 
 abbrev pub invariant-loop-parameter : goal.invariant-loop-parameter
 invariant-loop-parameter l =

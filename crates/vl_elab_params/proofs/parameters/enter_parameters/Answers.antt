@@ -1,10 +1,10 @@
 use Rattle.std.proofs.lemmas.Result.{on_ok_weaker}
 use Rattle.vl_tree.specs.Item.{items}
 use Rattle.vl_mean.specs.Declarations.{header_parameters}
-use Rattle.vl_number.specs.Given.{value_given}
-use Rattle.vl_enter.proofs.Own.{names_made, numbers_made, own_made}
-use Rattle.vl_enter.proofs.Around.{entered_around, entered_beneath}
-use Rattle.vl_enter.proofs.parameters.enter_parameters.Goals as goal
+use Rattle.vl_elab_const.specs.Given.{value_given}
+use Rattle.vl_elab_params.proofs.Own.{names_made, numbers_made, own_made}
+use Rattle.vl_elab_params.proofs.Around.{entered_around, entered_beneath}
+use Rattle.vl_elab_params.proofs.parameters.enter_parameters.Goals as goal
 
 pub returns-clause-around : goal.returns-clause-around
 returns-clause-around c =

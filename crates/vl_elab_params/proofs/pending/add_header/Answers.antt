@@ -3,8 +3,8 @@ use Rattle.std.specs.Prelude.{drop}
 use Rattle.std.proofs.lemmas.Grind.{common_steps}
 use Rattle.vl_mean.specs.Declarations.{header_parameters}
 use Rattle.vl_mean.specs.Walk.{parameter_names}
-use Rattle.vl_param.specs.Entered.{with_later}
-use Rattle.vl_reach.proofs.pending.add_header.Goals as goal
+use Rattle.vl_elab_params.specs.Entered.{with_later}
+use Rattle.vl_elab_params.proofs.pending.add_header.Goals as goal
 
 pub loop-parameter-preserved : goal.loop-parameter-preserved
 loop-parameter-preserved c =

@@ -2,12 +2,12 @@ use Rattle.std.proofs.Common.{◌≡◌, ◌∙◌, ◌+◌, [], ◌∷◌, ap, 
 use Rattle.std.specs.Prelude.{drop}
 use Rattle.std.proofs.lemmas.Grind.{common_steps}
 use Rattle.vl_tree.specs.Item.{items}
-use Rattle.vl_refusal.specs.Meanings.{parameters_of}
-use Rattle.vl_param.specs.Entered.{with_later}
-use Rattle.vl_param.proofs.LaterNames.{later_append}
-use Rattle.vl_reach.specs.Passed.{item_parameters}
-use Rattle.vl_reach.proofs.Passing.{parameters_first}
-use Rattle.vl_reach.proofs.pending.add_items.Goals as goal
+use Rattle.vl_elab_spec.specs.Meanings.{parameters_of}
+use Rattle.vl_elab_params.specs.Entered.{with_later}
+use Rattle.vl_elab_params.proofs.LaterNames.{later_append}
+use Rattle.vl_elab_params.specs.Passed.{item_parameters}
+use Rattle.vl_elab_params.proofs.Passing.{parameters_first}
+use Rattle.vl_elab_params.proofs.pending.add_items.Goals as goal
 
 pub loop-item-preserved : goal.loop-item-preserved
 loop-item-preserved c =

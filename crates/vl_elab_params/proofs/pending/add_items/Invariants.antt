@@ -1,9 +1,9 @@
 use Rattle.std.proofs.Common.{◌≡◌}
 use Rattle.std.specs.Prelude.{drop}
 use Rattle.vl_tree.specs.Item.{items}
-use Rattle.vl_refusal.specs.Meanings.{parameters_of}
-use Rattle.vl_param.specs.Entered.{with_later}
-use Rattle.vl_reach.proofs.pending.add_items.Given as goal
+use Rattle.vl_elab_spec.specs.Meanings.{parameters_of}
+use Rattle.vl_elab_params.specs.Entered.{with_later}
+use Rattle.vl_elab_params.proofs.pending.add_items.Given as goal
 
 abbrev pub invariant-loop-item : goal.invariant-loop-item
 invariant-loop-item l =

@@ -2,10 +2,10 @@ use Rattle.std.proofs.Common.{◌∙◌, ap, sym, []}
 use Rattle.vl_tree.specs.Item.{items}
 use Rattle.vl_mean.specs.Declarations.{header_parameters}
 use Rattle.vl_mean.specs.Walk.{parameter_names}
-use Rattle.vl_refusal.specs.Meanings.{parameters_of}
-use Rattle.vl_param.specs.Entered.{with_later}
-use Rattle.vl_param.proofs.LaterNames.{later_append}
-use Rattle.vl_reach.proofs.pending.all_pending.Goals as goal
+use Rattle.vl_elab_spec.specs.Meanings.{parameters_of}
+use Rattle.vl_elab_params.specs.Entered.{with_later}
+use Rattle.vl_elab_params.proofs.LaterNames.{later_append}
+use Rattle.vl_elab_params.proofs.pending.all_pending.Goals as goal
 
 pub returns : goal.returns
 returns c =

@@ -1,6 +1,6 @@
-use Rattle.vl_alike.proofs.Items.{same_range, same_width, same_names, same_given, same_value_context}
-use Rattle.vl_alike.proofs.Items.{same_assignments, same_event, same_genvar}
-use Rattle.vl_alike.proofs.law.declarations_are_refused_alike.Goals as goal
+use Rattle.vl_elab_scope.proofs.Items.{same_range, same_width, same_names, same_given, same_value_context}
+use Rattle.vl_elab_scope.proofs.Items.{same_assignments, same_event, same_genvar}
+use Rattle.vl_elab_scope.proofs.alike_law.declarations_are_refused_alike.Goals as goal
 
 pub returns-clause-range : goal.returns-clause-range
 returns-clause-range c = same_range

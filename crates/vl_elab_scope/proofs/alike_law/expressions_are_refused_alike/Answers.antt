@@ -1,5 +1,5 @@
-use Rattle.vl_alike.proofs.Exprs.{same_expr, same_own}
-use Rattle.vl_alike.proofs.law.expressions_are_refused_alike.Goals as goal
+use Rattle.vl_elab_scope.proofs.Exprs.{same_expr, same_own}
+use Rattle.vl_elab_scope.proofs.alike_law.expressions_are_refused_alike.Goals as goal
 
 pub returns-clause-context : goal.returns-clause-context
 returns-clause-context c = same_expr

@@ -1,5 +1,5 @@
-use Rattle.vl_alike.proofs.Stmts.{same_assignment, same_stmt, same_initial}
-use Rattle.vl_alike.proofs.law.statements_are_refused_alike.Goals as goal
+use Rattle.vl_elab_scope.proofs.Stmts.{same_assignment, same_stmt, same_initial}
+use Rattle.vl_elab_scope.proofs.alike_law.statements_are_refused_alike.Goals as goal
 
 pub returns-clause-assignment : goal.returns-clause-assignment
 returns-clause-assignment c = same_assignment

@@ -1,5 +1,5 @@
-use Rattle.vl_scope.proofs.Meant.{ok_named}
-use Rattle.vl_scope.proofs.constants.whole_name.Goals as goal
+use Rattle.vl_elab_scope.proofs.Meant.{ok_named}
+use Rattle.vl_elab_scope.proofs.constants.whole_name.Goals as goal
 
 pub returns : goal.returns
 returns c =

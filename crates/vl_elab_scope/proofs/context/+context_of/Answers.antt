@@ -2,10 +2,10 @@ use Rattle.std.proofs.Common.{◌≡◌, ◌∙◌, ap, sym, rules}
 use Rattle.vl_tree.specs.Expr.{conditional}
 use Rattle.vl_tree.specs.ExprView.{shown}
 use Rattle.vl_size.specs.Divisors.{own_context}
-use Rattle.vl_refusal.specs.Expressions.{known}
-use Rattle.vl_refusal.specs.Meanings.{objects}
-use Rattle.vl_scope.proofs.Contexts.{choice_is}
-use Rattle.vl_scope.proofs.context.+context_of.Goals as goal
+use Rattle.vl_elab_spec.specs.Expressions.{known}
+use Rattle.vl_elab_spec.specs.Meanings.{objects}
+use Rattle.vl_elab_scope.proofs.Contexts.{choice_is}
+use Rattle.vl_elab_scope.proofs.context.+context_of.Goals as goal
 
 pub returns-in_ok-second-in-Conditional-clause-value : goal.returns-in_ok-second-in-Conditional-clause-value
 returns-in_ok-second-in-Conditional-clause-value t c =

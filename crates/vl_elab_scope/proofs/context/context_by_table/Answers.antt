@@ -1,8 +1,8 @@
 use Rattle.std.proofs.Common.{◌∙◌, ap}
 use Rattle.vl_size.specs.Divisors.{own_context}
-use Rattle.vl_refusal.specs.Meanings.{objects}
-use Rattle.vl_scope.proofs.Agree.{same_own}
-use Rattle.vl_scope.proofs.context.context_by_table.Goals as goal
+use Rattle.vl_elab_spec.specs.Meanings.{objects}
+use Rattle.vl_elab_scope.proofs.Agree.{same_own}
+use Rattle.vl_elab_scope.proofs.context.context_by_table.Goals as goal
 
 pub returns-clause-value : goal.returns-clause-value
 returns-clause-value c =

@@ -1,7 +1,7 @@
 use Rattle.std.proofs.Common.{◌∙◌, ap}
-use Rattle.vl_scope.specs.Contexts.{meant_context}
-use Rattle.vl_scope.proofs.Contexts.{name_is}
-use Rattle.vl_scope.proofs.context.name_context.Goals as goal
+use Rattle.vl_elab_scope.specs.Contexts.{meant_context}
+use Rattle.vl_elab_scope.proofs.Contexts.{name_is}
+use Rattle.vl_elab_scope.proofs.context.name_context.Goals as goal
 
 pub returns-clause-value : goal.returns-clause-value
 returns-clause-value c p =

@@ -2,8 +2,8 @@ use Rattle.std.proofs.Common.{◌≡◌, ◌≤◌, ◌*◌, ◌+◌, length}
 use Rattle.std.specs.Prelude.{drop}
 use Rattle.vl_tree.specs.Expr.{exprs, depth, exprs_depth, selects_depth, whole}
 use Rattle.vl_tree.specs.ExprView.{selects, with_select}
-use Rattle.vl_scope.specs.Divisions.{parts_have_division, selects_have_division}
-use Rattle.vl_scope.proofs.divisions.+divisions.Given as goal
+use Rattle.vl_elab_scope.specs.Divisions.{parts_have_division, selects_have_division}
+use Rattle.vl_elab_scope.proofs.divisions.+divisions.Given as goal
 
 abbrev pub decreases-has_division : goal.decreases-has_division
 decreases-has_division l = 4 * depth l.expr.now

@@ -1,5 +1,5 @@
-use Rattle.vl_scope.proofs.Added.{name_kept, no_key, name_added, none_added}
-use Rattle.vl_scope.proofs.level.add_behind.Goals as goal
+use Rattle.vl_elab_scope.proofs.Added.{name_kept, no_key, name_added, none_added}
+use Rattle.vl_elab_scope.proofs.level.add_behind.Goals as goal
 
 pub returns-then-is_some-clause-ok : goal.returns-then-is_some-clause-ok
 returns-then-is_some-clause-ok c =

@@ -1,8 +1,8 @@
 use Rattle.std.proofs.Common.{◌∙◌, ap, sym}
 use Rattle.std.specs.Prelude.{if◌then◌else◌}
-use Rattle.vl_refusal.specs.Meanings.{meaning_of}
-use Rattle.vl_scope.specs.Seen.{seen, names_of}
-use Rattle.vl_scope.proofs.level.meaning_behind.Goals as goal
+use Rattle.vl_elab_spec.specs.Meanings.{meaning_of}
+use Rattle.vl_elab_scope.specs.Seen.{seen, names_of}
+use Rattle.vl_elab_scope.proofs.level.meaning_behind.Goals as goal
 
 pub returns-then-is_name : goal.returns-then-is_name
 returns-then-is_name c =

@@ -1,8 +1,8 @@
 use Rattle.std.proofs.Common.{◌∙◌, ap}
-use Rattle.vl_refusal.specs.Meanings.{meaning_of}
-use Rattle.vl_scope.specs.Seen.{seen_or, names_of}
-use Rattle.vl_scope.proofs.Levels.{lookup_seen, none_seen_among}
-use Rattle.vl_scope.proofs.level.other_meaning.Goals as goal
+use Rattle.vl_elab_spec.specs.Meanings.{meaning_of}
+use Rattle.vl_elab_scope.specs.Seen.{seen_or, names_of}
+use Rattle.vl_elab_scope.proofs.Levels.{lookup_seen, none_seen_among}
+use Rattle.vl_elab_scope.proofs.level.other_meaning.Goals as goal
 
 pub returns-then-is_empty : goal.returns-then-is_empty
 returns-then-is_empty c =

@@ -1,6 +1,6 @@
 use Rattle.std.proofs.Common.{◌∙◌}
 use Rattle.indexmap.proofs.CallerLemmas.{insert_entry-new}
-use Rattle.vl_scope.proofs.level.put.Goals as goal
+use Rattle.vl_elab_scope.proofs.level.put.Goals as goal
 
 pub returns-in-Ok-clause-ok : goal.returns-in-Ok-clause-ok
 returns-in-Ok-clause-ok c =

@@ -1,5 +1,5 @@
-use Rattle.vl_scope.proofs.Levels.{found_here}
-use Rattle.vl_scope.proofs.names.+meaning_among.Goals as goal
+use Rattle.vl_elab_scope.proofs.Levels.{found_here}
+use Rattle.vl_elab_scope.proofs.names.+meaning_among.Goals as goal
 
 pub returns-in-Some-meaning : goal.returns-in-Some-meaning
 returns-in-Some-meaning t c =

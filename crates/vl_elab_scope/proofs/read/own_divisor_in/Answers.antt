@@ -1,8 +1,8 @@
 use Rattle.std.proofs.Common.{◌∙◌, ap}
 use Rattle.vl_size.specs.Divisors.{own_context, own_zero_divisor, zero_divisor}
-use Rattle.vl_refusal.specs.Meanings.{objects}
-use Rattle.vl_scope.proofs.Agree.{same_own, same_divisor}
-use Rattle.vl_scope.proofs.read.own_divisor_in.Goals as goal
+use Rattle.vl_elab_spec.specs.Meanings.{objects}
+use Rattle.vl_elab_scope.proofs.Agree.{same_own, same_divisor}
+use Rattle.vl_elab_scope.proofs.read.own_divisor_in.Goals as goal
 
 pub returns : goal.returns
 returns c =

@@ -1,7 +1,7 @@
 use Rattle.std.proofs.Common.{ap, sym, ◌∙◌}
 use Rattle.std.specs.Prelude.{Some, is_some}
 use Rattle.vl_size.specs.Divisors.{valid_size}
-use Rattle.vl_scope.proofs.read.own_value.Goals as goal
+use Rattle.vl_elab_scope.proofs.read.own_value.Goals as goal
 
 pub returns-in-None-clause-known : goal.returns-in-None-clause-known
 returns-in-None-clause-known c =

@@ -1,6 +1,6 @@
-use Rattle.vl_refusal.specs.Meanings.{constants, objects}
-use Rattle.vl_scope.proofs.Dividing.{none_divided_own}
-use Rattle.vl_scope.proofs.read.own_zero_divisor_of.Goals as goal
+use Rattle.vl_elab_spec.specs.Meanings.{constants, objects}
+use Rattle.vl_elab_scope.proofs.Dividing.{none_divided_own}
+use Rattle.vl_elab_scope.proofs.read.own_zero_divisor_of.Goals as goal
 
 pub returns-else-has_division : goal.returns-else-has_division
 returns-else-has_division c =

@@ -1,8 +1,8 @@
 use Rattle.std.proofs.Common.{◌∙◌}
 use Rattle.std.specs.Prelude.{is_some}
 use Rattle.vl_size.specs.Divisors.{valid_size}
-use Rattle.vl_scope.proofs.OfExpr.{value_is}
-use Rattle.vl_scope.proofs.read.value_of.Goals as goal
+use Rattle.vl_elab_scope.proofs.OfExpr.{value_is}
+use Rattle.vl_elab_scope.proofs.read.value_of.Goals as goal
 
 pub returns-clause-known : goal.returns-clause-known
 returns-clause-known c =

@@ -4,9 +4,9 @@ use Rattle.std.proofs.lemmas.Grind.{common_steps}
 use Rattle.vl_tree.specs.ExprView.{selects}
 use Rattle.vl_mean.specs.Constants.{settled_selects}
 use Rattle.vl_mean.proofs.Making.{settled_on, settled_end, selects_on, selects_end}
-use Rattle.vl_refusal.specs.Meanings.{constants}
-use Rattle.vl_scope.proofs.Meant.{selected_known}
-use Rattle.vl_scope.proofs.settle.+known.Goals as goal
+use Rattle.vl_elab_spec.specs.Meanings.{constants}
+use Rattle.vl_elab_scope.proofs.Meant.{selected_known}
+use Rattle.vl_elab_scope.proofs.settle.+known.Goals as goal
 
 pub known_parts-loop-part-preserved : goal.known_parts-loop-part-preserved
 known_parts-loop-part-preserved t c =

@@ -4,8 +4,8 @@ use Rattle.vl_tree.specs.Expr.{exprs}
 use Rattle.vl_tree.specs.ExprView.{selects}
 use Rattle.vl_mean.specs.Constants as spec
 use Rattle.vl_mean.proofs.Making.{before, selects_before}
-use Rattle.vl_refusal.specs.Meanings.{constants}
-use Rattle.vl_scope.proofs.settle.+known.Given as goal
+use Rattle.vl_elab_spec.specs.Meanings.{constants}
+use Rattle.vl_elab_scope.proofs.settle.+known.Given as goal
 
 abbrev pub invariant-known_parts-loop-part : goal.invariant-known_parts-loop-part
 invariant-known_parts-loop-part l =

@@ -2,12 +2,12 @@ use Rattle.std.proofs.Common.{◌≡◌, ◌∙◌, ℕ, List, sym}
 use Rattle.std.specs.Prelude.{◌++◌, bytes_eq, if◌then◌else◌, option_to_list}
 use Rattle.vl_size.specs.Table.{declared_as}
 use Rattle.vl_size.proofs.Entries.{named_declared}
-use Rattle.vl_refusal.specs.Meanings.{objects}
-use Rattle.vl_scope.specs.Seen.{seen, object_of}
-use Rattle.vl_scope.specs.Texts.{or_else}
-use Rattle.vl_scope.proofs.Objects.{none_added, object_added, object_fresh, on_ok}
-use Rattle.vl_scope.proofs.Reached.{stays}
-use Rattle.vl_scope.proofs.tables.add_object.Goals as goal
+use Rattle.vl_elab_spec.specs.Meanings.{objects}
+use Rattle.vl_elab_scope.specs.Seen.{seen, object_of}
+use Rattle.vl_elab_scope.specs.Texts.{or_else}
+use Rattle.vl_elab_scope.proofs.ScopeObjects.{none_added, object_added, object_fresh, on_ok}
+use Rattle.vl_elab_scope.proofs.Reached.{stays}
+use Rattle.vl_elab_scope.proofs.tables.add_object.Goals as goal
 
 pub returns-then-is_declared-clause-ok : goal.returns-then-is_declared-clause-ok
 returns-then-is_declared-clause-ok c other =

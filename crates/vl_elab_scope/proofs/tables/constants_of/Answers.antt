@@ -2,9 +2,9 @@ use Rattle.std.proofs.Common.{◌≡◌, ◌+◌, [], ◌∷◌, arith}
 use Rattle.std.specs.Prelude.{drop}
 use Rattle.std.proofs.lemmas.Grind.{common_steps}
 use Rattle.vl_mean.specs.Params.{constant}
-use Rattle.vl_refusal.specs.Meanings.{constants}
-use Rattle.vl_scope.proofs.Reached.{table_start, table_on, table_end}
-use Rattle.vl_scope.proofs.tables.constants_of.Goals as goal
+use Rattle.vl_elab_spec.specs.Meanings.{constants}
+use Rattle.vl_elab_scope.proofs.Reached.{table_start, table_on, table_end}
+use Rattle.vl_elab_scope.proofs.tables.constants_of.Goals as goal
 
 pub loop-text-init : goal.loop-text-init
 loop-text-init c other =

@@ -1,7 +1,7 @@
 use Rattle.vl_mean.specs.Params.{constant}
-use Rattle.vl_refusal.specs.Meanings.{constants}
-use Rattle.vl_scope.proofs.OfExpr.{ok_settled}
-use Rattle.vl_scope.proofs.tables.known_by_table.Goals as goal
+use Rattle.vl_elab_spec.specs.Meanings.{constants}
+use Rattle.vl_elab_scope.proofs.OfExpr.{ok_settled}
+use Rattle.vl_elab_scope.proofs.tables.known_by_table.Goals as goal
 
 pub returns : goal.returns
 returns c =

@@ -2,9 +2,9 @@ use Rattle.std.proofs.Common.{◌≡◌, ◌+◌, [], ◌∷◌, arith}
 use Rattle.std.specs.Prelude.{drop}
 use Rattle.std.proofs.lemmas.Grind.{common_steps}
 use Rattle.vl_size.specs.Table.{declared_as}
-use Rattle.vl_refusal.specs.Meanings.{objects}
-use Rattle.vl_scope.proofs.Reached.{table_on, table_end}
-use Rattle.vl_scope.proofs.tables.objects_of.Goals as goal
+use Rattle.vl_elab_spec.specs.Meanings.{objects}
+use Rattle.vl_elab_scope.proofs.Reached.{table_on, table_end}
+use Rattle.vl_elab_scope.proofs.tables.objects_of.Goals as goal
 
 pub loop-text-preserved : goal.loop-text-preserved
 loop-text-preserved c =

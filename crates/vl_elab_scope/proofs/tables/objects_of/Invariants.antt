@@ -1,9 +1,9 @@
 use Rattle.std.proofs.Common.{◌≡◌, ℕ, List}
 use Rattle.std.specs.Prelude.{drop, All}
 use Rattle.vl_size.specs.Table.{declared_as, IsPlain}
-use Rattle.vl_refusal.specs.Meanings.{objects}
-use Rattle.vl_scope.specs.Texts.{of_names, or_else}
-use Rattle.vl_scope.proofs.tables.objects_of.Given as goal
+use Rattle.vl_elab_spec.specs.Meanings.{objects}
+use Rattle.vl_elab_scope.specs.Texts.{of_names, or_else}
+use Rattle.vl_elab_scope.proofs.tables.objects_of.Given as goal
 
 abbrev pub invariant-loop-text : goal.invariant-loop-text
 invariant-loop-text l = record {

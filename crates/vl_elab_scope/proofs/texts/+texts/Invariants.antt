@@ -2,8 +2,8 @@ use Rattle.std.proofs.Common.{◌≡◌, ◌++◌}
 use Rattle.std.specs.Prelude.{drop}
 use Rattle.vl_tree.specs.Expr.{exprs}
 use Rattle.vl_tree.specs.ExprView.{selects}
-use Rattle.vl_scope.specs.Texts as spec
-use Rattle.vl_scope.proofs.texts.+texts.Given as goal
+use Rattle.vl_elab_scope.specs.Texts as spec
+use Rattle.vl_elab_scope.proofs.texts.+texts.Given as goal
 
 abbrev pub invariant-add_exprs_texts-loop-part : goal.invariant-add_exprs_texts-loop-part
 invariant-add_exprs_texts-loop-part l =

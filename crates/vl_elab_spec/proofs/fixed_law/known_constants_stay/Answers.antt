@@ -1,5 +1,5 @@
-use Rattle.vl_fixed.proofs.Stays.{known_settled, known_bound}
-use Rattle.vl_fixed.proofs.law.known_constants_stay.Goals as goal
+use Rattle.vl_elab_spec.proofs.Stays.{known_settled, known_bound}
+use Rattle.vl_elab_spec.proofs.fixed_law.known_constants_stay.Goals as goal
 
 pub returns-clause-settled : goal.returns-clause-settled
 returns-clause-settled c = known_settled

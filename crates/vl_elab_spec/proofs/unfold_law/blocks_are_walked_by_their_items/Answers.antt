@@ -1,5 +1,5 @@
-use Rattle.vl_unfold.proofs.Inner.{turn_items, scope_items, nested_item}
-use Rattle.vl_unfold.proofs.law.blocks_are_walked_by_their_items.Goals as goal
+use Rattle.vl_elab_spec.proofs.Inner.{turn_items, scope_items, nested_item}
+use Rattle.vl_elab_spec.proofs.unfold_law.blocks_are_walked_by_their_items.Goals as goal
 
 pub returns-clause-turn : goal.returns-clause-turn
 returns-clause-turn c = turn_items

@@ -1,5 +1,5 @@
-use Rattle.vl_walked.proofs.Passed.{none_walked, one_walked, stopped_walked, passed_walked}
-use Rattle.vl_walked.proofs.law.steps_are_walked_in_order.Goals as goal
+use Rattle.vl_elab_spec.proofs.Passed.{none_walked, one_walked, stopped_walked, passed_walked}
+use Rattle.vl_elab_spec.proofs.walked_law.steps_are_walked_in_order.Goals as goal
 
 pub returns-clause-none : goal.returns-clause-none
 returns-clause-none c = none_walked

@@ -3,7 +3,7 @@ use Rattle.std.specs.Prelude.{slice_get}
 use Rattle.std.proofs.lemmas.Grind.{common_steps}
 use Rattle.std.proofs.lemmas.List.{take_all}
 use Rattle.vl_mean.specs.FlatLaw.{IsDriver}
-use Rattle.flow_cells.proofs.Lists.{all_at}
+use Rattle.vl_flow_cells.proofs.Lists.{all_at}
 use Rattle.vl_flow.specs.Analyses.{AreSetsOf}
 use Rattle.vl_flow.proofs.Analysing.{no_uses, uses_behind}
 use Rattle.vl_flow.proofs.Each.{get_drop}

@@ -1,8 +1,8 @@
 use Rattle.std.proofs.Common.{◌≡◌, ◌∙◌, List, None, Some, rules, subst, sym}
 use Rattle.std.specs.Prelude.{true, false}
-use Rattle.bit_sets.specs.declared.step.Step.{Step}
-use Rattle.vl_order.specs.Refusals.{changed_by, latched_by}
-use Rattle.flow_judge.specs.Rows.{AreSets}
+use Rattle.fv_bit_sets.specs.declared.step.Step.{Step}
+use Rattle.vl_flow_spec.specs.Refusals.{changed_by, latched_by}
+use Rattle.vl_flow_check.specs.Rows.{AreSets}
 use Rattle.vl_flow.proofs.Judging.{by_latch, by_mixed, by_shared, by_two, by_undriven}
 use Rattle.vl_flow.proofs.later.later_fault.Goals as goal
 

@@ -1,4 +1,4 @@
-use Rattle.vl_ordered.proofs.one_map.each_choice_has_one_map.Goals as goal
+use Rattle.vl_flow.proofs.one_map.each_choice_has_one_map.Goals as goal
 
 pub returns-clause-some : goal.returns-clause-some
 returns-clause-some c =

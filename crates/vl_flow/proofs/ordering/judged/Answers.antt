@@ -2,7 +2,7 @@ use Rattle.std.proofs.Common.{◌≡◌, ◌∙◌, Err, List, None, Result, ap,
 use Rattle.std.specs.Prelude.{All, IfErr}
 use Rattle.vl_mean.specs.FlatLaw.{IsDriver}
 use Rattle.vl_mean.specs.declared.driver.Driver.{Driver}
-use Rattle.vl_ordered.specs.declared.ordered.Ordered.{Ordered}
+use Rattle.vl_flow.specs.declared.ordered.Ordered.{Ordered}
 use Rattle.vl_flow.specs.declared.fault.FlowFault.{FlowFault}
 use Rattle.vl_flow.specs.declared.fault.FlowFault.TheVariants as f
 use Rattle.vl_flow.specs.Analyses.{IsAnalysisOf}

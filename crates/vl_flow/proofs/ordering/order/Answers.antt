@@ -1,7 +1,7 @@
 use Rattle.std.proofs.Common.{◌≡◌, ◌∙◌, Err, Result, ap, arith, length, rules, subst, sym}
 use Rattle.std.specs.Prelude.{IfErr}
-use Rattle.vl_ordered.specs.declared.ordered.Ordered.{Ordered}
-use Rattle.flow_order.specs.Found.{Tells}
+use Rattle.vl_flow.specs.declared.ordered.Ordered.{Ordered}
+use Rattle.vl_flow_order.specs.Found.{Tells}
 use Rattle.vl_flow.specs.declared.fault.FlowFault.{FlowFault}
 use Rattle.vl_flow.specs.declared.fault.FlowFault.TheVariants as f
 use Rattle.vl_flow.specs.Faults.{Answers, IsAnswer}

@@ -1,8 +1,8 @@
 use Rattle.std.proofs.Common.{ap, ◌∙◌}
 use Rattle.vl_size.specs.Size.{index_of, no_names}
 use Rattle.vl_mean.specs.Env.{cells_of}
-use Rattle.flow_cells.proofs.Constants.{one_operand}
-use Rattle.flow_cells.proofs.constant.constant.Goals as goal
+use Rattle.vl_flow_cells.proofs.Constants.{one_operand}
+use Rattle.vl_flow_cells.proofs.constant.constant.Goals as goal
 
 pub returns : goal.returns
 returns c h ds =

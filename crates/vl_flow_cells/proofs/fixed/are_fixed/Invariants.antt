@@ -3,7 +3,7 @@ use Rattle.vl_tree.specs.ExprView.{selects}
 use Rattle.vl_size.specs.declared.decl.Decl.{Decl}
 use Rattle.vl_mean.specs.FlatLaw.{flat_scopes}
 use Rattle.vl_mean.specs.Targets.{are_fixed}
-use Rattle.flow_cells.proofs.fixed.are_fixed.Given as goal
+use Rattle.vl_flow_cells.proofs.fixed.are_fixed.Given as goal
 
 abbrev pub invariant-loop-select : goal.invariant-loop-select
 invariant-loop-select l =

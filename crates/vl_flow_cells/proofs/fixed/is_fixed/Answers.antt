@@ -3,8 +3,8 @@ use Rattle.vl_tree.specs.ExprView.{with_select}
 use Rattle.vl_size.specs.Size.{is_constant}
 use Rattle.vl_mean.specs.FlatLaw.{flat_scopes}
 use Rattle.vl_mean.specs.Targets.{are_fixed}
-use Rattle.flow_cells.proofs.FixedSelects.{fixed_bit, fixed_indexed}
-use Rattle.flow_cells.proofs.fixed.is_fixed.Goals as goal
+use Rattle.vl_flow_cells.proofs.FixedSelects.{fixed_bit, fixed_indexed}
+use Rattle.vl_flow_cells.proofs.fixed.is_fixed.Goals as goal
 
 pub returns-in-Bit : goal.returns-in-Bit
 returns-in-Bit c ds rest =

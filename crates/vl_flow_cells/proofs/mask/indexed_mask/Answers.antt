@@ -3,7 +3,7 @@ use Rattle.std.specs.Prelude.{nat_abs}
 use Rattle.fv_bits.specs.Bits.{as_int}
 use Rattle.vl_size.specs.Size.{start_of}
 use Rattle.vl_mean.specs.Targets.{has_spot, spots_from}
-use Rattle.flow_cells.proofs.mask.indexed_mask.Goals as goal
+use Rattle.vl_flow_cells.proofs.mask.indexed_mask.Goals as goal
 
 pub returns-in-Some : goal.returns-in-Some
 returns-in-Some c sized n k =

@@ -5,9 +5,9 @@ use Rattle.std.proofs.lemmas.Int.{to_z-of_z}
 use Rattle.fv_bits.specs.Bits.{as_int}
 use Rattle.vl_size.specs.Size.{offset_of}
 use Rattle.vl_mean.specs.Targets.{has_spot, spots_from}
-use Rattle.flow_cells.specs.Places.{is_near}
-use Rattle.flow_cells.proofs.Ranges.{far_offset, taken, untaken}
-use Rattle.flow_cells.proofs.mask.mask_at.Goals as goal
+use Rattle.vl_flow_cells.specs.Places.{is_near}
+use Rattle.vl_flow_cells.proofs.Ranges.{far_offset, taken, untaken}
+use Rattle.vl_flow_cells.proofs.mask.mask_at.Goals as goal
 
 pub returns-in-None : goal.returns-in-None
 returns-in-None c n k =

@@ -1,6 +1,6 @@
 use Rattle.std.proofs.Common.{◌≤◌, arith}
-use Rattle.flow_cells.proofs.Ranges.{ones_rise}
-use Rattle.flow_cells.proofs.mask.mask_between.Goals as goal
+use Rattle.vl_flow_cells.proofs.Ranges.{ones_rise}
+use Rattle.vl_flow_cells.proofs.mask.mask_between.Goals as goal
 
 pub overflow_sub-result : goal.overflow_sub-result
 overflow_sub-result c =

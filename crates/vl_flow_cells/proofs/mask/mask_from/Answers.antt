@@ -1,8 +1,8 @@
 use Rattle.std.proofs.Common.{◌∙◌, ◌+ℤ◌, pos, arith}
 use Rattle.std.proofs.lemmas.Int.{ints}
-use Rattle.flow_cells.specs.Places.{AreBelow}
-use Rattle.flow_cells.proofs.Ranges.{below_as, between_is_spot}
-use Rattle.flow_cells.proofs.mask.mask_from.Goals as goal
+use Rattle.vl_flow_cells.specs.Places.{AreBelow}
+use Rattle.vl_flow_cells.proofs.Ranges.{below_as, between_is_spot}
+use Rattle.vl_flow_cells.proofs.mask.mask_from.Goals as goal
 
 pub returns : goal.returns
 returns c n k =

@@ -2,8 +2,8 @@ use Rattle.std.proofs.Common.{ap, sym, ◌∙◌, Some}
 use Rattle.fv_bits.specs.Bits.{as_int}
 use Rattle.vl_size.specs.Size.{offset_of}
 use Rattle.vl_mean.specs.Targets.{has_spot, spots_from}
-use Rattle.flow_cells.proofs.Sizes.{part_span}
-use Rattle.flow_cells.proofs.mask.part_mask.Goals as goal
+use Rattle.vl_flow_cells.proofs.Sizes.{part_span}
+use Rattle.vl_flow_cells.proofs.mask.part_mask.Goals as goal
 
 pub returns-in-Some : goal.returns-in-Some
 returns-in-Some c sized n k =

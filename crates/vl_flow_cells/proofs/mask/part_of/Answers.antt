@@ -1,6 +1,6 @@
 use Rattle.fv_bits.specs.Bits.{as_int}
-use Rattle.flow_cells.proofs.Masks.{mask_of_part}
-use Rattle.flow_cells.proofs.mask.part_of.Goals as goal
+use Rattle.vl_flow_cells.proofs.Masks.{mask_of_part}
+use Rattle.vl_flow_cells.proofs.mask.part_of.Goals as goal
 
 pub returns : goal.returns
 returns c ds p sized =

@@ -5,8 +5,8 @@ use Rattle.vl_tree.specs.ExprView.{with_select}
 use Rattle.vl_size.specs.Size.{vector_size}
 use Rattle.vl_mean.specs.FlatLaw.{flat_scopes}
 use Rattle.vl_mean.specs.Targets.{are_fixed}
-use Rattle.flow_cells.specs.Places.{IsMaskOf}
-use Rattle.flow_cells.proofs.mask.select_mask.Goals as goal
+use Rattle.vl_flow_cells.specs.Places.{IsMaskOf}
+use Rattle.vl_flow_cells.proofs.mask.select_mask.Goals as goal
 
 pub returns-in-Bit : goal.returns-in-Bit
 returns-in-Bit c ds sized fix =

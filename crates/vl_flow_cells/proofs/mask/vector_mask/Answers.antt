@@ -1,10 +1,10 @@
 use Rattle.std.proofs.Common.{ap, sym, ◌∙◌, subst, true≢false}
 use Rattle.std.specs.Prelude.{IsSome}
-use Rattle.bit_sets.specs.Cells.{is_set}
+use Rattle.fv_bit_sets.specs.Cells.{is_set}
 use Rattle.vl_size.proofs.Names.{two_selects}
-use Rattle.flow_cells.specs.Places.{IsMaskOf}
-use Rattle.flow_cells.proofs.Masks.{mask_of_all, no_selects}
-use Rattle.flow_cells.proofs.mask.vector_mask.Goals as goal
+use Rattle.vl_flow_cells.specs.Places.{IsMaskOf}
+use Rattle.vl_flow_cells.proofs.Masks.{mask_of_all, no_selects}
+use Rattle.vl_flow_cells.proofs.mask.vector_mask.Goals as goal
 
 pub returns-in-empty : goal.returns-in-empty
 returns-in-empty c ds sized fix =

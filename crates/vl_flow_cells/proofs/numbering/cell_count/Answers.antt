@@ -5,9 +5,9 @@ use mir.Syntax.{w64}
 use Rattle.std.proofs.lemmas.Int.{to_z-of_z}
 use Rattle.vl_size.specs.Size.{is_bound}
 use Rattle.vl_size.specs.Table.{span}
-use Rattle.flow_cells.proofs.Numbers.{memory_bounds, words_count}
-use Rattle.flow_cells.proofs.Words.{words_length}
-use Rattle.flow_cells.proofs.numbering.cell_count.Goals as goal
+use Rattle.vl_flow_cells.proofs.Numbers.{memory_bounds, words_count}
+use Rattle.vl_flow_cells.proofs.Words.{words_length}
+use Rattle.vl_flow_cells.proofs.numbering.cell_count.Goals as goal
 
 pub words_between-requires-clause-left : goal.words_between-requires-clause-left
 words_between-requires-clause-left c =

@@ -4,8 +4,8 @@ use mir.Syntax.{w128}
 use Rattle.std.proofs.lemmas.Int.{to_z-of_z}
 use Rattle.fv_bits.specs.Bits.{as_int}
 use Rattle.vl_size.specs.Table.{is_between}
-use Rattle.flow_cells.proofs.Ranges.{passed, taken}
-use Rattle.flow_cells.proofs.place.word_place.Goals as goal
+use Rattle.vl_flow_cells.proofs.Ranges.{passed, taken}
+use Rattle.vl_flow_cells.proofs.place.word_place.Goals as goal
 
 pub returns-in-Some-clause-some : goal.returns-in-Some-clause-some
 returns-in-Some-clause-some c =

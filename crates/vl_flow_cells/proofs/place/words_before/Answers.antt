@@ -1,9 +1,9 @@
 use Rattle.std.proofs.Common.{◌≡◌, ◌-ℤ◌, ◌∙◌, ap, arith}
 use Rattle.std.specs.Prelude.{nat_abs, int_le}
 use Rattle.std.proofs.lemmas.Int.{ints}
-use Rattle.flow_cells.specs.Places.{index_at}
-use Rattle.flow_cells.proofs.Ranges.{word_at, word_few}
-use Rattle.flow_cells.proofs.place.words_before.Goals as goal
+use Rattle.vl_flow_cells.specs.Places.{index_at}
+use Rattle.vl_flow_cells.proofs.Ranges.{word_at, word_few}
+use Rattle.vl_flow_cells.proofs.place.words_before.Goals as goal
 
 pub overflow_cast-result : goal.overflow_cast-result
 overflow_cast-result c =

@@ -2,11 +2,11 @@ use Rattle.std.proofs.Common.{◌≡◌, ◌+◌, ◌∷◌, ◌||◌, drop, ap,
 use Rattle.std.proofs.lemmas.Grind.{common_steps}
 use Rattle.vl_tree.specs.Expr.{binary, conditional, repeat, exprs, whole}
 use Rattle.vl_tree.specs.ExprView.{shown, selects, with_select}
-use Rattle.vl_path.specs.Reads.{reads, parts_read, selects_read}
-use Rattle.flow_cells.specs.Numbered.{Adds}
-use Rattle.flow_uses.specs.Sized.{AreSized, IsSized, SelectsAreSized}
-use Rattle.flow_uses.proofs.Adding.{adds_then, adds_name, adds_same, adds_as, adds_pair, select_sized, select_first}
-use Rattle.flow_uses.proofs.reads.+reads.Goals as goal
+use Rattle.vl_flow_spec.specs.Reads.{reads, parts_read, selects_read}
+use Rattle.vl_flow_cells.specs.Numbered.{Adds}
+use Rattle.vl_flow_cells.specs.Sized.{AreSized, IsSized, SelectsAreSized}
+use Rattle.vl_flow_cells.proofs.Adding.{adds_then, adds_name, adds_same, adds_as, adds_pair, select_sized, select_first}
+use Rattle.vl_flow_cells.proofs.reads.+reads.Goals as goal
 
 pub all_read-loop-part-preserved : goal.all_read-loop-part-preserved
 all_read-loop-part-preserved t c =

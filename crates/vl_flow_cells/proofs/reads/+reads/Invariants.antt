@@ -1,11 +1,11 @@
 use Rattle.std.proofs.Common.{List, drop}
 use Rattle.vl_tree.specs.Expr.{exprs}
 use Rattle.vl_tree.specs.ExprView.{selects}
-use Rattle.vl_path.specs.Reads.{parts_read, selects_read}
-use Rattle.flow_cells.specs.declared.cell_run.CellRun.{CellRun}
-use Rattle.flow_cells.specs.Numbered.{Adds}
-use Rattle.flow_uses.specs.Sized.{AreSized, SelectsAreSized}
-use Rattle.flow_uses.proofs.reads.+reads.Given as goal
+use Rattle.vl_flow_spec.specs.Reads.{parts_read, selects_read}
+use Rattle.vl_flow_cells.specs.declared.cell_run.CellRun.{CellRun}
+use Rattle.vl_flow_cells.specs.Numbered.{Adds}
+use Rattle.vl_flow_cells.specs.Sized.{AreSized, SelectsAreSized}
+use Rattle.vl_flow_cells.proofs.reads.+reads.Given as goal
 
 abbrev pub invariant-all_read-loop-part : goal.invariant-all_read-loop-part
 invariant-all_read-loop-part l = record {

@@ -1,11 +1,11 @@
 use Rattle.std.proofs.Common.{◌≡◌, ◌+◌, ◌∷◌, drop, sym, subst, arith}
 use Rattle.std.proofs.lemmas.Grind.{common_steps}
-use Rattle.vl_path.specs.Paths.{labels_read}
-use Rattle.vl_path.specs.Reads.{reads}
-use Rattle.flow_cells.specs.Numbered.{Adds}
-use Rattle.flow_uses.specs.Sized.{LabelsAreSized}
-use Rattle.flow_uses.proofs.Adding.{adds_then}
-use Rattle.flow_uses.proofs.reads.labels_read.Goals as goal
+use Rattle.vl_flow_spec.specs.Paths.{labels_read}
+use Rattle.vl_flow_spec.specs.Reads.{reads}
+use Rattle.vl_flow_cells.specs.Numbered.{Adds}
+use Rattle.vl_flow_cells.specs.Sized.{LabelsAreSized}
+use Rattle.vl_flow_cells.proofs.Adding.{adds_then}
+use Rattle.vl_flow_cells.proofs.reads.labels_read.Goals as goal
 
 pub loop-label-preserved : goal.loop-label-preserved
 loop-label-preserved c =

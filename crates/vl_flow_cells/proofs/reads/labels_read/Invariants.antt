@@ -1,9 +1,9 @@
 use Rattle.std.proofs.Common.{List, drop}
-use Rattle.vl_path.specs.Paths.{labels_read}
-use Rattle.flow_cells.specs.declared.cell_run.CellRun.{CellRun}
-use Rattle.flow_cells.specs.Numbered.{Adds}
-use Rattle.flow_uses.specs.Sized.{LabelsAreSized}
-use Rattle.flow_uses.proofs.reads.labels_read.Given as goal
+use Rattle.vl_flow_spec.specs.Paths.{labels_read}
+use Rattle.vl_flow_cells.specs.declared.cell_run.CellRun.{CellRun}
+use Rattle.vl_flow_cells.specs.Numbered.{Adds}
+use Rattle.vl_flow_cells.specs.Sized.{LabelsAreSized}
+use Rattle.vl_flow_cells.proofs.reads.labels_read.Given as goal
 
 abbrev pub invariant-loop-label : goal.invariant-loop-label
 invariant-loop-label l = record {

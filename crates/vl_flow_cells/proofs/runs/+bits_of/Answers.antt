@@ -1,6 +1,6 @@
 use Rattle.std.proofs.Common.{◌/◌, ◌||◌, ◌∙◌, length, arith}
-use Rattle.flow_cells.proofs.RunLists.{any_split}
-use Rattle.flow_cells.proofs.runs.+bits_of.Goals as goal
+use Rattle.vl_flow_cells.proofs.RunLists.{any_split}
+use Rattle.vl_flow_cells.proofs.runs.+bits_of.Goals as goal
 
 pub returns : goal.returns
 returns t c x i =

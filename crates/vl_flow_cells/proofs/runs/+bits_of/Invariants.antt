@@ -1,5 +1,5 @@
 use Rattle.std.proofs.Common.{length}
-use Rattle.flow_cells.proofs.runs.+bits_of.Given as goal
+use Rattle.vl_flow_cells.proofs.runs.+bits_of.Given as goal
 
 abbrev pub decreases-bits_of : goal.decreases-bits_of
 decreases-bits_of l = length l.runs.now

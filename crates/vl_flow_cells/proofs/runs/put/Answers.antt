@@ -1,7 +1,7 @@
 use Rattle.std.proofs.Common.{rules, ◌≡◌, ◌++◌, ◌∷◌, [], ap, sym, ◌∙◌, ◌||◌}
-use Rattle.flow_cells.specs.Numbered.{any_takes, some_takes}
-use Rattle.flow_cells.proofs.RunLists.{any_more}
-use Rattle.flow_cells.proofs.runs.put.Goals as goal
+use Rattle.vl_flow_cells.specs.Numbered.{any_takes, some_takes}
+use Rattle.vl_flow_cells.proofs.RunLists.{any_more}
+use Rattle.vl_flow_cells.proofs.runs.put.Goals as goal
 
 pub returns-else-is_err : goal.returns-else-is_err
 returns-else-is_err c x i =

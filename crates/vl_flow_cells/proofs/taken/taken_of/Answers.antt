@@ -2,11 +2,11 @@ use Rattle.std.proofs.Common.{rules, ◌≡◌, ◌+◌, ap, sym, ◌∙◌, len
 use Rattle.vl_tree.specs.ExprView.{selects}
 use Rattle.vl_size.specs.Size.{word_size}
 use Rattle.vl_mean.specs.Cells.{cells}
-use Rattle.flow_cells.proofs.Lists.{declared_own}
-use Rattle.flow_cells.proofs.Masks.{no_selects}
-use Rattle.flow_cells.proofs.Sizes.{none_sized, words_sized}
-use Rattle.flow_cells.proofs.Taking.{takes_all}
-use Rattle.flow_cells.proofs.taken.taken_of.Goals as goal
+use Rattle.vl_flow_cells.proofs.Lists.{declared_own}
+use Rattle.vl_flow_cells.proofs.Masks.{no_selects}
+use Rattle.vl_flow_cells.proofs.Sizes.{none_sized, words_sized}
+use Rattle.vl_flow_cells.proofs.Taking.{takes_all}
+use Rattle.vl_flow_cells.proofs.taken.taken_of.Goals as goal
 
 pub returns-then-not-are_fixed : goal.returns-then-not-are_fixed
 returns-then-not-are_fixed c ds begins sized =

@@ -1,10 +1,10 @@
 use Rattle.std.proofs.Common.{◌+◌, ap, sym, ◌∙◌, subst}
 use Rattle.vl_tree.specs.ExprView.{selects}
-use Rattle.flow_cells.specs.Places.{IsMaskOf}
-use Rattle.flow_cells.proofs.Lists.{declared_own}
-use Rattle.flow_cells.proofs.Sizes.{vector_sized}
-use Rattle.flow_cells.proofs.Taking.{takes_vector}
-use Rattle.flow_cells.proofs.taken.vector_run.Goals as goal
+use Rattle.vl_flow_cells.specs.Places.{IsMaskOf}
+use Rattle.vl_flow_cells.proofs.Lists.{declared_own}
+use Rattle.vl_flow_cells.proofs.Sizes.{vector_sized}
+use Rattle.vl_flow_cells.proofs.Taking.{takes_vector}
+use Rattle.vl_flow_cells.proofs.taken.vector_run.Goals as goal
 
 pub returns : goal.returns
 returns c ds begins sized fix =

@@ -4,11 +4,11 @@ use Rattle.vl_tree.specs.ExprView.{selects, with_select}
 use Rattle.vl_size.specs.Size.{word_size}
 use Rattle.vl_mean.specs.FlatLaw.{flat_scopes}
 use Rattle.vl_mean.specs.Targets.{are_fixed}
-use Rattle.vl_path.specs.Reads.{selected}
-use Rattle.flow_cells.specs.Numbered.{HasSize, Shows, some_takes}
-use Rattle.flow_cells.proofs.Lists.{declared_own}
-use Rattle.flow_cells.proofs.Sizes.{none_sized, words_sized}
-use Rattle.flow_cells.proofs.taken.word_of.Goals as goal
+use Rattle.vl_flow_spec.specs.Reads.{selected}
+use Rattle.vl_flow_cells.specs.Numbered.{HasSize, Shows, some_takes}
+use Rattle.vl_flow_cells.proofs.Lists.{declared_own}
+use Rattle.vl_flow_cells.proofs.Sizes.{none_sized, words_sized}
+use Rattle.vl_flow_cells.proofs.taken.word_of.Goals as goal
 
 pub returns-in-Bit : goal.returns-in-Bit
 returns-in-Bit c ds begins sized fix =

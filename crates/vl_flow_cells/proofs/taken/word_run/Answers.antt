@@ -1,12 +1,12 @@
 use Rattle.std.proofs.Common.{◌+◌, ap, sym, ◌∙◌, subst}
 use Rattle.fv_bits.specs.Bits.{as_int}
 use Rattle.vl_tree.specs.ExprView.{selects}
-use Rattle.flow_cells.specs.Places.{IsMaskOf}
-use Rattle.flow_cells.proofs.FixedSelects.{bit_fixed}
-use Rattle.flow_cells.proofs.Lists.{declared_own}
-use Rattle.flow_cells.proofs.Sizes.{word_sized}
-use Rattle.flow_cells.proofs.Taking.{takes_word, takes_no_word}
-use Rattle.flow_cells.proofs.taken.word_run.Goals as goal
+use Rattle.vl_flow_cells.specs.Places.{IsMaskOf}
+use Rattle.vl_flow_cells.proofs.FixedSelects.{bit_fixed}
+use Rattle.vl_flow_cells.proofs.Lists.{declared_own}
+use Rattle.vl_flow_cells.proofs.Sizes.{word_sized}
+use Rattle.vl_flow_cells.proofs.Taking.{takes_word, takes_no_word}
+use Rattle.vl_flow_cells.proofs.taken.word_run.Goals as goal
 
 pub returns-in-None : goal.returns-in-None
 returns-in-None c ds p begins sized fix =

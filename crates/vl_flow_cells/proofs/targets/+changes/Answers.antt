@@ -3,10 +3,10 @@ use Rattle.std.proofs.lemmas.Grind.{common_steps}
 use Rattle.vl_tree.specs.Lval.{lvals}
 use Rattle.vl_mean.specs.FlatLaw.{flat_scopes}
 use Rattle.vl_mean.specs.Targets.{may_change, any_may_change}
-use Rattle.flow_cells.specs.Numbered.{Adds}
-use Rattle.flow_uses.specs.Sized.{TargetsAreSized}
-use Rattle.flow_uses.proofs.Adding.{adds_then}
-use Rattle.flow_uses.proofs.targets.+changes.Goals as goal
+use Rattle.vl_flow_cells.specs.Numbered.{Adds}
+use Rattle.vl_flow_cells.specs.Sized.{TargetsAreSized}
+use Rattle.vl_flow_cells.proofs.Adding.{adds_then}
+use Rattle.vl_flow_cells.proofs.targets.+changes.Goals as goal
 
 pub loop-part-preserved : goal.loop-part-preserved
 loop-part-preserved t c =

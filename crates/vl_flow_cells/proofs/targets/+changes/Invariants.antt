@@ -2,10 +2,10 @@ use Rattle.std.proofs.Common.{List, drop}
 use Rattle.vl_tree.specs.Lval.{lvals}
 use Rattle.vl_mean.specs.Targets.{any_may_change}
 use Rattle.vl_mean.specs.FlatLaw.{flat_scopes}
-use Rattle.flow_cells.specs.declared.cell_run.CellRun.{CellRun}
-use Rattle.flow_cells.specs.Numbered.{Adds}
-use Rattle.flow_uses.specs.Sized.{TargetsAreSized}
-use Rattle.flow_uses.proofs.targets.+changes.Given as goal
+use Rattle.vl_flow_cells.specs.declared.cell_run.CellRun.{CellRun}
+use Rattle.vl_flow_cells.specs.Numbered.{Adds}
+use Rattle.vl_flow_cells.specs.Sized.{TargetsAreSized}
+use Rattle.vl_flow_cells.proofs.targets.+changes.Given as goal
 
 abbrev pub invariant-loop-part : goal.invariant-loop-part
 invariant-loop-part l = record {

@@ -1,11 +1,11 @@
 use Rattle.std.proofs.Common.{◌≡◌, ◌+◌, ◌∷◌, drop, sym, subst, arith}
 use Rattle.std.proofs.lemmas.Grind.{common_steps}
 use Rattle.vl_tree.specs.Lval.{lvals}
-use Rattle.vl_path.specs.Paths.{sets, any_sets}
-use Rattle.flow_cells.specs.Numbered.{Adds}
-use Rattle.flow_uses.specs.Sized.{TargetsAreSized}
-use Rattle.flow_uses.proofs.Adding.{adds_then}
-use Rattle.flow_uses.proofs.targets.+sets.Goals as goal
+use Rattle.vl_flow_spec.specs.Paths.{sets, any_sets}
+use Rattle.vl_flow_cells.specs.Numbered.{Adds}
+use Rattle.vl_flow_cells.specs.Sized.{TargetsAreSized}
+use Rattle.vl_flow_cells.proofs.Adding.{adds_then}
+use Rattle.vl_flow_cells.proofs.targets.+sets.Goals as goal
 
 pub loop-part-preserved : goal.loop-part-preserved
 loop-part-preserved t c =

@@ -1,7 +1,7 @@
 use Rattle.std.proofs.Common.{arith, sym, subst}
-use Rattle.flow_twice.specs.Doubled.{Tells}
-use Rattle.flow_twice.proofs.Lowest.{memory_named, vector_named}
-use Rattle.flow_twice.proofs.doubled.doubled_at.Goals as goal
+use Rattle.vl_flow_check.specs.Doubled.{Tells}
+use Rattle.vl_flow_check.proofs.Lowest.{memory_named, vector_named}
+use Rattle.vl_flow_check.proofs.doubled.doubled_at.Goals as goal
 
 pub span_of-span-requires : goal.span_of-span-requires
 span_of-span-requires c = omega (arith, c.requires.within, c.requires.groups.below.names)

@@ -1,8 +1,8 @@
 use Rattle.std.proofs.Common.{ap, sym, ◌∙◌, true≢false}
 use Rattle.std.specs.Prelude.{is_none}
 use Rattle.std.specs.Option.{option_copied}
-use Rattle.flow_cells.proofs.Lists.{get_some}
-use Rattle.flow_twice.proofs.doubled.is_memory.Goals as goal
+use Rattle.vl_flow_cells.proofs.Lists.{get_some}
+use Rattle.vl_flow_check.proofs.doubled.is_memory.Goals as goal
 
 pub unreachable-requires : goal.unreachable-requires
 unreachable-requires c =

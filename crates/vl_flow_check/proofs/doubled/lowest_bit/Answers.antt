@@ -1,7 +1,7 @@
 use Rattle.std.proofs.Common.{◌<◌, ◌^◌, arith}
-use Rattle.bit_sets.specs.Cells.{has}
-use Rattle.flow_twice.proofs.Lowest.{few_zeros, lowest, no_bit}
-use Rattle.flow_twice.proofs.doubled.lowest_bit.Goals as goal
+use Rattle.fv_bit_sets.specs.Cells.{has}
+use Rattle.vl_flow_check.proofs.Lowest.{few_zeros, lowest, no_bit}
+use Rattle.vl_flow_check.proofs.doubled.lowest_bit.Goals as goal
 
 pub returns-then-mask-eq0-clause-lowest : goal.returns-then-mask-eq0-clause-lowest
 returns-then-mask-eq0-clause-lowest c p width tells =

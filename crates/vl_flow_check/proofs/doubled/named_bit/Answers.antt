@@ -1,7 +1,7 @@
 use Rattle.std.proofs.Common.{◌∙◌, ap, sym, Some}
-use Rattle.vl_order.specs.Refusals.{with_two}
-use Rattle.flow_twice.specs.Earliest.{listed}
-use Rattle.flow_twice.proofs.doubled.named_bit.Goals as goal
+use Rattle.vl_flow_spec.specs.Refusals.{with_two}
+use Rattle.vl_flow_check.specs.Earliest.{listed}
+use Rattle.vl_flow_check.proofs.doubled.named_bit.Goals as goal
 
 pub returns-in_ok-name-in-Two : goal.returns-in_ok-name-in-Two
 returns-in_ok-name-in-Two c d at =

@@ -1,7 +1,7 @@
 use Rattle.std.proofs.Common.{◌<◌, ◌∙◌, arith, length, sym}
-use Rattle.flow_cells.proofs.Lists.{get_some}
-use Rattle.flow_twice.proofs.Lowest.{first_doubled, none_doubled, one_more}
-use Rattle.flow_twice.proofs.doubled.two_drivers.Goals as goal
+use Rattle.vl_flow_cells.proofs.Lists.{get_some}
+use Rattle.vl_flow_check.proofs.Lowest.{first_doubled, none_doubled, one_more}
+use Rattle.vl_flow_check.proofs.doubled.two_drivers.Goals as goal
 
 pub loop-place-init : goal.loop-place-init
 loop-place-init c k d less at = absurd (omega (arith, less))

@@ -1,5 +1,5 @@
-use Rattle.flow_twice.proofs.Lowest.{AreSingle}
-use Rattle.flow_twice.proofs.doubled.two_drivers.Given as goal
+use Rattle.vl_flow_check.proofs.Lowest.{AreSingle}
+use Rattle.vl_flow_check.proofs.doubled.two_drivers.Given as goal
 
 abbrev pub invariant-loop-place : goal.invariant-loop-place
 invariant-loop-place l = AreSingle l.decls l.drivers l.place

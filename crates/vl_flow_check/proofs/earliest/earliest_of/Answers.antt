@@ -1,9 +1,9 @@
 use Rattle.std.proofs.Common.{◌≡◌, ◌+◌, ◌-◌, ◌<◌, arith, drop, length, subst, take}
-use Rattle.vl_order.specs.Refusals.{in_order}
-use Rattle.flow_twice.specs.Earliest.{listed}
-use Rattle.flow_twice.specs.Shares.{places_at}
-use Rattle.flow_twice.proofs.Orders.{none_behind, one_before}
-use Rattle.flow_twice.proofs.earliest.earliest_of.Goals as goal
+use Rattle.vl_flow_spec.specs.Refusals.{in_order}
+use Rattle.vl_flow_check.specs.Earliest.{listed}
+use Rattle.vl_flow_check.specs.Shares.{places_at}
+use Rattle.vl_flow_check.proofs.Orders.{none_behind, one_before}
+use Rattle.vl_flow_check.proofs.earliest.earliest_of.Goals as goal
 
 pub back-init : goal.back-init
 back-init c = record {

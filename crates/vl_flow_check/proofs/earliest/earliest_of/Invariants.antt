@@ -1,8 +1,8 @@
 use Rattle.std.proofs.Common.{◌≡◌, ◌≤◌, drop, length, take}
-use Rattle.vl_order.specs.Refusals.{in_order}
-use Rattle.flow_twice.specs.Earliest.{listed}
-use Rattle.flow_twice.specs.Shares.{places_at}
-use Rattle.flow_twice.proofs.earliest.earliest_of.Given as goal
+use Rattle.vl_flow_spec.specs.Refusals.{in_order}
+use Rattle.vl_flow_check.specs.Earliest.{listed}
+use Rattle.vl_flow_check.specs.Shares.{places_at}
+use Rattle.vl_flow_check.proofs.earliest.earliest_of.Given as goal
 
 abbrev pub invariant-back : goal.invariant-back
 invariant-back l = record {

@@ -1,8 +1,8 @@
 use Rattle.std.proofs.Common.{◌≡◌, ◌+◌, ◌-◌, ◌<◌, ◌∙◌, arith, ap, sym, subst, refl, length, drop, slice_get, Some}
 use Rattle.std.proofs.lemmas.Option.{slice_get_read}
-use Rattle.vl_order.specs.Refusals.{place_of}
-use Rattle.flow_judge.proofs.Firsts.{none_behind, one_before}
-use Rattle.flow_judge.proofs.first.driver_place.Goals as goal
+use Rattle.vl_flow_spec.specs.Refusals.{place_of}
+use Rattle.vl_flow_check.proofs.Firsts.{none_behind, one_before}
+use Rattle.vl_flow_check.proofs.first.driver_place.Goals as goal
 
 pub back-init : goal.back-init
 back-init c = record {

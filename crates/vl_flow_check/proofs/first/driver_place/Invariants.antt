@@ -1,8 +1,8 @@
 use Rattle.std.proofs.Common.{◌≡◌, ◌≤◌, ℕ, List, length, drop, Some, slice_get}
 use Rattle.vl_size.specs.declared.decl.Decl.{Decl}
-use Rattle.vl_order.specs.Refusals.{place_of}
-use Rattle.flow_judge.specs.Layouts.{IsLayoutOf, IsSpan}
-use Rattle.flow_judge.proofs.first.driver_place.Given as goal
+use Rattle.vl_flow_spec.specs.Refusals.{place_of}
+use Rattle.vl_flow_check.specs.Layouts.{IsLayoutOf, IsSpan}
+use Rattle.vl_flow_check.proofs.first.driver_place.Given as goal
 
 abbrev pub invariant-back : goal.invariant-back
 invariant-back l = record {

@@ -1,9 +1,10 @@
 use Rattle.std.proofs.Common.{rules, ◌≡◌, ◌∙◌, ◌+◌, ◌<◌, arith, length, sym, subst, Some, None}
-use Rattle.flow_cells.proofs.Lists.{get_some}
-use Rattle.flow_judge.proofs.Firsts.{ArePassed, first_passed, more_passed, name_found, next_marked, no_name, none_found}
-use Rattle.flow_judge.proofs.Firsts.{some_not_none}
-use Rattle.vl_order.specs.Refusals.{place_of}
-use Rattle.flow_judge.proofs.first.first_named.Goals as goal
+use Rattle.vl_flow_cells.proofs.Lists.{get_some}
+use Rattle.vl_flow_check.proofs.Firsts.{ArePassed, first_passed, more_passed, name_found, next_marked, no_name}
+use Rattle.vl_flow_check.proofs.Firsts.{none_found}
+use Rattle.vl_flow_check.proofs.Firsts.{some_not_none}
+use Rattle.vl_flow_spec.specs.Refusals.{place_of}
+use Rattle.vl_flow_check.proofs.first.first_named.Goals as goal
 
 pub loop-next-init : goal.loop-next-init
 loop-next-init c =

@@ -1,6 +1,6 @@
-use Rattle.flow_judge.proofs.Firsts.{ArePassed, IsMarked}
-use Rattle.flow_reads.proofs.Visiting.{ahead}
-use Rattle.flow_judge.proofs.first.first_named.Given as goal
+use Rattle.vl_flow_check.proofs.Firsts.{ArePassed, IsMarked}
+use Rattle.vl_flow_order.proofs.Visiting.{ahead}
+use Rattle.vl_flow_check.proofs.first.first_named.Given as goal
 
 abbrev pub invariant-loop-next : goal.invariant-loop-next
 invariant-loop-next l = record {

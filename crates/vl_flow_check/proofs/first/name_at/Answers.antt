@@ -1,6 +1,6 @@
 use Rattle.std.proofs.Common.{◌∙◌, arith, ap, sym}
-use Rattle.vl_order.specs.Refusals.{with_name}
-use Rattle.flow_judge.proofs.first.name_at.Goals as goal
+use Rattle.vl_flow_spec.specs.Refusals.{with_name}
+use Rattle.vl_flow_check.proofs.first.name_at.Goals as goal
 
 pub span_of-span-requires : goal.span_of-span-requires
 span_of-span-requires c = omega (arith, c.requires.within, c.requires.layout.footprints.groups_are.below.names)

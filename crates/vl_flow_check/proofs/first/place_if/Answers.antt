@@ -1,8 +1,8 @@
 use Rattle.std.proofs.Common.{refl}
-use Rattle.flow_judge.proofs.Firsts.{meets_name, misses_name, none_if, some_if}
-use Rattle.vl_order.specs.Refusals.{has_bit}
-use Rattle.vl_path.specs.Drivers.{driven_by}
-use Rattle.flow_judge.proofs.first.place_if.Goals as goal
+use Rattle.vl_flow_check.proofs.Firsts.{meets_name, misses_name, none_if, some_if}
+use Rattle.vl_flow_spec.specs.Refusals.{has_bit}
+use Rattle.vl_flow_spec.specs.Drivers.{driven_by}
+use Rattle.vl_flow_check.proofs.first.place_if.Goals as goal
 
 pub returns-then-meets : goal.returns-then-meets
 returns-then-meets c ds place d whole is at span =

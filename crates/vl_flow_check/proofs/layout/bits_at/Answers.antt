@@ -1,5 +1,5 @@
-use Rattle.flow_judge.proofs.Layouts.{all_filled, none_filled}
-use Rattle.flow_judge.proofs.layout.bits_at.Goals as goal
+use Rattle.vl_flow_check.proofs.Layouts.{all_filled, none_filled}
+use Rattle.vl_flow_check.proofs.layout.bits_at.Goals as goal
 
 pub returns-then-span : goal.returns-then-span
 returns-then-span c =

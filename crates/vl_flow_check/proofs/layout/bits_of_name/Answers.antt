@@ -2,10 +2,10 @@ use Rattle.std.proofs.Common.{arith, ap, sym, ◌∙◌, true≢false}
 use Rattle.std.specs.Prelude.{is_none}
 use Rattle.std.specs.Option.{option_copied}
 use Rattle.vl_size.specs.Table.{IsShaped}
-use Rattle.flow_cells.proofs.Lists.{all_at, get_some}
-use Rattle.flow_judge.specs.Layouts.{counts}
-use Rattle.flow_judge.proofs.Layouts.{name_bits}
-use Rattle.flow_judge.proofs.layout.bits_of_name.Goals as goal
+use Rattle.vl_flow_cells.proofs.Lists.{all_at, get_some}
+use Rattle.vl_flow_check.specs.Layouts.{counts}
+use Rattle.vl_flow_check.proofs.Layouts.{name_bits}
+use Rattle.vl_flow_check.proofs.layout.bits_of_name.Goals as goal
 
 pub unreachable-requires : goal.unreachable-requires
 unreachable-requires c =

@@ -1,7 +1,7 @@
 use Rattle.std.proofs.Common.{arith}
-use Rattle.flow_judge.specs.Layouts.{counts}
-use Rattle.flow_judge.proofs.Layouts.{all_parts, no_parts, one_part_more}
-use Rattle.flow_judge.proofs.layout.bits_of_names.Goals as goal
+use Rattle.vl_flow_check.specs.Layouts.{counts}
+use Rattle.vl_flow_check.proofs.Layouts.{all_parts, no_parts, one_part_more}
+use Rattle.vl_flow_check.proofs.layout.bits_of_names.Goals as goal
 
 pub loop-place-init : goal.loop-place-init
 loop-place-init c = no_parts c.args.decls.now (counts c.args.names) c.new-parts.result.items c.new-parts.ensures.items

@@ -1,9 +1,9 @@
 use Rattle.std.proofs.Common.{◌∙◌, ap, sym, ◌&&◌}
 use Rattle.std.specs.Prelude.{nat_lt}
-use Rattle.bit_sets.proofs.Masks.{set_zero}
-use Rattle.bit_sets.specs.Cells.{is_set}
-use Rattle.flow_cells.proofs.Masks.{all_set}
-use Rattle.flow_judge.proofs.layout.mask_of.Goals as goal
+use Rattle.fv_bit_sets.proofs.Masks.{set_zero}
+use Rattle.fv_bit_sets.specs.Cells.{is_set}
+use Rattle.vl_flow_cells.proofs.Masks.{all_set}
+use Rattle.vl_flow_check.proofs.layout.mask_of.Goals as goal
 
 pub returns-then-counts : goal.returns-then-counts
 returns-then-counts c i =

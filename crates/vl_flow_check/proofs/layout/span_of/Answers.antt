@@ -1,8 +1,8 @@
 use Rattle.std.proofs.Common.{◌≡◌, ◌∙◌, ◌-◌, arith, ap, sym, suc, get_or, length, refl, slice_get}
 use Rattle.std.proofs.lemmas.Option.{slice_get-get_or}
-use Rattle.flow_judge.specs.declared.layout.Span.{Span}
-use Rattle.flow_judge.proofs.Layouts.{first_span, later_span}
-use Rattle.flow_judge.proofs.layout.span_of.Goals as goal
+use Rattle.vl_flow_check.specs.declared.layout.Span.{Span}
+use Rattle.vl_flow_check.proofs.Layouts.{first_span, later_span}
+use Rattle.vl_flow_check.proofs.layout.span_of.Goals as goal
 
 pub returns-then-place-eq0 : goal.returns-then-place-eq0
 returns-then-place-eq0 c ds w =

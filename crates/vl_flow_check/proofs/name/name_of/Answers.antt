@@ -2,8 +2,8 @@ use Rattle.std.proofs.Common.{ap, sym, ◌∙◌, true≢false}
 use Rattle.std.proofs.lemmas.Option.{same_Some}
 use Rattle.std.specs.Prelude.{is_none}
 use Rattle.std.specs.Option.{option_copied}
-use Rattle.flow_cells.proofs.Lists.{get_some}
-use Rattle.flow_judge.proofs.name.name_of.Goals as goal
+use Rattle.vl_flow_cells.proofs.Lists.{get_some}
+use Rattle.vl_flow_check.proofs.name.name_of.Goals as goal
 
 pub unreachable-requires : goal.unreachable-requires
 unreachable-requires c =

@@ -1,11 +1,11 @@
 use Rattle.std.proofs.Common.{◌≡◌, ◌∙◌, ◌<◌, ap, arith, get_or, length, refl, slice_get, subst, sym, Some}
 use Rattle.std.proofs.lemmas.Option.{slice_get_read}
 use Rattle.vl_mean.specs.FlatLaw.{IsDriver}
-use Rattle.flow_cells.proofs.Lists.{all_at}
-use Rattle.flow_sets.specs.Named.{AreNamesOf}
-use Rattle.flow_twice.proofs.Drivers.{all_names, names_more, no_names}
-use Rattle.flow_twice.proofs.Marked.{driver_marked}
-use Rattle.flow_twice.proofs.names.name_shares.Goals as goal
+use Rattle.vl_flow_cells.proofs.Lists.{all_at}
+use Rattle.vl_flow_order.specs.Named.{AreNamesOf}
+use Rattle.vl_flow_check.proofs.Drivers.{all_names, names_more, no_names}
+use Rattle.vl_flow_check.proofs.Marked.{driver_marked}
+use Rattle.vl_flow_check.proofs.names.name_shares.Goals as goal
 
 pub loop-at-init : goal.loop-at-init
 loop-at-init c =

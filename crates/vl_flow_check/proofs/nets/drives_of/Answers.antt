@@ -1,8 +1,8 @@
 use Rattle.std.proofs.Common.{arith, length, refl, sym, ◌∙◌, ap, slice_get}
 use Rattle.std.proofs.lemmas.Option.{slice_get_read}
-use Rattle.vl_path.specs.Drivers.{driven_by}
-use Rattle.flow_judge.proofs.RowLists.{all_sets, drives_more, no_sets}
-use Rattle.flow_judge.proofs.nets.drives_of.Goals as goal
+use Rattle.vl_flow_spec.specs.Drivers.{driven_by}
+use Rattle.vl_flow_check.proofs.RowLists.{all_sets, drives_more, no_sets}
+use Rattle.vl_flow_check.proofs.nets.drives_of.Goals as goal
 
 pub loop-footprint-init : goal.loop-footprint-init
 loop-footprint-init c ds drivers w =

@@ -1,6 +1,6 @@
 use Rattle.std.proofs.Common.{sym, ◌∙◌}
-use Rattle.flow_judge.proofs.OpenBits.{named_told, none_told}
-use Rattle.flow_judge.proofs.nets.named_bit.Goals as goal
+use Rattle.vl_flow_check.proofs.OpenBits.{named_told, none_told}
+use Rattle.vl_flow_check.proofs.nets.named_bit.Goals as goal
 
 pub name_of-requires : goal.name_of-requires
 name_of-requires c =

@@ -1,6 +1,6 @@
 use Rattle.std.proofs.Common.{◌<◌, ◌^◌, arith}
-use Rattle.flow_judge.proofs.OpenBits.{all_before, found_open, open_told, some_open}
-use Rattle.flow_judge.proofs.nets.undriven.Goals as goal
+use Rattle.vl_flow_check.proofs.OpenBits.{all_before, found_open, open_told, some_open}
+use Rattle.vl_flow_check.proofs.nets.undriven.Goals as goal
 
 pub returns-in_default : goal.returns-in_default
 returns-in_default c drivers w =

@@ -1,5 +1,5 @@
-use Rattle.flow_judge.proofs.OpenBits.{undriven_are}
-use Rattle.flow_judge.proofs.nets.undriven_bits.Goals as goal
+use Rattle.vl_flow_check.proofs.OpenBits.{undriven_are}
+use Rattle.vl_flow_check.proofs.nets.undriven_bits.Goals as goal
 
 pub returns : goal.returns
 returns c drivers w =

@@ -1,9 +1,9 @@
 use Rattle.std.proofs.Common.{◌≡◌, ◌/◌, ◌||◌, ℕ, length, subst, sym}
-use Rattle.bit_sets.specs.Cells.{has}
-use Rattle.flow_twice.proofs.Places.{halves, no_overlap, overlap_one}
-use Rattle.flow_twice.specs.declared.overlap.Overlap.{Overlap}
-use Rattle.flow_twice.specs.declared.share.Share.{Share}
-use Rattle.flow_twice.proofs.overlap.+overlap_of.Goals as goal
+use Rattle.fv_bit_sets.specs.Cells.{has}
+use Rattle.vl_flow_check.proofs.Places.{halves, no_overlap, overlap_one}
+use Rattle.vl_flow_check.specs.declared.overlap.Overlap.{Overlap}
+use Rattle.vl_flow_check.specs.declared.share.Share.{Share}
+use Rattle.vl_flow_check.proofs.overlap.+overlap_of.Goals as goal
 
 pub returns-then-shares-eq0 : goal.returns-then-shares-eq0
 returns-then-shares-eq0 t c = no_overlap c.args.shares.now c.none.result c.if-shares-eq0.true c.none.ensures

@@ -1,5 +1,5 @@
 use Rattle.std.proofs.Common.{◌||◌, ◌∙◌}
-use Rattle.flow_twice.proofs.overlap.joined.Goals as goal
+use Rattle.vl_flow_check.proofs.overlap.joined.Goals as goal
 
 pub returns : goal.returns
 returns c = record {

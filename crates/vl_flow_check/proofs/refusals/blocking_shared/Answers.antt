@@ -1,12 +1,12 @@
 use Rattle.std.proofs.Common.{true, [], ◌∙◌, ap, sym, length}
-use Rattle.vl_path.specs.Drivers.{needed_by}
-use Rattle.vl_order.specs.Refusals.{changed_by, has_bit, is_shared}
-use Rattle.flow_sets.specs.Sets.{crosses}
-use Rattle.flow_judge.specs.declared.which.Which.TheVariants as w
-use Rattle.flow_judge.specs.Rows.{picked}
-use Rattle.flow_judge.proofs.RowLists.{rows_length, sets_length}
-use Rattle.flow_judge.proofs.Shared.{shared_marked}
-use Rattle.flow_judge.proofs.refusals.blocking_shared.Goals as goal
+use Rattle.vl_flow_spec.specs.Drivers.{needed_by}
+use Rattle.vl_flow_spec.specs.Refusals.{changed_by, has_bit, is_shared}
+use Rattle.vl_flow_order.specs.Sets.{crosses}
+use Rattle.vl_flow_check.specs.declared.which.Which.TheVariants as w
+use Rattle.vl_flow_check.specs.Rows.{picked}
+use Rattle.vl_flow_check.proofs.RowLists.{rows_length, sets_length}
+use Rattle.vl_flow_check.proofs.Shared.{shared_marked}
+use Rattle.vl_flow_check.proofs.refusals.blocking_shared.Goals as goal
 
 pub name_rows-requires : goal.name_rows-requires
 name_rows-requires c =

@@ -1,7 +1,7 @@
 use Rattle.std.proofs.Common.{◌∙◌}
-use Rattle.vl_order.specs.Refusals.{has_bit, latched}
-use Rattle.flow_judge.proofs.Shared.{latched_shown}
-use Rattle.flow_judge.proofs.refusals.latch.Goals as goal
+use Rattle.vl_flow_spec.specs.Refusals.{has_bit, latched}
+use Rattle.vl_flow_check.proofs.Shared.{latched_shown}
+use Rattle.vl_flow_check.proofs.refusals.latch.Goals as goal
 
 pub first_named-requires-clause-marked : goal.first_named-requires-clause-marked
 first_named-requires-clause-marked c =

@@ -1,8 +1,8 @@
 use Rattle.std.proofs.Common.{true, false, ◌&&◌, ◌||◌, ◌∙◌, sym}
-use Rattle.vl_order.specs.Refusals.{changed_by, some_changes, some_waits}
-use Rattle.flow_judge.proofs.RowLists.{sets_length}
-use Rattle.flow_judge.proofs.Shared.{mixed_marked}
-use Rattle.flow_judge.proofs.refusals.mixed.Goals as goal
+use Rattle.vl_flow_spec.specs.Refusals.{changed_by, some_changes, some_waits}
+use Rattle.vl_flow_check.proofs.RowLists.{sets_length}
+use Rattle.vl_flow_check.proofs.Shared.{mixed_marked}
+use Rattle.vl_flow_check.proofs.refusals.mixed.Goals as goal
 
 pub names_of-requires : goal.names_of-requires
 names_of-requires c =

@@ -1,8 +1,8 @@
 use Rattle.std.proofs.Common.{◌≡◌, arith, length, refl, sym, ◌∙◌, ◌<◌, ap, slice_get}
 use Rattle.std.proofs.lemmas.Option.{slice_get_read}
-use Rattle.flow_judge.specs.Rows.{picked, picks}
-use Rattle.flow_judge.proofs.RowLists.{all_rows, no_rows, picked_more, sets_length}
-use Rattle.flow_judge.proofs.rows.name_rows.Goals as goal
+use Rattle.vl_flow_check.specs.Rows.{picked, picks}
+use Rattle.vl_flow_check.proofs.RowLists.{all_rows, no_rows, picked_more, sets_length}
+use Rattle.vl_flow_check.proofs.rows.name_rows.Goals as goal
 
 pub loop-at-init : goal.loop-at-init
 loop-at-init c ds drivers K w are =

@@ -2,10 +2,10 @@ use Rattle.std.proofs.Common.{List, take}
 use Rattle.vl_size.specs.declared.decl.Decl.{Decl}
 use Rattle.vl_mean.specs.declared.driver.Driver.{Driver}
 use Rattle.vl_mean.specs.declared.driver.DriverKind.{DriverKind}
-use Rattle.vl_path.specs.Reads.{Bits}
-use Rattle.flow_judge.specs.Layouts.{IsLayoutOf}
-use Rattle.flow_judge.specs.Rows.{AreNameRows, AreSets, picked}
-use Rattle.flow_judge.proofs.rows.name_rows.Given as goal
+use Rattle.vl_flow_spec.specs.Reads.{Bits}
+use Rattle.vl_flow_check.specs.Layouts.{IsLayoutOf}
+use Rattle.vl_flow_check.specs.Rows.{AreNameRows, AreSets, picked}
+use Rattle.vl_flow_check.proofs.rows.name_rows.Given as goal
 
 abbrev pub invariant-loop-at : goal.invariant-loop-at
 invariant-loop-at l =

@@ -1,6 +1,6 @@
-use Rattle.flow_judge.specs.Rows.{picked}
-use Rattle.flow_judge.proofs.Shared.{rows_marked}
-use Rattle.flow_judge.proofs.rows.names_of.Goals as goal
+use Rattle.vl_flow_check.specs.Rows.{picked}
+use Rattle.vl_flow_check.proofs.Shared.{rows_marked}
+use Rattle.vl_flow_check.proofs.rows.names_of.Goals as goal
 
 pub returns : goal.returns
 returns c ds drivers K w are =

@@ -1,9 +1,9 @@
 use Rattle.std.proofs.Common.{arith, length, refl, sym, ◌∙◌, ap, slice_get}
 use Rattle.std.proofs.lemmas.Option.{slice_get_read}
-use Rattle.vl_order.specs.Refusals.{has_bit}
-use Rattle.vl_path.specs.Drivers.{needed_by}
-use Rattle.flow_judge.proofs.RowLists.{all_rows, no_rows, read_more}
-use Rattle.flow_judge.proofs.rows.read_rows.Goals as goal
+use Rattle.vl_flow_spec.specs.Refusals.{has_bit}
+use Rattle.vl_flow_spec.specs.Drivers.{needed_by}
+use Rattle.vl_flow_check.proofs.RowLists.{all_rows, no_rows, read_more}
+use Rattle.vl_flow_check.proofs.rows.read_rows.Goals as goal
 
 pub loop-footprint-init : goal.loop-footprint-init
 loop-footprint-init c ds drivers w =

@@ -1,5 +1,5 @@
-use Rattle.flow_judge.proofs.NameMarks.{marks_if, no_marks_if}
-use Rattle.flow_judge.proofs.rows.row_of.Goals as goal
+use Rattle.vl_flow_check.proofs.NameMarks.{marks_if, no_marks_if}
+use Rattle.vl_flow_check.proofs.rows.row_of.Goals as goal
 
 pub returns-then-counts : goal.returns-then-counts
 returns-then-counts c ds drivers K w shows =

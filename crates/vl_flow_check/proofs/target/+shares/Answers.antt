@@ -4,11 +4,11 @@ use Rattle.vl_tree.specs.ExprView.{selects}
 use Rattle.vl_tree.specs.Lval.{lvals, named}
 use Rattle.vl_tree.specs.LvalView.{shown}
 use Rattle.vl_mean.specs.FlatLaw.{AreTargets, is_net}
-use Rattle.flow_uses.specs.Sized.{TargetsAreSized}
-use Rattle.flow_twice.specs.Shares.{AddsPlaces, target_places}
-use Rattle.flow_twice.proofs.Places.{adds_then}
-use Rattle.flow_twice.proofs.Targets.{all_target_places, first_target, name_added}
-use Rattle.flow_twice.proofs.target.+shares.Goals as goal
+use Rattle.vl_flow_cells.specs.Sized.{TargetsAreSized}
+use Rattle.vl_flow_check.specs.Shares.{AddsPlaces, target_places}
+use Rattle.vl_flow_check.proofs.Places.{adds_then}
+use Rattle.vl_flow_check.proofs.Targets.{all_target_places, first_target, name_added}
+use Rattle.vl_flow_check.proofs.target.+shares.Goals as goal
 
 pub loop-part-preserved : goal.loop-part-preserved
 loop-part-preserved t c =

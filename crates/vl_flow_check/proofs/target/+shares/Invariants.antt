@@ -1,11 +1,11 @@
 use Rattle.std.proofs.Common.{List, drop, true}
 use Rattle.vl_tree.specs.Lval.{lvals}
 use Rattle.vl_mean.specs.FlatLaw.{AreTargets, is_net}
-use Rattle.flow_uses.specs.Sized.{TargetsAreSized}
-use Rattle.flow_twice.specs.declared.share.Share.{Share}
-use Rattle.flow_twice.specs.Shares.{AddsPlaces}
-use Rattle.flow_twice.proofs.Targets.{all_target_places}
-use Rattle.flow_twice.proofs.target.+shares.Given as goal
+use Rattle.vl_flow_cells.specs.Sized.{TargetsAreSized}
+use Rattle.vl_flow_check.specs.declared.share.Share.{Share}
+use Rattle.vl_flow_check.specs.Shares.{AddsPlaces}
+use Rattle.vl_flow_check.proofs.Targets.{all_target_places}
+use Rattle.vl_flow_check.proofs.target.+shares.Given as goal
 
 abbrev pub invariant-loop-part : goal.invariant-loop-part
 invariant-loop-part l = record {

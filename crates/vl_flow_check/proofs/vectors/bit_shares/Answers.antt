@@ -1,9 +1,9 @@
 use Rattle.std.proofs.Common.{◌≡◌, ◌∙◌, ◌<◌, ap, arith, length, refl, slice_get, sym, Some}
 use Rattle.std.proofs.lemmas.Option.{slice_get_read}
 use Rattle.vl_mean.specs.FlatLaw.{IsDriver}
-use Rattle.flow_cells.proofs.Lists.{all_at}
-use Rattle.flow_twice.proofs.Drivers.{all_bits, bits_more, no_bits}
-use Rattle.flow_twice.proofs.vectors.bit_shares.Goals as goal
+use Rattle.vl_flow_cells.proofs.Lists.{all_at}
+use Rattle.vl_flow_check.proofs.Drivers.{all_bits, bits_more, no_bits}
+use Rattle.vl_flow_check.proofs.vectors.bit_shares.Goals as goal
 
 pub loop-at-init : goal.loop-at-init
 loop-at-init c =

@@ -1,6 +1,6 @@
 use Rattle.std.proofs.Common.{take}
-use Rattle.flow_twice.specs.Shares.{AreBitShares}
-use Rattle.flow_twice.proofs.vectors.bit_shares.Given as goal
+use Rattle.vl_flow_check.specs.Shares.{AreBitShares}
+use Rattle.vl_flow_check.proofs.vectors.bit_shares.Given as goal
 
 abbrev pub invariant-loop-at : goal.invariant-loop-at
 invariant-loop-at l = AreBitShares l.decls (take l.at l.drivers) l.shares.items

@@ -1,5 +1,5 @@
-use Rattle.flow_twice.proofs.Drivers.{block_added}
-use Rattle.flow_twice.proofs.vectors.block_share.Goals as goal
+use Rattle.vl_flow_check.proofs.Drivers.{block_added}
+use Rattle.vl_flow_check.proofs.vectors.block_share.Goals as goal
 
 pub returns : goal.returns
 returns c ds K shows =

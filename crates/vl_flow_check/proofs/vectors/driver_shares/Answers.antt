@@ -1,10 +1,10 @@
 use Rattle.std.proofs.Common.{subst}
 use Rattle.vl_mean.specs.FlatLaw.{IsDriver}
-use Rattle.vl_path.specs.Drivers.{driven_by}
-use Rattle.flow_uses.specs.Sized.{DriverIsSized}
-use Rattle.flow_uses.proofs.Sizing.{driver_sized}
-use Rattle.flow_twice.proofs.Drivers.{assign_added, clocked_added, comb_added}
-use Rattle.flow_twice.proofs.vectors.driver_shares.Goals as goal
+use Rattle.vl_flow_spec.specs.Drivers.{driven_by}
+use Rattle.vl_flow_cells.specs.Sized.{DriverIsSized}
+use Rattle.vl_flow_cells.proofs.Sizing.{driver_sized}
+use Rattle.vl_flow_check.proofs.Drivers.{assign_added, clocked_added, comb_added}
+use Rattle.vl_flow_check.proofs.vectors.driver_shares.Goals as goal
 
 pub returns-in_ok-target_shares-in-Assign : goal.returns-in_ok-target_shares-in-Assign
 returns-in_ok-target_shares-in-Assign c lawful w =

@@ -1,8 +1,8 @@
 use Rattle.std.proofs.Common.{◌≡◌, [], ◌||◌, rules}
-use Rattle.vl_path.specs.Paths.{target_reads}
-use Rattle.vl_path.specs.Reads.{reads}
-use Rattle.flow_effects.proofs.Joining.{adds_both, shows_runs}
-use Rattle.flow_effects.proofs.bits.assign_reads.Goals as goal
+use Rattle.vl_flow_spec.specs.Paths.{target_reads}
+use Rattle.vl_flow_spec.specs.Reads.{reads}
+use Rattle.vl_flow_effects.proofs.Joining.{adds_both, shows_runs}
+use Rattle.vl_flow_effects.proofs.bits.assign_reads.Goals as goal
 
 pub returns : goal.returns
 returns c one other =

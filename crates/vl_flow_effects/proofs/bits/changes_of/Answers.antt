@@ -1,8 +1,8 @@
 use Rattle.std.proofs.Common.{◌≡◌, [], rules}
 use Rattle.vl_mean.specs.FlatLaw.{flat_scopes}
 use Rattle.vl_mean.specs.Targets.{may_change}
-use Rattle.flow_effects.proofs.Joining.{shows_runs}
-use Rattle.flow_effects.proofs.bits.changes_of.Goals as goal
+use Rattle.vl_flow_effects.proofs.Joining.{shows_runs}
+use Rattle.vl_flow_effects.proofs.bits.changes_of.Goals as goal
 
 pub returns : goal.returns
 returns c sized =

@@ -1,7 +1,7 @@
 use Rattle.std.proofs.Common.{◌≡◌, [], rules}
-use Rattle.vl_path.specs.Paths.{sets}
-use Rattle.flow_effects.proofs.Joining.{shows_runs}
-use Rattle.flow_effects.proofs.bits.sets_of.Goals as goal
+use Rattle.vl_flow_spec.specs.Paths.{sets}
+use Rattle.vl_flow_effects.proofs.Joining.{shows_runs}
+use Rattle.vl_flow_effects.proofs.bits.sets_of.Goals as goal
 
 pub returns : goal.returns
 returns c sized =

@@ -1,10 +1,10 @@
 use Rattle.std.proofs.Common.{sym, ap, ◌∙◌}
-use Rattle.bit_sets.specs.Cells.{has}
+use Rattle.fv_bit_sets.specs.Cells.{has}
 use Rattle.vl_mean.specs.FlatLaw.{flat_scopes}
 use Rattle.vl_mean.specs.FlatParts.{driver_part}
 use Rattle.vl_mean.specs.Runs.{is_driven_by}
-use Rattle.vl_path.specs.Drivers.{driven_by}
-use Rattle.vl_driven.proofs.driven.driven_by.Goals as goal
+use Rattle.vl_flow_spec.specs.Drivers.{driven_by}
+use Rattle.vl_flow_effects.proofs.driven.driven_by.Goals as goal
 
 pub returns-in-Assign : goal.returns-in-Assign
 returns-in-Assign c sized x n i at =

@@ -5,11 +5,11 @@ use Rattle.std.proofs.lemmas.List.{take_all}
 use Rattle.vl_mean.specs.FlatLaw.{IsDriver, flat_scopes}
 use Rattle.vl_mean.specs.FlatParts.{driver_part, parts_of}
 use Rattle.vl_mean.specs.Runs.{is_driven, is_driven_by}
-use Rattle.flow_cells.proofs.Lists.{all_at}
-use Rattle.flow_sets.specs.Sets.{some_has}
-use Rattle.vl_driven.proofs.Blocks.{by_drivers, driver_parts, one_driver_more}
-use Rattle.vl_driven.proofs.CellMasks.{get_drop, no_sets, set_more}
-use Rattle.vl_driven.proofs.driven.driven_masks.Goals as goal
+use Rattle.vl_flow_cells.proofs.Lists.{all_at}
+use Rattle.vl_flow_order.specs.Sets.{some_has}
+use Rattle.vl_flow_effects.proofs.Blocks.{by_drivers, driver_parts, one_driver_more}
+use Rattle.vl_flow_effects.proofs.CellMasks.{get_drop, no_sets, set_more}
+use Rattle.vl_flow_effects.proofs.driven.driven_masks.Goals as goal
 
 pub loop-driver-init : goal.loop-driver-init
 loop-driver-init c =

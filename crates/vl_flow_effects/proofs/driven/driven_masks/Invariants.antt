@@ -1,9 +1,9 @@
 use Rattle.std.proofs.Common.{take}
 use Rattle.vl_mean.specs.Runs.{is_driven}
-use Rattle.flow_cells.specs.Numbered.{Shows}
-use Rattle.flow_sets.specs.Sets.{some_has}
-use Rattle.vl_driven.proofs.Blocks.{driver_parts}
-use Rattle.vl_driven.proofs.driven.driven_masks.Given as goal
+use Rattle.vl_flow_cells.specs.Numbered.{Shows}
+use Rattle.vl_flow_order.specs.Sets.{some_has}
+use Rattle.vl_flow_effects.proofs.Blocks.{driver_parts}
+use Rattle.vl_flow_effects.proofs.driven.driven_masks.Given as goal
 
 abbrev pub invariant-loop-driver : goal.invariant-loop-driver
 invariant-loop-driver l =

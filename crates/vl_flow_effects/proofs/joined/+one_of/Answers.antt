@@ -1,9 +1,9 @@
 use Rattle.std.proofs.Common.{◌/◌, length, drop, take, sym, subst}
 use Rattle.std.proofs.lemmas.List.{take_rest}
-use Rattle.flow_effects.specs.Effects.{AreEach, IsEffectOfArm}
-use Rattle.flow_effects.proofs.Halves.{each_drop, each_take}
-use Rattle.flow_effects.proofs.Sequences.{arms_one, arms_two}
-use Rattle.flow_effects.proofs.joined.+one_of.Goals as goal
+use Rattle.vl_flow_effects.specs.Effects.{AreEach, IsEffectOfArm}
+use Rattle.vl_flow_effects.proofs.Halves.{each_drop, each_take}
+use Rattle.vl_flow_effects.proofs.Sequences.{arms_one, arms_two}
+use Rattle.vl_flow_effects.proofs.joined.+one_of.Goals as goal
 
 pub returns-then-effects-eq1 : goal.returns-then-effects-eq1
 returns-then-effects-eq1 t c ds xs h =

@@ -1,5 +1,5 @@
 use Rattle.std.proofs.Common.{length}
-use Rattle.flow_effects.proofs.joined.+one_of.Given as goal
+use Rattle.vl_flow_effects.proofs.joined.+one_of.Given as goal
 
 abbrev pub decreases-one_of : goal.decreases-one_of
 decreases-one_of l = length l.effects.now

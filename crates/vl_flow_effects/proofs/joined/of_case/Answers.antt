@@ -1,6 +1,6 @@
 use Rattle.std.proofs.Common.{sym, ◌∙◌}
-use Rattle.flow_effects.proofs.Sequences.{case_parted}
-use Rattle.flow_effects.proofs.joined.of_case.Goals as goal
+use Rattle.vl_flow_effects.proofs.Sequences.{case_parted}
+use Rattle.vl_flow_effects.proofs.joined.of_case.Goals as goal
 
 pub returns : goal.returns
 returns c ds xs h w =

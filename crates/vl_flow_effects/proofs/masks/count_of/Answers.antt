@@ -2,11 +2,11 @@ use Rattle.std.proofs.Common.{◌≡◌, ◌+◌, ◌<◌, ap, sym, ◌∙◌, a
 use Rattle.std.specs.Prelude.{is_none}
 use Rattle.std.specs.Option.{option_copied}
 use Rattle.vl_mean.specs.FlatLaw.{IsKept}
-use Rattle.flow_cells.specs.Numbered.{first_cell}
-use Rattle.flow_cells.proofs.Lists.{all_at, get_some}
-use Rattle.flow_cells.proofs.Numbers.{first_few, first_none, next_first}
-use Rattle.flow_order.proofs.Cells.{all_length}
-use Rattle.vl_driven.proofs.masks.count_of.Goals as goal
+use Rattle.vl_flow_cells.specs.Numbered.{first_cell}
+use Rattle.vl_flow_cells.proofs.Lists.{all_at, get_some}
+use Rattle.vl_flow_cells.proofs.Numbers.{first_few, first_none, next_first}
+use Rattle.vl_flow_order.proofs.Cells.{all_length}
+use Rattle.vl_flow_effects.proofs.masks.count_of.Goals as goal
 
 pub loop-index-init : goal.loop-index-init
 loop-index-init c = sym (first_none c.args.decls.now)

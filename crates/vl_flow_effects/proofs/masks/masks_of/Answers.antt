@@ -1,6 +1,6 @@
 use Rattle.std.proofs.Common.{◌≡◌, ◌∙◌, arith}
-use Rattle.vl_driven.proofs.CellMasks.{all_masks, mask_more, no_masks}
-use Rattle.vl_driven.proofs.masks.masks_of.Goals as goal
+use Rattle.vl_flow_effects.proofs.CellMasks.{all_masks, mask_more, no_masks}
+use Rattle.vl_flow_effects.proofs.masks.masks_of.Goals as goal
 
 pub loop-cell-init : goal.loop-cell-init
 loop-cell-init c = no_masks c.args.bits.now c.new-masks.result c.new-masks.ensures

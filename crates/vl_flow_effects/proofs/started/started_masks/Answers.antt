@@ -4,12 +4,12 @@ use Rattle.std.proofs.lemmas.Grind.{common_steps}
 use Rattle.std.proofs.lemmas.List.{take_all}
 use Rattle.vl_mean.specs.FlatLaw.{IsAssigned, flat_scopes, is_variable}
 use Rattle.vl_mean.specs.FlatParts.{parts_of, start_part}
-use Rattle.flow_cells.proofs.Lists.{all_at}
-use Rattle.flow_sets.specs.Sets.{some_has}
-use Rattle.vl_driven.specs.Masks.{begins}
-use Rattle.vl_driven.proofs.Starts.{by_starts, one_start_more, start_begins, start_parts, target_sized}
-use Rattle.vl_driven.proofs.CellMasks.{get_drop, no_sets, set_more}
-use Rattle.vl_driven.proofs.started.started_masks.Goals as goal
+use Rattle.vl_flow_cells.proofs.Lists.{all_at}
+use Rattle.vl_flow_order.specs.Sets.{some_has}
+use Rattle.vl_flow_effects.specs.Masks.{begins}
+use Rattle.vl_flow_effects.proofs.Starts.{by_starts, one_start_more, start_begins, start_parts, target_sized}
+use Rattle.vl_flow_effects.proofs.CellMasks.{get_drop, no_sets, set_more}
+use Rattle.vl_flow_effects.proofs.started.started_masks.Goals as goal
 
 pub loop-start-init : goal.loop-start-init
 loop-start-init c =

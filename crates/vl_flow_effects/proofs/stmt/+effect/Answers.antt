@@ -5,12 +5,12 @@ use Rattle.std.proofs.lemmas.List.{take_all}
 use Rattle.vl_tree.specs.declared.stmt.StmtKind.TheVariants as k
 use Rattle.vl_tree.specs.Stmt.{begin, if_only, if_else, case, assign, assume, empty, stmts, no_arms}
 use Rattle.vl_tree.specs.StmtView.{arms, shown, with_arm}
-use Rattle.flow_effects.specs.Effects.{AreEach, IsEffectOf, IsEffectOfAll, IsEffectOfArm, IsEffectOfArms}
-use Rattle.flow_uses.specs.Sized.{ArmsAreSized, StmtIsSized, StmtsAreSized}
-use Rattle.flow_effects.proofs.Halves.{each_push}
-use Rattle.flow_effects.proofs.Statements.{arm_sized, assume_effect, case_effect, default_effect}
-use Rattle.flow_effects.proofs.Statements.{empty_effect, labels_effect}
-use Rattle.flow_effects.proofs.stmt.+effect.Goals as goal
+use Rattle.vl_flow_effects.specs.Effects.{AreEach, IsEffectOf, IsEffectOfAll, IsEffectOfArm, IsEffectOfArms}
+use Rattle.vl_flow_cells.specs.Sized.{ArmsAreSized, StmtIsSized, StmtsAreSized}
+use Rattle.vl_flow_effects.proofs.Halves.{each_push}
+use Rattle.vl_flow_effects.proofs.Statements.{arm_sized, assume_effect, case_effect, default_effect}
+use Rattle.vl_flow_effects.proofs.Statements.{empty_effect, labels_effect}
+use Rattle.vl_flow_effects.proofs.stmt.+effect.Goals as goal
 
 pub effect_of-returns-in_ok-sequence_effect-in-Begin : goal.effect_of-returns-in_ok-sequence_effect-in-Begin
 effect_of-returns-in_ok-sequence_effect-in-Begin t c =

@@ -1,9 +1,9 @@
 use Rattle.std.proofs.Common.{drop, take}
 use Rattle.vl_tree.specs.Stmt.{stmts}
 use Rattle.vl_tree.specs.StmtView.{arms}
-use Rattle.flow_effects.specs.Effects.{AreEach, IsEffectOf, IsEffectOfArm}
-use Rattle.flow_uses.specs.Sized.{ArmsAreSized, StmtsAreSized}
-use Rattle.flow_effects.proofs.stmt.+effect.Given as goal
+use Rattle.vl_flow_effects.specs.Effects.{AreEach, IsEffectOf, IsEffectOfArm}
+use Rattle.vl_flow_cells.specs.Sized.{ArmsAreSized, StmtsAreSized}
+use Rattle.vl_flow_effects.proofs.stmt.+effect.Given as goal
 
 abbrev pub invariant-sequence_effect-loop-part : goal.invariant-sequence_effect-loop-part
 invariant-sequence_effect-loop-part l = record {

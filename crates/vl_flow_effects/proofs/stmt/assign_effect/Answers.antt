@@ -1,10 +1,10 @@
 use Rattle.std.proofs.Common.{sym, ◌∙◌, subst}
 use Rattle.vl_tree.specs.Stmt.{assign}
-use Rattle.bit_sets.specs.Cells.{has}
-use Rattle.flow_effects.specs.declared.effect.Effect.{Effect}
-use Rattle.flow_effects.specs.Effects.{IsEffectOf}
-use Rattle.flow_effects.proofs.Tests.{or_same}
-use Rattle.flow_effects.proofs.stmt.assign_effect.Goals as goal
+use Rattle.fv_bit_sets.specs.Cells.{has}
+use Rattle.vl_flow_effects.specs.declared.effect.Effect.{Effect}
+use Rattle.vl_flow_effects.specs.Effects.{IsEffectOf}
+use Rattle.vl_flow_effects.proofs.Tests.{or_same}
+use Rattle.vl_flow_effects.proofs.stmt.assign_effect.Goals as goal
 
 pub returns-in_ok-sure-in-Blocking : goal.returns-in_ok-sure-in-Blocking
 returns-in_ok-sure-in-Blocking c a p one other =

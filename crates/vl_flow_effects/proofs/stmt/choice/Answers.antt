@@ -1,5 +1,5 @@
-use Rattle.flow_effects.proofs.Statements.{else_effect, only_effect}
-use Rattle.flow_effects.proofs.stmt.choice.Goals as goal
+use Rattle.vl_flow_effects.proofs.Statements.{else_effect, only_effect}
+use Rattle.vl_flow_effects.proofs.stmt.choice.Goals as goal
 
 pub returns-clause-one : goal.returns-clause-one
 returns-clause-one c attrs p x sized h g =

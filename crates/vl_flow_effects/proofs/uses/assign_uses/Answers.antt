@@ -1,5 +1,5 @@
 use Rattle.std.proofs.Common.{refl}
-use Rattle.flow_effects.proofs.uses.assign_uses.Goals as goal
+use Rattle.vl_flow_effects.proofs.uses.assign_uses.Goals as goal
 
 pub returns : goal.returns
 returns c one other = record {

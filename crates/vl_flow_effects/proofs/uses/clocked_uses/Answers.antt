@@ -1,6 +1,6 @@
 use Rattle.std.proofs.Common.{refl}
-use Rattle.flow_effects.proofs.BothKinds.{all_drives}
-use Rattle.flow_effects.proofs.uses.clocked_uses.Goals as goal
+use Rattle.vl_flow_effects.proofs.BothKinds.{all_drives}
+use Rattle.vl_flow_effects.proofs.uses.clocked_uses.Goals as goal
 
 pub returns : goal.returns
 returns c ds s h = record {

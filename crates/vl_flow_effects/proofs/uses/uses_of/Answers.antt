@@ -1,7 +1,7 @@
 use Rattle.std.proofs.Common.{sym, subst}
-use Rattle.flow_effects.specs.Uses.{AreUsesOf}
-use Rattle.flow_uses.specs.Sized.{DriverIsSized}
-use Rattle.flow_effects.proofs.uses.uses_of.Goals as goal
+use Rattle.vl_flow_effects.specs.Uses.{AreUsesOf}
+use Rattle.vl_flow_cells.specs.Sized.{DriverIsSized}
+use Rattle.vl_flow_effects.proofs.uses.uses_of.Goals as goal
 
 pub returns-in_ok-assign_uses-in-Assign : goal.returns-in_ok-assign_uses-in-Assign
 returns-in_ok-assign_uses-in-Assign c sized =

@@ -1,5 +1,5 @@
-use Rattle.flow_reads.proofs.Bucketing.{adds_one}
-use Rattle.flow_reads.proofs.buckets.add_driver.Goals as goal
+use Rattle.vl_flow_order.proofs.Bucketing.{adds_one}
+use Rattle.vl_flow_order.proofs.buckets.add_driver.Goals as goal
 
 pub loop-visit-preserved : goal.loop-visit-preserved
 loop-visit-preserved c =

@@ -1,7 +1,7 @@
 use Rattle.std.proofs.Common.{None, sym, subst}
-use Rattle.flow_reads.specs.Visits.{AreVisits}
-use Rattle.flow_reads.proofs.Bucketing.{adds_settled, visits_within}
-use Rattle.flow_reads.proofs.buckets.add_settled.Goals as goal
+use Rattle.vl_flow_order.specs.Visits.{AreVisits}
+use Rattle.vl_flow_order.proofs.Bucketing.{adds_settled, visits_within}
+use Rattle.vl_flow_order.proofs.buckets.add_settled.Goals as goal
 
 pub add_driver-requires : goal.add_driver-requires
 add_driver-requires c =

@@ -1,8 +1,8 @@
 use Rattle.std.proofs.Common.{subst, refl, length}
 use Rattle.std.proofs.lemmas.Option.{slice_get_read}
-use Rattle.flow_reads.specs.Edges.{HasNoEdges}
-use Rattle.flow_reads.proofs.Bucketing.{no_buckets, one_bucket_more}
-use Rattle.flow_reads.proofs.buckets.buckets_of.Goals as goal
+use Rattle.vl_flow_order.specs.Edges.{HasNoEdges}
+use Rattle.vl_flow_order.proofs.Bucketing.{no_buckets, one_bucket_more}
+use Rattle.vl_flow_order.proofs.buckets.buckets_of.Goals as goal
 
 pub loop-driver-init : goal.loop-driver-init
 loop-driver-init c =

@@ -1,7 +1,7 @@
 use Rattle.std.proofs.Common.{rules, arith, ap, ◌∙◌, ◌≡◌, ◌++◌, ◌∷◌, [], length}
-use Rattle.graph_walk.proofs.Lists.{length_more}
-use Rattle.flow_reads.proofs.Bucketing.{one_row_more}
-use Rattle.flow_reads.proofs.buckets.empty_rows.Goals as goal
+use Rattle.fv_graph.proofs.Lists.{length_more}
+use Rattle.vl_flow_order.proofs.Bucketing.{one_row_more}
+use Rattle.vl_flow_order.proofs.buckets.empty_rows.Goals as goal
 
 pub rows-preserved : goal.rows-preserved
 rows-preserved c =

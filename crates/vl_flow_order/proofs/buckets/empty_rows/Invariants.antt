@@ -1,6 +1,6 @@
 use Rattle.std.proofs.Common.{◌≤◌, ◌-◌, length}
-use Rattle.flow_reads.proofs.Bucketing.{NoEdges}
-use Rattle.flow_reads.proofs.buckets.empty_rows.Given as goal
+use Rattle.vl_flow_order.proofs.Bucketing.{NoEdges}
+use Rattle.vl_flow_order.proofs.buckets.empty_rows.Given as goal
 
 abbrev pub invariant-rows : goal.invariant-rows
 invariant-rows l = record { none : NoEdges l.rows.items; few : length l.rows.items ≤ l.count }

@@ -1,6 +1,6 @@
 use Rattle.std.proofs.Common.{◌/◌, length, arith, rules}
-use Rattle.flow_sets.proofs.Halves.{crossing_none, crossing_one, halves, same_rests, same_takes}
-use Rattle.flow_sets.proofs.crossing.+crossing_of.Goals as goal
+use Rattle.vl_flow_order.proofs.Halves.{crossing_none, crossing_one, halves, same_rests, same_takes}
+use Rattle.vl_flow_order.proofs.crossing.+crossing_of.Goals as goal
 
 pub crossing_of-requires : goal.crossing_of-requires
 crossing_of-requires t c =

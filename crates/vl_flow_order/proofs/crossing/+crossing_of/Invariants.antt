@@ -1,5 +1,5 @@
 use Rattle.std.proofs.Common.{length}
-use Rattle.flow_sets.proofs.crossing.+crossing_of.Given as goal
+use Rattle.vl_flow_order.proofs.crossing.+crossing_of.Given as goal
 
 abbrev pub decreases-crossing_of : goal.decreases-crossing_of
 decreases-crossing_of l = length l.firsts.now

@@ -1,5 +1,5 @@
-use Rattle.flow_sets.proofs.Halves.{met_across}
-use Rattle.flow_sets.proofs.crossing.joined.Goals as goal
+use Rattle.vl_flow_order.proofs.Halves.{met_across}
+use Rattle.vl_flow_order.proofs.crossing.joined.Goals as goal
 
 pub returns : goal.returns
 returns c = record {

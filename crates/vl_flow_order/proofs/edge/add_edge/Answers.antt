@@ -1,7 +1,7 @@
 use Rattle.std.proofs.Common.{ap, sym, ◌∙◌, slice_set, ◌++◌, ◌∷◌, []}
-use Rattle.graph_walk.proofs.Rows.{row_at}
-use Rattle.flow_reads.proofs.Growing.{adds_edge}
-use Rattle.flow_reads.proofs.edge.add_edge.Goals as goal
+use Rattle.fv_graph.proofs.Rows.{row_at}
+use Rattle.vl_flow_order.proofs.Growing.{adds_edge}
+use Rattle.vl_flow_order.proofs.edge.add_edge.Goals as goal
 
 pub returns : goal.returns
 returns c =

@@ -1,6 +1,6 @@
 use Rattle.std.proofs.Common.{sym}
-use Rattle.flow_order.proofs.Turns.{earlier_one, no_earlier_one}
-use Rattle.flow_order.proofs.loops.better.Goals as goal
+use Rattle.vl_flow_order.proofs.Turns.{earlier_one, no_earlier_one}
+use Rattle.vl_flow_order.proofs.loops.better.Goals as goal
 
 pub returns-then-is_earlier-clause-earliest : goal.returns-then-is_earlier-clause-earliest
 returns-then-is_earlier-clause-earliest c were =

@@ -1,6 +1,6 @@
 use Rattle.std.proofs.Common.{arith}
-use Rattle.flow_order.proofs.Turns.{earliest_whole, none_earlier}
-use Rattle.flow_order.proofs.loops.earliest.Goals as goal
+use Rattle.vl_flow_order.proofs.Turns.{earliest_whole, none_earlier}
+use Rattle.vl_flow_order.proofs.loops.earliest.Goals as goal
 
 pub loop-at-init : goal.loop-at-init
 loop-at-init c =

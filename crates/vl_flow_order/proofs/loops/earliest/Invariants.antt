@@ -1,6 +1,6 @@
 use Rattle.std.proofs.Common.{◌<◌, length}
-use Rattle.flow_order.specs.Numbers.{IsEarliest}
-use Rattle.flow_order.proofs.loops.earliest.Given as goal
+use Rattle.vl_flow_order.specs.Numbers.{IsEarliest}
+use Rattle.vl_flow_order.proofs.loops.earliest.Given as goal
 
 abbrev pub invariant-loop-at : goal.invariant-loop-at
 invariant-loop-at l = record {

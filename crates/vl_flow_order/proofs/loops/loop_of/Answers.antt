@@ -1,7 +1,7 @@
 use Rattle.std.proofs.Common.{◌∙◌, ap, length, subst, sym}
-use Rattle.flow_order.specs.Numbers.{AreNumbers, numbered, places}
-use Rattle.flow_order.proofs.Turns.{turned_numbers}
-use Rattle.flow_order.proofs.loops.loop_of.Goals as goal
+use Rattle.vl_flow_order.specs.Numbers.{AreNumbers, numbered, places}
+use Rattle.vl_flow_order.proofs.Turns.{turned_numbers}
+use Rattle.vl_flow_order.proofs.loops.loop_of.Goals as goal
 
 pub places_of-requires : goal.places_of-requires
 places_of-requires c =

@@ -1,6 +1,6 @@
 use Rattle.std.proofs.Common.{ap, sym, ◌∙◌}
-use Rattle.flow_order.proofs.Turns.{number_known, place_is}
-use Rattle.flow_order.proofs.loops.place_at.Goals as goal
+use Rattle.vl_flow_order.proofs.Turns.{number_known, place_is}
+use Rattle.vl_flow_order.proofs.loops.place_at.Goals as goal
 
 pub bounds-drivers-number : goal.bounds-drivers-number
 bounds-drivers-number c =

@@ -1,8 +1,8 @@
 use Rattle.std.proofs.Common.{◌∙◌, arith, ap}
 use Rattle.std.proofs.lemmas.List.{take_all}
-use Rattle.flow_order.specs.Numbers.{numbered, places}
-use Rattle.flow_order.proofs.Turns.{places_step}
-use Rattle.flow_order.proofs.loops.places_of.Goals as goal
+use Rattle.vl_flow_order.specs.Numbers.{numbered, places}
+use Rattle.vl_flow_order.proofs.Turns.{places_step}
+use Rattle.vl_flow_order.proofs.loops.places_of.Goals as goal
 
 pub loop-at-init : goal.loop-at-init
 loop-at-init c = c.new-found.ensures

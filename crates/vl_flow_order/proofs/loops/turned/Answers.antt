@@ -1,4 +1,4 @@
-use Rattle.flow_order.proofs.loops.turned.Goals as goal
+use Rattle.vl_flow_order.proofs.loops.turned.Goals as goal
 
 pub returns-clause-turned : goal.returns-clause-turned
 returns-clause-turned c = record {

@@ -1,5 +1,5 @@
-use Rattle.flow_sets.proofs.Marks.{mark_is}
-use Rattle.flow_sets.proofs.names.mark.Goals as goal
+use Rattle.vl_flow_order.proofs.Marks.{mark_is}
+use Rattle.vl_flow_order.proofs.names.mark.Goals as goal
 
 pub returns : goal.returns
 returns c =

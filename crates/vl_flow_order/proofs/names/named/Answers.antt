@@ -1,9 +1,9 @@
 use Rattle.std.proofs.Common.{◌∙◌, sym, subst, take, get_or}
 use Rattle.std.proofs.lemmas.List.{take_all, take_more}
-use Rattle.flow_reads.specs.declared.visit.Visit.{Visit}
-use Rattle.flow_sets.specs.Named.{AreMarks}
-use Rattle.flow_sets.proofs.Marks.{names_of, no_marks, one_mark_more}
-use Rattle.flow_sets.proofs.names.named.Goals as goal
+use Rattle.vl_flow_order.specs.declared.visit.Visit.{Visit}
+use Rattle.vl_flow_order.specs.Named.{AreMarks}
+use Rattle.vl_flow_order.proofs.Marks.{names_of, no_marks, one_mark_more}
+use Rattle.vl_flow_order.proofs.names.named.Goals as goal
 
 pub loop-visit-init : goal.loop-visit-init
 loop-visit-init c = no_marks c.new-marks.result.items c.new-marks.ensures.items

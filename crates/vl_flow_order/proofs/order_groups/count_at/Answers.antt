@@ -2,10 +2,10 @@ use Rattle.std.proofs.Common.{◌+◌, ap, sym, ◌∙◌, true≢false}
 use Rattle.std.specs.Prelude.{is_none}
 use Rattle.std.specs.Option.{option_copied}
 use Rattle.vl_mean.specs.FlatLaw.{IsKept}
-use Rattle.flow_cells.specs.Numbered.{first_cell}
-use Rattle.flow_cells.proofs.Lists.{all_at, get_some}
-use Rattle.flow_cells.proofs.Numbers.{next_first}
-use Rattle.flow_order.proofs.groups.count_at.Goals as goal
+use Rattle.vl_flow_cells.specs.Numbered.{first_cell}
+use Rattle.vl_flow_cells.proofs.Lists.{all_at, get_some}
+use Rattle.vl_flow_cells.proofs.Numbers.{next_first}
+use Rattle.vl_flow_order.proofs.order_groups.count_at.Goals as goal
 
 pub unreachable-requires : goal.unreachable-requires
 unreachable-requires c =

@@ -1,6 +1,6 @@
 use Rattle.std.proofs.Common.{◌≡◌, arith, length}
-use Rattle.flow_order.proofs.Cells.{all_groups, are_groups, no_groups, one_group_more}
-use Rattle.flow_order.proofs.groups.groups_of.Goals as goal
+use Rattle.vl_flow_order.proofs.Cells.{all_groups, are_groups, no_groups, one_group_more}
+use Rattle.vl_flow_order.proofs.order_groups.groups_of.Goals as goal
 
 pub loop-index-init : goal.loop-index-init
 loop-index-init c =

@@ -1,7 +1,7 @@
 use Rattle.std.proofs.Common.{◌≡◌, arith, subst}
-use Rattle.flow_order.specs.CellGroups.{PutsCells}
-use Rattle.flow_order.proofs.Cells.{no_puts, one_put_more}
-use Rattle.flow_order.proofs.groups.put_cells.Goals as goal
+use Rattle.vl_flow_order.specs.CellGroups.{PutsCells}
+use Rattle.vl_flow_order.proofs.Cells.{no_puts, one_put_more}
+use Rattle.vl_flow_order.proofs.order_groups.put_cells.Goals as goal
 
 pub loop-turn-init : goal.loop-turn-init
 loop-turn-init c = no_puts c.args.of_cells.now c.args.group

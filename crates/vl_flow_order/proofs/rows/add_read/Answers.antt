@@ -1,7 +1,7 @@
 use Rattle.std.proofs.Common.{refl, get_or}
 use Rattle.std.proofs.lemmas.Option.{slice_get-get_or}
-use Rattle.flow_reads.proofs.Reading.{read_apart, read_met}
-use Rattle.flow_reads.proofs.rows.add_read.Goals as goal
+use Rattle.vl_flow_order.proofs.ReadsReading.{read_apart, read_met}
+use Rattle.vl_flow_order.proofs.rows.add_read.Goals as goal
 
 pub returns-in_ok-add_edge : goal.returns-in_ok-add_edge
 returns-in_ok-add_edge c =

@@ -1,10 +1,10 @@
 use Rattle.std.proofs.Common.{None, refl, length, sym, subst}
 use Rattle.std.proofs.lemmas.Option.{slice_get_read}
-use Rattle.graph_walk.proofs.Lists.{get_less}
-use Rattle.flow_reads.specs.Visits.{AreVisits}
-use Rattle.flow_reads.proofs.Bucketing.{visits_within}
-use Rattle.flow_reads.proofs.Reading.{reader_settled}
-use Rattle.flow_reads.proofs.rows.add_reader.Goals as goal
+use Rattle.fv_graph.proofs.Lists.{get_less}
+use Rattle.vl_flow_order.specs.Visits.{AreVisits}
+use Rattle.vl_flow_order.proofs.Bucketing.{visits_within}
+use Rattle.vl_flow_order.proofs.ReadsReading.{reader_settled}
+use Rattle.vl_flow_order.proofs.rows.add_reader.Goals as goal
 
 pub add_visits-requires-clause-drivers : goal.add_visits-requires-clause-drivers
 add_visits-requires-clause-drivers c =

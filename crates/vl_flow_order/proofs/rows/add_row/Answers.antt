@@ -1,6 +1,6 @@
 use Rattle.std.proofs.lemmas.Option.{slice_get-get_or}
-use Rattle.flow_reads.proofs.Reading.{row_more}
-use Rattle.flow_reads.proofs.rows.add_row.Goals as goal
+use Rattle.vl_flow_order.proofs.ReadsReading.{row_more}
+use Rattle.vl_flow_order.proofs.rows.add_row.Goals as goal
 
 pub loop-driver-preserved : goal.loop-driver-preserved
 loop-driver-preserved c =

@@ -1,5 +1,5 @@
-use Rattle.flow_reads.specs.Reads.{AddsRow}
-use Rattle.flow_reads.proofs.rows.add_row.Given as goal
+use Rattle.vl_flow_order.specs.Reads.{AddsRow}
+use Rattle.vl_flow_order.proofs.rows.add_row.Given as goal
 
 abbrev pub invariant-loop-driver : goal.invariant-loop-driver
 invariant-loop-driver l =

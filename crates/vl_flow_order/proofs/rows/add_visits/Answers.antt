@@ -1,6 +1,6 @@
-use Rattle.flow_reads.proofs.Bucketing.{row_drivers}
-use Rattle.flow_reads.proofs.Reading.{visits_turn}
-use Rattle.flow_reads.proofs.rows.add_visits.Goals as goal
+use Rattle.vl_flow_order.proofs.Bucketing.{row_drivers}
+use Rattle.vl_flow_order.proofs.ReadsReading.{visits_turn}
+use Rattle.vl_flow_order.proofs.rows.add_visits.Goals as goal
 
 pub add_row-requires-clause-drivers : goal.add_row-requires-clause-drivers
 add_row-requires-clause-drivers c =

@@ -1,5 +1,5 @@
-use Rattle.flow_reads.specs.Reads.{AddsVisits}
-use Rattle.flow_reads.proofs.rows.add_visits.Given as goal
+use Rattle.vl_flow_order.specs.Reads.{AddsVisits}
+use Rattle.vl_flow_order.proofs.rows.add_visits.Given as goal
 
 abbrev pub invariant-loop-visit : goal.invariant-loop-visit
 invariant-loop-visit l =

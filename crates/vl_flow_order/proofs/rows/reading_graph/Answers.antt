@@ -1,5 +1,5 @@
-use Rattle.flow_reads.proofs.Reading.{no_readers, one_reader_more, all_readers}
-use Rattle.flow_reads.proofs.rows.reading_graph.Goals as goal
+use Rattle.vl_flow_order.proofs.ReadsReading.{no_readers, one_reader_more, all_readers}
+use Rattle.vl_flow_order.proofs.rows.reading_graph.Goals as goal
 
 pub loop-reader-init : goal.loop-reader-init
 loop-reader-init c =

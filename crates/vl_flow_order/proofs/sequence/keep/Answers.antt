@@ -1,7 +1,7 @@
 use Rattle.std.proofs.Common.{length, refl, ap, ◌∙◌}
 use Rattle.std.proofs.lemmas.Option.{slice_get_read}
-use Rattle.flow_order.proofs.Orders.{is_kept, not_kept}
-use Rattle.flow_order.proofs.sequence.keep.Goals as goal
+use Rattle.vl_flow_order.proofs.Orders.{is_kept, not_kept}
+use Rattle.vl_flow_order.proofs.sequence.keep.Goals as goal
 
 pub returns-then-is_clocked : goal.returns-then-is_clocked
 returns-then-is_clocked c =

@@ -1,13 +1,13 @@
 use Rattle.std.proofs.Common.{◌∙◌, ◌<◌, ap, length, subst, sym}
-use Rattle.graph_walk.specs.Graph.{IsCircle}
-use Rattle.graph_walk.specs.Walked.{ComesOf}
-use Rattle.flow_reads.specs.Reads.{IsReadingGraph}
-use Rattle.flow_order.specs.Numbers.{AreNumbers, settled_of}
-use Rattle.flow_order.proofs.Circles.{circle_numbers, circle_some, found_loop}
-use Rattle.flow_order.proofs.Orders.{order_numbers, sequence}
-use Rattle.flow_order.proofs.Reading.{graph_few, graph_within}
-use Rattle.vl_order.specs.Sequence.{IsSequence}
-use Rattle.flow_order.proofs.sequence.sequence_of.Goals as goal
+use Rattle.fv_graph.specs.Graph.{IsCircle}
+use Rattle.fv_graph.specs.Walked.{ComesOf}
+use Rattle.vl_flow_order.specs.Reads.{IsReadingGraph}
+use Rattle.vl_flow_order.specs.Numbers.{AreNumbers, settled_of}
+use Rattle.vl_flow_order.proofs.Circles.{circle_numbers, circle_some, found_loop}
+use Rattle.vl_flow_order.proofs.Orders.{order_numbers, sequence}
+use Rattle.vl_flow_order.proofs.OrderReading.{graph_few, graph_within}
+use Rattle.vl_flow_spec.specs.Sequence.{IsSequence}
+use Rattle.vl_flow_order.proofs.sequence.sequence_of.Goals as goal
 
 pub walk-requires : goal.walk-requires
 walk-requires c =

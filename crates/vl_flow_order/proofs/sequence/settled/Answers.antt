@@ -1,9 +1,9 @@
 use Rattle.std.proofs.Common.{◌∙◌, ap, arith, get_or}
 use Rattle.std.proofs.lemmas.List.{take_all}
 use Rattle.std.proofs.lemmas.Option.{slice_get-get_or}
-use Rattle.flow_order.specs.Numbers.{settled_of}
-use Rattle.flow_order.proofs.Orders.{settled_more}
-use Rattle.flow_order.proofs.sequence.settled.Goals as goal
+use Rattle.vl_flow_order.specs.Numbers.{settled_of}
+use Rattle.vl_flow_order.proofs.Orders.{settled_more}
+use Rattle.vl_flow_order.proofs.sequence.settled.Goals as goal
 
 pub keep-requires : goal.keep-requires
 keep-requires c =

@@ -1,7 +1,7 @@
 use Rattle.std.proofs.Common.{◌/◌, ◌||◌, ◌∙◌, length, arith, ap}
-use Rattle.flow_sets.specs.Sets.{some_has}
-use Rattle.flow_sets.proofs.Halves.{no_row, some_split, union_one}
-use Rattle.flow_sets.proofs.union.+union_of.Goals as goal
+use Rattle.vl_flow_order.specs.Sets.{some_has}
+use Rattle.vl_flow_order.proofs.Halves.{no_row, some_split, union_one}
+use Rattle.vl_flow_order.proofs.union.+union_of.Goals as goal
 
 pub returns-then-sets-eq0 : goal.returns-then-sets-eq0
 returns-then-sets-eq0 t c x i =

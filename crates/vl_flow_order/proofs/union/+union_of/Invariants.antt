@@ -1,5 +1,5 @@
 use Rattle.std.proofs.Common.{length}
-use Rattle.flow_sets.proofs.union.+union_of.Given as goal
+use Rattle.vl_flow_order.proofs.union.+union_of.Given as goal
 
 abbrev pub decreases-union_of : goal.decreases-union_of
 decreases-union_of l = length l.sets.now

@@ -1,7 +1,7 @@
 use Rattle.std.proofs.Common.{rules, sym, ◌≡◌, Some, subst}
-use Rattle.flow_reads.specs.Visits.{AreVisits}
-use Rattle.flow_reads.proofs.Visiting.{begun, next_set, visited}
-use Rattle.flow_reads.proofs.visit.visits_of.Goals as goal
+use Rattle.vl_flow_order.specs.Visits.{AreVisits}
+use Rattle.vl_flow_order.proofs.Visiting.{begun, next_set, visited}
+use Rattle.vl_flow_order.proofs.visit.visits_of.Goals as goal
 
 pub loop-next-init : goal.loop-next-init
 loop-next-init c =

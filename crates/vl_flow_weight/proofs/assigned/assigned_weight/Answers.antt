@@ -1,7 +1,7 @@
 use Rattle.std.proofs.Common.{◌≡◌, rules}
 use Rattle.std.specs.Prelude.{max}
-use Rattle.vl_weight.proofs.Statements.{assignment_weighs}
-use Rattle.vl_weight.proofs.assigned.assigned_weight.Goals as goal
+use Rattle.vl_flow_weight.proofs.Statements.{assignment_weighs}
+use Rattle.vl_flow_weight.proofs.assigned.assigned_weight.Goals as goal
 
 pub returns : goal.returns
 returns c =

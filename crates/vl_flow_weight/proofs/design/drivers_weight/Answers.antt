@@ -1,8 +1,8 @@
 use Rattle.std.proofs.Common.{◌≡◌, ◌+◌, ◌∷◌, [], drop, subst, arith}
 use Rattle.std.proofs.lemmas.Grind.{common_steps}
-use Rattle.vl_order.specs.Weight.{design_weight, driver_weight}
-use Rattle.vl_weight.proofs.Adding.{Sums, sum_begun, sum_done, sum_more}
-use Rattle.vl_weight.proofs.design.drivers_weight.Goals as goal
+use Rattle.vl_flow_spec.specs.Weight.{design_weight, driver_weight}
+use Rattle.vl_flow_weight.proofs.Adding.{Sums, sum_begun, sum_done, sum_more}
+use Rattle.vl_flow_weight.proofs.design.drivers_weight.Goals as goal
 
 pub loop-driver-init : goal.loop-driver-init
 loop-driver-init c = sum_begun (design_weight c.args.decls.now c.args.drivers.now)

@@ -4,15 +4,15 @@ use Rattle.std.proofs.lemmas.Grind.{common_steps}
 use Rattle.vl_tree.specs.Expr.{binary, cast, concat, conditional, exprs, name, number, paren, repeat, unary, whole}
 use Rattle.vl_tree.specs.ExprView.{selects, shown, with_select}
 use Rattle.vl_size.specs.Size.{are_constant, size}
-use Rattle.vl_order.specs.Weight.{parts_weight, selects_weight}
-use Rattle.vl_gates.specs.declared.weighed.Weighed.{Weighed}
-use Rattle.vl_gates.specs.Weighing.{IsWeightOf}
-use Rattle.vl_weight.specs.Shares.{ArePartsOf}
-use Rattle.vl_weight.proofs.Adding.{Sums, sum_begun, sum_done, sum_more}
-use Rattle.vl_weight.proofs.Expressions.{AccessOf, IndexOf, IndicesOf, and_true}
-use Rattle.vl_weight.proofs.Expressions.{cast_weighs, concat_weighs, index_weighs, name_weighs, number_weighs}
-use Rattle.vl_weight.proofs.Expressions.{paren_weighs, part_added, part_constant, repeat_weighs, select_first}
-use Rattle.vl_weight.proofs.expr.+weigh.Goals as goal
+use Rattle.vl_flow_spec.specs.Weight.{parts_weight, selects_weight}
+use Rattle.vl_flow_weight.specs.declared.weighed.Weighed.{Weighed}
+use Rattle.vl_flow_weight.specs.Weighing.{IsWeightOf}
+use Rattle.vl_flow_weight.specs.Shares.{ArePartsOf}
+use Rattle.vl_flow_weight.proofs.Adding.{Sums, sum_begun, sum_done, sum_more}
+use Rattle.vl_flow_weight.proofs.Expressions.{AccessOf, IndexOf, IndicesOf, and_true}
+use Rattle.vl_flow_weight.proofs.Expressions.{cast_weighs, concat_weighs, index_weighs, name_weighs, number_weighs}
+use Rattle.vl_flow_weight.proofs.Expressions.{paren_weighs, part_added, part_constant, repeat_weighs, select_first}
+use Rattle.vl_flow_weight.proofs.expr.+weigh.Goals as goal
 
 pub weigh-returns-in-Number : goal.weigh-returns-in-Number
 weigh-returns-in-Number t c =

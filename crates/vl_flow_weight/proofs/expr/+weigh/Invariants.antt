@@ -2,9 +2,9 @@ use Rattle.std.proofs.Common.{◌≡◌, ◌&&◌, drop}
 use Rattle.vl_tree.specs.Expr.{exprs}
 use Rattle.vl_tree.specs.ExprView.{selects}
 use Rattle.vl_size.specs.Size.{are_constant}
-use Rattle.vl_order.specs.Weight.{parts_weight, selects_weight}
-use Rattle.vl_weight.proofs.Adding.{Sums}
-use Rattle.vl_weight.proofs.expr.+weigh.Given as goal
+use Rattle.vl_flow_spec.specs.Weight.{parts_weight, selects_weight}
+use Rattle.vl_flow_weight.proofs.Adding.{Sums}
+use Rattle.vl_flow_weight.proofs.expr.+weigh.Given as goal
 
 abbrev pub invariant-weigh_parts-loop-part : goal.invariant-weigh_parts-loop-part
 invariant-weigh_parts-loop-part l = record {

@@ -4,8 +4,8 @@ use Rattle.std.proofs.lemmas.Grind.{common_steps}
 use Rattle.vl_tree.specs.StmtView.{arms}
 use Rattle.vl_mean.specs.Execution.{arms_size}
 use Rattle.vl_mean.specs.FlatLaw.{flat_scopes}
-use Rattle.vl_weight.proofs.Statements.{largest_done, largest_more}
-use Rattle.vl_weight.proofs.labels.arms_bits.Goals as goal
+use Rattle.vl_flow_weight.proofs.Statements.{largest_done, largest_more}
+use Rattle.vl_flow_weight.proofs.labels.arms_bits.Goals as goal
 
 pub loop-arm-init : goal.loop-arm-init
 loop-arm-init c = omega arith

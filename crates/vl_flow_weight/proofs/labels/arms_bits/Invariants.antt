@@ -3,7 +3,7 @@ use Rattle.std.specs.Prelude.{max}
 use Rattle.vl_tree.specs.StmtView.{arms}
 use Rattle.vl_mean.specs.Execution.{arms_size}
 use Rattle.vl_mean.specs.FlatLaw.{flat_scopes}
-use Rattle.vl_weight.proofs.labels.arms_bits.Given as goal
+use Rattle.vl_flow_weight.proofs.labels.arms_bits.Given as goal
 
 abbrev pub invariant-loop-arm : goal.invariant-loop-arm
 invariant-loop-arm l =

@@ -3,8 +3,8 @@ use Rattle.std.specs.Prelude.{max}
 use Rattle.std.proofs.lemmas.Grind.{common_steps}
 use Rattle.vl_mean.specs.Execution.{labels_size}
 use Rattle.vl_mean.specs.FlatLaw.{flat_scopes}
-use Rattle.vl_weight.proofs.Statements.{largest_done, largest_more, label_size}
-use Rattle.vl_weight.proofs.labels.labels_bits.Goals as goal
+use Rattle.vl_flow_weight.proofs.Statements.{largest_done, largest_more, label_size}
+use Rattle.vl_flow_weight.proofs.labels.labels_bits.Goals as goal
 
 pub loop-label-init : goal.loop-label-init
 loop-label-init c = omega arith

@@ -1,9 +1,9 @@
 use Rattle.std.proofs.Common.{◌≡◌, ◌+◌, ◌∷◌, [], drop, subst, arith, rules}
 use Rattle.std.proofs.lemmas.Grind.{common_steps}
-use Rattle.vl_order.specs.Weight.{labels_weight, weight}
-use Rattle.vl_weight.proofs.Adding.{Sums, sum_begun, sum_done, sum_more}
-use Rattle.vl_weight.proofs.Statements.{label_weighs}
-use Rattle.vl_weight.proofs.labels.labels_weight.Goals as goal
+use Rattle.vl_flow_spec.specs.Weight.{labels_weight, weight}
+use Rattle.vl_flow_weight.proofs.Adding.{Sums, sum_begun, sum_done, sum_more}
+use Rattle.vl_flow_weight.proofs.Statements.{label_weighs}
+use Rattle.vl_flow_weight.proofs.labels.labels_weight.Goals as goal
 
 pub loop-label-init : goal.loop-label-init
 loop-label-init c = sum_begun (labels_weight c.args.decls.now c.args.bits c.args.all.now)

@@ -3,12 +3,12 @@ use Rattle.std.proofs.lemmas.Grind.{common_steps}
 use Rattle.std.proofs.lemmas.List.{take_all}
 use Rattle.vl_tree.specs.Lval.{joined, lvals}
 use Rattle.vl_tree.specs.LvalView.{shown}
-use Rattle.bit_sets.specs.Cells.{has}
-use Rattle.vl_order.specs.Weight.{all_target_names, target_names}
-use Rattle.flow_sets.specs.Sets.{some_has}
-use Rattle.vl_weight.specs.Names.{AreNames}
-use Rattle.vl_weight.proofs.Naming.{no_sets_named, same_named, set_behind, targets_behind}
-use Rattle.vl_weight.proofs.names.+names.Goals as goal
+use Rattle.fv_bit_sets.specs.Cells.{has}
+use Rattle.vl_flow_spec.specs.Weight.{all_target_names, target_names}
+use Rattle.vl_flow_order.specs.Sets.{some_has}
+use Rattle.vl_flow_weight.specs.Names.{AreNames}
+use Rattle.vl_flow_weight.proofs.Naming.{no_sets_named, same_named, set_behind, targets_behind}
+use Rattle.vl_flow_weight.proofs.names.+names.Goals as goal
 
 pub loop-part-init : goal.loop-part-init
 loop-part-init t c = no_sets_named c.args.decls.now c.new-sets.result.items c.new-sets.ensures.items

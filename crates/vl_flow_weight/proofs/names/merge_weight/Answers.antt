@@ -1,9 +1,9 @@
 use Rattle.std.proofs.Common.{rules, ◌≡◌, ◌∙◌, ◌+◌, arith, sym, subst, Some, None}
-use Rattle.vl_order.specs.Weight.{widths_of}
-use Rattle.flow_reads.proofs.Visiting.{next_set}
-use Rattle.vl_weight.proofs.Adding.{Sums, sum_done}
-use Rattle.vl_weight.proofs.Merging.{from_next, merge_begun, merge_more, merge_past, place_less}
-use Rattle.vl_weight.proofs.names.merge_weight.Goals as goal
+use Rattle.vl_flow_spec.specs.Weight.{widths_of}
+use Rattle.vl_flow_order.proofs.Visiting.{next_set}
+use Rattle.vl_flow_weight.proofs.Adding.{Sums, sum_done}
+use Rattle.vl_flow_weight.proofs.Merging.{from_next, merge_begun, merge_more, merge_past, place_less}
+use Rattle.vl_flow_weight.proofs.names.merge_weight.Goals as goal
 
 pub loop-next-init : goal.loop-next-init
 loop-next-init c =

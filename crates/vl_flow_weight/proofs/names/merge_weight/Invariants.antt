@@ -1,12 +1,12 @@
 use Rattle.std.proofs.Common.{◌≡◌, List, ℕ, Some}
 use Rattle.std.specs.Prelude.{true}
-use Rattle.vl_order.specs.Weight.{widths_of}
-use Rattle.bit_sets.specs.Cells.{has}
-use Rattle.flow_reads.proofs.Visiting.{ahead}
-use Rattle.vl_weight.specs.Names.{AreNames}
-use Rattle.vl_weight.proofs.Adding.{Sums}
-use Rattle.vl_weight.proofs.Merging.{from_next}
-use Rattle.vl_weight.proofs.names.merge_weight.Given as goal
+use Rattle.vl_flow_spec.specs.Weight.{widths_of}
+use Rattle.fv_bit_sets.specs.Cells.{has}
+use Rattle.vl_flow_order.proofs.Visiting.{ahead}
+use Rattle.vl_flow_weight.specs.Names.{AreNames}
+use Rattle.vl_flow_weight.proofs.Adding.{Sums}
+use Rattle.vl_flow_weight.proofs.Merging.{from_next}
+use Rattle.vl_flow_weight.proofs.names.merge_weight.Given as goal
 
 abbrev pub invariant-loop-next : goal.invariant-loop-next
 invariant-loop-next l = record {

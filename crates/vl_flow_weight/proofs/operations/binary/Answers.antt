@@ -1,5 +1,5 @@
-use Rattle.vl_gates.proofs.Operands.{binary_constant, binary_is}
-use Rattle.vl_gates.proofs.operations.binary.Goals as goal
+use Rattle.vl_flow_weight.proofs.Operands.{binary_constant, binary_is}
+use Rattle.vl_flow_weight.proofs.operations.binary.Goals as goal
 
 pub returns-then-is_constant : goal.returns-then-is_constant
 returns-then-is_constant c ds p x y h k =

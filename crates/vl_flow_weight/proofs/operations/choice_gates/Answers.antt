@@ -1,5 +1,5 @@
-use Rattle.vl_gates.proofs.Operands.{choice_is}
-use Rattle.vl_gates.proofs.operations.choice_gates.Goals as goal
+use Rattle.vl_flow_weight.proofs.Operands.{choice_is}
+use Rattle.vl_flow_weight.proofs.operations.choice_gates.Goals as goal
 
 pub returns : goal.returns
 returns c ds p q x y g h k varies n =

@@ -1,7 +1,7 @@
 use Rattle.std.proofs.Common.{ap, ◌∙◌}
 use Rattle.std.specs.Prelude.{◌&&◌}
-use Rattle.vl_gates.proofs.Operands.{conditional_constant, conditional_is}
-use Rattle.vl_gates.proofs.operations.conditional.Goals as goal
+use Rattle.vl_flow_weight.proofs.Operands.{conditional_constant, conditional_is}
+use Rattle.vl_flow_weight.proofs.operations.conditional.Goals as goal
 
 pub returns-then-is_constant : goal.returns-then-is_constant
 returns-then-is_constant c ds p q x y g h k =

@@ -1,6 +1,6 @@
 use Rattle.std.proofs.Common.{sym, ◌∙◌}
-use Rattle.vl_gates.proofs.Operands.{larger_is, left_is}
-use Rattle.vl_gates.proofs.operations.operated.Goals as goal
+use Rattle.vl_flow_weight.proofs.Operands.{larger_is, left_is}
+use Rattle.vl_flow_weight.proofs.operations.operated.Goals as goal
 
 pub returns-in-Larger : goal.returns-in-Larger
 returns-in-Larger c ds p x y h k varies n =

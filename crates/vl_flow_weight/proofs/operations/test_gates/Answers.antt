@@ -1,7 +1,7 @@
 use Rattle.std.proofs.Common.{◌≡◌, sym, ◌∙◌, rules}
 use Rattle.std.specs.Prelude.{max}
-use Rattle.vl_gates.proofs.Operands.{compared_is, logical_is}
-use Rattle.vl_gates.proofs.operations.test_gates.Goals as goal
+use Rattle.vl_flow_weight.proofs.Operands.{compared_is, logical_is}
+use Rattle.vl_flow_weight.proofs.operations.test_gates.Goals as goal
 
 pub returns-then-is_logical : goal.returns-then-is_logical
 returns-then-is_logical c ds p x y h k one varies n =

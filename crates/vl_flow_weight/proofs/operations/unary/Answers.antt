@@ -1,5 +1,5 @@
-use Rattle.vl_gates.proofs.Operands.{unary_constant, unary_is}
-use Rattle.vl_gates.proofs.operations.unary.Goals as goal
+use Rattle.vl_flow_weight.proofs.Operands.{unary_constant, unary_is}
+use Rattle.vl_flow_weight.proofs.operations.unary.Goals as goal
 
 pub returns-then-operand : goal.returns-then-operand
 returns-then-operand c ds p x h =

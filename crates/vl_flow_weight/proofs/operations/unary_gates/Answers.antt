@@ -1,6 +1,6 @@
 use Rattle.std.proofs.Common.{sym}
-use Rattle.vl_gates.proofs.Operands.{unary_kept, unary_reduced}
-use Rattle.vl_gates.proofs.operations.unary_gates.Goals as goal
+use Rattle.vl_flow_weight.proofs.Operands.{unary_kept, unary_reduced}
+use Rattle.vl_flow_weight.proofs.operations.unary_gates.Goals as goal
 
 pub returns-then-keeps_size : goal.returns-then-keeps_size
 returns-then-keeps_size c ds p x h varies n =

@@ -3,8 +3,8 @@ use Rattle.fv_bits.specs.Bits.{as_int}
 use Rattle.vl_size.specs.Sign.{sign}
 use Rattle.vl_size.specs.Size.{index_of, no_names, or_none, size, value}
 use Rattle.vl_mean.specs.Env.{cells_of}
-use Rattle.flow_cells.proofs.Constants.{one_operand}
-use Rattle.vl_weight.proofs.size.constant.Goals as goal
+use Rattle.vl_flow_cells.proofs.Constants.{one_operand}
+use Rattle.vl_flow_weight.proofs.size.constant.Goals as goal
 
 pub returns : goal.returns
 returns c h ds =

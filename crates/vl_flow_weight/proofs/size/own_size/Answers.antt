@@ -1,6 +1,6 @@
 use Rattle.std.proofs.Common.{ap, sym, ◌∙◌}
 use Rattle.vl_size.specs.Size.{or_none, size}
-use Rattle.vl_weight.proofs.size.own_size.Goals as goal
+use Rattle.vl_flow_weight.proofs.size.own_size.Goals as goal
 
 pub returns-in-None-clause-value : goal.returns-in-None-clause-value
 returns-in-None-clause-value c =

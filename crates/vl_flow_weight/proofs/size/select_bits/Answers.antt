@@ -2,7 +2,7 @@ use Rattle.std.proofs.Common.{◌≡◌, ap, sym, ◌∙◌, rules}
 use Rattle.vl_tree.specs.Expr.{indexed, part, whole}
 use Rattle.vl_tree.specs.ExprView.{with_select}
 use Rattle.vl_size.specs.Size.{vector_size}
-use Rattle.vl_weight.proofs.size.select_bits.Goals as goal
+use Rattle.vl_flow_weight.proofs.size.select_bits.Goals as goal
 
 pub returns-in-Part : goal.returns-in-Part
 returns-in-Part c =

@@ -1,7 +1,7 @@
 use Rattle.vl_tree.specs.ExprView.{selects}
 use Rattle.vl_size.specs.Size.{vector_size, word_size}
 use Rattle.vl_size.proofs.Names.{of_memory, of_vector, three_selects, two_selects}
-use Rattle.vl_weight.proofs.size.selected_bits.Goals as goal
+use Rattle.vl_flow_weight.proofs.size.selected_bits.Goals as goal
 
 pub returns-in-len2-up : goal.returns-in-len2-up
 returns-in-len2-up c =

@@ -8,17 +8,17 @@ use Rattle.vl_tree.specs.Stmt.{begin, if_only, if_else, case, assign, assume, em
 use Rattle.vl_tree.specs.StmtView.{arms, shown, with_arm}
 use Rattle.vl_mean.specs.Execution.{arms_size}
 use Rattle.vl_mean.specs.FlatLaw.{flat_scopes}
-use Rattle.vl_order.specs.Weight.{all_assigned_names, arms_assigned_names, arms_weight, assigned_names}
-use Rattle.vl_order.specs.Weight.{labels_weight, own_size, stmt_weight, stmts_weight, weight}
+use Rattle.vl_flow_spec.specs.Weight.{all_assigned_names, arms_assigned_names, arms_weight, assigned_names}
+use Rattle.vl_flow_spec.specs.Weight.{labels_weight, own_size, stmt_weight, stmts_weight, weight}
 use Rattle.vl_mean.specs.ConstantFaults.{capped}
-use Rattle.flow_sets.specs.Sets.{some_has}
-use Rattle.vl_gates.proofs.Operands.{own_gates}
-use Rattle.vl_weight.specs.Branches.{IsBranchOf}
-use Rattle.vl_weight.specs.Names.{AreNames}
-use Rattle.vl_weight.proofs.Adding.{Sums, sum_begun, sum_done, sum_more}
-use Rattle.vl_weight.proofs.Naming.{arms_behind, no_sets_named, same_named, set_behind, stmts_behind}
-use Rattle.vl_weight.proofs.Statements.{arm_first, case_bits, case_branch, else_branch, labels_branch}
-use Rattle.vl_weight.proofs.stmt.+branch.Goals as goal
+use Rattle.vl_flow_order.specs.Sets.{some_has}
+use Rattle.vl_flow_weight.proofs.Operands.{own_gates}
+use Rattle.vl_flow_weight.specs.Branches.{IsBranchOf}
+use Rattle.vl_flow_weight.specs.Names.{AreNames}
+use Rattle.vl_flow_weight.proofs.Adding.{Sums, sum_begun, sum_done, sum_more}
+use Rattle.vl_flow_weight.proofs.Naming.{arms_behind, no_sets_named, same_named, set_behind, stmts_behind}
+use Rattle.vl_flow_weight.proofs.Statements.{arm_first, case_bits, case_branch, else_branch, labels_branch}
+use Rattle.vl_flow_weight.proofs.stmt.+branch.Goals as goal
 
 pub stmt_branch-returns-in_ok-sequence_branch-in-Begin : goal.stmt_branch-returns-in_ok-sequence_branch-in-Begin
 stmt_branch-returns-in_ok-sequence_branch-in-Begin t c =

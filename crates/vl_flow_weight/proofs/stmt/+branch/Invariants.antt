@@ -1,11 +1,11 @@
 use Rattle.std.proofs.Common.{drop, take}
 use Rattle.vl_tree.specs.Stmt.{stmts}
 use Rattle.vl_tree.specs.StmtView.{arms}
-use Rattle.vl_order.specs.Weight.{all_assigned_names, arms_assigned_names, arms_weight, stmts_weight}
-use Rattle.flow_sets.specs.Sets.{some_has}
-use Rattle.vl_weight.specs.Names.{AreNames}
-use Rattle.vl_weight.proofs.Adding.{Sums}
-use Rattle.vl_weight.proofs.stmt.+branch.Given as goal
+use Rattle.vl_flow_spec.specs.Weight.{all_assigned_names, arms_assigned_names, arms_weight, stmts_weight}
+use Rattle.vl_flow_order.specs.Sets.{some_has}
+use Rattle.vl_flow_weight.specs.Names.{AreNames}
+use Rattle.vl_flow_weight.proofs.Adding.{Sums}
+use Rattle.vl_flow_weight.proofs.stmt.+branch.Given as goal
 
 abbrev pub invariant-sequence_branch-loop-part : goal.invariant-sequence_branch-loop-part
 invariant-sequence_branch-loop-part l = record {

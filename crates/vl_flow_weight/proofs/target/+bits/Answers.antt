@@ -7,8 +7,8 @@ use Rattle.vl_tree.specs.Lval.{named}
 use Rattle.vl_tree.specs.ExprView.{selects}
 use Rattle.vl_tree.specs.Expr.{name}
 use Rattle.vl_size.specs.Size.{or_none, size}
-use Rattle.vl_weight.proofs.Adding.{Sums, sum_begun, sum_more, within}
-use Rattle.vl_weight.proofs.target.+bits.Goals as goal
+use Rattle.vl_flow_weight.proofs.Adding.{Sums, sum_begun, sum_more, within}
+use Rattle.vl_flow_weight.proofs.target.+bits.Goals as goal
 
 pub loop-part-init : goal.loop-part-init
 loop-part-init t c =

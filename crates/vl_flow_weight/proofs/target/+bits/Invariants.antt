@@ -1,8 +1,8 @@
 use Rattle.std.proofs.Common.{drop}
 use Rattle.vl_tree.specs.Lval.{lvals}
 use Rattle.vl_mean.specs.FlatLaw.{all_target_sizes}
-use Rattle.vl_weight.proofs.Adding.{Sums}
-use Rattle.vl_weight.proofs.target.+bits.Given as goal
+use Rattle.vl_flow_weight.proofs.Adding.{Sums}
+use Rattle.vl_flow_weight.proofs.target.+bits.Given as goal
 
 abbrev pub invariant-loop-part : goal.invariant-loop-part
 invariant-loop-part l =

@@ -1,9 +1,9 @@
 use Rattle.std.proofs.Common.{◌≡◌, ◌+◌, ◌∷◌, drop, subst, arith}
 use Rattle.std.proofs.lemmas.Grind.{common_steps}
 use Rattle.vl_tree.specs.Lval.{lvals}
-use Rattle.vl_order.specs.Weight.{target_weight, targets_weight}
-use Rattle.vl_weight.proofs.Adding.{Sums, sum_begun, sum_more}
-use Rattle.vl_weight.proofs.target.+writes.Goals as goal
+use Rattle.vl_flow_spec.specs.Weight.{target_weight, targets_weight}
+use Rattle.vl_flow_weight.proofs.Adding.{Sums, sum_begun, sum_more}
+use Rattle.vl_flow_weight.proofs.target.+writes.Goals as goal
 
 pub loop-part-init : goal.loop-part-init
 loop-part-init t c =

@@ -1,7 +1,7 @@
 use Rattle.std.specs.Prelude.{◌≡◌, ◌-◌, suc}
 use Rattle.std.proofs.Common.{arith}
-use Rattle.vl_declare.proofs.Spots.{left_more}
-use Rattle.vl_declare.proofs.cells.push_bits.Goals as goal
+use Rattle.vl_lower.proofs.Spots.{left_more}
+use Rattle.vl_lower.proofs.cells.push_bits.Goals as goal
 
 pub loop-left-preserved : goal.loop-left-preserved
 loop-left-preserved c =

@@ -1,5 +1,5 @@
-use Rattle.vl_declare.proofs.Spots.{AreLeft}
-use Rattle.vl_declare.proofs.cells.push_bits.Given as goal
+use Rattle.vl_lower.proofs.Spots.{AreLeft}
+use Rattle.vl_lower.proofs.cells.push_bits.Given as goal
 
 abbrev pub invariant-loop-left : goal.invariant-loop-left
 invariant-loop-left l = AreLeft l.fn.spots l.spots l.keep l.width l.left l.name

@@ -1,5 +1,5 @@
 use Rattle.std.specs.Prelude.{◌≡◌, ◌++◌, replicate}
-use Rattle.vl_declare.proofs.cells.push_times.Given as goal
+use Rattle.vl_lower.proofs.cells.push_times.Given as goal
 
 abbrev pub invariant-loop : goal.invariant-loop
 invariant-loop l = l.numbers ≡ l.fn.numbers ++ replicate l.counter l.number

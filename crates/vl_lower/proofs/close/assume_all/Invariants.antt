@@ -1,6 +1,6 @@
 use Rattle.std.specs.Prelude.{◌≡◌, ◌++◌, take}
 use Rattle.wn_net.specs.Changes.{Keeps}
-use Rattle.vl_phased.proofs.close.assume_all.Given as goal
+use Rattle.vl_lower.proofs.close.assume_all.Given as goal
 
 abbrev pub invariant-loop-at : goal.invariant-loop-at
 invariant-loop-at l = record {

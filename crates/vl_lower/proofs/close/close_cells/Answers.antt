@@ -3,10 +3,10 @@ use Rattle.std.proofs.Common.{ap, sym, ◌∙◌, subst}
 use Rattle.wn_net.specs.declared.parts.Mem.{Mem}
 use Rattle.wn_net.specs.Net.{Netlist}
 use Rattle.wn_net.proofs.Laws.{keeps_on}
-use Rattle.vl_named.specs.Sources.{AreEach}
-use Rattle.vl_stores.specs.Stores.{MayStore}
-use Rattle.vl_phased.proofs.Between.{may_each}
-use Rattle.vl_phased.proofs.close.close_cells.Goals as goal
+use Rattle.vl_lower_spec.specs.Sources.{AreEach}
+use Rattle.vl_lower_state.specs.Stores.{MayStore}
+use Rattle.vl_lower.proofs.Between.{may_each}
+use Rattle.vl_lower.proofs.close.close_cells.Goals as goal
 
 pub store_words-requires : goal.store_words-requires
 store_words-requires c =

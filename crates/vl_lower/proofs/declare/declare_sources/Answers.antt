@@ -4,11 +4,11 @@ use Rattle.std.proofs.Common.{ap, arith, subst, sym, ◌∙◌}
 use Rattle.vl_size.specs.Table.{IsShaped}
 use Rattle.vl_mean.specs.FlatLaw.{IsKept}
 use Rattle.vl_mean.specs.FlatParts.{flat_parts}
-use Rattle.flow_cells.proofs.Lists.{all_at}
-use Rattle.vl_declare.specs.Design.{is_stored, keeping}
-use Rattle.vl_declare.proofs.Names.{IsAt, all_names, at_first, cells_few, cells_within, few_entries, memory_is}
-use Rattle.vl_declare.proofs.Names.{name_more}
-use Rattle.vl_declare.proofs.declare.declare_sources.Goals as goal
+use Rattle.vl_flow_cells.proofs.Lists.{all_at}
+use Rattle.vl_lower.specs.Design.{is_stored, keeping}
+use Rattle.vl_lower.proofs.Names.{IsAt, all_names, at_first, cells_few, cells_within, few_entries, memory_is}
+use Rattle.vl_lower.proofs.Names.{name_more}
+use Rattle.vl_lower.proofs.declare.declare_sources.Goals as goal
 
 pub loop-at-init : goal.loop-at-init
 loop-at-init c =

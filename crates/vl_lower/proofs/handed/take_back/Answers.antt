@@ -1,7 +1,7 @@
 use Rattle.std.specs.Prelude.{◌-◌, refl}
 use Rattle.std.proofs.Common.{arith, sym, ◌∙◌}
-use Rattle.vl_drive.proofs.Taking.{back_one, not_past, set_past}
-use Rattle.vl_drive.proofs.handed.take_back.Goals as goal
+use Rattle.vl_lower.proofs.Taking.{back_one, not_past, set_past}
+use Rattle.vl_lower.proofs.handed.take_back.Goals as goal
 
 pub loop-left-preserved-then-cell-len : goal.loop-left-preserved-then-cell-len
 loop-left-preserved-then-cell-len c =

@@ -1,6 +1,6 @@
 use Rattle.std.specs.Prelude.{◌≡◌, ◌≤◌, length, take}
-use Rattle.vl_frames.specs.Frames.{taken_back}
-use Rattle.vl_drive.proofs.handed.take_back.Given as goal
+use Rattle.vl_lower_assign.specs.Frames.{taken_back}
+use Rattle.vl_lower.proofs.handed.take_back.Given as goal
 
 -- the first changes are left to be taken back
 abbrev pub invariant-loop-left : goal.invariant-loop-left

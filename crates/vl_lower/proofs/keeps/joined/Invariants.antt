@@ -1,5 +1,5 @@
-use Rattle.vl_keeping.proofs.Joining.{AreJoinedBelow}
-use Rattle.vl_keeping.proofs.keeps.joined.Given as goal
+use Rattle.vl_lower.proofs.KeepingJoining.{AreJoinedBelow}
+use Rattle.vl_lower.proofs.keeps.joined.Given as goal
 
 abbrev pub invariant-loop-cell : goal.invariant-loop-cell
 invariant-loop-cell l = AreJoinedBelow l.driven l.known l.values l.keeps l.cell

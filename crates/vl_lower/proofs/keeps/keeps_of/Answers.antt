@@ -1,11 +1,11 @@
 use Rattle.std.proofs.Common.{◌≡◌, ◌∙◌, List, [], ℕ, ap, length, rules, sym, subst}
 use Rattle.vl_mean.specs.declared.driver.Driver.{Driver}
 use Rattle.vl_mean.specs.declared.driver.Start.{Start}
-use Rattle.vl_driven.specs.Masks.{AreDriven, AreStarted}
-use Rattle.vl_initial.specs.First.{AreFirst}
-use Rattle.vl_keeping.specs.Keeping.{AreJoined}
-use Rattle.vl_keeping.proofs.Keeping.{all_kept}
-use Rattle.vl_keeping.proofs.keeps.keeps_of.Goals as goal
+use Rattle.vl_flow_effects.specs.Masks.{AreDriven, AreStarted}
+use Rattle.vl_lower_stmt.specs.First.{AreFirst}
+use Rattle.vl_lower.specs.Keeping.{AreJoined}
+use Rattle.vl_lower.proofs.KeepingLaws.{all_kept}
+use Rattle.vl_lower.proofs.keeps.keeps_of.Goals as goal
 
 pub joined-requires-clause-known : goal.joined-requires-clause-known
 joined-requires-clause-known c =

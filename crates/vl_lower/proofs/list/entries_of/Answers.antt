@@ -1,10 +1,10 @@
 use Rattle.std.specs.Option.{option_copied}
 use Rattle.std.proofs.Common.{ap, sym, ◌∙◌, arith}
 use Rattle.vl_mean.specs.FlatLaw.{IsKept}
-use Rattle.flow_cells.proofs.Lists.{all_at}
-use Rattle.vl_listed.specs.Listed.{entries_by}
-use Rattle.vl_listed.proofs.Rest.{cells_left, name_more}
-use Rattle.vl_listed.proofs.list.entries_of.Goals as goal
+use Rattle.vl_flow_cells.proofs.Lists.{all_at}
+use Rattle.vl_lower.specs.Listed.{entries_by}
+use Rattle.vl_lower.proofs.Rest.{cells_left, name_more}
+use Rattle.vl_lower.proofs.list.entries_of.Goals as goal
 
 pub put_name-requires-clause-there : goal.put_name-requires-clause-there
 put_name-requires-clause-there c =

@@ -1,7 +1,7 @@
 use Rattle.std.specs.Prelude.{◌≡◌, ◌+◌, ◌++◌, drop, length}
-use Rattle.flow_cells.specs.Numbered.{all_cells}
-use Rattle.vl_listed.specs.Listed.{entries_by}
-use Rattle.vl_listed.proofs.list.entries_of.Given as goal
+use Rattle.vl_flow_cells.specs.Numbered.{all_cells}
+use Rattle.vl_lower.specs.Listed.{entries_by}
+use Rattle.vl_lower.proofs.list.entries_of.Given as goal
 
 abbrev pub invariant-loop-index : goal.invariant-loop-index
 invariant-loop-index l = record {

@@ -1,5 +1,5 @@
-use Rattle.vl_listed.proofs.Those.{those}
-use Rattle.vl_listed.proofs.entries_are_those.Goals as goal
+use Rattle.vl_lower.proofs.Those.{those}
+use Rattle.vl_lower.proofs.listed_law.entries_are_those.Goals as goal
 
 pub returns : goal.returns
 returns c = those

@@ -2,12 +2,12 @@ use Rattle.std.specs.Prelude.{◌≡◌, refl, ◌+◌, ◌++◌, List, [], ◌�
 use Rattle.std.proofs.Common.{rules, ap, sym, ◌∙◌, arith}
 use Rattle.vl_size.specs.Table.{span, word_name}
 use Rattle.vl_mean.specs.Cells.{cells, cells_of}
-use Rattle.flow_cells.specs.Places.{index_at}
-use Rattle.flow_cells.proofs.Words.{words_length}
+use Rattle.vl_flow_cells.specs.Places.{index_at}
+use Rattle.vl_flow_cells.proofs.Words.{words_length}
 use Rattle.wn_net.specs.declared.names.NetName.{NetName}
-use Rattle.vl_entries.specs.Entries.{node_entries}
-use Rattle.vl_listed.proofs.Rest.{no_words_left, word_more, words_after, words_whole}
-use Rattle.vl_listed.proofs.name.put_words.Goals as goal
+use Rattle.vl_lower_cell_laws.specs.Entries.{node_entries}
+use Rattle.vl_lower.proofs.Rest.{no_words_left, word_more, words_after, words_whole}
+use Rattle.vl_lower.proofs.name.put_words.Goals as goal
 
 pub loop-word-init : goal.loop-word-init
 loop-word-init c =

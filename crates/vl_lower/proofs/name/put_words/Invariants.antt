@@ -1,8 +1,8 @@
 use Rattle.std.specs.Prelude.{◌≡◌, ◌+◌, ◌++◌}
 use Rattle.vl_mean.specs.Cells.{cells}
-use Rattle.vl_entries.specs.Entries.{node_entries}
-use Rattle.vl_listed.proofs.Rest.{words_after}
-use Rattle.vl_listed.proofs.name.put_words.Given as goal
+use Rattle.vl_lower_cell_laws.specs.Entries.{node_entries}
+use Rattle.vl_lower.proofs.Rest.{words_after}
+use Rattle.vl_lower.proofs.name.put_words.Given as goal
 
 abbrev pub invariant-loop-word : goal.invariant-loop-word
 invariant-loop-word l =

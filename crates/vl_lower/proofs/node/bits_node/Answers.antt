@@ -1,7 +1,7 @@
 use Rattle.std.specs.Prelude.{◌≡◌, ◌-◌, suc}
 use Rattle.std.proofs.Common.{arith}
-use Rattle.vl_registers.proofs.Joining.{begun, more, regs_few}
-use Rattle.vl_registers.proofs.node.bits_node.Goals as goal
+use Rattle.vl_lower.proofs.RegistersJoining.{begun, more, regs_few}
+use Rattle.vl_lower.proofs.node.bits_node.Goals as goal
 
 pub loop-left-init : goal.loop-left-init
 loop-left-init c =

@@ -1,5 +1,5 @@
-use Rattle.vl_registers.proofs.Joining.{IsJoined}
-use Rattle.vl_registers.proofs.node.bits_node.Given as goal
+use Rattle.vl_lower.proofs.RegistersJoining.{IsJoined}
+use Rattle.vl_lower.proofs.node.bits_node.Given as goal
 
 abbrev pub invariant-loop-left : goal.invariant-loop-left
 invariant-loop-left l = IsJoined l.fn.net l.net l.keep l.width l.left l.node

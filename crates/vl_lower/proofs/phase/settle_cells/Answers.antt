@@ -1,8 +1,8 @@
-use Rattle.vl_frames.specs.Frames.{cells_of}
-use Rattle.vl_lowered.specs.Settled.{settled}
-use Rattle.vl_settled.specs.Left.{left, seen_in}
-use Rattle.vl_phased.proofs.Between.{turns_over}
-use Rattle.vl_phased.proofs.phase.settle_cells.Goals as goal
+use Rattle.vl_lower_assign.specs.Frames.{cells_of}
+use Rattle.vl_lower_spec.specs.Settled.{settled}
+use Rattle.vl_lower_cell_laws.specs.Left.{left, seen_in}
+use Rattle.vl_lower.proofs.Between.{turns_over}
+use Rattle.vl_lower.proofs.phase.settle_cells.Goals as goal
 
 pub returns : goal.returns
 returns c =

@@ -1,10 +1,10 @@
 use Rattle.std.proofs.Common.{◌∙◌}
-use Rattle.vl_frames.specs.Frames.{cells_of}
-use Rattle.vl_ticked.specs.Ticked.{ticked}
-use Rattle.vl_settled.specs.Left.{seen_at_edges}
-use Rattle.vl_phased.specs.Closing.{over}
-use Rattle.vl_phased.proofs.Between.{turns_over}
-use Rattle.vl_phased.proofs.phase.tick_cells.Goals as goal
+use Rattle.vl_lower_assign.specs.Frames.{cells_of}
+use Rattle.vl_lower_cell_laws.specs.Ticked.{ticked}
+use Rattle.vl_lower_cell_laws.specs.Left.{seen_at_edges}
+use Rattle.vl_lower.specs.Closing.{over}
+use Rattle.vl_lower.proofs.Between.{turns_over}
+use Rattle.vl_lower.proofs.phase.tick_cells.Goals as goal
 
 pub returns : goal.returns
 returns c =

@@ -2,11 +2,11 @@ use Rattle.std.specs.Prelude.{[], true}
 use Rattle.std.proofs.Common.{sym, subst}
 use Rattle.vl_mean.specs.declared.driver.DriverKind.{DriverKind}
 use Rattle.vl_mean.specs.FlatLaw.{IsDriver, is_net}
-use Rattle.vl_frames.specs.Frames.{cells_of}
-use Rattle.vl_cycle.specs.Cycles.{Settles}
-use Rattle.vl_steps.proofs.Contexts.{sized_target}
-use Rattle.vl_drive.proofs.Driving.{assign_settles, block_settles}
-use Rattle.vl_drive.proofs.settle.settle.Goals as goal
+use Rattle.vl_lower_assign.specs.Frames.{cells_of}
+use Rattle.vl_lower_cell_laws.specs.Cycles.{Settles}
+use Rattle.vl_lower_stmt.proofs.Contexts.{sized_target}
+use Rattle.vl_lower.proofs.Driving.{assign_settles, block_settles}
+use Rattle.vl_lower.proofs.settle.settle.Goals as goal
 
 pub assign-requires-clause-target : goal.assign-requires-clause-target
 assign-requires-clause-target c =

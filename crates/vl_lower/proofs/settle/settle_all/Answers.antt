@@ -4,16 +4,16 @@ use Rattle.std.proofs.lemmas.List.{take_all}
 use Rattle.std.proofs.lemmas.Option.{same_Some, slice_get_read, slice_get_within}
 use Rattle.vl_mean.specs.FlatLaw.{IsDriver}
 use Rattle.vl_mean.specs.declared.driver.Driver.{Driver}
-use Rattle.vl_path.specs.Drivers.{is_clocked}
-use Rattle.vl_path.specs.Settle.{driven}
-use Rattle.vl_order.proofs.Elements.{all_at}
-use Rattle.vl_frames.specs.declared.frame.Frame.{Frame}
-use Rattle.vl_frames.specs.Frames.{cells_of}
-use Rattle.vl_settled.specs.Left.{left_by, seen_by}
-use Rattle.vl_cycle.specs.Cycles.{SettlesAll}
-use Rattle.vl_cycle.proofs.Turning.{grow}
-use Rattle.vl_drive.proofs.Driving.{get_index, handed, settled_some, take_get}
-use Rattle.vl_drive.proofs.settle.settle_all.Goals as goal
+use Rattle.vl_flow_spec.specs.Drivers.{is_clocked}
+use Rattle.vl_flow_spec.specs.Settle.{driven}
+use Rattle.vl_flow_spec.proofs.Elements.{all_at}
+use Rattle.vl_lower_assign.specs.declared.frame.Frame.{Frame}
+use Rattle.vl_lower_assign.specs.Frames.{cells_of}
+use Rattle.vl_lower_cell_laws.specs.Left.{left_by, seen_by}
+use Rattle.vl_lower_cell_laws.specs.Cycles.{SettlesAll}
+use Rattle.vl_lower_cell_laws.proofs.Turning.{grow}
+use Rattle.vl_lower.proofs.Driving.{get_index, handed, settled_some, take_get}
+use Rattle.vl_lower.proofs.settle.settle_all.Goals as goal
 
 pub bounds-drivers-number : goal.bounds-drivers-number
 bounds-drivers-number c =

@@ -1,9 +1,9 @@
 use Rattle.std.specs.Prelude.{◌≡◌, ◌+◌, ◌<◌, Bool, false, ◌&&◌, not, if◌then◌else◌, is_none, length, drop}
 use Rattle.std.proofs.Common.{ap, arith, sym, ◌∙◌}
 use Rattle.vl_mean.specs.Cells.{cells}
-use Rattle.vl_declare.specs.Design.{are_whole, keeping}
-use Rattle.vl_declare.proofs.Spots.{none_both, whole_more}
-use Rattle.vl_declare.proofs.stored.is_stored.Goals as goal
+use Rattle.vl_lower.specs.Design.{are_whole, keeping}
+use Rattle.vl_lower.proofs.Spots.{none_both, whole_more}
+use Rattle.vl_lower.proofs.stored.is_stored.Goals as goal
 
 pub returns-then-not-is_whole : goal.returns-then-not-is_whole
 returns-then-not-is_whole c =

@@ -1,7 +1,7 @@
 use Rattle.std.specs.Prelude.{◌≡◌, ◌+◌, drop}
 use Rattle.vl_mean.specs.Cells.{cells}
-use Rattle.vl_declare.specs.Design.{are_whole, keeping}
-use Rattle.vl_declare.proofs.stored.is_stored.Given as goal
+use Rattle.vl_lower.specs.Design.{are_whole, keeping}
+use Rattle.vl_lower.proofs.stored.is_stored.Given as goal
 
 abbrev pub invariant-loop-word : goal.invariant-loop-word
 invariant-loop-word l =

@@ -1,10 +1,10 @@
 use Rattle.std.specs.Prelude.{refl}
 use Rattle.std.proofs.Common.{sym, subst}
 use Rattle.vl_mean.specs.declared.driver.DriverKind.{DriverKind}
-use Rattle.vl_frames.specs.Frames.{cells_of}
-use Rattle.vl_cycle.specs.Cycles.{Ticks}
-use Rattle.vl_drive.proofs.Driving.{block_ticks, none_ticks, unclocked}
-use Rattle.vl_drive.proofs.tick.tick.Goals as goal
+use Rattle.vl_lower_assign.specs.Frames.{cells_of}
+use Rattle.vl_lower_cell_laws.specs.Cycles.{Ticks}
+use Rattle.vl_lower.proofs.Driving.{block_ticks, none_ticks, unclocked}
+use Rattle.vl_lower.proofs.tick.tick.Goals as goal
 
 pub returns-in_ok-execute-clause-ticks : goal.returns-in_ok-execute-clause-ticks
 returns-in_ok-execute-clause-ticks c =

@@ -3,14 +3,14 @@ use Rattle.std.proofs.Common.{ap, sym, ◌∙◌, subst}
 use Rattle.std.proofs.lemmas.List.{take_all}
 use Rattle.std.proofs.lemmas.Option.{slice_get_read}
 use Rattle.vl_mean.specs.declared.driver.Driver.{Driver}
-use Rattle.vl_frames.specs.declared.frame.Frame.{Frame}
-use Rattle.vl_frames.specs.Frames.{cells_of}
-use Rattle.vl_ticked.specs.Ticked.{stored_by}
-use Rattle.vl_settled.specs.Left.{seen_at_edge}
-use Rattle.vl_cycle.specs.Cycles.{TicksAll}
-use Rattle.vl_cycle.proofs.Turning.{grow}
-use Rattle.vl_drive.proofs.Driving.{handed, take_get}
-use Rattle.vl_drive.proofs.tick.tick_all.Goals as goal
+use Rattle.vl_lower_assign.specs.declared.frame.Frame.{Frame}
+use Rattle.vl_lower_assign.specs.Frames.{cells_of}
+use Rattle.vl_lower_cell_laws.specs.Ticked.{stored_by}
+use Rattle.vl_lower_cell_laws.specs.Left.{seen_at_edge}
+use Rattle.vl_lower_cell_laws.specs.Cycles.{TicksAll}
+use Rattle.vl_lower_cell_laws.proofs.Turning.{grow}
+use Rattle.vl_lower.proofs.Driving.{handed, take_get}
+use Rattle.vl_lower.proofs.tick.tick_all.Goals as goal
 
 pub loop-at-preserved : goal.loop-at-preserved
 loop-at-preserved c =

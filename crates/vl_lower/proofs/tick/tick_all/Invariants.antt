@@ -1,7 +1,7 @@
 use Rattle.std.specs.Prelude.{◌≡◌, [], take}
-use Rattle.vl_frames.specs.Frames.{cells_of}
-use Rattle.vl_cycle.specs.Cycles.{TicksAll}
-use Rattle.vl_drive.proofs.tick.tick_all.Given as goal
+use Rattle.vl_lower_assign.specs.Frames.{cells_of}
+use Rattle.vl_lower_cell_laws.specs.Cycles.{TicksAll}
+use Rattle.vl_lower.proofs.tick.tick_all.Given as goal
 
 abbrev pub invariant-loop-at : goal.invariant-loop-at
 invariant-loop-at l = record {

@@ -5,12 +5,12 @@ use Rattle.vl_mean.specs.FlatParts.{flat_parts}
 use Rattle.wn_net.specs.declared.names.Spot.{Spot}
 use Rattle.wn_net.specs.Net.{AreNodes}
 use Rattle.wn_net.proofs.Laws.{keeps_on}
-use Rattle.vl_named.specs.Sources.{AreEach}
-use Rattle.vl_cycle.specs.Cycles.{SettlesAll, TicksAll}
-use Rattle.vl_close.specs.Nexts.{AreBitsOfCells, ShowBits}
-use Rattle.vl_stores.specs.Stores.{MayStore}
-use Rattle.vl_phased.specs.Closing.{Closes, over}
-use Rattle.vl_listed.specs.Listed.{entries_by}
+use Rattle.vl_lower_spec.specs.Sources.{AreEach}
+use Rattle.vl_lower_cell_laws.specs.Cycles.{SettlesAll, TicksAll}
+use Rattle.vl_lower_state.specs.Nexts.{AreBitsOfCells, ShowBits}
+use Rattle.vl_lower_state.specs.Stores.{MayStore}
+use Rattle.vl_lower.specs.Closing.{Closes, over}
+use Rattle.vl_lower.specs.Listed.{entries_by}
 use Rattle.vl_lower.proofs.Before.{bits, few, nexts, nodes_kept, stored, widths_many}
 use Rattle.vl_lower.proofs.Joined.{both}
 use Rattle.vl_lower.proofs.whole.lower_sources.Goals as goal

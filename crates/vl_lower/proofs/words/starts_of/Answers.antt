@@ -2,9 +2,9 @@ use Rattle.std.specs.Prelude.{◌<◌, [], ◌∷◌, ◌++◌, length}
 use Rattle.std.proofs.Common.{ap, arith, ◌∙◌}
 use Rattle.vl_mean.specs.Cells.{cells}
 use Rattle.wn_net.specs.declared.parts.Init.{Init}
-use Rattle.vl_declare.specs.Design.{keeping}
-use Rattle.vl_declare.proofs.Spots.{starts_more}
-use Rattle.vl_declare.proofs.words.starts_of.Goals as goal
+use Rattle.vl_lower.specs.Design.{keeping}
+use Rattle.vl_lower.proofs.Spots.{starts_more}
+use Rattle.vl_lower.proofs.words.starts_of.Goals as goal
 
 pub loop-word-preserved : goal.loop-word-preserved
 loop-word-preserved c =

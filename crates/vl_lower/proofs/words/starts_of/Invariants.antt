@@ -1,8 +1,8 @@
 use Rattle.std.specs.Prelude.{◌≡◌, ◌+◌, ◌++◌, drop}
 use Rattle.vl_mean.specs.Cells.{cells}
-use Rattle.vl_sources.specs.Listing.{word_starts}
-use Rattle.vl_declare.specs.Design.{keeping}
-use Rattle.vl_declare.proofs.words.starts_of.Given as goal
+use Rattle.vl_lower_cell_laws.specs.Listing.{word_starts}
+use Rattle.vl_lower.specs.Design.{keeping}
+use Rattle.vl_lower.proofs.words.starts_of.Given as goal
 
 abbrev pub invariant-loop-word : goal.invariant-loop-word
 invariant-loop-word l =

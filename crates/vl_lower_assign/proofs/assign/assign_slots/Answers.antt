@@ -4,14 +4,14 @@ use Rattle.std.proofs.Common.{ap, sym, ◌∙◌, arith, subst}
 use Rattle.std.proofs.lemmas.List.{take_all, take_more, drop_more}
 use Rattle.std.proofs.lemmas.Grind.{common_steps}
 use Rattle.wn_net.specs.Net.{value_at}
-use Rattle.vl_puts.specs.declared.spread.BitPlace.TheVariants as place
-use Rattle.vl_slots.specs.declared.slot.Holder.TheVariants as holder
-use Rattle.vl_slots.specs.declared.slot.Slot.{Slot}
-use Rattle.vl_frames.specs.Frames.{Assigns, cells_of, slots_width}
-use Rattle.vl_frames.proofs.Behind.{frame_on}
-use Rattle.vl_frames.proofs.Several.{assigned_none}
-use Rattle.vl_frames.proofs.Parting.{width_left, all_taken, slot_next, width_next, assigned_part, assigned_whole}
-use Rattle.vl_frames.proofs.assign.assign_slots.Goals as goal
+use Rattle.vl_lower_assign.specs.declared.spread.BitPlace.TheVariants as place
+use Rattle.vl_lower_assign.specs.declared.slot.Holder.TheVariants as holder
+use Rattle.vl_lower_assign.specs.declared.slot.Slot.{Slot}
+use Rattle.vl_lower_assign.specs.Frames.{Assigns, cells_of, slots_width}
+use Rattle.vl_lower_assign.proofs.Behind.{frame_on}
+use Rattle.vl_lower_assign.proofs.Several.{assigned_none}
+use Rattle.vl_lower_assign.proofs.Parting.{width_left, all_taken, slot_next, width_next, assigned_part, assigned_whole}
+use Rattle.vl_lower_assign.proofs.assign.assign_slots.Goals as goal
 
 -- what a list has past its end
 abbrev blank : Slot

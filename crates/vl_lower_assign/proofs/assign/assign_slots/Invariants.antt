@@ -1,7 +1,7 @@
 use Rattle.std.specs.Prelude.{◌≡◌, ◌/◌, ◌^◌, take, drop}
 use Rattle.wn_net.specs.Net.{value_at}
-use Rattle.vl_frames.specs.Frames.{Assigns, cells_of, slots_width}
-use Rattle.vl_frames.proofs.assign.assign_slots.Given as goal
+use Rattle.vl_lower_assign.specs.Frames.{Assigns, cells_of, slots_width}
+use Rattle.vl_lower_assign.proofs.assign.assign_slots.Given as goal
 
 -- the first slots have the highest bits
 abbrev pub invariant-loop-slot : goal.invariant-loop-slot

@@ -1,10 +1,10 @@
 use Rattle.std.specs.Prelude.{◌≡◌, ◌+◌, ◌-◌, ◌++◌, ◌∷◌, [], suc, slice_index}
 use Rattle.std.proofs.Common.{ap, ◌∙◌, arith, rules, append_assoc}
 use Rattle.std.proofs.lemmas.Grind.{common_steps}
-use Rattle.vl_frames.specs.declared.change.Change.{Change}
-use Rattle.vl_frames.specs.Logs.{noted}
-use Rattle.vl_frames.proofs.Logging.{noted_more}
-use Rattle.vl_frames.proofs.assign.note.Goals as goal
+use Rattle.vl_lower_assign.specs.declared.change.Change.{Change}
+use Rattle.vl_lower_assign.specs.Logs.{noted}
+use Rattle.vl_lower_assign.proofs.Logging.{noted_more}
+use Rattle.vl_lower_assign.proofs.assign.note.Goals as goal
 
 pub loop-cell-preserved : goal.loop-cell-preserved
 loop-cell-preserved c =

@@ -1,6 +1,6 @@
 use Rattle.std.proofs.Common.{◌≡◌, ◌-◌, ◌++◌}
-use Rattle.vl_frames.specs.Logs.{noted}
-use Rattle.vl_frames.proofs.assign.note.Given as goal
+use Rattle.vl_lower_assign.specs.Logs.{noted}
+use Rattle.vl_lower_assign.proofs.assign.note.Given as goal
 
 abbrev pub invariant-loop-cell : goal.invariant-loop-cell
 invariant-loop-cell l = record {

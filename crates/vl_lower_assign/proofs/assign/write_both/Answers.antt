@@ -1,12 +1,12 @@
 use Rattle.std.specs.Prelude.{◌≡◌, ℕ, ◌<◌, List, length, slice_index, slice_set}
 use Rattle.std.proofs.Common.{ap, sym, ◌∙◌, arith, subst}
 use Rattle.std.proofs.lemmas.List.{get_or_read}
-use Rattle.vl_slots.specs.Slots.{IsSlotIn, Writes}
-use Rattle.vl_frames.specs.Frames.{Cells, cells_of}
-use Rattle.vl_frames.specs.Logs.{IsWithin}
-use Rattle.vl_frames.proofs.Both.{now_within, cell_held, next_held, next_slot, assigned_shared, assigned_apart}
-use Rattle.vl_frames.proofs.Standing.{slot_in}
-use Rattle.vl_frames.proofs.assign.write_both.Goals as goal
+use Rattle.vl_lower_assign.specs.Slots.{IsSlotIn, Writes}
+use Rattle.vl_lower_assign.specs.Frames.{Cells, cells_of}
+use Rattle.vl_lower_assign.specs.Logs.{IsWithin}
+use Rattle.vl_lower_assign.proofs.Both.{now_within, cell_held, next_held, next_slot, assigned_shared, assigned_apart}
+use Rattle.vl_lower_assign.proofs.Standing.{slot_in}
+use Rattle.vl_lower_assign.proofs.assign.write_both.Goals as goal
 
 pub note_slot-requires : goal.note_slot-requires
 note_slot-requires c =

@@ -1,8 +1,8 @@
 use Rattle.std.proofs.Common.{refl}
-use Rattle.vl_frames.specs.Frames.{cells_of}
-use Rattle.vl_frames.proofs.Assigning.{assigned_next}
-use Rattle.vl_frames.proofs.Standing.{are_cells, slot_in}
-use Rattle.vl_frames.proofs.assign.write_next.Goals as goal
+use Rattle.vl_lower_assign.specs.Frames.{cells_of}
+use Rattle.vl_lower_assign.proofs.Assigning.{assigned_next}
+use Rattle.vl_lower_assign.proofs.Standing.{are_cells, slot_in}
+use Rattle.vl_lower_assign.proofs.assign.write_next.Goals as goal
 
 pub write_cells-requires-clause-cells : goal.write_cells-requires-clause-cells
 write_cells-requires-clause-cells c =

@@ -2,8 +2,8 @@ use Rattle.std.specs.Prelude.{◌∷◌, []}
 use Rattle.std.proofs.Common.{sym, subst}
 use Rattle.vl_tree.specs.declared.stmt.AssignKind.{AssignKind}
 use Rattle.wn_net.specs.Net.{value_at}
-use Rattle.vl_frames.specs.Frames.{Assigns, cells_of}
-use Rattle.vl_frames.proofs.assign.write_one.Goals as goal
+use Rattle.vl_lower_assign.specs.Frames.{Assigns, cells_of}
+use Rattle.vl_lower_assign.proofs.assign.write_one.Goals as goal
 
 pub returns-in_ok-write_both-in-Blocking : goal.returns-in_ok-write_both-in-Blocking
 returns-in_ok-write_both-in-Blocking c =

@@ -1,5 +1,5 @@
-use Rattle.vl_puts.proofs.Overlaps.{low_overlap}
-use Rattle.vl_puts.proofs.bits.below_zero.Goals as goal
+use Rattle.vl_lower_assign.proofs.Overlaps.{low_overlap}
+use Rattle.vl_lower_assign.proofs.bits.below_zero.Goals as goal
 
 pub returns : goal.returns
 returns c = λ p at.

@@ -1,5 +1,5 @@
-use Rattle.vl_puts.proofs.Overlaps.{high_overlap}
-use Rattle.vl_puts.proofs.bits.from_zero.Goals as goal
+use Rattle.vl_lower_assign.proofs.Overlaps.{high_overlap}
+use Rattle.vl_lower_assign.proofs.bits.from_zero.Goals as goal
 
 pub returns : goal.returns
 returns c =

@@ -1,8 +1,8 @@
 use Rattle.std.specs.Prelude.{ℤ}
 use Rattle.std.proofs.Common.{arith, subst}
 use Rattle.std.proofs.lemmas.Int.{ints}
-use Rattle.vl_puts.specs.Overlap.{IsOverlap}
-use Rattle.vl_puts.proofs.bits.overlap_of.Goals as goal
+use Rattle.vl_lower_assign.specs.Overlap.{IsOverlap}
+use Rattle.vl_lower_assign.proofs.bits.overlap_of.Goals as goal
 
 pub returns-then-place-lt0-clause-some : goal.returns-then-place-lt0-clause-some
 returns-then-place-lt0-clause-some c = c.below_zero.ensures c.args.place (omega (arith, ints))

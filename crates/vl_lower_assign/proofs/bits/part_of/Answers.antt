@@ -3,8 +3,8 @@ use Rattle.std.proofs.Common.{sym, ◌∙◌, ap, arith}
 use Rattle.fv_bits.specs.Bits.{part}
 use Rattle.wn_net.specs.Net.{width_at, value_at}
 use Rattle.wn_net.proofs.Moved.{value_below}
-use Rattle.vl_puts.proofs.Spliced.{whole_part}
-use Rattle.vl_puts.proofs.bits.part_of.Goals as goal
+use Rattle.vl_lower_assign.proofs.Spliced.{whole_part}
+use Rattle.vl_lower_assign.proofs.bits.part_of.Goals as goal
 
 pub returns-then-count-width-clause-shows : goal.returns-then-count-width-clause-shows
 returns-then-count-width-clause-shows c =

@@ -7,9 +7,9 @@ use Rattle.fv_bits.specs.Bits.{joined, low, part}
 use Rattle.wn_net.specs.Net.{width_at, value_at}
 use Rattle.wn_net.proofs.Laws.{value_on, given_on, adds_on}
 use Rattle.wn_net.proofs.Moved.{value_below}
-use Rattle.vl_puts.specs.Overlap.{IsOverlap}
-use Rattle.vl_puts.proofs.Spliced.{spliced, untouched}
-use Rattle.vl_puts.proofs.bits.put.Goals as goal
+use Rattle.vl_lower_assign.specs.Overlap.{IsOverlap}
+use Rattle.vl_lower_assign.proofs.Spliced.{spliced, untouched}
+use Rattle.vl_lower_assign.proofs.bits.put.Goals as goal
 
 pub returns-in_default-clause-shows : goal.returns-in_default-clause-shows
 returns-in_default-clause-shows c =

@@ -4,8 +4,8 @@ use Rattle.fv_bits.specs.Bits.{joined, low}
 use Rattle.wn_net.specs.Net.{width_at, value_at}
 use Rattle.wn_net.proofs.Laws.{built_node, value_on}
 use Rattle.wn_net.proofs.Moved.{value_below}
-use Rattle.vl_puts.proofs.Spliced.{nothing_above, highest}
-use Rattle.vl_puts.proofs.bits.with_high.Goals as goal
+use Rattle.vl_lower_assign.proofs.Spliced.{nothing_above, highest}
+use Rattle.vl_lower_assign.proofs.bits.with_high.Goals as goal
 
 pub returns-then-count-width-clause-shows : goal.returns-then-count-width-clause-shows
 returns-then-count-width-clause-shows c =

@@ -3,8 +3,8 @@ use Rattle.std.proofs.Common.{sym, ◌∙◌, arith}
 use Rattle.fv_bits.specs.Bits.{joined, low}
 use Rattle.wn_net.specs.Net.{value_at}
 use Rattle.wn_net.proofs.Laws.{built_node, value_on}
-use Rattle.vl_puts.proofs.Spliced.{alone, lowest}
-use Rattle.vl_puts.proofs.bits.with_low.Goals as goal
+use Rattle.vl_lower_assign.proofs.Spliced.{alone, lowest}
+use Rattle.vl_lower_assign.proofs.bits.with_low.Goals as goal
 
 pub returns-then-count-eq0-clause-shows : goal.returns-then-count-eq0-clause-shows
 returns-then-count-eq0-clause-shows c =

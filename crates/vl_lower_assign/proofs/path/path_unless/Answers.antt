@@ -4,8 +4,8 @@ use Rattle.wn_net.specs.Net.{value_at}
 use Rattle.wn_net.proofs.Laws.{built_node, given_on, value_on}
 use Rattle.wn_net.proofs.Moved.{value_within}
 use Rattle.fv_bits.specs.Bits.{complement}
-use Rattle.vl_slots.proofs.Tests.{path_on, path_there, turned_one}
-use Rattle.vl_slots.proofs.path.path_unless.Goals as goal
+use Rattle.vl_lower_assign.proofs.Tests.{path_on, path_there, turned_one}
+use Rattle.vl_lower_assign.proofs.path.path_unless.Goals as goal
 
 pub path_where-requires-clause-path : goal.path_where-requires-clause-path
 path_where-requires-clause-path c =

@@ -3,8 +3,8 @@ use Rattle.std.proofs.Common.{ap, sym, ◌∙◌}
 use Rattle.wn_net.specs.Net.{value_at}
 use Rattle.wn_net.proofs.Laws.{built_node}
 use Rattle.wn_net.proofs.Moved.{value_within}
-use Rattle.vl_slots.proofs.Tests.{both_one, path_node, path_none, path_some}
-use Rattle.vl_slots.proofs.path.path_where.Goals as goal
+use Rattle.vl_lower_assign.proofs.Tests.{both_one, path_node, path_none, path_some}
+use Rattle.vl_lower_assign.proofs.path.path_where.Goals as goal
 
 pub returns-in-None-clause-value : goal.returns-in-None-clause-value
 returns-in-None-clause-value c = λ g given.

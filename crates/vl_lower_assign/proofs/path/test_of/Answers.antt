@@ -1,7 +1,7 @@
 use Rattle.std.specs.Prelude.{◌==◌}
 use Rattle.std.proofs.Common.{ap, sym, ◌∙◌}
-use Rattle.vl_slots.proofs.Tests.{path_node, path_none, path_some}
-use Rattle.vl_slots.proofs.path.test_of.Goals as goal
+use Rattle.vl_lower_assign.proofs.Tests.{path_node, path_none, path_some}
+use Rattle.vl_lower_assign.proofs.path.test_of.Goals as goal
 
 pub returns-in_ok-one-in-None-clause-value : goal.returns-in_ok-one-in-None-clause-value
 returns-in_ok-one-in-None-clause-value c = λ g given.

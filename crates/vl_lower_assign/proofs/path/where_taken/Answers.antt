@@ -2,8 +2,8 @@ use Rattle.std.specs.Prelude.{if◌then◌else◌}
 use Rattle.std.proofs.Common.{refl, ap, sym, ◌∙◌}
 use Rattle.wn_net.specs.Net.{value_at}
 use Rattle.wn_net.proofs.Laws.{built_node}
-use Rattle.vl_slots.proofs.Tests.{path_node, path_none, path_some}
-use Rattle.vl_slots.proofs.path.where_taken.Goals as goal
+use Rattle.vl_lower_assign.proofs.Tests.{path_node, path_none, path_some}
+use Rattle.vl_lower_assign.proofs.path.where_taken.Goals as goal
 
 pub returns-in-None-clause-shows : goal.returns-in-None-clause-shows
 returns-in-None-clause-shows c =

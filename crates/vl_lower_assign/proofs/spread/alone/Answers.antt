@@ -2,11 +2,11 @@ use Rattle.std.specs.Prelude.{◌≡◌, ℤ, pos, ◌-ℤ◌}
 use Rattle.std.proofs.Common.{◌∙◌, arith, subst}
 use Rattle.std.proofs.lemmas.Int.{ints}
 use Rattle.wn_net.specs.Net.{width_at, value_at}
-use Rattle.vl_points.specs.Points.{IsAddress}
-use Rattle.vl_puts.specs.declared.spread.BitPlace.{BitPlace}
-use Rattle.vl_puts.specs.Places.{IsAt}
-use Rattle.vl_puts.proofs.Masking.{moved_is}
-use Rattle.vl_puts.proofs.spread.alone.Goals as goal
+use Rattle.vl_lower_nodes.specs.Points.{IsAddress}
+use Rattle.vl_lower_assign.specs.declared.spread.BitPlace.{BitPlace}
+use Rattle.vl_lower_assign.specs.Places.{IsAt}
+use Rattle.vl_lower_assign.proofs.Masking.{moved_is}
+use Rattle.vl_lower_assign.proofs.spread.alone.Goals as goal
 
 pub returns-in_ok-bits-in-Varying-clause-value : goal.returns-in_ok-bits-in-Varying-clause-value
 returns-in_ok-bits-in-Varying-clause-value c = λ g p given here.

@@ -4,9 +4,9 @@ use Rattle.fv_bits.specs.Bits.{complement, ones}
 use Rattle.wn_net.specs.Net.{width_at, value_at}
 use Rattle.wn_net.proofs.Laws.{value_on, given_on}
 use Rattle.wn_net.proofs.Moved.{value_below}
-use Rattle.vl_puts.specs.Puts.{put_bits}
-use Rattle.vl_puts.proofs.Masking.{masked_is, unmasked}
-use Rattle.vl_puts.proofs.spread.put_at.Goals as goal
+use Rattle.vl_lower_assign.specs.Puts.{put_bits}
+use Rattle.vl_lower_assign.proofs.Masking.{masked_is, unmasked}
+use Rattle.vl_lower_assign.proofs.spread.put_at.Goals as goal
 
 pub returns-in_ok-whole-in-Varying-clause-value : goal.returns-in_ok-whole-in-Varying-clause-value
 returns-in_ok-whole-in-Varying-clause-value c = λ g p given here.

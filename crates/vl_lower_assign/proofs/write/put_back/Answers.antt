@@ -1,7 +1,7 @@
 use Rattle.std.specs.Prelude.{◌+◌, ◌<◌, length}
 use Rattle.std.proofs.Common.{◌∙◌, arith}
-use Rattle.vl_slots.proofs.Written.{put_inside, set_there}
-use Rattle.vl_slots.proofs.write.put_back.Goals as goal
+use Rattle.vl_lower_assign.proofs.Written.{put_inside, set_there}
+use Rattle.vl_lower_assign.proofs.write.put_back.Goals as goal
 
 pub loop-k-preserved : goal.loop-k-preserved
 loop-k-preserved c =

@@ -3,11 +3,11 @@ use Rattle.std.proofs.Common.{ap, sym, ◌∙◌, arith, refl, rules}
 use Rattle.std.proofs.lemmas.Grind.{common_steps}
 use Rattle.wn_net.specs.Net.{value_at}
 use Rattle.wn_net.proofs.Laws.{adds_none}
-use Rattle.vl_slots.specs.Slots.{is_taken}
-use Rattle.vl_slots.proofs.Places.{holds_cell, holds_words}
-use Rattle.vl_slots.proofs.Ranges.{index_among, range_count}
-use Rattle.vl_slots.proofs.Written.{after_put, cell_writes, none_writes, words_write}
-use Rattle.vl_slots.proofs.write.write_slot.Goals as goal
+use Rattle.vl_lower_assign.specs.Slots.{is_taken}
+use Rattle.vl_lower_assign.proofs.Places.{holds_cell, holds_words}
+use Rattle.vl_lower_assign.proofs.Ranges.{index_among, range_count}
+use Rattle.vl_lower_assign.proofs.Written.{after_put, cell_writes, none_writes, words_write}
+use Rattle.vl_lower_assign.proofs.write.write_slot.Goals as goal
 
 pub bounds-cells-at : goal.bounds-cells-at
 bounds-cells-at c =

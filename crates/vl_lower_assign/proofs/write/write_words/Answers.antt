@@ -6,10 +6,10 @@ use Rattle.wn_net.specs.Net.{Netlist, IsNodeOf, AreNodesOf, width_at, value_at}
 use Rattle.wn_net.proofs.Laws.{adds_on, given_on, node_on, nodes_on, there_on, value_on}
 use Rattle.wn_net.proofs.Moved.{value_within}
 use Rattle.wn_mem.specs.Words.{numbers_of, words_width}
-use Rattle.vl_puts.specs.Puts.{put_bits}
-use Rattle.vl_slots.proofs.Places.{at_on, index_map, part_written, place_on, width_is, word_written}
-use Rattle.vl_slots.proofs.Ranges.{node_among}
-use Rattle.vl_slots.proofs.write.write_words.Goals as goal
+use Rattle.vl_lower_assign.specs.Puts.{put_bits}
+use Rattle.vl_lower_assign.proofs.Places.{at_on, index_map, part_written, place_on, width_is, word_written}
+use Rattle.vl_lower_assign.proofs.Ranges.{node_among}
+use Rattle.vl_lower_assign.proofs.write.write_words.Goals as goal
 
 pub spread_bits-requires-clause-place : goal.spread_bits-requires-clause-place
 spread_bits-requires-clause-place c =

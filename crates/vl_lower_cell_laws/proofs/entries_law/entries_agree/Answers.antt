@@ -1,5 +1,5 @@
-use Rattle.vl_entries.proofs.Agree.{agree}
-use Rattle.vl_entries.proofs.entries_agree.Goals as goal
+use Rattle.vl_lower_cell_laws.proofs.Agree.{agree}
+use Rattle.vl_lower_cell_laws.proofs.entries_law.entries_agree.Goals as goal
 
 pub returns : goal.returns
 returns c = agree

@@ -1,5 +1,5 @@
-use Rattle.vl_sources.proofs.Whole.{are_named}
-use Rattle.vl_sources.proofs.sources_are_named.Goals as goal
+use Rattle.vl_lower_cell_laws.proofs.SourcesWhole.{are_named}
+use Rattle.vl_lower_cell_laws.proofs.sources_law.sources_are_named.Goals as goal
 
 pub returns : goal.returns
 returns c = are_named

@@ -1,7 +1,7 @@
 use Rattle.std.proofs.Common.{◌∙◌}
 use Rattle.fv_bits.specs.Bits.{as_int}
 use Rattle.vl_size.specs.Size.{value}
-use Rattle.vl_terms.proofs.constants.constant.Goals as goal
+use Rattle.vl_lower_expr.proofs.constants.constant.Goals as goal
 
 pub returns : goal.returns
 returns c = λ v.

@@ -1,5 +1,5 @@
 use Rattle.std.proofs.Common.{◌∙◌}
-use Rattle.vl_terms.proofs.constants.constant_node.Goals as goal
+use Rattle.vl_lower_expr.proofs.constants.constant_node.Goals as goal
 
 pub returns-clause-shows : goal.returns-clause-shows
 returns-clause-shows c = λ ds v.

@@ -1,7 +1,7 @@
 use Rattle.std.proofs.Common.{◌∙◌}
 use Rattle.vl_mean.specs.Env.{cells_of}
-use Rattle.flow_cells.proofs.Constants.{one_value}
-use Rattle.vl_terms.proofs.constants.constant_value.Goals as goal
+use Rattle.vl_flow_cells.proofs.Constants.{one_value}
+use Rattle.vl_lower_expr.proofs.constants.constant_value.Goals as goal
 
 pub returns-clause-value : goal.returns-clause-value
 returns-clause-value c = λ ds v.

@@ -5,8 +5,8 @@ use Rattle.vl_size.specs.Size as spec
 use Rattle.wn_net.specs.Net.{width_at, value_at}
 use Rattle.wn_net.specs.Changes.{Shows}
 use Rattle.wn_net.proofs.Laws.{adds_on, adds_none, built_node, value_on}
-use Rattle.vl_terms.proofs.Finding.{fits_more, copy_more}
-use Rattle.vl_terms.proofs.copies.copies.Goals as goal
+use Rattle.vl_lower_expr.proofs.Finding.{fits_more, copy_more}
+use Rattle.vl_lower_expr.proofs.copies.copies.Goals as goal
 
 pub loop-made-init : goal.loop-made-init
 loop-made-init c =

@@ -2,7 +2,7 @@ use Rattle.std.specs.Prelude.{◌*◌, ◌-◌, ◌≤◌}
 use Rattle.vl_size.specs.Size as spec
 use Rattle.wn_net.specs.Net.{width_at, value_at}
 use Rattle.wn_net.specs.Changes.{AddsNodes, Shows}
-use Rattle.vl_terms.proofs.copies.copies.Given as goal
+use Rattle.vl_lower_expr.proofs.copies.copies.Given as goal
 
 abbrev pub invariant-loop-made : goal.invariant-loop-made
 invariant-loop-made l = record {

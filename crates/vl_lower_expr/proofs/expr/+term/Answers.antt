@@ -27,18 +27,20 @@ use Rattle.vl_size.specs.Table.{declared_as}
 use Rattle.vl_size.proofs.Rest.{part_depth}
 use Rattle.wn_net.specs.Net.{width_at, value_at}
 use Rattle.wn_net.proofs.Laws.{adds_on, node_on}
-use Rattle.vl_terms.specs.Bound.{bound}
-use Rattle.vl_terms.proofs.Compose.{shown, lowered, lowered_as, lowered_where, lowered_at, lowered_there, lowered_one}
-use Rattle.vl_terms.proofs.Compose.{lowered_two, lowered_three, lowered_then, bound_after, bit_is_one, bits_and}
-use Rattle.vl_terms.proofs.Compose.{bits_or}
-use Rattle.vl_terms.proofs.Compose.{cell_node, vector_place, vector_has, memory_there}
-use Rattle.vl_terms.proofs.Sized.{some_first, some_second, some_third, is_or_none, bits_some, with_bits}
-use Rattle.vl_terms.proofs.Sized.{divided_constant}
-use Rattle.vl_terms.proofs.Sized.{start_sized, is_width, repeated_bits, is_repeated, no_select, only_select}
-use Rattle.vl_terms.proofs.Sized.{vector_sized}
-use Rattle.vl_terms.proofs.Sized.{memory_sized, vector_is, memory_is}
-use Rattle.vl_terms.proofs.Parts.{split_at, take_next, at_next, is_next, first_is, more_bits, more_number, times_is}
-use Rattle.vl_terms.proofs.expr.+term.Goals as goal
+use Rattle.vl_lower_expr.specs.Bound.{bound}
+use Rattle.vl_lower_expr.proofs.Compose.{shown, lowered, lowered_as, lowered_where, lowered_at, lowered_there}
+use Rattle.vl_lower_expr.proofs.Compose.{lowered_one}
+use Rattle.vl_lower_expr.proofs.Compose.{lowered_two, lowered_three, lowered_then, bound_after, bit_is_one, bits_and}
+use Rattle.vl_lower_expr.proofs.Compose.{bits_or}
+use Rattle.vl_lower_expr.proofs.Compose.{cell_node, vector_place, vector_has, memory_there}
+use Rattle.vl_lower_expr.proofs.Sized.{some_first, some_second, some_third, is_or_none, bits_some, with_bits}
+use Rattle.vl_lower_expr.proofs.Sized.{divided_constant}
+use Rattle.vl_lower_expr.proofs.Sized.{start_sized, is_width, repeated_bits, is_repeated, no_select, only_select}
+use Rattle.vl_lower_expr.proofs.Sized.{vector_sized}
+use Rattle.vl_lower_expr.proofs.Sized.{memory_sized, vector_is, memory_is}
+use Rattle.vl_lower_expr.proofs.Parts.{split_at, take_next, at_next, is_next, first_is, more_bits, more_number}
+use Rattle.vl_lower_expr.proofs.Parts.{times_is}
+use Rattle.vl_lower_expr.proofs.expr.+term.Goals as goal
 
 here : Pos
 here = record { file = 0; line = 0; col = 0 }

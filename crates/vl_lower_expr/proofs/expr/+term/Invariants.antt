@@ -3,9 +3,9 @@ use Rattle.vl_tree.specs.Expr.{depth, exprs, exprs_depth, selects_depth, whole}
 use Rattle.vl_tree.specs.ExprView.{selects, with_select}
 use Rattle.vl_size.specs.Size as spec
 use Rattle.vl_size.specs.Size.{or_none}
-use Rattle.vl_terms.specs.Bound.{bound}
-use Rattle.vl_terms.specs.Lowers.{Lowers}
-use Rattle.vl_terms.proofs.expr.+term.Given as goal
+use Rattle.vl_lower_expr.specs.Bound.{bound}
+use Rattle.vl_lower_expr.specs.Lowers.{Lowers}
+use Rattle.vl_lower_expr.proofs.expr.+term.Given as goal
 
 abbrev pub decreases-term : goal.decreases-term
 decreases-term l = 16 * depth l.expr.now

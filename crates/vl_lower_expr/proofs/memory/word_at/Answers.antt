@@ -12,14 +12,14 @@ use Rattle.wn_net.specs.Value.{word_at, words_of}
 use Rattle.wn_net.specs.Net.{AreNodesOf, width_at, value_at}
 use Rattle.wn_net.proofs.Laws.{adds_on, nodes_on, given_on, value_on, built_node}
 use Rattle.wn_mem.specs.Words.{numbers_of}
-use Rattle.vl_points.specs.Points.{IsAddress, distance, is_base}
-use Rattle.vl_terms.proofs.Compose.{cell_node}
-use Rattle.vl_terms.proofs.Finding.{bound_base}
-use Rattle.vl_terms.proofs.Words.{is_memory, in_cells, cells_have, is_stored, memory_has, no_vector, word_is}
-use Rattle.vl_terms.proofs.Words.{words_within, number_in, number_out, memory_words, memory_width, index_past}
-use Rattle.vl_terms.proofs.Words.{words_width_is, are_words}
-use Rattle.vl_terms.specs.Bound.{HasCell}
-use Rattle.vl_terms.proofs.memory.word_at.Goals as goal
+use Rattle.vl_lower_nodes.specs.Points.{IsAddress, distance, is_base}
+use Rattle.vl_lower_expr.proofs.Compose.{cell_node}
+use Rattle.vl_lower_expr.proofs.Finding.{bound_base}
+use Rattle.vl_lower_expr.proofs.Words.{is_memory, in_cells, cells_have, is_stored, memory_has, no_vector, word_is}
+use Rattle.vl_lower_expr.proofs.Words.{words_within, number_in, number_out, memory_words, memory_width, index_past}
+use Rattle.vl_lower_expr.proofs.Words.{words_width_is, are_words}
+use Rattle.vl_lower_expr.specs.Bound.{HasCell}
+use Rattle.vl_lower_expr.proofs.memory.word_at.Goals as goal
 
 pub address-requires-clause-base : goal.address-requires-clause-base
 address-requires-clause-base c =

@@ -2,9 +2,9 @@ use Rattle.std.specs.Prelude.{is_some}
 use Rattle.std.specs.Option.{option_copied}
 use Rattle.std.proofs.Common.{ap, sym, ◌∙◌, true≢false}
 use Rattle.std.proofs.lemmas.Option.{slice_get-get_or}
-use Rattle.flow_cells.proofs.Taking.{place_none, place_some}
-use Rattle.vl_terms.proofs.Finding.{other_there}
-use Rattle.vl_terms.proofs.names.found.Goals as goal
+use Rattle.vl_flow_cells.proofs.Taking.{place_none, place_some}
+use Rattle.vl_lower_expr.proofs.Finding.{other_there}
+use Rattle.vl_lower_expr.proofs.names.found.Goals as goal
 
 pub unreachable-requires : goal.unreachable-requires
 unreachable-requires c =

@@ -1,7 +1,7 @@
 use Rattle.std.specs.Prelude.{is_some}
 use Rattle.std.proofs.Common.{ap, sym, ◌∙◌, true≢false}
 use Rattle.vl_size.specs.Size.{no_names, times}
-use Rattle.vl_terms.proofs.range.count_of.Goals as goal
+use Rattle.vl_lower_expr.proofs.range.count_of.Goals as goal
 
 pub unreachable-requires : goal.unreachable-requires
 unreachable-requires c =

@@ -7,7 +7,7 @@ use Rattle.fv_bits.specs.Bits.{extended}
 use Rattle.vl_size.specs.Size.{bits_from}
 use Rattle.wn_net.specs.Net.{value_at}
 use Rattle.wn_net.proofs.Laws.{given_on}
-use Rattle.vl_terms.proofs.range.part_select.Goals as goal
+use Rattle.vl_lower_expr.proofs.range.part_select.Goals as goal
 
 pub returns-clause-shows : goal.returns-clause-shows
 returns-clause-shows c = λ p v.

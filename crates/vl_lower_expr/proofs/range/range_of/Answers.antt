@@ -8,9 +8,9 @@ use Rattle.fv_base.specs.declared.pos.Pos.{Pos}
 use Rattle.fv_bits.specs.Bits.{as_int}
 use Rattle.vl_size.specs.Size.{no_names, is_bound, part_size, offset_of}
 use Rattle.vl_size.specs.Table.{span}
-use Rattle.vl_terms.proofs.Sized.{is_part, is_range}
-use Rattle.vl_terms.proofs.Finding.{bound_whole}
-use Rattle.vl_terms.proofs.range.range_of.Goals as goal
+use Rattle.vl_lower_expr.proofs.Sized.{is_part, is_range}
+use Rattle.vl_lower_expr.proofs.Finding.{bound_whole}
+use Rattle.vl_lower_expr.proofs.range.range_of.Goals as goal
 
 here : Pos
 here = record { file = 0; line = 0; col = 0 }

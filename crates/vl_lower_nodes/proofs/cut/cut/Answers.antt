@@ -4,9 +4,9 @@ use Rattle.fv_bits.specs.Bits.{extended, as_int, bit}
 use Rattle.wn_net.specs.Net.{width_at, value_at}
 use Rattle.wn_net.proofs.Laws.{adds_on, given_on, value_on, node_on, built_node}
 use Rattle.wn_net.proofs.Moved.{value_below}
-use Rattle.vl_points.specs.Near.{IsCut}
-use Rattle.vl_points.proofs.CutLemmas.{is_cut}
-use Rattle.vl_points.proofs.cut.cut.Goals as goal
+use Rattle.vl_lower_nodes.specs.Near.{IsCut}
+use Rattle.vl_lower_nodes.proofs.CutLemmas.{is_cut}
+use Rattle.vl_lower_nodes.proofs.cut.cut.Goals as goal
 
 pub returns-clause-value : goal.returns-clause-value
 returns-clause-value c = λ g given.

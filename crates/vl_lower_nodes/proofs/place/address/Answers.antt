@@ -6,10 +6,10 @@ use Rattle.std.proofs.lemmas.Int.{ints}
 use Rattle.fv_bits.specs.Bits.{as_int, of_int, difference}
 use Rattle.wn_net.specs.Net.{width_at, value_at}
 use Rattle.wn_net.proofs.Laws.{adds_on, given_on, value_on}
-use Rattle.vl_points.specs.Near.{chosen}
-use Rattle.vl_points.specs.Points.{IsAddress, distance}
-use Rattle.vl_points.proofs.DistanceLemmas.{is_address}
-use Rattle.vl_points.proofs.place.address.Goals as goal
+use Rattle.vl_lower_nodes.specs.Near.{chosen}
+use Rattle.vl_lower_nodes.specs.Points.{IsAddress, distance}
+use Rattle.vl_lower_nodes.proofs.DistanceLemmas.{is_address}
+use Rattle.vl_lower_nodes.proofs.place.address.Goals as goal
 
 pub returns-in_err-address-clause-adds : goal.returns-in_err-address-clause-adds
 returns-in_err-address-clause-adds c =

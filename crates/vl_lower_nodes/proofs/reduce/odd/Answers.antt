@@ -3,8 +3,8 @@ use Rattle.std.proofs.Common.{arith, ◌∙◌}
 use Rattle.fv_bits.specs.Bits.{part}
 use Rattle.wn_net.specs.Net.{width_at, value_at}
 use Rattle.wn_net.proofs.Laws.{adds_on, given_on, value_on}
-use Rattle.vl_nodes.proofs.ParityLemmas.{parity_step}
-use Rattle.vl_nodes.proofs.reduce.odd.Goals as goal
+use Rattle.vl_lower_nodes.proofs.ParityLemmas.{parity_step}
+use Rattle.vl_lower_nodes.proofs.reduce.odd.Goals as goal
 
 pub loop-place-preserved : goal.loop-place-preserved
 loop-place-preserved c =

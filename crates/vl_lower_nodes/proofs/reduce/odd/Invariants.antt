@@ -2,7 +2,7 @@ use Rattle.std.specs.Prelude.{◌-◌, ◌/◌, ◌^◌, ◌≤◌}
 use Rattle.fv_bits.specs.Bits.{bit, parity}
 use Rattle.wn_net.specs.Net.{width_at, value_at}
 use Rattle.wn_net.specs.Changes.{AddsNodes, Shows}
-use Rattle.vl_nodes.proofs.reduce.odd.Given as goal
+use Rattle.vl_lower_nodes.proofs.reduce.odd.Given as goal
 
 abbrev pub invariant-loop-place : goal.invariant-loop-place
 invariant-loop-place l =

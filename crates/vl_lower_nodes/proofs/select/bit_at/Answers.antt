@@ -8,9 +8,9 @@ use Rattle.vl_size.specs.Size.{offset_of}
 use Rattle.wn_net.specs.Net.{width_at, value_at}
 use Rattle.wn_net.proofs.Laws.{value_on, built_node}
 use Rattle.wn_net.proofs.Moved.{value_within}
-use Rattle.vl_points.specs.Points.{IsAddress, distance}
-use Rattle.vl_points.proofs.PartLemmas.{bit_is}
-use Rattle.vl_points.proofs.select.bit_at.Goals as goal
+use Rattle.vl_lower_nodes.specs.Points.{IsAddress, distance}
+use Rattle.vl_lower_nodes.proofs.PartLemmas.{bit_is}
+use Rattle.vl_lower_nodes.proofs.select.bit_at.Goals as goal
 
 pub slice-requires-clause-within : goal.slice-requires-clause-within
 slice-requires-clause-within c =

@@ -4,7 +4,7 @@ use Rattle.fv_bits.specs.Bits.{as_int}
 use Rattle.vl_size.specs.Size.{bits_from, start_of}
 use Rattle.wn_net.specs.Net.{width_at, value_at}
 use Rattle.wn_net.proofs.Laws.{given_on, value_on, node_on}
-use Rattle.vl_points.proofs.select.part_at.Goals as goal
+use Rattle.vl_lower_nodes.proofs.select.part_at.Goals as goal
 
 pub returns-clause-shows : goal.returns-clause-shows
 returns-clause-shows c =

@@ -2,8 +2,8 @@ use Rattle.std.proofs.Common.{◌∙◌, arith}
 use Rattle.std.specs.Prelude.{◌≤◌}
 use Rattle.wn_net.specs.Net.{width_at, value_at}
 use Rattle.wn_net.proofs.Moved.{value_below}
-use Rattle.vl_points.proofs.PartLemmas.{fixed_is}
-use Rattle.vl_points.proofs.select.part_by.Goals as goal
+use Rattle.vl_lower_nodes.proofs.PartLemmas.{fixed_is}
+use Rattle.vl_lower_nodes.proofs.select.part_by.Goals as goal
 
 pub returns-clause-value : goal.returns-clause-value
 returns-clause-value c = λ g p given at.

@@ -7,9 +7,9 @@ use Rattle.vl_size.specs.Size.{bits_from}
 use Rattle.wn_net.specs.Net.{width_at, value_at}
 use Rattle.wn_net.proofs.Laws.{adds_on, given_on, value_on, built_node}
 use Rattle.wn_net.proofs.Moved.{value_below}
-use Rattle.vl_points.specs.Points.{IsAddress, GivePlace}
-use Rattle.vl_points.proofs.PartLemmas.{within_is}
-use Rattle.vl_points.proofs.select.part_from.Goals as goal
+use Rattle.vl_lower_nodes.specs.Points.{IsAddress, GivePlace}
+use Rattle.vl_lower_nodes.proofs.PartLemmas.{within_is}
+use Rattle.vl_lower_nodes.proofs.select.part_from.Goals as goal
 
 pub returns-in-Some-clause-shows : goal.returns-in-Some-clause-shows
 returns-in-Some-clause-shows c =

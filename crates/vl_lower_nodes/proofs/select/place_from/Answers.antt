@@ -7,8 +7,8 @@ use Rattle.fv_bits.specs.Bits.{as_int}
 use Rattle.vl_size.specs.Size.{descends, start_of}
 use Rattle.wn_net.specs.Net.{width_at, value_at}
 use Rattle.wn_net.proofs.Laws.{given_on, value_on}
-use Rattle.vl_points.specs.Points.{IsAddress, distance}
-use Rattle.vl_points.proofs.select.place_from.Goals as goal
+use Rattle.vl_lower_nodes.specs.Points.{IsAddress, distance}
+use Rattle.vl_lower_nodes.proofs.select.place_from.Goals as goal
 
 -- counted the other way, it is what is left to 0
 turned : (b : Bool) (base i p : ℤ) → distance b base i ≡ p → distance (not b) base i ≡ pos 0 -ℤ p

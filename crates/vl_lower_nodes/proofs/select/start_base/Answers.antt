@@ -4,8 +4,8 @@ use mir.Syntax.{w64}
 use mir.Val.{to_z, of_z}
 use Rattle.std.proofs.lemmas.Int.{ints}
 use Rattle.vl_size.specs.Size.{descends}
-use Rattle.vl_points.specs.Points.{distance}
-use Rattle.vl_points.proofs.select.start_base.Goals as goal
+use Rattle.vl_lower_nodes.specs.Points.{distance}
+use Rattle.vl_lower_nodes.proofs.select.start_base.Goals as goal
 
 pub returns-else-descends-clause-value : goal.returns-else-descends-clause-value
 returns-else-descends-clause-value c = λ i.

@@ -3,8 +3,8 @@ use Rattle.fv_bits.specs.Bits.{extended}
 use Rattle.wn_net.specs.Net.{width_at, value_at}
 use Rattle.wn_net.proofs.Laws.{built_node}
 use Rattle.wn_net.proofs.Moved.{value_below}
-use Rattle.vl_nodes.proofs.FitLemmas.{extended_cut, extended_same, extended_zeros, extended_signs}
-use Rattle.vl_nodes.proofs.width.fit.Goals as goal
+use Rattle.vl_lower_nodes.proofs.FitLemmas.{extended_cut, extended_same, extended_zeros, extended_signs}
+use Rattle.vl_lower_nodes.proofs.width.fit.Goals as goal
 
 pub returns-then-own-width-clause-shows : goal.returns-then-own-width-clause-shows
 returns-then-own-width-clause-shows c =

@@ -1,4 +1,4 @@
-use Rattle.vl_graphic.proofs.names_of_flat_are_graphic.Goals as goal
+use Rattle.vl_lower_spec.proofs.graphic_law.names_of_flat_are_graphic.Goals as goal
 
 pub returns : goal.returns
 returns c =

@@ -2,10 +2,10 @@ use Rattle.std.specs.Prelude.{◌≡◌, refl, ℕ, List, length}
 use Rattle.std.proofs.Common.{ap, sym, ◌∙◌}
 use Rattle.wn_net.specs.Net.{width_at, value_at}
 use Rattle.wn_net.proofs.Moved.{value_below}
-use Rattle.vl_evals.specs.Maps.{gathered}
-use Rattle.vl_named.specs.Sources.{below}
-use Rattle.vl_named.proofs.Bits.{below_many, gathered_whole}
-use Rattle.vl_gather.proofs.bits.gather.Goals as goal
+use Rattle.vl_lower_spec.specs.Maps.{gathered}
+use Rattle.vl_lower_spec.specs.Sources.{below}
+use Rattle.vl_lower_spec.proofs.Bits.{below_many, gathered_whole}
+use Rattle.vl_lower_state.proofs.bits.gather.Goals as goal
 
 pub returns-then-are_all-clause-shows : goal.returns-then-are_all-clause-shows
 returns-then-are_all-clause-shows c =

@@ -1,8 +1,8 @@
 use Rattle.std.specs.Prelude.{◌<◌, ◌-◌, length, drop}
 use Rattle.wn_net.specs.Net.{value_at}
 use Rattle.wn_net.specs.Changes.{AddsNodes, Shows}
-use Rattle.vl_evals.specs.Maps.{gathered}
-use Rattle.vl_gather.proofs.bits.joined_bits.Given as goal
+use Rattle.vl_lower_spec.specs.Maps.{gathered}
+use Rattle.vl_lower_state.proofs.bits.joined_bits.Given as goal
 
 abbrev pub invariant-loop-left : goal.invariant-loop-left
 invariant-loop-left l = record {

@@ -1,5 +1,5 @@
-use Rattle.vl_held.proofs.Whole.{registers_next}
-use Rattle.vl_held.proofs.registers_are_next.Goals as goal
+use Rattle.vl_lower_state.proofs.Whole.{registers_next}
+use Rattle.vl_lower_state.proofs.held_law.registers_are_next.Goals as goal
 
 pub returns : goal.returns
 returns c = registers_next

@@ -7,10 +7,10 @@ use Rattle.wn_net.specs.declared.names.Spot.{Spot}
 use Rattle.wn_net.specs.Changes.{Shows}
 use Rattle.wn_net.specs.Net.{IsNode, value_at, width_at}
 use Rattle.wn_net.proofs.Laws.{adds_on, there_on}
-use Rattle.vl_evals.specs.Maps.{gathered}
-use Rattle.vl_close.specs.Nexts.{ShowBits}
-use Rattle.vl_close.proofs.Gathering.{as_many, bits_at, seen_before, show_more, show_on, take_get}
-use Rattle.vl_close.proofs.nexts.gather_all.Goals as goal
+use Rattle.vl_lower_spec.specs.Maps.{gathered}
+use Rattle.vl_lower_state.specs.Nexts.{ShowBits}
+use Rattle.vl_lower_state.proofs.Gathering.{as_many, bits_at, seen_before, show_more, show_on, take_get}
+use Rattle.vl_lower_state.proofs.nexts.gather_all.Goals as goal
 
 pub bounds-places-at : goal.bounds-places-at
 bounds-places-at c =

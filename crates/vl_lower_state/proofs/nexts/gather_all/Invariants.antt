@@ -1,7 +1,7 @@
 use Rattle.std.specs.Prelude.{take}
 use Rattle.wn_net.specs.Changes.{AddsNodes}
-use Rattle.vl_close.specs.Nexts.{ShowBits}
-use Rattle.vl_close.proofs.nexts.gather_all.Given as goal
+use Rattle.vl_lower_state.specs.Nexts.{ShowBits}
+use Rattle.vl_lower_state.proofs.nexts.gather_all.Given as goal
 
 abbrev pub invariant-loop-at : goal.invariant-loop-at
 invariant-loop-at l = record {

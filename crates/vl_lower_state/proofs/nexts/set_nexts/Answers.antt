@@ -6,9 +6,9 @@ use Rattle.wn_net.specs.declared.parts.Reg.{Reg}
 use Rattle.wn_net.specs.Changes.{reg_width, with_next}
 use Rattle.wn_net.specs.Net.{Netlist, IsNodeOf}
 use Rattle.wn_net.proofs.Laws.{keeps_on}
-use Rattle.vl_close.specs.Nexts.{with_nexts}
-use Rattle.vl_close.proofs.Setting.{as_many, next_at, nexts_many, one_more, widths_stay}
-use Rattle.vl_close.proofs.nexts.set_nexts.Goals as goal
+use Rattle.vl_lower_state.specs.Nexts.{with_nexts}
+use Rattle.vl_lower_state.proofs.Setting.{as_many, next_at, nexts_many, one_more, widths_stay}
+use Rattle.vl_lower_state.proofs.nexts.set_nexts.Goals as goal
 
 pub bounds-nodes-at : goal.bounds-nodes-at
 bounds-nodes-at c =

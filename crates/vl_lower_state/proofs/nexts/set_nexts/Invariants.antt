@@ -1,7 +1,7 @@
 use Rattle.std.specs.Prelude.{◌≡◌, take}
 use Rattle.wn_net.specs.Changes.{Keeps}
-use Rattle.vl_close.specs.Nexts.{with_nexts}
-use Rattle.vl_close.proofs.nexts.set_nexts.Given as goal
+use Rattle.vl_lower_state.specs.Nexts.{with_nexts}
+use Rattle.vl_lower_state.proofs.nexts.set_nexts.Given as goal
 
 abbrev pub invariant-loop-at : goal.invariant-loop-at
 invariant-loop-at l = record {

@@ -3,11 +3,11 @@ use Rattle.std.proofs.Common.{ap, sym, ◌∙◌, arith, subst}
 use Rattle.std.proofs.lemmas.Option.{get_or_from_slice_get, slice_get_within}
 use Rattle.fv_bits.specs.Bits.{ones}
 use Rattle.wn_net.specs.declared.parts.Mem.{Mem}
-use Rattle.vl_stores.specs.Stores.{IsConstant, PutNodes}
-use Rattle.vl_stores.specs.Writing.{writes_at}
-use Rattle.vl_stores.proofs.Carried.{writes_none}
-use Rattle.vl_stores.proofs.Turns as turns
-use Rattle.vl_stores.proofs.words.store_memory.Goals as goal
+use Rattle.vl_lower_state.specs.Stores.{IsConstant, PutNodes}
+use Rattle.vl_lower_state.specs.Writing.{writes_at}
+use Rattle.vl_lower_state.proofs.Carried.{writes_none}
+use Rattle.vl_lower_state.proofs.Turns as turns
+use Rattle.vl_lower_state.proofs.words.store_memory.Goals as goal
 
 pub loop-word-init : goal.loop-word-init
 loop-word-init c =

@@ -1,9 +1,9 @@
 use Rattle.std.specs.Prelude.{◌≡◌, take, drop}
 use Rattle.fv_bits.specs.Bits.{ones}
 use Rattle.wn_net.specs.Changes.{Keeps}
-use Rattle.vl_stores.specs.Stores.{AddsWrites, IsConstant, PutNodes}
-use Rattle.vl_stores.specs.Writing.{with_writes, writes_at}
-use Rattle.vl_stores.proofs.words.store_memory.Given as goal
+use Rattle.vl_lower_state.specs.Stores.{AddsWrites, IsConstant, PutNodes}
+use Rattle.vl_lower_state.specs.Writing.{with_writes, writes_at}
+use Rattle.vl_lower_state.proofs.words.store_memory.Given as goal
 
 abbrev pub invariant-loop-word : goal.invariant-loop-word
 invariant-loop-word l = record {

@@ -5,11 +5,11 @@ use Rattle.std.proofs.lemmas.Option.{get_or_from_slice_get}
 use Rattle.wn_net.specs.declared.parts.Mem.{Mem}
 use Rattle.wn_net.specs.Net.{Netlist}
 use Rattle.wn_net.proofs.Laws.{keeps_on}
-use Rattle.vl_stores.specs.Stores.{AddsWrites}
-use Rattle.vl_stores.specs.Writing.{IsAt, IsStoredAt}
-use Rattle.vl_stores.proofs.Carried.{constant_kept, writes_on}
-use Rattle.vl_stores.proofs.Together.{all_stored, as_many, left_less, still_at, stored_more, there_at}
-use Rattle.vl_stores.proofs.words.store_words.Goals as goal
+use Rattle.vl_lower_state.specs.Stores.{AddsWrites}
+use Rattle.vl_lower_state.specs.Writing.{IsAt, IsStoredAt}
+use Rattle.vl_lower_state.proofs.Carried.{constant_kept, writes_on}
+use Rattle.vl_lower_state.proofs.StoresTogether.{all_stored, as_many, left_less, still_at, stored_more, there_at}
+use Rattle.vl_lower_state.proofs.words.store_words.Goals as goal
 
 -- there are as many memories as before
 many_mems : (old new : Netlist) → AddsWrites old new → length new.mems ≡ length old.mems

@@ -1,7 +1,7 @@
 use Rattle.wn_net.specs.Changes.{Keeps}
-use Rattle.vl_stores.specs.Stores.{AddsWrites, IsConstant}
-use Rattle.vl_stores.proofs.Together.{AreLeft, AreStoredTo}
-use Rattle.vl_stores.proofs.words.store_words.Given as goal
+use Rattle.vl_lower_state.specs.Stores.{AddsWrites, IsConstant}
+use Rattle.vl_lower_state.proofs.StoresTogether.{AreLeft, AreStoredTo}
+use Rattle.vl_lower_state.proofs.words.store_words.Given as goal
 
 abbrev pub invariant-loop-at : goal.invariant-loop-at
 invariant-loop-at l = record {

@@ -6,15 +6,15 @@ use Rattle.wn_net.proofs.Laws.{adds_on}
 use Rattle.vl_mean.specs.FlatLaw.{flat_scopes, target_size}
 use Rattle.vl_mean.specs.Scopes.{operand_in}
 use Rattle.vl_mean.specs.Targets.{spots}
-use Rattle.vl_frames.specs.Frames.{AllSlots, AreCellsOf, Assigns, cells_of, slots_width}
-use Rattle.vl_frames.proofs.Behind.{cells_on, frame_on}
-use Rattle.vl_frames.proofs.Several.{all_slots_on}
-use Rattle.vl_slots.specs.declared.slot.Slot.{Slot}
-use Rattle.vl_steps.specs.Executes.{Evaluates}
-use Rattle.vl_steps.specs.Located.{Locates}
-use Rattle.vl_steps.proofs.Assignments.{assignment, assignment_none}
-use Rattle.vl_steps.proofs.Contexts.{sign_in, size_in}
-use Rattle.vl_execute.proofs.assignment.assign.Goals as goal
+use Rattle.vl_lower_assign.specs.Frames.{AllSlots, AreCellsOf, Assigns, cells_of, slots_width}
+use Rattle.vl_lower_assign.proofs.Behind.{cells_on, frame_on}
+use Rattle.vl_lower_assign.proofs.Several.{all_slots_on}
+use Rattle.vl_lower_assign.specs.declared.slot.Slot.{Slot}
+use Rattle.vl_lower_stmt.specs.Executes.{Evaluates}
+use Rattle.vl_lower_stmt.specs.Located.{Locates}
+use Rattle.vl_lower_stmt.proofs.Assignments.{assignment, assignment_none}
+use Rattle.vl_lower_stmt.proofs.Contexts.{sign_in, size_in}
+use Rattle.vl_lower_stmt.proofs.assignment.assign.Goals as goal
 
 pub number_in-requires-clause-cells : goal.number_in-requires-clause-cells
 number_in-requires-clause-cells c =

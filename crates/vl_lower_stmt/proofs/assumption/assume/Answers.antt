@@ -4,11 +4,11 @@ use Rattle.fv_bits.specs.Bits.{bit}
 use Rattle.vl_size.specs.Size.{is_true}
 use Rattle.vl_mean.specs.FlatLaw.{flat_scopes}
 use Rattle.vl_mean.specs.Scopes.{operand_in}
-use Rattle.vl_frames.specs.Frames.{cells_of}
-use Rattle.vl_slots.proofs.Tests.{path_there}
-use Rattle.vl_steps.specs.Executes.{Evaluates}
-use Rattle.vl_steps.proofs.Assumed.{assumed}
-use Rattle.vl_execute.proofs.assumption.assume.Goals as goal
+use Rattle.vl_lower_assign.specs.Frames.{cells_of}
+use Rattle.vl_lower_assign.proofs.Tests.{path_there}
+use Rattle.vl_lower_stmt.specs.Executes.{Evaluates}
+use Rattle.vl_lower_stmt.proofs.Assumed.{assumed}
+use Rattle.vl_lower_stmt.proofs.assumption.assume.Goals as goal
 
 pub met_where-requires-clause-path : goal.met_where-requires-clause-path
 met_where-requires-clause-path c =

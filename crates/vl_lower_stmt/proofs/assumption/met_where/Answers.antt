@@ -4,9 +4,9 @@ use Rattle.fv_bits.specs.Bits.{bit, complement}
 use Rattle.wn_net.specs.Net.{value_at}
 use Rattle.wn_net.proofs.Laws.{built_node, node_on, value_on}
 use Rattle.wn_net.proofs.Moved.{value_within}
-use Rattle.vl_slots.proofs.Tests.{path_node, path_none, path_some}
-use Rattle.vl_execute.proofs.Conditions.{met_one, only_met}
-use Rattle.vl_execute.proofs.assumption.met_where.Goals as goal
+use Rattle.vl_lower_assign.proofs.Tests.{path_node, path_none, path_some}
+use Rattle.vl_lower_stmt.proofs.Conditions.{met_one, only_met}
+use Rattle.vl_lower_stmt.proofs.assumption.met_where.Goals as goal
 
 pub returns-in-None-clause-value : goal.returns-in-None-clause-value
 returns-in-None-clause-value c = λ g given.

@@ -5,9 +5,9 @@ use Rattle.std.proofs.lemmas.Grind.{common_steps}
 use Rattle.vl_tree.specs.StmtView.{arms}
 use Rattle.vl_mean.specs.Execution.{arms_sign, arms_size}
 use Rattle.vl_mean.specs.FlatLaw.{flat_scopes}
-use Rattle.vl_steps.specs.Arms.{AreLedTo}
-use Rattle.vl_steps.proofs.Choosing.{first_led_to, others_led_to}
-use Rattle.vl_execute.proofs.context.case_context.Goals as goal
+use Rattle.vl_lower_stmt.specs.StepsArms.{AreLedTo}
+use Rattle.vl_lower_stmt.proofs.Choosing.{first_led_to, others_led_to}
+use Rattle.vl_lower_stmt.proofs.context.case_context.Goals as goal
 
 pub loop-arm-init : goal.loop-arm-init
 loop-arm-init c =

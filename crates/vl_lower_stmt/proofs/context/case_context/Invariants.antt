@@ -4,8 +4,8 @@ use Rattle.vl_size.specs.Sign.{sign}
 use Rattle.vl_size.specs.Size.{or_none, size}
 use Rattle.vl_mean.specs.Execution.{arms_sign, arms_size}
 use Rattle.vl_mean.specs.FlatLaw.{flat_scopes}
-use Rattle.vl_steps.specs.Arms.{AreLedTo}
-use Rattle.vl_execute.proofs.context.case_context.Given as goal
+use Rattle.vl_lower_stmt.specs.StepsArms.{AreLedTo}
+use Rattle.vl_lower_stmt.proofs.context.case_context.Given as goal
 
 -- what the other arms make of the context
 abbrev pub invariant-loop-arm : goal.invariant-loop-arm

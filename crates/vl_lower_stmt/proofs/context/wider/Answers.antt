@@ -4,9 +4,9 @@ use Rattle.vl_tree.specs.Stmt.{no_arms}
 use Rattle.vl_tree.specs.StmtView.{with_arm}
 use Rattle.vl_mean.specs.Execution.{arms_sign, arms_size, labels_sign, labels_size}
 use Rattle.vl_mean.specs.FlatLaw.{flat_scopes}
-use Rattle.vl_steps.specs.Arms.{AreLedTo, AreSized}
-use Rattle.vl_steps.proofs.Contexts.{and_assoc, max_assoc}
-use Rattle.vl_execute.proofs.context.wider.Goals as goal
+use Rattle.vl_lower_stmt.specs.StepsArms.{AreLedTo, AreSized}
+use Rattle.vl_lower_stmt.proofs.Contexts.{and_assoc, max_assoc}
+use Rattle.vl_lower_stmt.proofs.context.wider.Goals as goal
 
 pub with_labels-requires : goal.with_labels-requires
 with_labels-requires c =

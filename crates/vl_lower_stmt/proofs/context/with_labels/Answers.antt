@@ -4,8 +4,8 @@ use Rattle.std.proofs.Math.Nat.{max-zero}
 use Rattle.std.proofs.lemmas.Grind.{common_steps}
 use Rattle.vl_mean.specs.Execution.{labels_sign, labels_size}
 use Rattle.vl_mean.specs.FlatLaw.{flat_scopes}
-use Rattle.vl_steps.proofs.Contexts.{labels_signed, labels_wider}
-use Rattle.vl_execute.proofs.context.with_labels.Goals as goal
+use Rattle.vl_lower_stmt.proofs.Contexts.{labels_signed, labels_wider}
+use Rattle.vl_lower_stmt.proofs.context.with_labels.Goals as goal
 
 pub loop-label-preserved : goal.loop-label-preserved
 loop-label-preserved c =

@@ -1,7 +1,7 @@
 use Rattle.std.specs.Prelude.{◌≡◌, ◌&&◌, max, drop}
 use Rattle.vl_mean.specs.Execution.{labels_sign, labels_size}
 use Rattle.vl_mean.specs.FlatLaw.{flat_scopes}
-use Rattle.vl_execute.proofs.context.with_labels.Given as goal
+use Rattle.vl_lower_stmt.proofs.context.with_labels.Given as goal
 
 -- what the other labels make of the context
 abbrev pub invariant-loop-label : goal.invariant-loop-label

@@ -3,12 +3,12 @@ use Rattle.std.specs.Prelude.{map}
 use Rattle.std.proofs.lemmas.Grind.{common_steps}
 use Rattle.std.proofs.lemmas.List.{take_all}
 use Rattle.vl_mean.specs.declared.driver.Start.{Start}
-use Rattle.vl_frames.specs.Frames.{cells_of}
+use Rattle.vl_lower_assign.specs.Frames.{cells_of}
 use Rattle.wn_net.specs.Net.{AreNodes, value_at}
-use Rattle.vl_initial.specs.First.{Starts, all_written, nothing_given}
-use Rattle.vl_initial.proofs.FirstNumbers.{all_first, cells_there, no_starts, nothing_is, one_start_more}
-use Rattle.vl_initial.proofs.ZeroCells.{zero_frame}
-use Rattle.vl_initial.proofs.first.first_numbers.Goals as goal
+use Rattle.vl_lower_stmt.specs.First.{Starts, all_written, nothing_given}
+use Rattle.vl_lower_stmt.proofs.FirstNumbers.{all_first, cells_there, no_starts, nothing_is, one_start_more}
+use Rattle.vl_lower_stmt.proofs.ZeroCells.{zero_frame}
+use Rattle.vl_lower_stmt.proofs.first.first_numbers.Goals as goal
 
 pub loop-start-init : goal.loop-start-init
 loop-start-init c =

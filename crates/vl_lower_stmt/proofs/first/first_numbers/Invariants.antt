@@ -1,7 +1,7 @@
 use Rattle.std.proofs.Common.{take}
-use Rattle.vl_frames.specs.Frames.{cells_of}
-use Rattle.vl_initial.specs.First.{Starts, all_written}
-use Rattle.vl_initial.proofs.first.first_numbers.Given as goal
+use Rattle.vl_lower_assign.specs.Frames.{cells_of}
+use Rattle.vl_lower_stmt.specs.First.{Starts, all_written}
+use Rattle.vl_lower_stmt.proofs.first.first_numbers.Given as goal
 
 abbrev pub invariant-loop-start : goal.invariant-loop-start
 invariant-loop-start l =

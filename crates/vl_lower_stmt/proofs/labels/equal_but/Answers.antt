@@ -4,8 +4,8 @@ use Rattle.std.proofs.Common.{ap, sym, ◌∙◌, subst}
 use Rattle.fv_bits.specs.Bits.{bit}
 use Rattle.wn_net.specs.Net.{value_at, width_at}
 use Rattle.wn_net.proofs.Laws.{built_node}
-use Rattle.vl_steps.specs.Arms.{IsNodeOr, number_or}
-use Rattle.vl_execute.proofs.labels.equal_but.Goals as goal
+use Rattle.vl_lower_stmt.specs.StepsArms.{IsNodeOr, number_or}
+use Rattle.vl_lower_stmt.proofs.labels.equal_but.Goals as goal
 
 pub returns-in_ok-same-in-None-clause-shows : goal.returns-in_ok-same-in-None-clause-shows
 returns-in_ok-same-in-None-clause-shows c =

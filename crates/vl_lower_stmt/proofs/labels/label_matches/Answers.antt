@@ -1,5 +1,5 @@
-use Rattle.vl_steps.proofs.Labels.{matches_one}
-use Rattle.vl_execute.proofs.labels.label_matches.Goals as goal
+use Rattle.vl_lower_stmt.proofs.StepsLabels.{matches_one}
+use Rattle.vl_lower_stmt.proofs.labels.label_matches.Goals as goal
 
 pub returns : goal.returns
 returns c =

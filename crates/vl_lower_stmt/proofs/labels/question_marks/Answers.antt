@@ -6,8 +6,8 @@ use Rattle.vl_tree.specs.Expr.{number}
 use Rattle.vl_tree.specs.ExprView.{shown}
 use Rattle.vl_mean.specs.Execution.{wild_bits}
 use Rattle.wn_net.proofs.Laws.{given_on}
-use Rattle.vl_execute.proofs.Wild.{no_wild}
-use Rattle.vl_execute.proofs.labels.question_marks.Goals as goal
+use Rattle.vl_lower_stmt.proofs.Wild.{no_wild}
+use Rattle.vl_lower_stmt.proofs.labels.question_marks.Goals as goal
 
 pub returns-in_ok-fitted-in-Number-clause-value : goal.returns-in_ok-fitted-in-Number-clause-value
 returns-in_ok-fitted-in-Number-clause-value c = λ g given.

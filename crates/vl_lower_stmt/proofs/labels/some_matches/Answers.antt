@@ -3,14 +3,14 @@ use Rattle.std.proofs.Common.{◌≡◌, ◌+◌, ◌≤◌, ◌++◌, ◌∷◌
 use Rattle.std.proofs.lemmas.Grind.{common_steps}
 use Rattle.std.proofs.lemmas.List.{take_all}
 use Rattle.vl_tree.specs.Expr.{Expr}
-use Rattle.vl_frames.proofs.Behind.{cells_on}
+use Rattle.vl_lower_assign.proofs.Behind.{cells_on}
 use Rattle.wn_net.specs.Net.{value_at}
 use Rattle.wn_net.specs.Changes.{Shows}
 use Rattle.wn_net.proofs.Laws.{node_on}
-use Rattle.vl_terms.proofs.Compose.{shown}
-use Rattle.vl_steps.specs.Executes.{Matches}
-use Rattle.vl_steps.proofs.Labels.{matches_more, matches_none}
-use Rattle.vl_execute.proofs.labels.some_matches.Goals as goal
+use Rattle.vl_lower_expr.proofs.Compose.{shown}
+use Rattle.vl_lower_stmt.specs.Executes.{Matches}
+use Rattle.vl_lower_stmt.proofs.StepsLabels.{matches_more, matches_none}
+use Rattle.vl_lower_stmt.proofs.labels.some_matches.Goals as goal
 
 pub loop-label-init : goal.loop-label-init
 loop-label-init c =

@@ -1,6 +1,6 @@
 use Rattle.std.proofs.Common.{take}
-use Rattle.vl_steps.specs.Executes.{Matches}
-use Rattle.vl_execute.proofs.labels.some_matches.Given as goal
+use Rattle.vl_lower_stmt.specs.Executes.{Matches}
+use Rattle.vl_lower_stmt.proofs.labels.some_matches.Given as goal
 
 -- the first labels
 abbrev pub invariant-loop-label : goal.invariant-loop-label

@@ -1,6 +1,6 @@
 use Rattle.std.proofs.Common.{ap, sym, ◌∙◌}
 use Rattle.vl_mean.specs.Execution.{wild_bits}
-use Rattle.vl_execute.proofs.labels.wild_bits.Goals as goal
+use Rattle.vl_lower_stmt.proofs.labels.wild_bits.Goals as goal
 
 pub returns-in-Case-clause-value : goal.returns-in-Case-clause-value
 returns-in-Case-clause-value c = λ g given.

@@ -7,12 +7,12 @@ use Rattle.std.proofs.lemmas.Bool.{cases_lt}
 use Rattle.std.proofs.lemmas.Option.{same_Some}
 use Rattle.vl_size.specs.declared.decl.Decl.{Decl}
 use Rattle.vl_mean.specs.FlatLaw.{IsKept}
-use Rattle.flow_cells.specs.Numbered.{first_cell}
-use Rattle.flow_cells.proofs.Lists.{all_at, get_some, get_left, get_right, get_less}
-use Rattle.flow_cells.proofs.Numbers.{first_few, first_none, length_more, next_first}
-use Rattle.vl_terms.specs.declared.place.Place.{Place}
-use Rattle.vl_steps.specs.Layout.{place_at}
-use Rattle.vl_locate.proofs.layout.places_of.Goals as goal
+use Rattle.vl_flow_cells.specs.Numbered.{first_cell}
+use Rattle.vl_flow_cells.proofs.Lists.{all_at, get_some, get_left, get_right, get_less}
+use Rattle.vl_flow_cells.proofs.Numbers.{first_few, first_none, length_more, next_first}
+use Rattle.vl_lower_expr.specs.declared.place.Place.{Place}
+use Rattle.vl_lower_stmt.specs.Layout.{place_at}
+use Rattle.vl_lower_stmt.proofs.layout.places_of.Goals as goal
 
 -- one more place
 places_more : (ds : List Decl) (xs : List Place) (x : Place) (index : ℕ) (d : Decl) → length xs ≡ index

@@ -1,8 +1,8 @@
 use Rattle.std.proofs.Common.{◌≡◌, ◌<◌, ℕ, length, slice_get, Some}
 use Rattle.vl_size.specs.declared.decl.Decl.{Decl}
-use Rattle.flow_cells.specs.Numbered.{first_cell}
-use Rattle.vl_steps.specs.Layout.{place_at}
-use Rattle.vl_locate.proofs.layout.places_of.Given as goal
+use Rattle.vl_flow_cells.specs.Numbered.{first_cell}
+use Rattle.vl_lower_stmt.specs.Layout.{place_at}
+use Rattle.vl_lower_stmt.proofs.layout.places_of.Given as goal
 
 abbrev pub invariant-loop-index : goal.invariant-loop-index
 invariant-loop-index l = record {

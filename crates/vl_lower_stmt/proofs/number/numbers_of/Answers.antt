@@ -2,9 +2,9 @@ use Rattle.std.proofs.Common.{◌≡◌, ◌<◌, ap, ◌∙◌, arith, length}
 use Rattle.std.proofs.lemmas.List.{get_or_read}
 use Rattle.std.specs.Prelude.{slice_index}
 use Rattle.wn_net.specs.Net.{value_at}
-use Rattle.vl_initial.specs.First.{nothing_given}
-use Rattle.vl_initial.proofs.Numbers.{node_at, number_more, value_is, values_length}
-use Rattle.vl_initial.proofs.number.numbers_of.Goals as goal
+use Rattle.vl_lower_stmt.specs.First.{nothing_given}
+use Rattle.vl_lower_stmt.proofs.Numbers.{node_at, number_more, value_is, values_length}
+use Rattle.vl_lower_stmt.proofs.number.numbers_of.Goals as goal
 
 pub index-requires : goal.index-requires
 index-requires c =

@@ -1,5 +1,5 @@
-use Rattle.vl_steps.proofs.Branches.{entered}
-use Rattle.vl_execute.proofs.paths.path_if.Goals as goal
+use Rattle.vl_lower_stmt.proofs.Branches.{entered}
+use Rattle.vl_lower_stmt.proofs.paths.path_if.Goals as goal
 
 pub returns : goal.returns
 returns c =

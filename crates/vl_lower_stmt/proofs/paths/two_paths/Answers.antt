@@ -1,7 +1,7 @@
 use Rattle.std.specs.Prelude.{not}
-use Rattle.vl_steps.proofs.Branches.{entered, enters_on}
-use Rattle.vl_execute.proofs.Conditions.{evaluates_on}
-use Rattle.vl_execute.proofs.paths.two_paths.Goals as goal
+use Rattle.vl_lower_stmt.proofs.Branches.{entered, enters_on}
+use Rattle.vl_lower_stmt.proofs.Conditions.{evaluates_on}
+use Rattle.vl_lower_stmt.proofs.paths.two_paths.Goals as goal
 
 pub returns-clause-taken : goal.returns-clause-taken
 returns-clause-taken c =

@@ -1,5 +1,5 @@
-use Rattle.vl_steps.proofs.Bits.{bits_one}
-use Rattle.vl_locate.proofs.place.bit_slot.Goals as goal
+use Rattle.vl_lower_stmt.proofs.Bits.{bits_one}
+use Rattle.vl_lower_stmt.proofs.place.bit_slot.Goals as goal
 
 pub returns-clause-bits : goal.returns-clause-bits
 returns-clause-bits c = λ p.

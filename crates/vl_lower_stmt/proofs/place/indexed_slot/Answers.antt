@@ -2,11 +2,11 @@ use Rattle.std.specs.Prelude.{◌≤◌, IsSome}
 use Rattle.std.proofs.Common.{ap, sym, ◌∙◌, arith, subst}
 use Rattle.fv_base.specs.declared.pos.Pos.{Pos}
 use Rattle.vl_size.specs.Size.{cells_in, index_of, no_names, operand_of, times}
-use Rattle.vl_terms.proofs.Sized.{is_width, start_sized}
-use Rattle.vl_steps.proofs.Bits.{bits_indexed}
-use Rattle.vl_steps.proofs.Contexts.{index_in}
-use Rattle.vl_steps.proofs.Counts.{indexed_count}
-use Rattle.vl_locate.proofs.place.indexed_slot.Goals as goal
+use Rattle.vl_lower_expr.proofs.Sized.{is_width, start_sized}
+use Rattle.vl_lower_stmt.proofs.Bits.{bits_indexed}
+use Rattle.vl_lower_stmt.proofs.Contexts.{index_in}
+use Rattle.vl_lower_stmt.proofs.Counts.{indexed_count}
+use Rattle.vl_lower_stmt.proofs.place.indexed_slot.Goals as goal
 
 here : Pos
 here = record { file = 0; line = 0; col = 0 }

@@ -8,11 +8,11 @@ use Rattle.vl_size.specs.Size.{Values, cells_in, index_of, no_names, offset_of, 
 use Rattle.vl_size.specs.Table.{span}
 use Rattle.vl_mean.specs.FlatLaw.{flat_scopes}
 use Rattle.vl_mean.specs.Scopes.{operand_in}
-use Rattle.vl_points.specs.Points.{is_place}
-use Rattle.vl_steps.proofs.Bits.{bits_part}
-use Rattle.vl_steps.proofs.Contexts.{index_in}
-use Rattle.vl_steps.proofs.Counts.{part_count}
-use Rattle.vl_locate.proofs.place.part_slot.Goals as goal
+use Rattle.vl_lower_nodes.specs.Points.{is_place}
+use Rattle.vl_lower_stmt.proofs.Bits.{bits_part}
+use Rattle.vl_lower_stmt.proofs.Contexts.{index_in}
+use Rattle.vl_lower_stmt.proofs.Counts.{part_count}
+use Rattle.vl_lower_stmt.proofs.place.part_slot.Goals as goal
 
 pub range_of-range-requires-clause-sized : goal.range_of-range-requires-clause-sized
 range_of-range-requires-clause-sized c = λ p.

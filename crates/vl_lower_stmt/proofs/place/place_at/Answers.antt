@@ -5,12 +5,12 @@ use Rattle.std.proofs.Common.{ap, sym, ◌∙◌, arith}
 use Rattle.std.proofs.lemmas.Int.{ints}
 use Rattle.fv_bits.specs.Bits.{as_int}
 use Rattle.vl_size.specs.Size.{cells_in, index_of, is_bound, operand_of, start_of}
-use Rattle.flow_cells.proofs.Ranges.{passed, taken}
-use Rattle.vl_points.specs.Points.{is_place}
-use Rattle.vl_terms.proofs.Finding.{bound_whole}
-use Rattle.vl_steps.proofs.Bits.{bound_between, placed_fixed, placed_varying}
-use Rattle.vl_steps.proofs.Contexts.{index_in}
-use Rattle.vl_locate.proofs.place.place_at.Goals as goal
+use Rattle.vl_flow_cells.proofs.Ranges.{passed, taken}
+use Rattle.vl_lower_nodes.specs.Points.{is_place}
+use Rattle.vl_lower_expr.proofs.Finding.{bound_whole}
+use Rattle.vl_lower_stmt.proofs.Bits.{bound_between, placed_fixed, placed_varying}
+use Rattle.vl_lower_stmt.proofs.Contexts.{index_in}
+use Rattle.vl_lower_stmt.proofs.place.place_at.Goals as goal
 
 pub returns-in-Some : goal.returns-in-Some
 returns-in-Some c =

@@ -5,10 +5,10 @@ use Rattle.vl_tree.specs.ExprView.{with_select}
 use Rattle.vl_size.specs.Size.{vector_size}
 use Rattle.vl_mean.specs.FlatLaw.{flat_scopes}
 use Rattle.vl_mean.specs.Targets.{are_fixed}
-use Rattle.flow_cells.proofs.FixedSelects.{bit_fixed, indexed_fixed}
-use Rattle.vl_steps.specs.Located.{HasBits}
-use Rattle.vl_steps.proofs.Bits.{index_sized}
-use Rattle.vl_locate.proofs.place.selected.Goals as goal
+use Rattle.vl_flow_cells.proofs.FixedSelects.{bit_fixed, indexed_fixed}
+use Rattle.vl_lower_stmt.specs.Located.{HasBits}
+use Rattle.vl_lower_stmt.proofs.Bits.{index_sized}
+use Rattle.vl_lower_stmt.proofs.place.selected.Goals as goal
 
 -- ---- a bit
 

@@ -5,12 +5,12 @@ use Rattle.vl_tree.specs.ExprView.{selects}
 use Rattle.vl_size.specs.Size.{vector_size}
 use Rattle.vl_mean.specs.FlatLaw.{flat_scopes}
 use Rattle.vl_mean.specs.Targets.{are_fixed}
-use Rattle.vl_puts.specs.declared.spread.BitPlace.TheVariants as place
-use Rattle.vl_slots.specs.declared.slot.Slot.{Slot}
-use Rattle.vl_terms.proofs.Sized.{no_select, only_select}
-use Rattle.vl_steps.specs.Located.{HasBits}
-use Rattle.vl_steps.proofs.Bits.{bits_whole}
-use Rattle.vl_locate.proofs.place.slot_in.Goals as goal
+use Rattle.vl_lower_assign.specs.declared.spread.BitPlace.TheVariants as place
+use Rattle.vl_lower_assign.specs.declared.slot.Slot.{Slot}
+use Rattle.vl_lower_expr.proofs.Sized.{no_select, only_select}
+use Rattle.vl_lower_stmt.specs.Located.{HasBits}
+use Rattle.vl_lower_stmt.proofs.Bits.{bits_whole}
+use Rattle.vl_lower_stmt.proofs.place.slot_in.Goals as goal
 
 pub returns-in-None-clause-bits : goal.returns-in-None-clause-bits
 returns-in-None-clause-bits c =

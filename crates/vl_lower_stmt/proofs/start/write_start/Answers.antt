@@ -6,10 +6,10 @@ use Rattle.vl_tree.specs.Stmt.{assign}
 use Rattle.vl_size.specs.Size.{size}
 use Rattle.vl_mean.specs.FlatLaw.{is_variable}
 use Rattle.vl_mean.specs.Parts.{here}
-use Rattle.vl_frames.specs.Frames.{cells_of}
-use Rattle.vl_steps.specs.Executes.{Executes}
-use Rattle.vl_steps.proofs.Contexts.{sized_target}
-use Rattle.vl_initial.proofs.start.write_start.Goals as goal
+use Rattle.vl_lower_assign.specs.Frames.{cells_of}
+use Rattle.vl_lower_stmt.specs.Executes.{Executes}
+use Rattle.vl_lower_stmt.proofs.Contexts.{sized_target}
+use Rattle.vl_lower_stmt.proofs.start.write_start.Goals as goal
 
 pub assign-requires-clause-target : goal.assign-requires-clause-target
 assign-requires-clause-target c =

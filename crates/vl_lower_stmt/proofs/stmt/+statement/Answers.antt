@@ -15,20 +15,20 @@ use Rattle.vl_size.specs.Size.{or_none, size}
 use Rattle.vl_mean.specs.Execution.{arms_sign, arms_size, otherwise}
 use Rattle.vl_mean.specs.FlatLaw.{AreBlocks, IsBlock, flat_scopes, is_variable}
 use Rattle.vl_mean.specs.Scopes.{operand_in}
-use Rattle.vl_frames.specs.Frames.{cells_of}
-use Rattle.vl_frames.specs.Stored.{otherwise_stored}
+use Rattle.vl_lower_assign.specs.Frames.{cells_of}
+use Rattle.vl_lower_assign.specs.Stored.{otherwise_stored}
 use Rattle.wn_net.proofs.Laws.{adds_on, node_on}
-use Rattle.vl_slots.proofs.Tests.{path_there}
-use Rattle.vl_frames.proofs.Behind.{frame_on}
-use Rattle.vl_steps.specs.Arms.{AreLedTo, AreSized, ArmsDone, case_test}
-use Rattle.vl_steps.specs.Executes.{Enters, Evaluates, Executes, ExecutesAll, ExecutesOther, Matches}
-use Rattle.vl_steps.proofs.Branches.{all_more, all_none, nothing, one_branch, two_branches}
-use Rattle.vl_steps.proofs.Cases.{arms_default, arms_none}
-use Rattle.vl_steps.proofs.Choosing.{arm_done, case_whole, default_unmatched, first_led_to, led_to, other_none}
-use Rattle.vl_steps.proofs.Choosing.{other_one}
-use Rattle.vl_steps.proofs.Choosing.{others_led_to}
-use Rattle.vl_steps.proofs.Contexts.{sign_in, size_in, sized_target}
-use Rattle.vl_execute.proofs.stmt.+statement.Goals as goal
+use Rattle.vl_lower_assign.proofs.Tests.{path_there}
+use Rattle.vl_lower_assign.proofs.Behind.{frame_on}
+use Rattle.vl_lower_stmt.specs.StepsArms.{AreLedTo, AreSized, ArmsDone, case_test}
+use Rattle.vl_lower_stmt.specs.Executes.{Enters, Evaluates, Executes, ExecutesAll, ExecutesOther, Matches}
+use Rattle.vl_lower_stmt.proofs.Branches.{all_more, all_none, nothing, one_branch, two_branches}
+use Rattle.vl_lower_stmt.proofs.Cases.{arms_default, arms_none}
+use Rattle.vl_lower_stmt.proofs.Choosing.{arm_done, case_whole, default_unmatched, first_led_to, led_to, other_none}
+use Rattle.vl_lower_stmt.proofs.Choosing.{other_one}
+use Rattle.vl_lower_stmt.proofs.Choosing.{others_led_to}
+use Rattle.vl_lower_stmt.proofs.Contexts.{sign_in, size_in, sized_target}
+use Rattle.vl_lower_stmt.proofs.stmt.+statement.Goals as goal
 
 -- ---- what each kind of statement does
 

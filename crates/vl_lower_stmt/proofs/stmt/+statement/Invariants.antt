@@ -4,11 +4,11 @@ use Rattle.vl_tree.specs.StmtView.{arms}
 use Rattle.vl_size.specs.Size.{Values}
 use Rattle.vl_mean.specs.Execution.{State, otherwise}
 use Rattle.vl_mean.specs.FlatLaw.{AreBlocks, flat_scopes}
-use Rattle.vl_frames.specs.Frames.{cells_of}
-use Rattle.vl_frames.specs.Stored.{otherwise_stored}
-use Rattle.vl_steps.specs.Arms.{AreLedTo, ArmsDone, case_test}
-use Rattle.vl_steps.specs.Executes.{ExecutesAll}
-use Rattle.vl_execute.proofs.stmt.+statement.Given as goal
+use Rattle.vl_lower_assign.specs.Frames.{cells_of}
+use Rattle.vl_lower_assign.specs.Stored.{otherwise_stored}
+use Rattle.vl_lower_stmt.specs.StepsArms.{AreLedTo, ArmsDone, case_test}
+use Rattle.vl_lower_stmt.specs.Executes.{ExecutesAll}
+use Rattle.vl_lower_stmt.proofs.stmt.+statement.Given as goal
 
 abbrev pub invariant-sequence-loop-stmt : goal.invariant-sequence-loop-stmt
 invariant-sequence-loop-stmt l = record {

@@ -6,9 +6,9 @@ use Rattle.vl_tree.specs.Lval.{Lval, joined, lvals, named}
 use Rattle.vl_tree.specs.LvalView.{shown}
 use Rattle.vl_mean.specs.FlatLaw.{all_target_sizes, flat_scopes, target_size}
 use Rattle.vl_mean.specs.Targets.{all_spots, spots}
-use Rattle.vl_steps.specs.Located.{AreSizedTargets, Locates}
-use Rattle.vl_steps.proofs.Locating.{locates_more, locates_none, locates_one}
-use Rattle.vl_locate.proofs.target.+locate.Goals as goal
+use Rattle.vl_lower_stmt.specs.Located.{AreSizedTargets, Locates}
+use Rattle.vl_lower_stmt.proofs.Locating.{locates_more, locates_none, locates_one}
+use Rattle.vl_lower_stmt.proofs.target.+locate.Goals as goal
 
 pub locate-returns-in_ok-push-in-Name : goal.locate-returns-in_ok-push-in-Name
 locate-returns-in_ok-push-in-Name t c =

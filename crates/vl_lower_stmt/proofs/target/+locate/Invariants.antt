@@ -2,8 +2,8 @@ use Rattle.std.proofs.Common.{drop, take}
 use Rattle.vl_tree.specs.Lval.{lvals}
 use Rattle.vl_mean.specs.FlatLaw.{all_target_sizes, flat_scopes}
 use Rattle.vl_mean.specs.Targets.{all_spots}
-use Rattle.vl_steps.specs.Located.{AreSizedTargets, Locates}
-use Rattle.vl_locate.proofs.target.+locate.Given as goal
+use Rattle.vl_lower_stmt.specs.Located.{AreSizedTargets, Locates}
+use Rattle.vl_lower_stmt.proofs.target.+locate.Given as goal
 
 abbrev pub invariant-locate_all-loop-part : goal.invariant-locate_all-loop-part
 invariant-locate_all-loop-part l = record {

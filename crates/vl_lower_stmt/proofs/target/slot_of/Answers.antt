@@ -5,16 +5,16 @@ use Rattle.vl_tree.specs.ExprView.{selects}
 use Rattle.vl_size.specs.Size.{vector_size, word_size}
 use Rattle.vl_size.specs.Table.{IsShaped, declared_as}
 use Rattle.vl_mean.specs.FlatLaw.{IsKept}
-use Rattle.flow_cells.proofs.Lists.{all_at}
-use Rattle.vl_terms.specs.Bound.{HasPlace}
-use Rattle.vl_terms.proofs.Sized.{memory_sized, some_first, vector_sized}
-use Rattle.vl_slots.specs.declared.slot.Holder.{Holder}
-use Rattle.vl_steps.specs.Located.{IsHeld}
-use Rattle.vl_steps.proofs.Held.{held_cell}
-use Rattle.vl_steps.proofs.Locating.{located, located_as, memory_bits, memory_count, vector_bits, vector_count}
-use Rattle.vl_steps.proofs.Named.{no_memory, placed_at, vector_at, words_at}
-use Rattle.vl_steps.proofs.Values.{places_each}
-use Rattle.vl_locate.proofs.target.slot_of.Goals as goal
+use Rattle.vl_flow_cells.proofs.Lists.{all_at}
+use Rattle.vl_lower_expr.specs.Bound.{HasPlace}
+use Rattle.vl_lower_expr.proofs.Sized.{memory_sized, some_first, vector_sized}
+use Rattle.vl_lower_assign.specs.declared.slot.Holder.{Holder}
+use Rattle.vl_lower_stmt.specs.Located.{IsHeld}
+use Rattle.vl_lower_stmt.proofs.Held.{held_cell}
+use Rattle.vl_lower_stmt.proofs.Locating.{located, located_as, memory_bits, memory_count, vector_bits, vector_count}
+use Rattle.vl_lower_stmt.proofs.Named.{no_memory, placed_at, vector_at, words_at}
+use Rattle.vl_lower_stmt.proofs.Values.{places_each}
+use Rattle.vl_lower_stmt.proofs.target.slot_of.Goals as goal
 
 here : Pos
 here = record { file = 0; line = 0; col = 0 }

@@ -2,12 +2,12 @@ use Rattle.std.specs.Prelude.{◌≡◌, ◌+◌, [], ◌∷◌, drop, slice_ind
 use Rattle.std.proofs.Common.{ap, arith}
 use Rattle.std.proofs.lemmas.List.{drop_more}
 use Rattle.std.proofs.lemmas.Grind.{common_steps}
-use Rattle.vl_puts.specs.declared.spread.BitPlace.TheVariants as place
-use Rattle.vl_slots.specs.declared.slot.Holder.TheVariants as holder
-use Rattle.vl_slots.specs.declared.slot.Slot.{Slot}
-use Rattle.vl_frames.specs.Frames.{slots_width}
-use Rattle.vl_frames.proofs.Parting.{width_next}
-use Rattle.vl_locate.proofs.target.width_of.Goals as goal
+use Rattle.vl_lower_assign.specs.declared.spread.BitPlace.TheVariants as place
+use Rattle.vl_lower_assign.specs.declared.slot.Holder.TheVariants as holder
+use Rattle.vl_lower_assign.specs.declared.slot.Slot.{Slot}
+use Rattle.vl_lower_assign.specs.Frames.{slots_width}
+use Rattle.vl_lower_assign.proofs.Parting.{width_next}
+use Rattle.vl_lower_stmt.proofs.target.width_of.Goals as goal
 
 -- what a list has past its end
 abbrev blank : Slot

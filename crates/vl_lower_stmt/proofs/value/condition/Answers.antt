@@ -1,8 +1,8 @@
 use Rattle.std.proofs.Common.{ap, ◌∙◌}
 use Rattle.fv_bits.specs.Bits.{bit}
 use Rattle.vl_size.specs.Size.{cells_in, is_true, operand_of}
-use Rattle.vl_steps.proofs.Values.{bound_is, evaluated, names_sized, truth_in}
-use Rattle.vl_locate.proofs.value.condition.Goals as goal
+use Rattle.vl_lower_stmt.proofs.Values.{bound_is, evaluated, names_sized, truth_in}
+use Rattle.vl_lower_stmt.proofs.value.condition.Goals as goal
 
 pub truth-requires-clause-bound : goal.truth-requires-clause-bound
 truth-requires-clause-bound c =

@@ -1,7 +1,7 @@
 use Rattle.std.proofs.Common.{ap, ◌∙◌}
 use Rattle.vl_size.specs.Size.{cells_in, value}
-use Rattle.vl_steps.proofs.Values.{bound_is, evaluated, names_sized, number_at}
-use Rattle.vl_locate.proofs.value.number_in.Goals as goal
+use Rattle.vl_lower_stmt.proofs.Values.{bound_is, evaluated, names_sized, number_at}
+use Rattle.vl_lower_stmt.proofs.value.number_in.Goals as goal
 
 pub term-requires-clause-bound : goal.term-requires-clause-bound
 term-requires-clause-bound c =

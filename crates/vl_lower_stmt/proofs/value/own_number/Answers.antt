@@ -1,7 +1,7 @@
 use Rattle.std.proofs.Common.{ap, ◌∙◌}
 use Rattle.vl_size.specs.Size.{cells_in, operand_of, or_none, own, size}
-use Rattle.vl_steps.proofs.Values.{bound_is, evaluated_at, names_sized, own_in}
-use Rattle.vl_locate.proofs.value.own_number.Goals as goal
+use Rattle.vl_lower_stmt.proofs.Values.{bound_is, evaluated_at, names_sized, own_in}
+use Rattle.vl_lower_stmt.proofs.value.own_number.Goals as goal
 
 pub own-requires-clause-bound : goal.own-requires-clause-bound
 own-requires-clause-bound c =

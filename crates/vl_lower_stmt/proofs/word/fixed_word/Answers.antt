@@ -8,12 +8,12 @@ use Rattle.vl_size.specs.Table.{is_between}
 use Rattle.vl_size.specs.Size.{cells_in, index_of, operand_of}
 use Rattle.vl_mean.specs.FlatLaw.{flat_scopes}
 use Rattle.vl_mean.specs.Scopes.{operand_in}
-use Rattle.flow_cells.proofs.Numbers.{memory_bounds}
-use Rattle.flow_cells.proofs.Ranges.{passed, taken, word_at}
-use Rattle.vl_steps.proofs.Contexts.{index_in}
-use Rattle.vl_steps.proofs.Held.{held_nowhere, held_word, unpassed}
-use Rattle.vl_steps.proofs.Named.{first_within, kept_at, words_within}
-use Rattle.vl_locate.proofs.word.fixed_word.Goals as goal
+use Rattle.vl_flow_cells.proofs.Numbers.{memory_bounds}
+use Rattle.vl_flow_cells.proofs.Ranges.{passed, taken, word_at}
+use Rattle.vl_lower_stmt.proofs.Contexts.{index_in}
+use Rattle.vl_lower_stmt.proofs.Held.{held_nowhere, held_word, unpassed}
+use Rattle.vl_lower_stmt.proofs.Named.{first_within, kept_at, words_within}
+use Rattle.vl_lower_stmt.proofs.word.fixed_word.Goals as goal
 
 pub words_before-requires-clause-left : goal.words_before-requires-clause-left
 words_before-requires-clause-left c =

@@ -5,12 +5,12 @@ use Rattle.vl_size.specs.Size.{Values, index_of}
 use Rattle.vl_mean.specs.FlatLaw.{flat_scopes}
 use Rattle.vl_mean.specs.Scopes.{operand_in}
 use Rattle.vl_mean.specs.Targets.{full_word, word_index}
-use Rattle.vl_slots.specs.declared.slot.Holder.{Holder}
-use Rattle.vl_frames.proofs.Behind.{cells_on}
-use Rattle.vl_steps.specs.Located.{IsHeld}
-use Rattle.vl_steps.proofs.Locating.{located, located_as, word_bits, word_count}
-use Rattle.vl_steps.proofs.Named.{kept_at, shaped_at}
-use Rattle.vl_locate.proofs.word.indexed_word.Goals as goal
+use Rattle.vl_lower_assign.specs.declared.slot.Holder.{Holder}
+use Rattle.vl_lower_assign.proofs.Behind.{cells_on}
+use Rattle.vl_lower_stmt.specs.Located.{IsHeld}
+use Rattle.vl_lower_stmt.proofs.Locating.{located, located_as, word_bits, word_count}
+use Rattle.vl_lower_stmt.proofs.Named.{kept_at, shaped_at}
+use Rattle.vl_lower_stmt.proofs.word.indexed_word.Goals as goal
 
 pub slot_in-requires-clause-cells : goal.slot_in-requires-clause-cells
 slot_in-requires-clause-cells c =

@@ -5,10 +5,10 @@ use Rattle.vl_tree.specs.ExprView.{selects, with_select}
 use Rattle.vl_size.specs.Size.{or_none, word_size}
 use Rattle.vl_mean.specs.FlatLaw.{flat_scopes}
 use Rattle.vl_mean.specs.Targets.{are_fixed, word_spots}
-use Rattle.flow_cells.proofs.FixedSelects.{bit_fixed}
-use Rattle.vl_steps.specs.Located.{IsLocated}
-use Rattle.vl_steps.proofs.Bits.{word_behind, word_index_sized}
-use Rattle.vl_locate.proofs.word.selected_word.Goals as goal
+use Rattle.vl_flow_cells.proofs.FixedSelects.{bit_fixed}
+use Rattle.vl_lower_stmt.specs.Located.{IsLocated}
+use Rattle.vl_lower_stmt.proofs.Bits.{word_behind, word_index_sized}
+use Rattle.vl_lower_stmt.proofs.word.selected_word.Goals as goal
 
 pub indexed_word-requires-clause-sized : goal.indexed_word-requires-clause-sized
 indexed_word-requires-clause-sized c =

@@ -9,13 +9,13 @@ use Rattle.vl_mean.specs.FlatLaw.{flat_scopes}
 use Rattle.vl_mean.specs.Scopes.{operand_in}
 use Rattle.wn_net.specs.Net.{value_at}
 use Rattle.wn_net.proofs.Laws.{adds_on, given_on}
-use Rattle.flow_cells.proofs.Numbers.{memory_bounds}
-use Rattle.vl_points.specs.Points.{IsAddress, distance, is_base}
-use Rattle.vl_terms.proofs.Finding.{bound_base}
-use Rattle.vl_steps.proofs.Contexts.{sign_in, size_in}
-use Rattle.vl_steps.proofs.Held.{held_varying}
-use Rattle.vl_steps.proofs.Named.{kept_at, words_within}
-use Rattle.vl_locate.proofs.word.word_holder.Goals as goal
+use Rattle.vl_flow_cells.proofs.Numbers.{memory_bounds}
+use Rattle.vl_lower_nodes.specs.Points.{IsAddress, distance, is_base}
+use Rattle.vl_lower_expr.proofs.Finding.{bound_base}
+use Rattle.vl_lower_stmt.proofs.Contexts.{sign_in, size_in}
+use Rattle.vl_lower_stmt.proofs.Held.{held_varying}
+use Rattle.vl_lower_stmt.proofs.Named.{kept_at, words_within}
+use Rattle.vl_lower_stmt.proofs.word.word_holder.Goals as goal
 
 pub address-requires-clause-base : goal.address-requires-clause-base
 address-requires-clause-base c =

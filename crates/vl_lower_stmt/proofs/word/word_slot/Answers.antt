@@ -5,9 +5,9 @@ use Rattle.vl_tree.specs.ExprView.{selects}
 use Rattle.vl_size.specs.Size.{or_none, word_size}
 use Rattle.vl_mean.specs.FlatLaw.{flat_scopes}
 use Rattle.vl_mean.specs.Targets.{word_spots}
-use Rattle.vl_steps.specs.Located.{IsLocated}
-use Rattle.vl_steps.proofs.Bits.{no_words}
-use Rattle.vl_locate.proofs.word.word_slot.Goals as goal
+use Rattle.vl_lower_stmt.specs.Located.{IsLocated}
+use Rattle.vl_lower_stmt.proofs.Bits.{no_words}
+use Rattle.vl_lower_stmt.proofs.word.word_slot.Goals as goal
 
 pub unreachable-requires-in-None : goal.unreachable-requires-in-None
 unreachable-requires-in-None c =

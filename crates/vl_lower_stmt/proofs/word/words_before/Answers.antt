@@ -1,7 +1,7 @@
 use Rattle.std.proofs.Common.{arith}
 use Rattle.std.proofs.lemmas.Int.{ints}
-use Rattle.flow_cells.proofs.Ranges.{word_few}
-use Rattle.vl_locate.proofs.word.words_before.Goals as goal
+use Rattle.vl_flow_cells.proofs.Ranges.{word_few}
+use Rattle.vl_lower_stmt.proofs.word.words_before.Goals as goal
 
 pub overflow_cast-result : goal.overflow_cast-result
 overflow_cast-result c =

@@ -4,8 +4,8 @@ use Rattle.std.specs.Option.{option_copied}
 use Rattle.std.proofs.lemmas.List.{take_more}
 use Rattle.std.proofs.lemmas.Option.{get_or_from_slice_get, slice_get_within}
 use Rattle.wn_net.proofs.Laws.{adds_on}
-use Rattle.vl_initial.proofs.ZeroCells.{name_more}
-use Rattle.vl_initial.proofs.zeros.zero_cells.Goals as goal
+use Rattle.vl_lower_stmt.proofs.ZeroCells.{name_more}
+use Rattle.vl_lower_stmt.proofs.zeros.zero_cells.Goals as goal
 
 pub loop-index-preserved : goal.loop-index-preserved
 loop-index-preserved c =

@@ -1,8 +1,8 @@
 use Rattle.std.proofs.Common.{take}
-use Rattle.vl_frames.specs.Frames.{cell_widths}
+use Rattle.vl_lower_assign.specs.Frames.{cell_widths}
 use Rattle.wn_net.specs.Changes.{AddsNodes}
-use Rattle.vl_initial.specs.Zeros.{AreZeros}
-use Rattle.vl_initial.proofs.zeros.zero_cells.Given as goal
+use Rattle.vl_lower_stmt.specs.Zeros.{AreZeros}
+use Rattle.vl_lower_stmt.proofs.zeros.zero_cells.Given as goal
 
 abbrev pub invariant-loop-index : goal.invariant-loop-index
 invariant-loop-index l = record {

@@ -7,13 +7,13 @@ use Rattle.vl_tree.specs.Phrase.{Spells, word}
 use Rattle.vl_tree.specs.Item.{items}
 use Rattle.vl_tree.specs.ItemSpelling.{spell, spell_all}
 use Rattle.vl_tree.specs.ItemView.{block}
-use Rattle.vl_grammar.specs.Machine.{then}
-use Rattle.vl_region.specs.declared.reading.Ending.{Ending}
-use Rattle.vl_region.specs.Items.{word_of, innermost, still, AreOpen}
-use Rattle.vl_take.specs.Next.{kinds_in, IsOther}
-use Rattle.vl_body.proofs.ItemSpelled.{for_found, if_found, if_else_found}
-use Rattle.vl_region.proofs.ItemsSpelled.{inner_word, still_more, still_closed}
-use Rattle.vl_body.proofs.item.+item.Goals as goal
+use Rattle.vl_parse_grammar.specs.Machine.{then}
+use Rattle.vl_parse.specs.declared.reading.Ending.{Ending}
+use Rattle.vl_parse.specs.Items.{word_of, innermost, still, AreOpen}
+use Rattle.vl_parse_cursor.specs.Next.{kinds_in, IsOther}
+use Rattle.vl_parse.proofs.ItemSpelled.{for_found, if_found, if_else_found}
+use Rattle.vl_parse.proofs.ItemsSpelled.{inner_word, still_more, still_closed}
+use Rattle.vl_parse.proofs.item.+item.Goals as goal
 
 pub read_for-returns-clause-found : goal.read_for-returns-clause-found
 read_for-returns-clause-found n c start here word =

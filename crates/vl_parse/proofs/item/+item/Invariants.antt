@@ -1,9 +1,9 @@
 use Rattle.std.proofs.Common.{◌≡◌, ◌+◌, ◌*◌, ◌≤◌, length}
 use Rattle.vl_tree.specs.Phrase.{Spells}
-use Rattle.vl_grammar.specs.Grammar as grammar
-use Rattle.vl_region.specs.Items as items
-use Rattle.vl_take.specs.Next.{kinds_in}
-use Rattle.vl_body.proofs.item.+item.Given as goal
+use Rattle.vl_parse_grammar.specs.Grammar as grammar
+use Rattle.vl_parse.specs.Items as items
+use Rattle.vl_parse_cursor.specs.Next.{kinds_in}
+use Rattle.vl_parse.proofs.item.+item.Given as goal
 
 abbrev pub decreases-read_item : goal.decreases-read_item
 decreases-read_item l = 5 * length l.tokens.now

@@ -2,11 +2,11 @@
 use Rattle.std.proofs.Common.{sym, subst}
 use Rattle.std.specs.Prelude.{Ok, Err}
 use Rattle.vl_tree.specs.Phrase.{kinds_of}
-use Rattle.vl_grammar.specs.Machine.{syntax, deep}
-use Rattle.vl_grammar.specs.Grammar.{read, modules, run}
+use Rattle.vl_parse_grammar.specs.Machine.{syntax, deep}
+use Rattle.vl_parse_grammar.specs.Grammar.{read, modules, run}
 use Rattle.vl_parse.specs.Faults.{Answers, deep_fault}
-use Rattle.vl_take.specs.Goes.{Ends}
-use Rattle.vl_take.specs.Next.{kinds_in}
+use Rattle.vl_parse_cursor.specs.Goes.{Ends}
+use Rattle.vl_parse_cursor.specs.Next.{kinds_in}
 use Rattle.vl_parse.proofs.Top.{answers_ok, answers_stop, memory_or}
 use Rattle.vl_parse.proofs.Refusals.{shallow, one, gives, fault_of_tokens, refuses_faulty, refuses_deep}
 use Rattle.vl_parse.proofs.parser.parse.Goals as goal

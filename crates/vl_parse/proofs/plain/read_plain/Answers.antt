@@ -3,10 +3,10 @@ use Rattle.fv_base.specs.declared.kind.Kind.TheVariants as k
 use Rattle.fv_base.specs.declared.keyword.Keyword.TheVariants as w
 use Rattle.vl_tree.specs.DeclarationSpelling.{net_word, parameter_word}
 use Rattle.vl_tree.specs.Item.{declaration, integer, genvar, parameter, assign, initial}
-use Rattle.vl_plain.proofs.ItemLeads.{kind_integer, kind_genvar, kind_assign, kind_always, kind_initial, kind_net}
-use Rattle.vl_plain.proofs.ItemLeads.{kind_parameter}
-use Rattle.vl_plain.proofs.PlainSpelled.{plain_found, always_found, instance_found}
-use Rattle.vl_plain.proofs.plain.read_plain.Goals as goal
+use Rattle.vl_parse.proofs.ItemLeads.{kind_integer, kind_genvar, kind_assign, kind_always, kind_initial, kind_net}
+use Rattle.vl_parse.proofs.ItemLeads.{kind_parameter}
+use Rattle.vl_parse.proofs.PlainSpelled.{plain_found, always_found, instance_found}
+use Rattle.vl_parse.proofs.plain.read_plain.Goals as goal
 
 pub returns-in_ok-declaration-in-Net-clause-found : goal.returns-in_ok-declaration-in-Net-clause-found
 returns-in_ok-declaration-in-Net-clause-found c =

@@ -3,8 +3,8 @@ use Rattle.std.specs.Prelude.{All}
 use Rattle.vl_tree.specs.Phrase.{Spells, each}
 use Rattle.vl_tree.specs.ItemSpelling as spec
 use Rattle.vl_tree.specs.WellFormed as formed
-use Rattle.vl_grammar.specs.Grammar as grammar
-use Rattle.vl_take.specs.Next.{kinds_in}
+use Rattle.vl_parse_grammar.specs.Grammar as grammar
+use Rattle.vl_parse_cursor.specs.Next.{kinds_in}
 use Rattle.vl_parse.proofs.source.read_modules.Given as goal
 
 abbrev pub invariant-loop-rest : goal.invariant-loop-rest

@@ -1,9 +1,9 @@
 use Rattle.std.proofs.Common.{◌∙◌, ap, arith}
 use Rattle.std.specs.Prelude.{Err}
-use Rattle.vl_grammar.specs.Machine.{syntax}
-use Rattle.vl_take.specs.Next.{behind_name, kinds_in}
-use Rattle.vl_take.proofs.Tokens.{name_wrong, kinds_length}
-use Rattle.vl_take.proofs.take.read_name.Goals as goal
+use Rattle.vl_parse_grammar.specs.Machine.{syntax}
+use Rattle.vl_parse_cursor.specs.Next.{behind_name, kinds_in}
+use Rattle.vl_parse_cursor.proofs.Tokens.{name_wrong, kinds_length}
+use Rattle.vl_parse_cursor.proofs.take.read_name.Goals as goal
 
 pub returns-in_default-kind : goal.returns-in_default-kind
 returns-in_default-kind c = record {

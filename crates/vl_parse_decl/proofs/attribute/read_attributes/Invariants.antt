@@ -2,10 +2,10 @@ use Rattle.std.proofs.Common.{◌≡◌, ◌≤◌, length}
 use Rattle.vl_tree.specs.Phrase.{Spells}
 use Rattle.vl_tree.specs.DeclarationSpelling as spec
 use Rattle.vl_tree.specs.DeclarationWellFormed as formed
-use Rattle.vl_grammar.specs.Grammar as grammar
-use Rattle.vl_part.specs.Before.{rule_of}
-use Rattle.vl_take.specs.Next.{kinds_in}
-use Rattle.vl_part.proofs.attribute.read_attributes.Given as goal
+use Rattle.vl_parse_grammar.specs.Grammar as grammar
+use Rattle.vl_parse_decl.specs.Before.{rule_of}
+use Rattle.vl_parse_cursor.specs.Next.{kinds_in}
+use Rattle.vl_parse_decl.proofs.attribute.read_attributes.Given as goal
 
 abbrev pub invariant-loop-inside : goal.invariant-loop-inside
 invariant-loop-inside l = record {

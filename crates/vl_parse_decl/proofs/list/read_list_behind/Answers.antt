@@ -2,12 +2,12 @@
 use Rattle.std.proofs.Common.{◌≡◌, [], ◌∷◌, ◌++◌, sym, ap, ◌∙◌, subst, arith}
 use Rattle.vl_tree.specs.DeclarationWellFormed.{AreSome}
 use Rattle.vl_tree.specs.Phrase.{Spells, between_commas}
-use Rattle.vl_grammar.specs.Machine.{then}
-use Rattle.vl_grammar.specs.Grammar as grammar
-use Rattle.vl_part.specs.Lists.{BeginsWith}
-use Rattle.vl_take.specs.Next.{kinds_in}
-use Rattle.vl_part.proofs.ListLaws.{between_pushed, begins_pushed, some_pushed}
-use Rattle.vl_part.proofs.list.read_list_behind.Goals as goal
+use Rattle.vl_parse_grammar.specs.Machine.{then}
+use Rattle.vl_parse_grammar.specs.Grammar as grammar
+use Rattle.vl_parse_decl.specs.Lists.{BeginsWith}
+use Rattle.vl_parse_cursor.specs.Next.{kinds_in}
+use Rattle.vl_parse_decl.proofs.ListLaws.{between_pushed, begins_pushed, some_pushed}
+use Rattle.vl_parse_decl.proofs.list.read_list_behind.Goals as goal
 
 pub loop-behind-preserved : goal.loop-behind-preserved
 loop-behind-preserved g c =

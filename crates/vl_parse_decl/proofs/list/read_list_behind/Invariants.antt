@@ -2,10 +2,10 @@ use Rattle.std.proofs.Common.{◌≡◌, ◌≤◌, List, length}
 use Rattle.fv_base.specs.declared.token.Token.{Token}
 use Rattle.vl_tree.specs.DeclarationWellFormed.{AreSome}
 use Rattle.vl_tree.specs.Phrase.{Spells, between_commas}
-use Rattle.vl_grammar.specs.Grammar as grammar
-use Rattle.vl_part.specs.Lists.{BeginsWith}
-use Rattle.vl_take.specs.Next.{kinds_in}
-use Rattle.vl_part.proofs.list.read_list_behind.Given as goal
+use Rattle.vl_parse_grammar.specs.Grammar as grammar
+use Rattle.vl_parse_decl.specs.Lists.{BeginsWith}
+use Rattle.vl_parse_cursor.specs.Next.{kinds_in}
+use Rattle.vl_parse_decl.proofs.list.read_list_behind.Given as goal
 
 abbrev pub invariant-loop-behind : goal.invariant-loop-behind
 invariant-loop-behind g l = record {

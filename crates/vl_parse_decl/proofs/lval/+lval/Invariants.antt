@@ -3,10 +3,10 @@ use Rattle.vl_tree.specs.Phrase.{Spells}
 use Rattle.vl_tree.specs.Lval.{lvals}
 use Rattle.vl_tree.specs.LvalSpelling as spec
 use Rattle.vl_tree.specs.LvalWellFormed as formed
-use Rattle.vl_grammar.specs.Machine.{then}
-use Rattle.vl_grammar.specs.Grammar as grammar
-use Rattle.vl_take.specs.Next.{kinds_in}
-use Rattle.vl_part.proofs.lval.+lval.Given as goal
+use Rattle.vl_parse_grammar.specs.Machine.{then}
+use Rattle.vl_parse_grammar.specs.Grammar as grammar
+use Rattle.vl_parse_cursor.specs.Next.{kinds_in}
+use Rattle.vl_parse_decl.proofs.lval.+lval.Given as goal
 
 abbrev pub decreases-read_lval : goal.decreases-read_lval
 decreases-read_lval l = 2 * length l.tokens.now

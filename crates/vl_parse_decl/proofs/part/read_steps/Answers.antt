@@ -1,5 +1,5 @@
-use Rattle.vl_part.proofs.PartSpelled.{head_spelled}
-use Rattle.vl_part.proofs.part.read_steps.Goals as goal
+use Rattle.vl_parse_decl.proofs.PartSpelled.{head_spelled}
+use Rattle.vl_parse_decl.proofs.part.read_steps.Goals as goal
 
 pub returns-clause-found : goal.returns-clause-found
 returns-clause-found c start name bracket variable =

@@ -3,16 +3,18 @@ use Rattle.std.proofs.lemmas.Result.{err_from_is_err_and}
 use Rattle.vl_tree.specs.Expr.{exprs}
 use Rattle.vl_tree.specs.ExprSpelling.{spell}
 use Rattle.vl_tree.specs.Phrase.{Spells}
-use Rattle.vl_grammar.specs.Machine.{then}
-use Rattle.vl_grammar.specs.Grammar.{read, selects}
-use Rattle.vl_take.specs.Next.{kinds_in}
-use Rattle.vl_expr.specs.Levels.{operand_at, more_at}
-use Rattle.vl_expr.proofs.ExprSpelled.{if_ok_then, binary_found, conditional_found, repeat_spelled, concat_spelled}
-use Rattle.vl_expr.proofs.ExprSteps.{ends_then, ends_as, goes_as, begins_number, begins_name, begins_paren}
-use Rattle.vl_expr.proofs.ExprSteps.{begins_cast, begins_brace, begins_brace_deep, begins_unary, begins_unary_deep}
-use Rattle.vl_expr.proofs.ExprSteps.{begins_wrong, joins_binary, joins_binary_deep, joins_question}
-use Rattle.vl_expr.proofs.ExprSteps.{joins_question_deep, joins_colon}
-use Rattle.vl_expr.proofs.expr.+expr.Goals as goal
+use Rattle.vl_parse_grammar.specs.Machine.{then}
+use Rattle.vl_parse_grammar.specs.Grammar.{read, selects}
+use Rattle.vl_parse_cursor.specs.Next.{kinds_in}
+use Rattle.vl_parse_expr.specs.Levels.{operand_at, more_at}
+use Rattle.vl_parse_expr.proofs.ExprSpelled.{if_ok_then, binary_found, conditional_found, repeat_spelled}
+use Rattle.vl_parse_expr.proofs.ExprSpelled.{concat_spelled}
+use Rattle.vl_parse_expr.proofs.ExprSteps.{ends_then, ends_as, goes_as, begins_number, begins_name, begins_paren}
+use Rattle.vl_parse_expr.proofs.ExprSteps.{begins_cast, begins_brace, begins_brace_deep, begins_unary}
+use Rattle.vl_parse_expr.proofs.ExprSteps.{begins_unary_deep}
+use Rattle.vl_parse_expr.proofs.ExprSteps.{begins_wrong, joins_binary, joins_binary_deep, joins_question}
+use Rattle.vl_parse_expr.proofs.ExprSteps.{joins_question_deep, joins_colon}
+use Rattle.vl_parse_expr.proofs.expr.+expr.Goals as goal
 
 -- an operand
 

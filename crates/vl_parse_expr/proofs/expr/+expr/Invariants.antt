@@ -5,9 +5,9 @@ use Rattle.vl_tree.specs.Expr.{exprs}
 use Rattle.vl_tree.specs.ExprView.{selects}
 use Rattle.vl_tree.specs.ExprSpelling as spec
 use Rattle.vl_tree.specs.ExprWellFormed as formed
-use Rattle.vl_grammar.specs.Grammar as grammar
-use Rattle.vl_take.specs.Next.{kinds_in}
-use Rattle.vl_expr.proofs.expr.+expr.Given as goal
+use Rattle.vl_parse_grammar.specs.Grammar as grammar
+use Rattle.vl_parse_cursor.specs.Next.{kinds_in}
+use Rattle.vl_parse_expr.proofs.expr.+expr.Given as goal
 
 abbrev pub decreases-braces : goal.decreases-braces
 decreases-braces l = 4 * length l.tokens.now + 3

@@ -1,7 +1,7 @@
-use Rattle.vl_grammar.proofs.FirstFault.{faulty, whole, never_faulty}
-use Rattle.vl_grammar.proofs.TooDeep.{too_deep}
-use Rattle.vl_grammar.proofs.OneFault.{only_syntax, only_deep}
-use Rattle.vl_grammar.proofs.law.runs_stop_at_the_first_fault.Goals as goal
+use Rattle.vl_parse_grammar.proofs.FirstFault.{faulty, whole, never_faulty}
+use Rattle.vl_parse_grammar.proofs.TooDeep.{too_deep}
+use Rattle.vl_parse_grammar.proofs.OneFault.{only_syntax, only_deep}
+use Rattle.vl_parse_grammar.proofs.law.runs_stop_at_the_first_fault.Goals as goal
 
 pub returns-clause-syntax : goal.returns-clause-syntax
 returns-clause-syntax c tokens l h = faulty tokens l h

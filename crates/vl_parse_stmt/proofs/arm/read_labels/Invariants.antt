@@ -3,10 +3,10 @@ use Rattle.vl_tree.specs.DeclarationWellFormed.{AreSome}
 use Rattle.vl_tree.specs.Phrase.{Spells, between_commas}
 use Rattle.vl_tree.specs.StmtSpelling as spec
 use Rattle.vl_tree.specs.StmtWellFormed as formed
-use Rattle.vl_grammar.specs.Machine.{then}
-use Rattle.vl_grammar.specs.Grammar as grammar
-use Rattle.vl_take.specs.Next.{kinds_in}
-use Rattle.vl_stmt.proofs.arm.read_labels.Given as goal
+use Rattle.vl_parse_grammar.specs.Machine.{then}
+use Rattle.vl_parse_grammar.specs.Grammar as grammar
+use Rattle.vl_parse_cursor.specs.Next.{kinds_in}
+use Rattle.vl_parse_stmt.proofs.arm.read_labels.Given as goal
 
 abbrev pub invariant-loop-behind : goal.invariant-loop-behind
 invariant-loop-behind l = record {

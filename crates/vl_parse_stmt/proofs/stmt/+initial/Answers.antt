@@ -3,8 +3,8 @@ use Rattle.std.proofs.Common.{sym, subst}
 use Rattle.vl_tree.specs.Phrase.{Spells}
 use Rattle.vl_tree.specs.Stmt as tree
 use Rattle.vl_tree.specs.StmtSpelling as spec
-use Rattle.vl_stmt.proofs.StmtSpelled.{bare_block}
-use Rattle.vl_stmt.proofs.stmt.+initial.Goals as goal
+use Rattle.vl_parse_stmt.proofs.StmtSpelled.{bare_block}
+use Rattle.vl_parse_stmt.proofs.stmt.+initial.Goals as goal
 
 pub read_initial-returns-in_ok-all-in-Some-clause-found : goal.read_initial-returns-in_ok-all-in-Some-clause-found
 read_initial-returns-in_ok-all-in-Some-clause-found t c =

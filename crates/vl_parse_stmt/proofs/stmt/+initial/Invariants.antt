@@ -3,9 +3,9 @@ use Rattle.vl_tree.specs.Phrase.{Spells}
 use Rattle.vl_tree.specs.Stmt as tree
 use Rattle.vl_tree.specs.StmtSpelling as spec
 use Rattle.vl_tree.specs.StmtWellFormed as formed
-use Rattle.vl_grammar.specs.Grammar as grammar
-use Rattle.vl_take.specs.Next.{kinds_in}
-use Rattle.vl_stmt.proofs.stmt.+initial.Given as goal
+use Rattle.vl_parse_grammar.specs.Grammar as grammar
+use Rattle.vl_parse_cursor.specs.Next.{kinds_in}
+use Rattle.vl_parse_stmt.proofs.stmt.+initial.Given as goal
 
 abbrev pub decreases-read_initial : goal.decreases-read_initial
 decreases-read_initial l = 2 * length l.tokens.now

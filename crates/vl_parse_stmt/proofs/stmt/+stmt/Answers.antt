@@ -5,10 +5,10 @@ use Rattle.vl_tree.specs.Phrase.{Spells}
 use Rattle.vl_tree.specs.Stmt as tree
 use Rattle.vl_tree.specs.StmtSpelling as spec
 use Rattle.vl_tree.specs.StmtView.{arms}
-use Rattle.vl_stmt.specs.Bare.{HasNoAttributes}
-use Rattle.vl_stmt.proofs.StmtLeads.{kind_begin}
-use Rattle.vl_stmt.proofs.StmtNodes.{block_found, case_found, begins_here, next_is, attributed}
-use Rattle.vl_stmt.proofs.stmt.+stmt.Goals as goal
+use Rattle.vl_parse_stmt.specs.Bare.{HasNoAttributes}
+use Rattle.vl_parse_stmt.proofs.StmtLeads.{kind_begin}
+use Rattle.vl_parse_stmt.proofs.StmtNodes.{block_found, case_found, begins_here, next_is, attributed}
+use Rattle.vl_parse_stmt.proofs.stmt.+stmt.Goals as goal
 
 pub read_stmt-returns-clause-found : goal.read_stmt-returns-clause-found
 read_stmt-returns-clause-found t c =

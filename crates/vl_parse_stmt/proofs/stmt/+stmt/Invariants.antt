@@ -3,11 +3,11 @@ use Rattle.vl_tree.specs.Phrase.{Spells}
 use Rattle.vl_tree.specs.Stmt as tree
 use Rattle.vl_tree.specs.StmtSpelling as spec
 use Rattle.vl_tree.specs.StmtWellFormed as formed
-use Rattle.vl_grammar.specs.Grammar as grammar
+use Rattle.vl_parse_grammar.specs.Grammar as grammar
 use Rattle.vl_tree.specs.StmtView.{arms}
-use Rattle.vl_stmt.specs.Arms.{number_of}
-use Rattle.vl_take.specs.Next.{kinds_in}
-use Rattle.vl_stmt.proofs.stmt.+stmt.Given as goal
+use Rattle.vl_parse_stmt.specs.Arms.{number_of}
+use Rattle.vl_parse_cursor.specs.Next.{kinds_in}
+use Rattle.vl_parse_stmt.proofs.stmt.+stmt.Given as goal
 
 abbrev pub decreases-read_stmt : goal.decreases-read_stmt
 decreases-read_stmt l = 4 * length l.tokens.now + 1

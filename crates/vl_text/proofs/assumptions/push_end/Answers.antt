@@ -1,8 +1,8 @@
 use Rattle.std.proofs.Common.{[], ◌∷◌}
 use Rattle.fv_base.specs.declared.symbol.Symbol.TheVariants as s
-use Rattle.rvf_text.specs.Assumptions.{sign_at}
-use Rattle.rvf_text.proofs.Sorting.{pushed, none_pushed}
-use Rattle.rvf_text.proofs.assumptions.push_end.Goals as goal
+use Rattle.vl_text.specs.Assumptions.{sign_at}
+use Rattle.vl_text.proofs.Sorting.{pushed, none_pushed}
+use Rattle.vl_text.proofs.assumptions.push_end.Goals as goal
 
 pub returns : goal.returns
 returns c =

@@ -1,8 +1,8 @@
 use Rattle.std.proofs.Common.{◌≡◌, Ok, ap, sym, ◌∙◌}
 use Rattle.vl_prep.specs.Macros.{held}
 use Rattle.vl_prep.specs.Prep.{preprocessed}
-use Rattle.rvf_text.proofs.Defining.{defined_once}
-use Rattle.rvf_text.proofs.macros.defined_by.Goals as goal
+use Rattle.vl_text.proofs.Defining.{defined_once}
+use Rattle.vl_text.proofs.macros.defined_by.Goals as goal
 
 pub returns-in-Ok-prep-clause-one : goal.returns-in-Ok-prep-clause-one
 returns-in-Ok-prep-clause-one c =

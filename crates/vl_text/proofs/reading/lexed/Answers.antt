@@ -1,9 +1,9 @@
 use Rattle.std.proofs.Common.{refl}
 use Rattle.std.specs.Prelude.{Ok, Err}
-use Rattle.rvf_text.specs.Texts.{texts_seen, lines_seen}
-use Rattle.rvf_text.specs.declared.fault.TextFault.TheVariants.{Lex}
-use Rattle.rvf_text.proofs.Laying.{laid_answer}
-use Rattle.rvf_text.proofs.reading.lexed.Goals as goal
+use Rattle.vl_text.specs.Texts.{texts_seen, lines_seen}
+use Rattle.vl_text.specs.declared.fault.TextFault.TheVariants.{Lex}
+use Rattle.vl_text.proofs.Laying.{laid_answer}
+use Rattle.vl_text.proofs.reading.lexed.Goals as goal
 
 pub returns-in-Some : goal.returns-in-Some
 returns-in-Some c =

@@ -1,7 +1,7 @@
-use Rattle.rvf_text.proofs.Faulty.{parse_at}
-use Rattle.rvf_text.proofs.Parsing.{parse_ok, parse_err}
-use Rattle.rvf_text.proofs.Standing.{tree_at}
-use Rattle.rvf_text.proofs.reading.parsed.Goals as goal
+use Rattle.vl_text.proofs.Faulty.{parse_at}
+use Rattle.vl_text.proofs.Parsing.{parse_ok, parse_err}
+use Rattle.vl_text.proofs.Standing.{tree_at}
+use Rattle.vl_text.proofs.reading.parsed.Goals as goal
 
 pub returns-in-Ok-clause-exactly : goal.returns-in-Ok-clause-exactly
 returns-in-Ok-clause-exactly c =

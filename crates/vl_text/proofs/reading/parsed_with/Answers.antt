@@ -1,9 +1,9 @@
 use Rattle.std.proofs.Common.{◌∙◌, sym, subst}
 use Rattle.vl_prep.specs.Places.{IsPlaced}
-use Rattle.rvf_text.specs.SourceText.{Answers, AreParsed}
-use Rattle.rvf_text.specs.Texts.{lines_seen}
-use Rattle.rvf_text.proofs.Standing.{with_assumptions_at, answer_among}
-use Rattle.rvf_text.proofs.reading.parsed_with.Goals as goal
+use Rattle.vl_text.specs.SourceText.{Answers, AreParsed}
+use Rattle.vl_text.specs.Texts.{lines_seen}
+use Rattle.vl_text.proofs.Standing.{with_assumptions_at, answer_among}
+use Rattle.vl_text.proofs.reading.parsed_with.Goals as goal
 
 pub returns-clause-exactly : goal.returns-clause-exactly
 returns-clause-exactly c =

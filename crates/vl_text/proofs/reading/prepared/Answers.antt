@@ -1,7 +1,7 @@
 use Rattle.vl_prep.specs.Macros.{held}
-use Rattle.rvf_text.proofs.Faulty.{prep_at}
-use Rattle.rvf_text.proofs.Preparing.{prep_ok, prep_err}
-use Rattle.rvf_text.proofs.reading.prepared.Goals as goal
+use Rattle.vl_text.proofs.Faulty.{prep_at}
+use Rattle.vl_text.proofs.Preparing.{prep_ok, prep_err}
+use Rattle.vl_text.proofs.reading.prepared.Goals as goal
 
 pub returns-in-Ok-clause-exactly : goal.returns-in-Ok-clause-exactly
 returns-in-Ok-clause-exactly c =

@@ -1,10 +1,10 @@
 use Rattle.std.proofs.Common.{subst, sym}
-use Rattle.rvf_text.specs.Places.{IsAtToken, AreAtTokens}
-use Rattle.rvf_text.specs.SourceText.{Answers, AreLaid, FromTokens, reading_seen}
-use Rattle.rvf_text.specs.Texts.{texts_seen, lines_seen}
-use Rattle.rvf_text.proofs.Answering.{answer_behind, answer_stopped}
-use Rattle.rvf_text.proofs.Placing.{placed_behind, nodes_behind, placed_lexing}
-use Rattle.rvf_text.proofs.reading.read_source.Goals as goal
+use Rattle.vl_text.specs.Places.{IsAtToken, AreAtTokens}
+use Rattle.vl_text.specs.SourceText.{Answers, AreLaid, FromTokens, reading_seen}
+use Rattle.vl_text.specs.Texts.{texts_seen, lines_seen}
+use Rattle.vl_text.proofs.Answering.{answer_behind, answer_stopped}
+use Rattle.vl_text.proofs.Placing.{placed_behind, nodes_behind, placed_lexing}
+use Rattle.vl_text.proofs.reading.read_source.Goals as goal
 
 pub returns-in-Ok-clause-exactly : goal.returns-in-Ok-clause-exactly
 returns-in-Ok-clause-exactly c =

@@ -1,10 +1,10 @@
 use Rattle.vl_prep.specs.Macros.{held}
 use Rattle.vl_prep.specs.Prep.{Outcome}
-use Rattle.rvf_text.specs.SourceText.{ArePrepared, AreRead, with_macros}
-use Rattle.rvf_text.specs.Texts.{lines_seen}
-use Rattle.rvf_text.proofs.Answering.{answer_behind, answer_stopped, read_answer}
-use Rattle.rvf_text.proofs.Standing.{answer_among, pair_at}
-use Rattle.rvf_text.proofs.reading.read_tokens.Goals as goal
+use Rattle.vl_text.specs.SourceText.{ArePrepared, AreRead, with_macros}
+use Rattle.vl_text.specs.Texts.{lines_seen}
+use Rattle.vl_text.proofs.Answering.{answer_behind, answer_stopped, read_answer}
+use Rattle.vl_text.proofs.Standing.{answer_among, pair_at}
+use Rattle.vl_text.proofs.reading.read_tokens.Goals as goal
 
 pub returns-in-Ok-clause-exactly : goal.returns-in-Ok-clause-exactly
 returns-in-Ok-clause-exactly c =

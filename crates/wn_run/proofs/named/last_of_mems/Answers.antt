@@ -1,6 +1,6 @@
 use Rattle.std.proofs.Common.{arith}
-use Rattle.wn_early.proofs.Later.{next_mem}
-use Rattle.wn_early.proofs.named.last_of_mems.Goals as goal
+use Rattle.wn_run.proofs.Later.{next_mem}
+use Rattle.wn_run.proofs.named.last_of_mems.Goals as goal
 
 pub loop-mem-preserved : goal.loop-mem-preserved
 loop-mem-preserved c = (

@@ -1,6 +1,6 @@
 use Rattle.std.specs.Prelude.{ℕ, ◌≤◌, ◌<◌, ◌+◌, [], map, slice_index_or}
-use Rattle.wn_early.specs.Named.{AreWritesBelow}
-use Rattle.wn_early.proofs.named.last_of_mems.Given as goal
+use Rattle.wn_run.specs.Named.{AreWritesBelow}
+use Rattle.wn_run.proofs.named.last_of_mems.Given as goal
 
 abbrev pub invariant-loop-mem : goal.invariant-loop-mem
 invariant-loop-mem l = (l.start ≤ l.last)

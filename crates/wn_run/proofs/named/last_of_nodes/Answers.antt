@@ -1,6 +1,6 @@
 use Rattle.std.proofs.Common.{arith}
-use Rattle.wn_early.proofs.Later.{next_id}
-use Rattle.wn_early.proofs.named.last_of_nodes.Goals as goal
+use Rattle.wn_run.proofs.Later.{next_id}
+use Rattle.wn_run.proofs.named.last_of_nodes.Goals as goal
 
 pub loop-id-preserved : goal.loop-id-preserved
 loop-id-preserved c = (

@@ -1,7 +1,7 @@
 use Rattle.std.proofs.Common.{arith}
 use Rattle.wn_net.specs.declared.parts.MemWrite.{MemWrite}
-use Rattle.wn_early.proofs.Later.{next_named}
-use Rattle.wn_early.proofs.named.last_of_writes.Goals as goal
+use Rattle.wn_run.proofs.Later.{next_named}
+use Rattle.wn_run.proofs.named.last_of_writes.Goals as goal
 
 pub loop-write-preserved : goal.loop-write-preserved
 loop-write-preserved c =

@@ -1,5 +1,5 @@
 use Rattle.std.specs.Prelude.{ℕ, ◌≤◌, ◌<◌, ◌+◌, map, slice_index}
-use Rattle.wn_early.proofs.named.last_of_writes.Given as goal
+use Rattle.wn_run.proofs.named.last_of_writes.Given as goal
 
 abbrev pub invariant-loop-write : goal.invariant-loop-write
 invariant-loop-write l = (l.start ≤ l.last)

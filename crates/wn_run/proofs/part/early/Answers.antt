@@ -5,10 +5,10 @@ use Rattle.wn_net.specs.declared.parts.Mem.{Mem}
 use Rattle.wn_net.specs.Net.{Netlist, IsNet}
 use Rattle.wn_net.specs.Changes.{AddsNodes, cut_to}
 use Rattle.wn_net.proofs.Laws.{adds_none}
-use Rattle.wn_early.proofs.Front.{cut_whole, cut_adds, below_more, mems_more}
-use Rattle.wn_early.specs.Named.{AreBelow, AreRegsBelow, AreMemsBelow}
-use Rattle.wn_early.proofs.part.early.Goals as goal
-use Rattle.wn_early.proofs.part.early.Goals.{then-last-nodes, else-last-nodes}
+use Rattle.wn_run.proofs.Front.{cut_whole, cut_adds, below_more, mems_more}
+use Rattle.wn_run.specs.Named.{AreBelow, AreRegsBelow, AreMemsBelow}
+use Rattle.wn_run.proofs.part.early.Goals as goal
+use Rattle.wn_run.proofs.part.early.Goals.{then-last-nodes, else-last-nodes}
 
 pub cut-requires-clause-whole : goal.cut-requires-clause-whole
 cut-requires-clause-whole c =

@@ -1,6 +1,6 @@
 use Rattle.wn_run.proofs.OldRun.{old_run}
 use Rattle.wn_run.proofs.Chosen.{begins_as, extends}
-use Rattle.wn_run.proofs.law.old_parts_of_runs_are_old_runs.Goals as goal
+use Rattle.wn_run.proofs.run_law.old_parts_of_runs_are_old_runs.Goals as goal
 
 pub returns-clause-cycles : goal.returns-clause-cycles
 returns-clause-cycles c = old_run

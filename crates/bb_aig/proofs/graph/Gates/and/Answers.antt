@@ -1,6 +1,6 @@
 use Rattle.std.specs.Prelude.{◌&&◌}
-use Rattle.bb_gates.proofs.Growth.{made_by, and_turned}
-use Rattle.bb_gates.proofs.graph.Gates.and.Goals as goal
+use Rattle.bb_aig.proofs.Growth.{made_by, and_turned}
+use Rattle.bb_aig.proofs.graph.Gates.and.Goals as goal
 
 pub returns-then-b-a-clause-made : goal.returns-then-b-a-clause-made
 returns-then-b-a-clause-made c = λ f h p q.

@@ -1,9 +1,9 @@
 use Rattle.std.specs.Prelude.{List}
 use Rattle.std.proofs.Common.{◌∙◌, subst}
 use Rattle.bb_aig.specs.declared.node.AigNode.{AigNode}
-use Rattle.bb_gates.specs.Gates.{Grows}
-use Rattle.bb_gates.proofs.Growth.{grows_gate}
-use Rattle.bb_gates.proofs.graph.Gates.shared.Goals as goal
+use Rattle.bb_aig.specs.Gates.{Grows}
+use Rattle.bb_aig.proofs.Growth.{grows_gate}
+use Rattle.bb_aig.proofs.graph.Gates.shared.Goals as goal
 
 pub returns-then-put-clause-grows : goal.returns-then-put-clause-grows
 returns-then-put-clause-grows c =

@@ -1,7 +1,7 @@
 use Rattle.std.specs.Prelude.{IfOk}
 use Rattle.std.proofs.Common.{sym, subst}
-use Rattle.bb_gates.specs.Gates.{Meaning, IsMade}
-use Rattle.bb_words.specs.Operators.{of_operator}
+use Rattle.bb_aig.specs.Gates.{Meaning, IsMade}
+use Rattle.bb_words.specs.WordsOperators.{of_operator}
 use Rattle.bb_words.specs.declared.pairs.BitOperator.{BitOperator}
 use Rattle.bb_words.proofs.pairs.BitOperator.gate.Goals as goal
 

@@ -1,6 +1,6 @@
 use Rattle.std.proofs.Common.{arith, suc, Some, None}
-use Rattle.bit_sets.proofs.Rising.{rising_to}
-use Rattle.bit_sets.proofs.bits.Bits.of_cells.Goals as goal
+use Rattle.fv_bit_sets.proofs.Rising.{rising_to}
+use Rattle.fv_bit_sets.proofs.bits.Bits.of_cells.Goals as goal
 
 pub put-requires-2 : goal.put-requires-2
 put-requires-2 c =

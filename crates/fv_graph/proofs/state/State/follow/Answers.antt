@@ -1,8 +1,8 @@
 use Rattle.std.proofs.Common.{rules, ◌≡◌, ap, ◌∙◌, get_or, slice_set, ◌++◌, ◌∷◌, []}
-use Rattle.graph_walk.specs.declared.state.Progress.TheVariants as p
-use Rattle.graph_walk.proofs.Moves.{begun}
-use Rattle.graph_walk.proofs.Turns.{to_new, to_open, to_done, stands_as}
-use Rattle.graph_walk.proofs.state.State.follow.Goals as goal
+use Rattle.fv_graph.specs.declared.state.Progress.TheVariants as p
+use Rattle.fv_graph.proofs.Moves.{begun}
+use Rattle.fv_graph.proofs.Turns.{to_new, to_open, to_done, stands_as}
+use Rattle.fv_graph.proofs.state.State.follow.Goals as goal
 
 pub returns-in_ok-open-in-New : goal.returns-in_ok-open-in-New
 returns-in_ok-open-in-New c =

@@ -1,8 +1,8 @@
 use Rattle.std.proofs.Common.{rules, arith, ap, sym, ◌∙◌, subst, ◌≡◌, [], ◌++◌}
 use Rattle.std.proofs.lemmas.Grind.{common_steps}
-use Rattle.graph_walk.specs.Walking.{Walks}
-use Rattle.graph_walk.proofs.Turns.{begun_walk, fewer_both, fewer_opened, no_more_new}
-use Rattle.graph_walk.proofs.state.State.from.Goals as goal
+use Rattle.fv_graph.specs.Walking.{Walks}
+use Rattle.fv_graph.proofs.Turns.{begun_walk, fewer_both, fewer_opened, no_more_new}
+use Rattle.fv_graph.proofs.state.State.from.Goals as goal
 
 pub loop-step-init : goal.loop-step-init
 loop-step-init c = (

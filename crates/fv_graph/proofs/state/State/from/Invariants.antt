@@ -1,5 +1,5 @@
-use Rattle.graph_walk.specs.Walking.{Walks, AreFewer, work}
-use Rattle.graph_walk.proofs.state.State.from.Given as goal
+use Rattle.fv_graph.specs.Walking.{Walks, AreFewer, work}
+use Rattle.fv_graph.proofs.state.State.from.Given as goal
 
 abbrev pub invariant-loop-step : goal.invariant-loop-step
 invariant-loop-step l =

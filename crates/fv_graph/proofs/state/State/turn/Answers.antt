@@ -1,6 +1,6 @@
 use Rattle.std.proofs.Common.{ap, sym, arith}
-use Rattle.graph_walk.proofs.Turns.{to_end, node_within}
-use Rattle.graph_walk.proofs.state.State.turn.Goals as goal
+use Rattle.fv_graph.proofs.Turns.{to_end, node_within}
+use Rattle.fv_graph.proofs.state.State.turn.Goals as goal
 
 pub next_target-requires : goal.next_target-requires
 next_target-requires c =

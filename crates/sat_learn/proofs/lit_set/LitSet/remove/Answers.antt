@@ -3,7 +3,7 @@ use Rattle.std.proofs.Common.{not, ◌&&◌, arith}
 use Rattle.std.specs.Ordering.{int_eq}
 use Rattle.lrat_check.specs.Sets.{has, AreLits}
 use Rattle.sat_trail.specs.Trail.{place_of}
-use Rattle.sat_watch.specs.Watches.{lit_at}
+use Rattle.sat_propagate.specs.Watches.{lit_at}
 use Rattle.sat_learn.proofs.Placings.{hadnt, within, moved_placed, lits_kept, taken_out, taken_has}
 use Rattle.sat_learn.proofs.lit_set.LitSet.remove.Goals as goal
 

@@ -1,7 +1,7 @@
 use Rattle.std.proofs.Common.{ap, ◌∙◌}
-use Rattle.sat_watch.specs.Watching.{lists_of}
-use Rattle.sat_watch.proofs.ListSteps.{pushed}
-use Rattle.sat_watch.proofs.lists.Lists.push.Goals as goal
+use Rattle.sat_propagate.specs.Watching.{lists_of}
+use Rattle.sat_propagate.proofs.ListSteps.{pushed}
+use Rattle.sat_propagate.proofs.lists.Lists.push.Goals as goal
 
 pub returns : goal.returns
 returns c =

@@ -1,7 +1,7 @@
 use Rattle.std.proofs.Common.{◌++◌, ap, ◌∙◌}
-use Rattle.sat_watch.specs.Watching.{lists_of}
-use Rattle.sat_watch.proofs.ListSteps.{put}
-use Rattle.sat_watch.proofs.lists.Lists.put_back.Goals as goal
+use Rattle.sat_propagate.specs.Watching.{lists_of}
+use Rattle.sat_propagate.proofs.ListSteps.{put}
+use Rattle.sat_propagate.proofs.lists.Lists.put_back.Goals as goal
 
 pub returns-clause-lists : goal.returns-clause-lists
 returns-clause-lists c =

@@ -1,7 +1,7 @@
 use Rattle.std.proofs.Common.{◌<◌, length, ap, ◌∙◌, arith}
-use Rattle.sat_watch.specs.Watching.{lists_of}
-use Rattle.sat_watch.proofs.ListSteps.{took}
-use Rattle.sat_watch.proofs.lists.Lists.take.Goals as goal
+use Rattle.sat_propagate.specs.Watching.{lists_of}
+use Rattle.sat_propagate.proofs.ListSteps.{took}
+use Rattle.sat_propagate.proofs.lists.Lists.take.Goals as goal
 
 pub returns-then-place-len-clause-rest : goal.returns-then-place-len-clause-rest
 returns-then-place-len-clause-rest c =

@@ -8,13 +8,13 @@ use Rattle.lrat_check.specs.Sets.{has, reading}
 use Rattle.lrat_check.specs.Resolved.{Closed}
 use Rattle.lrat_check.specs.Store.{held_of}
 use Rattle.sat_trail.specs.Trail.{lits}
-use Rattle.sat_unit.specs.declared.scan.Scan.TheVariants as scan
-use Rattle.sat_unit.specs.Propagation.{Taken, Holds, Sees, place_at}
-use Rattle.sat_unit.proofs.ByPlace.{same_clause, lits_at}
-use Rattle.sat_unit.proofs.Consistent.{any_true, not_open}
-use Rattle.sat_unit.proofs.Seen.{all_settled, one_true, short_at, place_below, forced_kept}
-use Rattle.sat_unit.proofs.propagation.Propagation.look_at_short.Goals as goal
-use Rattle.sat_unit.proofs.propagation.Propagation.look_at_short.Goals.{in-True, in-Open}
+use Rattle.sat_propagate.specs.declared.unit_scan.Scan.TheVariants as scan
+use Rattle.sat_propagate.specs.Propagation.{Taken, Holds, Sees, place_at}
+use Rattle.sat_propagate.proofs.ByPlace.{same_clause, lits_at}
+use Rattle.sat_propagate.proofs.Consistent.{any_true, not_open}
+use Rattle.sat_propagate.proofs.Seen.{all_settled, one_true, short_at, place_below, forced_kept}
+use Rattle.sat_propagate.proofs.propagation.Propagation.look_at_short.Goals as goal
+use Rattle.sat_propagate.proofs.propagation.Propagation.look_at_short.Goals.{in-True, in-Open}
 
 pub at-requires : goal.at-requires
 at-requires c =

@@ -1,6 +1,6 @@
 use Rattle.std.proofs.Common.{◌≡◌}
-use Rattle.sat_unit.specs.Propagation.{Taken, Holds}
-use Rattle.sat_unit.proofs.propagation.Propagation.look_at_short.Given as goal
+use Rattle.sat_propagate.specs.Propagation.{Taken, Holds}
+use Rattle.sat_propagate.proofs.propagation.Propagation.look_at_short.Given as goal
 
 -- so many of the short clauses are true
 abbrev pub invariant-loop-index : goal.invariant-loop-index

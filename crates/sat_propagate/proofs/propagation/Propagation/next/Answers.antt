@@ -1,13 +1,13 @@
 use Rattle.std.proofs.Common.{◌≡◌, ℕ, ◌-◌, ◌≤◌, ℤ, length, sym, subst, arith}
 use Rattle.lrat_check.specs.Store.{coded, held_of}
 use Rattle.sat_trail.specs.Trail.{lits, true_codes}
-use Rattle.sat_watch.specs.Watching.{Calm}
-use Rattle.sat_watch.specs.Watches.{Sees as Looks, CalmWhere}
-use Rattle.sat_unit.specs.declared.scan.Scan.TheVariants as scan
-use Rattle.sat_unit.specs.Propagation.{Taken, Holds, Sees}
-use Rattle.sat_unit.proofs.Going.{goes_on}
-use Rattle.sat_unit.proofs.Seen.{looked_on, conflict_at, unit_at, some_id, forced_kept}
-use Rattle.sat_unit.proofs.propagation.Propagation.next.Goals as goal
+use Rattle.sat_propagate.specs.Watching.{Calm}
+use Rattle.sat_propagate.specs.Watches.{Sees as Looks, CalmWhere}
+use Rattle.sat_propagate.specs.declared.unit_scan.Scan.TheVariants as scan
+use Rattle.sat_propagate.specs.Propagation.{Taken, Holds, Sees}
+use Rattle.sat_propagate.proofs.Going.{goes_on}
+use Rattle.sat_propagate.proofs.Seen.{looked_on, conflict_at, unit_at, some_id, forced_kept}
+use Rattle.sat_propagate.proofs.propagation.Propagation.next.Goals as goal
 
 conflict_settled : (place : ℕ) → scan.Conflict place ≡ scan.Settled → ⊥
 conflict_settled place e = cc

@@ -2,11 +2,11 @@ use Rattle.std.proofs.Common.{◌≡◌, ◌+◌, ◌<◌, List, ℕ, Some, leng
 use Rattle.std.specs.Prelude.{slice_get}
 use Rattle.std.proofs.lemmas.Option.{slice_get-get_or}
 use Rattle.lrat_check.specs.Store.{coded}
-use Rattle.sat_watch.specs.Watches.{Adds}
-use Rattle.sat_unit.specs.Propagation.{Taken, Holds}
-use Rattle.sat_unit.proofs.Takes.{taken_on, short_on}
-use Rattle.sat_unit.proofs.ByPlace.{open_below}
-use Rattle.sat_unit.proofs.propagation.Propagation.take.Goals as goal
+use Rattle.sat_propagate.specs.Watches.{Adds}
+use Rattle.sat_propagate.specs.Propagation.{Taken, Holds}
+use Rattle.sat_propagate.proofs.Takes.{taken_on, short_on}
+use Rattle.sat_propagate.proofs.ByPlace.{open_below}
+use Rattle.sat_propagate.proofs.propagation.Propagation.take.Goals as goal
 
 pub at-clause-requires : goal.at-clause-requires
 at-clause-requires c = subst (λ z. z.many < length c.args.clauses.now) (sym c.self.view_is) c.requires.within

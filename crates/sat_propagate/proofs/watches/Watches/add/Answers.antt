@@ -3,13 +3,13 @@ use Rattle.lrat_check.specs.Codes.{code_of, codes_of}
 use Rattle.lrat_check.specs.Sets.{has, is_false}
 use Rattle.lrat_check.specs.Store.{coded, next, with_code}
 use Rattle.sat_trail.specs.Trail.{lits, oldest}
-use Rattle.sat_watch.specs.declared.watch.Watch.{Watch}
-use Rattle.sat_watch.specs.Watching.{lists_of, with_watch, watch_at}
-use Rattle.sat_watch.specs.Watches.{State, Keeps, SameLits, OneAlone, lit_at}
-use Rattle.sat_watch.proofs.Gaps.{none_above, left_out_on}
-use Rattle.sat_watch.proofs.Orders.{kept_at}
-use Rattle.sat_watch.proofs.Keeping.{added}
-use Rattle.sat_watch.proofs.watches.Watches.add.Goals as goal
+use Rattle.sat_propagate.specs.declared.watch.Watch.{Watch}
+use Rattle.sat_propagate.specs.Watching.{lists_of, with_watch, watch_at}
+use Rattle.sat_propagate.specs.Watches.{State, Keeps, SameLits, OneAlone, lit_at}
+use Rattle.sat_propagate.proofs.Gaps.{none_above, left_out_on}
+use Rattle.sat_propagate.proofs.Orders.{kept_at}
+use Rattle.sat_propagate.proofs.Keeping.{added}
+use Rattle.sat_propagate.proofs.watches.Watches.add.Goals as goal
 
 pub leave_out-requires-clause-none : goal.leave_out-requires-clause-none
 leave_out-requires-clause-none c =

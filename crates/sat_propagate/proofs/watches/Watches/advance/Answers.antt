@@ -2,11 +2,11 @@ use Rattle.std.proofs.Common.{◌+◌, refl, ap, sym, subst, ◌∙◌}
 use Rattle.lrat_check.specs.Codes.{code_of, flip}
 use Rattle.sat_trail.specs.Trail.{true_codes, IsNext}
 use Rattle.sat_trail.proofs.Codes.{lit_kept}
-use Rattle.sat_watch.specs.Watching.{is_false_code}
-use Rattle.sat_watch.specs.Watches.{State, Keeps}
-use Rattle.sat_watch.proofs.Keeping.{taken_on}
-use Rattle.sat_watch.proofs.Steps.{false_next}
-use Rattle.sat_watch.proofs.watches.Watches.advance.Goals as goal
+use Rattle.sat_propagate.specs.Watching.{is_false_code}
+use Rattle.sat_propagate.specs.Watches.{State, Keeps}
+use Rattle.sat_propagate.proofs.Keeping.{taken_on}
+use Rattle.sat_propagate.proofs.Steps.{false_next}
+use Rattle.sat_propagate.proofs.watches.Watches.advance.Goals as goal
 
 pub visit-requires-clause-keeps : goal.visit-requires-clause-keeps
 visit-requires-clause-keeps c =

@@ -1,6 +1,6 @@
 use Rattle.std.proofs.Common.{◌≤◌, length, arith}
-use Rattle.sat_watch.proofs.Keeping.{finds_none}
-use Rattle.sat_watch.proofs.watches.Watches.next.Goals as goal
+use Rattle.sat_propagate.proofs.Keeping.{finds_none}
+use Rattle.sat_propagate.proofs.watches.Watches.next.Goals as goal
 
 pub returns-in-None-clause-sees : goal.returns-in-None-clause-sees
 returns-in-None-clause-sees c =

@@ -1,8 +1,8 @@
 use Rattle.std.proofs.Common.{◌≡◌, ◌≤◌, [], length}
 use Rattle.lrat_check.specs.Store.{coded, next}
-use Rattle.sat_watch.specs.Watching.{SameHeld}
-use Rattle.sat_watch.specs.Watches.{Keeps}
-use Rattle.sat_watch.proofs.watches.Watches.next.Given as goal
+use Rattle.sat_propagate.specs.Watching.{SameHeld}
+use Rattle.sat_propagate.specs.Watches.{Keeps}
+use Rattle.sat_propagate.proofs.watches.Watches.next.Given as goal
 
 -- so many entries of the trail were gone through, and no list is left
 abbrev pub invariant-loop-place : goal.invariant-loop-place

@@ -1,9 +1,9 @@
 use Rattle.std.proofs.Common.{ap, sym, subst, ◌∙◌, min}
 use Rattle.sat_trail.specs.Trail.{oldest}
-use Rattle.sat_watch.specs.Watches.{State, Keeps}
-use Rattle.sat_watch.proofs.Keeping.{headed, put_on}
-use Rattle.sat_watch.proofs.Steps.{oldest_min}
-use Rattle.sat_watch.proofs.watches.Watches.resume.Goals as goal
+use Rattle.sat_propagate.specs.Watches.{State, Keeps}
+use Rattle.sat_propagate.proofs.Keeping.{headed, put_on}
+use Rattle.sat_propagate.proofs.Steps.{oldest_min}
+use Rattle.sat_propagate.proofs.watches.Watches.resume.Goals as goal
 
 pub visit-requires-clause-keeps : goal.visit-requires-clause-keeps
 visit-requires-clause-keeps c =

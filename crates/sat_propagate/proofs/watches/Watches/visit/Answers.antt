@@ -2,11 +2,11 @@ use Rattle.std.proofs.Common.{◌≡◌, [], refl, sym, subst}
 use Rattle.std.specs.Prelude.{MatchOption}
 use Rattle.lrat_check.specs.Store.{coded}
 use Rattle.sat_trail.specs.Trail.{true_codes}
-use Rattle.sat_watch.specs.Watching.{lists_of, Ready, Stops}
-use Rattle.sat_watch.specs.Watches.{State, Keeps}
-use Rattle.sat_watch.proofs.Closings.{forced_lit}
-use Rattle.sat_watch.proofs.Keeping.{visited, settled, finds_stop, stops_at}
-use Rattle.sat_watch.proofs.watches.Watches.visit.Goals as goal
+use Rattle.sat_propagate.specs.Watching.{lists_of, Ready, Stops}
+use Rattle.sat_propagate.specs.Watches.{State, Keeps}
+use Rattle.sat_propagate.proofs.Closings.{forced_lit}
+use Rattle.sat_propagate.proofs.Keeping.{visited, settled, finds_stop, stops_at}
+use Rattle.sat_propagate.proofs.watches.Watches.visit.Goals as goal
 
 pub scan_of-requires : goal.scan_of-requires
 scan_of-requires c =

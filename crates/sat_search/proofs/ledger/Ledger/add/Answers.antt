@@ -1,7 +1,7 @@
 use Rattle.std.proofs.Common.{ℕ, ◌^◌, ◌<◌, List, sym, subst}
-use Rattle.sat_ledger.specs.Ledger.{State, IsLedger, id_at}
-use Rattle.sat_ledger.proofs.Named.{small_ids}
-use Rattle.sat_ledger.proofs.ledger.Ledger.add.Goals as goal
+use Rattle.sat_search.specs.Ledger.{State, IsLedger, id_at}
+use Rattle.sat_search.proofs.Named.{small_ids}
+use Rattle.sat_search.proofs.ledger.Ledger.add.Goals as goal
 
 pub by_ids-requires : goal.by_ids-requires
 by_ids-requires c =

@@ -2,11 +2,11 @@ use Rattle.std.proofs.Common.{◌≡◌, ◌-◌, ◌<◌, ◌≤◌, ◌∙◌,
 use Rattle.std.proofs.Common.{arith}
 use Rattle.lrat_check.specs.declared.step.Step.TheVariants.{Delete}
 use Rattle.lrat_check.specs.Sets.{same_set}
-use Rattle.clause_set.specs.Known.{contains}
-use Rattle.sat_ledger.specs.Ledger.{State, IsLedger, StaysTold}
-use Rattle.sat_ledger.proofs.Dropping.{stays_told}
-use Rattle.sat_ledger.proofs.Places.{takes_out, found}
-use Rattle.sat_ledger.proofs.ledger.Ledger.drop_at.Goals as goal
+use Rattle.sat_trail.specs.Known.{contains}
+use Rattle.sat_search.specs.Ledger.{State, IsLedger, StaysTold}
+use Rattle.sat_search.proofs.Dropping.{stays_told}
+use Rattle.sat_search.proofs.Places.{takes_out, found}
+use Rattle.sat_search.proofs.ledger.Ledger.drop_at.Goals as goal
 
 pub returns-clause-told : goal.returns-clause-told
 returns-clause-told c =

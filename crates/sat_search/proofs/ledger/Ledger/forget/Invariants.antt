@@ -1,6 +1,6 @@
 use Rattle.std.proofs.Common.{◌≤◌, length}
-use Rattle.sat_ledger.specs.Ledger.{StaysTold}
-use Rattle.sat_ledger.proofs.ledger.Ledger.forget.Given as goal
+use Rattle.sat_search.specs.Ledger.{StaysTold}
+use Rattle.sat_search.proofs.ledger.Ledger.forget.Given as goal
 
 abbrev pub invariant-sifting : goal.invariant-sifting
 invariant-sifting l = StaysTold l.fn.self l.self × (l.place ≤ length l.self.clauses)

@@ -1,8 +1,8 @@
 use Rattle.std.proofs.Common.{◌≡◌, ◌-◌, ◌<◌, ◌^◌, ◌++◌, ◌∙◌, length, ap, subst, arith}
 use Rattle.cnf_form.specs.Cnf.{AreClauses}
-use Rattle.sat_ledger.specs.Ledger.{ids_to}
-use Rattle.sat_ledger.proofs.Starting.{starts}
-use Rattle.sat_ledger.proofs.ledger.Ledger.new.Goals as goal
+use Rattle.sat_search.specs.Ledger.{ids_to}
+use Rattle.sat_search.proofs.Starting.{starts}
+use Rattle.sat_search.proofs.ledger.Ledger.new.Goals as goal
 
 pub returns-clause-told : goal.returns-clause-told
 returns-clause-told c =

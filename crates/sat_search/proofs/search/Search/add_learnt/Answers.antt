@@ -1,10 +1,10 @@
 use Rattle.std.proofs.Common.{◌≡◌, ◌-◌, ◌^◌, ◌<◌, true, length, reverse, refl, sym, subst, ◌∙◌}
 use Rattle.lrat_check.specs.Sets.{AreLits}
 use Rattle.sat_trail.specs.Trail.{decided}
-use Rattle.sat_unit.specs.Propagation.{AllLits}
-use Rattle.sat_unit.specs.declared.scan.Scan.TheVariants as scan
+use Rattle.sat_propagate.specs.Propagation.{AllLits}
+use Rattle.sat_propagate.specs.declared.unit_scan.Scan.TheVariants as scan
 use Rattle.sat_learn.specs.Learning.{Learns}
-use Rattle.sat_ledger.specs.Ledger.{Adds}
+use Rattle.sat_search.specs.Ledger.{Adds}
 use Rattle.sat_search.specs.Turns.{State, IsSearch, Looked, with_ledger, Learned}
 use Rattle.sat_search.proofs.Turns.{few_clauses, all_are_lits, conflicts, is_ledger, false_lits}
 use Rattle.sat_search.proofs.search.Search.add_learnt.Goals as goal

@@ -1,5 +1,5 @@
 use Rattle.std.proofs.Common.{sym, subst}
-use Rattle.sat_unit.specs.declared.scan.Scan.TheVariants as scan
+use Rattle.sat_propagate.specs.declared.unit_scan.Scan.TheVariants as scan
 use Rattle.sat_search.specs.declared.turn.Turn.TheVariants as turn
 use Rattle.sat_search.specs.Turns.{State, Looked, Turns}
 use Rattle.sat_search.proofs.Turns.{with_trail, satisfies, decides}

@@ -1,5 +1,5 @@
 use Rattle.std.proofs.Common.{[], sym, subst}
-use Rattle.sat_ledger.specs.Ledger.{Tells}
+use Rattle.sat_search.specs.Ledger.{Tells}
 use Rattle.sat_search.proofs.Turns.{starts}
 use Rattle.sat_search.proofs.search.Search.new.Goals as goal
 

@@ -1,10 +1,10 @@
 use Rattle.std.proofs.Common.{◌≡◌, ◌-◌, ◌^◌, ◌<◌, false, length, reverse, sym, subst, ◌∙◌}
 use Rattle.lrat_check.specs.Sets.{AreLits}
 use Rattle.sat_trail.specs.Trail.{decided}
-use Rattle.sat_unit.specs.Propagation.{AllLits}
-use Rattle.sat_unit.specs.declared.scan.Scan.TheVariants as scan
+use Rattle.sat_propagate.specs.Propagation.{AllLits}
+use Rattle.sat_propagate.specs.declared.unit_scan.Scan.TheVariants as scan
 use Rattle.sat_learn.specs.Analysis.{Derives}
-use Rattle.sat_ledger.specs.Ledger.{Adds}
+use Rattle.sat_search.specs.Ledger.{Adds}
 use Rattle.sat_search.specs.declared.turn.Turn.TheVariants as turn
 use Rattle.sat_search.specs.Turns.{State, IsSearch, Looked, with_ledger, Turns}
 use Rattle.sat_search.proofs.Turns.{few_clauses, all_are_lits, conflicts, is_ledger, refutes}

@@ -1,8 +1,8 @@
 use Rattle.std.specs.Prelude.{IfOk}
 use Rattle.std.proofs.Common.{sym, subst}
 use Rattle.sat_trail.specs.Trail.{Stand}
-use Rattle.sat_unit.specs.Propagation.{AllLits, Holds}
-use Rattle.sat_unit.specs.declared.scan.Scan.TheVariants as scan
+use Rattle.sat_propagate.specs.Propagation.{AllLits, Holds}
+use Rattle.sat_propagate.specs.declared.unit_scan.Scan.TheVariants as scan
 use Rattle.sat_search.specs.Turns.{State, IsSearch, Turns}
 use Rattle.sat_search.proofs.Turns.{with_taken, all_are_lits, stands, looked_at, searches_behind}
 use Rattle.sat_search.proofs.Turns.{forced_kept, turn_from}

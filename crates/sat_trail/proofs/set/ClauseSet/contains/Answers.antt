@@ -2,9 +2,9 @@ use Rattle.std.proofs.Common.{ap, sym, ◌∙◌}
 use Rattle.std.specs.List.{list_any}
 use Rattle.std.specs.Ordering.{int_eq}
 use Rattle.std.specs.Cmp.Lexicographic.{pointwise}
-use Rattle.clause_set.specs.Known as spec
-use Rattle.clause_set.proofs.Same.{contains_keys}
-use Rattle.clause_set.proofs.set.ClauseSet.contains.Goals as goal
+use Rattle.sat_trail.specs.Known as spec
+use Rattle.sat_trail.proofs.Same.{contains_keys}
+use Rattle.sat_trail.proofs.set.ClauseSet.contains.Goals as goal
 
 pub returns : goal.returns
 returns c =

@@ -3,10 +3,10 @@ use Rattle.std.specs.List.{list_any}
 use Rattle.std.specs.Ordering.{int_eq}
 use Rattle.std.specs.Cmp.Lexicographic.{pointwise}
 use Rattle.lrat_check.specs.Sets.{same_set}
-use Rattle.clause_set.specs.Known as spec
-use Rattle.clause_set.specs.Sorted.{sorted}
-use Rattle.clause_set.proofs.Same.{contains_keys, sorted_same, without_key}
-use Rattle.clause_set.proofs.set.ClauseSet.remove.Goals as goal
+use Rattle.sat_trail.specs.Known as spec
+use Rattle.sat_trail.specs.Sorted.{sorted}
+use Rattle.sat_trail.proofs.Same.{contains_keys, sorted_same, without_key}
+use Rattle.sat_trail.proofs.set.ClauseSet.remove.Goals as goal
 
 pub returns-clause-test : goal.returns-clause-test
 returns-clause-test c =

@@ -2,9 +2,9 @@ use Rattle.std.proofs.Common.{◌∙◌, ◌++◌}
 use Rattle.vl_tree.specs.Item.{items}
 use Rattle.vl_mean.specs.Declarations.{header_parameters}
 use Rattle.vl_mean.specs.Walk.{header_of}
-use Rattle.vl_refusal.specs.Items.{items_parameters, parameter_named}
-use Rattle.vl_connect.proofs.Found.{other_lists}
-use Rattle.vl_connect.proofs.parameters.ParameterTable.find.Goals as goal
+use Rattle.vl_elab_spec.specs.Items.{items_parameters, parameter_named}
+use Rattle.vl_elab_check_instance.proofs.Found.{other_lists}
+use Rattle.vl_elab_check_instance.proofs.parameters.ParameterTable.find.Goals as goal
 
 pub find_in-requires : goal.find_in-requires
 find_in-requires c =

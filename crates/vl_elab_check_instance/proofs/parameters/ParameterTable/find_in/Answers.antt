@@ -3,10 +3,10 @@ use Rattle.std.specs.Option.{option_copied}
 use Rattle.std.specs.Prelude.{None}
 use Rattle.vl_tree.specs.Item.{items}
 use Rattle.vl_mean.specs.Declarations.{header_parameters}
-use Rattle.vl_refusal.specs.Items.{items_parameters}
-use Rattle.vl_connect.specs.Parameters.{found_at, spot_in}
-use Rattle.vl_connect.proofs.Found.{found_here}
-use Rattle.vl_connect.proofs.parameters.ParameterTable.find_in.Goals as goal
+use Rattle.vl_elab_spec.specs.Items.{items_parameters}
+use Rattle.vl_elab_check_instance.specs.Parameters.{found_at, spot_in}
+use Rattle.vl_elab_check_instance.proofs.Found.{found_here}
+use Rattle.vl_elab_check_instance.proofs.parameters.ParameterTable.find_in.Goals as goal
 
 pub returns-in-None : goal.returns-in-None
 returns-in-None c =

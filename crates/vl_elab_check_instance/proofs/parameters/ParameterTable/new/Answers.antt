@@ -1,9 +1,9 @@
 use Rattle.std.proofs.Common.{sym}
 use Rattle.std.proofs.lemmas.Result.{IfOk-weaker}
 use Rattle.vl_mean.specs.Walk.{header_of}
-use Rattle.vl_connect.specs.Parameters.{AreParameters, AreParametersOf}
-use Rattle.vl_connect.proofs.Found.{other_lists}
-use Rattle.vl_connect.proofs.parameters.ParameterTable.new.Goals as goal
+use Rattle.vl_elab_check_instance.specs.Parameters.{AreParameters, AreParametersOf}
+use Rattle.vl_elab_check_instance.proofs.Found.{other_lists}
+use Rattle.vl_elab_check_instance.proofs.parameters.ParameterTable.new.Goals as goal
 
 pub returns : goal.returns
 returns c =

@@ -1,10 +1,10 @@
 use Rattle.std.proofs.Common.{◌≡◌, ◌∙◌, ◌+◌, ◌-◌, ◌++◌, ◌∷◌, ap, arith}
 use Rattle.std.specs.Prelude.{drop, slice_get, Some}
 use Rattle.std.proofs.lemmas.Grind.{common_steps}
-use Rattle.vl_connect.specs.declared.parameters.Spot.TheVariants as s
-use Rattle.vl_connect.specs.Parameters.{spot_in}
-use Rattle.vl_connect.proofs.Found.{found_put, at_front}
-use Rattle.vl_connect.proofs.parameters.ParameterTable.put_all.Goals as goal
+use Rattle.vl_elab_check_instance.specs.declared.parameters.Spot.TheVariants as s
+use Rattle.vl_elab_check_instance.specs.Parameters.{spot_in}
+use Rattle.vl_elab_check_instance.proofs.Found.{found_put, at_front}
+use Rattle.vl_elab_check_instance.proofs.parameters.ParameterTable.put_all.Goals as goal
 
 pub loop-inner-preserved : goal.loop-inner-preserved
 loop-inner-preserved c =

@@ -3,9 +3,9 @@ use Rattle.std.specs.Prelude.{drop, slice_get}
 use Rattle.vl_tree.specs.declared.declaration.HeaderParameter.{HeaderParameter}
 use Rattle.vl_tree.specs.declared.declaration.Parameter.{Parameter}
 use Rattle.vl_tree.specs.Item.{Item}
-use Rattle.vl_connect.specs.declared.parameters.Spot.TheVariants as s
-use Rattle.vl_connect.specs.Parameters.{parameter_at, Finds}
-use Rattle.vl_connect.proofs.parameters.ParameterTable.put_all.Given as goal
+use Rattle.vl_elab_check_instance.specs.declared.parameters.Spot.TheVariants as s
+use Rattle.vl_elab_check_instance.specs.Parameters.{parameter_at, Finds}
+use Rattle.vl_elab_check_instance.proofs.parameters.ParameterTable.put_all.Given as goal
 
 abbrev pub invariant-loop-inner : goal.invariant-loop-inner
 invariant-loop-inner l = record {

@@ -3,11 +3,11 @@ use Rattle.std.specs.Prelude.{drop, slice_get, Some}
 use Rattle.std.proofs.lemmas.Grind.{common_steps}
 use Rattle.vl_tree.specs.Item.{items}
 use Rattle.vl_mean.specs.Declarations.{header_parameters}
-use Rattle.vl_refusal.specs.Items.{items_parameters}
-use Rattle.vl_connect.specs.declared.parameters.Spot.TheVariants as s
-use Rattle.vl_connect.specs.Parameters.{spot_in, header_in}
-use Rattle.vl_connect.proofs.Found.{found_put, at_front}
-use Rattle.vl_connect.proofs.parameters.ParameterTable.put_headers.Goals as goal
+use Rattle.vl_elab_spec.specs.Items.{items_parameters}
+use Rattle.vl_elab_check_instance.specs.declared.parameters.Spot.TheVariants as s
+use Rattle.vl_elab_check_instance.specs.Parameters.{spot_in, header_in}
+use Rattle.vl_elab_check_instance.proofs.Found.{found_put, at_front}
+use Rattle.vl_elab_check_instance.proofs.parameters.ParameterTable.put_headers.Goals as goal
 
 pub loop-place-preserved : goal.loop-place-preserved
 loop-place-preserved c =

@@ -2,9 +2,9 @@ use Rattle.std.proofs.Common.{◌≤◌, ◌++◌, length}
 use Rattle.std.specs.Prelude.{drop}
 use Rattle.vl_tree.specs.Item.{items}
 use Rattle.vl_mean.specs.Declarations.{header_parameters}
-use Rattle.vl_refusal.specs.Items.{items_parameters}
-use Rattle.vl_connect.specs.Parameters.{Finds}
-use Rattle.vl_connect.proofs.parameters.ParameterTable.put_headers.Given as goal
+use Rattle.vl_elab_spec.specs.Items.{items_parameters}
+use Rattle.vl_elab_check_instance.specs.Parameters.{Finds}
+use Rattle.vl_elab_check_instance.proofs.parameters.ParameterTable.put_headers.Given as goal
 
 abbrev pub invariant-loop-place : goal.invariant-loop-place
 invariant-loop-place l = record {

@@ -2,10 +2,10 @@ use Rattle.std.proofs.Common.{◌≡◌, ◌∙◌, ◌+◌, ◌-◌, ◌∷◌,
 use Rattle.std.specs.Prelude.{drop, slice_get, Some}
 use Rattle.std.proofs.lemmas.Grind.{common_steps}
 use Rattle.vl_tree.specs.Item.{items}
-use Rattle.vl_refusal.specs.Items.{items_parameters}
-use Rattle.vl_connect.specs.Parameters.{Finds}
-use Rattle.vl_connect.proofs.Found.{items_given, at_front}
-use Rattle.vl_connect.proofs.parameters.ParameterTable.put_items.Goals as goal
+use Rattle.vl_elab_spec.specs.Items.{items_parameters}
+use Rattle.vl_elab_check_instance.specs.Parameters.{Finds}
+use Rattle.vl_elab_check_instance.proofs.Found.{items_given, at_front}
+use Rattle.vl_elab_check_instance.proofs.parameters.ParameterTable.put_items.Goals as goal
 
 pub loop-place-preserved : goal.loop-place-preserved
 loop-place-preserved c =

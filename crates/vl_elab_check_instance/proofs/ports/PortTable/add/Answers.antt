@@ -1,7 +1,7 @@
-use Rattle.vl_connect.specs.Ports.{direction_in}
+use Rattle.vl_elab_check_instance.specs.Ports.{direction_in}
 use Rattle.vl_mean.proofs.Lookups.{lookup_after}
-use Rattle.vl_connect.proofs.Directions.{said, direction_kept, direction_put}
-use Rattle.vl_connect.proofs.ports.PortTable.add.Goals as goal
+use Rattle.vl_elab_check_instance.proofs.Directions.{said, direction_kept, direction_put}
+use Rattle.vl_elab_check_instance.proofs.ports.PortTable.add.Goals as goal
 
 pub returns-then-is_some : goal.returns-then-is_some
 returns-then-is_some c other =

@@ -1,7 +1,7 @@
 use Rattle.std.proofs.Common.{subst}
 use Rattle.std.proofs.lemmas.Result.{IfOk-weaker}
-use Rattle.vl_connect.specs.Ports.{AreDirections, AreDirectionsOf}
-use Rattle.vl_connect.proofs.ports.PortTable.new.Goals as goal
+use Rattle.vl_elab_check_instance.specs.Ports.{AreDirections, AreDirectionsOf}
+use Rattle.vl_elab_check_instance.proofs.ports.PortTable.new.Goals as goal
 
 pub returns : goal.returns
 returns c =

@@ -1,9 +1,9 @@
 use Rattle.std.proofs.Common.{◌≡◌, ◌∙◌, ◌+◌, [], ◌∷◌, arith, None}
 use Rattle.std.specs.Prelude.{drop}
 use Rattle.std.proofs.lemmas.Grind.{common_steps}
-use Rattle.vl_connect.specs.Ports.{direction_in}
-use Rattle.vl_connect.proofs.Directions.{ports_on, ports_end, directions_are}
-use Rattle.vl_connect.proofs.ports.PortTable.of.Goals as goal
+use Rattle.vl_elab_check_instance.specs.Ports.{direction_in}
+use Rattle.vl_elab_check_instance.proofs.Directions.{ports_on, ports_end, directions_are}
+use Rattle.vl_elab_check_instance.proofs.ports.PortTable.of.Goals as goal
 
 pub loop-port-preserved : goal.loop-port-preserved
 loop-port-preserved c other =

@@ -1,8 +1,8 @@
 use Rattle.std.proofs.Common.{◌≡◌, ℕ, List, None}
 use Rattle.std.specs.Prelude.{drop}
-use Rattle.vl_scope.specs.Texts.{or_else}
-use Rattle.vl_connect.specs.Ports.{direction_in, direction_behind}
-use Rattle.vl_connect.proofs.ports.PortTable.of.Given as goal
+use Rattle.vl_elab_scope.specs.Texts.{or_else}
+use Rattle.vl_elab_check_instance.specs.Ports.{direction_in, direction_behind}
+use Rattle.vl_elab_check_instance.proofs.ports.PortTable.of.Given as goal
 
 abbrev pub invariant-loop-port : goal.invariant-loop-port
 invariant-loop-port l =

@@ -1,8 +1,8 @@
 use Rattle.std.proofs.Common.{◌∙◌, ap}
 use Rattle.vl_mean.specs.Constants.{constant_of}
-use Rattle.vl_full.specs.Kept.{constants_from}
-use Rattle.vl_full.proofs.Tables.{ok_added, err_added}
-use Rattle.vl_full.proofs.constants.ConstantTable.add.Goals as goal
+use Rattle.vl_elab_draft.specs.Kept.{constants_from}
+use Rattle.vl_elab_draft.proofs.Tables.{ok_added, err_added}
+use Rattle.vl_elab_draft.proofs.full_constants.ConstantTable.add.Goals as goal
 
 pub add_among-requires-clause-fresh : goal.add_among-requires-clause-fresh
 add_among-requires-clause-fresh c = ap (λ cs. constant_of cs c.args.name) c.self.view_is ∙ c.requires

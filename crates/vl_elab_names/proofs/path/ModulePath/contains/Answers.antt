@@ -2,9 +2,9 @@ use Rattle.std.specs.Prelude.{is_some}
 use Rattle.std.proofs.Common.{◌∙◌, ap}
 use Rattle.vl_size.proofs.Entries.{copied_some}
 use Rattle.vl_mean.specs.Cells.{contains_name}
-use Rattle.vl_modules.specs.Path.{texts_of}
-use Rattle.vl_modules.proofs.Names.{contains_lookup}
-use Rattle.vl_modules.proofs.path.ModulePath.contains.Goals as goal
+use Rattle.vl_elab_names.specs.Path.{texts_of}
+use Rattle.vl_elab_names.proofs.ModulesNames.{contains_lookup}
+use Rattle.vl_elab_names.proofs.path.ModulePath.contains.Goals as goal
 
 pub returns : goal.returns
 returns c =

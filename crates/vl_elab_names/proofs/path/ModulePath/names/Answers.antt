@@ -1,7 +1,7 @@
 use Rattle.std.proofs.Common.{◌≡◌, ◌∙◌, List, ℕ}
 use Rattle.std.proofs.lemmas.Result.{IfOk-weaker}
-use Rattle.vl_modules.specs.Path.{texts_of}
-use Rattle.vl_modules.proofs.path.ModulePath.names.Goals as goal
+use Rattle.vl_elab_names.specs.Path.{texts_of}
+use Rattle.vl_elab_names.proofs.path.ModulePath.names.Goals as goal
 
 pub returns : goal.returns
 returns c =

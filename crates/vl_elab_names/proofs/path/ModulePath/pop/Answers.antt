@@ -1,5 +1,5 @@
-use Rattle.vl_modules.proofs.Names.{popped}
-use Rattle.vl_modules.proofs.path.ModulePath.pop.Goals as goal
+use Rattle.vl_elab_names.proofs.ModulesNames.{popped}
+use Rattle.vl_elab_names.proofs.path.ModulePath.pop.Goals as goal
 
 pub returns-in-None : goal.returns-in-None
 returns-in-None c names name e =

@@ -1,5 +1,5 @@
-use Rattle.vl_modules.proofs.Names.{is_absent, name_added, names_stay}
-use Rattle.vl_modules.proofs.path.ModulePath.push.Goals as goal
+use Rattle.vl_elab_names.proofs.ModulesNames.{is_absent, name_added, names_stay}
+use Rattle.vl_elab_names.proofs.path.ModulePath.push.Goals as goal
 
 pub put-requires : goal.put-requires
 put-requires c =

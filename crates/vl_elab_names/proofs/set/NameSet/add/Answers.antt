@@ -1,7 +1,7 @@
 use Rattle.std.specs.Prelude.{◌||◌, bytes_eq}
-use Rattle.name_set.specs.Known.{is_apart, is_other}
-use Rattle.name_set.proofs.Added.{at_first, at_second, others_added, others_stay}
-use Rattle.name_set.proofs.set.NameSet.add.Goals as goal
+use Rattle.vl_elab_names.specs.Known.{is_apart, is_other}
+use Rattle.vl_elab_names.proofs.Added.{at_first, at_second, others_added, others_stay}
+use Rattle.vl_elab_names.proofs.set.NameSet.add.Goals as goal
 
 pub returns-then-is_none-clause-ok : goal.returns-then-is_none-clause-ok
 returns-then-is_none-clause-ok c other =

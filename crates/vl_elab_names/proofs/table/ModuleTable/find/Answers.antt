@@ -1,8 +1,8 @@
 use Rattle.std.proofs.Common.{◌∙◌, ap, sym}
 use Rattle.std.specs.Option.{option_copied}
 use Rattle.vl_mean.specs.Walk.{module_named}
-use Rattle.vl_modules.proofs.Places.{found, not_found}
-use Rattle.vl_modules.proofs.table.ModuleTable.find.Goals as goal
+use Rattle.vl_elab_names.proofs.Places.{found, not_found}
+use Rattle.vl_elab_names.proofs.table.ModuleTable.find.Goals as goal
 
 pub returns-in-None : goal.returns-in-None
 returns-in-None c =

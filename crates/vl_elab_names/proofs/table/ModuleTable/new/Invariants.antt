@@ -1,7 +1,7 @@
 use Rattle.std.proofs.Common.{◌≡◌, ◌≤◌, length, List, ℕ}
 use Rattle.std.specs.Prelude.{drop}
-use Rattle.vl_modules.specs.Table.{place_in, place_from}
-use Rattle.vl_modules.proofs.table.ModuleTable.new.Given as goal
+use Rattle.vl_elab_names.specs.Table.{place_in, place_from}
+use Rattle.vl_elab_names.proofs.table.ModuleTable.new.Given as goal
 
 abbrev pub invariant-loop-place : goal.invariant-loop-place
 invariant-loop-place l = record {

@@ -1,5 +1,5 @@
 use Rattle.vl_mean.proofs.Lookups.{lookup_after}
-use Rattle.vl_modules.proofs.table.ModuleTable.put.Goals as goal
+use Rattle.vl_elab_names.proofs.table.ModuleTable.put.Goals as goal
 
 pub returns : goal.returns
 returns c other =

@@ -1,10 +1,10 @@
 use Rattle.std.proofs.Common.{sym, subst, List}
 use Rattle.std.proofs.lemmas.Result.{on_ok_weaker}
-use Rattle.vl_refusal.specs.Meanings.{Names, meanings_before}
-use Rattle.vl_alike.specs.Alike.{Alike}
-use Rattle.vl_reach.proofs.Law.{reached_alike}
-use Rattle.vl_reach.proofs.Over.{entered_over}
-use Rattle.vl_reach.proofs.reached.Reached.enter.Goals as goal
+use Rattle.vl_elab_spec.specs.Meanings.{Names, meanings_before}
+use Rattle.vl_elab_scope.specs.Alike.{Alike}
+use Rattle.vl_elab_params.proofs.Law.{reached_alike}
+use Rattle.vl_elab_params.proofs.Over.{entered_over}
+use Rattle.vl_elab_params.proofs.reached.Reached.enter.Goals as goal
 
 pub returns-clause-names : goal.returns-clause-names
 returns-clause-names c =

@@ -1,5 +1,5 @@
-use Rattle.vl_reach.proofs.Over.{left_again}
-use Rattle.vl_reach.proofs.reached.Reached.leave.Goals as goal
+use Rattle.vl_elab_params.proofs.Over.{left_again}
+use Rattle.vl_elab_params.proofs.reached.Reached.leave.Goals as goal
 
 pub returns : goal.returns
 returns c reached outer e =

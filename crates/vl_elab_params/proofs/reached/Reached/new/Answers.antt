@@ -1,7 +1,7 @@
-use Rattle.vl_refusal.specs.Meanings.{meanings_at}
-use Rattle.vl_reach.specs.Reached.{parameters_at}
-use Rattle.vl_reach.proofs.Next.{none_reached_at}
-use Rattle.vl_reach.proofs.reached.Reached.new.Goals as goal
+use Rattle.vl_elab_spec.specs.Meanings.{meanings_at}
+use Rattle.vl_elab_params.specs.Reached.{parameters_at}
+use Rattle.vl_elab_params.proofs.Next.{none_reached_at}
+use Rattle.vl_elab_params.proofs.reached.Reached.new.Goals as goal
 
 pub returns : goal.returns
 returns c at e =

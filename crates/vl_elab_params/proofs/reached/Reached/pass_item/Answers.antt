@@ -2,10 +2,10 @@ use Rattle.std.proofs.Common.{sym, subst}
 use Rattle.std.specs.Prelude.{◌++◌}
 use Rattle.vl_mean.specs.Declarations.{names_of}
 use Rattle.std.proofs.lemmas.Result.{on_ok_weaker}
-use Rattle.vl_refusal.specs.Meanings.{meanings_at}
-use Rattle.vl_reach.specs.Reached.{AreReached, parameters_at}
-use Rattle.vl_reach.proofs.Next.{passed_reached}
-use Rattle.vl_reach.proofs.reached.Reached.pass_item.Goals as goal
+use Rattle.vl_elab_spec.specs.Meanings.{meanings_at}
+use Rattle.vl_elab_params.specs.Reached.{AreReached, parameters_at}
+use Rattle.vl_elab_params.proofs.Next.{passed_reached}
+use Rattle.vl_elab_params.proofs.reached.Reached.pass_item.Goals as goal
 
 pub returns : goal.returns
 returns c =

@@ -1,6 +1,6 @@
-use Rattle.vl_scope.specs.Seen.{seen, names_in}
-use Rattle.vl_scope.proofs.Added.{named_added, ok_added, err_added}
-use Rattle.vl_scope.proofs.level.Level.add.Goals as goal
+use Rattle.vl_elab_scope.specs.Seen.{seen, names_in}
+use Rattle.vl_elab_scope.proofs.Added.{named_added, ok_added, err_added}
+use Rattle.vl_elab_scope.proofs.level.Level.add.Goals as goal
 
 pub invariant_of-self : goal.invariant_of-self
 invariant_of-self c =

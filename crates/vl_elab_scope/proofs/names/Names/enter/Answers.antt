@@ -1,5 +1,5 @@
-use Rattle.vl_scope.proofs.Levels.{entered, named_entered}
-use Rattle.vl_scope.proofs.names.Names.enter.Goals as goal
+use Rattle.vl_elab_scope.proofs.Levels.{entered, named_entered}
+use Rattle.vl_elab_scope.proofs.names.Names.enter.Goals as goal
 
 pub invariant_of-self : goal.invariant_of-self
 invariant_of-self c =

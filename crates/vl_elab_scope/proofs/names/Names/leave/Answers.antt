@@ -1,7 +1,7 @@
 use Rattle.std.proofs.Common.{◌∙◌, ap, sym}
 use Rattle.std.specs.Prelude.{drop}
-use Rattle.vl_scope.proofs.Levels.{left, named_left, none_empty}
-use Rattle.vl_scope.proofs.names.Names.leave.Goals as goal
+use Rattle.vl_elab_scope.proofs.Levels.{left, named_left, none_empty}
+use Rattle.vl_elab_scope.proofs.names.Names.leave.Goals as goal
 
 pub invariant_of-self : goal.invariant_of-self
 invariant_of-self c =

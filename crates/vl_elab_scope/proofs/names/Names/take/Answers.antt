@@ -1,8 +1,8 @@
 use Rattle.std.proofs.Common.{◌∙◌, ap, sym}
 use Rattle.std.specs.Prelude.{drop}
-use Rattle.vl_scope.specs.Seen.{innermost}
-use Rattle.vl_scope.proofs.Levels.{left, named_left, none_empty, last_taken}
-use Rattle.vl_scope.proofs.names.Names.take.Goals as goal
+use Rattle.vl_elab_scope.specs.Seen.{innermost}
+use Rattle.vl_elab_scope.proofs.Levels.{left, named_left, none_empty, last_taken}
+use Rattle.vl_elab_scope.proofs.names.Names.take.Goals as goal
 
 pub invariant_of-self : goal.invariant_of-self
 invariant_of-self c =

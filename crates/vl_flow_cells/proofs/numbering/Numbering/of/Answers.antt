@@ -2,10 +2,10 @@ use Rattle.std.proofs.Common.{◌≡◌, ◌+◌, ◌<◌, ap, sym, ◌∙◌, a
 use Rattle.std.specs.Prelude.{is_none}
 use Rattle.std.specs.Option.{option_copied}
 use Rattle.vl_mean.specs.FlatLaw.{IsKept}
-use Rattle.flow_cells.specs.Numbered.{first_cell}
-use Rattle.flow_cells.proofs.Lists.{all_at, get_some}
-use Rattle.flow_cells.proofs.Numbers.{first_few, first_none, firsts_more, length_more, next_first}
-use Rattle.flow_cells.proofs.numbering.Numbering.of.Goals as goal
+use Rattle.vl_flow_cells.specs.Numbered.{first_cell}
+use Rattle.vl_flow_cells.proofs.Lists.{all_at, get_some}
+use Rattle.vl_flow_cells.proofs.Numbers.{first_few, first_none, firsts_more, length_more, next_first}
+use Rattle.vl_flow_cells.proofs.numbering.Numbering.of.Goals as goal
 
 pub loop-index-init : goal.loop-index-init
 loop-index-init c = record {

@@ -3,14 +3,14 @@ use Rattle.std.specs.Option.{option_copied}
 use Rattle.vl_tree.specs.ExprView.{selects}
 use Rattle.vl_size.specs.Table.{IsShaped}
 use Rattle.vl_mean.specs.FlatLaw.{IsKept}
-use Rattle.vl_path.specs.Reads.{selected}
-use Rattle.vl_path.proofs.Same.{declared_name}
-use Rattle.flow_cells.specs.Numbered.{HasSize, Shows, some_takes}
-use Rattle.flow_cells.proofs.Lists.{all_at, get_less}
-use Rattle.flow_cells.proofs.Numbers.{first_few}
-use Rattle.flow_cells.proofs.Sizes.{unsized}
-use Rattle.flow_cells.proofs.Taking.{place_none, place_some}
-use Rattle.flow_cells.proofs.numbering.Numbering.taken.Goals as goal
+use Rattle.vl_flow_spec.specs.Reads.{selected}
+use Rattle.vl_flow_spec.proofs.Same.{declared_name}
+use Rattle.vl_flow_cells.specs.Numbered.{HasSize, Shows, some_takes}
+use Rattle.vl_flow_cells.proofs.Lists.{all_at, get_less}
+use Rattle.vl_flow_cells.proofs.Numbers.{first_few}
+use Rattle.vl_flow_cells.proofs.Sizes.{unsized}
+use Rattle.vl_flow_cells.proofs.Taking.{place_none, place_some}
+use Rattle.vl_flow_cells.proofs.numbering.Numbering.taken.Goals as goal
 
 pub returns-in_err-name : goal.returns-in_err-name
 returns-in_err-name c sized =

@@ -1,8 +1,8 @@
 use Rattle.std.proofs.Common.{◌∙◌, sym}
-use Rattle.vl_order.specs.Refusals.{are_two, bits_counted, places_of}
-use Rattle.flow_twice.specs.Earliest.{listed}
-use Rattle.flow_twice.proofs.Lowest.{doubled_is, no_doubled}
-use Rattle.flow_twice.proofs.doubled.Doubled.lowest.Goals as goal
+use Rattle.vl_flow_spec.specs.Refusals.{are_two, bits_counted, places_of}
+use Rattle.vl_flow_check.specs.Earliest.{listed}
+use Rattle.vl_flow_check.proofs.Lowest.{doubled_is, no_doubled}
+use Rattle.vl_flow_check.proofs.doubled.Doubled.lowest.Goals as goal
 
 pub returns-in_default : goal.returns-in_default
 returns-in_default c drivers d at t =

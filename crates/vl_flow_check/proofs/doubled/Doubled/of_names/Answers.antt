@@ -1,5 +1,5 @@
-use Rattle.flow_twice.proofs.Lowest.{names_told}
-use Rattle.flow_twice.proofs.doubled.Doubled.of_names.Goals as goal
+use Rattle.vl_flow_check.proofs.Lowest.{names_told}
+use Rattle.vl_flow_check.proofs.doubled.Doubled.of_names.Goals as goal
 
 pub returns : goal.returns
 returns c =

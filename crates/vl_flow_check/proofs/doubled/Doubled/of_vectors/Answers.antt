@@ -1,5 +1,5 @@
-use Rattle.flow_twice.proofs.Lowest.{vectors_told}
-use Rattle.flow_twice.proofs.doubled.Doubled.of_vectors.Goals as goal
+use Rattle.vl_flow_check.proofs.Lowest.{vectors_told}
+use Rattle.vl_flow_check.proofs.doubled.Doubled.of_vectors.Goals as goal
 
 pub returns : goal.returns
 returns c =

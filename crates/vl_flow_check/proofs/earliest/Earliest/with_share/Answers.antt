@@ -1,7 +1,7 @@
 use Rattle.std.proofs.Common.{sym}
-use Rattle.flow_twice.specs.Earliest.{listed}
-use Rattle.flow_twice.proofs.Orders.{with_it, without_it}
-use Rattle.flow_twice.proofs.earliest.Earliest.with_share.Goals as goal
+use Rattle.vl_flow_check.specs.Earliest.{listed}
+use Rattle.vl_flow_check.proofs.Orders.{with_it, without_it}
+use Rattle.vl_flow_check.proofs.earliest.Earliest.with_share.Goals as goal
 
 pub returns-then-has : goal.returns-then-has
 returns-then-has c shares were =

@@ -1,5 +1,5 @@
-use Rattle.flow_judge.proofs.NameMarks.{names_marked}
-use Rattle.flow_judge.proofs.layout.Layout.names.Goals as goal
+use Rattle.vl_flow_check.proofs.NameMarks.{names_marked}
+use Rattle.vl_flow_check.proofs.layout.Layout.names.Goals as goal
 
 pub returns : goal.returns
 returns c ds drivers K w shows =

@@ -1,4 +1,4 @@
-use Rattle.flow_effects.proofs.effect.Effect.or.Goals as goal
+use Rattle.vl_flow_effects.proofs.effect.Effect.or.Goals as goal
 
 pub returns : goal.returns
 returns c = record {

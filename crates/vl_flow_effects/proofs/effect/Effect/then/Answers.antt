@@ -1,6 +1,6 @@
 use Rattle.std.proofs.Common.{◌||◌, ◌∙◌, ap}
-use Rattle.bit_sets.specs.Cells.{has}
-use Rattle.flow_effects.proofs.effect.Effect.then.Goals as goal
+use Rattle.fv_bit_sets.specs.Cells.{has}
+use Rattle.vl_flow_effects.proofs.effect.Effect.then.Goals as goal
 
 pub returns : goal.returns
 returns c = record {

@@ -1,7 +1,7 @@
-use Rattle.bit_sets.specs.Cells.{has}
-use Rattle.vl_gates.proofs.Sums.{two}
-use Rattle.vl_weight.proofs.Naming.{both_named}
-use Rattle.vl_weight.proofs.branch.Branch.with.Goals as goal
+use Rattle.fv_bit_sets.specs.Cells.{has}
+use Rattle.vl_flow_weight.proofs.Sums.{two}
+use Rattle.vl_flow_weight.proofs.Naming.{both_named}
+use Rattle.vl_flow_weight.proofs.branch.Branch.with.Goals as goal
 
 pub returns : goal.returns
 returns c ds m n names others g h =

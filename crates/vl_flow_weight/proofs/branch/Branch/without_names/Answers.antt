@@ -1,6 +1,6 @@
-use Rattle.bit_sets.specs.Cells.{has}
-use Rattle.vl_weight.proofs.Naming.{none_named}
-use Rattle.vl_weight.proofs.branch.Branch.without_names.Goals as goal
+use Rattle.fv_bit_sets.specs.Cells.{has}
+use Rattle.vl_flow_weight.proofs.Naming.{none_named}
+use Rattle.vl_flow_weight.proofs.branch.Branch.without_names.Goals as goal
 
 pub returns : goal.returns
 returns c ds m e = record {

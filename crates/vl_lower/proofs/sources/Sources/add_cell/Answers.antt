@@ -1,7 +1,7 @@
 use Rattle.std.specs.Prelude.{refl, ◌-◌, ◌++◌, length, replicate}
 use Rattle.std.proofs.Common.{◌∙◌}
-use Rattle.vl_declare.proofs.Single.{cell_adds}
-use Rattle.vl_declare.proofs.sources.Sources.add_cell.Goals as goal
+use Rattle.vl_lower.proofs.Single.{cell_adds}
+use Rattle.vl_lower.proofs.sources.Sources.add_cell.Goals as goal
 
 pub returns : goal.returns
 returns c =

@@ -1,11 +1,11 @@
 use Rattle.std.specs.Prelude.{◌≡◌, ◌<◌, length}
 use Rattle.std.proofs.Common.{arith, subst, sym}
 use Rattle.vl_mean.specs.Cells.{cells}
-use Rattle.vl_declare.specs.Added.{Adds, cells_added}
-use Rattle.vl_declare.specs.Design.{keeping}
-use Rattle.vl_declare.proofs.Following.{cell_counted, cell_more, cells_begin, cells_end, regs_counted}
-use Rattle.vl_declare.proofs.Sums.{SoFar, so_far_none}
-use Rattle.vl_declare.proofs.sources.Sources.add_cells.Goals as goal
+use Rattle.vl_lower.specs.Added.{Adds, cells_added}
+use Rattle.vl_lower.specs.Design.{keeping}
+use Rattle.vl_lower.proofs.Following.{cell_counted, cell_more, cells_begin, cells_end, regs_counted}
+use Rattle.vl_lower.proofs.Sums.{SoFar, so_far_none}
+use Rattle.vl_lower.proofs.sources.Sources.add_cells.Goals as goal
 
 pub loop-cell-init : goal.loop-cell-init
 loop-cell-init c =

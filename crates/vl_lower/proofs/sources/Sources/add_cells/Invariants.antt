@@ -1,9 +1,9 @@
 use Rattle.std.specs.Prelude.{◌≡◌, ◌≤◌, ◌+◌, ◌*◌, drop, length}
 use Rattle.vl_mean.specs.Cells.{cells}
-use Rattle.vl_declare.specs.Added.{cells_added}
-use Rattle.vl_declare.specs.Design.{keeping}
-use Rattle.vl_declare.proofs.Sums.{SoFar}
-use Rattle.vl_declare.proofs.sources.Sources.add_cells.Given as goal
+use Rattle.vl_lower.specs.Added.{cells_added}
+use Rattle.vl_lower.specs.Design.{keeping}
+use Rattle.vl_lower.proofs.Sums.{SoFar}
+use Rattle.vl_lower.proofs.sources.Sources.add_cells.Given as goal
 
 abbrev pub invariant-loop-cell : goal.invariant-loop-cell
 invariant-loop-cell l = record {

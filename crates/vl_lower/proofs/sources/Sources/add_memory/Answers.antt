@@ -4,10 +4,10 @@ use Rattle.std.proofs.Common.{ap, subst, sym, ◌∙◌}
 use Rattle.vl_mean.specs.Cells.{cells}
 use Rattle.wn_net.specs.declared.parts.Mem.{Mem}
 use Rattle.wn_net.specs.Net.{IsInitOf}
-use Rattle.vl_declare.specs.Design.{keeping}
-use Rattle.vl_declare.proofs.Single.{mem_adds, memory_adds}
-use Rattle.vl_declare.proofs.Spots.{starts_fit, starts_many}
-use Rattle.vl_declare.proofs.sources.Sources.add_memory.Goals as goal
+use Rattle.vl_lower.specs.Design.{keeping}
+use Rattle.vl_lower.proofs.Single.{mem_adds, memory_adds}
+use Rattle.vl_lower.proofs.Spots.{starts_fit, starts_many}
+use Rattle.vl_lower.proofs.sources.Sources.add_memory.Goals as goal
 
 pub mem-requires-clause-each : goal.mem-requires-clause-each
 mem-requires-clause-each c =

@@ -1,10 +1,10 @@
 use Rattle.std.specs.Prelude.{◌≡◌, ◌<◌, length, slice_index}
 use Rattle.std.proofs.Common.{ap, append-nil, arith, subst, ◌∙◌}
 use Rattle.vl_mean.specs.Cells.{cells}
-use Rattle.vl_declare.specs.Added.{Adds, word_added, words_added}
-use Rattle.vl_declare.proofs.Following.{word_more, words_end}
-use Rattle.vl_declare.proofs.Sums.{many_mems, so_far_none}
-use Rattle.vl_declare.proofs.sources.Sources.add_words.Goals as goal
+use Rattle.vl_lower.specs.Added.{Adds, word_added, words_added}
+use Rattle.vl_lower.proofs.Following.{word_more, words_end}
+use Rattle.vl_lower.proofs.Sums.{many_mems, so_far_none}
+use Rattle.vl_lower.proofs.sources.Sources.add_words.Goals as goal
 
 pub loop-word-init : goal.loop-word-init
 loop-word-init c = record {

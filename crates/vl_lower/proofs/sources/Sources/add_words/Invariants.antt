@@ -1,9 +1,9 @@
 use Rattle.std.specs.Prelude.{◌≡◌, ◌<◌, drop, length}
 use Rattle.wn_net.specs.Changes.{mem_width}
 use Rattle.vl_mean.specs.Cells.{cells}
-use Rattle.vl_declare.specs.Added.{words_added}
-use Rattle.vl_declare.proofs.Sums.{SoFar}
-use Rattle.vl_declare.proofs.sources.Sources.add_words.Given as goal
+use Rattle.vl_lower.specs.Added.{words_added}
+use Rattle.vl_lower.proofs.Sums.{SoFar}
+use Rattle.vl_lower.proofs.sources.Sources.add_words.Given as goal
 
 abbrev pub invariant-loop-word : goal.invariant-loop-word
 invariant-loop-word l = record {

@@ -2,9 +2,9 @@ use Rattle.std.proofs.Common.{◌-◌, [], ◌∷◌, ◌++◌, sym, ◌∙◌, 
 use Rattle.vl_tree.specs.Phrase.{Spells}
 use Rattle.vl_tree.specs.Item.{items}
 use Rattle.vl_tree.specs.ItemSpelling.{spell_all}
-use Rattle.vl_region.specs.Items.{AreOpen}
-use Rattle.vl_region.proofs.ItemsSpelled.{closed_found, closed_open}
-use Rattle.vl_region.proofs.reading.Reading.closed.Goals as goal
+use Rattle.vl_parse.specs.Items.{AreOpen}
+use Rattle.vl_parse.proofs.ItemsSpelled.{closed_found, closed_open}
+use Rattle.vl_parse.proofs.reading.Reading.closed.Goals as goal
 
 pub returns-clause-found : goal.returns-clause-found
 returns-clause-found c start middle rest h here i =

@@ -1,9 +1,9 @@
 use Rattle.std.proofs.Common.{◌≡◌, sym, ap, subst}
 use Rattle.vl_tree.specs.Phrase.{Spells}
-use Rattle.vl_grammar.specs.Machine.{then}
-use Rattle.vl_region.specs.Items.{spell_front, behind_front, still}
-use Rattle.vl_region.proofs.ItemsSpelled.{still_opened}
-use Rattle.vl_region.proofs.reading.Reading.with_front.Goals as goal
+use Rattle.vl_parse_grammar.specs.Machine.{then}
+use Rattle.vl_parse.specs.Items.{spell_front, behind_front, still}
+use Rattle.vl_parse.proofs.ItemsSpelled.{still_opened}
+use Rattle.vl_parse.proofs.reading.Reading.with_front.Goals as goal
 
 pub returns-in_ok-reading-in-Item-clause-found : goal.returns-in_ok-reading-in-Item-clause-found
 returns-in_ok-reading-in-Item-clause-found c start middle rest h i =

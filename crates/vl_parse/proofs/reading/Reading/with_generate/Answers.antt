@@ -3,9 +3,9 @@ use Rattle.vl_tree.specs.declared.item.RegionMark.TheVariants as mark
 use Rattle.vl_tree.specs.Phrase.{Spells}
 use Rattle.vl_tree.specs.Item.{items, generate}
 use Rattle.vl_tree.specs.ItemSpelling.{spell_all}
-use Rattle.vl_region.specs.Items.{AreOpen}
-use Rattle.vl_region.proofs.ItemsSpelled.{items_pushed, with_generate_open}
-use Rattle.vl_region.proofs.reading.Reading.with_generate.Goals as goal
+use Rattle.vl_parse.specs.Items.{AreOpen}
+use Rattle.vl_parse.proofs.ItemsSpelled.{items_pushed, with_generate_open}
+use Rattle.vl_parse.proofs.reading.Reading.with_generate.Goals as goal
 
 pub returns-clause-found : goal.returns-clause-found
 returns-clause-found c start middle rest h i =

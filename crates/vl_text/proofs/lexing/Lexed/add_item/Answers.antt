@@ -1,6 +1,6 @@
-use Rattle.rvf_text.specs.Texts.{line_seen}
-use Rattle.rvf_text.proofs.Laying.{item_added, fault_added}
-use Rattle.rvf_text.proofs.lexing.Lexed.add_item.Goals as goal
+use Rattle.vl_text.specs.Texts.{line_seen}
+use Rattle.vl_text.proofs.Laying.{item_added, fault_added}
+use Rattle.vl_text.proofs.lexing.Lexed.add_item.Goals as goal
 
 pub returns-in_ok-all-in-Ok : goal.returns-in_ok-all-in-Ok
 returns-in_ok-all-in-Ok c =

@@ -1,5 +1,5 @@
-use Rattle.rvf_text.proofs.Laying.{next_item}
-use Rattle.rvf_text.proofs.lexing.Lexed.add_items.Goals as goal
+use Rattle.vl_text.proofs.Laying.{next_item}
+use Rattle.vl_text.proofs.lexing.Lexed.add_items.Goals as goal
 
 pub loop-assumption-preserved : goal.loop-assumption-preserved
 loop-assumption-preserved c =

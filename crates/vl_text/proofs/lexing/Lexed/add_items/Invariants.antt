@@ -1,8 +1,8 @@
 use Rattle.std.proofs.Common.{drop}
-use Rattle.rvf_text.specs.Steps.{AddsItems}
-use Rattle.rvf_text.specs.Texts.{lines_seen}
-use Rattle.rvf_text.specs.declared.lexing.Lexed.{Lexed}
-use Rattle.rvf_text.proofs.lexing.Lexed.add_items.Given as goal
+use Rattle.vl_text.specs.Steps.{AddsItems}
+use Rattle.vl_text.specs.Texts.{lines_seen}
+use Rattle.vl_text.specs.declared.lexing.Lexed.{Lexed}
+use Rattle.vl_text.proofs.lexing.Lexed.add_items.Given as goal
 
 -- what the lines that are left add is added to all
 abbrev pub invariant-loop-assumption : goal.invariant-loop-assumption

@@ -1,5 +1,5 @@
-use Rattle.rvf_text.proofs.Laying.{next_text}
-use Rattle.rvf_text.proofs.lexing.Lexed.add_texts.Goals as goal
+use Rattle.vl_text.proofs.Laying.{next_text}
+use Rattle.vl_text.proofs.lexing.Lexed.add_texts.Goals as goal
 
 pub loop-text-preserved : goal.loop-text-preserved
 loop-text-preserved c =

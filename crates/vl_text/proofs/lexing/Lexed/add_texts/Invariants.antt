@@ -1,8 +1,8 @@
 use Rattle.std.proofs.Common.{drop}
-use Rattle.rvf_text.specs.Steps.{AddsTexts}
-use Rattle.rvf_text.specs.Texts.{texts_seen}
-use Rattle.rvf_text.specs.declared.lexing.Lexed.{Lexed}
-use Rattle.rvf_text.proofs.lexing.Lexed.add_texts.Given as goal
+use Rattle.vl_text.specs.Steps.{AddsTexts}
+use Rattle.vl_text.specs.Texts.{texts_seen}
+use Rattle.vl_text.specs.declared.lexing.Lexed.{Lexed}
+use Rattle.vl_text.proofs.lexing.Lexed.add_texts.Given as goal
 
 -- what the texts that are left add is added to all
 abbrev pub invariant-loop-text : goal.invariant-loop-text

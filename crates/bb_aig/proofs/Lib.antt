@@ -1,0 +1,11 @@
+pub mod AigGates
+pub mod Others
+pub mod Values
+pub mod All
+pub mod Moves
+pub mod Numbers
+pub mod Orders
+pub mod Rights
+pub mod Signs
+pub mod Sums
+pub mod Growth

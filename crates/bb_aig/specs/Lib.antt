@@ -1,0 +1,4 @@
+pub mod Graph
+pub mod Bits
+pub mod Laws
+pub mod Gates

@@ -1,0 +1,11 @@
+pub mod Adding
+pub mod Copies
+pub mod Folding
+pub mod Lits
+pub mod Masking
+pub mod Pairing
+pub mod Multiplying
+pub mod Past
+pub mod Shifting
+pub mod Made
+pub mod Numbers

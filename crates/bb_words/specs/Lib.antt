@@ -1,0 +1,4 @@
+pub mod WordsOperators
+pub mod Moves
+pub mod Operators
+pub mod Words

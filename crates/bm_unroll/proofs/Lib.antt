@@ -1,0 +1,14 @@
+pub mod Copying
+pub mod EachKind
+pub mod Moving
+pub mod Writing
+pub mod Walking
+pub mod Early
+pub mod Choosing
+pub mod Drafting
+pub mod FirstState
+pub mod Items
+pub mod Meaning
+pub mod Room
+pub mod Rows
+pub mod Runs

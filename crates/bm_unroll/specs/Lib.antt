@@ -1,0 +1,5 @@
+pub mod Cycle
+pub mod Moved
+pub mod Walk
+pub mod Draft
+pub mod Frames

@@ -1,0 +1,13 @@
+pub mod Bound
+pub mod Carried
+pub mod Entries
+pub mod Violating
+pub mod Fields
+pub mod Placed
+pub mod NotesWhole
+pub mod Texts
+pub mod Names
+pub mod Rows
+pub mod TracesWhole
+pub mod Dumps
+pub mod Own

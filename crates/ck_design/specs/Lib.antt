@@ -1,0 +1,5 @@
+pub mod Loaded
+pub mod Retirements
+pub mod Notes
+pub mod Tight
+pub mod Traces

@@ -1,0 +1,16 @@
+pub mod Cycles
+pub mod Held
+pub mod Monitored
+pub mod Property
+pub mod Says
+pub mod Shown
+pub mod Words
+pub mod Others
+pub mod AroundTrigger
+pub mod Back
+pub mod Counts
+pub mod Halves
+pub mod Once
+pub mod Places
+pub mod Recalled
+pub mod GenTrigger

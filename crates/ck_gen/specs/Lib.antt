@@ -1,0 +1,4 @@
+pub mod Retirements
+pub mod Kept
+pub mod Around
+pub mod Monitors

@@ -1,0 +1,5 @@
+pub mod Laws
+pub mod Entries
+pub mod Histories
+pub mod Lines
+pub mod Found

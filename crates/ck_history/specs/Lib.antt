@@ -1,0 +1,4 @@
+pub mod Truths
+pub mod Entries
+pub mod Lines
+pub mod Searches

@@ -1,0 +1,3 @@
+pub mod ChannelLemmas
+pub mod NodeLemmas
+pub mod TestLemmas

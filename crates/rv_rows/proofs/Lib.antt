@@ -1,0 +1,4 @@
+pub mod DivisionLemmas
+pub mod SignedLemmas
+pub mod StepLemmas
+pub mod TakenLemmas

@@ -1,0 +1,4 @@
+pub mod Division
+pub mod Signed
+pub mod Access
+pub mod Effects

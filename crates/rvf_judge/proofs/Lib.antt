@@ -1,0 +1,7 @@
+pub mod JudgeLines
+pub mod Told
+pub mod Choices
+pub mod FieldBits
+pub mod NoteLinesLines
+pub mod Words
+pub mod SourcesJudging

@@ -1,0 +1,6 @@
+pub mod Judged
+pub mod JudgeParts
+pub mod Lines
+pub mod NoteLinesParts
+pub mod Words
+pub mod Sources

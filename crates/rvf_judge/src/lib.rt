@@ -1,0 +1,23 @@
+//! What a check of a design comes to, with its texts, and what that says of the source.
+//!
+//! - From a net and a check to what the check of its design comes to, with the texts that say so.
+//! - The notes of a certificate, and the lines that they are in a clause file.
+//! - That a judgement on a design without hierarchy is one on the design that the source writes: laws, without code.
+#![tactic(auto)]
+
+mod cell;
+mod choice;
+mod dump;
+mod fields;
+mod judged;
+mod judging;
+mod line;
+mod notes;
+mod shared;
+pub mod sources_law;
+mod texts;
+
+pub use judged::{CertificateTexts, Judged};
+pub use judging::judge;
+pub use line::note_text;
+pub use notes::notes_of;

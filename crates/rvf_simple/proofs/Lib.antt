@@ -1,0 +1,13 @@
+pub mod Numbers
+pub mod Values
+pub mod Named
+pub mod Steps
+pub mod Unrefused
+pub mod Tokens
+pub mod Small
+pub mod Results
+pub mod FewTokens
+pub mod Placed
+pub mod Parsed
+pub mod OneReading
+pub mod Elaborated

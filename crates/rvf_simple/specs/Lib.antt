@@ -1,0 +1,3 @@
+pub mod SimpleTrees
+pub mod Examples
+pub mod SimpleTexts

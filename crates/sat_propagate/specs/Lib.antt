@@ -1,0 +1,4 @@
+pub mod Laws
+pub mod Watches
+pub mod Watching
+pub mod Propagation

@@ -1,0 +1,15 @@
+pub mod Adding
+pub mod Dropping
+pub mod Named
+pub mod Places
+pub mod Starting
+pub mod Walks
+pub mod Added
+pub mod Comes
+pub mod Counts
+pub mod Literals
+pub mod Models
+pub mod Rounds
+pub mod Searches
+pub mod Solves
+pub mod Turns

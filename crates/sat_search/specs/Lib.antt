@@ -1,0 +1,6 @@
+pub mod Added
+pub mod Ledger
+pub mod Order
+pub mod Found
+pub mod Searching
+pub mod Turns

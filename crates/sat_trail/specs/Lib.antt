@@ -1,0 +1,5 @@
+pub mod ClauseList
+pub mod Clauses
+pub mod Trail
+pub mod Known
+pub mod Sorted

@@ -1,0 +1,4 @@
+pub mod Counting
+pub mod Told
+pub mod Drawn
+pub mod Deciding

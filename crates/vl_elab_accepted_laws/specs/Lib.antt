@@ -1,0 +1,6 @@
+pub mod Unrefused
+pub mod Sized
+pub mod Means
+pub mod Right
+pub mod Joined
+pub mod SoundSteps

@@ -1,0 +1,9 @@
+pub mod ItemKinds
+pub mod Rest
+pub mod NoSteps
+pub mod Depths
+pub mod Plain
+pub mod Places
+pub mod Going
+pub mod Opening
+pub mod Judging

@@ -1,0 +1,6 @@
+pub mod Parts
+pub mod Clock
+pub mod Instances
+pub mod Joined
+pub mod Parameters
+pub mod Ports

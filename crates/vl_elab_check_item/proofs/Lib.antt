@@ -1,0 +1,4 @@
+pub mod Contexts
+pub mod Lists
+pub mod Heads
+pub mod High

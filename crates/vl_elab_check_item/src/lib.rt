@@ -1,0 +1,17 @@
+//! Which refusal of a declaration, a parameter, a port, an assignment or the head of a loop is answered.
+//!
+//! - Which refusal of the parts of an item is answered: of declarations, parameters, ports, assignments and events.
+//! - Which refusal of a generate loop's head is answered.
+#![tactic(auto)]
+
+mod assigned;
+mod declared;
+mod head;
+mod parameters;
+mod ranges;
+
+pub use assigned::{assignments_fault, event_fault};
+pub use declared::{given_value, names_fault, port_fault};
+pub use head::{enter_turn, head_fault};
+pub use parameters::{override_fault, parameter_fault};
+pub use ranges::{known_width, range_fault, width_fault};

@@ -1,0 +1,4 @@
+pub mod LabelLemmas
+pub mod NameLemmas
+pub mod Known
+pub mod Behind

@@ -1,0 +1,5 @@
+pub mod Gives
+pub mod Values
+pub mod Operating
+pub mod Extents
+pub mod Genvars

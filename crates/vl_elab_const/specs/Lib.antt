@@ -1,0 +1,5 @@
+pub mod Given
+pub mod Numbers
+pub mod Operations
+pub mod InRange
+pub mod Openable

@@ -1,0 +1,4 @@
+pub mod Starts
+pub mod Begins
+pub mod Behind
+pub mod OwnParts

@@ -1,0 +1,5 @@
+pub mod Added
+pub mod Ahead
+pub mod Zeros
+pub mod ModulesNames
+pub mod Places

@@ -1,0 +1,12 @@
+pub mod KeptParameters
+pub mod Listed
+pub mod LaterNames
+pub mod Whole
+pub mod Around
+pub mod Bounded
+pub mod Own
+pub mod Law
+pub mod Listing
+pub mod Next
+pub mod Over
+pub mod Passing

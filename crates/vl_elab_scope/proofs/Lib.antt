@@ -1,0 +1,15 @@
+pub mod Agree
+pub mod Added
+pub mod Contexts
+pub mod Dividing
+pub mod Levels
+pub mod Meant
+pub mod ScopeObjects
+pub mod OfExpr
+pub mod Reached
+pub mod TextLemmas
+pub mod Exprs
+pub mod Items
+pub mod AlikeObjects
+pub mod Sizes
+pub mod Stmts

@@ -1,0 +1,5 @@
+pub mod Contexts
+pub mod Divisions
+pub mod Seen
+pub mod Texts
+pub mod Alike

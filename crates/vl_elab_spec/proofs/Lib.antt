@@ -1,0 +1,7 @@
+pub mod Limits
+pub mod LowestFirst
+pub mod Passed
+pub mod Stays
+pub mod Behind
+pub mod Inner
+pub mod Unfolded

@@ -1,0 +1,11 @@
+pub mod Meanings
+pub mod Expressions
+pub mod Statements
+pub mod Items
+pub mod Counts
+pub mod Refused
+pub mod RefusedDesigns
+pub mod Walked
+pub mod Among
+pub mod Left
+pub mod Within

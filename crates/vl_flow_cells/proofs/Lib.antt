@@ -1,0 +1,12 @@
+pub mod RunLists
+pub mod Lists
+pub mod Words
+pub mod Numbers
+pub mod Ranges
+pub mod Constants
+pub mod FixedSelects
+pub mod Sizes
+pub mod Masks
+pub mod Taking
+pub mod Adding
+pub mod Sizing

@@ -1,0 +1,4 @@
+pub mod Numbered
+pub mod Places
+pub mod Numbering
+pub mod Sized

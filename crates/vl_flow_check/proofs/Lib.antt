@@ -1,0 +1,14 @@
+pub mod Tests
+pub mod NameMarks
+pub mod Layouts
+pub mod RowLists
+pub mod Shared
+pub mod Firsts
+pub mod OpenBits
+pub mod Once
+pub mod Places
+pub mod Orders
+pub mod Targets
+pub mod Drivers
+pub mod Marked
+pub mod Lowest

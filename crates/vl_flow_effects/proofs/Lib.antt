@@ -1,0 +1,9 @@
+pub mod Tests
+pub mod Halves
+pub mod Joining
+pub mod Sequences
+pub mod Statements
+pub mod BothKinds
+pub mod CellMasks
+pub mod Blocks
+pub mod Starts

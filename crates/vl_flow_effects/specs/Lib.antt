@@ -1,0 +1,4 @@
+pub mod Joins
+pub mod Effects
+pub mod Uses
+pub mod Masks

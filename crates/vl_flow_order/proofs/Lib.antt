@@ -1,0 +1,12 @@
+pub mod Growing
+pub mod Visiting
+pub mod Bucketing
+pub mod ReadsReading
+pub mod Tests
+pub mod Halves
+pub mod Marks
+pub mod Cells
+pub mod OrderReading
+pub mod Orders
+pub mod Turns
+pub mod Circles

@@ -1,0 +1,11 @@
+pub mod Groups
+pub mod Edges
+pub mod Visits
+pub mod Buckets
+pub mod Reads
+pub mod Sets
+pub mod Named
+pub mod CellGroups
+pub mod Footprints
+pub mod Numbers
+pub mod Found

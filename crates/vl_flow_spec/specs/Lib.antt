@@ -1,0 +1,10 @@
+pub mod Reads
+pub mod Paths
+pub mod Depends
+pub mod Drivers
+pub mod Settle
+pub mod Refusals
+pub mod Sequence
+pub mod FlowExamples
+pub mod Weight
+pub mod OrderProps

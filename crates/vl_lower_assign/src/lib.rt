@@ -1,0 +1,25 @@
+//! Bits written to cells of nodes where a path is taken, and the cells of a design in the midst of a block.
+//!
+//! - Bits of a vector replaced by those of another node.
+//! - Cells of nodes, and bits of them written where a path is taken.
+//! - The cells of a design in the midst of a block.
+#![tactic(auto)]
+
+mod assign;
+mod bits;
+mod change;
+mod frame;
+mod path;
+mod puts_law;
+mod slot;
+mod spread;
+mod write;
+
+pub use assign::assign_slots;
+pub use bits::put;
+pub use change::Change;
+pub use frame::Frame;
+pub use path::{path_unless, path_where};
+pub use puts_law::puts_are_assignments;
+pub use slot::{Holder, Slot};
+pub use spread::{BitPlace, Spread};

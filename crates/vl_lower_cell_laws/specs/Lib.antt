@@ -1,0 +1,9 @@
+pub mod Keeps
+pub mod Ticked
+pub mod Left
+pub mod Cycles
+pub mod Entries
+pub mod Listing
+pub mod Numbers
+pub mod Few
+pub mod Shown

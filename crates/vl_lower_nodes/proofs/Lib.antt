@@ -1,0 +1,5 @@
+pub mod FitLemmas
+pub mod ParityLemmas
+pub mod CutLemmas
+pub mod DistanceLemmas
+pub mod PartLemmas

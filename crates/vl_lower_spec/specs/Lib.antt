@@ -1,0 +1,7 @@
+pub mod Maps
+pub mod Evaluations
+pub mod Settled
+pub mod Built
+pub mod Sources
+pub mod Edges
+pub mod Graphic

@@ -1,0 +1,17 @@
+pub mod Setting
+pub mod Gathering
+pub mod Carried
+pub mod Placed
+pub mod StoresTogether
+pub mod Turns
+pub mod Numbered
+pub mod Begun
+pub mod Pairs
+pub mod Of
+pub mod Whole
+pub mod Widths
+pub mod Registers
+pub mod Memories
+pub mod Remaining
+pub mod Fitting
+pub mod PhasesTogether

@@ -1,0 +1,12 @@
+pub mod EachOf
+pub mod SameExpr
+pub mod SameTarget
+pub mod SameStmt
+pub mod Started
+pub mod SameMaps
+pub mod FoundNames
+pub mod LaidScopes
+pub mod StepParts
+pub mod NamesMap
+pub mod Design
+pub mod Places

@@ -1,0 +1,11 @@
+pub mod ItemsRows
+pub mod ItemsSpelled
+pub mod ItemLeads
+pub mod PlainRows
+pub mod PlainSpelled
+pub mod ItemRows
+pub mod ItemSpelled
+pub mod ModuleRows
+pub mod SourceSpelled
+pub mod Top
+pub mod Refusals

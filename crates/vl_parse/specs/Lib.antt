@@ -1,0 +1,5 @@
+pub mod Items
+pub mod ItemLead
+pub mod Faults
+pub mod Sources
+pub mod Refusals
