@@ -2,7 +2,7 @@
 
 ghost use Rattle.std.specs.Prelude.{◌+◌, ◌<◌, ◌^◌};
 
-use fv_base::Memory;
+use fv_text::Memory;
 use rvf_jobs::{Gate, Job, OpenGate, run_jobs};
 use std::alloc::Global;
 use std::sync::atomic::{AtomicBool, Ordering};

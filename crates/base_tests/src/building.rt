@@ -19,7 +19,7 @@ ghost use Rattle.wn_net.specs.Given.{IsGiven};
 ghost use Rattle.wn_net.specs.Net.{IsNodeOf, value_at};
 ghost use Rattle.wn_net.specs.Changes.{AddsNodes, Shows};
 
-use fv_base::Memory;
+use fv_text::Memory;
 use wn_net::{Net, NodeId};
 
 /// The bits in which two words of 32 bits differ, without those of a mask: three nodes.

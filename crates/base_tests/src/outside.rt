@@ -1,9 +1,9 @@
 //! What no clause says: that calls with ample memory succeed, and what the trusted edge does.
 
 use fv_base::{
-    FileFault, Files, List, MemFiles, MemOut, Out, OutFault, RealFiles, RealOut, SureFiles,
-    SureOut, Text,
+    FileFault, Files, MemFiles, MemOut, Out, OutFault, RealFiles, RealOut, SureFiles, SureOut,
 };
+use fv_text::{List, Text};
 use std::alloc::Global;
 use std::test::Fail;
 

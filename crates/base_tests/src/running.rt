@@ -5,7 +5,7 @@ ghost use Rattle.wn_net.specs.Net.{values_of};
 ghost use Rattle.wn_net.specs.Given.{AreInputsOf, IsStateOf};
 ghost use Rattle.wn_run.specs.Runs.{by_kind, inputs_from, reset_at, state_at, cycle_at};
 
-use fv_base::{List, Memory};
+use fv_text::{List, Memory};
 use std::alloc::Global;
 use wn_net::{InputKind, Net, Spot, State};
 

@@ -1,7 +1,7 @@
 //! Small graphs: their nodes in order, or a circle.
 
-use fv_base::{List, Memory};
 use fv_graph::{Walked, circle_from, is_within, walk};
+use fv_text::{List, Memory};
 use std::alloc::Global;
 use std::test::Fail;
 

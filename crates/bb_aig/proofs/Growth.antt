@@ -9,7 +9,7 @@ use Rattle.bb_aig.specs.declared.node.AigNode.{AigNode}
 use Rattle.bb_aig.specs.declared.node.AigNode.TheVariants as n
 use Rattle.bb_aig.specs.Graph.{is_negated, turned, literal, value, values_of, lit_at, IsLit, IsGraph, inputs_after}
 use Rattle.bb_aig.specs.Graph.{inputs_of, count_inputs, Adds}
-use Rattle.fv_base.specs.declared.memory.Memory.{Memory}
+use Rattle.fv_text.specs.declared.memory.Memory.{Memory}
 use Rattle.bb_aig.specs.Bits.{differ, pick}
 use Rattle.bb_aig.specs.Gates.{Meaning, Meanings, Grows, IsMade, AreLits, bits, AreMade, Both}
 use Rattle.bb_aig.proofs.Values.{count_push}

@@ -1,4 +1,5 @@
--- Lists of bits, the lowest first: their numbers, and what operators make of them (rule of this project).
+-- Between functions: Lists of bits, the lowest first: their numbers, and what operators make of them (rule of this
+-- project).
 use Rattle.std.specs.Prelude.{
   ℕ,
   zero,

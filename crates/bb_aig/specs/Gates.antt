@@ -1,4 +1,4 @@
--- Literals that are made of others, and what they mean (rule of this project).
+-- Between functions: Literals that are made of others, and what they mean (rule of this project).
 use Rattle.std.specs.Prelude.{
   ◌≡◌,
   ℕ,

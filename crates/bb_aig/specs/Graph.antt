@@ -1,5 +1,5 @@
--- And-inverter graphs: lists of nodes and their values. Literals are numbered as in the AIGER format (Biere, 2007): 2
--- * n for node n, and 2 * n + 1 for its complement; node 0 is false.
+-- Meaning: And-inverter graphs: lists of nodes and their values. Literals are numbered as in the AIGER format (Biere,
+-- 2007): 2 * n for node n, and 2 * n + 1 for its complement; node 0 is false.
 use Rattle.std.specs.Prelude.{
   ◌≡◌,
   ℕ,

@@ -1,4 +1,4 @@
--- What operators on lists of bits make of the numbers of the lists. Rule of this project.
+-- Between functions: What operators on lists of bits make of the numbers of the lists. Rule of this project.
 use Rattle.std.specs.Prelude.{
   ◌≡◌,
   ℕ,

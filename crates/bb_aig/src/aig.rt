@@ -20,7 +20,7 @@ ghost use Rattle.bb_aig.specs.Graph.{IsLit, IsGraph, Adds, values_of, inputs_of,
 ghost use Rattle.bb_aig.specs.declared.node.AigNode.TheVariants as node;
 
 use crate::node::{AigNode, Lit};
-use fv_base::Memory;
+use fv_text::Memory;
 use std::alloc::Global;
 use std::marker::Model;
 

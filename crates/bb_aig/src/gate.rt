@@ -6,7 +6,7 @@ ghost use Rattle.bb_aig.specs.Gates.{Meaning, Grows, IsMade};
 
 use crate::graph::Gates;
 use crate::node::{Lit, complement};
-use fv_base::Memory;
+use fv_text::Memory;
 
 /// One or both.
 pub fn either(gates: &mut Gates, a: Lit, b: Lit) -> Result<Lit, Memory>

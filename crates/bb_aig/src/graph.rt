@@ -5,7 +5,7 @@ ghost use Rattle.bb_aig.specs.Gates.{Meaning, Grows, IsMade, Both};
 use crate::aig::Aig;
 use crate::node::{AigNode, Lit};
 use crate::table::{PLACES, first_place, later_place, put};
-use fv_base::Memory;
+use fv_text::Memory;
 use std::alloc::Global;
 use std::marker::Model;
 

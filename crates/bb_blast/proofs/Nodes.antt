@@ -8,9 +8,9 @@ use Rattle.bb_aig.specs.Graph.{lit_at}
 use Rattle.fv_bits.specs.Bits as num
 use Rattle.bb_aig.specs.Bits.{number}
 use Rattle.bb_aig.specs.Gates.{Grows, AreLits}
-use Rattle.fv_base.specs.declared.memory.Memory.{Memory}
-use Rattle.fv_base.specs.declared.word.Word.{Word}
-use Rattle.fv_base.specs.Word.{number as value_of_word}
+use Rattle.fv_text.specs.declared.memory.Memory.{Memory}
+use Rattle.fv_text.specs.declared.word.Word.{Word}
+use Rattle.fv_text.specs.Word.{number as value_of_word}
 use Rattle.wn_net.specs.declared.node.Node.{Node}
 use Rattle.wn_net.specs.declared.node.Node.TheVariants as n
 use Rattle.wn_net.specs.Width.{AreThere, AreAlike, IsFitting, width}

@@ -1,4 +1,4 @@
--- Numbers of sources, and the inputs of a graph that are their bits (rule of this project).
+-- Between functions: Numbers of sources, and the inputs of a graph that are their bits (rule of this project).
 use Rattle.std.specs.Prelude.{◌≡◌, ℕ, zero, suc, ◌+◌, ◌*◌, ◌<◌, Bool, List, [], ◌∷◌}
 use Rattle.std.specs.Prelude.{◌++◌, length, slice_get, Some}
 use Rattle.bb_aig.specs.declared.node.AigNode.{AigNode}

@@ -1,4 +1,5 @@
--- The bits of the nodes of a net in which only inputs, here sources, have numbers (rule of this project).
+-- Between functions: The bits of the nodes of a net in which only inputs, here sources, have numbers (rule of this
+-- project).
 use Rattle.std.specs.Prelude.{ℕ, ◌<◌, ◌==◌, Bool, true, not, ◌&&◌, List, []}
 use Rattle.std.specs.Prelude.{◌∷◌, length, slice_index}
 use Rattle.wn_net.specs.declared.node.Node.{Node}

@@ -13,7 +13,7 @@ use crate::places::Placed;
 use crate::roots::{all_set, watched};
 use crate::walk::blast_nodes;
 use bb_aig::{Aig, Gates, Lit};
-use fv_base::{List, Memory};
+use fv_text::{List, Memory};
 use std::alloc::Global;
 use wn_net::{Node, NodeId};
 

@@ -6,7 +6,7 @@ ghost use Rattle.bb_blast.specs.Choice.{HasInputsAlone, literals_from, table_fro
 
 use crate::places::Placed;
 use bb_aig::{Aig, Lit};
-use fv_base::{List, Memory};
+use fv_text::{List, Memory};
 use std::alloc::Global;
 
 /// Adds an input for a bit of a source.

@@ -11,7 +11,7 @@ use bb_words::{
     PairOperator, ShiftOperator, chosen, joined, konst, negated, operated, part, shifted,
     sign_extended, zero_extended,
 };
-use fv_base::{List, Memory};
+use fv_text::{List, Memory};
 use std::alloc::Global;
 use wn_net::{Node, NodeId};
 

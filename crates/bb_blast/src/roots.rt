@@ -8,7 +8,7 @@ ghost use Rattle.bb_blast.specs.Walk.{Reads, all_other_than_0};
 use crate::node::word_at;
 use bb_aig::{Gates, Lit};
 use bb_words::{constant, is_any};
-use fv_base::{List, Memory};
+use fv_text::{List, Memory};
 use std::alloc::Global;
 use wn_net::NodeId;
 

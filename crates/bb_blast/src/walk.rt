@@ -5,7 +5,7 @@ ghost use Rattle.bb_blast.specs.Walk.{AreReady, MeansNodes};
 
 use crate::node::node_word;
 use bb_aig::{Gates, Lit};
-use fv_base::{List, Memory};
+use fv_text::{List, Memory};
 use std::alloc::Global;
 use wn_net::Node;
 

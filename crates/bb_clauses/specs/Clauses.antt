@@ -1,5 +1,5 @@
--- The clauses of a graph: variable n is node n, and one more variable behind the nodes is the verdict (rule of this
--- project).
+-- Between functions: The clauses of a graph: variable n is node n, and one more variable behind the nodes is the
+-- verdict (rule of this project).
 use Rattle.std.specs.Prelude.{
   ◌≡◌,
   ℕ,

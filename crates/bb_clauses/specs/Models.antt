@@ -1,4 +1,4 @@
--- The models of clauses, read at the places of sources (rule of this project).
+-- Meaning: The models of clauses, read at the places of sources (rule of this project).
 use Rattle.std.specs.Prelude.{◌≡◌, ℕ, ◌+◌, ◌/◌, ◌<◌, ◌≤◌, ◌^◌, ◌==◌, if◌then◌else◌, Bool, true, false}
 use Rattle.std.specs.Prelude.{List, [], ◌∷◌, ◌++◌, map, ℤ, pos}
 use Rattle.cnf_form.specs.Cnf.{Cnf, formula_true}

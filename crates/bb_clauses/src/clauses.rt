@@ -23,7 +23,7 @@ ghost use Rattle.bb_clauses.specs.Clauses.{Tells};
 
 use bb_aig::{Aig, AigNode, Lit, complement};
 use cnf_form::Formula;
-use fv_base::Memory;
+use fv_text::Memory;
 use std::alloc::Global;
 
 /// A literal of a node other than node 0, as that of a variable.

@@ -10,7 +10,7 @@ ghost use Rattle.bb_clauses.specs.Models.{ModelsAreNumbers, read_at};
 use crate::clauses::clauses_of;
 use bb_blast::{Blasted, blast};
 use cnf_form::Formula;
-use fv_base::Memory;
+use fv_text::Memory;
 use std::alloc::Global;
 use wn_net::{Node, NodeId};
 

@@ -1,4 +1,4 @@
--- Bits that are moved (rule of this project).
+-- Between functions: Bits that are moved (rule of this project).
 use Rattle.std.specs.Prelude.{ℕ, ◌*◌, Bool, List, [], ◌∷◌, ◌++◌, length, take, drop, replicate}
 use Rattle.bb_aig.specs.Bits.{paired, pick}
 use Rattle.bb_words.specs.declared.shifts.Direction.{Direction}

@@ -1,4 +1,5 @@
--- What operators make of numbers of a width. IEEE 1364-2005, sections 5.1.5, 5.1.7, 5.1.8, 5.1.10 and 5.1.12.
+-- Between functions: What operators make of numbers of a width. IEEE 1364-2005, sections 5.1.5, 5.1.7, 5.1.8, 5.1.10
+-- and 5.1.12.
 use Rattle.std.specs.Prelude.{ℕ, ◌==◌, nat_lt, bit_and, bit_or, bit_xor, List, length}
 use Rattle.fv_bits.specs.Bits.{bit, sum, difference, product, is_less_signed, shifted_left, shifted_right}
 use Rattle.fv_bits.specs.Bits.{arithmetic_right}

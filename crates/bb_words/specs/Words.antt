@@ -1,4 +1,4 @@
--- Literals that are the bits of a number (rule of this project).
+-- Between functions: Literals that are the bits of a number (rule of this project).
 use Rattle.std.specs.Prelude.{◌≡◌, ℕ, ◌<◌, Bool, List, [], length, slice_index, slice_index_or}
 use Rattle.bb_aig.specs.declared.node.AigNode.{AigNode}
 use Rattle.bb_aig.specs.Bits.{number}

@@ -1,4 +1,4 @@
--- Operators on bits by their names (rule of this project).
+-- Between functions: Operators on bits by their names (rule of this project).
 use Rattle.std.specs.Prelude.{Bool, ◌&&◌, ◌||◌}
 use Rattle.bb_aig.specs.Bits.{differ}
 use Rattle.bb_words.specs.declared.pairs.BitOperator.{BitOperator}

@@ -9,7 +9,7 @@ ghost use Rattle.bb_words.specs.Words.{IsWord, count};
 use crate::constants::constant;
 use crate::without_gates::{repeated, top};
 use bb_aig::{Gates, Lit};
-use fv_base::{List, Memory};
+use fv_text::{List, Memory};
 use std::alloc::Global;
 
 /// The one word in front of the other.

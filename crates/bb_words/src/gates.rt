@@ -14,7 +14,7 @@ use crate::product::multiply;
 use crate::shifts::{Direction, shift};
 use crate::without_gates::{top, turned, with_top_turned};
 use bb_aig::{Gates, Lit};
-use fv_base::{List, Memory};
+use fv_text::{List, Memory};
 use std::alloc::Global;
 
 /// One literal.

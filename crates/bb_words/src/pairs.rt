@@ -6,7 +6,7 @@ ghost use Rattle.bb_aig.specs.Gates.{Meaning, Grows, IsMade, AreLits, AreMade, b
 ghost use Rattle.bb_words.specs.WordsOperators.{of_operator};
 
 use bb_aig::{Gates, Lit, add_three, complement, differ, either, mux};
-use fv_base::Memory;
+use fv_text::Memory;
 use std::alloc::Global;
 
 /// An operator on each bit.

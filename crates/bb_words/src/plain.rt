@@ -1,6 +1,6 @@
 //! Operators that take no gate.
 ghost use Rattle.std.specs.Prelude.{◌≡◌, ◌==◌, ◌%◌, if◌then◌else◌, ℕ, List, length, IfOk};
-ghost use Rattle.fv_base.specs.Word as word_spec;
+ghost use Rattle.fv_text.specs.Word as word_spec;
 ghost use Rattle.fv_bits.specs.Bits as num;
 ghost use Rattle.bb_aig.specs.declared.node.AigNode.{AigNode};
 ghost use Rattle.bb_aig.specs.Gates.{AreLits};
@@ -9,7 +9,7 @@ ghost use Rattle.bb_words.specs.Words.{IsWord, count};
 use crate::constants::constant;
 use crate::without_gates::turned;
 use bb_aig::{Gates, Lit};
-use fv_base::{List, Memory, Word};
+use fv_text::{List, Memory, Word};
 use std::alloc::Global;
 
 /// Each bit turned.

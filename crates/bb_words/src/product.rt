@@ -9,7 +9,7 @@ use crate::pairs::{add, masked};
 use crate::shifts::{Direction, moved};
 use crate::without_gates::repeated;
 use bb_aig::{Gates, Lit};
-use fv_base::Memory;
+use fv_text::Memory;
 use std::alloc::Global;
 
 /// The sum so far with one more row: the word where the bit is set.

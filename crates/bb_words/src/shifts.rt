@@ -9,7 +9,7 @@ use crate::constants::constant;
 use crate::pairs::{choose, is_any};
 use crate::without_gates::repeated;
 use bb_aig::{Gates, Lit};
-use fv_base::Memory;
+use fv_text::Memory;
 use std::alloc::Global;
 
 /// Where bits are moved to.

@@ -7,7 +7,7 @@ ghost use Rattle.bb_aig.specs.Bits as bits_spec;
 ghost use Rattle.bb_aig.specs.Gates.{AreLits, AreMade, bits};
 
 use bb_aig::{Lit, complement};
-use fv_base::Memory;
+use fv_text::Memory;
 use std::alloc::Global;
 
 /// The literal so many times.

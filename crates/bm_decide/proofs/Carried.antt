@@ -18,7 +18,7 @@ use Rattle.rvfi_port.specs.declared.port.Port.{Port}
 use Rattle.rvfi_port.specs.Channels.{retire_at}
 use Rattle.rvfi_port.specs.Ports.{AreChannelNodes, AreImemNodes, ArePortNodes, IsDmemNode}
 use Rattle.ck_cfg.specs.declared.check.Check.{Check}
-use Rattle.ck_props.specs.Properties.{property}
+use Rattle.ck_spec.specs.Properties.{property}
 use Rattle.ck_gen.specs.Retirements.{dmem_addr_at, imem_addr_at, imem_data_at, probe_at, retired_from, retired_in}
 use Rattle.ck_gen.specs.Retirements.{retirements}
 use Rattle.ck_gen.specs.Monitors.{IsMonitor, holds_in}

@@ -1,7 +1,7 @@
--- The choices that the bits of a violation are those of (rule of this project).
+-- Between functions: The choices that the bits of a violation are those of (rule of this project).
 use Rattle.std.specs.Prelude.{◌≡◌, ℕ, Bool, false, List, length, map, slice_index_or}
 use Rattle.std.specs.List.{AllByRecursion}
-use Rattle.fv_base.specs.declared.trace.Trace.{Trace}
+use Rattle.fv_text.specs.declared.trace.Trace.{Trace}
 use Rattle.rv_table.specs.declared.retire.Opts.{Opts}
 use Rattle.wn_net.specs.declared.names.Names.{Names}
 use Rattle.wn_net.specs.Width.{IsWidth}

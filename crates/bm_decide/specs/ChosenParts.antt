@@ -1,4 +1,4 @@
--- What functions promise one another: numbers of which one is put in the place of another.
+-- Between functions: What functions promise one another: numbers of which one is put in the place of another.
 use Rattle.std.specs.Prelude.{ℕ, ◌==◌, ◌&&◌, if◌then◌else◌}
 
 abbrev pub put_at : (ℕ → ℕ) → ℕ → ℕ → ℕ → ℕ

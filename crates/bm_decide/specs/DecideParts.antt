@@ -1,4 +1,4 @@
--- What functions promise one another: how a verdict is put together.
+-- Between functions: What functions promise one another: how a verdict is put together.
 use Rattle.bm_decide.specs.declared.runs.RunClauses.{RunClauses}
 use Rattle.lrat_check.specs.declared.step.Step.{Step}
 use Rattle.sat_search.specs.declared.found.Found.{Found}

@@ -1,4 +1,4 @@
--- The models of clauses and the runs of a net (rule of this project).
+-- Between functions: The models of clauses and the runs of a net (rule of this project).
 use Rattle.std.specs.Prelude.{◌≡◌, ◌↔◌, ℕ, ◌≤◌, Bool, true, List, [], ◌∷◌, ◌++◌, map, ℤ, pos}
 use Rattle.wn_net.specs.Net.{Netlist, value_at}
 use Rattle.wn_run.specs.Runs.{Choices, AreChoicesOf, cycle_at, inputs_at, start_of}

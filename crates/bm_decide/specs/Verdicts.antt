@@ -1,4 +1,4 @@
--- What a verdict on a check says of the runs of a net (rule of this project).
+-- Between functions: What a verdict on a check says of the runs of a net (rule of this project).
 use Rattle.std.specs.Prelude.{◌≡◌, ℕ, ◌<◌, ◌^◌, false, List, [], length, map, slice_index_or}
 use Rattle.std.specs.List.{AllByRecursion}
 use Rattle.rv_table.specs.declared.retire.Opts.{Opts}

@@ -9,7 +9,7 @@ use crate::numbers::numbers_of;
 use crate::store::put_source;
 use crate::verdict::Violation;
 use bm_unroll::Source;
-use fv_base::{List, Memory};
+use fv_text::{List, Memory};
 use std::alloc::Global;
 use tr_replay::Chosen;
 

@@ -15,7 +15,7 @@ use bb_clauses::Encoded;
 use bm_unroll::Frames;
 use ck_cfg::Check;
 use ck_gen::monitor;
-use fv_base::Memory;
+use fv_text::Memory;
 use rv_table::Opts;
 use rvfi_port::{Channel, Port};
 use sat_search::{Found, solve};

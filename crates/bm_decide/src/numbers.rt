@@ -7,7 +7,7 @@ ghost use Rattle.bb_aig.specs.Bits.{number};
 ghost use Rattle.bb_blast.specs.Choice.{numbers_of};
 ghost use Rattle.bm_decide.specs.Chosen.{bit_in};
 
-use fv_base::Memory;
+use fv_text::Memory;
 use std::alloc::Global;
 
 /// The number of bits, of which the lowest comes first.

@@ -12,7 +12,7 @@ ghost use Rattle.bm_decide.specs.Runs.{ModelsAreRuns, values_in};
 
 use bb_clauses::{Encoded, clauses_of_nodes};
 use bm_unroll::{Frames, unroll};
-use fv_base::Memory;
+use fv_text::Memory;
 use std::alloc::Global;
 use wn_net::{Net, NodeId};
 

@@ -7,7 +7,7 @@ ghost use Rattle.bm_unroll.specs.Frames.{chosen};
 ghost use Rattle.bm_decide.specs.ChosenParts.{put_at, put_at_both};
 
 use bm_unroll::Source;
-use fv_base::{List, Memory};
+use fv_text::{List, Memory};
 use std::alloc::Global;
 use tr_replay::Chosen;
 

@@ -11,7 +11,7 @@ ghost use Rattle.bm_decide.specs.Chosen.{ShowsViolation, numbers_read};
 use crate::choosing::chosen_of;
 use crate::verdict::Violation;
 use ck_cfg::Check;
-use fv_base::{Memory, Trace};
+use fv_text::{Memory, Trace};
 use std::alloc::Global;
 use tr_replay::replay;
 use wn_net::{Names, Net};

@@ -2,7 +2,7 @@ use bb_aig::Lit;
 use bb_blast::Placed;
 use bm_unroll::Source;
 use cnf_form::Formula;
-use fv_base::List;
+use fv_text::List;
 use lrat_check::Step;
 
 /// What may be chosen in the runs of a net, bit by bit.

@@ -4,8 +4,8 @@ use Rattle.std.specs.Prelude.{if◌then◌else◌, List}
 use Rattle.std.specs.Prelude.{length, slice_index, slice_index_or, map}
 use Rattle.std.proofs.Common.{ap, sym, ◌∙◌, arith, subst}
 use Rattle.std.proofs.lemmas.List.{length-map, length_push}
-use Rattle.fv_base.specs.Word.{number}
-use Rattle.fv_base.specs.declared.word.Word.{Word}
+use Rattle.fv_text.specs.Word.{number}
+use Rattle.fv_text.specs.declared.word.Word.{Word}
 use Rattle.fv_bits.specs.Bits as bits
 use Rattle.wn_net.specs.declared.node.Node.{Node}
 use Rattle.wn_net.specs.declared.node.Node.TheVariants as n

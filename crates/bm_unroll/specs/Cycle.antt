@@ -1,4 +1,4 @@
--- One cycle of a net as nodes of another net, the frames (rule of this project).
+-- Between functions: One cycle of a net as nodes of another net, the frames (rule of this project).
 use Rattle.std.specs.Prelude.{◌≡◌, ℕ, ◌≤◌, List, length, map}
 use Rattle.std.specs.List.{AllByRecursion}
 use Rattle.wn_net.specs.declared.node.Node.{Node}

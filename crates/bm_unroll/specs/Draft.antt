@@ -1,4 +1,4 @@
--- Frames that are being made: a net whose inputs are the sources (rule of this project).
+-- Between functions: Frames that are being made: a net whose inputs are the sources (rule of this project).
 use Rattle.std.specs.Prelude.{◌≡◌, ℕ, ◌+◌, ◌*◌, ◌^◌, ◌<◌, ◌≤◌, List, [], ◌∷◌}
 use Rattle.std.specs.Prelude.{length, map, slice_index_or}
 use Rattle.std.specs.List.{AllByRecursion}

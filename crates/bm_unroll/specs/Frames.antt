@@ -1,4 +1,4 @@
--- Frames, and the runs of a net that they tell (rule of this project).
+-- Between functions: Frames, and the runs of a net that they tell (rule of this project).
 use Rattle.std.specs.Prelude.{◌≡◌, ◌↔◌, ℕ, ◌+◌, ◌<◌, ◌≤◌, ◌^◌, sum, List, [], ◌∷◌}
 use Rattle.std.specs.Prelude.{Some, length, map, slice_get, slice_index, slice_index_or}
 use Rattle.std.specs.List.{AllByRecursion}

@@ -1,4 +1,4 @@
--- The state in the next cycle as nodes (rule of this project).
+-- Between functions: The state in the next cycle as nodes (rule of this project).
 use Rattle.std.specs.Prelude.{◌≡◌, ℕ, ◌<◌, List, length, map, slice_index}
 use Rattle.wn_net.specs.declared.parts.State.{State}
 use Rattle.wn_net.specs.declared.parts.MemWrite.{MemWrite}

@@ -1,4 +1,4 @@
--- The cycles of a net as nodes of another net, the frames (rule of this project).
+-- Between functions: The cycles of a net as nodes of another net, the frames (rule of this project).
 use Rattle.std.specs.Prelude.{◌≡◌, ◌↔◌, ℕ, ◌<◌, List, [], map, slice_index_or}
 use Rattle.std.specs.List.{AllByRecursion}
 use Rattle.wn_net.specs.declared.parts.State.{State}

@@ -10,7 +10,7 @@ ghost use Rattle.wn_mem.specs.Words.{numbers_of, words_width};
 ghost use Rattle.bm_unroll.specs.Cycle.{AreMemories, Copies, IsCopyable, StandFor, given_by, widths_at};
 
 use crate::state::StateNodes;
-use fv_base::Memory;
+use fv_text::Memory;
 use std::alloc::Global;
 use wn_mem::read_after;
 use wn_net::{Net, Node, NodeId};

@@ -14,7 +14,7 @@ use crate::copy::copy_cycle;
 use crate::next::next_nodes;
 use crate::state::StateNodes;
 use crate::walked::Walked;
-use fv_base::{List, Memory};
+use fv_text::{List, Memory};
 use std::alloc::Global;
 use wn_net::{Net, NodeId};
 

@@ -5,7 +5,7 @@ ghost use Rattle.bm_unroll.specs.Draft.{Extends, HasRoom, IsDraft, Means, rank};
 ghost use Rattle.bm_unroll.specs.Frames.{IsChoice, chosen, source_width};
 
 use crate::frames::Source;
-use fv_base::{Memory, Word};
+use fv_text::{Memory, Word};
 use std::alloc::Global;
 use wn_net::{InputKind, Net, NodeId};
 

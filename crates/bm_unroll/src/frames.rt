@@ -1,4 +1,4 @@
-use fv_base::List;
+use fv_text::List;
 use wn_net::{Node, NodeId};
 
 /// What may be chosen in a run.

@@ -12,7 +12,7 @@ ghost use Rattle.bm_unroll.specs.Draft.{Extends, HasRoom, HasRows, IsDraft, Mean
 
 use crate::draft::Draft;
 use crate::frames::Source;
-use fv_base::{List, Memory};
+use fv_text::{List, Memory};
 use std::alloc::Global;
 use wn_net::{Input, InputKind, Net, NodeId};
 

@@ -14,7 +14,7 @@ ghost use Rattle.bm_unroll.specs.Moved.{IsTableWrite, moved};
 
 use crate::state::StateNodes;
 use crate::words::next_words;
-use fv_base::{List, Memory};
+use fv_text::{List, Memory};
 use std::alloc::Global;
 use wn_net::{Mem, Net, NodeId};
 

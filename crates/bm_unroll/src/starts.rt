@@ -12,7 +12,7 @@ ghost use Rattle.bm_unroll.specs.Frames.{IsChoice, chosen, source_width};
 use crate::draft::Draft;
 use crate::frames::Source;
 use crate::state::StateNodes;
-use fv_base::{List, Memory};
+use fv_text::{List, Memory};
 use std::alloc::Global;
 use wn_net::{Init, Mem, Net, NodeId};
 

@@ -1,4 +1,4 @@
-use fv_base::List;
+use fv_text::List;
 use wn_net::NodeId;
 
 /// What stands for the numbers in the registers and in the words of the memories.

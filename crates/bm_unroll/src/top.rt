@@ -11,7 +11,7 @@ use crate::frames::Frames;
 use crate::inputs::input_rows;
 use crate::starts::starts;
 use crate::walked::Walked;
-use fv_base::{List, Memory};
+use fv_text::{List, Memory};
 use std::alloc::Global;
 use wn_net::{Net, NodeId};
 use wn_run::early;

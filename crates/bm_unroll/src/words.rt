@@ -12,7 +12,7 @@ ghost use Rattle.wn_mem.specs.Words.{AreWords, words_width, numbers_of, after_wr
 ghost use Rattle.bm_unroll.specs.Cycle.{widths_at};
 ghost use Rattle.bm_unroll.specs.Moved.{IsTableWrite, copied};
 
-use fv_base::Memory;
+use fv_text::Memory;
 use std::alloc::Global;
 use wn_mem::write_all;
 use wn_net::{MemWrite, Net, NodeId};

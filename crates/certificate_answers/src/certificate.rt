@@ -3,7 +3,7 @@
 use crate::escape;
 use cnf_form::{Formula, are_literals};
 use cnf_text::{dimacs, read_dimacs};
-use fv_base::{Memory, Text};
+use fv_text::{Memory, Text};
 use lrat_check::{Refuted, Step, StepFault, Store, lrat, read_lrat, verify};
 use std::alloc::Global;
 use std::fmt::Display;

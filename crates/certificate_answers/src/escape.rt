@@ -2,8 +2,8 @@
 
 ghost use Rattle.std.specs.Prelude.{◌<◌, length, IfSome};
 
-use fv_base::Memory;
 use fv_lines::cut_at;
+use fv_text::Memory;
 use std::alloc::Global;
 
 /// The bytes that a line shows.

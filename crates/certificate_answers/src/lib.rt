@@ -8,7 +8,7 @@ mod search;
 mod stored;
 
 pub use escape::{parted, put_escaped, read_escaped};
-use fv_base::Memory;
+use fv_text::Memory;
 use std::alloc::Global;
 
 /// The answer to a case that its first word names; None where there is no such case here.

@@ -3,7 +3,7 @@
 use crate::escape;
 use cnf_form::{Formula, clause_at};
 use cnf_text::read_dimacs;
-use fv_base::{List, Memory};
+use fv_text::{List, Memory};
 use lrat_check::{Step, verify};
 use sat_search::{Found, solve};
 use std::alloc::Global;

@@ -3,7 +3,7 @@
 ghost use Rattle.std.specs.Prelude.{◌≤◌};
 ghost use Rattle.lrat_check.specs.Store.{next};
 
-use fv_base::Memory;
+use fv_text::Memory;
 use lrat_check::Store;
 use std::alloc::Global;
 

@@ -1,8 +1,8 @@
 //! The parts of a line.
 
 use ck_cfg::{Check, CheckKind};
-use ck_props::{Probe, Retired};
-use fv_base::{Memory, Text};
+use ck_spec::{Probe, Retired};
+use fv_text::{Memory, Text};
 use rv_table::{Opts, Retire, RowId};
 use std::alloc::Global;
 

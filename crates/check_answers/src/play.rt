@@ -6,7 +6,7 @@ use crate::run::Run;
 use anyhow::Result;
 use ck_cfg::Check;
 use ck_gen::monitor;
-use fv_base::{List, Memory};
+use fv_text::{List, Memory};
 use rv_table::Opts;
 use rvfi_port::Port;
 use std::alloc::Global;

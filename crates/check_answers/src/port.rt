@@ -8,7 +8,7 @@ ghost use Rattle.ck_gen.specs.Monitors.{HasProbe};
 
 use anyhow::{Result, bail};
 use ck_cfg::CheckKind;
-use fv_base::{List, Memory};
+use fv_text::{List, Memory};
 use rvfi_port::{Channel, Field, Port};
 use std::alloc::Global;
 use wn_net::{InputKind, Net, NodeId};

@@ -1,8 +1,8 @@
 //! A run of a few cycles as a line gives it, and the numbers that show it at a port.
 
 use crate::line;
-use ck_props::{Probe, Retired};
-use fv_base::Memory;
+use ck_spec::{Probe, Retired};
+use fv_text::Memory;
 use rv_table::Retire;
 use std::alloc::Global;
 

@@ -1,4 +1,4 @@
--- The widths of the nodes that a channel is made of (RISC-V Formal Interface).
+-- Between functions: The widths of the nodes that a channel is made of (RISC-V Formal Interface).
 use Rattle.wn_net.specs.Net.{Netlist, IsNodeOf}
 use Rattle.circuit_answers.specs.declared.channel.Flags.{Flags}
 use Rattle.circuit_answers.specs.declared.channel.Numbers.{Numbers}

@@ -7,7 +7,7 @@ ghost use Rattle.wn_net.specs.Changes.{AddsNodes};
 ghost use Rattle.rvfi_port.specs.Ports.{AreChannelNodes};
 ghost use Rattle.circuit_answers.specs.Parts as parts;
 
-use fv_base::Memory;
+use fv_text::Memory;
 use rv_table::Retire;
 use rv_words::{bit, constant, word};
 use rvfi_port::Channel;

@@ -13,7 +13,7 @@ mod shown;
 
 use crate::case::case_of;
 use crate::shown::shown;
-use fv_base::Memory;
+use fv_text::Memory;
 use std::alloc::Global;
 
 /// The answer to the case of a line: what the row's circuit shows, or that the line is no case.

@@ -3,7 +3,7 @@
 
 use crate::case::Case;
 use crate::channel::play;
-use fv_base::{List, Memory};
+use fv_text::{List, Memory};
 use rv_circ::{EffectNodes, agreement, circuit};
 use rv_table::{Effect, Retire, effect_of, matches};
 use std::alloc::Global;

@@ -1,4 +1,4 @@
--- The checks of a configuration and their order (documentation of riscv-formal, in this project's profile).
+-- Meaning: The checks of a configuration and their order (documentation of riscv-formal, in this project's profile).
 use Rattle.std.specs.Prelude.{
   ℕ,
   Bool,

@@ -1,4 +1,4 @@
--- The numbers of a depth line: its cycles, and the conditions on them (rules of this project).
+-- Meaning: The numbers of a depth line: its cycles, and the conditions on them (rules of this project).
 use Rattle.std.specs.Prelude.{
   ℕ,
   ◌≡◌,

@@ -1,4 +1,4 @@
--- The lines of `[depth]` (documentation of riscv-formal, in this project's profile).
+-- Meaning: The lines of `[depth]` (documentation of riscv-formal, in this project's profile).
 use Rattle.std.specs.Prelude.{
   ℕ,
   Bool,

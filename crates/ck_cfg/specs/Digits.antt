@@ -1,4 +1,4 @@
--- Numbers in decimal digits, as they are compared. Rule of this project.
+-- Between functions: Numbers in decimal digits, as they are compared. Rule of this project.
 use Rattle.std.specs.Prelude.{ℕ, ◌+◌, ◌-◌, ◌*◌, ◌==◌, if◌then◌else◌, List, [], ◌∷◌}
 
 -- the number that digits continue

@@ -1,4 +1,4 @@
--- The numbers of the refusals, and how clauses speak of them. Rule of this project.
+-- Meaning: The numbers of the refusals, and how clauses speak of them. Rule of this project.
 use Rattle.std.specs.Prelude.{ℕ, ◌≡◌, Result, Ok, Err}
 use Rattle.ck_cfg.specs.declared.fault.CfgFault.{CfgFault}
 use Rattle.ck_cfg.specs.declared.fault.CfgFault.TheVariants.{Section, Option, Depth, Isa, Missing, Twice, TooDeep}

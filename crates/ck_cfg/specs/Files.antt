@@ -1,4 +1,4 @@
--- The names of the Verilog files. Rule of this project.
+-- Meaning: The names of the Verilog files. Rule of this project.
 use Rattle.std.specs.Prelude.{ℕ, zero, suc, if◌then◌else◌, nat_eq, List, [], ◌∷◌, ◌++◌, map, codes}
 use Rattle.std.specs.List.{starts_with}
 use Rattle.ck_cfg.specs.declared.config.Config.{Config}

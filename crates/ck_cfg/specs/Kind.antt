@@ -1,4 +1,4 @@
--- The kinds of checks (documentation of riscv-formal; imem and dmem have this project's form).
+-- Meaning: The kinds of checks (documentation of riscv-formal; imem and dmem have this project's form).
 use Rattle.std.specs.Prelude.{ℕ, Bool, List, [], ◌∷◌, codes}
 use Rattle.std.specs.Str.{bytes_eq}
 use Rattle.ck_cfg.specs.declared.kind.CheckKind.{CheckKind}

@@ -1,4 +1,4 @@
--- What each check of a configuration keeps, for all that is built on checks. Rule of this project.
+-- Between functions: What each check of a configuration keeps, for all that is built on checks. Rule of this project.
 use Rattle.std.specs.Prelude.{ℕ, ◌≡◌, ◌≤◌, ◌<◌, Option, Some, None}
 use Rattle.std.specs.List.{AllByRecursion}
 use Rattle.rv_table.specs.declared.row.RowId.{RowId}

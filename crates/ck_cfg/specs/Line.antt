@@ -1,5 +1,5 @@
--- The lines of a configuration. What ends a line and what parts its words is what it is in all texts (`fv_lines`).
--- Rule of this project.
+-- Meaning: The lines of a configuration. What ends a line and what parts its words is what it is in all texts
+-- (`fv_lines`). Rule of this project.
 use Rattle.std.specs.Prelude.{
   ℕ,
   Bool,

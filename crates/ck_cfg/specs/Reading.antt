@@ -1,6 +1,6 @@
--- What a configuration says, or why it says nothing (documentation of riscv-formal, in this project's profile). The
--- lines are taken in order, each in its section; of several refusals the first line's is answered, and at one line
--- the one with the lowest number.
+-- Meaning: What a configuration says, or why it says nothing (documentation of riscv-formal, in this project's
+-- profile). The lines are taken in order, each in its section; of several refusals the first line's is answered, and
+-- at one line the one with the lowest number.
 use Rattle.std.specs.Prelude.{
   ℕ,
   ◌&&◌,

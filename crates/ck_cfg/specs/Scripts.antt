@@ -1,4 +1,4 @@
--- The lines of `[script-sources]`: the lines `read_verilog` of a script of Yosys, in this project's profile.
+-- Meaning: The lines of `[script-sources]`: the lines `read_verilog` of a script of Yosys, in this project's profile.
 use Rattle.std.specs.Prelude.{
   ℕ,
   if◌then◌else◌,

@@ -1,4 +1,4 @@
--- The sections of a configuration and their names (documentation of riscv-formal, in this project's profile).
+-- Meaning: The sections of a configuration and their names (documentation of riscv-formal, in this project's profile).
 use Rattle.std.specs.Prelude.{ℕ, List, [], ◌∷◌, ◌++◌, Option, find, codes}
 use Rattle.std.specs.Str.{bytes_eq}
 use Rattle.ck_cfg.specs.declared.kind.CheckKind.TheVariants.{Insn, Ill, Reg, PcFwd, PcBwd, Causal, Unique, Liveness}

@@ -1,4 +1,4 @@
--- The first word of a depth line: what it is for. Rule of this project.
+-- Meaning: The first word of a depth line: what it is for. Rule of this project.
 use Rattle.std.specs.Prelude.{
   ℕ,
   ◌-◌,

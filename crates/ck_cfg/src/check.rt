@@ -1,5 +1,5 @@
 use crate::kind::CheckKind;
-use fv_base::Text;
+use fv_text::Text;
 use rv_table::RowId;
 
 /// One check.

@@ -1,5 +1,5 @@
 use crate::kind::CheckKind;
-use fv_base::{List, Text};
+use fv_text::{List, Text};
 use rv_table::Isa;
 
 /// A line of Verilog text or an expression, without the blanks at both ends.

@@ -12,8 +12,8 @@ use crate::fault::CfgFault;
 use crate::kind::CheckKind;
 use crate::reader::Reader;
 use crate::target::Target;
-use fv_base::Text;
 use fv_lines::next_word;
+use fv_text::Text;
 use std::alloc::Global;
 
 /// No cycle of a check is above this one.

@@ -2,7 +2,7 @@ ghost use Rattle.std.specs.Prelude.{◌≡◌};
 ghost use Rattle.ck_cfg.specs.Faults.{number_of};
 ghost use Rattle.ck_cfg.specs.declared.fault.CfgFault.TheVariants as fault;
 
-use fv_base::{Memory, Text};
+use fv_text::{Memory, Text};
 use std::alloc::{AllocError, AllocFailed};
 use thiserror::Error;
 

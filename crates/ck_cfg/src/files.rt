@@ -4,7 +4,7 @@ ghost use Rattle.std.specs.Prelude.{◌≡◌, ◌++◌, ◌<◌, length, IfOk, 
 ghost use Rattle.ck_cfg.specs.Files.{filled, file_names_of};
 
 use crate::config::Config;
-use fv_base::{List, Memory, Text};
+use fv_text::{List, Memory, Text};
 use std::alloc::Global;
 
 /// The names of the Verilog files, with the core's name and the base folder put in from left to right. What was put in

@@ -10,7 +10,7 @@ use crate::check::Check;
 use crate::config::{Config, Depth};
 use crate::kind::CheckKind;
 use crate::sort::moved;
-use fv_base::{List, Memory, Text};
+use fv_text::{List, Memory, Text};
 use itoa::Buffer;
 use rv_table::{RowId, row_name};
 use std::alloc::Global;

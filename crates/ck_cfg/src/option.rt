@@ -8,8 +8,8 @@ ghost use Rattle.ck_cfg.specs.Options.{is_among, idle_keys, once, with_isa, with
 use crate::fault::CfgFault;
 use crate::isa::isa_named;
 use crate::reader::{Reader, is_among};
-use fv_base::Text;
 use fv_lines::next_word;
+use fv_text::Text;
 use std::alloc::Global;
 
 impl Reader {

@@ -10,8 +10,8 @@ use crate::config::{Config, KindPiece, Piece};
 use crate::fault::CfgFault;
 use crate::line::{is_dropped, section_begun, trimmed};
 use crate::section::Section;
-use fv_base::{List, Memory, Text};
 use fv_lines::{next_line, next_place};
+use fv_text::{List, Memory, Text};
 use rv_table::Isa;
 use std::alloc::Global;
 

@@ -9,8 +9,8 @@ ghost use Rattle.ck_cfg.specs.Scripts.{script_options, names_behind, names_read,
 
 use crate::fault::CfgFault;
 use crate::reader::Reader;
-use fv_base::{Memory, Text};
 use fv_lines::next_word;
+use fv_text::{Memory, Text};
 use std::alloc::Global;
 
 impl Reader {

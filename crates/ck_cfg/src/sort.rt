@@ -5,7 +5,7 @@ ghost use Rattle.std.specs.List.{filter, position};
 ghost use Rattle.ck_cfg.specs.Checks.{is_named, moved};
 
 use crate::check::Check;
-use fv_base::{List, Memory, Text};
+use fv_text::{List, Memory, Text};
 use std::alloc::Global;
 
 /// The checks that are named come first, in the order of the names. Each name takes a pass over the checks that are

@@ -4,7 +4,7 @@ use Rattle.std.specs.Prelude.{Bool, Option, Some, None, ℤ, slice_index}
 use Rattle.std.specs.List.{AllByRecursion, flat_map}
 use Rattle.std.proofs.Common.{arith, subst, length-append}
 use Rattle.std.proofs.lemmas.List.{length-map}
-use Rattle.fv_base.specs.declared.trace.TraceName.{TraceName}
+use Rattle.fv_text.specs.declared.trace.TraceName.{TraceName}
 use Rattle.wn_net.specs.declared.names.Names.{Names}
 use Rattle.wn_net.specs.declared.names.NetName.{NetName}
 use Rattle.wn_net.specs.declared.names.Place.{Place}
@@ -20,7 +20,7 @@ use Rattle.wn_net.proofs.Moved.{value_within}
 use Rattle.wn_net.proofs.Small.{words_below}
 use Rattle.wn_run.specs.Runs.{Choices, AreChoicesOf, inputs_at, start_of}
 use Rattle.wn_run.proofs.Given.{choices_run, cycles_given}
-use Rattle.vcd_text.specs.Vcd.{AreValues, IsWide}
+use Rattle.vcd_dump.specs.Vcd.{AreValues, IsWide}
 use Rattle.tr_replay.specs.Traces.{cycle_of, first_cycles, name_values, names_by, names_of, place_values, word_names}
 use Rattle.ck_design.specs.Traces.{TracesHaveDumps}
 use Rattle.ck_design.proofs.Rows.{memory_length}

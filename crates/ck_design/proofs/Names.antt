@@ -6,7 +6,7 @@ use Rattle.std.proofs.Common.{ap, sym, ◌∙◌, arith, append-nil, subst}
 use Rattle.std.proofs.lemmas.Grind.{flat_map-append}
 use Rattle.std.proofs.lemmas.Int.{ints}
 use Rattle.std.proofs.lemmas.List.{map-append}
-use Rattle.fv_base.specs.declared.trace.TraceName.{TraceName}
+use Rattle.fv_text.specs.declared.trace.TraceName.{TraceName}
 use Rattle.vl_size.specs.declared.decl.Decl.{Decl}
 use Rattle.vl_size.specs.Size.{Values}
 use Rattle.vl_size.specs.Table as size

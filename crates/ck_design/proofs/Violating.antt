@@ -25,7 +25,7 @@ use Rattle.rvfi_port.specs.declared.port.Port.{Port}
 use Rattle.rvfi_port.specs.declared.port.Wants.{Wants}
 use Rattle.rvfi_port.specs.Fields.{channel_fields, field_name, field_width, probed_fields, wanted_fields}
 use Rattle.ck_cfg.specs.declared.check.Check.{Check}
-use Rattle.ck_props.specs.Properties.{property}
+use Rattle.ck_spec.specs.Properties.{property}
 use Rattle.ck_gen.specs.Retirements.{probe_at, retired_from}
 use Rattle.ck_gen.specs.Retirements as past
 use Rattle.ck_gen.specs.Monitors.{holds_in}

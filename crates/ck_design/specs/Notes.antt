@@ -1,4 +1,5 @@
--- The notes of a certificate: which bit of which name a literal is, and in which cycle (rule of this project).
+-- Between functions: The notes of a certificate: which bit of which name a literal is, and in which cycle (rule of
+-- this project).
 use Rattle.std.specs.Prelude.{ℕ, ◌+◌, ◌*◌, List, [], ◌∷◌, ◌++◌, map, Option, Some, None}
 use Rattle.std.specs.Prelude.{slice_get, slice_index, slice_index_or}
 use Rattle.std.specs.List.{range_with_len}

@@ -1,5 +1,5 @@
--- What the runs of a design show of a core, and which of them violate a check (RISC-V Formal Interface, in this
--- project's profile).
+-- Meaning: What the runs of a design show of a core, and which of them violate a check (RISC-V Formal Interface, in
+-- this project's profile).
 use Rattle.std.specs.Prelude.{◌≡◌, ℕ, zero, suc, ◌+◌, ◌-◌, ◌*◌, ◌==◌, Bool, false, if◌then◌else◌}
 use Rattle.std.specs.Prelude.{List, [], ◌∷◌, ◌++◌, slice_index_or}
 use Rattle.fv_bits.specs.Bits.{part}
@@ -14,9 +14,9 @@ use Rattle.rvfi_port.specs.declared.field.Field.TheVariants as f
 use Rattle.rvfi_port.specs.declared.port.Wants.{Wants}
 use Rattle.rvfi_port.specs.Fields.{field_name, field_width}
 use Rattle.ck_cfg.specs.declared.check.Check.{Check}
-use Rattle.ck_props.specs.declared.retired.Retired.{Retired}
-use Rattle.ck_props.specs.declared.retired.Probe.{Probe}
-use Rattle.ck_props.specs.Properties.{property}
+use Rattle.ck_spec.specs.declared.retired.Retired.{Retired}
+use Rattle.ck_spec.specs.declared.retired.Probe.{Probe}
+use Rattle.ck_spec.specs.Properties.{property}
 
 -- the number of a channel's field in a cycle: its part of the output
 abbrev pub field_in : Values → ℕ → Field → ℕ

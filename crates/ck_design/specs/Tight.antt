@@ -1,5 +1,5 @@
--- When clauses with notes say exactly what the runs of a design are, and which of them violate a check (rule of this
--- project).
+-- Meaning: When clauses with notes say exactly what the runs of a design are, and which of them violate a check (rule
+-- of this project).
 use Rattle.std.specs.Prelude.{◌≡◌, ◌↔◌, ℕ, ◌+◌, ◌*◌, ◌<◌, ◌≤◌, ◌==◌, Bool, true, false, List, [], ◌∷◌, ◌++◌}
 use Rattle.std.specs.Prelude.{Some, slice_get, ℤ, pos}
 use Rattle.std.specs.Int.{bit_at}

@@ -1,8 +1,8 @@
--- The trace of a run of a design: what each full name has in each cycle (rule of this project).
+-- Meaning: The trace of a run of a design: what each full name has in each cycle (rule of this project).
 use Rattle.std.specs.Prelude.{◌≡◌, ℕ, List, [], ◌∷◌, ◌++◌, map, bytes_eq, if◌then◌else◌}
 use Rattle.std.specs.List.{IsDistinct}
-use Rattle.fv_base.specs.declared.trace.Trace.{Trace}
-use Rattle.fv_base.specs.declared.trace.TraceName.{TraceName}
+use Rattle.fv_text.specs.declared.trace.Trace.{Trace}
+use Rattle.fv_text.specs.declared.trace.TraceName.{TraceName}
 use Rattle.vl_size.specs.declared.decl.Decl.{Decl}
 use Rattle.vl_size.specs.Size.{Values}
 use Rattle.vl_mean.specs.Cells.{cells}
@@ -14,7 +14,7 @@ use Rattle.wn_net.specs.Names.{AreNamesOf}
 use Rattle.wn_run.specs.Runs.{Choices, AreChoicesOf}
 use Rattle.vl_lower_spec.specs.Evaluations.{IsLowered, run_of}
 use Rattle.tr_replay.specs.Traces.{trace_of}
-use Rattle.vcd_text.specs.Vcd.{IsTrace}
+use Rattle.vcd_dump.specs.Vcd.{IsTrace}
 
 -- the name that is declared, or in place of a memory its words from the left bound on, with the width
 abbrev pub shown_by : Decl → List TraceName

@@ -1,5 +1,5 @@
 use bb_aig::Lit;
-use fv_base::Text;
+use fv_text::Text;
 
 /// A literal of a certificate, and the bit of a name in a cycle that it is.
 #[derive(Debug, Drop)]

@@ -14,7 +14,7 @@ use Rattle.rvfi_port.specs.declared.port.Channel.{Channel}
 use Rattle.rvfi_port.specs.declared.port.Port.{Port}
 use Rattle.rvfi_port.specs.Channels.{retires, retire_at}
 use Rattle.ck_cfg.specs.declared.check.Check.{Check}
-use Rattle.ck_props.specs.Properties.{property}
+use Rattle.ck_spec.specs.Properties.{property}
 use Rattle.ck_history.specs.Truths.{Tells, is_one}
 use Rattle.ck_history.proofs.Laws.{one_on}
 use Rattle.ck_history.specs.Entries.{Entry}

@@ -10,7 +10,7 @@ use Rattle.rvfi_port.specs.declared.port.Channel.{Channel}
 use Rattle.rvfi_port.specs.Channels.{retire_at}
 use Rattle.ck_cfg.specs.declared.kind.CheckKind.{CheckKind}
 use Rattle.ck_cfg.specs.declared.kind.CheckKind.TheVariants as kinds
-use Rattle.ck_props.specs.declared.retired.Retired.{Retired}
+use Rattle.ck_spec.specs.declared.retired.Retired.{Retired}
 use Rattle.ck_history.specs.Entries.{Entry}
 use Rattle.ck_history.specs.Lines.{past}
 use Rattle.ck_history.specs.declared.sought.Sought.{Sought}

@@ -14,11 +14,11 @@ use Rattle.rvfi_port.specs.declared.port.Channel.{Channel}
 use Rattle.ck_cfg.specs.declared.check.Check.{Check}
 use Rattle.ck_cfg.specs.declared.kind.CheckKind.{CheckKind}
 use Rattle.ck_cfg.specs.declared.kind.CheckKind.TheVariants as kinds
-use Rattle.ck_props.specs.declared.retired.Retired.{Retired}
-use Rattle.ck_props.specs.declared.retired.Probe.{Probe}
-use Rattle.ck_props.specs.Lists.{is_earlier, last_earlier, any_earlier, where_found}
-use Rattle.ck_props.specs.Properties.{holds_at, was_written, reads_early}
-use Rattle.ck_props.specs.Properties.{byte_was_written, implies}
+use Rattle.ck_spec.specs.declared.retired.Retired.{Retired}
+use Rattle.ck_spec.specs.declared.retired.Probe.{Probe}
+use Rattle.ck_spec.specs.Lists.{is_earlier, last_earlier, any_earlier, where_found}
+use Rattle.ck_spec.specs.Properties.{holds_at, was_written, reads_early}
+use Rattle.ck_spec.specs.Properties.{byte_was_written, implies}
 use Rattle.ck_history.specs.Entries.{Entry}
 use Rattle.ck_history.specs.Lines.{past}
 use Rattle.ck_history.specs.declared.sought.Sought.{Sought}

@@ -13,10 +13,10 @@ use Rattle.rvfi_port.specs.Channels.{retires, retire_at}
 use Rattle.ck_cfg.specs.declared.check.Check.{Check}
 use Rattle.ck_cfg.specs.declared.kind.CheckKind.{CheckKind}
 use Rattle.ck_cfg.specs.declared.kind.CheckKind.TheVariants as kinds
-use Rattle.ck_props.specs.declared.retired.Retired.{Retired}
-use Rattle.ck_props.specs.declared.retired.Probe.{Probe}
-use Rattle.ck_props.specs.Lists.{found_at, where_found}
-use Rattle.ck_props.specs.Properties.{holds_at, cycle_of, property}
+use Rattle.ck_spec.specs.declared.retired.Retired.{Retired}
+use Rattle.ck_spec.specs.declared.retired.Probe.{Probe}
+use Rattle.ck_spec.specs.Lists.{found_at, where_found}
+use Rattle.ck_spec.specs.Properties.{holds_at, cycle_of, property}
 use Rattle.ck_history.specs.Entries.{Entry}
 use Rattle.ck_history.specs.Lines.{past}
 use Rattle.ck_gen.specs.Retirements.{retirements}

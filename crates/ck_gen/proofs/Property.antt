@@ -11,8 +11,8 @@ use Rattle.rvfi_port.specs.declared.port.Channel.{Channel}
 use Rattle.rvfi_port.specs.Channels.{retires, retire_at}
 use Rattle.ck_cfg.specs.declared.check.Check.{Check}
 use Rattle.ck_cfg.specs.declared.kind.CheckKind.TheVariants as kinds
-use Rattle.ck_props.specs.declared.retired.Retired.{Retired}
-use Rattle.ck_props.specs.Lists.{is_at, found_at, where_found}
+use Rattle.ck_spec.specs.declared.retired.Retired.{Retired}
+use Rattle.ck_spec.specs.Lists.{is_at, found_at, where_found}
 use Rattle.ck_gen.specs.Retirements.{retired_in, retired_from, retirements}
 use Rattle.ck_gen.specs.Kept.{entry, sought_same}
 use Rattle.ck_gen.proofs.Says.{first_says, says_append, found_says}

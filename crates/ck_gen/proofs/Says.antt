@@ -6,8 +6,8 @@ use Rattle.std.specs.List.{list_any}
 use Rattle.std.proofs.Common.{ap, ◌∙◌, cond}
 use Rattle.std.proofs.lemmas.List.{reverse-append}
 use Rattle.rv_table.specs.declared.retire.Retire.{Retire}
-use Rattle.ck_props.specs.declared.retired.Retired.{Retired}
-use Rattle.ck_props.specs.Lists.{where_found}
+use Rattle.ck_spec.specs.declared.retired.Retired.{Retired}
+use Rattle.ck_spec.specs.Lists.{where_found}
 use Rattle.ck_history.specs.Entries.{Entry}
 use Rattle.ck_history.specs.declared.sought.Sought.{Sought}
 use Rattle.ck_history.specs.Searches.{is_sought, agrees, first_agrees}

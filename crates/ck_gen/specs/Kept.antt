@@ -1,4 +1,5 @@
--- What a check keeps of each retirement, and what it asks of those that were kept (rule of this project).
+-- Between functions: What a check keeps of each retirement, and what it asks of those that were kept (rule of this
+-- project).
 use Rattle.std.specs.Prelude.{ℕ, ◌==◌, Bool, true, not, ◌&&◌, ◌||◌, List, map, reverse}
 use Rattle.fv_bits.specs.Bits.{bit, part}
 use Rattle.rv_table.specs.declared.retire.Retire.{Retire}

@@ -1,4 +1,4 @@
--- What a monitor shows (rule of this project; the properties are those of checks).
+-- Meaning: What a monitor shows (rule of this project; the properties are those of checks).
 use Rattle.std.specs.Prelude.{◌≡◌, ℕ, ◌≤◌, Bool, true, false, not, List, Option, Some, None}
 use Rattle.fv_bits.specs.Bits.{bit}
 use Rattle.rv_table.specs.declared.retire.Retire.{Retire}
@@ -14,8 +14,8 @@ use Rattle.rvfi_port.specs.declared.port.Port.{Port}
 use Rattle.ck_cfg.specs.declared.check.Check.{Check}
 use Rattle.ck_cfg.specs.declared.kind.CheckKind.{CheckKind}
 use Rattle.ck_cfg.specs.declared.kind.CheckKind.TheVariants as kinds
-use Rattle.ck_props.specs.declared.retired.Probe.{Probe}
-use Rattle.ck_props.specs.Properties.{property, does_as_row, traps_zeros, has_probed_halves}
+use Rattle.ck_spec.specs.declared.retired.Probe.{Probe}
+use Rattle.ck_spec.specs.Properties.{property, does_as_row, traps_zeros, has_probed_halves}
 use Rattle.ck_history.specs.Truths.{is_one}
 use Rattle.ck_history.specs.Entries.{Entry, Show}
 use Rattle.ck_history.specs.Lines.{AddsKnown}

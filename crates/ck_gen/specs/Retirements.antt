@@ -1,4 +1,4 @@
--- The retirements of a run, and what it is probed by (RISC-V Formal Interface, in this project's profile).
+-- Meaning: The retirements of a run, and what it is probed by (RISC-V Formal Interface, in this project's profile).
 use Rattle.std.specs.Prelude.{ℕ, zero, suc, ◌+◌, ◌-◌, if◌then◌else◌, List, [], ◌∷◌, ◌++◌, Option, Some, None}
 use Rattle.wn_net.specs.Value.{Given}
 use Rattle.wn_net.specs.Net.{Netlist, value_at}
@@ -6,8 +6,8 @@ use Rattle.rvfi_port.specs.declared.port.Channel.{Channel}
 use Rattle.rvfi_port.specs.declared.port.Port.{Port}
 use Rattle.rvfi_port.specs.Channels.{retires, retire_at}
 use Rattle.ck_cfg.specs.declared.check.Check.{Check}
-use Rattle.ck_props.specs.declared.retired.Retired.{Retired}
-use Rattle.ck_props.specs.declared.retired.Probe.{Probe}
+use Rattle.ck_spec.specs.declared.retired.Retired.{Retired}
+use Rattle.ck_spec.specs.declared.retired.Probe.{Probe}
 
 -- what a channel retires in a cycle, if anything
 abbrev pub retired_in : Netlist → Given → ℕ → ℕ → Channel → List Retired

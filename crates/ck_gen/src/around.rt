@@ -15,7 +15,7 @@ use ck_cfg::CheckKind;
 use ck_history::{
     EntryNodes, KeyTest, SmallTest, Sought, WordTest, both, either, first_agrees, is_number, turned,
 };
-use fv_base::Memory;
+use fv_text::Memory;
 use wn_net::{Net, NodeId};
 
 /// Whether none of the others has the entry's key.

@@ -18,7 +18,7 @@ use ck_cfg::CheckKind;
 use ck_history::{
     EntryNodes, KeyTest, SmallTest, Sought, WordTest, both, either, first_agrees, is_number,
 };
-use fv_base::Memory;
+use fv_text::Memory;
 use rvfi_port::Channel;
 use wn_net::{Net, NodeId};
 

@@ -13,7 +13,7 @@ ghost use Rattle.ck_gen.specs.Kept as spec;
 
 use ck_cfg::CheckKind;
 use ck_history::{EntryNodes, pack};
-use fv_base::{Memory, Word};
+use fv_text::{Memory, Word};
 use rvfi_port::Channel;
 use std::alloc::Global;
 use wn_net::{Net, NodeId};

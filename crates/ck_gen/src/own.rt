@@ -6,7 +6,7 @@ ghost use Rattle.wn_net.specs.Net.{IsNodeOf, value_at};
 ghost use Rattle.wn_net.specs.Changes.{AddsNodes};
 ghost use Rattle.ck_history.specs.Truths.{Tells, is_one};
 ghost use Rattle.rvfi_port.specs.Channels.{retire_at};
-ghost use Rattle.ck_props.specs.Properties as properties;
+ghost use Rattle.ck_spec.specs.Properties as properties;
 ghost use Rattle.rvfi_port.specs.Ports.{AreChannelNodes, AreImemNodes};
 ghost use Rattle.ck_gen.specs.Retirements.{imem_addr_at, imem_data_at};
 ghost use Rattle.ck_gen.specs.Monitors as monitors;
@@ -14,7 +14,7 @@ ghost use Rattle.ck_gen.specs.Monitors.{probe_of};
 
 use ck_cfg::{Check, CheckKind};
 use ck_history::{both, either, is_number, is_same, turned};
-use fv_base::{Memory, Word};
+use fv_text::{Memory, Word};
 use rv_circ::{agreement, circuit};
 use rv_table::{Opts, RowId};
 use rv_words::bit;

@@ -19,7 +19,7 @@ use crate::earlier::or_agrees;
 use ck_history::{
     EntryNodes, KeyTest, SmallTest, Sought, WordTest, both, either, is_number, is_same, turned,
 };
-use fv_base::Memory;
+use fv_text::Memory;
 use rvfi_port::Channel;
 use wn_net::{Net, NodeId};
 

@@ -17,7 +17,7 @@ use crate::kept::kept_words;
 use crate::own::holds_alone;
 use ck_cfg::{Check, CheckKind};
 use ck_history::{both, history, turned, unpack};
-use fv_base::Memory;
+use fv_text::Memory;
 use rv_table::Opts;
 use rvfi_port::{Channel, Port};
 use std::alloc::Global;

@@ -1,4 +1,4 @@
--- What a check keeps of a channel in a cycle (rule of this project).
+-- Between functions: What a check keeps of a channel in a cycle (rule of this project).
 use Rattle.std.specs.Prelude.{◌≡◌, ℕ, ◌<◌, ◌^◌, List, [], ◌∷◌}
 use Rattle.fv_bits.specs.Bits.{joined}
 use Rattle.wn_net.specs.Value.{Given}

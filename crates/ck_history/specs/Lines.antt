@@ -1,4 +1,4 @@
--- Nodes that show what others showed in earlier cycles of a run (rule of this project).
+-- Between functions: Nodes that show what others showed in earlier cycles of a run (rule of this project).
 use Rattle.std.specs.Prelude.{◌≡◌, ℕ, zero, suc, ◌+◌, ◌<◌, List, [], ◌++◌, length, drop, slice_index}
 use Rattle.std.specs.List.{AllByRecursion}
 use Rattle.wn_net.specs.declared.parts.Reg.{Reg}

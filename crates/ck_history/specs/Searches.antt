@@ -1,4 +1,4 @@
--- Searches among entries, the last one first (rule of this project).
+-- Between functions: Searches among entries, the last one first (rule of this project).
 use Rattle.std.specs.Prelude.{ℕ, ◌+◌, ◌*◌, ◌<◌, ◌==◌, nat_lt, Bool, true, false}
 use Rattle.std.specs.Prelude.{◌&&◌, ◌||◌, if◌then◌else◌, List, [], ◌∷◌}
 use Rattle.fv_bits.specs.Bits.{part}

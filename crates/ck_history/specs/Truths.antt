@@ -1,4 +1,4 @@
--- Nodes of one bit as truth values: 1 says yes, and 0 no (rule of this project).
+-- Between functions: Nodes of one bit as truth values: 1 says yes, and 0 no (rule of this project).
 use Rattle.std.specs.Prelude.{ℕ, ◌==◌, Bool}
 use Rattle.fv_bits.specs.Bits.{bit}
 use Rattle.wn_net.specs.Value.{Given}

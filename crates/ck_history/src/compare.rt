@@ -12,7 +12,7 @@ ghost use Rattle.ck_history.specs.Searches as searches;
 use crate::entry::EntryNodes;
 use crate::sought::{KeyTest, SmallTest, Sought, WordTest};
 use crate::test::{both, either, is_below, is_next, is_number, is_same};
-use fv_base::{Memory, Word};
+use fv_text::{Memory, Word};
 use wn_net::{Net, NodeId};
 
 /// The same answer in each cycle.

@@ -7,7 +7,7 @@ ghost use Rattle.wn_net.specs.Changes.{AddsNodes};
 ghost use Rattle.ck_history.specs.Entries.{Entry, IsEntry, AreEntryNodes, entry_at};
 ghost use Rattle.ck_history.specs.Entries as entries;
 
-use fv_base::Memory;
+use fv_text::Memory;
 use wn_net::{Net, NodeId};
 
 /// What is kept of a channel in a cycle.

@@ -5,7 +5,7 @@ ghost use Rattle.wn_net.specs.Net.{IsNet, IsNodeOf, AreNodesOf};
 ghost use Rattle.wn_net.specs.Changes.{AddsRegs};
 ghost use Rattle.ck_history.specs.Lines.{IsBehind, IsHistory, AddsKnown};
 
-use fv_base::Memory;
+use fv_text::Memory;
 use std::alloc::Global;
 use wn_net::{Init, Net, NodeId};
 

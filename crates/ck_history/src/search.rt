@@ -13,7 +13,7 @@ ghost use Rattle.ck_history.specs.Searches as searches;
 use crate::compare::{agrees, constant, is_sought};
 use crate::entry::{EntryNodes, unpack};
 use crate::sought::Sought;
-use fv_base::Memory;
+use fv_text::Memory;
 use wn_net::{Net, NodeId};
 
 /// Whether the entry agrees, where it is sought, and else what the entries before it say.

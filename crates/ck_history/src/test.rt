@@ -5,7 +5,7 @@ ghost use Rattle.wn_net.specs.Net.{IsNode, IsNodeOf, value_at, width_at};
 ghost use Rattle.wn_net.specs.Changes.{AddsNodes, Shows};
 ghost use Rattle.ck_history.specs.Truths.{Tells, is_one};
 
-use fv_base::{Memory, Word};
+use fv_text::{Memory, Word};
 use wn_net::{Net, NodeId};
 
 /// Whether both say yes.

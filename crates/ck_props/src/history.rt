@@ -2,11 +2,11 @@
 
 ghost use Rattle.std.specs.Prelude.{◌≡◌, ◌+◌, ◌<◌, ◌==◌, ◌&&◌, not, nat_lt};
 ghost use Rattle.rv_table.specs.Agree.{has};
-ghost use Rattle.ck_props.specs.Lists as lists;
-ghost use Rattle.ck_props.specs.Properties as properties;
+ghost use Rattle.ck_spec.specs.Lists as lists;
+ghost use Rattle.ck_spec.specs.Properties as properties;
 
-use crate::retired::Retired;
 use ck_cfg::Check;
+use ck_spec::Retired;
 use rv_table::{Retire, has_byte};
 
 /// It retired in the cycle, in the channel of the check.

@@ -1,9 +1,9 @@
 //! Properties of one retirement alone.
 
 ghost use Rattle.std.specs.Prelude.{◌≡◌};
-ghost use Rattle.ck_props.specs.Properties as properties;
+ghost use Rattle.ck_spec.specs.Properties as properties;
 
-use crate::retired::Probe;
+use ck_spec::Probe;
 use rv_table::{Opts, Retire, RowId, agrees, effect_of, matches};
 
 /// A word of the row does what the row does.

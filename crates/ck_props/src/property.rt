@@ -1,13 +1,13 @@
 ghost use Rattle.std.specs.Prelude.{◌≡◌, ◌<◌};
-ghost use Rattle.ck_props.specs.Properties as properties;
+ghost use Rattle.ck_spec.specs.Properties as properties;
 
 use crate::history::{
     counts, found_at, has_next, is_at, is_read_early, last_before, last_behind, last_store,
     last_write,
 };
 use crate::own::{does_as_row, has_probed_halves, traps_zeros};
-use crate::retired::{Probe, Retired};
 use ck_cfg::{Check, CheckKind};
+use ck_spec::{Probe, Retired};
 use rv_table::{Opts, Retire, byte, has_byte};
 
 /// Whether the retirements have the property of the check. They stand cycle by cycle, in each cycle by channel, without

@@ -18,7 +18,7 @@ ghost use Rattle.std.specs.Prelude.{IsTrue, ◌↔◌};
 ghost use Rattle.std.specs.Option.{option_copied};
 ghost use Rattle.cnf_form.specs.Cnf.{Cnf, IsLiteral, AreLiterals, AreClauses};
 
-use fv_base::{List, Memory};
+use fv_text::{List, Memory};
 use std::alloc::Global;
 use std::marker::Model;
 

@@ -1,4 +1,4 @@
--- What the reader keeps while it goes over a clause file. Rule of this project.
+-- Between functions: What the reader keeps while it goes over a clause file. Rule of this project.
 use Rattle.std.specs.Prelude.{ℕ, ◌≡◌, Result, Ok, Err}
 use Rattle.cnf_form.specs.Cnf.{AreLiterals}
 use Rattle.cnf_text.specs.declared.body.Body.{Body}

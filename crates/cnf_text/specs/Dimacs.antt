@@ -1,5 +1,5 @@
--- Clause files (DIMACS): which formula a text says, and why it says none. What is refused, and in which order, is a
--- rule of this project.
+-- Meaning: Clause files (DIMACS): which formula a text says, and why it says none. What is refused, and in which
+-- order, is a rule of this project.
 use Rattle.std.specs.Prelude.{
   ℕ,
   ◌≤◌,

@@ -2,7 +2,7 @@ ghost use Rattle.std.specs.Prelude.{◌≡◌};
 ghost use Rattle.cnf_text.specs.Dimacs.{dimacs_number};
 ghost use Rattle.cnf_text.specs.declared.fault.DimacsFault.TheVariants as fault;
 
-use fv_base::Memory;
+use fv_text::Memory;
 use std::alloc::{AllocError, AllocFailed};
 use thiserror::Error;
 

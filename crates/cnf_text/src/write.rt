@@ -3,7 +3,7 @@ ghost use Rattle.std.specs.Fmt.{signed_decimal};
 ghost use Rattle.cnf_text.specs.Dimacs.{note_text, literal_text, clause_text, header_text, dimacs_text, ReadsBack};
 
 use cnf_form::{Formula, clause_at};
-use fv_base::{Memory, Text};
+use fv_text::{Memory, Text};
 use itoa::Buffer;
 use std::alloc::Global;
 

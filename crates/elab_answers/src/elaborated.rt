@@ -2,7 +2,7 @@
 
 use crate::shown;
 use anyhow::Result;
-use fv_base::Text;
+use fv_text::Text;
 use std::alloc::Global;
 use vl_elab::{Reason, elaborate};
 use vl_mean::Flat;

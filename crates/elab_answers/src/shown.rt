@@ -1,7 +1,7 @@
 //! How refusals are printed.
 
 use anyhow::Result;
-use fv_base::{List, Pos, Text};
+use fv_text::{List, Pos, Text};
 use std::alloc::Global;
 use vl_elab_spec::ElabFault;
 

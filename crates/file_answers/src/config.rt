@@ -2,7 +2,7 @@
 
 use certificate_answers::{parted, put_escaped};
 use ck_cfg::{CfgFault, Check, Config, Piece, checks, file_names, read_cfg};
-use fv_base::{Memory, Text};
+use fv_text::{Memory, Text};
 use std::alloc::Global;
 
 /// What depth lines come to, of which the first is line 4.

@@ -1,9 +1,10 @@
 //! Value-change dumps.
 
 use certificate_answers::put_escaped;
-use fv_base::{Memory, Trace};
+use fv_text::{Memory, Trace};
 use std::alloc::Global;
-use vcd_text::{VcdFault, read_vcd, vcd};
+use vcd_dump::vcd;
+use vcd_text::{VcdFault, read_vcd};
 
 /// The names of a dump with their widths and their values in each cycle, and whether it is written again as it stood;
 /// or the faulty line.

@@ -7,7 +7,7 @@ mod config;
 mod dump;
 
 use certificate_answers::read_escaped;
-use fv_base::Memory;
+use fv_text::Memory;
 use std::alloc::Global;
 
 /// The answer to the case of a line; that there is no such case where its first word says none.

@@ -1,7 +1,7 @@
 //! How refusals are printed.
 
 use anyhow::Result;
-use fv_base::{Pos, Text};
+use fv_text::{Pos, Text};
 use std::alloc::Global;
 use vl_flow::FlowFault;
 

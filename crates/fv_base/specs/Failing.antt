@@ -1,4 +1,4 @@
--- Calls that fail by a list of their numbers. Rule of this project.
+-- Between functions: Calls that fail by a list of their numbers. Rule of this project.
 use Rattle.std.specs.Prelude.{ℕ, List, Bool, ◌==◌}
 use Rattle.std.specs.List.{list_any}
 

@@ -1,4 +1,4 @@
--- What the implementations in memory show of themselves. Rules of this project.
+-- Between functions: What the implementations in memory show of themselves. Rules of this project.
 use Rattle.std.specs.Prelude.{ℕ, List}
 use Rattle.fv_base.specs.Outside.{Names}
 use Rattle.fv_base.specs.Store.{names_in}

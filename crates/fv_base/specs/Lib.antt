@@ -1,12 +1,5 @@
 pub mod Failing
 pub mod Kept
-pub mod Keyword
-pub mod Name
-pub mod Named
 pub mod Outside
-pub mod Rose
 pub mod Sent
 pub mod Store
-pub mod Symbol
-pub mod Word
-pub mod formers

@@ -1,4 +1,5 @@
--- The outside as a caller knows it: what files hold, what was put out, and counts of faults. Rules of this project.
+-- Meaning: The outside as a caller knows it: what files hold, what was put out, and counts of faults. Rules of this
+-- project.
 use Rattle.std.specs.Prelude.{
   ◌≡◌,
   ℕ,

@@ -1,4 +1,4 @@
--- Output that is kept in memory and fails by a list of numbers of calls. Rules of this project.
+-- Between functions: Output that is kept in memory and fails by a list of numbers of calls. Rules of this project.
 use Rattle.std.specs.Prelude.{ℕ, List}
 
 pub record OutState : Type 0 where

@@ -1,4 +1,4 @@
--- Files that are kept in memory: a map from names to bytes. Rules of this project.
+-- Between functions: Files that are kept in memory: a map from names to bytes. Rules of this project.
 use Rattle.std.specs.Prelude.{ℕ, List, [], ◌∷◌, None, option_map, Vec, String, string_bytes}
 use Rattle.std.specs.Ordering.{nat_cmp}
 use Rattle.std.specs.Cmp.Lexicographic.{slice_cmp}

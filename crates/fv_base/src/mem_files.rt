@@ -19,8 +19,8 @@ ghost use Rattle.fv_base.specs.Store.{no_files, with_pairs};
 
 use crate::calls::Calls;
 use crate::files::{FileFault, Files};
-use crate::memory::Memory;
 use crate::store::{self, Store};
+use fv_text::Memory;
 use std::alloc::Global;
 
 /// Files in memory whose calls of read and write are numbered from 0, and fail where their number is in a list.

@@ -19,8 +19,8 @@ ghost use Rattle.fv_base.specs.Outside.{Rose, Appends, AppendsPart, UnlessNotPut
 ghost use Rattle.fv_base.specs.Failing.{is_failing};
 
 use crate::calls::Calls;
-use crate::memory::Memory;
 use crate::out::{Out, OutFault};
+use fv_text::Memory;
 use std::alloc::Global;
 use std::marker::Model;
 

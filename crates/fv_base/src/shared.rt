@@ -1,23 +1,13 @@
-//! That the public types may be shared among threads.
+//! That faults and the outside in memory may be shared among threads.
 
 use crate::files::FileFault;
-use crate::list::List;
 use crate::mem_files::MemFiles;
 use crate::mem_out::MemOut;
-use crate::memory::Memory;
 use crate::out::OutFault;
 use crate::sure_files::SureFiles;
 use crate::sure_out::SureOut;
-use crate::text::Text;
 
 fn is_shared<T: Send + Sync>(_value: &T) {}
-
-/// Texts may be shared, lists of what may be shared, and faults.
-pub(crate) fn values_are_shared<T: Send + Sync>(text: &Text, list: &List<T>, memory: &Memory) {
-    is_shared(text);
-    is_shared(list);
-    is_shared(memory);
-}
 
 pub(crate) fn faults_are_shared(file: &FileFault, out: &OutFault) {
     is_shared(file);

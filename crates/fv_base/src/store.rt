@@ -4,7 +4,7 @@ ghost use Rattle.std.specs.Prelude.{◌≡◌, ℕ, List, OnOk, OnErr, IfOk, Som
 ghost use Rattle.fv_base.specs.Outside.{Holds, SameFiles};
 ghost use Rattle.fv_base.specs.Store.{Store, names_in, no_files, with_pairs};
 
-use crate::memory::Memory;
+use fv_text::Memory;
 use std::alloc::Global;
 use std::collections::BTreeMap;
 

@@ -3,8 +3,8 @@ ghost use Rattle.fv_base.specs.Outside.{SameFiles};
 ghost use Rattle.fv_base.specs.Store.{no_files, with_pairs};
 
 use crate::files::{FileFault, Files};
-use crate::memory::Memory;
 use crate::store::{self, Store};
+use fv_text::Memory;
 use std::alloc::Global;
 
 /// Files in memory whose calls never fail.

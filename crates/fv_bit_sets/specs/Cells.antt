@@ -1,5 +1,5 @@
--- Sets of bits of cells. Cells are numbered from 0, and so are the bits of each. A step gives the bits of the cells
--- from its own on, up to that of the next step. Rule of this project.
+-- Between functions: Sets of bits of cells. Cells are numbered from 0, and so are the bits of each. A step gives the
+-- bits of the cells from its own on, up to that of the next step. Rule of this project.
 use Rattle.std.specs.Prelude.{◌≡◌, ℕ, suc, ◌<◌, ◌≤◌, ◌==◌, List, [], ◌∷◌, Bool, false}
 use Rattle.std.specs.Prelude.{nat_lt}
 use Rattle.std.specs.Prelude.{Option, Some, None, if◌then◌else◌}

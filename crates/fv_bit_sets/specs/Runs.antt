@@ -1,4 +1,4 @@
--- A run of cells that have the same bits. Rule of this project.
+-- Between functions: A run of cells that have the same bits. Rule of this project.
 use Rattle.std.specs.Prelude.{◌≡◌, ℕ, ◌≤◌, List, None, Option}
 use Rattle.fv_bit_sets.specs.declared.how.How.{How}
 use Rattle.fv_bit_sets.specs.declared.run.Run.{Run}

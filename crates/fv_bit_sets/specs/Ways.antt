@@ -1,4 +1,4 @@
--- Which bits of two sets are taken. Rule of this project.
+-- Between functions: Which bits of two sets are taken. Rule of this project.
 use Rattle.std.specs.Prelude.{◌≡◌, ℕ, List, Bool, ◌&&◌, ◌||◌, not, None}
 use Rattle.fv_bit_sets.specs.declared.how.How.{How}
 use Rattle.fv_bit_sets.specs.declared.how.How.TheVariants as h

@@ -8,7 +8,7 @@ use crate::merge::{first_in, joined, meet_in};
 use crate::put::put;
 use crate::run::run_at;
 use crate::step::Step;
-use fv_base::Memory;
+use fv_text::Memory;
 use std::alloc::Global;
 use std::marker::Model;
 

@@ -8,7 +8,7 @@ use crate::how::How;
 use crate::put::put;
 use crate::run::{Run, run_at};
 use crate::step::Step;
-use fv_base::Memory;
+use fv_text::Memory;
 use std::alloc::Global;
 
 /// The smaller one; None stands behind all others.

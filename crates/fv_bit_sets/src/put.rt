@@ -2,7 +2,7 @@ ghost use Rattle.std.specs.Prelude.{◌≡◌, ◌≤◌, ℕ, OnOk, Some};
 ghost use Rattle.fv_bit_sets.specs.Cells.{mask_at, AreRising, Puts};
 
 use crate::step::Step;
-use fv_base::Memory;
+use fv_text::Memory;
 use std::alloc::Global;
 
 /// The bits of all cells behind the steps.

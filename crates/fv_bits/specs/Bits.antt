@@ -1,5 +1,5 @@
--- Numbers of so many bits, as the bits of a vector: what operators make of them. A number of w bits is below 2 ^ w,
--- and is read as signed in two's complement. IEEE 1364-2005, sections 4.1, 5.1 and 5.5.
+-- Meaning: Numbers of so many bits, as the bits of a vector: what operators make of them. A number of w bits is below
+-- 2 ^ w, and is read as signed in two's complement. IEEE 1364-2005, sections 4.1, 5.1 and 5.5.
 use Rattle.std.specs.Prelude.{
   ℕ,
   zero,

@@ -1,5 +1,5 @@
--- Nodes that lead to others, an order of them in which each stands behind those that it leads to, and circles. Rule of
--- this project.
+-- Between functions: Nodes that lead to others, an order of them in which each stands behind those that it leads to,
+-- and circles. Rule of this project.
 use Rattle.std.specs.Prelude.{◌≡◌, ℕ, ◌<◌, ◌==◌, List, [], ◌∷◌, length, Bool, true, false}
 use Rattle.std.specs.Prelude.{◌||◌}
 use Rattle.std.specs.Prelude.{Option, Some, None, slice_get}

@@ -1,4 +1,4 @@
--- What a walk over a graph comes to. Rule of this project.
+-- Between functions: What a walk over a graph comes to. Rule of this project.
 use Rattle.std.specs.Prelude.{ℕ, List}
 use Rattle.fv_graph.specs.declared.walked.Walked.{Walked}
 use Rattle.fv_graph.specs.declared.walked.Walked.TheVariants.{Order, Circle}

@@ -1,5 +1,5 @@
--- What a walk over a graph keeps: a path, each node of which leads to the next one, and the nodes that are done, each
--- behind all that it leads to. Rule of this project.
+-- Between functions: What a walk over a graph keeps: a path, each node of which leads to the next one, and the nodes
+-- that are done, each behind all that it leads to. Rule of this project.
 use Rattle.std.specs.Prelude.{◌≡◌, ℕ, suc, ◌+◌, ◌-◌, ◌<◌, ◌==◌, List, [], ◌∷◌, length}
 use Rattle.std.specs.Prelude.{true}
 use Rattle.std.specs.Prelude.{Option, Some, None, slice_get, if◌then◌else◌}

@@ -2,7 +2,7 @@ ghost use Rattle.std.specs.Prelude.{◌≡◌, ◌≤◌, length, drop, IfOk};
 ghost use Rattle.fv_graph.specs.Walking.{nodes_of, nodes_from};
 
 use crate::state::{State, Step};
-use fv_base::{List, Memory};
+use fv_text::{List, Memory};
 use std::alloc::Global;
 
 /// Where the node stands first, or the path's length.

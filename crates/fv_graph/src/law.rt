@@ -2,17 +2,17 @@
 ghost use Rattle.std.specs.Prelude.{◌≡◌, ◌≤◌, ◌++◌, ℕ, List, length, drop, take, IfOk};
 ghost use Rattle.fv_graph.specs.Graph.{IsCircle, IsOrder};
 
-use fv_base::Memory;
+use fv_text::Memory;
 use std::alloc::Global;
 
 /// The circle from one of its nodes on, which stays a circle.
-pub fn circle_from(alloc: Global, circle: &[u32], at: usize) -> Result<fv_base::List<u32>, Memory>
+pub fn circle_from(alloc: Global, circle: &[u32], at: usize) -> Result<fv_text::List<u32>, Memory>
     requires { at ≤ length circle.now }
     ensures nodes { IfOk result (λ found. found ≡ drop at circle.now ++ take at circle.now) }
     ensures closed { IfOk result (λ found. (graph : List (List ℕ)) → IsCircle graph circle.now
         → IsCircle graph found) }
 {
-    Ok(fv_base::List::from_vec(turned(alloc, circle, at)?))
+    Ok(fv_text::List::from_vec(turned(alloc, circle, at)?))
 }
 
 fn turned(alloc: Global, circle: &[u32], at: usize) -> Result<Vec<u32>, Memory>

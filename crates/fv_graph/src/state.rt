@@ -1,7 +1,7 @@
 ghost use Rattle.std.specs.Prelude.{◌≡◌, ◌<◌, ◌++◌, ◌∷◌, [], length, slice_set, OnOk};
 ghost use Rattle.fv_graph.specs.declared.state.Progress.TheVariants as p;
 
-use fv_base::Memory;
+use fv_text::Memory;
 
 /// How far a node has come.
 #[derive(Debug, Clone, Copy, PartialEq, Eq)]

@@ -5,7 +5,7 @@ ghost use Rattle.fv_graph.specs.declared.state.Progress.TheVariants as p;
 ghost use Rattle.fv_graph.specs.Walking.{Came, Turned, Walks};
 
 use crate::state::{Progress, State, Step};
-use fv_base::{List, Memory};
+use fv_text::{List, Memory};
 
 /// The target that comes next. None exactly where the node has no further one.
 #[tactic(auto, using(crate::proofs::Rows::rows))]

@@ -6,7 +6,7 @@ ghost use Rattle.fv_graph.specs.Walked.{ComesOf};
 ghost use Rattle.fv_graph.specs.declared.state.Progress.TheVariants as p;
 
 use crate::state::{Progress, State};
-use fv_base::{List, Memory};
+use fv_text::{List, Memory};
 use std::alloc::Global;
 
 /// What a walk comes to.

@@ -1,7 +1,7 @@
 ghost use Rattle.std.specs.Prelude.{◌↔◌, ◌<◌, All, IsTrue};
 ghost use Rattle.fv_graph.specs.Graph.{IsWithin};
 
-use fv_base::List;
+use fv_text::List;
 
 /// Whether all targets are among so many nodes.
 fn is_row_within(row: &[u32], count: usize) -> bool

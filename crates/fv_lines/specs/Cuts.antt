@@ -1,4 +1,4 @@
--- Parts of a text before and behind a mark, and the lines that have an end. Rule of this project.
+-- Between functions: Parts of a text before and behind a mark, and the lines that have an end. Rule of this project.
 use Rattle.std.specs.Prelude.{ℕ, ◌≡◌, true, not, if◌then◌else◌, ◌==◌, List, [], ◌∷◌, ◌++◌}
 use Rattle.std.specs.List.{list_all}
 

@@ -1,4 +1,4 @@
--- Numbers in decimal digits, of any length, with leading zeros too. Rule of this project.
+-- Meaning: Numbers in decimal digits, of any length, with leading zeros too. Rule of this project.
 use Rattle.std.specs.Prelude.{
   ℕ,
   ◌+◌,

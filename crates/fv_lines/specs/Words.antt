@@ -1,5 +1,5 @@
--- The lines of a text and the words of a line, for clause files, proofs and configurations. What ends a line and what
--- parts words is a rule of this project.
+-- Meaning: The lines of a text and the words of a line, for clause files, proofs and configurations. What ends a line
+-- and what parts words is a rule of this project.
 use Rattle.std.specs.Prelude.{
   ℕ,
   ◌+◌,

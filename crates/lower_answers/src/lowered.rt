@@ -4,7 +4,7 @@
 use crate::shown::values;
 use anyhow::Result;
 use flow_answers::design_in_order;
-use fv_base::{List, Memory, Trace};
+use fv_text::{List, Memory, Trace};
 use std::alloc::Global;
 use tr_replay::{Chosen, replay};
 use vl_flow::Ordered;

@@ -1,7 +1,7 @@
 //! How values are printed.
 
 use anyhow::Result;
-use fv_base::Trace;
+use fv_text::Trace;
 use std::alloc::Global;
 
 /// What the name has in each cycle.

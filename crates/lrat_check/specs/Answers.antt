@@ -1,4 +1,4 @@
--- What a call answers, want of memory apart. Rule of this project.
+-- Between functions: What a call answers, want of memory apart. Rule of this project.
 use Rattle.std.specs.Prelude.{ℕ, ◌≡◌, false, List, [], ◌∷◌, ℤ, Option, Some, None, Result, Ok, Err}
 use Rattle.lrat_check.specs.declared.step.Step.{Step}
 use Rattle.lrat_check.specs.declared.step.Refuted.{Refuted}

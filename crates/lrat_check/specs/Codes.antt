@@ -1,4 +1,4 @@
--- Literals as codes: 2v for the variable v, and 2v + 1 for its complement. Rule of this project.
+-- Between functions: Literals as codes: 2v for the variable v, and 2v + 1 for its complement. Rule of this project.
 use Rattle.std.specs.Prelude.{
   ℕ,
   ◌+◌,

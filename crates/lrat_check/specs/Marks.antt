@@ -1,4 +1,4 @@
--- A set of literals as a table of marks by code. Rule of this project.
+-- Between functions: A set of literals as a table of marks by code. Rule of this project.
 use Rattle.std.specs.Prelude.{ℕ, ◌≡◌, Bool, false, List, ℤ, slice_index_or}
 use Rattle.lrat_check.specs.Codes.{code_of}
 use Rattle.lrat_check.specs.Sets.{has, AreLits}

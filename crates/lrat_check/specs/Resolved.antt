@@ -1,5 +1,5 @@
--- What steps derive, and when each added clause is a resolvent that strengthens unit propagation. Rule of this
--- project.
+-- Meaning: What steps derive, and when each added clause is a resolvent that strengthens unit propagation. Rule of
+-- this project.
 use Rattle.std.specs.Prelude.{
   ℕ,
   ◌≡◌,

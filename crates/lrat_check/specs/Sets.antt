@@ -1,6 +1,7 @@
--- Sets of literals, as lists that are read by what they hold, and how a clause reads under a set of true literals.
--- A literal is true where the set holds it, and false where the set holds its complement: a partial assignment, as unit
--- propagation reads clauses (Cruz-Filipe, Heule, Hunt, Kaufmann, Schneider-Kamp: Efficient Certified RAT Verification).
+-- Meaning: Sets of literals, as lists that are read by what they hold, and how a clause reads under a set of true
+-- literals. A literal is true where the set holds it, and false where the set holds its complement: a partial
+-- assignment, as unit propagation reads clauses (Cruz-Filipe, Heule, Hunt, Kaufmann, Schneider-Kamp: Efficient
+-- Certified RAT Verification).
 use Rattle.std.specs.Prelude.{
   ◌<◌,
   ◌^◌,

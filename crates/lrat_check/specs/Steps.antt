@@ -1,7 +1,7 @@
--- Steps of a refutation: which are valid, why one is refused, what is derived. A step's clause holds where unit
--- propagation along its hints, from its literals made false, ends in a conflict (Cruz-Filipe, Heule, Hunt, Kaufmann,
--- Schneider-Kamp: Efficient Certified RAT Verification). Rules of this project: there are no RAT steps, and a hint
--- with a true literal is passed over.
+-- Meaning: Steps of a refutation: which are valid, why one is refused, what is derived. A step's clause holds where
+-- unit propagation along its hints, from its literals made false, ends in a conflict (Cruz-Filipe, Heule, Hunt,
+-- Kaufmann, Schneider-Kamp: Efficient Certified RAT Verification). Rules of this project: there are no RAT steps, and
+-- a hint with a true literal is passed over.
 use Rattle.std.specs.Prelude.{
   ℕ,
   zero,

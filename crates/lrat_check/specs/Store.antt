@@ -1,4 +1,4 @@
--- Clauses by id, as codes of literals in one list. Rules of this project.
+-- Between functions: Clauses by id, as codes of literals in one list. Rules of this project.
 use Rattle.std.specs.Prelude.{
   ℕ,
   zero,

@@ -1,5 +1,5 @@
--- Proofs as texts (LRAT, without the binary form): which steps a text says, and why it says none. One step a line:
--- `ID LITERALS 0 HINTS 0`, or `ID d IDS 0`. How long numbers may be is a rule of this project.
+-- Meaning: Proofs as texts (LRAT, without the binary form): which steps a text says, and why it says none. One step a
+-- line: `ID LITERALS 0 HINTS 0`, or `ID d IDS 0`. How long numbers may be is a rule of this project.
 use Rattle.std.specs.Prelude.{
   ℕ,
   ◌<◌,

@@ -4,7 +4,7 @@ ghost use Rattle.lrat_check.specs.Store.{number_at, marked, Rising, NoId, IsId};
 use crate::ranks::Ranks;
 use crate::room::make_room;
 use crate::sorted::search;
-use fv_base::Memory;
+use fv_text::Memory;
 use std::alloc::Global;
 use std::marker::Model;
 

@@ -2,7 +2,7 @@ ghost use Rattle.std.specs.Prelude.{◌≡◌};
 ghost use Rattle.lrat_check.specs.Texts.{lrat_number};
 ghost use Rattle.lrat_check.specs.declared.lrat_fault.LratFault.TheVariants as fault;
 
-use fv_base::Memory;
+use fv_text::Memory;
 use std::alloc::{AllocError, AllocFailed};
 use thiserror::Error;
 

@@ -22,8 +22,8 @@ ghost use Rattle.lrat_check.specs.Texts.{Answers, Goes};
 
 use crate::lrat_fault::LratFault;
 use crate::step::Step;
-use fv_base::List;
 use fv_lines::{natural, next_line, next_place, next_word};
+use fv_text::List;
 use std::alloc::Global;
 
 /// Numbers have at most so many digits.

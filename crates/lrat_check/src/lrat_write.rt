@@ -3,7 +3,7 @@ ghost use Rattle.lrat_check.specs.Texts.{id_text, step_text, lrat_text, ReadsBac
 
 use crate::step::Step;
 use cnf_text::put_literals;
-use fv_base::Memory;
+use fv_text::Memory;
 use itoa::Buffer;
 use std::alloc::Global;
 

@@ -5,7 +5,7 @@ ghost use Rattle.lrat_check.specs.Marks.{is_marked};
 ghost use Rattle.lrat_check.specs.Sets.{IsLit};
 
 use crate::code::code_of;
-use fv_base::Memory;
+use fv_text::Memory;
 use std::alloc::Global;
 use std::marker::Model;
 

@@ -1,7 +1,7 @@
 ghost use Rattle.std.specs.Prelude.{◌≡◌, ◌<◌, length, IfOk};
 ghost use Rattle.lrat_check.specs.Store.{end_at, packed, packed_starts, Mounting};
 
-use fv_base::Memory;
+use fv_text::Memory;
 use std::alloc::Global;
 
 /// Where the clause at the place ends, if all end there.

@@ -1,5 +1,5 @@
 use crate::room::make_room;
-use fv_base::Memory;
+use fv_text::Memory;
 use std::alloc::Global;
 
 /// Where ids are among each other, told by one look. What it tells is only a guess: it is looked at before it counts.

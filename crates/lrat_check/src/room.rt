@@ -1,6 +1,6 @@
 ghost use Rattle.std.specs.Prelude.{◌≡◌, ◌+◌, ◌≤◌, OnOk, vec_len, vec_capacity};
 
-use fv_base::Memory;
+use fv_text::Memory;
 
 /// Makes room for so many more. It grows by a quarter, since what isn't filled is room that the clauses don't need.
 pub(crate) fn make_room<T>(list: &mut Vec<T>, more: usize) -> Result<(), Memory>

@@ -2,7 +2,7 @@ ghost use Rattle.std.specs.Prelude.{◌≡◌};
 ghost use Rattle.lrat_check.specs.Steps.{step_number};
 ghost use Rattle.lrat_check.specs.declared.step.StepFault.TheVariants as fault;
 
-use fv_base::{List, Memory};
+use fv_text::{List, Memory};
 use std::alloc::{AllocError, AllocFailed};
 use thiserror::Error;
 

@@ -23,7 +23,7 @@ use crate::code::code_of;
 use crate::ids::Ids;
 use crate::pack::{end_of, pack_codes, packed_starts};
 use crate::room::make_room;
-use fv_base::Memory;
+use fv_text::Memory;
 use std::alloc::Global;
 use std::marker::Model;
 

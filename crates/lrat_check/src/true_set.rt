@@ -4,7 +4,7 @@ ghost use Rattle.lrat_check.specs.Sets.{has, is_false, IsLit};
 
 use crate::code::flip;
 use crate::marks::Marks;
-use fv_base::Memory;
+use fv_text::Memory;
 use std::alloc::Global;
 use std::marker::Model;
 

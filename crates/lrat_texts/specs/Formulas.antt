@@ -1,5 +1,6 @@
--- What a clause file says (DIMACS): comments, a header, and the numbers of the clauses, each clause ended by 0. Where
--- comments and blank lines may stand, and how large a header's numbers may be, are rules of this project.
+-- Between functions: What a clause file says (DIMACS): comments, a header, and the numbers of the clauses, each clause
+-- ended by 0. Where comments and blank lines may stand, and how large a header's numbers may be, are rules of this
+-- project.
 use Rattle.std.specs.Prelude.{
   ◌≡◌,
   ℕ,

@@ -1,5 +1,5 @@
--- The lines of a text and the words of a line, by how they make it up. What ends a line and what parts words is a rule
--- of this project.
+-- Between functions: The lines of a text and the words of a line, by how they make it up. What ends a line and what
+-- parts words is a rule of this project.
 use Rattle.std.specs.Prelude.{◌≡◌, ℕ, ◌<◌, true, false, not, List, [], ◌∷◌, ◌++◌, length}
 use Rattle.std.specs.List.{list_all}
 use Rattle.fv_lines.specs.Cuts.{HasNo, EndsOtherwise}

@@ -1,4 +1,5 @@
--- Numbers as words: decimal digits, with or without `-` before them. Leading zeros are a rule of this project.
+-- Between functions: Numbers as words: decimal digits, with or without `-` before them. Leading zeros are a rule of
+-- this project.
 use Rattle.std.specs.Prelude.{
   ◌≡◌,
   ℕ,

@@ -1,5 +1,5 @@
--- What a proof says (LRAT, without the binary form): one step a line, `ID LITERALS 0 HINTS 0` or `ID d IDS 0`. Where
--- blank lines may stand, and how long numbers may be, are rules of this project.
+-- Between functions: What a proof says (LRAT, without the binary form): one step a line, `ID LITERALS 0 HINTS 0` or
+-- `ID d IDS 0`. Where blank lines may stand, and how long numbers may be, are rules of this project.
 use Rattle.std.specs.Prelude.{
   ◌≡◌,
   ℕ,

@@ -5,7 +5,7 @@ ghost use Rattle.vl_size.specs.Table as table;
 ghost use Rattle.vl_size.specs.Table.{IsPlain, IsShaped, span};
 
 use anyhow::{Result, anyhow};
-use fv_base::Text;
+use fv_text::Text;
 use std::alloc::Global;
 use vl_mean::{Params, constant};
 use vl_size::{Class, Decl, Decls};

@@ -1,7 +1,7 @@
 //! Expressions and declarations from text.
 
 use anyhow::{Result, anyhow};
-use fv_base::Token;
+use fv_text::Token;
 use std::alloc::Global;
 use std::mem;
 use vl_parse::parse;

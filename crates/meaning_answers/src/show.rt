@@ -1,6 +1,6 @@
 //! Answers as text.
 
-use fv_base::Pos;
+use fv_text::Pos;
 use std::alloc::{AllocError, Global};
 use vl_mean::{Const, ConstFault};
 

@@ -2,7 +2,7 @@
 
 use crate::part::{node_at, numbers_from, word};
 use crate::{make, runs, show, store};
-use fv_base::{List, Memory};
+use fv_text::{List, Memory};
 use std::alloc::Global;
 use wn_net::{Net, NodeId, State};
 

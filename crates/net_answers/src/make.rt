@@ -4,7 +4,7 @@ ghost use Rattle.wn_net.specs.Net.{IsNode, IsNodeOf, width_at};
 
 use crate::part::{node_at, number_at, short_at, word};
 use bb_words::{PairOperator, ShiftOperator};
-use fv_base::{Memory, Word};
+use fv_text::{Memory, Word};
 use wn_net::{InputKind, Net, NodeId};
 
 /// Makes the node of a part.

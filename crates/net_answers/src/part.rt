@@ -1,6 +1,6 @@
 //! The words of a part of a line.
 
-use fv_base::Memory;
+use fv_text::Memory;
 use std::alloc::Global;
 
 /// The word at a place, the first at 0; nothing where there is none.

@@ -6,7 +6,7 @@ use bb_aig::Lit;
 use bm_decide::{RunClauses, clauses_of_runs};
 use bm_unroll::{Source, is_within};
 use cnf_form::{Formula, clause_at};
-use fv_base::Memory;
+use fv_text::Memory;
 use std::alloc::Global;
 use wn_net::Net;
 

@@ -1,6 +1,6 @@
 //! Numbers and lists as text.
 
-use fv_base::Memory;
+use fv_text::Memory;
 
 /// In hexadecimal digits behind `0x`.
 pub(crate) fn put_number(out: &mut String, number: u128) -> Result<(), Memory> {

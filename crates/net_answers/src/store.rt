@@ -5,7 +5,7 @@ ghost use Rattle.std.specs.List.{AllByRecursion};
 ghost use Rattle.wn_net.specs.Net.{IsInitOf, IsNode, IsNodeOf};
 
 use crate::part::{node_at, number_at, short_at, word};
-use fv_base::{List, Memory, Word};
+use fv_text::{List, Memory, Word};
 use std::alloc::Global;
 use wn_net::{Init, MemWrite, Net, NodeId};
 

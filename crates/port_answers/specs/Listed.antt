@@ -1,4 +1,4 @@
--- Names of a net that has no input, register or memory (rule of this project).
+-- Between functions: Names of a net that has no input, register or memory (rule of this project).
 use Rattle.std.specs.Prelude.{List}
 use Rattle.std.specs.List.{AllByRecursion, IsDistinct}
 use Rattle.std.specs.Str.{bytes_eq}

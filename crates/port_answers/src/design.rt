@@ -6,7 +6,7 @@ ghost use Rattle.std.specs.List.{list_any};
 ghost use Rattle.std.specs.Str.{bytes_eq};
 ghost use Rattle.port_answers.specs.Listed.{AreListed};
 
-use fv_base::{List, Memory, Text, Word};
+use fv_text::{List, Memory, Text, Word};
 use std::alloc::Global;
 use wn_net::{Net, NetName, Place};
 

@@ -6,7 +6,7 @@ ghost use Rattle.port_answers.specs.Listed.{AreListed};
 
 use crate::design::put_name;
 use crate::shown::{refused, shown};
-use fv_base::{List, Memory, Word};
+use fv_text::{List, Memory, Word};
 use rvfi_port::{Wants, bind};
 use std::alloc::Global;
 use wn_net::{Names, Net, NetName};

@@ -1,6 +1,6 @@
 //! What a port shows, and what its refusal says.
 
-use fv_base::{List, Memory};
+use fv_text::{List, Memory};
 use rvfi_port::{Channel, Field, Port, PortFault};
 use std::alloc::Global;
 use wn_net::{Net, NodeId, State};

@@ -1,4 +1,4 @@
--- The nodes of a circuit that show an effect (rule of this project).
+-- Between functions: The nodes of a circuit that show an effect (rule of this project).
 use Rattle.rv_circ.specs.declared.effect.EffectNodes.{EffectNodes}
 use Rattle.rv_rows.specs.declared.outcome.OutcomeNodes.{OutcomeNodes}
 

@@ -1,4 +1,4 @@
--- When nodes show the instruction that a channel retires (rule of this project).
+-- Between functions: When nodes show the instruction that a channel retires (rule of this project).
 use Rattle.std.specs.Prelude.{◌≡◌, ℕ}
 use Rattle.rv_table.specs.declared.pattern.Form.{Form}
 use Rattle.rv_table.specs.declared.retire.Opts.{Opts}

@@ -14,7 +14,7 @@ ghost use Rattle.rv_circ.specs.Effects.{outcome_of};
 use crate::byte::bytes_agree;
 use crate::effect::EffectNodes;
 use crate::test::{equal, same, source_agrees};
-use fv_base::Memory;
+use fv_text::Memory;
 use rv_words::is_number;
 use rvfi_port::Channel;
 use wn_net::{Net, NodeId};

@@ -13,7 +13,7 @@ ghost use Rattle.rv_circ.specs.Effects.{outcome_of};
 
 use crate::effect::EffectNodes;
 use crate::test::{has, same_byte};
-use fv_base::Memory;
+use fv_text::Memory;
 use rvfi_port::Channel;
 use wn_net::{Net, NodeId};
 

@@ -14,7 +14,7 @@ ghost use Rattle.rvfi_port.specs.Ports.{AreChannelNodes};
 ghost use Rattle.rv_circ.specs.Effects.{outcome_of};
 
 use crate::steps::step_nodes;
-use fv_base::Memory;
+use fv_text::Memory;
 use rv_expand::expansion;
 use rv_rows::{OutcomeNodes, base_effect};
 use rv_table::{BaseRow, CompressedRow, Opts, RowId};

@@ -9,7 +9,7 @@ ghost use Rattle.wn_net.specs.Changes.{AddsNodes, Shows};
 ghost use Rattle.rvfi_port.specs.Ports.{AreChannelNodes};
 ghost use Rattle.rv_circ.specs.Steps.{ShowsAddresses, ShowsStep};
 
-use fv_base::Memory;
+use fv_text::Memory;
 use rv_table::{Form, Opts};
 use rv_words::{StepNodes, constant, field, unless_x0};
 use rvfi_port::Channel;

@@ -7,7 +7,7 @@ ghost use Rattle.rv_table.specs.Agree as agree;
 ghost use Rattle.wn_net.specs.Net.{IsNodeOf, value_at};
 ghost use Rattle.wn_net.specs.Changes.{AddsNodes, Shows};
 
-use fv_base::Memory;
+use fv_text::Memory;
 use rv_words::{field, is_number, isnt_number};
 use wn_net::{Net, NodeId};
 

@@ -1,4 +1,4 @@
--- What nodes show of the registers and the immediate of a word (rule of this project).
+-- Between functions: What nodes show of the registers and the immediate of a word (rule of this project).
 use Rattle.std.specs.Prelude.{◌≡◌}
 use Rattle.rv_table.specs.declared.assemble.Operands.{Operands}
 use Rattle.wn_net.specs.Value.{Given}

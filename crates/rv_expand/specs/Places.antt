@@ -1,4 +1,4 @@
--- Where a half word has its registers and its immediate (manual, sections 16.3 to 16.5).
+-- Between functions: Where a half word has its registers and its immediate (manual, sections 16.3 to 16.5).
 use Rattle.std.specs.Prelude.{ℕ, Bool, true, ◌&&◌, nat_lt}
 use Rattle.rv_table.specs.declared.assemble.Operands.{Operands}
 use Rattle.rv_table.specs.Compressed as c

@@ -1,4 +1,4 @@
--- Bits of a word that are put one behind the other (rule of this project).
+-- Between functions: Bits of a word that are put one behind the other (rule of this project).
 use Rattle.std.specs.Prelude.{ℕ, ◌+◌, ◌-◌, Bool, ◌&&◌, nat_le, nat_lt, List, [], ◌∷◌}
 use Rattle.fv_bits.specs.Bits.{joined}
 use Rattle.rv_table.specs.Fields.{field}

@@ -12,7 +12,7 @@ ghost use Rattle.rv_expand.specs.Operands.{AreOperands, operands_at};
 
 use crate::operands::OperandNodes;
 use crate::span::{Span, behind};
-use fv_base::Memory;
+use fv_text::Memory;
 use rv_table::{Form, Pattern};
 use rv_words::{beside, constant, field, join};
 use wn_net::{Net, NodeId};

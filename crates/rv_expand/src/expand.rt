@@ -10,7 +10,7 @@ ghost use Rattle.wn_net.specs.Changes.{AddsNodes, Shows};
 
 use crate::assemble::assembled;
 use crate::operands::operands;
-use fv_base::Memory;
+use fv_text::Memory;
 use rv_table::{BaseRow, CompressedRow, Pattern};
 use wn_net::{Net, NodeId};
 

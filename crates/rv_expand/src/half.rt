@@ -11,7 +11,7 @@ ghost use Rattle.wn_net.specs.Changes.{AddsNodes, Shows};
 ghost use Rattle.rv_expand.specs.Spans as spans;
 
 use crate::span::{Span, behind};
-use fv_base::Memory;
+use fv_text::Memory;
 use rv_words::{beside, constant, field, join, raised, sign_extended, zero_extended};
 use wn_net::{Net, NodeId};
 

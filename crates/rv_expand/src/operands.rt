@@ -13,7 +13,7 @@ use crate::half::{
     lwsp_offset, near_high, near_low, second, six, swsp_offset, word_offset,
 };
 use crate::place::{ImmediatePlace, Places, RegisterPlace};
-use fv_base::Memory;
+use fv_text::Memory;
 use rv_table::CompressedRow;
 use rv_words::{constant, word};
 use wn_net::{Net, NodeId};

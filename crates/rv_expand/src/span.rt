@@ -7,7 +7,7 @@ ghost use Rattle.wn_net.specs.Net.{IsNodeOf, value_at};
 ghost use Rattle.wn_net.specs.Changes.{AddsNodes, Shows};
 ghost use Rattle.rv_expand.specs.Spans as spans;
 
-use fv_base::Memory;
+use fv_text::Memory;
 use rv_words::beside;
 use wn_net::{Net, NodeId};
 

@@ -1,4 +1,4 @@
--- How nodes show that an instruction reaches memory (rule of this project).
+-- Between functions: How nodes show that an instruction reaches memory (rule of this project).
 use Rattle.std.specs.Prelude.{ℕ}
 use Rattle.fv_bits.specs.Bits.{bit}
 use Rattle.rv_table.specs.Effect.{word_address, place_in_word, is_misaligned, mask_at}

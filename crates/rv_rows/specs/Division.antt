@@ -1,4 +1,5 @@
--- Quotient and remainder of the upper bits of a word: how far a division has come (rule of this project).
+-- Between functions: Quotient and remainder of the upper bits of a word: how far a division has come (rule of this
+-- project).
 use Rattle.std.specs.Prelude.{◌≡◌, ℕ, ◌/◌, ◌%◌, ◌^◌}
 use Rattle.wn_net.specs.Net.{Netlist, IsNodeOf}
 use Rattle.rv_rows.specs.declared.division.Division.{Division}

@@ -1,4 +1,4 @@
--- What nodes show of an effect in a cycle (rule of this project).
+-- Between functions: What nodes show of an effect in a cycle (rule of this project).
 use Rattle.std.specs.Prelude.{◌≡◌, ℕ, ◌==◌, Bool, if◌then◌else◌}
 use Rattle.rv_table.specs.declared.retire.Effect.{Effect}
 use Rattle.rv_table.specs.declared.step.Step.{Step}

@@ -1,4 +1,4 @@
--- Division of signed words by their magnitudes (manual, section 7.2).
+-- Between functions: Division of signed words by their magnitudes (manual, section 7.2).
 use Rattle.std.specs.Prelude.{ℕ, ◌==◌, if◌then◌else◌, bit_xor, unsigned_abs}
 use Rattle.fv_bits.specs.Bits.{bit, is_negative}
 use Rattle.rv_table.specs.Arithmetic.{signed, difference, quotient}

@@ -7,7 +7,7 @@ ghost use Rattle.rv_table.specs.Effect as effect;
 ghost use Rattle.wn_net.specs.Net.{IsNodeOf, value_at};
 ghost use Rattle.wn_net.specs.Changes.{AddsNodes, Shows};
 
-use fv_base::Memory;
+use fv_text::Memory;
 use rv_table::MultiplyRow;
 use rv_words::{difference, exactly_one, sum, word};
 use wn_net::{Net, NodeId};

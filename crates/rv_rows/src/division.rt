@@ -22,7 +22,7 @@ ghost use Rattle.wn_net.specs.Net.{IsNodeOf, value_at};
 ghost use Rattle.wn_net.specs.Changes.{AddsNodes, Shows};
 ghost use Rattle.rv_rows.specs.Division.{IsDivided, AreDivision};
 
-use fv_base::Memory;
+use fv_text::Memory;
 use rv_words::{is_number, word};
 use wn_net::{Net, NodeId};
 

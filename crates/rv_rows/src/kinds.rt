@@ -19,7 +19,7 @@ ghost use Rattle.rv_words.specs.Nodes.{AreStep, step_at};
 ghost use Rattle.rv_rows.specs.Effects.{AreEffect, ShowsEffect, ShowZeros, effect_at, goes_where};
 
 use crate::outcome::{OutcomeNodes, Zeros};
-use fv_base::Memory;
+use fv_text::Memory;
 use rv_words::{StepNodes, b_immediate, bit, constant, isnt_of_word, plus, sum, unless_x0, word};
 use wn_net::{Net, NodeId};
 

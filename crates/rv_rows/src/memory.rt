@@ -14,7 +14,7 @@ ghost use Rattle.rv_rows.specs.Effects.{ShowsEffect};
 
 use crate::kinds::gives;
 use crate::outcome::OutcomeNodes;
-use fv_base::Memory;
+use fv_text::Memory;
 use rv_table::{LoadRow, StoreRow};
 use rv_words::{
     StepNodes, bytes_from, bytes_to, extended, i_immediate, is_misaligned, mask_at, place_in_word,

@@ -9,7 +9,7 @@ ghost use Rattle.wn_net.specs.Changes.{AddsNodes, Shows};
 use crate::alternative::alternative_result;
 use crate::division::{quotient, remainder};
 use crate::signed::{quotient_signed, remainder_signed};
-use fv_base::Memory;
+use fv_text::Memory;
 use rv_table::MultiplyRow;
 use rv_words::{product, upper_product, upper_product_mixed, upper_product_signed};
 use wn_net::{Net, NodeId};

@@ -12,7 +12,7 @@ use crate::kinds::{branches, gives, jumps};
 use crate::memory::{loads, stores};
 use crate::multiply::multiply_result;
 use crate::outcome::OutcomeNodes;
-use fv_base::Memory;
+use fv_text::Memory;
 use rv_table::{BaseRow, BranchRow, ImmediateRow, MultiplyRow, RegisterRow};
 use rv_words::{
     StepNodes, even, i_immediate, immediate_result, is_taken, j_immediate, register_result, sum,

@@ -18,7 +18,7 @@ ghost use Rattle.wn_net.specs.Changes.{AddsNodes, Shows};
 ghost use Rattle.rv_rows.specs.Signed.{rounded_quotient};
 
 use crate::division::{quotient, remainder};
-use fv_base::Memory;
+use fv_text::Memory;
 use rv_words::{difference, is_number, word};
 use wn_net::{Net, NodeId};
 

@@ -1,4 +1,4 @@
--- When a retirement agrees with an effect: rule of this project, after the documentation of the RISC-V Formal
+-- Meaning: When a retirement agrees with an effect: rule of this project, after the documentation of the RISC-V Formal
 -- Interface.
 use Rattle.std.specs.Prelude.{ℕ, ◌+◌, ◌*◌, Bool, not, ◌&&◌, ◌||◌, ◌==◌, if◌then◌else◌}
 use Rattle.rv_table.specs.declared.retire.Retire.{Retire}

@@ -1,4 +1,4 @@
--- The word of a row with its registers and its immediate: manual, section 2.2 and 2.3, figures 2.2 to 2.4.
+-- Meaning: The word of a row with its registers and its immediate: manual, section 2.2 and 2.3, figures 2.2 to 2.4.
 use Rattle.std.specs.Prelude.{
   ℕ,
   ◌+◌,

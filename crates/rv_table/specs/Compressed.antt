@@ -1,5 +1,5 @@
--- The rows of extension C: manual, section 16.8, 'RVC Instruction Set Listings', with the immediates of sections 16.3
--- to 16.5, in this project's order.
+-- Meaning: The rows of extension C: manual, section 16.8, 'RVC Instruction Set Listings', with the immediates of
+-- sections 16.3 to 16.5, in this project's order.
 use Rattle.std.specs.Prelude.{ℕ, ◌+◌, Bool, not, ◌||◌, ◌==◌, List, [], ◌∷◌, codes}
 use Rattle.rv_table.specs.declared.row.BaseRow.{BaseRow}
 use Rattle.rv_table.specs.declared.row.BaseRow.TheVariants.{Lui, Jal, Jalr, Branch, Load, Store, Immediate, Register}

@@ -1,4 +1,4 @@
--- What an instruction does: manual, chapters 2 (RV32I), 7 (M) and 16 (C), on whole numbers.
+-- Meaning: What an instruction does: manual, chapters 2 (RV32I), 7 (M) and 16 (C), on whole numbers.
 use Rattle.std.specs.Prelude.{
   ◌≡◌,
   ℕ,

@@ -1,5 +1,5 @@
--- Words and their bits. A word is a number below 2 ^ 32. (The RISC-V Instruction Set Manual, Volume I: Unprivileged
--- ISA, document version 20191213, which all files here mean by 'manual'; section 2.2.)
+-- Meaning: Words and their bits. A word is a number below 2 ^ 32. (The RISC-V Instruction Set Manual, Volume I:
+-- Unprivileged ISA, document version 20191213, which all files here mean by 'manual'; section 2.2.)
 use Rattle.std.specs.Prelude.{ℕ, ◌+◌, ◌-◌, ◌*◌, ◌^◌}
 use Rattle.fv_bits.specs.Bits as bits
 

@@ -1,4 +1,4 @@
--- The immediates of a word, bit by bit: manual, section 2.3, 'Immediate Encoding Variants'.
+-- Meaning: The immediates of a word, bit by bit: manual, section 2.3, 'Immediate Encoding Variants'.
 use Rattle.std.specs.Prelude.{ℕ, ◌+◌}
 use Rattle.rv_table.specs.Fields.{field, moved, sign_extended}
 

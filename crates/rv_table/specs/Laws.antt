@@ -1,4 +1,4 @@
--- What holds of the tables as a whole. Rule of this project.
+-- Between functions: What holds of the tables as a whole. Rule of this project.
 use Rattle.std.specs.Prelude.{
   Some,
   false,

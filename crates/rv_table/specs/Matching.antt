@@ -1,4 +1,4 @@
--- When a word matches a row, which rows an instruction set has, and their order and names.
+-- Meaning: When a word matches a row, which rows an instruction set has, and their order and names.
 use Rattle.std.specs.Prelude.{◌≡◌, ℕ, Bool, true, false, List, [], ◌∷◌, ◌++◌, Option, Some, None}
 use Rattle.std.specs.List.{list_all}
 use Rattle.rv_table.specs.declared.retire.Isa.{Isa}

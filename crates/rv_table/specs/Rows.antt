@@ -1,4 +1,4 @@
--- The rows of RV32I and M: manual, chapter 24, 'RV32/64G Instruction Set Listings', in this project's order.
+-- Meaning: The rows of RV32I and M: manual, chapter 24, 'RV32/64G Instruction Set Listings', in this project's order.
 use Rattle.std.specs.Prelude.{ℕ, List, Some, None, codes}
 use Rattle.rv_table.specs.declared.row.BaseRow.{BaseRow}
 use Rattle.rv_table.specs.declared.row.BaseRow.TheVariants.{Lui, Auipc, Jal, Jalr, Branch, Load, Store, Immediate}

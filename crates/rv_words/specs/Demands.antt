@@ -1,4 +1,4 @@
--- What can be asked of a word (rule of this project).
+-- Between functions: What can be asked of a word (rule of this project).
 use Rattle.std.specs.Prelude.{ℕ, ◌+◌, ◌-◌, ◌^◌, Bool, true, ◌&&◌, nat_le, nat_lt}
 use Rattle.rv_table.specs.declared.demand.Demand.{Demand}
 use Rattle.rv_table.specs.declared.demand.Demand.TheVariants.{Is, Isnt, SomeOfSix}

@@ -1,4 +1,4 @@
--- Instructions and their effects as nodes: what the nodes show in a cycle (rule of this project).
+-- Between functions: Instructions and their effects as nodes: what the nodes show in a cycle (rule of this project).
 use Rattle.std.specs.Prelude.{◌≡◌, ℕ, ◌==◌}
 use Rattle.rv_table.specs.declared.step.Step.{Step}
 use Rattle.wn_net.specs.Value.{Given}

@@ -1,4 +1,4 @@
--- The bits of offsets in the order of their places, without the 0 below (manual, section 2.3).
+-- Between functions: The bits of offsets in the order of their places, without the 0 below (manual, section 2.3).
 use Rattle.std.specs.Prelude.{ℕ, Bool, ◌==◌, ◌||◌}
 use Rattle.fv_bits.specs.Bits.{joined}
 use Rattle.rv_table.specs.Fields.{field}

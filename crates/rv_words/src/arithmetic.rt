@@ -22,7 +22,7 @@ ghost use Rattle.wn_net.specs.Changes.{AddsNodes, Shows};
 use crate::constants::word;
 use crate::fields::{field, raised};
 use crate::tests::{less, less_signed, truth};
-use fv_base::Memory;
+use fv_text::Memory;
 use rv_table::{ImmediateRow, RegisterRow};
 use wn_net::{Net, NodeId};
 

@@ -5,7 +5,7 @@ ghost use Rattle.std.specs.Prelude.{◌≡◌, ◌<◌, ◌≤◌, ◌^◌, IfOk
 ghost use Rattle.fv_bits.specs.Bits.{bit};
 ghost use Rattle.wn_net.specs.Changes.{AddsNodes, Shows};
 
-use fv_base::{Memory, Word};
+use fv_text::{Memory, Word};
 use wn_net::{Net, NodeId};
 
 /// A number in so many bits.

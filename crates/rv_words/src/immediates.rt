@@ -8,7 +8,7 @@ ghost use Rattle.wn_net.specs.Changes.{AddsNodes, Shows};
 ghost use Rattle.rv_words.specs.Parts as parts;
 
 use crate::fields::{beside, field, raised, sign_extended};
-use fv_base::Memory;
+use fv_text::Memory;
 use wn_net::{Net, NodeId};
 
 #[tactic(auto, using(wn_net::proofs::Laws::additions), unfolding(rv_table::specs::Immediates::i_immediate))]

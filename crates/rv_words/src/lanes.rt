@@ -25,7 +25,7 @@ use crate::constants::{bit, constant};
 use crate::fields::{field, raised, sign_extended};
 use crate::step::StepNodes;
 use crate::tests::isnt_number;
-use fv_base::Memory;
+use fv_text::Memory;
 use rv_table::LoadRow;
 use wn_net::{Net, NodeId};
 

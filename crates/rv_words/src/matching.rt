@@ -15,7 +15,7 @@ ghost use Rattle.rv_words.specs.Demands as lawful;
 use crate::constants::bit;
 use crate::fields::field;
 use crate::tests::{is_number, isnt_number};
-use fv_base::Memory;
+use fv_text::Memory;
 use rv_table::{Demand, RowId, demands};
 use wn_net::{Net, NodeId};
 

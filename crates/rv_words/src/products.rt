@@ -10,7 +10,7 @@ ghost use Rattle.wn_net.specs.Changes.{AddsNodes, Shows};
 
 use crate::arithmetic::difference;
 use crate::constants::word;
-use fv_base::Memory;
+use fv_text::Memory;
 use wn_net::{Net, NodeId};
 
 /// The second word where the first is below 0, and else 0.

@@ -19,7 +19,7 @@ ghost use Rattle.wn_net.specs.Net.{IsNodeOf, value_at};
 ghost use Rattle.wn_net.specs.Changes.{AddsNodes, Shows};
 
 use crate::constants::{constant, word};
-use fv_base::Memory;
+use fv_text::Memory;
 use rv_table::BranchRow;
 use wn_net::{Net, NodeId};
 

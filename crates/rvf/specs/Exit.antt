@@ -1,4 +1,4 @@
--- What the exit code of the program means. Rule of this project.
+-- Between functions: What the exit code of the program means. Rule of this project.
 use Rattle.std.specs.Prelude.{ℕ, ◌≡◌}
 use Rattle.rvf_core.specs.Status.{code_of}
 use Rattle.rvf_core.specs.Statuses.{Status}

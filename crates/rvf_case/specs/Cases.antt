@@ -1,5 +1,5 @@
--- What stands before the checks of a configuration are judged: the configuration, its files and what is loaded of each
--- text; or the first cause in the order of work why that doesn't stand. Rules of this project.
+-- Meaning: What stands before the checks of a configuration are judged: the configuration, its files and what is
+-- loaded of each text; or the first cause in the order of work why that doesn't stand. Rules of this project.
 use Rattle.std.specs.Prelude.{◌≡◌, ℕ, ◌≤◌, ◌+◌, List, [], ◌∷◌, ◌++◌, length, map, sum, Option, Some, None, Result, Ok}
 use Rattle.std.specs.Prelude.{Err}
 use Rattle.std.specs.Prelude.{slice_get, if◌then◌else◌}

@@ -1,4 +1,4 @@
--- What each step of the work comes to, for what stands above it. Rules of this project.
+-- Between functions: What each step of the work comes to, for what stands above it. Rules of this project.
 use Rattle.std.specs.Prelude.{◌≡◌, ◌<◌, ℕ, ◌+◌, Bool, ◌&&◌, List, ◌∷◌, ◌++◌, length, map, slice_get, Some, Result, Ok}
 use Rattle.std.specs.Prelude.{Err}
 use Rattle.std.specs.List.{AllByRecursion, filter, list_any}

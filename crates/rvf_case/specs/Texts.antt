@@ -1,4 +1,4 @@
--- The texts of a configuration's checks, and which of them are one. Rules of this project.
+-- Meaning: The texts of a configuration's checks, and which of them are one. Rules of this project.
 use Rattle.std.specs.Prelude.{ℕ, ◌+◌, ◌-◌, ◌^◌, min, Bool, true, false, ◌&&◌, if◌then◌else◌}
 use Rattle.std.specs.Prelude.{List, [], ◌∷◌, ◌++◌, map, bytes_eq}
 use Rattle.std.specs.List.{filter, list_any}

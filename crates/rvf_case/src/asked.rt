@@ -10,7 +10,7 @@ ghost use Rattle.rvf_case.specs.Texts.{core_of, is_same_text, line_text, lines_f
 
 use crate::same::is_same_text;
 use ck_cfg::{Check, CheckKind, Config};
-use fv_base::{Memory, Text};
+use fv_text::{Memory, Text};
 use rv_table::Isa;
 use rvf_load::Probes;
 use std::alloc::Global;

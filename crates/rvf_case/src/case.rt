@@ -4,7 +4,7 @@ ghost use Rattle.rvf_case.specs.Cases.{loaded_for};
 
 use crate::same::is_same_text;
 use ck_cfg::{Check, CheckKind, Config};
-use fv_base::List;
+use fv_text::List;
 use rvf_load::Loaded;
 
 /// What is loaded of a text, and the kind of the first check that has it.

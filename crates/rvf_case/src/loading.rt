@@ -13,7 +13,7 @@ use crate::case::{Case, LoadedText};
 use crate::refusal::Refusal;
 use crate::same::leaders;
 use ck_cfg::{Check, CheckKind, Config, checks};
-use fv_base::{List, Memory, Text};
+use fv_text::{List, Memory, Text};
 use rvf_load::{LoadFault, Loaded, load};
 use std::alloc::Global;
 

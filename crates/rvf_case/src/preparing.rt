@@ -13,7 +13,8 @@ use crate::loading::case_of;
 use crate::reading::{read_config, read_files};
 use crate::refusal::Refusal;
 use ck_cfg::{Config, file_names};
-use fv_base::{Files, List, Memory, Text};
+use fv_base::Files;
+use fv_text::{List, Memory, Text};
 use std::alloc::Global;
 
 /// What a run is asked for that reads a configuration: its file, and the names that are put into the names of files.

@@ -8,7 +8,8 @@ ghost use Rattle.rvf_case.specs.Steps.{Becomes, Configures, ReadsFile, ReadsFile
 
 use crate::refusal::Refusal;
 use ck_cfg::{CfgFault, Config, read_cfg};
-use fv_base::{FileFault, Files, List, Text};
+use fv_base::{FileFault, Files};
+use fv_text::{List, Text};
 use std::alloc::Global;
 
 /// Why a file isn't read.

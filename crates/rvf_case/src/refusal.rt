@@ -1,7 +1,7 @@
 ghost use Rattle.std.specs.Prelude.{◌≡◌};
 
 use ck_cfg::CfgFault;
-use fv_base::{List, Memory, Text};
+use fv_text::{List, Memory, Text};
 use rvf_load::LoadFault;
 
 /// Why the checks of a configuration aren't judged: the first cause in the order of work.

@@ -5,7 +5,7 @@ ghost use Rattle.rvf_case.specs.Steps.{has_same, kind_lines};
 ghost use Rattle.rvf_case.specs.Texts.{is_same_text, leaders_behind};
 
 use ck_cfg::{Check, CheckKind, Config, KindPiece};
-use fv_base::Memory;
+use fv_text::Memory;
 use std::alloc::Global;
 
 /// The first of these lines that is for a kind, with the lines behind it.

@@ -2,7 +2,7 @@
 use Rattle.std.proofs.Common.{◌≡◌, ℕ, false, if◌then◌else◌, List, [], Option, Some, Result, Ok, Err}
 use Rattle.std.proofs.Common.{IfOk, length, refl, sym, ap, ◌∙◌, subst}
 use Rattle.std.specs.List.{list_any}
-use Rattle.fv_base.specs.declared.memory.Memory.{Memory}
+use Rattle.fv_text.specs.declared.memory.Memory.{Memory}
 use Rattle.fv_base.specs.declared.out.OutFault.{OutFault}
 use Rattle.fv_base.specs.declared.out.OutFault.TheVariants as out
 use Rattle.ck_cfg.specs.declared.kind.CheckKind.TheVariants as kind

@@ -4,7 +4,7 @@ use Rattle.std.proofs.Common.{refl, sym, ap, ◌∙◌, subst, arith}
 use Rattle.fv_base.specs.Outside.{Lacks, ReadGives, Rose, SameFiles, Told}
 use Rattle.fv_base.specs.declared.files.FileFault.{FileFault}
 use Rattle.fv_base.specs.declared.files.FileFault.TheVariants as file
-use Rattle.fv_base.specs.declared.memory.Memory.{Memory}
+use Rattle.fv_text.specs.declared.memory.Memory.{Memory}
 use Rattle.ck_cfg.specs.declared.config.Config.{Config}
 use Rattle.ck_cfg.specs.Checks.{checks_of}
 use Rattle.cnf_form.specs.Cnf.{Cnf}

@@ -2,7 +2,7 @@
 use Rattle.std.proofs.Common.{◌≡◌, ℕ, ◌≤◌, List, [], Option, Some, None, Result, IfOk, refl, sym, ap, ◌∙◌}
 use Rattle.std.proofs.Common.{arith, subst}
 use Rattle.fv_base.specs.Outside.{SameFiles}
-use Rattle.fv_base.specs.declared.memory.Memory.{Memory}
+use Rattle.fv_text.specs.declared.memory.Memory.{Memory}
 use Rattle.rvf_words.specs.Line.{line_of}
 use Rattle.rvf_words.specs.declared.line.Line.{Line as Words}
 use Rattle.rvf_words.specs.declared.line.Line.TheVariants as words

@@ -3,7 +3,7 @@ use Rattle.std.proofs.Common.{◌≡◌, ◌∙◌, List, ℕ, Result, Ok, Err, 
 use Rattle.fv_base.specs.Outside.{UnlessFailed, UnlessNotPut}
 use Rattle.fv_base.specs.declared.files.FileFault.{FileFault}
 use Rattle.fv_base.specs.declared.files.FileFault.TheVariants as file
-use Rattle.fv_base.specs.declared.memory.Memory.{Memory}
+use Rattle.fv_text.specs.declared.memory.Memory.{Memory}
 use Rattle.fv_base.specs.declared.out.OutFault.{OutFault}
 use Rattle.fv_base.specs.declared.out.OutFault.TheVariants as out
 use Rattle.rvf_case.specs.Cases.{UnlessFault}

@@ -2,7 +2,7 @@
 use Rattle.std.proofs.Common.{◌≡◌, ℕ, ◌≤◌, true, false, Some, Result, Ok, Err, IfOk, refl, sym, ap}
 use Rattle.std.proofs.Common.{◌∙◌, subst}
 use Rattle.fv_base.specs.Outside.{Names}
-use Rattle.fv_base.specs.declared.memory.Memory.{Memory}
+use Rattle.fv_text.specs.declared.memory.Memory.{Memory}
 use Rattle.fv_base.specs.declared.out.OutFault.{OutFault}
 use Rattle.fv_base.specs.declared.out.OutFault.TheVariants as out
 use Rattle.rvf_case.specs.Loading.load as load

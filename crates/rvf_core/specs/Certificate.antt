@@ -1,5 +1,5 @@
--- What the check of a certificate comes to: a clause file, and a proof of steps. Rules of this project, over the texts
--- of DIMACS and LRAT.
+-- Meaning: What the check of a certificate comes to: a clause file, and a proof of steps. Rules of this project, over
+-- the texts of DIMACS and LRAT.
 use Rattle.std.specs.Prelude.{ℕ, List, [], ◌∷◌, ◌++◌, ℤ, pos, Result, Ok, Err, codes, decimal}
 use Rattle.std.specs.Fmt.{signed_decimal}
 use Rattle.cnf_form.specs.Cnf.{Cnf}

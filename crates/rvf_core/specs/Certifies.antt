@@ -1,5 +1,5 @@
--- `lrat CNF PROOF`: whether the steps of a proof refute the clauses of a file, or why that isn't known. Rules of this
--- project.
+-- Meaning: `lrat CNF PROOF`: whether the steps of a proof refute the clauses of a file, or why that isn't known. Rules
+-- of this project.
 use Rattle.std.specs.Prelude.{◌≡◌, ℕ, false, List, [], ◌∷◌, Ok, Bool, ℤ}
 use Rattle.fv_base.specs.Outside.{Told, Lacks, ReadGives, Rose}
 use Rattle.cnf_form.specs.Cnf.{Cnf, formula_true}

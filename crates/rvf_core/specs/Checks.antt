@@ -1,4 +1,5 @@
--- `run CFG OUTDIR`: what it reports on the checks of a configuration, or why it reports nothing. Rules of this project.
+-- Meaning: `run CFG OUTDIR`: what it reports on the checks of a configuration, or why it reports nothing. Rules of
+-- this project.
 use Rattle.std.specs.Prelude.{◌≡◌, ℕ, Bool, List, [], ◌∷◌, length}
 use Rattle.fv_base.specs.Outside.{Told}
 use Rattle.ck_cfg.specs.declared.config.Config.{Config}

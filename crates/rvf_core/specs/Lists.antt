@@ -1,4 +1,4 @@
--- `list CFG`: the names of the checks of a configuration, or why there are none. Rules of this project.
+-- Meaning: `list CFG`: the names of the checks of a configuration, or why there are none. Rules of this project.
 use Rattle.std.specs.Prelude.{◌≡◌, ℕ, List, [], ◌∷◌, ◌++◌, map}
 use Rattle.fv_base.specs.Outside.{Lacks, Rose}
 use Rattle.ck_cfg.specs.declared.check.Check.{Check}

@@ -1,6 +1,6 @@
--- What a call leaves that delivers a report. Rule of this project.
+-- Between functions: What a call leaves that delivers a report. Rule of this project.
 use Rattle.std.specs.Prelude.{◌≡◌, [], Result, Ok, Err}
-use Rattle.fv_base.specs.declared.memory.Memory.{Memory}
+use Rattle.fv_text.specs.declared.memory.Memory.{Memory}
 use Rattle.fv_base.specs.declared.out.OutFault.{OutFault}
 use Rattle.rvf_report.specs.Outcome.{Outside, Delivers, IsDelivered}
 use Rattle.rvf_report.specs.Status.{ends}

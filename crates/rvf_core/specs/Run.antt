@@ -1,4 +1,4 @@
--- What an answer of the top call means: its cause, and its report. Rules of this project.
+-- Meaning: What an answer of the top call means: its cause, and its report. Rules of this project.
 use Rattle.std.specs.Prelude.{◌≡◌, ℕ, ◌<◌, ◌≤◌, ◌+◌, ◌-◌, ◌^◌, Bool, true, false, ◌||◌, ◌==◌, nat_le, min, List, []}
 use Rattle.std.specs.Prelude.{◌∷◌, Option, Some, None, codes}
 use Rattle.std.specs.List.{All, Contains}

@@ -1,4 +1,4 @@
--- What the functions of the top call promise one another. Rules of this project.
+-- Between functions: What the functions of the top call promise one another. Rules of this project.
 use Rattle.std.specs.Prelude.{◌≡◌, true, false, Bool, Option, Some}
 use Rattle.fv_base.specs.Outside.{Names}
 use Rattle.rvf_words.specs.declared.line.Line.{Line as Words}

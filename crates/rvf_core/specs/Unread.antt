@@ -1,4 +1,4 @@
--- The report on a file that gave no bytes. Rule of this project.
+-- Between functions: The report on a file that gave no bytes. Rule of this project.
 use Rattle.std.specs.Prelude.{◌≡◌, ℕ, List}
 use Rattle.fv_base.specs.declared.files.FileFault.{FileFault}
 use Rattle.fv_base.specs.declared.files.FileFault.TheVariants as file

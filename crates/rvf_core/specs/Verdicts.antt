@@ -1,4 +1,5 @@
--- What the checks of a configuration come to, said of the designs that their texts write. Rules of this project.
+-- Meaning: What the checks of a configuration come to, said of the designs that their texts write. Rules of this
+-- project.
 use Rattle.std.specs.Prelude.{◌≡◌, ℕ, Bool, true, false, List, [], ◌∷◌, None}
 use Rattle.std.specs.List.{list_any}
 use Rattle.vl_elab_spec.specs.Refused.{refusal}

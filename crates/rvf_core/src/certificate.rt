@@ -12,7 +12,7 @@ ghost use Rattle.lrat_check.specs.Texts.{steps_of};
 use crate::report::Report;
 use cnf_form::Formula;
 use cnf_text::{DimacsFault, read_dimacs};
-use fv_base::{Memory, Text};
+use fv_text::{Memory, Text};
 use itoa::Buffer;
 use lrat_check::{LratFault, Step, StepFault, read_lrat, verify};
 use rvf_report::{Status, put_end, put_word};

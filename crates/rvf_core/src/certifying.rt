@@ -9,7 +9,8 @@ ghost use Rattle.rvf_core.specs.Unread.{IsUnreadReport};
 use crate::certificate::certify;
 use crate::refusing::refused;
 use crate::report::Report;
-use fv_base::{FileFault, Files, Memory, Text};
+use fv_base::{FileFault, Files};
+use fv_text::{Memory, Text};
 use rvf_case::Refusal;
 use std::alloc::Global;
 

@@ -7,7 +7,7 @@ ghost use Rattle.rvf_core.specs.Steps as steps;
 ghost use Rattle.rvf_report.specs.Lines as lines;
 
 use crate::report::Report;
-use fv_base::Memory;
+use fv_text::Memory;
 use rvf_case::Refusal;
 use rvf_report::{Status, refusal_line};
 use std::alloc::Global;

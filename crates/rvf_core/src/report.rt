@@ -1,7 +1,7 @@
 ghost use Rattle.std.specs.Prelude.{◌≡◌, IfOk};
 ghost use Rattle.rvf_core.specs.Certificate.{one_line};
 
-use fv_base::{List, Memory, Text};
+use fv_text::{List, Memory, Text};
 use rvf_report::{Delivery, Status};
 use std::alloc::Global;
 

@@ -7,7 +7,8 @@ ghost use Rattle.rvf_report.specs.Status.{ends};
 ghost use Rattle.rvf_report.specs.Outcome.{outside};
 
 use crate::report::Report;
-use fv_base::{Files, Memory, Out, OutFault};
+use fv_base::{Files, Out, OutFault};
+use fv_text::Memory;
 use rvf_report::{Status, deliver};
 use std::alloc::Global;
 

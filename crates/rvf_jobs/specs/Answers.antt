@@ -1,4 +1,4 @@
--- The answers of a batch of jobs. Rule of this project.
+-- Between functions: The answers of a batch of jobs. Rule of this project.
 use Rattle.std.specs.Prelude.{◌≡◌, ℕ, ◌+◌, List, length, Some, slice_get}
 
 -- as many answers as jobs, and each is one of the job at its place

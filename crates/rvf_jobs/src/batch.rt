@@ -2,7 +2,7 @@ ghost use Rattle.std.specs.Prelude.{◌≡◌, ◌+◌, ◌<◌, ◌^◌, ℕ, m
 ghost use Rattle.rvf_jobs.specs.Answers.{AreAnswers};
 
 use crate::job::Job;
-use fv_base::Memory;
+use fv_text::Memory;
 use std::alloc::Global;
 use std::thread;
 use std::thread::Threads;

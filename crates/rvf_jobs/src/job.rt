@@ -1,6 +1,6 @@
 ghost use Rattle.std.specs.Prelude.{ℕ, IfOk};
 
-use fv_base::Memory;
+use fv_text::Memory;
 use std::alloc::Global;
 
 /// Jobs by number, which any thread may do.

@@ -1,7 +1,7 @@
 -- Parts with the same maps and the same declarations have the same judgements.
 use Rattle.std.specs.Prelude.{◌≡◌, refl, ℕ, List, [], ◌∷◌, ◌++◌, map, if◌then◌else◌}
 use Rattle.std.proofs.Common.{ap, sym, ◌∙◌, append_assoc}
-use Rattle.fv_base.specs.declared.trace.TraceName.{TraceName}
+use Rattle.fv_text.specs.declared.trace.TraceName.{TraceName}
 use Rattle.rv_table.specs.declared.retire.Opts.{Opts}
 use Rattle.vl_size.specs.declared.decl.Decl.{Decl}
 use Rattle.vl_size.specs.Size.{Values}
@@ -23,7 +23,7 @@ use Rattle.ck_design.specs.Retirements.{IsViolating}
 use Rattle.ck_design.specs.declared.note.Note.{Note}
 use Rattle.ck_design.specs.Tight.{IsTight}
 use Rattle.ck_design.specs.Traces.{shown, shown_by, trace_of_run}
-use Rattle.vcd_text.specs.Vcd.{vcd_text}
+use Rattle.vcd_dump.specs.Vcd.{vcd_text}
 use Rattle.rvf_judge.specs.declared.judged.Judged.TheVariants as judged
 use Rattle.rvf_judge.specs.Sources.{JudgementsAreTheSources, JudgementsDependOnMaps}
 

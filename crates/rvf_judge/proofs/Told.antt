@@ -1,7 +1,7 @@
 -- What verdicts on a net come to, said of its design.
 use Rattle.std.specs.Prelude.{ℕ, ◌<◌, ◌≤◌, ◌^◌, List, length}
 use Rattle.std.proofs.Common.{ap, sym, ◌∙◌, arith, subst, lit≤}
-use Rattle.fv_base.specs.declared.trace.Trace.{Trace}
+use Rattle.fv_text.specs.declared.trace.Trace.{Trace}
 use Rattle.rv_table.specs.declared.retire.Opts.{Opts}
 use Rattle.vl_mean.specs.Parts.{Part}
 use Rattle.wn_net.specs.declared.names.Names.{Names}
@@ -24,7 +24,7 @@ use Rattle.ck_design.specs.Traces.{HaveOwnNames}
 use Rattle.ck_design.proofs.Dumps.{dumps}
 use Rattle.ck_design.proofs.TracesWhole.{traces}
 use Rattle.vl_lower_spec.specs.Evaluations.{run_of}
-use Rattle.vcd_text.specs.Vcd.{IsTrace, vcd_text}
+use Rattle.vcd_dump.specs.Vcd.{IsTrace, vcd_text}
 use Rattle.rvf_judge.specs.declared.judged.CertificateTexts.{CertificateTexts}
 use Rattle.rvf_judge.specs.Judged.{AreTexts, IsFailed, IsPassed, IsSpent}
 use Rattle.rvf_judge.specs.JudgeParts.{IsDump}

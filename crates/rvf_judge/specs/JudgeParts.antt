@@ -1,6 +1,7 @@
--- What functions promise one another: the dump of a violation, said of the net (rule of this project).
+-- Between functions: What functions promise one another: the dump of a violation, said of the net (rule of this
+-- project).
 use Rattle.std.specs.Prelude.{◌≡◌, ℕ, List}
-use Rattle.fv_base.specs.declared.trace.Trace.{Trace}
+use Rattle.fv_text.specs.declared.trace.Trace.{Trace}
 use Rattle.rv_table.specs.declared.retire.Opts.{Opts}
 use Rattle.wn_net.specs.declared.names.Names.{Names}
 use Rattle.wn_net.specs.Net.{Netlist}
@@ -9,7 +10,7 @@ use Rattle.ck_cfg.specs.declared.check.Check.{Check}
 use Rattle.bm_decide.specs.declared.verdict.Violation.{Violation}
 use Rattle.bm_decide.specs.Verdicts.{IsFail}
 use Rattle.bm_decide.specs.Chosen.{ShowsViolation}
-use Rattle.vcd_text.specs.Vcd.{vcd_text}
+use Rattle.vcd_dump.specs.Vcd.{vcd_text}
 
 -- the violation is one of the check for some port
 pub record FailsSomehow (net : Netlist) (check : Check) (violation : Violation) : Type 0 where

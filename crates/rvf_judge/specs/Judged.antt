@@ -1,4 +1,4 @@
--- What a check of a design comes to, and the texts that say so (rule of this project).
+-- Meaning: What a check of a design comes to, and the texts that say so (rule of this project).
 use Rattle.std.specs.Prelude.{◌≡◌, ℕ, ◌<◌, ◌^◌, List, length, map}
 use Rattle.rv_table.specs.declared.retire.Opts.{Opts}
 use Rattle.vl_size.specs.Size.{Values}
@@ -17,7 +17,7 @@ use Rattle.ck_design.specs.declared.note.Note.{Note}
 use Rattle.ck_design.specs.Tight.{IsTight}
 use Rattle.rvf_judge.specs.Lines.{note_text}
 use Rattle.ck_design.specs.Traces.{trace_of_run}
-use Rattle.vcd_text.specs.Vcd.{vcd_text}
+use Rattle.vcd_dump.specs.Vcd.{vcd_text}
 use Rattle.rvf_judge.specs.declared.judged.CertificateTexts.{CertificateTexts}
 use Rattle.rvf_judge.specs.declared.judged.Judged.{Judged}
 use Rattle.rvf_judge.specs.declared.judged.Judged.TheVariants as judged

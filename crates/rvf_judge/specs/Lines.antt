@@ -1,4 +1,4 @@
--- The lines of notes: which words they have (rule of this project).
+-- Meaning: The lines of notes: which words they have (rule of this project).
 use Rattle.std.specs.Prelude.{ℕ, ◌/◌, ◌==◌, if◌then◌else◌, List, ◌++◌, ℤ, pos, neg_ℤ, codes, decimal}
 use Rattle.std.specs.Fmt.{signed_decimal}
 use Rattle.bb_aig.specs.Graph.{is_negated}

@@ -1,4 +1,4 @@
--- The notes of a certificate part by part (rule of this project).
+-- Between functions: The notes of a certificate part by part (rule of this project).
 use Rattle.std.specs.Prelude.{ℕ, ◌+◌, ◌*◌, List, map, slice_get, slice_index_or}
 use Rattle.std.specs.List.{range_with_len}
 use Rattle.wn_net.specs.declared.names.Names.{Names}

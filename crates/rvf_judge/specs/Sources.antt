@@ -1,4 +1,5 @@
--- What a judgement on a design without hierarchy says of the design that the source writes. Rules of this project.
+-- Between functions: What a judgement on a design without hierarchy says of the design that the source writes. Rules
+-- of this project.
 use Rattle.std.specs.Prelude.{◌≡◌, ℕ, List}
 use Rattle.rv_table.specs.declared.retire.Opts.{Opts}
 use Rattle.vl_mean.specs.declared.flat.Flat.{Flat}

@@ -1,4 +1,4 @@
--- Words of memories by their places. IEEE 1364-2005, section 4.9.3.
+-- Between functions: Words of memories by their places. IEEE 1364-2005, section 4.9.3.
 use Rattle.std.specs.Prelude.{ℕ, Bool, if◌then◌else◌, ℤ, pos, ◌+ℤ◌, ◌-ℤ◌}
 
 -- the index of the word so many places from one on, upwards or downwards

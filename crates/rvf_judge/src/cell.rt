@@ -5,7 +5,7 @@ ghost use Rattle.vl_mean.specs.Cells.{cells_of};
 ghost use Rattle.vl_size.specs.Table.{span, word_name};
 ghost use Rattle.rvf_judge.specs.Words.{index_at};
 
-use fv_base::{Memory, Text};
+use fv_text::{Memory, Text};
 use itoa::Buffer;
 use std::alloc::Global;
 use wn_net::NetName;

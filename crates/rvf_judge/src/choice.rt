@@ -10,7 +10,7 @@ use bb_aig::Lit;
 use bb_blast::Placed;
 use bm_unroll::Source;
 use ck_design::Note;
-use fv_base::{List, Memory, Text};
+use fv_text::{List, Memory, Text};
 use std::alloc::Global;
 use wn_net::{Names, NetName, Spot};
 

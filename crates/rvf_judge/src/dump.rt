@@ -9,9 +9,9 @@ ghost use Rattle.rvf_judge.specs.JudgeParts.{FailsSomehow, IsDump};
 
 use bm_decide::{Violation, violating_trace};
 use ck_cfg::Check;
-use fv_base::{Memory, Text};
+use fv_text::{Memory, Text};
 use std::alloc::Global;
-use vcd_text::vcd;
+use vcd_dump::vcd;
 use wn_net::{Names, Net};
 
 /// The dump of the run that a violation tells, up to the check's cycle.

@@ -7,7 +7,7 @@ ghost use Rattle.rvf_judge.specs.NoteLinesParts.{bits_from};
 
 use bb_aig::Lit;
 use ck_design::Note;
-use fv_base::{List, Memory, Text};
+use fv_text::{List, Memory, Text};
 use rvfi_port::Field;
 use std::alloc::Global;
 

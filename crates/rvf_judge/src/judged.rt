@@ -1,4 +1,4 @@
-use fv_base::Text;
+use fv_text::Text;
 
 /// The two files of a certificate.
 #[derive(Debug, Drop)]

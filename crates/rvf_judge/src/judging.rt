@@ -16,7 +16,7 @@ use crate::judged::Judged;
 use crate::texts::texts_of;
 use bm_decide::{Verdict, decide};
 use ck_cfg::Check;
-use fv_base::Memory;
+use fv_text::Memory;
 use rv_table::Opts;
 use rvfi_port::Port;
 use std::alloc::Global;

@@ -4,7 +4,7 @@ ghost use Rattle.rvf_judge.specs.Lines as lines;
 
 use bb_aig::Lit;
 use ck_design::Note;
-use fv_base::{Memory, Text};
+use fv_text::{Memory, Text};
 use itoa::Buffer;
 use std::alloc::Global;
 

@@ -6,7 +6,7 @@ use crate::fields::put_fields;
 use bb_aig::Lit;
 use bm_decide::ChoiceBits;
 use ck_design::Note;
-use fv_base::{List, Memory};
+use fv_text::{List, Memory};
 use rvfi_port::Field;
 use std::alloc::Global;
 use wn_net::Names;

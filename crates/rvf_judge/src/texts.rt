@@ -12,7 +12,7 @@ use bm_decide::Certificate;
 use ck_cfg::Check;
 use ck_design::Note;
 use cnf_text::dimacs;
-use fv_base::{List, Memory, Text};
+use fv_text::{List, Memory, Text};
 use lrat_check::lrat;
 use std::alloc::Global;
 use wn_net::Names;

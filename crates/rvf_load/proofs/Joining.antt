@@ -1,7 +1,7 @@
 -- What the parts of loading come to is what is there of the texts.
 use Rattle.std.specs.Prelude.{◌≡◌, List, All, Bool, true, false, Result, Ok, Err}
 use Rattle.std.proofs.Common.{ap, sym, ◌∙◌, subst, true≢false}
-use Rattle.fv_base.specs.declared.token.Token.{Token}
+use Rattle.fv_text.specs.declared.token.Token.{Token}
 use Rattle.vl_prep.specs.Prep.{Outcome}
 use Rattle.vl_tree.specs.declared.source.Source.{Source}
 use Rattle.vl_tree.specs.WellFormed.{IsModule}

@@ -1,5 +1,5 @@
--- What comes of texts: the net of their design with its port, or the first part that refuses them. Rules of this
--- project.
+-- Meaning: What comes of texts: the net of their design with its port, or the first part that refuses them. Rules of
+-- this project.
 use Rattle.std.specs.Prelude.{◌≡◌, ℕ, ◌+◌, ◌*◌, ◌-◌, ◌^◌, min, nat_lt, Bool, true, if◌then◌else◌, is_some}
 use Rattle.std.specs.Prelude.{List, [], ◌∷◌, Option, Some, None, Result, Ok, Err, codes}
 use Rattle.rv_table.specs.declared.retire.Opts.{Opts}

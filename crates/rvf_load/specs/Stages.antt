@@ -1,4 +1,4 @@
--- What the parts of loading come to, one behind the other. Rules of this project.
+-- Between functions: What the parts of loading come to, one behind the other. Rules of this project.
 use Rattle.std.specs.Prelude.{◌≡◌, ℕ, List, None, Some, true, Result, Ok, Err}
 use Rattle.rv_table.specs.declared.retire.Opts.{Opts}
 use Rattle.vl_tree.specs.declared.source.Module.{Module}

@@ -1,6 +1,6 @@
 ghost use Rattle.std.specs.Prelude.{◌≡◌};
 
-use fv_base::Memory;
+use fv_text::Memory;
 use rvfi_port::PortFault;
 use vl_elab_spec::ElabFault;
 use vl_flow::FlowFault;

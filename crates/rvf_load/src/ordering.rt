@@ -7,7 +7,7 @@ ghost use Rattle.rvf_load.specs.Stages as stages;
 ghost use Rattle.rvf_load.specs.Stages.{IsInOrder, IsOrdering};
 
 use crate::fault::LoadFault;
-use fv_base::{Memory, Text};
+use fv_text::{Memory, Text};
 use std::alloc::Global;
 use vl_elab::{Reason, elaborate};
 use vl_flow::{FlowFault, Ordered, order};

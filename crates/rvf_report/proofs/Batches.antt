@@ -2,7 +2,7 @@
 use Rattle.std.proofs.Common.{◌≡◌, ℕ, zero, suc, ◌+◌, ◌≤◌, List, [], ◌∷◌, length, Some, None, Result, Ok, Err, IfOk}
 use Rattle.std.proofs.Common.{slice_get, min, sym, ◌∙◌, subst, arith}
 use Rattle.std.specs.List.{AllByRecursion}
-use Rattle.fv_base.specs.declared.memory.Memory.{Memory}
+use Rattle.fv_text.specs.declared.memory.Memory.{Memory}
 use Rattle.vl_mean.specs.Parts.{Part}
 use Rattle.rvfi_port.specs.declared.port.Wants.{Wants}
 use Rattle.ck_cfg.specs.declared.check.Check.{Check}

@@ -1,4 +1,4 @@
--- What is delivered of a check, in this order: its files, and its line. Rules of this project.
+-- Meaning: What is delivered of a check, in this order: its files, and its line. Rules of this project.
 use Rattle.std.specs.Prelude.{ℕ, List, [], ◌∷◌, ◌++◌, codes}
 use Rattle.rvf_judge.specs.declared.judged.CertificateTexts.{CertificateTexts}
 use Rattle.rvf_judge.specs.declared.judged.Judged.{Judged}

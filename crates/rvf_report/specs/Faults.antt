@@ -1,4 +1,4 @@
--- What each refusal says besides its part. Rules of this project.
+-- Meaning: What each refusal says besides its part. Rules of this project.
 use Rattle.std.specs.Prelude.{ℕ, List, [], ◌∷◌, map, Some, None, decimal}
 use Rattle.vl_token.specs.declared.fault.LexFault.{LexFault}
 use Rattle.vl_token.specs.Fault as lexer

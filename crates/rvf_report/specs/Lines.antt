@@ -1,4 +1,4 @@
--- The line of each refusal. Rules of this project.
+-- Meaning: The line of each refusal. Rules of this project.
 use Rattle.std.specs.Prelude.{ℕ, List, [], codes, decimal}
 use Rattle.ck_cfg.specs.declared.fault.CfgFault.{CfgFault}
 use Rattle.ck_cfg.specs.Faults.{number_of}

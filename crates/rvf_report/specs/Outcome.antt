@@ -1,5 +1,5 @@
--- What a run delivers, in the order of its work: files that are made to hold bytes, and lines on the output; and how
--- far it came with them. Rules of this project.
+-- Meaning: What a run delivers, in the order of its work: files that are made to hold bytes, and lines on the output;
+-- and how far it came with them. Rules of this project.
 use Rattle.std.specs.Prelude.{◌≡◌, ℕ, List, [], ◌∷◌, ◌++◌, Option, Some, None, Result, Ok, Err}
 use Rattle.fv_base.specs.Outside.{Told, Rose, IsPrefix, SameFiles, Holds, HoldsPart, Appends, AppendsPart, with_file}
 use Rattle.fv_base.specs.declared.out.OutFault.{OutFault}

@@ -1,4 +1,4 @@
--- The lines of a report, each ended by a line feed. Rules of this project.
+-- Meaning: The lines of a report, each ended by a line feed. Rules of this project.
 use Rattle.std.specs.Prelude.{ℕ, List, [], ◌∷◌, ◌++◌, codes, decimal}
 use Rattle.rvf_report.specs.declared.counts.Counts.{Counts}
 

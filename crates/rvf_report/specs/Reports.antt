@@ -1,5 +1,5 @@
--- What is delivered of the checks of a configuration, in this order; and what a call leaves that judges and delivers
--- them. Rules of this project.
+-- Meaning: What is delivered of the checks of a configuration, in this order; and what a call leaves that judges and
+-- delivers them. Rules of this project.
 use Rattle.std.specs.Prelude.{◌≡◌, ℕ, Bool, true, false, if◌then◌else◌, List, [], ◌∷◌, ◌++◌, length, map, count_by}
 use Rattle.std.specs.Prelude.{Option, Some, None}
 use Rattle.std.specs.List.{list_any}

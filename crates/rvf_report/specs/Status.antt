@@ -1,4 +1,4 @@
--- How a run ends. Rules of this project.
+-- Between functions: How a run ends. Rules of this project.
 use Rattle.std.specs.Prelude.{ℕ, Result, Ok, Err}
 use Rattle.fv_base.specs.declared.out.OutFault.{OutFault}
 use Rattle.fv_base.specs.declared.out.OutFault.TheVariants as out

@@ -1,4 +1,4 @@
--- What functions promise one another while a report is delivered. Rules of this project.
+-- Between functions: What functions promise one another while a report is delivered. Rules of this project.
 use Rattle.std.specs.Prelude.{◌≡◌, ℕ, ◌+◌, ◌≤◌, List, Some, Result, Ok, Err, slice_get}
 use Rattle.std.specs.Prelude.{nat_lt, if◌then◌else◌}
 use Rattle.fv_base.specs.declared.out.OutFault.{OutFault}

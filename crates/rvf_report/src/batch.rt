@@ -7,7 +7,7 @@ ghost use Rattle.rvf_report.specs.Steps.{IsAnswerAt, places_of};
 
 use crate::counts::Counts;
 use crate::work::Work;
-use fv_base::Memory;
+use fv_text::Memory;
 use rvf_case::Case;
 use rvf_jobs::{Gate, Job, run_jobs};
 use rvf_judge::{Judged, judge};

@@ -6,7 +6,7 @@ ghost use Rattle.rvf_report.specs.declared.delivery.Delivery.TheVariants.{File};
 
 use crate::delivery::Delivery;
 use crate::lines::{named_line, spent_line};
-use fv_base::{List, Memory, Text};
+use fv_text::{List, Memory, Text};
 use rvf_judge::{CertificateTexts, Judged};
 use std::alloc::Global;
 

@@ -6,7 +6,7 @@ ghost use Rattle.rvf_report.specs.Lines as lines;
 
 use crate::word::{detail, one_value, put_end, put_number, put_word};
 use ck_cfg::CfgFault;
-use fv_base::{List, Memory, Text};
+use fv_text::{List, Memory, Text};
 use std::alloc::Global;
 
 /// The line that the refusal names, from 1; 0 where it names none.

@@ -7,7 +7,8 @@ ghost use Rattle.rvf_report.specs.Steps.{CountsIn};
 ghost use Rattle.rvf_report.specs.declared.delivery.Delivery.{Delivery as SpecDelivery};
 
 use crate::delivery::Delivery;
-use fv_base::{FileFault, Files, List, Memory, Out, OutFault};
+use fv_base::{FileFault, Files, Out, OutFault};
+use fv_text::{List, Memory};
 use std::alloc::Global;
 
 /// Delivers all in this order, up to the first that fails.

@@ -1,4 +1,4 @@
-use fv_base::Text;
+use fv_text::Text;
 
 /// What a run leaves outside.
 #[derive(Debug, Drop)]

@@ -9,7 +9,7 @@ ghost use Rattle.rvf_report.specs.Reports as reports;
 use crate::delivery::Delivery;
 use crate::lines::{note_line, skip_line};
 use ck_cfg::{Check, CheckKind};
-use fv_base::{List, Memory, Text};
+use fv_text::{List, Memory, Text};
 use rvf_case::Case;
 use std::alloc::Global;
 

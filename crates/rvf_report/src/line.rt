@@ -8,7 +8,7 @@ use crate::config::config_line;
 use crate::part::{of_elab, of_flow, of_lex, of_parse, of_port, of_prep};
 use crate::says::source_line;
 use crate::word::{put_end, put_word};
-use fv_base::{Memory, Text};
+use fv_text::{Memory, Text};
 use itoa::Buffer;
 use rvf_case::{LoadFault, Refusal};
 use std::alloc::Global;

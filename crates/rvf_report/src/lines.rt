@@ -4,7 +4,7 @@ ghost use Rattle.std.specs.Prelude.{◌≡◌, ◌++◌, IfOk, OnOk};
 ghost use Rattle.rvf_report.specs.ReportLines as lines;
 
 use crate::counts::Counts;
-use fv_base::{Memory, Text};
+use fv_text::{Memory, Text};
 use itoa::Buffer;
 use std::alloc::Global;
 

@@ -6,7 +6,7 @@ ghost use Rattle.rvf_report.specs.Printed as printed;
 
 use crate::says::{Says, place_text, place_texts};
 use crate::word::{copies, number_alone, one_value, push_number};
-use fv_base::{List, Memory, Pos, Text};
+use fv_text::{List, Memory, Pos, Text};
 use rvfi_port::PortFault;
 use std::alloc::Global;
 use vl_elab_spec::ElabFault;

@@ -4,7 +4,7 @@ ghost use Rattle.std.specs.Prelude.{◌≡◌, ◌++◌, IfOk, map};
 ghost use Rattle.rvf_report.specs.Printed as printed;
 
 use crate::word::{detail, put_end, put_number, put_word};
-use fv_base::{List, Memory, Pos, Text};
+use fv_text::{List, Memory, Pos, Text};
 use itoa::Buffer;
 use std::alloc::Global;
 

@@ -3,7 +3,7 @@
 ghost use Rattle.std.specs.Prelude.{◌≡◌, ◌++◌, ◌∷◌, [], IfOk, OnOk, decimal};
 ghost use Rattle.rvf_report.specs.Printed as printed;
 
-use fv_base::{List, Memory, Text};
+use fv_text::{List, Memory, Text};
 use itoa::Buffer;
 use std::alloc::Global;
 

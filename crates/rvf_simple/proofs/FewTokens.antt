@@ -4,8 +4,8 @@ use Rattle.std.specs.Prelude.{◌&&◌, ◌==◌, nat_lt, Option, None, Some, if
 use Rattle.std.proofs.Common.{sym, subst, arith}
 use Rattle.std.proofs.lemmas.Bool.Decides.{nat_tests}
 use Rattle.std.proofs.lemmas.List.{length-append}
-use Rattle.fv_base.specs.declared.pos.Pos.{Pos}
-use Rattle.fv_base.specs.declared.token.Token.{Token}
+use Rattle.fv_text.specs.declared.pos.Pos.{Pos}
+use Rattle.fv_text.specs.declared.token.Token.{Token}
 use Rattle.vl_prep.specs.Groups.{
   Ends,
   Expands,

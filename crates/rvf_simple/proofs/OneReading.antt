@@ -1,7 +1,7 @@
 -- Texts have one reading at most.
 use Rattle.std.specs.Prelude.{◌≡◌, refl, List, [], ◌∷◌, Result, Ok, Err}
 use Rattle.std.proofs.Common.{ap, sym, ◌∙◌, subst}
-use Rattle.fv_base.specs.declared.token.Token.{Token}
+use Rattle.fv_text.specs.declared.token.Token.{Token}
 use Rattle.vl_tree.specs.declared.source.Source.{Source}
 use Rattle.vl_token.proofs.Answer.{one_fault, right_refused}
 use Rattle.vl_token.proofs.Order.{tokens_one}

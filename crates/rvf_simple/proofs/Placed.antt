@@ -4,7 +4,7 @@ use Rattle.std.specs.Prelude.{Option, Some, None, if◌then◌else◌}
 use Rattle.std.specs.List.{filter}
 use Rattle.std.proofs.Common.{arith}
 use Rattle.std.proofs.lemmas.List.{length-append, length-drop, length-take}
-use Rattle.fv_base.specs.declared.token.Token.{Token}
+use Rattle.fv_text.specs.declared.token.Token.{Token}
 use Rattle.vl_text.specs.Assumptions.{end_of_top, is_assumed, is_not_assumed, is_within, placed, put_in, section_of}
 use Rattle.vl_text.specs.Assumptions.{with_assumptions}
 use Rattle.vl_text.specs.Texts.{Text}

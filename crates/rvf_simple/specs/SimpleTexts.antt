@@ -1,4 +1,4 @@
--- Texts that come to a simple wrapper. Rule of this project.
+-- Between functions: Texts that come to a simple wrapper. Rule of this project.
 use Rattle.std.specs.Prelude.{◌≤◌}
 use Rattle.rvf_simple.specs.SimpleTrees.{IsSimple, wrapper_ports}
 use Rattle.vl_text.specs.SourceText.{Reading}

@@ -1,4 +1,5 @@
--- Simple wrappers: one module `rvfi_wrapper` of ports and of assignments to whole outputs. Rules of this project.
+-- Between functions: Simple wrappers: one module `rvfi_wrapper` of ports and of assignments to whole outputs. Rules of
+-- this project.
 use Rattle.std.specs.Prelude.{◌≡◌, ℕ, ◌+◌, ◌≤◌, List, [], ◌∷◌, ◌++◌, length, true, false, Option, None, Some}
 use Rattle.std.specs.Prelude.{bytes_eq, codes}
 use Rattle.vl_tree.specs.declared.declaration.FullPort.{FullPort}

@@ -1,6 +1,6 @@
 //! What is known of simple wrappers.
 ghost use Rattle.std.specs.Prelude.{◌≡◌, ℕ, ◌≤◌, List, [], length, None, codes};
-ghost use Rattle.fv_base.specs.declared.token.Token.{Token};
+ghost use Rattle.fv_text.specs.declared.token.Token.{Token};
 ghost use Rattle.vl_tree.specs.declared.source.Module.{Module};
 ghost use Rattle.vl_tree.specs.declared.source.Source.{Source};
 ghost use Rattle.vl_tree.specs.ItemSpelling.{spell_source};

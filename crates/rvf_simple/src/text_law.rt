@@ -1,6 +1,6 @@
 //! What texts come to that are simple wrappers.
 ghost use Rattle.std.specs.Prelude.{◌≡◌, ℕ, ◌≤◌, List, length, None, Ok, Err};
-ghost use Rattle.fv_base.specs.declared.token.Token.{Token};
+ghost use Rattle.fv_text.specs.declared.token.Token.{Token};
 ghost use Rattle.vl_prep.specs.Macros.{Held};
 ghost use Rattle.vl_prep.specs.Prep.{Outcome, preprocessed};
 ghost use Rattle.vl_elab_spec.specs.Refused.{refusal};

@@ -1,4 +1,4 @@
--- What the words of a command line ask for. Rule of this project.
+-- Meaning: What the words of a command line ask for. Rule of this project.
 use Rattle.std.specs.Prelude.{ℕ, List, [], ◌∷◌, Option, Some, None, length, nat_le, nat_lt, bytes_eq}
 use Rattle.std.specs.Prelude.{if◌then◌else◌, codes, option_and_then, option_map}
 use Rattle.fv_lines.specs.Numbers.{number_up_to}

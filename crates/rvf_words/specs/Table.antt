@@ -1,5 +1,5 @@
--- The subcommands, operands and options of the command line, as a simple command of `clap`, which says what such a
--- table makes of words. Rule of this project.
+-- Meaning: The subcommands, operands and options of the command line, as a simple command of `clap`, which says what
+-- such a table makes of words. Rule of this project.
 use Rattle.std.specs.Prelude.{ℕ, true, List, [], ◌∷◌, Option, Some, codes}
 use Rattle.clap.specs.Words.{App, Rule, Shape, Text, new_app, new_rule, with_rule, with_subcommand}
 

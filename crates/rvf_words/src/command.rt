@@ -5,7 +5,7 @@ ghost use Rattle.clap.specs.declared.builder.command.Command.TheViews.{out-Comma
 ghost use Rattle.rvf_words.specs.Table as table;
 
 use clap::{Arg, Command};
-use fv_base::Memory;
+use fv_text::Memory;
 use std::alloc::Global;
 
 /// A word that has to be there, without a name before it.

@@ -1,4 +1,4 @@
-use fv_base::Text;
+use fv_text::Text;
 
 /// What the words of a command line ask for.
 #[derive(Debug, Drop)]

@@ -8,8 +8,8 @@ use crate::command::program;
 use crate::line::Line;
 use clap::error::ErrorKind;
 use clap::{ArgMatches, Error};
-use fv_base::{Memory, Text};
 use fv_lines::number_up_to;
+use fv_text::{Memory, Text};
 use std::alloc::Global;
 
 /// The most clauses that a check may be allowed to derive.

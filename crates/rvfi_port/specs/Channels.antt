@@ -1,4 +1,4 @@
--- What the nodes of a channel show in a cycle (RISC-V Formal Interface).
+-- Meaning: What the nodes of a channel show in a cycle (RISC-V Formal Interface).
 use Rattle.std.specs.Prelude.{◌≡◌, ℕ, ◌+◌, ◌*◌, ◌==◌, Bool, true, false, List, [], ◌∷◌}
 use Rattle.std.specs.Prelude.{Option, Some, None, length}
 use Rattle.fv_bits.specs.Bits.{part}

@@ -1,5 +1,6 @@
--- The outputs of a design that show its retirements, and those that show what a run is probed by: names and widths, in
--- their order (RISC-V Formal Interface, in this project's profile, which leaves out `rvfi_mode` and `rvfi_ixl`).
+-- Meaning: The outputs of a design that show its retirements, and those that show what a run is probed by: names and
+-- widths, in their order (RISC-V Formal Interface, in this project's profile, which leaves out `rvfi_mode` and
+-- `rvfi_ixl`).
 use Rattle.std.specs.Prelude.{ℕ, Bool, true, false, List, [], ◌∷◌, ◌++◌, if◌then◌else◌, codes}
 use Rattle.rvfi_port.specs.declared.field.Field.{Field}
 use Rattle.rvfi_port.specs.declared.field.Field.TheVariants as f

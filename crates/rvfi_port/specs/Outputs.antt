@@ -1,4 +1,4 @@
--- Which output of a design is a field, and how a design is refused for want of one. Rule of this project.
+-- Meaning: Which output of a design is a field, and how a design is refused for want of one. Rule of this project.
 use Rattle.std.specs.Prelude.{◌≡◌, ℕ, ◌*◌, ◌==◌, not, ◌&&◌, List, [], ◌∷◌, Option, Some, None}
 use Rattle.std.specs.Prelude.{if◌then◌else◌, find, Bool}
 use Rattle.std.specs.Option.{option_or}

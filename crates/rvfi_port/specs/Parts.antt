@@ -1,4 +1,4 @@
--- Parts of outputs as nodes. Rule of this project.
+-- Between functions: Parts of outputs as nodes. Rule of this project.
 use Rattle.std.specs.Prelude.{ℕ, ◌+◌, ◌*◌, ◌≤◌, List, [], ◌∷◌}
 use Rattle.fv_bits.specs.Bits.{part}
 use Rattle.wn_net.specs.Net.{Netlist, IsNode, value_at, width_at}

@@ -1,4 +1,4 @@
--- The nodes of a port, with their widths (RISC-V Formal Interface).
+-- Meaning: The nodes of a port, with their widths (RISC-V Formal Interface).
 use Rattle.std.specs.Prelude.{ℕ, Option, Some, None}
 use Rattle.std.specs.List.{AllByRecursion}
 use Rattle.wn_net.specs.Net.{Netlist, IsNodeOf}

@@ -9,7 +9,7 @@ ghost use Rattle.rvfi_port.specs.Parts.{Reaches, AllReach, IsPart, AreParts, Are
 
 use crate::field::Field;
 use crate::port::Channel;
-use fv_base::{List, Memory};
+use fv_text::{List, Memory};
 use std::alloc::Global;
 use wn_net::{Net, NodeId};
 

@@ -2,7 +2,7 @@ ghost use Rattle.std.specs.Prelude.{◌≡◌};
 ghost use Rattle.rvfi_port.specs.declared.fault.PortFault.TheVariants as fault;
 
 use crate::field::Field;
-use fv_base::Memory;
+use fv_text::Memory;
 use std::alloc::AllocFailed;
 use thiserror::Error;
 

@@ -1,4 +1,4 @@
-use fv_base::List;
+use fv_text::List;
 use wn_net::NodeId;
 
 /// What is to be bound beside the fields of the channels.

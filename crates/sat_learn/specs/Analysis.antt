@@ -1,4 +1,5 @@
--- What a clause and its hints say while a conflict is traced back along a trail. Rules of this project.
+-- Between functions: What a clause and its hints say while a conflict is traced back along a trail. Rules of this
+-- project.
 use Rattle.std.specs.Prelude.{ℕ, ◌≡◌, Bool, true, false, not, ◌&&◌, ◌||◌, List, [], ◌∷◌, ℤ, slice_get}
 use Rattle.std.specs.Prelude.{Option, Some, None}
 use Rattle.std.specs.List.{list_any}

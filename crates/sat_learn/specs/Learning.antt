@@ -1,4 +1,4 @@
--- One clause is learnt. Rule of this project.
+-- Between functions: One clause is learnt. Rule of this project.
 use Rattle.std.specs.Prelude.{◌≡◌, false, List, [], ◌∷◌, ◌++◌, ℤ}
 use Rattle.std.specs.List.{list_any}
 use Rattle.lrat_check.specs.Steps.{numbered, is_negative, is_empty}

@@ -1,4 +1,4 @@
--- Literals, each once, with the place of each. Rule of this project.
+-- Between functions: Literals, each once, with the place of each. Rule of this project.
 use Rattle.std.specs.Prelude.{ℕ, ◌+◌, ◌<◌, ◌≡◌, List, ℤ, length}
 use Rattle.lrat_check.specs.Sets.{AreLits}
 use Rattle.sat_trail.specs.Trail.{place_of}

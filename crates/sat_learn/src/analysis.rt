@@ -11,7 +11,7 @@ ghost use Rattle.sat_learn.specs.Analysis.{is_unit};
 
 use crate::lit_set::LitSet;
 use crate::shortening::shorten;
-use fv_base::Memory;
+use fv_text::Memory;
 use lrat_check::Reading;
 use sat_trail::{ClauseList, Entry, Trail};
 use std::alloc::Global;

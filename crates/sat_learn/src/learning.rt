@@ -10,7 +10,7 @@ ghost use Rattle.sat_learn.specs.Learning.{Learns};
 
 use crate::analysis::{Learnt, to_unit};
 use crate::lit_set::LitSet;
-use fv_base::Memory;
+use fv_text::Memory;
 use sat_trail::{ClauseList, ClauseSet, Trail};
 use std::alloc::Global;
 

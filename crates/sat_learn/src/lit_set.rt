@@ -5,7 +5,7 @@ ghost use Rattle.lrat_check.specs.Sets.{has, IsLit, AreLits};
 ghost use Rattle.sat_trail.specs.Trail.{place_of};
 ghost use Rattle.sat_propagate.specs.Watches.{lit_at};
 
-use fv_base::Memory;
+use fv_text::Memory;
 use sat_trail::Places;
 use std::alloc::Global;
 use std::marker::Model;

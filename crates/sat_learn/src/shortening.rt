@@ -7,7 +7,7 @@ ghost use Rattle.sat_learn.specs.Analysis.{Resolves, is_stray, implies, is_unit}
 
 use crate::analysis::{complement, push_id};
 use crate::lit_set::LitSet;
-use fv_base::Memory;
+use fv_text::Memory;
 use sat_trail::{ClauseList, Trail};
 
 fn has(lits: &[i64], wanted: &i64) -> bool

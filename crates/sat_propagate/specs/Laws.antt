@@ -1,4 +1,4 @@
--- What the watches keep as the trail changes between two looks. Rules of this project.
+-- Between functions: What the watches keep as the trail changes between two looks. Rules of this project.
 use Rattle.std.specs.Prelude.{◌≡◌, ◌≤◌, ◌⊎◌, true, [], ◌∷◌, length}
 use Rattle.lrat_check.specs.Store.{coded}
 use Rattle.sat_trail.specs.declared.trail.Entry.{Entry}

@@ -1,5 +1,5 @@
--- What the clauses of a search come to under a set of true literals, and what is kept of them between two looks.
--- Rules of this project.
+-- Between functions: What the clauses of a search come to under a set of true literals, and what is kept of them
+-- between two looks. Rules of this project.
 use Rattle.std.specs.Prelude.{
   ℕ,
   ◌+◌,

@@ -1,4 +1,5 @@
--- What a search keeps of its watches between two looks, and what a look finds. Rules of this project.
+-- Between functions: What a search keeps of its watches between two looks, and what a look finds. Rules of this
+-- project.
 use Rattle.std.specs.Prelude.{
   ℕ,
   ◌<◌,

@@ -1,6 +1,6 @@
--- Watched places: what a search keeps of clauses, of the lists of watches and of what is true. The first two places of
--- a clause are watched, and each literal has a list of the clauses that may be watched there. Literals are codes.
--- Rules of this project, after the two watched literals of conflict-driven clause learning.
+-- Between functions: Watched places: what a search keeps of clauses, of the lists of watches and of what is true. The
+-- first two places of a clause are watched, and each literal has a list of the clauses that may be watched there.
+-- Literals are codes. Rules of this project, after the two watched literals of conflict-driven clause learning.
 use Rattle.std.specs.Prelude.{
   ℕ,
   ◌-◌,

@@ -2,7 +2,7 @@ ghost use Rattle.std.specs.Prelude.{◌≡◌, ◌<◌, [], length, OnOk};
 ghost use Rattle.sat_propagate.specs.Watching.{with_watch, taken, joined, lists_of, items_of};
 
 use crate::watch::Watch;
-use fv_base::Memory;
+use fv_text::Memory;
 use std::alloc::Global;
 use std::marker::Model;
 

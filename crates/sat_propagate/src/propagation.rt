@@ -7,7 +7,7 @@ ghost use Rattle.sat_propagate.specs.Propagation.{AllLits, Sees, Holds, HoldsOn}
 use crate::unit_scan::Scan;
 use crate::watch_scan::Scan as Look;
 use crate::watches::Watches;
-use fv_base::Memory;
+use fv_text::Memory;
 use lrat_check::Reading;
 use sat_trail::{ClauseList, Trail};
 use std::alloc::Global;

@@ -8,7 +8,7 @@ ghost use Rattle.sat_propagate.specs.Watching.{KeepsFit, SameHeld, Going, IsFals
 use crate::lists::Lists;
 use crate::look::{Sight, look};
 use crate::watch::{Watch, watch_of};
-use fv_base::Memory;
+use fv_text::Memory;
 use lrat_check::Store;
 use sat_trail::Trail;
 

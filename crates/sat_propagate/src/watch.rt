@@ -1,7 +1,7 @@
 ghost use Rattle.std.specs.Prelude.{◌≡◌, IfOk};
 ghost use Rattle.sat_propagate.specs.Watching.{watch_at};
 
-use fv_base::Memory;
+use fv_text::Memory;
 
 /// An entry of a literal's list: a clause in which it may be watched, and the code of another literal of the clause.
 #[derive(Debug, Clone, Copy)]

@@ -11,7 +11,7 @@ use crate::order::order;
 use crate::visit::{Stop, visit_list};
 use crate::watch::{Watch, watch_of};
 use crate::watch_scan::Scan;
-use fv_base::Memory;
+use fv_text::Memory;
 use lrat_check::{Store, code_of, flip, lit_of};
 use sat_trail::Trail;
 use std::alloc::Global;

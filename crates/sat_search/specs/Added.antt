@@ -1,4 +1,4 @@
--- The clauses that steps add. Rule of this project.
+-- Between functions: The clauses that steps add. Rule of this project.
 use Rattle.std.specs.Prelude.{ℕ, ◌≡◌, true, List, [], ◌∷◌}
 use Rattle.cnf_form.specs.Cnf.{AreLiterals}
 use Rattle.lrat_check.specs.declared.step.Step.{Step}

@@ -1,4 +1,4 @@
--- What a search answers. Rule of this project.
+-- Meaning: What a search answers. Rule of this project.
 use Rattle.std.specs.Prelude.{Bool, not, List, ℤ, filter}
 use Rattle.lrat_check.specs.declared.step.Step.{Step}
 use Rattle.lrat_check.specs.Steps.{is_empty}

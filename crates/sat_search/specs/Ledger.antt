@@ -1,5 +1,5 @@
--- The clauses that a search holds, by places and by ids, the steps that add and delete them, and what these steps come
--- to. Rules of this project.
+-- Between functions: The clauses that a search holds, by places and by ids, the steps that add and delete them, and
+-- what these steps come to. Rules of this project.
 use Rattle.std.specs.Prelude.{
   ℕ,
   zero,

@@ -1,4 +1,4 @@
--- Variables that have values, by their indexes. Rule of this project.
+-- Between functions: Variables that have values, by their indexes. Rule of this project.
 use Rattle.std.specs.Prelude.{ℕ, ◌+◌, ◌<◌, ◌≤◌, ◌≡◌, true, List, ℤ}
 use Rattle.sat_trail.specs.Trail.{is_assigned}
 

@@ -1,5 +1,5 @@
--- What the search keeps: how the trail stands, what the steps so far come to, and what falls with each round.
--- Rules of this project.
+-- Between functions: What the search keeps: how the trail stands, what the steps so far come to, and what falls with
+-- each round. Rules of this project.
 use Rattle.std.specs.Prelude.{
   ℕ,
   zero,

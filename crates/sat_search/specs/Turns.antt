@@ -1,4 +1,4 @@
--- What a search keeps from one turn to the next, and what a turn comes to. Rules of this project.
+-- Between functions: What a search keeps from one turn to the next, and what a turn comes to. Rules of this project.
 use Rattle.std.specs.Prelude.{ℕ, ◌^◌, ◌<◌, ◌≡◌, ◌⊎◌, Bool, true, List, ℤ, length}
 use Rattle.cnf_form.specs.Cnf.{formula_true, value_of}
 use Rattle.lrat_check.specs.declared.step.Step.{Step}

@@ -1,4 +1,4 @@
-use fv_base::List;
+use fv_text::List;
 use lrat_check::Step;
 
 /// How a search ends.

@@ -1,4 +1,4 @@
-use fv_base::Memory;
+use fv_text::Memory;
 use std::alloc::Global;
 
 /// Where an activity reaches this, all are made smaller.

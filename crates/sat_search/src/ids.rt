@@ -1,7 +1,7 @@
 ghost use Rattle.std.specs.Prelude.{◌≡◌, ℕ, ◌-◌, ◌<◌, ◌^◌, pos, unsigned_abs, IfOk};
 ghost use Rattle.sat_search.specs.Ledger.{ids_to, id_at, by_ids};
 
-use fv_base::Memory;
+use fv_text::Memory;
 use std::alloc::Global;
 
 /// The ids of so many clauses of a formula, from 1 on.

@@ -5,7 +5,7 @@ ghost use Rattle.sat_search.specs.Ledger.{Tells, IsLedger, Adds, StaysTold};
 
 use crate::ids::{by_ids, ids_to};
 use cnf_form::Formula;
-use fv_base::{List, Memory};
+use fv_text::{List, Memory};
 use lrat_check::Step;
 use sat_trail::{ClauseList, ClauseSet};
 use std::alloc::Global;

@@ -3,7 +3,7 @@ ghost use Rattle.sat_trail.specs.Trail.{lits, AllAssigned, IsOpenVar, IsOpenLit}
 ghost use Rattle.sat_search.specs.Order.{AssignedFrom};
 
 use crate::heap::Heap;
-use fv_base::Memory;
+use fv_text::Memory;
 use sat_trail::Trail;
 use std::alloc::Global;
 

@@ -8,7 +8,7 @@ use crate::order::Order;
 use crate::turn::Turn;
 use crate::usage::Usage;
 use cnf_form::{Formula, clause_at};
-use fv_base::{List, Memory};
+use fv_text::{List, Memory};
 use lrat_check::Step;
 use sat_learn::{Learner, Learnt};
 use sat_propagate::Propagation;

@@ -9,7 +9,7 @@ use crate::found::Found;
 use crate::search::Search;
 use crate::turn::Turn;
 use cnf_form::Formula;
-use fv_base::Memory;
+use fv_text::Memory;
 use std::alloc::Global;
 
 /// Values that make the formula true, or steps that refute it, or, where that takes more learnt clauses than the

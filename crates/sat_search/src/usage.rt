@@ -1,4 +1,4 @@
-use fv_base::Memory;
+use fv_text::Memory;
 use sat_trail::{ClauseList, Trail};
 use std::alloc::Global;
 

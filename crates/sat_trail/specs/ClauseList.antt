@@ -1,4 +1,4 @@
--- Clauses by their places, one of which is taken out. Rules of this project.
+-- Between functions: Clauses by their places, one of which is taken out. Rules of this project.
 use Rattle.std.specs.Prelude.{ℕ, ◌+◌, ◌-◌, ◌<◌, ◌≡◌, List, ℤ, length, slice_index_or}
 
 -- the clause at the place is taken out, and the last one goes there

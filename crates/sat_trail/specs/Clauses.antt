@@ -1,4 +1,4 @@
--- What a set of true literals makes of a clause. Rules of this project.
+-- Between functions: What a set of true literals makes of a clause. Rules of this project.
 use Rattle.std.specs.Prelude.{◌≡◌, true, false, List, ℤ}
 use Rattle.lrat_check.specs.Sets.{has, is_false}
 

@@ -1,4 +1,5 @@
--- Sets of clauses, in each of which the clauses with the same literals are one. Rule of this project.
+-- Between functions: Sets of clauses, in each of which the clauses with the same literals are one. Rule of this
+-- project.
 use Rattle.std.specs.Prelude.{ℕ, List, ℤ, Bool, length}
 use Rattle.std.specs.List.{list_any}
 use Rattle.std.specs.Ordering.{int_eq}

@@ -1,4 +1,4 @@
--- The literals of a clause in order, each once. Rule of this project.
+-- Between functions: The literals of a clause in order, each once. Rule of this project.
 use Rattle.std.specs.Prelude.{List, [], ◌∷◌, ℤ}
 use Rattle.std.specs.Ordering.{int_cmp}
 use Rattle.std.specs.BTreeSet.{insert_key}

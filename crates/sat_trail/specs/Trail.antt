@@ -1,5 +1,5 @@
--- Trails, the newest entry first: what is true, why each entry stands there, and what is older than a decision.
--- Rules of this project, after conflict-driven clause learning.
+-- Between functions: Trails, the newest entry first: what is true, why each entry stands there, and what is older than
+-- a decision. Rules of this project, after conflict-driven clause learning.
 use Rattle.std.specs.Prelude.{
   ℕ,
   zero,

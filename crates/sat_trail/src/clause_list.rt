@@ -3,7 +3,7 @@ ghost use Rattle.cnf_form.specs.Cnf.{AreClauses};
 ghost use Rattle.sat_trail.specs.ClauseList.{TakenOut};
 
 use cnf_form::{Formula, clause_at};
-use fv_base::{List, Memory};
+use fv_text::{List, Memory};
 use std::alloc::Global;
 use std::marker::Model;
 

@@ -14,7 +14,7 @@ ghost use Rattle.std.specs.Ordering.{int_eq};
 ghost use Rattle.lrat_check.specs.Sets.{IsLit};
 ghost use Rattle.sat_trail.specs.Trail.{place_of};
 
-use fv_base::Memory;
+use fv_text::Memory;
 use lrat_check::code_of;
 use std::alloc::Global;
 use std::marker::Model;

@@ -4,7 +4,7 @@ ghost use Rattle.lrat_check.specs.Sets.{same_set, AreLits};
 ghost use Rattle.sat_trail.specs.Known as spec;
 ghost use Rattle.sat_trail.specs.Sorted.{sorted};
 
-use fv_base::Memory;
+use fv_text::Memory;
 use std::alloc::Global;
 use std::collections::{BTreeSet, HashSet};
 use std::marker::Model;

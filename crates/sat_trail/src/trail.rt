@@ -19,7 +19,7 @@ ghost use Rattle.sat_trail.specs.Trail.{Entries, lits, oldest, below, decided, t
 ghost use Rattle.sat_trail.specs.Trail.{Outlasts, IsNext};
 
 use crate::place_table::Places;
-use fv_base::Memory;
+use fv_text::Memory;
 use lrat_check::{Reading, flip};
 use std::alloc::Global;
 use std::marker::Model;

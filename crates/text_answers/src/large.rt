@@ -4,7 +4,7 @@ use crate::parts::number;
 use crate::shown;
 use crate::text::{items, one_macro, prepared};
 use anyhow::Result;
-use fv_base::Token;
+use fv_text::Token;
 use std::alloc::{AllocError, Global};
 use vl_prep::{Macros, prep};
 use vl_token::lex;

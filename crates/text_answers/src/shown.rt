@@ -1,7 +1,7 @@
 //! How tokens and refusals are printed. A place is its line and column, behind its file where that isn't file 1. Each
 //! function writes behind what is there, so that none owns a text that an exit would drop.
 
-use fv_base::{Kind, Number, Pos, Text, Token};
+use fv_text::{Kind, Number, Pos, Text, Token};
 use std::alloc::AllocError;
 use vl_parse::ParseFault;
 use vl_prep::PrepFault;

@@ -2,7 +2,7 @@
 
 use crate::{shape, shown};
 use anyhow::Result;
-use fv_base::{Text, Token};
+use fv_text::{Text, Token};
 use std::alloc::{AllocError, Global};
 use vl_parse::parse;
 use vl_prep::{Macros, prep};

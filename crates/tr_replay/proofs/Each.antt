@@ -4,7 +4,7 @@ use Rattle.std.proofs.Common.{ap, sym, ◌∙◌, append_assoc, arith, add-one}
 use Rattle.std.specs.Prelude.{ℤ, slice_index}
 use Rattle.std.specs.List.{flat_map}
 use Rattle.std.proofs.lemmas.List.{at_drop_more, at_drop_all, append-nil}
-use Rattle.fv_base.specs.declared.trace.TraceName.{TraceName}
+use Rattle.fv_text.specs.declared.trace.TraceName.{TraceName}
 use Rattle.wn_net.specs.declared.parts.Input.{Input}
 use Rattle.wn_net.specs.declared.parts.Init.{Init}
 use Rattle.wn_net.specs.declared.parts.Reg.{Reg}

@@ -1,10 +1,10 @@
--- The trace of a run of a net: what each name of a design has in each cycle (rule of this project).
+-- Between functions: The trace of a run of a net: what each name of a design has in each cycle (rule of this project).
 use Rattle.std.specs.Prelude.{ℕ, zero, suc, ◌+◌, if◌then◌else◌, List, [], ◌∷◌, ◌++◌, Option, Some, None, codes}
 use Rattle.std.specs.Prelude.{ℤ, pos, ◌+ℤ◌, ◌-ℤ◌, int_le, slice_index, slice_index_or}
 use Rattle.std.specs.Fmt.{signed_decimal}
 use Rattle.std.specs.List.{flat_map}
-use Rattle.fv_base.specs.declared.trace.Trace.{Trace}
-use Rattle.fv_base.specs.declared.trace.TraceName.{TraceName}
+use Rattle.fv_text.specs.declared.trace.Trace.{Trace}
+use Rattle.fv_text.specs.declared.trace.TraceName.{TraceName}
 use Rattle.wn_net.specs.declared.names.Place.{Place}
 use Rattle.wn_net.specs.declared.names.Place.TheVariants as place
 use Rattle.wn_net.specs.declared.names.NetName.{NetName}

@@ -1,4 +1,4 @@
--- The values of names by those of nodes and the words of memories. Rule of this project.
+-- Between functions: The values of names by those of nodes and the words of memories. Rule of this project.
 use Rattle.std.specs.Prelude.{ℕ, List, [], ◌∷◌, slice_index}
 use Rattle.std.specs.List.{flat_map}
 use Rattle.wn_net.specs.declared.names.Place.{Place}

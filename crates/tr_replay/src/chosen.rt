@@ -3,7 +3,7 @@
 ghost use Rattle.std.specs.Prelude.{◌≡◌, [], slice_index, slice_index_or, IfOk};
 ghost use Rattle.wn_run.specs.Runs.{by_kind, inputs_from, reset_at};
 
-use fv_base::{List, Memory};
+use fv_text::{List, Memory};
 use std::alloc::Global;
 use wn_net::{Input, InputKind};
 

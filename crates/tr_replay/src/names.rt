@@ -5,7 +5,7 @@ ghost use Rattle.std.specs.List.{flat_map};
 ghost use Rattle.wn_net.specs.Names.{words_in};
 ghost use Rattle.tr_replay.specs.Traces as traces;
 
-use fv_base::{List, Memory, Text, TraceName};
+use fv_text::{List, Memory, Text, TraceName};
 use itoa::Buffer;
 use std::alloc::Global;
 use wn_net::{Names, Net, NetName, Place};

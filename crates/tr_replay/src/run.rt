@@ -11,7 +11,7 @@ use crate::chosen::{Chosen, inputs_of, row_at};
 use crate::names::trace_names;
 use crate::start::start_of;
 use crate::values::name_values;
-use fv_base::{List, Memory, Trace};
+use fv_text::{List, Memory, Trace};
 use std::alloc::Global;
 use wn_net::{Names, Net, State};
 use wn_run::cycles_are_of_the_net;

@@ -5,7 +5,7 @@ ghost use Rattle.wn_run.specs.Runs.{start_number, regs_from, words_from, mems_fr
 ghost use Rattle.tr_replay.specs.Traces.{choices_of};
 
 use crate::chosen::{Chosen, number_at, row_at};
-use fv_base::{List, Memory};
+use fv_text::{List, Memory};
 use std::alloc::Global;
 use wn_net::{Init, Mem, Net, Reg, State};
 

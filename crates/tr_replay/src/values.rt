@@ -5,7 +5,7 @@ ghost use Rattle.std.specs.List.{flat_map};
 ghost use Rattle.tr_replay.specs.Values as by;
 
 use crate::chosen::{number_at, row_at};
-use fv_base::{List, Memory};
+use fv_text::{List, Memory};
 use std::alloc::Global;
 use wn_net::{NetName, Place, State};
 

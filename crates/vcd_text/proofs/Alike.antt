@@ -4,9 +4,9 @@ use Rattle.std.proofs.Common.{◌∙◌, inl, inr, arith}
 use Rattle.std.proofs.lemmas.Bool.{cases_Bool}
 use Rattle.std.proofs.lemmas.Fmt.{decimal_injective}
 use Rattle.std.proofs.lemmas.List.{append_cancel_right}
-use Rattle.fv_base.specs.declared.trace.TraceName.{TraceName}
-use Rattle.vcd_text.specs.Digits.{code, binary}
-use Rattle.vcd_text.specs.Vcd.{IsWide, name_line, value_line, time_line}
+use Rattle.fv_text.specs.declared.trace.TraceName.{TraceName}
+use Rattle.vcd_dump.specs.Digits.{code, binary}
+use Rattle.vcd_dump.specs.Vcd.{IsWide, name_line, value_line, time_line}
 use Rattle.vcd_text.proofs.Written.{number_writes, written_same, cons_same}
 use Rattle.vcd_text.proofs.Values.{bit_line, wide_line, bit_below, code_same, cut_same, binary_no_blank}
 use Rattle.vcd_text.proofs.Names.{name_line_is, width_cut, code_cut, width_no, code_no}

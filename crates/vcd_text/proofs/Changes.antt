@@ -2,10 +2,10 @@
 use Rattle.std.proofs.Common.{◌≡◌, ℕ, zero, suc, ◌+◌, ◌^◌, ◌<◌, ◌⊎◌, ◌==◌, List, [], ◌∷◌, ◌++◌, length, take, drop}
 use Rattle.std.proofs.Common.{get_or, refl, ap, sym, ◌∙◌, inl, inr, arith}
 use Rattle.std.proofs.lemmas.Bool.{cases_Bool}
-use Rattle.fv_base.specs.declared.trace.TraceName.{TraceName}
+use Rattle.fv_text.specs.declared.trace.TraceName.{TraceName}
 use Rattle.vcd_text.specs.Reading.{IsAt}
-use Rattle.vcd_text.specs.Vcd.{AreValues, value_line, change_lines}
-use Rattle.vcd_text.proofs.DigitsLemmas.{when, unless}
+use Rattle.vcd_dump.specs.Vcd.{AreValues, value_line, change_lines}
+use Rattle.vcd_dump.proofs.DigitsLemmas.{when, unless}
 use Rattle.vcd_text.proofs.Values.{at_same}
 use Rattle.vcd_text.proofs.Lists.{lines_same, eq_true, eq_same, eq_false, differs}
 

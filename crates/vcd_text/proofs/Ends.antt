@@ -5,8 +5,8 @@ use Rattle.std.proofs.Common.{append_assoc, arith}
 use Rattle.std.proofs.lemmas.List.{append_cancel_left, append-nil, length_push, take_at, take-append-drop}
 use Rattle.std.proofs.lemmas.List.{length-append}
 use Rattle.std.proofs.lemmas.Nat.{pow_pos}
-use Rattle.fv_base.specs.declared.trace.Trace.{Trace}
-use Rattle.fv_base.specs.declared.trace.TraceName.{TraceName}
+use Rattle.fv_text.specs.declared.trace.Trace.{Trace}
+use Rattle.fv_text.specs.declared.trace.TraceName.{TraceName}
 use Rattle.vcd_text.specs.declared.reader.Part.{Part}
 use Rattle.vcd_text.specs.declared.reader.Part.TheVariants.{Scale, Scope, Names, Definitions, Start, Dump, Values}
 use Rattle.vcd_text.specs.declared.reader.Part.TheVariants.{Changes}
@@ -15,9 +15,9 @@ use Rattle.vcd_text.specs.Reading.{IsReadable, IsFront, IsFirstFault, IsNoDump, 
 use Rattle.fv_lines.specs.Cuts.{IsCut, HasNo, whole_lines}
 use Rattle.fv_lines.proofs.Parts.{whole_cut, whole_none}
 use Rattle.vcd_text.specs.Reached.{AreLeft, AreFirst, AreNames, IsReached, IsSound, Awaits, Takes, Finishes}
-use Rattle.vcd_text.specs.Vcd.{AreValues, with_end, text_of, name_lines, header_lines, value_lines, change_lines}
-use Rattle.vcd_text.specs.Vcd.{time_line, later_lines, cycle_lines, vcd_lines, vcd_text}
-use Rattle.vcd_text.proofs.WriteLemmas.{text_of-append}
+use Rattle.vcd_dump.specs.Vcd.{AreValues, with_end, text_of, name_lines, header_lines, value_lines, change_lines}
+use Rattle.vcd_dump.specs.Vcd.{time_line, later_lines, cycle_lines, vcd_lines, vcd_text}
+use Rattle.vcd_dump.proofs.WriteLemmas.{text_of-append}
 use Rattle.vcd_text.proofs.Lists.{all_append, no_lines, first_none, eq_same, differs}
 use Rattle.vcd_text.proofs.LineEnds.{dump_lines}
 

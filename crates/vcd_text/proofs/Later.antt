@@ -4,13 +4,13 @@ use Rattle.std.proofs.Common.{◌++◌, length, take, drop, get_or, set, refl, a
 use Rattle.std.proofs.Common.{append_assoc, arith}
 use Rattle.std.proofs.lemmas.List.{length_push, take_all, drop_all, take-append-drop, drop-drop, take_more_set}
 use Rattle.std.proofs.lemmas.List.{drop-set-lt, drop_at, get_or-drop, length-drop}
-use Rattle.fv_base.specs.declared.trace.Trace.{Trace}
-use Rattle.fv_base.specs.declared.trace.TraceName.{TraceName}
+use Rattle.fv_text.specs.declared.trace.Trace.{Trace}
+use Rattle.fv_text.specs.declared.trace.TraceName.{TraceName}
 use Rattle.vcd_text.specs.declared.reader.Part.TheVariants.{Values, Changes}
 use Rattle.vcd_text.specs.Reading.{IsAt, IsReadable, FindsValue}
 use Rattle.vcd_text.specs.Reached.{IsCycleLeft, IsNoneLeft, AreFirst, AreNames, IsReached, GoesOn, StopsAt}
-use Rattle.vcd_text.specs.Vcd.{AreValues, value_line, value_lines, change_lines, time_line, later_lines}
-use Rattle.vcd_text.proofs.WriteLemmas.{as_many}
+use Rattle.vcd_dump.specs.Vcd.{AreValues, value_line, value_lines, change_lines, time_line, later_lines}
+use Rattle.vcd_dump.proofs.WriteLemmas.{as_many}
 use Rattle.vcd_text.proofs.Alike.{value_line_same, value_not_time}
 use Rattle.vcd_text.proofs.Changes.{AreChanges, first_change, changes_at, no_changes}
 use Rattle.vcd_text.proofs.Lists.{all_append, lines_same, lines_are, one_line, at_within, at_behind, at_drop}

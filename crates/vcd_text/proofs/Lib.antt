@@ -1,6 +1,5 @@
 pub mod Alike
 pub mod Changes
-pub mod DigitsLemmas
 pub mod Ends
 pub mod Later
 pub mod LineEnds
@@ -9,5 +8,4 @@ pub mod Names
 pub mod Readers
 pub mod Steps
 pub mod Values
-pub mod WriteLemmas
 pub mod Written

@@ -7,16 +7,16 @@ use Rattle.std.proofs.lemmas.Bool.Decides.{nat_tests}
 use Rattle.std.proofs.lemmas.List.Folds.{list_all-append}
 use Rattle.std.specs.Fmt.{digit_glyph, digits_onto, digits}
 use Rattle.std.specs.List.{AllByRecursion, list_all}
-use Rattle.fv_base.specs.declared.trace.Trace.{Trace}
-use Rattle.fv_base.specs.declared.trace.TraceName.{TraceName}
-use Rattle.vcd_text.specs.Digits.{code, binary}
+use Rattle.fv_text.specs.declared.trace.Trace.{Trace}
+use Rattle.fv_text.specs.declared.trace.TraceName.{TraceName}
+use Rattle.vcd_dump.specs.Digits.{code, binary}
 use Rattle.fv_lines.specs.Cuts.{HasNo, whole_lines}
 use Rattle.fv_lines.proofs.Parts.{whole_cut}
 use Rattle.vcd_text.specs.Reading.{is_plain, IsPlain, IsReadable}
-use Rattle.vcd_text.specs.Vcd.{text_of, name_line, name_lines, header_lines, value_of, value_line, value_lines}
-use Rattle.vcd_text.specs.Vcd.{change_line, change_lines, time_line, later_lines, first_lines, cycle_lines, vcd_lines}
-use Rattle.vcd_text.specs.Vcd.{vcd_text}
-use Rattle.vcd_text.proofs.DigitsLemmas.{when, unless}
+use Rattle.vcd_dump.specs.Vcd.{text_of, name_line, name_lines, header_lines, value_of, value_line, value_lines}
+use Rattle.vcd_dump.specs.Vcd.{change_line, change_lines, time_line, later_lines, first_lines, cycle_lines, vcd_lines}
+use Rattle.vcd_dump.specs.Vcd.{vcd_text}
+use Rattle.vcd_dump.proofs.DigitsLemmas.{when, unless}
 use Rattle.vcd_text.proofs.Values.{true_and, number_no}
 use Rattle.vcd_text.proofs.Names.{name_line_is, code_no}
 use Rattle.vcd_text.proofs.Lists.{all_append}

@@ -5,11 +5,11 @@ use Rattle.std.proofs.lemmas.Bool.{cases_Bool, false≢true}
 use Rattle.std.proofs.lemmas.Bool.Decides.{nat_tests}
 use Rattle.std.proofs.lemmas.List.{drop_at, length-take-le}
 use Rattle.std.specs.List.{AllByRecursion}
-use Rattle.fv_base.specs.declared.trace.Trace.{Trace}
-use Rattle.fv_base.specs.declared.trace.TraceName.{TraceName}
+use Rattle.fv_text.specs.declared.trace.Trace.{Trace}
+use Rattle.fv_text.specs.declared.trace.TraceName.{TraceName}
 use Rattle.vcd_text.specs.Reading.{IsAt, IsReadable}
 use Rattle.vcd_text.specs.Reached.{AreFirst}
-use Rattle.vcd_text.specs.Vcd.{AreValues, value_lines}
+use Rattle.vcd_dump.specs.Vcd.{AreValues, value_lines}
 use Rattle.vcd_text.proofs.Values.{at_same}
 
 pub all_append : {X : Type 0} (P : X → Type 0) (xs ys : List X) → AllByRecursion P xs → AllByRecursion P ys

@@ -6,11 +6,11 @@ use Rattle.std.proofs.lemmas.Bool.Decides.{nat_tests}
 use Rattle.std.proofs.lemmas.List.{append_cancel_left, append_cancel_right}
 use Rattle.std.specs.List.{list_all}
 use Rattle.std.proofs.lemmas.Fmt.{decimal_by_steps}
-use Rattle.fv_base.specs.declared.trace.TraceName.{TraceName}
-use Rattle.vcd_text.specs.Digits.{code, number}
+use Rattle.fv_text.specs.declared.trace.TraceName.{TraceName}
+use Rattle.vcd_dump.specs.Digits.{code, number}
 use Rattle.fv_lines.specs.Cuts.{HasNo, IsCut}
-use Rattle.vcd_text.specs.Vcd.{name_line}
-use Rattle.vcd_text.proofs.DigitsLemmas.{code_small, code_more, number_small, number_more}
+use Rattle.vcd_dump.specs.Vcd.{name_line}
+use Rattle.vcd_dump.proofs.DigitsLemmas.{code_small, code_more, number_small, number_more}
 use Rattle.vcd_text.proofs.Written.{number_writes, written_same}
 use Rattle.vcd_text.proofs.Values.{cut_same, number_no, true_and}
 

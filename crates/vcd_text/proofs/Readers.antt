@@ -3,15 +3,15 @@ use Rattle.std.proofs.Common.{◌≡◌, ℕ, ◌+◌, ◌<◌, ◌≤◌, Bool,
 use Rattle.std.proofs.Common.{option_map, List, [], ◌∷◌, ◌++◌, length, get_or, set, refl, ap, sym, subst, ◌∙◌, arith}
 use Rattle.std.proofs.lemmas.Bool.{false≢true}
 use lib.Pointwise.{pointwise, bytes_decides}
-use Rattle.fv_base.specs.declared.trace.TraceName.{TraceName}
+use Rattle.fv_text.specs.declared.trace.TraceName.{TraceName}
 use Rattle.vcd_text.specs.declared.reader.Part.{Part}
 use Rattle.vcd_text.specs.declared.reader.Part.TheVariants.{Scale, Scope, Names, Definitions, Start, Dump, Values}
 use Rattle.vcd_text.specs.declared.reader.Part.TheVariants.{Changes}
 use Rattle.vcd_text.specs.declared.reader.Reader.{Reader}
 use Rattle.vcd_text.specs.Reached.{IsReached, GoesOn, StopsAt, IsSound, Takes, TakesFixed, IsClosed}
 use Rattle.vcd_text.specs.Reading.{IsAt, IsPlain, FindsName, FindsValue}
-use Rattle.vcd_text.specs.Vcd.{IsWide, name_line, value_line, time_line}
-use Rattle.vcd_text.proofs.WriteLemmas.{as_many}
+use Rattle.vcd_dump.specs.Vcd.{IsWide, name_line, value_line, time_line}
+use Rattle.vcd_dump.proofs.WriteLemmas.{as_many}
 use Rattle.vcd_text.proofs.Lists.{at_within, first_within}
 use Rattle.vcd_text.proofs.Steps.{scale_step, scale_stop, scope_step, scope_stop, definitions_step, definitions_stop}
 use Rattle.vcd_text.proofs.Steps.{start_step, start_stop, dump_step, dump_stop, name_step, value_step, value_stop}

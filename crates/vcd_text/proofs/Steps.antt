@@ -3,14 +3,14 @@ use Rattle.std.proofs.Common.{◌≡◌, ℕ, suc, ◌+◌, ◌^◌, ◌<◌, �
 use Rattle.std.proofs.Common.{drop, refl, ap, sym, subst, ◌∙◌, append_assoc, arith}
 use Rattle.std.proofs.lemmas.List.{append-nil, length_push}
 use Rattle.std.specs.List.{AllByRecursion}
-use Rattle.fv_base.specs.declared.trace.Trace.{Trace}
-use Rattle.fv_base.specs.declared.trace.TraceName.{TraceName}
+use Rattle.fv_text.specs.declared.trace.Trace.{Trace}
+use Rattle.fv_text.specs.declared.trace.TraceName.{TraceName}
 use Rattle.vcd_text.specs.declared.reader.Part.TheVariants.{Scale, Scope, Names, Definitions, Start, Dump, Values}
 use Rattle.vcd_text.specs.Reading.{IsAt, IsPlain, FindsName, FindsValue}
 use Rattle.vcd_text.specs.Reached.{AreNamesLeft, IsDumpLeft, AreNames, IsEarly, IsReached, GoesOn, StopsAt}
-use Rattle.vcd_text.specs.Vcd.{IsWide, AreValues, name_line, name_lines, header_lines, value_line, value_lines}
-use Rattle.vcd_text.specs.Vcd.{later_lines, cycle_lines}
-use Rattle.vcd_text.proofs.WriteLemmas.{as_many}
+use Rattle.vcd_dump.specs.Vcd.{IsWide, AreValues, name_line, name_lines, header_lines, value_line, value_lines}
+use Rattle.vcd_dump.specs.Vcd.{later_lines, cycle_lines}
+use Rattle.vcd_dump.proofs.WriteLemmas.{as_many}
 use Rattle.vcd_text.proofs.Alike.{value_line_same, name_not_end, name_line_same}
 use Rattle.vcd_text.proofs.Lists.{all_append, all_middle, lines_same, lines_are, at_within, at_some, at_drop}
 use Rattle.vcd_text.proofs.Lists.{value_fits, first_none, first_push, cycle_values}

@@ -8,12 +8,12 @@ use Rattle.std.proofs.lemmas.Bool.Decides.{nat_tests}
 use Rattle.std.proofs.lemmas.List.{nil_from_length}
 use Rattle.std.proofs.lemmas.List.Folds.{list_all-append}
 use Rattle.std.proofs.Math.Nat.{div-lt_self}
-use Rattle.fv_base.specs.declared.trace.TraceName.{TraceName}
-use Rattle.vcd_text.specs.Digits.{code, number, binary}
+use Rattle.fv_text.specs.declared.trace.TraceName.{TraceName}
+use Rattle.vcd_dump.specs.Digits.{code, number, binary}
 use Rattle.fv_lines.specs.Cuts.{HasNo, IsCut}
 use Rattle.vcd_text.specs.Reading.{IsAt, IsValue, FindsParts, FindsValue}
-use Rattle.vcd_text.specs.Vcd.{value_of, value_line}
-use Rattle.vcd_text.proofs.DigitsLemmas.{when, unless, number_small, number_more}
+use Rattle.vcd_dump.specs.Vcd.{value_of, value_line}
+use Rattle.vcd_dump.proofs.DigitsLemmas.{when, unless, number_small, number_more}
 use Rattle.vcd_text.proofs.Written.{code_writes, written_same, cons_same, not_nil}
 
 is_mark : (mark c : ℕ) (more : Bool) → (not (c == mark) && more) ≡ true → c ≡ mark → ⊥

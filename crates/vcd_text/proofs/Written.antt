@@ -8,8 +8,8 @@ use Rattle.std.proofs.Math.Nat.{div-mul-le_self, div-add-mod', mod-lt, le-div_if
 use Rattle.std.proofs.Math.Nat.{mod-eq_of_lt, div-lt_self, mul-le-mul_left}
 use Rattle.std.proofs.lemmas.List.{nil_from_length, same_from_push}
 use Rattle.std.proofs.lemmas.Nat.{div-mul-add}
-use Rattle.vcd_text.specs.Digits.{code, number}
-use Rattle.vcd_text.proofs.DigitsLemmas.{code_small, code_more, number_small, number_more}
+use Rattle.vcd_dump.specs.Digits.{code, number}
+use Rattle.vcd_dump.proofs.DigitsLemmas.{code_small, code_more, number_small, number_more}
 
 -- which digit stands last (or first), and what the others write
 pub record Parts (base first : ℕ) (spell : ℕ → List ℕ) (others : List ℕ) (digit n : ℕ) : Type 0 where

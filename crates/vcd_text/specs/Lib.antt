@@ -1,4 +1,2 @@
-pub mod Digits
 pub mod Reached
 pub mod Reading
-pub mod Vcd

@@ -1,4 +1,5 @@
--- How far a dump was read, and which lines of a trace's dump are still to come there. Rule of this project.
+-- Between functions: How far a dump was read, and which lines of a trace's dump are still to come there. Rule of this
+-- project.
 use Rattle.std.specs.Prelude.{
   ℕ,
   ◌+◌,
@@ -19,15 +20,15 @@ use Rattle.std.specs.Prelude.{
 }
 use Rattle.std.specs.Prelude.{take, drop, codes, Option, MatchOption}
 use Rattle.std.specs.List.{AllByRecursion}
-use Rattle.fv_base.specs.declared.trace.Trace.{Trace}
-use Rattle.fv_base.specs.declared.trace.TraceName.{TraceName}
+use Rattle.fv_text.specs.declared.trace.Trace.{Trace}
+use Rattle.fv_text.specs.declared.trace.TraceName.{TraceName}
 use Rattle.vcd_text.specs.declared.reader.Part.{Part}
 use Rattle.vcd_text.specs.declared.reader.Part.TheVariants.{Scale, Scope, Names, Definitions, Start, Dump, Values}
 use Rattle.vcd_text.specs.declared.reader.Part.TheVariants.{Changes}
 use Rattle.vcd_text.specs.declared.reader.Reader.{Reader}
 use Rattle.vcd_text.specs.Reading.{IsPlain, IsReadable}
-use Rattle.vcd_text.specs.Vcd.{IsWide, AreValues, name_lines, header_lines, value_lines, change_lines, later_lines}
-use Rattle.vcd_text.specs.Vcd.{cycle_lines}
+use Rattle.vcd_dump.specs.Vcd.{IsWide, AreValues, name_lines, header_lines, value_lines, change_lines, later_lines}
+use Rattle.vcd_dump.specs.Vcd.{cycle_lines}
 
 -- the lines from the end of the scope on
 abbrev pub behind_names : List TraceName → List (List ℕ) → List (List ℕ)

@@ -1,5 +1,5 @@
--- Which traces can be read back from their dumps, and where a text first departs from all of these dumps. Rule of this
--- project.
+-- Between functions: Which traces can be read back from their dumps, and where a text first departs from all of these
+-- dumps. Rule of this project.
 use Rattle.std.specs.Prelude.{
   ℕ,
   ◌+◌,
@@ -19,13 +19,13 @@ use Rattle.std.specs.Prelude.{
 }
 use Rattle.std.specs.Prelude.{List, ◌++◌, length, take, slice_get, Option, Some, MatchOption}
 use Rattle.std.specs.List.{AllByRecursion, list_all}
-use Rattle.fv_base.specs.declared.trace.Trace.{Trace}
-use Rattle.fv_base.specs.declared.trace.TraceName.{TraceName}
+use Rattle.fv_text.specs.declared.trace.Trace.{Trace}
+use Rattle.fv_text.specs.declared.trace.TraceName.{TraceName}
 use Rattle.fv_lines.specs.Cuts.{whole_lines}
 use Rattle.vcd_text.specs.declared.fault.VcdFault.{VcdFault}
 use Rattle.vcd_text.specs.declared.fault.VcdFault.TheVariants.{Line, Memory}
-use Rattle.vcd_text.specs.Digits.{code, binary}
-use Rattle.vcd_text.specs.Vcd.{IsTrace, IsWide, name_line, value_line, vcd_lines, vcd_text}
+use Rattle.vcd_dump.specs.Digits.{code, binary}
+use Rattle.vcd_dump.specs.Vcd.{IsTrace, IsWide, name_line, value_line, vcd_lines, vcd_text}
 
 -- neither a blank nor a control byte
 abbrev pub is_plain : ℕ → Bool

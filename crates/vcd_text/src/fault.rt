@@ -1,7 +1,7 @@
 ghost use Rattle.std.specs.Prelude.{◌≡◌};
 ghost use Rattle.vcd_text.specs.declared.fault.VcdFault.TheVariants as fault;
 
-use fv_base::Memory;
+use fv_text::Memory;
 use std::alloc::{AllocError, AllocFailed};
 use thiserror::Error;
 

@@ -1,16 +1,12 @@
-//! Value-change dumps of traces, both ways.
+//! The trace that a value-change dump says, or the first faulty line.
 #![tactic(auto)]
 
-mod digits;
-mod examples;
 mod fault;
 mod name_line;
 mod read;
 mod reader;
 mod shared;
 mod words;
-mod write;
 
 pub use fault::VcdFault;
 pub use read::read_vcd;
-pub use write::vcd;

@@ -2,7 +2,7 @@
 
 ghost use Rattle.std.specs.Prelude.{◌≡◌, ◌↔◌, option_map, IsTrue, MatchOption};
 ghost use Rattle.std.specs.List.{list_all};
-ghost use Rattle.vcd_text.specs.Digits.{code};
+ghost use Rattle.vcd_dump.specs.Digits.{code};
 ghost use Rattle.vcd_text.specs.Reading.{FindsName, IsWidth, IsNoWidth, is_plain};
 
 use crate::words::{index_up_to, number_up_to};

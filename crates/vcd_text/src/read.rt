@@ -3,8 +3,8 @@ ghost use Rattle.vcd_text.specs.Reading.{IsDumpOf, IsFaultOf};
 
 use crate::fault::VcdFault;
 use crate::reader::Reader;
-use fv_base::Trace;
 use fv_lines::cut_at;
+use fv_text::Trace;
 use std::alloc::Global;
 
 /// The trace of a value-change dump as `vcd` writes it, whose names have no blanks and no control bytes. `Line` is the

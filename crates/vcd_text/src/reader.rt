@@ -1,11 +1,11 @@
 ghost use Rattle.std.specs.Prelude.{◌≡◌, ◌↔◌, option_map, IfOk, IsTrue};
 ghost use Rattle.vcd_text.specs.Reading.{FindsName};
-ghost use Rattle.vcd_text.specs.Vcd.{time_line};
+ghost use Rattle.vcd_dump.specs.Vcd.{time_line};
 
 use crate::name_line::name_at;
 use crate::words::value_at;
-use fv_base::{List, Memory, Text, Trace, TraceName};
 use fv_lines::behind;
+use fv_text::{List, Memory, Text, Trace, TraceName};
 use itoa::Buffer;
 use std::alloc::Global;
 
@@ -38,10 +38,10 @@ pub(crate) struct Reader {
 
 impl Reader {
     ghost use Rattle.std.specs.Prelude.{◌+◌, ℕ, List, length, OnOk};
-    ghost use Rattle.fv_base.specs.declared.trace.Trace.{Trace};
+    ghost use Rattle.fv_text.specs.declared.trace.Trace.{Trace};
     ghost use Rattle.vcd_text.specs.Reading.{IsReadable};
     ghost use Rattle.vcd_text.specs.Reached.{IsSound, Awaits, Takes, TakesFixed, IsClosed, Finishes};
-    ghost use Rattle.vcd_text.specs.Vcd.{vcd_lines};
+    ghost use Rattle.vcd_dump.specs.Vcd.{vcd_lines};
 
     pub(crate) fn new(alloc: Global) -> Reader
         ensures sound { IsSound result }

@@ -2,12 +2,12 @@
 
 ghost use Rattle.std.specs.Prelude.{◌≡◌, ◌+◌, ◌^◌, ◌<◌, ◌≤◌, ℕ, not, ◌==◌, MatchOption};
 ghost use Rattle.std.specs.List.{AllByRecursion};
-ghost use Rattle.vcd_text.specs.Digits.{Writes, WritesNone, Codes, CodesNone};
+ghost use Rattle.vcd_dump.specs.Digits.{Writes, WritesNone, Codes, CodesNone};
 ghost use Rattle.vcd_text.specs.Reading.{FindsParts, FindsValue, IsValueFor, IsNoValueFor};
-ghost use Rattle.vcd_text.specs.Vcd.{IsWide};
+ghost use Rattle.vcd_dump.specs.Vcd.{IsWide};
 
-use fv_base::TraceName;
 use fv_lines::cut_at;
+use fv_text::TraceName;
 
 /// The number that these digits write in the base, without leading zeros, if it is at most `most`. Each level of the
 /// recursion divides `most` by the base.

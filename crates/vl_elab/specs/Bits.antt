@@ -1,4 +1,5 @@
--- Bits of variables off masks, one for each cell, with the bits that combinational blocks assign. Rule of this project.
+-- Between functions: Bits of variables off masks, one for each cell, with the bits that combinational blocks assign.
+-- Rule of this project.
 use Rattle.std.specs.Prelude.{ℕ, zero, suc, ◌+◌, List, [], ◌∷◌, length, take, drop, if◌then◌else◌}
 use Rattle.fv_bit_sets.specs.Cells.{is_set}
 use Rattle.vl_size.specs.declared.decl.Class.{Class}

@@ -1,4 +1,4 @@
--- Why modules have no design without hierarchy. Rule of this project.
+-- Between functions: Why modules have no design without hierarchy. Rule of this project.
 use Rattle.std.specs.Prelude.{◌≡◌, ℕ, List, Some}
 use Rattle.vl_tree.specs.declared.source.Module.{Module}
 use Rattle.vl_elab_spec.specs.Refused.{refusal}

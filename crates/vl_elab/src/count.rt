@@ -8,7 +8,7 @@ ghost use Rattle.vl_elab_spec.specs.Refused as refused;
 ghost use Rattle.vl_size.specs.Table.{IsShaped};
 ghost use Rattle.vl_elab.specs.Bits as spec;
 
-use fv_base::Memory;
+use fv_text::Memory;
 use std::alloc::Global;
 use vl_flow_cells::{Numbering, cell_count};
 use vl_flow_effects::driven_masks;

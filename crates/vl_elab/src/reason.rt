@@ -2,7 +2,7 @@
 ghost use Rattle.std.specs.Prelude.{◌≡◌};
 ghost use Rattle.vl_elab_spec.specs.Refused.{rank};
 
-use fv_base::Memory;
+use fv_text::Memory;
 use vl_elab_spec::ElabFault;
 
 /// Why modules have no design without hierarchy: they are refused, or no memory is left to write it.

@@ -11,7 +11,7 @@ ghost use Rattle.vl_elab.specs.Reasons.{IsReason};
 
 use crate::count::state_bits;
 use crate::reason::Reason;
-use fv_base::Text;
+use fv_text::Text;
 use std::alloc::Global;
 use vl_elab_check::judge;
 use vl_elab_flatten::whole_design::unfolded;

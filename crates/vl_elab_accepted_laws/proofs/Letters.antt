@@ -7,7 +7,7 @@ use Rattle.std.specs.List.{list_all}
 use Rattle.std.proofs.Common.{ap, sym, ◌∙◌, true≢false, arith, mod-lt}
 use Rattle.std.proofs.lemmas.Bool.Decides.{nat_tests}
 use lib.Signed.{mag}
-use Rattle.fv_base.specs.Name.{begins_word, continues_word, is_name, is_word}
+use Rattle.fv_text.specs.Name.{begins_word, continues_word, is_name, is_word}
 use Rattle.fv_bits.specs.Bits.{as_int, is_negative, to_int}
 use Rattle.vl_tree.specs.ExprWellFormed.{IsName}
 use Rattle.vl_tree.specs.StmtWellFormed.{IsOptionalName}

@@ -11,7 +11,7 @@ use Rattle.vl_tree.specs.declared.part.Connection.{Connection}
 use Rattle.vl_tree.specs.declared.part.Instance.{Instance}
 use Rattle.vl_tree.specs.declared.part.LoopHead.{LoopHead}
 use Rattle.vl_tree.specs.declared.source.Module.{Module}
-use Rattle.fv_base.specs.declared.pos.Pos.{Pos}
+use Rattle.fv_text.specs.declared.pos.Pos.{Pos}
 use Rattle.vl_tree.specs.DeclarationWellFormed.{IsOptionalRange, IsPort, IsPortKind}
 use Rattle.vl_tree.specs.ExprWellFormed.{IsName}
 use Rattle.vl_tree.specs.StmtWellFormed.{IsOptionalName}

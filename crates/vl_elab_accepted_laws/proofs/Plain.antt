@@ -4,7 +4,7 @@ use Rattle.std.specs.Prelude.{◌||◌, not, All}
 use Rattle.std.specs.List.{list_all}
 use Rattle.std.proofs.Common.{ap, sym, ◌∙◌, true≢false, arith}
 use Rattle.std.proofs.lemmas.Bool.Decides.{nat_tests}
-use Rattle.fv_base.specs.Name.{is_name, is_word, begins_word, continues_word}
+use Rattle.fv_text.specs.Name.{is_name, is_word, begins_word, continues_word}
 use Rattle.vl_tree.specs.declared.declaration.DeclaredName.{DeclaredName}
 use Rattle.vl_tree.specs.DeclarationWellFormed.{IsDeclaredName}
 use Rattle.vl_tree.specs.ExprWellFormed.{IsName}

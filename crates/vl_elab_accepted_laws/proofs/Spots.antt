@@ -4,7 +4,7 @@ use Rattle.std.specs.Prelude.{false}
 use Rattle.std.specs.Prelude.{◌||◌, not, Option, Some, None, ℤ, pos, negsuc, nat_abs, is_none}
 use Rattle.std.specs.Prelude.{if◌then◌else◌}
 use Rattle.std.proofs.Common.{ap, sym, ◌∙◌, subst, arith}
-use Rattle.fv_base.specs.declared.pos.Pos.{Pos}
+use Rattle.fv_text.specs.declared.pos.Pos.{Pos}
 use Rattle.vl_tree.specs.Expr.{Expr, Selects, whole, bit, part, indexed}
 use Rattle.vl_tree.specs.ExprWellFormed as expr
 use Rattle.vl_tree.specs.ExprWellFormed.{AreSelects}

@@ -1,4 +1,4 @@
--- What is asked of the ports of a module that an instance is joined to. Rule of this project.
+-- Between functions: What is asked of the ports of a module that an instance is joined to. Rule of this project.
 use Rattle.std.specs.Prelude.{◌≡◌, ℕ, List, Some}
 use Rattle.vl_tree.specs.declared.declaration.FullPort.{FullPort}
 use Rattle.vl_tree.specs.declared.source.Module.{Module}

@@ -1,4 +1,4 @@
--- When names mean in a judged design what they stand for in its scopes. Rule of this project.
+-- Between functions: When names mean in a judged design what they stand for in its scopes. Rule of this project.
 use Rattle.std.specs.Prelude.{◌≡◌, ℕ, List, Some, None}
 use Rattle.vl_size.specs.Table.{IsShaped, declared_as}
 use Rattle.vl_mean.specs.Scopes.{Scope, constant_in, visible}

@@ -1,4 +1,4 @@
--- When names mean in a step what they stand for in its scopes. Rule of this project.
+-- Between functions: When names mean in a step what they stand for in its scopes. Rule of this project.
 use Rattle.std.specs.Prelude.{List}
 use Rattle.vl_mean.specs.Scopes.{Scope}
 use Rattle.vl_mean.specs.Walk.{Step, header, port, item, override, connection}

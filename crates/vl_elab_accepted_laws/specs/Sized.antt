@@ -1,4 +1,4 @@
--- What is known of an expression that isn't refused. Rule of this project.
+-- Between functions: What is known of an expression that isn't refused. Rule of this project.
 use Rattle.std.specs.Prelude.{◌≡◌, ℕ, ◌≤◌, List, Bool, true, false, Some}
 use Rattle.vl_tree.specs.Expr.{Expr}
 use Rattle.vl_size.specs.Size.{size, is_constant}

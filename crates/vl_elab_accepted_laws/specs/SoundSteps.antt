@@ -1,4 +1,4 @@
--- What is known of the steps of a design in which nothing is refused. Rule of this project.
+-- Between functions: What is known of the steps of a design in which nothing is refused. Rule of this project.
 use Rattle.std.specs.Prelude.{◌≡◌, if◌then◌else◌}
 use Rattle.vl_tree.specs.ExprWellFormed.{IsName, IsValue}
 use Rattle.vl_tree.specs.WellFormed.{IsWellFormed}

@@ -1,5 +1,5 @@
--- Modules of which nothing is refused but, perhaps, that they have too many bits of registers, which are judged last.
--- Rule of this project.
+-- Between functions: Modules of which nothing is refused but, perhaps, that they have too many bits of registers,
+-- which are judged last. Rule of this project.
 use Rattle.std.specs.Prelude.{◌≡◌, ℕ, List, None}
 use Rattle.vl_tree.specs.declared.source.Module.{Module}
 use Rattle.vl_mean.specs.Walk.{walk}

@@ -1,6 +1,6 @@
 //! That the parts of items, ports and connections which aren't refused are known.
 ghost use Rattle.std.specs.Prelude.{◌≡◌, ℕ, List, []};
-ghost use Rattle.fv_base.specs.declared.pos.Pos.{Pos};
+ghost use Rattle.fv_text.specs.declared.pos.Pos.{Pos};
 ghost use Rattle.vl_tree.specs.declared.declaration.FullPort.{FullPort};
 ghost use Rattle.vl_tree.specs.declared.source.Module.{Module};
 ghost use Rattle.vl_tree.specs.ExprWellFormed.{IsName, IsValue};

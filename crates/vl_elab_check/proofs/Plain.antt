@@ -4,8 +4,8 @@ use Rattle.std.specs.Prelude.{Option, Some, None, is_none, option_to_list}
 use Rattle.std.specs.List.{list_all}
 use Rattle.std.proofs.Common.{ap, sym, ◌∙◌, arith, true≢false}
 use Rattle.std.proofs.lemmas.Bool.Decides.{nat_tests}
-use Rattle.fv_base.specs.Keyword.{keyword_of}
-use Rattle.fv_base.specs.Name.{is_name, is_word, begins_word, continues_word}
+use Rattle.fv_text.specs.Keyword.{keyword_of}
+use Rattle.fv_text.specs.Name.{is_name, is_word, begins_word, continues_word}
 use Rattle.vl_tree.specs.declared.declaration.FullPort.{FullPort}
 use Rattle.vl_tree.specs.declared.declaration.Port.{Port}
 use Rattle.vl_tree.specs.declared.declaration.PortKind.{PortKind}

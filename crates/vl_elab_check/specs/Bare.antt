@@ -1,5 +1,5 @@
--- Instances of which no steps come but their own. IEEE 1364-2005, section 12.1; that such a module isn't entered is a
--- rule of this project.
+-- Between functions: Instances of which no steps come but their own. IEEE 1364-2005, section 12.1; that such a module
+-- isn't entered is a rule of this project.
 use Rattle.std.specs.Prelude.{Bool, ◌&&◌, ◌==◌, length}
 use Rattle.vl_tree.specs.declared.part.Instance.{Instance}
 use Rattle.vl_tree.specs.declared.source.Module.{Module}

@@ -1,4 +1,4 @@
--- What is known where a step of the walk stands. Rule of this project.
+-- Between functions: What is known where a step of the walk stands. Rule of this project.
 use Rattle.std.specs.Prelude.{ℕ, List, [], map, drop}
 use Rattle.vl_tree.specs.Item.{Item, declaration, integer, genvar, parameter}
 use Rattle.vl_mean.specs.Walk.{Place}

@@ -1,5 +1,5 @@
--- Why modules are no design, but for the bits of its registers, which are judged last. The order is a rule of this
--- project.
+-- Between functions: Why modules are no design, but for the bits of its registers, which are judged last. The order is
+-- a rule of this project.
 use Rattle.std.specs.Prelude.{ℕ, List, [], true, Option, Some, is_none, if◌then◌else◌}
 use Rattle.vl_tree.specs.declared.source.Module.{Module}
 use Rattle.vl_mean.specs.Walk.{Step, Use, module_named, module_place, top_input, unfolded, walk}

@@ -1,4 +1,5 @@
--- Kinds of items: what the functions that tell them apart promise one another. Rule of this project.
+-- Between functions: Kinds of items: what the functions that tell them apart promise one another. Rule of this
+-- project.
 use Rattle.std.specs.Prelude.{ℕ, List, Bool, true, false, Option, Some, None}
 use Rattle.vl_tree.specs.Item.{Item, declaration, integer, genvar, instance, for_loop, if_only, if_else}
 

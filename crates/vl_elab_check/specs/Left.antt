@@ -1,4 +1,4 @@
--- Steps of which some were walked. Rule of this project.
+-- Between functions: Steps of which some were walked. Rule of this project.
 use Rattle.std.specs.Prelude.{◌≡◌, List}
 use Rattle.vl_tree.specs.declared.source.Module.{Module}
 use Rattle.vl_mean.specs.Walk.{Step}

@@ -1,4 +1,5 @@
--- Where the judging walk stands: what the functions that go through a design promise one another. Rule of this project.
+-- Between functions: Where the judging walk stands: what the functions that go through a design promise one another.
+-- Rule of this project.
 use Rattle.std.specs.Prelude.{◌≡◌, ◌∷◌, ℕ, List, All, drop}
 use Rattle.vl_tree.specs.declared.source.Module.{Module}
 use Rattle.vl_tree.specs.WellFormed.{IsModule}

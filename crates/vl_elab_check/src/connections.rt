@@ -18,7 +18,7 @@ ghost use Rattle.vl_elab_spec.specs.Walked.{AreTotals, AreWalked};
 
 use crate::passed::add_name;
 use crate::step::weighed;
-use fv_base::Memory;
+use fv_text::Memory;
 use std::alloc::Global;
 use vl_elab_check_instance::{
     ParameterTable, PortTable, connection_step_fault, override_step_fault,

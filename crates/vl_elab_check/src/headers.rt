@@ -14,7 +14,7 @@ ghost use Rattle.vl_elab_check_scope.specs.Gives.{Gives};
 ghost use Rattle.vl_elab_spec.specs.Walked.{AreTotals, AreWalked};
 
 use crate::step::weighed;
-use fv_base::Memory;
+use fv_text::Memory;
 use std::alloc::Global;
 use vl_elab_check_scope::header_fault;
 use vl_elab_const::Given;

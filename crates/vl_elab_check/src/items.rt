@@ -15,7 +15,7 @@ ghost use Rattle.vl_elab_check.specs.Here.{IsAt, own_parameters};
 
 use crate::passed::pass_declared;
 use crate::step::weighed;
-use fv_base::Memory;
+use fv_text::Memory;
 use std::alloc::Global;
 use vl_elab_check_instance::instance_fault;
 use vl_elab_check_scope::{

@@ -11,7 +11,7 @@ ghost use Rattle.vl_elab_check_scope.specs.Parts.{with_name};
 ghost use Rattle.vl_elab_check.specs.Here.{own_names};
 ghost use Rattle.vl_elab_check.specs.Kinds as spec;
 
-use fv_base::{Memory, Text};
+use fv_text::{Memory, Text};
 use std::alloc::Global;
 use vl_elab_check_scope::add_labels;
 use vl_elab_names::NameSet;

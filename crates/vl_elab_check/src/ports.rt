@@ -18,7 +18,7 @@ ghost use Rattle.vl_elab_check.specs.Ports as spec;
 
 use crate::passed::add_name;
 use crate::step::weighed;
-use fv_base::{Memory, Pos, Text};
+use fv_text::{Memory, Pos, Text};
 use std::alloc::Global;
 use vl_elab_check_scope::port_step_fault;
 use vl_elab_count::{Added, optional_nodes, range_nodes};

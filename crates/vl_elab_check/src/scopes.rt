@@ -9,7 +9,7 @@ ghost use Rattle.vl_elab_decls.specs.Inputs.{AreInputs};
 ghost use Rattle.vl_elab_check.specs.Judged.{top_use};
 ghost use Rattle.vl_elab_check.specs.Standing.{HasScope, IsHere, IsWithin};
 
-use fv_base::{List, Memory};
+use fv_text::{List, Memory};
 use std::alloc::Global;
 use vl_elab_check_instance::joined_inputs;
 use vl_elab_const::{Given, given_by};

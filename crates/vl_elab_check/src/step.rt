@@ -9,7 +9,7 @@ ghost use Rattle.vl_elab_spec.specs.Refused as refused;
 ghost use Rattle.vl_elab_spec.specs.Refused.{lowest};
 ghost use Rattle.vl_elab_spec.specs.Walked.{AreTotals, AreWalked};
 
-use fv_base::Pos;
+use fv_text::Pos;
 use vl_elab_check_expr::first_of;
 use vl_elab_count::Added;
 use vl_elab_spec::{ElabFault, Totals};

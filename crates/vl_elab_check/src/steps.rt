@@ -18,7 +18,7 @@ use crate::items::walk_item;
 use crate::passed::pass_item;
 use crate::ports::walk_ports;
 use crate::scopes::{Here, Used, connections_of, header_of, ports_of};
-use fv_base::Memory;
+use fv_text::Memory;
 use std::alloc::Global;
 use vl_elab_decls::Inside;
 use vl_elab_names::{ModulePath, ModuleTable};

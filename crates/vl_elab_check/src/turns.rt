@@ -8,7 +8,7 @@ ghost use Rattle.vl_elab_const.specs.Numbers.{HaveNumbers};
 ghost use Rattle.vl_elab_check_item.specs.TurnParts.{in_turn};
 ghost use Rattle.vl_elab_check.specs.Standing.{IsWithin};
 
-use fv_base::Memory;
+use fv_text::Memory;
 use std::alloc::Global;
 use vl_elab_check_item::enter_turn;
 use vl_elab_const::{genvar_value, is_true_in};

@@ -2,7 +2,7 @@
 
 ghost use Rattle.std.specs.Prelude.{◌≡◌, ◌∷◌, ◌++◌, [], ℕ, List, false, IfOk, OnOk};
 ghost use Rattle.vl_tree.specs.Item as tree;
-ghost use Rattle.fv_base.specs.declared.pos.Pos.{Pos as SpecPos};
+ghost use Rattle.fv_text.specs.declared.pos.Pos.{Pos as SpecPos};
 ghost use Rattle.vl_tree.specs.declared.item.ItemKind.TheVariants as kind;
 ghost use Rattle.vl_tree.specs.Attributes.{Attributes};
 ghost use Rattle.vl_tree.specs.ItemView.{block as block_of, shown};
@@ -25,7 +25,7 @@ use crate::scopes::{Here, enter_instance, enter_scope, leave};
 use crate::steps::{open, own_step, pass};
 use crate::turns;
 use crate::turns::{first_value, next_value};
-use fv_base::Memory;
+use fv_text::Memory;
 use std::alloc::Global;
 use vl_elab_const::is_true_in;
 use vl_elab_decls::Inside;

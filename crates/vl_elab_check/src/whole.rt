@@ -10,7 +10,7 @@ ghost use Rattle.vl_elab_check.specs.Judged as spec;
 use crate::scopes::enter_top;
 use crate::steps::head;
 use crate::walk::walk_items;
-use fv_base::{Memory, Text};
+use fv_text::{Memory, Text};
 use std::alloc::Global;
 use vl_elab_names::{ModulePath, ModuleTable, modules_twice};
 use vl_elab_spec::{ElabFault, Totals};

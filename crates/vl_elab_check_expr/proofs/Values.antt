@@ -4,7 +4,7 @@ use Rattle.std.specs.Prelude.{false, ◌&&◌, not, is_some}
 use Rattle.std.specs.Prelude.{◌-◌, is_none, get_or, take, drop, Option, Some, None, IfSome, ℤ, pos}
 use Rattle.std.specs.Prelude.{int_le, if◌then◌else◌}
 use Rattle.std.proofs.Common.{ap, sym, ◌∙◌, arith}
-use Rattle.fv_base.specs.declared.pos.Pos.{Pos}
+use Rattle.fv_text.specs.declared.pos.Pos.{Pos}
 use Rattle.fv_bits.specs.Bits.{as_int}
 use Rattle.vl_tree.specs.declared.expr.Select.{Select}
 use Rattle.vl_tree.specs.declared.expr.Select.TheVariants as s

@@ -1,5 +1,5 @@
--- Which refusal of an expression is answered, part by part: what the functions that go through it promise one another.
--- Rule of this project.
+-- Between functions: Which refusal of an expression is answered, part by part: what the functions that go through it
+-- promise one another. Rule of this project.
 use Rattle.std.specs.Prelude.{ℕ, List, ◌++◌, Bool, true, ◌||◌, not, Option, None}
 use Rattle.vl_tree.specs.declared.expr.Select.{Select}
 use Rattle.vl_tree.specs.declared.expr.Select.TheVariants as s

@@ -5,7 +5,7 @@ ghost use Rattle.vl_elab_spec.specs.Refused.{lowest};
 
 use crate::fault::{divided_by_zero, first_of};
 use crate::judge::judge;
-use fv_base::Memory;
+use fv_text::Memory;
 use std::alloc::Global;
 use vl_elab_scope::{Names, own_zero_divisor_of, zero_divisor_of};
 use vl_elab_spec::ElabFault;

@@ -4,7 +4,7 @@ ghost use Rattle.vl_elab_spec.specs.declared.elab_fault.ElabFault.TheVariants as
 ghost use Rattle.vl_elab_spec.specs.Expressions as expressions;
 ghost use Rattle.vl_elab_spec.specs.Refused as spec;
 
-use fv_base::{Memory, Pos, Text};
+use fv_text::{Memory, Pos, Text};
 use std::alloc::Global;
 use vl_elab_spec::ElabFault;
 use vl_size::earlier::is_earlier;

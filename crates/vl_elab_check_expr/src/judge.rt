@@ -13,7 +13,7 @@ ghost use Rattle.vl_elab_scope.specs.Seen.{seen};
 use crate::fault::{first_of, range_if, too_wide};
 use crate::selects::{lacks_copies, read_fault};
 use crate::width::{binary_width, copies_width, larger, name_width, plus, some_bits, unary_width};
-use fv_base::{Memory, Pos, Text};
+use fv_text::{Memory, Pos, Text};
 use std::alloc::Global;
 use vl_elab_scope::{Meaning, Names};
 use vl_elab_spec::ElabFault;

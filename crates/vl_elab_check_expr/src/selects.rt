@@ -14,7 +14,7 @@ ghost use Rattle.vl_elab_scope.specs.Seen.{seen};
 use crate::bounds::{goes_along, is_some_copies};
 use crate::fault::{clock_if, first_of, not_constant_if, range_if};
 use crate::width::vector_of;
-use fv_base::{Memory, Pos, Text};
+use fv_text::{Memory, Pos, Text};
 use std::alloc::Global;
 use vl_elab_scope::{Meaning, Names, Object, value_of};
 use vl_elab_spec::ElabFault;

@@ -12,7 +12,7 @@ ghost use Rattle.vl_elab_check_expr.specs.Judged.{copied, of_one, of_two};
 ghost use Rattle.vl_elab_scope.specs.Seen.{seen};
 
 use crate::bounds::span_of;
-use fv_base::{Memory, Text};
+use fv_text::{Memory, Text};
 use std::alloc::Global;
 use vl_elab_scope::{Meaning, Names, Object, value_of};
 use vl_mean::Const;

@@ -1,7 +1,7 @@
 -- Why an instance is refused by itself.
 use Rattle.std.specs.Prelude.{◌≡◌, refl, ℕ, List, Bool, true, false, ◌||◌, not, None}
 use Rattle.std.proofs.Common.{ap, sym, ◌∙◌}
-use Rattle.fv_base.specs.declared.pos.Pos.{Pos}
+use Rattle.fv_text.specs.declared.pos.Pos.{Pos}
 use Rattle.vl_tree.specs.declared.part.Instance.{Instance}
 use Rattle.vl_elab_spec.specs.Refused.{lowest}
 use Rattle.vl_elab_check_instance.specs.Instances.{refused_by}

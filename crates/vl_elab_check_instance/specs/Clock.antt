@@ -1,6 +1,6 @@
--- Whether an expression is the clock by its plain name, over a test of the names that a module calls so and the numbers
--- of constants: what the functions that ask for it promise one another. That the clock is joined by its name alone is
--- a rule of this project.
+-- Between functions: Whether an expression is the clock by its plain name, over a test of the names that a module
+-- calls so and the numbers of constants: what the functions that ask for it promise one another. That the clock is
+-- joined by its name alone is a rule of this project.
 use Rattle.std.specs.Prelude.{ℕ, List, [], ◌∷◌, Bool, false, ◌&&◌, ◌||◌, not, bytes_eq, Option, Some, None}
 use Rattle.vl_tree.specs.declared.part.Connection.{Connection}
 use Rattle.vl_tree.specs.Expr.{Expr, Selects, name, whole}

@@ -1,5 +1,5 @@
--- What is joined to a port, by the port's direction and name: what the functions that judge it promise one another.
--- Rule of this project.
+-- Between functions: What is joined to a port, by the port's direction and name: what the functions that judge it
+-- promise one another. Rule of this project.
 use Rattle.std.specs.Prelude.{ℕ, List, [], ◌++◌, Bool, false, Option, Some, None}
 use Rattle.vl_tree.specs.declared.declaration.Direction.{Direction}
 use Rattle.vl_tree.specs.declared.declaration.FullPort.{FullPort}

@@ -1,5 +1,5 @@
--- The parameters of a module that may be given a value, by name. IEEE 1364-2005, section 12.2; that the first one of a
--- name counts is a rule of this project.
+-- Between functions: The parameters of a module that may be given a value, by name. IEEE 1364-2005, section 12.2; that
+-- the first one of a name counts is a rule of this project.
 use Rattle.std.specs.Prelude.{◌≡◌, ℕ, List, [], ◌++◌, Option, Some, None, bytes_eq, slice_get}
 use Rattle.std.specs.Map.{lookup}
 use Rattle.vl_tree.specs.declared.declaration.HeaderParameter.{HeaderParameter}

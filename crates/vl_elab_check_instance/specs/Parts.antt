@@ -1,5 +1,5 @@
--- Where an expression that has to be constant isn't, part by part: what the functions that go through it promise one
--- another. Rule of this project.
+-- Between functions: Where an expression that has to be constant isn't, part by part: what the functions that go
+-- through it promise one another. Rule of this project.
 use Rattle.std.specs.Prelude.{List, Bool, true, false, ◌||◌}
 use Rattle.vl_tree.specs.declared.expr.Select.{Select}
 use Rattle.vl_tree.specs.declared.expr.Select.TheVariants as s

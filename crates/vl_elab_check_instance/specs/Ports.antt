@@ -1,5 +1,5 @@
--- The directions of a module's ports, by name. IEEE 1364-2005, section 12.3; that the first one of a name counts is a
--- rule of this project.
+-- Between functions: The directions of a module's ports, by name. IEEE 1364-2005, section 12.3; that the first one of
+-- a name counts is a rule of this project.
 use Rattle.std.specs.Prelude.{◌≡◌, ℕ, List, [], ◌∷◌, Option, Some, None, bytes_eq, if◌then◌else◌}
 use Rattle.std.specs.Map.{lookup}
 use Rattle.vl_tree.specs.declared.declaration.Direction.{Direction}

@@ -5,7 +5,7 @@ ghost use Rattle.vl_elab_spec.specs.Meanings.{is_undeclared, meaning_in};
 ghost use Rattle.vl_elab_names.specs.Known.{contains};
 ghost use Rattle.vl_elab_check_instance.specs.Clock as spec;
 
-use fv_base::Text;
+use fv_text::Text;
 use vl_elab_names::NameSet;
 use vl_elab_scope::Names;
 use vl_tree::{Expr, ExprKind, Select};

@@ -13,7 +13,7 @@ ghost use Rattle.vl_elab_spec.specs.Statements.{target_refusals};
 ghost use Rattle.vl_elab_scope.specs.Seen.{seen};
 
 use crate::varying::is_net_target;
-use fv_base::{Memory, Pos, Text};
+use fv_text::{Memory, Pos, Text};
 use std::alloc::Global;
 use vl_elab_check_expr::{expr_fault, expr_fault_in, first_of, twice_if};
 use vl_elab_check_stmt::{assigned_in, target_fault, target_of};

@@ -15,7 +15,7 @@ ghost use Rattle.vl_elab_check_instance.specs.Ports.{AreDirectionsOf};
 use crate::clock::is_clock;
 use crate::connection::connection_fault;
 use crate::ports::PortTable;
-use fv_base::{List, Memory, Text};
+use fv_text::{List, Memory, Text};
 use std::alloc::Global;
 use vl_elab_names::NameSet;
 use vl_elab_scope::Names;

@@ -10,7 +10,7 @@ ghost use Rattle.vl_elab_decls.specs.Stands.{Stands};
 ghost use Rattle.vl_elab_check_instance.specs.Clock as spec;
 
 use crate::clock::is_clock;
-use fv_base::{Memory, Text};
+use fv_text::{Memory, Text};
 use std::alloc::Global;
 use vl_elab_decls::Inputs;
 use vl_elab_names::NameSet;

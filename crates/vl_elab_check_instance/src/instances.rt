@@ -9,7 +9,7 @@ ghost use Rattle.vl_elab_names.specs.Known.{AreNames};
 ghost use Rattle.vl_elab_names.specs.Table.{AreModules};
 ghost use Rattle.vl_elab_check_instance.specs.Instances as spec;
 
-use fv_base::{Memory, Pos, Text};
+use fv_text::{Memory, Pos, Text};
 use std::alloc::Global;
 use vl_elab_check_expr::{first_of, twice_if};
 use vl_elab_names::{ModulePath, ModuleTable, NameSet};

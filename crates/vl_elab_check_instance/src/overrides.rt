@@ -9,7 +9,7 @@ ghost use Rattle.vl_elab_names.specs.Known.{AreNames};
 ghost use Rattle.vl_elab_check_instance.specs.Parameters.{AreParametersOf};
 
 use crate::parameters::ParameterTable;
-use fv_base::Memory;
+use fv_text::Memory;
 use std::alloc::Global;
 use vl_elab_check_item::override_fault;
 use vl_elab_names::NameSet;

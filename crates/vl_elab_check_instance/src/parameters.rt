@@ -11,7 +11,7 @@ ghost use Rattle.vl_elab_spec.specs.Items.{given_parameter, items_parameters, pa
 ghost use Rattle.vl_elab_check_instance.specs.declared.parameters.Spot.TheVariants as s;
 ghost use Rattle.vl_elab_check_instance.specs.Parameters as spec;
 
-use fv_base::{List, Memory, Text};
+use fv_text::{List, Memory, Text};
 use indexmap::IndexMap;
 use std::alloc::Global;
 use vl_tree::{HeaderParameter, Item, ItemKind, Module, Parameter, ParameterKind};

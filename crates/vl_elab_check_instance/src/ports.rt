@@ -5,7 +5,7 @@ ghost use Rattle.vl_elab_scope.specs.Texts.{or_else};
 ghost use Rattle.vl_elab_decls.specs.Clocks.{next_direction, port_text};
 ghost use Rattle.vl_elab_check_instance.specs.Ports as spec;
 
-use fv_base::{List, Memory, Text};
+use fv_text::{List, Memory, Text};
 use indexmap::IndexMap;
 use std::alloc::Global;
 use vl_tree::{Direction, Module, Port, PortKind};

@@ -9,7 +9,7 @@ ghost use Rattle.vl_elab_spec.specs.Meanings as meanings;
 ghost use Rattle.vl_elab_check_instance.specs.Parts as spec;
 ghost use Rattle.vl_elab_scope.specs.Seen.{seen};
 
-use fv_base::Text;
+use fv_text::Text;
 use vl_elab_check_expr::{either, is_constant};
 use vl_elab_scope::{Meaning, Names};
 use vl_size::Class;

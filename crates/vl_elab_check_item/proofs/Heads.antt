@@ -2,7 +2,7 @@
 use Rattle.std.specs.Prelude.{◌≡◌, refl, ℕ, zero, suc, ◌+◌, ◌-◌, ◌<◌, List, [], ◌∷◌, ◌++◌, Bool, true, false}
 use Rattle.std.specs.Prelude.{Option, Some, None, if◌then◌else◌, bytes_eq}
 use Rattle.std.proofs.Common.{ap, sym, ◌∙◌, arith, true≢false}
-use Rattle.fv_base.specs.declared.pos.Pos.{Pos}
+use Rattle.fv_text.specs.declared.pos.Pos.{Pos}
 use Rattle.vl_tree.specs.declared.part.LoopHead.{LoopHead}
 use Rattle.vl_size.specs.Size.{is_true}
 use Rattle.vl_mean.specs.declared.const_number.Const.{Const}

@@ -1,8 +1,8 @@
--- What the functions that judge the parts of items promise one another: the refusals of a parameter and of a port,
--- over what names mean at it and what stands before it. Rule of this project.
+-- Between functions: What the functions that judge the parts of items promise one another: the refusals of a parameter
+-- and of a port, over what names mean at it and what stands before it. Rule of this project.
 use Rattle.std.specs.Prelude.{ℕ, List, [], ◌∷◌, ◌++◌, Bool, true, false, Option, Some, None}
 use Rattle.std.specs.Prelude.{if◌then◌else◌, is_none}
-use Rattle.fv_base.specs.declared.pos.Pos.{Pos}
+use Rattle.fv_text.specs.declared.pos.Pos.{Pos}
 use Rattle.vl_tree.specs.declared.declaration.DeclaredName.{DeclaredName}
 use Rattle.vl_tree.specs.declared.declaration.FullPort.{FullPort}
 use Rattle.vl_tree.specs.declared.declaration.NetKind.{NetKind}

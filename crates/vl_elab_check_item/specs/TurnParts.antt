@@ -1,7 +1,8 @@
--- Turns of a generate loop, over what names mean and the numbers that constants have: what the functions that go
--- through them promise one another. IEEE 1364-2005, section 12.4.1; the limit is a rule of this project.
+-- Between functions: Turns of a generate loop, over what names mean and the numbers that constants have: what the
+-- functions that go through them promise one another. IEEE 1364-2005, section 12.4.1; the limit is a rule of this
+-- project.
 use Rattle.std.specs.Prelude.{ℕ, zero, suc, List, [], ◌∷◌, ◌++◌, true, Option, Some, None, if◌then◌else◌}
-use Rattle.fv_base.specs.declared.pos.Pos.{Pos}
+use Rattle.fv_text.specs.declared.pos.Pos.{Pos}
 use Rattle.vl_tree.specs.declared.part.LoopHead.{LoopHead}
 use Rattle.vl_mean.specs.declared.const_number.Const.{Const}
 use Rattle.vl_elab_spec.specs.declared.elab_fault.ElabFault.{ElabFault}

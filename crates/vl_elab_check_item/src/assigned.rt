@@ -6,7 +6,7 @@ ghost use Rattle.vl_elab_spec.specs.Refused.{lowest};
 ghost use Rattle.vl_elab_check_item.specs.ItemParts as spec;
 ghost use Rattle.vl_elab_scope.specs.Seen.{seen};
 
-use fv_base::{Memory, Pos, Text};
+use fv_text::{Memory, Pos, Text};
 use std::alloc::Global;
 use vl_elab_check_expr::{clock_if, expr_fault_in, first_of, is_clock};
 use vl_elab_check_stmt::{Assigning, assigned_in, assignment_fault};

@@ -6,7 +6,7 @@ ghost use Rattle.vl_elab_spec.specs.Refused.{lowest};
 ghost use Rattle.vl_elab_check_item.specs.ItemParts as spec;
 
 use crate::ranges::{range_fault, width_fault};
-use fv_base::{Memory, Pos, Text};
+use fv_text::{Memory, Pos, Text};
 use std::alloc::Global;
 use vl_elab_check_expr::{first_of, own_fault, range_if, twice_if};
 use vl_elab_check_stmt::{Assigning, declared_value_fault};

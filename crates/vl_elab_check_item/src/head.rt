@@ -15,7 +15,7 @@ ghost use Rattle.vl_elab_check_item.specs.TurnParts as spec;
 ghost use Rattle.vl_elab_check_item.specs.declared.head.Variable.TheVariants as v;
 
 use crate::assigned::genvar_fault;
-use fv_base::{Memory, Pos, Text};
+use fv_text::{Memory, Pos, Text};
 use std::alloc::Global;
 use vl_elab_check_expr::{expr_fault, first_of, own_fault};
 use vl_elab_const::{genvar_value, is_true_in};

@@ -7,7 +7,7 @@ ghost use Rattle.vl_elab_spec.specs.Refused.{lowest};
 ghost use Rattle.vl_elab_check_item.specs.ItemParts as spec;
 
 use crate::ranges::{known_width, range_fault, width_fault};
-use fv_base::Memory;
+use fv_text::Memory;
 use std::alloc::Global;
 use vl_elab_check_expr::{expr_fault, expr_fault_in, first_of, parameter_if, twice_if};
 use vl_elab_check_stmt::assigned_in;

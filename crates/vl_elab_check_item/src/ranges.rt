@@ -7,7 +7,7 @@ ghost use Rattle.vl_elab_spec.specs.Items as items;
 ghost use Rattle.vl_elab_spec.specs.Refused.{lowest};
 ghost use Rattle.vl_elab_check_item.specs.ItemParts as spec;
 
-use fv_base::{Memory, Pos};
+use fv_text::{Memory, Pos};
 use std::alloc::Global;
 use vl_elab_check_expr::{far_fault, first_of, own_fault, too_wide};
 use vl_elab_scope::{Names, value_of};

@@ -1,7 +1,7 @@
 -- The parts of a step are refused alike over names that mean the same.
 use Rattle.std.specs.Prelude.{◌≡◌, List, ◌++◌, Bool, Option}
 use Rattle.std.proofs.Common.{ap, ◌∙◌}
-use Rattle.fv_base.specs.declared.pos.Pos.{Pos}
+use Rattle.fv_text.specs.declared.pos.Pos.{Pos}
 use Rattle.vl_tree.specs.declared.declaration.DeclaredName.{DeclaredName}
 use Rattle.vl_tree.specs.declared.declaration.FullPort.{FullPort}
 use Rattle.vl_tree.specs.declared.declaration.NetKind.{NetKind}

@@ -1,4 +1,4 @@
--- What an instance gives to the parameters of a scope. IEEE 1364-2005, section 12.2.
+-- Between functions: What an instance gives to the parameters of a scope. IEEE 1364-2005, section 12.2.
 use Rattle.std.specs.Prelude.{◌≡◌, ℕ, List, is_some}
 use Rattle.vl_mean.specs.Walk.{Place}
 use Rattle.vl_elab_spec.specs.Items.{is_given}

@@ -1,7 +1,7 @@
--- Names that stand twice, over a test of the names before them: what the functions that look for them promise one
--- another. Rule of this project.
+-- Between functions: Names that stand twice, over a test of the names before them: what the functions that look for
+-- them promise one another. Rule of this project.
 use Rattle.std.specs.Prelude.{ℕ, List, [], ◌∷◌, ◌++◌, Bool, ◌||◌, bytes_eq}
-use Rattle.fv_base.specs.declared.pos.Pos.{Pos}
+use Rattle.fv_text.specs.declared.pos.Pos.{Pos}
 use Rattle.vl_elab_spec.specs.declared.elab_fault.ElabFault.{ElabFault}
 use Rattle.vl_elab_spec.specs.declared.elab_fault.ElabFault.TheVariants as f
 use Rattle.vl_elab_spec.specs.Expressions.{refused_if}

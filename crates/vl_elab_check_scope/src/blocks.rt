@@ -6,7 +6,7 @@ ghost use Rattle.vl_elab_spec.specs.Refused.{lowest};
 ghost use Rattle.vl_elab_spec.specs.Statements.{initial_refusals, stmt_refusals};
 ghost use Rattle.vl_elab_scope.specs.Alike.{Alike};
 
-use fv_base::Memory;
+use fv_text::Memory;
 use std::alloc::Global;
 use vl_elab_check_expr::first_of;
 use vl_elab_check_item::{assignments_fault, event_fault};

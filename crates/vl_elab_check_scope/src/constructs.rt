@@ -11,7 +11,7 @@ ghost use Rattle.vl_elab_const.specs.Numbers.{HaveNumbers};
 ghost use Rattle.vl_elab_names.specs.Known.{AreNames};
 
 use crate::labels::labels_fault;
-use fv_base::{Memory, Pos};
+use fv_text::{Memory, Pos};
 use std::alloc::Global;
 use vl_elab_check_expr::{first_of, own_fault};
 use vl_elab_check_item::head_fault;

@@ -10,7 +10,7 @@ ghost use Rattle.vl_elab_scope.specs.Alike.{Alike};
 ghost use Rattle.vl_elab_names.specs.Known.{AreNames};
 
 use crate::twice::{declared_twice, genvars_twice};
-use fv_base::{Memory, Pos, Text};
+use fv_text::{Memory, Pos, Text};
 use std::alloc::Global;
 use vl_elab_check_expr::first_of;
 use vl_elab_check_item::{names_fault, range_fault};

@@ -11,7 +11,7 @@ ghost use Rattle.vl_elab_check_scope.specs.Parts.{with_name};
 ghost use Rattle.vl_elab_params.specs.Reached.{IsReached};
 ghost use Rattle.vl_elab_check_scope.specs.Gives.{Gives};
 
-use fv_base::{Memory, Text};
+use fv_text::{Memory, Text};
 use std::alloc::Global;
 use vl_elab_check_expr::first_of;
 use vl_elab_check_item::parameter_fault;

@@ -7,7 +7,7 @@ ghost use Rattle.vl_elab_spec.specs.Refused.{lower_of, lowest};
 ghost use Rattle.vl_elab_names.specs.Known as known;
 ghost use Rattle.vl_elab_check_scope.specs.Parts as spec;
 
-use fv_base::{Memory, Pos, Text};
+use fv_text::{Memory, Pos, Text};
 use std::alloc::Global;
 use vl_elab_check_expr::{first_of, twice_if};
 use vl_elab_names::NameSet;

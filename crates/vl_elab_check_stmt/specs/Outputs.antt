@@ -1,6 +1,7 @@
--- The targets that outputs are joined to: what the functions that make them promise one another. Rule of this project.
+-- Between functions: The targets that outputs are joined to: what the functions that make them promise one another.
+-- Rule of this project.
 use Rattle.std.specs.Prelude.{List, [], ◌∷◌, Option, Some, None}
-use Rattle.fv_base.specs.declared.pos.Pos.{Pos}
+use Rattle.fv_text.specs.declared.pos.Pos.{Pos}
 use Rattle.vl_tree.specs.Expr.{Expr, name}
 use Rattle.vl_tree.specs.Lval.{Lval, Lvals, named, joined, more_lvals}
 use Rattle.vl_size.specs.Size.{◌>>=◌}

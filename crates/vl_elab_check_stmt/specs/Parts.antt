@@ -1,7 +1,7 @@
--- Which refusal of a target or a statement is answered, part by part: what the functions that go through it promise
--- one another. Rule of this project.
+-- Between functions: Which refusal of a target or a statement is answered, part by part: what the functions that go
+-- through it promise one another. Rule of this project.
 use Rattle.std.specs.Prelude.{ℕ, List, [], ◌∷◌, ◌++◌, Bool, true, false, Option, Some, None}
-use Rattle.fv_base.specs.declared.pos.Pos.{Pos}
+use Rattle.fv_text.specs.declared.pos.Pos.{Pos}
 use Rattle.vl_tree.specs.Expr.{Expr}
 use Rattle.vl_tree.specs.Lval.{Lval, Lvals, named, joined, no_lvals, more_lvals}
 use Rattle.vl_tree.specs.Stmt.{

@@ -5,7 +5,7 @@ ghost use Rattle.vl_tree.specs.StmtView.{arms, with_arm};
 ghost use Rattle.vl_size.specs.Divisors as divisors;
 ghost use Rattle.vl_elab_spec.specs.Statements as spec;
 
-use fv_base::Memory;
+use fv_text::Memory;
 use std::alloc::Global;
 use vl_elab_scope::{Names, context_of};
 use vl_size::Context;

@@ -5,7 +5,7 @@ ghost use Rattle.vl_tree.specs.Lval.{lvals};
 ghost use Rattle.vl_mean.specs.Parts as parts;
 ghost use Rattle.vl_elab_check_stmt.specs.Outputs as spec;
 
-use fv_base::{List, Memory, Pos};
+use fv_text::{List, Memory, Pos};
 use std::alloc::Global;
 use vl_mean::{Params, settled};
 use vl_tree::{Expr, ExprKind, Lval, LvalKind};

@@ -8,7 +8,7 @@ ghost use Rattle.vl_elab_check_stmt.specs.Parts as parts;
 
 use crate::contexts::case_context;
 use crate::targets::{Assigning, assignment_fault};
-use fv_base::Memory;
+use fv_text::Memory;
 use std::alloc::Global;
 use vl_elab_check_expr::{expr_fault_in, first_of, own_fault};
 use vl_elab_scope::Names;

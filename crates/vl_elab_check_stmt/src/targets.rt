@@ -14,7 +14,7 @@ ghost use Rattle.vl_elab_check_stmt.specs.Parts as parts;
 ghost use Rattle.vl_elab_scope.specs.Seen.{seen};
 
 use crate::contexts::assigned_in;
-use fv_base::{Memory, Pos, Text};
+use fv_text::{Memory, Pos, Text};
 use std::alloc::Global;
 use vl_elab_check_expr::{
     Judged, clock_if, closed, divided_by_zero, either, expr_fault_in, first_of, is_clock,

@@ -1,4 +1,4 @@
--- What an instance gives to the parameters of its module, by name. IEEE 1364-2005, section 12.2.2.
+-- Between functions: What an instance gives to the parameters of its module, by name. IEEE 1364-2005, section 12.2.2.
 use Rattle.std.specs.Prelude.{◌≡◌, ℕ, List, [], ◌∷◌, Option, Some, None, Box, bytes_eq, is_some, if◌then◌else◌}
 use Rattle.std.specs.declared.alloc.Global.{Global}
 use Rattle.std.specs.Map.{lookup}

@@ -1,4 +1,4 @@
--- Declared ranges that aren't refused. Rule of this project.
+-- Between functions: Declared ranges that aren't refused. Rule of this project.
 use Rattle.std.specs.Prelude.{◌≡◌, ◌≤◌, true, Option, Some, None, ℤ}
 use Rattle.vl_size.specs.Size.{is_bound}
 use Rattle.vl_size.specs.Table.{span}

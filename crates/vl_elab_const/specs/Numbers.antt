@@ -1,5 +1,5 @@
--- The numbers that constants have by the definitions, whether their declarations are refused or not, as they are kept
--- while a design is judged. IEEE 1364-2005, sections 3.11 and 12.4.1.
+-- Between functions: The numbers that constants have by the definitions, whether their declarations are refused or
+-- not, as they are kept while a design is judged. IEEE 1364-2005, sections 3.11 and 12.4.1.
 use Rattle.std.specs.Prelude.{◌≡◌, ℕ, List, [], Bool, ◌||◌, Option, Some, None, max}
 use Rattle.vl_tree.specs.declared.declaration.Parameter.{Parameter}
 use Rattle.vl_tree.specs.declared.declaration.Range.{Range}

@@ -1,5 +1,6 @@
--- What a scope has to be to be opened as a design is written: its names differ, and what it declares is in range. Names
--- of one scope differ by IEEE 1364-2005, section 12.7; the limits are rules of this project.
+-- Between functions: What a scope has to be to be opened as a design is written: its names differ, and what it
+-- declares is in range. Names of one scope differ by IEEE 1364-2005, section 12.7; the limits are rules of this
+-- project.
 use Rattle.std.specs.Prelude.{◌≡◌, ℕ, List, [], ◌∷◌, ◌++◌, map, false}
 use Rattle.vl_tree.specs.Item.{Item, Items, parameter, no_items, more_items}
 use Rattle.vl_size.specs.declared.decl.Decl.{Decl}

@@ -1,7 +1,8 @@
--- Operations on two numbers, as their numbers come from those of the operands. Rule of this project.
+-- Between functions: Operations on two numbers, as their numbers come from those of the operands. Rule of this
+-- project.
 use Rattle.std.specs.Prelude.{◌≡◌}
-use Rattle.fv_base.specs.declared.number.Number.{Number}
-use Rattle.fv_base.specs.declared.pos.Pos.{Pos}
+use Rattle.fv_text.specs.declared.number.Number.{Number}
+use Rattle.fv_text.specs.declared.pos.Pos.{Pos}
 use Rattle.fv_bits.specs.Bits.{extended}
 use Rattle.vl_tree.specs.Expr.{Expr, number}
 use Rattle.vl_size.specs.Size.{Operand}

@@ -6,7 +6,7 @@ ghost use Rattle.vl_size.specs.Size as size_spec;
 ghost use Rattle.vl_mean.specs.Env.{cells_of};
 ghost use Rattle.vl_elab_spec.specs.Meanings as meanings;
 
-use fv_base::Memory;
+use fv_text::Memory;
 use std::alloc::Global;
 use vl_elab_scope::{Names, known_expr};
 use vl_mean::widths::bound;

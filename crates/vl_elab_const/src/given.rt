@@ -8,7 +8,7 @@ ghost use Rattle.vl_elab_scope.specs.Texts.{or_else};
 ghost use Rattle.vl_elab_const.specs.Given as spec;
 ghost use Rattle.vl_elab_const.specs.Numbers.{HaveNumbers};
 
-use fv_base::{Memory, Text};
+use fv_text::{Memory, Text};
 use indexmap::IndexMap;
 use std::alloc::Global;
 use vl_elab_scope::{Names, known_expr};

@@ -9,8 +9,8 @@ ghost use Rattle.vl_elab_spec.specs.Meanings.{bound, constants};
 ghost use Rattle.vl_elab_const.specs.Numbers as spec;
 
 use crate::operation::operation_number;
-use fv_base::Memory;
 use fv_bits::low;
+use fv_text::Memory;
 use std::alloc::Global;
 use vl_elab_scope::{Names, known_expr};
 use vl_mean::{Const, Env, value};

@@ -1,6 +1,6 @@
 //! Numbers of an operation on two numbers or constants, as the condition and the step of a loop are, without a copy.
 ghost use Rattle.std.specs.Prelude.{◌≡◌, ◌≤◌, ◌&&◌, max, IfSome};
-ghost use Rattle.fv_base.specs.declared.pos.Pos.{Pos};
+ghost use Rattle.fv_text.specs.declared.pos.Pos.{Pos};
 ghost use Rattle.vl_tree.specs.Expr.{name, whole};
 ghost use Rattle.vl_size.specs.Sign.{sign_by};
 ghost use Rattle.vl_size.specs.Size as size_spec;
@@ -10,8 +10,8 @@ ghost use Rattle.vl_elab_spec.specs.Expressions.{known};
 ghost use Rattle.vl_elab_spec.specs.Meanings.{constants};
 ghost use Rattle.vl_elab_const.specs.Operations as spec;
 
-use fv_base::{Number, Text};
 use fv_bits::{bit, extended};
+use fv_text::{Number, Text};
 use vl_elab_scope::{Names, constant_of, number_of};
 use vl_size::operation::{arithmetic, compared, shifted};
 use vl_size::way::{Way, divides, size_by, way_of};

@@ -14,8 +14,8 @@ ghost use Rattle.vl_elab_const.specs.Numbers as spec;
 
 use crate::given::Given;
 use crate::number::{bound_in, number_alone, own_alone};
-use fv_base::Memory;
 use fv_bits::{is_below_zero, low, magnitude};
+use fv_text::Memory;
 use std::alloc::Global;
 use vl_elab_scope::{Names, known_expr};
 use vl_mean::Const;

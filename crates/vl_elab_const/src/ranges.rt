@@ -7,7 +7,7 @@ ghost use Rattle.vl_elab_const.specs.Numbers.{HaveNumbers};
 ghost use Rattle.vl_elab_const.specs.InRange as spec;
 
 use crate::bounds::bound_in;
-use fv_base::Memory;
+use fv_text::Memory;
 use std::alloc::Global;
 use vl_elab_scope::Names;
 use vl_tree::Range;

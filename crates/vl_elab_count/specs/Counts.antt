@@ -1,5 +1,5 @@
--- Names that are declared and nodes of turns, over the numbers of constants: what the functions that count them promise
--- one another. IEEE 1364-2005, sections 4.9 and 12.4.1; what counts is a rule of this project.
+-- Between functions: Names that are declared and nodes of turns, over the numbers of constants: what the functions
+-- that count them promise one another. IEEE 1364-2005, sections 4.9 and 12.4.1; what counts is a rule of this project.
 use Rattle.std.specs.Prelude.{ℕ, zero, suc, ◌+◌, List, [], ◌∷◌, Option, Some, None, if◌then◌else◌}
 use Rattle.vl_tree.specs.declared.declaration.DeclaredName.{DeclaredName}
 use Rattle.vl_tree.specs.declared.declaration.Range.{Range}

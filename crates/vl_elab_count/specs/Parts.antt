@@ -1,5 +1,5 @@
--- Nodes of one part of a list, and of an item whose condition and turns are known: what the functions that count them
--- promise one another. Rule of this project.
+-- Between functions: Nodes of one part of a list, and of an item whose condition and turns are known: what the
+-- functions that count them promise one another. Rule of this project.
 use Rattle.std.specs.Prelude.{◌≡◌, ℕ, ◌+◌, Bool}
 use Rattle.vl_tree.specs.declared.expr.Select.{Select}
 use Rattle.vl_tree.specs.declared.expr.Select.TheVariants as s

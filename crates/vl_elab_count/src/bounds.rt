@@ -8,8 +8,8 @@ ghost use Rattle.vl_mean.specs.ConstantFaults.{capped};
 ghost use Rattle.vl_mean.specs.Env.{cells_of};
 ghost use Rattle.vl_elab_spec.specs.Meanings.{bound};
 
-use fv_base::Memory;
 use fv_bits::{is_below_zero, magnitude};
+use fv_text::Memory;
 use std::alloc::Global;
 use vl_elab_scope::{Names, known_expr};
 use vl_mean::{Env, value};

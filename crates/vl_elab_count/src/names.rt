@@ -9,7 +9,7 @@ ghost use Rattle.vl_elab_const.specs.Numbers.{HaveNumbers};
 ghost use Rattle.vl_elab_count.specs.Counts as spec;
 
 use crate::bounds::{bound_in, span_between};
-use fv_base::Memory;
+use fv_text::Memory;
 use std::alloc::Global;
 use vl_elab_scope::Names;
 use vl_mean::widths::plus;

@@ -13,7 +13,7 @@ ghost use Rattle.vl_elab_count.specs.Parts.{Holds, TurnsHave};
 use crate::count_items::item_nodes;
 use crate::names::declared_names;
 use crate::turns::loop_nodes;
-use fv_base::Memory;
+use fv_text::Memory;
 use std::alloc::Global;
 use vl_elab_const::is_true_in;
 use vl_elab_scope::Names;

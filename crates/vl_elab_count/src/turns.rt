@@ -8,7 +8,7 @@ ghost use Rattle.vl_elab_check_item.specs.TurnParts.{in_turn};
 ghost use Rattle.vl_elab_count.specs.Counts as spec;
 
 use crate::exprs::expr_nodes;
-use fv_base::Memory;
+use fv_text::Memory;
 use std::alloc::Global;
 use vl_elab_check_item::enter_turn;
 use vl_elab_const::{genvar_value, is_true_in};

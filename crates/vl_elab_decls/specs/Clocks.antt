@@ -1,5 +1,5 @@
--- Inputs of a module that are the clock, port by port: what the functions that look for them promise one another. Rule
--- of this project.
+-- Between functions: Inputs of a module that are the clock, port by port: what the functions that look for them
+-- promise one another. Rule of this project.
 use Rattle.std.specs.Prelude.{ℕ, List, [], ◌∷◌, Bool, true, false, ◌&&◌, ◌||◌, not, bytes_eq, Option, Some, None}
 use Rattle.vl_tree.specs.declared.declaration.Direction.{Direction}
 use Rattle.vl_tree.specs.declared.declaration.Direction.TheVariants as direction

@@ -1,5 +1,5 @@
--- Declarations from what stands before names that are declared together: what the functions that read them promise one
--- another. IEEE 1364-2005, sections 3.2 and 3.9.
+-- Between functions: Declarations from what stands before names that are declared together: what the functions that
+-- read them promise one another. IEEE 1364-2005, sections 3.2 and 3.9.
 use Rattle.std.specs.Prelude.{◌≡◌, ℕ, List, [], ◌∷◌, true, false, Option, ℤ, pos}
 use Rattle.vl_tree.specs.declared.declaration.Declaration.{Declaration}
 use Rattle.vl_tree.specs.declared.declaration.DeclaredName.{DeclaredName}

@@ -1,5 +1,5 @@
--- Names of a block that hide constants of the scopes around it: what the functions that enter them promise one another.
--- Rule of this project.
+-- Between functions: Names of a block that hide constants of the scopes around it: what the functions that enter them
+-- promise one another. Rule of this project.
 use Rattle.std.specs.Prelude.{ℕ, List, [], ◌∷◌, map, if◌then◌else◌}
 use Rattle.vl_tree.specs.Item.{Item, Items, declaration, integer, no_items, more_items}
 use Rattle.vl_elab_spec.specs.Meanings.{faulty, Names, is_undeclared, meaning_of}

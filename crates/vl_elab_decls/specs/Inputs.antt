@@ -1,5 +1,5 @@
--- What the inputs of a module stand for, by how it is used. IEEE 1364-2005, section 12.3; that the inputs `clock` and
--- `reset` of the top module have a meaning of their own is a rule of this project.
+-- Between functions: What the inputs of a module stand for, by how it is used. IEEE 1364-2005, section 12.3; that the
+-- inputs `clock` and `reset` of the top module have a meaning of their own is a rule of this project.
 use Rattle.std.specs.Prelude.{◌≡◌, ℕ, List, Bool, true, false, if◌then◌else◌}
 use Rattle.vl_size.specs.declared.decl.Class.{Class}
 use Rattle.vl_size.specs.declared.decl.Class.TheVariants as class

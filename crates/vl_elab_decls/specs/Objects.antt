@@ -1,5 +1,5 @@
--- The ports, nets and variables of a scope with their shapes, as far as these are known: what the functions that enter
--- them promise one another. Rule of this project.
+-- Between functions: The ports, nets and variables of a scope with their shapes, as far as these are known: what the
+-- functions that enter them promise one another. Rule of this project.
 use Rattle.std.specs.Prelude.{◌≡◌, ◌≤◌, ℕ, List, [], ◌∷◌, ◌++◌, map, Bool, true, false, ◌&&◌, is_none, ℤ, pos}
 use Rattle.std.specs.Prelude.{Option, Some, None, if◌then◌else◌}
 use Rattle.vl_tree.specs.declared.declaration.Declaration.{Declaration}

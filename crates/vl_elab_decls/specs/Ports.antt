@@ -1,5 +1,5 @@
--- Declarations of ports, from what is kept of the port before one that is written short: what the functions that read
--- them promise one another. IEEE 1364-2005, section 12.3.
+-- Between functions: Declarations of ports, from what is kept of the port before one that is written short: what the
+-- functions that read them promise one another. IEEE 1364-2005, section 12.3.
 use Rattle.std.specs.Prelude.{◌≡◌, ℕ, List, [], ◌∷◌, ◌&&◌, Option, Some, None}
 use Rattle.vl_tree.specs.declared.declaration.FullPort.{FullPort}
 use Rattle.vl_size.specs.declared.decl.Decl.{Decl}

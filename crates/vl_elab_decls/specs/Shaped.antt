@@ -1,4 +1,4 @@
--- What a scope declares, and what is known of it. IEEE 1364-2005, sections 3.2, 3.3, 3.9 and 12.3.
+-- Between functions: What a scope declares, and what is known of it. IEEE 1364-2005, sections 3.2, 3.3, 3.9 and 12.3.
 use Rattle.std.specs.Prelude.{◌≡◌, ℕ, List, [], ◌∷◌, ◌++◌, true, None}
 use Rattle.vl_tree.specs.declared.declaration.FullPort.{FullPort}
 use Rattle.vl_tree.specs.Item.{Items}

@@ -1,4 +1,4 @@
--- What names mean in scopes, as they are entered while a design is judged. Rule of this project.
+-- Between functions: What names mean in scopes, as they are entered while a design is judged. Rule of this project.
 use Rattle.std.specs.Prelude.{◌≡◌, ℕ, List, Bool, ◌&&◌}
 use Rattle.vl_mean.specs.Scopes.{Scope, constant_in, declared_in, is_clock_decl}
 use Rattle.vl_elab_spec.specs.Meanings.{Names, constants, is_undeclared, meaning_in}

@@ -9,7 +9,7 @@ ghost use Rattle.vl_elab_decls.specs.Inputs.{AreInputs};
 ghost use Rattle.vl_elab_decls.specs.Clocks as spec;
 
 use crate::inputs::Inputs;
-use fv_base::{Memory, Text};
+use fv_text::{Memory, Text};
 use std::alloc::Global;
 use vl_elab_names::NameSet;
 use vl_size::Class;

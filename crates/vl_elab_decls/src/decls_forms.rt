@@ -2,7 +2,7 @@
 ghost use Rattle.std.specs.Prelude.{◌≡◌, IfOk};
 ghost use Rattle.vl_elab_decls.specs.Forms as spec;
 
-use fv_base::{Memory, Text};
+use fv_text::{Memory, Text};
 use std::alloc::Global;
 use vl_elab_const::Extent;
 use vl_size::{Class, Decl};

@@ -11,7 +11,7 @@ ghost use Rattle.vl_elab_decls.specs.Forms as forms;
 
 use crate::decls_forms::{Form, decl_with};
 use crate::words::class_of_attributes;
-use fv_base::{List, Memory};
+use fv_text::{List, Memory};
 use std::alloc::Global;
 use vl_elab_const::{Extent, extent_in, words_in};
 use vl_elab_scope::Names;

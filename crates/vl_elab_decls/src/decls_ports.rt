@@ -15,7 +15,7 @@ ghost use Rattle.vl_elab_decls.specs.Ports as ports;
 use crate::decls_forms::{Form, decl_with};
 use crate::decls_items::class_of_kind;
 use crate::inputs::Inputs;
-use fv_base::{List, Memory, Text};
+use fv_text::{List, Memory, Text};
 use std::alloc::Global;
 use vl_elab_const::{Extent, extent_in};
 use vl_elab_scope::Names;

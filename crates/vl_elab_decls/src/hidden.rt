@@ -5,7 +5,7 @@ ghost use Rattle.vl_elab_spec.specs.Meanings.{faulty, is_undeclared, meaning_of}
 ghost use Rattle.vl_elab_scope.specs.Seen.{innermost, with_name};
 ghost use Rattle.vl_elab_decls.specs.Hidden as spec;
 
-use fv_base::{Memory, Text};
+use fv_text::{Memory, Text};
 use std::alloc::Global;
 use vl_elab_scope::{Level, Meaning, Names};
 use vl_tree::{DeclaredName, Item, ItemKind};

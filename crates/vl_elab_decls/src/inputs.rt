@@ -3,7 +3,7 @@ ghost use Rattle.std.specs.Prelude.{◌≡◌};
 ghost use Rattle.vl_mean.specs.Walk.{top_input};
 ghost use Rattle.vl_elab_decls.specs.Inputs as spec;
 
-use fv_base::Text;
+use fv_text::Text;
 use vl_elab_names::NameSet;
 use vl_size::Class;
 

@@ -14,7 +14,7 @@ ghost use Rattle.vl_elab_decls.specs.Shaped.{IsDeclared, AreShaped};
 use crate::inputs::Inputs;
 use crate::shape_items::add_items;
 use crate::shape_ports::add_ports;
-use fv_base::Memory;
+use fv_text::Memory;
 use std::alloc::Global;
 use vl_elab_scope::{Level, Names};
 use vl_tree::{Item, Port};

@@ -21,7 +21,7 @@ use crate::clocks::clock_inputs;
 use crate::hidden::hide;
 use crate::inputs::Inputs;
 use crate::objects::objects_of_scope;
-use fv_base::{List, Memory};
+use fv_text::{List, Memory};
 use std::alloc::Global;
 use vl_elab_const::Given;
 use vl_elab_names::NameSet;

@@ -6,7 +6,7 @@ ghost use Rattle.vl_elab_scope.specs.Seen.{seen, with_name};
 ghost use Rattle.vl_elab_spec.specs.Meanings as meanings;
 ghost use Rattle.vl_elab_decls.specs.Objects as spec;
 
-use fv_base::{Memory, Text};
+use fv_text::{Memory, Text};
 use std::alloc::Global;
 use vl_elab_params::Extent;
 use vl_elab_scope::{Level, Meaning, Object};

@@ -7,7 +7,7 @@ ghost use Rattle.vl_elab_decls.specs.Objects as spec;
 
 use crate::shape_forms::{Form, add_declared};
 use crate::words::{class_of_attributes, class_of_kind, words_if_known};
-use fv_base::{Memory, Text};
+use fv_text::{Memory, Text};
 use std::alloc::Global;
 use vl_elab_params::{Extent, known_extent};
 use vl_elab_scope::{Level, Meaning, Names};

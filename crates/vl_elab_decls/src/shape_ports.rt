@@ -7,7 +7,7 @@ ghost use Rattle.vl_elab_decls.specs.Objects as spec;
 use crate::inputs::Inputs;
 use crate::shape_forms::{Form, PortForm, add_declared};
 use crate::words::class_of_kind;
-use fv_base::{Memory, Text};
+use fv_text::{Memory, Text};
 use std::alloc::Global;
 use vl_elab_params::known_extent;
 use vl_elab_scope::{Level, Names};

@@ -5,7 +5,7 @@ ghost use Rattle.vl_mean.specs.Declarations as declarations;
 ghost use Rattle.vl_elab_spec.specs.Meanings as meanings;
 ghost use Rattle.vl_elab_decls.specs.Objects as spec;
 
-use fv_base::Memory;
+use fv_text::Memory;
 use std::alloc::Global;
 use vl_elab_scope::{Names, value_of};
 use vl_mean::widths::bound;

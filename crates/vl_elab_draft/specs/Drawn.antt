@@ -1,5 +1,6 @@
--- When a design without hierarchy is drawn from the parts of a design: its declarations, drivers and values at first
--- are those of the parts, each in order, with full names, and with numbers in place of constants. Rule of this project.
+-- Meaning: When a design without hierarchy is drawn from the parts of a design: its declarations, drivers and values
+-- at first are those of the parts, each in order, with full names, and with numbers in place of constants. Rule of
+-- this project.
 use Rattle.std.specs.Prelude.{◌≡◌, List, [], ◌∷◌, map}
 use Rattle.vl_mean.specs.declared.driver.DriverKind.{DriverKind}
 use Rattle.vl_mean.specs.declared.driver.DriverKind.TheVariants as k

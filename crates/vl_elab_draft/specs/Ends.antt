@@ -1,4 +1,4 @@
--- Names that are none of a memory's word: a word's name ends with a bracket. Rule of this project.
+-- Between functions: Names that are none of a memory's word: a word's name ends with a bracket. Rule of this project.
 use Rattle.std.specs.Prelude.{◌≡◌, ℕ, List, [], ◌∷◌, Bool, true, not, ◌==◌}
 use Rattle.vl_size.specs.declared.decl.Decl.{Decl}
 

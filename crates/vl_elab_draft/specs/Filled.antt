@@ -1,4 +1,4 @@
--- Tables that are filled name by name. Rule of this project.
+-- Between functions: Tables that are filled name by name. Rule of this project.
 use Rattle.std.specs.Prelude.{ℕ, List, [], ◌∷◌, Option, bytes_eq, if◌then◌else◌}
 use Rattle.vl_elab_scope.specs.Texts.{or_else}
 

@@ -1,4 +1,4 @@
--- Scopes to which names are added one behind the other. Rule of this project.
+-- Between functions: Scopes to which names are added one behind the other. Rule of this project.
 use Rattle.std.specs.Prelude.{◌≡◌, ℕ, List, [], ◌∷◌, ◌++◌, map, Option, Some, None, Vec}
 use Rattle.std.specs.declared.alloc.Global.{Global}
 use Rattle.vl_size.specs.declared.decl.Decl.{Decl}

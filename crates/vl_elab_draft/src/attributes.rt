@@ -1,7 +1,7 @@
 //! Copies of attributes, and of what stands in them.
 ghost use Rattle.std.specs.Prelude.{◌≡◌, IfOk};
 
-use fv_base::{List, Memory, Text};
+use fv_text::{List, Memory, Text};
 use std::alloc::Global;
 use vl_mean::{Params, settled};
 use vl_tree::{Attribute, AttributeInstance, Expr};

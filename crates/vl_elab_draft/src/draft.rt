@@ -5,7 +5,7 @@ ghost use Rattle.vl_mean.specs.FlatLaw.{IsLawful};
 ghost use Rattle.vl_elab_draft.specs.Ends.{EndsPlain};
 ghost use Rattle.vl_elab_draft.specs.Written as spec;
 
-use fv_base::{List, Memory};
+use fv_text::{List, Memory};
 use std::alloc::Global;
 use std::marker::Model;
 use vl_mean::{Driver, Flat, Start};

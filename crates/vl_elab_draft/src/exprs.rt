@@ -10,7 +10,7 @@ ghost use Rattle.vl_mean_flat.specs.FullNames as spec;
 use crate::flat_constants::params_of;
 use crate::names::renamed;
 use crate::scopes::Scopes;
-use fv_base::{List, Memory, Pos, Text};
+use fv_text::{List, Memory, Pos, Text};
 use std::alloc::Global;
 use vl_elab_scope::number_of;
 use vl_mean::{Const, settled};

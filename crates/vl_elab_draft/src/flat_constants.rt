@@ -9,7 +9,7 @@ ghost use Rattle.vl_elab_scope.specs.Texts.{texts, exprs_texts, selects_texts, A
 ghost use Rattle.vl_elab_draft.specs.Filled.{filled};
 
 use crate::scopes::Scopes;
-use fv_base::{Memory, Text};
+use fv_text::{Memory, Text};
 use std::alloc::Global;
 use vl_mean::Params;
 use vl_tree::{Expr, ExprKind, Select};

@@ -6,7 +6,7 @@ ghost use Rattle.vl_mean.specs.Constants.{constant_of};
 ghost use Rattle.vl_elab_draft.specs.Kept as spec;
 
 use crate::named::Named;
-use fv_base::{Memory, Text};
+use fv_text::{Memory, Text};
 use indexmap::IndexMap;
 use std::alloc::Global;
 use std::marker::Model;

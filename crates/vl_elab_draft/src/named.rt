@@ -1,4 +1,4 @@
-use fv_base::Text;
+use fv_text::Text;
 use vl_mean::Const;
 
 /// A name with the constant that it means.

@@ -7,7 +7,7 @@ ghost use Rattle.vl_mean.specs.Scopes.{full};
 ghost use Rattle.vl_mean_flat.specs.FullNames as spec;
 
 use crate::scopes::Scopes;
-use fv_base::{List, Memory};
+use fv_text::{List, Memory};
 use std::alloc::Global;
 use vl_tree::{Expr, ExprKind, Select};
 

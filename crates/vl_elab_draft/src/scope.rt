@@ -6,7 +6,7 @@ ghost use Rattle.vl_mean.specs.Constants.{constant_of};
 ghost use Rattle.vl_elab_draft.specs.Kept as spec;
 
 use crate::full_constants::ConstantTable;
-use fv_base::{Memory, Text};
+use fv_text::{Memory, Text};
 use std::alloc::Global;
 use std::marker::Model;
 use vl_mean::Const;

@@ -4,7 +4,7 @@ ghost use Rattle.std.specs.Option.{option_copied};
 ghost use Rattle.vl_mean.specs.Scopes as spec;
 
 use crate::scope::Scope;
-use fv_base::{Memory, Text};
+use fv_text::{Memory, Text};
 use std::alloc::Global;
 use std::marker::Model;
 use vl_mean::Const;

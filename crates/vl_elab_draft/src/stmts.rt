@@ -9,7 +9,7 @@ use crate::attributes::{copied_attributes, copied_label};
 use crate::exprs::{flat_expr, flat_exprs};
 use crate::scopes::Scopes;
 use crate::targets::flat_lval;
-use fv_base::{List, Memory};
+use fv_text::{List, Memory};
 use std::alloc::Global;
 use vl_tree::{Arm, Stmt, StmtKind};
 

@@ -9,7 +9,7 @@ use crate::exprs::flat_expr;
 use crate::scopes::Scopes;
 use crate::stmts::flat_stmt;
 use crate::targets::flat_lval;
-use fv_base::{Memory, Pos};
+use fv_text::{Memory, Pos};
 use std::alloc::Global;
 use vl_mean::{Driver, DriverKind};
 use vl_tree::{Expr, Lval, Stmt};

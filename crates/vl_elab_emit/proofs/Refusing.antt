@@ -3,7 +3,7 @@ use Rattle.std.specs.Prelude.{◌≡◌, refl, ℕ, ◌+◌, ◌≤◌, List, []
 use Rattle.std.specs.Prelude.{IsSome, Option, Some, None, is_none, nat_le, if◌then◌else◌}
 use Rattle.std.proofs.Common.{ap, sym, ◌∙◌, subst, arith}
 use Rattle.std.proofs.lemmas.Bool.Decides.{nat_tests}
-use Rattle.fv_base.specs.declared.pos.Pos.{Pos}
+use Rattle.fv_text.specs.declared.pos.Pos.{Pos}
 use Rattle.vl_tree.specs.Expr.{Expr, Selects, whole, bit, part, indexed}
 use Rattle.vl_tree.specs.ExprWellFormed as expr
 use Rattle.vl_tree.specs.ExprWellFormed.{AreSelects}

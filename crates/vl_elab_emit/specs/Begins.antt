@@ -1,4 +1,4 @@
--- Parts whose values at first may be written. Rule of this project.
+-- Between functions: Parts whose values at first may be written. Rule of this project.
 use Rattle.vl_mean.specs.Parts.{Part, declares, equation, combinational, clocked, starts}
 use Rattle.vl_elab_emit.specs.Starts.{IsStart}
 

@@ -1,6 +1,7 @@
--- Parts of a design as they are written behind what stands in a design without hierarchy. Rule of this project.
+-- Between functions: Parts of a design as they are written behind what stands in a design without hierarchy. Rule of
+-- this project.
 use Rattle.std.specs.Prelude.{◌≡◌, ℕ, List, [], ◌++◌, map}
-use Rattle.fv_base.specs.declared.pos.Pos.{Pos}
+use Rattle.fv_text.specs.declared.pos.Pos.{Pos}
 use Rattle.vl_tree.specs.declared.source.Module.{Module}
 use Rattle.vl_size.specs.Table.{AreDifferent, IsShaped}
 use Rattle.vl_mean.specs.declared.driver.Driver.{Driver}

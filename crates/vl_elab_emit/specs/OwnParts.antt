@@ -1,5 +1,6 @@
--- The parts of an item by itself, from what is there as a design is written: the scopes in which its names are read,
--- the path of the innermost one, and what the item declares. IEEE 1364-2005, sections 6.1, 9.2 and 9.9.
+-- Between functions: The parts of an item by itself, from what is there as a design is written: the scopes in which
+-- its names are read, the path of the innermost one, and what the item declares. IEEE 1364-2005, sections 6.1, 9.2 and
+-- 9.9.
 use Rattle.std.specs.Prelude.{ℕ, List, [], ◌∷◌, ◌++◌, Option, Some, None}
 use Rattle.vl_tree.specs.declared.declaration.DeclaredName.{DeclaredName}
 use Rattle.vl_tree.specs.declared.declaration.Direction.{Direction}

@@ -1,5 +1,5 @@
--- Targets with values at first. IEEE 1364-2005, sections 4.2.1, 5.4, 6.2.1 and 9.9.1; that both are constant, and that
--- a target has at most 128 bits, are rules of this project.
+-- Between functions: Targets with values at first. IEEE 1364-2005, sections 4.2.1, 5.4, 6.2.1 and 9.9.1; that both are
+-- constant, and that a target has at most 128 bits, are rules of this project.
 use Rattle.std.specs.Prelude.{◌≡◌, ℕ, ◌+◌, [], List, IsSome, true, Option, Some, None, is_none, if◌then◌else◌}
 use Rattle.fv_bits.specs.Bits.{as_int}
 use Rattle.vl_tree.specs.Expr.{Expr, Selects}

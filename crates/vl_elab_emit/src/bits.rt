@@ -1,6 +1,6 @@
 //! How many bits a target has whose indices are constant.
 ghost use Rattle.std.specs.Prelude.{◌≡◌, ◌≤◌, [], IfOk, IfSome};
-ghost use Rattle.fv_base.specs.declared.pos.Pos.{Pos};
+ghost use Rattle.fv_text.specs.declared.pos.Pos.{Pos};
 ghost use Rattle.vl_tree.specs.Expr.{whole, bit, part, indexed};
 ghost use Rattle.vl_tree.specs.ExprView.{selects, with_select};
 ghost use Rattle.vl_tree.specs.Lval.{lvals};
@@ -10,7 +10,7 @@ ghost use Rattle.vl_mean_flat.specs.FullNames.{flat_expr, flat_selects};
 ghost use Rattle.vl_elab_emit.specs.Starts as spec;
 
 use crate::constants::own;
-use fv_base::{Memory, Text};
+use fv_text::{Memory, Text};
 use std::alloc::Global;
 use vl_elab_draft::{Scopes, flat_expr};
 use vl_size::select::{part_size, plus, times};

@@ -5,7 +5,7 @@ ghost use Rattle.vl_mean.specs.Parts as parts;
 ghost use Rattle.vl_elab_emit.specs.Behind as spec;
 
 use crate::starting::write_start;
-use fv_base::{Memory, Pos};
+use fv_text::{Memory, Pos};
 use std::alloc::Global;
 use vl_elab_draft::{Draft, Scopes, write_clocked, write_combinational, write_equation};
 use vl_tree::{Assignment, EventKind, Stmt, StmtKind};

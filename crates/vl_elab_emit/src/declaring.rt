@@ -3,7 +3,7 @@ ghost use Rattle.std.specs.Prelude.{◌≡◌, ◌++◌, ◌∷◌, [], IfOk, On
 ghost use Rattle.vl_mean.specs.Parts.{declares_all};
 ghost use Rattle.vl_elab_emit.specs.Behind as spec;
 
-use fv_base::{Memory, Text};
+use fv_text::{Memory, Text};
 use std::alloc::Global;
 use vl_elab_draft::Draft;
 use vl_size::Decl;

@@ -10,7 +10,7 @@ ghost use Rattle.vl_elab_emit.specs.OwnParts.{own_parts, own_placed, placed_valu
 use crate::blocks::{write_assignments, write_block, write_initial};
 use crate::declaring::write_declarations;
 use crate::values::write_values;
-use fv_base::{Memory, Text};
+use fv_text::{Memory, Text};
 use std::alloc::Global;
 use vl_elab_draft::{Draft, Scopes};
 use vl_size::Decl;

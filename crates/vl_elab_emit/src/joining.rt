@@ -8,7 +8,7 @@ ghost use Rattle.vl_elab_emit.specs.Behind as spec;
 ghost use Rattle.vl_elab_emit.specs.OwnParts.{joined_part};
 
 use crate::values::{plain_expr, plain_target};
-use fv_base::{Memory, Pos, Text};
+use fv_text::{Memory, Pos, Text};
 use std::alloc::Global;
 use vl_elab_check_stmt::target_of;
 use vl_elab_draft::{Draft, Scopes, write_equation};

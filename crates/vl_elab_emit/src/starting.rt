@@ -8,7 +8,7 @@ ghost use Rattle.vl_elab_emit.specs.Starts as spec;
 
 use crate::bits::target_bits;
 use crate::constants::{cut_to, number_at, sign, size};
-use fv_base::Memory;
+use fv_text::Memory;
 use std::alloc::Global;
 use vl_elab_draft::{Draft, Scopes, flat_expr, flat_lval};
 use vl_mean::{Const, Start};

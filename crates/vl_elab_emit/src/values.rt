@@ -5,7 +5,7 @@ ghost use Rattle.vl_elab_emit.specs.Behind as spec;
 ghost use Rattle.vl_elab_emit.specs.OwnParts.{placed_values};
 
 use crate::starting::write_start;
-use fv_base::{List, Memory, Pos, Text};
+use fv_text::{List, Memory, Pos, Text};
 use std::alloc::Global;
 use vl_elab_draft::{Draft, Scopes, write_equation};
 use vl_tree::{DeclaredName, Expr, ExprKind, Lval, LvalKind, NetKind};

@@ -3,7 +3,7 @@ use Rattle.std.specs.Prelude.{◌≡◌, refl, ℕ, List, [], ◌∷◌, ◌++�
 use Rattle.std.specs.Prelude.{if◌then◌else◌}
 use Rattle.std.specs.Option.{option_copied}
 use Rattle.std.proofs.Common.{ap, sym, ◌∙◌, subst, Bor, true≢false, append_assoc}
-use Rattle.fv_base.specs.declared.pos.Pos.{Pos}
+use Rattle.fv_text.specs.declared.pos.Pos.{Pos}
 use Rattle.vl_tree.specs.declared.declaration.Parameter.{Parameter}
 use Rattle.vl_tree.specs.declared.declaration.ParameterKind.{ParameterKind}
 use Rattle.vl_tree.specs.declared.declaration.ParameterKind.TheVariants as k

@@ -1,7 +1,7 @@
 -- Ports that are written one behind the other.
 use Rattle.std.specs.Prelude.{◌≡◌, refl, ℕ, List, [], ◌∷◌, ◌++◌, Option, Some, None, option_to_list}
 use Rattle.std.proofs.Common.{ap, sym, ◌∙◌, subst}
-use Rattle.fv_base.specs.declared.pos.Pos.{Pos}
+use Rattle.fv_text.specs.declared.pos.Pos.{Pos}
 use Rattle.vl_tree.specs.declared.declaration.FullPort.{FullPort}
 use Rattle.vl_tree.specs.declared.declaration.NetKind.{NetKind}
 use Rattle.vl_tree.specs.declared.declaration.Port.{Port}

@@ -1,5 +1,5 @@
--- Where names are read, from what is there as a design is written: the scopes, the path of the innermost one, and the
--- names that are explicitly declared in it. Rule of this project.
+-- Between functions: Where names are read, from what is there as a design is written: the scopes, the path of the
+-- innermost one, and the names that are explicitly declared in it. Rule of this project.
 use Rattle.std.specs.Prelude.{ℕ, List, [], ◌∷◌}
 use Rattle.vl_tree.specs.Item.{Items}
 use Rattle.vl_mean.specs.Constants.{Constants}

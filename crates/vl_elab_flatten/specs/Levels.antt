@@ -1,5 +1,5 @@
--- Scopes that are filled, with the numbers of constants: what the functions that fill them promise one another. Rule of
--- this project.
+-- Between functions: Scopes that are filled, with the numbers of constants: what the functions that fill them promise
+-- one another. Rule of this project.
 use Rattle.std.specs.Prelude.{◌≡◌, ℕ, List, [], ◌∷◌, ◌++◌, true, Option}
 use Rattle.vl_tree.specs.declared.declaration.Parameter.{Parameter}
 use Rattle.vl_tree.specs.declared.declaration.ParameterKind.{ParameterKind}

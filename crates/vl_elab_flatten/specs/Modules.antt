@@ -1,4 +1,4 @@
--- Modules that are opened, where they are used so. IEEE 1364-2005, sections 12.1 to 12.3.
+-- Between functions: Modules that are opened, where they are used so. IEEE 1364-2005, sections 12.1 to 12.3.
 use Rattle.std.specs.Prelude.{◌≡◌, ℕ, List, [], ◌∷◌, ◌++◌, drop, None, Option}
 use Rattle.vl_tree.specs.declared.declaration.HeaderParameter.{HeaderParameter}
 use Rattle.vl_tree.specs.declared.declaration.Port.{Port}

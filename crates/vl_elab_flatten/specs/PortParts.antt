@@ -1,7 +1,7 @@
--- The parts of ports and of what is joined to them, and the places of the drivers among these, from what is there as a
--- design is written. IEEE 1364-2005, section 12.3.
+-- Between functions: The parts of ports and of what is joined to them, and the places of the drivers among these, from
+-- what is there as a design is written. IEEE 1364-2005, section 12.3.
 use Rattle.std.specs.Prelude.{ℕ, List, [], ◌∷◌, ◌++◌, Option, Some, None}
-use Rattle.fv_base.specs.declared.pos.Pos.{Pos}
+use Rattle.fv_text.specs.declared.pos.Pos.{Pos}
 use Rattle.vl_tree.specs.declared.declaration.FullPort.{FullPort}
 use Rattle.vl_tree.specs.declared.declaration.NetKind.{NetKind}
 use Rattle.vl_tree.specs.declared.declaration.Port.{Port}

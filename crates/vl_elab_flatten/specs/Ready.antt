@@ -1,5 +1,6 @@
--- Steps that may be written behind what stands in a design without hierarchy, by what is seen of them: their parts, the
--- places of the drivers among these, and the scopes in which their names are read. Rule of this project.
+-- Between functions: Steps that may be written behind what stands in a design without hierarchy, by what is seen of
+-- them: their parts, the places of the drivers among these, and the scopes in which their names are read. Rule of this
+-- project.
 use Rattle.std.specs.Prelude.{◌≡◌, ℕ, List, [], ◌∷◌, true}
 use Rattle.fv_bits.specs.Bits.{as_int}
 use Rattle.vl_tree.specs.declared.part.Instance.{Instance}

@@ -9,7 +9,7 @@ ghost use Rattle.vl_mean.specs.Scopes.{Scope};
 ghost use Rattle.vl_elab_spec.specs.Within.{block_items, chosen_block, nested_if};
 
 use crate::here::Here;
-use fv_base::{Memory, Text};
+use fv_text::{Memory, Text};
 use std::alloc::Global;
 use std::slice;
 use vl_elab_decls::declared_count;

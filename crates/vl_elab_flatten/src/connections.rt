@@ -5,7 +5,7 @@ ghost use Rattle.vl_elab_check_instance.specs.Ports.{AreDirectionsOf};
 ghost use Rattle.vl_elab_emit.specs.Behind as behind;
 ghost use Rattle.vl_elab_flatten.specs.PortParts as spec;
 
-use fv_base::Memory;
+use fv_text::Memory;
 use std::alloc::Global;
 use vl_elab_check_instance::PortTable;
 use vl_elab_draft::{Draft, Scopes};

@@ -12,7 +12,7 @@ ghost use Rattle.vl_elab_const.specs.Given.{value_given};
 ghost use Rattle.vl_elab_const.specs.Openable.{constant_names, item_constants, items_constants};
 ghost use Rattle.vl_elab_flatten.specs.Levels as spec;
 
-use fv_base::{Memory, Text};
+use fv_text::{Memory, Text};
 use std::alloc::Global;
 use vl_elab_const::{Given, parameter_value};
 use vl_elab_draft::Scope;

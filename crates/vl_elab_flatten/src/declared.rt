@@ -6,7 +6,7 @@ ghost use Rattle.vl_elab_decls.specs.Objects as objects;
 ghost use Rattle.vl_elab_emit.specs.Behind as behind;
 ghost use Rattle.vl_elab_flatten.specs.PortParts as spec;
 
-use fv_base::{Memory, Text};
+use fv_text::{Memory, Text};
 use std::alloc::Global;
 use std::slice;
 use vl_elab_draft::{Draft, Scopes};

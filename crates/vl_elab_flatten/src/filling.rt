@@ -7,7 +7,7 @@ ghost use Rattle.vl_elab_scope.specs.Seen.{innermost, with_name};
 ghost use Rattle.vl_elab_const.specs.Openable.{IsInRange};
 ghost use Rattle.vl_elab_flatten.specs.Levels as spec;
 
-use fv_base::{Memory, Text};
+use fv_text::{Memory, Text};
 use std::alloc::Global;
 use vl_elab_draft::Scope;
 use vl_elab_scope::{Level, Meaning, Names};

@@ -11,7 +11,7 @@ ghost use Rattle.vl_elab_flatten.specs.Here.{block_scope};
 
 use crate::constants::{add_items, add_number};
 use crate::filling::fill;
-use fv_base::{List, Memory, Text};
+use fv_text::{List, Memory, Text};
 use std::alloc::Global;
 use vl_elab_const::Given;
 use vl_elab_decls::decls_of_items;

@@ -7,7 +7,7 @@ ghost use Rattle.vl_elab_names.specs.Known.{contains};
 ghost use Rattle.vl_elab_decls.specs.Inputs.{AreInputs};
 ghost use Rattle.vl_elab_check_instance.specs.Clock as spec;
 
-use fv_base::{Memory, Text};
+use fv_text::{Memory, Text};
 use std::alloc::Global;
 use vl_elab_decls::Inputs;
 use vl_elab_draft::Scopes;

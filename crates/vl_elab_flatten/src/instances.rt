@@ -11,7 +11,7 @@ use crate::connections::write_connections;
 use crate::here::Here;
 use crate::inputs::joined_inputs;
 use crate::modules::{Opened, open_module};
-use fv_base::{List, Memory};
+use fv_text::{List, Memory};
 use std::alloc::Global;
 use vl_elab_check_instance::PortTable;
 use vl_elab_const::given_by;

@@ -12,7 +12,7 @@ ghost use Rattle.vl_elab_flatten.specs.Modules as spec;
 use crate::constants::{add_header, add_items};
 use crate::filling::fill;
 use crate::here::Here;
-use fv_base::{List, Memory, Text};
+use fv_text::{List, Memory, Text};
 use std::alloc::Global;
 use vl_elab_const::Given;
 use vl_elab_decls::{Inputs, decls_of_items, decls_of_ports};

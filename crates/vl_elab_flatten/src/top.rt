@@ -11,7 +11,7 @@ ghost use Rattle.vl_elab_flatten.specs.Ready.{IsReady, Writes, design_seen};
 
 use crate::modules::open_module;
 use crate::walk::write_opened;
-use fv_base::{Memory, Text};
+use fv_text::{Memory, Text};
 use std::alloc::Global;
 use vl_elab_const::Given;
 use vl_elab_decls::Inputs;

@@ -17,7 +17,7 @@ use crate::here::{Here, leave_block, leave_turn, open_block, open_turn};
 use crate::instances::{open_instance, write_joined};
 use crate::modules::{Opened, written_ports};
 use crate::turns::{first_value, next_value};
-use fv_base::{Memory, Text};
+use fv_text::{Memory, Text};
 use std::alloc::Global;
 use vl_elab_const::is_true_in;
 use vl_elab_draft::Draft;

@@ -7,7 +7,7 @@ ghost use Rattle.vl_mean_flat.specs.DriverPlaces.{driver_places, places_of};
 ghost use Rattle.vl_elab_draft.specs.Drawn.{IsDrawn};
 
 use crate::top::write_design;
-use fv_base::{Memory, Text};
+use fv_text::{Memory, Text};
 use std::alloc::Global;
 use vl_elab_draft::Draft;
 use vl_mean::Flat;

@@ -3,7 +3,7 @@ use Rattle.std.specs.Prelude.{◌≡◌, refl, ℕ, ◌==◌, List, [], ◌∷�
 use Rattle.std.specs.List.{list_all}
 use Rattle.std.proofs.Common.{ap, sym, ◌∙◌, true≢false, arith}
 use Rattle.std.proofs.lemmas.Bool.Decides.{nat_tests}
-use Rattle.fv_base.specs.Name.{is_name, is_word, begins_word, continues_word}
+use Rattle.fv_text.specs.Name.{is_name, is_word, begins_word, continues_word}
 use Rattle.vl_tree.specs.ExprWellFormed.{IsName}
 use Rattle.vl_elab_draft.specs.Ends.{ends_plain}
 use Rattle.vl_elab_accepted_laws.proofs.Constants.{first_true, second_true}

@@ -1,7 +1,7 @@
 -- With full names, and with numbers in place of constants, nothing has more nodes.
 use Rattle.std.specs.Prelude.{◌≡◌, refl, ℕ, ◌+◌, ◌≤◌, List, [], ◌∷◌, Option, Some, None}
 use Rattle.std.proofs.Common.{ap, sym, ◌∙◌, subst, arith}
-use Rattle.fv_base.specs.declared.pos.Pos.{Pos}
+use Rattle.fv_text.specs.declared.pos.Pos.{Pos}
 use Rattle.vl_tree.specs.Expr.{
   Expr,
   Exprs,

@@ -1,4 +1,4 @@
--- Names, as a set of them. Rule of this project.
+-- Between functions: Names, as a set of them. Rule of this project.
 use Rattle.std.specs.Prelude.{◌≡◌, ℕ, List, Bool, false, ◌||◌, Option, Some, None, Box, bytes_eq, is_some}
 use Rattle.std.specs.declared.alloc.Global.{Global}
 use Rattle.std.specs.Map.{lookup}

@@ -1,4 +1,4 @@
--- Modules that stand in one another, by their names. Rule of this project.
+-- Between functions: Modules that stand in one another, by their names. Rule of this project.
 use Rattle.std.specs.Prelude.{ℕ, List, map, Vec}
 use Rattle.std.specs.declared.alloc.Global.{Global}
 

@@ -1,4 +1,5 @@
--- Modules by their names. IEEE 1364-2005, section 12.1; that the first one of a name counts is a rule of this project.
+-- Between functions: Modules by their names. IEEE 1364-2005, section 12.1; that the first one of a name counts is a
+-- rule of this project.
 use Rattle.std.specs.Prelude.{◌≡◌, ℕ, ◌+◌, List, [], ◌∷◌, Bool, ◌||◌, Option, Some, None, bytes_eq}
 use Rattle.std.specs.Prelude.{if◌then◌else◌}
 use Rattle.std.specs.Map.{lookup}

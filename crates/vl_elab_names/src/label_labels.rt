@@ -4,7 +4,7 @@ ghost use Rattle.vl_mean.specs.Declarations as spec;
 ghost use Rattle.vl_elab_names.specs.Known.{AreNames};
 
 use crate::set::NameSet;
-use fv_base::{Memory, Text};
+use fv_text::{Memory, Text};
 use itoa::Buffer;
 use std::alloc::Global;
 

@@ -7,7 +7,7 @@ ghost use Rattle.vl_elab_names.specs.Known.{AreNames};
 
 use crate::scope_names_labels::{add_decls, add_header, add_items};
 use crate::set::NameSet;
-use fv_base::{List, Memory, Text};
+use fv_text::{List, Memory, Text};
 use std::alloc::Global;
 use std::marker::Model;
 use vl_size::Decl;

@@ -5,7 +5,7 @@ ghost use Rattle.std.specs.Map.{lookup};
 ghost use Rattle.vl_mean.specs.Cells.{contains_name};
 ghost use Rattle.vl_elab_names.specs.Path.{texts_of};
 
-use fv_base::{List, Memory, Text};
+use fv_text::{List, Memory, Text};
 use indexmap::IndexMap;
 use std::alloc::Global;
 use std::marker::Model;

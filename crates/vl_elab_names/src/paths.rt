@@ -5,7 +5,7 @@ ghost use Rattle.fv_bits.specs.Bits.{as_int};
 ghost use Rattle.vl_size.specs.Size.{is_bound};
 ghost use Rattle.vl_mean.specs.Walk as spec;
 
-use fv_base::{Memory, Text};
+use fv_text::{Memory, Text};
 use itoa::Buffer;
 use std::alloc::Global;
 use vl_mean::Const;

@@ -6,7 +6,7 @@ ghost use Rattle.vl_mean.specs.Declarations as spec;
 ghost use Rattle.vl_mean.specs.Declarations.{header_parameters};
 ghost use Rattle.vl_mean.specs.Walk.{parameter_names};
 
-use fv_base::{List, Memory, Text};
+use fv_text::{List, Memory, Text};
 use std::alloc::Global;
 use vl_size::Decl;
 use vl_tree::{Block, DeclaredName, HeaderParameter, Item, ItemKind, Parameter};

@@ -2,7 +2,7 @@
 ghost use Rattle.std.specs.Prelude.{◌≡◌, ◌||◌, ℕ, List, false, bytes_eq, IfOk, OnOk, OnErr};
 ghost use Rattle.vl_elab_names.specs.Known as spec;
 
-use fv_base::{Memory, Text};
+use fv_text::{Memory, Text};
 use indexmap::IndexMap;
 use std::alloc::Global;
 

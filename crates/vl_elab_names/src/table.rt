@@ -4,7 +4,7 @@ ghost use Rattle.std.specs.Option.{option_copied};
 ghost use Rattle.vl_mean.specs.Walk.{module_named};
 ghost use Rattle.vl_elab_names.specs.Table as spec;
 
-use fv_base::{Memory, Text};
+use fv_text::{Memory, Text};
 use indexmap::IndexMap;
 use std::alloc::Global;
 use vl_tree::Module;

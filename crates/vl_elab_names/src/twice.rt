@@ -4,7 +4,7 @@ ghost use Rattle.vl_elab_spec.specs.Refused as refused;
 ghost use Rattle.vl_elab_names.specs.Table as spec;
 
 use crate::set::NameSet;
-use fv_base::Memory;
+use fv_text::Memory;
 use std::alloc::Global;
 use vl_elab_spec::ElabFault;
 use vl_tree::Module;

@@ -1,5 +1,5 @@
--- The parameters of a scope, by what it is made from. IEEE 1364-2005, sections 3.11 and 12.2; that a parameter may use
--- those before it alone is a rule of this project.
+-- Between functions: The parameters of a scope, by what it is made from. IEEE 1364-2005, sections 3.11 and 12.2; that
+-- a parameter may use those before it alone is a rule of this project.
 use Rattle.std.specs.Prelude.{List, [], ◌∷◌, ◌++◌, None}
 use Rattle.vl_tree.specs.declared.declaration.HeaderParameter.{HeaderParameter}
 use Rattle.vl_tree.specs.declared.declaration.Port.{Port}

@@ -1,5 +1,5 @@
--- Parameters of a scope as they are entered while a design is judged: what the functions that enter them promise one
--- another. Rule of this project.
+-- Between functions: Parameters of a scope as they are entered while a design is judged: what the functions that enter
+-- them promise one another. Rule of this project.
 use Rattle.std.specs.Prelude.{ℕ, List, [], ◌∷◌, ◌++◌, drop, Bool, true, false, ◌&&◌, ◌||◌, is_some, map}
 use Rattle.std.specs.Prelude.{Option, Some, None, if◌then◌else◌}
 use Rattle.vl_tree.specs.declared.declaration.HeaderParameter.{HeaderParameter}

@@ -1,5 +1,5 @@
--- What is known of declared ranges. IEEE 1364-2005, sections 3.3 and 3.11; that a range has 128 bits at most is a rule
--- of this project.
+-- Between functions: What is known of declared ranges. IEEE 1364-2005, sections 3.3 and 3.11; that a range has 128
+-- bits at most is a rule of this project.
 use Rattle.std.specs.Prelude.{List, Bool, ◌&&◌, int_le, nat_le, ℤ, pos, Option, Some, None, if◌then◌else◌}
 use Rattle.vl_tree.specs.declared.declaration.Range.{Range}
 use Rattle.vl_size.specs.Size.{is_bound}

@@ -1,4 +1,4 @@
--- The parameters of a scope that are entered. IEEE 1364-2005, sections 3.11 and 12.2.
+-- Between functions: The parameters of a scope that are entered. IEEE 1364-2005, sections 3.11 and 12.2.
 use Rattle.std.specs.Prelude.{◌≡◌, ℕ, List, is_none}
 use Rattle.vl_mean.specs.Constants.{Constants, constant_of}
 use Rattle.vl_elab_spec.specs.Meanings.{Names, is_undeclared, meaning_of, value_of}

@@ -1,4 +1,5 @@
--- Names that the walk has passed: what the functions that keep them promise one another. Rule of this project.
+-- Between functions: Names that the walk has passed: what the functions that keep them promise one another. Rule of
+-- this project.
 use Rattle.std.specs.Prelude.{ℕ, List, [], ◌∷◌, if◌then◌else◌}
 use Rattle.vl_tree.specs.Item.{Item, parameter}
 use Rattle.vl_mean.specs.Walk.{parameter_names}

@@ -1,5 +1,5 @@
--- Parameters of a scope that stand before a step of the walk, and those that don't. That the value of a parameter may
--- use those before it alone is a rule of this project.
+-- Between functions: Parameters of a scope that stand before a step of the walk, and those that don't. That the value
+-- of a parameter may use those before it alone is a rule of this project.
 use Rattle.std.specs.Prelude.{◌≡◌, ℕ, List, [], ◌∷◌, ◌++◌, ◌&&◌, if◌then◌else◌}
 use Rattle.vl_mean.specs.Cells.{contains_name}
 use Rattle.vl_mean.specs.Scopes.{Scope}

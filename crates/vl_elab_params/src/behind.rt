@@ -8,7 +8,7 @@ ghost use Rattle.vl_elab_scope.specs.Seen.{with_name, AreNamed};
 ghost use Rattle.vl_elab_params.specs.Among.{contents};
 ghost use Rattle.vl_elab_params.specs.Entered as spec;
 
-use fv_base::{Memory, Text};
+use fv_text::{Memory, Text};
 use std::alloc::Global;
 use vl_elab_scope::{Level, Meaning};
 use vl_tree::{DeclaredName, HeaderParameter, Item, ItemKind, Parameter, Port, PortKind};

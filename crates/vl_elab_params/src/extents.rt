@@ -4,7 +4,7 @@ ghost use Rattle.fv_bits.specs.Bits.{as_int};
 ghost use Rattle.vl_size.specs.Size.{is_bound};
 ghost use Rattle.vl_elab_params.specs.Known as spec;
 
-use fv_base::Memory;
+use fv_text::Memory;
 use std::alloc::Global;
 use vl_elab_scope::{Names, value_of};
 use vl_mean::widths::bound;

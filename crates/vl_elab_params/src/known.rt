@@ -10,7 +10,7 @@ ghost use Rattle.vl_elab_params.specs.Entered as spec;
 ghost use Rattle.vl_elab_params.specs.Known as known;
 
 use crate::extents::{Extent, known_extent};
-use fv_base::Memory;
+use fv_text::Memory;
 use std::alloc::Global;
 use vl_elab_const::Given;
 use vl_elab_scope::{Names, known_expr, value_of};

@@ -8,7 +8,7 @@ ghost use Rattle.vl_elab_spec.specs.Meanings.{meaning_in};
 ghost use Rattle.vl_elab_scope.specs.Seen.{seen, seen_or, with_name};
 ghost use Rattle.vl_elab_params.specs.Passed as spec;
 
-use fv_base::{Memory, Text};
+use fv_text::{Memory, Text};
 use std::alloc::Global;
 use vl_elab_scope::{Level, Meaning, Names};
 use vl_tree::{Block, DeclaredName, Item, ItemKind, Parameter};

@@ -14,7 +14,7 @@ ghost use Rattle.vl_elab_params.specs.Own.{AreOwn};
 
 use crate::behind::names_behind;
 use crate::known::selected_if_known;
-use fv_base::{Memory, Text};
+use fv_text::{Memory, Text};
 use std::alloc::Global;
 use vl_elab_const::{Given, parameter_value};
 use vl_elab_scope::{Level, Meaning, Names};

@@ -8,7 +8,7 @@ ghost use Rattle.vl_elab_scope.specs.Seen.{with_name};
 ghost use Rattle.vl_elab_params.specs.Entered.{with_later};
 ghost use Rattle.vl_elab_params.specs.Passed as spec;
 
-use fv_base::{Memory, Text};
+use fv_text::{Memory, Text};
 use std::alloc::Global;
 use vl_elab_scope::{Level, Meaning};
 use vl_tree::{HeaderParameter, Item, ItemKind, Parameter};

@@ -11,7 +11,7 @@ ghost use Rattle.vl_elab_params.specs.Reached as spec;
 
 use crate::names::{pass_item, pass_name};
 use crate::pending::all_pending;
-use fv_base::{Memory, Text};
+use fv_text::{Memory, Text};
 use std::alloc::Global;
 use std::mem;
 use vl_elab_scope::{Level, Names};

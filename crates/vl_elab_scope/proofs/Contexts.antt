@@ -2,7 +2,7 @@
 use Rattle.std.specs.Prelude.{◌≡◌, refl, ℕ, List, Bool, Option, Some, None, is_none, ℤ}
 use Rattle.std.specs.Prelude.{if◌then◌else◌}
 use Rattle.std.proofs.Common.{ap, sym, ◌∙◌}
-use Rattle.fv_base.specs.declared.pos.Pos.{Pos}
+use Rattle.fv_text.specs.declared.pos.Pos.{Pos}
 use Rattle.vl_tree.specs.Expr.{Expr, name, conditional, whole}
 use Rattle.vl_size.specs.declared.context.Context.{Context}
 use Rattle.vl_size.specs.declared.decl.Decl.{Decl}

@@ -1,7 +1,7 @@
 -- Names that mean constants, and those that mean none.
 use Rattle.std.specs.Prelude.{◌≡◌, refl, ℕ, List, false, Option, Some, None, is_some, Result, Ok, Err, IfOk}
 use Rattle.std.proofs.Common.{ap, ◌∙◌}
-use Rattle.fv_base.specs.declared.pos.Pos.{Pos}
+use Rattle.fv_text.specs.declared.pos.Pos.{Pos}
 use Rattle.vl_tree.specs.Expr.{Expr, Selects, name, whole}
 use Rattle.vl_mean.specs.declared.const_number.Const.{Const}
 use Rattle.vl_mean.specs.Constants.{named_constant, settled, settled_selects}

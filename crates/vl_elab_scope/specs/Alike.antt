@@ -1,4 +1,4 @@
--- Scopes in which each name means the same, however they are kept. Rule of this project.
+-- Between functions: Scopes in which each name means the same, however they are kept. Rule of this project.
 use Rattle.std.specs.Prelude.{◌≡◌, ℕ, List}
 use Rattle.vl_elab_spec.specs.Meanings.{Names, meaning_in}
 use Rattle.vl_elab_scope.specs.Seen.{AllNamed}

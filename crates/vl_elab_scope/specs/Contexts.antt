@@ -1,5 +1,5 @@
--- The sizes and the signs of names and of operations, from what the names mean and from those of the operands, which
--- have them by themselves. IEEE 1364-2005, sections 5.4 and 5.5.1.
+-- Between functions: The sizes and the signs of names and of operations, from what the names mean and from those of
+-- the operands, which have them by themselves. IEEE 1364-2005, sections 5.4 and 5.5.1.
 use Rattle.std.specs.Prelude.{ℕ, max, false, ◌&&◌, Option, Some, None, is_none, if◌then◌else◌}
 use Rattle.vl_tree.specs.declared.operator.BinaryOperator.{BinaryOperator}
 use Rattle.vl_tree.specs.declared.operator.Cast.{Cast}

@@ -1,4 +1,4 @@
--- Whether a quotient or a remainder stands in an expression. Rule of this project.
+-- Between functions: Whether a quotient or a remainder stands in an expression. Rule of this project.
 use Rattle.std.specs.Prelude.{Bool, false, ◌||◌}
 use Rattle.vl_tree.specs.declared.expr.Select.{Select}
 use Rattle.vl_tree.specs.declared.expr.Select.TheVariants as s

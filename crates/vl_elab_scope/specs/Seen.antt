@@ -1,4 +1,4 @@
--- What the names of scopes mean, as it is kept while a design is judged. Rule of this project.
+-- Between functions: What the names of scopes mean, as it is kept while a design is judged. Rule of this project.
 use Rattle.std.specs.Prelude.{◌≡◌, ℕ, List, [], ◌∷◌, ◌++◌, map, Option, Some, None, Box, Vec}
 use Rattle.std.specs.Prelude.{if◌then◌else◌}
 use Rattle.std.specs.declared.alloc.Global.{Global}

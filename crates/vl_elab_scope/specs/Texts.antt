@@ -1,4 +1,4 @@
--- The names that stand in an expression, in order, and what is known of those alone.
+-- Between functions: The names that stand in an expression, in order, and what is known of those alone.
 use Rattle.std.specs.Prelude.{◌≡◌, ℕ, List, [], ◌∷◌, ◌++◌, true, Option, Some, None}
 use Rattle.std.specs.Prelude.{if◌then◌else◌}
 use Rattle.vl_tree.specs.Expr.{

@@ -1,6 +1,6 @@
 //! Over names that mean the same all is refused alike.
 ghost use Rattle.std.specs.Prelude.{◌≡◌, ℕ, List, Bool, Option, false};
-ghost use Rattle.fv_base.specs.declared.pos.Pos.{Pos};
+ghost use Rattle.fv_text.specs.declared.pos.Pos.{Pos};
 ghost use Rattle.vl_tree.specs.declared.declaration.DeclaredName.{DeclaredName};
 ghost use Rattle.vl_tree.specs.declared.declaration.NetKind.{NetKind};
 ghost use Rattle.vl_tree.specs.declared.declaration.Range.{Range};

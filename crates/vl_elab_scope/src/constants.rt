@@ -8,7 +8,7 @@ ghost use Rattle.vl_elab_scope.specs.Seen.{seen_or};
 
 use crate::meaning::Meaning;
 use crate::names::Names;
-use fv_base::{List, Memory, Number, Pos, Text};
+use fv_text::{List, Memory, Number, Pos, Text};
 use std::alloc::Global;
 use vl_mean::Const;
 use vl_tree::{Expr, ExprKind};

@@ -1,7 +1,7 @@
 //! The size and the sign that an expression has by itself, as names mean them.
 ghost use Rattle.std.specs.Prelude.{◌≡◌, ◌≤◌, ◌&&◌, false, IfOk, IfSome};
 ghost use Rattle.std.specs.Option.{option_copied};
-ghost use Rattle.fv_base.specs.declared.pos.Pos.{Pos};
+ghost use Rattle.fv_text.specs.declared.pos.Pos.{Pos};
 ghost use Rattle.vl_tree.specs.Expr as tree;
 ghost use Rattle.vl_tree.specs.Expr.{whole};
 ghost use Rattle.vl_size.specs.Divisors.{own_context as own_context_of};
@@ -16,7 +16,7 @@ use crate::meaning::{Meaning, Object};
 use crate::names::Names;
 use crate::settle::known_expr;
 use crate::tables::decls_of;
-use fv_base::{Memory, Text};
+use fv_text::{Memory, Text};
 use std::alloc::Global;
 use vl_size::way::{Way, divides, keeps_size, size_by, way_of};
 use vl_size::{Context, own_context};

@@ -6,7 +6,7 @@ ghost use Rattle.vl_elab_spec.specs.Meanings.{meaning_of};
 ghost use Rattle.vl_elab_scope.specs.Seen as spec;
 
 use crate::meaning::{Filled, Meaning, Named};
-use fv_base::{Memory, Text};
+use fv_text::{Memory, Text};
 use indexmap::IndexMap;
 use std::alloc::Global;
 use std::marker::Model;

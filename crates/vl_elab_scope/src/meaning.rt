@@ -1,6 +1,6 @@
 ghost use Rattle.vl_size.specs.Table.{IsPlain, IsShaped};
 
-use fv_base::Text;
+use fv_text::Text;
 use indexmap::IndexMap;
 use vl_mean::Const;
 use vl_size::Decl;

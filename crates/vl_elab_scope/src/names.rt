@@ -6,7 +6,7 @@ ghost use Rattle.vl_elab_scope.specs.Seen as spec;
 
 use crate::level::Level;
 use crate::meaning::Meaning;
-use fv_base::{Memory, Text};
+use fv_text::{Memory, Text};
 use std::alloc::Global;
 use std::marker::Model;
 

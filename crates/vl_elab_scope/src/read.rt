@@ -12,7 +12,7 @@ use crate::divisions::has_division;
 use crate::names::Names;
 use crate::settle::known_expr;
 use crate::tables::decls_of;
-use fv_base::{Memory, Pos};
+use fv_text::{Memory, Pos};
 use std::alloc::Global;
 use vl_mean::{Env, value};
 use vl_size::{Context, Decls, Own, own_zero_divisor, sign_of, size_of, zero_divisor};

@@ -10,7 +10,7 @@ ghost use Rattle.vl_elab_spec.specs.Meanings as meanings;
 use crate::constants::{is_constant, whole_name};
 use crate::names::Names;
 use crate::tables::known_by_table;
-use fv_base::{List, Memory, Pos, Text};
+use fv_text::{List, Memory, Pos, Text};
 use std::alloc::Global;
 use vl_tree::{Expr, ExprKind, Select};
 

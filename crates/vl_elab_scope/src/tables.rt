@@ -12,7 +12,7 @@ ghost use Rattle.vl_elab_scope.specs.Texts.{texts, of_names, or_else, AgreeOn};
 use crate::meaning::{Meaning, Object};
 use crate::names::Names;
 use crate::texts::add_texts;
-use fv_base::{List, Memory, Text};
+use fv_text::{List, Memory, Text};
 use std::alloc::Global;
 use vl_mean::{Params, settled};
 use vl_size::{Decl, Decls};

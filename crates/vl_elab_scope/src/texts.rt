@@ -5,7 +5,7 @@ ghost use Rattle.vl_tree.specs.ExprView.{selects, with_select};
 ghost use Rattle.vl_tree.specs.Expr as tree;
 ghost use Rattle.vl_elab_scope.specs.Texts as spec;
 
-use fv_base::{List, Memory, Text};
+use fv_text::{List, Memory, Text};
 use std::alloc::Global;
 use vl_tree::{Expr, ExprKind, Select};
 

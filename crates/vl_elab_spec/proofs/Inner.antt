@@ -4,7 +4,7 @@ use Rattle.std.specs.Prelude.{if◌then◌else◌, is_none, ◌+◌, ◌≤◌}
 use Rattle.std.specs.Option.{option_map}
 use Rattle.std.proofs.Common.{ap, sym, ◌∙◌, arith, subst, true≢false}
 use Rattle.std.proofs.lemmas.List.{append-nil}
-use Rattle.fv_base.specs.declared.pos.Pos.{Pos}
+use Rattle.fv_text.specs.declared.pos.Pos.{Pos}
 use Rattle.vl_tree.specs.declared.item.Block as declared
 use Rattle.vl_tree.specs.declared.item.ItemKind.TheVariants as k
 use Rattle.vl_tree.specs.declared.source.Module.{Module}

@@ -1,4 +1,3 @@
-pub mod Limits
 pub mod LowestFirst
 pub mod Passed
 pub mod Stays

@@ -4,7 +4,7 @@ use Rattle.std.specs.Prelude.{Option, Some, None, ◌⊎◌, if◌then◌else◌
 use Rattle.std.proofs.Common.{ap, sym, ◌∙◌, true≢false, arith, subst, inl, inr}
 use Rattle.std.proofs.lemmas.Bool.Decides.{nat_tests}
 use Rattle.std.proofs.lemmas.Option.{same_Some}
-use Rattle.fv_base.specs.declared.pos.Pos.{Pos}
+use Rattle.fv_text.specs.declared.pos.Pos.{Pos}
 use Rattle.vl_tree.specs.declared.source.Module.{Module}
 use Rattle.vl_size.specs.Places.{is_earlier}
 use Rattle.vl_mean.specs.Runs.{Each}

@@ -1,4 +1,4 @@
--- Constants that are known, among all that there are. Rule of this project.
+-- Between functions: Constants that are known, among all that there are. Rule of this project.
 use Rattle.std.specs.Prelude.{◌≡◌, ℕ, List, Option, Some}
 use Rattle.vl_mean.specs.declared.const_number.Const.{Const}
 

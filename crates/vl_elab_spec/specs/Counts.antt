@@ -1,5 +1,5 @@
--- How much of a design the steps of its walk are: nodes of its tree, each time that the walk goes through them, and
--- declared names. Rule of this project.
+-- Meaning: How much of a design the steps of its walk are: nodes of its tree, each time that the walk goes through
+-- them, and declared names. Rule of this project.
 use Rattle.std.specs.Prelude.{
   ℕ,
   zero,
@@ -14,7 +14,7 @@ use Rattle.std.specs.Prelude.{
   None,
   if◌then◌else◌,
 }
-use Rattle.fv_base.specs.declared.pos.Pos.{Pos}
+use Rattle.fv_text.specs.declared.pos.Pos.{Pos}
 use Rattle.vl_tree.specs.declared.declaration.DeclaredName.{DeclaredName}
 use Rattle.vl_tree.specs.declared.declaration.Parameter.{Parameter}
 use Rattle.vl_tree.specs.declared.declaration.Range.{Range}

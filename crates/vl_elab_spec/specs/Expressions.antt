@@ -1,6 +1,6 @@
--- Where an expression is refused, and why: all refusals that are there, inner ones first. An expression whose names
--- have no known value or shape yet isn't refused for its size. IEEE 1364-2005, sections 4.2, 5.1 and 5.4; the limits,
--- and that a division stands in constants alone, are rules of this project.
+-- Meaning: Where an expression is refused, and why: all refusals that are there, inner ones first. An expression whose
+-- names have no known value or shape yet isn't refused for its size. IEEE 1364-2005, sections 4.2, 5.1 and 5.4; the
+-- limits, and that a division stands in constants alone, are rules of this project.
 use Rattle.std.specs.Prelude.{
   ℕ,
   ◌+◌,
@@ -19,7 +19,7 @@ use Rattle.std.specs.Prelude.{
   nat_le,
 }
 use Rattle.std.specs.Prelude.{int_le, Option, Some, None, pos, if◌then◌else◌}
-use Rattle.fv_base.specs.declared.pos.Pos.{Pos}
+use Rattle.fv_text.specs.declared.pos.Pos.{Pos}
 use Rattle.vl_tree.specs.Expr.{
   Expr,
   Exprs,

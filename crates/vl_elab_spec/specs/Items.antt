@@ -1,5 +1,5 @@
--- Where the steps of a walk are refused, and why: all refusals of a step. IEEE 1364-2005, sections 3.2, 3.9, 3.11,
--- 12.1 to 12.4; the limits, the clock, and what a memory may be are rules of this project.
+-- Meaning: Where the steps of a walk are refused, and why: all refusals of a step. IEEE 1364-2005, sections 3.2, 3.9,
+-- 3.11, 12.1 to 12.4; the limits, the clock, and what a memory may be are rules of this project.
 use Rattle.std.specs.Prelude.{
   ℕ,
   zero,
@@ -18,7 +18,7 @@ use Rattle.std.specs.Prelude.{
   not,
 }
 use Rattle.std.specs.Prelude.{is_none, Option, Some, None, bytes_eq, if◌then◌else◌}
-use Rattle.fv_base.specs.declared.pos.Pos.{Pos}
+use Rattle.fv_text.specs.declared.pos.Pos.{Pos}
 use Rattle.vl_tree.specs.declared.declaration.DeclaredName.{DeclaredName}
 use Rattle.vl_tree.specs.declared.declaration.Direction.{Direction}
 use Rattle.vl_tree.specs.declared.declaration.Direction.TheVariants as direction

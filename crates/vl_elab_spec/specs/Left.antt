@@ -1,4 +1,4 @@
--- What is left of a walk behind the steps that it went through. Rule of this project.
+-- Between functions: What is left of a walk behind the steps that it went through. Rule of this project.
 use Rattle.std.specs.Prelude.{ℕ, List, Option}
 use Rattle.vl_tree.specs.declared.source.Module.{Module}
 use Rattle.vl_tree.specs.Item.{Items}

@@ -4,7 +4,6 @@ pub mod Statements
 pub mod Items
 pub mod Counts
 pub mod Refused
-pub mod RefusedDesigns
 pub mod Walked
 pub mod Among
 pub mod Left

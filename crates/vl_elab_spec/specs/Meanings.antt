@@ -1,6 +1,6 @@
--- What a name means while a design is judged. A parameter has its value, and a net or a variable its shape, only
--- where its own declaration isn't refused for them: what uses the name before isn't refused then, and the declaration
--- is, in its place. IEEE 1364-2005, sections 3.11, 4.2.1 and 12.7; that order is a rule of this project.
+-- Meaning: What a name means while a design is judged. A parameter has its value, and a net or a variable its shape,
+-- only where its own declaration isn't refused for them: what uses the name before isn't refused then, and the
+-- declaration is, in its place. IEEE 1364-2005, sections 3.11, 4.2.1 and 12.7; that order is a rule of this project.
 use Rattle.std.specs.Prelude.{
   ℕ,
   List,

@@ -1,5 +1,5 @@
--- Whether a design is refused, and why: the first step of the walk that is, of it the lowest number, and of one
--- number the earliest place. The order is a rule of this project.
+-- Meaning: Whether a design is refused, and why: the first step of the walk that is, of it the lowest number, and of
+-- one number the earliest place. The order is a rule of this project.
 use Rattle.std.specs.Prelude.{
   ◌≡◌,
   ℕ,
@@ -18,7 +18,7 @@ use Rattle.std.specs.Prelude.{
   nat_lt,
 }
 use Rattle.std.specs.Prelude.{is_none, Option, Some, None, ◌⊎◌, if◌then◌else◌}
-use Rattle.fv_base.specs.declared.pos.Pos.{Pos}
+use Rattle.fv_text.specs.declared.pos.Pos.{Pos}
 use Rattle.vl_tree.specs.declared.source.Module.{Module}
 use Rattle.vl_size.specs.Places.{is_earlier}
 use Rattle.vl_size.specs.declared.decl.Class.{Class}

@@ -1,5 +1,5 @@
--- Where targets and statements are refused, and why. IEEE 1364-2005, sections 6.1, 6.2, 9.2 and 9.5; that the clock,
--- inputs and names that are free aren't assigned, and the limits, are rules of this project.
+-- Meaning: Where targets and statements are refused, and why. IEEE 1364-2005, sections 6.1, 6.2, 9.2 and 9.5; that the
+-- clock, inputs and names that are free aren't assigned, and the limits, are rules of this project.
 use Rattle.std.specs.Prelude.{
   ℕ,
   ◌+◌,
@@ -19,7 +19,7 @@ use Rattle.std.specs.Prelude.{
   None,
   if◌then◌else◌,
 }
-use Rattle.fv_base.specs.declared.pos.Pos.{Pos}
+use Rattle.fv_text.specs.declared.pos.Pos.{Pos}
 use Rattle.vl_tree.specs.Expr.{Expr}
 use Rattle.vl_tree.specs.Lval.{Lval, Lvals, named, joined, no_lvals, more_lvals}
 use Rattle.vl_tree.specs.Stmt.{

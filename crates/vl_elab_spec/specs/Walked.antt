@@ -1,4 +1,4 @@
--- Steps that were walked, and how much of a design they are. Rule of this project.
+-- Between functions: Steps that were walked, and how much of a design they are. Rule of this project.
 use Rattle.std.specs.Prelude.{◌≡◌, List, Option, None}
 use Rattle.vl_tree.specs.declared.source.Module.{Module}
 use Rattle.vl_mean.specs.ConstantFaults.{capped}

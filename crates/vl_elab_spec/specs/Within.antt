@@ -1,5 +1,5 @@
--- The steps of an item, a block and a module by their parts, and how deep blocks stand in one another. IEEE 1364-2005,
--- sections 12.1 and 12.4.
+-- Between functions: The steps of an item, a block and a module by their parts, and how deep blocks stand in one
+-- another. IEEE 1364-2005, sections 12.1 and 12.4.
 use Rattle.std.specs.Prelude.{
   ◌≡◌,
   ℕ,

@@ -1,4 +1,4 @@
-use fv_base::{List, Pos, Text};
+use fv_text::{List, Pos, Text};
 
 /// Why a source has no design without hierarchy. The first refused step of the walk is answered; of it the first in
 /// this order, and of one kind the one at the earliest place.

@@ -7,7 +7,6 @@
 #![tactic(auto)]
 
 mod elab_fault;
-pub mod examples;
 mod fixed_law;
 pub mod order;
 mod totals;

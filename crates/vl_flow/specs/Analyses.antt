@@ -1,4 +1,4 @@
--- What is known of a design's drivers before they are judged. Rule of this project.
+-- Between functions: What is known of a design's drivers before they are judged. Rule of this project.
 use Rattle.std.specs.Prelude.{◌≡◌, List, [], ◌∷◌, ◌++◌, true, false}
 use Rattle.vl_size.specs.declared.decl.Decl.{Decl}
 use Rattle.vl_mean.specs.declared.driver.Driver.{Driver}

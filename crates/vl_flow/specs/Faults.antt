@@ -1,8 +1,8 @@
--- Which refusal of a design's drivers is answered: the first that is there, in the order of their numbers. Rule of this
--- project.
+-- Meaning: Which refusal of a design's drivers is answered: the first that is there, in the order of their numbers.
+-- Rule of this project.
 use Rattle.std.specs.Prelude.{◌≡◌, List, ◌∷◌, Option, Some, Result, Ok, Err, is_none, if◌then◌else◌}
 use Rattle.std.specs.Option.{option_map}
-use Rattle.fv_base.specs.declared.pos.Pos.{Pos}
+use Rattle.fv_text.specs.declared.pos.Pos.{Pos}
 use Rattle.vl_size.specs.declared.decl.Decl.{Decl}
 use Rattle.vl_mean.specs.declared.driver.Driver.{Driver}
 use Rattle.vl_flow_spec.specs.Refusals.{IsLoop, blocking_shared, latch, mixed, two_drivers, undriven}

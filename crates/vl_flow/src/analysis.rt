@@ -2,8 +2,8 @@ ghost use Rattle.std.specs.Prelude.{IfOk};
 ghost use Rattle.vl_flow.specs.Analyses.{IsAnalysisOf};
 
 use crate::drivers::{DriverSets, sets_of};
-use fv_base::{List, Memory};
 use fv_bit_sets::Bits;
+use fv_text::{List, Memory};
 use std::alloc::Global;
 use vl_flow_cells::Numbering;
 use vl_flow_check::{Layout, Names, bits_of_names};

@@ -3,8 +3,8 @@ ghost use Rattle.vl_flow_cells.specs.Numbering.{IsNumberingOf};
 ghost use Rattle.vl_flow.specs.Analyses.{AreSetsOf, AddsUses};
 ghost use Rattle.vl_mean.specs.FlatLaw.{IsDriver};
 
-use fv_base::{List, Memory};
 use fv_bit_sets::Bits;
+use fv_text::{List, Memory};
 use std::alloc::Global;
 use vl_flow_cells::Numbering;
 use vl_flow_cells::uses_law::drivers_are_sized;

@@ -1,4 +1,4 @@
-use fv_base::{List, Memory, Pos, Text};
+use fv_text::{List, Memory, Pos, Text};
 use thiserror::Error;
 
 /// Why a design's drivers have no order. The first of these that is there is answered, over the whole design; within

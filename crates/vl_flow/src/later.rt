@@ -5,7 +5,7 @@ ghost use Rattle.vl_mean.specs.FlatLaw.{IsDriver, IsKept};
 
 use crate::analysis::Analysis;
 use crate::fault::FlowFault;
-use fv_base::Memory;
+use fv_text::Memory;
 use std::alloc::Global;
 use vl_flow_check::{blocking_shared, latch, mixed, two_drivers, undriven};
 use vl_mean::Driver;

@@ -4,7 +4,7 @@ ghost use Rattle.vl_flow_spec.specs.Refusals.{HasNoRefusal};
 ghost use Rattle.vl_flow_spec.specs.Sequence.{IsSequence};
 ghost use Rattle.vl_flow_spec.specs.Weight.{design_weight};
 
-use fv_base::List;
+use fv_text::List;
 use vl_mean::Flat;
 
 /// A design in which no driver is refused, by specs/Refusals of vl_flow_spec, with the order of those that aren't clocked

@@ -8,7 +8,7 @@ use crate::analysis::{Analysis, analyzed};
 use crate::fault::FlowFault;
 use crate::later::later_fault;
 use crate::ordered::Ordered;
-use fv_base::List;
+use fv_text::List;
 use std::alloc::Global;
 use vl_flow_order::{Found, sequence_of};
 use vl_flow_spec::order_law::an_order_has_no_loop;

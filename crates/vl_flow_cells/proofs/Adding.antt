@@ -1,7 +1,7 @@
 -- Runs that are put behind others add the bits of each.
 use Rattle.std.specs.Prelude.{◌≡◌, refl, ℕ, List, Bool, true, false, ◌||◌, Option}
 use Rattle.std.proofs.Common.{ap, sym, ◌∙◌, subst}
-use Rattle.fv_base.specs.declared.pos.Pos.{Pos}
+use Rattle.fv_text.specs.declared.pos.Pos.{Pos}
 use Rattle.vl_tree.specs.declared.expr.Select.{Select}
 use Rattle.vl_tree.specs.declared.expr.Select.TheVariants as k
 use Rattle.vl_tree.specs.Expr.{Expr, Selects, name, whole}

@@ -7,7 +7,7 @@ use Rattle.std.proofs.Common.{ap, sym, ◌∙◌, arith, true≢false}
 use Rattle.std.proofs.lemmas.Bool.Decides.{nat_tests}
 use Rattle.std.proofs.lemmas.List.Folds.{find_at}
 use Rattle.std.proofs.lemmas.Option.{same_Some}
-use Rattle.fv_base.specs.declared.pos.Pos.{Pos}
+use Rattle.fv_text.specs.declared.pos.Pos.{Pos}
 use Rattle.vl_tree.specs.Expr.{Expr, Selects, whole, bit, part, indexed}
 use Rattle.fv_bit_sets.specs.Cells.{is_set}
 use Rattle.fv_bits.specs.Bits.{ones}

@@ -1,5 +1,5 @@
--- The cells of declared names under numbers: those of a name stand together, a memory's words from the left bound on,
--- and the names in their order. Rule of this project.
+-- Between functions: The cells of declared names under numbers: those of a name stand together, a memory's words from
+-- the left bound on, and the names in their order. Rule of this project.
 use Rattle.std.specs.Prelude.{◌≡◌, ℕ, zero, suc, ◌+◌, List, [], ◌∷◌, ◌++◌, length, Bool, false, ◌&&◌, ◌||◌}
 use Rattle.std.specs.Prelude.{nat_le, nat_lt, Option, Some, None, IsSome, is_none, slice_get, if◌then◌else◌}
 use Rattle.vl_tree.specs.Expr.{Selects}

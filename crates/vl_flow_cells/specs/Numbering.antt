@@ -1,4 +1,4 @@
--- The numbers of a design's cells. Rule of this project.
+-- Between functions: The numbers of a design's cells. Rule of this project.
 use Rattle.std.specs.Prelude.{◌≡◌, ℕ, ◌≤◌, List, [], length, All, Some, slice_get}
 use Rattle.vl_size.specs.declared.decl.Decl.{Decl}
 use Rattle.vl_size.specs.Table.{AreApart, AreDifferent, IsShaped}

@@ -1,4 +1,5 @@
--- Places in vectors and memories. IEEE 1364-2005, sections 4.2.1 and 4.9.3; the limits are rules of this project.
+-- Between functions: Places in vectors and memories. IEEE 1364-2005, sections 4.2.1 and 4.9.3; the limits are rules of
+-- this project.
 use Rattle.std.specs.Prelude.{◌≡◌, ℕ, ◌<◌, ◌≤◌, ◌-◌, ◌^◌, List, Bool, nat_lt, Some, ℤ, pos, negsuc, ◌+ℤ◌, ◌-ℤ◌}
 use Rattle.std.specs.Prelude.{int_lt, if◌then◌else◌}
 use Rattle.vl_tree.specs.Expr.{Selects}

@@ -1,4 +1,5 @@
--- Expressions and statements in which each name is declared and has selects with a size. Rule of this project.
+-- Between functions: Expressions and statements in which each name is declared and has selects with a size. Rule of
+-- this project.
 use Rattle.std.specs.Prelude.{List, [], ◌∷◌}
 use Rattle.vl_tree.specs.Expr.{
   Expr,

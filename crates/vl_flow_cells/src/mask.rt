@@ -8,7 +8,7 @@ ghost use Rattle.vl_size.specs.Size.{is_bound, offset_of, start_of, vector_size}
 ghost use Rattle.vl_size.specs.Size as size;
 ghost use Rattle.vl_size.specs.Table.{span};
 ghost use Rattle.vl_size.specs.declared.decl.Decl.{Decl};
-ghost use Rattle.fv_base.specs.declared.pos.Pos.{Pos};
+ghost use Rattle.fv_text.specs.declared.pos.Pos.{Pos};
 ghost use Rattle.vl_tree.specs.Expr.{bit, indexed, part, whole};
 ghost use Rattle.vl_tree.specs.ExprView.{selects, with_select};
 ghost use Rattle.vl_flow_cells.specs.Places.{AreBelow, IsMaskOf};

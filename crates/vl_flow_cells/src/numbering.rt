@@ -5,7 +5,7 @@ ghost use Rattle.vl_size.specs.Size.{is_bound};
 ghost use Rattle.vl_size.specs.Table.{span};
 ghost use Rattle.vl_flow_cells.specs.Numbering.{IsNumberingOf};
 
-use fv_base::{List, Memory};
+use fv_text::{List, Memory};
 use std::alloc::Global;
 use vl_mean::Env;
 use vl_size::{Decl, Decls};

@@ -10,7 +10,7 @@ ghost use Rattle.vl_flow_cells.specs.Sized.{AreSized, IsSized, LabelsAreSized, S
 use crate::cell_run::CellRun;
 use crate::numbering::Numbering;
 use crate::runs::put;
-use fv_base::Memory;
+use fv_text::Memory;
 use vl_size::Decls;
 use vl_tree::{Expr, ExprKind, Select};
 

@@ -3,8 +3,8 @@ ghost use Rattle.fv_bit_sets.specs.Cells.{has};
 ghost use Rattle.vl_flow_cells.specs.Numbered.{any_takes, some_takes};
 
 use crate::cell_run::CellRun;
-use fv_base::Memory;
 use fv_bit_sets::Bits;
+use fv_text::Memory;
 use std::alloc::Global;
 
 /// Puts the run behind the others, where there is one.

@@ -1,5 +1,5 @@
 ghost use Rattle.std.specs.Prelude.{◌≡◌, ◌<◌, ◌≤◌, ◌+◌, ◌-◌, ◌^◌, List, None, Some, length, slice_get, true};
-ghost use Rattle.fv_base.specs.declared.pos.Pos.{Pos};
+ghost use Rattle.fv_text.specs.declared.pos.Pos.{Pos};
 ghost use Rattle.fv_bits.specs.Bits as bits;
 ghost use Rattle.vl_mean.specs.Cells.{cells};
 ghost use Rattle.vl_mean.specs.FlatLaw.{IsKept, flat_scopes};
@@ -17,8 +17,8 @@ use crate::fixed::are_fixed;
 use crate::mask::vector_mask;
 use crate::numbering::{Numbering, cell_count};
 use crate::place::word_place;
-use fv_base::Text;
 use fv_bits::ones;
+use fv_text::Text;
 use vl_mean::Env;
 use vl_size::{Decl, Decls};
 use vl_tree::{Expr, Select};

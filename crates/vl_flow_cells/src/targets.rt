@@ -11,7 +11,7 @@ use crate::fixed::are_fixed;
 use crate::numbering::Numbering;
 use crate::reads::selects_read;
 use crate::runs::put;
-use fv_base::Memory;
+use fv_text::Memory;
 use vl_size::Decls;
 use vl_tree::{Lval, LvalKind};
 

@@ -5,7 +5,7 @@ use Rattle.std.proofs.Common.{ap, sym, ◌∙◌, arith, subst, true≢false, ge
 use Rattle.std.proofs.lemmas.Bool.Decides.{nat_tests}
 use Rattle.std.proofs.lemmas.List.{append-nil, append_assoc, take_all, take_more}
 use Rattle.std.proofs.lemmas.Option.{same_Some, slice_get-get_or}
-use Rattle.fv_base.specs.declared.pos.Pos.{Pos}
+use Rattle.fv_text.specs.declared.pos.Pos.{Pos}
 use Rattle.vl_tree.specs.Expr.{Expr}
 use Rattle.vl_tree.specs.Lval.{Lval}
 use Rattle.vl_tree.specs.Stmt.{Stmt}

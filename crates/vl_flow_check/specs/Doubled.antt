@@ -1,6 +1,6 @@
--- The bits of a name that two drivers have. Rule of this project.
+-- Between functions: The bits of a name that two drivers have. Rule of this project.
 use Rattle.std.specs.Prelude.{◌≡◌, ℕ, ◌<◌, List, true, false, ◌&&◌, nat_lt, Option, Some, is_none, slice_get}
-use Rattle.fv_base.specs.declared.pos.Pos.{Pos}
+use Rattle.fv_text.specs.declared.pos.Pos.{Pos}
 use Rattle.vl_size.specs.declared.decl.Decl.{Decl}
 use Rattle.vl_mean.specs.declared.driver.Driver.{Driver}
 use Rattle.fv_bit_sets.specs.declared.step.Step.{Step}

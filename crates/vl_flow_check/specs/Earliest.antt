@@ -1,6 +1,6 @@
--- The first two of places. Rule of this project.
+-- Between functions: The first two of places. Rule of this project.
 use Rattle.std.specs.Prelude.{List, [], ◌∷◌}
-use Rattle.fv_base.specs.declared.pos.Pos.{Pos}
+use Rattle.fv_text.specs.declared.pos.Pos.{Pos}
 use Rattle.vl_flow_check.specs.declared.earliest.Earliest.{Earliest}
 use Rattle.vl_flow_check.specs.declared.earliest.Earliest.TheVariants as e
 

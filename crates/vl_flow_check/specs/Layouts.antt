@@ -1,4 +1,4 @@
--- A design's names and drivers as sets of bits of numbered cells. Rule of this project.
+-- Between functions: A design's names and drivers as sets of bits of numbered cells. Rule of this project.
 use Rattle.std.specs.Prelude.{◌≡◌, ℕ, suc, ◌<◌, ◌≤◌, List, length, Bool, true, false, ◌&&◌, nat_lt, Some, slice_get}
 use Rattle.vl_size.specs.declared.decl.Decl.{Decl}
 use Rattle.vl_mean.specs.FlatLaw.{is_net}

@@ -1,4 +1,4 @@
--- Sets of bits, one for each driver. Rule of this project.
+-- Between functions: Sets of bits, one for each driver. Rule of this project.
 use Rattle.std.specs.Prelude.{List, [], ◌∷◌, Bool, true, false, ◌&&◌, ◌||◌, not}
 use Rattle.vl_size.specs.declared.decl.Decl.{Decl}
 use Rattle.vl_mean.specs.declared.driver.Driver.{Driver}

@@ -1,7 +1,7 @@
--- Bits that drivers have, with the drivers' places. Rule of this project.
+-- Between functions: Bits that drivers have, with the drivers' places. Rule of this project.
 use Rattle.std.specs.Prelude.{◌≡◌, ℕ, ◌==◌, List, [], ◌∷◌, ◌++◌, Bool, true, false, ◌&&◌, ◌||◌, Some, is_none}
 use Rattle.std.specs.Prelude.{replicate, slice_get, if◌then◌else◌}
-use Rattle.fv_base.specs.declared.pos.Pos.{Pos}
+use Rattle.fv_text.specs.declared.pos.Pos.{Pos}
 use Rattle.vl_tree.specs.Lval.{Lval}
 use Rattle.vl_size.specs.declared.decl.Decl.{Decl}
 use Rattle.vl_mean.specs.FlatLaw.{flat_scopes}

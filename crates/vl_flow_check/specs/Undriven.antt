@@ -1,4 +1,4 @@
--- The bits of nets that no driver may assign. Rule of this project.
+-- Between functions: The bits of nets that no driver may assign. Rule of this project.
 use Rattle.std.specs.Prelude.{◌≡◌, ◌≤◌, ℕ, List, length, ◌&&◌, not, nat_lt, Option, Some, None, slice_get}
 use Rattle.vl_size.specs.declared.decl.Decl.{Decl}
 use Rattle.vl_mean.specs.FlatLaw.{is_net}

@@ -5,7 +5,7 @@ ghost use Rattle.vl_flow_check.specs.Shares.{places_at};
 ghost use Rattle.vl_flow_check.specs.declared.share.Share.{Share};
 
 use crate::share::Share;
-use fv_base::Pos;
+use fv_text::Pos;
 use vl_size::earlier::is_earlier;
 
 /// The first two of places in order, where there are so many.

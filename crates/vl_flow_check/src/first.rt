@@ -8,8 +8,8 @@ ghost use Rattle.vl_size.specs.declared.decl.Decl.{Decl};
 
 use crate::layout::{Layout, Span, span_of};
 use crate::name::name_of;
-use fv_base::{Memory, Pos, Text};
 use fv_bit_sets::Bits;
+use fv_text::{Memory, Pos, Text};
 use std::alloc::Global;
 use vl_flow_order::Footprint;
 use vl_mean::Driver;

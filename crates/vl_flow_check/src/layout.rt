@@ -9,9 +9,9 @@ ghost use Rattle.vl_flow_spec.specs.Reads.{Bits as BitsOf};
 ghost use Rattle.vl_mean.specs.FlatLaw as spec;
 ghost use Rattle.vl_size.specs.declared.decl.Decl.{Decl};
 
-use fv_base::{List, Memory};
 use fv_bit_sets::Bits;
 use fv_bits::ones;
+use fv_text::{List, Memory};
 use std::alloc::Global;
 use vl_flow_order::{Footprint, Groups, named, union_of};
 use vl_size::{Class, Decl, Decls};

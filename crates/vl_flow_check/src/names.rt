@@ -5,7 +5,7 @@ ghost use Rattle.vl_flow_check.specs.Shares.{AreNameShares};
 
 use crate::layout::Layout;
 use crate::share::{Share, push};
-use fv_base::Memory;
+use fv_text::Memory;
 use std::alloc::Global;
 use vl_flow_order::named;
 use vl_mean::Driver;

@@ -11,8 +11,8 @@ ghost use Rattle.vl_size.specs.declared.decl.Decl.{Decl};
 
 use crate::layout::{Layout, Names, bits_of_names};
 use crate::name::name_of;
-use fv_base::{Memory, Text};
 use fv_bit_sets::Bits;
+use fv_text::{Memory, Text};
 use std::alloc::Global;
 use vl_flow_order::{Groups, union_of};
 use vl_size::Decls;

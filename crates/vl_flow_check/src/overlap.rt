@@ -2,8 +2,8 @@ ghost use Rattle.std.specs.Prelude.{[], IfOk};
 ghost use Rattle.vl_flow_check.specs.Shares.{IsJoined, IsOverlapOf};
 
 use crate::share::Share;
-use fv_base::Memory;
 use fv_bit_sets::Bits;
+use fv_text::Memory;
 use std::alloc::Global;
 
 /// The bits that some share has, and those that two have.

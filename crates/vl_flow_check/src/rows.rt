@@ -12,8 +12,8 @@ ghost use Rattle.vl_size.specs.declared.decl.Decl.{Decl};
 
 use crate::layout::Layout;
 use crate::which::Which;
-use fv_base::Memory;
 use fv_bit_sets::Bits;
+use fv_text::Memory;
 use std::alloc::Global;
 use vl_flow_order::union_of;
 

@@ -1,8 +1,8 @@
 ghost use Rattle.std.specs.Prelude.{◌≡◌, ◌++◌, ◌∷◌, ◌<◌, [], OnOk};
 ghost use Rattle.fv_bit_sets.specs.Cells.{has};
 
-use fv_base::{Memory, Pos};
 use fv_bit_sets::Bits;
+use fv_text::{Memory, Pos};
 
 /// Bits that a driver has, with its place.
 #[derive(Drop)]

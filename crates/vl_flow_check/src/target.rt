@@ -5,7 +5,7 @@ ghost use Rattle.vl_mean.specs.FlatLaw.{IsTarget, is_net};
 ghost use Rattle.vl_flow_check.specs.Shares.{AddsPlaces, target_places};
 
 use crate::share::{Share, push};
-use fv_base::{Memory, Pos};
+use fv_text::{Memory, Pos};
 use std::alloc::Global;
 use vl_flow_cells::Numbering;
 use vl_flow_effects::changes_of;

@@ -13,7 +13,7 @@ ghost use Rattle.vl_flow_check.specs.Shares.{AddsPlaces, AreBitShares};
 use crate::layout::Layout;
 use crate::share::{Share, push};
 use crate::target::target_shares;
-use fv_base::{Memory, Pos};
+use fv_text::{Memory, Pos};
 use std::alloc::Global;
 use vl_flow_cells::Numbering;
 use vl_flow_order::Footprint;

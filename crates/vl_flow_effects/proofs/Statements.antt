@@ -1,7 +1,7 @@
 -- The effects of statements from those of their parts.
 use Rattle.std.specs.Prelude.{◌≡◌, refl, List, Bool, true, false, ◌&&◌, ◌||◌}
 use Rattle.std.proofs.Common.{ap, sym, subst}
-use Rattle.fv_base.specs.declared.pos.Pos.{Pos}
+use Rattle.fv_text.specs.declared.pos.Pos.{Pos}
 use Rattle.vl_tree.specs.Attributes.{Attributes}
 use Rattle.vl_tree.specs.declared.stmt.Arm.{Arm}
 use Rattle.vl_tree.specs.declared.stmt.Arm.TheVariants as a

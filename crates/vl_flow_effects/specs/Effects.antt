@@ -1,4 +1,4 @@
--- Sets of bits that are what statements read and assign. Rule of this project.
+-- Between functions: Sets of bits that are what statements read and assign. Rule of this project.
 use Rattle.std.specs.Prelude.{List, [], ◌∷◌, ◌&&◌}
 use Rattle.vl_tree.specs.declared.stmt.Arm.{Arm}
 use Rattle.vl_tree.specs.Stmt.{Stmt, Arms, stmts, no_arms}

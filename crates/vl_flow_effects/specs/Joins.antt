@@ -1,4 +1,4 @@
--- Effects one after the other, one of two, and behind what is read. Rule of this project.
+-- Between functions: Effects one after the other, one of two, and behind what is read. Rule of this project.
 use Rattle.std.specs.Prelude.{◌≡◌, ℕ, List, ◌&&◌, ◌||◌, not}
 use Rattle.fv_bit_sets.specs.declared.step.Step.{Step}
 use Rattle.fv_bit_sets.specs.Cells.{has, IsBare}

@@ -1,5 +1,5 @@
--- A mask for each cell of a design, by the cell's number. Rule of this project; which bits blocks assign, and which
--- begin with a value, is `Runs` of vl_mean.
+-- Between functions: A mask for each cell of a design, by the cell's number. Rule of this project; which bits blocks
+-- assign, and which begin with a value, is `Runs` of vl_mean.
 use Rattle.std.specs.Prelude.{◌≡◌, ℕ, List, length, is_some, slice_index}
 use Rattle.vl_size.specs.declared.decl.Decl.{Decl}
 use Rattle.vl_mean.specs.declared.driver.Driver.{Driver}

@@ -1,4 +1,4 @@
--- Sets of bits that are what drivers read and assign. Rule of this project.
+-- Between functions: Sets of bits that are what drivers read and assign. Rule of this project.
 use Rattle.std.specs.Prelude.{◌≡◌, List, true, false}
 use Rattle.vl_size.specs.declared.decl.Decl.{Decl}
 use Rattle.vl_mean.specs.declared.driver.DriverKind.{DriverKind}

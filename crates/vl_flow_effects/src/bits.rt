@@ -8,8 +8,8 @@ ghost use Rattle.vl_flow_cells.specs.Numbered.{Shows};
 ghost use Rattle.vl_flow_cells.specs.Numbering.{IsNumberingOf};
 ghost use Rattle.vl_flow_cells.specs.Sized.{IsSized, LabelsAreSized, TargetIsSized};
 
-use fv_base::Memory;
 use fv_bit_sets::Bits;
+use fv_text::Memory;
 use std::alloc::Global;
 use vl_flow_cells::{
     Numbering, bits_of, expr_reads, labels_read, target_changes, target_reads, target_sets,

@@ -10,8 +10,8 @@ ghost use Rattle.vl_flow_effects.specs.Masks.{AreDriven};
 
 use crate::masks::{masks_of, push};
 use crate::uses::{Uses, uses_of};
-use fv_base::{List, Memory};
 use fv_bit_sets::Bits;
+use fv_text::{List, Memory};
 use std::alloc::Global;
 use vl_flow_cells::Numbering;
 use vl_flow_cells::uses_law::drivers_are_sized;

@@ -1,8 +1,8 @@
 ghost use Rattle.std.specs.Prelude.{IfOk};
 ghost use Rattle.vl_flow_effects.specs.Joins.{IsBehind, IsEither, IsNone, IsThen};
 
-use fv_base::Memory;
 use fv_bit_sets::Bits;
+use fv_text::Memory;
 use std::alloc::Global;
 
 /// What a statement does to bits, path by path.

@@ -8,7 +8,7 @@ ghost use Rattle.vl_flow_effects.specs.Effects.{AreEach, IsEffectOf, IsEffectOfA
 ghost use Rattle.vl_flow_effects.specs.Effects.{IsEffectOfSome};
 
 use crate::effect::Effect;
-use fv_base::Memory;
+use fv_text::Memory;
 use std::alloc::Global;
 
 /// The effect of statements one after the other, from those of each: both halves first, so that a long block takes

@@ -5,8 +5,8 @@ ghost use Rattle.vl_mean.specs.FlatLaw.{IsKept, all_names_count};
 ghost use Rattle.vl_flow_spec.specs.Reads.{Bits as BitsOf};
 ghost use Rattle.vl_flow_effects.specs.Masks.{AreMasks};
 
-use fv_base::{List, Memory};
 use fv_bit_sets::Bits;
+use fv_text::{List, Memory};
 use std::alloc::Global;
 use vl_flow_cells::cell_count;
 use vl_size::Decls;

@@ -5,7 +5,7 @@ ghost use Rattle.vl_flow_effects.specs.Masks.{AreStarted};
 
 use crate::bits::changes_of;
 use crate::masks::{masks_of, push};
-use fv_base::{List, Memory};
+use fv_text::{List, Memory};
 use std::alloc::Global;
 use vl_flow_cells::Numbering;
 use vl_flow_order::union_of;

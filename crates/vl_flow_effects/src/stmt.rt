@@ -1,5 +1,5 @@
 ghost use Rattle.std.specs.Prelude.{◌≡◌, ◌++◌, ◌∷◌, [], IfOk, OnOk};
-ghost use Rattle.fv_base.specs.declared.pos.Pos.{Pos};
+ghost use Rattle.fv_text.specs.declared.pos.Pos.{Pos};
 ghost use Rattle.vl_tree.specs.Attributes.{Attributes};
 ghost use Rattle.vl_tree.specs.Stmt as s;
 ghost use Rattle.vl_tree.specs.StmtView.{arms, with_arm};
@@ -11,8 +11,8 @@ use crate::arms::has_default;
 use crate::bits::{assign_reads, changes_of, label_bits, reads_of, sets_of};
 use crate::effect::Effect;
 use crate::joined::{in_sequence, of_case};
-use fv_base::Memory;
 use fv_bit_sets::Bits;
+use fv_text::Memory;
 use std::alloc::Global;
 use vl_flow_cells::Numbering;
 use vl_size::Decls;

@@ -10,8 +10,8 @@ ghost use Rattle.vl_flow_cells.specs.Sized.{DriverIsSized, IsSized, TargetIsSize
 use crate::bits::{assign_reads, changes_of};
 use crate::effect::Effect;
 use crate::stmt::effect_of;
-use fv_base::Memory;
 use fv_bit_sets::Bits;
+use fv_text::Memory;
 use std::alloc::Global;
 use vl_flow_cells::Numbering;
 use vl_flow_order::Footprint;

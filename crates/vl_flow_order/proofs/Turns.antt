@@ -5,7 +5,7 @@ use Rattle.std.proofs.Common.{ap, sym, ◌∙◌, arith, subst, true≢false, ge
 use Rattle.std.proofs.lemmas.Bool.Decides.{nat_tests}
 use Rattle.std.proofs.lemmas.List.{take_more}
 use Rattle.std.proofs.lemmas.Option.{same_Some, slice_get_read, slice_get-get_or}
-use Rattle.fv_base.specs.declared.pos.Pos.{Pos}
+use Rattle.fv_text.specs.declared.pos.Pos.{Pos}
 use Rattle.vl_size.specs.Places.{is_earlier}
 use Rattle.vl_mean.specs.declared.driver.Driver.{Driver}
 use Rattle.vl_flow_cells.proofs.Lists.{get_either, get_left, get_some}

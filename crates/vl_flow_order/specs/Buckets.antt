@@ -1,4 +1,4 @@
--- For each group the drivers that assign a bit of it. Rule of this project.
+-- Between functions: For each group the drivers that assign a bit of it. Rule of this project.
 use Rattle.std.specs.Prelude.{◌≡◌, ℕ, ◌<◌, List, length, slice_get, true, false, Some}
 use Rattle.fv_bit_sets.specs.Cells.{has}
 use Rattle.fv_graph.specs.Graph.{Leads}

@@ -1,4 +1,5 @@
--- The cells of each declared name as one group, under the number of the name's place. Rule of this project.
+-- Between functions: The cells of each declared name as one group, under the number of the name's place. Rule of this
+-- project.
 use Rattle.std.specs.Prelude.{◌≡◌, ℕ, suc, ◌+◌, ◌<◌, ◌≤◌, List, length, Some, slice_get, ◌⊎◌}
 use Rattle.vl_size.specs.declared.decl.Decl.{Decl}
 use Rattle.vl_flow_cells.specs.Numbered.{all_cells, first_cell}

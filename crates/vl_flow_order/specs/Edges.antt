@@ -1,4 +1,4 @@
--- Graphs to which edges are added. Rule of this project.
+-- Between functions: Graphs to which edges are added. Rule of this project.
 use Rattle.std.specs.Prelude.{◌≡◌, ℕ, List, length}
 use Rattle.std.proofs.Common.{◌⊎◌}
 use Rattle.fv_graph.specs.Graph.{Leads}

@@ -1,4 +1,4 @@
--- What drivers read and drive, as sets of bits of numbered cells. Rule of this project.
+-- Between functions: What drivers read and drive, as sets of bits of numbered cells. Rule of this project.
 use Rattle.std.specs.Prelude.{◌≡◌, ℕ, List, length, Some, slice_get, true}
 use Rattle.vl_size.specs.declared.decl.Decl.{Decl}
 use Rattle.vl_mean.specs.declared.driver.Driver.{Driver}

@@ -1,4 +1,4 @@
--- How the drivers of a design without hierarchy stand. Rule of this project.
+-- Between functions: How the drivers of a design without hierarchy stand. Rule of this project.
 use Rattle.std.specs.Prelude.{◌≡◌, List, ◌∷◌}
 use Rattle.vl_size.specs.declared.decl.Decl.{Decl}
 use Rattle.vl_mean.specs.declared.driver.Driver.{Driver}

@@ -1,4 +1,4 @@
--- Groups of neighbouring cells. Rule of this project.
+-- Between functions: Groups of neighbouring cells. Rule of this project.
 use Rattle.std.specs.Prelude.{◌≡◌, ℕ, ◌<◌, ◌≤◌, List, length, slice_get, Some}
 use Rattle.std.proofs.Props.{props}
 

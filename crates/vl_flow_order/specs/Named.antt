@@ -1,4 +1,4 @@
--- The groups of cells of which a set has bits. Rule of this project.
+-- Between functions: The groups of cells of which a set has bits. Rule of this project.
 use Rattle.std.specs.Prelude.{◌≡◌, ℕ, ◌<◌, ◌==◌, List, [], ◌∷◌, Bool, slice_get, true, false, ◌&&◌, ◌||◌, Some}
 use Rattle.fv_bit_sets.specs.declared.step.Step.{Step}
 use Rattle.fv_bit_sets.specs.Cells.{has}

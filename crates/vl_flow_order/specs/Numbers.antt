@@ -1,7 +1,7 @@
--- Drivers under numbers, counted from 0. Rule of this project.
+-- Meaning: Drivers under numbers, counted from 0. Rule of this project.
 use Rattle.std.specs.Prelude.{◌≡◌, ℕ, ◌<◌, ◌++◌, List, [], ◌∷◌, length, Bool, false, not, take, drop}
 use Rattle.std.specs.Prelude.{Option, Some, None, slice_get, if◌then◌else◌}
-use Rattle.fv_base.specs.declared.pos.Pos.{Pos}
+use Rattle.fv_text.specs.declared.pos.Pos.{Pos}
 use Rattle.vl_size.specs.Places.{is_earlier}
 use Rattle.vl_mean.specs.declared.driver.Driver.{Driver}
 use Rattle.vl_flow_order.specs.declared.footprint.Footprint.{Footprint}

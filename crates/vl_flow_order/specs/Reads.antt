@@ -1,4 +1,4 @@
--- Which drivers read bits that others assign. Rule of this project.
+-- Between functions: Which drivers read bits that others assign. Rule of this project.
 use Rattle.std.specs.Prelude.{◌≡◌, ℕ, ◌<◌, ◌≤◌, List, length, slice_get, true, false, Some}
 use Rattle.fv_bit_sets.specs.declared.step.Step.{Step}
 use Rattle.fv_bit_sets.specs.Cells.{has}

@@ -1,4 +1,4 @@
--- Which bits several sets have. Rule of this project.
+-- Between functions: Which bits several sets have. Rule of this project.
 use Rattle.std.specs.Prelude.{◌≡◌, ℕ, List, [], ◌∷◌, Bool, false, ◌&&◌, ◌||◌}
 use Rattle.fv_bit_sets.specs.declared.step.Step.{Step}
 use Rattle.fv_bit_sets.specs.Cells.{has}

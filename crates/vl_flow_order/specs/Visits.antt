@@ -1,4 +1,4 @@
--- The groups of which some bit is in a set. Rule of this project.
+-- Between functions: The groups of which some bit is in a set. Rule of this project.
 use Rattle.std.specs.Prelude.{◌≡◌, ℕ, ◌<◌, ◌≤◌, List, length, slice_get, true, Option, Some}
 use Rattle.fv_bit_sets.specs.declared.step.Step.{Step}
 use Rattle.fv_bit_sets.specs.Cells.{has, IsBefore}

@@ -7,7 +7,7 @@ use crate::edge::add_edge;
 use crate::footprint::Footprint;
 use crate::reads_groups::Groups;
 use crate::visit::{Visit, visits_of};
-use fv_base::{List, Memory};
+use fv_text::{List, Memory};
 use std::alloc::Global;
 
 /// So many nodes that lead nowhere.

@@ -1,8 +1,8 @@
 ghost use Rattle.std.specs.Prelude.{◌≡◌, ◌∷◌, [], length, IfOk};
 ghost use Rattle.vl_flow_order.specs.Sets.{IsCrossing, IsJoined};
 
-use fv_base::Memory;
 use fv_bit_sets::Bits;
+use fv_text::Memory;
 use std::alloc::Global;
 
 /// Of two rows of sets the bits of the first row, those of the second, and those that one of the first and another one

@@ -2,7 +2,7 @@ ghost use Rattle.std.specs.Prelude.{◌≡◌, ◌<◌, ◌++◌, ◌∷◌, [],
 ghost use Rattle.fv_graph.specs.Graph.{targets};
 ghost use Rattle.vl_flow_order.specs.Edges.{AddsEdge};
 
-use fv_base::{List, Memory};
+use fv_text::{List, Memory};
 
 /// Lets one node lead to another.
 pub(crate) fn add_edge(graph: &mut Vec<List<u32>>, from: u32, to: u32) -> Result<(), Memory>

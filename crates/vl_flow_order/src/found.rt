@@ -1,4 +1,4 @@
-use fv_base::{List, Pos};
+use fv_text::{List, Pos};
 
 /// How drivers stand.
 #[derive(Drop)]

@@ -3,8 +3,8 @@ ghost use Rattle.fv_graph.specs.Graph.{IsCircle};
 ghost use Rattle.vl_mean.specs.declared.driver.Driver.{Driver};
 ghost use Rattle.vl_flow_order.specs.Numbers.{AreNumbers, IsEarliest, IsTurned, numbered, places};
 
-use fv_base::{List, Memory, Pos};
 use fv_graph::circle_from;
+use fv_text::{List, Memory, Pos};
 use std::alloc::Global;
 use vl_mean::Driver;
 use vl_size::earlier::is_earlier;

@@ -5,8 +5,8 @@ ghost use Rattle.vl_flow_order.specs.Named.{AreMarks, AreNamesOf, IsMark};
 use crate::reads_groups::Groups;
 use crate::union::union_of;
 use crate::visit::visits_of;
-use fv_base::Memory;
 use fv_bit_sets::Bits;
+use fv_text::Memory;
 use std::alloc::Global;
 
 /// Bit 0 of the cell with this number.

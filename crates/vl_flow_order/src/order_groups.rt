@@ -4,7 +4,7 @@ ghost use Rattle.vl_flow_cells.specs.Numbered.{first_cell};
 ghost use Rattle.vl_flow_order.specs.CellGroups.{AreGroupsOf, PutsCells};
 
 use crate::reads_groups::Groups;
-use fv_base::{List, Memory};
+use fv_text::{List, Memory};
 use std::alloc::Global;
 use vl_flow_cells::cell_count;
 use vl_size::Decls;

@@ -1,6 +1,6 @@
 ghost use Rattle.vl_flow_order.specs.Groups.{AreGroups, groups_prop};
 
-use fv_base::List;
+use fv_text::List;
 
 /// Neighbouring cells of one name: for each cell the number of its group, and for each group the cell behind it.
 #[derive(Debug, Drop)]

@@ -9,8 +9,8 @@ use crate::edge::add_edge;
 use crate::footprint::Footprint;
 use crate::reads_groups::Groups;
 use crate::visit::{Visit, visits_of};
-use fv_base::{List, Memory};
 use fv_bit_sets::Bits;
+use fv_text::{List, Memory};
 use std::alloc::Global;
 
 /// Lets the reader lead to the driver where they have a bit in common in the visited group.

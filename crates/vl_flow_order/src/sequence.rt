@@ -9,8 +9,8 @@ use crate::found::Found;
 use crate::loops::loop_of;
 use crate::reads_groups::Groups;
 use crate::rows::reading_graph;
-use fv_base::{List, Memory};
 use fv_graph::{Walked, walk};
+use fv_text::{List, Memory};
 use std::alloc::Global;
 use vl_mean::Driver;
 

@@ -2,8 +2,8 @@ ghost use Rattle.std.specs.Prelude.{◌≡◌, ℕ, IfOk};
 ghost use Rattle.fv_bit_sets.specs.Cells.{has};
 ghost use Rattle.vl_flow_order.specs.Sets.{some_has};
 
-use fv_base::Memory;
 use fv_bit_sets::Bits;
+use fv_text::Memory;
 use std::alloc::Global;
 
 /// The bits of one or more of the sets: both halves first, so that time is about linear in them.

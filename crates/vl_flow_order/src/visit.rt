@@ -3,8 +3,8 @@ ghost use Rattle.std.specs.Prelude.{IfNone, IfSome, OnOk};
 ghost use Rattle.vl_flow_order.specs.Visits.{AreVisits, Stands};
 
 use crate::reads_groups::Groups;
-use fv_base::Memory;
 use fv_bit_sets::Bits;
+use fv_text::Memory;
 use std::alloc::Global;
 
 /// A group of which some bit is in a set: the first such cell, and the cell behind the group.

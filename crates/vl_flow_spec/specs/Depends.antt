@@ -1,4 +1,4 @@
--- What the outcome of a statement depends on. Rule of this project.
+-- Between functions: What the outcome of a statement depends on. Rule of this project.
 use Rattle.std.specs.Prelude.{◌≡◌, ℕ, ◌<◌, List, Bool, true, false}
 use Rattle.vl_tree.specs.Stmt.{Stmt}
 use Rattle.vl_size.specs.declared.decl.Decl.{Decl}

@@ -1,6 +1,6 @@
--- What the drivers of a design without hierarchy read and drive, and when they stand in an order in which each one
--- can be settled behind those that it reads. A driver is a continuous assignment, a port connection or a block. IEEE
--- 1364-2005, sections 6.1, 9.2 and 12.3; the order is a rule of this project.
+-- Meaning: What the drivers of a design without hierarchy read and drive, and when they stand in an order in which
+-- each one can be settled behind those that it reads. A driver is a continuous assignment, a port connection or a
+-- block. IEEE 1364-2005, sections 6.1, 9.2 and 12.3; the order is a rule of this project.
 use Rattle.std.specs.Prelude.{◌≡◌, ℕ, List, [], ◌∷◌, Bool, true, false, ◌||◌, Option, Some, None}
 use Rattle.vl_size.specs.declared.decl.Decl.{Decl}
 use Rattle.vl_mean.specs.declared.driver.DriverKind.{DriverKind}

@@ -1,7 +1,7 @@
--- Small designs without hierarchy, each with drivers that are refused, or with one that is easily refused and isn't.
--- Rule of this project.
+-- Between functions: Small designs without hierarchy, each with drivers that are refused, or with one that is easily
+-- refused and isn't. Rule of this project.
 use Rattle.std.specs.Prelude.{ℕ, ◌+◌, List, [], ◌∷◌, true, false, Some, None, pos, codes}
-use Rattle.fv_base.specs.declared.pos.Pos.{Pos}
+use Rattle.fv_text.specs.declared.pos.Pos.{Pos}
 use Rattle.vl_tree.specs.declared.operator.BinaryOperator.TheVariants as op
 use Rattle.vl_tree.specs.declared.operator.UnaryOperator.TheVariants as u
 use Rattle.vl_tree.specs.declared.stmt.AssignKind.TheVariants as way

@@ -1,4 +1,4 @@
--- That an ordered design keeps facts: each has at most one proof. Rule of this project.
+-- Between functions: That an ordered design keeps facts: each has at most one proof. Rule of this project.
 use Rattle.std.specs.Prelude.{ℕ, List}
 use Rattle.std.proofs.Props.{props}
 use Rattle.vl_size.specs.declared.decl.Decl.{Decl}

@@ -1,6 +1,6 @@
--- Which bits an expression reads, in a design without hierarchy. Bits are those of cells: of vectors, and of the words
--- of memories. IEEE 1364-2005, sections 4.2.1 and 4.9.3; that a select with a varying index reads the whole name is a
--- rule of this project.
+-- Meaning: Which bits an expression reads, in a design without hierarchy. Bits are those of cells: of vectors, and of
+-- the words of memories. IEEE 1364-2005, sections 4.2.1 and 4.9.3; that a select with a varying index reads the whole
+-- name is a rule of this project.
 use Rattle.std.specs.Prelude.{◌≡◌, ℕ, ◌<◌, ◌^◌, List, Bool, true, false, ◌||◌, Some}
 use Rattle.vl_tree.specs.Expr.{
   Expr,

@@ -1,6 +1,6 @@
--- Why the drivers of a design without hierarchy have no order: six refusals, in the order in which they are judged,
--- each over the whole design. Within one the first declared name counts, and of it the lowest bit. All are rules of
--- this project.
+-- Meaning: Why the drivers of a design without hierarchy have no order: six refusals, in the order in which they are
+-- judged, each over the whole design. Within one the first declared name counts, and of it the lowest bit. All are
+-- rules of this project.
 use Rattle.std.specs.Prelude.{
   ◌≡◌,
   ℕ,
@@ -20,7 +20,7 @@ use Rattle.std.specs.Prelude.{
   not,
 }
 use Rattle.std.specs.Prelude.{is_none, Option, Some, None, if◌then◌else◌, All, replicate, bytes_eq, slice_get}
-use Rattle.fv_base.specs.declared.pos.Pos.{Pos}
+use Rattle.fv_text.specs.declared.pos.Pos.{Pos}
 use Rattle.vl_size.specs.declared.decl.Decl.{Decl}
 use Rattle.vl_size.specs.Places.{is_earlier, earlier_place}
 use Rattle.vl_mean.specs.declared.driver.Driver.{Driver}

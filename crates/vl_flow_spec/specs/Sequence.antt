@@ -1,5 +1,5 @@
--- An order of the drivers of a design without hierarchy: each that isn't a clocked block stands once, behind all that
--- drive what it reads. Rule of this project.
+-- Between functions: An order of the drivers of a design without hierarchy: each that isn't a clocked block stands
+-- once, behind all that drive what it reads. Rule of this project.
 use Rattle.std.specs.Prelude.{◌≡◌, ℕ, ◌<◌, ◌==◌, List, [], ◌∷◌, Bool, true, false, ◌||◌, not}
 use Rattle.std.specs.Prelude.{Option, Some, None, slice_get}
 use Rattle.vl_size.specs.declared.decl.Decl.{Decl}

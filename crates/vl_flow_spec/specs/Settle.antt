@@ -1,4 +1,5 @@
--- Settling the drivers of a design one after the other: what comes out is left by each of them. Rule of this project.
+-- Between functions: Settling the drivers of a design one after the other: what comes out is left by each of them.
+-- Rule of this project.
 use Rattle.std.specs.Prelude.{◌≡◌, ℕ, ◌<◌, List, [], ◌∷◌, Bool, true, false}
 use Rattle.vl_size.specs.declared.decl.Decl.{Decl}
 use Rattle.vl_size.specs.Size.{Values}

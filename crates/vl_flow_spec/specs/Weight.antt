@@ -1,4 +1,4 @@
--- The weight of a design without hierarchy: about how many gates it takes. Rule of this project.
+-- Meaning: The weight of a design without hierarchy: about how many gates it takes. Rule of this project.
 use Rattle.std.specs.Prelude.{
   ℕ,
   ◌+◌,

@@ -1,8 +1,8 @@
 -- What expressions weigh, from what their parts do.
 use Rattle.std.specs.Prelude.{◌≡◌, refl, ℕ, ◌+◌, List, Bool, true, false, ◌&&◌, Some}
 use Rattle.std.proofs.Common.{ap, ◌∙◌, arith}
-use Rattle.fv_base.specs.declared.pos.Pos.{Pos}
-use Rattle.fv_base.specs.declared.number.Number.{Number}
+use Rattle.fv_text.specs.declared.pos.Pos.{Pos}
+use Rattle.fv_text.specs.declared.number.Number.{Number}
 use Rattle.vl_tree.specs.declared.expr.Select.{Select}
 use Rattle.vl_tree.specs.declared.expr.Select.TheVariants as s
 use Rattle.vl_tree.specs.declared.operator.Cast.{Cast}

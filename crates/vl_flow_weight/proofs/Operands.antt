@@ -1,7 +1,7 @@
 -- What operations weigh, from what is known of their operands.
 use Rattle.std.specs.Prelude.{◌≡◌, ℕ, ◌+◌, ◌*◌, max, List, Bool, true, false, ◌&&◌, Option, Some}
 use Rattle.std.proofs.Common.{ap, sym, ◌∙◌, arith}
-use Rattle.fv_base.specs.declared.pos.Pos.{Pos}
+use Rattle.fv_text.specs.declared.pos.Pos.{Pos}
 use Rattle.vl_tree.specs.declared.operator.BinaryOperator.{BinaryOperator}
 use Rattle.vl_tree.specs.declared.operator.UnaryOperator.{UnaryOperator}
 use Rattle.vl_tree.specs.Expr.{Expr, unary, binary, conditional}

@@ -1,6 +1,6 @@
 -- What operations weigh, by where their sizes come from.
 use Rattle.std.specs.Prelude.{◌≡◌, ℕ, ◌+◌, max, List, Bool, true, false, ◌&&◌, if◌then◌else◌}
-use Rattle.fv_base.specs.declared.pos.Pos.{Pos}
+use Rattle.fv_text.specs.declared.pos.Pos.{Pos}
 use Rattle.vl_tree.specs.declared.operator.BinaryOperator.{BinaryOperator}
 use Rattle.vl_tree.specs.declared.operator.UnaryOperator.{UnaryOperator}
 use Rattle.vl_tree.specs.Expr.{Expr, unary, binary, conditional}

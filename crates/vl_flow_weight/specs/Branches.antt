@@ -1,4 +1,4 @@
--- What statements come to while a design is weighed. Rule of this project.
+-- Between functions: What statements come to while a design is weighed. Rule of this project.
 use Rattle.std.specs.Prelude.{◌≡◌, ℕ, List}
 use Rattle.vl_size.specs.declared.decl.Decl.{Decl}
 use Rattle.vl_mean.specs.ConstantFaults.{capped}

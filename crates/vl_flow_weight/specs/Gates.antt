@@ -1,5 +1,5 @@
--- Gates of an expression by the number of bits that it has from its context: so many, so many for each bit, and so many
--- for the square of the bits. Rule of this project.
+-- Between functions: Gates of an expression by the number of bits that it has from its context: so many, so many for
+-- each bit, and so many for the square of the bits. Rule of this project.
 use Rattle.std.specs.Prelude.{ℕ, ◌+◌, ◌*◌}
 use Rattle.vl_mean.specs.ConstantFaults.{capped}
 use Rattle.vl_flow_weight.specs.declared.gates.Gates.{Gates}

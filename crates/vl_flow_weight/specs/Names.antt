@@ -1,4 +1,4 @@
--- Declared names as bits: those of the numbers of their places. Rule of this project.
+-- Between functions: Declared names as bits: those of the numbers of their places. Rule of this project.
 use Rattle.std.specs.Prelude.{◌≡◌, ℕ, ◌<◌, List, Bool, false, Some, slice_get}
 use Rattle.vl_size.specs.declared.decl.Decl.{Decl}
 use Rattle.vl_mean.specs.Cells.{contains_name}

@@ -1,4 +1,4 @@
--- What the parts of a concatenation come to while a design is weighed. Rule of this project.
+-- Between functions: What the parts of a concatenation come to while a design is weighed. Rule of this project.
 use Rattle.std.specs.Prelude.{◌≡◌, List}
 use Rattle.vl_tree.specs.Expr.{Exprs}
 use Rattle.vl_size.specs.declared.decl.Decl.{Decl}

@@ -1,4 +1,4 @@
--- What an expression comes to while a design is weighed. Rule of this project.
+-- Between functions: What an expression comes to while a design is weighed. Rule of this project.
 use Rattle.std.specs.Prelude.{◌≡◌, ℕ, List, Bool, Option, Some, max}
 use Rattle.vl_tree.specs.declared.operator.BinaryOperator.{BinaryOperator}
 use Rattle.vl_tree.specs.declared.operator.UnaryOperator.{UnaryOperator}

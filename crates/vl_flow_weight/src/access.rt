@@ -6,7 +6,7 @@ ghost use Rattle.vl_flow_spec.specs.Weight as spec;
 ghost use Rattle.vl_size.specs.Table.{declared_as, span};
 ghost use Rattle.vl_tree.specs.ExprView.{selects};
 
-use fv_base::Text;
+use fv_text::Text;
 use vl_flow_cells::are_fixed;
 use vl_size::{Decl, Decls};
 use vl_tree::Select;

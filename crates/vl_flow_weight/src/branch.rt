@@ -5,8 +5,8 @@ ghost use Rattle.vl_size.specs.declared.decl.Decl.{Decl};
 ghost use Rattle.vl_flow_weight.specs.Branches.{IsBranchOf};
 
 use crate::names::merge_weight;
-use fv_base::Memory;
 use fv_bit_sets::Bits;
+use fv_text::Memory;
 use std::alloc::Global;
 use vl_mean::widths::plus;
 use vl_size::Decls;

@@ -4,7 +4,7 @@ ghost use Rattle.vl_flow_spec.specs.Weight as spec;
 
 use crate::assigned::assigned_weight;
 use crate::stmt::stmt_branch;
-use fv_base::Memory;
+use fv_text::Memory;
 use std::alloc::Global;
 use vl_flow_spec::weights::a_weight_has_64_bits;
 use vl_mean::widths::plus;

@@ -6,8 +6,8 @@ ghost use Rattle.vl_mean.specs.ConstantFaults.{capped};
 ghost use Rattle.vl_flow_spec.specs.Weight as spec;
 ghost use Rattle.vl_flow_weight.specs.Names.{AreNames};
 
-use fv_base::{Memory, Text};
 use fv_bit_sets::Bits;
+use fv_text::{Memory, Text};
 use std::alloc::Global;
 use vl_flow_order::union_of;
 use vl_mean::widths::plus;

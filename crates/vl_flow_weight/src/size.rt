@@ -1,5 +1,5 @@
 ghost use Rattle.std.specs.Prelude.{◌≡◌, ◌≤◌, List, true, is_none, if◌then◌else◌};
-ghost use Rattle.fv_base.specs.declared.pos.Pos.{Pos};
+ghost use Rattle.fv_text.specs.declared.pos.Pos.{Pos};
 ghost use Rattle.fv_bits.specs.Bits.{as_int};
 ghost use Rattle.vl_size.specs.Size as spec;
 ghost use Rattle.vl_size.specs.declared.decl.Decl.{Decl};
@@ -7,7 +7,7 @@ ghost use Rattle.vl_tree.specs.Expr.{indexed, name, part, whole};
 ghost use Rattle.vl_tree.specs.ExprView.{selects, with_select};
 
 use crate::expr::weigh;
-use fv_base::Text;
+use fv_text::Text;
 use vl_mean::{Env, value};
 use vl_size::select::{part_size, times};
 use vl_size::{Decl, Decls, Own, self_size, sign_of};

@@ -10,7 +10,7 @@ use crate::expr::weigh;
 use crate::labels::{arms_bits, labels_weight};
 use crate::names::{push, target_names};
 use crate::weighed::bits_of;
-use fv_base::Memory;
+use fv_text::Memory;
 use std::alloc::Global;
 use vl_flow_order::union_of;
 use vl_mean::Env;

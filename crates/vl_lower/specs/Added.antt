@@ -1,5 +1,5 @@
--- What names add to the sources of a design: inputs, registers and memories with their places, and cells. Rule of this
--- project.
+-- Between functions: What names add to the sources of a design: inputs, registers and memories with their places, and
+-- cells. Rule of this project.
 use Rattle.std.specs.Prelude.{◌≡◌, ℕ, List, [], ◌∷◌, ◌++◌, ◌*◌, ◌≤◌, length, map, slice_index}
 use Rattle.vl_size.specs.declared.decl.Class.{Class}
 use Rattle.vl_size.specs.declared.decl.Decl.{Decl}

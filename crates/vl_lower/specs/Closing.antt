@@ -1,4 +1,4 @@
--- A net that is closed over cells of the next cycle. Rule of this project.
+-- Between functions: A net that is closed over cells of the next cycle. Rule of this project.
 use Rattle.std.specs.Prelude.{◌≡◌, ℕ, List, [], map}
 use Rattle.wn_net.specs.declared.names.Spot.{Spot}
 use Rattle.wn_net.specs.Changes.{AddsNodes, Keeps}

@@ -1,4 +1,4 @@
--- The inputs, registers, memories and cells of a design without hierarchy. Rule of this project.
+-- Between functions: The inputs, registers, memories and cells of a design without hierarchy. Rule of this project.
 use Rattle.std.specs.Prelude.{◌≡◌, ℕ, ◌+◌, ◌<◌, List, [], ◌∷◌, Bool, true, not, ◌&&◌, is_none, length, slice_index}
 use Rattle.std.specs.Prelude.{slice_index_or}
 use Rattle.vl_size.specs.declared.decl.Decl.{Decl}

@@ -1,4 +1,5 @@
--- Registers that are added to a net for the bits of one cell, and a node that has their number. Rule of this project.
+-- Between functions: Registers that are added to a net for the bits of one cell, and a node that has their number.
+-- Rule of this project.
 use Rattle.std.specs.Prelude.{◌≡◌, ℕ, List, [], ◌∷◌, ◌++◌, length, map, if◌then◌else◌, slice_index}
 use Rattle.vl_lower_cell_laws.specs.declared.keep.Keep.{Keep}
 use Rattle.vl_lower_cell_laws.specs.Keeps.{Kept, has_bit, kept_bit}

@@ -1,4 +1,4 @@
--- What is kept of numbered cells, from masks and numbers of them. Rule of this project.
+-- Between functions: What is kept of numbered cells, from masks and numbers of them. Rule of this project.
 use Rattle.std.specs.Prelude.{◌≡◌, ℕ, ◌<◌, List, length, slice_index}
 use Rattle.vl_lower_cell_laws.specs.declared.keep.Keep.{Keep}
 use Rattle.vl_lower.specs.Design.{keeping}

@@ -1,4 +1,4 @@
--- The entries of names, by the first cells of what is kept as memories. Rule of this project.
+-- Between functions: The entries of names, by the first cells of what is kept as memories. Rule of this project.
 use Rattle.std.specs.Prelude.{◌≡◌, ℕ, ◌+◌, ◌==◌, List, [], ◌∷◌, ◌++◌, length, All, Bool, false, Option, Some, None}
 use Rattle.std.specs.Prelude.{if◌then◌else◌, slice_get}
 use Rattle.vl_size.specs.declared.decl.Decl.{Decl}

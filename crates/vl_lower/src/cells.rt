@@ -15,7 +15,7 @@ ghost use Rattle.vl_lower.specs.Design.{keeping};
 use crate::keeping::{has_bit, is_whole};
 use crate::node::cell_node;
 use crate::sources::Sources;
-use fv_base::{List, Memory, Word};
+use fv_text::{List, Memory, Word};
 use std::alloc::Global;
 use vl_flow_cells::cell_count;
 use vl_lower_cell_laws::Keep;

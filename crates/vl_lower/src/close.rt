@@ -8,7 +8,7 @@ ghost use Rattle.vl_lower_state.specs.Nexts.{AreBitsOfCells, AreNexts, ShowBits}
 ghost use Rattle.vl_lower_state.specs.Stores.{MayStore};
 ghost use Rattle.vl_lower.specs.Closing.{Closes};
 
-use fv_base::Memory;
+use fv_text::Memory;
 use std::alloc::Global;
 use vl_lower_state::{gather_all, set_nexts, store_words};
 use wn_net::{Net, NodeId, Spot};

@@ -13,7 +13,7 @@ ghost use Rattle.vl_lower.specs.Design.{AreKeepsOf, Declares, keeping};
 
 use crate::sources::Sources;
 use crate::stored::is_stored;
-use fv_base::Memory;
+use fv_text::Memory;
 use std::alloc::Global;
 use vl_flow_cells::cell_count;
 use vl_lower_cell_laws::Keep;

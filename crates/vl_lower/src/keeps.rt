@@ -3,7 +3,7 @@ ghost use Rattle.vl_mean.specs.FlatParts.{flat_parts};
 ghost use Rattle.vl_lower.specs.Design.{AreKeepsOf};
 ghost use Rattle.vl_lower.specs.Keeping.{AreJoined};
 
-use fv_base::{List, Memory};
+use fv_text::{List, Memory};
 use std::alloc::Global;
 use vl_flow_cells::Numbering;
 use vl_flow_effects::{driven_masks, started_masks};

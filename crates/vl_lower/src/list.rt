@@ -6,7 +6,7 @@ ghost use Rattle.vl_flow_cells.specs.Numbered.{all_cells};
 ghost use Rattle.vl_lower.specs.Listed.{entries_by};
 
 use crate::name::put_name;
-use fv_base::{List, Memory};
+use fv_text::{List, Memory};
 use std::alloc::Global;
 use vl_flow_cells::cell_count;
 use vl_size::Decls;

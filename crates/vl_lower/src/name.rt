@@ -10,7 +10,7 @@ ghost use Rattle.vl_mean.specs.Scopes.{is_clock_class};
 ghost use Rattle.vl_lower_cell_laws.specs.Entries as spec;
 ghost use Rattle.vl_lower.specs.Listed.{is_first, name_entries, next_memory};
 
-use fv_base::{List, Memory, Text};
+use fv_text::{List, Memory, Text};
 use itoa::Buffer;
 use std::alloc::Global;
 use vl_flow_cells::cell_count;

@@ -6,7 +6,7 @@ ghost use Rattle.wn_net.specs.Changes.{AddsRegs};
 ghost use Rattle.vl_lower.specs.Held.{Holds, bit_number, bit_registers};
 
 use crate::keeping::{bit_start, has_bit, is_whole, whole_start};
-use fv_base::{Memory, Word};
+use fv_text::{Memory, Word};
 use vl_lower_cell_laws::Keep;
 use wn_net::{Net, NodeId};
 

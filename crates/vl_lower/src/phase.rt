@@ -10,7 +10,7 @@ ghost use Rattle.vl_lower.specs.Closing.{over};
 
 use crate::settle::settle_all;
 use crate::tick::tick_all;
-use fv_base::{List, Memory};
+use fv_text::{List, Memory};
 use std::alloc::Global;
 use vl_lower_assign::Frame;
 use vl_lower_stmt::Layout;

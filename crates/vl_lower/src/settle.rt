@@ -9,7 +9,7 @@ ghost use Rattle.vl_lower_stmt.specs.Layout.{IsLayout};
 ghost use Rattle.vl_lower_cell_laws.specs.Cycles.{Settles, SettlesAll};
 
 use crate::handed::hand_over;
-use fv_base::{List, Memory};
+use fv_text::{List, Memory};
 use vl_lower_assign::Frame;
 use vl_lower_stmt::{Layout, assign, execute};
 use vl_mean::{Driver, DriverKind};

@@ -1,6 +1,6 @@
 ghost use Rattle.vl_lower.specs.Added.{IsNone};
 
-use fv_base::List;
+use fv_text::List;
 use std::alloc::Global;
 use wn_net::{Net, NodeId, Spot};
 

@@ -7,7 +7,7 @@ ghost use Rattle.vl_lower_stmt.specs.Layout.{IsLayout};
 ghost use Rattle.vl_lower_cell_laws.specs.Cycles.{Ticks, TicksAll};
 
 use crate::handed::{hand_over, take_back};
-use fv_base::{List, Memory};
+use fv_text::{List, Memory};
 use vl_lower_assign::Frame;
 use vl_lower_stmt::{Layout, execute};
 use vl_mean::{Driver, DriverKind};

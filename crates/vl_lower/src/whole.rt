@@ -13,7 +13,7 @@ use crate::keeps::keeps_of;
 use crate::list::entries_of;
 use crate::phase::{settle_cells, tick_cells};
 use crate::sources::Sources;
-use fv_base::Memory;
+use fv_text::Memory;
 use std::alloc::Global;
 use vl_flow::Ordered;
 use vl_lower_cell_laws::Keep;

@@ -11,7 +11,7 @@ ghost use Rattle.vl_lower.specs.Design.{keeping};
 
 use crate::keeping::whole_start;
 use crate::sources::Sources;
-use fv_base::{List, Memory, Word};
+use fv_text::{List, Memory, Word};
 use std::alloc::Global;
 use vl_flow_cells::cell_count;
 use vl_lower_cell_laws::Keep;

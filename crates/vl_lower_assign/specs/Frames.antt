@@ -1,4 +1,5 @@
--- What the cells of a design stand for in the midst of a block, and what a step over them does. Rule of this project.
+-- Between functions: What the cells of a design stand for in the midst of a block, and what a step over them does.
+-- Rule of this project.
 use Rattle.std.specs.Prelude.{◌≡◌, ℕ, ◌+◌, ◌<◌, ◌≤◌, ◌↔◌, List, [], ◌∷◌, ◌++◌, length, map, Bool, false, ℤ}
 use Rattle.std.specs.Prelude.{slice_get, slice_index, slice_set, Option, Some, None, bytes_eq, if◌then◌else◌}
 use Rattle.std.specs.List.{AllByRecursion}

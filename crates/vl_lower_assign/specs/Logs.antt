@@ -1,4 +1,4 @@
--- What a log keeps before cells are written. Rule of this project.
+-- Between functions: What a log keeps before cells are written. Rule of this project.
 use Rattle.std.specs.Prelude.{ℕ, zero, suc, ◌+◌, ◌<◌, ◌≤◌, List, [], ◌∷◌, ◌++◌, slice_index}
 use Rattle.vl_lower_assign.specs.declared.slot.Holder.{Holder}
 use Rattle.vl_lower_assign.specs.declared.slot.Holder.TheVariants as holder

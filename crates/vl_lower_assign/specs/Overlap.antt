@@ -1,4 +1,4 @@
--- Which bits of a vector are among so many bits from a place on. Rule of this project.
+-- Between functions: Which bits of a vector are among so many bits from a place on. Rule of this project.
 use Rattle.std.specs.Prelude.{◌≡◌, ℕ, ◌+◌, ◌-◌, ◌<◌, ◌≤◌, ℤ, pos, ◌+ℤ◌}
 
 -- Of n bits from the place p on, those from `skip` on are the bits from `from` to before `past` of a vector of w bits,

@@ -1,4 +1,5 @@
--- Where bits are put: at a place that is known, or at one that the numbers of a cycle give. Rule of this project.
+-- Between functions: Where bits are put: at a place that is known, or at one that the numbers of a cycle give. Rule of
+-- this project.
 use Rattle.std.specs.Prelude.{◌≡◌, ℕ, true, ℤ}
 use Rattle.wn_net.specs.Value.{Given}
 use Rattle.wn_net.specs.Net.{Netlist, IsNode, value_at}

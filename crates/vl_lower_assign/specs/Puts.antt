@@ -1,5 +1,5 @@
--- A vector in which bits from a place on were assigned. What is assigned where is IEEE 1364-2005, sections 4.2.1, 5.2.1
--- and 9.2; that bits are assigned from the highest down is a rule of this project.
+-- Between functions: A vector in which bits from a place on were assigned. What is assigned where is IEEE 1364-2005,
+-- sections 4.2.1, 5.2.1 and 9.2; that bits are assigned from the highest down is a rule of this project.
 use Rattle.std.specs.Prelude.{
   ◌≡◌,
   ℕ,

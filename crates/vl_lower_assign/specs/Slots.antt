@@ -1,5 +1,5 @@
--- Cells are nodes in a row, of which each has a number in a cycle. What it means that bits of one of them are written.
--- Rule of this project.
+-- Between functions: Cells are nodes in a row, of which each has a number in a cycle. What it means that bits of one
+-- of them are written. Rule of this project.
 use Rattle.std.specs.Prelude.{◌≡◌, ℕ, ◌+◌, ◌<◌, ◌≤◌, ◌==◌, ◌&&◌, nat_le, nat_lt}
 use Rattle.std.specs.Prelude.{Bool, true, false, Option, Some, None, List}
 use Rattle.std.specs.Prelude.{length, slice_index, if◌then◌else◌, ℤ}

@@ -1,5 +1,6 @@
--- What a statement leaves for the next cycle: each bit that it assigns, now or for the block's end, in the order of the
--- text. Where no name is assigned in both ways, these are the values at the block's end. IEEE 1364-2005, section 9.2.
+-- Between functions: What a statement leaves for the next cycle: each bit that it assigns, now or for the block's end,
+-- in the order of the text. Where no name is assigned in both ways, these are the values at the block's end. IEEE
+-- 1364-2005, section 9.2.
 use Rattle.std.specs.Prelude.{max, ◌&&◌, Bool, List, if◌then◌else◌}
 use Rattle.vl_tree.specs.Expr.{Expr}
 use Rattle.vl_tree.specs.Stmt.{

@@ -13,7 +13,7 @@ use crate::change::Change;
 use crate::frame::Frame;
 use crate::slot::{Holder, Slot};
 use crate::write::write_slot;
-use fv_base::Memory;
+use fv_text::Memory;
 use std::alloc::Global;
 use vl_size::Decls;
 use vl_tree::AssignKind;

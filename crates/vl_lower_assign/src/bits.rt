@@ -9,7 +9,7 @@ ghost use Rattle.vl_lower_nodes.specs.Points.{is_place};
 ghost use Rattle.vl_lower_assign.specs.Overlap.{IsOverlap};
 ghost use Rattle.vl_lower_assign.specs.Puts.{put_bits};
 
-use fv_base::Memory;
+use fv_text::Memory;
 use wn_net::{Net, NodeId};
 
 /// The bits of a vector from `from` to before `past`, which are those of a part from `skip` on.

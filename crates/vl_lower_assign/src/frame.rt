@@ -1,5 +1,5 @@
 use crate::change::Change;
-use fv_base::List;
+use fv_text::List;
 use wn_net::NodeId;
 
 /// What stands for the numbers of all names in the midst of a block.

@@ -8,7 +8,7 @@ ghost use Rattle.wn_net.specs.Given.{IsGiven};
 ghost use Rattle.wn_net.specs.Changes.{AddsNodes, Shows};
 ghost use Rattle.vl_lower_assign.specs.Slots.{IsPath, is_taken};
 
-use fv_base::Memory;
+use fv_text::Memory;
 use vl_lower_nodes::number;
 use wn_net::{Net, NodeId};
 

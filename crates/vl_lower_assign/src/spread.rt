@@ -11,8 +11,8 @@ ghost use Rattle.vl_lower_assign.specs.Places.{IsAt, IsPlaceIn};
 ghost use Rattle.vl_lower_assign.specs.Puts.{put_bits};
 
 use crate::bits::put;
-use fv_base::Memory;
 use fv_bits::ones;
+use fv_text::Memory;
 use vl_lower_nodes::{VaryingPlace, number, part_by};
 use wn_net::{Net, NodeId};
 

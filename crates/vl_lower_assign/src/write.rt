@@ -14,7 +14,7 @@ ghost use Rattle.vl_lower_assign.specs.Slots.{AreAlike, AreCells, IsPath, IsSlot
 use crate::path::{test_of, where_taken};
 use crate::slot::{Holder, Slot};
 use crate::spread::{BitPlace, put_at, spread_bits};
-use fv_base::Memory;
+use fv_text::Memory;
 use std::alloc::Global;
 use wn_mem::write_all;
 use wn_net::{MemWrite, Net, NodeId};

@@ -1,5 +1,5 @@
--- Cells in which the drivers of a design are settled one after the other, and then its clocked blocks act. Rule of this
--- project.
+-- Between functions: Cells in which the drivers of a design are settled one after the other, and then its clocked
+-- blocks act. Rule of this project.
 use Rattle.std.specs.Prelude.{◌≡◌, ℕ, ◌<◌, ◌↔◌, List, [], ◌∷◌, ◌++◌, Some, slice_get}
 use Rattle.vl_size.specs.declared.decl.Decl.{Decl}
 use Rattle.vl_size.specs.Size.{Values}

@@ -1,4 +1,4 @@
--- The entries of a design's names in a net, over nodes for its cells. Rule of this project.
+-- Between functions: The entries of a design's names in a net, over nodes for its cells. Rule of this project.
 use Rattle.std.specs.Prelude.{◌≡◌, ℕ, ◌+◌, List, [], ◌∷◌, ◌++◌, length, Bool, not, ◌&&◌, None, is_none, slice_get, Some}
 use Rattle.std.specs.Prelude.{slice_index, if◌then◌else◌, true}
 use Rattle.vl_size.specs.declared.decl.Decl.{Decl}

@@ -1,4 +1,4 @@
--- How many inputs, registers and words of memories a net may have. Rule of this project.
+-- Meaning: How many inputs, registers and words of memories a net may have. Rule of this project.
 use Rattle.std.specs.Prelude.{◌+◌, ◌≤◌, List, All, length, map, sum}
 use Rattle.vl_size.specs.declared.decl.Decl.{Decl}
 use Rattle.vl_size.specs.Table.{IsShaped}

@@ -1,4 +1,4 @@
--- Registers for the bits of a cell that are kept over the clock's edge. Rule of this project.
+-- Between functions: Registers for the bits of a cell that are kept over the clock's edge. Rule of this project.
 use Rattle.std.specs.Prelude.{◌≡◌, ℕ, zero, suc, ◌+◌, ◌*◌, ◌%◌, ◌<◌, ◌≤◌, ◌^◌, ◌==◌, List, [], ◌∷◌, length, Bool}
 use Rattle.std.specs.Prelude.{false, ◌&&◌, ◌||◌, Option, Some, None, if◌then◌else◌, slice_get, slice_index}
 use Rattle.fv_bits.specs.Bits.{ones}

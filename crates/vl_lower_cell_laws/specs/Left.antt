@@ -1,5 +1,5 @@
--- What the drivers of a design that aren't clocked leave for the next cycle and assume, one after the other in their
--- order. Rule of this project; IEEE 1364-2005, sections 6.1 and 9.2, for what each of them assigns.
+-- Between functions: What the drivers of a design that aren't clocked leave for the next cycle and assume, one after
+-- the other in their order. Rule of this project; IEEE 1364-2005, sections 6.1 and 9.2, for what each of them assigns.
 use Rattle.std.specs.Prelude.{ℕ, ◌<◌, ◌↔◌, List, [], ◌∷◌, ◌++◌, All, Option, Some, None, slice_get}
 use Rattle.vl_size.specs.declared.decl.Decl.{Decl}
 use Rattle.vl_size.specs.Size.{Values}

@@ -1,5 +1,5 @@
--- The inputs, registers and memories that a design's names come to, in the order of the names, each with the place of
--- its entry among the names of the net. Rule of this project.
+-- Between functions: The inputs, registers and memories that a design's names come to, in the order of the names, each
+-- with the place of its entry among the names of the net. Rule of this project.
 use Rattle.std.specs.Prelude.{◌≡◌, ℕ, ◌+◌, List, [], ◌∷◌, ◌++◌, length, map, All, Option, Some, None}
 use Rattle.std.specs.Prelude.{if◌then◌else◌, slice_get}
 use Rattle.vl_size.specs.declared.decl.Class.{Class}

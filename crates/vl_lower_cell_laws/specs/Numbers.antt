@@ -1,5 +1,5 @@
--- The number of each cell at the beginning of a cycle, by the numbers of inputs, registers and memories. Rule of this
--- project.
+-- Between functions: The number of each cell at the beginning of a cycle, by the numbers of inputs, registers and
+-- memories. Rule of this project.
 use Rattle.std.specs.Prelude.{◌≡◌, ℕ, ◌+◌, List, [], ◌∷◌, ◌++◌, length, map, All, Some, slice_get, slice_index}
 use Rattle.std.specs.Prelude.{if◌then◌else◌}
 use Rattle.vl_size.specs.declared.decl.Class.{Class}

@@ -1,5 +1,5 @@
--- The names of a net over a design's inputs, registers and memories: they are that net's, and what is named shows
--- there. Rule of this project.
+-- Between functions: The names of a net over a design's inputs, registers and memories: they are that net's, and what
+-- is named shows there. Rule of this project.
 use Rattle.std.specs.Prelude.{◌≡◌, ℕ, List, All}
 use Rattle.vl_size.specs.declared.decl.Decl.{Decl}
 use Rattle.vl_size.specs.Size.{Values}

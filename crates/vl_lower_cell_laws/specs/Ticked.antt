@@ -1,5 +1,5 @@
--- What the clocked blocks of a design store for the next cycle, one after the other. Rule of this project; IEEE
--- 1364-2005, section 9.2, for what each of them assigns.
+-- Between functions: What the clocked blocks of a design store for the next cycle, one after the other. Rule of this
+-- project; IEEE 1364-2005, section 9.2, for what each of them assigns.
 use Rattle.std.specs.Prelude.{ℕ, List, [], ◌∷◌, All}
 use Rattle.vl_size.specs.declared.decl.Decl.{Decl}
 use Rattle.vl_size.specs.Size.{Values}

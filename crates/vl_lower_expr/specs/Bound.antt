@@ -1,4 +1,4 @@
--- Where the numbers of declared names stand while a design is lowered. Rule of this project.
+-- Between functions: Where the numbers of declared names stand while a design is lowered. Rule of this project.
 use Rattle.std.specs.Prelude.{◌≡◌, ℕ, ◌+◌, ◌<◌, ◌≤◌, List}
 use Rattle.std.specs.Prelude.{length, slice_get, slice_index, Some, None, MatchOption, IfSome, ℤ, int_le}
 use Rattle.vl_size.specs.declared.decl.Decl.{Decl}

@@ -1,4 +1,4 @@
--- When a node has the number that an expression has in each cycle. Rule of this project.
+-- Between functions: When a node has the number that an expression has in each cycle. Rule of this project.
 use Rattle.std.specs.Prelude.{◌≡◌, ℕ}
 use Rattle.vl_size.specs.Size.{Cells}
 use Rattle.wn_net.specs.Value.{Given}

@@ -10,7 +10,7 @@ ghost use Rattle.wn_net.specs.Changes.{AddsNodes, Shows};
 
 use crate::bindings::Bindings;
 use crate::word_type::WordType;
-use fv_base::Memory;
+use fv_text::Memory;
 use vl_lower_nodes::number;
 use vl_mean::{Env, value};
 use vl_size::{Own, self_size, sign_of};

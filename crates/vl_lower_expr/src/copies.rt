@@ -6,7 +6,7 @@ ghost use Rattle.vl_size.specs.Size as spec;
 ghost use Rattle.wn_net.specs.Net.{IsNode, width_at, value_at};
 ghost use Rattle.wn_net.specs.Changes.{AddsNodes, Shows};
 
-use fv_base::Memory;
+use fv_text::Memory;
 use wn_net::{Net, NodeId};
 
 /// So many copies of a node, one behind the other.

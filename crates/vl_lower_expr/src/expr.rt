@@ -3,7 +3,7 @@
 
 ghost use Rattle.std.specs.Prelude.{◌≡◌, ◌+◌, ◌*◌, ◌^◌, ◌≤◌, max, ◌&&◌, ◌||◌, false, is_none, if◌then◌else◌, nat_abs};
 ghost use Rattle.std.specs.Prelude.{IsSome, IfOk, None};
-ghost use Rattle.fv_base.specs.declared.pos.Pos.{Pos};
+ghost use Rattle.fv_text.specs.declared.pos.Pos.{Pos};
 ghost use Rattle.fv_bits.specs.Bits as bits;
 ghost use Rattle.vl_tree.specs.Expr.{exprs, name, repeat, whole, indexed};
 ghost use Rattle.vl_tree.specs.ExprView.{selects, with_select};
@@ -26,7 +26,7 @@ use crate::names::found;
 use crate::place::Place;
 use crate::range::{count_of, part_select};
 use crate::word_type::WordType;
-use fv_base::{Memory, Number, Text};
+use fv_text::{Memory, Number, Text};
 use vl_lower_nodes::{
     arithmetic, bit_at, compared, fit, is_some, negative, number, part_at, reduced, shifted,
 };

@@ -15,7 +15,7 @@ ghost use Rattle.vl_lower_expr.specs.Lowers.{Lowers};
 
 use crate::bindings::Bindings;
 use crate::place::Place;
-use fv_base::Memory;
+use fv_text::Memory;
 use vl_lower_nodes::address;
 use vl_size::Decl;
 use wn_mem::read_after;

@@ -4,7 +4,7 @@ ghost use Rattle.vl_lower_expr.specs.Bound.{bound, HasPlace};
 
 use crate::bindings::Bindings;
 use crate::place::Place;
-use fv_base::Text;
+use fv_text::Text;
 use vl_size::Decl;
 
 /// The declaration of a name, and its place.

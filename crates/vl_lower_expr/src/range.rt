@@ -2,7 +2,7 @@
 #![tactic(auto, using(wn_net::proofs::Laws::additions))]
 
 ghost use Rattle.std.specs.Prelude.{◌≡◌, ◌≤◌, ◌*◌, true, IsSome, IfOk, pos};
-ghost use Rattle.fv_base.specs.declared.pos.Pos.{Pos};
+ghost use Rattle.fv_text.specs.declared.pos.Pos.{Pos};
 ghost use Rattle.vl_tree.specs.Expr.{part, whole};
 ghost use Rattle.vl_size.specs.Size as spec;
 ghost use Rattle.vl_size.specs.Size.{Cells, is_bound};
@@ -14,7 +14,7 @@ ghost use Rattle.vl_lower_nodes.specs.Points.{is_place};
 use crate::bindings::Bindings;
 use crate::constants::constant;
 use crate::word_type::WordType;
-use fv_base::Memory;
+use fv_text::Memory;
 use vl_lower_nodes::{fit, part_from};
 use vl_size::Decl;
 use vl_size::place::word_of;

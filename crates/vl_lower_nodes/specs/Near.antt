@@ -1,4 +1,4 @@
--- An index in 34 bits. Rule of this project.
+-- Between functions: An index in 34 bits. Rule of this project.
 use Rattle.std.specs.Prelude.{◌≡◌, ℕ, ◌-◌, ◌<◌, ◌^◌, ◌==◌, Bool, true, false}
 use Rattle.std.specs.Prelude.{bit_and, if◌then◌else◌, MatchBool, ℤ, pos, negsuc, ◌&&◌, int_le, int_lt}
 use Rattle.fv_bits.specs.Bits.{to_int, complement, part}

@@ -1,4 +1,4 @@
--- Indices as nodes. Rule of this project.
+-- Between functions: Indices as nodes. Rule of this project.
 use Rattle.std.specs.Prelude.{◌≡◌, ℕ, ◌^◌, ◌≤◌, ◌*◌, Bool, nat_lt}
 use Rattle.std.specs.Prelude.{if◌then◌else◌, MatchBool, ℤ, pos, negsuc, ◌-ℤ◌, ◌&&◌, int_lt}
 

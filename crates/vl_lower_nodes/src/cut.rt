@@ -10,7 +10,7 @@ ghost use Rattle.wn_net.specs.Changes.{AddsNodes};
 ghost use Rattle.vl_lower_nodes.specs.Near.{IsCut};
 
 use crate::width::fit;
-use fv_base::Memory;
+use fv_text::Memory;
 use wn_net::{Net, NodeId};
 
 /// An index in 34 bits, read as signed.

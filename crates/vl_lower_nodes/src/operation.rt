@@ -9,7 +9,7 @@ ghost use Rattle.vl_size.specs.declared.way.Way.TheVariants as way_as;
 ghost use Rattle.wn_net.specs.Net.{IsNode, IsNodeOf, width_at, value_at};
 ghost use Rattle.wn_net.specs.Changes.{AddsNodes, Shows};
 
-use fv_base::Memory;
+use fv_text::Memory;
 use vl_tree::BinaryOperator;
 use wn_net::{Net, NodeId};
 

@@ -12,7 +12,7 @@ ghost use Rattle.vl_lower_nodes.specs.Near.{chosen};
 
 use crate::cut::cut;
 use crate::width::number;
-use fv_base::Memory;
+use fv_text::Memory;
 use wn_net::{Net, NodeId};
 
 /// A base as a number of 34 bits.

@@ -8,7 +8,7 @@ ghost use Rattle.wn_net.specs.Net.{IsNode, IsNodeOf, width_at, value_at};
 ghost use Rattle.wn_net.specs.Changes.{AddsNodes, Shows};
 
 use crate::width::{is_some, number};
-use fv_base::Memory;
+use fv_text::Memory;
 use vl_tree::UnaryOperator;
 use wn_net::{Net, NodeId};
 

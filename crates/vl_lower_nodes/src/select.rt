@@ -13,7 +13,7 @@ ghost use Rattle.vl_lower_nodes.specs.Points.{IsAddress, GivePlace, distance, is
 
 use crate::place::address;
 use crate::width::{fit, number};
-use fv_base::Memory;
+use fv_text::Memory;
 use vl_size::Decl;
 use wn_net::{Net, NodeId};
 

@@ -7,7 +7,7 @@ ghost use Rattle.fv_bits.specs.Bits as bits;
 ghost use Rattle.wn_net.specs.Net.{IsNode, width_at, value_at};
 ghost use Rattle.wn_net.specs.Changes.{AddsNodes, Shows};
 
-use fv_base::{Memory, Word};
+use fv_text::{Memory, Word};
 use wn_net::{Net, NodeId};
 
 /// A number in so many bits.

@@ -1,6 +1,6 @@
--- What the steps of lowering promise of a net and its names: they name what is free in a map of the design, in each
--- cycle the named numbers are those that the drivers settle, and the next state is that of a next map. Rule of this
--- project.
+-- Between functions: What the steps of lowering promise of a net and its names: they name what is free in a map of the
+-- design, in each cycle the named numbers are those that the drivers settle, and the next state is that of a next map.
+-- Rule of this project.
 use Rattle.std.specs.Prelude.{◌≡◌, ℕ, ◌↔◌, List, All, Bool, false, not}
 use Rattle.vl_size.specs.declared.decl.Class.{Class}
 use Rattle.vl_size.specs.declared.decl.Class.TheVariants as class

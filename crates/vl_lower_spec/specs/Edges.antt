@@ -1,4 +1,4 @@
--- Registers and memories that have in the next cycle the numbers of a map. Rule of this project.
+-- Between functions: Registers and memories that have in the next cycle the numbers of a map. Rule of this project.
 use Rattle.std.specs.Prelude.{◌≡◌, ℕ, ◌+◌, ◌<◌, ◌^◌, List, [], ◌∷◌, length, slice_get}
 use Rattle.fv_bits.specs.Bits.{ones}
 use Rattle.vl_size.specs.Size.{Values}

@@ -1,6 +1,6 @@
--- When a net is that of a design without hierarchy: its evaluations are the maps that the design allows, one for each
--- choice of inputs and state, and its steps, starts and assumptions are the design's. Rule of this project; what a
--- design allows is `Runs` of vl_mean.
+-- Meaning: When a net is that of a design without hierarchy: its evaluations are the maps that the design allows, one
+-- for each choice of inputs and state, and its steps, starts and assumptions are the design's. Rule of this project;
+-- what a design allows is `Runs` of vl_mean.
 use Rattle.std.specs.Prelude.{
   ◌≡◌,
   ℕ,

@@ -1,4 +1,4 @@
--- That the names of a net can be printed. Rule of this project.
+-- Between functions: That the names of a net can be printed. Rule of this project.
 use Rattle.std.specs.Prelude.{◌≡◌, List, All, true}
 use Rattle.vl_size.specs.declared.decl.Decl.{Decl}
 use Rattle.vl_mean.specs.declared.driver.Driver.{Driver}

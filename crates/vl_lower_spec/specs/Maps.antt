@@ -1,4 +1,5 @@
--- The map of names to numbers that a net has in a cycle, by the names of a design, and back. Rule of this project.
+-- Meaning: The map of names to numbers that a net has in a cycle, by the names of a design, and back. Rule of this
+-- project.
 use Rattle.std.specs.Prelude.{◌≡◌, ℕ, zero, suc, ◌+◌, ◌*◌, if◌then◌else◌, List, [], ◌∷◌, ◌++◌, map}
 use Rattle.std.specs.Prelude.{Bool, false, not, ◌&&◌, ◌||◌, Option, Some, None, is_none, position, bytes_eq, slice_get}
 use Rattle.std.specs.List.{list_any}

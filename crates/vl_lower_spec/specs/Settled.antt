@@ -1,4 +1,5 @@
--- The map that the drivers of a design make of another one, one after the other in an order. Rule of this project.
+-- Between functions: The map that the drivers of a design make of another one, one after the other in an order. Rule
+-- of this project.
 use Rattle.std.specs.Prelude.{ℕ, List, [], ◌∷◌, Option, Some, None, slice_get}
 use Rattle.vl_size.specs.declared.decl.Decl.{Decl}
 use Rattle.vl_size.specs.Size.{Values}

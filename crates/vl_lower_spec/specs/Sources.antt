@@ -1,5 +1,5 @@
--- Inputs, registers and memories of a net as bits of a design's names: each is of a name that is free in a map, and
--- each free bit is one of theirs. Rule of this project.
+-- Between functions: Inputs, registers and memories of a net as bits of a design's names: each is of a name that is
+-- free in a map, and each free bit is one of theirs. Rule of this project.
 use Rattle.std.specs.Prelude.{◌≡◌, ℕ, zero, suc, ◌<◌, ◌^◌, List, [], ◌∷◌, ◌++◌, true, false, All, length}
 use Rattle.std.specs.Prelude.{◌⊎◌, Option, Some, None, slice_get}
 use Rattle.vl_size.specs.declared.decl.Class.{Class}

@@ -1,5 +1,5 @@
--- Where cells have the numbers of a cycle's beginning, the cycle begins with a map that names what is free in it. Rule
--- of this project.
+-- Between functions: Where cells have the numbers of a cycle's beginning, the cycle begins with a map that names what
+-- is free in it. Rule of this project.
 use Rattle.std.specs.Prelude.{◌≡◌, ℕ, ◌<◌, List, All, length, slice_index}
 use Rattle.vl_size.specs.declared.decl.Decl.{Decl}
 use Rattle.vl_size.specs.Table.{AreApart, AreDifferent, IsShaped}

@@ -1,5 +1,5 @@
--- Of which cells the registers and memories of a design are, in the order in which the names come to them. Rule of this
--- project.
+-- Between functions: Of which cells the registers and memories of a design are, in the order in which the names come
+-- to them. Rule of this project.
 use Rattle.std.specs.Prelude.{ℕ, ◌+◌, List, [], ◌∷◌, ◌++◌, length, map, if◌then◌else◌}
 use Rattle.vl_size.specs.declared.decl.Class.{Class}
 use Rattle.vl_size.specs.declared.decl.Class.TheVariants as class

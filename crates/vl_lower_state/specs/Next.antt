@@ -1,4 +1,4 @@
--- Registers and memories that get the cells of the next cycle. Rule of this project.
+-- Between functions: Registers and memories that get the cells of the next cycle. Rule of this project.
 use Rattle.std.specs.Prelude.{◌≡◌, ℕ, List}
 use Rattle.vl_size.specs.declared.decl.Decl.{Decl}
 use Rattle.vl_size.specs.Size.{Values}

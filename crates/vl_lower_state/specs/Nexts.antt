@@ -1,4 +1,4 @@
--- Next nodes of registers that are bits of a design's cells. Rule of this project.
+-- Between functions: Next nodes of registers that are bits of a design's cells. Rule of this project.
 use Rattle.std.specs.Prelude.{◌≡◌, ℕ, ◌≤◌, ◌<◌, List, [], ◌∷◌, Some, length, slice_get, slice_index}
 use Rattle.vl_lower_spec.specs.Maps.{gathered}
 use Rattle.wn_net.specs.declared.names.Spot.{Spot}

@@ -1,6 +1,6 @@
--- The phases that make a design's net: inputs, registers and memories with cells that have what is free, the drivers
--- settled over these cells, the clocked blocks at the clock's edge, and next nodes, writes, assumptions and names, with
--- which the net is closed. Rule of this project.
+-- Between functions: The phases that make a design's net: inputs, registers and memories with cells that have what is
+-- free, the drivers settled over these cells, the clocked blocks at the clock's edge, and next nodes, writes,
+-- assumptions and names, with which the net is closed. Rule of this project.
 use Rattle.std.specs.Prelude.{◌≡◌, ℕ, List, ◌++◌, All}
 use Rattle.vl_size.specs.declared.decl.Decl.{Decl}
 use Rattle.vl_size.specs.Size.{Values}

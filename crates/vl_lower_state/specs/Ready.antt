@@ -1,5 +1,5 @@
--- Registers whose next nodes may be gathered from cells, and memories whose words may be written from them. Rule of
--- this project.
+-- Between functions: Registers whose next nodes may be gathered from cells, and memories whose words may be written
+-- from them. Rule of this project.
 use Rattle.std.specs.Prelude.{◌≡◌, ℕ, List, [], All}
 use Rattle.vl_size.specs.declared.decl.Decl.{Decl}
 use Rattle.vl_size.specs.Table.{IsShaped}

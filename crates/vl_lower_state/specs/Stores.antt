@@ -1,4 +1,5 @@
--- Writes that put nodes, the cells of the next cycle, into all words of memories. Rule of this project.
+-- Between functions: Writes that put nodes, the cells of the next cycle, into all words of memories. Rule of this
+-- project.
 use Rattle.std.specs.Prelude.{◌≡◌, ℕ, ◌+◌, ◌<◌, ◌≤◌, List, [], ◌∷◌, length, map, take, drop, slice_index}
 use Rattle.fv_bits.specs.Bits.{ones}
 use Rattle.wn_net.specs.declared.parts.Mem.{Mem}

@@ -1,4 +1,4 @@
--- One memory that is written, among others. Rule of this project.
+-- Between functions: One memory that is written, among others. Rule of this project.
 use Rattle.std.specs.Prelude.{◌≡◌, ℕ, zero, suc, List, [], ◌∷◌, Option, Some, None, slice_get}
 use Rattle.wn_net.specs.declared.parts.Mem.{Mem}
 use Rattle.wn_net.specs.declared.parts.MemWrite.{MemWrite}

@@ -7,7 +7,7 @@ ghost use Rattle.wn_net.specs.Changes.{AddsNodes, Shows};
 ghost use Rattle.vl_lower_spec.specs.Maps.{gathered};
 ghost use Rattle.vl_lower_spec.specs.Sources.{below};
 
-use fv_base::Memory;
+use fv_text::Memory;
 use wn_net::{Net, NodeId};
 
 /// Whether the bits are those of so many, in their order.

@@ -6,7 +6,7 @@ ghost use Rattle.wn_net.specs.Changes.{AddsNodes, Keeps};
 ghost use Rattle.vl_lower_state.specs.Nexts.{AreBitsOfCells, AreNexts, ShowBits, with_nexts};
 
 use crate::bits::gather;
-use fv_base::{List, Memory};
+use fv_text::{List, Memory};
 use std::alloc::Global;
 use wn_net::{Net, NodeId, Spot};
 

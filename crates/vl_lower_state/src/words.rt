@@ -9,8 +9,8 @@ ghost use Rattle.vl_lower_spec.specs.Sources.{AreEach};
 ghost use Rattle.vl_lower_state.specs.Stores.{AddsWrites, AreStored, IsConstant, MayStore};
 ghost use Rattle.vl_lower_state.specs.Writing.{IsAt, IsStoredAt};
 
-use fv_base::{Memory, Word};
 use fv_bits::ones;
+use fv_text::{Memory, Word};
 use wn_net::{MemWrite, Net, NodeId};
 
 /// A number in so many bits.

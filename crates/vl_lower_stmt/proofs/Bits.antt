@@ -4,7 +4,7 @@ use Rattle.std.specs.Prelude.{IsSome, ℤ, pos, negsuc, ◌+ℤ◌, ◌^◌}
 use Rattle.std.specs.Prelude.{nat_abs, if◌then◌else◌}
 use Rattle.std.proofs.Common.{ap, sym, ◌∙◌, arith, subst, true≢false}
 use Rattle.std.proofs.lemmas.Int.{ints}
-use Rattle.fv_base.specs.declared.pos.Pos.{Pos}
+use Rattle.fv_text.specs.declared.pos.Pos.{Pos}
 use Rattle.fv_bits.specs.Bits.{as_int}
 use Rattle.vl_tree.specs.declared.expr.Select.{Select}
 use Rattle.vl_tree.specs.Expr.{Expr, Selects, whole, bit, part, indexed}

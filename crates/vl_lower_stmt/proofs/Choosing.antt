@@ -4,7 +4,7 @@ use Rattle.std.specs.Prelude.{Option, Some}
 use Rattle.std.specs.Prelude.{if◌then◌else◌, All, IsSome}
 use Rattle.std.proofs.Common.{ap, sym, ◌∙◌, subst, true≢false}
 use Rattle.std.proofs.lemmas.List.Elements.{All-weaker}
-use Rattle.fv_base.specs.declared.pos.Pos.{Pos}
+use Rattle.fv_text.specs.declared.pos.Pos.{Pos}
 use Rattle.fv_bits.specs.Bits.{bit}
 use Rattle.vl_tree.specs.declared.stmt.Arm.{Arm}
 use Rattle.vl_tree.specs.declared.stmt.Arm.TheVariants as arm

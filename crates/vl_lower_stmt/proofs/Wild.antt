@@ -1,7 +1,7 @@
 -- Wild bits of labels.
 use Rattle.std.specs.Prelude.{◌≡◌, refl, ℕ, Bool}
-use Rattle.fv_base.specs.declared.number.Number.{Number}
-use Rattle.fv_base.specs.declared.pos.Pos.{Pos}
+use Rattle.fv_text.specs.declared.number.Number.{Number}
+use Rattle.fv_text.specs.declared.pos.Pos.{Pos}
 use Rattle.vl_tree.specs.declared.expr.ExprKind.{ExprKind}
 use Rattle.vl_tree.specs.declared.expr.ExprKind.TheVariants as k
 use Rattle.vl_tree.specs.declared.stmt.CaseKind.TheVariants as c

@@ -1,4 +1,4 @@
--- What one arm of a case does. Rule of this project.
+-- Between functions: What one arm of a case does. Rule of this project.
 use Rattle.std.specs.Prelude.{ℕ, Bool, List, [], ◌∷◌, ◌++◌, Option}
 use Rattle.vl_tree.specs.declared.stmt.Arm.{Arm}
 use Rattle.vl_tree.specs.declared.stmt.CaseKind.{CaseKind}

@@ -1,5 +1,5 @@
--- What it means that statements are executed over a frame. Rule of this project; what a statement does is `Execution`
--- of vl_mean.
+-- Between functions: What it means that statements are executed over a frame. Rule of this project; what a statement
+-- does is `Execution` of vl_mean.
 use Rattle.std.specs.Prelude.{◌≡◌, ℕ, ◌&&◌, Bool, List, Option, Some, if◌then◌else◌}
 use Rattle.fv_bits.specs.Bits.{bit}
 use Rattle.vl_tree.specs.declared.stmt.CaseKind.{CaseKind}

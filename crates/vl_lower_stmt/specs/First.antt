@@ -1,4 +1,5 @@
--- The numbers that cells begin with. Rule of this project; what is written at first is `Runs` of vl_mean.
+-- Between functions: The numbers that cells begin with. Rule of this project; what is written at first is `Runs` of
+-- vl_mean.
 use Rattle.std.specs.Prelude.{◌≡◌, ℕ, List, [], ◌∷◌, ◌++◌, length, Some, slice_get, slice_index}
 use Rattle.vl_tree.specs.Expr.{number}
 use Rattle.vl_size.specs.declared.decl.Decl.{Decl}

@@ -1,4 +1,5 @@
--- In which cells the numbers of declared names stand: in the order of the names. Rule of this project.
+-- Between functions: In which cells the numbers of declared names stand: in the order of the names. Rule of this
+-- project.
 use Rattle.std.specs.Prelude.{◌≡◌, ℕ, ◌≤◌, List, All, length, slice_get, Some, is_none, if◌then◌else◌}
 use Rattle.vl_size.specs.declared.decl.Decl.{Decl}
 use Rattle.vl_size.specs.Table.{IsShaped, AreDifferent, AreApart}

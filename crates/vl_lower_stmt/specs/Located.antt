@@ -1,4 +1,5 @@
--- Where the bits of a target stand. Rule of this project; which bits a target has is `Targets` of vl_mean.
+-- Between functions: Where the bits of a target stand. Rule of this project; which bits a target has is `Targets` of
+-- vl_mean.
 use Rattle.std.specs.Prelude.{◌≡◌, ℕ, ◌+◌, ◌≤◌, ◌++◌, List, Option, IsSome, Some, ℤ, slice_get}
 use Rattle.vl_tree.specs.Expr.{Selects, name}
 use Rattle.vl_tree.specs.Lval.{Lval, Lvals, named, joined, no_lvals, more_lvals}

@@ -1,5 +1,5 @@
--- Arms of a case while they are executed one after the other: each where none before it matches. IEEE 1364-2005,
--- section 9.5; that they are done under paths is a rule of this project.
+-- Between functions: Arms of a case while they are executed one after the other: each where none before it matches.
+-- IEEE 1364-2005, section 9.5; that they are done under paths is a rule of this project.
 use Rattle.std.specs.Prelude.{◌≡◌, ℕ, List, [], ◌∷◌, Bool, false, ◌&&◌, ◌||◌, not, Option, Some, None, All, IsSome}
 use Rattle.std.specs.Prelude.{if◌then◌else◌}
 use Rattle.vl_tree.specs.declared.stmt.CaseKind.{CaseKind}

@@ -1,4 +1,4 @@
--- Nodes of the number 0. Rule of this project.
+-- Between functions: Nodes of the number 0. Rule of this project.
 use Rattle.std.specs.Prelude.{◌≡◌, ℕ, List, [], ◌∷◌, ◌++◌, length, replicate}
 use Rattle.vl_size.specs.declared.decl.Decl.{Decl}
 use Rattle.vl_mean.specs.Cells.{cells}

@@ -2,7 +2,7 @@
 #![tactic(auto, using(wn_net::proofs::Laws::additions))]
 
 ghost use Rattle.std.specs.Prelude.{◌≡◌, ◌≤◌, max, IsSome, OnOk};
-ghost use Rattle.fv_base.specs.declared.pos.Pos.{Pos};
+ghost use Rattle.fv_text.specs.declared.pos.Pos.{Pos};
 ghost use Rattle.vl_tree.specs.Attributes.{Attributes};
 ghost use Rattle.vl_tree.specs.Stmt as s;
 ghost use Rattle.vl_size.specs.Sign.{sign};
@@ -17,7 +17,7 @@ ghost use Rattle.vl_lower_stmt.specs.Located.{IsSizedTarget};
 use crate::layout::Layout;
 use crate::target::{locate, width_of};
 use crate::value::number_in;
-use fv_base::{List, Memory};
+use fv_text::{List, Memory};
 use vl_lower_assign::{Frame, assign_slots};
 use vl_lower_expr::WordType;
 use vl_lower_nodes::fit;

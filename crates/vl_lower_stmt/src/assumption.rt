@@ -2,7 +2,7 @@
 #![tactic(auto, using(wn_net::proofs::Laws::additions))]
 
 ghost use Rattle.std.specs.Prelude.{◌≡◌, ◌==◌, ◌||◌, not, IsSome, IfOk, OnOk};
-ghost use Rattle.fv_base.specs.declared.pos.Pos.{Pos};
+ghost use Rattle.fv_text.specs.declared.pos.Pos.{Pos};
 ghost use Rattle.fv_bits.specs.Bits.{bit};
 ghost use Rattle.vl_tree.specs.Attributes.{Attributes};
 ghost use Rattle.vl_tree.specs.Stmt as s;
@@ -18,7 +18,7 @@ ghost use Rattle.vl_lower_stmt.specs.Executes.{Executes};
 
 use crate::layout::Layout;
 use crate::value::condition;
-use fv_base::Memory;
+use fv_text::Memory;
 use vl_lower_assign::Frame;
 use vl_tree::Expr;
 use wn_net::{Net, NodeId};

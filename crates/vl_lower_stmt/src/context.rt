@@ -18,7 +18,7 @@ ghost use Rattle.vl_lower_stmt.specs.Layout.{IsLayout};
 use crate::labels::CaseWord;
 use crate::layout::Layout;
 use crate::value::number_in;
-use fv_base::Memory;
+use fv_text::Memory;
 use vl_lower_expr::WordType;
 use vl_size::{Decls, self_size, sign_of};
 use vl_tree::{Arm, CaseKind, Expr};

@@ -8,7 +8,7 @@ use crate::layout::{Layout, places_of};
 use crate::number::numbers_of;
 use crate::start::write_start;
 use crate::zeros::zero_cells;
-use fv_base::{List, Memory};
+use fv_text::{List, Memory};
 use std::alloc::Global;
 use vl_lower_assign::Frame;
 use vl_mean::{Env, Start};

@@ -17,7 +17,7 @@ ghost use Rattle.vl_lower_stmt.specs.Layout.{IsLayout};
 
 use crate::layout::Layout;
 use crate::value::number_in;
-use fv_base::Memory;
+use fv_text::Memory;
 use vl_lower_expr::WordType;
 use vl_lower_nodes::{fit, number};
 use vl_tree::{CaseKind, Expr, ExprKind};

@@ -6,7 +6,7 @@ ghost use Rattle.vl_mean.specs.FlatLaw.{IsKept, all_names_count};
 ghost use Rattle.vl_lower_expr.specs.Bound.{bound};
 ghost use Rattle.vl_lower_stmt.specs.Layout as spec;
 
-use fv_base::{List, Memory};
+use fv_text::{List, Memory};
 use std::alloc::Global;
 use vl_flow_cells::cell_count;
 use vl_lower_expr::{Bindings, Place};

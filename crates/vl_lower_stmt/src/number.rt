@@ -5,7 +5,7 @@ ghost use Rattle.wn_net.specs.Net as spec;
 ghost use Rattle.wn_net.specs.Net.{AreNodes, value_at};
 ghost use Rattle.vl_lower_stmt.specs.First.{nothing_given};
 
-use fv_base::{List, Memory};
+use fv_text::{List, Memory};
 use std::alloc::Global;
 use wn_net::{Net, NodeId, State};
 

@@ -10,7 +10,7 @@ ghost use Rattle.vl_lower_stmt.specs.Executes.{Enters};
 
 use crate::layout::Layout;
 use crate::value::condition;
-use fv_base::Memory;
+use fv_text::Memory;
 use vl_lower_assign::{path_unless, path_where};
 use vl_tree::Expr;
 use wn_net::{Net, NodeId};

@@ -3,7 +3,7 @@
 #![tactic(auto, using(wn_net::proofs::Laws::additions))]
 
 ghost use Rattle.std.specs.Prelude.{◌≡◌, ◌-◌, ◌^◌, ◌≤◌, true, IsSome, IfOk, pos, negsuc, ◌+ℤ◌, ◌≤ℤ◌};
-ghost use Rattle.fv_base.specs.declared.pos.Pos.{Pos};
+ghost use Rattle.fv_text.specs.declared.pos.Pos.{Pos};
 ghost use Rattle.vl_tree.specs.Expr.{bit, indexed, part, whole};
 ghost use Rattle.vl_tree.specs.ExprView.{selects, with_select};
 ghost use Rattle.vl_size.specs.Size as spec;
@@ -20,7 +20,7 @@ ghost use Rattle.vl_lower_stmt.specs.Located.{HasBits, IsPlaced};
 
 use crate::layout::{Layout, names_over};
 use crate::value::own_number;
-use fv_base::Memory;
+use fv_text::Memory;
 use vl_flow_cells::are_fixed;
 use vl_lower_assign::{BitPlace, Holder, Slot};
 use vl_lower_expr::{constant, count_of, range_of};

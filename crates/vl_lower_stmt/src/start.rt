@@ -11,7 +11,7 @@ ghost use Rattle.vl_lower_stmt.specs.First.{Starts, written_by};
 
 use crate::assignment::assign;
 use crate::layout::Layout;
-use fv_base::{Memory, Number, Pos};
+use fv_text::{Memory, Number, Pos};
 use vl_lower_assign::Frame;
 use vl_mean::{Const, Start};
 use vl_tree::{AssignKind, Expr, ExprKind};

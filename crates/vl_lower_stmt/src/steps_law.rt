@@ -1,6 +1,6 @@
 //! Laws of statements that are executed over the cells of a design.
 ghost use Rattle.std.specs.Prelude.{◌++◌, ◌∷◌, [], List, Option, Some, not, ℕ};
-ghost use Rattle.fv_base.specs.declared.pos.Pos.{Pos};
+ghost use Rattle.fv_text.specs.declared.pos.Pos.{Pos};
 ghost use Rattle.vl_tree.specs.Attributes.{Attributes};
 ghost use Rattle.vl_tree.specs.Expr.{Expr};
 ghost use Rattle.vl_tree.specs.Stmt.{Stmt, if_else, stmts};

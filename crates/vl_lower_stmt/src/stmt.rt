@@ -19,7 +19,7 @@ use crate::context::case_word;
 use crate::labels::{CaseWord, some_matches};
 use crate::layout::Layout;
 use crate::paths::{path_if, two_paths};
-use fv_base::Memory;
+use fv_text::Memory;
 use vl_lower_assign::{Frame, path_unless, path_where};
 use vl_tree::{Arm, Stmt, StmtKind};
 use wn_net::{Net, NodeId};

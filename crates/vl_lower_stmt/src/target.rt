@@ -2,7 +2,7 @@
 #![tactic(auto, using(wn_net::proofs::Laws::additions))]
 
 ghost use Rattle.std.specs.Prelude.{◌≡◌, ◌≤◌, IsSome, IfOk, OnOk};
-ghost use Rattle.fv_base.specs.declared.pos.Pos.{Pos};
+ghost use Rattle.fv_text.specs.declared.pos.Pos.{Pos};
 ghost use Rattle.vl_tree.specs.Expr.{name};
 ghost use Rattle.vl_tree.specs.ExprView.{selects};
 ghost use Rattle.vl_tree.specs.Lval.{lvals};
@@ -16,7 +16,7 @@ ghost use Rattle.vl_lower_stmt.specs.Located.{AreSizedTargets, IsLocated, IsSize
 use crate::layout::{Layout, names_over};
 use crate::place::slot_in;
 use crate::word::word_slot;
-use fv_base::{List, Memory, Text};
+use fv_text::{List, Memory, Text};
 use vl_lower_assign::{Holder, Slot};
 use vl_lower_expr::{Place, found};
 use vl_tree::{Lval, LvalKind, Select};

@@ -12,7 +12,7 @@ ghost use Rattle.vl_lower_stmt.specs.Layout.{IsLayout};
 ghost use Rattle.vl_lower_stmt.specs.Executes.{Evaluates};
 
 use crate::layout::{Layout, names_over};
-use fv_base::Memory;
+use fv_text::Memory;
 use vl_lower_expr::{WordType, own, term, truth};
 use vl_tree::Expr;
 use wn_net::{Net, NodeId};

@@ -2,7 +2,7 @@
 #![tactic(auto, using(wn_net::proofs::Laws::additions))]
 
 ghost use Rattle.std.specs.Prelude.{◌≡◌, ◌-ℤ◌, true, Some, IsSome, IfOk, int_le, nat_abs};
-ghost use Rattle.fv_base.specs.declared.pos.Pos.{Pos};
+ghost use Rattle.fv_text.specs.declared.pos.Pos.{Pos};
 ghost use Rattle.vl_tree.specs.Expr.{bit, whole};
 ghost use Rattle.vl_tree.specs.ExprView.{selects, with_select};
 ghost use Rattle.vl_size.specs.Size as spec;
@@ -20,7 +20,7 @@ ghost use Rattle.vl_lower_stmt.specs.Located.{IsHeld, IsLocated};
 use crate::layout::{Layout, names_over};
 use crate::place::slot_in;
 use crate::value::own_number;
-use fv_base::Memory;
+use fv_text::Memory;
 use vl_flow_cells::are_fixed;
 use vl_lower_assign::{Holder, Slot};
 use vl_lower_expr::constant;

@@ -7,7 +7,7 @@ ghost use Rattle.vl_lower_assign.specs.Frames.{cell_widths};
 ghost use Rattle.wn_net.specs.Changes.{AddsNodes};
 ghost use Rattle.vl_lower_stmt.specs.Zeros.{AreZeros, PutsZeros};
 
-use fv_base::{Memory, Word};
+use fv_text::{Memory, Word};
 use std::alloc::Global;
 use vl_flow_cells::cell_count;
 use vl_size::{Decl, Decls};

@@ -1,6 +1,3 @@
-pub mod FlatRefused
-pub mod Maps
-pub mod DesignMaps
 pub mod Lookups
 pub mod SelectLemmas
 pub mod WordLemmas

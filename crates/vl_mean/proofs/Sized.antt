@@ -1,7 +1,7 @@
 -- What is found where operands have sizes.
 use Rattle.std.specs.Prelude.{◌≡◌, ℕ, List, Option, Some, None, ℤ}
 use Rattle.std.proofs.Common.{ap, sym, ◌∙◌}
-use Rattle.fv_base.specs.declared.pos.Pos.{Pos}
+use Rattle.fv_text.specs.declared.pos.Pos.{Pos}
 use Rattle.vl_tree.specs.declared.expr.Select.{Select}
 use Rattle.vl_tree.specs.Expr.{Expr, Exprs, Selects, part, indexed, repeat, exprs}
 use Rattle.vl_tree.specs.ExprView.{with_select}

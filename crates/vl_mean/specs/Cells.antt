@@ -1,4 +1,4 @@
--- What holds numbers: vectors, and the words of memories, each under its name. IEEE 1364-2005, section 4.9.3.
+-- Meaning: What holds numbers: vectors, and the words of memories, each under its name. IEEE 1364-2005, section 4.9.3.
 use Rattle.std.specs.Prelude.{
   ℕ,
   zero,

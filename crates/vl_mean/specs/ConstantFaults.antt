@@ -1,6 +1,6 @@
--- Why an expression isn't a constant: the earliest fault in it, and of several at one place the first of their order.
--- Over expressions in which numbers stand in place of constants. Rules of this project; what a constant expression
--- is, is IEEE 1364-2005, section 4.2.1.
+-- Meaning: Why an expression isn't a constant: the earliest fault in it, and of several at one place the first of
+-- their order. Over expressions in which numbers stand in place of constants. Rules of this project; what a constant
+-- expression is, is IEEE 1364-2005, section 4.2.1.
 use Rattle.std.specs.Prelude.{
   ℕ,
   zero,
@@ -20,7 +20,7 @@ use Rattle.std.specs.Prelude.{
   nat_le,
 }
 use Rattle.std.specs.Prelude.{nat_lt, Option, Some, None, ℤ, pos, negsuc, int_le, if◌then◌else◌}
-use Rattle.fv_base.specs.declared.pos.Pos.{Pos}
+use Rattle.fv_text.specs.declared.pos.Pos.{Pos}
 use Rattle.vl_tree.specs.declared.expr.Select.{Select}
 use Rattle.vl_tree.specs.declared.expr.Select.TheVariants as s
 use Rattle.vl_tree.specs.declared.operator.BinaryOperator.{BinaryOperator}

@@ -1,6 +1,6 @@
--- Constants: parameters and genvars, and expressions in which they are replaced by their numbers. IEEE 1364-2005,
--- sections 3.11, 4.2.1 and 12.4.1; that a constant's select counts as one of `[width - 1 : 0]` is a rule of this
--- project.
+-- Meaning: Constants: parameters and genvars, and expressions in which they are replaced by their numbers. IEEE
+-- 1364-2005, sections 3.11, 4.2.1 and 12.4.1; that a constant's select counts as one of `[width - 1 : 0]` is a rule of
+-- this project.
 use Rattle.std.specs.Prelude.{
   ℕ,
   ◌-◌,
@@ -21,8 +21,8 @@ use Rattle.std.specs.Prelude.{
 }
 use Rattle.std.specs.Prelude.{Some, None, pos, bytes_eq, if◌then◌else◌}
 use Rattle.std.proofs.Common.{arith, mod-lt, pow_pos}
-use Rattle.fv_base.specs.declared.pos.Pos.{Pos}
-use Rattle.fv_base.specs.declared.number.Number.{Number}
+use Rattle.fv_text.specs.declared.pos.Pos.{Pos}
+use Rattle.fv_text.specs.declared.number.Number.{Number}
 use Rattle.vl_tree.specs.Expr.{
   Expr,
   Exprs,

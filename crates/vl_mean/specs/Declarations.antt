@@ -1,6 +1,6 @@
--- What declarations declare. IEEE 1364-2005, sections 3.2, 3.3, 3.9, 3.11, 12.2 and 12.3. That the inputs `clock` and
--- `reset` of the top module have a meaning of their own, and the attributes `anyseq` and `anyconst`, are rules of
--- this project.
+-- Meaning: What declarations declare. IEEE 1364-2005, sections 3.2, 3.3, 3.9, 3.11, 12.2 and 12.3. That the inputs
+-- `clock` and `reset` of the top module have a meaning of their own, and the attributes `anyseq` and `anyconst`, are
+-- rules of this project.
 use Rattle.std.specs.Prelude.{
   ℕ,
   zero,

@@ -1,4 +1,4 @@
--- Declarations with numbers, as a map from names to numbers. Rule of this project.
+-- Between functions: Declarations with numbers, as a map from names to numbers. Rule of this project.
 use Rattle.std.specs.Prelude.{ℕ, List, if◌then◌else◌, bytes_eq}
 use Rattle.std.specs.Map.{lookup}
 use Rattle.vl_size.specs.Size.{Values, Cells, cells_in, or_none}

@@ -1,5 +1,5 @@
--- What a statement does: the values after it, the bits that it leaves pending, and the numbers that it assumes. IEEE
--- 1364-2005, clause 9; `assume`, and that values have no unknown bits, are rules of this project.
+-- Meaning: What a statement does: the values after it, the bits that it leaves pending, and the numbers that it
+-- assumes. IEEE 1364-2005, clause 9; `assume`, and that values have no unknown bits, are rules of this project.
 use Rattle.std.specs.Prelude.{
   ℕ,
   ◌==◌,

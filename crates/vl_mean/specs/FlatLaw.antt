@@ -1,7 +1,6 @@
--- What a design without hierarchy keeps: nothing in it is refused, so each name, select and target in it has a
--- meaning. What may be assigned where is IEEE 1364-2005, sections 6.1, 6.2 and 9.2, and which parts are constant
--- sections 4.2.1 and 5.2; the limits, the clock that is no number, and what a memory may be are rules of this
--- project.
+-- Meaning: What a design without hierarchy keeps: nothing in it is refused, so each name, select and target in it has
+-- a meaning. What may be assigned where is IEEE 1364-2005, sections 6.1, 6.2 and 9.2, and which parts are constant
+-- sections 4.2.1 and 5.2; the limits, the clock that is no number, and what a memory may be are rules of this project.
 use Rattle.std.specs.Prelude.{
   ◌≡◌,
   ℕ,

@@ -1,5 +1,5 @@
--- What a design without hierarchy is made of: the parts of `Parts`, all in one scope, in which each name is a full
--- name. Rule of this project.
+-- Meaning: What a design without hierarchy is made of: the parts of `Parts`, all in one scope, in which each name is a
+-- full name. Rule of this project.
 use Rattle.std.specs.Prelude.{List, [], ◌∷◌, ◌++◌, map}
 use Rattle.vl_tree.specs.Expr.{number}
 use Rattle.vl_size.specs.declared.decl.Decl.{Decl}

@@ -1,4 +1,5 @@
--- That what a design without hierarchy keeps is a fact: it has at most one proof. Rule of this project.
+-- Between functions: That what a design without hierarchy keeps is a fact: it has at most one proof. Rule of this
+-- project.
 use Rattle.std.specs.Prelude.{Bool, false, List, Option, None, Some, ℤ}
 use Rattle.std.specs.Coded.{×_prop, Unit-prop, le_prop}
 use Rattle.std.proofs.Props.{props}

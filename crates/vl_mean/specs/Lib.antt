@@ -10,9 +10,6 @@ pub mod Runs
 pub mod FlatLaw
 pub mod FlatProps
 pub mod FlatParts
-pub mod Examples
-pub mod DesignExamples
-pub mod FlatExamples
 pub mod Params
 pub mod Env
 pub mod Near

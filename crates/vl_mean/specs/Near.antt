@@ -1,4 +1,4 @@
--- Indices of 64 bits, as bounds have. Rule of this project.
+-- Between functions: Indices of 64 bits, as bounds have. Rule of this project.
 use Rattle.std.specs.Prelude.{◌-◌, ◌^◌, Bool, ◌&&◌, ℤ, pos, negsuc, int_le, int_lt}
 
 abbrev pub is_narrow : ℤ → Bool

@@ -1,4 +1,4 @@
--- Names with their constants, as a map. Rule of this project.
+-- Between functions: Names with their constants, as a map. Rule of this project.
 use Rattle.std.specs.Prelude.{ℕ, List, if◌then◌else◌, Option, Some, bytes_eq}
 use Rattle.std.specs.Map.{lookup}
 use Rattle.vl_mean.specs.declared.const_number.Const.{Const}

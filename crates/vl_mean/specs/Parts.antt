@@ -1,7 +1,7 @@
--- What a design is made of: the parts of each step of the walk through it, as they are written, with the scopes in
--- which their names are read. IEEE 1364-2005, sections 6.1, 9.2, 9.9 and 12.
+-- Meaning: What a design is made of: the parts of each step of the walk through it, as they are written, with the
+-- scopes in which their names are read. IEEE 1364-2005, sections 6.1, 9.2, 9.9 and 12.
 use Rattle.std.specs.Prelude.{ℕ, List, [], ◌∷◌, ◌++◌, map, Option, Some, None, if◌then◌else◌}
-use Rattle.fv_base.specs.declared.pos.Pos.{Pos}
+use Rattle.fv_text.specs.declared.pos.Pos.{Pos}
 use Rattle.vl_tree.specs.declared.declaration.DeclaredName.{DeclaredName}
 use Rattle.vl_tree.specs.declared.declaration.Direction.{Direction}
 use Rattle.vl_tree.specs.declared.declaration.Direction.TheVariants as direction

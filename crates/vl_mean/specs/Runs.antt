@@ -1,6 +1,6 @@
--- Which maps of full names to numbers a design allows, from cycle to cycle. IEEE 1364-2005, sections 6.1, 9.2, 9.7.5,
--- 9.9 and 12.3; that a net or variable holds a number in place of four-valued bits, `assume`, and the free names are
--- rules of this project.
+-- Meaning: Which maps of full names to numbers a design allows, from cycle to cycle. IEEE 1364-2005, sections 6.1,
+-- 9.2, 9.7.5, 9.9 and 12.3; that a net or variable holds a number in place of four-valued bits, `assume`, and the free
+-- names are rules of this project.
 use Rattle.std.specs.Prelude.{
   ◌≡◌,
   ℕ,

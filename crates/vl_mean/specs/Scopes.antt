@@ -1,4 +1,4 @@
--- Scopes, and what a name means in them. IEEE 1364-2005, sections 12.4, 12.5 and 12.7: a name means what the
+-- Meaning: Scopes, and what a name means in them. IEEE 1364-2005, sections 12.4, 12.5 and 12.7: a name means what the
 -- innermost scope that declares it declares, and a full name joins the names of the scopes by dots. The top module's
 -- name stays out of it: a rule of this project.
 use Rattle.std.specs.Prelude.{

@@ -1,5 +1,5 @@
--- Targets of assignments, bit by bit. IEEE 1364-2005, sections 4.2.1, 5.2 and 9.2. What lies past the range is
--- dropped. That the bits of a target are assigned from left to right is a rule of this project.
+-- Meaning: Targets of assignments, bit by bit. IEEE 1364-2005, sections 4.2.1, 5.2 and 9.2. What lies past the range
+-- is dropped. That the bits of a target are assigned from left to right is a rule of this project.
 use Rattle.std.specs.Prelude.{
   ℕ,
   zero,

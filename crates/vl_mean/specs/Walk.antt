@@ -1,7 +1,7 @@
--- The walk through a design: each step with the place where it stands. Instances are unfolded, each turn of a loop is
--- taken, and of an `if` the chosen block. What a step means is in `Parts`, and where it is refused is asked of the
--- same steps. IEEE 1364-2005, section 12; the order of the steps is that of the text, and an instance's module stands
--- behind its overrides and its connections.
+-- Meaning: The walk through a design: each step with the place where it stands. Instances are unfolded, each turn of a
+-- loop is taken, and of an `if` the chosen block. What a step means is in `Parts`, and where it is refused is asked of
+-- the same steps. IEEE 1364-2005, section 12; the order of the steps is that of the text, and an instance's module
+-- stands behind its overrides and its connections.
 use Rattle.std.specs.Prelude.{
   ℕ,
   zero,
@@ -21,7 +21,7 @@ use Rattle.std.specs.Prelude.{
 }
 use Rattle.std.specs.Prelude.{false, Option, Some, None, bytes_eq, if◌then◌else◌}
 use Rattle.std.specs.Fmt.{signed_decimal}
-use Rattle.fv_base.specs.declared.pos.Pos.{Pos}
+use Rattle.fv_text.specs.declared.pos.Pos.{Pos}
 use Rattle.vl_tree.specs.declared.declaration.FullPort.{FullPort}
 use Rattle.vl_tree.specs.declared.declaration.HeaderParameter.{HeaderParameter}
 use Rattle.vl_tree.specs.declared.declaration.Parameter.{Parameter}

@@ -1,6 +1,6 @@
 ghost use Rattle.std.specs.Prelude.{◌≡◌};
 
-use fv_base::{Memory, Pos};
+use fv_text::{Memory, Pos};
 use thiserror::Error;
 
 /// Why an expression isn't a constant. The earliest fault in it is answered, and of two at one place the first in this

@@ -1,5 +1,5 @@
 use crate::const_number::Const;
-use fv_base::Pos;
+use fv_text::Pos;
 use vl_tree::{Expr, Lval, Stmt};
 
 /// What assigns names in a design without hierarchy: the place of the item that it comes from.

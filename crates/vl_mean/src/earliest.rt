@@ -3,7 +3,7 @@ ghost use Rattle.std.specs.Prelude.{◌≡◌, option_map};
 ghost use Rattle.vl_mean.specs.ConstantFaults as spec;
 
 use crate::const_fault::ConstFault;
-use fv_base::Pos;
+use fv_text::Pos;
 use vl_size::earlier::is_earlier;
 
 /// The one at the earlier place, or at one place the first in the order of faults; of two alike the first.

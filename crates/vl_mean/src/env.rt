@@ -2,7 +2,7 @@ ghost use Rattle.std.specs.Prelude.{◌≡◌, ℕ, ℤ, List, None, Some, OnOk,
 ghost use Rattle.vl_size.specs.Table.{word_name};
 ghost use Rattle.vl_mean.specs.Env.{values_of, with_number};
 
-use fv_base::{Memory, Text};
+use fv_text::{Memory, Text};
 use indexmap::IndexMap;
 use std::alloc::Global;
 use vl_size::Decls;

@@ -1,6 +1,6 @@
 //! The earliest fault in an expression that isn't a constant.
 ghost use Rattle.std.specs.Prelude.{◌≡◌};
-ghost use Rattle.fv_base.specs.declared.pos.Pos.{Pos};
+ghost use Rattle.fv_text.specs.declared.pos.Pos.{Pos};
 ghost use Rattle.vl_tree.specs.Expr as tree;
 ghost use Rattle.vl_tree.specs.Expr.{exprs};
 ghost use Rattle.vl_tree.specs.ExprView.{selects, with_select};
@@ -16,7 +16,7 @@ use crate::evaluate::own;
 use crate::params::Params;
 use crate::wide::{wide, wide_part, wide_select};
 use crate::widths::{bound, wide_times};
-use fv_base::{Pos, Text};
+use fv_text::{Pos, Text};
 use vl_size::{Own, own_zero_divisor, selects_zero_divisor, size_of};
 use vl_tree::{Expr, ExprKind, Select};
 

@@ -2,7 +2,7 @@ ghost use Rattle.vl_mean.specs.FlatLaw.{IsLawful};
 ghost use Rattle.vl_mean.specs.FlatProps.{lawful_prop};
 
 use crate::driver::{Driver, Start};
-use fv_base::List;
+use fv_text::List;
 use vl_size::Decls;
 
 /// A design without hierarchy: names are full names, and each parameter and genvar is a number. Nothing in it is

@@ -11,7 +11,7 @@ use crate::const_number::Const;
 use crate::env::Env;
 use crate::evaluate::value as value_of;
 use crate::params::Params;
-use fv_base::{List, Memory, Number, Pos, Text};
+use fv_text::{List, Memory, Number, Pos, Text};
 use std::alloc::Global;
 use vl_size::{Class, Decl, Decls, size_of};
 use vl_tree::{Expr, ExprKind, Select};

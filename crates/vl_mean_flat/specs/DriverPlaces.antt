@@ -1,8 +1,8 @@
--- Where a design's drivers stand, step by step, in the order of the drivers among its parts: a continuous assignment
--- and a block at their item, a port connection at the connection, the value in a declaration at the declared name or port.
--- Refusals of drivers are told at these places. Rule of this project.
+-- Meaning: Where a design's drivers stand, step by step, in the order of the drivers among its parts: a continuous
+-- assignment and a block at their item, a port connection at the connection, the value in a declaration at the
+-- declared name or port. Refusals of drivers are told at these places. Rule of this project.
 use Rattle.std.specs.Prelude.{List, [], ◌∷◌, ◌++◌, ℕ, map}
-use Rattle.fv_base.specs.declared.pos.Pos.{Pos}
+use Rattle.fv_text.specs.declared.pos.Pos.{Pos}
 use Rattle.vl_tree.specs.declared.declaration.DeclaredName.{DeclaredName}
 use Rattle.vl_tree.specs.declared.declaration.NetKind.{NetKind}
 use Rattle.vl_tree.specs.declared.declaration.NetKind.TheVariants as net

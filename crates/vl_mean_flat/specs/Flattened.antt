@@ -1,5 +1,5 @@
--- The parts of a design without hierarchy, off those of a design: declarations first, then drivers, then values at
--- first; each with full names, and with numbers in place of constants. Rule of this project.
+-- Meaning: The parts of a design without hierarchy, off those of a design: declarations first, then drivers, then
+-- values at first; each with full names, and with numbers in place of constants. Rule of this project.
 use Rattle.std.specs.Prelude.{◌≡◌, ℕ, ◌≤◌, max, List, [], ◌∷◌, ◌++◌, length, Some}
 use Rattle.vl_tree.specs.Expr.{Expr, number}
 use Rattle.vl_tree.specs.Lval.{Lval}

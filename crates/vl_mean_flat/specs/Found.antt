@@ -1,4 +1,4 @@
--- A name that means the same under another name. Rule of this project.
+-- Between functions: A name that means the same under another name. Rule of this project.
 use Rattle.std.specs.Prelude.{◌≡◌, ℕ, List, Some}
 use Rattle.vl_size.specs.declared.decl.Decl.{Decl}
 use Rattle.vl_size.specs.Table.{declared_as}

@@ -1,5 +1,5 @@
--- Expressions, targets and statements with full names, and with numbers in place of constants: as they stand in a
--- design without hierarchy. IEEE 1364-2005, section 12.5.
+-- Meaning: Expressions, targets and statements with full names, and with numbers in place of constants: as they stand
+-- in a design without hierarchy. IEEE 1364-2005, section 12.5.
 use Rattle.std.specs.Prelude.{ℕ, List, [], ◌∷◌}
 use Rattle.vl_tree.specs.Expr.{
   Expr,

@@ -1,4 +1,4 @@
--- What is asked of each name in an expression, a target or a statement. Rule of this project.
+-- Between functions: What is asked of each name in an expression, a target or a statement. Rule of this project.
 use Rattle.std.specs.Prelude.{◌≡◌, ℕ, List, [], ◌∷◌, None}
 use Rattle.vl_tree.specs.Expr.{
   Expr,

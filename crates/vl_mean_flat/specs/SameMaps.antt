@@ -1,5 +1,5 @@
--- That two lists of parts have the same maps: the same hold, choose, step, begin, are runs and are assumed. Rule of
--- this project.
+-- Meaning: That two lists of parts have the same maps: the same hold, choose, step, begin, are runs and are assumed.
+-- Rule of this project.
 use Rattle.std.specs.Prelude.{ℕ, List}
 use Rattle.vl_size.specs.Size.{Values}
 use Rattle.vl_mean.specs.Parts.{Part}

@@ -1,7 +1,7 @@
--- What is seen of steps as a design is written: their parts, the places of the drivers among these, and the scopes in
--- which their names are read. Rule of this project.
+-- Between functions: What is seen of steps as a design is written: their parts, the places of the drivers among these,
+-- and the scopes in which their names are read. Rule of this project.
 use Rattle.std.specs.Prelude.{ℕ, List, [], ◌∷◌, ◌++◌, map}
-use Rattle.fv_base.specs.declared.pos.Pos.{Pos}
+use Rattle.fv_text.specs.declared.pos.Pos.{Pos}
 use Rattle.vl_tree.specs.declared.source.Module.{Module}
 use Rattle.vl_mean.specs.Parts.{Part, step_parts}
 use Rattle.vl_mean.specs.Scopes.{Scope}

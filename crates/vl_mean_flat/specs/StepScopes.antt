@@ -1,4 +1,4 @@
--- What is asked of the scopes in which a step's names are read. Rule of this project.
+-- Between functions: What is asked of the scopes in which a step's names are read. Rule of this project.
 use Rattle.std.specs.Prelude.{List}
 use Rattle.vl_mean.specs.Parts.{Part, declares, equation, combinational, clocked, starts}
 use Rattle.vl_mean.specs.Scopes.{Scope}

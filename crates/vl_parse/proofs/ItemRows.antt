@@ -1,10 +1,10 @@
 -- What is read of items, row by row.
 use Rattle.std.proofs.Common.{◌≡◌, ℕ, suc, ◌-◌, ◌<◌, List, [], ◌∷◌, length, refl, arith}
 use Rattle.std.specs.Prelude.{Ok, Err}
-use Rattle.fv_base.specs.declared.kind.Kind.{Kind}
-use Rattle.fv_base.specs.declared.kind.Kind.TheVariants as k
-use Rattle.fv_base.specs.declared.keyword.Keyword.TheVariants as w
-use Rattle.fv_base.specs.declared.symbol.Symbol.TheVariants as s
+use Rattle.fv_text.specs.declared.kind.Kind.{Kind}
+use Rattle.fv_text.specs.declared.kind.Kind.TheVariants as k
+use Rattle.fv_text.specs.declared.keyword.Keyword.TheVariants as w
+use Rattle.fv_text.specs.declared.symbol.Symbol.TheVariants as s
 use Rattle.vl_parse_grammar.specs.Machine as machine
 use Rattle.vl_parse_grammar.specs.Machine.{pop, bad, syntax, deep, then}
 use Rattle.vl_parse_grammar.specs.Grammar.{endgenerate, end, expand, read, name, in_parens}

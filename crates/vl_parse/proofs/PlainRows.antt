@@ -1,9 +1,9 @@
 -- What is read of items that have no items in them, row by row.
 use Rattle.std.proofs.Common.{◌≡◌, ℕ, List, ◌∷◌, refl, arith}
-use Rattle.fv_base.specs.declared.kind.Kind.{Kind}
-use Rattle.fv_base.specs.declared.kind.Kind.TheVariants as k
-use Rattle.fv_base.specs.declared.keyword.Keyword.TheVariants as w
-use Rattle.fv_base.specs.declared.symbol.Symbol.TheVariants as s
+use Rattle.fv_text.specs.declared.kind.Kind.{Kind}
+use Rattle.fv_text.specs.declared.kind.Kind.TheVariants as k
+use Rattle.fv_text.specs.declared.keyword.Keyword.TheVariants as w
+use Rattle.fv_text.specs.declared.symbol.Symbol.TheVariants as s
 use Rattle.vl_parse_grammar.specs.Machine.{then}
 use Rattle.vl_parse_grammar.specs.Grammar.{read, sign, name, expr, target, shape, declared_name, declared_names, names}
 use Rattle.vl_parse_grammar.specs.Grammar.{parameters, assignments, stmt, initial_stmt, item, event, overrides}

@@ -1,11 +1,11 @@
--- What functions promise each other, and what they stand on. What lists of items end with, what an item leaves behind
--- it, and lists in which regions are still open. IEEE 1364-2005, sections 12.4 and A.1.4.
+-- Between functions: What functions promise each other, and what they stand on. What lists of items end with, what an
+-- item leaves behind it, and lists in which regions are still open. IEEE 1364-2005, sections 12.4 and A.1.4.
 use Rattle.std.specs.Prelude.{◌≡◌, ℕ, zero, suc, Bool, true, List, [], ◌∷◌, Ok, Option, Some, None}
-use Rattle.fv_base.specs.declared.kind.Kind.{Kind}
-use Rattle.fv_base.specs.declared.kind.Kind.TheVariants as k
-use Rattle.fv_base.specs.declared.keyword.Keyword.{Keyword}
-use Rattle.fv_base.specs.declared.keyword.Keyword.TheVariants as w
-use Rattle.fv_base.specs.declared.pos.Pos.{Pos}
+use Rattle.fv_text.specs.declared.kind.Kind.{Kind}
+use Rattle.fv_text.specs.declared.kind.Kind.TheVariants as k
+use Rattle.fv_text.specs.declared.keyword.Keyword.{Keyword}
+use Rattle.fv_text.specs.declared.keyword.Keyword.TheVariants as w
+use Rattle.fv_text.specs.declared.pos.Pos.{Pos}
 use Rattle.vl_tree.specs.Attributes.{Attributes}
 use Rattle.vl_tree.specs.Phrase.{Phrase, ◌▸◌, at, word}
 use Rattle.vl_tree.specs.DeclarationSpelling.{spell_attributes}

@@ -1,7 +1,7 @@
--- What the public calls promise. Which tree is answered and which refusal, in terms of trees alone. Rule of this
--- project.
+-- Meaning: What the public calls promise. Which tree is answered and which refusal, in terms of trees alone. Rule of
+-- this project.
 use Rattle.std.specs.Prelude.{◌≡◌, ◌⊎◌, ℕ, List, [], None, Result, Ok, Err}
-use Rattle.fv_base.specs.declared.token.Token.{Token}
+use Rattle.fv_text.specs.declared.token.Token.{Token}
 use Rattle.vl_tree.specs.declared.source.Source.{Source}
 use Rattle.vl_tree.specs.ItemSpelling.{spell_source}
 use Rattle.vl_tree.specs.Phrase.{Spells, kinds_of}

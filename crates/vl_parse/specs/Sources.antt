@@ -1,7 +1,8 @@
--- What functions promise each other, and what they stand on. Where a source begins. Rule of this project.
+-- Between functions: What functions promise each other, and what they stand on. Where a source begins. Rule of this
+-- project.
 use Rattle.std.specs.Prelude.{◌≡◌, List, [], ◌∷◌}
-use Rattle.fv_base.specs.declared.pos.Pos.{Pos}
-use Rattle.fv_base.specs.declared.token.Token.{Token}
+use Rattle.fv_text.specs.declared.pos.Pos.{Pos}
+use Rattle.fv_text.specs.declared.token.Token.{Token}
 
 -- the place of the first token, or 1:1 of file 1 where there is none
 abbrev pub IsStart : Pos → List Token → Type 0

@@ -1,4 +1,4 @@
-use fv_base::{Memory, Pos, Text};
+use fv_text::{Memory, Pos, Text};
 use thiserror::Error;
 
 /// Why tokens have no tree. The faulty token is the first one that no source has behind the tokens before it; the end

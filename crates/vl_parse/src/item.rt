@@ -16,9 +16,9 @@ ghost use Rattle.std.specs.Prelude.{
   IfOk,
   IfErr,
 };
-ghost use Rattle.fv_base.specs.declared.kind.Kind.TheVariants as k;
-ghost use Rattle.fv_base.specs.declared.symbol.Symbol.TheVariants as s;
-ghost use Rattle.fv_base.specs.declared.token.Token.{Token};
+ghost use Rattle.fv_text.specs.declared.kind.Kind.TheVariants as k;
+ghost use Rattle.fv_text.specs.declared.symbol.Symbol.TheVariants as s;
+ghost use Rattle.fv_text.specs.declared.token.Token.{Token};
 ghost use Rattle.vl_tree.specs.Phrase.{Spells, BeginsAt, sign, word, ◌▸◌};
 ghost use Rattle.vl_tree.specs.Item as tree;
 ghost use Rattle.vl_tree.specs.ItemView.{block};
@@ -34,7 +34,7 @@ ghost use Rattle.vl_parse.specs.Items as items;
 
 use crate::plain::read_plain;
 use crate::reading::{Ending, Front, Reading, bare, with_attributes};
-use fv_base::{Keyword, List, Pos, Symbol, Text, Token};
+use fv_text::{Keyword, List, Pos, Symbol, Text, Token};
 use std::alloc::Global;
 use vl_parse_cursor::{Stop, enter, first_place, past_sign, past_word, read_name};
 use vl_parse_decl::{Before, read_attributes, read_head};

@@ -3,7 +3,7 @@
 ghost use Rattle.std.specs.Prelude.{◌≡◌, ◌++◌, Bool, true, false, Some, IfOk, codes};
 ghost use Rattle.vl_parse.specs.Faults as spec;
 
-use fv_base::{Keyword, Kind, Memory, Symbol, Text};
+use fv_text::{Keyword, Kind, Memory, Symbol, Text};
 use std::alloc::Global;
 use vl_parse_cursor::{cast_of, is_known};
 

@@ -21,7 +21,7 @@ ghost use Rattle.vl_parse.specs.Refusals.{
 use crate::fault::ParseFault;
 use crate::outside::outside_word;
 use crate::source::{START, read_source};
-use fv_base::{Pos, Token};
+use fv_text::{Pos, Token};
 use std::alloc::Global;
 use vl_parse_cursor::Stop;
 use vl_tree::Source;

@@ -1,8 +1,8 @@
 //! Items of a module that have no items in them (IEEE 1364-2005, section A.1.4).
 
 ghost use Rattle.std.specs.Prelude.{◌≡◌, ◌<◌, [], None, Ok, length, IfOk};
-ghost use Rattle.fv_base.specs.declared.kind.Kind.TheVariants as k;
-ghost use Rattle.fv_base.specs.declared.symbol.Symbol.TheVariants as s;
+ghost use Rattle.fv_text.specs.declared.kind.Kind.TheVariants as k;
+ghost use Rattle.fv_text.specs.declared.symbol.Symbol.TheVariants as s;
 ghost use Rattle.vl_tree.specs.Phrase.{Spells, sign, between_commas, ◌▸◌};
 ghost use Rattle.vl_tree.specs.ItemSpelling as spec;
 ghost use Rattle.vl_tree.specs.DeclarationSpelling as declared;
@@ -15,7 +15,7 @@ ghost use Rattle.vl_parse.specs.ItemLead as lead;
 ghost use Rattle.vl_parse.specs.Items as items;
 
 use crate::reading::bare;
-use fv_base::{Keyword, Kind, Symbol, Token};
+use fv_text::{Keyword, Kind, Symbol, Token};
 use std::alloc::Global;
 use vl_parse_cursor::{Stop, next, read_sign};
 use vl_parse_decl::{read_event, read_instance, read_list, read_shape};

@@ -1,8 +1,8 @@
 //! Lists of the items of a module, in which generate regions are open (IEEE 1364-2005, sections 12.4 and A.1.4).
 
 ghost use Rattle.std.specs.Prelude.{◌≡◌, ◌+◌, ◌<◌, ℕ, [], None, List, IfOk, IfErr};
-ghost use Rattle.fv_base.specs.declared.kind.Kind.{Kind};
-ghost use Rattle.fv_base.specs.declared.token.Token.{Token};
+ghost use Rattle.fv_text.specs.declared.kind.Kind.{Kind};
+ghost use Rattle.fv_text.specs.declared.token.Token.{Token};
 ghost use Rattle.vl_tree.specs.DeclarationWellFormed as declared_formed;
 ghost use Rattle.vl_tree.specs.Phrase.{Spells, BeginsAt, at, word, ◌▸◌};
 ghost use Rattle.vl_tree.specs.ItemView.{shown};
@@ -14,7 +14,7 @@ ghost use Rattle.vl_parse_cursor.specs.Goes.{IsMemory};
 ghost use Rattle.vl_parse.specs.declared.reading.Ending.{Ending};
 ghost use Rattle.vl_parse.specs.Items as items;
 
-use fv_base::{Keyword, List, Pos};
+use fv_text::{Keyword, List, Pos};
 use std::alloc::Global;
 use vl_parse_cursor::{Stop, add};
 use vl_tree::{AttributeInstance, Item, ItemKind, RegionMark};

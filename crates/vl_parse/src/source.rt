@@ -12,7 +12,7 @@ ghost use Rattle.vl_parse.specs.Sources.{IsStart};
 
 use crate::item::read_items;
 use crate::reading::Ending;
-use fv_base::{Keyword, List, Pos, Token};
+use fv_text::{Keyword, List, Pos, Token};
 use std::alloc::Global;
 use vl_parse_cursor::{Stop, add, first_place, next, read_name, read_word};
 use vl_parse_decl::{read_parameters, read_ports};

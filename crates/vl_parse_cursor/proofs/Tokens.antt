@@ -2,15 +2,15 @@
 use Rattle.std.proofs.Common.{◌≡◌, ℕ, zero, suc, ◌==◌, Bool, true, false, List, [], ◌∷◌, length, refl, sym, ap, ◌∙◌}
 use Rattle.std.proofs.Common.{arith}
 use Rattle.std.specs.Prelude.{Ok, Err}
-use Rattle.fv_base.specs.declared.kind.Kind.{Kind}
-use Rattle.fv_base.specs.declared.kind.Kind.TheVariants as k
-use Rattle.fv_base.specs.declared.symbol.Symbol.{Symbol}
-use Rattle.fv_base.specs.declared.symbol.Symbol.TheVariants as s
+use Rattle.fv_text.specs.declared.kind.Kind.{Kind}
+use Rattle.fv_text.specs.declared.kind.Kind.TheVariants as k
+use Rattle.fv_text.specs.declared.symbol.Symbol.{Symbol}
+use Rattle.fv_text.specs.declared.symbol.Symbol.TheVariants as s
 use Rattle.vl_parse_grammar.specs.Machine as machine
 use Rattle.vl_parse_grammar.specs.Machine.{take, bad, syntax}
 use Rattle.vl_parse_grammar.specs.Signs.{place, same_sign}
 use Rattle.vl_parse_grammar.specs.Grammar.{read, sign, name, take_if}
-use Rattle.fv_base.specs.declared.token.Token.{Token}
+use Rattle.fv_text.specs.declared.token.Token.{Token}
 use Rattle.vl_parse_cursor.specs.Next.{IsOther, behind, behind_name, kinds_in}
 use Rattle.vl_parse_cursor.specs.Parts.{row_read, row_bad}
 

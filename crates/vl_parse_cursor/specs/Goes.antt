@@ -1,4 +1,5 @@
--- What the public calls promise. How what a function answers goes with reading by the grammar. Rule of this project.
+-- Between functions: What the public calls promise. How what a function answers goes with reading by the grammar. Rule
+-- of this project.
 use Rattle.std.specs.Prelude.{◌≡◌, Result, Ok, Err}
 use Rattle.vl_parse_grammar.specs.Machine.{syntax, deep}
 use Rattle.vl_parse_grammar.specs.Grammar.{Outcome}

@@ -1,10 +1,10 @@
--- What the public calls promise. Which kind of token comes next. Rule of this project.
+-- Between functions: What the public calls promise. Which kind of token comes next. Rule of this project.
 use Rattle.std.specs.Prelude.{◌≡◌, List, [], ◌∷◌}
-use Rattle.fv_base.specs.declared.kind.Kind.{Kind}
-use Rattle.fv_base.specs.declared.kind.Kind.TheVariants as k
-use Rattle.fv_base.specs.declared.token.Token.{Token}
+use Rattle.fv_text.specs.declared.kind.Kind.{Kind}
+use Rattle.fv_text.specs.declared.kind.Kind.TheVariants as k
+use Rattle.fv_text.specs.declared.token.Token.{Token}
 use Rattle.vl_parse_grammar.specs.Grammar.{Outcome, read, sign, name}
-use Rattle.fv_base.specs.declared.symbol.Symbol.{Symbol}
+use Rattle.fv_text.specs.declared.symbol.Symbol.{Symbol}
 
 -- the kinds of the tokens
 abbrev pub kinds_in : List Token → List Kind

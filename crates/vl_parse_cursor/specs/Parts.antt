@@ -1,4 +1,4 @@
--- For the proofs of reading: rules are read one behind the other. Rule of this project.
+-- Between functions: For the proofs of reading: rules are read one behind the other. Rule of this project.
 use Rattle.std.proofs.Common.{
   ◌≡◌,
   ℕ,
@@ -19,12 +19,12 @@ use Rattle.std.proofs.Common.{
 }
 use Rattle.std.proofs.Common.{sym, ap, ◌∙◌, arith}
 use Rattle.std.specs.Prelude.{Ok, Err, map}
-use Rattle.fv_base.specs.declared.kind.Kind.{Kind}
+use Rattle.fv_text.specs.declared.kind.Kind.{Kind}
 use Rattle.vl_parse_grammar.specs.Machine as machine
 use Rattle.vl_parse_grammar.specs.Machine.{Row, Move, take, pop, bad, syntax, deep, placed, left, then}
 use Rattle.vl_parse_grammar.specs.Grammar.{Rule, Outcome, expand, ends, read, read_all, row, many}
-use Rattle.fv_base.specs.declared.kind.Kind.TheVariants as k
-use Rattle.fv_base.specs.declared.symbol.Symbol.TheVariants as s
+use Rattle.fv_text.specs.declared.kind.Kind.TheVariants as k
+use Rattle.fv_text.specs.declared.symbol.Symbol.TheVariants as s
 use Rattle.vl_parse_grammar.proofs.InParts as parts
 
 -- the room that is left behind so many constructs

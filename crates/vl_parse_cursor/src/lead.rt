@@ -6,7 +6,7 @@ ghost use Rattle.vl_parse_grammar.specs.Operators as operators;
 ghost use Rattle.vl_parse_grammar.specs.Grammar as grammar;
 ghost use Rattle.vl_parse_cursor.specs.Lead as spec;
 
-use fv_base::{Kind, Number, Symbol, Text};
+use fv_text::{Kind, Number, Symbol, Text};
 use vl_tree::{BinaryOperator, Cast, UnaryOperator};
 
 /// What a token begins as the first of an operand.

@@ -3,7 +3,7 @@
 ghost use Rattle.std.specs.Prelude.{◌++◌, ◌∷◌, [], ◌≡◌, IfErr, OnOk};
 ghost use Rattle.vl_parse_cursor.specs.Goes.{IsMemory};
 
-use fv_base::{List, Memory};
+use fv_text::{List, Memory};
 
 /// Why reading stops, with the number of tokens from the faulty one on.
 #[derive(Debug, Clone, Copy)]

@@ -15,7 +15,7 @@ ghost use Rattle.std.specs.Prelude.{
   IfErr,
   IsErr,
 };
-ghost use Rattle.fv_base.specs.declared.kind.Kind.TheVariants as k;
+ghost use Rattle.fv_text.specs.declared.kind.Kind.TheVariants as k;
 ghost use Rattle.vl_tree.specs.Phrase.{sign, word, a_name, Spells, BeginsAt};
 ghost use Rattle.vl_tree.specs.ExprWellFormed.{IsName};
 ghost use Rattle.vl_parse_grammar.specs.Machine.{syntax, deep};
@@ -23,7 +23,7 @@ ghost use Rattle.vl_parse_cursor.specs.Goes.{Goes, IsMemory, Means};
 ghost use Rattle.vl_parse_cursor.specs.Next.{IsOther, IsNoName, behind, behind_name, kinds_in};
 
 use crate::stop::Stop;
-use fv_base::{Keyword, Kind, Pos, Symbol, Text, Token};
+use fv_text::{Keyword, Kind, Pos, Symbol, Text, Token};
 use std::alloc::Global;
 
 /// The first token, and the tokens behind it.

@@ -1,7 +1,7 @@
 -- What is read where no token is left.
 use Rattle.std.proofs.Common.{◌≡◌, ℕ, [], refl, ◌∙◌}
 use Rattle.std.specs.Prelude.{Err}
-use Rattle.fv_base.specs.declared.symbol.Symbol.TheVariants as s
+use Rattle.fv_text.specs.declared.symbol.Symbol.TheVariants as s
 use Rattle.vl_parse_grammar.specs.Machine as machine
 use Rattle.vl_parse_grammar.specs.Machine.{syntax, then}
 use Rattle.vl_parse_grammar.specs.Grammar.{read, read_all, sign, name, expr, shape, parameter}

@@ -1,8 +1,8 @@
 -- What brackets and modules spell, in the parts that are read.
 use Rattle.std.proofs.Common.{List}
-use Rattle.fv_base.specs.declared.keyword.Keyword.TheVariants as w
-use Rattle.fv_base.specs.declared.symbol.Symbol.TheVariants as s
-use Rattle.fv_base.specs.declared.token.Token.{Token}
+use Rattle.fv_text.specs.declared.keyword.Keyword.TheVariants as w
+use Rattle.fv_text.specs.declared.symbol.Symbol.TheVariants as s
+use Rattle.fv_text.specs.declared.token.Token.{Token}
 use Rattle.vl_tree.specs.declared.source.Module.{Module}
 use Rattle.vl_tree.specs.Item.{items}
 use Rattle.vl_tree.specs.ItemSpelling.{spell_module, spell_all, spell_parameters, spell_ports}

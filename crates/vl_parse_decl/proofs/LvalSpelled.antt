@@ -1,8 +1,8 @@
 -- What loops over lists of targets keep.
 use Rattle.std.proofs.Common.{◌≡◌, ℕ, List, [], ◌∷◌, ◌++◌, refl, sym, ap, ◌∙◌, subst}
-use Rattle.fv_base.specs.declared.kind.Kind.TheVariants as k
-use Rattle.fv_base.specs.declared.symbol.Symbol.TheVariants as s
-use Rattle.fv_base.specs.declared.token.Token.{Token}
+use Rattle.fv_text.specs.declared.kind.Kind.TheVariants as k
+use Rattle.fv_text.specs.declared.symbol.Symbol.TheVariants as s
+use Rattle.fv_text.specs.declared.token.Token.{Token}
 use Rattle.vl_tree.specs.Phrase.{Spells, IsNext}
 use Rattle.vl_tree.specs.Lval.{Lval, Lvals, no_lvals, more_lvals, lvals}
 use Rattle.vl_tree.specs.LvalSpelling.{spell, spell_parts, spell_more}

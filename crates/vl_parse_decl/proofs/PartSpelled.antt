@@ -1,7 +1,7 @@
 -- What the head of a loop spells.
 use Rattle.std.proofs.Common.{◌≡◌, List}
-use Rattle.fv_base.specs.declared.symbol.Symbol.TheVariants as s
-use Rattle.fv_base.specs.declared.token.Token.{Token}
+use Rattle.fv_text.specs.declared.symbol.Symbol.TheVariants as s
+use Rattle.fv_text.specs.declared.token.Token.{Token}
 use Rattle.vl_tree.specs.declared.part.LoopHead.{LoopHead}
 use Rattle.vl_tree.specs.Phrase.{Spells, sign, a_name, level, ◌▸◌}
 use Rattle.vl_tree.specs.ExprSpelling.{spell}

@@ -1,4 +1,5 @@
--- What the public calls promise. What attributes stand before, as a rule of the grammar. IEEE 1364-2005, section 3.8.
+-- Between functions: What the public calls promise. What attributes stand before, as a rule of the grammar. IEEE
+-- 1364-2005, section 3.8.
 use Rattle.vl_parse_grammar.specs.Grammar as grammar
 use Rattle.vl_parse_decl.specs.declared.attribute.Before.{Before}
 use Rattle.vl_parse_decl.specs.declared.attribute.Before.TheVariants as b

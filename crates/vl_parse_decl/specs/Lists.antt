@@ -1,4 +1,5 @@
--- What functions promise each other, and what they stand on. The first of a list. Rule of this project.
+-- Between functions: What functions promise each other, and what they stand on. The first of a list. Rule of this
+-- project.
 use Rattle.std.specs.Prelude.{◌≡◌, List, [], ◌∷◌}
 
 -- it is the first of the list

@@ -1,8 +1,8 @@
--- What functions promise each other, and what they stand on. The parts of a loop's head, as rules of the grammar that
--- are read in turn. IEEE 1364-2005, section A.4.2.
+-- Between functions: What functions promise each other, and what they stand on. The parts of a loop's head, as rules
+-- of the grammar that are read in turn. IEEE 1364-2005, section A.4.2.
 use Rattle.std.specs.Prelude.{ℕ, List}
-use Rattle.fv_base.specs.declared.kind.Kind.{Kind}
-use Rattle.fv_base.specs.declared.symbol.Symbol.TheVariants as s
+use Rattle.fv_text.specs.declared.kind.Kind.{Kind}
+use Rattle.fv_text.specs.declared.symbol.Symbol.TheVariants as s
 use Rattle.vl_parse_grammar.specs.Machine.{then}
 use Rattle.vl_parse_grammar.specs.Grammar.{Outcome, read, sign, expr, this_name}
 

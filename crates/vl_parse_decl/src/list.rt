@@ -1,7 +1,7 @@
 //! Lists with commas between their elements.
 
 ghost use Rattle.std.specs.Prelude.{◌≡◌, ◌<◌, Ok, List, length, IfOk};
-ghost use Rattle.fv_base.specs.declared.token.Token.{Token};
+ghost use Rattle.fv_text.specs.declared.token.Token.{Token};
 ghost use Rattle.vl_tree.specs.DeclarationWellFormed.{AreSome};
 ghost use Rattle.vl_tree.specs.Phrase.{Spells, sign, between_commas, ◌▸◌};
 ghost use Rattle.vl_parse_grammar.specs.Machine.{then};
@@ -10,17 +10,17 @@ ghost use Rattle.vl_parse_cursor.specs.Goes.{Goes};
 ghost use Rattle.vl_parse_decl.specs.Lists.{BeginsWith};
 ghost use Rattle.vl_parse_cursor.specs.Next.{kinds_in};
 
-use fv_base::{List, Symbol, Token};
+use fv_text::{List, Symbol, Token};
 use std::alloc::Global;
 use vl_parse_cursor::{Stop, add, past_sign, read_sign};
 
 /// What such a list has as an element.
 pub trait Element: Drop {
     ghost use Rattle.std.specs.Prelude.{◌≡◌, ◌∷◌, ℕ, List};
-    ghost use Rattle.fv_base.specs.declared.kind.Kind.{Kind};
-    ghost use Rattle.fv_base.specs.declared.kind.Kind.TheVariants as k;
-    ghost use Rattle.fv_base.specs.declared.symbol.Symbol as symbol;
-    ghost use Rattle.fv_base.specs.declared.symbol.Symbol.TheVariants as s;
+    ghost use Rattle.fv_text.specs.declared.kind.Kind.{Kind};
+    ghost use Rattle.fv_text.specs.declared.kind.Kind.TheVariants as k;
+    ghost use Rattle.fv_text.specs.declared.symbol.Symbol as symbol;
+    ghost use Rattle.fv_text.specs.declared.symbol.Symbol.TheVariants as s;
     ghost use Rattle.vl_tree.specs.Phrase.{Phrase};
     ghost use Rattle.vl_parse_grammar.specs.Machine as machine;
     ghost use Rattle.vl_parse_grammar.specs.Grammar.{Rule, read, read_all};

@@ -10,7 +10,7 @@ ghost use Rattle.vl_parse_grammar.specs.Grammar as grammar;
 ghost use Rattle.vl_parse_cursor.specs.Goes.{Goes};
 ghost use Rattle.vl_parse_cursor.specs.Next.{kinds_in};
 
-use fv_base::{List, Symbol, Token};
+use fv_text::{List, Symbol, Token};
 use std::alloc::Global;
 use vl_parse_cursor::{Stop, add, enter, first_place, past_sign, read_name, read_sign};
 use vl_parse_expr::read_selects;

@@ -1,13 +1,13 @@
 //! Parts of items (IEEE 1364-2005, sections 6.1, 9.7, 12.1.2 and 12.4.1).
 
 ghost use Rattle.std.specs.Prelude.{◌≡◌, ◌<◌, ◌≤◌, ℕ, Ok, List, All, ◌∷◌, length, IfOk, []};
-ghost use Rattle.fv_base.specs.declared.token.Token.{Token};
+ghost use Rattle.fv_text.specs.declared.token.Token.{Token};
 ghost use Rattle.vl_tree.specs.Phrase.{Spells, sign, a_name, level, BeginsAt, between_commas, ◌▸◌};
 ghost use Rattle.vl_tree.specs.ExprSpelling.{spell};
 ghost use Rattle.vl_tree.specs.ExprWellFormed.{IsValue, IsName, IsWellFormed};
 ghost use Rattle.vl_tree.specs.ItemSpelling as spec;
 ghost use Rattle.vl_tree.specs.WellFormed as formed;
-ghost use Rattle.fv_base.specs.declared.symbol.Symbol.TheVariants as s;
+ghost use Rattle.fv_text.specs.declared.symbol.Symbol.TheVariants as s;
 ghost use Rattle.vl_parse_grammar.specs.Grammar as grammar;
 ghost use Rattle.vl_parse_cursor.specs.Goes.{Goes};
 ghost use Rattle.vl_parse_cursor.specs.Next.{kinds_in, behind, behind_name};
@@ -16,7 +16,7 @@ ghost use Rattle.vl_parse_decl.specs.LoopHead.{step, condition, last_step, steps
 
 use crate::list::{Element, read_list};
 use crate::lval::read_lval;
-use fv_base::{Keyword, Kind, List, Symbol, Text, Token};
+use fv_text::{Keyword, Kind, List, Symbol, Text, Token};
 use std::alloc::Global;
 use vl_parse_cursor::{
     Stop, copied, enter, first_place, next, past_name, past_sign, read_name, read_sign, read_word,

@@ -14,14 +14,14 @@ ghost use Rattle.std.specs.Prelude.{
   [],
   ◌∷◌,
 };
-ghost use Rattle.fv_base.specs.declared.kind.Kind.TheVariants as k;
+ghost use Rattle.fv_text.specs.declared.kind.Kind.TheVariants as k;
 ghost use Rattle.vl_tree.specs.Phrase.{Spells, word, sign, parens, between_commas, ◌▸◌};
 ghost use Rattle.vl_tree.specs.DeclarationSpelling as spec;
 ghost use Rattle.vl_tree.specs.DeclarationWellFormed as formed;
 ghost use Rattle.vl_tree.specs.ItemSpelling.{spell_parameters, spell_ports};
 ghost use Rattle.vl_tree.specs.WellFormed.{AreOptionalParameters, AreOptionalPorts};
 ghost use Rattle.vl_parse_grammar.specs.Machine.{then};
-ghost use Rattle.fv_base.specs.declared.symbol.Symbol.TheVariants as s;
+ghost use Rattle.fv_text.specs.declared.symbol.Symbol.TheVariants as s;
 ghost use Rattle.vl_parse_grammar.specs.Grammar as grammar;
 ghost use Rattle.vl_parse_cursor.specs.Goes.{Goes};
 ghost use Rattle.vl_parse_cursor.specs.Next.{kinds_in, IsOther};
@@ -29,7 +29,7 @@ ghost use Rattle.vl_parse_cursor.specs.Next.{kinds_in, IsOther};
 use crate::attribute::{Before, read_attributes, read_named_value, read_value};
 use crate::declaration::read_shape;
 use crate::list::{Element, read_list_behind};
-use fv_base::{Keyword, List, Symbol, Token};
+use fv_text::{Keyword, List, Symbol, Token};
 use std::alloc::Global;
 use vl_parse_cursor::{
     Stop, enter, first_place, past_name, past_sign, past_word, read_sign, read_word,

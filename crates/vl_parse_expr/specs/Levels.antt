@@ -1,7 +1,8 @@
--- What the public calls promise. Where reading stands within an expression. IEEE 1364-2005, section 5.1.2.
+-- Between functions: What the public calls promise. Where reading stands within an expression. IEEE 1364-2005, section
+-- 5.1.2.
 use Rattle.std.specs.Prelude.{ℕ, ◌<◌, List, [], ◌∷◌}
-use Rattle.fv_base.specs.declared.kind.Kind.{Kind}
-use Rattle.fv_base.specs.declared.pos.Pos.{Pos}
+use Rattle.fv_text.specs.declared.kind.Kind.{Kind}
+use Rattle.fv_text.specs.declared.pos.Pos.{Pos}
 use Rattle.vl_tree.specs.Expr.{Expr, number, name, paren, unary, binary, conditional, concat, repeat, cast}
 use Rattle.vl_tree.specs.ExprWellFormed.{binds}
 use Rattle.vl_parse_grammar.specs.Grammar as grammar

@@ -14,9 +14,9 @@ ghost use Rattle.std.specs.Prelude.{
   length,
   IfOk,
 };
-ghost use Rattle.fv_base.specs.declared.kind.Kind.TheVariants as k;
-ghost use Rattle.fv_base.specs.declared.symbol.Symbol.TheVariants as s;
-ghost use Rattle.fv_base.specs.declared.token.Token.{Token};
+ghost use Rattle.fv_text.specs.declared.kind.Kind.TheVariants as k;
+ghost use Rattle.fv_text.specs.declared.symbol.Symbol.TheVariants as s;
+ghost use Rattle.fv_text.specs.declared.token.Token.{Token};
 ghost use Rattle.vl_tree.specs.Phrase.{Spells, sign, BeginsAt, ◌▸◌, parens};
 ghost use Rattle.vl_tree.specs.Expr.{exprs};
 ghost use Rattle.vl_tree.specs.ExprView.{selects};
@@ -29,7 +29,7 @@ ghost use Rattle.vl_parse_cursor.specs.Next.{kinds_in};
 
 use crate::level::{Level, Stand};
 use crate::make;
-use fv_base::{List, Pos, Symbol, Token};
+use fv_text::{List, Pos, Symbol, Token};
 use std::alloc::Global;
 use vl_parse_cursor::{
     Joint, Lead, Stop, add, binds, enter, first_place, joint_of, lead_of, next, past_sign,

@@ -1,6 +1,6 @@
 //! Where reading stands within the brackets around an operator.
 
-use fv_base::Token;
+use fv_text::Token;
 use vl_parse_cursor::Stop;
 
 #[derive(Clone, Copy)]

@@ -6,7 +6,7 @@ ghost use Rattle.vl_tree.specs.ExprView.{selects};
 ghost use Rattle.vl_parse_expr.specs.Levels.{place};
 ghost use Rattle.vl_parse_cursor.specs.Goes.{IsMemory};
 
-use fv_base::{List, Number, Pos, Text};
+use fv_text::{List, Number, Pos, Text};
 use std::alloc::Global;
 use vl_parse_cursor::Stop;
 use vl_tree::{BinaryOperator, Cast, Expr, ExprKind, Select, UnaryOperator};

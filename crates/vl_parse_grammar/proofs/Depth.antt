@@ -4,7 +4,7 @@ use Rattle.std.proofs.Common.{refl, sym, ap, ◌∙◌, arith, le-leb}
 use Rattle.std.proofs.lemmas.Bool.{lt-leb}
 use Rattle.std.specs.Prelude.{nat_le, if◌then◌else◌, Ok, Err}
 use Rattle.std.proofs.lemmas.List.{length-append}
-use Rattle.fv_base.specs.declared.kind.Kind.{Kind}
+use Rattle.fv_text.specs.declared.kind.Kind.{Kind}
 use Rattle.vl_tree.proofs.Readings.{counted}
 use Rattle.vl_tree.specs.Phrase.{Phrase, nothing, token, operator, ◌▸◌, at, within, level, kinds, open_at, open_behind}
 use Rattle.vl_parse_grammar.specs.Machine.{deep, fits}

@@ -1,8 +1,8 @@
 -- Runs over well formed expressions are cut off where a construct too many opens.
 use Rattle.std.proofs.Common.{◌≡◌, ℕ, suc, true, List, [], ◌∷◌, Option, Some, None, refl, sym, ap, ◌∙◌}
-use Rattle.fv_base.specs.declared.kind.Kind.{Kind}
-use Rattle.fv_base.specs.declared.kind.Kind.TheVariants as k
-use Rattle.fv_base.specs.declared.symbol.Symbol.TheVariants as s
+use Rattle.fv_text.specs.declared.kind.Kind.{Kind}
+use Rattle.fv_text.specs.declared.kind.Kind.TheVariants as k
+use Rattle.fv_text.specs.declared.symbol.Symbol.TheVariants as s
 use Rattle.vl_tree.specs.Expr as tree
 use Rattle.vl_tree.specs.Expr.{Expr, Exprs, Selects, number, paren, unary, binary, conditional, concat, repeat, cast}
 use Rattle.vl_tree.specs.Expr.{none, whole, bit, part, indexed}

@@ -1,8 +1,8 @@
 -- The first token of what a phrase spells.
 use Rattle.std.proofs.Common.{◌≡◌, List, [], ◌∷◌, refl, sym, ap, ◌∙◌, subst}
-use Rattle.fv_base.specs.declared.kind.Kind.{Kind}
-use Rattle.fv_base.specs.declared.kind.Kind.TheVariants as k
-use Rattle.fv_base.specs.declared.token.Token.{Token}
+use Rattle.fv_text.specs.declared.kind.Kind.{Kind}
+use Rattle.fv_text.specs.declared.kind.Kind.TheVariants as k
+use Rattle.fv_text.specs.declared.token.Token.{Token}
 use Rattle.vl_tree.proofs.Readings.{spelled}
 use Rattle.vl_tree.specs.Expr.{Expr}
 use Rattle.vl_tree.specs.ExprSpelling as expr

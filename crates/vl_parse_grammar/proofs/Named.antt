@@ -1,7 +1,7 @@
 -- Tokens whose names are names, without their places.
 use Rattle.std.proofs.Common.{◌≡◌, ℕ, Bool, true, false, List, [], ◌∷◌, ◌++◌, Option, Some, None, refl, ap, ◌∙◌}
-use Rattle.fv_base.specs.Named.{is_well_named}
-use Rattle.fv_base.specs.declared.kind.Kind.{Kind}
+use Rattle.fv_text.specs.Named.{is_well_named}
+use Rattle.fv_text.specs.declared.kind.Kind.{Kind}
 use Rattle.vl_parse_grammar.specs.Machine as machine
 use Rattle.vl_parse_grammar.specs.Machine.{Move, take, pop, bad, symbols, free_step}
 use Rattle.vl_parse_grammar.specs.Grammar as grammar

@@ -3,11 +3,11 @@ use Rattle.std.proofs.Common.{◌≡◌, ℕ, Bool, true, false, List, [], ◌�
 use Rattle.std.proofs.Common.{arith}
 use Rattle.std.specs.Prelude.{All}
 use Rattle.std.proofs.lemmas.List.Elements.{All-head, All-tail}
-use Rattle.fv_base.specs.declared.keyword.Keyword.TheVariants as word
-use Rattle.fv_base.specs.declared.kind.Kind.{Kind}
-use Rattle.fv_base.specs.declared.kind.Kind.TheVariants as k
-use Rattle.fv_base.specs.declared.symbol.Symbol.TheVariants as s
-use Rattle.fv_base.specs.declared.token.Token.{Token}
+use Rattle.fv_text.specs.declared.keyword.Keyword.TheVariants as word
+use Rattle.fv_text.specs.declared.kind.Kind.{Kind}
+use Rattle.fv_text.specs.declared.kind.Kind.TheVariants as k
+use Rattle.fv_text.specs.declared.symbol.Symbol.TheVariants as s
+use Rattle.fv_text.specs.declared.token.Token.{Token}
 use Rattle.vl_tree.specs.declared.attribute.Attribute.{Attribute}
 use Rattle.vl_tree.specs.declared.attribute.AttributeInstance.{AttributeInstance}
 use Rattle.vl_tree.specs.declared.declaration.Range.{Range}

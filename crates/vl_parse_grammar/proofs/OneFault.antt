@@ -2,8 +2,8 @@
 use Rattle.std.proofs.Common.{◌≡◌, ℕ, suc, List, [], ◌∷◌, ◌++◌, length, refl, sym, ap, ◌∙◌, subst}
 use Rattle.std.specs.Prelude.{Ok, Err}
 use Rattle.std.proofs.lemmas.List.{append_assoc}
-use Rattle.fv_base.specs.declared.kind.Kind.{Kind}
-use Rattle.fv_base.specs.declared.token.Token.{Token}
+use Rattle.fv_text.specs.declared.kind.Kind.{Kind}
+use Rattle.fv_text.specs.declared.token.Token.{Token}
 use Rattle.vl_tree.specs.Phrase.{kinds_of}
 use Rattle.vl_parse_grammar.specs.Machine.{syntax, deep}
 use Rattle.vl_parse_grammar.specs.Grammar as grammar

@@ -1,6 +1,6 @@
 -- How many regions are open along a list of items.
 use Rattle.std.proofs.Common.{◌≡◌, ℕ, zero, suc, List, Option, Some, None, refl, sym, ap, ◌∙◌, subst}
-use Rattle.fv_base.specs.declared.kind.Kind.{Kind}
+use Rattle.fv_text.specs.declared.kind.Kind.{Kind}
 use Rattle.vl_tree.specs.declared.item.RegionMark.{RegionMark}
 use Rattle.vl_tree.specs.declared.item.RegionMark.TheVariants as mark
 use Rattle.vl_tree.specs.Item.{Item, Items, generate, no_items, more_items}

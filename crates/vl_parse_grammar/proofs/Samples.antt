@@ -1,11 +1,11 @@
 -- Short texts that the grammar has, and some that it lacks, written out.
 use Rattle.std.specs.Prelude.{◌≡◌, refl, true, false, [], ◌∷◌, Ok, Err}
-use Rattle.fv_base.specs.declared.keyword.Keyword.{Keyword}
-use Rattle.fv_base.specs.declared.keyword.Keyword.TheVariants as w
-use Rattle.fv_base.specs.declared.kind.Kind.{Kind}
-use Rattle.fv_base.specs.declared.kind.Kind.TheVariants as k
-use Rattle.fv_base.specs.declared.symbol.Symbol.{Symbol}
-use Rattle.fv_base.specs.declared.symbol.Symbol.TheVariants as s
+use Rattle.fv_text.specs.declared.keyword.Keyword.{Keyword}
+use Rattle.fv_text.specs.declared.keyword.Keyword.TheVariants as w
+use Rattle.fv_text.specs.declared.kind.Kind.{Kind}
+use Rattle.fv_text.specs.declared.kind.Kind.TheVariants as k
+use Rattle.fv_text.specs.declared.symbol.Symbol.{Symbol}
+use Rattle.fv_text.specs.declared.symbol.Symbol.TheVariants as s
 use Rattle.vl_parse_grammar.specs.Machine.{syntax}
 use Rattle.vl_parse_grammar.specs.Grammar.{accepts, expr, stmt, run}
 

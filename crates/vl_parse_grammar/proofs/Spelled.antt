@@ -1,6 +1,6 @@
 -- What tokens with their places have to do with texts.
 use Rattle.std.proofs.Common.{◌≡◌, List, [], sym, ap, ◌∙◌}
-use Rattle.fv_base.specs.declared.token.Token.{Token}
+use Rattle.fv_text.specs.declared.token.Token.{Token}
 use Rattle.vl_tree.proofs.Readings.{spelled}
 use Rattle.vl_tree.specs.declared.source.Source.{Source}
 use Rattle.vl_tree.specs.ItemSpelling.{spell_source}

@@ -1,12 +1,12 @@
 -- What comes behind each rule of expressions, declarations and statements in a row may come there.
 use Rattle.std.proofs.Common.{ℕ, zero, suc, Bool, true, false, ◌==◌, List, [], ◌∷◌, Option, Some, None, refl}
-use Rattle.fv_base.specs.declared.keyword.Keyword.{Keyword}
-use Rattle.fv_base.specs.declared.keyword.Keyword.TheVariants as w
-use Rattle.fv_base.specs.declared.kind.Kind.{Kind}
-use Rattle.fv_base.specs.declared.kind.Kind.TheVariants as k
-use Rattle.fv_base.specs.declared.number.Number.{Number}
-use Rattle.fv_base.specs.declared.symbol.Symbol.{Symbol}
-use Rattle.fv_base.specs.declared.symbol.Symbol.TheVariants as s
+use Rattle.fv_text.specs.declared.keyword.Keyword.{Keyword}
+use Rattle.fv_text.specs.declared.keyword.Keyword.TheVariants as w
+use Rattle.fv_text.specs.declared.kind.Kind.{Kind}
+use Rattle.fv_text.specs.declared.kind.Kind.TheVariants as k
+use Rattle.fv_text.specs.declared.number.Number.{Number}
+use Rattle.fv_text.specs.declared.symbol.Symbol.{Symbol}
+use Rattle.fv_text.specs.declared.symbol.Symbol.TheVariants as s
 use Rattle.vl_tree.specs.declared.operator.BinaryOperator.{BinaryOperator}
 use Rattle.vl_tree.specs.declared.operator.UnaryOperator.{UnaryOperator}
 use Rattle.vl_tree.specs.declared.operator.Cast.{Cast}

@@ -1,11 +1,11 @@
 -- Runs over well formed statements are cut off where a construct too many opens.
 use Rattle.std.proofs.Common.{◌≡◌, ℕ, zero, suc, ◌+◌, ◌≤◌, Bool, true, false, ◌==◌, ◌&&◌, List, [], ◌∷◌, ◌++◌, length}
 use Rattle.std.proofs.Common.{Option, Some, None, refl, sym, ap, ◌∙◌, subst, arith, eq-eqb}
-use Rattle.fv_base.specs.declared.keyword.Keyword.TheVariants as word
-use Rattle.fv_base.specs.declared.kind.Kind.{Kind}
-use Rattle.fv_base.specs.declared.kind.Kind.TheVariants as k
-use Rattle.fv_base.specs.declared.number.Number.{Number}
-use Rattle.fv_base.specs.declared.symbol.Symbol.TheVariants as s
+use Rattle.fv_text.specs.declared.keyword.Keyword.TheVariants as word
+use Rattle.fv_text.specs.declared.kind.Kind.{Kind}
+use Rattle.fv_text.specs.declared.kind.Kind.TheVariants as k
+use Rattle.fv_text.specs.declared.number.Number.{Number}
+use Rattle.fv_text.specs.declared.symbol.Symbol.TheVariants as s
 use Rattle.vl_tree.specs.declared.operator.UnaryOperator.{UnaryOperator}
 use Rattle.vl_tree.specs.declared.operator.UnaryOperator.TheVariants as u
 use Rattle.vl_tree.specs.declared.stmt.CaseKind.{CaseKind}

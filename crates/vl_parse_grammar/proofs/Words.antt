@@ -1,13 +1,13 @@
 -- A short completion for each rule.
 use Rattle.std.proofs.Common.{◌≡◌, ℕ, zero, suc, Bool, true, false, List, [], ◌∷◌, refl, arith}
-use Rattle.fv_base.specs.Keyword.{keyword_of, keyword_text}
-use Rattle.fv_base.specs.Name.{is_name}
-use Rattle.fv_base.specs.declared.keyword.Keyword.{Keyword}
-use Rattle.fv_base.specs.declared.keyword.Keyword.TheVariants as w
-use Rattle.fv_base.specs.declared.kind.Kind.TheVariants as k
-use Rattle.fv_base.specs.declared.number.Number.{Number}
-use Rattle.fv_base.specs.declared.symbol.Symbol.{Symbol}
-use Rattle.fv_base.specs.declared.symbol.Symbol.TheVariants as s
+use Rattle.fv_text.specs.Keyword.{keyword_of, keyword_text}
+use Rattle.fv_text.specs.Name.{is_name}
+use Rattle.fv_text.specs.declared.keyword.Keyword.{Keyword}
+use Rattle.fv_text.specs.declared.keyword.Keyword.TheVariants as w
+use Rattle.fv_text.specs.declared.kind.Kind.TheVariants as k
+use Rattle.fv_text.specs.declared.number.Number.{Number}
+use Rattle.fv_text.specs.declared.symbol.Symbol.{Symbol}
+use Rattle.fv_text.specs.declared.symbol.Symbol.TheVariants as s
 use Rattle.vl_parse_grammar.specs.Grammar.{
   Rule,
   Stand,

@@ -1,4 +1,4 @@
--- Where too many constructs are open. Rule of this project: no more than 256 may be open at a token.
+-- Meaning: Where too many constructs are open. Rule of this project: no more than 256 may be open at a token.
 use Rattle.std.specs.Prelude.{
   ◌≡◌,
   ℕ,
@@ -16,7 +16,7 @@ use Rattle.std.specs.Prelude.{
   Err,
 }
 use Rattle.std.specs.Prelude.{if◌then◌else◌}
-use Rattle.fv_base.specs.declared.kind.Kind.{Kind}
+use Rattle.fv_text.specs.declared.kind.Kind.{Kind}
 use Rattle.vl_tree.specs.declared.source.Source.{Source}
 use Rattle.vl_tree.specs.ItemSpelling.{spell_source}
 use Rattle.vl_tree.specs.Phrase.{kinds, open_at}

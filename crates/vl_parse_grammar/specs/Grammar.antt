@@ -1,8 +1,8 @@
--- The grammar of this project's subset of Verilog as rows: what each rule makes of the next token, alternative by
--- alternative. IEEE 1364-2005, annex A, cut to the subset. The levels of operators are no part of it: an expression is
--- operands with operators between them. What a text is is defined by the spelling of trees (`ItemSpelling` and its
--- parts, `Text.IsText`); these rows are another way to say it, in which texts are read, and the law
--- `the_grammar_has_what_trees_spell` shows that they have the same texts.
+-- Meaning: The grammar of this project's subset of Verilog as rows: what each rule makes of the next token,
+-- alternative by alternative. IEEE 1364-2005, annex A, cut to the subset. The levels of operators are no part of it:
+-- an expression is operands with operators between them. What a text is is defined by the spelling of trees
+-- (`ItemSpelling` and its parts, `Text.IsText`); these rows are another way to say it, in which texts are read, and
+-- the law `the_grammar_has_what_trees_spell` shows that they have the same texts.
 use Rattle.std.specs.Prelude.{
   ℕ,
   zero,
@@ -21,13 +21,13 @@ use Rattle.std.specs.Prelude.{
   Option,
 }
 use Rattle.std.specs.Prelude.{Some, None, bytes_eq}
-use Rattle.fv_base.specs.declared.keyword.Keyword.{Keyword}
-use Rattle.fv_base.specs.declared.keyword.Keyword.TheVariants as w
-use Rattle.fv_base.specs.declared.kind.Kind.{Kind}
-use Rattle.fv_base.specs.declared.kind.Kind.TheVariants as k
-use Rattle.fv_base.specs.declared.number.Number.{Number}
-use Rattle.fv_base.specs.declared.symbol.Symbol.{Symbol}
-use Rattle.fv_base.specs.declared.symbol.Symbol.TheVariants as s
+use Rattle.fv_text.specs.declared.keyword.Keyword.{Keyword}
+use Rattle.fv_text.specs.declared.keyword.Keyword.TheVariants as w
+use Rattle.fv_text.specs.declared.kind.Kind.{Kind}
+use Rattle.fv_text.specs.declared.kind.Kind.TheVariants as k
+use Rattle.fv_text.specs.declared.number.Number.{Number}
+use Rattle.fv_text.specs.declared.symbol.Symbol.{Symbol}
+use Rattle.fv_text.specs.declared.symbol.Symbol.TheVariants as s
 use Rattle.vl_tree.specs.declared.operator.UnaryOperator.{UnaryOperator}
 use Rattle.vl_tree.specs.declared.operator.BinaryOperator.{BinaryOperator}
 use Rattle.vl_tree.specs.declared.operator.Cast.{Cast}

@@ -1,7 +1,7 @@
--- A grammar as a machine with a stack of symbols that are still to come, the next one first. A token either takes the
--- place of the next symbol by a row of symbols, or the symbol is left out, or the token is wrong. Each symbol on the
--- stack has a room, the number of constructs that may still open there. Rule of this project: a predictive parser
--- with one token of lookahead.
+-- Between functions: A grammar as a machine with a stack of symbols that are still to come, the next one first. A
+-- token either takes the place of the next symbol by a row of symbols, or the symbol is left out, or the token is
+-- wrong. Each symbol on the stack has a room, the number of constructs that may still open there. Rule of this
+-- project: a predictive parser with one token of lookahead.
 use Rattle.std.specs.Prelude.{
   ◌≡◌,
   ℕ,

@@ -1,7 +1,7 @@
--- Which operators and casts tokens stand for. IEEE 1364-2005, tables 5-1 and 5-4, and section 5.5.
+-- Meaning: Which operators and casts tokens stand for. IEEE 1364-2005, tables 5-1 and 5-4, and section 5.5.
 use Rattle.std.specs.Prelude.{ℕ, Bool, List, Option, Some, None, bytes_eq, codes}
-use Rattle.fv_base.specs.declared.symbol.Symbol.{Symbol}
-use Rattle.fv_base.specs.declared.symbol.Symbol.TheVariants as s
+use Rattle.fv_text.specs.declared.symbol.Symbol.{Symbol}
+use Rattle.fv_text.specs.declared.symbol.Symbol.TheVariants as s
 use Rattle.vl_tree.specs.declared.operator.UnaryOperator.{UnaryOperator}
 use Rattle.vl_tree.specs.declared.operator.UnaryOperator.TheVariants as u
 use Rattle.vl_tree.specs.declared.operator.BinaryOperator.{BinaryOperator}

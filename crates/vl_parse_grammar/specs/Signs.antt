@@ -1,7 +1,7 @@
--- Signs are compared by their places in the list of all signs. IEEE 1364-2005, clauses 3 and 5.
+-- Between functions: Signs are compared by their places in the list of all signs. IEEE 1364-2005, clauses 3 and 5.
 use Rattle.std.specs.Prelude.{ℕ, Bool, ◌==◌}
-use Rattle.fv_base.specs.declared.symbol.Symbol.{Symbol}
-use Rattle.fv_base.specs.declared.symbol.Symbol.TheVariants as s
+use Rattle.fv_text.specs.declared.symbol.Symbol.{Symbol}
+use Rattle.fv_text.specs.declared.symbol.Symbol.TheVariants as s
 
 abbrev pub place : Symbol → ℕ
 place s.OpenParen = 0

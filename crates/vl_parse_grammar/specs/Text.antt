@@ -1,6 +1,7 @@
--- What the public laws say. What a text and its faulty token are, in terms of trees alone. Rule of this project.
+-- Meaning: What the public laws say. What a text and its faulty token are, in terms of trees alone. Rule of this
+-- project.
 use Rattle.std.specs.Prelude.{◌≡◌, ℕ, List, [], ◌∷◌, ◌++◌, length}
-use Rattle.fv_base.specs.declared.kind.Kind.{Kind}
+use Rattle.fv_text.specs.declared.kind.Kind.{Kind}
 use Rattle.vl_tree.specs.declared.source.Source.{Source}
 use Rattle.vl_tree.specs.ItemSpelling.{spell_source}
 use Rattle.vl_tree.specs.Phrase.{kinds}

@@ -1,8 +1,8 @@
 //! What the grammar has to do with trees.
 
 ghost use Rattle.std.specs.Prelude.{◌≡◌, ℕ, List, [], ◌∷◌, true, Ok, Err};
-ghost use Rattle.fv_base.specs.declared.kind.Kind.{Kind};
-ghost use Rattle.fv_base.specs.declared.token.Token.{Token};
+ghost use Rattle.fv_text.specs.declared.kind.Kind.{Kind};
+ghost use Rattle.fv_text.specs.declared.token.Token.{Token};
 ghost use Rattle.vl_tree.specs.Phrase.{kinds, kinds_of, Spells};
 ghost use Rattle.vl_tree.specs.declared.source.Source.{Source};
 ghost use Rattle.vl_tree.specs.ItemSpelling.{spell_source};

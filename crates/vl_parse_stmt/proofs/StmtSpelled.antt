@@ -1,10 +1,10 @@
 -- What nodes of statements spell, and what loops over their lists keep.
 use Rattle.std.proofs.Common.{◌≡◌, ℕ, suc, ◌+◌, ◌≤◌, ◌<◌, List, [], ◌∷◌, ◌++◌, length, refl, sym, ap, ◌∙◌, subst, arith}
 use Rattle.std.specs.Prelude.{Option, Some, None}
-use Rattle.fv_base.specs.declared.pos.Pos.{Pos}
-use Rattle.fv_base.specs.declared.token.Token.{Token}
-use Rattle.fv_base.specs.declared.kind.Kind.TheVariants as k
-use Rattle.fv_base.specs.declared.keyword.Keyword.TheVariants as w
+use Rattle.fv_text.specs.declared.pos.Pos.{Pos}
+use Rattle.fv_text.specs.declared.token.Token.{Token}
+use Rattle.fv_text.specs.declared.kind.Kind.TheVariants as k
+use Rattle.fv_text.specs.declared.keyword.Keyword.TheVariants as w
 use Rattle.vl_tree.specs.Phrase.{Spells, IsNext, BeginsAt, word, ◌▸◌}
 use Rattle.vl_tree.specs.Stmt.{Stmt, Stmts, Arms, begin, no_stmts, more_stmts, stmts}
 use Rattle.vl_tree.specs.declared.stmt.Arm.{Arm}

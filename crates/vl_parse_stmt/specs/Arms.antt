@@ -1,9 +1,9 @@
--- What functions promise each other, and what they stand on. Labels and arms of a case. IEEE 1364-2005, sections 9.5
--- and A.6.7; that wild bits stand in labels of a `casez` alone is a rule of this project.
+-- Between functions: What functions promise each other, and what they stand on. Labels and arms of a case. IEEE
+-- 1364-2005, sections 9.5 and A.6.7; that wild bits stand in labels of a `casez` alone is a rule of this project.
 use Rattle.std.specs.Prelude.{ℕ, ◌==◌, Bool, true, false, Option, Some, None}
-use Rattle.fv_base.specs.declared.kind.Kind.{Kind}
-use Rattle.fv_base.specs.declared.kind.Kind.TheVariants as k
-use Rattle.fv_base.specs.declared.number.Number.{Number}
+use Rattle.fv_text.specs.declared.kind.Kind.{Kind}
+use Rattle.fv_text.specs.declared.kind.Kind.TheVariants as k
+use Rattle.fv_text.specs.declared.number.Number.{Number}
 use Rattle.vl_tree.specs.declared.stmt.CaseKind.{CaseKind}
 use Rattle.vl_tree.specs.declared.stmt.CaseKind.TheVariants as c
 use Rattle.vl_parse_cursor.specs.declared.lead.Lead.{Lead}

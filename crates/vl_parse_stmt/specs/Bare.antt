@@ -1,5 +1,5 @@
--- What functions promise each other, and what they stand on. What a statement has before it. IEEE 1364-2005,
--- section 3.8.
+-- Between functions: What functions promise each other, and what they stand on. What a statement has before it. IEEE
+-- 1364-2005, section 3.8.
 use Rattle.std.specs.Prelude.{◌≡◌, []}
 use Rattle.vl_tree.specs.Attributes.{Attributes}
 use Rattle.vl_tree.specs.Stmt.{Stmt, begin, if_only, if_else, case, assign, assume, empty}

@@ -1,8 +1,8 @@
--- What the public calls promise. What a statement leaves behind it. IEEE 1364-2005, section 9.4.
+-- Between functions: What the public calls promise. What a statement leaves behind it. IEEE 1364-2005, section 9.4.
 use Rattle.std.specs.Prelude.{◌≡◌, true, List}
-use Rattle.fv_base.specs.declared.kind.Kind.{Kind}
-use Rattle.fv_base.specs.declared.kind.Kind.TheVariants as k
-use Rattle.fv_base.specs.declared.keyword.Keyword.TheVariants as w
+use Rattle.fv_text.specs.declared.kind.Kind.{Kind}
+use Rattle.fv_text.specs.declared.kind.Kind.TheVariants as k
+use Rattle.fv_text.specs.declared.keyword.Keyword.TheVariants as w
 use Rattle.vl_tree.specs.Stmt.{Stmt}
 use Rattle.vl_tree.specs.StmtWellFormed.{ends_open}
 use Rattle.vl_parse_cursor.specs.Next.{IsOther}

@@ -11,7 +11,7 @@ ghost use Rattle.vl_parse_stmt.specs.Arms as labels;
 ghost use Rattle.vl_parse_cursor.specs.Goes.{Goes};
 ghost use Rattle.vl_parse_cursor.specs.Next.{kinds_in};
 
-use fv_base::{Kind, List, Number, Symbol, Token};
+use fv_text::{Kind, List, Number, Symbol, Token};
 use std::alloc::Global;
 use vl_parse_cursor::{Lead, Stop, add, lead_of, next, past_sign, read_sign};
 use vl_parse_expr::{number, read_expr};

@@ -17,9 +17,9 @@ ghost use Rattle.std.specs.Prelude.{
   IfErr,
 };
 ghost use Rattle.std.specs.Prelude.{false, ℕ};
-ghost use Rattle.fv_base.specs.declared.kind.Kind.TheVariants as k;
-ghost use Rattle.fv_base.specs.declared.symbol.Symbol.TheVariants as s;
-ghost use Rattle.fv_base.specs.declared.token.Token.{Token};
+ghost use Rattle.fv_text.specs.declared.kind.Kind.TheVariants as k;
+ghost use Rattle.fv_text.specs.declared.symbol.Symbol.TheVariants as s;
+ghost use Rattle.fv_text.specs.declared.token.Token.{Token};
 ghost use Rattle.vl_tree.specs.Phrase.{Spells, BeginsAt, level, sign, word, ◌▸◌};
 ghost use Rattle.vl_tree.specs.ExprSpelling as written;
 ghost use Rattle.vl_tree.specs.ExprWellFormed as expr;
@@ -32,14 +32,14 @@ ghost use Rattle.vl_parse_grammar.specs.Machine.{then};
 ghost use Rattle.vl_parse_grammar.specs.Grammar as grammar;
 ghost use Rattle.vl_parse_cursor.specs.Goes.{Goes, IsMemory};
 ghost use Rattle.vl_parse_cursor.specs.Next.{kinds_in, IsOther};
-ghost use Rattle.fv_base.specs.declared.keyword.Keyword.TheVariants as w;
+ghost use Rattle.fv_text.specs.declared.keyword.Keyword.TheVariants as w;
 ghost use Rattle.vl_parse_stmt.specs.Arms as labels;
 ghost use Rattle.vl_parse_stmt.specs.StmtLead as lead;
 ghost use Rattle.vl_parse_stmt.specs.Bare.{HasNoAttributes};
 ghost use Rattle.vl_parse_stmt.specs.Statements.{LeavesElse};
 
 use crate::arm::{begins_label, read_colon, read_labels};
-use fv_base::{Keyword, Kind, List, Pos, Symbol, Text, Token};
+use fv_text::{Keyword, Kind, List, Pos, Symbol, Text, Token};
 use std::alloc::Global;
 use vl_parse_cursor::{
     Stop, add, enter, first_place, next, past_sign, past_word, read_name, read_sign,

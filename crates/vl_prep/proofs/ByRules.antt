@@ -1,8 +1,8 @@
 -- What the rules of groups lead to, the reading of the text comes to.
 use Rattle.std.proofs.Common.{◌≡◌, ℕ, zero, suc, List, [], ◌∷◌, refl, ap, sym, ◌∙◌}
 use Rattle.std.specs.Prelude.{Bool, true, false, Option, Some, None}
-use Rattle.fv_base.specs.declared.pos.Pos.{Pos}
-use Rattle.fv_base.specs.declared.token.Token.{Token}
+use Rattle.fv_text.specs.declared.pos.Pos.{Pos}
+use Rattle.fv_text.specs.declared.token.Token.{Token}
 use Rattle.vl_prep.specs.declared.directive.Directive.TheVariants.{Define, Undef, ElseIf, Else, EndIf, Include}
 use Rattle.vl_prep.specs.declared.opens.Open.{Open}
 use Rattle.vl_prep.specs.declared.reading.Reading.TheVariants.{Named}

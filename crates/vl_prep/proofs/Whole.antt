@@ -1,7 +1,7 @@
 -- The reading of a whole text by the rules of groups, and token by token.
 use Rattle.std.proofs.Common.{◌≡◌, List, refl, ap, sym, ◌∙◌, subst}
 use Rattle.std.specs.Prelude.{Option, Some, None, Result, Ok, Err}
-use Rattle.fv_base.specs.declared.token.Token.{Token}
+use Rattle.fv_text.specs.declared.token.Token.{Token}
 use Rattle.vl_prep.specs.declared.fault.PrepFault.{PrepFault}
 use Rattle.vl_prep.specs.declared.refusal.Refusal.{Refusal}
 use Rattle.vl_prep.specs.Macros.{Held}

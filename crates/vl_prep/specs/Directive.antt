@@ -1,8 +1,8 @@
--- The compiler directives of IEEE 1364-2005, clause 19, that count here, and their words.
+-- Meaning: The compiler directives of IEEE 1364-2005, clause 19, that count here, and their words.
 use Rattle.std.specs.Prelude.{ℕ, List, [], ◌∷◌, Option, None, find, codes}
 use Rattle.std.specs.Str.{bytes_eq}
-use Rattle.fv_base.specs.declared.kind.Kind.{Kind}
-use Rattle.fv_base.specs.declared.kind.Kind.TheVariants as k
+use Rattle.fv_text.specs.declared.kind.Kind.{Kind}
+use Rattle.fv_text.specs.declared.kind.Kind.TheVariants as k
 use Rattle.vl_prep.specs.declared.directive.Directive.{Directive}
 use Rattle.vl_prep.specs.declared.directive.Directive.TheVariants.{
   Define,

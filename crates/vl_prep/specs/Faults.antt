@@ -1,4 +1,4 @@
--- What the public calls promise. Where clauses speak of a fault. Rule of this project.
+-- Between functions: What the public calls promise. Where clauses speak of a fault. Rule of this project.
 use Rattle.vl_prep.specs.declared.fault.PrepFault.{PrepFault}
 use Rattle.vl_prep.specs.declared.fault.PrepFault.TheVariants.{UnknownMacro, UnbalancedIf, MacroArgs, MacroDepth}
 use Rattle.vl_prep.specs.declared.fault.PrepFault.TheVariants.{Include, TooManyTokens, NoName, Memory}

@@ -1,8 +1,8 @@
--- What the public calls promise. Tokens as nested groups, and what comes of them (IEEE 1364-2005, clause 19). A text
--- is read from its front: each rule below takes one construct there, and leads from the tokens and what was read before
--- it to those behind it. A conditional is `ifdef or `ifndef with a name and a group, then `elsif groups with a name
--- each, perhaps an `else group, and `endif (section 19.4). A group is again tokens and conditionals. At most one group
--- of a conditional is chosen.
+-- Between functions: What the public calls promise. Tokens as nested groups, and what comes of them (IEEE 1364-2005,
+-- clause 19). A text is read from its front: each rule below takes one construct there, and leads from the tokens and
+-- what was read before it to those behind it. A conditional is `ifdef or `ifndef with a name and a group, then `elsif
+-- groups with a name each, perhaps an `else group, and `endif (section 19.4). A group is again tokens and
+-- conditionals. At most one group of a conditional is chosen.
 --
 -- Reading goes on behind what is refused (rule of this project): of an unknown macro, a macro too deep and an `include
 -- nothing comes, a directive without its name or without its conditional is passed over, a token past the limit is
@@ -26,10 +26,10 @@ use Rattle.std.specs.Prelude.{
   Option,
 }
 use Rattle.std.specs.Prelude.{None, Some}
-use Rattle.fv_base.specs.declared.kind.Kind.{Kind}
-use Rattle.fv_base.specs.declared.kind.Kind.TheVariants as k
-use Rattle.fv_base.specs.declared.pos.Pos.{Pos}
-use Rattle.fv_base.specs.declared.token.Token.{Token}
+use Rattle.fv_text.specs.declared.kind.Kind.{Kind}
+use Rattle.fv_text.specs.declared.kind.Kind.TheVariants as k
+use Rattle.fv_text.specs.declared.pos.Pos.{Pos}
+use Rattle.fv_text.specs.declared.token.Token.{Token}
 use Rattle.vl_prep.specs.declared.directive.Directive.{Directive}
 use Rattle.vl_prep.specs.declared.directive.Directive.TheVariants.{Define, Undef, IfDef, IfNotDef, ElseIf, Else}
 use Rattle.vl_prep.specs.declared.directive.Directive.TheVariants.{EndIf, Include, TimeScale, DefaultNetType}

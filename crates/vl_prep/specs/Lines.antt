@@ -1,11 +1,11 @@
--- Lines. A macro's text ends with its line, but a backslash directly before the line's end joins the next one
+-- Meaning: Lines. A macro's text ends with its line, but a backslash directly before the line's end joins the next one
 -- (IEEE 1364-2005, section 19.3.1). Lines past 2^32 - 1 have that number.
 use Rattle.std.specs.Prelude.{ℕ, ◌+◌, ◌-◌, ◌^◌, min, Bool, true, false, ◌&&◌, ◌==◌, List, length}
-use Rattle.fv_base.specs.declared.kind.Kind.{Kind}
-use Rattle.fv_base.specs.declared.kind.Kind.TheVariants as k
-use Rattle.fv_base.specs.declared.pos.Pos.{Pos}
-use Rattle.fv_base.specs.declared.symbol.Symbol.TheVariants.{OpenParen, OpenAttribute}
-use Rattle.fv_base.specs.declared.token.Token.{Token}
+use Rattle.fv_text.specs.declared.kind.Kind.{Kind}
+use Rattle.fv_text.specs.declared.kind.Kind.TheVariants as k
+use Rattle.fv_text.specs.declared.pos.Pos.{Pos}
+use Rattle.fv_text.specs.declared.symbol.Symbol.TheVariants.{OpenParen, OpenAttribute}
+use Rattle.fv_text.specs.declared.token.Token.{Token}
 use Rattle.vl_prep.specs.declared.reading.Body.{Body}
 
 -- both places are on one line of one file

@@ -1,11 +1,11 @@
--- What the public calls promise. The macros that are defined: a map from names to texts. IEEE 1364-2005,
+-- Meaning: What the public calls promise. The macros that are defined: a map from names to texts. IEEE 1364-2005,
 -- section 19.3.
 use Rattle.std.specs.Prelude.{ℕ, List, if◌then◌else◌, Option, None, Some}
 use Rattle.std.specs.Map.{lookup}
 use Rattle.std.specs.Option.{option_map}
 use Rattle.std.specs.Str.{bytes_eq}
 use Rattle.std.specs.Arc.{arc_value}
-use Rattle.fv_base.specs.declared.token.Token.{Token}
+use Rattle.fv_text.specs.declared.token.Token.{Token}
 use Rattle.vl_prep.specs.declared.macros.Macros.{Macros}
 
 abbrev pub Held : Type 0

@@ -1,6 +1,6 @@
--- Conditionals and their groups (IEEE 1364-2005, section 19.4). A list of them has the innermost first.
+-- Meaning: Conditionals and their groups (IEEE 1364-2005, section 19.4). A list of them has the innermost first.
 use Rattle.std.specs.Prelude.{Bool, true, false, not, List, [], ◌∷◌, Option, Some, None}
-use Rattle.fv_base.specs.declared.pos.Pos.{Pos}
+use Rattle.fv_text.specs.declared.pos.Pos.{Pos}
 use Rattle.vl_prep.specs.declared.opens.Group.{Group}
 use Rattle.vl_prep.specs.declared.opens.Group.TheVariants.{Chosen, Waiting, Passed}
 use Rattle.vl_prep.specs.declared.opens.Open.{Open}

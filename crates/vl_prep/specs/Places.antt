@@ -1,9 +1,9 @@
--- What the public calls promise. Where the places of an answer come from: each is that of a token of the text that
--- was read. Rule of this project.
+-- Between functions: What the public calls promise. Where the places of an answer come from: each is that of a token
+-- of the text that was read. Rule of this project.
 use Rattle.std.specs.Prelude.{List, map, Option, Some, None, IfSome}
 use Rattle.std.specs.List.{All, Contains}
-use Rattle.fv_base.specs.declared.pos.Pos.{Pos}
-use Rattle.fv_base.specs.declared.token.Token.{Token}
+use Rattle.fv_text.specs.declared.pos.Pos.{Pos}
+use Rattle.fv_text.specs.declared.token.Token.{Token}
 use Rattle.vl_prep.specs.declared.fault.PrepFault.{PrepFault}
 use Rattle.vl_prep.specs.declared.fault.PrepFault.TheVariants.{UnknownMacro, UnbalancedIf, MacroArgs, MacroDepth}
 use Rattle.vl_prep.specs.declared.fault.PrepFault.TheVariants.{Include, TooManyTokens, NoName, Memory}

@@ -1,4 +1,5 @@
--- What the public calls promise. What comes of tokens, read one by one. `groups_decide` ties it to nested groups.
+-- Meaning: What the public calls promise. What comes of tokens, read one by one. `groups_decide` ties it to nested
+-- groups.
 use Rattle.std.specs.Prelude.{
   ℕ,
   zero,
@@ -17,10 +18,10 @@ use Rattle.std.specs.Prelude.{
   Option,
 }
 use Rattle.std.specs.Prelude.{None, Some, is_some, unwrap_or, Result, Ok, Err}
-use Rattle.fv_base.specs.declared.kind.Kind.{Kind}
-use Rattle.fv_base.specs.declared.kind.Kind.TheVariants as k
-use Rattle.fv_base.specs.declared.pos.Pos.{Pos}
-use Rattle.fv_base.specs.declared.token.Token.{Token}
+use Rattle.fv_text.specs.declared.kind.Kind.{Kind}
+use Rattle.fv_text.specs.declared.kind.Kind.TheVariants as k
+use Rattle.fv_text.specs.declared.pos.Pos.{Pos}
+use Rattle.fv_text.specs.declared.token.Token.{Token}
 use Rattle.vl_prep.specs.declared.directive.Directive.{Directive}
 use Rattle.vl_prep.specs.declared.directive.Directive.TheVariants.{Define, Undef, IfDef, IfNotDef, ElseIf, Else}
 use Rattle.vl_prep.specs.declared.directive.Directive.TheVariants.{EndIf, Include}

@@ -1,5 +1,5 @@
--- What functions promise each other. Which uses of macros the code remembers, since they changed nothing. Rule of
--- this project.
+-- Between functions: What functions promise each other. Which uses of macros the code remembers, since they changed
+-- nothing. Rule of this project.
 use Rattle.std.specs.Prelude.{
   ◌≡◌,
   ℕ,
@@ -17,8 +17,8 @@ use Rattle.std.specs.Prelude.{
 }
 use Rattle.std.specs.Map.{lookup}
 use Rattle.std.specs.Str.{bytes_eq}
-use Rattle.fv_base.specs.declared.pos.Pos.{Pos}
-use Rattle.fv_base.specs.declared.token.Token.{Token}
+use Rattle.fv_text.specs.declared.pos.Pos.{Pos}
+use Rattle.fv_text.specs.declared.token.Token.{Token}
 use Rattle.vl_prep.specs.declared.quiet.Quiet.{Quiet}
 use Rattle.vl_prep.specs.Prep.{Done, expand}
 

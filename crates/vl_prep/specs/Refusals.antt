@@ -1,7 +1,7 @@
--- What the public calls promise. The refusals of a text, and which of them is answered: the one at the least place,
--- by file, line and column, and at one place the one with the lowest number. Rule of this project.
+-- Meaning: What the public calls promise. The refusals of a text, and which of them is answered: the one at the least
+-- place, by file, line and column, and at one place the one with the lowest number. Rule of this project.
 use Rattle.std.specs.Prelude.{ℕ, Bool, ◌&&◌, ◌==◌, nat_lt, Option, None, Some, if◌then◌else◌}
-use Rattle.fv_base.specs.declared.pos.Pos.{Pos}
+use Rattle.fv_text.specs.declared.pos.Pos.{Pos}
 use Rattle.vl_prep.specs.declared.fault.PrepFault.{PrepFault}
 use Rattle.vl_prep.specs.declared.fault.PrepFault.TheVariants as fault
 use Rattle.vl_prep.specs.declared.refusal.Cause.{Cause}

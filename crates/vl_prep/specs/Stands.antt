@@ -1,8 +1,9 @@
--- What functions promise each other. Where the code stands, as the definition sees it. Rule of this project.
+-- Between functions: What functions promise each other. Where the code stands, as the definition sees it. Rule of this
+-- project.
 use Rattle.std.specs.Prelude.{◌≡◌, ℕ, zero, ◌<◌, true, List, Option, None, Some, Result, Ok, Err}
 use Rattle.std.specs.Arc.{arc_value}
-use Rattle.fv_base.specs.declared.pos.Pos.{Pos}
-use Rattle.fv_base.specs.declared.token.Token.{Token}
+use Rattle.fv_text.specs.declared.pos.Pos.{Pos}
+use Rattle.fv_text.specs.declared.token.Token.{Token}
 use Rattle.vl_prep.specs.declared.prepared.Prepared.{Prepared}
 use Rattle.vl_prep.specs.declared.scope.Scope.{Scope}
 use Rattle.vl_prep.specs.declared.steps.Use.{Use}

@@ -1,6 +1,6 @@
 ghost use Rattle.std.specs.Prelude.{◌≡◌};
 
-use fv_base::{Memory, Pos, Text};
+use fv_text::{Memory, Pos, Text};
 use thiserror::Error;
 
 /// Why tokens can't be preprocessed. The place is that of the faulty token, in a macro's text that of the outermost

@@ -1,7 +1,7 @@
 //! What the definition token by token means in the standard's words.
 
 ghost use Rattle.std.specs.Prelude.{◌≡◌, List, Ok, Err};
-ghost use Rattle.fv_base.specs.declared.token.Token.{Token};
+ghost use Rattle.fv_text.specs.declared.token.Token.{Token};
 ghost use Rattle.vl_prep.specs.declared.fault.PrepFault.{PrepFault};
 ghost use Rattle.vl_prep.specs.Macros.{Held};
 ghost use Rattle.vl_prep.specs.Prep.{Outcome, preprocessed};

@@ -3,7 +3,7 @@ ghost use Rattle.std.specs.Bool.{OnTrue};
 ghost use Rattle.std.specs.Option.{option_map};
 ghost use Rattle.vl_prep.specs.Macros.{held, with_text};
 
-use fv_base::{List, Memory, Text, Token};
+use fv_text::{List, Memory, Text, Token};
 use indexmap::IndexMap;
 use std::alloc::Global;
 use std::sync::Arc;

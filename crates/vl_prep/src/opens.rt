@@ -3,7 +3,7 @@
 ghost use Rattle.std.specs.Prelude.{◌≡◌, [], OnOk};
 ghost use Rattle.vl_prep.specs.Opens as specs;
 
-use fv_base::{Memory, Pos};
+use fv_text::{Memory, Pos};
 use std::alloc::Global;
 use std::marker::Model;
 

@@ -6,7 +6,7 @@ ghost use Rattle.vl_prep.specs.Quiet.{AreQuiet};
 use crate::macros::Macros;
 use crate::quiet::Quiet;
 use crate::refusal::Refusal;
-use fv_base::{List, Token};
+use fv_text::{List, Token};
 use std::alloc::Global;
 
 #[derive(Drop)]

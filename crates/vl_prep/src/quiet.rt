@@ -4,7 +4,7 @@ ghost use Rattle.std.specs.Prelude.{◌≡◌, ℕ, ◌==◌, true, false, Some,
 ghost use Rattle.std.specs.Bool.{OnTrue};
 ghost use Rattle.vl_prep.specs.Quiet.{IsSeen, IsEmpty, KeepsPlace, NotesOne, WasSeen};
 
-use fv_base::{Memory, Pos, Text};
+use fv_text::{Memory, Pos, Text};
 use indexmap::IndexMap;
 use std::alloc::Global;
 

@@ -18,7 +18,7 @@ use crate::reading::{Body, Reading, on_line};
 use crate::refusal::Cause;
 use crate::scope::{Scope, Site};
 use crate::steps::Use;
-use fv_base::{Kind, List, Memory, Pos, Text, Token};
+use fv_text::{Kind, List, Memory, Pos, Text, Token};
 use std::alloc::Global;
 
 /// How many uses of macros may stand within one another.

@@ -5,7 +5,7 @@ ghost use Rattle.vl_prep.specs.Lines as lines;
 ghost use Rattle.vl_prep.specs.Prep.{body_with};
 
 use crate::directive::Directive;
-use fv_base::{Kind, List, Memory, Pos, Symbol, Text, Token};
+use fv_text::{Kind, List, Memory, Pos, Symbol, Text, Token};
 use std::alloc::Global;
 
 #[derive(Drop)]

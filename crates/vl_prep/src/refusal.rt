@@ -4,7 +4,7 @@ ghost use Rattle.std.specs.Prelude.{◌≡◌};
 ghost use Rattle.vl_prep.specs.Refusals as specs;
 
 use crate::fault::PrepFault;
-use fv_base::{Pos, Text};
+use fv_text::{Pos, Text};
 
 /// Why a text is refused.
 #[derive(Debug, Drop)]

@@ -5,7 +5,7 @@ ghost use Rattle.vl_prep.specs.declared.reading.Reading.TheVariants as reading;
 
 use crate::opens::Opens;
 use crate::reading::Reading;
-use fv_base::Pos;
+use fv_text::Pos;
 use std::alloc::Global;
 use std::mem;
 

@@ -10,7 +10,7 @@ use crate::macros::Macros;
 use crate::prepared::Prepared;
 use crate::quiet::Quiet;
 use crate::refusal::{Cause, Refusal};
-use fv_base::{List, Memory, Pos, Text, Token};
+use fv_text::{List, Memory, Pos, Text, Token};
 use std::alloc::Global;
 use std::sync::Arc;
 

@@ -2,8 +2,8 @@
 use Rattle.std.specs.Prelude.{◌≡◌, refl, ℕ, ◌<◌, ◌^◌, List, [], ◌∷◌, true, false, Some, None, pos, codes, bytes_eq}
 use Rattle.std.specs.Prelude.{if◌then◌else◌}
 use Rattle.std.proofs.Common.{lit≤, lit<}
-use Rattle.fv_base.specs.declared.pos.Pos.{Pos}
-use Rattle.fv_base.specs.declared.number.Number.{Number}
+use Rattle.fv_text.specs.declared.pos.Pos.{Pos}
+use Rattle.fv_text.specs.declared.number.Number.{Number}
 use Rattle.vl_tree.specs.declared.operator.UnaryOperator.TheVariants as u
 use Rattle.vl_tree.specs.declared.operator.BinaryOperator.TheVariants as b
 use Rattle.vl_tree.specs.declared.operator.Cast.TheVariants as c

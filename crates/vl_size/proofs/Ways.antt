@@ -1,6 +1,6 @@
 -- Sizes of operations of one bit.
 use Rattle.std.specs.Prelude.{◌≡◌, refl, ℕ, max, Bool, ◌&&◌, List, Option, Some, None}
-use Rattle.fv_base.specs.declared.pos.Pos.{Pos}
+use Rattle.fv_text.specs.declared.pos.Pos.{Pos}
 use Rattle.vl_tree.specs.declared.operator.BinaryOperator.{BinaryOperator}
 use Rattle.vl_tree.specs.declared.operator.BinaryOperator.TheVariants as b
 use Rattle.vl_tree.specs.Expr.{Expr, binary}

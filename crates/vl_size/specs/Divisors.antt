@@ -1,6 +1,6 @@
--- Divisors that are 0. A divisor has the size and the sign of its context, which go down as those of a value do: in
--- nine bits `8'd255 + 8'd1` isn't 0. IEEE 1364-2005, sections 5.1.5, 5.4 and 5.5; that a division by 0 is refused,
--- also in a branch that isn't taken, is a rule of this project.
+-- Meaning: Divisors that are 0. A divisor has the size and the sign of its context, which go down as those of a value
+-- do: in nine bits `8'd255 + 8'd1` isn't 0. IEEE 1364-2005, sections 5.1.5, 5.4 and 5.5; that a division by 0 is
+-- refused, also in a branch that isn't taken, is a rule of this project.
 use Rattle.std.specs.Prelude.{
   ℕ,
   ◌==◌,
@@ -15,7 +15,7 @@ use Rattle.std.specs.Prelude.{
   None,
   if◌then◌else◌,
 }
-use Rattle.fv_base.specs.declared.pos.Pos.{Pos}
+use Rattle.fv_text.specs.declared.pos.Pos.{Pos}
 use Rattle.vl_tree.specs.declared.expr.Select.{Select}
 use Rattle.vl_tree.specs.declared.expr.Select.TheVariants as s
 use Rattle.vl_tree.specs.declared.operator.BinaryOperator.{BinaryOperator}

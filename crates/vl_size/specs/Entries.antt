@@ -1,4 +1,4 @@
--- The entries of the map behind a table of declarations. Rule of this project.
+-- Between functions: The entries of the map behind a table of declarations. Rule of this project.
 use Rattle.std.specs.Prelude.{◌≡◌, ℕ, ◌<◌, ◌^◌, List, [], ◌∷◌, length, map, All, Vec}
 use Rattle.std.specs.declared.alloc.Global.{Global}
 use Rattle.vl_size.specs.declared.decl.Decl.{Decl}

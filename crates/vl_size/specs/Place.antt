@@ -1,4 +1,4 @@
--- Indices that may lie in a vector or a memory. Rule of this project.
+-- Between functions: Indices that may lie in a vector or a memory. Rule of this project.
 use Rattle.std.specs.Prelude.{◌-◌, ◌^◌, Bool, ◌&&◌, ◌||◌, ℤ, pos, negsuc, int_le, int_lt}
 
 -- bounds have 64 bits, so that what is further from 0 is past them all

@@ -1,6 +1,6 @@
--- Which of two places in a text comes first. Rule of this project.
+-- Meaning: Which of two places in a text comes first. Rule of this project.
 use Rattle.std.specs.Prelude.{◌==◌, Bool, ◌&&◌, ◌||◌, nat_lt, Option, Some, None, if◌then◌else◌}
-use Rattle.fv_base.specs.declared.pos.Pos.{Pos}
+use Rattle.fv_text.specs.declared.pos.Pos.{Pos}
 
 -- places compare by file, then line, then column
 abbrev pub is_earlier : Pos → Pos → Bool

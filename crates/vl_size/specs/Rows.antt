@@ -1,4 +1,4 @@
--- A number for each width from 0 to 128. Rule of this project.
+-- Between functions: A number for each width from 0 to 128. Rule of this project.
 use Rattle.std.specs.Prelude.{◌≡◌, ℕ, ◌<◌, ◌≤◌, ◌^◌, List, get_or}
 
 abbrev pub AreFit : List ℕ → Type 0

@@ -1,4 +1,4 @@
--- When an expression is signed. IEEE 1364-2005, section 5.5.1.
+-- Meaning: When an expression is signed. IEEE 1364-2005, section 5.5.1.
 use Rattle.std.specs.Prelude.{ℤ, List, Bool, true, false, ◌&&◌, Option, Some, None}
 use Rattle.vl_size.specs.declared.way.Way.{Way}
 use Rattle.vl_size.specs.declared.way.Way.TheVariants as w

@@ -1,6 +1,6 @@
--- The size of an expression by itself, and its value in a context: one block, since a size may need the value of a
--- constant (a count of copies, the bounds of a part), and a value the sizes of parts. IEEE 1364-2005, sections 4.2,
--- 5.1, 5.2, 5.4 and 5.5; that sizes end at 128 bits, and which expressions have none, are rules of this project.
+-- Meaning: The size of an expression by itself, and its value in a context: one block, since a size may need the value
+-- of a constant (a count of copies, the bounds of a part), and a value the sizes of parts. IEEE 1364-2005, sections
+-- 4.2, 5.1, 5.2, 5.4 and 5.5; that sizes end at 128 bits, and which expressions have none, are rules of this project.
 use Rattle.std.specs.Prelude.{
   ℕ,
   zero,

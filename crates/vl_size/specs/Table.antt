@@ -1,4 +1,5 @@
--- Declarations in order. Rules of this project, but that names of one scope differ: IEEE 1364-2005, section 12.7.
+-- Meaning: Declarations in order. Rules of this project, but that names of one scope differ: IEEE 1364-2005, section
+-- 12.7.
 use Rattle.std.specs.Prelude.{
   ◌≡◌,
   ℕ,

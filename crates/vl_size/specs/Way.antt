@@ -1,4 +1,4 @@
--- Where the size and the sign of an operation come from. IEEE 1364-2005, table 5-22 and section 5.5.1.
+-- Meaning: Where the size and the sign of an operation come from. IEEE 1364-2005, table 5-22 and section 5.5.1.
 use Rattle.std.specs.Prelude.{Bool, true, false}
 use Rattle.vl_tree.specs.declared.operator.UnaryOperator.{UnaryOperator}
 use Rattle.vl_tree.specs.declared.operator.UnaryOperator.TheVariants as u

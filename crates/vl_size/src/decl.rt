@@ -1,4 +1,4 @@
-use fv_base::Text;
+use fv_text::Text;
 
 /// What a declared name stands for. Rule of this project.
 #[derive(Debug, Clone, Copy, PartialEq, Eq)]

@@ -19,7 +19,7 @@ ghost use Rattle.std.specs.Map.{lookup};
 ghost use Rattle.vl_size.specs.Table.{place, declared_as, is_declared, IsShaped, AreApart, AreDifferent};
 
 use crate::decl::Decl;
-use fv_base::{Memory, Text};
+use fv_text::{Memory, Text};
 use indexmap::IndexMap;
 use std::alloc::Global;
 use std::marker::Model;

@@ -15,7 +15,7 @@ use crate::numbers::Numbers;
 use crate::sign::sign_of;
 use crate::size::{evaluate, self_size};
 use crate::way::{Way, divides, keeps_size, way_of};
-use fv_base::Pos;
+use fv_text::Pos;
 use vl_tree::{BinaryOperator, Expr, ExprKind, Select};
 
 /// The size of a whole expression by itself, from 1 to 128 bits (IEEE 1364-2005, section 5.4). None exactly where a

@@ -2,7 +2,7 @@
 ghost use Rattle.std.specs.Prelude.{◌≡◌};
 ghost use Rattle.vl_size.specs.Places as spec;
 
-use fv_base::Pos;
+use fv_text::Pos;
 
 /// By file, then line, then column.
 pub fn is_earlier(p: Pos, q: Pos) -> bool

@@ -12,7 +12,7 @@ ghost use Rattle.std.specs.Prelude.{
   if◌then◌else◌,
 };
 ghost use Rattle.std.specs.Option.{option_map};
-ghost use Rattle.fv_base.specs.declared.pos.Pos.{Pos};
+ghost use Rattle.fv_text.specs.declared.pos.Pos.{Pos};
 ghost use Rattle.vl_tree.specs.Expr.{exprs, whole, unary, binary};
 ghost use Rattle.vl_tree.specs.ExprView.{selects, with_select};
 ghost use Rattle.vl_size.specs.Sign.{sign};

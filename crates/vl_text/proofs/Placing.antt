@@ -6,8 +6,8 @@ use Rattle.std.proofs.lemmas.List.Elements.{All-nil, All-cons, All-append, All-f
 use Rattle.std.proofs.lemmas.List.Elements.{All-contains_itself, All-head, All-tail}
 use Rattle.std.specs.List.{All, Contains}
 use Rattle.std.specs.Prelude.{Bool, true, false, IfSome, IfOk, IfErr, MatchResult, if◌then◌else◌}
-use Rattle.fv_base.specs.declared.pos.Pos.{Pos}
-use Rattle.fv_base.specs.declared.token.Token.{Token}
+use Rattle.fv_text.specs.declared.pos.Pos.{Pos}
+use Rattle.fv_text.specs.declared.token.Token.{Token}
 use Rattle.vl_token.specs.Fault as lexer
 use Rattle.vl_token.specs.FaultPlace.{fault_place}
 use Rattle.vl_token.specs.Piece.{Piece, text_of, joined}

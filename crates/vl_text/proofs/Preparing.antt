@@ -1,6 +1,6 @@
 -- What the preprocessor answers is what comes of the tokens, or the refusal, that is there.
 use Rattle.std.proofs.Common.{◌≡◌, List, Result, Ok, Err, refl, sym, ap, ◌∙◌, subst}
-use Rattle.fv_base.specs.declared.token.Token.{Token}
+use Rattle.fv_text.specs.declared.token.Token.{Token}
 use Rattle.vl_prep.specs.Faults.{OnNotMemory}
 use Rattle.vl_prep.specs.Macros.{Held}
 use Rattle.vl_prep.specs.Prep.{Outcome, preprocessed}

@@ -7,9 +7,9 @@ use Rattle.std.proofs.lemmas.List.Elements.{All-weaker, All-map, All-contains, A
 use Rattle.std.proofs.lemmas.Option.{IfSome_then, slice_get_cases, slice_get_within, get_or_from_slice_get}
 use Rattle.std.specs.List.{All, Contains, filter}
 use Rattle.std.specs.Prelude.{Option, Some, None, IfSome, Result, Ok, Err, MatchResult}
-use Rattle.fv_base.specs.declared.kind.Kind.{Kind}
-use Rattle.fv_base.specs.declared.pos.Pos.{Pos}
-use Rattle.fv_base.specs.declared.token.Token.{Token}
+use Rattle.fv_text.specs.declared.kind.Kind.{Kind}
+use Rattle.fv_text.specs.declared.pos.Pos.{Pos}
+use Rattle.fv_text.specs.declared.token.Token.{Token}
 use Rattle.vl_prep.specs.Faults.{OnNotMemory}
 use Rattle.vl_prep.specs.Places.{places, fault_place, IsPlaced}
 use Rattle.vl_prep.specs.declared.macros.Macros.{Macros}

@@ -1,4 +1,4 @@
--- Lines of assumptions as items, and where these stand. Rules of this project.
+-- Meaning: Lines of assumptions as items, and where these stand. Rules of this project.
 use Rattle.std.specs.Prelude.{
   refl,
   ℕ,
@@ -19,14 +19,14 @@ use Rattle.std.specs.Prelude.{
 use Rattle.std.specs.Prelude.{length, take, drop, slice_get, Option, None, Some, Ok, Err, if◌then◌else◌, codes}
 use Rattle.std.specs.Prelude.{bytes_eq}
 use Rattle.std.specs.List.{filter}
-use Rattle.fv_base.specs.declared.keyword.Keyword.{Keyword}
-use Rattle.fv_base.specs.declared.keyword.Keyword.TheVariants as w
-use Rattle.fv_base.specs.declared.kind.Kind.{Kind}
-use Rattle.fv_base.specs.declared.kind.Kind.TheVariants as k
-use Rattle.fv_base.specs.declared.pos.Pos.{Pos}
-use Rattle.fv_base.specs.declared.symbol.Symbol.{Symbol}
-use Rattle.fv_base.specs.declared.symbol.Symbol.TheVariants as s
-use Rattle.fv_base.specs.declared.token.Token.{Token}
+use Rattle.fv_text.specs.declared.keyword.Keyword.{Keyword}
+use Rattle.fv_text.specs.declared.keyword.Keyword.TheVariants as w
+use Rattle.fv_text.specs.declared.kind.Kind.{Kind}
+use Rattle.fv_text.specs.declared.kind.Kind.TheVariants as k
+use Rattle.fv_text.specs.declared.pos.Pos.{Pos}
+use Rattle.fv_text.specs.declared.symbol.Symbol.{Symbol}
+use Rattle.fv_text.specs.declared.symbol.Symbol.TheVariants as s
+use Rattle.fv_text.specs.declared.token.Token.{Token}
 use Rattle.vl_token.specs.Place.{start_of}
 use Rattle.vl_text.specs.Texts.{Text, Lexing}
 use Rattle.vl_text.specs.declared.assumptions.Section.{Section}

@@ -1,4 +1,5 @@
--- A part's fault as that of the whole text; want of memory is no fault of the text. Rule of this project.
+-- Between functions: A part's fault as that of the whole text; want of memory is no fault of the text. Rule of this
+-- project.
 use Rattle.vl_token.specs.declared.fault.LexFault.{LexFault}
 use Rattle.vl_token.specs.declared.fault.LexFault.TheVariants as lex
 use Rattle.vl_prep.specs.declared.fault.PrepFault.{PrepFault}

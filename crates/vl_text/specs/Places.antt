@@ -1,8 +1,9 @@
--- Where texts are refused, and where the nodes of their tree stand: at places of the texts. Rule of this project.
+-- Between functions: Where texts are refused, and where the nodes of their tree stand: at places of the texts. Rule of
+-- this project.
 use Rattle.std.specs.Prelude.{◌≡◌, ℕ, List, [], ◌∷◌, ◌++◌, Ok, Option, Some, None, IfSome}
 use Rattle.std.specs.List.{All, Contains}
-use Rattle.fv_base.specs.declared.pos.Pos.{Pos}
-use Rattle.fv_base.specs.declared.token.Token.{Token}
+use Rattle.fv_text.specs.declared.pos.Pos.{Pos}
+use Rattle.fv_text.specs.declared.token.Token.{Token}
 use Rattle.vl_token.specs.FaultPlace.{fault_place as lex_place}
 use Rattle.vl_token.specs.Place.{place_after, start_of}
 use Rattle.vl_prep.specs.Places.{fault_place, places}

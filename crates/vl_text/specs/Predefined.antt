@@ -1,5 +1,5 @@
--- The macros that are defined before a text is read. Names and widths of RVFI are those of riscv-formal, the rest
--- is a rule of this project.
+-- Meaning: The macros that are defined before a text is read. Names and widths of RVFI are those of riscv-formal, the
+-- rest is a rule of this project.
 use Rattle.std.specs.Prelude.{
   ◌≡◌,
   ℕ,
@@ -13,7 +13,7 @@ use Rattle.std.specs.Prelude.{
   Ok,
   codes,
 }
-use Rattle.fv_base.specs.declared.token.Token.{Token}
+use Rattle.fv_text.specs.declared.token.Token.{Token}
 use Rattle.vl_token.specs.Tokens.{AreTokens}
 use Rattle.vl_prep.specs.Macros.{Held}
 use Rattle.vl_prep.specs.Prep.{preprocessed}

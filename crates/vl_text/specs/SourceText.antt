@@ -1,8 +1,8 @@
--- What texts come to: their tree and the macros at their end, or the first part that refuses them. Rules of this
--- project.
+-- Meaning: What texts come to: their tree and the macros at their end, or the first part that refuses them. Rules of
+-- this project.
 use Rattle.std.specs.Prelude.{◌≡◌, ℕ, List, [], ◌∷◌, Option, None, Some, Result, Ok, Err}
 use Rattle.std.specs.Global.{Vec}
-use Rattle.fv_base.specs.declared.token.Token.{Token}
+use Rattle.fv_text.specs.declared.token.Token.{Token}
 use Rattle.vl_token.specs.declared.fault.LexFault.{LexFault}
 use Rattle.vl_prep.specs.Macros.{Held, held}
 use Rattle.vl_prep.specs.Prep.{Outcome, preprocessed}

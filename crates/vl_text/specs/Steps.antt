@@ -1,8 +1,9 @@
--- What the functions of this crate promise one another. No public clause cites it. Rule of this project.
+-- Between functions: What the functions of this crate promise one another. No public clause cites it. Rule of this
+-- project.
 use Rattle.std.specs.Prelude.{◌≡◌, List, [], ◌∷◌, ◌++◌, Ok, Err, Result}
 use Rattle.std.specs.List.{filter}
 use Rattle.std.specs.Global.{Vec}
-use Rattle.fv_base.specs.declared.token.Token.{Token}
+use Rattle.fv_text.specs.declared.token.Token.{Token}
 use Rattle.vl_token.specs.Fault.{OnNotMemory}
 use Rattle.vl_token.specs.declared.fault.LexFault.{LexFault}
 use Rattle.vl_text.specs.Assumptions.{as_item, as_items, is_assumed, is_not_assumed}

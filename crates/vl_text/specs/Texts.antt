@@ -1,4 +1,5 @@
--- Texts that are read as one: each is lexed by itself, and their tokens are laid end to end. Rules of this project.
+-- Meaning: Texts that are read as one: each is lexed by itself, and their tokens are laid end to end. Rules of this
+-- project.
 use Rattle.std.specs.Prelude.{
   ℕ,
   Bool,
@@ -17,8 +18,8 @@ use Rattle.std.specs.Prelude.{
   Ok,
 }
 use Rattle.std.specs.Prelude.{Err, if◌then◌else◌}
-use Rattle.fv_base.specs.declared.pos.Pos.{Pos}
-use Rattle.fv_base.specs.declared.token.Token.{Token}
+use Rattle.fv_text.specs.declared.pos.Pos.{Pos}
+use Rattle.fv_text.specs.declared.token.Token.{Token}
 use Rattle.vl_token.specs.Fault as lexer
 use Rattle.vl_token.specs.FaultPlace.{fault_place}
 use Rattle.vl_token.specs.Tokens.{AreTokens}

@@ -8,7 +8,7 @@ ghost use Rattle.vl_text.specs.Texts.{lines_seen};
 
 use crate::text::Assumption;
 use crate::top_module::end_of_top;
-use fv_base::{Keyword, Kind, List, Memory, Pos, Symbol, Token};
+use fv_text::{Keyword, Kind, List, Memory, Pos, Symbol, Token};
 use std::alloc::Global;
 
 /// The lines of the configuration that are assumptions.

@@ -1,6 +1,6 @@
 ghost use Rattle.std.specs.Prelude.{◌≡◌};
 
-use fv_base::Memory;
+use fv_text::Memory;
 use thiserror::Error;
 use vl_parse::ParseFault;
 use vl_prep::PrepFault;

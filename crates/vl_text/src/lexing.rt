@@ -8,7 +8,7 @@ ghost use Rattle.vl_text.specs.Texts.{line_seen, lines_seen, nothing_lexed, text
 
 use crate::assumptions::item;
 use crate::text::{Assumption, SourceText};
-use fv_base::{List, Memory, Token};
+use fv_text::{List, Memory, Token};
 use std::alloc::Global;
 use std::mem;
 use vl_prep::is_sooner;

@@ -3,7 +3,7 @@ ghost use Rattle.vl_prep.specs.Macros.{Held, held};
 ghost use Rattle.vl_text.specs.Predefined.{common, define_compressed, define_retirements, digits_of, prologue};
 ghost use Rattle.vl_text.specs.Predefined.{ArePredefinedFor};
 
-use fv_base::Memory;
+use fv_text::Memory;
 use std::alloc::Global;
 use vl_prep::{Macros, prep};
 use vl_token::lex;

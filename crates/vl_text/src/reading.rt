@@ -15,7 +15,7 @@ use crate::fault::TextFault;
 use crate::lexing::Lexed;
 use crate::macros::{Core, predefined};
 use crate::text::{Assumption, SourceText};
-use fv_base::{List, Token};
+use fv_text::{List, Token};
 use std::alloc::Global;
 use vl_parse::{ParseFault, parse};
 use vl_prep::{Macros, PrepFault, prep};

@@ -3,7 +3,7 @@
 ghost use Rattle.std.specs.Prelude.{◌≡◌, ◌≤◌, length, drop, IfSome};
 ghost use Rattle.vl_text.specs.Assumptions as spec;
 
-use fv_base::{Keyword, Kind, Token};
+use fv_text::{Keyword, Kind, Token};
 
 /// How many tokens stand in front of the first `endmodule` behind the first `module rvfi_wrapper`. None where there
 /// is none.

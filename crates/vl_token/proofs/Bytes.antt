@@ -3,7 +3,7 @@ use Rattle.std.proofs.Common.{◌≡◌, ℕ, ◌≤◌, Bool, true, false, cond
 use Rattle.std.specs.Prelude.{nat_le}
 use Rattle.std.proofs.lemmas.Bool.{and_parts, or_cases, eqb-true, leb-true, lt-leb, ne_eqb}
 use Rattle.std.proofs.Common.{inl, inr, ◌⊎◌}
-use Rattle.fv_base.specs.Name.{is_decimal_digit, begins_word}
+use Rattle.fv_text.specs.Name.{is_decimal_digit, begins_word}
 use Rattle.vl_token.specs.Bytes.{is_space, is_blank, small}
 use Rattle.vl_token.specs.Numeral.{is_digit, is_base, is_sign, continues_decimal}
 use Rattle.vl_token.specs.Cut.{sort_of}

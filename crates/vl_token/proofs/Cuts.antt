@@ -4,9 +4,9 @@ use Rattle.std.proofs.Common.{None, length, drop, refl, ap, sym, ◌∙◌, subs
 use Rattle.std.specs.List.{list_all}
 use Rattle.std.proofs.Math.Seq.{drop-append_seam}
 use Rattle.std.proofs.lemmas.Bool.{and_parts, and_from, eqb-true}
-use Rattle.fv_base.specs.Name.{is_word, begins_word, continues_word, is_decimal_digit}
-use Rattle.fv_base.specs.Symbol.{symbol_text}
-use Rattle.fv_base.specs.declared.symbol.Symbol.{Symbol}
+use Rattle.fv_text.specs.Name.{is_word, begins_word, continues_word, is_decimal_digit}
+use Rattle.fv_text.specs.Symbol.{symbol_text}
+use Rattle.fv_text.specs.declared.symbol.Symbol.{Symbol}
 use Rattle.vl_token.specs.declared.sort.Sort.{Sort}
 use Rattle.vl_token.specs.declared.sort.Sort.TheVariants as sort
 use Rattle.vl_token.specs.Bytes.{is_space, is_empty, is_line_end, stays_on_line, is_quotable, first_is, ends_line}

@@ -1,11 +1,11 @@
 -- Numbers and tokens are the same where their fields are.
 use Rattle.std.proofs.Common.{◌≡◌, ℕ, ◌^◌, ◌≤◌, ◌<◌, Bool, true, ap, ◌∙◌, subst}
 use Rattle.std.proofs.Props.{props}
-use Rattle.fv_base.specs.Named.{is_well_named}
-use Rattle.fv_base.specs.declared.kind.Kind.{Kind}
-use Rattle.fv_base.specs.declared.number.Number.{Number}
-use Rattle.fv_base.specs.declared.pos.Pos.{Pos}
-use Rattle.fv_base.specs.declared.token.Token.{Token}
+use Rattle.fv_text.specs.Named.{is_well_named}
+use Rattle.fv_text.specs.declared.kind.Kind.{Kind}
+use Rattle.fv_text.specs.declared.number.Number.{Number}
+use Rattle.fv_text.specs.declared.pos.Pos.{Pos}
+use Rattle.fv_text.specs.declared.token.Token.{Token}
 
 named_one : (k : Kind) (h h' : is_well_named k ≡ true) → h ≡ h'
 named_one k h h' = let one : IsProp (is_well_named k ≡ true) = hlevel props in one h h'

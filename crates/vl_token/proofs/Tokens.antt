@@ -1,11 +1,11 @@
 -- A text has one list of tokens, and one first fault.
 use Rattle.std.proofs.Common.{◌≡◌, ℕ, ◌%◌, ◌^◌, Bool, true, false, List, [], ◌∷◌, Some, None, refl, ap, sym, ◌∙◌}
-use Rattle.fv_base.specs.declared.kind.Kind.{Kind}
-use Rattle.fv_base.specs.declared.kind.Kind.TheVariants as k
-use Rattle.fv_base.specs.declared.number.Number.{Number}
-use Rattle.fv_base.specs.declared.pos.Pos.{Pos}
-use Rattle.fv_base.specs.declared.symbol.Symbol.{Symbol}
-use Rattle.fv_base.specs.declared.token.Token.{Token}
+use Rattle.fv_text.specs.declared.kind.Kind.{Kind}
+use Rattle.fv_text.specs.declared.kind.Kind.TheVariants as k
+use Rattle.fv_text.specs.declared.number.Number.{Number}
+use Rattle.fv_text.specs.declared.pos.Pos.{Pos}
+use Rattle.fv_text.specs.declared.symbol.Symbol.{Symbol}
+use Rattle.fv_text.specs.declared.token.Token.{Token}
 use Rattle.vl_token.specs.Numeral.{Numeral, plain, based, Format}
 use Rattle.vl_token.specs.Number.{Means, MeansPlain, MeansBased, number_by, worth, radix, mark_radix, digits_of}
 use Rattle.vl_token.specs.Number.{bits_of}

@@ -1,4 +1,4 @@
--- Bytes and runs of bytes. A byte is an ASCII code. IEEE 1364-2005, clause 3.
+-- Meaning: Bytes and runs of bytes. A byte is an ASCII code. IEEE 1364-2005, clause 3.
 use Rattle.std.specs.Prelude.{
   ℕ,
   ◌+◌,

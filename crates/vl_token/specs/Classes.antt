@@ -1,6 +1,6 @@
--- The classes of bytes that the code tells apart. Rule of this project.
+-- Between functions: The classes of bytes that the code tells apart. Rule of this project.
 use Rattle.std.specs.Prelude.{ℕ, Bool}
-use Rattle.fv_base.specs.Name.{continues_word}
+use Rattle.fv_text.specs.Name.{continues_word}
 use Rattle.vl_token.specs.declared.class.Class.{Class}
 use Rattle.vl_token.specs.declared.class.Class.TheVariants.{Word, Decimal, Space, Digits, DecimalDigits, Line, Quotable}
 use Rattle.vl_token.specs.Bytes.{is_space, stays_on_line, is_quotable}

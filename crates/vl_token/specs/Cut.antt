@@ -1,5 +1,5 @@
--- The first piece of a text as a function. No public clause cites it: pieces are defined by what may stand. Rule of
--- this project.
+-- Between functions: The first piece of a text as a function. No public clause cites it: pieces are defined by what
+-- may stand. Rule of this project.
 use Rattle.std.specs.Prelude.{
   ℕ,
   if◌then◌else◌,
@@ -17,10 +17,10 @@ use Rattle.std.specs.Prelude.{
   nat_eq,
 }
 use Rattle.std.specs.List.{starts_with}
-use Rattle.fv_base.specs.Name.{begins_word, continues_word, is_decimal_digit}
-use Rattle.fv_base.specs.Symbol.{symbol_text}
-use Rattle.fv_base.specs.declared.symbol.Symbol.{Symbol}
-use Rattle.fv_base.specs.declared.symbol.Symbol.TheVariants as s
+use Rattle.fv_text.specs.Name.{begins_word, continues_word, is_decimal_digit}
+use Rattle.fv_text.specs.Symbol.{symbol_text}
+use Rattle.fv_text.specs.declared.symbol.Symbol.{Symbol}
+use Rattle.fv_text.specs.declared.symbol.Symbol.TheVariants as s
 use Rattle.vl_token.specs.declared.sort.Sort.{Sort}
 use Rattle.vl_token.specs.declared.sort.Sort.TheVariants as sort
 use Rattle.vl_token.specs.Bytes.{is_blank, is_space, is_line_end, stays_on_line, is_quotable, first_is, run, behind}

@@ -1,4 +1,4 @@
--- What may be wrong in a text, and which of the faults is answered. Rule of this project.
+-- Meaning: What may be wrong in a text, and which of the faults is answered. Rule of this project.
 use Rattle.std.specs.Prelude.{
   ◌≡◌,
   ℕ,
@@ -18,10 +18,10 @@ use Rattle.std.specs.Prelude.{
 }
 use Rattle.std.specs.Prelude.{Err}
 use Rattle.std.specs.Global.{Vec}
-use Rattle.fv_base.specs.declared.token.Token.{Token}
+use Rattle.fv_text.specs.declared.token.Token.{Token}
 use Rattle.std.specs.List.{list_all}
-use Rattle.fv_base.specs.declared.kind.Kind.{Kind}
-use Rattle.fv_base.specs.declared.pos.Pos.{Pos}
+use Rattle.fv_text.specs.declared.kind.Kind.{Kind}
+use Rattle.fv_text.specs.declared.pos.Pos.{Pos}
 use Rattle.vl_token.specs.declared.fault.LexFault.{LexFault}
 use Rattle.vl_token.specs.declared.fault.LexFault.TheVariants.{NotAscii, BadNumber, OpenComment, BadChar}
 use Rattle.vl_token.specs.declared.fault.LexFault.TheVariants.{TooManyTokens, OpenString, Memory}

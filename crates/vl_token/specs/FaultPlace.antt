@@ -1,6 +1,6 @@
--- Where a text is refused. Rule of this project.
+-- Meaning: Where a text is refused. Rule of this project.
 use Rattle.std.specs.Prelude.{Option, Some, None}
-use Rattle.fv_base.specs.declared.pos.Pos.{Pos}
+use Rattle.fv_text.specs.declared.pos.Pos.{Pos}
 use Rattle.vl_token.specs.declared.fault.LexFault.{LexFault}
 use Rattle.vl_token.specs.declared.fault.LexFault.TheVariants.{NotAscii, BadNumber, OpenComment, BadChar}
 use Rattle.vl_token.specs.declared.fault.LexFault.TheVariants.{TooManyTokens, OpenString, Memory}

@@ -1,4 +1,4 @@
--- The digits `x`, `z` and `?` as the code counts them.
+-- Between functions: The digits `x`, `z` and `?` as the code counts them.
 use Rattle.std.specs.Prelude.{ℕ, ◌-◌, ◌^◌, Bool, if◌then◌else◌, List}
 use Rattle.vl_token.specs.declared.number.Mark.{Mark}
 use Rattle.vl_token.specs.declared.number.Mark.TheVariants.{Wild, Unknown}

@@ -1,4 +1,4 @@
--- What the code finds a piece to be. Rule of this project.
+-- Between functions: What the code finds a piece to be. Rule of this project.
 use Rattle.std.specs.Prelude.{◌≡◌, true, false}
 use Rattle.vl_token.specs.declared.meaning.Meaning.{Meaning}
 use Rattle.vl_token.specs.declared.meaning.Meaning.TheVariants.{Gap, Token, BadNumber}

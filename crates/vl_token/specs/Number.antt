@@ -1,4 +1,4 @@
--- What a written number means: IEEE 1364-2005, section 3.5.1. A number without size has 32 bits (rule of this
+-- Meaning: What a written number means: IEEE 1364-2005, section 3.5.1. A number without size has 32 bits (rule of this
 -- project), and no number has more than 128.
 use Rattle.std.specs.Prelude.{
   ◌≡◌,
@@ -19,8 +19,8 @@ use Rattle.std.specs.Prelude.{
 }
 use Rattle.std.specs.Prelude.{nat_lt, ◌==◌, List, [], ◌∷◌, ◌++◌, length, fold, filter, replicate}
 use Rattle.std.specs.List.{list_all, list_any}
-use Rattle.fv_base.specs.Name.{is_decimal_digit}
-use Rattle.fv_base.specs.declared.number.Number.{Number}
+use Rattle.fv_text.specs.Name.{is_decimal_digit}
+use Rattle.fv_text.specs.declared.number.Number.{Number}
 use Rattle.vl_token.specs.Bytes.{small, is_empty}
 use Rattle.vl_token.specs.Numeral.{is_mark, is_unknown, is_wild, is_hex_letter, is_decimal_base, Format, Numeral}
 use Rattle.vl_token.specs.Numeral.{plain, based}

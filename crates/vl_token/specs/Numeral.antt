@@ -1,4 +1,4 @@
--- How a number is written: IEEE 1364-2005, section 3.5.1, without real numbers. Blanks inside of a number are
+-- Meaning: How a number is written: IEEE 1364-2005, section 3.5.1, without real numbers. Blanks inside of a number are
 -- spaces and tabs (rule of this project).
 use Rattle.std.specs.Prelude.{
   ◌≡◌,
@@ -18,7 +18,7 @@ use Rattle.std.specs.Prelude.{
   ◌++◌,
 }
 use Rattle.std.specs.List.{list_all}
-use Rattle.fv_base.specs.Name.{is_decimal_digit}
+use Rattle.fv_text.specs.Name.{is_decimal_digit}
 use Rattle.vl_token.specs.Bytes.{is_space, small, is_empty, first_is, behind}
 
 -- a decimal digit or `_`

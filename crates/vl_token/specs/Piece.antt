@@ -1,4 +1,4 @@
--- The pieces of a text: blanks, comments and tokens (IEEE 1364-2005, clause 3).
+-- Meaning: The pieces of a text: blanks, comments and tokens (IEEE 1364-2005, clause 3).
 use Rattle.std.specs.Prelude.{
   ◌≡◌,
   ℕ,
@@ -17,9 +17,9 @@ use Rattle.std.specs.Prelude.{
   nat_eq,
 }
 use Rattle.std.specs.List.{list_all, starts_with}
-use Rattle.fv_base.specs.Name.{is_word, continues_word}
-use Rattle.fv_base.specs.Symbol.{symbol_text}
-use Rattle.fv_base.specs.declared.symbol.Symbol.{Symbol}
+use Rattle.fv_text.specs.Name.{is_word, continues_word}
+use Rattle.fv_text.specs.Symbol.{symbol_text}
+use Rattle.fv_text.specs.declared.symbol.Symbol.{Symbol}
 use Rattle.vl_token.specs.Bytes.{is_blank, is_line_end, stays_on_line, is_quotable, is_empty, first_is, ends_line}
 use Rattle.vl_token.specs.Numeral.{Numeral, numeral_text, IsNumeral}
 

@@ -1,7 +1,7 @@
--- Places in a text: lines and columns count from 1, columns in bytes. A number that would pass 2^32 - 1 is 2^32 - 1
--- (rule of this project).
+-- Meaning: Places in a text: lines and columns count from 1, columns in bytes. A number that would pass 2^32 - 1 is
+-- 2^32 - 1 (rule of this project).
 use Rattle.std.specs.Prelude.{ℕ, ◌+◌, ◌-◌, ◌^◌, min, if◌then◌else◌, ◌==◌, List, [], ◌∷◌}
-use Rattle.fv_base.specs.declared.pos.Pos.{Pos}
+use Rattle.fv_text.specs.declared.pos.Pos.{Pos}
 
 abbrev pub counted : ℕ → ℕ
 counted n = min (n + 1) (2 ^ 32 - 1)

@@ -1,4 +1,5 @@
--- What the code keeps while it reads a text piece by piece. No public clause cites it. Rule of this project.
+-- Between functions: What the code keeps while it reads a text piece by piece. No public clause cites it. Rule of this
+-- project.
 use Rattle.std.specs.Prelude.{
   ◌≡◌,
   ℕ,
@@ -13,9 +14,9 @@ use Rattle.std.specs.Prelude.{
   ◌++◌,
   length,
 }
-use Rattle.fv_base.specs.declared.kind.Kind.{Kind}
-use Rattle.fv_base.specs.declared.pos.Pos.{Pos}
-use Rattle.fv_base.specs.declared.token.Token.{Token}
+use Rattle.fv_text.specs.declared.kind.Kind.{Kind}
+use Rattle.fv_text.specs.declared.pos.Pos.{Pos}
+use Rattle.fv_text.specs.declared.token.Token.{Token}
 use Rattle.vl_token.specs.declared.fault.LexFault.{LexFault}
 use Rattle.vl_token.specs.declared.fault.LexFault.TheVariants.{NotAscii, BadNumber, OpenComment, BadChar}
 use Rattle.vl_token.specs.declared.fault.LexFault.TheVariants.{TooManyTokens, OpenString, Memory}

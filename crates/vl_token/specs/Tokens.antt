@@ -1,4 +1,4 @@
--- The tokens of a text. IEEE 1364-2005, clause 3.
+-- Meaning: The tokens of a text. IEEE 1364-2005, clause 3.
 use Rattle.std.specs.Prelude.{
   ◌≡◌,
   ℕ,
@@ -16,11 +16,11 @@ use Rattle.std.specs.Prelude.{
   None,
 }
 use Rattle.std.specs.List.{list_all}
-use Rattle.fv_base.specs.Keyword.{keyword_of}
-use Rattle.fv_base.specs.declared.kind.Kind.{Kind}
-use Rattle.fv_base.specs.declared.kind.Kind.TheVariants as k
-use Rattle.fv_base.specs.declared.pos.Pos.{Pos}
-use Rattle.fv_base.specs.declared.token.Token.{Token}
+use Rattle.fv_text.specs.Keyword.{keyword_of}
+use Rattle.fv_text.specs.declared.kind.Kind.{Kind}
+use Rattle.fv_text.specs.declared.kind.Kind.TheVariants as k
+use Rattle.fv_text.specs.declared.pos.Pos.{Pos}
+use Rattle.fv_text.specs.declared.token.Token.{Token}
 use Rattle.vl_token.specs.Number.{Means}
 use Rattle.vl_token.specs.Piece.{Piece, blank, line_comment, block_comment, word, number, sign, system, tick, quoted}
 use Rattle.vl_token.specs.Piece.{continue, text_of, joined, AllStand}

@@ -1,4 +1,4 @@
--- The parts of a text as the code has them, slices of it, seen as lists. Rule of this project.
+-- Between functions: The parts of a text as the code has them, slices of it, seen as lists. Rule of this project.
 use Rattle.vl_token.specs.declared.format.Format as source
 use Rattle.vl_token.specs.declared.format.Numeral as written
 use Rattle.vl_token.specs.declared.format.Numeral.TheVariants as n

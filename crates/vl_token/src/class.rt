@@ -1,5 +1,5 @@
 ghost use Rattle.std.specs.Prelude.{◌≡◌};
-ghost use Rattle.fv_base.specs.Name as name;
+ghost use Rattle.fv_text.specs.Name as name;
 ghost use Rattle.vl_token.specs.Bytes as blanks;
 ghost use Rattle.vl_token.specs.Numeral as numeral;
 ghost use Rattle.std.specs.List.{prefix_len};

@@ -1,4 +1,4 @@
-use fv_base::Pos;
+use fv_text::Pos;
 use thiserror::Error;
 
 /// Why a text has no tokens. The places are those of the faulty byte, or of the first byte of what is faulty. Of

@@ -14,8 +14,8 @@ ghost use Rattle.std.specs.Prelude.{
 };
 ghost use Rattle.std.specs.Prelude.{MatchResult};
 ghost use Rattle.std.specs.List.{prefix_len};
-ghost use Rattle.fv_base.specs.Named.{is_well_named};
-ghost use Rattle.fv_base.specs.declared.token.Token.{Token};
+ghost use Rattle.fv_text.specs.Named.{is_well_named};
+ghost use Rattle.fv_text.specs.declared.token.Token.{Token};
 ghost use Rattle.vl_token.specs.declared.fault.LexFault.{LexFault};
 ghost use Rattle.vl_token.specs.Fault.{OnNotMemory, is_of_text, Refuses, IsAnswered};
 ghost use Rattle.vl_token.specs.Place as place;
@@ -27,7 +27,7 @@ use crate::fault::LexFault;
 use crate::meaning::{Meaning, meaning_of};
 use crate::piece::{Cut, Piece, first_cut};
 use crate::place::place_after;
-use fv_base::{Kind, List, Pos, Token};
+use fv_text::{Kind, List, Pos, Token};
 use std::alloc::Global;
 
 const MOST_TOKENS: usize = 2_000_000;

@@ -6,7 +6,7 @@ ghost use Rattle.vl_token.specs.Views.{view_piece};
 
 use crate::number::number_of;
 use crate::piece::Piece;
-use fv_base::{Keyword, Kind, Memory, Text};
+use fv_text::{Keyword, Kind, Memory, Text};
 use std::alloc::Global;
 
 /// What a piece is.

@@ -29,7 +29,7 @@ use crate::class::{
     is_decimal_base, is_decimal_digit, is_hex_letter, is_mark, is_unknown, is_wild, small,
 };
 use crate::format::{Format, Numeral};
-use fv_base::Number;
+use fv_text::Number;
 
 /// What a written number means. None exactly where it is written against the rules.
 pub(crate) fn number_of(numeral: &Numeral) -> Option<Number>

@@ -1,5 +1,5 @@
 ghost use Rattle.std.specs.Prelude.{◌≡◌, ◌==◌, ◌&&◌, [], ◌∷◌, option_map};
-ghost use Rattle.fv_base.specs.Name.{continues_word};
+ghost use Rattle.fv_text.specs.Name.{continues_word};
 ghost use Rattle.vl_token.specs.Bytes.{run, behind, first_is, stays_on_line, is_quotable};
 ghost use Rattle.vl_token.specs.Cut.{piece, first_cut, decimal_cut, format_at, based_cut, system_cut, tick_cut};
 ghost use Rattle.vl_token.specs.Cut.{quoted_cut, continue_cut, sign_cut, sign_at, slash_cut, block_cut, close_of};
@@ -11,7 +11,7 @@ use crate::class::{Class, begins_word, split_run};
 use crate::format::{Format, Numeral, format_at};
 use crate::sign::sign_at;
 use crate::sort::{Sort, sort_of};
-use fv_base::Symbol;
+use fv_text::Symbol;
 
 /// A blank, a comment or a token.
 #[derive(Debug, Clone, Copy)]

@@ -1,7 +1,7 @@
 ghost use Rattle.std.specs.Prelude.{◌≡◌};
 ghost use Rattle.vl_token.specs.Place as place;
 
-use fv_base::Pos;
+use fv_text::Pos;
 
 /// The place behind the bytes.
 pub(crate) fn place_after(start: Pos, bytes: &[u8]) -> Pos

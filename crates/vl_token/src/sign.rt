@@ -1,9 +1,9 @@
 ghost use Rattle.std.specs.Prelude.{◌≡◌, find, nat_eq};
 ghost use Rattle.std.specs.List.{starts_with};
-ghost use Rattle.fv_base.specs.Symbol.{symbol_text};
+ghost use Rattle.fv_text.specs.Symbol.{symbol_text};
 ghost use Rattle.vl_token.specs.Cut.{sign_at};
 
-use fv_base::Symbol;
+use fv_text::Symbol;
 
 /// Longer signs stand before shorter ones.
 const SIGNS: [Symbol; 47] = [

@@ -2,10 +2,10 @@
 -- ends at its limits.
 use denote.Param.Send as Send
 use denote.Param.Send.{sendable}
-use Rattle.fv_base.proofs.list.List.TheSendSync as ListCrosses
-use Rattle.fv_base.proofs.number.Number.TheSendSync as NumberCrosses
-use Rattle.fv_base.proofs.pos.Pos.TheSendSync as PosCrosses
-use Rattle.fv_base.proofs.text.Text.TheSendSync as TextCrosses
+use Rattle.fv_text.proofs.list.List.TheSendSync as ListCrosses
+use Rattle.fv_text.proofs.number.Number.TheSendSync as NumberCrosses
+use Rattle.fv_text.proofs.pos.Pos.TheSendSync as PosCrosses
+use Rattle.fv_text.proofs.text.Text.TheSendSync as TextCrosses
 use Rattle.std.proofs.Crossing
 use Rattle.std.proofs.alloc.Global.TheSendSync as GlobalCrosses
 use Rattle.std.proofs.boxed.Box.TheSendSync as BoxCrosses

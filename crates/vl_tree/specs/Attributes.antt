@@ -1,4 +1,4 @@
--- Attributes before an item, a port or a statement. IEEE 1364-2005, section 3.8.
+-- Meaning: Attributes before an item, a port or a statement. IEEE 1364-2005, section 3.8.
 use Rattle.std.specs.Prelude.{List}
 use Rattle.vl_tree.specs.declared.attribute.AttributeInstance.{AttributeInstance}
 use Rattle.vl_tree.specs.contracts.attribute.AttributeInstance as instance

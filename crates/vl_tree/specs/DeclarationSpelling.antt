@@ -1,10 +1,10 @@
--- What attributes, ranges, declared names, parameters and ports spell. IEEE 1364-2005, sections A.1.3, A.2 and A.9.1,
--- cut to this project's subset.
+-- Meaning: What attributes, ranges, declared names, parameters and ports spell. IEEE 1364-2005, sections A.1.3, A.2
+-- and A.9.1, cut to this project's subset.
 use Rattle.std.specs.Prelude.{Option, Some, None, Bool, true, false}
-use Rattle.fv_base.specs.declared.pos.Pos.{Pos}
-use Rattle.fv_base.specs.declared.keyword.Keyword.{Keyword}
-use Rattle.fv_base.specs.declared.keyword.Keyword.TheVariants as w
-use Rattle.fv_base.specs.declared.symbol.Symbol.TheVariants as s
+use Rattle.fv_text.specs.declared.pos.Pos.{Pos}
+use Rattle.fv_text.specs.declared.keyword.Keyword.{Keyword}
+use Rattle.fv_text.specs.declared.keyword.Keyword.TheVariants as w
+use Rattle.fv_text.specs.declared.symbol.Symbol.TheVariants as s
 use Rattle.vl_tree.specs.declared.attribute.Attribute.{Attribute}
 use Rattle.vl_tree.specs.declared.attribute.AttributeInstance.{AttributeInstance}
 use Rattle.vl_tree.specs.declared.declaration.Range.{Range}

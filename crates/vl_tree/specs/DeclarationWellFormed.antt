@@ -1,4 +1,5 @@
--- Well formed attributes, ranges, declared names, parameters and ports. IEEE 1364-2005, sections A.1.3, A.2 and A.9.1.
+-- Meaning: Well formed attributes, ranges, declared names, parameters and ports. IEEE 1364-2005, sections A.1.3, A.2
+-- and A.9.1.
 use Rattle.std.specs.Prelude.{◌≡◌, ◌<◌, length, All, List, [], ◌∷◌, Option, Some, None, true}
 use Rattle.vl_tree.specs.declared.attribute.Attribute.{Attribute}
 use Rattle.vl_tree.specs.declared.attribute.AttributeInstance.{AttributeInstance}

@@ -1,8 +1,8 @@
--- Expressions as plain trees, each node with the place of its first token. Two are equal where their places and parts
--- are. IEEE 1364-2005, section A.8, cut to this project's subset.
+-- Meaning: Expressions as plain trees, each node with the place of its first token. Two are equal where their places
+-- and parts are. IEEE 1364-2005, section A.8, cut to this project's subset.
 use Rattle.std.specs.Prelude.{ℕ, ◌+◌, max, List, [], ◌∷◌}
-use Rattle.fv_base.specs.declared.pos.Pos.{Pos}
-use Rattle.fv_base.specs.declared.number.Number.{Number}
+use Rattle.fv_text.specs.declared.pos.Pos.{Pos}
+use Rattle.fv_text.specs.declared.number.Number.{Number}
 use Rattle.vl_tree.specs.declared.operator.UnaryOperator.{UnaryOperator}
 use Rattle.vl_tree.specs.declared.operator.BinaryOperator.{BinaryOperator}
 use Rattle.vl_tree.specs.declared.operator.Cast.{Cast}

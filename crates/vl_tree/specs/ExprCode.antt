@@ -1,13 +1,14 @@
--- A code for expressions: each is written as a tree with labels, and read back. Rule of this project.
+-- Between functions: A code for expressions: each is written as a tree with labels, and read back. Rule of this
+-- project.
 use Rattle.std.specs.Prelude.{◌≡◌, refl, ℕ, List, ◌⊎◌}
 use Rattle.std.specs.Coded.{Coded, code_by, coded_ℕ, coded_list, coded×, coded⊎}
 use Rattle.std.proofs.Common.{inl, inr, zero, suc}
-use Rattle.fv_base.specs.Rose.{Rose, Roses, node, coded_rose}
-use Rattle.fv_base.specs.Rose as r
-use Rattle.fv_base.specs.declared.pos.Pos.{Pos}
-use Rattle.fv_base.specs.contracts.pos.Pos as pos
-use Rattle.fv_base.specs.declared.number.Number.{Number}
-use Rattle.fv_base.specs.contracts.number.Number as num
+use Rattle.fv_text.specs.Rose.{Rose, Roses, node, coded_rose}
+use Rattle.fv_text.specs.Rose as r
+use Rattle.fv_text.specs.declared.pos.Pos.{Pos}
+use Rattle.fv_text.specs.contracts.pos.Pos as pos
+use Rattle.fv_text.specs.declared.number.Number.{Number}
+use Rattle.fv_text.specs.contracts.number.Number as num
 use Rattle.vl_tree.specs.declared.operator.UnaryOperator.{UnaryOperator}
 use Rattle.vl_tree.specs.contracts.operator.UnaryOperator as un
 use Rattle.vl_tree.specs.declared.operator.BinaryOperator.{BinaryOperator}

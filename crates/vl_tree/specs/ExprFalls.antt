@@ -1,8 +1,8 @@
--- The parts of an expression are less deep than the expression. Rule of this project.
+-- Between functions: The parts of an expression are less deep than the expression. Rule of this project.
 use Rattle.std.specs.Prelude.{◌+◌, ◌*◌, ◌≤◌, List, [], ◌∷◌}
 use Rattle.std.proofs.Common.{arith}
 use denote.Param.Weighed.{most}
-use Rattle.fv_base.specs.declared.pos.Pos.{Pos}
+use Rattle.fv_text.specs.declared.pos.Pos.{Pos}
 use Rattle.vl_tree.specs.declared.expr.ExprKind.{ExprKind}
 use Rattle.vl_tree.specs.declared.expr.ExprKind.TheVariants as k
 use Rattle.vl_tree.specs.declared.expr.Select.{Select}

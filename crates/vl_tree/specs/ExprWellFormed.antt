@@ -1,8 +1,8 @@
--- Well formed expressions: names are names, numbers have no wild and no unknown bits, and each operand stands at its
--- level of the grammar. IEEE 1364-2005, section 5.1.2; that numbers are known is a rule of this project.
+-- Meaning: Well formed expressions: names are names, numbers have no wild and no unknown bits, and each operand stands
+-- at its level of the grammar. IEEE 1364-2005, section 5.1.2; that numbers are known is a rule of this project.
 use Rattle.std.specs.Prelude.{◌≡◌, ℕ, ◌<◌, ◌≤◌, true, List, Option, Some, None}
-use Rattle.fv_base.specs.Name.{is_name}
-use Rattle.fv_base.specs.declared.number.Number.{Number}
+use Rattle.fv_text.specs.Name.{is_name}
+use Rattle.fv_text.specs.declared.number.Number.{Number}
 use Rattle.vl_tree.specs.declared.operator.BinaryOperator.{BinaryOperator}
 use Rattle.vl_tree.specs.declared.operator.BinaryOperator.TheVariants as b
 use Rattle.vl_tree.specs.Expr.{

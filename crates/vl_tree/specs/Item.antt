@@ -1,7 +1,7 @@
--- Items as plain trees, each with the attributes before it and the place of its first token behind them. A region is
--- two marks among items, or a block. IEEE 1364-2005, sections A.1 to A.4.
+-- Meaning: Items as plain trees, each with the attributes before it and the place of its first token behind them. A
+-- region is two marks among items, or a block. IEEE 1364-2005, sections A.1 to A.4.
 use Rattle.std.specs.Prelude.{ℕ, ◌+◌, max, List, [], ◌∷◌, Option}
-use Rattle.fv_base.specs.declared.pos.Pos.{Pos}
+use Rattle.fv_text.specs.declared.pos.Pos.{Pos}
 use Rattle.vl_tree.specs.declared.declaration.Declaration.{Declaration}
 use Rattle.vl_tree.specs.declared.declaration.DeclaredName.{DeclaredName}
 use Rattle.vl_tree.specs.declared.declaration.Parameter.{Parameter}

@@ -1,12 +1,12 @@
--- A code for items: each is written as a tree with labels, and read back. Rule of this project.
+-- Between functions: A code for items: each is written as a tree with labels, and read back. Rule of this project.
 use Rattle.std.specs.Prelude.{◌≡◌, refl, ℕ, List, [], Option, None, ◌⊎◌}
 use Rattle.std.specs.Coded.{Coded, code_by, coded_ℕ, coded_list, coded_option, coded×, coded⊎}
 use Rattle.std.proofs.Common.{inl, inr}
 use base.Stored.{coded_unit}
-use Rattle.fv_base.specs.Rose.{Rose, Roses, node, coded_rose}
-use Rattle.fv_base.specs.Rose as r
-use Rattle.fv_base.specs.declared.pos.Pos.{Pos}
-use Rattle.fv_base.specs.contracts.pos.Pos as pos
+use Rattle.fv_text.specs.Rose.{Rose, Roses, node, coded_rose}
+use Rattle.fv_text.specs.Rose as r
+use Rattle.fv_text.specs.declared.pos.Pos.{Pos}
+use Rattle.fv_text.specs.contracts.pos.Pos as pos
 use Rattle.vl_tree.specs.declared.declaration.Declaration.{Declaration}
 use Rattle.vl_tree.specs.contracts.declaration.Declaration as declarations
 use Rattle.vl_tree.specs.declared.declaration.DeclaredName.{DeclaredName}

@@ -1,8 +1,8 @@
--- The parts of an item are less deep than the item. Rule of this project.
+-- Between functions: The parts of an item are less deep than the item. Rule of this project.
 use Rattle.std.specs.Prelude.{◌≡◌, ℕ, ◌+◌, ◌*◌, ◌≤◌, List, [], ◌∷◌, Option, Some, None}
 use Rattle.std.proofs.Common.{arith}
 use denote.Param.Weighed.{most}
-use Rattle.fv_base.specs.declared.pos.Pos.{Pos}
+use Rattle.fv_text.specs.declared.pos.Pos.{Pos}
 use Rattle.vl_tree.specs.declared.item.ItemKind.{ItemKind}
 use Rattle.vl_tree.specs.declared.item.ItemKind.TheVariants as k
 use Rattle.vl_tree.specs.declared.item.Block as declared

@@ -1,6 +1,7 @@
--- What a contract sees of an item of the program: the plain tree, without its pointers. Rule of this project.
+-- Between functions: What a contract sees of an item of the program: the plain tree, without its pointers. Rule of
+-- this project.
 use Rattle.std.specs.Prelude.{Some, None}
-use Rattle.fv_base.specs.declared.pos.Pos.{Pos}
+use Rattle.fv_text.specs.declared.pos.Pos.{Pos}
 use Rattle.vl_tree.specs.declared.item.ItemKind.{ItemKind}
 use Rattle.vl_tree.specs.declared.item.ItemKind.TheVariants as k
 use Rattle.vl_tree.specs.declared.item.Block as declared

@@ -1,6 +1,6 @@
--- Targets as plain trees, each node with the place of its first token. IEEE 1364-2005, section A.8.5.
+-- Meaning: Targets as plain trees, each node with the place of its first token. IEEE 1364-2005, section A.8.5.
 use Rattle.std.specs.Prelude.{ℕ, ◌+◌, max, List, [], ◌∷◌}
-use Rattle.fv_base.specs.declared.pos.Pos.{Pos}
+use Rattle.fv_text.specs.declared.pos.Pos.{Pos}
 use Rattle.vl_tree.specs.Expr.{Selects}
 
 mutual

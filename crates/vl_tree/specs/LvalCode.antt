@@ -1,11 +1,11 @@
--- A code for targets: each is written as a tree with labels, and read back. Rule of this project.
+-- Between functions: A code for targets: each is written as a tree with labels, and read back. Rule of this project.
 use Rattle.std.specs.Prelude.{◌≡◌, refl, ℕ, List, ◌⊎◌}
 use Rattle.std.specs.Coded.{Coded, code_by, coded_ℕ, coded_list, coded×, coded⊎}
 use Rattle.std.proofs.Common.{inl, inr}
-use Rattle.fv_base.specs.Rose.{Rose, Roses, node, coded_rose}
-use Rattle.fv_base.specs.Rose as r
-use Rattle.fv_base.specs.declared.pos.Pos.{Pos}
-use Rattle.fv_base.specs.contracts.pos.Pos as pos
+use Rattle.fv_text.specs.Rose.{Rose, Roses, node, coded_rose}
+use Rattle.fv_text.specs.Rose as r
+use Rattle.fv_text.specs.declared.pos.Pos.{Pos}
+use Rattle.fv_text.specs.contracts.pos.Pos as pos
 use Rattle.vl_tree.specs.Expr.{Selects}
 use Rattle.vl_tree.specs.ExprCode.{selects_code}
 use Rattle.vl_tree.specs.Lval.{Lval, Lvals, named, joined, no_lvals, more_lvals}

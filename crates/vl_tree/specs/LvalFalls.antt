@@ -1,8 +1,8 @@
--- The parts of a target are less deep than the target. Rule of this project.
+-- Between functions: The parts of a target are less deep than the target. Rule of this project.
 use Rattle.std.specs.Prelude.{◌+◌, ◌*◌, ◌≤◌, List, [], ◌∷◌}
 use Rattle.std.proofs.Common.{arith}
 use denote.Param.Weighed.{most}
-use Rattle.fv_base.specs.declared.pos.Pos.{Pos}
+use Rattle.fv_text.specs.declared.pos.Pos.{Pos}
 use Rattle.vl_tree.specs.declared.lval.LvalKind.{LvalKind}
 use Rattle.vl_tree.specs.declared.lval.LvalKind.TheVariants as k
 use Rattle.vl_tree.specs.declared.lval.Lval.TheDeep.{deep-LvalKind, size-Lval}

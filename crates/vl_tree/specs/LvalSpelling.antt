@@ -1,5 +1,5 @@
--- What targets spell. IEEE 1364-2005, section A.8.5.
-use Rattle.fv_base.specs.declared.symbol.Symbol.TheVariants as s
+-- Meaning: What targets spell. IEEE 1364-2005, section A.8.5.
+use Rattle.fv_text.specs.declared.symbol.Symbol.TheVariants as s
 use Rattle.vl_tree.specs.ExprSpelling.{spell_selects}
 use Rattle.vl_tree.specs.Lval.{Lval, Lvals, named, joined, no_lvals, more_lvals}
 use Rattle.vl_tree.specs.Phrase.{Phrase, nothing, ◌▸◌, at, sign, a_name, braces}

@@ -1,5 +1,6 @@
--- What a contract sees of a target of the program: the plain tree, without its pointers. Rule of this project.
-use Rattle.fv_base.specs.declared.pos.Pos.{Pos}
+-- Between functions: What a contract sees of a target of the program: the plain tree, without its pointers. Rule of
+-- this project.
+use Rattle.fv_text.specs.declared.pos.Pos.{Pos}
 use Rattle.vl_tree.specs.declared.lval.LvalKind.{LvalKind}
 use Rattle.vl_tree.specs.declared.lval.LvalKind.TheVariants as k
 use Rattle.vl_tree.specs.ExprView.{selects}

@@ -1,4 +1,4 @@
--- Well formed targets. IEEE 1364-2005, section A.8.5.
+-- Meaning: Well formed targets. IEEE 1364-2005, section A.8.5.
 use Rattle.vl_tree.specs.ExprWellFormed.{IsName, AreSelects}
 use Rattle.vl_tree.specs.Lval.{Lval, Lvals, named, joined, no_lvals, more_lvals}
 

@@ -1,14 +1,14 @@
--- What a part of a text spells: tokens in order, where its nodes begin, and what is open around them. A phrase has
--- three readings: the list of its kinds of tokens, the tokens that it is spelled by with their places, and the number
--- of constructs that are open at each token. Rule of this project.
+-- Meaning: What a part of a text spells: tokens in order, where its nodes begin, and what is open around them. A
+-- phrase has three readings: the list of its kinds of tokens, the tokens that it is spelled by with their places, and
+-- the number of constructs that are open at each token. Rule of this project.
 use Rattle.std.specs.Prelude.{◌≡◌, ℕ, ◌+◌, Bool, true, false, List, [], ◌∷◌, ◌++◌, map}
-use Rattle.fv_base.specs.declared.pos.Pos.{Pos}
-use Rattle.fv_base.specs.declared.kind.Kind.{Kind}
-use Rattle.fv_base.specs.declared.kind.Kind.TheVariants as k
-use Rattle.fv_base.specs.declared.keyword.Keyword.{Keyword}
-use Rattle.fv_base.specs.declared.symbol.Symbol.{Symbol}
-use Rattle.fv_base.specs.declared.symbol.Symbol.TheVariants as s
-use Rattle.fv_base.specs.declared.token.Token.{Token}
+use Rattle.fv_text.specs.declared.pos.Pos.{Pos}
+use Rattle.fv_text.specs.declared.kind.Kind.{Kind}
+use Rattle.fv_text.specs.declared.kind.Kind.TheVariants as k
+use Rattle.fv_text.specs.declared.keyword.Keyword.{Keyword}
+use Rattle.fv_text.specs.declared.symbol.Symbol.{Symbol}
+use Rattle.fv_text.specs.declared.symbol.Symbol.TheVariants as s
+use Rattle.fv_text.specs.declared.token.Token.{Token}
 
 infixr 60 ◌▸◌
 pub data Phrase : Type 0 where

@@ -1,7 +1,7 @@
--- Statements as plain trees, each with the attributes before it and the place of its first token behind them. IEEE
--- 1364-2005, section A.6.
+-- Meaning: Statements as plain trees, each with the attributes before it and the place of its first token behind them.
+-- IEEE 1364-2005, section A.6.
 use Rattle.std.specs.Prelude.{ℕ, ◌+◌, max, Bool, List, [], ◌∷◌, Option}
-use Rattle.fv_base.specs.declared.pos.Pos.{Pos}
+use Rattle.fv_text.specs.declared.pos.Pos.{Pos}
 use Rattle.vl_tree.specs.declared.stmt.CaseKind.{CaseKind}
 use Rattle.vl_tree.specs.declared.stmt.AssignKind.{AssignKind}
 use Rattle.vl_tree.specs.Attributes.{Attributes}

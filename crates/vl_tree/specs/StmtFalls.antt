@@ -1,8 +1,8 @@
--- The parts of a statement are less deep than the statement. Rule of this project.
+-- Between functions: The parts of a statement are less deep than the statement. Rule of this project.
 use Rattle.std.specs.Prelude.{◌+◌, ◌*◌, ◌≤◌, List, [], ◌∷◌, Some, None}
 use Rattle.std.proofs.Common.{arith}
 use denote.Param.Weighed.{most}
-use Rattle.fv_base.specs.declared.pos.Pos.{Pos}
+use Rattle.fv_text.specs.declared.pos.Pos.{Pos}
 use Rattle.vl_tree.specs.declared.stmt.StmtKind.{StmtKind}
 use Rattle.vl_tree.specs.declared.stmt.StmtKind.TheVariants as k
 use Rattle.vl_tree.specs.declared.stmt.Arm.{Arm}

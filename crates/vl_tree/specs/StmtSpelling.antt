@@ -1,9 +1,10 @@
--- What statements spell, alternative by alternative. IEEE 1364-2005, section A.6, cut to this project's subset.
+-- Meaning: What statements spell, alternative by alternative. IEEE 1364-2005, section A.6, cut to this project's
+-- subset.
 use Rattle.std.specs.Prelude.{ℕ, List, Option, Some, None, Bool, true, false}
-use Rattle.fv_base.specs.declared.keyword.Keyword.{Keyword}
-use Rattle.fv_base.specs.declared.keyword.Keyword.TheVariants as w
-use Rattle.fv_base.specs.declared.symbol.Symbol.{Symbol}
-use Rattle.fv_base.specs.declared.symbol.Symbol.TheVariants as s
+use Rattle.fv_text.specs.declared.keyword.Keyword.{Keyword}
+use Rattle.fv_text.specs.declared.keyword.Keyword.TheVariants as w
+use Rattle.fv_text.specs.declared.symbol.Symbol.{Symbol}
+use Rattle.fv_text.specs.declared.symbol.Symbol.TheVariants as s
 use Rattle.vl_tree.specs.declared.stmt.CaseKind.{CaseKind}
 use Rattle.vl_tree.specs.declared.stmt.CaseKind.TheVariants as c
 use Rattle.vl_tree.specs.declared.stmt.AssignKind.{AssignKind}

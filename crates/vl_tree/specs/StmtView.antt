@@ -1,6 +1,7 @@
--- What a contract sees of a statement of the program: the plain tree, without its pointers. Rule of this project.
+-- Between functions: What a contract sees of a statement of the program: the plain tree, without its pointers. Rule of
+-- this project.
 use Rattle.std.specs.Prelude.{List, [], ◌∷◌, Some, None}
-use Rattle.fv_base.specs.declared.pos.Pos.{Pos}
+use Rattle.fv_text.specs.declared.pos.Pos.{Pos}
 use Rattle.vl_tree.specs.declared.stmt.StmtKind.{StmtKind}
 use Rattle.vl_tree.specs.declared.stmt.StmtKind.TheVariants as k
 use Rattle.vl_tree.specs.declared.stmt.Arm.{Arm}

@@ -1,5 +1,5 @@
--- Well formed statements: an `else` belongs to the nearest `if`, a case has one default at most, and wild bits stand in
--- labels of a `casez` alone. IEEE 1364-2005, sections 9.4, 9.5 and A.6.
+-- Meaning: Well formed statements: an `else` belongs to the nearest `if`, a case has one default at most, and wild
+-- bits stand in labels of a `casez` alone. IEEE 1364-2005, sections 9.4, 9.5 and A.6.
 use Rattle.std.specs.Prelude.{◌≡◌, ℕ, ◌+◌, ◌≤◌, Bool, true, false, List, [], Option, Some, None}
 use Rattle.vl_tree.specs.declared.stmt.CaseKind.{CaseKind}
 use Rattle.vl_tree.specs.declared.stmt.CaseKind.TheVariants as c

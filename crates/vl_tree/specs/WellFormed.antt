@@ -1,8 +1,8 @@
--- Well formed items, modules and sources: names are names, an `else` belongs to the nearest `if`, both names in the
--- head of a loop are equal, each region ends in the list that it begins in, and each list has an element where the
--- grammar wants one. IEEE 1364-2005, sections 12.4 and A.1 to A.4.
+-- Meaning: Well formed items, modules and sources: names are names, an `else` belongs to the nearest `if`, both names
+-- in the head of a loop are equal, each region ends in the list that it begins in, and each list has an element where
+-- the grammar wants one. IEEE 1364-2005, sections 12.4 and A.1 to A.4.
 use Rattle.std.specs.Prelude.{◌≡◌, ℕ, suc, All, Bool, true, false, List, [], ◌∷◌, Option, Some, None}
-use Rattle.fv_base.specs.declared.pos.Pos.{Pos}
+use Rattle.fv_text.specs.declared.pos.Pos.{Pos}
 use Rattle.vl_tree.specs.declared.declaration.Declaration.{Declaration}
 use Rattle.vl_tree.specs.declared.declaration.HeaderParameter.{HeaderParameter}
 use Rattle.vl_tree.specs.declared.declaration.Port.{Port}

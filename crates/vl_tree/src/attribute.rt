@@ -1,5 +1,5 @@
 use crate::expr::Expr;
-use fv_base::{List, Pos, Text};
+use fv_text::{List, Pos, Text};
 
 /// `(* first = 1, second *)`, with the place of its bracket (IEEE 1364-2005, section 3.8).
 #[derive(Drop)]

@@ -1,6 +1,6 @@
 use crate::attribute::AttributeInstance;
 use crate::expr::Expr;
-use fv_base::{List, Pos, Text};
+use fv_text::{List, Pos, Text};
 
 /// `[left : right]` in a declaration, with the place of its bracket (IEEE 1364-2005, sections 3.3 and 3.9).
 #[derive(Drop)]

@@ -1,8 +1,8 @@
 //! Small trees, and the texts that they spell: what the definitions say of each alternative of the grammar.
 
 ghost use Rattle.std.specs.Prelude.{◌≡◌, ◌∷◌, ◌++◌, [], None, Some, codes};
-ghost use Rattle.fv_base.specs.declared.kind.Kind.TheVariants as k;
-ghost use Rattle.fv_base.specs.declared.number.Number.{Number};
+ghost use Rattle.fv_text.specs.declared.kind.Kind.TheVariants as k;
+ghost use Rattle.fv_text.specs.declared.number.Number.{Number};
 ghost use Rattle.vl_tree.specs.Examples.{written, here, binary_texts, unary_texts, primary, selects, target};
 ghost use Rattle.vl_tree.specs.Examples.{statement, body, head, module_of, opens, closes};
 ghost use Rattle.vl_tree.specs.Expr.{number};
@@ -15,7 +15,7 @@ ghost use Rattle.vl_tree.specs.StmtSpelling as stmt;
 ghost use Rattle.vl_tree.specs.ItemSpelling as item;
 
 /// Operators, operands and targets.
-#[tactic(auto, unfolding(fv_base::specs::Keyword::keyword_text, fv_base::specs::Symbol::symbol_text))]
+#[tactic(auto, unfolding(fv_text::specs::Keyword::keyword_text, fv_text::specs::Symbol::symbol_text))]
 pub fn expressions_have_their_texts()
     ensures binary { binary_texts ≡ codes "a * z" ∷ codes "a / z" ∷ codes "a % z" ∷ codes "a + z"
         ∷ codes "a - z" ∷ codes "a << z" ∷ codes "a >> z" ∷ codes "a <<< z" ∷ codes "a >>> z"
@@ -31,7 +31,7 @@ pub fn expressions_have_their_texts()
     ensures target { written (lval.spell target) ≡ codes "{ a , z [ a ] }" }
 {}
 
-#[tactic(auto, unfolding(fv_base::specs::Keyword::keyword_text, fv_base::specs::Symbol::symbol_text))]
+#[tactic(auto, unfolding(fv_text::specs::Keyword::keyword_text, fv_text::specs::Symbol::symbol_text))]
 pub fn statements_have_their_texts()
     ensures { written (stmt.spell statement)
         ≡ codes "(* x = a , y *) (* z *) begin : l if ( a ) a = z ; else if ( z ) a <= z ; assume ( a ) "
@@ -39,7 +39,7 @@ pub fn statements_have_their_texts()
         ++ codes "endcase end" }
 {}
 
-#[tactic(auto, unfolding(fv_base::specs::Keyword::keyword_text, fv_base::specs::Symbol::symbol_text, crate::specs::ItemSpelling::spell_head))]
+#[tactic(auto, unfolding(fv_text::specs::Keyword::keyword_text, fv_text::specs::Symbol::symbol_text, crate::specs::ItemSpelling::spell_head))]
 pub fn modules_have_their_texts()
     ensures head { written (item.spell_module head)
         ≡ codes "module m # ( parameter p = a , signed [ a : z ] q = a , parameter r = a ) ( (* x = a , "

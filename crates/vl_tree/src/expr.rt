@@ -1,5 +1,5 @@
 use crate::operator::{BinaryOperator, Cast, UnaryOperator};
-use fv_base::{List, Number, Pos, Text};
+use fv_text::{List, Number, Pos, Text};
 use std::marker::Model;
 
 /// An expression with its place, that of its first token (IEEE 1364-2005, section A.8.3). Contracts see it as a plain

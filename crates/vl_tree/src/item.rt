@@ -3,7 +3,7 @@ use crate::declaration::{Declaration, DeclaredName, Parameter, ParameterKind};
 use crate::expr::Expr;
 use crate::part::{Assignment, Event, Instance, LoopHead};
 use crate::stmt::Stmt;
-use fv_base::{List, Pos, Text};
+use fv_text::{List, Pos, Text};
 use std::marker::Model;
 
 /// An item of a module with its place; attributes before it aren't of its place (IEEE 1364-2005, section A.1.4).

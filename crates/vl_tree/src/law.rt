@@ -1,7 +1,7 @@
 //! What the readings of a spelling have to do with one another.
 
 ghost use Rattle.std.specs.Prelude.{◌≡◌, List, [], length};
-ghost use Rattle.fv_base.specs.declared.token.Token.{Token};
+ghost use Rattle.fv_text.specs.declared.token.Token.{Token};
 ghost use Rattle.vl_tree.specs.declared.source.Source.{Source};
 ghost use Rattle.vl_tree.specs.Phrase.{kinds, kinds_of, Spells, open_at};
 ghost use Rattle.vl_tree.specs.ItemSpelling as spec;

@@ -1,5 +1,5 @@
 use crate::expr::Select;
-use fv_base::{List, Pos, Text};
+use fv_text::{List, Pos, Text};
 use std::marker::Model;
 
 /// A target of an assignment, with its place (IEEE 1364-2005, section A.8.5). Contracts see it as a plain tree.

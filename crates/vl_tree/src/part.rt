@@ -1,6 +1,6 @@
 use crate::expr::Expr;
 use crate::lval::Lval;
-use fv_base::{List, Pos, Text};
+use fv_text::{List, Pos, Text};
 
 /// `target = value` in a continuous assignment (IEEE 1364-2005, section 6.1).
 #[derive(Drop)]

@@ -1,6 +1,6 @@
 use crate::declaration::{HeaderParameter, Port};
 use crate::item::Item;
-use fv_base::{List, Pos, Text};
+use fv_text::{List, Pos, Text};
 
 /// A Verilog text: its modules in order (IEEE 1364-2005, section A.1.2). Without modules its place is 1:1 of file 1.
 #[derive(Drop)]

@@ -1,7 +1,7 @@
 use crate::attribute::AttributeInstance;
 use crate::expr::Expr;
 use crate::lval::Lval;
-use fv_base::{List, Pos, Text};
+use fv_text::{List, Pos, Text};
 use std::marker::Model;
 
 /// A statement with its place; attributes before it aren't of its place (IEEE 1364-2005, section A.6.4). Contracts see

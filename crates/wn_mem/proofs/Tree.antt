@@ -10,8 +10,8 @@ use Rattle.std.proofs.lemmas.List.{drop-map, length-map, length_push, length-dro
 use Rattle.std.proofs.lemmas.Nat.{pow_pos, mod_below, shr-shr, div-add-mod', mod-mul-add}
 use Rattle.std.proofs.Math.Nat.{mod-eq_of_lt, mul-le-mul_right}
 use Rattle.std.proofs.Math.Pow.{pow_mono}
-use Rattle.fv_base.specs.declared.word.Word.{Word}
-use Rattle.fv_base.specs.Word.{number}
+use Rattle.fv_text.specs.declared.word.Word.{Word}
+use Rattle.fv_text.specs.Word.{number}
 use Rattle.fv_bits.specs.Bits.{low, part, bit}
 use Rattle.fv_bits.proofs.Limits.{none_left, left_of_fits}
 use Rattle.wn_net.specs.declared.node.Node.{Node}

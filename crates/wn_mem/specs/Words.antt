@@ -1,4 +1,4 @@
--- A memory as one node a word (rule of this project).
+-- Between functions: A memory as one node a word (rule of this project).
 use Rattle.std.specs.Prelude.{◌≡◌, ℕ, ◌+◌, ◌-◌, ◌*◌, ◌^◌, List, [], ◌∷◌, length, map, slice_index, bit_and, ◌<◌, suc, max, if◌then◌else◌, ◌==◌, ◌&&◌, Bool, Option, None, Some, IfSome}
 use Rattle.wn_net.specs.declared.parts.MemWrite.{MemWrite}
 use Rattle.fv_bits.specs.Bits.{bit, complement, joined, part}

@@ -10,7 +10,7 @@ ghost use Rattle.wn_net.specs.Changes.{AddsNodes};
 ghost use Rattle.wn_mem.specs.Words.{numbers_of, number_of};
 
 use crate::constant::zero_of;
-use fv_base::Memory;
+use fv_text::Memory;
 use wn_net::{Net, NodeId};
 
 /// Puts the lowest bits of a node, the highest of them first.

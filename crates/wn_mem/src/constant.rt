@@ -5,7 +5,7 @@ ghost use Rattle.wn_net.specs.Net.{IsNode, IsNodeOf, value_at, width_at};
 ghost use Rattle.wn_net.specs.Changes.{AddsNodes};
 ghost use Rattle.wn_mem.specs.Words.{IsZero};
 
-use fv_base::{Memory, Word};
+use fv_text::{Memory, Word};
 use wn_net::{Net, Node, NodeId};
 
 /// The number of a node that has the same one in every cycle by its kind.

@@ -13,7 +13,7 @@ ghost use Rattle.wn_mem.specs.Words.{AreShared, CountsGroups, IsRequest, ShareWr
 
 use crate::marks::mark_nodes;
 use crate::write::{Shared, acts_on, reached_by, request, write_word};
-use fv_base::Memory;
+use fv_text::Memory;
 use wn_net::{MemWrite, Net, NodeId};
 
 /// The write as groups of sixteen words see it: its address counts them.

@@ -8,7 +8,7 @@ ghost use Rattle.wn_net.specs.Net.{IsNode, IsNodeOf, AreNodesOf, value_at, width
 ghost use Rattle.wn_net.specs.Changes.{AddsNodes};
 ghost use Rattle.wn_mem.specs.Words.{IsZero, Tell, apart, word_from, numbers_of};
 
-use fv_base::{Memory, Word};
+use fv_text::{Memory, Word};
 use wn_net::{Net, NodeId};
 
 /// The number with the one bit of sixteen that the lowest four bits of a node say.

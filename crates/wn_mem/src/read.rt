@@ -28,7 +28,7 @@ ghost use Rattle.wn_mem.specs.Words.{AreWords, IsZero, Tell, apart, words_width,
 use crate::bits::{address_bits, bits_for, is_low, reached};
 use crate::constant::{constant_of, zero_of};
 use crate::marks::{mark_nodes, told_word};
-use fv_base::Memory;
+use fv_text::Memory;
 use wn_net::{Net, NodeId};
 
 /// How many of the words are in a half that so many bits tell, where each of its places has so many words.

@@ -26,8 +26,8 @@ ghost use Rattle.wn_mem.specs.Words.{words_width, numbers_of, hits};
 use crate::bits::{bits_for, reached};
 use crate::constant::constant_of;
 use crate::groups::write_by_groups;
-use fv_base::{Memory, Word};
 use fv_bits::ones;
+use fv_text::{Memory, Word};
 use std::alloc::Global;
 use wn_net::{MemWrite, Net, NodeId};
 

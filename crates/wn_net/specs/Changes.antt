@@ -1,4 +1,4 @@
--- What a call may do to a net (rule of this project).
+-- Meaning: What a call may do to a net (rule of this project).
 use Rattle.std.specs.Prelude.{
   ◌≡◌,
   ℕ,

@@ -1,4 +1,4 @@
--- When numbers are those of a cycle of a net (rule of this project).
+-- Meaning: When numbers are those of a cycle of a net (rule of this project).
 use Rattle.std.specs.Prelude.{◌≡◌, ℕ, ◌<◌, ◌^◌, List, [], ◌∷◌, map, length, slice_index}
 use Rattle.wn_net.specs.declared.parts.Mem.{Mem}
 use Rattle.wn_net.specs.declared.parts.State.{State}

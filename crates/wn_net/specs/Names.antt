@@ -1,4 +1,4 @@
--- When names are those of a net (rule of this project).
+-- Meaning: When names are those of a net (rule of this project).
 use Rattle.std.specs.Prelude.{
   ◌≡◌,
   ℕ,

@@ -1,4 +1,4 @@
--- Nets: nodes over inputs, registers and memories (rule of this project).
+-- Meaning: Nets: nodes over inputs, registers and memories (rule of this project).
 use Rattle.std.specs.Prelude.{◌≡◌, ℕ, ◌<◌, ◌≤◌, ◌^◌, List, [], map, length, slice_index}
 use Rattle.std.specs.List.{AllByRecursion}
 use Rattle.wn_net.specs.declared.node.Node.{Node}

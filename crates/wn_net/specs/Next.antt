@@ -1,4 +1,4 @@
--- What registers and memories have in the next cycle (rule of this project).
+-- Meaning: What registers and memories have in the next cycle (rule of this project).
 use Rattle.std.specs.Prelude.{
   ℕ,
   ◌==◌,

@@ -1,5 +1,5 @@
--- The values of nodes: bit vectors as numbers (rule of this project; the operators are those of IEEE 1364-2005,
--- section 5).
+-- Meaning: The values of nodes: bit vectors as numbers (rule of this project; the operators are those of IEEE
+-- 1364-2005, section 5).
 use Rattle.std.specs.Prelude.{
   ℕ,
   ◌==◌,
@@ -17,7 +17,7 @@ use Rattle.std.specs.Prelude.{slice_index, slice_index_or}
 use Rattle.wn_net.specs.declared.node.Node.{Node}
 use Rattle.wn_net.specs.declared.node.Node.TheVariants as n
 use Rattle.wn_net.specs.declared.parts.State.{State}
-use Rattle.fv_base.specs.Word.{number}
+use Rattle.fv_text.specs.Word.{number}
 use Rattle.fv_bits.specs.Bits.{complement, is_less_signed, bit, sum, difference, product, shifted_left, shifted_right}
 use Rattle.fv_bits.specs.Bits.{arithmetic_right, sign_extended, part, joined}
 use Rattle.wn_net.specs.Width.{Shape, width}

@@ -1,4 +1,4 @@
--- The widths of nodes, and when a node fits behind others (rule of this project).
+-- Meaning: The widths of nodes, and when a node fits behind others (rule of this project).
 use Rattle.std.specs.Prelude.{
   ◌≡◌,
   ℕ,

@@ -19,8 +19,8 @@ ghost use Rattle.wn_net.specs.Next.{IsWriteIn, IsMemIn};
 
 use crate::parts::{Mem, MemWrite, Reg};
 use crate::value::{at, number_at};
-use fv_base::List;
 use fv_bits::masked;
+use fv_text::List;
 
 /// Puts the number at the place.
 fn set_number(numbers: &mut List<u128>, index: usize, number: u128)

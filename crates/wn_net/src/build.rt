@@ -15,7 +15,7 @@ ghost use Rattle.std.specs.Prelude.{
   ◌^◌,
 };
 ghost use Rattle.std.specs.Prelude.{[], ◌++◌, ◌∷◌, length, IfOk, OnOk, OnErr};
-ghost use Rattle.fv_base.specs.Word.{number};
+ghost use Rattle.fv_text.specs.Word.{number};
 ghost use Rattle.fv_bits.specs.Bits as num;
 ghost use Rattle.wn_net.specs.Width.{IsFitting};
 ghost use Rattle.wn_net.specs.Net.{IsNode, IsNodeOf, shape_of, widths_of, width_at, value_at};
@@ -24,7 +24,7 @@ ghost use Rattle.wn_net.specs.declared.node.Node.TheVariants as node;
 
 use crate::net::Net;
 use crate::node::{Node, NodeId};
-use fv_base::{Memory, Word};
+use fv_text::{Memory, Word};
 
 /// Adds a node with its width behind the others.
 pub(crate) fn push_node(

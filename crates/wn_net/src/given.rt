@@ -5,8 +5,8 @@ ghost use Rattle.wn_net.specs.Given.{AreNumbersOf, AreMemsOf, IsGiven, HasWords,
 
 use crate::net::Net;
 use crate::parts::{Input, Mem, Reg, State};
-use fv_base::List;
 use fv_bits::fits;
+use fv_text::List;
 
 fn inputs_fit(inputs: &[Input], numbers: &[u128]) -> bool
     ensures { IsTrue result ↔ AreNumbersOf (map (λ i. i.width) inputs.now) numbers.now }

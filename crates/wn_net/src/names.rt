@@ -1,5 +1,5 @@
 use crate::node::NodeId;
-use fv_base::{List, Text};
+use fv_text::{List, Text};
 
 /// What a name of a design is in a net.
 #[derive(Debug, Clone, Copy, PartialEq, Eq)]

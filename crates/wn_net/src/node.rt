@@ -1,4 +1,4 @@
-use fv_base::Word;
+use fv_text::Word;
 
 /// The number of a node: its place in the list of nodes.
 pub type NodeId = u64;

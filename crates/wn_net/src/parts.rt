@@ -1,5 +1,5 @@
 use crate::node::NodeId;
-use fv_base::List;
+use fv_text::List;
 
 /// What a register or a word of a memory begins with.
 #[derive(Debug, Clone, Copy, PartialEq, Eq)]

@@ -27,7 +27,7 @@ use crate::build::push_node;
 use crate::net::Net;
 use crate::node::{Node, NodeId};
 use crate::parts::{Init, Input, InputKind, Mem, MemWrite, Reg};
-use fv_base::{List, Memory};
+use fv_text::{List, Memory};
 
 impl Net {
     /// An input, and the node that reads it.

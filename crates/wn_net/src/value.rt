@@ -18,11 +18,11 @@ ghost use Rattle.wn_net.specs.Given.{given};
 
 use crate::node::{Node, NodeId};
 use crate::parts::State;
-use fv_base::List;
 use fv_bits::{
     arithmetic_right, bit, complement, difference, is_less_signed, joined, part, product,
     shifted_left, shifted_right, sign_extended, sum,
 };
+use fv_text::List;
 
 /// The number at the place; 0 past the end.
 pub(crate) fn number_at(numbers: &List<u128>, place: u128) -> u128

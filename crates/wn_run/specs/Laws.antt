@@ -1,4 +1,4 @@
--- What holds of values and runs of every net. Rule of this project.
+-- Between functions: What holds of values and runs of every net. Rule of this project.
 use Rattle.std.specs.Prelude.{◌≡◌, ℕ, ◌<◌, List, Some, length, slice_index, slice_get, ◌↔◌}
 use Rattle.wn_net.specs.declared.node.Node.{Node}
 use Rattle.wn_net.specs.declared.parts.State.{State}

@@ -1,4 +1,4 @@
--- Numbers of nodes below a bound (rule of this project).
+-- Between functions: Numbers of nodes below a bound (rule of this project).
 use Rattle.std.specs.Prelude.{ℕ, ◌<◌, List, [], length, map, slice_index, slice_index_or}
 use Rattle.wn_net.specs.declared.parts.Reg.{Reg}
 use Rattle.wn_net.specs.declared.parts.Mem.{Mem}

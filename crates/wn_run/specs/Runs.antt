@@ -1,4 +1,4 @@
--- Runs of a net: its numbers, cycle by cycle (rule of this project).
+-- Meaning: Runs of a net: its numbers, cycle by cycle (rule of this project).
 use Rattle.std.specs.Prelude.{
   ◌≡◌,
   ℕ,

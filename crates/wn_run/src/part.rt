@@ -3,7 +3,7 @@ ghost use Rattle.std.specs.Prelude.{IfOk};
 ghost use Rattle.wn_net.specs.Changes.{AddsNodes};
 
 use crate::named::{last_of_mems, last_of_nodes, last_of_regs};
-use fv_base::Memory;
+use fv_text::Memory;
 use wn_net::Net;
 
 /// The net with the nodes alone up to the last one that a register, a write or an assumption names: what a cycle hands

@@ -3,7 +3,7 @@
 #![tactic(auto)]
 
 use anyhow::Result;
-use fv_base::Text;
+use fv_text::Text;
 use rvf_words::{Line, read_words};
 use std::alloc::Global;
 

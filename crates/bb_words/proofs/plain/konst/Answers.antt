@@ -1,6 +1,6 @@
 use Rattle.std.specs.Prelude.{◌≡◌, ℕ}
 use Rattle.std.proofs.Common.{arith, subst}
-use Rattle.fv_base.specs.Word.{number}
+use Rattle.fv_text.specs.Word.{number}
 use Rattle.bb_words.proofs.Numbers.{Taking, taking_start, taking_next, taken_all}
 use Rattle.bb_words.proofs.plain.konst.Goals as goal
 

@@ -1,4 +1,4 @@
-use Rattle.fv_base.specs.Word.{number}
+use Rattle.fv_text.specs.Word.{number}
 use Rattle.bb_words.proofs.Numbers.{Taking}
 use Rattle.bb_words.proofs.plain.konst.Given as goal
 

@@ -3,7 +3,7 @@ use Rattle.fv_bits.specs.Bits.{bit}
 use Rattle.rv_table.specs.Agree.{agrees}
 use Rattle.wn_net.proofs.Laws.{given_on}
 use Rattle.rvfi_port.proofs.AddedNodes.{channel_on, retire_on}
-use Rattle.ck_props.specs.Properties.{implies}
+use Rattle.ck_spec.specs.Properties.{implies}
 use Rattle.ck_history.proofs.Laws.{told, told_on}
 use Rattle.ck_gen.proofs.own.does_as.Goals as goal
 

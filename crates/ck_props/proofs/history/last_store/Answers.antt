@@ -2,7 +2,7 @@ use Rattle.std.proofs.Common.{◌&&◌, ◌==◌, ◌∙◌, rules, tests}
 use Rattle.std.proofs.lemmas.Iterator.Adapters.{YieldsList-from_rev_slice}
 use Rattle.std.proofs.lemmas.Iterator.Search.{find_from_yields_List}
 use Rattle.rv_table.specs.Agree.{has}
-use Rattle.ck_props.specs.Lists.{is_earlier}
+use Rattle.ck_spec.specs.Lists.{is_earlier}
 use Rattle.ck_props.proofs.history.last_store.Goals as goal
 
 pub returns : goal.returns

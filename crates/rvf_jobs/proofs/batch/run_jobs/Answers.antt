@@ -1,5 +1,5 @@
 use Rattle.std.proofs.lemmas.Result.{IfOk-weaker}
-use Rattle.fv_base.specs.declared.memory.Memory.{Memory}
+use Rattle.fv_text.specs.declared.memory.Memory.{Memory}
 use Rattle.rvf_jobs.proofs.AnswersLemmas.{AreAnswers-of_results}
 use Rattle.rvf_jobs.proofs.batch.run_jobs.Goals as goal
 

@@ -1,6 +1,6 @@
 use Rattle.std.proofs.Common.{◌∙◌, sym, ap, arith}
 use Rattle.std.proofs.lemmas.Bool.Decides.{nat_tests}
-use Rattle.vcd_text.specs.Digits.{code}
+use Rattle.vcd_dump.specs.Digits.{code}
 use Rattle.vcd_text.proofs.Values.{code_same}
 use Rattle.vcd_text.proofs.name_line.is_code.Goals as goal
 

@@ -1,6 +1,6 @@
 use Rattle.std.proofs.Common.{◌++◌, codes, subst, ap, ◌∙◌, ◌≡◌, true, rules}
 use Rattle.std.specs.List.{list_all}
-use Rattle.vcd_text.specs.Digits.{code}
+use Rattle.vcd_dump.specs.Digits.{code}
 use Rattle.fv_lines.specs.Cuts.{HasNo}
 use Rattle.vcd_text.specs.Reading.{is_plain}
 use Rattle.vcd_text.proofs.Values.{has_mark}

@@ -1,6 +1,6 @@
 use Rattle.std.proofs.Common.{◌∙◌, sym, ap, arith}
 use Rattle.std.proofs.lemmas.List.{nil_from_length}
-use Rattle.vcd_text.specs.Digits.{code}
+use Rattle.vcd_dump.specs.Digits.{code}
 use Rattle.vcd_text.proofs.Written.{code_writes, one_digit, too_long, no_high, zero_high, no_low, whole, is_nil}
 use Rattle.vcd_text.proofs.Written.{is_filled}
 use Rattle.vcd_text.proofs.words.+index_up_to.Goals as goal

@@ -3,7 +3,7 @@ use Rattle.std.specs.Prelude.{Option, Some, None, IsSome, is_some, is_none, bit_
 use Rattle.std.specs.Prelude.{List, [], ◌∷◌, ◌++◌, length, take, drop, ℤ, nat_abs}
 use Rattle.std.proofs.Common.{refl, ap, sym, ◌∙◌, subst, true≢false, arith, rules}
 use Rattle.std.proofs.lemmas.List.{take_all}
-use Rattle.fv_base.specs.declared.pos.Pos.{Pos}
+use Rattle.fv_text.specs.declared.pos.Pos.{Pos}
 use Rattle.fv_bits.specs.Bits.{bit, extended, as_int, joined, complement, negative}
 use Rattle.vl_tree.specs.declared.expr.Select.{Select}
 use Rattle.vl_tree.specs.declared.operator.BinaryOperator.{BinaryOperator}

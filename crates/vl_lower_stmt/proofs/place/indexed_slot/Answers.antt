@@ -1,6 +1,6 @@
 use Rattle.std.specs.Prelude.{◌≤◌, IsSome}
 use Rattle.std.proofs.Common.{ap, sym, ◌∙◌, arith, subst}
-use Rattle.fv_base.specs.declared.pos.Pos.{Pos}
+use Rattle.fv_text.specs.declared.pos.Pos.{Pos}
 use Rattle.vl_size.specs.Size.{cells_in, index_of, no_names, operand_of, times}
 use Rattle.vl_lower_expr.proofs.Sized.{is_width, start_sized}
 use Rattle.vl_lower_stmt.proofs.Bits.{bits_indexed}

@@ -1,6 +1,6 @@
 use Rattle.std.specs.Prelude.{◌≡◌, Some, IsSome, is_none, if◌then◌else◌}
 use Rattle.std.proofs.Common.{sym, ◌∙◌, subst}
-use Rattle.fv_base.specs.declared.pos.Pos.{Pos}
+use Rattle.fv_text.specs.declared.pos.Pos.{Pos}
 use Rattle.vl_tree.specs.ExprView.{selects}
 use Rattle.vl_size.specs.Size.{vector_size, word_size}
 use Rattle.vl_size.specs.Table.{IsShaped, declared_as}

@@ -1,6 +1,6 @@
 use Rattle.std.specs.Prelude.{◌≡◌, refl, ◌≤◌, List, [], ◌∷◌, length, None}
 use Rattle.std.proofs.Common.{arith}
-use Rattle.fv_base.specs.declared.pos.Pos.{Pos}
+use Rattle.fv_text.specs.declared.pos.Pos.{Pos}
 use Rattle.vl_tree.specs.Expr.{Expr, exprs}
 use Rattle.vl_mean.specs.ConstantFaults.{no_part}
 use Rattle.vl_mean.proofs.first_fault.no_part.Goals as goal

@@ -1,6 +1,6 @@
 use Rattle.std.proofs.Common.{[], refl, sym, ap, ◌∙◌}
-use Rattle.fv_base.specs.declared.kind.Kind.TheVariants as k
-use Rattle.fv_base.specs.declared.keyword.Keyword.TheVariants as w
+use Rattle.fv_text.specs.declared.kind.Kind.TheVariants as k
+use Rattle.fv_text.specs.declared.keyword.Keyword.TheVariants as w
 use Rattle.vl_tree.specs.DeclarationSpelling.{net_word, parameter_word}
 use Rattle.vl_tree.specs.Item.{declaration, integer, genvar, parameter, assign, initial}
 use Rattle.vl_parse.proofs.ItemLeads.{kind_integer, kind_genvar, kind_assign, kind_always, kind_initial, kind_net}

@@ -1,5 +1,5 @@
 use Rattle.std.proofs.Common.{◌≡◌, ◌≤◌, List, length}
-use Rattle.fv_base.specs.declared.token.Token.{Token}
+use Rattle.fv_text.specs.declared.token.Token.{Token}
 use Rattle.vl_tree.specs.DeclarationWellFormed.{AreSome}
 use Rattle.vl_tree.specs.Phrase.{Spells, between_commas}
 use Rattle.vl_parse_grammar.specs.Grammar as grammar

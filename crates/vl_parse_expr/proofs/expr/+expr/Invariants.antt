@@ -1,5 +1,5 @@
 use Rattle.std.proofs.Common.{◌≡◌, ◌+◌, ◌*◌, ◌≤◌, List, length}
-use Rattle.fv_base.specs.declared.token.Token.{Token}
+use Rattle.fv_text.specs.declared.token.Token.{Token}
 use Rattle.vl_tree.specs.Phrase.{Spells}
 use Rattle.vl_tree.specs.Expr.{exprs}
 use Rattle.vl_tree.specs.ExprView.{selects}

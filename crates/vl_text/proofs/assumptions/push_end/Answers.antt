@@ -1,5 +1,5 @@
 use Rattle.std.proofs.Common.{[], ◌∷◌}
-use Rattle.fv_base.specs.declared.symbol.Symbol.TheVariants as s
+use Rattle.fv_text.specs.declared.symbol.Symbol.TheVariants as s
 use Rattle.vl_text.specs.Assumptions.{sign_at}
 use Rattle.vl_text.proofs.Sorting.{pushed, none_pushed}
 use Rattle.vl_text.proofs.assumptions.push_end.Goals as goal

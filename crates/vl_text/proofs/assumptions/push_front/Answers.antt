@@ -1,6 +1,6 @@
 use Rattle.std.proofs.Common.{[], ◌∷◌}
-use Rattle.fv_base.specs.declared.keyword.Keyword.TheVariants as w
-use Rattle.fv_base.specs.declared.symbol.Symbol.TheVariants as s
+use Rattle.fv_text.specs.declared.keyword.Keyword.TheVariants as w
+use Rattle.fv_text.specs.declared.symbol.Symbol.TheVariants as s
 use Rattle.vl_text.specs.Assumptions.{word_at, sign_at}
 use Rattle.vl_text.proofs.Sorting.{pushed, none_pushed}
 use Rattle.vl_text.proofs.assumptions.push_front.Goals as goal

@@ -1,5 +1,5 @@
 use Rattle.std.proofs.Common.{arith, ap, ◌+◌, ◌≡◌, ◌∙◌, length}
-use Rattle.vcd_text.specs.Vcd.{time_line}
+use Rattle.vcd_dump.specs.Vcd.{time_line}
 use Rattle.vcd_text.proofs.Readers.{takes_time}
 use Rattle.vcd_text.proofs.reader.Reader.take_change.Goals as goal
 

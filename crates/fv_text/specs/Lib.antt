@@ -1,0 +1,7 @@
+pub mod Keyword
+pub mod Name
+pub mod Named
+pub mod Rose
+pub mod Symbol
+pub mod Word
+pub mod formers

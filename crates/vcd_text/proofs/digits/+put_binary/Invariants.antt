@@ -1,4 +1,0 @@
-use Rattle.vcd_text.proofs.digits.+put_binary.Given as goal
-
-abbrev pub decreases-put_binary : goal.decreases-put_binary
-decreases-put_binary l = l.value

@@ -1,8 +1,0 @@
-use Rattle.std.proofs.Common.{◌≡◌, ◌++◌, drop}
-use Rattle.vcd_text.specs.Vcd.{text_of, change_lines}
-use Rattle.vcd_text.proofs.write.put_changes.Given as goal
-
-abbrev pub invariant-loop-index : goal.invariant-loop-index
-invariant-loop-index l = l.out.items ++ text_of
-    (change_lines l.index (drop l.index l.names) (drop l.index l.before) (drop l.index l.values))
-    ≡ l.initial.out.items ++ text_of (change_lines 0 l.names l.before l.values)

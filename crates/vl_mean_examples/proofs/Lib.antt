@@ -1,0 +1,4 @@
+pub mod FlatRefused
+pub mod Maps
+pub mod DesignMaps
+pub mod Limits

@@ -1,0 +1,4 @@
+pub mod Examples
+pub mod DesignExamples
+pub mod FlatExamples
+pub mod RefusedDesigns
