@@ -7,15 +7,15 @@
 What is looked at, of words in backquotes (two on each side where the words have one inside):
 
 - `crate/specs/File.antt: name, name`: the definitions stand in that file. `crate/src/file.rt: name, name`: the
-  functions, types or constants do. `crate/stdin: text`: a line of it has the text. Each other `crate/file`: it is there.
+  functions, types or constants do. `crate/stdin: text`: a line of it has the text. Other `crate/file`: it is there.
 - `crate::function: clause, clause`, or with a type in front of the function: it is public, and has the clauses
   `ensures NAME {..}`; in docs/PROVED.md one without names has a clause all the same. `crate::Type: clause`: the type
   has the ghost fields.
 - names of files, and names that begin as those of crates do.
 
-Beside these: links, names of files under docs/, tools/, examples/ and crates/, commands, the number of README.md's
-lines, that docs/MAP.md names each crate of crates.txt, and has the table that `--write` makes. Nothing is written
-without `--write`.
+Beside these: links, names of files under docs/, tools/, examples/ and crates/, commands, the example of README.md and
+the number of its lines, that docs/MAP.md names each crate of crates.txt, and has the table that `--write` makes.
+Nothing is written without `--write`.
 """
 import os
 import re
@@ -338,6 +338,17 @@ def check_readme():
             fault("README.md", 1, f"no command begins with {command.strip()}")
 
 
+def check_example():
+    """The shipped example is the program's stored run, and README.md shows what that prints."""
+    for path in files_below("crates/rvf/data", ""):
+        shipped = "examples/quiet/" + os.path.basename(path)
+        if not is_there(shipped) or lines_of(shipped) != lines_of(path):
+            fault("README.md", 1, f"{shipped} isn't {path}, over which the program's run is stored")
+    printed = "\n".join("    " + line for line in lines_of("crates/rvf/stdout") if line)
+    if printed not in "\n".join(lines_of("README.md")):
+        fault("README.md", 1, "the lines of the example aren't those of crates/rvf/stdout")
+
+
 def main():
     if sys.argv[1:] == ["--write"]:
         write()
@@ -351,6 +362,7 @@ def main():
         check_commands(page)
     check_map(sources)
     check_readme()
+    check_example()
     for text in faults:
         print(text)
     sys.exit(1 if faults else 0)
