@@ -284,10 +284,19 @@ def check_words(sources, page):
                     fault(page, number, f"there is no crate {word}")
 
 
+def headings(page):
+    """The headings of a page, as links within it name them."""
+    titles = [line.lstrip("#").strip().lower() for line in lines_of(page) if line.startswith("#")]
+    return {re.sub(r"[^\w -]", "", title).replace(" ", "-") for title in titles}
+
+
 def check_paths(page):
     """Links, and names of files wherever they stand."""
-    folder = os.path.dirname(page)
+    folder, there = os.path.dirname(page), headings(page)
     for number, line in enumerate(lines_of(page), 1):
+        for target in re.findall(r"\]\(#([^)\s]+)\)", line):
+            if target not in there:
+                fault(page, number, f"there is no heading {target}")
         for target in re.findall(r"\]\(([^)#\s]+)", line):
             if "://" not in target and not is_there(os.path.join(folder, target)):
                 fault(page, number, f"there is no file {target}")
