@@ -1,10 +1,11 @@
 //! Cases of configurations, clause files, proofs, searches and value-change dumps. A case is a line: a word that says
-//! what is tried, and a text with `\n`, `\t`, `\r`, `\\` and `\xHH` for bytes. This crate says what the crates under it
-//! answer, and promises nothing of its own.
+//! what is tried, and a text with `\n`, `\t`, `\r`, `\\` and `\xHH` for bytes. Cases of command lines stand in a module
+//! of their own. This crate says what the crates under it answer, and promises nothing of its own.
 #![tactic(auto)]
 
 mod config;
 mod dump;
+pub mod words;
 
 use certificate_answers::read_escaped;
 use fv_text::Memory;

@@ -1,17 +1,55 @@
-//! Cases of configurations, clause files, proofs, searches and value-change dumps, one a line of standard input, as
-//! `file_answers` reads them. The answer to each is a line. Blank lines, and those that begin with `#`, are no cases.
+//! Cases of files and of command lines, one a line of standard input, as `file_answers` reads them. A line `== KIND`
+//! says of what the lines behind it are cases: `file` for configurations, clause files, proofs, searches and
+//! value-change dumps, or `words`; it is answered by itself, and each case by a line. Lines that begin with `#` are no
+//! cases, nor are blank ones but for `words`.
 #![tactic(auto)]
 
-use file_answers::answer;
-use std::io;
+use anyhow::{Context, Result};
+use file_answers::{answer, words};
+use fv_text::Memory;
+use std::alloc::Global;
 
-fn main(rt: HostRuntime) -> io::Result<()> {
-    for line in rt.lines(rt.alloc()) {
+/// What a line is a case of.
+#[derive(Clone, Copy)]
+enum Kind {
+    File,
+    Words,
+}
+
+impl Kind {
+    fn named(name: &str) -> Option<Kind> {
+        match name {
+            "file" => Some(Kind::File),
+            "words" => Some(Kind::Words),
+            _ => None,
+        }
+    }
+
+    /// The answer to a line, if it is a case. A blank one is a command line without words, and no other case.
+    fn answer(self, alloc: Global, line: &str) -> Result<Option<String>, Memory> {
+        if line.starts_with('#') {
+            return Ok(None);
+        }
+        match self {
+            Kind::File if line.is_empty() => Ok(None),
+            Kind::File => Ok(Some(answer(alloc, line)?)),
+            Kind::Words => Ok(Some(words::answer(alloc, line)?)),
+        }
+    }
+}
+
+fn main(rt: HostRuntime) -> Result<()> {
+    let alloc = rt.alloc();
+    let mut kind = None;
+    for line in rt.lines(alloc) {
         let line = line?;
-        if !line.is_empty() && !line.starts_with('#') {
-            match answer(rt.alloc(), line.as_str()) {
-                Ok(answer) => println!(rt; "{answer}")?,
-                Err(fault) => println!(rt; "{fault}")?,
+        if let Some(name) = line.strip_prefix("== ") {
+            kind = Some(Kind::named(name).context("a heading without a kind")?);
+            println!(rt; "{line}")?;
+        } else {
+            let kind = kind.context("a case without a heading")?;
+            if let Some(answer) = kind.answer(alloc, line.as_str())? {
+                println!(rt; "{answer}")?;
             }
         }
     }

@@ -1,18 +1,16 @@
-//! Cases of command lines: each line of the input has the words behind the program's name, with one blank between two;
-//! `''` is the empty word. What they ask for is printed, or `none`. Lines that begin with `#` are no cases.
-#![tactic(auto)]
+//! Cases of command lines. A case is a line: the words behind the program's name, with one blank between two; `''` is
+//! the empty word. The answer is what they ask for, or `none`.
 
-use anyhow::Result;
-use fv_text::Text;
+use fv_text::{Memory, Text};
 use rvf_words::{Line, read_words};
 use std::alloc::Global;
 
 /// A text as a reader sees it.
 fn shown(text: &Text) -> &str {
-    std::str::from_utf8(text.bytes()).unwrap_or("?")
+    str::from_utf8(text.bytes()).unwrap_or("?")
 }
 
-fn asked(alloc: Global, line: &Line) -> Result<String> {
+fn asked(alloc: Global, line: &Line) -> Result<String, Memory> {
     Ok(match line {
         Line::Run {
             cfg,
@@ -33,7 +31,7 @@ fn asked(alloc: Global, line: &Line) -> Result<String> {
     })
 }
 
-fn words_of(alloc: Global, line: &str) -> Result<Vec<String>> {
+fn words_of(alloc: Global, line: &str) -> Result<Vec<String>, Memory> {
     let mut words = Vec::new(alloc);
     if line.is_empty() {
         return Ok(words);
@@ -45,21 +43,11 @@ fn words_of(alloc: Global, line: &str) -> Result<Vec<String>> {
     Ok(words)
 }
 
-fn answer(alloc: Global, line: &str) -> Result<String> {
+/// The answer to the case of a line: what its words ask for, or that they are refused.
+pub fn answer(alloc: Global, line: &str) -> Result<String, Memory> {
     let words = words_of(alloc, line)?;
     match read_words(alloc, words.as_slice())? {
         Some(line) => asked(alloc, &line),
         None => Ok(String::from_str(alloc, "none")?),
     }
-}
-
-fn main(rt: HostRuntime) -> Result<()> {
-    let alloc = rt.alloc();
-    for line in rt.lines(alloc) {
-        let line = line?;
-        if !line.starts_with('#') {
-            println!(rt; "{}", answer(alloc, line.as_str())?)?;
-        }
-    }
-    Ok(())
 }
