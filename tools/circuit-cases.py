@@ -1,20 +1,19 @@
 #!/usr/bin/env python3
-"""Makes cases of `circuit_cases`: for each row corner operands and random ones, with what the RISC-V unprivileged
+"""Makes cases of kind `circuit` of `check_cases`: for each row corner operands and random ones, with what the RISC-V unprivileged
 manual says of them, written here in Python over whole numbers, and the rule of agreement. No answer comes from the
 program.
 
-    tools/circuit-cases.py [--count N] [--seed N] PROGRAM    compares the crate's program with N random cases a row
-    tools/circuit-cases.py [--count N] [--seed N] --write    puts them behind the mark in the crate's stdin and stdout
+    tools/circuit-cases.py [--count N] [--seed N] PROGRAM    compares the program with N random cases a row
+    tools/circuit-cases.py [--count N] [--seed N] --write    puts them behind the mark in its stdin and stdout
 
 The corners come with both. Comparing isn't part of the gate; what stands behind the mark is.
 """
 import argparse
-import os
 import random
-import subprocess
 import sys
 
-CRATE = os.path.join(os.path.dirname(os.path.abspath(__file__)), "..", "crates", "circuit_cases")
+import program_cases
+
 MARK = "# Made by tools/circuit-cases.py: corner operands of each row, and random ones."
 MASK = 0xFFFFFFFF
 LEAST, GREATEST, ONES = 0x80000000, 0x7FFFFFFF, 0xFFFFFFFF
@@ -419,21 +418,19 @@ def cases(count):
 
 def write(made):
     """Puts the cases behind the mark, and their answers behind those of the cases before it."""
-    files = [os.path.join(CRATE, name) for name in ("stdin", "stdout")]
-    before, answers = (open(file).read().splitlines() for file in files)
+    files = ("stdin", "stdout")
+    before, answers = (program_cases.lines_by_kind("check_cases", file)["circuit"] for file in files)
     before = before[:before.index(MARK)] if MARK in before else before + [""]
     answers = answers[:sum(1 for line in before if line and line[0] != "#")]
     for file, lines in zip(files, (before + [MARK] + [case.line() for case in made],
                                    answers + [answer(case, case.effect()) for case in made])):
-        with open(file, "w") as out:
-            out.write("\n".join(lines) + "\n")
+        program_cases.replace("check_cases", file, "circuit", lines)
 
 
 def compare(made, wanted, program):
     """Ends with whether the program gives each case the answer that is wanted."""
     lines = [case.line() for case in made]
-    got = subprocess.run([program], input="\n".join(lines) + "\n", stdout=subprocess.PIPE, text=True,
-                         check=True).stdout.splitlines()
+    got = program_cases.asked(program, "circuit", lines)
     faults = [fault for fault in zip(lines, got, wanted) if fault[1] != fault[2]]
     for fault in faults[:20]:
         print("%s\n    is     %s\n    wanted %s" % fault)

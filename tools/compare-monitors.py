@@ -4,7 +4,7 @@
     tools/compare-monitors.py [--count N] [--seed N] [--kind KIND ..] [--program PATH]
 
 Of each kind of check N random runs (10,000 unless another number is given), of one channel and of two, are judged three
-times: by the property and by the monitor, both in the program `check_cases`, and by the rules of the checks as they are
+times: by the property and by the monitor, both in the program `check_cases` (cases of kind `check`), and by the rules of the checks as they are
 written again below. Orders, registers and addresses are few, so that both answers are common. Idle channels show
 something too. Runs of insn have random words of all rows, which retire with the effect that the program tells of them,
 or with one number changed; the third judge knows there that the first hold. The program is proved and built by `rt run` in its folder, if PATH
@@ -16,7 +16,8 @@ import os
 import random
 import subprocess
 import sys
-import tempfile
+
+import program_cases
 
 CRATE = os.path.join(os.path.dirname(os.path.abspath(__file__)), "..", "crates", "check_cases")
 LAST_ORDER = 2**64 - 1
@@ -185,8 +186,7 @@ def number(text):
 
 def asked(program, lines):
     """Returns what the program answers to lines."""
-    given = "".join(line + "\n" for line in lines).encode()
-    return subprocess.run([program], input=given, capture_output=True, check=True).stdout.decode().splitlines()
+    return program_cases.asked(program, "check", lines)
 
 
 def written(words):
@@ -242,26 +242,22 @@ def built():
 def compared(kinds, count, program):
     """Returns the counts of each kind, and the lines on which the answers differ."""
     counts = {kind: {"holds": 0, "fails": 0, "differ": 0} for kind in kinds}
-    wanted, faults = [], []
-    with tempfile.TemporaryFile("w+") as lines:
-        for kind in kinds:
-            if kind == "insn":
-                for want, line in insn_runs(count, program):
-                    wanted.append((kind, want))
-                    lines.write(line + "\n")
-                continue
-            for _ in range(count):
-                run = Run(kind)
-                wanted.append((kind, "holds" if run.holds() else "fails"))
-                lines.write(run.line() + "\n")
-        lines.seek(0)
-        found = subprocess.run([program], stdin=lines, capture_output=True, check=True).stdout.decode().splitlines()
-        lines.seek(0)
-        for (kind, want), said, line in zip(wanted, found, lines, strict=True):
-            counts[kind][said if said in counts[kind] else "differ"] += said in counts[kind]
-            if said != want and not (want == "any" and said in ("holds", "fails")):
-                counts[kind]["differ"] += 1
-                faults.append("rules: %s; program: %s; %s" % (want, said, line.rstrip()))
+    lines, wanted, faults = [], [], []
+    for kind in kinds:
+        if kind == "insn":
+            for want, line in insn_runs(count, program):
+                wanted.append((kind, want))
+                lines.append(line)
+            continue
+        for _ in range(count):
+            run = Run(kind)
+            wanted.append((kind, "holds" if run.holds() else "fails"))
+            lines.append(run.line())
+    for (kind, want), said, line in zip(wanted, asked(program, lines), lines, strict=True):
+        counts[kind][said if said in counts[kind] else "differ"] += said in counts[kind]
+        if said != want and not (want == "any" and said in ("holds", "fails")):
+            counts[kind]["differ"] += 1
+            faults.append("rules: %s; program: %s; %s" % (want, said, line))
     return counts, faults
 
 

@@ -1,5 +1,5 @@
 #!/usr/bin/env python3
-"""Compares what `circuit_cases` answers with what an emulator does: the corner operands of each row, and random ones.
+"""Compares what `check_cases` answers to cases of kind `circuit` with what an emulator does: the corner operands of each row, and random ones.
 Not part of the gate.
 
     tools/emulate-circuits.py [--count N] [--seed N] [PROGRAM]

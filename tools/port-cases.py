@@ -1,15 +1,15 @@
 #!/usr/bin/env python3
-"""Writes the cases of `port_cases` into the crate's stdin, and their answers into its stdout: designs whose outputs are
-the fields of RVFI, each of them left out, of another width, or no output, alone and with another fault before it or
-behind it. The names and widths are those of the RISC-V Formal Interface, in the order of its table; no answer comes from
-the program.
+"""Writes the cases of kind `port` into the stdin of `check_cases`, and their answers into its stdout: designs whose
+outputs are the fields of RVFI, each of them left out, of another width, or no output, alone and with another fault
+before it or behind it. The names and widths are those of the RISC-V Formal Interface, in the order of its table; no
+answer comes from the program.
 
     tools/port-cases.py
 """
-import os
 import random
 
-CRATE = os.path.join(os.path.dirname(os.path.abspath(__file__)), "..", "crates", "port_cases")
+import program_cases
+
 FIELDS = [
     ("rvfi_valid", 1), ("rvfi_order", 64), ("rvfi_insn", 32), ("rvfi_trap", 1), ("rvfi_halt", 1), ("rvfi_intr", 1),
     ("rvfi_rs1_addr", 5), ("rvfi_rs2_addr", 5), ("rvfi_rs1_rdata", 32), ("rvfi_rs2_rdata", 32), ("rvfi_rd_addr", 5),
@@ -110,8 +110,7 @@ def main():
         made.append(line(channels, wants, design))
         answers.append(answer(channels, wants, design))
     for file, lines in ("stdin", made), ("stdout", answers):
-        with open(os.path.join(CRATE, file), "w") as out:
-            out.write("\n".join(lines) + "\n")
+        program_cases.replace("check_cases", file, "port", lines)
     print(len(made), "cases,", sum(not text.startswith("channel") for text in answers), "of them refused")
 
 
