@@ -4,7 +4,7 @@
 Usage: tools/compare-meanings.py constants [COUNT [SEED]]
        tools/compare-meanings.py statements FOLDER [COUNT [SEED]]
 
-`constants` makes COUNT (1000) constant expressions over three parameters, and asks the program `meaning_cases` (built by `rt run`
+`constants` makes COUNT (1000) constant expressions over three parameters, and asks the program `text_cases` (built by `rt run`
 in its folder) for their values: each has to be that of Icarus, and a division by 0 that is refused has to be unknown there.
 `statements` makes COUNT (1000) blocks over vectors and memories, writes for each a law on the definition of what a statement
 does, with the numbers that Icarus has at the end, and lets `rt check` prove them in FOLDER, a throw-away clone of this repository.
@@ -17,6 +17,8 @@ import re
 import subprocess
 import sys
 import tempfile
+
+import program_cases
 
 HERE = os.path.join(os.path.dirname(os.path.abspath(__file__)), "..")
 LEVELS = ["+", "-", "*", "&", "|", "^", "~^", "<<", ">>", "<<<", ">>>", "<", "<=", ">", ">=", "==", "!=", "&&", "||"]
@@ -151,9 +153,9 @@ def constants(count, seed):
     widths = {"P": 8, "Q": 5, "R": 32}
     trees.vectors = [{"name": name, "left": width - 1, "right": 0} for name, width in widths.items()]
     texts = [verilog(trees.expr(4)) for _ in range(count)]
-    program = os.path.join(HERE, "crates", "meaning_cases", "out", "meaning_cases")
+    program = os.path.join(HERE, "crates", "text_cases", "out", "text_cases")
     lines = [f"names {params}"] + [f"constant {text}" for text in texts]
-    said = subprocess.run([program], input="\n".join(lines) + "\n", capture_output=True, text=True, check=True).stdout.splitlines()[1:]
+    said = program_cases.asked(program, "meaning", lines)[1:]
     answers = [line.rsplit(": ", 1)[-1] for line in said]
     # Icarus reads a select of a parameter at run time as ours, so the parameters stand as registers there.
     declared = "  reg signed [7:0] P; reg [4:0] Q; reg signed [31:0] R;\n"

@@ -3,7 +3,7 @@
 
     tools/compare-prep.py PROGRAM [COUNT [SEED]]
 
-PROGRAM is the built program `text_cases`, which reads cases from its standard input; COUNT is 2000 where it isn't given.
+PROGRAM is the built program `text_cases`, which is asked cases of kind `text`; COUNT is 2000 where it isn't given.
 The reading below is a recursive descent over nested groups, written from the rules alone:
 
   - A text is a list of tokens with places. Conditionals nest; at most one group of a conditional is chosen, and of groups
@@ -14,8 +14,9 @@ The reading below is a recursive descent over nested groups, written from the ru
   - The refusal at the least place is answered, by file, line and column, and at one place the one with the lowest number.
 """
 import random
-import subprocess
 import sys
+
+import program_cases
 
 SHOWN = {1: "unknown", 2: "unbalanced", 3: "arguments", 4: "depth", 5: "include", 6: "too many", 7: "no name"}
 WORDS = ["a", "b", "c", "d"]
@@ -303,8 +304,7 @@ def main():
         except TooLong:
             continue
         cases.append(("files " + "\\|".join(escaped(t) for t in texts), wanted))
-    found = subprocess.run([program], input="".join(c + "\n" for c, _ in cases).encode(), stdout=subprocess.PIPE, check=True)
-    answers = found.stdout.decode().split("\n")
+    answers = program_cases.asked(program, "text", [case for case, _ in cases])
     wrong = 0
     for (case, wanted), got in zip(cases, answers):
         if wanted != got:

@@ -1,5 +1,5 @@
 #!/usr/bin/env python3
-"""Asks Icarus Verilog for the values and sizes that the cases of `meaning_cases` have. Not part of the gate.
+"""Asks Icarus Verilog for the values and sizes that the cases of kind `meaning` of `text_cases` have. Not part of the gate.
 
 Usage: tools/compare-values.py   Prints each case with another answer, and how many there are. Wants `iverilog`.
 A value with unknown bits, as that of a bit past its range, is passed over: here such a bit is 0.
@@ -9,13 +9,12 @@ import re
 import subprocess
 import tempfile
 
-CASES = os.path.join(os.path.dirname(os.path.abspath(__file__)), "..", "crates", "meaning_cases")
+import program_cases
 
 
 def lines(name):
-    """Returns the lines of one of the two files."""
-    with open(os.path.join(CASES, name)) as file:
-        return file.read().splitlines()
+    """Returns the lines of these cases in one of the two files."""
+    return program_cases.lines_by_kind("text_cases", name)["meaning"]
 
 
 def groups():
