@@ -3,7 +3,7 @@
 
     tools/compare-lower.py [--seeds N] [--random N] [FILE.v ..]
 
-It takes the rows of `lower_cases` and of FILE, a module `top` with its modules in each, and needs the Debian package
+It takes the rows of kind `lower` of `design_cases` and of FILE, a module `top` with its modules in each, and needs the Debian package
 iverilog. Each is run over ten cycles with all that is free at 0, and N times (once, if not said) with what is free
 chosen at random: inputs, `anyseq` and `anyconst` names, and what registers begin with. A test bench gives Icarus
 Verilog the same: it forces free names, and where a bit of a register is unknown at the start it sets it. Every other
@@ -111,7 +111,7 @@ def main():
     options.add_argument("--random", type=int, default=0)
     options.add_argument("files", nargs="*")
     options = options.parse_args()
-    texts = [text for text, _ in designs.cases("lower_cases")] + [designs.text_of(name) for name in options.files]
+    texts = [text for text, _ in designs.cases("design_cases", "lower")] + [designs.text_of(name) for name in options.files]
     runs = [(text, seed) for text in texts for seed in range(options.seeds + 1)]
     runs += [(text, 1) for text in random_designs.texts(options.random, 1)]
     counts = {"values": 0, "same": 0, "other": 0, "unknown": 0, "not run": 0}

@@ -2,11 +2,11 @@
 and `tr_replay` that reads a number and a Verilog text a line, whose top module is `top`, and prints the design's names
 and a run in which what is free is chosen at random, by the number, or is 0 where that is 0. `rt try` builds and runs
 it, over the sources and with no proof."""
-import os
 import re
 import subprocess
 
 import made
+import program_cases
 
 LIBRARIES = "vl_lower tr_replay vl_lower_spec vl_elab vl_elab_spec vl_flow vl_flow_spec vl_mean vl_size " \
     "vl_parse vl_token vl_tree wn_run wn_net fv_base anyhow"
@@ -247,13 +247,10 @@ def designs(runs, cycles=10):
     return read(done.stdout, cycles)
 
 
-def cases(crate):
-    """Returns the texts of a crate's cases, and the answers, in order."""
-    folder = os.path.join(made.ROOT, "crates", crate)
-    with open(os.path.join(folder, "stdin")) as file:
-        texts = [line for line in file.read().splitlines() if line and not line.startswith("#")]
-    with open(os.path.join(folder, "stdout")) as file:
-        answers = file.read().splitlines()
+def cases(program, kind):
+    """Returns the texts of a program's cases of a kind, and the answers, in order."""
+    lines, answers = (program_cases.lines_by_kind(program, file)[kind] for file in ("stdin", "stdout"))
+    texts = [line for line in lines if line and not line.startswith("#")]
     return list(zip(texts, answers, strict=True))
 
 

@@ -1,4 +1,4 @@
-//! How answers are printed.
+//! How what is loaded is printed, and the refusals of texts.
 
 use anyhow::Result;
 use rvf_load::{LoadFault, Loaded};

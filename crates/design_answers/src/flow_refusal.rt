@@ -1,23 +1,10 @@
-//! How refusals are printed.
+//! How refusals of drivers are printed.
 
+use crate::shown::{name, place};
 use anyhow::Result;
 use fv_text::{Pos, Text};
 use std::alloc::Global;
 use vl_flow::FlowFault;
-
-fn name(alloc: Global, text: &Text) -> Result<String> {
-    let mut out = String::new(alloc);
-    for byte in text.bytes() {
-        out.push(char::from(*byte))?;
-    }
-    Ok(out)
-}
-
-fn place(alloc: Global, pos: Pos) -> Result<String> {
-    let line = pos.line;
-    let column = pos.col;
-    Ok(format!(in alloc; "{line}:{column}")?)
-}
 
 /// The first place, and behind it the others with commas between them.
 fn places(alloc: Global, all: &[Pos]) -> Result<String> {

@@ -1,9 +1,11 @@
-//! What is answered of a text.
+//! Cases of lowering. A case is a Verilog text on one line, whose top module is `top` and is a design with an order.
+//! The answer is what its name `y` has in cycles 0 to 9 of the run in which all that is free is 0, or one number where
+//! it has the same in each.
 #![tactic(auto, using(crate::proofs::Chosen::none_is_chosen))]
 
-use crate::shown::values;
+use crate::flow::design_in_order;
+use crate::values::values;
 use anyhow::Result;
-use flow_answers::design_in_order;
 use fv_text::{List, Memory, Trace};
 use std::alloc::Global;
 use tr_replay::{Chosen, replay};

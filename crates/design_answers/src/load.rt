@@ -1,8 +1,11 @@
-//! What is asked of texts.
+//! Cases of loading. A case is a line: what is asked for, and the texts. The answer is `loaded` with the numbers of
+//! inputs, registers and memories, the weight, and the options that are there, or else the part that refuses and its
+//! refusal: that of a text as `lex`, `prep` or `parse`, those of a design by their numbers.
 
 ghost use Rattle.std.specs.Prelude.{◌≤◌, length, IfOk};
 
-use crate::shown;
+use crate::load_shown::{loaded, refusal};
+use crate::texts::parts;
 use anyhow::Result;
 use rvf_load::{Probes, load};
 use std::alloc::Global;
@@ -30,7 +33,7 @@ fn factors(alloc: Global, asked: &[u8]) -> Result<Vec<u32>>
 /// the probes of memories, `2` for two channels, `h` for the factor 100, and `s` for the factors 76 and 77. A text is a
 /// line of the configuration behind `d`, a line of assumptions behind `a`, and else a file. Lines are numbered from 1
 /// on in this order, and so are files.
-pub(crate) fn answer(alloc: Global, asked: &[u8], parts: &[Vec<u8>]) -> Result<String> {
+fn answer_texts(alloc: Global, asked: &[u8], parts: &[Vec<u8>]) -> Result<String> {
     let mut texts = Vec::new(alloc);
     let mut assumptions = Vec::new(alloc);
     let mut line = 0u32;
@@ -78,7 +81,14 @@ pub(crate) fn answer(alloc: Global, asked: &[u8], parts: &[Vec<u8>]) -> Result<S
         probes,
         factors.as_slice(),
     ) {
-        Ok(loaded) => shown::loaded(alloc, &loaded),
-        Err(fault) => shown::refusal(alloc, &fault),
+        Ok(found) => loaded(alloc, &found),
+        Err(fault) => refusal(alloc, &fault),
     }
+}
+
+/// The answer to the case of a line.
+pub fn answer(alloc: Global, line: &str) -> Result<String> {
+    let (asked, text) = line.split_once(' ').unwrap_or((line, ""));
+    let parts = parts(alloc, text.as_bytes())?;
+    answer_texts(alloc, asked.as_bytes(), parts.as_slice())
 }

@@ -1,5 +1,6 @@
-//! How refusals are printed.
+//! How refusals of modules are printed.
 
+use crate::shown::{name, place};
 use anyhow::Result;
 use fv_text::{List, Pos, Text};
 use std::alloc::Global;
@@ -8,20 +9,12 @@ use vl_elab_spec::ElabFault;
 /// A number, and behind it a place and values.
 struct Parts {
     number: u32,
-    place: Option<Pos>,
+    pos: Option<Pos>,
     detail: String,
 }
 
 fn none(alloc: Global) -> Result<String> {
     Ok(String::from_str(alloc, "-")?)
-}
-
-fn name(alloc: Global, text: &Text) -> Result<String> {
-    let mut out = String::new(alloc);
-    for byte in text.bytes() {
-        out.push(char::from(*byte))?;
-    }
-    Ok(out)
 }
 
 /// Names with commas between them.
@@ -39,7 +32,7 @@ fn names(alloc: Global, all: &List<Text>) -> Result<String> {
 fn named(alloc: Global, number: u32, text: &Text, pos: Pos) -> Result<Parts> {
     Ok(Parts {
         number,
-        place: Some(pos),
+        pos: Some(pos),
         detail: name(alloc, text)?,
     })
 }
@@ -47,7 +40,7 @@ fn named(alloc: Global, number: u32, text: &Text, pos: Pos) -> Result<Parts> {
 fn placed(alloc: Global, number: u32, pos: Pos) -> Result<Parts> {
     Ok(Parts {
         number,
-        place: Some(pos),
+        pos: Some(pos),
         detail: none(alloc)?,
     })
 }
@@ -55,7 +48,7 @@ fn placed(alloc: Global, number: u32, pos: Pos) -> Result<Parts> {
 fn unplaced(number: u32, detail: String) -> Parts {
     Parts {
         number,
-        place: None,
+        pos: None,
         detail,
     }
 }
@@ -76,7 +69,7 @@ fn taken_apart(alloc: Global, fault: &ElabFault) -> Result<Parts> {
         ElabFault::ZeroDivisor(pos) => placed(alloc, 12, *pos),
         ElabFault::TooWide(pos, width) => Ok(Parts {
             number: 13,
-            place: Some(*pos),
+            pos: Some(*pos),
             detail: format!(in alloc; "{width}")?,
         }),
         ElabFault::TooLarge(pos) => placed(alloc, 14, *pos),
@@ -87,15 +80,12 @@ fn taken_apart(alloc: Global, fault: &ElabFault) -> Result<Parts> {
 pub(crate) fn refusal(alloc: Global, fault: &ElabFault) -> Result<String> {
     let Parts {
         number,
-        place,
+        pos,
         detail,
     } = taken_apart(alloc, fault)?;
-    match place {
-        None => Ok(format!(in alloc; "{number} - {detail}")?),
-        Some(pos) => {
-            let line = pos.line;
-            let column = pos.col;
-            Ok(format!(in alloc; "{number} {line}:{column} {detail}")?)
-        }
-    }
+    let place = match pos {
+        Some(pos) => place(alloc, pos)?,
+        None => none(alloc)?,
+    };
+    Ok(format!(in alloc; "{number} {place} {detail}")?)
 }
