@@ -1,5 +1,5 @@
 #!/usr/bin/env python3
-"""Holds the papers to the sources: README.md, docs/*.md, and what they name.
+"""Holds the documents to the sources: README.md, docs/*.md, and what they name.
 
     tools/check-docs.py            prints what isn't there, and ends with 1 where something isn't
     tools/check-docs.py --write    makes the table of crates in docs/MAP.md anew
