@@ -1,0 +1,100 @@
+"""Which kinds of checks needn't be run again, and the configuration that leaves them out. Nothing here is trusted by a
+verdict."""
+from __future__ import annotations
+
+import hashlib
+import json
+import shutil
+from dataclasses import dataclass
+from pathlib import Path
+
+from .configuration import Configuration
+from .reports import kind_of
+from .run_lines import Check
+
+ENDINGS = {"pass": (".cnf", ".lrat"), "spent": (".cnf", ".lrat"), "fail": (".vcd",)}
+
+
+@dataclass(frozen=True)
+class Call:
+    """A call of the program: what it reads, and its options."""
+    program: str
+    cfg: Path
+    outdir: Path
+    core: str
+    basedir: str
+    budget: int
+    jobs: int
+
+
+def sum_of(path: Path) -> str:
+    """The sum of a file's bytes; nothing where it can't be read."""
+    found = hashlib.sha256()
+    try:
+        with path.open("rb") as file:
+            while block := file.read(1 << 20):
+                found.update(block)
+    except OSError:
+        return ""
+    return found.hexdigest()
+
+
+def inputs_of(call: Call, configuration: Configuration) -> dict:
+    """What the checks are made from: the sums of the program, of the configuration and of its files, and the options."""
+    program = shutil.which(call.program)
+    names = configuration.files(call.core, call.basedir)
+    return {"program": sum_of(Path(program)) if program else "", "cfg": sum_of(call.cfg),
+            "files": {name: sum_of(Path(name)) for name in names}, "core": call.core, "basedir": call.basedir}
+
+
+def outputs_of(outdir: Path, checks: list[Check]) -> dict[str, str]:
+    """The sums of the files of checks."""
+    names = [check.name + ending for check in checks for ending in ENDINGS[check.verdict]]
+    return {name: sum_of(outdir / name) for name in names}
+
+
+def kept_checks(call: Call, configuration: Configuration, listed: list[str]) -> list[Check]:
+    """The checks of a run before this one whose kinds needn't be run again: all checks of the kind are there, with their
+    files, of the same configuration, files, options and program; none of them is spent under a smaller budget."""
+    try:
+        report = json.loads((call.outdir / "report.json").read_text())
+        before = {one["name"]: one for one in report["checks"]}
+        sums = report["sums"]
+        if sums["inputs"] != inputs_of(call, configuration) or "" in sums["inputs"]["files"].values():
+            return []
+    except (OSError, ValueError, KeyError, TypeError):
+        return []
+    by_kind: dict[str, list[str]] = {}
+    for name in listed:
+        by_kind.setdefault(kind_of(name)[0], []).append(name)
+    kept = []
+    for names in by_kind.values():
+        found = [before[name] for name in names if name in before and stands(call, before[name], sums["outputs"])]
+        if len(found) == len(names):
+            kept += [Check(one["name"], one["verdict"], one["seconds"], one["batch"], one["budget"], True) for one in found]
+    return kept
+
+
+def stands(call: Call, one: dict, outputs: dict[str, str]) -> bool:
+    """Whether a check's files are those of the run before, and its budget was no smaller where it is spent."""
+    if one["verdict"] == "spent" and one["budget"] < call.budget:
+        return False
+    names = [one["name"] + ending for ending in ENDINGS[one["verdict"]]]
+    return all(outputs.get(name) and outputs[name] == sum_of(call.outdir / name) for name in names)
+
+
+def kind_of_line(word: str) -> str:
+    """The kind of a depth line's first word, without the channel."""
+    return kind_of(word)[0]
+
+
+def reduced(configuration: Configuration, leave: set[str]) -> tuple[str, int]:
+    """The configuration without the depth lines of some kinds, and how many depth lines it has: a line that is left out
+    becomes a comment, so that all lines keep their numbers."""
+    lines, left = list(configuration.lines), 0
+    for at, word, _ in configuration.depths():
+        if kind_of_line(word) in leave:
+            lines[at - 1] = "# left out: " + lines[at - 1]
+        else:
+            left += 1
+    return "\n".join(lines) + "\n", left

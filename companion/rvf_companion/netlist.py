@@ -1,0 +1,121 @@
+"""A module of Yosys' JSON netlist, as `write_json` leaves it.
+
+Nothing here is trusted by a verdict.
+"""
+from __future__ import annotations
+
+import json
+from collections import deque
+from dataclasses import dataclass, field
+from pathlib import Path
+from typing import Union
+
+# A bit is the number of a net, or one of the characters 0, 1, x and z.
+Bit = Union[int, str]
+
+
+def number(text: str | int) -> int:
+    """The value of a parameter: digits of base 2, or a number as older netlists have it."""
+    return text if isinstance(text, int) else int(text, 2)
+
+
+@dataclass(frozen=True)
+class Cell:
+    """A cell with its parameters and what its ports are joined to, the lowest bit first."""
+    name: str
+    kind: str
+    parameters: dict[str, str]
+    attributes: dict[str, str]
+    inputs: dict[str, list[Bit]]
+    outputs: dict[str, list[Bit]]
+
+    def flag(self, name: str) -> bool:
+        """Whether a parameter is there and isn't 0."""
+        return name in self.parameters and number(self.parameters[name]) != 0
+
+    def count(self, name: str) -> int:
+        """The value of a parameter that is a number."""
+        return number(self.parameters[name])
+
+
+@dataclass(frozen=True)
+class Port:
+    """A port of the module."""
+    name: str
+    direction: str
+    bits: list[Bit]
+
+
+@dataclass(frozen=True)
+class NamedNet:
+    """A name for a list of bits; a hidden one was made by Yosys."""
+    name: str
+    hidden: bool
+    bits: list[Bit]
+    src: str
+    init: str
+
+
+@dataclass
+class Netlist:
+    """The module with all that was below it."""
+    name: str
+    src: str
+    ports: list[Port]
+    cells: list[Cell]
+    nets: list[NamedNet]
+    driver: dict[int, Cell] = field(default_factory=dict)
+
+    def __post_init__(self) -> None:
+        for cell in self.cells:
+            for bits in cell.outputs.values():
+                for bit in bits:
+                    if isinstance(bit, int):
+                        self.driver[bit] = cell
+
+    def place(self, cell: Cell) -> str:
+        """Where a cell comes from: its own place, that of the nearest named net, or the module's."""
+        if has_place(cell.attributes.get("src", "")):
+            return cell.attributes["src"]
+        named = {bit: net for net in self.nets if not net.hidden and has_place(net.src) for bit in net.bits}
+        readers: dict[Bit, list[Cell]] = {}
+        for other in self.cells:
+            for bits in other.inputs.values():
+                for bit in bits:
+                    readers.setdefault(bit, []).append(other)
+        waiting, seen = deque([cell]), {cell.name}
+        while waiting:
+            here = waiting.popleft()
+            for bits in list(here.outputs.values()) + list(here.inputs.values()):
+                for bit in bits:
+                    if bit in named and isinstance(bit, int):
+                        return f"{named[bit].src} (at {named[bit].name})"
+            for bits in here.outputs.values():
+                for bit in bits:
+                    for other in readers.get(bit, []):
+                        if other.name not in seen:
+                            seen.add(other.name)
+                            waiting.append(other)
+        return f"{self.src or '-'} (module {self.name})"
+
+
+def has_place(src: str) -> bool:
+    """Whether a text of places says more than that there is none."""
+    return bool(src) and ":0.0" not in src.split("|")[0]
+
+
+def read(path: Path, top: str) -> Netlist:
+    """Reads the module of that name from a file of `write_json`."""
+    module = json.loads(path.read_text())["modules"][top]
+    cells = []
+    for name, cell in module["cells"].items():
+        directions = cell.get("port_directions", {})
+        joined = cell["connections"]
+        cells.append(Cell(
+            name, cell["type"], cell["parameters"], cell["attributes"],
+            {port: bits for port, bits in joined.items() if directions.get(port) != "output"},
+            {port: bits for port, bits in joined.items() if directions.get(port) == "output"}))
+    ports = [Port(name, port["direction"], port["bits"]) for name, port in module["ports"].items()]
+    nets = [NamedNet(name, bool(net["hide_name"]), net["bits"], net["attributes"].get("src", ""),
+                     net["attributes"].get("init", "")) for name, net in module["netnames"].items()]
+    return Netlist(top, module["attributes"].get("src", ""), ports, cells, nets)

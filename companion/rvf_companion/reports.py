@@ -1,0 +1,156 @@
+"""The three reports of a run: for machines that read JUnit, for other scripts, and a page. Nothing here is trusted by a
+verdict."""
+from __future__ import annotations
+
+import json
+import os
+import re
+import shlex
+from dataclasses import dataclass, field
+from pathlib import Path
+from xml.etree import ElementTree
+
+from .configuration import Configuration
+from .dump import BrokenDump, read_dump
+from .explanation import explain
+from .findings import Asked, findings
+from .instructions import Options
+from .page import Shown, page
+from .picture import picture
+from .run_lines import Check, Run
+
+
+@dataclass(frozen=True)
+class Setting:
+    """Where the files of a run are, and what it was asked."""
+    outdir: Path
+    configuration: Configuration
+    cfg: str
+    program: str = "rvf"
+    core: str = "core"
+    basedir: str = "."
+    sums: dict = field(default_factory=dict)
+
+
+def kind_of(name: str) -> tuple[str, int]:
+    """The kind and the channel of a check's name."""
+    found = re.fullmatch(r"(.*)_ch(\d+)", name)
+    kind, channel = (found[1], int(found[2])) if found else (name, 0)
+    return ("insn" if kind.startswith("insn_") else kind), channel
+
+
+def options_of(setting: Setting, run: Run, kind: str) -> Options:
+    """The options of a check's text, as far as its lines and its files say them."""
+    text = "\n".join(setting.configuration.defines_of(kind))
+    for name in setting.configuration.files(setting.core, setting.basedir):
+        try:
+            text += "\n" + Path(name).read_text(errors="replace")
+        except OSError:
+            pass
+    aligned = re.search(r"^\s*`define\s+RISCV_FORMAL_ALIGNED_MEM\b", text, re.M) is not None
+    return Options(aligned, "altops" in run.notes, setting.configuration.isa.endswith("c"))
+
+
+def asked_of(setting: Setting, run: Run, name: str) -> Asked:
+    """What a check asks, by the configuration."""
+    kind, channel = kind_of(name)
+    depths: list[int] = []
+    for _, first, numbers in setting.configuration.depths():
+        if first == f"{kind}_ch{channel}" or first == kind and not depths:
+            depths = [int(word) for word in numbers if word.isdigit()]
+    nret = setting.configuration.options().get("nret", "1")
+    return Asked(kind, channel, int(nret) if nret.isdigit() else 1, depths, options_of(setting, run, kind))
+
+
+def shown(setting: Setting, run: Run, check: Check) -> Shown:
+    """What the page shows of a check: its files, and for a fail its trace."""
+    base = setting.outdir / check.name
+    quoted = shlex.quote(str(base))
+    found = Shown(check, kind=kind_of(check.name)[0])
+    if check.verdict != "fail":
+        found.clauses, found.steps = clauses_of(base.with_name(check.name + ".cnf")), steps_of(base.with_name(check.name + ".lrat"))
+        if check.verdict == "pass":
+            found.command = f"{setting.program} lrat {quoted}.cnf {quoted}.lrat"
+        return found
+    found.command = f"gtkwave {quoted}.vcd"
+    try:
+        dump = read_dump(base.with_name(check.name + ".vcd"))
+    except BrokenDump as fault:
+        found.lines = [f"the trace can't be shown: {fault}"]
+        return found
+    asked = asked_of(setting, run, check.name)
+    found.lines = findings(dump, asked)
+    found.picture = picture(dump, asked.channel, asked.channels)
+    return found
+
+
+def clauses_of(path: Path) -> int | None:
+    """How many clauses a clause file says that it has."""
+    try:
+        with path.open() as file:
+            for line in file:
+                if line.startswith("p cnf "):
+                    return int(line.split()[3])
+    except (OSError, ValueError, IndexError):
+        pass
+    return None
+
+
+def steps_of(path: Path) -> int | None:
+    """How many clauses the steps of a proof add."""
+    try:
+        with path.open() as file:
+            return sum(line.split(None, 2)[1:2] != ["d"] for line in file if line.strip())
+    except OSError:
+        return None
+
+
+def junit(run: Run, checks: list[Shown], explained: list[str]) -> str:
+    """The report in the form of JUnit: one case a check."""
+    broken = not run.total
+    suite = ElementTree.Element("testsuite", name="rvf", tests=str(len(checks) + broken), failures=str(run.count("fail")),
+                                errors=str(run.count("spent") + broken), skipped="0", time=f"{run.seconds:.3f}")
+    for one in checks:
+        check = one.check
+        case = ElementTree.SubElement(suite, "testcase", classname=one.kind, name=check.name, time=f"{check.seconds:.3f}")
+        if check.verdict == "fail":
+            ElementTree.SubElement(case, "failure", message="a run of the design violates the check").text = "\n".join(one.lines)
+        elif check.verdict == "spent":
+            ElementTree.SubElement(case, "error", message=f"the budget of {check.budget} clauses was used up").text = ""
+        told = []
+        if check.batch:
+            told.append(f"the time is that of a batch of up to {run.jobs} checks")
+        if check.kept:
+            told.append("kept from a run before this one")
+        if told:
+            ElementTree.SubElement(case, "system-out").text = "; ".join(told)
+    if broken:
+        case = ElementTree.SubElement(suite, "testcase", classname="run", name="end", time="0")
+        ElementTree.SubElement(case, "error", message=run.end()).text = "\n".join(explained)
+    ElementTree.indent(suite)
+    return '<?xml version="1.0" encoding="UTF-8"?>\n' + ElementTree.tostring(suite, encoding="unicode") + "\n"
+
+
+def as_json(setting: Setting, run: Run, checks: list[Shown], explained: list[str]) -> str:
+    """The report for other scripts."""
+    listed = [{"name": one.check.name, "kind": one.kind, "verdict": one.check.verdict, "seconds": round(one.check.seconds, 3),
+               "batch": one.check.batch, "kept": one.check.kept, "budget": one.check.budget, "clauses": one.clauses,
+               "steps": one.steps, "findings": one.lines, "command": one.command} for one in checks]
+    return json.dumps({"configuration": setting.cfg, "jobs": run.jobs, "code": run.code, "seconds": round(run.seconds, 3),
+                       "ended": run.ended(), "end": run.end(), "explained": explained, "notes": run.notes,
+                       "skipped": run.skipped, "others": run.others, "checks": listed, "sums": setting.sums}, indent=1) + "\n"
+
+
+def write_reports(setting: Setting, run: Run) -> list[Path]:
+    """Writes the three files, each as a whole or not at all."""
+    checks = [shown(setting, run, check) for check in run.checks]
+    explained = explain(run.refusal, setting.cfg) if run.refusal else []
+    texts = {"report.xml": junit(run, checks, explained), "report.json": as_json(setting, run, checks, explained),
+             "index.html": page(run, checks, explained, f"rvf run {setting.cfg}")}
+    written = []
+    for name, text in texts.items():
+        path, draft = setting.outdir / name, setting.outdir / f".{name}.new"
+        draft.write_text(text, encoding="utf-8")
+        os.replace(draft, path)
+        written.append(path)
+    return written

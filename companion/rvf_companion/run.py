@@ -1,0 +1,140 @@
+"""The command `run.py`: runs rvf, explains a refusal, and makes the reports. Nothing here is trusted by a verdict."""
+from __future__ import annotations
+
+import argparse
+import subprocess
+import sys
+import threading
+import time
+from dataclasses import replace
+from pathlib import Path
+
+from .again import Call, inputs_of, kept_checks, kind_of_line, outputs_of, reduced
+from .configuration import Configuration, read_configuration
+from .explanation import explain
+from .report import beside, progress
+from .reports import Setting, write_reports
+from .run_lines import Check, Run
+
+# The configuration that is run in the place of the caller's where some kinds are left out.
+REDUCED = "reduced.cfg"
+
+
+def arguments() -> argparse.ArgumentParser:
+    """The words of the command."""
+    words = argparse.ArgumentParser(prog="run.py", description=(
+        "Runs `rvf run`, passes its lines on, says a refusal in words, and makes report.xml, report.json and index.html in "
+        "OUTDIR. Ends with the program's code. Nothing of it is trusted by a verdict."))
+    words.add_argument("cfg", metavar="CFG", help="the configuration")
+    words.add_argument("outdir", metavar="OUTDIR", nargs="?", help="the folder for all files, which has to be there")
+    words.add_argument("--core", default="core", metavar="NAME", help="stands for @core@ (core)")
+    words.add_argument("--basedir", default=".", metavar="DIR", help="stands for @basedir@ (.)")
+    words.add_argument("--budget", type=int, default=200_000, metavar="N", help="clauses that each check may learn (200000)")
+    words.add_argument("--jobs", type=int, default=1, metavar="N", help="checks that are judged beside each other (1)")
+    words.add_argument("--rvf", default=beside(), metavar="PROGRAM", help="the program")
+    words.add_argument("--kinds", default="", metavar="KIND,..", help="these kinds alone, as insn or reg")
+    words.add_argument("--again", action="store_true", help="leaves out kinds whose checks stand from the run before: of the "
+                       "same configuration, files, options and program; a spent of a smaller budget is run again")
+    words.add_argument("--timeout", type=float, metavar="SECONDS", help="stops the program after so long")
+    words.add_argument("--list-kinds", action="store_true", help="prints the kinds of the configuration, for make")
+    return words
+
+
+def main(words: list[str] | None = None) -> int:
+    """Runs as the words say."""
+    asked = arguments().parse_args(words)
+    try:
+        configuration = read_configuration(Path(asked.cfg))
+        if asked.list_kinds:
+            print(" ".join(dict.fromkeys(kind_of_line(word) for _, word, _ in configuration.depths())))
+            return 0
+        if asked.outdir is None or not Path(asked.outdir).is_dir():
+            print(f"run: {asked.outdir or 'OUTDIR'} is no folder, so nothing was run", file=sys.stderr)
+            return 3
+        call = Call(asked.rvf, Path(asked.cfg), Path(asked.outdir), asked.core, asked.basedir, asked.budget, asked.jobs)
+        kinds = [kind for kind in asked.kinds.split(",") if kind]
+        return work(call, configuration, kinds, asked.again, asked.timeout)
+    except (OSError, UnicodeDecodeError) as fault:
+        print(f"run: {fault}", file=sys.stderr)
+        return 6
+
+
+def work(call: Call, configuration: Configuration, kinds: list[str], again: bool, timeout: float | None) -> int:
+    """Runs the kinds that are left, and makes the reports of these and of what is kept."""
+    listed, refused = names_of(call)
+    present = {kind_of_line(word) for _, word, _ in configuration.depths()}
+    unknown = [kind for kind in kinds if kind not in present]
+    if unknown:
+        print(f"run: the configuration has no kind {', '.join(unknown)}; it has {', '.join(sorted(present))}", file=sys.stderr)
+        return 3
+    wanted = [name for name in listed if not kinds or kind_of_line(name) in kinds]
+    kept = kept_checks(call, configuration, wanted) if again and not refused else []
+    leave = {kind_of_line(check.name) for check in kept} | (present - set(kinds) if kinds else set())
+    text, left = reduced(configuration, leave)
+    run = Run(jobs=max(1, call.jobs))
+    if left or not kept:
+        done = call
+        if leave:
+            done = replace(call, cfg=call.outdir / REDUCED)
+            done.cfg.write_text(text)
+        follow(done, run, len(wanted) - len(kept), timeout)
+    else:
+        run.total, run.code = "every check stands from the run before", 0
+    run.refusal = run.refusal.replace(f" {call.outdir / REDUCED}:", f" {call.cfg}:") if leave else run.refusal
+    return finish(call, configuration, run, kept, listed)
+
+
+def names_of(call: Call) -> tuple[list[str], bool]:
+    """The names of all checks by the program, and whether it refused."""
+    done = subprocess.run([call.program, "list", str(call.cfg)], capture_output=True, text=True, check=False)
+    return done.stdout.splitlines(), done.returncode != 0
+
+
+def follow(call: Call, run: Run, total: int, timeout: float | None) -> None:
+    """Runs the program and takes its lines as they come, which are passed on."""
+    words = [call.program, "run", str(call.cfg), str(call.outdir), "--core", call.core, "--basedir", call.basedir,
+             "--budget", str(call.budget), "--jobs", str(call.jobs)]
+    begun = time.monotonic()
+    with subprocess.Popen(words, stdout=subprocess.PIPE, text=True, errors="replace") as process:
+        clock = threading.Timer(timeout, process.terminate) if timeout else None
+        if clock:
+            clock.start()
+        try:
+            for line in process.stdout or []:
+                run.take(line.rstrip("\n"), time.monotonic() - begun)
+                print(line, end="", flush=True)
+                progress(run, total or None, sys.stderr)
+            code = process.wait()
+        finally:
+            if clock:
+                clock.cancel()
+    run.seconds = time.monotonic() - begun
+    run.code = code if code >= 0 else None
+    if code < 0:
+        run.others.append(f"the program was stopped by the signal {-code}" + (f" after {timeout:g} seconds" if timeout else ""))
+
+
+def finish(call: Call, configuration: Configuration, run: Run, kept: list[Check], listed: list[str]) -> int:
+    """Makes the reports and answers the code: the program's, or that of all checks where some are kept."""
+    order = {name: at for at, name in enumerate(listed)}
+    run.checks = sorted(run.checks + kept, key=lambda check: order.get(check.name, len(order)))
+    if run.refusal:
+        print("\n".join(explain(run.refusal, str(call.cfg))))
+    if not run.is_ours() and run.code not in (8, 11) and not kept:
+        first = f": the first line was {run.others[0]!r}" if run.others else ""
+        print(f"run: {call.program} doesn't answer as rvf does{first}; no report was written", file=sys.stderr)
+        return run.code if run.code else 1
+    if run.code in (8, 11) or not run.ended():
+        print(f"run: {run.end()}", file=sys.stderr)
+    sums = {"inputs": inputs_of(call, configuration), "outputs": outputs_of(call.outdir, run.checks)}
+    setting = Setting(call.outdir, configuration, str(call.cfg), call.program, call.core, call.basedir, sums)
+    try:
+        write_reports(setting, run)
+    except OSError as fault:
+        print(f"run: no report could be written: {fault}", file=sys.stderr)
+        return run.code if run.code else 8
+    if run.code is None:
+        return 1
+    if run.code > 2:
+        return run.code
+    return 1 if run.count("fail") else 2 if run.count("spent") else 0

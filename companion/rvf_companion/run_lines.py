@@ -1,0 +1,90 @@
+"""The lines of a run of rvf, with the time at which each came. Nothing here is trusted by a verdict."""
+from __future__ import annotations
+
+import re
+from dataclasses import dataclass, field
+
+from .explanation import parted
+
+CODES = {
+    0: "all checks pass", 1: "a check fails", 2: "no check fails, and one is spent", 3: "the words are refused",
+    4: "the configuration is refused", 5: "the text is refused", 6: "a file isn't there", 7: "a file could not be read",
+    8: "a file or the output could not be written: is there the folder, and room? What came before is whole",
+    9: "the design is too heavy for a check", 10: "the certificate is refused",
+    11: "no memory was left: fewer jobs, a smaller cycle or budget",
+}
+
+
+@dataclass
+class Check:
+    """A check with its verdict and the seconds that it took, or its batch."""
+    name: str
+    verdict: str
+    seconds: float
+    batch: bool = False
+    budget: int = 0
+    kept: bool = False
+
+
+@dataclass
+class Run:
+    """What the lines said so far."""
+    jobs: int = 1
+    checks: list[Check] = field(default_factory=list)
+    notes: list[str] = field(default_factory=list)
+    skipped: list[str] = field(default_factory=list)
+    others: list[str] = field(default_factory=list)
+    refusal: str = ""
+    total: str = ""
+    code: int | None = None
+    seconds: float = 0.0
+    _last: float = 0.0
+    _batch: float = 0.0
+
+    def take(self, line: str, at: float) -> None:
+        """Takes a line that came so many seconds after the run began; one that isn't known is kept as it is."""
+        self.seconds = at
+        found = re.fullmatch(r"(pass|fail) (\S+)|(spent) (\S+) (\d+)", line)
+        if found:
+            self._check(found[2] or found[4], found[1] or found[3], int(found[5] or 0), at)
+        elif line.startswith("note "):
+            self.notes.append(line[5:])
+        elif re.fullmatch(r"skip \S+", line):
+            self.skipped.append(line[5:])
+        elif re.fullmatch(r"total pass \d+ fail \d+ spent \d+ skip \d+", line):
+            self.total = line
+        elif not self.checks and parted(line):
+            self.refusal = line
+        elif line.strip():
+            self.others.append(line)
+
+    def _check(self, name: str, verdict: str, budget: int, at: float) -> None:
+        """A check's line; those of one batch come together, and have the batch's time."""
+        if len(self.checks) % self.jobs == 0:
+            self._batch = at - self._last
+        self.checks.append(Check(name, verdict, self._batch, self.jobs > 1, budget))
+        self._last = at
+
+    def is_ours(self) -> bool:
+        """Whether any line was one of rvf."""
+        return bool(self.checks or self.notes or self.skipped or self.refusal or self.total)
+
+    def ended(self) -> bool:
+        """Whether the last line came."""
+        return bool(self.total or self.refusal)
+
+    def end(self) -> str:
+        """How the run ended, in words."""
+        if self.code in (8, 11):
+            return f"code {self.code}: {CODES[self.code]}"
+        if self.refusal:
+            return f"refused: {self.refusal}"
+        if self.total:
+            return self.total
+        said = f" (code {self.code})" if self.code is not None else ""
+        return (f"the run ended without its last line{said}: it was stopped, a file or the output could not be written "
+                "(code 8), or no memory was left (code 11)")
+
+    def count(self, verdict: str) -> int:
+        """How many checks have a verdict."""
+        return sum(check.verdict == verdict for check in self.checks)

@@ -1,0 +1,80 @@
+"""Runs Yosys over the files of a core. Nothing here is trusted by a verdict."""
+from __future__ import annotations
+
+import re
+import subprocess
+from dataclasses import dataclass, field
+from pathlib import Path
+
+# The fields of RVFI with their widths, in the order of the macros of docs/USER.md.
+FIELDS = [("valid", 1), ("order", 64), ("insn", 32), ("trap", 1), ("halt", 1), ("intr", 1), ("mode", 2), ("ixl", 2),
+          ("rs1_addr", 5), ("rs2_addr", 5), ("rs1_rdata", 32), ("rs2_rdata", 32), ("rd_addr", 5), ("rd_wdata", 32),
+          ("pc_rdata", 32), ("pc_wdata", 32), ("mem_addr", 32), ("mem_rmask", 4), ("mem_wmask", 4), ("mem_rdata", 32),
+          ("mem_wdata", 32)]
+
+# What makes a flat netlist of processes; no pass that chooses for an undefined bit.
+FLATTEN = "proc -norom; flatten; memory_collect; opt_clean"
+
+
+class YosysFailed(Exception):
+    """Yosys isn't there, or refuses the files."""
+
+
+@dataclass(frozen=True)
+class Core:
+    """The files of a core, its top module, and what stands before them."""
+    top: str
+    files: list[Path]
+    defines: list[str] = field(default_factory=list)
+    parameters: dict[str, str] = field(default_factory=dict)
+    compressed: bool = False
+    channels: int = 1
+
+
+def macros(core: Core) -> str:
+    """The text that stands before the files: the predefined macros of docs/USER.md, and those of the configuration."""
+    many = core.channels
+    names = [(f"rvfi_{name}", width) for name, width in FIELDS]
+    outputs = ", ".join(f"output [{many * width - 1}:0] {name}" for name, width in names)
+    wires = " ".join(f"wire [{many * width - 1}:0] {name};" for name, width in names)
+    joined = ", ".join(f".{name}({name})" for name, _ in names)
+    lines = ["`define RISCV_FORMAL", f"`define RISCV_FORMAL_NRET {many}", "`define RISCV_FORMAL_XLEN 32",
+             "`define RISCV_FORMAL_ILEN 32", "`define rvformal_rand_reg (* anyseq *) reg",
+             "`define rvformal_const_rand_reg (* anyconst *) reg", "`define rvformal_rand_const_reg (* anyconst *) reg",
+             f"`define RVFI_OUTPUTS {outputs}", f"`define RVFI_WIRES {wires}", f"`define RVFI_CONN {joined}"]
+    if core.compressed:
+        lines.append("`define RISCV_FORMAL_COMPRESSED")
+    return "\n".join(lines + core.defines) + "\n"
+
+
+def script(core: Core, prelude: Path, before: Path, after: Path) -> str:
+    """The commands: the netlist is written before and after asynchronous resets are taken away."""
+    names = " ".join(quoted(path) for path in [prelude, *core.files])
+    lines = [f"read_verilog -formal -sv {names}"]
+    if core.parameters:
+        sets = " ".join(f"-set {name} {value}" for name, value in core.parameters.items())
+        lines.append(f"chparam {sets} {core.top}")
+    lines += [f"hierarchy -check -top {core.top}", FLATTEN, f"write_json {quoted(before)}",
+              f"async2sync; opt_clean; write_json {quoted(after)}"]
+    return "\n".join(lines) + "\n"
+
+
+def quoted(path: Path) -> str:
+    """A file name as a word of a script."""
+    return f'"{path}"'
+
+
+def run(core: Core, folder: Path) -> tuple[Path, Path]:
+    """Runs Yosys in the caller's folder, so that places are told by the names that the caller gave."""
+    prelude, before, after = folder / "macros.v", folder / "before.json", folder / "after.json"
+    prelude.write_text(macros(core))
+    commands = folder / "convert.ys"
+    commands.write_text(script(core, prelude, before, after))
+    try:
+        done = subprocess.run(["yosys", "-q", "-s", str(commands)], capture_output=True, text=True, check=False)
+    except FileNotFoundError:
+        raise YosysFailed("yosys isn't there: install Debian's package yosys") from None
+    if done.returncode:
+        said = [line for line in (done.stdout + done.stderr).splitlines() if re.search(r"ERROR|error", line)]
+        raise YosysFailed("\n".join(said) or (done.stdout + done.stderr)[-2000:])
+    return before, after
