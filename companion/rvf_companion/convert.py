@@ -13,6 +13,7 @@ from .loops import cut_loops
 from .memories import Memory, memory_problems, write_memory
 from .names import Names
 from .netlist import Bit, Cell, NamedNet, Netlist
+from .registers import plain_registers
 from .text import (MOST_NAMES, MOST_REGISTER_BITS, MOST_WEIGHT, WIDEST, Refused, Signal, Start, Text, in_parts,
                    joined, ranged)
 
@@ -55,7 +56,7 @@ class Converter:
         self.text = Text(self.names)
         self.problems: list[str] = []
         self.claims = sum(cell.kind in CLAIMS for cell in netlist.cells)
-        self.cells = [cell for cell in netlist.cells if cell.kind not in CLAIMS]
+        self.cells = plain_registers([cell for cell in netlist.cells if cell.kind not in CLAIMS])
         self.inits = {bit: value for net in netlist.nets for bit, value in zip(net.bits, reversed(net.init))
                       if isinstance(bit, int) and value in "01"}
         self.public = [net for net in netlist.nets if not net.hidden]
@@ -72,6 +73,7 @@ class Converter:
         self.check_ports()
         self.check_cells()
         self.find_clock()
+        self.check_registers()
         self.stop_at_problems()
         self.cells = [self.in_its_cycle(cell) if cell.kind == "$assume" else cell for cell in self.cells]
         self.stop_at_problems()
@@ -155,7 +157,7 @@ class Converter:
     def in_its_cycle(self, cell: Cell) -> Cell:
         """An assumption of a clocked block stands behind registers, a cycle late: takes what these are given."""
         bits = {port: cell.inputs[port][0] for port in ("A", "EN")}
-        late = {port: self.late_register(bit, ending) for (port, bit), ending in zip(bits.items(), ("_CHECK", "_EN"))}
+        late = {port: self.late_register(cell, bit, ending) for (port, bit), ending in zip(bits.items(), ("_CHECK", "_EN"))}
         if any(late.values()):
             for port, bit in bits.items():
                 if late[port]:
@@ -164,16 +166,17 @@ class Converter:
                     self.refuse(cell, "an assumption that is a cycle late in a part")
         return Cell(cell.name, cell.kind, cell.parameters, cell.attributes, {port: [bit] for port, bit in bits.items()}, {})
 
-    def late_register(self, bit: Bit, ending: str) -> Cell | None:
+    def late_register(self, cell: Cell, bit: Bit, ending: str) -> Cell | None:
         """The register that Yosys put before an assumption, if the bit is one's."""
         named = [net for net in self.netlist.nets if bit in net.bits]
         if not isinstance(bit, int) or any(not net.hidden for net in named):
             return None
         if not any(net.name.endswith(ending) for net in named):
             return None
-        driver = self.netlist.driver.get(bit)
+        driver = next((other for other in self.cells if bit in other.outputs.get("Q", [])), None)
         if driver is None or driver.kind != "$dff":
-            raise Refused([f"an assumption of a block with an asynchronous event: {named[0].name} at {named[0].src}"])
+            self.refuse(cell, "an assumption of a block with an asynchronous event")
+            return None
         return driver
 
     def is_hidden_and_unread(self, cell: Cell) -> bool:
@@ -294,13 +297,17 @@ class Converter:
                 self.text.declared.append(f"wire {ranged(len(part))}{name};")
                 self.text.items.append(f"assign {name} = {self.text.spell(part)};")
 
+    def check_registers(self) -> None:
+        """More bits of registers than the subset has are told with the largest ones."""
+        sizes = sorted(of_cells.register_sizes(self.cells), reverse=True)
+        many = sum(count for count, _ in sizes)
+        if many > MOST_REGISTER_BITS:
+            told = ", ".join(f"{name} {count}" for count, name in sizes[:3])
+            self.problems.append(f"{many} bits of registers, above {MOST_REGISTER_BITS}; the largest: {told}")
+
     def check_limits(self) -> None:
-        """What passes the limits of the subset is told before the program tells it."""
+        """What else passes the limits of the subset is told before the program tells it."""
         text = self.text
-        if text.register_bits > MOST_REGISTER_BITS:
-            most = sorted(of_cells.register_sizes(self.cells), reverse=True)[:3]
-            told = ", ".join(f"{name} {count}" for count, name in most)
-            self.problems.append(f"{text.register_bits} bits of registers, above {MOST_REGISTER_BITS}; the largest: {told}")
         names = len(self.names.table) + text.memory_words
         if names > MOST_NAMES:
             self.problems.append(f"{names} names, above {MOST_NAMES}; {text.memory_words} of them words of memories")

@@ -83,7 +83,7 @@ class Text:
         self.register_bits = 0
         self.memory_words = 0
         self.weights: Counter[str] = Counter()
-        self._fresh = 0
+        self._fresh = -1_000_000_000
 
     def weight(self) -> int:
         """About the gates of the text, as the program counts them."""

@@ -32,13 +32,14 @@ class Core:
 
 
 def macros(core: Core) -> str:
-    """The text that stands before the files: the predefined macros of docs/USER.md, and those of the configuration."""
+    """The text that stands before the files: the predefined macros of docs/USER.md, and those of the configuration. Yosys
+    defines FORMAL by itself, which rvf doesn't, and with which some cores assume more than they say else."""
     many = core.channels
     names = [(f"rvfi_{name}", width) for name, width in FIELDS]
     outputs = ", ".join(f"output [{many * width - 1}:0] {name}" for name, width in names)
     wires = " ".join(f"wire [{many * width - 1}:0] {name};" for name, width in names)
     joined = ", ".join(f".{name}({name})" for name, _ in names)
-    lines = ["`define RISCV_FORMAL", f"`define RISCV_FORMAL_NRET {many}", "`define RISCV_FORMAL_XLEN 32",
+    lines = ["`undef FORMAL", "`define RISCV_FORMAL", f"`define RISCV_FORMAL_NRET {many}", "`define RISCV_FORMAL_XLEN 32",
              "`define RISCV_FORMAL_ILEN 32", "`define rvformal_rand_reg (* anyseq *) reg",
              "`define rvformal_const_rand_reg (* anyconst *) reg", "`define rvformal_rand_const_reg (* anyconst *) reg",
              f"`define RVFI_OUTPUTS {outputs}", f"`define RVFI_WIRES {wires}", f"`define RVFI_CONN {joined}"]
@@ -49,8 +50,7 @@ def macros(core: Core) -> str:
 
 def script(core: Core, prelude: Path, before: Path, after: Path) -> str:
     """The commands: the netlist is written before and after asynchronous resets are taken away."""
-    names = " ".join(quoted(path) for path in [prelude, *core.files])
-    lines = [f"read_verilog -formal -sv {names}"]
+    lines = [f"read_verilog -formal -sv {quoted(prelude)}"]
     if core.parameters:
         sets = " ".join(f"-set {name} {value}" for name, value in core.parameters.items())
         lines.append(f"chparam {sets} {core.top}")
@@ -67,7 +67,11 @@ def quoted(path: Path) -> str:
 def run(core: Core, folder: Path) -> tuple[Path, Path]:
     """Runs Yosys in the caller's folder, so that places are told by the names that the caller gave."""
     prelude, before, after = folder / "macros.v", folder / "before.json", folder / "after.json"
-    prelude.write_text(macros(core))
+    # One text, as it is one for rvf; places are those of the files that are put in.
+    missing = [str(path) for path in core.files if not path.is_file()]
+    if missing:
+        raise YosysFailed(f"no such file: {', '.join(missing)}")
+    prelude.write_text(macros(core) + "".join(f"`include \"{path}\"\n" for path in core.files))
     commands = folder / "convert.ys"
     commands.write_text(script(core, prelude, before, after))
     try:

@@ -25,7 +25,8 @@ def words(*names: str) -> list[tuple[int, int]]:
     return [PATTERNS[name] for name in names]
 
 
-KNOWN = {
+KNOWN: dict[str, list[tuple[int, int]]] = {
+    "operators": [],
     "mini": words("lui", "addi", "add", "few", "beq_aligned"),
     "styled": words("lui", "addi", "xori", "add", "sub", "few", "beq_aligned"),
     "states": words("lui", "andi", "ori", "and", "or", "jal_aligned"),
@@ -36,5 +37,5 @@ KNOWN = {
 def core(name: str) -> Core:
     """A core of this folder, or of the repository's examples."""
     at = {"mini": REPOSITORY / "examples" / "mini" / "mini.v", "styled": CORES / "styled.sv", "states": CORES / "states.v",
-          "serial": CORES / "serial.v"}
+          "serial": CORES / "serial.v", "operators": CORES / "operators.v"}
     return Core(name, [at[name]])

@@ -31,15 +31,17 @@ def random_bits(width: int) -> str:
     return "{" + ", ".join(["$urandom"] * ((width + 31) // 32)) + "}"
 
 
-def begin(start: Start, lines: list[str], scope: str) -> None:
-    """The lines that give both sides one random number in a register, or in each word of a memory."""
+def begin(start: Start, lines: list[str], is_named: bool) -> None:
+    """The lines that give both sides one random number in a register, or in each word of a memory; a register that the text
+    has no name for is on the converted side alone."""
     old = ".".join(part if re.fullmatch(r"\w+", part) else f"\\{part} " for part in start.old.split("."))
     for index in start.words if start.words is not None else [None]:
         word = "" if index is None else f"[{index}]"
         part = "" if start.width == start.whole else f"[{start.low + start.width - 1}:{start.low}]"
         lines.append(f"number = {random_bits(start.width)};")
-        lines.append(f"{scope}original.{old}{word}{part} = number[{start.width - 1}:0];")
-        lines.append(f"{scope}converted.{start.name}{word} = number[{start.width - 1}:0];")
+        if is_named:
+            lines.append(f"original.{old}{word}{part} = number[{start.width - 1}:0];")
+        lines.append(f"converted.{start.name}{word} = number[{start.width - 1}:0];")
 
 
 def bench(netlist: Netlist, made: Converted, cycles: int) -> str:
@@ -49,9 +51,10 @@ def bench(netlist: Netlist, made: Converted, cycles: int) -> str:
     size = sum(len(port.bits) for port in inputs)
     many = sum(len(port.bits) for port in outputs)
     starts: list[str] = []
+    named = {net.name for net in netlist.nets if not net.hidden}
     for start in made.starts:
         if not start.is_known:
-            begin(start, starts, "")
+            begin(start, starts, start.words is not None or start.old in named)
     ports = "".join(f", .{port.name}(in_{port.name})" for port in inputs)
     declared = [f"reg [{len(port.bits) - 1}:0] in_{port.name};" for port in inputs]
     sides = {}
@@ -95,7 +98,7 @@ def given(netlist: Netlist, made: Converted, cycles: int, values: dict[str, list
                 value = int(cycle == 0 or chance.random() < 0.004)
             elif port.name == "resetn":
                 value = int(cycle > 3 and chance.random() >= 0.004)
-            elif port.name in values and chance.random() < 0.97:
+            elif values.get(port.name) and chance.random() < 0.97:
                 pattern, free = chance.choice(values[port.name])
                 value = pattern | value & free
             number = number << width | value

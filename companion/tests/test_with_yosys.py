@@ -1,6 +1,7 @@
 """Converts cores by Yosys and compares them with what was converted in Icarus Verilog."""
 from __future__ import annotations
 
+import os
 import shutil
 import tempfile
 import unittest
@@ -8,37 +9,53 @@ from pathlib import Path
 
 from rvf_companion.convert import convert
 from rvf_companion.netlist import read
-from rvf_companion.yosys import run
+from rvf_companion.yosys import Core, run
 
-from . import cores, simulate
+from . import cores, debian, simulate
 
 
-@unittest.skipUnless(shutil.which("yosys") and shutil.which("iverilog"), "yosys and iverilog aren't there")
+@unittest.skipUnless(shutil.which("yosys") and shutil.which("iverilog"), "yosys or iverilog isn't there")
 class EqualInSimulation(unittest.TestCase):
     """Ten thousand random cycles show no difference between a core and what was converted of it."""
 
-    def compare(self, name: str) -> None:
+    def compare(self, core: Core, values: dict[str, list[tuple[int, int]]]) -> None:
         """Converts a core and compares both sides."""
         with tempfile.TemporaryDirectory() as folder:
-            core = cores.core(name)
             _, after = run(core, Path(folder))
-            netlist = read(after, name)
-            made = convert(netlist, f"From {name}")
-            found = simulate.compare(Path(folder), core, netlist, made, {"word": cores.KNOWN[name]})
+            netlist = read(after, core.top)
+            made = convert(netlist, f"From {core.top}")
+            found = simulate.compare(Path(folder), core, netlist, made, values)
         self.assertEqual((found.cycles, found.different), (10_000, 0), found.said)
+
+    def of_here(self, name: str) -> None:
+        """One of the cores of this repository."""
+        self.compare(cores.core(name), {"word": cores.KNOWN[name]})
 
     def test_mini(self) -> None:
         """The small core of the examples."""
-        self.compare("mini")
+        self.of_here("mini")
 
     def test_styled(self) -> None:
         """A core in the style of SystemVerilog."""
-        self.compare("styled")
+        self.of_here("styled")
 
     def test_states(self) -> None:
         """A core of several cycles with a machine of states and casez."""
-        self.compare("states")
+        self.of_here("states")
 
     def test_serial(self) -> None:
         """A core that works bit by bit, with its registers in one vector."""
-        self.compare("serial")
+        self.of_here("serial")
+
+    def test_operators(self) -> None:
+        """Every operator, also over vectors above 128 bits."""
+        self.of_here("operators")
+
+    @unittest.skipUnless(os.environ.get("COMPANION_NETWORK"), "COMPANION_NETWORK isn't set, so Debian's sources aren't fetched")
+    def test_picorv32(self) -> None:
+        """PicoRV32 as it stands in Debian's source package of nextpnr."""
+        with tempfile.TemporaryDirectory() as folder:
+            path = debian.fetch("nextpnr", debian.PICORV32, Path(folder))
+            core = Core("picorv32", [path], parameters={"BARREL_SHIFTER": "1"})
+            self.compare(core, {"mem_rdata": cores.words(*cores.MOST, "any"), "mem_ready": [(1, 0), (0, 1)], "irq": [(0, 0)],
+                                "pcpi_wr": [(0, 0)], "pcpi_ready": [(0, 0)], "pcpi_wait": [(0, 0)]})

@@ -1,0 +1,156 @@
+"""Conversions of stored netlists: what is written, what is refused, and the names."""
+from __future__ import annotations
+
+import re
+import unittest
+from pathlib import Path
+
+from rvf_companion.convert import Converted, convert
+from rvf_companion.names import RESERVED, Names, legal
+from rvf_companion.netlist import read
+from rvf_companion.text import Refused, Text
+
+NETLISTS = Path(__file__).resolve().parent.parent / "data" / "netlists"
+
+
+def converted(name: str, top: str = "") -> Converted:
+    """What is made of a stored netlist."""
+    return convert(read(NETLISTS / f"{name}.json", top or name), "From a stored netlist")
+
+
+def refused(name: str) -> list[str]:
+    """Why a stored netlist is refused."""
+    try:
+        converted(name)
+    except Refused as refusal:
+        return refusal.problems
+    return []
+
+
+class NamesOfNetlists(unittest.TestCase):
+    """Legal names that tell what they were."""
+
+    def test_legal(self) -> None:
+        """Dots, backslashes and signs become underscores, words of Verilog get one."""
+        for old, new in [("uut.pc", "uut__pc"), ("\\a+b", "a_b"), ("$add$/tmp/core.v:3$5_Y", "add_core__v_3_5_Y"), ("reg", "reg_"),
+                         ("logic", "logic_"), ("3d", "n_3d"), ("$0\\pc[31:0]", "pc_next"), ("$1\\x[3:0]$17", "x_next"),
+                         ("$flatten\\uut.$procmux$5", "uut__procmux_5"), ("$$", "unnamed")]:
+            self.assertEqual(legal(old), new)
+
+    def test_once(self) -> None:
+        """No name is given twice, and the table has what each was."""
+        names = Names()
+        self.assertEqual([names.take("a.b"), names.take("a__b"), names.take("a.b")], ["a__b", "a__b_2", "a__b_3"])
+        self.assertEqual(names.table, {"a__b": "a.b", "a__b_2": "a__b", "a__b_3": "a.b"})
+        self.assertFalse(names.keep("module"))
+
+
+class Written(unittest.TestCase):
+    """What is written of cores."""
+
+    def test_ports_stay(self) -> None:
+        """The module has its name and its ports."""
+        text = converted("states").text
+        self.assertRegex(text, r"module states \(\n  input clock,\n  input reset,\n  input \[31:0\] word,\n")
+        self.assertIn("output reg [63:0] rvfi_order", text)
+
+    def test_legal(self) -> None:
+        """Each declared name is legal and stands once, and no vector is above 128 bits."""
+        for name in ("styled", "states", "serial", "operators"):
+            made = converted(name)
+            found = re.findall(r"^  (?:wire|reg|\(\* any\w+ \*\) reg) (?:\[(\d+):0\] )?([A-Za-z_]\w*)(?: \[\d+:\d+\])?;",
+                               made.text, re.M)
+            names = [spelled for _, spelled in found]
+            self.assertEqual(len(names), len(set(names)))
+            self.assertFalse(RESERVED & set(names))
+            self.assertTrue(set(names) <= set(made.names))
+            self.assertLessEqual(max(int(high or 0) for high, _ in found), 127)
+            self.assertTrue(made.text.isascii())
+
+    def test_names_tell(self) -> None:
+        """Registers and memories have the names of the text."""
+        text = converted("states").text
+        for part in ("reg [31:0] registers [1:31];", "reg [1:0] state;", "reg [31:0] ir;", "initial"):
+            (self.assertNotIn if part == "initial" else self.assertIn)(part, text)
+
+    def test_wide_vector(self) -> None:
+        """A vector of 1,024 bits becomes eight, numbered in their names."""
+        text = converted("serial").text
+        for index in range(8):
+            self.assertIn(f"reg [127:0] registers_{index};", text)
+
+    def test_start_in_part(self) -> None:
+        """Initial values that are undefined in part are given bit by bit."""
+        text = converted("operators").text
+        for part in ("initial half[0] = 1'b1;", "initial half[1] = 1'b0;", "initial half[3] = 1'b1;", "initial half[10] = 1'b0;",
+                     "words_0[3] = 128'h9abcdef0123456789abcdef01234;"[:0] + "words_0[4][1] = 1'b1;"):
+            self.assertIn(part, text)
+        self.assertNotIn("initial half[4]", text)
+
+    def test_assumption(self) -> None:
+        """An assumption of a clocked block is demanded in its own cycle: no register stands before it."""
+        text = converted("assumed", "rvfi_wrapper").text
+        self.assertEqual(len(re.findall(r"always @\* assume \(", text)), 1)
+        self.assertNotIn("posedge", text)
+
+    def test_undefined(self) -> None:
+        """An undefined bit becomes a free name; no digit x is left."""
+        made = converted("states")
+        self.assertRegex(made.text, r"\(\* anyseq \*\) reg (\[\d+:0\] )?undefined")
+        self.assertNotRegex(made.text, r"'[bh][0-9a-f]*x")
+        count = sum(signal.width for signal in made.free_names if signal.name.startswith("undefined"))
+        self.assertTrue(made.notes[0].startswith(f"{count} undefined bits"))
+
+    def test_loop_of_one_vector(self) -> None:
+        """A vector that is computed bit after bit is cut into bits, so that no driver reads what it drives."""
+        text = converted("operators").text
+        self.assertRegex(text, r"_bit_3")
+
+
+class RefusedByName(unittest.TestCase):
+    """What can't be converted is refused by name and place."""
+
+    def test_each(self) -> None:
+        """One netlist for each cause."""
+        for name, words in [("latch", "a latch: "), ("falling", "a register of the negative edge: "),
+                            ("clocks", "a register of a second clock: "), ("derived", "a clock that is no input"),
+                            ("tristate", "a tristate"), ("wide", "a port of 201 bits: a of wide"),
+                            ("circle", "a loop without a register"), ("large", "2097152 bits of registers, above 65536"),
+                            ("late", "an assumption of a block with an asynchronous event")]:
+            with self.subTest(name):
+                problems = refused(name)
+                self.assertTrue(any(words in problem for problem in problems), problems)
+
+    def test_arithmetic(self) -> None:
+        """Division, remainder and power, all told at once, and a sum that can't be cut."""
+        said = "\n".join(refused("division"))
+        for part in ("a division", "a remainder", "a power", "division.v:2"):
+            self.assertIn(part, said)
+        self.assertIn("arithmetic of 160 bits", "\n".join(refused("wide")))
+
+    def test_place(self) -> None:
+        """The place is that of the text, or of the nearest named net where the cell has none."""
+        self.assertIn("falling.v:2", refused("falling")[0])
+        netlist = read(NETLISTS / "falling.json", "falling")
+        cell = netlist.cells[0]
+        cell.attributes["src"] = "falling.v:0.0-0.0"
+        self.assertIn("falling.v:1", netlist.place(cell))
+
+
+class Spelled(unittest.TestCase):
+    """How lists of bits are spelled."""
+
+    def test_runs(self) -> None:
+        """Parts, copies and digits, the highest first."""
+        text = Text(Names())
+        bits = [10, 11, 12, 13]
+        text.declare("a", bits, "wire")
+        self.assertEqual(text.spell(bits), "a")
+        self.assertEqual(text.spell([12, 13]), "a[3:2]")
+        self.assertEqual(text.spell([10, 11, "0", "1", "0", "0", "0"]), "{5'h2, a[1:0]}")
+        self.assertEqual(text.spell([13, 13, 13]), "{3{a[3]}}")
+        self.assertEqual(text.spell(["1"]), "1'b1")
+        self.assertEqual(text.spell(["x", "x", 10]), "{a[0], undefined}")
+        self.assertEqual(text.undefined, 2)
+        with self.assertRaises(Refused):
+            text.spell(["z"])

@@ -1,0 +1,176 @@
+"""Runs and reports over a program that stands in for rvf."""
+from __future__ import annotations
+
+import contextlib
+import io
+import json
+import os
+import stat
+import sys
+import tempfile
+import unittest
+from pathlib import Path
+from unittest import mock
+from xml.etree import ElementTree
+
+from rvf_companion import report, run
+
+CFG = """# a comment
+[options]
+isa rv32i
+
+[depth]
+insn 1
+ill 1
+reg 1 1
+
+[verilog-files]
+core.v
+"""
+SCRIPT = ["skip hang", "pass insn_lui_ch0", "fail insn_addi_ch0", "pass ill_ch0", "spent reg_ch0 100",
+          "total pass 2 fail 1 spent 1 skip 1", "code 1"]
+
+
+class Runs(unittest.TestCase):
+    """A folder with a configuration, a file, and a program."""
+
+    def setUp(self) -> None:
+        """Makes the folder and goes there."""
+        kept = tempfile.TemporaryDirectory()
+        self.addCleanup(kept.cleanup)
+        self.folder = Path(kept.name)
+        (self.folder / "checks.cfg").write_text(CFG)
+        (self.folder / "core.v").write_text("module rvfi_wrapper;\n  wire 3;\nendmodule\n")
+        (self.folder / "out").mkdir()
+        self.program = self.folder / "rvf"
+        self.program.write_text(f"#!/bin/sh\nexec {sys.executable} {Path(__file__).with_name('stand_in.py')} \"$@\"\n")
+        self.program.chmod(self.program.stat().st_mode | stat.S_IXUSR)
+        self.script(SCRIPT)
+        before = os.getcwd()
+        os.chdir(self.folder)
+        self.addCleanup(os.chdir, before)
+
+    def script(self, lines: list[str]) -> None:
+        """What the program answers."""
+        (self.folder / "script").write_text("\n".join(lines) + "\n")
+
+    def run_it(self, *words: str) -> tuple[int, str, str]:
+        """The code of run.py, and what it says."""
+        out, err = io.StringIO(), io.StringIO()
+        with contextlib.redirect_stdout(out), contextlib.redirect_stderr(err):
+            code = run.main(["checks.cfg", "out", "--rvf", str(self.program), *words])
+        return code, out.getvalue(), err.getvalue()
+
+    def report_it(self, lines: str, *words: str) -> tuple[int, str]:
+        """The code of report.py over these lines, and what it says of what is wrong."""
+        err = io.StringIO()
+        with contextlib.redirect_stdout(io.StringIO()), contextlib.redirect_stderr(err), \
+                mock.patch("sys.stdin", io.StringIO(lines)):
+            code = report.main(["out", "--cfg", "checks.cfg", "--rvf", str(self.program), *words])
+        return code, err.getvalue()
+
+    def json(self) -> dict:
+        """The written report."""
+        return json.loads((self.folder / "out" / "report.json").read_text())
+
+    def page(self) -> str:
+        """The written page."""
+        return (self.folder / "out" / "index.html").read_text()
+
+    def test_whole(self) -> None:
+        """All lines come through, and all three reports have each check."""
+        code, out, _ = self.run_it()
+        self.assertEqual((code, out.splitlines()), (1, SCRIPT[:-1]))
+        checks = {one["name"]: one for one in self.json()["checks"]}
+        self.assertEqual([one["verdict"] for one in checks.values()], ["pass", "fail", "pass", "spent"])
+        self.assertEqual((checks["ill_ch0"]["clauses"], checks["ill_ch0"]["steps"]), (2, 1))
+        self.assertIn("lrat out/ill_ch0.cnf out/ill_ch0.lrat", checks["ill_ch0"]["command"])
+        self.assertEqual(checks["insn_addi_ch0"]["command"], "gtkwave out/insn_addi_ch0.vcd")
+        self.assertIn("rvfi_rd_wdata is 0x6, and the instruction asks for 0x5", checks["insn_addi_ch0"]["findings"])
+        suite = ElementTree.parse(self.folder / "out" / "report.xml").getroot()
+        self.assertEqual((suite.get("tests"), suite.get("failures"), suite.get("errors")), ("4", "1", "1"))
+        for part in ('data-name="insn_lui_ch0"', "<svg", "addi x1, x0, 5", "gtkwave out/insn_addi_ch0.vcd", "hang"):
+            self.assertIn(part, self.page())
+        self.assertNotIn("http://", self.page().replace("http://www.w3.org/2000/svg", ""))
+
+    def test_again(self) -> None:
+        """What stands isn't run again; a spent of a smaller budget is, and so is all where a file changed."""
+        self.run_it("--budget", "100")
+        code, out, _ = self.run_it("--again", "--budget", "100")
+        self.assertEqual((code, out), (1, ""))
+        self.assertEqual([one["kept"] for one in self.json()["checks"]], [True] * 4)
+        code, out, _ = self.run_it("--again", "--budget", "200")
+        self.assertEqual([line for line in out.splitlines() if line.startswith(("pass", "fail", "spent"))], ["spent reg_ch0 100"])
+        self.assertEqual(len((self.folder / "out" / "reduced.cfg").read_text().splitlines()), len(CFG.splitlines()))
+        (self.folder / "out" / "ill_ch0.lrat").write_text("")
+        _, out, _ = self.run_it("--again", "--budget", "100")
+        self.assertIn("pass ill_ch0", out)
+        self.assertNotIn("insn", out)
+        (self.folder / "core.v").write_text("module rvfi_wrapper;\nendmodule\n")
+        _, out, _ = self.run_it("--again", "--budget", "100")
+        self.assertIn("pass insn_lui_ch0", out)
+
+    def test_kinds(self) -> None:
+        """Kinds alone; a kind that isn't there is refused."""
+        code, out, _ = self.run_it("--kinds", "ill")
+        self.assertEqual([line for line in out.splitlines() if line.startswith("pass")], ["pass ill_ch0"])
+        code, _, err = self.run_it("--kinds", "pc_fwd")
+        self.assertEqual(code, 3)
+        self.assertIn("pc_fwd", err)
+
+    def test_refusal(self) -> None:
+        """A refusal is said in words, and the reports have it."""
+        self.script(["source parse 1 core.v:2:8 -", "code 5"])
+        code, out, _ = self.run_it()
+        self.assertEqual(code, 5)
+        self.assertIn("    2 |   wire 3;\n      |        ^\n", out)
+        self.assertIn("wire 3;", self.page())
+
+    def test_cut_off(self) -> None:
+        """A run that ends without its last line, or by the codes without a line, says so."""
+        self.script(["pass insn_lui_ch0", "code 8"])
+        code, _, err = self.run_it()
+        self.assertEqual(code, 8)
+        self.assertIn("could not be written", err)
+        self.script(["pass insn_lui_ch0", "code 11"])
+        self.assertEqual(self.run_it()[0], 11)
+        self.assertIn("no memory was left", self.page())
+
+    def test_timeout(self) -> None:
+        """A program that goes on too long is stopped; what it said stands."""
+        self.script(["pass insn_lui_ch0", "sleep 60"])
+        code, _, err = self.run_it("--timeout", "3")
+        self.assertEqual(code, 1)
+        self.assertIn("ended without its last line", err)
+        self.assertEqual([one["name"] for one in self.json()["checks"]], ["insn_lui_ch0"])
+
+    def test_another_program(self) -> None:
+        """Lines of another program are told, and a report that stands isn't touched."""
+        self.run_it()
+        before = self.page()
+        self.script(["hello", "code 0"])
+        code, _, err = self.run_it()
+        self.assertEqual(code, 1)
+        self.assertIn("'hello'", err)
+        code, err = self.report_it("hello\nworld\n")
+        self.assertEqual(code, 1)
+        self.assertIn("no line was one of rvf", err)
+        self.assertEqual(self.page(), before)
+
+    def test_pipe(self) -> None:
+        """From a pipe, without a code: what is missing is told, an unknown line is shown."""
+        code, _ = self.report_it("note altops\npass ill_ch0\nstrange <line>\n", "--jobs", "2")
+        self.assertEqual(code, 0)
+        for part in ("strange &lt;line&gt;", "ended without its last line", "(its batch)", "note altops"):
+            self.assertIn(part, self.page())
+
+    def test_missing(self) -> None:
+        """A missing folder, a missing configuration and a broken dump are told."""
+        with contextlib.redirect_stderr(io.StringIO()) as err:
+            self.assertEqual(run.main(["checks.cfg", "nowhere", "--rvf", str(self.program)]), 3)
+            self.assertEqual(run.main(["nowhere.cfg", "out", "--rvf", str(self.program)]), 6)
+        self.assertIn("nowhere", err.getvalue())
+        self.run_it()
+        (self.folder / "out" / "insn_addi_ch0.vcd").write_text("no dump\n")
+        self.report_it("\n".join(SCRIPT[:-1]))
+        self.assertIn("the trace can&#x27;t be shown", self.page())
