@@ -1,8 +1,6 @@
 """Converts cores by Yosys and compares them with what was converted in Icarus Verilog."""
 from __future__ import annotations
 
-import os
-import shutil
 import tempfile
 import unittest
 from pathlib import Path
@@ -12,9 +10,9 @@ from rvf_companion.netlist import read
 from rvf_companion.yosys import Core, run
 
 from . import cores, debian, simulate
+from .needs import needs
 
 
-@unittest.skipUnless(shutil.which("yosys") and shutil.which("iverilog"), "yosys or iverilog isn't there")
 class EqualInSimulation(unittest.TestCase):
     """Ten thousand random cycles show no difference between a core and what was converted of it."""
 
@@ -31,27 +29,32 @@ class EqualInSimulation(unittest.TestCase):
         """One of the cores of this repository."""
         self.compare(cores.core(name), {"word": cores.KNOWN[name]})
 
+    @needs("yosys", "iverilog")
     def test_mini(self) -> None:
         """The small core of the examples."""
         self.of_here("mini")
 
+    @needs("yosys", "iverilog")
     def test_styled(self) -> None:
         """A core in the style of SystemVerilog."""
         self.of_here("styled")
 
+    @needs("yosys", "iverilog")
     def test_states(self) -> None:
         """A core of several cycles with a machine of states and casez."""
         self.of_here("states")
 
+    @needs("yosys", "iverilog")
     def test_serial(self) -> None:
         """A core that works bit by bit, with its registers in one vector."""
         self.of_here("serial")
 
+    @needs("yosys", "iverilog")
     def test_operators(self) -> None:
         """Every operator, also over vectors above 128 bits."""
         self.of_here("operators")
 
-    @unittest.skipUnless(os.environ.get("COMPANION_NETWORK"), "COMPANION_NETWORK isn't set, so Debian's sources aren't fetched")
+    @needs("yosys", "iverilog", "network")
     def test_picorv32(self) -> None:
         """PicoRV32 as it stands in Debian's source package of nextpnr."""
         with tempfile.TemporaryDirectory() as folder:
