@@ -39,6 +39,8 @@ def uncuttable(cell: Cell) -> str:
         return f"a comparison of {widest} bits, which can't be cut"
     if cell.kind in ("$add", "$sub", "$mul", "$neg") and max(widest, len(cell.outputs["Y"])) > WIDEST:
         return f"arithmetic of {max(widest, len(cell.outputs['Y']))} bits, which can't be cut"
+    if cell.kind in SHIFTS and len(cell.inputs["B"]) > WIDEST:
+        return f"a shift by a number of {len(cell.inputs['B'])} bits"
     return ""
 
 
@@ -232,7 +234,7 @@ def write_shift(converter: "Converter", cell: Cell, bits: list[Bit]) -> None:
     if width <= WIDEST and not varying and (kind != "$shiftx" or within):
         padded = extended(a, len(bits) if to_left else width, signed)
         shown = text.spell(padded)
-        by = text.spell(b[:WIDEST])
+        by = text.spell(b)
         if to_left:
             expression = f"{shown} << {by}"
         else:

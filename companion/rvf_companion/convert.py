@@ -146,13 +146,18 @@ class Converter:
             for bit, cells in sorted(clocked.items(), key=lambda item: -len(item[1]))[1:]:
                 for cell in cells:
                     self.refuse(cell, "a register of a second clock")
+        outputs = {bit: port.name for port in self.netlist.ports if port.direction == "output" for bit in port.bits}
         for bit, cells in clocked.items():
-            if bit not in inputs:
+            if bit in outputs:
+                self.problems.append(f"the clock is an output too: {outputs[bit]} of {self.netlist.name}")
+            elif bit not in inputs:
                 self.refuse(cells[0], "a clock that is no input of the module")
             elif bit in others:
                 self.refuse(others[bit], f"the clock {inputs[bit]} is read other than as a clock")
             else:
                 self.clock = inputs[bit]
+        if not clocked and "clock" in inputs.values():
+            self.clock = "clock"
 
     def in_its_cycle(self, cell: Cell) -> Cell:
         """An assumption of a clocked block stands behind registers, a cycle late: takes what these are given."""
@@ -319,7 +324,8 @@ class Converter:
     def finish(self, source: str) -> Converted:
         """The whole text, and what is to be told."""
         text = self.text
-        lines = [f"// {source}", "// Made by companion/from-yosys.py, of which nothing is trusted by a verdict.",
+        plain = "".join(sign if sign.isprintable() and sign.isascii() else "?" for sign in source)
+        lines = [f"// {plain}", "// Made by companion/from-yosys.py, of which nothing is trusted by a verdict.",
                  f"module {self.netlist.name} ("]
         lines += ["  " + port + ("," if index + 1 < len(text.ports) else "") for index, port in enumerate(text.ports)]
         lines += [");"] + ["  " + line for line in text.declared] + ["  " + line for line in text.items] + ["endmodule", ""]

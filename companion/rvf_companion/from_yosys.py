@@ -71,8 +71,10 @@ def main(words: list[str] | None = None) -> int:
         kinds = [None, *configuration.kinds_with_defines()] if asked.top == "rvfi_wrapper" else [None]
         for kind in kinds:
             defines = [define_line(word) for word in asked.define] + configuration.defines_of(kind)
+            nret = configuration.options().get("nret", "1")
             core = Core(asked.top, [Path(name) for name in asked.files], defines,
-                        dict(word.split("=", 1) for word in asked.set), configuration.isa.endswith("c"))
+                        dict(word.split("=", 1) for word in asked.set), configuration.isa.endswith("c"),
+                        int(nret) if nret.isdigit() else 1)
             deliver(folder, asked.top if kind is None else f"{asked.top}.{kind}", converted(core))
         return 0
     except (Refused, YosysFailed) as refusal:

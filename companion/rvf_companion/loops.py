@@ -39,9 +39,17 @@ def bits_of(cell: Cell) -> list[Cell]:
                     outputs={"Y": [cell.outputs["Y"][index]]}) for index in range(width)]
 
 
+def reads_of(cell: Cell) -> list[Cell]:
+    """The reads of a memory, each of which has its address and its data."""
+    digits, width = cell.count("ABITS"), cell.count("WIDTH")
+    return [replace(cell, kind="read", inputs={"A": cell.inputs["RD_ADDR"][port * digits:][:digits]},
+                    outputs={"Y": cell.outputs["RD_DATA"][port * width:][:width]}) for port in range(cell.count("RD_PORTS"))]
+
+
 def circles(cells: list[Cell]) -> list[list[Cell]]:
     """The strongly connected parts of the cells without state that have a loop in them (Tarjan, without recursion)."""
-    plain = [cell for cell in cells if cell.kind not in STATE]
+    plain = [part for cell in cells for part in (reads_of(cell) if cell.kind == "$mem_v2" else [cell])
+             if part.kind not in STATE]
     driver = {bit: index for index, cell in enumerate(plain) for bits in cell.outputs.values() for bit in bits}
     below = [sorted({driver[bit] for bits in cell.inputs.values() for bit in bits if bit in driver}) for cell in plain]
     found: list[list[Cell]] = []

@@ -9,6 +9,7 @@ from .run_lines import Check, Run
 STYLE = """
 body { font-family: sans-serif; margin: 2em; color: #222; background: #fff; max-width: 90em }
 table { border-collapse: collapse } td, th { padding: .25em .8em; text-align: left; border-bottom: 1px solid #ddd }
+td { vertical-align: top } td:not(:last-child) { white-space: nowrap }
 td.number { text-align: right; font-variant-numeric: tabular-nums }
 .pass { color: #17692b } .fail { color: #b01020; font-weight: bold } .spent { color: #8a5a00 }
 pre, code { font-family: monospace; background: #f4f4f4; padding: .1em .3em } pre { padding: .6em; overflow-x: auto }
@@ -50,9 +51,10 @@ def row(shown: Shown) -> str:
     check = shown.check
     verdict = f"spent at {check.budget:,}" if check.verdict == "spent" else check.verdict
     name = f'<a href="#{escape(check.name)}">{escape(check.name)}</a>' if check.verdict == "fail" else escape(check.name)
+    command = f"<code>{escape(shown.command)}</code>" if shown.command else ""
     return (f'<tr class="check" data-name="{escape(check.name)}"><td>{name}</td><td class="{check.verdict}">{verdict}</td>'
             f'<td class="number">{seconds(check)}</td><td class="number">{many(shown.clauses)}</td>'
-            f'<td class="number">{many(shown.steps)}</td><td><code>{escape(shown.command)}</code></td></tr>')
+            f'<td class="number">{many(shown.steps)}</td><td>{command}</td></tr>')
 
 
 def failing(shown: Shown) -> str:

@@ -54,6 +54,10 @@ def main(words: list[str] | None = None) -> int:
         call = Call(asked.rvf, Path(asked.cfg), Path(asked.outdir), asked.core, asked.basedir, asked.budget, asked.jobs)
         kinds = [kind for kind in asked.kinds.split(",") if kind]
         return work(call, configuration, kinds, asked.again, asked.timeout)
+    except FileNotFoundError as fault:
+        hint = ": build it by `rt ci` or `./rvf`, or name it by --rvf" if fault.filename == asked.rvf else ""
+        print(f"run: {fault.filename} isn't there{hint}", file=sys.stderr)
+        return 6
     except (OSError, UnicodeDecodeError) as fault:
         print(f"run: {fault}", file=sys.stderr)
         return 6

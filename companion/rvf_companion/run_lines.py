@@ -51,7 +51,7 @@ class Run:
             self.notes.append(line[5:])
         elif re.fullmatch(r"skip \S+", line):
             self.skipped.append(line[5:])
-        elif re.fullmatch(r"total pass \d+ fail \d+ spent \d+ skip \d+", line):
+        elif re.fullmatch(r"total pass \d+ fail \d+ spent \d+ skip \d+|bench \d+ pass \d+ fail \d+ spent \d+|refuted \d+", line):
             self.total = line
         elif not self.checks and parted(line):
             self.refusal = line

@@ -1,4 +1,5 @@
-"""A program that stands in for rvf in the tests: it answers by a script beside the configuration, `CFG.script`, line by line.
+"""A program that stands in for rvf in the tests: it answers by a file `script` in the folder of the configuration, or in
+one above it, line by line.
 
 Each check of the script has a verdict, and gets files as rvf writes them. It says nothing of any design.
 """
@@ -46,9 +47,7 @@ def main() -> int:
     """Answers `list CFG` and `run CFG OUTDIR ..`."""
     command, cfg = sys.argv[1:3]
     text = Path(cfg).read_text()
-    script = Path(cfg.replace("reduced", "checks")).parent / "script"
-    if not script.exists():
-        script = next(Path(cfg).parent.parent.glob("script"))
+    script = next(folder / "script" for folder in Path(cfg).resolve().parents if (folder / "script").exists())
     lines = script.read_text().splitlines()
     kinds = {line.split()[0] for line in text.splitlines() if re.match(r"[a-z_]+ \d", line)}
     for line in lines:

@@ -70,8 +70,9 @@ class Written(unittest.TestCase):
     def test_names_tell(self) -> None:
         """Registers and memories have the names of the text."""
         text = converted("states").text
-        for part in ("reg [31:0] registers [1:31];", "reg [1:0] state;", "reg [31:0] ir;", "initial"):
-            (self.assertNotIn if part == "initial" else self.assertIn)(part, text)
+        for part in ("reg [31:0] registers [1:31];", "reg [1:0] state;", "reg [31:0] ir;"):
+            self.assertIn(part, text)
+        self.assertNotIn("initial", text)
 
     def test_wide_vector(self) -> None:
         """A vector of 1,024 bits becomes eight, numbered in their names."""
@@ -83,7 +84,7 @@ class Written(unittest.TestCase):
         """Initial values that are undefined in part are given bit by bit."""
         text = converted("operators").text
         for part in ("initial half[0] = 1'b1;", "initial half[1] = 1'b0;", "initial half[3] = 1'b1;", "initial half[10] = 1'b0;",
-                     "words_0[3] = 128'h9abcdef0123456789abcdef01234;"[:0] + "words_0[4][1] = 1'b1;"):
+                     "words_0[4][1] = 1'b1;"):
             self.assertIn(part, text)
         self.assertNotIn("initial half[4]", text)
 

@@ -6,6 +6,7 @@ import io
 import json
 import os
 import stat
+import subprocess
 import sys
 import tempfile
 import unittest
@@ -14,6 +15,8 @@ from unittest import mock
 from xml.etree import ElementTree
 
 from rvf_companion import report, run
+
+from .needs import needs
 
 CFG = """# a comment
 [options]
@@ -118,6 +121,19 @@ class Runs(unittest.TestCase):
         self.assertEqual(code, 3)
         self.assertIn("pc_fwd", err)
 
+    @needs("make")
+    def test_make(self) -> None:
+        """A target for each kind, each in a folder of its own; one that fails doesn't stop the others."""
+        words = ["make", "-k", "-j", "3", "-f", str(Path(run.__file__).parents[1] / "rvf.mk"), "CFG=checks.cfg", "OUTDIR=out",
+                 f"RVF_OPTIONS=--rvf {self.program}"]
+        done = subprocess.run(words, capture_output=True, text=True, check=False)
+        self.assertNotEqual(done.returncode, 0)
+        verdicts = {}
+        for kind in ("insn", "ill", "reg"):
+            report_of_kind = json.loads((self.folder / "out" / kind / "report.json").read_text())
+            verdicts.update({one["name"]: one["verdict"] for one in report_of_kind["checks"]})
+        self.assertEqual(verdicts, {"insn_lui_ch0": "pass", "insn_addi_ch0": "fail", "ill_ch0": "pass", "reg_ch0": "spent"})
+
     def test_refusal(self) -> None:
         """A refusal is said in words, and the reports have it."""
         self.script(["source parse 1 core.v:2:8 -", "code 5"])
@@ -164,12 +180,21 @@ class Runs(unittest.TestCase):
         for part in ("strange &lt;line&gt;", "ended without its last line", "(its batch)", "note altops"):
             self.assertIn(part, self.page())
 
+    def test_other_commands(self) -> None:
+        """The lines of `bench` and `lrat` are known too."""
+        for line in ("bench 8 pass 43 fail 0 spent 0", "refuted 6", "refused step 5 5 0"):
+            code, _ = self.report_it(line + "\n")
+            self.assertEqual(code, 0)
+            self.assertIn(line, self.json()["end"])
+
     def test_missing(self) -> None:
         """A missing folder, a missing configuration and a broken dump are told."""
         with contextlib.redirect_stderr(io.StringIO()) as err:
             self.assertEqual(run.main(["checks.cfg", "nowhere", "--rvf", str(self.program)]), 3)
             self.assertEqual(run.main(["nowhere.cfg", "out", "--rvf", str(self.program)]), 6)
-        self.assertIn("nowhere", err.getvalue())
+            self.assertEqual(run.main(["checks.cfg", "out", "--rvf", "./no-program"]), 6)
+        for part in ("nowhere is no folder", "nowhere.cfg isn't there", "./no-program isn't there: build it"):
+            self.assertIn(part, err.getvalue())
         self.run_it()
         (self.folder / "out" / "insn_addi_ch0.vcd").write_text("no dump\n")
         self.report_it("\n".join(SCRIPT[:-1]))
