@@ -8,7 +8,7 @@ from __future__ import annotations
 from dataclasses import dataclass
 
 from . import cells as of_cells
-from .choices import merged_choices
+from .choices import merged_choices, shared, without_unreached
 from .loops import cut_loops
 from .memories import Memory, memory_problems, write_memory
 from .names import Names
@@ -19,6 +19,9 @@ from .text import (MOST_NAMES, MOST_REGISTER_BITS, MOST_WEIGHT, WIDEST, Refused,
 
 # Cells that say nothing of what a design does.
 CLAIMS = {"$assert", "$cover", "$live", "$fair", "$print", "$scopeinfo"}
+
+# Cells that are there whether or not something reads them.
+ROOTS = {"$dff", "$mem_v2", "$assume", "$anyseq", "$anyconst", "$initstate"}
 
 REFUSED = {
     "$dlatch": "a latch", "$adlatch": "a latch", "$dlatchsr": "a latch", "$sr": "a latch", "$ff": "a register without a clock",
@@ -78,7 +81,9 @@ class Converter:
         self.cells = [self.in_its_cycle(cell) if cell.kind == "$assume" else cell for cell in self.cells]
         self.stop_at_problems()
         self.cells, loops = cut_loops([cell for cell in self.cells if not self.is_hidden_and_unread(cell)])
-        self.cells = merged_choices(self.cells, self.text.same)
+        self.cells = shared(self.cells, self.text.same)
+        named = {self.text.resolve(bit) for net in [*self.public, *self.netlist.ports] for bit in net.bits}
+        self.cells = merged_choices(without_unreached(self.cells, named), self.text.same)
         for loop in loops:
             places = ", ".join(f"{cell.name} at {self.netlist.place(cell)}" for cell in loop[:4])
             self.problems.append(f"a loop without a register through {len(loop)} cells: {places}")
@@ -197,14 +202,25 @@ class Converter:
     # Names.
 
     def find_read(self) -> None:
-        """Which bits something reads, a name of the design's own text included."""
-        for cell in self.cells:
-            for bits in cell.inputs.values():
-                self.read.update(self.text.resolve(bit) for bit in bits)
-        for port in self.netlist.ports:
-            if port.direction == "output":
-                self.read.update(self.text.resolve(bit) for bit in port.bits)
-        self.shown = self.read | {self.text.resolve(bit) for net in self.public for bit in net.bits}
+        """Which bits something reads, from outputs, state, assumptions and names of the text backwards; a cell of which no bit
+        is read is left out."""
+        driver = {bit: cell for cell in self.cells for bits in cell.outputs.values() for bit in bits}
+        resolve = self.text.resolve
+        self.read = {resolve(bit) for port in self.netlist.ports if port.direction == "output" for bit in port.bits}
+        named = {resolve(bit) for net in self.public for bit in net.bits}
+        waiting = [cell for cell in self.cells if cell.kind in ROOTS]
+        waiting += [driver[bit] for bit in self.read | named if bit in driver]
+        alive: set[str] = set()
+        while waiting:
+            cell = waiting.pop()
+            if cell.name in alive:
+                continue
+            alive.add(cell.name)
+            bits = {resolve(bit) for bits in cell.inputs.values() for bit in bits}
+            self.read |= bits
+            waiting += [driver[bit] for bit in bits if bit in driver]
+        self.cells = [cell for cell in self.cells if cell.name in alive]
+        self.shown = self.read | named
 
     def old_name(self, cell: Cell, bits: list[Bit], ending: str = "") -> str:
         """What the text called these bits, or the netlist."""

@@ -116,6 +116,7 @@ def read(path: Path, top: str) -> Netlist:
             {port: bits for port, bits in joined.items() if directions.get(port) != "output"},
             {port: bits for port, bits in joined.items() if directions.get(port) == "output"}))
     ports = [Port(name, port["direction"], port["bits"]) for name, port in module["ports"].items()]
-    nets = [NamedNet(name, bool(net["hide_name"]), net["bits"], net["attributes"].get("src", ""),
+    # What Yosys calls the inner names of a call is no name of the text.
+    nets = [NamedNet(name, bool(net["hide_name"]) or "$func$" in name, net["bits"], net["attributes"].get("src", ""),
                      net["attributes"].get("init", "")) for name, net in module["netnames"].items()]
     return Netlist(top, module["attributes"].get("src", ""), ports, cells, nets)

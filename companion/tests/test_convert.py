@@ -3,11 +3,13 @@ from __future__ import annotations
 
 import re
 import unittest
+from dataclasses import replace
 from pathlib import Path
 
+from rvf_companion.choices import merged_choices, shared, without_unreached
 from rvf_companion.convert import Converted, convert
 from rvf_companion.names import RESERVED, Names, legal
-from rvf_companion.netlist import read
+from rvf_companion.netlist import Cell, read
 from rvf_companion.text import Refused, Text
 
 NETLISTS = Path(__file__).resolve().parent.parent / "data" / "netlists"
@@ -106,6 +108,43 @@ class Written(unittest.TestCase):
         """A vector that is computed bit after bit is cut into bits, so that no driver reads what it drives."""
         text = converted("operators").text
         self.assertRegex(text, r"_bit_3")
+
+
+class Choices(unittest.TestCase):
+    """Choices in one another."""
+
+    @staticmethod
+    def choice(name: str, select: int, yes: list, no: list, made: list[int]) -> Cell:
+        """A cell of Yosys that chooses."""
+        return Cell(name, "$mux", {}, {}, {"A": no, "B": yes, "S": [select]}, {"Y": made})
+
+    def test_unreached(self) -> None:
+        """An undefined bit on a way that is excluded is left out; where the inner choice is seen elsewhere it stays."""
+        inner = self.choice("inner", 1, ["x"], [7], [10])
+        outer = self.choice("outer", 1, ["0"], [10], [11])
+        self.assertEqual(without_unreached([inner, outer], {11}), [self.choice("outer", 1, ["0"], [7], [11])])
+        self.assertEqual(without_unreached([inner, outer], {10, 11})[0], inner)
+
+    def test_way(self) -> None:
+        """What was decided further out counts, along a way of choices that nothing else reads."""
+        first = self.choice("first", 1, ["x"], [7], [10])
+        second = self.choice("second", 2, [8], [10], [11])
+        third = self.choice("third", 1, ["0"], [11], [12])
+        made = {cell.name: cell for cell in without_unreached([first, second, third], {12})}
+        self.assertEqual(made["second"].inputs["A"], [7])
+        self.assertEqual(shared([first, replace(first, name="again", outputs={"Y": [99]})], {})[1].name, "again")
+        same: dict = {}
+        self.assertEqual(shared([second, replace(second, name="again", outputs={"Y": [99]})], same), [second])
+        self.assertEqual(same, {99: 11})
+        other = self.choice("other", 3, [11], [9], [13])
+        made = {cell.name: cell for cell in without_unreached([first, second, third, other], {12, 13})}
+        self.assertEqual(made["second"].inputs["A"], [10])
+
+    def test_merged(self) -> None:
+        """Bits that are equal become one; undefined bits don't."""
+        same: dict = {}
+        made = merged_choices([self.choice("one", 1, ["1", "1", "x", "x", 5], ["0", "0", "0", "0", 5], [20, 21, 22, 23, 24])], same)
+        self.assertEqual((made[0].outputs["Y"], same), ([20, 22, 23], {21: 20, 24: 5}))
 
 
 class RefusedByName(unittest.TestCase):
