@@ -5,16 +5,14 @@ import atexit
 import os
 import shutil
 import unittest
-from pathlib import Path
 
-PROGRAM = Path(__file__).resolve().parents[2] / "crates" / "rvf" / "out" / "rvf"
 LEFT_OUT: list[str] = []
 
 
 def program() -> str | None:
-    """The program: that of the environment, or the one that the gate left."""
-    named = os.environ.get("COMPANION_RVF", str(PROGRAM))
-    return named if os.access(named, os.X_OK) else None
+    """The program, which the environment names."""
+    named = os.environ.get("COMPANION_RVF", "")
+    return named if named and os.access(named, os.X_OK) else None
 
 
 def is_there(thing: str) -> bool:

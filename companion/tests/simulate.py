@@ -44,8 +44,10 @@ def begin(start: Start, lines: list[str], is_named: bool) -> None:
         lines.append(f"converted.{start.name}{word} = number[{start.width - 1}:0];")
 
 
-def bench(netlist: Netlist, made: Converted, cycles: int) -> str:
+def bench(core: Core, netlist: Netlist, made: Converted, cycles: int) -> str:
     """The text of a module that drives both sides and compares them."""
+    given = ", ".join(f".{name}({value})" for name, value in core.parameters.items())
+    original = f"{netlist.name} #({given}) original" if given else f"{netlist.name} original"
     inputs = [port for port in netlist.ports if port.direction == "input" and port.name != made.clock]
     outputs = [port for port in netlist.ports if port.direction == "output"]
     size = sum(len(port.bits) for port in inputs)
@@ -68,7 +70,7 @@ def bench(netlist: Netlist, made: Converted, cycles: int) -> str:
         f"  reg [{size - 1}:0] given [0:{cycles - 1}];", f"  wire [{many - 1}:0] left = {{{all_of['original']}}};",
         f"  wire [{many - 1}:0] right = {{{all_of['converted']}}};",
         "  reg [2047:0] number;", "  integer cycle, place, different, unknown;",
-        f"  {netlist.name} original (.{made.clock}(clock){ports}{sides['original']});",
+        f"  {original} (.{made.clock}(clock){ports}{sides['original']});",
         f"  {netlist.name}_converted converted (.{made.clock}(clock){ports}{sides['converted']});",
         "  initial begin", '    $readmemh("given.hex", given);', "    different = 0; unknown = 0; #1;",
         *("    " + line for line in starts),
@@ -114,10 +116,9 @@ def compare(folder: Path, core: Core, netlist: Netlist, made: Converted, values:
     text = made.text.replace(f"module {netlist.name} (", f"module {netlist.name}_converted (", 1)
     text = re.sub(r"^  always @\* assume .*$", "", text, flags=re.M)
     (folder / "converted.v").write_text(text)
-    (folder / "bench.v").write_text(bench(netlist, made, cycles))
+    (folder / "bench.v").write_text(bench(core, netlist, made, cycles))
     files = [folder / "macros.v", *[path.resolve() for path in core.files], folder / "converted.v", folder / "bench.v"]
     words = ["iverilog", "-g2012", "-s", "bench", "-o", "bench.out", *[str(path) for path in files]]
-    words += [f"-Pbench.original.{name}={value}" for name, value in core.parameters.items()]
     built = subprocess.run(words, cwd=folder, check=False, capture_output=True, text=True)
     if built.returncode:
         raise AssertionError(built.stdout + built.stderr)

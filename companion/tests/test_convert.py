@@ -12,6 +12,8 @@ from rvf_companion.names import RESERVED, Names, legal
 from rvf_companion.netlist import Cell, read
 from rvf_companion.text import Refused, Text
 
+from .shape import problems
+
 NETLISTS = Path(__file__).resolve().parent.parent / "data" / "netlists"
 
 
@@ -68,6 +70,11 @@ class Written(unittest.TestCase):
             self.assertTrue(set(names) <= set(made.names))
             self.assertLessEqual(max(int(high or 0) for high, _ in found), 127)
             self.assertTrue(made.text.isascii())
+
+    def test_shape(self) -> None:
+        """No line has another form than those that are meant, names are declared, wires are driven."""
+        for name in ("styled", "states", "serial", "operators"):
+            self.assertEqual(problems(converted(name).text), [], name)
 
     def test_names_tell(self) -> None:
         """Registers and memories have the names of the text."""
