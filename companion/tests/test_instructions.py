@@ -2,8 +2,9 @@
 from __future__ import annotations
 
 import unittest
+from pathlib import Path
 
-from rvf_companion.instructions import BASE, Options, assembled, assembler, differences, effect, expanded, row_of
+from rvf_companion.instructions import BASE, Options, assembled, assembler, decoded, differences, effect, expanded, row_of
 
 
 def retired(word: int, **fields: int) -> dict[str, int]:
@@ -90,3 +91,60 @@ class Effects(unittest.TestCase):
         self.assertEqual(differences(store, effect(store, Options(aligned=True))), [])
         store["mem_wdata"] = 0x002233AB
         self.assertEqual(len(differences(store, effect(store, Options(aligned=True)))), 1)
+
+
+def stored(word: str) -> list[tuple[str, str]]:
+    """The cases of the gate that begin with a word, each with its answer."""
+    found = []
+    for cases in sorted((Path(__file__).resolve().parents[2] / "crates").glob("*/stdin")):
+        lines = cases.read_text(errors="replace").splitlines()
+        if not any(line.startswith(f"{word} ") and "=" in line for line in lines):
+            continue
+        asked = [line for line in lines if line and not line.startswith("#")]
+        answers = (cases.parent / "stdout").read_text().splitlines()
+        if len(asked) == len(answers):
+            found += [pair for pair in zip(asked, answers) if pair[0].startswith(f"{word} ")]
+    return found
+
+
+def values(text: str) -> dict[str, int]:
+    """The numbers that a case gives by names."""
+    return {name: int(value, 0) for name, _, value in (word.partition("=") for word in text.split()) if value}
+
+
+def options(given: dict[str, int]) -> Options:
+    """The options that a case gives."""
+    return Options(bool(given.get("aligned")), bool(given.get("altops")), bool(given.get("c")))
+
+
+class StoredCases(unittest.TestCase):
+    """The cases of the gate, whose answers are the manual's and an emulator's."""
+
+    def test_effects(self) -> None:
+        """What each word asks for."""
+        for asked, answer in stored("effect"):
+            given = values(asked)
+            found = effect(retired(given.pop("insn"), **given), options(given))
+            row, *rest = answer.split()
+            wanted = values(" ".join(rest))
+            self.assertIsNotNone(found, asked)
+            for name in ("rs1_addr", "rs2_addr", "rd_addr", "rd_wdata", "pc_wdata", "mem_addr", "mem_rmask", "mem_wmask",
+                         "mem_wdata"):
+                self.assertEqual(getattr(found, name), wanted.get(name, 0), f"{name} of {asked}")
+            self.assertEqual(found.trap, "trap" in rest, asked)
+            self.assertEqual(decoded(values(asked)["insn"])[0], row, asked)
+
+    def test_agreement(self) -> None:
+        """What differs, and what doesn't."""
+        for asked, answer in stored("agree"):
+            first, _, second = asked.partition("|")
+            given, shown = values(first), values(second)
+            wanted = effect(retired(given["insn"], **{name: value for name, value in given.items() if name != "insn"}), options(given))
+            found = differences(retired(shown["insn"], **{name: value for name, value in shown.items() if name != "insn"}), wanted)
+            self.assertEqual(not found, answer == "agrees", (asked, found))
+
+    def test_half_words(self) -> None:
+        """What half words stand for."""
+        for asked, answer in stored("expand"):
+            found = expanded(values(asked)["half"])
+            self.assertEqual(f"0x{found[1]:08x}" if found else "none", answer, asked)
