@@ -20,18 +20,18 @@ from .needs import needs
 class EqualInSimulation(unittest.TestCase):
     """Ten thousand random cycles show no difference between a core and what was converted of it."""
 
-    def compare(self, core: Core, values: dict[str, list[tuple[int, int]]]) -> None:
+    def compare(self, core: Core, values: dict[str, list[tuple[int, int]]], cycles: int = 10_000) -> None:
         """Converts a core and compares both sides."""
         with tempfile.TemporaryDirectory() as folder:
             _, after = run(core, Path(folder))
             netlist = read(after, core.top)
             made = convert(netlist, f"From {core.top}")
-            found = simulate.compare(Path(folder), core, netlist, made, values)
-        self.assertEqual((found.cycles, found.different), (10_000, 0), found.said)
+            found = simulate.compare(Path(folder), core, netlist, made, values, cycles)
+        self.assertEqual((found.cycles, found.different), (cycles, 0), found.said)
 
-    def of_here(self, name: str) -> None:
+    def of_here(self, name: str, cycles: int = 10_000) -> None:
         """One of the cores of this repository."""
-        self.compare(cores.core(name), {"word": cores.KNOWN[name]})
+        self.compare(cores.core(name), {"word": cores.KNOWN[name]}, cycles)
 
     @needs("yosys", "iverilog")
     def test_mini(self) -> None:
@@ -56,7 +56,7 @@ class EqualInSimulation(unittest.TestCase):
     @needs("yosys", "iverilog")
     def test_operators(self) -> None:
         """Every operator, also over vectors above 128 bits."""
-        self.of_here("operators")
+        self.of_here("operators", 150)
 
     @needs("yosys", "iverilog", "network")
     def test_picorv32(self) -> None:
