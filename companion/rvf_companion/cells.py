@@ -9,7 +9,7 @@ from typing import TYPE_CHECKING, Callable
 
 from .memories import Memory
 from .netlist import Bit, Cell
-from .shifts import any_of, chosen, moved_left, moved_right
+from .shifts import chosen, moved_left, moved_right
 from .text import WIDEST, Start, Text, digits, extended, in_parts
 
 if TYPE_CHECKING:
@@ -268,5 +268,3 @@ WRITERS: dict[str, Callable[["Converter", Cell, list[Bit]], None]] = {
     "$pmux": write_choice_of_many,
     "$pos": write_nothing,
 }
-
-__all__ = ["ONE_BIT", "WRITERS", "any_of", "declare", "register_sizes", "uncuttable", "write"]

@@ -10,12 +10,12 @@ from dataclasses import dataclass
 from . import cells as of_cells
 from .choices import merged_choices, shared, without_unreached
 from .loops import cut_loops
-from .memories import Memory, memory_problems, write_memory
+from .memories import memory_problems, write_memory
 from .names import Names
 from .netlist import Bit, Cell, NamedNet, Netlist
 from .registers import plain_registers
 from .text import (MOST_NAMES, MOST_REGISTER_BITS, MOST_WEIGHT, WIDEST, Refused, Signal, Start, Text, in_parts,
-                   joined, ranged)
+                   ranged)
 
 # Cells that say nothing of what a design does.
 CLAIMS = {"$assert", "$cover", "$live", "$fair", "$print", "$scopeinfo"}
@@ -351,6 +351,3 @@ class Converter:
         if self.claims:
             notes.append(f"{self.claims} claims of the text's own (assert, cover and the like) were left out")
         return Converted("\n".join(lines), self.names.table, notes, text.weight(), text.starts, text.free_names, self.clock)
-
-
-__all__ = ["Converted", "Memory", "Refused", "convert", "joined"]

@@ -9,7 +9,7 @@ from pathlib import Path
 
 from .configuration import Configuration, read_configuration
 from .convert import Converted, Refused, convert
-from .netlist import Netlist, read
+from .netlist import read
 from .yosys import Core, YosysFailed, run
 
 
@@ -83,6 +83,3 @@ def main(words: list[str] | None = None) -> int:
     except (OSError, KeyError, ValueError) as fault:
         print(f"from-yosys: {type(fault).__name__}: {fault}", file=sys.stderr)
     return 1
-
-
-__all__ = ["Netlist", "main"]

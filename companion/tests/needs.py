@@ -5,22 +5,24 @@ import atexit
 import os
 import shutil
 import unittest
+from pathlib import Path
 
+BUILT = Path(__file__).resolve().parents[2] / "crates" / "rvf" / "out" / "rvf"
 LEFT_OUT: list[str] = []
 
 
 def program() -> str | None:
-    """The program, which the environment names."""
-    named = os.environ.get("COMPANION_RVF", "")
-    return named if named and os.access(named, os.X_OK) else None
+    """The program that the environment names, or the one that stands built; none is built here."""
+    named = os.environ.get("COMPANION_RVF") or str(BUILT)
+    return named if os.access(named, os.X_OK) else None
 
 
 def is_there(thing: str) -> bool:
     """Whether a thing that a test needs is there."""
     if thing == "rvf":
         return program() is not None
-    if thing == "network":
-        return bool(os.environ.get("COMPANION_NETWORK"))
+    if thing in ("time", "network"):
+        return bool(os.environ.get(f"COMPANION_{thing.upper()}"))
     return shutil.which(thing) is not None
 
 

@@ -21,7 +21,7 @@ LINES = ["note altops", "skip hang", "pass insn_lui_ch0", "fail insn_addi_ch0", 
 class Browser(unittest.TestCase):
     """Chromium without a screen."""
 
-    @needs("chromium")
+    @needs("chromium", "time")
     def test_rows(self) -> None:
         """Each check has a row, the failing one a drawn picture, and the page can be seen."""
         with tempfile.TemporaryDirectory() as name:

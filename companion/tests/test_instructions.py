@@ -104,6 +104,7 @@ def stored(word: str) -> list[tuple[str, str]]:
         answers = (cases.parent / "stdout").read_text().splitlines()
         if len(asked) == len(answers):
             found += [pair for pair in zip(asked, answers) if pair[0].startswith(f"{word} ")]
+    assert found, f"no case begins with {word}"
     return found
 
 

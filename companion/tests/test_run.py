@@ -9,6 +9,7 @@ import stat
 import subprocess
 import sys
 import tempfile
+import time
 import unittest
 from pathlib import Path
 from unittest import mock
@@ -154,8 +155,11 @@ class Runs(unittest.TestCase):
 
     def test_timeout(self) -> None:
         """A program that goes on too long is stopped; what it said stands."""
-        self.script(["pass insn_lui_ch0", "sleep 60"])
-        code, _, err = self.run_it("--timeout", "3")
+        begun = time.monotonic()
+        self.run_it()
+        enough = 1 + 2 * (time.monotonic() - begun)
+        self.script(["pass insn_lui_ch0", f"sleep {60 + 2 * enough}"])
+        code, _, err = self.run_it("--timeout", str(enough))
         self.assertEqual(code, 1)
         self.assertIn("ended without its last line", err)
         self.assertEqual([one["name"] for one in self.json()["checks"]], ["insn_lui_ch0"])

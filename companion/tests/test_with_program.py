@@ -93,12 +93,12 @@ class SameVerdicts(unittest.TestCase):
                 self.assertTrue(asked[-1].startswith("total"), asked)
                 self.assertEqual(verdicts(case.cfg, [case.wrapper, made], folder), asked)
 
-    @needs("rvf", "yosys")
+    @needs("rvf", "yosys", "time")
     def test_mini(self) -> None:
         """The small core of the examples; a branch in the wrong direction."""
         self.compare(mini())
 
-    @needs("rvf", "yosys")
+    @needs("rvf", "yosys", "time")
     def test_tiny(self) -> None:
         """The core of two stages; a comparison that reads signs."""
         self.compare(tiny())
@@ -118,19 +118,19 @@ class KnownVerdicts(unittest.TestCase):
                 self.assertEqual(passed, right)
                 self.assertFalse([line for line in lines if line.startswith("spent")])
 
-    @needs("rvf", "yosys")
+    @needs("rvf", "yosys", "time")
     def test_styled(self) -> None:
         """The core in the style of SystemVerilog; a difference the wrong way round."""
         self.judge(of_folder("styled", ".sv", ("left - right", "right - left")),
                    {"lui", "addi", "xori", "add", "sub", "beq", "reg", "pc_fwd"}, {"sub"})
 
-    @needs("rvf", "yosys")
+    @needs("rvf", "yosys", "time")
     def test_states(self) -> None:
         """The core of several cycles; an or in the place of an and."""
         self.judge(of_folder("states", ".v", ("result = left & right;", "result = left | right;")),
                    {"lui", "andi", "ori", "and", "or", "jal", "reg", "pc_fwd"}, {"and"})
 
-    @needs("rvf", "yosys")
+    @needs("rvf", "yosys", "time")
     def test_serial(self) -> None:
         """The core that works bit by bit; a carry that is lost."""
         self.judge(of_folder("serial", ".v", ("left[0] & right[0] | carry", "left[0] & right[0] & carry")),
@@ -147,7 +147,7 @@ class KnownVerdicts(unittest.TestCase):
             without = "\n".join(line for line in made.splitlines() if "assume (" not in line)
             self.assertEqual(verdicts(cfg, [without], Path(name))[0], "fail ill_ch0")
 
-    @needs("rvf", "yosys", "network")
+    @needs("rvf", "yosys", "network", "time")
     def test_picorv32(self) -> None:
         """PicoRV32 as it stands: some rows and `reg` at cycle 10, and two planted faults that are found."""
         wrapper = (cores.CORES / "wrapper_picorv32.v").read_text()

@@ -33,32 +33,32 @@ class EqualInSimulation(unittest.TestCase):
         """One of the cores of this repository."""
         self.compare(cores.core(name), {"word": cores.KNOWN[name]}, cycles)
 
-    @needs("yosys", "iverilog")
+    @needs("yosys", "iverilog", "time")
     def test_mini(self) -> None:
         """The small core of the examples."""
         self.of_here("mini")
 
-    @needs("yosys", "iverilog")
+    @needs("yosys", "iverilog", "time")
     def test_styled(self) -> None:
         """A core in the style of SystemVerilog."""
         self.of_here("styled")
 
-    @needs("yosys", "iverilog")
+    @needs("yosys", "iverilog", "time")
     def test_states(self) -> None:
         """A core of several cycles with a machine of states and casez."""
         self.of_here("states")
 
-    @needs("yosys", "iverilog")
+    @needs("yosys", "iverilog", "time")
     def test_serial(self) -> None:
         """A core that works bit by bit, with its registers in one vector."""
         self.of_here("serial")
 
-    @needs("yosys", "iverilog")
+    @needs("yosys", "iverilog", "time")
     def test_operators(self) -> None:
         """Every operator, also over vectors above 128 bits."""
         self.of_here("operators", 150)
 
-    @needs("yosys", "iverilog", "network")
+    @needs("yosys", "iverilog", "network", "time")
     def test_picorv32(self) -> None:
         """PicoRV32 as it stands in Debian's source package of nextpnr."""
         with tempfile.TemporaryDirectory() as folder:
