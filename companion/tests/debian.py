@@ -10,7 +10,8 @@ PICORV32 = "ice40/benchmark/picorv32.v"
 
 def release() -> str:
     """The name of the running release."""
-    lines = dict(line.strip().split("=", 1) for line in open("/etc/os-release") if "=" in line)
+    text = Path("/etc/os-release").read_text()
+    lines = dict(line.split("=", 1) for line in text.splitlines() if "=" in line)
     return lines.get("VERSION_CODENAME", "").strip('"')
 
 
