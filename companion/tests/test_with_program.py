@@ -149,11 +149,11 @@ class KnownVerdicts(unittest.TestCase):
 
     @needs("rvf", "yosys", "network", "time")
     def test_picorv32(self) -> None:
-        """PicoRV32 as it stands: some rows and `reg` at cycle 10, and two planted faults that are found."""
+        """PicoRV32 as it stands: the rows at cycle 10 and `reg` at 11, and two planted faults that are found."""
         wrapper = (cores.CORES / "wrapper_picorv32.v").read_text()
         faults = [("", "", set()), ("alu_out = alu_add_sub;", "alu_out = alu_add_sub ^ 32'd4;", {"insn_addi_ch0", "insn_add_ch0"}),
                   ("cpuregs[latched_rd] <= cpuregs_wrdata;", "cpuregs[latched_rd] <= cpuregs_wrdata + 1;", {"reg_ch0"})]
-        cfg = ("[defines]\n`define RISCV_FORMAL_ALIGNED_MEM\n[depth]\ninsn 10\nreg 1 10\n[sort]\nreg_ch0\n")
+        cfg = ("[defines]\n`define RISCV_FORMAL_ALIGNED_MEM\n[depth]\ninsn 10\nreg 1 11\n[sort]\nreg_ch0\n")
         with tempfile.TemporaryDirectory() as name:
             text = debian.fetch("nextpnr", debian.PICORV32, Path(name)).read_text()
         for before, behind, broken in faults:
