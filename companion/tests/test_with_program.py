@@ -134,7 +134,7 @@ class KnownVerdicts(unittest.TestCase):
     def test_serial(self) -> None:
         """The core that works bit by bit; a carry that is lost."""
         self.judge(of_folder("serial", ".v", ("left[0] & right[0] | carry", "left[0] & right[0] & carry")),
-                   {"addi", "xori", "add", "xor", "reg", "pc_fwd"}, {"addi", "add"})
+                   {"addi", "xori", "add", "xor", "pc_fwd"}, {"addi", "add"})
 
     @needs("rvf", "yosys")
     def test_assumed(self) -> None:
