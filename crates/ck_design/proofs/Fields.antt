@@ -1,19 +1,25 @@
 -- The notes of a channel's fields: their literals have the values of the bits that they name, and none is left out.
-use Rattle.std.specs.Prelude.{◌≡◌, refl, ℕ, zero, suc, ◌+◌, ◌*◌, ◌<◌, ◌≤◌, ◌==◌, Bool, true, false}
+use Rattle.std.specs.Prelude.{◌≡◌, refl, ℕ, zero, suc, ◌+◌, ◌*◌, ◌/◌, ◌<◌, ◌≤◌, ◌==◌, Bool, true, false, not}
+use Rattle.std.specs.Prelude.{if◌then◌else◌, pos, neg_ℤ}
 use Rattle.std.specs.Prelude.{List, [], ◌∷◌, ◌++◌, length, map, Some, is_none, slice_get, slice_index_or}
 use Rattle.std.specs.Int.{bit_at}
 use Rattle.std.specs.List.{AllByRecursion, range_with_len}
 use Rattle.std.proofs.Common.{ap, sym, ◌∙◌, arith, subst, append_assoc, true≢false}
+use Rattle.std.proofs.lemmas.Bool.{ne_eqb}
 use Rattle.fv_bits.specs.Bits.{bit}
 use Rattle.fv_bits.proofs.SingleBits.{bit_at_part}
 use Rattle.vl_size.specs.Size.{Values}
+use Rattle.cnf_form.specs.Cnf.{literal_true}
+use Rattle.bb_aig.specs.Graph.{is_negated, turned}
 use Rattle.bb_clauses.specs.Models.{number_in, value_in}
 use Rattle.rvfi_port.specs.declared.field.Field.{Field}
 use Rattle.rvfi_port.specs.Fields.{field_name, field_width}
 use Rattle.ck_design.specs.Retirements.{field_in, values_at}
 use Rattle.ck_design.specs.declared.note.Note.{Note}
-use Rattle.ck_design.specs.Notes.{bit_notes, field_notes}
-use Rattle.ck_design.specs.Tight.{Agree, AgreeAt, IsNoted}
+use Rattle.ck_design.specs.declared.note.NoteLiteral.{NoteLiteral}
+use Rattle.ck_design.specs.declared.note.NoteLiteral.TheVariants as literal
+use Rattle.ck_design.specs.Notes.{bit_notes, field_notes, literal_of}
+use Rattle.ck_design.specs.Tight.{Agree, AgreeAt, IsNoted, note_value}
 use Rattle.ck_design.proofs.Placed.{append, number_bit}
 
 pub bit_is : (b c : Bool) (n : ℕ) → n ≡ bit c → b ≡ c → b ≡ (n == 1)
@@ -21,6 +27,31 @@ bit_is true true n e f = sym (ap (λ m. m == 1) e)
 bit_is false false n e f = sym (ap (λ m. m == 1) e)
 bit_is true false n e f = absurd (true≢false f)
 bit_is false true n e f = absurd (true≢false (sym f))
+
+-- the literal in clauses has the value of the graph's
+signed_value : (v : ℕ → Bool) (negated : Bool) (n m : ℕ) → n ≡ suc m
+    → literal_true v (if negated then neg_ℤ (pos n) else pos n) ≡ turned negated (if n == 0 then false else v n)
+signed_value v true n m e =
+    let next : m + 1 ≡ suc m = omega arith in
+    ap (λ k. literal_true v (neg_ℤ (pos k))) e ∙ ap (λ k. not (v k)) next
+    ∙ sym (ap (λ k. turned true (if k == 0 then false else v k)) e
+    ∙ ap (λ b. not (if b then false else v (suc m))) (ne_eqb (suc m) 0 (λ z. omega (arith, z))))
+signed_value v false n m e =
+    ap v e
+    ∙ sym (ap (λ k. if k == 0 then false else v k) e
+    ∙ ap (λ b. if b then false else v (suc m)) (ne_eqb (suc m) 0 (λ z. omega (arith, z))))
+
+literal_value : (v : ℕ → Bool) (lit : ℕ) → note_value v (literal_of lit) ≡ value_in v lit
+literal_value v zero = refl
+literal_value v (suc zero) = refl
+literal_value v (suc (suc n)) =
+    let lit : ℕ = suc (suc n) in
+    let half : lit / 2 ≡ suc (n / 2) = omega arith in
+    let clause : NoteLiteral = literal.Clause (if is_negated lit then neg_ℤ (pos (lit / 2)) else pos (lit / 2)) in
+    ap (λ b. note_value v (if b then literal.Zero else if lit == 1 then literal.One else clause))
+    (ne_eqb lit 0 (λ z. omega (arith, z)))
+    ∙ ap (λ b. note_value v (if b then literal.One else clause)) (ne_eqb lit 1 (λ z. omega (arith, z)))
+    ∙ signed_value v (is_negated lit) (lit / 2) (n / 2) half
 
 -- past the literals there are zeros
 value_or : (v : ℕ → Bool) (lits : List ℕ) (b : ℕ)
@@ -47,14 +78,14 @@ module _ (v : ℕ → Bool) (run : List Values) (channel cycle : ℕ) where
   bits_agree : (field : Field) (lits : List ℕ) (from count : ℕ) → from + count ≤ field_width field
       → number_in v lits ≡ field_in (values_at run cycle) channel field
       → Agree v run (map (λ b. record {
-        literal = slice_index_or lits b 0;
+        literal = literal_of (slice_index_or lits b 0);
         cycle = cycle;
         bit = channel * field_width field + b;
         name = field_name field;
       }) (range_with_len from count))
   bits_agree field lits from zero le e = tt
   bits_agree field lits from (suc count) le e = (
-    bit_agrees field lits from (omega (arith, le)) e,
+    literal_value v (slice_index_or lits from 0) ∙ bit_agrees field lits from (omega (arith, le)) e,
     bits_agree field lits (from + 1) count (omega (arith, le)) e,
   )
 
@@ -100,7 +131,7 @@ module _ (channel cycle : ℕ) where
   here front rest field lits bit less = record {
     place = length front + bit;
     note = record {
-      literal = slice_index_or lits (0 + bit) 0;
+      literal = literal_of (slice_index_or lits (0 + bit) 0);
       cycle = cycle;
       bit = channel * field_width field + (0 + bit);
       name = field_name field;
@@ -108,7 +139,7 @@ module _ (channel cycle : ℕ) where
     there = get_behind front (bit_notes channel cycle field lits ++ rest) bit
         ∙ get_before (bit_notes channel cycle field lits) rest bit _
         (get_mapped (λ b. record {
-          literal = slice_index_or lits b 0;
+          literal = literal_of (slice_index_or lits b 0);
           cycle = cycle;
           bit = channel * field_width field + b;
           name = field_name field;

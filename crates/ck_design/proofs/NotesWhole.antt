@@ -1,11 +1,10 @@
 -- The clauses of a check with their notes are tight.
-use Rattle.std.specs.Prelude.{◌≡◌, refl, ℕ, zero, suc, ◌+◌, ◌-◌, ◌*◌, ◌/◌, ◌%◌, ◌<◌, ◌≤◌, ◌==◌, Bool, true, false}
+use Rattle.std.specs.Prelude.{◌≡◌, refl, ℕ, zero, suc, ◌+◌, ◌-◌, ◌<◌, ◌≤◌, ◌==◌, pos, Bool, true, false}
 use Rattle.std.specs.Prelude.{if◌then◌else◌, List, [], ◌∷◌, ◌++◌, length, map, Option, Some, None, is_none, slice_get}
 use Rattle.std.specs.Prelude.{slice_index, slice_index_or}
 use Rattle.std.specs.Int.{bit_at}
 use Rattle.std.specs.List.{AllByRecursion}
 use Rattle.std.proofs.Common.{ap, sym, ◌∙◌, arith, subst, true≢false}
-use Rattle.std.proofs.lemmas.Bool.{ne_eqb}
 use Rattle.std.proofs.lemmas.List.{length-map}
 use Rattle.std.proofs.lemmas.Option.{same_Some}
 use Rattle.fv_bits.specs.Bits.{bit}
@@ -19,13 +18,12 @@ use Rattle.wn_net.specs.Net.{Netlist, value_at}
 use Rattle.wn_run.specs.Runs.{Choices, AreChoicesOf, cycle_at, inputs_at, start_of}
 use Rattle.wn_run.proofs.Given.{choices_run, cycles_given}
 use Rattle.bb_aig.specs.Bits.{number}
-use Rattle.bb_aig.specs.Graph.{turned}
 use Rattle.bb_blast.specs.declared.places.Placed.{Placed}
 use Rattle.bb_blast.specs.Choice.{all_places, numbers_of}
 use Rattle.bm_unroll.specs.declared.frames.Source.{Source}
 use Rattle.bm_unroll.specs.declared.frames.Source.TheVariants as s
 use Rattle.bm_unroll.specs.Frames.{IsChoice, chosen, source_width}
-use Rattle.bb_clauses.specs.Models.{AreTrue, bits_at, numbers_at, read_at, value_in}
+use Rattle.bb_clauses.specs.Models.{AreTrue, bits_at, numbers_at, read_at}
 use Rattle.bb_clauses.proofs.Joined.{inputs_in}
 use Rattle.bb_clauses.proofs.Reading.{read_is}
 use Rattle.rvfi_port.specs.declared.port.Channel.{Channel}
@@ -41,28 +39,21 @@ use Rattle.ck_design.specs.Loaded.{HaveFields}
 use Rattle.ck_design.proofs.Bound.{front}
 use Rattle.ck_design.proofs.Violating.{IsRunOf, choices_of_run, run_of_choices, same_check, same_fields}
 use Rattle.ck_design.specs.declared.note.Note.{Note}
+use Rattle.ck_design.specs.declared.note.NoteLiteral.TheVariants as literal
 use Rattle.ck_design.specs.Notes.{choice_notes, field_notes, source_note, spot_note}
-use Rattle.ck_design.specs.Tight.{Agree, AgreeAt, CertificatesAreTight}
+use Rattle.ck_design.specs.Tight.{Agree, AgreeAt, CertificatesAreTight, note_value}
 use Rattle.ck_design.proofs.Fields.{all_noted, bit_is, fields_agree}
-use Rattle.ck_design.proofs.Placed.{IsPlaceIn, all_placed, append, each, map_at, one_there, source_bit}
+use Rattle.ck_design.proofs.Placed.{IsPlaceIn, all_placed, append, map_at, one_there, source_bit}
 
 -- ---- the literal of a variable
 
--- an even literal is the variable itself
-plain_value : (v : ℕ → Bool) (n : ℕ) → 1 ≤ n → value_in v (2 * n) ≡ v n
-plain_value v zero h = absurd (omega (arith, h))
-plain_value v (suc n) h =
-    let even : 2 * suc n % 2 ≡ 0 = omega arith in
-    let half : 2 * suc n / 2 ≡ suc n = omega arith in
-    ap (λ r. turned (r == 1) (if 2 * suc n / 2 == 0 then false else v (2 * suc n / 2))) even
-    ∙ ap (λ m. if m == 0 then false else v m) half
-    ∙ ap (λ b. if b then false else v (suc n)) (ne_eqb (suc n) 0 (λ z. omega (arith, z)))
-
-spot_literal : (names : Names) (o : Option Spot) (k : ℕ) (p : Placed) → (spot_note names o k p).literal ≡ 2 * p.node
+spot_literal : (names : Names) (o : Option Spot) (k : ℕ) (p : Placed)
+    → (spot_note names o k p).literal ≡ literal.Clause (pos p.node)
 spot_literal names None k p = refl
 spot_literal names (Some x) k p = refl
 
-source_literal : (names : Names) (o : Option Source) (p : Placed) → (source_note names o p).literal ≡ 2 * p.node
+source_literal : (names : Names) (o : Option Source) (p : Placed)
+    → (source_note names o p).literal ≡ literal.Clause (pos p.node)
 source_literal names None p = refl
 source_literal names (Some (s.Each i k)) p = spot_literal names (slice_get names.inputs i) k p
 source_literal names (Some (s.Once i)) p = spot_literal names (slice_get names.inputs i) 0 p
@@ -105,9 +96,8 @@ module _ (ps : List Part) (net : Netlist) (names : Names) (lowered : IsLowered p
         ∙ h.value ∙ ap (λ n. bit (v n)) (back p h) in
         let P : Option Source → Type 0 = λ o. AgreeAt v run (source_note names o p) in
         subst P (sym x.1)
-        (ap (value_in v) (source_literal names (Some x.0) p)
-        ∙ bit_is (value_in v (2 * p.node)) (v p.node) (bit_at (values_at run note.cycle note.name) note.bit) value
-        (plain_value v p.node h.some))
+        (ap (note_value v) (source_literal names (Some x.0) p)
+        ∙ bit_is (v p.node) (v p.node) (bit_at (values_at run note.cycle note.name) note.bit) value refl)
       where
         back : (p : Placed) → IsPlaceIn (inputs_in v) bits.widths 0 0 p → p.node - 1 + 1 ≡ p.node
         back p h = omega (arith, h.some)
@@ -125,17 +115,14 @@ module _ (ps : List Part) (net : Netlist) (names : Names) (lowered : IsLowered p
   -- ---- values that agree with one run are read alike
 
   same_at : (v w : ℕ → Bool) (run : List Values) (qs : List Placed)
-      → AllByRecursion (λ (p : Placed). 1 ≤ p.node) qs
       → Agree v run (map (λ p. source_note names (slice_get bits.sources p.source) p) qs)
       → Agree w run (map (λ p. source_note names (slice_get bits.sources p.source) p) qs)
       → AllByRecursion (λ (p : Placed). v p.node ≡ w p.node) qs
-  same_at v w run [] some h k = tt
-  same_at v w run (p ∷ qs) some h k =
+  same_at v w run [] h k = tt
+  same_at v w run (p ∷ qs) h k =
       let l = source_literal names (slice_get bits.sources p.source) p in
-      let own : v p.node ≡ w p.node =
-      sym (plain_value v p.node some.0) ∙ sym (ap (value_in v) l) ∙ h.0 ∙ sym k.0 ∙ ap (value_in w) l
-      ∙ plain_value w p.node some.0 in
-      (own, same_at v w run qs some.1 h.1 k.1)
+      let own : v p.node ≡ w p.node = sym (ap (note_value v) l) ∙ h.0 ∙ sym k.0 ∙ ap (note_value w) l in
+      (own, same_at v w run qs h.1 k.1)
 
   bits_alike : (v w : ℕ → Bool) (source : ℕ) (qs : List Placed)
       → AllByRecursion (λ (p : Placed). v p.node ≡ w p.node) qs → bits_at v source qs ≡ bits_at w source qs
@@ -149,18 +136,10 @@ module _ (ps : List Part) (net : Netlist) (names : Names) (lowered : IsLowered p
   numbers_alike v w qs source (x ∷ xs) h = λ i.
       number (bits_alike v w source qs h i) ∷ numbers_alike v w qs (source + 1) xs h i
 
-  some_nodes : AllByRecursion (λ (p : Placed). 1 ≤ p.node) bits.places
-  some_nodes =
-      let x : ℕ → Bool = λ n. false in
-      let P : List Placed → Type 0 = λ qs. AllByRecursion (λ (p : Placed). 1 ≤ p.node) qs in
-      subst P (sym are.places)
-      (each (IsPlaceIn x bits.widths 0 0) (λ (p : Placed). 1 ≤ p.node) (all_places 0 0 bits.widths) (λ p h. h.some)
-      (all_placed x 0 0 bits.widths))
-
   pub read_alike : (v w : ℕ → Bool) (run : List Values) → Agree v run (choice_notes names bits)
       → Agree w run (choice_notes names bits) → read v ≡ read w
   read_alike v w run h k =
-      numbers_alike v w bits.places 0 bits.widths (same_at v w run bits.places some_nodes h k)
+      numbers_alike v w bits.places 0 bits.widths (same_at v w run bits.places h k)
 
 -- ---- the fields of the check's channel
 

@@ -1,5 +1,5 @@
--- Meaning: When a net with its names and its port is that of a design, and what its verdicts say of the design (rule
--- of this project).
+-- Between functions: When a net with its names and its port is that of a design, and what its verdicts say of the design
+-- (rule of this project).
 use Rattle.std.specs.Prelude.{◌≡◌, ℕ, ◌+◌, ◌≤◌, List, [], ◌∷◌, None, length, map}
 use Rattle.std.specs.List.{AllByRecursion}
 use Rattle.rv_table.specs.declared.retire.Opts.{Opts}

@@ -1,11 +1,13 @@
 -- Between functions: The notes of a certificate: which bit of which name a literal is, and in which cycle (rule of
 -- this project).
-use Rattle.std.specs.Prelude.{ℕ, ◌+◌, ◌*◌, List, [], ◌∷◌, ◌++◌, map, Option, Some, None}
+use Rattle.std.specs.Prelude.{ℕ, ◌+◌, ◌*◌, ◌/◌, ◌==◌, if◌then◌else◌, pos, neg_ℤ, List, [], ◌∷◌, ◌++◌, map, Option}
+use Rattle.std.specs.Prelude.{Some, None}
 use Rattle.std.specs.Prelude.{slice_get, slice_index, slice_index_or}
 use Rattle.std.specs.List.{range_with_len}
 use Rattle.wn_net.specs.declared.names.Names.{Names}
 use Rattle.wn_net.specs.declared.names.Spot.{Spot}
 use Rattle.vl_lower_spec.specs.Maps.{cells_named, text_of}
+use Rattle.bb_aig.specs.Graph.{is_negated}
 use Rattle.bb_blast.specs.declared.places.Placed.{Placed}
 use Rattle.bm_unroll.specs.declared.frames.Source.{Source}
 use Rattle.bm_unroll.specs.declared.frames.Source.TheVariants as s
@@ -13,12 +15,21 @@ use Rattle.rvfi_port.specs.declared.field.Field.{Field}
 use Rattle.rvfi_port.specs.Fields.{channel_fields, field_name, field_width}
 use Rattle.bm_decide.specs.declared.verdict.ChoiceBits.{ChoiceBits}
 use Rattle.ck_design.specs.declared.note.Note.{Note}
+use Rattle.ck_design.specs.declared.note.NoteLiteral.{NoteLiteral}
+use Rattle.ck_design.specs.declared.note.NoteLiteral.TheVariants as literal
+
+-- A graph's literal in clauses: variable n is node n, and an odd literal is the complement. Node 0 is no variable, its
+-- two literals are 0 and 1.
+abbrev pub literal_of : ℕ → NoteLiteral
+literal_of lit =
+    if lit == 0 then literal.Zero else if lit == 1 then literal.One
+    else literal.Clause (if is_negated lit then neg_ℤ (pos (lit / 2)) else pos (lit / 2))
 
 -- the bit of an input or of a register, by the name that it is of
 abbrev pub spot_note : Names → Option Spot → ℕ → Placed → Note
-spot_note names None cycle p = record { literal = 2 * p.node; cycle = cycle; bit = p.bit; name = [] }
+spot_note names None cycle p = record { literal = literal.Clause (pos p.node); cycle = cycle; bit = p.bit; name = [] }
 spot_note names (Some spot) cycle p = record {
-  literal = 2 * p.node;
+  literal = literal.Clause (pos p.node);
   cycle = cycle;
   bit = slice_index spot.bits p.bit;
   name = text_of (slice_get names.list spot.name);
@@ -27,7 +38,7 @@ spot_note names (Some spot) cycle p = record {
 -- the bit of a memory's word in the first cycle
 abbrev pub word_note : Names → ℕ → ℕ → Placed → Note
 word_note names m w p = record {
-  literal = 2 * p.node;
+  literal = literal.Clause (pos p.node);
   cycle = 0;
   bit = p.bit;
   name = slice_index_or (cells_named (slice_get names.list (slice_index names.mems m))) w [];
@@ -48,7 +59,7 @@ choice_notes names bits = map (λ p. source_note names (slice_get bits.sources p
 -- one for each bit of a channel's field, the lowest first
 abbrev pub bit_notes : ℕ → ℕ → Field → List ℕ → List Note
 bit_notes channel cycle field lits = map (λ b. record {
-  literal = slice_index_or lits b 0;
+  literal = literal_of (slice_index_or lits b 0);
   cycle = cycle;
   bit = channel * field_width field + b;
   name = field_name field;

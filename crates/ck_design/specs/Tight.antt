@@ -10,8 +10,7 @@ use Rattle.vl_mean.specs.Parts.{Part}
 use Rattle.vl_mean.specs.Runs.{IsAssumed, IsRun}
 use Rattle.wn_net.specs.declared.names.Names.{Names}
 use Rattle.wn_net.specs.Net.{Netlist, IsNet}
-use Rattle.cnf_form.specs.Cnf.{Cnf}
-use Rattle.bb_clauses.specs.Models.{AreTrue, value_in}
+use Rattle.cnf_form.specs.Cnf.{Cnf, formula_true, literal_true}
 use Rattle.rvfi_port.specs.declared.field.Field.{Field}
 use Rattle.rvfi_port.specs.declared.port.Port.{Port}
 use Rattle.rvfi_port.specs.declared.port.Wants.{Wants}
@@ -23,11 +22,19 @@ use Rattle.bm_decide.specs.Verdicts as verdict
 use Rattle.ck_design.specs.Retirements.{holds_over, values_at}
 use Rattle.ck_design.specs.Loaded.{IsLoaded}
 use Rattle.ck_design.specs.declared.note.Note.{Note}
+use Rattle.ck_design.specs.declared.note.NoteLiteral.{NoteLiteral}
+use Rattle.ck_design.specs.declared.note.NoteLiteral.TheVariants as literal
 use Rattle.ck_design.specs.Notes.{notes_of}
+
+-- the value of a note's literal, where the variables have these
+abbrev pub note_value : (ℕ → Bool) → NoteLiteral → Bool
+note_value v literal.Zero = false
+note_value v literal.One = true
+note_value v (literal.Clause l) = literal_true v l
 
 -- the literal of a note has the value of the bit that it names
 abbrev pub AgreeAt : (ℕ → Bool) → List Values → Note → Type 0
-AgreeAt v run note = value_in v note.literal ≡ (bit_at (values_at run note.cycle note.name) note.bit == 1)
+AgreeAt v run note = note_value v note.literal ≡ (bit_at (values_at run note.cycle note.name) note.bit == 1)
 
 -- values agree with a run at all notes
 abbrev pub Agree : (ℕ → Bool) → List Values → List Note → Type 0
@@ -50,11 +57,14 @@ pub record IsTight (ps : List Part) (channels : ℕ) (wants : Wants) (check : Ch
   pub before : List (List ℤ)
   pub last : formula.clauses ≡ before ++ (pos formula.vars ∷ []) ∷ []
   pub model : (run : List Values) → IsRun ps check.cycle run
-      → (v : ℕ → Bool) × AreTrue before v × Agree v run notes
-  pub one : (run : List Values) (v w : ℕ → Bool) → IsRun ps check.cycle run → AreTrue before v → AreTrue before w
-      → Agree v run notes → Agree w run notes → (k : ℕ) → 1 ≤ k → k ≤ formula.vars → v k ≡ w k
-  pub run : (v : ℕ → Bool) → AreTrue before v → (run : List Values) × IsRun ps check.cycle run × Agree v run notes
-  pub verdict : (v : ℕ → Bool) (run : List Values) → AreTrue before v → IsRun ps check.cycle run → Agree v run notes
+      → (v : ℕ → Bool) × (formula_true v before ≡ true) × Agree v run notes
+  pub one : (run : List Values) (v w : ℕ → Bool) → IsRun ps check.cycle run → formula_true v before ≡ true
+      → formula_true w before ≡ true → Agree v run notes → Agree w run notes
+      → (k : ℕ) → 1 ≤ k → k ≤ formula.vars → v k ≡ w k
+  pub run : (v : ℕ → Bool) → formula_true v before ≡ true
+      → (run : List Values) × IsRun ps check.cycle run × Agree v run notes
+  pub verdict : (v : ℕ → Bool) (run : List Values) → formula_true v before ≡ true → IsRun ps check.cycle run
+      → Agree v run notes
       → (v formula.vars ≡ true)
       ↔ (IsAssumed ps run × (holds_over run channels wants check opts ≡ false))
   pub fields : AllByRecursion (λ field. (bit : ℕ) → bit < field_width field

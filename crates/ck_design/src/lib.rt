@@ -13,5 +13,5 @@ mod note;
 mod notes_law;
 pub mod traces_law;
 
-pub use note::Note;
+pub use note::{Note, NoteLiteral};
 pub use notes_law::certificates_are_tight;

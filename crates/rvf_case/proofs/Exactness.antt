@@ -9,7 +9,7 @@ use Rattle.ck_cfg.specs.declared.fault.CfgFault.{CfgFault}
 use Rattle.ck_cfg.specs.declared.kind.CheckKind.{CheckKind}
 use Rattle.ck_cfg.specs.Checks.{checks_of}
 use Rattle.ck_cfg.specs.Reading.{config_of}
-use Rattle.rvf_load.specs.Loads.{Answers, Asked, IsLoadedFrom, IsRefused, IsSame, IsTheRefusal}
+use Rattle.rvf_load.specs.Loads.{Answers, Asked, IsLoadedFrom, IsRefused, IsSame, IsTheRefusal, NoneRefuses}
 use Rattle.rvf_load.specs.declared.fault.LoadFault.{LoadFault}
 use Rattle.rvf_load.specs.declared.fault.LoadFault.TheVariants as load
 use Rattle.rvf_load.specs.declared.loaded.Loaded.{Loaded}
@@ -25,6 +25,10 @@ use Rattle.rvf_case.specs.declared.refusal.Refusal.TheVariants as refusal
 
 -- ---- texts that are loaded one after the other
 
+-- no part refuses the texts of these kinds
+abbrev pub NoneIsRefused : (CheckKind → Asked) → List CheckKind → Type 0
+NoneIsRefused ask kinds = AllByRecursion (λ kind. NoneRefuses (ask kind)) kinds
+
 -- texts of kinds are loaded; and no part refuses one
 abbrev pub AreOf : (CheckKind → Asked) → List LoadedText → Type 0
 AreOf ask texts = AllByRecursion (λ x. IsLoadedFrom (ask x.kind) x.loaded) texts
@@ -32,12 +36,12 @@ AreOf ask texts = AllByRecursion (λ x. IsLoadedFrom (ask x.kind) x.loaded) text
 abbrev pub AreAnswers : (CheckKind → Asked) → List LoadedText → Type 0
 AreAnswers ask texts = AllByRecursion (λ x. Answers (ask x.kind) (Ok x.loaded)) texts
 
--- those before a kind are loaded, and its text is refused
+-- those before a kind aren't refused, and its text is
 pub record Stops (ask : CheckKind → Asked) (kinds : List CheckKind) (kind : CheckKind) (f : LoadFault) : Type 0 where
-  pub before : List LoadedText
+  pub before : List CheckKind
   pub behind : List CheckKind
-  pub order : kinds ≡ map (λ x. x.kind) before ++ kind ∷ behind
-  pub loaded : AreOf ask before
+  pub order : kinds ≡ before ++ kind ∷ behind
+  pub unrefused : NoneIsRefused ask before
   pub refused : IsRefused (ask kind) f
 
 same_head : {X : Type 0} (x y : X) (xs ys : List X) → x ∷ xs ≡ y ∷ ys → x ≡ y
@@ -53,6 +57,10 @@ module _ (ask : CheckKind → Asked) where
   pub are_of : (texts : List LoadedText) → AreAnswers ask texts → AreOf ask texts
   are_of [] a = tt
   are_of (t ∷ ts) a = (a.0.0, are_of ts a.1)
+
+  unrefused_of : (texts : List LoadedText) → AreAnswers ask texts → NoneIsRefused ask (map (λ x. x.kind) texts)
+  unrefused_of [] a = tt
+  unrefused_of (t ∷ ts) a = (a.0.1, unrefused_of ts a.1)
 
   -- no text that is loaded is refused
   none_refused : (texts : List LoadedText) (before : List CheckKind) (kind : CheckKind) (behind : List CheckKind)
@@ -79,38 +87,28 @@ module _ (ask : CheckKind → Asked) where
   none_loaded (t ∷ ts) (b ∷ bs) kind behind a e h =
       none_loaded ts bs kind behind a.1 (same_tail t.kind b (map (λ x. x.kind) ts) (bs ++ kind ∷ behind) e) h
 
-  -- of two texts that are refused behind loaded ones each is the other
-  one_stop : (xs ys : List LoadedText) (k other : CheckKind) (behind rest : List CheckKind) (f g : LoadFault)
-      → AreAnswers ask xs → AreOf ask ys
-      → map (λ x. x.kind) xs ++ k ∷ behind ≡ map (λ x. x.kind) ys ++ other ∷ rest
+  -- of two texts that are refused behind others that aren't each is the other
+  one_stop : (xs : List LoadedText) (ys : List CheckKind) (k other : CheckKind) (behind rest : List CheckKind)
+      (f g : LoadFault) → AreAnswers ask xs → NoneIsRefused ask ys
+      → map (λ x. x.kind) xs ++ k ∷ behind ≡ ys ++ other ∷ rest
       → IsTheRefusal (ask k) f → IsRefused (ask other) g → (other ≡ k) × IsSame f g
   one_stop [] [] k other behind rest f g a b e h r =
       let same : other ≡ k = sym (same_head k other behind rest e) in
       (same, h.only g (subst (λ k. IsRefused (ask k) g) same r))
   one_stop [] (y ∷ ys) k other behind rest f g a b e h r =
-      let same : y.kind ≡ k = sym (same_head k y.kind behind (map (λ x. x.kind) ys ++ other ∷ rest) e) in
-      absurd (h.none y.loaded (subst (λ k. IsLoadedFrom (ask k) y.loaded) same b.0))
+      let same : k ≡ y = same_head k y behind (ys ++ other ∷ rest) e in
+      absurd (b.0 f (subst (λ k. IsRefused (ask k) f) same h.is))
   one_stop (x ∷ xs) [] k other behind rest f g a b e h r =
       let same : other ≡ x.kind = sym (same_head x.kind other (map (λ x. x.kind) xs ++ k ∷ behind) rest e) in
       absurd (a.0.1 g (subst (λ k. IsRefused (ask k) g) same r))
   one_stop (x ∷ xs) (y ∷ ys) k other behind rest f g a b e h r =
       one_stop xs ys k other behind rest f g a.1 b.1
-      (same_tail x.kind y.kind (map (λ x. x.kind) xs ++ k ∷ behind) (map (λ x. x.kind) ys ++ other ∷ rest) e) h r
-
-  pub stops : (kinds : List CheckKind) (kind : CheckKind) (f : LoadFault) → StopsAt ask kinds kind f
-      → Stops ask kinds kind f
-  stops kinds kind f h = record {
-    before = h.before;
-    behind = h.behind;
-    order = h.order;
-    loaded = are_of h.before h.each;
-    refused = h.refused.is;
-  }
+      (same_tail x.kind y (map (λ x. x.kind) xs ++ k ∷ behind) (ys ++ other ∷ rest) e) h r
 
   loaded_never_stops : (kinds : List CheckKind) (texts : List LoadedText) (kind : CheckKind) (f : LoadFault)
       → AreLoadedInTurn ask kinds texts → Stops ask kinds kind f → ⊥
   loaded_never_stops kinds texts kind f a h =
-      none_refused texts (map (λ x. x.kind) h.before) kind h.behind f a.each (a.kinds_are ∙ h.order) h.refused
+      none_refused texts h.before kind h.behind f a.each (a.kinds_are ∙ h.order) h.refused
 
   stopped_never_loads : (kinds : List CheckKind) (texts : List LoadedText) (kind : CheckKind) (f : LoadFault)
       → StopsAt ask kinds kind f → map (λ x. x.kind) texts ≡ kinds → AreOf ask texts → ⊥
@@ -120,8 +118,8 @@ module _ (ask : CheckKind → Asked) where
   stops_once : (kinds : List CheckKind) (kind other : CheckKind) (f g : LoadFault) → StopsAt ask kinds kind f
       → Stops ask kinds other g → (other ≡ kind) × IsSame f g
   stops_once kinds kind other f g h k =
-      one_stop h.before k.before kind other h.behind k.behind f g h.each k.loaded (sym h.order ∙ k.order) h.refused
-      k.refused
+      one_stop h.before k.before kind other h.behind k.behind f g h.each k.unrefused (sym h.order ∙ k.order)
+      h.refused k.refused
 
 -- ---- what an answer means
 
@@ -136,6 +134,8 @@ is_case r held case h =
       loaded = subst (λ c. AreLoaded c h.files (leaders c) case.texts) back (record {
         kinds_are = h.loads.loaded.kinds_are;
         each = are_of (asked_for h.config h.files) case.texts h.loads.loaded.each;
+        unrefused = subst (λ kinds. NoneIsRefused (asked_for h.config h.files) kinds) h.loads.loaded.kinds_are
+            (unrefused_of (asked_for h.config h.files) case.texts h.loads.loaded.each);
       });
     }
 
@@ -146,10 +146,10 @@ refused_text r held c files kind f k read h = record {
   configured = k;
   files = files;
   read = read;
-  before = h.before;
+  before = map (λ x. x.kind) h.before;
   behind = h.behind;
   order = h.order;
-  loaded = are_of (asked_for c files) h.before h.each;
+  unrefused = unrefused_of (asked_for c files) h.before h.each;
   refused = h.refused.is;
 }
 
@@ -352,7 +352,7 @@ module _ (r : Request) (names : Names) where
         before = k.before;
         behind = k.behind;
         order = k.order;
-        loaded = k.loaded;
+        unrefused = k.unrefused;
         refused = k.refused;
       })
 

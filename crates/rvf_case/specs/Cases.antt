@@ -16,7 +16,7 @@ use Rattle.ck_cfg.specs.Reading.{config_of}
 use Rattle.ck_gen.specs.Monitors.{HasProbe}
 use Rattle.wn_net.specs.Names.{AreNamesOf}
 use Rattle.rvfi_port.specs.Ports.{ArePortNodes}
-use Rattle.rvf_load.specs.Loads.{IsLoadedFrom, IsRefused, IsSame}
+use Rattle.rvf_load.specs.Loads.{IsLoadedFrom, IsRefused, IsSame, NoneRefuses}
 use Rattle.rvf_load.specs.declared.fault.LoadFault.{LoadFault}
 use Rattle.rvf_load.specs.declared.fault.LoadFault.TheVariants as load
 use Rattle.rvf_load.specs.declared.loaded.Loaded.{Loaded}
@@ -64,11 +64,16 @@ names_in r c = file_names_of c r.core r.basedir
 
 -- ---- what stands in the end
 
--- of each distinct text what is loaded of it, in the order of their first checks
+-- no part refuses the texts of these kinds
+abbrev pub AreUnrefused : Config → List (List ℕ) → List CheckKind → Type 0
+AreUnrefused c files kinds = AllByRecursion (λ kind. NoneRefuses (asked_for c files kind)) kinds
+
+-- of each distinct text what is loaded of it, in the order of their first checks; and no part refuses one
 pub record AreLoaded (c : Config) (files : List (List ℕ)) (kinds : List CheckKind) (texts : List LoadedText)
     : Type 0 where
   pub kinds_are : map (λ x. x.kind) texts ≡ kinds
   pub each : AllByRecursion (λ x. IsLoadedFrom (asked_for c files x.kind) x.loaded) texts
+  pub unrefused : AreUnrefused c files kinds
 
 pub record IsCase (r : Request) (held : Told) (case : Case) : Type 0 where
   pub configured : IsConfigured r held case.config
@@ -103,15 +108,15 @@ pub record IsMisconfigured (r : Request) (held : Told) (f : CfgFault) : Type 0 w
   pub gives : ReadGives held r.cfg bytes
   pub refused : config_of bytes ≡ Err f
 
--- all files are read, all texts before the one of this kind are loaded, and this one is refused
+-- all files are read, no text before the one of this kind is refused, and this one is
 pub record IsRefusedText (r : Request) (held : Told) (c : Config) (kind : CheckKind) (f : LoadFault) : Type 0 where
   pub configured : IsConfigured r held c
   pub files : List (List ℕ)
   pub read : AreRead held (names_in r c) files
-  pub before : List LoadedText
+  pub before : List CheckKind
   pub behind : List CheckKind
-  pub order : leaders c ≡ map (λ x. x.kind) before ++ kind ∷ behind
-  pub loaded : AllByRecursion (λ x. IsLoadedFrom (asked_for c files x.kind) x.loaded) before
+  pub order : leaders c ≡ before ++ kind ∷ behind
+  pub unrefused : AreUnrefused c files before
   pub refused : IsRefused (asked_for c files kind) f
 
 -- a part refuses a text, under the names of its files, that of the configuration first

@@ -1,9 +1,8 @@
 -- Where files are told, what they give is one, and what was read and isn't refused has no cause against it.
-use Rattle.std.proofs.Common.{◌≡◌, ℕ, false, List, [], ◌∷◌, ◌++◌, map, Option, Some, None, Result, Ok}
+use Rattle.std.proofs.Common.{◌≡◌, ℕ, false, List, [], ◌∷◌, ◌++◌, Option, Some, None, Result, Ok}
 use Rattle.std.proofs.Common.{Err, refl, sym, ap, ◌∙◌, subst, arith}
 use Rattle.std.proofs.lemmas.Bool.Decides.{nat_tests}
-use Rattle.std.proofs.lemmas.List.Elements.{recursion_from_All}
-use Rattle.std.specs.List.{All, AllByRecursion}
+use Rattle.std.specs.List.{AllByRecursion}
 use Rattle.fv_base.specs.Outside.{Names, Rose}
 use Rattle.ck_cfg.specs.declared.config.Config.{Config}
 use Rattle.ck_cfg.specs.declared.fault.CfgFault.{CfgFault}
@@ -12,7 +11,8 @@ use Rattle.ck_cfg.specs.Reading.{config_of}
 use Rattle.rvf_case.specs.Loads.{NoneRefuses}
 use Rattle.rvf_case.specs.Loading.{LoadFault}
 use Rattle.rvf_case.specs.Loading.load as load
-use Rattle.rvf_case.specs.Cases.{AreRead, IsCause, IsConfigured, IsNext, IsRefusedText, Request, Seen, configuration}
+use Rattle.rvf_case.specs.Cases.{AreRead, AreUnrefused, IsCause, IsConfigured, IsNext, IsRefusedText, Request, Seen}
+use Rattle.rvf_case.specs.Cases.{configuration}
 use Rattle.rvf_case.specs.Cases.{names_in, verilog}
 use Rattle.rvf_case.specs.Texts.{asked_for, leaders}
 use Rattle.rvf_case.specs.declared.refusal.Refusal.{Refusal}
@@ -83,17 +83,13 @@ module _ (q : Request) (names : Names) where
   among P [] x behind each = each.0
   among P (y ∷ before) x behind each = among P before x behind each.1
 
-  -- the texts of what was read aren't refused
-  abbrev AreUnrefused : Config → List (List ℕ) → Type 0
-  AreUnrefused c fs = AllByRecursion (λ kind. NoneRefuses (asked_for c fs kind)) (leaders c)
-
   text_unrefused : (c d : Config) (fs : List (List ℕ)) (kind : CheckKind) (f : LoadFault)
-      → HasRead q (Some names) c fs → AreUnrefused c fs → IsRefusedText q (Some names) d kind f → ⊥
+      → HasRead q (Some names) c fs → AreUnrefused c fs (leaders c) → IsRefusedText q (Some names) d kind f → ⊥
   text_unrefused c d fs kind f x unrefused refused =
-      let there : AreUnrefused d refused.files =
-      moved AreUnrefused d c refused.files fs
+      let there : AreUnrefused d refused.files (leaders d) =
+      moved (λ e gs. AreUnrefused e gs (leaders e)) d c refused.files fs
       (record { configured = refused.configured; read = refused.read }) x unrefused in
-      among (λ k. NoneRefuses (asked_for d refused.files k)) (map (λ t. t.kind) refused.before) kind refused.behind
+      among (λ k. NoneRefuses (asked_for d refused.files k)) refused.before kind refused.behind
       (subst (λ ks. AllByRecursion (λ k. NoneRefuses (asked_for d refused.files k)) ks) refused.order there) f
       refused.refused
 
@@ -108,7 +104,7 @@ module _ (q : Request) (names : Names) where
     }
 
     pub uncaused : (c : Config) (fs : List (List ℕ)) → rose faults faults_now ≡ false → HasRead q (Some names) c fs
-        → All (λ kind. NoneRefuses (asked_for c fs kind)) (leaders c) → (f : Refusal) → IsCause q seen f → ⊥
+        → AreUnrefused c fs (leaders c) → (f : Refusal) → IsCause q seen f → ⊥
     uncaused c fs no_fault x unrefused (refusal.Absent name) cause =
         let found : (bytes : List ℕ) × (names name ≡ Some bytes) = next_read c fs name x cause.next in
         not_both (names name) found.0 found.1 cause.lacks
@@ -117,22 +113,22 @@ module _ (q : Request) (names : Names) where
         ok_err c f (same_says (names q.cfg) x.configured.bytes cause.bytes (Ok c) (Err f) x.configured.gives
         cause.gives x.configured.config_is cause.refused)
     uncaused c fs no_fault x unrefused (refusal.Source (load.Text f) ns) cause =
-        text_unrefused c cause.config fs cause.kind (load.Text f) x
-        (recursion_from_All (λ kind. NoneRefuses (asked_for c fs kind)) (leaders c) unrefused) cause.refused
+        text_unrefused c cause.config fs cause.kind (load.Text f) x unrefused
+        cause.refused
     uncaused c fs no_fault x unrefused (refusal.Source (load.Elab f) ns) cause =
-        text_unrefused c cause.config fs cause.kind (load.Elab f) x
-        (recursion_from_All (λ kind. NoneRefuses (asked_for c fs kind)) (leaders c) unrefused) cause.refused
+        text_unrefused c cause.config fs cause.kind (load.Elab f) x unrefused
+        cause.refused
     uncaused c fs no_fault x unrefused (refusal.Source (load.Flow f) ns) cause =
-        text_unrefused c cause.config fs cause.kind (load.Flow f) x
-        (recursion_from_All (λ kind. NoneRefuses (asked_for c fs kind)) (leaders c) unrefused) cause.refused
+        text_unrefused c cause.config fs cause.kind (load.Flow f) x unrefused
+        cause.refused
     uncaused c fs no_fault x unrefused (refusal.Source (load.Heavy place number) ns) cause = cause
     uncaused c fs no_fault x unrefused (refusal.Source (load.Port f) ns) cause =
-        text_unrefused c cause.config fs cause.kind (load.Port f) x
-        (recursion_from_All (λ kind. NoneRefuses (asked_for c fs kind)) (leaders c) unrefused) cause.refused
+        text_unrefused c cause.config fs cause.kind (load.Port f) x unrefused
+        cause.refused
     uncaused c fs no_fault x unrefused (refusal.Source load.Memory ns) cause =
-        text_unrefused c cause.config fs cause.kind load.Memory x
-        (recursion_from_All (λ kind. NoneRefuses (asked_for c fs kind)) (leaders c) unrefused) cause.refused
+        text_unrefused c cause.config fs cause.kind load.Memory x unrefused
+        cause.refused
     uncaused c fs no_fault x unrefused (refusal.Heavy name number) cause =
-        text_unrefused c cause.config fs cause.kind (load.Heavy cause.place number) x
-        (recursion_from_All (λ kind. NoneRefuses (asked_for c fs kind)) (leaders c) unrefused) cause.refused
+        text_unrefused c cause.config fs cause.kind (load.Heavy cause.place number) x unrefused
+        cause.refused
     uncaused c fs no_fault x unrefused refusal.Memory cause = cause

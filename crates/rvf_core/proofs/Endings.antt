@@ -127,6 +127,7 @@ module _ (law : JudgementsAreTheSources) (cfg outdir core basedir : List ℕ) (b
     config = case.config;
     files = is.files;
     read = has_read;
+    unrefused = is.loaded.unrefused;
     answers = answers;
     judged = judged answers are;
     all = all_answered ∙ ap length is.checks_are;
@@ -143,6 +144,7 @@ module _ (law : JudgementsAreTheSources) (cfg outdir core basedir : List ℕ) (b
     config = case.config;
     files = is.files;
     read = has_read;
+    unrefused = is.loaded.unrefused;
     answers = answers;
     judged = judged answers are;
     noted = is_noted case;

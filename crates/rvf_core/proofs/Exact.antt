@@ -9,21 +9,21 @@ use Rattle.ck_cfg.specs.declared.check.Check.{Check}
 use Rattle.ck_cfg.specs.declared.config.Config.{Config}
 use Rattle.ck_cfg.specs.Checks.{checks_of}
 use Rattle.ck_design.specs.Retirements.{IsViolating}
-use Rattle.rvf_case.specs.Loads.{NoneRefuses, design_of}
+use Rattle.rvf_case.specs.Loads.{design_of}
 use Rattle.rvf_judge.specs.declared.judged.Judged.{Judged}
 use Rattle.rvf_judge.specs.declared.judged.Judged.TheVariants as judged
 use Rattle.rvf_words.specs.Line.{line_of}
 use Rattle.rvf_words.specs.declared.line.Line.{Line as Words}
 use Rattle.rvf_words.specs.declared.line.Line.TheVariants as words
-use Rattle.rvf_case.specs.Cases.{Request, Seen}
-use Rattle.rvf_case.specs.Texts.{asked_for, leaders}
+use Rattle.rvf_case.specs.Cases.{AreUnrefused, Request, Seen}
+use Rattle.rvf_case.specs.Texts.{leaders}
 use Rattle.rvf_report.specs.Reports.{status_of}
 use Rattle.rvf_report.specs.declared.delivery.Delivery.{Delivery}
 use Rattle.rvf_report.specs.declared.status.Status.{Status}
 use Rattle.rvf_report.specs.declared.status.Status.TheVariants as s
 use Rattle.rvf_core.specs.Checks.{Checks, HasRead}
 use Rattle.rvf_core.specs.Checks as checks
-use Rattle.rvf_core.specs.Run.{Answers, Ends, IsAccepted, IsExact, IsQuiet, Run, Says, UnlessFaulty, comes}
+use Rattle.rvf_core.specs.Run.{Answers, Ends, HasCounts, IsAccepted, IsExact, Run, Says, comes}
 use Rattle.rvf_core.specs.Run.{comes_in_budget}
 use Rattle.rvf_core.specs.Run.{comes_judged, rose, seen_in}
 use Rattle.rvf_core.specs.Steps.{HaveStatus}
@@ -129,7 +129,7 @@ module _ (c : Config) (fs : List (List ℕ)) (budget : ℕ) where
 
 module _ (q : Request) (names : Names) (misses misses_now faults faults_now : ℕ)
     (no_fault : rose faults faults_now ≡ false) (c : Config) (fs : List (List ℕ))
-    (read : HasRead q (Some names) c fs) (unrefused : All (λ kind. NoneRefuses (asked_for c fs kind)) (leaders c)) where
+    (read : HasRead q (Some names) c fs) (unrefused : AreUnrefused c fs (leaders c)) where
   abbrev seen : Seen
   seen = record {
     held = Some names;
@@ -237,9 +237,9 @@ fail_comes r status a c fs x run h there violates =
 -- ---- each cause
 
 pub IsExact-answers : (r : Run) (status : Status) → Answers status r → HaveStatus (line_of r.words) r status
-    → UnlessFaulty status (IsQuiet r.before r.now) → IsExact status r
-IsExact-answers r status a statuses quiet = record {
-  quiet = quiet;
+    → HasCounts status r.before r.now → IsExact status r
+IsExact-answers r status a statuses counts = record {
+  counts = counts;
   usage = λ none. usage_comes r status a none;
   refusal = λ f h.
       subst (λ line. HaveStatus line r status) h.asks.asked statuses h.asks.names h.asks.told h.asks.no_fault f h.cause;

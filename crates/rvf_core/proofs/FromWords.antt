@@ -15,7 +15,7 @@ use Rattle.rvf_core.specs.Certifies.{Certifies}
 use Rattle.rvf_core.specs.Checks.{refused_status}
 use Rattle.rvf_core.specs.Lists.{Lists}
 use Rattle.rvf_core.specs.Puts.{Puts}
-use Rattle.rvf_core.specs.Run.{Answers, Ends, IsExact, Run, usage_line}
+use Rattle.rvf_core.specs.Run.{Answers, Ends, IsExact, Run, none_failed, usage_line}
 use Rattle.rvf_core.specs.Run as run
 use Rattle.rvf_core.specs.Steps.{HaveStatus}
 use Rattle.rvf_core.specs.declared.report.Report.{Report}
@@ -61,7 +61,7 @@ module _ (asked : List (List ℕ)) (before middle now : Outside) (held : SameFil
       )) made says) put
 
 -- nothing happened yet
-at_once : (before : Outside) → IsEarlier before before
+pub at_once : (before : Outside) → IsEarlier before before
 at_once before = record {
   held = SameFiles-refl before.held;
   sent = refl;
@@ -119,7 +119,7 @@ pub memory_at_once : (asked : List (List ℕ)) (before : Outside)
 memory_at_once asked before =
     let r : Run = record { words = asked; before = before; now = before } in
     let a : Answers s.Memory r = memory_ends (line_of asked) asked before in
-    (a, IsExact-answers r s.Memory a (memory_statuses (line_of asked) r) tt)
+    (a, IsExact-answers r s.Memory a (memory_statuses (line_of asked) r) (refl, none_failed refl))
 
 -- ---- the line that was read, in other words
 

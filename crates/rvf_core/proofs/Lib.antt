@@ -11,3 +11,4 @@ pub mod Exact
 pub mod FromFiles
 pub mod FromChecks
 pub mod FromWords
+pub mod Passes

@@ -1,5 +1,5 @@
--- That no call failed, unless the status says so or memory was wanted.
-use Rattle.std.proofs.Common.{◌≡◌, ◌∙◌, List, ℕ, Result, Ok, Err, IfOk, sym, ap, subst}
+-- Which calls failed, by the status.
+use Rattle.std.proofs.Common.{◌≡◌, ◌∙◌, ℕ, true, false, List, [], ◌∷◌, ◌++◌, Result, Ok, Err, IfOk, refl, sym, ap, subst}
 use Rattle.fv_base.specs.Outside.{UnlessFailed, UnlessNotPut}
 use Rattle.fv_base.specs.declared.files.FileFault.{FileFault}
 use Rattle.fv_base.specs.declared.files.FileFault.TheVariants as file
@@ -9,18 +9,54 @@ use Rattle.fv_base.specs.declared.out.OutFault.TheVariants as out
 use Rattle.rvf_case.specs.Cases.{UnlessFault}
 use Rattle.rvf_case.specs.declared.refusal.Refusal.{Refusal}
 use Rattle.rvf_case.specs.declared.refusal.Refusal.TheVariants as refusal
-use Rattle.rvf_report.specs.Outcome.{Outside}
+use Rattle.rvf_report.specs.Lines.{refusal_line, unread_line}
+use Rattle.rvf_report.specs.Outcome.{Outside, Delivers, LeavesOne, StopsBefore}
 use Rattle.rvf_report.specs.Status.{UnlessBroken, ends}
+use Rattle.rvf_report.specs.declared.delivery.Delivery.{Delivery}
+use Rattle.rvf_report.specs.declared.delivery.Delivery.TheVariants.{Line}
 use Rattle.rvf_report.specs.declared.status.Status.{Status}
 use Rattle.rvf_report.specs.declared.status.Status.TheVariants as s
+use Rattle.rvf_core.specs.Certificate.{one_line}
 use Rattle.rvf_core.specs.Checks.{refused_status}
 use Rattle.rvf_core.specs.Puts.{Puts}
-use Rattle.rvf_core.specs.Run.{UnlessFaulty}
+use Rattle.rvf_core.specs.Run.{HasCounts, IsQuiet, none_delivered, none_failed}
+use Rattle.rvf_core.specs.Steps.{TellsReads, all_read, is_memory, told}
 use Rattle.rvf_core.specs.Unread.{IsUnreadReport}
 use Rattle.rvf_core.specs.declared.report.Report.{Report}
+use Rattle.rvf_core.proofs.Later.{IsEarlier, later_delivers}
 
--- one that holds in any case
-pub with_any_status : (status : Status) (P : Type 0) → P → UnlessFaulty status P
+-- none did
+pub quiet_counts : (status : Status) (before now : Outside) → IsQuiet before now → HasCounts status before now
+quiet_counts s.Passed before now q = q
+quiet_counts s.Failing before now q = q
+quiet_counts s.Spent before now q = q
+quiet_counts s.Usage before now q = q
+quiet_counts s.Config before now q = q
+quiet_counts s.Source before now q = q
+quiet_counts s.Absent before now q = q
+quiet_counts s.ReadFault before now q = q.1
+quiet_counts s.WriteFault before now q = tt
+quiet_counts s.Heavy before now q = q
+quiet_counts s.Refused before now q = q
+quiet_counts s.Memory before now q = (q.1, none_failed q.0)
+
+-- what the end of a run over checks says
+pub unbroken_counts : (status : Status) (before now : Outside) (P : Type 0) → (P → IsQuiet before now)
+    → UnlessBroken status P → HasCounts status before now
+unbroken_counts s.Passed before now P h p = h p
+unbroken_counts s.Failing before now P h p = h p
+unbroken_counts s.Spent before now P h p = h p
+unbroken_counts s.Usage before now P h p = h p
+unbroken_counts s.Config before now P h p = h p
+unbroken_counts s.Source before now P h p = h p
+unbroken_counts s.Absent before now P h p = h p
+unbroken_counts s.ReadFault before now P h p = (h p).1
+unbroken_counts s.WriteFault before now P h p = tt
+unbroken_counts s.Heavy before now P h p = h p
+unbroken_counts s.Refused before now P h p = h p
+unbroken_counts s.Memory before now P h p = quiet_counts s.Memory before now (h p)
+
+with_any_status : (status : Status) (P : Type 0) → P → UnlessBroken status P
 with_any_status s.Passed P p = p
 with_any_status s.Failing P p = p
 with_any_status s.Spent P p = p
@@ -28,102 +64,101 @@ with_any_status s.Usage P p = p
 with_any_status s.Config P p = p
 with_any_status s.Source P p = p
 with_any_status s.Absent P p = p
-with_any_status s.ReadFault P p = tt
+with_any_status s.ReadFault P p = p
 with_any_status s.WriteFault P p = tt
 with_any_status s.Heavy P p = p
 with_any_status s.Refused P p = p
-with_any_status s.Memory P p = tt
-
-both : (status : Status) (P Q R : Type 0) → (P → Q → R) → UnlessFaulty status P → UnlessFaulty status Q
-    → UnlessFaulty status R
-both s.Passed P Q R h p q = h p q
-both s.Failing P Q R h p q = h p q
-both s.Spent P Q R h p q = h p q
-both s.Usage P Q R h p q = h p q
-both s.Config P Q R h p q = h p q
-both s.Source P Q R h p q = h p q
-both s.Absent P Q R h p q = h p q
-both s.ReadFault P Q R h p q = tt
-both s.WriteFault P Q R h p q = tt
-both s.Heavy P Q R h p q = h p q
-both s.Refused P Q R h p q = h p q
-both s.Memory P Q R h p q = tt
-
--- what the end of a run over checks says
-pub unless_broken : (status : Status) (P Q : Type 0) → (P → Q) → UnlessBroken status P → UnlessFaulty status Q
-unless_broken s.Passed P Q h p = h p
-unless_broken s.Failing P Q h p = h p
-unless_broken s.Spent P Q h p = h p
-unless_broken s.Usage P Q h p = h p
-unless_broken s.Config P Q h p = h p
-unless_broken s.Source P Q h p = h p
-unless_broken s.Absent P Q h p = h p
-unless_broken s.ReadFault P Q h p = tt
-unless_broken s.WriteFault P Q h p = tt
-unless_broken s.Heavy P Q h p = h p
-unless_broken s.Refused P Q h p = h p
-unless_broken s.Memory P Q h p = tt
-
--- the report of a refusal
-pub refusal_quiet : (f : Refusal) (P : Type 0) → UnlessFault f P → UnlessFaulty (refused_status f) P
-refusal_quiet (refusal.Absent name) P p = p
-refusal_quiet (refusal.Unread name) P p = tt
-refusal_quiet (refusal.Config f) P p = p
-refusal_quiet (refusal.Source f names) P p = p
-refusal_quiet (refusal.Heavy name number) P p = p
-refusal_quiet refusal.Memory P p = tt
-
--- a report that has this status
-pub of_status : (report : Report) (status : Status) (P : Type 0) → report.status ≡ status → UnlessFaulty status P
-    → UnlessFaulty report.status P
-of_status report status P is p = subst (λ x. UnlessFaulty x P) (sym is) p
-
--- the report on a file that gave no bytes
-pub fault_quiet : (A : Type 0) (fault : FileFault) (name : List ℕ) (P : Type 0) (report : Report)
-    → UnlessFailed {A = A} (Err fault) P → IsUnreadReport fault name report → UnlessFaulty report.status P
-fault_quiet A file.Absent name P report p is = of_status report s.Absent P (ap (λ (r : Report). r.status) is) p
-fault_quiet A file.Failed name P report p is = of_status report s.ReadFault P (ap (λ (r : Report). r.status) is) tt
-fault_quiet A file.Memory name P report p is = absurd is
-
-fault_follows : (A : Type 0) (fault : FileFault) (P Q : Type 0) → (P → Q) → UnlessFailed {A = A} (Err fault) P
-    → UnlessFailed {A = A} (Err fault) Q
-fault_follows A file.Absent P Q h p = h p
-fault_follows A file.Failed P Q h p = tt
-fault_follows A file.Memory P Q h p = h p
-
--- the same behind a file that was read
-pub later_fault_quiet : (A : Type 0) (fault : FileFault) (name : List ℕ) (P Q : Type 0) (report : Report) → (P → Q)
-    → UnlessFailed {A = A} (Err fault) P → IsUnreadReport fault name report → UnlessFaulty report.status Q
-later_fault_quiet A fault name P Q report h p is =
-    fault_quiet A fault name Q report (fault_follows A fault P Q h p) is
+with_any_status s.Memory P p = p
 
 ends_quiet : (d : Result (Unit {0}) OutFault) (status : Status) (P : Type 0) → UnlessNotPut d P
-    → UnlessFaulty (ends d status) P
+    → UnlessBroken (ends d status) P
 ends_quiet (Ok u) status P p = with_any_status status P p
 ends_quiet (Err out.Failed) status P p = tt
-ends_quiet (Err out.Memory) status P p = tt
+ends_quiet (Err out.Memory) status P p = p
 
 -- a report that was delivered as far as this says
 pub put_quiet : (d : Result (Unit {0}) OutFault) (wanted status : Status) (P : Type 0) → status ≡ ends d wanted
-    → UnlessNotPut d P → UnlessFaulty status P
-put_quiet d wanted status P is p = subst (λ x. UnlessFaulty x P) (sym is) (ends_quiet d wanted P p)
+    → UnlessNotPut d P → UnlessBroken status P
+put_quiet d wanted status P is p = subst (λ x. UnlessBroken x P) (sym is) (ends_quiet d wanted P p)
 
-ended_quiet : (d : Result (Unit {0}) OutFault) (wanted : Status) (P Q R : Type 0) → (P → Q → R)
-    → UnlessFaulty wanted P → UnlessFaulty (ends d wanted) Q → UnlessFaulty (ends d wanted) R
-ended_quiet (Ok u) wanted P Q R h p q = both wanted P Q R h p q
-ended_quiet (Err out.Failed) wanted P Q R h p q = tt
-ended_quiet (Err out.Memory) wanted P Q R h p q = tt
+-- ---- what reports tell of reads
 
--- counts that are as they were are so of what came before too
-pub unmoved : (first middle now out out_now : ℕ) → middle ≡ first → (now ≡ middle) × (out_now ≡ out)
-    → (now ≡ first) × (out_now ≡ out)
-unmoved first middle now out out_now earlier same = (same.0 ∙ earlier, same.1)
+true_false : true ≡ false → ⊥
+true_false e = cc
 
--- what was so while a report was made, and while it was delivered
-pub reported_quiet : (made : Result Report Memory) (status : Status) (before now : Outside) (P Q R : Type 0)
-    → (P → Q → R) → IfOk made (λ report. UnlessFaulty report.status P) → Puts made status before now
-    → UnlessFaulty status Q → UnlessFaulty status R
-reported_quiet (Ok report) status before now P Q R h p put q =
-    subst (λ x. UnlessFaulty x R) (sym put.status_is)
-    (ended_quiet put.delivered report.status P Q R h p (subst (λ x. UnlessFaulty x Q) put.status_is q))
-reported_quiet (Err e) status before now P Q R h p put q = subst (λ x. UnlessFaulty x R) (sym put.0) tt
+-- the report of a refusal
+pub refusal_tells : (f : Refusal) (faults now : ℕ) (report : Report) → UnlessFault f (now ≡ faults)
+    → (report ≡ one_line (refused_status f) (refusal_line f)) × (is_memory f ≡ false) → TellsReads report faults now
+refusal_tells (refusal.Absent name) faults now report p is = all_read p
+refusal_tells (refusal.Unread name) faults now report p is = told (unread_line name) is.0
+refusal_tells (refusal.Config f) faults now report p is = all_read p
+refusal_tells (refusal.Source f names) faults now report p is = all_read p
+refusal_tells (refusal.Heavy name number) faults now report p is = all_read p
+refusal_tells refusal.Memory faults now report p is = absurd (true_false is.1)
+
+-- the report on a file that gave no bytes
+pub fault_tells : (A : Type 0) (fault : FileFault) (name : List ℕ) (faults now : ℕ) (P : Type 0) (report : Report)
+    → (P → now ≡ faults) → UnlessFailed {A = A} (Err fault) P → IsUnreadReport fault name report
+    → TellsReads report faults now
+fault_tells A file.Absent name faults now P report h p is = all_read (h p)
+fault_tells A file.Failed name faults now P report h p is = told (unread_line name) is
+fault_tells A file.Memory name faults now P report h p is = absurd is
+
+-- ---- a report that is delivered behind what was read
+
+same_tail : (x y : Delivery) (xs ys : List Delivery) → x ∷ xs ≡ y ∷ ys → xs ≡ ys
+same_tail x y xs ys e = cc
+
+never_empty : (xs : List Delivery) (y : Delivery) (ys : List Delivery) → xs ++ y ∷ ys ≡ [] → ⊥
+never_empty [] y ys e = cc
+never_empty (x ∷ xs) y ys e = cc
+
+none_done : (done : List Delivery) (next : Delivery) (rest : List Delivery) (line : Delivery)
+    → done ++ next ∷ rest ≡ line ∷ [] → done ≡ []
+none_done [] next rest line e = refl
+none_done (d ∷ done) next rest line e =
+    absurd (never_empty done next rest (same_tail d line (done ++ next ∷ rest) [] e))
+
+module _ (before middle now : Outside) (earlier : IsEarlier before middle)
+    (same : middle.out_faults ≡ before.out_faults) where
+  -- of one line that is left nothing was delivered
+  one_left : (line : Delivery) → StopsBefore middle now (line ∷ []) → Delivers before now []
+  one_left line h =
+      later_delivers before middle now earlier []
+      (subst (λ ds. Delivers middle now ds) (none_done h.done h.next h.rest line h.order) h.delivered)
+
+  left : (report : Report) → TellsReads report before.faults middle.faults → StopsBefore middle now report.deliveries
+      → IsQuiet middle now → HasCounts s.Memory before now
+  left report (all_read e) h q = (q.1 ∙ same, none_failed (q.0 ∙ e))
+  left report (told line e) h q = (
+    q.1 ∙ same,
+    none_delivered (one_left (Line line)
+        (subst (λ ds. StopsBefore middle now ds) (ap (λ (r : Report). r.deliveries) e) h)),
+  )
+
+  stood : (report : Report) → TellsReads report before.faults middle.faults
+      → UnlessBroken report.status (IsQuiet middle now) → HasCounts report.status before now
+  stood report (all_read e) q =
+      unbroken_counts report.status before now (IsQuiet middle now) (λ p. (p.0 ∙ e, p.1 ∙ same)) q
+  stood report (told line e) q =
+      let is : report.status ≡ s.ReadFault = ap (λ (r : Report). r.status) e in
+      let p : IsQuiet middle now = subst (λ x. UnlessBroken x (IsQuiet middle now)) is q in
+      subst (λ x. HasCounts x before now) (sym is) (p.1 ∙ same)
+
+  ended : (put : Result (Unit {0}) OutFault) (report : Report) → TellsReads report before.faults middle.faults
+      → LeavesOne put middle now report.deliveries → UnlessBroken (ends put report.status) (IsQuiet middle now)
+      → HasCounts (ends put report.status) before now
+  ended (Ok u) report t l q = stood report t q
+  ended (Err out.Failed) report t l q = tt
+  ended (Err out.Memory) report t l q = left report t l q
+
+  pub put_counts : (made : Result Report Memory) (status : Status)
+      → IfOk made (λ report. TellsReads report before.faults middle.faults) → Puts made status middle now
+      → UnlessBroken status (IsQuiet middle now) → HasCounts status before now
+  put_counts (Ok report) status t put q =
+      subst (λ x. HasCounts x before now) (sym put.status_is)
+      (ended put.delivered report t put.left (subst (λ x. UnlessBroken x (IsQuiet middle now)) put.status_is q))
+  put_counts (Err fault) status t put q =
+      let p : IsQuiet middle now = subst (λ x. UnlessBroken x (IsQuiet middle now)) put.0 q in
+      subst (λ x. HasCounts x before now) (sym put.0)
+      (p.1 ∙ same, none_delivered (later_delivers before middle now earlier [] put.1))

@@ -5,7 +5,8 @@ use Rattle.fv_base.specs.Outside.{Told}
 use Rattle.ck_cfg.specs.declared.config.Config.{Config}
 use Rattle.ck_cfg.specs.Checks.{checks_of}
 use Rattle.rvf_judge.specs.declared.judged.Judged.{Judged}
-use Rattle.rvf_case.specs.Cases.{Request, Seen, IsConfigured, AreRead, IsCause, names_in}
+use Rattle.rvf_case.specs.Cases.{Request, Seen, IsConfigured, AreRead, AreUnrefused, IsCause, names_in}
+use Rattle.rvf_case.specs.Texts.{leaders}
 use Rattle.rvf_case.specs.declared.refusal.Refusal.{Refusal}
 use Rattle.rvf_case.specs.declared.refusal.Refusal.TheVariants as refusal
 use Rattle.rvf_report.specs.Lines.{refusal_line}
@@ -23,23 +24,25 @@ pub record HasRead (q : Request) (held : Told) (c : Config) (files : List (List 
 
 -- ---- reports
 
--- the first checks are judged, and this is the report as far as they go
+-- no text is refused, the first checks are judged, and this is the report as far as they go
 pub record IsBegun (q : Request) (held : Told) (folder : List ℕ) (budget : ℕ) (report : List Delivery) : Type 0 where
   pub config : Config
   pub files : List (List ℕ)
   pub read : HasRead q held config files
+  pub unrefused : AreUnrefused config files (leaders config)
   pub answers : List Judged
   pub judged : AreJudged config files budget (checks_of config) answers
   pub noted : Bool
   pub is_noted : IsNoted config files noted
   pub report_is : report ≡ begun folder budget noted config.skips (checks_of config) answers
 
--- all checks are judged, the status is theirs, and this is the whole report
+-- no text is refused, all checks are judged, the status is theirs, and this is the whole report
 pub record IsWhole (q : Request) (held : Told) (folder : List ℕ) (budget : ℕ) (status : Status)
     (report : List Delivery) : Type 0 where
   pub config : Config
   pub files : List (List ℕ)
   pub read : HasRead q held config files
+  pub unrefused : AreUnrefused config files (leaders config)
   pub answers : List Judged
   pub judged : AreJudged config files budget (checks_of config) answers
   pub all : length answers ≡ length (checks_of config)

@@ -4,6 +4,8 @@ pub mod Lists
 pub mod Certificate
 pub mod Certifies
 pub mod Unread
+pub mod Pass
+pub mod PassLaw
 pub mod Puts
 pub mod Run
 pub mod Steps

@@ -10,9 +10,8 @@ use Rattle.ck_cfg.specs.Checks.{checks_of}
 use Rattle.rvf_words.specs.declared.line.Line.{Line as Words}
 use Rattle.rvf_words.specs.declared.line.Line.TheVariants as words
 use Rattle.rvf_words.specs.Line.{line_of}
-use Rattle.rvf_case.specs.Loads.{NoneRefuses}
-use Rattle.rvf_case.specs.Cases.{Request, Seen, IsCause}
-use Rattle.rvf_case.specs.Texts.{asked_for, leaders}
+use Rattle.rvf_case.specs.Cases.{Request, Seen, AreUnrefused, IsCause}
+use Rattle.rvf_case.specs.Texts.{leaders}
 use Rattle.rvf_case.specs.declared.refusal.Refusal.{Refusal}
 use Rattle.rvf_report.specs.Outcome.{Outside, Delivers, Fails, Stops}
 use Rattle.rvf_report.specs.Status.{code_of}
@@ -138,7 +137,7 @@ pub record IsAccepted (r : Run) (c : Config) (files : List (List ℕ)) : Type 0 
   pub request : Request
   pub asks : Asks r request
   pub read : HasRead request r.before.held c files
-  pub unrefused : All (λ kind. NoneRefuses (asked_for c files kind)) (leaders c)
+  pub unrefused : AreUnrefused c files (leaders c)
 
 -- the words ask for names of checks or for the check of a certificate, the files are told, and no read or write failed
 abbrev pub IsOther : Words → Type 0
@@ -160,16 +159,22 @@ comes wanted status = (code_of status == code_of wanted) || ((code_of status == 
 abbrev pub comes_in_budget : Status → Status → Bool
 comes_in_budget wanted status = comes wanted status || (code_of status == 2)
 
--- a fact, unless the status says that a call failed, or that memory was wanted
-abbrev pub UnlessFaulty : Status → Type 0 → Type 0
-UnlessFaulty s.ReadFault P = Unit {0}
-UnlessFaulty s.WriteFault P = Unit {0}
-UnlessFaulty s.Memory P = Unit {0}
-UnlessFaulty status P = P
-
 -- no call on the files and none on the output failed
 abbrev pub IsQuiet : Outside → Outside → Type 0
 IsQuiet before now = (now.faults ≡ before.faults) × (now.out_faults ≡ before.out_faults)
+
+-- no call on the files failed, or one did before anything was delivered
+pub data FailsFirst (before now : Outside) : Type 0 where
+  none_failed : now.faults ≡ before.faults → FailsFirst before now
+  none_delivered : Delivers before now [] → FailsFirst before now
+
+-- Which calls failed, by the status. Under 7 a read did, and no put. Under 8 a write or a put did. Under 11 no put did,
+-- and a read only where nothing was delivered. Under all others none did.
+abbrev pub HasCounts : Status → Outside → Outside → Type 0
+HasCounts s.ReadFault before now = now.out_faults ≡ before.out_faults
+HasCounts s.WriteFault before now = Unit {0}
+HasCounts s.Memory before now = (now.out_faults ≡ before.out_faults) × FailsFirst before now
+HasCounts status before now = IsQuiet before now
 
 -- all checks were judged, or what may take its place came
 abbrev pub comes_judged : Status → Bool
@@ -177,7 +182,7 @@ comes_judged status = comes_in_budget s.Passed status || comes s.Failing status
 
 pub record IsExact (status : Status) (r : Run) : Type 0 where
   -- a call that failed has its status, 7 or 8, or memory was wanted
-  pub quiet : UnlessFaulty status (IsQuiet r.before r.now)
+  pub counts : HasCounts status r.before r.now
   pub usage : line_of r.words ≡ None → comes s.Usage status ≡ true
   pub refusal : (f : Refusal) → HasCause r f → comes (refused_status f) status ≡ true
   pub pass : (c : Config) (files : List (List ℕ)) → IsAccepted r c files

@@ -1,5 +1,5 @@
 -- Between functions: What the functions of the top call promise one another. Rules of this project.
-use Rattle.std.specs.Prelude.{◌≡◌, true, false, Bool, Option, Some}
+use Rattle.std.specs.Prelude.{◌≡◌, ℕ, true, false, Bool, List, Option, Some}
 use Rattle.fv_base.specs.Outside.{Names}
 use Rattle.rvf_words.specs.declared.line.Line.{Line as Words}
 use Rattle.rvf_words.specs.declared.line.Line.TheVariants as words
@@ -7,6 +7,9 @@ use Rattle.rvf_case.specs.Cases.{IsCause}
 use Rattle.rvf_case.specs.declared.refusal.Refusal.{Refusal}
 use Rattle.rvf_case.specs.declared.refusal.Refusal.TheVariants as refusal
 use Rattle.rvf_report.specs.declared.status.Status.{Status}
+use Rattle.rvf_report.specs.declared.status.Status.TheVariants as s
+use Rattle.rvf_core.specs.declared.report.Report.{Report}
+use Rattle.rvf_core.specs.Certificate.{one_line}
 use Rattle.rvf_core.specs.Checks.{refused_status}
 use Rattle.rvf_core.specs.Run.{Run, comes, request, rose, seen_in}
 
@@ -21,3 +24,8 @@ HaveStatus (Some (words.Run cfg outdir core basedir budget jobs)) r status =
     (names : Names) → r.before.held ≡ Some names → rose r.before.faults r.now.faults ≡ false → (f : Refusal)
     → IsCause (request cfg core basedir) (seen_in r) f → comes (refused_status f) status ≡ true
 HaveStatus asked r status = Unit {0}
+
+-- no read failed, or the report is the line of one that did
+pub data TellsReads (report : Report) (faults faults_now : ℕ) : Type 0 where
+  all_read : faults_now ≡ faults → TellsReads report faults faults_now
+  told : (line : List ℕ) → report ≡ one_line s.ReadFault line → TellsReads report faults faults_now

@@ -3,7 +3,7 @@
 ghost use Rattle.std.specs.Prelude.{◌≡◌, ◌≤◌, IfOk};
 ghost use Rattle.fv_base.specs.Outside.{SameFiles};
 ghost use Rattle.rvf_core.specs.Certifies.{Certifies};
-ghost use Rattle.rvf_core.specs.Run.{UnlessFaulty};
+ghost use Rattle.rvf_core.specs.Steps.{TellsReads};
 ghost use Rattle.rvf_core.specs.Unread.{IsUnreadReport};
 
 use crate::certificate::certify;
@@ -43,7 +43,7 @@ pub(crate) fn refute<F: Files>(
     ensures kept { SameFiles (F.held files.old) (F.held files.new) }
     ensures misses_grow { F.misses files.old ≤ F.misses files.new }
     ensures faults_grow { F.faults files.old ≤ F.faults files.new }
-    ensures quiet { IfOk result (λ report. UnlessFaulty report.status (F.faults files.new ≡ F.faults files.old)) }
+    ensures told { IfOk result (λ report. TellsReads report (F.faults files.old) (F.faults files.new)) }
 {
     match files.read(alloc, cnf) {
         Ok(clauses) => match files.read(alloc, proof) {

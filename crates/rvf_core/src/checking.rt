@@ -2,7 +2,7 @@
 
 ghost use Rattle.std.specs.Prelude.{◌≡◌, ◌≤◌, ◌<◌, ℕ, List, Some};
 ghost use Rattle.rvf_words.specs.declared.line.Line.TheVariants as words;
-ghost use Rattle.rvf_core.specs.Run.{Ends, UnlessFaulty};
+ghost use Rattle.rvf_core.specs.Run.{Ends, HasCounts};
 ghost use Rattle.rvf_core.specs.Steps.{HaveStatus};
 ghost use Rattle.rvf_report.specs.Outcome.{outside};
 
@@ -46,8 +46,9 @@ pub(crate) fn check<R: Threads + Sync, F: Files, O: Out, G: Gate>(
           now = outside (F.held files.new) (F.misses files.new) (F.faults files.new) (O.sent out.new)
               (O.faults out.new);
         }) result }
-    ensures quiet { UnlessFaulty result
-        ((F.faults files.new ≡ F.faults files.old) × (O.faults out.new ≡ O.faults out.old)) }
+    ensures counts { HasCounts result
+        (outside (F.held files.old) (F.misses files.old) (F.faults files.old) (O.sent out.old) (O.faults out.old))
+        (outside (F.held files.new) (F.misses files.new) (F.faults files.new) (O.sent out.new) (O.faults out.new)) }
 {
     judgements_are_the_sources();
     match prepare(alloc, request, files) {

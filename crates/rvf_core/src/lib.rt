@@ -5,6 +5,7 @@ mod certificate;
 mod certifying;
 mod checking;
 mod listing;
+pub mod pass_law;
 mod refusing;
 mod report;
 mod reporting;

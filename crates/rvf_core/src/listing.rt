@@ -4,7 +4,7 @@ ghost use Rattle.std.specs.Prelude.{◌≡◌, ◌≤◌, map, IfOk};
 ghost use Rattle.fv_base.specs.Outside.{SameFiles};
 ghost use Rattle.ck_cfg.specs.Checks.{checks_of};
 ghost use Rattle.rvf_core.specs.Lists.{Lists, name_line};
-ghost use Rattle.rvf_core.specs.Run.{UnlessFaulty};
+ghost use Rattle.rvf_core.specs.Steps.{TellsReads};
 ghost use Rattle.rvf_report.specs.declared.status.Status.TheVariants.{Passed};
 
 use crate::refusing::refused;
@@ -60,7 +60,7 @@ pub(crate) fn list<F: Files>(alloc: Global, cfg: &[u8], files: &mut F) -> Result
     ensures kept { SameFiles (F.held files.old) (F.held files.new) }
     ensures misses_grow { F.misses files.old ≤ F.misses files.new }
     ensures faults_grow { F.faults files.old ≤ F.faults files.new }
-    ensures quiet { IfOk result (λ report. UnlessFaulty report.status (F.faults files.new ≡ F.faults files.old)) }
+    ensures told { IfOk result (λ report. TellsReads report (F.faults files.old) (F.faults files.new)) }
 {
     match read_config(alloc, cfg, files) {
         Ok(config) => listed(alloc, &config),

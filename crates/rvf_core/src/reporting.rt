@@ -2,8 +2,7 @@
 
 ghost use Rattle.std.specs.Prelude.{◌≡◌, ◌≤◌};
 ghost use Rattle.rvf_core.specs.Puts.{Puts};
-ghost use Rattle.rvf_core.specs.Run.{UnlessFaulty};
-ghost use Rattle.rvf_report.specs.Status.{ends};
+ghost use Rattle.rvf_report.specs.Status.{UnlessBroken, ends};
 ghost use Rattle.rvf_report.specs.Outcome.{outside};
 
 use crate::report::Report;
@@ -35,7 +34,7 @@ pub(crate) fn put_report<F: Files, O: Out>(
         (outside (F.held files.new) (F.misses files.new) (F.faults files.new) (O.sent out.new) (O.faults out.new)) }
     ensures misses_kept { F.misses files.new ≡ F.misses files.old }
     ensures faults_grow { F.faults files.old ≤ F.faults files.new }
-    ensures quiet { UnlessFaulty result
+    ensures quiet { UnlessBroken result
         ((F.faults files.new ≡ F.faults files.old) × (O.faults out.new ≡ O.faults out.old)) }
 {
     match report {

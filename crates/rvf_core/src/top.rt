@@ -2,7 +2,7 @@
 
 ghost use Rattle.std.specs.Prelude.{◌≡◌, ℕ, List as SpecList, Some, map, string_bytes, IfOk};
 ghost use Rattle.rvf_core.specs.Certificate.{one_line};
-ghost use Rattle.rvf_core.specs.Run.{Answers, Ends, IsExact, IsLine, UnlessFaulty, usage_line};
+ghost use Rattle.rvf_core.specs.Run.{Answers, Ends, HasCounts, IsExact, IsLine, usage_line};
 ghost use Rattle.rvf_core.specs.Steps.{HaveStatus};
 ghost use Rattle.rvf_report.specs.declared.status.Status.TheVariants.{Usage};
 ghost use Rattle.rvf_report.specs.Outcome.{outside};
@@ -107,8 +107,9 @@ fn answered<R: Threads + Sync, F: Files, O: Out, G: Gate>(
       before = outside (F.held files.old) (F.misses files.old) (F.faults files.old) (O.sent out.old) (O.faults out.old);
       now = outside (F.held files.new) (F.misses files.new) (F.faults files.new) (O.sent out.new) (O.faults out.new);
     }) result }
-    ensures quiet { UnlessFaulty result
-        ((F.faults files.new ≡ F.faults files.old) × (O.faults out.new ≡ O.faults out.old)) }
+    ensures counts { HasCounts result
+        (outside (F.held files.old) (F.misses files.old) (F.faults files.old) (O.sent out.old) (O.faults out.old))
+        (outside (F.held files.new) (F.misses files.new) (F.faults files.new) (O.sent out.new) (O.faults out.new)) }
 {
     match read_words(alloc, words) {
         Ok(Some(line)) => done(rt, alloc, &line, gate, files, out),
@@ -137,8 +138,9 @@ fn done<R: Threads + Sync, F: Files, O: Out, G: Gate>(
       before = outside (F.held files.old) (F.misses files.old) (F.faults files.old) (O.sent out.old) (O.faults out.old);
       now = outside (F.held files.new) (F.misses files.new) (F.faults files.new) (O.sent out.new) (O.faults out.new);
     }) result }
-    ensures quiet { UnlessFaulty result
-        ((F.faults files.new ≡ F.faults files.old) × (O.faults out.new ≡ O.faults out.old)) }
+    ensures counts { HasCounts result
+        (outside (F.held files.old) (F.misses files.old) (F.faults files.old) (O.sent out.old) (O.faults out.old))
+        (outside (F.held files.new) (F.misses files.new) (F.faults files.new) (O.sent out.new) (O.faults out.new)) }
 {
     match line {
         Line::Run {

@@ -8,7 +8,7 @@ use Rattle.rvfi_port.specs.declared.field.Field.{Field}
 use Rattle.rvfi_port.specs.declared.field.Field.TheVariants as f
 use Rattle.rvfi_port.specs.Fields.{field_name, field_width}
 use Rattle.ck_design.specs.declared.note.Note.{Note}
-use Rattle.ck_design.specs.Notes.{bit_notes, field_notes}
+use Rattle.ck_design.specs.Notes.{bit_notes, field_notes, literal_of}
 use Rattle.rvf_judge.specs.NoteLinesParts.{bits_from}
 
 pub few_bits : (field : Field) → field_width field ≤ 64
@@ -41,7 +41,7 @@ product_small channel width few small = mul-le channel width 67108863 64 (omega 
 pub bits_step : (channel cycle : ℕ) (field : Field) (lits : List ℕ) (before after all : List Note) (i count : ℕ)
     (y : Note) → i < count → before ++ bits_from channel cycle field lits i (count - i) ≡ all
     → y ≡ record {
-      literal = slice_index_or lits i 0;
+      literal = literal_of (slice_index_or lits i 0);
       cycle = cycle;
       bit = channel * field_width field + i;
       name = field_name field;
@@ -52,7 +52,7 @@ bits_step channel cycle field lits before after all i count y below own is more 
     let left : count - i ≡ suc (count - (i + 1)) = omega arith in
     ap (λ z. z ++ rest) (more ∙ ap (λ z. before ++ z ∷ []) is)
     ∙ append_assoc before (record {
-      literal = slice_index_or lits i 0;
+      literal = literal_of (slice_index_or lits i 0);
       cycle = cycle;
       bit = channel * field_width field + i;
       name = field_name field;

@@ -1,15 +1,15 @@
 //! The notes of choices.
 
-ghost use Rattle.std.specs.Prelude.{◌≡◌, ◌*◌, [], slice_get, slice_index, slice_index_or, IfOk};
+ghost use Rattle.std.specs.Prelude.{◌≡◌, [], pos, slice_get, slice_index, slice_index_or, IfOk};
 ghost use Rattle.vl_lower_spec.specs.Maps.{cells_named, text_of};
 ghost use Rattle.ck_design.specs.Notes as notes;
+ghost use Rattle.ck_design.specs.declared.note.NoteLiteral.TheVariants as note_literal;
 ghost use Rattle.rvf_judge.specs.NoteLinesParts.{placed_notes};
 
 use crate::cell::{cell_name, no_name};
-use bb_aig::Lit;
 use bb_blast::Placed;
 use bm_unroll::Source;
-use ck_design::Note;
+use ck_design::{Note, NoteLiteral};
 use fv_text::{List, Memory, Text};
 use std::alloc::Global;
 use wn_net::{Names, NetName, Spot};
@@ -52,23 +52,23 @@ fn word_name(alloc: Global, names: &Names, mem: u32, word: u32) -> Result<Text, 
     }
 }
 
-/// Twice as many literals as nodes are below `2^64`.
+/// Variables are below `2^63`.
 const MOST_NODES: u64 = 1 << 63;
 
-/// The literal of a node. No memory holds a graph with a node past the last literal.
-fn literal_of(node: u64) -> Result<Lit, Memory>
-    ensures { IfOk result (λ literal. literal ≡ 2 * node) }
+/// The variable of a node. No memory holds a graph with a node past the last variable.
+fn literal_of(node: u64) -> Result<NoteLiteral, Memory>
+    ensures { IfOk result (λ it. it ≡ note_literal.Clause (pos node)) }
 {
     if node >= MOST_NODES {
         return Err(Memory);
     }
-    Ok(2 * node)
+    Ok(NoteLiteral::Clause(node as i64))
 }
 
 /// The note of a bit that has no name.
 fn bare_note(alloc: Global, place: Placed) -> Result<Note, Memory>
     ensures { IfOk result (λ note. note
-        ≡ record { literal = 2 * place.node; cycle = 0; bit = place.bit; name = [] }) }
+        ≡ record { literal = note_literal.Clause (pos place.node); cycle = 0; bit = place.bit; name = [] }) }
 {
     let literal = literal_of(place.node)?;
     Ok(Note {

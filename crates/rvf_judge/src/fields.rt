@@ -6,7 +6,7 @@ ghost use Rattle.ck_design.specs.Notes as notes;
 ghost use Rattle.rvf_judge.specs.NoteLinesParts.{bits_from};
 
 use bb_aig::Lit;
-use ck_design::Note;
+use ck_design::{Note, NoteLiteral};
 use fv_text::{List, Memory, Text};
 use rvfi_port::Field;
 use std::alloc::Global;
@@ -17,6 +17,24 @@ fn literal_at(lits: &[Lit], index: u32) -> Lit
     match lits.get(index as usize) {
         Some(lit) => *lit,
         None => 0,
+    }
+}
+
+/// The literal in clauses.
+fn note_literal(lit: Lit) -> NoteLiteral
+    ensures { result ≡ notes.literal_of lit }
+{
+    if lit == 0 {
+        return NoteLiteral::Zero;
+    }
+    if lit == 1 {
+        return NoteLiteral::One;
+    }
+    let variable = (lit / 2) as i64;
+    if lit % 2 == 1 {
+        NoteLiteral::Clause(-variable)
+    } else {
+        NoteLiteral::Clause(variable)
     }
 }
 
@@ -51,7 +69,7 @@ fn bit_note(
     requires channel { channel < 2 ^ 26 }
     requires bit { bit < rvfi.field_width field }
     ensures { IfOk result (λ note. note ≡ record {
-      literal = slice_index_or lits.now bit 0;
+      literal = notes.literal_of (slice_index_or lits.now bit 0);
       cycle = cycle;
       bit = channel * rvfi.field_width field + bit;
       name = rvfi.field_name field;
@@ -59,7 +77,7 @@ fn bit_note(
 {
     let name = Text::from_bytes(alloc, field.name())?;
     Ok(Note {
-        literal: literal_at(lits, bit),
+        literal: note_literal(literal_at(lits, bit)),
         cycle,
         bit: bit_among(channel, field, bit),
         name,

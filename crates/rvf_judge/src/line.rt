@@ -1,46 +1,50 @@
-ghost use Rattle.std.specs.Prelude.{◌≡◌, ◌++◌, IfOk, OnOk};
+ghost use Rattle.std.specs.Prelude.{◌≡◌, ◌++◌, ◌∷◌, [], IfOk, OnOk};
+ghost use Rattle.std.specs.Fmt.{signed_decimal};
 ghost use Rattle.cnf_text.specs.Dimacs.{HasNoEnd};
 ghost use Rattle.rvf_judge.specs.Lines as lines;
 
-use bb_aig::Lit;
-use ck_design::Note;
+use ck_design::{Note, NoteLiteral};
 use fv_text::{Memory, Text};
 use itoa::Buffer;
 use std::alloc::Global;
 
-/// The literal in clauses.
-fn clause_literal(lit: Lit) -> i64
-    ensures { result ≡ lines.clause_literal lit }
+fn put_number(out: &mut Vec<u8>, number: i64) -> Result<(), Memory>
+    ensures text { OnOk result (out.new.items ≡ out.old.items ++ signed_decimal number) }
+    ensures one_line { OnOk result (HasNoEnd (signed_decimal number)) }
 {
-    let variable = (lit / 2) as i64;
-    if lit % 2 == 1 { -variable } else { variable }
+    let mut buffer = Buffer::new();
+    out.extend_from_slice(buffer.format(number).as_bytes())?;
+    Ok(())
 }
 
-fn put_literal(out: &mut Vec<u8>, lit: Lit) -> Result<(), Memory>
-    ensures { OnOk result (out.new.items ≡ out.old.items ++ lines.literal_word lit) }
+fn put_byte(out: &mut Vec<u8>, byte: u8) -> Result<(), Memory>
+    ensures { OnOk result (out.new.items ≡ out.old.items ++ byte ∷ []) }
 {
-    if lit == 0 {
-        out.push(b'F')?;
-        return Ok(());
-    }
-    if lit == 1 {
-        out.push(b'T')?;
-        return Ok(());
-    }
-    let mut buffer = Buffer::new();
-    out.extend_from_slice(buffer.format(clause_literal(lit)).as_bytes())?;
+    out.push(byte)?;
     Ok(())
+}
+
+fn put_literal(out: &mut Vec<u8>, literal: NoteLiteral) -> Result<(), Memory>
+    ensures text { OnOk result (out.new.items ≡ out.old.items ++ lines.literal_word literal) }
+    ensures one_line { OnOk result (HasNoEnd (lines.literal_word literal)) }
+{
+    match literal {
+        NoteLiteral::Zero => put_byte(out, b'F'),
+        NoteLiteral::One => put_byte(out, b'T'),
+        NoteLiteral::Clause(number) => put_number(out, number),
+    }
 }
 
 fn line_bytes(
     alloc: Global,
-    literal: Lit,
+    literal: NoteLiteral,
     cycle: u32,
     bit: u32,
     name: &Text,
 ) -> Result<Vec<u8>, Memory>
-    ensures { IfOk result (λ bytes. bytes.items ≡ lines.note_text
+    ensures text { IfOk result (λ bytes. bytes.items ≡ lines.note_text
         (record { literal = literal; cycle = cycle; bit = bit; name = name.now })) }
+    ensures one_line { IfOk result (λ bytes. HasNoEnd (lines.literal_word literal)) }
 {
     let mut buffer = Buffer::new();
     let mut out = Vec::new(alloc);
@@ -54,7 +58,13 @@ fn line_bytes(
     Ok(out)
 }
 
-fn line_text(alloc: Global, literal: Lit, cycle: u32, bit: u32, name: &Text) -> Result<Text, Memory>
+fn line_text(
+    alloc: Global,
+    literal: NoteLiteral,
+    cycle: u32,
+    bit: u32,
+    name: &Text,
+) -> Result<Text, Memory>
     ensures text { IfOk result (λ text. text ≡ lines.note_text
         (record { literal = literal; cycle = cycle; bit = bit; name = name.now })) }
     ensures one_line { IfOk result (λ text. HasNoEnd name.now → HasNoEnd text) }

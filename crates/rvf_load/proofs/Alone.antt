@@ -3,29 +3,26 @@ use Rattle.std.specs.Prelude.{◌≡◌, ℕ, Bool, true, false, Option, Some, N
 use Rattle.std.proofs.Common.{ap, sym, ◌∙◌, subst, true≢false}
 use Rattle.std.proofs.lemmas.Option.{same_Some}
 use Rattle.vl_mean.specs.declared.flat.Flat.{Flat}
-use Rattle.vl_mean.specs.FlatParts.{parts_of}
 use Rattle.vl_elab_spec.specs.Refused as elab
 use Rattle.vl_elab_spec.specs.declared.elab_fault.ElabFault.{ElabFault}
 use Rattle.vl_flow_spec.specs.Refusals.{HasNoRefusal}
 use Rattle.vl_flow_spec.specs.Weight.{design_weight}
 use Rattle.vl_flow.specs.Faults.{IsFault}
 use Rattle.vl_flow.specs.declared.fault.FlowFault.{FlowFault}
-use Rattle.vl_lower_spec.specs.Maps.{AreEntriesOf, listed}
-use Rattle.wn_net.specs.declared.names.Names.{Names}
 use Rattle.rvfi_port.specs.declared.fault.PortFault.{PortFault}
-use Rattle.rvfi_port.specs.Outputs as port
 use Rattle.vl_text.specs.SourceText.{Comes, Reading}
 use Rattle.vl_text.specs.declared.fault.TextFault.{TextFault}
 use Rattle.rvf_load.specs.Loads.{Asked, Reads, IsFlat, Writes, wants_of, weight_of, too_heavy, top, IsLoadedFrom}
 use Rattle.rvf_load.specs.Loads.{IsUnread, IsNoDesign, IsUnordered, IsTooHeavy, HasNoPort, IsRefused, IsSame}
 use Rattle.rvf_load.specs.Loads.{IsTheRefusal, NoneRefuses, Answers}
+use Rattle.rvf_load.specs.Ports.{port_refusal}
 use Rattle.rvf_load.specs.Stages.{Gives}
 use Rattle.rvf_load.specs.declared.loaded.Loaded.{Loaded}
 use Rattle.rvf_load.specs.declared.fault.LoadFault.{LoadFault}
 use Rattle.rvf_load.specs.declared.fault.LoadFault.TheVariants as fault
 use Rattle.rvf_load.proofs.Drawings.{Lists, lists_of, one_design}
 use Rattle.rvf_load.proofs.FlowFaults.{none_refused, one_refusal}
-use Rattle.rvf_load.proofs.Outputs.{same_refusal}
+use Rattle.rvf_load.proofs.Readings.{reading_comes}
 
 -- ---- answers that are equal
 
@@ -51,11 +48,14 @@ ComeToOne a = (x y : Result Reading TextFault) → Comes a.core a.texts a.lines 
 module _ (a : Asked) (one : ComeToOne a) where
   -- ---- what two parts say is of one reading
 
+  comes : (r : Reading) → Reads a r → Comes a.core a.texts a.lines (Ok r)
+  comes r h = reading_comes a.texts a.lines a.core r h
+
   one_reading : (r s : Reading) → Reads a r → Reads a s → s ≡ r
-  one_reading r s h k = ap (reading_or r) (one (Ok s) (Ok r) k h)
+  one_reading r s h k = ap (reading_or r) (one (Ok s) (Ok r) (comes s k) (comes r h))
 
   unread : (r : Reading) (f : TextFault) → Reads a r → IsUnread a f → ⊥
-  unread r f h k = true≢false (ap is_read (one (Ok r) (Err f) h k))
+  unread r f h k = true≢false (ap is_read (one (Ok r) (Err f) (comes r h) k))
 
   one_unread : (f g : TextFault) → IsUnread a f → IsUnread a g → g ≡ f
   one_unread f g h k = ap (fault_or f) (one (Err g) (Err f) k h)
@@ -106,18 +106,14 @@ module _ (a : Asked) (one : ComeToOne a) where
         → too_heavy (weight_of flat) 0 a.factors ≡ None
     light_of s other k e = sym (weight_is s other k) ∙ e
 
-    -- names of the design in a net
-    port_of : (s : Reading) (other : Flat) (names mine : Names) (o : Option PortFault) → Writes a s other
-        → AreEntriesOf (listed (parts_of other.decls other.drivers other.starts)) names.list
-        → AreEntriesOf (listed (parts_of flat.decls flat.drivers flat.starts)) mine.list
-        → port.refusal names a.channels (wants_of a.probes s.macros) ≡ o
-        → port.refusal mine a.channels (wants_of a.probes r.macros) ≡ o
-    port_of s other names mine o k named own e =
-        let here = subst (λ (t : Lists). AreEntriesOf (listed (parts_of t.0 t.1 t.2)) names.list)
-        (one_flat r s flat other h k) named in
-        same_refusal a.channels (listed (parts_of flat.decls flat.drivers flat.starts)) mine names own here
-        (wants_of a.probes r.macros)
-        ∙ ap (λ (t : Reading). port.refusal names a.channels (wants_of a.probes t.macros))
+    -- its outputs are refused alike
+    port_of : (s : Reading) (other : Flat) (o : Option PortFault) → Writes a s other
+        → port_refusal other.decls a.channels (wants_of a.probes s.macros) ≡ o
+        → port_refusal flat.decls a.channels (wants_of a.probes r.macros) ≡ o
+    port_of s other o k e =
+        ap (λ (t : Lists). port_refusal t.0 a.channels (wants_of a.probes r.macros))
+        (sym (one_flat r s flat other h k))
+        ∙ ap (λ (t : Reading). port_refusal other.decls a.channels (wants_of a.probes t.macros))
         (sym (one_reading r s h.reads k.reads)) ∙ e
 
   -- ---- one refusal, and nothing loaded
@@ -190,8 +186,7 @@ module _ (a : Asked) (one : ComeToOne a) where
     is = h;
     only = others;
     none = λ l k. some_none k.bound
-        (port_of k.reading k.flat k.writes h.reading h.flat h.names l.names (Some f) h.writes h.named
-        k.loaded.lowered.entries h.refused);
+        (port_of k.reading k.flat k.writes h.reading h.flat (Some f) h.writes h.refused);
   }
     where
       others : (g : LoadFault) → IsRefused a g → IsSame (fault.Port f) g
@@ -202,8 +197,7 @@ module _ (a : Asked) (one : ComeToOne a) where
           absurd (some_none h.light (heavy_of h.reading h.flat h.writes place product k))
       others (fault.Port g) k =
           ap fault.Port (same_Some g f
-          (sym (port_of h.reading h.flat h.writes k.reading k.flat k.names h.names (Some g) k.writes k.named h.named
-          k.refused) ∙ h.refused))
+          (sym (port_of h.reading h.flat h.writes k.reading k.flat (Some g) k.writes k.refused) ∙ h.refused))
       others fault.Memory k = absurd k
 
   -- what is loaded isn't refused
@@ -215,8 +209,7 @@ module _ (a : Asked) (one : ComeToOne a) where
       some_none h.light (heavy_of h.reading h.flat h.writes place product k)
   none_refuses l h (fault.Port g) k =
       some_none h.bound
-      (port_of h.reading h.flat h.writes k.reading k.flat k.names l.names (Some g) k.writes k.named
-      h.loaded.lowered.entries k.refused)
+      (port_of h.reading h.flat h.writes k.reading k.flat (Some g) k.writes k.refused)
   none_refuses l h fault.Memory k = k
 
   pub alone : (result : Result Loaded LoadFault) → Gives a result → Answers a result

@@ -3,6 +3,8 @@ use Rattle.std.specs.Prelude.{◌≡◌, ℕ, ◌+◌, ◌≤◌, List, length, 
 use Rattle.std.specs.Prelude.{None, Option, Some, Result, Ok, Err}
 use Rattle.std.proofs.Common.{sym, ◌∙◌, subst, true≢false}
 use Rattle.rv_table.specs.declared.retire.Opts.{Opts}
+use Rattle.std.proofs.lemmas.List.Elements.{recursion_from_All}
+use Rattle.vl_mean.specs.FlatLaw.{IsKept}
 use Rattle.vl_mean.specs.FlatParts.{flat_parts}
 use Rattle.vl_lower_spec.specs.Evaluations.{IsLowered}
 use Rattle.vl_lower_cell_laws.specs.Few.{AreFew}
@@ -20,6 +22,8 @@ use Rattle.ck_design.specs.Loaded.{BoundNetsAreLoaded}
 use Rattle.ck_gen.specs.Monitors.{IsThere}
 use Rattle.ck_design.specs.Traces.{HaveOwnNames}
 use Rattle.rvf_load.specs.Loads.{too_heavy, weight_of}
+use Rattle.rvf_load.specs.Ports.{port_refusal}
+use Rattle.rvf_load.proofs.Outputs.{by_outputs}
 use Rattle.rvf_load.specs.Stages.{IsNetOf, IsNetted, IsWeighed, of_port}
 use Rattle.rvf_load.specs.declared.loaded.Loaded.{Loaded}
 use Rattle.rvf_load.specs.declared.fault.LoadFault.{LoadFault}
@@ -49,6 +53,14 @@ has_dmem old new names true (Some p) h e = tt
 has_dmem old new names false None h e = absurd (true≢false (sym e))
 has_dmem old new names false (Some p) h e = absurd h
 
+-- the names of the net refuse the port as the declared outputs do
+of_design : (ordered : Ordered) (net : Netlist) (names : Names) (channels : ℕ) (wants : Wants)
+    → IsLowered (flat_parts ordered.flat) net names
+    → refusal names channels wants ≡ port_refusal ordered.flat.decls channels wants
+of_design ordered net names channels wants lowered =
+    by_outputs ordered.flat.decls ordered.flat.drivers ordered.flat.starts
+    (recursion_from_All IsKept ordered.flat.decls ordered.flat.lawful.kept) names lowered.entries channels wants
+
 pub bound_net : (ordered : Ordered) (old : Netlist) (l : Loaded) (channels : ℕ) (wants : Wants) (opts : Opts)
     → BoundNetsAreLoaded → HaveOwnNames (flat_parts ordered.flat) → IsLowered (flat_parts ordered.flat) old l.names
     → AreFew old → IsNet old → IsNet l.net → AddsNodes old l.net → IsPortOf old l.net l.names channels wants l.port
@@ -56,7 +68,7 @@ pub bound_net : (ordered : Ordered) (old : Netlist) (l : Loaded) (channels : ℕ
     → IsNetOf ordered channels wants opts l
 bound_net ordered old l channels wants opts law own lowered few before after adds is_port none options weight = record {
   loaded = law (flat_parts ordered.flat) old l.net l.names channels wants l.port lowered before after adds is_port none;
-  bound = none;
+  bound = sym (of_design ordered old l.names channels wants lowered) ∙ none;
   few = still_few old l.net adds few;
   own = own;
   options = options;
@@ -70,11 +82,11 @@ pub unbound : (ordered : Ordered) (net : Netlist) (names : Names) (channels : �
     → IsNetted ordered channels wants opts (Err (of_port f))
 unbound ordered net names channels wants opts port_fault.Memory lowered h = tt
 unbound ordered net names channels wants opts (port_fault.Missing field) lowered h =
-    record { names = names; named = lowered.entries; refused = h }
+    sym (of_design ordered net names channels wants lowered) ∙ h
 unbound ordered net names channels wants opts (port_fault.Width field bits wanted) lowered h =
-    record { names = names; named = lowered.entries; refused = h }
+    sym (of_design ordered net names channels wants lowered) ∙ h
 unbound ordered net names channels wants opts port_fault.NeedsAligned lowered h =
-    record { names = names; named = lowered.entries; refused = h }
+    sym (of_design ordered net names channels wants lowered) ∙ h
 
 -- what comes of a design that is light enough
 pub light : (factors : List ℕ) (ordered : Ordered) (channels : ℕ) (wants : Wants) (opts : Opts)

@@ -20,6 +20,7 @@ use Rattle.rvf_load.specs.declared.loaded.Loaded.{Loaded}
 use Rattle.rvf_load.specs.declared.fault.LoadFault.{LoadFault}
 use Rattle.rvf_load.specs.declared.fault.LoadFault.TheVariants as fault
 use Rattle.rvf_load.proofs.Alone.{ComeToOne, alone}
+use Rattle.rvf_load.proofs.Readings.{is_reading, reading_comes}
 
 -- ---- the tree of a reading is well formed
 
@@ -58,6 +59,10 @@ module _ (r : Reading) where
 
 -- ---- what is there
 
+-- what comes of the texts is what they say
+says : (a : Asked) (r : Reading) → Comes a.core a.texts a.lines (Ok r) → Reads a r
+says a r h = is_reading a.texts a.lines a.core r h
+
 -- the design in order
 pub ordered_there : (a : Asked) (r : Reading) (ordered : Ordered) (result : Result Loaded LoadFault)
     → Only (Comes a.core a.texts a.lines) (Ok r) → IsFlat r.tree.modules ordered.flat
@@ -66,7 +71,7 @@ pub ordered_there : (a : Asked) (r : Reading) (ordered : Ordered) (result : Resu
 ordered_there a r ordered (Ok l) only flat h = record {
   reading = r;
   flat = ordered.flat;
-  writes = record { reads = only.is; is_flat = flat };
+  writes = record { reads = says a r only.is; is_flat = flat };
   ordered = ordered.accepted;
   light = h.0;
   loaded = h.1.loaded;
@@ -77,7 +82,7 @@ ordered_there a r ordered (Ok l) only flat h = record {
   weighed = h.1.weighed;
   imem = h.1.imem;
   dmem = h.1.dmem;
-  one = λ other k. ap (reading_or r) (only.only (Ok other) k);
+  one = λ other k. ap (reading_or r) (only.only (Ok other) (reading_comes a.texts a.lines a.core other k));
 }
 ordered_there a r ordered (Err (fault.Text f)) only flat h = absurd h
 ordered_there a r ordered (Err (fault.Elab f)) only flat h = absurd h
@@ -85,31 +90,29 @@ ordered_there a r ordered (Err (fault.Flow f)) only flat h = absurd h
 ordered_there a r ordered (Err (fault.Heavy place product)) only flat h = record {
   reading = r;
   flat = ordered.flat;
-  writes = record { reads = only.is; is_flat = flat };
+  writes = record { reads = says a r only.is; is_flat = flat };
   ordered = ordered.accepted;
   heavy = h;
 }
 ordered_there a r ordered (Err (fault.Port f)) only flat h = record {
   reading = r;
   flat = ordered.flat;
-  writes = record { reads = only.is; is_flat = flat };
+  writes = record { reads = says a r only.is; is_flat = flat };
   ordered = ordered.accepted;
   light = h.0;
-  names = h.1.names;
-  named = h.1.named;
-  refused = h.1.refused;
+  refused = h.1;
 }
 ordered_there a r ordered (Err fault.Memory) only flat h = tt
 
 -- or why there is none
-pub refused_there : (a : Asked) (r : Reading) (f : LoadFault) → Reads a r → IsInOrder r.tree.modules (Err f)
-    → Gives a (Err f)
+pub refused_there : (a : Asked) (r : Reading) (f : LoadFault) → Comes a.core a.texts a.lines (Ok r)
+    → IsInOrder r.tree.modules (Err f) → Gives a (Err f)
 refused_there a r (fault.Text f) reads h = absurd h
-refused_there a r (fault.Elab f) reads h = record { reading = r; reads = reads; refused = h }
+refused_there a r (fault.Elab f) reads h = record { reading = r; reads = says a r reads; refused = h }
 refused_there a r (fault.Flow f) reads h = record {
   reading = r;
   flat = h.flat;
-  writes = record { reads = reads; is_flat = h.is_flat };
+  writes = record { reads = says a r reads; is_flat = h.is_flat };
   refused = h.refused;
 }
 refused_there a r (fault.Heavy place product) reads h = absurd h

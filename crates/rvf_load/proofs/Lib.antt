@@ -6,3 +6,4 @@ pub mod InOrder
 pub mod Joining
 pub mod Outputs
 pub mod Products
+pub mod Readings

@@ -1,2 +1,4 @@
 pub mod Loads
+pub mod Ports
+pub mod Readings
 pub mod Stages

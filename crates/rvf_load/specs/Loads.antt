@@ -18,12 +18,9 @@ use Rattle.vl_flow_spec.specs.Weight.{design_weight}
 use Rattle.vl_flow.specs.Faults.{IsFault}
 use Rattle.vl_flow.specs.declared.fault.FlowFault.{FlowFault}
 use Rattle.vl_flow.specs.declared.fault.FlowFault.TheVariants as flow
-use Rattle.vl_lower_spec.specs.Maps.{AreEntriesOf, listed}
 use Rattle.vl_lower_cell_laws.specs.Few.{AreFew}
-use Rattle.wn_net.specs.declared.names.Names.{Names}
 use Rattle.rvfi_port.specs.declared.fault.PortFault.{PortFault}
 use Rattle.rvfi_port.specs.declared.port.Wants.{Wants}
-use Rattle.rvfi_port.specs.Outputs as port
 use Rattle.ck_design.specs.Loaded.{IsLoaded}
 use Rattle.ck_gen.specs.Monitors.{IsThere}
 use Rattle.ck_design.specs.Traces.{HaveOwnNames}
@@ -31,6 +28,8 @@ use Rattle.vl_text.specs.SourceText.{Comes, Reading}
 use Rattle.vl_text.specs.Texts.{Text}
 use Rattle.vl_text.specs.declared.fault.TextFault.{TextFault}
 use Rattle.vl_text.specs.declared.macros.Core.{Core}
+use Rattle.rvf_load.specs.Ports.{port_refusal}
+use Rattle.rvf_load.specs.Readings.{IsReadingOf}
 use Rattle.rvf_load.specs.declared.asked.Probes.{Probes}
 use Rattle.rvf_load.specs.declared.loaded.Loaded.{Loaded}
 use Rattle.rvf_load.specs.declared.fault.LoadFault.{LoadFault}
@@ -72,7 +71,7 @@ wants_of probes macros = record { imem = probes.imem; dmem = probes.dmem; aligne
 
 -- the texts have this tree, and these macros are defined behind them
 abbrev pub Reads : Asked → Reading → Type 0
-Reads a r = Comes a.core a.texts a.lines (Ok r)
+Reads a r = IsReadingOf a.core a.texts a.lines r
 
 -- the parts of the design of modules
 abbrev pub design_of : List Module → List Part
@@ -113,7 +112,7 @@ pub record IsLoadedFrom (a : Asked) (l : Loaded) : Type 0 where
   pub ordered : HasNoRefusal flat.decls flat.drivers
   pub light : too_heavy (weight_of flat) 0 a.factors ≡ None
   pub loaded : IsLoaded (flat_parts flat) l.net l.names a.channels (wants_of a.probes reading.macros) l.port
-  pub bound : port.refusal l.names a.channels (wants_of a.probes reading.macros) ≡ None
+  pub bound : port_refusal flat.decls a.channels (wants_of a.probes reading.macros) ≡ None
   pub few : AreFew l.net
   pub own : HaveOwnNames (flat_parts flat)
   pub options : l.opts ≡ opts_of a.core reading.macros
@@ -151,16 +150,14 @@ pub record IsTooHeavy (a : Asked) (place product : ℕ) : Type 0 where
   pub ordered : HasNoRefusal flat.decls flat.drivers
   pub heavy : too_heavy (weight_of flat) 0 a.factors ≡ Some (place, product)
 
--- its outputs make no port
+-- its declared outputs make no port
 pub record HasNoPort (a : Asked) (f : PortFault) : Type 0 where
   pub reading : Reading
   pub flat : Flat
   pub writes : Writes a reading flat
   pub ordered : HasNoRefusal flat.decls flat.drivers
   pub light : too_heavy (weight_of flat) 0 a.factors ≡ None
-  pub names : Names
-  pub named : AreEntriesOf (listed (flat_parts flat)) names.list
-  pub refused : port.refusal names a.channels (wants_of a.probes reading.macros) ≡ Some f
+  pub refused : port_refusal flat.decls a.channels (wants_of a.probes reading.macros) ≡ Some f
 
 abbrev pub IsRefused : Asked → LoadFault → Type 0
 IsRefused a (fault.Text f) = IsUnread a f

@@ -4,7 +4,6 @@ use Rattle.rv_table.specs.declared.retire.Opts.{Opts}
 use Rattle.vl_tree.specs.declared.source.Module.{Module}
 use Rattle.vl_mean.specs.declared.flat.Flat.{Flat}
 use Rattle.vl_mean.specs.FlatParts.{flat_parts}
-use Rattle.vl_mean.specs.Parts.{Part}
 use Rattle.vl_elab_spec.specs.Refused as elab
 use Rattle.vl_elab.specs.declared.reason.Reason.{Reason}
 use Rattle.vl_elab.specs.declared.reason.Reason.TheVariants as reason
@@ -12,19 +11,17 @@ use Rattle.vl_flow.specs.declared.ordered.Ordered.{Ordered}
 use Rattle.vl_flow.specs.Faults.{IsFault}
 use Rattle.vl_flow.specs.declared.fault.FlowFault.{FlowFault}
 use Rattle.vl_flow.specs.declared.fault.FlowFault.TheVariants as flow
-use Rattle.vl_lower_spec.specs.Maps.{AreEntriesOf, listed}
 use Rattle.vl_lower_cell_laws.specs.Few.{AreFew}
-use Rattle.wn_net.specs.declared.names.Names.{Names}
 use Rattle.rvfi_port.specs.declared.fault.PortFault.{PortFault}
 use Rattle.rvfi_port.specs.declared.fault.PortFault.TheVariants as port_fault
 use Rattle.rvfi_port.specs.declared.port.Wants.{Wants}
-use Rattle.rvfi_port.specs.Outputs as port
 use Rattle.ck_design.specs.Loaded.{IsLoaded}
 use Rattle.ck_gen.specs.Monitors.{IsThere}
 use Rattle.ck_design.specs.Traces.{HaveOwnNames}
 use Rattle.vl_text.specs.declared.fault.TextFault.{TextFault}
 use Rattle.vl_text.specs.declared.fault.TextFault.TheVariants as text
 use Rattle.rvf_load.specs.Loads.{Asked, IsFlat, IsLoadedFrom, IsRefused, too_heavy, top, weight_of}
+use Rattle.rvf_load.specs.Ports.{port_refusal}
 use Rattle.rvf_load.specs.declared.loaded.Loaded.{Loaded}
 use Rattle.rvf_load.specs.declared.fault.LoadFault.{LoadFault}
 use Rattle.rvf_load.specs.declared.fault.LoadFault.TheVariants as fault
@@ -75,7 +72,7 @@ IsInOrder modules (Err f) = ⊥
 -- the net is the design's, and its port is bound
 pub record IsNetOf (ordered : Ordered) (channels : ℕ) (wants : Wants) (opts : Opts) (l : Loaded) : Type 0 where
   pub loaded : IsLoaded (flat_parts ordered.flat) l.net l.names channels wants l.port
-  pub bound : port.refusal l.names channels wants ≡ None
+  pub bound : port_refusal ordered.flat.decls channels wants ≡ None
   pub few : AreFew l.net
   pub own : HaveOwnNames (flat_parts ordered.flat)
   pub options : l.opts ≡ opts
@@ -83,16 +80,10 @@ pub record IsNetOf (ordered : Ordered) (channels : ℕ) (wants : Wants) (opts : 
   pub imem : wants.imem ≡ true → IsThere l.port.imem
   pub dmem : wants.dmem ≡ true → IsThere l.port.dmem
 
--- the outputs of the design make no port
-pub record IsUnbound (ps : List Part) (channels : ℕ) (wants : Wants) (f : PortFault) : Type 0 where
-  pub names : Names
-  pub named : AreEntriesOf (listed ps) names.list
-  pub refused : port.refusal names channels wants ≡ Some f
-
 -- the net with its port, or why there is none
 abbrev pub IsNetted : Ordered → ℕ → Wants → Opts → Result Loaded LoadFault → Type 0
 IsNetted ordered channels wants opts (Ok l) = IsNetOf ordered channels wants opts l
-IsNetted ordered channels wants opts (Err (fault.Port f)) = IsUnbound (flat_parts ordered.flat) channels wants f
+IsNetted ordered channels wants opts (Err (fault.Port f)) = port_refusal ordered.flat.decls channels wants ≡ Some f
 IsNetted ordered channels wants opts (Err fault.Memory) = Unit {0}
 IsNetted ordered channels wants opts (Err f) = ⊥
 
@@ -104,7 +95,7 @@ IsWeighed factors ordered channels wants opts (Err (fault.Heavy place product)) 
     too_heavy (weight_of ordered.flat) 0 factors ≡ Some (place, product)
 IsWeighed factors ordered channels wants opts (Err (fault.Port f)) =
     (too_heavy (weight_of ordered.flat) 0 factors ≡ None)
-    × IsUnbound (flat_parts ordered.flat) channels wants f
+    × (port_refusal ordered.flat.decls channels wants ≡ Some f)
 IsWeighed factors ordered channels wants opts (Err fault.Memory) = Unit {0}
 IsWeighed factors ordered channels wants opts (Err f) = ⊥
 

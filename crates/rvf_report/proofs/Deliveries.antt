@@ -7,8 +7,8 @@ use Rattle.fv_base.specs.Outside.{Told, Rose, SameFiles, Holds, HoldsSome, Holds
 use Rattle.fv_base.specs.declared.out.OutFault.{OutFault}
 use Rattle.fv_base.specs.declared.out.OutFault.TheVariants as out
 use Rattle.rvf_report.specs.Outcome.{Outside, told_with, held_after, lines_of, Delivers, PutsPart, LeavesPart}
-use Rattle.rvf_report.specs.Outcome.{IsDelivered, IsDone}
-use Rattle.rvf_report.specs.Steps.{CountsIn, IsQuiet}
+use Rattle.rvf_report.specs.Outcome.{IsDelivered, IsDone, LeavesOne}
+use Rattle.rvf_report.specs.Steps.{CountsIn, AreUnmoved}
 use Rattle.rvf_report.specs.declared.delivery.Delivery.{Delivery}
 use Rattle.rvf_report.specs.declared.delivery.Delivery.TheVariants.{File, Line}
 
@@ -169,7 +169,7 @@ Delivers-nothing a = record { files = SameFiles-refl a.held; lines = Appends-not
 
 -- a delivery that came to a fault, behind others that came through
 pub IsDelivered-behind : (fault : OutFault) (a b c : Outside) (first second : List Delivery) → Delivers a b first
-    → IsQuiet a b → IsDelivered (Err fault) b c second → IsDelivered (Err fault) a c (first ++ second)
+    → AreUnmoved a b → IsDelivered (Err fault) b c second → IsDelivered (Err fault) a c (first ++ second)
 IsDelivered-behind out.Failed a b c first second p quiet q = record {
   done = first ++ q.done;
   failing = q.failing;
@@ -189,26 +189,26 @@ IsDelivered-behind out.Memory a b c first second p quiet q = record {
 pub IsDelivered-all : (a b : Outside) (ds : List Delivery) → Delivers a b ds → IsDelivered (Err out.Memory) a b ds
 IsDelivered-all a b ds p = record { done = ds; rest = []; order = append-nil ds; delivered = p }
 
-pub IsQuiet-trans : (a b c : Outside) → IsQuiet a b → IsQuiet b c → IsQuiet a c
-IsQuiet-trans a b c p q = record {
+pub AreUnmoved-trans : (a b c : Outside) → AreUnmoved a b → AreUnmoved b c → AreUnmoved a c
+AreUnmoved-trans a b c p q = record {
   misses = q.misses ∙ p.misses;
   faults = q.faults ∙ p.faults;
   out_faults = q.out_faults ∙ p.out_faults;
 }
 
-pub CountsIn-behind : (fault : OutFault) (a b c : Outside) → IsQuiet a b → CountsIn (Err fault) b c
+pub CountsIn-behind : (fault : OutFault) (a b c : Outside) → AreUnmoved a b → CountsIn (Err fault) b c
     → CountsIn (Err fault) a c
 CountsIn-behind out.Failed a b c p q = record {
   misses = q.misses ∙ p.misses;
   faults = omega (arith, p.faults, q.faults);
   out_faults = omega (arith, p.out_faults, q.out_faults);
 }
-CountsIn-behind out.Memory a b c p q = IsQuiet-trans a b c p q
+CountsIn-behind out.Memory a b c p q = AreUnmoved-trans a b c p q
 
 -- what was delivered so far
 pub record SoFar (a b : Outside) (index : ℕ) (ds : List Delivery) : Type 0 where
   pub delivered : Delivers a b (take index ds)
-  pub quiet : IsQuiet a b
+  pub quiet : AreUnmoved a b
 
 take-next : {A : Type 0} (index : ℕ) (xs : List A) (x : A) → index < length xs → x ≡ get_or xs index x
     → take index xs ++ x ∷ [] ≡ take (index + 1) xs
@@ -230,7 +230,7 @@ pub SoFar-more : (a b c : Outside) (index : ℕ) (ds : List Delivery) (d : Deliv
 SoFar-more a b c index ds d u lt at so_far done quiet = record {
   delivered = subst (λ l. Delivers a c l) (take-next index ds d lt at)
       (Delivers-behind a b c (take index ds) (d ∷ []) so_far.delivered done);
-  quiet = IsQuiet-trans a b c so_far.quiet quiet;
+  quiet = AreUnmoved-trans a b c so_far.quiet quiet;
 }
 
 -- one of them came to a fault
@@ -246,3 +246,17 @@ SoFar-stops fault a b c index ds d lt at so_far q =
     subst (λ l. IsDelivered (Err fault) a c l) (split-at index ds d lt at)
     (IsDelivered-behind fault a b c (take index ds) (d ∷ drop (index + 1) ds) so_far.delivered so_far.quiet
     (one_failed fault b c d (drop (index + 1) ds) q))
+
+-- where memory was wanted for it, it and those behind it are left
+pub SoFar-leaves : (fault : OutFault) (a b c : Outside) (index : ℕ) (ds : List Delivery) (d : Delivery)
+    → index < length ds → d ≡ get_or ds index d → SoFar a b index ds
+    → IsDone (Err fault) b c d → LeavesOne (Err fault) a c ds
+SoFar-leaves out.Failed a b c index ds d lt at so_far q = tt
+SoFar-leaves out.Memory a b c index ds d lt at so_far q = record {
+  done = take index ds;
+  next = d;
+  rest = drop (index + 1) ds;
+  order = split-at index ds d lt at;
+  delivered = subst (λ l. Delivers a c l) (append-nil (take index ds))
+      (Delivers-behind a b c (take index ds) [] so_far.delivered q);
+}

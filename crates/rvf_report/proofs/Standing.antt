@@ -19,7 +19,7 @@ use Rattle.rvf_report.specs.Deliveries.{deliveries_of}
 use Rattle.rvf_report.specs.ReportLines.{total_line}
 use Rattle.rvf_report.specs.Outcome.{Outside, Delivers, IsDelivered}
 use Rattle.rvf_report.specs.Status.{UnlessBroken}
-use Rattle.rvf_report.specs.Steps.{CountsIn, CutsOff, Ends, IsAnswerAt, IsQuiet, Proceeds, Stands, begun_of, counted}
+use Rattle.rvf_report.specs.Steps.{CountsIn, CutsOff, Ends, IsAnswerAt, AreUnmoved, Proceeds, Stands, begun_of, counted}
 use Rattle.rvf_report.specs.Steps.{places_of, status_in}
 use Rattle.rvf_report.specs.declared.counts.Counts.{Counts}
 use Rattle.rvf_report.specs.declared.delivery.Delivery.TheVariants.{Line}
@@ -27,7 +27,7 @@ use Rattle.rvf_report.specs.declared.status.Status.{Status}
 use Rattle.rvf_report.specs.declared.status.Status.TheVariants as s
 use Rattle.rvf_report.proofs.Counting.{answers_few, counts_more, places_are, status_is_theirs}
 use Rattle.rvf_report.proofs.Deliveries.{CountsIn-behind, Delivers-behind, IsDelivered-all, IsDelivered-behind}
-use Rattle.rvf_report.proofs.Deliveries.{IsQuiet-trans}
+use Rattle.rvf_report.proofs.Deliveries.{AreUnmoved-trans}
 
 -- ---- a list that is used up from its front
 
@@ -131,7 +131,7 @@ module _ (case : Case) (folder : List ℕ) (budget : ℕ) where
   -- ---- the head
 
   pub begins : (a b : Outside) (counts : Counts) → counts ≡ counts_of [] case.config.skips
-      → Delivers a b (head (is_noted case) case.config.skips) → IsQuiet a b → Stands case folder budget a b counts
+      → Delivers a b (head (is_noted case) case.config.skips) → AreUnmoved a b → Stands case folder budget a b counts
   begins a b counts none d quiet = record {
     answers = [];
     are = answers_none case budget case.checks;
@@ -165,7 +165,7 @@ module _ (case : Case) (folder : List ℕ) (budget : ℕ) where
         ap (λ n. begun_of case folder budget stands.answers ++ deliveries_of folder n budget j) named
         ∙ begun_more stands.answers j at.check there
 
-    pub goes_on : Delivers b c (deliveries_of folder name budget j) → IsQuiet b c
+    pub goes_on : Delivers b c (deliveries_of folder name budget j) → AreUnmoved b c
         → Stands case folder budget a c after
     goes_on d quiet = record {
       answers = stands.answers ++ j ∷ [];
@@ -175,7 +175,7 @@ module _ (case : Case) (folder : List ℕ) (budget : ℕ) where
       delivered = subst (λ l. Delivers a c l) more_is
           (Delivers-behind a b c (begun_of case folder budget stands.answers) (deliveries_of folder name budget j)
           stands.delivered d);
-      quiet = IsQuiet-trans a b c stands.quiet quiet;
+      quiet = AreUnmoved-trans a b c stands.quiet quiet;
     }
 
     pub goes_no_further : (fault : OutFault) → IsDelivered (Err fault) b c (deliveries_of folder name budget j)
@@ -205,7 +205,7 @@ module _ (case : Case) (folder : List ℕ) (budget : ℕ) where
         ≡ whole folder budget (is_noted case) case.config.skips case.checks stands.answers
     report_is = ap (λ n. begun_of case folder budget stands.answers ++ Line (total_line n) ∷ []) stands.counts_are
 
-    pub finishes : Delivers b c (Line (total_line counts) ∷ []) → IsQuiet b c
+    pub finishes : Delivers b c (Line (total_line counts) ∷ []) → AreUnmoved b c
         → Ends (Ok counts) case folder budget a c
     finishes d quiet = (
       record {
@@ -217,7 +217,7 @@ module _ (case : Case) (folder : List ℕ) (budget : ℕ) where
             (Delivers-behind a b c (begun_of case folder budget stands.answers) (Line (total_line counts) ∷ [])
             stands.delivered d);
       },
-      IsQuiet-trans a b c stands.quiet quiet,
+      AreUnmoved-trans a b c stands.quiet quiet,
     )
 
     pub finishes_not : (fault : OutFault) → IsDelivered (Err fault) b c (Line (total_line counts) ∷ [])

@@ -78,6 +78,20 @@ IsDelivered (Ok u) before now deliveries = Delivers before now deliveries
 IsDelivered (Err out.Failed) before now deliveries = Fails before now deliveries
 IsDelivered (Err out.Memory) before now deliveries = Stops before now deliveries
 
+-- the first of them came through, and neither the next one nor any behind it was begun
+pub record StopsBefore (before now : Outside) (deliveries : List Delivery) : Type 0 where
+  pub done : List Delivery
+  pub next : Delivery
+  pub rest : List Delivery
+  pub order : done ++ next ∷ rest ≡ deliveries
+  pub delivered : Delivers before now done
+
+-- where memory was wanted, one of them was left
+abbrev pub LeavesOne : Result (Unit {0}) OutFault → Outside → Outside → List Delivery → Type 0
+LeavesOne (Ok u) before now deliveries = Unit {0}
+LeavesOne (Err out.Failed) before now deliveries = Unit {0}
+LeavesOne (Err out.Memory) before now deliveries = StopsBefore before now deliveries
+
 -- what a call left that delivers one
 abbrev pub IsDone : Result (Unit {0}) OutFault → Outside → Outside → Delivery → Type 0
 IsDone (Ok u) before now delivery = Delivers before now (delivery ∷ [])

@@ -14,8 +14,8 @@ use Rattle.rvf_report.specs.declared.delivery.Delivery.{Delivery}
 use Rattle.rvf_report.specs.declared.status.Status.{Status}
 use Rattle.rvf_report.specs.declared.status.Status.TheVariants as s
 
--- no count rose
-pub record IsQuiet (before now : Outside) : Type 0 where
+-- no count moved
+pub record AreUnmoved (before now : Outside) : Type 0 where
   pub misses : now.misses ≡ before.misses
   pub faults : now.faults ≡ before.faults
   pub out_faults : now.out_faults ≡ before.out_faults
@@ -28,9 +28,9 @@ pub record IsCounted (before now : Outside) : Type 0 where
 
 -- how the counts moved in a call that delivers: none rose, unless a delivery failed
 abbrev pub CountsIn : Result (Unit {0}) OutFault → Outside → Outside → Type 0
-CountsIn (Ok u) before now = IsQuiet before now
+CountsIn (Ok u) before now = AreUnmoved before now
 CountsIn (Err out.Failed) before now = IsCounted before now
-CountsIn (Err out.Memory) before now = IsQuiet before now
+CountsIn (Err out.Memory) before now = AreUnmoved before now
 
 -- the judgement is an answer of the check at a place
 pub record IsAnswerAt (case : Case) (budget : ℕ) (place : ℕ) (judgement : Judged) : Type 0 where
@@ -62,7 +62,7 @@ pub record Stands (case : Case) (folder : List ℕ) (budget : ℕ) (before now :
   pub are : AreAnswers case budget case.checks answers
   pub counts_are : counts ≡ counts_of answers case.config.skips
   pub delivered : Delivers before now (begun_of case folder budget answers)
-  pub quiet : IsQuiet before now
+  pub quiet : AreUnmoved before now
 
 -- the first checks are answered, and the report of these came to a fault
 pub record CutsOff (case : Case) (folder : List ℕ) (budget : ℕ) (before now : Outside) (fault : OutFault)
@@ -82,5 +82,5 @@ Proceeds (Err fault) case folder budget before now = CutsOff case folder budget 
 -- what delivering the report left in the end
 abbrev pub Ends : Result Counts OutFault → Case → List ℕ → ℕ → Outside → Outside → Type 0
 Ends (Ok counts) case folder budget before now =
-    Reports case folder budget before now (status_in counts) × IsQuiet before now
+    Reports case folder budget before now (status_in counts) × AreUnmoved before now
 Ends (Err fault) case folder budget before now = CutsOff case folder budget before now fault

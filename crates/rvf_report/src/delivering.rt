@@ -2,7 +2,7 @@
 
 ghost use Rattle.std.specs.Prelude.{◌≡◌, ◌≤◌, List, IfOk};
 ghost use Rattle.fv_base.specs.Outside.{UnlessNotPut};
-ghost use Rattle.rvf_report.specs.Outcome.{outside, IsDelivered, IsDone, IsWritten, IsPut};
+ghost use Rattle.rvf_report.specs.Outcome.{outside, IsDelivered, IsDone, IsWritten, IsPut, LeavesOne};
 ghost use Rattle.rvf_report.specs.Steps.{CountsIn};
 ghost use Rattle.rvf_report.specs.declared.delivery.Delivery.{Delivery as SpecDelivery};
 
@@ -19,6 +19,11 @@ pub fn deliver<F: Files, O: Out>(
     out: &mut O,
 ) -> Result<(), OutFault>
     ensures delivered { IsDelivered result
+        (outside (F.held files.old) (F.misses files.old) (F.faults files.old) (O.sent out.old) (O.faults out.old))
+        (outside (F.held files.new) (F.misses files.new) (F.faults files.new) (O.sent out.new) (O.faults out.new))
+        deliveries.now }
+    // Want of memory left one of them.
+    ensures left { LeavesOne result
         (outside (F.held files.old) (F.misses files.old) (F.faults files.old) (O.sent out.old) (O.faults out.old))
         (outside (F.held files.new) (F.misses files.new) (F.faults files.new) (O.sent out.new) (O.faults out.new))
         deliveries.now }

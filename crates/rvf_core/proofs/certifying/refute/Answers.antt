@@ -2,7 +2,8 @@ use Rattle.std.specs.Prelude.{ℕ, Vec}
 use Rattle.std.specs.declared.alloc.Global.{Global}
 use Rattle.std.proofs.Common.{Err, ◌∙◌, ap}
 use Rattle.rvf_core.proofs.FromFiles.{both_read, first_unread, if_both, if_ok, second_unread}
-use Rattle.rvf_core.proofs.Quiet.{fault_quiet, later_fault_quiet, with_any_status}
+use Rattle.rvf_core.specs.Steps.{all_read}
+use Rattle.rvf_core.proofs.Quiet.{fault_tells}
 use Rattle.rvf_core.proofs.certifying.refute.Goals as goal
 
 pub returns-in-Ok-read-clause-says : goal.returns-in-Ok-read-clause-says
@@ -32,20 +33,21 @@ returns-clause-says g c =
     (λ is. c.in-Err.ensures.failed (ap (λ fault. Err fault) is)))
     c.unread-in-Err.result c.unread-in-Err.ensures
 
-pub returns-in-Ok-read-clause-quiet : goal.returns-in-Ok-read-clause-quiet
-returns-in-Ok-read-clause-quiet g c =
-    if_ok _ _ (λ report p. with_any_status report.status _ (c.in-Ok-read.ensures.quiet ∙ c.in-Ok.ensures.quiet))
+pub returns-in-Ok-read-clause-told : goal.returns-in-Ok-read-clause-told
+returns-in-Ok-read-clause-told g c =
+    if_ok _ _ (λ report p. all_read (c.in-Ok-read.ensures.quiet ∙ c.in-Ok.ensures.quiet))
     c.certify.result c.certify.ensures.found
 
-pub returns-in-Ok-clause-quiet : goal.returns-in-Ok-clause-quiet
-returns-in-Ok-clause-quiet g c =
+pub returns-in-Ok-clause-told : goal.returns-in-Ok-clause-told
+returns-in-Ok-clause-told g c =
     if_ok _ _
-    (λ report. later_fault_quiet (Vec ℕ Global) c.in-Err-read.fault c.args.proof.now _ _ report
+    (λ report. fault_tells (Vec ℕ Global) c.in-Err-read.fault c.args.proof.now _ _ _ report
     (λ same. same ∙ c.in-Ok.ensures.quiet) c.in-Err-read.ensures.quiet)
     c.unread.result c.unread.ensures
 
-pub returns-clause-quiet : goal.returns-clause-quiet
-returns-clause-quiet g c =
+pub returns-clause-told : goal.returns-clause-told
+returns-clause-told g c =
     if_ok _ _
-    (λ report. fault_quiet (Vec ℕ Global) c.in-Err.fault c.args.cnf.now _ report c.in-Err.ensures.quiet)
+    (λ report. fault_tells (Vec ℕ Global) c.in-Err.fault c.args.cnf.now _ _ _ report (λ same. same)
+    c.in-Err.ensures.quiet)
     c.unread-in-Err.result c.unread-in-Err.ensures

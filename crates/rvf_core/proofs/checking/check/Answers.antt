@@ -1,10 +1,8 @@
-use Rattle.std.proofs.Common.{arith, refl, ap}
+use Rattle.std.proofs.Common.{◌≡◌, ◌∙◌, arith, refl}
 use Rattle.rvf_report.specs.Outcome.{outside}
 use Rattle.rvf_core.proofs.FromChecks.{case_ends, case_statuses, le_itself, refusal_ends, refusal_statuses}
-use Rattle.rvf_core.specs.Checks.{refused_status}
-use Rattle.rvf_core.specs.declared.report.Report.{Report}
 use Rattle.rvf_core.proofs.FromFiles.{if_both, if_ok}
-use Rattle.rvf_core.proofs.Quiet.{of_status, refusal_quiet, reported_quiet, unless_broken, unmoved}
+use Rattle.rvf_core.proofs.Quiet.{put_counts, refusal_tells, unbroken_counts}
 use Rattle.rvf_core.proofs.checking.check.Goals as goal
 
 pub returns-in-Ok-clause-ends : goal.returns-in-Ok-clause-ends
@@ -54,15 +52,33 @@ returns-in-Err-clause-statuses g c = λ asked.
     c.put_report.ensures.faults_grow c.in-Err.ensures.comes
     (if_both _ _ c.refused.result c.refused.ensures.report c.refused.ensures.some) c.put_report.ensures.puts
 
-pub returns-in-Ok-clause-quiet : goal.returns-in-Ok-clause-quiet
-returns-in-Ok-clause-quiet g c =
-    unless_broken c.conclude.result _ _ (unmoved _ _ _ _ _ c.in-Ok.ensures.quiet) c.conclude.ensures.quiet
+pub returns-in-Ok-clause-counts : goal.returns-in-Ok-clause-counts
+returns-in-Ok-clause-counts g c =
+    unbroken_counts c.conclude.result
+    (outside (g.F.Files.held c.args.files.now) (g.F.Files.misses c.args.files.now) (g.F.Files.faults c.args.files.now)
+    (g.O.Out.sent c.args.out.now) (g.O.Out.faults c.args.out.now))
+    (outside (g.F.Files.held c.conclude.new.files) (g.F.Files.misses c.conclude.new.files) (g.F.Files.faults c.conclude.new.files)
+    (g.O.Out.sent c.conclude.new.out) (g.O.Out.faults c.conclude.new.out))
+    ((g.F.Files.faults c.conclude.new.files ≡ g.F.Files.faults c.prepare.new.files)
+    × (g.O.Out.faults c.conclude.new.out ≡ g.O.Out.faults c.args.out.now))
+    (λ same. (same.0 ∙ c.in-Ok.ensures.quiet, same.1)) c.conclude.ensures.quiet
 
-pub returns-in-Err-clause-quiet : goal.returns-in-Err-clause-quiet
-returns-in-Err-clause-quiet g c =
-    reported_quiet c.refused.result c.put_report.result _ _ _ _ _ (unmoved _ _ _ _ _)
-    (if_ok _ _
-    (λ report is. of_status report (refused_status c.in-Err.refusal) _ (ap (λ (r : Report). r.status) is)
-    (refusal_quiet c.in-Err.refusal _ c.in-Err.ensures.quiet))
-    c.refused.result c.refused.ensures.report)
+pub returns-in-Err-clause-counts : goal.returns-in-Err-clause-counts
+returns-in-Err-clause-counts g c =
+    put_counts
+    (outside (g.F.Files.held c.args.files.now) (g.F.Files.misses c.args.files.now) (g.F.Files.faults c.args.files.now)
+    (g.O.Out.sent c.args.out.now) (g.O.Out.faults c.args.out.now))
+    (outside (g.F.Files.held c.prepare.new.files) (g.F.Files.misses c.prepare.new.files) (g.F.Files.faults c.prepare.new.files)
+    (g.O.Out.sent c.args.out.now) (g.O.Out.faults c.args.out.now))
+    (outside (g.F.Files.held c.put_report.new.files) (g.F.Files.misses c.put_report.new.files) (g.F.Files.faults c.put_report.new.files)
+    (g.O.Out.sent c.put_report.new.out) (g.O.Out.faults c.put_report.new.out))
+    (record {
+      held = c.in-Err.ensures.kept;
+      sent = refl;
+      faults = c.in-Err.ensures.faults_grow;
+      out_faults = le_itself (g.O.Out.faults c.args.out.now);
+    })
+    refl c.refused.result c.put_report.result
+    (if_ok _ _ (λ report is. refusal_tells c.in-Err.refusal _ _ report c.in-Err.ensures.quiet is) c.refused.result
+    (if_both _ _ c.refused.result c.refused.ensures.report c.refused.ensures.some))
     c.put_report.ensures.puts c.put_report.ensures.quiet

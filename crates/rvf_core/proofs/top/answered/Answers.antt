@@ -1,8 +1,12 @@
-use Rattle.std.proofs.Common.{Some, None, map, string_bytes, sym, ◌∙◌, rules}
+use Rattle.std.proofs.Common.{Some, None, map, string_bytes, refl, sym, ◌∙◌, rules}
+use Rattle.rvf_report.specs.Outcome.{outside}
 use Rattle.rvf_words.specs.Line.{line_of}
-use Rattle.rvf_core.specs.Run.{IsLine}
+use Rattle.rvf_core.specs.Run.{IsLine, none_failed}
+use Rattle.rvf_core.specs.Steps.{all_read}
+use Rattle.rvf_core.proofs.FromFiles.{if_ok}
 use Rattle.rvf_core.proofs.FromWords.{line_ends, line_statuses, memory_ends, memory_statuses, misuse_ends}
-use Rattle.rvf_core.proofs.FromWords.{none_statuses}
+use Rattle.rvf_core.proofs.FromWords.{at_once, none_statuses}
+use Rattle.rvf_core.proofs.Quiet.{put_counts}
 use Rattle.rvf_core.proofs.Ranges.{IsLine-read}
 use Rattle.rvf_core.proofs.top.answered.Goals as goal
 
@@ -39,3 +43,17 @@ returns-in-Err-clause-answer g c =
 
 pub returns-in-Err-clause-statuses : goal.returns-in-Err-clause-statuses
 returns-in-Err-clause-statuses g c = memory_statuses (line_of (map string_bytes c.args.words.now)) _
+
+pub returns-in-Ok-None-clause-counts : goal.returns-in-Ok-None-clause-counts
+returns-in-Ok-None-clause-counts g c =
+    let before = (outside (g.F.Files.held c.args.files.now) (g.F.Files.misses c.args.files.now) (g.F.Files.faults c.args.files.now)
+    (g.O.Out.sent c.args.out.now) (g.O.Out.faults c.args.out.now)) in
+    put_counts before before
+    (outside (g.F.Files.held c.put_report.new.files) (g.F.Files.misses c.put_report.new.files) (g.F.Files.faults c.put_report.new.files)
+    (g.O.Out.sent c.put_report.new.out) (g.O.Out.faults c.put_report.new.out))
+    (at_once before) refl c.misused.result c.put_report.result
+    (if_ok _ _ (λ report is. all_read refl) c.misused.result c.misused.ensures) c.put_report.ensures.puts
+    c.put_report.ensures.quiet
+
+pub returns-in-Err-clause-counts : goal.returns-in-Err-clause-counts
+returns-in-Err-clause-counts g c = (refl, none_failed refl)

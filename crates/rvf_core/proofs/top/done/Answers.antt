@@ -2,7 +2,8 @@ use Rattle.std.proofs.Common.{arith, refl}
 use Rattle.rvf_core.proofs.FromChecks.{le_itself}
 use Rattle.rvf_core.proofs.FromWords.{certificate_ends, list_ends, list_statuses, lrat_ends, lrat_statuses, names_end}
 use Rattle.rvf_core.proofs.FromWords.{run_ends, run_statuses}
-use Rattle.rvf_core.proofs.Quiet.{reported_quiet, unmoved}
+use Rattle.rvf_report.specs.Outcome.{outside}
+use Rattle.rvf_core.proofs.Quiet.{put_counts}
 use Rattle.rvf_core.proofs.top.done.Goals as goal
 
 pub returns-in-Run-clause-ends : goal.returns-in-Run-clause-ends
@@ -40,12 +41,37 @@ pub returns-in-Lrat-clause-statuses : goal.returns-in-Lrat-clause-statuses
 returns-in-Lrat-clause-statuses g c = λ asked.
     lrat_statuses c.args.line.now _ c.put_report-in-Lrat.result _ _ c.in-Lrat.is
 
-pub returns-in-List-clause-quiet : goal.returns-in-List-clause-quiet
-returns-in-List-clause-quiet g c =
-    reported_quiet c.list.result c.put_report.result _ _ _ _ _ (unmoved _ _ _ _ _)
-    c.list.ensures.quiet c.put_report.ensures.puts c.put_report.ensures.quiet
+pub returns-in-List-clause-counts : goal.returns-in-List-clause-counts
+returns-in-List-clause-counts g c =
+    put_counts
+    (outside (g.F.Files.held c.args.files.now) (g.F.Files.misses c.args.files.now) (g.F.Files.faults c.args.files.now)
+    (g.O.Out.sent c.args.out.now) (g.O.Out.faults c.args.out.now))
+    (outside (g.F.Files.held c.list.new.files) (g.F.Files.misses c.list.new.files) (g.F.Files.faults c.list.new.files)
+    (g.O.Out.sent c.args.out.now) (g.O.Out.faults c.args.out.now))
+    (outside (g.F.Files.held c.put_report.new.files) (g.F.Files.misses c.put_report.new.files) (g.F.Files.faults c.put_report.new.files)
+    (g.O.Out.sent c.put_report.new.out) (g.O.Out.faults c.put_report.new.out))
+    (record {
+      held = c.list.ensures.kept;
+      sent = refl;
+      faults = c.list.ensures.faults_grow;
+      out_faults = le_itself (g.O.Out.faults c.args.out.now);
+    })
+    refl c.list.result c.put_report.result c.list.ensures.told c.put_report.ensures.puts c.put_report.ensures.quiet
 
-pub returns-in-Lrat-clause-quiet : goal.returns-in-Lrat-clause-quiet
-returns-in-Lrat-clause-quiet g c =
-    reported_quiet c.refute-report.result c.put_report-in-Lrat.result _ _ _ _ _ (unmoved _ _ _ _ _)
-    c.refute-report.ensures.quiet c.put_report-in-Lrat.ensures.puts c.put_report-in-Lrat.ensures.quiet
+pub returns-in-Lrat-clause-counts : goal.returns-in-Lrat-clause-counts
+returns-in-Lrat-clause-counts g c =
+    put_counts
+    (outside (g.F.Files.held c.args.files.now) (g.F.Files.misses c.args.files.now) (g.F.Files.faults c.args.files.now)
+    (g.O.Out.sent c.args.out.now) (g.O.Out.faults c.args.out.now))
+    (outside (g.F.Files.held c.refute-report.new.files) (g.F.Files.misses c.refute-report.new.files) (g.F.Files.faults c.refute-report.new.files)
+    (g.O.Out.sent c.args.out.now) (g.O.Out.faults c.args.out.now))
+    (outside (g.F.Files.held c.put_report-in-Lrat.new.files) (g.F.Files.misses c.put_report-in-Lrat.new.files) (g.F.Files.faults c.put_report-in-Lrat.new.files)
+    (g.O.Out.sent c.put_report-in-Lrat.new.out) (g.O.Out.faults c.put_report-in-Lrat.new.out))
+    (record {
+      held = c.refute-report.ensures.kept;
+      sent = refl;
+      faults = c.refute-report.ensures.faults_grow;
+      out_faults = le_itself (g.O.Out.faults c.args.out.now);
+    })
+    refl c.refute-report.result c.put_report-in-Lrat.result c.refute-report.ensures.told
+    c.put_report-in-Lrat.ensures.puts c.put_report-in-Lrat.ensures.quiet

@@ -5,10 +5,10 @@ use Rattle.rvf_judge.proofs.line.line_text.Goals as goal
 
 pub returns-clause-one_line : goal.returns-clause-one_line
 returns-clause-one_line c =
-    λ h. subst HasNoEnd (sym (c.from_vec.ensures ∙ c.in_ok-bytes.ensures))
+    λ h. subst HasNoEnd (sym (c.from_vec.ensures ∙ c.in_ok-bytes.ensures.text))
     (line_no_end (record {
       literal = c.args.literal;
       cycle = c.args.cycle;
       bit = c.args.bit;
       name = c.args.name.now;
-    }) (omega (arith, c.ranges.literal)) (omega (arith, c.ranges.cycle)) (omega (arith, c.ranges.bit)) h)
+    }) c.in_ok-bytes.ensures.one_line (omega (arith, c.ranges.cycle)) (omega (arith, c.ranges.bit)) h)
