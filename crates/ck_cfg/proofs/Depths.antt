@@ -25,9 +25,10 @@ use Rattle.ck_cfg.specs.Target.{target_of}
 use Rattle.ck_cfg.specs.Depths.{is_skipped, is_for, depth_at, depth_with, depth_of, with_skip, with_depth_of}
 use Rattle.ck_cfg.specs.Depths.{with_new_depth, with_depth_read, with_depth}
 use Rattle.ck_cfg.specs.Options.{is_among, isa_named, idle_keys, with_key, once, with_isa_of, with_isa_named}
-use Rattle.ck_cfg.specs.Options.{with_isa, with_nret, with_option}
+use Rattle.ck_cfg.specs.Options.{with_isa, nret_named, with_nret_named, with_nret, with_option}
 use Rattle.ck_cfg.specs.Scripts.{names_read, with_names, with_script}
 use Rattle.ck_cfg.specs.Section.{section_named}
+use Rattle.ck_cfg.specs.Channels.{stated_nret}
 use Rattle.ck_cfg.specs.Line.{Line, section_begun, counted_lines}
 use Rattle.ck_cfg.specs.Faults.{and_then, Answers}
 use Rattle.ck_cfg.specs.Reading.{start, in_section, with_text_in, with_text_at, with_text, with_section_named}
@@ -176,9 +177,11 @@ isa_sound r line key (v ∷ w ∷ ws) h = tt
 nret_sound : (r : Reader) (line : ℕ) (key : List ℕ) (vs : List (List ℕ)) → IsSound r → Sound (with_nret r line key vs)
 nret_sound r line key [] h = tt
 nret_sound r line key (v ∷ []) h =
-    sound_where (is_among r.keys key) (Err (fault.Twice line key))
-    (cond (bytes_eq v (codes "1")) (Ok (with_key r key)) (Err (fault.Nret line))) tt
-    (sound_where (bytes_eq v (codes "1")) (Ok (with_key r key)) (Err (fault.Nret line)) h tt)
+    sound_where (is_among r.keys key) (Err (fault.Twice line key)) (with_nret_named r line key (nret_named v)) tt
+    (step (nret_named v)) where
+      step : (o : Option ℕ) → Sound (with_nret_named r line key o)
+      step None = tt
+      step (Some n) = h
 nret_sound r line key (v ∷ w ∷ ws) h = tt
 
 option_sound : (r : Reader) (line : ℕ) (ws : List (List ℕ)) → IsSound r → Sound (with_option r line ws)
@@ -247,7 +250,7 @@ finish_sound r h = step (is_nil r.config.depths && is_nil r.config.skips) (is_ni
   step false false = h
 
 all_sound : (ls : List Line) → IsRead (config_of_lines ls)
-all_sound ls = step (with_lines start ls) (lines_sound ls start tt) where
+all_sound ls = step (with_lines (start (stated_nret ls)) ls) (lines_sound ls (start (stated_nret ls)) tt) where
   step : (o : Result Reader CfgFault) → Sound o → IsRead (and_then o finished)
   step (Err e) k = tt
   step (Ok r) k = finish_sound r k

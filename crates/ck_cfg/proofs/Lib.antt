@@ -1,4 +1,4 @@
-pub mod Channels
+pub mod ChannelCounts
 pub mod Compared
 pub mod Depths
 pub mod Ends
@@ -7,3 +7,4 @@ pub mod Lawfulness
 pub mod Lists
 pub mod Places
 pub mod Reading
+pub mod Stated

@@ -1,3 +1,4 @@
+pub mod Channels
 pub mod Checks
 pub mod Cycles
 pub mod Depths

@@ -65,12 +65,23 @@ abbrev pub with_isa : Reader → ℕ → List ℕ → List (List ℕ) → Result
 with_isa r line key (value ∷ []) = with_isa_named r line key value (isa_named value)
 with_isa r line key values = Err (fault.Option line key)
 
--- `nret` has one value, 1
+-- the number of channels of a value
+abbrev pub nret_named : List ℕ → Option ℕ
+nret_named value =
+    if bytes_eq value (codes "1") then Some 1
+    else if bytes_eq value (codes "2") then Some 2
+    else None
+
+-- with the key, where its value is a number of channels
+abbrev pub with_nret_named : Reader → ℕ → List ℕ → Option ℕ → Result Reader CfgFault
+with_nret_named r line key None = Err (fault.Nret line)
+with_nret_named r line key (Some n) = Ok (with_key r key)
+
+-- `nret` has one value, 1 or 2, which holds from the first line on
 abbrev pub with_nret : Reader → ℕ → List ℕ → List (List ℕ) → Result Reader CfgFault
 with_nret r line key (value ∷ []) =
     if is_among r.keys key then Err (fault.Twice line key)
-    else if bytes_eq value (codes "1") then Ok (with_key r key)
-    else Err (fault.Nret line)
+    else with_nret_named r line key (nret_named value)
 with_nret r line key values = Err (fault.Option line key)
 
 -- a line of the section: its words

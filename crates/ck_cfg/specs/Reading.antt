@@ -30,17 +30,18 @@ use Rattle.ck_cfg.specs.declared.fault.CfgFault.{CfgFault}
 use Rattle.ck_cfg.specs.declared.fault.CfgFault.TheVariants as fault
 use Rattle.ck_cfg.specs.declared.reader.Reader.{Reader}
 use Rattle.ck_cfg.specs.Faults.{and_then}
+use Rattle.ck_cfg.specs.Channels.{stated_nret}
 use Rattle.ck_cfg.specs.Line.{Line, section_begun, counted_lines}
 use Rattle.ck_cfg.specs.Section.{section_named}
 use Rattle.ck_cfg.specs.Options.{isa, is_among, with_option}
 use Rattle.ck_cfg.specs.Depths.{with_depth}
 use Rattle.ck_cfg.specs.Scripts.{with_files, with_script}
 
--- what holds before the first line: the set RV32I, one channel, and no section
-abbrev pub empty_config : Config
-empty_config = record {
+-- what holds before the first line: the set RV32I, so many channels, and no section
+abbrev pub empty_config : ℕ → Config
+empty_config channels = record {
   isa = isa false false;
-  nret = 1;
+  nret = channels;
   depths = [];
   skips = [];
   defines = [];
@@ -51,8 +52,8 @@ empty_config = record {
 }
 
 -- what is read before the first line
-abbrev pub start : Reader
-start = record { section = None; sections = []; keys = []; config = empty_config }
+abbrev pub start : ℕ → Reader
+start channels = record { section = None; sections = []; keys = []; config = empty_config channels }
 
 -- a line of text
 abbrev pub piece : ℕ → List ℕ → Piece
@@ -134,9 +135,9 @@ finished r =
     else if is_nil r.config.files then Err (fault.Missing (codes "verilog-files"))
     else Ok r.config
 
--- the configuration of lines, or why they have none
+-- the configuration of lines, or why they have none; their number of channels holds from the first one on
 abbrev pub config_of_lines : List Line → Result Config CfgFault
-config_of_lines ls = and_then (with_lines start ls) finished
+config_of_lines ls = and_then (with_lines (start (stated_nret ls)) ls) finished
 
 -- the configuration of a text, or why it has none
 abbrev pub config_of : List ℕ → Result Config CfgFault

@@ -32,7 +32,7 @@ pub enum CfgFault {
     TooDeep { line: u32 },
     #[error("no text in UTF-8")]
     NotUtf8,
-    /// A number of channels that isn't 1.
+    /// A number of channels that is neither 1 nor 2.
     #[error("line {line}: no number of channels")]
     Nret { line: u32 },
     /// The line doesn't name files to be read.

@@ -2,6 +2,7 @@
 //! say, which checks they ask for, and which files they name.
 #![tactic(auto)]
 
+mod channels;
 mod check;
 mod config;
 mod cycles;

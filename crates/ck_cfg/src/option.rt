@@ -5,6 +5,7 @@ ghost use Rattle.fv_lines.specs.Words.{words};
 ghost use Rattle.ck_cfg.specs.Faults.{Goes};
 ghost use Rattle.ck_cfg.specs.Options.{is_among, idle_keys, once, with_isa, with_nret, with_option};
 
+use crate::channels::nret_named;
 use crate::fault::CfgFault;
 use crate::isa::isa_named;
 use crate::reader::{Reader, is_among};
@@ -86,7 +87,7 @@ impl Reader {
             return Err(CfgFault::Option { line, key });
         };
         self.take_key(alloc, line, key)?;
-        if value != b"1".as_slice() {
+        if nret_named(value).is_none() {
             return Err(CfgFault::Nret { line });
         }
         Ok(())
@@ -104,7 +105,7 @@ fn is_idle(key: &[u8]) -> bool
 }
 
 /// The word, if there is one alone.
-fn lone_word(text: &[u8]) -> Option<&[u8]>
+pub(crate) fn lone_word(text: &[u8]) -> Option<&[u8]>
     ensures { MatchOption result ((word : List ℕ) → words text.now ≡ word ∷ [] → ⊥)
         (λ word. words text.now ≡ word.now ∷ []) }
 {

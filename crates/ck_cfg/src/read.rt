@@ -1,9 +1,12 @@
-ghost use Rattle.std.specs.Prelude.{◌≡◌, IfOk};
+ghost use Rattle.std.specs.Prelude.{◌≡◌, ◌≤◌, IfOk};
 ghost use Rattle.std.specs.Str.{is_utf8};
+ghost use Rattle.ck_cfg.specs.Channels.{stated_nret};
 ghost use Rattle.ck_cfg.specs.Faults.{Answers};
 ghost use Rattle.ck_cfg.specs.Lawful.{HasLawfulChecks};
+ghost use Rattle.ck_cfg.specs.Line.{counted_lines};
 ghost use Rattle.ck_cfg.specs.Reading.{config_of};
 
+use crate::channels::stated_nret;
 use crate::config::Config;
 use crate::fault::CfgFault;
 use crate::reader::Reader;
@@ -13,7 +16,8 @@ use std::alloc::Global;
 pub fn read_cfg(alloc: Global, bytes: &[u8]) -> Result<Config, CfgFault>
     ensures answers { Answers result (config_of bytes.now) }
     ensures lawful { IfOk result (λ config. HasLawfulChecks config) }
-    ensures channels { IfOk result (λ config. config.nret ≡ 1) }
+    ensures channels { IfOk result (λ config. config.nret ≡ stated_nret (counted_lines bytes.now)) }
+    ensures one_or_two { IfOk result (λ config. 1 ≤ config.nret × config.nret ≤ 2) }
 {
     read_text(alloc, bytes)
 }
@@ -24,7 +28,7 @@ fn read_text(alloc: Global, bytes: &[u8]) -> Result<Config, CfgFault>
     if !is_utf8(bytes) {
         return Err(CfgFault::NotUtf8);
     }
-    let mut reader = Reader::new(alloc);
+    let mut reader = Reader::new(alloc, stated_nret(bytes));
     reader.take_lines(alloc, bytes)?;
     reader.finish(alloc)
 }

@@ -28,8 +28,9 @@ pub(crate) struct Reader {
 }
 
 impl Reader {
-    pub(crate) fn new(alloc: Global) -> Reader
-        ensures { result ≡ start }
+    /// What is read before the first line, where there are so many channels.
+    pub(crate) fn new(alloc: Global, channels: u32) -> Reader
+        ensures { result ≡ start channels }
     {
         Reader {
             section: None,
@@ -37,7 +38,7 @@ impl Reader {
             keys: List::new(alloc),
             config: Config {
                 isa: Isa { m: false, c: false },
-                nret: 1,
+                nret: channels,
                 depths: List::new(alloc),
                 skips: List::new(alloc),
                 defines: List::new(alloc),
