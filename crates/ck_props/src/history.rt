@@ -6,7 +6,7 @@ ghost use Rattle.ck_spec.specs.Lists as lists;
 ghost use Rattle.ck_spec.specs.Properties as properties;
 
 use ck_cfg::Check;
-use ck_spec::Retired;
+use ck_spec::{Retired, looks_both_ways};
 use rv_table::{Retire, has_byte};
 
 /// It retired in the cycle, in the channel of the check.
@@ -32,12 +32,31 @@ pub(crate) fn counts(check: &Check, retired: &Retired) -> bool
     check.start <= retired.cycle && retired.cycle <= check.cycle
 }
 
+/// It counts as earlier than the retirement that the check is about.
 pub(crate) fn is_earlier(check: &Check, retired: &Retired) -> bool
     ensures { result ≡ lists.is_earlier check.now retired.now }
+{
+    if looks_both_ways(check.kind) {
+        is_other(check, retired)
+    } else {
+        stands_before(check, retired)
+    }
+}
+
+/// It stands before the retirement that the check is about.
+fn stands_before(check: &Check, retired: &Retired) -> bool
+    ensures { result ≡ lists.stands_before check.now retired.now }
 {
     counts(check, retired)
         && (retired.cycle < check.cycle
             || retired.cycle == check.cycle && retired.channel < check.channel)
+}
+
+/// It isn't the retirement that the check is about.
+fn is_other(check: &Check, retired: &Retired) -> bool
+    ensures { result ≡ lists.is_other check.now retired.now }
+{
+    counts(check, retired) && !is_at(check, check.cycle, retired)
 }
 
 /// The last that wrote the register in an order below this one.

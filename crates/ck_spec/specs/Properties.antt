@@ -38,7 +38,7 @@ has_probed_halves probe r =
     implies (r.pc_rdata == probe.imem_addr) (r.insn % 2 ^ 16 == probe.imem_data)
     && implies (r.insn % 4 == 3 && (r.pc_rdata + 2) % 2 ^ 32 == probe.imem_addr) (r.insn / 2 ^ 16 == probe.imem_data)
 
--- ---- of it and those before it
+-- ---- of it and the earlier ones
 
 -- it has a higher order, and reads the register that the other one writes
 abbrev pub reads_early : Retire → Retire → Bool
