@@ -1,6 +1,6 @@
 -- The monitor of a check that looks back.
 use Rattle.std.specs.Prelude.{◌≡◌, ℕ, suc, ◌+◌, ◌-◌, not}
-use Rattle.std.specs.Prelude.{◌&&◌, true, if◌then◌else◌, List, length, drop}
+use Rattle.std.specs.Prelude.{◌&&◌, true, if◌then◌else◌, List, length}
 use Rattle.std.proofs.Common.{ap, sym, ◌∙◌, arith}
 use Rattle.fv_bits.specs.Bits.{bit}
 use Rattle.rv_table.specs.declared.retire.Opts.{Opts}
@@ -19,15 +19,16 @@ use Rattle.ck_history.specs.Truths.{Tells, is_one}
 use Rattle.ck_history.proofs.Laws.{one_on}
 use Rattle.ck_history.specs.Entries.{Entry}
 use Rattle.ck_history.specs.Lines.{past}
-use Rattle.ck_history.proofs.Entries.{show_drop}
+use Rattle.ck_gen.proofs.EarlierWords.{earlier_nodes, show_earlier}
 use Rattle.rvfi_port.specs.Ports.{AreChannelNodes}
 use Rattle.ck_gen.specs.Retirements.{retirements, dmem_addr_at, probe_at}
+use Rattle.ck_gen.specs.Around.{earlier_of}
 use Rattle.ck_gen.specs.Kept.{holds_over, LooksBack}
 use Rattle.ck_gen.proofs.Monitored.{IsAmong, looks_back}
 use Rattle.rvfi_port.proofs.AddedRegs.{channels_on, retire_on}
 use Rattle.ck_gen.specs.Monitors.{TellsOver, holds_in}
 use Rattle.ck_gen.proofs.Recalled.{IsRecalled, to_kept, to_new, given, entries, all_entries, last, all_shown}
-use Rattle.ck_gen.proofs.Recalled.{given_back, show_back, drop_nodes, among_nodes, dmem_on, unless_held}
+use Rattle.ck_gen.proofs.Recalled.{given_back, show_back, among_nodes, dmem_on, unless_held}
 
 -- The nodes of a monitor that looks back, behind those that recall: whether the retirement holds, and whether it
 -- doesn't.
@@ -37,7 +38,7 @@ pub record IsBuilt (old worded kept judged new : Netlist) (port : Port) (check :
   pub recalled : IsRecalled old worded kept new port check words ids
   pub among : IsAmong port.channels check.channel c
   pub judged_added : AddsNodes kept judged
-  pub judges : TellsOver kept judged (drop (length port.channels - check.channel) ids)
+  pub judges : TellsOver kept judged (earlier_of check.kind (length port.channels - 1 - check.channel) ids)
       (λ g es. holds_over (value_at kept g c.valid) (retire_at kept g c) es (dmem_addr_at kept g port.dmem)
       check.kind) held
   pub added : AddsNodes judged new
@@ -56,7 +57,7 @@ module _ (old worded kept judged new : Netlist) (port : Port) (check : Check) (c
   g = cycle_at new inputs start check.cycle
 
   abbrev es : List Entry
-  es = drop (length port.channels - check.channel)
+  es = earlier_of check.kind (length port.channels - 1 - check.channel)
       (all_entries old worded kept new port check words ids b.recalled inputs start run)
 
   channel_now : AreChannelNodes kept c
@@ -72,13 +73,14 @@ module _ (old worded kept judged new : Netlist) (port : Port) (check : Check) (c
   held_is : is_one judged g held
       ≡ holds_over (value_at new g c.valid) (retire_at new g c) es (dmem_addr_at new g port.dmem) check.kind
   held_is =
-      let n = length port.channels - check.channel in
+      let n = length port.channels - 1 - check.channel in
       let more = adds_regs kept new b.recalled.added in
       b.judges.value g es
       (given_back kept new g b.recalled.added
       (given old worded kept new port check words ids b.recalled inputs start run check.cycle))
-      (show_back kept new 102 g (drop n ids) es b.recalled.added (drop_nodes kept 102 n ids b.recalled.history_nodes)
-      (show_drop new g n ids (all_entries old worded kept new port check words ids b.recalled inputs start run)
+      (show_back kept new 102 g (earlier_of check.kind n ids) es b.recalled.added
+      (earlier_nodes kept 102 check.kind n ids b.recalled.history_nodes)
+      (show_earlier new g check.kind n ids (all_entries old worded kept new port check words ids b.recalled inputs start run)
       (all_shown old worded kept new port check words ids b.recalled inputs start run)))
       ∙ (λ i. holds_over (sym (more.values g c.valid channel_now.valid.0) i)
       (sym (retire_on kept new g c more channel_now) i) es (same_probe i) check.kind)
@@ -94,7 +96,7 @@ module _ (old worded kept judged new : Netlist) (port : Port) (check : Check) (c
       → value_at new g id ≡ bit (not (holds_in new (λ k. cycle_at new inputs start k) port check opts))
   fails opts =
       let d = check.cycle - check.start in
-      let n = length port.channels - check.channel in
+      let n = length port.channels - 1 - check.channel in
       let run_at : ℕ → Given = λ k. cycle_at new inputs start k in
       let e : d + 1 ≡ suc d = omega arith in
       let valid : is_one judged g c.valid ≡ retires new g c =
@@ -106,7 +108,7 @@ module _ (old worded kept judged new : Netlist) (port : Port) (check : Check) (c
       ∙ looks_back new run_at port.channels c check d (probe_at new g port) opts b.among
       (last old worded kept new port check words ids b.recalled inputs start run) b.kind
       ∙ ap (λ k. if retires new g c then holds_over (value_at new g c.valid) (retire_at new g c)
-      (drop n (past (entries old worded kept new port check words ids b.recalled inputs start run) check.start k))
+      (earlier_of check.kind n (past (entries old worded kept new port check words ids b.recalled inputs start run) check.start k))
       (dmem_addr_at new g port.dmem) check.kind else true) (sym e) in
       b.tells.value g (given_back judged new g b.added
       (given old worded kept new port check words ids b.recalled inputs start run check.cycle))

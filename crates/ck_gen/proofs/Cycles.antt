@@ -197,3 +197,56 @@ module _ (net : Netlist) (kind : CheckKind) (s : Sought) (own : Entry) (p t : Re
       ∙ cycle_says g k 0 (length before) before rest last (omega arith)
       ∙ ap (λ b. agrees_or s own b (kept_in kind net g before)) (cycles_say run cs first count true alike)
       ∙ sym (or_append s own true (kept_in kind net g before) es)
+
+  -- the channels of a cycle but one, in which nothing is sought
+  pub others_of : (g : Given) (k : ℕ) (before behind : List Channel) (c : Channel) (rest : Bool)
+      → AreAlike k 0 (length before)
+      → IsPassedOver k (0 + length before) (0 + length before + 1)
+      → AreAlike k (0 + length before + 1) (0 + length before + 1 + length behind)
+      → first_says p t rest (reverse (retired_from net g k 0 (before ++ c ∷ behind)))
+      ≡ agrees_or s own rest (kept_in kind net g behind ++ kept_in kind net g before)
+  others_of g k before behind c rest alike_low passed_own alike_high =
+      let n = length before in
+      let low = retired_from net g k 0 before in
+      let mid = retired_from net g k (0 + n) (c ∷ []) in
+      let high = retired_from net g k (0 + n + 1) behind in
+      let says : Bool → List Retired → Bool = λ x xs. first_says p t x xs in
+      let whole : retired_from net g k 0 (before ++ c ∷ behind) ≡ low ++ (mid ++ high) =
+      split_from net g k 0 before (c ∷ behind)
+      ∙ ap (λ xs. low ++ xs) (split_from net g k (0 + n) (c ∷ []) behind) in
+      let x : Bool = agrees_or s own rest (kept_in kind net g before) in
+      ap (λ xs. says rest (reverse xs)) whole
+      ∙ ap (says rest) (reverse-append low (mid ++ high) ∙ ap (λ xs. xs ++ reverse low) (reverse-append mid high))
+      ∙ says_append p t rest (reverse high ++ reverse mid) (reverse low)
+      ∙ says_append p t (says rest (reverse low)) (reverse high) (reverse mid)
+      ∙ ap (λ y. says (says y (reverse mid)) (reverse high)) (cycle_says g k 0 n before rest alike_low (omega arith))
+      ∙ ap (λ y. says y (reverse high))
+      (passed_back g k (0 + n) (0 + n + 1) (c ∷ []) x passed_own (omega arith))
+      ∙ cycle_says g k (0 + n + 1) (0 + n + 1 + length behind) behind x alike_high (omega arith)
+      ∙ sym (or_append s own rest (kept_in kind net g behind) (kept_in kind net g before))
+
+  -- whole cycles, and behind them one in which one channel is passed over
+  pub others_say : (run : ℕ → Given) (before behind : List Channel) (c : Channel) (first count : ℕ)
+      → ((k : ℕ) → first ≤ k → k < first + count → AreAlike k 0 (length (before ++ c ∷ behind)))
+      → AreAlike (first + count) 0 (length before)
+      → IsPassedOver (first + count) (0 + length before) (0 + length before + 1)
+      → AreAlike (first + count) (0 + length before + 1) (0 + length before + 1 + length behind)
+      → first_says p t true (reverse (retirements net run (before ++ c ∷ behind) first (suc count)))
+      ≡ agrees_or s own true (kept_in kind net (run (first + count)) behind
+      ++ (kept_in kind net (run (first + count)) before
+      ++ past (λ k. kept_in kind net (run k) (before ++ c ∷ behind)) first count))
+  others_say run before behind c first count alike low passed_own high =
+      let cs = before ++ c ∷ behind in
+      let k = first + count in
+      let g = run k in
+      let rs = retirements net run cs first count in
+      let here = retired_from net g k 0 cs in
+      let es = past (λ k. kept_in kind net (run k) cs) first count in
+      let front = kept_in kind net g behind in
+      let back = kept_in kind net g before in
+      ap (first_says p t true) (reverse-append rs here)
+      ∙ says_append p t true (reverse here) (reverse rs)
+      ∙ ap (λ b. first_says p t b (reverse here)) (cycles_say run cs first count true alike)
+      ∙ others_of g k before behind c (agrees_or s own true es) low passed_own high
+      ∙ sym (or_append s own true (front ++ back) es)
+      ∙ ap (agrees_or s own true) (append_assoc front back es)

@@ -1,4 +1,5 @@
 pub mod Cycles
+pub mod EarlierWords
 pub mod Held
 pub mod Monitored
 pub mod Property

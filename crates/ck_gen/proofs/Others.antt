@@ -27,7 +27,7 @@ use Rattle.ck_history.specs.Searches.{is_sought, agrees, first_agrees}
 use Rattle.ck_gen.specs.Retirements.{retired_from, retirements}
 use Rattle.ck_gen.specs.Kept.{kept, kept_in, sought_same, sought_next}
 use Rattle.ck_gen.proofs.Says.{first_says, says_append, none_says, agrees_or, first_or, or_append}
-use Rattle.ck_gen.proofs.Cycles.{told, meets, AreAlike, IsPassedOver, cycles_say, cycle_says, passed_back, split_from}
+use Rattle.ck_gen.proofs.Cycles.{told, meets, AreAlike, IsPassedOver, cycles_say, cycle_says, others_of}
 use Rattle.ck_gen.proofs.Property.{found_is}
 use Rattle.ck_gen.specs.Around.{order_is_own, is_followed_so}
 
@@ -226,29 +226,10 @@ module _ (net : Netlist) (run : ℕ → Given) (before behind : List Channel) (c
         → first_says p_other (λ e. false) rest (reverse (retired_from net at_trig (check.start + a) 0 cs))
         ≡ agrees_or s own rest (kept_in kind net at_trig behind ++ kept_in kind net at_trig before)
     in_trig rest =
-        let k = check.start + a in
         let n = length before in
-        let low = retired_from net at_trig k 0 before in
-        let mid = retired_from net at_trig k (0 + n) (c ∷ []) in
-        let high = retired_from net at_trig k (0 + n + 1) behind in
-        let says : Bool → List Retired → Bool = λ x xs. first_says p_other (λ e. false) x xs in
-        let whole : retired_from net at_trig k 0 cs ≡ low ++ (mid ++ high) =
-        split_from net at_trig k 0 before (c ∷ behind)
-        ∙ ap (λ xs. low ++ xs) (split_from net at_trig k (0 + n) (c ∷ []) behind) in
-        let x : Bool = agrees_or s own rest (kept_in kind net at_trig before) in
-        ap (λ xs. says rest (reverse xs)) whole
-        ∙ ap (says rest) (reverse-append low (mid ++ high) ∙ ap (λ xs. xs ++ reverse low) (reverse-append mid high))
-        ∙ says_append p_other (λ e. false) rest (reverse high ++ reverse mid) (reverse low)
-        ∙ says_append p_other (λ e. false) (says rest (reverse low)) (reverse high) (reverse mid)
-        ∙ ap (λ y. says (says y (reverse mid)) (reverse high))
-        (cycle_says net kind s own p_other (λ e. false) at_trig k 0 n before rest
-        (beside_alike 0 n (λ j u v e. omega (arith, v, e))) (omega arith))
-        ∙ ap (λ y. says y (reverse high))
-        (passed_back net kind s own p_other (λ e. false) at_trig k (0 + n) (0 + n + 1) (c ∷ []) x own_passed
-        (omega arith))
-        ∙ cycle_says net kind s own p_other (λ e. false) at_trig k (0 + n + 1) (0 + n + 1 + length behind) behind x
-        (beside_alike (0 + n + 1) (0 + n + 1 + length behind) (λ j u v e. omega (arith, u, e))) (omega arith)
-        ∙ sym (or_append s own rest (kept_in kind net at_trig behind) (kept_in kind net at_trig before))
+        others_of net kind s own p_other (λ e. false) at_trig (check.start + a) before behind c rest
+        (beside_alike 0 n (λ j u v e. omega (arith, v, e))) own_passed
+        (beside_alike (0 + n + 1) (0 + n + 1 + length behind) (λ j u v e. omega (arith, u, e)))
 
     so_far : ℕ → List Entry
     so_far m = (past (entries_at kind) (check.start + a + 1) m ++ kept_in kind net at_trig behind) ++ back kind

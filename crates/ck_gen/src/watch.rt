@@ -8,7 +8,7 @@ ghost use Rattle.ck_cfg.specs.Lawful.{IsCheck};
 ghost use Rattle.ck_history.specs.Lines.{AddsKnown};
 ghost use Rattle.rvfi_port.specs.Ports.{ArePortNodes};
 ghost use Rattle.ck_gen.specs.Kept as kept;
-ghost use Rattle.ck_gen.specs.Around.{LooksAround, place_of};
+ghost use Rattle.ck_gen.specs.Around.{LooksAround, place_of, earlier_of};
 ghost use Rattle.ck_gen.specs.Monitors as monitors;
 
 use crate::around::look_around;
@@ -17,6 +17,7 @@ use crate::kept::kept_words;
 use crate::own::holds_alone;
 use ck_cfg::{Check, CheckKind};
 use ck_history::{both, history, turned, unpack};
+use ck_spec::looks_both_ways;
 use fv_text::Memory;
 use rv_table::Opts;
 use rvfi_port::{Channel, Port};
@@ -33,6 +34,24 @@ fn violates(net: &mut Net, there: NodeId, holds: NodeId) -> Result<NodeId, Memor
     let fails = turned(net, holds)?;
     let id = both(net, there, fails)?;
     Ok(id)
+}
+
+/// The words of what counts as earlier, where the retirement that a check of the kind is about has this place.
+fn earlier_words(
+    alloc: Global,
+    kind: CheckKind,
+    place: usize,
+    words: &[NodeId],
+) -> Result<Vec<NodeId>, Memory>
+    requires { place < length words.now }
+    ensures { IfOk result (λ made. made.items ≡ earlier_of kind place words.now) }
+{
+    let mut made = Vec::new(alloc);
+    if looks_both_ways(kind) {
+        made.extend_from_slice(&words[..place])?;
+    }
+    made.extend_from_slice(&words[place + 1..])?;
+    Ok(made)
 }
 
 /// The monitor of a check that looks back.
@@ -53,11 +72,10 @@ fn look_back(alloc: Global, net: &mut Net, port: &Port, check: &Check) -> Result
     let words = kept_words(alloc, net, check.kind, channels)?;
     let shown = history(alloc, net, words.as_slice(), check.cycle - check.start)?;
     let _ = net.nodes();
-    let (_, earlier) = shown
-        .as_slice()
-        .split_at(channels.len() - check.channel as usize);
+    let place = channels.len() - 1 - check.channel as usize;
+    let earlier = earlier_words(alloc, check.kind, place, shown.as_slice())?;
     let channel = &channels[check.channel as usize];
-    let held = holds(net, check.kind, channel, port.dmem, earlier)?;
+    let held = holds(net, check.kind, channel, port.dmem, earlier.as_slice())?;
     let id = violates(net, channel.valid, held)?;
     let _ = net.nodes();
     Ok(id)

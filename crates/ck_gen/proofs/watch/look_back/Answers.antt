@@ -1,14 +1,16 @@
-use Rattle.std.specs.Prelude.{◌≡◌, ◌-◌, ◌*◌, ℕ, List, length, map, drop, slice_index_or}
+use Rattle.std.specs.Prelude.{◌≡◌, ◌-◌, ◌*◌, ℕ, List, length, map, slice_index_or}
 use Rattle.std.proofs.Common.{ap, sym, ◌∙◌, arith, subst}
 use Rattle.wn_net.specs.Net.{AreNodesOf, value_at}
 use Rattle.wn_net.proofs.Laws.{adds_on, adds_regs, regs_on}
 use Rattle.rvfi_port.specs.Channels.{retire_at}
 use Rattle.ck_history.specs.Entries.{packed}
 use Rattle.ck_gen.specs.Retirements.{dmem_addr_at}
+use Rattle.ck_gen.specs.Around.{earlier_of}
 use Rattle.ck_gen.specs.Kept.{kept_in, holds_over}
 use Rattle.ck_gen.proofs.Monitored.{is_among}
 use Rattle.ck_gen.specs.Monitors.{TellsOver}
 use Rattle.ck_gen.proofs.Back.{IsBuilt, fails}
+use Rattle.ck_gen.proofs.EarlierWords.{earlier_nodes}
 use Rattle.ck_gen.proofs.Places.{channel_at}
 use Rattle.ck_gen.proofs.Recalled.{IsRecalled, to_new}
 use Rattle.ck_gen.proofs.Counts.{known_between}
@@ -69,7 +71,8 @@ built c =
       among = is_among port.channels check.channel x no_channel c.requires.check.channel
           (ap (λ xs. slice_index_or xs check.channel no_channel) channels);
       judged_added = c.in_ok-held.ensures.adds;
-      judges = subst Q (c.split_at.ensures.back ∙ (λ i. drop (length (channels i) - check.channel) (shown i)))
+      judges = subst Q (c.as_slice-3.ensures.value ∙ c.in_ok-earlier.ensures
+          ∙ (λ i. earlier_of check.kind (length (channels i) - 1 - check.channel) (shown i)))
           c.in_ok-held.ensures.tells;
       added = c.in_ok-id.ensures.adds;
       tells = c.in_ok-id.ensures.tells;
@@ -127,3 +130,14 @@ pub returns-clause-adds : goal.returns-clause-adds
 returns-clause-adds c =
     to_new c.args.net.now c.kept_words.new.net c.history.new.net c.violates.new.net c.args.port.now c.args.check.now
     c.as_slice.result.now c.in_ok-shown.shown.items (recalled c)
+
+-- the words are there
+pub holds-requires-clause-words : goal.holds-requires-clause-words
+holds-requires-clause-words c =
+    let kept = c.history.new.net in
+    let kind = c.args.check.now.kind in
+    let place = length c.as_slice-channels.result.now - 1 - c.args.check.now.channel in
+    let P : List ℕ → Type 0 = λ ids. AreNodesOf kept 102 ids in
+    subst P (sym (c.as_slice-3.ensures.value ∙ c.in_ok-earlier.ensures
+    ∙ ap (earlier_of kind place) c.as_slice-2.ensures.value))
+    (earlier_nodes kept 102 kind place c.in_ok-shown.shown.items c.in_ok-shown.ensures.nodes)
