@@ -1,5 +1,5 @@
 -- There are few checks.
-use Rattle.std.proofs.Common.{◌≡◌, ℕ, ◌+◌, ◌^◌, ◌<◌, ◌≤◌, Bool, not, List, [], ◌∷◌, length, Option}
+use Rattle.std.proofs.Common.{◌≡◌, ℕ, zero, suc, ◌+◌, ◌*◌, ◌^◌, ◌<◌, ◌≤◌, Bool, not, List, [], ◌∷◌, length, Option}
 use Rattle.std.proofs.Common.{Some, None, refl, sym, ◌∙◌, ap, subst, arith}
 use Rattle.std.specs.Prelude.{option_map, option_to_list}
 use Rattle.std.specs.List.{filter, flat_map, range_with_len}
@@ -41,6 +41,19 @@ one_each f h (x ∷ xs) =
     let e = length-append (f x) (flat_map f xs) in
     omega arith
 
+two_each : {X Y : Type 0} (f : X → List Y) → ((x : X) → length (f x) ≤ 2) → (xs : List X)
+    → length (flat_map f xs) ≤ 2 * length xs
+two_each f h [] = omega arith
+two_each f h (x ∷ xs) =
+    let a = h x in
+    let b = two_each f h xs in
+    let e = length-append (f x) (flat_map f xs) in
+    omega arith
+
+range_long : (first count : ℕ) → length (range_with_len first count) ≡ count
+range_long first zero = refl
+range_long first (suc count) = ap suc (range_long (first + 1) count)
+
 one_channel : (depths : List Depth) (kind : CheckKind) (row : Option RowId) (channel : ℕ)
     → length (channel_check depths kind row channel) ≤ 1
 one_channel depths kind row channel = step (depth_for depths kind channel) where
@@ -48,11 +61,12 @@ one_channel depths kind row channel = step (depth_for depths kind channel) where
   step None = omega arith
   step (Some d) = omega arith
 
-one_row : (c : Config) (kind : CheckKind) (row : Option RowId) → c.nret ≡ 1
-    → length (channel_checks c kind row) ≤ 1
-one_row c kind row e =
-    subst (λ n. length (flat_map (channel_check c.depths kind row) (range_with_len 0 n)) ≤ 1) (sym e)
-    (one_each (channel_check c.depths kind row) (one_channel c.depths kind row) (range_with_len 0 1))
+two_rows : (c : Config) (kind : CheckKind) (row : Option RowId) → c.nret ≤ 2
+    → length (channel_checks c kind row) ≤ 2
+two_rows c kind row few =
+    let a = one_each (channel_check c.depths kind row) (one_channel c.depths kind row) (range_with_len 0 c.nret) in
+    let b = range_long 0 c.nret in
+    omega (arith, a, b, few)
 
 few_rows : (c : Config) (kind : CheckKind) → length (kind_rows c.isa kind) ≤ 70
 few_rows c Insn =
@@ -70,29 +84,29 @@ few_rows c Liveness = omega arith
 few_rows c Imem = omega arith
 few_rows c Dmem = omega arith
 
-few_of_kind : (c : Config) → c.nret ≡ 1 → (kind : CheckKind) → length (kind_checks c kind) ≤ 70
+few_of_kind : (c : Config) → c.nret ≤ 2 → (kind : CheckKind) → length (kind_checks c kind) ≤ 140
 few_of_kind c e kind =
-    let a = one_each (channel_checks c kind) (λ row. one_row c kind row e) (kind_rows c.isa kind) in
+    let a = two_each (channel_checks c kind) (λ row. two_rows c kind row e) (kind_rows c.isa kind) in
     let b = few_rows c kind in
     omega arith
 
-ten_kinds : {Y : Type 0} (f : CheckKind → List Y) → ((kind : CheckKind) → length (f kind) ≤ 70)
-    → length (flat_map f kinds) ≤ 700
+ten_kinds : {Y : Type 0} (f : CheckKind → List Y) → ((kind : CheckKind) → length (f kind) ≤ 140)
+    → length (flat_map f kinds) ≤ 1400
 ten_kinds f h =
     let e = length-flat_map f kinds in
     omega (arith, h Insn, h Ill, h Reg, h PcFwd, h PcBwd, h Causal, h Unique, h Liveness, h Imem, h Dmem)
 
-pub few_checks : (c : Config) → c.nret ≡ 1 → length (checks_of c) ≤ 700
+pub few_checks : (c : Config) → c.nret ≤ 2 → length (checks_of c) ≤ 1400
 few_checks c e =
-    subst (λ n. n ≤ 700) (sym (moved_count c.sort (listed_checks c))) (ten_kinds (kind_checks c) (few_of_kind c e))
+    subst (λ n. n ≤ 1400) (sym (moved_count c.sort (listed_checks c))) (ten_kinds (kind_checks c) (few_of_kind c e))
 
-pub few_factors : (c : Config) (kind : CheckKind) (checks : List Check) (factors : List ℕ) → c.nret ≡ 1
+pub few_factors : (c : Config) (kind : CheckKind) (checks : List Check) (factors : List ℕ) → c.nret ≤ 2
     → checks ≡ checks_of c → factors ≡ factors_of (kept_for c kind checks) → length factors < 2 ^ 32
 few_factors c kind checks factors n e f =
     let a : length factors ≡ length (kept_for c kind checks) =
     ap length f ∙ length-map (kept_for c kind checks) (λ (x : Check). x.cycle + 1) in
     let b : length (kept_for c kind checks) ≤ length checks = fewer (λ x. is_same_text c kind x.kind) checks in
-    let d : length checks ≤ 700 = subst (λ xs. length xs ≤ 700) (sym e) (few_checks c n) in
+    let d : length checks ≤ 1400 = subst (λ xs. length xs ≤ 1400) (sym e) (few_checks c n) in
     small (length factors) (length (kept_for c kind checks)) (length checks) a b d where
-      small : (a b d : ℕ) → a ≡ b → b ≤ d → d ≤ 700 → a < 2 ^ 32
+      small : (a b d : ℕ) → a ≡ b → b ≤ d → d ≤ 1400 → a < 2 ^ 32
       small a b d e f g = omega arith

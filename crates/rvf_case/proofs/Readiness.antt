@@ -1,6 +1,6 @@
 -- What is loaded of each check's text is fit for the check.
-use Rattle.std.proofs.Common.{◌≡◌, ℕ, Bool, true, false, cond, ◌||◌, List, [], ◌∷◌, Some, Ok, refl, sym, ◌∙◌}
-use Rattle.std.proofs.Common.{ap, subst, inl, inr, arith}
+use Rattle.std.proofs.Common.{◌≡◌, ℕ, ◌≤◌, Bool, true, false, cond, ◌||◌, List, [], ◌∷◌, Some, Ok, refl, sym, ◌∙◌}
+use Rattle.std.proofs.Common.{ap, subst, inl, inr}
 use Rattle.std.specs.Prelude.{map}
 use Rattle.std.specs.List.{AllByRecursion, filter, list_any}
 use Rattle.std.proofs.lemmas.Bool.{false≢true}
@@ -104,7 +104,7 @@ abbrev pub IsFitFor : Config → List LoadedText → Check → Type 0
 IsFitFor c texts x = (l : Loaded) × (text_among c x texts ≡ Some l) × IsFit c.nret x l
 
 fit_for : (c : Config) (files : List (List ℕ)) (texts : List LoadedText)
-    → AreLoadedInTurn (asked_for c files) (leaders c) texts → c.nret ≡ 1 → (x : Check) → IsCheck c.nret x
+    → AreLoadedInTurn (asked_for c files) (leaders c) texts → c.nret ≤ 2 → (x : Check) → IsCheck c.nret x
     → IsIn x (checks_of c) → IsFitFor c texts x
 fit_for c files texts h n x k i =
     let r : HasText c (asked_for c files) x texts =
@@ -117,7 +117,7 @@ fit_for c files texts h n x k i =
         port = r.loaded.loaded.nodes;
         many = r.loaded.loaded.many;
         check = k;
-        few = omega arith;
+        few = n;
         probe = has_probe c files r.text.kind x r.text.loaded i r.same r.loaded x.kind refl;
         inputs = r.loaded.few.inputs;
         state = r.loaded.few.state;
@@ -126,7 +126,7 @@ fit_for c files texts h n x k i =
 
 -- a case is ready
 pub ready : (c : Config) (files : List (List ℕ)) (checks : List Check) (texts : List LoadedText)
-    → checks ≡ checks_of c → AreLoadedInTurn (asked_for c files) (leaders c) texts → HasLawfulChecks c → c.nret ≡ 1
+    → checks ≡ checks_of c → AreLoadedInTurn (asked_for c files) (leaders c) texts → HasLawfulChecks c → c.nret ≤ 2
     → IsReady (record { config = c; checks = checks; texts = texts })
 ready c files checks texts e h l n =
     subst (AllByRecursion (IsFitFor c texts)) (sym e)

@@ -29,7 +29,7 @@ use Rattle.rvf_case.proofs.Next.{split_here}
 -- what comes of a text by what was put together for it
 pub answered : (c : Config) (files : List (List ℕ)) (kind : CheckKind) (checks : List Check) (core : Core)
     (ts ls : List Text) (channels : ℕ) (probes : Probes) (fs : List ℕ) (result : Result Loaded LoadFault)
-    → checks ≡ checks_of c → core ≡ core_of c.isa → ts ≡ texts_for c files kind → ls ≡ map line_text c.assumes
+    → checks ≡ checks_of c → core ≡ core_of c.isa c.nret → ts ≡ texts_for c files kind → ls ≡ map line_text c.assumes
     → channels ≡ c.nret → probes ≡ probes_for (kept_for c kind checks) → fs ≡ factors_of (kept_for c kind checks)
     → Answers (record { core = core; texts = ts; lines = ls; channels = channels; probes = probes; factors = fs })
     result → Answers (asked_for c files kind) result
@@ -39,11 +39,11 @@ answered c files kind checks core ts ls channels probes fs result e a b d n p f 
     in
     let q : probes ≡ probes_for (sharing c kind) = p ∙ ap (λ xs. probes_for (kept_for c kind xs)) e in
     let g : fs ≡ factors_of (sharing c kind) = f ∙ ap (λ xs. factors_of (kept_for c kind xs)) e in
-    subst (of (core_of c.isa) (texts_for c files kind) (map line_text c.assumes) c.nret (probes_for (sharing c kind))) g
-    (subst (λ x. of (core_of c.isa) (texts_for c files kind) (map line_text c.assumes) c.nret x fs) q
-    (subst (λ x. of (core_of c.isa) (texts_for c files kind) (map line_text c.assumes) x probes fs) n
-    (subst (λ x. of (core_of c.isa) (texts_for c files kind) x channels probes fs) d
-    (subst (λ x. of (core_of c.isa) x ls channels probes fs) b (subst (λ x. of x ts ls channels probes fs) a h)))))
+    subst (of (core_of c.isa c.nret) (texts_for c files kind) (map line_text c.assumes) c.nret (probes_for (sharing c kind))) g
+    (subst (λ x. of (core_of c.isa c.nret) (texts_for c files kind) (map line_text c.assumes) c.nret x fs) q
+    (subst (λ x. of (core_of c.isa c.nret) (texts_for c files kind) (map line_text c.assumes) x probes fs) n
+    (subst (λ x. of (core_of c.isa c.nret) (texts_for c files kind) x channels probes fs) d
+    (subst (λ x. of (core_of c.isa c.nret) x ls channels probes fs) b (subst (λ x. of x ts ls channels probes fs) a h)))))
 
 -- it is refused
 pub one_stops : (ask : CheckKind → Asked) (kind : CheckKind) (fault : LoadFault) → Answers (ask kind) (Err fault)

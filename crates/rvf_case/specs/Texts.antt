@@ -1,5 +1,5 @@
 -- Meaning: The texts of a configuration's checks, and which of them are one. Rules of this project.
-use Rattle.std.specs.Prelude.{ℕ, ◌+◌, ◌-◌, ◌^◌, min, Bool, true, false, ◌&&◌, if◌then◌else◌}
+use Rattle.std.specs.Prelude.{ℕ, ◌+◌, ◌-◌, ◌^◌, ◌==◌, min, Bool, true, false, ◌&&◌, if◌then◌else◌}
 use Rattle.std.specs.Prelude.{List, [], ◌∷◌, ◌++◌, map, bytes_eq}
 use Rattle.std.specs.List.{filter, list_any}
 use Rattle.rv_table.specs.declared.retire.Isa.{Isa}
@@ -12,7 +12,8 @@ use Rattle.ck_cfg.specs.Checks.{checks_of}
 use Rattle.ck_cfg.specs.Kind.{is_kind}
 use Rattle.vl_text.specs.Texts.{Text}
 use Rattle.vl_text.specs.declared.macros.Core.{Core}
-use Rattle.vl_text.specs.declared.macros.Retirements.TheVariants.{One}
+use Rattle.vl_text.specs.declared.macros.Retirements.{Retirements}
+use Rattle.vl_text.specs.declared.macros.Retirements.TheVariants.{One, Two}
 use Rattle.rvf_load.specs.declared.asked.Probes.{Probes}
 use Rattle.rvf_load.specs.Loads.{Asked}
 
@@ -70,8 +71,12 @@ leader_of c kind = leader_among c kind (leaders c)
 
 -- ---- what is asked of a text
 
-abbrev pub core_of : Isa → Core
-core_of isa = record { compressed = isa.c; retirements = One }
+-- how many instructions may retire in one cycle; a configuration has one channel or two
+abbrev pub retirements_of : ℕ → Retirements
+retirements_of channels = if channels == 2 then Two else One
+
+abbrev pub core_of : Isa → ℕ → Core
+core_of isa channels = record { compressed = isa.c; retirements = retirements_of channels }
 
 abbrev pub probes_for : List Check → Probes
 probes_for xs = record {
@@ -83,7 +88,7 @@ probes_for xs = record {
 abbrev pub asked_for : Config → List (List ℕ) → CheckKind → Asked
 asked_for c files kind =
     let xs = sharing c kind in record {
-      core = core_of c.isa;
+      core = core_of c.isa c.nret;
       texts = texts_for c files kind;
       lines = map line_text c.assumes;
       channels = c.nret;

@@ -6,7 +6,8 @@ ghost use Rattle.ck_cfg.specs.Kind.{is_kind};
 ghost use Rattle.ck_cfg.specs.Lawful.{IsCheck};
 ghost use Rattle.vl_text.specs.Texts.{lines_seen, texts_seen};
 ghost use Rattle.rvf_case.specs.Steps.{IsNameAt, factors_of, has_asking, kept_for};
-ghost use Rattle.rvf_case.specs.Texts.{core_of, is_same_text, line_text, lines_for, probes_for, texts_for};
+ghost use Rattle.rvf_case.specs.Texts.{core_of, is_same_text, line_text, lines_for, probes_for, retirements_of};
+ghost use Rattle.rvf_case.specs.Texts.{texts_for};
 
 use crate::same::is_same_text;
 use ck_cfg::{Check, CheckKind, Config};
@@ -16,13 +17,24 @@ use rvf_load::Probes;
 use std::alloc::Global;
 use vl_text::{Assumption, Core, Retirements, SourceText};
 
-/// The core whose macros are predefined.
-pub(crate) fn core_of(isa: Isa) -> Core
-    ensures { result ≡ core_of isa }
+/// The core whose macros are predefined, where there are so many channels.
+pub(crate) fn core_of(isa: Isa, channels: u32) -> Core
+    ensures { result ≡ core_of isa channels }
 {
     Core {
         compressed: isa.c,
-        retirements: Retirements::One,
+        retirements: retirements_of(channels),
+    }
+}
+
+/// How many instructions may retire in one cycle, where there are so many channels.
+fn retirements_of(channels: u32) -> Retirements
+    ensures { result ≡ retirements_of channels }
+{
+    if channels == 2 {
+        Retirements::Two
+    } else {
+        Retirements::One
     }
 }
 

@@ -1,6 +1,6 @@
 //! What is loaded of the texts of a configuration, one after the other.
 
-ghost use Rattle.std.specs.Prelude.{◌≡◌, ℕ, List, Err, IfOk};
+ghost use Rattle.std.specs.Prelude.{◌≡◌, ◌≤◌, ℕ, List, Err, IfOk};
 ghost use Rattle.ck_cfg.specs.Checks.{checks_of};
 ghost use Rattle.ck_cfg.specs.Lawful.{HasLawfulChecks};
 ghost use Rattle.rvf_load.specs.Loads.{Answers};
@@ -56,7 +56,7 @@ fn load_kind(
 ) -> Result<Loaded, LoadFault>
     requires checks { checks.now ≡ checks_of config.now }
     requires lawful { HasLawfulChecks config.now }
-    requires channels { config.now.nret ≡ 1 }
+    requires channels { 1 ≤ config.now.nret × config.now.nret ≤ 2 }
     ensures { Answers (asked_for config.now files.now kind) result }
 {
     let texts = texts_for(alloc, config, files, kind)?;
@@ -64,7 +64,7 @@ fn load_kind(
     let factors = factors_for(alloc, config, checks, kind)?;
     load(
         alloc,
-        core_of(config.isa),
+        core_of(config.isa, config.nret),
         texts.as_slice(),
         lines.as_slice(),
         config.nret,
@@ -82,7 +82,7 @@ fn load_text(
 ) -> Result<LoadedText, Stop>
     requires checks { checks.now ≡ checks_of config.now }
     requires lawful { HasLawfulChecks config.now }
-    requires channels { config.now.nret ≡ 1 }
+    requires channels { 1 ≤ config.now.nret × config.now.nret ≤ 2 }
     ensures { LoadsOne (asked_for config.now files.now) kind result }
 {
     match load_kind(alloc, config, checks, files, kind) {
@@ -101,7 +101,7 @@ fn load_kinds(
 ) -> Result<List<LoadedText>, Stop>
     requires checks { checks.now ≡ checks_of config.now }
     requires lawful { HasLawfulChecks config.now }
-    requires channels { config.now.nret ≡ 1 }
+    requires channels { 1 ≤ config.now.nret × config.now.nret ≤ 2 }
     ensures { LoadsInTurn (asked_for config.now files.now) kinds.now result }
 {
     let mut texts = List::new(alloc);
@@ -121,7 +121,7 @@ fn load_all(
 ) -> Result<List<LoadedText>, Stop>
     requires checks { checks.now ≡ checks_of config.now }
     requires lawful { HasLawfulChecks config.now }
-    requires channels { config.now.nret ≡ 1 }
+    requires channels { 1 ≤ config.now.nret × config.now.nret ≤ 2 }
     ensures { LoadsInTurn (asked_for config.now files.now) (leaders config.now) result }
 {
     let kinds = leaders(alloc, config, checks)?;
@@ -160,7 +160,7 @@ pub(crate) fn case_of(
     files: &[Text],
 ) -> Result<Case, Refusal>
     requires lawful { HasLawfulChecks config }
-    requires channels { config.nret ≡ 1 }
+    requires channels { 1 ≤ config.nret × config.nret ≤ 2 }
     ensures loads { Loads names config files.now result }
     ensures ready { IfOk result (λ case. IsReady case) }
 {

@@ -91,7 +91,7 @@ pub fn read_config<F: Files>(alloc: Global, cfg: &[u8], files: &mut F) -> Result
       faults_now = F.faults files.new;
     }) result }
     ensures lawful { IfOk result (λ config. HasLawfulChecks config) }
-    ensures channels { IfOk result (λ config. config.nret ≡ 1) }
+    ensures channels { IfOk result (λ config. 1 ≤ config.nret × config.nret ≤ 2) }
     ensures kept { SameFiles (F.held files.old) (F.held files.new) }
     ensures misses_grow { F.misses files.old ≤ F.misses files.new }
     ensures faults_grow { F.faults files.old ≤ F.faults files.new }

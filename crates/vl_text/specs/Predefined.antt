@@ -19,7 +19,7 @@ use Rattle.vl_prep.specs.Macros.{Held}
 use Rattle.vl_prep.specs.Prep.{preprocessed}
 use Rattle.vl_text.specs.declared.macros.Core.{Core}
 use Rattle.vl_text.specs.declared.macros.Retirements.{Retirements}
-use Rattle.vl_text.specs.declared.macros.Retirements.TheVariants.{One}
+use Rattle.vl_text.specs.declared.macros.Retirements.TheVariants.{One, Two}
 
 abbrev Field : Type 0
 Field = List ℕ × List ℕ
@@ -83,6 +83,7 @@ define_retirements = codes "`define RISCV_FORMAL_NRET "
 -- how many instructions retire in a cycle
 abbrev pub digits_of : Retirements → List ℕ
 digits_of One = codes "1"
+digits_of Two = codes "2"
 
 -- what is defined for each core, behind the number of retirements
 unfoldable pub common : List ℕ

@@ -20,6 +20,7 @@ pub struct Core {
 #[derive(Debug, Clone, Copy, PartialEq, Eq)]
 pub enum Retirements {
     One,
+    Two,
 }
 
 impl Retirements {
@@ -28,6 +29,7 @@ impl Retirements {
     {
         match self {
             Retirements::One => b"1",
+            Retirements::Two => b"2",
         }
     }
 }

@@ -22,7 +22,7 @@ returns-in-Ok-clause-loads c =
 pub returns-in-Ok-clause-ready : goal.returns-in-Ok-clause-ready
 returns-in-Ok-clause-ready c =
     ready c.args.config c.args.files.now c.in_ok-checks.checks c.in-Ok.texts c.in_ok-checks.ensures c.in-Ok.ensures
-    c.requires.lawful c.requires.channels
+    c.requires.lawful c.requires.channels.1
 
 pub refusal_of-requires-clause-checks : goal.refusal_of-requires-clause-checks
 refusal_of-requires-clause-checks c = c.as_slice-in-Err-Refused.ensures ∙ c.in_ok-checks.ensures

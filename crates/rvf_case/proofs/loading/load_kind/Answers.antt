@@ -12,7 +12,7 @@ factors_for-requires c =
 
 pub load-requires-clause-many : goal.load-requires-clause-many
 load-requires-clause-many c =
-    few_factors c.args.config.now c.args.kind c.args.checks.now c.as_slice-3.result.now c.requires.channels
+    few_factors c.args.config.now c.args.kind c.args.checks.now c.as_slice-3.result.now c.requires.channels.1
     c.requires.checks (c.as_slice-3.ensures.value ∙ c.in_ok-factors.ensures)
 
 pub returns : goal.returns
