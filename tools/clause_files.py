@@ -41,7 +41,8 @@ class ClauseFile:
     """Notes of choices and of fields, the number of variables, the clauses before the last one, and the verdict.
 
     Reading fails where the form is another one: notes of choices by rising variables, then one for each bit of the
-    fields of the channel in one cycle, then the header and a clause a line, the last of which is the last variable.
+    fields of one channel in one cycle, then the header and a clause a line, the last of which is the last variable. The
+    bits of a channel's fields are those of its part of the output, which has channel 0 lowest.
     """
 
     def __init__(self, path):
@@ -62,9 +63,12 @@ class ClauseFile:
         if last != [self.variables]:
             raise Wrong(f"the last clause is {last}")
         self.verdict = last[0]
-        noted = [(f"rvfi_{name}", bit) for name, width in FIELDS if name not in ("mode", "ixl") for bit in range(width)]
-        self.choices, self.fields = notes[:-len(noted)], notes[-len(noted):]
-        self.cycle = self.fields[0].cycle
+        looked_at = [(name, width) for name, width in FIELDS if name not in ("mode", "ixl")]
+        count = sum(width for _, width in looked_at)
+        self.choices, self.fields = notes[:-count], notes[-count:]
+        # the first field is `valid`, of one bit
+        self.cycle, self.channel = self.fields[0].cycle, self.fields[0].bit
+        noted = [(f"rvfi_{name}", self.channel * width + bit) for name, width in looked_at for bit in range(width)]
         if [note.place for note in self.fields] != [(self.cycle, name, bit) for name, bit in noted]:
             raise Wrong("the notes of fields are others, or in another order")
         chosen = [note.literal for note in self.choices]
@@ -78,13 +82,16 @@ class ClauseFile:
         return self.choices + self.fields
 
 
-# What the texts of checks mean to Icarus Verilog: outputs, and free names as registers that a bench sets.
-HEAD = "\n".join([
-    "`define RVFI_OUTPUTS " + ", ".join(f"output [{width - 1}:0] rvfi_{name}" for name, width in FIELDS),
-    "`define RVFI_CONN " + ", ".join(f".rvfi_{name}(rvfi_{name})" for name, _ in FIELDS),
-    *(f"`define rvformal_{name} reg" for name in ("rand_reg", "const_rand_reg", "rand_const_reg")),
-    "`define RISCV_FORMAL", "`define RISCV_FORMAL_NRET 1", "`define RISCV_FORMAL_XLEN 32",
-    "`define RISCV_FORMAL_ILEN 32", ""])
+def head(channels):
+    """What the texts of checks mean to Icarus Verilog: outputs, and free names as registers that a bench sets."""
+    outputs = [f"output [{channels * width - 1}:0] rvfi_{name}" for name, width in FIELDS]
+    return "\n".join([
+        "`define RVFI_OUTPUTS " + ", ".join(outputs),
+        "`define RVFI_CONN " + ", ".join(f".rvfi_{name}(rvfi_{name})" for name, _ in FIELDS),
+        *(f"`define rvformal_{name} reg" for name in ("rand_reg", "const_rand_reg", "rand_const_reg")),
+        "`define RISCV_FORMAL", f"`define RISCV_FORMAL_NRET {channels}", "`define RISCV_FORMAL_XLEN 32",
+        "`define RISCV_FORMAL_ILEN 32", ""])
+
 
 BENCH = """module bench;
 reg clock = 0, reset = 0;
@@ -98,15 +105,15 @@ endmodule
 """
 
 
-def simulated(text, steps, declared=""):
+def simulated(text, steps, declared="", channels=1):
     """Returns what Icarus Verilog prints where it goes through the steps over the wrapper `dut` of the text, in which
-    assumptions demand nothing."""
+    assumptions demand nothing, where the text is that of so many channels."""
     text = re.sub(r"\bassume\b", "if", text)
     bench = BENCH.replace("DECLARED", declared).replace("STEPS", "\n".join(steps))
     with tempfile.TemporaryDirectory() as folder:
         source, built = os.path.join(folder, "t.v"), os.path.join(folder, "t")
         with open(source, "w") as out:
-            out.write(HEAD + text + bench)
+            out.write(head(channels) + text + bench)
         subprocess.run(["iverilog", "-g2005", "-o", built, source], check=True)
         return subprocess.run([built], check=True, capture_output=True, text=True).stdout
 

@@ -142,9 +142,13 @@ class Run:
         return [fields for cycle, channel, fields in self.retires if self.start <= cycle <= self.cycle]
 
     def earlier(self):
-        """Returns those before the one at the check's cycle in its channel."""
+        """Returns those that count as earlier than the one at the check's cycle in its channel: for `reg`, `pc_fwd` and
+        `pc_bwd` all others up to that cycle, for the other kinds those before it."""
+        own = (self.cycle, self.channel)
+        both = self.kind in ("reg", "pc_fwd", "pc_bwd")
         return [fields for cycle, channel, fields in self.retires
-                if self.start <= cycle and (cycle, channel) < (self.cycle, self.channel)]
+                if self.start <= cycle <= self.cycle
+                and ((cycle, channel) != own if both else (cycle, channel) < own)]
 
     def holds(self):
         """Returns what the rules say of the run."""

@@ -1,12 +1,13 @@
 #!/usr/bin/env python3
 """Reads the notes of clause files back, and compares them with runs of the design in Icarus Verilog.
 
-    tools/read-notes.py [--runs N] TEXT.v FILE.cnf ..
+    tools/read-notes.py [--runs N] [--channels N] TEXT.v FILE.cnf ..
 
-TEXT.v is the text of the checks with all its macros but the predefined ones. The form of each file is judged
-(tools/clause_files.py). Then for N choices at random (3) the noted choices get values, by which the clauses before the
-last are to determine all variables, and Icarus Verilog runs the text with these choices, 0 for the free names that have
-no note, up to the check's cycle: each noted bit of each field has to be the same there.
+TEXT.v is the text of the checks with all its macros but the predefined ones, which are those of N channels (1). The
+form of each file is judged (tools/clause_files.py). Then for as many choices at random as there are runs (3) the noted
+choices get values, by which the clauses before the last are to determine all variables, and Icarus Verilog runs the
+text with these choices, 0 for the free names that have no note, up to the check's cycle: each noted bit of each field
+has to be the same there.
 """
 import argparse
 import collections
@@ -41,7 +42,7 @@ class Formula:
         return values
 
 
-def shown(file, text, values):
+def shown(file, text, values, channels):
     """The fields that Icarus Verilog shows in the check's cycle, where the noted choices have these values."""
     chosen = collections.defaultdict(int)
     for note in file.choices:
@@ -55,16 +56,16 @@ def shown(file, text, values):
         if cycle < file.cycle:
             steps.append("clock = 1; #1; clock = 0; #1;")
     steps += [f'$display("rvfi_{name} %b", dut.rvfi_{name});' for name, _ in FIELDS]
-    return dict(line.split() for line in simulated(text, steps).splitlines())
+    return dict(line.split() for line in simulated(text, steps, channels=channels).splitlines())
 
 
-def compared(path, text, runs, rng):
+def compared(path, text, runs, channels, rng):
     """How many choices are noted, and how many noted bits of fields are the same and how many are others."""
     file = ClauseFile(path)
     formula, same, other = Formula(file), 0, 0
     for _ in range(runs):
         values = formula.completed({note.literal: rng.random() < 0.5 for note in file.choices})
-        fields = shown(file, text, values)
+        fields = shown(file, text, values, channels)
         told = [fields[note.name][-1 - note.bit] == str(int(note.value(values.get))) for note in file.fields]
         same, other = same + sum(told), other + len(told) - sum(told)
     return len(file.choices), same, other
@@ -73,6 +74,7 @@ def compared(path, text, runs, rng):
 def main():
     options = argparse.ArgumentParser()
     options.add_argument("--runs", type=int, default=3)
+    options.add_argument("--channels", type=int, default=1)
     options.add_argument("text")
     options.add_argument("files", nargs="+")
     options = options.parse_args()
@@ -81,7 +83,7 @@ def main():
     rng, wrong, counts, bits = random.Random(1), 0, [], 0
     for path in options.files:
         try:
-            choices, same, other = compared(path, text, options.runs, rng)
+            choices, same, other = compared(path, text, options.runs, options.channels, rng)
             counts.append(choices)
             wrong, bits = wrong + other, bits + same
             if other:

@@ -1,12 +1,13 @@
 #!/usr/bin/env python3
 """Replays the trace of a failing check in Icarus Verilog, and compares every name in every cycle.
 
-    tools/replay-trace.py TRACE TEXT.v
+    tools/replay-trace.py [--channels N] TRACE TEXT.v
 
-TRACE is the dump that `rvf run` left, TEXT.v the text of the check with all its macros but the predefined ones. The
-free names of the top module (those declared with the macros of free values), `reset` and what registers and words hold
-in the first cycle are taken from the trace; all other numbers are Icarus Verilog's.
+TRACE is the dump that `rvf run` left, TEXT.v the text of the check with all its macros but the predefined ones, which
+are those of N channels (1). The free names of the top module (those declared with the macros of free values), `reset`
+and what registers and words hold in the first cycle are taken from the trace; all other numbers are Icarus Verilog's.
 """
+import argparse
 import re
 import sys
 
@@ -34,9 +35,14 @@ def read(path):
 
 
 def main():
-    trace, text = sys.argv[1:]
-    widths, cycles = read(trace)
-    source = open(text).read()
+    words = argparse.ArgumentParser()
+    words.add_argument("--channels", type=int, default=1)
+    words.add_argument("trace")
+    words.add_argument("text")
+    words = words.parse_args()
+    widths, cycles = read(words.trace)
+    with open(words.text) as file:
+        source = file.read()
     free = re.findall(r"`rvformal_\w+\s*(?:\[[^]]*\])?\s*(\w+)\s*;", source)
     kept = [n for n in cycles[0] if n not in free and n != "reset"]
     steps = []
@@ -52,7 +58,7 @@ def main():
         steps += [f'$display("{k} {n} %0d", dut.{n});' for n in kept]
         steps += ["clock = 1; #1; clock = 0; #1;"]
     other = same = 0
-    for line in simulated(source, steps).splitlines():
+    for line in simulated(source, steps, channels=words.channels).splitlines():
         parts = line.split()
         if len(parts) == 3 and parts[0].isdigit():
             wanted = cycles[int(parts[0])][parts[1]]
