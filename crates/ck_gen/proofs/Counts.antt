@@ -70,4 +70,12 @@ place_within check n own few =
     place_within_lines n (check.cycle - check.trig) (n - 1 - check.channel) (check.cycle - check.start) few
     (omega (arith, own.channel)) (omega (arith, lawful.start, lawful.trig))
 
+-- and that of its own word among those of its cycle
+pub own_within : (check : Check) (n : ℕ) → IsCheck n check → n ≤ 2
+    → n - 1 - check.channel < n * (check.cycle - check.start + 1)
+own_within check n own few =
+    let h = place_within_lines n 0 (n - 1 - check.channel) (check.cycle - check.start) few (omega (arith, own.channel))
+    (omega arith) in
+    omega (arith, h)
+
 pub ruleset few = (few_lines, few_nodes)

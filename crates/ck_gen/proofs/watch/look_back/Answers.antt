@@ -1,4 +1,4 @@
-use Rattle.std.specs.Prelude.{◌≡◌, ◌-◌, ◌*◌, ℕ, List, length, map, slice_index_or}
+use Rattle.std.specs.Prelude.{◌≡◌, ◌+◌, ◌-◌, ◌*◌, ℕ, List, length, map, slice_index_or}
 use Rattle.std.proofs.Common.{ap, sym, ◌∙◌, arith, subst}
 use Rattle.wn_net.specs.Net.{AreNodesOf, value_at}
 use Rattle.wn_net.proofs.Laws.{adds_on, adds_regs, regs_on}
@@ -13,7 +13,7 @@ use Rattle.ck_gen.proofs.Back.{IsBuilt, fails}
 use Rattle.ck_gen.proofs.EarlierWords.{earlier_nodes}
 use Rattle.ck_gen.proofs.Places.{channel_at}
 use Rattle.ck_gen.proofs.Recalled.{IsRecalled, to_new}
-use Rattle.ck_gen.proofs.Counts.{known_between}
+use Rattle.ck_gen.proofs.Counts.{known_between, own_within}
 use Rattle.ck_gen.proofs.Once.{no_channel}
 use Rattle.ck_gen.proofs.watch.look_back.Goals.{After-drop-words-2}
 use Rattle.ck_gen.proofs.watch.look_back.Goals as goal
@@ -141,3 +141,17 @@ holds-requires-clause-words c =
     subst P (sym (c.as_slice-3.ensures.value ∙ c.in_ok-earlier.ensures
     ∙ ap (earlier_of kind place) c.as_slice-2.ensures.value))
     (earlier_nodes kept 102 kind place c.in_ok-shown.shown.items c.in_ok-shown.ensures.nodes)
+
+-- the own word is one of them
+pub earlier_words-requires : goal.earlier_words-requires
+earlier_words-requires c =
+    let check = c.args.check.now in
+    let port = c.args.port.now in
+    let channels : c.as_slice-channels.result.now ≡ port.channels = c.as_slice-channels.ensures in
+    let words : c.as_slice.result.now ≡ c.in_ok-words.words.items = c.as_slice.ensures.value in
+    let long : length c.in_ok-shown.shown.items ≡ length port.channels * (check.cycle - check.start + 1) =
+    c.in_ok-shown.ensures.many
+    ∙ ap (λ n. n * (check.cycle - check.start + 1))
+    (ap length words ∙ c.in_ok-words.ensures.many ∙ ap length channels) in
+    let own = own_within check (length port.channels) c.requires.check c.requires.few in
+    omega (arith, own, long, ap length channels, ap length c.as_slice-2.ensures.value)
