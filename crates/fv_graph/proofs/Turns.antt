@@ -6,9 +6,9 @@ use Rattle.std.proofs.lemmas.Option.{same_Some, slice_get-get_or}
 use Rattle.fv_graph.specs.declared.state.Progress.{Progress}
 use Rattle.fv_graph.specs.declared.state.Progress.TheVariants as p
 use Rattle.fv_graph.specs.declared.state.Step.{Step}
-use Rattle.fv_graph.specs.Graph.{targets, Leads, IsCircle}
+use Rattle.fv_graph.specs.Graph.{targets, Leads, IsSimpleCircle}
 use Rattle.fv_graph.specs.Walking.{Walks, AreFewer, nodes_from, work}
-use Rattle.fv_graph.proofs.Circles.{closes}
+use Rattle.fv_graph.proofs.Circles.{closes, from_once}
 use Rattle.fv_graph.proofs.Lists.{get_set, get_unset, get_less, get_last, get_front, get_cases, length_more}
 use Rattle.fv_graph.proofs.Moves.{is_new, same_or_not, further, begun, begins, passes, opens, finishes}
 use Rattle.fv_graph.proofs.Work.{less_passed, less_opened, less_done}
@@ -74,9 +74,9 @@ module _ (g : List (List ℕ)) (ps : List Progress) (path : List Step) (done : L
       )))
 
   pub to_open : (t : ℕ) → slice_get (targets g s.node) s.next ≡ Some t → slice_get ps t ≡ Some p.Open
-      → (trail : List Step) → trail ≡ path ++ further s ∷ [] → IsCircle g (nodes_from trail t)
+      → (trail : List Step) → trail ≡ path ++ further s ∷ [] → IsSimpleCircle g (nodes_from trail t)
   to_open t target is trail f =
-      subst (λ x. IsCircle g (nodes_from x t)) (sym f)
+      subst (λ x. IsSimpleCircle g (nodes_from x t)) (sym f)
       (circle (w.opened t is))
     where
       moved : List Step
@@ -107,15 +107,23 @@ module _ (g : List (List ℕ)) (ps : List Progress) (path : List Step) (done : L
           let r = older (suc a) y f in
           subst (λ m. Leads g m y.node) q.2 (subst (λ m. Leads g q.0.node m) r.2 (w.follows a q.0 r.0 q.1 r.1))
 
+      apart : (a b : ℕ) (x y : Step) → slice_get moved a ≡ Some x → slice_get moved b ≡ Some y → x.node ≡ y.node
+          → a ≡ b
+      apart a b x y e f same =
+          let q = older a x e in
+          let r = older b y f in w.apart a b q.0 r.0 q.1 r.1 (q.2 ∙ same ∙ sym r.2)
+
       circle : (a : ℕ) × (x : Step) × (slice_get (path ++ s ∷ []) a ≡ Some x) × (x.node ≡ t)
-          → IsCircle g (nodes_from moved t)
+          → IsSimpleCircle g (nodes_from moved t)
       circle r =
-          let n = newer r.0 r.1 r.2 in
-          closes g moved t follows r.0 n.0 n.1 (n.2 ∙ r.3) (λ b x e f.
-          let last : b ≡ length path = omega (arith, e, length_more path (further s)) in
-          let same : further s ≡ x =
-          same_Some (further s) x (sym (get_last path (further s)) ∙ ap (slice_get moved) (sym last) ∙ f) in
-          subst (λ m. Leads g m t) (ap (λ z. z.node) same) (s.next, target))
+          let n = newer r.0 r.1 r.2 in (
+            closes g moved t follows r.0 n.0 n.1 (n.2 ∙ r.3) (λ b x e f.
+                let last : b ≡ length path = omega (arith, e, length_more path (further s)) in
+                let same : further s ≡ x =
+                same_Some (further s) x (sym (get_last path (further s)) ∙ ap (slice_get moved) (sym last) ∙ f) in
+                subst (λ m. Leads g m t) (ap (λ z. z.node) same) (s.next, target)),
+            from_once moved t apart,
+          )
 
 -- ---- a new node on an empty path, and the end
 

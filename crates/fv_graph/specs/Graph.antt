@@ -45,3 +45,11 @@ last_node i (j ∷ js) = last_node j js
 abbrev pub IsCircle : List (List ℕ) → List ℕ → Type 0
 IsCircle graph [] = ⊥
 IsCircle graph (i ∷ is) = IsChain graph i is × Leads graph (last_node i is) i
+
+-- no node stands twice
+abbrev pub StandOnce : List ℕ → Type 0
+StandOnce nodes = (a b i : ℕ) → slice_get nodes a ≡ Some i → slice_get nodes b ≡ Some i → a ≡ b
+
+-- a circle that has each of its nodes once
+abbrev pub IsSimpleCircle : List (List ℕ) → List ℕ → Type 0
+IsSimpleCircle graph nodes = IsCircle graph nodes × StandOnce nodes

@@ -7,7 +7,7 @@ use Rattle.std.proofs.Common.{◌⊎◌}
 use Rattle.fv_graph.specs.declared.state.Progress.{Progress}
 use Rattle.fv_graph.specs.declared.state.Progress.TheVariants as p
 use Rattle.fv_graph.specs.declared.state.Step.{Step}
-use Rattle.fv_graph.specs.Graph.{targets, Leads, has_node, IsCircle}
+use Rattle.fv_graph.specs.Graph.{targets, Leads, has_node, IsSimpleCircle}
 
 pub record Walks (graph : List (List ℕ)) (progress : List Progress) (path : List Step) (done : List ℕ)
     : Type 0 where
@@ -67,7 +67,7 @@ abbrev pub Turned : List (List ℕ) → List Progress → List Step → List Pro
     → Option ℕ → Type 0
 Turned graph before trail progress path done None =
     Walks graph progress path done × (work graph progress path < work graph before trail) × AreFewer before progress
-Turned graph before trail progress path done (Some i) = IsCircle graph (nodes_from path i)
+Turned graph before trail progress path done (Some i) = IsSimpleCircle graph (nodes_from path i)
 
 -- What comes of a node that was new: it isn't any more, and the path is empty again, or it is closed from a node on.
 abbrev pub Came : List (List ℕ) → List Progress → ℕ → List Progress → List Step → List ℕ → Option ℕ
@@ -75,4 +75,4 @@ abbrev pub Came : List (List ℕ) → List Progress → ℕ → List Progress �
 Came graph before node progress path done None =
     Walks graph progress path done × (path ≡ []) × AreFewer before progress
     × (slice_get progress node ≡ Some p.New → ⊥)
-Came graph before node progress path done (Some i) = IsCircle graph (nodes_from path i)
+Came graph before node progress path done (Some i) = IsSimpleCircle graph (nodes_from path i)

@@ -1,6 +1,6 @@
 //! Laws of orders and circles.
 ghost use Rattle.std.specs.Prelude.{◌≡◌, ◌≤◌, ◌++◌, ℕ, List, length, drop, take, IfOk};
-ghost use Rattle.fv_graph.specs.Graph.{IsCircle, IsOrder};
+ghost use Rattle.fv_graph.specs.Graph.{IsCircle, IsOrder, StandOnce};
 
 use fv_text::Memory;
 use std::alloc::Global;
@@ -11,6 +11,7 @@ pub fn circle_from(alloc: Global, circle: &[u32], at: usize) -> Result<fv_text::
     ensures nodes { IfOk result (λ found. found ≡ drop at circle.now ++ take at circle.now) }
     ensures closed { IfOk result (λ found. (graph : List (List ℕ)) → IsCircle graph circle.now
         → IsCircle graph found) }
+    ensures once { IfOk result (λ found. StandOnce circle.now → StandOnce found) }
 {
     Ok(fv_text::List::from_vec(turned(alloc, circle, at)?))
 }

@@ -14,7 +14,7 @@ use std::alloc::Global;
 pub enum Walked {
     /// Each node stands behind those that it leads to.
     Order(List<u32>),
-    /// Each leads to the next one, and the last one to the first.
+    /// Each leads to the next one, and the last one to the first; no node stands twice.
     Circle(List<u32>),
 }
 

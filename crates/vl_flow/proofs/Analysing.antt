@@ -1,5 +1,5 @@
 -- What is known of a design's drivers, from what each does.
-use Rattle.std.specs.Prelude.{◌≡◌, ◌≤◌, List, [], ◌∷◌, ◌++◌, length, All, true, false}
+use Rattle.std.specs.Prelude.{◌≡◌, ◌≤◌, List, [], ◌∷◌, ◌++◌, length, All}
 use Rattle.std.proofs.Common.{sym, arith, subst}
 use Rattle.vl_tree.specs.Lval.{Lval, joined, named}
 use Rattle.vl_tree.specs.Stmt.{Stmt, assign, assume, begin, case, empty, if_else, if_only}
@@ -9,10 +9,12 @@ use Rattle.vl_mean.specs.declared.driver.DriverKind.{DriverKind}
 use Rattle.vl_mean.specs.declared.driver.DriverKind.TheVariants as k
 use Rattle.vl_mean.specs.declared.driver.Start.{Start}
 use Rattle.vl_mean.specs.FlatLaw.{IsDriver, driver_nodes, node_count, stmt_nodes, target_nodes}
-use Rattle.vl_flow_spec.specs.Refusals.{changed_by, latched_by}
+use Rattle.vl_flow_spec.specs.Refusals.{latched_by}
 use Rattle.vl_flow_spec.proofs.Changed.{driver_changed}
 use Rattle.vl_flow_cells.proofs.Lists.{all_at}
+use Rattle.vl_flow_effects.specs.declared.assigned.Assigned.{Assigned}
 use Rattle.vl_flow_effects.specs.declared.uses.Uses.{Uses}
+use Rattle.vl_flow_effects.specs.Assigning.{AreAssignedBy}
 use Rattle.vl_flow_effects.specs.Effects.{AreEach}
 use Rattle.vl_flow_effects.specs.Uses.{AreUsesOf}
 use Rattle.vl_flow_effects.proofs.Halves.{each_push}
@@ -23,6 +25,7 @@ use Rattle.vl_flow_order.specs.Footprints.{AreFootprintsOf, IsFootprintOf}
 use Rattle.vl_flow_order.specs.Found.{Tells}
 use Rattle.vl_flow_order.specs.declared.found.Found.{Found}
 use Rattle.vl_flow_order.proofs.Cells.{number_of}
+use Rattle.vl_flow_check.specs.Layouts.{AreTheirs}
 use Rattle.vl_flow_check.specs.Rows.{AreSets}
 use Rattle.vl_flow.specs.declared.drivers.DriverSets.{DriverSets}
 use Rattle.vl_flow.specs.Analyses.{AddsUses, AreSetsOf}
@@ -31,13 +34,12 @@ use Rattle.vl_flow.proofs.Each.{each_at, each_size, set_behind}
 module _ (ds : List Decl) where
   -- ---- one driver after the other
 
-  pub no_uses : (sets : DriverSets) → sets.footprints ≡ [] → sets.latched ≡ [] → sets.blocking ≡ []
-      → sets.nonblocking ≡ [] → AreSetsOf ds [] sets
-  no_uses sets a b c d = record {
+  pub no_uses : (sets : DriverSets) → sets.footprints ≡ [] → sets.latched ≡ [] → sets.assigned ≡ []
+      → AreSetsOf ds [] sets
+  no_uses sets a b c = record {
     footprints_are = subst (λ xs. AreEach (λ (f : Footprint) (x : Driver). IsFootprintOf ds f x.what) xs []) (sym a) tt;
     latched_are = subst (λ xs. AreSets ds (latched_by ds) xs []) (sym b) tt;
-    blocking_are = subst (λ xs. AreSets ds (λ x. changed_by ds x true) xs []) (sym c) tt;
-    nonblocking_are = subst (λ xs. AreSets ds (λ x. changed_by ds x false) xs []) (sym d) tt;
+    assigned_are = subst (λ xs. AreEach (λ (a : Assigned) (x : Driver). AreAssignedBy ds a x.what) xs []) (sym c) tt;
   }
 
   footprint_of : (u : Uses) (x : DriverKind) → AreUsesOf ds u x → IsFootprintOf ds u.footprint x
@@ -55,18 +57,24 @@ module _ (ds : List Decl) where
             (each_push R sets.footprints xs u.footprint x are.footprints_are (footprint_of u x.what h));
         latched_are = subst (λ ss. AreSets ds (latched_by ds) ss (xs ++ x ∷ [])) (sym adds.latched_are)
             (set_behind ds (latched_by ds) sets.latched xs u.latched x are.latched_are h.latched);
-        blocking_are = subst (λ ss. AreSets ds (λ y. changed_by ds y true) ss (xs ++ x ∷ [])) (sym adds.blocking_are)
-            (set_behind ds (λ y. changed_by ds y true) sets.blocking xs u.blocking x are.blocking_are h.blocking);
-        nonblocking_are = subst (λ ss. AreSets ds (λ y. changed_by ds y false) ss (xs ++ x ∷ []))
-            (sym adds.nonblocking_are)
-            (set_behind ds (λ y. changed_by ds y false) sets.nonblocking xs u.nonblocking x are.nonblocking_are
-            h.nonblocking);
+        assigned_are = subst (λ all. AreEach S all (xs ++ x ∷ [])) (sym adds.assigned_are)
+            (each_push S sets.assigned xs u.assigned x are.assigned_are h.assigned);
       })
     where
       R : Footprint → Driver → Type 0
       R f y = IsFootprintOf ds f y.what
 
+      S : Assigned → Driver → Type 0
+      S a y = AreAssignedBy ds a y.what
+
   -- ---- all of them
+
+  pub theirs : (all : List Assigned) (drivers : List Driver)
+      → AreEach (λ (a : Assigned) (x : Driver). AreAssignedBy ds a x.what) all drivers → AreTheirs ds all drivers
+  theirs all drivers each = record {
+    size = each_size (λ (a : Assigned) (x : Driver). AreAssignedBy ds a x.what) all drivers each;
+    each = each_at (λ (a : Assigned) (x : Driver). AreAssignedBy ds a x.what) all drivers each;
+  }
 
   pub footprints_of : (groups : Groups) (fs : List Footprint) (drivers : List Driver)
       → All (λ x. IsDriver ds x.what) drivers → AreGroupsOf ds groups

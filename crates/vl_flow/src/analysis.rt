@@ -17,10 +17,6 @@ pub(crate) struct Analysis {
     pub(crate) layout: Layout,
     /// Of each driver, what a combinational block may change and doesn't surely assign.
     pub(crate) latched: List<Bits>,
-    /// Of each block, what it assigns at once.
-    pub(crate) blocking: List<Bits>,
-    /// Of each block, what it assigns for its end.
-    pub(crate) nonblocking: List<Bits>,
 }
 
 /// The analysis of a design. Time is about linear in its names' words and its drivers.
@@ -35,8 +31,7 @@ pub(crate) fn analyzed(alloc: Global, flat: &Flat) -> Result<Analysis, Memory>
     let DriverSets {
         footprints,
         latched,
-        blocking,
-        nonblocking,
+        assigned,
     } = sets;
     Ok(Analysis {
         numbering,
@@ -44,9 +39,8 @@ pub(crate) fn analyzed(alloc: Global, flat: &Flat) -> Result<Analysis, Memory>
             groups,
             all,
             footprints,
+            assigned,
         },
         latched,
-        blocking,
-        nonblocking,
     })
 }

@@ -8,18 +8,17 @@ use fv_text::{List, Memory};
 use std::alloc::Global;
 use vl_flow_cells::Numbering;
 use vl_flow_cells::uses_law::drivers_are_sized;
-use vl_flow_effects::{Uses, uses_of};
+use vl_flow_effects::{Assigned, Uses, uses_of};
 use vl_flow_order::Footprint;
 use vl_mean::Driver;
 use vl_size::Decls;
 
-/// What drivers do to bits of numbered cells, in their order.
+/// What drivers do to bits of numbered cells, and the names that they assign, in their order.
 #[derive(Drop)]
 pub(crate) struct DriverSets {
     pub(crate) footprints: List<Footprint>,
     pub(crate) latched: List<Bits>,
-    pub(crate) blocking: List<Bits>,
-    pub(crate) nonblocking: List<Bits>,
+    pub(crate) assigned: List<Assigned>,
 }
 
 /// Puts what one driver does behind the others.
@@ -29,13 +28,11 @@ fn add(sets: &mut DriverSets, uses: Uses) -> Result<(), Memory>
     let Uses {
         footprint,
         latched,
-        blocking,
-        nonblocking,
+        assigned,
     } = uses;
     sets.footprints.push(footprint)?;
     sets.latched.push(latched)?;
-    sets.blocking.push(blocking)?;
-    sets.nonblocking.push(nonblocking)?;
+    sets.assigned.push(assigned)?;
     Ok(())
 }
 
@@ -54,8 +51,7 @@ pub(crate) fn sets_of(
     let mut sets = DriverSets {
         footprints: List::new(alloc),
         latched: List::new(alloc),
-        blocking: List::new(alloc),
-        nonblocking: List::new(alloc),
+        assigned: List::new(alloc),
     };
     for driver in drivers {
         let uses = uses_of(alloc, &driver.what, decls, numbering)?;

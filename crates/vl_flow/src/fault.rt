@@ -6,8 +6,8 @@ use thiserror::Error;
 /// assign the name, of several the earliest.
 #[derive(Debug, Drop, Error)]
 pub enum FlowFault {
-    /// 1. Drivers that aren't clocked, each of which reads a bit that the next one drives, and the last one a bit of
-    /// the first; the first has the earliest place.
+    /// 1. Drivers that aren't clocked, each of them once, each of which reads a bit that the next one drives, and the
+    /// last one a bit of the first; the first has the earliest place.
     #[error("a loop of drivers at {0:?}")]
     Loop(List<Pos>),
     /// 2. A combinational block may change a bit, and doesn't surely assign it on some path.
@@ -19,10 +19,10 @@ pub enum FlowFault {
     /// 4. A bit of a net that no driver assigns.
     #[error("bit {1} of {0:?} without a driver")]
     Undriven(Text, u32),
-    /// 5. A blocking assignment of a clocked block to a name that is read outside of the block.
+    /// 5. A blocking assignment of a clocked block to a name of which a bit is read outside of the block.
     #[error("a blocking assignment of {0:?}, which others read, at {1:?}")]
     BlockingShared(Text, Pos),
-    /// 6. Blocking and nonblocking assignments to one name, or a nonblocking one in a combinational block.
+    /// 6. Blocking and nonblocking assignments to one name, whatever they reach of it, or a nonblocking one in a combinational block.
     #[error("blocking and nonblocking assignments of {0:?} at {1:?}")]
     Mixed(Text, Pos),
     #[error("no memory is left")]

@@ -24,7 +24,6 @@ pub(crate) fn later_fault(
     ensures { IfOk result (λ found. found ≡ spec.later_fault decls.now drivers.now) }
 {
     let layout = &analysis.layout;
-    let blocking = analysis.blocking.as_slice();
     if let Some((name, pos)) = latch(alloc, layout, decls, drivers, analysis.latched.as_slice())? {
         return Ok(Some(FlowFault::Latch(name, pos)));
     }
@@ -40,11 +39,10 @@ pub(crate) fn later_fault(
     if let Some((name, bit)) = undriven(alloc, layout, decls)? {
         return Ok(Some(FlowFault::Undriven(name, bit)));
     }
-    if let Some((name, pos)) = blocking_shared(alloc, layout, decls, drivers, blocking)? {
+    if let Some((name, pos)) = blocking_shared(alloc, layout, decls, drivers)? {
         return Ok(Some(FlowFault::BlockingShared(name, pos)));
     }
-    let nonblocking = analysis.nonblocking.as_slice();
-    if let Some((name, pos)) = mixed(alloc, layout, decls, drivers, blocking, nonblocking)? {
+    if let Some((name, pos)) = mixed(alloc, layout, decls, drivers)? {
         return Ok(Some(FlowFault::Mixed(name, pos)));
     }
     Ok(None)

@@ -65,6 +65,19 @@ place_some ds text j h = by (nat_lt (position_or_len p ds) (length ds)) h
     by true h = find_at p ds ∙ ap (slice_get ds) (same_Some (position_or_len p ds) j h)
     by false h = absurd (true≢false (ap is_none h))
 
+pub place_less : (ds : List Decl) (text : List ℕ) (j : ℕ) → place ds text ≡ Some j → j < length ds
+place_less ds text j h = by (nat_lt (position_or_len p ds) (length ds)) refl h
+  where
+    p : Decl → Bool
+    p d = bytes_eq text d.name
+
+    by : (b : Bool) → nat_lt (position_or_len p ds) (length ds) ≡ b
+        → cond b (Some (position_or_len p ds)) None ≡ Some j → j < length ds
+    by true t h =
+        let less : position_or_len p ds < length ds = grind (arith, nat_tests, t) in
+        let same = same_Some (position_or_len p ds) j h in omega (arith, less, same)
+    by false t h = absurd (true≢false (ap is_none h))
+
 -- ---- what is selected
 
 -- each spot of a vector is of the cell that the vector is

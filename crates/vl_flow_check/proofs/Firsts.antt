@@ -1,51 +1,38 @@
 -- The first name that is marked, with the earliest place of its drivers.
 use Rattle.std.specs.Prelude.{◌≡◌, refl, ℕ, zero, suc, ◌+◌, ◌<◌, ◌≤◌, List, [], ◌∷◌, length, drop, Bool, true, false}
-use Rattle.std.specs.Prelude.{◌&&◌, IfSome, Option, Some, None, is_none, is_some, slice_get, if◌then◌else◌}
+use Rattle.std.specs.Prelude.{◌||◌, IfSome, Option, Some, None, is_none, is_some, slice_get, if◌then◌else◌}
 use Rattle.std.proofs.Common.{ap, sym, ◌∙◌, arith, subst, true≢false, get_or, ◌⊎◌, inl, inr}
-use Rattle.std.proofs.lemmas.Bool.{and_from, cases_order}
+use Rattle.std.proofs.lemmas.Bool.{cases_order}
 use Rattle.std.proofs.lemmas.Option.{same_Some, slice_get-get_or}
 use Rattle.std.proofs.Math.Seq.{drop-cons}
 use Rattle.fv_text.specs.declared.pos.Pos.{Pos}
 use Rattle.vl_size.specs.declared.decl.Decl.{Decl}
 use Rattle.vl_size.specs.Places.{earlier_place}
 use Rattle.vl_mean.specs.declared.driver.Driver.{Driver}
+use Rattle.vl_mean.specs.declared.driver.DriverKind.{DriverKind}
+use Rattle.vl_mean.specs.declared.driver.DriverKind.TheVariants as k
 use Rattle.fv_bit_sets.specs.declared.step.Step.{Step}
 use Rattle.fv_bit_sets.specs.Cells.{has, IsBare, IsBefore}
-use Rattle.vl_flow_spec.specs.Drivers.{driven_by}
-use Rattle.vl_flow_spec.specs.Refusals.{first_of_names, has_bit, named_if, place_of, with_name}
-use Rattle.vl_flow_order.specs.declared.footprint.Footprint.{Footprint}
+use Rattle.vl_flow_spec.specs.Paths.{any_kind, is_blocking, is_nonblocking}
+use Rattle.vl_flow_spec.specs.Refusals.{assigns_to, first_of_names, named_if, place_of, with_name}
+use Rattle.vl_flow_spec.proofs.Kinds.{either_kind}
+use Rattle.vl_flow_effects.specs.declared.assigned.Assigned.{Assigned}
+use Rattle.vl_flow_effects.specs.Assigning.{AreAssignedBy}
 use Rattle.vl_flow_cells.proofs.Lists.{get_less}
-use Rattle.vl_flow_order.specs.Footprints.{IsFootprintOf}
-use Rattle.vl_flow_check.specs.declared.layout.Span.{Span}
-use Rattle.vl_flow_check.specs.Layouts.{AreAllBits, IsSpan, Marks}
-use Rattle.vl_flow_check.proofs.NameMarks.{from_name, to_name}
+use Rattle.vl_flow_check.specs.Layouts.{Marks}
 
--- ---- whether a driver may change a bit of the name
+-- ---- whether a driver assigns the name
 
-module _ (ds : List Decl) (x : Driver) (f : Footprint) (all : List Step) (place : ℕ) (d : Decl) (s : Span)
-    (is : IsFootprintOf ds f x.what) (whole : AreAllBits ds all) (at : slice_get ds place ≡ Some d)
-    (span : IsSpan ds place s) where
-  pub meets_name : (cell bit : ℕ) → s.first ≤ cell → cell < s.past → has f.drives cell bit ≡ true
-      → has all cell bit ≡ true → has_bit (driven_by ds x.what) d ≡ true
-  meets_name cell bit from before driven inside =
-      to_name ds f.drives all (driven_by ds x.what) place d is.drives whole at (record {
-        cell = cell;
-        bit = bit;
-        of = (omega (arith, from, span.first), omega (arith, before, span.past));
-        has_it = driven;
-        inside = inside;
-      })
+module _ (ds : List Decl) (x : Driver) (a : Assigned) (place : ℕ) (d : Decl) (is : AreAssignedBy ds a x.what)
+    (at : slice_get ds place ≡ Some d) where
+  -- a block assigns by assignments of one kind or of the other
+  kinds : (y : DriverKind) → assigns_to any_kind y d ≡ (assigns_to is_blocking y d || assigns_to is_nonblocking y d)
+  kinds (k.Assign l e) = refl
+  kinds (k.Comb s) = either_kind s d.name
+  kinds (k.Clocked s) = either_kind s d.name
 
-  pub misses_name : ((cell bit : ℕ) → s.first ≤ cell → cell < s.past
-      → (has f.drives cell bit && has all cell bit) ≡ false) → has_bit (driven_by ds x.what) d ≡ false
-  misses_name none = by (has_bit (driven_by ds x.what) d) refl
-    where
-      by : (b : Bool) → has_bit (driven_by ds x.what) d ≡ b → b ≡ false
-      by true e =
-          let r = from_name ds f.drives all (driven_by ds x.what) place d is.drives whole at e in
-          absurd (true≢false (sym (and_from (has f.drives r.cell r.bit) (has all r.cell r.bit) r.has_it r.inside)
-          ∙ none r.cell r.bit (omega (arith, r.of.0, span.first)) (omega (arith, r.of.1, span.past))))
-      by false e = refl
+  pub whether : (has a.blocking place 0 || has a.nonblocking place 0) ≡ assigns_to any_kind x.what d
+  whether = (λ i. is.blocking.is place d at i || is.nonblocking.is place d at i) ∙ sym (kinds x.what)
 
 pub some_if : (b : Bool) (p : Pos) → b ≡ true → Some p ≡ (if b then Some p else None)
 some_if b p e = ap (λ t. if t then Some p else None) (sym e)
@@ -55,9 +42,9 @@ none_if b p e = ap (λ t. if t then Some p else None) (sym e)
 
 -- ---- from the last driver on
 
-module _ (ds : List Decl) (drivers : List Driver) (d : Decl) where
-  pub none_behind : (rest : ℕ) → length drivers ≤ rest → None ≡ place_of ds (drop rest drivers) d
-  none_behind rest le = ap (λ xs. place_of ds xs d) (sym (behind drivers rest le))
+module _ (drivers : List Driver) (d : Decl) where
+  pub none_behind : (rest : ℕ) → length drivers ≤ rest → None ≡ place_of (drop rest drivers) d
+  none_behind rest le = ap (λ xs. place_of xs d) (sym (behind drivers rest le))
     where
       behind : (xs : List Driver) (k : ℕ) → length xs ≤ k → drop k xs ≡ []
       behind [] zero h = refl
@@ -66,9 +53,9 @@ module _ (ds : List Decl) (drivers : List Driver) (d : Decl) where
       behind (x ∷ xs) (suc k) h = behind xs k (omega (arith, h))
 
   pub one_before : (rest : ℕ) (x : Driver) (one found made : Option Pos) → slice_get drivers rest ≡ Some x
-      → one ≡ (if has_bit (driven_by ds x.what) d then Some x.pos else None)
-      → found ≡ place_of ds (drop (rest + 1) drivers) d → made ≡ earlier_place one found
-      → made ≡ place_of ds (drop rest drivers) d
+      → one ≡ (if assigns_to any_kind x.what d then Some x.pos else None)
+      → found ≡ place_of (drop (rest + 1) drivers) d → made ≡ earlier_place one found
+      → made ≡ place_of (drop rest drivers) d
   one_before rest x one found made e is were is_made =
       let less = get_less drivers rest x e in
       let same : get_or drivers rest x ≡ x =
@@ -77,7 +64,7 @@ module _ (ds : List Decl) (drivers : List Driver) (d : Decl) where
       let parts : drop rest drivers ≡ x ∷ drop (rest + 1) drivers =
       drop-cons drivers rest x less ∙ ap (λ y. y ∷ drop (suc rest) drivers) same
       ∙ ap (λ k. x ∷ drop k drivers) (sym next) in
-      is_made ∙ (λ j. earlier_place (is j) (were j)) ∙ ap (λ xs. place_of ds xs d) (sym parts)
+      is_made ∙ (λ j. earlier_place (is j) (were j)) ∙ ap (λ xs. place_of xs d) (sym parts)
 
 -- ---- the first name
 
@@ -106,7 +93,7 @@ module _ (ds : List Decl) (drivers : List Driver) (marked : List Step) where
   abbrev pub ArePassed : Option ℕ → Type 0
   ArePassed next =
       (k : ℕ) (d : Decl) → IsBefore k next → slice_get ds k ≡ Some d → has marked k 0 ≡ true
-      → place_of ds drivers d ≡ None
+      → place_of drivers d ≡ None
 
   abbrev pub IsMarked : Option ℕ → Type 0
   IsMarked next = (place : ℕ) → next ≡ Some place → has marked place 0 ≡ true
@@ -121,7 +108,7 @@ module _ (ds : List Decl) (drivers : List Driver) (marked : List Step) where
       lowest zero h = h
       lowest (suc bit) h = absurd (true≢false (sym h ∙ alone p (suc bit) (omega arith)))
 
-  bare_passed : (d : Decl) (k : ℕ) → IsBare marked k → has marked k 0 ≡ true → place_of ds drivers d ≡ None
+  bare_passed : (d : Decl) (k : ℕ) → IsBare marked k → has marked k 0 ≡ true → place_of drivers d ≡ None
   bare_passed d k bare h = absurd (true≢false (sym h ∙ bare 0))
 
   pub first_passed : (next : Option ℕ) → ((cell : ℕ) → 0 ≤ cell → IsBefore cell next → IsBare marked cell)
@@ -129,42 +116,42 @@ module _ (ds : List Decl) (drivers : List Driver) (marked : List Step) where
   first_passed next bare k d before at h = bare_passed d k (bare k (omega arith) before) h
 
   pub more_passed : (place : ℕ) (next : Option ℕ) → ArePassed (Some place)
-      → ((d : Decl) → slice_get ds place ≡ Some d → place_of ds drivers d ≡ None)
+      → ((d : Decl) → slice_get ds place ≡ Some d → place_of drivers d ≡ None)
       → ((cell : ℕ) → place + 1 ≤ cell → IsBefore cell next → IsBare marked cell) → ArePassed next
   more_passed place next were here bare k d before at h = by (cases_order k place)
     where
-      by : (k ≡ place) ⊎ ((k < place) ⊎ (place < k)) → place_of ds drivers d ≡ None
+      by : (k ≡ place) ⊎ ((k < place) ⊎ (place < k)) → place_of drivers d ≡ None
       by (inl same) = here d (ap (slice_get ds) (sym same) ∙ at)
       by (inr (inl less)) = were k d less at h
       by (inr (inr more)) = bare_passed d k (bare k (omega (arith, more)) before) h
 
   module _ (test : Decl → Bool) (marks : Marks ds marked test) where
     passed_none : (k : ℕ) (d : Decl) → slice_get ds k ≡ Some d
-        → (has marked k 0 ≡ true → place_of ds drivers d ≡ None) → named_if ds drivers d (test d) ≡ None
+        → (has marked k 0 ≡ true → place_of drivers d ≡ None) → named_if drivers d (test d) ≡ None
     passed_none k d at f = by (test d) (λ h. f (marks.is k d at ∙ h))
       where
-        by : (b : Bool) → (b ≡ true → place_of ds drivers d ≡ None) → named_if ds drivers d b ≡ None
+        by : (b : Bool) → (b ≡ true → place_of drivers d ≡ None) → named_if drivers d b ≡ None
         by false g = refl
         by true g = ap (with_name d.name) (g refl)
 
-    pub none_found : ArePassed None → None ≡ first_of_names (λ d. named_if ds drivers d (test d)) ds
+    pub none_found : ArePassed None → None ≡ first_of_names (λ d. named_if drivers d (test d)) ds
     none_found w =
-        sym (none_at (λ d. named_if ds drivers d (test d)) ds
+        sym (none_at (λ d. named_if drivers d (test d)) ds
         (λ k d at. passed_none k d at (w k d tt at)))
 
     pub name_found : (place : ℕ) (d : Decl) (found : Option (List ℕ × Pos)) → slice_get ds place ≡ Some d
-        → has marked place 0 ≡ true → ArePassed (Some place) → found ≡ with_name d.name (place_of ds drivers d)
-        → is_none found ≡ false → found ≡ first_of_names (λ e. named_if ds drivers e (test e)) ds
+        → has marked place 0 ≡ true → ArePassed (Some place) → found ≡ with_name d.name (place_of drivers d)
+        → is_none found ≡ false → found ≡ first_of_names (λ e. named_if drivers e (test e)) ds
     name_found place d found at h w is some = by found refl some
       where
-        here : named_if ds drivers d (test d) ≡ found
-        here = ap (named_if ds drivers d) (sym (marks.is place d at) ∙ h) ∙ sym is
+        here : named_if drivers d (test d) ≡ found
+        here = ap (named_if drivers d) (sym (marks.is place d at) ∙ h) ∙ sym is
 
         by : (o : Option (List ℕ × Pos)) → found ≡ o → is_none o ≡ false
-            → found ≡ first_of_names (λ e. named_if ds drivers e (test e)) ds
+            → found ≡ first_of_names (λ e. named_if drivers e (test e)) ds
         by None e f = absurd (true≢false f)
         by (Some v) e f =
-            e ∙ sym (first_at (λ z. named_if ds drivers z (test z)) ds place d v at (here ∙ e)
+            e ∙ sym (first_at (λ z. named_if drivers z (test z)) ds place d v at (here ∙ e)
             (λ k z less g. passed_none k z g (w k z less g)))
 
 pub no_name : (text : List ℕ) (o : Option Pos) (found : Option (List ℕ × Pos)) → found ≡ with_name text o

@@ -1,13 +1,13 @@
 -- A name's bits, as those of the cells under its numbers.
-use Rattle.std.specs.Prelude.{◌≡◌, refl, ℕ, suc, ◌+◌, ◌<◌, List, length, true, false, Bool, ◌&&◌, nat_lt}
+use Rattle.std.specs.Prelude.{◌≡◌, refl, ℕ, suc, ◌+◌, ◌<◌, List, length, true, ◌&&◌, nat_lt}
 use Rattle.std.specs.Prelude.{Some, slice_get}
-use Rattle.std.proofs.Common.{ap, sym, ◌∙◌, arith, subst, true≢false}
+use Rattle.std.proofs.Common.{ap, sym, ◌∙◌, arith}
 use Rattle.std.proofs.lemmas.Bool.{and_from, and_parts}
 use Rattle.std.proofs.lemmas.Bool.Decides.{nat_tests}
 use Rattle.vl_size.specs.declared.decl.Decl.{Decl}
 use Rattle.vl_mean.specs.Cells.{cells}
 use Rattle.fv_bit_sets.specs.declared.step.Step.{Step}
-use Rattle.fv_bit_sets.specs.Cells.{has, IsBare}
+use Rattle.fv_bit_sets.specs.Cells.{has}
 use Rattle.vl_flow_spec.specs.Reads.{Bits}
 use Rattle.vl_flow_spec.specs.Refusals.{has_bit}
 use Rattle.vl_flow_spec.proofs.Found.{bit_found, has_it}
@@ -99,21 +99,3 @@ module _ (ds : List Decl) where
             of = group_at groups w p d r.cell at r.of;
             has_it = both r.cell r.bit ∙ and_from (has s r.cell r.bit) (has all r.cell r.bit) r.has_it r.inside;
           })
-
-  pub none_marked : (made : List Step) (K : Bits) → ((c : ℕ) → IsBare made c)
-      → Marks ds made (λ d. false && has_bit K d)
-  none_marked made K bare = record {
-    is = λ p d at. bare p 0;
-    known = λ p h. absurd (true≢false (sym h ∙ bare p 0));
-    alone = λ p i less. bare p i;
-  }
-
--- marks where they count
-pub marks_if : (ds : List Decl) (made : List Step) (K : Bits) (b : Bool) → b ≡ true → Marks ds made (has_bit K)
-    → Marks ds made (λ d. b && has_bit K d)
-marks_if ds made K b e w = subst (λ t. Marks ds made (λ d. t && has_bit K d)) (sym e) w
-
-pub no_marks_if : (ds : List Decl) (made : List Step) (K : Bits) (b : Bool) → b ≡ false → ((c : ℕ) → IsBare made c)
-    → Marks ds made (λ d. b && has_bit K d)
-no_marks_if ds made K b e bare =
-    subst (λ t. Marks ds made (λ d. t && has_bit K d)) (sym e) (none_marked ds made K bare)

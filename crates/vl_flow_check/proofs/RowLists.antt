@@ -1,18 +1,25 @@
 -- Rows of names, driver by driver.
 use Rattle.std.specs.Prelude.{◌≡◌, refl, ℕ, zero, suc, ◌+◌, ◌≤◌, List, [], ◌∷◌, ◌++◌, length, take}
-use Rattle.std.specs.Prelude.{Bool, ◌&&◌, ◌||◌, Some, is_none, slice_get}
+use Rattle.std.specs.Prelude.{Bool, true, false, ◌&&◌, ◌||◌, Some, is_none, slice_get}
 use Rattle.std.proofs.Common.{ap, sym, ◌∙◌, arith, subst, true≢false, get_or}
 use Rattle.std.proofs.lemmas.List.{take_all, take_more}
 use Rattle.std.proofs.lemmas.Option.{same_Some, slice_get-get_or}
+use Rattle.vl_tree.specs.declared.stmt.AssignKind.{AssignKind}
+use Rattle.vl_tree.specs.declared.stmt.AssignKind.TheVariants as k
 use Rattle.vl_size.specs.declared.decl.Decl.{Decl}
+use Rattle.vl_mean.specs.Cells.{contains_name}
 use Rattle.vl_mean.specs.declared.driver.Driver.{Driver}
 use Rattle.vl_mean.specs.declared.driver.DriverKind.{DriverKind}
 use Rattle.fv_bit_sets.specs.declared.step.Step.{Step}
 use Rattle.fv_bit_sets.specs.Cells.{has}
 use Rattle.vl_flow_spec.specs.Drivers.{driven_by, needed_by}
 use Rattle.vl_flow_spec.specs.Reads.{Bits}
-use Rattle.vl_flow_spec.specs.Refusals.{has_bit}
+use Rattle.vl_flow_spec.specs.Refusals.{assigns_to, has_bit, names_in}
+use Rattle.vl_flow_spec.proofs.Bools.{and_right}
 use Rattle.vl_flow_order.specs.declared.footprint.Footprint.{Footprint}
+use Rattle.vl_flow_order.specs.Names.{AreNames}
+use Rattle.vl_flow_effects.specs.declared.assigned.Assigned.{Assigned}
+use Rattle.vl_flow_effects.specs.Assigning.{AreAssignedBy, is_kind, set_of}
 use Rattle.vl_flow_cells.specs.Numbered.{Shows}
 use Rattle.vl_flow_cells.proofs.Lists.{get_less, get_some}
 use Rattle.vl_flow_check.specs.declared.layout.Layout.{Layout}
@@ -22,23 +29,6 @@ use Rattle.vl_flow_check.specs.Rows.{AreNameRows, AreSets, picked, picks}
 use Rattle.vl_flow_check.proofs.Tests.{or_same}
 
 module _ (ds : List Decl) where
-  pub sets_length : (K : DriverKind → Bits) (sets : List (List Step)) (drivers : List Driver)
-      → AreSets ds K sets drivers → length sets ≡ length drivers
-  sets_length K [] [] h = refl
-  sets_length K (s ∷ sets) (x ∷ drivers) h = ap suc (sets_length K sets drivers h.1)
-  sets_length K [] (x ∷ drivers) h = absurd h
-  sets_length K (s ∷ sets) [] h = absurd h
-
-  pub set_at : (K : DriverKind → Bits) (sets : List (List Step)) (drivers : List Driver) → AreSets ds K sets drivers
-      → (k : ℕ) (s : List Step) (x : Driver) → slice_get sets k ≡ Some s → slice_get drivers k ≡ Some x
-      → Shows ds (has s) (K x.what)
-  set_at K [] drivers h k s x e f = absurd (true≢false (ap is_none e))
-  set_at K (t ∷ sets) [] h k s x e f = absurd h
-  set_at K (t ∷ sets) (y ∷ drivers) h zero s x e f =
-      subst (λ z. Shows ds (has z) (K x.what)) (same_Some t s e)
-      (subst (λ z. Shows ds (has t) (K z.what)) (same_Some y x f) h.0)
-  set_at K (t ∷ sets) (y ∷ drivers) h (suc k) s x e f = set_at K sets drivers h.1 k s x e f
-
   sets_push : (K : DriverKind → Bits) (sets : List (List Step)) (xs : List Driver) (s : List Step) (x : Driver)
       → AreSets ds K sets xs → Shows ds (has s) (K x.what) → AreSets ds K (sets ++ s ∷ []) (xs ++ x ∷ [])
   sets_push K [] [] s x h m = (m, tt)
@@ -102,24 +92,42 @@ module _ (ds : List Decl) where
 
 -- ---- one turn of each loop
 
-abbrev pub IsNamedBy : Layout → Bool → List Step → List Step → Type 0
-IsNamedBy l counts s row =
-    (ds : List Decl) (drivers : List Driver) (K : Bits) → IsLayoutOf ds drivers l → Shows ds (has s) K
-    → Marks ds row (λ d. counts && has_bit K d)
+module _ (ds : List Decl) where
+  names_by : (kind : AssignKind) (a : Assigned) (y : DriverKind) → AreAssignedBy ds a y
+      → AreNames ds (names_in (is_kind kind) y) (has (set_of a kind))
+  names_by k.Blocking a y h = h.blocking
+  names_by k.Nonblocking a y h = h.nonblocking
+
+  -- names as marks, where they count
+  row_marks : (b : Bool) (row set : List Step) (names : List (List ℕ))
+      → ((c i : ℕ) → has row c i ≡ (b && has set c i)) → AreNames ds names (has set)
+      → Marks ds row (λ d. b && contains_name names d.name)
+  row_marks b row set names made h = record {
+    is = λ p d at. made p 0 ∙ ap (λ t. b && t) (h.is p d at);
+    known = λ p e. h.known p (and_right b (has set p 0) (sym (made p 0) ∙ e));
+    alone = λ p i less. made p i ∙ ap (λ t. b && t) (h.alone p i less) ∙ none b;
+  }
+    where
+      none : (b : Bool) → (b && false) ≡ false
+      none true = refl
+      none false = refl
 
 module _ (ds : List Decl) (drivers : List Driver) (l : Layout) (w : IsLayoutOf ds drivers l) where
-  pub picked_more : (which : Which) (K : DriverKind → Bits) (sets : List (List Step)) (at : ℕ) (s : List Step)
-      (f : Footprint) (counts : Bool) (rows more : List (List Step)) (row : List Step) → AreSets ds K sets drivers
-      → slice_get sets at ≡ Some s → slice_get l.footprints at ≡ Some f → counts ≡ picks which f.is_clocked
-      → IsNamedBy l counts s row → AreNameRows ds (picked which K) rows (take at drivers) → more ≡ rows ++ row ∷ []
-      → AreNameRows ds (picked which K) more (take (at + 1) drivers)
-  picked_more which K sets at s f counts rows more row are e g is named were pushed =
-      let less = get_less sets at s e in
-      let x = get_some drivers at (omega (arith, less, sets_length ds K sets drivers are)) in
+  pub picked_more : (which : Which) (kind : AssignKind) (at : ℕ) (a : Assigned) (f : Footprint) (counts : Bool)
+      (rows more : List (List Step)) (row : List Step) → slice_get l.assigned at ≡ Some a
+      → slice_get l.footprints at ≡ Some f → counts ≡ picks which f.is_clocked
+      → ((c i : ℕ) → has row c i ≡ (counts && has (set_of a kind) c i))
+      → AreNameRows ds (picked which kind) rows (take at drivers) → more ≡ rows ++ row ∷ []
+      → AreNameRows ds (picked which kind) more (take (at + 1) drivers)
+  picked_more which kind at a f counts rows more row e g is made were pushed =
+      let less = get_less l.assigned at a e in
+      let x = get_some drivers at (omega (arith, less, w.assigned.size)) in
       let clocked = (w.footprints.each at f x.0 g x.1).clocked in
-      let marks = named ds drivers (K x.0.what) w (set_at ds K sets drivers are at s x.0 e x.1) in
-      one_row_more ds (picked which K) drivers rows more row at x.0 x.1
-      (subst (λ b. Marks ds row (λ d. b && has_bit (K x.0.what) d)) (is ∙ ap (picks which) clocked) marks) were pushed
+      let named = names_by ds kind a x.0.what (w.assigned.each at a x.0 e x.1) in
+      let marks = row_marks ds counts row (set_of a kind) (names_in (is_kind kind) x.0.what) made named in
+      one_row_more ds (picked which kind) drivers rows more row at x.0 x.1
+      (subst (λ b. Marks ds row (λ d. b && assigns_to (is_kind kind) x.0.what d)) (is ∙ ap (picks which) clocked) marks)
+      were pushed
 
   pub read_more : (at : ℕ) (f : Footprint) (rows more : List (List Step)) (row : List Step)
       → slice_get l.footprints at ≡ Some f

@@ -1,21 +1,22 @@
 -- What rows of names have in common, as tests of the drivers.
-use Rattle.std.specs.Prelude.{◌≡◌, refl, ℕ, zero, suc, ◌<◌, List, [], ◌∷◌, length, Bool, true, false, ◌&&◌, ◌||◌, not}
+use Rattle.std.specs.Prelude.{◌≡◌, refl, ℕ, ◌<◌, List, [], ◌∷◌, length, Bool, true, false, ◌&&◌, ◌||◌, not}
 use Rattle.std.specs.Prelude.{Some, slice_get}
 use Rattle.std.proofs.Common.{ap, sym, ◌∙◌, true≢false}
+use Rattle.vl_tree.specs.declared.stmt.AssignKind.{AssignKind}
+use Rattle.vl_tree.specs.declared.stmt.AssignKind.TheVariants as a
 use Rattle.vl_size.specs.declared.decl.Decl.{Decl}
-use Rattle.vl_mean.specs.Cells.{cells}
 use Rattle.vl_mean.specs.declared.driver.Driver.{Driver}
-use Rattle.vl_mean.specs.declared.driver.DriverKind.{DriverKind}
-use Rattle.vl_mean.specs.declared.driver.DriverKind.TheVariants as k
 use Rattle.fv_bit_sets.specs.declared.step.Step.{Step}
 use Rattle.fv_bit_sets.specs.Cells.{has}
 use Rattle.vl_flow_spec.specs.Drivers.{is_clocked, needed_by}
 use Rattle.vl_flow_spec.proofs.Bools.{or_case}
-use Rattle.vl_flow_spec.specs.Refusals.{has_bit, some_below, some_cell, latched, latched_by, changed_by, blocking_in}
-use Rattle.vl_flow_spec.specs.Refusals.{some_reads, is_shared, some_changes, some_waits}
+use Rattle.vl_flow_spec.specs.Paths.{is_blocking, is_nonblocking}
+use Rattle.vl_flow_spec.specs.Refusals.{assigns_to, has_bit, is_mixed, is_shared, latched, latched_by, some_assigns}
+use Rattle.vl_flow_spec.specs.Refusals.{some_reads, some_waits}
 use Rattle.vl_flow_cells.specs.Numbered.{all_cells}
 use Rattle.vl_flow_order.specs.Sets.{some_has, crosses}
 use Rattle.vl_flow_check.specs.declared.which.Which.TheVariants as w
+use Rattle.vl_flow_effects.specs.Assigning.{is_kind}
 use Rattle.vl_flow_check.specs.Layouts.{Marks}
 use Rattle.vl_flow_check.specs.Rows.{AreNameRows, AreSets, picked, some_test}
 use Rattle.vl_flow_check.proofs.Tests.{none_and, shared_one}
@@ -100,25 +101,11 @@ module _ (ds : List Decl) where
 
   -- ---- shared
 
-  none_below : (n : ℕ) → some_below (λ i. false) n ≡ false
-  none_below zero = refl
-  none_below (suc n) = none_below n
-
-  none_in : (w : ℕ) (ns : List (List ℕ)) → some_cell (λ n i. false) w ns ≡ false
-  none_in w [] = refl
-  none_in w (n ∷ ns) = ap (λ b. b || some_cell (λ n i. false) w ns) (none_below w) ∙ none_in w ns
-
   reads_test : Driver → Decl → Bool
   reads_test x d = has_bit (needed_by ds x.what) d
 
   writes_test : Driver → Decl → Bool
-  writes_test = picked w.Clocked (λ y. changed_by ds y true)
-
-  writes_is : (y : DriverKind) (d : Decl)
-      → has_bit (blocking_in ds y) d ≡ (is_clocked y && has_bit (changed_by ds y true) d)
-  writes_is (k.Assign l e) d = none_in d.width (cells d)
-  writes_is (k.Comb s) d = none_in d.width (cells d)
-  writes_is (k.Clocked s) d = refl
+  writes_test = picked w.Clocked a.Blocking
 
   reads_any : (xs : List Driver) (d : Decl) → some_reads ds xs d ≡ some_test reads_test xs d
   unfolding reads_test
@@ -131,14 +118,15 @@ module _ (ds : List Decl) where
   unfolding cross_tests reads_test writes_test
   shared_test before [] d = refl
   shared_test before (x ∷ xs) d =
-      (λ j. (writes_is x.what d j && (reads_any before d j || reads_any xs d j)) || shared_test (x ∷ before) xs d j)
-      ∙ shared_one (is_clocked x.what && has_bit (changed_by ds x.what true) d) (some_test reads_test before d)
+      (λ j. ((is_clocked x.what && assigns_to is_blocking x.what d) && (reads_any before d j || reads_any xs d j))
+      || shared_test (x ∷ before) xs d j)
+      ∙ shared_one (is_clocked x.what && assigns_to is_blocking x.what d) (some_test reads_test before d)
       (some_test reads_test xs d) (some_test writes_test xs d) (has_bit (needed_by ds x.what) d)
       (cross_tests reads_test writes_test xs d)
 
   pub shared_marked : (reads writes : List (List Step)) (both : List Step) (xs : List Driver)
       → AreNameRows ds (λ x. has_bit (needed_by ds x.what)) reads xs
-      → AreNameRows ds (picked w.Clocked (λ y. changed_by ds y true)) writes xs
+      → AreNameRows ds (picked w.Clocked a.Blocking) writes xs
       → ((c i : ℕ) → has both c i ≡ crosses reads writes c i) → Marks ds both (is_shared ds [] xs)
   unfolding reads_test writes_test
   shared_marked reads writes both xs h g is = record {
@@ -151,17 +139,16 @@ module _ (ds : List Decl) where
 
   -- ---- mixed
 
-  changes_any : (blocking : Bool) (xs : List Driver) (d : Decl)
-      → some_changes ds xs blocking d ≡ some_test (picked w.All (λ y. changed_by ds y blocking)) xs d
-  changes_any blocking [] d = refl
-  changes_any blocking (x ∷ xs) d =
-      ap (λ b. has_bit (changed_by ds x.what blocking) d || b) (changes_any blocking xs d)
+  assigns_any : (kind : AssignKind) (xs : List Driver) (d : Decl)
+      → some_assigns (is_kind kind) xs d ≡ some_test (picked w.All kind) xs d
+  assigns_any kind [] d = refl
+  assigns_any kind (x ∷ xs) d = ap (λ b. assigns_to (is_kind kind) x.what d || b) (assigns_any kind xs d)
 
   waits_any : (xs : List Driver) (d : Decl)
-      → some_waits ds xs d ≡ some_test (picked w.Settled (λ y. changed_by ds y false)) xs d
+      → some_waits xs d ≡ some_test (picked w.Settled a.Nonblocking) xs d
   waits_any [] d = refl
   waits_any (x ∷ xs) d =
-      ap (λ b. (not (is_clocked x.what) && has_bit (changed_by ds x.what false) d) || b) (waits_any xs d)
+      ap (λ b. (not (is_clocked x.what) && assigns_to is_nonblocking x.what d) || b) (waits_any xs d)
 
   pub rows_marked : (t : Driver → Decl → Bool) (rows rs : List (List Step)) (made : List Step) (xs : List Driver)
       → AreNameRows ds t rows xs → rs ≡ rows → ((p i : ℕ) → has made p i ≡ some_has rs p i)
@@ -200,24 +187,23 @@ module _ (ds : List Decl) where
       record { is = λ p d at. h.is p d at ∙ same d; known = h.known; alone = h.alone }
 
   pub mixed_marked : (now later waiting both marked : List Step) (xs : List Driver)
-      → Marks ds now (some_test (picked w.All (λ y. changed_by ds y true)) xs)
-      → Marks ds later (some_test (picked w.All (λ y. changed_by ds y false)) xs)
-      → Marks ds waiting (some_test (picked w.Settled (λ y. changed_by ds y false)) xs)
+      → Marks ds now (some_test (picked w.All a.Blocking) xs)
+      → Marks ds later (some_test (picked w.All a.Nonblocking) xs)
+      → Marks ds waiting (some_test (picked w.Settled a.Nonblocking) xs)
       → ((p i : ℕ) → has both p i ≡ (has now p i && has later p i))
-      → ((p i : ℕ) → has marked p i ≡ (has both p i || has waiting p i))
-      → Marks ds marked (λ d. (some_changes ds xs true d && some_changes ds xs false d) || some_waits ds xs d)
+      → ((p i : ℕ) → has marked p i ≡ (has both p i || has waiting p i)) → Marks ds marked (is_mixed xs)
   mixed_marked now later waiting both marked xs h g k is_both is_marked =
-      same_marks (λ d. (some_test t xs d && some_test u xs d) || some_test v xs d)
-      (λ d. (some_changes ds xs true d && some_changes ds xs false d) || some_waits ds xs d) marked
-      (λ d j. (sym (changes_any true xs d) j && sym (changes_any false xs d) j) || sym (waits_any xs d) j)
+      same_marks (λ d. (some_test t xs d && some_test u xs d) || some_test v xs d) (is_mixed xs) marked
+      (λ d j. (sym (assigns_any a.Blocking xs d) j && sym (assigns_any a.Nonblocking xs d) j)
+      || sym (waits_any xs d) j)
       (either_marked (λ d. some_test t xs d && some_test u xs d) (some_test v xs) both waiting marked
       (both_marked (some_test t xs) (some_test u xs) now later both h g is_both) k is_marked)
     where
       t : Driver → Decl → Bool
-      t = picked w.All (λ y. changed_by ds y true)
+      t = picked w.All a.Blocking
 
       u : Driver → Decl → Bool
-      u = picked w.All (λ y. changed_by ds y false)
+      u = picked w.All a.Nonblocking
 
       v : Driver → Decl → Bool
-      v = picked w.Settled (λ y. changed_by ds y false)
+      v = picked w.Settled a.Nonblocking

@@ -8,6 +8,8 @@ use Rattle.fv_bit_sets.specs.Cells.{has, IsBare}
 use Rattle.vl_flow_cells.specs.Numbered.{first_cell}
 use Rattle.vl_flow_order.specs.CellGroups.{IsCellAt}
 use Rattle.vl_flow_order.specs.Footprints.{AreFootprintsOf}
+use Rattle.vl_flow_effects.specs.declared.assigned.Assigned.{Assigned}
+use Rattle.vl_flow_effects.specs.Assigning.{AreAssignedBy}
 use Rattle.vl_flow_check.specs.declared.layout.Layout.{Layout}
 use Rattle.vl_flow_check.specs.declared.layout.Names.{Names}
 use Rattle.vl_flow_check.specs.declared.layout.Names.TheVariants as n
@@ -39,9 +41,16 @@ pub record IsFilled (s : Span) (counted : Bool) (d : Decl) (made : List Step) : 
   pub before : (cell : ℕ) → cell < s.first → IsBare made cell
   pub behind : (cell : ℕ) → s.past ≤ cell → IsBare made cell
 
+-- the names that each driver assigns
+pub record AreTheirs (ds : List Decl) (assigned : List Assigned) (drivers : List Driver) : Type 0 where
+  pub size : length assigned ≡ length drivers
+  pub each : (i : ℕ) (a : Assigned) (x : Driver) → slice_get assigned i ≡ Some a → slice_get drivers i ≡ Some x
+      → AreAssignedBy ds a x.what
+
 pub record IsLayoutOf (ds : List Decl) (drivers : List Driver) (l : Layout) : Type 0 where
   pub footprints : AreFootprintsOf ds l.groups l.footprints drivers
   pub all : AreAllBits ds l.all
+  pub assigned : AreTheirs ds l.assigned drivers
 
 pub record IsSpan (ds : List Decl) (place : ℕ) (s : Span) : Type 0 where
   pub first : s.first ≡ first_cell ds place

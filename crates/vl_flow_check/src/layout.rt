@@ -13,6 +13,7 @@ use fv_bit_sets::Bits;
 use fv_bits::ones;
 use fv_text::{List, Memory};
 use std::alloc::Global;
+use vl_flow_effects::Assigned;
 use vl_flow_order::{Footprint, Groups, named, union_of};
 use vl_size::{Class, Decl, Decls};
 
@@ -52,6 +53,8 @@ pub struct Layout {
     pub all: Bits,
     /// What each driver reads and drives.
     pub footprints: List<Footprint>,
+    /// The names that each driver assigns.
+    pub assigned: List<Assigned>,
 }
 
 /// The numbers of a name's cells, from the first up to the one before `past`.

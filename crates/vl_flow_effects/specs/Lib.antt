@@ -1,4 +1,5 @@
 pub mod Joins
 pub mod Effects
+pub mod Assigning
 pub mod Uses
 pub mod Masks

@@ -26,12 +26,10 @@ fn assigned_in(uses: Uses) -> Bits
     let Uses {
         footprint,
         latched,
-        blocking,
-        nonblocking,
+        assigned,
     } = uses;
     drop(latched);
-    drop(blocking);
-    drop(nonblocking);
+    drop(assigned);
     let Footprint {
         is_clocked: _,
         needs,

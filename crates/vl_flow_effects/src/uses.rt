@@ -3,10 +3,12 @@ ghost use Rattle.vl_size.specs.declared.decl.Decl.{Decl};
 ghost use Rattle.vl_mean.specs.declared.driver.DriverKind.TheVariants as k;
 ghost use Rattle.vl_tree.specs.Stmt.{Stmt};
 ghost use Rattle.vl_flow_cells.specs.Numbering.{IsNumberingOf};
+ghost use Rattle.vl_flow_effects.specs.Assigning.{AreAssignedIn};
 ghost use Rattle.vl_flow_effects.specs.Effects.{IsEffectOf};
 ghost use Rattle.vl_flow_effects.specs.Uses.{AreUsesOf};
 ghost use Rattle.vl_flow_cells.specs.Sized.{DriverIsSized, IsSized, TargetIsSized};
 
+use crate::assigned::Assigned;
 use crate::bits::{assign_reads, changes_of};
 use crate::effect::Effect;
 use crate::stmt::effect_of;
@@ -19,16 +21,13 @@ use vl_mean::DriverKind;
 use vl_size::Decls;
 use vl_tree::{Expr, Lval};
 
-/// What a driver does to bits of numbered cells.
+/// What a driver does to bits of numbered cells, and the names that it assigns.
 #[derive(Debug, Drop)]
 pub struct Uses {
     pub footprint: Footprint,
     /// Changed on some path of a combinational block, and not surely assigned on some.
     pub latched: Bits,
-    /// Changed by some blocking assignment of a block.
-    pub blocking: Bits,
-    /// Changed by some nonblocking one.
-    pub nonblocking: Bits,
+    pub assigned: Assigned,
 }
 
 fn assign_uses(
@@ -51,15 +50,14 @@ fn assign_uses(
             drives,
         },
         latched: Bits::none(alloc),
-        blocking: Bits::none(alloc),
-        nonblocking: Bits::none(alloc),
+        assigned: Assigned::none(alloc),
     })
 }
 
 /// A combinational block, with what it does.
-fn comb_uses(effect: Effect) -> Result<Uses, Memory>
+fn comb_uses(effect: Effect, assigned: Assigned) -> Result<Uses, Memory>
     ensures { IfOk result (λ uses. (ds : List Decl) (s : Stmt) → IsEffectOf ds effect s
-        → AreUsesOf ds uses (k.Comb s)) }
+        → AreAssignedIn ds s assigned → AreUsesOf ds uses (k.Comb s)) }
 {
     let Effect {
         needs,
@@ -78,15 +76,14 @@ fn comb_uses(effect: Effect) -> Result<Uses, Memory>
             drives,
         },
         latched,
-        blocking,
-        nonblocking,
+        assigned,
     })
 }
 
 /// A clocked block, with what it does.
-fn clocked_uses(alloc: Global, effect: Effect) -> Result<Uses, Memory>
+fn clocked_uses(alloc: Global, effect: Effect, assigned: Assigned) -> Result<Uses, Memory>
     ensures { IfOk result (λ uses. (ds : List Decl) (s : Stmt) → IsEffectOf ds effect s
-        → AreUsesOf ds uses (k.Clocked s)) }
+        → AreAssignedIn ds s assigned → AreUsesOf ds uses (k.Clocked s)) }
 {
     let Effect {
         needs,
@@ -105,13 +102,12 @@ fn clocked_uses(alloc: Global, effect: Effect) -> Result<Uses, Memory>
             drives,
         },
         latched: Bits::none(alloc),
-        blocking,
-        nonblocking,
+        assigned,
     })
 }
 
-/// What a driver reads before it has surely assigned it, may assign, and doesn't assign on each path. Time is about
-/// linear in it.
+/// What a driver reads before it has surely assigned it, may assign, doesn't assign on each path, and which names it
+/// assigns. Time is about linear in it.
 pub fn uses_of(
     alloc: Global,
     what: &DriverKind,
@@ -123,10 +119,13 @@ pub fn uses_of(
 {
     match what {
         DriverKind::Assign(target, expr) => Ok(assign_uses(alloc, target, expr, decls, numbering)?),
-        DriverKind::Comb(stmt) => Ok(comb_uses(effect_of(alloc, stmt, decls, numbering)?)?),
-        DriverKind::Clocked(stmt) => Ok(clocked_uses(
-            alloc,
-            effect_of(alloc, stmt, decls, numbering)?,
-        )?),
+        DriverKind::Comb(stmt) => {
+            let assigned = Assigned::of(alloc, stmt, decls)?;
+            Ok(comb_uses(effect_of(alloc, stmt, decls, numbering)?, assigned)?)
+        }
+        DriverKind::Clocked(stmt) => {
+            let assigned = Assigned::of(alloc, stmt, decls)?;
+            Ok(clocked_uses(alloc, effect_of(alloc, stmt, decls, numbering)?, assigned)?)
+        }
     }
 }

@@ -10,9 +10,9 @@ use Rattle.fv_text.specs.declared.pos.Pos.{Pos}
 use Rattle.vl_mean.specs.declared.driver.Driver.{Driver}
 use Rattle.vl_mean.specs.Runs.{FollowedBy}
 use Rattle.vl_flow_spec.specs.Drivers.{is_clocked}
-use Rattle.vl_flow_spec.specs.Refusals.{IsLoop, ReadsFrom, Stands, last_of}
+use Rattle.vl_flow_spec.specs.Refusals.{IsLoop, ReadsFrom, StandAt, last_of}
 use Rattle.vl_flow_cells.proofs.Lists.{get_less, get_some}
-use Rattle.fv_graph.specs.Graph.{IsChain, IsCircle, Leads, last_node}
+use Rattle.fv_graph.specs.Graph.{IsChain, IsCircle, IsSimpleCircle, Leads, StandOnce, last_node}
 use Rattle.vl_flow_order.specs.declared.footprint.Footprint.{Footprint}
 use Rattle.vl_flow_order.specs.declared.reads_groups.Groups.{Groups}
 use Rattle.vl_flow_order.specs.Reads.{IsReadingGraph}
@@ -49,11 +49,11 @@ circle_some g (i ∷ is) c = omega arith
 module _ (ds : List Decl) (groups : Groups) (fs : List Footprint) (drivers : List Driver)
     (w : AreFootprintsOf ds groups fs drivers) (g : List (List ℕ)) (graph : IsReadingGraph groups fs g) where
   abbrev pub Settled : Driver → Type 0
-  Settled x = Stands drivers x × (is_clocked x.what ≡ false)
+  Settled x = is_clocked x.what ≡ false
 
   -- drivers that read on, from the first to one behind the last
   pub record ReadsOn (x : Driver) (xs : List Driver) (z : Driver) : Type 0 where
-    pub among : All Settled (x ∷ xs)
+    pub settled : All Settled (x ∷ xs)
     pub reads : FollowedBy (ReadsFrom ds) x xs
     pub closed : ReadsFrom ds (last_of ds x xs) z
 
@@ -62,7 +62,7 @@ module _ (ds : List Decl) (groups : Groups) (fs : List Footprint) (drivers : Lis
       → ReadsOn x (numbered drivers is) z
   reads_on i x e [] chain t z h lead =
       let r = graph.sound i t lead in record {
-        among = All-cons Settled x [] ((i, e), reader_settled ds groups fs drivers w i t x e r) (All-nil Settled);
+        settled = All-cons Settled x [] (reader_settled ds groups fs drivers w i t x e r) (All-nil Settled);
         reads = tt;
         closed = reads_from ds groups fs drivers w i t x z e h r;
       }
@@ -72,7 +72,7 @@ module _ (ds : List Decl) (groups : Groups) (fs : List Footprint) (drivers : Lis
       let more = reads_on j y.0 y.1 js chain.1 t z h lead in
       let all = numbered drivers js in
       let made : ReadsOn x (y.0 ∷ all) z = record {
-        among = All-cons Settled x (y.0 ∷ all) ((i, e), reader_settled ds groups fs drivers w i j x e r) more.among;
+        settled = All-cons Settled x (y.0 ∷ all) (reader_settled ds groups fs drivers w i j x e r) more.settled;
         reads = (reads_from ds groups fs drivers w i j x y.0 e y.1 r, more.reads);
         closed = more.closed;
       } in
@@ -89,19 +89,29 @@ module _ (ds : List Decl) (groups : Groups) (fs : List Footprint) (drivers : Lis
       subst (λ o. All P (with_driver o (numbered drivers is))) (sym x.1)
       (All-cons P x.0 (numbered drivers is) (f 0 i x.0 refl x.1) more)
 
+  numbered_stand : (is : List ℕ) → AreNumbers (length drivers) is → StandAt drivers is (numbered drivers is)
+  numbered_stand [] known = tt
+  numbered_stand (i ∷ is) known =
+      let x = get_some drivers i (known 0 i refl) in
+      let more = numbered_stand is (λ k n e. known (suc k) n e) in
+      subst (λ o. StandAt drivers (i ∷ is) (with_driver o (numbered drivers is))) (sym x.1) (x.1, more)
+
   pub looped : (circle turned : List ℕ) → AreNumbers (length drivers) circle → IsTurned drivers circle turned
-      → IsCircle g turned
+      → IsCircle g turned → StandOnce turned
       → (first : Driver) × (others : List Driver) × IsLoop ds drivers first others
       × (places (numbered drivers turned) ≡ places (first ∷ others))
-  looped circle [] known t c = absurd c
-  looped circle (i ∷ is) known t c = (
+  looped circle [] known t c once = absurd c
+  looped circle (i ∷ is) known t c once = (
     x.0,
     numbered drivers is,
     record {
-      among = on.among;
+      numbers = i ∷ is;
+      among = (x.1, numbered_stand is (λ k n e. in_range (suc k) n e));
+      once = once;
+      settled = on.settled;
       reads = on.reads;
       closed = on.closed;
-      earliest = each_numbered (λ z. is_earlier z.pos x.0.pos ≡ false) is late (λ k n e. numbers (suc k) n e);
+      earliest = each_numbered (λ z. is_earlier z.pos x.0.pos ≡ false) is late (λ k n e. in_range (suc k) n e);
     },
     ap (λ o. places (with_driver o (numbered drivers is))) x.1,
   )
@@ -115,11 +125,11 @@ module _ (ds : List Decl) (groups : Groups) (fs : List Footprint) (drivers : Lis
       inside : (k n : ℕ) → slice_get (i ∷ is) k ≡ Some n → (m : ℕ) × (slice_get circle m ≡ Some n)
       inside k n e = turned_from circle t.at k n (sym (ap (λ xs. slice_get xs k) t.parts) ∙ e)
 
-      numbers : (k n : ℕ) → slice_get (i ∷ is) k ≡ Some n → n < length drivers
-      numbers k n e = let m = inside k n e in known m.0 n m.1
+      in_range : (k n : ℕ) → slice_get (i ∷ is) k ≡ Some n → n < length drivers
+      in_range k n e = let m = inside k n e in known m.0 n m.1
 
       x : (z : Driver) × (slice_get drivers i ≡ Some z)
-      x = get_some drivers i (numbers 0 i refl)
+      x = get_some drivers i (in_range 0 i refl)
 
       on : ReadsOn x.0 (numbered drivers is) x.0
       on = reads_on i x.0 x.1 is c.0 i x.0 x.1 c.1
@@ -131,12 +141,14 @@ module _ (ds : List Decl) (groups : Groups) (fs : List Footprint) (drivers : Lis
           t.earliest m.0 n old.0 z x.0 (get_less circle m.0 n m.1) m.1 h old.1
           (ap (slice_get drivers) (sym head) ∙ x.1)
 
-  pub found_loop : (circle turned : List ℕ) (ps : List Pos) → IsCircle g circle
+  pub found_loop : (circle turned : List ℕ) (ps : List Pos) → IsSimpleCircle g circle
       → IsTurned drivers circle turned
       → ((graph : List (List ℕ)) → IsCircle graph circle → IsCircle graph turned)
+      → (StandOnce circle → StandOnce turned)
       → ps ≡ places (numbered drivers turned) → length fs ≡ length drivers
       → (first : Driver) × (others : List Driver) × IsLoop ds drivers first others × (ps ≡ places (first ∷ others))
-  found_loop circle turned ps c t closed e size =
-      let numbers = circle_numbers groups fs g circle graph c in
-      let r = looped circle turned (subst (λ n. AreNumbers n circle) size numbers) t (closed g c) in
+  found_loop circle turned ps c t closed once e size =
+      let numbers = circle_numbers groups fs g circle graph c.0 in
+      let r = looped circle turned (subst (λ n. AreNumbers n circle) size numbers) t (closed g c.0)
+      (once c.1) in
       (r.0, r.1, r.2, e ∙ r.3)

@@ -10,3 +10,4 @@ pub mod OrderReading
 pub mod Orders
 pub mod Turns
 pub mod Circles
+pub mod Naming

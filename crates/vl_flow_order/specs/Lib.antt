@@ -9,3 +9,4 @@ pub mod CellGroups
 pub mod Footprints
 pub mod Numbers
 pub mod Found
+pub mod Names

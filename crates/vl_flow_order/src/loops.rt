@@ -1,5 +1,5 @@
 ghost use Rattle.std.specs.Prelude.{◌≡◌, ◌+◌, ◌<◌, ℕ, List, Some, IfOk, length, slice_get};
-ghost use Rattle.fv_graph.specs.Graph.{IsCircle};
+ghost use Rattle.fv_graph.specs.Graph.{IsCircle, StandOnce};
 ghost use Rattle.vl_mean.specs.declared.driver.Driver.{Driver};
 ghost use Rattle.vl_flow_order.specs.Numbers.{AreNumbers, IsEarliest, IsTurned, numbered, places};
 
@@ -57,6 +57,7 @@ fn turned(alloc: Global, drivers: &[Driver], circle: &[u32]) -> Result<List<u32>
     ensures turned { IfOk result (IsTurned drivers.now circle.now) }
     ensures closed { IfOk result (λ found. (graph : List (List ℕ)) → IsCircle graph circle.now
         → IsCircle graph found) }
+    ensures once { IfOk result (λ found. StandOnce circle.now → StandOnce found) }
 {
     Ok(circle_from(alloc, circle, earliest(drivers, circle))?)
 }
@@ -83,6 +84,7 @@ pub(crate) fn loop_of(
     requires known { AreNumbers (length drivers.now) circle.now }
     ensures { IfOk result (λ found. (turned : List ℕ) × IsTurned drivers.now circle.now turned
         × ((graph : List (List ℕ)) → IsCircle graph circle.now → IsCircle graph turned)
+        × (StandOnce circle.now → StandOnce turned)
         × (found ≡ places (numbered drivers.now turned))) }
 {
     let numbers = turned(alloc, drivers, circle)?;

@@ -17,7 +17,7 @@ fn mark(alloc: Global, group: u32) -> Result<Bits, Memory>
     Ok(Bits::of_cells(alloc, first, first + 1, 1)?)
 }
 
-fn push(marks: &mut Vec<Bits>, mark: Bits) -> Result<(), Memory>
+pub(crate) fn push(marks: &mut Vec<Bits>, mark: Bits) -> Result<(), Memory>
     ensures { OnOk result (marks.new.items ≡ marks.old.items ++ mark ∷ []) }
 {
     if marks.push(mark).is_err() {

@@ -53,11 +53,14 @@ module _ (ds : List Decl) (may : Decl → Bool) (fix : Bool) where
   found None h = absurd (true≢false (sym h))
   found (Some d) h = (d, refl, h)
 
-  name_changed : (p : Pos) (text : List ℕ) (xs : Selects) → IsTarget ds may fix (named p text xs) → (n : List ℕ) (i : ℕ)
-      → may_change (flat_scopes ds) (named p text xs) n i ≡ true → IsBitOfKind ds may n i
+  pub name_changed : (p : Pos) (text : List ℕ) (xs : Selects) → IsTarget ds may fix (named p text xs)
+      → (n : List ℕ) (i : ℕ) → may_change (flat_scopes ds) (named p text xs) n i ≡ true
+      → (b : IsBitOfKind ds may n i) × (b.decl.name ≡ text)
   name_changed p text xs is n i h =
-      let at = bit (fixed ds xs) refl (sym (selected_at ds text xs d e n i) ∙ h) in
-      record { decl = d; of = record { declared = own; cell = at.0 }; below = at.1; may_be = r.2 }
+      let at = bit (fixed ds xs) refl (sym (selected_at ds text xs d e n i) ∙ h) in (
+        record { decl = d; of = record { declared = own; cell = at.0 }; below = at.1; may_be = r.2 },
+        sym same,
+      )
     where
       r : (d : Decl) × (declared_as ds text ≡ Some d) × (may d ≡ true)
       r = found (declared_as ds text) is.1
@@ -87,7 +90,7 @@ module _ (ds : List Decl) (may : Decl → Bool) (fix : Bool) where
   mutual
     pub target_changed : (l : Lval) → IsTarget ds may fix l → (n : List ℕ) (i : ℕ)
         → may_change (flat_scopes ds) l n i ≡ true → IsBitOfKind ds may n i
-    target_changed (named p text xs) is n i h = name_changed p text xs is n i h
+    target_changed (named p text xs) is n i h = (name_changed p text xs is n i h).0
     target_changed (joined p ls) is n i h = targets_changed ls is n i h
 
     targets_changed : (ls : Lvals) → AreTargets ds may fix ls → (n : List ℕ) (i : ℕ)

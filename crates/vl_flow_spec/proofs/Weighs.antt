@@ -80,7 +80,9 @@ use Rattle.vl_flow_spec.specs.Weight as weigh
 use Rattle.vl_flow_spec.specs.Weight.{right_size, weight, parts_weight, selects_weight, target_weight, targets_weight}
 use Rattle.vl_flow_spec.specs.Weight.{assigned_weight, widths_of, merge_weight, labels_weight, stmt_weight}
 use Rattle.vl_flow_spec.specs.Weight.{stmts_weight}
-use Rattle.vl_flow_spec.specs.Weight.{arms_weight, driver_weight, design_weight, assigned_names, arms_assigned_names}
+use Rattle.vl_flow_spec.specs.Assigned.{assigned_names, arms_assigned_names}
+use Rattle.vl_flow_spec.specs.Paths.{any_kind}
+use Rattle.vl_flow_spec.specs.Weight.{arms_weight, behind_word, driver_weight, design_weight, select_weight}
 
 -- ---- sizes
 
@@ -333,19 +335,30 @@ module _ (ds : List Decl) (shaped : All IsShaped ds) where
     words_few None = omega arith
     words_few (Some q) = omega arith
 
-    access_few : (fixed : Bool) (text : List ℕ) → access_weight fixed (declared_as ds text) ≤ 25600000
-    access_few fixed text = by (declared_as ds text) refl
+    select_few : (w : ℕ) (xs : Selects) → w ≤ 128 → select_weight ds w xs ≤ 128
+    select_few w xs h = if_none (are_fixed (flat_scopes ds) xs) w 128 h
+
+    access_few : (text : List ℕ) (xs : Selects) → access_weight ds (declared_as ds text) xs ≤ 25600128
+    access_few text xs = by (declared_as ds text) refl
       where
-        by : (o : Option Decl) → declared_as ds text ≡ o → access_weight fixed o ≤ 25600000
+        one_of : (t : Bool) (x y : ℕ) → x ≤ 25600128 → y ≤ 25600128 → (if t then x else y) ≤ 25600128
+        one_of true x y h g = h
+        one_of false x y h g = g
+
+        by : (o : Option Decl) → declared_as ds text ≡ o → access_weight ds o xs ≤ 25600128
         by None e = omega arith
         by (Some d) e =
             let count = count_of ds text d e in
             let words = words_few d.words in
             let all : word_count d.words ≤ 200000 = omega (arith, few, count, words) in
-            let wide = width_few text d e in
+            let wide : d.width ≤ 128 = width_few text d e in
             let one : word_count d.words * d.width ≤ 200000 * d.width = mul-le-mul_right d.width all in
             let product : word_count d.words * d.width ≤ 25600000 = omega (arith, one, wide) in
-            if_none (is_none d.words && fixed) (word_count d.words * d.width) 25600000 product
+            let behind = select_few d.width (behind_word xs) wide in
+            let vector = select_few d.width xs wide in
+            one_of (is_none d.words) (select_weight ds d.width xs)
+            (word_count d.words * d.width + select_weight ds d.width (behind_word xs)) (omega (arith, vector))
+            (omega (arith, product, behind))
 
     some_node : (e : Expr) → 1 ≤ nodes e
     some_node (number p n) = omega arith
@@ -365,10 +378,10 @@ module _ (ds : List Decl) (shaped : All IsShaped ds) where
     kept false n m h g = g
 
     mutual
-      pub weight_few : (n : ℕ) → n ≤ 128 → (e : Expr) → weight ds n e ≤ 25600000 * nodes e
+      pub weight_few : (n : ℕ) → n ≤ 128 → (e : Expr) → weight ds n e ≤ 25600128 * nodes e
       weight_few n h (number p x) = omega arith
       weight_few n h (name p text xs) =
-          let one = access_few (are_fixed (flat_scopes ds) xs) text in
+          let one = access_few text xs in
           let all = selects_few xs in omega (arith, one, all)
       weight_few n h (paren p x) = let one = weight_few n h x in omega (arith, one)
       weight_few n h (unary p op x) =
@@ -376,7 +389,7 @@ module _ (ds : List Decl) (shaped : All IsShaped ds) where
           let less = kept (keeps_size op) n (own_size ds x) h (size_few x) in
           let one = unary_small op m less in
           let all = weight_few m less x in
-          if_none (is_constant x) (unary_weight op m + weight ds m x) (25600000 * (nodes x + 1)) (omega (arith, one, all))
+          if_none (is_constant x) (unary_weight op m + weight ds m x) (25600128 * (nodes x + 1)) (omega (arith, one, all))
       weight_few n h (binary p op x y) =
           let one = operation_small op (weigh.operation_size ds (way op) n x y) (operation_at (way op) n x y h) in
           let left = weight_few (left_size ds (way op) op n x y) (left_at (way op) op n x y h) x in
@@ -384,25 +397,25 @@ module _ (ds : List Decl) (shaped : All IsShaped ds) where
           if_none (is_constant x && is_constant y)
           (operation_weight op (weigh.operation_size ds (way op) n x y)
           + (weight ds (left_size ds (way op) op n x y) x + weight ds (right_size ds (way op) op n x y) y))
-          (25600000 * (nodes x + nodes y + 1)) (omega (arith, one, left, right))
+          (25600128 * (nodes x + nodes y + 1)) (omega (arith, one, left, right))
       weight_few n h (conditional p c x y) =
           let one = weight_few (own_size ds c) (size_few c) c in
           let first = weight_few n h x in
           let second = weight_few n h y in
           if_none (is_constant c && (is_constant x && is_constant y))
           (n + (weight ds (own_size ds c) c + weight ds n x + weight ds n y))
-          (25600000 * (nodes c + nodes x + nodes y + 1)) (omega (arith, h, one, first, second))
+          (25600128 * (nodes c + nodes x + nodes y + 1)) (omega (arith, h, one, first, second))
       weight_few n h (concat p es) = let all = parts_few es in omega (arith, all)
       weight_few n h (repeat p m es) = let all = parts_few es in omega (arith, all)
       weight_few n h (cast p to x) = let one = weight_few (own_size ds x) (size_few x) x in omega (arith, one)
 
-      parts_few : (es : Exprs) → parts_weight ds es ≤ 25600000 * all_nodes es
+      parts_few : (es : Exprs) → parts_weight ds es ≤ 25600128 * all_nodes es
       parts_few none = omega arith
       parts_few (more e es) =
           let one = weight_few (own_size ds e) (size_few e) e in
           let all = parts_few es in omega (arith, one, all)
 
-      selects_few : (xs : Selects) → selects_weight ds xs ≤ 25600000 * select_nodes xs
+      selects_few : (xs : Selects) → selects_weight ds xs ≤ 25600128 * select_nodes xs
       selects_few whole = omega arith
       selects_few (bit p i xs) =
           let one = weight_few (own_size ds i) (size_few i) i in
@@ -413,20 +426,20 @@ module _ (ds : List Decl) (shaped : All IsShaped ds) where
           let all = selects_few xs in omega (arith, one, all)
 
     mutual
-      target_few : (l : Lval) → target_weight ds l ≤ 25600000 * target_nodes l
+      target_few : (l : Lval) → target_weight ds l ≤ 25600128 * target_nodes l
       target_few (named p text xs) =
-          let one = access_few (are_fixed (flat_scopes ds) xs) text in
+          let one = access_few text xs in
           let all = selects_few xs in omega (arith, one, all)
       target_few (joined p ls) = let all = targets_few ls in omega (arith, all)
 
-      targets_few : (ls : Lvals) → targets_weight ds ls ≤ 25600000 * all_target_nodes ls
+      targets_few : (ls : Lvals) → targets_weight ds ls ≤ 25600128 * all_target_nodes ls
       targets_few no_lvals = omega arith
       targets_few (more_lvals l ls) =
           let one = target_few l in
           let all = targets_few ls in omega (arith, one, all)
 
     assigned_few : (l : Lval) (e : Expr) → target_size ds l ≤ 128
-        → assigned_weight ds l e ≤ 25600000 * (target_nodes l + nodes e)
+        → assigned_weight ds l e ≤ 25600128 * (target_nodes l + nodes e)
     assigned_few l e h =
         let own = size_few e in
         let less : max (target_size ds l) (own_size ds e) ≤ 128 = grind (arith, h, own) in
@@ -452,7 +465,7 @@ module _ (ds : List Decl) (shaped : All IsShaped ds) where
         some_name None = omega arith
         some_name (Some q) = omega arith
 
-    merge_few : (names : List (List ℕ)) → merge_weight ds names ≤ 25600000
+    merge_few : (names : List (List ℕ)) → merge_weight ds names ≤ 25600128
     merge_few names = let all = widths_few ds shaped names in omega (arith, all, few)
 
     -- ---- statements
@@ -477,7 +490,7 @@ module _ (ds : List Decl) (shaped : All IsShaped ds) where
         let all = arms_size_few arms in grind (arith, one, all)
     arms_size_few (default p colon x arms) = arms_size_few arms
 
-    labels_few : (n : ℕ) → n ≤ 128 → (es : List Expr) → labels_weight ds n es ≤ 25600200 * label_nodes es
+    labels_few : (n : ℕ) → n ≤ 128 → (es : List Expr) → labels_weight ds n es ≤ 25600300 * label_nodes es
     labels_few n h [] = omega arith
     labels_few n h (e ∷ es) =
         let one = weight_few n h e in
@@ -485,19 +498,19 @@ module _ (ds : List Decl) (shaped : All IsShaped ds) where
         let all = labels_few n h es in omega (arith, h, one, some, all)
 
     mutual
-      stmt_few : (s : Stmt) → IsBlock ds s → stmt_weight ds s ≤ 25600200 * stmt_nodes s
+      stmt_few : (s : Stmt) → IsBlock ds s → stmt_weight ds s ≤ 25600300 * stmt_nodes s
       stmt_few (begin attrs p label xs) is = let all = stmts_few xs is in omega (arith, all)
       stmt_few (if_only attrs p e x) is =
-          let merged = merge_few (assigned_names x) in
+          let merged = merge_few (assigned_names any_kind x) in
           let one = weight_few (own_size ds e) (size_few e) e in
           let all = stmt_few x is.1 in omega (arith, merged, one, all)
       stmt_few (if_else attrs p e x y) is =
-          let merged = merge_few (assigned_names x ++ assigned_names y) in
+          let merged = merge_few (assigned_names any_kind x ++ assigned_names any_kind y) in
           let one = weight_few (own_size ds e) (size_few e) e in
           let first = stmt_few x is.1.0 in
           let second = stmt_few y is.1.1 in omega (arith, merged, one, first, second)
       stmt_few (case attrs p kind e arms) is =
-          let merged = merge_few (arms_assigned_names arms) in
+          let merged = merge_few (arms_assigned_names any_kind arms) in
           let own = size_few e in
           let labelled = arms_size_few arms in
           let less : max (own_size ds e) (arms_size (flat_scopes ds) arms) ≤ 128 = grind (arith, own, labelled) in
@@ -510,14 +523,14 @@ module _ (ds : List Decl) (shaped : All IsShaped ds) where
       stmt_few (assume attrs p e) is = let one = weight_few (own_size ds e) (size_few e) e in omega (arith, one)
       stmt_few (empty attrs p) is = omega arith
 
-      stmts_few : (xs : Stmts) → AreBlocks ds xs → stmts_weight ds xs ≤ 25600200 * all_stmt_nodes xs
+      stmts_few : (xs : Stmts) → AreBlocks ds xs → stmts_weight ds xs ≤ 25600300 * all_stmt_nodes xs
       stmts_few no_stmts is = omega arith
       stmts_few (more_stmts x xs) is =
           let one = stmt_few x is.0 in
           let all = stmts_few xs is.1 in omega (arith, one, all)
 
       arms_few : (c : Context) (n : ℕ) → n ≤ 128 → (arms : Arms) → AreArms ds c arms
-          → arms_weight ds n arms ≤ 25600200 * arm_nodes arms
+          → arms_weight ds n arms ≤ 25600300 * arm_nodes arms
       arms_few c n h no_arms is = omega arith
       arms_few c n h (labels p es x arms) is =
           let one = labels_few n h es in
@@ -527,13 +540,13 @@ module _ (ds : List Decl) (shaped : All IsShaped ds) where
           let first = stmt_few x is.0 in
           let all = arms_few c n h arms is.1 in omega (arith, first, all)
 
-    driver_few : (x : DriverKind) → IsDriver ds x → driver_weight ds x ≤ 25600200 * driver_nodes x
+    driver_few : (x : DriverKind) → IsDriver ds x → driver_weight ds x ≤ 25600300 * driver_nodes x
     driver_few (k.Assign l e) is = let all = assigned_few l e is.0.1 in omega (arith, all)
     driver_few (k.Comb s) is = stmt_few s is
     driver_few (k.Clocked s) is = stmt_few s is
 
     design_few : (drivers : List Driver) (starts : List Start) → All (λ x. IsDriver ds x.what) drivers
-        → design_weight ds drivers ≤ 25600200 * node_count drivers starts
+        → design_weight ds drivers ≤ 25600300 * node_count drivers starts
     design_few [] starts are = omega arith
     design_few (x ∷ xs) starts are =
         let one = driver_few x.what (All-head (λ x. IsDriver ds x.what) x xs are) in

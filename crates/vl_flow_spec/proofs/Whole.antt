@@ -6,6 +6,7 @@ use Rattle.std.specs.Prelude.{if◌then◌else◌}
 use Rattle.std.proofs.Common.{ap, sym, ◌∙◌, subst, true≢false}
 use Rattle.std.proofs.lemmas.Option.{same_Some}
 use Rattle.fv_text.specs.declared.pos.Pos.{Pos}
+use Rattle.vl_tree.specs.declared.stmt.AssignKind.{AssignKind}
 use Rattle.vl_tree.specs.declared.stmt.AssignKind.TheVariants as a
 use Rattle.vl_tree.specs.Lval.{Lval, Lvals, named, joined, no_lvals, more_lvals}
 use Rattle.vl_tree.specs.Stmt.{
@@ -25,27 +26,28 @@ use Rattle.vl_tree.specs.Stmt.{
   labels,
   default,
 }
-use Rattle.vl_size.specs.declared.decl.Class.TheVariants as class
 use Rattle.vl_size.specs.declared.decl.Decl.{Decl}
 use Rattle.vl_size.specs.Places.{is_earlier, earlier_place}
 use Rattle.vl_size.specs.Table.{declared_as}
 use Rattle.vl_mean.specs.declared.driver.Driver.{Driver}
 use Rattle.vl_mean.specs.declared.driver.DriverKind.{DriverKind}
 use Rattle.vl_mean.specs.declared.driver.DriverKind.TheVariants as k
-use Rattle.vl_mean.specs.Execution.{assigns, any_assigns, arms_assign}
-use Rattle.vl_mean.specs.FlatLaw.{flat_scopes, is_variable, IsDriver}
+use Rattle.vl_mean.specs.Cells.{contains_name}
+use Rattle.vl_mean.specs.Execution.{assigns}
+use Rattle.vl_mean.specs.FlatLaw.{flat_scopes, IsBlock, IsDriver}
 use Rattle.vl_mean.specs.Targets.{may_change, any_may_change, are_fixed}
-use Rattle.vl_flow_spec.specs.Drivers.{is_clocked, driven_by}
+use Rattle.vl_flow_spec.specs.Assigned.{assigned_names}
+use Rattle.vl_flow_spec.specs.Drivers.{is_clocked}
 use Rattle.vl_flow_spec.specs.Paths.{is_blocking, is_nonblocking, any_kind, has_default, sets, any_sets, sure, all_sure}
 use Rattle.vl_flow_spec.specs.Paths.{arms_sure, changes, any_changes, arms_change}
 use Rattle.vl_flow_spec.specs.Reads.{Covers, selected}
 use Rattle.vl_flow_spec.proofs.Bools.{or_left, or_right, or_either, or_case, left_none, right_none, and_both, and_left}
 use Rattle.vl_flow_spec.proofs.Bools.{and_right, none_of, not_both}
 use Rattle.vl_flow_spec.specs.Refusals.{has_bit, named_if, with_name, place_of, latched_by, latched, latch}
-use Rattle.vl_flow_spec.specs.Refusals.{mixed, some_changes, some_waits, changed_by}
-use Rattle.vl_flow_spec.proofs.Changed.{IsBitOfKind, block_changed}
+use Rattle.vl_flow_spec.specs.Refusals.{assigns_to, is_mixed, mixed, some_assigns, some_waits}
 use Rattle.vl_flow_spec.proofs.Elements.{all_at, each_declared_as}
-use Rattle.vl_flow_spec.proofs.Found.{bit_found, has_it, more_bits, none_of_names}
+use Rattle.vl_flow_spec.proofs.Found.{has_it, none_of_names}
+use Rattle.vl_flow_spec.proofs.Kinds.{any_kind_changes, block_named, either_kind}
 
 -- ---- sure by some assignments: by blocking ones, or some other one may change the bit
 
@@ -116,93 +118,61 @@ module _ (ds : List Decl) where
         (right_none (changes ds is_nonblocking x n i) (arms_change ds is_nonblocking arms n i) none)
         (and_right (sure ds any_kind x n i) (arms_sure ds any_kind arms n i) h))
 
-  mutual
-    -- what assignments of a kind change, some assignment changes
-    pub change_assigns : (s : Stmt) → Covers (assigns (flat_scopes ds) s) (changes ds is_nonblocking s)
-    change_assigns (begin attrs p label xs) n i h = any_change_assigns xs n i h
-    change_assigns (if_only attrs p e x) n i h = change_assigns x n i h
-    change_assigns (if_else attrs p e x y) n i h =
-        or_either (changes ds is_nonblocking x n i) (changes ds is_nonblocking y n i)
-        (assigns (flat_scopes ds) x n i || assigns (flat_scopes ds) y n i)
-        (λ t. or_left (assigns (flat_scopes ds) x n i) (assigns (flat_scopes ds) y n i) (change_assigns x n i t))
-        (λ t. or_right (assigns (flat_scopes ds) x n i) (assigns (flat_scopes ds) y n i) (change_assigns y n i t)) h
-    change_assigns (case attrs p kind e arms) n i h = arms_change_assigns arms n i h
-    change_assigns (assign attrs p l kind e) n i h =
-        and_right (is_nonblocking kind) (may_change (flat_scopes ds) l n i) h
-    change_assigns (assume attrs p e) n i h = h
-    change_assigns (empty attrs p) n i h = h
+-- ---- a name with its place
 
-    any_change_assigns : (xs : Stmts) → Covers (any_assigns (flat_scopes ds) xs) (any_changes ds is_nonblocking xs)
-    any_change_assigns no_stmts n i h = h
-    any_change_assigns (more_stmts x xs) n i h =
-        or_either (changes ds is_nonblocking x n i) (any_changes ds is_nonblocking xs n i)
-        (assigns (flat_scopes ds) x n i || any_assigns (flat_scopes ds) xs n i)
-        (λ t. or_left (assigns (flat_scopes ds) x n i) (any_assigns (flat_scopes ds) xs n i) (change_assigns x n i t))
-        (λ t. or_right (assigns (flat_scopes ds) x n i) (any_assigns (flat_scopes ds) xs n i)
-        (any_change_assigns xs n i t)) h
+some_earlier : (p : Pos) (o : Option Pos) → is_none (earlier_place (Some p) o) ≡ false
+some_earlier p None = refl
+some_earlier p (Some q) = by (is_earlier q p)
+  where
+    by : (b : Bool) → is_none (if b then Some q else Some p) ≡ false
+    by true = refl
+    by false = refl
 
-    arms_change_assigns : (arms : Arms) → Covers (arms_assign (flat_scopes ds) arms) (arms_change ds is_nonblocking arms)
-    arms_change_assigns no_arms n i h = h
-    arms_change_assigns (labels p es x arms) n i h =
-        or_either (changes ds is_nonblocking x n i) (arms_change ds is_nonblocking arms n i)
-        (assigns (flat_scopes ds) x n i || arms_assign (flat_scopes ds) arms n i)
-        (λ t. or_left (assigns (flat_scopes ds) x n i) (arms_assign (flat_scopes ds) arms n i) (change_assigns x n i t))
-        (λ t. or_right (assigns (flat_scopes ds) x n i) (arms_assign (flat_scopes ds) arms n i)
-        (arms_change_assigns arms n i t)) h
-    arms_change_assigns (default p colon x arms) n i h =
-        or_either (changes ds is_nonblocking x n i) (arms_change ds is_nonblocking arms n i)
-        (assigns (flat_scopes ds) x n i || arms_assign (flat_scopes ds) arms n i)
-        (λ t. or_left (assigns (flat_scopes ds) x n i) (arms_assign (flat_scopes ds) arms n i) (change_assigns x n i t))
-        (λ t. or_right (assigns (flat_scopes ds) x n i) (arms_assign (flat_scopes ds) arms n i)
-        (arms_change_assigns arms n i t)) h
+later : (p q : Option Pos) → is_none q ≡ false → is_none (earlier_place p q) ≡ false
+later None q h = h
+later (Some p) q h = some_earlier p q
 
-  -- ---- a name with its place
+-- a driver that assigns the name has a place
+pub place_there : (drivers : List Driver) (d : Decl) (j : ℕ) (x : Driver) → slice_get drivers j ≡ Some x
+    → assigns_to any_kind x.what d ≡ true → is_none (place_of drivers d) ≡ false
+place_there [] d j x e h = absurd (true≢false (ap is_none e))
+place_there (y ∷ ys) d zero x e h =
+    subst (λ b. is_none (earlier_place (if b then Some y.pos else None) (place_of ys d)) ≡ false)
+    (sym (subst (λ z. assigns_to any_kind z.what d ≡ true) (sym (same_Some y x e)) h))
+    (some_earlier y.pos (place_of ys d))
+place_there (y ∷ ys) d (suc j) x e h =
+    later (if assigns_to any_kind y.what d then Some y.pos else None) (place_of ys d) (place_there ys d j x e h)
 
-  place_there : (drivers : List Driver) (d : Decl) (j : ℕ) (x : Driver) → slice_get drivers j ≡ Some x
-      → has_bit (driven_by ds x.what) d ≡ true → is_none (place_of ds drivers d) ≡ false
-  place_there [] d j x e h = absurd (true≢false (ap is_none e))
-  place_there (y ∷ ys) d zero x e h =
-      subst (λ b. is_none (earlier_place (if b then Some y.pos else None) (place_of ds ys d)) ≡ false)
-      (sym (subst (λ z. has_bit (driven_by ds z.what) d ≡ true) (sym (same_Some y x e)) h))
-      (some_earlier y.pos (place_of ds ys d))
-    where
-      some_earlier : (p : Pos) (o : Option Pos) → is_none (earlier_place (Some p) o) ≡ false
-      some_earlier p None = refl
-      some_earlier p (Some q) = by (is_earlier q p)
-        where
-          by : (b : Bool) → is_none (if b then Some q else Some p) ≡ false
-          by true = refl
-          by false = refl
-  place_there (y ∷ ys) d (suc j) x e h =
-      later (if has_bit (driven_by ds y.what) d then Some y.pos else None) (place_of ds ys d) (place_there ys d j x e h)
-    where
-      later : (p q : Option Pos) → is_none q ≡ false → is_none (earlier_place p q) ≡ false
-      later None q h = h
-      later (Some p) None h = refl
-      later (Some p) (Some q) h = by (is_earlier q p)
-        where
-          by : (b : Bool) → is_none (if b then Some q else Some p) ≡ false
-          by true = refl
-          by false = refl
+-- a test whose name isn't answered fails, where some driver assigns the name
+pub unnamed : (drivers : List Driver) (d : Decl) (b : Bool) → named_if drivers d b ≡ None
+    → is_none (place_of drivers d) ≡ false → b ≡ false
+unnamed drivers d true e h = by (place_of drivers d) e h
+  where
+    by : (o : Option Pos) → with_name d.name o ≡ None → is_none o ≡ false → true ≡ false
+    by None e n = n
+    by (Some p) e n = sym (ap is_none e)
+unnamed drivers d false e h = refl
 
-  -- a test whose name isn't answered fails, where some driver assigns the name
-  unnamed : (drivers : List Driver) (d : Decl) (b : Bool) → named_if ds drivers d b ≡ None
-      → (b ≡ true → is_none (place_of ds drivers d) ≡ false) → b ≡ false
-  unnamed drivers d true e f = by (place_of ds drivers d) e (f refl)
-    where
-      by : (o : Option Pos) → with_name d.name o ≡ None → is_none o ≡ false → true ≡ false
-      by None e n = n
-      by (Some p) e n = sym (ap is_none e)
-  unnamed drivers d false e f = refl
+waits_of : (drivers : List Driver) (d : Decl) (j : ℕ) (x : Driver) → slice_get drivers j ≡ Some x
+    → is_clocked x.what ≡ false → assigns_to is_nonblocking x.what d ≡ true → some_waits drivers d ≡ true
+waits_of [] d j x e c h = absurd (true≢false (ap is_none e))
+waits_of (y ∷ ys) d zero x e c h =
+    or_left (not (is_clocked y.what) && assigns_to is_nonblocking y.what d) (some_waits ys d)
+    (subst (λ z. (not (is_clocked z.what) && assigns_to is_nonblocking z.what d) ≡ true) (sym (same_Some y x e))
+    (and_both (not (is_clocked x.what)) (assigns_to is_nonblocking x.what d) (ap not c) h))
+waits_of (y ∷ ys) d (suc j) x e c h =
+    or_right (not (is_clocked y.what) && assigns_to is_nonblocking y.what d) (some_waits ys d)
+    (waits_of ys d j x e c h)
 
+-- assignments of each kind count among those of any kind
+pub of_any_kind : (x : DriverKind) (d : Decl) → (assigns_to is_blocking x d || assigns_to is_nonblocking x d) ≡ true
+    → assigns_to any_kind x d ≡ true
+of_any_kind (k.Assign l e) d h = h
+of_any_kind (k.Comb s) d h = either_kind s d.name ∙ h
+of_any_kind (k.Clocked s) d h = either_kind s d.name ∙ h
+
+module _ (ds : List Decl) where
   -- ---- no latch
-
-  latched_at : (drivers : List Driver) (n : List ℕ) (i : ℕ) → latched ds drivers n i ≡ true
-      → (j : ℕ) × (x : Driver) × (slice_get drivers j ≡ Some x) × (latched_by ds x.what n i ≡ true)
-  latched_at [] n i h = absurd (true≢false (sym h))
-  latched_at (x ∷ xs) n i h =
-      or_case (latched_by ds x.what n i) (latched ds xs n i) (λ t. (zero, x, refl, t))
-      (λ t. let r = latched_at xs n i t in (suc r.0, r.1, r.2, r.3)) h
 
   latched_of : (drivers : List Driver) (n : List ℕ) (i j : ℕ) (x : Driver) → slice_get drivers j ≡ Some x
       → latched_by ds x.what n i ≡ true → latched ds drivers n i ≡ true
@@ -213,79 +183,21 @@ module _ (ds : List Decl) where
   latched_of (y ∷ ys) n i (suc j) x e h =
       or_right (latched_by ds y.what n i) (latched ds ys n i) (latched_of ys n i j x e h)
 
-  latched_drives : (x : DriverKind) (n : List ℕ) (i : ℕ) → latched_by ds x n i ≡ true → driven_by ds x n i ≡ true
-  latched_drives (k.Assign l e) n i h = absurd (true≢false (sym h))
-  latched_drives (k.Comb s) n i h = and_left (assigns (flat_scopes ds) s n i) (not (sure ds any_kind s n i)) h
-  latched_drives (k.Clocked s) n i h = absurd (true≢false (sym h))
-
   no_latch : (drivers : List Driver) → latch ds drivers ≡ None → (d : Decl) → declared_as ds d.name ≡ Some d
-      → has_bit (latched ds drivers) d ≡ false
+      → is_none (place_of drivers d) ≡ false → has_bit (latched ds drivers) d ≡ false
   no_latch drivers none d own =
       unnamed drivers d (has_bit (latched ds drivers) d)
-      (each_declared_as (λ d. named_if ds drivers d (has_bit (latched ds drivers) d) ≡ None) ds d.name d own
-      (none_of_names (λ d. named_if ds drivers d (has_bit (latched ds drivers) d)) ds none))
-      (λ h.
-      let r = bit_found (latched ds drivers) d h in
-      let at = latched_at drivers r.0 r.1 r.4 in
-      place_there drivers d at.0 at.1 at.2
-      (has_it (driven_by ds at.1.what) d r.0 r.1 r.2 r.3 (latched_drives at.1.what r.0 r.1 at.3)))
+      (each_declared_as (λ d. named_if drivers d (has_bit (latched ds drivers) d) ≡ None) ds d.name d own
+      (none_of_names (λ d. named_if drivers d (has_bit (latched ds drivers) d)) ds none))
 
   -- ---- nothing mixed
 
-  waits_at : (drivers : List Driver) (d : Decl) → some_waits ds drivers d ≡ true
-      → (j : ℕ) × (x : Driver) × (slice_get drivers j ≡ Some x)
-      × (has_bit (changed_by ds x.what false) d ≡ true)
-  waits_at [] d h = absurd (true≢false (sym h))
-  waits_at (x ∷ xs) d h =
-      or_case (not (is_clocked x.what) && has_bit (changed_by ds x.what false) d) (some_waits ds xs d)
-      (λ t. (zero, x, refl, and_right (not (is_clocked x.what)) (has_bit (changed_by ds x.what false) d) t))
-      (λ t. let r = waits_at xs d t in (suc r.0, r.1, r.2, r.3)) h
-
-  waits_of : (drivers : List Driver) (d : Decl) (j : ℕ) (x : Driver) → slice_get drivers j ≡ Some x
-      → is_clocked x.what ≡ false → has_bit (changed_by ds x.what false) d ≡ true → some_waits ds drivers d ≡ true
-  waits_of [] d j x e c h = absurd (true≢false (ap is_none e))
-  waits_of (y ∷ ys) d zero x e c h =
-      or_left (not (is_clocked y.what) && has_bit (changed_by ds y.what false) d) (some_waits ds ys d)
-      (subst (λ z. (not (is_clocked z.what) && has_bit (changed_by ds z.what false) d) ≡ true) (sym (same_Some y x e))
-      (and_both (not (is_clocked x.what)) (has_bit (changed_by ds x.what false) d) (ap not c) h))
-  waits_of (y ∷ ys) d (suc j) x e c h =
-      or_right (not (is_clocked y.what) && has_bit (changed_by ds y.what false) d) (some_waits ds ys d)
-      (waits_of ys d j x e c h)
-
-  changed_at : (drivers : List Driver) (d : Decl) → some_changes ds drivers false d ≡ true
-      → (j : ℕ) × (x : Driver) × (slice_get drivers j ≡ Some x)
-      × (has_bit (changed_by ds x.what false) d ≡ true)
-  changed_at [] d h = absurd (true≢false (sym h))
-  changed_at (x ∷ xs) d h =
-      or_case (has_bit (changed_by ds x.what false) d) (some_changes ds xs false d) (λ t. (zero, x, refl, t))
-      (λ t. let r = changed_at xs d t in (suc r.0, r.1, r.2, r.3)) h
-
-  changed_drives : (x : DriverKind) (n : List ℕ) (i : ℕ) → changed_by ds x false n i ≡ true → driven_by ds x n i ≡ true
-  changed_drives (k.Assign l e) n i h = absurd (true≢false (sym h))
-  changed_drives (k.Comb s) n i h = change_assigns s n i h
-  changed_drives (k.Clocked s) n i h = change_assigns s n i h
-
-  no_wait : (drivers : List Driver) → mixed ds drivers ≡ None → (d : Decl) → declared_as ds d.name ≡ Some d
-      → some_waits ds drivers d ≡ false
-  no_wait drivers none d own =
-      right_none (some_changes ds drivers true d && some_changes ds drivers false d) (some_waits ds drivers d)
-      (unnamed drivers d (is_mixed d)
-      (each_declared_as (λ d. named_if ds drivers d (is_mixed d) ≡ None) ds d.name d own
-      (none_of_names (λ d. named_if ds drivers d (is_mixed d)) ds none))
-      (λ h. or_case (some_changes ds drivers true d && some_changes ds drivers false d) (some_waits ds drivers d)
-      (λ t. there (changed_at drivers d
-      (and_right (some_changes ds drivers true d) (some_changes ds drivers false d) t)))
-      (λ t. there (waits_at drivers d t)) h))
-    where
-      is_mixed : Decl → Bool
-      is_mixed d =
-          (some_changes ds drivers true d && some_changes ds drivers false d) || some_waits ds drivers d
-
-      there : (j : ℕ) × (x : Driver) × (slice_get drivers j ≡ Some x) × (has_bit (changed_by ds x.what false) d ≡ true)
-          → is_none (place_of ds drivers d) ≡ false
-      there r =
-          place_there drivers d r.0 r.1 r.2
-          (more_bits (driven_by ds r.1.what) (changed_by ds r.1.what false) (changed_drives r.1.what) d r.3)
+  pub unmixed : (drivers : List Driver) → mixed ds drivers ≡ None → (d : Decl) → declared_as ds d.name ≡ Some d
+      → is_none (place_of drivers d) ≡ false → is_mixed drivers d ≡ false
+  unmixed drivers none d own =
+      unnamed drivers d (is_mixed drivers d)
+      (each_declared_as (λ d. named_if drivers d (is_mixed drivers d) ≡ None) ds d.name d own
+      (none_of_names (λ d. named_if drivers d (is_mixed drivers d)) ds none))
 
   -- ---- a block without latches
 
@@ -293,28 +205,32 @@ module _ (ds : List Decl) where
       → mixed ds drivers ≡ None → (j : ℕ) (x : Driver) (s : Stmt) → slice_get drivers j ≡ Some x
       → x.what ≡ k.Comb s → Covers (sure ds is_blocking s) (assigns (flat_scopes ds) s)
   comb_is_whole drivers are none pure j x s e what n i h =
-      sure_blocking s n i
+      sure_blocking ds s n i
       (none_of (changes ds is_nonblocking s n i) (λ t.
-      sym (no_wait drivers pure d own)
-      ∙ waits_of drivers d j x e (ap is_clocked what)
-      (subst (λ y. has_bit (changed_by ds y false) d ≡ true) (sym what)
-      (has_it (changes ds is_nonblocking s) d n i b.of.cell b.below t))))
+      let waiting = block_named ds is_nonblocking s is n i t in
+      let d = waiting.0.decl in
+      let to = assigned is_nonblocking d waiting.1 in
+      let any = of_any_kind x.what d (or_right (assigns_to is_blocking x.what d) (assigns_to is_nonblocking x.what d) to) in
+      sym (right_none (some_assigns is_blocking drivers d && some_assigns is_nonblocking drivers d)
+      (some_waits drivers d)
+      (unmixed drivers pure d waiting.0.of.declared (place_there drivers d j x e any)))
+      ∙ waits_of drivers d j x e (ap is_clocked what) to))
       (of_not (sure ds any_kind s n i) (λ t.
-      sym (no_latch drivers none d own)
-      ∙ has_it (latched ds drivers) d n i b.of.cell b.below
+      let changed = block_named ds any_kind s is n i (any_kind_changes ds s n i ∙ h) in
+      let d = changed.0.decl in
+      sym (no_latch drivers none d changed.0.of.declared
+      (place_there drivers d j x e (assigned any_kind d changed.1)))
+      ∙ has_it (latched ds drivers) d n i changed.0.of.cell changed.0.below
       (latched_of drivers n i j x e
       (subst (λ y. latched_by ds y n i ≡ true) (sym what)
       (and_both (assigns (flat_scopes ds) s n i) (not (sure ds any_kind s n i)) h (ap not t))))))
     where
-      b : IsBitOfKind ds is_variable n i
-      b =
-          block_changed ds s (subst (IsDriver ds) what (all_at (λ x. IsDriver ds x.what) drivers j x e are)) n i h
+      is : IsBlock ds s
+      is = subst (IsDriver ds) what (all_at (λ x. IsDriver ds x.what) drivers j x e are)
 
-      d : Decl
-      d = b.decl
-
-      own : declared_as ds d.name ≡ Some d
-      own = b.of.declared
+      assigned : (counts : AssignKind → Bool) (d : Decl) → contains_name (assigned_names counts s) d.name ≡ true
+          → assigns_to counts x.what d ≡ true
+      assigned counts d h = ap (λ y. assigns_to counts y d) what ∙ h
 
       of_not : (c : Bool) → (c ≡ false → false ≡ true) → c ≡ true
       of_not true f = refl

@@ -6,7 +6,7 @@ use Rattle.vl_tree.specs.declared.operator.BinaryOperator.TheVariants as op
 use Rattle.vl_tree.specs.declared.operator.UnaryOperator.TheVariants as u
 use Rattle.vl_tree.specs.declared.stmt.AssignKind.TheVariants as way
 use Rattle.vl_tree.specs.declared.stmt.CaseKind.TheVariants as kind
-use Rattle.vl_tree.specs.Expr.{Expr, number, name, unary, binary, concat, none, more, whole, bit, part}
+use Rattle.vl_tree.specs.Expr.{Expr, number, name, unary, binary, concat, none, more, whole, bit, part, indexed}
 use Rattle.vl_tree.specs.Lval.{Lval, named, joined, no_lvals, more_lvals}
 use Rattle.vl_tree.specs.Stmt as stmt
 use Rattle.vl_tree.specs.Stmt.{Stmt, stmts, labels, no_arms}
@@ -78,6 +78,17 @@ bit_of text i = name here text (bit here i whole)
 
 abbrev pub to_bit : List ℕ → Expr → Lval
 to_bit text i = named here text (bit here i whole)
+
+-- `text[i][j]`, of a memory
+abbrev pub bit_of_word : List ℕ → Expr → Expr → Expr
+bit_of_word text i j = name here text (bit here i (bit here j whole))
+
+abbrev pub to_bit_of_word : List ℕ → Expr → Expr → Lval
+to_bit_of_word text i j = named here text (bit here i (bit here j whole))
+
+-- `text[i][start +: 1]`
+abbrev pub part_of_word : List ℕ → Expr → Expr → Expr
+part_of_word text i start = name here text (bit here i (indexed here start (decimal 1) whole))
 
 -- `text[left:right]`
 abbrev pub to_part : List ℕ → ℕ → ℕ → Lval

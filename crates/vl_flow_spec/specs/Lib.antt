@@ -1,5 +1,6 @@
 pub mod Reads
 pub mod Paths
+pub mod Assigned
 pub mod Depends
 pub mod Drivers
 pub mod Settle

@@ -21,19 +21,21 @@ use Rattle.std.specs.Prelude.{
 }
 use Rattle.std.specs.Prelude.{is_none, Option, Some, None, if◌then◌else◌, All, replicate, bytes_eq, slice_get}
 use Rattle.fv_text.specs.declared.pos.Pos.{Pos}
+use Rattle.vl_tree.specs.declared.stmt.AssignKind.{AssignKind}
 use Rattle.vl_size.specs.declared.decl.Decl.{Decl}
 use Rattle.vl_size.specs.Places.{is_earlier, earlier_place}
 use Rattle.vl_mean.specs.declared.driver.Driver.{Driver}
 use Rattle.vl_mean.specs.declared.driver.DriverKind.{DriverKind}
 use Rattle.vl_mean.specs.declared.driver.DriverKind.TheVariants as k
-use Rattle.vl_mean.specs.Cells.{cells}
+use Rattle.vl_mean.specs.Cells.{cells, contains_name}
 use Rattle.vl_mean.specs.Execution.{assigns}
 use Rattle.vl_mean.specs.FlatLaw.{flat_scopes, is_net}
 use Rattle.vl_mean.specs.Runs.{FollowedBy}
 use Rattle.vl_mean.specs.Scopes.{no_values}
 use Rattle.vl_mean.specs.Targets.{Spot, spots}
 use Rattle.vl_flow_spec.specs.Reads.{Bits}
-use Rattle.vl_flow_spec.specs.Paths.{is_blocking, is_nonblocking, any_kind, sure, changes}
+use Rattle.vl_flow_spec.specs.Assigned.{assigned_names}
+use Rattle.vl_flow_spec.specs.Paths.{is_blocking, is_nonblocking, any_kind, sure}
 use Rattle.vl_flow_spec.specs.Drivers.{is_clocked, needed_by, driven_by}
 
 -- ---- bits of a name
@@ -98,9 +100,52 @@ abbrev pub with_name : List ℕ → Option Pos → Option (List ℕ × Pos)
 with_name text None = None
 with_name text (Some p) = Some (text, p)
 
--- it is one of the drivers
-abbrev pub Stands : List Driver → Driver → Type 0
-Stands drivers x = (i : ℕ) × (slice_get drivers i ≡ Some x)
+-- ---- drivers by their numbers, counted from 0
+
+abbrev pub StandAt : List Driver → List ℕ → List Driver → Type 0
+StandAt drivers [] [] = Unit {0}
+StandAt drivers (i ∷ numbers) (x ∷ xs) = (slice_get drivers i ≡ Some x) × StandAt drivers numbers xs
+StandAt drivers numbers xs = ⊥
+
+-- no number stands twice
+abbrev pub AreDistinct : List ℕ → Type 0
+AreDistinct numbers = (a b i : ℕ) → slice_get numbers a ≡ Some i → slice_get numbers b ≡ Some i → a ≡ b
+
+-- ---- which driver assigns a name
+
+-- The names that assignments of some kinds in a block have as targets. What is assigned outside of blocks is a net, and
+-- no net is named by the refusals 2, 5 and 6.
+abbrev pub names_in : (AssignKind → Bool) → DriverKind → List (List ℕ)
+names_in counts (k.Assign l e) = []
+names_in counts (k.Comb s) = assigned_names counts s
+names_in counts (k.Clocked s) = assigned_names counts s
+
+abbrev pub assigns_to : (AssignKind → Bool) → DriverKind → Decl → Bool
+assigns_to counts x d = contains_name (names_in counts x) d.name
+
+-- the earliest place of a driver that assigns the name
+abbrev pub place_of : List Driver → Decl → Option Pos
+place_of [] d = None
+place_of (x ∷ xs) d = earlier_place (if assigns_to any_kind x.what d then Some x.pos else None) (place_of xs d)
+
+-- some driver does so
+abbrev pub some_assigns : (AssignKind → Bool) → List Driver → Decl → Bool
+some_assigns counts [] d = false
+some_assigns counts (x ∷ xs) d = assigns_to counts x.what d || some_assigns counts xs d
+
+-- some driver that isn't clocked, by a nonblocking assignment
+abbrev pub some_waits : List Driver → Decl → Bool
+some_waits [] d = false
+some_waits (x ∷ xs) d = (not (is_clocked x.what) && assigns_to is_nonblocking x.what d) || some_waits xs d
+
+abbrev pub is_mixed : List Driver → Decl → Bool
+is_mixed drivers d =
+    (some_assigns is_blocking drivers d && some_assigns is_nonblocking drivers d) || some_waits drivers d
+
+-- the name, with the place of its driver, where the test holds
+abbrev pub named_if : List Driver → Decl → Bool → Option (List ℕ × Pos)
+named_if drivers d false = None
+named_if drivers d true = with_name d.name (place_of drivers d)
 
 module _ (ds : List Decl) where
   -- ---- 1: a loop of drivers
@@ -116,26 +161,16 @@ module _ (ds : List Decl) where
   last_of x [] = x
   last_of x (y ∷ ys) = last_of y ys
 
-  -- drivers that aren't clocked, each of which reads from the next one, and the last one from the first; this has the
-  -- earliest place
+  -- Drivers that aren't clocked, none of them twice, each of which reads from the next one, and the last one from the
+  -- first; this has the earliest place.
   pub record IsLoop (drivers : List Driver) (first : Driver) (others : List Driver) : Type 0 where
-    pub among : All (λ x. Stands drivers x × (is_clocked x.what ≡ false)) (first ∷ others)
+    pub numbers : List ℕ
+    pub among : StandAt drivers numbers (first ∷ others)
+    pub once : AreDistinct numbers
+    pub settled : All (λ x. is_clocked x.what ≡ false) (first ∷ others)
     pub reads : FollowedBy ReadsFrom first others
     pub closed : ReadsFrom (last_of first others) first
     pub earliest : All (λ x. is_earlier x.pos first.pos ≡ false) others
-
-  -- ---- which driver assigns a name
-
-  -- the earliest place of a driver that may change a bit of the name
-  abbrev pub place_of : List Driver → Decl → Option Pos
-  place_of [] d = None
-  place_of (x ∷ xs) d =
-      earlier_place (if has_bit (driven_by ds x.what) d then Some x.pos else None) (place_of xs d)
-
-  -- the name, with the place of its driver, where the test holds
-  abbrev pub named_if : List Driver → Decl → Bool → Option (List ℕ × Pos)
-  named_if drivers d false = None
-  named_if drivers d true = with_name d.name (place_of drivers d)
 
   -- ---- 2: a latch
 
@@ -187,12 +222,9 @@ module _ (ds : List Decl) where
       first_of_names (λ d. if is_net d
       then with_bit_of d.name (first_below (λ i. not (driven_in drivers d.name i)) d.width) else None) ds
 
-  -- ---- 5: a blocking assignment of a clocked block, seen outside of it
+  -- ---- 5: a blocking assignment of a clocked block to a name that is read outside of it
 
-  abbrev pub blocking_in : DriverKind → Bits
-  blocking_in (k.Clocked s) n i = changes ds is_blocking s n i
-  blocking_in x n i = false
-
+  -- some bit of the name
   abbrev pub some_reads : List Driver → Decl → Bool
   some_reads [] d = false
   some_reads (x ∷ xs) d = has_bit (needed_by ds x.what) d || some_reads xs d
@@ -201,33 +233,16 @@ module _ (ds : List Decl) where
   abbrev pub is_shared : List Driver → List Driver → Decl → Bool
   is_shared before [] d = false
   is_shared before (x ∷ after) d =
-      (has_bit (blocking_in x.what) d && (some_reads before d || some_reads after d))
+      ((is_clocked x.what && assigns_to is_blocking x.what d) && (some_reads before d || some_reads after d))
       || is_shared (x ∷ before) after d
 
   abbrev pub blocking_shared : List Driver → Option (List ℕ × Pos)
   blocking_shared drivers = first_of_names (λ d. named_if drivers d (is_shared [] drivers d)) ds
 
-  -- ---- 6: blocking and nonblocking assignments
-
-  abbrev pub changed_by : DriverKind → Bool → Bits
-  changed_by (k.Assign l e) blocking n i = false
-  changed_by (k.Comb s) true n i = changes ds is_blocking s n i
-  changed_by (k.Comb s) false n i = changes ds is_nonblocking s n i
-  changed_by (k.Clocked s) true n i = changes ds is_blocking s n i
-  changed_by (k.Clocked s) false n i = changes ds is_nonblocking s n i
-
-  abbrev pub some_changes : List Driver → Bool → Decl → Bool
-  some_changes [] blocking d = false
-  some_changes (x ∷ xs) blocking d = has_bit (changed_by x.what blocking) d || some_changes xs blocking d
-
-  abbrev pub some_waits : List Driver → Decl → Bool
-  some_waits [] d = false
-  some_waits (x ∷ xs) d = (not (is_clocked x.what) && has_bit (changed_by x.what false) d) || some_waits xs d
+  -- ---- 6: blocking and nonblocking assignments of a name, or a nonblocking one in a combinational block
 
   abbrev pub mixed : List Driver → Option (List ℕ × Pos)
-  mixed drivers =
-      first_of_names (λ d. named_if drivers d
-      ((some_changes drivers true d && some_changes drivers false d) || some_waits drivers d)) ds
+  mixed drivers = first_of_names (λ d. named_if drivers d (is_mixed drivers d)) ds
 
   -- ---- none of them
 

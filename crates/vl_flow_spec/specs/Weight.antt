@@ -68,6 +68,8 @@ use Rattle.vl_mean.specs.Cells.{contains_name}
 use Rattle.vl_mean.specs.Execution.{arms_size}
 use Rattle.vl_mean.specs.FlatLaw.{flat_scopes, target_size}
 use Rattle.vl_mean.specs.Targets.{are_fixed}
+use Rattle.vl_flow_spec.specs.Assigned.{assigned_names, arms_assigned_names}
+use Rattle.vl_flow_spec.specs.Paths.{any_kind}
 
 -- an operation on n bits: shifts, sums and orders count eightfold, a product as the square of that
 abbrev pub operation_weight : BinaryOperator → ℕ → ℕ
@@ -94,40 +96,14 @@ abbrev pub word_count : Option (ℤ × ℤ) → ℕ
 word_count None = 1
 word_count (Some bounds) = span bounds.0 bounds.1
 
--- a vector's select by constant indices is free
-abbrev pub access_weight : Bool → Option Decl → ℕ
-access_weight fixed None = 0
-access_weight fixed (Some d) = if is_none d.words && fixed then 0 else word_count d.words * d.width
+-- the selects behind the one that takes a memory's word
+abbrev pub behind_word : Selects → Selects
+behind_word whole = whole
+behind_word (bit p i xs) = xs
+behind_word (part p l r xs) = xs
+behind_word (indexed p s m xs) = xs
 
--- ---- names that are assigned
-
-abbrev mutual
-  pub target_names : Lval → List (List ℕ)
-  target_names (named p text xs) = text ∷ []
-  target_names (joined p ls) = all_target_names ls
-
-  pub all_target_names : Lvals → List (List ℕ)
-  all_target_names no_lvals = []
-  all_target_names (more_lvals l ls) = target_names l ++ all_target_names ls
-
-abbrev mutual
-  pub assigned_names : Stmt → List (List ℕ)
-  assigned_names (begin attrs p label xs) = all_assigned_names xs
-  assigned_names (if_only attrs p e x) = assigned_names x
-  assigned_names (if_else attrs p e x y) = assigned_names x ++ assigned_names y
-  assigned_names (case attrs p kind e arms) = arms_assigned_names arms
-  assigned_names (assign attrs p l kind e) = target_names l
-  assigned_names (assume attrs p e) = []
-  assigned_names (empty attrs p) = []
-
-  pub all_assigned_names : Stmts → List (List ℕ)
-  all_assigned_names no_stmts = []
-  all_assigned_names (more_stmts x xs) = assigned_names x ++ all_assigned_names xs
-
-  pub arms_assigned_names : Arms → List (List ℕ)
-  arms_assigned_names no_arms = []
-  arms_assigned_names (labels p es x arms) = assigned_names x ++ arms_assigned_names arms
-  arms_assigned_names (default p colon x arms) = assigned_names x ++ arms_assigned_names arms
+-- ---- names
 
 -- the widths of the vectors among the names, each once
 abbrev pub widths_of : List Decl → List (List ℕ) → ℕ
@@ -136,6 +112,21 @@ widths_of (d ∷ es) names =
     (if is_none d.words && contains_name names d.name then d.width else 0) + widths_of es names
 
 module _ (ds : List Decl) where
+  -- ---- reads and writes of names
+
+  -- of a vector of w bits: its constant selects are free, and one with an index that varies takes the width
+  abbrev pub select_weight : ℕ → Selects → ℕ
+  select_weight w xs = if are_fixed (flat_scopes ds) xs then 0 else w
+
+  -- a memory takes all its words, whichever index it has, and selects of its word are those of a vector
+  abbrev pub access_weight : Option Decl → Selects → ℕ
+  access_weight None xs = 0
+  access_weight (Some d) xs =
+      if is_none d.words then select_weight d.width xs
+      else word_count d.words * d.width + select_weight d.width (behind_word xs)
+
+  -- ---- expressions
+
   abbrev pub own_size : Expr → ℕ
   own_size e = or_none (size ds e)
 
@@ -161,7 +152,7 @@ module _ (ds : List Decl) where
     pub weight : ℕ → Expr → ℕ
     weight n (number p x) = 0
     weight n (name p text xs) =
-        access_weight (are_fixed (flat_scopes ds) xs) (declared_as ds text) + selects_weight xs
+        access_weight (declared_as ds text) xs + selects_weight xs
     weight n (paren p x) = weight n x
     weight n (unary p op x) =
         let m = if keeps_size op then n else own_size x in
@@ -190,7 +181,7 @@ module _ (ds : List Decl) where
   abbrev mutual
     pub target_weight : Lval → ℕ
     target_weight (named p text xs) =
-        access_weight (are_fixed (flat_scopes ds) xs) (declared_as ds text) + selects_weight xs
+        access_weight (declared_as ds text) xs + selects_weight xs
     target_weight (joined p ls) = targets_weight ls
 
     pub targets_weight : Lvals → ℕ
@@ -214,12 +205,12 @@ module _ (ds : List Decl) where
   abbrev mutual
     pub stmt_weight : Stmt → ℕ
     stmt_weight (begin attrs p label xs) = stmts_weight xs
-    stmt_weight (if_only attrs p e x) = merge_weight (assigned_names x) + weight (own_size e) e + stmt_weight x
+    stmt_weight (if_only attrs p e x) = merge_weight (assigned_names any_kind x) + weight (own_size e) e + stmt_weight x
     stmt_weight (if_else attrs p e x y) =
-        merge_weight (assigned_names x ++ assigned_names y) + weight (own_size e) e + stmt_weight x + stmt_weight y
+        merge_weight (assigned_names any_kind x ++ assigned_names any_kind y) + weight (own_size e) e + stmt_weight x + stmt_weight y
     stmt_weight (case attrs p kind e arms) =
         let n = max (own_size e) (arms_size (flat_scopes ds) arms) in
-        merge_weight (arms_assigned_names arms) + weight n e + arms_weight n arms
+        merge_weight (arms_assigned_names any_kind arms) + weight n e + arms_weight n arms
     stmt_weight (assign attrs p l kind e) = assigned_weight l e
     stmt_weight (assume attrs p e) = weight (own_size e) e
     stmt_weight (empty attrs p) = 0

@@ -78,7 +78,7 @@ pub fn undriven_bits_are_found()
     ensures driven { undriven (net a ∷ input b ∷ []) (copies 3 a b ∷ []) ≡ None }
 {}
 
-/// A name with blocking assignments in a clocked block that another driver reads.
+/// A name with blocking assignments in a clocked block, whatever these reach, of which another driver reads a bit.
 pub fn shared_names_are_found()
     ensures by_an_assign { blocking_shared (variable a ∷ net b ∷ input c ∷ [])
         (at_clock 3 (now (plain_target a) (plain c)) ∷ copies 4 b a ∷ []) ≡ Some (a, at_line 3) }
@@ -88,6 +88,11 @@ pub fn shared_names_are_found()
     ensures of_a_memory { blocking_shared (memory m ∷ net b ∷ input c ∷ [])
         (assigns 2 (plain_target b) (bit_of m (plain c))
         ∷ at_clock 3 (now (to_bit m (decimal 0)) (plain c)) ∷ []) ≡ Some (m, at_line 3) }
+    ensures past_the_range { blocking_shared (variable a ∷ net b ∷ input c ∷ [])
+        (at_clock 3 (now (to_bit a (decimal 9)) (plain c)) ∷ copies 4 b a ∷ []) ≡ Some (a, at_line 3) }
+    ensures not_read { blocking_shared (variable a ∷ net b ∷ input c ∷ [])
+        (at_clock 3 (now (plain_target a) (plain c))
+        ∷ assigns 4 (plain_target b) (bit_of a (decimal 9)) ∷ []) ≡ None }
     ensures not_inside { blocking_shared (variable a ∷ variable b ∷ input c ∷ [])
         (at_clock 3 (each (now (plain_target a) (plain c) ∷ later (plain_target b) (plain a) ∷ [])) ∷ [])
         ≡ None }
@@ -95,7 +100,8 @@ pub fn shared_names_are_found()
         (at_clock 3 (later (plain_target a) (plain c)) ∷ copies 4 b a ∷ []) ≡ None }
 {}
 
-/// A name with blocking and nonblocking assignments, or with a nonblocking one in a combinational block.
+/// A name with blocking and nonblocking assignments, whatever these reach, or with a nonblocking one in a combinational
+/// block.
 pub fn mixed_names_are_found()
     ensures in_one_block { mixed (variable a ∷ input b ∷ [])
         (at_clock 3 (each (now (plain_target a) (plain b) ∷ later (plain_target a) (plain b) ∷ [])) ∷ [])
@@ -107,6 +113,12 @@ pub fn mixed_names_are_found()
         (at_clock 4 (each (now (to_bit m (decimal 0)) (plain b)
         ∷ later (to_bit m (decimal 1)) (plain b) ∷ [])) ∷ [])
         ≡ Some (m, at_line 4) }
+    ensures past_the_range { mixed (variable a ∷ input b ∷ [])
+        (always 3 (each (now (plain_target a) (plain b) ∷ later (to_bit a (decimal 9)) (plain b) ∷ [])) ∷ [])
+        ≡ Some (a, at_line 3) }
+    ensures of_no_bits { mixed (variable a ∷ input b ∷ [])
+        (at_clock 4 (now (to_bit a (decimal 8)) (plain b))
+        ∷ at_clock 5 (later (to_bit a (decimal 9)) (plain b)) ∷ []) ≡ Some (a, at_line 4) }
     ensures without_clock { mixed (variable a ∷ input b ∷ [])
         (always 6 (later (plain_target a) (plain b)) ∷ []) ≡ Some (a, at_line 6) }
     ensures one_kind { mixed (variable a ∷ input b ∷ [])

@@ -4,8 +4,8 @@ ghost use Rattle.vl_mean.specs.FlatLaw.{IsLawful};
 ghost use Rattle.vl_mean.specs.Parts.{plain, plain_target};
 ghost use Rattle.vl_mean.specs.declared.driver.Driver.{Driver};
 ghost use Rattle.vl_mean.specs.declared.driver.Start.{Start};
-ghost use Rattle.vl_flow_spec.specs.FlowExamples.{a, b, m, always, any_bit, assigns, bit_of, both, copies, decimal};
-ghost use Rattle.vl_flow_spec.specs.FlowExamples.{equal};
+ghost use Rattle.vl_flow_spec.specs.FlowExamples.{a, b, m, always, any_bit, assigns, bit_of, bit_of_word, both, copies};
+ghost use Rattle.vl_flow_spec.specs.FlowExamples.{decimal, equal, part_of_word, to_bit_of_word};
 ghost use Rattle.vl_flow_spec.specs.FlowExamples.{input, less, memory, net, now, plus, product, to_bit, two_labels};
 ghost use Rattle.vl_flow_spec.specs.FlowExamples.{under};
 ghost use Rattle.vl_flow_spec.specs.FlowExamples.{variable};
@@ -38,8 +38,8 @@ pub fn operators_are_weighed()
         (assigns 1 (plain_target a) (both (bit_of b (decimal 1)) (plain b)) ∷ []) ≡ 0 }
 {}
 
-/// A varying index counts the vector's width, a memory all its words, an `if` and a `case` what they assign, and each
-/// label its size.
+/// A varying index counts the vector's width, a memory all its words, one behind a memory's index the word's width
+/// beside these, an `if` and a `case` what they assign, and each label its size.
 pub fn choices_are_weighed()
     ensures index { design_weight (net a ∷ input b ∷ [])
         (assigns 1 (plain_target a) (bit_of b (plain b)) ∷ []) ≡ 2 }
@@ -47,6 +47,14 @@ pub fn choices_are_weighed()
         (assigns 1 (plain_target a) (bit_of m (decimal 1)) ∷ []) ≡ 4 }
     ensures written_word { design_weight (memory m ∷ input b ∷ [])
         (always 1 (under (plain b) (now (to_bit m (plain b)) (plain b))) ∷ []) ≡ 4 }
+    ensures bit_of_a_word { design_weight (net a ∷ memory m ∷ input b ∷ [])
+        (assigns 1 (plain_target a) (bit_of_word m (decimal 1) (plain b)) ∷ []) ≡ 6 }
+    ensures part_of_a_word { design_weight (net a ∷ memory m ∷ input b ∷ [])
+        (assigns 1 (plain_target a) (part_of_word m (plain b) (plain b)) ∷ []) ≡ 6 }
+    ensures written_bit_of_a_word { design_weight (memory m ∷ input b ∷ [])
+        (always 1 (now (to_bit_of_word m (decimal 0) (plain b)) (plain b)) ∷ []) ≡ 6 }
+    ensures constant_bit_of_a_word { design_weight (net a ∷ memory m ∷ input b ∷ [])
+        (assigns 1 (plain_target a) (bit_of_word m (plain b) (decimal 1)) ∷ []) ≡ 4 }
     ensures if_only { design_weight (variable a ∷ input b ∷ [])
         (always 1 (under (plain b) (now (plain_target a) (plain b))) ∷ []) ≡ 2 }
     ensures cases { design_weight (variable a ∷ input b ∷ []) (always 1 two_labels ∷ []) ≡ 66 }

@@ -12,8 +12,6 @@ use Rattle.vl_size.specs.declared.decl.Decl.{Decl}
 use Rattle.vl_size.specs.Size.{are_constant, is_constant, or_none, size}
 use Rattle.vl_size.specs.Table.{declared_as}
 use Rattle.vl_mean.specs.ConstantFaults.{capped}
-use Rattle.vl_mean.specs.FlatLaw.{flat_scopes}
-use Rattle.vl_mean.specs.Targets.{are_fixed}
 use Rattle.vl_flow_spec.specs.Weight.{access_weight, own_size, parts_weight, selects_weight, weight}
 use Rattle.vl_flow_weight.specs.declared.weighed.Weighed.{Weighed}
 use Rattle.vl_flow_weight.specs.Gates.{gates_at}
@@ -31,7 +29,7 @@ and_true false = refl
 -- what reading selects of a name weighs, but for their indices
 abbrev pub AccessOf : List Decl → List ℕ → List Select → ℕ → Type 0
 AccessOf ds text ss access =
-    access ≡ capped (access_weight (are_fixed (flat_scopes ds) (selects ss)) (declared_as ds text))
+    access ≡ capped (access_weight ds (declared_as ds text) (selects ss))
 
 abbrev pub IndicesOf : List Decl → List Select → ℕ → Type 0
 IndicesOf ds ss indices = indices ≡ capped (selects_weight ds (selects ss))
@@ -50,7 +48,7 @@ module _ (ds : List Decl) (p : Pos) (made : Weighed) where
 
   pub name_weighs : (text : List ℕ) (ss : Selects) (access indices sum : ℕ) → made.size ≡ size ds (name p text ss)
       → made.is_constant ≡ false
-      → access ≡ capped (access_weight (are_fixed (flat_scopes ds) ss) (declared_as ds text))
+      → access ≡ capped (access_weight ds (declared_as ds text) ss)
       → indices ≡ capped (selects_weight ds ss) → sum ≡ capped (access + indices)
       → ((k : ℕ) → gates_at made.gates k ≡ sum) → IsWeightOf ds (name p text ss) made
   name_weighs text ss access indices sum size constant is_access is_indices is_sum gates = record {
@@ -58,7 +56,7 @@ module _ (ds : List Decl) (p : Pos) (made : Weighed) where
     constant = constant;
     gates = λ k.
         gates k
-        ∙ two (access_weight (are_fixed (flat_scopes ds) ss) (declared_as ds text)) (selects_weight ds ss) access
+        ∙ two (access_weight ds (declared_as ds text) ss) (selects_weight ds ss) access
         indices sum is_access is_indices is_sum;
   }
 

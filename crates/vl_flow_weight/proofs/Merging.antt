@@ -11,7 +11,7 @@ use Rattle.vl_flow_spec.specs.Weight.{widths_of}
 use Rattle.fv_bit_sets.specs.declared.step.Step.{Step}
 use Rattle.fv_bit_sets.specs.Cells.{has, IsBare, IsBefore}
 use Rattle.vl_flow_cells.proofs.Lists.{get_less}
-use Rattle.vl_flow_weight.specs.Names.{AreNames}
+use Rattle.vl_flow_order.specs.Names.{AreNames}
 use Rattle.vl_flow_weight.proofs.Adding.{Sums, sum_begun, sum_done, sum_one}
 
 -- the width, where it is that of a vector

@@ -17,7 +17,9 @@ use Rattle.vl_mean.specs.Execution.{arms_size}
 use Rattle.vl_mean.specs.FlatLaw.{flat_scopes, target_size}
 use Rattle.vl_mean.specs.Scopes.{no_values, operand_in}
 use Rattle.vl_mean_flat.proofs.SameTarget.{flat_operand}
-use Rattle.vl_flow_spec.specs.Weight.{arms_assigned_names, arms_weight, assigned_names, assigned_weight, merge_weight}
+use Rattle.vl_flow_spec.specs.Assigned.{arms_assigned_names, assigned_names}
+use Rattle.vl_flow_spec.specs.Paths.{any_kind}
+use Rattle.vl_flow_spec.specs.Weight.{arms_weight, assigned_weight, merge_weight}
 use Rattle.vl_flow_spec.specs.Weight.{labels_weight, own_size, stmt_weight, target_weight, weight}
 use Rattle.std.proofs.lemmas.List.{append-nil}
 use Rattle.vl_flow_weight.specs.declared.weighed.Weighed.{Weighed}
@@ -28,7 +30,7 @@ use Rattle.vl_flow_weight.proofs.Operands.{own_bits}
 use Rattle.vl_flow_weight.specs.declared.branch.Branch.{Branch}
 use Rattle.fv_bit_sets.specs.Cells.{has}
 use Rattle.vl_flow_weight.specs.Branches.{IsBranchOf}
-use Rattle.vl_flow_weight.specs.Names.{AreNames}
+use Rattle.vl_flow_order.specs.Names.{AreNames}
 use Rattle.vl_flow_weight.proofs.Adding.{gates_capped, larger_capped}
 
 -- ---- the largest
@@ -89,11 +91,11 @@ module _ (ds : List Decl) where
   }
 
   pub else_branch : (attrs : Attributes) (p : Pos) (e : Expr) (x y : Stmt) (made : Branch)
-      → IsBranchOf ds (merge_weight ds (assigned_names x ++ assigned_names y) + weight ds (own_size ds e) e
-      + (stmt_weight ds x + stmt_weight ds y)) (assigned_names x ++ assigned_names y) made
-      → IsBranchOf ds (stmt_weight ds (if_else attrs p e x y)) (assigned_names (if_else attrs p e x y)) made
+      → IsBranchOf ds (merge_weight ds (assigned_names any_kind x ++ assigned_names any_kind y) + weight ds (own_size ds e) e
+      + (stmt_weight ds x + stmt_weight ds y)) (assigned_names any_kind x ++ assigned_names any_kind y) made
+      → IsBranchOf ds (stmt_weight ds (if_else attrs p e x y)) (assigned_names any_kind (if_else attrs p e x y)) made
   else_branch attrs p e x y made h =
-      let names = assigned_names x ++ assigned_names y in
+      let names = assigned_names any_kind x ++ assigned_names any_kind y in
       let assoc : (a b m n : ℕ) → a + b + (m + n) ≡ a + b + m + n = λ a b m n. omega arith in
       branch_as
       (merge_weight ds names + weight ds (own_size ds e) e + (stmt_weight ds x + stmt_weight ds y))
@@ -109,17 +111,17 @@ module _ (ds : List Decl) where
 
   pub case_branch : (attrs : Attributes) (p : Pos) (kind : CaseKind) (e : Expr) (xs : Arms) (bits : ℕ) (made : Branch)
       → bits ≡ max (own_size ds e) (arms_size (flat_scopes ds) xs)
-      → IsBranchOf ds (merge_weight ds (arms_assigned_names xs) + weight ds bits e + arms_weight ds bits xs)
-      (arms_assigned_names xs) made
-      → IsBranchOf ds (stmt_weight ds (case attrs p kind e xs)) (assigned_names (case attrs p kind e xs)) made
+      → IsBranchOf ds (merge_weight ds (arms_assigned_names any_kind xs) + weight ds bits e + arms_weight ds bits xs)
+      (arms_assigned_names any_kind xs) made
+      → IsBranchOf ds (stmt_weight ds (case attrs p kind e xs)) (assigned_names any_kind (case attrs p kind e xs)) made
   case_branch attrs p kind e xs bits made wide h =
-      subst (λ n. IsBranchOf ds (merge_weight ds (arms_assigned_names xs) + weight ds n e + arms_weight ds n xs)
-      (arms_assigned_names xs) made) wide h
+      subst (λ n. IsBranchOf ds (merge_weight ds (arms_assigned_names any_kind xs) + weight ds n e + arms_weight ds n xs)
+      (arms_assigned_names any_kind xs) made) wide h
 
   pub labels_branch : (p : Pos) (es : List Expr) (s : Stmt) (n : ℕ) (made : Branch)
-      → IsBranchOf ds (labels_weight ds n es + stmt_weight ds s) (assigned_names s) made
-      → IsBranchOf ds (arms_weight ds n (labels p es s no_arms)) (arms_assigned_names (labels p es s no_arms)) made
+      → IsBranchOf ds (labels_weight ds n es + stmt_weight ds s) (assigned_names any_kind s) made
+      → IsBranchOf ds (arms_weight ds n (labels p es s no_arms)) (arms_assigned_names any_kind (labels p es s no_arms)) made
   labels_branch p es s n made h =
       let none : labels_weight ds n es + stmt_weight ds s ≡ labels_weight ds n es + stmt_weight ds s + 0 = omega arith in
       branch_as (labels_weight ds n es + stmt_weight ds s) (labels_weight ds n es + stmt_weight ds s + 0)
-      (assigned_names s) (assigned_names s ++ []) made none (sym (append-nil (assigned_names s))) h
+      (assigned_names any_kind s) (assigned_names any_kind s ++ []) made none (sym (append-nil (assigned_names any_kind s))) h

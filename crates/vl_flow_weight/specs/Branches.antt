@@ -4,7 +4,7 @@ use Rattle.vl_size.specs.declared.decl.Decl.{Decl}
 use Rattle.vl_mean.specs.ConstantFaults.{capped}
 use Rattle.fv_bit_sets.specs.Cells.{has}
 use Rattle.vl_flow_weight.specs.declared.branch.Branch.{Branch}
-use Rattle.vl_flow_weight.specs.Names.{AreNames}
+use Rattle.vl_flow_order.specs.Names.{AreNames}
 
 -- they weigh so much, up to 2^64 - 1, and assign these names
 pub record IsBranchOf (ds : List Decl) (weight : ℕ) (names : List (List ℕ)) (x : Branch) : Type 0 where

@@ -1,5 +1,4 @@
 pub mod Gates
 pub mod Weighing
-pub mod Names
 pub mod Branches
 pub mod Shares

@@ -4,15 +4,12 @@ ghost use Rattle.std.specs.Option.{option_map};
 ghost use Rattle.fv_bit_sets.specs.Cells.{has};
 ghost use Rattle.vl_mean.specs.ConstantFaults.{capped};
 ghost use Rattle.vl_flow_spec.specs.Weight as spec;
-ghost use Rattle.vl_flow_weight.specs.Names.{AreNames};
+ghost use Rattle.vl_flow_order.specs.Names.{AreNames};
 
 use fv_bit_sets::Bits;
-use fv_text::{Memory, Text};
-use std::alloc::Global;
-use vl_flow_order::union_of;
+use fv_text::Memory;
 use vl_mean::widths::plus;
 use vl_size::Decls;
-use vl_tree::{Lval, LvalKind};
 
 pub(crate) fn push(sets: &mut Vec<Bits>, set: Bits) -> Result<(), Memory>
     ensures { OnOk result (sets.new.items ≡ sets.old.items ++ set ∷ []) }
@@ -21,38 +18,6 @@ pub(crate) fn push(sets: &mut Vec<Bits>, set: Bits) -> Result<(), Memory>
         return Err(Memory);
     }
     Ok(())
-}
-
-/// The name alone.
-fn name_of(alloc: Global, text: &Text, decls: &Decls) -> Result<Bits, Memory>
-    ensures { IfOk result (λ names. AreNames decls.now (text.now ∷ []) (has names)) }
-{
-    let _count = decls.len();
-    match decls.find(text) {
-        None => Ok(Bits::none(alloc)),
-        Some(place) => {
-            let first = u64::from(place);
-            Ok(Bits::of_cells(alloc, first, first + 1, 1)?)
-        }
-    }
-}
-
-/// The names that an assignment to the target assigns.
-#[cycle(names)]
-#[tactic(auto, using(vl_tree::specs::LvalFalls::parts_fall))]
-pub(crate) fn target_names(alloc: Global, target: &Lval, decls: &Decls) -> Result<Bits, Memory>
-    ensures { IfOk result (λ names. AreNames decls.now (spec.target_names target.now) (has names)) }
-{
-    match &target.kind {
-        LvalKind::Name(text, _) => Ok(name_of(alloc, text, decls)?),
-        LvalKind::Concat(parts) => {
-            let mut sets = Vec::new(alloc);
-            for part in parts.as_slice() {
-                push(&mut sets, target_names(alloc, part, decls)?)?;
-            }
-            Ok(union_of(alloc, sets.as_slice())?)
-        }
-    }
 }
 
 /// The width of the name at a place, where it is that of a vector; None past the last name.

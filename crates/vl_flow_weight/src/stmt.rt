@@ -1,4 +1,6 @@
 ghost use Rattle.std.specs.Prelude.{IfOk};
+ghost use Rattle.vl_flow_spec.specs.Assigned as assigns;
+ghost use Rattle.vl_flow_spec.specs.Paths.{any_kind};
 ghost use Rattle.vl_flow_spec.specs.Weight as spec;
 ghost use Rattle.vl_tree.specs.Stmt as s;
 ghost use Rattle.vl_tree.specs.StmtView.{arms, with_arm};
@@ -8,11 +10,11 @@ use crate::assigned::assigned_weight;
 use crate::branch::Branch;
 use crate::expr::weigh;
 use crate::labels::{arms_bits, labels_weight};
-use crate::names::{push, target_names};
+use crate::names::push;
 use crate::weighed::bits_of;
 use fv_text::Memory;
 use std::alloc::Global;
-use vl_flow_order::union_of;
+use vl_flow_order::{target_names, union_of};
 use vl_mean::Env;
 use vl_mean::widths::plus;
 use vl_size::Decls;
@@ -26,7 +28,7 @@ fn assign_branch(
     bare: &Env,
 ) -> Result<Branch, Memory>
     ensures { IfOk result (IsBranchOf decls.now (spec.assigned_weight decls.now target.now expr.now)
-        (spec.target_names target.now)) }
+        (assigns.target_names target.now)) }
 {
     let weight = assigned_weight(target, expr, decls, bare);
     let names = target_names(alloc, target, decls)?;
@@ -43,7 +45,7 @@ pub(crate) fn stmt_branch(
     bare: &Env,
 ) -> Result<Branch, Memory>
     ensures { IfOk result (IsBranchOf decls.now (spec.stmt_weight decls.now stmt.now)
-        (spec.assigned_names stmt.now)) }
+        (assigns.assigned_names any_kind stmt.now)) }
 {
     match &stmt.kind {
         StmtKind::Begin(_, all) => Ok(sequence_branch(alloc, all.as_slice(), decls, bare)?),
@@ -77,7 +79,7 @@ pub(crate) fn stmt_branch(
 #[cycle(branch)]
 fn sequence_branch(alloc: Global, all: &[Stmt], decls: &Decls, bare: &Env) -> Result<Branch, Memory>
     ensures { IfOk result (IsBranchOf decls.now (spec.stmts_weight decls.now (s.stmts all.now))
-        (spec.all_assigned_names (s.stmts all.now))) }
+        (assigns.all_assigned_names any_kind (s.stmts all.now))) }
 {
     let mut weight = 0;
     let mut sets = Vec::new(alloc);
@@ -100,7 +102,7 @@ fn arms_branch(
     bare: &Env,
 ) -> Result<Branch, Memory>
     ensures { IfOk result (IsBranchOf decls.now (spec.arms_weight decls.now bits (arms all.now))
-        (spec.arms_assigned_names (arms all.now))) }
+        (assigns.arms_assigned_names any_kind (arms all.now))) }
 {
     let mut weight = 0;
     let mut sets = Vec::new(alloc);
@@ -122,7 +124,7 @@ fn arm_branch(
     bare: &Env,
 ) -> Result<Branch, Memory>
     ensures { IfOk result (IsBranchOf decls.now (spec.arms_weight decls.now bits (with_arm arm.now s.no_arms))
-        (spec.arms_assigned_names (with_arm arm.now s.no_arms))) }
+        (assigns.arms_assigned_names any_kind (with_arm arm.now s.no_arms))) }
 {
     match arm {
         Arm::Labels(_, labels, stmt) => {

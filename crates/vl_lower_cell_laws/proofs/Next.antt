@@ -206,7 +206,8 @@ module _ (ds : List Decl) (drivers : List Driver) (firsts : List Start) (s : Lis
           ≡ bit_of (ended (exec (flat_scopes ds) z (begun v)) n) i
       by true now =
           stored_now ds wide n i z is
-          (one_way ds drivers (nothing (mixed ds drivers) none.pure) j x z e what d n i of below t now) v m h
+          (one_way ds (held.cells ds drivers firsts shaped different apart lawful none s order) drivers
+          (nothing (mixed ds drivers) none.pure) j x z e what is n i now) v m h
       by false later = stored_later ds wide n i z is later v m h
 
   ticks : (j : ℕ) (x : Driver) → slice_get drivers j ≡ Some x → IsDriver ds x.what → (y : DriverKind) → x.what ≡ y

@@ -3,7 +3,7 @@ use Rattle.std.specs.Prelude.{All}
 use Rattle.vl_mean.specs.declared.driver.Driver.{Driver}
 use Rattle.vl_mean.specs.FlatLaw.{IsDriver}
 use Rattle.vl_flow.specs.Analyses.{AreSetsOf}
-use Rattle.vl_flow.proofs.Analysing.{footprints_of}
+use Rattle.vl_flow.proofs.Analysing.{footprints_of, theirs}
 use Rattle.vl_flow.proofs.analysis.analyzed.Goals as goal
 
 pub returns : goal.returns
@@ -19,8 +19,7 @@ returns c =
         footprints = footprints_of ds c.in_ok-groups.groups c.in_ok-sets.sets.footprints drivers lawful.driven
             c.in_ok-groups.ensures sets.footprints_are;
         all = c.in_ok-all.ensures;
+        assigned = theirs ds c.in_ok-sets.sets.assigned drivers sets.assigned_are;
       };
       latched_are = sets.latched_are;
-      blocking_are = sets.blocking_are;
-      nonblocking_are = sets.nonblocking_are;
     }

@@ -11,7 +11,7 @@ use Rattle.vl_flow.proofs.drivers.sets_of.Goals as goal
 
 pub loop-driver-init : goal.loop-driver-init
 loop-driver-init c driven =
-    no_uses c.args.decls.now _ c.new.ensures c.new-2.ensures c.new-3.ensures c.new-4.ensures
+    no_uses c.args.decls.now _ c.new.ensures c.new-2.ensures c.new-3.ensures
 
 pub loop-driver-preserved : goal.loop-driver-preserved
 loop-driver-preserved c driven =

@@ -1,7 +1,6 @@
 use Rattle.std.proofs.Common.{◌≡◌, ◌∙◌, List, None, Some, rules, subst, sym}
-use Rattle.std.specs.Prelude.{true, false}
 use Rattle.fv_bit_sets.specs.declared.step.Step.{Step}
-use Rattle.vl_flow_spec.specs.Refusals.{changed_by, latched_by}
+use Rattle.vl_flow_spec.specs.Refusals.{latched_by}
 use Rattle.vl_flow_check.specs.Rows.{AreSets}
 use Rattle.vl_flow.proofs.Judging.{by_latch, by_mixed, by_shared, by_two, by_undriven}
 use Rattle.vl_flow.proofs.later.later_fault.Goals as goal
@@ -12,27 +11,6 @@ latch-requires-clause-sets c =
     let slice : c.as_slice.result.now ≡ c.args.analysis.now.latched = search rules in
     subst (λ (xs : List (List Step)). AreSets ds (latched_by ds) xs c.args.drivers.now) (sym slice)
     c.requires.analysis.latched_are
-
-pub blocking_shared-requires-clause-sets : goal.blocking_shared-requires-clause-sets
-blocking_shared-requires-clause-sets c =
-    let ds = c.args.decls.now in
-    let slice : c.as_slice-blocking.result.now ≡ c.args.analysis.now.blocking = search rules in
-    subst (λ (xs : List (List Step)). AreSets ds (λ x. changed_by ds x true) xs c.args.drivers.now) (sym slice)
-    c.requires.analysis.blocking_are
-
-pub mixed-requires-clause-blocking : goal.mixed-requires-clause-blocking
-mixed-requires-clause-blocking c =
-    let ds = c.args.decls.now in
-    let slice : c.as_slice-blocking.result.now ≡ c.args.analysis.now.blocking = search rules in
-    subst (λ (xs : List (List Step)). AreSets ds (λ x. changed_by ds x true) xs c.args.drivers.now) (sym slice)
-    c.requires.analysis.blocking_are
-
-pub mixed-requires-clause-nonblocking : goal.mixed-requires-clause-nonblocking
-mixed-requires-clause-nonblocking c =
-    let ds = c.args.decls.now in
-    let slice : c.as_slice-nonblocking.result.now ≡ c.args.analysis.now.nonblocking = search rules in
-    subst (λ (xs : List (List Step)). AreSets ds (λ x. changed_by ds x false) xs c.args.drivers.now) (sym slice)
-    c.requires.analysis.nonblocking_are
 
 pub returns-in-Some : goal.returns-in-Some
 returns-in-Some c =

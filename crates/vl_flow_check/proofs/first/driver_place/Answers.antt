@@ -7,40 +7,39 @@ use Rattle.vl_flow_check.proofs.first.driver_place.Goals as goal
 pub back-init : goal.back-init
 back-init c = record {
   within = omega arith;
-  found = λ ds place d w at span. none_behind ds c.args.drivers.now d (length c.args.drivers.now) (omega arith);
+  found = λ ds d w at. none_behind c.args.drivers.now d (length c.args.drivers.now) (omega arith);
 }
 
 pub back-preserved : goal.back-preserved
 back-preserved c =
     let drivers = c.args.drivers.now in
-    let fs = c.as_slice-footprints.result.now in
+    let all = c.as_slice-assigned.result.now in
     let rest = c.back.rest - 1 in
-    let size : length fs ≡ length drivers = ap length c.as_slice-footprints.ensures ∙ c.requires in
+    let size : length all ≡ length drivers = ap length c.as_slice-assigned.ensures ∙ c.requires in
     let less : rest < length drivers = omega (arith, c.back-test.true, c.back.invariant.within) in
     let next : c.back.rest ≡ rest + 1 = omega (arith, c.back-test.true) in
     let x = c.index-drivers-rest.result in
-    let f = c.index-footprints-rest.result in
+    let a = c.index-assigned-rest.result in
     let driver : slice_get drivers rest ≡ Some x =
     slice_get_read drivers (length drivers) rest x refl less c.index-drivers-rest.is in
-    let set : slice_get c.args.layout.now.footprints rest ≡ Some f =
-    ap (λ xs. slice_get xs rest) (sym c.as_slice-footprints.ensures)
-    ∙ slice_get_read fs (length fs) rest f refl (omega (arith, less, size)) c.index-footprints-rest.is in record {
+    let theirs : slice_get c.args.layout.now.assigned rest ≡ Some a =
+    ap (λ xs. slice_get xs rest) (sym c.as_slice-assigned.ensures)
+    ∙ slice_get_read all (length all) rest a refl (omega (arith, less, size)) c.index-assigned-rest.is in record {
       within = omega (arith, c.back.invariant.within);
-      found = λ ds place d w at span.
-          one_before ds drivers d rest x c.place_if-one.result c.back.found c.earlier_place-found.result driver
-          (c.place_if-one.ensures ds place d w.all (w.footprints.each rest f x set driver) at span)
-          (subst (λ k. c.back.found ≡ place_of ds (drop k drivers) d) next
-          (c.back.invariant.found ds place d w at span)) c.earlier_place-found.ensures;
+      found = λ ds d w at.
+          one_before drivers d rest x c.place_if-one.result c.back.found c.earlier_place-found.result driver
+          (c.place_if-one.ensures ds d (w.assigned.each rest a x theirs driver) at)
+          (subst (λ k. c.back.found ≡ place_of (drop k drivers) d) next (c.back.invariant.found ds d w at))
+          c.earlier_place-found.ensures;
     }
 
 pub returns : goal.returns
-returns c ds place d w at span =
+returns c ds d w at =
     let zero : c.back.rest ≡ 0 = omega (arith, c.back-test.false) in
-    subst (λ k. c.back.found ≡ place_of ds (drop k c.args.drivers.now) d) zero
-    (c.back.invariant.found ds place d w at span)
+    subst (λ k. c.back.found ≡ place_of (drop k c.args.drivers.now) d) zero (c.back.invariant.found ds d w at)
 
-pub bounds-footprints-rest : goal.bounds-footprints-rest
-bounds-footprints-rest c =
-    let size : length c.as_slice-footprints.result.now ≡ length c.args.drivers.now =
-    ap length c.as_slice-footprints.ensures ∙ c.requires in
+pub bounds-assigned-rest : goal.bounds-assigned-rest
+bounds-assigned-rest c =
+    let size : length c.as_slice-assigned.result.now ≡ length c.args.drivers.now =
+    ap length c.as_slice-assigned.ensures ∙ c.requires in
     omega (arith, size, c.back-test.true, c.back.invariant.within)

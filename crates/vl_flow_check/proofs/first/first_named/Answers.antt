@@ -51,7 +51,7 @@ loop-next-preserved c =
     let next = c.first_from-next-in-Some in record {
       passed = more_passed ds drivers marked place next.result
           (subst (ArePassed ds drivers marked) here c.loop-next.invariant.passed)
-          (λ d at. no_name d.name (place_of ds drivers d) c.in_ok-found.found (c.in_ok-found.ensures d at)
+          (λ d at. no_name d.name (place_of drivers d) c.in_ok-found.found (c.in_ok-found.ensures d at)
           (sym c.is_some.ensures ∙ c.if-is_some.false)) next.ensures.first;
       marked = next_marked ds drivers marked (place + 1) next.result c.requires.marked.1.alone next.ensures.found;
     }

@@ -1,20 +1,17 @@
-use Rattle.std.proofs.Common.{refl}
-use Rattle.vl_flow_check.proofs.Firsts.{meets_name, misses_name, none_if, some_if}
-use Rattle.vl_flow_spec.specs.Refusals.{has_bit}
-use Rattle.vl_flow_spec.specs.Drivers.{driven_by}
+use Rattle.std.proofs.Common.{◌∙◌, sym}
+use Rattle.vl_flow_check.proofs.Firsts.{none_if, some_if, whether}
+use Rattle.vl_flow_spec.specs.Paths.{any_kind}
+use Rattle.vl_flow_spec.specs.Refusals.{assigns_to}
 use Rattle.vl_flow_check.proofs.first.place_if.Goals as goal
 
-pub returns-then-meets : goal.returns-then-meets
-returns-then-meets c ds place d whole is at span =
+pub returns-then-is_assigned : goal.returns-then-is_assigned
+returns-then-is_assigned c ds d is at =
     let x = c.args.driver.now in
-    let found = c.if-meets.ensures.some refl in
-    some_if (has_bit (driven_by ds x.what) d) x.pos
-    (meets_name ds x c.args.footprint.now c.args.all.now place d c.args.span is whole at span found.0 found.1 found.2
-    found.3 found.4 found.5)
+    some_if (assigns_to any_kind x.what d) x.pos
+    (sym (whether ds x c.args.assigned.now c.args.place d is at) ∙ sym c.if-is_assigned.ensures)
 
 pub returns : goal.returns
-returns c ds place d whole is at span =
+returns c ds d is at =
     let x = c.args.driver.now in
-    none_if (has_bit (driven_by ds x.what) d) x.pos
-    (misses_name ds x c.args.footprint.now c.args.all.now place d c.args.span is whole at span
-    (c.if-meets.ensures.none refl))
+    none_if (assigns_to any_kind x.what d) x.pos
+    (sym (whether ds x c.args.assigned.now c.args.place d is at) ∙ sym c.if-is_assigned.ensures)

@@ -1,10 +1,13 @@
-use Rattle.vl_flow_check.proofs.NameMarks.{marks_if, no_marks_if}
+use Rattle.std.proofs.Common.{◌∙◌, ◌&&◌, ap, sym}
+use Rattle.fv_bit_sets.specs.Cells.{has}
+use Rattle.vl_flow_effects.specs.Assigning.{set_of}
 use Rattle.vl_flow_check.proofs.rows.row_of.Goals as goal
 
 pub returns-then-counts : goal.returns-then-counts
-returns-then-counts c ds drivers K w shows =
-    marks_if ds c.in_ok-names.field-0 K c.args.counts c.if-counts.true (c.in_ok-names.ensures ds drivers K w shows)
+returns-then-counts c x i =
+    c.in_ok-names_by.ensures x i
+    ∙ ap (λ b. b && has (set_of c.args.assigned.now c.args.kind) x i) (sym c.if-counts.true)
 
 pub returns : goal.returns
-returns c ds drivers K w shows =
-    no_marks_if ds c.none.result K c.args.counts c.if-counts.false c.none.ensures
+returns c x i =
+    c.none.ensures x i ∙ ap (λ b. b && has (set_of c.args.assigned.now c.args.kind) x i) (sym c.if-counts.false)

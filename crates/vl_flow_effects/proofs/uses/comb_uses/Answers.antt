@@ -3,13 +3,12 @@ use Rattle.vl_flow_effects.proofs.BothKinds.{all_drives, latches}
 use Rattle.vl_flow_effects.proofs.uses.comb_uses.Goals as goal
 
 pub returns : goal.returns
-returns c ds s h =
+returns c ds s h are =
     let e = c.args.effect in
     let drives = all_drives ds s e c.in_ok-drives.drives c.in_ok-drives.ensures h in record {
       clocked = refl;
       needs = h.needs;
       drives = drives;
       latched = latches ds s e c.in_ok-drives.drives c.in_ok-latched.latched c.in_ok-latched.ensures drives h;
-      blocking = h.blocking;
-      nonblocking = h.nonblocking;
+      assigned = record { blocking = are.blocking; nonblocking = are.nonblocking };
     }

@@ -15,5 +15,6 @@ returns c = (
   c.in_ok-numbers.numbers,
   c.in_ok-numbers.ensures.turned,
   c.in_ok-numbers.ensures.closed,
+  c.in_ok-numbers.ensures.once,
   c.in_ok-places_of.ensures ∙ ap (λ ns. places (numbered c.args.drivers.now ns)) c.as_slice.ensures,
 )

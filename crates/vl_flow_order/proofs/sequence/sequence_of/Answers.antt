@@ -1,5 +1,5 @@
 use Rattle.std.proofs.Common.{◌∙◌, ◌<◌, ap, length, subst, sym}
-use Rattle.fv_graph.specs.Graph.{IsCircle}
+use Rattle.fv_graph.specs.Graph.{IsSimpleCircle}
 use Rattle.fv_graph.specs.Walked.{ComesOf}
 use Rattle.vl_flow_order.specs.Reads.{IsReadingGraph}
 use Rattle.vl_flow_order.specs.Numbers.{AreNumbers, settled_of}
@@ -37,9 +37,9 @@ loop_of-requires c =
     let circle = c.in-Circle.circle in
     let graph = subst (IsReadingGraph groups fs) (sym c.as_slice.ensures.value) c.in_ok-graph.ensures in
     let o = subst (ComesOf h) c.in-Circle.is c.in_ok-order.ensures in record {
-      some = subst (λ xs. 0 < length xs) (sym c.as_slice-in-Circle.ensures) (circle_some h circle o);
+      some = subst (λ xs. 0 < length xs) (sym c.as_slice-in-Circle.ensures) (circle_some h circle o.0);
       known = subst (AreNumbers (length c.args.drivers.now)) (sym c.as_slice-in-Circle.ensures)
-          (subst (λ n. AreNumbers n circle) c.requires.size (circle_numbers groups fs h circle graph o));
+          (subst (λ n. AreNumbers n circle) c.requires.size (circle_numbers groups fs h circle graph o.0));
     }
 
 pub returns-in-Order : goal.returns-in-Order
@@ -64,4 +64,4 @@ returns c ds w =
     let o = subst (ComesOf h) c.in-Circle.is c.in_ok-order.ensures in
     let r = c.in_ok-loop_of-in-Circle.ensures in
     found_loop ds groups fs c.args.drivers.now w h graph circle r.0 c.in_ok-loop_of-in-Circle.field-0
-    (subst (IsCircle h) (sym c.as_slice-in-Circle.ensures) o) r.1 r.2 r.3 c.requires.size
+    (subst (IsSimpleCircle h) (sym c.as_slice-in-Circle.ensures) o) r.1 r.2 r.3 r.4 c.requires.size

@@ -3,7 +3,7 @@ use Rattle.std.specs.Prelude.{true}
 use Rattle.vl_flow_spec.specs.Weight.{widths_of}
 use Rattle.fv_bit_sets.specs.Cells.{has}
 use Rattle.vl_flow_order.proofs.Visiting.{ahead}
-use Rattle.vl_flow_weight.specs.Names.{AreNames}
+use Rattle.vl_flow_order.specs.Names.{AreNames}
 use Rattle.vl_flow_weight.proofs.Adding.{Sums}
 use Rattle.vl_flow_weight.proofs.Merging.{from_next}
 use Rattle.vl_flow_weight.proofs.names.merge_weight.Given as goal

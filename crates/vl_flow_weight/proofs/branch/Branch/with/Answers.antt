@@ -1,6 +1,6 @@
 use Rattle.fv_bit_sets.specs.Cells.{has}
 use Rattle.vl_flow_weight.proofs.Sums.{two}
-use Rattle.vl_flow_weight.proofs.Naming.{both_named}
+use Rattle.vl_flow_order.proofs.Naming.{both_named}
 use Rattle.vl_flow_weight.proofs.branch.Branch.with.Goals as goal
 
 pub returns : goal.returns

@@ -1,5 +1,5 @@
 use Rattle.fv_bit_sets.specs.Cells.{has}
-use Rattle.vl_flow_weight.proofs.Naming.{none_named}
+use Rattle.vl_flow_order.proofs.Naming.{none_named}
 use Rattle.vl_flow_weight.proofs.branch.Branch.without_names.Goals as goal
 
 pub returns : goal.returns

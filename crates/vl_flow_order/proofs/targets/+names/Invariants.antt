@@ -1,9 +1,9 @@
 use Rattle.std.proofs.Common.{take}
 use Rattle.vl_tree.specs.Lval.{lvals}
-use Rattle.vl_flow_spec.specs.Weight.{all_target_names}
+use Rattle.vl_flow_spec.specs.Assigned.{all_target_names}
 use Rattle.vl_flow_order.specs.Sets.{some_has}
-use Rattle.vl_flow_weight.specs.Names.{AreNames}
-use Rattle.vl_flow_weight.proofs.names.+names.Given as goal
+use Rattle.vl_flow_order.specs.Names.{AreNames}
+use Rattle.vl_flow_order.proofs.targets.+names.Given as goal
 
 abbrev pub invariant-loop-part : goal.invariant-loop-part
 invariant-loop-part l =

@@ -7,38 +7,34 @@ use Rattle.std.proofs.lemmas.List.{append_assoc, append-nil}
 use Rattle.std.proofs.lemmas.Slice.Eq.{bytes_eq-Decides}
 use Rattle.vl_tree.specs.declared.stmt.Arm.{Arm}
 use Rattle.vl_tree.specs.declared.stmt.Arm.TheVariants as a
+use Rattle.vl_tree.specs.declared.stmt.AssignKind.{AssignKind}
 use Rattle.vl_tree.specs.Lval.{Lval, lvals}
 use Rattle.vl_tree.specs.Stmt.{Stmt, stmts, no_arms}
 use Rattle.vl_tree.specs.StmtView.{arms, with_arm}
 use Rattle.vl_size.specs.declared.decl.Decl.{Decl}
 use Rattle.vl_size.specs.Table.{AreDifferent, declared_as, place}
 use Rattle.vl_mean.specs.Cells.{contains_name}
-use Rattle.vl_flow_spec.specs.Weight.{all_assigned_names, all_target_names, arms_assigned_names, assigned_names}
-use Rattle.vl_flow_spec.specs.Weight.{target_names}
+use Rattle.vl_flow_spec.specs.Assigned.{all_assigned_names, all_target_names, arms_assigned_names, assigned_names}
+use Rattle.vl_flow_spec.specs.Assigned.{target_names}
 use Rattle.fv_bit_sets.specs.declared.step.Step.{Step}
 use Rattle.fv_bit_sets.specs.Cells.{has}
-use Rattle.vl_flow_spec.proofs.Bools.{none_of}
+use Rattle.vl_flow_spec.proofs.Bools.{none_of, or_case}
+use Rattle.vl_flow_spec.proofs.Kinds.{contains_both}
 use Rattle.vl_flow_spec.proofs.Same.{declared_name}
 use Rattle.vl_flow_order.specs.Named.{IsMark}
 use Rattle.vl_flow_order.specs.Sets.{some_has}
 use Rattle.vl_flow_order.proofs.Halves.{some_append}
-use Rattle.vl_flow_order.proofs.Tests.{or_assoc, or_none}
+use Rattle.vl_flow_order.proofs.Tests.{or_none}
 use Rattle.vl_flow_cells.proofs.Lists.{declared_own, one_place}
 use Rattle.vl_flow_cells.proofs.Ranges.{same_test}
-use Rattle.vl_flow_cells.proofs.Taking.{place_none, place_some}
-use Rattle.vl_flow_weight.specs.Names.{AreNames}
-
-pub contains_both : (xs ys : List (List ℕ)) (n : List ℕ)
-    → contains_name (xs ++ ys) n ≡ (contains_name xs n || contains_name ys n)
-contains_both [] ys n = refl
-contains_both (x ∷ xs) ys n =
-    ap (λ b. bytes_eq n x || b) (contains_both xs ys n)
-    ∙ sym (or_assoc (bytes_eq n x) (contains_name xs n) (contains_name ys n))
+use Rattle.vl_flow_cells.proofs.Taking.{place_less, place_none, place_some}
+use Rattle.vl_flow_order.specs.Names.{AreNames}
 
 module _ (ds : List Decl) where
   pub none_named : (marks : ℕ → ℕ → Bool) → ((c i : ℕ) → marks c i ≡ false) → AreNames ds [] marks
   none_named marks h = record {
     is = λ p d at. h p 0;
+    known = λ p e. absurd (true≢false (sym e ∙ h p 0));
     alone = λ p b less. h p b;
   }
 
@@ -48,6 +44,7 @@ module _ (ds : List Decl) where
   both_named xs ys first second made is g h = record {
     is = λ p d at.
         is p 0 ∙ (λ i. g.is p d at i || h.is p d at i) ∙ sym (contains_both xs ys d.name);
+    known = λ p e. or_case (first p 0) (second p 0) (g.known p) (h.known p) (sym (is p 0) ∙ e);
     alone = λ p b less. is p b ∙ (λ i. g.alone p b less i || h.alone p b less i);
   }
 
@@ -55,6 +52,7 @@ module _ (ds : List Decl) where
       → AreNames ds xs first → AreNames ds xs made
   same_named xs first made is g = record {
     is = λ p d at. is p 0 ∙ g.is p d at;
+    known = λ p e. g.known p (sym (is p 0) ∙ e);
     alone = λ p b less. is p b ∙ g.alone p b less;
   }
 
@@ -70,6 +68,7 @@ module _ (ds : List Decl) where
         let same : d.name ≡ text = (bytes_eq-Decides d.name text).0 t in
         let here : declared_as ds text ≡ Some d = ap (declared_as ds) (sym same) ∙ declared_own ds different p d at in
         absurd (true≢false (ap is_none (sym (place_none ds text h) ∙ here)))));
+    known = λ p e. absurd (true≢false (sym e ∙ bare p 0));
     alone = λ p b less. bare p b;
   }
 
@@ -79,6 +78,10 @@ module _ (ds : List Decl) where
     is = λ p d here. mark p 0 ∙ first (p == at)
         ∙ same_test (p == at) (bytes_eq d.name text) (to p d here) (from p d here)
         ∙ sym (lone text d.name);
+    known = λ p e.
+        let here : (p == at) ≡ true = sym (first (p == at)) ∙ sym (mark p 0) ∙ e in
+        let same : p ≡ at = grind (arith, nat_tests, here) in
+        let less = place_less ds text at h in omega (arith, same, less);
     alone = λ p b less. mark p b ∙ none (p == at) (b == 0) (grind (arith, nat_tests, less));
   }
     where
@@ -128,22 +131,23 @@ targets_behind (x ∷ ls) l =
     ap (λ ns. target_names x ++ ns) (targets_behind ls l)
     ∙ sym (append_assoc (target_names x) (all_target_names (lvals ls)) (target_names l))
 
-pub stmts_behind : (xs : List Stmt) (x : Stmt)
-    → all_assigned_names (stmts (xs ++ x ∷ [])) ≡ all_assigned_names (stmts xs) ++ assigned_names x
-stmts_behind [] x = append-nil (assigned_names x)
-stmts_behind (y ∷ xs) x =
-    ap (λ ns. assigned_names y ++ ns) (stmts_behind xs x)
-    ∙ sym (append_assoc (assigned_names y) (all_assigned_names (stmts xs)) (assigned_names x))
+module _ (counts : AssignKind → Bool) where
+  pub stmts_behind : (xs : List Stmt) (x : Stmt)
+      → all_assigned_names counts (stmts (xs ++ x ∷ [])) ≡ all_assigned_names counts (stmts xs) ++ assigned_names counts x
+  stmts_behind [] x = append-nil (assigned_names counts x)
+  stmts_behind (y ∷ xs) x =
+      ap (λ ns. assigned_names counts y ++ ns) (stmts_behind xs x)
+      ∙ sym (append_assoc (assigned_names counts y) (all_assigned_names counts (stmts xs)) (assigned_names counts x))
 
-pub arms_behind : (xs : List Arm) (x : Arm)
-    → arms_assigned_names (arms (xs ++ x ∷ []))
-    ≡ arms_assigned_names (arms xs) ++ arms_assigned_names (with_arm x no_arms)
-arms_behind [] x = refl
-arms_behind (a.Labels p es s ∷ xs) x =
-    ap (λ ns. assigned_names s.value ++ ns) (arms_behind xs x)
-    ∙ sym (append_assoc (assigned_names s.value) (arms_assigned_names (arms xs))
-    (arms_assigned_names (with_arm x no_arms)))
-arms_behind (a.Default p colon s ∷ xs) x =
-    ap (λ ns. assigned_names s.value ++ ns) (arms_behind xs x)
-    ∙ sym (append_assoc (assigned_names s.value) (arms_assigned_names (arms xs))
-    (arms_assigned_names (with_arm x no_arms)))
+  pub arms_behind : (xs : List Arm) (x : Arm)
+      → arms_assigned_names counts (arms (xs ++ x ∷ []))
+      ≡ arms_assigned_names counts (arms xs) ++ arms_assigned_names counts (with_arm x no_arms)
+  arms_behind [] x = refl
+  arms_behind (a.Labels p es s ∷ xs) x =
+      ap (λ ns. assigned_names counts s.value ++ ns) (arms_behind xs x)
+      ∙ sym (append_assoc (assigned_names counts s.value) (arms_assigned_names counts (arms xs))
+      (arms_assigned_names counts (with_arm x no_arms)))
+  arms_behind (a.Default p colon s ∷ xs) x =
+      ap (λ ns. assigned_names counts s.value ++ ns) (arms_behind xs x)
+      ∙ sym (append_assoc (assigned_names counts s.value) (arms_assigned_names counts (arms xs))
+      (arms_assigned_names counts (with_arm x no_arms)))

@@ -1,7 +1,7 @@
 use Rattle.std.proofs.Common.{◌∙◌, sym}
 use Rattle.vl_flow_order.proofs.Marks.{mark_is}
-use Rattle.vl_flow_weight.proofs.Naming.{one_named, unknown_named}
-use Rattle.vl_flow_weight.proofs.names.name_of.Goals as goal
+use Rattle.vl_flow_order.proofs.Naming.{one_named, unknown_named}
+use Rattle.vl_flow_order.proofs.targets.name_of.Goals as goal
 
 pub returns-in-None : goal.returns-in-None
 returns-in-None c =

@@ -4,11 +4,11 @@ use Rattle.std.proofs.lemmas.List.{take_all}
 use Rattle.vl_tree.specs.Lval.{joined, lvals}
 use Rattle.vl_tree.specs.LvalView.{shown}
 use Rattle.fv_bit_sets.specs.Cells.{has}
-use Rattle.vl_flow_spec.specs.Weight.{all_target_names, target_names}
+use Rattle.vl_flow_spec.specs.Assigned.{all_target_names, target_names}
 use Rattle.vl_flow_order.specs.Sets.{some_has}
-use Rattle.vl_flow_weight.specs.Names.{AreNames}
-use Rattle.vl_flow_weight.proofs.Naming.{no_sets_named, same_named, set_behind, targets_behind}
-use Rattle.vl_flow_weight.proofs.names.+names.Goals as goal
+use Rattle.vl_flow_order.specs.Names.{AreNames}
+use Rattle.vl_flow_order.proofs.Naming.{no_sets_named, same_named, set_behind, targets_behind}
+use Rattle.vl_flow_order.proofs.targets.+names.Goals as goal
 
 pub loop-part-init : goal.loop-part-init
 loop-part-init t c = no_sets_named c.args.decls.now c.new-sets.result.items c.new-sets.ensures.items
@@ -21,7 +21,7 @@ loop-part-preserved t c =
     let l = c.part-item.result in
     let more : take (i + 1) xs ≡ take i xs ++ l ∷ [] = grind (arith, common_steps) in
     set_behind ds (all_target_names (lvals (take i xs))) (target_names l) (all_target_names (lvals (take (i + 1) xs)))
-    c.loop-part.sets.items c.push.new.sets.items c.in_ok-target_names-in-Concat.field-0 c.in_ok-push-in-Concat.ensures
+    c.loop-part.sets.items c.push.new.marks.items c.in_ok-target_names-in-Concat.field-0 c.in_ok-push-in-Concat.ensures
     (ap (λ ys. all_target_names (lvals ys)) more ∙ targets_behind (take i xs) l) c.loop-part.invariant
     c.in_ok-target_names-in-Concat.ensures
 
