@@ -22,7 +22,8 @@ pub enum FlowFault {
     /// 5. A blocking assignment of a clocked block to a name of which a bit is read outside of the block.
     #[error("a blocking assignment of {0:?}, which others read, at {1:?}")]
     BlockingShared(Text, Pos),
-    /// 6. Blocking and nonblocking assignments to one name, whatever they reach of it, or a nonblocking one in a combinational block.
+    /// 6. Blocking and nonblocking assignments to one name, whatever they reach of it, or a nonblocking one in a
+    /// combinational block.
     #[error("blocking and nonblocking assignments of {0:?} at {1:?}")]
     Mixed(Text, Pos),
     #[error("no memory is left")]

@@ -15,7 +15,7 @@ use Rattle.fv_bit_sets.specs.declared.step.Step.{Step}
 use Rattle.fv_bit_sets.specs.Cells.{has, IsBare, IsBefore}
 use Rattle.vl_flow_spec.specs.Paths.{any_kind, is_blocking, is_nonblocking}
 use Rattle.vl_flow_spec.specs.Refusals.{assigns_to, first_of_names, named_if, place_of, with_name}
-use Rattle.vl_flow_spec.proofs.Kinds.{either_kind}
+use Rattle.vl_flow_spec.proofs.AssignKinds.{either_kind}
 use Rattle.vl_flow_effects.specs.declared.assigned.Assigned.{Assigned}
 use Rattle.vl_flow_effects.specs.Assigning.{AreAssignedBy}
 use Rattle.vl_flow_cells.proofs.Lists.{get_less}

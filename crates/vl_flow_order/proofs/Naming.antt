@@ -19,7 +19,7 @@ use Rattle.vl_flow_spec.specs.Assigned.{target_names}
 use Rattle.fv_bit_sets.specs.declared.step.Step.{Step}
 use Rattle.fv_bit_sets.specs.Cells.{has}
 use Rattle.vl_flow_spec.proofs.Bools.{none_of, or_case}
-use Rattle.vl_flow_spec.proofs.Kinds.{contains_both}
+use Rattle.vl_flow_spec.proofs.AssignKinds.{contains_both}
 use Rattle.vl_flow_spec.proofs.Same.{declared_name}
 use Rattle.vl_flow_order.specs.Named.{IsMark}
 use Rattle.vl_flow_order.specs.Sets.{some_has}

@@ -1,26 +1,26 @@
 -- Targets, values and tests over maps that have bits in common.
-use Rattle.std.specs.Prelude.{◌≡◌, refl, ℕ, ◌<◌, ◌≤◌, ◌^◌, max, List, [], ◌∷◌, ◌++◌, length, Bool, true, false, ◌&&◌}
-use Rattle.std.specs.Prelude.{◌||◌, ◌==◌, not, bit_or, is_none, nat_abs, Option, Some, None, IsSome, ℤ, pos, All}
+use Rattle.std.specs.Prelude.{◌≡◌, refl, ℕ, ◌<◌, ◌≤◌, max, List, [], ◌∷◌, ◌++◌, length, Bool, true, false, ◌&&◌}
+use Rattle.std.specs.Prelude.{◌||◌, ◌==◌, bit_or, is_none, nat_abs, Option, Some, None, IsSome, All}
 use Rattle.std.specs.Prelude.{if◌then◌else◌}
-use Rattle.std.proofs.Common.{ap, sym, ◌∙◌, subst, true≢false}
+use Rattle.std.proofs.Common.{sym, ◌∙◌}
 use Rattle.std.proofs.lemmas.List.Elements.{All-head, All-tail}
 use Rattle.vl_tree.specs.declared.stmt.CaseKind.{CaseKind}
-use Rattle.vl_tree.specs.Expr.{Expr, Selects, name, whole, bit, part, indexed}
+use Rattle.vl_tree.specs.Expr.{Expr, Selects, whole, bit, part, indexed}
 use Rattle.vl_tree.specs.Lval.{Lval, Lvals, named, joined, no_lvals, more_lvals}
 use Rattle.vl_size.specs.declared.context.Context.{Context}
 use Rattle.vl_size.specs.declared.decl.Decl.{Decl}
 use Rattle.vl_size.specs.Sign.{sign}
-use Rattle.vl_size.specs.Size.{◌>>=◌, Values, Operand, cells_in, operand, own, is_true, index_of, is_constant, no_names}
+use Rattle.vl_size.specs.Size.{◌>>=◌, Values, operand, index_of, is_constant, no_names}
 use Rattle.vl_size.specs.Size.{offset_of, start_of, size, vector_size, word_size, value, part_size, times}
 use Rattle.vl_size.specs.Table.{span, declared_as}
 use Rattle.vl_mean.specs.Execution.{assigned, wild_bits, matches}
 use Rattle.vl_mean.specs.FlatLaw.{flat_scopes, IsReadIn, IsTarget, AreTargets}
 use Rattle.vl_mean.specs.Scopes.{operand_in, is_clock_class}
-use Rattle.vl_mean.specs.Targets.{Spot, bit_of, spots_from, word_index, full_word, spots_of, spots, all_spots, written}
+use Rattle.vl_mean.specs.Targets.{bit_of, spots_from, word_index, full_word, spots_of, spots, all_spots, written}
 use Rattle.vl_mean_flat.proofs.SameTarget.{flat_operand}
 use Rattle.vl_flow_spec.specs.Reads.{Bits, Covers, IsCellOf, AgreeOn, AreInRange, reads, selects_read}
 use Rattle.vl_flow_spec.specs.Paths.{target_reads, targets_read, labels_read}
-use Rattle.vl_flow_spec.proofs.Bools.{or_left, or_right, or_either}
+use Rattle.vl_flow_spec.proofs.Bools.{or_left, or_right}
 use Rattle.vl_flow_spec.proofs.Flat.{index_in, vector_bits, word_bits, name_bits, flat_name}
 use Rattle.vl_flow_spec.proofs.Same.{bind_first, bind_then, bind_next, index_same, same_value}
 

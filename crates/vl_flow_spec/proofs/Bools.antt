@@ -1,5 +1,5 @@
 -- Tests joined by `and` and `or`.
-use Rattle.std.specs.Prelude.{◌≡◌, refl, Bool, true, false, ◌&&◌, ◌||◌, not, if◌then◌else◌}
+use Rattle.std.specs.Prelude.{◌≡◌, refl, Bool, true, false, ◌&&◌, ◌||◌, not}
 use Rattle.std.proofs.Common.{ap, sym, ◌∙◌, true≢false}
 
 pub or_left : (a b : Bool) → a ≡ true → (a || b) ≡ true

@@ -1,6 +1,6 @@
 -- The cells of declared names: a word of a memory is one, and no cell has two declarations.
-use Rattle.std.specs.Prelude.{◌≡◌, refl, ℕ, zero, suc, ◌+◌, ◌-◌, ◌/◌, ◌%◌, ◌<◌, ◌==◌, List, [], ◌∷◌, ◌++◌, Bool, true}
-use Rattle.std.specs.Prelude.{false, ◌&&◌, ◌||◌, not, nat_lt, Option, Some, None, ℤ, pos, negsuc, ◌+ℤ◌, ◌-ℤ◌, nat_abs}
+use Rattle.std.specs.Prelude.{◌≡◌, refl, ℕ, zero, suc, ◌/◌, ◌%◌, ◌<◌, ◌==◌, List, [], ◌∷◌, ◌++◌, Bool, true}
+use Rattle.std.specs.Prelude.{false, ◌&&◌, ◌||◌, not, Option, Some, None, ℤ, pos, negsuc, ◌+ℤ◌, ◌-ℤ◌, nat_abs}
 use Rattle.std.specs.Prelude.{int_le, bytes_eq, codes, if◌then◌else◌}
 use Rattle.std.specs.Prelude.{is_none, All}
 use Rattle.std.specs.List.{list_all}
@@ -14,7 +14,7 @@ use Rattle.std.proofs.lemmas.Option.{same_Some}
 use Rattle.std.proofs.lemmas.Slice.Eq.{bytes_eq-Decides}
 use Rattle.vl_size.specs.declared.decl.Decl.{Decl}
 use Rattle.vl_size.specs.Table.{span, is_between, word_name, declared_as, IsNoWordIn, HasNoWord, AreApart}
-use Rattle.vl_mean.specs.Cells.{contains_name, words_from, cells_of, is_cell}
+use Rattle.vl_mean.specs.Cells.{contains_name, words_from, is_cell}
 use Rattle.vl_mean.specs.Runs.{Each}
 use Rattle.vl_flow_spec.specs.Reads.{IsCellOf}
 use Rattle.vl_flow_spec.proofs.Bools.{or_left, or_right, or_case}

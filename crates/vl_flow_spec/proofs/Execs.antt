@@ -1,5 +1,5 @@
 -- What a statement does depends on the bits that it needs alone.
-use Rattle.std.specs.Prelude.{◌≡◌, refl, ℕ, ◌<◌, ◌≤◌, max, List, [], ◌∷◌, ◌++◌, length, Bool, true, false, ◌&&◌, ◌||◌}
+use Rattle.std.specs.Prelude.{◌≡◌, refl, ℕ, ◌≤◌, max, List, [], ◌∷◌, ◌++◌, length, Bool, true, false, ◌&&◌, ◌||◌}
 use Rattle.std.specs.Prelude.{All, not, Some, IsSome, if◌then◌else◌}
 use Rattle.std.proofs.Common.{ap, sym, ◌∙◌, subst, true≢false}
 use Rattle.vl_tree.specs.declared.stmt.AssignKind.TheVariants as a
@@ -33,14 +33,14 @@ use Rattle.vl_mean.specs.FlatLaw.{flat_scopes, IsReadIn, IsBlock, AreBlocks, Are
 use Rattle.vl_mean.specs.FlatLaw.{is_variable}
 use Rattle.vl_mean.specs.FlatLaw.{is_net}
 use Rattle.vl_mean.specs.Scopes.{operand_in, is_clock_class}
-use Rattle.vl_mean.specs.Targets.{Write, bit_of, put_all, spots, has_spot}
+use Rattle.vl_mean.specs.Targets.{Write, put_all, spots, has_spot}
 use Rattle.vl_flow_spec.specs.Reads.{Bits, Covers, IsCellOf, reads}
 use Rattle.vl_flow_spec.specs.Paths.{is_blocking, target_reads, sets, labels_read, has_default, sure, all_sure}
 use Rattle.vl_flow_spec.specs.Paths.{arms_sure}
 use Rattle.vl_flow_spec.specs.Paths.{needs, all_need, arms_need}
 use Rattle.vl_flow_spec.specs.Settle.{IsBitOf}
 use Rattle.vl_flow_spec.proofs.Alike.{Alike, ◌∪◌, fewer, operand_same, assigned_alike, matches_alike}
-use Rattle.vl_flow_spec.proofs.Bools.{or_left, or_right, or_either, or_moved, or_sure, or_other, and_both, and_left}
+use Rattle.vl_flow_spec.proofs.Bools.{or_left, or_right, or_either, or_moved, or_sure, and_both, and_left}
 use Rattle.vl_flow_spec.proofs.Bools.{and_right}
 use Rattle.vl_flow_spec.proofs.Cells.{HaveOwnCells}
 use Rattle.vl_flow_spec.proofs.Targets.{Marks, marks}

@@ -1,15 +1,15 @@
 -- In the one scope of a design without hierarchy, selects and targets are read over its declarations alone.
-use Rattle.std.specs.Prelude.{◌≡◌, refl, ℕ, Bool, true, false, ◌&&◌, nat_lt, is_none, if◌then◌else◌, List, [], ◌∷◌}
-use Rattle.std.specs.Prelude.{Option, Some, None, ℤ, pos, nat_abs}
-use Rattle.std.proofs.Common.{ap, sym, ◌∙◌}
+use Rattle.std.specs.Prelude.{◌≡◌, refl, ℕ, Bool, true, ◌&&◌, nat_lt, is_none, if◌then◌else◌, List, []}
+use Rattle.std.specs.Prelude.{Option, Some, ℤ, pos, nat_abs}
+use Rattle.std.proofs.Common.{ap, ◌∙◌}
 use Rattle.vl_tree.specs.Expr.{Expr, Selects, whole, bit, part, indexed}
 use Rattle.vl_size.specs.declared.decl.Decl.{Decl}
-use Rattle.vl_size.specs.Size.{Values, Cells, cells_in, operand_of, index_of, is_constant, offset_of, start_of}
+use Rattle.vl_size.specs.Size.{Values, cells_in, operand_of, index_of, is_constant, offset_of, start_of}
 use Rattle.vl_size.specs.Table.{span, declared_as}
 use Rattle.vl_mean.specs.Cells.{is_cell}
 use Rattle.vl_mean.specs.Constants.{settled}
 use Rattle.vl_mean.specs.FlatLaw.{flat_scopes}
-use Rattle.vl_mean.specs.Scopes.{constant_in, full, no_values, operand_in}
+use Rattle.vl_mean.specs.Scopes.{constant_in, no_values, operand_in}
 use Rattle.vl_mean.specs.Targets.{Spot, spots_from, word_index, full_word, spots_of, is_decl, has_spot, vector_spots}
 use Rattle.vl_mean.specs.Targets.{word_spots, name_spots, are_fixed, name_may_change}
 use Rattle.vl_mean_flat.proofs.SameTarget.{flat_constant, flat_full, flat_declared, flat_operand, settled-none}

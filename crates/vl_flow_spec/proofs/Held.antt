@@ -19,7 +19,7 @@ use Rattle.vl_mean.specs.Runs.{is_chosen}
 use Rattle.vl_mean.specs.Scopes.{Scope, is_clock_class}
 use Rattle.vl_flow_spec.specs.Drivers.{is_clocked, AreInOrder}
 use Rattle.vl_flow_spec.specs.Reads.{AreInRange}
-use Rattle.vl_flow_spec.specs.Settle.{driven, settle, AreMet, AreAccepted}
+use Rattle.vl_flow_spec.specs.Settle.{settle, AreMet, AreAccepted}
 use Rattle.vl_flow_spec.proofs.Cells.{HaveOwnCells, declared_all, own_cells}
 use Rattle.vl_flow_spec.proofs.Settling.{settled_in_range, settled_keeps, settled_is_met, one_map}
 use Rattle.vl_mean_flat.proofs.EachOf.{both, front, back}

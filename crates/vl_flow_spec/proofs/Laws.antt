@@ -1,17 +1,17 @@
 -- The laws, as they are stated.
-use Rattle.std.specs.Prelude.{◌≡◌, refl, ℕ, ◌≤◌, ◌<◌, List, Bool, true, false, All, Some, IsSome}
+use Rattle.std.specs.Prelude.{◌≡◌, refl, ℕ, ◌≤◌, List, Bool, false, All, Some, IsSome}
 use Rattle.vl_tree.specs.Expr.{Expr}
 use Rattle.vl_tree.specs.Stmt.{Stmt}
 use Rattle.vl_size.specs.declared.decl.Decl.{Decl}
 use Rattle.vl_size.specs.Size.{Values, cells_in, size, value}
 use Rattle.vl_size.specs.Table.{declared_as, IsShaped, AreApart}
-use Rattle.vl_mean.specs.Execution.{begun, exec, assigns}
+use Rattle.vl_mean.specs.Execution.{begun, assigns}
 use Rattle.vl_mean.specs.FlatLaw.{flat_scopes, IsBlock}
 use Rattle.vl_mean.specs.Targets.{bit_of}
 use Rattle.vl_flow_spec.specs.Depends.{done, EndsAlike}
 use Rattle.vl_flow_spec.specs.Paths.{is_blocking, sure, needs}
-use Rattle.vl_flow_spec.specs.Reads.{AgreeOn, AreInRange, Bits, IsCellOf, reads}
-use Rattle.vl_flow_spec.proofs.Alike.{Alike, fewer, agree_of, ◌∪◌}
+use Rattle.vl_flow_spec.specs.Reads.{AgreeOn, AreInRange, reads}
+use Rattle.vl_flow_spec.proofs.Alike.{fewer, agree_of, ◌∪◌}
 use Rattle.vl_flow_spec.proofs.Bools.{or_right}
 use Rattle.vl_flow_spec.proofs.Cells.{declared_all, own_cells}
 use Rattle.vl_flow_spec.proofs.Clockless.{needs_no_clock}

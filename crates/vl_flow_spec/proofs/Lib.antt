@@ -17,7 +17,7 @@ pub mod Settling
 pub mod Elements
 pub mod Changed
 pub mod Found
-pub mod Kinds
+pub mod AssignKinds
 pub mod Whole
 pub mod Single
 pub mod Chain

@@ -1,7 +1,7 @@
 -- For drivers in an order in which each stands behind what it reads: one map for each choice of the bits that none
 -- drives.
 use Rattle.std.specs.Prelude.{◌≡◌, refl, ℕ, List, [], ◌∷◌, Bool, true, false, ◌||◌}
-use Rattle.std.proofs.Common.{ap, sym, ◌∙◌, true≢false}
+use Rattle.std.proofs.Common.{sym, ◌∙◌}
 use Rattle.vl_size.specs.Size.{Values}
 use Rattle.vl_mean.specs.Targets.{bit_of}
 use Rattle.vl_flow_spec.specs.Reads.{Bits, Covers}

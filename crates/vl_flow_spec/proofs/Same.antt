@@ -1,7 +1,7 @@
 -- The value of an expression that has a size depends on the bits that it reads alone.
-use Rattle.std.specs.Prelude.{◌≡◌, refl, ℕ, zero, suc, ◌+◌, ◌*◌, ◌^◌, ◌<◌, ◌≤◌, max, Bool, true, false, ◌&&◌, ◌||◌}
+use Rattle.std.specs.Prelude.{◌≡◌, refl, ℕ, ◌+◌, ◌*◌, ◌^◌, ◌<◌, ◌≤◌, max, Bool, true, false, ◌&&◌, ◌||◌}
 use Rattle.std.specs.Prelude.{nat_lt, is_none, nat_abs, if◌then◌else◌, List, [], ◌∷◌, Option, Some, None, IsSome, ℤ}
-use Rattle.std.specs.Prelude.{pos, ◌+ℤ◌, bytes_eq}
+use Rattle.std.specs.Prelude.{pos, bytes_eq}
 use Rattle.std.proofs.Common.{ap, sym, ◌∙◌, arith, subst, true≢false}
 use Rattle.std.proofs.lemmas.Bool.Decides.{nat_tests}
 use Rattle.std.proofs.lemmas.Int.{ints}
@@ -33,7 +33,7 @@ use Rattle.fv_bits.specs.Bits.{extended}
 use Rattle.vl_size.specs.declared.decl.Decl.{Decl}
 use Rattle.vl_size.specs.Way.{way}
 use Rattle.vl_size.specs.Sign.{sign}
-use Rattle.vl_size.specs.Size.{◌>>=◌, Values, cells_in, operand, operand_of, own, is_true, index_of, or_none, some_bits}
+use Rattle.vl_size.specs.Size.{◌>>=◌, Values, cells_in, operand, own, is_true, index_of, or_none, some_bits}
 use Rattle.vl_size.specs.Size.{within, with_size, with_decl, times, part_size, copies, offset_of, start_of, bit_at}
 use Rattle.vl_size.specs.Size.{bits_from, memory_word, unary_number, binary_number, unary_size, operation_size}
 use Rattle.vl_size.specs.Size.{is_constant, are_constant, no_names, size, sizes, vector_size, word_size, value}

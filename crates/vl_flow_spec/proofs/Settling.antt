@@ -1,16 +1,16 @@
 -- Drivers in order: what comes out of settling is left by each of them, and no other map with the same choice is.
-use Rattle.std.specs.Prelude.{◌≡◌, refl, ℕ, ◌<◌, ◌≤◌, List, [], ◌∷◌, Bool, true, false, ◌||◌, not, All, Some}
+use Rattle.std.specs.Prelude.{◌≡◌, refl, ℕ, ◌≤◌, List, [], ◌∷◌, Bool, true, false, ◌||◌, not, All, Some}
 use Rattle.std.proofs.Common.{ap, sym, ◌∙◌, subst, true≢false}
 use Rattle.vl_size.specs.declared.decl.Decl.{Decl}
 use Rattle.vl_size.specs.Size.{Values}
 use Rattle.vl_size.specs.Table.{declared_as, IsShaped, AreApart}
 use Rattle.vl_mean.specs.declared.driver.DriverKind.{DriverKind}
 use Rattle.vl_mean.specs.declared.driver.DriverKind.TheVariants as k
-use Rattle.vl_mean.specs.FlatLaw.{flat_scopes, IsDriver}
+use Rattle.vl_mean.specs.FlatLaw.{IsDriver}
 use Rattle.vl_mean.specs.Targets.{bit_of}
-use Rattle.vl_flow_spec.specs.Drivers.{is_clocked, needed_by, driven_by, driven_by_any, Apart, AreInOrder, IsWhole}
-use Rattle.vl_flow_spec.specs.Reads.{Bits, Covers, AreInRange}
-use Rattle.vl_flow_spec.specs.Settle.{IsBitOf, driven, settle, AreOneOn, AreMet, AreAccepted}
+use Rattle.vl_flow_spec.specs.Drivers.{is_clocked, needed_by, driven_by, driven_by_any, AreInOrder, IsWhole}
+use Rattle.vl_flow_spec.specs.Reads.{Bits, AreInRange}
+use Rattle.vl_flow_spec.specs.Settle.{IsBitOf, driven, settle, AreMet, AreAccepted}
 use Rattle.vl_flow_spec.proofs.Cells.{HaveOwnCells, declared_all, own_cells}
 use Rattle.vl_flow_spec.proofs.OneMap as stages
 use Rattle.vl_flow_spec.proofs.OneMap.{Stage, IsPart, AreParts}

@@ -1,25 +1,25 @@
 -- Blocks without latches, and assignments by constant indices, as stages that can be put in an order.
-use Rattle.std.specs.Prelude.{◌≡◌, refl, ℕ, ◌<◌, ◌≤◌, ◌^◌, List, [], ◌∷◌, Bool, true, false, ◌&&◌, ◌||◌, Some}
-use Rattle.std.proofs.Common.{ap, sym, ◌∙◌, true≢false}
+use Rattle.std.specs.Prelude.{◌≡◌, refl, ◌≤◌, List, Bool, true, false, ◌||◌, Some}
+use Rattle.std.proofs.Common.{sym, ◌∙◌, true≢false}
 use Rattle.vl_tree.specs.Expr.{Expr}
 use Rattle.vl_tree.specs.Lval.{Lval, Lvals, named, joined, no_lvals, more_lvals}
 use Rattle.vl_tree.specs.Stmt.{Stmt}
 use Rattle.vl_size.specs.declared.decl.Decl.{Decl}
 use Rattle.vl_size.specs.Size.{Values}
 use Rattle.vl_size.specs.Table.{declared_as}
-use Rattle.vl_mean.specs.Execution.{State, begun, assigned, exec, assigns}
-use Rattle.vl_mean.specs.FlatLaw.{flat_scopes, IsBlock, IsDriver, IsTarget, AreTargets, is_net, is_variable}
+use Rattle.vl_mean.specs.Execution.{begun, assigned, exec, assigns}
+use Rattle.vl_mean.specs.FlatLaw.{flat_scopes, IsBlock, IsTarget, AreTargets, is_net}
 use Rattle.vl_mean.specs.FlatLaw.{assigned_context}
 use Rattle.vl_mean.specs.FlatLaw.{IsAssigned, IsReadIn}
-use Rattle.vl_mean.specs.Targets.{bit_of, put_all, are_fixed, may_change, any_may_change}
-use Rattle.vl_flow_spec.specs.Reads.{Bits, Covers, IsCellOf, AreInRange, selected, reads}
+use Rattle.vl_mean.specs.Targets.{put_all, are_fixed, may_change, any_may_change}
+use Rattle.vl_flow_spec.specs.Reads.{Bits, Covers, AreInRange, selected, reads}
 use Rattle.vl_flow_spec.specs.Paths.{is_blocking, target_reads, sets, any_sets, sure, needs}
 use Rattle.vl_flow_spec.specs.Settle.{IsBitOf}
 use Rattle.vl_flow_spec.proofs.Alike.{Alike, ◌∪◌}
 use Rattle.vl_flow_spec.proofs.Bools.{or_left, or_right, or_either, or_case, and_both}
 use Rattle.vl_flow_spec.proofs.Cells.{HaveOwnCells}
 use Rattle.vl_flow_spec.proofs.Clockless.{HasNoClock, reads_no_clock, target_no_clock, needs_no_clock}
-use Rattle.vl_flow_spec.proofs.Execs.{SameState, exec_same, puts_alike, net_counted, assigned_small}
+use Rattle.vl_flow_spec.proofs.Execs.{exec_same, puts_alike, net_counted}
 use Rattle.vl_flow_spec.proofs.OneMap.{Stage, IsPart, Agree}
 use Rattle.vl_flow_spec.proofs.Stays.{exec_stays, assigned_stays}
 use Rattle.vl_flow_spec.proofs.Targets.{Marks, marks}

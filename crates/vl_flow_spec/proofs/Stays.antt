@@ -1,6 +1,6 @@
 -- A bit that no assignment of a statement may change stays.
-use Rattle.std.specs.Prelude.{◌≡◌, refl, ℕ, ◌≤◌, List, [], ◌∷◌, Bool, true, false, ◌||◌, Some, if◌then◌else◌}
-use Rattle.std.proofs.Common.{ap, sym, ◌∙◌, true≢false}
+use Rattle.std.specs.Prelude.{◌≡◌, refl, ℕ, ◌≤◌, List, Bool, true, false, Some, if◌then◌else◌}
+use Rattle.std.proofs.Common.{sym, ◌∙◌}
 use Rattle.vl_tree.specs.declared.stmt.AssignKind.TheVariants as a
 use Rattle.vl_tree.specs.Expr.{Expr}
 use Rattle.vl_tree.specs.Lval.{Lval}
@@ -28,7 +28,7 @@ use Rattle.vl_size.specs.Table.{declared_as}
 use Rattle.vl_mean.specs.Execution.{State, assigned, exec, exec_all, pick, otherwise, assigns, any_assigns, arms_assign}
 use Rattle.vl_mean.specs.FlatLaw.{flat_scopes, IsBlock, AreBlocks, AreArms, case_context, is_variable}
 use Rattle.vl_mean.specs.Targets.{bit_of, put_all, may_change}
-use Rattle.vl_flow_spec.proofs.Bools.{left_none, right_none, none_of, not_both}
+use Rattle.vl_flow_spec.proofs.Bools.{left_none, right_none, none_of}
 use Rattle.vl_flow_spec.proofs.Execs.{assigned_small, assigned_to, variable_counted}
 use Rattle.vl_flow_spec.proofs.Targets.{Marks, marks}
 use Rattle.vl_flow_spec.proofs.Writes.{writes_to, puts_stay}

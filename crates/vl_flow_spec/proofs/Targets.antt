@@ -1,32 +1,32 @@
 -- What a target's bits are: each is one of a declared name, those that are surely set are among them, and no other
 -- bit may change.
-use Rattle.std.specs.Prelude.{◌≡◌, refl, ℕ, ◌+◌, ◌<◌, ◌≤◌, max, List, [], ◌∷◌, ◌++◌, length, Bool, true, false, ◌&&◌}
+use Rattle.std.specs.Prelude.{◌≡◌, refl, ℕ, ◌<◌, ◌≤◌, List, Bool, true, false, ◌&&◌}
 use Rattle.std.specs.Prelude.{◌||◌}
 use Rattle.std.specs.Prelude.{nat_lt, is_none, nat_abs, Option, Some, None, IsSome, ℤ, pos, if◌then◌else◌}
 use Rattle.std.proofs.Common.{ap, sym, ◌∙◌, arith, subst, true≢false}
 use Rattle.std.proofs.lemmas.Bool.Decides.{nat_tests}
 use Rattle.std.proofs.lemmas.Option.{same_Some}
 use Rattle.fv_text.specs.declared.pos.Pos.{Pos}
-use Rattle.vl_tree.specs.Expr.{Expr, Selects, name, whole, bit, part, indexed}
+use Rattle.vl_tree.specs.Expr.{Expr, Selects, whole, bit, part, indexed}
 use Rattle.vl_tree.specs.Lval.{Lval, Lvals, named, joined, no_lvals, more_lvals}
 use Rattle.vl_size.specs.declared.decl.Decl.{Decl}
 use Rattle.vl_size.specs.Sign.{sign}
-use Rattle.vl_size.specs.Size.{◌>>=◌, Values, cells_in, operand, index_of, is_constant, no_names, offset_of, start_of}
+use Rattle.vl_size.specs.Size.{◌>>=◌, Values, operand, index_of, is_constant, no_names, offset_of, start_of}
 use Rattle.vl_size.specs.Size.{size, vector_size, word_size, value, part_size, times}
 use Rattle.vl_size.specs.Table.{span, is_between, word_name, declared_as}
 use Rattle.vl_mean.specs.Cells.{is_cell}
 use Rattle.vl_mean.specs.FlatLaw.{flat_scopes, IsTarget, AreTargets}
 use Rattle.vl_mean.specs.Scopes.{is_clock_class, no_values}
-use Rattle.vl_mean.specs.Targets.{Spot, spots_from, word_index, full_word, spots_of, is_decl, has_spot, spots}
+use Rattle.vl_mean.specs.Targets.{spots_from, word_index, full_word, spots_of, is_decl, has_spot, spots}
 use Rattle.vl_mean.specs.Targets.{all_spots}
 use Rattle.vl_mean.specs.Targets.{are_fixed, may_change, any_may_change}
-use Rattle.vl_flow_spec.specs.Reads.{IsCellOf, selected}
+use Rattle.vl_flow_spec.specs.Reads.{selected}
 use Rattle.vl_flow_spec.specs.Paths.{sets, any_sets}
 use Rattle.vl_flow_spec.specs.Settle.{IsBitOf}
 use Rattle.vl_flow_spec.proofs.Bools.{or_left, or_right, or_either, or_case, and_both, and_left, and_right}
 use Rattle.vl_flow_spec.proofs.Cells.{own_cell, word_is_cell}
 use Rattle.vl_flow_spec.proofs.Flat.{index_in, fixed, vector_bits, word_bits, name_bits, decl_selected, flat_fixed}
-use Rattle.vl_flow_spec.proofs.Flat.{flat_name, flat_selected}
+use Rattle.vl_flow_spec.proofs.Flat.{flat_name}
 use Rattle.vl_flow_spec.proofs.Same.{bind_first, bind_then, bind_next, bind_test, declared_name, constant_index}
 use Rattle.vl_flow_spec.proofs.Same.{same_value}
 use Rattle.vl_flow_spec.proofs.Same.{selected_at}

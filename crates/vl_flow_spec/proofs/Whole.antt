@@ -41,13 +41,13 @@ use Rattle.vl_flow_spec.specs.Drivers.{is_clocked}
 use Rattle.vl_flow_spec.specs.Paths.{is_blocking, is_nonblocking, any_kind, has_default, sets, any_sets, sure, all_sure}
 use Rattle.vl_flow_spec.specs.Paths.{arms_sure, changes, any_changes, arms_change}
 use Rattle.vl_flow_spec.specs.Reads.{Covers, selected}
-use Rattle.vl_flow_spec.proofs.Bools.{or_left, or_right, or_either, or_case, left_none, right_none, and_both, and_left}
+use Rattle.vl_flow_spec.proofs.Bools.{or_left, or_right, or_either, left_none, right_none, and_both, and_left}
 use Rattle.vl_flow_spec.proofs.Bools.{and_right, none_of, not_both}
 use Rattle.vl_flow_spec.specs.Refusals.{has_bit, named_if, with_name, place_of, latched_by, latched, latch}
 use Rattle.vl_flow_spec.specs.Refusals.{assigns_to, is_mixed, mixed, some_assigns, some_waits}
 use Rattle.vl_flow_spec.proofs.Elements.{all_at, each_declared_as}
 use Rattle.vl_flow_spec.proofs.Found.{has_it, none_of_names}
-use Rattle.vl_flow_spec.proofs.Kinds.{any_kind_changes, block_named, either_kind}
+use Rattle.vl_flow_spec.proofs.AssignKinds.{any_kind_changes, block_named, either_kind}
 
 -- ---- sure by some assignments: by blocking ones, or some other one may change the bit
 

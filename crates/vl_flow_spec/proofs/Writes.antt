@@ -1,13 +1,12 @@
 -- Maps after writes.
-use Rattle.std.specs.Prelude.{◌≡◌, refl, ℕ, ◌<◌, ◌^◌, ◌==◌, List, [], ◌∷◌, ◌++◌, length, Bool, true, false, ◌&&◌, ◌||◌}
+use Rattle.std.specs.Prelude.{◌≡◌, refl, ℕ, ◌<◌, ◌^◌, ◌==◌, List, [], ◌∷◌, Bool, true, false, ◌&&◌, ◌||◌}
 use Rattle.std.specs.Prelude.{Option, Some, None, bytes_eq, if◌then◌else◌}
-use Rattle.std.proofs.Common.{ap, sym, ◌∙◌, arith, subst, true≢false}
+use Rattle.std.proofs.Common.{ap, sym, ◌∙◌, arith, subst}
 use Rattle.std.proofs.lemmas.Bool.Decides.{nat_tests}
 use Rattle.std.proofs.lemmas.Slice.Eq.{bytes_eq-Decides}
 use Rattle.vl_size.specs.declared.decl.Decl.{Decl}
 use Rattle.vl_size.specs.Size.{Values}
 use Rattle.vl_mean.specs.Runs.{Each}
-use Rattle.vl_mean.specs.Scopes.{is_clock_class}
 use Rattle.vl_mean.specs.Targets.{Spot, Write, bit_of, with_bit, put, put_all, written, has_spot}
 use Rattle.vl_flow_spec.specs.Reads.{Bits, IsCellOf, AreInRange}
 use Rattle.vl_flow_spec.specs.Settle.{IsBitOf}

@@ -1,12 +1,11 @@
 -- Between functions: What the outcome of a statement depends on. Rule of this project.
-use Rattle.std.specs.Prelude.{◌≡◌, ℕ, ◌<◌, List, Bool, true, false}
+use Rattle.std.specs.Prelude.{◌≡◌, List}
 use Rattle.vl_tree.specs.Stmt.{Stmt}
 use Rattle.vl_size.specs.declared.decl.Decl.{Decl}
 use Rattle.vl_size.specs.Size.{Values}
-use Rattle.vl_mean.specs.Execution.{State, begun, exec, assigns}
+use Rattle.vl_mean.specs.Execution.{State, begun, exec}
 use Rattle.vl_mean.specs.FlatLaw.{flat_scopes}
-use Rattle.vl_mean.specs.Targets.{bit_of}
-use Rattle.vl_flow_spec.specs.Reads.{Bits, IsCellOf, AgreeOn}
+use Rattle.vl_flow_spec.specs.Reads.{AgreeOn}
 use Rattle.vl_flow_spec.specs.Paths.{is_blocking, sure}
 
 module _ (ds : List Decl) where

@@ -1,7 +1,7 @@
 -- Meaning: Which bits a statement surely assigns, which it reads before that, and which its assignments may change:
 -- path by path, in a design without hierarchy. IEEE 1364-2005, sections 9.2, 9.4 and 9.5; what counts as sure is a
 -- rule of this project: a varying index surely assigns nothing, and a case does so only where it has a default.
-use Rattle.std.specs.Prelude.{ℕ, List, [], ◌∷◌, Bool, true, false, ◌&&◌, ◌||◌, not}
+use Rattle.std.specs.Prelude.{List, [], ◌∷◌, Bool, true, false, ◌&&◌, ◌||◌, not}
 use Rattle.vl_tree.specs.declared.stmt.AssignKind.{AssignKind}
 use Rattle.vl_tree.specs.declared.stmt.AssignKind.TheVariants as a
 use Rattle.vl_tree.specs.Expr.{Expr}

@@ -1,6 +1,6 @@
 -- Between functions: Settling the drivers of a design one after the other: what comes out is left by each of them.
 -- Rule of this project.
-use Rattle.std.specs.Prelude.{◌≡◌, ℕ, ◌<◌, List, [], ◌∷◌, Bool, true, false}
+use Rattle.std.specs.Prelude.{◌≡◌, ℕ, ◌<◌, List, [], ◌∷◌, true, false}
 use Rattle.vl_size.specs.declared.decl.Decl.{Decl}
 use Rattle.vl_size.specs.Size.{Values}
 use Rattle.vl_mean.specs.declared.driver.DriverKind.{DriverKind}
@@ -10,7 +10,7 @@ use Rattle.vl_mean.specs.FlatLaw.{flat_scopes, IsDriver}
 use Rattle.vl_mean.specs.Scopes.{is_clock_class}
 use Rattle.vl_mean.specs.Targets.{bit_of, put_all}
 use Rattle.vl_flow_spec.specs.Depends.{done}
-use Rattle.vl_flow_spec.specs.Drivers.{is_clocked, driven_by, driven_by_any, IsWhole}
+use Rattle.vl_flow_spec.specs.Drivers.{is_clocked, driven_by, IsWhole}
 use Rattle.vl_flow_spec.specs.Reads.{Bits, IsCellOf}
 
 -- a bit of a declared name that isn't the clock

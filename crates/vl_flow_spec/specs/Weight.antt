@@ -1,16 +1,5 @@
 -- Meaning: The weight of a design without hierarchy: about how many gates it takes. Rule of this project.
-use Rattle.std.specs.Prelude.{
-  ℕ,
-  ◌+◌,
-  ◌*◌,
-  max,
-  List,
-  [],
-  ◌∷◌,
-  ◌++◌,
-  Bool,
-  ◌&&◌,
-}
+use Rattle.std.specs.Prelude.{ℕ, ◌+◌, ◌*◌, max, List, [], ◌∷◌, ◌++◌, ◌&&◌}
 use Rattle.std.specs.Prelude.{is_none, Option, Some, None, ℤ, if◌then◌else◌}
 use Rattle.vl_tree.specs.declared.operator.UnaryOperator.{UnaryOperator}
 use Rattle.vl_tree.specs.declared.operator.UnaryOperator.TheVariants as u
@@ -207,7 +196,8 @@ module _ (ds : List Decl) where
     stmt_weight (begin attrs p label xs) = stmts_weight xs
     stmt_weight (if_only attrs p e x) = merge_weight (assigned_names any_kind x) + weight (own_size e) e + stmt_weight x
     stmt_weight (if_else attrs p e x y) =
-        merge_weight (assigned_names any_kind x ++ assigned_names any_kind y) + weight (own_size e) e + stmt_weight x + stmt_weight y
+        merge_weight (assigned_names any_kind x ++ assigned_names any_kind y) + weight (own_size e) e
+        + stmt_weight x + stmt_weight y
     stmt_weight (case attrs p kind e arms) =
         let n = max (own_size e) (arms_size (flat_scopes ds) arms) in
         merge_weight (arms_assigned_names any_kind arms) + weight n e + arms_weight n arms

@@ -12,7 +12,7 @@ use Rattle.vl_flow_spec.specs.Paths.{changes, is_blocking, is_nonblocking}
 use Rattle.vl_flow_spec.specs.Reads.{IsCellOf}
 use Rattle.vl_flow_spec.proofs.Bools.{and_both, none_of, or_left, or_right}
 use Rattle.vl_flow_spec.specs.Refusals.{assigns_to, mixed, some_assigns, some_waits}
-use Rattle.vl_flow_spec.proofs.Kinds.{block_named}
+use Rattle.vl_flow_spec.proofs.AssignKinds.{block_named}
 use Rattle.vl_flow_spec.proofs.Whole.{of_any_kind, place_there, unmixed}
 
 some_of : (drivers : List Driver) (counts : AssignKind → Bool) (d : Decl) (j : ℕ) (x : Driver)
