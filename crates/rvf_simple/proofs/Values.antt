@@ -173,7 +173,7 @@ module _ (ns : List Names) (ps : List FullPort)
         → is_clock_class d.class ≡ false → read_refusals ns false p text (object d input scalar) whole ≡ []
     read_object p text d input scalar w c =
         λ i. refused_if (c i) (f.Clock p) ++ refused_if false (f.NotConstant p)
-        ++ (if is_none (w i) then vector_selects ns (not scalar) d whole else memory_selects ns p (not scalar) d whole)
+        ++ (if is_none (w i) then vector_selects ns (not scalar) d whole else memory_selects ns p d whole)
 
     object_width : (text : List ℕ) (d : Decl) (input scalar : Bool) → d.words ≡ None
         → name_width ns text (object d input scalar) whole ≡ Some d.width
@@ -323,7 +323,7 @@ module _ (ns : List Names) (ps : List FullPort)
         ∙ (λ i. refused_if (is_clock_class (m.class_is i)) (f.Clock p)
         ++ refused_if (input || not (may_be_assigned true (m.class_is i))) (f.Kind text p)
         ++ (if is_none (m.no_words i) then vector_selects ns (not scalar) m.decl whole
-        else memory_selects ns p (not scalar) m.decl whole)
+        else memory_selects ns p m.decl whole)
         ++ few_wide p (name_width ns text (object m.decl input scalar) whole) m.decl.width
         (object_width text m.decl input scalar m.no_words) m.few i)
         ∙ output_fine q q.direction p text h

@@ -84,7 +84,7 @@ module _ (ns : List Names) (ss : List Scope) (named_so : AllNamed ns) (meant : A
       let shaped = means.2 in
       let x = selected ns (is_none d.words) (fixed || false) (not scalar) p d xs
       (λ may d one few h k t z. vector ns named_so (sound ns ss meant) (fixed || false) may p d xs w one few h k t z)
-      (λ may d one few h k t z. word ns named_so (sound ns ss meant) (fixed || false) may p d xs w one few h k t z)
+      (λ d one few h k t z. word ns named_so (sound ns ss meant) (fixed || false) p d xs w one few h k t z)
       shaped.some_bits shaped.few_bits inner selects wide z in (
         means.0,
         subst IsRead (sym e) clock,

@@ -433,20 +433,20 @@ module _ (ns : List Names) where
 
   abbrev pub WordOf : Bool → Pos → Selects → Type 0
   WordOf fixed p ss =
-      (may : Bool) (d : Decl) → 1 ≤ d.width → d.width ≤ 128 → NoneOf (select_refusals ns fixed ss)
-      → NoneOf (memory_selects ns p may d ss) → NoneOf (too_wide p (word_width ns d ss))
+      (d : Decl) → 1 ≤ d.width → d.width ≤ 128 → NoneOf (select_refusals ns fixed ss)
+      → NoneOf (memory_selects ns p d ss) → NoneOf (too_wide p (word_width ns d ss))
       → selects_zero_divisor ds (of_selects ss) ≡ None
       → AreSelected fixed ss (word_size ds d (of_selects ss)) (word_width ns d ss)
 
   pub selected : (is_vector fixed may : Bool) (p : Pos) (d : Decl) (ss : Selects) → VectorOf fixed p ss
       → WordOf fixed p ss → 1 ≤ d.width → d.width ≤ 128 → NoneOf (select_refusals ns fixed ss)
-      → NoneOf (if is_vector then vector_selects ns may d ss else memory_selects ns p may d ss)
+      → NoneOf (if is_vector then vector_selects ns may d ss else memory_selects ns p d ss)
       → NoneOf (too_wide p (if is_vector then vector_width ns d ss else word_width ns d ss))
       → selects_zero_divisor ds (of_selects ss) ≡ None
       → AreSelected fixed ss (if is_vector then vector_size ds d (of_selects ss) else word_size ds d (of_selects ss))
       (if is_vector then vector_width ns d ss else word_width ns d ss)
   selected true fixed may p d ss vector word one few h k t z = vector may d one few h k t z
-  selected false fixed may p d ss vector word one few h k t z = word may d one few h k t z
+  selected false fixed may p d ss vector word one few h k t z = word d one few h k t z
 
   constant_fine : (fixed may : Bool) (c : Context) (p : Pos) (text : List ℕ) (ss : Selects) (k : Const)
       → VectorOf true p ss

@@ -79,7 +79,7 @@ module _ (ns : List Names) (named : AllNamed ns) (sure : AreSure ns) (Free : Typ
     sized_where fixed u c (name p text ss) w h z =
         let x = named_fine ns named sure Free sound fixed u c p text ss (meaning_in ns text) refl
         (λ fixed u may d one few h k t z. vector_where fixed u may p d ss w.1 one few h k t z)
-        (λ fixed u may d one few h k t z. word_where fixed u may p d ss w.1 one few h k t z) h z in
+        (λ fixed u d one few h k t z. word_where fixed u p d ss w.1 one few h k t z) h z in
         record {
           bits = x.bits;
           sized = x.sized;
@@ -270,15 +270,15 @@ module _ (ns : List Names) (named : AllNamed ns) (sure : AreSure ns) (Free : Typ
         absurd (some-fault _ [] (none-back _ _ k))
 
     -- of a memory
-    pub word_where : (fixed : Bool) → (fixed ≡ false → Free) → (may : Bool) (p : Pos) (d : Decl) (ss : Selects)
-        → AreSelects ss → 1 ≤ d.width → d.width ≤ 128 → NoneOf (select_refusals ns fixed ss) → NoneOf (memory_selects ns p may d ss)
+    pub word_where : (fixed : Bool) → (fixed ≡ false → Free) → (p : Pos) (d : Decl) (ss : Selects)
+        → AreSelects ss → 1 ≤ d.width → d.width ≤ 128 → NoneOf (select_refusals ns fixed ss) → NoneOf (memory_selects ns p d ss)
         → NoneOf (too_wide p (word_width ns d ss)) → selects_zero_divisor (ds ns) (of_selects ns ss) ≡ None
         → AreSelected ns fixed ss (word_size (ds ns) d (of_selects ns ss)) (word_width ns d ss)
-    word_where fixed u may p d whole w one few h k t z = absurd (some-fault _ [] k)
-    word_where fixed u may p d (bit q i ss) w one few h k t z =
+    word_where fixed u p d whole w one few h k t z = absurd (some-fault _ [] k)
+    word_where fixed u p d (bit q i ss) w one few h k t z =
         let inner = both_none _ (selects_zero_divisor (ds ns) (of_selects ns ss)) z in
         let x = sized_where fixed u (own_context (ds ns) (of ns i)) i w.0 (none-front (refusals ns fixed i) _ h) inner.0 in
-        let y = vector_where fixed u may p d ss w.1 one few (none-back (refusals ns fixed i) _ h) k t inner.1 in
+        let y = vector_where fixed u true p d ss w.1 one few (none-back (refusals ns fixed i) _ h) k t inner.1 in
         record {
           bits = y.bits;
           sized = ap (λ o. o >>= λ k. vector_size (ds ns) d (of_selects ns ss)) x.sized ∙ y.sized;
@@ -288,8 +288,8 @@ module _ (ns : List Names) (named : AllNamed ns) (sure : AreSure ns) (Free : Typ
           alone = λ e j. no_texts (of ns i) (x.constant e) j ++ y.alone e j;
           names = (x.names, y.names);
         }
-    word_where fixed u may p d (part q l r ss) w one few h k t z = absurd (some-fault _ [] k)
-    word_where fixed u may p d (indexed q s n ss) w one few h k t z = absurd (some-fault _ [] k)
+    word_where fixed u p d (part q l r ss) w one few h k t z = absurd (some-fault _ [] k)
+    word_where fixed u p d (indexed q s n ss) w one few h k t z = absurd (some-fault _ [] k)
 
 -- ---- a whole expression
 
@@ -317,12 +317,12 @@ module _ (ns : List Names) (named : AllNamed ns) (sound : AreSound ns) where
   vector fixed may p d ss w one few h k t z =
       vector_where ns named sure (AreSound ns) (λ s. s) fixed (λ e. sound) may p d ss w one few h k t z
 
-  pub word : (fixed may : Bool) (p : Pos) (d : Decl) (ss : Selects) → AreSelects ss → 1 ≤ d.width → d.width ≤ 128
-      → NoneOf (select_refusals ns fixed ss) → NoneOf (memory_selects ns p may d ss)
+  pub word : (fixed : Bool) (p : Pos) (d : Decl) (ss : Selects) → AreSelects ss → 1 ≤ d.width → d.width ≤ 128
+      → NoneOf (select_refusals ns fixed ss) → NoneOf (memory_selects ns p d ss)
       → NoneOf (too_wide p (word_width ns d ss)) → selects_zero_divisor (ds ns) (of_selects ns ss) ≡ None
       → AreSelected ns fixed ss (word_size (ds ns) d (of_selects ns ss)) (word_width ns d ss)
-  word fixed may p d ss w one few h k t z =
-      word_where ns named sure (AreSound ns) (λ s. s) fixed (λ e. sound) may p d ss w one few h k t z
+  word fixed p d ss w one few h k t z =
+      word_where ns named sure (AreSound ns) (λ s. s) fixed (λ e. sound) p d ss w one few h k t z
 
 pub read : (ns : List Names) (fixed : Bool) (c : Context) (e : Expr) → AllNamed ns → AreSound ns → IsWellFormed e
     → expr_refusals ns fixed c e ≡ [] → IsSized ns fixed e

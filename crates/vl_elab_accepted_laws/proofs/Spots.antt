@@ -112,17 +112,17 @@ module _ (ns : List Names) (ss : List Scope) (named_so : AllNamed ns) (meant : A
   vector_length fixed may d text (indexed q i m (part r j l xs)) bits w h k z wide few = cc
   vector_length fixed may d text (indexed q i m (indexed r j l xs)) bits w h k z wide few = cc
 
-  word_length : (fixed may : Bool) (p : Pos) (d : Decl) (xs : Selects) (bits : ℕ) → AreSelects xs
-      → NoneOf (select_refusals ns fixed xs) → NoneOf (memory_selects ns p may d xs)
+  word_length : (fixed : Bool) (p : Pos) (d : Decl) (xs : Selects) (bits : ℕ) → AreSelects xs
+      → NoneOf (select_refusals ns fixed xs) → NoneOf (memory_selects ns p d xs)
       → selects_zero_divisor (objects ns) (settled_selects (constants ns) xs) ≡ None
       → word_width ns d xs ≡ Some bits → bits ≤ 128 → length (word_spots ss no_values d xs) ≡ bits
-  word_length fixed may p d whole bits w h k z wide few = absurd (some-fault _ [] k)
-  word_length fixed may p d (bit q i xs) bits w h k z wide few =
+  word_length fixed p d whole bits w h k z wide few = absurd (some-fault _ [] k)
+  word_length fixed p d (bit q i xs) bits w h k z wide few =
       let inner = both_none _ _ z in
-      vector_length fixed may d _ xs bits w.1 (none-back (refusals ns fixed i) (select_refusals ns fixed xs) h) k
+      vector_length fixed true d _ xs bits w.1 (none-back (refusals ns fixed i) (select_refusals ns fixed xs) h) k
       inner.1 wide few
-  word_length fixed may p d (part q l r xs) bits w h k z wide few = absurd (some-fault _ [] k)
-  word_length fixed may p d (indexed q s n xs) bits w h k z wide few = absurd (some-fault _ [] k)
+  word_length fixed p d (part q l r xs) bits w h k z wide few = absurd (some-fault _ [] k)
+  word_length fixed p d (indexed q s n xs) bits w h k z wide few = absurd (some-fault _ [] k)
 
   record HasBits (l : Lval) : Type 0 where
     bits : ℕ
@@ -138,14 +138,14 @@ module _ (ns : List Names) (ss : List Scope) (named_so : AllNamed ns) (meant : A
 
   object_length : (is_vector fixed may : Bool) (p : Pos) (d : Decl) (text : List ℕ) (xs : Selects) (bits : ℕ)
       → AreSelects xs → NoneOf (select_refusals ns fixed xs)
-      → NoneOf (if is_vector then vector_selects ns may d xs else memory_selects ns p may d xs)
+      → NoneOf (if is_vector then vector_selects ns may d xs else memory_selects ns p d xs)
       → selects_zero_divisor (objects ns) (settled_selects (constants ns) xs) ≡ None
       → (if is_vector then vector_width ns d xs else word_width ns d xs) ≡ Some bits → bits ≤ 128
       → length (if is_vector then vector_spots ss no_values d (Some (full ss text)) xs
       else word_spots ss no_values d xs) ≡ bits
   object_length true fixed may p d text xs bits w h k z wide few =
       vector_length fixed may d (Some (full ss text)) xs bits w h k z wide few
-  object_length false fixed may p d text xs bits w h k z wide few = word_length fixed may p d xs bits w h k z wide few
+  object_length false fixed may p d text xs bits w h k z wide few = word_length fixed p d xs bits w h k z wide few
 
   named_bits : (continuous fixed : Bool) (p : Pos) (text : List ℕ) (xs : Selects) (m : Meaning)
       → meaning_in ns text ≡ m → AreSelects xs
@@ -174,7 +174,7 @@ module _ (ns : List Names) (ss : List Scope) (named_so : AllNamed ns) (meant : A
       let hk = none-back (inner ++ divided ++ assigned) selects all in
       let x = selected ns (is_none d.words) (fixed || false) (not scalar) p d xs
       (λ may d one few h k t z. vector ns named_so (sound ns ss meant) (fixed || false) may p d xs w one few h k t z)
-      (λ may d one few h k t z. word ns named_so (sound ns ss meant) (fixed || false) may p d xs w one few h k t z)
+      (λ d one few h k t z. word ns named_so (sound ns ss meant) (fixed || false) p d xs w one few h k t z)
       means.2.some_bits means.2.few_bits hs hk (none-back (inner ++ divided ++ assigned ++ selects) _ h) z in
       let found : declared_in ss text ≡ Some d = λ i. unless_constant (means.0 i) (means.1 i) in
       record {

@@ -152,20 +152,19 @@ pub fn vector_fault(
     }
 }
 
-/// Of a memory, the first select is an index.
+/// Of a memory, the first select is an index, and a word is read as a vector, also one of one bit.
 fn memory_fault(
     alloc: Global,
     pos: Pos,
-    may: bool,
     decl: &Decl,
     all: &[Select],
     names: &Names,
 ) -> Result<Option<ElabFault>, Memory>
-    ensures { IfOk result (λ g. g ≡ lowest (spec.memory_selects names.now pos may decl.now (selects all.now))) }
+    ensures { IfOk result (λ g. g ≡ lowest (spec.memory_selects names.now pos decl.now (selects all.now))) }
 {
     match all {
         [] => Ok(Some(ElabFault::Range(pos))),
-        [Select::Bit(_, _), rest @ ..] => vector_fault(alloc, may, decl, rest, names),
+        [Select::Bit(_, _), rest @ ..] => vector_fault(alloc, true, decl, rest, names),
         [Select::Part(place, _, _), ..] | [Select::Indexed(place, _, _), ..] => Ok(Some(
             ElabFault::Range(*place),
         )),
@@ -185,7 +184,7 @@ pub fn object_fault(
     if object.decl.words.is_none() {
         vector_fault(alloc, !object.scalar, &object.decl, all, names)
     } else {
-        memory_fault(alloc, pos, !object.scalar, &object.decl, all, names)
+        memory_fault(alloc, pos, &object.decl, all, names)
     }
 }
 

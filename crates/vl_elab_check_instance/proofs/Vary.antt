@@ -107,20 +107,20 @@ module _ (ns : List Names) where
       clear (own ++ no_copies ns q n) (none_behind ns ss)
       (clear own (no_copies ns q n) (clear_if (not may) (f.Range q) refl) (copies q n)) (behind ss)
 
-  memory : (p : Pos) (may : Bool) (d : Decl) (ss : Selects) → varies_by (memory_selects ns p may d ss) ≡ false
-  memory p may d whole = refl
-  memory p may d (bit q i ss) = vector may d ss
-  memory p may d (part q l r ss) = refl
-  memory p may d (indexed q i n ss) = refl
+  memory : (p : Pos) (d : Decl) (ss : Selects) → varies_by (memory_selects ns p d ss) ≡ false
+  memory p d whole = refl
+  memory p d (bit q i ss) = vector true d ss
+  memory p d (part q l r ss) = refl
+  memory p d (indexed q i n ss) = refl
 
   selected : (p : Pos) (scalar : Bool) (d : Decl) (ss : Selects)
       → varies_by (object_selects ns p scalar d ss) ≡ false
   selected p scalar d ss = by (is_none d.words)
     where
       by : (b : Bool) → varies_by (if b then vector_selects ns (not scalar) d ss
-          else memory_selects ns p (not scalar) d ss) ≡ false
+          else memory_selects ns p d ss) ≡ false
       by true = vector (not scalar) d ss
-      by false = memory p (not scalar) d ss
+      by false = memory p d ss
 
   demanded : (p : Pos) (clock fixed : Bool) (gs : List ElabFault) → varies_by gs ≡ false
       → fixed ≡ varies_by (refused_if clock (f.Clock p) ++ refused_if fixed (f.NotConstant p) ++ gs)

@@ -82,19 +82,19 @@ module _ (ns : List Names) where
       join (own ++ no_copies ns q n) (none_behind ns ss)
       (join own (no_copies ns q n) (high_if (not may) (f.Range q) refl) (copies q n)) (behind ss)
 
-  memory : (p : Pos) (may : Bool) (d : Decl) (ss : Selects) → Each IsHigh (memory_selects ns p may d ss)
-  memory p may d whole = (refl, tt)
-  memory p may d (bit q i ss) = vector may d ss
-  memory p may d (part q l r ss) = (refl, tt)
-  memory p may d (indexed q i n ss) = (refl, tt)
+  memory : (p : Pos) (d : Decl) (ss : Selects) → Each IsHigh (memory_selects ns p d ss)
+  memory p d whole = (refl, tt)
+  memory p d (bit q i ss) = vector true d ss
+  memory p d (part q l r ss) = (refl, tt)
+  memory p d (indexed q i n ss) = (refl, tt)
 
   selected : (p : Pos) (scalar : Bool) (d : Decl) (ss : Selects) → Each IsHigh (object_selects ns p scalar d ss)
   selected p scalar d ss = by (is_none d.words)
     where
       by : (b : Bool) → Each IsHigh (if b then vector_selects ns (not scalar) d ss
-          else memory_selects ns p (not scalar) d ss)
+          else memory_selects ns p d ss)
       by true = vector (not scalar) d ss
-      by false = memory p (not scalar) d ss
+      by false = memory p d ss
 
   read : (fixed : Bool) (p : Pos) (text : List ℕ) (m : Meaning) (ss : Selects)
       → Each IsHigh (read_refusals ns fixed p text m ss)

@@ -1,14 +1,15 @@
 -- Between functions: Turns of a generate loop, over what names mean and the numbers that constants have: what the
 -- functions that go through them promise one another. IEEE 1364-2005, section 12.4.1; the limit is a rule of this
 -- project.
-use Rattle.std.specs.Prelude.{ℕ, zero, suc, List, [], ◌∷◌, ◌++◌, true, Option, Some, None, if◌then◌else◌}
+use Rattle.std.specs.Prelude.{ℕ, zero, suc, List, [], ◌∷◌, ◌++◌, Bool, true, ◌&&◌, is_none, Option, Some, None}
+use Rattle.std.specs.Prelude.{if◌then◌else◌}
 use Rattle.fv_text.specs.declared.pos.Pos.{Pos}
 use Rattle.vl_tree.specs.declared.part.LoopHead.{LoopHead}
 use Rattle.vl_mean.specs.declared.const_number.Const.{Const}
 use Rattle.vl_elab_spec.specs.declared.elab_fault.ElabFault.{ElabFault}
 use Rattle.vl_elab_spec.specs.declared.elab_fault.ElabFault.TheVariants as f
 use Rattle.vl_elab_spec.specs.Expressions.{refused_if, own_refusals, refusals}
-use Rattle.vl_elab_spec.specs.Items.{genvar_refusals, is_unknown}
+use Rattle.vl_elab_spec.specs.Items.{genvar_refusals, has_value, is_unknown, without_start, without_value}
 use Rattle.vl_elab_spec.specs.Meanings.{Meaning, undeclared, loop_variable, constant, Names}
 use Rattle.vl_elab_spec.specs.Refused.{lower_of, lowest}
 use Rattle.vl_elab_const.specs.Numbers.{holds, genvar_number}
@@ -19,17 +20,53 @@ use Rattle.vl_elab_check_item.specs.declared.head.Variable.TheVariants as v
 abbrev pub in_turn : List ℕ → Const → List Names → List Names
 in_turn text c ns = ((text, constant c true) ∷ []) ∷ ns
 
--- of a turn behind the last one its condition alone is judged
+-- ---- a turn, by what names mean in it and the numbers of its constants
+
+-- it begins; what is refused has no value
+abbrev pub begins : List Names → List Names → LoopHead → Bool
+begins ns numbers head = is_none (lowest (own_refusals ns true head.condition)) && holds numbers head.condition
+
+-- and leads to a further one
+abbrev pub leads_on : List Names → List Names → LoopHead → Bool
+leads_on ns numbers head = begins ns numbers head && is_none (lowest (genvar_refusals ns head.next))
+
+-- its condition and, where it begins, its step
+abbrev pub turn_fault : List Names → List Names → LoopHead → Option ElabFault
+turn_fault ns numbers head =
+    lower_of (lowest (own_refusals ns true head.condition))
+    (if begins ns numbers head then lowest (genvar_refusals ns head.next) else None)
+
+-- of one behind the last one its condition alone is judged
+abbrev pub last_fault : List Names → List Names → LoopHead → Pos → Option ElabFault
+last_fault ns numbers head p =
+    lower_of (lowest (own_refusals ns true head.condition))
+    (lowest (refused_if (begins ns numbers head) (f.GenLoop p)))
+
+-- ---- all turns from a value on, with so many to come
+
 abbrev pub turns_fault : ℕ → List Names → List Names → LoopHead → Pos → Const → Option ElabFault
 turns_fault zero ns numbers head p c =
-    lower_of (lowest (own_refusals (in_turn head.variable c ns) true head.condition))
-    (lowest (refused_if (holds (in_turn head.variable c numbers) head.condition) (f.GenLoop p)))
+    last_fault (in_turn head.variable c ns) (in_turn head.variable c numbers) head p
 turns_fault (suc n) ns numbers head p c =
     let inside = in_turn head.variable c ns in
     let inner = in_turn head.variable c numbers in
     let more = turns_fault n ns numbers head p (genvar_number inner head.next) in
-    lower_of (lowest (own_refusals inside true head.condition))
-    (if holds inner head.condition then lower_of (lowest (genvar_refusals inside head.next)) more else None)
+    lower_of (turn_fault inside inner head) (if leads_on inside inner head then more else None)
+
+-- what names mean in the step where no turn begins
+abbrev pub idle_names : List Names → LoopHead → Const → List Names
+idle_names ns head c =
+    if has_value ns head.start then in_turn head.variable c ns else without_value head.variable ns
+
+abbrev pub idle_fault : List Names → List Names → LoopHead → Const → Option ElabFault
+idle_fault ns numbers head c =
+    if begins (in_turn head.variable c ns) (in_turn head.variable c numbers) head then None
+    else lowest (genvar_refusals (idle_names ns head c) head.next)
+
+-- from the first one on
+abbrev pub begun_fault : List Names → List Names → LoopHead → Pos → Const → Option ElabFault
+begun_fault ns numbers head p c =
+    lower_of (idle_fault ns numbers head c) (turns_fault 4096 ns numbers head p c)
 
 -- only a name that no scope declares counts
 abbrev pub if_unknown : Option ElabFault → Option ElabFault
@@ -43,8 +80,9 @@ variable_of m = v.Other
 
 abbrev pub head_fault : List Names → List Names → Pos → LoopHead → Variable → Option ElabFault
 head_fault ns numbers p head v.Genvar =
-    lower_of (lowest (genvar_refusals ns head.start))
-    (turns_fault 4096 ns numbers head p (genvar_number numbers head.start))
+    let start = lowest (genvar_refusals ns head.start) in
+    lower_of start (if is_none start then begun_fault ns numbers head p (genvar_number numbers head.start)
+    else lowest (without_start head ns))
 head_fault ns numbers p head v.Undeclared = Some (f.Unknown head.variable p)
 head_fault ns numbers p head v.Other =
     lower_of (Some (f.Kind head.variable p))

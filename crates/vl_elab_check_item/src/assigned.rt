@@ -50,15 +50,19 @@ pub fn assignments_fault(
 }
 
 /// A declared name at whose edge a block acts.
-fn edge_fault(pos: Pos, text: &Text, meaning: &Meaning) -> Option<ElabFault>
-    ensures { result ≡ lowest (items.edge_refusals pos text.now (seen meaning.now)) }
+fn edge_fault(
+    alloc: Global,
+    pos: Pos,
+    text: &Text,
+    meaning: &Meaning,
+) -> Result<Option<ElabFault>, Memory>
+    ensures { IfOk result (λ g. g ≡ lowest (items.edge_refusals pos text.now (seen meaning.now))) }
 {
     match meaning {
-        Meaning::Faulty | Meaning::Shapeless => None,
-        Meaning::Object(object) => clock_if(!is_clock(object.decl.class), pos),
-        Meaning::Constant(_, _) | Meaning::LoopVariable | Meaning::Later => Some(ElabFault::Clock(
-            pos,
-        )),
+        Meaning::LoopVariable => Ok(Some(ElabFault::Unknown(text.copied(alloc)?, pos))),
+        Meaning::Faulty | Meaning::Shapeless => Ok(None),
+        Meaning::Object(object) => Ok(clock_if(!is_clock(object.decl.class), pos)),
+        Meaning::Constant(_, _) | Meaning::Later => Ok(Some(ElabFault::Clock(pos))),
     }
 }
 
@@ -73,7 +77,7 @@ fn posedge_fault(
 {
     match names.meaning(text) {
         None => Ok(Some(ElabFault::Unknown(text.copied(alloc)?, pos))),
-        Some(meaning) => Ok(edge_fault(pos, text, meaning)),
+        Some(meaning) => edge_fault(alloc, pos, text, meaning),
     }
 }
 

@@ -1,6 +1,6 @@
 //! Where the head of a generate loop is refused: with all its turns.
 ghost use Rattle.std.specs.Prelude.{◌≡◌, ◌++◌, ◌∷◌, [], List, true, None, IfOk, OnOk, OnErr};
-ghost use Rattle.std.specs.Prelude.{if◌then◌else◌};
+ghost use Rattle.std.specs.Prelude.{◌&&◌, if◌then◌else◌, is_none, drop};
 ghost use Rattle.vl_mean.specs.Walk.{Place};
 ghost use Rattle.vl_elab_spec.specs.Expressions as expressions;
 ghost use Rattle.vl_elab_spec.specs.Items as items;
@@ -19,7 +19,7 @@ use fv_text::{Memory, Pos, Text};
 use std::alloc::Global;
 use vl_elab_check_expr::{expr_fault, first_of, own_fault};
 use vl_elab_const::{genvar_value, is_true_in};
-use vl_elab_scope::{Level, Meaning, Names};
+use vl_elab_scope::{Level, Meaning, Names, context_of};
 use vl_elab_spec::ElabFault;
 use vl_mean::Const;
 use vl_tree::LoopHead;
@@ -46,16 +46,31 @@ pub fn enter_turn(
     names.enter(level)
 }
 
-/// What is found of a turn: which of its refusals is answered, and the value of the next turn. None exactly where it is
-/// behind the last one.
+/// What is found of a turn: which of its refusals is answered, and the value of the next turn. None exactly where it
+/// leads to none.
 #[derive(Drop)]
 struct Found {
     fault: Option<ElabFault>,
     next: Option<Const>,
 }
 
-/// A turn that is taken leads to the next one.
-fn taken(
+/// Whether a turn begins, of whose condition this is answered. What is refused has no value.
+fn begins(
+    alloc: Global,
+    own: &Option<ElabFault>,
+    head: &LoopHead,
+    numbers: &Names,
+) -> Result<bool, Memory>
+    ensures { IfOk result (λ b. b ≡ (is_none own.now && numbers_spec.holds numbers.now head.now.condition)) }
+{
+    if own.is_some() {
+        return Ok(false);
+    }
+    is_true_in(alloc, &head.condition, numbers)
+}
+
+/// A turn that begins leads to the next one, where its step isn't refused.
+fn begun(
     alloc: Global,
     own: Option<ElabFault>,
     head: &LoopHead,
@@ -64,12 +79,20 @@ fn taken(
 ) -> Result<Found, Memory>
     ensures fault { IfOk result (λ t. t.fault
         ≡ lower_of own (lowest (items.genvar_refusals names.now head.now.next))) }
-    ensures next { IfOk result (λ t. t.next ≡ Some (numbers_spec.genvar_number numbers.now head.now.next)) }
+    ensures next { IfOk result (λ t. t.next
+        ≡ (if is_none (lowest (items.genvar_refusals names.now head.now.next))
+        then Some (numbers_spec.genvar_number numbers.now head.now.next) else None)) }
 {
-    let fault = genvar_fault(alloc, &head.next, names)?;
+    let step = genvar_fault(alloc, &head.next, names)?;
+    if step.is_some() {
+        return Ok(Found {
+            fault: first_of(own, step),
+            next: None,
+        });
+    }
     let next = genvar_value(alloc, &head.next, numbers)?;
     Ok(Found {
-        fault: first_of(own, fault),
+        fault: own,
         next: Some(next),
     })
 }
@@ -81,17 +104,14 @@ fn judge_turn(
     names: &Names,
     numbers: &Names,
 ) -> Result<Found, Memory>
-    ensures fault { IfOk result (λ t. t.fault
-        ≡ lower_of (lowest (expressions.own_refusals names.now true head.now.condition))
-        (if numbers_spec.holds numbers.now head.now.condition
-        then lowest (items.genvar_refusals names.now head.now.next) else None)) }
-    ensures next { IfOk result (λ t. t.next ≡ (if numbers_spec.holds numbers.now head.now.condition
+    ensures fault { IfOk result (λ t. t.fault ≡ spec.turn_fault names.now numbers.now head.now) }
+    ensures next { IfOk result (λ t. t.next ≡ (if spec.leads_on names.now numbers.now head.now
         then Some (numbers_spec.genvar_number numbers.now head.now.next) else None)) }
 {
     let own = own_fault(alloc, &head.condition, true, names)?;
-    let goes_on = is_true_in(alloc, &head.condition, numbers)?;
-    if goes_on {
-        taken(alloc, own, head, names, numbers)
+    let begins = begins(alloc, &own, head, numbers)?;
+    if begins {
+        begun(alloc, own, head, names, numbers)
     } else {
         Ok(Found {
             fault: own,
@@ -109,12 +129,10 @@ fn turn(
 ) -> Result<Found, Memory>
     ensures names { OnOk result (names.new ≡ names.old) }
     ensures numbers { OnOk result (numbers.new ≡ numbers.old) }
-    ensures fault { IfOk result (λ t. let inside = spec.in_turn head.now.variable value names.old in t.fault
-        ≡ lower_of (lowest (expressions.own_refusals inside true head.now.condition))
-        (if numbers_spec.holds (spec.in_turn head.now.variable value numbers.old) head.now.condition
-        then lowest (items.genvar_refusals inside head.now.next) else None)) }
+    ensures fault { IfOk result (λ t. t.fault ≡ spec.turn_fault (spec.in_turn head.now.variable value names.old)
+        (spec.in_turn head.now.variable value numbers.old) head.now) }
     ensures next { IfOk result (λ t. let inner = spec.in_turn head.now.variable value numbers.old in t.next
-        ≡ (if numbers_spec.holds inner head.now.condition
+        ≡ (if spec.leads_on (spec.in_turn head.now.variable value names.old) inner head.now
         then Some (numbers_spec.genvar_number inner head.now.next) else None)) }
 {
     enter_turn(alloc, &head.variable, value, names)?;
@@ -142,12 +160,11 @@ fn judge_last(
     names: &Names,
     numbers: &Names,
 ) -> Result<Option<ElabFault>, Memory>
-    ensures { IfOk result (λ g. g ≡ lower_of (lowest (expressions.own_refusals names.now true head.now.condition))
-        (lowest (expressions.refused_if (numbers_spec.holds numbers.now head.now.condition) (f.GenLoop pos)))) }
+    ensures { IfOk result (λ g. g ≡ spec.last_fault names.now numbers.now head.now pos) }
 {
     let own = own_fault(alloc, &head.condition, true, names)?;
-    let goes_on = is_true_in(alloc, &head.condition, numbers)?;
-    Ok(first_of(own, loop_if(goes_on, pos)))
+    let begins = begins(alloc, &own, head, numbers)?;
+    Ok(first_of(own, loop_if(begins, pos)))
 }
 
 /// A turn behind the last one.
@@ -202,6 +219,98 @@ fn turns(
     Ok(first_of(fault, last))
 }
 
+fn first_begins(
+    alloc: Global,
+    head: &LoopHead,
+    names: &Names,
+    numbers: &Names,
+) -> Result<bool, Memory>
+    ensures { IfOk result (λ b. b ≡ spec.begins names.now numbers.now head.now) }
+{
+    let own = own_fault(alloc, &head.condition, true, names)?;
+    begins(alloc, &own, head, numbers)
+}
+
+/// Whether the turn with this value begins.
+fn begins_at(
+    alloc: Global,
+    head: &LoopHead,
+    value: Const,
+    names: &mut Names,
+    numbers: &mut Names,
+) -> Result<bool, Memory>
+    ensures names { OnOk result (names.new ≡ names.old) }
+    ensures numbers { OnOk result (numbers.new ≡ numbers.old) }
+    ensures begins { IfOk result (λ b. b ≡ spec.begins (spec.in_turn head.now.variable value names.old)
+        (spec.in_turn head.now.variable value numbers.old) head.now) }
+{
+    enter_turn(alloc, &head.variable, value, names)?;
+    enter_turn(alloc, &head.variable, value, numbers)?;
+    let begins = first_begins(alloc, head, names, numbers)?;
+    names.leave();
+    numbers.leave();
+    Ok(begins)
+}
+
+/// Enters a scope in which the loop's variable has no value.
+fn enter_unstarted(alloc: Global, variable: &Text, names: &mut Names) -> Result<(), Memory>
+    ensures ok { OnOk result (names.new ≡ items.without_value variable.now names.old) }
+    ensures err { OnErr result (names.new ≡ names.old) }
+{
+    let mut level = Level::new(alloc);
+    level.add(variable.copied(alloc)?, Meaning::Faulty)?;
+    names.enter(level)
+}
+
+/// Enters the scope in which a step is judged before which no turn begins.
+fn enter_idle(alloc: Global, head: &LoopHead, start: Const, names: &mut Names) -> Result<(), Memory>
+    ensures inside { OnOk result (names.new ≡ spec.idle_names names.old head.now start) }
+    ensures under { OnOk result (drop 1 names.new ≡ names.old) }
+{
+    let context = context_of(alloc, &head.start, names)?;
+    if context.size.is_some() {
+        enter_turn(alloc, &head.variable, start, names)
+    } else {
+        enter_unstarted(alloc, &head.variable, names)
+    }
+}
+
+/// The step of a loop of which no turn begins.
+fn idle_step(
+    alloc: Global,
+    head: &LoopHead,
+    start: Const,
+    names: &mut Names,
+) -> Result<Option<ElabFault>, Memory>
+    ensures names { OnOk result (names.new ≡ names.old) }
+    ensures fault { IfOk result (λ g. g
+        ≡ lowest (items.genvar_refusals (spec.idle_names names.old head.now start) head.now.next)) }
+{
+    enter_idle(alloc, head, start, names)?;
+    let found = genvar_fault(alloc, &head.next, names)?;
+    names.leave();
+    Ok(found)
+}
+
+/// Where no turn begins the step is judged once.
+fn idle_fault(
+    alloc: Global,
+    head: &LoopHead,
+    start: Const,
+    names: &mut Names,
+    numbers: &mut Names,
+) -> Result<Option<ElabFault>, Memory>
+    ensures names { OnOk result (names.new ≡ names.old) }
+    ensures numbers { OnOk result (numbers.new ≡ numbers.old) }
+    ensures fault { IfOk result (λ g. g ≡ spec.idle_fault names.old numbers.old head.now start) }
+{
+    let begins = begins_at(alloc, head, start, names, numbers)?;
+    if begins {
+        return Ok(None);
+    }
+    idle_step(alloc, head, start, names)
+}
+
 /// What a head's variable is.
 #[derive(Clone, Copy)]
 enum Variable {
@@ -246,6 +355,54 @@ fn if_unknown(fault: Option<ElabFault>) -> Option<ElabFault>
     }
 }
 
+/// From a start value that isn't refused on.
+fn begun_head(
+    alloc: Global,
+    pos: Pos,
+    head: &LoopHead,
+    names: &mut Names,
+    numbers: &mut Names,
+) -> Result<Option<ElabFault>, Memory>
+    ensures names { OnOk result (names.new ≡ names.old) }
+    ensures numbers { OnOk result (numbers.new ≡ numbers.old) }
+    ensures fault { IfOk result (λ g. g ≡ spec.begun_fault names.old numbers.old head.now pos
+        (numbers_spec.genvar_number numbers.old head.now.start)) }
+{
+    let start = genvar_value(alloc, &head.start, numbers)?;
+    let idle = idle_fault(alloc, head, start, names, numbers)?;
+    let all = turns(alloc, pos, head, start, names, numbers)?;
+    Ok(first_of(idle, all))
+}
+
+#[tactic(auto, using(vl_elab_check_expr::proofs::Lowest::lowest_parts))]
+fn judge_unstarted(
+    alloc: Global,
+    head: &LoopHead,
+    names: &Names,
+) -> Result<Option<ElabFault>, Memory>
+    ensures { IfOk result (λ g. g ≡ lowest (expressions.own_refusals names.now true head.now.condition
+        ++ items.genvar_refusals names.now head.now.next)) }
+{
+    let own = own_fault(alloc, &head.condition, true, names)?;
+    let step = genvar_fault(alloc, &head.next, names)?;
+    Ok(first_of(own, step))
+}
+
+/// Behind a start value that is refused: the condition and the step, over a variable without a value.
+fn unstarted_head(
+    alloc: Global,
+    head: &LoopHead,
+    names: &mut Names,
+) -> Result<Option<ElabFault>, Memory>
+    ensures names { OnOk result (names.new ≡ names.old) }
+    ensures fault { IfOk result (λ g. g ≡ lowest (items.without_start head.now names.old)) }
+{
+    enter_unstarted(alloc, &head.variable, names)?;
+    let found = judge_unstarted(alloc, head, names)?;
+    names.leave();
+    Ok(found)
+}
+
 /// Over a genvar, and none of a loop around.
 fn genvar_head(
     alloc: Global,
@@ -259,9 +416,11 @@ fn genvar_head(
     ensures fault { IfOk result (λ g. g ≡ spec.head_fault names.old numbers.old pos head.now v.Genvar) }
 {
     let own = genvar_fault(alloc, &head.start, names)?;
-    let start = genvar_value(alloc, &head.start, numbers)?;
-    let inner = turns(alloc, pos, head, start, names, numbers)?;
-    Ok(first_of(own, inner))
+    if own.is_some() {
+        let rest = unstarted_head(alloc, head, names)?;
+        return Ok(first_of(own, rest));
+    }
+    begun_head(alloc, pos, head, names, numbers)
 }
 
 /// The names in a head over what is no genvar of its own.

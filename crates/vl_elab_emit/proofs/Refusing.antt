@@ -108,7 +108,7 @@ module _ (ns : List Names) (ss : List Scope) (named_so : AllNamed ns) (meant : A
       let z = undivided _ (none-back inner divided two) in
       let x = selected ns (is_none d.words) true (not scalar) p d xs
       (λ may d one few h k t z. vector ns named_so (sound ns ss meant) true may p d xs w one few h k t z)
-      (λ may d one few h k t z. word ns named_so (sound ns ss meant) true may p d xs w one few h k t z)
+      (λ d one few h k t z. word ns named_so (sound ns ss meant) true p d xs w one few h k t z)
       means.2.some_bits means.2.few_bits hs (none-back (inner ++ divided ++ assigned) selects all)
       (none-back (inner ++ divided ++ assigned ++ selects) _ h) z in
       let found : declared_in ss text ≡ Some d = λ i. unless_constant (means.0 i) (means.1 i) in

@@ -293,7 +293,7 @@ module _ (ns : List Names) (ss : List Scope) (es : List Decl) (named_so : AllNam
       let hs = none-front inner divided two in
       let x = selected ns (is_none d.words) (fixed || false) (not scalar) p d xs
       (λ may d one few h k t z. vector ns named_so (sound ns ss meant) (fixed || false) may p d xs w one few h k t z)
-      (λ may d one few h k t z. word ns named_so (sound ns ss meant) (fixed || false) may p d xs w one few h k t z)
+      (λ d one few h k t z. word ns named_so (sound ns ss meant) (fixed || false) p d xs w one few h k t z)
       means.2.some_bits means.2.few_bits hs (none-back (inner ++ divided ++ assigned) selects narrow)
       (none-back (inner ++ divided ++ assigned ++ selects) _ h) z in
       let y : IsFlatName fixed p text xs = flat_name fixed p text xs d input scalar e clock hs z x means.0 in

@@ -68,17 +68,17 @@ module _ (ns ms : List Names) (h : Alike ns ms) where
   same_vector may d (indexed q x n ss) =
       λ i. refused_if (not may) (f.Range q) ++ same_copies q n i ++ same_behind ss i
 
-  same_memory : (p : Pos) (may : Bool) (d : Decl) (ss : Selects)
-      → memory_selects ns p may d ss ≡ memory_selects ms p may d ss
-  same_memory p may d whole = refl
-  same_memory p may d (bit q x ss) = same_vector may d ss
-  same_memory p may d (part q l r ss) = refl
-  same_memory p may d (indexed q x n ss) = refl
+  same_memory : (p : Pos) (d : Decl) (ss : Selects)
+      → memory_selects ns p d ss ≡ memory_selects ms p d ss
+  same_memory p d whole = refl
+  same_memory p d (bit q x ss) = same_vector true d ss
+  same_memory p d (part q l r ss) = refl
+  same_memory p d (indexed q x n ss) = refl
 
   pub same_object : (p : Pos) (scalar : Bool) (d : Decl) (ss : Selects)
       → object_selects ns p scalar d ss ≡ object_selects ms p scalar d ss
   same_object p scalar d ss =
-      λ i. if is_none d.words then same_vector (not scalar) d ss i else same_memory p (not scalar) d ss i
+      λ i. if is_none d.words then same_vector (not scalar) d ss i else same_memory p d ss i
 
   read : (fixed : Bool) (p : Pos) (text : List ℕ) (m : Meaning) (ss : Selects)
       → read_refusals ns fixed p text m ss ≡ read_refusals ms fixed p text m ss

@@ -146,16 +146,16 @@ module _ (ns : List Names) where
       refused_if (not may) (f.Range q) ++ far q l ++ far q r ++ against d q l r ++ none_behind ss
   vector_selects may d (indexed q s n ss) = refused_if (not may) (f.Range q) ++ no_copies q n ++ none_behind ss
 
-  -- of a memory: the first select is an index
-  abbrev pub memory_selects : Pos → Bool → Decl → Selects → List ElabFault
-  memory_selects p may d whole = f.Range p ∷ []
-  memory_selects p may d (bit q i ss) = vector_selects may d ss
-  memory_selects p may d (part q l r ss) = f.Range q ∷ []
-  memory_selects p may d (indexed q s n ss) = f.Range q ∷ []
+  -- of a memory: the first select is an index, and a word is read as a vector, also one of one bit
+  abbrev pub memory_selects : Pos → Decl → Selects → List ElabFault
+  memory_selects p d whole = f.Range p ∷ []
+  memory_selects p d (bit q i ss) = vector_selects true d ss
+  memory_selects p d (part q l r ss) = f.Range q ∷ []
+  memory_selects p d (indexed q s n ss) = f.Range q ∷ []
 
   abbrev pub object_selects : Pos → Bool → Decl → Selects → List ElabFault
   object_selects p scalar d ss =
-      if is_none d.words then vector_selects (not scalar) d ss else memory_selects p (not scalar) d ss
+      if is_none d.words then vector_selects (not scalar) d ss else memory_selects p d ss
 
   -- ---- names; what has to be constant has no net and no variable in it
 

@@ -17,7 +17,7 @@ use Rattle.std.specs.Prelude.{
   ◌||◌,
   not,
 }
-use Rattle.std.specs.Prelude.{is_none, Option, Some, None, bytes_eq, if◌then◌else◌}
+use Rattle.std.specs.Prelude.{is_none, is_some, Option, Some, None, bytes_eq, if◌then◌else◌}
 use Rattle.fv_text.specs.declared.pos.Pos.{Pos}
 use Rattle.vl_tree.specs.declared.declaration.DeclaredName.{DeclaredName}
 use Rattle.vl_tree.specs.declared.declaration.Direction.{Direction}
@@ -65,6 +65,7 @@ use Rattle.vl_size.specs.declared.context.Context.{Context}
 use Rattle.vl_size.specs.declared.decl.Class.{Class}
 use Rattle.vl_size.specs.declared.decl.Class.TheVariants as class
 use Rattle.vl_size.specs.Divisors.{own_context}
+use Rattle.vl_size.specs.Size.{size}
 use Rattle.vl_mean.specs.declared.const_number.Const.{Const}
 use Rattle.vl_mean.specs.Cells.{contains_name}
 use Rattle.vl_mean.specs.Declarations.{class_of_attributes, class_of_kind, joined_attributes, ports_of, port_named}
@@ -206,9 +207,10 @@ assignments_refusals ns [] = []
 assignments_refusals ns (x ∷ xs) =
     assignment_refusals ns true true false x.target x.value ++ assignments_refusals ns xs
 
--- a block acts at the edge of the clock alone
+-- a block acts at the edge of the clock alone; the event reads its name, so a genvar is unknown there outside its loops
 abbrev pub edge_refusals : Pos → List ℕ → Meaning → List ElabFault
 edge_refusals p text undeclared = f.Unknown text p ∷ []
+edge_refusals p text loop_variable = f.Unknown text p ∷ []
 edge_refusals p text faulty = []
 edge_refusals p text shapeless = []
 edge_refusals p text (object d input scalar) = refused_if (not (is_clock_class d.class)) (f.Clock p)
@@ -230,17 +232,62 @@ head_name p text m = f.Kind text p ∷ []
 abbrev pub genvar_refusals : List Names → Expr → List ElabFault
 genvar_refusals ns e = expr_refusals ns true (assigned_in ns (Some 32) e) e
 
--- The condition of each turn, and what the variable is behind it, with so many turns to come: a turn that begins
--- behind the last one is refused.
+abbrev pub are_none : List ElabFault → Bool
+are_none [] = true
+are_none (g ∷ gs) = false
+
+-- what names mean in the turn with this value
+abbrev pub turn_meanings : LoopHead → Place → Const → List Names
+turn_meanings head at c = meanings_at (turn_place at head.variable c)
+
+-- The turn with this value begins: its condition holds. What is refused has no value, so no turn begins by it.
+abbrev pub begins : LoopHead → Place → Const → Bool
+begins head at c =
+    are_none (own_refusals (turn_meanings head at c) true head.condition) && goes_on head at.scopes c
+
+-- and leads to a further one
+abbrev pub leads_on : LoopHead → Place → Const → Bool
+leads_on head at c = begins head at c && are_none (genvar_refusals (turn_meanings head at c) head.next)
+
+-- a turn's condition and, where it begins, its step
+abbrev pub turn_refusals : LoopHead → Place → Const → List ElabFault
+turn_refusals head at c =
+    let ns = turn_meanings head at c in
+    own_refusals ns true head.condition ++ (if begins head at c then genvar_refusals ns head.next else [])
+
+-- All turns from this value on, with so many to come: a turn that begins behind the last one is refused.
 abbrev pub turns_refusals : ℕ → LoopHead → Place → Pos → Const → List ElabFault
 turns_refusals zero head at p c =
-    own_refusals (meanings_at (turn_place at head.variable c)) true head.condition
-    ++ refused_if (goes_on head at.scopes c) (f.GenLoop p)
+    own_refusals (turn_meanings head at c) true head.condition ++ refused_if (begins head at c) (f.GenLoop p)
 turns_refusals (suc n) head at p c =
-    let ns = meanings_at (turn_place at head.variable c) in
     let more = turns_refusals n head at p (next_turn head at.scopes c) in
-    own_refusals ns true head.condition ++ (if goes_on head at.scopes c then genvar_refusals ns head.next ++ more
-    else [])
+    turn_refusals head at c ++ (if leads_on head at c then more else [])
+
+-- a variable without a value
+abbrev pub without_value : List ℕ → List Names → List Names
+without_value text ns = ((text, faulty) ∷ []) ∷ ns
+
+-- what isn't refused has a value, unless it names a constant that has none, and so has no size
+abbrev pub has_value : List Names → Expr → Bool
+has_value ns e = is_some (size (objects ns) (known ns e))
+
+-- where no turn begins the step is judged once, with the start's value, where that has one
+abbrev pub idle_meanings : LoopHead → Place → Const → List Names
+idle_meanings head at c =
+    let ns = meanings_at at in
+    if has_value ns head.start then turn_meanings head at c else without_value head.variable ns
+
+abbrev pub idle_refusals : LoopHead → Place → Const → List ElabFault
+idle_refusals head at c = if begins head at c then [] else genvar_refusals (idle_meanings head at c) head.next
+
+-- behind a start value that is refused
+abbrev pub without_start : LoopHead → List Names → List ElabFault
+without_start head ns =
+    let inside = without_value head.variable ns in
+    own_refusals inside true head.condition ++ genvar_refusals inside head.next
+
+abbrev pub begun_refusals : LoopHead → Place → Pos → Const → List ElabFault
+begun_refusals head at p c = idle_refusals head at c ++ turns_refusals 4096 head at p c
 
 abbrev pub is_unknown : ElabFault → Bool
 is_unknown (f.Unknown text p) = true
@@ -253,7 +300,9 @@ unknown_names (g ∷ gs) = let more = unknown_names gs in if is_unknown g then g
 -- a loop over what is no genvar of its own is judged for its names alone; its start value stands outside of it
 abbrev pub head_refusals : Place → Pos → LoopHead → Meaning → List ElabFault
 head_refusals at p head loop_variable =
-    genvar_refusals (meanings_at at) head.start ++ turns_refusals 4096 head at p (first_turn head at.scopes)
+    let start = genvar_refusals (meanings_at at) head.start in
+    start ++ (if are_none start then begun_refusals head at p (first_turn head at.scopes)
+    else without_start head (meanings_at at))
 head_refusals at p head undeclared = f.Unknown head.variable p ∷ []
 head_refusals at p head m =
     let ns = meanings_at at in

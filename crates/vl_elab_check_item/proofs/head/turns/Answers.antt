@@ -1,11 +1,9 @@
 use Rattle.std.proofs.Common.{◌≡◌, ◌<◌, ◌∙◌, ap, sym, arith, true}
 use Rattle.std.specs.Prelude.{Some, None, if◌then◌else◌}
 use Rattle.std.proofs.lemmas.Grind.{common_steps}
-use Rattle.vl_elab_spec.specs.Expressions.{own_refusals}
-use Rattle.vl_elab_spec.specs.Items.{genvar_refusals}
-use Rattle.vl_elab_spec.specs.Refused.{lower_of, lowest}
-use Rattle.vl_elab_const.specs.Numbers.{holds, genvar_number}
-use Rattle.vl_elab_check_item.specs.TurnParts.{in_turn, turns_fault}
+use Rattle.vl_elab_spec.specs.Refused.{lower_of}
+use Rattle.vl_elab_const.specs.Numbers.{genvar_number}
+use Rattle.vl_elab_check_item.specs.TurnParts.{in_turn, leads_on, turn_fault, turns_fault}
 use Rattle.vl_elab_check_item.proofs.Heads.{turns_on, turns_stop}
 use Rattle.vl_elab_check_item.proofs.head.turns.Goals as goal
 
@@ -25,14 +23,13 @@ loop-left-preserved c =
           (turns_fault 4096 c.args.names.now c.args.numbers.now head c.args.pos c.args.start) c.in_ok-found.found.next
           positive
           (c.in_ok-found.ensures.fault
-          ∙ (λ i. let inside = in_turn head.variable value (same_names i) in
-          let inner = in_turn head.variable value (same_numbers i) in
-          lower_of (lowest (own_refusals inside true head.condition))
-          (if holds inner head.condition then lowest (genvar_refusals inside head.next) else None)))
+          ∙ (λ i. turn_fault (in_turn head.variable value (same_names i))
+          (in_turn head.variable value (same_numbers i)) head))
           c.first_of-fault.ensures
           (c.in_ok-found.ensures.next
           ∙ (λ i. let inner = in_turn head.variable value (same_numbers i) in
-          if holds inner head.condition then Some (genvar_number inner head.next) else None)) c.in-Some.is
+          if leads_on (in_turn head.variable value (same_names i)) inner head
+          then Some (genvar_number inner head.next) else None)) c.in-Some.is
           c.loop-left.invariant.fault;
     }
 
@@ -48,13 +45,12 @@ returns-in-None-clause-fault c =
     (turns_fault 4096 c.args.names.now c.args.numbers.now head c.args.pos c.args.start) c.in_ok-found.found.next
     positive
     (c.in_ok-found.ensures.fault
-    ∙ (λ i. let inside = in_turn head.variable value (same_names i) in
-    let inner = in_turn head.variable value (same_numbers i) in
-    lower_of (lowest (own_refusals inside true head.condition))
-    (if holds inner head.condition then lowest (genvar_refusals inside head.next) else None))) c.first_of-fault.ensures
+    ∙ (λ i. turn_fault (in_turn head.variable value (same_names i))
+    (in_turn head.variable value (same_numbers i)) head)) c.first_of-fault.ensures
     (c.in_ok-found.ensures.next
     ∙ (λ i. let inner = in_turn head.variable value (same_numbers i) in
-    if holds inner head.condition then Some (genvar_number inner head.next) else None)) c.in-None.is
+    if leads_on (in_turn head.variable value (same_names i)) inner head
+    then Some (genvar_number inner head.next) else None)) c.in-None.is
     c.loop-left.invariant.fault
 
 pub returns-clause-fault : goal.returns-clause-fault
