@@ -7,7 +7,7 @@ use vl_tree::{Expr, ExprKind};
 /// Whether no name stands in the expression.
 #[cycle(constant)]
 #[tactic(auto, using(vl_tree::specs::ExprFalls::parts_fall))]
-pub(crate) fn is_constant(expr: &Expr) -> bool
+pub fn is_constant(expr: &Expr) -> bool
     ensures { result ≡ spec.is_constant expr.now }
 {
     match &expr.kind {

@@ -18,6 +18,7 @@ mod sign;
 mod size;
 pub mod way;
 
+pub use constant::is_constant;
 pub use context::Context;
 pub use decl::{Class, Decl};
 pub use decls::Decls;
