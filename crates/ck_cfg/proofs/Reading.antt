@@ -5,7 +5,8 @@ use Rattle.ck_cfg.specs.declared.fault.CfgFault.{CfgFault}
 use Rattle.ck_cfg.specs.declared.fault.CfgFault.TheVariants.{Section, Option, Depth, Isa, Missing, Twice, TooDeep}
 use Rattle.ck_cfg.specs.declared.fault.CfgFault.TheVariants.{NotUtf8, Nret, Script, Memory}
 use Rattle.ck_cfg.specs.declared.reader.Reader.{Reader}
-use Rattle.ck_cfg.specs.Faults.{OrMemory, and_then}
+use Rattle.fv_text.specs.Results.{and_then}
+use Rattle.ck_cfg.specs.Faults.{OrMemory}
 use Rattle.ck_cfg.specs.Line.{Line, trimmed, counted, counted_from}
 use Rattle.ck_cfg.specs.Reading.{with_line, with_lines}
 

@@ -32,11 +32,6 @@ OrMemory (Nret line) P = P
 OrMemory (Script line) P = P
 OrMemory Memory P = Unit {0}
 
--- what is made of an answer; a refusal stays
-abbrev pub and_then : {X Y : Type 0} → Result X CfgFault → (X → Result Y CfgFault) → Result Y CfgFault
-and_then (Ok x) next = next x
-and_then (Err e) next = Err e
-
 -- the answer is the wanted one
 abbrev pub Answers : {X : Type 0} → Result X CfgFault → Result X CfgFault → Type 0
 Answers (Ok x) wanted = wanted ≡ Ok x

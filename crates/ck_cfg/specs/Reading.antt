@@ -29,8 +29,8 @@ use Rattle.ck_cfg.specs.declared.section.Section.TheVariants.{ScriptSources, Csr
 use Rattle.ck_cfg.specs.declared.fault.CfgFault.{CfgFault}
 use Rattle.ck_cfg.specs.declared.fault.CfgFault.TheVariants as fault
 use Rattle.ck_cfg.specs.declared.reader.Reader.{Reader}
-use Rattle.ck_cfg.specs.Faults.{and_then}
 use Rattle.ck_cfg.specs.Channels.{stated_nret}
+use Rattle.fv_text.specs.Results.{and_then}
 use Rattle.ck_cfg.specs.Line.{Line, section_begun, counted_lines}
 use Rattle.ck_cfg.specs.Section.{section_named}
 use Rattle.ck_cfg.specs.Options.{isa, is_among, with_option}

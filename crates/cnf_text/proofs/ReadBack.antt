@@ -13,7 +13,8 @@ use Rattle.cnf_form.specs.Cnf.{Cnf, IsLiteral, AreLiterals, AreClauses}
 use Rattle.cnf_text.specs.declared.fault.DimacsFault.{DimacsFault}
 use Rattle.fv_lines.specs.Numbers.{is_digit, number_up_to}
 use Rattle.cnf_text.specs.declared.fault.DimacsFault.TheVariants.{Header, Literal}
-use Rattle.cnf_text.specs.Dimacs.{and_then, literal_of, is_comment, is_zero, header_of, both, Body, with_number}
+use Rattle.fv_text.specs.Results.{and_then}
+use Rattle.cnf_text.specs.Dimacs.{literal_of, is_comment, is_zero, header_of, both, Body, with_number}
 use Rattle.cnf_text.specs.Dimacs.{with_words, with_line, with_lines, finished, read_behind, read_lines, formula_of}
 use Rattle.cnf_text.specs.Dimacs.{note_text, literal_text, clause_text, header_text, dimacs_text, HaveNoEnd}
 use Rattle.fv_lines.specs.Words.{begins_with, joined, lines, words, is_nil, next_place}

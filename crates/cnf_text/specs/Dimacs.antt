@@ -34,15 +34,11 @@ use Rattle.std.specs.Option.{ok_or}
 use Rattle.std.specs.Fmt.{signed_decimal}
 use Rattle.std.specs.List.{AllByRecursion, list_all}
 use Rattle.cnf_form.specs.Cnf.{Cnf}
+use Rattle.fv_text.specs.Results.{and_then}
 use Rattle.fv_lines.specs.Numbers.{number_up_to, signed}
 use Rattle.fv_lines.specs.Words.{is_nil, next_place, begins_with, lines, words}
 use Rattle.cnf_text.specs.declared.fault.DimacsFault.{DimacsFault}
 use Rattle.cnf_text.specs.declared.fault.DimacsFault.TheVariants.{Header, Literal, Count, Open, Memory}
-
--- what comes of an answer that is no refusal
-abbrev pub and_then : {X Y : Type 0} → Result X DimacsFault → (X → Result Y DimacsFault) → Result Y DimacsFault
-and_then (Ok x) next = next x
-and_then (Err e) next = Err e
 
 -- a comment: its first word begins with `c`
 abbrev pub is_comment : List (List ℕ) → Bool

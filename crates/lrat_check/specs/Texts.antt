@@ -17,6 +17,7 @@ use Rattle.std.specs.Prelude.{
 }
 use Rattle.std.specs.Prelude.{length, flat_map, ℤ, codes, decimal, bytes_eq, Option, Some, None, Result, Ok, Err}
 use Rattle.std.specs.List.{AllByRecursion}
+use Rattle.fv_text.specs.Results.{and_then}
 use Rattle.fv_lines.specs.Words.{lines, words, is_nil, next_place}
 use Rattle.fv_lines.specs.Numbers.{natural_of, signed}
 use Rattle.cnf_text.specs.Dimacs.{literal_text}
@@ -44,11 +45,6 @@ is_end word = bytes_eq word (codes "0")
 -- the word `d`
 abbrev pub is_delete : List ℕ → Bool
 is_delete word = bytes_eq word (codes "d")
-
--- what comes next is made of what was read; a refusal stays
-abbrev pub and_then : {A B : Type 0} → Result A LratFault → (A → Result B LratFault) → Result B LratFault
-and_then (Ok x) next = next x
-and_then (Err e) next = Err e
 
 -- a number that has to be there
 abbrev pub wanted : {A : Type 0} → ℕ → Option A → Result A LratFault

@@ -15,7 +15,8 @@ use Rattle.fv_lines.specs.Numbers.{number_up_to}
 use Rattle.fv_lines.specs.Words.{is_nil, lines, next_place, words}
 use Rattle.cnf_text.specs.declared.fault.DimacsFault.{DimacsFault}
 use Rattle.cnf_text.specs.declared.fault.DimacsFault.TheVariants.{Header, Literal, Open, Count}
-use Rattle.cnf_text.specs.Dimacs.{and_then, is_comment, header_of, both, Body, literal_of, is_zero, with_number}
+use Rattle.fv_text.specs.Results.{and_then}
+use Rattle.cnf_text.specs.Dimacs.{is_comment, header_of, both, Body, literal_of, is_zero, with_number}
 use Rattle.cnf_text.specs.Dimacs.{with_words, with_line, with_lines, finished, read_behind, read_lines, formula_of}
 use Rattle.lrat_texts.specs.Numerals.{SaysInteger}
 use Rattle.lrat_texts.specs.Formulas.{SaysHeader, is_silent, said_words, with_end, LinesSay, SaysFormula}

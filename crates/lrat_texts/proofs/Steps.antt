@@ -6,13 +6,14 @@ use Rattle.std.specs.List.{AllZip}
 use Rattle.std.proofs.lemmas.Bool.{cases_Bool}
 use Rattle.std.proofs.lemmas.Bool.Decides.{nat_tests}
 use Rattle.std.proofs.lemmas.Slice.Eq.{bytes_eq-Decides}
+use Rattle.fv_text.specs.Results.{and_then}
 use Rattle.fv_lines.specs.Numbers.{natural_of}
 use Rattle.fv_lines.specs.Words.{is_nil, lines, next_place, words}
 use Rattle.lrat_check.specs.declared.step.Step.{Step}
 use Rattle.lrat_check.specs.declared.step.Step.TheVariants.{Add, Delete}
 use Rattle.lrat_check.specs.declared.lrat_fault.LratFault.{LratFault}
 use Rattle.lrat_check.specs.declared.lrat_fault.LratFault.TheVariants.{Literal, Open}
-use Rattle.lrat_check.specs.Texts.{short, nonzero, literal_of, is_end, is_delete, and_then, wanted, up_to_end, ended}
+use Rattle.lrat_check.specs.Texts.{short, nonzero, literal_of, is_end, is_delete, wanted, up_to_end, ended}
 use Rattle.lrat_check.specs.Texts.{add_of, delete_of, behind_id, step_of, with_line, with_lines, steps_of}
 use Rattle.lrat_texts.specs.Steps.{SaysId, SaysDeleted, SaysLiteral, SaysStep, said_lines}
 use Rattle.lrat_texts.specs.Steps.{SaysSteps}
