@@ -10,7 +10,7 @@ use Rattle.vl_tree.specs.declared.declaration.Port.{Port}
 use Rattle.vl_tree.specs.declared.declaration.PortKind.{PortKind}
 use Rattle.vl_tree.specs.declared.declaration.PortKind.TheVariants as port
 use Rattle.vl_size.proofs.Entries.{copied_some}
-use Rattle.vl_mean.proofs.Lookups.{bytes_eq-swap}
+use Rattle.fv_text.proofs.Lookups.{bytes_eq-swap}
 use Rattle.vl_mean.specs.Declarations.{full_port, full_ports, ports_of, port_named}
 use Rattle.vl_mean.specs.Walk.{written_ports}
 use Rattle.vl_elab_scope.specs.Texts.{or_else}

@@ -22,7 +22,7 @@ use Rattle.vl_tree.specs.Item.{
   if_else,
   more_items,
 }
-use Rattle.vl_mean.proofs.Lookups.{bytes_eq-swap}
+use Rattle.fv_text.proofs.Lookups.{bytes_eq-swap}
 use Rattle.vl_elab_spec.specs.Items.{items_parameters, parameter_named}
 use Rattle.vl_elab_check_instance.specs.declared.parameters.ParameterTable.{ParameterTable}
 use Rattle.vl_elab_check_instance.specs.declared.parameters.Spot.{Spot}

@@ -12,7 +12,7 @@ use Rattle.vl_mean.specs.Constants.{constant_operand}
 use Rattle.vl_mean.specs.Declarations.{Overrides, override_or}
 use Rattle.vl_mean.specs.Scopes.{Scope, constant_in}
 use Rattle.vl_mean.specs.Walk.{override_of, overrides_of}
-use Rattle.vl_mean.proofs.Lookups.{bytes_eq-swap}
+use Rattle.fv_text.proofs.Lookups.{bytes_eq-swap}
 use Rattle.vl_elab_spec.specs.Expressions.{known}
 use Rattle.vl_elab_spec.specs.Meanings.{Names, is_overridden}
 use Rattle.vl_elab_scope.specs.Texts.{or_else}

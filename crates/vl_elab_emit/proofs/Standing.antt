@@ -4,7 +4,7 @@ use Rattle.std.proofs.Common.{ap, sym, ◌∙◌, subst, append_assoc}
 use Rattle.std.proofs.lemmas.List.{append-nil}
 use Rattle.vl_size.specs.declared.decl.Decl.{Decl}
 use Rattle.vl_size.specs.Table.{AreDifferent, IsShaped, is_declared}
-use Rattle.vl_mean.proofs.Lookups.{bytes_eq-swap}
+use Rattle.fv_text.proofs.Lookups.{bytes_eq-swap}
 use Rattle.vl_mean.specs.declared.driver.DriverKind.TheVariants as k
 use Rattle.vl_mean.specs.declared.driver.Start.{Start}
 use Rattle.vl_mean.specs.Parts.{Part, declares, equation, combinational, clocked, starts}

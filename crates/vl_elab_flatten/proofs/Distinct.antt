@@ -24,7 +24,7 @@ use Rattle.vl_tree.specs.Item.{
   more_items,
 }
 use Rattle.vl_mean.specs.declared.const_number.Const.{Const}
-use Rattle.vl_mean.proofs.Lookups.{bytes_eq-swap}
+use Rattle.fv_text.proofs.Lookups.{bytes_eq-swap}
 use Rattle.vl_mean.specs.Cells.{contains_name}
 use Rattle.vl_mean.specs.Constants.{Constants, constant_of}
 use Rattle.vl_mean.specs.Declarations.{Overrides, parameter_value, with_constants, with_item_parameters}

@@ -4,7 +4,7 @@ use Rattle.std.proofs.Common.{ap, sym, ◌∙◌, subst, true≢false, append_as
 use Rattle.std.proofs.lemmas.List.{append-nil}
 use Rattle.vl_size.specs.declared.decl.Decl.{Decl}
 use Rattle.vl_size.specs.Table.{AreDifferent, IsPlain, IsShaped, is_declared, span}
-use Rattle.vl_mean.proofs.Lookups.{bytes_eq-swap}
+use Rattle.fv_text.proofs.Lookups.{bytes_eq-swap}
 use Rattle.vl_mean.specs.Runs.{Each}
 use Rattle.vl_mean.specs.Scopes.{Scope}
 use Rattle.vl_elab_draft.specs.Kept.{with_decl}

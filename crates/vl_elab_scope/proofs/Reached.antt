@@ -4,7 +4,7 @@ use Rattle.std.specs.Prelude.{bytes_eq}
 use Rattle.std.specs.Prelude.{Option, Some, None, if◌then◌else◌, is_some}
 use Rattle.std.proofs.Common.{ap, sym, ◌∙◌}
 use Rattle.std.proofs.lemmas.Slice.Eq.{bytes_eq-Decides}
-use Rattle.vl_mean.proofs.Lookups.{bytes_eq-swap}
+use Rattle.fv_text.proofs.Lookups.{bytes_eq-swap}
 use Rattle.vl_mean.specs.Cells.{contains_name}
 use Rattle.vl_elab_scope.specs.Texts.{of_names, or_else, AgreeOn}
 

@@ -1,6 +1,6 @@
 use Rattle.std.proofs.lemmas.Result.{on_ok_weaker}
 use Rattle.vl_elab_const.specs.Given.{value_in}
-use Rattle.vl_mean.proofs.Lookups.{lookup_after}
+use Rattle.fv_text.proofs.Lookups.{lookup_after}
 use Rattle.vl_elab_const.proofs.Gives.{said_by, value_kept, value_put}
 use Rattle.vl_elab_const.proofs.given.add_behind.Goals as goal
 

@@ -1,4 +1,4 @@
-use Rattle.vl_mean.proofs.Lookups.{lookup_after}
+use Rattle.fv_text.proofs.Lookups.{lookup_after}
 use Rattle.vl_elab_names.proofs.Added.{set_after}
 use Rattle.vl_elab_names.proofs.set.put.Goals as goal
 

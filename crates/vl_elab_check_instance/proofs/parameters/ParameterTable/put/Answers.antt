@@ -1,4 +1,4 @@
-use Rattle.vl_mean.proofs.Lookups.{lookup_after}
+use Rattle.fv_text.proofs.Lookups.{lookup_after}
 use Rattle.vl_elab_check_instance.proofs.parameters.ParameterTable.put.Goals as goal
 
 pub returns : goal.returns

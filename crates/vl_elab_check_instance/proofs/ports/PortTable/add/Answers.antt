@@ -1,5 +1,5 @@
 use Rattle.vl_elab_check_instance.specs.Ports.{direction_in}
-use Rattle.vl_mean.proofs.Lookups.{lookup_after}
+use Rattle.fv_text.proofs.Lookups.{lookup_after}
 use Rattle.vl_elab_check_instance.proofs.Directions.{said, direction_kept, direction_put}
 use Rattle.vl_elab_check_instance.proofs.ports.PortTable.add.Goals as goal
 

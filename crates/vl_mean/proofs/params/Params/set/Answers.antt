@@ -1,4 +1,4 @@
-use Rattle.vl_mean.proofs.Lookups.{lookup_after}
+use Rattle.fv_text.proofs.Lookups.{lookup_after}
 use Rattle.vl_mean.proofs.params.Params.set.Goals as goal
 
 pub returns-clause-ok : goal.returns-clause-ok

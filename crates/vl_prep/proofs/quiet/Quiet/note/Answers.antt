@@ -1,5 +1,5 @@
 use Rattle.std.proofs.Common.{◌∙◌}
-use Rattle.vl_prep.proofs.Names.{lookup_after}
+use Rattle.fv_text.proofs.Lookups.{lookup_after}
 use Rattle.vl_prep.proofs.Quieted.{seen_before}
 use Rattle.vl_prep.proofs.quiet.Quiet.note.Goals as goal
 
