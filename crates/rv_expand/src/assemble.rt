@@ -13,7 +13,7 @@ ghost use Rattle.rv_expand.specs.Operands.{AreOperands, operands_at};
 use crate::operands::OperandNodes;
 use crate::span::{Span, behind};
 use fv_text::Memory;
-use rv_table::{Form, Pattern};
+use rv_table::{Form, Pattern, funct3_of, opcode_of};
 use rv_words::{beside, constant, field, join};
 use wn_net::{Net, NodeId};
 
@@ -72,26 +72,6 @@ fn lower_parts(net: &mut Net, funct3: u32, low: NodeId, opcode: u32) -> Result<N
     let front = after_number(net, 3, funct3, low)?;
     let parts = before_opcode(net, front, 8, opcode)?;
     Ok(parts)
-}
-
-/// funct3, 0 where the row has none.
-fn funct3_of(pattern: Pattern) -> u32
-    requires lawful { assembled.is_lawful pattern ≡ true }
-    ensures value { result ≡ assembled.funct3_of pattern }
-    ensures small { result < 2 ^ 3 }
-{
-    match pattern.funct3 {
-        Some(funct3) => funct3,
-        None => 0,
-    }
-}
-
-fn opcode_of(pattern: Pattern) -> u32
-    requires lawful { assembled.is_lawful pattern ≡ true }
-    ensures value { result ≡ pattern.opcode }
-    ensures small { result < 2 ^ 7 }
-{
-    pattern.opcode
 }
 
 /// A word of the parts of the pattern and these.

@@ -96,7 +96,7 @@ fn fixed_or(funct7: Option<u32>, other: u32) -> u32
 }
 
 /// funct3, 0 where the row has none.
-fn funct3_of(pattern: Pattern) -> u32
+pub fn funct3_of(pattern: Pattern) -> u32
     requires lawful { assembled.is_lawful pattern ≡ true }
     ensures value { result ≡ assembled.funct3_of pattern }
     ensures small { result < 2 ^ 3 }
@@ -107,7 +107,8 @@ fn funct3_of(pattern: Pattern) -> u32
     }
 }
 
-fn opcode_of(pattern: Pattern) -> u32
+/// The opcode, bits 6:0 of a word.
+pub fn opcode_of(pattern: Pattern) -> u32
     requires lawful { assembled.is_lawful pattern ≡ true }
     ensures value { result ≡ pattern.opcode }
     ensures small { result < 2 ^ 7 }

@@ -23,6 +23,7 @@ mod step;
 mod table;
 
 pub use agree::{agrees, byte, has_byte};
+pub use assemble::{funct3_of, opcode_of};
 pub use demand::Demand;
 pub use effect::effect_of;
 pub use expansion::expand;
