@@ -4,7 +4,7 @@ use anyhow::Result;
 use rvf_load::{LoadFault, Loaded};
 use rvfi_port::PortFault;
 use std::alloc::Global;
-use vl_elab::number;
+use vl_elab_spec::refusal_number;
 use vl_flow::FlowFault;
 use vl_text::TextFault;
 
@@ -64,7 +64,7 @@ pub(crate) fn refusal(alloc: Global, fault: &LoadFault) -> Result<String> {
     match fault {
         LoadFault::Text(fault) => Ok(String::from_str(alloc, of_text(fault))?),
         LoadFault::Elab(fault) => {
-            let number = number(fault);
+            let number = refusal_number(fault);
             Ok(format!(in alloc; "elab {number}")?)
         }
         LoadFault::Flow(fault) => {

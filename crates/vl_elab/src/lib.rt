@@ -9,5 +9,5 @@ mod reason;
 pub mod state_law;
 mod whole;
 
-pub use reason::{Reason, number};
+pub use reason::Reason;
 pub use whole::elaborate;

@@ -6,7 +6,7 @@ ghost use Rattle.vl_elab_spec.specs.Refused as spec;
 
 use fv_text::{Memory, Pos, Text};
 use std::alloc::Global;
-use vl_elab_spec::ElabFault;
+use vl_elab_spec::{ElabFault, refusal_number};
 use vl_size::earlier::is_earlier;
 
 /// Of the refusals of two parts: the lower number, or of one number the earlier place; of two alike the first.
@@ -28,34 +28,12 @@ pub fn first_of(first: Option<ElabFault>, second: Option<ElabFault>) -> Option<E
 fn comes_before(first: &ElabFault, second: &ElabFault) -> bool
     ensures { result ≡ spec.comes_before first.now second.now }
 {
-    let above = rank(first);
-    let below = rank(second);
+    let above = refusal_number(first);
+    let below = refusal_number(second);
     if below < above {
         return true;
     }
     below == above && is_earlier(place(second), place(first))
-}
-
-fn rank(fault: &ElabFault) -> u32
-    ensures { result ≡ spec.rank fault.now }
-{
-    match fault {
-        ElabFault::NoModule(_) => 1,
-        ElabFault::Twice(_, _) => 2,
-        ElabFault::Unknown(_, _) => 3,
-        ElabFault::Port(_, _) => 4,
-        ElabFault::Param(_, _) => 5,
-        ElabFault::Recursive(_) => 6,
-        ElabFault::Range(_) => 7,
-        ElabFault::GenLoop(_) => 8,
-        ElabFault::TooManyBits(_) => 9,
-        ElabFault::Clock(_) => 10,
-        ElabFault::NotConstant(_) => 11,
-        ElabFault::ZeroDivisor(_) => 12,
-        ElabFault::TooWide(_, _) => 13,
-        ElabFault::TooLarge(_) => 14,
-        ElabFault::Kind(_, _) => 15,
-    }
 }
 
 fn place(fault: &ElabFault) -> Pos

@@ -1,3 +1,6 @@
+ghost use Rattle.std.specs.Prelude.{◌≡◌};
+ghost use Rattle.vl_elab_spec.specs.Refused.{rank};
+
 use fv_text::{List, Pos, Text};
 
 /// Why a source has no design without hierarchy. The first refused step of the walk is answered; of it the first in
@@ -35,4 +38,27 @@ pub enum ElabFault {
     TooLarge(Pos),
     /// An assignment to what may not be assigned there, or a loop over what is no genvar of its own.
     Kind(Text, Pos),
+}
+
+/// The number of a refusal, from 1 to 15. Of the refusals of a step the lowest number is answered.
+pub fn refusal_number(fault: &ElabFault) -> u32
+    ensures { result ≡ rank fault.now }
+{
+    match fault {
+        ElabFault::NoModule(_) => 1,
+        ElabFault::Twice(_, _) => 2,
+        ElabFault::Unknown(_, _) => 3,
+        ElabFault::Port(_, _) => 4,
+        ElabFault::Param(_, _) => 5,
+        ElabFault::Recursive(_) => 6,
+        ElabFault::Range(_) => 7,
+        ElabFault::GenLoop(_) => 8,
+        ElabFault::TooManyBits(_) => 9,
+        ElabFault::Clock(_) => 10,
+        ElabFault::NotConstant(_) => 11,
+        ElabFault::ZeroDivisor(_) => 12,
+        ElabFault::TooWide(_, _) => 13,
+        ElabFault::TooLarge(_) => 14,
+        ElabFault::Kind(_, _) => 15,
+    }
 }

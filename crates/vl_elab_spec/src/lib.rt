@@ -13,7 +13,7 @@ mod totals;
 pub mod unfold_law;
 mod walked_law;
 
-pub use elab_fault::ElabFault;
+pub use elab_fault::{ElabFault, refusal_number};
 pub use fixed_law::known_constants_stay;
 pub use totals::Totals;
 pub use walked_law::steps_are_walked_in_order;
