@@ -79,8 +79,8 @@ pub(crate) fn own_alone(alloc: Global, expr: &Expr) -> Own
     own_number(expr, &no_names(alloc))
 }
 
-/// A bound of a range.
-pub(crate) fn bound_in(alloc: Global, expr: &Expr, numbers: &Names) -> Result<Own, Memory>
+/// A bound of a range with its own size and sign, where constants have these numbers, refused or not.
+pub fn own_bound(alloc: Global, expr: &Expr, numbers: &Names) -> Result<Own, Memory>
     ensures { IfOk result (λ own. as_int own.width own.signed own.number ≡ bound numbers.now expr.now) }
 {
     let expr = known_expr(alloc, expr, numbers)?;

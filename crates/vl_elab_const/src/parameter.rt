@@ -13,7 +13,7 @@ ghost use Rattle.vl_elab_const.specs.Given as given_spec;
 ghost use Rattle.vl_elab_const.specs.Numbers as spec;
 
 use crate::given::Given;
-use crate::number::{bound_in, number_alone, own_alone};
+use crate::number::{number_alone, own_alone, own_bound};
 use fv_bits::{is_below_zero, low, magnitude};
 use fv_text::Memory;
 use std::alloc::Global;
@@ -45,8 +45,8 @@ fn bits_in(alloc: Global, range: &Range, numbers: &Names) -> Result<u32, Memory>
         ≡ constants_spec.width_in_range (declared_width numbers.now (Some range.now))) }
     ensures few { IfOk result (λ w. w ≤ 128) }
 {
-    let left = bound_in(alloc, &range.left, numbers)?;
-    let right = bound_in(alloc, &range.right, numbers)?;
+    let left = own_bound(alloc, &range.left, numbers)?;
+    let right = own_bound(alloc, &range.right, numbers)?;
     Ok(bits_between(left, right))
 }
 

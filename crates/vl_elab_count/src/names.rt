@@ -8,9 +8,10 @@ ghost use Rattle.vl_elab_scope.specs.Seen.{innermost};
 ghost use Rattle.vl_elab_const.specs.Numbers.{HaveNumbers};
 ghost use Rattle.vl_elab_count.specs.Counts as spec;
 
-use crate::bounds::{bound_in, span_between};
+use crate::bounds::span_between;
 use fv_text::Memory;
 use std::alloc::Global;
+use vl_elab_const::own_bound;
 use vl_elab_scope::Names;
 use vl_mean::widths::plus;
 use vl_tree::{DeclaredName, Item, ItemKind, Range};
@@ -18,8 +19,8 @@ use vl_tree::{DeclaredName, Item, ItemKind, Range};
 fn range_words(alloc: Global, range: &Range, numbers: &Names) -> Result<u64, Memory>
     ensures { IfOk result (λ n. n ≡ capped (spec.name_count numbers.now (Some range.now))) }
 {
-    let left = bound_in(alloc, &range.left, numbers)?;
-    let right = bound_in(alloc, &range.right, numbers)?;
+    let left = own_bound(alloc, &range.left, numbers)?;
+    let right = own_bound(alloc, &range.right, numbers)?;
     Ok(plus(span_between(left, right), 1))
 }
 

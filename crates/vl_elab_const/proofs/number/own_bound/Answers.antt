@@ -2,7 +2,7 @@ use Rattle.std.proofs.Common.{◌∙◌, ap}
 use Rattle.std.specs.Prelude.{[]}
 use Rattle.fv_bits.specs.Bits.{as_int}
 use Rattle.vl_size.specs.Size.{operand_of, index_of, no_names}
-use Rattle.vl_elab_const.proofs.number.bound_in.Goals as goal
+use Rattle.vl_elab_const.proofs.number.own_bound.Goals as goal
 
 pub returns : goal.returns
 returns c =
