@@ -5,7 +5,6 @@
 #![tactic(auto)]
 
 mod bare;
-mod blocks;
 mod connections;
 mod headers;
 mod items;

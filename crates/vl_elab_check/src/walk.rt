@@ -20,7 +20,6 @@ ghost use Rattle.vl_elab_spec.specs.Within as within;
 ghost use Rattle.vl_elab_check.specs.Standing.{HasScope, IsHere, IsSoFar, IsWithin};
 
 use crate::bare::is_bare;
-use crate::blocks::{chosen, items_of, nested};
 use crate::scopes::{Here, enter_instance, enter_scope, leave};
 use crate::steps::{open, own_step, pass};
 use crate::turns;
@@ -30,6 +29,7 @@ use std::alloc::Global;
 use vl_elab_const::is_true_in;
 use vl_elab_decls::Inside;
 use vl_elab_names::{ModulePath, ModuleTable};
+use vl_elab_scope::blocks::{chosen, items_of, nested};
 use vl_elab_spec::{ElabFault, Totals};
 use vl_mean::Const;
 use vl_tree::{Block, Expr, Instance, Item, ItemKind, LoopHead, Module};

@@ -11,7 +11,7 @@ ghost use Rattle.vl_elab_flatten.specs.Here.{around_of};
 ghost use Rattle.vl_elab_flatten.specs.Ready as spec;
 ghost use Rattle.vl_elab_flatten.specs.Ready.{IsReady, IsTurn, Writes, place_of};
 
-use crate::blocks::{chosen, constructs, items_of, name_of, nested, path_of, split_declared};
+use crate::blocks::{constructs, name_of, path_of, split_declared};
 use crate::declared::write_ports;
 use crate::here::{Here, leave_block, leave_turn, open_block, open_turn};
 use crate::instances::{open_instance, write_joined};
@@ -23,6 +23,7 @@ use vl_elab_const::is_true_in;
 use vl_elab_draft::Draft;
 use vl_elab_emit::write_item;
 use vl_elab_names::{ModuleTable, turn_path};
+use vl_elab_scope::blocks::{chosen, items_of, nested};
 use vl_mean::Const;
 use vl_size::Decl;
 use vl_tree::{Block, Expr, Instance, Item, ItemKind, LoopHead, Module};

@@ -5,6 +5,7 @@
 #![tactic(auto)]
 
 mod alike_law;
+pub mod blocks;
 mod constants;
 mod context;
 mod divisions;

@@ -9,8 +9,8 @@ ghost use Rattle.vl_elab_spec.specs.Within.{block_items, chosen_block, nested_if
 use std::slice;
 use vl_tree::{Block, Item, ItemKind};
 
-/// The items of a block.
-pub(crate) fn items_of(block: &Block) -> &[Item]
+/// The items that stand in a block.
+pub fn items_of(block: &Block) -> &[Item]
     ensures { items result.now ≡ block_items (block_of block.now) }
 {
     match block {
@@ -26,8 +26,8 @@ fn is_if(item: &Item) -> bool
     matches!(&item.kind, ItemKind::If(_, _, _))
 }
 
-/// An `if` alone in a block, which makes no scope.
-pub(crate) fn nested(block: &Block) -> Option<&Item>
+/// An `if` alone in a block, which makes no scope (IEEE 1364-2005, section 12.4.2).
+pub fn nested(block: &Block) -> Option<&Item>
     ensures { option_copied result ≡ nested_if (block_of block.now) }
 {
     match block {
@@ -36,12 +36,8 @@ pub(crate) fn nested(block: &Block) -> Option<&Item>
     }
 }
 
-/// The block of an `if` whose condition holds or not.
-pub(crate) fn chosen<'a>(
-    holds: bool,
-    first: &'a Block,
-    second: &'a Option<Block>,
-) -> Option<&'a Block>
+/// The block of an `if` whose condition holds or not; None where it has no `else` that would be it.
+pub fn chosen<'a>(holds: bool, first: &'a Block, second: &'a Option<Block>) -> Option<&'a Block>
     ensures { option_map block_of (option_copied result)
         ≡ chosen_block holds (block_of first.now) (option_map block_of second.now) }
 {
