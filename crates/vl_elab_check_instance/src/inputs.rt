@@ -27,7 +27,10 @@ fn add_if(alloc: Global, test: bool, text: &Text, joined: &mut NameSet) -> Resul
     joined.add(text.copied(alloc)?)
 }
 
-fn add_connection(
+/// Adds the port `text` of a connection to those that are joined; of two connections to one port the first counts.
+/// `test`: whether its value is the clock; `seen`: the ports of the connections before it; `joined`: those of them that
+/// are joined to the clock.
+pub fn add_connection(
     alloc: Global,
     text: &Text,
     test: bool,

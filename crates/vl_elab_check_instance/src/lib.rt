@@ -15,7 +15,7 @@ mod ports;
 mod varying;
 
 pub use connections::connection_step_fault;
-pub use inputs::joined_inputs;
+pub use inputs::{add_connection, joined_inputs};
 pub use instances::instance_fault;
 pub use overrides::override_step_fault;
 pub use parameters::ParameterTable;

@@ -1,5 +1,5 @@
 //! What the inputs of an instance's module stand for.
-ghost use Rattle.std.specs.Prelude.{◌≡◌, ◌&&◌, ◌||◌, ℕ, List, false, bytes_eq, IfOk, OnOk};
+ghost use Rattle.std.specs.Prelude.{◌≡◌, ℕ, List, false, IfOk};
 ghost use Rattle.vl_tree.specs.declared.part.Instance.{Instance as SpecInstance};
 ghost use Rattle.vl_mean.specs.Scopes as scopes_spec;
 ghost use Rattle.vl_mean.specs.Walk.{use_of};
@@ -7,8 +7,9 @@ ghost use Rattle.vl_elab_names.specs.Known.{contains};
 ghost use Rattle.vl_elab_decls.specs.Inputs.{AreInputs};
 ghost use Rattle.vl_elab_check_instance.specs.Clock as spec;
 
-use fv_text::{Memory, Text};
+use fv_text::Memory;
 use std::alloc::Global;
+use vl_elab_check_instance::add_connection;
 use vl_elab_decls::Inputs;
 use vl_elab_draft::Scopes;
 use vl_elab_emit::is_clock;
@@ -22,33 +23,6 @@ fn is_clock_value(value: &Option<Expr>, scopes: &Scopes) -> bool
         None => false,
         Some(value) => is_clock(value, scopes),
     }
-}
-
-fn add_if(alloc: Global, test: bool, text: &Text, joined: &mut NameSet) -> Result<(), Memory>
-    ensures { OnOk result ((other : List ℕ)
-        → contains joined.new other ≡ ((bytes_eq other text.now && test) || contains joined.old other)) }
-{
-    if !test {
-        return Ok(());
-    }
-    joined.add(text.copied(alloc)?)
-}
-
-fn add_connection(
-    alloc: Global,
-    text: &Text,
-    test: bool,
-    seen: &mut NameSet,
-    joined: &mut NameSet,
-) -> Result<(), Memory>
-    ensures seen { OnOk result ((other : List ℕ)
-        → contains seen.new other ≡ spec.with_name (contains seen.old) text.now other) }
-    ensures joined { OnOk result ((other : List ℕ) → contains joined.new other
-        ≡ spec.with_clock test text.now (contains seen.old) (contains joined.old) other) }
-{
-    let first = !seen.contains(text) && test;
-    seen.add(text.copied(alloc)?)?;
-    add_if(alloc, first, text, joined)
 }
 
 fn all_joined(alloc: Global, all: &[Connection], scopes: &Scopes) -> Result<NameSet, Memory>
