@@ -10,22 +10,13 @@ ghost use Rattle.vl_elab_const.specs.Openable.{IsInRange};
 ghost use Rattle.vl_elab_decls.specs.Forms as forms;
 
 use crate::decls_forms::{Form, decl_with};
-use crate::words::class_of_attributes;
+use crate::words::{class_of_attributes, class_of_kind};
 use fv_text::{List, Memory};
 use std::alloc::Global;
 use vl_elab_const::{Extent, extent_in, words_in};
 use vl_elab_scope::Names;
 use vl_size::{Class, Decl};
-use vl_tree::{AttributeInstance, Declaration, DeclaredName, Item, ItemKind, NetKind};
-
-pub(crate) fn class_of_kind(kind: NetKind) -> Class
-    ensures { result ≡ spec.class_of_kind kind }
-{
-    match kind {
-        NetKind::Wire => Class::Net,
-        NetKind::Reg => Class::Variable,
-    }
-}
+use vl_tree::{AttributeInstance, Declaration, DeclaredName, Item, ItemKind};
 
 fn add_name(
     alloc: Global,

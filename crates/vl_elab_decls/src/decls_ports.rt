@@ -9,17 +9,16 @@ ghost use Rattle.vl_elab_const.specs.Numbers.{HaveNumbers};
 ghost use Rattle.vl_elab_const.specs.Openable.{IsInRange};
 ghost use Rattle.vl_elab_decls.specs.Inputs.{AreInputs};
 ghost use Rattle.vl_elab_decls.specs.Inputs as inputs_spec;
-ghost use Rattle.vl_elab_decls.specs.Objects as objects;
 ghost use Rattle.vl_elab_decls.specs.Ports as ports;
 
 use crate::decls_forms::{Form, decl_with};
-use crate::decls_items::class_of_kind;
 use crate::inputs::Inputs;
+use crate::shape_ports::{port_class, port_text};
 use fv_text::{List, Memory, Text};
 use std::alloc::Global;
 use vl_elab_const::{Extent, extent_in};
 use vl_elab_scope::Names;
-use vl_size::{Class, Decl};
+use vl_size::Decl;
 use vl_tree::{Direction, FullPort, NetKind, Port, PortKind};
 
 /// Of a port, what one that is written short behind it takes.
@@ -63,24 +62,6 @@ fn next_form(
     }
 }
 
-fn output_class(net: Option<NetKind>) -> Class
-    ensures { result ≡ objects.output_class net }
-{
-    match net {
-        None => Class::Net,
-        Some(kind) => class_of_kind(kind),
-    }
-}
-
-fn port_class(inputs: &Inputs, form: PortForm, name: &Text) -> Class
-    ensures { result ≡ objects.port_class inputs.now form.direction form.net name.now }
-{
-    match form.direction {
-        Direction::Input => inputs.class_of(name),
-        Direction::Output => output_class(form.net),
-    }
-}
-
 /// Only the outputs of the top module count as outputs of the design.
 fn is_output(inputs: &Inputs, direction: Direction) -> bool
     ensures { result ≡ (inputs_spec.is_top inputs.now && spec.is_output direction) }
@@ -95,19 +76,10 @@ fn form_of_port(inputs: &Inputs, form: PortForm, name: &Text) -> Form
     ensures { result ≡ ports.form_of_port inputs.now form name.now }
 {
     Form {
-        class: port_class(inputs, form, name),
+        class: port_class(inputs, form.direction, form.net, name),
         signed: form.signed,
         output: is_output(inputs, form.direction),
         extent: form.extent,
-    }
-}
-
-fn port_text(kind: &PortKind) -> &Text
-    ensures { result.now ≡ objects.port_text kind.now }
-{
-    match kind {
-        PortKind::Full(port) => &port.name,
-        PortKind::Short(text, _) => text,
     }
 }
 

@@ -35,12 +35,17 @@ fn output_class(net: Option<NetKind>) -> Class
     }
 }
 
-fn port_class(inputs: &Inputs, form: PortForm, name: &Text) -> Class
-    ensures { result ≡ spec.port_class inputs.now form.direction form.net name.now }
+pub(crate) fn port_class(
+    inputs: &Inputs,
+    direction: Direction,
+    net: Option<NetKind>,
+    name: &Text,
+) -> Class
+    ensures { result ≡ spec.port_class inputs.now direction net name.now }
 {
-    match form.direction {
+    match direction {
         Direction::Input => inputs.class_of(name),
-        Direction::Output => output_class(form.net),
+        Direction::Output => output_class(net),
     }
 }
 
@@ -48,7 +53,7 @@ fn form_of_port(inputs: &Inputs, form: PortForm, name: &Text) -> Form
     ensures { result ≡ spec.form_of_port inputs.now form name.now }
 {
     Form {
-        class: port_class(inputs, form, name),
+        class: port_class(inputs, form.direction, form.net, name),
         signed: form.signed,
         scalar: form.scalar,
         input: is_input(form.direction),
@@ -85,7 +90,7 @@ fn next_form(
     }
 }
 
-fn port_text(kind: &PortKind) -> &Text
+pub(crate) fn port_text(kind: &PortKind) -> &Text
     ensures { result.now ≡ spec.port_text kind.now }
 {
     match kind {
