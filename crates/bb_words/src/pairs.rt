@@ -35,7 +35,7 @@ impl BitOperator {
 }
 
 /// Each bit of the one with that of the other.
-pub fn operate(
+pub(crate) fn operate(
     alloc: Global,
     gates: &mut Gates,
     operator: BitOperator,
@@ -58,7 +58,7 @@ pub fn operate(
 }
 
 /// Each bit of the one where the test is true, and else of the other.
-pub fn choose(
+pub(crate) fn choose(
     alloc: Global,
     gates: &mut Gates,
     test: Lit,
@@ -82,7 +82,7 @@ pub fn choose(
 }
 
 /// The sum of both words and a bit, as wide as they are: seven gates a bit.
-pub fn add(
+pub(crate) fn add(
     alloc: Global,
     gates: &mut Gates,
     a: &[Lit],
@@ -124,7 +124,7 @@ fn less_step(gates: &mut Gates, a: Lit, b: Lit, less: Lit) -> Result<Lit, Memory
 }
 
 /// Whether the one word is less than the other, or, where both are equal, what is told.
-pub fn is_less(gates: &mut Gates, a: &[Lit], b: &[Lit], below: Lit) -> Result<Lit, Memory>
+pub(crate) fn is_less(gates: &mut Gates, a: &[Lit], b: &[Lit], below: Lit) -> Result<Lit, Memory>
     requires each { length b.now ≡ length a.now }
     requires left { AreLits gates.old a.now }
     requires right { AreLits gates.old b.now }
@@ -155,7 +155,7 @@ fn same_step(gates: &mut Gates, a: Lit, b: Lit, same: Lit) -> Result<Lit, Memory
 }
 
 /// Whether both words are equal, where what is told is true.
-pub fn is_same(gates: &mut Gates, a: &[Lit], b: &[Lit], told: Lit) -> Result<Lit, Memory>
+pub(crate) fn is_same(gates: &mut Gates, a: &[Lit], b: &[Lit], told: Lit) -> Result<Lit, Memory>
     requires each { length b.now ≡ length a.now }
     requires left { AreLits gates.old a.now }
     requires right { AreLits gates.old b.now }
@@ -172,7 +172,12 @@ pub fn is_same(gates: &mut Gates, a: &[Lit], b: &[Lit], told: Lit) -> Result<Lit
 }
 
 /// Each bit of the word where the bit is set, and else false.
-pub fn masked(alloc: Global, gates: &mut Gates, bit: Lit, word: &[Lit]) -> Result<Vec<Lit>, Memory>
+pub(crate) fn masked(
+    alloc: Global,
+    gates: &mut Gates,
+    bit: Lit,
+    word: &[Lit],
+) -> Result<Vec<Lit>, Memory>
     requires bit { IsLit gates.old bit }
     requires word { AreLits gates.old word.now }
     ensures grows { Grows gates.old gates.new }

@@ -107,7 +107,7 @@ fn levels(width: usize, most: usize) -> usize
 }
 
 /// The word moved by the number of the other one. Where that is the width or more, the literal is in all places.
-pub fn shift(
+pub(crate) fn shift(
     alloc: Global,
     gates: &mut Gates,
     direction: Direction,

@@ -11,7 +11,7 @@ use fv_text::Memory;
 use std::alloc::Global;
 
 /// The literal so many times.
-pub fn repeated(alloc: Global, lit: Lit, count: usize) -> Result<Vec<Lit>, Memory>
+pub(crate) fn repeated(alloc: Global, lit: Lit, count: usize) -> Result<Vec<Lit>, Memory>
     ensures { IfOk result (λ r. r.items ≡ replicate count lit) }
 {
     let made = vec![in alloc; lit; count]?;
@@ -19,7 +19,7 @@ pub fn repeated(alloc: Global, lit: Lit, count: usize) -> Result<Vec<Lit>, Memor
 }
 
 /// Each bit turned.
-pub fn turned(alloc: Global, word: &[Lit]) -> Result<Vec<Lit>, Memory>
+pub(crate) fn turned(alloc: Global, word: &[Lit]) -> Result<Vec<Lit>, Memory>
     ensures { IfOk result (λ r. r.items ≡ map graph_spec.complement word.now) }
 {
     let made: Vec<Lit> = word.iter().map(|lit| complement(*lit)).collect(alloc)?;
@@ -27,7 +27,7 @@ pub fn turned(alloc: Global, word: &[Lit]) -> Result<Vec<Lit>, Memory>
 }
 
 /// The highest bit.
-pub fn top(word: &[Lit]) -> Lit
+pub(crate) fn top(word: &[Lit]) -> Lit
     requires { 1 ≤ length word.now }
     ensures there { (graph : List AigNode) → AreLits graph word.now → IsLit graph result }
     ensures value { (graph : List AigNode) (x : ℕ → Bool)
@@ -37,7 +37,7 @@ pub fn top(word: &[Lit]) -> Lit
 }
 
 /// The word with its highest bit turned.
-pub fn with_top_turned(alloc: Global, word: &[Lit]) -> Result<Vec<Lit>, Memory>
+pub(crate) fn with_top_turned(alloc: Global, word: &[Lit]) -> Result<Vec<Lit>, Memory>
     requires { 1 ≤ length word.now }
     ensures { IfOk result (λ r. (graph : List AigNode) → AreLits graph word.now
         → AreMade graph (λ x. bits_spec.turned_top (bits graph x word.now)) r.items) }

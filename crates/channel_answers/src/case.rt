@@ -42,7 +42,7 @@ fn retire_of(insn: u32, s1: u32, s2: u32, pc: u32, mem: u32) -> Retire {
     }
 }
 
-pub fn case_of(line: &str) -> Option<Case> {
+pub(crate) fn case_of(line: &str) -> Option<Case> {
     let mut words = line.split(' ');
     let row = row_named(words.next()?)?;
     let insn = hexadecimal(words.next())?;

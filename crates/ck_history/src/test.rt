@@ -55,7 +55,7 @@ pub fn is_same(net: &mut Net, a: NodeId, b: NodeId) -> Result<NodeId, Memory>
 }
 
 /// Whether the first of two numbers of one width is less.
-pub fn is_below(net: &mut Net, a: NodeId, b: NodeId) -> Result<NodeId, Memory>
+pub(crate) fn is_below(net: &mut Net, a: NodeId, b: NodeId) -> Result<NodeId, Memory>
     requires left { IsNode net.old a }
     requires right { IsNodeOf net.old (width_at net.old a) b }
     ensures adds { AddsNodes net.old net.new }
@@ -98,7 +98,7 @@ fn successor(net: &mut Net, order: NodeId) -> Result<NodeId, Memory>
 }
 
 /// Whether the second order is the one behind the first: orders are whole numbers of 64 bits, which don't wrap.
-pub fn is_next(net: &mut Net, order: NodeId, other: NodeId) -> Result<NodeId, Memory>
+pub(crate) fn is_next(net: &mut Net, order: NodeId, other: NodeId) -> Result<NodeId, Memory>
     requires order { IsNodeOf net.old 64 order }
     requires other { IsNodeOf net.old 64 other }
     ensures adds { AddsNodes net.old net.new }

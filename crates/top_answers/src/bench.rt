@@ -8,16 +8,11 @@ use rvf_core::run;
 use std::alloc::{AllocError, Global};
 use std::thread::Threads;
 
-/// The checks whose files are told.
-const CHECKS: [&str; 7] = [
-    "ill_ch0",
-    "reg_ch0",
-    "pc_fwd_ch0",
-    "unique_ch0",
-    "liveness_ch0",
-    "imem_ch0",
-    "dmem_ch0",
-];
+/// The kinds of the checks whose files are told.
+const KINDS: [&str; 7] = ["ill", "reg", "pc_fwd", "unique", "liveness", "imem", "dmem"];
+
+/// The channels of those checks.
+const CHANNELS: [u32; 2] = [0, 1];
 
 /// How the names of a check's files end.
 const ENDINGS: [&str; 3] = ["cnf", "lrat", "vcd"];
@@ -198,12 +193,26 @@ impl Bench {
 
     /// A line for each file of a check that is there.
     fn put_files(&self, told: &mut String, files: &MemFiles) -> Result<()> {
-        for check in CHECKS {
-            for ending in ENDINGS {
-                let name = format!(in self.alloc; "out/{check}.{ending}")?;
-                if files.get(name.as_str()).is_some() {
-                    told.push_str(format!(in self.alloc; "+ {name}\n")?.as_str())?;
-                }
+        for kind in KINDS {
+            for channel in CHANNELS {
+                self.put_files_of(told, files, kind, channel)?;
+            }
+        }
+        Ok(())
+    }
+
+    /// A line for each file of the check of a kind and channel.
+    fn put_files_of(
+        &self,
+        told: &mut String,
+        files: &MemFiles,
+        kind: &str,
+        channel: u32,
+    ) -> Result<()> {
+        for ending in ENDINGS {
+            let name = format!(in self.alloc; "out/{kind}_ch{channel}.{ending}")?;
+            if files.get(name.as_str()).is_some() {
+                told.push_str(format!(in self.alloc; "+ {name}\n")?.as_str())?;
             }
         }
         Ok(())

@@ -33,7 +33,7 @@ fn number(text: &str) -> u64 {
     text.parse::<u64>().unwrap_or(u64::MAX)
 }
 
-pub fn line_of(text: &str) -> Line<'_> {
+pub(crate) fn line_of(text: &str) -> Line<'_> {
     if let Some(name) = text.strip_prefix("% ") {
         return Line::Piece(name);
     }

@@ -104,7 +104,7 @@ fn pass_rest(alloc: Global, item: &Item, names: &Names, reached: &mut Reached) -
 }
 
 /// Behind all steps of an item: the name of an instance and the labels of a construct stand among the names too.
-pub fn pass_item(
+pub(crate) fn pass_item(
     alloc: Global,
     item: &Item,
     names: &Names,

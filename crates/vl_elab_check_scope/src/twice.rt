@@ -82,7 +82,7 @@ fn all_genvars(
 }
 
 /// The same of genvars, all at one place.
-pub fn genvars_twice(
+pub(crate) fn genvars_twice(
     alloc: Global,
     all: &[Text],
     pos: Pos,

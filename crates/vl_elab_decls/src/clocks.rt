@@ -104,7 +104,7 @@ fn all_clocks(alloc: Global, inputs: &Inputs, all: &[Port]) -> Result<NameSet, M
 }
 
 /// The inputs of a module that are the clock, where it is used as `inputs` says.
-pub fn clock_inputs(alloc: Global, inputs: &Inputs, all: &[Port]) -> Result<NameSet, Memory>
+pub(crate) fn clock_inputs(alloc: Global, inputs: &Inputs, all: &[Port]) -> Result<NameSet, Memory>
     ensures { IfOk result (λ set. (ss : List Scope) (u : Use) → AreInputs inputs.now u → (text : List ℕ)
         → contains set text
         ≡ is_clock_decl (declared_as (declared_ports ss u.is_top u.input (full_ports None all.now)) text)) }

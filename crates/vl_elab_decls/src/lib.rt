@@ -19,7 +19,6 @@ mod shape_ports;
 mod turns;
 mod words;
 
-pub use clocks::clock_inputs;
 pub use decls_items::{declared_count, decls_of_items};
 pub use decls_ports::decls_of_ports;
 pub use inputs::Inputs;

@@ -38,7 +38,7 @@ fn all_objects(
 /// What the ports, nets, variables and genvars of a scope mean. `ports`: those of a module, which is used as `inputs`
 /// says; `all`: the items of a module or a block; `names`: what names mean in its shapes, of its own the parameters
 /// alone.
-pub fn objects_of_scope(
+pub(crate) fn objects_of_scope(
     alloc: Global,
     inputs: &Inputs,
     ports: &[Port],

@@ -11,7 +11,7 @@ use vl_elab_draft::{Draft, Scopes, write_clocked, write_combinational, write_equ
 use vl_tree::{Assignment, EventKind, Stmt, StmtKind};
 
 /// Writes continuous assignments, in order (IEEE 1364-2005, section 6.1.2). The place is that of their item.
-pub fn write_assignments(
+pub(crate) fn write_assignments(
     alloc: Global,
     pos: Pos,
     all: &[Assignment],
@@ -59,7 +59,7 @@ pub fn write_block(
 /// statements in it, which are refused, are left out.
 #[cycle(initial)]
 #[tactic(auto, using(vl_tree::specs::StmtFalls::parts_fall, crate::proofs::Standing::nothing_more))]
-pub fn write_initial(
+pub(crate) fn write_initial(
     alloc: Global,
     stmt: &Stmt,
     scopes: &Scopes,

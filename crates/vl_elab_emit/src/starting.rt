@@ -46,7 +46,7 @@ fn or_none(bits: Option<u32>) -> u32
 }
 
 /// Writes a target with the value that it begins with. Where no memory is left nothing is written.
-pub fn write_start(
+pub(crate) fn write_start(
     alloc: Global,
     target: &Lval,
     value: &Expr,

@@ -85,7 +85,7 @@ pub fn write_optional_value(
 }
 
 /// Writes the values of names that are declared together, in order. The place of each is that of its name.
-pub fn write_values(
+pub(crate) fn write_values(
     alloc: Global,
     kind: NetKind,
     all: &[DeclaredName],

@@ -98,7 +98,7 @@ pub fn open_block(
 }
 
 /// Leaves the innermost scope, which is a block's.
-pub fn leave_block(around: Around, here: &mut Here)
+pub(crate) fn leave_block(around: Around, here: &mut Here)
     ensures scopes { here.new.scopes ≡ drop 1 here.old.scopes }
     ensures numbers { here.new.numbers ≡ drop 1 here.old.numbers }
     ensures path { here.new.path ≡ around.path }
@@ -145,7 +145,7 @@ pub fn open_turn(
 }
 
 /// Leaves the innermost scope, which is a turn's.
-pub fn leave_turn(here: &mut Here)
+pub(crate) fn leave_turn(here: &mut Here)
     ensures scopes { here.new.scopes ≡ drop 1 here.old.scopes }
     ensures numbers { here.new.numbers ≡ drop 1 here.old.numbers }
     ensures path { here.new.path ≡ here.old.path }

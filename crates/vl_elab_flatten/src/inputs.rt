@@ -40,7 +40,11 @@ fn all_joined(alloc: Global, all: &[Connection], scopes: &Scopes) -> Result<Name
 
 /// What the inputs of an instance's module stand for: one that is joined to the clock is the clock (IEEE 1364-2005,
 /// section 12.3.6). `all`: what the instance joins to ports; of two connections to one port the first counts.
-pub fn joined_inputs(alloc: Global, all: &[Connection], scopes: &Scopes) -> Result<Inputs, Memory>
+pub(crate) fn joined_inputs(
+    alloc: Global,
+    all: &[Connection],
+    scopes: &Scopes,
+) -> Result<Inputs, Memory>
     ensures { IfOk result (λ inputs. (x : SpecInstance) → x.connections ≡ all.now
         → AreInputs inputs (use_of scopes.now x)) }
 {

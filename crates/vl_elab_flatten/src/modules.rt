@@ -40,7 +40,7 @@ fn header_of(all: &Option<List<HeaderParameter>>) -> &[HeaderParameter]
 }
 
 /// The ports of a module, as they are written.
-pub fn written_ports(all: &Option<List<Port>>) -> &[Port]
+pub(crate) fn written_ports(all: &Option<List<Port>>) -> &[Port]
     ensures { result.now ≡ walk.written_ports all.now }
 {
     match all {

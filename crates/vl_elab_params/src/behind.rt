@@ -133,7 +133,7 @@ fn all_behind(
 
 /// All names that a scope declares and that may stand in expressions, none of them before its parameters.
 /// `parameters`, `ports`: those of a module's head; `all`: the items of a module or a block.
-pub fn names_behind(
+pub(crate) fn names_behind(
     alloc: Global,
     parameters: &[HeaderParameter],
     ports: &[Port],

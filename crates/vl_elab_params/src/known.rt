@@ -113,7 +113,7 @@ fn with_extent(
 
 /// Whether a parameter may be selected from. None exactly where its value or its range isn't known; a value that is
 /// given is judged at the instance.
-pub fn selected_if_known(
+pub(crate) fn selected_if_known(
     alloc: Global,
     parameter: &Parameter,
     given: &Given,

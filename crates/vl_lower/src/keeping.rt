@@ -9,7 +9,7 @@ use vl_lower_cell_laws::Keep;
 use wn_net::Init;
 
 /// Whether the mask has the bit.
-pub fn has_bit(mask: u128, bit: u32) -> bool
+pub(crate) fn has_bit(mask: u128, bit: u32) -> bool
     requires { bit < 128 }
     ensures { result ≡ spec.has_bit mask bit }
 {
@@ -17,7 +17,7 @@ pub fn has_bit(mask: u128, bit: u32) -> bool
 }
 
 /// Whether one register serves for so many lowest bits of the cell.
-pub fn is_whole(keep: &Keep, width: u32) -> bool
+pub(crate) fn is_whole(keep: &Keep, width: u32) -> bool
     requires { width ≤ 128 }
     ensures { result ≡ spec.is_whole keep.now width }
 {
@@ -26,7 +26,7 @@ pub fn is_whole(keep: &Keep, width: u32) -> bool
 }
 
 /// What the one register begins with.
-pub fn whole_start(keep: &Keep, width: u32) -> Init
+pub(crate) fn whole_start(keep: &Keep, width: u32) -> Init
     requires { width ≤ 128 }
     ensures value { result ≡ (spec.whole_kept keep.now width).init }
     ensures fits { IsInitOf width result }

@@ -49,7 +49,7 @@ fn bits_node(net: &mut Net, keep: &Keep, width: u32) -> Result<NodeId, Memory>
 
 /// Adds the registers of a cell of so many bits, and answers the node that has the cell's number. After an error the
 /// net may have more nodes and registers.
-pub fn cell_node(net: &mut Net, keep: &Keep, width: u32) -> Result<NodeId, Memory>
+pub(crate) fn cell_node(net: &mut Net, keep: &Keep, width: u32) -> Result<NodeId, Memory>
     requires some { 1 ≤ width }
     requires few { width ≤ 128 }
     requires room { length net.old.regs + 128 < 2 ^ 32 - 1 }

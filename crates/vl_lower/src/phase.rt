@@ -37,7 +37,7 @@ fn frame_over(alloc: Global, now: &[NodeId], next: &[NodeId]) -> Result<Frame, M
 }
 
 /// The drivers that aren't clocked blocks settled in their order, from cells with what is free in the cycle.
-pub fn settle_cells(
+pub(crate) fn settle_cells(
     net: &mut Net,
     layout: Layout<'_>,
     cells: &[NodeId],
@@ -57,7 +57,7 @@ pub fn settle_cells(
 }
 
 /// The clocked blocks at the clock's edge, over settled cells.
-pub fn tick_cells(
+pub(crate) fn tick_cells(
     net: &mut Net,
     layout: Layout<'_>,
     settled: &Frame,

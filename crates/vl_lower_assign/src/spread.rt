@@ -72,7 +72,7 @@ fn all_set(net: &mut Net, like: NodeId) -> Result<NodeId, Memory>
 }
 
 /// The bits of a node as they stand from a place on in a vector of a width, and the mask of where they stand.
-pub fn spread_bits(
+pub(crate) fn spread_bits(
     net: &mut Net,
     place: BitPlace,
     value: NodeId,
@@ -116,7 +116,7 @@ fn replaced(net: &mut Net, vector: NodeId, spread: Spread) -> Result<NodeId, Mem
 
 /// A vector in which the bits from a place on are those of another node; bits past the vector are dropped (IEEE
 /// 1364-2005, section 4.2.1).
-pub fn put_at(
+pub(crate) fn put_at(
     net: &mut Net,
     vector: NodeId,
     place: BitPlace,

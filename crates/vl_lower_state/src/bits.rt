@@ -43,7 +43,7 @@ fn joined_bits(net: &mut Net, node: NodeId, bits: &[u32]) -> Result<NodeId, Memo
 }
 
 /// A node of these bits of another one: its bit `j` is the bit `bits[j]`. The node itself where these are all its bits.
-pub fn gather(net: &mut Net, node: NodeId, bits: &[u32]) -> Result<NodeId, Memory>
+pub(crate) fn gather(net: &mut Net, node: NodeId, bits: &[u32]) -> Result<NodeId, Memory>
     requires node { IsNode net.old node }
     requires some { 1 ≤ length bits.now }
     requires few { length bits.now ≤ 128 }

@@ -25,7 +25,7 @@ pub struct Layout<'a> {
 }
 
 /// Names over these cells.
-pub fn names_over<'a>(layout: Layout<'a>, cells: &'a [NodeId]) -> Bindings<'a>
+pub(crate) fn names_over<'a>(layout: Layout<'a>, cells: &'a [NodeId]) -> Bindings<'a>
     ensures { bound result
         ≡ record { decls = layout.entry.decls.now; places = layout.entry.places.now; cells = cells.now } }
 {

@@ -26,5 +26,5 @@ mod zeros;
 
 pub use assignment::assign;
 pub use first::first_numbers;
-pub use layout::{Layout, names_over, places_of};
+pub use layout::{Layout, places_of};
 pub use stmt::execute;

@@ -23,7 +23,7 @@ use vl_tree::{Lval, LvalKind, Select};
 use wn_net::{Net, NodeId};
 
 /// How many bits slots have.
-pub fn width_of(slots: &[Slot]) -> u32
+pub(crate) fn width_of(slots: &[Slot]) -> u32
     requires { slots_width slots.now ≤ 128 }
     ensures { result ≡ slots_width slots.now }
 {

@@ -18,7 +18,7 @@ use vl_tree::Expr;
 use wn_net::{Net, NodeId};
 
 /// 1 where an expression by itself isn't 0.
-pub fn condition(
+pub(crate) fn condition(
     net: &mut Net,
     layout: Layout<'_>,
     cells: &[NodeId],
@@ -36,7 +36,7 @@ pub fn condition(
 }
 
 /// An expression in a context.
-pub fn number_in(
+pub(crate) fn number_in(
     net: &mut Net,
     layout: Layout<'_>,
     cells: &[NodeId],

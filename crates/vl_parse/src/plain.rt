@@ -65,7 +65,11 @@ fn item_lead_of_word(keyword: Keyword) -> ItemLead
 
 /// An item that has no items in it.
 #[tactic(auto, using(crate::proofs::ItemLeads::item_leads, crate::proofs::ItemLeads::item_kinds, vl_parse_decl::specs::Tails::tails, vl_parse_decl::proofs::DeclarationRows::basics))]
-pub fn read_plain(alloc: Global, room: u32, tokens: &[Token]) -> Result<(Item, &[Token]), Stop>
+pub(crate) fn read_plain(
+    alloc: Global,
+    room: u32,
+    tokens: &[Token],
+) -> Result<(Item, &[Token]), Stop>
     requires bare { IsOther (k.Symbol s.OpenAttribute) (kinds_in tokens.now) }
     requires no_if { IsOther (k.Keyword Keyword.If) (kinds_in tokens.now) }
     requires no_for { IsOther (k.Keyword Keyword.For) (kinds_in tokens.now) }

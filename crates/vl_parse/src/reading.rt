@@ -20,7 +20,7 @@ use vl_parse_cursor::{Stop, add};
 use vl_tree::{AttributeInstance, Item, ItemKind, RegionMark};
 
 /// An item without attributes.
-pub fn bare(alloc: Global, pos: Pos, kind: ItemKind) -> Item
+pub(crate) fn bare(alloc: Global, pos: Pos, kind: ItemKind) -> Item
     ensures { result ≡ shown [] pos kind }
 {
     Item {
@@ -186,7 +186,7 @@ impl Reading {
 
 /// The item with these attributes before it.
 #[tactic(auto, using(crate::proofs::ItemsSpelled::shown_with))]
-pub fn with_attributes(attributes: List<AttributeInstance>, item: Item) -> Item
+pub(crate) fn with_attributes(attributes: List<AttributeInstance>, item: Item) -> Item
     ensures { result ≡ items.with_attributes attributes item }
 {
     Item {
