@@ -3,7 +3,6 @@ ghost use Rattle.std.specs.Prelude.{◌≡◌, ℕ, List, Some, None, IfOk, OnOk
 ghost use Rattle.vl_mean.specs.Scopes.{Scope};
 ghost use Rattle.vl_mean.specs.Walk as walk;
 ghost use Rattle.vl_mean.specs.Walk.{Place};
-ghost use Rattle.vl_elab_const.specs.Numbers as numbers_spec;
 ghost use Rattle.vl_elab_const.specs.Numbers.{HaveNumbers};
 ghost use Rattle.vl_elab_check_item.specs.TurnParts.{in_turn};
 ghost use Rattle.vl_elab_check.specs.Standing.{IsWithin};
@@ -11,9 +10,8 @@ ghost use Rattle.vl_elab_check.specs.Standing.{IsWithin};
 use fv_text::Memory;
 use std::alloc::Global;
 use vl_elab_check_item::enter_turn;
-use vl_elab_const::{genvar_value, is_true_in};
+use vl_elab_const::{genvar_value, value_in_turn};
 use vl_elab_decls::Inside;
-use vl_elab_scope::Names;
 use vl_mean::Const;
 use vl_tree::LoopHead;
 
@@ -23,17 +21,6 @@ pub(crate) fn first_value(alloc: Global, head: &LoopHead, inside: &Inside) -> Re
         → c ≡ walk.first_turn head.now ss) }
 {
     Ok(genvar_value(alloc, &head.start, &inside.numbers)?)
-}
-
-fn value_in_turn(alloc: Global, head: &LoopHead, numbers: &Names) -> Result<Option<Const>, Memory>
-    ensures { IfOk result (λ c. c ≡ (if numbers_spec.holds numbers.now head.now.condition
-        then Some (numbers_spec.genvar_number numbers.now head.now.next) else None)) }
-{
-    let goes_on = is_true_in(alloc, &head.condition, numbers)?;
-    if !goes_on {
-        return Ok(None);
-    }
-    Ok(Some(genvar_value(alloc, &head.next, numbers)?))
 }
 
 /// The value of the turn behind the one with this value. None exactly where that one doesn't begin.

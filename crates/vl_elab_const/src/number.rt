@@ -1,5 +1,5 @@
 //! Numbers of expressions over constants, refused or not.
-ghost use Rattle.std.specs.Prelude.{◌≡◌, ◌≤◌, [], max, true, IfOk};
+ghost use Rattle.std.specs.Prelude.{◌≡◌, ◌≤◌, [], max, true, Some, None, IfOk, if◌then◌else◌};
 ghost use Rattle.fv_bits.specs.Bits.{as_int};
 ghost use Rattle.vl_size.specs.Sign.{sign};
 ghost use Rattle.vl_size.specs.Size as size_spec;
@@ -15,7 +15,7 @@ use std::alloc::Global;
 use vl_elab_scope::{Names, known_expr};
 use vl_mean::{Const, Env, value};
 use vl_size::{Decls, Own, self_size, sign_of};
-use vl_tree::Expr;
+use vl_tree::{Expr, LoopHead};
 
 /// Without a size it has none, and the number 0.
 fn size_or_none(expr: &Expr, env: &Env) -> u32
@@ -135,4 +135,21 @@ pub fn genvar_value(alloc: Global, expr: &Expr, numbers: &Names) -> Result<Const
 {
     let number = number_in(alloc, expr, 32, numbers)?;
     Ok(genvar_const(number))
+}
+
+/// In the scope of a turn of a generate loop, the value of the turn behind it. None exactly where this one doesn't
+/// begin, as its condition doesn't hold (IEEE 1364-2005, section 12.4.1).
+pub fn value_in_turn(
+    alloc: Global,
+    head: &LoopHead,
+    numbers: &Names,
+) -> Result<Option<Const>, Memory>
+    ensures { IfOk result (λ c. c ≡ (if spec.holds numbers.now head.now.condition
+        then Some (spec.genvar_number numbers.now head.now.next) else None)) }
+{
+    let goes_on = is_true_in(alloc, &head.condition, numbers)?;
+    if !goes_on {
+        return Ok(None);
+    }
+    Ok(Some(genvar_value(alloc, &head.next, numbers)?))
 }

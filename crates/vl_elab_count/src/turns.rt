@@ -11,25 +11,13 @@ use crate::exprs::expr_nodes;
 use fv_text::Memory;
 use std::alloc::Global;
 use vl_elab_check_item::enter_turn;
-use vl_elab_const::{genvar_value, is_true_in};
+use vl_elab_const::{genvar_value, value_in_turn};
 use vl_elab_scope::Names;
 use vl_mean::Const;
 use vl_mean::widths::plus;
 use vl_tree::LoopHead;
 
-/// In the scope of a turn, the value of the next one. None exactly where this one is behind the last.
-fn next_in(alloc: Global, head: &LoopHead, numbers: &Names) -> Result<Option<Const>, Memory>
-    ensures { IfOk result (λ o. o ≡ (if holds numbers.now head.now.condition
-        then Some (genvar_number numbers.now head.now.next) else None)) }
-{
-    let goes_on = is_true_in(alloc, &head.condition, numbers)?;
-    if !goes_on {
-        return Ok(None);
-    }
-    Ok(Some(genvar_value(alloc, &head.next, numbers)?))
-}
-
-/// The same of the turn with this value.
+/// The value of the turn behind the one with this value. None exactly where that one doesn't begin.
 fn next_turn(
     alloc: Global,
     head: &LoopHead,
@@ -41,7 +29,7 @@ fn next_turn(
         o ≡ (if holds inner head.now.condition then Some (genvar_number inner head.now.next) else None)) }
 {
     enter_turn(alloc, &head.variable, value, numbers)?;
-    let next = next_in(alloc, head, numbers)?;
+    let next = value_in_turn(alloc, head, numbers)?;
     numbers.leave();
     Ok(next)
 }

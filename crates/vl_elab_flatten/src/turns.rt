@@ -4,14 +4,13 @@ ghost use Rattle.fv_bits.specs.Bits.{as_int};
 ghost use Rattle.vl_size.specs.Size.{is_bound};
 ghost use Rattle.vl_mean.specs.Scopes.{Scope};
 ghost use Rattle.vl_mean.specs.Walk as walk;
-ghost use Rattle.vl_elab_const.specs.Numbers as numbers_spec;
 ghost use Rattle.vl_elab_const.specs.Numbers.{HaveNumbers};
 ghost use Rattle.vl_elab_flatten.specs.Ready.{IsTurn};
 
 use fv_text::Memory;
 use std::alloc::Global;
 use vl_elab_check_item::enter_turn;
-use vl_elab_const::{genvar_value, is_true_in};
+use vl_elab_const::{genvar_value, value_in_turn};
 use vl_elab_scope::Names;
 use vl_mean::Const;
 use vl_tree::LoopHead;
@@ -23,17 +22,6 @@ pub(crate) fn first_value(alloc: Global, head: &LoopHead, numbers: &Names) -> Re
     ensures bounded { IfOk result (λ c. IsTurn c) }
 {
     genvar_value(alloc, &head.start, numbers)
-}
-
-fn value_in_turn(alloc: Global, head: &LoopHead, numbers: &Names) -> Result<Option<Const>, Memory>
-    ensures { IfOk result (λ c. c ≡ (if numbers_spec.holds numbers.now head.now.condition
-        then Some (numbers_spec.genvar_number numbers.now head.now.next) else None)) }
-{
-    let goes_on = is_true_in(alloc, &head.condition, numbers)?;
-    if !goes_on {
-        return Ok(None);
-    }
-    Ok(Some(genvar_value(alloc, &head.next, numbers)?))
 }
 
 /// The value of the turn behind the one with this value. None exactly where that one doesn't begin.
