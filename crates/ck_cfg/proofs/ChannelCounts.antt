@@ -22,7 +22,8 @@ use Rattle.ck_cfg.specs.Options.{with_isa, nret_named, with_nret_named, with_nre
 use Rattle.ck_cfg.specs.Scripts.{names_read, with_names, with_script}
 use Rattle.ck_cfg.specs.Section.{section_named}
 use Rattle.ck_cfg.specs.Line.{Line, section_begun, counted_lines}
-use Rattle.ck_cfg.specs.Faults.{and_then, Answers}
+use Rattle.fv_text.specs.Results.{and_then}
+use Rattle.ck_cfg.specs.Faults.{Answers}
 use Rattle.ck_cfg.specs.Reading.{start, in_section, with_text_in, with_text_at, with_text, with_section_named}
 use Rattle.ck_cfg.specs.Reading.{with_section, with_line_begun, with_line, with_lines, finished, config_of_lines}
 use Rattle.ck_cfg.specs.Reading.{config_of}

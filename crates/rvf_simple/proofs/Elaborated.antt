@@ -19,7 +19,7 @@ use Rattle.rvf_simple.proofs.Parsed.{tree_of_few}
 pub simple_is_elaborated : (a : Asked) (r : Reading) → Reads a r → IsSimple r.tree.modules
     → wrapper_ports r.tree.modules ≤ 200000 → refusal r.tree.modules top ≡ None
 simple_is_elaborated a r reads simple few =
-    let of = tree_of_few a.core a.texts a.lines r (reading_comes a.texts a.lines a.core r reads) in
+    let of = tree_of_few a.core a.texts a.lines r simple (reading_comes a.texts a.lines a.core r reads) in
     simple_unrefused r.tree.modules simple few
     (omega (arith, simple_nodes r.tree of.tokens of.parsed.tree_of.1 simple, of.few))
 

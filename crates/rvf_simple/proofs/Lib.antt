@@ -7,6 +7,7 @@ pub mod Tokens
 pub mod Small
 pub mod Results
 pub mod FewTokens
+pub mod Unassumed
 pub mod Placed
 pub mod Parsed
 pub mod OneReading

@@ -8,7 +8,7 @@ use Rattle.vl_token.proofs.Order.{tokens_one}
 use Rattle.vl_prep.specs.Macros.{Held}
 use Rattle.vl_prep.specs.Prep.{Outcome, preprocessed}
 use Rattle.vl_parse_grammar.proofs.OneSource.{one_source}
-use Rattle.vl_text.specs.Assumptions.{as_items, with_assumptions}
+use Rattle.vl_text.specs.Assumptions.{with_assumptions}
 use Rattle.vl_text.specs.Predefined.{ArePredefinedFor, none, prologue}
 use Rattle.vl_text.specs.SourceText.{AreLaid, AreParsed, ArePrepared, AreRead, Comes, FromTokens, Reading, Then}
 use Rattle.vl_text.specs.SourceText.{outcome_or_fault, tokens_or, with_macros}
@@ -40,8 +40,7 @@ one_list texts lines r s h k =
     let of_texts : h.of_texts ≡ k.of_texts = same_lexings texts h.of_texts k.of_texts h.texts_lexed k.texts_lexed in
     let of_lines : h.of_lines ≡ k.of_lines = same_lexings lines h.of_lines k.of_lines h.lines_lexed k.lines_lexed in
     let all : h.all ≡ k.all
-    = h.laid ∙ (λ i. laid_behind (laid_behind nothing_lexed (of_texts i)) (as_items lines (of_lines i)))
-    ∙ sym k.laid in
+    = h.laid ∙ (λ i. laid_behind (laid_behind nothing_lexed (of_texts i)) (of_lines i)) ∙ sym k.laid in
     h.comes ∙ (λ i. tokens_or (all i).fault (all i).tokens) ∙ sym k.comes
 
 -- ---- the preprocessor

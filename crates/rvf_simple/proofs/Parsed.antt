@@ -1,4 +1,4 @@
--- The tree of texts is that of at most 2,000,000 tokens.
+-- The tree of texts that is a simple wrapper is that of at most 2,000,000 tokens.
 use Rattle.std.specs.Prelude.{◌≡◌, ◌≤◌, List, length, Result, Ok, Err}
 use Rattle.std.proofs.Common.{ap, sym, subst, arith}
 use Rattle.fv_text.specs.declared.token.Token.{Token}
@@ -13,7 +13,8 @@ use Rattle.vl_text.specs.declared.fault.TextFault.{TextFault}
 use Rattle.vl_text.specs.declared.fault.TextFault.TheVariants.{Prep}
 use Rattle.vl_text.specs.declared.macros.Core.{Core}
 use Rattle.rvf_simple.proofs.FewTokens.{few_tokens}
-use Rattle.rvf_simple.proofs.Placed.{assumed_few}
+use Rattle.rvf_simple.specs.SimpleTrees.{IsSimple}
+use Rattle.rvf_simple.proofs.Placed.{simple_tokens}
 use Rattle.rvf_simple.proofs.Results.{ok_err, ok_is}
 
 -- the tokens that a tree spells, few of them
@@ -26,7 +27,7 @@ put_out_few : (done : Outcome) (o : Result Outcome PrepFault) → Ok done ≡ ou
 put_out_few done (Ok x) e = ap Ok (sym (ok_is done x e))
 put_out_few done (Err f) e = absurd (ok_err done (Prep f) e)
 
-module _ (core : Core) (lines : List Text) (r : Reading) where
+module _ (core : Core) (lines : List Text) (r : Reading) (simple : IsSimple r.tree.modules) where
   tree_few : (done : Outcome) → length done.output ≤ 2000000 → (tree : Result Source TextFault)
       → AreParsed (with_assumptions lines done.output) tree → Ok r ≡ with_macros done.macros tree → IsOfFew r.tree
   tree_few done h (Ok tree) p e =
@@ -34,9 +35,12 @@ module _ (core : Core) (lines : List Text) (r : Reading) where
       = ok_is r (record { tree = tree; macros = done.macros }) e in
       record {
         tokens = with_assumptions lines done.output;
-        parsed = subst (IsTree (with_assumptions lines done.output)) (ap (λ r. r.tree) (sym read)) p;
-        few = omega (arith, h, assumed_few lines done.output);
+        parsed = here read;
+        few = omega (arith, h, simple_tokens lines done.output r.tree (here read).tree_of.1 simple);
       }
+    where
+      here : r ≡ record { tree = tree; macros = done.macros } → IsTree (with_assumptions lines done.output) r.tree
+      here read = subst (IsTree (with_assumptions lines done.output)) (ap (λ r. r.tree) (sym read)) p
   tree_few done h (Err f) p e = absurd (ok_err r f e)
 
   read_few : (tokens : List Token) (middle : Result Outcome TextFault) → ArePrepared core tokens middle
@@ -51,6 +55,6 @@ module _ (core : Core) (lines : List Text) (r : Reading) where
   laid_few (Ok tokens) next = read_few tokens next.middle next.first next.next
   laid_few (Err f) next = absurd (ok_err r f next)
 
-pub tree_of_few : (core : Core) (texts lines : List Text) (r : Reading) → Comes core texts lines (Ok r)
-    → IsOfFew r.tree
-tree_of_few core texts lines r h = laid_few core lines r h.middle h.next
+pub tree_of_few : (core : Core) (texts lines : List Text) (r : Reading) → IsSimple r.tree.modules
+    → Comes core texts lines (Ok r) → IsOfFew r.tree
+tree_of_few core texts lines r simple h = laid_few core lines r simple h.middle h.next

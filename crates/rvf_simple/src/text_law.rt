@@ -1,8 +1,11 @@
 //! What texts come to that are simple wrappers.
-ghost use Rattle.std.specs.Prelude.{◌≡◌, ℕ, ◌≤◌, List, length, None, Ok, Err};
+ghost use Rattle.std.specs.Prelude.{◌≡◌, ◌+◌, ◌*◌, ℕ, ◌≤◌, List, [], length, None, Ok, Err};
 ghost use Rattle.fv_text.specs.declared.token.Token.{Token};
 ghost use Rattle.vl_prep.specs.Macros.{Held};
 ghost use Rattle.vl_prep.specs.Prep.{Outcome, preprocessed};
+ghost use Rattle.vl_tree.specs.ItemSpelling.{spell_source};
+ghost use Rattle.vl_tree.specs.Phrase.{Spells};
+ghost use Rattle.vl_tree.specs.declared.source.Source.{Source};
 ghost use Rattle.vl_elab_spec.specs.Refused.{refusal};
 ghost use Rattle.vl_elab_spec.specs.declared.elab_fault.ElabFault.{ElabFault};
 ghost use Rattle.rvf_simple.specs.SimpleTrees.{IsSimple, wrapper_ports};
@@ -23,10 +26,19 @@ pub fn few_tokens_are_put_out()
         → length r.output ≤ 2000000 }
 {}
 
-/// There are no more where assumptions are put in their place.
+/// Each line of assumptions is seven tokens more where it is put in its place.
 #[tactic(auto, using(crate::proofs::Placed::assumed_few))]
-pub fn assumptions_in_place_are_no_more()
-    ensures { (lines : List Text) (tokens : List Token) → length (with_assumptions lines tokens) ≤ length tokens }
+pub fn assumptions_in_place_are_few_more()
+    ensures { (lines : List Text) (tokens : List Token)
+        → length (with_assumptions lines tokens) ≤ length tokens + 7 * length lines }
+{}
+
+/// None is in a simple wrapper, so its tokens are no more than those that were put out.
+#[tactic(auto, using(crate::proofs::Placed::simple_tokens))]
+pub fn simple_wrappers_have_no_assumptions()
+    ensures { (lines : List Text) (tokens : List Token) (tree : Source)
+        → Spells (spell_source tree) (with_assumptions lines tokens) [] → IsSimple tree.modules
+        → length (with_assumptions lines tokens) ≤ length tokens }
 {}
 
 /// Texts have one reading at most.

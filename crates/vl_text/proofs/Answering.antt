@@ -1,5 +1,5 @@
 -- Parts in turn: where each comes to one thing alone, so do they together.
-use Rattle.std.proofs.Common.{◌≡◌, List, Result, Ok, Err, refl, sym, ap, ◌∙◌, subst}
+use Rattle.std.proofs.Common.{List, Result, Ok, Err, refl, ap, ◌∙◌, subst}
 use Rattle.vl_prep.specs.Prep.{Outcome}
 use Rattle.vl_tree.specs.declared.source.Source.{Source}
 use Rattle.vl_text.specs.Assumptions.{with_assumptions}

@@ -1,5 +1,5 @@
 -- The end of the top module, token by token.
-use Rattle.std.proofs.Common.{◌≡◌, ℕ, ◌+◌, List, [], ◌∷◌, None, Some, true, false, refl, sym, ap, ◌∙◌}
+use Rattle.std.proofs.Common.{◌≡◌, ℕ, ◌+◌, List, [], ◌∷◌, None, Some, true, false, refl}
 use Rattle.fv_text.specs.declared.token.Token.{Token}
 use Rattle.vl_text.specs.Assumptions.{is_endmodule, first_end, begins_top, end_of_top}
 

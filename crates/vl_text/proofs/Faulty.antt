@@ -1,9 +1,9 @@
 -- The preprocessor's faults and the parser's are at tokens.
-use Rattle.std.proofs.Common.{◌≡◌, ◌⊎◌, inl, inr, ℕ, zero, suc, ◌-◌, ◌≤◌, List, [], ◌∷◌, ◌++◌, length, refl, sym, ap}
-use Rattle.std.proofs.Common.{◌∙◌, subst, arith}
+use Rattle.std.proofs.Common.{◌≡◌, ◌⊎◌, inl, inr, ℕ, zero, suc, ◌-◌, ◌≤◌, List, [], ◌∷◌, ◌++◌, length, refl, sym}
+use Rattle.std.proofs.Common.{subst, arith}
 use Rattle.std.proofs.lemmas.List.Elements.{All-nil}
 use Rattle.std.proofs.lemmas.Option.{slice_get_cases, slice_get_within, get_or_from_slice_get}
-use Rattle.std.specs.List.{All, Contains, slice_get}
+use Rattle.std.specs.List.{Contains, slice_get}
 use Rattle.std.specs.Prelude.{Option, Some, None, IfSome}
 use Rattle.fv_text.specs.declared.kind.Kind.{Kind}
 use Rattle.fv_text.specs.declared.pos.Pos.{Pos}
@@ -11,8 +11,6 @@ use Rattle.fv_text.specs.declared.token.Token.{Token}
 use Rattle.vl_prep.specs.Places.{places, IsPlacedFault}
 use Rattle.vl_prep.specs.declared.fault.PrepFault.{PrepFault}
 use Rattle.vl_prep.specs.declared.fault.PrepFault.TheVariants as prep
-use Rattle.vl_tree.specs.Phrase.{kinds_of}
-use Rattle.vl_tree.specs.declared.source.Module.{Module}
 use Rattle.vl_tree.specs.WellFormed.{IsModule}
 use Rattle.vl_parse_grammar.specs.Depth.{IsTooDeep}
 use Rattle.vl_parse_grammar.specs.Text.{IsText, IsFaulty}
@@ -23,7 +21,6 @@ use Rattle.vl_parse.specs.declared.fault.ParseFault.{ParseFault}
 use Rattle.vl_parse.specs.declared.fault.ParseFault.TheVariants as parse
 use Rattle.vl_text.specs.Faults.{of_prep, of_parse}
 use Rattle.vl_text.specs.Places.{parse_place, IsAtToken}
-use Rattle.vl_text.specs.declared.fault.TextFault.{TextFault}
 use Rattle.vl_text.specs.declared.fault.TextFault.TheVariants.{Parse}
 use Rattle.vl_text.proofs.Standing.{own_places}
 

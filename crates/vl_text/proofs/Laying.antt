@@ -1,18 +1,11 @@
 -- Texts one behind the other.
-use Rattle.std.proofs.Common.{◌≡◌, ℕ, ◌+◌, ◌<◌, length, drop, get_or, add-one, drop-cons, List, [], ◌∷◌, ◌++◌, map}
-use Rattle.std.proofs.Common.{Option, Some, None, Result, Ok, Err, refl, sym, ap, ◌∙◌, subst}
-use Rattle.std.specs.Prelude.{true, OnOk}
-use Rattle.fv_text.specs.declared.memory.Memory.{Memory}
+use Rattle.std.proofs.Common.{◌≡◌, ℕ, ◌+◌, ◌<◌, length, drop, get_or, add-one, drop-cons, List, [], ◌∷◌}
+use Rattle.std.proofs.Common.{Result, refl, sym, ap, ◌∙◌, subst}
 use Rattle.fv_text.specs.declared.token.Token.{Token}
-use Rattle.vl_token.specs.Fault.{OnNotMemory, is_of_text}
-use Rattle.vl_token.specs.declared.fault.LexFault.{LexFault}
-use Rattle.vl_token.specs.Place.{start_of}
-use Rattle.vl_text.specs.Assumptions.{item, as_item, as_items}
 use Rattle.vl_text.specs.SourceText.{AreLaid, tokens_or, Only, Answers}
 use Rattle.vl_text.proofs.Answering.{only_answers}
-use Rattle.vl_text.proofs.OneText.{of_text}
-use Rattle.vl_text.specs.Steps.{IsOnlyLexed, AddsText, AddsItem, AreOnlyLexed, AddsTexts, AddsItems}
-use Rattle.vl_text.specs.Texts.{Text, Lexing, IsLexed, AreLexed, nothing_lexed, with_lexing, laid_behind}
+use Rattle.vl_text.specs.Steps.{AddsText, AreOnlyLexed, AddsTexts}
+use Rattle.vl_text.specs.Texts.{Text, Lexing, AreLexed, nothing_lexed, laid_behind}
 use Rattle.vl_text.specs.Texts.{text_seen, texts_seen, line_seen, lines_seen}
 use Rattle.vl_text.specs.declared.text.Assumption.{Assumption}
 use Rattle.vl_text.specs.declared.text.SourceText.{SourceText}
@@ -28,17 +21,6 @@ one_text x xs old mid new one more = record {
   lexings = one.lexing ∷ more.lexings;
   lexed = (one.lexed, more.lexed);
   new_is = more.new_is ∙ ap (λ s. laid_behind s more.lexings) one.new_is;
-}
-
-pub no_items : (all : Lexed) → AddsItems [] all all
-no_items all = record { lexings = []; lexed = tt; new_is = refl }
-
-pub one_item : (x : Text) (xs : List Text) (old mid new : Lexed) → AddsItem x old mid → AddsItems xs mid new
-    → AddsItems (x ∷ xs) old new
-one_item x xs old mid new one more = record {
-  lexings = one.lexing ∷ more.lexings;
-  lexed = (one.lexed, more.lexed);
-  new_is = more.new_is ∙ ap (λ s. laid_behind s (as_items xs more.lexings)) one.new_is;
 }
 
 are_lexed : (xs : List Text) (rs : List Lexing) → AreOnlyLexed xs rs → AreLexed xs rs
@@ -60,7 +42,7 @@ same_lexings (x ∷ xs) (r ∷ rs) (s ∷ ss) h i = two s r ss rs (h.0.only s i.
 
 -- what is laid is what is there
 pub only_laid : (texts lines : List Text) (first mid all : Lexed) → first ≡ nothing_lexed → AddsTexts texts first mid
-    → AddsItems lines mid all → Only (AreLaid texts lines) (tokens_or all.fault all.tokens)
+    → AddsTexts lines mid all → Only (AreLaid texts lines) (tokens_or all.fault all.tokens)
 only_laid texts lines first mid all start h i = record {
   is = record {
     of_texts = h.lexings;
@@ -73,32 +55,17 @@ only_laid texts lines first mid all start h i = record {
   };
   only = λ other o.
       o.comes ∙ ap (λ (s : Lexed). tokens_or s.fault s.tokens) (o.laid
-      ∙ ap (λ rs. laid_behind (laid_behind nothing_lexed rs) (as_items lines o.of_lines))
+      ∙ ap (λ rs. laid_behind (laid_behind nothing_lexed rs) o.of_lines)
       (same_lexings texts h.lexings o.of_texts h.lexed o.texts_lexed)
-      ∙ ap (λ rs. laid_behind (laid_behind nothing_lexed h.lexings) (as_items lines rs))
+      ∙ ap (λ rs. laid_behind (laid_behind nothing_lexed h.lexings) rs)
       (same_lexings lines i.lexings o.of_lines i.lexed o.lines_lexed) ∙ sym laid);
 }
   where
-    laid : all ≡ laid_behind (laid_behind nothing_lexed h.lexings) (as_items lines i.lexings)
-    laid = i.new_is
-        ∙ ap (λ s. laid_behind s (as_items lines i.lexings)) (h.new_is ∙ ap (λ s. laid_behind s h.lexings) start)
-
--- one line of assumptions more, from what the lexer answers of it
-module _ (x : Text) (old new : Lexed) where
-  pub item_added : (r : Result (Unit {0}) Memory) (ts all : List Token) → IsOnlyLexed x (Ok ts)
-      → all ≡ item (start_of x.file x.line) ts → OnOk r (new ≡ with_lexing old (Ok all)) → OnOk r (AddsItem x old new)
-  item_added (Ok u) ts all h e n =
-      record { lexing = Ok ts; lexed = h; new_is = n ∙ ap (λ (us : List Token). with_lexing old (Ok us)) e }
-  item_added (Err f) ts all h e n = tt
-
-  pub fault_added : (r : Result (Unit {0}) Memory) (f : LexFault) → OnNotMemory f (IsOnlyLexed x (Err f))
-      → OnOk r (new ≡ with_lexing old (Err f)) → OnOk r (is_of_text f ≡ true) → OnOk r (AddsItem x old new)
-  fault_added (Ok u) f h e of =
-      record { lexing = Err f; lexed = of_text f (IsOnlyLexed x (Err f)) of h; new_is = e }
-  fault_added (Err g) f h e of = tt
+    laid : all ≡ laid_behind (laid_behind nothing_lexed h.lexings) i.lexings
+    laid = i.new_is ∙ ap (λ s. laid_behind s i.lexings) (h.new_is ∙ ap (λ s. laid_behind s h.lexings) start)
 
 pub laid_answer : (texts lines : List Text) (first mid all : Lexed) → first ≡ nothing_lexed → AddsTexts texts first mid
-    → AddsItems lines mid all → (r : Result (List Token) TextFault) → r ≡ tokens_or all.fault all.tokens
+    → AddsTexts lines mid all → (r : Result (List Token) TextFault) → r ≡ tokens_or all.fault all.tokens
     → Answers (AreLaid texts lines) r
 laid_answer texts lines first mid all start h i r e =
     only_answers (AreLaid texts lines) r (subst (λ s. Only (AreLaid texts lines) s) (sym e)
@@ -124,10 +91,12 @@ module _ (xs : List Assumption) (i : ℕ) (d : Assumption) (start old mid : Lexe
   next_line =
       let e : drop i xs ≡ get_or xs i d ∷ drop (i + 1) xs = rw (add-one, drop-cons xs i d) in ap lines_seen e
 
-  pub next_item : AddsItem (line_seen (get_or xs i d)) old mid
-      → ((new : Lexed) → AddsItems (lines_seen (drop i xs)) old new → AddsItems (lines_seen xs) start new)
-      → (new : Lexed) → AddsItems (lines_seen (drop (i + 1) xs)) mid new → AddsItems (lines_seen xs) start new
-  next_item one so_far new more =
+  -- `x` is the line as a text
+  pub next_laid : (x : Text) → x ≡ line_seen (get_or xs i d) → AddsText x old mid
+      → ((new : Lexed) → AddsTexts (lines_seen (drop i xs)) old new → AddsTexts (lines_seen xs) start new)
+      → (new : Lexed) → AddsTexts (lines_seen (drop (i + 1) xs)) mid new → AddsTexts (lines_seen xs) start new
+  next_laid x is one so_far new more =
       so_far new
-      (subst (λ ys. AddsItems ys old new) (sym next_line)
-      (one_item (line_seen (get_or xs i d)) (lines_seen (drop (i + 1) xs)) old mid new one more))
+      (subst (λ ys. AddsTexts ys old new) (sym next_line)
+      (one_text (line_seen (get_or xs i d)) (lines_seen (drop (i + 1) xs)) old mid new
+      (subst (λ y. AddsText y old mid) is one) more))

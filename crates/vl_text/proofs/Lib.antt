@@ -1,7 +1,6 @@
 pub mod Answering
 pub mod Parsing
 pub mod Preparing
-pub mod OneText
 pub mod Laying
 pub mod Sorting
 pub mod Counting

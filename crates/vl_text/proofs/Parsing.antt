@@ -1,5 +1,5 @@
 -- What the parser answers is the tree, or the refusal, that is there: from what `parse` promises.
-use Rattle.std.proofs.Common.{◌≡◌, ◌⊎◌, inl, inr, ℕ, List, [], Result, Ok, Err, refl, sym, ap, ◌∙◌}
+use Rattle.std.proofs.Common.{◌≡◌, ◌⊎◌, inl, inr, ℕ, List, [], Result, Ok, Err, sym, ap, ◌∙◌}
 use Rattle.fv_text.specs.declared.token.Token.{Token}
 use Rattle.vl_tree.specs.Phrase.{Spells, kinds_of}
 use Rattle.vl_tree.specs.ItemSpelling.{spell_source}

@@ -1,8 +1,8 @@
 -- Texts are refused at places in them, and their tokens stand there.
-use Rattle.std.proofs.Common.{◌≡◌, ℕ, List, [], ◌∷◌, ◌++◌, length, get_or, map, Option, Some, None, Result, Ok, Err}
-use Rattle.std.proofs.Common.{refl, sym, ap, ◌∙◌, subst}
+use Rattle.std.proofs.Common.{◌≡◌, ℕ, List, [], ◌∷◌, ◌++◌, get_or, Option, Some, None, Result, Ok, Err}
+use Rattle.std.proofs.Common.{refl, sym, ◌∙◌, subst}
 use Rattle.std.proofs.lemmas.List.{append_assoc}
-use Rattle.std.proofs.lemmas.List.Elements.{All-nil, All-cons, All-append, All-from_recursion, All-contains}
+use Rattle.std.proofs.lemmas.List.Elements.{All-nil, All-cons, All-append, All-contains}
 use Rattle.std.proofs.lemmas.List.Elements.{All-contains_itself, All-head, All-tail}
 use Rattle.std.specs.List.{All, Contains}
 use Rattle.std.specs.Prelude.{Bool, true, false, IfSome, IfOk, IfErr, MatchResult, if◌then◌else◌}
@@ -18,8 +18,9 @@ use Rattle.vl_token.specs.declared.fault.LexFault.TheVariants as lex
 use Rattle.vl_prep.specs.Places.{places}
 use Rattle.vl_prep.specs.declared.macros.Macros.{Macros}
 use Rattle.vl_tree.specs.declared.source.Source.{Source}
-use Rattle.vl_text.specs.Assumptions.{item, front_at, end_at, as_item, as_items}
-use Rattle.vl_text.specs.Places.{IsPlaceIn, place_of, IsPlacedIn, IsAtToken, AreAtTokens, HasTokenPlaces}
+use Rattle.vl_text.specs.Assumptions.{line_start}
+use Rattle.vl_text.specs.Places.{IsPlaceIn, place_of, IsPlacedIn, IsAtPlace, AreAtPlaces, HasTokenPlaces, line_starts}
+use Rattle.vl_text.specs.Places.{with_starts}
 use Rattle.vl_text.specs.SourceText.{AreLaid, tokens_or, Only, Answers}
 use Rattle.vl_text.specs.Texts.{Text, Lexing, IsLexed, AreLexed, lexed_bytes, is_before, least, nothing_lexed}
 use Rattle.vl_text.specs.Texts.{with_lexing, laid_behind}
@@ -75,18 +76,6 @@ module _ (x : Text) (P : Pos → Type 0)
   refused_in (lex.OpenString at) r = subst P (sym r.place) (in_text r.front r.rest r.same)
   refused_in lex.Memory r = tt
 
-  -- an item's own tokens stand at the beginning of its line
-  item_in : (ts : List Token) → AreIn ts → AreIn (item (start_of x.file x.line) ts)
-  item_in ts h =
-      All-append (λ (t : Token). P t.pos) (front_at (start_of x.file x.line)) (ts ++ end_at (start_of x.file x.line))
-      (All-from_recursion (λ (t : Token). P t.pos) (front_at (start_of x.file x.line))
-      (here, (here, (here, (here, (here, tt))))))
-      (All-append (λ (t : Token). P t.pos) ts (end_at (start_of x.file x.line)) h
-      (All-from_recursion (λ (t : Token). P t.pos) (end_at (start_of x.file x.line)) (here, (here, tt))))
-    where
-      here : P (start_of x.file x.line)
-      here = in_text [] (lexed_bytes x) refl
-
 -- what is laid so far
 module _ (P : Pos → Type 0) where
   record LexedIn (s : Lexed) : Type 0 where
@@ -118,10 +107,6 @@ module _ (P : Pos → Type 0) where
   lexing_in x i (Ok ts) h = tokens_in x P i ts h
   lexing_in x i (Err f) h = refused_in x P i f h
 
-  as_item_in : (x : Text) → InText x → (r : Lexing) → LexingIn r → LexingIn (as_item x r)
-  as_item_in x i (Ok ts) h = item_in x P i ts h
-  as_item_in x i (Err f) h = h
-
   texts_in : (xs : List Text) (rs : List Lexing) (s : Lexed) → All InText xs → AreLexed xs rs → LexedIn s
       → LexedIn (laid_behind s rs)
   texts_in [] [] s i h g = g
@@ -131,21 +116,11 @@ module _ (P : Pos → Type 0) where
       texts_in xs rs (with_lexing s r) (All-tail InText x xs i) h.1
       (with_in s r g (lexing_in x (All-head InText x xs i) r h.0))
 
-  items_in : (xs : List Text) (rs : List Lexing) (s : Lexed) → All InText xs → AreLexed xs rs → LexedIn s
-      → LexedIn (laid_behind s (as_items xs rs))
-  items_in [] [] s i h g = g
-  items_in [] (r ∷ rs) s i h g = absurd h
-  items_in (x ∷ xs) [] s i h g = absurd h
-  items_in (x ∷ xs) (r ∷ rs) s i h g =
-      items_in xs rs (with_lexing s (as_item x r)) (All-tail InText x xs i) h.1
-      (with_in s (as_item x r) g
-      (as_item_in x (All-head InText x xs i) r (lexing_in x (All-head InText x xs i) r h.0)))
-
   laid_in : (texts lines : List Text) (r : Result (List Token) TextFault) → All InText texts → All InText lines
       → (laid : AreLaid texts lines r) → LexedIn laid.all
   laid_in texts lines r i j h =
       subst LexedIn (sym h.laid)
-      (items_in lines h.of_lines (laid_behind nothing_lexed h.of_texts) j h.lines_lexed
+      (texts_in lines h.of_lines (laid_behind nothing_lexed h.of_texts) j h.lines_lexed
       (texts_in texts h.of_texts nothing_lexed i h.texts_lexed
       (record { tokens = All-nil (λ t. P t.pos); fault = tt })))
 
@@ -193,32 +168,42 @@ module _ (texts lines : List Text) where
       laid_in Here texts lines r (split_front texts lines all_in) (split_back texts lines all_in) h in
       subst Stands (sym h.comes) (stands h.all.fault h.all.tokens all.tokens all.fault)
 
-  -- so is what is at a token of them
-  pub fault_in : (ts : List Token) (fault : TextFault) → All (λ t. Here t.pos) ts → IsAtToken ts fault
-      → IsPlacedIn (texts ++ lines) fault
+  -- and so is where a line of assumptions begins
+  starts_in : (xs : List Text) → All (InText Here) xs → All Here (line_starts xs)
+  starts_in [] h = All-nil Here
+  starts_in (x ∷ xs) h =
+      All-cons Here (line_start x) (line_starts xs) (All-head (InText Here) x xs h [] (lexed_bytes x) refl)
+      (starts_in xs (All-tail (InText Here) x xs h))
+
+  mapped : (us : List Token) → All (λ t. Here t.pos) us → All Here (places us)
+  mapped [] g = All-nil Here
+  mapped (u ∷ us) g =
+      All-cons Here u.pos (places us) (All-head (λ t. Here t.pos) u us g)
+      (mapped us (All-tail (λ t. Here t.pos) u us g))
+
+  -- so is what is at one of these places
+  pub fault_in : (ts : List Token) (fault : TextFault) → All (λ t. Here t.pos) ts
+      → IsAtPlace (with_starts lines ts) fault → IsPlacedIn (texts ++ lines) fault
   fault_in ts fault h i = some (place_of fault) i
     where
-      mapped : (us : List Token) → All (λ t. Here t.pos) us → All Here (places us)
-      mapped [] g = All-nil Here
-      mapped (u ∷ us) g =
-          All-cons Here u.pos (places us) (All-head (λ t. Here t.pos) u us g)
-          (mapped us (All-tail (λ t. Here t.pos) u us g))
+      all : All Here (with_starts lines ts)
+      all = All-append Here (places ts) (line_starts lines) (mapped ts h) (starts_in lines (split_back texts lines all_in))
 
-      some : (o : Option Pos) → IfSome o (λ place. Contains (places ts) place) → IfSome o Here
+      some : (o : Option Pos) → IfSome o (λ place. Contains (with_starts lines ts) place) → IfSome o Here
       some None c = tt
-      some (Some place) c = All-contains Here (places ts) place (mapped ts h) c
+      some (Some place) c = All-contains Here (with_starts lines ts) place all c
 
 module _ (texts lines : List Text) where
   pub nodes_behind : (ts : List Token) → Only (AreLaid texts lines) (Ok ts)
       → (r : Result (Source × Macros) TextFault)
-      → MatchResult r (λ s. AreAtTokens ts s.0) (λ fault. IsAtToken ts fault)
+      → MatchResult r (λ s. AreAtPlaces (with_starts lines ts) s.0) (λ fault. IsAtPlace (with_starts lines ts) fault)
       → IfOk r (λ s. HasTokenPlaces texts lines s.0)
   nodes_behind ts laid (Ok s) h = record { tokens = ts; laid = laid.is; nodes = h }
   nodes_behind ts laid (Err fault) h = tt
 
   pub placed_behind : (ts : List Token) → Only (AreLaid texts lines) (Ok ts)
       → (r : Result (Source × Macros) TextFault)
-      → MatchResult r (λ s. AreAtTokens ts s.0) (λ fault. IsAtToken ts fault)
+      → MatchResult r (λ s. AreAtPlaces (with_starts lines ts) s.0) (λ fault. IsAtPlace (with_starts lines ts) fault)
       → IfErr r (λ fault. IsPlacedIn (texts ++ lines) fault)
   placed_behind ts laid (Ok s) h = tt
   placed_behind ts laid (Err fault) h = fault_in texts lines ts fault (laid_stands texts lines (Ok ts) laid.is) h

@@ -1,5 +1,5 @@
 -- What the preprocessor answers is what comes of the tokens, or the refusal, that is there.
-use Rattle.std.proofs.Common.{◌≡◌, List, Result, Ok, Err, refl, sym, ap, ◌∙◌, subst}
+use Rattle.std.proofs.Common.{◌≡◌, List, Result, Ok, Err, sym, ap, ◌∙◌}
 use Rattle.fv_text.specs.declared.token.Token.{Token}
 use Rattle.vl_prep.specs.Faults.{OnNotMemory}
 use Rattle.vl_prep.specs.Macros.{Held}
@@ -10,7 +10,7 @@ use Rattle.vl_text.specs.Faults.{of_prep}
 use Rattle.vl_text.specs.Predefined.{ArePredefinedFor}
 use Rattle.vl_text.specs.SourceText.{ArePrepared, outcome_or_fault, Only, Answers}
 use Rattle.vl_text.specs.declared.fault.TextFault.{TextFault}
-use Rattle.vl_text.specs.declared.fault.TextFault.TheVariants.{Lex, Prep, Parse, Memory}
+use Rattle.vl_text.specs.declared.fault.TextFault.TheVariants.{Prep}
 use Rattle.vl_text.specs.declared.macros.Core.{Core}
 
 pub ok_same : {A E : Type 0} (r : Result A E) (a b : A) → r ≡ Ok a → r ≡ Ok b → a ≡ b

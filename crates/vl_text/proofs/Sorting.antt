@@ -1,7 +1,6 @@
 -- Tokens one behind the other.
-use Rattle.std.proofs.Common.{◌≡◌, List, [], ◌∷◌, ◌++◌, refl, sym, ap, ◌∙◌, append_assoc, append-nil}
+use Rattle.std.proofs.Common.{◌≡◌, List, [], ◌∷◌, ◌++◌, sym, ap, ◌∙◌, append_assoc, append-nil}
 use Rattle.std.proofs.lemmas.List.Elements.{filter-append}
-use Rattle.std.specs.List.{filter}
 use Rattle.fv_text.specs.declared.token.Token.{Token}
 use Rattle.vl_text.specs.Assumptions.{is_assumed, is_not_assumed}
 use Rattle.vl_text.specs.Steps.{sorted, with_token}

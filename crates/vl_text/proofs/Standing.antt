@@ -1,32 +1,23 @@
 -- Nodes and faults stand at places of tokens.
-use Rattle.std.proofs.Common.{◌≡◌, ◌⊎◌, inl, inr, ℕ, zero, suc, ◌-◌, ◌<◌, List, [], ◌∷◌, ◌++◌, length, map, take}
-use Rattle.std.proofs.Common.{drop, refl, sym, ap, ◌∙◌, subst, arith}
+use Rattle.std.proofs.Common.{◌≡◌, ℕ, List, [], ◌∷◌, ◌++◌, take}
+use Rattle.std.proofs.Common.{drop, sym, subst}
 use Rattle.std.proofs.lemmas.List.Elements.{All-nil, All-cons, All-head, All-tail, All-append, All-take, All-drop}
-use Rattle.std.proofs.lemmas.List.Elements.{All-filter}
+use Rattle.std.proofs.lemmas.List.Elements.{All-filter, All-from_recursion, Contains-append_left, Contains-append_right}
 use Rattle.std.proofs.lemmas.List.Elements.{All-weaker, All-map, All-contains, All-contains_itself}
-use Rattle.std.proofs.lemmas.Option.{IfSome_then, slice_get_cases, slice_get_within, get_or_from_slice_get}
 use Rattle.std.specs.List.{All, Contains, filter}
 use Rattle.std.specs.Prelude.{Option, Some, None, IfSome, Result, Ok, Err, MatchResult}
 use Rattle.fv_text.specs.declared.kind.Kind.{Kind}
 use Rattle.fv_text.specs.declared.pos.Pos.{Pos}
 use Rattle.fv_text.specs.declared.token.Token.{Token}
-use Rattle.vl_prep.specs.Faults.{OnNotMemory}
-use Rattle.vl_prep.specs.Places.{places, fault_place, IsPlaced}
+use Rattle.vl_prep.specs.Places.{places, IsPlaced}
 use Rattle.vl_prep.specs.declared.macros.Macros.{Macros}
 use Rattle.vl_tree.specs.ItemSpelling.{spell_source}
-use Rattle.vl_tree.specs.Phrase.{Phrase, nothing, token, operator, ◌▸◌, at, within, level, kinds_of, Spells}
+use Rattle.vl_tree.specs.Phrase.{Phrase, nothing, token, operator, ◌▸◌, at, within, level, Spells}
 use Rattle.vl_tree.specs.declared.source.Source.{Source}
-use Rattle.vl_parse_grammar.specs.Depth.{IsTooDeep}
-use Rattle.vl_parse_grammar.specs.Text.{IsFaulty}
-use Rattle.vl_parse.specs.Faults as parser
-use Rattle.vl_parse.specs.Faults.{token_at, place_at, named_at, wrong_at, outside_word}
-use Rattle.vl_parse.specs.Refusals.{IsOfFaulty, IsOfTooDeep, IsFaultOf}
-use Rattle.vl_parse.specs.declared.fault.ParseFault.{ParseFault}
-use Rattle.vl_parse.specs.declared.fault.ParseFault.TheVariants as parse
 use Rattle.vl_text.specs.Assumptions.{put_in, placed, with_assumptions, end_of_top, section_of, is_assumed}
-use Rattle.vl_text.specs.Assumptions.{is_not_assumed}
-use Rattle.vl_text.specs.Faults.{of_parse}
-use Rattle.vl_text.specs.Places.{parse_place, place_of, node_places, AreAtTokens, IsAtToken}
+use Rattle.vl_text.specs.Assumptions.{end_at, front_at, is_not_assumed, item, items, line_start, many_on}
+use Rattle.vl_text.specs.Places.{place_of, node_places, AreAtPlaces, AreAtTokens, IsAtPlace, IsAtToken}
+use Rattle.vl_text.specs.Places.{line_starts, with_starts}
 use Rattle.vl_text.specs.SourceText.{tree_seen}
 use Rattle.vl_text.specs.Texts.{Text}
 use Rattle.vl_text.specs.declared.assumptions.Section.{Section}
@@ -79,12 +70,31 @@ module _ (P : Pos → Type 0) where
       All-append (λ t. P t.pos) (take n ts) (items ++ drop n ts) (All-take (λ t. P t.pos) n ts i)
       (All-append (λ t. P t.pos) items (drop n ts) h (All-drop (λ t. P t.pos) n ts i))
 
-  placed_at : (o : Option Section) (ts : List Token) → AreAt ts → AreAt (placed o ts)
-  placed_at None ts h = h
-  placed_at (Some section) ts h =
-      put_at (end_of_top 0 (filter (is_not_assumed section) ts)) (filter (is_assumed section) ts)
-      (filter (is_not_assumed section) ts) (All-filter (is_assumed section) (λ t. P t.pos) ts h)
-      (All-filter (is_not_assumed section) (λ t. P t.pos) ts h)
+  -- an item's own tokens stand at the beginning of its line
+  item_at : (place : Pos) (ts : List Token) → P place → AreAt ts → AreAt (item place ts)
+  item_at place ts here h =
+      All-append (λ t. P t.pos) (front_at place) (ts ++ end_at place)
+      (All-from_recursion (λ t. P t.pos) (front_at place) (here, (here, (here, (here, (here, tt))))))
+      (All-append (λ t. P t.pos) ts (end_at place) h
+      (All-from_recursion (λ t. P t.pos) (end_at place) (here, (here, tt))))
+
+  items_at : (lines : List Text) (ts : List Token) → All P (line_starts lines) → AreAt ts → AreAt (items lines ts)
+  items_at [] ts h i = All-nil (λ t. P t.pos)
+  items_at (x ∷ xs) ts h i =
+      All-append (λ t. P t.pos) (item (line_start x) (take (many_on x ts) ts)) (items xs (drop (many_on x ts) ts))
+      (item_at (line_start x) (take (many_on x ts) ts) (All-head P (line_start x) (line_starts xs) h)
+      (All-take (λ t. P t.pos) (many_on x ts) ts i))
+      (items_at xs (drop (many_on x ts) ts) (All-tail P (line_start x) (line_starts xs) h)
+      (All-drop (λ t. P t.pos) (many_on x ts) ts i))
+
+  placed_at : (o : Option Section) (lines : List Text) (ts : List Token) → All P (line_starts lines) → AreAt ts
+      → AreAt (placed o lines ts)
+  placed_at None lines ts h i = i
+  placed_at (Some section) lines ts h i =
+      put_at (end_of_top 0 (filter (is_not_assumed section) ts)) (items lines (filter (is_assumed section) ts))
+      (filter (is_not_assumed section) ts)
+      (items_at lines (filter (is_assumed section) ts) h (All-filter (is_assumed section) (λ t. P t.pos) ts i))
+      (All-filter (is_not_assumed section) (λ t. P t.pos) ts i)
 
 -- each token is at its own place
 pub own_places : (ts : List Token) → All (λ t. Contains (places ts) t.pos) ts
@@ -93,44 +103,74 @@ own_places ts = unmapped (Contains (places ts)) ts (All-contains_itself (places 
 pub tree_at : (ts : List Token) (tree : Source) → Spells (spell_source tree) ts [] → AreAtTokens ts tree
 tree_at ts tree h = (nodes_at (Contains (places ts)) (spell_source tree) ts [] h (own_places ts)).nodes
 
--- what is parsed stands where the preprocessed tokens do
-pub with_assumptions_at : (lines : List Text) (ts : List Token) → IsPlaced ts (with_assumptions lines ts)
-with_assumptions_at lines ts = placed_at (Contains (places ts)) (section_of lines) ts (own_places ts)
+-- what is parsed stands where the preprocessed tokens do, or where a line of assumptions begins
+pub with_assumptions_at : (lines : List Text) (ts : List Token)
+    → All (Contains (with_starts lines ts)) (places (with_assumptions lines ts))
+with_assumptions_at lines ts =
+    mapped Here (with_assumptions lines ts)
+    (placed_at Here (section_of lines) lines ts
+    (All-weaker (Contains (line_starts lines)) Here (λ place c. Contains-append_right (places ts) (line_starts lines) place c)
+    (line_starts lines) (All-contains_itself (line_starts lines)))
+    (unmapped Here ts
+    (All-weaker (Contains (places ts)) Here (λ place c. Contains-append_left (places ts) (line_starts lines) place c)
+    (places ts) (All-contains_itself (places ts)))))
+  where
+    Here : Pos → Type 0
+    Here place = Contains (with_starts lines ts) place
 
-among : (us ts : List Token) → IsPlaced us ts → (place : Pos) → Contains (places ts) place → Contains (places us) place
-among us ts h place i =
-    All-contains (Contains (places us)) (places ts) place (mapped (Contains (places us)) ts h) i
-
-pub tree_among : (us ts : List Token) (tree : Source) → IsPlaced us ts → AreAtTokens ts tree → AreAtTokens us tree
-tree_among us ts tree h i =
-    All-weaker (Contains (places ts)) (Contains (places us)) (λ place c. among us ts h place c)
+-- what stands at places that are all among others stands at one of the others
+pub tree_among : (spots others : List Pos) (tree : Source) → All (Contains others) spots → AreAtPlaces spots tree
+    → AreAtPlaces others tree
+tree_among spots others tree h i =
+    All-weaker (Contains spots) (Contains others) (λ place c. All-contains (Contains others) spots place h c)
     (node_places (spell_source tree)) i
 
-pub fault_among : (us ts : List Token) (fault : TextFault) → IsPlaced us ts → IsAtToken ts fault → IsAtToken us fault
-fault_among us ts fault h i = some (place_of fault) i
+pub fault_among : (spots others : List Pos) (fault : TextFault) → All (Contains others) spots → IsAtPlace spots fault
+    → IsAtPlace others fault
+fault_among spots others fault h i = some (place_of fault) i
   where
-    some : (o : Option Pos) → IfSome o (λ place. Contains (places ts) place)
-        → IfSome o (λ place. Contains (places us) place)
+    some : (o : Option Pos) → IfSome o (λ place. Contains spots place) → IfSome o (λ place. Contains others place)
     some None c = tt
-    some (Some place) c = among us ts h place c
+    some (Some place) c = All-contains (Contains others) spots place h c
 
-pub answer_among : (us ts : List Token) (r : Result Source TextFault) → IsPlaced us ts
-    → MatchResult r (λ tree. AreAtTokens ts tree) (λ fault. IsAtToken ts fault)
-    → MatchResult r (λ tree. AreAtTokens us tree) (λ fault. IsAtToken us fault)
-answer_among us ts (Ok tree) h i = tree_among us ts tree h i
-answer_among us ts (Err fault) h i = fault_among us ts fault h i
+-- a tree is at places, or a fault
+abbrev pub IsAt : List Pos → Result Source TextFault → Type 0
+IsAt spots tree = MatchResult tree (λ t. AreAtPlaces spots t) (λ fault. IsAtPlace spots fault)
 
--- a tree is at tokens, or a fault
-abbrev IsAt : List Token → Result Source TextFault → Type 0
-IsAt ts tree = MatchResult tree (λ t. AreAtTokens ts t) (λ fault. IsAtToken ts fault)
+pub answer_among : (spots others : List Pos) (r : Result Source TextFault) → All (Contains others) spots → IsAt spots r
+    → IsAt others r
+answer_among spots others (Ok tree) h i = tree_among spots others tree h i
+answer_among spots others (Err fault) h i = fault_among spots others fault h i
 
-with_macros_at : (ts : List Token) (r : Result (Source × Macros) TextFault) → IsAt ts (tree_seen r)
-    → MatchResult r (λ s. AreAtTokens ts s.0) (λ fault. IsAtToken ts fault)
-with_macros_at ts (Ok u) g = g
-with_macros_at ts (Err fault) g = g
+-- with the beginnings of lines, what the preprocessor puts out is where its tokens are
+pub output_among : (lines : List Text) (ts output : List Token) → IsPlaced ts output
+    → All (Contains (with_starts lines ts)) (with_starts lines output)
+output_among lines ts output h =
+    All-append Here (places output) (line_starts lines)
+    (mapped Here output
+    (All-weaker (λ (t : Token). Contains (places ts) t.pos) (λ t. Here t.pos)
+    (λ t c. Contains-append_left (places ts) (line_starts lines) t.pos c) output h))
+    (All-weaker (Contains (line_starts lines)) Here (λ place c. Contains-append_right (places ts) (line_starts lines) place c)
+    (line_starts lines) (All-contains_itself (line_starts lines)))
+  where
+    Here : Pos → Type 0
+    Here place = Contains (with_starts lines ts) place
+
+with_macros_at : (spots : List Pos) (r : Result (Source × Macros) TextFault) → IsAt spots (tree_seen r)
+    → MatchResult r (λ s. AreAtPlaces spots s.0) (λ fault. IsAtPlace spots fault)
+with_macros_at spots (Ok u) g = g
+with_macros_at spots (Err fault) g = g
 
 -- the same of a tree with macros beside it
-pub pair_at : (ts : List Token) (r : Result (Source × Macros) TextFault) (tree : Result Source TextFault)
-    → tree_seen r ≡ tree → MatchResult tree (λ t. AreAtTokens ts t) (λ fault. IsAtToken ts fault)
-    → MatchResult r (λ s. AreAtTokens ts s.0) (λ fault. IsAtToken ts fault)
-pair_at ts r tree e h = with_macros_at ts r (subst (λ t. IsAt ts t) (sym e) h)
+pub pair_at : (spots : List Pos) (r : Result (Source × Macros) TextFault) (tree : Result Source TextFault)
+    → tree_seen r ≡ tree → IsAt spots tree → MatchResult r (λ s. AreAtPlaces spots s.0) (λ fault. IsAtPlace spots fault)
+pair_at spots r tree e h = with_macros_at spots r (subst (λ t. IsAt spots t) (sym e) h)
+
+-- and of a part that comes before
+pub stopped_at : (lines : List Text) (ts : List Token) (fault : TextFault) → IsAtToken ts fault
+    → IsAtPlace (with_starts lines ts) fault
+stopped_at lines ts fault h =
+    fault_among (places ts) (with_starts lines ts) fault
+    (All-weaker (Contains (places ts)) (Contains (with_starts lines ts))
+    (λ place c. Contains-append_left (places ts) (line_starts lines) place c) (places ts)
+    (All-contains_itself (places ts))) h

@@ -16,9 +16,9 @@ use Rattle.std.specs.Prelude.{
   ◌∷◌,
   ◌++◌,
 }
-use Rattle.std.specs.Prelude.{length, take, drop, slice_get, Option, None, Some, Ok, Err, if◌then◌else◌, codes}
+use Rattle.std.specs.Prelude.{length, take, drop, slice_get, Option, None, Some, if◌then◌else◌, codes}
 use Rattle.std.specs.Prelude.{bytes_eq}
-use Rattle.std.specs.List.{filter}
+use Rattle.std.specs.List.{filter, prefix_len}
 use Rattle.fv_text.specs.declared.keyword.Keyword.{Keyword}
 use Rattle.fv_text.specs.declared.keyword.Keyword.TheVariants as w
 use Rattle.fv_text.specs.declared.kind.Kind.{Kind}
@@ -28,7 +28,7 @@ use Rattle.fv_text.specs.declared.symbol.Symbol.{Symbol}
 use Rattle.fv_text.specs.declared.symbol.Symbol.TheVariants as s
 use Rattle.fv_text.specs.declared.token.Token.{Token}
 use Rattle.vl_token.specs.Place.{start_of}
-use Rattle.vl_text.specs.Texts.{Text, Lexing}
+use Rattle.vl_text.specs.Texts.{Text}
 use Rattle.vl_text.specs.declared.assumptions.Section.{Section}
 
 abbrev pub word_at : Keyword → Pos → Token
@@ -47,18 +47,27 @@ front_at at =
 abbrev pub end_at : Pos → List Token
 end_at at = sign_at s.CloseParen at ∷ sign_at s.Semicolon at ∷ []
 
--- a line of assumptions is the item `always @* assume (LINE);`. The tokens that aren't of the line have this place
+-- the item `always @* assume (TOKENS);`. The tokens that are put round the others have this place
 abbrev pub item : Pos → List Token → List Token
 item at ts = front_at at ++ (ts ++ end_at at)
 
--- which is that of the line's column 1
-abbrev pub as_item : Text → Lexing → Lexing
-as_item x (Ok ts) = Ok (item (start_of x.file x.line) ts)
-as_item x (Err f) = Err f
+-- column 1 of a line
+abbrev pub line_start : Text → Pos
+line_start x = start_of x.file x.line
 
-abbrev pub as_items : List Text → List Lexing → List Lexing
-as_items (x ∷ xs) (r ∷ rs) = as_item x r ∷ as_items xs rs
-as_items xs rs = []
+-- the token stands on the line, as one of a macro's text does that is used there
+abbrev pub is_on : Text → Token → Bool
+is_on x t = t.pos.file == x.file && t.pos.line == x.line
+
+-- how many of the tokens stand on the line, up to the first that doesn't
+abbrev pub many_on : Text → List Token → ℕ
+many_on x ts = prefix_len (is_on x) ts
+
+-- Each line of assumptions is an item of what the preprocessor leaves of it. Tokens keep their order, so those of the
+-- first line come first. A line of which nothing is left is an item without an expression.
+abbrev pub items : List Text → List Token → List Token
+items [] ts = []
+items (x ∷ xs) ts = item (line_start x) (take (many_on x ts) ts) ++ items xs (drop (many_on x ts) ts)
 
 abbrev pub section_between : Option Text → Option Text → Option Section
 section_between (Some x) (Some y) = Some (record { first = x.line; last = y.line })
@@ -122,10 +131,11 @@ abbrev pub put_in_top : List Token → List Token → List Token
 put_in_top items ts = put_in (end_of_top 0 ts) items ts
 
 -- the items of assumptions in front of the end of the top module, and all other tokens as they stand
-abbrev pub placed : Option Section → List Token → List Token
-placed None ts = ts
-placed (Some section) ts = put_in_top (filter (is_assumed section) ts) (filter (is_not_assumed section) ts)
+abbrev pub placed : Option Section → List Text → List Token → List Token
+placed None lines ts = ts
+placed (Some section) lines ts =
+    put_in_top (items lines (filter (is_assumed section) ts)) (filter (is_not_assumed section) ts)
 
 -- what is parsed, of the preprocessed tokens of the texts and, behind them, of the lines of assumptions
 abbrev pub with_assumptions : List Text → List Token → List Token
-with_assumptions lines ts = placed (section_of lines) ts
+with_assumptions lines ts = placed (section_of lines) lines ts

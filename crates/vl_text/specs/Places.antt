@@ -1,6 +1,6 @@
 -- Between functions: Where texts are refused, and where the nodes of their tree stand: at places of the texts. Rule of
 -- this project.
-use Rattle.std.specs.Prelude.{◌≡◌, ℕ, List, [], ◌∷◌, ◌++◌, Ok, Option, Some, None, IfSome}
+use Rattle.std.specs.Prelude.{◌≡◌, ℕ, List, [], ◌∷◌, ◌++◌, map, Ok, Option, Some, None, IfSome}
 use Rattle.std.specs.List.{All, Contains}
 use Rattle.fv_text.specs.declared.pos.Pos.{Pos}
 use Rattle.fv_text.specs.declared.token.Token.{Token}
@@ -12,6 +12,7 @@ use Rattle.vl_tree.specs.Phrase.{Phrase, nothing, token, operator, ◌▸◌, at
 use Rattle.vl_tree.specs.declared.source.Source.{Source}
 use Rattle.vl_parse.specs.declared.fault.ParseFault.{ParseFault}
 use Rattle.vl_parse.specs.declared.fault.ParseFault.TheVariants as parse
+use Rattle.vl_text.specs.Assumptions.{line_start}
 use Rattle.vl_text.specs.SourceText.{AreLaid}
 use Rattle.vl_text.specs.Texts.{Text, lexed_bytes}
 use Rattle.vl_text.specs.declared.fault.TextFault.{TextFault}
@@ -43,9 +44,13 @@ place_of Memory = None
 abbrev pub IsPlacedIn : List Text → TextFault → Type 0
 IsPlacedIn texts fault = IfSome (place_of fault) (λ place. IsPlaceIn texts place)
 
--- the fault is at the place of one of the tokens
+-- the fault is at one of the places
+abbrev pub IsAtPlace : List Pos → TextFault → Type 0
+IsAtPlace spots fault = IfSome (place_of fault) (λ place. Contains spots place)
+
+-- at that of one of the tokens
 abbrev pub IsAtToken : List Token → TextFault → Type 0
-IsAtToken tokens fault = IfSome (place_of fault) (λ place. Contains (places tokens) place)
+IsAtToken tokens fault = IsAtPlace (places tokens) fault
 
 -- where the nodes of a text begin
 abbrev pub node_places : Phrase → List Pos
@@ -57,12 +62,24 @@ node_places (at place a) = place ∷ node_places a
 node_places (within a) = node_places a
 node_places (level a) = node_places a
 
--- each node of the tree has the place of one of the tokens
-abbrev pub AreAtTokens : List Token → Source → Type 0
-AreAtTokens tokens tree = All (λ place. Contains (places tokens) place) (node_places (spell_source tree))
+-- each node of the tree has one of the places
+abbrev pub AreAtPlaces : List Pos → Source → Type 0
+AreAtPlaces spots tree = All (λ place. Contains spots place) (node_places (spell_source tree))
 
--- each node has the place of a token of the texts and lines of assumptions
+-- that of one of the tokens
+abbrev pub AreAtTokens : List Token → Source → Type 0
+AreAtTokens tokens tree = AreAtPlaces (places tokens) tree
+
+-- where lines of assumptions begin
+abbrev pub line_starts : List Text → List Pos
+line_starts lines = map line_start lines
+
+-- where tokens stand, and what is put round those of a line of assumptions
+abbrev pub with_starts : List Text → List Token → List Pos
+with_starts lines tokens = places tokens ++ line_starts lines
+
+-- each node has the place of a token of the texts and lines of assumptions, or stands at the beginning of such a line
 pub record HasTokenPlaces (texts lines : List Text) (tree : Source) : Type 0 where
   pub tokens : List Token
   pub laid : AreLaid texts lines (Ok tokens)
-  pub nodes : AreAtTokens tokens tree
+  pub nodes : AreAtPlaces (with_starts lines tokens) tree

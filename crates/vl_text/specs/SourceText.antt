@@ -1,6 +1,6 @@
 -- Meaning: What texts come to: their tree and the macros at their end, or the first part that refuses them. Rules of
 -- this project.
-use Rattle.std.specs.Prelude.{◌≡◌, ℕ, List, [], ◌∷◌, Option, None, Some, Result, Ok, Err}
+use Rattle.std.specs.Prelude.{◌≡◌, List, Option, None, Some, Result, Ok, Err}
 use Rattle.std.specs.Global.{Vec}
 use Rattle.fv_text.specs.declared.token.Token.{Token}
 use Rattle.vl_token.specs.declared.fault.LexFault.{LexFault}
@@ -12,7 +12,7 @@ use Rattle.vl_tree.specs.declared.source.Source.{Source}
 use Rattle.vl_parse.specs.Refusals.{IsTreeOf, IsShallow, IsFaultOf}
 use Rattle.vl_parse.specs.declared.fault.ParseFault.{ParseFault}
 use Rattle.vl_parse.specs.declared.fault.ParseFault.TheVariants as parse
-use Rattle.vl_text.specs.Assumptions.{as_items, with_assumptions}
+use Rattle.vl_text.specs.Assumptions.{with_assumptions}
 use Rattle.vl_text.specs.Predefined.{ArePredefinedFor}
 use Rattle.vl_text.specs.Texts.{Text, Lexing, AreLexed, nothing_lexed, laid_behind}
 use Rattle.vl_text.specs.declared.fault.TextFault.{TextFault}
@@ -29,15 +29,15 @@ abbrev pub tokens_or : Option LexFault → List Token → Result (List Token) Te
 tokens_or None tokens = Ok tokens
 tokens_or (Some fault) tokens = Err (Lex fault)
 
--- the tokens of the texts, one behind the other, and behind them those of the lines of assumptions as items; or the
--- fault of the lexer that is answered
+-- the tokens of the texts, one behind the other, and behind them those of the lines of assumptions; or the fault of the
+-- lexer that is answered
 pub record AreLaid (texts lines : List Text) (r : Result (List Token) TextFault) : Type 0 where
   pub of_texts : List Lexing
   pub texts_lexed : AreLexed texts of_texts
   pub of_lines : List Lexing
   pub lines_lexed : AreLexed lines of_lines
   pub all : Lexed
-  pub laid : all ≡ laid_behind (laid_behind nothing_lexed of_texts) (as_items lines of_lines)
+  pub laid : all ≡ laid_behind (laid_behind nothing_lexed of_texts) of_lines
   pub comes : r ≡ tokens_or all.fault all.tokens
 
 abbrev pub outcome_or_fault : Result Outcome PrepFault → Result Outcome TextFault

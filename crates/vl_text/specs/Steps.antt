@@ -6,7 +6,7 @@ use Rattle.std.specs.Global.{Vec}
 use Rattle.fv_text.specs.declared.token.Token.{Token}
 use Rattle.vl_token.specs.Fault.{OnNotMemory}
 use Rattle.vl_token.specs.declared.fault.LexFault.{LexFault}
-use Rattle.vl_text.specs.Assumptions.{as_item, as_items, is_assumed, is_not_assumed}
+use Rattle.vl_text.specs.Assumptions.{is_assumed, is_not_assumed}
 use Rattle.vl_text.specs.Texts.{Text, Lexing, IsLexed, with_lexing, laid_behind}
 use Rattle.vl_text.specs.declared.assumptions.Section.{Section}
 use Rattle.vl_text.specs.declared.assumptions.Sorted.{Sorted}
@@ -28,12 +28,6 @@ pub record AddsText (x : Text) (old new : Lexed) : Type 0 where
   pub lexed : IsOnlyLexed x lexing
   pub new_is : new ≡ with_lexing old lexing
 
--- one line of assumptions more, as an item
-pub record AddsItem (x : Text) (old new : Lexed) : Type 0 where
-  pub lexing : Lexing
-  pub lexed : IsOnlyLexed x lexing
-  pub new_is : new ≡ with_lexing old (as_item x lexing)
-
 abbrev pub AreOnlyLexed : List Text → List Lexing → Type 0
 AreOnlyLexed [] [] = Unit {0}
 AreOnlyLexed [] (r ∷ rs) = ⊥
@@ -45,12 +39,6 @@ pub record AddsTexts (xs : List Text) (old new : Lexed) : Type 0 where
   pub lexings : List Lexing
   pub lexed : AreOnlyLexed xs lexings
   pub new_is : new ≡ laid_behind old lexings
-
--- several lines of assumptions more, as items
-pub record AddsItems (xs : List Text) (old new : Lexed) : Type 0 where
-  pub lexings : List Lexing
-  pub lexed : AreOnlyLexed xs lexings
-  pub new_is : new ≡ laid_behind old (as_items xs lexings)
 
 -- tokens, those of assumptions by themselves
 abbrev pub sorted : Section → List Token → Sorted

@@ -1,10 +1,9 @@
-//! Lines of assumptions: their items, and where these stand among the tokens.
+//! Lines of assumptions: their items, made of what the preprocessor leaves of them, and where these stand.
 
 ghost use Rattle.std.specs.Prelude.{◌≡◌, ◌≤◌, ◌++◌, length, take, drop, IfOk, OnOk};
-ghost use Rattle.vl_token.specs.Place.{start_of};
 ghost use Rattle.vl_text.specs.Assumptions as spec;
 ghost use Rattle.vl_text.specs.Steps.{sorted, with_token};
-ghost use Rattle.vl_text.specs.Texts.{lines_seen};
+ghost use Rattle.vl_text.specs.Texts.{line_seen, lines_seen};
 
 use crate::text::Assumption;
 use crate::top_module::end_of_top;
@@ -65,23 +64,6 @@ fn push_end(tokens: &mut Vec<Token>, at: Pos) -> Result<(), Memory>
     Ok(())
 }
 
-/// The tokens of a line of the configuration as the item that assumes them.
-pub(crate) fn item(alloc: Global, line: u32, tokens: Vec<Token>) -> Result<Vec<Token>, Memory>
-    ensures { IfOk result (λ all. all.items ≡ spec.item (start_of 0 line) tokens.items) }
-{
-    let at = Pos {
-        file: 0,
-        line,
-        col: 1,
-    };
-    let mut inner = tokens;
-    let mut all = Vec::new(alloc);
-    push_front(&mut all, at)?;
-    all.append(&mut inner)?;
-    push_end(&mut all, at)?;
-    Ok(all)
-}
-
 /// From the line of the first assumption to that of the last one.
 fn section_of(assumptions: &[Assumption<'_>]) -> Option<Section>
     ensures { result ≡ spec.section_of (lines_seen assumptions.now) }
@@ -129,6 +111,69 @@ fn sort_out(alloc: Global, section: Section, tokens: Vec<Token>) -> Result<Sorte
     Ok(all)
 }
 
+impl Assumption<'_> {
+    fn start(self) -> Pos
+        ensures { result ≡ spec.line_start (line_seen self.entry) }
+    {
+        Pos {
+            file: 0,
+            line: self.line,
+            col: 1,
+        }
+    }
+
+    fn has(self, token: &Token) -> bool
+        ensures { result ≡ spec.is_on (line_seen self.entry) token.now }
+    {
+        token.pos.file == 0 && token.pos.line == self.line
+    }
+
+    /// How many of the tokens stand on the line, up to the first that doesn't.
+    fn count(self, tokens: &[Token]) -> usize
+        ensures many { result ≡ spec.many_on (line_seen self.entry) tokens.now }
+        ensures within { result ≤ length tokens.now }
+    {
+        tokens.iter().take_while(|token| self.has(token)).count()
+    }
+}
+
+/// Copies of the tokens behind what is there.
+fn push_copies(alloc: Global, all: &mut Vec<Token>, tokens: &[Token]) -> Result<(), Memory>
+    ensures { OnOk result (all.new.items ≡ all.old.items ++ tokens.now) }
+{
+    for token in tokens {
+        all.push(token.copied(alloc)?)?;
+    }
+    Ok(())
+}
+
+/// An item of the tokens behind what is there.
+fn push_item(alloc: Global, all: &mut Vec<Token>, at: Pos, tokens: &[Token]) -> Result<(), Memory>
+    ensures { OnOk result (all.new.items ≡ all.old.items ++ spec.item at tokens.now) }
+{
+    push_front(all, at)?;
+    push_copies(alloc, all, tokens)?;
+    push_end(all, at)
+}
+
+/// Each line as an item of those of the tokens that stand on it.
+fn items(
+    alloc: Global,
+    assumptions: &[Assumption<'_>],
+    tokens: &[Token],
+) -> Result<Vec<Token>, Memory>
+    ensures { IfOk result (λ all. all.items ≡ spec.items (lines_seen assumptions.now) tokens.now) }
+{
+    let mut all = Vec::new(alloc);
+    let mut left = tokens;
+    for assumption in assumptions {
+        let (line, behind) = left.split_at(assumption.count(left));
+        push_item(alloc, &mut all, assumption.start(), line)?;
+        left = behind;
+    }
+    Ok(all)
+}
+
 /// The items behind so many of the tokens.
 fn put_behind(before: usize, items: Vec<Token>, tokens: Vec<Token>) -> Result<Vec<Token>, Memory>
     requires { before ≤ length tokens.items }
@@ -165,7 +210,8 @@ pub(crate) fn with_assumptions(
     match section_of(assumptions) {
         Some(section) => {
             let Sorted { assumed, others } = sort_out(alloc, section, tokens)?;
-            put_in_top(assumed.into_vec(), others.into_vec())
+            let items = items(alloc, assumptions, assumed.as_slice())?;
+            put_in_top(items, others.into_vec())
         }
         None => Ok(tokens),
     }

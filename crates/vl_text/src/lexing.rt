@@ -2,11 +2,10 @@
 
 ghost use Rattle.std.specs.Prelude.{◌≡◌, ◌++◌, ◌∷◌, [], true, Ok, Err, IfOk, OnOk};
 ghost use Rattle.vl_token.specs.Fault.{is_of_text};
-ghost use Rattle.vl_text.specs.Steps.{AddsItem, AddsItems, AddsText, AddsTexts, Lexes};
+ghost use Rattle.vl_text.specs.Steps.{AddsText, AddsTexts, Lexes};
 ghost use Rattle.vl_text.specs.Texts as texts;
-ghost use Rattle.vl_text.specs.Texts.{line_seen, lines_seen, nothing_lexed, text_seen, texts_seen, with_lexing};
+ghost use Rattle.vl_text.specs.Texts.{lines_seen, nothing_lexed, text_seen, texts_seen, with_lexing};
 
-use crate::assumptions::item;
 use crate::text::{Assumption, SourceText};
 use fv_text::{List, Memory, Token};
 use std::alloc::Global;
@@ -46,16 +45,16 @@ impl Lexed {
         Ok(())
     }
 
-    /// Adds lines of assumptions, each as an item.
-    pub(crate) fn add_items(
+    /// Adds lines of assumptions.
+    pub(crate) fn add_lines(
         &mut self,
         alloc: Global,
         assumptions: &[Assumption<'_>],
     ) -> Result<(), Memory>
-        ensures { OnOk result (AddsItems (lines_seen assumptions.now) self.old self.new) }
+        ensures { OnOk result (AddsTexts (lines_seen assumptions.now) self.old self.new) }
     {
         for assumption in assumptions {
-            self.add_item(alloc, *assumption)?;
+            self.add_text(alloc, assumption.text())?;
         }
         Ok(())
     }
@@ -65,18 +64,6 @@ impl Lexed {
     {
         match lex_text(alloc, text) {
             Ok(tokens) => self.add_tokens(alloc, tokens),
-            Err(fault) => self.add_fault(fault),
-        }
-    }
-
-    fn add_item(&mut self, alloc: Global, assumption: Assumption<'_>) -> Result<(), Memory>
-        ensures { OnOk result (AddsItem (line_seen assumption.entry) self.old self.new) }
-    {
-        match lex_line(alloc, assumption.expression, assumption.line) {
-            Ok(tokens) => {
-                let all = item(alloc, assumption.line, tokens)?;
-                self.add_tokens(alloc, all)
-            }
             Err(fault) => self.add_fault(fault),
         }
     }

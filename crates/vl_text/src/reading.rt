@@ -4,7 +4,8 @@ ghost use Rattle.std.specs.Prelude.{◌≡◌, ◌++◌, IfErr, IfOk, MatchResul
 ghost use Rattle.vl_prep.specs.Macros.{held};
 ghost use Rattle.vl_prep.specs.Places.{IsPlaced};
 ghost use Rattle.vl_text.specs.Faults as faults;
-ghost use Rattle.vl_text.specs.Places.{AreAtTokens, HasTokenPlaces, IsAtToken, IsPlacedIn};
+ghost use Rattle.vl_text.specs.Places.{AreAtPlaces, AreAtTokens, HasTokenPlaces, IsAtPlace, IsAtToken, IsPlacedIn};
+ghost use Rattle.vl_text.specs.Places.{with_starts};
 ghost use Rattle.vl_text.specs.SourceText.{Answers, AreLaid, AreParsed, ArePrepared, Comes, FromTokens};
 ghost use Rattle.vl_text.specs.Assumptions as assumed;
 ghost use Rattle.vl_text.specs.SourceText.{outcome_seen, reading_seen, tree_seen, with_macros};
@@ -39,7 +40,7 @@ fn of_parse(fault: ParseFault) -> TextFault
     }
 }
 
-/// The tokens of the texts, and behind them those of the assumptions as items.
+/// The tokens of the texts, and behind them those of the lines of assumptions.
 fn lexed(
     alloc: Global,
     texts: &[SourceText<'_>],
@@ -49,7 +50,7 @@ fn lexed(
 {
     let mut lexed = Lexed::new(alloc);
     lexed.add_texts(alloc, texts)?;
-    lexed.add_items(alloc, assumptions)?;
+    lexed.add_lines(alloc, assumptions)?;
     match lexed.fault {
         Some(fault) => Err(TextFault::Lex(fault)),
         None => Ok(lexed.tokens),
@@ -86,8 +87,8 @@ fn parsed_with(
     output: Vec<Token>,
 ) -> Result<Source, TextFault>
     ensures exactly { Answers (AreParsed (assumed.with_assumptions (lines_seen assumptions.now) output.items)) result }
-    ensures placed { MatchResult result (λ tree. AreAtTokens output.items tree)
-        (λ fault. IsAtToken output.items fault) }
+    ensures placed { MatchResult result (λ tree. AreAtPlaces (with_starts (lines_seen assumptions.now) output.items) tree)
+        (λ fault. IsAtPlace (with_starts (lines_seen assumptions.now) output.items) fault) }
 {
     let tokens = with_assumptions(alloc, assumptions, output)?;
     parsed(alloc, tokens.as_slice())
@@ -112,7 +113,8 @@ fn read_tokens(
     tokens: &[Token],
 ) -> Result<(Source, Macros), TextFault>
     ensures exactly { Answers (FromTokens core (lines_seen assumptions.now) tokens.now) (reading_seen result) }
-    ensures placed { MatchResult result (λ r. AreAtTokens tokens.now r.0) (λ fault. IsAtToken tokens.now fault) }
+    ensures placed { MatchResult result (λ r. AreAtPlaces (with_starts (lines_seen assumptions.now) tokens.now) r.0)
+        (λ fault. IsAtPlace (with_starts (lines_seen assumptions.now) tokens.now) fault) }
 {
     match prepared(alloc, core, tokens) {
         Ok((output, macros)) => beside(macros, parsed_with(alloc, assumptions, output)),
@@ -122,9 +124,9 @@ fn read_tokens(
 
 /// The tree of Verilog texts, and the macros that are defined behind them.
 ///
-/// Each text, and behind the texts each line of assumptions, is lexed by itself; a line counts as the item
-/// `always @* assume (LINE);`. All are preprocessed in one list, behind the macros that are predefined for the core.
-/// Then the items of assumptions are put in front of the first `endmodule` behind the first `module rvfi_wrapper`, or
+/// Each text, and behind the texts each line of assumptions, is lexed by itself. All are preprocessed in one list, behind
+/// the macros that are predefined for the core. Then what is left of each line of assumptions is put into an item
+/// `always @* assume (..);`, these are put in front of the first `endmodule` behind the first `module rvfi_wrapper`, or
 /// dropped where there is none, and the tokens are parsed. A fault is that of the first of these parts that refuses.
 pub fn read_source(
     alloc: Global,

@@ -1,5 +1,7 @@
 use Rattle.std.proofs.Common.{◌∙◌, sym, subst}
-use Rattle.vl_prep.specs.Places.{IsPlaced}
+use Rattle.std.specs.List.{All, Contains}
+use Rattle.vl_prep.specs.Places.{places}
+use Rattle.vl_text.specs.Places.{with_starts}
 use Rattle.vl_text.specs.SourceText.{Answers, AreParsed}
 use Rattle.vl_text.specs.Texts.{lines_seen}
 use Rattle.vl_text.proofs.Standing.{with_assumptions_at, answer_among}
@@ -12,6 +14,9 @@ returns-clause-exactly c =
 
 pub returns-clause-placed : goal.returns-clause-placed
 returns-clause-placed c =
-    answer_among c.args.output.items c.as_slice.result.now c.parsed.result
-    (subst (λ ts. IsPlaced c.args.output.items ts) (sym (c.as_slice.ensures.value ∙ c.in_ok-tokens.ensures))
+    answer_among (places c.as_slice.result.now) (with_starts (lines_seen c.args.assumptions.now) c.args.output.items)
+    c.parsed.result
+    (subst
+    (λ ts. All (Contains (with_starts (lines_seen c.args.assumptions.now) c.args.output.items)) (places ts))
+    (sym (c.as_slice.ensures.value ∙ c.in_ok-tokens.ensures))
     (with_assumptions_at (lines_seen c.args.assumptions.now) c.args.output.items)) c.parsed.ensures.placed

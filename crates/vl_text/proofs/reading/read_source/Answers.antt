@@ -1,6 +1,4 @@
-use Rattle.std.proofs.Common.{subst, sym}
-use Rattle.vl_text.specs.Places.{IsAtToken, AreAtTokens}
-use Rattle.vl_text.specs.SourceText.{Answers, AreLaid, FromTokens, reading_seen}
+use Rattle.vl_text.specs.SourceText.{AreLaid, FromTokens, reading_seen}
 use Rattle.vl_text.specs.Texts.{texts_seen, lines_seen}
 use Rattle.vl_text.proofs.Answering.{answer_behind, answer_stopped}
 use Rattle.vl_text.proofs.Placing.{placed_behind, nodes_behind, placed_lexing}
