@@ -15,19 +15,22 @@ use std::process::ExitCode;
 use std::thread::{Builder, Threads};
 use std::{io, rt};
 
-/// The bytes of the stack that the work gets, where they are to be had. A tree is dropped part by part, and regions of
-/// `generate` may stand in one another as deep as a text is long.
-const STACK: usize = 1 << 32;
+/// The bytes of the stack that the work gets: the first of these that are to be had. The walk through modules and blocks
+/// takes as much as a text is deep, and the least of them holds what 2,000,000 tokens can nest.
+const STACKS: [usize; 3] = [1 << 32, 1 << 31, 1 << 30];
 
+/// Without such a stack nothing is read, since a deep text would end the process.
 fn main(rt: HostRuntime) -> ExitCode {
     let alloc = rt.alloc();
-    let worker = Builder::new()
-        .stack_size(STACK)
-        .spawn(&rt, move || work(&rt, alloc));
-    match worker {
-        Ok(worker) => worker.join(&rt),
-        Err(_) => work(&rt, alloc),
+    for size in STACKS {
+        let worker = Builder::new()
+            .stack_size(size)
+            .spawn(&rt, move || work(&rt, alloc));
+        if let Ok(worker) = worker {
+            return worker.join(&rt);
+        }
     }
+    coded(Status::Memory)
 }
 
 /// The whole work, over the system's files and standard output.
