@@ -8,8 +8,7 @@ import shutil
 from dataclasses import dataclass
 from pathlib import Path
 
-from .configuration import Configuration
-from .reports import kind_of
+from .configuration import Configuration, kind_of
 from .run_lines import Check
 
 ENDINGS = {"pass": (".cnf", ".lrat"), "spent": (".cnf", ".lrat"), "fail": (".vcd",)}
@@ -40,7 +39,8 @@ def sum_of(path: Path) -> str:
 
 
 def inputs_of(call: Call, configuration: Configuration) -> dict:
-    """What the checks are made from: the sums of the program, of the configuration and of its files, and the options."""
+    """What the checks are made from: the sums of the program, of the configuration and of its files, and the
+    options."""
     program = shutil.which(call.program)
     names = configuration.files(call.core, call.basedir)
     return {"program": sum_of(Path(program)) if program else "", "cfg": sum_of(call.cfg),
@@ -53,25 +53,39 @@ def outputs_of(outdir: Path, checks: list[Check]) -> dict[str, str]:
     return {name: sum_of(outdir / name) for name in names}
 
 
-def kept_checks(call: Call, configuration: Configuration, listed: list[str]) -> list[Check]:
-    """The checks of a run before this one whose kinds needn't be run again: all checks of the kind are there, with their
-    files, of the same configuration, files, options and program; none of them is spent under a smaller budget."""
+@dataclass(frozen=True)
+class Former:
+    """The checks of the runs before this one that were made from the same, as report.json has them, and the sums of
+    their files."""
+    checks: dict[str, dict]
+    outputs: dict[str, str]
+
+
+def former(call: Call, inputs: dict) -> Former:
+    """What the report in the folder has of the same configuration, files, options and program."""
     try:
         report = json.loads((call.outdir / "report.json").read_text())
-        before = {one["name"]: one for one in report["checks"]}
+        checks = {one["name"]: one for one in [*report["before"], *report["checks"]]}
         sums = report["sums"]
-        if sums["inputs"] != inputs_of(call, configuration) or "" in sums["inputs"]["files"].values():
-            return []
+        if sums["inputs"] == inputs and "" not in inputs["files"].values():
+            return Former(checks, sums["outputs"])
     except (OSError, ValueError, KeyError, TypeError):
-        return []
+        pass
+    return Former({}, {})
+
+
+def kept_checks(call: Call, past: Former, listed: list[str]) -> list[Check]:
+    """The checks of runs before this one whose kinds needn't be run again: all checks of the kind are there with their
+    files; none of them is spent under a smaller budget."""
     by_kind: dict[str, list[str]] = {}
     for name in listed:
         by_kind.setdefault(kind_of(name)[0], []).append(name)
-    kept = []
+    before, kept = past.checks, []
     for names in by_kind.values():
-        found = [before[name] for name in names if name in before and stands(call, before[name], sums["outputs"])]
+        found = [before[name] for name in names if name in before and stands(call, before[name], past.outputs)]
         if len(found) == len(names):
-            kept += [Check(one["name"], one["verdict"], one["seconds"], one["batch"], one["budget"], True) for one in found]
+            kept += [Check(one["name"], one["verdict"], one["seconds"], one["batch"], one["budget"], True)
+                     for one in found]
     return kept
 
 
@@ -81,20 +95,3 @@ def stands(call: Call, one: dict, outputs: dict[str, str]) -> bool:
         return False
     names = [one["name"] + ending for ending in ENDINGS[one["verdict"]]]
     return all(outputs.get(name) and outputs[name] == sum_of(call.outdir / name) for name in names)
-
-
-def kind_of_line(word: str) -> str:
-    """The kind of a depth line's first word, without the channel."""
-    return kind_of(word)[0]
-
-
-def reduced(configuration: Configuration, leave: set[str]) -> tuple[str, int]:
-    """The configuration without the depth lines of some kinds, and how many depth lines it has: a line that is left out
-    becomes a comment, so that all lines keep their numbers."""
-    lines, left = list(configuration.lines), 0
-    for at, word, _ in configuration.depths():
-        if kind_of_line(word) in leave:
-            lines[at - 1] = "# left out: " + lines[at - 1]
-        else:
-            left += 1
-    return "\n".join(lines) + "\n", left

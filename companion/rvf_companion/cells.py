@@ -1,16 +1,17 @@
 """How each kind of cell is declared and written.
 
-Operands are lists of bits, filled or cut to the width at which a cell works; so no rule of Verilog on sizes and signs is
-needed but that of signed comparisons and shifts. Nothing here is trusted by a verdict.
+Operands are lists of bits, filled or cut to the width at which a cell works; so no rule of Verilog on sizes and signs
+is needed but that of signed comparisons and shifts. Nothing here is trusted by a verdict.
 """
 from __future__ import annotations
 
 from typing import TYPE_CHECKING, Callable
 
+from .divisions import divided, division_width
 from .memories import Memory
 from .netlist import Bit, Cell
 from .shifts import chosen, moved_left, moved_right
-from .text import WIDEST, Start, Text, digits, extended, in_parts
+from .text import PAST, WIDEST, Start, Text, digits, extended, in_parts
 
 if TYPE_CHECKING:
     from .convert import Converter
@@ -21,6 +22,7 @@ ORDERED = {"$lt": "<", "$le": "<=", "$gt": ">", "$ge": ">="}
 EQUAL = {"$eq": "==", "$eqx": "==", "$ne": "!=", "$nex": "!="}
 REDUCED = {"$reduce_and": "&", "$reduce_or": "|", "$reduce_bool": "|", "$reduce_xor": "^", "$reduce_xnor": "~^"}
 LOGIC = {"$logic_not": "!", "$logic_and": "&&", "$logic_or": "||"}
+DIVISIONS = {"$div", "$mod"}
 SHIFTS = {"$shl", "$sshl", "$shr", "$sshr", "$shift", "$shiftx"}
 ONE_BIT = set(ORDERED) | set(EQUAL) | set(REDUCED) | set(LOGIC)
 
@@ -39,6 +41,8 @@ def uncuttable(cell: Cell) -> str:
         return f"a comparison of {widest} bits, which can't be cut"
     if cell.kind in ("$add", "$sub", "$mul", "$neg") and max(widest, len(cell.outputs["Y"])) > WIDEST:
         return f"arithmetic of {max(widest, len(cell.outputs['Y']))} bits, which can't be cut"
+    if cell.kind in DIVISIONS and division_width(cell) >= WIDEST:
+        return f"a division of {widest} bits, which can't be cut"
     if cell.kind in SHIFTS and len(cell.inputs["B"]) > WIDEST:
         return f"a shift by a number of {len(cell.inputs['B'])} bits"
     return ""
@@ -47,7 +51,8 @@ def uncuttable(cell: Cell) -> str:
 def register_sizes(cells: list[Cell]) -> list[tuple[int, str]]:
     """The bits of each register and memory, with its name."""
     found = [(len(cell.outputs["Q"]), cell.name) for cell in cells if cell.kind == "$dff"]
-    return found + [(Memory.of(cell).words * Memory.of(cell).width, cell.name) for cell in cells if cell.kind == "$mem_v2"]
+    memories = [(Memory.of(cell), cell.name) for cell in cells if cell.kind == "$mem_v2"]
+    return found + [(memory.words * memory.width, name) for memory, name in memories]
 
 
 def declare(converter: "Converter", cell: Cell) -> None:
@@ -83,7 +88,8 @@ def write(converter: "Converter", cell: Cell) -> None:
     elif cell.kind == "$assume":
         enabled, demanded = text.spell(cell.inputs["EN"]), text.spell(cell.inputs["A"])
         if enabled != digits("0"):
-            text.items.append(f"always @* assume ({demanded if enabled == digits('1') else f'!{enabled} || {demanded}'});")
+            demand = demanded if enabled == digits("1") else f"!{enabled} || {demanded}"
+            text.items.append(f"always @* assume ({demand});")
     elif cell.kind == "$initstate":
         name = text.places[cell.outputs["Y"][0]][0].name
         clock = converter.clock
@@ -106,6 +112,7 @@ def write_register(converter: "Converter", cell: Cell) -> None:
             text.items.append(f"initial {signal.name} = {digits(''.join(value for _, value in reversed(known)))};")
         else:
             text.items += [f"initial {signal.part(index, index)} = 1'b{value};" for index, value in known]
+            text.partial += bool(known)
         text.starts.append(Start(signal.name, old, low, len(bits), width, None, len(known) == len(bits)))
         given = text.spell(cell.inputs["D"][low:low + WIDEST])
         text.items.append(f"always @(posedge {converter.clock}) {signal.name} <= {given};")
@@ -137,12 +144,12 @@ def write_bitwise(converter: "Converter", cell: Cell, bits: list[Bit]) -> None:
     b = extended(cell.inputs["B"], width, signed)
     if cell.kind == "$mux":
         by = text.spell(cell.inputs["S"])
-        assign(text, cell, bits, lambda low, many: f"{by} ? {text.spell(b[low:low + many])} : {text.spell(a[low:low + many])}",
-               width)
+        assign(text, cell, bits,
+               lambda low, many: f"{by} ? {text.spell(b[low:low + many])} : {text.spell(a[low:low + many])}", width)
         return
     sign = BITWISE[cell.kind]
-    assign(text, cell, bits, lambda low, many: f"{text.spell(a[low:low + many])} {sign} {text.spell(b[low:low + many])}",
-           width)
+    assign(text, cell, bits,
+           lambda low, many: f"{text.spell(a[low:low + many])} {sign} {text.spell(b[low:low + many])}", width)
 
 
 def write_arithmetic(converter: "Converter", cell: Cell, bits: list[Bit]) -> None:
@@ -221,14 +228,15 @@ def write_choice_of_many(converter: "Converter", cell: Cell, bits: list[Bit]) ->
 
 
 def write_shift(converter: "Converter", cell: Cell, bits: list[Bit]) -> None:
-    """Shifts: by the operators where they fit into 128 bits and nothing undefined may come, and else by rows of choices."""
+    """Shifts: by the operators where they fit into 128 bits and nothing undefined may come, and else by rows of
+    choices."""
     text, a, b, whole = converter.text, cell.inputs["A"], cell.inputs["B"], len(cell.outputs["Y"])
     kind, signed = cell.kind, cell.flag("A_SIGNED") and cell.kind != "$shiftx"
     width = max(len(a), whole)
     to_left = kind in ("$shl", "$sshl")
     if not to_left and kind in ("$shr", "$sshr"):
         a = extended(a, width, signed)
-    fill: Bit = "x" if kind == "$shiftx" else a[-1] if signed and kind != "$shr" else "0"
+    fill: Bit = PAST if kind == "$shiftx" else a[-1] if signed and kind != "$shr" else "0"
     varying = cell.flag("B_SIGNED") and kind in ("$shift", "$shiftx") and text.resolve(b[-1]) != "0"
     within = (1 << min(len(b), 20)) - 1 + len(bits) <= len(a)
     if width <= WIDEST and not varying and (kind != "$shiftx" or within):
@@ -238,7 +246,7 @@ def write_shift(converter: "Converter", cell: Cell, bits: list[Bit]) -> None:
         if to_left:
             expression = f"{shown} << {by}"
         else:
-            expression = f"$signed({shown}) >>> {by}" if fill not in ("0", "x") else f"{shown} >> {by}"
+            expression = f"{shown} >> {by}" if fill in ("0", PAST) else f"$signed({shown}) >>> {by}"
         assign(text, cell, bits, lambda low, many: expression, 8 * width)
         return
     if to_left:
@@ -246,12 +254,18 @@ def write_shift(converter: "Converter", cell: Cell, bits: list[Bit]) -> None:
     else:
         result = moved_right(text, cell.name, a, b, len(bits), fill)
     if varying:
-        below: Bit = "x" if kind == "$shiftx" else "0"
+        below: Bit = PAST if kind == "$shiftx" else "0"
         negated = text.made(cell.name + "_by", f"-{text.spell(b)}", len(b))
         text.weights[cell.name] += 8 * len(b)
         up = moved_left(text, cell.name, a, negated, len(bits), fill, below)
         result = chosen(text, cell.name, b[-1], up, result)
     assign(text, cell, bits, lambda low, many: text.spell(result[low:low + many]), 0)
+
+
+def write_division(converter: "Converter", cell: Cell, bits: list[Bit]) -> None:
+    """Quotients and remainders, as rows of subtractions."""
+    result = divided(converter, cell)
+    assign(converter.text, cell, bits, lambda low, many: converter.text.spell(result[low:low + many]), 0)
 
 
 def write_nothing(converter: "Converter", cell: Cell, bits: list[Bit]) -> None:
@@ -265,6 +279,7 @@ WRITERS: dict[str, Callable[["Converter", Cell, list[Bit]], None]] = {
     **{kind: write_reduced for kind in REDUCED},
     **{kind: write_logic for kind in LOGIC},
     **{kind: write_shift for kind in SHIFTS},
+    **{kind: write_division for kind in DIVISIONS},
     "$pmux": write_choice_of_many,
     "$pos": write_nothing,
 }

@@ -1,7 +1,7 @@
 """Cells that come out equal, and choices whose bits do: one stands for all of them.
 
-Yosys spreads one condition over all bits of a memory's word, so that without this a word would be written bit by bit. No
-undefined bit is decided here. Nothing here is trusted by a verdict.
+Yosys spreads one condition over all bits of a memory's word, so that without this a word would be written bit by bit.
+No undefined bit is decided here. Nothing here is trusted by a verdict.
 """
 from __future__ import annotations
 
@@ -22,7 +22,8 @@ def resolver(same: dict[int, Bit]) -> Callable[[Bit], Bit]:
 
 
 def shared(cells: list[Cell], same: dict[int, Bit]) -> list[Cell]:
-    """The cells without those that work out again what another one has of the same bits; such with undefined bits stay."""
+    """The cells without those that work out again what another one has of the same bits; such with undefined bits
+    stay."""
     resolve, changed = resolver(same), True
     while changed:
         changed = False
@@ -31,7 +32,8 @@ def shared(cells: list[Cell], same: dict[int, Bit]) -> list[Cell]:
         for cell in cells:
             inputs = {port: [resolve(bit) for bit in bits] for port, bits in cell.inputs.items()}
             cell = replace(cell, inputs=inputs)
-            key = (cell.kind, tuple(sorted(cell.parameters.items())), tuple((port, *inputs[port]) for port in sorted(inputs)))
+            key = (cell.kind, tuple(sorted(cell.parameters.items())),
+                   tuple((port, *inputs[port]) for port in sorted(inputs)))
             if cell.kind in STATE or any("x" in bits for bits in inputs.values()):
                 kept.append(cell)
             elif key in seen:
@@ -89,14 +91,15 @@ def width_of(cell: Cell) -> int:
 def without_unreached(cells: list[Cell], seen_elsewhere: set[Bit]) -> list[Cell]:
     """The cells with choices that don't ask again what was decided on the one way on which they are read.
 
-    Yosys writes a nested `if` as choices in one another, with undefined bits on the ways that another one excludes. Such a bit
-    comes to nothing: it isn't decided here, but left out with the choice that would never take it. A choice of which some bit
-    is seen elsewhere, by a name of the text, an output or a cell that is no choice, stays as it is.
+    Yosys writes a nested `if` as choices in one another, with undefined bits on the ways that another one excludes.
+    Such a bit comes to nothing: it isn't decided here, but left out with the choice that would never take it. A choice
+    of which some bit is seen elsewhere, by a name of the text, an output or a cell that is no choice, stays as it is.
     """
     changed = True
     while changed:
         known = decided(cells, seen_elsewhere)
-        driver = {bit: (cell, index) for cell in cells if cell.kind == "$mux" for index, bit in enumerate(cell.outputs["Y"])}
+        driver = {bit: (cell, index) for cell in cells if cell.kind == "$mux"
+                  for index, bit in enumerate(cell.outputs["Y"])}
         kept = [straightened(cell, known[cell.name], driver) if cell.kind == "$mux" else cell for cell in cells]
         changed = any(new is not old for new, old in zip(kept, cells))
         cells = without_dead(kept, seen_elsewhere)
@@ -104,7 +107,8 @@ def without_unreached(cells: list[Cell], seen_elsewhere: set[Bit]) -> list[Cell]
 
 
 def decided(cells: list[Cell], seen_elsewhere: set[Bit]) -> dict[str, dict[Bit, int]]:
-    """For each choice what is known of selecting bits wherever it is read: it is read by one side of one other choice."""
+    """For each choice what is known of selecting bits wherever it is read: it is read by one side of one other
+    choice."""
     places: dict[Bit, set[tuple[str, str]]] = {}
     muxes = {cell.name: cell for cell in cells if cell.kind == "$mux"}
     for cell in cells:

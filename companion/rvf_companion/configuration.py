@@ -1,6 +1,8 @@
-"""What the scripts need of a configuration `checks.cfg`; the program itself judges it. Nothing here is trusted by a verdict."""
+"""What the scripts need of a configuration `checks.cfg`; the program itself judges it. Nothing here is trusted by a
+verdict."""
 from __future__ import annotations
 
+import re
 from dataclasses import dataclass, field
 from pathlib import Path
 
@@ -54,6 +56,37 @@ def filled(name: str, core: str, basedir: str) -> str:
         else:
             done, name = done + name[0], name[1:]
     return done
+
+
+def kind_of(name: str) -> tuple[str, int]:
+    """The kind and the channel of a check's name, or of a depth line's first word."""
+    found = re.fullmatch(r"(.*)_ch(\d+)", name)
+    kind, channel = (found[1], int(found[2])) if found else (name, 0)
+    return ("insn" if kind.startswith("insn_") else kind), channel
+
+
+def reduced(configuration: Configuration, leave: set[str]) -> tuple[str, int]:
+    """The configuration without the depth lines of some kinds, and how many depth lines it has: a line that is left out
+    becomes a comment, so that all lines keep their numbers."""
+    lines, left = list(configuration.lines), 0
+    for at, word, _ in configuration.depths():
+        if kind_of(word)[0] in leave:
+            lines[at - 1] = "# left out: " + lines[at - 1]
+        else:
+            left += 1
+    return "\n".join(lines) + "\n", left
+
+
+def over_one_file(configuration: Configuration, leave: set[str], path: Path) -> str:
+    """The configuration without the depth lines of some kinds, over one file in the place of all that it names; nothing
+    where no depth line is left."""
+    text, left = reduced(configuration, leave)
+    lines, spelled = text.splitlines(), str(path)
+    for section, word in (("verilog-files", ""), ("script-sources", "read_verilog ")):
+        for at, _ in configuration.sections.get(section, []):
+            lines[at - 1] = word + spelled if spelled else "# left out: " + lines[at - 1]
+            spelled = ""
+    return "\n".join(lines) + "\n" if left else ""
 
 
 def read_configuration(path: Path) -> Configuration:

@@ -1,7 +1,7 @@
 """From a flat netlist of Yosys to one module of the subset.
 
-Each cell becomes an assignment to a name of its own, a register a block by `posedge`, a memory a memory. Nothing here is
-trusted by a verdict.
+Each cell becomes an assignment to a name of its own, a register a block by `posedge`, a memory a memory. Nothing here
+is trusted by a verdict.
 """
 from __future__ import annotations
 
@@ -12,7 +12,7 @@ from .choices import merged_choices, shared, without_unreached
 from .loops import cut_loops
 from .memories import memory_problems, write_memory
 from .names import Names
-from .netlist import Bit, Cell, NamedNet, Netlist
+from .netlist import Bit, Cell, NamedNet, Netlist, Port
 from .registers import plain_registers
 from .text import (MOST_NAMES, MOST_REGISTER_BITS, MOST_WEIGHT, WIDEST, Refused, Signal, Start, Text, in_parts,
                    ranged)
@@ -23,13 +23,19 @@ CLAIMS = {"$assert", "$cover", "$live", "$fair", "$print", "$scopeinfo"}
 # Cells that are there whether or not something reads them.
 ROOTS = {"$dff", "$mem_v2", "$assume", "$anyseq", "$anyconst", "$initstate"}
 
+# What a cell is joined to as a clock; a read of a memory without one has undefined bits there.
+CLOCKS = {"CLK", "WR_CLK", "RD_CLK"}
+
+# Cells that need no look of their own at whether they can be converted.
+PLAIN = {"$anyseq", "$anyconst", "$initstate", "$assume"}
+
 REFUSED = {
-    "$dlatch": "a latch", "$adlatch": "a latch", "$dlatchsr": "a latch", "$sr": "a latch", "$ff": "a register without a clock",
+    "$dlatch": "a latch", "$adlatch": "a latch", "$dlatchsr": "a latch", "$sr": "a latch",
+    "$ff": "a register without a clock",
     "$adff": "an asynchronous reset that async2sync leaves", "$adffe": "an asynchronous reset that async2sync leaves",
     "$aldff": "an asynchronous load that async2sync leaves", "$dffsr": "an asynchronous set that async2sync leaves",
-    "$tribuf": "a tristate", "$pow": "a power", "$div": "a division by what isn't constant",
-    "$mod": "a remainder by what isn't constant", "$divfloor": "a division by what isn't constant",
-    "$modfloor": "a remainder by what isn't constant", "$allseq": "a name of all values", "$allconst": "a name of all values",
+    "$tribuf": "a tristate", "$pow": "a power", "$divfloor": "a division that rounds down",
+    "$modfloor": "a remainder that rounds down", "$allseq": "a name of all values", "$allconst": "a name of all values",
 }
 
 
@@ -64,17 +70,25 @@ class Converter:
                       if isinstance(bit, int) and value in "01"}
         self.public = [net for net in netlist.nets if not net.hidden]
         self.undriven = 0
+        given = [bits for cell in self.cells for port, bits in cell.inputs.items() if port not in CLOCKS]
+        given += [port.bits for port in netlist.ports if port.direction == "output"]
+        self.undefined = sum(bits.count("x") for bits in given)
         self.read: set[Bit] = set()
         self.clock = ""
 
     def refuse(self, cell: Cell, why: str) -> None:
         """Remembers that a cell can't be converted."""
-        self.problems.append(f"{why}: {cell.name} at {self.netlist.place(cell)}")
+        self.problems.append(f"{why}: {self.netlist.called(cell)} at {self.netlist.place(cell)}")
+
+    def refuse_port(self, port: Port, why: str) -> None:
+        """Remembers that a port can't be converted."""
+        self.problems.append(f"{why}: {port.name} at {self.netlist.place_of_net(port.name)}")
 
     def run(self, source: str) -> Converted:
         """All steps in order."""
         self.check_ports()
         self.check_cells()
+        self.check_drivers()
         self.find_clock()
         self.check_registers()
         self.stop_at_problems()
@@ -85,7 +99,7 @@ class Converter:
         named = {self.text.resolve(bit) for net in [*self.public, *self.netlist.ports] for bit in net.bits}
         self.cells = merged_choices(without_unreached(self.cells, named), self.text.same)
         for loop in loops:
-            places = ", ".join(f"{cell.name} at {self.netlist.place(cell)}" for cell in loop[:4])
+            places = ", ".join(f"{self.netlist.called(cell)} at {self.netlist.place(cell)}" for cell in loop[:4])
             self.problems.append(f"a loop without a register through {len(loop)} cells: {places}")
         self.stop_at_problems()
         self.find_read()
@@ -106,11 +120,26 @@ class Converter:
         """Ports are inputs and outputs of at most 128 bits, with names that may stay."""
         for port in self.netlist.ports:
             if port.direction not in ("input", "output"):
-                self.problems.append(f"a port of both directions: {port.name} of {self.netlist.name}")
+                self.refuse_port(port, "a port of both directions")
             if len(port.bits) > WIDEST:
-                self.problems.append(f"a port of {len(port.bits)} bits: {port.name} of {self.netlist.name}")
+                self.refuse_port(port, f"a port of {len(port.bits)} bits")
             if not self.names.keep(port.name):
-                self.problems.append(f"a port with a name that may not stay: {port.name} of {self.netlist.name}")
+                self.refuse_port(port, "a port with a name that may not stay")
+            if "z" in port.bits:
+                self.refuse_port(port, "a tristate")
+
+    def check_drivers(self) -> None:
+        """No bit has two drivers, and none that is constant has one."""
+        made = [(bits, cell, None) for cell in self.cells for bits in cell.outputs.values()]
+        made += [(port.bits, None, port) for port in self.netlist.ports if port.direction == "input"]
+        seen: set[Bit] = set()
+        for bits, cell, port in made:
+            if any(isinstance(bit, str) or bit in seen for bit in bits):
+                if cell:
+                    self.refuse(cell, "two drivers of a bit")
+                else:
+                    self.refuse_port(port, "two drivers of a bit")
+            seen.update(bits)
 
     def check_cells(self) -> None:
         """Cells are of the kinds that are known, without tristates, with registers of the rising edge."""
@@ -123,16 +152,13 @@ class Converter:
             elif cell.kind == "$dff":
                 if not cell.flag("CLK_POLARITY"):
                     self.refuse(cell, "a register of the negative edge")
-            elif cell.kind not in of_cells.WRITERS and cell.kind not in ("$anyseq", "$anyconst", "$initstate", "$assume"):
+            elif cell.kind not in of_cells.WRITERS and cell.kind not in PLAIN:
                 self.refuse(cell, f"a cell of the kind {cell.kind}")
             if any(bit == "z" for bits in cell.inputs.values() for bit in bits):
                 self.refuse(cell, "a tristate")
             why = of_cells.uncuttable(cell)
             if why:
                 self.refuse(cell, why)
-        for port in self.netlist.ports:
-            if "z" in port.bits:
-                self.problems.append(f"a tristate: the port {port.name} of {self.netlist.name}")
 
     def find_clock(self) -> None:
         """All registers and writes go by one input, which nothing else reads."""
@@ -146,7 +172,8 @@ class Converter:
                         clocked.setdefault(bit, []).append(cell)
                     elif not is_clock:
                         others.setdefault(bit, cell)
-        inputs = {port.bits[0]: port.name for port in self.netlist.ports if port.direction == "input" and len(port.bits) == 1}
+        inputs = {port.bits[0]: port.name for port in self.netlist.ports
+                  if port.direction == "input" and len(port.bits) == 1}
         if len(clocked) > 1:
             for bit, cells in sorted(clocked.items(), key=lambda item: -len(item[1]))[1:]:
                 for cell in cells:
@@ -154,7 +181,8 @@ class Converter:
         outputs = {bit: port.name for port in self.netlist.ports if port.direction == "output" for bit in port.bits}
         for bit, cells in clocked.items():
             if bit in outputs:
-                self.problems.append(f"the clock is an output too: {outputs[bit]} of {self.netlist.name}")
+                self.problems.append(f"the clock is an output too: {outputs[bit]} at "
+                                     f"{self.netlist.place_of_net(outputs[bit])}")
             elif bit not in inputs:
                 self.refuse(cells[0], "a clock that is no input of the module")
             elif bit in others:
@@ -167,14 +195,15 @@ class Converter:
     def in_its_cycle(self, cell: Cell) -> Cell:
         """An assumption of a clocked block stands behind registers, a cycle late: takes what these are given."""
         bits = {port: cell.inputs[port][0] for port in ("A", "EN")}
-        late = {port: self.late_register(cell, bit, ending) for (port, bit), ending in zip(bits.items(), ("_CHECK", "_EN"))}
+        late = {port: self.late_register(cell, bits[port], ending) for port, ending in (("A", "_CHECK"), ("EN", "_EN"))}
         if any(late.values()):
             for port, bit in bits.items():
                 if late[port]:
                     bits[port] = late[port].inputs["D"][late[port].outputs["Q"].index(bit)]
                 elif isinstance(bit, int):
                     self.refuse(cell, "an assumption that is a cycle late in a part")
-        return Cell(cell.name, cell.kind, cell.parameters, cell.attributes, {port: [bit] for port, bit in bits.items()}, {})
+        inputs = {port: [bit] for port, bit in bits.items()}
+        return Cell(cell.name, cell.kind, cell.parameters, cell.attributes, inputs, {})
 
     def late_register(self, cell: Cell, bit: Bit, ending: str) -> Cell | None:
         """The register that Yosys put before an assumption, if the bit is one's."""
@@ -202,8 +231,8 @@ class Converter:
     # Names.
 
     def find_read(self) -> None:
-        """Which bits something reads, from outputs, state, assumptions and names of the text backwards; a cell of which no bit
-        is read is left out."""
+        """Which bits something reads, from outputs, state, assumptions and names of the text backwards; a cell of
+        which no bit is read is left out."""
         driver = {bit: cell for cell in self.cells for bits in cell.outputs.values() for bit in bits}
         resolve = self.text.resolve
         self.read = {resolve(bit) for port in self.netlist.ports if port.direction == "output" for bit in port.bits}
@@ -329,9 +358,12 @@ class Converter:
     def check_limits(self) -> None:
         """What else passes the limits of the subset is told before the program tells it."""
         text = self.text
-        names = len(self.names.table) + text.memory_words
+        words = sum(text.memory_words.values())
+        names = len(self.names.table) + words
         if names > MOST_NAMES:
-            self.problems.append(f"{names} names, above {MOST_NAMES}; {text.memory_words} of them words of memories")
+            told = ", ".join(f"{name} {count}" for name, count in text.memory_words.most_common(3))
+            of_them = f"; {words} of them words of memories, the most: {told}" if words else ""
+            self.problems.append(f"{names} names, above {MOST_NAMES}{of_them}")
         if 2 * text.weight() > MOST_WEIGHT:
             told = ", ".join(f"{name} {count}" for name, count in text.weights.most_common(3))
             self.problems.append(f"a weight of {text.weight()}, too heavy for a check at cycle 1; the most: {told}")
@@ -344,10 +376,15 @@ class Converter:
         lines = [f"// {plain}", "// Made by companion/from-yosys.py, of which nothing is trusted by a verdict.",
                  f"module {self.netlist.name} ("]
         lines += ["  " + port + ("," if index + 1 < len(text.ports) else "") for index, port in enumerate(text.ports)]
-        lines += [");"] + ["  " + line for line in text.declared] + ["  " + line for line in text.items] + ["endmodule", ""]
-        notes = [f"{text.undefined} undefined bits and {self.undriven} bits without a driver became free names",
+        lines += [");"] + ["  " + line for line in text.declared + text.items] + ["endmodule", ""]
+        past = f", as did {text.past} bits past a vector's range or of a division by 0" if text.past else ""
+        left = max(0, self.undefined - text.undefined)
+        notes = [f"{text.undefined} undefined bits and {self.undriven} bits without a driver became free names{past}",
+                 f"{left} undefined bits were left out, as nothing reads them or their write is never enabled",
+                 f"{text.partial} initial values that are undefined in part were given bit by bit",
                  f"{text.register_bits} bits of registers and memories, {len(self.names.table)} names, "
                  f"weight {text.weight()}: checks up to cycle {min(100, MOST_WEIGHT // max(1, text.weight()) - 1)}"]
         if self.claims:
             notes.append(f"{self.claims} claims of the text's own (assert, cover and the like) were left out")
-        return Converted("\n".join(lines), self.names.table, notes, text.weight(), text.starts, text.free_names, self.clock)
+        return Converted("\n".join(lines), self.names.table, notes, text.weight(), text.starts, text.free_names,
+                         self.clock)

@@ -1,4 +1,5 @@
-"""The command `from-yosys.py`: from the files of a core to one file of the subset. Nothing here is trusted by a verdict."""
+"""The command `from-yosys.py`: from the files of a core to one file of the subset. Nothing here is trusted by a
+verdict."""
 from __future__ import annotations
 
 import argparse
@@ -7,26 +8,35 @@ import sys
 import tempfile
 from pathlib import Path
 
-from .configuration import Configuration, read_configuration
+from .configuration import Configuration, kind_of, over_one_file, read_configuration
 from .convert import Converted, Refused, convert
-from .netlist import read
+from .netlist import NoNetlist, read
 from .yosys import Core, YosysFailed, run
 
 
 def arguments() -> argparse.ArgumentParser:
     """The words of the command."""
     words = argparse.ArgumentParser(prog="from-yosys.py", description=(
-        "Makes one Verilog file of the subset that rvf reads, of any core that Yosys reads. Nothing of it is trusted by a "
-        "verdict: what is checked is the written file."))
+        "Makes one Verilog file of the subset that rvf reads, of any core that Yosys reads. Nothing of it is trusted "
+        "by a verdict: what is checked is the written file."))
     words.add_argument("--top", required=True, metavar="NAME", help="the module that is converted, with all below it")
-    words.add_argument("--cfg", metavar="CFG", help="a configuration whose [defines] and isa stand before the files; where "
-                       "the top is rvfi_wrapper, one file for each kind that has defines of its own")
+    words.add_argument("--cfg", metavar="CFG", help="a configuration whose [defines] and isa stand before the files; "
+                       "where the top is rvfi_wrapper, one file for each kind that has defines of its own")
     words.add_argument("--define", action="append", default=[], metavar="NAME[=TEXT]", help="a macro before the files")
-    words.add_argument("--set", action="append", default=[], metavar="NAME=VALUE", help="a parameter of the top module")
+    words.add_argument("--set", action="append", default=[], type=setting, metavar="NAME=VALUE",
+                       help="a parameter of the top module")
     words.add_argument("--out", metavar="FOLDER", default=".", help="where NAME.v and NAME.names.json are written (.)")
     words.add_argument("--netlist", metavar="JSON", help="a stored netlist of write_json, in place of files")
     words.add_argument("files", nargs="*", metavar="FILES", help="what Yosys reads, in order")
     return words
+
+
+def setting(word: str) -> tuple[str, str]:
+    """A parameter with its value."""
+    name, sign, value = word.partition("=")
+    if not name or not sign or not value:
+        raise argparse.ArgumentTypeError(f"{word!r} isn't NAME=VALUE")
+    return name, value
 
 
 def define_line(word: str) -> str:
@@ -39,10 +49,10 @@ def converted(core: Core) -> Converted:
     """Runs Yosys and converts what it leaves."""
     with tempfile.TemporaryDirectory() as folder:
         before, after = run(core, Path(folder))
-        latches = [cell for cell in read(before, core.top).cells if "latch" in cell.kind or cell.kind in ("$sr", "$ff")]
+        first = read(before, core.top)
+        latches = [cell for cell in first.cells if "latch" in cell.kind or cell.kind in ("$sr", "$ff")]
         if latches:
-            first = read(before, core.top)
-            raise Refused([f"a latch: {cell.name} at {first.place(cell)}" for cell in latches])
+            raise Refused([f"a latch: {first.called(cell)} at {first.place(cell)}" for cell in latches])
         return convert(read(after, core.top), "From " + " ".join(str(path) for path in core.files))
 
 
@@ -50,7 +60,35 @@ def deliver(folder: Path, name: str, made: Converted) -> None:
     """Writes the file and the table of its names, and tells what there is to tell."""
     (folder / f"{name}.v").write_text(made.text)
     (folder / f"{name}.names.json").write_text(json.dumps(made.names, indent=1) + "\n")
-    print(f"{folder / name}.v: " + "; ".join(made.notes))
+    print("\n  ".join([f"{folder / name}.v", *made.notes]))
+
+
+def deliver_configurations(folder: Path, configuration: Configuration, kinds: list[str | None]) -> None:
+    """Writes a configuration beside each converted wrapper: that of a kind has its depth lines alone, the first one
+    those of the kinds without one of their own."""
+    present = {kind_of(word)[0] for _, word, _ in configuration.depths()}
+    own = {kind for kind in kinds if kind}
+    for kind in kinds:
+        base = folder / ("rvfi_wrapper" if kind is None else f"rvfi_wrapper.{kind}")
+        text = over_one_file(configuration, own if kind is None else present - {kind}, Path(f"{base}.v"))
+        if text:
+            Path(f"{base}.cfg").write_text(text)
+            print(f"{base}.cfg: the configuration over it")
+
+
+def would_overwrite(folder: Path, names: list[str], given: list[str]) -> str:
+    """The first of the files to be written that is one of those that are read."""
+    read_files = {Path(name).resolve() for name in given}
+    paths = [folder / (name + ending) for name in names for ending in (".v", ".names.json", ".cfg")]
+    return next((str(path) for path in paths if path.resolve() in read_files), "")
+
+
+def core_of(asked: argparse.Namespace, configuration: Configuration, kind: str | None) -> Core:
+    """The files with what stands before them for a kind."""
+    defines = [define_line(word) for word in asked.define] + configuration.defines_of(kind)
+    nret = configuration.options().get("nret", "1")
+    return Core(asked.top, [Path(name) for name in asked.files], defines,
+                dict(asked.set), configuration.isa.endswith("c"), int(nret) if nret.isdigit() else 1)
 
 
 def main(words: list[str] | None = None) -> int:
@@ -65,21 +103,24 @@ def main(words: list[str] | None = None) -> int:
         return 1
     try:
         configuration = read_configuration(Path(asked.cfg)) if asked.cfg else Configuration()
+        kinds = [None, *configuration.kinds_with_defines()] if asked.top == "rvfi_wrapper" else [None]
+        names = [asked.top if kind is None else f"{asked.top}.{kind}" for kind in kinds]
+        lost = would_overwrite(folder, names, [*asked.files, asked.netlist or "", asked.cfg or ""])
+        if lost:
+            print(f"from-yosys: {lost} is one of the files that are read: give another folder by --out",
+                  file=sys.stderr)
+            return 1
         if asked.netlist:
             deliver(folder, asked.top, convert(read(Path(asked.netlist), asked.top), f"From {asked.netlist}"))
             return 0
-        kinds = [None, *configuration.kinds_with_defines()] if asked.top == "rvfi_wrapper" else [None]
-        for kind in kinds:
-            defines = [define_line(word) for word in asked.define] + configuration.defines_of(kind)
-            nret = configuration.options().get("nret", "1")
-            core = Core(asked.top, [Path(name) for name in asked.files], defines,
-                        dict(word.split("=", 1) for word in asked.set), configuration.isa.endswith("c"),
-                        int(nret) if nret.isdigit() else 1)
-            deliver(folder, asked.top if kind is None else f"{asked.top}.{kind}", converted(core))
+        # All are converted before one is written.
+        made = [converted(core_of(asked, configuration, kind)) for kind in kinds]
+        for name, one in zip(names, made):
+            deliver(folder, name, one)
+        if asked.cfg and asked.top == "rvfi_wrapper":
+            deliver_configurations(folder, configuration, kinds)
         return 0
-    except (Refused, YosysFailed) as refusal:
+    except (Refused, YosysFailed, NoNetlist, OSError, UnicodeDecodeError) as refusal:
         for line in str(refusal).splitlines():
             print(f"from-yosys: {line}", file=sys.stderr)
-    except (OSError, KeyError, ValueError) as fault:
-        print(f"from-yosys: {type(fault).__name__}: {fault}", file=sys.stderr)
     return 1

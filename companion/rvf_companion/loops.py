@@ -1,4 +1,5 @@
-"""Cells in a loop: the subset tells drivers apart as wholes, so a vector that is computed bit after bit is cut into bits.
+"""Cells in a loop: the subset tells drivers apart as wholes, so a vector that is computed bit after bit is cut into
+bits.
 
 Nothing here is trusted by a verdict.
 """
@@ -43,7 +44,8 @@ def reads_of(cell: Cell) -> list[Cell]:
     """The reads of a memory, each of which has its address and its data."""
     digits, width = cell.count("ABITS"), cell.count("WIDTH")
     return [replace(cell, kind="read", inputs={"A": cell.inputs["RD_ADDR"][port * digits:][:digits]},
-                    outputs={"Y": cell.outputs["RD_DATA"][port * width:][:width]}) for port in range(cell.count("RD_PORTS"))]
+                    outputs={"Y": cell.outputs["RD_DATA"][port * width:][:width]})
+            for port in range(cell.count("RD_PORTS"))]
 
 
 def circles(cells: list[Cell]) -> list[list[Cell]]:

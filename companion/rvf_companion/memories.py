@@ -64,8 +64,8 @@ def write_memory(converter: "Converter", cell: Cell) -> None:
     """Writes the declaration, the initial values, the reads and the writes of a memory."""
     memory, text = Memory.of(cell), converter.text
     text.register_bits += memory.words * memory.width
-    text.memory_words += memory.words * len(memory.parts())
     for name, (low, width) in zip(memory_names(converter, cell), memory.parts()):
+        text.memory_words[name] += memory.words
         shape = "" if width == 1 else f"[{width - 1}:0] "
         old = cell.parameters.get("MEMID", cell.name).lstrip("\\")
         words = range(memory.first, memory.first + memory.words)
@@ -87,7 +87,9 @@ def write_start(converter: "Converter", cell: Cell, name: str, low: int, width: 
         if bits and all(bit in "01" for bit in bits):
             lines.append(f"{at} = {digits(bits[::-1])};")
         else:
-            lines += [f"{at}[{index}] = 1'b{bit};" for index, bit in enumerate(bits) if bit in "01"]
+            known = [f"{at}[{index}] = 1'b{bit};" for index, bit in enumerate(bits) if bit in "01"]
+            converter.text.partial += bool(known)
+            lines += known
     if lines:
         converter.text.items += ["initial begin"] + ["  " + line for line in lines] + ["end"]
 
@@ -112,7 +114,7 @@ def write_writes(converter: "Converter", cell: Cell, name: str, low: int, width:
         address = cell.inputs["WR_ADDR"][port * digits_of_address:][:digits_of_address]
         at = ""
         data = cell.inputs["WR_DATA"][port * memory.width:][:memory.width][low:low + width]
-        enable = [text.resolve(bit) for bit in cell.inputs["WR_EN"][port * memory.width:][:memory.width]][low:low + width]
+        enable = [text.resolve(bit) for bit in cell.inputs["WR_EN"][port * memory.width + low:][:width]]
         start = 0
         while start < width:
             end = start

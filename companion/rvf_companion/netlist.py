@@ -73,6 +73,19 @@ class Netlist:
                     if isinstance(bit, int):
                         self.driver[bit] = cell
 
+    def called(self, cell: Cell) -> str:
+        """What the text calls what a cell makes, where it has a name for it, and else the cell's own name."""
+        if "MEMID" in cell.parameters:
+            return cell.parameters["MEMID"].lstrip("\\")
+        made = {bit for bits in cell.outputs.values() for bit in bits if isinstance(bit, int)}
+        named = [net for net in self.nets if not net.hidden and made & set(net.bits)]
+        return min(named, key=lambda net: (net.name.count("."), len(net.bits))).name if named else cell.name
+
+    def place_of_net(self, name: str) -> str:
+        """Where a named net comes from, or its module."""
+        found = next((net.src for net in self.nets if net.name == name and has_place(net.src)), "")
+        return found or f"{self.src or '-'} (module {self.name})"
+
     def place(self, cell: Cell) -> str:
         """Where a cell comes from: its own place, that of the nearest named net, or the module's."""
         if has_place(cell.attributes.get("src", "")):
@@ -104,9 +117,18 @@ def has_place(src: str) -> bool:
     return bool(src) and ":0.0" not in src.split("|")[0]
 
 
+class NoNetlist(Exception):
+    """A file that is no netlist of the module."""
+
+
 def read(path: Path, top: str) -> Netlist:
     """Reads the module of that name from a file of `write_json`."""
-    module = json.loads(path.read_text())["modules"][top]
+    try:
+        module = json.loads(path.read_text())["modules"].get(top)
+    except (ValueError, KeyError, TypeError, AttributeError):
+        raise NoNetlist(f"{path} is no netlist of write_json") from None
+    if module is None:
+        raise NoNetlist(f"{path} has no module {top}")
     cells = []
     for name, cell in module["cells"].items():
         directions = cell.get("port_directions", {})

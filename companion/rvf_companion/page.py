@@ -50,9 +50,10 @@ def row(shown: Shown) -> str:
     """The row of a check."""
     check = shown.check
     verdict = f"spent at {check.budget:,}" if check.verdict == "spent" else check.verdict
-    name = f'<a href="#{escape(check.name)}">{escape(check.name)}</a>' if check.verdict == "fail" else escape(check.name)
+    plain = escape(check.name)
+    name = f'<a href="#{plain}">{plain}</a>' if check.verdict == "fail" else plain
     command = f"<code>{escape(shown.command)}</code>" if shown.command else ""
-    return (f'<tr class="check" data-name="{escape(check.name)}"><td>{name}</td><td class="{check.verdict}">{verdict}</td>'
+    return (f'<tr class="check" data-name="{plain}"><td>{name}</td><td class="{check.verdict}">{verdict}</td>'
             f'<td class="number">{seconds(check)}</td><td class="number">{many(shown.clauses)}</td>'
             f'<td class="number">{many(shown.steps)}</td><td>{command}</td></tr>')
 
@@ -68,9 +69,10 @@ def page(run: Run, checks: list[Shown], explained: list[str], title: str) -> str
     """The whole page."""
     parts = ["<!DOCTYPE html>", '<html lang="en"><head><meta charset="utf-8">', f"<title>{escape(title)}</title>",
              f"<style>{STYLE}</style></head><body>", f"<h1>{escape(title)}</h1>",
-             f"<p>{run.count('pass')} pass, {run.count('fail')} fail, {run.count('spent')} spent, {len(run.skipped)} skipped; "
-             f"{run.seconds:.1f} s. This page was made by the companion, of which nothing is trusted by a verdict.</p>"]
-    if run.code in (8, 11) or not run.total:
+             f"<p>{run.count('pass')} pass, {run.count('fail')} fail, {run.count('spent')} spent, "
+             f"{len(run.skipped)} skipped; {run.seconds:.1f} s. This page was made by the companion, of which nothing "
+             "is trusted by a verdict.</p>"]
+    if run.code in (8, 11) or not run.ended() or run.refusal:
         parts.append(f'<p class="notice">{escape(run.end())}</p>')
     if explained:
         parts.append("<pre>" + escape("\n".join(explained)) + "</pre>")
@@ -81,6 +83,8 @@ def page(run: Run, checks: list[Shown], explained: list[str], title: str) -> str
         parts.append('<table id="checks"><tr><th>check</th><th>verdict</th><th>time</th><th>clauses</th><th>steps</th>'
                      "<th>to see for yourself</th></tr>")
         parts += [row(shown) for shown in checks] + ["</table>"]
+    if run.listed:
+        parts.append("<p>Asked for: " + escape(", ".join(run.listed)) + "</p>")
     if run.skipped:
         parts.append("<p>Skipped, which claims nothing: " + escape(", ".join(run.skipped)) + "</p>")
     if run.others:

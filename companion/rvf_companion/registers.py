@@ -1,4 +1,5 @@
-"""Registers with an enable or a synchronous reset as plain ones behind choices. Nothing here is trusted by a verdict."""
+"""Registers with an enable or a synchronous reset as plain ones behind choices. Nothing here is trusted by a
+verdict."""
 from __future__ import annotations
 
 from dataclasses import replace

@@ -22,8 +22,8 @@ def beside() -> str:
 def arguments() -> argparse.ArgumentParser:
     """The words of the command."""
     words = argparse.ArgumentParser(prog="report.py", description=(
-        "Makes report.xml (JUnit), report.json and index.html in OUTDIR of the lines of `rvf run`, which it reads from standard "
-        "input as they come, and of the files in OUTDIR. Nothing of it is trusted by a verdict."))
+        "Makes report.xml (JUnit), report.json and index.html in OUTDIR of the lines of `rvf run`, which it reads from "
+        "standard input as they come, and of the files in OUTDIR. Nothing of it is trusted by a verdict."))
     words.add_argument("outdir", metavar="OUTDIR", help="the folder of the run, which has to be there")
     words.add_argument("--cfg", required=True, metavar="CFG", help="the configuration of the run")
     words.add_argument("--code", type=int, metavar="N", help="the code that the run ended with")
@@ -53,11 +53,21 @@ def progress(run: Run, total: int | None, screen) -> None:
     screen.flush()
 
 
+def clear(screen) -> None:
+    """Takes the line of progress away, so that another one stands in its place."""
+    if screen is not None and screen.isatty():
+        screen.write("\r\x1b[K")
+        screen.flush()
+
+
 def follow(lines: Iterable[str], run: Run, total: int | None, screen, begun: float) -> None:
     """Takes lines as they come."""
-    for line in lines:
-        run.take(line.rstrip("\r\n"), time.monotonic() - begun)
-        progress(run, total, screen)
+    try:
+        for line in lines:
+            run.take(line.rstrip("\r\n"), time.monotonic() - begun)
+            progress(run, total, screen)
+    except KeyboardInterrupt:
+        run.others.append("the run was interrupted")
     run.seconds = max(run.seconds, time.monotonic() - begun) if not run.ended() else run.seconds
     if screen is not None and screen.isatty():
         screen.write("\n")

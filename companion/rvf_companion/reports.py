@@ -10,7 +10,7 @@ from dataclasses import dataclass, field
 from pathlib import Path
 from xml.etree import ElementTree
 
-from .configuration import Configuration
+from .configuration import Configuration, kind_of
 from .dump import BrokenDump, read_dump
 from .explanation import explain
 from .findings import Asked, findings
@@ -30,13 +30,7 @@ class Setting:
     core: str = "core"
     basedir: str = "."
     sums: dict = field(default_factory=dict)
-
-
-def kind_of(name: str) -> tuple[str, int]:
-    """The kind and the channel of a check's name."""
-    found = re.fullmatch(r"(.*)_ch(\d+)", name)
-    kind, channel = (found[1], int(found[2])) if found else (name, 0)
-    return ("insn" if kind.startswith("insn_") else kind), channel
+    before: list[dict] = field(default_factory=list)
 
 
 def options_of(setting: Setting, run: Run, kind: str) -> Options:
@@ -68,7 +62,8 @@ def shown(setting: Setting, run: Run, check: Check) -> Shown:
     quoted = shlex.quote(str(base))
     found = Shown(check, kind=kind_of(check.name)[0])
     if check.verdict != "fail":
-        found.clauses, found.steps = clauses_of(base.with_name(check.name + ".cnf")), steps_of(base.with_name(check.name + ".lrat"))
+        found.clauses = clauses_of(base.with_name(check.name + ".cnf"))
+        found.steps = steps_of(base.with_name(check.name + ".lrat"))
         if check.verdict == "pass":
             found.command = f"{setting.program} lrat {quoted}.cnf {quoted}.lrat"
         return found
@@ -107,14 +102,17 @@ def steps_of(path: Path) -> int | None:
 
 def junit(run: Run, checks: list[Shown], explained: list[str]) -> str:
     """The report in the form of JUnit: one case a check."""
-    broken = not run.total
-    suite = ElementTree.Element("testsuite", name="rvf", tests=str(len(checks) + broken), failures=str(run.count("fail")),
-                                errors=str(run.count("spent") + broken), skipped="0", time=f"{run.seconds:.3f}")
+    broken = not run.ended() or bool(run.refusal)
+    suite = ElementTree.Element("testsuite", name="rvf", tests=str(len(checks) + broken),
+                                failures=str(run.count("fail")), errors=str(run.count("spent") + broken), skipped="0",
+                                time=f"{run.seconds:.3f}")
     for one in checks:
         check = one.check
-        case = ElementTree.SubElement(suite, "testcase", classname=one.kind, name=check.name, time=f"{check.seconds:.3f}")
+        case = ElementTree.SubElement(suite, "testcase", classname=one.kind, name=check.name,
+                                      time=f"{check.seconds:.3f}")
         if check.verdict == "fail":
-            ElementTree.SubElement(case, "failure", message="a run of the design violates the check").text = "\n".join(one.lines)
+            failure = ElementTree.SubElement(case, "failure", message="a run of the design violates the check")
+            failure.text = "\n".join(one.lines)
         elif check.verdict == "spent":
             ElementTree.SubElement(case, "error", message=f"the budget of {check.budget} clauses was used up").text = ""
         told = []
@@ -133,12 +131,15 @@ def junit(run: Run, checks: list[Shown], explained: list[str]) -> str:
 
 def as_json(setting: Setting, run: Run, checks: list[Shown], explained: list[str]) -> str:
     """The report for other scripts."""
-    listed = [{"name": one.check.name, "kind": one.kind, "verdict": one.check.verdict, "seconds": round(one.check.seconds, 3),
-               "batch": one.check.batch, "kept": one.check.kept, "budget": one.check.budget, "clauses": one.clauses,
-               "steps": one.steps, "findings": one.lines, "command": one.command} for one in checks]
-    return json.dumps({"configuration": setting.cfg, "jobs": run.jobs, "code": run.code, "seconds": round(run.seconds, 3),
-                       "ended": run.ended(), "end": run.end(), "explained": explained, "notes": run.notes,
-                       "skipped": run.skipped, "others": run.others, "checks": listed, "sums": setting.sums}, indent=1) + "\n"
+    listed = [{"name": one.check.name, "kind": one.kind, "verdict": one.check.verdict,
+               "seconds": round(one.check.seconds, 3), "batch": one.check.batch, "kept": one.check.kept,
+               "budget": one.check.budget, "clauses": one.clauses, "steps": one.steps, "findings": one.lines,
+               "command": one.command} for one in checks]
+    whole = {"configuration": setting.cfg, "jobs": run.jobs, "code": run.code, "seconds": round(run.seconds, 3),
+             "ended": run.ended(), "end": run.end(), "explained": explained, "notes": run.notes,
+             "skipped": run.skipped, "listed": run.listed, "others": run.others, "checks": listed,
+             "before": setting.before, "sums": setting.sums}
+    return json.dumps(whole, indent=1) + "\n"
 
 
 def write_reports(setting: Setting, run: Run) -> list[Path]:

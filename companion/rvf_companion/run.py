@@ -9,12 +9,12 @@ import time
 from dataclasses import replace
 from pathlib import Path
 
-from .again import Call, inputs_of, kept_checks, kind_of_line, outputs_of, reduced
-from .configuration import Configuration, read_configuration
+from .again import Call, Former, former, inputs_of, kept_checks, outputs_of
+from .configuration import Configuration, kind_of, read_configuration, reduced
 from .explanation import explain
-from .report import beside, progress
+from .report import beside, clear, progress
 from .reports import Setting, write_reports
-from .run_lines import Check, Run
+from .run_lines import Run
 
 # The configuration that is run in the place of the caller's where some kinds are left out.
 REDUCED = "reduced.cfg"
@@ -23,18 +23,20 @@ REDUCED = "reduced.cfg"
 def arguments() -> argparse.ArgumentParser:
     """The words of the command."""
     words = argparse.ArgumentParser(prog="run.py", description=(
-        "Runs `rvf run`, passes its lines on, says a refusal in words, and makes report.xml, report.json and index.html in "
-        "OUTDIR. Ends with the program's code. Nothing of it is trusted by a verdict."))
+        "Runs `rvf run`, passes its lines on, says a refusal in words, and makes report.xml, report.json and "
+        "index.html in OUTDIR. Ends with the program's code. Nothing of it is trusted by a verdict."))
     words.add_argument("cfg", metavar="CFG", help="the configuration")
     words.add_argument("outdir", metavar="OUTDIR", nargs="?", help="the folder for all files, which has to be there")
     words.add_argument("--core", default="core", metavar="NAME", help="stands for @core@ (core)")
     words.add_argument("--basedir", default=".", metavar="DIR", help="stands for @basedir@ (.)")
-    words.add_argument("--budget", type=int, default=200_000, metavar="N", help="clauses that each check may learn (200000)")
+    words.add_argument("--budget", type=int, default=200_000, metavar="N",
+                       help="clauses that each check may learn (200000)")
     words.add_argument("--jobs", type=int, default=1, metavar="N", help="checks that are judged beside each other (1)")
     words.add_argument("--rvf", default=beside(), metavar="PROGRAM", help="the program")
     words.add_argument("--kinds", default="", metavar="KIND,..", help="these kinds alone, as insn or reg")
-    words.add_argument("--again", action="store_true", help="leaves out kinds whose checks stand from the run before: of the "
-                       "same configuration, files, options and program; a spent of a smaller budget is run again")
+    words.add_argument("--again", action="store_true", help="leaves out kinds whose checks stand from the run before: "
+                       "of the same configuration, files, options and program; a spent of a smaller budget is run "
+                       "again")
     words.add_argument("--timeout", type=float, metavar="SECONDS", help="stops the program after so long")
     words.add_argument("--list-kinds", action="store_true", help="prints the kinds of the configuration, for make")
     return words
@@ -46,7 +48,7 @@ def main(words: list[str] | None = None) -> int:
     try:
         configuration = read_configuration(Path(asked.cfg))
         if asked.list_kinds:
-            print(" ".join(dict.fromkeys(kind_of_line(word) for _, word, _ in configuration.depths())))
+            print(" ".join(dict.fromkeys(kind_of(word)[0] for _, word, _ in configuration.depths())))
             return 0
         if asked.outdir is None or not Path(asked.outdir).is_dir():
             print(f"run: {asked.outdir or 'OUTDIR'} is no folder, so nothing was run", file=sys.stderr)
@@ -66,14 +68,17 @@ def main(words: list[str] | None = None) -> int:
 def work(call: Call, configuration: Configuration, kinds: list[str], again: bool, timeout: float | None) -> int:
     """Runs the kinds that are left, and makes the reports of these and of what is kept."""
     listed, refused = names_of(call)
-    present = {kind_of_line(word) for _, word, _ in configuration.depths()}
+    present = {kind_of(word)[0] for _, word, _ in configuration.depths()}
     unknown = [kind for kind in kinds if kind not in present]
     if unknown:
-        print(f"run: the configuration has no kind {', '.join(unknown)}; it has {', '.join(sorted(present))}", file=sys.stderr)
+        print(f"run: the configuration has no kind {', '.join(unknown)}; it has {', '.join(sorted(present))}",
+              file=sys.stderr)
         return 3
-    wanted = [name for name in listed if not kinds or kind_of_line(name) in kinds]
-    kept = kept_checks(call, configuration, wanted) if again and not refused else []
-    leave = {kind_of_line(check.name) for check in kept} | (present - set(kinds) if kinds else set())
+    wanted = [name for name in listed if not kinds or kind_of(name)[0] in kinds]
+    inputs = inputs_of(call, configuration)
+    past = former(call, inputs)
+    kept = kept_checks(call, past, wanted) if again and not refused else []
+    leave = {kind_of(check.name)[0] for check in kept} | (present - set(kinds) if kinds else set())
     text, left = reduced(configuration, leave)
     run = Run(jobs=max(1, call.jobs))
     if left or not kept:
@@ -85,7 +90,9 @@ def work(call: Call, configuration: Configuration, kinds: list[str], again: bool
     else:
         run.total, run.code = "every check stands from the run before", 0
     run.refusal = run.refusal.replace(f" {call.outdir / REDUCED}:", f" {call.cfg}:") if leave else run.refusal
-    return finish(call, configuration, run, kept, listed)
+    run.checks += kept
+    run.checks.sort(key=lambda check: listed.index(check.name) if check.name in listed else len(listed))
+    return finish(call, configuration, run, past, inputs)
 
 
 def names_of(call: Call) -> tuple[list[str], bool]:
@@ -106,32 +113,39 @@ def follow(call: Call, run: Run, total: int, timeout: float | None) -> None:
         try:
             for line in process.stdout or []:
                 run.take(line.rstrip("\n"), time.monotonic() - begun)
+                clear(sys.stderr)
                 print(line, end="", flush=True)
                 progress(run, total or None, sys.stderr)
-            code = process.wait()
+        except KeyboardInterrupt:
+            process.terminate()
+            run.others.append("the run was interrupted")
         finally:
+            code = process.wait()
+            clear(sys.stderr)
             if clock:
                 clock.cancel()
     run.seconds = time.monotonic() - begun
     run.code = code if code >= 0 else None
     if code < 0:
-        run.others.append(f"the program was stopped by the signal {-code}" + (f" after {timeout:g} seconds" if timeout else ""))
+        late = f" after {timeout:g} seconds" if timeout else ""
+        run.others.append(f"the program was stopped by the signal {-code}{late}")
 
 
-def finish(call: Call, configuration: Configuration, run: Run, kept: list[Check], listed: list[str]) -> int:
-    """Makes the reports and answers the code: the program's, or that of all checks where some are kept."""
-    order = {name: at for at, name in enumerate(listed)}
-    run.checks = sorted(run.checks + kept, key=lambda check: order.get(check.name, len(order)))
+def finish(call: Call, configuration: Configuration, run: Run, past: Former, inputs: dict) -> int:
+    """Makes the reports and answers the code: the program's, or that of all checks where some are kept. Checks of
+    kinds that weren't asked for stay in report.json, for a later `--again`."""
     if run.refusal:
         print("\n".join(explain(run.refusal, str(call.cfg))))
-    if not run.is_ours() and run.code not in (8, 11) and not kept:
+    if not run.is_ours() and run.code not in (8, 11):
         first = f": the first line was {run.others[0]!r}" if run.others else ""
         print(f"run: {call.program} doesn't answer as rvf does{first}; no report was written", file=sys.stderr)
         return run.code if run.code else 1
     if run.code in (8, 11) or not run.ended():
         print(f"run: {run.end()}", file=sys.stderr)
-    sums = {"inputs": inputs_of(call, configuration), "outputs": outputs_of(call.outdir, run.checks)}
-    setting = Setting(call.outdir, configuration, str(call.cfg), call.program, call.core, call.basedir, sums)
+    names = {check.name for check in run.checks}
+    before = [one for name, one in past.checks.items() if name not in names]
+    sums = {"inputs": inputs, "outputs": {**past.outputs, **outputs_of(call.outdir, run.checks)}}
+    setting = Setting(call.outdir, configuration, str(call.cfg), call.program, call.core, call.basedir, sums, before)
     try:
         write_reports(setting, run)
     except OSError as fault:

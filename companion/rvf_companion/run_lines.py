@@ -15,6 +15,10 @@ CODES = {
 }
 
 
+# The last lines of the subcommands.
+LAST = r"total pass \d+ fail \d+ spent \d+ skip \d+|bench \d+ pass \d+ fail \d+ spent \d+|refuted \d+"
+
+
 @dataclass
 class Check:
     """A check with its verdict and the seconds that it took, or its batch."""
@@ -33,6 +37,7 @@ class Run:
     checks: list[Check] = field(default_factory=list)
     notes: list[str] = field(default_factory=list)
     skipped: list[str] = field(default_factory=list)
+    listed: list[str] = field(default_factory=list)
     others: list[str] = field(default_factory=list)
     refusal: str = ""
     total: str = ""
@@ -51,8 +56,10 @@ class Run:
             self.notes.append(line[5:])
         elif re.fullmatch(r"skip \S+", line):
             self.skipped.append(line[5:])
-        elif re.fullmatch(r"total pass \d+ fail \d+ spent \d+ skip \d+|bench \d+ pass \d+ fail \d+ spent \d+|refuted \d+", line):
+        elif re.fullmatch(LAST, line):
             self.total = line
+        elif re.fullmatch(r"[a-z_0-9]+_ch\d+", line):
+            self.listed.append(line)
         elif not self.checks and parted(line):
             self.refusal = line
         elif line.strip():
@@ -67,11 +74,11 @@ class Run:
 
     def is_ours(self) -> bool:
         """Whether any line was one of rvf."""
-        return bool(self.checks or self.notes or self.skipped or self.refusal or self.total)
+        return bool(self.checks or self.notes or self.skipped or self.listed or self.refusal or self.total)
 
     def ended(self) -> bool:
-        """Whether the last line came."""
-        return bool(self.total or self.refusal)
+        """Whether the last line came; a list of checks has none of its own."""
+        return bool(self.total or self.refusal or self.listed)
 
     def end(self) -> str:
         """How the run ended, in words."""
@@ -79,8 +86,8 @@ class Run:
             return f"code {self.code}: {CODES[self.code]}"
         if self.refusal:
             return f"refused: {self.refusal}"
-        if self.total:
-            return self.total
+        if self.total or self.listed:
+            return self.total or f"{len(self.listed)} checks are asked for"
         said = f" (code {self.code})" if self.code is not None else ""
         return (f"the run ended without its last line{said}: it was stopped, a file or the output could not be written "
                 "(code 8), or no memory was left (code 11)")

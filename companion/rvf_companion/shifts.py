@@ -10,7 +10,8 @@ from .text import Text, in_parts
 
 
 def chosen(text: Text, old: str, by: Bit, yes: list[Bit], no: list[Bit]) -> list[Bit]:
-    """A vector that is `yes` where the bit is 1 and `no` where it is 0; bits that are equal in both are left as they are."""
+    """A vector that is `yes` where the bit is 1 and `no` where it is 0; bits that are equal in both are left as they
+    are."""
     if by in ("0", "1"):
         return yes if by == "1" else no
     result: list[Bit] = [a if a == b else "?" for a, b in zip(yes, no)]
@@ -19,7 +20,7 @@ def chosen(text: Text, old: str, by: Bit, yes: list[Bit], no: list[Bit]) -> list
     for part in in_parts(differing):
         expression = (f"{text.spell([by])} ? {text.spell([yes[index] for index in part])}"
                       f" : {text.spell([no[index] for index in part])}")
-        text.weights["shift"] += len(part)
+        text.weights[old] += len(part)
         made += text.made(old, expression, len(part))
     for index, bit in zip(differing, made):
         result[index] = bit
@@ -40,7 +41,8 @@ def moved_right(text: Text, old: str, bits: list[Bit], by: list[Bit], width: int
 
 
 def moved_left(text: Text, old: str, bits: list[Bit], by: list[Bit], width: int, above: Bit, below: Bit) -> list[Bit]:
-    """The lowest `width` bits of `bits` moved up by the number; `bits` go on as `above`, and `below` comes from below."""
+    """The lowest `width` bits of `bits` moved up by the number; `bits` go on as `above`, and `below` comes from
+    below."""
     low = [bit for index, bit in enumerate(by) if 1 << index < width]
     high = [bit for bit in by[len(low):] if bit != "0"]
     current = list(bits)
@@ -56,9 +58,9 @@ def moved_left(text: Text, old: str, bits: list[Bit], by: list[Bit], width: int,
 def any_of(text: Text, old: str, bits: list[Bit]) -> Bit:
     """A bit that is 1 where one of these is."""
     bits = [bit for bit in bits if bit != "0"]
-    if not bits:
-        return "0"
+    if not bits or "1" in bits:
+        return "1" if bits else "0"
     if len(bits) == 1:
         return bits[0]
-    text.weights["shift"] += len(bits)
+    text.weights[old] += len(bits)
     return text.made(old, " | ".join(f"(|{text.spell(part)})" for part in in_parts(bits)), 1)[0]

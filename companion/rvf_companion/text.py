@@ -17,6 +17,11 @@ MOST_NAMES = 200_000
 MOST_WEIGHT = 20_000_000
 
 
+# What a part-select finds past the range of its vector, and a division by 0 gives: an undefined bit that no netlist
+# has.
+PAST = "X"
+
+
 class Refused(Exception):
     """What can't be converted, each by its name and place."""
 
@@ -41,8 +46,8 @@ class Signal:
 
 @dataclass(frozen=True)
 class Start:
-    """A register or a memory: its name, that in the netlist with the bits that it has of it, and its words if it has some.
-    Some bit of it may be without an initial value."""
+    """A register or a memory: its name, that in the netlist with the bits that it has of it, and its words if it has
+    some. Some bit of it may be without an initial value."""
     name: str
     old: str
     low: int
@@ -80,8 +85,10 @@ class Text:
         self.starts: list[Start] = []
         self.free_names: list[Signal] = []
         self.undefined = 0
+        self.past = 0
+        self.partial = 0
         self.register_bits = 0
-        self.memory_words = 0
+        self.memory_words: Counter[str] = Counter()
         self.weights: Counter[str] = Counter()
         self._fresh = -1_000_000_000
 
@@ -129,10 +136,14 @@ class Text:
         self.items.append(f"assign {signal.name} = {expression};")
         return bits
 
-    def free(self, count: int) -> str:
-        """A new name that is free in each cycle, for bits that are undefined."""
-        self.undefined += count
-        return self.declare(self.names.take("undefined"), self.fresh_bits(count), "anyseq").name
+    def free(self, count: int, is_past: bool = False) -> str:
+        """A new name that is free in each cycle, for bits that are undefined, or past a range or a division by 0."""
+        if is_past:
+            self.past += count
+        else:
+            self.undefined += count
+        base = "undefined_past" if is_past else "undefined"
+        return self.declare(self.names.take(base), self.fresh_bits(count), "anyseq").name
 
     def spell(self, bits: list[Bit]) -> str:
         """The expression of a list of bits, the lowest first; undefined bits become new free names."""
@@ -166,8 +177,8 @@ class Text:
         """The spelling of one run: digits, a free name, copies of a bit, or a part of a signal."""
         top = bits[-1]
         if isinstance(top, str):
-            if top == "x":
-                return self.free(len(bits))
+            if top in ("x", PAST):
+                return self.free(len(bits), top == PAST)
             if top == "z":
                 raise Refused(["a tristate: a bit of high impedance"])
             return digits("".join(str(bit) for bit in reversed(bits)))

@@ -32,15 +32,17 @@ class Core:
 
 
 def macros(core: Core) -> str:
-    """The text that stands before the files: the predefined macros of docs/USER.md, and those of the configuration. Yosys
-    defines FORMAL by itself, which rvf doesn't, and with which some cores assume more than they say else."""
+    """The text that stands before the files: the predefined macros of docs/USER.md, and those of the configuration.
+    Yosys defines FORMAL and YOSYS by itself, which rvf doesn't; with FORMAL some cores assume more than they say
+    else."""
     many = core.channels
     names = [(f"rvfi_{name}", width) for name, width in FIELDS]
     outputs = ", ".join(f"output [{many * width - 1}:0] {name}" for name, width in names)
     wires = " ".join(f"wire [{many * width - 1}:0] {name};" for name, width in names)
     joined = ", ".join(f".{name}({name})" for name, _ in names)
-    lines = ["`undef FORMAL", "`define RISCV_FORMAL", f"`define RISCV_FORMAL_NRET {many}", "`define RISCV_FORMAL_XLEN 32",
-             "`define RISCV_FORMAL_ILEN 32", "`define rvformal_rand_reg (* anyseq *) reg",
+    lines = ["`undef FORMAL", "`undef YOSYS", "`define RISCV_FORMAL", f"`define RISCV_FORMAL_NRET {many}",
+             "`define RISCV_FORMAL_XLEN 32", "`define RISCV_FORMAL_ILEN 32",
+             "`define rvformal_rand_reg (* anyseq *) reg",
              "`define rvformal_const_rand_reg (* anyconst *) reg", "`define rvformal_rand_const_reg (* anyconst *) reg",
              f"`define RVFI_OUTPUTS {outputs}", f"`define RVFI_WIRES {wires}", f"`define RVFI_CONN {joined}"]
     if core.compressed:
@@ -48,9 +50,9 @@ def macros(core: Core) -> str:
     return "\n".join(lines + core.defines) + "\n"
 
 
-def script(core: Core, prelude: Path, before: Path, after: Path) -> str:
+def script(core: Core, dialect: str, prelude: Path, before: Path, after: Path) -> str:
     """The commands: the netlist is written before and after asynchronous resets are taken away."""
-    lines = [f"read_verilog -formal -sv {quoted(prelude)}"]
+    lines = [f"read_verilog -formal {dialect} {quoted(prelude)}"]
     if core.parameters:
         sets = " ".join(f"-set {name} {value}" for name, value in core.parameters.items())
         lines.append(f"chparam {sets} {core.top}")
@@ -72,13 +74,27 @@ def run(core: Core, folder: Path) -> tuple[Path, Path]:
     if missing:
         raise YosysFailed(f"no such file: {', '.join(missing)}")
     prelude.write_text(macros(core) + "".join(f"`include \"{path}\"\n" for path in core.files))
-    commands = folder / "convert.ys"
-    commands.write_text(script(core, prelude, before, after))
+    fault = ""
+    # A core of Verilog may have names that are words of SystemVerilog.
+    for dialect in ("-sv", ""):
+        commands = folder / "convert.ys"
+        commands.write_text(script(core, dialect, prelude, before, after))
+        said = refusal(commands)
+        if not said:
+            return before, after
+        fault = fault or said
+        if "syntax error" not in said:
+            break
+    raise YosysFailed(fault)
+
+
+def refusal(commands: Path) -> str:
+    """Runs the commands; what Yosys says against the files, or nothing where it reads them."""
     try:
         done = subprocess.run(["yosys", "-q", "-s", str(commands)], capture_output=True, text=True, check=False)
     except FileNotFoundError:
         raise YosysFailed("yosys isn't there: install Debian's package yosys") from None
-    if done.returncode:
-        said = [line for line in (done.stdout + done.stderr).splitlines() if re.search(r"ERROR|error", line)]
-        raise YosysFailed("\n".join(said) or (done.stdout + done.stderr)[-2000:])
-    return before, after
+    if not done.returncode:
+        return ""
+    lines = (done.stdout + done.stderr).splitlines()
+    return "\n".join(line for line in lines if re.search(r"ERROR|error", line)) or "\n".join(lines)[-2000:]

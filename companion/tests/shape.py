@@ -1,5 +1,5 @@
-"""A look at a written module, line by line: it has no forms but those that the converter means to write, each name that is
-used is declared, and each wire is driven once."""
+"""A look at a written module, line by line: it has no forms but those that the converter means to write, each name
+that is used is declared, and each wire is driven once."""
 from __future__ import annotations
 
 import re
@@ -10,7 +10,8 @@ TARGET = rf"({NAME})((?:\[[^=]*\])*)"
 FORMS = [
     ("head", re.compile(rf"module ({NAME}) \($")),
     ("port", re.compile(rf"  (input|output|output reg) (?:\[\d+:0\] )?({NAME}),?$")),
-    ("declared", re.compile(rf"  (wire|reg|\(\* anyseq \*\) reg|\(\* anyconst \*\) reg) (?:\[\d+:0\] )?({NAME})( \[\d+:\d+\])?;$")),
+    ("declared", re.compile(r"  (wire|reg|\(\* anyseq \*\) reg|\(\* anyconst \*\) reg) (?:\[\d+:0\] )?"
+                            rf"({NAME})( \[\d+:\d+\])?;$")),
     ("assign", re.compile(rf"  assign {TARGET} = (.*);$")),
     ("start", re.compile(rf"  (?:initial|  ) ?{TARGET} = (\d+'[bh][0-9a-f]+);$")),
     ("clocked", re.compile(rf"  always @\(posedge {NAME}\) {TARGET} <= (.*);$")),
@@ -19,7 +20,8 @@ FORMS = [
     ("within", re.compile(rf"    (?:if \(([^()]*)\) )?{TARGET} (?:<=|=) (.*);$")),
     ("end", re.compile(r"(  end|endmodule|\);|//.*)$")),
 ]
-SIGNS = re.compile(rf"\s+|\$signed\b|\d+'[bh][0-9a-f]+|\d+|{NAME}|<=|>=|==|!=|<<|>>>|>>|&&|\|\||~\^|[-+*&|^~!<>?:(){{}}\[\],]")
+SIGNS = re.compile(rf"\s+|\$signed\b|\d+'[bh][0-9a-f]+|\d+|{NAME}|<=|>=|==|!=|<<|>>>|>>|&&|\|\||~\^"
+                   r"|[-+*&|^~!<>?:(){}\[\],]")
 
 
 def problems(text: str) -> list[str]:

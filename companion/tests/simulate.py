@@ -1,7 +1,7 @@
 """Compares a core with what was converted of it, cycle by cycle, in Icarus Verilog.
 
-Both sides begin with the same random numbers in registers and words without a value, and get the same random inputs. Outputs
-are compared with `!==`; an output bit that is x on the original's side alone counts as equal and is counted.
+Both sides begin with the same random numbers in registers and words without a value, and get the same random inputs.
+Outputs are compared with `!==`; an output bit that is x on the original's side alone counts as equal and is counted.
 """
 from __future__ import annotations
 
@@ -32,8 +32,8 @@ def random_bits(width: int) -> str:
 
 
 def begin(start: Start, lines: list[str], is_named: bool) -> None:
-    """The lines that give both sides one random number in a register, or in each word of a memory; a register that the text
-    has no name for is on the converted side alone."""
+    """The lines that give both sides one random number in a register, or in each word of a memory; a register that
+    the text has no name for is on the converted side alone."""
     old = ".".join(part if re.fullmatch(r"\w+", part) else f"\\{part} " for part in start.old.split("."))
     for index in start.words if start.words is not None else [None]:
         word = "" if index is None else f"[{index}]"
@@ -78,16 +78,19 @@ def bench(core: Core, netlist: Netlist, made: Converted, cycles: int) -> str:
         f"      {{{', '.join(f'in_{port.name}' for port in inputs)}}} = given[cycle];",
         *("      " + line for line in free), "      #4;",
         "      if (left !== right)", f"        for (place = 0; place < {many}; place = place + 1)",
-        "          if (left[place] !== right[place]) begin", "            if (left[place] === 1'bx) unknown = unknown + 1;",
-        "            else begin", "              if (different < 5) $display(\"bit %0d at %0d: %b %b\", place, cycle, left[place], right[place]);",
+        "          if (left[place] !== right[place]) begin",
+        "            if (left[place] === 1'bx) unknown = unknown + 1;", "            else begin",
+        "              if (different < 5)",
+        '                $display("bit %0d at %0d: %b %b", place, cycle, left[place], right[place]);',
         "              different = different + 1;", "            end", "          end",
         "      clock = 1; #4; clock = 0; #1;", "    end",
-        '    $display("cycles %0d different %0d unknown %0d", cycle, different, unknown);', "    $finish;", "  end", "endmodule", ""])
+        '    $display("cycles %0d different %0d unknown %0d", cycle, different, unknown);', "    $finish;", "  end",
+        "endmodule", ""])
 
 
 def given(netlist: Netlist, made: Converted, cycles: int, values: dict[str, list[int]], seed: int) -> str:
-    """The inputs of each cycle in digits of base 16: reset is 1 at first and in some later cycles, other inputs are random,
-    most often one of the values that are given for them."""
+    """The inputs of each cycle in digits of base 16: reset is 1 at first and in some later cycles, other inputs are
+    random, most often one of the values that are given for them."""
     chance = random.Random(seed)
     inputs = [port for port in netlist.ports if port.direction == "input" and port.name != made.clock]
     lines = []

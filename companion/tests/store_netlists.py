@@ -1,4 +1,5 @@
-"""Makes the stored netlists of data/netlists anew, from the folder of the companion: `python3 -m tests.store_netlists [NAME ..]`."""
+"""Makes the stored netlists of data/netlists anew, from the folder of the companion:
+`python3 -m tests.store_netlists [NAME ..]`."""
 from __future__ import annotations
 
 import shutil

@@ -36,8 +36,9 @@ class NamesOfNetlists(unittest.TestCase):
 
     def test_legal(self) -> None:
         """Dots, backslashes and signs become underscores, words of Verilog get one."""
-        for old, new in [("uut.pc", "uut__pc"), ("\\a+b", "a_b"), ("$add$/tmp/core.v:3$5_Y", "add_core__v_3_5_Y"), ("reg", "reg_"),
-                         ("logic", "logic_"), ("3d", "n_3d"), ("$0\\pc[31:0]", "pc_next"), ("$1\\x[3:0]$17", "x_next"),
+        for old, new in [("uut.pc", "uut__pc"), ("\\a+b", "a_b"), ("$add$/tmp/core.v:3$5_Y", "add_core__v_3_5_Y"),
+                         ("reg", "reg_"), ("logic", "logic_"), ("3d", "n_3d"), ("$0\\pc[31:0]", "pc_next"),
+                         ("$1\\x[3:0]$17", "x_next"),
                          ("$flatten\\uut.$procmux$5", "uut__procmux_5"), ("$$", "unnamed")]:
             self.assertEqual(legal(old), new)
 
@@ -62,8 +63,8 @@ class Written(unittest.TestCase):
         """Each declared name is legal and stands once, and no vector is above 128 bits."""
         for name in ("styled", "states", "serial", "operators"):
             made = converted(name)
-            found = re.findall(r"^  (?:wire|reg|\(\* any\w+ \*\) reg) (?:\[(\d+):0\] )?([A-Za-z_]\w*)(?: \[\d+:\d+\])?;",
-                               made.text, re.M)
+            found = re.findall(r"^  (?:wire|reg|\(\* any\w+ \*\) reg) (?:\[(\d+):0\] )?([A-Za-z_]\w*)"
+                               r"(?: \[\d+:\d+\])?;", made.text, re.M)
             names = [spelled for _, spelled in found]
             self.assertEqual(len(names), len(set(names)))
             self.assertFalse(RESERVED & set(names))
@@ -92,8 +93,8 @@ class Written(unittest.TestCase):
     def test_start_in_part(self) -> None:
         """Initial values that are undefined in part are given bit by bit."""
         text = converted("operators").text
-        for part in ("initial half[0] = 1'b1;", "initial half[1] = 1'b0;", "initial half[3] = 1'b1;", "initial half[10] = 1'b0;",
-                     "words_0[4][1] = 1'b1;"):
+        for part in ("initial half[0] = 1'b1;", "initial half[1] = 1'b0;", "initial half[3] = 1'b1;",
+                     "initial half[10] = 1'b0;", "words_0[4][1] = 1'b1;"):
             self.assertIn(part, text)
         self.assertNotIn("initial half[4]", text)
 
@@ -150,7 +151,8 @@ class Choices(unittest.TestCase):
     def test_merged(self) -> None:
         """Bits that are equal become one; undefined bits don't."""
         same: dict = {}
-        made = merged_choices([self.choice("one", 1, ["1", "1", "x", "x", 5], ["0", "0", "0", "0", 5], [20, 21, 22, 23, 24])], same)
+        wide = self.choice("one", 1, ["1", "1", "x", "x", 5], ["0", "0", "0", "0", 5], [20, 21, 22, 23, 24])
+        made = merged_choices([wide], same)
         self.assertEqual((made[0].outputs["Y"], same), ([20, 22, 23], {21: 20, 24: 5}))
 
 
@@ -161,17 +163,20 @@ class RefusedByName(unittest.TestCase):
         """One netlist for each cause."""
         for name, words in [("latch", "a latch: "), ("falling", "a register of the negative edge: "),
                             ("clocks", "a register of a second clock: "), ("derived", "a clock that is no input"),
-                            ("tristate", "a tristate"), ("wide", "a port of 201 bits: a of wide"),
-                            ("circle", "a loop without a register"), ("large", "2097152 bits of registers, above 65536"),
+                            ("tristate", "a tristate: q at data/refused/tristate.v:2"),
+                            ("wide", "a port of 201 bits: a at data/refused/wide.v:1"),
+                            ("drivers", "two drivers of a bit: "),
+                            ("circle", "a loop without a register"),
+                            ("large", "2097152 bits of registers, above 65536"),
                             ("late", "an assumption of a block with an asynchronous event")]:
             with self.subTest(name):
                 problems = refused(name)
                 self.assertTrue(any(words in problem for problem in problems), problems)
 
     def test_arithmetic(self) -> None:
-        """Division, remainder and power, all told at once, and a sum that can't be cut."""
+        """A power and a wide division, told at once, and a sum that can't be cut."""
         said = "\n".join(refused("division"))
-        for part in ("a division", "a remainder", "a power", "division.v:2"):
+        for part in ("a division of 128 bits", "a power: p at data/refused/division.v:2"):
             self.assertIn(part, said)
         self.assertIn("arithmetic of 160 bits", "\n".join(refused("wide")))
 

@@ -13,7 +13,7 @@ from rvf_companion.from_yosys import main as from_yosys
 from rvf_companion.netlist import read
 from rvf_companion.yosys import Core, run
 
-from . import cores, debian, simulate
+from . import cases, cores, debian, simulate
 from .needs import needs
 
 
@@ -37,6 +37,14 @@ class EqualInSimulation(unittest.TestCase):
     def test_mini(self) -> None:
         """The small core of the examples."""
         self.of_here("mini")
+
+    @needs("yosys", "iverilog", "time")
+    def test_tiny(self) -> None:
+        """The core of two stages."""
+        with tempfile.TemporaryDirectory() as folder:
+            path = Path(folder) / "tiny_source.v"
+            path.write_text(cases.tiny().text)
+            self.compare(Core("tiny", [path]), {"idata": cores.KNOWN["tiny"]})
 
     @needs("yosys", "iverilog", "time")
     def test_styled(self) -> None:
@@ -64,8 +72,8 @@ class EqualInSimulation(unittest.TestCase):
         with tempfile.TemporaryDirectory() as folder:
             path = debian.fetch("nextpnr", debian.PICORV32, Path(folder))
             core = Core("picorv32", [path], parameters={"BARREL_SHIFTER": "1"})
-            self.compare(core, {"mem_rdata": cores.words(*cores.MOST, "any"), "mem_ready": [(1, 0), (0, 1)], "irq": [(0, 0)],
-                                "pcpi_wr": [(0, 0)], "pcpi_ready": [(0, 0)], "pcpi_wait": [(0, 0)]})
+            self.compare(core, {"mem_rdata": cores.words(*cores.MOST, "any"), "mem_ready": [(1, 0), (0, 1)],
+                                "irq": [(0, 0)], "pcpi_wr": [(0, 0)], "pcpi_ready": [(0, 0)], "pcpi_wait": [(0, 0)]})
 
 
 class Command(unittest.TestCase):
@@ -75,32 +83,83 @@ class Command(unittest.TestCase):
         """A folder of its own."""
         kept = tempfile.TemporaryDirectory()
         self.addCleanup(kept.cleanup)
-        self.folder = Path(kept.name)
+        self.folder = Path(kept.name) / "out"
+        self.folder.mkdir()
+        self.source = self.folder.parent / "core.v"
+        self.said = ""
 
     def convert(self, text: str, *words: str) -> tuple[int, str]:
         """The code of the command over a text, and what it says of what is wrong."""
-        (self.folder / "core.v").write_text(text)
-        with contextlib.redirect_stdout(io.StringIO()), contextlib.redirect_stderr(io.StringIO()) as err:
-            code = from_yosys(["--out", str(self.folder), *words, str(self.folder / "core.v")])
+        self.source.write_text(text)
+        with contextlib.redirect_stdout(io.StringIO()) as out, contextlib.redirect_stderr(io.StringIO()) as err:
+            code = from_yosys(["--out", str(self.folder), *words, str(self.source)])
+        self.said = out.getvalue()
         return code, err.getvalue()
+
+    @needs("yosys")
+    def test_counts(self) -> None:
+        """It prints how many undefined bits there were, and what became of them."""
+        text = ("module core (input clock, input [1:0] a, input d, output reg [2:0] q, output reg [3:0] r, output w);\n"
+                "initial r[1:0] = 2'b10;\nwire gone = 1'bx & d;\n"
+                "always @* case (a) 0: q = 1; 1: q = 2; default: q = 3'bx; endcase\n"
+                "always @(posedge clock) r <= {r[2:0], d};\nendmodule\n")
+        self.assertEqual(self.convert(text, "--top", "core"), (0, ""))
+        self.assertIn("3 undefined bits and 1 bits without a driver became free names", self.said)
+        self.assertIn("1 initial values that are undefined in part", self.said)
+
+    @needs("yosys")
+    def test_own_file(self) -> None:
+        """A file that is read isn't written over, whatever its folder is called."""
+        text = "module core (input a, output q);\nassign q = a;\nendmodule\n"
+        code, said = self.convert(text, "--top", "core", "--out", str(self.folder / ".."))
+        self.assertEqual((code, self.source.read_text()), (1, text))
+        self.assertIn("is one of the files that are read: give another folder by --out", said)
+
+    @needs("yosys")
+    def test_words_of_systemverilog(self) -> None:
+        """A core of Verilog may have names that are words of SystemVerilog."""
+        text = "module core (input logic, input do, output bit);\nassign bit = logic & do;\nendmodule\n"
+        code, said = self.convert(text, "--top", "core")
+        self.assertEqual(code, 1)
+        self.assertIn("a port with a name that may not stay: logic at", said)
+        text = "module core (input a, output q);\nwire bit = a;\nassign q = bit;\nendmodule\n"
+        self.assertEqual(self.convert(text, "--top", "core"), (0, ""))
+
+    def test_bad_words(self) -> None:
+        """A folder or a file that isn't there, a netlist that is none, a module that isn't in it."""
+        for words, part in [(["--out", "nowhere", "x.v"], "nowhere is no folder"), (["x.v"], "no such file: x.v"),
+                            (["--netlist", __file__], "is no netlist of write_json"),
+                            (["--netlist", str(cores.FOLDER / "data/netlists/wide.json")], "has no module core"),
+                            ([], "give FILES, or --netlist"), (["--cfg", "nowhere.cfg", "x.v"], "nowhere.cfg")]:
+            with contextlib.redirect_stderr(io.StringIO()) as err:
+                code = from_yosys(["--out", str(self.folder), "--top", "core", *words])
+            self.assertEqual((code, list(self.folder.iterdir())), (1, []))
+            self.assertIn(part, err.getvalue())
 
     @needs("yosys")
     def test_kinds(self) -> None:
         """A wrapper is converted once for each kind with defines of its own."""
-        (self.folder / "checks.cfg").write_text("[defines]\n`define WIDTH 8\n[defines reg]\n`define DEEP\n[depth]\nill 1\n")
+        cfg = self.folder.parent / "checks.cfg"
+        cfg.write_text("[defines]\n`define WIDTH 8\n[defines reg]\n`define DEEP\n[depth]\nill 1\nreg 1 2\n"
+                       "[verilog-files]\ncore.v\nother.v\n")
         text = ("module rvfi_wrapper (input clock, input [`WIDTH-1:0] a, output [`WIDTH-1:0] q);\n"
                 "`ifdef DEEP\nassign q = ~a;\n`else\nassign q = a;\n`endif\nendmodule\n")
-        self.assertEqual(self.convert(text, "--top", "rvfi_wrapper", "--cfg", str(self.folder / "checks.cfg")), (0, ""))
+        self.assertEqual(self.convert(text, "--top", "rvfi_wrapper", "--cfg", str(cfg)), (0, ""))
+        for name, kinds in (("rvfi_wrapper", ["ill 1", "# left out: reg 1 2"]),
+                            ("rvfi_wrapper.reg", ["# left out: ill 1", "reg 1 2"])):
+            self.assertEqual((self.folder / f"{name}.cfg").read_text().splitlines()[5:],
+                             [*kinds, "[verilog-files]", f"{self.folder}/{name}.v", "# left out: other.v"])
         self.assertIn("assign q = a;", (self.folder / "rvfi_wrapper.v").read_text())
         self.assertIn("assign q = ~a;", (self.folder / "rvfi_wrapper.reg.v").read_text())
         self.assertEqual(json.loads((self.folder / "rvfi_wrapper.names.json").read_text())["a"], "a")
 
     @needs("yosys")
     def test_macros(self) -> None:
-        """Neither FORMAL nor SYNTHESIS is defined, and the macros of the manual are."""
-        text = ("module core (input clock, `RVFI_OUTPUTS);\n`ifdef FORMAL\nalways @* assume (0);\n`endif\n"
-                "`ifdef SYNTHESIS\nalways @* assume (0);\n`endif\n`rvformal_rand_reg [31:0] word;\n"
-                "assign rvfi_insn = word;\nendmodule\n")
+        """Neither FORMAL, SYNTHESIS nor YOSYS is defined, and the macros of the manual are."""
+        unknown = "".join(f"`ifdef {name}\nalways @* assume (0);\n`endif\n"
+                          for name in ("FORMAL", "SYNTHESIS", "YOSYS"))
+        text = (f"module core (input clock, `RVFI_OUTPUTS);\n{unknown}"
+                "`rvformal_rand_reg [31:0] word;\nassign rvfi_insn = word;\nendmodule\n")
         self.assertEqual(self.convert(text, "--top", "core"), (0, ""))
         made = (self.folder / "core.v").read_text()
         self.assertNotIn("assume", made)
@@ -110,10 +169,10 @@ class Command(unittest.TestCase):
     @needs("yosys")
     def test_refused(self) -> None:
         """What is refused is told with its place, and nothing is written."""
-        code, said = self.convert("module core (input clock, input d, output reg q);\n  always @* if (clock) q = d;\nendmodule\n",
-                                  "--top", "core")
+        text = "module core (input clock, input d, output reg q);\n  always @* if (clock) q = d;\nendmodule\n"
+        code, said = self.convert(text, "--top", "core")
         self.assertEqual(code, 1)
-        self.assertIn("a latch: ", said)
+        self.assertIn("a latch: q at ", said)
         self.assertIn("core.v:2", said)
         self.assertFalse((self.folder / "core.names.json").exists())
         code, said = self.convert("module core (input a);\n  wire 3;\nendmodule\n", "--top", "core")
