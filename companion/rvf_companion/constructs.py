@@ -1,7 +1,7 @@
 """What a text has where the parser refuses a token, by a look at the text, and what to write instead.
 
-A refusal `parse 1` names a place and no word: these rules guess by the token there and what stands before it. Nothing here is
-trusted by a verdict.
+A refusal `parse 1` names a place and no word: these rules guess by the token there and what stands before it. Nothing
+here is trusted by a verdict.
 """
 from __future__ import annotations
 
@@ -18,15 +18,17 @@ class Construct:
     instead: str
 
 
-# The first rule that fits is taken. `before` is what the text up to the place ends with, blanks and comments aside; `at` is
-# what begins at the place.
+# The first rule that fits is taken. `before` is what the text up to the place ends with, blanks and comments aside;
+# `at` is what begins at the place.
 CONSTRUCTS = [
     Construct(r"\b(begin|else|;|\)|:)$", r"for\b", "a `for` loop in a block",
               "write the turns out, or make the block's parts by a generate `for`"),
     Construct(r"", r"(while|repeat|forever)\b", "a loop in a block", "write the turns out"),
-    Construct(r"\b(parameter|localparam)$", r"(integer|real|time|realtime|string|int|logic|bit)\b", "a parameter with a type",
+    Construct(r"\b(parameter|localparam)$", r"(integer|real|time|realtime|string|int|logic|bit)\b",
+              "a parameter with a type",
               "write `localparam [31:0] N = ..`, or leave the type out"),
-    Construct(r"\b(parameter|localparam)(\s+signed)?(\s*\[[^\]]*\])?\s*[A-Za-z_]\w*$", r"[A-Za-z_]", "a parameter with a type",
+    Construct(r"\b(parameter|localparam)(\s+signed)?(\s*\[[^\]]*\])?\s*[A-Za-z_]\w*$", r"[A-Za-z_]",
+              "a parameter with a type",
               "write `localparam [31:0] N = ..`, or leave the type out"),
     Construct(r"@\s*\(\s*[A-Za-z_][\w$]*$", r"[),]", "a list of events by names", "write `always @*`"),
     Construct(r"@\s*\([^)]*$", r"", "a list of events", "write `always @*`, or one `posedge` of the clock"),
@@ -34,8 +36,8 @@ CONSTRUCTS = [
     Construct(r"\bmodule\s+\w+\s*(#\s*\([^;]*\)\s*)?\($", r"[A-Za-z_.]", "an old list of ports, names alone",
               "write the ports with their directions: `module m (input a, output [3:0] b);`"),
     Construct(r"(^|;|\bendmodule)$", r"\(\*", "an attribute before a module", "remove it"),
-    Construct(r"\b[A-Za-z_]\w*\s+[A-Za-z_]\w*\s*\((.*,)?$", r"(?!\.)[A-Za-z_0-9({]", "ports of an instance by their order",
-              "name them: `.port(value)`"),
+    Construct(r"\b[A-Za-z_]\w*\s+[A-Za-z_]\w*\s*\((.*,)?$", r"(?!\.)[A-Za-z_0-9({]",
+              "ports of an instance by their order", "name them: `.port(value)`"),
     Construct(r"#\s*\((.*,)?$", r"(?!\.|parameter)[A-Za-z_0-9({]", "parameters of an instance by their order",
               "name them: `#(.WIDTH(8))`"),
     Construct(r"[\w\]]$", r"\.", "a hierarchical name", "bring the value out by a port"),
@@ -54,7 +56,8 @@ CONSTRUCTS = [
     Construct(r"", r"(and|or|not|nand|nor|xor|xnor|buf)\b", "a gate", "write it by `assign` and an operator"),
     Construct(r"", r"[A-Za-z_]\w*\s*\(", "a call of a function or a task", "write out what it does"),
     Construct(r"[\w)\]}]$", r"(module|endmodule|wire|reg|assign|always|output|input|end|else)\b",
-              "a new item or statement where the one before it hasn't ended", "put a semicolon at the end of what stands before"),
+              "a new item or statement where the one before it hasn't ended",
+              "put a semicolon at the end of what stands before"),
 ]
 
 

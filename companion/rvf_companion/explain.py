@@ -10,10 +10,11 @@ from .explanation import explain
 def main(words: list[str] | None = None) -> int:
     """Explains a line that is given, or each line of standard input; lines of other kinds pass through as they are."""
     asked = argparse.ArgumentParser(prog="explain.py", description=(
-        "Says a refusal line of rvf in words, with the text's line and a caret under the place. Run it in the folder in which "
-        "rvf was run. Nothing of it is trusted by a verdict."))
+        "Says a refusal line of rvf in words, with the text's line and a caret under the place. Run it in the folder "
+        "in which rvf was run. Nothing of it is trusted by a verdict."))
     asked.add_argument("--cfg", default="", metavar="CFG", help="the configuration, whose lines are shown too")
-    asked.add_argument("line", nargs="*", metavar="LINE", help="the line, as one word or several; standard input without it")
+    asked.add_argument("line", nargs="*", metavar="LINE",
+                       help="the line, as one word or several; standard input without it")
     given = asked.parse_args(words)
     try:
         for line in [" ".join(given.line)] if given.line else sys.stdin:

@@ -1,4 +1,5 @@
-"""Refusal lines of rvf in words, with the text's line and a caret under the place. Nothing here is trusted by a verdict."""
+"""Refusal lines of rvf in words, with the text's line and a caret under the place. Nothing here is trusted by a
+verdict."""
 from __future__ import annotations
 
 import json
@@ -31,6 +32,9 @@ def parted(line: str) -> Refusal | None:
     found = re.fullmatch(r"config (\d+) (\d+) (.*)", line)
     if found and f"config {found[1]}" in TABLE:
         return Refusal(f"config {found[1]}", "", int(found[2]), 0, "" if found[3] == "-" else found[3])
+    found = re.fullmatch(r"code (\d+)", line)
+    if found and line in TABLE:
+        return Refusal(line, "", 0, 0, "")
     for key in ("refused cnf", "refused lrat", "refused step", "read fault", "absent", "heavy", "usage:"):
         if line.startswith(key + " "):
             return Refusal(key, "", 0, 0, line[len(key) + 1:])
@@ -63,15 +67,16 @@ def explain(line: str, cfg: str = "") -> list[str]:
         return [line.rstrip("\n")]
     entry = TABLE[refusal.key]
     file = refusal.file or (cfg if refusal.key.startswith("config") else "")
-    place = f"{file}:{refusal.line}" + (f":{refusal.column}" if refusal.column else "") + ": " if file and refusal.line else ""
-    what = entry["refusal"] or line.rstrip("\n")
-    lines = [place + what + (f": {refusal.detail}" if refusal.detail and entry["refusal"] else "")]
+    place = ":".join(str(part) for part in (file, refusal.line, refusal.column) if part)
+    said = [place] if file and refusal.line else []
+    said += [entry["refusal"], refusal.detail] if entry["refusal"] else [line.rstrip("\n")]
+    lines = [": ".join(part for part in said if part)]
     text = text_of(file) if file else ""
     lines += shown(text, refusal.line, refusal.column)
     if refusal.key == "parse 1":
         found = construct_at(text, refusal.line, refusal.column)
         if found:
-            return lines + [f"this looks like {found.name}, which the subset leaves out", f"what to do: {found.instead}"]
+            lines.append(f"this looks like {found.name}: {found.instead}")
     for other in re.findall(r"([^,\s]+):(\d+):(\d+)", refusal.detail):
         lines += [f"and {other[0]}:{other[1]}:{other[2]}"] + shown(text_of(other[0]), int(other[1]), int(other[2]))
     return lines + [f"what to do: {entry['advice']}"]

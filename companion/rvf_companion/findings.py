@@ -27,8 +27,9 @@ class Retired:
     def told(self) -> str:
         """The retirement in words."""
         fields = self.fields
-        return (f"cycle {self.cycle}: order {fields['order']}, {assembler(fields['insn'])} at 0x{fields['pc_rdata']:08x}"
-                f", next 0x{fields['pc_wdata']:08x}, x{fields['rd_addr']} = 0x{fields['rd_wdata']:08x}")
+        return (f"cycle {self.cycle}: order {fields['order']}, {assembler(fields['insn'])} at "
+                f"0x{fields['pc_rdata']:08x}, next 0x{fields['pc_wdata']:08x}, "
+                f"x{fields['rd_addr']} = 0x{fields['rd_wdata']:08x}")
 
 
 def retirements(dump: Dump, asked: Asked) -> list[Retired]:
@@ -67,6 +68,7 @@ def findings(dump: Dump, asked: Asked) -> list[str]:
     here = Retired(last, asked.channel, fields) if fields else None
     listed = retirements(dump, asked)
     earlier = [other for other in listed if (other.cycle, other.channel) < (last, asked.channel)]
+    others = [other for other in listed if (other.cycle, other.channel) != (last, asked.channel)]
     if asked.kind in ("unique", "liveness"):
         return of_trigger(dump, asked, listed)
     if here is None:
@@ -74,10 +76,13 @@ def findings(dump: Dump, asked: Asked) -> list[str]:
     if asked.kind == "insn":
         return of_instruction(here.fields, asked.options)
     if asked.kind == "ill":
-        return [f"the word's low half is 0: trap {fields['trap']}, rd {fields['rd_addr']}, mem_wmask {fields['mem_wmask']}"]
+        return [f"the word's low half is 0: trap {fields['trap']}, rd {fields['rd_addr']}, "
+                f"mem_wmask {fields['mem_wmask']}"]
     rule = {"reg": of_register, "pc_fwd": of_next, "pc_bwd": of_previous, "causal": of_cause, "imem": of_code,
             "dmem": of_data}.get(asked.kind)
-    return rule(dump, here, earlier) if rule else [here.told()]
+    # These look at the other channels of the check's cycle too, which go by their orders.
+    seen = others if asked.kind in ("reg", "pc_fwd", "pc_bwd") else earlier
+    return rule(dump, here, seen) if rule else [here.told()]
 
 
 def of_trigger(dump: Dump, asked: Asked, listed: list[Retired]) -> list[str]:
@@ -88,7 +93,8 @@ def of_trigger(dump: Dump, asked: Asked, listed: list[Retired]) -> list[str]:
     if not at:
         return ["nothing retires at the trigger"]
     if asked.kind == "liveness":
-        return [f"at the trigger, {at[0].told()}", f"no retirement up to the end has the order {at[0].fields['order'] + 1}"]
+        return [f"at the trigger, {at[0].told()}",
+                f"no retirement up to the end has the order {at[0].fields['order'] + 1}"]
     same = [other for other in listed if other is not at[0] and other.fields["order"] == at[0].fields["order"]]
     return [f"at the trigger, {at[0].told()}"] + [f"the same order in {other.told()}" for other in same]
 
@@ -109,13 +115,16 @@ def of_register(dump: Dump, here: Retired, earlier: list[Retired]) -> list[str]:
 def of_next(dump: Dump, here: Retired, earlier: list[Retired]) -> list[str]:
     """The retirement before it in order."""
     before = [other for other in earlier if other.fields["order"] == here.fields["order"] - 1]
-    return [here.told()] + [f"its address isn't where the one before it goes on, {other.told()}" for other in before[-1:]]
+    return [here.told()] + [f"its address isn't where the one before it goes on, {other.told()}"
+                            for other in before[-1:]]
 
 
 def of_previous(dump: Dump, here: Retired, earlier: list[Retired]) -> list[str]:
     """The retirement behind it in order."""
-    behind = [other for other in earlier if other.fields["order"] == here.fields["order"] + 1 and not other.fields["intr"]]
-    return [here.told()] + [f"it doesn't go on at the address of the one behind it, {other.told()}" for other in behind[-1:]]
+    behind = [other for other in earlier
+              if other.fields["order"] == here.fields["order"] + 1 and not other.fields["intr"]]
+    return [here.told()] + [f"it doesn't go on at the address of the one behind it, {other.told()}"
+                            for other in behind[-1:]]
 
 
 def of_cause(dump: Dump, here: Retired, earlier: list[Retired]) -> list[str]:
@@ -129,8 +138,8 @@ def of_cause(dump: Dump, here: Retired, earlier: list[Retired]) -> list[str]:
 def of_code(dump: Dump, here: Retired, earlier: list[Retired]) -> list[str]:
     """The half word at the watched address."""
     values = dump.cycles[here.cycle]
-    return [here.told(), f"imem_addr is 0x{values.get('imem_addr', 0):08x}, imem_data 0x{values.get('imem_data', 0):04x}, "
-            f"and the word is 0x{here.fields['insn']:08x}"]
+    return [here.told(), f"imem_addr is 0x{values.get('imem_addr', 0):08x}, "
+            f"imem_data 0x{values.get('imem_data', 0):04x}, and the word is 0x{here.fields['insn']:08x}"]
 
 
 def of_data(dump: Dump, here: Retired, earlier: list[Retired]) -> list[str]:
@@ -143,5 +152,6 @@ def of_data(dump: Dump, here: Retired, earlier: list[Retired]) -> list[str]:
         if here.fields["mem_rmask"] >> byte & 1 and writes:
             wrote = writes[-1].fields["mem_wdata"] >> 8 * byte & 255
             if wrote != read:
-                lines.append(f"byte {byte} is read as 0x{read:02x} and was written as 0x{wrote:02x} in {writes[-1].told()}")
+                lines.append(f"byte {byte} is read as 0x{read:02x} and was written as 0x{wrote:02x} in "
+                             f"{writes[-1].told()}")
     return lines

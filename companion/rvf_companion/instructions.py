@@ -17,8 +17,8 @@ BASE += [(name, 0x63, f3, None, "B") for name, f3 in
 BASE += [(name, 0x03, f3, None, "I") for name, f3 in [("lb", 0), ("lh", 1), ("lw", 2), ("lbu", 4), ("lhu", 5)]]
 BASE += [(name, 0x23, f3, None, "S") for name, f3 in [("sb", 0), ("sh", 1), ("sw", 2)]]
 BASE += [(name, 0x13, f3, f7, "I") for name, f3, f7 in
-         [("addi", 0, None), ("slti", 2, None), ("sltiu", 3, None), ("xori", 4, None), ("ori", 6, None), ("andi", 7, None),
-          ("slli", 1, 0), ("srli", 5, 0), ("srai", 5, 0x20)]]
+         [("addi", 0, None), ("slti", 2, None), ("sltiu", 3, None), ("xori", 4, None), ("ori", 6, None),
+          ("andi", 7, None), ("slli", 1, 0), ("srli", 5, 0), ("srai", 5, 0x20)]]
 BASE += [(name, 0x33, f3, f7, "R") for name, f3, f7 in
          [("add", 0, 0), ("sub", 0, 0x20), ("sll", 1, 0), ("slt", 2, 0), ("sltu", 3, 0), ("xor", 4, 0), ("srl", 5, 0),
           ("sra", 5, 0x20), ("or", 6, 0), ("and", 7, 0)]]
@@ -81,9 +81,9 @@ def immediate(word: int, form: str) -> int:
     if form == "S":
         return signed(bits(word, 31, 25) << 5 | bits(word, 11, 7), 12)
     if form == "B":
-        return signed(bits(word, 31, 31) << 12 | bits(word, 7, 7) << 11 | bits(word, 30, 25) << 5 | bits(word, 11, 8) << 1, 13)
+        return gathered(word, [(12, 31, 31), (11, 7, 7), (5, 30, 25), (1, 11, 8)], 13)
     if form == "J":
-        return signed(bits(word, 31, 31) << 20 | bits(word, 19, 12) << 12 | bits(word, 20, 20) << 11 | bits(word, 30, 21) << 1, 21)
+        return gathered(word, [(20, 31, 31), (12, 19, 12), (11, 20, 20), (1, 30, 21)], 21)
     return signed(word & 0xFFFFF000) if form == "U" else 0
 
 
@@ -104,15 +104,16 @@ def assembled(name: str, rd: int = 0, rs1: int = 0, rs2: int = 0, value: int = 0
     elif form == "B":
         word |= bits(value, 12, 12) << 31 | bits(value, 10, 5) << 25 | bits(value, 4, 1) << 8 | bits(value, 11, 11) << 7
     elif form == "J":
-        word |= bits(value, 20, 20) << 31 | bits(value, 10, 1) << 21 | bits(value, 11, 11) << 20 | bits(value, 19, 12) << 12
+        word |= bits(value, 20, 20) << 31 | bits(value, 10, 1) << 21
+        word |= bits(value, 11, 11) << 20 | bits(value, 19, 12) << 12
     elif form == "U":
         word |= value & 0xFFFFF000
     return word
 
 
 def gathered(half: int, places: list[tuple[int, int, int]], width: int = 0) -> int:
-    """A number whose bits stand at places of a half word: the lowest bit of a run in the number, and the run's bounds; with
-    a width it is signed."""
+    """A number whose bits stand at places of a half word: the lowest bit of a run in the number, and the run's
+    bounds; with a width it is signed."""
     value = sum(bits(half, high, low) << at for at, high, low in places)
     return signed(value, width) if width else value
 
@@ -136,7 +137,8 @@ def expanded(half: int) -> tuple[str, int] | None:
         if f3 == 0:
             return "c_addi", assembled("addi", d, d, 0, i6)
         if f3 in (1, 5):
-            return ("c_jal" if f3 == 1 else "c_j"), assembled("jal", 1 if f3 == 1 else 0, 0, 0, gathered(half, jump, 12))
+            name, link = ("c_jal", 1) if f3 == 1 else ("c_j", 0)
+            return name, assembled("jal", link, 0, 0, gathered(half, jump, 12))
         if f3 == 2:
             return "c_li", assembled("addi", d, 0, 0, i6)
         if f3 == 3:
@@ -205,8 +207,10 @@ def assembler(word: int) -> str:
     shown = {
         "U": f"{name} x{rd}, 0x{full >> 12:x}", "J": f"{name} x{rd}, {value}", "B": f"{name} x{rs1}, x{rs2}, {value}",
         "S": f"{name} x{rs2}, {value}(x{rs1})", "R": f"{name} x{rd}, x{rs1}, x{rs2}",
-        "I": f"{name} x{rd}, {value}(x{rs1})" if name in LOADS or name == "jalr" else f"{name} x{rd}, x{rs1}, {value}"}[form]
-    if name in ("slli", "srli", "srai"):
+        "I": f"{name} x{rd}, x{rs1}, {value}"}[form]
+    if name in LOADS or name == "jalr":
+        shown = f"{name} x{rd}, {value}(x{rs1})"
+    elif name in ("slli", "srli", "srai"):
         shown = f"{name} x{rd}, x{rs1}, {rs2}"
     return shown if row == name else f"{row.replace('c_', 'c.')} ({shown})"
 
@@ -215,8 +219,8 @@ def compute(name: str, a: int, b: int) -> int:
     """The result of an operator on two words."""
     shift = b & 31
     return MASK & {
-        "add": a + b, "sub": a - b, "sll": a << shift, "slt": int(signed(a) < signed(b)), "sltu": int(a < b), "xor": a ^ b,
-        "srl": a >> shift, "sra": signed(a) >> shift, "or": a | b, "and": a & b, "mul": a * b,
+        "add": a + b, "sub": a - b, "sll": a << shift, "slt": int(signed(a) < signed(b)), "sltu": int(a < b),
+        "xor": a ^ b, "srl": a >> shift, "sra": signed(a) >> shift, "or": a | b, "and": a & b, "mul": a * b,
         "mulh": signed(a) * signed(b) >> 32, "mulhsu": signed(a) * b >> 32, "mulhu": a * b >> 32,
     }[name]
 
@@ -296,7 +300,8 @@ def rs2_of_shift(word: int) -> int:
 
 
 def differences(retire: dict[str, int], asked: Effect) -> list[tuple[str, int, int]]:
-    """Where a retirement doesn't agree with what its instruction asks for: the field, what it has, what is asked for."""
+    """Where a retirement doesn't agree with what its instruction asks for: the field, what it has, what is asked
+    for."""
     found = []
     for source in ("rs1", "rs2"):
         wanted = getattr(asked, f"{source}_addr")

@@ -1,4 +1,5 @@
-"""A picture of the last cycles of a trace, as SVG: the clock, the fields of RVFI, and the instruction in assembler words.
+"""A picture of the last cycles of a trace, as SVG: the clock, the fields of RVFI, and the instruction in assembler
+words.
 
 Nothing here is trusted by a verdict.
 """
@@ -22,7 +23,8 @@ def picture(dump: Dump, channel: int = 0, channels: int = 1) -> str:
     rows = ["clock", "instruction", *(f"rvfi_{name}" for name in fields), *extra]
     width, height = LEFT + COLUMN * len(cycles) + 10, HEAD + ROW * len(rows) + 10
     parts = [f'<svg xmlns="http://www.w3.org/2000/svg" width="{width}" height="{height}" class="wave" role="img">']
-    parts += [text(LEFT + COLUMN * at + COLUMN / 2, 18, f"cycle {cycle}", "middle", "head") for at, cycle in enumerate(cycles)]
+    parts += [text(LEFT + COLUMN * at + COLUMN / 2, 18, f"cycle {cycle}", "middle", "head")
+              for at, cycle in enumerate(cycles)]
     parts += [text(LEFT - 8, HEAD + ROW * at + 16, name, "end", "name") for at, name in enumerate(rows)]
     parts.append(clock(len(cycles)))
     for at, cycle in enumerate(cycles):

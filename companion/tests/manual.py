@@ -1,10 +1,12 @@
-"""Reads the tables of refusals of docs/USER.md."""
+"""Reads the tables of refusals of docs/USER.md; `python3 -m tests.manual` makes the companion's table of them anew."""
 from __future__ import annotations
 
+import json
 import re
 from pathlib import Path
 
-USER = Path(__file__).resolve().parents[2] / "docs" / "USER.md"
+COMPANION = Path(__file__).resolve().parents[1]
+USER = COMPANION.parent / "docs" / "USER.md"
 
 
 def rows(text: str, heading: str) -> list[list[str]]:
@@ -34,3 +36,8 @@ def manual() -> dict[str, dict[str, str]]:
         elif line == "none":
             table[f"code {code}"] = {"refusal": "", "advice": advice}
     return table
+
+
+if __name__ == "__main__":
+    path = COMPANION / "rvf_companion" / "refusals.json"
+    path.write_text(json.dumps(manual(), indent=1) + "\n", encoding="utf-8")

@@ -1,4 +1,4 @@
-"""What tests need beside Python; those that are left out are told by name on the last line."""
+"""What tests need beside Python; those that are left out are counted and told by name on the last line."""
 from __future__ import annotations
 
 import atexit
@@ -40,5 +40,5 @@ def needs(*things: str):
 
 @atexit.register
 def tell() -> None:
-    """Says on the last line which tests were left out."""
-    print(f"left out: {'; '.join(LEFT_OUT) or 'none'}")
+    """Says on the last line how many tests were left out, and which."""
+    print(f"left out: {len(LEFT_OUT)} tests: {'; '.join(LEFT_OUT)}" if LEFT_OUT else "left out: none")

@@ -1,5 +1,5 @@
-"""A program that stands in for rvf in the tests: it answers by a file `script` in the folder of the configuration, or in
-one above it, line by line.
+"""A program that stands in for rvf in the tests: it answers by a file `script` in the folder of the configuration, or
+in one above it, line by line.
 
 Each check of the script has a verdict, and gets files as rvf writes them. It says nothing of any design.
 """

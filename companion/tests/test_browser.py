@@ -40,12 +40,13 @@ class Browser(unittest.TestCase):
             write_reports(Setting(out, Configuration({"depth": [(1, "insn 1")]}), "checks.cfg"), run)
             words = ["chromium", "--headless", "--no-sandbox", "--disable-gpu", f"--user-data-dir={folder}/kept"]
             page = f"file://{folder}/out/index.html"
-            dumped = subprocess.run([*words, "--dump-dom", page], capture_output=True, text=True, check=True, timeout=100).stdout
+            dumped = subprocess.run([*words, "--dump-dom", page], capture_output=True, text=True, check=True,
+                                    timeout=100).stdout
             for check in ("insn_lui_ch0", "insn_addi_ch0", "reg_ch0"):
                 self.assertIn(f'data-name="{check}"', dumped)
             self.assertIn("<svg", dumped)
             self.assertIn("addi x1, x0, 5", dumped)
-            subprocess.run([*words, "--window-size=1000,760", f"--screenshot={picture}", page], capture_output=True, check=True,
-                           timeout=100)
+            subprocess.run([*words, "--window-size=1000,760", f"--screenshot={picture}", page], capture_output=True,
+                           check=True, timeout=100)
             self.assertEqual(picture.read_bytes()[:8], b"\x89PNG\r\n\x1a\n")
             self.assertGreater(picture.stat().st_size, 10_000)

@@ -59,6 +59,18 @@ class Explained(unittest.TestCase):
                      "usage: rvf run CFG OUTDIR", "refused step 6 0 0"):
             self.assertTrue(explain(line)[-1].startswith("what to do: "), line)
 
+    def test_codes(self) -> None:
+        """A code that comes without a line has its advice."""
+        self.assertIn("is there the folder OUTDIR", explain("code 8")[-1])
+        self.assertIn("fewer `--jobs`", explain("code 11")[-1])
+
+    def test_construct(self) -> None:
+        """Where the parser refuses, the construct that the text has there, what to write instead, and the advice."""
+        said = self.explained("module m (\n  a, b);\n", "source parse 1 FILE:2:3 -")
+        self.assertEqual(said[:3], ["core.v:2:3: a token out of place", "    2 |   a, b);", "      |   ^"])
+        self.assertTrue(said[3].startswith("this looks like an old list of ports, names alone: write"))
+        self.assertEqual(said[4], "what to do: " + TABLE["parse 1"]["advice"])
+
     def test_other_lines(self) -> None:
         """A line that is no refusal is given back."""
         for line in ("pass ill_ch0", "hello", "source nowhere 3 - -", "source parse 9 - -"):

@@ -4,7 +4,8 @@ from __future__ import annotations
 import unittest
 from pathlib import Path
 
-from rvf_companion.instructions import BASE, Options, assembled, assembler, decoded, differences, effect, expanded, row_of
+from rvf_companion.instructions import (BASE, Options, assembled, assembler, decoded, differences, effect, expanded,
+                                        row_of)
 
 
 def retired(word: int, **fields: int) -> dict[str, int]:
@@ -24,8 +25,9 @@ class Words(unittest.TestCase):
 
     def test_assembler(self) -> None:
         """Words in assembler words."""
-        for word, said in [(0x00500093, "addi x1, x0, 5"), (0xFFF00093, "addi x1, x0, -1"), (0x0020A423, "sw x2, 8(x1)"),
-                           (0x00812083, "lw x1, 8(x2)"), (0x00208463, "beq x1, x2, 8"), (0x123450B7, "lui x1, 0x12345"),
+        for word, said in [(0x00500093, "addi x1, x0, 5"), (0xFFF00093, "addi x1, x0, -1"),
+                           (0x0020A423, "sw x2, 8(x1)"), (0x00812083, "lw x1, 8(x2)"),
+                           (0x00208463, "beq x1, x2, 8"), (0x123450B7, "lui x1, 0x12345"),
                            (0x008000EF, "jal x1, 8"), (0x000080E7, "jalr x1, 0(x1)"), (0x40335213, "srai x4, x6, 3"),
                            (0x4005, "c.li (addi x0, x0, 1)"), (0xFFFFFFFF, ".word 0xffffffff")]:
             self.assertEqual(assembler(word), said)
@@ -38,7 +40,8 @@ class Words(unittest.TestCase):
                                 (0x6085, "c_lui", assembled("lui", 1, 0, 0, 0x1000)),
                                 (0x4502, "c_lwsp", assembled("lw", 10, 2, 0, 0)),
                                 (0xC22A, "c_swsp", assembled("sw", 0, 2, 10, 4)),
-                                (0x8082, "c_jr", assembled("jalr", 0, 1)), (0x852E, "c_mv", assembled("add", 10, 0, 11)),
+                                (0x8082, "c_jr", assembled("jalr", 0, 1)),
+                                (0x852E, "c_mv", assembled("add", 10, 0, 11)),
                                 (0x8C89, "c_sub", assembled("sub", 9, 9, 10)),
                                 (0xA001, "c_j", assembled("jal", 0, 0, 0, 0))]:
             self.assertEqual(expanded(half), (row, word), hex(half))
@@ -86,8 +89,8 @@ class Effects(unittest.TestCase):
         word = assembled("addi", 1, 2, 0, 5)
         given = retired(word, rs1_addr=2, rs1_rdata=7, rd_addr=1, rd_wdata=13, pc_rdata=8, pc_wdata=12)
         self.assertEqual(differences(given, effect(given, Options())), [("rd_wdata", 13, 12)])
-        store = retired(assembled("sb", 0, 1, 2, 0), rs1_addr=1, rs2_addr=2, rs1_rdata=4, rs2_rdata=0xAB, pc_wdata=4, mem_addr=4,
-                        mem_wmask=15, mem_rmask=15, mem_rdata=0x11223344, mem_wdata=0x112233AB)
+        store = retired(assembled("sb", 0, 1, 2, 0), rs1_addr=1, rs2_addr=2, rs1_rdata=4, rs2_rdata=0xAB, pc_wdata=4,
+                        mem_addr=4, mem_wmask=15, mem_rmask=15, mem_rdata=0x11223344, mem_wdata=0x112233AB)
         self.assertEqual(differences(store, effect(store, Options(aligned=True))), [])
         store["mem_wdata"] = 0x002233AB
         self.assertEqual(len(differences(store, effect(store, Options(aligned=True)))), 1)
@@ -129,8 +132,8 @@ class StoredCases(unittest.TestCase):
             row, *rest = answer.split()
             wanted = values(" ".join(rest))
             self.assertIsNotNone(found, asked)
-            for name in ("rs1_addr", "rs2_addr", "rd_addr", "rd_wdata", "pc_wdata", "mem_addr", "mem_rmask", "mem_wmask",
-                         "mem_wdata"):
+            for name in ("rs1_addr", "rs2_addr", "rd_addr", "rd_wdata", "pc_wdata", "mem_addr", "mem_rmask",
+                         "mem_wmask", "mem_wdata"):
                 self.assertEqual(getattr(found, name), wanted.get(name, 0), f"{name} of {asked}")
             self.assertEqual(found.trap, "trap" in rest, asked)
             self.assertEqual(decoded(values(asked)["insn"])[0], row, asked)
@@ -140,8 +143,8 @@ class StoredCases(unittest.TestCase):
         for asked, answer in stored("agree"):
             first, _, second = asked.partition("|")
             given, shown = values(first), values(second)
-            wanted = effect(retired(given["insn"], **{name: value for name, value in given.items() if name != "insn"}), options(given))
-            found = differences(retired(shown["insn"], **{name: value for name, value in shown.items() if name != "insn"}), wanted)
+            wanted = effect(retired(given.pop("insn"), **given), options(given))
+            found = differences(retired(shown.pop("insn"), **shown), wanted)
             self.assertEqual(not found, answer == "agrees", (asked, found))
 
     def test_half_words(self) -> None:

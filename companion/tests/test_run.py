@@ -5,6 +5,8 @@ import contextlib
 import io
 import json
 import os
+import pty
+import signal
 import stat
 import subprocess
 import sys
@@ -33,6 +35,11 @@ core.v
 """
 SCRIPT = ["skip hang", "pass insn_lui_ch0", "fail insn_addi_ch0", "pass ill_ch0", "spent reg_ch0 100",
           "total pass 2 fail 1 spent 1 skip 1", "code 1"]
+
+
+def heard() -> None:
+    """Makes a program hear an interrupt, also where it is started by one that doesn't."""
+    signal.signal(signal.SIGINT, signal.SIG_DFL)
 
 
 class Runs(unittest.TestCase):
@@ -104,7 +111,8 @@ class Runs(unittest.TestCase):
         self.assertEqual((code, out), (1, ""))
         self.assertEqual([one["kept"] for one in self.json()["checks"]], [True] * 4)
         code, out, _ = self.run_it("--again", "--budget", "200")
-        self.assertEqual([line for line in out.splitlines() if line.startswith(("pass", "fail", "spent"))], ["spent reg_ch0 100"])
+        self.assertEqual([line for line in out.splitlines() if line.startswith(("pass", "fail", "spent"))],
+                         ["spent reg_ch0 100"])
         self.assertEqual(len((self.folder / "out" / "reduced.cfg").read_text().splitlines()), len(CFG.splitlines()))
         (self.folder / "out" / "ill_ch0.lrat").write_text("")
         _, out, _ = self.run_it("--again", "--budget", "100")
@@ -113,6 +121,43 @@ class Runs(unittest.TestCase):
         (self.folder / "core.v").write_text("module rvfi_wrapper;\nendmodule\n")
         _, out, _ = self.run_it("--again", "--budget", "100")
         self.assertIn("pass insn_lui_ch0", out)
+
+    def test_again_behind_kinds(self) -> None:
+        """What was run before a run of one kind stands too, and is kept later."""
+        self.run_it()
+        self.run_it("--kinds", "ill")
+        self.assertEqual([one["name"] for one in self.json()["checks"]], ["ill_ch0"])
+        code, out, _ = self.run_it("--again")
+        self.assertEqual([line for line in out.splitlines() if line.startswith(("pass", "fail"))], [])
+        self.assertEqual([one["name"] for one in self.json()["checks"]],
+                         ["insn_lui_ch0", "insn_addi_ch0", "ill_ch0", "reg_ch0"])
+        self.assertEqual(code, 1)
+
+    def test_progress(self) -> None:
+        """On a terminal a line has the checks that are done, of how many, and the time."""
+        screen = io.StringIO()
+        screen.isatty = lambda: True
+        with contextlib.redirect_stdout(io.StringIO()), contextlib.redirect_stderr(screen):
+            run.main(["checks.cfg", "out", "--rvf", str(self.program)])
+        self.assertRegex(screen.getvalue(), r"\r4 of 4 checks, 1 fail, \d+:\d\d")
+        screen = io.StringIO()
+        screen.isatty = lambda: True
+        with contextlib.redirect_stdout(io.StringIO()), contextlib.redirect_stderr(screen), \
+                mock.patch("sys.stdin", io.StringIO("pass insn_lui_ch0\nfail insn_addi_ch0\n")):
+            report.main(["out", "--cfg", "checks.cfg", "--rvf", str(self.program)])
+        self.assertRegex(screen.getvalue(), r"\r2 of 4 checks, 1 fail, \d+:\d\d")
+
+    def test_terminal(self) -> None:
+        """The same on a terminal of the system, where the lines of the run don't mix with it."""
+        script = Path(run.__file__).parents[1] / "run.py"
+        ours, theirs = pty.openpty()
+        words = [sys.executable, str(script), "checks.cfg", "out", "--rvf", str(self.program)]
+        done = subprocess.run(words, stdout=subprocess.PIPE, stderr=theirs, text=True, check=False)
+        os.close(theirs)
+        shown = os.read(ours, 100_000).decode()
+        os.close(ours)
+        self.assertEqual(done.stdout.splitlines(), SCRIPT[:-1])
+        self.assertIn("4 of 4 checks", shown)
 
     def test_kinds(self) -> None:
         """Kinds alone; a kind that isn't there is refused."""
@@ -125,15 +170,16 @@ class Runs(unittest.TestCase):
     @needs("make")
     def test_make(self) -> None:
         """A target for each kind, each in a folder of its own; one that fails doesn't stop the others."""
-        words = ["make", "-k", "-j", "3", "-f", str(Path(run.__file__).parents[1] / "rvf.mk"), "CFG=checks.cfg", "OUTDIR=out",
-                 f"RVF_OPTIONS=--rvf {self.program}"]
+        words = ["make", "-k", "-j", "3", "-f", str(Path(run.__file__).parents[1] / "rvf.mk"), "CFG=checks.cfg",
+                 "OUTDIR=out", f"RVF_OPTIONS=--rvf {self.program}"]
         done = subprocess.run(words, capture_output=True, text=True, check=False)
         self.assertNotEqual(done.returncode, 0)
         verdicts = {}
         for kind in ("insn", "ill", "reg"):
             report_of_kind = json.loads((self.folder / "out" / kind / "report.json").read_text())
             verdicts.update({one["name"]: one["verdict"] for one in report_of_kind["checks"]})
-        self.assertEqual(verdicts, {"insn_lui_ch0": "pass", "insn_addi_ch0": "fail", "ill_ch0": "pass", "reg_ch0": "spent"})
+        self.assertEqual(verdicts, {"insn_lui_ch0": "pass", "insn_addi_ch0": "fail", "ill_ch0": "pass",
+                                    "reg_ch0": "spent"})
 
     def test_refusal(self) -> None:
         """A refusal is said in words, and the reports have it."""
@@ -164,6 +210,21 @@ class Runs(unittest.TestCase):
         self.assertIn("ended without its last line", err)
         self.assertEqual([one["name"] for one in self.json()["checks"]], ["insn_lui_ch0"])
 
+    def test_interrupted(self) -> None:
+        """A run that is interrupted leaves reports of what came, which say so."""
+        self.script(["pass insn_lui_ch0", "sleep 600"])
+        words = [sys.executable, str(Path(run.__file__).parents[1] / "run.py"), "checks.cfg", "out", "--rvf",
+                 str(self.program)]
+        with subprocess.Popen(words, stdout=subprocess.PIPE, stderr=subprocess.PIPE, text=True,
+                              preexec_fn=heard) as process:
+            self.assertEqual(process.stdout.readline(), "pass insn_lui_ch0\n")
+            process.send_signal(signal.SIGINT)
+            _, err = process.communicate(timeout=500)
+        self.assertEqual(process.returncode, 1)
+        self.assertIn("ended without its last line", err)
+        self.assertIn("the run was interrupted", self.json()["others"])
+        self.assertEqual([one["name"] for one in self.json()["checks"]], ["insn_lui_ch0"])
+
     def test_another_program(self) -> None:
         """Lines of another program are told, and a report that stands isn't touched."""
         self.run_it()
@@ -185,7 +246,11 @@ class Runs(unittest.TestCase):
             self.assertIn(part, self.page())
 
     def test_other_commands(self) -> None:
-        """The lines of `bench` and `lrat` are known too."""
+        """The lines of `list` and `lrat` are known too, and those of `bench`."""
+        code, _ = self.report_it("insn_lui_ch0\nreg_ch0\n")
+        self.assertEqual((code, self.json()["listed"]), (0, ["insn_lui_ch0", "reg_ch0"]))
+        self.assertIn("insn_lui_ch0, reg_ch0", self.page())
+        self.assertNotIn("without its last line", self.page())
         for line in ("bench 8 pass 43 fail 0 spent 0", "refuted 6", "refused step 5 5 0"):
             code, _ = self.report_it(line + "\n")
             self.assertEqual(code, 0)
