@@ -5,7 +5,7 @@ verdict.
 """
 from __future__ import annotations
 
-from dataclasses import dataclass
+from dataclasses import dataclass, replace
 
 MASK = 0xFFFFFFFF
 
@@ -256,42 +256,49 @@ def effect(retire: dict[str, int], options: Options) -> Effect | None:
     a = retire["rs1_rdata"] if rs1 else 0
     b = retire["rs2_rdata"] if rs2 else 0
     pc, value = retire["pc_rdata"], immediate(word, form)
-    result, target, jumps, trap = 0, (pc + length) & MASK, False, False
-    address = read = write = data = 0
+    behind = (pc + length) & MASK
     if name in LOADS or name in STORES:
-        address = (a + value) & MASK
-        size = LOADS[name][0] if name in LOADS else STORES[name]
-        lane = address & 3 if options.aligned else 0
-        trap = options.aligned and address % size != 0
-        mask = ((1 << size) - 1) << lane & 15
-        if name in LOADS:
-            read = mask
-            loaded = retire["mem_rdata"] >> 8 * lane & (1 << 8 * size) - 1
-            result = signed(loaded, 8 * size) & MASK if LOADS[name][1] else loaded
-        else:
-            write, data = mask, (b & (1 << 8 * size) - 1) << 8 * lane & MASK
-        address -= address & 3 if options.aligned else 0
-    elif name == "lui":
-        result = value & MASK
-    elif name == "auipc":
-        result = (pc + value) & MASK
-    elif name in ("jal", "jalr"):
-        result, jumps = target, True
-        target = (pc + value) & MASK if name == "jal" else (a + value) & MASK & ~1
-    elif form == "B":
-        if taken(name, a, b):
-            target, jumps = (pc + value) & MASK, True
-    elif options.altops and name in ALTERNATIVE:
+        reached = of_memory(name, (a + value) & MASK, b, retire["mem_rdata"], options)
+        return replace(reached, rs1_addr=rs1, rs2_addr=rs2, rd_addr=rd, rd_wdata=reached.rd_wdata if rd else 0,
+                       pc_wdata=behind)
+    jump = target_of(name, a, b, pc, value)
+    target, trap = (behind, False) if jump is None else (jump, jump % 4 != 0 and not options.compressed)
+    result = behind if name in ("jal", "jalr") else 0 if form == "B" else result_of(name, word, a, b, pc, options)
+    return Effect(rs1, rs2, rd, result if rd else 0, target, 0, 0, 0, 0, trap)
+
+
+def of_memory(name: str, address: int, b: int, held: int, options: Options) -> Effect:
+    """What a load or a store asks for, its registers and the address that follows left out."""
+    size, is_signed = LOADS.get(name) or (STORES[name], False)
+    lane = address & 3 if options.aligned else 0
+    mask, whole = ((1 << size) - 1) << lane & 15, (1 << 8 * size) - 1
+    read, write = (mask, 0) if name in LOADS else (0, mask)
+    loaded = held >> 8 * lane & whole if read else 0
+    data = (b & whole) << 8 * lane & MASK if write else 0
+    result = signed(loaded, 8 * size) & MASK if is_signed else loaded
+    return Effect(0, 0, 0, result, 0, address - lane, read, write, data, options.aligned and address % size != 0)
+
+
+def target_of(name: str, a: int, b: int, pc: int, value: int) -> int | None:
+    """Where a jump or a branch that is taken goes on; nothing where none is taken."""
+    if name == "jalr":
+        return (a + value) & MASK & ~1
+    return (pc + value) & MASK if name == "jal" or FORMS[name] == "B" and taken(name, a, b) else None
+
+
+def result_of(name: str, word: int, a: int, b: int, pc: int, options: Options) -> int:
+    """What an instruction that computes writes."""
+    form = FORMS[name]
+    value = immediate(word, form)
+    if form == "U":
+        return value & MASK if name == "lui" else (pc + value) & MASK
+    if options.altops and name in ALTERNATIVE:
         adds, constant = ALTERNATIVE[name]
-        result = ((a + b if adds else a - b) & MASK) ^ constant
-    elif name.startswith(("div", "rem")):
-        result = divided(name, a, b)
-    else:
-        operand = b if form == "R" else rs2_of_shift(word) if name in ("slli", "srli", "srai") else value & MASK
-        operator = {"sltiu": "sltu"}.get(name, name[:-1] if form == "I" else name)
-        result = compute(operator, a, operand)
-    trap = trap or jumps and target % 4 != 0 and not options.compressed
-    return Effect(rs1, rs2, rd, result if rd else 0, target, address, read, write, data, trap)
+        return ((a + b if adds else a - b) & MASK) ^ constant
+    if name.startswith(("div", "rem")):
+        return divided(name, a, b)
+    operand = b if form == "R" else rs2_of_shift(word) if name in ("slli", "srli", "srai") else value & MASK
+    return compute({"sltiu": "sltu"}.get(name, name[:-1] if form == "I" else name), a, operand)
 
 
 def rs2_of_shift(word: int) -> int:

@@ -59,9 +59,7 @@ def circles(cells: list[Cell]) -> list[list[Cell]]:
     order: dict[int, int] = {}
     stack: list[int] = []
     open_: set[int] = set()
-    for root in range(len(plain)):
-        if root in order:
-            continue
+    for root in (cell for cell in range(len(plain)) if cell not in order):
         walk = [(root, iter(below[root]))]
         order[root] = low[root] = len(order)
         stack.append(root)

@@ -50,8 +50,7 @@ def bench(core: Core, netlist: Netlist, made: Converted, cycles: int) -> str:
     original = f"{netlist.name} #({given}) original" if given else f"{netlist.name} original"
     inputs = [port for port in netlist.ports if port.direction == "input" and port.name != made.clock]
     outputs = [port for port in netlist.ports if port.direction == "output"]
-    size = sum(len(port.bits) for port in inputs)
-    many = sum(len(port.bits) for port in outputs)
+    size, many = (sum(len(port.bits) for port in ports) for ports in (inputs, outputs))
     starts: list[str] = []
     named = {net.name for net in netlist.nets if not net.hidden}
     for start in made.starts:
@@ -63,7 +62,7 @@ def bench(core: Core, netlist: Netlist, made: Converted, cycles: int) -> str:
     for side in ("original", "converted"):
         declared += [f"wire [{len(port.bits) - 1}:0] {side}_{port.name};" for port in outputs]
         sides[side] = "".join(f", .{port.name}({side}_{port.name})" for port in outputs)
-    free = [f"converted.{signal.name} = {random_bits(signal.width)};" for signal in made.free_names]
+    free = [f"      converted.{signal.name} = {random_bits(signal.width)};" for signal in made.free_names]
     all_of = {side: ", ".join(f"{side}_{port.name}" for port in outputs) for side in sides}
     return "\n".join([
         "module bench;", "  reg clock = 0;", *("  " + line for line in declared),
@@ -75,8 +74,7 @@ def bench(core: Core, netlist: Netlist, made: Converted, cycles: int) -> str:
         "  initial begin", '    $readmemh("given.hex", given);', "    different = 0; unknown = 0; #1;",
         *("    " + line for line in starts),
         f"    for (cycle = 0; cycle < {cycles}; cycle = cycle + 1) begin",
-        f"      {{{', '.join(f'in_{port.name}' for port in inputs)}}} = given[cycle];",
-        *("      " + line for line in free), "      #4;",
+        f"      {{{', '.join(f'in_{port.name}' for port in inputs)}}} = given[cycle];", *free, "      #4;",
         "      if (left !== right)", f"        for (place = 0; place < {many}; place = place + 1)",
         "          if (left[place] !== right[place]) begin",
         "            if (left[place] === 1'bx) unknown = unknown + 1;", "            else begin",
