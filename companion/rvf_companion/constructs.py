@@ -1,6 +1,6 @@
 """What a text has where the parser refuses a token, by a look at the text, and what to write instead.
 
-A refusal `parse 1` names a place and no word: these rules guess by the token there and what stands before it. Nothing
+A refusal `parse 1` names a place and no word, and `or` has many uses: these rules guess by the token there and what stands before it. Nothing
 here is trusted by a verdict.
 """
 from __future__ import annotations
@@ -21,7 +21,7 @@ class Construct:
 # The first rule that fits is taken. `before` is what the text up to the place ends with, blanks and comments aside;
 # `at` is what begins at the place.
 CONSTRUCTS = [
-    Construct(r"\b(begin|else|;|\)|:)$", r"for\b", "a `for` loop in a block",
+    Construct(r"(\bbegin|\belse|;|\)|:|@\s*\*)$", r"for\b", "a `for` loop in a block",
               "write the turns out, or make the block's parts by a generate `for`"),
     Construct(r"", r"(while|repeat|forever)\b", "a loop in a block", "write the turns out"),
     Construct(r"\b(parameter|localparam)$", r"(integer|real|time|realtime|string|int|logic|bit)\b",

@@ -73,7 +73,7 @@ def explain(line: str, cfg: str = "") -> list[str]:
     lines = [": ".join(part for part in said if part)]
     text = text_of(file) if file else ""
     lines += shown(text, refusal.line, refusal.column)
-    if refusal.key == "parse 1":
+    if refusal.key == "parse 1" or refusal.detail == "or":
         found = construct_at(text, refusal.line, refusal.column)
         if found:
             lines.append(f"this looks like {found.name}: {found.instead}")

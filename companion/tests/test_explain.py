@@ -100,6 +100,8 @@ class Constructs(unittest.TestCase):
         ("module m (a);\n  |input a;", "a direction in the body of a module"),
         ("wire [3:0] a;\n  |case (N) 1: assign a = b; endcase", "a `case` of generate"),
         ("always @(a|, b) c = a;", "a list of events by names"),
+        ("always @(posedge clock |or posedge reset) c = a;", "a list of events"),
+        ("always @* |for (i = 0; i < 3; i = i + 1) a = b;", "a `for` loop in a block"),
         ("wire a\n|assign a = b;", "a new item or statement where the one before it hasn't ended"),
     ]
 
