@@ -1,7 +1,7 @@
 """What a text has where the parser refuses a token, by a look at the text, and what to write instead.
 
-A refusal `parse 1` names a place and no word, and `or` has many uses: these rules guess by the token there and what stands before it. Nothing
-here is trusted by a verdict.
+A refusal `parse 1` names a place and no word, and `or` has many uses: these rules guess by the token there and what
+stands before it. Nothing here is trusted by a verdict.
 """
 from __future__ import annotations
 
