@@ -30,6 +30,7 @@ enum Manner {
     Whole,
     InBrief,
     ToMeet,
+    WithDumps,
 }
 
 /// A run that is asked for.
@@ -87,6 +88,8 @@ impl Bench {
             Line::Run(words) => return Ok(Some(self.asked(words, Manner::Whole)?)),
             Line::RunInBrief(words) => return Ok(Some(self.asked(words, Manner::InBrief)?)),
             Line::RunToMeet(words) => return Ok(Some(self.asked(words, Manner::ToMeet)?)),
+            Line::RunWithDumps(words) => return Ok(Some(self.asked(words, Manner::WithDumps)?)),
+            Line::Repeat(count, text) => self.repeat(count, text)?,
             Line::End => self.end(),
             Line::Comment => {}
             Line::Text(text) => {
@@ -115,6 +118,13 @@ impl Bench {
             Target::Piece => append_to_last(&mut self.pieces, text),
             Target::File => append_to_last(&mut self.files, text),
         }
+    }
+
+    fn repeat(&mut self, count: u64, text: &str) -> Result<(), AllocError> {
+        for _ in 0..count {
+            self.append(text)?;
+        }
+        Ok(())
     }
 
     fn use_piece(&mut self, name: &str) -> Result<(), AllocError> {
@@ -157,7 +167,7 @@ impl Bench {
     }
 
     /// Makes the run: its words, what was put, the code, whether its first check met the second one where that is
-    /// asked, and each file of a check that is there.
+    /// asked, and each file of a check that is there, of a dump with its text where that is asked.
     pub fn run<R: Threads + Sync>(&mut self, rt: &R, asked: &Asked) -> Result<String> {
         let mut files = self.held()?;
         let mut out = MemOut::new(self.alloc, self.failing_puts.clone()?);
@@ -175,7 +185,8 @@ impl Bench {
             matches!(asked.manner, Manner::InBrief),
         )?;
         told.push_str(format!(in self.alloc; "= {code}\n{met}")?.as_str())?;
-        self.put_files(&mut told, &files)?;
+        let with_dumps = matches!(asked.manner, Manner::WithDumps);
+        self.put_files(&mut told, &files, with_dumps)?;
         self.held = Some(files);
         Ok(told)
     }
@@ -191,32 +202,49 @@ impl Bench {
         Ok(told)
     }
 
-    /// A line for each file of a check that is there.
-    fn put_files(&self, told: &mut String, files: &MemFiles) -> Result<()> {
+    /// A line for each file of a check that is there, and the texts of dumps where they are asked.
+    fn put_files(&self, told: &mut String, files: &MemFiles, with_dumps: bool) -> Result<()> {
         for kind in KINDS {
             for channel in CHANNELS {
-                self.put_files_of(told, files, kind, channel)?;
+                self.put_files_of(told, files, kind, channel, with_dumps)?;
             }
         }
         Ok(())
     }
 
-    /// A line for each file of the check of a kind and channel.
+    /// A line for each file of the check of a kind and channel, and the text of its dump where that is asked.
     fn put_files_of(
         &self,
         told: &mut String,
         files: &MemFiles,
         kind: &str,
         channel: u32,
+        with_dumps: bool,
     ) -> Result<()> {
         for ending in ENDINGS {
             let name = format!(in self.alloc; "out/{kind}_ch{channel}.{ending}")?;
-            if files.get(name.as_str()).is_some() {
-                told.push_str(format!(in self.alloc; "+ {name}\n")?.as_str())?;
-            }
+            put_file(told, files, name.as_str(), with_dumps && ending == "vcd")?;
         }
         Ok(())
     }
+}
+
+/// A line for the file if it is there, and its text where that is asked.
+fn put_file(
+    told: &mut String,
+    files: &MemFiles,
+    name: &str,
+    with_text: bool,
+) -> Result<(), AllocError> {
+    if let Some(bytes) = files.get(name) {
+        told.push_str("+ ")?;
+        told.push_str(name)?;
+        told.push('\n')?;
+        if with_text {
+            put(told, bytes, false)?;
+        }
+    }
+    Ok(())
 }
 
 fn append_to_last(all: &mut Vec<Named>, text: &str) -> Result<(), AllocError> {

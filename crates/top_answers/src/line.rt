@@ -21,6 +21,10 @@ pub enum Line<'a> {
     RunInBrief(&'a str),
     /// `& WORDS`: a run whose first check waits for the second one; whether it met it is told.
     RunToMeet(&'a str),
+    /// `> WORDS`: a run of which the dumps are told too.
+    RunWithDumps(&'a str),
+    /// `* N TEXT`: the text so many times, without an end of its line.
+    Repeat(u64, &'a str),
     /// `.`: the files go.
     End,
     /// `# ..`
@@ -60,6 +64,13 @@ pub(crate) fn line_of(text: &str) -> Line<'_> {
     }
     if let Some(words) = text.strip_prefix("& ") {
         return Line::RunToMeet(words);
+    }
+    if let Some(words) = text.strip_prefix("> ") {
+        return Line::RunWithDumps(words);
+    }
+    if let Some(repeated) = text.strip_prefix("* ") {
+        let (count, text) = repeated.split_once(' ').unwrap_or((repeated, ""));
+        return Line::Repeat(number(count), text);
     }
     if text.starts_with("# ") {
         return Line::Comment;
