@@ -5,6 +5,7 @@ is needed but that of signed comparisons and shifts. Nothing here is trusted by 
 """
 from __future__ import annotations
 
+import re
 from typing import TYPE_CHECKING, Callable
 
 from .divisions import divided, division_width
@@ -16,6 +17,8 @@ from .text import PAST, WIDEST, Start, Text, digits, extended, in_parts
 if TYPE_CHECKING:
     from .convert import Converter
 
+# A name stands in an expression: what is made of numbers alone weighs nothing.
+NAMED = re.compile(r"(?<![\w'$])[A-Za-z_]")
 BITWISE = {"$and": "&", "$or": "|", "$xor": "^", "$xnor": "~^"}
 ARITHMETIC = {"$add": "+", "$sub": "-", "$mul": "*"}
 ORDERED = {"$lt": "<", "$le": "<=", "$gt": ">", "$ge": ">="}
@@ -88,8 +91,9 @@ def write(converter: "Converter", cell: Cell) -> None:
     elif cell.kind == "$assume":
         enabled, demanded = text.spell(cell.inputs["EN"]), text.spell(cell.inputs["A"])
         if enabled != digits("0"):
-            demand = demanded if enabled == digits("1") else f"!{enabled} || {demanded}"
-            text.items.append(f"always @* assume ({demand});")
+            is_always = enabled == digits("1")
+            text.items.append(f"always @* assume ({demanded if is_always else f'!{enabled} || {demanded}'});")
+            text.weights[cell.name] += 0 if is_always else 2
     elif cell.kind == "$initstate":
         name = text.places[cell.outputs["Y"][0]][0].name
         clock = converter.clock
@@ -122,9 +126,18 @@ def assign(text: Text, cell: Cell, bits: list[Bit], expression: Callable[[int, i
     """One assignment for each part of the output, its expression by the lowest bit and the width of the part."""
     low = 0
     for part in in_parts(bits):
-        text.items.append(f"assign {target(text, part)} = {expression(low, len(part))};")
+        given = expression(low, len(part))
+        text.items.append(f"assign {target(text, part)} = {given};")
+        if NAMED.search(given):
+            text.weights[cell.name] += weight * len(part) // len(bits)
         low += len(part)
-    text.weights[cell.name] += weight
+
+
+def joined_weight(pieces: list[str], parts: list[list[Bit]]) -> int:
+    """The weight of operations on these parts, one for each bit, and of what joins them from the left."""
+    named = [bool(NAMED.search(piece)) for piece in pieces]
+    inner = sum(len(part) for is_named, part in zip(named, parts) if is_named)
+    return inner + sum(any(named[:index + 1]) for index in range(1, len(pieces)))
 
 
 def target(text: Text, part: list[Bit]) -> str:
@@ -174,7 +187,7 @@ def write_comparison(converter: "Converter", cell: Cell, bits: list[Bit]) -> Non
         sign, glue = EQUAL[cell.kind], " && " if EQUAL[cell.kind] == "==" else " || "
         pieces = [f"{text.spell(left)} {sign} {text.spell(right)}" for left, right in zip(in_parts(a), in_parts(b))]
         expression = pieces[0] if len(pieces) == 1 else glue.join(f"({piece})" for piece in pieces)
-        assign(text, cell, bits[:1], lambda low, many: expression, width)
+        assign(text, cell, bits[:1], lambda low, many: expression, joined_weight(pieces, in_parts(a)))
         return
     left, right = text.spell(a), text.spell(b)
     if signed:
@@ -182,10 +195,11 @@ def write_comparison(converter: "Converter", cell: Cell, bits: list[Bit]) -> Non
     assign(text, cell, bits[:1], lambda low, many: f"{left} {ORDERED[cell.kind]} {right}", 8 * width)
 
 
-def is_any(text: Text, bits: list[Bit]) -> str:
-    """An expression that is 1 where some bit is."""
+def is_any(text: Text, bits: list[Bit]) -> tuple[str, int]:
+    """An expression that is 1 where some bit is, and its weight."""
     pieces = [f"(|{text.spell(part)})" for part in in_parts(bits)]
-    return pieces[0] if len(pieces) == 1 else "(" + " | ".join(pieces) + ")"
+    weight = joined_weight(pieces, in_parts(bits))
+    return pieces[0] if len(pieces) == 1 else "(" + " | ".join(pieces) + ")", weight
 
 
 def write_reduced(converter: "Converter", cell: Cell, bits: list[Bit]) -> None:
@@ -197,19 +211,19 @@ def write_reduced(converter: "Converter", cell: Cell, bits: list[Bit]) -> None:
     expression = glue.join(pieces)
     if cell.kind == "$reduce_xnor":
         expression = f"~({expression})"
-    assign(text, cell, bits[:1], lambda low, many: expression, len(a))
+    weight = joined_weight(pieces, in_parts(a)) + (cell.kind == "$reduce_xnor")
+    assign(text, cell, bits[:1], lambda low, many: expression, weight)
 
 
 def write_logic(converter: "Converter", cell: Cell, bits: list[Bit]) -> None:
     """Logical not, and, or: of whether some bit is 1."""
     text = converter.text
-    a = is_any(text, cell.inputs["A"])
+    a, weight_a = is_any(text, cell.inputs["A"])
     if cell.kind == "$logic_not":
-        assign(text, cell, bits[:1], lambda low, many: f"!{a}", len(cell.inputs["A"]))
+        assign(text, cell, bits[:1], lambda low, many: f"!{a}", weight_a + 1)
         return
-    b = is_any(text, cell.inputs["B"])
-    weight = len(cell.inputs["A"]) + len(cell.inputs["B"])
-    assign(text, cell, bits[:1], lambda low, many: f"{a} {LOGIC[cell.kind]} {b}", weight)
+    b, weight_b = is_any(text, cell.inputs["B"])
+    assign(text, cell, bits[:1], lambda low, many: f"{a} {LOGIC[cell.kind]} {b}", weight_a + weight_b + 1)
 
 
 def write_choice_of_many(converter: "Converter", cell: Cell, bits: list[Bit]) -> None:
@@ -247,7 +261,7 @@ def write_shift(converter: "Converter", cell: Cell, bits: list[Bit]) -> None:
             expression = f"{shown} << {by}"
         else:
             expression = f"{shown} >> {by}" if fill in ("0", PAST) else f"$signed({shown}) >>> {by}"
-        assign(text, cell, bits, lambda low, many: expression, 8 * width)
+        assign(text, cell, bits, lambda low, many: expression, 8 * len(padded))
         return
     if to_left:
         result = moved_left(text, cell.name, extended(a, whole, signed), b, len(bits), fill, "0")

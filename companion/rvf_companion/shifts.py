@@ -62,5 +62,5 @@ def any_of(text: Text, old: str, bits: list[Bit]) -> Bit:
         return "1" if bits else "0"
     if len(bits) == 1:
         return bits[0]
-    text.weights[old] += len(bits)
+    text.weights[old] += len(bits) + len(in_parts(bits)) - 1
     return text.made(old, " | ".join(f"(|{text.spell(part)})" for part in in_parts(bits)), 1)[0]

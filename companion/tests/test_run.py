@@ -198,6 +198,12 @@ class Runs(unittest.TestCase):
         self.script(["pass insn_lui_ch0", "code 11"])
         self.assertEqual(self.run_it()[0], 11)
         self.assertIn("no memory was left", self.page())
+        self.assertEqual(self.report_it("", "--code", "8")[0], 0)
+        self.assertIn("could not be written", self.page())
+        before = self.page()
+        code, err = self.report_it("")
+        self.assertEqual((code, self.page()), (1, before))
+        self.assertIn("no line was one of rvf, and there was none; nothing was written", err)
 
     def test_timeout(self) -> None:
         """A program that goes on too long is stopped; what it said stands."""

@@ -1,12 +1,16 @@
 """Verdicts of converted cores by the program: those of the cores that they are made of, with a planted fault too."""
 from __future__ import annotations
 
+import contextlib
+import io
+import re
 import subprocess
 import tempfile
 import unittest
 from pathlib import Path
 
 from rvf_companion.from_yosys import main as from_yosys
+from rvf_companion.yosys import FIELDS
 
 from . import cases, cores, debian
 from .cases import Case, planted
@@ -98,6 +102,39 @@ class Verdicts(unittest.TestCase):
             self.assertEqual(verdicts(cfg, [made], Path(name))[0], "pass ill_ch0")
             without = "\n".join(line for line in made.splitlines() if "assume (" not in line)
             self.assertEqual(verdicts(cfg, [without], Path(name))[0], "fail ill_ch0")
+
+    @needs("rvf", "yosys")
+    def test_weight(self) -> None:
+        """The weight that is told is the program's, over every operator, and it is told before the program tells it."""
+        outputs = "narrow 8, wide 100, sums 96, ratios 96, tests 32, moved 128, chosen 32, long 64, held 32, chain 17"
+        names = [one.split() for one in outputs.split(", ")]
+        free = "".join(f"`rvformal_rand_reg [{width - 1}:0] {name};\n" for name, width in
+                       (("a", 32), ("b", 32), ("n", 7), ("i", 4), ("left", 128), ("right", 128)))
+        wires = "".join(f"wire [{int(width) - 1}:0] {name};\n" for name, width in names)
+        ports = ["clock", "reset", "a", "b", "n", "i", *(name for name, _ in names)]
+        joined = ", ".join(f".{name}({name})" for name in ports)
+        seen = " ^ ".join(f"^{name}" for name, _ in names)
+        text = (f"module rvfi_wrapper (input clock, input reset, `RVFI_OUTPUTS);\n{free}{wires}"
+                f"operators one ({joined});\nwire [127:0] heavy = left * right, heavier = heavy * left;\n"
+                f"assign rvfi_valid = {seen} ^ ^heavier;\n"
+                + "".join(f"assign rvfi_{name} = 0;\n" for name, _ in FIELDS[1:]) + "endmodule\n")
+        with tempfile.TemporaryDirectory() as name, contextlib.redirect_stdout(io.StringIO()) as said:
+            made = convert("rvfi_wrapper", text + (cores.CORES / "operators.v").read_text(), ".v", Path(name))
+            lines = verdicts("[depth]\nill 100\n", [made], Path(name))
+        weight, most = map(int, re.search(r"weight (\d+): checks up to cycle (\d+)", said.getvalue()).groups())
+        self.assertEqual(lines, [f"heavy ill_ch0 {101 * weight}"])
+        self.assertEqual(most, 20_000_000 // weight - 1)
+
+    @needs("rvf", "yosys")
+    def test_hidden(self) -> None:
+        """At a cycle in which nothing can retire all rows pass, also those of instructions that the core doesn't
+        know."""
+        case = cases.states()
+        with tempfile.TemporaryDirectory() as name:
+            made = convert(case.top, case.text, case.suffix, Path(name))
+            for depth, many in ((3, 37), (4, 6)):
+                lines = verdicts(f"[depth]\ninsn {depth}\n", [case.wrapper, made], Path(name))
+                self.assertEqual(lines[-1], f"total pass {many} fail {37 - many} spent 0 skip 0")
 
     def judge_picorv32(self, cfg: str, before: str, behind: str) -> set[str]:
         """The checks of PicoRV32, with a fault or as it stands, that fail; all others pass."""
