@@ -25,7 +25,7 @@ ROOT = os.path.dirname(os.path.dirname(os.path.abspath(__file__)))
 BEGIN = "<!-- The crates, by tools/check-docs.py --write -->"
 END = "<!-- The end of the crates -->"
 MOST_LINES = 200
-GROUPS = "fv vl wn tr vcd rv ck bm bb cnf lrat sat rvf".split()
+GROUPS = "fv vl wn tr vcd rv ck bm bb aiger cnf lrat sat rvf".split()
 # This page has figures of crates under names that they had when they were measured.
 OLD_NAMES = ["docs/BENCHMARKS.md"]
 

@@ -1,0 +1,2 @@
+pub mod InputsCounted
+pub mod WriteLaws

@@ -1,0 +1,13 @@
+use Rattle.std.proofs.Common.{arith}
+use Rattle.bb_aig.specs.declared.node.AigNode.TheVariants as n
+use Rattle.aiger_text.proofs.WriteLaws.{gates_step, gates_end}
+use Rattle.aiger_text.proofs.write.put_gates.Goals as goal
+
+pub loop-index-preserved : goal.loop-index-preserved
+loop-index-preserved c =
+    gates_step c.args.nodes.now c.loop-index.index n.False c.loop-index.out.items c.put_gate.new.out.items _
+    (omega arith) c.loop-index.invariant c.in_ok-put_gate.ensures
+
+pub returns : goal.returns
+returns c =
+    gates_end c.loop-index.out.items _ c.loop-index.index c.args.nodes.now (omega arith) c.loop-index.invariant
