@@ -18,13 +18,14 @@ use Rattle.vl_mean.specs.Declarations.{class_of_port, full_ports, ports_of}
 use Rattle.vl_mean.specs.Parts.{assignments, design, optional_value, port_kind, step_parts}
 use Rattle.vl_mean.specs.Runs.{Each}
 use Rattle.vl_mean.specs.Scopes.{Scope}
-use Rattle.vl_mean.specs.Walk.{Place, Step, Unfolding, items_steps, module_place, port, port_names, port_steps}
-use Rattle.vl_mean.specs.Walk.{top_input, walk, with_earlier, written_ports}
+use Rattle.vl_mean.specs.Walk.{Place, Step, Unfolding, Valued, all_valued, items_walk, module_place, port, port_names}
+use Rattle.vl_mean.specs.Walk.{port_steps, top_input, walk, walk_by, with_earlier, written_ports}
 use Rattle.vl_elab_spec.specs.declared.elab_fault.ElabFault.TheVariants as f
 use Rattle.vl_elab_spec.specs.Expressions.{refused_if}
 use Rattle.vl_elab_spec.specs.Items.{given_value, port_net}
 use Rattle.vl_elab_spec.specs.Meanings.{Names, is_variable_class}
-use Rattle.vl_elab_spec.specs.Refused.{first_refused, or_later, refusal, state_bits, too_many_bits}
+use Rattle.vl_elab_spec.specs.Items.{is_valued}
+use Rattle.vl_elab_spec.specs.Refused.{first_refused, judged_walk, or_later, refusal, state_bits, too_many_bits}
 use Rattle.rvf_simple.specs.SimpleTrees.{AreNew, IsSimple, IsSimpleItem, IsSimpleKind, IsSimplePort}
 use Rattle.rvf_simple.specs.SimpleTrees.{items_nodes, ports_nodes, wrapper_nodes, wrapper_ports}
 use Rattle.rvf_simple.proofs.Named.{names, port_meant, top_use, wrapper}
@@ -112,13 +113,13 @@ module _ (ms : List Module) (pos : Pos) (ports : Option (List Port)) (xs : List 
   module _ (each : Each (λ p. IsSimpleKind p.kind) (written_ports ports))
       (assigns : Each (IsSimpleItem (ports_of ports)) xs)
     where
-      items_harmless : (inner : Unfolding) (earlier : List (List ℕ)) (n : ℕ) (ys : List Item)
+      items_harmless : (valued : Valued) (inner : Unfolding) (earlier : List (List ℕ)) (n : ℕ) (ys : List Item)
           → Each (IsSimpleItem (ports_of ports)) ys
-          → AreHarmless ms (items_steps ms inner (items ys) (top_place earlier) n) (items_nodes ys) 0
-      items_harmless inner earlier n [] h =
+          → AreHarmless ms (items_walk valued ms inner (items ys) (top_place earlier) n) (items_nodes ys) 0
+      items_harmless valued inner earlier n [] h =
           record { unrefused = tt; held = tt; nodes_are = refl; names_are = refl }
-      items_harmless inner earlier n (assign attrs p zs ∷ ys) h =
-          let more = items_harmless inner (earlier ++ []) (n + 0) ys h.1 in
+      items_harmless valued inner earlier n (assign attrs p zs ∷ ys) h =
+          let more = items_harmless valued inner (earlier ++ []) (n + 0) ys h.1 in
           record {
             unrefused = (
               assignments_fine (names pos ports xs) (ports_of ports) (port_meant pos ports xs each assigns) zs h.0,
@@ -128,22 +129,22 @@ module _ (ms : List Module) (pos : Pos) (ports : Option (List Port)) (xs : List 
             nodes_are = omega (arith, more.nodes_are);
             names_are = omega (arith, more.names_are);
           }
-      items_harmless inner earlier n (y ∷ ys) h = absurd h.0
+      items_harmless valued inner earlier n (y ∷ ys) h = absurd h.0
 
       -- all steps
-      all_harmless : (inner : Unfolding) → AreNew [] (port_names (ports_of ports))
+      all_harmless : (valued : Valued) (inner : Unfolding) → AreNew [] (port_names (ports_of ports))
           → AreHarmless ms (port_steps (top_place []) top_use None (written_ports ports)
-          ++ items_steps ms inner (items xs) (top_place (port_names (ports_of ports))) 1)
+          ++ items_walk valued ms inner (items xs) (top_place (port_names (ports_of ports))) 1)
           (ports_nodes (ports_of ports) + items_nodes xs) (length (ports_of ports))
-      all_harmless inner new =
+      all_harmless valued inner new =
           let steps : List Step = port_steps (top_place []) top_use None (written_ports ports) in
-          let more : List Step = items_steps ms inner (items xs) (top_place (port_names (ports_of ports))) 1 in
+          let more : List Step = items_walk valued ms inner (items xs) (top_place (port_names (ports_of ports))) 1 in
           let first : AreHarmless ms steps (ports_nodes (ports_of ports)) (length (ports_of ports))
           = subst (λ qs. AreHarmless ms steps (ports_nodes qs) (length qs)) (ports_are ports)
           (ports_harmless [] None (written_ports ports) each
           (subst (λ qs. AreNew [] (port_names qs)) (sym (ports_are ports)) new)) in
           let rest : AreHarmless ms more (items_nodes xs) 0
-          = items_harmless inner (port_names (ports_of ports)) 1 xs assigns in
+          = items_harmless valued inner (port_names (ports_of ports)) 1 xs assigns in
           record {
             unrefused = each_both (IsUnrefused ms) steps more first.unrefused rest.unrefused;
             held = each_both (λ x. Each HoldsNone (step_parts x)) steps more first.held rest.held;
@@ -156,17 +157,19 @@ module _ (ms : List Module) (pos : Pos) (ports : Option (List Port)) (xs : List 
 abbrev top : List ℕ
 top = codes "rvfi_wrapper"
 
-unrefused_walk : (ms : List Module) (nodes declares : ℕ) → AreHarmless ms (walk ms top) nodes declares
+unrefused_walk : (ms : List Module) (nodes declares : ℕ)
+    → ((valued : Valued) → AreHarmless ms (walk_by valued ms top) nodes declares)
     → nodes ≤ 4000000 → declares ≤ 200000
-    → or_later (first_refused ms (record { nodes = 0; names = 0 }) (walk ms top))
+    → or_later (first_refused ms (record { nodes = 0; names = 0 }) (judged_walk ms top))
     (too_many_bits (state_bits (design ms top) (design ms top)))
     ≡ None
 unrefused_walk ms nodes declares h small few =
-    let first : first_refused ms (record { nodes = 0; names = 0 }) (walk ms top) ≡ None
-    = unrefused_steps ms (record { nodes = 0; names = 0 }) (walk ms top) h.unrefused
-    (omega (arith, h.nodes_are, small)) (omega (arith, h.names_are, few)) in
+    let judged : AreHarmless ms (judged_walk ms top) nodes declares = h is_valued in
+    let first : first_refused ms (record { nodes = 0; names = 0 }) (judged_walk ms top) ≡ None
+    = unrefused_steps ms (record { nodes = 0; names = 0 }) (judged_walk ms top) judged.unrefused
+    (omega (arith, judged.nodes_are, small)) (omega (arith, judged.names_are, few)) in
     let bits : state_bits (design ms top) (design ms top) ≡ 0
-    = no_bits (design ms top) (design ms top) (steps_hold_none (walk ms top) h.held) in
+    = no_bits (design ms top) (design ms top) (steps_hold_none (walk ms top) (h all_valued).held) in
     λ i. or_later (first i) (too_many_bits (bits i))
 
 wrapper_unrefused : (pos : Pos) (ports : Option (List Port)) (xs : List Item)
@@ -177,7 +180,8 @@ wrapper_unrefused : (pos : Pos) (ports : Option (List Port)) (xs : List Item)
 wrapper_unrefused pos ports xs each new assigns few small =
     unrefused_walk (wrapper pos ports xs ∷ []) (ports_nodes (ports_of ports) + items_nodes xs)
     (length (ports_of ports))
-    (all_harmless (wrapper pos ports xs ∷ []) pos ports xs each assigns (λ m u path modules front. []) new) small few
+    (λ valued. all_harmless (wrapper pos ports xs ∷ []) pos ports xs each assigns valued
+    (λ m u path modules front. []) new) small few
 
 -- Elaboration refuses no simple wrapper with at most 200,000 ports and 4,000,000 nodes.
 pub simple_unrefused : (ms : List Module) → IsSimple ms → wrapper_ports ms ≤ 200000 → wrapper_nodes ms ≤ 4000000

@@ -1,6 +1,6 @@
 -- Names that aren't refused for standing twice.
-use Rattle.std.specs.Prelude.{◌≡◌, refl, ℕ, zero, suc, List, [], ◌∷◌, ◌++◌, map, Bool, true, false}
-use Rattle.std.specs.Prelude.{◌&&◌, Option, Some, None, is_none, if◌then◌else◌, option_to_list}
+use Rattle.std.specs.Prelude.{◌≡◌, refl, ℕ, List, [], ◌∷◌, ◌++◌, map, Bool, true, false}
+use Rattle.std.specs.Prelude.{Option, Some, None, is_none, if◌then◌else◌, option_to_list}
 use Rattle.std.proofs.Common.{ap, sym, ◌∙◌, true≢false, subst}
 use Rattle.fv_text.specs.declared.pos.Pos.{Pos}
 use Rattle.vl_tree.specs.declared.declaration.DeclaredName.{DeclaredName}
@@ -9,49 +9,25 @@ use Rattle.vl_tree.specs.declared.declaration.Parameter.{Parameter}
 use Rattle.vl_tree.specs.declared.declaration.ParameterKind.{ParameterKind}
 use Rattle.vl_tree.specs.declared.declaration.Port.{Port}
 use Rattle.vl_tree.specs.declared.part.Instance.{Instance}
-use Rattle.vl_tree.specs.declared.part.LoopHead.{LoopHead}
 use Rattle.vl_tree.specs.declared.source.Module.{Module}
 use Rattle.vl_tree.specs.Attributes.{Attributes}
-use Rattle.vl_tree.specs.Item.{
-  Item,
-  Block,
-  declaration,
-  integer,
-  genvar,
-  parameter,
-  assign,
-  always,
-  initial,
-  instance,
-  generate,
-  for_loop,
-  if_only,
-  if_else,
-  begin,
-  region,
-  single,
-}
-use Rattle.vl_mean.specs.declared.const_number.Const.{Const}
+use Rattle.vl_tree.specs.Item.{Item, Block, declaration, integer, genvar, parameter, assign, always, initial, instance}
+use Rattle.vl_tree.specs.Item.{generate, for_loop, if_only, if_else, begin, region, single}
 use Rattle.vl_mean.specs.Cells.{contains_name}
 use Rattle.vl_mean.specs.Declarations.{names_of, labels_of, is_if}
 use Rattle.vl_mean.specs.Declarations.{block_labels as labels_of_block, full_port, full_ports}
 use Rattle.vl_mean.specs.Runs.{Each}
 use Rattle.vl_mean.specs.Walk.{Place, Use, Step, item, with_earlier, port_step, port_steps, port_names}
-use Rattle.vl_mean.specs.Walk.{optional_name, module_named, goes_on, next_turn, first_turn, turn_place}
+use Rattle.vl_mean.specs.Walk.{optional_name, module_named}
 use Rattle.vl_elab_spec.specs.declared.elab_fault.ElabFault.{ElabFault}
 use Rattle.vl_elab_spec.specs.declared.elab_fault.ElabFault.TheVariants as f
-use Rattle.vl_elab_spec.specs.Expressions.{refused_if, own_refusals}
+use Rattle.vl_elab_spec.specs.Expressions.{refused_if}
 use Rattle.vl_elab_spec.specs.Items.{twice, labels_twice, optional_label, placed_labels, block_labels, placed_names}
-use Rattle.vl_elab_spec.specs.Items.{parameters_refusals, step_refusals, head_refusals, turns_refusals}
-use Rattle.vl_elab_spec.specs.Items.{are_none, genvar_refusals, begins, leads_on, turn_refusals, idle_refusals}
-use Rattle.vl_elab_spec.specs.Items.{begun_refusals, without_start}
-use Rattle.vl_elab_spec.specs.Meanings.{Meaning, undeclared, constant, loop_variable, object, faulty, shapeless, later}
-use Rattle.vl_elab_spec.specs.Meanings.{Names, meaning_in, meanings_at}
+use Rattle.vl_elab_spec.specs.Items.{parameters_refusals, step_refusals}
 use Rattle.vl_mean_flat.proofs.EachOf.{each_map, front, back}
 use Rattle.vl_elab_accepted_laws.proofs.Contained.{Lacks, Different, clash, has-first, has-back, lacks-front}
 use Rattle.vl_elab_accepted_laws.proofs.Contained.{lacks-each}
 use Rattle.vl_elab_accepted_laws.proofs.Declared.{name_list}
-use Rattle.vl_elab_accepted_laws.proofs.Turns.{EndsIn}
 
 -- ---- no refusals
 
@@ -245,83 +221,3 @@ module _ (ms : List Module) where
       subst (AreNew at.earlier) (sym (port-names q (full_ports q ps)))
       (port-next at u p.pos q (port_names (full_ports q ps)) (front IsFine (port_step at u p.pos q) more h)
       (ports-new (with_earlier at (optional_name q)) u q ps (back IsFine (port_step at u p.pos q) more h)))
-
--- ---- the turns of a loop come to an end
-
-pub record Ends (goes : Const → Bool) (next : Const → Const) (c : Const) : Type 0 where
-  pub count : ℕ
-  pub ends : EndsIn goes next count c
-
--- a turn in which nothing is refused leads on where its condition holds
-leads-by : (own step : List ElabFault) (b : Bool) → NoneOf own
-    → NoneOf (if are_none own && b then step else []) → ((are_none own && b) && are_none step) ≡ b
-leads-by [] step true e h = ap are_none h
-leads-by [] step false e h = refl
-leads-by (g ∷ gs) step b e h = absurd (some-fault g gs e)
-
-leads-where-goes : (head : LoopHead) (at : Place) (c : Const) → NoneOf (turn_refusals head at c)
-    → leads_on head at c ≡ goes_on head at.scopes c
-leads-where-goes head at c h =
-    let there : List Names = meanings_at (turn_place at head.variable c) in
-    let own : List ElabFault = own_refusals there true head.condition in
-    let step : List ElabFault = genvar_refusals there head.next in
-    leads-by own step (goes_on head at.scopes c)
-    (none-front own (if are_none own && goes_on head at.scopes c then step else []) h)
-    (none-back own (if are_none own && goes_on head at.scopes c then step else []) h)
-
-begins-by : (own : List ElabFault) (b : Bool) → NoneOf own → (are_none own && b) ≡ b
-begins-by own b h = ap (λ gs. are_none gs && b) h
-
-turns-end : (n : ℕ) (head : LoopHead) (at : Place) (p : Pos) (c : Const) → NoneOf (turns_refusals n head at p c)
-    → Ends (goes_on head at.scopes) (next_turn head at.scopes) c
-turns-end zero head at p c h =
-    let own : List ElabFault =
-    own_refusals (meanings_at (turn_place at head.variable c)) true head.condition in
-    let last : List ElabFault = refused_if (begins head at c) (f.GenLoop p) in
-    record {
-      count = 0;
-      ends = sym (begins-by own (goes_on head at.scopes c) (none-front own last h))
-          ∙ not-refused (begins head at c) _ (none-back own last h);
-    }
-turns-end (suc n) head at p c h =
-    let more : List ElabFault = turns_refusals n head at p (next_turn head at.scopes c) in
-    by (goes_on head at.scopes c) refl (turns-end n head at p (next_turn head at.scopes c))
-    (subst (λ b. NoneOf (if b then more else []))
-    (leads-where-goes head at c (none-front (turn_refusals head at c) (if leads_on head at c then more else []) h))
-    (none-back (turn_refusals head at c) (if leads_on head at c then more else []) h))
-  where
-    by : (b : Bool) → goes_on head at.scopes c ≡ b
-        → (NoneOf (turns_refusals n head at p (next_turn head at.scopes c))
-        → Ends (goes_on head at.scopes) (next_turn head at.scopes) (next_turn head at.scopes c))
-        → NoneOf (if b then turns_refusals n head at p (next_turn head at.scopes c) else [])
-        → Ends (goes_on head at.scopes) (next_turn head at.scopes) c
-    by true e next h =
-        let more : Ends (goes_on head at.scopes) (next_turn head at.scopes) (next_turn head at.scopes c) = next h
-        in record { count = suc more.count; ends = (e, more.ends) }
-    by false e next h = record { count = 0; ends = e }
-
-begun-none : (start begun without : List ElabFault) → NoneOf (start ++ (if are_none start then begun else without))
-    → NoneOf begun
-begun-none [] begun without h = h
-begun-none (g ∷ gs) begun without h = absurd (some-fault g _ h)
-
-head-ends : (at : Place) (p : Pos) (head : LoopHead) (m : Meaning) → NoneOf (head_refusals at p head m)
-    → Ends (goes_on head at.scopes) (next_turn head at.scopes) (first_turn head at.scopes)
-head-ends at p head undeclared h = absurd (some-fault _ _ h)
-head-ends at p head (constant c selected) h = absurd (some-fault _ _ h)
-head-ends at p head loop_variable h =
-    let first : Const = first_turn head at.scopes in
-    turns-end 4096 head at p first
-    (none-back (idle_refusals head at first) (turns_refusals 4096 head at p first)
-    (begun-none (genvar_refusals (meanings_at at) head.start) (begun_refusals head at p first)
-    (without_start head (meanings_at at)) h))
-head-ends at p head (object d input scalar) h = absurd (some-fault _ _ h)
-head-ends at p head faulty h = absurd (some-fault _ _ h)
-head-ends at p head shapeless h = absurd (some-fault _ _ h)
-head-ends at p head later h = absurd (some-fault _ _ h)
-
-pub loop-ends : (ms : List Module) (at : Place) (attrs : Attributes) (p : Pos) (head : LoopHead) (b : Block)
-    → IsFine ms (item at (for_loop attrs p head b))
-    → Ends (goes_on head at.scopes) (next_turn head at.scopes) (first_turn head at.scopes)
-loop-ends ms at attrs p head b h =
-    head-ends at p head (meaning_in (meanings_at at) head.variable) (none-back _ _ h)

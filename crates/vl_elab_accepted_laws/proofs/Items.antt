@@ -49,7 +49,7 @@ use Rattle.vl_elab_accepted_laws.proofs.Declared.{vectors-under}
 use Rattle.vl_elab_accepted_laws.proofs.Declared.{integers-under}
 use Rattle.vl_elab_accepted_laws.proofs.Genblk.{is_mark, unlabelled-lacks, unlabelled-number, unlabelled-free}
 use Rattle.vl_elab_accepted_laws.proofs.Good.{Good, good-none, Under, Any, good-under}
-use Rattle.vl_elab_accepted_laws.proofs.Loops.{AreFine, AreFew}
+use Rattle.vl_elab_accepted_laws.proofs.Loops.{AreClear, AreFew}
 use Rattle.vl_elab_accepted_laws.proofs.Plain.{Plain, name-plain, all-head, all-tail}
 use Rattle.vl_elab_accepted_laws.proofs.Texts.{until, until-free}
 use Rattle.vl_elab_accepted_laws.proofs.Turns.{IsTurn}
@@ -212,12 +212,12 @@ found-module (x ∷ ms) text m h e =
 
 pub good-module : (ms : List Module) (P : List ℕ → Type 0) (text : List ℕ) (F : Module → List Step)
     → All IsModule ms
-    → ((m : Module) → IsModule m → AreFine ms (F m) → AreFew 1 (F m) → Good P (full_names (F m)))
-    → AreFine ms (with_module (module_named ms text) F) → AreFew 1 (with_module (module_named ms text) F)
+    → ((m : Module) → IsModule m → AreClear ms (F m) → AreFew 1 (F m) → Good P (full_names (F m)))
+    → AreClear ms (with_module (module_named ms text) F) → AreFew 1 (with_module (module_named ms text) F)
     → Good P (full_names (with_module (module_named ms text) F))
 good-module ms P text F formed g h l = by (module_named ms text) refl h l
   where
-    by : (o : Option Module) → module_named ms text ≡ o → AreFine ms (with_module o F)
+    by : (o : Option Module) → module_named ms text ≡ o → AreClear ms (with_module o F)
         → AreFew 1 (with_module o F)
         → Good P (full_names (with_module o F))
     by None e h l = good-none P
@@ -227,7 +227,7 @@ good-module ms P text F formed g h l = by (module_named ms text) refl h l
 abbrev pub Given : List Module → Unfolding → Type 0
 Given ms inner =
     (m : Module) (u : Use) (path : List ℕ) (modules : List (List ℕ)) (before : List Step) → IsModule m
-    → full_names before ≡ [] → AreFine ms (inner m u path modules before)
+    → full_names before ≡ [] → AreClear ms (inner m u path modules before)
     → AreFew 1 (inner m u path modules before)
     → Good (Under path Any) (full_names (inner m u path modules before))
 

@@ -5,12 +5,14 @@ pub mod Declared
 pub mod Turns
 pub mod Plain
 pub mod Fresh
+pub mod Ends
 pub mod Good
 pub mod Loops
 pub mod Items
 pub mod Scopes
 pub mod Modules
 pub mod Names
+pub mod NoneRefused
 pub mod Fixed
 pub mod Tests
 pub mod Parts
@@ -31,6 +33,7 @@ pub mod Parameters
 pub mod Shapes
 pub mod Places
 pub mod SoundWalked
+pub mod JudgedWalked
 pub mod Letters
 pub mod Paths
 pub mod Printed

@@ -9,6 +9,7 @@ use Rattle.vl_mean.specs.declared.const_number.Const.{Const}
 use Rattle.vl_mean.specs.Runs.{Each}
 use Rattle.vl_mean.specs.Walk.{Step, turns, turn_path}
 use Rattle.vl_mean_flat.proofs.EachOf.{front, back}
+use Rattle.vl_elab_accepted_laws.specs.SoundSteps.{HasSoundNames}
 use Rattle.vl_elab_accepted_laws.proofs.Contained.{clash}
 use Rattle.vl_elab_accepted_laws.proofs.Declared.{full_names}
 use Rattle.vl_elab_accepted_laws.proofs.Fresh.{IsFine}
@@ -20,6 +21,17 @@ use Rattle.vl_elab_accepted_laws.proofs.Turns.{EndsIn, ends-once, IsTurn, index,
 
 abbrev pub AreFine : List Module → List Step → Type 0
 AreFine ms xs = Each (IsFine ms) xs
+
+-- nor is a name in its place one whose own declaration is refused
+abbrev pub IsClear : List Module → Step → Type 0
+IsClear ms x = IsFine ms x × HasSoundNames x
+
+abbrev pub AreClear : List Module → List Step → Type 0
+AreClear ms xs = Each (IsClear ms) xs
+
+pub both-clear : (ms : List Module) (xs : List Step) → AreFine ms xs → Each HasSoundNames xs → AreClear ms xs
+both-clear ms [] h k = tt
+both-clear ms (x ∷ xs) h k = ((h.0, k.0), both-clear ms xs h.1 k.1)
 
 -- so few steps that numbers of constructs are printed whole
 abbrev pub AreFew : ℕ → List Step → Type 0
@@ -92,23 +104,23 @@ module _ (ms : List Module) (goes : Const → Bool) (next : Const → Const) (pa
       let late : l.count ≤ k = l.late in absurd (omega arith)
 
   good-if : (b : Bool) (P : List ℕ → Type 0) (xs : List Step)
-      → (AreFine ms xs → AreFew 1 xs → Good P (full_names xs))
-      → AreFine ms (if b then xs else []) → AreFew 1 (if b then xs else [])
+      → (AreClear ms xs → AreFew 1 xs → Good P (full_names xs))
+      → AreClear ms (if b then xs else []) → AreFew 1 (if b then xs else [])
       → Good P (full_names (if b then xs else []))
   good-if true P xs f h l = f h l
   good-if false P xs f h l = good-none P
 
   pub good-turns : (n : ℕ) (c : Const) (k : ℕ) → IsTurn c → ((d : Const) → IsTurn (next d))
       → EndsIn goes next k c
-      → ((d : Const) → AreFine ms (body d) → AreFew 1 (body d)
+      → ((d : Const) → AreClear ms (body d) → AreFew 1 (body d)
       → Good (Under (turn_path path label d) Any) (full_names (body d)))
-      → AreFine ms (turns n goes next body c) → AreFew 1 (turns n goes next body c)
+      → AreClear ms (turns n goes next body c) → AreFew 1 (turns n goes next body c)
       → Good (IsLater k) (full_names (turns n goes next body c))
   good-turns zero c k t u e f h l = good-none (IsLater k)
   good-turns (suc n) c zero t u e f h l = by (goes c) e h l
     where
       by : (b : Bool) → b ≡ false
-          → AreFine ms (if b then body c ++ turns n goes next body (next c) else [])
+          → AreClear ms (if b then body c ++ turns n goes next body (next c) else [])
           → AreFew 1 (if b then body c ++ turns n goes next body (next c) else [])
           → Good (IsLater zero) (full_names (if b then body c ++ turns n goes next body (next c) else []))
       by true e h l = absurd (clash refl e)
@@ -121,8 +133,8 @@ module _ (ms : List Module) (goes : Const → Bool) (next : Const → Const) (pa
       (λ m p. let late : p.count ≤ k = p.late in
       record { value = p.value; count = p.count; ends = p.ends; late = omega arith; of = p.of })
       (good-map (λ m p. record { turn = t; under = p }) (full_names xs)
-      (f c (front (IsFine ms) xs ys h) (few-front 1 xs ys l)))
-      (good-turns n (next c) k (u c) u e.1 f (back (IsFine ms) xs ys h) (few-back 1 xs ys l))) h l
+      (f c (front (IsClear ms) xs ys h) (few-front 1 xs ys l)))
+      (good-turns n (next c) k (u c) u e.1 f (back (IsClear ms) xs ys h) (few-back 1 xs ys l))) h l
 
 -- of the scope around the loop
 pub later-under : (ms : List Module) (goes : Const → Bool) (next : Const → Const) (path label : List ℕ)

@@ -19,7 +19,7 @@ use Rattle.vl_mean.specs.Runs.{Each}
 use Rattle.vl_mean.specs.Walk.{Place, Use, Step, Unfolding, header_steps, port_step, port_steps, port_names}
 use Rattle.vl_mean.specs.Walk.{parameter_names, module_parameters, module_names, module_place, written_ports}
 use Rattle.vl_mean.specs.Walk.{optional_name, with_earlier, items_steps, unfolded}
-use Rattle.vl_mean_flat.proofs.EachOf.{front, back}
+use Rattle.vl_mean_flat.proofs.EachOf.{front, back, each_map}
 use Rattle.vl_elab_accepted_laws.proofs.Contained.{Has, clash, has-front, has-back, lacks-back, each-has, each-of}
 use Rattle.vl_elab_accepted_laws.proofs.Declared.{full_names, full-append, under, optional-none}
 use Rattle.vl_elab_accepted_laws.proofs.Fresh.{IsFine, AreNew, ports-new}
@@ -27,7 +27,7 @@ use Rattle.vl_elab_accepted_laws.proofs.Genblk.{is_mark}
 use Rattle.vl_elab_accepted_laws.proofs.Good.{Good, good-none, good-both, Under, Any, under-map, under-apart}
 use Rattle.vl_elab_accepted_laws.proofs.Good.{good-under}
 use Rattle.vl_elab_accepted_laws.proofs.Items.{IsNew, IsBehind, ItemsHead, not-numbered, Given}
-use Rattle.vl_elab_accepted_laws.proofs.Loops.{AreFine, few-back, positive-one}
+use Rattle.vl_elab_accepted_laws.proofs.Loops.{AreFine, IsClear, AreClear, few-back, positive-one}
 use Rattle.vl_elab_accepted_laws.proofs.Plain.{Plain, name-plain, all-each}
 use Rattle.vl_elab_accepted_laws.proofs.Scopes.{good-items}
 use Rattle.vl_elab_accepted_laws.proofs.Texts.{until, until-free}
@@ -141,8 +141,9 @@ module _ (ms : List Module) (formed : All IsModule ms) where
       let ports : List Step = port_steps at_ports u None (written_ports m.ports) in
       let rest : List Step = items_steps ms inner (items m.items) at_items 1 in
       let P : List ℕ → Type 0 = Under path (Has (port_names (ports_of m.ports))) in
-      let fine_ports : AreFine ms ports = back (IsFine ms) (before ++ head) ports
-      (front (IsFine ms) (before ++ head ++ ports) rest h) in
+      let clear_ports : AreClear ms ports = back (IsClear ms) (before ++ head) ports
+      (front (IsClear ms) (before ++ head ++ ports) rest h) in
+      let fine_ports : AreFine ms ports = each_map (λ x k. k.0) ports clear_ports in
       let no_names : full_names (before ++ head) ≡ []
       = full-append before head ∙ (λ i. e i ++ headers-none at (module_parameters m) i) in
       let here : Each (Has (module_names m)) (all_names (items m.items))
@@ -153,4 +154,4 @@ module _ (ms : List Module) (formed : All IsModule ms) where
       (under-map path (λ h p. tt))
       (good-front P (before ++ head) ports no_names (good-ports ms at_ports u m.ports w.2 fine_ports))
       (good-items ms formed inner (good-unfolded n) (items m.items) at_items 1 w.4 here positive-one
-      (few-back 1 (before ++ head ++ ports) rest l) (back (IsFine ms) (before ++ head ++ ports) rest h))
+      (few-back 1 (before ++ head ++ ports) rest l) (back (IsClear ms) (before ++ head ++ ports) rest h))

@@ -1,117 +1,27 @@
 -- The full names of a design that isn't refused differ.
-use Rattle.std.specs.Prelude.{◌≡◌, refl, ℕ, ◌+◌, ◌≤◌, nat_lt, List, [], ◌∷◌, length}
-use Rattle.std.specs.Prelude.{true, false, Option, Some, None, is_none, All}
-use Rattle.std.proofs.Common.{ap, sym, true≢false, subst, arith}
-use Rattle.std.proofs.lemmas.Bool.Decides.{nat_tests}
+use Rattle.std.specs.Prelude.{refl, ℕ, ◌+◌, ◌≤◌, List, [], length}
+use Rattle.std.specs.Prelude.{true, All}
+use Rattle.std.proofs.Common.{sym, subst, arith}
 use Rattle.vl_tree.specs.declared.source.Module.{Module}
-use Rattle.vl_tree.specs.Item.{
-  Item,
-  declaration,
-  integer,
-  genvar,
-  parameter,
-  assign,
-  always,
-  initial,
-  instance,
-  generate,
-  for_loop,
-  if_only,
-  if_else,
-}
 use Rattle.vl_tree.specs.WellFormed.{IsModule}
 use Rattle.vl_size.specs.Table.{AreDifferent}
 use Rattle.vl_mean.specs.Parts.{design}
-use Rattle.vl_mean.specs.Walk.{Place, Use, Step, header, port, item, override, connection, top_input}
+use Rattle.vl_mean.specs.Walk.{Use, Step, top_input}
 use Rattle.vl_mean.specs.Walk.{unfolded}
-use Rattle.vl_mean.specs.Walk.{first_turn}
 use Rattle.vl_mean.specs.Walk.{walk}
-use Rattle.vl_elab_spec.specs.declared.elab_fault.ElabFault.{ElabFault}
 use Rattle.vl_elab_spec.specs.declared.elab_fault.ElabFault.TheVariants as f
-use Rattle.vl_elab_spec.specs.Counts.{item_nodes, step_nodes, turn_nodes}
 use Rattle.vl_mean.specs.FlatLaw.{nodes}
-use Rattle.vl_elab_spec.specs.Items.{step_refusals}
-use Rattle.vl_elab_spec.specs.Refused.{Totals, counted, first_refused, is_too_large, lowest}
-use Rattle.vl_elab_spec.specs.Refused.{or_later, refusals_at}
+use Rattle.vl_elab_spec.specs.Refused.{counted}
 use Rattle.vl_mean_flat.specs.Flattened.{decls_of}
 use Rattle.vl_elab_accepted_laws.specs.Unrefused.{NoStepRefused}
-use Rattle.vl_elab_accepted_laws.proofs.Contained.{Different, or_first}
+use Rattle.vl_elab_accepted_laws.proofs.Contained.{Different}
 use Rattle.vl_elab_accepted_laws.proofs.Declared.{full_names, full-parts, different-decls}
-use Rattle.vl_elab_accepted_laws.proofs.Fresh.{NoneOf, none-front, none-back, not-refused}
 use Rattle.vl_elab_accepted_laws.proofs.Good.{Good, Under, Any}
 use Rattle.vl_elab_accepted_laws.proofs.Items.{good-module}
-use Rattle.vl_elab_accepted_laws.proofs.Loops.{AreFine, AreFew}
+use Rattle.vl_elab_accepted_laws.proofs.Loops.{AreFew, both-clear}
+use Rattle.vl_elab_accepted_laws.proofs.NoneRefused.{IsCounted, walk-counted}
+use Rattle.vl_elab_accepted_laws.proofs.SoundWalked.{walk_sound}
 use Rattle.vl_elab_accepted_laws.proofs.Modules.{good-unfolded}
-
--- ---- no step is refused
-
-later-first : (g h : Option ElabFault) → or_later g h ≡ None → g ≡ None
-later-first None h e = refl
-later-first (Some g) h e = e
-
-later-second : (g h : Option ElabFault) → or_later g h ≡ None → h ≡ None
-later-second None h e = e
-later-second (Some g) h e = absurd (true≢false (sym (ap is_none e)))
-
-lowest-none : (gs : List ElabFault) → lowest gs ≡ None → NoneOf gs
-lowest-none [] e = refl
-lowest-none (g ∷ gs) e = absurd (true≢false (sym (ap is_none e)))
-
-counted-once : (n : ℕ) → 1 ≤ n + 1
-counted-once n = omega arith
-
-item-counts : (at : Place) (x : Item) → 1 ≤ item_nodes at x
-item-counts at (declaration attrs p d) = omega arith
-item-counts at (integer attrs p xs) = omega arith
-item-counts at (genvar attrs p xs) = omega arith
-item-counts at (parameter attrs p kind xs) = omega arith
-item-counts at (assign attrs p xs) = omega arith
-item-counts at (always attrs p event s) = omega arith
-item-counts at (initial attrs p s) = omega arith
-item-counts at (instance attrs p x) = omega arith
-item-counts at (generate attrs p mark) = omega arith
-item-counts at (for_loop attrs p head b) =
-    counted-once (nodes head.start + turn_nodes 4096 head at (first_turn head at.scopes))
-item-counts at (if_only attrs p c b) = omega arith
-item-counts at (if_else attrs p c b d) = omega arith
-
-step-counts : (x : Step) → 1 ≤ step_nodes x
-step-counts (header at x) = omega arith
-step-counts (port at u p q) = omega arith
-step-counts (item at x) = item-counts at x
-step-counts (override at m u given x) = omega arith
-step-counts (connection at m u inside given x) = omega arith
-
-pub record IsCounted (ms : List Module) (t : Totals) (xs : List Step) : Type 0 where
-  pub fine : AreFine ms xs
-  pub few : t.nodes + length xs ≤ 4000000
-
-not-large : (n : ℕ) → nat_lt 4000000 n ≡ false → n ≤ 4000000
-not-large n h = grind (arith, nat_tests)
-
-none-refused : (ms : List Module) (t : Totals) (xs : List Step) → t.nodes ≤ 4000000
-    → first_refused ms t xs ≡ None
-    → IsCounted ms t xs
-none-refused ms t [] f e = record { fine = tt; few = omega arith }
-none-refused ms t (x ∷ xs) f e =
-    let first : NoneOf (refusals_at ms t x)
-    = lowest-none (refusals_at ms t x) (later-first (lowest (refusals_at ms t x))
-    (first_refused ms (counted t x) xs) e) in
-    let small : is_too_large (counted t x) ≡ false
-    = not-refused (is_too_large (counted t x)) _ (none-back (step_refusals ms x) _ first) in
-    let few : t.nodes + step_nodes x ≤ 4000000 = not-large (t.nodes + step_nodes x) (or_first _ _ small) in
-    let rest : IsCounted ms (counted t x) xs = none-refused ms (counted t x) xs few
-    (later-second (lowest (refusals_at ms t x)) (first_refused ms (counted t x) xs) e) in
-    let more : t.nodes + step_nodes x + length xs ≤ 4000000 = rest.few in
-    let one : 1 ≤ step_nodes x = step-counts x in
-    record { fine = (none-front (step_refusals ms x) _ first, rest.fine); few = omega arith }
-
-walk-counted : (ms : List Module) (top : List ℕ) → NoStepRefused ms top
-    → IsCounted ms (record { nodes = 0; names = 0 }) (walk ms top)
-walk-counted ms top e = none-refused ms (record { nodes = 0; names = 0 }) (walk ms top) (omega arith) e
-
-pub walk-fine : (ms : List Module) (top : List ℕ) → NoStepRefused ms top → AreFine ms (walk ms top)
-walk-fine ms top e = (walk-counted ms top e).fine
 
 few-of : (xs : List Step) → 0 + length xs ≤ 4000000 → AreFew 1 xs
 few-of xs h = omega arith
@@ -125,6 +35,7 @@ names_differ ms top formed e =
     let u : Use = record { is_top = true; overrides = []; input = top_input } in
     let good : Good (Under [] Any) (full_names (walk ms top))
     = good-module ms (Under [] Any) top (λ m. unfolded (length ms) ms m u [] [] []) formed
-    (λ m w h l. good-unfolded ms formed (length ms) m u [] [] [] w refl h l) counted.fine
+    (λ m w h l. good-unfolded ms formed (length ms) m u [] [] [] w refl h l)
+    (both-clear ms (walk ms top) counted.fine (walk_sound ms top formed e))
     (few-of (walk ms top) counted.few) in
     different-decls (design ms top) (subst Different (sym (full-parts (walk ms top))) good.different)

@@ -21,14 +21,14 @@ use Rattle.vl_mean.specs.Parts.{Part, declares, equation, combinational, clocked
 use Rattle.vl_mean.specs.Parts.{item_parts}
 use Rattle.vl_mean.specs.Parts.{parts_of_steps, port_kind, step_parts, values_of}
 use Rattle.vl_mean.specs.Runs.{Each}
-use Rattle.vl_mean.specs.Walk.{Place, Step, header, port, item, override, connection, first_turn, module_named}
+use Rattle.vl_mean.specs.Walk.{Place, Step, header, port, item, override, connection, module_named}
 use Rattle.vl_mean.specs.Walk.{top_input}
 use Rattle.vl_mean.specs.Walk.{walk}
 use Rattle.vl_mean_flat.specs.Flattened.{decls_of}
 use Rattle.vl_mean_flat.proofs.EachOf.{both}
 use Rattle.vl_elab_spec.specs.declared.elab_fault.ElabFault.{ElabFault}
 use Rattle.vl_elab_spec.specs.declared.elab_fault.ElabFault.TheVariants as f
-use Rattle.vl_elab_spec.specs.Counts.{item_nodes, step_nodes, turn_nodes}
+use Rattle.vl_elab_spec.specs.Counts.{item_nodes, step_nodes, loop_nodes}
 use Rattle.vl_elab_spec.specs.Items.{step_refusals}
 use Rattle.vl_elab_spec.specs.Refused.{Totals, counted, first_refused, is_too_large, lowest, or_later}
 use Rattle.vl_elab_spec.specs.Refused.{refusals_at}
@@ -165,7 +165,7 @@ item_counts at (initial attrs p s) = omega arith
 item_counts at (instance attrs p x) = omega arith
 item_counts at (generate attrs p mark) = omega arith
 item_counts at (for_loop attrs p head b) =
-    counted_once (nodes head.start + turn_nodes 4096 head at (first_turn head at.scopes))
+    counted_once (nodes head.start + loop_nodes head at)
 item_counts at (if_only attrs p c b) = omega arith
 item_counts at (if_else attrs p c b d) = omega arith
 

@@ -7,7 +7,7 @@ use Rattle.vl_tree.specs.declared.part.LoopHead.{LoopHead}
 use Rattle.vl_tree.specs.declared.source.Module.{Module}
 use Rattle.vl_tree.specs.Attributes.{Attributes}
 use Rattle.fv_text.specs.declared.pos.Pos.{Pos}
-use Rattle.vl_tree.specs.WellFormed.{IsWellFormed, AreWellFormed, IsBlock, IsModule}
+use Rattle.vl_tree.specs.WellFormed.{IsHead, IsWellFormed, AreWellFormed, IsBlock, IsModule}
 use Rattle.vl_tree.specs.Item.{
   Item,
   Items,
@@ -45,7 +45,8 @@ use Rattle.vl_mean.specs.Walk.{block_steps, with_earlier}
 use Rattle.vl_mean_flat.proofs.EachOf.{front, back}
 use Rattle.vl_elab_accepted_laws.proofs.Contained.{Has, Lacks, has-first, has-front, has-back}
 use Rattle.vl_elab_accepted_laws.proofs.Declared.{full_names}
-use Rattle.vl_elab_accepted_laws.proofs.Fresh.{IsFine, names-new, item-new, none-front, Ends, loop-ends}
+use Rattle.vl_elab_accepted_laws.proofs.Fresh.{names-new, item-new, none-front}
+use Rattle.vl_elab_accepted_laws.proofs.Ends.{Ends, loop-ends}
 use Rattle.vl_elab_accepted_laws.proofs.Good.{Good, good-none, good-map, good-both, Under, Any, under-map, under-apart}
 use Rattle.vl_elab_accepted_laws.proofs.Good.{deeper}
 use Rattle.vl_elab_accepted_laws.proofs.Items.{IsNumbered, ItemHead, BlockHead, ItemsHead, item-apart, item-first}
@@ -53,7 +54,8 @@ use Rattle.vl_elab_accepted_laws.proofs.Items.{item-rest}
 use Rattle.vl_elab_accepted_laws.proofs.Items.{good-objects, good-nothing, front-none, good-module, Given, label-plain}
 use Rattle.vl_elab_accepted_laws.proofs.Items.{label-head}
 use Rattle.vl_elab_accepted_laws.proofs.Items.{label-named, loop-head, if-names, self, genvar-turn, start-turn}
-use Rattle.vl_elab_accepted_laws.proofs.Loops.{AreFine, AreFew, few-front, few-start, few-tail, few-one, few-next}
+use Rattle.vl_elab_accepted_laws.proofs.Loops.{IsClear, AreClear, AreFew, few-front, few-start, few-tail, few-one}
+use Rattle.vl_elab_accepted_laws.proofs.Loops.{few-next}
 use Rattle.vl_elab_accepted_laws.proofs.Loops.{few-rest}
 use Rattle.vl_elab_accepted_laws.proofs.Loops.{none-or-more, one-or-more, positive-sum, positive-one, good-turns}
 use Rattle.vl_elab_accepted_laws.proofs.Loops.{later-under}
@@ -99,19 +101,19 @@ module _ (ms : List Module) (formed : All IsModule ms) (inner : Unfolding) (give
       turn_steps ms inner b (turn_place at head.variable c)
       (turn_path at.path (block_name at.names n (label_of b)) c)
 
-  first-fine : (x : Item) (at : Place) (n : ℕ) → AreFine ms (Steps x at n) → IsFine ms (item at x)
-  first-fine (declaration attrs p d) at n h = h.0
-  first-fine (integer attrs p xs) at n h = h.0
-  first-fine (genvar attrs p xs) at n h = h.0
-  first-fine (parameter attrs p kind xs) at n h = h.0
-  first-fine (assign attrs p xs) at n h = h.0
-  first-fine (always attrs p event s) at n h = h.0
-  first-fine (initial attrs p s) at n h = h.0
-  first-fine (instance attrs p x) at n h = h.0
-  first-fine (generate attrs p mark) at n h = h.0
-  first-fine (for_loop attrs p head b) at n h = h.0
-  first-fine (if_only attrs p c b) at n h = h.0
-  first-fine (if_else attrs p c b d) at n h = h.0
+  first-clear : (x : Item) (at : Place) (n : ℕ) → AreClear ms (Steps x at n) → IsClear ms (item at x)
+  first-clear (declaration attrs p d) at n h = h.0
+  first-clear (integer attrs p xs) at n h = h.0
+  first-clear (genvar attrs p xs) at n h = h.0
+  first-clear (parameter attrs p kind xs) at n h = h.0
+  first-clear (assign attrs p xs) at n h = h.0
+  first-clear (always attrs p event s) at n h = h.0
+  first-clear (initial attrs p s) at n h = h.0
+  first-clear (instance attrs p x) at n h = h.0
+  first-clear (generate attrs p mark) at n h = h.0
+  first-clear (for_loop attrs p head b) at n h = h.0
+  first-clear (if_only attrs p c b) at n h = h.0
+  first-clear (if_else attrs p c b d) at n h = h.0
 
   constructs-few : (x : Item) (at : Place) (n : ℕ) → constructs x ≤ length (Steps x at n)
   constructs-few (declaration attrs p d) at n = none-or-more (Steps (declaration attrs p d) at n)
@@ -128,8 +130,8 @@ module _ (ms : List Module) (formed : All IsModule ms) (inner : Unfolding) (give
   constructs-few (if_else attrs p c b d) at n = one-or-more _
 
   good-choice : (c : Bool) (P : List ℕ → Type 0) (n : ℕ) (xs ys : List Step)
-      → (AreFine ms xs → AreFew n xs → Good P (full_names xs))
-      → (AreFine ms ys → AreFew n ys → Good P (full_names ys)) → AreFine ms (if c then xs else ys)
+      → (AreClear ms xs → AreFew n xs → Good P (full_names xs))
+      → (AreClear ms ys → AreFew n ys → Good P (full_names ys)) → AreClear ms (if c then xs else ys)
       → AreFew n (if c then xs else ys)
       → Good P (full_names (if c then xs else ys))
   good-choice true P n xs ys f g h l = f h l
@@ -137,33 +139,33 @@ module _ (ms : List Module) (formed : All IsModule ms) (inner : Unfolding) (give
 
   -- the item of a block without `begin`
   good-single : (c : Bool) (x : Item) (at inside : Place) (P : List ℕ → Type 0) (n : ℕ) → is_if x ≡ c
-      → 0 < n → (is_if x ≡ true → AreFine ms (Steps x at n) → AreFew n (Steps x at n)
+      → 0 < n → (is_if x ≡ true → AreClear ms (Steps x at n) → AreFew n (Steps x at n)
       → Good P (full_names (Steps x at n)))
-      → (is_if x ≡ false → AreFine ms (Steps x inside 1) → AreFew 1 (Steps x inside 1)
+      → (is_if x ≡ false → AreClear ms (Steps x inside 1) → AreFew 1 (Steps x inside 1)
       → Good P (full_names (Steps x inside 1)))
-      → AreFine ms (Steps x (if c then at else inside) (if c then n else 1))
+      → AreClear ms (Steps x (if c then at else inside) (if c then n else 1))
       → AreFew n (Steps x (if c then at else inside) (if c then n else 1))
       → Good P (full_names (Steps x (if c then at else inside) (if c then n else 1)))
   good-single true x at inside P n e z f g h l = f e h l
   good-single false x at inside P n e z f g h l = g e h (few-one n (Steps x inside 1) z l)
 
   good-loop : (attrs : Attributes) (p : Pos) (head : LoopHead) (b : Block) (at : Place) (n : ℕ)
-      → IsOptionalName (label_of b) → n < 2 ^ 64 → IsFine ms (item at (for_loop attrs p head b))
-      → ((c : Const) (path : List ℕ) → AreFine ms (turn_steps ms inner b (turn_place at head.variable c) path)
+      → IsHead head → IsOptionalName (label_of b) → n < 2 ^ 64 → IsClear ms (item at (for_loop attrs p head b))
+      → ((c : Const) (path : List ℕ) → AreClear ms (turn_steps ms inner b (turn_place at head.variable c) path)
       → AreFew 1 (turn_steps ms inner b (turn_place at head.variable c) path)
       → Good (Under path Any) (full_names (turn_steps ms inner b (turn_place at head.variable c) path)))
-      → AreFine ms (loop_turns head at.scopes (bodies head b at n))
+      → AreClear ms (loop_turns head at.scopes (bodies head b at n))
       → AreFew 1 (loop_turns head at.scopes (bodies head b at n))
       → Good (Under at.path (ItemHead at.names (for_loop attrs p head b) n))
       (full_names (loop_turns head at.scopes (bodies head b at n)))
-  good-loop attrs p head b at n named few fine f h l =
+  good-loop attrs p head b at n w named few clear f h l =
       let x : Item = for_loop attrs p head b in
       let label : List ℕ = block_name at.names n (label_of b) in
       let goes : Const → Bool = goes_on head at.scopes in
       let next : Const → Const = next_turn head at.scopes in
       let body : Const → List Step = bodies head b at n in
       let ends : Ends (goes_on head at.scopes) (next_turn head at.scopes) (first_turn head at.scopes)
-      = loop-ends ms at attrs p head b fine in
+      = loop-ends ms at attrs p head b clear.1 w clear.0 in
       good-map (later-under ms goes next at.path label body (ItemHead at.names x n) ends.count
       (label-plain at.names n (label_of b) few named) (loop-head at.names x n (label_of b) refl refl))
       (full_names (loop_turns head at.scopes body))
@@ -173,14 +175,14 @@ module _ (ms : List Module) (formed : All IsModule ms) (inner : Unfolding) (give
 
   mutual
     good-item : (x : Item) (at : Place) (n : ℕ) → IsWellFormed x → 0 < n → AreFew n (Steps x at n)
-        → AreFine ms (Steps x at n)
+        → AreClear ms (Steps x at n)
         → Good (Under at.path (ItemHead at.names x n)) (full_names (Steps x at n))
     good-item (declaration attrs p d) at n w z l h =
         good-objects ms at.names n at (declaration attrs p d) refl (names-plain d.names w.1.1.1)
-        (names-new at.earlier d.names (none-front _ _ (none-front _ _ h.0))).different
+        (names-new at.earlier d.names (none-front _ _ (none-front _ _ h.0.0))).different
     good-item (integer attrs p xs) at n w z l h =
         good-objects ms at.names n at (integer attrs p xs) refl (names-plain xs w.1.1)
-        (names-new at.earlier xs (none-front _ _ h.0)).different
+        (names-new at.earlier xs (none-front _ _ h.0.0)).different
     good-item (genvar attrs p xs) at n w z l h = good-none _
     good-item (parameter attrs p kind xs) at n w z l h = good-none _
     good-item (assign attrs p xs) at n w z l h = good-nothing ms _ at (assign attrs p xs) refl
@@ -199,7 +201,7 @@ module _ (ms : List Module) (formed : All IsModule ms) (inner : Unfolding) (give
         (few-next n _ z l))
     good-item (generate attrs p mark) at n w z l h = good-none _
     good-item (for_loop attrs p head b) at n w z l h =
-        good-loop attrs p head b at n (label-named b w.2) (few-start n (Steps (for_loop attrs p head b) at n) l) h.0
+        good-loop attrs p head b at n w.1 (label-named b w.2) (few-start n (Steps (for_loop attrs p head b) at n) l) h.0
         (λ c path h l. good-turn b (turn_place at head.variable c) path w.2 l h) h.1
         (few-next n (loop_turns head at.scopes (bodies head b at n)) z l)
     good-item (if_only attrs p c b) at n w z l h =
@@ -220,7 +222,7 @@ module _ (ms : List Module) (formed : All IsModule ms) (inner : Unfolding) (give
 
     pub good-items : (xs : Items) (at : Place) (n : ℕ) → AreWellFormed xs → Each (Has at.names) (all_names xs)
         → 0 < n
-        → AreFew n (items_steps ms inner xs at n) → AreFine ms (items_steps ms inner xs at n)
+        → AreFew n (items_steps ms inner xs at n) → AreClear ms (items_steps ms inner xs at n)
         → Good (Under at.path (ItemsHead at.names at.earlier n)) (full_names (items_steps ms inner xs at n))
     good-items no_items at n w s z l h = good-none _
     good-items (more_items x xs) at n w s z l h =
@@ -228,8 +230,8 @@ module _ (ms : List Module) (formed : All IsModule ms) (inner : Unfolding) (give
         let rest_place : Place = with_earlier at (names_of x) in
         let more : List Step = items_steps ms inner xs rest_place (n + constructs x) in
         let here : Each (Has at.names) (names_of x) = front (Has at.names) (names_of x) (all_names xs) s in
-        let fine : AreFine ms one = front (IsFine ms) one more h in
-        let new : Each (Lacks at.earlier) (names_of x) = item-new ms at x (first-fine x at n fine) in
+        let clear : AreClear ms one = front (IsClear ms) one more h in
+        let new : Each (Lacks at.earlier) (names_of x) = item-new ms at x (first-clear x at n clear).0 in
         let few : n < 2 ^ 64 = few-start n (one ++ more) l in
         good-both (Under at.path (ItemHead at.names x n))
         (Under at.path (ItemsHead at.names (at.earlier ++ names_of x) (n + constructs x)))
@@ -237,13 +239,13 @@ module _ (ms : List Module) (formed : All IsModule ms) (inner : Unfolding) (give
         (under-apart at.path (item-apart at.names at.earlier x n z few here))
         (under-map at.path (item-first at.names at.earlier x n z few here new))
         (under-map at.path (item-rest at.names at.earlier x n z few here))
-        (good-item x at n w.0 z (few-front n one more l) fine)
+        (good-item x at n w.0 z (few-front n one more l) clear)
         (good-items xs rest_place (n + constructs x) w.1 (back (Has at.names) (names_of x) (all_names xs) s)
         (positive-sum n (constructs x) z) (few-rest n (constructs x) one more (constructs-few x at n) l)
-        (back (IsFine ms) one more h))
+        (back (IsClear ms) one more h))
 
     good-turn : (b : Block) (at : Place) (path : List ℕ) → IsBlock b → AreFew 1 (turn_steps ms inner b at path)
-        → AreFine ms (turn_steps ms inner b at path)
+        → AreClear ms (turn_steps ms inner b at path)
         → Good (Under path Any) (full_names (turn_steps ms inner b at path))
     good-turn (begin p label xs) at path w l h =
         good-map (under-map path (λ h p. tt)) _
@@ -256,7 +258,7 @@ module _ (ms : List Module) (formed : All IsModule ms) (inner : Unfolding) (give
         (good-item x (block_place at path (more_items x no_items)) 1 w.2 positive-one l h)
 
     good-block : (b : Block) (at : Place) (n : ℕ) → IsBlock b → 0 < n → AreFew n (block_steps ms inner b at n)
-        → AreFine ms (block_steps ms inner b at n)
+        → AreClear ms (block_steps ms inner b at n)
         → Good (Under at.path (BlockHead at.names b n)) (full_names (block_steps ms inner b at n))
     good-block (begin p label xs) at n w z l h =
         good-map (in-block at.path at.names (begin p label xs) n label (few-start n _ l) w.0 refl) _

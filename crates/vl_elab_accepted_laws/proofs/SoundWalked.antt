@@ -58,7 +58,7 @@ use Rattle.vl_elab_accepted_laws.proofs.Contained.{Lacks, or_first, or_second, t
 use Rattle.vl_elab_accepted_laws.proofs.Fresh.{IsFine, none-front, not-refused}
 use Rattle.vl_elab_accepted_laws.proofs.Items.{found-module}
 use Rattle.vl_elab_accepted_laws.proofs.Loops.{AreFine}
-use Rattle.vl_elab_accepted_laws.proofs.Names.{walk-fine}
+use Rattle.vl_elab_accepted_laws.proofs.NoneRefused.{walk-fine}
 use Rattle.vl_elab_accepted_laws.proofs.Plain.{all-each}
 use Rattle.vl_elab_accepted_laws.specs.Sized.{AreSound}
 use Rattle.vl_elab_accepted_laws.specs.Joined.{PortsAreObjects}

@@ -5,10 +5,12 @@ use Rattle.std.proofs.Common.{ap, sym, ◌∙◌, true≢false}
 use Rattle.vl_tree.specs.declared.source.Module.{Module}
 use Rattle.vl_tree.specs.Item.{items}
 use Rattle.vl_mean.specs.Parts.{design}
-use Rattle.vl_mean.specs.Walk.{module_named, module_place, unfolded, walk, with_module, items_steps}
+use Rattle.vl_mean.specs.Walk.{module_named, module_place, module_walk, with_module, items_walk}
 use Rattle.vl_elab_spec.specs.declared.elab_fault.ElabFault.{ElabFault}
 use Rattle.vl_elab_spec.specs.declared.elab_fault.ElabFault.TheVariants as f
-use Rattle.vl_elab_spec.specs.Refused.{first_refused, modules_twice, or_later, refusal, refused_walk, state_bits}
+use Rattle.vl_elab_spec.specs.Items.{is_valued}
+use Rattle.vl_elab_spec.specs.Refused.{first_refused, judged_walk, modules_twice, or_later, refusal, refused_walk}
+use Rattle.vl_elab_spec.specs.Refused.{state_bits}
 use Rattle.vl_elab_spec.specs.Refused.{too_many_bits}
 use Rattle.vl_elab_spec.specs.declared.totals.Totals as kept
 use Rattle.vl_elab_spec.specs.Walked.{AreWalked}
@@ -20,10 +22,10 @@ use Rattle.vl_elab_check.specs.Judged.{nothing, top_use, top_steps, refused_befo
 -- ---- the steps from the top module on
 
 walk_is : (ms : List Module) (top : List ℕ) (m : Module) → module_named ms top ≡ Some m
-    → top_steps (length ms - 1) ms m ≡ walk ms top
+    → top_steps (length ms - 1) ms m ≡ judged_walk ms top
 walk_is ms top m e =
-    one_unfolded ms (length ms) m top_use [] [] [] (named_is ms top m e).some
-    ∙ ap (λ o. with_module o (λ m. unfolded (length ms) ms m top_use [] [] [])) (sym e)
+    one_unfolded is_valued ms (length ms) m top_use [] [] [] (named_is ms top m e).some
+    ∙ ap (λ o. with_module o (λ m. module_walk is_valued (length ms) ms m top_use [] [] [])) (sym e)
 
 -- its head is refused, or isn't
 pub head_stops : (ms : List Module) (n : ℕ) (m : Module) (new : kept.Totals) (g : Option ElabFault) → is_some g ≡ true
@@ -32,17 +34,17 @@ pub head_stops : (ms : List Module) (n : ℕ) (m : Module) (new : kept.Totals) (
 head_stops ms n m new g e h =
     let at = module_place m top_use [] [] in
     (stops ms nothing new (head_steps at m top_use)
-    (items_steps ms (unfolded n ms) (items m.items) (behind_head at m) 1) g e h).fault
+    (items_walk is_valued ms (module_walk is_valued n ms) (items m.items) (behind_head at m) 1) g e h).fault
 
 pub head_passes : (ms : List Module) (n : ℕ) (m : Module) (between new : kept.Totals) (h g : Option ElabFault)
     → is_some h ≡ false → AreWalked ms nothing between (head_steps (module_place m top_use [] []) m top_use) h
     → WalkedFrom ms between new
-    (items_steps ms (unfolded n ms) (items m.items) (behind_head (module_place m top_use [] []) m) 1) g
+    (items_walk is_valued ms (module_walk is_valued n ms) (items m.items) (behind_head (module_place m top_use [] []) m) 1) g
     → g ≡ first_refused ms nothing (top_steps n ms m)
 head_passes ms n m between new h g e w k =
     let at = module_place m top_use [] [] in
     (goes_on ms nothing between new (head_steps at m top_use)
-    (items_steps ms (unfolded n ms) (items m.items) (behind_head at m) 1) h g e w k).fault
+    (items_walk is_valued ms (module_walk is_valued n ms) (items m.items) (behind_head at m) 1) h g e w k).fault
 
 -- ---- the whole
 
@@ -79,5 +81,5 @@ bits_last ms top = by (is_none (module_named ms top))
         (let ps = design ms top in too_many_bits (state_bits ps ps))
     by true = refl
     by false =
-        later_later (modules_twice [] ms) (first_refused ms nothing (walk ms top))
+        later_later (modules_twice [] ms) (first_refused ms nothing (judged_walk ms top))
         (let ps = design ms top in too_many_bits (state_bits ps ps))

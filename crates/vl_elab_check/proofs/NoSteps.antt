@@ -8,9 +8,10 @@ use Rattle.vl_tree.specs.declared.source.Module.{Module}
 use Rattle.vl_tree.specs.Item.{items}
 use Rattle.vl_mean.specs.Declarations.{header_parameters}
 use Rattle.vl_mean.specs.Walk.{Place, Unfolding, Use, connections_of, connection_steps, header_of, header_steps}
-use Rattle.vl_mean.specs.Walk.{items_steps, module_place, module_scope, override_steps, parameter_names, port_steps}
+use Rattle.vl_mean.specs.Walk.{items_walk, module_place, module_scope, override_steps, parameter_names, port_steps}
 use Rattle.vl_mean.specs.Walk.{with_earlier, written_ports}
-use Rattle.vl_elab_spec.specs.Within.{behind_head, front_steps, module_steps}
+use Rattle.vl_elab_spec.specs.Items.{is_valued}
+use Rattle.vl_elab_spec.specs.Within.{behind_head, front_steps, opened_walk}
 use Rattle.vl_elab_check.specs.Bare.{gives_nothing, has_nothing, is_bare}
 
 both : (a b : Bool) → (a && b) ≡ true → (a ≡ true) × (b ≡ true)
@@ -23,7 +24,7 @@ empty xs e = nil_from_length xs (grind (arith, nat_tests, e))
 
 pub bare_steps : (ms : List Module) (inner : Unfolding) (at : Place) (m : Module) (u : Use) (text : List ℕ)
     (x : Instance) → is_bare m x ≡ true
-    → front_steps at m u text x ++ module_steps ms inner (module_place m u text at.modules) m u ≡ []
+    → front_steps at m u text x ++ opened_walk is_valued ms inner (module_place m u text at.modules) m u ≡ []
 bare_steps ms inner at m u text x e =
     let h = both (has_nothing m) (gives_nothing x) e in
     let own = both (length m.items == 0) (length (written_ports m.ports) == 0 && length (header_of m.parameters) == 0)
@@ -40,4 +41,4 @@ bare_steps ms inner at m u text x e =
     ++ connection_steps at m u (module_scope m u text ∷ []) [] (joined i))
     ++ ((header_steps place (header_parameters (parameters i))
     ++ port_steps (with_earlier place (parameter_names (header_parameters (parameters i)))) u None (ports i))
-    ++ items_steps ms inner (items (inside i)) (behind_head place m) 1)
+    ++ items_walk is_valued ms inner (items (inside i)) (behind_head place m) 1)

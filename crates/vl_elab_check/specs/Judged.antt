@@ -2,11 +2,12 @@
 -- a rule of this project.
 use Rattle.std.specs.Prelude.{ℕ, List, [], true, Option, Some, is_none, if◌then◌else◌}
 use Rattle.vl_tree.specs.declared.source.Module.{Module}
-use Rattle.vl_mean.specs.Walk.{Step, Use, module_named, module_place, top_input, unfolded, walk}
+use Rattle.vl_mean.specs.Walk.{Step, Use, module_named, module_place, top_input, module_walk}
 use Rattle.vl_elab_spec.specs.declared.elab_fault.ElabFault.{ElabFault}
 use Rattle.vl_elab_spec.specs.declared.elab_fault.ElabFault.TheVariants as f
-use Rattle.vl_elab_spec.specs.Refused.{Totals, first_refused, modules_twice, or_later}
-use Rattle.vl_elab_spec.specs.Within.{module_steps}
+use Rattle.vl_elab_spec.specs.Items.{is_valued}
+use Rattle.vl_elab_spec.specs.Refused.{Totals, first_refused, judged_walk, modules_twice, or_later}
+use Rattle.vl_elab_spec.specs.Within.{opened_walk}
 
 -- nothing was walked
 abbrev pub nothing : Totals
@@ -18,11 +19,11 @@ top_use = record { is_top = true; overrides = []; input = top_input }
 
 -- its steps, with modules in one another no deeper than the number
 abbrev pub top_steps : ℕ → List Module → Module → List Step
-top_steps n ms m = module_steps ms (unfolded n ms) (module_place m top_use [] []) m top_use
+top_steps n ms m = opened_walk is_valued ms (module_walk is_valued n ms) (module_place m top_use [] []) m top_use
 
 abbrev pub refused_before_bits : List Module → List ℕ → Option ElabFault
 refused_before_bits ms top =
-    or_later (modules_twice [] ms) (first_refused ms nothing (walk ms top))
+    or_later (modules_twice [] ms) (first_refused ms nothing (judged_walk ms top))
 
 -- there is no such top module, two modules have one name, or a step is refused
 abbrev pub fault_of : List Module → List ℕ → Option ElabFault

@@ -119,7 +119,7 @@ pub fn walk_item(
         → IsAt names.old numbers.old earlier.old reached.old given.now at
         → IsReached reached.new at (at.earlier ++ item_names item.now)) }
 {
-    let added = item_added(alloc, item, numbers)?;
+    let added = item_added(alloc, item, names, numbers)?;
     let fault = item_fault(
         alloc, modules, all, path, item, names, numbers, earlier, reached, given,
     )?;

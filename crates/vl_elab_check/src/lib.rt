@@ -5,6 +5,7 @@
 #![tactic(auto)]
 
 mod bare;
+mod conditions;
 mod connections;
 mod headers;
 mod items;

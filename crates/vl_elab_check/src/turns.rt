@@ -3,13 +3,14 @@ ghost use Rattle.std.specs.Prelude.{◌≡◌, ℕ, List, Some, None, IfOk, OnOk
 ghost use Rattle.vl_mean.specs.Scopes.{Scope};
 ghost use Rattle.vl_mean.specs.Walk as walk;
 ghost use Rattle.vl_mean.specs.Walk.{Place};
+ghost use Rattle.vl_elab_spec.specs.Items.{is_valued};
 ghost use Rattle.vl_elab_const.specs.Numbers.{HaveNumbers};
 ghost use Rattle.vl_elab_check_item.specs.TurnParts.{in_turn};
 ghost use Rattle.vl_elab_check.specs.Standing.{IsWithin};
 
 use fv_text::Memory;
 use std::alloc::Global;
-use vl_elab_check_item::enter_turn;
+use vl_elab_check_item::{HeadValues, enter_turn, head_values};
 use vl_elab_const::{genvar_value, value_in_turn};
 use vl_elab_decls::Inside;
 use vl_mean::Const;
@@ -21,6 +22,25 @@ pub(crate) fn first_value(alloc: Global, head: &LoopHead, inside: &Inside) -> Re
         → c ≡ walk.first_turn head.now ss) }
 {
     Ok(genvar_value(alloc, &head.start, &inside.numbers)?)
+}
+
+fn limit_by(values: HeadValues) -> u32
+    ensures { result ≡ (if values.turns then (if values.further then 4096 else 1) else 0) }
+{
+    if !values.turns {
+        return 0;
+    }
+    if values.further { 4096 } else { 1 }
+}
+
+/// How many turns a loop may have, by what has a value in its head: at most 4,096.
+pub(crate) fn turn_limit(alloc: Global, head: &LoopHead, inside: &mut Inside) -> Result<u32, Memory>
+    ensures inside { OnOk result (inside.new ≡ inside.old) }
+    ensures limit { IfOk result (λ n. (at : Place) (path : List (List ℕ)) → IsWithin inside.old path at
+        → n ≡ walk.turn_limit is_valued head.now at) }
+{
+    let values = head_values(alloc, head, &mut inside.names, &inside.numbers)?;
+    Ok(limit_by(values))
 }
 
 /// The value of the turn behind the one with this value. None exactly where that one doesn't begin.

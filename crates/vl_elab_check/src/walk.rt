@@ -10,8 +10,9 @@ ghost use Rattle.vl_tree.specs.WellFormed.{AreWellFormed, IsBlock, IsModule, IsW
 ghost use Rattle.vl_mean.specs.declared.const_number.Const.{Const as SpecConst};
 ghost use Rattle.vl_mean.specs.Cells.{contains_name};
 ghost use Rattle.vl_mean.specs.Walk as walk;
-ghost use Rattle.vl_mean.specs.Walk.{Place, block_place, items_steps, module_place, turn_place, unfolded};
+ghost use Rattle.vl_mean.specs.Walk.{Place, block_place, items_walk, module_place, module_walk, turn_place};
 ghost use Rattle.vl_mean.specs.Walk.{use_of, with_earlier};
+ghost use Rattle.vl_elab_spec.specs.Items.{is_valued};
 ghost use Rattle.vl_elab_spec.specs.Meanings.{item_names};
 ghost use Rattle.vl_elab_spec.specs.Refused as refused;
 ghost use Rattle.vl_elab_names.specs.Table.{AreModules};
@@ -20,16 +21,16 @@ ghost use Rattle.vl_elab_spec.specs.Within as within;
 ghost use Rattle.vl_elab_check.specs.Standing.{HasScope, IsHere, IsSoFar, IsWithin};
 
 use crate::bare::is_bare;
+use crate::conditions::{chosen_by, condition_value};
 use crate::scopes::{Here, enter_instance, enter_scope, leave};
 use crate::steps::{open, own_step, pass};
 use crate::turns;
-use crate::turns::{first_value, next_value};
+use crate::turns::{first_value, next_value, turn_limit};
 use fv_text::Memory;
 use std::alloc::Global;
-use vl_elab_const::is_true_in;
 use vl_elab_decls::Inside;
 use vl_elab_names::{ModulePath, ModuleTable};
-use vl_elab_scope::blocks::{chosen, items_of, nested};
+use vl_elab_scope::blocks::{items_of, nested};
 use vl_elab_spec::{ElabFault, Totals};
 use vl_mean::Const;
 use vl_tree::{Block, Expr, Instance, Item, ItemKind, LoopHead, Module};
@@ -54,7 +55,7 @@ pub(crate) fn walk_items(
     ensures walked { IfOk result (λ g. (t : refused.Totals) (at : Place) (n : ℕ)
         → IsSoFar modules.now totals.old t → AreWellFormed (tree.items all.now)
         → IsHere inside.old here.old path.old at → AreWalked modules.now t totals.new
-        (items_steps modules.now (unfolded fuel modules.now) (tree.items all.now) at n) g) }
+        (items_walk is_valued modules.now (module_walk is_valued fuel modules.now) (tree.items all.now) at n) g) }
 {
     for part in all {
         let fault = walk_one(
@@ -90,7 +91,7 @@ fn walk_one(
     ensures walked { IfOk result (λ g. (t : refused.Totals) (at : Place) (n : ℕ)
         → IsSoFar modules.now totals.old t → IsWellFormed part.now → IsHere inside.old here.old path.old at
         → AreWalked modules.now t totals.new
-        (walk.item_steps modules.now (unfolded fuel modules.now) part.now at n) g) }
+        (walk.item_walk is_valued modules.now (module_walk is_valued fuel modules.now) part.now at n) g) }
 {
     let fault = own_step(alloc, table, modules, path, inside, here, part, totals)?;
     if fault.is_some() {
@@ -124,7 +125,7 @@ fn walk_within(
         → IsSoFar modules.now totals.old t → IsWellFormed part.now → within.IsNotRecursive part.now at
         → IsHere inside.old here.old path.old (with_earlier at (item_names part.now))
         → AreWalked modules.now t totals.new
-        (within.inner_steps modules.now (unfolded fuel modules.now) part.now at n) g) }
+        (within.inner_walk is_valued modules.now (module_walk is_valued fuel modules.now) part.now at n) g) }
 {
     match &part.kind {
         ItemKind::Instance(instance) => Ok(walk_instance(
@@ -167,10 +168,10 @@ fn walk_if(
         → let part = shown attrs p (kind.If condition.now first.now second.now) in
         IsSoFar modules.now totals.old t → IsWellFormed part → IsHere inside.old here.old path.old at
         → AreWalked modules.now t totals.new
-        (within.inner_steps modules.now (unfolded fuel modules.now) part at n) g) }
+        (within.inner_walk is_valued modules.now (module_walk is_valued fuel modules.now) part at n) g) }
 {
-    let holds = is_true_in(alloc, condition, &inside.numbers)?;
-    match chosen(holds, first, second) {
+    let holds = condition_value(alloc, condition, inside)?;
+    match chosen_by(holds, first, second) {
         None => Ok(None),
         Some(block) => Ok(walk_block(
             alloc, table, modules, fuel, path, inside, here, block, totals,
@@ -200,7 +201,7 @@ fn walk_block(
     ensures walked { IfOk result (λ g. (t : refused.Totals) (at : Place) (n : ℕ)
         → IsSoFar modules.now totals.old t → IsBlock (block_of block.now)
         → IsHere inside.old here.old path.old at → AreWalked modules.now t totals.new
-        (walk.block_steps modules.now (unfolded fuel modules.now) (block_of block.now) at n) g) }
+        (walk.block_walk is_valued modules.now (module_walk is_valued fuel modules.now) (block_of block.now) at n) g) }
 {
     match nested(block) {
         None => Ok(walk_scope(
@@ -219,7 +220,7 @@ fn walk_block(
     }
 }
 
-/// The turns of a loop, while its condition holds, at most 4,096.
+/// The turns of a loop, while its condition holds, at most as many as it may have.
 #[cycle(walk)]
 fn walk_turns(
     alloc: Global,
@@ -237,12 +238,12 @@ fn walk_turns(
     ensures path { OnOk result (path.new ≡ path.old) }
     ensures walked { IfOk result (λ g. (t : refused.Totals) (at : Place) (paths : SpecConst → List ℕ)
         → IsSoFar modules.now totals.old t → IsBlock (block_of block.now) → IsWithin inside.old path.old at
-        → AreWalked modules.now t totals.new (walk.loop_turns head.now at.scopes (λ c.
-        walk.turn_steps modules.now (unfolded fuel modules.now) (block_of block.now)
+        → AreWalked modules.now t totals.new (walk.loop_walk is_valued head.now at (λ c.
+        walk.turn_walk is_valued modules.now (module_walk is_valued fuel modules.now) (block_of block.now)
         (turn_place at head.now.variable c) (paths c))) g) }
 {
     let mut value = first_value(alloc, head, inside)?;
-    let mut left = 4096u32;
+    let mut left = turn_limit(alloc, head, inside)?;
     while left > 0 {
         let Some(next) = next_value(alloc, head, value, inside)? else {
             return Ok(None);
@@ -279,7 +280,7 @@ fn walk_turn(
     ensures walked { IfOk result (λ g. (t : refused.Totals) (at : Place) (text : List ℕ)
         → IsSoFar modules.now totals.old t → IsBlock (block_of block.now) → IsWithin inside.old path.old at
         → AreWalked modules.now t totals.new
-        (walk.turn_steps modules.now (unfolded fuel modules.now) (block_of block.now)
+        (walk.turn_walk is_valued modules.now (module_walk is_valued fuel modules.now) (block_of block.now)
         (turn_place at head.now.variable value) text) g) }
 {
     turns::enter(alloc, head, value, inside)?;
@@ -315,7 +316,7 @@ fn walk_scope(
     ensures walked { IfOk result (λ g. (t : refused.Totals) (at : Place) (text : List ℕ)
         → IsSoFar modules.now totals.old t → AreWellFormed (tree.items all.now)
         → IsWithin inside.old path.old at → AreWalked modules.now t totals.new
-        (items_steps modules.now (unfolded fuel modules.now) (tree.items all.now)
+        (items_walk is_valued modules.now (module_walk is_valued fuel modules.now) (tree.items all.now)
         (block_place at text (tree.items all.now)) 1) g) }
 {
     let mut here = enter_scope(alloc, all, inside)?;
@@ -343,7 +344,7 @@ fn walk_instance(
     ensures walked { IfOk result (λ g. (t : refused.Totals) (at : Place)
         → IsSoFar modules.now totals.old t → contains_name at.modules instance.now.definition ≡ false
         → IsWithin inside.now path.old at → AreWalked modules.now t totals.new
-        (walk.instance_steps modules.now (unfolded fuel modules.now) at instance.now) g) }
+        (walk.instance_steps modules.now (module_walk is_valued fuel modules.now) at instance.now) g) }
 {
     let Some(module) = table.find(modules, &instance.definition) else {
         return Ok(None);
@@ -393,7 +394,7 @@ fn walk_module(
         → path.old ≡ at.modules ++ module.now.name ∷ [] → IsWithin inside.now at.modules at
         → let u = use_of at.scopes instance.now in AreWalked modules.now t totals.new
         (within.front_steps at module.now u text instance.now
-        ++ within.module_steps modules.now (unfolded fuel modules.now)
+        ++ within.opened_walk is_valued modules.now (module_walk is_valued fuel modules.now)
         (module_place module.now u text at.modules) module.now u) g) }
 {
     let mut used = enter_instance(alloc, module, instance, inside)?;

@@ -4,8 +4,7 @@ use Rattle.std.specs.Prelude.{Option, Some, None, is_none, is_some, ◌&&◌, if
 use Rattle.std.proofs.Common.{ap, sym, ◌∙◌, arith, true≢false}
 use Rattle.fv_text.specs.declared.pos.Pos.{Pos}
 use Rattle.vl_tree.specs.declared.part.LoopHead.{LoopHead}
-use Rattle.vl_size.specs.declared.context.Context.{Context}
-use Rattle.vl_size.specs.Divisors.{own_context}
+use Rattle.vl_tree.specs.Expr.{Expr}
 use Rattle.vl_size.specs.Size.{is_true}
 use Rattle.vl_mean.specs.declared.const_number.Const.{Const}
 use Rattle.vl_mean.specs.Constants.{constant_operand}
@@ -13,29 +12,14 @@ use Rattle.vl_mean.specs.Scopes.{constant_in, constant_unless}
 use Rattle.vl_mean.specs.Walk.{Place, turn_place, with_genvar, goes_on, next_turn, first_turn, genvar_value}
 use Rattle.vl_elab_spec.specs.declared.elab_fault.ElabFault.{ElabFault}
 use Rattle.vl_elab_spec.specs.declared.elab_fault.ElabFault.TheVariants as f
-use Rattle.vl_elab_spec.specs.Expressions.{refused_if, own_refusals, refusals, known}
+use Rattle.vl_elab_spec.specs.Expressions.{refused_if, own_refusals, refusals}
 use Rattle.vl_elab_spec.specs.Items as items
 use Rattle.vl_elab_spec.specs.Items.{are_none, genvar_refusals, turn_meanings, turn_refusals, turns_refusals}
-use Rattle.vl_elab_spec.specs.Items.{has_value, idle_meanings, idle_refusals, without_value, without_start}
+use Rattle.vl_elab_spec.specs.Items.{has_value, is_valued, idle_refusals, without_value, without_start}
 use Rattle.vl_elab_spec.specs.Items.{begun_refusals, head_refusals, unknown_names}
-use Rattle.vl_elab_spec.specs.Meanings.{
-  Meaning,
-  undeclared,
-  constant,
-  loop_variable,
-  object,
-  faulty,
-  shapeless,
-  later,
-  Names,
-  is_undeclared,
-  meaning_in,
-  objects,
-  constants,
-  value_of,
-  meanings_at,
-}
-use Rattle.vl_elab_spec.specs.Refused.{lower, lower_of, lowest}
+use Rattle.vl_elab_spec.specs.Meanings.{Meaning, undeclared, constant, loop_variable, object, faulty, shapeless, later}
+use Rattle.vl_elab_spec.specs.Meanings.{Names, is_undeclared, meaning_in, constants, value_of, meanings_at}
+use Rattle.vl_elab_spec.specs.Refused.{lower, lower_of, lowest, nowhere}
 use Rattle.vl_elab_check_expr.proofs.Lowest.{lowest_two}
 use Rattle.vl_elab_check_item.proofs.Lists.{assoc}
 use Rattle.vl_elab_scope.specs.Alike.{Alike}
@@ -43,8 +27,9 @@ use Rattle.vl_elab_scope.proofs.Exprs as x
 use Rattle.vl_elab_scope.proofs.Items as y
 use Rattle.vl_elab_scope.proofs.Sizes as z
 use Rattle.vl_elab_check_item.proofs.High.{unknown_first, three_high}
-use Rattle.vl_elab_const.specs.Numbers.{holds, genvar_number}
-use Rattle.vl_elab_check_item.specs.TurnParts.{in_turn, begins, leads_on, turn_fault, idle_names, idle_fault}
+use Rattle.vl_elab_const.specs.Numbers.{holds as is_true_in, genvar_number}
+use Rattle.vl_elab_check_item.specs.declared.reach.HeadValues.{HeadValues}
+use Rattle.vl_elab_check_item.specs.TurnParts.{in_turn, holds, begins, leads_on, turn_fault, idle_fault, GoesBy}
 use Rattle.vl_elab_check_item.specs.TurnParts.{turns_fault, begun_fault, if_unknown, variable_of, head_fault}
 
 -- ---- one turn more
@@ -122,15 +107,15 @@ pub begins_where : (own : Option ElabFault) (b : Bool) → is_some own ≡ false
 begins_where None b h = refl
 begins_where (Some g) b h = cc
 
-pub no_next : (step : Option ElabFault) (c : Const) → is_some step ≡ true
-    → None ≡ (if is_none step then Some c else None)
-no_next None c h = cc
-no_next (Some g) c h = refl
+pub no_next : (step : Option ElabFault) (v : Bool) (c : Const) → is_some step ≡ true
+    → None ≡ (if is_none step && v then Some c else None)
+no_next None v c h = cc
+no_next (Some g) v c h = refl
 
-pub some_next : (step : Option ElabFault) (c : Const) → is_some step ≡ false
-    → Some c ≡ (if is_none step then Some c else None)
-some_next None c h = refl
-some_next (Some g) c h = cc
+pub some_next : (step : Option ElabFault) (v : Bool) (c : Const) → is_some step ≡ false
+    → (if v then Some c else None) ≡ (if is_none step && v then Some c else None)
+some_next None v c h = refl
+some_next (Some g) v c h = cc
 
 pub own_alone : (own step : Option ElabFault) → is_some step ≡ false → own ≡ lower_of own step
 own_alone own None h = sym (none_more own)
@@ -138,9 +123,9 @@ own_alone own (Some g) h = cc
 
 module _ (ns numbers : List Names) (head : LoopHead) (own : Option ElabFault) (b : Bool)
     (same : own ≡ lowest (own_refusals ns true head.condition))
-    (test : b ≡ (is_none own && holds numbers head.condition)) where
+    (test : b ≡ (is_none own && holds ns numbers head)) where
   pub same_test : b ≡ begins ns numbers head
-  same_test = test ∙ ap (λ o. is_none o && holds numbers head.condition) same
+  same_test = test ∙ ap (λ o. is_none o && holds ns numbers head) same
 
   pub turn_begun : b ≡ true → lower_of own (lowest (genvar_refusals ns head.next)) ≡ turn_fault ns numbers head
   turn_begun h =
@@ -154,37 +139,29 @@ module _ (ns numbers : List Names) (head : LoopHead) (own : Option ElabFault) (b
       ∙ (λ i. lower_of (same i) (if ended i then lowest (genvar_refusals ns head.next) else None))
 
   pub next_begun : (c : Const) → b ≡ true
-      → (if is_none (lowest (genvar_refusals ns head.next)) then Some c else None)
+      → (if is_none (lowest (genvar_refusals ns head.next)) && has_value ns head.next then Some c else None)
       ≡ (if leads_on ns numbers head then Some c else None)
   next_begun c h =
       let begun : true ≡ begins ns numbers head = sym h ∙ same_test in
-      λ i. if begun i && is_none (lowest (genvar_refusals ns head.next)) then Some c else None
+      λ i. if begun i && (is_none (lowest (genvar_refusals ns head.next)) && has_value ns head.next)
+      then Some c else None
 
   pub next_ended : (c : Const) → b ≡ false → None ≡ (if leads_on ns numbers head then Some c else None)
   next_ended c h =
       let ended : false ≡ begins ns numbers head = sym h ∙ same_test in
-      λ i. if ended i && is_none (lowest (genvar_refusals ns head.next)) then Some c else None
+      λ i. if ended i && (is_none (lowest (genvar_refusals ns head.next)) && has_value ns head.next)
+      then Some c else None
 
--- ---- a start value that is refused, and one that isn't
+-- ---- a start without a value, and one with a value
 
-pub unstarted : (own x y : Option ElabFault) → is_some own ≡ true
-    → lower_of own y ≡ lower_of own (if is_none own then x else y)
-unstarted None x y h = cc
-unstarted (Some g) x y h = refl
+pub unstarted : (own x y : Option ElabFault) (b v : Bool) → b ≡ (is_none own && v) → b ≡ false
+    → lower_of own y ≡ lower_of own (if is_none own && v then x else y)
+unstarted own x y b v e h = ap (λ t. lower_of own (if t then x else y)) (sym h ∙ e)
 
-pub started : (own x y : Option ElabFault) → is_some own ≡ false
-    → x ≡ lower_of own (if is_none own then x else y)
-started None x y h = refl
-started (Some g) x y h = cc
-
--- ---- a step before which no turn begins
-
-pub idle_by : (ns : List Names) (head : LoopHead) (c : Const) (x : Context) (b : Bool)
-    → x ≡ own_context (objects ns) (known ns head.start) → b ≡ is_some x.size
-    → (if b then in_turn head.variable c ns else without_value head.variable ns) ≡ idle_names ns head c
-idle_by ns head c x b e h =
-    ap (λ test. if test then in_turn head.variable c ns else without_value head.variable ns)
-    (h ∙ ap (λ k. is_some k.size) e)
+pub started : (own x y : Option ElabFault) (b v : Bool) → b ≡ (is_none own && v) → b ≡ true
+    → x ≡ lower_of own (if is_none own && v then x else y)
+started None x y b v e h = ap (λ t. if t then x else y) (sym h ∙ e)
+started (Some g) x y b v e h = absurd (true≢false (sym h ∙ e))
 
 -- ---- what the definitions say of the same scopes
 
@@ -202,7 +179,7 @@ module _ (at : Place) (ns numbers : List Names) (same : Alike ns (meanings_at at
       by true = refl
       by false = agree text
 
-  same_goes : (c : Const) → holds (in_turn head.variable c numbers) head.condition ≡ goes_on head at.scopes c
+  same_goes : (c : Const) → is_true_in (in_turn head.variable c numbers) head.condition ≡ goes_on head at.scopes c
   same_goes c = λ i. is_true (constant_operand (λ text. inside c text i) head.condition)
 
   same_next : (c : Const) → genvar_number (in_turn head.variable c numbers) head.next ≡ next_turn head at.scopes c
@@ -243,18 +220,28 @@ module _ (at : Place) (ns numbers : List Names) (same : Alike ns (meanings_at at
       ap lowest (y.same_genvar (in_turn head.variable c ns) (meanings_at (turn_place at head.variable c)) (alike c)
       head.next)
 
+  same_value : has_value ns head.start ≡ is_valued at head.start
+  same_value = ap (λ c. is_some c.size) (z.same_context ns (meanings_at at) same head.start)
+
+  same_inner : (c : Const) (e : Expr)
+      → has_value (in_turn head.variable c ns) e ≡ is_valued (turn_place at head.variable c) e
+  same_inner c e =
+      ap (λ k. is_some k.size)
+      (z.same_context (in_turn head.variable c ns) (meanings_at (turn_place at head.variable c)) (alike c) e)
+
   same_begins : (c : Const) → begins (in_turn head.variable c ns) (in_turn head.variable c numbers) head
       ≡ items.begins head at c
   same_begins c =
-      (λ i. is_none (same_own c i) && same_goes c i)
-      ∙ ap (λ b. b && goes_on head at.scopes c)
+      (λ i. is_none (same_own c i) && (same_inner c head.condition i && same_goes c i))
+      ∙ ap (λ b. b && (has_value (turn_meanings head at c) head.condition && goes_on head at.scopes c))
       (none_lowest (own_refusals (turn_meanings head at c) true head.condition))
 
   same_leads : (c : Const) → leads_on (in_turn head.variable c ns) (in_turn head.variable c numbers) head
       ≡ items.leads_on head at c
   same_leads c =
-      (λ i. same_begins c i && is_none (same_step c i))
-      ∙ ap (λ b. items.begins head at c && b) (none_lowest (genvar_refusals (turn_meanings head at c) head.next))
+      (λ i. same_begins c i && (is_none (same_step c i) && same_inner c head.next i))
+      ∙ ap (λ b. items.begins head at c && (b && has_value (turn_meanings head at c) head.next))
+      (none_lowest (genvar_refusals (turn_meanings head at c) head.next))
 
   same_turn : (c : Const) → turn_fault (in_turn head.variable c ns) (in_turn head.variable c numbers) head
       ≡ lowest (turn_refusals head at c)
@@ -287,31 +274,11 @@ module _ (at : Place) (ns numbers : List Names) (same : Alike ns (meanings_at at
         if is_undeclared here then same.meaning text i else here;
   }
 
-  same_value : has_value ns head.start ≡ has_value (meanings_at at) head.start
-  same_value = ap (λ c. is_some c.size) (z.same_context ns (meanings_at at) same head.start)
-
-  same_idle_step : (c : Const) → lowest (genvar_refusals (idle_names ns head c) head.next)
-      ≡ lowest (genvar_refusals (idle_meanings head at c) head.next)
-  same_idle_step c =
-      by (has_value ns head.start) (has_value (meanings_at at) head.start) same_value
-    where
-      by : (a b : Bool) → a ≡ b
-          → lowest (genvar_refusals (if a then in_turn head.variable c ns
-          else without_value head.variable ns) head.next)
-          ≡ lowest (genvar_refusals (if b then turn_meanings head at c
-          else without_value head.variable (meanings_at at)) head.next)
-      by true true e = same_step c
-      by true false e = absurd (true≢false e)
-      by false true e = absurd (true≢false (sym e))
-      by false false e =
-          ap lowest (y.same_genvar (without_value head.variable ns) (without_value head.variable (meanings_at at))
-          alike_without head.next)
-
   same_idle : (c : Const) → idle_fault ns numbers head c ≡ lowest (idle_refusals head at c)
   same_idle c =
       choose (begins (in_turn head.variable c ns) (in_turn head.variable c numbers) head) (items.begins head at c)
-      None (lowest (genvar_refusals (idle_names ns head c) head.next)) []
-      (genvar_refusals (idle_meanings head at c) head.next) (same_begins c) refl (same_idle_step c)
+      None (lowest (genvar_refusals (in_turn head.variable c ns) head.next)) []
+      (genvar_refusals (turn_meanings head at c) head.next) (same_begins c) refl (same_step c)
 
   same_begun : (c : Const) → begun_fault ns numbers head p c ≡ lowest (begun_refusals head at p c)
   same_begun c =
@@ -345,12 +312,15 @@ module _ (at : Place) (ns numbers : List Names) (same : Alike ns (meanings_at at
       let start = genvar_refusals (meanings_at at) head.start in
       let first = first_turn head at.scopes in
       let begun = begun_fault ns numbers head p (genvar_number numbers head.start) in
-      lowest_two start (if are_none start then begun_refusals head at p first
+      let starts = is_none (lowest (genvar_refusals ns head.start)) && has_value ns head.start in
+      let also = are_none start && has_value (meanings_at at) head.start in
+      lowest_two start (if also then begun_refusals head at p first
       else without_start head (meanings_at at)) (lowest (genvar_refusals ns head.start))
-      (if is_none (lowest (genvar_refusals ns head.start)) then begun else lowest (without_start head ns)) same_start
-      (choose (is_none (lowest (genvar_refusals ns head.start))) (are_none start) begun
+      (if starts then begun else lowest (without_start head ns)) same_start
+      (choose starts also begun
       (lowest (without_start head ns)) (begun_refusals head at p first) (without_start head (meanings_at at))
-      (ap is_none same_start ∙ none_lowest start)
+      ((λ i. is_none (same_start i) && same_value i)
+      ∙ ap (λ b. b && has_value (meanings_at at) head.start) (none_lowest start))
       (ap (begun_fault ns numbers head p) same_first ∙ same_begun first) same_without)
   same_kind (constant c selected) = other
   same_kind (object d input scalar) = other
@@ -363,3 +333,24 @@ module _ (at : Place) (ns numbers : List Names) (same : Alike ns (meanings_at at
   same_head =
       ap (λ m. head_fault ns numbers p head (variable_of m)) (same.meaning head.variable)
       ∙ same_kind (meaning_in (meanings_at at) head.variable)
+
+-- ---- how far the loop goes
+
+pub goes_by : (at : Place) (ns numbers : List Names) → Alike ns (meanings_at at)
+    → ((text : List ℕ) → constants numbers text ≡ constant_in at.scopes text) → (head : LoopHead) (v : HeadValues)
+    → v.turns ≡ (has_value ns head.start
+    && has_value (in_turn head.variable (genvar_number numbers head.start) ns) head.condition)
+    → v.further ≡ has_value (in_turn head.variable (genvar_number numbers head.start) ns) head.next
+    → GoesBy v head at
+goes_by at ns numbers same agree head v turns further =
+    let first : genvar_number numbers head.start ≡ first_turn head at.scopes =
+    same_first at ns numbers same agree head nowhere in record {
+      turns =
+          turns ∙ (λ i. same_value at ns numbers same agree head nowhere i
+          && has_value (in_turn head.variable (first i) ns) head.condition)
+          ∙ ap (λ b. is_valued at head.start && b)
+          (same_inner at ns numbers same agree head nowhere (first_turn head at.scopes) head.condition);
+      further =
+          further ∙ (λ i. has_value (in_turn head.variable (first i) ns) head.next)
+          ∙ same_inner at ns numbers same agree head nowhere (first_turn head at.scopes) head.next;
+    }

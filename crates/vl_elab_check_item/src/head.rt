@@ -1,6 +1,6 @@
 //! Where the head of a generate loop is refused: with all its turns.
 ghost use Rattle.std.specs.Prelude.{◌≡◌, ◌++◌, ◌∷◌, [], List, true, None, IfOk, OnOk, OnErr};
-ghost use Rattle.std.specs.Prelude.{◌&&◌, if◌then◌else◌, is_none, drop};
+ghost use Rattle.std.specs.Prelude.{◌&&◌, if◌then◌else◌, is_none};
 ghost use Rattle.vl_mean.specs.Walk.{Place};
 ghost use Rattle.vl_elab_spec.specs.Expressions as expressions;
 ghost use Rattle.vl_elab_spec.specs.Items as items;
@@ -22,7 +22,7 @@ use vl_elab_const::{genvar_value, is_true_in};
 use vl_elab_scope::{Level, Meaning, Names, context_of};
 use vl_elab_spec::ElabFault;
 use vl_mean::Const;
-use vl_tree::LoopHead;
+use vl_tree::{Expr, LoopHead};
 
 fn one_name(alloc: Global, variable: &Text, value: Const) -> Result<Level, Memory>
     ensures { IfOk result (λ l. l ≡ (variable.now, meanings.constant value true) ∷ []) }
@@ -54,19 +54,59 @@ struct Found {
     next: Option<Const>,
 }
 
+/// Whether an expression has a value. What isn't refused has one, unless it names a constant whose own declaration is
+/// refused.
+pub fn has_value(alloc: Global, expr: &Expr, names: &Names) -> Result<bool, Memory>
+    ensures { IfOk result (λ b. b ≡ items.has_value names.now expr.now) }
+{
+    let context = context_of(alloc, expr, names)?;
+    Ok(context.size.is_some())
+}
+
+/// Whether the condition has a value and holds.
+fn holds(alloc: Global, head: &LoopHead, names: &Names, numbers: &Names) -> Result<bool, Memory>
+    ensures { IfOk result (λ b. b ≡ spec.holds names.now numbers.now head.now) }
+{
+    let valued = has_value(alloc, &head.condition, names)?;
+    if valued {
+        is_true_in(alloc, &head.condition, numbers)
+    } else {
+        Ok(false)
+    }
+}
+
 /// Whether a turn begins, of whose condition this is answered. What is refused has no value.
 fn begins(
     alloc: Global,
     own: &Option<ElabFault>,
     head: &LoopHead,
+    names: &Names,
     numbers: &Names,
 ) -> Result<bool, Memory>
-    ensures { IfOk result (λ b. b ≡ (is_none own.now && numbers_spec.holds numbers.now head.now.condition)) }
+    ensures { IfOk result (λ b. b ≡ (is_none own.now && spec.holds names.now numbers.now head.now)) }
 {
     if own.is_some() {
         return Ok(false);
     }
-    is_true_in(alloc, &head.condition, numbers)
+    holds(alloc, head, names, numbers)
+}
+
+/// The value of the turn behind one whose step isn't refused. None exactly where the step has none.
+fn behind(
+    alloc: Global,
+    head: &LoopHead,
+    names: &Names,
+    numbers: &Names,
+) -> Result<Option<Const>, Memory>
+    ensures { IfOk result (λ o. o ≡ (if items.has_value names.now head.now.next
+        then Some (numbers_spec.genvar_number numbers.now head.now.next) else None)) }
+{
+    let valued = has_value(alloc, &head.next, names)?;
+    if valued {
+        Ok(Some(genvar_value(alloc, &head.next, numbers)?))
+    } else {
+        Ok(None)
+    }
 }
 
 /// A turn that begins leads to the next one, where its step isn't refused.
@@ -81,7 +121,7 @@ fn begun(
         ≡ lower_of own (lowest (items.genvar_refusals names.now head.now.next))) }
     ensures next { IfOk result (λ t. t.next
         ≡ (if is_none (lowest (items.genvar_refusals names.now head.now.next))
-        then Some (numbers_spec.genvar_number numbers.now head.now.next) else None)) }
+        && items.has_value names.now head.now.next then Some (numbers_spec.genvar_number numbers.now head.now.next) else None)) }
 {
     let step = genvar_fault(alloc, &head.next, names)?;
     if step.is_some() {
@@ -90,11 +130,8 @@ fn begun(
             next: None,
         });
     }
-    let next = genvar_value(alloc, &head.next, numbers)?;
-    Ok(Found {
-        fault: own,
-        next: Some(next),
-    })
+    let next = behind(alloc, head, names, numbers)?;
+    Ok(Found { fault: own, next })
 }
 
 /// In the scope of the turn.
@@ -109,7 +146,7 @@ fn judge_turn(
         then Some (numbers_spec.genvar_number numbers.now head.now.next) else None)) }
 {
     let own = own_fault(alloc, &head.condition, true, names)?;
-    let begins = begins(alloc, &own, head, numbers)?;
+    let begins = begins(alloc, &own, head, names, numbers)?;
     if begins {
         begun(alloc, own, head, names, numbers)
     } else {
@@ -163,7 +200,7 @@ fn judge_last(
     ensures { IfOk result (λ g. g ≡ spec.last_fault names.now numbers.now head.now pos) }
 {
     let own = own_fault(alloc, &head.condition, true, names)?;
-    let begins = begins(alloc, &own, head, numbers)?;
+    let begins = begins(alloc, &own, head, names, numbers)?;
     Ok(first_of(own, loop_if(begins, pos)))
 }
 
@@ -228,7 +265,7 @@ fn first_begins(
     ensures { IfOk result (λ b. b ≡ spec.begins names.now numbers.now head.now) }
 {
     let own = own_fault(alloc, &head.condition, true, names)?;
-    begins(alloc, &own, head, numbers)
+    begins(alloc, &own, head, names, numbers)
 }
 
 /// Whether the turn with this value begins.
@@ -262,19 +299,6 @@ fn enter_unstarted(alloc: Global, variable: &Text, names: &mut Names) -> Result<
     names.enter(level)
 }
 
-/// Enters the scope in which a step is judged before which no turn begins.
-fn enter_idle(alloc: Global, head: &LoopHead, start: Const, names: &mut Names) -> Result<(), Memory>
-    ensures inside { OnOk result (names.new ≡ spec.idle_names names.old head.now start) }
-    ensures under { OnOk result (drop 1 names.new ≡ names.old) }
-{
-    let context = context_of(alloc, &head.start, names)?;
-    if context.size.is_some() {
-        enter_turn(alloc, &head.variable, start, names)
-    } else {
-        enter_unstarted(alloc, &head.variable, names)
-    }
-}
-
 /// The step of a loop of which no turn begins.
 fn idle_step(
     alloc: Global,
@@ -284,9 +308,9 @@ fn idle_step(
 ) -> Result<Option<ElabFault>, Memory>
     ensures names { OnOk result (names.new ≡ names.old) }
     ensures fault { IfOk result (λ g. g
-        ≡ lowest (items.genvar_refusals (spec.idle_names names.old head.now start) head.now.next)) }
+        ≡ lowest (items.genvar_refusals (spec.in_turn head.now.variable start names.old) head.now.next)) }
 {
-    enter_idle(alloc, head, start, names)?;
+    enter_turn(alloc, &head.variable, start, names)?;
     let found = genvar_fault(alloc, &head.next, names)?;
     names.leave();
     Ok(found)
@@ -355,7 +379,7 @@ fn if_unknown(fault: Option<ElabFault>) -> Option<ElabFault>
     }
 }
 
-/// From a start value that isn't refused on.
+/// From a start value on.
 fn begun_head(
     alloc: Global,
     pos: Pos,
@@ -388,7 +412,7 @@ fn judge_unstarted(
     Ok(first_of(own, step))
 }
 
-/// Behind a start value that is refused: the condition and the step, over a variable without a value.
+/// Behind a start that has no value: the condition and the step, over a variable without a value.
 fn unstarted_head(
     alloc: Global,
     head: &LoopHead,
@@ -401,6 +425,21 @@ fn unstarted_head(
     let found = judge_unstarted(alloc, head, names)?;
     names.leave();
     Ok(found)
+}
+
+/// Whether the start has a value, of which this is answered.
+fn starts(
+    alloc: Global,
+    own: &Option<ElabFault>,
+    head: &LoopHead,
+    names: &Names,
+) -> Result<bool, Memory>
+    ensures { IfOk result (λ b. b ≡ (is_none own.now && items.has_value names.now head.now.start)) }
+{
+    if own.is_some() {
+        return Ok(false);
+    }
+    has_value(alloc, &head.start, names)
 }
 
 /// Over a genvar, and none of a loop around.
@@ -416,11 +455,13 @@ fn genvar_head(
     ensures fault { IfOk result (λ g. g ≡ spec.head_fault names.old numbers.old pos head.now v.Genvar) }
 {
     let own = genvar_fault(alloc, &head.start, names)?;
-    if own.is_some() {
+    let starts = starts(alloc, &own, head, names)?;
+    if starts {
+        begun_head(alloc, pos, head, names, numbers)
+    } else {
         let rest = unstarted_head(alloc, head, names)?;
-        return Ok(first_of(own, rest));
+        Ok(first_of(own, rest))
     }
-    begun_head(alloc, pos, head, names, numbers)
 }
 
 /// The names in a head over what is no genvar of its own.

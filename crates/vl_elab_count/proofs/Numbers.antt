@@ -1,5 +1,5 @@
 -- What is counted over the numbers of constants is what the definitions count over the scopes.
-use Rattle.std.specs.Prelude.{◌≡◌, refl, ℕ, zero, suc, ◌+◌, List, [], ◌∷◌, Bool, true, false, bytes_eq}
+use Rattle.std.specs.Prelude.{◌≡◌, refl, ℕ, zero, suc, ◌+◌, List, [], ◌∷◌, Bool, true, false, ◌&&◌, is_some, bytes_eq}
 use Rattle.std.specs.Prelude.{Option, Some, None, if◌then◌else◌}
 use Rattle.std.proofs.Common.{ap, sym, ◌∙◌, subst}
 use Rattle.fv_text.specs.declared.pos.Pos.{Pos}
@@ -12,21 +12,8 @@ use Rattle.vl_tree.specs.declared.part.LoopHead.{LoopHead}
 use Rattle.vl_tree.specs.declared.item.Block as declared
 use Rattle.vl_tree.specs.declared.item.ItemKind.TheVariants as k
 use Rattle.vl_tree.specs.ItemView.{shown}
-use Rattle.vl_tree.specs.Item.{
-  Item,
-  declaration,
-  integer,
-  genvar,
-  parameter,
-  assign,
-  always,
-  initial,
-  instance,
-  generate,
-  for_loop,
-  if_only,
-  if_else,
-}
+use Rattle.vl_tree.specs.Item.{Item, declaration, integer, genvar, parameter, assign, always, initial, instance}
+use Rattle.vl_tree.specs.Item.{generate, for_loop, if_only, if_else}
 use Rattle.vl_size.specs.declared.decl.Class.{Class}
 use Rattle.vl_size.specs.declared.decl.Class.TheVariants as class
 use Rattle.vl_size.specs.Size.{index_of, is_true}
@@ -40,11 +27,17 @@ use Rattle.vl_mean.specs.FlatLaw.{all_names_count, name_count as count_of, nodes
 use Rattle.vl_mean.specs.Scopes.{Scope, constant_in, constant_unless}
 use Rattle.vl_mean.specs.Walk.{Place, with_genvar, goes_on, next_turn, first_turn, genvar_value}
 use Rattle.vl_elab_spec.specs.Counts as counts
+use Rattle.vl_elab_spec.specs.Items.{has_value, is_valued}
 use Rattle.vl_elab_spec.specs.Meanings.{Names, undeclared, constant, is_undeclared, meaning_in, constants, value_of}
+use Rattle.vl_elab_spec.specs.Meanings.{meanings_at}
+use Rattle.vl_elab_scope.specs.Alike.{Alike}
+use Rattle.vl_elab_scope.proofs.Sizes.{same_context}
 use Rattle.vl_elab_const.specs.Numbers.{HaveNumbers, holds, genvar_number}
-use Rattle.vl_elab_count.specs.Parts.{Holds, TurnsHave}
-use Rattle.vl_elab_check_item.specs.TurnParts.{in_turn}
-use Rattle.vl_elab_count.specs.Counts.{name_count, names_count, item_count, turn_nodes}
+use Rattle.vl_elab_count.specs.Parts.{HasBlock, TurnsHave}
+use Rattle.vl_elab_check_item.specs.declared.reach.HeadValues.{HeadValues}
+use Rattle.vl_elab_check_item.specs.TurnParts.{GoesBy, in_turn}
+use Rattle.vl_elab_count.specs.Counts.{name_count, names_count, item_count, turn_nodes, one_turn_nodes, begun_nodes}
+use Rattle.vl_elab_count.specs.Counts.{if_has_block}
 
 -- ---- names
 
@@ -105,32 +98,68 @@ module _ (ns : List Names) (at : Place) (h : HaveNumbers ns at.scopes) (head : L
       ∙ ap (λ more. nodes head.condition + (if goes_on head at.scopes c then nodes head.next + 1 + more else 0))
       (same_turns n (next_turn head at.scopes c))
 
-  pub all_turns : turn_nodes 4096 ns head (genvar_number ns head.start)
+  first : genvar_number ns head.start ≡ first_turn head at.scopes
+  first = λ i. genvar_value (constant_operand (λ text. h text i) head.start)
+
+  all_turns : turn_nodes 4096 ns head (genvar_number ns head.start)
       ≡ counts.turn_nodes 4096 head at (first_turn head at.scopes)
-  all_turns =
-      ap (turn_nodes 4096 ns head) (λ i. genvar_value (constant_operand (λ text. h text i) head.start))
-      ∙ same_turns 4096 (first_turn head at.scopes)
+  all_turns = ap (turn_nodes 4096 ns head) first ∙ same_turns 4096 (first_turn head at.scopes)
+
+  one_turn : one_turn_nodes ns head (genvar_number ns head.start)
+      ≡ counts.one_turn_nodes head at (first_turn head at.scopes)
+  one_turn =
+      ap (one_turn_nodes ns head) first
+      ∙ (λ i. nodes head.condition
+      + (if is_true (constant_operand (λ text. inside (first_turn head at.scopes) text i) head.condition)
+      then nodes head.next + 1 else 0))
+
+  -- by what has a value in the head
+  module _ (values : HeadValues) (by : GoesBy values head at) where
+    abbrev chosen : Bool → Bool → ℕ
+    chosen turns further =
+        let first = first_turn head at.scopes in
+        let some = if further then counts.turn_nodes 4096 head at first else counts.one_turn_nodes head at first in
+        if turns then some else nodes head.condition
+
+    by_values : (turns further : Bool) → values.turns ≡ turns → values.further ≡ further
+        → chosen turns further ≡ counts.loop_nodes head at
+    by_values turns further t f = λ i. chosen ((sym t ∙ by.turns) i) ((sym f ∙ by.further) i)
+
+    begun_at : (further : Bool) → begun_nodes further ns head ≡ chosen true further
+    begun_at true = all_turns
+    begun_at false = one_turn
+
+    pub no_turn : values.turns ≡ false → capped (nodes head.condition) ≡ capped (counts.loop_nodes head at)
+    no_turn t = ap capped (by_values false values.further t refl)
+
+    pub some_turns : values.turns ≡ true
+        → capped (begun_nodes values.further ns head) ≡ capped (counts.loop_nodes head at)
+    some_turns t = ap capped (begun_at values.further ∙ by_values true values.further t refl)
 
 -- ---- an item by its parts
 
--- an `if` with `else` has no condition that counts
-if_shown : (at : Place) (attrs : Attributes) (p : Pos) (condition : Expr) (b : declared.Block)
-    (other : Option declared.Block) (ns : List Names) (t : Bool) → HaveNumbers ns at.scopes → t ≡ holds ns condition
-    → Holds at (shown attrs p (k.If condition b other)) t
-if_shown at attrs p condition b None ns t h made =
-    sym (made ∙ (λ i. is_true (constant_operand (λ text. h text i) condition)))
-if_shown at attrs p condition b (Some second) ns t h made = tt
+module _ (at : Place) (ns numbers : List Names) (same : Alike ns (meanings_at at)) (agree : HaveNumbers numbers at.scopes)
+    (c : Expr) where
+  valued : has_value ns c ≡ is_valued at c
+  valued = ap (λ k. is_some k.size) (same_context ns (meanings_at at) same c)
+
+  condition_holds : (has_value ns c && holds numbers c)
+      ≡ (is_valued at c && is_true (constant_operand (constant_in at.scopes) c))
+  condition_holds = λ i. valued i && is_true (constant_operand (λ text. agree text i) c)
 
 module _ (at : Place) (x : Item) (attrs : Attributes) (p : Pos) (b : declared.Block) where
-  pub if_holds : (condition : Expr) (other : Option declared.Block) (ns : List Names) (t : Bool)
-      → x ≡ shown attrs p (k.If condition b other) → HaveNumbers ns at.scopes → t ≡ holds ns condition
-      → Holds at x t
-  if_holds condition other ns t same h made =
-      let P : Item → Type 0 = λ y. Holds at y t in
-      subst P (sym same) (if_shown at attrs p condition b other ns t h made)
+  pub block_has : (c : Expr) (second : Option declared.Block) (ns numbers : List Names) (t : Bool)
+      → x ≡ shown attrs p (k.If c b second) → Alike ns (meanings_at at) → HaveNumbers numbers at.scopes
+      → t ≡ if_has_block second ns numbers c → HasBlock at x t
+  block_has c None ns numbers t same alike agree made =
+      let P : Item → Type 0 = λ y. HasBlock at y t in
+      subst P (sym same) (sym (made ∙ condition_holds at ns numbers alike agree c))
+  block_has c (Some second) ns numbers t same alike agree made =
+      let P : Item → Type 0 = λ y. HasBlock at y t in
+      subst P (sym same) (sym (made ∙ valued at ns numbers alike agree c))
 
   pub turns_have : (head : LoopHead) (n : ℕ) → x ≡ shown attrs p (k.For head b)
-      → n ≡ capped (counts.turn_nodes 4096 head at (first_turn head at.scopes)) → TurnsHave at x n
+      → n ≡ capped (counts.loop_nodes head at) → TurnsHave at x n
   turns_have head n same made =
       let P : Item → Type 0 = λ y. TurnsHave at y n in
       subst P (sym same) made

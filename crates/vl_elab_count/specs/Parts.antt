@@ -1,18 +1,19 @@
 -- Between functions: Nodes of one part of a list, and of an item whose condition and turns are known: what the
 -- functions that count them promise one another. Rule of this project.
-use Rattle.std.specs.Prelude.{◌≡◌, ℕ, ◌+◌, Bool}
+use Rattle.std.specs.Prelude.{◌≡◌, ℕ, ◌+◌, Bool, ◌&&◌}
 use Rattle.vl_tree.specs.declared.expr.Select.{Select}
 use Rattle.vl_tree.specs.declared.expr.Select.TheVariants as s
 use Rattle.vl_tree.specs.declared.stmt.Arm.{Arm}
 use Rattle.vl_tree.specs.declared.stmt.Arm.TheVariants as a
-use Rattle.vl_tree.specs.Item.{Item, for_loop, if_only}
+use Rattle.vl_tree.specs.Item.{Item, for_loop, if_only, if_else}
 use Rattle.vl_size.specs.Size.{is_true}
 use Rattle.vl_mean.specs.ConstantFaults.{capped}
 use Rattle.vl_mean.specs.Constants.{constant_operand}
 use Rattle.vl_mean.specs.FlatLaw.{nodes, stmt_nodes, label_nodes}
 use Rattle.vl_mean.specs.Scopes.{constant_in}
-use Rattle.vl_mean.specs.Walk.{Place, first_turn}
-use Rattle.vl_elab_spec.specs.Counts.{turn_nodes}
+use Rattle.vl_mean.specs.Walk.{Place}
+use Rattle.vl_elab_spec.specs.Counts.{loop_nodes}
+use Rattle.vl_elab_spec.specs.Items.{is_valued}
 
 -- of one select
 abbrev pub select_nodes : Select → ℕ
@@ -25,12 +26,13 @@ abbrev pub arm_nodes : Arm → ℕ
 arm_nodes (a.Labels p es x) = label_nodes es + stmt_nodes x.value
 arm_nodes (a.Default p colon x) = stmt_nodes x.value
 
--- the condition of an `if` holds or not
-abbrev pub Holds : Place → Item → Bool → Type 0
-Holds at (if_only attrs p c b) holds = is_true (constant_operand (constant_in at.scopes) c) ≡ holds
-Holds at x holds = Unit {0}
+-- an `if` has a block to choose: its condition has a value, and holds where there is no `else`
+abbrev pub HasBlock : Place → Item → Bool → Type 0
+HasBlock at (if_only attrs p c b) t = (is_valued at c && is_true (constant_operand (constant_in at.scopes) c)) ≡ t
+HasBlock at (if_else attrs p c b d) t = is_valued at c ≡ t
+HasBlock at x t = Unit {0}
 
 -- a loop's turns have so many nodes, up to the limit
 abbrev pub TurnsHave : Place → Item → ℕ → Type 0
-TurnsHave at (for_loop attrs p head b) n = n ≡ capped (turn_nodes 4096 head at (first_turn head at.scopes))
+TurnsHave at (for_loop attrs p head b) n = n ≡ capped (loop_nodes head at)
 TurnsHave at x n = Unit {0}

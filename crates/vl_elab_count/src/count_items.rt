@@ -106,17 +106,24 @@ fn assignment_nodes(all: &[Assignment]) -> u64
     total
 }
 
-fn chosen_block(holds: bool) -> u64
-    ensures { result ≡ (if holds then 1 else 0) }
+fn chosen_block(block: bool) -> u64
+    ensures { result ≡ (if block then 1 else 0) }
 {
-    if holds { 1 } else { 0 }
+    if block { 1 } else { 0 }
 }
 
-/// An item by itself: of a loop its head with all its turns, of an `if` its condition and the chosen block. `holds`:
-/// whether an `if`'s condition does; `turns`: how many nodes a loop's turns have.
+/// An `if` by itself, with the chosen block.
+fn if_nodes(condition: &Expr, block: bool) -> u64
+    ensures { result ≡ capped (nodes condition.now + 1 + (if block then 1 else 0)) }
+{
+    plus(plus(expr_nodes(condition), 1), chosen_block(block))
+}
+
+/// An item by itself: of a loop its head with all its turns, of an `if` its condition and the chosen block. `block`:
+/// whether an `if` has one; `turns`: how many nodes a loop's turns have.
 #[tactic(auto, using(crate::proofs::CountSums::sums))]
-pub fn item_nodes(item: &Item, holds: bool, turns: u64) -> u64
-    ensures { (at : Place) → spec.Holds at item.now holds → spec.TurnsHave at item.now turns
+pub fn item_nodes(item: &Item, block: bool, turns: u64) -> u64
+    ensures { (at : Place) → spec.HasBlock at item.now block → spec.TurnsHave at item.now turns
         → result ≡ capped (counts.item_nodes at item.now) }
 {
     match &item.kind {
@@ -132,10 +139,6 @@ pub fn item_nodes(item: &Item, holds: bool, turns: u64) -> u64
         ItemKind::Always(_, stmt) | ItemKind::Initial(stmt) => plus(stmt_nodes(stmt), 1),
         ItemKind::Instance(_) | ItemKind::Generate(_) => 1,
         ItemKind::For(head, _) => plus(plus(expr_nodes(&head.start), turns), 1),
-        ItemKind::If(condition, _, None) => plus(
-            plus(expr_nodes(condition), 1),
-            chosen_block(holds),
-        ),
-        ItemKind::If(condition, _, Some(_)) => plus(expr_nodes(condition), 2),
+        ItemKind::If(condition, _, _) => if_nodes(condition, block),
     }
 }

@@ -42,7 +42,7 @@ use Rattle.vl_mean.specs.Declarations.{block_name, constructs, declared, declare
 use Rattle.vl_mean.specs.Parts.{item_parts}
 use Rattle.vl_mean.specs.Runs.{Each}
 use Rattle.vl_mean.specs.Scopes.{Scope, constant_in}
-use Rattle.vl_mean.specs.Walk.{Place, Step, item, item_steps, items_steps, turns}
+use Rattle.vl_mean.specs.Walk.{Place, Step, all_valued, item, item_steps, items_steps, turns}
 use Rattle.vl_mean.specs.Walk.{turn_path, turn_place, unfolded, with_earlier}
 use Rattle.vl_elab_spec.specs.Meanings.{Names}
 use Rattle.vl_elab_spec.specs.Refused.{nowhere}
@@ -151,7 +151,7 @@ module _ (ms : List Module) (depth : ℕ) where
   -- an item and what is in it
   pub item_split : (x : Item) (at : Place) (n : ℕ)
       → item_seen ms depth x at n ≡ seen_step (item at x) ∷ inner_seen ms depth x at n
-  item_split x at n = ap seen_steps (sym (own_and_inner ms (unfolded depth ms) x at n))
+  item_split x at n = ap seen_steps (sym (own_and_inner all_valued ms (unfolded depth ms) x at n))
 
   module _ (w : Written) (x : Item) (at : Place) (n : ℕ) (ds : List Decl) (e : ds ≡ declared_by at.around x)
       (ready : IsReady w (item_seen ms depth x at n)) where
@@ -231,7 +231,7 @@ module _ (ms : List Module) (depth : ℕ) where
           → inner_seen ms depth (shown a p (k.If c first second)) at n
           ≡ seen_steps (chosen_steps ms (unfolded depth ms) o at n)
       if_chosen o same =
-          ap seen_steps (sym (if_steps ms (unfolded depth ms) a p c first second at n test
+          ap seen_steps (sym (if_steps all_valued ms (unfolded depth ms) a p c first second at n test refl
           (test_is ns at.scopes c h ∙ sym e)))
           ∙ ap (λ q. seen_steps (chosen_steps ms (unfolded depth ms) q at n)) (sym same)
 
@@ -247,20 +247,20 @@ module _ (ms : List Module) (depth : ℕ) where
 
   pub block_nested : (b : Block) (x : Item) (at : Place) (n : ℕ) → nested_if b ≡ Some x
       → block_seen ms depth b at n ≡ item_seen ms depth x at n
-  block_nested b x at n e = ap seen_steps (sym (nested_item ms (unfolded depth ms) b x at n e))
+  block_nested b x at n e = ap seen_steps (sym (nested_item all_valued ms (unfolded depth ms) b x at n e))
 
   pub block_scoped : (b : Block) (xs : Items) (at : Place) (n : ℕ) (path : List ℕ) → nested_if b ≡ None
       → xs ≡ block_items b → path ≡ at.path ++ block_name at.names n (label_of b) ++ codes "."
       → block_seen ms depth b at n ≡ scope_seen ms depth xs at path
   block_scoped b xs at n path e same path_is =
-      ap seen_steps (sym (scope_items ms (unfolded depth ms) b at n e))
+      ap seen_steps (sym (scope_items all_valued ms (unfolded depth ms) b at n e))
       ∙ (λ i. scope_seen ms depth (sym same i) at (sym path_is i))
 
   pub turn_scoped : (head : LoopHead) (b : Block) (xs : Items) (at : Place) (label : List ℕ) (c : Const)
       (path : List ℕ) → xs ≡ block_items b → path ≡ turn_path at.path label c
       → turn_seen ms depth head b at label c ≡ scope_seen ms depth xs (turn_place at head.variable c) path
   turn_scoped head b xs at label c path same path_is =
-      ap seen_steps (sym (turn_items ms (unfolded depth ms) b (turn_place at head.variable c)
+      ap seen_steps (sym (turn_items all_valued ms (unfolded depth ms) b (turn_place at head.variable c)
       (turn_path at.path label c)))
       ∙ (λ i. scope_seen ms depth (sym same i) (turn_place at head.variable c) (sym path_is i))
 

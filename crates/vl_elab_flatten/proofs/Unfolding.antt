@@ -12,6 +12,7 @@ use Rattle.vl_mean.specs.Walk.{
   Place,
   Step,
   Use,
+  all_valued,
   connection_steps,
   connections_of,
   header_steps,
@@ -125,13 +126,13 @@ module _ (ms : List Module) (depth : ℕ) (x : Instance) (at : Place) where
   inside = at.path ++ x.name ++ codes "."
 
   pub none_found : None ≡ module_named ms x.definition → instance_seen ms depth x at ≡ []
-  none_found e = ap seen_steps (sym (instance_found ms (unfolded depth ms) at x None (sym e)))
+  none_found e = ap seen_steps (sym (instance_found all_valued ms (unfolded depth ms) at x None (sym e)))
 
   module _ (m : Module) (found : Some m ≡ module_named ms x.definition) where
     pub too_deep : depth ≡ 0 → instance_seen ms depth x at ≡ []
     too_deep e =
-        ap seen_steps (sym (instance_found ms (unfolded depth ms) at x (Some m) (sym found))
-        ∙ none_unfolded ms depth m u inside at.modules (front_steps at m u inside x) e)
+        ap seen_steps (sym (instance_found all_valued ms (unfolded depth ms) at x (Some m) (sym found))
+        ∙ none_unfolded all_valued ms depth m u inside at.modules (front_steps at m u inside x) e)
 
     module _ (positive : 0 < depth) where
       abbrev fronts : List Step
@@ -142,8 +143,8 @@ module _ (ms : List Module) (depth : ℕ) (x : Instance) (at : Place) where
 
       both : instance_seen ms depth x at ≡ seen_steps fronts ++ seen_steps steps
       both =
-          ap seen_steps (sym (instance_found ms (unfolded depth ms) at x (Some m) (sym found))
-          ∙ sym (one_unfolded ms depth m u inside at.modules fronts positive))
+          ap seen_steps (sym (instance_found all_valued ms (unfolded depth ms) at x (Some m) (sym found))
+          ∙ sym (one_unfolded all_valued ms depth m u inside at.modules fronts positive))
           ∙ seen_append fronts steps
 
       openable : (w : Written) → IsReady w (instance_seen ms depth x at) → Each CanBeOpened (seen_steps steps)
@@ -242,7 +243,7 @@ module _ (ms : List Module) (top : List ℕ) where
     whole : design_seen ms top ≡ seen_steps top_steps
     whole =
         ap (λ o. seen_steps (steps_of o)) (sym found)
-        ∙ ap seen_steps (sym (one_unfolded ms (length ms) m top_use [] [] [] positive))
+        ∙ ap seen_steps (sym (one_unfolded all_valued ms (length ms) m top_use [] [] [] positive))
 
     top_open : (w : Written) → IsReady w (design_seen ms top) → Each CanBeOpened (seen_steps top_steps)
     top_open w h = subst (Each CanBeOpened) whole h.openable

@@ -14,21 +14,8 @@ use Rattle.vl_tree.specs.declared.part.Assignment.{Assignment}
 use Rattle.vl_tree.specs.declared.part.EventKind.{EventKind}
 use Rattle.vl_tree.specs.declared.part.EventKind.TheVariants as event
 use Rattle.vl_tree.specs.declared.source.Module.{Module}
-use Rattle.vl_tree.specs.Expr.{
-  Expr,
-  Exprs,
-  number,
-  name,
-  paren,
-  unary,
-  binary,
-  conditional,
-  concat,
-  repeat,
-  cast,
-  none,
-  more,
-}
+use Rattle.vl_tree.specs.Expr.{Expr, Exprs, number, name, paren, unary, binary, conditional, concat, repeat, cast}
+use Rattle.vl_tree.specs.Expr.{none, more}
 use Rattle.vl_tree.specs.Item.{Item, declaration, integer, genvar, parameter, assign, always, initial, instance}
 use Rattle.vl_tree.specs.Item.{generate, for_loop, if_only, if_else}
 use Rattle.vl_tree.specs.Lval.{Lval, Lvals, joined, more_lvals}
@@ -49,12 +36,12 @@ use Rattle.vl_mean.specs.Parts.{block_part, connection_part, declares_all, desig
 use Rattle.vl_mean.specs.Parts.{optional_value, parts_of_steps, plain, plain_target, port_kind, port_part, step_parts}
 use Rattle.vl_mean.specs.Parts.{target_of, targets_of, values_of, with_target}
 use Rattle.vl_mean.specs.Scopes.{Scope, is_clock}
-use Rattle.vl_mean.specs.Walk.{Place, Step, header, port, item, override, connection, first_turn, walk}
+use Rattle.vl_mean.specs.Walk.{Place, Step, header, port, item, override, connection, walk}
 use Rattle.vl_mean_flat.specs.Flattened.{decls_of}
 use Rattle.vl_elab_spec.specs.declared.elab_fault.ElabFault.{ElabFault}
 use Rattle.vl_elab_spec.specs.declared.elab_fault.ElabFault.TheVariants as f
 use Rattle.vl_elab_spec.specs.Counts.{assignment_nodes, item_nodes, name_nodes, step_names, step_nodes}
-use Rattle.vl_elab_spec.specs.Counts.{turn_nodes, value_nodes}
+use Rattle.vl_elab_spec.specs.Counts.{loop_nodes, value_nodes}
 use Rattle.vl_elab_spec.specs.Items.{step_refusals}
 use Rattle.vl_elab_spec.specs.Refused.{Totals, counted, first_refused, is_too_large, lowest}
 use Rattle.vl_elab_spec.specs.Refused.{or_later, refusals_at}
@@ -243,7 +230,7 @@ item_few at (initial attrs p s) = let here = initial_few at.scopes s in omega (a
 item_few at (instance attrs p x) = omega arith
 item_few at (generate attrs p mark) = omega arith
 item_few at (for_loop attrs p head b) =
-    none_few (nodes head.start + turn_nodes 4096 head at (first_turn head at.scopes) + 1)
+    none_few (nodes head.start + loop_nodes head at + 1)
 item_few at (if_only attrs p c b) = omega arith
 item_few at (if_else attrs p c b d) = omega arith
 

@@ -39,7 +39,8 @@ use Rattle.vl_elab_accepted_laws.proofs.Declared.{optional-none}
 use Rattle.vl_elab_accepted_laws.proofs.Declared.{part_names, values-none}
 use Rattle.vl_elab_accepted_laws.proofs.Fresh.{IsFine, NoneOf, none-front, none-back}
 use Rattle.vl_elab_accepted_laws.proofs.Loops.{AreFine}
-use Rattle.vl_elab_accepted_laws.proofs.Names.{names_differ, walk-fine}
+use Rattle.vl_elab_accepted_laws.proofs.Names.{names_differ}
+use Rattle.vl_elab_accepted_laws.proofs.NoneRefused.{walk-fine}
 use Rattle.vl_elab_accepted_laws.proofs.Plain.{all-each}
 use Rattle.vl_elab_scope.specs.Seen.{AllNamed}
 use Rattle.vl_elab_accepted_laws.specs.Sized.{AreSound, AreSure}

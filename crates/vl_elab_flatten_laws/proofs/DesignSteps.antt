@@ -13,7 +13,8 @@ use Rattle.vl_mean_flat.proofs.EachOf.{both}
 use Rattle.vl_elab_accepted_laws.specs.Unrefused.{NoStepRefused}
 use Rattle.vl_elab_accepted_laws.proofs.Fresh.{IsFine}
 use Rattle.vl_elab_accepted_laws.proofs.Loops.{AreFine}
-use Rattle.vl_elab_accepted_laws.proofs.Names.{names_differ, walk-fine}
+use Rattle.vl_elab_accepted_laws.proofs.Names.{names_differ}
+use Rattle.vl_elab_accepted_laws.proofs.NoneRefused.{walk-fine}
 use Rattle.vl_elab_draft.specs.Drawn.{IsDrawn}
 use Rattle.vl_elab_draft.proofs.Drawing.{same_maps}
 use Rattle.vl_elab_accepted_laws.specs.Right.{IsRight}

@@ -28,7 +28,7 @@ use Rattle.vl_elab_spec.specs.Meanings.{constants, meanings_at}
 use Rattle.vl_elab_accepted_laws.specs.Unrefused.{NoStepRefused}
 use Rattle.vl_elab_accepted_laws.proofs.Fresh.{IsFine, NoneOf, none-front, none-back}
 use Rattle.vl_elab_accepted_laws.proofs.Loops.{AreFine}
-use Rattle.vl_elab_accepted_laws.proofs.Names.{walk-fine}
+use Rattle.vl_elab_accepted_laws.proofs.NoneRefused.{walk-fine}
 use Rattle.vl_elab_accepted_laws.proofs.Plain.{all-head, all-tail, all-each}
 use Rattle.vl_elab_scope.specs.Seen.{AllNamed}
 use Rattle.vl_elab_accepted_laws.specs.Sized.{AreSound, AreSure}

@@ -31,7 +31,8 @@ use Rattle.vl_elab_accepted_laws.specs.Unrefused.{NoStepRefused}
 use Rattle.vl_elab_spec.specs.Statements.{stmt_refusals}
 use Rattle.vl_elab_accepted_laws.proofs.Fresh.{IsFine, NoneOf, none-back}
 use Rattle.vl_elab_accepted_laws.proofs.Loops.{AreFine}
-use Rattle.vl_elab_accepted_laws.proofs.Names.{names_differ, walk-fine}
+use Rattle.vl_elab_accepted_laws.proofs.Names.{names_differ}
+use Rattle.vl_elab_accepted_laws.proofs.NoneRefused.{walk-fine}
 use Rattle.vl_elab_accepted_laws.proofs.Plain.{all-each}
 use Rattle.vl_elab_draft.specs.Drawn.{drivers_of, starts_of}
 use Rattle.vl_elab_accepted_laws.specs.Sized.{AreSound}

@@ -17,7 +17,7 @@ use Rattle.vl_mean_flat.proofs.LaidScopes.{decls_append}
 use Rattle.vl_elab_accepted_laws.specs.Unrefused.{NoStepRefused}
 use Rattle.vl_elab_accepted_laws.proofs.Fresh.{IsFine}
 use Rattle.vl_elab_accepted_laws.proofs.Loops.{AreFine}
-use Rattle.vl_elab_accepted_laws.proofs.Names.{walk-fine}
+use Rattle.vl_elab_accepted_laws.proofs.NoneRefused.{walk-fine}
 use Rattle.vl_elab_accepted_laws.proofs.Plain.{all-each}
 use Rattle.vl_elab_accepted_laws.specs.SoundSteps.{IsFormedStep}
 use Rattle.vl_elab_accepted_laws.proofs.SoundWalked.{walk_formed}

@@ -6,8 +6,9 @@ use Rattle.vl_tree.specs.declared.source.Module.{Module}
 use Rattle.vl_tree.specs.Item.{Item, Items, no_items, more_items}
 use Rattle.vl_mean.specs.declared.const_number.Const.{Const}
 use Rattle.vl_mean.specs.Declarations.{names_of, constructs}
-use Rattle.vl_mean.specs.Walk.{Place, Step, Unfolding, with_earlier, item_steps, items_steps, turns}
+use Rattle.vl_mean.specs.Walk.{Place, Step, Unfolding, with_earlier, item_walk, items_walk, turns}
 use Rattle.vl_elab_spec.specs.declared.elab_fault.ElabFault.{ElabFault}
+use Rattle.vl_elab_spec.specs.Items.{is_valued}
 use Rattle.vl_elab_spec.specs.Refused.{Totals, all_counted}
 use Rattle.vl_elab_spec.specs.declared.totals.Totals as kept
 use Rattle.vl_elab_spec.specs.Walked.{AreTotals, AreWalked}
@@ -60,26 +61,26 @@ module _ (ms : List Module) where
       pub items_on : (walked new : kept.Totals) (Here Next : Place → Type 0) (x : Item) (xs : Items)
           (g : Option ElabFault) → is_some g ≡ false
           → ItemsAreLeft ms inner t all Here walked (more_items x xs)
-          → ((at : Place) (n : ℕ) → Here at → WalkedFrom ms walked new (item_steps ms inner x at n) g)
+          → ((at : Place) (n : ℕ) → Here at → WalkedFrom ms walked new (item_walk is_valued ms inner x at n) g)
           → ((at : Place) → Here at → Next (with_earlier at (names_of x)))
           → ItemsAreLeft ms inner t all Next new xs
       items_on walked new Here Next x xs g e h k next = record {
         at = with_earlier h.at (names_of x);
         number = h.number + constructs x;
         here = next h.at h.here;
-        steps = left_on walked new (item_steps ms inner x h.at h.number)
-            (items_steps ms inner xs (with_earlier h.at (names_of x)) (h.number + constructs x)) g e h.steps
+        steps = left_on walked new (item_walk is_valued ms inner x h.at h.number)
+            (items_walk is_valued ms inner xs (with_earlier h.at (names_of x)) (h.number + constructs x)) g e h.steps
             (k h.at h.number h.here);
       }
 
       pub items_stop : (walked new : kept.Totals) (Here : Place → Type 0) (x : Item) (xs : Items)
           (g : Option ElabFault) → is_some g ≡ true
           → ItemsAreLeft ms inner t all Here walked (more_items x xs)
-          → ((at : Place) (n : ℕ) → Here at → WalkedFrom ms walked new (item_steps ms inner x at n) g)
+          → ((at : Place) (n : ℕ) → Here at → WalkedFrom ms walked new (item_walk is_valued ms inner x at n) g)
           → AreWalked ms t new all g
       items_stop walked new Here x xs g e h k =
-          left_stops walked new (item_steps ms inner x h.at h.number)
-          (items_steps ms inner xs (with_earlier h.at (names_of x)) (h.number + constructs x)) g e h.steps
+          left_stops walked new (item_walk is_valued ms inner x h.at h.number)
+          (items_walk is_valued ms inner xs (with_earlier h.at (names_of x)) (h.number + constructs x)) g e h.steps
           (k h.at h.number h.here)
 
       pub items_end : (walked : kept.Totals) (Here : Place → Type 0)

@@ -20,8 +20,8 @@ use Rattle.vl_mean.specs.Cells.{contains_name}
 use Rattle.vl_mean.specs.Constants.{constant_operand}
 use Rattle.vl_mean.specs.Declarations.{block_name, is_if, label_of}
 use Rattle.vl_mean.specs.Scopes.{constant_in}
-use Rattle.vl_mean.specs.Walk.{Place, Step, Unfolding, item, with_earlier, module_named, block_place, block_path}
-use Rattle.vl_mean.specs.Walk.{item_steps, items_steps, turn_steps, block_steps}
+use Rattle.vl_mean.specs.Walk.{Place, Step, Unfolding, Valued, item, with_earlier, module_named, block_place}
+use Rattle.vl_mean.specs.Walk.{block_path, item_walk, items_walk, turn_walk, block_walk}
 use Rattle.vl_elab_spec.specs.declared.elab_fault.ElabFault.{ElabFault}
 use Rattle.vl_elab_spec.specs.declared.elab_fault.ElabFault.TheVariants as f
 use Rattle.vl_elab_spec.specs.Counts.{step_pos}
@@ -31,7 +31,8 @@ use Rattle.vl_elab_spec.specs.Meanings.{item_names}
 use Rattle.vl_elab_spec.specs.Refused.{Totals, counted, is_too_large, lowest, or_later}
 use Rattle.vl_elab_spec.specs.declared.totals.Totals as kept
 use Rattle.vl_elab_spec.specs.Walked.{AreWalked}
-use Rattle.vl_elab_spec.specs.Within.{block_items, nested_if, chosen_block, chosen_steps, inner_steps, IsNotRecursive}
+use Rattle.vl_elab_spec.specs.Within.{block_items, nested_if, chosen_block, chosen_by, chosen_walk, inner_walk}
+use Rattle.vl_elab_spec.specs.Within.{IsNotRecursive}
 
 -- ---- an instance that isn't refused
 
@@ -91,9 +92,9 @@ module _ (ms : List Module) where
 pub nothing_earlier : (at : Place) → with_earlier at [] ≡ at
 nothing_earlier at = ap (λ (es : List (List ℕ)). record at { earlier = es }) (append-nil at.earlier)
 
-module _ (ms : List Module) (inner : Unfolding) where
+module _ (valued : Valued) (ms : List Module) (inner : Unfolding) where
   pub own_and_inner : (x : Item) (at : Place) (n : ℕ)
-      → (item at x ∷ []) ++ inner_steps ms inner x at n ≡ item_steps ms inner x at n
+      → (item at x ∷ []) ++ inner_walk valued ms inner x at n ≡ item_walk valued ms inner x at n
   own_and_inner (declaration attrs p d) at n = refl
   own_and_inner (integer attrs p xs) at n = refl
   own_and_inner (genvar attrs p xs) at n = refl
@@ -107,51 +108,84 @@ module _ (ms : List Module) (inner : Unfolding) where
   own_and_inner (if_only attrs p c b) at n = refl
   own_and_inner (if_else attrs p c b d) at n = refl
 
-  -- of an `if`, by its condition
+  -- of an `if`, by its condition, which has a value
   pub if_steps : (attrs : Attributes) (p : Pos) (c : Expr) (first : declared.Block) (second : Option declared.Block)
-      (at : Place) (n : ℕ) (holds : Bool) → is_true (constant_operand (constant_in at.scopes) c) ≡ holds
-      → chosen_steps ms inner (chosen_block holds (block first) (option_map block second)) at n
-      ≡ inner_steps ms inner (shown attrs p (k.If c first second)) at n
-  if_steps attrs p c first None at n holds e =
-      by holds ∙ ap (λ b. if b then block_steps ms inner (block first) at n else []) (sym e)
-    where
-      by : (b : Bool) → chosen_steps ms inner (chosen_block b (block first) None) at n
-          ≡ (if b then block_steps ms inner (block first) at n else [])
-      by true = refl
-      by false = refl
-  if_steps attrs p c first (Some second) at n holds e =
+      (at : Place) (n : ℕ) (holds : Bool) → valued at c ≡ true
+      → is_true (constant_operand (constant_in at.scopes) c) ≡ holds
+      → chosen_walk valued ms inner (chosen_block holds (block first) (option_map block second)) at n
+      ≡ inner_walk valued ms inner (shown attrs p (k.If c first second)) at n
+  if_steps attrs p c first None at n holds v e =
       by holds
-      ∙ ap (λ b. if b then block_steps ms inner (block first) at n else block_steps ms inner (block second) at n)
-      (sym e)
+      ∙ (λ i. if sym v i then (if sym e i then block_walk valued ms inner (block first) at n else []) else [])
     where
-      by : (b : Bool) → chosen_steps ms inner (chosen_block b (block first) (Some (block second))) at n
-          ≡ (if b then block_steps ms inner (block first) at n else block_steps ms inner (block second) at n)
+      by : (b : Bool) → chosen_walk valued ms inner (chosen_block b (block first) None) at n
+          ≡ (if b then block_walk valued ms inner (block first) at n else [])
       by true = refl
       by false = refl
+  if_steps attrs p c first (Some second) at n holds v e =
+      by holds
+      ∙ (λ i. if sym v i then (if sym e i then block_walk valued ms inner (block first) at n
+      else block_walk valued ms inner (block second) at n) else [])
+    where
+      by : (b : Bool) → chosen_walk valued ms inner (chosen_block b (block first) (Some (block second))) at n
+          ≡ (if b then block_walk valued ms inner (block first) at n else block_walk valued ms inner (block second) at n)
+      by true = refl
+      by false = refl
+
+  -- without one there is no block
+  pub no_if_steps : (attrs : Attributes) (p : Pos) (c : Expr) (first : declared.Block)
+      (second : Option declared.Block) (at : Place) (n : ℕ) → valued at c ≡ false
+      → inner_walk valued ms inner (shown attrs p (k.If c first second)) at n ≡ []
+  no_if_steps attrs p c first None at n v =
+      let block : List Step = block_walk valued ms inner (block first) at n in
+      λ i. if v i then (if is_true (constant_operand (constant_in at.scopes) c) then block else []) else []
+  no_if_steps attrs p c first (Some second) at n v =
+      let one : List Step = block_walk valued ms inner (block first) at n in
+      let other : List Step = block_walk valued ms inner (block second) at n in
+      λ i. if v i then (if is_true (constant_operand (constant_in at.scopes) c) then one else other) else []
+
+  pub if_by : (attrs : Attributes) (p : Pos) (c : Expr) (first : declared.Block) (second : Option declared.Block)
+      (at : Place) (n : ℕ) (o : Option Bool)
+      → o ≡ (if valued at c then Some (is_true (constant_operand (constant_in at.scopes) c)) else None)
+      → chosen_walk valued ms inner (chosen_by o (block first) (option_map block second)) at n
+      ≡ inner_walk valued ms inner (shown attrs p (k.If c first second)) at n
+  if_by attrs p c first second at n o e =
+      ap (λ q. chosen_walk valued ms inner (chosen_by q (block first) (option_map block second)) at n) e
+      ∙ by (valued at c) refl
+    where
+      holds : Bool
+      holds = is_true (constant_operand (constant_in at.scopes) c)
+
+      by : (v : Bool) → valued at c ≡ v
+          → chosen_walk valued ms inner (chosen_by (if v then Some holds else None) (block first)
+          (option_map block second)) at n
+          ≡ inner_walk valued ms inner (shown attrs p (k.If c first second)) at n
+      by true v = if_steps attrs p c first second at n holds v refl
+      by false v = sym (no_if_steps attrs p c first second at n v)
 
   -- ---- the steps of a block, by its items
 
   pub one_item : (x : Item) (at : Place) (n : ℕ)
-      → items_steps ms inner (more_items x no_items) at n ≡ item_steps ms inner x at n
-  one_item x at n = append-nil (item_steps ms inner x at n)
+      → items_walk valued ms inner (more_items x no_items) at n ≡ item_walk valued ms inner x at n
+  one_item x at n = append-nil (item_walk valued ms inner x at n)
 
   pub turn_items : (b : Block) (at : Place) (path : List ℕ)
-      → items_steps ms inner (block_items b) (block_place at path (block_items b)) 1 ≡ turn_steps ms inner b at path
+      → items_walk valued ms inner (block_items b) (block_place at path (block_items b)) 1 ≡ turn_walk valued ms inner b at path
   turn_items (begin p label xs) at path = refl
   turn_items (region p xs) at path = refl
   turn_items (single x) at path = one_item x (block_place at path (more_items x no_items)) 1
 
   -- a block that makes a scope
   pub scope_items : (b : Block) (at : Place) (n : ℕ) → nested_if b ≡ None
-      → items_steps ms inner (block_items b)
+      → items_walk valued ms inner (block_items b)
       (block_place at (block_path at (block_name at.names n (label_of b))) (block_items b)) 1
-      ≡ block_steps ms inner b at n
+      ≡ block_walk valued ms inner b at n
   scope_items (begin p label xs) at n e = refl
   scope_items (region p xs) at n e = refl
   scope_items (single x) at n e =
       let inside : Place = block_place at (block_path at (block_name at.names n None)) (more_items x no_items) in
       one_item x inside 1
-      ∙ ap (λ b. item_steps ms inner x (if b then at else inside) (if b then n else 1)) (sym (alone (is_if x) e))
+      ∙ ap (λ b. item_walk valued ms inner x (if b then at else inside) (if b then n else 1)) (sym (alone (is_if x) e))
     where
       alone : (b : Bool) → (if b then Some x else None) ≡ None → b ≡ false
       alone true h = cc
@@ -159,13 +193,13 @@ module _ (ms : List Module) (inner : Unfolding) where
 
   -- one that makes none
   pub nested_item : (b : Block) (x : Item) (at : Place) (n : ℕ) → nested_if b ≡ Some x
-      → item_steps ms inner x at n ≡ block_steps ms inner b at n
+      → item_walk valued ms inner x at n ≡ block_walk valued ms inner b at n
   nested_item (begin p label xs) x at n e = cc
   nested_item (region p xs) x at n e = cc
   nested_item (single y) x at n e =
       let inside : Place = block_place at (block_path at (block_name at.names n None)) (more_items y no_items) in
-      ap (λ z. item_steps ms inner z at n) (sym (same (is_if y) e))
-      ∙ ap (λ b. item_steps ms inner y (if b then at else inside) (if b then n else 1)) (sym (nested (is_if y) e))
+      ap (λ z. item_walk valued ms inner z at n) (sym (same (is_if y) e))
+      ∙ ap (λ b. item_walk valued ms inner y (if b then at else inside) (if b then n else 1)) (sym (nested (is_if y) e))
     where
       nested : (b : Bool) → (if b then Some y else None) ≡ Some x → b ≡ true
       nested true h = refl
@@ -240,3 +274,9 @@ chosen_is attrs p c first (Some second) false b e =
     let same : block second ≡ b = cc in
     subst (IsChosen (if_else attrs p c (block first) (block second))) same
     (record { formed = λ w. w.4; falls = omega arith })
+
+pub by_is : (attrs : Attributes) (p : Pos) (c : Expr) (first : declared.Block) (second : Option declared.Block)
+    (o : Option Bool) (b : Block) → Some b ≡ chosen_by o (block first) (option_map block second)
+    → IsChosen (shown attrs p (k.If c first second)) b
+by_is attrs p c first second None b e = cc
+by_is attrs p c first second (Some holds) b e = chosen_is attrs p c first second holds b e

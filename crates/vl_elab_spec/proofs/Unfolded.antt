@@ -8,11 +8,11 @@ use Rattle.vl_tree.specs.declared.part.Instance.{Instance}
 use Rattle.vl_tree.specs.declared.source.Module.{Module}
 use Rattle.vl_tree.specs.Item.{items, items_depth}
 use Rattle.vl_tree.specs.WellFormed.{IsModule}
-use Rattle.vl_mean.specs.Walk.{Place, Step, Unfolding, Use, module_named, with_module, module_place}
-use Rattle.vl_mean.specs.Walk.{module_parameters, header_steps, port_steps, items_steps, parameter_names}
+use Rattle.vl_mean.specs.Walk.{Place, Step, Unfolding, Use, Valued, module_named, with_module, module_place}
+use Rattle.vl_mean.specs.Walk.{module_parameters, header_steps, port_steps, items_walk, parameter_names}
 use Rattle.vl_mean.specs.Walk.{written_ports, with_earlier}
-use Rattle.vl_mean.specs.Walk.{instance_steps, unfolded, use_of}
-use Rattle.vl_elab_spec.specs.Within.{behind_head, front_steps, module_steps, deepest}
+use Rattle.vl_mean.specs.Walk.{instance_steps, module_walk, use_of}
+use Rattle.vl_elab_spec.specs.Within.{behind_head, front_steps, opened_walk, deepest}
 
 -- ---- the module of a name
 
@@ -74,28 +74,28 @@ named_is ms text m e = record {
 
 -- ---- its steps
 
-module _ (ms : List Module) where
+module _ (valued : Valued) (ms : List Module) where
   pub none_unfolded : (n : ℕ) (m : Module) (u : Use) (path : List ℕ) (modules : List (List ℕ)) (front : List Step)
-      → n ≡ 0 → unfolded n ms m u path modules front ≡ []
-  none_unfolded n m u path modules front e = ap (λ k. unfolded k ms m u path modules front) e
+      → n ≡ 0 → module_walk valued n ms m u path modules front ≡ []
+  none_unfolded n m u path modules front e = ap (λ k. module_walk valued k ms m u path modules front) e
 
   pub next_unfolded : (n : ℕ) (m : Module) (u : Use) (path : List ℕ) (modules : List (List ℕ)) (front : List Step)
-      → front ++ module_steps ms (unfolded n ms) (module_place m u path modules) m u
-      ≡ unfolded (suc n) ms m u path modules front
+      → front ++ opened_walk valued ms (module_walk valued n ms) (module_place m u path modules) m u
+      ≡ module_walk valued (suc n) ms m u path modules front
   next_unfolded n m u path modules front =
       let at : Place = module_place m u path modules in
       let parameters : List (List ℕ) = parameter_names (module_parameters m) in
       let heads : List Step = header_steps at (module_parameters m) in
       let ports : List Step = port_steps (with_earlier at parameters) u None (written_ports m.ports) in
-      let rest : List Step = items_steps ms (unfolded n ms) (items m.items) (behind_head at m) 1 in
+      let rest : List Step = items_walk valued ms (module_walk valued n ms) (items m.items) (behind_head at m) 1 in
       sym (append_assoc front (heads ++ ports) rest) ∙ ap (λ xs. xs ++ rest) (sym (append_assoc front heads ports))
 
   pub one_unfolded : (n : ℕ) (m : Module) (u : Use) (path : List ℕ) (modules : List (List ℕ)) (front : List Step)
       → 0 < n
-      → front ++ module_steps ms (unfolded (n - 1) ms) (module_place m u path modules) m u
-      ≡ unfolded n ms m u path modules front
+      → front ++ opened_walk valued ms (module_walk valued (n - 1) ms) (module_place m u path modules) m u
+      ≡ module_walk valued n ms m u path modules front
   one_unfolded n m u path modules front positive =
-      next_unfolded (n - 1) m u path modules front ∙ ap (λ k. unfolded k ms m u path modules front) (sym same)
+      next_unfolded (n - 1) m u path modules front ∙ ap (λ k. module_walk valued k ms m u path modules front) (sym same)
     where
       same : n ≡ suc (n - 1)
       same = omega (arith, positive)

@@ -9,6 +9,7 @@ use Rattle.std.specs.Prelude.{
   [],
   ◌∷◌,
   length,
+  ◌&&◌,
   Option,
   Some,
   None,
@@ -30,6 +31,8 @@ use Rattle.vl_mean.specs.Declarations.{declared_by}
 use Rattle.vl_mean.specs.FlatLaw.{all_names_count, nodes, target_nodes, stmt_nodes}
 use Rattle.vl_mean.specs.Scopes.{constant_in}
 use Rattle.vl_mean.specs.Walk.{Place, Step, header, port, item, override, connection, goes_on, next_turn, first_turn}
+use Rattle.vl_mean.specs.Walk.{turn_place}
+use Rattle.vl_elab_spec.specs.Items.{is_valued}
 
 abbrev pub value_nodes : Option Expr → ℕ
 value_nodes None = 0
@@ -58,6 +61,18 @@ turn_nodes (suc n) head at c =
     let more = turn_nodes n head at (next_turn head at.scopes c) in
     nodes head.condition + (if goes_on head at.scopes c then nodes head.next + 1 + more else 0)
 
+-- of the first turn alone
+abbrev pub one_turn_nodes : LoopHead → Place → Const → ℕ
+one_turn_nodes head at c = nodes head.condition + (if goes_on head at.scopes c then nodes head.next + 1 else 0)
+
+-- of the turns that begin, as the walk goes through them
+abbrev pub loop_nodes : LoopHead → Place → ℕ
+loop_nodes head at =
+    let first = first_turn head at.scopes in
+    let inside = turn_place at head.variable first in
+    let turns = if is_valued inside head.next then turn_nodes 4096 head at first else one_turn_nodes head at first in
+    if is_valued at head.start && is_valued inside head.condition then turns else nodes head.condition
+
 -- of an `if`, the chosen block
 abbrev pub item_nodes : Place → Item → ℕ
 item_nodes at (declaration attrs p d) = range_nodes d.shape.range + name_nodes d.names + 1
@@ -69,10 +84,10 @@ item_nodes at (always attrs p event s) = stmt_nodes s + 1
 item_nodes at (initial attrs p s) = stmt_nodes s + 1
 item_nodes at (instance attrs p x) = 1
 item_nodes at (generate attrs p mark) = 1
-item_nodes at (for_loop attrs p head b) = nodes head.start + turn_nodes 4096 head at (first_turn head at.scopes) + 1
+item_nodes at (for_loop attrs p head b) = nodes head.start + loop_nodes head at + 1
 item_nodes at (if_only attrs p c b) =
-    nodes c + 1 + (if is_true (constant_operand (constant_in at.scopes) c) then 1 else 0)
-item_nodes at (if_else attrs p c b d) = nodes c + 2
+    nodes c + 1 + (if is_valued at c && is_true (constant_operand (constant_in at.scopes) c) then 1 else 0)
+item_nodes at (if_else attrs p c b d) = nodes c + 1 + (if is_valued at c then 1 else 0)
 
 abbrev pub step_nodes : Step → ℕ
 step_nodes (header at x) = parameter_nodes (x ∷ [])

@@ -73,6 +73,7 @@ use Rattle.vl_mean.specs.Declarations.{is_if}
 use Rattle.vl_mean.specs.Parts.{target_of}
 use Rattle.vl_mean.specs.Scopes.{is_clock, is_clock_class}
 use Rattle.vl_mean.specs.Walk.{Place, Contents, Use, Step, header, port, item, override, connection, module_named}
+use Rattle.vl_mean.specs.Walk.{Valued}
 use Rattle.vl_mean.specs.Walk.{module_parameters, module_scope, module_contents, turn_place, goes_on, next_turn}
 use Rattle.vl_mean.specs.Walk.{first_turn}
 use Rattle.vl_elab_spec.specs.declared.elab_fault.ElabFault.{ElabFault}
@@ -236,6 +237,13 @@ abbrev pub are_none : List ElabFault → Bool
 are_none [] = true
 are_none (g ∷ gs) = false
 
+-- what isn't refused has a value, unless it names a constant that has none, and so has no size
+abbrev pub has_value : List Names → Expr → Bool
+has_value ns e = is_some (size (objects ns) (known ns e))
+
+abbrev pub is_valued : Valued
+is_valued at e = has_value (meanings_at at) e
+
 -- what names mean in the turn with this value
 abbrev pub turn_meanings : LoopHead → Place → Const → List Names
 turn_meanings head at c = meanings_at (turn_place at head.variable c)
@@ -243,11 +251,14 @@ turn_meanings head at c = meanings_at (turn_place at head.variable c)
 -- The turn with this value begins: its condition holds. What is refused has no value, so no turn begins by it.
 abbrev pub begins : LoopHead → Place → Const → Bool
 begins head at c =
-    are_none (own_refusals (turn_meanings head at c) true head.condition) && goes_on head at.scopes c
+    let ns = turn_meanings head at c in
+    are_none (own_refusals ns true head.condition) && (has_value ns head.condition && goes_on head at.scopes c)
 
 -- and leads to a further one
 abbrev pub leads_on : LoopHead → Place → Const → Bool
-leads_on head at c = begins head at c && are_none (genvar_refusals (turn_meanings head at c) head.next)
+leads_on head at c =
+    let ns = turn_meanings head at c in
+    begins head at c && (are_none (genvar_refusals ns head.next) && has_value ns head.next)
 
 -- a turn's condition and, where it begins, its step
 abbrev pub turn_refusals : LoopHead → Place → Const → List ElabFault
@@ -267,20 +278,11 @@ turns_refusals (suc n) head at p c =
 abbrev pub without_value : List ℕ → List Names → List Names
 without_value text ns = ((text, faulty) ∷ []) ∷ ns
 
--- what isn't refused has a value, unless it names a constant that has none, and so has no size
-abbrev pub has_value : List Names → Expr → Bool
-has_value ns e = is_some (size (objects ns) (known ns e))
-
--- where no turn begins the step is judged once, with the start's value, where that has one
-abbrev pub idle_meanings : LoopHead → Place → Const → List Names
-idle_meanings head at c =
-    let ns = meanings_at at in
-    if has_value ns head.start then turn_meanings head at c else without_value head.variable ns
-
+-- where no turn begins the step is judged once, with the start's value
 abbrev pub idle_refusals : LoopHead → Place → Const → List ElabFault
-idle_refusals head at c = if begins head at c then [] else genvar_refusals (idle_meanings head at c) head.next
+idle_refusals head at c = if begins head at c then [] else genvar_refusals (turn_meanings head at c) head.next
 
--- behind a start value that is refused
+-- behind a start that has no value
 abbrev pub without_start : LoopHead → List Names → List ElabFault
 without_start head ns =
     let inside = without_value head.variable ns in
@@ -301,7 +303,8 @@ unknown_names (g ∷ gs) = let more = unknown_names gs in if is_unknown g then g
 abbrev pub head_refusals : Place → Pos → LoopHead → Meaning → List ElabFault
 head_refusals at p head loop_variable =
     let start = genvar_refusals (meanings_at at) head.start in
-    start ++ (if are_none start then begun_refusals head at p (first_turn head at.scopes)
+    let starts = are_none start && has_value (meanings_at at) head.start in
+    start ++ (if starts then begun_refusals head at p (first_turn head at.scopes)
     else without_start head (meanings_at at))
 head_refusals at p head undeclared = f.Unknown head.variable p ∷ []
 head_refusals at p head m =

@@ -2,8 +2,9 @@
 use Rattle.std.specs.Prelude.{ℕ, List, Option}
 use Rattle.vl_tree.specs.declared.source.Module.{Module}
 use Rattle.vl_tree.specs.Item.{Items}
-use Rattle.vl_mean.specs.Walk.{Place, Step, Unfolding, items_steps}
+use Rattle.vl_mean.specs.Walk.{Place, Step, Unfolding, items_walk}
 use Rattle.vl_elab_spec.specs.declared.elab_fault.ElabFault.{ElabFault}
+use Rattle.vl_elab_spec.specs.Items.{is_valued}
 use Rattle.vl_elab_spec.specs.Refused.{Totals}
 use Rattle.vl_elab_spec.specs.declared.totals.Totals as kept
 use Rattle.vl_elab_spec.specs.Walked.{AreTotals, AreWalked}
@@ -21,4 +22,4 @@ pub record ItemsAreLeft (ms : List Module) (inner : Unfolding) (t : Totals) (all
   pub at : Place
   pub number : ℕ
   pub here : IsHere at
-  pub steps : AreLeft ms t all walked (items_steps ms inner left at number)
+  pub steps : AreLeft ms t all walked (items_walk is_valued ms inner left at number)

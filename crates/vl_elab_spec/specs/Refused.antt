@@ -27,12 +27,12 @@ use Rattle.vl_size.specs.declared.decl.Decl.{Decl}
 use Rattle.vl_mean.specs.Cells.{cells, contains_name}
 use Rattle.vl_mean.specs.Parts.{Part, declares, design}
 use Rattle.vl_mean.specs.Runs.{Each, is_driven}
-use Rattle.vl_mean.specs.Walk.{Step, module_named, walk}
+use Rattle.vl_mean.specs.Walk.{Step, module_named, walk_by}
 use Rattle.vl_elab_spec.specs.declared.elab_fault.ElabFault.{ElabFault}
 use Rattle.vl_elab_spec.specs.declared.elab_fault.ElabFault.TheVariants as f
 use Rattle.vl_elab_spec.specs.Counts.{step_nodes, step_names, step_pos}
 use Rattle.vl_elab_spec.specs.Expressions.{refused_if}
-use Rattle.vl_elab_spec.specs.Items.{step_refusals}
+use Rattle.vl_elab_spec.specs.Items.{is_valued, step_refusals}
 
 abbrev pub rank : ElabFault → ℕ
 rank (f.NoModule text) = 1
@@ -157,9 +157,13 @@ state_bits all (p ∷ ps) = state_bits all ps
 abbrev pub too_many_bits : ℕ → Option ElabFault
 too_many_bits n = if nat_lt 65536 n then Some (f.TooManyBits n) else None
 
+-- the steps that are judged: what has no value chooses no others
+abbrev pub judged_walk : List Module → List ℕ → List Step
+judged_walk ms top = walk_by is_valued ms top
+
 abbrev pub refused_walk : List Module → List ℕ → Option ElabFault
 refused_walk ms top =
-    or_later (modules_twice [] ms) (or_later (first_refused ms (record { nodes = 0; names = 0 }) (walk ms top))
+    or_later (modules_twice [] ms) (or_later (first_refused ms (record { nodes = 0; names = 0 }) (judged_walk ms top))
     (let ps = design ms top in too_many_bits (state_bits ps ps)))
 
 -- why the modules are no design with this top module; None where they are one

@@ -39,10 +39,10 @@ use Rattle.vl_mean.specs.Cells.{contains_name}
 use Rattle.vl_mean.specs.Constants.{constant_operand}
 use Rattle.vl_mean.specs.Declarations.{block_name, is_if, label_of, ports_of}
 use Rattle.vl_mean.specs.Scopes.{constant_in}
-use Rattle.vl_mean.specs.Walk.{Place, Step, Unfolding, Use, with_earlier, module_parameters}
+use Rattle.vl_mean.specs.Walk.{Place, Step, Unfolding, Use, Valued, all_valued, with_earlier, module_parameters}
 use Rattle.vl_mean.specs.Walk.{parameter_names, port_names, written_ports, header_steps, port_steps, instance_steps}
-use Rattle.vl_mean.specs.Walk.{module_scope, connections_of, override_steps, connection_steps, items_steps}
-use Rattle.vl_mean.specs.Walk.{turn_steps, block_steps, loop_turns}
+use Rattle.vl_mean.specs.Walk.{module_scope, connections_of, override_steps, connection_steps, items_walk}
+use Rattle.vl_mean.specs.Walk.{turn_walk, block_walk, loop_walk}
 use Rattle.vl_mean.specs.Walk.{turn_place, turn_path}
 
 -- ---- blocks of generate constructs
@@ -63,27 +63,43 @@ abbrev pub chosen_block : Bool → Block → Option Block → Option Block
 chosen_block true first second = Some first
 chosen_block false first second = second
 
+-- by a condition that has no value none
+abbrev pub chosen_by : Option Bool → Block → Option Block → Option Block
+chosen_by None first second = None
+chosen_by (Some holds) first second = chosen_block holds first second
+
 -- ---- items
 
-module _ (ms : List Module) (inner : Unfolding) where
-  abbrev pub chosen_steps : Option Block → Place → ℕ → List Step
-  chosen_steps None at n = []
-  chosen_steps (Some b) at n = block_steps ms inner b at n
+module _ (valued : Valued) (ms : List Module) (inner : Unfolding) where
+  abbrev pub chosen_walk : Option Block → Place → ℕ → List Step
+  chosen_walk None at n = []
+  chosen_walk (Some b) at n = block_walk valued ms inner b at n
 
   -- behind the item itself: of an instance its module, of a loop its turns, of an `if` the chosen block
-  abbrev pub inner_steps : Item → Place → ℕ → List Step
-  inner_steps (instance attrs p x) at n = instance_steps ms inner at x
-  inner_steps (for_loop attrs p head b) at n =
+  abbrev pub inner_walk : Item → Place → ℕ → List Step
+  inner_walk (instance attrs p x) at n = instance_steps ms inner at x
+  inner_walk (for_loop attrs p head b) at n =
       let label = block_name at.names n (label_of b) in
-      loop_turns head at.scopes
-      (λ c. turn_steps ms inner b (turn_place at head.variable c) (turn_path at.path label c))
-  inner_steps (if_only attrs p c b) at n =
-      let chosen = block_steps ms inner b at n in
-      if is_true (constant_operand (constant_in at.scopes) c) then chosen else []
-  inner_steps (if_else attrs p c b d) at n =
-      let first = block_steps ms inner b at n in let second = block_steps ms inner d at n in
-      if is_true (constant_operand (constant_in at.scopes) c) then first else second
-  inner_steps x at n = []
+      loop_walk valued head at
+      (λ c. turn_walk valued ms inner b (turn_place at head.variable c) (turn_path at.path label c))
+  inner_walk (if_only attrs p c b) at n =
+      let block = block_walk valued ms inner b at n in
+      let chosen = if is_true (constant_operand (constant_in at.scopes) c) then block else [] in
+      if valued at c then chosen else []
+  inner_walk (if_else attrs p c b d) at n =
+      let first = block_walk valued ms inner b at n in
+      let second = block_walk valued ms inner d at n in
+      let chosen = if is_true (constant_operand (constant_in at.scopes) c) then first else second in
+      if valued at c then chosen else []
+  inner_walk x at n = []
+
+-- where each expression has a value
+module _ (ms : List Module) (inner : Unfolding) where
+  abbrev pub chosen_steps : Option Block → Place → ℕ → List Step
+  chosen_steps = chosen_walk all_valued ms inner
+
+  abbrev pub inner_steps : Item → Place → ℕ → List Step
+  inner_steps = inner_walk all_valued ms inner
 
 -- ---- modules
 
@@ -97,8 +113,11 @@ abbrev pub behind_head : Place → Module → Place
 behind_head at m = with_earlier at (parameter_names (module_parameters m) ++ port_names (ports_of m.ports))
 
 -- behind those of its instance
+abbrev pub opened_walk : Valued → List Module → Unfolding → Place → Module → Use → List Step
+opened_walk valued ms inner at m u = head_steps at m u ++ items_walk valued ms inner (items m.items) (behind_head at m) 1
+
 abbrev pub module_steps : List Module → Unfolding → Place → Module → Use → List Step
-module_steps ms inner at m u = head_steps at m u ++ items_steps ms inner (items m.items) (behind_head at m) 1
+module_steps = opened_walk all_valued
 
 -- what an instance gives to its module and joins to it
 abbrev pub front_steps : Place → Module → Use → List ℕ → Instance → List Step

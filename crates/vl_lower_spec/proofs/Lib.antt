@@ -12,5 +12,5 @@ pub mod Changing
 pub mod Begins
 pub mod NamedWhole
 pub mod Writing
-mod Texts
+pub mod Texts
 pub mod Graphic

@@ -18,6 +18,7 @@ use Rattle.std.specs.Prelude.{
   codes,
   Bool,
   true,
+  ◌&&◌,
 }
 use Rattle.std.specs.Prelude.{false, Option, Some, None, bytes_eq, if◌then◌else◌}
 use Rattle.std.specs.Fmt.{signed_decimal}
@@ -112,6 +113,14 @@ pub data Step : Type 0 where
   -- what an instance joins to a port of its module, which is used so and has these scopes, behind what it joins to
   -- these
   connection : Place → Module → Use → List Scope → List (List ℕ) → Connection → Step
+
+-- Whether an expression has a value at a place. In the meaning of a design each has one; what has none chooses no block
+-- of an `if` and begins no turn of a loop.
+abbrev pub Valued : Type 0
+Valued = Place → Expr → Bool
+
+abbrev pub all_valued : Valued
+all_valued at e = true
 
 -- ---- modules: sections 12.1 to 12.3
 
@@ -282,6 +291,18 @@ first_turn head ss = genvar_value (constant_operand (constant_in ss) head.start)
 abbrev pub loop_turns : LoopHead → List Scope → (Const → List Step) → List Step
 loop_turns head ss body = turns 4096 (goes_on head ss) (next_turn head ss) body (first_turn head ss)
 
+-- at most 4,096 turns; none where the start or the condition has no value, and one where the step has none
+abbrev pub turn_limit : Valued → LoopHead → Place → ℕ
+turn_limit valued head at =
+    let inside = turn_place at head.variable (first_turn head at.scopes) in
+    let most = if valued inside head.next then 4096 else 1 in
+    if valued at head.start && valued inside head.condition then most else 0
+
+abbrev pub loop_walk : Valued → LoopHead → Place → (Const → List Step) → List Step
+loop_walk valued head at body =
+    turns (turn_limit valued head at) (goes_on head at.scopes) (next_turn head at.scopes) body
+    (first_turn head at.scopes)
+
 abbrev pub turn_path : List ℕ → List ℕ → Const → List ℕ
 turn_path path label c = path ++ label ++ codes "[" ++ signed_decimal (as_int c.width c.signed c.value) ++ codes "]."
 
@@ -310,60 +331,62 @@ single_place at n x =
 abbrev pub single_number : ℕ → Item → ℕ
 single_number n x = if is_if x then n else 1
 
-module _ (ms : List Module) (inner : Unfolding) where
+module _ (valued : Valued) (ms : List Module) (inner : Unfolding) where
   abbrev mutual
     -- an item in its place; n numbers the generate constructs of the scope
-    pub item_steps : Item → Place → ℕ → List Step
-    item_steps (declaration attrs p d) at n = item at (declaration attrs p d) ∷ []
-    item_steps (integer attrs p xs) at n = item at (integer attrs p xs) ∷ []
-    item_steps (genvar attrs p xs) at n = item at (genvar attrs p xs) ∷ []
-    item_steps (parameter attrs p kind xs) at n = item at (parameter attrs p kind xs) ∷ []
-    item_steps (assign attrs p xs) at n = item at (assign attrs p xs) ∷ []
-    item_steps (always attrs p event s) at n = item at (always attrs p event s) ∷ []
-    item_steps (initial attrs p s) at n = item at (initial attrs p s) ∷ []
-    item_steps (instance attrs p x) at n = item at (instance attrs p x) ∷ instance_steps ms inner at x
-    item_steps (generate attrs p mark) at n = item at (generate attrs p mark) ∷ []
-    item_steps (for_loop attrs p head b) at n =
+    pub item_walk : Item → Place → ℕ → List Step
+    item_walk (declaration attrs p d) at n = item at (declaration attrs p d) ∷ []
+    item_walk (integer attrs p xs) at n = item at (integer attrs p xs) ∷ []
+    item_walk (genvar attrs p xs) at n = item at (genvar attrs p xs) ∷ []
+    item_walk (parameter attrs p kind xs) at n = item at (parameter attrs p kind xs) ∷ []
+    item_walk (assign attrs p xs) at n = item at (assign attrs p xs) ∷ []
+    item_walk (always attrs p event s) at n = item at (always attrs p event s) ∷ []
+    item_walk (initial attrs p s) at n = item at (initial attrs p s) ∷ []
+    item_walk (instance attrs p x) at n = item at (instance attrs p x) ∷ instance_steps ms inner at x
+    item_walk (generate attrs p mark) at n = item at (generate attrs p mark) ∷ []
+    item_walk (for_loop attrs p head b) at n =
         let label = block_name at.names n (label_of b) in
         item at (for_loop attrs p head b)
-        ∷ loop_turns head at.scopes (λ c. turn_steps b (turn_place at head.variable c) (turn_path at.path label c))
-    item_steps (if_only attrs p c b) at n =
-        let chosen = block_steps b at n in
-        item at (if_only attrs p c b) ∷ (if is_true (constant_operand (constant_in at.scopes) c) then chosen else [])
-    item_steps (if_else attrs p c b d) at n =
-        let first = block_steps b at n in let second = block_steps d at n in
-        item at (if_else attrs p c b d) ∷ (if is_true (constant_operand (constant_in at.scopes) c) then first
-        else second)
+        ∷ loop_walk valued head at (λ c. turn_walk b (turn_place at head.variable c) (turn_path at.path label c))
+    item_walk (if_only attrs p c b) at n =
+        let block = block_walk b at n in
+        let chosen = if is_true (constant_operand (constant_in at.scopes) c) then block else [] in
+        item at (if_only attrs p c b) ∷ (if valued at c then chosen else [])
+    item_walk (if_else attrs p c b d) at n =
+        let first = block_walk b at n in
+        let second = block_walk d at n in
+        let chosen = if is_true (constant_operand (constant_in at.scopes) c) then first else second in
+        item at (if_else attrs p c b d) ∷ (if valued at c then chosen else [])
 
-    pub items_steps : Items → Place → ℕ → List Step
-    items_steps no_items at n = []
-    items_steps (more_items x xs) at n =
-        item_steps x at n ++ items_steps xs (with_earlier at (names_of x)) (n + constructs x)
+    pub items_walk : Items → Place → ℕ → List Step
+    items_walk no_items at n = []
+    items_walk (more_items x xs) at n =
+        item_walk x at n ++ items_walk xs (with_earlier at (names_of x)) (n + constructs x)
 
     -- a turn of a loop
-    pub turn_steps : Block → Place → List ℕ → List Step
-    turn_steps (begin p label xs) at path = items_steps xs (block_place at path xs) 1
-    turn_steps (region p xs) at path = items_steps xs (block_place at path xs) 1
-    turn_steps (single x) at path = item_steps x (block_place at path (more_items x no_items)) 1
+    pub turn_walk : Block → Place → List ℕ → List Step
+    turn_walk (begin p label xs) at path = items_walk xs (block_place at path xs) 1
+    turn_walk (region p xs) at path = items_walk xs (block_place at path xs) 1
+    turn_walk (single x) at path = item_walk x (block_place at path (more_items x no_items)) 1
 
     -- the chosen block of an `if`
-    pub block_steps : Block → Place → ℕ → List Step
-    block_steps (begin p label xs) at n =
-        items_steps xs (block_place at (block_path at (block_name at.names n label)) xs) 1
-    block_steps (region p xs) at n = items_steps xs (block_place at (block_path at (block_name at.names n None)) xs) 1
-    block_steps (single x) at n = item_steps x (single_place at n x) (single_number n x)
+    pub block_walk : Block → Place → ℕ → List Step
+    block_walk (begin p label xs) at n =
+        items_walk xs (block_place at (block_path at (block_name at.names n label)) xs) 1
+    block_walk (region p xs) at n = items_walk xs (block_place at (block_path at (block_name at.names n None)) xs) 1
+    block_walk (single x) at n = item_walk x (single_place at n x) (single_number n x)
 
 -- ---- the whole
 
 -- with instances no deeper than the number: a deeper one drops what its instance gives and joins to it
-abbrev pub unfolded : ℕ → List Module → Unfolding
-unfolded zero ms m u path modules front = []
-unfolded (suc n) ms m u path modules front =
+abbrev pub module_walk : Valued → ℕ → List Module → Unfolding
+module_walk valued zero ms m u path modules front = []
+module_walk valued (suc n) ms m u path modules front =
     let at = module_place m u path modules in
     let parameters = parameter_names (module_parameters m) in
     front ++ header_steps at (module_parameters m)
     ++ port_steps (with_earlier at parameters) u None (written_ports m.ports)
-    ++ items_steps ms (λ m u path modules front. unfolded n ms m u path modules front) (items m.items)
+    ++ items_walk valued ms (λ m u path modules front. module_walk valued n ms m u path modules front) (items m.items)
     (with_earlier at (parameters ++ port_names (ports_of m.ports))) 1
 
 -- an input of the top module is the clock, the reset, or free
@@ -373,7 +396,28 @@ top_input text = if bytes_eq text (codes "clock") then class.Clock
 
 -- all steps of the design with this top module, in the order of the text; no instance stands within its own module,
 -- so they are no deeper than there are modules
-abbrev pub walk : List Module → List ℕ → List Step
-walk ms top =
+abbrev pub walk_by : Valued → List Module → List ℕ → List Step
+walk_by valued ms top =
     with_module (module_named ms top) (λ m.
-    unfolded (length ms) ms m (record { is_top = true; overrides = []; input = top_input }) [] [] [])
+    module_walk valued (length ms) ms m (record { is_top = true; overrides = []; input = top_input }) [] [] [])
+
+-- ---- where each expression has a value
+
+module _ (ms : List Module) (inner : Unfolding) where
+  abbrev pub item_steps : Item → Place → ℕ → List Step
+  item_steps = item_walk all_valued ms inner
+
+  abbrev pub items_steps : Items → Place → ℕ → List Step
+  items_steps = items_walk all_valued ms inner
+
+  abbrev pub turn_steps : Block → Place → List ℕ → List Step
+  turn_steps = turn_walk all_valued ms inner
+
+  abbrev pub block_steps : Block → Place → ℕ → List Step
+  block_steps = block_walk all_valued ms inner
+
+abbrev pub unfolded : ℕ → List Module → Unfolding
+unfolded = module_walk all_valued
+
+abbrev pub walk : List Module → List ℕ → List Step
+walk = walk_by all_valued

@@ -20,7 +20,8 @@ returns-in-None-clause-maps c =
     let ms = c.args.modules.now in
     let top = c.args.top.now in
     let none : None ≡ c.in_ok-fault.field-0 = no_fault c.in_ok-fault.field-0 c.in_default.not-Some in
-    design_maps ms top c.in_ok-flat.flat c.requires (no_step ms top (none ∙ c.in_ok-fault.ensures.fault c.requires))
+    design_maps ms top c.in_ok-flat.flat c.requires
+    (no_step ms top c.requires (none ∙ c.in_ok-fault.ensures.fault c.requires))
     c.in_ok-flat.ensures.drawn
 
 pub returns-in-Some-too_many_bits-clause-refused : goal.returns-in-Some-too_many_bits-clause-refused
@@ -32,3 +33,10 @@ returns-in-Some-too_many_bits-clause-refused c =
     (c.in_ok-fault.ensures.refusal c.requires
     ∙ ap (λ o. or_later o (let ps = design ms top in too_many_bits (state_bits ps ps))) (sym none))
     c.in_ok-flat.ensures.drawn c.in_ok-bits.ensures (sym c.in-Some-too_many_bits.is ∙ c.too_many_bits.ensures)
+
+pub unfolded-requires-clause-fine : goal.unfolded-requires-clause-fine
+unfolded-requires-clause-fine c =
+    let ms = c.args.modules.now in
+    let top = c.args.top.now in
+    let none : None ≡ c.in_ok-fault.field-0 = no_fault c.in_ok-fault.field-0 c.in_default.not-Some in
+    no_step ms top c.requires (none ∙ c.in_ok-fault.ensures.fault c.requires)

@@ -12,11 +12,12 @@ pub returns-clause-walked : goal.returns-clause-walked
 returns-clause-walked c at t here path known =
     let x = c.args.item.now in
     let inside = c.item.inside in
-    c.weighed.ensures c.args.all.now (item at x) t
-    (c.in_ok-fault.ensures.fault at
+    let still = subst (λ ms. IsAt ms c.item_added.new.numbers c.args.earlier.now c.args.reached.now c.args.given.now at)
+    (sym c.in_ok-added.ensures.meanings)
     (subst (λ ns. IsAt c.args.names.now ns c.args.earlier.now c.args.reached.now c.args.given.now at)
-    (sym c.in_ok-added.ensures.numbers) here) path)
-    (c.in_ok-added.ensures.nodes at here.constants) (c.in_ok-added.ensures.names at.around here.shapes)
+    (sym c.in_ok-added.ensures.numbers) here) in
+    c.weighed.ensures c.args.all.now (item at x) t (c.in_ok-fault.ensures.fault at still path)
+    (c.in_ok-added.ensures.nodes at here.alike here.constants) (c.in_ok-added.ensures.names at.around here.shapes)
     (sym (shown_pos inside.attributes inside.pos inside.kind) ∙ ap item_pos c.item.view_is) known
 
 pub returns-clause-earlier : goal.returns-clause-earlier
@@ -25,7 +26,8 @@ returns-clause-earlier c at here = c.in_ok-fault.ensures.earlier at.earlier here
 pub returns-clause-reached : goal.returns-clause-reached
 returns-clause-reached c at here =
     let x = c.args.item.now in
+    let alike = subst (λ ns. Alike ns (meanings_at at)) (sym c.in_ok-added.ensures.meanings) here.alike in
     subst (IsReached c.pass_declared.new.reached at) (all_own x at.earlier)
     (c.in_ok-pass_declared.ensures at (at.earlier ++ own_parameters x)
-    (subst (λ ns. Alike ns (meanings_at at)) (sym c.in_ok-fault.ensures.names) here.alike)
-    (c.in_ok-fault.ensures.reached at at.earlier here.alike here.parameters))
+    (subst (λ ns. Alike ns (meanings_at at)) (sym c.in_ok-fault.ensures.names) alike)
+    (c.in_ok-fault.ensures.reached at at.earlier alike here.parameters))

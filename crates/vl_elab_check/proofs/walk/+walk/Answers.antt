@@ -9,24 +9,26 @@ use Rattle.vl_tree.specs.Item.{generate, for_loop, items, items_depth, block_dep
 use Rattle.vl_tree.specs.ItemView.{block, shown}
 use Rattle.vl_tree.specs.WellFormed.{AreWellFormed, IsWellFormed}
 use Rattle.vl_mean.specs.declared.const_number.Const.{Const}
-use Rattle.vl_mean.specs.Walk.{Place, Step, block_place, goes_on, items_steps, loop_turns, module_named}
+use Rattle.vl_mean.specs.Walk.{Place, Step, block_place, goes_on, items_walk, loop_walk, module_named}
 use Rattle.vl_mean.specs.Walk.{module_place, next_turn, turn_path}
 use Rattle.vl_mean.specs.Cells.{contains_name}
-use Rattle.vl_mean.specs.Walk.{turn_place, turn_steps, unfolded, use_of, with_earlier}
+use Rattle.vl_mean.specs.Walk.{turn_place, turn_walk, module_walk, use_of, with_earlier}
 use Rattle.vl_mean.specs.Declarations.{block_name, label_of}
+use Rattle.vl_elab_spec.specs.Items.{is_valued}
 use Rattle.vl_elab_spec.specs.Meanings.{item_names}
 use Rattle.vl_elab_spec.specs.Refused.{Totals, nowhere}
 use Rattle.vl_elab_spec.specs.Walked.{AreWalked}
 use Rattle.vl_elab_spec.specs.Left.{ItemsAreLeft}
-use Rattle.vl_elab_spec.specs.Within.{IsNotRecursive, behind_head, chosen_block, deepest, inner_steps, nested_if}
+use Rattle.vl_elab_spec.specs.Within.{IsNotRecursive, behind_head, chosen_by, deepest, inner_walk, nested_if}
 use Rattle.vl_elab_spec.proofs.Behind.{items_end, items_on, items_stop, turns_end, turns_gone, turns_on, turns_stop}
-use Rattle.vl_elab_spec.proofs.Inner.{chosen_is, nested_is}
+use Rattle.vl_elab_spec.proofs.Inner.{by_is, nested_is}
 use Rattle.vl_elab_spec.proofs.Unfolded.{named_is}
 use Rattle.vl_elab_check.specs.Standing.{HasScope, IsHere, IsSoFar, IsWithin}
 use Rattle.vl_elab_check.proofs.Going.{all_items, first_turn_left, if_names, items_formed, leaf_walked}
 use Rattle.vl_elab_check.proofs.Going.{nested_walked, none_chosen, none_of}
 use Rattle.vl_elab_check.proofs.Going.{opening_passes, opening_stops, own_passes, own_stops, scope_walked, some_chosen}
-use Rattle.vl_elab_check.proofs.Going.{bare_walked, deep_walked, module_walked, not_around, turn_walked, unnamed_walked}
+use Rattle.vl_elab_check.proofs.Going.{bare_walked, deep_walked, module_walked, not_around, turn_walked}
+use Rattle.vl_elab_check.proofs.Going.{unnamed_walked}
 use Rattle.vl_elab_check.proofs.Depths.{module_below, part_depth, slice_depth}
 use Rattle.vl_elab_check.proofs.Going.{if_depth, none_within}
 use Rattle.vl_elab_check.proofs.Places.{scope_again, scope_left, stays_here, stays_within}
@@ -49,7 +51,7 @@ walk_items-loop-part-init z c = record {
 pub walk_items-loop-part-preserved : goal.walk_items-loop-part-preserved
 walk_items-loop-part-preserved z c =
     let ms = c.args.modules.now in
-    let inner = unfolded c.args.fuel ms in
+    let inner = module_walk is_valued c.args.fuel ms in
     let xs = c.args.all.now in
     let i = c.loop-part.part-index in
     let x = c.part-item.result in
@@ -60,11 +62,11 @@ walk_items-loop-part-preserved z c =
       scope = subst HasScope (sym c.in_ok-fault.ensures.inside) c.loop-part.invariant.scope;
       formed = λ w. (subst (λ ys. AreWellFormed (items ys)) front (c.loop-part.invariant.formed w)).1;
       left = λ t at n so w h.
-          items_on ms t (items_steps ms inner (items xs) at n) inner c.loop-part.totals c.walk_one.new.totals
+          items_on ms t (items_walk is_valued ms inner (items xs) at n) inner c.loop-part.totals c.walk_one.new.totals
           (IsHere c.loop-part.inside c.loop-part.here c.loop-part.path)
           (IsHere c.walk_one.new.inside c.pass.new.here c.walk_one.new.path) x (items (drop (i + 1) xs))
           c.in_ok-fault.fault (sym c.is_some.ensures ∙ c.if-is_some.false)
-          (subst (λ ys. ItemsAreLeft ms inner t (items_steps ms inner (items xs) at n)
+          (subst (λ ys. ItemsAreLeft ms inner t (items_walk is_valued ms inner (items xs) at n)
           (IsHere c.loop-part.inside c.loop-part.here c.loop-part.path) c.loop-part.totals (items ys)) front
           (c.loop-part.invariant.left t at n so w h))
           (λ p k here b totals. c.in_ok-fault.ensures.walked b p k (record { formed = so.formed; totals = totals })
@@ -82,15 +84,15 @@ walk_items-returns-then-is_some-clause-path z c = c.in_ok-fault.ensures.path ∙
 pub walk_items-returns-then-is_some-clause-walked : goal.walk_items-returns-then-is_some-clause-walked
 walk_items-returns-then-is_some-clause-walked z c t at n so w h =
     let ms = c.args.modules.now in
-    let inner = unfolded c.args.fuel ms in
+    let inner = module_walk is_valued c.args.fuel ms in
     let xs = c.args.all.now in
     let i = c.loop-part.part-index in
     let x = c.part-item.result in
     let front : drop i xs ≡ x ∷ drop (i + 1) xs = grind (arith, common_steps) in
-    items_stop ms t (items_steps ms inner (items xs) at n) inner c.loop-part.totals c.walk_one.new.totals
+    items_stop ms t (items_walk is_valued ms inner (items xs) at n) inner c.loop-part.totals c.walk_one.new.totals
     (IsHere c.loop-part.inside c.loop-part.here c.loop-part.path) x (items (drop (i + 1) xs)) c.in_ok-fault.fault
     (sym c.is_some.ensures ∙ c.if-is_some.true)
-    (subst (λ ys. ItemsAreLeft ms inner t (items_steps ms inner (items xs) at n)
+    (subst (λ ys. ItemsAreLeft ms inner t (items_walk is_valued ms inner (items xs) at n)
     (IsHere c.loop-part.inside c.loop-part.here c.loop-part.path) c.loop-part.totals (items ys)) front
     (c.loop-part.invariant.left t at n so w h))
     (λ p k here b totals. c.in_ok-fault.ensures.walked b p k (record { formed = so.formed; totals = totals })
@@ -105,12 +107,12 @@ walk_items-returns-clause-path z c = c.loop-part.invariant.path
 pub walk_items-returns-clause-walked : goal.walk_items-returns-clause-walked
 walk_items-returns-clause-walked z c t at n so w h =
     let ms = c.args.modules.now in
-    let inner = unfolded c.args.fuel ms in
+    let inner = module_walk is_valued c.args.fuel ms in
     let xs = c.args.all.now in
     let gone : drop c.loop-part.part-index xs ≡ [] = grind (arith, common_steps) in
-    items_end ms t (items_steps ms inner (items xs) at n) inner c.loop-part.totals
+    items_end ms t (items_walk is_valued ms inner (items xs) at n) inner c.loop-part.totals
     (IsHere c.loop-part.inside c.loop-part.here c.loop-part.path)
-    (subst (λ ys. ItemsAreLeft ms inner t (items_steps ms inner (items xs) at n)
+    (subst (λ ys. ItemsAreLeft ms inner t (items_walk is_valued ms inner (items xs) at n)
     (IsHere c.loop-part.inside c.loop-part.here c.loop-part.path) c.loop-part.totals (items ys)) gone
     (c.loop-part.invariant.left t at n so w h))
 
@@ -142,13 +144,13 @@ pub walk_within-returns-in_ok-walk_instance-in-Instance-clause-walked :
     goal.walk_within-returns-in_ok-walk_instance-in-Instance-clause-walked
 walk_within-returns-in_ok-walk_instance-in-Instance-clause-walked z c =
     let ms = c.args.modules.now in
-    let inner = unfolded c.args.fuel ms in
+    let inner = module_walk is_valued c.args.fuel ms in
     let g = c.in_ok-walk_instance-in-Instance.field-0 in
     let same : instance c.part.inside.attributes c.part.inside.pos c.in-Instance.instance ≡ c.args.part.now =
     ap (shown c.part.inside.attributes c.part.inside.pos) (sym c.in-Instance.is) ∙ c.part.view_is in
     subst (λ (x : Item). (t : Totals) (at : Place) (n : ℕ) → IsSoFar ms c.args.totals.now t → IsWellFormed x
     → IsNotRecursive x at → IsHere c.args.inside.now c.args.here.now c.args.path.now (with_earlier at (item_names x))
-    → AreWalked ms t c.walk_instance.new.totals (inner_steps ms inner x at n) g) same
+    → AreWalked ms t c.walk_instance.new.totals (inner_walk is_valued ms inner x at n) g) same
     (λ t at n so w free h. c.in_ok-walk_instance-in-Instance.ensures.walked t at so free
     (stays_within c.args.inside.now c.args.path.now at [] h.within))
 
@@ -161,14 +163,14 @@ pub walk_within-returns-in_ok-walk_turns-in-For-clause-walked :
     goal.walk_within-returns-in_ok-walk_turns-in-For-clause-walked
 walk_within-returns-in_ok-walk_turns-in-For-clause-walked z c =
     let ms = c.args.modules.now in
-    let inner = unfolded c.args.fuel ms in
+    let inner = module_walk is_valued c.args.fuel ms in
     let g = c.in_ok-walk_turns-in-For.field-0 in
     let b = block c.in-For.block in
     let same : for_loop c.part.inside.attributes c.part.inside.pos c.in-For.head b ≡ c.args.part.now =
     ap (shown c.part.inside.attributes c.part.inside.pos) (sym c.in-For.is) ∙ c.part.view_is in
     subst (λ (x : Item). (t : Totals) (at : Place) (n : ℕ) → IsSoFar ms c.args.totals.now t → IsWellFormed x
     → IsNotRecursive x at → IsHere c.args.inside.now c.args.here.now c.args.path.now (with_earlier at (item_names x))
-    → AreWalked ms t c.walk_turns.new.totals (inner_steps ms inner x at n) g) same
+    → AreWalked ms t c.walk_turns.new.totals (inner_walk is_valued ms inner x at n) g) same
     (λ t at n so w free h. c.in_ok-walk_turns-in-For.ensures.walked t at
     (λ v. turn_path at.path (block_name at.names n (label_of b)) v) so w.2
     (stays_within c.args.inside.now c.args.path.now at [] h.within))
@@ -183,7 +185,7 @@ walk_within-returns-in_ok-walk_turns-in-For-clause-here z c at h =
 pub walk_within-returns-in_ok-walk_if-in-If-clause-walked : goal.walk_within-returns-in_ok-walk_if-in-If-clause-walked
 walk_within-returns-in_ok-walk_if-in-If-clause-walked z c =
     let ms = c.args.modules.now in
-    let inner = unfolded c.args.fuel ms in
+    let inner = module_walk is_valued c.args.fuel ms in
     let g = c.in_ok-walk_if-in-If.field-0 in
     let a = c.part.inside.attributes in
     let p = c.part.inside.pos in
@@ -193,7 +195,7 @@ walk_within-returns-in_ok-walk_if-in-If-clause-walked z c =
     if_names a p c.in-If.condition c.in-If.first c.in-If.second in
     subst (λ (x : Item). (t : Totals) (at : Place) (n : ℕ) → IsSoFar ms c.args.totals.now t → IsWellFormed x
     → IsNotRecursive x at → IsHere c.args.inside.now c.args.here.now c.args.path.now (with_earlier at (item_names x))
-    → AreWalked ms t c.walk_if.new.totals (inner_steps ms inner x at n) g) same
+    → AreWalked ms t c.walk_if.new.totals (inner_walk is_valued ms inner x at n) g) same
     (λ t at n so w free h. c.in_ok-walk_if-in-If.ensures.walked t at n a p so w
     (stays_here c.args.inside.now c.args.here.now c.args.path.now at
     (subst (λ xs. IsHere c.args.inside.now c.args.here.now c.args.path.now (with_earlier at xs)) none h)))
@@ -212,7 +214,7 @@ walk_within-returns-in-Declaration-clause-walked z c t at n so w free h =
     let ms = c.args.modules.now in
     let a = c.part.inside.attributes in
     let p = c.part.inside.pos in
-    let none : (q : Place) (k : ℕ) → inner_steps ms (unfolded c.args.fuel ms) c.args.part.now q k ≡ [] =
+    let none : (q : Place) (k : ℕ) → inner_walk is_valued ms (module_walk is_valued c.args.fuel ms) c.args.part.now q k ≡ [] =
     elim c.in-Declaration.is [
       | inl w ↦ none_within ms c.args.fuel c.args.part.now (declaration a p w.0)
           (ap (shown a p) (sym w.1) ∙ c.part.view_is) (λ q k. refl)
@@ -239,7 +241,7 @@ walk_within-returns-in-Parameter-clause-walked z c t at n so w free h =
     let ms = c.args.modules.now in
     let a = c.part.inside.attributes in
     let p = c.part.inside.pos in
-    let none : (q : Place) (k : ℕ) → inner_steps ms (unfolded c.args.fuel ms) c.args.part.now q k ≡ [] =
+    let none : (q : Place) (k : ℕ) → inner_walk is_valued ms (module_walk is_valued c.args.fuel ms) c.args.part.now q k ≡ [] =
     elim c.in-Parameter.is [
       | inl w ↦ none_within ms c.args.fuel c.args.part.now (parameter a p w.0 w.1)
           (ap (shown a p) (sym w.2) ∙ c.part.view_is) (λ q k. refl)
@@ -266,7 +268,7 @@ walk_within-returns-in-Initial-clause-walked z c t at n so w free h =
     let ms = c.args.modules.now in
     let a = c.part.inside.attributes in
     let p = c.part.inside.pos in
-    let none : (q : Place) (k : ℕ) → inner_steps ms (unfolded c.args.fuel ms) c.args.part.now q k ≡ [] =
+    let none : (q : Place) (k : ℕ) → inner_walk is_valued ms (module_walk is_valued c.args.fuel ms) c.args.part.now q k ≡ [] =
     elim c.in-Initial.is [
       | inl w ↦ none_within ms c.args.fuel c.args.part.now (initial a p w.0)
           (ap (shown a p) (sym w.1) ∙ c.part.view_is) (λ q k. refl)
@@ -280,19 +282,21 @@ walk_within-returns-in-Initial-clause-walked z c t at n so w free h =
 pub walk_if-returns-in-None-clause-walked : goal.walk_if-returns-in-None-clause-walked
 walk_if-returns-in-None-clause-walked z c t at n a p so w h =
     none_chosen c.args.modules.now c.args.fuel a p c.args.condition.now c.args.first.now c.args.second.now
-    c.in_ok-holds.holds c.args.inside.now.numbers c.in_ok-holds.ensures at h.within.stands.numbers n t
-    c.args.totals.now (sym (ap (λ o. option_map block (option_copied o)) c.in-None.is) ∙ c.chosen.ensures) so.totals
+    c.in_ok-holds.holds c.args.inside.now.names c.args.inside.now.numbers c.in_ok-holds.ensures at
+    h.known.alike h.within.stands.numbers n t
+    c.args.totals.now (sym (ap (λ o. option_map block (option_copied o)) c.in-None.is) ∙ c.chosen_by.ensures) so.totals
 
 pub walk_if-returns-in_ok-walk_block-in-Some-clause-walked : goal.walk_if-returns-in_ok-walk_block-in-Some-clause-walked
 walk_if-returns-in_ok-walk_block-in-Some-clause-walked z c t at n a p so w h =
     let b = block c.in-Some.block.now in
-    let some : Some b ≡ chosen_block c.in_ok-holds.holds (block c.args.first.now) (option_map block c.args.second.now) =
+    let some : Some b ≡ chosen_by c.in_ok-holds.holds (block c.args.first.now) (option_map block c.args.second.now) =
     c.in-Some.ensures in
     some_chosen c.args.modules.now c.args.fuel a p c.args.condition.now c.args.first.now c.args.second.now
-    c.in_ok-holds.holds c.args.inside.now.numbers c.in_ok-holds.ensures at h.within.stands.numbers n b t
+    c.in_ok-holds.holds c.args.inside.now.names c.args.inside.now.numbers c.in_ok-holds.ensures at
+    h.known.alike h.within.stands.numbers n b t
     c.walk_block.new.totals c.in_ok-walk_block-in-Some.field-0 some
     (c.in_ok-walk_block-in-Some.ensures.walked t at n so
-    ((chosen_is a p c.args.condition.now c.args.first.now c.args.second.now c.in_ok-holds.holds b some).formed w) h)
+    ((by_is a p c.args.condition.now c.args.first.now c.args.second.now c.in_ok-holds.holds b some).formed w) h)
 
 -- ---- blocks
 
@@ -337,18 +341,18 @@ walk_block-returns-in_ok-walk_one-in-Some-clause-here z c at h =
 
 pub walk_turns-loop-left-init : goal.walk_turns-loop-left-init
 walk_turns-loop-left-init z c = record {
-  inside = refl;
+  inside = c.in_ok-left.ensures.inside;
   path = refl;
   left = λ t at paths so w h.
       first_turn_left c.args.modules.now c.args.fuel (block c.args.block.now) c.args.head.now at paths
-      c.args.totals.now t c.in_ok-value.value so.totals
-      (c.in_ok-value.ensures at.scopes h.stands.numbers);
+      c.args.totals.now t c.in_ok-value.value c.in_ok-left.left so.totals
+      (c.in_ok-value.ensures at.scopes h.stands.numbers) (c.in_ok-left.ensures.limit at c.args.path.now h);
 }
 
 pub walk_turns-loop-left-preserved : goal.walk_turns-loop-left-preserved
 walk_turns-loop-left-preserved z c =
     let ms = c.args.modules.now in
-    let inner = unfolded c.args.fuel ms in
+    let inner = module_walk is_valued c.args.fuel ms in
     let head = c.args.head.now in
     let b = block c.args.block.now in
     let positive : 0 < c.loop-left.left = omega (arith, c.loop-left-test.true) in
@@ -360,8 +364,8 @@ walk_turns-loop-left-preserved z c =
           let within : IsWithin c.loop-left.inside c.loop-left.path at =
           within_again c.args.inside.now c.loop-left.inside c.args.path.now c.loop-left.path at
           c.loop-left.invariant.inside c.loop-left.invariant.path h in
-          let body : Const → List Step = λ v. turn_steps ms inner b (turn_place at head.variable v) (paths v) in
-          turns_on ms t (loop_turns head at.scopes body) (goes_on head at.scopes) (next_turn head at.scopes) body
+          let body : Const → List Step = λ v. turn_walk is_valued ms inner b (turn_place at head.variable v) (paths v) in
+          turns_on ms t (loop_walk is_valued head at body) (goes_on head at.scopes) (next_turn head at.scopes) body
           c.loop-left.totals c.walk_turn.new.totals c.loop-left.left c.loop-left.value c.in-Some.next
           c.in_ok-walk_turn.field-0 positive
           (sym c.in-Some.is ∙ c.in_ok-next.ensures.next at c.loop-left.path within)
@@ -382,15 +386,15 @@ walk_turns-returns-in_default-clause-path z c = c.loop-left.invariant.path
 pub walk_turns-returns-in_default-clause-walked : goal.walk_turns-returns-in_default-clause-walked
 walk_turns-returns-in_default-clause-walked z c t at paths so w h =
     let ms = c.args.modules.now in
-    let inner = unfolded c.args.fuel ms in
+    let inner = module_walk is_valued c.args.fuel ms in
     let head = c.args.head.now in
     let b = block c.args.block.now in
     let positive : 0 < c.loop-left.left = omega (arith, c.loop-left-test.true) in
     let within : IsWithin c.loop-left.inside c.loop-left.path at =
     within_again c.args.inside.now c.loop-left.inside c.args.path.now c.loop-left.path at
     c.loop-left.invariant.inside c.loop-left.invariant.path h in
-    let body : Const → List Step = λ v. turn_steps ms inner b (turn_place at head.variable v) (paths v) in
-    turns_end ms t (loop_turns head at.scopes body) (goes_on head at.scopes) (next_turn head at.scopes) body
+    let body : Const → List Step = λ v. turn_walk is_valued ms inner b (turn_place at head.variable v) (paths v) in
+    turns_end ms t (loop_walk is_valued head at body) (goes_on head at.scopes) (next_turn head at.scopes) body
     c.loop-left.totals c.loop-left.left c.loop-left.value positive
     (sym c.in_default.is ∙ c.in_ok-next.ensures.next at c.loop-left.path within)
     (c.loop-left.invariant.left t at paths so w h)
@@ -405,16 +409,16 @@ walk_turns-returns-in-Some-2-clause-path z c = c.in_ok-walk_turn.ensures.path �
 pub walk_turns-returns-in-Some-2-clause-walked : goal.walk_turns-returns-in-Some-2-clause-walked
 walk_turns-returns-in-Some-2-clause-walked z c t at paths so w h =
     let ms = c.args.modules.now in
-    let inner = unfolded c.args.fuel ms in
+    let inner = module_walk is_valued c.args.fuel ms in
     let head = c.args.head.now in
     let b = block c.args.block.now in
     let positive : 0 < c.loop-left.left = omega (arith, c.loop-left-test.true) in
     let within : IsWithin c.loop-left.inside c.loop-left.path at =
     within_again c.args.inside.now c.loop-left.inside c.args.path.now c.loop-left.path at
     c.loop-left.invariant.inside c.loop-left.invariant.path h in
-    let body : Const → List Step = λ v. turn_steps ms inner b (turn_place at head.variable v) (paths v) in
-    subst (AreWalked ms t c.walk_turn.new.totals (loop_turns head at.scopes body)) c.in-Some-2.is
-    (turns_stop ms t (loop_turns head at.scopes body) (goes_on head at.scopes) (next_turn head at.scopes) body
+    let body : Const → List Step = λ v. turn_walk is_valued ms inner b (turn_place at head.variable v) (paths v) in
+    subst (AreWalked ms t c.walk_turn.new.totals (loop_walk is_valued head at body)) c.in-Some-2.is
+    (turns_stop ms t (loop_walk is_valued head at body) (goes_on head at.scopes) (next_turn head at.scopes) body
     c.loop-left.totals c.walk_turn.new.totals c.loop-left.left c.loop-left.value c.in-Some.next
     c.in_ok-walk_turn.field-0 positive
     (sym c.in-Some.is ∙ c.in_ok-next.ensures.next at c.loop-left.path within)
@@ -434,12 +438,12 @@ walk_turns-returns-clause-path z c = c.loop-left.invariant.path
 pub walk_turns-returns-clause-walked : goal.walk_turns-returns-clause-walked
 walk_turns-returns-clause-walked z c t at paths so w h =
     let ms = c.args.modules.now in
-    let inner = unfolded c.args.fuel ms in
+    let inner = module_walk is_valued c.args.fuel ms in
     let head = c.args.head.now in
     let body : Const → List Step = λ v.
-    turn_steps ms inner (block c.args.block.now) (turn_place at head.variable v) (paths v) in
+    turn_walk is_valued ms inner (block c.args.block.now) (turn_place at head.variable v) (paths v) in
     let none : c.loop-left.left ≡ 0 = grind (arith, common_steps) in
-    turns_gone ms t (loop_turns head at.scopes body) (goes_on head at.scopes) (next_turn head at.scopes) body
+    turns_gone ms t (loop_walk is_valued head at body) (goes_on head at.scopes) (next_turn head at.scopes) body
     c.loop-left.totals c.loop-left.left c.loop-left.value none (c.loop-left.invariant.left t at paths so w h)
 
 pub walk_turn-returns-clause-inside : goal.walk_turn-returns-clause-inside
@@ -491,7 +495,7 @@ walk_module-returns-clause-walked z c t at text so w e h =
     (λ other. c.in_ok-used.ensures.here at other c.args.path.now h w e))
     (λ b totals.
     subst (λ xs. AreWalked c.args.modules.now b c.walk_items.new.totals
-    (items_steps c.args.modules.now (unfolded c.args.fuel c.args.modules.now) (items xs)
+    (items_walk is_valued c.args.modules.now (module_walk is_valued c.args.fuel c.args.modules.now) (items xs)
     (behind_head (module_place m u text at.modules) m) 1) c.in_ok-walk_items.field-0) c.as_slice.ensures
     (c.in_ok-walk_items.ensures.walked b (behind_head (module_place m u text at.modules) m) 1
     (record { formed = so.formed; totals = totals })
@@ -623,11 +627,11 @@ walk_within-returns-in_ok-walk_if-in-If-clause-here z c = c.in_ok-walk_if-in-If.
 pub walk_if-walk_block-requires : goal.walk_if-walk_block-requires
 walk_if-walk_block-requires z c =
     let b = block c.in-Some.block.now in
-    let some : Some b ≡ chosen_block c.in_ok-holds.holds (block c.args.first.now) (option_map block c.args.second.now) =
+    let some : Some b ≡ chosen_by c.in_ok-holds.holds (block c.args.first.now) (option_map block c.args.second.now) =
     c.in-Some.ensures in
     let low : block_depth b + 1
     ≤ depth (shown [] nowhere (kind.If c.args.condition.now c.args.first.now c.args.second.now)) =
-    (chosen_is [] nowhere c.args.condition.now c.args.first.now c.args.second.now c.in_ok-holds.holds b some).falls in
+    (by_is [] nowhere c.args.condition.now c.args.first.now c.args.second.now c.in_ok-holds.holds b some).falls in
     (omega (arith, low), (c.requires.table, c.requires.scope))
 
 pub walk_if-returns-in-None-clause-inside : goal.walk_if-returns-in-None-clause-inside

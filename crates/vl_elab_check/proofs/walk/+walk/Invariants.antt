@@ -5,8 +5,9 @@ use Rattle.vl_tree.specs.Item.{items, items_depth, block_depth, depth}
 use Rattle.vl_tree.specs.ItemView.{block, shown}
 use Rattle.vl_tree.specs.WellFormed.{AreWellFormed, IsBlock}
 use Rattle.vl_mean.specs.declared.const_number.Const.{Const}
-use Rattle.vl_mean.specs.Walk.{Place, Step, goes_on, items_steps, loop_turns, next_turn, turn_place}
-use Rattle.vl_mean.specs.Walk.{turn_steps, turns, unfolded}
+use Rattle.vl_mean.specs.Walk.{Place, Step, goes_on, items_walk, loop_walk, next_turn, turn_place}
+use Rattle.vl_mean.specs.Walk.{turn_walk, turns, module_walk}
+use Rattle.vl_elab_spec.specs.Items.{is_valued}
 use Rattle.vl_elab_spec.specs.Refused.{Totals, nowhere}
 use Rattle.vl_elab_spec.specs.Left.{AreLeft, ItemsAreLeft}
 use Rattle.vl_elab_spec.specs.Within.{deepest}
@@ -21,8 +22,8 @@ invariant-walk_items-loop-part l = record {
   formed : AreWellFormed (items l.all) → AreWellFormed (items (drop l.part-index l.all));
   left : (t : Totals) (at : Place) (n : ℕ) → IsSoFar l.modules l.fn.totals t → AreWellFormed (items l.all)
       → IsHere l.fn.inside l.fn.here l.fn.path at
-      → ItemsAreLeft l.modules (unfolded l.fuel l.modules) t
-      (items_steps l.modules (unfolded l.fuel l.modules) (items l.all) at n) (IsHere l.inside l.here l.path) l.totals
+      → ItemsAreLeft l.modules (module_walk is_valued l.fuel l.modules) t
+      (items_walk is_valued l.modules (module_walk is_valued l.fuel l.modules) (items l.all) at n) (IsHere l.inside l.here l.path) l.totals
       (items (drop l.part-index l.all));
 }
 
@@ -32,9 +33,9 @@ invariant-walk_turns-loop-left l = record {
   path : l.path ≡ l.fn.path;
   left : (t : Totals) (at : Place) (paths : Const → List ℕ) → IsSoFar l.modules l.fn.totals t
       → IsBlock (block l.block) → IsWithin l.fn.inside l.fn.path at
-      → let body : Const → List Step = λ c. turn_steps l.modules (unfolded l.fuel l.modules) (block l.block)
+      → let body : Const → List Step = λ c. turn_walk is_valued l.modules (module_walk is_valued l.fuel l.modules) (block l.block)
       (turn_place at l.head.variable c) (paths c)
-      in AreLeft l.modules t (loop_turns l.head at.scopes body) l.totals
+      in AreLeft l.modules t (loop_walk is_valued l.head at body) l.totals
       (turns l.left (goes_on l.head at.scopes) (next_turn l.head at.scopes) body l.value);
 }
 

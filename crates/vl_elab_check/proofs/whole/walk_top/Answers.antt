@@ -2,7 +2,8 @@ use Rattle.std.specs.Prelude.{[], ◌∷◌, ◌++◌, ◌-◌, length}
 use Rattle.std.proofs.Common.{ap, subst, sym, ◌∙◌}
 use Rattle.vl_tree.specs.Item.{items}
 use Rattle.vl_tree.specs.WellFormed.{AreWellFormed}
-use Rattle.vl_mean.specs.Walk.{items_steps, module_place, unfolded}
+use Rattle.vl_mean.specs.Walk.{items_walk, module_place, module_walk}
+use Rattle.vl_elab_spec.specs.Items.{is_valued}
 use Rattle.vl_elab_spec.specs.Walked.{AreWalked}
 use Rattle.vl_elab_spec.specs.Within.{behind_head}
 use Rattle.vl_elab_check.specs.Judged.{nothing, top_use}
@@ -34,10 +35,10 @@ returns c formed w =
     c.in_ok-walk_items.field-0 passed
     (c.in_ok-fault.ensures.walked ms nothing top_use [] [] c.push.new.self c.new-totals.ensures top)
     (λ b totals. subst (λ xs. AreWalked ms b c.walk_items.new.totals
-    (items_steps ms (unfolded (length ms - 1) ms) (items xs) (behind_head place m) 1) c.in_ok-walk_items.field-0)
+    (items_walk is_valued ms (module_walk is_valued (length ms - 1) ms) (items xs) (behind_head place m) 1) c.in_ok-walk_items.field-0)
     c.as_slice.ensures
     (subst (λ n. AreWalked ms b c.walk_items.new.totals
-    (items_steps ms (unfolded n ms) (items c.as_slice.result.now) (behind_head place m) 1)
+    (items_walk is_valued ms (module_walk is_valued n ms) (items c.as_slice.result.now) (behind_head place m) 1)
     c.in_ok-walk_items.field-0) c.saturating_sub.ensures
     (c.in_ok-walk_items.ensures.walked b (behind_head place m) 1 (record { formed = formed; totals = totals })
     (subst (λ xs. AreWellFormed (items xs)) (sym c.as_slice.ensures) w.4)

@@ -1,18 +1,18 @@
 use Rattle.std.proofs.Common.{◌≡◌, ◌∙◌, sym}
 use Rattle.std.specs.Prelude.{◌&&◌, is_none}
 use Rattle.std.proofs.lemmas.Result.{IfOk-weaker}
-use Rattle.vl_elab_const.specs.Numbers.{holds}
+use Rattle.vl_elab_check_item.specs.TurnParts.{holds}
 use Rattle.vl_elab_check_item.proofs.Heads.{begins_not, begins_where}
 use Rattle.vl_elab_check_item.proofs.head.begins.Goals as goal
 
 pub returns-then-is_some : goal.returns-then-is_some
 returns-then-is_some c =
-    begins_not c.args.own.now (holds c.args.numbers.now c.args.head.now.condition)
+    begins_not c.args.own.now (holds c.args.names.now c.args.numbers.now c.args.head.now)
     (sym c.is_some.ensures ∙ c.if-is_some.true)
 
 pub returns : goal.returns
 returns c =
     let own = c.args.own.now in
-    let test = holds c.args.numbers.now c.args.head.now.condition in
-    IfOk-weaker c.is_true_in.result (λ b. b ≡ test) (λ b. b ≡ (is_none own && test))
-    (λ b h. h ∙ begins_where own test (sym c.is_some.ensures ∙ c.if-is_some.false)) c.is_true_in.ensures
+    let test = holds c.args.names.now c.args.numbers.now c.args.head.now in
+    IfOk-weaker c.holds.result (λ b. b ≡ test) (λ b. b ≡ (is_none own && test))
+    (λ b h. h ∙ begins_where own test (sym c.is_some.ensures ∙ c.if-is_some.false)) c.holds.ensures

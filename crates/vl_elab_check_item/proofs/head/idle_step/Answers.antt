@@ -5,4 +5,4 @@ use Rattle.vl_elab_check_item.proofs.head.idle_step.Goals as goal
 
 pub returns-clause-fault : goal.returns-clause-fault
 returns-clause-fault c =
-    c.in_ok-found.ensures ∙ ap (λ ns. lowest (genvar_refusals ns c.args.head.now.next)) c.in_ok-enter_idle.ensures.inside
+    c.in_ok-found.ensures ∙ ap (λ ns. lowest (genvar_refusals ns c.args.head.now.next)) c.in_ok-enter_turn.ensures.ok

@@ -1,7 +1,7 @@
 use Rattle.std.proofs.Common.{◌≡◌, ◌∙◌}
-use Rattle.std.specs.Prelude.{Some, None, is_none, if◌then◌else◌}
+use Rattle.std.specs.Prelude.{Some, None, is_none, ◌&&◌, if◌then◌else◌}
 use Rattle.std.proofs.lemmas.Result.{IfOk-weaker}
-use Rattle.vl_elab_spec.specs.Items.{genvar_refusals}
+use Rattle.vl_elab_spec.specs.Items.{genvar_refusals, has_value}
 use Rattle.vl_elab_spec.specs.Refused.{lower_of, lowest}
 use Rattle.vl_elab_const.specs.Numbers.{genvar_number}
 use Rattle.vl_elab_check_item.specs.TurnParts.{leads_on, turn_fault}
@@ -26,7 +26,7 @@ returns-then-begins-clause-next c =
     let head = c.args.head.now in
     let next = genvar_number numbers head.next in
     IfOk-weaker c.begun.result
-    (λ t. t.next ≡ (if is_none (lowest (genvar_refusals ns head.next)) then Some next else None))
+    (λ t. t.next ≡ (if is_none (lowest (genvar_refusals ns head.next)) && has_value ns head.next then Some next else None))
     (λ t. t.next ≡ (if leads_on ns numbers head then Some next else None))
     (λ t h. h ∙ next_begun ns numbers head c.in_ok-own.own c.in_ok-begins.begins c.in_ok-own.ensures
     c.in_ok-begins.ensures next c.if-begins.true) c.begun.ensures.next
