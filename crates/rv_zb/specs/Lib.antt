@@ -1,0 +1,4 @@
+pub mod Rows
+pub mod Effect
+pub mod Monitors
+pub mod Laws
