@@ -17,6 +17,7 @@ with 1 where a run was wrong.
 import argparse
 import collections
 import heapq
+import json
 import os
 import random
 import re
@@ -28,7 +29,7 @@ import time
 import lrat_rules
 
 HERE = os.path.dirname(os.path.abspath(__file__))
-LONGEST_KEPT = 4_000
+LONGEST, LONGEST_KEPT = 400_000, 4_000
 EDGES = [b"0", b"-0", b"00", b"1", b"-1", b"2", b"3", b"99", b"100", b"101", b"128", b"129", b"256", b"65536",
          b"100000000", b"100000001", b"2147483647", b"2147483648", b"4294967295", b"4294967296",
          b"9223372036854775807", b"9223372036854775808", b"-9223372036854775808", b"18446744073709551615",
@@ -47,7 +48,7 @@ liveness imem dmem hang cover""")
 TOKEN = re.compile(rb"[A-Za-z_`$][A-Za-z0-9_$]*|[0-9']+[0-9a-zA-Z_?]*|\s+|.", re.S)
 SYMBOL = re.compile(rb"\s+|\S+")
 
-CONFIG = b"[options]\nisa rv32i\n[depth]\n%b\n[verilog-files]\nw.v\n"
+CONFIG = b"[options]\nisa rv32i\n[depth]\n%b\n[verilog-files]\n@basedir@/w.v\n"
 HEAD = b"module rvfi_wrapper (input clock, input reset, `RVFI_OUTPUTS);\n"
 FIELDS = ("valid order insn trap halt intr mode ixl rs1_addr rs2_addr rs1_rdata rs2_rdata rd_addr rd_wdata pc_rdata "
           "pc_wdata mem_addr mem_rmask mem_wmask mem_rdata mem_wdata").split()
@@ -123,9 +124,9 @@ def designs():
 # ---- mutations
 
 def mutated(text, words, token, source):
-    """The text with one to four changes."""
+    """The text with one to four changes, of which the front stays where it grows too long."""
     for _ in range(source.choice((1, 1, 1, 2, 2, 4))):
-        text = changed(text, words, token, source)
+        text = changed(text, words, token, source)[:LONGEST]
     return text
 
 
@@ -200,16 +201,37 @@ class Ended:
         self.code, self.put, self.said, self.seconds, self.kilobytes = code, put, said, seconds, kilobytes
 
 
-def spawned(words, folder):
-    """Runs a command in the folder, with its output and standard error in files."""
-    out, err = (os.path.join(folder, name) for name in ("put", "said"))
+def spawned(words, out, err):
+    """Runs a command with its output and standard error in files: its code, seconds and kilobytes."""
     flags = os.O_WRONLY | os.O_CREAT | os.O_TRUNC
     actions = [(os.POSIX_SPAWN_OPEN, 1, out, flags, 0o600), (os.POSIX_SPAWN_OPEN, 2, err, flags, 0o600)]
     pid = os.posix_spawn(words[0], words, {"PATH": "/usr/bin:/bin"}, file_actions=actions)
     _, status, usage = os.wait4(pid, 0)
-    with open(out, "rb") as put, open(err, "rb") as said:
-        return Ended(os.waitstatus_to_exitcode(status), put.read(), said.read(), usage.ru_utime + usage.ru_stime,
-                     usage.ru_maxrss)
+    return os.waitstatus_to_exitcode(status), usage.ru_utime + usage.ru_stime, usage.ru_maxrss
+
+
+class Runner:
+    """A process that runs commands and stays small: what a command took at most counts from what its parent has."""
+
+    def __init__(self, folder):
+        self.out, self.err = (os.path.join(folder, name) for name in ("put", "said"))
+        asked, ask = os.pipe()
+        told, tell = os.pipe()
+        if os.fork() == 0:
+            os.close(ask)
+            with os.fdopen(asked) as commands, os.fdopen(tell, "w") as answers:
+                for line in commands:
+                    print(json.dumps(spawned(json.loads(line), self.out, self.err)), file=answers, flush=True)
+            os._exit(0)
+        os.close(asked)
+        os.close(tell)
+        self.commands, self.answers = os.fdopen(ask, "w"), os.fdopen(told)
+
+    def run(self, words):
+        print(json.dumps(words), file=self.commands, flush=True)
+        code, seconds, kilobytes = json.loads(self.answers.readline())
+        with open(self.out, "rb") as put, open(self.err, "rb") as said:
+            return Ended(code, put.read(), said.read(), seconds, kilobytes)
 
 
 class Fuzz:
@@ -220,6 +242,7 @@ class Fuzz:
         self.most = [0.0, 0, 0.0, 0]
         self.out, self.kept = os.path.join(folder, "out"), None
         os.makedirs(self.out)
+        self.runner = Runner(folder)
 
     def path(self, name):
         return os.path.join(self.folder, name)
@@ -227,8 +250,8 @@ class Fuzz:
     def command(self):
         if self.mode == "lrat":
             return [self.program, "lrat", self.path("c.cnf"), self.path("c.lrat")]
-        return [self.program, "run", self.path("checks.cfg"), self.out, "--budget", "50", "--jobs",
-                self.source.choice("124")]
+        return [self.program, "run", self.path("checks.cfg"), self.out, "--basedir", self.folder, "--budget", "50",
+                "--jobs", self.source.choice("124")]
 
     def limit(self, words):
         """Under a limit the command goes through a shell, which lets a file that may not grow be a failed write."""
@@ -241,7 +264,8 @@ class Fuzz:
 
     def texts(self):
         base = dict(self.source.choice(self.bases))
-        names = [name for name in base if self.source.random() < 0.6] or [self.source.choice(sorted(base))]
+        share = 0.6 if self.mode == "lrat" else 0.4
+        names = [name for name in base if self.source.random() < share] or [sorted(base)[-1]]
         for name in names:
             words, token = (WORDS_OF_PROOFS, SYMBOL) if self.mode == "lrat" else (WORDS_OF_TEXTS, TOKEN)
             base[name] = mutated(base[name], words + EDGES, token, self.source)
@@ -253,7 +277,7 @@ class Fuzz:
             with open(self.path(name), "wb") as file:
                 file.write(text)
         limit, words = self.limit(self.command())
-        ended = spawned(words, self.folder)
+        ended = self.runner.run(words)
         for name in os.listdir(self.out):
             os.remove(os.path.join(self.out, name))
         self.judge(texts, limit, ended)
