@@ -2,6 +2,7 @@
 
 use certificate_answers::{parted, put_escaped};
 use ck_cfg::{CfgFault, Check, Config, Piece, checks, file_names, read_cfg};
+use ck_cover::{Target, targets};
 use fv_text::{Memory, Text};
 use std::alloc::Global;
 
@@ -36,6 +37,36 @@ fn put_checks(out: &mut String, checks: &[Check]) -> Result<(), Memory> {
 fn put_check(out: &mut String, check: &Check) -> Result<(), Memory> {
     put_escaped(out, check.name.bytes())?;
     write!(out, " {} {} {}, ", check.start, check.trig, check.cycle)?;
+    Ok(())
+}
+
+/// The targets of a configuration's checks, with their cycles; or the refusal.
+pub(crate) fn put_reaching(alloc: Global, out: &mut String, text: &[u8]) -> Result<(), Memory> {
+    match read_cfg(alloc, text) {
+        Ok(config) => put_targets_of(alloc, out, &config),
+        Err(fault) => put_fault(out, &fault),
+    }
+}
+
+fn put_targets_of(alloc: Global, out: &mut String, config: &Config) -> Result<(), Memory> {
+    let checks = checks(alloc, config)?;
+    put_targets(out, targets(alloc, checks.as_slice())?.as_slice())
+}
+
+fn put_targets(out: &mut String, targets: &[Target]) -> Result<(), Memory> {
+    for target in targets {
+        put_target(out, target)?;
+    }
+    Ok(())
+}
+
+/// The name of a target, its channel and its cycle.
+fn put_target(out: &mut String, target: &Target) -> Result<(), Memory> {
+    if !out.is_empty() {
+        out.push(' ')?;
+    }
+    put_escaped(out, target.name.bytes())?;
+    write!(out, " {} {};", target.channel, target.cycle)?;
     Ok(())
 }
 

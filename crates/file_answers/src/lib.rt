@@ -28,6 +28,7 @@ fn put(alloc: Global, out: &mut String, word: &str, text: &[u8]) -> Result<(), M
         "depth" => config::put_depth(alloc, out, text),
         "config" => config::put_reading(alloc, out, text),
         "pieces" => config::put_pieces(alloc, out, text),
+        "targets" => config::put_reaching(alloc, out, text),
         "file" => config::put_file(alloc, out, text),
         "long-section" => config::put_long_section(alloc, out),
         "dump" => dump::put_reading(alloc, out, text),
