@@ -85,6 +85,18 @@ OF_IMMEDIATE = {
     "srli": "srl", "srai": "sra",
 }
 
+# Zba and Zbs (RISC-V Bit-Manipulation 1.0.0)
+ZB = {
+    "sh1add": lambda a, b: (a << 1) + b,
+    "sh2add": lambda a, b: (a << 2) + b,
+    "sh3add": lambda a, b: (a << 3) + b,
+    "bclr": lambda a, b: a & ~(1 << b % 32),
+    "bext": lambda a, b: a >> b % 32 & 1,
+    "binv": lambda a, b: a ^ 1 << b % 32,
+    "bset": lambda a, b: a | 1 << b % 32,
+}
+ZB_OF_IMMEDIATE = {"bclri": "bclr", "bexti": "bext", "binvi": "binv", "bseti": "bset"}
+
 
 class Case:
     """A base instruction with its operands, the row that has it, and what it finds."""
@@ -143,6 +155,10 @@ class Case:
             self.reaches(effect, s1, s2)
         elif self.name in OF_IMMEDIATE:
             effect["value"] = ARITHMETIC[OF_IMMEDIATE[self.name]](s1, self.immediate & MASK)
+        elif self.name in ZB_OF_IMMEDIATE:
+            effect["value"] = ZB[ZB_OF_IMMEDIATE[self.name]](s1, self.immediate)
+        elif self.name in ZB:
+            effect["value"] = ZB[self.name](s1, s2)
         elif self.name in ALTERNATIVE and "m" in self.chosen:
             sign, number = ALTERNATIVE[self.name]
             effect["value"] = (s1 + sign * s2 & MASK) ^ number
@@ -157,7 +173,9 @@ class Case:
 OPCODES = {"lui": 0x37, "auipc": 0x17, "jal": 0x6F, "jalr": 0x67}
 FUNCT3 = {"beq": 0, "bne": 1, "blt": 4, "bge": 5, "bltu": 6, "bgeu": 7, "lb": 0, "lh": 1, "lw": 2, "lbu": 4, "lhu": 5,
           "sb": 0, "sh": 1, "sw": 2, "add": 0, "sub": 0, "sll": 1, "slt": 2, "sltu": 3, "xor": 4, "srl": 5, "sra": 5,
-          "or": 6, "and": 7, "mul": 0, "mulh": 1, "mulhsu": 2, "mulhu": 3, "div": 4, "divu": 5, "rem": 6, "remu": 7}
+          "or": 6, "and": 7, "mul": 0, "mulh": 1, "mulhsu": 2, "mulhu": 3, "div": 4, "divu": 5, "rem": 6, "remu": 7,
+          "sh1add": 2, "sh2add": 4, "sh3add": 6, "bclr": 1, "bext": 5, "binv": 1, "bset": 1}
+ZB_FUNCT7 = {"sh1add": 0x10, "sh2add": 0x10, "sh3add": 0x10, "bclr": 0x24, "bext": 0x24, "binv": 0x34, "bset": 0x14}
 
 
 def encoded(name, rd, rs1, rs2, immediate):
@@ -177,6 +195,11 @@ def encoded(name, rd, rs1, rs2, immediate):
         funct3 = 0 if name == "jalr" else FUNCT3[OF_IMMEDIATE.get(name, name)]
         upper = 0x20 << 5 if name == "srai" else 0
         return bits(i, 11, 0) << 20 | upper << 20 | rs1 << 15 | funct3 << 12 | rd << 7 | opcode
+    if name in ZB_OF_IMMEDIATE:
+        base = ZB_OF_IMMEDIATE[name]
+        return ZB_FUNCT7[base] << 25 | immediate << 20 | rs1 << 15 | FUNCT3[base] << 12 | rd << 7 | 0x13
+    if name in ZB:
+        return ZB_FUNCT7[name] << 25 | rs2 << 20 | rs1 << 15 | FUNCT3[name] << 12 | rd << 7 | 0x33
     funct7 = 0x20 if name in ("sub", "sra") else 0x01 if name in ALTERNATIVE else 0
     return funct7 << 25 | rs2 << 20 | rs1 << 15 | FUNCT3[name] << 12 | rd << 7 | 0x33
 
@@ -319,6 +342,9 @@ def corners_of(name):
         return [Case(name, 0 if store else 3, 1, 2 if store else 0, i).finds(
             s1, 0x84838281 if store else 0, memory=0x80FF7F01, chosen=chosen)
             for s1, i in places for chosen in ("", "a")]
+    if name in ZB_OF_IMMEDIATE:
+        return ([Case(name, 3, 1, 0, i).finds(s1) for i in (0, 1, 31) for s1 in (0, 1, ONES, LEAST, GREATEST)]
+                + [Case(name, 0, 1, 0, 31).finds(ONES), Case(name, 3, 0, 0, 31).finds(7)])
     if name in ("slli", "srli", "srai"):
         return [Case(name, 3, 1, 0, i).finds(s1) for s1, i in
                 [(0, 31), (1, 31), (ONES, 0), (ONES, 31), (LEAST, 1), (LEAST, 31), (GREATEST, 31), (GREATEST, 30)]]
@@ -378,7 +404,7 @@ def any_of(name):
         return Case(name, 0, rs1, rs2, 2 * random.randrange(-2048, 2048))
     if name in SIZES and name[0] == "s":
         return Case(name, 0, rs1, rs2, random.randrange(-2048, 2048))
-    if name in ("slli", "srli", "srai"):
+    if name in ("slli", "srli", "srai") or name in ZB_OF_IMMEDIATE:
         return Case(name, rd, rs1, 0, random.randrange(32))
     if name == "jalr" or name in SIZES or name in OF_IMMEDIATE:
         return Case(name, rd, rs1, 0, random.randrange(-2048, 2048))
@@ -402,8 +428,8 @@ BASE = (["lui", "auipc", "jal", "jalr"] + list(TAKEN) + list(SIZES) + list(OF_IM
 
 def cases(count):
     made = []
-    for name in BASE + list(COMPRESSED):
-        base = name in BASE
+    for name in BASE + list(COMPRESSED) + list(ZB) + list(ZB_OF_IMMEDIATE):
+        base = name not in COMPRESSED
         made += corners_of(name) if base else compressed_corners_of(name)
         for _ in range(count):
             case = any_of(name) if base else any_compressed(name)

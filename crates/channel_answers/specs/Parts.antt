@@ -6,6 +6,7 @@ use Rattle.channel_answers.specs.declared.channel.Sources.{Sources}
 use Rattle.channel_answers.specs.declared.channel.Results.{Results}
 
 pub record AreFlags (net : Netlist) (f : Flags) : Type 0 where
+  pub valid : IsNodeOf net 1 f.valid
   pub order : IsNodeOf net 64 f.order
   pub trap : IsNodeOf net 1 f.trap
   pub halt : IsNodeOf net 1 f.halt

@@ -1,17 +1,38 @@
 use rv_table::{Opts, Retire, RowId, row_name};
+use rv_zb::{ZbRow, zb_name};
+
+/// A row of one of the tables.
+#[derive(Debug, Clone, Copy, PartialEq, Eq)]
+pub enum Row {
+    /// Of RV32I, M and C.
+    Base(RowId),
+    /// Of Zba and Zbs.
+    Zb(ZbRow),
+}
 
 /// An instruction of a row, with what it finds.
 #[derive(Debug, Clone, Copy, PartialEq, Eq)]
 pub struct Case {
-    pub row: RowId,
+    pub row: Row,
     pub retire: Retire,
     pub opts: Opts,
 }
 
-fn row_named(name: &str) -> Option<RowId> {
-    (0..70)
+fn row_named(name: &str) -> Option<Row> {
+    let base = (0..70)
         .filter_map(RowId::new)
-        .find(|row| row_name(*row) == name)
+        .find(|row| row_name(*row) == name);
+    match base {
+        Some(row) => Some(Row::Base(row)),
+        None => zb_named(name),
+    }
+}
+
+fn zb_named(name: &str) -> Option<Row> {
+    let row = (0..11)
+        .filter_map(ZbRow::new)
+        .find(|row| zb_name(*row) == name)?;
+    Some(Row::Zb(row))
 }
 
 fn hexadecimal(word: Option<&str>) -> Option<u32> {

@@ -16,6 +16,7 @@ use wn_net::{Net, NodeId};
 /// How an instruction retires.
 #[derive(Debug, Clone, Copy, PartialEq, Eq)]
 pub struct Flags {
+    pub valid: NodeId,
     pub order: NodeId,
     pub trap: NodeId,
     pub halt: NodeId,
@@ -55,11 +56,13 @@ fn flag_nodes(net: &mut Net, retire: &Retire) -> Result<Flags, Memory>
     ensures adds { AddsNodes net.old net.new }
     ensures there { IfOk result (parts.AreFlags net.new) }
 {
+    let valid = bit(net, true)?;
     let order = constant(net, 64, 0)?;
     let trap = bit(net, retire.trap)?;
     let halt = bit(net, retire.halt)?;
     let intr = bit(net, retire.intr)?;
     Ok(Flags {
+        valid,
         order,
         trap,
         halt,
@@ -129,8 +132,7 @@ pub(crate) fn play(net: &mut Net, retire: &Retire) -> Result<Channel, Memory>
     let sources = source_nodes(net, retire)?;
     let results = result_nodes(net, retire)?;
     Ok(Channel {
-        // what the circuits don't read
-        valid: flags.intr,
+        valid: flags.valid,
         order: flags.order,
         insn: sources.insn,
         trap: flags.trap,

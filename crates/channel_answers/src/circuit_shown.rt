@@ -1,12 +1,20 @@
 //! What circuits show of a case.
 #![tactic(auto, using(rv_circ::proofs::ChannelLemmas::channels))]
 
-use crate::case::Case;
+ghost use Rattle.std.specs.Prelude.{IfOk};
+ghost use Rattle.wn_net.specs.Changes.{AddsNodes};
+ghost use Rattle.rvfi_port.specs.Ports.{AreChannelNodes};
+ghost use Rattle.rv_rows.specs.Effects.{AreEffect};
+ghost use Rattle.rv_circ.specs.Effects.{outcome_of};
+
+use crate::case::{Case, Row};
 use crate::channel::play;
 use crate::values::values_of;
 use fv_text::Memory;
 use rv_circ::{EffectNodes, agreement, circuit};
 use rv_table::{Effect, Retire, effect_of, matches};
+use rv_zb::{ZbRow, zb_circuit, zb_effect, zb_monitor, zb_row_of};
+use rvfi_port::Channel;
 use std::alloc::Global;
 use wn_net::{Net, NodeId};
 
@@ -37,11 +45,23 @@ fn shown_effect(values: &[u128], nodes: &EffectNodes) -> Option<Effect> {
     })
 }
 
+/// The circuit of the case's row.
+fn row_circuit(net: &mut Net, channel: &Channel, case: &Case) -> Result<EffectNodes, Memory>
+    requires { AreChannelNodes net.old channel.now }
+    ensures adds { AddsNodes net.old net.new }
+    ensures there { IfOk result (λ e. AreEffect net.new (outcome_of e)) }
+{
+    match case.row {
+        Row::Base(row) => circuit(net, channel, row, case.opts),
+        Row::Zb(row) => zb_circuit(net, channel, row),
+    }
+}
+
 /// What the row's circuit shows of the retirement.
 fn circuit_shows(alloc: Global, case: &Case) -> Result<Option<Effect>, Memory> {
     let mut net = Net::new(alloc);
     let channel = play(&mut net, &case.retire)?;
-    let nodes = circuit(&mut net, &channel, case.row, case.opts)?;
+    let nodes = row_circuit(&mut net, &channel, case)?;
     let values = values_of(alloc, &net)?;
     Ok(shown_effect(values.as_slice(), &nodes))
 }
@@ -50,10 +70,30 @@ fn circuit_shows(alloc: Global, case: &Case) -> Result<Option<Effect>, Memory> {
 fn agreement_shows(alloc: Global, case: &Case) -> Result<bool, Memory> {
     let mut net = Net::new(alloc);
     let channel = play(&mut net, &case.retire)?;
-    let nodes = circuit(&mut net, &channel, case.row, case.opts)?;
+    let nodes = row_circuit(&mut net, &channel, case)?;
     let test = agreement(&mut net, &channel, &nodes)?;
     let values = values_of(alloc, &net)?;
     Ok(value(values.as_slice(), test) == 1)
+}
+
+/// What the monitor of a row of Zba and Zbs shows.
+fn monitor_shows(alloc: Global, row: ZbRow, retire: &Retire) -> Result<bool, Memory> {
+    let mut net = Net::new(alloc);
+    let channel = play(&mut net, retire)?;
+    let test = zb_monitor(&mut net, &channel, row)?;
+    let values = values_of(alloc, &net)?;
+    Ok(value(values.as_slice(), test) == 1)
+}
+
+/// A digit for whether the retirement agrees, and `?` where a monitor of the row says another thing.
+fn agreement_digit(alloc: Global, case: &Case) -> Result<char, Memory> {
+    let agrees = agreement_shows(alloc, case)?;
+    if let Row::Zb(row) = case.row {
+        if monitor_shows(alloc, row, &case.retire)? == agrees {
+            return Ok('?');
+        }
+    }
+    Ok(if agrees { '1' } else { '0' })
 }
 
 /// The retirement that does what the effect says, and those that differ from it in one number.
@@ -118,7 +158,17 @@ fn retirements(retire: &Retire, effect: &Effect) -> [Retire; 11] {
 
 /// Whether the effect is the one that the table has.
 fn is_tabled(case: &Case, effect: &Effect) -> bool {
-    matches(case.row, case.retire.insn) && *effect == effect_of(case.row, &case.retire, case.opts)
+    let insn = case.retire.insn;
+    match case.row {
+        Row::Base(row) => {
+            matches(row, insn) && *effect == effect_of(row, &case.retire, case.opts)
+        }
+        Row::Zb(row) => {
+            zb_row_of(insn) == Some(row)
+                && row.matches(insn)
+                && *effect == zb_effect(row, &case.retire)
+        }
+    }
 }
 
 /// The numbers of an effect in hexadecimal.
@@ -151,8 +201,7 @@ pub(crate) fn shown(alloc: Global, case: &Case) -> Result<String, Memory> {
     };
     let mut line = line(alloc, &effect)?;
     for retire in retirements(&case.retire, &effect) {
-        let agrees = agreement_shows(alloc, &Case { retire, ..*case })?;
-        line.push(if agrees { '1' } else { '0' })?;
+        line.push(agreement_digit(alloc, &Case { retire, ..*case })?)?;
     }
     line.push_str(if is_tabled(case, &effect) { " 1" } else { " 0" })?;
     Ok(line)

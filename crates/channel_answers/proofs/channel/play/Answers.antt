@@ -13,7 +13,7 @@ returns-clause-there c =
     let behind2 = adds_on _ _ _ sources.adds results.adds in
     let behind1 = adds_on _ _ _ numbers.adds behind2 in
     record {
-      valid = node_on _ _ 1 f.intr behind1 flags.there.intr;
+      valid = node_on _ _ 1 f.valid behind1 flags.there.valid;
       order = node_on _ _ 64 f.order behind1 flags.there.order;
       insn = node_on _ _ 32 s.insn results.adds sources.there.insn;
       trap = node_on _ _ 1 f.trap behind1 flags.there.trap;
