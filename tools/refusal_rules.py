@@ -287,6 +287,8 @@ class Reader:
 
     def add_var(self, entry):
         form = self.form(entry)
+        if form is None:
+            return  # A bound waits for a declaration that is refused where it stands, behind this one.
         is_input = entry.kind == "in" and bool(entry.scope.prefix)
         entry.var = Var(entry.scope.prefix + entry.word, entry.kind, entry.free, form, is_input)
         entry.var.entry = entry
