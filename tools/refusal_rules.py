@@ -376,6 +376,7 @@ class Reader:
         self.count([item], found)
         self.judge(found)
         inner = self.scope_of(module, scope.prefix + item.word + ".")
+        self.give(item.overrides, module, inner, scope)
         seen = set()
         for each in item.overrides:
             self.walk_override(each, module, inner, scope, seen)
@@ -384,25 +385,35 @@ class Reader:
             self.walk_conn(each, module, inner, scope, seen)
         self.walk_inner(module, inner, path)
 
+    def given_param(self, node, module, inner):
+        """The parameter that an override names, or None."""
+        entry = inner.names.get(node.word)
+        is_param = entry is not None and entry.kind == "param" and (
+            entry.holder is module or entry.holder.word == "parameter")
+        return entry if is_param else None
+
+    def give(self, overrides, module, inner, scope):
+        """Gives all parameters their values: the range of one may name another that is given later."""
+        for each in overrides:
+            entry = self.given_param(each, module, inner)
+            if entry is not None and each.value is not None and entry.override is None:
+                entry.override = each.value, scope
+
     def walk_override(self, node, module, inner, scope, seen):
         found = []
         if node.word in seen:
             found.append((TWICE, node.place, node.word))
         seen.add(node.word)
-        entry = inner.names.get(node.word)
-        is_param = entry is not None and entry.kind == "param" and (
-            entry.holder is module or entry.holder.word == "parameter")
-        if not is_param:
+        entry = self.given_param(node, module, inner)
+        if entry is None:
             found.append((PARAM, node.place, node.word))
         if node.value is not None:
             width = None
-            if is_param and entry.node.range is not None:
+            if entry is not None and entry.node.range is not None:
                 both = self.bounds_of_constant(entry, inner)
                 width = None if both is None else abs(both[0] - both[1]) + 1
             judge_expr(node.value, scope, found, True)
             assigned_divisors(node.value, width, scope, found)
-            if is_param:
-                entry.override = node.value, scope
         self.count(self.counted(node), found)
         self.judge(found)
 
