@@ -9,8 +9,8 @@ run has to end with a code from 0 to 11, nothing on standard error, and the line
 a second reading answers (lrat_rules.py). A share of the runs is under limits of memory, stack, file size and open
 files, and may then end with what such a limit comes to.
 
-A refusal, and every run of `lrat`, has to take at most 2 seconds of processor time and 64 MB, and for each byte of the
-texts 10 microseconds and 2,000 bytes more. What a design takes that is judged goes by its weight, and is told apart.
+A refusal, and every run of `lrat`, has to take at most 2 seconds of processor time and 64 MB, and for each byte that it
+reads 10 microseconds and 2,000 bytes more. What a design takes that is judged goes by its weight, and is told apart.
 With --keep what was wrong, and the ten of at most 4,000 bytes that took the most, are written into the folder. Ends
 with 1 where a run was wrong.
 """
@@ -234,6 +234,12 @@ class Runner:
             return Ended(code, put.read(), said.read(), seconds, kilobytes)
 
 
+def bytes_read(texts):
+    """How many bytes a run reads: a file that a configuration names again is read again."""
+    named = texts.get("checks.cfg", b"")
+    return sum(len(text) * max(1, named.count(name.encode())) for name, text in texts.items())
+
+
 class Fuzz:
     def __init__(self, mode, program, folder, source, share):
         self.mode, self.program, self.folder, self.source, self.share = mode, program, folder, source, share
@@ -283,7 +289,7 @@ class Fuzz:
         self.judge(texts, limit, ended)
 
     def judge(self, texts, limit, ended):
-        size = sum(map(len, texts.values()))
+        size = bytes_read(texts)
         (self.limited if limit else self.codes)[ended.code] += 1
         fault = self.fault(texts, limit, ended, size)
         if fault:
