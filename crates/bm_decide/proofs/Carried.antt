@@ -1,5 +1,5 @@
--- A check holds in a run of a net with a monitor exactly where it holds in the run of the net itself.
-use Rattle.std.specs.Prelude.{◌≡◌, refl, ℕ, zero, suc, ◌+◌, ◌-◌, ◌≤◌, ◌==◌, ◌↔◌, if◌then◌else◌, Bool, true, false, not}
+-- A run of a net with the node of a question gives what is sought exactly where the run of the net itself does.
+use Rattle.std.specs.Prelude.{◌≡◌, refl, ℕ, zero, suc, ◌+◌, ◌-◌, ◌≤◌, ◌==◌, ◌↔◌, if◌then◌else◌, Bool, true, false}
 use Rattle.std.specs.Prelude.{List, [], ◌∷◌, ◌++◌, length, map, Option, Some, None}
 use Rattle.std.specs.List.{AllByRecursion}
 use Rattle.std.proofs.Common.{sym, ◌∙◌, arith, subst}
@@ -17,14 +17,14 @@ use Rattle.rvfi_port.specs.declared.port.Channel.{Channel}
 use Rattle.rvfi_port.specs.declared.port.Port.{Port}
 use Rattle.rvfi_port.specs.Channels.{retire_at}
 use Rattle.rvfi_port.specs.Ports.{AreChannelNodes, AreImemNodes, ArePortNodes, IsDmemNode}
-use Rattle.ck_cfg.specs.declared.check.Check.{Check}
-use Rattle.ck_spec.specs.Properties.{property}
 use Rattle.ck_gen.specs.Retirements.{dmem_addr_at, imem_addr_at, imem_data_at, probe_at, retired_from, retired_in}
 use Rattle.ck_gen.specs.Retirements.{retirements}
-use Rattle.ck_gen.specs.Monitors.{IsMonitor, holds_in}
+use Rattle.ck_ask.specs.Asked.{IsAsked, given_in}
+use Rattle.ck_ask.specs.Questions.{question_cycle, question_first, sought}
+use Rattle.ck_ask.specs.declared.question.Question.{Question}
 use Rattle.bm_unroll.specs.Frames.{IsBadRun}
 use Rattle.bm_decide.specs.Runs.{values_in}
-use Rattle.bm_decide.specs.Verdicts.{Violates}
+use Rattle.bm_decide.specs.Verdicts.{Gives}
 
 module _ (old new : Netlist) (inputs : ℕ → List ℕ) (start : State) (whole : IsNet old) (adds : AddsRegs old new) where
   -- the numbers of a cycle, in the net with more nodes and registers and in the old one
@@ -100,11 +100,12 @@ module _ (old new : Netlist) (inputs : ℕ → List ℕ) (start : State) (whole 
     dmem_addr = dmem_addr_same k port.dmem own.dmem i;
   }
 
-  holds_same : (port : Port) (check : Check) (opts : Opts) → ArePortNodes old port
-      → holds_in new ran port check opts ≡ holds_in old was port check opts
-  holds_same port check opts own = λ i.
-      property check (retirements_same port.channels check.start (check.cycle - check.start + 1) own.channels i)
-      (probe_same check.cycle port own i) opts
+  given_same : (port : Port) (q : Question) (opts : Opts) → ArePortNodes old port
+      → given_in new ran port q opts ≡ given_in old was port q opts
+  given_same port q opts own = λ i.
+      sought q opts
+      (retirements_same port.channels (question_first q) (question_cycle q - question_first q + 1) own.channels i)
+      (probe_same (question_cycle q) port own i)
 
   assumed_same : (d : ℕ) → IsAssumed new inputs start d ↔ IsAssumed old inputs (first_regs (length old.regs) start) d
   assumed_same d =
@@ -114,39 +115,40 @@ module _ (old new : Netlist) (inputs : ℕ → List ℕ) (start : State) (whole 
       (old_run old new inputs start k whole adds).met.1 (h k le) in
       (to, from)
 
--- ---- violating runs
+-- ---- runs that give what is sought
 
-not_zero : (b : Bool) (n : ℕ) → n ≡ bit (not b) → (n ≡ 0 → ⊥) → b ≡ false
-not_zero true n e h = absurd (h e)
-not_zero false n e h = refl
+not_zero : (b : Bool) (n : ℕ) → n ≡ bit b → (n ≡ 0 → ⊥) → b ≡ true
+not_zero true n e h = refl
+not_zero false n e h = absurd (h e)
 
-is_one : (b : Bool) (n : ℕ) → n ≡ bit (not b) → b ≡ false → n ≡ 0 → ⊥
-is_one true n e f z = cc
-is_one false n e f z = absurd (omega (arith, e, z))
+is_one : (b : Bool) (n : ℕ) → n ≡ bit b → b ≡ true → n ≡ 0 → ⊥
+is_one true n e f z = absurd (omega (arith, e, z))
+is_one false n e f z = cc
 
--- a run of the net with the monitor is bad exactly where the run of the net itself violates the check
-pub bad_is_violating : (old new : Netlist) (port : Port) (check : Check) (opts : Opts) (bad : ℕ) (ch : Choices)
-    → IsNet old → IsNet new → AddsRegs old new → ArePortNodes old port → IsMonitor new port check opts bad
-    → AreChoicesOf new ch → IsBadRun new bad check.cycle ch ↔ Violates old port check opts ch
-bad_is_violating old new port check opts bad ch whole grown adds own monitor of =
+-- a run of the net with the node is bad exactly where the run of the net itself gives what is sought
+pub bad_gives : (old new : Netlist) (port : Port) (q : Question) (opts : Opts) (bad : ℕ) (ch : Choices)
+    → IsNet old → IsNet new → AddsRegs old new → ArePortNodes old port → IsAsked new port q opts bad
+    → AreChoicesOf new ch → IsBadRun new bad (question_cycle q) ch ↔ Gives old port q opts ch
+bad_gives old new port q opts bad ch whole grown adds own asked of =
     let inputs = inputs_at new ch in
     let start = start_of new ch in
     let begins = begins_as old new ch adds in
     let n = length old.regs in
+    let K = question_cycle q in
     let same_inputs : inputs ≡ inputs_at old ch = λ i k. begins.inputs k i in
     let Was : (ℕ → List ℕ) → State → Type 0 = λ ins s.
-    IsAssumed old ins s check.cycle × (holds_in old (cycle_at old ins s) port check opts ≡ false) in
+    IsAssumed old ins s K × (given_in old (cycle_at old ins s) port q opts ≡ true) in
     let I : (ℕ → List ℕ) → Type 0 = λ ins. Was ins (first_regs n start) in
     let S : State → Type 0 = λ s. Was (inputs_at old ch) s in
-    let assumed = assumed_same old new inputs start whole adds check.cycle in
-    let holds = holds_same old new inputs start whole adds port check opts own in
-    let shown = monitor inputs start (choices_run new ch grown of) in
-    let to : IsBadRun new bad check.cycle ch → Violates old port check opts ch = λ b.
-    let was : Was inputs (first_regs n start) = (assumed.0 b.0, sym holds ∙ not_zero _ _ shown b.1) in
+    let assumed = assumed_same old new inputs start whole adds K in
+    let given = given_same old new inputs start whole adds port q opts own in
+    let shown = asked inputs start (choices_run new ch grown of) in
+    let to : IsBadRun new bad K ch → Gives old port q opts ch = λ b.
+    let was : Was inputs (first_regs n start) = (assumed.0 b.0, sym given ∙ not_zero _ _ shown b.1) in
     subst S begins.start (subst I same_inputs was) in
-    let from : Violates old port check opts ch → IsBadRun new bad check.cycle ch = λ x.
+    let from : Gives old port q opts ch → IsBadRun new bad K ch = λ x.
     let y : Was inputs (first_regs n start) = subst I (sym same_inputs) (subst S (sym begins.start) x) in
-    (assumed.1 y.0, is_one _ _ shown (holds ∙ y.1)) in
+    (assumed.1 y.0, is_one _ _ shown (given ∙ y.1)) in
     (to, from)
 
 -- ---- watched nodes

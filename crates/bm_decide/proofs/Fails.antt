@@ -1,4 +1,4 @@
--- From the bits of a violation to choices of a run.
+-- From the bits of a witness to choices of a run.
 use Rattle.std.specs.Prelude.{◌≡◌, refl, ℕ, zero, suc, ◌+◌, ◌-◌, ◌<◌, ◌≤◌, ◌^◌, Bool, false, List, [], ◌∷◌, length}
 use Rattle.std.specs.Prelude.{Some, map, slice_get, slice_index, slice_index_or}
 use Rattle.std.specs.List.{AllByRecursion}
@@ -20,9 +20,9 @@ use Rattle.bm_unroll.specs.declared.frames.Source.{Source}
 use Rattle.bm_unroll.specs.declared.frames.Source.TheVariants as s
 use Rattle.bm_unroll.specs.Frames.{Chooses, IsChoice, chosen, source_width}
 use Rattle.bm_unroll.proofs.Choosing.{numbers_of_choice}
-use Rattle.bm_decide.specs.declared.verdict.Violation.{Violation}
-use Rattle.bm_decide.specs.Chosen.{AreReadable, BitsAreReadable, ChosenRunsViolate, HaveNumbers}
-use Rattle.bm_decide.specs.Chosen.{bit_in, numbers_read}
+use Rattle.bm_decide.specs.declared.verdict.Witness.{Witness}
+use Rattle.bm_decide.specs.Chosen.{AreReadable, BitsAreReadable, ReadChoicesAreTheNets, HaveNumbers, bit_in}
+use Rattle.bm_decide.specs.Chosen.{numbers_read}
 
 -- ---- the widths of sources
 
@@ -72,7 +72,7 @@ bits_are_readable net cycle bits whole own =
 -- ---- the numbers of sources
 
 -- the bits that stand one behind the other are those at the places
-read_in_order : (x : Violation) → AreReadable x.bits
+read_in_order : (x : Witness) → AreReadable x.bits
     → numbers_of x.bits.widths (bit_in x.values) ≡ numbers_read x
 read_in_order x own =
     let less : (i : ℕ) → i + 1 - 1 ≡ i = λ i. omega arith in
@@ -83,17 +83,17 @@ length-numbers_from : (x : ℕ → Bool) (at : ℕ) (ws : List ℕ) → length (
 length-numbers_from x at [] = refl
 length-numbers_from x at (w ∷ ws) = ap suc (length-numbers_from x (at + w) ws)
 
-pub numbers_are : (x : Violation) (ns made ws : List ℕ) (vs : List Bool) → ws ≡ x.bits.widths → vs ≡ x.values
+pub numbers_are : (x : Witness) (ns made ws : List ℕ) (vs : List Bool) → ws ≡ x.bits.widths → vs ≡ x.values
     → made ≡ numbers_of ws (bit_in vs) → ns ≡ made → ns ≡ numbers_of x.bits.widths (bit_in x.values)
 numbers_are x ns made ws vs wide own is same =
     same ∙ is ∙ ap (λ us. numbers_of us (bit_in vs)) wide ∙ ap (λ us. numbers_of x.bits.widths (bit_in us)) own
 
 -- one for each source
-pub numbers_each : (x : Violation) (ns : List ℕ) → AreReadable x.bits
+pub numbers_each : (x : Witness) (ns : List ℕ) → AreReadable x.bits
     → ns ≡ numbers_of x.bits.widths (bit_in x.values) → length ns ≡ length x.bits.sources
 numbers_each x ns own is = ap length is ∙ length-numbers_from (bit_in x.values) 0 x.bits.widths ∙ own.each
 
-pub have_read : (x : Violation) (ns : List ℕ) (ch : Choices) → AreReadable x.bits
+pub have_read : (x : Witness) (ns : List ℕ) (ch : Choices) → AreReadable x.bits
     → ns ≡ numbers_of x.bits.widths (bit_in x.values) → HaveNumbers x.bits.sources ns ch
     → HaveNumbers x.bits.sources (numbers_read x) ch
 have_read x ns ch own is have =
@@ -143,7 +143,6 @@ chosen_of_net net cycle xs ns ch choices some have =
       words = λ m w below. small net ch xs ns (s.WordStart m w) own have;
     }
 
-pub chosen_violate : ChosenRunsViolate
-chosen_violate net port check opts x ch fail have =
-    let own = chosen_of_net net check.cycle x.bits.sources (numbers_read x) ch fail.bits.sources fail.chooses have in
-    record { of_net = own; violates = fail.violates ch own have.same }
+pub read_choices : ReadChoicesAreTheNets
+read_choices net cycle x ch bits chooses have =
+    chosen_of_net net cycle x.bits.sources (numbers_read x) ch bits.sources chooses have

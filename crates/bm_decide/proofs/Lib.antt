@@ -3,6 +3,7 @@ pub mod Carried
 pub mod Channels
 pub mod Sources
 pub mod Tight
+pub mod SettledRuns
 pub mod Bits
 pub mod Fails
 pub mod OneByOne

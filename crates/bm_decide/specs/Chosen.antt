@@ -1,8 +1,7 @@
--- Between functions: The choices that the bits of a violation are those of (rule of this project).
+-- Between functions: The choices that the bits of a witness are those of (rule of this project).
 use Rattle.std.specs.Prelude.{◌≡◌, ℕ, Bool, false, List, length, map, slice_index_or}
 use Rattle.std.specs.List.{AllByRecursion}
 use Rattle.fv_text.specs.declared.trace.Trace.{Trace}
-use Rattle.rv_table.specs.declared.retire.Opts.{Opts}
 use Rattle.wn_net.specs.declared.names.Names.{Names}
 use Rattle.wn_net.specs.Width.{IsWidth}
 use Rattle.wn_net.specs.Net.{Netlist, IsNet}
@@ -11,12 +10,10 @@ use Rattle.cnf_form.specs.Cnf.{value_of}
 use Rattle.bb_blast.specs.Choice.{all_places}
 use Rattle.bb_clauses.specs.Models.{read_at}
 use Rattle.bm_unroll.specs.declared.frames.Source.{Source}
-use Rattle.bm_unroll.specs.Frames.{AreDistinct, chosen}
-use Rattle.rvfi_port.specs.declared.port.Port.{Port}
-use Rattle.ck_cfg.specs.declared.check.Check.{Check}
+use Rattle.bm_unroll.specs.Frames.{AreDistinct, Chooses, chosen}
 use Rattle.bm_decide.specs.declared.verdict.ChoiceBits.{ChoiceBits}
-use Rattle.bm_decide.specs.declared.verdict.Violation.{Violation}
-use Rattle.bm_decide.specs.Verdicts.{AreBitsOf, IsFail, Violates}
+use Rattle.bm_decide.specs.declared.verdict.Witness.{Witness}
+use Rattle.bm_decide.specs.Verdicts.{AreBitsOf}
 use Rattle.tr_replay.specs.Traces.{trace_of}
 
 -- a bit of a list; past the end 0
@@ -30,8 +27,8 @@ pub record AreReadable (bits : ChoiceBits) : Type 0 where
   pub widths : AllByRecursion IsWidth bits.widths
   pub places : bits.places ≡ all_places 0 0 bits.widths
 
--- the numbers of a violation's sources
-abbrev pub numbers_read : Violation → List ℕ
+-- the numbers of a witness's sources
+abbrev pub numbers_read : Witness → List ℕ
 numbers_read x = read_at x.bits.places x.bits.widths (value_of x.values)
 
 -- each source has its number, and what is no source has 0
@@ -46,20 +43,16 @@ abbrev pub BitsAreReadable : Type 0
 BitsAreReadable =
     (net : Netlist) (cycle : ℕ) (bits : ChoiceBits) → IsNet net → AreBitsOf net cycle bits → AreReadable bits
 
--- choices are those of a run that violates a check
-pub record AreViolating (net : Netlist) (port : Port) (check : Check) (opts : Opts) (ch : Choices) : Type 0 where
-  pub of_net : AreChoicesOf net ch
-  pub violates : Violates net port check opts ch
+-- numbers that some run has at its sources, with 0 at all else, are choices of the net
+abbrev pub ReadChoicesAreTheNets : Type 0
+ReadChoicesAreTheNets =
+    (net : Netlist) (cycle : ℕ) (x : Witness) (ch : Choices) → AreBitsOf net cycle x.bits
+    → Chooses net x.bits.sources (numbers_read x) → HaveNumbers x.bits.sources (numbers_read x) ch
+    → AreChoicesOf net ch
 
-abbrev pub ChosenRunsViolate : Type 0
-ChosenRunsViolate =
-    (net : Netlist) (port : Port) (check : Check) (opts : Opts) (x : Violation) (ch : Choices)
-    → IsFail net port check opts x → HaveNumbers x.bits.sources (numbers_read x) ch
-    → AreViolating net port check opts ch
-
--- a trace is that of a run that violates a check, up to the check's cycle
-pub record ShowsViolation (net : Netlist) (names : Names) (port : Port) (check : Check) (opts : Opts) (trace : Trace)
-    : Type 0 where
+-- a trace is that of a run with the numbers of a witness, up to a cycle
+pub record ShowsWitness (net : Netlist) (names : Names) (cycle : ℕ) (x : Witness) (trace : Trace) : Type 0 where
   pub ch : Choices
-  pub violating : AreViolating net port check opts ch
-  pub shown : trace ≡ trace_of net names ch check.cycle
+  pub of_net : AreChoicesOf net ch
+  pub same : map (chosen ch) x.bits.sources ≡ numbers_read x
+  pub shown : trace ≡ trace_of net names ch cycle

@@ -1,5 +1,6 @@
 pub mod Runs
-pub mod DecideParts
+pub mod Searches
+pub mod Settled
 pub mod Verdicts
 pub mod Chosen
 pub mod ChosenParts

@@ -7,7 +7,7 @@ ghost use Rattle.bm_decide.specs.Chosen.{AreReadable, HaveNumbers, numbers_read}
 
 use crate::numbers::numbers_of;
 use crate::store::put_source;
-use crate::verdict::Violation;
+use crate::verdict::Witness;
 use bm_unroll::Source;
 use fv_text::{List, Memory};
 use std::alloc::Global;
@@ -32,14 +32,14 @@ fn choices(alloc: Global, sources: &[Source], numbers: &[u128]) -> Result<Chosen
     Ok(made)
 }
 
-/// The choices that a violation's values are those of: each source has the number of its bits, and all else is 0.
-pub fn chosen_of(alloc: Global, violation: &Violation) -> Result<Chosen, Memory>
-    requires { AreReadable violation.now.bits }
-    ensures { IfOk result (λ made. HaveNumbers violation.now.bits.sources (numbers_read violation.now)
+/// The choices that a witness's values are those of: each source has the number of its bits, and all else is 0.
+pub fn chosen_of(alloc: Global, witness: &Witness) -> Result<Chosen, Memory>
+    requires { AreReadable witness.now.bits }
+    ensures { IfOk result (λ made. HaveNumbers witness.now.bits.sources (numbers_read witness.now)
         (choices_of made)) }
 {
-    let bits = &violation.bits;
-    let values = violation.values.as_slice();
+    let bits = &witness.bits;
+    let values = witness.values.as_slice();
     let numbers = numbers_of(alloc, values, bits.widths.as_slice())?;
     choices(alloc, bits.sources.as_slice(), numbers.as_slice())
 }

@@ -1,10 +1,9 @@
-//! What holds of choices that are read from a violation.
+//! What holds of choices that are read from a witness.
 
 ghost use Rattle.bm_decide.specs.Chosen as spec;
 
-/// The bits of a run of a net may be read, and the choices that are read from a violation are those of a run that
-/// violates the check.
-pub fn chosen_runs_violate()
+/// The bits of a run of a net may be read, and the choices that are read from a witness are choices of its net.
+pub fn read_choices_are_the_nets()
     ensures readable { spec.BitsAreReadable }
-    ensures violate { spec.ChosenRunsViolate }
+    ensures of_net { spec.ReadChoicesAreTheNets }
 {}

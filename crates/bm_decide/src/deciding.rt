@@ -1,24 +1,18 @@
-//! The verdict on a check.
+//! The verdict on a question.
 ghost use Rattle.std.specs.Prelude.{◌≡◌, ◌+◌, ◌<◌, ◌≤◌, length, map, sum, IfOk};
-ghost use Rattle.wn_net.specs.Net.{IsNet, IsNode, AreNodes};
 ghost use Rattle.rvfi_port.specs.Channels.{nodes_of};
-ghost use Rattle.rvfi_port.specs.Ports.{AreChannelNodes, ArePortNodes};
-ghost use Rattle.ck_cfg.specs.Lawful.{IsCheck};
-ghost use Rattle.ck_gen.specs.Monitors.{HasProbe};
-ghost use Rattle.bm_decide.specs.DecideParts.{verdict_of};
+ghost use Rattle.rvfi_port.specs.Ports.{ArePortNodes};
+ghost use Rattle.ck_ask.specs.Asked.{HasItsProbe, IsQuestion};
 ghost use Rattle.bm_decide.specs.Verdicts.{IsVerdict};
 
-use crate::runs::{RunClauses, clauses_of_runs};
-use crate::verdict::{Certificate, ChoiceBits, Verdict, Violation};
-use bb_blast::Blasted;
-use bb_clauses::Encoded;
-use bm_unroll::Frames;
-use ck_cfg::Check;
-use ck_gen::monitor;
+use crate::runs::clauses_of_runs;
+use crate::search::Search;
+use crate::settling::settle;
+use crate::verdict::Verdict;
+use ck_ask::{Question, ask};
 use fv_text::Memory;
 use rv_table::Opts;
 use rvfi_port::{Channel, Port};
-use sat_search::{Found, solve};
 use std::alloc::Global;
 use wn_net::{Net, NodeId};
 
@@ -49,72 +43,32 @@ fn nodes_of(c: &Channel) -> [NodeId; 19]
     ]
 }
 
-/// The verdict on a check of a net's runs, within a budget of learnt clauses.
-pub fn decide(
+/// The verdict on a question of a net's runs, by a search within a budget of learnt clauses.
+pub fn decide<S: Search>(
     alloc: Global,
+    search: &S,
     net: &Net,
     port: &Port,
-    check: &Check,
+    question: &Question,
     opts: Opts,
     budget: u64,
 ) -> Result<Verdict, Memory>
     requires port { ArePortNodes net.now port.now }
-    requires check { IsCheck (length port.now.channels) check.now }
+    requires question { IsQuestion (length port.now.channels) question.now }
     requires few { length port.now.channels ≤ 2 }
-    requires probe { HasProbe port.now check.now.kind }
+    requires probe { HasItsProbe port.now question.now }
     requires inputs { length net.now.inputs ≤ 1000000 }
     requires state { length net.now.regs + sum (map (λ m. m.words) net.now.mems) ≤ 50000000 }
     requires budget { 0 < budget }
-    ensures { IfOk result (IsVerdict net.now port.now check.now opts budget) }
+    ensures { IfOk result (IsVerdict (S.more search.now budget) net.now port.now question.now opts budget) }
 {
     let _ = net.nodes();
     let mut watched = net.copy()?;
-    let bad = monitor(alloc, &mut watched, port, check, opts)?;
+    let bad = ask(alloc, &mut watched, port, question, opts)?;
     let _ = watched.nodes();
-    let channel = &port.channels.as_slice()[check.channel as usize];
-    let fields = nodes_of(channel);
-    let clauses = clauses_of_runs(alloc, &watched, bad, &fields, check.cycle)?;
-    let formula = &clauses.encoded.formula;
-    let _ = formula.vars();
-    let _ = formula.len();
-    let found = solve(alloc, formula, budget)?;
-    Ok(verdict(clauses, found))
-}
-
-/// What was found, with the clauses that it was found for.
-fn verdict(clauses: RunClauses, found: Found) -> Verdict
-    ensures { result ≡ verdict_of clauses found }
-{
-    let RunClauses { frames, encoded } = clauses;
-    let Frames {
-        sources,
-        widths,
-        ..
-    } = frames;
-    let Encoded { formula, blasted } = encoded;
-    let Blasted {
-        places,
-        watch: fields,
-        ..
-    } = blasted;
-    let bits = ChoiceBits {
-        sources,
-        widths,
-        places,
-    };
-    match found {
-        Found::Model(values) => Verdict::Fail(Violation { values, bits }),
-        Found::Refuted(steps) => Verdict::Pass(Certificate {
-            formula,
-            steps,
-            bits,
-            fields,
-        }),
-        Found::Spent(steps) => Verdict::Spent(Certificate {
-            formula,
-            steps,
-            bits,
-            fields,
-        }),
-    }
+    let channels = port.channels.as_slice();
+    let own = &channels[question.channel() as usize];
+    let fields = nodes_of(own);
+    let clauses = clauses_of_runs(alloc, &watched, bad, &fields, question.cycle())?;
+    settle(alloc, search, clauses, budget)
 }

@@ -15,31 +15,32 @@ pub struct ChoiceBits {
     pub places: List<Placed>,
 }
 
-/// Clauses of the runs of a net with the verdict of a check behind them, and steps over these clauses.
+/// Clauses of the runs of a net, behind them that the run is bad, and steps over these clauses.
 #[derive(Debug, Drop)]
 pub struct Certificate {
     pub formula: Formula,
     pub steps: List<Step>,
     pub bits: ChoiceBits,
-    /// The literals of each field of the check's channel in its cycle, the lowest bit first, in the order of the
-    /// fields.
+    /// The literals of each node that is shown in the last cycle, the lowest bit first, in the order of these nodes: of a
+    /// question the fields of its channel.
     pub fields: List<List<Lit>>,
 }
 
-/// A run that violates a check.
+/// A bad run, by its choices.
 #[derive(Debug, Drop)]
-pub struct Violation {
+pub struct Witness {
     /// The value of each variable, that of variable 1 first.
     pub values: List<bool>,
     pub bits: ChoiceBits,
 }
 
-/// What a check comes to.
+/// What clauses of runs come to.
 #[derive(Debug, Drop)]
 pub enum Verdict {
-    /// No run violates it: the steps refute the clauses.
-    Pass(Certificate),
-    Fail(Violation),
+    /// No run is bad: the steps refute the clauses.
+    Never(Certificate),
+    /// One is.
+    Once(Witness),
     /// The budget is used up: the steps derive as many clauses.
     Spent(Certificate),
 }

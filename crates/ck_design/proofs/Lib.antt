@@ -1,7 +1,7 @@
 pub mod Bound
 pub mod Carried
 pub mod Entries
-pub mod Violating
+pub mod Found
 pub mod Fields
 pub mod Placed
 pub mod NotesWhole

@@ -1,7 +1,7 @@
--- The clauses of a check with their notes are tight.
-use Rattle.std.specs.Prelude.{◌≡◌, refl, ℕ, zero, suc, ◌+◌, ◌-◌, ◌<◌, ◌≤◌, ◌==◌, pos, Bool, true, false}
-use Rattle.std.specs.Prelude.{if◌then◌else◌, List, [], ◌∷◌, ◌++◌, length, map, Option, Some, None, is_none, slice_get}
-use Rattle.std.specs.Prelude.{slice_index, slice_index_or}
+-- The clauses of a question with their notes are tight.
+use Rattle.std.specs.Prelude.{◌≡◌, refl, ℕ, zero, suc, ◌+◌, ◌-◌, ◌<◌, ◌≤◌, ◌==◌, pos, Bool, true, if◌then◌else◌, List}
+use Rattle.std.specs.Prelude.{[], ◌∷◌, ◌++◌, length, map, Option, Some, None, is_none, slice_get, slice_index}
+use Rattle.std.specs.Prelude.{slice_index_or}
 use Rattle.std.specs.Int.{bit_at}
 use Rattle.std.specs.List.{AllByRecursion}
 use Rattle.std.proofs.Common.{ap, sym, ◌∙◌, arith, subst, true≢false}
@@ -19,7 +19,7 @@ use Rattle.wn_run.specs.Runs.{Choices, AreChoicesOf, cycle_at, inputs_at, start_
 use Rattle.wn_run.proofs.Given.{choices_run, cycles_given}
 use Rattle.bb_aig.specs.Bits.{number}
 use Rattle.bb_blast.specs.declared.places.Placed.{Placed}
-use Rattle.bb_blast.specs.Choice.{all_places, numbers_of}
+use Rattle.bb_blast.specs.Choice.{numbers_of}
 use Rattle.bm_unroll.specs.declared.frames.Source.{Source}
 use Rattle.bm_unroll.specs.declared.frames.Source.TheVariants as s
 use Rattle.bm_unroll.specs.Frames.{IsChoice, chosen, source_width}
@@ -34,10 +34,13 @@ use Rattle.vl_lower_spec.specs.Evaluations.{IsLowered, run_of}
 use Rattle.vl_lower_spec.proofs.Allowed.{allowed}
 use Rattle.bm_decide.specs.declared.verdict.ChoiceBits.{ChoiceBits}
 use Rattle.bm_decide.specs.Verdicts.{AreBitsOf}
-use Rattle.ck_design.specs.Retirements.{field_in, holds_over, values_at}
+use Rattle.ck_ask.specs.Questions.{question_channel, question_cycle, question_first}
+use Rattle.ck_ask.proofs.Lawful.{channel_within, in_order}
+use Rattle.ck_design.specs.Findings.{given_over}
+use Rattle.ck_design.specs.Retirements.{field_in, values_at}
 use Rattle.ck_design.specs.Loaded.{HaveFields}
 use Rattle.ck_design.proofs.Bound.{front}
-use Rattle.ck_design.proofs.Violating.{IsRunOf, choices_of_run, run_of_choices, same_check, same_fields}
+use Rattle.ck_design.proofs.Found.{IsRunOf, choices_of_run, run_of_choices, same_found, same_fields}
 use Rattle.ck_design.specs.declared.note.Note.{Note}
 use Rattle.ck_design.specs.declared.note.NoteLiteral.TheVariants as literal
 use Rattle.ck_design.specs.Notes.{choice_notes, field_notes, source_note, spot_note}
@@ -141,7 +144,7 @@ module _ (ps : List Part) (net : Netlist) (names : Names) (lowered : IsLowered p
   read_alike v w run h k =
       numbers_alike v w bits.places 0 bits.widths (same_at v w run bits.places h k)
 
--- ---- the fields of the check's channel
+-- ---- the fields of the question's channel
 
 have_at : (net : Netlist) (g : Given) (v : Values) (first i : ℕ) (cs : List Channel) → i < length cs
     → HaveFields net g v first cs
@@ -157,25 +160,26 @@ agree_front : (v : ℕ → Bool) (run : List Values) (xs ys : List Note) → Agr
 agree_front v run xs ys h = front (AgreeAt v run) xs ys h
 
 pub tight : CertificatesAreTight
-tight ps net names channels wants port check opts c loaded whole lawful are m =
-    let K = check.cycle in
+tight ps net names channels wants port q opts c loaded whole lawful are m =
+    let K = question_cycle q in
+    let channel = question_channel q in
     let h = loaded.lowered in
-    let le : check.start ≤ K = omega (arith, lawful.lawful.start, lawful.lawful.trig) in
-    let fields = field_notes check.channel K channel_fields c.fields in
+    let le : question_first q ≤ K = in_order channels q lawful in
+    let fields = field_notes channel K channel_fields c.fields in
     let choices = choice_notes names c.bits in
     let whole_agrees = λ (v : ℕ → Bool) (ch : Choices) (of : AreChoicesOf net ch) (run : List Values)
     (is_run : IsRun ps K run) (is : IsRunOf net names ch K run) (t : AreTrue m.before v)
     (same : map (chosen ch) c.bits.sources ≡ read_at c.bits.places c.bits.widths v).
     let g = cycle_at net (inputs_at net ch) (start_of net ch) K in
     let given = cycles_given net (inputs_at net ch) (start_of net ch) K whole (choices_run net ch whole of) in
-    let less : check.channel < length port.channels = omega (arith, lawful.channel, loaded.many) in
-    let have = have_at net g (map_of net names g) 0 check.channel port.channels less
+    let less : channel < length port.channels = omega (arith, channel_within channels q lawful, loaded.many) in
+    let have = have_at net g (map_of net names g) 0 channel port.channels less
     (loaded.shows g given).fields in
-    let zero : 0 + check.channel ≡ check.channel = omega arith in
+    let zero : 0 + channel ≡ channel = omega arith in
     append (AgreeAt v run) choices fields (choices_agree ps net names h K c.bits are ch run is v (sym same))
-    (fields_agree v run check.channel K channel_fields c.fields
+    (fields_agree v run channel K channel_fields c.fields
     (m.shows v ch t of same ∙ have ∙ ap (λ n. map (field_in (map_of net names g) n) channel_fields) zero
-    ∙ same_fields ps net names channels wants port ch K run loaded whole of is_run is check.channel)) in
+    ∙ same_fields ps net names channels wants port ch K run loaded whole of is_run is channel)) in
     record {
       before = m.before;
       last = m.last;
@@ -203,9 +207,9 @@ tight ps net names channels wants port check opts c loaded whole lawful are m =
           let alike = read_alike ps net names h K c.bits are v made.0 run (agree_front v run choices fields agree)
           (agree_front made.0 run choices fields theirs) in
           let one = m.verdict v e.0 t e.1 (sym (alike ∙ made.2)) in
-          let two = same_check ps net names channels wants port check opts e.0 run loaded whole e.1 le is_run e.2 in
+          let two = same_found ps net names channels wants port q opts e.0 run loaded whole e.1 le is_run e.2 in
           let to = λ (x : v c.formula.vars ≡ true). two.0 (one.0 x) in
-          let from = λ (x : IsAssumed ps run × (holds_over run channels wants check opts ≡ false)). one.1 (two.1 x) in
+          let from = λ (x : IsAssumed ps run × (given_over run channels wants q opts ≡ true)). one.1 (two.1 x) in
           (to, from);
-      fields = all_noted check.channel K choices channel_fields c.fields;
+      fields = all_noted channel K choices channel_fields c.fields;
     }

@@ -34,7 +34,7 @@ use Rattle.vl_lower_spec.specs.Maps.{cells_named, gathered, inputs_of, spot_numb
 use Rattle.vl_lower_spec.specs.Evaluations.{IsLowered}
 use Rattle.vl_lower_spec.proofs.Inputs.{input_at}
 use Rattle.ck_design.specs.Retirements.{values_at}
-use Rattle.ck_design.proofs.Violating.{IsRunOf}
+use Rattle.ck_design.proofs.Found.{IsRunOf}
 use Rattle.ck_design.specs.Notes.{source_note, spot_note}
 
 -- ---- bits of numbers

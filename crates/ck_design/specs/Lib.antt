@@ -1,5 +1,6 @@
 pub mod Loaded
 pub mod Retirements
+pub mod Findings
 pub mod Notes
 pub mod Tight
 pub mod Traces

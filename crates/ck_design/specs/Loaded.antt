@@ -1,5 +1,5 @@
--- Between functions: When a net with its names and its port is that of a design, and what its verdicts say of the design
--- (rule of this project).
+-- Between functions: When a net with its names and its port is that of a design, and that what is found in its runs is
+-- found in those of the design (rule of this project).
 use Rattle.std.specs.Prelude.{◌≡◌, ℕ, ◌+◌, ◌≤◌, List, [], ◌∷◌, None, length, map}
 use Rattle.std.specs.List.{AllByRecursion}
 use Rattle.rv_table.specs.declared.retire.Opts.{Opts}
@@ -22,11 +22,13 @@ use Rattle.rvfi_port.specs.Channels.{IsPortOf, nodes_of}
 use Rattle.rvfi_port.specs.Fields.{channel_fields, field_name, wanted_fields}
 use Rattle.rvfi_port.specs.Outputs.{refusal}
 use Rattle.rvfi_port.specs.Ports.{ArePortNodes}
-use Rattle.ck_cfg.specs.declared.check.Check.{Check}
+use Rattle.ck_ask.specs.Questions.{question_cycle, question_first}
+use Rattle.ck_ask.specs.declared.question.Question.{Question}
 use Rattle.ck_gen.specs.Retirements.{probe_at, retired_from}
-use Rattle.bm_decide.specs.Verdicts.{Violates}
+use Rattle.bm_decide.specs.Verdicts.{Gives}
 use Rattle.ck_design.specs.Retirements as design
-use Rattle.ck_design.specs.Retirements.{IsViolating, field_in, probe_in}
+use Rattle.ck_design.specs.Findings.{IsFound}
+use Rattle.ck_design.specs.Retirements.{field_in, probe_in}
 
 -- the nodes of channels, from one on, have the numbers of its fields
 abbrev pub HaveFields : Netlist → Given → Values → ℕ → List Channel → Type 0
@@ -66,23 +68,22 @@ BoundNetsAreLoaded =
     → IsPortOf old new names channels wants port → refusal names channels wants ≡ None
     → IsLoaded ps new names channels wants port
 
--- the run of the design with the choices of a run of its net that violates a check violates it too
-abbrev pub ViolationsAreTheDesigns : Type 0
-ViolationsAreTheDesigns =
-    (ps : List Part) (net : Netlist) (names : Names) (channels : ℕ) (wants : Wants) (port : Port) (check : Check)
+-- the run of the design with the choices of a run of its net that gives what is sought gives it too
+abbrev pub FindingsAreTheDesigns : Type 0
+FindingsAreTheDesigns =
+    (ps : List Part) (net : Netlist) (names : Names) (channels : ℕ) (wants : Wants) (port : Port) (q : Question)
     (opts : Opts) (ch : Choices) → IsLoaded ps net names channels wants port → IsNet net → AreChoicesOf net ch
-    → check.start ≤ check.cycle → Violates net port check opts ch
-    → IsViolating ps channels wants check opts (run_of net names ch check.cycle)
+    → question_first q ≤ question_cycle q → Gives net port q opts ch
+    → IsFound ps channels wants q opts (run_of net names ch (question_cycle q))
 
--- where a run of the design violates a check, a run of its net does
-pub record HasViolation (net : Netlist) (port : Port) (check : Check) (opts : Opts) : Type 0 where
+-- where a run of the design gives what is sought, a run of its net does
+pub record HasFinding (net : Netlist) (port : Port) (q : Question) (opts : Opts) : Type 0 where
   pub choices : Choices
   pub of : AreChoicesOf net choices
-  pub violates : Violates net port check opts choices
+  pub gives : Gives net port q opts choices
 
-abbrev pub ViolationsAreTheNets : Type 0
-ViolationsAreTheNets =
-    (ps : List Part) (net : Netlist) (names : Names) (channels : ℕ) (wants : Wants) (port : Port) (check : Check)
+abbrev pub FindingsAreTheNets : Type 0
+FindingsAreTheNets =
+    (ps : List Part) (net : Netlist) (names : Names) (channels : ℕ) (wants : Wants) (port : Port) (q : Question)
     (opts : Opts) (run : List Values) → IsLoaded ps net names channels wants port → IsNet net
-    → check.start ≤ check.cycle → IsViolating ps channels wants check opts run
-    → HasViolation net port check opts
+    → question_first q ≤ question_cycle q → IsFound ps channels wants q opts run → HasFinding net port q opts

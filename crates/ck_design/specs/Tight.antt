@@ -1,7 +1,7 @@
--- Meaning: When clauses with notes say exactly what the runs of a design are, and which of them violate a check (rule
--- of this project).
-use Rattle.std.specs.Prelude.{◌≡◌, ◌↔◌, ℕ, ◌+◌, ◌*◌, ◌<◌, ◌≤◌, ◌==◌, Bool, true, false, List, [], ◌∷◌, ◌++◌}
-use Rattle.std.specs.Prelude.{Some, slice_get, ℤ, pos}
+-- Meaning: When clauses with notes say exactly what the runs of a design are, and which of them give what a question
+-- seeks (rule of this project).
+use Rattle.std.specs.Prelude.{◌≡◌, ◌↔◌, ℕ, ◌+◌, ◌*◌, ◌<◌, ◌≤◌, ◌==◌, Bool, true, false, List, [], ◌∷◌, ◌++◌, Some}
+use Rattle.std.specs.Prelude.{slice_get, ℤ, pos}
 use Rattle.std.specs.Int.{bit_at}
 use Rattle.std.specs.List.{AllByRecursion}
 use Rattle.rv_table.specs.declared.retire.Opts.{Opts}
@@ -15,11 +15,13 @@ use Rattle.rvfi_port.specs.declared.field.Field.{Field}
 use Rattle.rvfi_port.specs.declared.port.Port.{Port}
 use Rattle.rvfi_port.specs.declared.port.Wants.{Wants}
 use Rattle.rvfi_port.specs.Fields.{channel_fields, field_name, field_width}
-use Rattle.ck_cfg.specs.declared.check.Check.{Check}
-use Rattle.ck_cfg.specs.Lawful.{IsCheck}
+use Rattle.ck_ask.specs.Asked.{IsQuestion}
+use Rattle.ck_ask.specs.Questions.{question_channel, question_cycle}
+use Rattle.ck_ask.specs.declared.question.Question.{Question}
 use Rattle.bm_decide.specs.declared.verdict.Certificate.{Certificate}
 use Rattle.bm_decide.specs.Verdicts as verdict
-use Rattle.ck_design.specs.Retirements.{holds_over, values_at}
+use Rattle.ck_design.specs.Findings.{given_over}
+use Rattle.ck_design.specs.Retirements.{values_at}
 use Rattle.ck_design.specs.Loaded.{IsLoaded}
 use Rattle.ck_design.specs.declared.note.Note.{Note}
 use Rattle.ck_design.specs.declared.note.NoteLiteral.{NoteLiteral}
@@ -49,31 +51,33 @@ pub record IsNoted (notes : List Note) (channel cycle : ℕ) (field : Field) (bi
   pub cycle_is : note.cycle ≡ cycle
   pub bit_is : note.bit ≡ channel * field_width field + bit
 
--- The last clause is one literal, the verdict. Each run up to the check's cycle agrees with exactly one model of the
+-- The last clause is one literal, the verdict. Each run up to the question's cycle agrees with exactly one model of the
 -- clauses before it, and each such model with a run. Where they agree, the verdict is true exactly where the run is
--- assumed and lacks the check's property. Each bit of each field of the check's channel in its cycle has a note.
-pub record IsTight (ps : List Part) (channels : ℕ) (wants : Wants) (check : Check) (opts : Opts) (notes : List Note)
+-- assumed and gives what is sought. Each bit of each field of the question's channel in its cycle has a note.
+pub record IsTight (ps : List Part) (channels : ℕ) (wants : Wants) (q : Question) (opts : Opts) (notes : List Note)
     (formula : Cnf) : Type 0 where
   pub before : List (List ℤ)
   pub last : formula.clauses ≡ before ++ (pos formula.vars ∷ []) ∷ []
-  pub model : (run : List Values) → IsRun ps check.cycle run
+  pub model : (run : List Values) → IsRun ps (question_cycle q) run
       → (v : ℕ → Bool) × (formula_true v before ≡ true) × Agree v run notes
-  pub one : (run : List Values) (v w : ℕ → Bool) → IsRun ps check.cycle run → formula_true v before ≡ true
+  pub one : (run : List Values) (v w : ℕ → Bool) → IsRun ps (question_cycle q) run → formula_true v before ≡ true
       → formula_true w before ≡ true → Agree v run notes → Agree w run notes
       → (k : ℕ) → 1 ≤ k → k ≤ formula.vars → v k ≡ w k
   pub run : (v : ℕ → Bool) → formula_true v before ≡ true
-      → (run : List Values) × IsRun ps check.cycle run × Agree v run notes
-  pub verdict : (v : ℕ → Bool) (run : List Values) → formula_true v before ≡ true → IsRun ps check.cycle run
+      → (run : List Values) × IsRun ps (question_cycle q) run × Agree v run notes
+  pub verdict : (v : ℕ → Bool) (run : List Values) → formula_true v before ≡ true → IsRun ps (question_cycle q) run
       → Agree v run notes
       → (v formula.vars ≡ true)
-      ↔ (IsAssumed ps run × (holds_over run channels wants check opts ≡ false))
+      ↔ (IsAssumed ps run × (given_over run channels wants q opts ≡ true))
   pub fields : AllByRecursion (λ field. (bit : ℕ) → bit < field_width field
-      → IsNoted notes check.channel check.cycle field bit) channel_fields
+      → IsNoted notes (question_channel q) (question_cycle q) field bit) channel_fields
 
--- the clauses that a check is decided by, with their notes, say so of the design of the net
+-- the clauses that a question is decided by, with their notes, say so of the design of the net
 abbrev pub CertificatesAreTight : Type 0
 CertificatesAreTight =
-    (ps : List Part) (net : Netlist) (names : Names) (channels : ℕ) (wants : Wants) (port : Port) (check : Check)
-    (opts : Opts) (c : Certificate) → IsLoaded ps net names channels wants port → IsNet net → IsCheck channels check
-    → verdict.AreBitsOf net check.cycle c.bits → verdict.IsTight net port check opts c
-    → IsTight ps channels wants check opts (notes_of names c.bits check.channel check.cycle c.fields) c.formula
+    (ps : List Part) (net : Netlist) (names : Names) (channels : ℕ) (wants : Wants) (port : Port) (q : Question)
+    (opts : Opts) (c : Certificate) → IsLoaded ps net names channels wants port → IsNet net → IsQuestion channels q
+    → verdict.AreBitsOf net (question_cycle q) c.bits
+    → verdict.AreOfRuns net (question_cycle q) (verdict.Gives net port q opts) (verdict.fields_in net port q) c
+    → IsTight ps channels wants q opts (notes_of names c.bits (question_channel q) (question_cycle q) c.fields)
+    c.formula

@@ -1,7 +1,7 @@
 //! The program: the words of its command line, the system's files and standard output, and the exit code.
 #![tactic(auto)]
 
-ghost use Rattle.std.specs.Prelude.{◌≡◌, map, string_bytes, [], IfOk, IfErr};
+ghost use Rattle.std.specs.Prelude.{◌≡◌, drop, map, string_bytes, [], IfOk, IfErr};
 ghost use Rattle.std.specs.Process.{exit_status};
 ghost use Rattle.rvf_core.specs.Outcome.{outside};
 ghost use Rattle.rvf_core.specs.Status.{code_of};
@@ -84,7 +84,18 @@ fn coded(status: Status) -> ExitCode
     ExitCode::from(status.code())
 }
 
-/// The words behind the program's name.
+/// The words behind the program's name, as the system tells them.
 fn words(rt: &(impl Env + Alloc<A = Global>), alloc: Global) -> io::Result<Vec<String>> {
-    Ok(env::args(rt)?.skip(1).collect(alloc)?)
+    Ok(behind_name(env::args(rt)?.collect(alloc)?))
+}
+
+/// All words but the first one, in order; none where there is none.
+fn behind_name(words: Vec<String>) -> Vec<String>
+    ensures { result.items ≡ drop 1 words.items }
+{
+    let mut words = words;
+    if !words.is_empty() {
+        words.remove(0);
+    }
+    words
 }

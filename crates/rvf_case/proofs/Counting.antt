@@ -1,6 +1,6 @@
--- There are few checks.
+-- There are few questions.
 use Rattle.std.proofs.Common.{◌≡◌, ℕ, zero, suc, ◌+◌, ◌*◌, ◌^◌, ◌<◌, ◌≤◌, Bool, not, List, [], ◌∷◌, length, Option}
-use Rattle.std.proofs.Common.{Some, None, refl, sym, ◌∙◌, ap, subst, arith}
+use Rattle.std.proofs.Common.{Some, None, refl, sym, ◌∙◌, ap, subst, arith, lit≤}
 use Rattle.std.specs.Prelude.{option_map, option_to_list}
 use Rattle.std.specs.List.{filter, flat_map, range_with_len}
 use Rattle.std.proofs.lemmas.List.{length-append, length-map}
@@ -18,8 +18,12 @@ use Rattle.ck_cfg.specs.declared.kind.CheckKind.TheVariants.{Imem, Dmem}
 use Rattle.ck_cfg.specs.Checks.{channel_check, channel_checks, check_at, checks_of, depth_for, is_named, isa_rows}
 use Rattle.ck_cfg.specs.Checks.{kind_checks, kind_rows, listed_checks, moved}
 use Rattle.ck_cfg.specs.Kind.{kinds}
-use Rattle.rvf_case.specs.Steps.{factors_of, kept_for}
-use Rattle.rvf_case.specs.Texts.{is_same_text}
+use Rattle.rvf_case.specs.Texts.{is_same_text, factors_of, questions_of, with_text}
+use Rattle.ck_ask.specs.Questions.{question_cycle, question_kind}
+use Rattle.ck_ask.specs.declared.question.Question.{Question}
+use Rattle.ck_ask.specs.declared.question.Question.TheVariants as question
+use Rattle.rvf_case.specs.declared.asking.Asking.{Asking}
+use Rattle.rvf_case.specs.declared.asking.Asking.TheVariants as asking
 
 -- what is kept of a list is no longer
 pub fewer : {X : Type 0} (p : X → Bool) (xs : List X) → length (filter p xs) ≤ length xs
@@ -100,13 +104,20 @@ pub few_checks : (c : Config) → c.nret ≤ 2 → length (checks_of c) ≤ 1400
 few_checks c e =
     subst (λ n. n ≤ 1400) (sym (moved_count c.sort (listed_checks c))) (ten_kinds (kind_checks c) (few_of_kind c e))
 
-pub few_factors : (c : Config) (kind : CheckKind) (checks : List Check) (factors : List ℕ) → c.nret ≤ 2
-    → checks ≡ checks_of c → factors ≡ factors_of (kept_for c kind checks) → length factors < 2 ^ 32
-few_factors c kind checks factors n e f =
-    let a : length factors ≡ length (kept_for c kind checks) =
-    ap length f ∙ length-map (kept_for c kind checks) (λ (x : Check). x.cycle + 1) in
-    let b : length (kept_for c kind checks) ≤ length checks = fewer (λ x. is_same_text c kind x.kind) checks in
-    let d : length checks ≤ 1400 = subst (λ xs. length xs ≤ 1400) (sym e) (few_checks c n) in
-    small (length factors) (length (kept_for c kind checks)) (length checks) a b d where
-      small : (a b d : ℕ) → a ≡ b → b ≤ d → d ≤ 1400 → a < 2 ^ 32
+-- and so there are few questions
+pub few_questions : (a : Asking) (c : Config) → c.nret ≤ 2 → length (questions_of a c) < 2 ^ 32
+few_questions asking.Checks c e =
+    let many = length-map (checks_of c) (λ (x : Check). question.Check x) in
+    let few = few_checks c e in
+    let most : 1400 < 2 ^ 32 = lit≤ tt in
+    omega (arith, many, few, most)
+
+pub few_factors : (c : Config) (kind : CheckKind) (qs : List Question) (factors : List ℕ) → length qs < 2 ^ 32
+    → factors ≡ factors_of (with_text c kind qs) → length factors < 2 ^ 32
+few_factors c kind qs factors few f =
+    let a : length factors ≡ length (with_text c kind qs) =
+    ap length f ∙ length-map (with_text c kind qs) (λ (q : Question). question_cycle q + 1) in
+    let b : length (with_text c kind qs) ≤ length qs = fewer (λ q. is_same_text c kind (question_kind q)) qs in
+    small (length factors) (length (with_text c kind qs)) (length qs) a b few where
+      small : (a b d : ℕ) → a ≡ b → b ≤ d → d < 2 ^ 32 → a < 2 ^ 32
       small a b d e f g = omega arith

@@ -3,11 +3,9 @@ use Rattle.std.proofs.Common.{◌≡◌, ℕ, List, [], ◌∷◌, ◌++◌, Som
 use Rattle.std.specs.Prelude.{map, slice_get}
 use Rattle.std.specs.List.{AllByRecursion}
 use Rattle.fv_base.specs.Outside.{Names, Told}
-use Rattle.ck_cfg.specs.declared.check.Check.{Check}
 use Rattle.ck_cfg.specs.declared.config.Config.{Config}
 use Rattle.ck_cfg.specs.declared.fault.CfgFault.{CfgFault}
 use Rattle.ck_cfg.specs.declared.kind.CheckKind.{CheckKind}
-use Rattle.ck_cfg.specs.Checks.{checks_of}
 use Rattle.ck_cfg.specs.Reading.{config_of}
 use Rattle.rvf_load.specs.Loads.{Answers, Asked, IsLoadedFrom, IsRefused, IsSame, IsTheRefusal, NoneRefuses}
 use Rattle.rvf_load.specs.declared.fault.LoadFault.{LoadFault}
@@ -15,13 +13,14 @@ use Rattle.rvf_load.specs.declared.fault.LoadFault.TheVariants as load
 use Rattle.rvf_load.specs.declared.loaded.Loaded.{Loaded}
 use Rattle.rvf_case.specs.Cases.{Alike, AreLoaded, AreRead, Comes, IsCase, IsCause, IsConfigured, IsMisconfigured}
 use Rattle.rvf_case.specs.Cases.{IsNext, IsRefusedSource, IsRefusedText, Request, Seen, configuration, names_in}
-use Rattle.rvf_case.specs.Cases.{verilog}
+use Rattle.rvf_case.specs.Cases.{verilog, questions_in}
 use Rattle.rvf_case.specs.Steps.{AreLoadedInTurn, IsNotHeavy, Prepares, Stands, StopsAt}
-use Rattle.rvf_case.specs.Texts.{asked_for, leaders, sharing}
+use Rattle.rvf_case.specs.Texts.{asked_for, leaders, with_text}
 use Rattle.rvf_case.specs.declared.case.Case.{Case}
 use Rattle.rvf_case.specs.declared.case.LoadedText.{LoadedText}
 use Rattle.rvf_case.specs.declared.refusal.Refusal.{Refusal}
 use Rattle.rvf_case.specs.declared.refusal.Refusal.TheVariants as refusal
+use Rattle.ck_ask.specs.Questions.{question_name}
 
 -- ---- texts that are loaded one after the other
 
@@ -126,21 +125,25 @@ module _ (ask : CheckKind → Asked) where
 is_case : (r : Request) (held : Told) (case : Case) → Stands r held (Ok case) → IsCase r held case
 is_case r held case h =
     let back = sym h.loads.config_is in
+    let asked = questions_in r h.config in
     record {
       configured = subst (IsConfigured r held) back h.configured;
-      checks_are = h.loads.checks_are ∙ ap checks_of back;
+      questions_are = h.loads.questions_are ∙ ap (questions_in r) back;
       files = h.files;
       read = subst (λ c. AreRead held (names_in r c) h.files) back h.read;
-      loaded = subst (λ c. AreLoaded c h.files (leaders c) case.texts) back (record {
-        kinds_are = h.loads.loaded.kinds_are;
-        each = are_of (asked_for h.config h.files) case.texts h.loads.loaded.each;
-        unrefused = subst (λ kinds. NoneIsRefused (asked_for h.config h.files) kinds) h.loads.loaded.kinds_are
-            (unrefused_of (asked_for h.config h.files) case.texts h.loads.loaded.each);
-      });
+      loaded = subst (λ c. AreLoaded c h.files case.questions case.texts) back
+          (subst (λ qs. AreLoaded h.config h.files qs case.texts) (sym h.loads.questions_are) (record {
+            kinds_are = h.loads.loaded.kinds_are;
+            each = are_of (asked_for h.config h.files asked) case.texts h.loads.loaded.each;
+            unrefused = subst (λ kinds. NoneIsRefused (asked_for h.config h.files asked) kinds)
+                h.loads.loaded.kinds_are
+                (unrefused_of (asked_for h.config h.files asked) case.texts h.loads.loaded.each);
+          }));
     }
 
 refused_text : (r : Request) (held : Told) (c : Config) (files : List (List ℕ)) (kind : CheckKind) (f : LoadFault)
-    → IsConfigured r held c → AreRead held (names_in r c) files → StopsAt (asked_for c files) (leaders c) kind f
+    → IsConfigured r held c → AreRead held (names_in r c) files
+    → StopsAt (asked_for c files (questions_in r c)) (leaders c (questions_in r c)) kind f
     → IsRefusedText r held c kind f
 refused_text r held c files kind f k read h = record {
   configured = k;
@@ -149,7 +152,7 @@ refused_text r held c files kind f k read h = record {
   before = map (λ x. x.kind) h.before;
   behind = h.behind;
   order = h.order;
-  unrefused = unrefused_of (asked_for c files) h.before h.each;
+  unrefused = unrefused_of (asked_for c files (questions_in r c)) h.before h.each;
   refused = h.refused.is;
 }
 
@@ -182,7 +185,7 @@ comes (Err (refusal.Heavy name number)) r seen h = record {
   place = h.loads.place;
   refused = refused_text r seen.held h.config h.files h.loads.kind (load.Heavy h.loads.place number) h.configured
       h.read h.loads.stops;
-  check = h.loads.named.check;
+  question = h.loads.named.question;
   there = h.loads.named.there;
   name_is = h.loads.named.name_is;
 }
@@ -340,15 +343,22 @@ module _ (r : Request) (names : Names) where
   abbrev stands_read : (result : Result Case Refusal) → Stands r (Some names) result → IsRead
   stands_read result h = record { config = h.config; configured = h.configured; files = h.files; read = h.read }
 
+  -- what is asked of the texts of this configuration and these files
+  abbrev ask_here : IsRead → CheckKind → Asked
+  ask_here a = asked_for a.config a.files (questions_in r a.config)
+
+  abbrev leaders_here : IsRead → List CheckKind
+  leaders_here a = leaders a.config (questions_in r a.config)
+
   -- what another answer says, by this configuration and these files
   stops_here : (a : IsRead) (c : Config) (kind : CheckKind) (f : LoadFault) → IsRefusedText r (Some names) c kind f
-      → Stops (asked_for a.config a.files) (leaders a.config) kind f
+      → Stops (ask_here a) (leaders_here a) kind f
   stops_here a c kind f h =
       let e : c ≡ a.config = one_config c a.config h.configured a.configured in
       let k : IsRefusedText r (Some names) a.config kind f =
       subst (λ c. IsRefusedText r (Some names) c kind f) e h in
       let g : k.files ≡ a.files = one_reading (names_in r a.config) k.files a.files k.read a.read in
-      subst (λ fs. Stops (asked_for a.config fs) (leaders a.config) kind f) g (record {
+      subst (λ fs. Stops (asked_for a.config fs (questions_in r a.config)) (leaders_here a) kind f) g (record {
         before = k.before;
         behind = k.behind;
         order = k.order;
@@ -357,15 +367,16 @@ module _ (r : Request) (names : Names) where
       })
 
   loads_here : (a : IsRead) (case : Case) → IsCase r (Some names) case
-      → AreLoaded a.config a.files (leaders a.config) case.texts
+      → AreLoaded a.config a.files (questions_in r a.config) case.texts
   loads_here a case h =
       let e : case.config ≡ a.config = one_config case.config a.config h.configured a.configured in
-      let k : AreLoaded a.config h.files (leaders a.config) case.texts =
-      subst (λ c. AreLoaded c h.files (leaders c) case.texts) e h.loaded in
+      let k : AreLoaded a.config h.files (questions_in r a.config) case.texts =
+      subst (λ c. AreLoaded c h.files (questions_in r c) case.texts) e
+      (subst (λ qs. AreLoaded case.config h.files qs case.texts) h.questions_are h.loaded) in
       let i : AreRead (Some names) (names_in r a.config) h.files =
       subst (λ c. AreRead (Some names) (names_in r c) h.files) e h.read in
       let g : h.files ≡ a.files = one_reading (names_in r a.config) h.files a.files i a.read in
-      subst (λ fs. AreLoaded a.config fs (leaders a.config) case.texts) g k
+      subst (λ fs. AreLoaded a.config fs (questions_in r a.config) case.texts) g k
 
   module _ (misses misses_now faults faults_now : ℕ) where
     abbrev seen : Seen
@@ -386,10 +397,10 @@ module _ (r : Request) (names : Names) where
     alike_case case (Err (refusal.Config f)) h k = no_fault h.config f h.configured k
     alike_case case (Err (refusal.Source f others)) h k =
         let s : IsRefusedSource r (Some names) f others = source_of_cause f r seen others k in
-        loaded_never_stops (asked_for h.config h.files) (leaders h.config) case.texts s.kind f h.loads.loaded
+        loaded_never_stops (asked_for h.config h.files (questions_in r h.config)) (leaders h.config (questions_in r h.config)) case.texts s.kind f h.loads.loaded
         (stops_here (stands_read (Ok case) h) s.config s.kind f s.refused)
     alike_case case (Err (refusal.Heavy name number)) h k =
-        loaded_never_stops (asked_for h.config h.files) (leaders h.config) case.texts k.kind
+        loaded_never_stops (asked_for h.config h.files (questions_in r h.config)) (leaders h.config (questions_in r h.config)) case.texts k.kind
         (load.Heavy k.place number) h.loads.loaded
         (stops_here (stands_read (Ok case) h) k.config k.kind (load.Heavy k.place number) k.refused)
 
@@ -422,9 +433,9 @@ module _ (r : Request) (names : Names) where
         → Stands r (Some names) (Err (refusal.Source f all)) → Comes r seen other
         → Alike (Err (refusal.Source f all)) other
     alike_source f all (Ok d) h k =
-        let l : AreLoaded h.config h.files (leaders h.config) d.texts =
+        let l : AreLoaded h.config h.files (questions_in r h.config) d.texts =
         loads_here (stands_read (Err (refusal.Source f all)) h) d k in
-        stopped_never_loads (asked_for h.config h.files) (leaders h.config) d.texts h.loads.0.kind f h.loads.0.stops
+        stopped_never_loads (asked_for h.config h.files (questions_in r h.config)) (leaders h.config (questions_in r h.config)) d.texts h.loads.0.kind f h.loads.0.stops
         l.kinds_are l.each
     alike_source f all (Err refusal.Memory) h k = tt
     alike_source f all (Err (refusal.Unread m)) h k = tt
@@ -433,7 +444,7 @@ module _ (r : Request) (names : Names) where
     alike_source f all (Err (refusal.Config g)) h k = no_fault h.config g h.configured k
     alike_source f all (Err (refusal.Source g others)) h k =
         let s : IsRefusedSource r (Some names) g others = source_of_cause g r seen others k in (
-          (stops_once (asked_for h.config h.files) (leaders h.config) h.loads.0.kind s.kind f g h.loads.0.stops
+          (stops_once (asked_for h.config h.files (questions_in r h.config)) (leaders h.config (questions_in r h.config)) h.loads.0.kind s.kind f g h.loads.0.stops
               (stops_here (stands_read (Err (refusal.Source f all)) h) s.config s.kind g s.refused)).1,
           s.names_are
               ∙ ap (λ c. r.cfg ∷ names_in r c) (one_config s.config h.config s.refused.configured h.configured)
@@ -441,7 +452,7 @@ module _ (r : Request) (names : Names) where
         )
     alike_source f all (Err (refusal.Heavy name number)) h k =
         heavy_alone f k.place number h.loads.0.light
-        (stops_once (asked_for h.config h.files) (leaders h.config) h.loads.0.kind k.kind f
+        (stops_once (asked_for h.config h.files (questions_in r h.config)) (leaders h.config (questions_in r h.config)) h.loads.0.kind k.kind f
         (load.Heavy k.place number) h.loads.0.stops
         (stops_here (stands_read (Err (refusal.Source f all)) h) k.config k.kind (load.Heavy k.place number)
         k.refused)).1
@@ -450,9 +461,9 @@ module _ (r : Request) (names : Names) where
         → Stands r (Some names) (Err (refusal.Heavy name number)) → Comes r seen other
         → Alike (Err (refusal.Heavy name number)) other
     alike_heavy name number (Ok d) h k =
-        let l : AreLoaded h.config h.files (leaders h.config) d.texts =
+        let l : AreLoaded h.config h.files (questions_in r h.config) d.texts =
         loads_here (stands_read (Err (refusal.Heavy name number)) h) d k in
-        stopped_never_loads (asked_for h.config h.files) (leaders h.config) d.texts h.loads.kind
+        stopped_never_loads (asked_for h.config h.files (questions_in r h.config)) (leaders h.config (questions_in r h.config)) d.texts h.loads.kind
         (load.Heavy h.loads.place number) h.loads.stops l.kinds_are l.each
     alike_heavy name number (Err refusal.Memory) h k = tt
     alike_heavy name number (Err (refusal.Unread m)) h k = tt
@@ -462,22 +473,24 @@ module _ (r : Request) (names : Names) where
     alike_heavy name number (Err (refusal.Source g others)) h k =
         let s : IsRefusedSource r (Some names) g others = source_of_cause g r seen others k in
         heavy_is_not g h.loads.place number (not_heavy g r seen others k)
-        (stops_once (asked_for h.config h.files) (leaders h.config) h.loads.kind s.kind
+        (stops_once (asked_for h.config h.files (questions_in r h.config)) (leaders h.config (questions_in r h.config)) h.loads.kind s.kind
         (load.Heavy h.loads.place number) g h.loads.stops
         (stops_here (stands_read (Err (refusal.Heavy name number)) h) s.config s.kind g s.refused)).1
     alike_heavy name number (Err (refusal.Heavy m n)) h k =
         let o : (k.kind ≡ h.loads.kind) × IsSame (load.Heavy h.loads.place number) (load.Heavy k.place n) =
-        stops_once (asked_for h.config h.files) (leaders h.config) h.loads.kind k.kind
+        stops_once (asked_for h.config h.files (questions_in r h.config)) (leaders h.config (questions_in r h.config)) h.loads.kind k.kind
         (load.Heavy h.loads.place number) (load.Heavy k.place n) h.loads.stops
         (stops_here (stands_read (Err (refusal.Heavy name number)) h) k.config k.kind (load.Heavy k.place n)
         k.refused) in
         let p : (k.place ≡ h.loads.place) × (n ≡ number) = same_heavy h.loads.place number k.place n o.1 in
         let e : k.config ≡ h.config = one_config k.config h.config k.refused.configured h.configured in
-        let check : k.check ≡ h.loads.named.check =
-        same_some k.check h.loads.named.check (sym k.there ∙ ap (λ c. slice_get (sharing c k.kind) k.place) e
-        ∙ ap (λ kind. slice_get (sharing h.config kind) k.place) o.0
-        ∙ ap (λ at. slice_get (sharing h.config h.loads.kind) at) p.0 ∙ h.loads.named.there) in
-        (k.name_is ∙ ap (λ (x : Check). x.name) check ∙ sym h.loads.named.name_is, p.1)
+        let question : k.question ≡ h.loads.named.question =
+        same_some k.question h.loads.named.question
+        (sym k.there ∙ ap (λ c. slice_get (with_text c k.kind (questions_in r c)) k.place) e
+        ∙ ap (λ kind. slice_get (with_text h.config kind (questions_in r h.config)) k.place) o.0
+        ∙ ap (λ n. slice_get (with_text h.config h.loads.kind (questions_in r h.config)) n) p.0
+        ∙ h.loads.named.there) in
+        (k.name_is ∙ ap question_name question ∙ sym h.loads.named.name_is, p.1)
 
     pub alike : (result other : Result Case Refusal) → Prepares r seen result → Comes r seen other
         → Alike result other

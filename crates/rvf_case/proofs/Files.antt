@@ -4,7 +4,7 @@ use Rattle.std.proofs.Common.{Result, Ok, Err, sym, ◌∙◌, ap, subst, arith}
 use Rattle.std.proofs.lemmas.List.{take_more}
 use Rattle.fv_base.specs.Outside.{Told, Lacks, ReadGives, Rose, SameFiles}
 use Rattle.ck_cfg.specs.declared.config.Config.{Config}
-use Rattle.rvf_case.specs.Cases.{AreRead, IsConfigured, Request, Seen, configuration, names_in, verilog}
+use Rattle.rvf_case.specs.Cases.{AreRead, IsConfigured, Request, Seen, configuration, names_in, verilog, questions_in}
 use Rattle.rvf_case.specs.Steps.{Configures, Loads, Prepares, ReadsFile, ReadsFiles, Says}
 use Rattle.rvf_case.specs.declared.case.Case.{Case}
 use Rattle.rvf_case.specs.declared.refusal.Refusal.{Refusal}
@@ -153,7 +153,7 @@ files_stop (refusal.Heavy name number) r seen c held misses faults k s m n h = a
 -- all files are read
 pub stands : (result : Result Case Refusal) (r : Request) (seen : Seen) (c : Config) (files : List (List ℕ))
     → IsConfigured r seen.held c → AreRead seen.held (names_in r c) files
-    → Loads (r.cfg ∷ names_in r c) c files result → Prepares r seen result
+    → Loads (r.cfg ∷ names_in r c) c files (questions_in r c) result → Prepares r seen result
 stands (Ok case) r seen c files k h l = record { config = c; configured = k; files = files; read = h; loads = l }
 stands (Err refusal.Memory) r seen c files k h l = tt
 stands (Err (refusal.Absent name)) r seen c files k h l = absurd l

@@ -1,4 +1,4 @@
-pub mod Asking
+pub mod AskedQuestions
 pub mod Counting
 pub mod Exactness
 pub mod Files

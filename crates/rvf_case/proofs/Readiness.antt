@@ -1,4 +1,4 @@
--- What is loaded of each check's text is fit for the check.
+-- What is loaded of each question's text is fit for the question.
 use Rattle.std.proofs.Common.{◌≡◌, ℕ, ◌≤◌, Bool, true, false, cond, ◌||◌, List, [], ◌∷◌, Some, Ok, refl, sym, ◌∙◌}
 use Rattle.std.proofs.Common.{ap, subst, inl, inr}
 use Rattle.std.specs.Prelude.{map}
@@ -11,14 +11,21 @@ use Rattle.ck_cfg.specs.declared.kind.CheckKind.TheVariants as kind
 use Rattle.ck_cfg.specs.Checks.{checks_of}
 use Rattle.ck_cfg.specs.Kind.{is_kind, kind_name}
 use Rattle.ck_cfg.specs.Lawful.{HasLawfulChecks, IsCheck}
+use Rattle.vl_lower_spec.proofs.Graphic.{names_graphic}
 use Rattle.ck_gen.specs.Monitors.{HasProbe}
 use Rattle.rvf_load.specs.Loads.{Answers, Asked, IsLoadedFrom}
 use Rattle.rvf_load.specs.declared.loaded.Loaded.{Loaded}
 use Rattle.rvf_case.specs.Cases.{IsFit, IsReady, text_among}
 use Rattle.rvf_case.specs.Steps.{AreLoadedInTurn, has_same}
-use Rattle.rvf_case.specs.Texts.{asked_for, is_same_text, leaders}
+use Rattle.rvf_case.specs.Texts.{asked_for, is_same_text, leaders, questions_of}
 use Rattle.rvf_case.specs.declared.case.LoadedText.{LoadedText}
 use Rattle.rvf_case.proofs.Sames.{IsIn, equal_bytes, led}
+use Rattle.ck_ask.specs.Asked.{HasItsProbe, IsQuestion}
+use Rattle.ck_ask.specs.Questions.{question_kind}
+use Rattle.ck_ask.specs.declared.question.Question.{Question}
+use Rattle.ck_ask.specs.declared.question.Question.TheVariants as question
+use Rattle.rvf_case.specs.declared.asking.Asking.{Asking}
+use Rattle.rvf_case.specs.declared.asking.Asking.TheVariants as asking
 
 or_false : (a b : Bool) → a ≡ false → (a || b) ≡ true → b ≡ true
 or_false true b f t = absurd (false≢true (sym f))
@@ -45,52 +52,52 @@ kept_kind p kind (y ∷ ys) x (inr i) t k = step (p y) (kept_kind p kind ys x i 
   step true h = or_second (is_kind y.kind kind) (has_kind kind (filter p ys)) h
   step false h = h
 
--- the text among these that stands for a check's
-pub record HasText (c : Config) (ask : CheckKind → Asked) (x : Check) (texts : List LoadedText) : Type 0 where
+-- the text among these that stands for that of a kind
+pub record HasText (c : Config) (ask : CheckKind → Asked) (kind : CheckKind) (texts : List LoadedText) : Type 0 where
   pub text : LoadedText
-  pub there : text_among c x texts ≡ Some text.loaded
-  pub same : is_same_text c text.kind x.kind ≡ true
+  pub there : text_among c kind texts ≡ Some text.loaded
+  pub same : is_same_text c text.kind kind ≡ true
   pub loaded : IsLoadedFrom (ask text.kind) text.loaded
 
-has_text : (c : Config) (ask : CheckKind → Asked) (x : Check) (texts : List LoadedText)
+has_text : (c : Config) (ask : CheckKind → Asked) (kind : CheckKind) (texts : List LoadedText)
     → AllByRecursion (λ t. Answers (ask t.kind) (Ok t.loaded)) texts
-    → has_same c (map (λ t. t.kind) texts) x.kind ≡ true → HasText c ask x texts
-has_text c ask x [] a h = absurd (false≢true h)
-has_text c ask x (t ∷ ts) a h =
-    step (is_same_text c t.kind x.kind) refl (has_text c ask x ts a.1) where
-      step : (b : Bool) → is_same_text c t.kind x.kind ≡ b
-          → (has_same c (map (λ t. t.kind) ts) x.kind ≡ true → HasText c ask x ts) → HasText c ask x (t ∷ ts)
+    → has_same c (map (λ t. t.kind) texts) kind ≡ true → HasText c ask kind texts
+has_text c ask kind [] a h = absurd (false≢true h)
+has_text c ask kind (t ∷ ts) a h =
+    step (is_same_text c t.kind kind) refl (has_text c ask kind ts a.1) where
+      step : (b : Bool) → is_same_text c t.kind kind ≡ b
+          → (has_same c (map (λ t. t.kind) ts) kind ≡ true → HasText c ask kind ts) → HasText c ask kind (t ∷ ts)
       step true e behind = record {
         text = t;
-        there = ap (λ b. cond b (Some t.loaded) (text_among c x ts)) e;
+        there = ap (λ b. cond b (Some t.loaded) (text_among c kind ts)) e;
         same = e;
         loaded = a.0.0;
       }
       step false e behind =
-          let r : HasText c ask x ts =
-          behind (or_false (is_same_text c t.kind x.kind) (has_same c (map (λ t. t.kind) ts) x.kind) e h) in
+          let r : HasText c ask kind ts =
+          behind (or_false (is_same_text c t.kind kind) (has_same c (map (λ t. t.kind) ts) kind) e h) in
           record {
             text = r.text;
-            there = ap (λ b. cond b (Some t.loaded) (text_among c x ts)) e ∙ r.there;
+            there = ap (λ b. cond b (Some t.loaded) (text_among c kind ts)) e ∙ r.there;
             same = r.same;
             loaded = r.loaded;
           }
 
-has_probe : (c : Config) (files : List (List ℕ)) (leader : CheckKind) (x : Check) (l : Loaded)
-    → IsIn x (checks_of c) → is_same_text c leader x.kind ≡ true → IsLoadedFrom (asked_for c files leader) l
+has_probe : (c : Config) (files : List (List ℕ)) (qs : List Question) (leader : CheckKind) (x : Check) (l : Loaded)
+    → IsIn x (checks_of c) → is_same_text c leader x.kind ≡ true → IsLoadedFrom (asked_for c files qs leader) l
     → (k : CheckKind) → x.kind ≡ k → HasProbe l.port k
-has_probe c files leader x l i s h kind.Insn e = tt
-has_probe c files leader x l i s h kind.Ill e = tt
-has_probe c files leader x l i s h kind.Reg e = tt
-has_probe c files leader x l i s h kind.PcFwd e = tt
-has_probe c files leader x l i s h kind.PcBwd e = tt
-has_probe c files leader x l i s h kind.Causal e = tt
-has_probe c files leader x l i s h kind.Unique e = tt
-has_probe c files leader x l i s h kind.Liveness e = tt
-has_probe c files leader x l i s h kind.Imem e =
+has_probe c files qs leader x l i s h kind.Insn e = tt
+has_probe c files qs leader x l i s h kind.Ill e = tt
+has_probe c files qs leader x l i s h kind.Reg e = tt
+has_probe c files qs leader x l i s h kind.PcFwd e = tt
+has_probe c files qs leader x l i s h kind.PcBwd e = tt
+has_probe c files qs leader x l i s h kind.Causal e = tt
+has_probe c files qs leader x l i s h kind.Unique e = tt
+has_probe c files qs leader x l i s h kind.Liveness e = tt
+has_probe c files qs leader x l i s h kind.Imem e =
     h.imem (kept_kind (λ y. is_same_text c leader y.kind) kind.Imem (checks_of c) x i s
     (ap (λ k. is_kind k kind.Imem) e ∙ equal_bytes (kind_name kind.Imem)))
-has_probe c files leader x l i s h kind.Dmem e =
+has_probe c files qs leader x l i s h kind.Dmem e =
     h.dmem (kept_kind (λ y. is_same_text c leader y.kind) kind.Dmem (checks_of c) x i s
     (ap (λ k. is_kind k kind.Dmem) e ∙ equal_bytes (kind_name kind.Dmem)))
 
@@ -100,34 +107,68 @@ all_in : {X : Type 0} (P Q : X → Type 0) (xs ys : List X) → AllByRecursion P
 all_in P Q xs [] a i f = tt
 all_in P Q xs (y ∷ ys) a i f = (f y a.0 (i y (inl refl)), all_in P Q xs ys a.1 (λ x j. i x (inr j)) f)
 
-abbrev pub IsFitFor : Config → List LoadedText → Check → Type 0
-IsFitFor c texts x = (l : Loaded) × (text_among c x texts ≡ Some l) × IsFit c.nret x l
+-- ---- questions of checks
 
-fit_for : (c : Config) (files : List (List ℕ)) (texts : List LoadedText)
-    → AreLoadedInTurn (asked_for c files) (leaders c) texts → c.nret ≤ 2 → (x : Check) → IsCheck c.nret x
-    → IsIn x (checks_of c) → IsFitFor c texts x
-fit_for c files texts h n x k i =
-    let r : HasText c (asked_for c files) x texts =
-    has_text c (asked_for c files) x texts h.each
-    (ap (λ kinds. has_same c kinds x.kind) h.kinds_are ∙ led c (checks_of c) [] x i) in (
+-- the check of a question that is asked for each of some checks is among these
+same_check : (x y : Check) → question.Check x ≡ question.Check y → x ≡ y
+same_check x y e = cc
+
+check_in : (x : Check) (xs : List Check) → IsIn (question.Check x) (map (λ y. question.Check y) xs) → IsIn x xs
+check_in x [] i = absurd i
+check_in x (y ∷ ys) (inl e) = inl (same_check x y e)
+check_in x (y ∷ ys) (inr i) = inr (check_in x ys i)
+
+checks_lawful : (n : ℕ) (xs : List Check) → AllByRecursion (IsCheck n) xs
+    → AllByRecursion (IsQuestion n) (map (λ y. question.Check y) xs)
+checks_lawful n [] h = tt
+checks_lawful n (x ∷ xs) h = (h.0, checks_lawful n xs h.1)
+
+pub questions_lawful : (a : Asking) (c : Config) → HasLawfulChecks c
+    → AllByRecursion (IsQuestion c.nret) (questions_of a c)
+questions_lawful asking.Checks c h = checks_lawful c.nret (checks_of c) h
+
+-- what is loaded of a text that a question has, has its probe
+has_its_probe : (a : Asking) (c : Config) (files : List (List ℕ)) (qs : List Question) (leader : CheckKind)
+    (q : Question) (l : Loaded) → IsIn q (questions_of a c) → is_same_text c leader (question_kind q) ≡ true
+    → IsLoadedFrom (asked_for c files qs leader) l → HasItsProbe l.port q
+has_its_probe asking.Checks c files qs leader (question.Check x) l i s h =
+    has_probe c files qs leader x l (check_in x (checks_of c) i) s h x.kind refl
+
+abbrev pub IsFitFor : Config → List LoadedText → Question → Type 0
+IsFitFor c texts q = (l : Loaded) × (text_among c (question_kind q) texts ≡ Some l) × IsFit c.nret q l
+
+fit_for : (a : Asking) (c : Config) (files : List (List ℕ)) (texts : List LoadedText)
+    → AreLoadedInTurn (asked_for c files (questions_of a c)) (leaders c (questions_of a c)) texts → c.nret ≤ 2
+    → (q : Question) → IsQuestion c.nret q → IsIn q (questions_of a c) → IsFitFor c texts q
+fit_for a c files texts h n q k i =
+    let qs = questions_of a c in
+    let kind = question_kind q in
+    let r : HasText c (asked_for c files qs) kind texts =
+    has_text c (asked_for c files qs) kind texts h.each
+    (ap (λ kinds. has_same c kinds kind) h.kinds_are ∙ led c qs [] q i) in (
       r.text.loaded,
       r.there,
       record {
         names = r.loaded.loaded.lowered.named;
+        graphic = names_graphic r.loaded.flat.decls r.loaded.flat.drivers r.loaded.flat.starts r.text.loaded.net
+            r.text.loaded.names r.loaded.flat.lawful.kept r.loaded.loaded.lowered;
         port = r.loaded.loaded.nodes;
         many = r.loaded.loaded.many;
-        check = k;
+        lawful = k;
         few = n;
-        probe = has_probe c files r.text.kind x r.text.loaded i r.same r.loaded x.kind refl;
+        probe = has_its_probe a c files qs r.text.kind q r.text.loaded i r.same r.loaded;
         inputs = r.loaded.few.inputs;
         state = r.loaded.few.state;
       },
     )
 
 -- a case is ready
-pub ready : (c : Config) (files : List (List ℕ)) (checks : List Check) (texts : List LoadedText)
-    → checks ≡ checks_of c → AreLoadedInTurn (asked_for c files) (leaders c) texts → HasLawfulChecks c → c.nret ≤ 2
-    → IsReady (record { config = c; checks = checks; texts = texts })
-ready c files checks texts e h l n =
+pub ready : (a : Asking) (c : Config) (files : List (List ℕ)) (qs : List Question) (texts : List LoadedText)
+    → qs ≡ questions_of a c → AreLoadedInTurn (asked_for c files qs) (leaders c qs) texts
+    → HasLawfulChecks c → c.nret ≤ 2 → IsReady (record { config = c; questions = qs; texts = texts })
+ready a c files qs texts e h l n =
+    let all = questions_of a c in
+    let loaded = subst (λ (xs : List Question). AreLoadedInTurn (asked_for c files xs) (leaders c xs) texts) e h in
     subst (AllByRecursion (IsFitFor c texts)) (sym e)
-    (all_in (IsCheck c.nret) (IsFitFor c texts) (checks_of c) (checks_of c) l (λ x i. i) (fit_for c files texts h n))
+    (all_in (IsQuestion c.nret) (IsFitFor c texts) all all (questions_lawful a c l) (λ q i. i)
+    (fit_for a c files texts loaded n))

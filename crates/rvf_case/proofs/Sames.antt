@@ -5,7 +5,8 @@ use Rattle.std.specs.Prelude.{map}
 use Rattle.std.specs.List.{filter, list_any}
 use Rattle.std.proofs.lemmas.Cmp.{nat_list_eq_equiv}
 use Rattle.std.proofs.lemmas.List.Folds.{list_any-append}
-use Rattle.ck_cfg.specs.declared.check.Check.{Check}
+use Rattle.ck_ask.specs.Questions.{question_kind}
+use Rattle.ck_ask.specs.declared.question.Question.{Question}
 use Rattle.ck_cfg.specs.declared.config.Config.{Config}
 use Rattle.ck_cfg.specs.declared.config.KindPiece.{KindPiece}
 use Rattle.ck_cfg.specs.declared.config.Piece.{Piece}
@@ -79,61 +80,66 @@ still_there c there more kind e =
     ∙ ap (λ b. b || list_any (λ k. is_same_text c k kind) (more ∷ [])) e
 
 -- a text that has a leader keeps it
-kept : (c : Config) (checks : List Check) (there : List CheckKind) (kind : CheckKind) → has_same c there kind ≡ true
-    → has_same c (leaders_behind c there checks) kind ≡ true
+kept : (c : Config) (qs : List Question) (there : List CheckKind) (kind : CheckKind) → has_same c there kind ≡ true
+    → has_same c (leaders_behind c there qs) kind ≡ true
 kept c [] there kind e = e
 kept c (x ∷ xs) there kind e =
-    step (has_same c there x.kind) (kept c xs there kind e)
-    (kept c xs (there ++ x.kind ∷ []) kind (still_there c there x.kind kind e)) where
+    step (has_same c there (question_kind x)) (kept c xs there kind e)
+    (kept c xs (there ++ question_kind x ∷ []) kind (still_there c there (question_kind x) kind e)) where
       step : (b : Bool) → has_same c (leaders_behind c there xs) kind ≡ true
-          → has_same c (leaders_behind c (there ++ x.kind ∷ []) xs) kind ≡ true
-          → has_same c (cond b (leaders_behind c there xs) (leaders_behind c (there ++ x.kind ∷ []) xs)) kind ≡ true
+          → has_same c (leaders_behind c (there ++ question_kind x ∷ []) xs) kind ≡ true
+          → has_same c (cond b (leaders_behind c there xs) (leaders_behind c (there ++ question_kind x ∷ []) xs)) kind
+          ≡ true
       step true f g = f
       step false f g = g
 
-module _ (c : Config) (checks : List Check) (i : ℕ) (x d : Check) (kinds new all : List CheckKind)
-    (l : i < length checks) (e : x ≡ get_or checks i d)
-    (h : leaders_behind c kinds (drop i checks) ≡ all) where
-  here : leaders_behind c kinds (drop i checks) ≡ cond (has_same c kinds x.kind)
-      (leaders_behind c kinds (drop (i + 1) checks)) (leaders_behind c (kinds ++ x.kind ∷ []) (drop (i + 1) checks))
-  here = ap (leaders_behind c kinds) (next_is checks i x d l e)
+module _ (c : Config) (qs : List Question) (i : ℕ) (x d : Question) (kinds new all : List CheckKind)
+    (l : i < length qs) (e : x ≡ get_or qs i d)
+    (h : leaders_behind c kinds (drop i qs) ≡ all) where
+  here : leaders_behind c kinds (drop i qs) ≡ cond (has_same c kinds (question_kind x))
+      (leaders_behind c kinds (drop (i + 1) qs)) (leaders_behind c (kinds ++ question_kind x ∷ []) (drop (i + 1) qs))
+  here = ap (leaders_behind c kinds) (next_is qs i x d l e)
 
-  -- the next check's text has no leader yet
-  pub led_by_new : has_same c kinds x.kind ≡ false → new ≡ kinds ++ x.kind ∷ []
-      → leaders_behind c new (drop (i + 1) checks) ≡ all
+  -- the next question's text has no leader yet
+  pub led_by_new : has_same c kinds (question_kind x) ≡ false → new ≡ kinds ++ question_kind x ∷ []
+      → leaders_behind c new (drop (i + 1) qs) ≡ all
   led_by_new f n =
-      ap (λ ks. leaders_behind c ks (drop (i + 1) checks)) n
-      ∙ sym (here ∙ ap (λ b. cond b (leaders_behind c kinds (drop (i + 1) checks))
-      (leaders_behind c (kinds ++ x.kind ∷ []) (drop (i + 1) checks))) f) ∙ h
+      ap (λ ks. leaders_behind c ks (drop (i + 1) qs)) n
+      ∙ sym (here ∙ ap (λ b. cond b (leaders_behind c kinds (drop (i + 1) qs))
+      (leaders_behind c (kinds ++ question_kind x ∷ []) (drop (i + 1) qs))) f) ∙ h
 
   -- it has one
-  pub led_already : has_same c kinds x.kind ≡ true → new ≡ kinds
-      → leaders_behind c new (drop (i + 1) checks) ≡ all
+  pub led_already : has_same c kinds (question_kind x) ≡ true → new ≡ kinds
+      → leaders_behind c new (drop (i + 1) qs) ≡ all
   led_already t n =
-      ap (λ ks. leaders_behind c ks (drop (i + 1) checks)) n
-      ∙ sym (here ∙ ap (λ b. cond b (leaders_behind c kinds (drop (i + 1) checks))
-      (leaders_behind c (kinds ++ x.kind ∷ []) (drop (i + 1) checks))) t) ∙ h
+      ap (λ ks. leaders_behind c ks (drop (i + 1) qs)) n
+      ∙ sym (here ∙ ap (λ b. cond b (leaders_behind c kinds (drop (i + 1) qs))
+      (leaders_behind c (kinds ++ question_kind x ∷ []) (drop (i + 1) qs))) t) ∙ h
 
 -- an element of a list
 abbrev pub IsIn : {X : Type 0} → X → List X → Type 0
 IsIn x [] = ⊥
 IsIn x (y ∷ ys) = (x ≡ y) ⊎ IsIn x ys
 
--- each check's text has a leader
-pub led : (c : Config) (checks : List Check) (there : List CheckKind) (x : Check) → IsIn x checks
-    → has_same c (leaders_behind c there checks) x.kind ≡ true
+-- each question's text has a leader
+pub led : (c : Config) (qs : List Question) (there : List CheckKind) (x : Question) → IsIn x qs
+    → has_same c (leaders_behind c there qs) (question_kind x) ≡ true
 led c [] there x i = absurd i
 led c (y ∷ ys) there x (inl e) =
-    step (has_same c there y.kind) refl where
-      step : (b : Bool) → has_same c there y.kind ≡ b
-          → has_same c (cond b (leaders_behind c there ys) (leaders_behind c (there ++ y.kind ∷ []) ys)) x.kind ≡ true
-      step true t = kept c ys there x.kind (ap (λ k. has_same c there k) (ap (λ (z : Check). z.kind) e) ∙ t)
-      step false f = kept c ys (there ++ y.kind ∷ []) x.kind
-          (one_more c there y.kind x.kind (ap (λ (z : Check). is_same_text c y.kind z.kind) e ∙ text_is_its_own c y.kind))
+    step (has_same c there (question_kind y)) refl where
+      step : (b : Bool) → has_same c there (question_kind y) ≡ b
+          → has_same c (cond b (leaders_behind c there ys) (leaders_behind c (there ++ question_kind y ∷ []) ys)) (question_kind x)
+          ≡ true
+      step true t = kept c ys there (question_kind x) (ap (λ (z : Question). has_same c there (question_kind z)) e ∙ t)
+      step false f = kept c ys (there ++ question_kind y ∷ []) (question_kind x)
+          (one_more c there (question_kind y) (question_kind x)
+          (ap (λ (z : Question). is_same_text c (question_kind y) (question_kind z)) e
+          ∙ text_is_its_own c (question_kind y)))
 led c (y ∷ ys) there x (inr i) =
-    step (has_same c there y.kind) (led c ys there x i) (led c ys (there ++ y.kind ∷ []) x i) where
-      step : (b : Bool) → has_same c (leaders_behind c there ys) x.kind ≡ true
-          → has_same c (leaders_behind c (there ++ y.kind ∷ []) ys) x.kind ≡ true
-          → has_same c (cond b (leaders_behind c there ys) (leaders_behind c (there ++ y.kind ∷ []) ys)) x.kind ≡ true
+    step (has_same c there (question_kind y)) (led c ys there x i) (led c ys (there ++ question_kind y ∷ []) x i) where
+      step : (b : Bool) → has_same c (leaders_behind c there ys) (question_kind x) ≡ true
+          → has_same c (leaders_behind c (there ++ question_kind y ∷ []) ys) (question_kind x) ≡ true
+          → has_same c (cond b (leaders_behind c there ys) (leaders_behind c (there ++ question_kind y ∷ []) ys)) (question_kind x)
+          ≡ true
       step true f g = f
       step false f g = g

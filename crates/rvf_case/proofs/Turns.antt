@@ -1,7 +1,6 @@
 -- Texts that are loaded one after the other.
-use Rattle.std.proofs.Common.{◌≡◌, ℕ, ◌+◌, ◌<◌, List, [], ◌∷◌, ◌++◌, length, take, drop, get_or, Some, Ok, Err}
-use Rattle.std.proofs.Common.{Result, refl}
-use Rattle.std.proofs.Common.{sym, ◌∙◌, ap, subst, arith}
+use Rattle.std.proofs.Common.{◌≡◌, ℕ, ◌+◌, ◌<◌, List, [], ◌∷◌, ◌++◌, length, take, drop, get_or, Some, Ok, Err, Result}
+use Rattle.std.proofs.Common.{refl, sym, ◌∙◌, ap, subst, arith}
 use Rattle.std.specs.Prelude.{map, nat_lt, Bool, true, false, cond, min, ◌*◌, ◌-◌, ◌^◌, None, Option}
 use Rattle.std.specs.List.{AllByRecursion}
 use Rattle.std.proofs.lemmas.List.{length-map, map-append, take_more}
@@ -16,30 +15,31 @@ use Rattle.rvf_load.specs.declared.fault.LoadFault.{LoadFault}
 use Rattle.rvf_load.specs.declared.fault.LoadFault.TheVariants as load
 use Rattle.rvf_load.specs.declared.loaded.Loaded.{Loaded}
 use Rattle.rvf_load.specs.Loads.{Answers, Asked, IsRefused, IsTheRefusal, too_heavy, weight_of}
-use Rattle.rvf_case.specs.Steps.{IsAtCheck, LoadsInTurn, LoadsOne}
-use Rattle.rvf_case.specs.Steps.{factors_of, kept_for, stop_of}
-use Rattle.rvf_case.specs.Texts.{asked_for, core_of, line_text, probes_for, sharing, texts_for}
+use Rattle.rvf_case.specs.Steps.{IsAtQuestion, LoadsInTurn, LoadsOne, kept_for, stop_of}
+use Rattle.rvf_case.specs.Texts.{asked_for, core_of, factors_of, line_text, probes_for, sharing, texts_for, with_text}
 use Rattle.rvf_case.specs.declared.case.LoadedText.{LoadedText}
 use Rattle.rvf_case.specs.declared.loading.Stop.{Stop}
 use Rattle.rvf_case.specs.declared.loading.Stop.TheVariants as stop
 use Rattle.rvf_case.proofs.Next.{split_here}
+use Rattle.ck_ask.specs.Questions.{question_cycle}
+use Rattle.ck_ask.specs.declared.question.Question.{Question}
 
 -- ---- one text
 
 -- what comes of a text by what was put together for it
-pub answered : (c : Config) (files : List (List ℕ)) (kind : CheckKind) (checks : List Check) (core : Core)
-    (ts ls : List Text) (channels : ℕ) (probes : Probes) (fs : List ℕ) (result : Result Loaded LoadFault)
+pub answered : (c : Config) (files : List (List ℕ)) (qs : List Question) (kind : CheckKind) (checks : List Check)
+    (core : Core) (ts ls : List Text) (channels : ℕ) (probes : Probes) (fs : List ℕ) (result : Result Loaded LoadFault)
     → checks ≡ checks_of c → core ≡ core_of c.isa c.nret → ts ≡ texts_for c files kind → ls ≡ map line_text c.assumes
-    → channels ≡ c.nret → probes ≡ probes_for (kept_for c kind checks) → fs ≡ factors_of (kept_for c kind checks)
+    → channels ≡ c.nret → probes ≡ probes_for (kept_for c kind checks) → fs ≡ factors_of (with_text c kind qs)
     → Answers (record { core = core; texts = ts; lines = ls; channels = channels; probes = probes; factors = fs })
-    result → Answers (asked_for c files kind) result
-answered c files kind checks core ts ls channels probes fs result e a b d n p f h =
+    result → Answers (asked_for c files qs kind) result
+answered c files qs kind checks core ts ls channels probes fs result e a b d n p f h =
     let of : Core → List Text → List Text → ℕ → Probes → List ℕ → Type 0 = λ core ts ls channels probes fs.
     Answers (record { core = core; texts = ts; lines = ls; channels = channels; probes = probes; factors = fs }) result
     in
     let q : probes ≡ probes_for (sharing c kind) = p ∙ ap (λ xs. probes_for (kept_for c kind xs)) e in
-    let g : fs ≡ factors_of (sharing c kind) = f ∙ ap (λ xs. factors_of (kept_for c kind xs)) e in
-    subst (of (core_of c.isa c.nret) (texts_for c files kind) (map line_text c.assumes) c.nret (probes_for (sharing c kind))) g
+    subst (of (core_of c.isa c.nret) (texts_for c files kind) (map line_text c.assumes) c.nret
+    (probes_for (sharing c kind))) f
     (subst (λ x. of (core_of c.isa c.nret) (texts_for c files kind) (map line_text c.assumes) c.nret x fs) q
     (subst (λ x. of (core_of c.isa c.nret) (texts_for c files kind) (map line_text c.assumes) x probes fs) n
     (subst (λ x. of (core_of c.isa c.nret) (texts_for c files kind) x channels probes fs) d
@@ -114,15 +114,15 @@ heavy_place weight start (f ∷ fs) place product e =
           omega arith
       step false g e = let l : place < start + 1 + length fs = g e in omega arith
 
--- a design is too heavy for a check that has the text
-pub at_check : (c : Config) (files : List (List ℕ)) (kind : CheckKind) (fault : LoadFault)
-    → IsRefused (asked_for c files kind) fault → IsAtCheck (sharing c kind) fault
-at_check c files kind (load.Text f) h = tt
-at_check c files kind (load.Elab f) h = tt
-at_check c files kind (load.Flow f) h = tt
-at_check c files kind (load.Heavy place product) h =
-    let l = heavy_place (weight_of h.flat) 0 (factors_of (sharing c kind)) place product h.heavy in
-    let e = length-map (sharing c kind) (λ (x : Check). x.cycle + 1) in
+-- a design is too heavy for a question that has the text
+pub at_question : (c : Config) (files : List (List ℕ)) (qs : List Question) (kind : CheckKind) (fault : LoadFault)
+    → IsRefused (asked_for c files qs kind) fault → IsAtQuestion (with_text c kind qs) fault
+at_question c files qs kind (load.Text f) h = tt
+at_question c files qs kind (load.Elab f) h = tt
+at_question c files qs kind (load.Flow f) h = tt
+at_question c files qs kind (load.Heavy place product) h =
+    let l = heavy_place (weight_of h.flat) 0 (factors_of (with_text c kind qs)) place product h.heavy in
+    let e = length-map (with_text c kind qs) (λ (q : Question). question_cycle q + 1) in
     omega arith
-at_check c files kind (load.Port f) h = tt
-at_check c files kind load.Memory h = tt
+at_question c files qs kind (load.Port f) h = tt
+at_question c files qs kind load.Memory h = tt

@@ -1,41 +1,42 @@
--- Meaning: What stands before the checks of a configuration are judged: the configuration, its files and what is
+-- Meaning: What stands before the questions of a configuration are answered: the configuration, its files and what is
 -- loaded of each text; or the first cause in the order of work why that doesn't stand. Rules of this project.
 use Rattle.std.specs.Prelude.{◌≡◌, ℕ, ◌≤◌, ◌+◌, List, [], ◌∷◌, ◌++◌, length, map, sum, Option, Some, None, Result, Ok}
-use Rattle.std.specs.Prelude.{Err}
-use Rattle.std.specs.Prelude.{slice_get, if◌then◌else◌}
+use Rattle.std.specs.Prelude.{Err, slice_get, if◌then◌else◌}
 use Rattle.std.specs.List.{AllByRecursion}
 use Rattle.fv_base.specs.Outside.{Told, Lacks, ReadGives, Rose}
-use Rattle.ck_cfg.specs.declared.check.Check.{Check}
 use Rattle.ck_cfg.specs.declared.config.Config.{Config}
 use Rattle.ck_cfg.specs.declared.fault.CfgFault.{CfgFault}
 use Rattle.ck_cfg.specs.declared.kind.CheckKind.{CheckKind}
-use Rattle.ck_cfg.specs.Checks.{checks_of}
 use Rattle.ck_cfg.specs.Files.{file_names_of}
-use Rattle.ck_cfg.specs.Lawful.{IsCheck}
 use Rattle.ck_cfg.specs.Reading.{config_of}
-use Rattle.ck_gen.specs.Monitors.{HasProbe}
 use Rattle.wn_net.specs.Names.{AreNamesOf}
+use Rattle.vl_lower_spec.specs.Graphic.{AreGraphic}
 use Rattle.rvfi_port.specs.Ports.{ArePortNodes}
 use Rattle.rvf_load.specs.Loads.{IsLoadedFrom, IsRefused, IsSame, NoneRefuses}
 use Rattle.rvf_load.specs.declared.fault.LoadFault.{LoadFault}
 use Rattle.rvf_load.specs.declared.fault.LoadFault.TheVariants as load
 use Rattle.rvf_load.specs.declared.loaded.Loaded.{Loaded}
-use Rattle.rvf_case.specs.Texts.{asked_for, is_same_text, leaders, sharing}
+use Rattle.ck_ask.specs.Asked.{HasItsProbe, IsQuestion}
+use Rattle.ck_ask.specs.Questions.{question_kind, question_name}
+use Rattle.ck_ask.specs.declared.question.Question.{Question}
+use Rattle.rvf_case.specs.declared.asking.Asking.{Asking}
+use Rattle.rvf_case.specs.Texts.{asked_for, is_same_text, leaders, questions_of, with_text}
 use Rattle.rvf_case.specs.declared.case.Case.{Case}
 use Rattle.rvf_case.specs.declared.case.LoadedText.{LoadedText}
 use Rattle.rvf_case.specs.declared.preparing.Request.{Request as RunRequest}
 use Rattle.rvf_case.specs.declared.refusal.Refusal.{Refusal}
 use Rattle.rvf_case.specs.declared.refusal.Refusal.TheVariants as refusal
 
--- what a run is asked for that reads a configuration: its file, and the names that are put in
+-- what a run is asked for that reads a configuration: its file, the names that are put in, and which questions
 pub record Request : Type 0 where
   pub cfg : List ℕ
   pub core : List ℕ
   pub basedir : List ℕ
+  pub asking : Asking
 
 -- as a call was given it
 abbrev pub request_seen : RunRequest → Request
-request_seen r = record { cfg = r.cfg.now; core = r.core.now; basedir = r.basedir.now }
+request_seen r = record { cfg = r.cfg.now; core = r.core.now; basedir = r.basedir.now; asking = r.asking }
 
 -- what a call saw of the files: what is told of them as it began, and how their counts moved
 pub record Seen : Type 0 where
@@ -62,25 +63,30 @@ AreRead held names files = ⊥
 abbrev pub names_in : Request → Config → List (List ℕ)
 names_in r c = file_names_of c r.core r.basedir
 
+-- the questions that are asked of a configuration
+abbrev pub questions_in : Request → Config → List Question
+questions_in r c = questions_of r.asking c
+
 -- ---- what stands in the end
 
 -- no part refuses the texts of these kinds
-abbrev pub AreUnrefused : Config → List (List ℕ) → List CheckKind → Type 0
-AreUnrefused c files kinds = AllByRecursion (λ kind. NoneRefuses (asked_for c files kind)) kinds
+abbrev pub AreUnrefused : Config → List (List ℕ) → List Question → List CheckKind → Type 0
+AreUnrefused c files qs kinds = AllByRecursion (λ kind. NoneRefuses (asked_for c files qs kind)) kinds
 
--- of each distinct text what is loaded of it, in the order of their first checks; and no part refuses one
-pub record AreLoaded (c : Config) (files : List (List ℕ)) (kinds : List CheckKind) (texts : List LoadedText)
+-- of each distinct text of these questions what is loaded of it, in the order of their first ones; and no part refuses
+-- one
+pub record AreLoaded (c : Config) (files : List (List ℕ)) (qs : List Question) (texts : List LoadedText)
     : Type 0 where
-  pub kinds_are : map (λ x. x.kind) texts ≡ kinds
-  pub each : AllByRecursion (λ x. IsLoadedFrom (asked_for c files x.kind) x.loaded) texts
-  pub unrefused : AreUnrefused c files kinds
+  pub kinds_are : map (λ x. x.kind) texts ≡ leaders c qs
+  pub each : AllByRecursion (λ x. IsLoadedFrom (asked_for c files qs x.kind) x.loaded) texts
+  pub unrefused : AreUnrefused c files qs (leaders c qs)
 
 pub record IsCase (r : Request) (held : Told) (case : Case) : Type 0 where
   pub configured : IsConfigured r held case.config
-  pub checks_are : case.checks ≡ checks_of case.config
+  pub questions_are : case.questions ≡ questions_in r case.config
   pub files : List (List ℕ)
   pub read : AreRead held (names_in r case.config) files
-  pub loaded : AreLoaded case.config files (leaders case.config) case.texts
+  pub loaded : AreLoaded case.config files case.questions case.texts
 
 -- ---- why it doesn't stand: the first cause in the order of work
 
@@ -115,9 +121,9 @@ pub record IsRefusedText (r : Request) (held : Told) (c : Config) (kind : CheckK
   pub read : AreRead held (names_in r c) files
   pub before : List CheckKind
   pub behind : List CheckKind
-  pub order : leaders c ≡ before ++ kind ∷ behind
-  pub unrefused : AreUnrefused c files before
-  pub refused : IsRefused (asked_for c files kind) f
+  pub order : leaders c (questions_in r c) ≡ before ++ kind ∷ behind
+  pub unrefused : AreUnrefused c files (questions_in r c) before
+  pub refused : IsRefused (asked_for c files (questions_in r c) kind) f
 
 -- a part refuses a text, under the names of its files, that of the configuration first
 pub record IsRefusedSource (r : Request) (held : Told) (f : LoadFault) (names : List (List ℕ)) : Type 0 where
@@ -126,17 +132,17 @@ pub record IsRefusedSource (r : Request) (held : Told) (f : LoadFault) (names : 
   pub refused : IsRefusedText r held config kind f
   pub names_are : names ≡ r.cfg ∷ names_in r config
 
--- the weight of a text's design is too much for a check that has the text, the first such
+-- the weight of a text's design is too much for a question that has the text, the first such
 pub record IsHeavy (r : Request) (held : Told) (name : List ℕ) (number : ℕ) : Type 0 where
   pub config : Config
   pub kind : CheckKind
   pub place : ℕ
   pub refused : IsRefusedText r held config kind (load.Heavy place number)
-  pub check : Check
-  pub there : slice_get (sharing config kind) place ≡ Some check
-  pub name_is : name ≡ check.name
+  pub question : Question
+  pub there : slice_get (with_text config kind (questions_in r config)) place ≡ Some question
+  pub name_is : name ≡ question_name question
 
--- a refusal has its cause; that of a text which is too heavy names the check
+-- a refusal has its cause; that of a text which is too heavy names the question
 abbrev pub IsCause : Request → Seen → Refusal → Type 0
 IsCause r seen (refusal.Absent name) = IsAbsent r seen name
 IsCause r seen (refusal.Unread name) = IsUnread r seen name
@@ -177,28 +183,29 @@ abbrev pub UnlessUnread : {A : Type 0} → Result A Refusal → Type 0 → Type 
 UnlessUnread (Ok x) P = P
 UnlessUnread (Err f) P = UnlessFault f P
 
--- ---- that the checks of a case may be judged
+-- ---- that the questions of a case may be answered
 
--- what is loaded of the check's text is fit for the check
-pub record IsFit (channels : ℕ) (x : Check) (l : Loaded) : Type 0 where
+-- what is loaded of the question's text is fit for the question
+pub record IsFit (channels : ℕ) (q : Question) (l : Loaded) : Type 0 where
   pub names : AreNamesOf l.net l.names
+  pub graphic : AreGraphic l.names
   pub port : ArePortNodes l.net l.port
   pub many : length l.port.channels ≡ channels
-  pub check : IsCheck channels x
+  pub lawful : IsQuestion channels q
   pub few : channels ≤ 2
-  pub probe : HasProbe l.port x.kind
+  pub probe : HasItsProbe l.port q
   pub inputs : length l.net.inputs ≤ 1000000
   pub state : length l.net.regs + sum (map (λ m. m.words) l.net.mems) ≤ 50000000
 
--- the text among these that stands for the check's, if any
-abbrev pub text_among : Config → Check → List LoadedText → Option Loaded
-text_among c x [] = None
-text_among c x (t ∷ ts) = if is_same_text c t.kind x.kind then Some t.loaded else text_among c x ts
+-- the text among these that stands for that of a kind, if any
+abbrev pub text_among : Config → CheckKind → List LoadedText → Option Loaded
+text_among c kind [] = None
+text_among c kind (t ∷ ts) = if is_same_text c t.kind kind then Some t.loaded else text_among c kind ts
 
-abbrev pub loaded_for : Case → Check → Option Loaded
-loaded_for case x = text_among case.config x case.texts
+abbrev pub loaded_for : Case → Question → Option Loaded
+loaded_for case q = text_among case.config (question_kind q) case.texts
 
--- each check has a text, and what is loaded of it is fit
+-- each question has a text, and what is loaded of it is fit
 abbrev pub IsReady : Case → Type 0
 IsReady case =
-    AllByRecursion (λ x. (l : Loaded) × (loaded_for case x ≡ Some l) × IsFit case.config.nret x l) case.checks
+    AllByRecursion (λ q. (l : Loaded) × (loaded_for case q ≡ Some l) × IsFit case.config.nret q l) case.questions

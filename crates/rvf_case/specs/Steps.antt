@@ -11,14 +11,16 @@ use Rattle.ck_cfg.specs.declared.config.KindPiece.{KindPiece}
 use Rattle.ck_cfg.specs.declared.fault.CfgFault.{CfgFault}
 use Rattle.ck_cfg.specs.declared.fault.CfgFault.TheVariants as cfg
 use Rattle.ck_cfg.specs.declared.kind.CheckKind.{CheckKind}
-use Rattle.ck_cfg.specs.Checks.{checks_of}
 use Rattle.ck_cfg.specs.Kind.{is_kind}
 use Rattle.ck_cfg.specs.Reading.{config_of}
 use Rattle.rvf_load.specs.Loads.{Answers, Asked, IsTheRefusal}
 use Rattle.rvf_load.specs.declared.fault.LoadFault.{LoadFault}
 use Rattle.rvf_load.specs.declared.fault.LoadFault.TheVariants as load
 use Rattle.rvf_case.specs.Cases.{AreRead, IsAbsent, IsConfigured, IsMisconfigured, IsUnread, Request, Seen, names_in}
-use Rattle.rvf_case.specs.Texts.{asked_for, is_same_text, leaders, sharing}
+use Rattle.rvf_case.specs.Cases.{questions_in}
+use Rattle.ck_ask.specs.Questions.{question_name}
+use Rattle.ck_ask.specs.declared.question.Question.{Question}
+use Rattle.rvf_case.specs.Texts.{asked_for, is_same_text, leaders, with_text}
 use Rattle.rvf_case.specs.declared.case.Case.{Case}
 use Rattle.rvf_case.specs.declared.case.LoadedText.{LoadedText}
 use Rattle.rvf_case.specs.declared.loading.Stop.{Stop}
@@ -44,15 +46,11 @@ kept_for c kind checks = filter (λ x. is_same_text c kind x.kind) checks
 abbrev pub has_asking : Config → CheckKind → CheckKind → List Check → Bool
 has_asking c kind wanted checks = list_any (λ x. is_kind x.kind wanted && is_same_text c kind x.kind) checks
 
--- one more than the cycle of each check
-abbrev pub factors_of : List Check → List ℕ
-factors_of checks = map (λ x. x.cycle + 1) checks
-
--- the check at this place has the name
-pub record IsNameAt (checks : List Check) (place : ℕ) (name : List ℕ) : Type 0 where
-  pub check : Check
-  pub there : slice_get checks place ≡ Some check
-  pub name_is : name ≡ check.name
+-- the question at this place has the name
+pub record IsNameAt (qs : List Question) (place : ℕ) (name : List ℕ) : Type 0 where
+  pub question : Question
+  pub there : slice_get qs place ≡ Some question
+  pub name_is : name ≡ question_name question
 
 -- ---- files
 
@@ -145,38 +143,39 @@ LoadsInTurn ask kinds (Ok texts) = AreLoadedInTurn ask kinds texts
 LoadsInTurn ask kinds (Err (stop.Refused kind f)) = StopsAt ask kinds kind f
 LoadsInTurn ask kinds (Err stop.Memory) = Unit {0}
 
--- a design that is too heavy is that for one of these checks
-abbrev pub IsAtCheck : List Check → LoadFault → Type 0
-IsAtCheck checks (load.Heavy place product) = place < length checks
-IsAtCheck checks f = Unit {0}
+-- a design that is too heavy is that for one of these questions
+abbrev pub IsAtQuestion : List Question → LoadFault → Type 0
+IsAtQuestion qs (load.Heavy place product) = place < length qs
+IsAtQuestion qs f = Unit {0}
 
 abbrev pub IsNotHeavy : LoadFault → Type 0
 IsNotHeavy (load.Heavy place product) = ⊥
 IsNotHeavy f = Unit {0}
 
-pub record IsLoadedCase (c : Config) (files : List (List ℕ)) (case : Case) : Type 0 where
+pub record IsLoadedCase (c : Config) (files : List (List ℕ)) (qs : List Question) (case : Case) : Type 0 where
   pub config_is : case.config ≡ c
-  pub checks_are : case.checks ≡ checks_of c
-  pub loaded : AreLoadedInTurn (asked_for c files) (leaders c) case.texts
+  pub questions_are : case.questions ≡ qs
+  pub loaded : AreLoadedInTurn (asked_for c files qs) (leaders c qs) case.texts
 
-pub record IsStopped (c : Config) (files : List (List ℕ)) (f : LoadFault) : Type 0 where
+pub record IsStopped (c : Config) (files : List (List ℕ)) (qs : List Question) (f : LoadFault) : Type 0 where
   pub kind : CheckKind
-  pub stops : StopsAt (asked_for c files) (leaders c) kind f
+  pub stops : StopsAt (asked_for c files qs) (leaders c qs) kind f
   pub light : IsNotHeavy f
 
-pub record IsStoppedHeavy (c : Config) (files : List (List ℕ)) (name : List ℕ) (number : ℕ) : Type 0 where
+pub record IsStoppedHeavy (c : Config) (files : List (List ℕ)) (qs : List Question) (name : List ℕ) (number : ℕ)
+    : Type 0 where
   pub kind : CheckKind
   pub place : ℕ
-  pub stops : StopsAt (asked_for c files) (leaders c) kind (load.Heavy place number)
-  pub named : IsNameAt (sharing c kind) place name
+  pub stops : StopsAt (asked_for c files qs) (leaders c qs) kind (load.Heavy place number)
+  pub named : IsNameAt (with_text c kind qs) place name
 
 -- what loading comes to, by the names of all files
-abbrev pub Loads : List (List ℕ) → Config → List (List ℕ) → Result Case Refusal → Type 0
-Loads names c files (Ok case) = IsLoadedCase c files case
-Loads names c files (Err (refusal.Source f others)) = IsStopped c files f × (others ≡ names)
-Loads names c files (Err (refusal.Heavy name number)) = IsStoppedHeavy c files name number
-Loads names c files (Err refusal.Memory) = Unit {0}
-Loads names c files (Err f) = ⊥
+abbrev pub Loads : List (List ℕ) → Config → List (List ℕ) → List Question → Result Case Refusal → Type 0
+Loads names c files qs (Ok case) = IsLoadedCase c files qs case
+Loads names c files qs (Err (refusal.Source f others)) = IsStopped c files qs f × (others ≡ names)
+Loads names c files qs (Err (refusal.Heavy name number)) = IsStoppedHeavy c files qs name number
+Loads names c files qs (Err refusal.Memory) = Unit {0}
+Loads names c files qs (Err f) = ⊥
 
 -- ---- all of it
 
@@ -186,7 +185,7 @@ pub record Stands (r : Request) (held : Told) (result : Result Case Refusal) : T
   pub configured : IsConfigured r held config
   pub files : List (List ℕ)
   pub read : AreRead held (names_in r config) files
-  pub loads : Loads (r.cfg ∷ names_in r config) config files result
+  pub loads : Loads (r.cfg ∷ names_in r config) config files (questions_in r config) result
 
 -- what the whole work comes to
 abbrev pub Prepares : Request → Seen → Result Case Refusal → Type 0

@@ -1,6 +1,7 @@
--- Meaning: The texts of a configuration's checks, and which of them are one. Rules of this project.
-use Rattle.std.specs.Prelude.{ℕ, ◌+◌, ◌-◌, ◌^◌, ◌==◌, min, Bool, true, false, ◌&&◌, if◌then◌else◌}
-use Rattle.std.specs.Prelude.{List, [], ◌∷◌, ◌++◌, map, bytes_eq}
+-- Meaning: The questions that are asked of a configuration, their texts, and which of these are one. Rules of this
+-- project.
+use Rattle.std.specs.Prelude.{ℕ, ◌+◌, ◌-◌, ◌^◌, ◌==◌, min, Bool, true, false, ◌&&◌, if◌then◌else◌, List, [], ◌∷◌, ◌++◌}
+use Rattle.std.specs.Prelude.{map, bytes_eq}
 use Rattle.std.specs.List.{filter, list_any}
 use Rattle.rv_table.specs.declared.retire.Isa.{Isa}
 use Rattle.ck_cfg.specs.declared.check.Check.{Check}
@@ -16,8 +17,19 @@ use Rattle.vl_text.specs.declared.macros.Retirements.{Retirements}
 use Rattle.vl_text.specs.declared.macros.Retirements.TheVariants.{One, Two}
 use Rattle.rvf_load.specs.declared.asked.Probes.{Probes}
 use Rattle.rvf_load.specs.Loads.{Asked}
+use Rattle.ck_ask.specs.Questions.{question_cycle, question_kind}
+use Rattle.ck_ask.specs.declared.question.Question.{Question}
+use Rattle.ck_ask.specs.declared.question.Question.TheVariants as question
+use Rattle.rvf_case.specs.declared.asking.Asking.{Asking}
+use Rattle.rvf_case.specs.declared.asking.Asking.TheVariants as asking
 
--- ---- a check's text: lines of the configuration, and then the files
+-- ---- which questions are asked
+
+-- one for each of its checks, in their order
+abbrev pub questions_of : Asking → Config → List Question
+questions_of asking.Checks c = map (λ x. question.Check x) (checks_of c)
+
+-- ---- a question's text: lines of the configuration, and then the files
 
 -- the lines that stand in front of the files: those for all checks, and then those for the checks of a kind
 abbrev pub lines_for : Config → CheckKind → List Piece
@@ -51,23 +63,27 @@ is_same_text c kind other = are_same_lines (lines_for c kind) (lines_for c other
 abbrev pub sharing : Config → CheckKind → List Check
 sharing c kind = filter (λ x. is_same_text c kind x.kind) (checks_of c)
 
--- of each text of these checks the kind of the first one, behind those that are there
-abbrev pub leaders_behind : Config → List CheckKind → List Check → List CheckKind
-leaders_behind c there [] = there
-leaders_behind c there (x ∷ xs) =
-    if list_any (λ kind. is_same_text c kind x.kind) there then leaders_behind c there xs
-    else leaders_behind c (there ++ x.kind ∷ []) xs
+-- of these questions those that have the text of a kind, in their order
+abbrev pub with_text : Config → CheckKind → List Question → List Question
+with_text c kind qs = filter (λ q. is_same_text c kind (question_kind q)) qs
 
-abbrev pub leaders : Config → List CheckKind
-leaders c = leaders_behind c [] (checks_of c)
+-- of each text of these questions the kind of the first one, behind those that are there
+abbrev pub leaders_behind : Config → List CheckKind → List Question → List CheckKind
+leaders_behind c there [] = there
+leaders_behind c there (q ∷ qs) =
+    if list_any (λ kind. is_same_text c kind (question_kind q)) there then leaders_behind c there qs
+    else leaders_behind c (there ++ question_kind q ∷ []) qs
+
+abbrev pub leaders : Config → List Question → List CheckKind
+leaders c qs = leaders_behind c [] qs
 
 -- the kind whose text stands for that of a kind
 abbrev pub leader_among : Config → CheckKind → List CheckKind → CheckKind
 leader_among c kind [] = kind
 leader_among c kind (k ∷ ks) = if is_same_text c k kind then k else leader_among c kind ks
 
-abbrev pub leader_of : Config → CheckKind → CheckKind
-leader_of c kind = leader_among c kind (leaders c)
+abbrev pub leader_of : Config → List Question → CheckKind → CheckKind
+leader_of c qs kind = leader_among c kind (leaders c qs)
 
 -- ---- what is asked of a text
 
@@ -84,14 +100,18 @@ probes_for xs = record {
   dmem = list_any (λ x. is_kind x.kind kind.Dmem) xs;
 }
 
--- the text of a kind, for all checks that have it
-abbrev pub asked_for : Config → List (List ℕ) → CheckKind → Asked
-asked_for c files kind =
-    let xs = sharing c kind in record {
-      core = core_of c.isa c.nret;
-      texts = texts_for c files kind;
-      lines = map line_text c.assumes;
-      channels = c.nret;
-      probes = probes_for xs;
-      factors = map (λ x. x.cycle + 1) xs;
-    }
+-- one more than the last cycle of each
+abbrev pub factors_of : List Question → List ℕ
+factors_of qs = map (λ q. question_cycle q + 1) qs
+
+-- The text of a kind: it has the probes of all checks of the configuration that have it, and is weighed for each of the
+-- questions that do.
+abbrev pub asked_for : Config → List (List ℕ) → List Question → CheckKind → Asked
+asked_for c files qs kind = record {
+  core = core_of c.isa c.nret;
+  texts = texts_for c files kind;
+  lines = map line_text c.assumes;
+  channels = c.nret;
+  probes = probes_for (sharing c kind);
+  factors = factors_of (with_text c kind qs);
+}

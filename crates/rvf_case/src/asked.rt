@@ -3,13 +3,14 @@
 ghost use Rattle.std.specs.Prelude.{◌≡◌, ◌<◌, ◌&&◌, map, length, IfOk};
 ghost use Rattle.std.specs.List.{AllByRecursion};
 ghost use Rattle.ck_cfg.specs.Kind.{is_kind};
-ghost use Rattle.ck_cfg.specs.Lawful.{IsCheck};
+ghost use Rattle.ck_ask.specs.Asked.{IsQuestion};
 ghost use Rattle.vl_text.specs.Texts.{lines_seen, texts_seen};
-ghost use Rattle.rvf_case.specs.Steps.{IsNameAt, factors_of, has_asking, kept_for};
-ghost use Rattle.rvf_case.specs.Texts.{core_of, is_same_text, line_text, lines_for, probes_for, retirements_of};
-ghost use Rattle.rvf_case.specs.Texts.{texts_for};
+ghost use Rattle.rvf_case.specs.Steps.{IsNameAt, has_asking, kept_for};
+ghost use Rattle.rvf_case.specs.Texts.{core_of, factors_of, is_same_text, line_text, lines_for, probes_for};
+ghost use Rattle.rvf_case.specs.Texts.{retirements_of, texts_for, with_text};
 
 use crate::same::is_same_text;
+use ck_ask::Question;
 use ck_cfg::{Check, CheckKind, Config};
 use fv_text::{Memory, Text};
 use rv_table::Isa;
@@ -126,41 +127,43 @@ pub(crate) fn probes_for(config: &Config, checks: &[Check], kind: CheckKind) -> 
     }
 }
 
-/// By what the weight of the design is multiplied: one more than the cycle of each check that has the text of a kind.
+/// By what the weight of the design is multiplied: one more than the last cycle of each question that has the text of a
+/// kind.
+#[tactic(auto, using(ck_ask::proofs::Lawful::not_late))]
 pub(crate) fn factors_for(
     alloc: Global,
     config: &Config,
-    checks: &[Check],
+    questions: &[Question],
     kind: CheckKind,
 ) -> Result<Vec<u32>, Memory>
-    requires { AllByRecursion (IsCheck config.now.nret) checks.now }
-    ensures { IfOk result (λ factors. factors.items ≡ factors_of (kept_for config.now kind checks.now)) }
+    requires { AllByRecursion (IsQuestion config.now.nret) questions.now }
+    ensures { IfOk result (λ factors. factors.items ≡ factors_of (with_text config.now kind questions.now)) }
 {
     let mut factors = Vec::new(alloc);
-    for check in checks {
-        if is_same_text(config, kind, check.kind) {
-            factors.push(check.cycle + 1)?;
+    for question in questions {
+        if is_same_text(config, kind, question.kind()) {
+            factors.push(question.cycle() + 1)?;
         }
     }
     Ok(factors)
 }
 
-/// The name of the check at a place, from 0 on, among those that have the text of a kind.
+/// The name of the question at a place, from 0 on, among those that have the text of a kind.
 pub(crate) fn name_at(
     alloc: Global,
     config: &Config,
-    checks: &[Check],
+    questions: &[Question],
     kind: CheckKind,
     place: u32,
 ) -> Result<Text, Memory>
-    requires { place < length (kept_for config.now kind checks.now) }
-    ensures { IfOk result (λ name. IsNameAt (kept_for config.now kind checks.now) place name) }
+    requires { place < length (with_text config.now kind questions.now) }
+    ensures { IfOk result (λ name. IsNameAt (with_text config.now kind questions.now) place name) }
 {
     let mut left = place;
-    for check in checks {
-        if is_same_text(config, kind, check.kind) {
+    for question in questions {
+        if is_same_text(config, kind, question.kind()) {
             if left == 0 {
-                return check.name.copied(alloc);
+                return question.name().copied(alloc);
             }
             left -= 1;
         }

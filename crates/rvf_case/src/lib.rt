@@ -1,8 +1,9 @@
-//! What stands before the checks of a configuration are judged: the configuration, its files, and what is loaded of
+//! What stands before the questions of a configuration are answered: the configuration, its files, and what is loaded of
 //! each of its texts.
 #![tactic(auto)]
 
 mod asked;
+mod asking;
 mod case;
 mod loading;
 mod preparing;
@@ -11,6 +12,7 @@ mod refusal;
 mod same;
 mod shared;
 
+pub use asking::Asking;
 pub use case::{Case, LoadedText};
 pub use preparing::{Request, prepare};
 pub use reading::read_config;

@@ -1,4 +1,4 @@
-//! From the names of a command line to the checks and what they are judged by.
+//! From the names of a command line to the questions and what they are answered by.
 
 ghost use Rattle.std.specs.Prelude.{◌≡◌, ◌≤◌, ◌∷◌, Some, Result, IfOk};
 ghost use Rattle.fv_base.specs.Outside.{Names, SameFiles};
@@ -8,6 +8,7 @@ ghost use Rattle.rvf_case.specs.declared.refusal.Refusal.{Refusal as SpecRefusal
 ghost use Rattle.rvf_case.specs.Cases.{Alike, Comes, IsReady, UnlessUnread, request_seen};
 ghost use Rattle.rvf_case.specs.Steps.{Prepares};
 
+use crate::asking::Asking;
 use crate::case::Case;
 use crate::loading::case_of;
 use crate::reading::{read_config, read_files};
@@ -17,12 +18,14 @@ use fv_base::Files;
 use fv_text::{List, Memory, Text};
 use std::alloc::Global;
 
-/// What a run is asked for that reads a configuration: its file, and the names that are put into the names of files.
+/// What a run is asked for that reads a configuration: its file, the names that are put into the names of files, and what is
+/// asked of it.
 #[derive(Debug, Clone, Copy)]
 pub struct Request<'a> {
     pub cfg: &'a [u8],
     pub core: &'a [u8],
     pub basedir: &'a [u8],
+    pub asking: Asking,
 }
 
 /// The names of the Verilog files.
@@ -68,13 +71,13 @@ fn prepared<F: Files>(alloc: Global, request: Request<'_>, files: &mut F) -> Res
     let names = names_of(alloc, &config, request.core, request.basedir)?;
     let texts = read_files(alloc, names.as_slice(), files)?;
     let all = with_first(alloc, request.cfg, names)?;
-    case_of(alloc, config, all, texts.as_slice())
+    case_of(alloc, config, request.asking, all, texts.as_slice())
 }
 
-/// The checks of a configuration and what they are judged by; or the first cause in the order of work why they aren't.
+/// The questions of a configuration and what they are answered by; or the first cause in the order of work why they aren't.
 ///
 /// The configuration is read, then its Verilog files, in the order of their lines; then each distinct text is loaded
-/// once, in the order of their first checks. Nothing is written.
+/// once, in the order of their first questions. Nothing is written.
 pub fn prepare<F: Files>(
     alloc: Global,
     request: Request<'_>,

@@ -4,7 +4,7 @@ use ck_cfg::CfgFault;
 use fv_text::{List, Memory, Text};
 use rvf_load::LoadFault;
 
-/// Why the checks of a configuration aren't judged: the first cause in the order of work.
+/// Why the questions of a configuration aren't answered: the first cause in the order of work.
 #[derive(Drop)]
 pub enum Refusal {
     /// The file with this name isn't held.
@@ -14,8 +14,8 @@ pub enum Refusal {
     Config(CfgFault),
     /// A part refuses a text; beside it the names of the files by their numbers, that of the configuration first.
     Source(LoadFault, List<Text>),
-    /// A design is too heavy for the check with this name, by this number: its weight times one more than the check's
-    /// cycle.
+    /// A design is too heavy for the question with this name, by this number: its weight times one more than the question's
+    /// last cycle.
     Heavy(Text, u64),
     Memory,
 }

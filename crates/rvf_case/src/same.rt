@@ -4,7 +4,8 @@ ghost use Rattle.std.specs.Prelude.{◌≡◌, ◌<◌, ◌∷◌, [], length, I
 ghost use Rattle.rvf_case.specs.Steps.{has_same, kind_lines};
 ghost use Rattle.rvf_case.specs.Texts.{is_same_text, leaders_behind};
 
-use ck_cfg::{Check, CheckKind, Config, KindPiece};
+use ck_ask::Question;
+use ck_cfg::{CheckKind, Config, KindPiece};
 use fv_text::Memory;
 use std::alloc::Global;
 
@@ -49,18 +50,19 @@ fn has_same(config: &Config, kinds: &[CheckKind], kind: CheckKind) -> bool
     kinds.iter().any(|k| is_same_text(config, *k, kind))
 }
 
-/// Of each text of these checks the kind of the first one.
+/// Of each text of these questions the kind of the first one.
 pub(crate) fn leaders(
     alloc: Global,
     config: &Config,
-    checks: &[Check],
+    questions: &[Question],
 ) -> Result<Vec<CheckKind>, Memory>
-    ensures { IfOk result (λ kinds. kinds.items ≡ leaders_behind config.now [] checks.now) }
+    ensures { IfOk result (λ kinds. kinds.items ≡ leaders_behind config.now [] questions.now) }
 {
     let mut kinds = Vec::new(alloc);
-    for check in checks {
-        if !has_same(config, kinds.as_slice(), check.kind) {
-            kinds.push(check.kind)?;
+    for question in questions {
+        let kind = question.kind();
+        if !has_same(config, kinds.as_slice(), kind) {
+            kinds.push(kind)?;
         }
     }
     Ok(kinds)

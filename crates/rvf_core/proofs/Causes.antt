@@ -12,8 +12,7 @@ use Rattle.rvf_case.specs.Loads.{NoneRefuses}
 use Rattle.rvf_case.specs.Loading.{LoadFault}
 use Rattle.rvf_case.specs.Loading.load as load
 use Rattle.rvf_case.specs.Cases.{AreRead, AreUnrefused, IsCause, IsConfigured, IsNext, IsRefusedText, Request, Seen}
-use Rattle.rvf_case.specs.Cases.{configuration}
-use Rattle.rvf_case.specs.Cases.{names_in, verilog}
+use Rattle.rvf_case.specs.Cases.{configuration, names_in, questions_in, verilog}
 use Rattle.rvf_case.specs.Texts.{asked_for, leaders}
 use Rattle.rvf_case.specs.declared.refusal.Refusal.{Refusal}
 use Rattle.rvf_case.specs.declared.refusal.Refusal.TheVariants as refusal
@@ -84,13 +83,15 @@ module _ (q : Request) (names : Names) where
   among P (y ∷ before) x behind each = among P before x behind each.1
 
   text_unrefused : (c d : Config) (fs : List (List ℕ)) (kind : CheckKind) (f : LoadFault)
-      → HasRead q (Some names) c fs → AreUnrefused c fs (leaders c) → IsRefusedText q (Some names) d kind f → ⊥
+      → HasRead q (Some names) c fs → AreUnrefused c fs (questions_in q c) (leaders c (questions_in q c))
+      → IsRefusedText q (Some names) d kind f → ⊥
   text_unrefused c d fs kind f x unrefused refused =
-      let there : AreUnrefused d refused.files (leaders d) =
-      moved (λ e gs. AreUnrefused e gs (leaders e)) d c refused.files fs
+      let there : AreUnrefused d refused.files (questions_in q d) (leaders d (questions_in q d)) =
+      moved (λ e gs. AreUnrefused e gs (questions_in q e) (leaders e (questions_in q e))) d c refused.files fs
       (record { configured = refused.configured; read = refused.read }) x unrefused in
-      among (λ k. NoneRefuses (asked_for d refused.files k)) refused.before kind refused.behind
-      (subst (λ ks. AllByRecursion (λ k. NoneRefuses (asked_for d refused.files k)) ks) refused.order there) f
+      among (λ k. NoneRefuses (asked_for d refused.files (questions_in q d) k)) refused.before kind refused.behind
+      (subst (λ ks. AllByRecursion (λ k. NoneRefuses (asked_for d refused.files (questions_in q d) k)) ks)
+      refused.order there) f
       refused.refused
 
   module _ (misses misses_now faults faults_now : ℕ) where
@@ -104,7 +105,7 @@ module _ (q : Request) (names : Names) where
     }
 
     pub uncaused : (c : Config) (fs : List (List ℕ)) → rose faults faults_now ≡ false → HasRead q (Some names) c fs
-        → AreUnrefused c fs (leaders c) → (f : Refusal) → IsCause q seen f → ⊥
+        → AreUnrefused c fs (questions_in q c) (leaders c (questions_in q c)) → (f : Refusal) → IsCause q seen f → ⊥
     uncaused c fs no_fault x unrefused (refusal.Absent name) cause =
         let found : (bytes : List ℕ) × (names name ≡ Some bytes) = next_read c fs name x cause.next in
         not_both (names name) found.0 found.1 cause.lacks

@@ -1,34 +1,38 @@
 -- How a run ends: with the status whose report was delivered, or with what took its place.
-use Rattle.std.proofs.Common.{◌≡◌, ℕ, false, if◌then◌else◌, List, [], Option, Some, Result, Ok, Err}
+use Rattle.std.proofs.Common.{◌≡◌, ℕ, List, [], Option, Result, Ok, Err}
 use Rattle.std.proofs.Common.{IfOk, length, refl, sym, ap, ◌∙◌, subst}
-use Rattle.std.specs.List.{list_any}
 use Rattle.fv_text.specs.declared.memory.Memory.{Memory}
+use Rattle.fv_base.specs.Outside.{Told}
 use Rattle.fv_base.specs.declared.out.OutFault.{OutFault}
 use Rattle.fv_base.specs.declared.out.OutFault.TheVariants as out
-use Rattle.ck_cfg.specs.declared.kind.CheckKind.TheVariants as kind
-use Rattle.ck_cfg.specs.Checks.{checks_of}
-use Rattle.ck_cfg.specs.Kind.{is_kind}
+use Rattle.ck_cfg.specs.declared.config.Config.{Config}
+use Rattle.bm_decide.specs.Searches.{TakesFewer}
+use Rattle.ck_ask.specs.declared.question.Question.{Question}
 use Rattle.rvf_judge.specs.declared.judged.Judged.{Judged}
 use Rattle.rvf_judge.specs.Sources.{JudgementsAreTheSources}
 use Rattle.rvf_words.specs.declared.line.Line.{Line as Words}
-use Rattle.rvf_words.specs.declared.line.Line.TheVariants as words
-use Rattle.rvf_case.specs.Cases.{IsCase, IsReady, loaded_for}
+use Rattle.rvf_case.specs.Cases.{AreLoaded, IsCase, IsReady, Request, questions_in}
 use Rattle.rvf_case.specs.declared.case.Case.{Case}
-use Rattle.rvf_report.specs.Outcome.{Outside, IsDelivered}
-use Rattle.rvf_report.specs.Reports.{AreAnswers, Concludes, all, begun, front, has_altops, is_noted, status_of, whole}
+use Rattle.rvf_report.specs.Outcome.{Outside, Delivers, IsDelivered}
+use Rattle.rvf_report.specs.Reports.{AreAnswersFrom, Concludes, Plan, all, front}
 use Rattle.rvf_report.specs.Reports as reports
+use Rattle.rvf_checks.specs.Answers.{AreAnswers}
+use Rattle.rvf_checks.specs.Checked.{begun, is_noted, plan_of, whole}
+use Rattle.rvf_checks.specs.Counting.{status_of}
+use Rattle.rvf_checks.specs.declared.counts.Counts.{Counts}
+use Rattle.rvf_checks.specs.declared.wording.Wording.{Wording}
+use Rattle.rvf_checks.proofs.Listing.{are_answers, begun_is, status_is, whole_is}
 use Rattle.rvf_report.specs.Status.{ends}
 use Rattle.rvf_report.specs.declared.delivery.Delivery.{Delivery}
 use Rattle.rvf_report.specs.declared.status.Status.{Status}
 use Rattle.rvf_report.specs.declared.status.Status.TheVariants as s
-use Rattle.rvf_core.specs.Checks.{HasRead, IsBegun, IsWhole}
-use Rattle.rvf_core.specs.Checks as checks
+use Rattle.rvf_core.specs.Checks.{IsBegun, IsWhole}
 use Rattle.rvf_core.specs.Puts.{Puts}
-use Rattle.rvf_core.specs.Run.{Ends, IsReport, Reports, Run, Says, request, seen_in}
+use Rattle.rvf_core.specs.Run.{Begins, Ends, IsReport, Reports, Run, Says, seen_in}
 use Rattle.rvf_core.specs.Run as run
-use Rattle.rvf_core.specs.Verdicts.{AreJudged, IsNoted, IsNotedWhere, has_rows}
+use Rattle.rvf_core.specs.Verdicts.{AreJudged, IsNoted}
 use Rattle.rvf_core.specs.declared.report.Report.{Report}
-use Rattle.rvf_core.proofs.Judging.{AreThere, are_judged, noted_over}
+use Rattle.rvf_core.proofs.Judging.{are_judged, noted_over}
 use Rattle.rvf_core.proofs.Later.{IsEarlier, later_delivers, later_fails, later_stops}
 
 -- the status stands for a cause of its own: no delivery failed, and memory wasn't wanted
@@ -97,99 +101,116 @@ module _ (asked : Option Words) (r : Run) (middle : Outside) (earlier : IsEarlie
         };
       })
 
--- ---- checks that are judged while their report is delivered
+-- ---- questions that are answered while their report is delivered
 
-module _ (law : JudgementsAreTheSources) (cfg outdir core basedir : List ℕ) (budget jobs : ℕ) (case : Case) (r : Run)
-    (is : IsCase (request cfg core basedir) r.before.held case) (ready : IsReady case) where
-  there : AreThere case (checks_of case.config)
-  there = subst (λ xs. AreThere case xs) is.checks_are ready
+module _ (law : JudgementsAreTheSources TakesFewer) (q : Request) (held : Told) (words : Wording) (folder : List ℕ)
+    (budget : ℕ) (case : Case) (is : IsCase q held case) (ready : IsReady case) where
+  abbrev c : Config
+  c = case.config
 
-  has_read : HasRead (request cfg core basedir) r.before.held case.config is.files
-  has_read = record { configured = is.configured; read = is.read }
+  abbrev qs : List Question
+  qs = questions_in q c
 
-  judged : (answers : List Judged) → AreAnswers case budget case.checks answers
-      → AreJudged case.config is.files budget (checks_of case.config) answers
+  loaded : AreLoaded c is.files qs case.texts
+  loaded = subst (λ xs. AreLoaded c is.files xs case.texts) is.questions_are is.loaded
+
+  judged : (answers : List Judged) → AreAnswers TakesFewer case budget case.questions answers
+      → AreJudged c is.files qs budget qs answers
   judged answers are =
-      are_judged law case is.files budget is.loaded (checks_of case.config) answers there
-      (subst (λ xs. AreAnswers case budget xs answers) is.checks_are are)
+      subst (λ xs. AreJudged c is.files xs budget xs answers) is.questions_are
+      (are_judged law case is.files budget is.loaded case.questions answers ready are)
 
-  noted : IsNoted case.config is.files (is_noted case)
+  noted : IsNoted c is.files qs (is_noted case)
   noted =
-      subst (λ xs. IsNotedWhere (has_rows (checks_of case.config)) case.config is.files (list_any
-      (λ x. if is_kind x.kind kind.Insn then has_altops (loaded_for case x) else false) xs))
-      (sym is.checks_are) (noted_over case is.files is.loaded (checks_of case.config) there)
+      subst (λ xs. IsNoted c is.files xs (is_noted case)) is.questions_are
+      (noted_over case is.files is.loaded case.questions ready)
 
-  whole_said : (status : Status) (answers : List Judged) → AreAnswers case budget case.checks answers
-      → length answers ≡ length case.checks → status ≡ status_of answers
-      → IsWhole (request cfg core basedir) r.before.held outdir budget status
-      (whole outdir budget (is_noted case) case.config.skips case.checks answers)
+  whole_said : (status : Status) (answers : List Judged) → AreAnswers TakesFewer case budget case.questions answers
+      → length answers ≡ length case.questions → status ≡ status_of answers
+      → IsWhole q held words folder budget status
+      (whole words folder budget (is_noted case) c.skips case.questions answers)
   whole_said status answers are all_answered status_is = record {
-    config = case.config;
+    config = c;
     files = is.files;
-    read = has_read;
-    unrefused = is.loaded.unrefused;
+    read = record { configured = is.configured; read = is.read };
+    unrefused = loaded.unrefused;
     answers = answers;
     judged = judged answers are;
-    all = all_answered ∙ ap length is.checks_are;
+    all = all_answered ∙ ap length is.questions_are;
     noted = is_noted case;
     is_noted = noted;
     status_is = status_is;
-    report_is = ap (λ xs. whole outdir budget (is_noted case) case.config.skips xs answers) is.checks_are;
+    report_is = ap (λ xs. whole words folder budget (is_noted case) c.skips xs answers) is.questions_are;
   }
 
-  begun_said : (answers : List Judged) → AreAnswers case budget case.checks answers
-      → IsBegun (request cfg core basedir) r.before.held outdir budget
-      (begun outdir budget (is_noted case) case.config.skips case.checks answers)
+  begun_said : (answers : List Judged) → AreAnswers TakesFewer case budget case.questions answers
+      → IsBegun q held words folder budget
+      (begun words folder budget (is_noted case) c.skips case.questions answers)
   begun_said answers are = record {
-    config = case.config;
+    config = c;
     files = is.files;
-    read = has_read;
-    unrefused = is.loaded.unrefused;
+    read = record { configured = is.configured; read = is.read };
+    unrefused = loaded.unrefused;
     answers = answers;
     judged = judged answers are;
     noted = is_noted case;
     is_noted = noted;
-    report_is = ap (λ xs. begun outdir budget (is_noted case) case.config.skips xs answers) is.checks_are;
+    report_is = ap (λ xs. begun words folder budget (is_noted case) c.skips xs answers) is.questions_are;
   }
 
-  reported : (answers : List Judged) (report : List Delivery) → AreAnswers case budget case.checks answers
-      → reports.IsReport case outdir budget answers report
-      → IsReport (Some (words.Run cfg outdir core basedir budget jobs)) (seen_in r) report
-  reported answers report are (front e) = subst
-      (λ l. IsReport (Some (words.Run cfg outdir core basedir budget jobs)) (seen_in r) l) (sym e)
-      (run.begun (begun_said answers are))
-  reported answers report are (all n e) = subst
-      (λ l. IsReport (Some (words.Run cfg outdir core basedir budget jobs)) (seen_in r) l) (sym e)
-      (run.whole (status_of answers) (checks.judged (whole_said (status_of answers) answers are n refl)))
+  abbrev plan : Plan Judged Counts
+  plan = plan_of TakesFewer case words folder budget
 
-  module _ (middle : Outside) (earlier : IsEarlier r.before middle) where
-    whole_reported : (status : Status) → reports.Reports case outdir budget middle r.now status
-        → Reports (Some (words.Run cfg outdir core basedir budget jobs)) r status
-    whole_reported status x = record {
-      report = whole outdir budget (is_noted case) case.config.skips case.checks x.answers;
-      says = checks.judged (whole_said status x.answers x.are x.all x.status_is);
-      delivered = later_delivers r.before middle r.now earlier _ x.delivered;
-    }
+  -- what is said where the words ask for these questions
+  module _ (asked : Option Words) (r : Run)
+      (says : (status : Status) (report : List Delivery) → IsWhole q held words folder budget status report
+      → Says asked (seen_in r) status report)
+      (begins : (report : List Delivery) → IsBegun q held words folder budget report
+      → Begins asked (seen_in r) report) where
+    reported : (answers : List Judged) (report : List Delivery) → AreAnswersFrom plan 0 answers
+        → reports.IsReport plan answers report → IsReport asked (seen_in r) report
+    reported answers report are (front e) =
+        subst (λ l. IsReport asked (seen_in r) l)
+        (sym (e ∙ begun_is TakesFewer case words folder budget answers are))
+        (run.begun (begins (begun words folder budget (is_noted case) c.skips case.questions answers)
+        (begun_said answers (are_answers TakesFewer case words folder budget answers are))))
+    reported answers report are (all n e) =
+        subst (λ l. IsReport asked (seen_in r) l)
+        (sym (e ∙ whole_is TakesFewer case words folder budget answers are))
+        (run.whole (status_of answers) (says (status_of answers)
+        (whole words folder budget (is_noted case) c.skips case.questions answers)
+        (whole_said (status_of answers) answers (are_answers TakesFewer case words folder budget answers are) n refl)))
 
-    pub ends_concluded : (status : Status) → Concludes status case outdir budget middle r.now
-        → Ends (Some (words.Run cfg outdir core basedir budget jobs)) r status
-    ends_concluded s.Passed x = whole_reported s.Passed x
-    ends_concluded s.Failing x = whole_reported s.Failing x
-    ends_concluded s.Spent x = whole_reported s.Spent x
-    ends_concluded s.Usage x = absurd x
-    ends_concluded s.Config x = absurd x
-    ends_concluded s.Source x = absurd x
-    ends_concluded s.Absent x = absurd x
-    ends_concluded s.ReadFault x = absurd x
-    ends_concluded s.WriteFault x = record {
-      report = x.report;
-      is = reported x.answers x.report x.are x.is;
-      fails = later_fails r.before middle r.now earlier x.report x.fails;
-    }
-    ends_concluded s.Heavy x = absurd x
-    ends_concluded s.Refused x = absurd x
-    ends_concluded s.Memory x = record {
-      report = x.report;
-      is = reported x.answers x.report x.are x.is;
-      stops = later_stops r.before middle r.now earlier x.report x.stops;
-    }
+    module _ (middle : Outside) (earlier : IsEarlier r.before middle) where
+      whole_reported : (status : Status) → reports.Reports plan middle r.now status → Reports asked r status
+      whole_reported status x = record {
+        report = whole words folder budget (is_noted case) c.skips case.questions x.answers;
+        says = says status (whole words folder budget (is_noted case) c.skips case.questions x.answers)
+            (whole_said status x.answers (are_answers TakesFewer case words folder budget x.answers x.are) x.all
+            (status_is TakesFewer case words folder budget x.answers status x.status_is));
+        delivered = later_delivers r.before middle r.now earlier _
+            (subst (λ l. Delivers middle r.now l) (whole_is TakesFewer case words folder budget x.answers x.are)
+            x.delivered);
+      }
+
+      pub ends_concluded : (status : Status) → Concludes plan status middle r.now → Ends asked r status
+      ends_concluded s.Passed x = whole_reported s.Passed x
+      ends_concluded s.Failing x = whole_reported s.Failing x
+      ends_concluded s.Spent x = whole_reported s.Spent x
+      ends_concluded s.Usage x = absurd x
+      ends_concluded s.Config x = absurd x
+      ends_concluded s.Source x = absurd x
+      ends_concluded s.Absent x = absurd x
+      ends_concluded s.ReadFault x = absurd x
+      ends_concluded s.WriteFault x = record {
+        report = x.report;
+        is = reported x.answers x.report x.are x.is;
+        fails = later_fails r.before middle r.now earlier x.report x.fails;
+      }
+      ends_concluded s.Heavy x = absurd x
+      ends_concluded s.Refused x = absurd x
+      ends_concluded s.Memory x = record {
+        report = x.report;
+        is = reported x.answers x.report x.are x.is;
+        stops = later_stops r.before middle r.now earlier x.report x.stops;
+      }

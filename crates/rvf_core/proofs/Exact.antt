@@ -1,6 +1,6 @@
 -- An answer has the only cause that is there.
-use Rattle.std.proofs.Common.{◌≡◌, ℕ, Bool, true, false, List, [], ◌∷◌, length, Option, Some, None}
-use Rattle.std.proofs.Common.{refl, sym, subst, inl, inr, ◌⊎◌, arith}
+use Rattle.std.proofs.Common.{◌≡◌, ℕ, Bool, true, false, List, [], ◌∷◌, length, map, Option, Some, None}
+use Rattle.std.proofs.Common.{refl, sym, ◌∙◌, subst, inl, inr, ◌⊎◌, arith}
 use Rattle.std.proofs.lemmas.List.Elements.{All-contains, All-from_recursion, recursion_from_All}
 use Rattle.std.specs.List.{All, AllByRecursion, Contains}
 use Rattle.fv_base.specs.Outside.{Names}
@@ -8,7 +8,11 @@ use Rattle.vl_size.specs.Size.{Values}
 use Rattle.ck_cfg.specs.declared.check.Check.{Check}
 use Rattle.ck_cfg.specs.declared.config.Config.{Config}
 use Rattle.ck_cfg.specs.Checks.{checks_of}
+use Rattle.ck_ask.specs.declared.question.Question.{Question}
+use Rattle.ck_ask.specs.declared.question.Question.TheVariants as question
+use Rattle.ck_design.specs.Findings.{IsFound}
 use Rattle.ck_design.specs.Retirements.{IsViolating}
+use Rattle.ck_design.proofs.Found.{found_violates}
 use Rattle.rvf_case.specs.Loads.{design_of}
 use Rattle.rvf_judge.specs.declared.judged.Judged.{Judged}
 use Rattle.rvf_judge.specs.declared.judged.Judged.TheVariants as judged
@@ -17,17 +21,18 @@ use Rattle.rvf_words.specs.declared.line.Line.{Line as Words}
 use Rattle.rvf_words.specs.declared.line.Line.TheVariants as words
 use Rattle.rvf_case.specs.Cases.{AreUnrefused, Request, Seen}
 use Rattle.rvf_case.specs.Texts.{leaders}
-use Rattle.rvf_report.specs.Reports.{status_of}
+use Rattle.rvf_checks.specs.Counting.{status_of}
+use Rattle.rvf_checks.specs.declared.wording.Wording.TheVariants as wording
 use Rattle.rvf_report.specs.declared.delivery.Delivery.{Delivery}
 use Rattle.rvf_report.specs.declared.status.Status.{Status}
 use Rattle.rvf_report.specs.declared.status.Status.TheVariants as s
 use Rattle.rvf_core.specs.Checks.{Checks, HasRead}
 use Rattle.rvf_core.specs.Checks as checks
-use Rattle.rvf_core.specs.Run.{Answers, Ends, HasCounts, IsAccepted, IsExact, Run, Says, comes}
+use Rattle.rvf_core.specs.Run.{Answers, Ends, HasCounts, IsAccepted, IsExact, Run, Says, comes, request}
 use Rattle.rvf_core.specs.Run.{comes_in_budget}
 use Rattle.rvf_core.specs.Run.{comes_judged, rose, seen_in}
 use Rattle.rvf_core.specs.Steps.{HaveStatus}
-use Rattle.rvf_core.specs.Verdicts.{AreJudged, Judges, Violates, opts_in, text_of, wants_in}
+use Rattle.rvf_core.specs.Verdicts.{AreJudged, Judges, Violates, check_questions, opts_in, text_of, wants_in}
 use Rattle.rvf_core.proofs.Causes.{moved, uncaused}
 use Rattle.rvf_core.proofs.Others.{same_said}
 use Rattle.rvf_core.proofs.Statuses.{IsFail, IsPass, all_pass, by_verdict, comes_Memory, comes_WriteFault, comes_itself}
@@ -70,32 +75,44 @@ usage_comes r status a none =
 abbrev IsClean : Config → List (List ℕ) → Check → Type 0
 IsClean c fs x = (run : List Values) → Violates c fs x run → ⊥
 
--- a run that violates a check violates it in the reading of which the check was judged
-violates_judged : (c : Config) (fs : List (List ℕ)) (budget : ℕ) (x : Check) (j : Judged) (run : List Values)
-    (g : Judges c fs budget x j) → Violates c fs x run
-    → IsViolating (design_of g.reading.tree.modules) c.nret (wants_in (text_of c fs x.kind) g.reading) x
+-- a question for the check
+abbrev of_check : Check → Question
+of_check x = question.Check x
+
+-- a run that violates a check is found in the reading of which the check was judged
+found_judged : (c : Config) (fs : List (List ℕ)) (budget : ℕ) (x : Check) (j : Judged) (run : List Values)
+    (g : Judges c fs (check_questions c) budget (of_check x) j) → Violates c fs x run
+    → IsFound (design_of g.reading.tree.modules) c.nret (wants_in (text_of c fs x.kind) g.reading) (of_check x)
     (opts_in (text_of c fs x.kind) g.reading) run
-violates_judged c fs budget x j run g v =
-    subst (λ y. IsViolating (design_of y.tree.modules) c.nret (wants_in (text_of c fs x.kind) y) x
-    (opts_in (text_of c fs x.kind) y) run) (g.one v.reading v.is.reads) v.violating
+found_judged c fs budget x j run g v =
+    (found_violates (design_of g.reading.tree.modules) c.nret (wants_in (text_of c fs x.kind) g.reading) x
+    (opts_in (text_of c fs x.kind) g.reading) run).1
+    (subst (λ y. IsViolating (design_of y.tree.modules) c.nret (wants_in (text_of c fs x.kind) y) x
+    (opts_in (text_of c fs x.kind) y) run) (g.one v.reading v.is.reads) v.violating)
 
 clean_pass : (c : Config) (fs : List (List ℕ)) (budget : ℕ) (x : Check) (j : Judged)
-    → IsPass j → Judges c fs budget x j → IsClean c fs x
-clean_pass c fs budget x (judged.Pass texts) p g =
-    λ run v. g.judged.holds run (violates_judged c fs budget x (judged.Pass texts) run g v)
-clean_pass c fs budget x (judged.Fail dump) p g = absurd p
+    → IsPass j → Judges c fs (check_questions c) budget (of_check x) j → IsClean c fs x
+clean_pass c fs budget x (judged.Never texts) p g =
+    λ run v. g.judged.never run (found_judged c fs budget x (judged.Never texts) run g v)
+clean_pass c fs budget x (judged.Found dump) p g = absurd p
 clean_pass c fs budget x (judged.Spent texts) p g = absurd p
 
 fails_unclean : (c : Config) (fs : List (List ℕ)) (budget : ℕ) (x : Check) (j : Judged)
-    → IsFail j → Judges c fs budget x j → IsClean c fs x → ⊥
-fails_unclean c fs budget x (judged.Pass texts) p g clean = p
-fails_unclean c fs budget x (judged.Fail dump) p g clean =
-    clean g.judged.run (record { reading = g.reading; is = g.is; violating = g.judged.violates })
+    → IsFail j → Judges c fs (check_questions c) budget (of_check x) j → IsClean c fs x → ⊥
+fails_unclean c fs budget x (judged.Never texts) p g clean = p
+fails_unclean c fs budget x (judged.Found dump) p g clean =
+    clean g.judged.run (record {
+      reading = g.reading;
+      is = g.is;
+      violating = (found_violates (design_of g.reading.tree.modules) c.nret
+          (wants_in (text_of c fs x.kind) g.reading) x (opts_in (text_of c fs x.kind) g.reading) g.judged.run).0
+          g.judged.found;
+    })
 fails_unclean c fs budget x (judged.Spent texts) p g clean = p
 
 -- one fails, or another one does
 unclean_or : (c : Config) (fs : List (List ℕ)) (budget : ℕ) (x : Check) (j : Judged) (Other : Type 0)
-    → IsFail j ⊎ Other → Judges c fs budget x j → IsClean c fs x → (Other → ⊥) → ⊥
+    → IsFail j ⊎ Other → Judges c fs (check_questions c) budget (of_check x) j → IsClean c fs x → (Other → ⊥) → ⊥
 unclean_or c fs budget x j Other (inl p) g clean none = fails_unclean c fs budget x j p g clean
 unclean_or c fs budget x j Other (inr p) g clean none = none p
 
@@ -108,18 +125,20 @@ more_left y ys x xs e = omega arith
 
 module _ (c : Config) (fs : List (List ℕ)) (budget : ℕ) where
   -- where all pass no check is violated
-  passed_clean : (xs : List Check) (js : List Judged) → AreJudged c fs budget xs js → length js ≡ length xs
+  passed_clean : (xs : List Check) (js : List Judged)
+      → AreJudged c fs (check_questions c) budget (map of_check xs) js → length js ≡ length (map of_check xs)
       → status_of js ≡ s.Passed → AllByRecursion (IsClean c fs) xs
   passed_clean [] js are all passed = tt
-  passed_clean (x ∷ xs) [] are all passed = absurd (none_left x xs all)
+  passed_clean (x ∷ xs) [] are all passed = absurd (none_left (of_check x) (map of_check xs) all)
   passed_clean (x ∷ xs) (j ∷ js) are all passed =
       let both = all_pass j js passed in (
         clean_pass c fs budget x j both.0 are.0,
-        passed_clean xs js are.1 (more_left j js x xs all) both.1,
+        passed_clean xs js are.1 (more_left j js (of_check x) (map of_check xs) all) both.1,
       )
 
   -- where one fails a check is violated
-  failing_unclean : (xs : List Check) (js : List Judged) → AreJudged c fs budget xs js
+  failing_unclean : (xs : List Check) (js : List Judged)
+      → AreJudged c fs (check_questions c) budget (map of_check xs) js
       → status_of js ≡ s.Failing → AllByRecursion (IsClean c fs) xs → ⊥
   failing_unclean xs [] are failing clean = passed_failing failing
   failing_unclean [] (j ∷ js) are failing clean = are
@@ -127,9 +146,13 @@ module _ (c : Config) (fs : List (List ℕ)) (budget : ℕ) where
       unclean_or c fs budget x j (status_of js ≡ s.Failing) (one_fails j js failing) are.0 clean.0
       (λ p. failing_unclean xs js are.1 p clean.1)
 
-module _ (q : Request) (names : Names) (misses misses_now faults faults_now : ℕ)
+module _ (cfg core basedir : List ℕ) (names : Names) (misses misses_now faults faults_now : ℕ)
     (no_fault : rose faults faults_now ≡ false) (c : Config) (fs : List (List ℕ))
-    (read : HasRead q (Some names) c fs) (unrefused : AreUnrefused c fs (leaders c)) where
+    (read : HasRead (request cfg core basedir) (Some names) c fs)
+    (unrefused : AreUnrefused c fs (check_questions c) (leaders c (check_questions c))) where
+  abbrev q : Request
+  q = request cfg core basedir
+
   abbrev seen : Seen
   seen = record {
     held = Some names;
@@ -140,12 +163,12 @@ module _ (q : Request) (names : Names) (misses misses_now faults faults_now : �
   }
 
   pass_said : (folder : List ℕ) (budget : ℕ) (status : Status) (report : List Delivery)
-      → Checks q seen folder budget status report → All (IsClean c fs) (checks_of c)
+      → Checks q seen wording.Run folder budget status report → All (IsClean c fs) (checks_of c)
       → comes_in_budget s.Passed status ≡ true
   pass_said folder budget status report (checks.judged w) clean =
-      let are : AreJudged c fs budget (checks_of c) w.answers =
-      moved q names (λ d gs. AreJudged d gs budget (checks_of d) w.answers) c w.config fs w.files read w.read
-      w.judged in
+      let are : AreJudged c fs (check_questions c) budget (check_questions c) w.answers =
+      moved q names (λ d gs. AreJudged d gs (check_questions d) budget (check_questions d) w.answers) c w.config fs
+      w.files read w.read w.judged in
       subst (λ x. comes_in_budget s.Passed x ≡ true) (sym w.status_is)
       (by_verdict (comes_in_budget s.Passed) (status_of w.answers) (is_verdict w.answers) (λ e. refl)
       (λ e. absurd (failing_unclean c fs budget (checks_of c) w.answers are e
@@ -154,7 +177,7 @@ module _ (q : Request) (names : Names) (misses misses_now faults faults_now : �
       absurd (uncaused q names misses misses_now faults faults_now c fs no_fault read unrefused w.refusal w.cause)
 
   judged_said : (folder : List ℕ) (budget : ℕ) (status : Status) (report : List Delivery)
-      → Checks q seen folder budget status report → comes_judged status ≡ true
+      → Checks q seen wording.Run folder budget status report → comes_judged status ≡ true
   judged_said folder budget status report (checks.judged w) =
       subst (λ x. comes_judged x ≡ true) (sym w.status_is)
       (by_verdict comes_judged (status_of w.answers) (is_verdict w.answers) (λ e. refl) (λ e. refl) refl)
@@ -162,11 +185,12 @@ module _ (q : Request) (names : Names) (misses misses_now faults faults_now : �
       absurd (uncaused q names misses misses_now faults faults_now c fs no_fault read unrefused w.refusal w.cause)
 
   fail_said : (folder : List ℕ) (budget : ℕ) (status : Status) (report : List Delivery) (x : Check)
-      (run : List Values) → Checks q seen folder budget status report → Contains (checks_of c) x
+      (run : List Values) → Checks q seen wording.Run folder budget status report → Contains (checks_of c) x
       → Violates c fs x run → comes_in_budget s.Failing status ≡ true
   fail_said folder budget status report x run (checks.judged w) there violates =
       let P : Config → List (List ℕ) → Type 0 =
-      λ d gs. AreJudged d gs budget (checks_of d) w.answers × (length w.answers ≡ length (checks_of d)) in
+      λ d gs. AreJudged d gs (check_questions d) budget (check_questions d) w.answers
+      × (length w.answers ≡ length (check_questions d)) in
       let are : P c fs = moved q names P c w.config fs w.files read w.read (w.judged, w.all) in
       subst (λ z. comes_in_budget s.Failing z ≡ true) (sym w.status_is)
       (by_verdict (comes_in_budget s.Failing) (status_of w.answers) (is_verdict w.answers)
@@ -187,8 +211,8 @@ seen_told names r = record {
 }
 
 told_checks : (r : Run) (names : Names) (q : Request) (folder : List ℕ) (budget : ℕ) (status : Status)
-    (report : List Delivery) → r.before.held ≡ Some names → Checks q (seen_in r) folder budget status report
-    → Checks q (seen_told names r) folder budget status report
+    (report : List Delivery) → r.before.held ≡ Some names → Checks q (seen_in r) wording.Run folder budget status report
+    → Checks q (seen_told names r) wording.Run folder budget status report
 told_checks r names q folder budget status report told said =
     subst (λ held. Checks q (record {
       held = held;
@@ -196,43 +220,43 @@ told_checks r names q folder budget status report told said =
       misses_now = r.now.misses;
       faults = r.before.faults;
       faults_now = r.now.faults;
-    }) folder budget status report) told said
+    }) wording.Run folder budget status report) told said
 
 pass_comes : (r : Run) (status : Status) → Answers status r → (c : Config) (fs : List (List ℕ)) → IsAccepted r c fs
     → All (IsClean c fs) (checks_of c) → comes_in_budget s.Passed status ≡ true
 pass_comes r status a c fs h clean =
     let asks = h.asks in
-    let line : Option Words = Some (words.Run h.request.cfg asks.outdir h.request.core h.request.basedir asks.budget
-    asks.jobs) in
+    let line : Option Words = Some (words.Run asks.cfg asks.outdir asks.core asks.basedir asks.budget asks.jobs) in
+    let q : Request = request asks.cfg asks.core asks.basedir in
     by_cause (comes_in_budget s.Passed) refl refl line r status (under r line status asks.asked a)
-    (λ report says. pass_said h.request asks.names r.before.misses r.now.misses r.before.faults r.now.faults
-    asks.no_fault c fs (subst (λ held. HasRead h.request held c fs) asks.told h.read) h.unrefused asks.outdir
-    asks.budget status report (told_checks r asks.names h.request asks.outdir asks.budget status report asks.told says)
+    (λ report says. pass_said asks.cfg asks.core asks.basedir asks.names r.before.misses r.now.misses r.before.faults r.now.faults
+    asks.no_fault c fs (subst (λ held. HasRead q held c fs) asks.told h.read) h.unrefused asks.outdir
+    asks.budget status report (told_checks r asks.names q asks.outdir asks.budget status report asks.told says)
     clean)
 
 judged_comes : (r : Run) (status : Status) → Answers status r → (c : Config) (fs : List (List ℕ))
     → IsAccepted r c fs → comes_judged status ≡ true
 judged_comes r status a c fs h =
     let asks = h.asks in
-    let line : Option Words = Some (words.Run h.request.cfg asks.outdir h.request.core h.request.basedir asks.budget
-    asks.jobs) in
+    let line : Option Words = Some (words.Run asks.cfg asks.outdir asks.core asks.basedir asks.budget asks.jobs) in
+    let q : Request = request asks.cfg asks.core asks.basedir in
     by_cause comes_judged refl refl line r status (under r line status asks.asked a)
-    (λ report says. judged_said h.request asks.names r.before.misses r.now.misses r.before.faults r.now.faults
-    asks.no_fault c fs (subst (λ held. HasRead h.request held c fs) asks.told h.read) h.unrefused asks.outdir
-    asks.budget status report (told_checks r asks.names h.request asks.outdir asks.budget status report asks.told says))
+    (λ report says. judged_said asks.cfg asks.core asks.basedir asks.names r.before.misses r.now.misses r.before.faults r.now.faults
+    asks.no_fault c fs (subst (λ held. HasRead q held c fs) asks.told h.read) h.unrefused asks.outdir
+    asks.budget status report (told_checks r asks.names q asks.outdir asks.budget status report asks.told says))
 
 fail_comes : (r : Run) (status : Status) → Answers status r → (c : Config) (fs : List (List ℕ)) (x : Check)
     (run : List Values) → IsAccepted r c fs → Contains (checks_of c) x → Violates c fs x run
     → comes_in_budget s.Failing status ≡ true
 fail_comes r status a c fs x run h there violates =
     let asks = h.asks in
-    let line : Option Words = Some (words.Run h.request.cfg asks.outdir h.request.core h.request.basedir asks.budget
-    asks.jobs) in
+    let line : Option Words = Some (words.Run asks.cfg asks.outdir asks.core asks.basedir asks.budget asks.jobs) in
+    let q : Request = request asks.cfg asks.core asks.basedir in
     by_cause (comes_in_budget s.Failing) refl refl line r status (under r line status asks.asked a)
-    (λ report says. fail_said h.request asks.names r.before.misses r.now.misses r.before.faults r.now.faults
-    asks.no_fault c fs (subst (λ held. HasRead h.request held c fs) asks.told h.read) h.unrefused asks.outdir
+    (λ report says. fail_said asks.cfg asks.core asks.basedir asks.names r.before.misses r.now.misses r.before.faults r.now.faults
+    asks.no_fault c fs (subst (λ held. HasRead q held c fs) asks.told h.read) h.unrefused asks.outdir
     asks.budget status report x run
-    (told_checks r asks.names h.request asks.outdir asks.budget status report asks.told says) there violates)
+    (told_checks r asks.names q asks.outdir asks.budget status report asks.told says) there violates)
 
 -- ---- each cause
 

@@ -2,6 +2,7 @@
 use Rattle.std.proofs.Common.{◌≡◌, ℕ, ◌≤◌, true, false, List, Some, Result, Ok, Err, IfOk, sym, ap, subst, arith}
 use Rattle.fv_base.specs.Outside.{Names, SameFiles, Told}
 use Rattle.fv_text.specs.declared.memory.Memory.{Memory}
+use Rattle.bm_decide.specs.Searches.{TakesFewer}
 use Rattle.rvf_judge.specs.Sources.{JudgementsAreTheSources}
 use Rattle.rvf_words.specs.declared.line.Line.{Line as Words}
 use Rattle.rvf_words.specs.declared.line.Line.TheVariants as words
@@ -11,6 +12,8 @@ use Rattle.rvf_case.specs.declared.refusal.Refusal.{Refusal}
 use Rattle.rvf_case.specs.declared.refusal.Refusal.TheVariants as refusal
 use Rattle.rvf_report.specs.Outcome.{Outside}
 use Rattle.rvf_report.specs.Reports.{Concludes}
+use Rattle.rvf_checks.specs.Checked.{plan_of}
+use Rattle.rvf_checks.specs.declared.wording.Wording.TheVariants as wording
 use Rattle.rvf_report.specs.declared.status.Status.{Status}
 use Rattle.rvf_core.specs.Checks as checks
 use Rattle.rvf_core.specs.Puts.{Puts}
@@ -61,10 +64,12 @@ module _ (cfg outdir core basedir : List ℕ) (budget jobs : ℕ) (asked : List 
   earlier : IsEarlier before middle
   earlier = record { held = held; sent = sent; faults = faults; out_faults = out_faults }
 
-  pub case_ends : JudgementsAreTheSources → (case : Case) (status : Status) → IsCase q before.held case → IsReady case
-      → Concludes status case outdir budget middle now → Ends (Some line) the_run status
+  pub case_ends : JudgementsAreTheSources TakesFewer → (case : Case) (status : Status) → IsCase q before.held case
+      → IsReady case → Concludes (plan_of TakesFewer case wording.Run outdir budget) status middle now
+      → Ends (Some line) the_run status
   case_ends law case status is ready x =
-      ends_concluded law cfg outdir core basedir budget jobs case the_run is ready middle earlier status x
+      ends_concluded law q before.held wording.Run outdir budget case is ready (Some line) the_run
+      (λ told report w. checks.judged w) (λ report b. b) middle earlier status x
 
   line_fits : (f : Refusal) (report : Report) → Comes q (seen_from before middle) (Err f)
       → middle.misses ≤ now.misses → middle.faults ≤ now.faults → IsLineOf f report

@@ -12,3 +12,5 @@ pub mod FromFiles
 pub mod FromChecks
 pub mod FromWords
 pub mod Passes
+pub mod Members
+pub mod Instructions

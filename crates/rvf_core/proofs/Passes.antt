@@ -1,5 +1,5 @@
 -- A delivered line `pass NAME` is of a check that passes.
-use Rattle.std.proofs.Common.{◌≡◌, ℕ, ◌==◌, Bool, true, false, if◌then◌else◌, List, [], ◌∷◌, ◌++◌, Some}
+use Rattle.std.proofs.Common.{◌≡◌, ℕ, ◌==◌, Bool, true, false, if◌then◌else◌, List, [], ◌∷◌, ◌++◌, Some, length, map}
 use Rattle.std.proofs.Common.{refl, sym, ap, ◌∙◌, subst, append_assoc, true≢false, arith}
 use Rattle.std.proofs.lemmas.List.{append_cancel_left}
 use Rattle.std.proofs.lemmas.List.Elements.{All-contains, All-from_recursion, Contains-append_left}
@@ -10,7 +10,11 @@ use Rattle.vl_text.specs.declared.fault.TextFault.TheVariants as text
 use Rattle.ck_cfg.specs.declared.check.Check.{Check}
 use Rattle.ck_cfg.specs.declared.config.Config.{Config}
 use Rattle.ck_cfg.specs.Checks.{checks_of}
+use Rattle.ck_ask.specs.declared.question.Question.{Question}
+use Rattle.ck_ask.specs.declared.question.Question.TheVariants as question
 use Rattle.ck_design.specs.Retirements.{holds_over}
+use Rattle.ck_design.proofs.Found.{found_violates}
+use Rattle.rvf_case.specs.Loads.{design_of}
 use Rattle.rvf_judge.specs.declared.judged.CertificateTexts.{CertificateTexts}
 use Rattle.rvf_judge.specs.declared.judged.Judged.{Judged}
 use Rattle.rvf_judge.specs.declared.judged.Judged.TheVariants as judged
@@ -21,10 +25,12 @@ use Rattle.rvf_case.specs.Loading.load as load
 use Rattle.rvf_case.specs.Cases.{Request, Seen}
 use Rattle.rvf_case.specs.declared.refusal.Refusal.{Refusal}
 use Rattle.rvf_case.specs.declared.refusal.Refusal.TheVariants as refusal
-use Rattle.rvf_report.specs.Deliveries.{deliveries_of, path}
+use Rattle.rvf_checks.specs.Deliveries.{deliveries_of, path}
 use Rattle.rvf_report.specs.Lines.{load_line, refusal_line}
-use Rattle.rvf_report.specs.Reports.{answered, begun, counts_of, head, note_of, skips_of, whole}
-use Rattle.rvf_report.specs.ReportLines.{fail_line, note_line, pass_line, skip_line, spent_line, total_line}
+use Rattle.rvf_checks.specs.Checked.{answered, begun, head, note_of, skips_of, whole}
+use Rattle.rvf_checks.specs.CheckLines.{fail_line, note_line, pass_line, skip_line, spent_line, total_line}
+use Rattle.rvf_checks.specs.Counting.{counts_of}
+use Rattle.rvf_checks.specs.declared.wording.Wording.TheVariants as wording
 use Rattle.rvf_report.specs.declared.delivery.Delivery.{Delivery}
 use Rattle.rvf_report.specs.declared.delivery.Delivery.TheVariants.{File, Line}
 use Rattle.rvf_report.specs.declared.status.Status.{Status}
@@ -35,7 +41,7 @@ use Rattle.rvf_core.specs.Pass.{HasPassed, PassMeans}
 use Rattle.rvf_core.specs.PassLaw.{PassesAreMeant}
 use Rattle.rvf_core.specs.Run.{IsReport, Run, request, seen_in}
 use Rattle.rvf_core.specs.Run as run
-use Rattle.rvf_core.specs.Verdicts.{AreJudged, Judges, opts_in, text_of, wants_in}
+use Rattle.rvf_core.specs.Verdicts.{AreJudged, Judges, check_questions, opts_in, text_of, wants_in}
 
 -- ---- lines by their first byte, and names before the end of a line
 
@@ -76,16 +82,21 @@ holds_or true h = refl
 holds_or false h = absurd (h refl)
 
 pass_means : (c : Config) (files : List (List ℕ)) (budget : ℕ) (x : Check)
-    (texts : CertificateTexts) → Judges c files budget x (judged.Pass texts) → PassMeans c files x
-pass_means c files budget x texts g = record {
-  reading = g.reading;
-  reads = g.is.reads;
-  one = g.one;
-  holds = λ run is_run assumed.
-      holds_or (holds_over run c.nret (wants_in (text_of c files x.kind) g.reading) x
-      (opts_in (text_of c files x.kind) g.reading))
-      (λ fails. g.judged.holds run (record { is_run = is_run; assumed = assumed; fails = fails }));
-}
+    (texts : CertificateTexts)
+    → Judges c files (check_questions c) budget (question.Check x) (judged.Never texts) → PassMeans c files x
+pass_means c files budget x texts g =
+    let wants = wants_in (text_of c files x.kind) g.reading in
+    let opts = opts_in (text_of c files x.kind) g.reading in
+    record {
+      reading = g.reading;
+      reads = g.is.reads;
+      one = g.one;
+      holds = λ run is_run assumed.
+          holds_or (holds_over run c.nret wants x opts)
+          (λ fails. g.judged.never run
+          ((found_violates (design_of g.reading.tree.modules) c.nret wants x opts run).1
+          (record { is_run = is_run; assumed = assumed; fails = fails })));
+    }
 
 module _ (name : List ℕ) (Meant : Type 0) where
   -- if it is the line, it has its meaning
@@ -106,15 +117,15 @@ module _ (name : List ℕ) (Meant : Type 0) where
   file at bytes e = absurd (no_file at bytes (pass_line name) e)
 
   delivered : (folder : List ℕ) (budget : ℕ) (x : List ℕ) (j : Judged)
-      → ((texts : CertificateTexts) → j ≡ judged.Pass texts → x ≡ name → Meant)
+      → ((texts : CertificateTexts) → j ≡ judged.Never texts → x ≡ name → Meant)
       → AllByRecursion IsMeant (deliveries_of folder x budget j)
-  delivered folder budget x (judged.Pass texts) f =
+  delivered folder budget x (judged.Never texts) f =
       let line : IsMeant (Line (pass_line x)) =
       λ e. f texts refl (same_name x name (same_line (pass_line x) (pass_line name) e)) in (
         file (path folder x (codes ".cnf")) texts.clauses,
         (file (path folder x (codes ".lrat")) texts.steps, (line, tt)),
       )
-  delivered folder budget x (judged.Fail dump) f =
+  delivered folder budget x (judged.Found dump) f =
       (file (path folder x (codes ".vcd")) dump, (other (fail_line x) refl, tt))
   delivered folder budget x (judged.Spent texts) f = (
     file (path folder x (codes ".cnf")) texts.clauses,
@@ -153,34 +164,45 @@ module _ (name : List ℕ) (Meant : Type 0) where
 
   module _ (c : Config) (files : List (List ℕ)) (folder : List ℕ) (budget : ℕ)
       (meant : (x : Check) → Contains (checks_of c) x → x.name ≡ name → PassMeans c files x → Meant) where
-    of_check : (x : Check) (j : Judged) → Contains (checks_of c) x → Judges c files budget x j
+    -- questions for these checks
+    abbrev asked : List Check → List Question
+    asked xs = map (λ x. question.Check x) xs
+
+    of_check : (x : Check) (j : Judged) → Contains (checks_of c) x
+        → Judges c files (check_questions c) budget (question.Check x) j
         → AllByRecursion IsMeant (deliveries_of folder x.name budget j)
     of_check x j among g =
         delivered folder budget x.name j
         (λ texts is named. meant x among named
-        (pass_means c files budget x texts (subst (λ k. Judges c files budget x k) is g)))
+        (pass_means c files budget x texts
+        (subst (λ k. Judges c files (check_questions c) budget (question.Check x) k) is g)))
 
     answers_meant : (before xs : List Check) (js : List Judged) → checks_of c ≡ before ++ xs
-        → AreJudged c files budget xs js → AllByRecursion IsMeant (answered folder budget xs js)
+        → AreJudged c files (check_questions c) budget (asked xs) js
+        → AllByRecursion IsMeant (answered wording.Run folder budget (asked xs) js)
     answers_meant before [] js e are = tt
     answers_meant before (x ∷ xs) [] e are = tt
     answers_meant before (x ∷ xs) (j ∷ js) e are =
         let among : Contains (checks_of c) x =
         subst (λ l. Contains l x) (sym e) (Contains-append_right before (x ∷ xs) x (0, omega arith, refl)) in
-        both (deliveries_of folder x.name budget j) (answered folder budget xs js) (of_check x j among are.0)
-        (answers_meant (before ++ x ∷ []) xs js (e ∙ sym (append_assoc before (x ∷ []) xs)) are.1)
+        both (deliveries_of folder x.name budget j) (answered wording.Run folder budget (asked xs) js)
+        (of_check x j among are.0) (answers_meant (before ++ x ∷ []) xs js
+        (e ∙ sym (append_assoc before (x ∷ []) xs)) are.1)
 
-    begun_meant : (noted : Bool) (skips : List (List ℕ)) (js : List Judged) → AreJudged c files budget (checks_of c) js
-        → AllByRecursion IsMeant (begun folder budget noted skips (checks_of c) js)
+    begun_meant : (noted : Bool) (skips : List (List ℕ)) (js : List Judged)
+        → AreJudged c files (check_questions c) budget (check_questions c) js
+        → AllByRecursion IsMeant (begun wording.Run folder budget noted skips (check_questions c) js)
     begun_meant noted skips js are =
-        both (head noted skips) (answered folder budget (checks_of c) js) (head_meant noted skips)
+        both (head noted skips) (answered wording.Run folder budget (check_questions c) js) (head_meant noted skips)
         (answers_meant [] (checks_of c) js refl are)
 
-    whole_meant : (noted : Bool) (skips : List (List ℕ)) (js : List Judged) → AreJudged c files budget (checks_of c) js
-        → AllByRecursion IsMeant (whole folder budget noted skips (checks_of c) js)
+    whole_meant : (noted : Bool) (skips : List (List ℕ)) (js : List Judged)
+        → AreJudged c files (check_questions c) budget (check_questions c) js
+        → AllByRecursion IsMeant (whole wording.Run folder budget noted skips (check_questions c) js)
     whole_meant noted skips js are =
-        both (begun folder budget noted skips (checks_of c) js) (Line (total_line (counts_of js skips)) ∷ [])
-        (begun_meant noted skips js are) (other (total_line (counts_of js skips)) refl, tt)
+        both (begun wording.Run folder budget noted skips (check_questions c) js)
+        (Line (total_line (counts_of js) (length skips)) ∷ []) (begun_meant noted skips js are)
+        (other (total_line (counts_of js) (length skips)) refl, tt)
 
 -- ---- reports
 
@@ -203,7 +225,7 @@ module _ (cfg outdir core basedir : List ℕ) (budget jobs : ℕ) (seen : Seen) 
     means = means;
   }
 
-  checks_meant : (status : Status) (report : List Delivery) → Checks q seen outdir budget status report
+  checks_meant : (status : Status) (report : List Delivery) → Checks q seen wording.Run outdir budget status report
       → AllByRecursion (IsMeant name Meant) report
   checks_meant status report (checks.judged w) =
       subst (λ l. AllByRecursion (IsMeant name Meant) l) (sym w.report_is)

@@ -4,7 +4,7 @@ use Rattle.std.proofs.Common.{inl, inr, ◌⊎◌}
 use Rattle.std.specs.List.{list_any}
 use Rattle.rvf_judge.specs.declared.judged.Judged.{Judged}
 use Rattle.rvf_judge.specs.declared.judged.Judged.TheVariants as judged
-use Rattle.rvf_report.specs.Reports.{is_fail, is_spent, status_of}
+use Rattle.rvf_checks.specs.Counting.{is_fail, is_spent, status_of}
 use Rattle.rvf_report.specs.Status.{code_of}
 use Rattle.rvf_report.specs.declared.status.Status.{Status}
 use Rattle.rvf_report.specs.declared.status.Status.TheVariants as s
@@ -17,13 +17,13 @@ pub data IsVerdict (status : Status) : Type 0 where
   spent : status ≡ s.Spent → IsVerdict status
 
 abbrev pub IsFail : Judged → Type 0
-IsFail (judged.Pass texts) = ⊥
-IsFail (judged.Fail dump) = Unit {0}
+IsFail (judged.Never texts) = ⊥
+IsFail (judged.Found dump) = Unit {0}
 IsFail (judged.Spent texts) = ⊥
 
 abbrev pub IsPass : Judged → Type 0
-IsPass (judged.Pass texts) = Unit {0}
-IsPass (judged.Fail dump) = ⊥
+IsPass (judged.Never texts) = Unit {0}
+IsPass (judged.Found dump) = ⊥
 IsPass (judged.Spent texts) = ⊥
 
 failing_passed : s.Failing ≡ s.Passed → ⊥
@@ -54,8 +54,8 @@ never_passed false e = spent_passed e
 -- where they pass, each passes
 pub all_pass : (j : Judged) (js : List Judged) → status_of (j ∷ js) ≡ s.Passed
     → IsPass j × (status_of js ≡ s.Passed)
-all_pass (judged.Pass texts) js e = (tt, e)
-all_pass (judged.Fail dump) js e = absurd (failing_passed e)
+all_pass (judged.Never texts) js e = (tt, e)
+all_pass (judged.Found dump) js e = absurd (failing_passed e)
 all_pass (judged.Spent texts) js e = absurd (never_passed (list_any is_fail js) e)
 
 still_failing : (fails spends : Bool) → (if fails then s.Failing else s.Spent) ≡ s.Failing
@@ -66,8 +66,8 @@ still_failing false spends e = absurd (spent_failing e)
 -- where they fail, one fails
 pub one_fails : (j : Judged) (js : List Judged) → status_of (j ∷ js) ≡ s.Failing
     → IsFail j ⊎ (status_of js ≡ s.Failing)
-one_fails (judged.Pass texts) js e = inr e
-one_fails (judged.Fail dump) js e = inl tt
+one_fails (judged.Never texts) js e = inr e
+one_fails (judged.Found dump) js e = inl tt
 one_fails (judged.Spent texts) js e = inr (still_failing (list_any is_fail js) (list_any is_spent js) e)
 
 -- ---- tests of statuses

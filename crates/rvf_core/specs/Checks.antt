@@ -1,16 +1,17 @@
--- Meaning: `run CFG OUTDIR`: what it reports on the checks of a configuration, or why it reports nothing. Rules of
--- this project.
+-- Meaning: What is reported on the questions that are asked of a configuration, in some words; or why nothing is. Rules
+-- of this project.
 use Rattle.std.specs.Prelude.{◌≡◌, ℕ, Bool, List, [], ◌∷◌, length}
 use Rattle.fv_base.specs.Outside.{Told}
 use Rattle.ck_cfg.specs.declared.config.Config.{Config}
-use Rattle.ck_cfg.specs.Checks.{checks_of}
 use Rattle.rvf_judge.specs.declared.judged.Judged.{Judged}
-use Rattle.rvf_case.specs.Cases.{Request, Seen, IsConfigured, AreRead, AreUnrefused, IsCause, names_in}
+use Rattle.rvf_case.specs.Cases.{Request, Seen, IsConfigured, AreRead, AreUnrefused, IsCause, names_in, questions_in}
 use Rattle.rvf_case.specs.Texts.{leaders}
 use Rattle.rvf_case.specs.declared.refusal.Refusal.{Refusal}
 use Rattle.rvf_case.specs.declared.refusal.Refusal.TheVariants as refusal
 use Rattle.rvf_report.specs.Lines.{refusal_line}
-use Rattle.rvf_report.specs.Reports.{begun, status_of, whole}
+use Rattle.rvf_checks.specs.Checked.{begun, whole}
+use Rattle.rvf_checks.specs.Counting.{status_of}
+use Rattle.rvf_checks.specs.declared.wording.Wording.{Wording}
 use Rattle.rvf_report.specs.declared.delivery.Delivery.{Delivery}
 use Rattle.rvf_report.specs.declared.delivery.Delivery.TheVariants.{Line}
 use Rattle.rvf_report.specs.declared.status.Status.{Status}
@@ -24,32 +25,33 @@ pub record HasRead (q : Request) (held : Told) (c : Config) (files : List (List 
 
 -- ---- reports
 
--- no text is refused, the first checks are judged, and this is the report as far as they go
-pub record IsBegun (q : Request) (held : Told) (folder : List ℕ) (budget : ℕ) (report : List Delivery) : Type 0 where
-  pub config : Config
-  pub files : List (List ℕ)
-  pub read : HasRead q held config files
-  pub unrefused : AreUnrefused config files (leaders config)
-  pub answers : List Judged
-  pub judged : AreJudged config files budget (checks_of config) answers
-  pub noted : Bool
-  pub is_noted : IsNoted config files noted
-  pub report_is : report ≡ begun folder budget noted config.skips (checks_of config) answers
-
--- no text is refused, all checks are judged, the status is theirs, and this is the whole report
-pub record IsWhole (q : Request) (held : Told) (folder : List ℕ) (budget : ℕ) (status : Status)
+-- no text is refused, the first questions are answered, and this is the report as far as they go
+pub record IsBegun (q : Request) (held : Told) (words : Wording) (folder : List ℕ) (budget : ℕ)
     (report : List Delivery) : Type 0 where
   pub config : Config
   pub files : List (List ℕ)
   pub read : HasRead q held config files
-  pub unrefused : AreUnrefused config files (leaders config)
+  pub unrefused : AreUnrefused config files (questions_in q config) (leaders config (questions_in q config))
   pub answers : List Judged
-  pub judged : AreJudged config files budget (checks_of config) answers
-  pub all : length answers ≡ length (checks_of config)
+  pub judged : AreJudged config files (questions_in q config) budget (questions_in q config) answers
   pub noted : Bool
-  pub is_noted : IsNoted config files noted
+  pub is_noted : IsNoted config files (questions_in q config) noted
+  pub report_is : report ≡ begun words folder budget noted config.skips (questions_in q config) answers
+
+-- no text is refused, all questions are answered, the status is theirs, and this is the whole report
+pub record IsWhole (q : Request) (held : Told) (words : Wording) (folder : List ℕ) (budget : ℕ) (status : Status)
+    (report : List Delivery) : Type 0 where
+  pub config : Config
+  pub files : List (List ℕ)
+  pub read : HasRead q held config files
+  pub unrefused : AreUnrefused config files (questions_in q config) (leaders config (questions_in q config))
+  pub answers : List Judged
+  pub judged : AreJudged config files (questions_in q config) budget (questions_in q config) answers
+  pub all : length answers ≡ length (questions_in q config)
+  pub noted : Bool
+  pub is_noted : IsNoted config files (questions_in q config) noted
   pub status_is : status ≡ status_of answers
-  pub report_is : report ≡ whole folder budget noted config.skips (checks_of config) answers
+  pub report_is : report ≡ whole words folder budget noted config.skips (questions_in q config) answers
 
 -- ---- refusals
 
@@ -62,14 +64,14 @@ refused_status (refusal.Source f names) = s.Source
 refused_status (refusal.Heavy name number) = s.Heavy
 refused_status refusal.Memory = s.Memory
 
--- a cause is there why no check is judged, and its line is the report
+-- a cause is there why no question is answered, and its line is the report
 pub record IsRefusal (q : Request) (seen : Seen) (status : Status) (report : List Delivery) : Type 0 where
   pub refusal : Refusal
   pub cause : IsCause q seen refusal
   pub status_is : status ≡ refused_status refusal
   pub report_is : report ≡ Line (refusal_line refusal) ∷ []
 
-pub data Checks (q : Request) (seen : Seen) (folder : List ℕ) (budget : ℕ) (status : Status) (report : List Delivery)
-    : Type 0 where
-  judged : IsWhole q seen.held folder budget status report → Checks q seen folder budget status report
-  refused : IsRefusal q seen status report → Checks q seen folder budget status report
+pub data Checks (q : Request) (seen : Seen) (words : Wording) (folder : List ℕ) (budget : ℕ) (status : Status)
+    (report : List Delivery) : Type 0 where
+  judged : IsWhole q seen.held words folder budget status report → Checks q seen words folder budget status report
+  refused : IsRefusal q seen status report → Checks q seen words folder budget status report

@@ -4,6 +4,7 @@ pub mod Lists
 pub mod Certificate
 pub mod Certifies
 pub mod Unread
+pub mod InsnLaw
 pub mod Pass
 pub mod PassLaw
 pub mod Puts

@@ -5,6 +5,7 @@ use Rattle.ck_cfg.specs.declared.check.Check.{Check}
 use Rattle.ck_cfg.specs.declared.config.Config.{Config}
 use Rattle.ck_cfg.specs.Checks.{checks_of}
 use Rattle.rvf_case.specs.Cases.{Request, Seen, IsConfigured, IsMisconfigured}
+use Rattle.rvf_case.specs.declared.asking.Asking.TheVariants as asking
 use Rattle.rvf_case.specs.declared.refusal.Refusal.{Refusal}
 use Rattle.rvf_case.specs.declared.refusal.Refusal.TheVariants as refusal
 use Rattle.rvf_report.specs.Lines.{refusal_line}
@@ -16,7 +17,7 @@ use Rattle.rvf_core.specs.Checks.{refused_status}
 
 -- only the file of the configuration is read
 abbrev pub alone : List ℕ → Request
-alone cfg = record { cfg = cfg; core = []; basedir = [] }
+alone cfg = record { cfg = cfg; core = []; basedir = []; asking = asking.Checks }
 
 -- a name, and the end of its line
 abbrev pub name_line : Check → Delivery

@@ -4,7 +4,7 @@ use Rattle.std.specs.Prelude.{◌≡◌, ℕ, List, Some}
 use Rattle.std.specs.List.{Contains}
 use Rattle.rvf_words.specs.declared.line.Line.TheVariants as words
 use Rattle.rvf_words.specs.Line.{line_of}
-use Rattle.rvf_report.specs.ReportLines.{pass_line}
+use Rattle.rvf_checks.specs.CheckLines.{pass_line}
 use Rattle.rvf_report.specs.declared.delivery.Delivery.{Delivery}
 use Rattle.rvf_report.specs.declared.delivery.Delivery.TheVariants.{Line}
 use Rattle.rvf_report.specs.declared.status.Status.{Status}

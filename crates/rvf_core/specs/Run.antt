@@ -12,7 +12,9 @@ use Rattle.rvf_words.specs.declared.line.Line.TheVariants as words
 use Rattle.rvf_words.specs.Line.{line_of}
 use Rattle.rvf_case.specs.Cases.{Request, Seen, AreUnrefused, IsCause}
 use Rattle.rvf_case.specs.Texts.{leaders}
+use Rattle.rvf_case.specs.declared.asking.Asking.TheVariants as asking
 use Rattle.rvf_case.specs.declared.refusal.Refusal.{Refusal}
+use Rattle.rvf_checks.specs.declared.wording.Wording.TheVariants as wording
 use Rattle.rvf_report.specs.Outcome.{Outside, Delivers, Fails, Stops}
 use Rattle.rvf_report.specs.Status.{code_of}
 use Rattle.rvf_report.specs.declared.delivery.Delivery.{Delivery}
@@ -22,7 +24,7 @@ use Rattle.rvf_report.specs.declared.status.Status.TheVariants as s
 use Rattle.rvf_core.specs.Certifies.{Certifies}
 use Rattle.rvf_core.specs.Checks.{Checks, HasRead, IsBegun, refused_status}
 use Rattle.rvf_core.specs.Lists.{Lists}
-use Rattle.rvf_core.specs.Verdicts.{Violates}
+use Rattle.rvf_core.specs.Verdicts.{Violates, check_questions}
 
 -- all that a run was given, and what it left
 pub record Run : Type 0 where
@@ -41,8 +43,9 @@ seen_in r = record {
   faults_now = r.now.faults;
 }
 
+-- the checks of a configuration are asked for
 abbrev pub request : List ℕ → List ℕ → List ℕ → Request
-request cfg core basedir = record { cfg = cfg; core = core; basedir = basedir }
+request cfg core basedir = record { cfg = cfg; core = core; basedir = basedir; asking = asking.Checks }
 
 -- ---- what the words ask for, and what is reported on it
 
@@ -64,14 +67,14 @@ pub record Misuses (status : Status) (report : List Delivery) : Type 0 where
 abbrev pub Says : Option Words → Seen → Status → List Delivery → Type 0
 Says None seen status report = Misuses status report
 Says (Some (words.Run cfg outdir core basedir budget jobs)) seen status report =
-    Checks (request cfg core basedir) seen outdir budget status report
+    Checks (request cfg core basedir) seen wording.Run outdir budget status report
 Says (Some (words.List cfg)) seen status report = Lists cfg seen status report
 Says (Some (words.Lrat cnf proof)) seen status report = Certifies cnf proof seen status report
 
 -- a report of which not all is known yet: the checks are judged one by one
 abbrev pub Begins : Option Words → Seen → List Delivery → Type 0
 Begins (Some (words.Run cfg outdir core basedir budget jobs)) seen report =
-    IsBegun (request cfg core basedir) seen.held outdir budget report
+    IsBegun (request cfg core basedir) seen.held wording.Run outdir budget report
 Begins asked seen report = ⊥
 
 -- the report of some status, or as far as it is known
@@ -117,27 +120,28 @@ abbrev pub rose : ℕ → ℕ → Bool
 rose before now = nat_le (min (before + 1) (2 ^ 64 - 1)) now
 
 -- the words ask for the checks of a configuration, the files are told, and no read or write failed
-pub record Asks (r : Run) (q : Request) : Type 0 where
+pub record Asks (r : Run) : Type 0 where
+  pub cfg : List ℕ
   pub outdir : List ℕ
+  pub core : List ℕ
+  pub basedir : List ℕ
   pub budget : ℕ
   pub jobs : ℕ
-  pub asked : line_of r.words ≡ Some (words.Run q.cfg outdir q.core q.basedir budget jobs)
+  pub asked : line_of r.words ≡ Some (words.Run cfg outdir core basedir budget jobs)
   pub names : Names
   pub told : r.before.held ≡ Some names
   pub no_fault : rose r.before.faults r.now.faults ≡ false
 
 -- a cause is there why no check is judged
 pub record HasCause (r : Run) (f : Refusal) : Type 0 where
-  pub request : Request
-  pub asks : Asks r request
-  pub cause : IsCause request (seen_in r) f
+  pub asks : Asks r
+  pub cause : IsCause (request asks.cfg asks.core asks.basedir) (seen_in r) f
 
 -- all is read, and no text is refused
 pub record IsAccepted (r : Run) (c : Config) (files : List (List ℕ)) : Type 0 where
-  pub request : Request
-  pub asks : Asks r request
-  pub read : HasRead request r.before.held c files
-  pub unrefused : AreUnrefused c files (leaders c)
+  pub asks : Asks r
+  pub read : HasRead (request asks.cfg asks.core asks.basedir) r.before.held c files
+  pub unrefused : AreUnrefused c files (check_questions c) (leaders c (check_questions c))
 
 -- the words ask for names of checks or for the check of a certificate, the files are told, and no read or write failed
 abbrev pub IsOther : Words → Type 0

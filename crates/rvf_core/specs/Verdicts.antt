@@ -1,4 +1,4 @@
--- Meaning: What the checks of a configuration come to, said of the designs that their texts write. Rules of this
+-- Meaning: What the questions of a configuration come to, said of the designs that their texts write. Rules of this
 -- project.
 use Rattle.std.specs.Prelude.{◌≡◌, ℕ, Bool, true, false, List, [], ◌∷◌, None}
 use Rattle.std.specs.List.{list_any}
@@ -7,21 +7,32 @@ use Rattle.ck_cfg.specs.declared.check.Check.{Check}
 use Rattle.ck_cfg.specs.declared.config.Config.{Config}
 use Rattle.ck_cfg.specs.declared.kind.CheckKind.{CheckKind}
 use Rattle.ck_cfg.specs.declared.kind.CheckKind.TheVariants as kind
-use Rattle.ck_cfg.specs.Checks.{checks_of}
 use Rattle.ck_cfg.specs.Kind.{is_kind}
 use Rattle.vl_size.specs.Size.{Values}
 use Rattle.rv_table.specs.declared.retire.Opts.{Opts}
 use Rattle.rvfi_port.specs.declared.port.Wants.{Wants}
+use Rattle.ck_ask.specs.Questions.{question_kind}
+use Rattle.ck_ask.specs.declared.question.Question.{Question}
 use Rattle.ck_design.specs.Retirements.{IsViolating}
 use Rattle.vl_text.specs.SourceText.{Reading}
+use Rattle.bm_decide.specs.Searches.{TakesFewer}
 use Rattle.rvf_case.specs.Loads.{Asked, Reads, design_of, opts_of, wants_of, top}
+use Rattle.rvf_case.specs.declared.asking.Asking.TheVariants as asking
 use Rattle.rvf_judge.specs.Judged.{IsJudged}
 use Rattle.rvf_judge.specs.declared.judged.Judged.{Judged}
-use Rattle.rvf_case.specs.Texts.{asked_for, leader_of}
+use Rattle.rvf_case.specs.Texts.{asked_for, leader_of, questions_of}
+
+-- the text of a kind where these questions are asked, with what is asked of it
+abbrev pub text_for : Config → List (List ℕ) → List Question → CheckKind → Asked
+text_for c files qs kind = asked_for c files qs (leader_of c qs kind)
+
+-- a question for each check of the configuration
+abbrev pub check_questions : Config → List Question
+check_questions c = questions_of asking.Checks c
 
 -- the text of the checks of a kind, with what is asked of it
 abbrev pub text_of : Config → List (List ℕ) → CheckKind → Asked
-text_of c files kind = asked_for c files (leader_of c kind)
+text_of c files kind = text_for c files (check_questions c) kind
 
 -- the texts come to this reading, and its tree writes a design
 pub record IsReading (a : Asked) (r : Reading) : Type 0 where
@@ -42,37 +53,40 @@ pub record Violates (c : Config) (files : List (List ℕ)) (x : Check) (run : Li
   pub violating : IsViolating (design_of reading.tree.modules) c.nret (wants_in (text_of c files x.kind) reading) x
       (opts_in (text_of c files x.kind) reading) run
 
--- what the check comes to is said of the design of its text
-pub record Judges (c : Config) (files : List (List ℕ)) (budget : ℕ) (x : Check) (j : Judged) : Type 0 where
+-- What a question comes to is said of the design of its text: where these questions are asked, within a budget of learnt
+-- clauses. Steps that refute take fewer clauses than the budget.
+pub record Judges (c : Config) (files : List (List ℕ)) (qs : List Question) (budget : ℕ) (q : Question) (j : Judged)
+    : Type 0 where
   pub reading : Reading
-  pub is : IsReading (text_of c files x.kind) reading
+  pub is : IsReading (text_for c files qs (question_kind q)) reading
   -- and the text has no other reading
-  pub one : (other : Reading) → Reads (text_of c files x.kind) other → other ≡ reading
-  pub judged : IsJudged (design_of reading.tree.modules) c.nret (wants_in (text_of c files x.kind) reading) x
-      (opts_in (text_of c files x.kind) reading) budget j
+  pub one : (other : Reading) → Reads (text_for c files qs (question_kind q)) other → other ≡ reading
+  pub judged : IsJudged TakesFewer (design_of reading.tree.modules) c.nret
+      (wants_in (text_for c files qs (question_kind q)) reading) q
+      (opts_in (text_for c files qs (question_kind q)) reading) budget j
 
--- of the first checks, as many as there are answers
-abbrev pub AreJudged : Config → List (List ℕ) → ℕ → List Check → List Judged → Type 0
-AreJudged c files budget xs [] = Unit {0}
-AreJudged c files budget [] (j ∷ js) = ⊥
-AreJudged c files budget (x ∷ xs) (j ∷ js) = Judges c files budget x j × AreJudged c files budget xs js
+-- of the first of some questions, as many as there are answers
+abbrev pub AreJudged : Config → List (List ℕ) → List Question → ℕ → List Question → List Judged → Type 0
+AreJudged c files qs budget xs [] = Unit {0}
+AreJudged c files qs budget [] (j ∷ js) = ⊥
+AreJudged c files qs budget (x ∷ xs) (j ∷ js) = Judges c files qs budget x j × AreJudged c files qs budget xs js
 
 -- ---- the note of other arithmetic operations
 
-abbrev pub has_rows : List Check → Bool
-has_rows xs = list_any (λ x. is_kind x.kind kind.Insn) xs
+abbrev pub has_rows : List Question → Bool
+has_rows qs = list_any (λ q. is_kind (question_kind q) kind.Insn) qs
 
--- the text of the checks of rows has them
-pub record HasAltops (c : Config) (files : List (List ℕ)) (noted : Bool) : Type 0 where
+-- the text of the questions on rows has them
+pub record HasAltops (c : Config) (files : List (List ℕ)) (qs : List Question) (noted : Bool) : Type 0 where
   pub reading : Reading
-  pub is : IsReading (text_of c files kind.Insn) reading
-  pub noted_is : noted ≡ (opts_in (text_of c files kind.Insn) reading).altops
+  pub is : IsReading (text_for c files qs kind.Insn) reading
+  pub noted_is : noted ≡ (opts_in (text_for c files qs kind.Insn) reading).altops
 
--- by whether there is a check of a row
-abbrev pub IsNotedWhere : Bool → Config → List (List ℕ) → Bool → Type 0
-IsNotedWhere true c files noted = HasAltops c files noted
-IsNotedWhere false c files noted = noted ≡ false
+-- by whether there is a question on a row
+abbrev pub IsNotedWhere : Bool → Config → List (List ℕ) → List Question → Bool → Type 0
+IsNotedWhere true c files qs noted = HasAltops c files qs noted
+IsNotedWhere false c files qs noted = noted ≡ false
 
--- it is noted exactly where there is a check of a row, and its text has them
-abbrev pub IsNoted : Config → List (List ℕ) → Bool → Type 0
-IsNoted c files noted = IsNotedWhere (has_rows (checks_of c)) c files noted
+-- it is noted exactly where there is a question on a row, and its text has them
+abbrev pub IsNoted : Config → List (List ℕ) → List Question → Bool → Type 0
+IsNoted c files qs noted = IsNotedWhere (has_rows qs) c files qs noted

@@ -1,26 +1,66 @@
 //! `run CFG OUTDIR`
 
 ghost use Rattle.std.specs.Prelude.{◌≡◌, ◌≤◌, ◌<◌, ℕ, List, Some};
+ghost use Rattle.bm_decide.specs.Searches.{TakesFewer};
 ghost use Rattle.rvf_words.specs.declared.line.Line.TheVariants as words;
+ghost use Rattle.rvf_case.specs.Cases.{IsReady};
+ghost use Rattle.rvf_checks.specs.Checked.{plan_of};
+ghost use Rattle.rvf_checks.specs.declared.wording.Wording.TheVariants as wording;
 ghost use Rattle.rvf_core.specs.Run.{Ends, HasCounts};
 ghost use Rattle.rvf_core.specs.Steps.{HaveStatus};
 ghost use Rattle.rvf_report.specs.Outcome.{outside};
+ghost use Rattle.rvf_report.specs.Reports.{Concludes};
+ghost use Rattle.rvf_report.specs.Status.{UnlessBroken};
 
 use crate::refusing::refused;
 use crate::reporting::put_report;
+use crate::work::Work;
+use bm_decide::Plain;
 use fv_base::{Files, Out};
-use rvf_case::{Request, prepare};
+use rvf_case::{Asking, Case, Request, prepare};
+use rvf_checks::{Checks, Wording};
 use rvf_jobs::Gate;
 use rvf_judge::sources_law::judgements_are_the_sources;
-use rvf_report::{Status, Work, conclude};
+use rvf_report::{Status, conclude};
 use std::alloc::Global;
 use std::thread::Threads;
+
+/// Judges the checks of a case, and delivers what they come to.
+fn judged<R: Threads + Sync, F: Files, O: Out, G: Gate>(
+    rt: &R,
+    alloc: Global,
+    case: &Case,
+    work: &Work<'_>,
+    gate: &G,
+    files: &mut F,
+    out: &mut O,
+) -> Status
+    requires ready { IsReady case.now }
+    requires budget { 0 < work.now.budget }
+    requires jobs { 1 ≤ work.now.jobs }
+    ensures concluded { Concludes (plan_of TakesFewer case.now wording.Run work.now.outdir.now work.now.budget) result
+        (outside (F.held files.old) (F.misses files.old) (F.faults files.old) (O.sent out.old) (O.faults out.old))
+        (outside (F.held files.new) (F.misses files.new) (F.faults files.new) (O.sent out.new) (O.faults out.new)) }
+    ensures misses_kept { F.misses files.new ≡ F.misses files.old }
+    ensures faults_grow { F.faults files.old ≤ F.faults files.new }
+    ensures out_faults_grow { O.faults out.old ≤ O.faults out.new }
+    ensures quiet { UnlessBroken result
+        ((F.faults files.new ≡ F.faults files.old) × (O.faults out.new ≡ O.faults out.old)) }
+{
+    let checks = Checks {
+        gate,
+        case,
+        wording: Wording::Run,
+        folder: work.outdir,
+        budget: work.budget,
+    };
+    conclude(rt, alloc, &checks, work.jobs, files, out)
+}
 
 /// Judges the checks of a configuration and delivers what they come to; or says why it doesn't.
 pub(crate) fn check<R: Threads + Sync, F: Files, O: Out, G: Gate>(
     rt: &R,
     alloc: Global,
-    request: Request<'_>,
     work: &Work<'_>,
     gate: &G,
     files: &mut F,
@@ -29,8 +69,8 @@ pub(crate) fn check<R: Threads + Sync, F: Files, O: Out, G: Gate>(
     requires budget { 0 < work.now.budget }
     requires jobs { 1 ≤ work.now.jobs × work.now.jobs ≤ 64 }
     ensures ends { (asked : List (List ℕ)) → Ends
-        (Some (words.Run request.entry.cfg.now work.now.outdir.now request.entry.core.now request.entry.basedir.now
-        work.now.budget work.now.jobs)) (record {
+        (Some (words.Run work.now.cfg.now work.now.outdir.now work.now.core.now work.now.basedir.now work.now.budget
+        work.now.jobs)) (record {
           words = asked;
           before = outside (F.held files.old) (F.misses files.old) (F.faults files.old) (O.sent out.old)
               (O.faults out.old);
@@ -38,8 +78,8 @@ pub(crate) fn check<R: Threads + Sync, F: Files, O: Out, G: Gate>(
               (O.faults out.new);
         }) result }
     ensures statuses { (asked : List (List ℕ)) → HaveStatus
-        (Some (words.Run request.entry.cfg.now work.now.outdir.now request.entry.core.now request.entry.basedir.now
-        work.now.budget work.now.jobs)) (record {
+        (Some (words.Run work.now.cfg.now work.now.outdir.now work.now.core.now work.now.basedir.now work.now.budget
+        work.now.jobs)) (record {
           words = asked;
           before = outside (F.held files.old) (F.misses files.old) (F.faults files.old) (O.sent out.old)
               (O.faults out.old);
@@ -50,9 +90,15 @@ pub(crate) fn check<R: Threads + Sync, F: Files, O: Out, G: Gate>(
         (outside (F.held files.old) (F.misses files.old) (F.faults files.old) (O.sent out.old) (O.faults out.old))
         (outside (F.held files.new) (F.misses files.new) (F.faults files.new) (O.sent out.new) (O.faults out.new)) }
 {
-    judgements_are_the_sources();
+    judgements_are_the_sources(&Plain);
+    let request = Request {
+        cfg: work.cfg,
+        core: work.core,
+        basedir: work.basedir,
+        asking: Asking::Checks,
+    };
     match prepare(alloc, request, files) {
-        Ok(case) => conclude(rt, alloc, &case, work, gate, files, out),
+        Ok(case) => judged(rt, alloc, &case, work, gate, files, out),
         Err(refusal) => put_report(alloc, refused(alloc, &refusal), files, out),
     }
 }

@@ -4,6 +4,7 @@
 mod certificate;
 mod certifying;
 mod checking;
+pub mod insn_law;
 mod listing;
 pub mod pass_law;
 mod refusing;
@@ -11,6 +12,7 @@ mod report;
 mod reporting;
 mod shared;
 mod top;
+mod work;
 
 pub use rvf_report::Status;
 pub use top::{run, run_gated};

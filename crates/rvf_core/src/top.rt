@@ -13,11 +13,11 @@ use crate::checking::check;
 use crate::listing::list;
 use crate::report::Report;
 use crate::reporting::put_report;
+use crate::work::Work;
 use fv_base::{Files, Out};
 use fv_text::{Memory, Text};
-use rvf_case::Request;
 use rvf_jobs::{Gate, OpenGate};
-use rvf_report::{Status, Work};
+use rvf_report::Status;
 use rvf_words::{Line, read_words};
 use std::alloc::Global;
 use std::thread::Threads;
@@ -151,17 +151,15 @@ fn done<R: Threads + Sync, F: Files, O: Out, G: Gate>(
             budget,
             jobs,
         } => {
-            let request = Request {
+            let work = Work {
                 cfg: cfg.bytes(),
                 core: core.bytes(),
                 basedir: basedir.bytes(),
-            };
-            let work = Work {
                 outdir: outdir.bytes(),
                 budget: *budget,
                 jobs: *jobs,
             };
-            check(rt, alloc, request, &work, gate, files, out)
+            check(rt, alloc, &work, gate, files, out)
         }
         Line::List { cfg } => put_report(alloc, list(alloc, cfg.bytes(), files), files, out),
         Line::Lrat { cnf, proof } => {

@@ -5,3 +5,5 @@ pub mod FieldBits
 pub mod NoteLinesLines
 pub mod Words
 pub mod SourcesJudging
+pub mod NamesShown
+pub mod Written

@@ -18,8 +18,10 @@ use Rattle.vl_mean_flat.specs.Flattened.{decls_of}
 use Rattle.vl_mean_flat.specs.SameMaps.{AreSameMaps}
 use Rattle.cnf_form.specs.Cnf.{Cnf}
 use Rattle.rvfi_port.specs.declared.port.Wants.{Wants}
-use Rattle.ck_cfg.specs.declared.check.Check.{Check}
-use Rattle.ck_design.specs.Retirements.{IsViolating}
+use Rattle.lrat_check.specs.declared.step.Step.{Step}
+use Rattle.ck_ask.specs.Questions.{question_cycle}
+use Rattle.ck_ask.specs.declared.question.Question.{Question}
+use Rattle.ck_design.specs.Findings.{IsFound}
 use Rattle.ck_design.specs.declared.note.Note.{Note}
 use Rattle.ck_design.specs.Tight.{IsTight}
 use Rattle.ck_design.specs.Traces.{shown, shown_by, trace_of_run}
@@ -53,64 +55,68 @@ same_trace ps qs run e =
 
 -- ---- what is said of parts by their maps
 
-module _ (ps qs : List Part) (channels : ℕ) (wants : Wants) (check : Check) (opts : Opts)
-    (same : AreSameMaps ps qs) where
-  violating : (run : List Values) → IsViolating qs channels wants check opts run
-      → IsViolating ps channels wants check opts run
-  violating run v = record {
-    is_run = (same.runs check.cycle run).1 v.is_run;
-    assumed = (same.assumed run).1 v.assumed;
-    fails = v.fails;
-  }
+module _ (ps qs : List Part) (channels : ℕ) (wants : Wants) (q : Question) (opts : Opts) (same : AreSameMaps ps qs)
+  where
+    abbrev K : ℕ
+    K = question_cycle q
 
-  violating_there : (run : List Values) → IsViolating ps channels wants check opts run
-      → IsViolating qs channels wants check opts run
-  violating_there run v = record {
-    is_run = (same.runs check.cycle run).0 v.is_run;
-    assumed = (same.assumed run).0 v.assumed;
-    fails = v.fails;
-  }
+    found_here : (run : List Values) → IsFound qs channels wants q opts run → IsFound ps channels wants q opts run
+    found_here run v = record {
+      is_run = (same.runs K run).1 v.is_run;
+      assumed = (same.assumed run).1 v.assumed;
+      given = v.given;
+    }
 
-  tight : (notes : List Note) (formula : Cnf) → IsTight qs channels wants check opts notes formula
-      → IsTight ps channels wants check opts notes formula
-  tight notes formula h = record {
-    before = h.before;
-    last = h.last;
-    model = λ run r. h.model run ((same.runs check.cycle run).0 r);
-    one = λ run v w r. h.one run v w ((same.runs check.cycle run).0 r);
-    run = λ v t. let x = h.run v t in (x.0, (same.runs check.cycle x.0).1 x.1, x.2);
-    verdict = λ v run t r g.
-        let x = h.verdict v run t ((same.runs check.cycle run).0 r) g in
-        (λ e. ((same.assumed run).1 (x.0 e).0, (x.0 e).1), λ y. x.1 ((same.assumed run).0 y.0, y.1));
-    fields = h.fields;
-  }
+    found_there : (run : List Values) → IsFound ps channels wants q opts run → IsFound qs channels wants q opts run
+    found_there run v = record {
+      is_run = (same.runs K run).0 v.is_run;
+      assumed = (same.assumed run).0 v.assumed;
+      given = v.given;
+    }
 
-pub by_maps : JudgementsDependOnMaps
-by_maps ps qs channels wants check opts budget (judged.Pass texts) same e h = record {
-  holds = λ run v. h.holds run (violating_there ps qs channels wants check opts same run v);
+    tight : (notes : List Note) (formula : Cnf) → IsTight qs channels wants q opts notes formula
+        → IsTight ps channels wants q opts notes formula
+    tight notes formula h = record {
+      before = h.before;
+      last = h.last;
+      model = λ run r. h.model run ((same.runs K run).0 r);
+      one = λ run v w r. h.one run v w ((same.runs K run).0 r);
+      run = λ v t. let x = h.run v t in (x.0, (same.runs K x.0).1 x.1, x.2);
+      verdict = λ v run t r g.
+          let x = h.verdict v run t ((same.runs K run).0 r) g in
+          (λ e. ((same.assumed run).1 (x.0 e).0, (x.0 e).1), λ y. x.1 ((same.assumed run).0 y.0, y.1));
+      fields = h.fields;
+    }
+
+pub by_maps : (more : ℕ → Cnf → List Step → Type 0) → JudgementsDependOnMaps more
+by_maps more ps qs channels wants q opts budget (judged.Never texts) same e h = record {
+  never = λ run v. h.never run (found_there ps qs channels wants q opts same run v);
   notes = h.notes;
   formula = h.formula;
   steps = h.steps;
   written = h.written;
-  tight = tight ps qs channels wants check opts same h.notes h.formula h.tight;
+  tight = tight ps qs channels wants q opts same h.notes h.formula h.tight;
   refuted = h.refuted;
-  fewer = h.fewer;
+  unsatisfiable = h.unsatisfiable;
+  known = h.known;
+  read_back = h.read_back;
 }
-by_maps ps qs channels wants check opts budget (judged.Fail dump) same e h = record {
+by_maps more ps qs channels wants q opts budget (judged.Found dump) same e h = record {
   run = h.run;
-  violates = violating ps qs channels wants check opts same h.run h.violates;
+  found = found_here ps qs channels wants q opts same h.run h.found;
   dump_is = h.dump_is ∙ ap vcd_text (same_trace ps qs h.run e);
 }
-by_maps ps qs channels wants check opts budget (judged.Spent texts) same e h = record {
+by_maps more ps qs channels wants q opts budget (judged.Spent texts) same e h = record {
   notes = h.notes;
   formula = h.formula;
   steps = h.steps;
   written = h.written;
-  tight = tight ps qs channels wants check opts same h.notes h.formula h.tight;
+  tight = tight ps qs channels wants q opts same h.notes h.formula h.tight;
   valid = h.valid;
   resolved = h.resolved;
   count = h.count;
   few = h.few;
+  read_back = h.read_back;
 }
 
 -- ---- the declarations of a design without hierarchy
@@ -145,7 +151,7 @@ flat_decls flat =
     ap decls_of (append_assoc (map (λ d. declares d) flat.decls) driven begun)
     ∙ declared flat.decls (driven ++ begun) (none_behind ss flat.drivers flat.starts)
 
-pub of_the_source : JudgementsAreTheSources
-of_the_source ps flat channels wants check opts budget judged drawn same h =
-    by_maps ps (flat_parts flat) channels wants check opts budget judged same
+pub of_the_source : (more : ℕ → Cnf → List Step → Type 0) → JudgementsAreTheSources more
+of_the_source more ps flat channels wants q opts budget judged drawn same h =
+    by_maps more ps (flat_parts flat) channels wants q opts budget judged same
     (sym (flat_decls flat ∙ drawn.decls_are)) h

@@ -1,5 +1,10 @@
 -- What verdicts on a net come to, said of its design.
 use Rattle.std.specs.Prelude.{ℕ, ◌<◌, ◌≤◌, ◌^◌, List, length}
+use Rattle.cnf_form.specs.Cnf.{Cnf}
+use Rattle.lrat_check.specs.declared.step.Step.{Step}
+use Rattle.lrat_check.specs.Texts.{AreShort}
+use Rattle.lrat_texts.proofs.Formulas.{formula_law}
+use Rattle.lrat_texts.proofs.Steps.{steps_law}
 use Rattle.std.proofs.Common.{ap, sym, ◌∙◌, arith, subst, lit≤}
 use Rattle.fv_text.specs.declared.trace.Trace.{Trace}
 use Rattle.rv_table.specs.declared.retire.Opts.{Opts}
@@ -9,14 +14,17 @@ use Rattle.wn_net.specs.Net.{Netlist, IsNet}
 use Rattle.wn_net.specs.Names.{AreNamesOf}
 use Rattle.rvfi_port.specs.declared.port.Port.{Port}
 use Rattle.rvfi_port.specs.declared.port.Wants.{Wants}
-use Rattle.ck_cfg.specs.declared.check.Check.{Check}
-use Rattle.ck_cfg.specs.Lawful.{IsCheck}
+use Rattle.ck_ask.specs.Asked.{IsQuestion}
+use Rattle.ck_ask.specs.Questions.{question_channel, question_cycle}
+use Rattle.ck_ask.specs.declared.question.Question.{Question}
+use Rattle.ck_ask.proofs.Lawful.{channel_within, in_order}
 use Rattle.bm_decide.specs.declared.verdict.Certificate.{Certificate}
 use Rattle.bm_decide.specs.Verdicts as verdict
-use Rattle.bm_decide.specs.Verdicts.{IsFail}
-use Rattle.bm_decide.specs.Chosen.{ShowsViolation}
+use Rattle.bm_decide.specs.Verdicts.{AreBitsOf, AreOfRuns, Gives, IsOnce, fields_in}
+use Rattle.bm_decide.specs.declared.verdict.Witness.{Witness}
+use Rattle.bm_decide.specs.Chosen.{ShowsWitness}
 use Rattle.ck_design.specs.Loaded.{IsLoaded}
-use Rattle.ck_design.proofs.Violating.{designs, nets}
+use Rattle.ck_design.proofs.Found.{designs, nets}
 use Rattle.ck_design.specs.Notes.{notes_of}
 use Rattle.ck_design.specs.Tight.{IsTight}
 use Rattle.ck_design.proofs.NotesWhole.{tight}
@@ -26,52 +34,61 @@ use Rattle.ck_design.proofs.TracesWhole.{traces}
 use Rattle.vl_lower_spec.specs.Evaluations.{run_of}
 use Rattle.vcd_dump.specs.Vcd.{IsTrace, vcd_text}
 use Rattle.rvf_judge.specs.declared.judged.CertificateTexts.{CertificateTexts}
-use Rattle.rvf_judge.specs.Judged.{AreTexts, IsFailed, IsPassed, IsSpent}
-use Rattle.rvf_judge.specs.JudgeParts.{IsDump}
+use Rattle.rvf_judge.specs.Judged.{AreTexts, Fits, IsNever, IsShown, IsSpent, SayBoth}
+use Rattle.rvf_judge.specs.JudgeParts.{AreReadBack, IsDump}
 
-pub in_order : (channels : ℕ) (check : Check) → IsCheck channels check → check.start ≤ check.cycle
-in_order channels check h = omega (arith, h.lawful.start, h.lawful.trig)
-
-pub few_channels : (channels : ℕ) (check : Check) → IsCheck channels check → channels ≤ 2 → check.channel < 2 ^ 26
-few_channels channels check h few =
-    let less : check.channel < 2 = omega (arith, h.channel, few) in
+pub few_channels : (channels : ℕ) (q : Question) → IsQuestion channels q → channels ≤ 2 → question_channel q < 2 ^ 26
+few_channels channels q h few =
+    let less : question_channel q < 2 = omega (arith, channel_within channels q h, few) in
     let room : 2 ≤ 2 ^ 26 = lit≤ tt in
     omega (arith, less, room)
 
-module _ (ps : List Part) (net : Netlist) (names : Names) (channels : ℕ) (wants : Wants) (port : Port) (check : Check)
+-- what is read of the texts is what they say
+both_said : (formula : Cnf) (steps : List Step) (texts : CertificateTexts) → (formula.vars < 10 ^ 18 → AreShort steps)
+    → AreReadBack formula steps texts → Fits formula → SayBoth formula steps texts
+both_said formula steps texts short back fits = record {
+  formula_said = (formula_law texts.clauses formula).0 (back.clauses fits);
+  steps_said = (steps_law texts.steps steps).0 (back.steps (short (omega (arith, fits.vars))));
+}
+
+module _ (ps : List Part) (net : Netlist) (names : Names) (channels : ℕ) (wants : Wants) (port : Port) (q : Question)
     (opts : Opts) (loaded : IsLoaded ps net names channels wants port) (whole : IsNet net)
-    (lawful : IsCheck (length port.channels) check) where
-  is_check : IsCheck channels check
-  is_check = subst (λ n. IsCheck n check) loaded.many lawful
+    (lawful : IsQuestion (length port.channels) q) where
+  is_question : IsQuestion channels q
+  is_question = subst (λ n. IsQuestion n q) loaded.many lawful
 
   -- the clauses are tight for the design
-  is_tight : (c : Certificate) → verdict.AreBitsOf net check.cycle c.bits → verdict.IsTight net port check opts c
-      → IsTight ps channels wants check opts (notes_of names c.bits check.channel check.cycle c.fields) c.formula
-  is_tight c bits h = tight ps net names channels wants port check opts c loaded whole is_check bits h
+  is_tight : (c : Certificate) → AreBitsOf net (question_cycle q) c.bits
+      → AreOfRuns net (question_cycle q) (Gives net port q opts) (fields_in net port q) c
+      → IsTight ps channels wants q opts (notes_of names c.bits (question_channel q) (question_cycle q) c.fields)
+      c.formula
+  is_tight c bits h = tight ps net names channels wants port q opts c loaded whole is_question bits h
 
-  pub passed : (budget : ℕ) (c : Certificate) (texts : CertificateTexts)
-      → verdict.IsPass net port check opts budget c
-      → AreTexts (notes_of names c.bits check.channel check.cycle c.fields) c.formula c.steps texts
-      → IsPassed ps channels wants check opts budget texts
-  passed budget c texts h written = record {
-    holds = λ run v.
-        let x = nets ps net names channels wants port check opts run loaded whole (in_order channels check is_check) v
-        in h.holds x.choices x.of x.violates;
-    notes = notes_of names c.bits check.channel check.cycle c.fields;
+  pub never : (more : ℕ → Cnf → List Step → Type 0) (budget : ℕ) (c : Certificate) (texts : CertificateTexts)
+      → verdict.IsNever net (question_cycle q) (Gives net port q opts) (fields_in net port q) (more budget) c
+      → AreTexts (notes_of names c.bits (question_channel q) (question_cycle q) c.fields) c.formula c.steps texts
+      → AreReadBack c.formula c.steps texts → IsNever more ps channels wants q opts budget texts
+  never more budget c texts h written back = record {
+    never = λ run v.
+        let x = nets ps net names channels wants port q opts run loaded whole (in_order channels q is_question) v
+        in h.never x.choices x.of x.gives;
+    notes = notes_of names c.bits (question_channel q) (question_cycle q) c.fields;
     formula = c.formula;
     steps = c.steps;
     written = written;
     tight = is_tight c h.bits h.tight;
     refuted = h.refuted;
-    fewer = h.fewer;
+    unsatisfiable = h.unsatisfiable;
+    known = h.known;
+    read_back = both_said c.formula c.steps texts h.short back;
   }
 
   pub spent : (budget : ℕ) (c : Certificate) (texts : CertificateTexts)
-      → verdict.IsSpent net port check opts budget c
-      → AreTexts (notes_of names c.bits check.channel check.cycle c.fields) c.formula c.steps texts
-      → IsSpent ps channels wants check opts budget texts
-  spent budget c texts h written = record {
-    notes = notes_of names c.bits check.channel check.cycle c.fields;
+      → verdict.IsSpent net (question_cycle q) (Gives net port q opts) (fields_in net port q) budget c
+      → AreTexts (notes_of names c.bits (question_channel q) (question_cycle q) c.fields) c.formula c.steps texts
+      → AreReadBack c.formula c.steps texts → IsSpent ps channels wants q opts budget texts
+  spent budget c texts h written back = record {
+    notes = notes_of names c.bits (question_channel q) (question_cycle q) c.fields;
     formula = c.formula;
     steps = c.steps;
     written = written;
@@ -80,24 +97,25 @@ module _ (ps : List Part) (net : Netlist) (names : Names) (channels : ℕ) (want
     resolved = h.resolved;
     count = h.count;
     few = h.few;
+    read_back = both_said c.formula c.steps texts h.short back;
   }
 
-  pub failed : (dump : List ℕ) → HaveOwnNames ps → IsDump net names port check opts dump
-      → IsFailed ps channels wants check opts dump
-  failed dump own d =
-      let ch = d.shown.ch in
-      let v = d.shown.violating in
-      let run = run_of net names ch check.cycle in
+  pub shown : (x : Witness) (dump : List ℕ) → HaveOwnNames ps
+      → IsOnce net (question_cycle q) (Gives net port q opts) x → IsDump net names q x dump
+      → IsShown ps channels wants q opts dump
+  shown x dump own once d =
+      let ch = d.shows.ch in
+      let of = d.shows.of_net in
+      let K = question_cycle q in
       record {
-        run = run;
-        violates = designs ps net names channels wants port check opts ch loaded whole v.of_net
-            (in_order channels check is_check) v.violates;
-        dump_is = d.dump_is ∙ ap vcd_text (d.shown.shown
-            ∙ traces ps net names ch check.cycle loaded.lowered whole own v.of_net);
+        run = run_of net names ch K;
+        found = designs ps net names channels wants port q opts ch loaded whole of (in_order channels q is_question)
+            (once.bad ch of d.shows.same);
+        dump_is = d.dump_is ∙ ap vcd_text (d.shows.shown ∙ traces ps net names ch K loaded.lowered whole own of);
       }
 
--- a trace of a violation has a dump
-pub has_dump : (net : Netlist) (names : Names) (port : Port) (check : Check) (opts : Opts) (trace : Trace) → IsNet net
-    → AreNamesOf net names → ShowsViolation net names port check opts trace → IsTrace trace
-has_dump net names port check opts trace whole own s =
-    subst IsTrace (sym s.shown) (dumps net names s.ch check.cycle whole own s.violating.of_net)
+-- a trace of a witness has a dump
+pub has_dump : (net : Netlist) (names : Names) (cycle : ℕ) (x : Witness) (trace : Trace) → IsNet net
+    → AreNamesOf net names → ShowsWitness net names cycle x trace → IsTrace trace
+has_dump net names cycle x trace whole own s =
+    subst IsTrace (sym s.shown) (dumps net names s.ch cycle whole own s.of_net)

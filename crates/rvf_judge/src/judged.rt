@@ -9,13 +9,13 @@ pub struct CertificateTexts {
     pub steps: Text,
 }
 
-/// What a check comes to.
+/// What a question comes to.
 #[derive(Debug, Drop)]
 pub enum Judged {
-    /// No run violates it: the steps refute the clauses.
-    Pass(CertificateTexts),
-    /// The value-change dump of a run that violates it.
-    Fail(Text),
+    /// No run gives what is sought: the steps refute the clauses.
+    Never(CertificateTexts),
+    /// The value-change dump of a run that gives it.
+    Found(Text),
     /// The budget is used up: the steps derive as many clauses.
     Spent(CertificateTexts),
 }

@@ -1,6 +1,6 @@
-//! What a check of a design comes to, with its texts, and what that says of the source.
+//! What a question of a design comes to, with its texts, and what that says of the source.
 //!
-//! - From a net and a check to what the check of its design comes to, with the texts that say so.
+//! - From a net and a question to what the question of its design comes to, with the texts that say so.
 //! - The notes of a certificate, and the lines that they are in a clause file.
 //! - That a judgement on a design without hierarchy is one on the design that the source writes: laws, without code.
 #![tactic(auto)]

@@ -1,6 +1,5 @@
 ghost use Rattle.std.specs.Prelude.{◌≡◌, ◌++◌, ◌∷◌, [], IfOk, OnOk};
 ghost use Rattle.std.specs.Fmt.{signed_decimal};
-ghost use Rattle.cnf_text.specs.Dimacs.{HasNoEnd};
 ghost use Rattle.rvf_judge.specs.Lines as lines;
 
 use ck_design::{Note, NoteLiteral};
@@ -9,8 +8,7 @@ use itoa::Buffer;
 use std::alloc::Global;
 
 fn put_number(out: &mut Vec<u8>, number: i64) -> Result<(), Memory>
-    ensures text { OnOk result (out.new.items ≡ out.old.items ++ signed_decimal number) }
-    ensures one_line { OnOk result (HasNoEnd (signed_decimal number)) }
+    ensures { OnOk result (out.new.items ≡ out.old.items ++ signed_decimal number) }
 {
     let mut buffer = Buffer::new();
     out.extend_from_slice(buffer.format(number).as_bytes())?;
@@ -25,8 +23,7 @@ fn put_byte(out: &mut Vec<u8>, byte: u8) -> Result<(), Memory>
 }
 
 fn put_literal(out: &mut Vec<u8>, literal: NoteLiteral) -> Result<(), Memory>
-    ensures text { OnOk result (out.new.items ≡ out.old.items ++ lines.literal_word literal) }
-    ensures one_line { OnOk result (HasNoEnd (lines.literal_word literal)) }
+    ensures { OnOk result (out.new.items ≡ out.old.items ++ lines.literal_word literal) }
 {
     match literal {
         NoteLiteral::Zero => put_byte(out, b'F'),
@@ -42,9 +39,8 @@ fn line_bytes(
     bit: u32,
     name: &Text,
 ) -> Result<Vec<u8>, Memory>
-    ensures text { IfOk result (λ bytes. bytes.items ≡ lines.note_text
+    ensures { IfOk result (λ bytes. bytes.items ≡ lines.note_text
         (record { literal = literal; cycle = cycle; bit = bit; name = name.now })) }
-    ensures one_line { IfOk result (λ bytes. HasNoEnd (lines.literal_word literal)) }
 {
     let mut buffer = Buffer::new();
     let mut out = Vec::new(alloc);
@@ -65,9 +61,8 @@ fn line_text(
     bit: u32,
     name: &Text,
 ) -> Result<Text, Memory>
-    ensures text { IfOk result (λ text. text ≡ lines.note_text
+    ensures { IfOk result (λ text. text ≡ lines.note_text
         (record { literal = literal; cycle = cycle; bit = bit; name = name.now })) }
-    ensures one_line { IfOk result (λ text. HasNoEnd name.now → HasNoEnd text) }
 {
     let bytes = line_bytes(alloc, literal, cycle, bit, name)?;
     Ok(Text::from_vec(bytes))
@@ -75,8 +70,7 @@ fn line_text(
 
 /// The note as a line without its end.
 pub fn note_text(alloc: Global, note: &Note) -> Result<Text, Memory>
-    ensures text { IfOk result (λ text. text ≡ lines.note_text note.now) }
-    ensures one_line { IfOk result (λ text. HasNoEnd note.now.name → HasNoEnd text) }
+    ensures { IfOk result (λ text. text ≡ lines.note_text note.now) }
 {
     line_text(alloc, note.literal, note.cycle, note.bit, &note.name)
 }

@@ -4,7 +4,7 @@ use crate::judged::Judged;
 
 fn is_shared<T: Send + Sync>(_value: &T) {}
 
-/// What checks come to may be shared.
+/// What questions come to may be shared.
 pub(crate) fn are_shared(judged: &Judged) {
     is_shared(judged);
 }

@@ -1,15 +1,20 @@
 //! The texts of certificates.
 
 ghost use Rattle.std.specs.Prelude.{◌≡◌, ◌<◌, ◌^◌, map, IfOk};
+ghost use Rattle.cnf_text.specs.Dimacs.{HaveNoEnd, dimacs_text};
+ghost use Rattle.lrat_check.specs.Texts.{lrat_text};
+ghost use Rattle.vl_lower_spec.specs.Graphic.{AreGraphic};
+ghost use Rattle.ck_ask.specs.Questions.{question_channel, question_cycle};
 ghost use Rattle.ck_design.specs.Notes.{notes_of};
 ghost use Rattle.rvf_judge.specs.Lines as lines;
+ghost use Rattle.rvf_judge.specs.JudgeParts.{AreReadBack};
 ghost use Rattle.rvf_judge.specs.Judged.{AreTexts};
 
 use crate::judged::CertificateTexts;
 use crate::line::note_text;
 use crate::notes::notes_of;
 use bm_decide::Certificate;
-use ck_cfg::Check;
+use ck_ask::Question;
 use ck_design::Note;
 use cnf_text::dimacs;
 use fv_text::{List, Memory, Text};
@@ -30,18 +35,40 @@ fn note_texts(alloc: Global, notes: &[Note]) -> Result<List<Text>, Memory>
     Ok(made)
 }
 
+/// The texts of a certificate, with these lines as notes.
+fn written(
+    alloc: Global,
+    certificate: &Certificate,
+    lines: &[Text],
+) -> Result<CertificateTexts, Memory>
+    ensures texts { IfOk result (λ texts. texts ≡ record {
+      clauses = dimacs_text lines.now certificate.now.formula;
+      steps = lrat_text certificate.now.steps;
+    }) }
+    ensures read_back { IfOk result (λ texts. HaveNoEnd lines.now
+        → AreReadBack certificate.now.formula certificate.now.steps texts) }
+{
+    let clauses = dimacs(alloc, &certificate.formula, lines)?;
+    let steps = lrat(alloc, certificate.steps.as_slice())?;
+    Ok(CertificateTexts {
+        clauses: Text::from_vec(clauses),
+        steps: Text::from_vec(steps),
+    })
+}
+
 /// The texts of a certificate, with a note for each placed bit of a choice, and for each bit of each field of the
-/// check's channel in its cycle.
+/// question's channel in its cycle. Within the limits of the formats they are read back.
 pub(crate) fn texts_of(
     alloc: Global,
     names: &Names,
-    check: &Check,
+    question: &Question,
     certificate: &Certificate,
 ) -> Result<CertificateTexts, Memory>
-    requires { check.now.channel < 2 ^ 26 }
-    ensures { IfOk result (AreTexts
-        (notes_of names.now certificate.now.bits check.now.channel check.now.cycle certificate.now.fields)
-        certificate.now.formula certificate.now.steps) }
+    requires channel { question_channel question.now < 2 ^ 26 }
+    requires graphic { AreGraphic names.now }
+    ensures texts { IfOk result (AreTexts (notes_of names.now certificate.now.bits (question_channel question.now)
+        (question_cycle question.now) certificate.now.fields) certificate.now.formula certificate.now.steps) }
+    ensures read_back { IfOk result (AreReadBack certificate.now.formula certificate.now.steps) }
 {
     let fields = certificate.fields.as_slice();
     let notes = notes_of(
@@ -49,14 +76,9 @@ pub(crate) fn texts_of(
         names,
         &certificate.bits,
         fields,
-        check.channel,
-        check.cycle,
+        question.channel(),
+        question.cycle(),
     )?;
     let lines = note_texts(alloc, notes.as_slice())?;
-    let clauses = dimacs(alloc, &certificate.formula, lines.as_slice())?;
-    let steps = lrat(alloc, certificate.steps.as_slice())?;
-    Ok(CertificateTexts {
-        clauses: Text::from_vec(clauses),
-        steps: Text::from_vec(steps),
-    })
+    written(alloc, certificate, lines.as_slice())
 }

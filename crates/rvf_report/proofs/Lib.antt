@@ -1,5 +1,3 @@
-pub mod Batches
-pub mod Heads
 pub mod Deliveries
-pub mod Counting
+pub mod Answering
 pub mod Standing

@@ -1,44 +1,24 @@
 -- A report that goes on, or comes to a fault.
-use Rattle.std.proofs.Common.{◌≡◌, ℕ, ◌+◌, ◌≤◌, Bool, true, false, if◌then◌else◌, List, [], ◌∷◌, ◌++◌}
-use Rattle.std.proofs.Common.{length, nat_lt, Some, Ok, Err, slice_get, get_or, refl, sym, ap, ◌∙◌, subst}
-use Rattle.std.proofs.Common.{append_assoc, arith}
+use Rattle.std.proofs.Common.{◌≡◌, ℕ, ◌+◌, ◌<◌, ◌≤◌, List, [], ◌∷◌, ◌++◌, length, Ok, Err, refl, sym, ap, ◌∙◌, subst}
+use Rattle.std.proofs.Common.{arith, min, ◌-◌}
 use Rattle.std.specs.Iterator.{Yields}
 use Rattle.std.specs.Vec.Iter.{into_iter_items, into_iter_steps}
 use Rattle.std.specs.declared.vec.IntoIter.{IntoIter}
-use Rattle.std.proofs.lemmas.List.{append-nil, length_push}
-use Rattle.std.proofs.lemmas.Option.{get_or_from_slice_get}
+use Rattle.std.proofs.lemmas.List.{length_push}
 use Rattle.fv_base.specs.declared.out.OutFault.{OutFault}
 use Rattle.fv_base.specs.declared.out.OutFault.TheVariants as out
-use Rattle.ck_cfg.specs.declared.check.Check.{Check}
-use Rattle.rvf_case.specs.declared.case.Case.{Case}
-use Rattle.rvf_judge.specs.declared.judged.Judged.{Judged}
-use Rattle.rvf_report.specs.Reports as reports
-use Rattle.rvf_report.specs.Reports.{AreAnswers, Concludes, IsAnswer, IsReport, Reports, answered, counts_of, head}
-use Rattle.rvf_report.specs.Reports.{is_noted, whole}
-use Rattle.rvf_report.specs.Deliveries.{deliveries_of}
-use Rattle.rvf_report.specs.ReportLines.{total_line}
+use Rattle.rvf_report.specs.Reports.{AreAnswersFrom, Concludes, Plan, Reports, all, begun, front, whole}
 use Rattle.rvf_report.specs.Outcome.{Outside, Delivers, IsDelivered}
-use Rattle.rvf_report.specs.Status.{UnlessBroken}
-use Rattle.rvf_report.specs.Steps.{CountsIn, CutsOff, Ends, IsAnswerAt, AreUnmoved, Proceeds, Stands, begun_of, counted}
-use Rattle.rvf_report.specs.Steps.{places_of, status_in}
-use Rattle.rvf_report.specs.declared.counts.Counts.{Counts}
-use Rattle.rvf_report.specs.declared.delivery.Delivery.TheVariants.{Line}
+use Rattle.rvf_report.specs.Status.{IsOfAnswers, UnlessBroken}
+use Rattle.rvf_report.specs.Steps.{AreUnmoved, CountsIn, CutsOff, Ends, Stands}
 use Rattle.rvf_report.specs.declared.status.Status.{Status}
 use Rattle.rvf_report.specs.declared.status.Status.TheVariants as s
-use Rattle.rvf_report.proofs.Counting.{answers_few, counts_more, places_are, status_is_theirs}
-use Rattle.rvf_report.proofs.Deliveries.{CountsIn-behind, Delivers-behind, IsDelivered-all, IsDelivered-behind}
-use Rattle.rvf_report.proofs.Deliveries.{AreUnmoved-trans}
+use Rattle.rvf_report.proofs.Answering.{answer_at, begun_more, begun_none, first_more, one_longer}
+use Rattle.rvf_report.proofs.Answering.{tally_one_more}
+use Rattle.rvf_report.proofs.Deliveries.{AreUnmoved-trans, CountsIn-behind, Delivers-behind, IsDelivered-all}
+use Rattle.rvf_report.proofs.Deliveries.{IsDelivered-behind}
 
 -- ---- a list that is used up from its front
-
-seam : {A : Type 0} (xs : List A) (x : A) (ys : List A) → slice_get (xs ++ x ∷ ys) (length xs) ≡ Some x
-seam [] x ys = refl
-seam (z ∷ zs) x ys = seam zs x ys
-
-pub next_at : {A : Type 0} (items xs rest ys : List A) (x : A) → items ≡ xs ++ rest → rest ≡ x ∷ ys
-    → slice_get items (length xs) ≡ Some x
-next_at items xs rest ys x split next =
-    ap (λ l. slice_get l (length xs)) (split ∙ ap (λ l. xs ++ l) next) ∙ seam xs x ys
 
 pub taken_front : {X A : Type 0} (s : IntoIter X A) (xs : List X) (t : IntoIter X A) → Yields into_iter_steps s xs t
     → into_iter_items s ≡ xs ++ into_iter_items t
@@ -49,223 +29,173 @@ pub one_placed : {A : Type 0} (a b c : ℕ) (xs : List A) (x : A) → c ≡ b + 
     → c ≡ a + length (xs ++ x ∷ [])
 one_placed a b c xs x next here = omega (arith, next, here, length_push xs x)
 
--- ---- one answer more
+pub more_placed : (a n c : ℕ) → 1 ≤ n → c ≡ a + n → a < c
+more_placed a n c some more = omega (arith, some, more)
 
-answers_more : (case : Case) (budget : ℕ) (xs : List Check) (js : List Judged) (j : Judged) (x : Check)
-    → AreAnswers case budget xs js → slice_get xs (length js) ≡ Some x → IsAnswer case budget x j
-    → AreAnswers case budget xs (js ++ j ∷ [])
-answers_more case budget [] [] j x are at is = cc
-answers_more case budget (y ∷ ys) [] j x are at is =
-    let same : y ≡ x = cc in (subst (λ z. IsAnswer case budget z j) (sym same) is, tt)
-answers_more case budget [] (k ∷ ks) j x are at is = absurd are
-answers_more case budget (y ∷ ys) (k ∷ ks) j x are at is =
-    (are.0, answers_more case budget ys ks j x are.1 at is)
+pub few_placed : (a n c size : ℕ) → a + n ≤ size → c ≡ a + n → c ≤ size
+few_placed a n c size within more = omega (arith, within, more)
 
-answered_none : (folder : List ℕ) (budget : ℕ) (xs : List Check) → answered folder budget xs [] ≡ []
-answered_none folder budget [] = refl
-answered_none folder budget (x ∷ xs) = refl
+-- ---- a batch
 
-answered_more : (folder : List ℕ) (budget : ℕ) (xs : List Check) (js : List Judged) (j : Judged) (x : Check)
-    → slice_get xs (length js) ≡ Some x
-    → answered folder budget xs (js ++ j ∷ [])
-    ≡ answered folder budget xs js ++ deliveries_of folder x.name budget j
-answered_more folder budget [] [] j x at = cc
-answered_more folder budget (y ∷ ys) [] j x at =
-    let same : y ≡ x = cc in
-    ap (λ l. deliveries_of folder y.name budget j ++ l) (answered_none folder budget ys)
-    ∙ append-nil (deliveries_of folder y.name budget j) ∙ ap (λ z. deliveries_of folder z.name budget j) same
-answered_more folder budget [] (k ∷ ks) j x at = cc
-answered_more folder budget (y ∷ ys) (k ∷ ks) j x at =
-    ap (λ l. deliveries_of folder y.name budget k ++ l) (answered_more folder budget ys ks j x at)
-    ∙ sym (append_assoc (deliveries_of folder y.name budget k) (answered folder budget ys ks)
-    (deliveries_of folder x.name budget j))
+pub some_count : (count left jobs : ℕ) → count ≡ min left jobs → 1 ≤ left → 1 ≤ jobs → 1 ≤ count
+some_count count left jobs is some_left some_jobs = omega arith
 
-answers_none : (case : Case) (budget : ℕ) (xs : List Check) → AreAnswers case budget xs []
-answers_none case budget [] = tt
-answers_none case budget (x ∷ xs) = tt
+pub few_count : (count size first jobs : ℕ) → count ≡ min (size - first) jobs → first < size → first + count ≤ size
+few_count count size first jobs is left = omega arith
 
--- a check that was read by its index is the one at the place
-pub place_named : (xs ys : List Check) (i k : ℕ) (x y : Check) (name : List ℕ) → slice_get xs i ≡ Some x → k ≡ i
-    → ys ≡ xs → name ≡ (get_or ys k y).name → name ≡ x.name
-place_named xs ys i k x y name there index same named =
-    named ∙ ap (λ z. z.name)
-    (ap (λ l. get_or l k y) same ∙ ap (λ n. get_or xs n y) index ∙ get_or_from_slice_get xs i x y there)
+module _ {A T : Type 0} (plan : Plan A T) where
+  -- of answers that are used up from their front the next one
+  pub next_answer : (i : ℕ) (items xs rest ys : List A) (a : A) → items ≡ xs ++ rest → rest ≡ a ∷ ys
+      → AreAnswersFrom plan i items → plan.is_answer (i + length xs) a
+  next_answer i items xs rest ys a split next are =
+      answer_at plan i xs ys a
+      (subst (λ l. AreAnswersFrom plan i l) (split ∙ ap (λ l. xs ++ l) next) are)
 
--- ---- the report of a case
-
-module _ (case : Case) (folder : List ℕ) (budget : ℕ) where
-  begun_more : (js : List Judged) (j : Judged) (x : Check) → slice_get case.checks (length js) ≡ Some x
-      → begun_of case folder budget js ++ deliveries_of folder x.name budget j
-      ≡ begun_of case folder budget (js ++ j ∷ [])
-  begun_more js j x at =
-      append_assoc (head (is_noted case) case.config.skips) (answered folder budget case.checks js)
-      (deliveries_of folder x.name budget j)
-      ∙ ap (λ l. head (is_noted case) case.config.skips ++ l)
-      (sym (answered_more folder budget case.checks js j x at))
-
-  begun_none : head (is_noted case) case.config.skips ≡ begun_of case folder budget []
-  begun_none =
-      sym (ap (λ l. head (is_noted case) case.config.skips ++ l) (answered_none folder budget case.checks)
-      ∙ append-nil (head (is_noted case) case.config.skips))
+  -- ---- the report
 
   -- a fault within the report of a front
-  cut_off : (fault : OutFault) (a c : Outside) (js : List Judged) → AreAnswers case budget case.checks js
-      → IsDelivered (Err fault) a c (begun_of case folder budget js) → CountsIn (Err fault) a c
-      → CutsOff case folder budget a c fault
-  cut_off fault a c js are q moved = record {
-    answers = js;
+  cut_off : (fault : OutFault) (a c : Outside) (answers : List A) → AreAnswersFrom plan 0 answers
+      → IsDelivered (Err fault) a c (begun plan answers) → CountsIn (Err fault) a c → CutsOff plan a c fault
+  cut_off fault a c answers are q moved = record {
+    answers = answers;
     are = are;
-    report = begun_of case folder budget js;
-    is = reports.front refl;
+    report = begun plan answers;
+    is = front refl;
     ended = q;
     counts = moved;
   }
 
-  pub few_stand : (a b : Outside) (counts : Counts) → Stands case folder budget a b counts
-      → places_of counts ≤ length case.checks
-  few_stand a b counts h =
-      let e : places_of counts ≡ length h.answers =
-      ap places_of h.counts_are ∙ places_are case.config.skips h.answers in
-      omega (arith, e, answers_few case budget case.checks h.answers h.are)
-
   -- ---- the head
 
-  pub begins : (a b : Outside) (counts : Counts) → counts ≡ counts_of [] case.config.skips
-      → Delivers a b (head (is_noted case) case.config.skips) → AreUnmoved a b → Stands case folder budget a b counts
-  begins a b counts none d quiet = record {
+  pub begins : (a b : Outside) (tally : T) → tally ≡ plan.none → Delivers a b plan.head → AreUnmoved a b
+      → Stands plan a b 0 tally
+  begins a b tally none d quiet = record {
     answers = [];
-    are = answers_none case budget case.checks;
-    counts_are = none;
-    delivered = subst (λ l. Delivers a b l) begun_none d;
+    are = tt;
+    many = refl;
+    tally_is = none;
+    delivered = subst (λ l. Delivers a b l) (begun_none plan) d;
     quiet = quiet;
   }
 
-  pub begins_not : (fault : OutFault) (a b : Outside)
-      → IsDelivered (Err fault) a b (head (is_noted case) case.config.skips) → CountsIn (Err fault) a b
-      → Proceeds (Err fault) case folder budget a b
+  pub begins_not : (fault : OutFault) (a b : Outside) → IsDelivered (Err fault) a b plan.head
+      → CountsIn (Err fault) a b → CutsOff plan a b fault
   begins_not fault a b d moved =
-      cut_off fault a b [] (answers_none case budget case.checks) (subst (λ l. IsDelivered (Err fault) a b l) begun_none d) moved
+      cut_off fault a b [] tt (subst (λ l. IsDelivered (Err fault) a b l) (begun_none plan) d) moved
 
   -- ---- one answer more
 
-  module _ (a b c : Outside) (counts : Counts) (j : Judged) (name : List ℕ)
-      (stands : Stands case folder budget a b counts) (at : IsAnswerAt case budget (places_of counts) j)
-      (named : name ≡ at.check.name) (after : Counts) (after_is : after ≡ counted counts j) where
-    there : slice_get case.checks (length stands.answers) ≡ Some at.check
-    there =
-        ap (λ n. slice_get case.checks n)
-        (sym (ap places_of stands.counts_are ∙ places_are case.config.skips stands.answers)) ∙ at.there
+  module _ (a b c : Outside) (place : ℕ) (tally : T) (answer : A) (stands : Stands plan a b place tally)
+      (is : plan.is_answer place answer) where
+    are_now : AreAnswersFrom plan 0 (stands.answers ++ answer ∷ [])
+    are_now = first_more plan place stands.answers answer stands.many stands.are is
 
-    are_more : AreAnswers case budget case.checks (stands.answers ++ j ∷ [])
-    are_more = answers_more case budget case.checks stands.answers j at.check stands.are there at.answers
+    more_is : begun plan stands.answers ++ plan.deliveries place answer ≡ begun plan (stands.answers ++ answer ∷ [])
+    more_is = begun_more plan place stands.answers answer stands.many
 
-    more_is : begun_of case folder budget stands.answers ++ deliveries_of folder name budget j
-        ≡ begun_of case folder budget (stands.answers ++ j ∷ [])
-    more_is =
-        ap (λ n. begun_of case folder budget stands.answers ++ deliveries_of folder n budget j) named
-        ∙ begun_more stands.answers j at.check there
-
-    pub goes_on : Delivers b c (deliveries_of folder name budget j) → AreUnmoved b c
-        → Stands case folder budget a c after
-    goes_on d quiet = record {
-      answers = stands.answers ++ j ∷ [];
-      are = are_more;
-      counts_are = after_is ∙ ap (λ n. counted n j) stands.counts_are
-          ∙ sym (counts_more case.config.skips stands.answers j);
+    pub goes_on : (after : T) → after ≡ plan.counted place tally answer
+        → Delivers b c (plan.deliveries place answer) → AreUnmoved b c → Stands plan a c (place + 1) after
+    goes_on after after_is d quiet = record {
+      answers = stands.answers ++ answer ∷ [];
+      are = are_now;
+      many = one_longer plan place stands.answers answer stands.many;
+      tally_is = after_is ∙ ap (λ t. plan.counted place t answer) stands.tally_is
+          ∙ sym (tally_one_more plan place stands.answers answer stands.many);
       delivered = subst (λ l. Delivers a c l) more_is
-          (Delivers-behind a b c (begun_of case folder budget stands.answers) (deliveries_of folder name budget j)
-          stands.delivered d);
+          (Delivers-behind a b c (begun plan stands.answers) (plan.deliveries place answer) stands.delivered d);
       quiet = AreUnmoved-trans a b c stands.quiet quiet;
     }
 
-    pub goes_no_further : (fault : OutFault) → IsDelivered (Err fault) b c (deliveries_of folder name budget j)
-        → CountsIn (Err fault) b c → Proceeds (Err fault) case folder budget a c
+    pub goes_no_further : (fault : OutFault) → IsDelivered (Err fault) b c (plan.deliveries place answer)
+        → CountsIn (Err fault) b c → CutsOff plan a c fault
     goes_no_further fault d moved =
-        cut_off fault a c (stands.answers ++ j ∷ []) are_more
+        cut_off fault a c (stands.answers ++ answer ∷ []) are_now
         (subst (λ l. IsDelivered (Err fault) a c l) more_is
-        (IsDelivered-behind fault a b c (begun_of case folder budget stands.answers)
-        (deliveries_of folder name budget j) stands.delivered stands.quiet d))
+        (IsDelivered-behind fault a b c (begun plan stands.answers) (plan.deliveries place answer) stands.delivered
+        stands.quiet d))
         (CountsIn-behind fault a b c stands.quiet moved)
 
   -- memory was wanted before the next answer
-  pub wants_memory : (a b : Outside) (counts : Counts) → Stands case folder budget a b counts
-      → Proceeds (Err out.Memory) case folder budget a b
-  wants_memory a b counts stands =
+  pub wants_memory : (a b : Outside) (place : ℕ) (tally : T) → Stands plan a b place tally
+      → CutsOff plan a b out.Memory
+  wants_memory a b place tally stands =
       cut_off out.Memory a b stands.answers stands.are
-      (IsDelivered-all a b (begun_of case folder budget stands.answers) stands.delivered) stands.quiet
+      (IsDelivered-all a b (begun plan stands.answers) stands.delivered) stands.quiet
 
   -- ---- the end
 
-  module _ (a b c : Outside) (counts : Counts) (stands : Stands case folder budget a b counts)
-      (all : places_of counts ≡ length case.checks) where
-    whole_is : length stands.answers ≡ length case.checks
-    whole_is = sym (places_are case.config.skips stands.answers) ∙ ap places_of (sym stands.counts_are) ∙ all
+  module _ (a b c : Outside) (place : ℕ) (tally : T) (stands : Stands plan a b place tally)
+      (all_answered : place ≡ plan.size) where
+    report_is : begun plan stands.answers ++ plan.last tally ≡ whole plan stands.answers
+    report_is = ap (λ t. begun plan stands.answers ++ plan.last t) stands.tally_is
 
-    report_is : begun_of case folder budget stands.answers ++ Line (total_line counts) ∷ []
-        ≡ whole folder budget (is_noted case) case.config.skips case.checks stands.answers
-    report_is = ap (λ n. begun_of case folder budget stands.answers ++ Line (total_line n) ∷ []) stands.counts_are
-
-    pub finishes : Delivers b c (Line (total_line counts) ∷ []) → AreUnmoved b c
-        → Ends (Ok counts) case folder budget a c
+    pub finishes : Delivers b c (plan.last tally) → AreUnmoved b c → Ends plan (Ok tally) a c
     finishes d quiet = (
       record {
         answers = stands.answers;
         are = stands.are;
-        all = whole_is;
-        status_is = ap status_in stands.counts_are ∙ status_is_theirs case.config.skips stands.answers;
+        all = stands.many ∙ all_answered;
+        status_is = ap plan.status stands.tally_is;
         delivered = subst (λ l. Delivers a c l) report_is
-            (Delivers-behind a b c (begun_of case folder budget stands.answers) (Line (total_line counts) ∷ [])
-            stands.delivered d);
+            (Delivers-behind a b c (begun plan stands.answers) (plan.last tally) stands.delivered d);
       },
       AreUnmoved-trans a b c stands.quiet quiet,
     )
 
-    pub finishes_not : (fault : OutFault) → IsDelivered (Err fault) b c (Line (total_line counts) ∷ [])
-        → CountsIn (Err fault) b c → Ends (Err fault) case folder budget a c
+    pub finishes_not : (fault : OutFault) → IsDelivered (Err fault) b c (plan.last tally)
+        → CountsIn (Err fault) b c → CutsOff plan a c fault
     finishes_not fault d moved = record {
       answers = stands.answers;
       are = stands.are;
-      report = begun_of case folder budget stands.answers ++ Line (total_line counts) ∷ [];
-      is = reports.all whole_is report_is;
-      ended = IsDelivered-behind fault a b c (begun_of case folder budget stands.answers)
-          (Line (total_line counts) ∷ []) stands.delivered stands.quiet d;
+      report = begun plan stands.answers ++ plan.last tally;
+      is = all (stands.many ∙ all_answered) report_is;
+      ended = IsDelivered-behind fault a b c (begun plan stands.answers) (plan.last tally) stands.delivered
+          stands.quiet d;
       counts = CountsIn-behind fault a b c stands.quiet moved;
     }
 
   -- ---- the status
 
-  -- one of three
-  three : (failed spent : Bool) (a b : Outside)
-      → Reports case folder budget a b (if failed then s.Failing else if spent then s.Spent else s.Passed)
-      → Concludes (if failed then s.Failing else if spent then s.Spent else s.Passed) case folder budget a b
-  three true spent a b h = h
-  three false true a b h = h
-  three false false a b h = h
+  by_status : (status : Status) (a b : Outside) → IsOfAnswers status → Reports plan a b status
+      → Concludes plan status a b
+  by_status s.Passed a b own h = h
+  by_status s.Failing a b own h = h
+  by_status s.Spent a b own h = h
+  by_status s.Usage a b own h = absurd own
+  by_status s.Config a b own h = absurd own
+  by_status s.Source a b own h = absurd own
+  by_status s.Absent a b own h = absurd own
+  by_status s.ReadFault a b own h = absurd own
+  by_status s.WriteFault a b own h = absurd own
+  by_status s.Heavy a b own h = absurd own
+  by_status s.Refused a b own h = absurd own
+  by_status s.Memory a b own h = absurd own
 
-  pub concludes : (status : Status) (counts : Counts) (a b : Outside) → status ≡ status_in counts
-      → Reports case folder budget a b (status_in counts) → Concludes status case folder budget a b
-  concludes status counts a b is h =
-      subst (λ x. Concludes x case folder budget a b) (sym is)
-      (three (nat_lt 0 counts.failed) (nat_lt 0 counts.spent) a b h)
+  pub concludes : (status : Status) (tally : T) (a b : Outside) → status ≡ plan.status tally → IsOfAnswers status
+      → Reports plan a b (plan.status tally) → Concludes plan status a b
+  concludes status tally a b is own h =
+      by_status status a b own (subst (λ x. Reports plan a b x) (sym is) h)
 
-  pub cut_by : (a b : Outside) (fault other : OutFault) → fault ≡ other → CutsOff case folder budget a b fault
-      → CutsOff case folder budget a b other
-  cut_by a b fault other same h = subst (λ f. CutsOff case folder budget a b f) same h
+  pub cut_by : (a b : Outside) (fault other : OutFault) → fault ≡ other → CutsOff plan a b fault
+      → CutsOff plan a b other
+  cut_by a b fault other same h = subst (λ f. CutsOff plan a b f) same h
 
-  pub breaks : (a b : Outside) → CutsOff case folder budget a b out.Failed
-      → Concludes s.WriteFault case folder budget a b
+  pub breaks : (a b : Outside) → CutsOff plan a b out.Failed → Concludes plan s.WriteFault a b
   breaks a b h = record { answers = h.answers; are = h.are; report = h.report; is = h.is; fails = h.ended }
 
-  pub wants : (a b : Outside) → CutsOff case folder budget a b out.Memory → Concludes s.Memory case folder budget a b
+  pub wants : (a b : Outside) → CutsOff plan a b out.Memory → Concludes plan s.Memory a b
   wants a b h = record { answers = h.answers; are = h.are; report = h.report; is = h.is; stops = h.ended }
 
-unless_three : (failed spent : Bool) (P : Type 0) → P
-    → UnlessBroken (if failed then s.Failing else if spent then s.Spent else s.Passed) P
-unless_three true spent P p = p
-unless_three false true P p = p
-unless_three false false P p = p
-
-pub unless_broken : (status : Status) (counts : Counts) (P : Type 0) → status ≡ status_in counts → P
-    → UnlessBroken status P
-unless_broken status counts P is p =
-    subst (λ x. UnlessBroken x P) (sym is) (unless_three (nat_lt 0 counts.failed) (nat_lt 0 counts.spent) P p)
+pub unless_broken : (status : Status) (P : Type 0) → IsOfAnswers status → P → UnlessBroken status P
+unless_broken s.Passed P own p = p
+unless_broken s.Failing P own p = p
+unless_broken s.Spent P own p = p
+unless_broken s.Usage P own p = absurd own
+unless_broken s.Config P own p = absurd own
+unless_broken s.Source P own p = absurd own
+unless_broken s.Absent P own p = absurd own
+unless_broken s.ReadFault P own p = absurd own
+unless_broken s.WriteFault P own p = absurd own
+unless_broken s.Heavy P own p = absurd own
+unless_broken s.Refused P own p = absurd own
+unless_broken s.Memory P own p = absurd own

@@ -1,5 +1,3 @@
-pub mod ReportLines
-pub mod Deliveries
 pub mod Outcome
 pub mod Status
 pub mod Reports

@@ -1,6 +1,6 @@
 -- Meaning: How the line of a refusal is put together: words parted by blanks, places, and values joined by commas.
 -- Rules of this project.
-use Rattle.std.specs.Prelude.{ℕ, List, [], ◌∷◌, ◌++◌, map, Option, Some, None, codes, decimal, slice_index_or}
+use Rattle.std.specs.Prelude.{ℕ, List, [], ◌∷◌, ◌++◌, Option, Some, None, codes, decimal, slice_index_or}
 use Rattle.fv_text.specs.declared.pos.Pos.{Pos}
 
 -- what a refusal says: its number, its place where it has one, and its other values

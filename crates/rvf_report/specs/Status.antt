@@ -20,6 +20,13 @@ code_of s.Heavy = 9
 code_of s.Refused = 10
 code_of s.Memory = 11
 
+-- the status of answers
+abbrev pub IsOfAnswers : Status → Type 0
+IsOfAnswers s.Passed = Unit {0}
+IsOfAnswers s.Failing = Unit {0}
+IsOfAnswers s.Spent = Unit {0}
+IsOfAnswers status = ⊥
+
 -- a status stands where its report was delivered; a delivery that failed, and want of memory, take its place
 abbrev pub ends : Result (Unit {0}) OutFault → Status → Status
 ends (Ok u) status = status

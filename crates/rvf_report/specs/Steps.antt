@@ -1,18 +1,11 @@
 -- Between functions: What functions promise one another while a report is delivered. Rules of this project.
-use Rattle.std.specs.Prelude.{◌≡◌, ℕ, ◌+◌, ◌≤◌, List, Some, Result, Ok, Err, slice_get}
-use Rattle.std.specs.Prelude.{nat_lt, if◌then◌else◌}
+use Rattle.std.specs.Prelude.{◌≡◌, ℕ, ◌≤◌, List, Result, Ok, Err, length}
 use Rattle.fv_base.specs.declared.out.OutFault.{OutFault}
 use Rattle.fv_base.specs.declared.out.OutFault.TheVariants as out
-use Rattle.ck_cfg.specs.declared.check.Check.{Check}
-use Rattle.rvf_judge.specs.declared.judged.Judged.{Judged}
-use Rattle.rvf_judge.specs.declared.judged.Judged.TheVariants as judged
-use Rattle.rvf_case.specs.declared.case.Case.{Case}
 use Rattle.rvf_report.specs.Outcome.{Outside, Delivers, IsDelivered}
-use Rattle.rvf_report.specs.Reports.{AreAnswers, IsAnswer, IsReport, Reports, begun, counts_of, is_noted}
-use Rattle.rvf_report.specs.declared.counts.Counts.{Counts}
+use Rattle.rvf_report.specs.Reports.{AreAnswersFrom, IsReport, Plan, Reports, begun, tally_of}
 use Rattle.rvf_report.specs.declared.delivery.Delivery.{Delivery}
-use Rattle.rvf_report.specs.declared.status.Status.{Status}
-use Rattle.rvf_report.specs.declared.status.Status.TheVariants as s
+use Rattle.rvf_report.specs.declared.progress.Progress.{Progress}
 
 -- no count moved
 pub record AreUnmoved (before now : Outside) : Type 0 where
@@ -32,55 +25,31 @@ CountsIn (Ok u) before now = AreUnmoved before now
 CountsIn (Err out.Failed) before now = IsCounted before now
 CountsIn (Err out.Memory) before now = AreUnmoved before now
 
--- the judgement is an answer of the check at a place
-pub record IsAnswerAt (case : Case) (budget : ℕ) (place : ℕ) (judgement : Judged) : Type 0 where
-  pub check : Check
-  pub there : slice_get case.checks place ≡ Some check
-  pub answers : IsAnswer case budget check judgement
+module _ {A T : Type 0} (plan : Plan A T) where
+  -- so many jobs have answers, these came through behind the head, and no count of faults rose
+  pub record Stands (before now : Outside) (place : ℕ) (tally : T) : Type 0 where
+    pub answers : List A
+    pub are : AreAnswersFrom plan 0 answers
+    pub many : length answers ≡ place
+    pub tally_is : tally ≡ tally_of plan answers
+    pub delivered : Delivers before now (begun plan answers)
+    pub quiet : AreUnmoved before now
 
--- the counts with one check more
-abbrev pub counted : Counts → Judged → Counts
-counted c (judged.Pass texts) = record c { passed = c.passed + 1 }
-counted c (judged.Fail dump) = record c { failed = c.failed + 1 }
-counted c (judged.Spent texts) = record c { spent = c.spent + 1 }
+  -- the first jobs are answered, and the report of these came to a fault
+  pub record CutsOff (before now : Outside) (fault : OutFault) : Type 0 where
+    pub answers : List A
+    pub are : AreAnswersFrom plan 0 answers
+    pub report : List Delivery
+    pub is : IsReport plan answers report
+    pub ended : IsDelivered (Err fault) before now report
+    pub counts : CountsIn (Err fault) before now
 
--- how many checks are counted
-abbrev pub places_of : Counts → ℕ
-places_of c = c.passed + c.failed + c.spent
+  -- how delivering more went
+  abbrev pub Proceeds : Result (Progress T) OutFault → Outside → Outside → Type 0
+  Proceeds (Ok progress) before now = Stands before now progress.place progress.tally
+  Proceeds (Err fault) before now = CutsOff before now fault
 
--- the status of a run whose checks are counted
-abbrev pub status_in : Counts → Status
-status_in c = if nat_lt 0 c.failed then s.Failing else if nat_lt 0 c.spent then s.Spent else s.Passed
-
--- the report of a case as far as its first checks are answered
-abbrev pub begun_of : Case → List ℕ → ℕ → List Judged → List Delivery
-begun_of case folder budget js = begun folder budget (is_noted case) case.config.skips case.checks js
-
--- the checks that are counted have answers, these came through behind the head, and no count of faults rose
-pub record Stands (case : Case) (folder : List ℕ) (budget : ℕ) (before now : Outside) (counts : Counts) : Type 0 where
-  pub answers : List Judged
-  pub are : AreAnswers case budget case.checks answers
-  pub counts_are : counts ≡ counts_of answers case.config.skips
-  pub delivered : Delivers before now (begun_of case folder budget answers)
-  pub quiet : AreUnmoved before now
-
--- the first checks are answered, and the report of these came to a fault
-pub record CutsOff (case : Case) (folder : List ℕ) (budget : ℕ) (before now : Outside) (fault : OutFault)
-    : Type 0 where
-  pub answers : List Judged
-  pub are : AreAnswers case budget case.checks answers
-  pub report : List Delivery
-  pub is : IsReport case folder budget answers report
-  pub ended : IsDelivered (Err fault) before now report
-  pub counts : CountsIn (Err fault) before now
-
--- how delivering more went
-abbrev pub Proceeds : Result Counts OutFault → Case → List ℕ → ℕ → Outside → Outside → Type 0
-Proceeds (Ok counts) case folder budget before now = Stands case folder budget before now counts
-Proceeds (Err fault) case folder budget before now = CutsOff case folder budget before now fault
-
--- what delivering the report left in the end
-abbrev pub Ends : Result Counts OutFault → Case → List ℕ → ℕ → Outside → Outside → Type 0
-Ends (Ok counts) case folder budget before now =
-    Reports case folder budget before now (status_in counts) × AreUnmoved before now
-Ends (Err fault) case folder budget before now = CutsOff case folder budget before now fault
+  -- what delivering the report left in the end
+  abbrev pub Ends : Result T OutFault → Outside → Outside → Type 0
+  Ends (Ok tally) before now = Reports plan before now (plan.status tally) × AreUnmoved before now
+  Ends (Err fault) before now = CutsOff before now fault

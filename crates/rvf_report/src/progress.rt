@@ -1,128 +1,120 @@
 //! A report, delivered part by part.
 
-ghost use Rattle.std.specs.Prelude.{◌≡◌, ◌∷◌, [], ℕ, ◌+◌, List, length, slice_get, Some, IfOk};
-ghost use Rattle.rvf_judge.specs.declared.judged.Judged.{Judged as SpecJudged};
-ghost use Rattle.rvf_report.specs.ReportLines as lines;
+ghost use Rattle.std.specs.Prelude.{◌≡◌, ◌+◌, ◌<◌, ◌^◌, length, IfOk};
 ghost use Rattle.rvf_report.specs.Outcome.{Outside, outside};
-ghost use Rattle.rvf_report.specs.Steps.{Ends, IsAnswerAt, Proceeds, Stands, places_of};
-ghost use Rattle.rvf_report.specs.declared.delivery.Delivery.TheVariants as delivery;
+ghost use Rattle.rvf_report.specs.Reports.{AreAnswersFrom};
+ghost use Rattle.rvf_report.specs.Steps.{Ends, Proceeds, Stands};
 
-use crate::check::deliveries_of;
-use crate::counts::Counts;
 use crate::delivering::deliver_made;
-use crate::delivery::Delivery;
-use crate::head::head;
-use crate::lines::total_line;
-use crate::work::Work;
+use crate::inquiry::Inquiry;
 use fv_base::{Files, Out, OutFault};
-use fv_text::{List, Memory};
-use rvf_case::Case;
-use rvf_judge::Judged;
 use std::alloc::Global;
 
-/// Delivers what stands before the checks.
-pub(crate) fn begin<F: Files, O: Out>(
+/// How far a report has come.
+#[derive(Clone, Copy)]
+pub(crate) struct Progress<T> {
+    /// How many jobs are answered, and their answers delivered.
+    pub(crate) place: usize,
+    /// The tally of these answers.
+    pub(crate) tally: T,
+}
+
+/// Delivers what stands before the answers.
+pub(crate) fn begin<F: Files, O: Out, Q: Inquiry>(
     alloc: Global,
-    case: &Case,
+    inquiry: &Q,
     files: &mut F,
     out: &mut O,
-) -> Result<Counts, OutFault>
-    ensures { (folder : List ℕ) (budget : ℕ) → Proceeds result case.now folder budget
+) -> Result<Progress<Q::Tally>, OutFault>
+    ensures proceeds { Proceeds (Q.plan inquiry.now) result
         (outside (F.held files.old) (F.misses files.old) (F.faults files.old) (O.sent out.old) (O.faults out.old))
         (outside (F.held files.new) (F.misses files.new) (F.faults files.new) (O.sent out.new) (O.faults out.new)) }
+    ensures first { IfOk result (λ progress. progress.place ≡ 0) }
+    ensures tallied { IfOk result (λ progress. Q.tallied inquiry.now progress.place progress.tally) }
 {
-    let counts = Counts {
-        passed: 0,
-        failed: 0,
-        spent: 0,
-        skipped: case.config.skips.len() as u64,
-    };
-    match deliver_made(alloc, head(alloc, case), files, out) {
-        Ok(()) => Ok(counts),
+    let tally = inquiry.none();
+    match deliver_made(alloc, inquiry.head(alloc), files, out) {
+        Ok(()) => Ok(Progress { place: 0, tally }),
         Err(fault) => Err(fault),
     }
 }
 
-/// Delivers the answers of the checks behind those that are counted, in order.
-pub(crate) fn deliver_answers<F: Files, O: Out>(
+/// Delivers the answers of the jobs behind those that are answered, in order.
+pub(crate) fn deliver_answers<F: Files, O: Out, Q: Inquiry>(
     alloc: Global,
-    case: &Case,
-    work: &Work<'_>,
-    answers: Vec<Judged>,
-    before: Counts,
+    inquiry: &Q,
+    answers: Vec<Q::Answer>,
+    before: Progress<Q::Tally>,
     files: &mut F,
     out: &mut O,
-) -> Result<Counts, OutFault>
-    requires { (i : ℕ) (judgement : SpecJudged) → slice_get answers.items i ≡ Some judgement
-        → IsAnswerAt case.now work.now.budget (places_of before + i) judgement }
-    ensures proceeds { (first : Outside) → Stands case.now work.now.outdir.now work.now.budget first
+) -> Result<Progress<Q::Tally>, OutFault>
+    requires answers { AreAnswersFrom (Q.plan inquiry.now) before.place answers.items }
+    requires room { before.place + length answers.items < 2 ^ 64 }
+    requires tallied { Q.tallied inquiry.now before.place before.tally }
+    ensures proceeds { (first : Outside) → Stands (Q.plan inquiry.now) first
         (outside (F.held files.old) (F.misses files.old) (F.faults files.old) (O.sent out.old) (O.faults out.old))
-        before → Proceeds result case.now work.now.outdir.now work.now.budget first
+        before.place before.tally → Proceeds (Q.plan inquiry.now) result first
         (outside (F.held files.new) (F.misses files.new) (F.faults files.new) (O.sent out.new) (O.faults out.new)) }
-    ensures more { IfOk result (λ counts. places_of counts ≡ places_of before + length answers.items) }
+    ensures more { IfOk result (λ progress. progress.place ≡ before.place + length answers.items) }
+    ensures tallied { IfOk result (λ progress. Q.tallied inquiry.now progress.place progress.tally) }
 {
-    let mut counts = before;
-    for judged in answers {
-        match deliver_answer(alloc, case, work, judged, counts, files, out) {
-            Ok(more) => counts = more,
+    let mut progress = before;
+    for answer in answers {
+        match deliver_answer(alloc, inquiry, answer, progress, files, out) {
+            Ok(more) => progress = more,
             Err(fault) => return Err(fault),
         }
     }
-    Ok(counts)
+    Ok(progress)
 }
 
-/// Delivers the answer of the check behind those that are counted.
-fn deliver_answer<F: Files, O: Out>(
+/// Delivers the answer of the job behind those that are answered.
+fn deliver_answer<F: Files, O: Out, Q: Inquiry>(
     alloc: Global,
-    case: &Case,
-    work: &Work<'_>,
-    judged: Judged,
-    before: Counts,
+    inquiry: &Q,
+    answer: Q::Answer,
+    before: Progress<Q::Tally>,
     files: &mut F,
     out: &mut O,
-) -> Result<Counts, OutFault>
-    requires { IsAnswerAt case.now work.now.budget (places_of before) judged }
-    ensures proceeds { (first : Outside) → Stands case.now work.now.outdir.now work.now.budget first
+) -> Result<Progress<Q::Tally>, OutFault>
+    requires answers { (Q.plan inquiry.now).is_answer before.place answer }
+    requires room { before.place + 1 < 2 ^ 64 }
+    requires tallied { Q.tallied inquiry.now before.place before.tally }
+    ensures proceeds { (first : Outside) → Stands (Q.plan inquiry.now) first
         (outside (F.held files.old) (F.misses files.old) (F.faults files.old) (O.sent out.old) (O.faults out.old))
-        before → Proceeds result case.now work.now.outdir.now work.now.budget first
+        before.place before.tally → Proceeds (Q.plan inquiry.now) result first
         (outside (F.held files.new) (F.misses files.new) (F.faults files.new) (O.sent out.new) (O.faults out.new)) }
-    ensures more { IfOk result (λ counts. places_of counts ≡ places_of before + 1) }
+    ensures more { IfOk result (λ progress. progress.place ≡ before.place + 1) }
+    ensures tallied { IfOk result (λ progress. Q.tallied inquiry.now progress.place progress.tally) }
 {
-    let checks = case.checks.as_slice();
-    let name = checks[before.answered() as usize].name.bytes();
-    let counts = before.counted(&judged);
-    let made = deliveries_of(alloc, work.outdir, name, work.budget, judged);
+    let tally = inquiry.counted(before.place, before.tally, &answer);
+    let made = inquiry.deliveries(alloc, before.place, answer);
     match deliver_made(alloc, made, files, out) {
-        Ok(()) => Ok(counts),
+        Ok(()) => Ok(Progress {
+            place: before.place + 1,
+            tally,
+        }),
         Err(fault) => Err(fault),
     }
 }
 
-/// Delivers the line of counts.
-pub(crate) fn finish<F: Files, O: Out>(
+/// Delivers what stands behind the last answer.
+pub(crate) fn finish<F: Files, O: Out, Q: Inquiry>(
     alloc: Global,
-    case: &Case,
-    counts: Counts,
+    inquiry: &Q,
+    progress: Progress<Q::Tally>,
     files: &mut F,
     out: &mut O,
-) -> Result<Counts, OutFault>
-    requires { places_of counts ≡ length case.now.checks }
-    ensures { (folder : List ℕ) (budget : ℕ) (first : Outside) → Stands case.now folder budget first
+) -> Result<Q::Tally, OutFault>
+    requires all { progress.place ≡ (Q.plan inquiry.now).size }
+    ensures { (first : Outside) → Stands (Q.plan inquiry.now) first
         (outside (F.held files.old) (F.misses files.old) (F.faults files.old) (O.sent out.old) (O.faults out.old))
-        counts → Ends result case.now folder budget first
+        progress.place progress.tally → Ends (Q.plan inquiry.now) result first
         (outside (F.held files.new) (F.misses files.new) (F.faults files.new) (O.sent out.new) (O.faults out.new)) }
 {
-    match deliver_made(alloc, ending(alloc, counts), files, out) {
-        Ok(()) => Ok(counts),
+    let tally = progress.tally;
+    match deliver_made(alloc, inquiry.last(alloc, tally), files, out) {
+        Ok(()) => Ok(tally),
         Err(fault) => Err(fault),
     }
-}
-
-fn ending(alloc: Global, counts: Counts) -> Result<List<Delivery>, Memory>
-    ensures { IfOk result (λ made. made ≡ delivery.Line (lines.total_line counts) ∷ []) }
-{
-    let mut made = List::new(alloc);
-    let line = total_line(alloc, counts)?;
-    made.push(Delivery::Line(line))?;
-    Ok(made)
 }

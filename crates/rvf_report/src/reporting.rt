@@ -1,40 +1,34 @@
-//! From the checks of a case to the end of a run.
+//! From the jobs of an inquiry to the end of a run.
 
-ghost use Rattle.std.specs.Prelude.{◌≡◌, ◌<◌, ◌≤◌, length, IfOk};
-ghost use Rattle.rvf_case.specs.Cases.{IsReady};
+ghost use Rattle.std.specs.Prelude.{◌≡◌, ◌+◌, ◌<◌, ◌≤◌, ◌^◌, IfOk};
+ghost use Rattle.rvf_report.specs.Outcome.{Outside, outside};
 ghost use Rattle.rvf_report.specs.Reports.{Concludes};
 ghost use Rattle.rvf_report.specs.Status.{UnlessBroken};
-ghost use Rattle.rvf_report.specs.Outcome.{Outside, outside};
-ghost use Rattle.rvf_report.specs.Steps.{Ends, Proceeds, Stands, places_of};
+ghost use Rattle.rvf_report.specs.Steps.{Ends, Proceeds, Stands};
 
-use crate::batch::judge_batch;
-use crate::counts::Counts;
-use crate::progress::{begin, deliver_answers, finish};
+use crate::batch::answer_batch;
+use crate::inquiry::Inquiry;
+use crate::progress::{Progress, begin, deliver_answers, finish};
 use crate::status::Status;
-use crate::work::Work;
 use fv_base::{Files, Out, OutFault};
-use rvf_case::Case;
-use rvf_jobs::Gate;
 use std::alloc::Global;
 use std::thread::Threads;
 
-/// Judges the checks of a case, and delivers what each comes to: its files and its line, in the order of the checks.
+/// Answers the jobs of an inquiry, and delivers what comes of each, in their order.
 ///
-/// The checks are judged in batches, those of a batch beside each other, and a batch is delivered before the next one
-/// is judged. The judgement of a check begins as it passes the gate, by its place in the list.
-pub fn conclude<R: Threads + Sync, F: Files, O: Out, G: Gate>(
+/// The jobs are answered in batches of so many, those of a batch beside each other, and a batch is delivered before the
+/// next one is answered.
+pub fn conclude<R: Threads + Sync, F: Files, O: Out, Q: Inquiry>(
     rt: &R,
     alloc: Global,
-    case: &Case,
-    work: &Work<'_>,
-    gate: &G,
+    inquiry: &Q,
+    jobs: u32,
     files: &mut F,
     out: &mut O,
 ) -> Status
-    requires ready { IsReady case.now }
-    requires budget { 0 < work.now.budget }
-    requires jobs { 1 ≤ work.now.jobs }
-    ensures concluded { Concludes result case.now work.now.outdir.now work.now.budget
+    requires ready { Q.can_work inquiry.now }
+    requires jobs { 1 ≤ jobs }
+    ensures concluded { Concludes (Q.plan inquiry.now) result
         (outside (F.held files.old) (F.misses files.old) (F.faults files.old) (O.sent out.old) (O.faults out.old))
         (outside (F.held files.new) (F.misses files.new) (F.faults files.new) (O.sent out.new) (O.faults out.new)) }
     ensures misses_kept { F.misses files.new ≡ F.misses files.old }
@@ -43,68 +37,70 @@ pub fn conclude<R: Threads + Sync, F: Files, O: Out, G: Gate>(
     ensures quiet { UnlessBroken result
         ((F.faults files.new ≡ F.faults files.old) × (O.faults out.new ≡ O.faults out.old)) }
 {
-    match report(rt, alloc, case, work, gate, files, out) {
-        Ok(counts) => counts.status(),
+    match report(rt, alloc, inquiry, jobs, files, out) {
+        Ok(tally) => inquiry.status(tally),
         Err(OutFault::Failed) => Status::WriteFault,
         Err(OutFault::Memory) => Status::Memory,
     }
 }
 
 /// Delivers the report, batch by batch.
-fn report<R: Threads + Sync, F: Files, O: Out, G: Gate>(
+fn report<R: Threads + Sync, F: Files, O: Out, Q: Inquiry>(
     rt: &R,
     alloc: Global,
-    case: &Case,
-    work: &Work<'_>,
-    gate: &G,
+    inquiry: &Q,
+    jobs: u32,
     files: &mut F,
     out: &mut O,
-) -> Result<Counts, OutFault>
-    requires ready { IsReady case.now }
-    requires budget { 0 < work.now.budget }
-    requires jobs { 1 ≤ work.now.jobs }
-    ensures { Ends result case.now work.now.outdir.now work.now.budget
+) -> Result<Q::Tally, OutFault>
+    requires ready { Q.can_work inquiry.now }
+    requires jobs { 1 ≤ jobs }
+    ensures { Ends (Q.plan inquiry.now) result
         (outside (F.held files.old) (F.misses files.old) (F.faults files.old) (O.sent out.old) (O.faults out.old))
         (outside (F.held files.new) (F.misses files.new) (F.faults files.new) (O.sent out.new) (O.faults out.new)) }
 {
-    let checks = case.checks.as_slice();
-    let mut counts = match begin(alloc, case, files, out) {
-        Ok(counts) => counts,
+    let size = inquiry.size();
+    let mut progress = match begin(alloc, inquiry, files, out) {
+        Ok(progress) => progress,
         Err(fault) => return Err(fault),
     };
-    while (counts.answered() as usize) < checks.len() {
-        match deliver_batch(rt, alloc, case, work, gate, counts, files, out) {
-            Ok(more) => counts = more,
+    'batches: while progress.place < size {
+        match deliver_batch(rt, alloc, inquiry, jobs, size, progress, files, out) {
+            Ok(more) => progress = more,
             Err(fault) => return Err(fault),
         }
     }
-    finish(alloc, case, counts, files, out)
+    finish(alloc, inquiry, progress, files, out)
 }
 
-/// Judges the checks behind those that are counted, as many as are judged beside each other, and delivers what they
-/// come to.
-fn deliver_batch<R: Threads + Sync, F: Files, O: Out, G: Gate>(
+/// Answers the jobs behind those that are answered, as many as are answered beside each other, and delivers what comes of
+/// them.
+fn deliver_batch<R: Threads + Sync, F: Files, O: Out, Q: Inquiry>(
     rt: &R,
     alloc: Global,
-    case: &Case,
-    work: &Work<'_>,
-    gate: &G,
-    before: Counts,
+    inquiry: &Q,
+    jobs: u32,
+    size: usize,
+    before: Progress<Q::Tally>,
     files: &mut F,
     out: &mut O,
-) -> Result<Counts, OutFault>
-    requires ready { IsReady case.now }
-    requires budget { 0 < work.now.budget }
-    requires jobs { 1 ≤ work.now.jobs }
-    requires left { places_of before < length case.now.checks }
-    ensures proceeds { (first : Outside) → Stands case.now work.now.outdir.now work.now.budget first
+) -> Result<Progress<Q::Tally>, OutFault>
+    requires ready { Q.can_work inquiry.now }
+    requires jobs { 1 ≤ jobs }
+    requires whole { size ≡ (Q.plan inquiry.now).size }
+    requires left { before.place < size }
+    requires room { size < 2 ^ 64 }
+    requires tallied { Q.tallied inquiry.now before.place before.tally }
+    ensures proceeds { (first : Outside) → Stands (Q.plan inquiry.now) first
         (outside (F.held files.old) (F.misses files.old) (F.faults files.old) (O.sent out.old) (O.faults out.old))
-        before → Proceeds result case.now work.now.outdir.now work.now.budget first
+        before.place before.tally → Proceeds (Q.plan inquiry.now) result first
         (outside (F.held files.new) (F.misses files.new) (F.faults files.new) (O.sent out.new) (O.faults out.new)) }
-    ensures more { IfOk result (λ counts. places_of before < places_of counts) }
+    ensures more { IfOk result (λ progress. before.place < progress.place) }
+    ensures within { IfOk result (λ progress. progress.place ≤ size) }
+    ensures tallied { IfOk result (λ progress. Q.tallied inquiry.now progress.place progress.tally) }
 {
-    match judge_batch(rt, alloc, case, work, gate, before) {
-        Ok(answers) => deliver_answers(alloc, case, work, answers, before, files, out),
+    match answer_batch(rt, alloc, inquiry, jobs, size, before.place) {
+        Ok(answers) => deliver_answers(alloc, inquiry, answers, before, files, out),
         Err(_) => Err(OutFault::Memory),
     }
 }

@@ -14,7 +14,7 @@ ghost use Rattle.vl_text.specs.SourceText.{Reading};
 ghost use Rattle.vl_text.specs.Texts.{Text};
 ghost use Rattle.rvf_load.specs.Loads.{Answers, Asked, IsNoDesign, Reads, top};
 ghost use Rattle.rvf_load.specs.declared.fault.LoadFault.TheVariants as fault;
-ghost use Rattle.rvf_case.specs.Cases.{IsCause, Request, Seen};
+ghost use Rattle.rvf_case.specs.Cases.{IsCause, Request, Seen, questions_in};
 ghost use Rattle.rvf_case.specs.Texts.{asked_for};
 ghost use Rattle.rvf_case.specs.declared.refusal.Refusal.TheVariants as why;
 ghost use Rattle.rvf_simple.specs.SimpleTexts.{IsSimpleText};
@@ -67,5 +67,5 @@ pub fn no_refusal_by_elaboration_is_answered()
 pub fn no_run_has_such_a_cause()
     ensures { (q : Request) (seen : Seen) (f : ElabFault) (names : List (List ℕ))
         → (it : IsCause q seen (why.Source (fault.Elab f) names))
-        → IsSimpleText (asked_for it.config it.refused.files it.kind) → ⊥ }
+        → IsSimpleText (asked_for it.config it.refused.files (questions_in q it.config) it.kind) → ⊥ }
 {}

@@ -1,5 +1,5 @@
 -- A clause comes in, with its step.
-use Rattle.std.proofs.Common.{◌≡◌, ℕ, ◌+◌, ◌≤◌, Bool, true, false, not, eqb, List, [], ◌∷◌}
+use Rattle.std.proofs.Common.{◌≡◌, ℕ, ◌+◌, ◌^◌, ◌<◌, ◌≤◌, Bool, true, false, not, eqb, List, [], ◌∷◌}
 use Rattle.std.proofs.Common.{◌++◌, ℤ, length, Some, None, refl, ap, sym, subst, ◌∙◌, ◌⊎◌, inl, inr, append_assoc}
 use Rattle.std.proofs.Common.{arith}
 use Rattle.std.specs.Prelude.{slice_get}
@@ -16,6 +16,7 @@ use Rattle.lrat_check.specs.declared.step.Step.TheVariants.{Add}
 use Rattle.lrat_check.specs.Sets.{same_set, negs}
 use Rattle.lrat_check.specs.Steps.{Held, numbered, with_clause, is_empty, add_fault, judged, Refutes}
 use Rattle.lrat_check.specs.Resolved.{IsResolvent, Strengthens, Resolved, derived_from, consistent}
+use Rattle.lrat_check.specs.Texts.{AreShort, IsShort}
 use Rattle.lrat_check.proofs.Sound.{verdict_adds, verdict_empty}
 use Rattle.sat_trail.specs.Known.{contains}
 use Rattle.sat_trail.proofs.Same.{contains_same}
@@ -23,6 +24,7 @@ use Rattle.sat_search.specs.Added.{AreAdded}
 use Rattle.sat_search.specs.Ledger.{State, by_ids, IsAmong, HoldsBy, Tells, Adds}
 use Rattle.sat_search.proofs.Named.{never_negative, resolvent_by_ids, strengthens_by_ids}
 use Rattle.sat_search.proofs.Places.{push_cases, push_left, push_last}
+use Rattle.sat_search.proofs.Short.{hints_short, literals_short}
 use Rattle.sat_search.proofs.Starting.{among_any}
 use Rattle.sat_search.proofs.Walks.{walks_to, accepted}
 
@@ -111,6 +113,13 @@ module _ (held : Held) (ids : List ℕ) (clauses : List (List ℤ)) (b : HoldsBy
   holds_more : HoldsBy (with_clause held (top + 1) r) (ids ++ (top + 1) ∷ []) (clauses ++ r ∷ [])
   holds_more = record { many = many_more; at = at_more; of = of_more; apart = apart_more }
 
+some_more : (ids : List ℕ) (top : ℕ) → ((place id : ℕ) → slice_get ids place ≡ Some id → 0 < id) → (place id : ℕ)
+    → slice_get (ids ++ (top + 1) ∷ []) place ≡ Some id → 0 < id
+some_more ids top h place id e = elim (push_cases ids (top + 1) place id e) [
+  | inl g ↦ h place id g
+  | inr g ↦ (let q = g.1 in omega (arith, q))
+]
+
 among_more : (clauses : List (List ℤ)) (r c : List ℤ) → IsAmong clauses c → IsAmong (clauses ++ r ∷ []) c
 among_more clauses r c a = (a.0, a.1, push_left clauses r a.0 a.1 a.2, a.3)
 
@@ -137,6 +146,15 @@ module _ (vars : ℕ) (formula learnt : List (List ℤ)) (s now : State) (lits h
     step_accepted =
         accepted t.held s.top (s.top + 1) lits named (omega arith) (never_negative s.ids hints)
         (walks_to t.held (s.top + 1) (negs lits) named named_resolvent.0 named_resolvent.1)
+
+    -- the step has short numbers
+    pub short_step : AreLiterals vars lits → vars < 10 ^ 18 → IsShort (Add (s.top + 1) lits named)
+    short_step n w = (
+      a.most,
+      literals_short vars lits w n,
+      hints_short t.held s.ids s.clauses t.holds s.top t.up_to t.some_ids t.most (negs lits) named named_resolvent.0
+          named_resolvent.1,
+    )
 
     -- an empty clause refutes
     pub refutes : is_empty lits ≡ true → Refutes formula now.steps (s.top + 1)
@@ -204,6 +222,7 @@ module _ (vars : ℕ) (formula learnt : List (List ℤ)) (s now : State) (lits h
           begins = λ place d e. push_left s.clauses lits place d (t.begins place d e);
           few = (let f = t.few in let e = length_push s.clauses lits in omega (arith, f, e));
           most = a.most;
+          some_ids = some_more s.ids s.top t.some_ids;
           up_to = up_to_more t.held s.ids s.clauses t.holds s.top t.up_to lits;
           held = with_clause t.held (s.top + 1) lits;
           holds = holds_more t.held s.ids s.clauses t.holds s.top t.up_to lits;
@@ -221,6 +240,9 @@ module _ (vars : ℕ) (formula learnt : List (List ℤ)) (s now : State) (lits h
           added = λ more h.
               subst (AreAdded vars) (sym (append_assoc s.steps (Add (s.top + 1) lits named ∷ []) more))
               (t.added (Add (s.top + 1) lits named ∷ more) (n, c, h));
+          short = λ w more h.
+              subst AreShort (sym (append_assoc s.steps (Add (s.top + 1) lits named ∷ []) more))
+              (t.short w (Add (s.top + 1) lits named ∷ more) (short_step n w, h));
           seen = seen_more;
           known = known_more;
           gone = gone_more;

@@ -13,6 +13,7 @@ use Rattle.lrat_check.specs.declared.step.StepFault.TheVariants as fault
 use Rattle.lrat_check.specs.Sets.{same_set}
 use Rattle.lrat_check.specs.Steps.{Held, without_clause, deleted, judged}
 use Rattle.lrat_check.specs.Resolved.{Resolved, derived_from}
+use Rattle.lrat_check.specs.Texts.{AreShort, IsShort}
 use Rattle.lrat_check.proofs.Sound.{verdict_deletes}
 use Rattle.sat_trail.specs.Known.{Clauses, contains}
 use Rattle.sat_search.specs.Added.{AreAdded}
@@ -137,6 +138,12 @@ module _ (s : State) (now_clauses : List (List ℤ)) (now_ids : List ℕ) (dropp
       | inr k ↦ t.gone c k
     ]
 
+    short_deletion : IsShort (Delete s.top (i ∷ []))
+    short_deletion =
+        let some = t.some_ids p i there in
+        let most = t.up_to p i there in
+        (t.most, ((some, omega (arith, most, t.most)), tt))
+
     told_left : Tells vars formula learnt next
     told_left = record {
       small = t.small;
@@ -145,6 +152,7 @@ module _ (s : State) (now_clauses : List (List ℤ)) (now_ids : List ℕ) (dropp
       begins = begins_left;
       few = (let f = t.few in let l = y.left in let m = y.many in omega (arith, f, l, m));
       most = t.most;
+      some_ids = λ place id e. t.some_ids (origin p n place) id (back p n s.ids now_ids x place id e);
       up_to = λ place id e. t.up_to (origin p n place) id (back p n s.ids now_ids x place id e);
       held = without_clause t.held i;
       holds = holds_left t.held s.ids now_ids s.clauses now_clauses t.holds p n w x y i there;
@@ -162,6 +170,9 @@ module _ (s : State) (now_clauses : List (List ℤ)) (now_ids : List ℕ) (dropp
       added = λ more h.
           subst (AreAdded vars) (sym (append_assoc s.steps (Delete s.top (i ∷ []) ∷ []) more))
           (t.added (Delete s.top (i ∷ []) ∷ more) h);
+      short = λ v more h.
+          subst AreShort (sym (append_assoc s.steps (Delete s.top (i ∷ []) ∷ []) more))
+          (t.short v (Delete s.top (i ∷ []) ∷ more) (short_deletion, h));
       seen = seen_left;
       known = known_left;
       gone = gone_left;

@@ -2,6 +2,7 @@ pub mod Adding
 pub mod Dropping
 pub mod Named
 pub mod Places
+pub mod Short
 pub mod Starting
 pub mod Walks
 pub mod Added

@@ -11,6 +11,7 @@ use Rattle.lrat_check.specs.declared.step.Step.TheVariants.{Add}
 use Rattle.lrat_check.specs.Sets.{is_false, same_set}
 use Rattle.lrat_check.specs.Steps.{is_empty, judged, Refutes, Valid}
 use Rattle.lrat_check.specs.Resolved.{Resolved, derived_from, derived, consistent}
+use Rattle.lrat_check.specs.Texts.{AreShort, IsShort}
 use Rattle.sat_trail.specs.declared.trail.Entry.{Entry}
 use Rattle.sat_trail.specs.Trail.{Entries, lits, Stands, Stand}
 use Rattle.sat_trail.specs.Clauses.{AllFalse}
@@ -18,12 +19,12 @@ use Rattle.sat_learn.specs.Analysis.{Derives}
 use Rattle.sat_learn.specs.Learning.{Learns}
 use Rattle.sat_search.specs.Added.{AreAdded}
 use Rattle.sat_search.specs.Ledger.{State as Ledger, by_ids, Tells, Adds}
-use Rattle.sat_search.specs.Found.{nonempty}
+use Rattle.sat_search.specs.Found.{EndsEmpty, nonempty}
 use Rattle.sat_search.specs.Searching.{Searching}
 use Rattle.sat_propagate.proofs.Consistent.{no_pair}
 use Rattle.sat_learn.proofs.News.{all_from, is_resolvent, is_new}
 use Rattle.sat_learn.proofs.Shortens.{traced}
-use Rattle.sat_search.proofs.Adding.{clauses_more, refutes, is_fresh, new_told, old_told}
+use Rattle.sat_search.proofs.Adding.{clauses_more, refutes, is_fresh, new_told, old_told, short_step}
 use Rattle.sat_search.proofs.Literals.{literal_at, literals_from, neg_literal}
 use Rattle.sat_search.proofs.Counts.{fewer_clauses, apart_more}
 
@@ -153,6 +154,9 @@ module _ (vars budget : ℕ) (formula : List (List ℤ)) (book : Ledger) (t : En
   pub added_now : AreAdded vars book.steps
   added_now = subst (AreAdded vars) (append-nil book.steps) (s.told.added [] tt)
 
+  pub short_now : vars < 10 ^ 18 → AreShort book.steps
+  short_now w = subst AreShort (append-nil book.steps) (s.told.short w [] tt)
+
   pub derived_now : length (derived formula book.steps) + left ≡ budget
   derived_now =
       ap (λ z. length z + left) (ap (derived_from formula) (sym (append-nil book.steps)) ∙ s.told.derives []
@@ -176,6 +180,19 @@ module _ (vars budget : ℕ) (formula : List (List ℤ)) (book : Ledger) (t : En
     refutes_now =
         refutes vars formula s.learnt book now r hints b s.told a
         (is_resolvent book.clauses u r hints (traced book.clauses u r hints d)) (ap is_empty empty)
+
+    pub refuted_last : EndsEmpty now.steps (book.top + 1)
+    refuted_last = (book.steps, by_ids book.ids hints, steps_are)
+
+    short_last : vars < 10 ^ 18 → IsShort (Add (book.top + 1) [] (by_ids book.ids hints))
+    short_last w =
+        subst (λ z. IsShort (Add (book.top + 1) z (by_ids book.ids hints))) empty
+        (short_step vars formula s.learnt book now r hints b s.told a
+        (is_resolvent book.clauses u r hints (traced book.clauses u r hints d)) (subst (AreLiterals vars) (sym empty) tt)
+        w)
+
+    pub refuted_short : vars < 10 ^ 18 → AreShort now.steps
+    refuted_short w = subst AreShort (sym steps_are) (s.told.short w last (short_last w, tt))
 
     none_left : (b : Bool) → nonempty (cond b [] ([] ∷ [])) ≡ []
     none_left true = refl

@@ -74,7 +74,7 @@ state_of clauses ids first top steps dropped = record {
 }
 
 module _ (vars : ℕ) (formula : List (List ℤ)) (v : vars < 2 ^ 63) (k : AreClauses vars formula)
-    (few : length formula < 2 ^ 63 - 1) (dropped : Clauses) (none : (c : List ℤ) → contains dropped c ≡ false) where
+    (few : length formula < 10 ^ 18) (dropped : Clauses) (none : (c : List ℤ) → contains dropped c ≡ false) where
   begins_so : Tells vars formula [] (state_of formula (ids_to (length formula)) (length formula) (length formula) []
       dropped)
   begins_so = record {
@@ -84,6 +84,7 @@ module _ (vars : ℕ) (formula : List (List ℤ)) (v : vars < 2 ^ 63) (k : AreCl
     begins = λ place c e. e;
     few = omega arith;
     most = few;
+    some_ids = λ place id e. (let q = id_is (length formula) place id e in omega (arith, q));
     up_to = λ place id e.
         let w = slice_get_within (ids_to (length formula)) place id e in
         let l = length_ids (length formula) in
@@ -95,6 +96,7 @@ module _ (vars : ℕ) (formula : List (List ℤ)) (v : vars < 2 ^ 63) (k : AreCl
     resolved = λ more h. h;
     derives = λ more. ap (λ z. derived_from z more) (sym (append-nil formula));
     added = λ more h. h;
+    short = λ w more h. h;
     seen = λ c h. inl (among_from formula c (ap (list_any (same_set c)) (sym (append-nil formula)) ∙ h));
     known = λ c a. ap (list_any (same_set c)) (append-nil formula) ∙ among_any formula c a;
     gone = λ c h. absurd (false≢true (sym (none c) ∙ h));

@@ -23,7 +23,8 @@ use Rattle.sat_search.proofs.Literals.{all_lits, lits_of}
 use Rattle.sat_search.proofs.Models.{models}
 use Rattle.sat_search.proofs.Rounds.{rank_falls, new_falls, old_falls}
 use Rattle.sat_search.proofs.Searches.{begins, false_literals, new_on, old_on, anew, valid_now, added_now, derived_now}
-use Rattle.sat_search.proofs.Searches.{bound_now, refutes_now, fewer_now, refuted_added, resolved_now}
+use Rattle.sat_search.proofs.Searches.{bound_now, refutes_now, fewer_now, refuted_added, refuted_last, refuted_short}
+use Rattle.sat_search.proofs.Searches.{resolved_now, short_now}
 use Rattle.sat_search.proofs.Solves.{conflict_at, unit_kept, unit_free, unit_lit, unit_on, unit_falls, decision_falls}
 use Rattle.sat_search.proofs.Solves.{decision_on, holds_behind, learnt_holds}
 
@@ -245,6 +246,7 @@ module _ (s : State) (book : Ledger) (cut : Entries) (r hints : List ℤ) (b : B
             bound = bound_now s.vars budget formula book cut (s.left - 1) g none;
             added = a;
             are_steps = are_steps s.vars book.steps k.searching.told.small a;
+            short = short_now s.vars budget formula book cut (s.left - 1) g;
           }
           ),
     )
@@ -318,8 +320,10 @@ module _ (s : State) (u : Entries) (r hints : List ℤ) (d : Derives s.ledger.cl
           id = s.ledger.top + 1;
           refutes = refutes_now s.vars budget formula s.ledger s.trail s.left k.searching u r hints d empty book b a;
           fewer = fewer_now s.vars budget formula s.ledger s.trail s.left k.searching u r hints d empty book b a k.some;
+          last = refuted_last s.vars budget formula s.ledger s.trail s.left k.searching u r hints d empty book b a;
           added = added;
           are_steps = are_steps s.vars book.steps k.searching.told.small added;
+          short = refuted_short s.vars budget formula s.ledger s.trail s.left k.searching u r hints d empty book b a;
         }
         ),
   )

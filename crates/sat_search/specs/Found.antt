@@ -1,6 +1,7 @@
 -- Meaning: What a search answers. Rule of this project.
-use Rattle.std.specs.Prelude.{Bool, not, List, ℤ, filter}
+use Rattle.std.specs.Prelude.{ℕ, ◌≡◌, Bool, not, List, [], ◌∷◌, ◌++◌, ℤ, filter}
 use Rattle.lrat_check.specs.declared.step.Step.{Step}
+use Rattle.lrat_check.specs.declared.step.Step.TheVariants.{Add}
 use Rattle.lrat_check.specs.Steps.{is_empty}
 use Rattle.sat_search.specs.declared.found.Found.{Found}
 use Rattle.sat_search.specs.declared.found.Found.TheVariants.{Model, Refuted, Spent}
@@ -32,3 +33,7 @@ IfSteps (Spent steps) P = P steps
 -- the clauses that have a literal
 abbrev pub nonempty : List (List ℤ) → List (List ℤ)
 nonempty clauses = filter (λ c. not (is_empty c)) clauses
+
+-- the last of the steps adds the empty clause, under this id
+abbrev pub EndsEmpty : List Step → ℕ → Type 0
+EndsEmpty steps id = (before : List Step) × (hints : List ℤ) × (steps ≡ before ++ Add id [] hints ∷ [])

@@ -30,6 +30,7 @@ use Rattle.lrat_check.specs.declared.step.Step.TheVariants.{Add}
 use Rattle.lrat_check.specs.Sets.{same_set}
 use Rattle.lrat_check.specs.Steps.{Held, judged, verdict}
 use Rattle.lrat_check.specs.Resolved.{AllResolved, Resolved, derived_from}
+use Rattle.lrat_check.specs.Texts.{AreShort}
 use Rattle.sat_trail.specs.Known.{Clauses, contains, many}
 use Rattle.sat_search.specs.Added.{AreAdded}
 
@@ -79,7 +80,8 @@ pub record Tells (vars : ℕ) (formula learnt : List (List ℤ)) (s : State) : T
   pub begins : (place : ℕ) (clause : List ℤ) → slice_get formula place ≡ Some clause
       → slice_get s.clauses place ≡ Some clause
   pub few : length s.clauses ≤ s.top
-  pub most : s.top < 2 ^ 63 - 1
+  pub most : s.top < 10 ^ 18
+  pub some_ids : (place id : ℕ) → slice_get s.ids place ≡ Some id → 0 < id
   pub up_to : (place id : ℕ) → slice_get s.ids place ≡ Some id → id ≤ s.top
   pub held : Held
   pub holds : HoldsBy held s.ids s.clauses
@@ -88,6 +90,7 @@ pub record Tells (vars : ℕ) (formula learnt : List (List ℤ)) (s : State) : T
   pub derives : (more : List Step)
       → derived_from formula (s.steps ++ more) ≡ learnt ++ derived_from (formula ++ learnt) more
   pub added : (more : List Step) → AreAdded vars more → AreAdded vars (s.steps ++ more)
+  pub short : vars < 10 ^ 18 → (more : List Step) → AreShort more → AreShort (s.steps ++ more)
   pub seen : (clause : List ℤ) → list_any (same_set clause) (formula ++ learnt) ≡ true
       → IsAmong s.clauses clause ⊎ (contains s.dropped clause ≡ true)
   pub known : (clause : List ℤ) → IsAmong s.clauses clause → list_any (same_set clause) (formula ++ learnt) ≡ true
@@ -104,7 +107,7 @@ pub record Adds (s now : State) (lits hints : List ℤ) (is_new : Bool) : Type 0
   pub ids_are : now.ids ≡ s.ids ++ (s.top + 1) ∷ []
   pub first_is : now.first ≡ s.first
   pub top_is : now.top ≡ s.top + 1
-  pub most : s.top + 1 < 2 ^ 63 - 1
+  pub most : s.top + 1 < 10 ^ 18
   pub steps_are : now.steps ≡ s.steps ++ Add (s.top + 1) lits (by_ids s.ids hints) ∷ []
   pub is_new_where : is_new ≡ not (contains s.dropped lits)
   pub dropped_are : (clause : List ℤ)

@@ -1,5 +1,6 @@
 -- Between functions: What a search keeps from one turn to the next, and what a turn comes to. Rules of this project.
 use Rattle.std.specs.Prelude.{ℕ, ◌^◌, ◌<◌, ◌≡◌, ◌⊎◌, Bool, true, List, ℤ, length}
+use Rattle.lrat_check.specs.Texts.{AreShort}
 use Rattle.cnf_form.specs.Cnf.{formula_true, value_of}
 use Rattle.lrat_check.specs.declared.step.Step.{Step}
 use Rattle.lrat_check.specs.Steps.{Refutes, Valid, AreSteps}
@@ -13,7 +14,7 @@ use Rattle.sat_learn.specs.Learning.{Learns}
 use Rattle.sat_trail.specs.Known.{many}
 use Rattle.sat_search.specs.Added.{AreAdded}
 use Rattle.sat_search.specs.Ledger.{State as Ledger, Adds}
-use Rattle.sat_search.specs.Found.{nonempty}
+use Rattle.sat_search.specs.Found.{EndsEmpty, nonempty}
 use Rattle.sat_search.specs.Searching.{Searching, rank, rounds}
 
 -- so many variables; the clauses and steps; what is true; how many clauses may still be learnt; what is watched
@@ -68,9 +69,11 @@ pub record GoesOn (s now : State) : Type 0 where
 pub record IsRefuted (budget : ℕ) (formula : List (List ℤ)) (vars : ℕ) (steps : List Step) : Type 0 where
   pub id : ℕ
   pub refutes : Refutes formula steps id
+  pub last : EndsEmpty steps id
   pub fewer : length (nonempty (derived formula steps)) < budget
   pub added : AreAdded vars steps
   pub are_steps : AreSteps steps
+  pub short : vars < 10 ^ 18 → AreShort steps
 
 -- the steps derive as many clauses as the budget
 pub record IsSpent (budget : ℕ) (formula : List (List ℤ)) (vars : ℕ) (steps : List Step) : Type 0 where
@@ -80,6 +83,7 @@ pub record IsSpent (budget : ℕ) (formula : List (List ℤ)) (vars : ℕ) (step
   pub bound : budget < 3 ^ vars
   pub added : AreAdded vars steps
   pub are_steps : AreSteps steps
+  pub short : vars < 10 ^ 18 → AreShort steps
 
 -- what falls with each turn
 abbrev pub turns_left : State → ℕ

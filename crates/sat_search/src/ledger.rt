@@ -11,8 +11,8 @@ use sat_trail::{ClauseList, ClauseSet};
 use std::alloc::Global;
 use std::marker::Model;
 
-/// More clauses than this have no place in memory, and below it each id is an `i64`.
-pub const MOST_CLAUSES: usize = 9000000000000000000;
+/// So many steps have no place in memory, and below it each id has at most 18 digits.
+pub const MOST_CLAUSES: usize = 999_999_999_999_999_999;
 
 /// The clauses that a search holds, by their places, and the steps that add and delete them.
 #[derive(Drop)]

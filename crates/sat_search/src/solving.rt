@@ -2,8 +2,9 @@ ghost use Rattle.std.specs.Prelude.{◌≡◌, ◌<◌, ◌^◌, ℕ, true, leng
 ghost use Rattle.cnf_form.specs.Cnf.{formula_true, value_of};
 ghost use Rattle.lrat_check.specs.Steps.{Refutes, Valid, AreSteps};
 ghost use Rattle.lrat_check.specs.Resolved.{Resolved, derived};
+ghost use Rattle.lrat_check.specs.Texts.{AreShort};
 ghost use Rattle.sat_search.specs.Added.{AreAdded};
-ghost use Rattle.sat_search.specs.Found.{IfModel, IfRefuted, IfSpent, IfSteps, nonempty};
+ghost use Rattle.sat_search.specs.Found.{EndsEmpty, IfModel, IfRefuted, IfSpent, IfSteps, nonempty};
 
 use crate::found::Found;
 use crate::search::Search;
@@ -23,7 +24,7 @@ pub fn solve(alloc: Global, formula: &Formula, budget: u64) -> Result<Found, Mem
     ensures model { IfOk result (λ found. IfModel found
         (λ values. formula_true (value_of values) formula.now.clauses ≡ true)) }
     ensures refuted { IfOk result (λ found. IfRefuted found
-        (λ steps. (id : ℕ) × Refutes formula.now.clauses steps id)) }
+        (λ steps. (id : ℕ) × Refutes formula.now.clauses steps id × EndsEmpty steps id)) }
     ensures fewer { IfOk result (λ found. IfRefuted found
         (λ steps. length (nonempty (derived formula.now.clauses steps)) < budget)) }
     ensures valid { IfOk result (λ found. IfSpent found (λ steps. Valid formula.now.clauses steps)) }
@@ -33,6 +34,8 @@ pub fn solve(alloc: Global, formula: &Formula, budget: u64) -> Result<Found, Mem
     ensures bound { IfOk result (λ found. IfSpent found (λ steps. budget < 3 ^ formula.now.vars)) }
     ensures added { IfOk result (λ found. IfSteps found (λ steps. AreAdded formula.now.vars steps)) }
     ensures steps { IfOk result (λ found. IfSteps found AreSteps) }
+    // No id, literal or hint has more than 18 digits.
+    ensures short { IfOk result (λ found. IfSteps found (λ steps. formula.now.vars < 10 ^ 18 → AreShort steps)) }
 {
     let mut search = match Search::new(alloc, formula, budget) {
         Ok(search) => search,

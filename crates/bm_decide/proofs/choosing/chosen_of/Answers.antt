@@ -8,15 +8,15 @@ use Rattle.bm_decide.proofs.choosing.chosen_of.Goals as goal
 
 pub choices-requires-clause-each : goal.choices-requires-clause-each
 choices-requires-clause-each c =
-    numbers_each c.args.violation.now c.as_slice-3.result.now c.requires
-    (numbers_are c.args.violation.now c.as_slice-3.result.now c.in_ok-numbers.numbers.items c.as_slice.result.now
+    numbers_each c.args.witness.now c.as_slice-3.result.now c.requires
+    (numbers_are c.args.witness.now c.as_slice-3.result.now c.in_ok-numbers.numbers.items c.as_slice.result.now
     c.as_slice-values.result.now c.as_slice.ensures c.as_slice-values.ensures c.in_ok-numbers.ensures
     c.as_slice-3.ensures.value)
     ∙ sym (ap length c.as_slice-2.ensures)
 
 pub returns : goal.returns
 returns c =
-    let x = c.args.violation.now in
+    let x = c.args.witness.now in
     let ns = c.as_slice-3.result.now in
     IfOk-weaker c.choices.result _ _
     (λ made h. have_read x ns (choices_of made) c.requires

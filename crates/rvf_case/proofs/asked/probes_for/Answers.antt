@@ -1,4 +1,4 @@
-use Rattle.rvf_case.proofs.Asking.{probes_are}
+use Rattle.rvf_case.proofs.AskedQuestions.{probes_are}
 use Rattle.rvf_case.proofs.asked.probes_for.Goals as goal
 
 pub returns : goal.returns

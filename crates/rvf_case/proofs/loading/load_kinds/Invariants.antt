@@ -7,5 +7,5 @@ use Rattle.rvf_case.proofs.loading.load_kinds.Given as goal
 abbrev pub invariant-loop-kind : goal.invariant-loop-kind
 invariant-loop-kind l = record {
   kinds_are : map (λ x. x.kind) l.texts ≡ take l.kind-index l.kinds;
-  each : AreAnswers (asked_for l.config l.files) l.texts;
+  each : AreAnswers (asked_for l.wanted.config.now l.wanted.files.now l.wanted.questions.now) l.texts;
 }

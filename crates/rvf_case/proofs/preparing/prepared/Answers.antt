@@ -1,6 +1,6 @@
 use Rattle.std.proofs.Common.{◌≡◌, ◌∙◌, ◌∷◌, ℕ, List, Err, ap, subst, rules}
 use Rattle.ck_cfg.specs.declared.config.Config.{Config}
-use Rattle.rvf_case.specs.Cases.{AreRead, Request, Seen, names_in, request_seen}
+use Rattle.rvf_case.specs.Cases.{AreRead, Request, Seen, names_in, questions_in, request_seen}
 use Rattle.rvf_case.specs.Steps.{Loads, ReadsFiles}
 use Rattle.rvf_case.specs.declared.refusal.Refusal.{Refusal}
 use Rattle.rvf_case.specs.declared.refusal.Refusal.TheVariants as refusal
@@ -73,8 +73,9 @@ returns-clause-prepares g c =
     (is_configured r seen.held config c.in_ok-config.ensures.configures)
     (read_earlier seen.held held (names_in r config) c.in_ok-texts.texts c.in_ok-config.ensures.kept
     (subst (λ (ns : List (List ℕ)). AreRead held ns c.in_ok-texts.texts) names c.in_ok-texts.ensures.reads))
-    (subst (λ (ns : List (List ℕ)). Loads ns config c.in_ok-texts.texts c.case_of.result) all
-    (subst (λ (fs : List (List ℕ)). Loads c.in_ok-all.all config fs c.case_of.result) c.as_slice-2.ensures
+    (subst (λ (ns : List (List ℕ)). Loads ns config c.in_ok-texts.texts (questions_in r config) c.case_of.result) all
+    (subst (λ (fs : List (List ℕ)). Loads c.in_ok-all.all config fs (questions_in r config) c.case_of.result)
+    c.as_slice-2.ensures
     c.case_of.ensures.loads))
 
 pub returns-in_err-texts-clause-kept : goal.returns-in_err-texts-clause-kept

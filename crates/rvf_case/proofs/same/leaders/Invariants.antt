@@ -2,6 +2,6 @@ use Rattle.std.proofs.Common.{◌≡◌, [], drop}
 use Rattle.rvf_case.specs.Texts.{leaders_behind}
 use Rattle.rvf_case.proofs.same.leaders.Given as goal
 
-abbrev pub invariant-loop-check : goal.invariant-loop-check
-invariant-loop-check l =
-    leaders_behind l.config l.kinds.items (drop l.check-index l.checks) ≡ leaders_behind l.config [] l.checks
+abbrev pub invariant-loop-question : goal.invariant-loop-question
+invariant-loop-question l =
+    leaders_behind l.config l.kinds.items (drop l.question-index l.questions) ≡ leaders_behind l.config [] l.questions

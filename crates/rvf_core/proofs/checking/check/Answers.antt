@@ -7,38 +7,38 @@ use Rattle.rvf_core.proofs.checking.check.Goals as goal
 
 pub returns-in-Ok-clause-ends : goal.returns-in-Ok-clause-ends
 returns-in-Ok-clause-ends g c = λ asked.
-    case_ends c.args.request.cfg.now c.args.work.now.outdir.now c.args.request.core.now c.args.request.basedir.now
+    case_ends c.args.work.now.cfg.now c.args.work.now.outdir.now c.args.work.now.core.now c.args.work.now.basedir.now
     c.args.work.now.budget c.args.work.now.jobs asked _ _ _ c.in-Ok.ensures.kept refl c.in-Ok.ensures.faults_grow
-    (le_itself _) c.judgements_are_the_sources.ensures c.in-Ok.case c.conclude.result c.in-Ok.ensures.comes
-    c.in-Ok.ensures.ready c.conclude.ensures.concluded
+    (le_itself _) c.judgements_are_the_sources.ensures c.in-Ok.case c.judged.result c.in-Ok.ensures.comes
+    c.in-Ok.ensures.ready c.judged.ensures.concluded
 
 pub returns-in-Ok-clause-statuses : goal.returns-in-Ok-clause-statuses
 returns-in-Ok-clause-statuses g c = λ asked.
-    case_statuses c.args.request.cfg.now c.args.work.now.outdir.now c.args.request.core.now
-    c.args.request.basedir.now c.args.work.now.budget c.args.work.now.jobs asked
+    case_statuses c.args.work.now.cfg.now c.args.work.now.outdir.now c.args.work.now.core.now
+    c.args.work.now.basedir.now c.args.work.now.budget c.args.work.now.jobs asked
     (outside (g.F.Files.held c.args.files.now) (g.F.Files.misses c.args.files.now)
     (g.F.Files.faults c.args.files.now) (g.O.Out.sent c.args.out.now) (g.O.Out.faults c.args.out.now))
     (outside (g.F.Files.held c.prepare.new.files) (g.F.Files.misses c.prepare.new.files)
     (g.F.Files.faults c.prepare.new.files) (g.O.Out.sent c.args.out.now) (g.O.Out.faults c.args.out.now))
-    (outside (g.F.Files.held c.conclude.new.files) (g.F.Files.misses c.conclude.new.files)
-    (g.F.Files.faults c.conclude.new.files) (g.O.Out.sent c.conclude.new.out) (g.O.Out.faults c.conclude.new.out))
+    (outside (g.F.Files.held c.judged.new.files) (g.F.Files.misses c.judged.new.files)
+    (g.F.Files.faults c.judged.new.files) (g.O.Out.sent c.judged.new.out) (g.O.Out.faults c.judged.new.out))
     c.in-Ok.ensures.kept refl
     c.in-Ok.ensures.faults_grow (le_itself (g.O.Out.faults c.args.out.now)) c.in-Ok.case
-    c.conclude.result c.in-Ok.ensures.exact
-    c.conclude.ensures.misses_kept
+    c.judged.result c.in-Ok.ensures.exact
+    c.judged.ensures.misses_kept
 
 pub returns-in-Err-clause-ends : goal.returns-in-Err-clause-ends
 returns-in-Err-clause-ends g c = λ asked.
-    refusal_ends c.args.request.cfg.now c.args.work.now.outdir.now c.args.request.core.now
-    c.args.request.basedir.now c.args.work.now.budget c.args.work.now.jobs asked _ _ _ c.in-Err.ensures.kept refl
+    refusal_ends c.args.work.now.cfg.now c.args.work.now.outdir.now c.args.work.now.core.now
+    c.args.work.now.basedir.now c.args.work.now.budget c.args.work.now.jobs asked _ _ _ c.in-Err.ensures.kept refl
     c.in-Err.ensures.faults_grow (le_itself _) c.in-Err.refusal c.refused.result c.put_report.result
     c.in-Err.ensures.comes (omega (arith, c.put_report.ensures.misses_kept)) c.put_report.ensures.faults_grow
     (if_both _ _ c.refused.result c.refused.ensures.report c.refused.ensures.some) c.put_report.ensures.puts
 
 pub returns-in-Err-clause-statuses : goal.returns-in-Err-clause-statuses
 returns-in-Err-clause-statuses g c = λ asked.
-    refusal_statuses c.args.request.cfg.now c.args.work.now.outdir.now c.args.request.core.now
-    c.args.request.basedir.now c.args.work.now.budget c.args.work.now.jobs asked
+    refusal_statuses c.args.work.now.cfg.now c.args.work.now.outdir.now c.args.work.now.core.now
+    c.args.work.now.basedir.now c.args.work.now.budget c.args.work.now.jobs asked
     (outside (g.F.Files.held c.args.files.now) (g.F.Files.misses c.args.files.now)
     (g.F.Files.faults c.args.files.now) (g.O.Out.sent c.args.out.now) (g.O.Out.faults c.args.out.now))
     (outside (g.F.Files.held c.prepare.new.files) (g.F.Files.misses c.prepare.new.files)
@@ -54,14 +54,14 @@ returns-in-Err-clause-statuses g c = λ asked.
 
 pub returns-in-Ok-clause-counts : goal.returns-in-Ok-clause-counts
 returns-in-Ok-clause-counts g c =
-    unbroken_counts c.conclude.result
+    unbroken_counts c.judged.result
     (outside (g.F.Files.held c.args.files.now) (g.F.Files.misses c.args.files.now) (g.F.Files.faults c.args.files.now)
     (g.O.Out.sent c.args.out.now) (g.O.Out.faults c.args.out.now))
-    (outside (g.F.Files.held c.conclude.new.files) (g.F.Files.misses c.conclude.new.files) (g.F.Files.faults c.conclude.new.files)
-    (g.O.Out.sent c.conclude.new.out) (g.O.Out.faults c.conclude.new.out))
-    ((g.F.Files.faults c.conclude.new.files ≡ g.F.Files.faults c.prepare.new.files)
-    × (g.O.Out.faults c.conclude.new.out ≡ g.O.Out.faults c.args.out.now))
-    (λ same. (same.0 ∙ c.in-Ok.ensures.quiet, same.1)) c.conclude.ensures.quiet
+    (outside (g.F.Files.held c.judged.new.files) (g.F.Files.misses c.judged.new.files) (g.F.Files.faults c.judged.new.files)
+    (g.O.Out.sent c.judged.new.out) (g.O.Out.faults c.judged.new.out))
+    ((g.F.Files.faults c.judged.new.files ≡ g.F.Files.faults c.prepare.new.files)
+    × (g.O.Out.faults c.judged.new.out ≡ g.O.Out.faults c.args.out.now))
+    (λ same. (same.0 ∙ c.in-Ok.ensures.quiet, same.1)) c.judged.ensures.quiet
 
 pub returns-in-Err-clause-counts : goal.returns-in-Err-clause-counts
 returns-in-Err-clause-counts g c =

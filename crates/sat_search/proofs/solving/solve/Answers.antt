@@ -3,10 +3,11 @@ use Rattle.cnf_form.specs.Cnf.{formula_true, value_of}
 use Rattle.lrat_check.specs.declared.step.Step.{Step}
 use Rattle.lrat_check.specs.Resolved.{Resolved, derived}
 use Rattle.lrat_check.specs.Steps.{Refutes, Valid, AreSteps}
+use Rattle.lrat_check.specs.Texts.{AreShort}
 use Rattle.sat_trail.specs.Trail.{lits}
 use Rattle.sat_search.specs.Added.{AreAdded}
 use Rattle.sat_search.specs.declared.turn.Turn.TheVariants as turn
-use Rattle.sat_search.specs.Found.{nonempty}
+use Rattle.sat_search.specs.Found.{EndsEmpty, nonempty}
 use Rattle.sat_search.proofs.Comes.{comes}
 use Rattle.sat_search.proofs.Models.{length_values}
 use Rattle.sat_search.proofs.solving.solve.Goals as goal
@@ -46,8 +47,8 @@ returns-in-Refuted-clause-refuted c =
     let came = comes c.args.budget c.args.formula.now.clauses c.turns.search c.turn.new.self c.in_ok-turn.turn
     turn.Refuted
     c.in_ok-turn.ensures c.in-Refuted.is c.turns.invariant.0 in
-    let P : List Step → Type 0 = λ z. (id : ℕ) × Refutes c.args.formula.now.clauses z id in
-    subst P (sym c.into_steps.ensures) (came.id, came.refutes)
+    let P : List Step → Type 0 = λ z. (id : ℕ) × Refutes c.args.formula.now.clauses z id × EndsEmpty z id in
+    subst P (sym c.into_steps.ensures) (came.id, came.refutes, came.last)
 
 pub returns-in-Refuted-clause-fewer : goal.returns-in-Refuted-clause-fewer
 returns-in-Refuted-clause-fewer c =
@@ -121,3 +122,19 @@ returns-in-Spent-clause-steps c =
     c.in_ok-turn.ensures c.in-Spent.is c.turns.invariant.0 in
     let P : List Step → Type 0 = λ z. AreSteps z in
     subst P (sym c.into_steps-in-Spent.ensures) came.are_steps
+
+pub returns-in-Refuted-clause-short : goal.returns-in-Refuted-clause-short
+returns-in-Refuted-clause-short c =
+    let came = comes c.args.budget c.args.formula.now.clauses c.turns.search c.turn.new.self c.in_ok-turn.turn
+    turn.Refuted
+    c.in_ok-turn.ensures c.in-Refuted.is c.turns.invariant.0 in
+    λ few. subst AreShort (sym c.into_steps.ensures)
+    (came.short (subst (λ n. n < 10 ^ 18) (sym (c.in_ok-turn.ensures.0 ∙ c.turns.invariant.1)) few))
+
+pub returns-in-Spent-clause-short : goal.returns-in-Spent-clause-short
+returns-in-Spent-clause-short c =
+    let came = comes c.args.budget c.args.formula.now.clauses c.turns.search c.turn.new.self c.in_ok-turn.turn
+    turn.Spent
+    c.in_ok-turn.ensures c.in-Spent.is c.turns.invariant.0 in
+    λ few. subst AreShort (sym c.into_steps-in-Spent.ensures)
+    (came.short (subst (λ n. n < 10 ^ 18) (sym (c.in_ok-turn.ensures.0 ∙ c.turns.invariant.1)) few))

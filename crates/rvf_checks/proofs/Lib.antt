@@ -1,0 +1,4 @@
+pub mod Heads
+pub mod Counting
+pub mod Loaded
+pub mod Listing

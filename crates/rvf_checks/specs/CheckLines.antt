@@ -1,0 +1,38 @@
+-- Meaning: The lines of checks, each ended by a line feed. Rules of this project.
+use Rattle.std.specs.Prelude.{ℕ, List, [], ◌∷◌, ◌++◌, codes, decimal}
+use Rattle.rvf_checks.specs.declared.counts.Counts.{Counts}
+
+-- what stands in front, and a name
+abbrev pub named_line : List ℕ → List ℕ → List ℕ
+named_line front name = front ++ (name ++ (10 ∷ []))
+
+abbrev pub pass_line : List ℕ → List ℕ
+pass_line name = named_line (codes "pass ") name
+
+abbrev pub fail_line : List ℕ → List ℕ
+fail_line name = named_line (codes "fail ") name
+
+-- the number is the budget
+abbrev pub spent_line : List ℕ → ℕ → List ℕ
+spent_line name budget = named_line (codes "spent " ++ (name ++ (32 ∷ []))) (decimal budget)
+
+-- a check of a row has a text with other arithmetic operations
+abbrev pub note_line : List ℕ
+note_line = codes "note altops" ++ (10 ∷ [])
+
+-- a depth line of this kind is skipped
+abbrev pub skip_line : List ℕ → List ℕ
+skip_line kind = named_line (codes "skip ") kind
+
+-- a word and a number
+abbrev pub count_text : List ℕ → ℕ → List ℕ
+count_text word count = word ++ decimal count
+
+-- how many checks came to what
+abbrev pub counts_text : Counts → List ℕ
+counts_text c =
+    count_text (codes "pass ") c.passed ++ (count_text (codes " fail ") c.failed ++ count_text (codes " spent ") c.spent)
+
+-- the same as the last line of `run`, with how many depth lines are skipped
+abbrev pub total_line : Counts → ℕ → List ℕ
+total_line c skipped = codes "total " ++ (counts_text c ++ (count_text (codes " skip ") skipped ++ (10 ∷ [])))

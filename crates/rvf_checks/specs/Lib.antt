@@ -1,0 +1,5 @@
+pub mod CheckLines
+pub mod Deliveries
+pub mod Counting
+pub mod Answers
+pub mod Checked

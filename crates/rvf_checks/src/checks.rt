@@ -1,0 +1,99 @@
+ghost use Rattle.std.specs.Prelude.{◌≡◌, ◌<◌};
+ghost use Rattle.rvf_case.specs.Cases.{IsReady};
+ghost use Rattle.rvf_checks.specs.Answers.{IsAnswerAt};
+ghost use Rattle.rvf_checks.specs.Checked.{plan_of};
+ghost use Rattle.rvf_checks.specs.Counting.{places_of};
+ghost use Rattle.bm_decide.specs.Searches.{TakesFewer};
+
+use crate::answering::{judge_at, name_at};
+use crate::check::deliveries_in;
+use crate::counts::Counts;
+use crate::head::head_in;
+use crate::last::last_in;
+use crate::wording::Wording;
+use fv_text::{List, Memory};
+use rvf_case::Case;
+use rvf_jobs::{Gate, Job};
+use rvf_judge::Judged;
+use rvf_report::{Delivery, Inquiry, Status};
+use std::alloc::Global;
+
+/// The checks of a case, with how they are judged and reported.
+#[derive(Drop)]
+pub struct Checks<'a, G> {
+    /// What each check passes as it begins, with its place.
+    pub gate: &'a G,
+    pub case: &'a Case,
+    pub wording: Wording,
+    /// The folder of the files, without a slash behind it.
+    pub folder: &'a [u8],
+    /// How many clauses a search may learn, from 1 on.
+    pub budget: u64,
+}
+
+impl<G: Gate> Job for Checks<'_, G> {
+    type Answer = Judged;
+
+    ghost is_answer = { λ x place judgement. IsAnswerAt TakesFewer x.case.now x.budget place judgement };
+
+    ghost can_work = { λ x. IsReady x.case.now × (0 < x.budget) };
+
+    /// Passes the gate, and answers. There is no answer where the place isn't one of the list.
+    fn work(&self, alloc: Global, index: u32) -> Result<Judged, Memory> {
+        self.gate.enter(index);
+        judge_at(alloc, self.case, self.budget, index as usize)
+    }
+}
+
+impl<G: Gate> Inquiry for Checks<'_, G> {
+    type Tally = Counts;
+
+    ghost plan = { λ x. plan_of TakesFewer x.case.now x.wording x.folder.now x.budget };
+
+    ghost tallied = { λ x many counts. places_of counts ≡ many };
+
+    fn size(&self) -> usize {
+        self.case.questions.len()
+    }
+
+    fn head(&self, alloc: Global) -> Result<List<Delivery>, Memory> {
+        head_in(alloc, self.wording, self.case)
+    }
+
+    fn none(&self) -> Counts {
+        Counts {
+            passed: 0,
+            failed: 0,
+            spent: 0,
+        }
+    }
+
+    fn counted(&self, _place: usize, before: Counts, answer: &Judged) -> Counts {
+        before.counted(answer)
+    }
+
+    fn deliveries(
+        &self,
+        alloc: Global,
+        place: usize,
+        answer: Judged,
+    ) -> Result<List<Delivery>, Memory> {
+        let name = name_at(self.case, place);
+        deliveries_in(alloc, self.wording, self.folder, name, self.budget, answer)
+    }
+
+    fn last(&self, alloc: Global, tally: Counts) -> Result<List<Delivery>, Memory> {
+        last_in(
+            alloc,
+            self.wording,
+            tally,
+            self.case.config.skips.len() as u64,
+        )
+    }
+
+    fn status(&self, tally: Counts) -> Status {
+        tally.status()
+    }
+
+    ghost planned = { λ inquiry place answer is. is };
+}
