@@ -6,10 +6,12 @@ use Rattle.std.specs.List.{AllByRecursion}
 use Rattle.std.proofs.Common.{ap, sym, ◌∙◌, arith, subst, true≢false}
 use Rattle.std.proofs.lemmas.List.{length-map, take_all}
 use Rattle.std.proofs.lemmas.Option.{same_Some}
+use Rattle.vl_size.specs.declared.decl.Decl.{Decl}
 use Rattle.vl_size.specs.Size.{Values}
 use Rattle.vl_mean.specs.Cells.{cells_of}
 use Rattle.vl_mean.specs.Parts.{Part}
 use Rattle.vl_mean.specs.Runs.{Agrees, HasReset, Holds, Init, KeepsOnce, Next, Each, PartAssumes}
+use Rattle.vl_mean_flat.specs.Flattened.{decls_of}
 use Rattle.wn_net.specs.declared.names.Names.{Names}
 use Rattle.wn_net.specs.declared.names.NetName.{NetName}
 use Rattle.wn_net.specs.declared.names.Spot.{Spot}
@@ -29,6 +31,7 @@ use Rattle.wn_net.proofs.Laws.{adds_regs, given_on, names_on}
 use Rattle.wn_run.specs.Runs.{Choices, AreChoicesOf, IsMet, first_regs, mems_from, regs_from, start_of}
 use Rattle.wn_run.proofs.OldRun.{old_run}
 use Rattle.vl_lower_spec.specs.Evaluations.{HaveReset, IsLowered, IsStart, KeepOnce}
+use Rattle.vl_lower_spec.specs.Spots.{AreEach, AreSources, IsInputOf, IsMemOf, IsRegOf}
 use Rattle.vl_lower_spec.specs.Maps.{given_of, map_in, map_of, number_or, place_number, state_of}
 
 first_all : (n : ℕ) (s : State) → length s.regs ≤ n → first_regs n s ≡ s
@@ -88,6 +91,17 @@ module _ (old new : Netlist) (whole : IsNet old) (adds : AddsNodes old new) wher
       ∙ ap (λ m. bit_at m (slice_index s.bits j))
       (sym (named_number_same g x (name_at names.list s.name x own.placed e))) in
       (here, shown_on g names ns ss own h.1)
+
+  -- ---- what inputs, registers and memories are bits of
+
+  pub sources_on : (ds : List Decl) (ps : List Part) (names : Names) → AreSources ds ps old names
+      → AreSources ds ps new names
+  sources_on ds ps names h = record {
+    inputs = subst (λ (ins : List Input). AreEach (IsInputOf ds names) ins names.inputs) (sym adds.inputs) h.inputs;
+    regs = subst (λ (rs : List Reg). AreEach (IsRegOf ds ps names) rs names.regs) (sym adds.regs) h.regs;
+    mems = subst (λ (ms : List Mem). AreEach (IsMemOf ds ps names) ms names.mems) (sym adds.mems) h.mems;
+    each = h.each;
+  }
 
   -- ---- the next state
 
@@ -179,6 +193,9 @@ lowered_on ps old new names h whole adds =
             inputs = shown_on old new whole adds g names g.inputs names.inputs h.named s.inputs;
             regs = shown_on old new whole adds g names g.state.regs names.regs h.named s.regs;
           };
+      sources = sources_on old new whole adds (decls_of ps) ps names h.sources;
+      different = h.different;
+      apart = h.apart;
       holds = λ g is. subst (λ (v : Values). Holds ps v) (sym (same g)) (h.holds g (back g is));
       back = λ g is. ap (given_of names) (same g) ∙ h.back g (back g is);
       given = λ v is. given_on old new (given_of names v) adds (h.given v is);

@@ -5,6 +5,10 @@ pub mod Found
 pub mod Fields
 pub mod Placed
 pub mod NotesWhole
+pub mod NotesForm
+pub mod Declares
+pub mod OneRun
+pub mod SomeRun
 pub mod Texts
 pub mod Names
 pub mod Rows

@@ -55,7 +55,7 @@ spot_literal : (names : Names) (o : Option Spot) (k : ℕ) (p : Placed)
 spot_literal names None k p = refl
 spot_literal names (Some x) k p = refl
 
-source_literal : (names : Names) (o : Option Source) (p : Placed)
+pub source_literal : (names : Names) (o : Option Source) (p : Placed)
     → (source_note names o p).literal ≡ literal.Clause (pos p.node)
 source_literal names None p = refl
 source_literal names (Some (s.Each i k)) p = spot_literal names (slice_get names.inputs i) k p
@@ -63,7 +63,7 @@ source_literal names (Some (s.Once i)) p = spot_literal names (slice_get names.i
 source_literal names (Some (s.RegStart r)) p = spot_literal names (slice_get names.regs r) 0 p
 source_literal names (Some (s.WordStart m w)) p = refl
 
-choice_at : (net : Netlist) (d : ℕ) (xs : List Source) (i : ℕ) (x : Source) → AllByRecursion (IsChoice net d) xs
+pub choice_at : (net : Netlist) (d : ℕ) (xs : List Source) (i : ℕ) (x : Source) → AllByRecursion (IsChoice net d) xs
     → slice_get xs i ≡ Some x → IsChoice net d x
 choice_at net d [] i x h e = absurd (true≢false (ap is_none e))
 choice_at net d (y ∷ ys) zero x h e = subst (λ (z : Source). IsChoice net d z) (same_Some y x e) h.0

@@ -150,7 +150,7 @@ one_there [] i h = absurd (omega (arith, h))
 one_there (x ∷ xs) zero h = (x, refl)
 one_there (x ∷ xs) (suc i) h = one_there xs i (omega (arith, h))
 
-mapped : {A B : Type 0} (f : A → B) (xs : List A) (i : ℕ) (y : B) → slice_get (map f xs) i ≡ Some y
+pub mapped : {A B : Type 0} (f : A → B) (xs : List A) (i : ℕ) (y : B) → slice_get (map f xs) i ≡ Some y
     → (x : A) × (slice_get xs i ≡ Some x) × (f x ≡ y)
 mapped f [] i y e = absurd (true≢false (ap is_none e))
 mapped f (x ∷ xs) zero y e = (x, refl, same_Some (f x) y e)

@@ -14,4 +14,4 @@ mod notes_law;
 pub mod traces_law;
 
 pub use note::{Note, NoteLiteral};
-pub use notes_law::certificates_are_tight;
+pub use notes_law::{certificates_are_tight, notes_are_in_form};

@@ -91,6 +91,7 @@ pass_means c files budget x texts g =
       reading = g.reading;
       reads = g.is.reads;
       one = g.one;
+      runs = g.judged.runs;
       holds = λ run is_run assumed.
           holds_or (holds_over run c.nret wants x opts)
           (λ fails. g.judged.never run

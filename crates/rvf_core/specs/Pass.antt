@@ -9,19 +9,22 @@ use Rattle.vl_text.specs.SourceText.{Reading}
 use Rattle.ck_cfg.specs.declared.check.Check.{Check}
 use Rattle.ck_cfg.specs.declared.config.Config.{Config}
 use Rattle.ck_cfg.specs.Checks.{checks_of}
+use Rattle.ck_design.specs.Choosing.{HasOneRun}
 use Rattle.ck_design.specs.Retirements.{holds_over}
 use Rattle.rvf_case.specs.Loads.{Reads, design_of}
 use Rattle.rvf_case.specs.Cases.{Request}
 use Rattle.rvf_core.specs.Checks.{HasRead}
 use Rattle.rvf_core.specs.Verdicts.{opts_in, text_of, wants_in}
 
--- The text of the check has a tree, with the macros at its end, and no other one. Each run up to the check's cycle of
--- the design that the tree writes, if it meets the assumptions, has the check's property: over its retirements from the
--- check's first cycle on, by what is probed, under the options that the macros say.
+-- The text of the check has a tree, with the macros at its end, and no other one. The design that the tree writes has
+-- one run up to the check's cycle for each choice of what is free, and each of them, if it meets the assumptions, has
+-- the check's property: over its retirements from the check's first cycle on, by what is probed, under the options that
+-- the macros say.
 pub record PassMeans (c : Config) (files : List (List ℕ)) (x : Check) : Type 0 where
   pub reading : Reading
   pub reads : Reads (text_of c files x.kind) reading
   pub one : (other : Reading) → Reads (text_of c files x.kind) other → other ≡ reading
+  pub runs : (chosen : List Values) → HasOneRun (design_of reading.tree.modules) x.cycle chosen
   pub holds : (run : List Values) → IsRun (design_of reading.tree.modules) x.cycle run
       → IsAssumed (design_of reading.tree.modules) run
       → holds_over run c.nret (wants_in (text_of c files x.kind) reading) x

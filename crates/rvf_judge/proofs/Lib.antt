@@ -4,6 +4,7 @@ pub mod Choices
 pub mod FieldBits
 pub mod NoteLinesLines
 pub mod Words
+pub mod RunsJudging
 pub mod SourcesJudging
 pub mod NamesShown
 pub mod Written

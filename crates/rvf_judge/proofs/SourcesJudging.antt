@@ -1,33 +1,30 @@
 -- Parts with the same maps and the same declarations have the same judgements.
 use Rattle.std.specs.Prelude.{◌≡◌, refl, ℕ, List, [], ◌∷◌, ◌++◌, map, if◌then◌else◌}
-use Rattle.std.proofs.Common.{ap, sym, ◌∙◌, append_assoc}
+use Rattle.std.proofs.Common.{ap, sym, ◌∙◌, subst}
 use Rattle.fv_text.specs.declared.trace.TraceName.{TraceName}
 use Rattle.rv_table.specs.declared.retire.Opts.{Opts}
 use Rattle.vl_size.specs.declared.decl.Decl.{Decl}
 use Rattle.vl_size.specs.Size.{Values}
-use Rattle.vl_mean.specs.declared.driver.Driver.{Driver}
-use Rattle.vl_mean.specs.declared.driver.DriverKind.{DriverKind}
-use Rattle.vl_mean.specs.declared.driver.DriverKind.TheVariants as k
-use Rattle.vl_mean.specs.declared.driver.Start.{Start}
-use Rattle.vl_mean.specs.declared.flat.Flat.{Flat}
-use Rattle.vl_mean.specs.FlatLaw.{flat_scopes}
-use Rattle.vl_mean.specs.FlatParts.{driver_part, flat_parts, start_part}
+use Rattle.vl_mean.specs.FlatParts.{flat_parts}
 use Rattle.vl_mean.specs.Parts.{Part, declares, equation, combinational, clocked, starts}
-use Rattle.vl_mean.specs.Scopes.{Scope, is_clock_class}
+use Rattle.vl_mean.specs.Scopes.{is_clock_class}
 use Rattle.vl_mean_flat.specs.Flattened.{decls_of}
 use Rattle.vl_mean_flat.specs.SameMaps.{AreSameMaps}
+use Rattle.vl_lower_spec.proofs.Declaring.{parts_declare}
 use Rattle.cnf_form.specs.Cnf.{Cnf}
 use Rattle.rvfi_port.specs.declared.port.Wants.{Wants}
 use Rattle.lrat_check.specs.declared.step.Step.{Step}
-use Rattle.ck_ask.specs.Questions.{question_cycle}
+use Rattle.ck_ask.specs.Questions.{question_channel, question_cycle}
 use Rattle.ck_ask.specs.declared.question.Question.{Question}
 use Rattle.ck_design.specs.Findings.{IsFound}
 use Rattle.ck_design.specs.declared.note.Note.{Note}
+use Rattle.ck_design.specs.NotesForm.{AreInForm}
 use Rattle.ck_design.specs.Tight.{IsTight}
 use Rattle.ck_design.specs.Traces.{shown, shown_by, trace_of_run}
 use Rattle.vcd_dump.specs.Vcd.{vcd_text}
 use Rattle.rvf_judge.specs.declared.judged.Judged.TheVariants as judged
 use Rattle.rvf_judge.specs.Sources.{JudgementsAreTheSources, JudgementsDependOnMaps}
+use Rattle.rvf_judge.proofs.RunsJudging.{has_one_run}
 
 -- ---- the names of a trace are those of declarations
 
@@ -90,12 +87,14 @@ module _ (ps qs : List Part) (channels : ℕ) (wants : Wants) (q : Question) (op
 
 pub by_maps : (more : ℕ → Cnf → List Step → Type 0) → JudgementsDependOnMaps more
 by_maps more ps qs channels wants q opts budget (judged.Never texts) same e h = record {
+  runs = λ chosen. has_one_run ps qs same e (question_cycle q) chosen (h.runs chosen);
   never = λ run v. h.never run (found_there ps qs channels wants q opts same run v);
   notes = h.notes;
   formula = h.formula;
   steps = h.steps;
   written = h.written;
   tight = tight ps qs channels wants q opts same h.notes h.formula h.tight;
+  in_form = subst (λ ds. AreInForm ds (question_channel q) (question_cycle q) h.notes) (sym e) h.in_form;
   refuted = h.refuted;
   unsatisfiable = h.unsatisfiable;
   known = h.known;
@@ -112,6 +111,7 @@ by_maps more ps qs channels wants q opts budget (judged.Spent texts) same e h = 
   steps = h.steps;
   written = h.written;
   tight = tight ps qs channels wants q opts same h.notes h.formula h.tight;
+  in_form = subst (λ ds. AreInForm ds (question_channel q) (question_cycle q) h.notes) (sym e) h.in_form;
   valid = h.valid;
   resolved = h.resolved;
   count = h.count;
@@ -119,39 +119,7 @@ by_maps more ps qs channels wants q opts budget (judged.Spent texts) same e h = 
   read_back = h.read_back;
 }
 
--- ---- the declarations of a design without hierarchy
-
-none_driven : (ss : List Scope) (x : DriverKind) (rest : List Part)
-    → decls_of (driver_part ss x ∷ rest) ≡ decls_of rest
-none_driven ss (k.Assign l e) rest = refl
-none_driven ss (k.Comb s) rest = refl
-none_driven ss (k.Clocked s) rest = refl
-
-none_started : (ss : List Scope) (xs : List Start) → decls_of (map (start_part ss) xs) ≡ []
-none_started ss [] = refl
-none_started ss (x ∷ xs) = none_started ss xs
-
-none_behind : (ss : List Scope) (drivers : List Driver) (xs : List Start)
-    → decls_of (map (λ x. driver_part ss x.what) drivers ++ map (start_part ss) xs) ≡ []
-none_behind ss [] xs = none_started ss xs
-none_behind ss (x ∷ drivers) xs =
-    none_driven ss x.what (map (λ y. driver_part ss y.what) drivers ++ map (start_part ss) xs)
-    ∙ none_behind ss drivers xs
-
-declared : (ds : List Decl) (rest : List Part) → decls_of rest ≡ []
-    → decls_of (map (λ d. declares d) ds ++ rest) ≡ ds
-declared [] rest h = h
-declared (d ∷ ds) rest h = ap (λ (xs : List Decl). d ∷ xs) (declared ds rest h)
-
-flat_decls : (flat : Flat) → decls_of (flat_parts flat) ≡ flat.decls
-flat_decls flat =
-    let ss = flat_scopes flat.decls in
-    let driven = map (λ (x : Driver). driver_part ss x.what) flat.drivers in
-    let begun = map (start_part ss) flat.starts in
-    ap decls_of (append_assoc (map (λ d. declares d) flat.decls) driven begun)
-    ∙ declared flat.decls (driven ++ begun) (none_behind ss flat.drivers flat.starts)
-
 pub of_the_source : (more : ℕ → Cnf → List Step → Type 0) → JudgementsAreTheSources more
 of_the_source more ps flat channels wants q opts budget judged drawn same h =
     by_maps more ps (flat_parts flat) channels wants q opts budget judged same
-    (sym (flat_decls flat ∙ drawn.decls_are)) h
+    (sym (parts_declare flat.decls flat.drivers flat.starts ∙ drawn.decls_are)) h

@@ -9,6 +9,7 @@ use Rattle.std.proofs.Common.{ap, sym, ◌∙◌, arith, subst, lit≤}
 use Rattle.fv_text.specs.declared.trace.Trace.{Trace}
 use Rattle.rv_table.specs.declared.retire.Opts.{Opts}
 use Rattle.vl_mean.specs.Parts.{Part}
+use Rattle.vl_mean_flat.specs.Flattened.{decls_of}
 use Rattle.wn_net.specs.declared.names.Names.{Names}
 use Rattle.wn_net.specs.Net.{Netlist, IsNet}
 use Rattle.wn_net.specs.Names.{AreNamesOf}
@@ -26,7 +27,10 @@ use Rattle.bm_decide.specs.Chosen.{ShowsWitness}
 use Rattle.ck_design.specs.Loaded.{IsLoaded}
 use Rattle.ck_design.proofs.Found.{designs, nets}
 use Rattle.ck_design.specs.Notes.{notes_of}
+use Rattle.ck_design.specs.NotesForm.{AreInForm}
 use Rattle.ck_design.specs.Tight.{IsTight}
+use Rattle.ck_design.proofs.NotesForm.{in_form}
+use Rattle.ck_design.proofs.SomeRun.{each_choice_has_one_run}
 use Rattle.ck_design.proofs.NotesWhole.{tight}
 use Rattle.ck_design.specs.Traces.{HaveOwnNames}
 use Rattle.ck_design.proofs.Dumps.{dumps}
@@ -64,11 +68,19 @@ module _ (ps : List Part) (net : Netlist) (names : Names) (channels : ℕ) (want
       c.formula
   is_tight c bits h = tight ps net names channels wants port q opts c loaded whole is_question bits h
 
+  -- and their notes in form
+  is_in_form : (c : Certificate) → AreBitsOf net (question_cycle q) c.bits
+      → AreInForm (decls_of ps) (question_channel q) (question_cycle q)
+      (notes_of names c.bits (question_channel q) (question_cycle q) c.fields)
+  is_in_form c bits =
+      in_form ps net names channels wants port c.bits (question_channel q) (question_cycle q) c.fields loaded bits
+
   pub never : (more : ℕ → Cnf → List Step → Type 0) (budget : ℕ) (c : Certificate) (texts : CertificateTexts)
       → verdict.IsNever net (question_cycle q) (Gives net port q opts) (fields_in net port q) (more budget) c
       → AreTexts (notes_of names c.bits (question_channel q) (question_cycle q) c.fields) c.formula c.steps texts
       → AreReadBack c.formula c.steps texts → IsNever more ps channels wants q opts budget texts
   never more budget c texts h written back = record {
+    runs = λ chosen. each_choice_has_one_run ps net names (question_cycle q) chosen loaded.lowered whole;
     never = λ run v.
         let x = nets ps net names channels wants port q opts run loaded whole (in_order channels q is_question) v
         in h.never x.choices x.of x.gives;
@@ -77,6 +89,7 @@ module _ (ps : List Part) (net : Netlist) (names : Names) (channels : ℕ) (want
     steps = c.steps;
     written = written;
     tight = is_tight c h.bits h.tight;
+    in_form = is_in_form c h.bits;
     refuted = h.refuted;
     unsatisfiable = h.unsatisfiable;
     known = h.known;
@@ -93,6 +106,7 @@ module _ (ps : List Part) (net : Netlist) (names : Names) (channels : ℕ) (want
     steps = c.steps;
     written = written;
     tight = is_tight c h.bits h.tight;
+    in_form = is_in_form c h.bits;
     valid = h.valid;
     resolved = h.resolved;
     count = h.count;

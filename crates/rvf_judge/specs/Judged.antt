@@ -3,6 +3,7 @@ use Rattle.std.specs.Prelude.{◌≡◌, ℕ, ◌<◌, ◌≤◌, ◌^◌, Bool,
 use Rattle.rv_table.specs.declared.retire.Opts.{Opts}
 use Rattle.vl_size.specs.Size.{Values}
 use Rattle.vl_mean.specs.Parts.{Part}
+use Rattle.vl_mean_flat.specs.Flattened.{decls_of}
 use Rattle.cnf_form.specs.Cnf.{Cnf, formula_true}
 use Rattle.cnf_text.specs.Dimacs.{dimacs_text}
 use Rattle.lrat_check.specs.declared.step.Step.{Step}
@@ -13,9 +14,12 @@ use Rattle.lrat_texts.specs.Formulas.{SaysFormula}
 use Rattle.lrat_texts.specs.Steps.{SaysSteps}
 use Rattle.sat_search.specs.Found.{EndsEmpty}
 use Rattle.rvfi_port.specs.declared.port.Wants.{Wants}
+use Rattle.ck_ask.specs.Questions.{question_channel, question_cycle}
 use Rattle.ck_ask.specs.declared.question.Question.{Question}
+use Rattle.ck_design.specs.Choosing.{HasOneRun}
 use Rattle.ck_design.specs.Findings.{IsFound}
 use Rattle.ck_design.specs.declared.note.Note.{Note}
+use Rattle.ck_design.specs.NotesForm.{AreInForm}
 use Rattle.ck_design.specs.Tight.{IsTight}
 use Rattle.rvf_judge.specs.Lines.{note_text}
 use Rattle.ck_design.specs.Traces.{trace_of_run}
@@ -39,17 +43,20 @@ pub record SayBoth (formula : Cnf) (steps : List Step) (texts : CertificateTexts
   pub formula_said : SaysFormula texts.clauses formula
   pub steps_said : SaysSteps texts.steps steps
 
--- No run of the design gives what is sought. The texts hold clauses whose models are the runs of the design, seen at the
--- notes, with a last one that demands a run that gives it, and steps that refute them, of which more is known; none
--- stands behind the empty clause. The files are read back as they were meant.
+-- The design has one run for each choice, and none of them gives what is sought. The texts hold clauses whose models
+-- are the runs of the design, seen at the notes, which stand in their form, with a last one that demands a run that
+-- gives it, and steps that refute them, of which more is known; none stands behind the empty clause. The files are read
+-- back as they were meant.
 pub record IsNever (more : ℕ → Cnf → List Step → Type 0) (ps : List Part) (channels : ℕ) (wants : Wants) (q : Question)
     (opts : Opts) (budget : ℕ) (texts : CertificateTexts) : Type 0 where
+  pub runs : (chosen : List Values) → HasOneRun ps (question_cycle q) chosen
   pub never : (run : List Values) → IsFound ps channels wants q opts run → ⊥
   pub notes : List Note
   pub formula : Cnf
   pub steps : List Step
   pub written : AreTexts notes formula steps texts
   pub tight : IsTight ps channels wants q opts notes formula
+  pub in_form : AreInForm (decls_of ps) (question_channel q) (question_cycle q) notes
   pub refuted : (id : ℕ) × Refutes formula.clauses steps id × EndsEmpty steps id
   pub unsatisfiable : (values : ℕ → Bool) → formula_true values formula.clauses ≡ false
   pub known : more budget formula steps
@@ -72,6 +79,7 @@ pub record IsSpent (ps : List Part) (channels : ℕ) (wants : Wants) (q : Questi
   pub steps : List Step
   pub written : AreTexts notes formula steps texts
   pub tight : IsTight ps channels wants q opts notes formula
+  pub in_form : AreInForm (decls_of ps) (question_channel q) (question_cycle q) notes
   pub valid : Valid formula.clauses steps
   pub resolved : Resolved formula.clauses steps
   pub count : length (derived formula.clauses steps) ≡ budget

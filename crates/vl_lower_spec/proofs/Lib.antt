@@ -14,3 +14,4 @@ pub mod NamedWhole
 pub mod Writing
 pub mod Texts
 pub mod Graphic
+pub mod Declaring

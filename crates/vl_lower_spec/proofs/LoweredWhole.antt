@@ -24,7 +24,9 @@ use Rattle.wn_net.specs.Given.{IsGiven}
 use Rattle.wn_net.specs.Next.{next_state}
 use Rattle.vl_lower_spec.specs.Built.{AreRanged, AreSettledNames, BuiltNetsAreLowered, HasNextMap, IsBuilt}
 use Rattle.vl_lower_spec.specs.Settled.{driven_by_this, settled}
+use Rattle.vl_lower_spec.specs.Spots.{AreSources}
 use Rattle.vl_lower_spec.proofs.Agreeing as agreeing
+use Rattle.vl_lower_spec.proofs.Declaring.{parts_declare}
 use Rattle.vl_lower_spec.proofs.Kept as kept
 
 -- by numbers of drivers as by the drivers
@@ -135,6 +137,10 @@ module _ (ds : List Decl) (drivers : List Driver) (firsts : List Start) (s : Lis
     named = b.named;
     all = b.all;
     shown = b.shown;
+    sources =
+        subst (λ xs. AreSources xs ps net names) (sym (parts_declare ds drivers firsts)) b.sources;
+    different = subst AreDifferent (sym (parts_declare ds drivers firsts)) different;
+    apart = subst AreApart (sym (parts_declare ds drivers firsts)) apart;
     holds = map_holds;
     back = map_given;
     given = fits;

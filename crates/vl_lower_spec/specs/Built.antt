@@ -19,6 +19,7 @@ use Rattle.vl_flow_spec.specs.Refusals.{HasNoRefusal}
 use Rattle.vl_flow_spec.specs.Sequence.{IsSequence}
 use Rattle.vl_lower_spec.specs.Evaluations.{HaveReset, IsLowered, IsStart, KeepOnce}
 use Rattle.vl_lower_spec.specs.Maps.{AreEntriesOf, given_of, listed, map_of, state_of}
+use Rattle.vl_lower_spec.specs.Spots.{AreSources}
 use Rattle.wn_net.specs.declared.names.Names.{Names}
 use Rattle.wn_net.specs.Value.{Given}
 use Rattle.wn_net.specs.Net.{Netlist}
@@ -76,6 +77,7 @@ pub record IsBuilt (ds : List Decl) (drivers : List Driver) (starts : List Start
   pub named : AreNamesOf net names
   pub all : HaveAll net names
   pub shown : (g : Given) → IsGiven net g → ShowNames net names g
+  pub sources : AreSources ds (parts_of ds drivers starts) net names
   pub free : NameWhatIsFree ds (parts_of ds drivers starts) net names
   pub settles : (g : Given) → IsGiven net g
       → AreSettledNames ds (parts_of ds drivers starts) drivers sequence net names g

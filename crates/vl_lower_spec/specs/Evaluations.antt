@@ -15,7 +15,9 @@ use Rattle.std.specs.Prelude.{
   Some,
 }
 use Rattle.vl_size.specs.Size.{Values}
+use Rattle.vl_size.specs.Table.{AreApart, AreDifferent}
 use Rattle.vl_mean.specs.Parts.{Part}
+use Rattle.vl_mean_flat.specs.Flattened.{decls_of}
 use Rattle.vl_mean.specs.Runs.{Agrees, Each, HasReset, Holds, Init, IsAssumed, IsRun, KeepsOnce, Next, PartAssumes}
 use Rattle.wn_net.specs.declared.names.Names.{Names}
 use Rattle.wn_net.specs.declared.parts.Input.{Input}
@@ -29,6 +31,7 @@ use Rattle.wn_net.specs.Names.{AreNamesOf, HaveAll, ShowNames}
 use Rattle.wn_net.specs.Next.{next_state}
 use Rattle.wn_run.specs.Runs.{Choices, AreChoicesOf, IsMet, cycle_at, inputs_at, start_of}
 use Rattle.vl_lower_spec.specs.Maps.{AreEntriesOf, given_of, listed, map_of, state_of}
+use Rattle.vl_lower_spec.specs.Spots.{AreSources}
 
 -- the state is one in which a run may begin
 pub record IsStart (net : Netlist) (s : State) : Type 0 where
@@ -60,6 +63,10 @@ pub record IsLowered (ps : List Part) (net : Netlist) (names : Names) : Type 0 w
   pub named : AreNamesOf net names
   pub all : HaveAll net names
   pub shown : (g : Given) → IsGiven net g → ShowNames net names g
+  -- what these are bits of is free in a map; declared names differ, and none is that of a word of a memory
+  pub sources : AreSources (decls_of ps) ps net names
+  pub different : AreDifferent (decls_of ps)
+  pub apart : AreApart (decls_of ps)
   -- each evaluation's map is one that the design allows, from whose names the numbers come back
   pub holds : (g : Given) → IsGiven net g → Holds ps (map_of net names g)
   pub back : (g : Given) → IsGiven net g → given_of names (map_of net names g) ≡ g

@@ -1,4 +1,5 @@
 pub mod Maps
+pub mod Spots
 pub mod Evaluations
 pub mod Settled
 pub mod Built

@@ -196,6 +196,7 @@ module _ (ds : List Decl) (drivers : List Driver) (firsts : List Start) (s : Lis
     named = whole.0;
     all = whole.1;
     shown = shown;
+    sources = sources;
     free = free;
     settles = settles;
     steps = steps;

@@ -1,5 +1,6 @@
 -- A design and its parts without hierarchy have the same maps.
 use Rattle.std.specs.Prelude.{ℕ, List, [], ◌∷◌}
+use Rattle.std.proofs.Common.{sym}
 use Rattle.vl_tree.specs.declared.source.Module.{Module}
 use Rattle.vl_size.specs.declared.decl.Decl.{Decl}
 use Rattle.vl_size.specs.Table.{AreDifferent}
@@ -15,6 +16,7 @@ use Rattle.vl_mean_flat.proofs.FoundNames.{AreScopes, found}
 use Rattle.vl_mean_flat.proofs.LaidScopes.{laid_walk}
 use Rattle.vl_mean_flat.proofs.NamesMap.{expr_map, target_map, stmt_map}
 use Rattle.vl_mean_flat.proofs.SameMaps.{same_holds, same_choices, same_next, same_init, same_run, same_assumed}
+use Rattle.vl_mean_flat.proofs.SameMaps.{same_driven, same_writes}
 use Rattle.vl_mean_flat.proofs.StepParts.{of_steps}
 
 module _ (es : List Decl) where
@@ -47,4 +49,6 @@ same_maps ms top different known =
       begins = λ v. same_init ps found_all v;
       runs = λ d run. same_run ps found_all d run;
       assumed = λ run. same_assumed ps found_all run;
+      driven = λ n k. sym (same_driven ps found_all n k);
+      writes = sym (same_writes ps found_all);
     }

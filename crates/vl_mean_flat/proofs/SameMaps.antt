@@ -241,7 +241,7 @@ module _ (ps : List Part) (laid : Each (PartNames (Found (decls_of ps))) ps) whe
   same_declared : (P : Decl → Type 0) → EachDeclared P qs ≡ EachDeclared P ps
   same_declared P = declared_each P qs ∙ (λ i. Each P (same_decls i)) ∙ sym (declared_each P ps)
 
-  same_driven : (n : List ℕ) (k : ℕ) → is_driven qs n k ≡ is_driven ps n k
+  pub same_driven : (n : List ℕ) (k : ℕ) → is_driven qs n k ≡ is_driven ps n k
   same_driven n k =
       ap (λ l. is_driven l n k) in_order ∙ no_driven_decls flat n k ps (drivers ++ last)
       ∙ same_driven_drivers es ps last laid n k ∙ ap (λ b. is_driven ps n k || b) (no_driven_starts flat n k ps)
@@ -253,7 +253,7 @@ module _ (ps : List Part) (laid : Each (PartNames (Found (decls_of ps))) ps) whe
       ∙ same_assigned_drivers es ps last laid n k ∙ ap (λ b. is_assigned ps n k || b) (no_assigned_starts flat n k ps)
       ∙ or_false (is_assigned ps n k)
 
-  same_writes : initial_writes qs ≡ initial_writes ps
+  pub same_writes : initial_writes qs ≡ initial_writes ps
   same_writes =
       ap initial_writes in_order ∙ no_writes_decls flat ps (drivers ++ last) ∙ no_writes_drivers flat ps last
       ∙ same_writes_starts es ps laid
