@@ -19,7 +19,9 @@ Nothing is written without `--write`.
 """
 import os
 import re
+import subprocess
 import sys
+import tempfile
 
 ROOT = os.path.dirname(os.path.dirname(os.path.abspath(__file__)))
 BEGIN = "<!-- The crates, by tools/check-docs.py --write -->"
@@ -310,7 +312,8 @@ def check_paths(page):
 def usages():
     """What may stand behind `rvf`, by the line that the program prints."""
     text = "\n".join(lines_of("crates/rvf_core/specs/Run.antt"))
-    line = re.search(r'codes "usage: rvf (.*?)\\n"', text).group(1)
+    pieces = re.search(r"(?m)^usage_line =\n((?: .*\n)+)", text).group(1)
+    line = "".join(re.findall(r'codes "(.*?)"', pieces)).removeprefix("usage: rvf ").removesuffix("\\n")
     return {usage.split()[0]: usage for usage in line.split(" | ")}
 
 
@@ -348,14 +351,16 @@ def check_readme():
 
 
 def check_example():
-    """The shipped example is the program's stored run, and README.md shows what that prints."""
-    for path in files_below("crates/rvf/data", ""):
-        shipped = "examples/quiet/" + os.path.basename(path)
-        if not is_there(shipped) or lines_of(shipped) != lines_of(path):
-            fault("README.md", 1, f"{shipped} isn't {path}, over which the program's run is stored")
-    printed = "\n".join("    " + line for line in lines_of("crates/rvf/stdout") if line)
-    if printed not in "\n".join(lines_of("README.md")):
-        fault("README.md", 1, "the lines of the example aren't those of crates/rvf/stdout")
+    """README.md shows what the built program, where there is one, prints of the shipped example."""
+    program = os.path.join(ROOT, "crates/rvf/out/rvf")
+    if not os.path.isfile(program):
+        return
+    with tempfile.TemporaryDirectory() as folder:
+        words = [program, "run", "examples/quiet/checks.cfg", folder, "--basedir", "examples/quiet"]
+        ended = subprocess.run(words, cwd=ROOT, capture_output=True, text=True, timeout=60)
+    printed = "\n".join("    " + line for line in ended.stdout.splitlines())
+    if ended.returncode != 0 or not printed or printed not in "\n".join(lines_of("README.md")):
+        fault("README.md", 1, "the lines of the example aren't those that the built program prints")
 
 
 def main():

@@ -28,6 +28,7 @@ fn asked(alloc: Global, line: &Line) -> Result<String, Memory> {
         }
         Line::List { cfg } => format!(in alloc; "list [{}]", shown(cfg))?,
         Line::Lrat { cnf, proof } => format!(in alloc; "lrat [{}] [{}]", shown(cnf), shown(proof))?,
+        Line::Bench { size } => format!(in alloc; "bench {size}")?,
     })
 }
 

@@ -36,3 +36,7 @@ counts_text c =
 -- the same as the last line of `run`, with how many depth lines are skipped
 abbrev pub total_line : Counts → ℕ → List ℕ
 total_line c skipped = codes "total " ++ (counts_text c ++ (count_text (codes " skip ") skipped ++ (10 ∷ [])))
+
+-- and as the line of `bench`, with the number of words of its design
+abbrev pub bench_line : ℕ → Counts → List ℕ
+bench_line size c = count_text (codes "bench ") size ++ (32 ∷ (counts_text c ++ (10 ∷ [])))

@@ -15,7 +15,7 @@ use Rattle.rvf_report.specs.Reports.{Plan}
 use Rattle.rvf_report.specs.declared.delivery.Delivery.{Delivery}
 use Rattle.rvf_report.specs.declared.delivery.Delivery.TheVariants.{Line}
 use Rattle.rvf_checks.specs.Answers.{IsAnswerAt, name_at}
-use Rattle.rvf_checks.specs.CheckLines.{note_line, skip_line, total_line}
+use Rattle.rvf_checks.specs.CheckLines.{bench_line, note_line, skip_line, total_line}
 use Rattle.rvf_checks.specs.Counting.{counted, counts_of, no_counts, status_in}
 use Rattle.rvf_checks.specs.Deliveries.{deliveries_in}
 use Rattle.rvf_checks.specs.declared.counts.Counts.{Counts}
@@ -34,9 +34,10 @@ skips_of skips = map (λ kind. Line (skip_line kind)) skips
 abbrev pub head : Bool → List (List ℕ) → List Delivery
 head noted skips = note_of noted ++ skips_of skips
 
--- these in the words of `run`
+-- these in the words of `run`, and nothing in those of `bench`
 abbrev pub head_in : Wording → Bool → List (List ℕ) → List Delivery
 head_in wording.Run noted skips = head noted skips
+head_in (wording.Bench size) noted skips = []
 
 -- of each check that is answered its files and its line, in order
 abbrev pub answered : Wording → List ℕ → ℕ → List Question → List Judged → List Delivery
@@ -48,6 +49,7 @@ answered words folder budget (q ∷ qs) (j ∷ js) =
 -- the line of counts
 abbrev pub last_line : Wording → Counts → ℕ → List ℕ
 last_line wording.Run c skipped = total_line c skipped
+last_line (wording.Bench size) c skipped = bench_line size c
 
 abbrev pub last_in : Wording → Counts → ℕ → List Delivery
 last_in words c skipped = Line (last_line words c skipped) ∷ []

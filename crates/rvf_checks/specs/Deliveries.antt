@@ -32,6 +32,13 @@ deliveries_of folder name budget (judged.Never texts) = certified folder name te
 deliveries_of folder name budget (judged.Found dump) = dumped folder name dump (fail_line name)
 deliveries_of folder name budget (judged.Spent texts) = certified folder name texts (spent_line name budget)
 
+-- the files alone, where the budget is used up
+abbrev pub files_if_spent : List ℕ → List ℕ → Judged → List Delivery
+files_if_spent folder name (judged.Never texts) = []
+files_if_spent folder name (judged.Found dump) = []
+files_if_spent folder name (judged.Spent texts) = files_of folder name texts
+
 -- in these words
 abbrev pub deliveries_in : Wording → List ℕ → List ℕ → ℕ → Judged → List Delivery
 deliveries_in wording.Run folder name budget j = deliveries_of folder name budget j
+deliveries_in (wording.Bench size) folder name budget j = files_if_spent folder name j

@@ -111,6 +111,21 @@ fn deliveries_of(
     }
 }
 
+/// What `bench` delivers of a check with this name: its files in a folder, where its budget is used up.
+fn files_if_spent(
+    alloc: Global,
+    folder: &[u8],
+    name: &[u8],
+    judged: Judged,
+) -> Result<List<Delivery>, Memory>
+    ensures { IfOk result (λ made. made ≡ deliveries.files_if_spent folder.now name.now judged) }
+{
+    match judged {
+        Judged::Spent(texts) => files_of(alloc, folder, name, texts),
+        Judged::Never(_) | Judged::Found(_) => Ok(List::new(alloc)),
+    }
+}
+
 /// What is delivered of a check with this name, in these words.
 pub(crate) fn deliveries_in(
     alloc: Global,
@@ -124,5 +139,6 @@ pub(crate) fn deliveries_in(
 {
     match wording {
         Wording::Run => deliveries_of(alloc, folder, name, budget, judged),
+        Wording::Bench(_) => files_if_spent(alloc, folder, name, judged),
     }
 }

@@ -1,7 +1,7 @@
 //! The checks of a case, judged and reported.
 //!
 //! - What a check comes to by what is loaded of its text, and how many come to what.
-//! - What is delivered of checks, in the words of `run`.
+//! - What is delivered of checks, in the words of `run` and in those of `bench`.
 #![tactic(auto)]
 
 mod answering;

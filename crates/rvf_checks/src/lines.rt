@@ -73,3 +73,15 @@ pub(crate) fn total_line(alloc: Global, counts: Counts, skipped: u64) -> Result<
     line.push(b'\n')?;
     Ok(Text::from_vec(line))
 }
+
+/// The line of `bench`, with the number of words of its design.
+pub(crate) fn bench_line(alloc: Global, size: u32, counts: Counts) -> Result<Text, Memory>
+    ensures { IfOk result (λ line. line ≡ lines.bench_line size counts) }
+{
+    let mut line = Vec::new(alloc);
+    put_count(&mut line, b"bench ", u64::from(size))?;
+    line.push(b' ')?;
+    put_counts(&mut line, counts)?;
+    line.push(b'\n')?;
+    Ok(Text::from_vec(line))
+}

@@ -19,16 +19,18 @@ use Rattle.rvf_judge.specs.declared.judged.Judged.TheVariants as judged
 use Rattle.rvf_words.specs.Line.{line_of}
 use Rattle.rvf_words.specs.declared.line.Line.{Line as Words}
 use Rattle.rvf_words.specs.declared.line.Line.TheVariants as words
-use Rattle.rvf_case.specs.Cases.{AreUnrefused, Request, Seen}
-use Rattle.rvf_case.specs.Texts.{leaders}
+use Rattle.rvf_case.specs.Cases.{Request, Seen}
 use Rattle.rvf_checks.specs.Counting.{status_of}
+use Rattle.rvf_checks.specs.declared.wording.Wording.{Wording}
 use Rattle.rvf_checks.specs.declared.wording.Wording.TheVariants as wording
 use Rattle.rvf_report.specs.declared.delivery.Delivery.{Delivery}
 use Rattle.rvf_report.specs.declared.status.Status.{Status}
 use Rattle.rvf_report.specs.declared.status.Status.TheVariants as s
 use Rattle.rvf_core.specs.Checks.{Checks, HasRead}
 use Rattle.rvf_core.specs.Checks as checks
-use Rattle.rvf_core.specs.Run.{Answers, Ends, HasCounts, IsAccepted, IsExact, Run, Says, comes, request}
+use Rattle.rvf_core.specs.Bench as bench
+use Rattle.rvf_core.specs.Run.{Answers, AreAccepted, Ends, HasCounts, IsAccepted, IsExact, Run, Says, comes}
+use Rattle.rvf_core.specs.Run.{of_bench, of_files, request}
 use Rattle.rvf_core.specs.Run.{comes_in_budget}
 use Rattle.rvf_core.specs.Run.{comes_judged, rose, seen_in}
 use Rattle.rvf_core.specs.Steps.{HaveStatus}
@@ -148,8 +150,7 @@ module _ (c : Config) (fs : List (List ℕ)) (budget : ℕ) where
 
 module _ (cfg core basedir : List ℕ) (names : Names) (misses misses_now faults faults_now : ℕ)
     (no_fault : rose faults faults_now ≡ false) (c : Config) (fs : List (List ℕ))
-    (read : HasRead (request cfg core basedir) (Some names) c fs)
-    (unrefused : AreUnrefused c fs (check_questions c) (leaders c (check_questions c))) where
+    (read : HasRead (request cfg core basedir) (Some names) c fs) (unrefused : AreAccepted c fs) (told : Wording) where
   abbrev q : Request
   q = request cfg core basedir
 
@@ -163,7 +164,7 @@ module _ (cfg core basedir : List ℕ) (names : Names) (misses misses_now faults
   }
 
   pass_said : (folder : List ℕ) (budget : ℕ) (status : Status) (report : List Delivery)
-      → Checks q seen wording.Run folder budget status report → All (IsClean c fs) (checks_of c)
+      → Checks q seen told folder budget status report → All (IsClean c fs) (checks_of c)
       → comes_in_budget s.Passed status ≡ true
   pass_said folder budget status report (checks.judged w) clean =
       let are : AreJudged c fs (check_questions c) budget (check_questions c) w.answers =
@@ -177,7 +178,7 @@ module _ (cfg core basedir : List ℕ) (names : Names) (misses misses_now faults
       absurd (uncaused q names misses misses_now faults faults_now c fs no_fault read unrefused w.refusal w.cause)
 
   judged_said : (folder : List ℕ) (budget : ℕ) (status : Status) (report : List Delivery)
-      → Checks q seen wording.Run folder budget status report → comes_judged status ≡ true
+      → Checks q seen told folder budget status report → comes_judged status ≡ true
   judged_said folder budget status report (checks.judged w) =
       subst (λ x. comes_judged x ≡ true) (sym w.status_is)
       (by_verdict comes_judged (status_of w.answers) (is_verdict w.answers) (λ e. refl) (λ e. refl) refl)
@@ -185,7 +186,7 @@ module _ (cfg core basedir : List ℕ) (names : Names) (misses misses_now faults
       absurd (uncaused q names misses misses_now faults faults_now c fs no_fault read unrefused w.refusal w.cause)
 
   fail_said : (folder : List ℕ) (budget : ℕ) (status : Status) (report : List Delivery) (x : Check)
-      (run : List Values) → Checks q seen wording.Run folder budget status report → Contains (checks_of c) x
+      (run : List Values) → Checks q seen told folder budget status report → Contains (checks_of c) x
       → Violates c fs x run → comes_in_budget s.Failing status ≡ true
   fail_said folder budget status report x run (checks.judged w) there violates =
       let P : Config → List (List ℕ) → Type 0 =
@@ -224,39 +225,55 @@ told_checks r names q folder budget status report told said =
 
 pass_comes : (r : Run) (status : Status) → Answers status r → (c : Config) (fs : List (List ℕ)) → IsAccepted r c fs
     → All (IsClean c fs) (checks_of c) → comes_in_budget s.Passed status ≡ true
-pass_comes r status a c fs h clean =
-    let asks = h.asks in
+pass_comes r status a c fs (of_files asks read unrefused) clean =
     let line : Option Words = Some (words.Run asks.cfg asks.outdir asks.core asks.basedir asks.budget asks.jobs) in
     let q : Request = request asks.cfg asks.core asks.basedir in
     by_cause (comes_in_budget s.Passed) refl refl line r status (under r line status asks.asked a)
-    (λ report says. pass_said asks.cfg asks.core asks.basedir asks.names r.before.misses r.now.misses r.before.faults r.now.faults
-    asks.no_fault c fs (subst (λ held. HasRead q held c fs) asks.told h.read) h.unrefused asks.outdir
-    asks.budget status report (told_checks r asks.names q asks.outdir asks.budget status report asks.told says)
-    clean)
+    (λ report says. pass_said asks.cfg asks.core asks.basedir asks.names r.before.misses r.now.misses r.before.faults
+    r.now.faults asks.no_fault c fs (subst (λ held. HasRead q held c fs) asks.told read) unrefused wording.Run
+    asks.outdir asks.budget status report
+    (told_checks r asks.names q asks.outdir asks.budget status report asks.told says) clean)
+pass_comes r status a c fs (of_bench size is read unrefused) clean =
+    let line : Option Words = Some (words.Bench size) in
+    by_cause (comes_in_budget s.Passed) refl refl line r status (under r line status is a)
+    (λ report says. pass_said bench.request.cfg bench.request.core bench.request.basedir (bench.held_of size)
+    says.misses says.misses_now 0 0 refl c fs read unrefused (wording.Bench size) bench.folder bench.budget status
+    report says.checks clean)
 
 judged_comes : (r : Run) (status : Status) → Answers status r → (c : Config) (fs : List (List ℕ))
     → IsAccepted r c fs → comes_judged status ≡ true
-judged_comes r status a c fs h =
-    let asks = h.asks in
+judged_comes r status a c fs (of_files asks read unrefused) =
     let line : Option Words = Some (words.Run asks.cfg asks.outdir asks.core asks.basedir asks.budget asks.jobs) in
     let q : Request = request asks.cfg asks.core asks.basedir in
     by_cause comes_judged refl refl line r status (under r line status asks.asked a)
-    (λ report says. judged_said asks.cfg asks.core asks.basedir asks.names r.before.misses r.now.misses r.before.faults r.now.faults
-    asks.no_fault c fs (subst (λ held. HasRead q held c fs) asks.told h.read) h.unrefused asks.outdir
-    asks.budget status report (told_checks r asks.names q asks.outdir asks.budget status report asks.told says))
+    (λ report says. judged_said asks.cfg asks.core asks.basedir asks.names r.before.misses r.now.misses
+    r.before.faults r.now.faults asks.no_fault c fs (subst (λ held. HasRead q held c fs) asks.told read) unrefused
+    wording.Run asks.outdir asks.budget status report
+    (told_checks r asks.names q asks.outdir asks.budget status report asks.told says))
+judged_comes r status a c fs (of_bench size is read unrefused) =
+    let line : Option Words = Some (words.Bench size) in
+    by_cause comes_judged refl refl line r status (under r line status is a)
+    (λ report says. judged_said bench.request.cfg bench.request.core bench.request.basedir (bench.held_of size)
+    says.misses says.misses_now 0 0 refl c fs read unrefused (wording.Bench size) bench.folder bench.budget status
+    report says.checks)
 
 fail_comes : (r : Run) (status : Status) → Answers status r → (c : Config) (fs : List (List ℕ)) (x : Check)
     (run : List Values) → IsAccepted r c fs → Contains (checks_of c) x → Violates c fs x run
     → comes_in_budget s.Failing status ≡ true
-fail_comes r status a c fs x run h there violates =
-    let asks = h.asks in
+fail_comes r status a c fs x run (of_files asks read unrefused) there violates =
     let line : Option Words = Some (words.Run asks.cfg asks.outdir asks.core asks.basedir asks.budget asks.jobs) in
     let q : Request = request asks.cfg asks.core asks.basedir in
     by_cause (comes_in_budget s.Failing) refl refl line r status (under r line status asks.asked a)
-    (λ report says. fail_said asks.cfg asks.core asks.basedir asks.names r.before.misses r.now.misses r.before.faults r.now.faults
-    asks.no_fault c fs (subst (λ held. HasRead q held c fs) asks.told h.read) h.unrefused asks.outdir
-    asks.budget status report x run
+    (λ report says. fail_said asks.cfg asks.core asks.basedir asks.names r.before.misses r.now.misses r.before.faults
+    r.now.faults asks.no_fault c fs (subst (λ held. HasRead q held c fs) asks.told read) unrefused wording.Run
+    asks.outdir asks.budget status report x run
     (told_checks r asks.names q asks.outdir asks.budget status report asks.told says) there violates)
+fail_comes r status a c fs x run (of_bench size is read unrefused) there violates =
+    let line : Option Words = Some (words.Bench size) in
+    by_cause (comes_in_budget s.Failing) refl refl line r status (under r line status is a)
+    (λ report says. fail_said bench.request.cfg bench.request.core bench.request.basedir (bench.held_of size)
+    says.misses says.misses_now 0 0 refl c fs read unrefused (wording.Bench size) bench.folder bench.budget status
+    report x run says.checks there violates)
 
 -- ---- each cause
 

@@ -41,7 +41,7 @@ seen_from before now = record {
   faults_now = now.faults;
 }
 
-cause_of : (q : Request) (seen : Seen) (f : Refusal) → is_memory f ≡ false → Comes q seen (Err f) → IsCause q seen f
+pub cause_of : (q : Request) (seen : Seen) (f : Refusal) → is_memory f ≡ false → Comes q seen (Err f) → IsCause q seen f
 cause_of q seen (refusal.Absent name) e x = x
 cause_of q seen (refusal.Unread name) e x = x
 cause_of q seen (refusal.Config f) e x = x

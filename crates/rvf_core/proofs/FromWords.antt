@@ -100,6 +100,7 @@ memory_statuses (Some (words.Run cfg outdir core basedir budget jobs)) r =
     λ names told no_fault f cause. comes_Memory (refused_status f)
 memory_statuses (Some (words.List cfg)) r = tt
 memory_statuses (Some (words.Lrat cnf proof)) r = tt
+memory_statuses (Some (words.Bench size)) r = tt
 
 pub line_ends : (found line : Option Words) (r : Run) (status : Status) → found ≡ line → Ends found r status
     → Ends line r status
@@ -161,3 +162,9 @@ module _ (l : Words) (r : Run) (status : Status) where
 
   pub lrat_statuses : (cnf proof : List ℕ) → l ≡ words.Lrat cnf proof → HaveStatus (Some l) r status
   lrat_statuses cnf proof e = subst (λ line. HaveStatus (Some line) r status) (sym e) tt
+
+  pub bench_ends : (size : ℕ) → l ≡ words.Bench size → Ends (Some (words.Bench size)) r status → Ends (Some l) r status
+  bench_ends size e x = subst (λ line. Ends (Some line) r status) (sym e) x
+
+  pub bench_statuses : (size : ℕ) → l ≡ words.Bench size → HaveStatus (Some l) r status
+  bench_statuses size e = subst (λ line. HaveStatus (Some line) r status) (sym e) tt

@@ -11,6 +11,8 @@ pub mod Exact
 pub mod FromFiles
 pub mod FromChecks
 pub mod FromWords
+pub mod FromBench
 pub mod Passes
 pub mod Members
 pub mod Instructions
+pub mod BenchText

@@ -142,6 +142,7 @@ module _ (names : Names) (misses misses_now faults faults_now : ℕ) (no_fault :
   same_told (words.List cfg) is status wanted report other x y = same_lists cfg status wanted report other x y
   same_told (words.Lrat cnf proof) is status wanted report other x y =
       same_certificates cnf proof status wanted report other x y
+  same_told (words.Bench size) is status wanted report other x y = absurd is
 
 -- the same, of a run whose files are told
 module _ (r : Run) (names : Names) (told : r.before.held ≡ Some names)

@@ -1,5 +1,5 @@
 -- The numbers that words ask for are in their ranges.
-use Rattle.std.proofs.Common.{◌≡◌, ℕ, ◌≤◌, Bool, true, false, if◌then◌else◌, List, Option, Some, None, IfSome}
+use Rattle.std.proofs.Common.{◌≡◌, ℕ, ◌<◌, ◌≤◌, Bool, true, false, if◌then◌else◌, List, Option, Some, None, IfSome}
 use Rattle.std.proofs.Common.{nat_le, option_and_then, option_map, refl, sym, subst, length, arith}
 use Rattle.std.proofs.lemmas.Bool.Decides.{nat_tests}
 use Rattle.std.specs.Prelude.{bytes_eq, codes}
@@ -9,7 +9,9 @@ use Rattle.clap.specs.Faults.{fault_of}
 use Rattle.fv_lines.specs.Numbers.{at_most, natural_of, number_up_to}
 use Rattle.rvf_words.specs.declared.line.Line.{Line}
 use Rattle.rvf_words.specs.declared.line.Line.TheVariants as line
-use Rattle.rvf_words.specs.Line.{asked, budget_of, count_of, jobs_of, line_of, list_line, lrat_line, run_line}
+use Rattle.rvf_words.specs.declared.line.Options.{Options}
+use Rattle.rvf_words.specs.Line.{asked, bench_line, budget_of, count_of, jobs_of, line_of, list_line, lrat_line}
+use Rattle.rvf_words.specs.Line.{options_in, run_line, size_of}
 use Rattle.rvf_words.specs.Table.{program}
 use Rattle.rvf_core.specs.Run.{IsLine}
 
@@ -62,7 +64,7 @@ from_one : (most n : ℕ) (is : Bool) → n ≤ most → nat_le 1 n ≡ is
 from_one most n true le e = (grind (arith, nat_tests), le)
 from_one most n false le e = tt
 
-counted : (most : ℕ) (digits : List ℕ) → IfSome (count_of most digits) (IsCount most)
+counted : (most : ℕ) (digits : List ℕ) → IfSome (count_of 1 most digits) (IsCount most)
 counted most digits =
     if_kept (IsCount most) (nat_le (length digits) 10)
     (option_and_then (λ n. if nat_le 1 n then Some n else None) (number_up_to most digits))
@@ -71,18 +73,34 @@ counted most digits =
 
 -- ---- lines
 
-run_in_range : (rows : List Row) → IfSome (run_line rows) IsLine
-run_in_range rows =
-    if_next IsLine _ (first_of (codes "cfg") rows) (λ cfg.
-    if_next IsLine _ (first_of (codes "outdir") rows) (λ outdir.
-    if_next IsLine _ (first_of (codes "core") rows) (λ core.
-    if_next IsLine _ (first_of (codes "basedir") rows) (λ basedir.
-    if_then (IsCount 1000000000) IsLine _ (option_and_then budget_of (first_of (codes "budget") rows))
+-- the numbers of options are in their ranges
+abbrev AreInRange : Options → Type 0
+AreInRange o = (0 < o.budget) × (1 ≤ o.jobs) × (o.jobs ≤ 64)
+
+options_in_range : (rows : List Row) → IfSome (options_in rows) AreInRange
+options_in_range rows =
+    if_next AreInRange _ (first_of (codes "cfg") rows) (λ cfg.
+    if_next AreInRange _ (first_of (codes "outdir") rows) (λ outdir.
+    if_next AreInRange _ (first_of (codes "core") rows) (λ core.
+    if_next AreInRange _ (first_of (codes "basedir") rows) (λ basedir.
+    if_then (IsCount 1000000000) AreInRange _ (option_and_then budget_of (first_of (codes "budget") rows))
     (if_next (IsCount 1000000000) budget_of (first_of (codes "budget") rows) (counted 1000000000)) (λ budget in_range.
-    if_mapped (IsCount 64) IsLine (λ jobs. line.Run cfg outdir core basedir budget jobs)
+    if_mapped (IsCount 64) AreInRange (λ jobs. record {
+      cfg = cfg;
+      outdir = outdir;
+      core = core;
+      basedir = basedir;
+      budget = budget;
+      jobs = jobs;
+    })
     (option_and_then jobs_of (first_of (codes "jobs") rows))
     (if_next (IsCount 64) jobs_of (first_of (codes "jobs") rows) (counted 64)) (λ jobs is.
     (in_range.0, is.0, is.1)))))))
+
+run_in_range : (rows : List Row) → IfSome (run_line rows) IsLine
+run_in_range rows =
+    if_mapped AreInRange IsLine (λ o. line.Run o.cfg o.outdir o.core o.basedir o.budget o.jobs) (options_in rows)
+    (options_in_range rows) (λ o is. is)
 
 list_in_range : (rows : List Row) → IfSome (list_line rows) IsLine
 list_in_range rows =
@@ -95,14 +113,24 @@ lrat_in_range rows =
     if_mapped (λ proof. Unit {0}) IsLine (λ proof. line.Lrat cnf proof) (first_of (codes "proof") rows)
     (if_any (first_of (codes "proof") rows)) (λ proof u. tt))
 
+bench_in_range : (rows : List Row) → IfSome (bench_line rows) IsLine
+bench_in_range rows =
+    if_mapped (λ size. Unit {0}) IsLine (λ size. line.Bench size)
+    (option_and_then size_of (first_of (codes "size") rows))
+    (if_any (option_and_then size_of (first_of (codes "size") rows))) (λ size u. tt)
+
 asked_in_range : (name : List ℕ) (rows : List Row) → IfSome (asked name rows) IsLine
 asked_in_range name rows =
     if_chosen IsLine (bytes_eq name (codes "run")) (run_line rows)
     (if bytes_eq name (codes "list") then list_line rows
-    else if bytes_eq name (codes "lrat") then lrat_line rows else None) (run_in_range rows)
+    else if bytes_eq name (codes "lrat") then lrat_line rows
+    else if bytes_eq name (codes "bench") then bench_line rows else None) (run_in_range rows)
     (if_chosen IsLine (bytes_eq name (codes "list")) (list_line rows)
-    (if bytes_eq name (codes "lrat") then lrat_line rows else None) (list_in_range rows)
-    (if_kept IsLine (bytes_eq name (codes "lrat")) (lrat_line rows) (lrat_in_range rows)))
+    (if bytes_eq name (codes "lrat") then lrat_line rows
+    else if bytes_eq name (codes "bench") then bench_line rows else None) (list_in_range rows)
+    (if_chosen IsLine (bytes_eq name (codes "lrat")) (lrat_line rows)
+    (if bytes_eq name (codes "bench") then bench_line rows else None) (lrat_in_range rows)
+    (if_kept IsLine (bytes_eq name (codes "bench")) (bench_line rows) (bench_in_range rows))))
 
 line_in_range : (words : List (List ℕ)) → IfSome (line_of words) IsLine
 line_in_range words =

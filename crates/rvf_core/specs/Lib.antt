@@ -1,6 +1,7 @@
 pub mod Verdicts
 pub mod Checks
 pub mod Lists
+pub mod Bench
 pub mod Certificate
 pub mod Certifies
 pub mod Unread

@@ -1,6 +1,6 @@
 -- Meaning: What an answer of the top call means: its cause, and its report. Rules of this project.
 use Rattle.std.specs.Prelude.{◌≡◌, ℕ, ◌<◌, ◌≤◌, ◌+◌, ◌-◌, ◌^◌, Bool, true, false, ◌||◌, ◌==◌, nat_le, min, List, []}
-use Rattle.std.specs.Prelude.{◌∷◌, Option, Some, None, codes}
+use Rattle.std.specs.Prelude.{◌∷◌, ◌++◌, Option, Some, None, codes}
 use Rattle.std.specs.List.{All, Contains}
 use Rattle.fv_base.specs.Outside.{Names}
 use Rattle.vl_size.specs.Size.{Values}
@@ -21,6 +21,7 @@ use Rattle.rvf_report.specs.declared.delivery.Delivery.{Delivery}
 use Rattle.rvf_report.specs.declared.delivery.Delivery.TheVariants.{Line}
 use Rattle.rvf_report.specs.declared.status.Status.{Status}
 use Rattle.rvf_report.specs.declared.status.Status.TheVariants as s
+use Rattle.rvf_core.specs.Bench as bench
 use Rattle.rvf_core.specs.Certifies.{Certifies}
 use Rattle.rvf_core.specs.Checks.{Checks, HasRead, IsBegun, refused_status}
 use Rattle.rvf_core.specs.Lists.{Lists}
@@ -56,12 +57,20 @@ IsLine line = Unit {0}
 
 abbrev pub usage_line : List ℕ
 usage_line =
-    codes "usage: rvf run CFG OUTDIR [--core NAME] [--basedir DIR] [--budget N] [--jobs N] | list CFG | lrat CNF PROOF\n"
+    codes "usage: rvf run CFG OUTDIR [--core NAME] [--basedir DIR] [--budget N] [--jobs N] | list CFG | lrat CNF PROOF"
+    ++ codes " | bench N\n"
 
 -- other words
 pub record Misuses (status : Status) (report : List Delivery) : Type 0 where
   pub status_is : status ≡ s.Usage
   pub report_is : report ≡ Line usage_line ∷ []
+
+-- a status has its cause where `bench` asks for the checks of the design that it makes, and this is its report
+pub record Benches (size : ℕ) (status : Status) (report : List Delivery) : Type 0 where
+  pub misses : ℕ
+  pub misses_now : ℕ
+  pub checks : Checks bench.request (bench.seen_of size misses misses_now) (wording.Bench size) bench.folder
+      bench.budget status report
 
 -- a status has its cause, under what the words ask for, and this is its report
 abbrev pub Says : Option Words → Seen → Status → List Delivery → Type 0
@@ -70,11 +79,14 @@ Says (Some (words.Run cfg outdir core basedir budget jobs)) seen status report =
     Checks (request cfg core basedir) seen wording.Run outdir budget status report
 Says (Some (words.List cfg)) seen status report = Lists cfg seen status report
 Says (Some (words.Lrat cnf proof)) seen status report = Certifies cnf proof seen status report
+Says (Some (words.Bench size)) seen status report = Benches size status report
 
 -- a report of which not all is known yet: the checks are judged one by one
 abbrev pub Begins : Option Words → Seen → List Delivery → Type 0
 Begins (Some (words.Run cfg outdir core basedir budget jobs)) seen report =
     IsBegun (request cfg core basedir) seen.held wording.Run outdir budget report
+Begins (Some (words.Bench size)) seen report =
+    IsBegun bench.request (Some (bench.held_of size)) (wording.Bench size) bench.folder bench.budget report
 Begins asked seen report = ⊥
 
 -- the report of some status, or as far as it is known
@@ -137,15 +149,21 @@ pub record HasCause (r : Run) (f : Refusal) : Type 0 where
   pub asks : Asks r
   pub cause : IsCause (request asks.cfg asks.core asks.basedir) (seen_in r) f
 
--- all is read, and no text is refused
-pub record IsAccepted (r : Run) (c : Config) (files : List (List ℕ)) : Type 0 where
-  pub asks : Asks r
-  pub read : HasRead (request asks.cfg asks.core asks.basedir) r.before.held c files
-  pub unrefused : AreUnrefused c files (check_questions c) (leaders c (check_questions c))
+-- no part refuses the texts of the checks
+abbrev pub AreAccepted : Config → List (List ℕ) → Type 0
+AreAccepted c files = AreUnrefused c files (check_questions c) (leaders c (check_questions c))
+
+-- all is read, and no text is refused: of the files that the words name, or of what `bench` makes
+pub data IsAccepted (r : Run) (c : Config) (files : List (List ℕ)) : Type 0 where
+  of_files : (asks : Asks r) → HasRead (request asks.cfg asks.core asks.basedir) r.before.held c files
+      → AreAccepted c files → IsAccepted r c files
+  of_bench : (size : ℕ) → line_of r.words ≡ Some (words.Bench size)
+      → HasRead bench.request (Some (bench.held_of size)) c files → AreAccepted c files → IsAccepted r c files
 
 -- the words ask for names of checks or for the check of a certificate, the files are told, and no read or write failed
 abbrev pub IsOther : Words → Type 0
 IsOther (words.Run cfg outdir core basedir budget jobs) = ⊥
+IsOther (words.Bench size) = ⊥
 IsOther asked = Unit {0}
 
 pub record AsksOther (r : Run) (asked : Words) : Type 0 where

@@ -1,61 +1,24 @@
 //! `run CFG OUTDIR`
 
 ghost use Rattle.std.specs.Prelude.{◌≡◌, ◌≤◌, ◌<◌, ℕ, List, Some};
-ghost use Rattle.bm_decide.specs.Searches.{TakesFewer};
 ghost use Rattle.rvf_words.specs.declared.line.Line.TheVariants as words;
-ghost use Rattle.rvf_case.specs.Cases.{IsReady};
-ghost use Rattle.rvf_checks.specs.Checked.{plan_of};
-ghost use Rattle.rvf_checks.specs.declared.wording.Wording.TheVariants as wording;
 ghost use Rattle.rvf_core.specs.Run.{Ends, HasCounts};
 ghost use Rattle.rvf_core.specs.Steps.{HaveStatus};
 ghost use Rattle.rvf_report.specs.Outcome.{outside};
-ghost use Rattle.rvf_report.specs.Reports.{Concludes};
-ghost use Rattle.rvf_report.specs.Status.{UnlessBroken};
 
 use crate::refusing::refused;
 use crate::reporting::put_report;
+use crate::terms::{Terms, judged};
 use crate::work::Work;
 use bm_decide::Plain;
 use fv_base::{Files, Out};
-use rvf_case::{Asking, Case, Request, prepare};
-use rvf_checks::{Checks, Wording};
+use rvf_case::{Asking, Request, prepare};
+use rvf_checks::Wording;
 use rvf_jobs::Gate;
 use rvf_judge::sources_law::judgements_are_the_sources;
-use rvf_report::{Status, conclude};
+use rvf_report::Status;
 use std::alloc::Global;
 use std::thread::Threads;
-
-/// Judges the checks of a case, and delivers what they come to.
-fn judged<R: Threads + Sync, F: Files, O: Out, G: Gate>(
-    rt: &R,
-    alloc: Global,
-    case: &Case,
-    work: &Work<'_>,
-    gate: &G,
-    files: &mut F,
-    out: &mut O,
-) -> Status
-    requires ready { IsReady case.now }
-    requires budget { 0 < work.now.budget }
-    requires jobs { 1 ≤ work.now.jobs }
-    ensures concluded { Concludes (plan_of TakesFewer case.now wording.Run work.now.outdir.now work.now.budget) result
-        (outside (F.held files.old) (F.misses files.old) (F.faults files.old) (O.sent out.old) (O.faults out.old))
-        (outside (F.held files.new) (F.misses files.new) (F.faults files.new) (O.sent out.new) (O.faults out.new)) }
-    ensures misses_kept { F.misses files.new ≡ F.misses files.old }
-    ensures faults_grow { F.faults files.old ≤ F.faults files.new }
-    ensures out_faults_grow { O.faults out.old ≤ O.faults out.new }
-    ensures quiet { UnlessBroken result
-        ((F.faults files.new ≡ F.faults files.old) × (O.faults out.new ≡ O.faults out.old)) }
-{
-    let checks = Checks {
-        gate,
-        case,
-        wording: Wording::Run,
-        folder: work.outdir,
-        budget: work.budget,
-    };
-    conclude(rt, alloc, &checks, work.jobs, files, out)
-}
 
 /// Judges the checks of a configuration and delivers what they come to; or says why it doesn't.
 pub(crate) fn check<R: Threads + Sync, F: Files, O: Out, G: Gate>(
@@ -97,8 +60,14 @@ pub(crate) fn check<R: Threads + Sync, F: Files, O: Out, G: Gate>(
         basedir: work.basedir,
         asking: Asking::Checks,
     };
+    let terms = Terms {
+        wording: Wording::Run,
+        folder: work.outdir,
+        budget: work.budget,
+        jobs: work.jobs,
+    };
     match prepare(alloc, request, files) {
-        Ok(case) => judged(rt, alloc, &case, work, gate, files, out),
+        Ok(case) => judged(rt, alloc, &case, &terms, gate, files, out),
         Err(refusal) => put_report(alloc, refused(alloc, &refusal), files, out),
     }
 }

@@ -1,6 +1,8 @@
 //! The top call: from the words of the command line, over files and an output that may fail, to a status.
 #![tactic(auto)]
 
+mod bench_files;
+mod benching;
 mod certificate;
 mod certifying;
 mod checking;
@@ -11,6 +13,7 @@ mod refusing;
 mod report;
 mod reporting;
 mod shared;
+mod terms;
 mod top;
 mod work;
 

@@ -8,6 +8,7 @@ ghost use Rattle.rvf_report.specs.declared.status.Status.TheVariants.{Usage};
 ghost use Rattle.rvf_report.specs.Outcome.{outside};
 ghost use Rattle.rvf_words.specs.Line.{line_of};
 
+use crate::benching::bench;
 use crate::certifying::refute;
 use crate::checking::check;
 use crate::listing::list;
@@ -25,15 +26,16 @@ use std::thread::Threads;
 /// The line that is put where the words aren't understood.
 const USAGE: &[u8] =
     b"usage: rvf run CFG OUTDIR [--core NAME] [--basedir DIR] [--budget N] [--jobs N] \
-| list CFG | lrat CNF PROOF\n";
+| list CFG | lrat CNF PROOF | bench N\n";
 
 /// Does what the words ask for, delivers what it found, and answers how it ended.
 ///
 /// `words` are the words behind the program's name. `run CFG OUTDIR` judges the checks of a configuration. Each pass
 /// and each spent budget comes behind the files `OUTDIR/NAME.cnf` and `OUTDIR/NAME.lrat`, clauses with notes and steps
 /// over them, each fail behind `OUTDIR/NAME.vcd`, the trace of a run that violates the check. `list CFG` puts the names
-/// of the checks. `lrat CNF PROOF` checks that the steps of a proof refute the clauses of a file. A refusal has one
-/// line that names its cause.
+/// of the checks. `lrat CNF PROOF` checks that the steps of a proof refute the clauses of a file. `bench N` judges the
+/// checks of a design with N registers that it makes, and puts how many came to what. A refusal has one line that names
+/// its cause.
 pub fn run<R: Threads + Sync, F: Files, O: Out>(
     rt: &R,
     alloc: Global,
@@ -166,5 +168,6 @@ fn done<R: Threads + Sync, F: Files, O: Out, G: Gate>(
             let report = refute(alloc, cnf.bytes(), proof.bytes(), files);
             put_report(alloc, report, files, out)
         }
+        Line::Bench { size } => bench(rt, alloc, *size, gate, files, out),
     }
 }

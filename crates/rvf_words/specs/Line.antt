@@ -1,35 +1,49 @@
 -- Meaning: What the words of a command line ask for. Rule of this project.
-use Rattle.std.specs.Prelude.{ℕ, List, [], ◌∷◌, Option, Some, None, length, nat_le, nat_lt, bytes_eq}
+use Rattle.std.specs.Prelude.{ℕ, List, [], ◌∷◌, Option, Some, None, length, nat_le, bytes_eq}
 use Rattle.std.specs.Prelude.{if◌then◌else◌, codes, option_and_then, option_map}
 use Rattle.fv_lines.specs.Numbers.{number_up_to}
 use Rattle.clap.specs.Words.{Row, Text, first_of, subcommand_of}
 use Rattle.clap.specs.Walk.{is_empty}
 use Rattle.clap.specs.Faults.{fault_of}
 use Rattle.rvf_words.specs.declared.line.Line.{Line}
-use Rattle.rvf_words.specs.declared.line.Line.TheVariants.{Run, List as Listed, Lrat}
+use Rattle.rvf_words.specs.declared.line.Line.TheVariants.{Run, List as Listed, Lrat, Bench}
+use Rattle.rvf_words.specs.declared.line.Options.{Options}
 use Rattle.rvf_words.specs.Table.{program}
 
--- one to ten digits, a number from 1 to the most
-abbrev pub count_of : ℕ → Text → Option ℕ
-count_of most digits =
+-- one to ten digits, a number from the least to the most
+abbrev pub count_of : ℕ → ℕ → Text → Option ℕ
+count_of least most digits =
     if nat_le (length digits) 10
-    then option_and_then (λ n. if nat_le 1 n then Some n else None) (number_up_to most digits)
+    then option_and_then (λ n. if nat_le least n then Some n else None) (number_up_to most digits)
     else None
 
 abbrev pub budget_of : Text → Option ℕ
-budget_of digits = count_of 1000000000 digits
+budget_of digits = count_of 1 1000000000 digits
 
 abbrev pub jobs_of : Text → Option ℕ
-jobs_of digits = count_of 64 digits
+jobs_of digits = count_of 1 64 digits
 
-abbrev pub run_line : List Row → Option Line
-run_line rows =
+abbrev pub size_of : Text → Option ℕ
+size_of digits = count_of 2 32 digits
+
+-- the values of the operands and options of a subcommand that judges what a configuration asks for
+abbrev pub options_in : List Row → Option Options
+options_in rows =
     option_and_then (λ cfg. option_and_then (λ outdir. option_and_then (λ core. option_and_then (λ basedir.
-    option_and_then (λ budget. option_map (λ jobs. Run cfg outdir core basedir budget jobs)
-    (option_and_then jobs_of (first_of (codes "jobs") rows)))
+    option_and_then (λ budget. option_map (λ jobs. record {
+      cfg = cfg;
+      outdir = outdir;
+      core = core;
+      basedir = basedir;
+      budget = budget;
+      jobs = jobs;
+    }) (option_and_then jobs_of (first_of (codes "jobs") rows)))
     (option_and_then budget_of (first_of (codes "budget") rows)))
     (first_of (codes "basedir") rows)) (first_of (codes "core") rows)) (first_of (codes "outdir") rows))
     (first_of (codes "cfg") rows)
+
+abbrev pub run_line : List Row → Option Line
+run_line rows = option_map (λ o. Run o.cfg o.outdir o.core o.basedir o.budget o.jobs) (options_in rows)
 
 abbrev pub list_line : List Row → Option Line
 list_line rows = option_map (λ cfg. Listed cfg) (first_of (codes "cfg") rows)
@@ -39,12 +53,16 @@ lrat_line rows =
     option_and_then (λ cnf. option_map (λ proof. Lrat cnf proof) (first_of (codes "proof") rows))
     (first_of (codes "cnf") rows)
 
+abbrev pub bench_line : List Row → Option Line
+bench_line rows = option_map (λ size. Bench size) (option_and_then size_of (first_of (codes "size") rows))
+
 -- what a subcommand asks for with the values of its operands and options
 abbrev pub asked : Text → List Row → Option Line
 asked name rows =
     if bytes_eq name (codes "run") then run_line rows
     else if bytes_eq name (codes "list") then list_line rows
-    else if bytes_eq name (codes "lrat") then lrat_line rows else None
+    else if bytes_eq name (codes "lrat") then lrat_line rows
+    else if bytes_eq name (codes "bench") then bench_line rows else None
 
 -- what words ask for; None where the table refuses them, or a number isn't in its range
 abbrev pub line_of : List Text → Option Line

@@ -11,13 +11,17 @@ operand id = record (new_rule id) { required = true }
 abbrev pub choice : Text → Text → Rule
 choice id default = record (new_rule id) { long = Some id; defaults = default ∷ [] }
 
--- `run CFG OUTDIR [--core NAME] [--basedir DIR] [--budget N] [--jobs N]`
-abbrev pub run : App
-run =
-    with_rule (with_rule (with_rule (with_rule (with_rule (with_rule (new_app (codes "run"))
+-- `CFG OUTDIR [--core NAME] [--basedir DIR] [--budget N] [--jobs N]`
+abbrev pub with_options : App → App
+with_options app =
+    with_rule (with_rule (with_rule (with_rule (with_rule (with_rule app
     (operand (codes "cfg"))) (operand (codes "outdir")))
     (choice (codes "core") (codes "core"))) (choice (codes "basedir") (codes ".")))
     (choice (codes "budget") (codes "200000"))) (choice (codes "jobs") (codes "1"))
+
+-- `run` with these
+abbrev pub run : App
+run = with_options (new_app (codes "run"))
 
 -- `list CFG`
 abbrev pub list : App
@@ -27,10 +31,18 @@ list = with_rule (new_app (codes "list")) (operand (codes "cfg"))
 abbrev pub lrat : App
 lrat = with_rule (with_rule (new_app (codes "lrat")) (operand (codes "cnf"))) (operand (codes "proof"))
 
+-- `bench N`
+abbrev pub bench : App
+bench = with_rule (new_app (codes "bench")) (operand (codes "size"))
+
 -- the words behind the program's name, of which the first has to be a subcommand
 abbrev pub top : Shape
 top = record (new_app (codes "rvf")).top { no_binary_name = true; subcommand_required = true }
 
+-- the program without its subcommands
+abbrev pub alone : App
+alone = record { top = top; subs = [] }
+
 abbrev pub program : App
 program =
-    with_subcommand (with_subcommand (with_subcommand (record { top = top; subs = [] }) run.top) list.top) lrat.top
+    with_subcommand (with_subcommand (with_subcommand (with_subcommand alone run.top) list.top) lrat.top) bench.top

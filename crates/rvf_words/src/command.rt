@@ -33,17 +33,25 @@ fn with<'a>(command: Command<'a>, arg: Arg<'a>) -> Result<Command<'a>, Memory>
     Ok(command.arg(arg)?)
 }
 
-/// The words of `run`.
-fn run<'a>(alloc: Global) -> Result<Command<'a>, Memory>
-    ensures shape { IfOk result (λ made. app_of made ≡ table.run) }
+/// The operands and options of a subcommand that judges what a configuration asks for, behind those that it has.
+fn with_options<'a>(alloc: Global, command: Command<'a>) -> Result<Command<'a>, Memory>
+    requires plain { (fields_of command).has_globals ≡ false }
+    ensures shape { IfOk result (λ made. app_of made ≡ table.with_options (app_of command.entry)) }
     ensures plain { IfOk result (λ made. (fields_of made).has_globals ≡ false) }
 {
-    let config = with(Command::new(alloc, "run"), operand(alloc, "cfg"))?;
+    let config = with(command, operand(alloc, "cfg"))?;
     let folder = with(config, operand(alloc, "outdir"))?;
     let core = with(folder, choice(alloc, "core", "core"))?;
     let base = with(core, choice(alloc, "basedir", "."))?;
     let budget = with(base, choice(alloc, "budget", "200000"))?;
     with(budget, choice(alloc, "jobs", "1"))
+}
+
+fn run<'a>(alloc: Global) -> Result<Command<'a>, Memory>
+    ensures shape { IfOk result (λ made. app_of made ≡ table.run) }
+    ensures plain { IfOk result (λ made. (fields_of made).has_globals ≡ false) }
+{
+    with_options(alloc, Command::new(alloc, "run"))
 }
 
 fn list<'a>(alloc: Global) -> Result<Command<'a>, Memory>
@@ -61,6 +69,13 @@ fn lrat<'a>(alloc: Global) -> Result<Command<'a>, Memory>
     with(clauses, operand(alloc, "proof"))
 }
 
+fn bench<'a>(alloc: Global) -> Result<Command<'a>, Memory>
+    ensures shape { IfOk result (λ made. app_of made ≡ table.bench) }
+    ensures plain { IfOk result (λ made. (fields_of made).has_globals ≡ false) }
+{
+    with(Command::new(alloc, "bench"), operand(alloc, "size"))
+}
+
 fn below<'a>(command: Command<'a>, subcommand: Command<'a>) -> Result<Command<'a>, Memory>
     requires { (fields_of subcommand).has_globals ≡ false }
     ensures { IfOk result (λ made. app_of made ≡ with_subcommand (app_of command.entry) (shape_of subcommand.entry)) }
@@ -68,14 +83,21 @@ fn below<'a>(command: Command<'a>, subcommand: Command<'a>) -> Result<Command<'a
     Ok(command.subcommand(subcommand)?)
 }
 
+/// The program without its subcommands.
+fn alone<'a>(alloc: Global) -> Command<'a>
+    ensures { app_of result ≡ table.alone }
+{
+    Command::new(alloc, "rvf")
+        .no_binary_name(true)
+        .subcommand_required(true)
+}
+
 /// The command with its subcommands.
 pub(crate) fn program<'a>(alloc: Global) -> Result<Command<'a>, Memory>
     ensures { IfOk result (λ made. app_of made ≡ table.program) }
 {
-    let top = Command::new(alloc, "rvf")
-        .no_binary_name(true)
-        .subcommand_required(true);
-    let checks = below(top, run(alloc)?)?;
+    let checks = below(alone(alloc), run(alloc)?)?;
     let names = below(checks, list(alloc)?)?;
-    below(names, lrat(alloc)?)
+    let proofs = below(names, lrat(alloc)?)?;
+    below(proofs, bench(alloc)?)
 }

@@ -5,5 +5,5 @@ mod command;
 mod line;
 mod read;
 
-pub use line::Line;
+pub use line::{Line, Options};
 pub use read::read_words;

@@ -30,4 +30,26 @@ pub enum Line {
         /// The file of the steps, in LRAT.
         proof: Text,
     },
+    /// `bench N`: the checks of the design that is made for it.
+    Bench {
+        /// How many words the design has, from 2 to 32.
+        size: u32,
+    },
+}
+
+/// What the words say behind the name of a subcommand that judges what a configuration asks for.
+#[derive(Debug, Drop)]
+pub struct Options {
+    /// The file of the configuration.
+    pub cfg: Text,
+    /// The folder that files are written to.
+    pub outdir: Text,
+    /// The name of the core, which `@core@` stands for in the configuration.
+    pub core: Text,
+    /// The folder that `@basedir@` stands for in the configuration.
+    pub basedir: Text,
+    /// How many clauses each search may derive, from 1 to 1,000,000,000.
+    pub budget: u64,
+    /// How many jobs are done beside each other, from 1 to 64.
+    pub jobs: u32,
 }

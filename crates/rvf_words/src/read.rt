@@ -5,7 +5,7 @@ ghost use Rattle.clap.specs.Walk.{first_of, rows_of};
 ghost use Rattle.rvf_words.specs.Line as line;
 
 use crate::command::program;
-use crate::line::Line;
+use crate::line::{Line, Options};
 use clap::error::ErrorKind;
 use clap::{ArgMatches, Error};
 use fv_lines::number_up_to;
@@ -17,6 +17,11 @@ const MOST_CLAUSES: u64 = 1_000_000_000;
 
 /// The most checks that may be judged beside each other.
 const MOST_JOBS: u64 = 64;
+
+/// The fewest and the most words of the design of `bench`.
+const FEWEST_WORDS: u64 = 2;
+
+const MOST_WORDS: u64 = 32;
 
 /// An argument's value, where it has one.
 fn value_of<'a>(matches: &ArgMatches<'a>, id: &str) -> Option<&'a str>
@@ -46,38 +51,49 @@ fn text_of(alloc: Global, matches: &ArgMatches<'_>, id: &str) -> Result<Option<T
     Ok(found)
 }
 
-/// The number of one to ten digits, where it is from 1 to the most.
-fn count_of(digits: &str, most: u64) -> Option<u64>
+/// The number of one to ten digits, where it is from the least to the most.
+fn count_of(digits: &str, least: u64, most: u64) -> Option<u64>
     requires { most < 1000000000000000000 }
-    ensures { result ≡ line.count_of most digits.now }
+    ensures { result ≡ line.count_of least most digits.now }
 {
     let bytes = digits.as_bytes();
     if bytes.len() > 10 {
         return None;
     }
     let number = number_up_to(bytes, most)?;
-    if number == 0 { None } else { Some(number) }
+    if number >= least { Some(number) } else { None }
 }
 
 /// The number in the range of budgets.
 fn budget_of(digits: &str) -> Option<u64>
     ensures { result ≡ line.budget_of digits.now }
 {
-    count_of(digits, MOST_CLAUSES)
+    count_of(digits, 1, MOST_CLAUSES)
 }
 
 /// The number in the range of jobs.
 fn jobs_of(digits: &str) -> Option<u32>
     ensures { result ≡ line.jobs_of digits.now }
 {
-    match count_of(digits, MOST_JOBS) {
+    match count_of(digits, 1, MOST_JOBS) {
         Some(jobs) => Some(jobs as u32),
         None => None,
     }
 }
 
-fn run_line(alloc: Global, matches: &ArgMatches<'_>) -> Result<Option<Line>, Memory>
-    ensures { IfOk result (λ made. made ≡ line.run_line (rows_of (found_of matches.now))) }
+/// The number in the range of words of the design of `bench`.
+fn size_of(digits: &str) -> Option<u32>
+    ensures { result ≡ line.size_of digits.now }
+{
+    match count_of(digits, FEWEST_WORDS, MOST_WORDS) {
+        Some(size) => Some(size as u32),
+        None => None,
+    }
+}
+
+/// The operands and options of a subcommand that judges what a configuration asks for.
+fn options_of(alloc: Global, matches: &ArgMatches<'_>) -> Result<Option<Options>, Memory>
+    ensures { IfOk result (λ made. made ≡ line.options_in (rows_of (found_of matches.now))) }
 {
     let Some(cfg) = text_of(alloc, matches, "cfg")? else {
         return Ok(None)
@@ -103,13 +119,29 @@ fn run_line(alloc: Global, matches: &ArgMatches<'_>) -> Result<Option<Line>, Mem
     let Some(jobs) = jobs_of(digits) else {
         return Ok(None)
     };
-    Ok(Some(Line::Run {
+    Ok(Some(Options {
         cfg,
         outdir,
         core,
         basedir,
         budget,
         jobs,
+    }))
+}
+
+fn run_line(alloc: Global, matches: &ArgMatches<'_>) -> Result<Option<Line>, Memory>
+    ensures { IfOk result (λ made. made ≡ line.run_line (rows_of (found_of matches.now))) }
+{
+    let Some(options) = options_of(alloc, matches)? else {
+        return Ok(None)
+    };
+    Ok(Some(Line::Run {
+        cfg: options.cfg,
+        outdir: options.outdir,
+        core: options.core,
+        basedir: options.basedir,
+        budget: options.budget,
+        jobs: options.jobs,
     }))
 }
 
@@ -134,6 +166,13 @@ fn lrat_line(alloc: Global, matches: &ArgMatches<'_>) -> Result<Option<Line>, Me
     Ok(Some(Line::Lrat { cnf, proof }))
 }
 
+fn bench_line(matches: &ArgMatches<'_>) -> Option<Line>
+    ensures { result ≡ line.bench_line (rows_of (found_of matches.now)) }
+{
+    let size = size_of(value_of(matches, "size")?)?;
+    Some(Line::Bench { size })
+}
+
 fn asked(alloc: Global, matches: &ArgMatches<'_>) -> Result<Option<Line>, Memory>
     ensures { IfOk result (λ made. made
         ≡ option_and_then (λ used. line.asked used.0 used.1) (subcommand_rows_of matches.now)) }
@@ -142,6 +181,7 @@ fn asked(alloc: Global, matches: &ArgMatches<'_>) -> Result<Option<Line>, Memory
         Some((name, found)) if name == "run" => run_line(alloc, found),
         Some((name, found)) if name == "list" => list_line(alloc, found),
         Some((name, found)) if name == "lrat" => lrat_line(alloc, found),
+        Some((name, found)) if name == "bench" => Ok(bench_line(found)),
         _ => Ok(None),
     }
 }

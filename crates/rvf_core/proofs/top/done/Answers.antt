@@ -1,6 +1,7 @@
 use Rattle.std.proofs.Common.{arith, refl}
 use Rattle.rvf_core.proofs.FromChecks.{le_itself}
-use Rattle.rvf_core.proofs.FromWords.{certificate_ends, list_ends, list_statuses, lrat_ends, lrat_statuses, names_end}
+use Rattle.rvf_core.proofs.FromWords.{bench_ends, bench_statuses, certificate_ends, list_ends, list_statuses, lrat_ends}
+use Rattle.rvf_core.proofs.FromWords.{lrat_statuses, names_end}
 use Rattle.rvf_core.proofs.FromWords.{run_ends, run_statuses}
 use Rattle.rvf_report.specs.Outcome.{outside}
 use Rattle.rvf_core.proofs.Quiet.{put_counts}
@@ -40,6 +41,14 @@ returns-in-Lrat-clause-ends g c = λ asked.
 pub returns-in-Lrat-clause-statuses : goal.returns-in-Lrat-clause-statuses
 returns-in-Lrat-clause-statuses g c = λ asked.
     lrat_statuses c.args.line.now _ c.put_report-in-Lrat.result _ _ c.in-Lrat.is
+
+pub returns-in-Bench-clause-ends : goal.returns-in-Bench-clause-ends
+returns-in-Bench-clause-ends g c = λ asked.
+    bench_ends c.args.line.now _ c.bench.result c.in-Bench.size c.in-Bench.is (c.bench.ensures.ends asked)
+
+pub returns-in-Bench-clause-statuses : goal.returns-in-Bench-clause-statuses
+returns-in-Bench-clause-statuses g c = λ asked.
+    bench_statuses c.args.line.now _ c.bench.result c.in-Bench.size c.in-Bench.is
 
 pub returns-in-List-clause-counts : goal.returns-in-List-clause-counts
 returns-in-List-clause-counts g c =

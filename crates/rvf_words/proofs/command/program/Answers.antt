@@ -1,0 +1,28 @@
+use Rattle.std.proofs.Common.{◌≡◌, ap, ap₂, ◌∙◌}
+use Rattle.std.proofs.lemmas.Result.{IfOk-weaker}
+use Rattle.clap.specs.Words.{App, Shape, app_of, with_subcommand}
+use Rattle.rvf_words.specs.Table as table
+use Rattle.rvf_words.proofs.command.program.Goals as goal
+
+abbrev top_of : App → Shape
+top_of a = a.top
+
+abbrev with_run : App
+with_run = with_subcommand table.alone table.run.top
+
+abbrev with_list : App
+with_list = with_subcommand with_run table.list.top
+
+abbrev with_lrat : App
+with_lrat = with_subcommand with_list table.lrat.top
+
+pub returns : goal.returns
+returns c =
+    let run_is : app_of c.in_ok-checks.checks ≡ with_run =
+    c.in_ok-checks.ensures ∙ ap₂ with_subcommand c.alone.ensures (ap top_of c.in_ok-run.ensures.shape) in
+    let list_is : app_of c.in_ok-names.names ≡ with_list =
+    c.in_ok-names.ensures ∙ ap₂ with_subcommand run_is (ap top_of c.in_ok-list.ensures.shape) in
+    let lrat_is : app_of c.in_ok-proofs.proofs ≡ with_lrat =
+    c.in_ok-proofs.ensures ∙ ap₂ with_subcommand list_is (ap top_of c.in_ok-lrat.ensures.shape) in
+    IfOk-weaker c.below-4.result _ _ (λ m h. h ∙ ap₂ with_subcommand lrat_is (ap top_of c.in_ok-bench.ensures.shape))
+    c.below-4.ensures
