@@ -1,1 +1,10 @@
+pub mod Bodies
+pub mod Built
+pub mod Circles
+pub mod Faults
+pub mod Header
+pub mod Lines
+pub mod Profile
+pub mod Said
+pub mod Wires
 pub mod Written

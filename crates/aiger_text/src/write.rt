@@ -1,5 +1,6 @@
 ghost use Rattle.std.specs.Prelude.{◌≡◌, ◌<◌, ◌≤◌, ◌++◌, ◌^◌, length, IfOk, OnOk};
-ghost use Rattle.bb_aig.specs.Graph.{inputs_of};
+ghost use Rattle.bb_aig.specs.Graph.{inputs_of, IsLit};
+ghost use Rattle.aiger_text.specs.Profile.{SaysGraph};
 ghost use Rattle.aiger_text.specs.Written.{
   aag_text,
   header_text,
@@ -19,7 +20,8 @@ use std::alloc::Global;
 
 /// The text of a graph, whose output is the root, with names of its inputs, in order.
 pub fn aag(alloc: Global, aig: &Aig, root: Lit, names: &[Text]) -> Result<Vec<u8>, Memory>
-    ensures { IfOk result (λ bytes. bytes.items ≡ aag_text aig.now root names.now) }
+    ensures text { IfOk result (λ bytes. bytes.items ≡ aag_text aig.now root names.now) }
+    ensures says { IfOk result (λ bytes. IsLit aig.now root → SaysGraph bytes.items aig.now root) }
 {
     let mut out = Vec::new(alloc);
     let nodes = aig.behind_false();

@@ -1,10 +1,11 @@
-//! Cases of configurations, clause files, proofs, searches and value-change dumps. A case is a line: a word that says
-//! what is tried, and a text with `\n`, `\t`, `\r`, `\\` and `\xHH` for bytes. Cases of command lines stand in a module
-//! of their own. This crate says what the crates under it answer, and promises nothing of its own.
+//! Cases of configurations, clause files, proofs, searches, value-change dumps and graphs. A case is a line: a word that
+//! says what is tried, and a text with `\n`, `\t`, `\r`, `\\` and `\xHH` for bytes. Cases of command lines stand in a
+//! module of their own. This crate says what the crates under it answer, and promises nothing of its own.
 #![tactic(auto)]
 
 mod config;
 mod dump;
+mod graph;
 pub mod words;
 
 use certificate_answers::read_escaped;
@@ -33,6 +34,8 @@ fn put(alloc: Global, out: &mut String, word: &str, text: &[u8]) -> Result<(), M
         "long-section" => config::put_long_section(alloc, out),
         "dump" => dump::put_reading(alloc, out, text),
         "cut-dump" => dump::put_cut(alloc, out, text),
+        "graph" => graph::put_reading(alloc, out, text),
+        "large-graph" => graph::put_large(alloc, out, text),
         _ => put_certificate(alloc, out, word, text),
     }
 }

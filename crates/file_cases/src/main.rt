@@ -1,6 +1,6 @@
 //! Cases of files and of command lines, one a line of standard input, as `file_answers` reads them. A line `== KIND`
-//! says of what the lines behind it are cases: `file` for configurations, clause files, proofs, searches and
-//! value-change dumps, or `words`; it is answered by itself, and each case by a line. Lines that begin with `#` are no
+//! says of what the lines behind it are cases: `file` for configurations, clause files, proofs, searches, value-change
+//! dumps and graphs, or `words`; it is answered by itself, and each case by a line. Lines that begin with `#` are no
 //! cases, nor are blank ones but for `words`.
 #![tactic(auto)]
 

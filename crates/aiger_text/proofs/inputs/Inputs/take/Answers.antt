@@ -1,0 +1,16 @@
+use Rattle.std.proofs.lemmas.Result.{err_from_is_err_and}
+use Rattle.aiger_text.proofs.BodyLaws.{input_ok, input_refused}
+use Rattle.aiger_text.proofs.inputs.Inputs.take.Goals as goal
+
+pub returns-in_err-define : goal.returns-in_err-define
+returns-in_err-define c =
+    let p = err_from_is_err_and c.from_residual.result c.from_residual.ensures.1 in
+    rw (p.1, p.2) (input_refused c.args.most c.args.line c.in-Some.literal c.args.self.now.literals.items
+    c.args.text.now c.args.self.now.variables.keys c.in_err-define.field-0.0 c.in-Some.ensures c.requires.inputs
+    c.in_err-define.ensures.twice)
+
+pub returns : goal.returns
+returns c =
+    input_ok c.args.most c.args.line c.in-Some.literal c.args.self.now.literals.items c.args.text.now
+    c.args.self.now.variables.keys c.define.new.variables.keys c.push.new.self.items c.in-Some.ensures
+    c.requires.inputs c.in_ok-define.ensures.new c.in_ok-define.ensures.keys c.in_ok-push.ensures.items
