@@ -312,8 +312,10 @@ def check_paths(page):
 def usages():
     """What may stand behind `rvf`, by the line that the program prints."""
     text = "\n".join(lines_of("crates/rvf_core/specs/Run.antt"))
+    options = re.search(r'(?m)^options_text = codes "(.*?)"$', text).group(1)
     pieces = re.search(r"(?m)^usage_line =\n((?: .*\n)+)", text).group(1)
-    line = "".join(re.findall(r'codes "(.*?)"', pieces)).removeprefix("usage: rvf ").removesuffix("\\n")
+    said = re.findall(r'codes "(.*?)"|\boptions_text\b', pieces)
+    line = "".join(words or options for words in said).removeprefix("usage: rvf ").removesuffix("\\n")
     return {usage.split()[0]: usage for usage in line.split(" | ")}
 
 

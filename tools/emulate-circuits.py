@@ -1,20 +1,21 @@
 #!/usr/bin/env python3
-"""Compares what `check_cases` answers to cases of kind `circuit` with what an emulator does: the corner operands of each row, and random ones.
-Not part of the gate.
+"""Compares what `check_cases` answers to cases of kind `circuit` with what an emulator does: the corner operands of each
+row, and random ones. Not part of the gate.
 
     tools/emulate-circuits.py [--count N] [--seed N] [PROGRAM]
 
-It needs binutils for RISC-V (riscv64-linux-gnu-as, -ld) and qemu-riscv32: the Debian packages
-binutils-riscv64-linux-gnu and qemu-user. The instructions are the words that tools/circuit-cases.py makes, with N random
-cases a row. Each stands alone among breakpoints, with its operands in its registers, so that a signal tells where it
-goes and what it leaves. The result, the next program counter and memory are the emulator's; the addresses of registers,
-where an instruction traps, and masks are those of tools/circuit-cases.py. Without a program it compares the emulator
-with the rules there.
+It needs binutils for RISC-V (riscv64-linux-gnu-as, -ld) and qemu-riscv32, of version 7.2 or later for Zba and Zbs: the
+Debian packages binutils-riscv64-linux-gnu and qemu-user. It says which of them it lacks. The instructions are the words
+that tools/circuit-cases.py makes, with N random cases a row. Each stands alone among breakpoints, with its operands in
+its registers, so that a signal tells where it goes and what it leaves. The result, the next program counter and memory
+are the emulator's; the addresses of registers, where an instruction traps, and masks are those of
+tools/circuit-cases.py. Without a program it compares the emulator with the rules there.
 """
 import argparse
 import importlib.util
 import os
 import random
+import shutil
 import struct
 import subprocess
 import sys
@@ -22,6 +23,9 @@ import tempfile
 
 HERE = os.path.dirname(os.path.abspath(__file__))
 TOOLS = "riscv64-linux-gnu-"
+EMULATOR = ["qemu-riscv32", "-cpu", "rv32,zba=true,zbs=true"]
+BINUTILS = "binutils-riscv64-linux-gnu"
+PACKAGES = {TOOLS + "as": BINUTILS, TOOLS + "ld": BINUTILS, EMULATOR[0]: "qemu-user"}
 MASK = 0xFFFFFFFF
 CODE, REACH = 0x40000000, 1 << 20  # a jump reaches no further
 MEMORY, BYTES = 0x20000000, 16
@@ -210,7 +214,7 @@ def emulated(made):
         run(TOOLS + "as", "-march=rv32imc_zifencei", "-mabi=ilp32", "-o", file("harness.o"), file("harness.s"))
         run(TOOLS + "ld", "-m", "elf32lriscv", "--no-relax", "-Ttext=0x30000000", "-o", file("harness"),
             file("harness.o"))
-        data = run("qemu-riscv32", file("harness"))
+        data = run(*EMULATOR, file("harness"))
     assert len(data) == size * len(made), (len(data), size * len(made))
     for index, (case, numbers) in enumerate(zip(made, given)):
         signal, pc, *left = struct.unpack_from("<33I", data, size * index)
@@ -244,6 +248,9 @@ def main():
     words.add_argument("--seed", type=int, default=1)
     words.add_argument("program", nargs="?")
     words = words.parse_args()
+    lacking = sorted({package for tool, package in PACKAGES.items() if shutil.which(tool) is None})
+    if lacking:
+        sys.exit("the Debian packages %s aren't there" % ", ".join(lacking))
     random.seed(words.seed)
     cases = rules()
     made = [case for case in (settle(case, cases.SIZES) for case in cases.cases(words.count)) if case]

@@ -34,14 +34,11 @@ def read(path):
     return widths, cycles
 
 
-def main():
-    words = argparse.ArgumentParser()
-    words.add_argument("--channels", type=int, default=1)
-    words.add_argument("trace")
-    words.add_argument("text")
-    words = words.parse_args()
-    widths, cycles = read(words.trace)
-    with open(words.text) as file:
+def replayed(trace, text, channels=1):
+    """Replays a trace over a text: how many numbers are the same, and a line for each that is another one. With them
+    the numbers of the trace, cycle by cycle."""
+    widths, cycles = read(trace)
+    with open(text) as file:
         source = file.read()
     free = re.findall(r"`rvformal_\w+\s*(?:\[[^]]*\])?\s*(\w+)\s*;", source)
     kept = [n for n in cycles[0] if n not in free and n != "reset"]
@@ -57,18 +54,29 @@ def main():
         steps += ["#1;"]
         steps += [f'$display("{k} {n} %0d", dut.{n});' for n in kept]
         steps += ["clock = 1; #1; clock = 0; #1;"]
-    other = same = 0
-    for line in simulated(source, steps, channels=words.channels).splitlines():
+    same, others = 0, []
+    for line in simulated(source, steps, channels=channels).splitlines():
         parts = line.split()
         if len(parts) == 3 and parts[0].isdigit():
             wanted = cycles[int(parts[0])][parts[1]]
             if parts[2] == str(wanted):
                 same += 1
             else:
-                other += 1
-                print("cycle", parts[0], parts[1], "has", wanted, "in the trace and", parts[2], "in Icarus Verilog")
-    print(len(cycles), "cycles,", same, "numbers are the same,", other, "are not")
-    return other != 0
+                others.append(f"cycle {parts[0]} {parts[1]} has {wanted} in the trace and {parts[2]} in Icarus Verilog")
+    return same, others, cycles
+
+
+def main():
+    words = argparse.ArgumentParser()
+    words.add_argument("--channels", type=int, default=1)
+    words.add_argument("trace")
+    words.add_argument("text")
+    words = words.parse_args()
+    same, others, cycles = replayed(words.trace, words.text, words.channels)
+    for line in others:
+        print(line)
+    print(len(cycles), "cycles,", same, "numbers are the same,", len(others), "are not")
+    return others != []
 
 
 if __name__ == "__main__":

@@ -9,6 +9,7 @@
 //! | `word insn=N`, `number row=N` | the name of the row that the word matches, or that has the number |
 //! | `match row=N insn=N` | whether the word `matches` the row, or `another` one |
 //! | `expand half=N` | the word that the half word stands for |
+//! | `hit` with a row, channel and cycle, or `any` with a cycle, and retirements | whether the node shows it `reached` |
 //!
 //! A check is judged by its property, and by its monitor in a net whose inputs play the run. Where these differ, both
 //! answers are given. Where a check has no monitor (it isn't lawful) its property alone is judged. Where a number has
@@ -27,6 +28,7 @@ mod lawful;
 mod line;
 mod play;
 mod port;
+mod reach;
 mod run;
 
 use crate::play::{Said, monitored};
@@ -46,6 +48,8 @@ pub fn answer(alloc: Global, line: &str) -> Result<String> {
         "word" => insn::row(head),
         "number" => insn::name(head),
         "match" => insn::is_of_row(head),
+        "hit" => reach::hit(alloc, head, rest)?,
+        "any" => reach::any(alloc, head, rest)?,
         _ => judged(alloc, head, rest)?,
     };
     Ok(String::from_str(alloc, said)?)

@@ -74,7 +74,7 @@ fn starts(alloc: Global, regs: &[Reg]) -> Result<List<u128>, Memory> {
 }
 
 /// The value of the node in the cycle `last` of the run; None where its numbers aren't of the net.
-fn value_at_last(
+pub(crate) fn value_at_last(
     alloc: Global,
     net: &Net,
     run: &Run,

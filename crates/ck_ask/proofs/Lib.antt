@@ -1,1 +1,3 @@
 pub mod Lawful
+pub mod Sought
+pub mod ZbLists

@@ -4,6 +4,10 @@
 mod asking;
 mod question;
 mod shared;
+mod zb_check;
+mod zb_list;
 
 pub use asking::ask;
 pub use question::Question;
+pub use zb_check::ZbCheck;
+pub use zb_list::zb_checks;

@@ -1,7 +1,9 @@
 ghost use Rattle.std.specs.Prelude.{◌≡◌};
 ghost use Rattle.ck_ask.specs.Questions as questions;
 
+use crate::zb_check::ZbCheck;
 use ck_cfg::{Check, CheckKind};
+use ck_cover::Target;
 use fv_text::Text;
 
 /// What is sought in the runs of a design, from a first cycle to a last one.
@@ -9,6 +11,10 @@ use fv_text::Text;
 pub enum Question {
     /// A run that lacks the property of a check.
     Check(Check),
+    /// A run that reaches a target.
+    Target(Target),
+    /// A run that retires a word of a row of Zba or Zbs and doesn't do what the row does.
+    Zb(ZbCheck),
 }
 
 impl Question {
@@ -18,6 +24,8 @@ impl Question {
     {
         match self {
             Question::Check(check) => &check.name,
+            Question::Target(target) => &target.name,
+            Question::Zb(check) => &check.name,
         }
     }
 
@@ -27,6 +35,8 @@ impl Question {
     {
         match self {
             Question::Check(check) => check.kind,
+            Question::Target(target) => target.kind,
+            Question::Zb(_) => CheckKind::Insn,
         }
     }
 
@@ -36,6 +46,8 @@ impl Question {
     {
         match self {
             Question::Check(check) => check.channel,
+            Question::Target(target) => target.channel,
+            Question::Zb(check) => check.channel,
         }
     }
 
@@ -45,6 +57,8 @@ impl Question {
     {
         match self {
             Question::Check(check) => check.cycle,
+            Question::Target(target) => target.cycle,
+            Question::Zb(check) => check.cycle,
         }
     }
 }

@@ -15,3 +15,4 @@ pub mod Rows
 pub mod TracesWhole
 pub mod Dumps
 pub mod Own
+pub mod Shorter

@@ -1,6 +1,6 @@
-//! Cases of configurations, clause files, proofs, searches, value-change dumps and graphs. A case is a line: a word that
-//! says what is tried, and a text with `\n`, `\t`, `\r`, `\\` and `\xHH` for bytes. Cases of command lines stand in a
-//! module of their own. This crate says what the crates under it answer, and promises nothing of its own.
+//! Cases of configurations, clause files, proofs, searches, value-change dumps and graphs. A case is a line: a word
+//! that says what is tried, and a text with `\n`, `\t`, `\r`, `\\` and `\xHH` for bytes. Cases of command lines stand
+//! in a module of their own. This crate says what the crates under it answer, and promises nothing of its own.
 #![tactic(auto)]
 
 mod config;

@@ -2,12 +2,22 @@
 //! the empty word. The answer is what they ask for, or `none`.
 
 use fv_text::{Memory, Text};
-use rvf_words::{Line, read_words};
+use rvf_words::{Line, Options, read_words};
 use std::alloc::Global;
 
 /// A text as a reader sees it.
 fn shown(text: &Text) -> &str {
     str::from_utf8(text.bytes()).unwrap_or("?")
+}
+
+/// A word with its operands and options.
+fn with_options(alloc: Global, word: &str, options: &Options) -> Result<String, Memory> {
+    let (cfg, outdir) = (shown(&options.cfg), shown(&options.outdir));
+    let (core, basedir) = (shown(&options.core), shown(&options.basedir));
+    let (budget, jobs) = (options.budget, options.jobs);
+    Ok(format!(in alloc;
+        "{word} [{cfg}] [{outdir}] core [{core}] basedir [{basedir}] budget {budget} jobs {jobs}"
+    )?)
 }
 
 fn asked(alloc: Global, line: &Line) -> Result<String, Memory> {
@@ -29,6 +39,8 @@ fn asked(alloc: Global, line: &Line) -> Result<String, Memory> {
         Line::List { cfg } => format!(in alloc; "list [{}]", shown(cfg))?,
         Line::Lrat { cnf, proof } => format!(in alloc; "lrat [{}] [{}]", shown(cnf), shown(proof))?,
         Line::Bench { size } => format!(in alloc; "bench {size}")?,
+        Line::Cover(options) => with_options(alloc, "cover", options)?,
+        Line::Zb(options) => with_options(alloc, "zb", options)?,
     })
 }
 

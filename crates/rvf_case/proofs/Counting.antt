@@ -1,7 +1,7 @@
 -- There are few questions.
 use Rattle.std.proofs.Common.{◌≡◌, ℕ, zero, suc, ◌+◌, ◌*◌, ◌^◌, ◌<◌, ◌≤◌, Bool, not, List, [], ◌∷◌, length, Option}
 use Rattle.std.proofs.Common.{Some, None, refl, sym, ◌∙◌, ap, subst, arith, lit≤}
-use Rattle.std.specs.Prelude.{option_map, option_to_list}
+use Rattle.std.specs.Prelude.{find, option_map, option_to_list}
 use Rattle.std.specs.List.{filter, flat_map, range_with_len}
 use Rattle.std.proofs.lemmas.List.{length-append, length-map}
 use Rattle.std.proofs.lemmas.List.Concat.{length-flat_map}
@@ -18,8 +18,15 @@ use Rattle.ck_cfg.specs.declared.kind.CheckKind.TheVariants.{Imem, Dmem}
 use Rattle.ck_cfg.specs.Checks.{channel_check, channel_checks, check_at, checks_of, depth_for, is_named, isa_rows}
 use Rattle.ck_cfg.specs.Checks.{kind_checks, kind_rows, listed_checks, moved}
 use Rattle.ck_cfg.specs.Kind.{kinds}
+use Rattle.rv_zb.specs.declared.row.ZbRow.{ZbRow}
+use Rattle.rv_zb.specs.Rows.{zb_rows}
+use Rattle.ck_cover.specs.Targets.{any_of, any_target, any_targets, greatest, hit_of, hit_row, hit_target, hit_targets}
+use Rattle.ck_cover.specs.Targets.{targets_of}
+use Rattle.ck_cover.specs.declared.target.Target.{Target}
 use Rattle.rvf_case.specs.Texts.{is_same_text, factors_of, questions_of, with_text}
 use Rattle.ck_ask.specs.Questions.{question_cycle, question_kind}
+use Rattle.ck_ask.specs.ZbChecks.{is_insn_at, zb_channel_check, zb_check_at, zb_checks_of, zb_row_checks}
+use Rattle.ck_ask.specs.declared.zb_check.ZbCheck.{ZbCheck}
 use Rattle.ck_ask.specs.declared.question.Question.{Question}
 use Rattle.ck_ask.specs.declared.question.Question.TheVariants as question
 use Rattle.rvf_case.specs.declared.asking.Asking.{Asking}
@@ -104,12 +111,51 @@ pub few_checks : (c : Config) → c.nret ≤ 2 → length (checks_of c) ≤ 1400
 few_checks c e =
     subst (λ n. n ≤ 1400) (sym (moved_count c.sort (listed_checks c))) (ten_kinds (kind_checks c) (few_of_kind c e))
 
+-- of what may be there at most one is made
+one_made : {X Y : Type 0} (f : X → Y) (o : Option X) → length (option_to_list (option_map f o)) ≤ 1
+one_made f None = omega arith
+one_made f (Some x) = omega arith
+
+pub few_targets : (checks : List Check) → length (targets_of checks) ≤ length checks + 10
+few_targets checks =
+    let a = one_each (any_of checks) (λ kind. one_made (any_target kind) (greatest kind checks)) kinds in
+    let b = one_each hit_of (λ c. one_made (hit_target c) (hit_row c)) checks in
+    let e = length-append (any_targets checks) (hit_targets checks) in
+    let ten : length kinds ≡ 10 = refl in
+    omega (arith, a, b, e, ten)
+
+few_in_row : (checks : List Check) (channels : ℕ) (row : ZbRow) → channels ≤ 2
+    → length (zb_row_checks checks channels row) ≤ 2
+few_in_row checks channels row few =
+    let a =
+    one_each (zb_channel_check checks row) (λ channel. one_made (zb_check_at row channel)
+    (option_map (λ (c : Check). c.cycle) (find (is_insn_at channel) checks))) (range_with_len 0 channels) in
+    let b = range_long 0 channels in
+    omega (arith, a, b, few)
+
+pub few_zb_checks : (checks : List Check) (channels : ℕ) → channels ≤ 2 → length (zb_checks_of checks channels) ≤ 22
+few_zb_checks checks channels few =
+    let a = two_each (zb_row_checks checks channels) (λ row. few_in_row checks channels row few) zb_rows in
+    let eleven : length zb_rows ≡ 11 = refl in
+    omega (arith, a, eleven)
+
 -- and so there are few questions
 pub few_questions : (a : Asking) (c : Config) → c.nret ≤ 2 → length (questions_of a c) < 2 ^ 32
 few_questions asking.Checks c e =
     let many = length-map (checks_of c) (λ (x : Check). question.Check x) in
     let few = few_checks c e in
     let most : 1400 < 2 ^ 32 = lit≤ tt in
+    omega (arith, many, few, most)
+few_questions asking.Targets c e =
+    let many = length-map (targets_of (checks_of c)) (λ (t : Target). question.Target t) in
+    let targets = few_targets (checks_of c) in
+    let few = few_checks c e in
+    let most : 1410 < 2 ^ 32 = lit≤ tt in
+    omega (arith, many, targets, few, most)
+few_questions asking.Zb c e =
+    let many = length-map (zb_checks_of (checks_of c) c.nret) (λ (z : ZbCheck). question.Zb z) in
+    let few = few_zb_checks (checks_of c) c.nret e in
+    let most : 22 < 2 ^ 32 = lit≤ tt in
     omega (arith, many, few, most)
 
 pub few_factors : (c : Config) (kind : CheckKind) (qs : List Question) (factors : List ℕ) → length qs < 2 ^ 32

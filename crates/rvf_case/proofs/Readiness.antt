@@ -11,6 +11,10 @@ use Rattle.ck_cfg.specs.declared.kind.CheckKind.TheVariants as kind
 use Rattle.ck_cfg.specs.Checks.{checks_of}
 use Rattle.ck_cfg.specs.Kind.{is_kind, kind_name}
 use Rattle.ck_cfg.specs.Lawful.{HasLawfulChecks, IsCheck}
+use Rattle.ck_cover.specs.Laws.{IsTarget}
+use Rattle.ck_cover.specs.Targets.{targets_of}
+use Rattle.ck_cover.specs.declared.target.Target.{Target}
+use Rattle.ck_cover.proofs.Lawfulness.{lawful}
 use Rattle.vl_lower_spec.proofs.Graphic.{names_graphic}
 use Rattle.ck_gen.specs.Monitors.{HasProbe}
 use Rattle.rvf_load.specs.Loads.{Answers, Asked, IsLoadedFrom}
@@ -20,8 +24,11 @@ use Rattle.rvf_case.specs.Steps.{AreLoadedInTurn, has_same}
 use Rattle.rvf_case.specs.Texts.{asked_for, is_same_text, leaders, questions_of}
 use Rattle.rvf_case.specs.declared.case.LoadedText.{LoadedText}
 use Rattle.rvf_case.proofs.Sames.{IsIn, equal_bytes, led}
-use Rattle.ck_ask.specs.Asked.{HasItsProbe, IsQuestion}
+use Rattle.ck_ask.specs.Asked.{HasItsProbe, IsQuestion, IsZbCheck}
 use Rattle.ck_ask.specs.Questions.{question_kind}
+use Rattle.ck_ask.specs.ZbChecks.{zb_checks_of}
+use Rattle.ck_ask.specs.declared.zb_check.ZbCheck.{ZbCheck}
+use Rattle.ck_ask.proofs.ZbLists.{zb_lawful}
 use Rattle.ck_ask.specs.declared.question.Question.{Question}
 use Rattle.ck_ask.specs.declared.question.Question.TheVariants as question
 use Rattle.rvf_case.specs.declared.asking.Asking.{Asking}
@@ -118,21 +125,55 @@ check_in x [] i = absurd i
 check_in x (y ∷ ys) (inl e) = inl (same_check x y e)
 check_in x (y ∷ ys) (inr i) = inr (check_in x ys i)
 
-checks_lawful : (n : ℕ) (xs : List Check) → AllByRecursion (IsCheck n) xs
-    → AllByRecursion (IsQuestion n) (map (λ y. question.Check y) xs)
-checks_lawful n [] h = tt
-checks_lawful n (x ∷ xs) h = (h.0, checks_lawful n xs h.1)
+-- of targets, and of rows of Zba and Zbs, none is a check
+target_apart : (x : Check) (t : Target) → question.Check x ≡ question.Target t → ⊥
+target_apart x t e = cc
+
+zb_apart : (x : Check) (z : ZbCheck) → question.Check x ≡ question.Zb z → ⊥
+zb_apart x z e = cc
+
+no_target : (x : Check) (ts : List Target) → IsIn (question.Check x) (map (λ t. question.Target t) ts) → ⊥
+no_target x [] i = i
+no_target x (t ∷ ts) (inl e) = target_apart x t e
+no_target x (t ∷ ts) (inr i) = no_target x ts i
+
+no_zb : (x : Check) (zs : List ZbCheck) → IsIn (question.Check x) (map (λ z. question.Zb z) zs) → ⊥
+no_zb x [] i = i
+no_zb x (z ∷ zs) (inl e) = zb_apart x z e
+no_zb x (z ∷ zs) (inr i) = no_zb x zs i
+
+-- questions for things that are lawful
+all_lawful : {X : Type 0} (n : ℕ) (make : X → Question) (P : X → Type 0) (xs : List X)
+    → ((x : X) → P x → IsQuestion n (make x)) → AllByRecursion P xs → AllByRecursion (IsQuestion n) (map make xs)
+all_lawful n make P [] f h = tt
+all_lawful n make P (x ∷ xs) f h = (f x h.0, all_lawful n make P xs f h.1)
 
 pub questions_lawful : (a : Asking) (c : Config) → HasLawfulChecks c
     → AllByRecursion (IsQuestion c.nret) (questions_of a c)
-questions_lawful asking.Checks c h = checks_lawful c.nret (checks_of c) h
+questions_lawful asking.Checks c h =
+    all_lawful c.nret (λ x. question.Check x) (IsCheck c.nret) (checks_of c) (λ x k. k) h
+questions_lawful asking.Targets c h =
+    all_lawful c.nret (λ t. question.Target t) (IsTarget c.nret) (targets_of (checks_of c)) (λ t k. k)
+    (lawful c.nret (checks_of c) h)
+questions_lawful asking.Zb c h =
+    all_lawful c.nret (λ z. question.Zb z) (IsZbCheck c.nret) (zb_checks_of (checks_of c) c.nret) (λ z k. k)
+    (zb_lawful c.nret (checks_of c) h)
 
 -- what is loaded of a text that a question has, has its probe
+check_has_probe : (a : Asking) (c : Config) (files : List (List ℕ)) (qs : List Question) (leader : CheckKind)
+    (x : Check) (l : Loaded) → IsIn (question.Check x) (questions_of a c) → is_same_text c leader x.kind ≡ true
+    → IsLoadedFrom (asked_for c files qs leader) l → HasProbe l.port x.kind
+check_has_probe asking.Checks c files qs leader x l i s h =
+    has_probe c files qs leader x l (check_in x (checks_of c) i) s h x.kind refl
+check_has_probe asking.Targets c files qs leader x l i s h = absurd (no_target x (targets_of (checks_of c)) i)
+check_has_probe asking.Zb c files qs leader x l i s h = absurd (no_zb x (zb_checks_of (checks_of c) c.nret) i)
+
 has_its_probe : (a : Asking) (c : Config) (files : List (List ℕ)) (qs : List Question) (leader : CheckKind)
     (q : Question) (l : Loaded) → IsIn q (questions_of a c) → is_same_text c leader (question_kind q) ≡ true
     → IsLoadedFrom (asked_for c files qs leader) l → HasItsProbe l.port q
-has_its_probe asking.Checks c files qs leader (question.Check x) l i s h =
-    has_probe c files qs leader x l (check_in x (checks_of c) i) s h x.kind refl
+has_its_probe a c files qs leader (question.Check x) l i s h = check_has_probe a c files qs leader x l i s h
+has_its_probe a c files qs leader (question.Target t) l i s h = tt
+has_its_probe a c files qs leader (question.Zb z) l i s h = tt
 
 abbrev pub IsFitFor : Config → List LoadedText → Question → Type 0
 IsFitFor c texts q = (l : Loaded) × (text_among c (question_kind q) texts ≡ Some l) × IsFit c.nret q l

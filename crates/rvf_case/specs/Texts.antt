@@ -11,6 +11,7 @@ use Rattle.ck_cfg.specs.declared.kind.CheckKind.{CheckKind}
 use Rattle.ck_cfg.specs.declared.kind.CheckKind.TheVariants as kind
 use Rattle.ck_cfg.specs.Checks.{checks_of}
 use Rattle.ck_cfg.specs.Kind.{is_kind}
+use Rattle.ck_cover.specs.Targets.{targets_of}
 use Rattle.vl_text.specs.Texts.{Text}
 use Rattle.vl_text.specs.declared.macros.Core.{Core}
 use Rattle.vl_text.specs.declared.macros.Retirements.{Retirements}
@@ -18,6 +19,7 @@ use Rattle.vl_text.specs.declared.macros.Retirements.TheVariants.{One, Two}
 use Rattle.rvf_load.specs.declared.asked.Probes.{Probes}
 use Rattle.rvf_load.specs.Loads.{Asked}
 use Rattle.ck_ask.specs.Questions.{question_cycle, question_kind}
+use Rattle.ck_ask.specs.ZbChecks.{zb_checks_of}
 use Rattle.ck_ask.specs.declared.question.Question.{Question}
 use Rattle.ck_ask.specs.declared.question.Question.TheVariants as question
 use Rattle.rvf_case.specs.declared.asking.Asking.{Asking}
@@ -25,9 +27,11 @@ use Rattle.rvf_case.specs.declared.asking.Asking.TheVariants as asking
 
 -- ---- which questions are asked
 
--- one for each of its checks, in their order
+-- one for each of its checks, of the targets of these, or of the checks of Zba and Zbs beside them; in their order
 abbrev pub questions_of : Asking → Config → List Question
 questions_of asking.Checks c = map (λ x. question.Check x) (checks_of c)
+questions_of asking.Targets c = map (λ t. question.Target t) (targets_of (checks_of c))
+questions_of asking.Zb c = map (λ z. question.Zb z) (zb_checks_of (checks_of c) c.nret)
 
 -- ---- a question's text: lines of the configuration, and then the files
 

@@ -12,7 +12,7 @@ use Rattle.rvf_report.specs.Reports.{AreAnswersFrom, delivered_from, tally_from,
 use Rattle.rvf_report.specs.declared.status.Status.{Status}
 use Rattle.rvf_checks.specs.Answers.{AreAnswers, name_of}
 use Rattle.rvf_checks.specs.Checked.{answered, begun, head_in, is_noted, last_in, plan_of, whole}
-use Rattle.rvf_checks.specs.Counting.{counted, counts_of, no_counts, status_of}
+use Rattle.rvf_checks.specs.Counting.{counted, counted_at, counts_of, no_counts, status_of}
 use Rattle.rvf_checks.specs.Deliveries.{deliveries_in}
 use Rattle.rvf_checks.specs.declared.counts.Counts.{Counts}
 use Rattle.rvf_checks.specs.declared.wording.Wording.{Wording}
@@ -57,12 +57,21 @@ module _ (more : ℕ → Cnf → List Step → Type 0) (case : Case) (words : Wo
       (sym (from_there case.questions i q are.0.there))
 
   tally_joined : (i : ℕ) (c : Counts) (js : List Judged)
-      → tally_from (plan_of more case words folder budget) i c js ≡ joined c (counts_of js)
-  tally_joined i c [] = sym (joined_none c)
-  tally_joined i c (j ∷ js) = tally_joined (i + 1) (counted c j) js ∙ joined_more c j js
+      → AreAnswersFrom (plan_of more case words folder budget) i js
+      → tally_from (plan_of more case words folder budget) i c js
+      ≡ joined c (counts_of (drop i case.questions) js)
+  tally_joined i c [] are = sym (joined_none (drop i case.questions) c)
+  tally_joined i c (j ∷ js) are =
+      let q = are.0.question in
+      ap (λ o. tally_from (plan_of more case words folder budget) (i + 1) (counted_at o c j) js) are.0.there
+      ∙ tally_joined (i + 1) (counted q c j) js are.1
+      ∙ joined_more q (drop (i + 1) case.questions) c j js
+      ∙ ap (λ (qs : List Question). joined c (counts_of qs (j ∷ js)))
+      (sym (from_there case.questions i q are.0.there))
 
-  pub tally_is : (js : List Judged) → tally_of (plan_of more case words folder budget) js ≡ counts_of js
-  tally_is js = tally_joined 0 no_counts js ∙ none_joined (counts_of js)
+  pub tally_is : (js : List Judged) → AreAnswersFrom (plan_of more case words folder budget) 0 js
+      → tally_of (plan_of more case words folder budget) js ≡ counts_of case.questions js
+  tally_is js are = tally_joined 0 no_counts js are ∙ none_joined (counts_of case.questions js)
 
   pub are_answers : (js : List Judged) → AreAnswersFrom (plan_of more case words folder budget) 0 js
       → AreAnswers more case budget case.questions js
@@ -81,10 +90,11 @@ module _ (more : ℕ → Cnf → List Step → Type 0) (case : Case) (words : Wo
       ap (λ l. l ++ last_in words (tally_of (plan_of more case words folder budget) js) (length case.config.skips))
       (begun_is js are)
       ∙ ap (λ c. begun words folder budget (is_noted case) case.config.skips case.questions js
-      ++ last_in words c (length case.config.skips)) (tally_is js)
+      ++ last_in words c (length case.config.skips)) (tally_is js are)
 
   pub status_is : (js : List Judged) (status : Status)
+      → AreAnswersFrom (plan_of more case words folder budget) 0 js
       → status ≡ (plan_of more case words folder budget).status (tally_of (plan_of more case words folder budget) js)
-      → status ≡ status_of js
-  status_is js status is =
-      is ∙ ap (plan_of more case words folder budget).status (tally_is js) ∙ status_is_theirs js
+      → status ≡ status_of case.questions js
+  status_is js status are is =
+      is ∙ ap (plan_of more case words folder budget).status (tally_is js are) ∙ status_is_theirs case.questions js

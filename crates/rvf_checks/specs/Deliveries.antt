@@ -7,7 +7,7 @@ use Rattle.rvf_report.specs.declared.delivery.Delivery.{Delivery}
 use Rattle.rvf_report.specs.declared.delivery.Delivery.TheVariants.{File, Line}
 use Rattle.rvf_checks.specs.declared.wording.Wording.{Wording}
 use Rattle.rvf_checks.specs.declared.wording.Wording.TheVariants as wording
-use Rattle.rvf_checks.specs.CheckLines.{fail_line, pass_line, spent_line}
+use Rattle.rvf_checks.specs.CheckLines.{named_line, spent_line}
 
 -- a check's file in a folder
 abbrev pub path : List ℕ → List ℕ → List ℕ → List ℕ
@@ -26,11 +26,13 @@ certified folder name texts line = files_of folder name texts ++ Line line ∷ [
 abbrev pub dumped : List ℕ → List ℕ → List ℕ → List ℕ → List Delivery
 dumped folder name dump line = File (path folder name (codes ".vcd")) dump ∷ Line line ∷ []
 
--- by what the check comes to, in the words of `run`: it passes where no run lacks its property, and else fails
-abbrev pub deliveries_of : List ℕ → List ℕ → ℕ → Judged → List Delivery
-deliveries_of folder name budget (judged.Never texts) = certified folder name texts (pass_line name)
-deliveries_of folder name budget (judged.Found dump) = dumped folder name dump (fail_line name)
-deliveries_of folder name budget (judged.Spent texts) = certified folder name texts (spent_line name budget)
+-- by what the question comes to, with the words for it where no run gives what is sought, and where one does
+abbrev pub deliveries_of : List ℕ → List ℕ → List ℕ → List ℕ → ℕ → Judged → List Delivery
+deliveries_of never found folder name budget (judged.Never texts) =
+    certified folder name texts (named_line never name)
+deliveries_of never found folder name budget (judged.Found dump) = dumped folder name dump (named_line found name)
+deliveries_of never found folder name budget (judged.Spent texts) =
+    certified folder name texts (spent_line name budget)
 
 -- the files alone, where the budget is used up
 abbrev pub files_if_spent : List ℕ → List ℕ → Judged → List Delivery
@@ -38,7 +40,11 @@ files_if_spent folder name (judged.Never texts) = []
 files_if_spent folder name (judged.Found dump) = []
 files_if_spent folder name (judged.Spent texts) = files_of folder name texts
 
--- in these words
+-- in these words: a check passes where no run lacks its property, a row of Zba or Zbs where none does otherwise, and a
+-- target is reached where a run reaches it
 abbrev pub deliveries_in : Wording → List ℕ → List ℕ → ℕ → Judged → List Delivery
-deliveries_in wording.Run folder name budget j = deliveries_of folder name budget j
+deliveries_in wording.Run folder name budget j = deliveries_of (codes "pass ") (codes "fail ") folder name budget j
 deliveries_in (wording.Bench size) folder name budget j = files_if_spent folder name j
+deliveries_in wording.Cover folder name budget j =
+    deliveries_of (codes "unreached ") (codes "reached ") folder name budget j
+deliveries_in wording.Zb folder name budget j = deliveries_of (codes "pass ") (codes "fail ") folder name budget j

@@ -1,4 +1,4 @@
-//! What checks come to by what is loaded of their texts.
+//! What questions come to by what is loaded of their texts.
 
 ghost use Rattle.std.specs.Prelude.{◌≡◌, ◌<◌, IfOk};
 ghost use Rattle.bm_decide.specs.Searches.{TakesFewer};

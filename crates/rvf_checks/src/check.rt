@@ -1,4 +1,4 @@
-//! What is delivered of a check.
+//! What is delivered of a question.
 
 ghost use Rattle.std.specs.Prelude.{◌≡◌, IfOk};
 ghost use Rattle.rvf_checks.specs.Deliveries as deliveries;
@@ -11,7 +11,7 @@ use rvf_judge::{CertificateTexts, Judged};
 use rvf_report::Delivery;
 use std::alloc::Global;
 
-/// A check's file in a folder.
+/// A question's file in a folder.
 fn path(alloc: Global, folder: &[u8], name: &[u8], ending: &[u8]) -> Result<Text, Memory>
     ensures { IfOk result (λ made. made ≡ deliveries.path folder.now name.now ending.now) }
 {
@@ -85,23 +85,27 @@ fn dumped(
     Ok(made)
 }
 
-/// What `run` delivers of a check with this name: its files in a folder, and its line.
+/// What is delivered of a question with this name: its files in a folder, and its line, with the words for it where no
+/// run gives what is sought, and where one does.
 fn deliveries_of(
     alloc: Global,
+    never: &[u8],
+    found: &[u8],
     folder: &[u8],
     name: &[u8],
     budget: u64,
     judged: Judged,
 ) -> Result<List<Delivery>, Memory>
-    ensures { IfOk result (λ made. made ≡ deliveries.deliveries_of folder.now name.now budget judged) }
+    ensures { IfOk result (λ made. made
+        ≡ deliveries.deliveries_of never.now found.now folder.now name.now budget judged) }
 {
     match judged {
         Judged::Never(texts) => {
-            let line = named_line(alloc, b"pass ", name)?;
+            let line = named_line(alloc, never, name)?;
             certified(alloc, folder, name, texts, line)
         }
         Judged::Found(dump) => {
-            let line = named_line(alloc, b"fail ", name)?;
+            let line = named_line(alloc, found, name)?;
             dumped(alloc, folder, name, dump, line)
         }
         Judged::Spent(texts) => {
@@ -126,7 +130,7 @@ fn files_if_spent(
     }
 }
 
-/// What is delivered of a check with this name, in these words.
+/// What is delivered of a question with this name, in these words.
 pub(crate) fn deliveries_in(
     alloc: Global,
     wording: Wording,
@@ -138,7 +142,18 @@ pub(crate) fn deliveries_in(
     ensures { IfOk result (λ made. made ≡ deliveries.deliveries_in wording folder.now name.now budget judged) }
 {
     match wording {
-        Wording::Run => deliveries_of(alloc, folder, name, budget, judged),
+        Wording::Run | Wording::Zb => {
+            deliveries_of(alloc, b"pass ", b"fail ", folder, name, budget, judged)
+        }
         Wording::Bench(_) => files_if_spent(alloc, folder, name, judged),
+        Wording::Cover => deliveries_of(
+            alloc,
+            b"unreached ",
+            b"reached ",
+            folder,
+            name,
+            budget,
+            judged,
+        ),
     }
 }

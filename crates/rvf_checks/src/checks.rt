@@ -1,4 +1,4 @@
-ghost use Rattle.std.specs.Prelude.{◌≡◌, ◌<◌};
+ghost use Rattle.std.specs.Prelude.{◌≡◌, ◌<◌, ◌≤◌};
 ghost use Rattle.rvf_case.specs.Cases.{IsReady};
 ghost use Rattle.rvf_checks.specs.Answers.{IsAnswerAt};
 ghost use Rattle.rvf_checks.specs.Checked.{plan_of};
@@ -18,10 +18,10 @@ use rvf_judge::Judged;
 use rvf_report::{Delivery, Inquiry, Status};
 use std::alloc::Global;
 
-/// The checks of a case, with how they are judged and reported.
+/// The questions of a case, with how they are answered and reported.
 #[derive(Drop)]
 pub struct Checks<'a, G> {
-    /// What each check passes as it begins, with its place.
+    /// What each question passes as it begins, with its place.
     pub gate: &'a G,
     pub case: &'a Case,
     pub wording: Wording,
@@ -50,7 +50,7 @@ impl<G: Gate> Inquiry for Checks<'_, G> {
 
     ghost plan = { λ x. plan_of TakesFewer x.case.now x.wording x.folder.now x.budget };
 
-    ghost tallied = { λ x many counts. places_of counts ≡ many };
+    ghost tallied = { λ x many counts. (places_of counts ≡ many) × (counts.failing ≤ many) };
 
     fn size(&self) -> usize {
         self.case.questions.len()
@@ -61,15 +61,14 @@ impl<G: Gate> Inquiry for Checks<'_, G> {
     }
 
     fn none(&self) -> Counts {
-        Counts {
-            passed: 0,
-            failed: 0,
-            spent: 0,
-        }
+        Counts::none()
     }
 
-    fn counted(&self, _place: usize, before: Counts, answer: &Judged) -> Counts {
-        before.counted(answer)
+    fn counted(&self, place: usize, before: Counts, answer: &Judged) -> Counts {
+        match self.case.questions.get(place) {
+            Some(question) => before.counted(question, answer),
+            None => before.with_answer(answer),
+        }
     }
 
     fn deliveries(

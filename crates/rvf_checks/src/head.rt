@@ -84,6 +84,6 @@ pub(crate) fn head_in(
 {
     match wording {
         Wording::Run => head(alloc, case),
-        Wording::Bench(_) => Ok(List::new(alloc)),
+        Wording::Bench(_) | Wording::Cover | Wording::Zb => Ok(List::new(alloc)),
     }
 }

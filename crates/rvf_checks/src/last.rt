@@ -4,7 +4,7 @@ ghost use Rattle.std.specs.Prelude.{◌≡◌, IfOk};
 ghost use Rattle.rvf_checks.specs.Checked as checked;
 
 use crate::counts::Counts;
-use crate::lines::{bench_line, total_line};
+use crate::lines::{bench_line, targets_line, total_line};
 use crate::wording::Wording;
 use fv_text::{List, Memory, Text};
 use rvf_report::Delivery;
@@ -16,6 +16,8 @@ fn last_line(alloc: Global, wording: Wording, counts: Counts, skipped: u64) -> R
     match wording {
         Wording::Run => total_line(alloc, counts, skipped),
         Wording::Bench(size) => bench_line(alloc, size, counts),
+        Wording::Cover => targets_line(alloc, counts),
+        Wording::Zb => total_line(alloc, counts, 0),
     }
 }
 

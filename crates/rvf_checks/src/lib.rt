@@ -1,13 +1,14 @@
-//! The checks of a case, judged and reported.
+//! The questions of a case, answered and reported.
 //!
-//! - What a check comes to by what is loaded of its text, and how many come to what.
-//! - What is delivered of checks, in the words of `run` and in those of `bench`.
+//! - What a question comes to by what is loaded of its text, and how many come to what.
+//! - What is delivered of questions, in the words of `run`, `bench`, `cover` and `zb`.
 #![tactic(auto)]
 
 mod answering;
 mod check;
 mod checks;
 mod counts;
+mod failing;
 mod head;
 mod last;
 mod lines;

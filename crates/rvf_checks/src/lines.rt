@@ -18,7 +18,7 @@ pub(crate) fn named_line(alloc: Global, front: &[u8], name: &[u8]) -> Result<Tex
     Ok(Text::from_vec(line))
 }
 
-/// The line of a check whose budget is used up.
+/// The line of a question whose budget is used up.
 pub(crate) fn spent_line(alloc: Global, name: &[u8], budget: u64) -> Result<Text, Memory>
     ensures { IfOk result (λ line. line ≡ lines.spent_line name.now budget) }
 {
@@ -57,13 +57,13 @@ fn put_count(line: &mut Vec<u8>, word: &[u8], count: u64) -> Result<(), Memory>
 fn put_counts(line: &mut Vec<u8>, counts: Counts) -> Result<(), Memory>
     ensures { OnOk result (line.new.items ≡ line.old.items ++ lines.counts_text counts) }
 {
-    put_count(line, b"pass ", counts.passed)?;
-    put_count(line, b" fail ", counts.failed)?;
+    put_count(line, b"pass ", counts.never)?;
+    put_count(line, b" fail ", counts.found)?;
     put_count(line, b" spent ", counts.spent)?;
     Ok(())
 }
 
-/// The last line of `run`, with how many depth lines are skipped.
+/// The last line of `run` and of `zb`, with how many depth lines are skipped.
 pub(crate) fn total_line(alloc: Global, counts: Counts, skipped: u64) -> Result<Text, Memory>
     ensures { IfOk result (λ line. line ≡ lines.total_line counts skipped) }
 {
@@ -82,6 +82,18 @@ pub(crate) fn bench_line(alloc: Global, size: u32, counts: Counts) -> Result<Tex
     put_count(&mut line, b"bench ", u64::from(size))?;
     line.push(b' ')?;
     put_counts(&mut line, counts)?;
+    line.push(b'\n')?;
+    Ok(Text::from_vec(line))
+}
+
+/// The last line of `cover`.
+pub(crate) fn targets_line(alloc: Global, counts: Counts) -> Result<Text, Memory>
+    ensures { IfOk result (λ line. line ≡ lines.targets_line counts) }
+{
+    let mut line = Vec::from_slice(alloc, b"total ")?;
+    put_count(&mut line, b"reached ", counts.found)?;
+    put_count(&mut line, b" unreached ", counts.never)?;
+    put_count(&mut line, b" spent ", counts.spent)?;
     line.push(b'\n')?;
     Ok(Text::from_vec(line))
 }

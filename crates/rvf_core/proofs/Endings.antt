@@ -126,7 +126,7 @@ module _ (law : JudgementsAreTheSources TakesFewer) (q : Request) (held : Told) 
       (noted_over case is.files is.loaded case.questions ready)
 
   whole_said : (status : Status) (answers : List Judged) → AreAnswers TakesFewer case budget case.questions answers
-      → length answers ≡ length case.questions → status ≡ status_of answers
+      → length answers ≡ length case.questions → status ≡ status_of case.questions answers
       → IsWhole q held words folder budget status
       (whole words folder budget (is_noted case) c.skips case.questions answers)
   whole_said status answers are all_answered status_is = record {
@@ -139,7 +139,7 @@ module _ (law : JudgementsAreTheSources TakesFewer) (q : Request) (held : Told) 
     all = all_answered ∙ ap length is.questions_are;
     noted = is_noted case;
     is_noted = noted;
-    status_is = status_is;
+    status_is = status_is ∙ ap (λ xs. status_of xs answers) is.questions_are;
     report_is = ap (λ xs. whole words folder budget (is_noted case) c.skips xs answers) is.questions_are;
   }
 
@@ -177,9 +177,10 @@ module _ (law : JudgementsAreTheSources TakesFewer) (q : Request) (held : Told) 
     reported answers report are (all n e) =
         subst (λ l. IsReport asked (seen_in r) l)
         (sym (e ∙ whole_is TakesFewer case words folder budget answers are))
-        (run.whole (status_of answers) (says (status_of answers)
+        (run.whole (status_of case.questions answers) (says (status_of case.questions answers)
         (whole words folder budget (is_noted case) c.skips case.questions answers)
-        (whole_said (status_of answers) answers (are_answers TakesFewer case words folder budget answers are) n refl)))
+        (whole_said (status_of case.questions answers) answers (are_answers TakesFewer case words folder budget answers are)
+        n refl)))
 
     module _ (middle : Outside) (earlier : IsEarlier r.before middle) where
       whole_reported : (status : Status) → reports.Reports plan middle r.now status → Reports asked r status
@@ -187,7 +188,7 @@ module _ (law : JudgementsAreTheSources TakesFewer) (q : Request) (held : Told) 
         report = whole words folder budget (is_noted case) c.skips case.questions x.answers;
         says = says status (whole words folder budget (is_noted case) c.skips case.questions x.answers)
             (whole_said status x.answers (are_answers TakesFewer case words folder budget x.answers x.are) x.all
-            (status_is TakesFewer case words folder budget x.answers status x.status_is));
+            (status_is TakesFewer case words folder budget x.answers status x.are x.status_is));
         delivered = later_delivers r.before middle r.now earlier _
             (subst (λ l. Delivers middle r.now l) (whole_is TakesFewer case words folder budget x.answers x.are)
             x.delivered);

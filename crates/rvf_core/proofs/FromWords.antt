@@ -18,7 +18,9 @@ use Rattle.rvf_core.specs.Puts.{Puts}
 use Rattle.rvf_core.specs.Run.{Answers, Ends, IsExact, Run, none_failed, usage_line}
 use Rattle.rvf_core.specs.Run as run
 use Rattle.rvf_core.specs.Steps.{HaveStatus}
+use Rattle.rvf_core.specs.Tasks.{task_asked, task_of}
 use Rattle.rvf_core.specs.declared.report.Report.{Report}
+use Rattle.rvf_core.proofs.Asking.{no_statuses}
 use Rattle.rvf_core.proofs.Endings.{Fits, IsOwn, ends_put}
 use Rattle.rvf_core.proofs.Exact.{IsExact-answers}
 use Rattle.rvf_core.proofs.FromChecks.{seen_from}
@@ -95,12 +97,7 @@ memory_ends line asked before = record {
 }
 
 pub memory_statuses : (line : Option Words) (r : Run) → HaveStatus line r s.Memory
-memory_statuses None r = tt
-memory_statuses (Some (words.Run cfg outdir core basedir budget jobs)) r =
-    λ names told no_fault f cause. comes_Memory (refused_status f)
-memory_statuses (Some (words.List cfg)) r = tt
-memory_statuses (Some (words.Lrat cnf proof)) r = tt
-memory_statuses (Some (words.Bench size)) r = tt
+memory_statuses line r = λ t is names told no_fault f cause. comes_Memory (refused_status f)
 
 pub line_ends : (found line : Option Words) (r : Run) (status : Status) → found ≡ line → Ends found r status
     → Ends line r status
@@ -111,7 +108,7 @@ pub line_statuses : (found line : Option Words) (r : Run) (status : Status) → 
 line_statuses found line r status e x = subst (λ l. HaveStatus l r status) e x
 
 pub none_statuses : (line : Option Words) (r : Run) (status : Status) → None ≡ line → HaveStatus line r status
-none_statuses line r status e = subst (λ l. HaveStatus l r status) e tt
+none_statuses line r status e = no_statuses line r status (ap task_asked (sym e))
 
 -- so want of memory may be answered whatever the words ask for
 pub memory_at_once : (asked : List (List ℕ)) (before : Outside)
@@ -124,35 +121,14 @@ memory_at_once asked before =
 
 -- ---- the line that was read, in other words
 
-same_run : (l : Words) (cfg outdir core basedir a b c d : List ℕ) (budget jobs : ℕ)
-    → l ≡ words.Run cfg outdir core basedir budget jobs → a ≡ cfg → b ≡ outdir → c ≡ core → d ≡ basedir
-    → words.Run a b c d budget jobs ≡ l
-same_run l cfg outdir core basedir a b c d budget jobs e p q r s =
-    ap (λ x. words.Run x b c d budget jobs) p ∙ ap (λ x. words.Run cfg x c d budget jobs) q
-    ∙ ap (λ x. words.Run cfg outdir x d budget jobs) r ∙ ap (λ x. words.Run cfg outdir core x budget jobs) s ∙ sym e
-
 module _ (l : Words) (r : Run) (status : Status) where
-  pub run_ends : (cfg outdir core basedir a b c d : List ℕ) (budget jobs : ℕ)
-      → l ≡ words.Run cfg outdir core basedir budget jobs → a ≡ cfg → b ≡ outdir → c ≡ core → d ≡ basedir
-      → Ends (Some (words.Run a b c d budget jobs)) r status → Ends (Some l) r status
-  run_ends cfg outdir core basedir a b c d budget jobs e p q s t x =
-      subst (λ line. Ends (Some line) r status)
-      (same_run l cfg outdir core basedir a b c d budget jobs e p q s t) x
-
-  pub run_statuses : (cfg outdir core basedir a b c d : List ℕ) (budget jobs : ℕ)
-      → l ≡ words.Run cfg outdir core basedir budget jobs → a ≡ cfg → b ≡ outdir → c ≡ core → d ≡ basedir
-      → HaveStatus (Some (words.Run a b c d budget jobs)) r status → HaveStatus (Some l) r status
-  run_statuses cfg outdir core basedir a b c d budget jobs e p q s t x =
-      subst (λ line. HaveStatus (Some line) r status)
-      (same_run l cfg outdir core basedir a b c d budget jobs e p q s t) x
-
   pub list_ends : (cfg a : List ℕ) → l ≡ words.List cfg → a ≡ cfg → Ends (Some (words.List a)) r status
       → Ends (Some l) r status
   list_ends cfg a e p x =
       subst (λ line. Ends (Some line) r status) (ap (λ z. words.List z) p ∙ sym e) x
 
   pub list_statuses : (cfg : List ℕ) → l ≡ words.List cfg → HaveStatus (Some l) r status
-  list_statuses cfg e = subst (λ line. HaveStatus (Some line) r status) (sym e) tt
+  list_statuses cfg e = no_statuses (Some l) r status (ap task_of e)
 
   pub lrat_ends : (cnf proof a b : List ℕ) → l ≡ words.Lrat cnf proof → a ≡ cnf → b ≡ proof
       → Ends (Some (words.Lrat a b)) r status → Ends (Some l) r status
@@ -161,10 +137,10 @@ module _ (l : Words) (r : Run) (status : Status) where
       (ap (λ z. words.Lrat z b) p ∙ ap (λ z. words.Lrat cnf z) q ∙ sym e) x
 
   pub lrat_statuses : (cnf proof : List ℕ) → l ≡ words.Lrat cnf proof → HaveStatus (Some l) r status
-  lrat_statuses cnf proof e = subst (λ line. HaveStatus (Some line) r status) (sym e) tt
+  lrat_statuses cnf proof e = no_statuses (Some l) r status (ap task_of e)
 
   pub bench_ends : (size : ℕ) → l ≡ words.Bench size → Ends (Some (words.Bench size)) r status → Ends (Some l) r status
   bench_ends size e x = subst (λ line. Ends (Some line) r status) (sym e) x
 
   pub bench_statuses : (size : ℕ) → l ≡ words.Bench size → HaveStatus (Some l) r status
-  bench_statuses size e = subst (λ line. HaveStatus (Some line) r status) (sym e) tt
+  bench_statuses size e = no_statuses (Some l) r status (ap task_of e)

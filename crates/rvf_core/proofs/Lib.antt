@@ -12,6 +12,7 @@ pub mod FromFiles
 pub mod FromChecks
 pub mod FromWords
 pub mod FromBench
+pub mod Asking
 pub mod Passes
 pub mod Members
 pub mod Instructions

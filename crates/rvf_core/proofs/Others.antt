@@ -143,6 +143,8 @@ module _ (names : Names) (misses misses_now faults faults_now : ℕ) (no_fault :
   same_told (words.Lrat cnf proof) is status wanted report other x y =
       same_certificates cnf proof status wanted report other x y
   same_told (words.Bench size) is status wanted report other x y = absurd is
+  same_told (words.Cover o) is status wanted report other x y = absurd is
+  same_told (words.Zb o) is status wanted report other x y = absurd is
 
 -- the same, of a run whose files are told
 module _ (r : Run) (names : Names) (told : r.before.held ≡ Some names)

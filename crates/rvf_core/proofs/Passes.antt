@@ -25,7 +25,7 @@ use Rattle.rvf_case.specs.Loading.load as load
 use Rattle.rvf_case.specs.Cases.{Request, Seen}
 use Rattle.rvf_case.specs.declared.refusal.Refusal.{Refusal}
 use Rattle.rvf_case.specs.declared.refusal.Refusal.TheVariants as refusal
-use Rattle.rvf_checks.specs.Deliveries.{deliveries_of, path}
+use Rattle.rvf_checks.specs.Deliveries.{deliveries_in, path}
 use Rattle.rvf_report.specs.Lines.{load_line, refusal_line}
 use Rattle.rvf_checks.specs.Checked.{answered, begun, head, note_of, skips_of, whole}
 use Rattle.rvf_checks.specs.CheckLines.{fail_line, note_line, pass_line, skip_line, spent_line, total_line}
@@ -39,7 +39,8 @@ use Rattle.rvf_core.specs.Checks.{Checks, HasRead}
 use Rattle.rvf_core.specs.Checks as checks
 use Rattle.rvf_core.specs.Pass.{HasPassed, PassMeans}
 use Rattle.rvf_core.specs.PassLaw.{PassesAreMeant}
-use Rattle.rvf_core.specs.Run.{IsReport, Run, request, seen_in}
+use Rattle.rvf_core.specs.Run.{IsReport, Run, seen_in}
+use Rattle.rvf_core.specs.Tasks.{request}
 use Rattle.rvf_core.specs.Run as run
 use Rattle.rvf_core.specs.Verdicts.{AreJudged, Judges, check_questions, opts_in, text_of, wants_in}
 
@@ -119,7 +120,7 @@ module _ (name : List ℕ) (Meant : Type 0) where
 
   delivered : (folder : List ℕ) (budget : ℕ) (x : List ℕ) (j : Judged)
       → ((texts : CertificateTexts) → j ≡ judged.Never texts → x ≡ name → Meant)
-      → AllByRecursion IsMeant (deliveries_of folder x budget j)
+      → AllByRecursion IsMeant (deliveries_in wording.Run folder x budget j)
   delivered folder budget x (judged.Never texts) f =
       let line : IsMeant (Line (pass_line x)) =
       λ e. f texts refl (same_name x name (same_line (pass_line x) (pass_line name) e)) in (
@@ -171,7 +172,7 @@ module _ (name : List ℕ) (Meant : Type 0) where
 
     of_check : (x : Check) (j : Judged) → Contains (checks_of c) x
         → Judges c files (check_questions c) budget (question.Check x) j
-        → AllByRecursion IsMeant (deliveries_of folder x.name budget j)
+        → AllByRecursion IsMeant (deliveries_in wording.Run folder x.name budget j)
     of_check x j among g =
         delivered folder budget x.name j
         (λ texts is named. meant x among named
@@ -186,7 +187,7 @@ module _ (name : List ℕ) (Meant : Type 0) where
     answers_meant before (x ∷ xs) (j ∷ js) e are =
         let among : Contains (checks_of c) x =
         subst (λ l. Contains l x) (sym e) (Contains-append_right before (x ∷ xs) x (0, omega arith, refl)) in
-        both (deliveries_of folder x.name budget j) (answered wording.Run folder budget (asked xs) js)
+        both (deliveries_in wording.Run folder x.name budget j) (answered wording.Run folder budget (asked xs) js)
         (of_check x j among are.0) (answers_meant (before ++ x ∷ []) xs js
         (e ∙ sym (append_assoc before (x ∷ []) xs)) are.1)
 
@@ -202,8 +203,8 @@ module _ (name : List ℕ) (Meant : Type 0) where
         → AllByRecursion IsMeant (whole wording.Run folder budget noted skips (check_questions c) js)
     whole_meant noted skips js are =
         both (begun wording.Run folder budget noted skips (check_questions c) js)
-        (Line (total_line (counts_of js) (length skips)) ∷ []) (begun_meant noted skips js are)
-        (other (total_line (counts_of js) (length skips)) refl, tt)
+        (Line (total_line (counts_of (check_questions c) js) (length skips)) ∷ []) (begun_meant noted skips js are)
+        (other (total_line (counts_of (check_questions c) js) (length skips)) refl, tt)
 
 -- ---- reports
 

@@ -10,8 +10,8 @@ use Rattle.fv_lines.specs.Numbers.{at_most, natural_of, number_up_to}
 use Rattle.rvf_words.specs.declared.line.Line.{Line}
 use Rattle.rvf_words.specs.declared.line.Line.TheVariants as line
 use Rattle.rvf_words.specs.declared.line.Options.{Options}
-use Rattle.rvf_words.specs.Line.{asked, bench_line, budget_of, count_of, jobs_of, line_of, list_line, lrat_line}
-use Rattle.rvf_words.specs.Line.{options_in, run_line, size_of}
+use Rattle.rvf_words.specs.Line.{asked, bench_line, budget_of, count_of, cover_line, jobs_of, line_of, list_line}
+use Rattle.rvf_words.specs.Line.{lrat_line, options_in, run_line, size_of, zb_line}
 use Rattle.rvf_words.specs.Table.{program}
 use Rattle.rvf_core.specs.Run.{IsLine}
 
@@ -119,18 +119,37 @@ bench_in_range rows =
     (option_and_then size_of (first_of (codes "size") rows))
     (if_any (option_and_then size_of (first_of (codes "size") rows))) (λ size u. tt)
 
+cover_in_range : (rows : List Row) → IfSome (cover_line rows) IsLine
+cover_in_range rows =
+    if_mapped AreInRange IsLine (λ o. line.Cover o) (options_in rows) (options_in_range rows) (λ o is. is)
+
+zb_in_range : (rows : List Row) → IfSome (zb_line rows) IsLine
+zb_in_range rows =
+    if_mapped AreInRange IsLine (λ o. line.Zb o) (options_in rows) (options_in_range rows) (λ o is. is)
+
 asked_in_range : (name : List ℕ) (rows : List Row) → IfSome (asked name rows) IsLine
 asked_in_range name rows =
     if_chosen IsLine (bytes_eq name (codes "run")) (run_line rows)
     (if bytes_eq name (codes "list") then list_line rows
     else if bytes_eq name (codes "lrat") then lrat_line rows
-    else if bytes_eq name (codes "bench") then bench_line rows else None) (run_in_range rows)
+    else if bytes_eq name (codes "bench") then bench_line rows
+    else if bytes_eq name (codes "cover") then cover_line rows
+    else if bytes_eq name (codes "zb") then zb_line rows else None) (run_in_range rows)
     (if_chosen IsLine (bytes_eq name (codes "list")) (list_line rows)
     (if bytes_eq name (codes "lrat") then lrat_line rows
-    else if bytes_eq name (codes "bench") then bench_line rows else None) (list_in_range rows)
+    else if bytes_eq name (codes "bench") then bench_line rows
+    else if bytes_eq name (codes "cover") then cover_line rows
+    else if bytes_eq name (codes "zb") then zb_line rows else None) (list_in_range rows)
     (if_chosen IsLine (bytes_eq name (codes "lrat")) (lrat_line rows)
-    (if bytes_eq name (codes "bench") then bench_line rows else None) (lrat_in_range rows)
-    (if_kept IsLine (bytes_eq name (codes "bench")) (bench_line rows) (bench_in_range rows))))
+    (if bytes_eq name (codes "bench") then bench_line rows
+    else if bytes_eq name (codes "cover") then cover_line rows
+    else if bytes_eq name (codes "zb") then zb_line rows else None) (lrat_in_range rows)
+    (if_chosen IsLine (bytes_eq name (codes "bench")) (bench_line rows)
+    (if bytes_eq name (codes "cover") then cover_line rows
+    else if bytes_eq name (codes "zb") then zb_line rows else None) (bench_in_range rows)
+    (if_chosen IsLine (bytes_eq name (codes "cover")) (cover_line rows)
+    (if bytes_eq name (codes "zb") then zb_line rows else None) (cover_in_range rows)
+    (if_kept IsLine (bytes_eq name (codes "zb")) (zb_line rows) (zb_in_range rows))))))
 
 line_in_range : (words : List (List ℕ)) → IfSome (line_of words) IsLine
 line_in_range words =

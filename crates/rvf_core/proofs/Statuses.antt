@@ -2,9 +2,9 @@
 use Rattle.std.proofs.Common.{◌≡◌, Bool, true, false, ◌||◌, ◌==◌, if◌then◌else◌, List, ◌∷◌, refl, sym, subst}
 use Rattle.std.proofs.Common.{inl, inr, ◌⊎◌}
 use Rattle.std.specs.List.{list_any}
+use Rattle.ck_ask.specs.declared.question.Question.{Question}
 use Rattle.rvf_judge.specs.declared.judged.Judged.{Judged}
-use Rattle.rvf_judge.specs.declared.judged.Judged.TheVariants as judged
-use Rattle.rvf_checks.specs.Counting.{is_fail, is_spent, status_of}
+use Rattle.rvf_checks.specs.Counting.{any_fails, fails, is_spent, status_of}
 use Rattle.rvf_report.specs.Status.{code_of}
 use Rattle.rvf_report.specs.declared.status.Status.{Status}
 use Rattle.rvf_report.specs.declared.status.Status.TheVariants as s
@@ -15,16 +15,6 @@ pub data IsVerdict (status : Status) : Type 0 where
   pass : status ≡ s.Passed → IsVerdict status
   fail : status ≡ s.Failing → IsVerdict status
   spent : status ≡ s.Spent → IsVerdict status
-
-abbrev pub IsFail : Judged → Type 0
-IsFail (judged.Never texts) = ⊥
-IsFail (judged.Found dump) = Unit {0}
-IsFail (judged.Spent texts) = ⊥
-
-abbrev pub IsPass : Judged → Type 0
-IsPass (judged.Never texts) = Unit {0}
-IsPass (judged.Found dump) = ⊥
-IsPass (judged.Spent texts) = ⊥
 
 failing_passed : s.Failing ≡ s.Passed → ⊥
 failing_passed e = cc
@@ -44,31 +34,43 @@ chosen true spends = fail refl
 chosen false true = spent refl
 chosen false false = pass refl
 
-pub is_verdict : (js : List Judged) → IsVerdict (status_of js)
-is_verdict js = chosen (list_any is_fail js) (list_any is_spent js)
+pub is_verdict : (qs : List Question) (js : List Judged) → IsVerdict (status_of qs js)
+is_verdict qs js = chosen (any_fails qs js) (list_any is_spent js)
 
-never_passed : (fails : Bool) → (if fails then s.Failing else s.Spent) ≡ s.Passed → ⊥
-never_passed true e = failing_passed e
-never_passed false e = spent_passed e
+-- an answer is there, and its question doesn't fail
+pub record IsClear (q : Question) (j : Judged) : Type 0 where
+  pub clear : fails q j ≡ false
+  pub answered : is_spent j ≡ false
 
--- where they pass, each passes
-pub all_pass : (j : Judged) (js : List Judged) → status_of (j ∷ js) ≡ s.Passed
-    → IsPass j × (status_of js ≡ s.Passed)
-all_pass (judged.Never texts) js e = (tt, e)
-all_pass (judged.Found dump) js e = absurd (failing_passed e)
-all_pass (judged.Spent texts) js e = absurd (never_passed (list_any is_fail js) e)
+clear_of : (fail fails spend spends : Bool)
+    → (if fail || fails then s.Failing else if spend || spends then s.Spent else s.Passed) ≡ s.Passed
+    → (fail ≡ false) × (spend ≡ false)
+    × ((if fails then s.Failing else if spends then s.Spent else s.Passed) ≡ s.Passed)
+clear_of true fails spend spends e = absurd (failing_passed e)
+clear_of false true spend spends e = absurd (failing_passed e)
+clear_of false false true spends e = absurd (spent_passed e)
+clear_of false false false spends e = (refl, refl, e)
 
-still_failing : (fails spends : Bool) → (if fails then s.Failing else s.Spent) ≡ s.Failing
-    → (if fails then s.Failing else if spends then s.Spent else s.Passed) ≡ s.Failing
-still_failing true spends e = refl
-still_failing false spends e = absurd (spent_failing e)
+-- where they pass, each is clear
+pub all_clear : (q : Question) (qs : List Question) (j : Judged) (js : List Judged)
+    → status_of (q ∷ qs) (j ∷ js) ≡ s.Passed → IsClear q j × (status_of qs js ≡ s.Passed)
+all_clear q qs j js e =
+    let f = clear_of (fails q j) (any_fails qs js) (is_spent j) (list_any is_spent js) e in
+    (record { clear = f.0; answered = f.1 }, f.2)
+
+fails_or : (fail fails spend spends : Bool)
+    → (if fail || fails then s.Failing else if spend || spends then s.Spent else s.Passed) ≡ s.Failing
+    → (fail ≡ true) ⊎ ((if fails then s.Failing else if spends then s.Spent else s.Passed) ≡ s.Failing)
+fails_or true fails spend spends e = inl refl
+fails_or false true spend spends e = inr refl
+fails_or false false true spends e = absurd (spent_failing e)
+fails_or false false false true e = absurd (spent_failing e)
+fails_or false false false false e = absurd (passed_failing e)
 
 -- where they fail, one fails
-pub one_fails : (j : Judged) (js : List Judged) → status_of (j ∷ js) ≡ s.Failing
-    → IsFail j ⊎ (status_of js ≡ s.Failing)
-one_fails (judged.Never texts) js e = inr e
-one_fails (judged.Found dump) js e = inl tt
-one_fails (judged.Spent texts) js e = inr (still_failing (list_any is_fail js) (list_any is_spent js) e)
+pub one_fails : (q : Question) (qs : List Question) (j : Judged) (js : List Judged)
+    → status_of (q ∷ qs) (j ∷ js) ≡ s.Failing → (fails q j ≡ true) ⊎ (status_of qs js ≡ s.Failing)
+one_fails q qs j js e = fails_or (fails q j) (any_fails qs js) (is_spent j) (list_any is_spent js) e
 
 -- ---- tests of statuses
 

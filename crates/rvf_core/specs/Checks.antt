@@ -50,7 +50,7 @@ pub record IsWhole (q : Request) (held : Told) (words : Wording) (folder : List 
   pub all : length answers ≡ length (questions_in q config)
   pub noted : Bool
   pub is_noted : IsNoted config files (questions_in q config) noted
-  pub status_is : status ≡ status_of answers
+  pub status_is : status ≡ status_of (questions_in q config) answers
   pub report_is : report ≡ whole words folder budget noted config.skips (questions_in q config) answers
 
 -- ---- refusals

@@ -2,6 +2,7 @@ pub mod Verdicts
 pub mod Checks
 pub mod Lists
 pub mod Bench
+pub mod Tasks
 pub mod Certificate
 pub mod Certifies
 pub mod Unread
@@ -11,6 +12,7 @@ pub mod PassLaw
 pub mod Puts
 pub mod Run
 pub mod Steps
+pub mod Works
 pub mod Statuses
 pub use Rattle.rvf_report.specs.Outcome
 pub use Rattle.rvf_report.specs.Status

@@ -10,7 +10,8 @@ use Rattle.rvf_report.specs.declared.delivery.Delivery.TheVariants.{Line}
 use Rattle.rvf_report.specs.declared.status.Status.{Status}
 use Rattle.rvf_report.specs.declared.status.Status.TheVariants as s
 use Rattle.rvf_core.specs.Pass.{HasPassed}
-use Rattle.rvf_core.specs.Run.{Answers, Run, request}
+use Rattle.rvf_core.specs.Run.{Answers, Run}
+use Rattle.rvf_core.specs.Tasks.{request}
 
 -- the files and lines that came through, by the answer: all of its report, or those before the one that failed, or
 -- those before memory was wanted

@@ -2,19 +2,19 @@
 use Rattle.std.specs.Prelude.{◌≡◌, ℕ, ◌<◌, ◌≤◌, ◌+◌, ◌-◌, ◌^◌, Bool, true, false, ◌||◌, ◌==◌, nat_le, min, List, []}
 use Rattle.std.specs.Prelude.{◌∷◌, ◌++◌, Option, Some, None, codes}
 use Rattle.std.specs.List.{All, Contains}
-use Rattle.fv_base.specs.Outside.{Names}
+use Rattle.fv_base.specs.Outside.{Names, Told}
 use Rattle.vl_size.specs.Size.{Values}
 use Rattle.ck_cfg.specs.declared.check.Check.{Check}
 use Rattle.ck_cfg.specs.declared.config.Config.{Config}
 use Rattle.ck_cfg.specs.Checks.{checks_of}
+use Rattle.ck_ask.specs.declared.question.Question.{Question}
 use Rattle.rvf_words.specs.declared.line.Line.{Line as Words}
 use Rattle.rvf_words.specs.declared.line.Line.TheVariants as words
 use Rattle.rvf_words.specs.Line.{line_of}
-use Rattle.rvf_case.specs.Cases.{Request, Seen, AreUnrefused, IsCause}
+use Rattle.rvf_case.specs.Cases.{Seen, AreUnrefused, IsCause, questions_in}
 use Rattle.rvf_case.specs.Texts.{leaders}
 use Rattle.rvf_case.specs.declared.asking.Asking.TheVariants as asking
 use Rattle.rvf_case.specs.declared.refusal.Refusal.{Refusal}
-use Rattle.rvf_checks.specs.declared.wording.Wording.TheVariants as wording
 use Rattle.rvf_report.specs.Outcome.{Outside, Delivers, Fails, Stops}
 use Rattle.rvf_report.specs.Status.{code_of}
 use Rattle.rvf_report.specs.declared.delivery.Delivery.{Delivery}
@@ -25,7 +25,8 @@ use Rattle.rvf_core.specs.Bench as bench
 use Rattle.rvf_core.specs.Certifies.{Certifies}
 use Rattle.rvf_core.specs.Checks.{Checks, HasRead, IsBegun, refused_status}
 use Rattle.rvf_core.specs.Lists.{Lists}
-use Rattle.rvf_core.specs.Verdicts.{Violates, check_questions}
+use Rattle.rvf_core.specs.Tasks.{Task, bench_task, cover_task, run_task, task_asked, zb_task}
+use Rattle.rvf_core.specs.Verdicts.{QuestionFails, Violates}
 
 -- all that a run was given, and what it left
 pub record Run : Type 0 where
@@ -44,49 +45,62 @@ seen_in r = record {
   faults_now = r.now.faults;
 }
 
--- the checks of a configuration are asked for
-abbrev pub request : List ℕ → List ℕ → List ℕ → Request
-request cfg core basedir = record { cfg = cfg; core = core; basedir = basedir; asking = asking.Checks }
-
 -- ---- what the words ask for, and what is reported on it
 
 -- the numbers of a line are in their ranges
 abbrev pub IsLine : Words → Type 0
 IsLine (words.Run cfg outdir core basedir budget jobs) = (0 < budget) × (1 ≤ jobs) × (jobs ≤ 64)
+IsLine (words.Cover o) = (0 < o.budget) × (1 ≤ o.jobs) × (o.jobs ≤ 64)
+IsLine (words.Zb o) = (0 < o.budget) × (1 ≤ o.jobs) × (o.jobs ≤ 64)
 IsLine line = Unit {0}
+
+-- the operands and options of a word that asks for questions of a configuration
+abbrev pub options_text : List ℕ
+options_text = codes "CFG OUTDIR [--core NAME] [--basedir DIR] [--budget N] [--jobs N]"
 
 abbrev pub usage_line : List ℕ
 usage_line =
-    codes "usage: rvf run CFG OUTDIR [--core NAME] [--basedir DIR] [--budget N] [--jobs N] | list CFG | lrat CNF PROOF"
-    ++ codes " | bench N\n"
+    codes "usage: rvf run " ++ (options_text
+    ++ (codes " | list CFG | lrat CNF PROOF | bench N | cover " ++ (options_text
+    ++ (codes " | zb " ++ (options_text ++ codes "\n")))))
 
 -- other words
 pub record Misuses (status : Status) (report : List Delivery) : Type 0 where
   pub status_is : status ≡ s.Usage
   pub report_is : report ≡ Line usage_line ∷ []
 
+-- a status has its cause where this is asked for, and this is its report
+abbrev pub Answered : Task → Seen → Status → List Delivery → Type 0
+Answered t seen status report = Checks t.request seen t.wording t.folder t.budget status report
+
+-- a report on it of which not all is known yet: the questions are answered one by one
+abbrev pub AnswersBegin : Task → Told → List Delivery → Type 0
+AnswersBegin t held report = IsBegun t.request held t.wording t.folder t.budget report
+
 -- a status has its cause where `bench` asks for the checks of the design that it makes, and this is its report
 pub record Benches (size : ℕ) (status : Status) (report : List Delivery) : Type 0 where
   pub misses : ℕ
   pub misses_now : ℕ
-  pub checks : Checks bench.request (bench.seen_of size misses misses_now) (wording.Bench size) bench.folder
-      bench.budget status report
+  pub checks : Answered (bench_task size) (bench.seen_of size misses misses_now) status report
 
 -- a status has its cause, under what the words ask for, and this is its report
 abbrev pub Says : Option Words → Seen → Status → List Delivery → Type 0
 Says None seen status report = Misuses status report
 Says (Some (words.Run cfg outdir core basedir budget jobs)) seen status report =
-    Checks (request cfg core basedir) seen wording.Run outdir budget status report
+    Answered (run_task cfg outdir core basedir budget) seen status report
 Says (Some (words.List cfg)) seen status report = Lists cfg seen status report
 Says (Some (words.Lrat cnf proof)) seen status report = Certifies cnf proof seen status report
 Says (Some (words.Bench size)) seen status report = Benches size status report
+Says (Some (words.Cover o)) seen status report = Answered (cover_task o) seen status report
+Says (Some (words.Zb o)) seen status report = Answered (zb_task o) seen status report
 
--- a report of which not all is known yet: the checks are judged one by one
+-- a report of which not all is known yet
 abbrev pub Begins : Option Words → Seen → List Delivery → Type 0
 Begins (Some (words.Run cfg outdir core basedir budget jobs)) seen report =
-    IsBegun (request cfg core basedir) seen.held wording.Run outdir budget report
-Begins (Some (words.Bench size)) seen report =
-    IsBegun bench.request (Some (bench.held_of size)) (wording.Bench size) bench.folder bench.budget report
+    AnswersBegin (run_task cfg outdir core basedir budget) seen.held report
+Begins (Some (words.Bench size)) seen report = AnswersBegin (bench_task size) (Some (bench.held_of size)) report
+Begins (Some (words.Cover o)) seen report = AnswersBegin (cover_task o) seen.held report
+Begins (Some (words.Zb o)) seen report = AnswersBegin (zb_task o) seen.held report
 Begins asked seen report = ⊥
 
 -- the report of some status, or as far as it is known
@@ -131,39 +145,38 @@ Answers status r = Ends (line_of r.words) r status
 abbrev pub rose : ℕ → ℕ → Bool
 rose before now = nat_le (min (before + 1) (2 ^ 64 - 1)) now
 
--- the words ask for the checks of a configuration, the files are told, and no read or write failed
-pub record Asks (r : Run) : Type 0 where
-  pub cfg : List ℕ
-  pub outdir : List ℕ
-  pub core : List ℕ
-  pub basedir : List ℕ
-  pub budget : ℕ
-  pub jobs : ℕ
-  pub asked : line_of r.words ≡ Some (words.Run cfg outdir core basedir budget jobs)
+-- the words ask for questions of a configuration, the files are told, and no read or write failed
+pub record Asks (r : Run) (t : Task) : Type 0 where
+  pub asked : task_asked (line_of r.words) ≡ Some t
   pub names : Names
   pub told : r.before.held ≡ Some names
   pub no_fault : rose r.before.faults r.now.faults ≡ false
 
--- a cause is there why no check is judged
+-- a cause is there why no question is answered
 pub record HasCause (r : Run) (f : Refusal) : Type 0 where
-  pub asks : Asks r
-  pub cause : IsCause (request asks.cfg asks.core asks.basedir) (seen_in r) f
+  pub task : Task
+  pub asks : Asks r task
+  pub cause : IsCause task.request (seen_in r) f
 
--- no part refuses the texts of the checks
-abbrev pub AreAccepted : Config → List (List ℕ) → Type 0
-AreAccepted c files = AreUnrefused c files (check_questions c) (leaders c (check_questions c))
+-- no part refuses the texts of these questions
+abbrev pub AreAccepted : Config → List (List ℕ) → List Question → Type 0
+AreAccepted c files qs = AreUnrefused c files qs (leaders c qs)
 
--- all is read, and no text is refused: of the files that the words name, or of what `bench` makes
-pub data IsAccepted (r : Run) (c : Config) (files : List (List ℕ)) : Type 0 where
-  of_files : (asks : Asks r) → HasRead (request asks.cfg asks.core asks.basedir) r.before.held c files
-      → AreAccepted c files → IsAccepted r c files
-  of_bench : (size : ℕ) → line_of r.words ≡ Some (words.Bench size)
-      → HasRead bench.request (Some (bench.held_of size)) c files → AreAccepted c files → IsAccepted r c files
+-- all is read that the task asks for, and no text is refused: of the files that the words name, or of what `bench`
+-- makes
+pub data IsAccepted (r : Run) (t : Task) (c : Config) (files : List (List ℕ)) : Type 0 where
+  of_files : Asks r t → HasRead t.request r.before.held c files → AreAccepted c files (questions_in t.request c)
+      → IsAccepted r t c files
+  of_bench : (size : ℕ) → line_of r.words ≡ Some (words.Bench size) → t ≡ bench_task size
+      → HasRead t.request (Some (bench.held_of size)) c files → AreAccepted c files (questions_in t.request c)
+      → IsAccepted r t c files
 
 -- the words ask for names of checks or for the check of a certificate, the files are told, and no read or write failed
 abbrev pub IsOther : Words → Type 0
 IsOther (words.Run cfg outdir core basedir budget jobs) = ⊥
 IsOther (words.Bench size) = ⊥
+IsOther (words.Cover o) = ⊥
+IsOther (words.Zb o) = ⊥
 IsOther asked = Unit {0}
 
 pub record AsksOther (r : Run) (asked : Words) : Type 0 where
@@ -198,7 +211,7 @@ HasCounts s.WriteFault before now = Unit {0}
 HasCounts s.Memory before now = (now.out_faults ≡ before.out_faults) × FailsFirst before now
 HasCounts status before now = IsQuiet before now
 
--- all checks were judged, or what may take its place came
+-- all questions were answered, or what may take its place came
 abbrev pub comes_judged : Status → Bool
 comes_judged status = comes_in_budget s.Passed status || comes s.Failing status
 
@@ -207,12 +220,21 @@ pub record IsExact (status : Status) (r : Run) : Type 0 where
   pub counts : HasCounts status r.before r.now
   pub usage : line_of r.words ≡ None → comes s.Usage status ≡ true
   pub refusal : (f : Refusal) → HasCause r f → comes (refused_status f) status ≡ true
-  pub pass : (c : Config) (files : List (List ℕ)) → IsAccepted r c files
-      → All (λ x. (run : List Values) → Violates c files x run → ⊥) (checks_of c)
+  -- where no question fails, and where one does
+  pub none_fails : (t : Task) (c : Config) (files : List (List ℕ)) → IsAccepted r t c files
+      → All (λ q. QuestionFails c files (questions_in t.request c) q → ⊥) (questions_in t.request c)
       → comes_in_budget s.Passed status ≡ true
-  pub fail : (c : Config) (files : List (List ℕ)) (x : Check) (run : List Values) → IsAccepted r c files
-      → Contains (checks_of c) x → Violates c files x run → comes_in_budget s.Failing status ≡ true
-  pub judged : (c : Config) (files : List (List ℕ)) → IsAccepted r c files → comes_judged status ≡ true
+  pub one_fails : (t : Task) (c : Config) (files : List (List ℕ)) (q : Question) → IsAccepted r t c files
+      → Contains (questions_in t.request c) q → QuestionFails c files (questions_in t.request c) q
+      → comes_in_budget s.Failing status ≡ true
+  pub judged : (t : Task) (c : Config) (files : List (List ℕ)) → IsAccepted r t c files → comes_judged status ≡ true
+  -- so where the checks are asked for, and no run violates one, or one does
+  pub pass : (t : Task) (c : Config) (files : List (List ℕ)) → IsAccepted r t c files
+      → t.request.asking ≡ asking.Checks → All (λ x. (run : List Values) → Violates c files x run → ⊥) (checks_of c)
+      → comes_in_budget s.Passed status ≡ true
+  pub fail : (t : Task) (c : Config) (files : List (List ℕ)) (x : Check) (run : List Values) → IsAccepted r t c files
+      → t.request.asking ≡ asking.Checks → Contains (checks_of c) x → Violates c files x run
+      → comes_in_budget s.Failing status ≡ true
   -- a status that has its cause under the other words
   pub other : (asked : Words) (wanted : Status) (report : List Delivery) → AsksOther r asked
       → Says (Some asked) (seen_in r) wanted report → comes wanted status ≡ true

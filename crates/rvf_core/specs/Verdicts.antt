@@ -1,6 +1,6 @@
 -- Meaning: What the questions of a configuration come to, said of the designs that their texts write. Rules of this
 -- project.
-use Rattle.std.specs.Prelude.{◌≡◌, ℕ, Bool, true, false, List, [], ◌∷◌, None}
+use Rattle.std.specs.Prelude.{◌≡◌, ℕ, Bool, true, false, List, [], ◌∷◌, Option, Some, None}
 use Rattle.std.specs.List.{list_any}
 use Rattle.vl_elab_spec.specs.Refused.{refusal}
 use Rattle.ck_cfg.specs.declared.check.Check.{Check}
@@ -10,9 +10,12 @@ use Rattle.ck_cfg.specs.declared.kind.CheckKind.TheVariants as kind
 use Rattle.ck_cfg.specs.Kind.{is_kind}
 use Rattle.vl_size.specs.Size.{Values}
 use Rattle.rv_table.specs.declared.retire.Opts.{Opts}
+use Rattle.rv_table.specs.declared.row.RowId.{RowId}
 use Rattle.rvfi_port.specs.declared.port.Wants.{Wants}
 use Rattle.ck_ask.specs.Questions.{question_kind}
 use Rattle.ck_ask.specs.declared.question.Question.{Question}
+use Rattle.ck_ask.specs.declared.question.Question.TheVariants as question
+use Rattle.ck_design.specs.Findings.{IsFound}
 use Rattle.ck_design.specs.Retirements.{IsViolating}
 use Rattle.vl_text.specs.SourceText.{Reading}
 use Rattle.bm_decide.specs.Searches.{TakesFewer}
@@ -53,8 +56,32 @@ pub record Violates (c : Config) (files : List (List ℕ)) (x : Check) (run : Li
   pub violating : IsViolating (design_of reading.tree.modules) c.nret (wants_in (text_of c files x.kind) reading) x
       (opts_in (text_of c files x.kind) reading) run
 
--- What a question comes to is said of the design of its text: where these questions are asked, within a budget of learnt
--- clauses. Steps that refute take fewer clauses than the budget.
+-- The run is one of the design of the question's text, is assumed, and gives what is sought, where these questions are
+-- asked: it violates the check, reaches the target, or retires a word of the row of Zba or Zbs and does otherwise.
+pub record Gives (c : Config) (files : List (List ℕ)) (qs : List Question) (q : Question) (run : List Values) : Type 0 where
+  pub reading : Reading
+  pub is : IsReading (text_for c files qs (question_kind q)) reading
+  pub found : IsFound (design_of reading.tree.modules) c.nret
+      (wants_in (text_for c files qs (question_kind q)) reading) q
+      (opts_in (text_for c files qs (question_kind q)) reading) run
+
+abbrev pub IsGiven : Config → List (List ℕ) → List Question → Question → Type 0
+IsGiven c files qs q = (run : List Values) × Gives c files qs q run
+
+-- a target without a row isn't given; a row that isn't reached fails nothing
+abbrev pub IsUnmet : Option RowId → Type 0 → Type 0
+IsUnmet None Given = Given → ⊥
+IsUnmet (Some row) Given = ⊥
+
+-- what fails: a check that some run violates, a row of Zba or Zbs where some run does otherwise, a target without a row
+-- that no run reaches
+abbrev pub QuestionFails : Config → List (List ℕ) → List Question → Question → Type 0
+QuestionFails c files qs (question.Check x) = IsGiven c files qs (question.Check x)
+QuestionFails c files qs (question.Target t) = IsUnmet t.row (IsGiven c files qs (question.Target t))
+QuestionFails c files qs (question.Zb z) = IsGiven c files qs (question.Zb z)
+
+-- What a question comes to is said of the design of its text: where these questions are asked, within a budget of
+-- learnt clauses. Steps that refute take fewer clauses than the budget.
 pub record Judges (c : Config) (files : List (List ℕ)) (qs : List Question) (budget : ℕ) (q : Question) (j : Judged)
     : Type 0 where
   pub reading : Reading

@@ -1,9 +1,11 @@
-//! `run CFG OUTDIR`
+//! `run CFG OUTDIR`, and the other words that put questions of a configuration
 
 ghost use Rattle.std.specs.Prelude.{◌≡◌, ◌≤◌, ◌<◌, ℕ, List, Some};
-ghost use Rattle.rvf_words.specs.declared.line.Line.TheVariants as words;
+ghost use Rattle.rvf_words.specs.declared.line.Line.{Line as Words};
 ghost use Rattle.rvf_core.specs.Run.{Ends, HasCounts};
-ghost use Rattle.rvf_core.specs.Steps.{HaveStatus};
+ghost use Rattle.rvf_core.specs.Steps.{HaveCauses};
+ghost use Rattle.rvf_core.specs.Tasks.{task_of};
+ghost use Rattle.rvf_core.specs.Works.{task_seen};
 ghost use Rattle.rvf_report.specs.Outcome.{outside};
 
 use crate::refusing::refused;
@@ -12,15 +14,15 @@ use crate::terms::{Terms, judged};
 use crate::work::Work;
 use bm_decide::Plain;
 use fv_base::{Files, Out};
-use rvf_case::{Asking, Request, prepare};
-use rvf_checks::Wording;
+use rvf_case::{Request, prepare};
 use rvf_jobs::Gate;
 use rvf_judge::sources_law::judgements_are_the_sources;
 use rvf_report::Status;
 use std::alloc::Global;
 use std::thread::Threads;
 
-/// Judges the checks of a configuration and delivers what they come to; or says why it doesn't.
+/// Answers the questions of a configuration and delivers what they come to; or says why it doesn't. So it does what
+/// each line asks for whose task this is.
 pub(crate) fn check<R: Threads + Sync, F: Files, O: Out, G: Gate>(
     rt: &R,
     alloc: Global,
@@ -31,24 +33,21 @@ pub(crate) fn check<R: Threads + Sync, F: Files, O: Out, G: Gate>(
 ) -> Status
     requires budget { 0 < work.now.budget }
     requires jobs { 1 ≤ work.now.jobs × work.now.jobs ≤ 64 }
-    ensures ends { (asked : List (List ℕ)) → Ends
-        (Some (words.Run work.now.cfg.now work.now.outdir.now work.now.core.now work.now.basedir.now work.now.budget
-        work.now.jobs)) (record {
+    ensures ends { (line : Words) → task_of line ≡ Some (task_seen work.now) → (asked : List (List ℕ))
+        → Ends (Some line) (record {
           words = asked;
           before = outside (F.held files.old) (F.misses files.old) (F.faults files.old) (O.sent out.old)
               (O.faults out.old);
           now = outside (F.held files.new) (F.misses files.new) (F.faults files.new) (O.sent out.new)
               (O.faults out.new);
         }) result }
-    ensures statuses { (asked : List (List ℕ)) → HaveStatus
-        (Some (words.Run work.now.cfg.now work.now.outdir.now work.now.core.now work.now.basedir.now work.now.budget
-        work.now.jobs)) (record {
-          words = asked;
-          before = outside (F.held files.old) (F.misses files.old) (F.faults files.old) (O.sent out.old)
-              (O.faults out.old);
-          now = outside (F.held files.new) (F.misses files.new) (F.faults files.new) (O.sent out.new)
-              (O.faults out.new);
-        }) result }
+    ensures causes { (asked : List (List ℕ)) → HaveCauses (task_seen work.now) (record {
+      words = asked;
+      before = outside (F.held files.old) (F.misses files.old) (F.faults files.old) (O.sent out.old)
+          (O.faults out.old);
+      now = outside (F.held files.new) (F.misses files.new) (F.faults files.new) (O.sent out.new)
+          (O.faults out.new);
+    }) result }
     ensures counts { HasCounts result
         (outside (F.held files.old) (F.misses files.old) (F.faults files.old) (O.sent out.old) (O.faults out.old))
         (outside (F.held files.new) (F.misses files.new) (F.faults files.new) (O.sent out.new) (O.faults out.new)) }
@@ -58,10 +57,10 @@ pub(crate) fn check<R: Threads + Sync, F: Files, O: Out, G: Gate>(
         cfg: work.cfg,
         core: work.core,
         basedir: work.basedir,
-        asking: Asking::Checks,
+        asking: work.asking,
     };
     let terms = Terms {
-        wording: Wording::Run,
+        wording: work.wording,
         folder: work.outdir,
         budget: work.budget,
         jobs: work.jobs,

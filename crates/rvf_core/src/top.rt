@@ -17,6 +17,8 @@ use crate::reporting::put_report;
 use crate::work::Work;
 use fv_base::{Files, Out};
 use fv_text::{Memory, Text};
+use rvf_case::Asking;
+use rvf_checks::Wording;
 use rvf_jobs::{Gate, OpenGate};
 use rvf_report::Status;
 use rvf_words::{Line, read_words};
@@ -26,7 +28,9 @@ use std::thread::Threads;
 /// The line that is put where the words aren't understood.
 const USAGE: &[u8] =
     b"usage: rvf run CFG OUTDIR [--core NAME] [--basedir DIR] [--budget N] [--jobs N] \
-| list CFG | lrat CNF PROOF | bench N\n";
+| list CFG | lrat CNF PROOF | bench N \
+| cover CFG OUTDIR [--core NAME] [--basedir DIR] [--budget N] [--jobs N] \
+| zb CFG OUTDIR [--core NAME] [--basedir DIR] [--budget N] [--jobs N]\n";
 
 /// Does what the words ask for, delivers what it found, and answers how it ended.
 ///
@@ -34,8 +38,10 @@ const USAGE: &[u8] =
 /// and each spent budget comes behind the files `OUTDIR/NAME.cnf` and `OUTDIR/NAME.lrat`, clauses with notes and steps
 /// over them, each fail behind `OUTDIR/NAME.vcd`, the trace of a run that violates the check. `list CFG` puts the names
 /// of the checks. `lrat CNF PROOF` checks that the steps of a proof refute the clauses of a file. `bench N` judges the
-/// checks of a design with N registers that it makes, and puts how many came to what. A refusal has one line that names
-/// its cause.
+/// checks of a design with N registers that it makes, and puts how many came to what. `cover CFG OUTDIR` says of each
+/// target of the configuration's checks whether a run reaches it, behind the trace of one, or behind clauses and steps.
+/// `zb CFG OUTDIR` judges the checks of the instructions of Zba and Zbs as `run` does its own. A refusal has one line
+/// that names its cause.
 pub fn run<R: Threads + Sync, F: Files, O: Out>(
     rt: &R,
     alloc: Global,
@@ -60,7 +66,7 @@ pub fn run<R: Threads + Sync, F: Files, O: Out>(
     run_gated(rt, alloc, words, files, out, &OpenGate)
 }
 
-/// The same, where the job of each check begins by passing a gate, with the check's place among the checks.
+/// The same, where the job of each question begins by passing a gate, with its place among the questions.
 pub fn run_gated<R: Threads + Sync, F: Files, O: Out, G: Gate>(
     rt: &R,
     alloc: Global,
@@ -157,6 +163,8 @@ fn done<R: Threads + Sync, F: Files, O: Out, G: Gate>(
                 cfg: cfg.bytes(),
                 core: core.bytes(),
                 basedir: basedir.bytes(),
+                asking: Asking::Checks,
+                wording: Wording::Run,
                 outdir: outdir.bytes(),
                 budget: *budget,
                 jobs: *jobs,
@@ -169,5 +177,13 @@ fn done<R: Threads + Sync, F: Files, O: Out, G: Gate>(
             put_report(alloc, report, files, out)
         }
         Line::Bench { size } => bench(rt, alloc, *size, gate, files, out),
+        Line::Cover(options) => {
+            let work = Work::of(options, Asking::Targets, Wording::Cover);
+            check(rt, alloc, &work, gate, files, out)
+        }
+        Line::Zb(options) => {
+            let work = Work::of(options, Asking::Zb, Wording::Zb);
+            check(rt, alloc, &work, gate, files, out)
+        }
     }
 }

@@ -1,4 +1,12 @@
-/// What `run` is asked for.
+ghost use Rattle.std.specs.Prelude.{◌≡◌};
+ghost use Rattle.rvf_core.specs.Tasks as tasks;
+ghost use Rattle.rvf_core.specs.Works.{task_seen};
+
+use rvf_case::Asking;
+use rvf_checks::Wording;
+use rvf_words::Options;
+
+/// What a word asks for that puts questions of a configuration.
 #[derive(Debug, Clone, Copy)]
 pub(crate) struct Work<'a> {
     /// The file of the configuration.
@@ -7,10 +15,34 @@ pub(crate) struct Work<'a> {
     pub(crate) core: &'a [u8],
     /// The folder that `@basedir@` stands for in the configuration.
     pub(crate) basedir: &'a [u8],
+    /// Which questions are asked.
+    pub(crate) asking: Asking,
+    /// In which words they are reported.
+    pub(crate) wording: Wording,
     /// The folder of the files, without a slash behind it.
     pub(crate) outdir: &'a [u8],
     /// How many clauses a search may learn, from 1 on.
     pub(crate) budget: u64,
-    /// How many checks are judged beside each other, from 1 to 64.
+    /// How many questions are answered beside each other, from 1 to 64.
     pub(crate) jobs: u32,
+}
+
+impl<'a> Work<'a> {
+    /// What words ask for with these operands and options.
+    pub(crate) fn of(options: &'a Options, asking: Asking, wording: Wording) -> Work<'a>
+        ensures task { task_seen result ≡ tasks.task_with asking wording options.now }
+        ensures budget { result.budget ≡ options.now.budget }
+        ensures jobs { result.jobs ≡ options.now.jobs }
+    {
+        Work {
+            cfg: options.cfg.bytes(),
+            core: options.core.bytes(),
+            basedir: options.basedir.bytes(),
+            asking,
+            wording,
+            outdir: options.outdir.bytes(),
+            budget: options.budget,
+            jobs: options.jobs,
+        }
+    }
 }

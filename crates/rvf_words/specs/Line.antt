@@ -6,7 +6,7 @@ use Rattle.clap.specs.Words.{Row, Text, first_of, subcommand_of}
 use Rattle.clap.specs.Walk.{is_empty}
 use Rattle.clap.specs.Faults.{fault_of}
 use Rattle.rvf_words.specs.declared.line.Line.{Line}
-use Rattle.rvf_words.specs.declared.line.Line.TheVariants.{Run, List as Listed, Lrat, Bench}
+use Rattle.rvf_words.specs.declared.line.Line.TheVariants.{Run, List as Listed, Lrat, Bench, Cover, Zb}
 use Rattle.rvf_words.specs.declared.line.Options.{Options}
 use Rattle.rvf_words.specs.Table.{program}
 
@@ -56,13 +56,21 @@ lrat_line rows =
 abbrev pub bench_line : List Row → Option Line
 bench_line rows = option_map (λ size. Bench size) (option_and_then size_of (first_of (codes "size") rows))
 
+abbrev pub cover_line : List Row → Option Line
+cover_line rows = option_map (λ options. Cover options) (options_in rows)
+
+abbrev pub zb_line : List Row → Option Line
+zb_line rows = option_map (λ options. Zb options) (options_in rows)
+
 -- what a subcommand asks for with the values of its operands and options
 abbrev pub asked : Text → List Row → Option Line
 asked name rows =
     if bytes_eq name (codes "run") then run_line rows
     else if bytes_eq name (codes "list") then list_line rows
     else if bytes_eq name (codes "lrat") then lrat_line rows
-    else if bytes_eq name (codes "bench") then bench_line rows else None
+    else if bytes_eq name (codes "bench") then bench_line rows
+    else if bytes_eq name (codes "cover") then cover_line rows
+    else if bytes_eq name (codes "zb") then zb_line rows else None
 
 -- what words ask for; None where the table refuses them, or a number isn't in its range
 abbrev pub line_of : List Text → Option Line

@@ -35,6 +35,14 @@ lrat = with_rule (with_rule (new_app (codes "lrat")) (operand (codes "cnf"))) (o
 abbrev pub bench : App
 bench = with_rule (new_app (codes "bench")) (operand (codes "size"))
 
+-- `cover` with the options of `run`
+abbrev pub cover : App
+cover = with_options (new_app (codes "cover"))
+
+-- `zb` with these
+abbrev pub zb : App
+zb = with_options (new_app (codes "zb"))
+
 -- the words behind the program's name, of which the first has to be a subcommand
 abbrev pub top : Shape
 top = record (new_app (codes "rvf")).top { no_binary_name = true; subcommand_required = true }
@@ -45,4 +53,5 @@ alone = record { top = top; subs = [] }
 
 abbrev pub program : App
 program =
-    with_subcommand (with_subcommand (with_subcommand (with_subcommand alone run.top) list.top) lrat.top) bench.top
+    with_subcommand (with_subcommand (with_subcommand (with_subcommand (with_subcommand (with_subcommand
+    alone run.top) list.top) lrat.top) bench.top) cover.top) zb.top

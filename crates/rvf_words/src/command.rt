@@ -76,6 +76,20 @@ fn bench<'a>(alloc: Global) -> Result<Command<'a>, Memory>
     with(Command::new(alloc, "bench"), operand(alloc, "size"))
 }
 
+fn cover<'a>(alloc: Global) -> Result<Command<'a>, Memory>
+    ensures shape { IfOk result (λ made. app_of made ≡ table.cover) }
+    ensures plain { IfOk result (λ made. (fields_of made).has_globals ≡ false) }
+{
+    with_options(alloc, Command::new(alloc, "cover"))
+}
+
+fn zb<'a>(alloc: Global) -> Result<Command<'a>, Memory>
+    ensures shape { IfOk result (λ made. app_of made ≡ table.zb) }
+    ensures plain { IfOk result (λ made. (fields_of made).has_globals ≡ false) }
+{
+    with_options(alloc, Command::new(alloc, "zb"))
+}
+
 fn below<'a>(command: Command<'a>, subcommand: Command<'a>) -> Result<Command<'a>, Memory>
     requires { (fields_of subcommand).has_globals ≡ false }
     ensures { IfOk result (λ made. app_of made ≡ with_subcommand (app_of command.entry) (shape_of subcommand.entry)) }
@@ -83,7 +97,7 @@ fn below<'a>(command: Command<'a>, subcommand: Command<'a>) -> Result<Command<'a
     Ok(command.subcommand(subcommand)?)
 }
 
-/// The program without its subcommands.
+/// The command without subcommands.
 fn alone<'a>(alloc: Global) -> Command<'a>
     ensures { app_of result ≡ table.alone }
 {
@@ -99,5 +113,7 @@ pub(crate) fn program<'a>(alloc: Global) -> Result<Command<'a>, Memory>
     let checks = below(alone(alloc), run(alloc)?)?;
     let names = below(checks, list(alloc)?)?;
     let proofs = below(names, lrat(alloc)?)?;
-    below(proofs, bench(alloc)?)
+    let benches = below(proofs, bench(alloc)?)?;
+    let targets = below(benches, cover(alloc)?)?;
+    below(targets, zb(alloc)?)
 }

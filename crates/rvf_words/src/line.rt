@@ -35,6 +35,10 @@ pub enum Line {
         /// How many words the design has, from 2 to 32.
         size: u32,
     },
+    /// `cover CFG OUTDIR`: what the runs of a configuration's designs reach.
+    Cover(Options),
+    /// `zb CFG OUTDIR`: the checks of the instructions of Zba and Zbs.
+    Zb(Options),
 }
 
 /// What the words say behind the name of a subcommand that judges what a configuration asks for.

@@ -173,6 +173,18 @@ fn bench_line(matches: &ArgMatches<'_>) -> Option<Line>
     Some(Line::Bench { size })
 }
 
+fn cover_line(alloc: Global, matches: &ArgMatches<'_>) -> Result<Option<Line>, Memory>
+    ensures { IfOk result (λ made. made ≡ line.cover_line (rows_of (found_of matches.now))) }
+{
+    Ok(options_of(alloc, matches)?.map(Line::Cover))
+}
+
+fn zb_line(alloc: Global, matches: &ArgMatches<'_>) -> Result<Option<Line>, Memory>
+    ensures { IfOk result (λ made. made ≡ line.zb_line (rows_of (found_of matches.now))) }
+{
+    Ok(options_of(alloc, matches)?.map(Line::Zb))
+}
+
 fn asked(alloc: Global, matches: &ArgMatches<'_>) -> Result<Option<Line>, Memory>
     ensures { IfOk result (λ made. made
         ≡ option_and_then (λ used. line.asked used.0 used.1) (subcommand_rows_of matches.now)) }
@@ -182,6 +194,8 @@ fn asked(alloc: Global, matches: &ArgMatches<'_>) -> Result<Option<Line>, Memory
         Some((name, found)) if name == "list" => list_line(alloc, found),
         Some((name, found)) if name == "lrat" => lrat_line(alloc, found),
         Some((name, found)) if name == "bench" => Ok(bench_line(found)),
+        Some((name, found)) if name == "cover" => cover_line(alloc, found),
+        Some((name, found)) if name == "zb" => zb_line(alloc, found),
         _ => Ok(None),
     }
 }

@@ -14,6 +14,15 @@ const KINDS: [&str; 7] = ["ill", "reg", "pc_fwd", "unique", "liveness", "imem", 
 /// The channels of those checks.
 const CHANNELS: [u32; 2] = [0, 1];
 
+/// Targets, and a check of an instruction, whose files are told behind them.
+const NAMED: [&str; 5] = [
+    "any_insn",
+    "any_ill",
+    "any_reg",
+    "hit_add_ch0",
+    "insn_bext_ch0",
+];
+
 /// How the names of a check's files end.
 const ENDINGS: [&str; 3] = ["cnf", "lrat", "vcd"];
 
@@ -202,28 +211,31 @@ impl Bench {
         Ok(told)
     }
 
-    /// A line for each file of a check that is there, and the texts of dumps where they are asked.
+    /// A line for each file of a check or a target that is there, and the texts of dumps where they are asked.
     fn put_files(&self, told: &mut String, files: &MemFiles, with_dumps: bool) -> Result<()> {
         for kind in KINDS {
             for channel in CHANNELS {
-                self.put_files_of(told, files, kind, channel, with_dumps)?;
+                let name = format!(in self.alloc; "{kind}_ch{channel}")?;
+                self.put_files_of(told, files, name.as_str(), with_dumps)?;
             }
+        }
+        for name in NAMED {
+            self.put_files_of(told, files, name, with_dumps)?;
         }
         Ok(())
     }
 
-    /// A line for each file of the check of a kind and channel, and the text of its dump where that is asked.
+    /// A line for each file of the check or target of a name, and the text of its dump where that is asked.
     fn put_files_of(
         &self,
         told: &mut String,
         files: &MemFiles,
-        kind: &str,
-        channel: u32,
+        name: &str,
         with_dumps: bool,
     ) -> Result<()> {
         for ending in ENDINGS {
-            let name = format!(in self.alloc; "out/{kind}_ch{channel}.{ending}")?;
-            put_file(told, files, name.as_str(), with_dumps && ending == "vcd")?;
+            let path = format!(in self.alloc; "out/{name}.{ending}")?;
+            put_file(told, files, path.as_str(), with_dumps && ending == "vcd")?;
         }
         Ok(())
     }

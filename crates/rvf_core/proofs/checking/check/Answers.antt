@@ -1,21 +1,20 @@
 use Rattle.std.proofs.Common.{◌≡◌, ◌∙◌, arith, refl}
 use Rattle.rvf_report.specs.Outcome.{outside}
+use Rattle.rvf_core.specs.Works.{task_seen}
 use Rattle.rvf_core.proofs.FromChecks.{case_ends, case_statuses, le_itself, refusal_ends, refusal_statuses}
 use Rattle.rvf_core.proofs.FromFiles.{if_both, if_ok}
 use Rattle.rvf_core.proofs.Quiet.{put_counts, refusal_tells, unbroken_counts}
 use Rattle.rvf_core.proofs.checking.check.Goals as goal
 
 pub returns-in-Ok-clause-ends : goal.returns-in-Ok-clause-ends
-returns-in-Ok-clause-ends g c = λ asked.
-    case_ends c.args.work.now.cfg.now c.args.work.now.outdir.now c.args.work.now.core.now c.args.work.now.basedir.now
-    c.args.work.now.budget c.args.work.now.jobs asked _ _ _ c.in-Ok.ensures.kept refl c.in-Ok.ensures.faults_grow
-    (le_itself _) c.judgements_are_the_sources.ensures c.in-Ok.case c.judged.result c.in-Ok.ensures.comes
+returns-in-Ok-clause-ends g c = λ line is_task asked.
+    case_ends (task_seen c.args.work.now) asked _ _ _ c.in-Ok.ensures.kept refl c.in-Ok.ensures.faults_grow
+    (le_itself _) line is_task c.judgements_are_the_sources.ensures c.in-Ok.case c.judged.result c.in-Ok.ensures.comes
     c.in-Ok.ensures.ready c.judged.ensures.concluded
 
-pub returns-in-Ok-clause-statuses : goal.returns-in-Ok-clause-statuses
-returns-in-Ok-clause-statuses g c = λ asked.
-    case_statuses c.args.work.now.cfg.now c.args.work.now.outdir.now c.args.work.now.core.now
-    c.args.work.now.basedir.now c.args.work.now.budget c.args.work.now.jobs asked
+pub returns-in-Ok-clause-causes : goal.returns-in-Ok-clause-causes
+returns-in-Ok-clause-causes g c = λ asked.
+    case_statuses (task_seen c.args.work.now) asked
     (outside (g.F.Files.held c.args.files.now) (g.F.Files.misses c.args.files.now)
     (g.F.Files.faults c.args.files.now) (g.O.Out.sent c.args.out.now) (g.O.Out.faults c.args.out.now))
     (outside (g.F.Files.held c.prepare.new.files) (g.F.Files.misses c.prepare.new.files)
@@ -28,17 +27,15 @@ returns-in-Ok-clause-statuses g c = λ asked.
     c.judged.ensures.misses_kept
 
 pub returns-in-Err-clause-ends : goal.returns-in-Err-clause-ends
-returns-in-Err-clause-ends g c = λ asked.
-    refusal_ends c.args.work.now.cfg.now c.args.work.now.outdir.now c.args.work.now.core.now
-    c.args.work.now.basedir.now c.args.work.now.budget c.args.work.now.jobs asked _ _ _ c.in-Err.ensures.kept refl
-    c.in-Err.ensures.faults_grow (le_itself _) c.in-Err.refusal c.refused.result c.put_report.result
+returns-in-Err-clause-ends g c = λ line is_task asked.
+    refusal_ends (task_seen c.args.work.now) asked _ _ _ c.in-Err.ensures.kept refl
+    c.in-Err.ensures.faults_grow (le_itself _) line is_task c.in-Err.refusal c.refused.result c.put_report.result
     c.in-Err.ensures.comes (omega (arith, c.put_report.ensures.misses_kept)) c.put_report.ensures.faults_grow
     (if_both _ _ c.refused.result c.refused.ensures.report c.refused.ensures.some) c.put_report.ensures.puts
 
-pub returns-in-Err-clause-statuses : goal.returns-in-Err-clause-statuses
-returns-in-Err-clause-statuses g c = λ asked.
-    refusal_statuses c.args.work.now.cfg.now c.args.work.now.outdir.now c.args.work.now.core.now
-    c.args.work.now.basedir.now c.args.work.now.budget c.args.work.now.jobs asked
+pub returns-in-Err-clause-causes : goal.returns-in-Err-clause-causes
+returns-in-Err-clause-causes g c = λ asked.
+    refusal_statuses (task_seen c.args.work.now) asked
     (outside (g.F.Files.held c.args.files.now) (g.F.Files.misses c.args.files.now)
     (g.F.Files.faults c.args.files.now) (g.O.Out.sent c.args.out.now) (g.O.Out.faults c.args.out.now))
     (outside (g.F.Files.held c.prepare.new.files) (g.F.Files.misses c.prepare.new.files)

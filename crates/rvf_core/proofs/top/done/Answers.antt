@@ -1,23 +1,51 @@
-use Rattle.std.proofs.Common.{arith, refl}
+use Rattle.std.proofs.Common.{Some, arith, refl}
+use Rattle.rvf_core.specs.Tasks.{run_task}
+use Rattle.rvf_core.specs.Works.{task_seen}
+use Rattle.rvf_core.proofs.Asking.{cover_asks, run_asks, task_statuses, zb_asks}
 use Rattle.rvf_core.proofs.FromChecks.{le_itself}
 use Rattle.rvf_core.proofs.FromWords.{bench_ends, bench_statuses, certificate_ends, list_ends, list_statuses, lrat_ends}
 use Rattle.rvf_core.proofs.FromWords.{lrat_statuses, names_end}
-use Rattle.rvf_core.proofs.FromWords.{run_ends, run_statuses}
 use Rattle.rvf_report.specs.Outcome.{outside}
 use Rattle.rvf_core.proofs.Quiet.{put_counts}
 use Rattle.rvf_core.proofs.top.done.Goals as goal
 
 pub returns-in-Run-clause-ends : goal.returns-in-Run-clause-ends
-returns-in-Run-clause-ends g c = λ asked.
-    run_ends c.args.line.now _ c.check.result _ _ _ _ c.bytes.result.now c.bytes-in-Run-3.result.now
-    c.bytes-in-Run.result.now c.bytes-in-Run-2.result.now c.in-Run.budget c.in-Run.jobs c.in-Run.is c.bytes.ensures
-    c.bytes-in-Run-3.ensures c.bytes-in-Run.ensures c.bytes-in-Run-2.ensures (c.check.ensures.ends asked)
+returns-in-Run-clause-ends g c =
+    c.check.ensures.ends c.args.line.now
+    (run_asks c.args.line.now _ _ _ _ c.bytes.result.now c.bytes-in-Run-3.result.now c.bytes-in-Run.result.now
+    c.bytes-in-Run-2.result.now c.in-Run.budget c.in-Run.jobs c.in-Run.is c.bytes.ensures c.bytes-in-Run-3.ensures
+    c.bytes-in-Run.ensures c.bytes-in-Run-2.ensures)
 
 pub returns-in-Run-clause-statuses : goal.returns-in-Run-clause-statuses
 returns-in-Run-clause-statuses g c = λ asked.
-    run_statuses c.args.line.now _ c.check.result _ _ _ _ c.bytes.result.now c.bytes-in-Run-3.result.now
-    c.bytes-in-Run.result.now c.bytes-in-Run-2.result.now c.in-Run.budget c.in-Run.jobs c.in-Run.is c.bytes.ensures
-    c.bytes-in-Run-3.ensures c.bytes-in-Run.ensures c.bytes-in-Run-2.ensures (c.check.ensures.statuses asked)
+    task_statuses (Some c.args.line.now)
+    (run_task c.bytes.result.now c.bytes-in-Run-3.result.now c.bytes-in-Run.result.now c.bytes-in-Run-2.result.now
+    c.in-Run.budget) _ c.check.result
+    (run_asks c.args.line.now _ _ _ _ c.bytes.result.now c.bytes-in-Run-3.result.now c.bytes-in-Run.result.now
+    c.bytes-in-Run-2.result.now c.in-Run.budget c.in-Run.jobs c.in-Run.is c.bytes.ensures c.bytes-in-Run-3.ensures
+    c.bytes-in-Run.ensures c.bytes-in-Run-2.ensures) (c.check.ensures.causes asked)
+
+pub returns-in-Cover-clause-ends : goal.returns-in-Cover-clause-ends
+returns-in-Cover-clause-ends g c =
+    c.check-in-Cover.ensures.ends c.args.line.now
+    (cover_asks c.args.line.now _ (task_seen c.of-work.result) c.in-Cover.is c.of-work.ensures.task)
+
+pub returns-in-Cover-clause-statuses : goal.returns-in-Cover-clause-statuses
+returns-in-Cover-clause-statuses g c = λ asked.
+    task_statuses (Some c.args.line.now) (task_seen c.of-work.result) _ c.check-in-Cover.result
+    (cover_asks c.args.line.now _ (task_seen c.of-work.result) c.in-Cover.is c.of-work.ensures.task)
+    (c.check-in-Cover.ensures.causes asked)
+
+pub returns-in-Zb-clause-ends : goal.returns-in-Zb-clause-ends
+returns-in-Zb-clause-ends g c =
+    c.check-in-Zb.ensures.ends c.args.line.now
+    (zb_asks c.args.line.now _ (task_seen c.of-work-in-Zb.result) c.in-Zb.is c.of-work-in-Zb.ensures.task)
+
+pub returns-in-Zb-clause-statuses : goal.returns-in-Zb-clause-statuses
+returns-in-Zb-clause-statuses g c = λ asked.
+    task_statuses (Some c.args.line.now) (task_seen c.of-work-in-Zb.result) _ c.check-in-Zb.result
+    (zb_asks c.args.line.now _ (task_seen c.of-work-in-Zb.result) c.in-Zb.is c.of-work-in-Zb.ensures.task)
+    (c.check-in-Zb.ensures.causes asked)
 
 pub returns-in-List-clause-ends : goal.returns-in-List-clause-ends
 returns-in-List-clause-ends g c = λ asked.

@@ -16,6 +16,12 @@ with_list = with_subcommand with_run table.list.top
 abbrev with_lrat : App
 with_lrat = with_subcommand with_list table.lrat.top
 
+abbrev with_bench : App
+with_bench = with_subcommand with_lrat table.bench.top
+
+abbrev with_cover : App
+with_cover = with_subcommand with_bench table.cover.top
+
 pub returns : goal.returns
 returns c =
     let run_is : app_of c.in_ok-checks.checks ≡ with_run =
@@ -24,5 +30,9 @@ returns c =
     c.in_ok-names.ensures ∙ ap₂ with_subcommand run_is (ap top_of c.in_ok-list.ensures.shape) in
     let lrat_is : app_of c.in_ok-proofs.proofs ≡ with_lrat =
     c.in_ok-proofs.ensures ∙ ap₂ with_subcommand list_is (ap top_of c.in_ok-lrat.ensures.shape) in
-    IfOk-weaker c.below-4.result _ _ (λ m h. h ∙ ap₂ with_subcommand lrat_is (ap top_of c.in_ok-bench.ensures.shape))
-    c.below-4.ensures
+    let bench_is : app_of c.in_ok-benches.benches ≡ with_bench =
+    c.in_ok-benches.ensures ∙ ap₂ with_subcommand lrat_is (ap top_of c.in_ok-bench.ensures.shape) in
+    let cover_is : app_of c.in_ok-targets.targets ≡ with_cover =
+    c.in_ok-targets.ensures ∙ ap₂ with_subcommand bench_is (ap top_of c.in_ok-cover.ensures.shape) in
+    IfOk-weaker c.below-6.result _ _ (λ m h. h ∙ ap₂ with_subcommand cover_is (ap top_of c.in_ok-zb.ensures.shape))
+    c.below-6.ensures

@@ -1,0 +1,88 @@
+-- What a line says by its task.
+use Rattle.std.proofs.Common.{◌≡◌, ℕ, List, Option, Some, None, sym, ap, ◌∙◌, subst}
+use Rattle.rvf_words.specs.declared.line.Line.{Line as Words}
+use Rattle.rvf_words.specs.declared.line.Line.TheVariants as words
+use Rattle.rvf_words.specs.declared.line.Options.{Options}
+use Rattle.rvf_case.specs.Cases.{Seen}
+use Rattle.rvf_report.specs.declared.delivery.Delivery.{Delivery}
+use Rattle.rvf_report.specs.declared.status.Status.{Status}
+use Rattle.rvf_core.specs.Run.{Answered, AnswersBegin, Begins, Run, Says}
+use Rattle.rvf_core.specs.Steps.{HaveCauses, HaveStatus}
+use Rattle.rvf_core.specs.Tasks.{Task, cover_task, run_task, task_asked, task_of, zb_task}
+
+pub same_task : (a b : Task) → ◌≡◌ {A = Option Task} (Some a) (Some b) → a ≡ b
+same_task a b e = cc
+
+no_task : (t : Task) → ◌≡◌ {A = Option Task} None (Some t) → ⊥
+no_task t e = cc
+
+-- a fact of the task of a line is one of the task that it is
+moved_to : (P : Task → Type 0) (own t : Task) → ◌≡◌ {A = Option Task} (Some own) (Some t) → P own → P t
+moved_to P own t e x = subst P (same_task own t e) x
+
+moved_back : (P : Task → Type 0) (own t : Task) → ◌≡◌ {A = Option Task} (Some own) (Some t) → P t → P own
+moved_back P own t e x = subst P (sym (same_task own t e)) x
+
+module _ (t : Task) (seen : Seen) where
+  pub says_asked : (line : Words) (status : Status) (report : List Delivery) → task_of line ≡ Some t
+      → Answered t seen status report → Says (Some line) seen status report
+  says_asked (words.Run cfg outdir core basedir budget jobs) status report e x =
+      moved_back (λ u. Answered u seen status report) (run_task cfg outdir core basedir budget) t e x
+  says_asked (words.List cfg) status report e x = absurd (no_task t e)
+  says_asked (words.Lrat cnf proof) status report e x = absurd (no_task t e)
+  says_asked (words.Bench size) status report e x = absurd (no_task t e)
+  says_asked (words.Cover o) status report e x =
+      moved_back (λ u. Answered u seen status report) (cover_task o) t e x
+  says_asked (words.Zb o) status report e x =
+      moved_back (λ u. Answered u seen status report) (zb_task o) t e x
+
+  pub asked_says : (line : Option Words) (status : Status) (report : List Delivery) → task_asked line ≡ Some t
+      → Says line seen status report → Answered t seen status report
+  asked_says None status report e x = absurd (no_task t e)
+  asked_says (Some (words.Run cfg outdir core basedir budget jobs)) status report e x =
+      moved_to (λ u. Answered u seen status report) (run_task cfg outdir core basedir budget) t e x
+  asked_says (Some (words.List cfg)) status report e x = absurd (no_task t e)
+  asked_says (Some (words.Lrat cnf proof)) status report e x = absurd (no_task t e)
+  asked_says (Some (words.Bench size)) status report e x = absurd (no_task t e)
+  asked_says (Some (words.Cover o)) status report e x =
+      moved_to (λ u. Answered u seen status report) (cover_task o) t e x
+  asked_says (Some (words.Zb o)) status report e x =
+      moved_to (λ u. Answered u seen status report) (zb_task o) t e x
+
+  pub begins_asked : (line : Words) (report : List Delivery) → task_of line ≡ Some t
+      → AnswersBegin t seen.held report → Begins (Some line) seen report
+  begins_asked (words.Run cfg outdir core basedir budget jobs) report e x =
+      moved_back (λ u. AnswersBegin u seen.held report) (run_task cfg outdir core basedir budget) t e x
+  begins_asked (words.List cfg) report e x = absurd (no_task t e)
+  begins_asked (words.Lrat cnf proof) report e x = absurd (no_task t e)
+  begins_asked (words.Bench size) report e x = absurd (no_task t e)
+  begins_asked (words.Cover o) report e x =
+      moved_back (λ u. AnswersBegin u seen.held report) (cover_task o) t e x
+  begins_asked (words.Zb o) report e x = moved_back (λ u. AnswersBegin u seen.held report) (zb_task o) t e x
+
+-- ---- statuses of causes
+
+-- under words that ask for nothing of files that are given, there is nothing to say
+pub no_statuses : (line : Option Words) (r : Run) (status : Status) → task_asked line ≡ None → HaveStatus line r status
+no_statuses line r status none = λ t e. absurd (no_task t (sym none ∙ e))
+
+pub task_statuses : (line : Option Words) (own : Task) (r : Run) (status : Status) → task_asked line ≡ Some own
+    → HaveCauses own r status → HaveStatus line r status
+task_statuses line own r status is causes = λ t e.
+    subst (λ u. HaveCauses u r status) (same_task own t (sym is ∙ e)) causes
+
+-- ---- the task of a line that was read, in other words
+
+pub run_asks : (l : Words) (cfg outdir core basedir a b c d : List ℕ) (budget jobs : ℕ)
+    → l ≡ words.Run cfg outdir core basedir budget jobs → a ≡ cfg → b ≡ outdir → c ≡ core → d ≡ basedir
+    → task_of l ≡ Some (run_task a b c d budget)
+run_asks l cfg outdir core basedir a b c d budget jobs e p q r s =
+    ap task_of e
+    ∙ sym (ap (λ x. Some (run_task x b c d budget)) p ∙ ap (λ x. Some (run_task cfg x c d budget)) q
+    ∙ ap (λ x. Some (run_task cfg outdir x d budget)) r ∙ ap (λ x. Some (run_task cfg outdir core x budget)) s)
+
+pub cover_asks : (l : Words) (o : Options) (t : Task) → l ≡ words.Cover o → t ≡ cover_task o → task_of l ≡ Some t
+cover_asks l o t e f = ap task_of e ∙ sym (ap (λ x. Some x) f)
+
+pub zb_asks : (l : Words) (o : Options) (t : Task) → l ≡ words.Zb o → t ≡ zb_task o → task_of l ≡ Some t
+zb_asks l o t e f = ap task_of e ∙ sym (ap (λ x. Some x) f)
