@@ -2,6 +2,7 @@
 use Rattle.std.specs.Prelude.{ℕ, List}
 use Rattle.fv_base.specs.Outside.{Names}
 use Rattle.fv_base.specs.Store.{names_in}
+use Rattle.fv_base.specs.declared.event.Event.{Event}
 use Rattle.fv_base.specs.declared.sure_files.SureFiles.{SureFiles}
 use Rattle.fv_base.specs.declared.mem_files.MemFiles.{MemFiles}
 
@@ -18,6 +19,9 @@ pub record MemState : Type 0 where
   pub call : ℕ
   pub faults : ℕ
   pub misses : ℕ
+  -- what was read, and what was written
+  pub heard : List Event
+  pub written : List Event
 
 abbrev pub mem_state : MemFiles → MemState
 mem_state files = record {
@@ -26,4 +30,6 @@ mem_state files = record {
   call = files.calls.next;
   faults = files.calls.faults;
   misses = files.misses;
+  heard = files.heard;
+  written = files.written;
 }

@@ -1,3 +1,4 @@
+pub mod Events
 pub mod Failing
 pub mod Kept
 pub mod Outside

@@ -1,5 +1,5 @@
--- Meaning: The outside as a caller knows it: what files hold, what was put out, and counts of faults. Rules of this
--- project.
+-- Meaning: The outside as a caller knows it: what files hold, what was put out, counts of faults, and what passed.
+-- Rules of this project.
 use Rattle.std.specs.Prelude.{
   ◌≡◌,
   ℕ,
@@ -19,6 +19,7 @@ use Rattle.std.specs.Prelude.{
   Ok,
   Err,
 }
+use Rattle.fv_base.specs.declared.event.Event.{Event}
 use Rattle.fv_base.specs.declared.files.FileFault.{FileFault}
 use Rattle.fv_base.specs.declared.files.FileFault.TheVariants as file
 use Rattle.fv_base.specs.declared.out.OutFault.{OutFault}
@@ -31,6 +32,27 @@ Names = List ℕ → Option (List ℕ)
 -- what is told of the files: what each name holds, or nothing
 abbrev pub Told : Type 0
 Told = Option Names
+
+-- what is known of files at a moment
+pub record FilesState : Type 0 where
+  pub held : Told
+  -- how often a call failed; the count never falls, and stands still at 2 ^ 64 - 1
+  pub faults : ℕ
+  -- how often a name wasn't held; the same of this count
+  pub misses : ℕ
+  -- each read that was answered, in order
+  pub heard : List Event
+  -- each file that was written whole, in order
+  pub written : List Event
+
+-- what is known of an output at a moment
+pub record OutState : Type 0 where
+  -- the bytes put so far, or nothing where that isn't told
+  pub sent : Option (List ℕ)
+  -- how often a call failed, as above
+  pub faults : ℕ
+  -- each put that was taken whole, in order
+  pub taken : List Event
 
 -- a count went up in a call, or stands at its end, where it stays
 abbrev pub Rose : ℕ → ℕ → Type 0

@@ -1,7 +1,8 @@
 -- Between functions: Output that is kept in memory and fails by a list of numbers of calls. Rules of this project.
 use Rattle.std.specs.Prelude.{ℕ, List}
+use Rattle.fv_base.specs.declared.event.Event.{Event}
 
-pub record OutState : Type 0 where
+pub record MemOutState : Type 0 where
   -- the bytes put so far
   pub sent : List ℕ
   -- the numbers of the calls that fail
@@ -11,3 +12,12 @@ pub record OutState : Type 0 where
   pub faults : ℕ
   -- how many bytes can be put without asking for memory
   pub spare : ℕ
+  -- what was put out whole, call by call
+  pub taken : List Event
+
+-- output in memory that never fails
+pub record Sent : Type 0 where
+  -- the bytes put so far
+  pub sent : List ℕ
+  -- the same, call by call
+  pub taken : List Event

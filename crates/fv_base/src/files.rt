@@ -1,5 +1,6 @@
-ghost use Rattle.std.specs.Prelude.{◌≡◌, ◌≤◌, ℕ, OnOk, IfOk, IsErrOf};
-ghost use Rattle.fv_base.specs.Outside.{Told, Rose, ReadGives, Lacks, Holds, HoldsPart, SameFiles, UnlessFailed};
+ghost use Rattle.std.specs.Prelude.{◌≡◌, ◌++◌, ◌≤◌, OnOk, IfOk, IsErrOf};
+ghost use Rattle.fv_base.specs.Events.{read_events, write_events};
+ghost use Rattle.fv_base.specs.Outside.{FilesState, Rose, ReadGives, Lacks, Holds, HoldsPart, SameFiles, UnlessFailed};
 
 use std::alloc::Global;
 use thiserror::Error;
@@ -18,35 +19,35 @@ pub enum FileFault {
 
 /// Files by name. A name is its list of bytes.
 pub trait Files {
-    /// What the names hold, or nothing where that isn't told.
-    ghost held: { Self → Told };
-
-    /// How often a call failed. The count never falls, and stands still at `2 ^ 64 - 1`.
-    ghost faults: { Self → ℕ };
-
-    /// How often a name wasn't held. The count never falls, and stands still at `2 ^ 64 - 1`.
-    ghost misses: { Self → ℕ };
+    /// What is known of the files: what they hold, where that is told, how often calls failed or a name wasn't held,
+    /// and what was read and written.
+    ghost state: { Self → FilesState };
 
     /// The bytes of the named file.
     fn read(&mut self, alloc: Global, name: &[u8]) -> Result<Vec<u8>, FileFault>
-        ensures bytes { IfOk result (λ bytes. ReadGives (held self.old) name.now bytes.items) }
-        ensures absent { IsErrOf result FileFault.Absent → Lacks (held self.old) name.now }
-        ensures missed { IsErrOf result FileFault.Absent → Rose (misses self.old) (misses self.new) }
-        ensures failed { IsErrOf result FileFault.Failed → Rose (faults self.old) (faults self.new) }
-        ensures quiet { UnlessFailed result (faults self.new ≡ faults self.old) }
-        ensures kept { SameFiles (held self.old) (held self.new) }
-        ensures faults_grow { faults self.old ≤ faults self.new }
-        ensures misses_grow { misses self.old ≤ misses self.new };
+        ensures bytes { IfOk result (λ bytes. ReadGives (state self.old).held name.now bytes.items) }
+        ensures absent { IsErrOf result FileFault.Absent → Lacks (state self.old).held name.now }
+        ensures missed { IsErrOf result FileFault.Absent → Rose (state self.old).misses (state self.new).misses }
+        ensures failed { IsErrOf result FileFault.Failed → Rose (state self.old).faults (state self.new).faults }
+        ensures quiet { UnlessFailed result ((state self.new).faults ≡ (state self.old).faults) }
+        ensures kept { SameFiles (state self.old).held (state self.new).held }
+        ensures faults_grow { (state self.old).faults ≤ (state self.new).faults }
+        ensures misses_grow { (state self.old).misses ≤ (state self.new).misses }
+        ensures heard { (state self.new).heard ≡ (state self.old).heard ++ read_events name.now result }
+        ensures unwritten { (state self.new).written ≡ (state self.old).written };
 
     /// Makes the name hold the bytes. A failed call leaves what the name held, or a prefix of the bytes there.
     fn write(&mut self, alloc: Global, name: &[u8], bytes: &[u8]) -> Result<(), FileFault>
-        ensures ok { OnOk result (Holds (held self.old) (held self.new) name.now bytes.now) }
-        ensures failed { IsErrOf result FileFault.Failed → Rose (faults self.old) (faults self.new) }
+        ensures ok { OnOk result (Holds (state self.old).held (state self.new).held name.now bytes.now) }
+        ensures failed { IsErrOf result FileFault.Failed → Rose (state self.old).faults (state self.new).faults }
         ensures part { IsErrOf result FileFault.Failed
-            → HoldsPart (held self.old) (held self.new) name.now bytes.now }
-        ensures memory { IsErrOf result FileFault.Memory → SameFiles (held self.old) (held self.new) }
+            → HoldsPart (state self.old).held (state self.new).held name.now bytes.now }
+        ensures memory { IsErrOf result FileFault.Memory → SameFiles (state self.old).held (state self.new).held }
         ensures never_absent { IsErrOf result FileFault.Absent → ⊥ }
-        ensures quiet { UnlessFailed result (faults self.new ≡ faults self.old) }
-        ensures faults_grow { faults self.old ≤ faults self.new }
-        ensures misses_kept { misses self.new ≡ misses self.old };
+        ensures quiet { UnlessFailed result ((state self.new).faults ≡ (state self.old).faults) }
+        ensures faults_grow { (state self.old).faults ≤ (state self.new).faults }
+        ensures misses_kept { (state self.new).misses ≡ (state self.old).misses }
+        ensures unheard { (state self.new).heard ≡ (state self.old).heard }
+        ensures written { (state self.new).written
+            ≡ (state self.old).written ++ write_events name.now bytes.now result };
 }

@@ -2,7 +2,9 @@
 #![tactic(auto)]
 
 mod calls;
+mod event;
 mod files;
+mod journal;
 mod mem_files;
 mod mem_out;
 mod out;
@@ -13,6 +15,7 @@ mod store;
 mod sure_files;
 mod sure_out;
 
+pub use event::Event;
 pub use files::{FileFault, Files};
 pub use mem_files::MemFiles;
 pub use mem_out::MemOut;

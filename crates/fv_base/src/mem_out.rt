@@ -16,9 +16,12 @@ ghost use Rattle.std.specs.Prelude.{
 };
 ghost use Rattle.std.specs.Prelude.{is_ok, IsOk, IsTrue, OnOk, OnErr, IsErrOf};
 ghost use Rattle.fv_base.specs.Outside.{Rose, Appends, AppendsPart, UnlessNotPut};
+ghost use Rattle.fv_base.specs.Events.{put_events};
 ghost use Rattle.fv_base.specs.Failing.{is_failing};
 
 use crate::calls::Calls;
+use crate::event::Happening;
+use crate::journal::Journal;
 use crate::out::{Out, OutFault};
 use fv_text::Memory;
 use std::alloc::Global;
@@ -30,13 +33,14 @@ pub struct MemOut {
     sent: Vec<u8>,
     calls: Calls,
     spare: u64,
+    taken: Journal,
 }
 
 impl Model for MemOut {
     ghost use Rattle.std.specs.Prelude.{◌+◌, ◌≤◌, vec_len, vec_capacity};
-    ghost use Rattle.fv_base.specs.Sent.{OutState};
+    ghost use Rattle.fv_base.specs.Sent.{MemOutState};
 
-    ghost Value = { OutState };
+    ghost Value = { MemOutState };
 
     ghost view = { λ o. record {
       sent = o.sent.items;
@@ -44,6 +48,7 @@ impl Model for MemOut {
       call = o.calls.next;
       faults = o.calls.faults;
       spare = o.spare;
+      taken = o.taken;
     } };
 
     ghost invariant = { λ o. vec_len o.sent + o.spare ≤ vec_capacity o.sent };
@@ -57,11 +62,13 @@ impl MemOut {
         ensures call { result.call ≡ 0 }
         ensures faults { result.faults ≡ 0 }
         ensures spare { result.spare ≡ 0 }
+        ensures taken { result.taken ≡ [] }
     {
         MemOut {
             sent: Vec::new(alloc),
             calls: Calls::new(failing),
             spare: 0,
+            taken: Journal::new(),
         }
     }
 
@@ -80,6 +87,7 @@ impl MemOut {
         ensures failing { self.new.failing ≡ self.old.failing }
         ensures call { self.new.call ≡ self.old.call }
         ensures faults { self.new.faults ≡ self.old.faults }
+        ensures taken { self.new.taken ≡ self.old.taken }
     {
         self.sent.reserve(extra as usize)?;
         self.spare = self.spare.max(extra);
@@ -95,6 +103,7 @@ impl MemOut {
         ensures failing { self.new.failing ≡ self.old.failing }
         ensures call { self.new.call ≡ self.old.call }
         ensures faults { self.new.faults ≡ self.old.faults }
+        ensures taken { self.new.taken ≡ self.old.taken }
     {
         self.sent.extend_from_slice(bytes)?;
         self.spare = self.spare.saturating_sub(bytes.len() as u64);
@@ -105,9 +114,7 @@ impl MemOut {
 impl Out for MemOut {
     ghost use Rattle.std.specs.Prelude.{Some};
 
-    ghost sent = { λ o. Some o.sent };
-
-    ghost faults = { λ o. o.faults };
+    ghost state = { λ o. record { sent = Some o.sent; faults = o.faults; taken = o.taken } };
 
     fn put(&mut self, bytes: &[u8]) -> Result<(), OutFault>
         ensures ok { OnOk result (Appends (Some self.old.sent) (Some self.new.sent) bytes.now) }
@@ -117,6 +124,7 @@ impl Out for MemOut {
         ensures memory { IsErrOf result OutFault.Memory → Some self.new.sent ≡ Some self.old.sent }
         ensures quiet { UnlessNotPut result (self.new.faults ≡ self.old.faults) }
         ensures grow { self.old.faults ≤ self.new.faults }
+        ensures taken { self.new.taken ≡ self.old.taken ++ put_events bytes.now result }
 
         // The numbered call fails and appends nothing, and no other call fails.
         ensures fails { IsErrOf result OutFault.Failed ↔ IsTrue (is_failing self.old.failing self.old.call) }
@@ -133,7 +141,10 @@ impl Out for MemOut {
             return Err(OutFault::Failed);
         }
         match self.append(bytes) {
-            Ok(()) => Ok(()),
+            Ok(()) => {
+                self.taken.note(Happening::Put(bytes));
+                Ok(())
+            }
             Err(Memory) => Err(OutFault::Memory),
         }
     }

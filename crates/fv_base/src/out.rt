@@ -1,5 +1,6 @@
-ghost use Rattle.std.specs.Prelude.{◌≡◌, ◌≤◌, ℕ, List, Option, OnOk, IsErrOf};
-ghost use Rattle.fv_base.specs.Outside.{Rose, Appends, AppendsPart, UnlessNotPut};
+ghost use Rattle.std.specs.Prelude.{◌≡◌, ◌++◌, ◌≤◌, OnOk, IsErrOf};
+ghost use Rattle.fv_base.specs.Events.{put_events};
+ghost use Rattle.fv_base.specs.Outside.{OutState, Rose, Appends, AppendsPart, UnlessNotPut};
 
 use thiserror::Error;
 
@@ -14,18 +15,17 @@ pub enum OutFault {
 
 /// A place where bytes are put one behind the other.
 pub trait Out {
-    /// The bytes put so far, or nothing where that isn't told.
-    ghost sent: { Self → Option (List ℕ) };
-
-    /// How often a call failed. The count never falls, and stands still at `2 ^ 64 - 1`.
-    ghost faults: { Self → ℕ };
+    /// What is known of the output: the bytes put so far, where that is told, how often calls failed, and what was put.
+    ghost state: { Self → OutState };
 
     /// Appends the bytes. A failed call appends a prefix of them.
     fn put(&mut self, bytes: &[u8]) -> Result<(), OutFault>
-        ensures ok { OnOk result (Appends (sent self.old) (sent self.new) bytes.now) }
-        ensures failed { IsErrOf result OutFault.Failed → Rose (faults self.old) (faults self.new) }
-        ensures part { IsErrOf result OutFault.Failed → AppendsPart (sent self.old) (sent self.new) bytes.now }
-        ensures memory { IsErrOf result OutFault.Memory → sent self.new ≡ sent self.old }
-        ensures quiet { UnlessNotPut result (faults self.new ≡ faults self.old) }
-        ensures grow { faults self.old ≤ faults self.new };
+        ensures ok { OnOk result (Appends (state self.old).sent (state self.new).sent bytes.now) }
+        ensures failed { IsErrOf result OutFault.Failed → Rose (state self.old).faults (state self.new).faults }
+        ensures part { IsErrOf result OutFault.Failed
+            → AppendsPart (state self.old).sent (state self.new).sent bytes.now }
+        ensures memory { IsErrOf result OutFault.Memory → (state self.new).sent ≡ (state self.old).sent }
+        ensures quiet { UnlessNotPut result ((state self.new).faults ≡ (state self.old).faults) }
+        ensures grow { (state self.old).faults ≤ (state self.new).faults }
+        ensures taken { (state self.new).taken ≡ (state self.old).taken ++ put_events bytes.now result };
 }

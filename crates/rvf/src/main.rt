@@ -58,15 +58,15 @@ fn exit<R: Threads + Sync, F: Files, O: Out>(
 ) -> ExitCode
     ensures answer { IfOk words (λ words. Exits (exit_status result) (record {
       words = map string_bytes words.items;
-      before = outside (F.held files.old) (F.misses files.old) (F.faults files.old) (O.sent out.old) (O.faults out.old);
-      now = outside (F.held files.new) (F.misses files.new) (F.faults files.new) (O.sent out.new) (O.faults out.new);
+      before = outside (F.state files.old) (O.state out.old);
+      now = outside (F.state files.new) (O.state out.new);
     })) }
 
     // Words that can't be had are no words of a command.
     ensures unread { IfErr words (λ fault. Exits (exit_status result) (record {
       words = [];
-      before = outside (F.held files.old) (F.misses files.old) (F.faults files.old) (O.sent out.old) (O.faults out.old);
-      now = outside (F.held files.new) (F.misses files.new) (F.faults files.new) (O.sent out.new) (O.faults out.new);
+      before = outside (F.state files.old) (O.state out.old);
+      now = outside (F.state files.new) (O.state out.new);
     })) }
 {
     match words {

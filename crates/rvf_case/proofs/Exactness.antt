@@ -3,6 +3,7 @@ use Rattle.std.proofs.Common.{◌≡◌, ℕ, List, [], ◌∷◌, ◌++◌, Som
 use Rattle.std.specs.Prelude.{map, slice_get}
 use Rattle.std.specs.List.{AllByRecursion}
 use Rattle.fv_base.specs.Outside.{Names, Told}
+use Rattle.fv_base.specs.declared.event.Event.{Event}
 use Rattle.ck_cfg.specs.declared.config.Config.{Config}
 use Rattle.ck_cfg.specs.declared.fault.CfgFault.{CfgFault}
 use Rattle.ck_cfg.specs.declared.kind.CheckKind.{CheckKind}
@@ -14,6 +15,7 @@ use Rattle.rvf_load.specs.declared.loaded.Loaded.{Loaded}
 use Rattle.rvf_case.specs.Cases.{Alike, AreLoaded, AreRead, Comes, IsCase, IsCause, IsConfigured, IsMisconfigured}
 use Rattle.rvf_case.specs.Cases.{IsNext, IsRefusedSource, IsRefusedText, Request, Seen, configuration, names_in}
 use Rattle.rvf_case.specs.Cases.{verilog, questions_in}
+use Rattle.rvf_case.specs.Hearing.{Answered, HeardMore, Hears, all_gave, before_refused, cause_reads}
 use Rattle.rvf_case.specs.Steps.{AreLoadedInTurn, IsNotHeavy, Prepares, Stands, StopsAt}
 use Rattle.rvf_case.specs.Texts.{asked_for, leaders, with_text}
 use Rattle.rvf_case.specs.declared.case.Case.{Case}
@@ -122,27 +124,34 @@ module _ (ask : CheckKind → Asked) where
 
 -- ---- what an answer means
 
-is_case : (r : Request) (held : Told) (case : Case) → Stands r held (Ok case) → IsCase r held case
-is_case r held case h =
+case_said : (r : Request) (held : Told) (events : List Event) (case : Case) → Stands r held events (Ok case)
+    → (came : IsCase r held case) × (events ≡ all_gave r came.configured.bytes (names_in r case.config) came.files)
+case_said r held events case h =
     let back = sym h.loads.config_is in
-    let asked = questions_in r h.config in
-    record {
-      configured = subst (IsConfigured r held) back h.configured;
-      questions_are = h.loads.questions_are ∙ ap (questions_in r) back;
-      files = h.files;
-      read = subst (λ c. AreRead held (names_in r c) h.files) back h.read;
-      loaded = subst (λ c. AreLoaded c h.files case.questions case.texts) back
-          (subst (λ qs. AreLoaded h.config h.files qs case.texts) (sym h.loads.questions_are) (record {
-            kinds_are = h.loads.loaded.kinds_are;
-            each = are_of (asked_for h.config h.files asked) case.texts h.loads.loaded.each;
-            unrefused = subst (λ kinds. NoneIsRefused (asked_for h.config h.files asked) kinds)
-                h.loads.loaded.kinds_are
-                (unrefused_of (asked_for h.config h.files asked) case.texts h.loads.loaded.each);
-          }));
-    }
+    let asked = questions_in r h.config in (
+      record {
+        configured = record {
+          bytes = h.configured.bytes;
+          gives = h.configured.gives;
+          config_is = h.configured.config_is ∙ ap (λ c. Ok c) back;
+        };
+        questions_are = h.loads.questions_are ∙ ap (questions_in r) back;
+        files = h.files;
+        read = subst (λ c. AreRead held (names_in r c) h.files) back h.read;
+        loaded = subst (λ c. AreLoaded c h.files case.questions case.texts) back
+            (subst (λ qs. AreLoaded h.config h.files qs case.texts) (sym h.loads.questions_are) (record {
+              kinds_are = h.loads.loaded.kinds_are;
+              each = are_of (asked_for h.config h.files asked) case.texts h.loads.loaded.each;
+              unrefused = subst (λ kinds. NoneIsRefused (asked_for h.config h.files asked) kinds)
+                  h.loads.loaded.kinds_are
+                  (unrefused_of (asked_for h.config h.files asked) case.texts h.loads.loaded.each);
+            }));
+      },
+      h.events_are ∙ ap (λ c. all_gave r h.configured.bytes (names_in r c) h.files) back,
+    )
 
-refused_text : (r : Request) (held : Told) (c : Config) (files : List (List ℕ)) (kind : CheckKind) (f : LoadFault)
-    → IsConfigured r held c → AreRead held (names_in r c) files
+abbrev refused_text : (r : Request) (held : Told) (c : Config) (files : List (List ℕ)) (kind : CheckKind)
+    (f : LoadFault) → IsConfigured r held c → AreRead held (names_in r c) files
     → StopsAt (asked_for c files (questions_in r c)) (leaders c (questions_in r c)) kind f
     → IsRefusedText r held c kind f
 refused_text r held c files kind f k read h = record {
@@ -156,39 +165,51 @@ refused_text r held c files kind f k read h = record {
   refused = h.refused.is;
 }
 
-source_cause : (f : LoadFault) (r : Request) (seen : Seen) (names : List (List ℕ)) → IsNotHeavy f
-    → IsRefusedSource r seen.held f names → IsCause r seen (refusal.Source f names)
-source_cause (load.Text f) r seen names n h = h
-source_cause (load.Elab f) r seen names n h = h
-source_cause (load.Flow f) r seen names n h = h
-source_cause (load.Heavy place number) r seen names n h = absurd n
-source_cause (load.Port f) r seen names n h = h
-source_cause load.Memory r seen names n h = h
+source_said : (f : LoadFault) (r : Request) (seen : Seen) (names : List (List ℕ)) (events : List Event)
+    → IsNotHeavy f → (h : IsRefusedSource r seen.held f names)
+    → events ≡ before_refused r seen.held h.config h.kind f h.refused
+    → (came : IsCause r seen (refusal.Source f names)) × (events ≡ cause_reads r seen (refusal.Source f names) came)
+source_said (load.Text f) r seen names events n h e = (h, e)
+source_said (load.Elab f) r seen names events n h e = (h, e)
+source_said (load.Flow f) r seen names events n h e = (h, e)
+source_said (load.Heavy place number) r seen names events n h e = absurd n
+source_said (load.Port f) r seen names events n h e = (h, e)
+source_said load.Memory r seen names events n h e = (h, e)
 
-pub comes : (result : Result Case Refusal) (r : Request) (seen : Seen) → Prepares r seen result
-    → Comes r seen result
-comes (Ok case) r seen h = is_case r seen.held case h
-comes (Err refusal.Memory) r seen h = tt
-comes (Err (refusal.Absent name)) r seen h = h
-comes (Err (refusal.Unread name)) r seen h = h
-comes (Err (refusal.Config f)) r seen h = h
-comes (Err (refusal.Source f names)) r seen h =
-    source_cause f r seen names h.loads.0.light (record {
+-- what an answer means, and what was read for it
+pub said : (result : Result Case Refusal) (r : Request) (seen : Seen) (events : List Event)
+    → Prepares r seen events result → (came : Comes r seen result) × Hears r seen result came events
+said (Ok case) r seen events h = case_said r seen.held events case h
+said (Err refusal.Memory) r seen events h = (tt, h)
+said (Err (refusal.Absent name)) r seen events h = h
+said (Err (refusal.Unread name)) r seen events h = h
+said (Err (refusal.Config f)) r seen events h = h
+said (Err (refusal.Source f names)) r seen events h =
+    source_said f r seen names events h.loads.0.light (record {
       config = h.config;
       kind = h.loads.0.kind;
       refused = refused_text r seen.held h.config h.files h.loads.0.kind f h.configured h.read h.loads.0.stops;
       names_are = h.loads.1;
-    })
-comes (Err (refusal.Heavy name number)) r seen h = record {
-  config = h.config;
-  kind = h.loads.kind;
-  place = h.loads.place;
-  refused = refused_text r seen.held h.config h.files h.loads.kind (load.Heavy h.loads.place number) h.configured
-      h.read h.loads.stops;
-  question = h.loads.named.question;
-  there = h.loads.named.there;
-  name_is = h.loads.named.name_is;
-}
+    }) h.events_are
+said (Err (refusal.Heavy name number)) r seen events h = (
+  record {
+    config = h.config;
+    kind = h.loads.kind;
+    place = h.loads.place;
+    refused = refused_text r seen.held h.config h.files h.loads.kind (load.Heavy h.loads.place number) h.configured
+        h.read h.loads.stops;
+    question = h.loads.named.question;
+    there = h.loads.named.there;
+    name_is = h.loads.named.name_is;
+  },
+  h.events_are,
+)
+
+pub answered : (result : Result Case Refusal) (r : Request) (seen : Seen) (before now : List Event)
+    → HeardMore before now (λ events. Prepares r seen events result) → Answered r seen before now result
+answered result r seen before now h =
+    let both = said result r seen h.events h.are in
+    record { came = both.0; heard = record { events = h.events; behind = h.behind; are = both.1 } }
 
 -- ---- that the same files give no other
 
@@ -250,7 +271,7 @@ same_heavy place number p n e = (first place number p n e, second place number p
   second : (place number p n : ℕ) → load.Heavy p n ≡ load.Heavy place number → n ≡ number
   second place number p n e = cc
 
-module _ (r : Request) (names : Names) where
+module _ (r : Request) (names : Names) (events : List Event) where
   -- configuration and files are read
   record IsRead : Type 0 where
     config : Config
@@ -340,7 +361,7 @@ module _ (r : Request) (names : Names) where
   abbrev case_read : (case : Case) → IsCase r (Some names) case → IsRead
   case_read case h = record { config = case.config; configured = h.configured; files = h.files; read = h.read }
 
-  abbrev stands_read : (result : Result Case Refusal) → Stands r (Some names) result → IsRead
+  abbrev stands_read : (result : Result Case Refusal) → Stands r (Some names) events result → IsRead
   stands_read result h = record { config = h.config; configured = h.configured; files = h.files; read = h.read }
 
   -- what is asked of the texts of this configuration and these files
@@ -388,7 +409,7 @@ module _ (r : Request) (names : Names) where
       faults_now = faults_now;
     }
 
-    alike_case : (case : Case) (other : Result Case Refusal) → Stands r (Some names) (Ok case) → Comes r seen other
+    alike_case : (case : Case) (other : Result Case Refusal) → Stands r (Some names) events (Ok case) → Comes r seen other
         → Alike (Ok case) other
     alike_case case (Ok d) h k = tt
     alike_case case (Err refusal.Memory) h k = tt
@@ -430,7 +451,7 @@ module _ (r : Request) (names : Names) where
     alike_config f (Err (refusal.Heavy name number)) h k = no_fault k.config f k.refused.configured h
 
     alike_source : (f : LoadFault) (all : List (List ℕ)) (other : Result Case Refusal)
-        → Stands r (Some names) (Err (refusal.Source f all)) → Comes r seen other
+        → Stands r (Some names) events (Err (refusal.Source f all)) → Comes r seen other
         → Alike (Err (refusal.Source f all)) other
     alike_source f all (Ok d) h k =
         let l : AreLoaded h.config h.files (questions_in r h.config) d.texts =
@@ -458,7 +479,7 @@ module _ (r : Request) (names : Names) where
         k.refused)).1
 
     alike_heavy : (name : List ℕ) (number : ℕ) (other : Result Case Refusal)
-        → Stands r (Some names) (Err (refusal.Heavy name number)) → Comes r seen other
+        → Stands r (Some names) events (Err (refusal.Heavy name number)) → Comes r seen other
         → Alike (Err (refusal.Heavy name number)) other
     alike_heavy name number (Ok d) h k =
         let l : AreLoaded h.config h.files (questions_in r h.config) d.texts =
@@ -492,12 +513,12 @@ module _ (r : Request) (names : Names) where
         ∙ h.loads.named.there) in
         (k.name_is ∙ ap question_name question ∙ sym h.loads.named.name_is, p.1)
 
-    pub alike : (result other : Result Case Refusal) → Prepares r seen result → Comes r seen other
+    pub alike : (result other : Result Case Refusal) → Prepares r seen events result → Comes r seen other
         → Alike result other
     alike (Ok case) other h k = alike_case case other h k
     alike (Err refusal.Memory) other h k = tt
     alike (Err (refusal.Unread name)) other h k = tt
-    alike (Err (refusal.Absent name)) other h k = alike_absent name other h.next h.lacks k
-    alike (Err (refusal.Config f)) other h k = alike_config f other h k
+    alike (Err (refusal.Absent name)) other h k = alike_absent name other h.0.next h.0.lacks k
+    alike (Err (refusal.Config f)) other h k = alike_config f other h.0 k
     alike (Err (refusal.Source f all)) other h k = alike_source f all other h k
     alike (Err (refusal.Heavy name number)) other h k = alike_heavy name number other h k

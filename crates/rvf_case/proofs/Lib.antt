@@ -2,6 +2,7 @@ pub mod AskedQuestions
 pub mod Counting
 pub mod Exactness
 pub mod Files
+pub mod Fronts
 pub mod Next
 pub mod Quiet
 pub mod Readiness

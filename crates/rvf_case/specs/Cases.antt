@@ -3,7 +3,7 @@
 use Rattle.std.specs.Prelude.{◌≡◌, ℕ, ◌≤◌, ◌+◌, List, [], ◌∷◌, ◌++◌, length, map, sum, Option, Some, None, Result, Ok}
 use Rattle.std.specs.Prelude.{Err, slice_get, if◌then◌else◌}
 use Rattle.std.specs.List.{AllByRecursion}
-use Rattle.fv_base.specs.Outside.{Told, Lacks, ReadGives, Rose}
+use Rattle.fv_base.specs.Outside.{FilesState, Told, Lacks, ReadGives, Rose}
 use Rattle.ck_cfg.specs.declared.config.Config.{Config}
 use Rattle.ck_cfg.specs.declared.fault.CfgFault.{CfgFault}
 use Rattle.ck_cfg.specs.declared.kind.CheckKind.{CheckKind}
@@ -45,6 +45,16 @@ pub record Seen : Type 0 where
   pub misses_now : ℕ
   pub faults : ℕ
   pub faults_now : ℕ
+
+-- as the files stood before and stand now
+abbrev pub seen_between : FilesState → FilesState → Seen
+seen_between before now = record {
+  held = before.held;
+  misses = before.misses;
+  misses_now = now.misses;
+  faults = before.faults;
+  faults_now = now.faults;
+}
 
 -- ---- the configuration and its files
 

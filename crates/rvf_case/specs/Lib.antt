@@ -1,4 +1,5 @@
 pub mod Cases
+pub mod Hearing
 pub mod Steps
 pub mod Texts
 pub mod Loading

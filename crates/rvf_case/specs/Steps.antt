@@ -1,8 +1,10 @@
 -- Between functions: What each step of the work comes to, for what stands above it. Rules of this project.
-use Rattle.std.specs.Prelude.{◌≡◌, ◌<◌, ℕ, ◌+◌, Bool, ◌&&◌, List, ◌∷◌, ◌++◌, length, map, slice_get, Some, Result, Ok}
-use Rattle.std.specs.Prelude.{Err}
+use Rattle.std.specs.Prelude.{◌≡◌, ◌<◌, ℕ, ◌+◌, Bool, ◌&&◌, List, [], ◌∷◌, ◌++◌, length, map, slice_get, Some}
+use Rattle.std.specs.Prelude.{Result, Ok, Err}
 use Rattle.std.specs.List.{AllByRecursion, filter, list_any}
 use Rattle.fv_base.specs.Outside.{Told, Lacks, ReadGives, Rose}
+use Rattle.fv_base.specs.declared.event.Event.{Event}
+use Rattle.fv_base.specs.declared.event.Event.TheVariants.{Gave, Lacked, Failed}
 use Rattle.fv_base.specs.declared.files.FileFault.{FileFault}
 use Rattle.fv_base.specs.declared.files.FileFault.TheVariants as file
 use Rattle.ck_cfg.specs.declared.check.Check.{Check}
@@ -20,6 +22,7 @@ use Rattle.rvf_case.specs.Cases.{AreRead, IsAbsent, IsConfigured, IsMisconfigure
 use Rattle.rvf_case.specs.Cases.{questions_in}
 use Rattle.ck_ask.specs.Questions.{question_name}
 use Rattle.ck_ask.specs.declared.question.Question.{Question}
+use Rattle.rvf_case.specs.Hearing.{AreReadOn, IsReadOn, all_gave, before_next, gave}
 use Rattle.rvf_case.specs.Texts.{asked_for, is_same_text, leaders, with_text}
 use Rattle.rvf_case.specs.declared.case.Case.{Case}
 use Rattle.rvf_case.specs.declared.case.LoadedText.{LoadedText}
@@ -66,50 +69,59 @@ pub record IsLacking (seen : Seen) (name : List ℕ) : Type 0 where
   pub lacks : Lacks seen.held name
   pub counted : Rose seen.misses seen.misses_now
 
--- what reading one file comes to
-abbrev pub ReadsFile : List ℕ → Seen → Result (List ℕ) Refusal → Type 0
-ReadsFile name seen (Ok bytes) = ReadGives seen.held name bytes
-ReadsFile name seen (Err (refusal.Absent other)) = (other ≡ name) × IsLacking seen name
-ReadsFile name seen (Err (refusal.Unread other)) = (other ≡ name) × Rose seen.faults seen.faults_now
-ReadsFile name seen (Err refusal.Memory) = Unit {0}
-ReadsFile name seen (Err f) = ⊥
+-- what reading one file comes to, with what was read
+abbrev pub ReadsFile : List ℕ → Seen → List Event → Result (List ℕ) Refusal → Type 0
+ReadsFile name seen events (Ok bytes) = ReadGives seen.held name bytes × (events ≡ Gave name bytes ∷ [])
+ReadsFile name seen events (Err (refusal.Absent other)) =
+    (other ≡ name) × IsLacking seen name × (events ≡ Lacked name ∷ [])
+ReadsFile name seen events (Err (refusal.Unread other)) =
+    (other ≡ name) × Rose seen.faults seen.faults_now × (events ≡ Failed name ∷ [])
+ReadsFile name seen events (Err refusal.Memory) = AreReadOn (name ∷ []) events
+ReadsFile name seen events (Err f) = ⊥
 
--- of some files this one is next: those before it gave bytes
-pub record IsNextOf (held : Told) (names : List (List ℕ)) (name : List ℕ) : Type 0 where
+-- of some files this one is next: those before it gave bytes, and the last read was of it
+pub record IsNextOf (held : Told) (names : List (List ℕ)) (name : List ℕ) (events : List Event) (last : Event)
+    : Type 0 where
   pub before : List (List ℕ)
   pub behind : List (List ℕ)
   pub order : names ≡ before ++ name ∷ behind
   pub files : List (List ℕ)
   pub read : AreRead held before files
+  pub events_are : events ≡ gave before files ++ last ∷ []
 
 -- what reading some files comes to
-abbrev pub ReadsFiles : List (List ℕ) → Seen → Result (List (List ℕ)) Refusal → Type 0
-ReadsFiles names seen (Ok files) = AreRead seen.held names files
-ReadsFiles names seen (Err (refusal.Absent name)) = IsNextOf seen.held names name × IsLacking seen name
-ReadsFiles names seen (Err (refusal.Unread name)) =
-    IsNextOf seen.held names name × Rose seen.faults seen.faults_now
-ReadsFiles names seen (Err refusal.Memory) = Unit {0}
-ReadsFiles names seen (Err f) = ⊥
+abbrev pub ReadsFiles : List (List ℕ) → Seen → List Event → Result (List (List ℕ)) Refusal → Type 0
+ReadsFiles names seen events (Ok files) = AreRead seen.held names files × (events ≡ gave names files)
+ReadsFiles names seen events (Err (refusal.Absent name)) =
+    IsNextOf seen.held names name events (Lacked name) × IsLacking seen name
+ReadsFiles names seen events (Err (refusal.Unread name)) =
+    IsNextOf seen.held names name events (Failed name) × Rose seen.faults seen.faults_now
+ReadsFiles names seen events (Err refusal.Memory) = AreReadOn names events
+ReadsFiles names seen events (Err f) = ⊥
 
 -- the refusal of a configuration
 abbrev pub of_config : CfgFault → Refusal
 of_config cfg.Memory = refusal.Memory
 of_config f = refusal.Config f
 
--- the file of this name says the configuration
-pub record Says (name : List ℕ) (held : Told) (wanted : Result Config CfgFault) : Type 0 where
+-- the file of this name says the configuration, and it alone was read
+pub record Says (name : List ℕ) (held : Told) (events : List Event) (wanted : Result Config CfgFault)
+    : Type 0 where
   pub bytes : List ℕ
   pub gives : ReadGives held name bytes
   pub says : config_of bytes ≡ wanted
+  pub events_are : events ≡ Gave name bytes ∷ []
 
 -- what the file of a configuration comes to
-abbrev pub Configures : List ℕ → Seen → Result Config Refusal → Type 0
-Configures name seen (Ok c) = Says name seen.held (Ok c)
-Configures name seen (Err (refusal.Absent other)) = (other ≡ name) × IsLacking seen name
-Configures name seen (Err (refusal.Unread other)) = (other ≡ name) × Rose seen.faults seen.faults_now
-Configures name seen (Err (refusal.Config f)) = Says name seen.held (Err f)
-Configures name seen (Err refusal.Memory) = Unit {0}
-Configures name seen (Err f) = ⊥
+abbrev pub Configures : List ℕ → Seen → List Event → Result Config Refusal → Type 0
+Configures name seen events (Ok c) = Says name seen.held events (Ok c)
+Configures name seen events (Err (refusal.Absent other)) =
+    (other ≡ name) × IsLacking seen name × (events ≡ Lacked name ∷ [])
+Configures name seen events (Err (refusal.Unread other)) =
+    (other ≡ name) × Rose seen.faults seen.faults_now × (events ≡ Failed name ∷ [])
+Configures name seen events (Err (refusal.Config f)) = Says name seen.held events (Err f)
+Configures name seen events (Err refusal.Memory) = AreReadOn (name ∷ []) events
+Configures name seen events (Err f) = ⊥
 
 -- ---- loading
 
@@ -180,19 +192,24 @@ Loads names c files qs (Err f) = ⊥
 -- ---- all of it
 
 -- configuration and files are read, and loading comes to this
-pub record Stands (r : Request) (held : Told) (result : Result Case Refusal) : Type 0 where
+pub record Stands (r : Request) (held : Told) (events : List Event) (result : Result Case Refusal) : Type 0 where
   pub config : Config
   pub configured : IsConfigured r held config
   pub files : List (List ℕ)
   pub read : AreRead held (names_in r config) files
   pub loads : Loads (r.cfg ∷ names_in r config) config files (questions_in r config) result
+  pub events_are : events ≡ all_gave r configured.bytes (names_in r config) files
 
--- what the whole work comes to
-abbrev pub Prepares : Request → Seen → Result Case Refusal → Type 0
-Prepares r seen (Ok case) = Stands r seen.held (Ok case)
-Prepares r seen (Err (refusal.Absent name)) = IsAbsent r seen name
-Prepares r seen (Err (refusal.Unread name)) = IsUnread r seen name
-Prepares r seen (Err (refusal.Config f)) = IsMisconfigured r seen.held f
-Prepares r seen (Err (refusal.Source f names)) = Stands r seen.held (Err (refusal.Source f names))
-Prepares r seen (Err (refusal.Heavy name number)) = Stands r seen.held (Err (refusal.Heavy name number))
-Prepares r seen (Err refusal.Memory) = Unit {0}
+-- what the whole work comes to, with what was read
+abbrev pub Prepares : Request → Seen → List Event → Result Case Refusal → Type 0
+Prepares r seen events (Ok case) = Stands r seen.held events (Ok case)
+Prepares r seen events (Err (refusal.Absent name)) =
+    (h : IsAbsent r seen name) × (events ≡ before_next r seen.held name h.next ++ Lacked name ∷ [])
+Prepares r seen events (Err (refusal.Unread name)) =
+    (h : IsUnread r seen name) × (events ≡ before_next r seen.held name h.next ++ Failed name ∷ [])
+Prepares r seen events (Err (refusal.Config f)) =
+    (h : IsMisconfigured r seen.held f) × (events ≡ Gave r.cfg h.bytes ∷ [])
+Prepares r seen events (Err (refusal.Source f names)) = Stands r seen.held events (Err (refusal.Source f names))
+Prepares r seen events (Err (refusal.Heavy name number)) =
+    Stands r seen.held events (Err (refusal.Heavy name number))
+Prepares r seen events (Err refusal.Memory) = IsReadOn r events

@@ -5,7 +5,8 @@ ghost use Rattle.fv_base.specs.Outside.{Names, SameFiles};
 ghost use Rattle.ck_cfg.specs.Files.{file_names_of};
 ghost use Rattle.rvf_case.specs.declared.case.Case.{Case as SpecCase};
 ghost use Rattle.rvf_case.specs.declared.refusal.Refusal.{Refusal as SpecRefusal};
-ghost use Rattle.rvf_case.specs.Cases.{Alike, Comes, IsReady, UnlessUnread, request_seen};
+ghost use Rattle.rvf_case.specs.Cases.{Alike, Comes, IsReady, UnlessUnread, request_seen, seen_between};
+ghost use Rattle.rvf_case.specs.Hearing.{Answered, HeardMore};
 ghost use Rattle.rvf_case.specs.Steps.{Prepares};
 
 use crate::asking::Asking;
@@ -53,19 +54,15 @@ fn with_first(alloc: Global, first: &[u8], names: List<Text>) -> Result<List<Tex
 
 /// What `prepare` answers.
 fn prepared<F: Files>(alloc: Global, request: Request<'_>, files: &mut F) -> Result<Case, Refusal>
-    ensures prepares { Prepares (request_seen request.entry)
-        (record {
-          held = F.held files.old;
-          misses = F.misses files.old;
-          misses_now = F.misses files.new;
-          faults = F.faults files.old;
-          faults_now = F.faults files.new;
-        }) result }
+    ensures prepares { HeardMore (F.state files.old).heard (F.state files.new).heard
+        (λ events. Prepares (request_seen request.entry) (seen_between (F.state files.old) (F.state files.new)) events
+        result) }
     ensures ready { IfOk result (λ case. IsReady case) }
-    ensures kept { SameFiles (F.held files.old) (F.held files.new) }
-    ensures misses_grow { F.misses files.old ≤ F.misses files.new }
-    ensures faults_grow { F.faults files.old ≤ F.faults files.new }
-    ensures quiet { UnlessUnread result (F.faults files.new ≡ F.faults files.old) }
+    ensures kept { SameFiles (F.state files.old).held (F.state files.new).held }
+    ensures unwritten { (F.state files.new).written ≡ (F.state files.old).written }
+    ensures misses_grow { (F.state files.old).misses ≤ (F.state files.new).misses }
+    ensures faults_grow { (F.state files.old).faults ≤ (F.state files.new).faults }
+    ensures quiet { UnlessUnread result ((F.state files.new).faults ≡ (F.state files.old).faults) }
 {
     let config = read_config(alloc, request.cfg, files)?;
     let names = names_of(alloc, &config, request.core, request.basedir)?;
@@ -83,29 +80,24 @@ pub fn prepare<F: Files>(
     request: Request<'_>,
     files: &mut F,
 ) -> Result<Case, Refusal>
-    ensures comes { Comes (request_seen request.entry)
-        (record {
-          held = F.held files.old;
-          misses = F.misses files.old;
-          misses_now = F.misses files.new;
-          faults = F.faults files.old;
-          faults_now = F.faults files.new;
-        }) result }
-    ensures exact { (names : Names) → F.held files.old ≡ Some names → (other : Result SpecCase SpecRefusal)
+    ensures comes { Answered (request_seen request.entry) (seen_between (F.state files.old) (F.state files.new))
+        (F.state files.old).heard (F.state files.new).heard result }
+    ensures exact { (names : Names) → (F.state files.old).held ≡ Some names → (other : Result SpecCase SpecRefusal)
         → Comes (request_seen request.entry)
         (record {
           held = Some names;
-          misses = F.misses files.old;
-          misses_now = F.misses files.new;
-          faults = F.faults files.old;
-          faults_now = F.faults files.new;
+          misses = (F.state files.old).misses;
+          misses_now = (F.state files.new).misses;
+          faults = (F.state files.old).faults;
+          faults_now = (F.state files.new).faults;
         }) other → Alike result other }
     ensures ready { IfOk result (λ case. IsReady case) }
-    ensures kept { SameFiles (F.held files.old) (F.held files.new) }
-    ensures misses_grow { F.misses files.old ≤ F.misses files.new }
-    ensures faults_grow { F.faults files.old ≤ F.faults files.new }
+    ensures kept { SameFiles (F.state files.old).held (F.state files.new).held }
+    ensures unwritten { (F.state files.new).written ≡ (F.state files.old).written }
+    ensures misses_grow { (F.state files.old).misses ≤ (F.state files.new).misses }
+    ensures faults_grow { (F.state files.old).faults ≤ (F.state files.new).faults }
     // A call on the files failed only where the answer says so, or memory is wanted.
-    ensures quiet { UnlessUnread result (F.faults files.new ≡ F.faults files.old) }
+    ensures quiet { UnlessUnread result ((F.state files.new).faults ≡ (F.state files.old).faults) }
 {
     prepared(alloc, request, files)
 }

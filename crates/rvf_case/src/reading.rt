@@ -3,7 +3,8 @@
 ghost use Rattle.std.specs.Prelude.{◌≡◌, ◌≤◌, IfOk};
 ghost use Rattle.fv_base.specs.Outside.{SameFiles};
 ghost use Rattle.ck_cfg.specs.Lawful.{HasLawfulChecks};
-ghost use Rattle.rvf_case.specs.Cases.{UnlessUnread};
+ghost use Rattle.rvf_case.specs.Cases.{UnlessUnread, seen_between};
+ghost use Rattle.rvf_case.specs.Hearing.{HeardMore};
 ghost use Rattle.rvf_case.specs.Steps.{Becomes, Configures, ReadsFile, ReadsFiles, of_config};
 
 use crate::refusal::Refusal;
@@ -28,17 +29,13 @@ fn unread(alloc: Global, name: &[u8], fault: FileFault) -> Refusal
 
 /// The bytes of a file.
 fn read_file<F: Files>(alloc: Global, name: &[u8], files: &mut F) -> Result<Text, Refusal>
-    ensures reads { ReadsFile name.now (record {
-      held = F.held files.old;
-      misses = F.misses files.old;
-      misses_now = F.misses files.new;
-      faults = F.faults files.old;
-      faults_now = F.faults files.new;
-    }) result }
-    ensures kept { SameFiles (F.held files.old) (F.held files.new) }
-    ensures misses_grow { F.misses files.old ≤ F.misses files.new }
-    ensures faults_grow { F.faults files.old ≤ F.faults files.new }
-    ensures quiet { UnlessUnread result (F.faults files.new ≡ F.faults files.old) }
+    ensures reads { HeardMore (F.state files.old).heard (F.state files.new).heard
+        (λ events. ReadsFile name.now (seen_between (F.state files.old) (F.state files.new)) events result) }
+    ensures kept { SameFiles (F.state files.old).held (F.state files.new).held }
+    ensures unwritten { (F.state files.new).written ≡ (F.state files.old).written }
+    ensures misses_grow { (F.state files.old).misses ≤ (F.state files.new).misses }
+    ensures faults_grow { (F.state files.old).faults ≤ (F.state files.new).faults }
+    ensures quiet { UnlessUnread result ((F.state files.new).faults ≡ (F.state files.old).faults) }
 {
     match files.read(alloc, name) {
         Ok(bytes) => Ok(Text::from_vec(bytes)),
@@ -52,17 +49,13 @@ pub(crate) fn read_files<F: Files>(
     names: &[Text],
     files: &mut F,
 ) -> Result<List<Text>, Refusal>
-    ensures reads { ReadsFiles names.now (record {
-      held = F.held files.old;
-      misses = F.misses files.old;
-      misses_now = F.misses files.new;
-      faults = F.faults files.old;
-      faults_now = F.faults files.new;
-    }) result }
-    ensures kept { SameFiles (F.held files.old) (F.held files.new) }
-    ensures misses_grow { F.misses files.old ≤ F.misses files.new }
-    ensures faults_grow { F.faults files.old ≤ F.faults files.new }
-    ensures quiet { UnlessUnread result (F.faults files.new ≡ F.faults files.old) }
+    ensures reads { HeardMore (F.state files.old).heard (F.state files.new).heard
+        (λ events. ReadsFiles names.now (seen_between (F.state files.old) (F.state files.new)) events result) }
+    ensures kept { SameFiles (F.state files.old).held (F.state files.new).held }
+    ensures unwritten { (F.state files.new).written ≡ (F.state files.old).written }
+    ensures misses_grow { (F.state files.old).misses ≤ (F.state files.new).misses }
+    ensures faults_grow { (F.state files.old).faults ≤ (F.state files.new).faults }
+    ensures quiet { UnlessUnread result ((F.state files.new).faults ≡ (F.state files.old).faults) }
 {
     let mut texts = List::new(alloc);
     for name in names {
@@ -83,22 +76,18 @@ fn misconfigured(fault: CfgFault) -> Refusal
 
 /// The configuration that a file says, or why it says none: the file gives no bytes, or its bytes are refused.
 pub fn read_config<F: Files>(alloc: Global, cfg: &[u8], files: &mut F) -> Result<Config, Refusal>
-    ensures configures { Configures cfg.now (record {
-      held = F.held files.old;
-      misses = F.misses files.old;
-      misses_now = F.misses files.new;
-      faults = F.faults files.old;
-      faults_now = F.faults files.new;
-    }) result }
+    ensures configures { HeardMore (F.state files.old).heard (F.state files.new).heard
+        (λ events. Configures cfg.now (seen_between (F.state files.old) (F.state files.new)) events result) }
     ensures lawful { IfOk result (λ config. HasLawfulChecks config) }
     ensures channels { IfOk result (λ config. 1 ≤ config.nret × config.nret ≤ 2) }
-    ensures kept { SameFiles (F.held files.old) (F.held files.new) }
-    ensures misses_grow { F.misses files.old ≤ F.misses files.new }
-    ensures faults_grow { F.faults files.old ≤ F.faults files.new }
-    ensures quiet { UnlessUnread result (F.faults files.new ≡ F.faults files.old) }
+    ensures kept { SameFiles (F.state files.old).held (F.state files.new).held }
+    ensures unwritten { (F.state files.new).written ≡ (F.state files.old).written }
+    ensures misses_grow { (F.state files.old).misses ≤ (F.state files.new).misses }
+    ensures faults_grow { (F.state files.old).faults ≤ (F.state files.new).faults }
+    ensures quiet { UnlessUnread result ((F.state files.new).faults ≡ (F.state files.old).faults) }
 {
-    let bytes = read_file(alloc, cfg, files)?;
-    match read_cfg(alloc, bytes.bytes()) {
+    let text = read_file(alloc, cfg, files)?;
+    match read_cfg(alloc, text.bytes()) {
         Ok(config) => Ok(config),
         Err(fault) => Err(misconfigured(fault)),
     }

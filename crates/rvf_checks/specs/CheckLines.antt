@@ -48,9 +48,12 @@ total_line c skipped = codes "total " ++ (counts_text c ++ (count_text (codes " 
 abbrev pub bench_line : ℕ → Counts → List ℕ
 bench_line size c = count_text (codes "bench ") size ++ (32 ∷ (counts_text c ++ (10 ∷ [])))
 
--- how many targets came to what, as the last line of `cover`
+-- how many targets came to what
+abbrev pub targets_text : Counts → List ℕ
+targets_text c =
+    count_text (codes "reached ") c.found
+    ++ (count_text (codes " unreached ") c.never ++ count_text (codes " spent ") c.spent)
+
+-- the same as the last line of `cover`
 abbrev pub targets_line : Counts → List ℕ
-targets_line c =
-    codes "total "
-    ++ (count_text (codes "reached ") c.found
-    ++ (count_text (codes " unreached ") c.never ++ (count_text (codes " spent ") c.spent ++ (10 ∷ []))))
+targets_line c = codes "total " ++ (targets_text c ++ (10 ∷ []))

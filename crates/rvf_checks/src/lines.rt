@@ -86,14 +86,22 @@ pub(crate) fn bench_line(alloc: Global, size: u32, counts: Counts) -> Result<Tex
     Ok(Text::from_vec(line))
 }
 
+/// The counts of targets behind what is there.
+fn put_targets(line: &mut Vec<u8>, counts: Counts) -> Result<(), Memory>
+    ensures { OnOk result (line.new.items ≡ line.old.items ++ lines.targets_text counts) }
+{
+    put_count(line, b"reached ", counts.found)?;
+    put_count(line, b" unreached ", counts.never)?;
+    put_count(line, b" spent ", counts.spent)?;
+    Ok(())
+}
+
 /// The last line of `cover`.
 pub(crate) fn targets_line(alloc: Global, counts: Counts) -> Result<Text, Memory>
     ensures { IfOk result (λ line. line ≡ lines.targets_line counts) }
 {
     let mut line = Vec::from_slice(alloc, b"total ")?;
-    put_count(&mut line, b"reached ", counts.found)?;
-    put_count(&mut line, b" unreached ", counts.never)?;
-    put_count(&mut line, b" spent ", counts.spent)?;
+    put_targets(&mut line, counts)?;
     line.push(b'\n')?;
     Ok(Text::from_vec(line))
 }

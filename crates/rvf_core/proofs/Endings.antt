@@ -1,8 +1,9 @@
 -- How a run ends: with the status whose report was delivered, or with what took its place.
-use Rattle.std.proofs.Common.{◌≡◌, ℕ, List, [], Option, Result, Ok, Err}
+use Rattle.std.proofs.Common.{◌≡◌, ℕ, List, [], ◌++◌, Option, Result, Ok, Err}
 use Rattle.std.proofs.Common.{IfOk, length, refl, sym, ap, ◌∙◌, subst}
 use Rattle.fv_text.specs.declared.memory.Memory.{Memory}
 use Rattle.fv_base.specs.Outside.{Told}
+use Rattle.fv_base.specs.declared.event.Event.{Event}
 use Rattle.fv_base.specs.declared.out.OutFault.{OutFault}
 use Rattle.fv_base.specs.declared.out.OutFault.TheVariants as out
 use Rattle.ck_cfg.specs.declared.config.Config.{Config}
@@ -12,6 +13,7 @@ use Rattle.rvf_judge.specs.declared.judged.Judged.{Judged}
 use Rattle.rvf_judge.specs.Sources.{JudgementsAreTheSources}
 use Rattle.rvf_words.specs.declared.line.Line.{Line as Words}
 use Rattle.rvf_case.specs.Cases.{AreLoaded, IsCase, IsReady, Request, questions_in}
+use Rattle.rvf_case.specs.Hearing.{HeardMore}
 use Rattle.rvf_case.specs.declared.case.Case.{Case}
 use Rattle.rvf_report.specs.Outcome.{Outside, Delivers, IsDelivered}
 use Rattle.rvf_report.specs.Reports.{AreAnswersFrom, Concludes, Plan, all, front}
@@ -26,9 +28,10 @@ use Rattle.rvf_report.specs.Status.{ends}
 use Rattle.rvf_report.specs.declared.delivery.Delivery.{Delivery}
 use Rattle.rvf_report.specs.declared.status.Status.{Status}
 use Rattle.rvf_report.specs.declared.status.Status.TheVariants as s
-use Rattle.rvf_core.specs.Checks.{IsBegun, IsWhole}
+use Rattle.rvf_core.specs.Checks.{HasRead, IsBegun, IsWhole}
 use Rattle.rvf_core.specs.Puts.{Puts}
-use Rattle.rvf_core.specs.Run.{Begins, Ends, IsReport, Reports, Run, Says, seen_in}
+use Rattle.rvf_core.specs.Run.{Begins, Ends, Hears, IsReadOn, IsReport, Reports, Run, Says, begins_reads, says_reads}
+use Rattle.rvf_core.specs.Run.{seen_in}
 use Rattle.rvf_core.specs.Run as run
 use Rattle.rvf_core.specs.Verdicts.{AreJudged, IsNoted}
 use Rattle.rvf_core.specs.declared.report.Report.{Report}
@@ -59,40 +62,51 @@ module _ (asked : Option Words) (r : Run) where
 -- ---- a report that is there before it is delivered
 
 module _ (asked : Option Words) (r : Run) (middle : Outside) (earlier : IsEarlier r.before middle) where
+  -- what was read is what the report speaks of
+  abbrev IsHeard : (status : Status) (report : List Delivery) → Says asked (seen_in r) status report → Type 0
+  IsHeard status report says = r.now.heard ≡ r.before.heard ++ says_reads asked (seen_in r) status report says
+
   -- a report that has its cause was delivered as far as the answer says
   ends_delivered : (delivered : Result (Unit {0}) OutFault) (status : Status) (report : List Delivery)
-      → Says asked (seen_in r) status report → IsOwn status → IsDelivered delivered middle r.now report
+      (says : Says asked (seen_in r) status report) → IsHeard status report says → IsOwn status
+      → IsDelivered delivered middle r.now report
       → Ends asked r (ends delivered status)
-  ends_delivered (Ok u) status report says own d =
+  ends_delivered (Ok u) status report says heard own d =
       ends_reported asked r status own (record {
         report = report;
         says = says;
+        heard = heard;
         delivered = later_delivers r.before middle r.now earlier report d;
       })
-  ends_delivered (Err out.Failed) status report says own d = record {
+  ends_delivered (Err out.Failed) status report says heard own d = record {
     report = report;
     is = run.whole status says;
+    heard = record { events = says_reads asked (seen_in r) status report says; behind = heard; are = refl };
     fails = later_fails r.before middle r.now earlier report d;
   }
-  ends_delivered (Err out.Memory) status report says own d = record {
+  ends_delivered (Err out.Memory) status report says heard own d = record {
     report = report;
     is = run.whole status says;
+    heard = record { events = says_reads asked (seen_in r) status report says; behind = heard; are = refl };
     stops = later_stops r.before middle r.now earlier report d;
   }
 
   -- what a made report has to say
   abbrev pub Fits : Report → Type 0
-  Fits report = Says asked (seen_in r) report.status report.deliveries × IsOwn report.status
+  Fits report =
+      (says : Says asked (seen_in r) report.status report.deliveries)
+      × IsHeard report.status report.deliveries says × IsOwn report.status
 
-  pub ends_put : (made : Result Report Memory) (status : Status) → IfOk made Fits → Puts made status middle r.now
-      → Ends asked r status
-  ends_put (Ok report) status fits put =
+  pub ends_put : (made : Result Report Memory) (status : Status) → IfOk made Fits
+      → HeardMore r.before.heard r.now.heard (IsReadOn asked) → Puts made status middle r.now → Ends asked r status
+  ends_put (Ok report) status fits heard put =
       subst (λ x. Ends asked r x) (sym put.status_is)
-      (ends_delivered put.delivered report.status report.deliveries fits.0 fits.1 put.is)
-  ends_put (Err fault) status fits put =
+      (ends_delivered put.delivered report.status report.deliveries fits.0 fits.1 fits.2 put.is)
+  ends_put (Err fault) status fits heard put =
       subst (λ x. Ends asked r x) (sym put.0) (record {
         report = [];
         is = run.nothing refl;
+        heard = heard;
         stops = record {
           done = [];
           rest = [];
@@ -125,14 +139,18 @@ module _ (law : JudgementsAreTheSources TakesFewer) (q : Request) (held : Told) 
       subst (λ xs. IsNoted c is.files xs (is_noted case)) is.questions_are
       (noted_over case is.files is.loaded case.questions ready)
 
-  whole_said : (status : Status) (answers : List Judged) → AreAnswers TakesFewer case budget case.questions answers
-      → length answers ≡ length case.questions → status ≡ status_of case.questions answers
-      → IsWhole q held words folder budget status
+  -- the configuration and its files
+  abbrev case_read : HasRead q held c is.files
+  case_read = record { configured = is.configured; read = is.read }
+
+  abbrev whole_said : (status : Status) (answers : List Judged)
+      → AreAnswers TakesFewer case budget case.questions answers → length answers ≡ length case.questions
+      → status ≡ status_of case.questions answers → IsWhole q held words folder budget status
       (whole words folder budget (is_noted case) c.skips case.questions answers)
   whole_said status answers are all_answered status_is = record {
     config = c;
     files = is.files;
-    read = record { configured = is.configured; read = is.read };
+    read = case_read;
     unrefused = loaded.unrefused;
     answers = answers;
     judged = judged answers are;
@@ -143,13 +161,13 @@ module _ (law : JudgementsAreTheSources TakesFewer) (q : Request) (held : Told) 
     report_is = ap (λ xs. whole words folder budget (is_noted case) c.skips xs answers) is.questions_are;
   }
 
-  begun_said : (answers : List Judged) → AreAnswers TakesFewer case budget case.questions answers
+  abbrev begun_said : (answers : List Judged) → AreAnswers TakesFewer case budget case.questions answers
       → IsBegun q held words folder budget
       (begun words folder budget (is_noted case) c.skips case.questions answers)
   begun_said answers are = record {
     config = c;
     files = is.files;
-    read = record { configured = is.configured; read = is.read };
+    read = case_read;
     unrefused = loaded.unrefused;
     answers = answers;
     judged = judged answers are;
@@ -161,38 +179,67 @@ module _ (law : JudgementsAreTheSources TakesFewer) (q : Request) (held : Told) 
   abbrev plan : Plan Judged Counts
   plan = plan_of TakesFewer case words folder budget
 
-  -- what is said where the words ask for these questions
+  -- what is said where the words ask for these questions, and which of what was read for them the files heard
   module _ (asked : Option Words) (r : Run)
+      (reads : (d : Config) (files : List (List ℕ)) → HasRead q held d files → List Event)
       (says : (status : Status) (report : List Delivery) → IsWhole q held words folder budget status report
       → Says asked (seen_in r) status report)
       (begins : (report : List Delivery) → IsBegun q held words folder budget report
-      → Begins asked (seen_in r) report) where
+      → Begins asked (seen_in r) report)
+      (says_of : (status : Status) (report : List Delivery) (w : IsWhole q held words folder budget status report)
+      → says_reads asked (seen_in r) status report (says status report w) ≡ reads w.config w.files w.read)
+      (begins_of : (report : List Delivery) (b : IsBegun q held words folder budget report)
+      → begins_reads asked (seen_in r) report (begins report b) ≡ reads b.config b.files b.read)
+      (heard : r.now.heard ≡ r.before.heard ++ reads c is.files case_read) where
+    -- a report, of which this was read
+    abbrev IsHeardReport : List Delivery → Type 0
+    IsHeardReport report =
+        (is : IsReport asked (seen_in r) report)
+        × HeardMore r.before.heard r.now.heard (Hears asked (seen_in r) report is)
+
     reported : (answers : List Judged) (report : List Delivery) → AreAnswersFrom plan 0 answers
-        → reports.IsReport plan answers report → IsReport asked (seen_in r) report
+        → reports.IsReport plan answers report → IsHeardReport report
     reported answers report are (front e) =
-        subst (λ l. IsReport asked (seen_in r) l)
-        (sym (e ∙ begun_is TakesFewer case words folder budget answers are))
-        (run.begun (begins (begun words folder budget (is_noted case) c.skips case.questions answers)
-        (begun_said answers (are_answers TakesFewer case words folder budget answers are))))
+        let list : List Delivery = begun words folder budget (is_noted case) c.skips case.questions answers in
+        let b : IsBegun q held words folder budget list =
+        begun_said answers (are_answers TakesFewer case words folder budget answers are) in
+        subst IsHeardReport (sym (e ∙ begun_is TakesFewer case words folder budget answers are)) (
+          run.begun (begins list b),
+          record {
+            events = begins_reads asked (seen_in r) list (begins list b);
+            behind = heard ∙ ap (λ l. r.before.heard ++ l) (sym (begins_of list b));
+            are = refl;
+          },
+        )
     reported answers report are (all n e) =
-        subst (λ l. IsReport asked (seen_in r) l)
-        (sym (e ∙ whole_is TakesFewer case words folder budget answers are))
-        (run.whole (status_of case.questions answers) (says (status_of case.questions answers)
-        (whole words folder budget (is_noted case) c.skips case.questions answers)
-        (whole_said (status_of case.questions answers) answers (are_answers TakesFewer case words folder budget answers are)
-        n refl)))
+        let list : List Delivery = whole words folder budget (is_noted case) c.skips case.questions answers in
+        let status : Status = status_of case.questions answers in
+        let w : IsWhole q held words folder budget status list =
+        whole_said status answers (are_answers TakesFewer case words folder budget answers are) n refl in
+        subst IsHeardReport (sym (e ∙ whole_is TakesFewer case words folder budget answers are)) (
+          run.whole status (says status list w),
+          record {
+            events = says_reads asked (seen_in r) status list (says status list w);
+            behind = heard ∙ ap (λ l. r.before.heard ++ l) (sym (says_of status list w));
+            are = refl;
+          },
+        )
 
     module _ (middle : Outside) (earlier : IsEarlier r.before middle) where
       whole_reported : (status : Status) → reports.Reports plan middle r.now status → Reports asked r status
-      whole_reported status x = record {
-        report = whole words folder budget (is_noted case) c.skips case.questions x.answers;
-        says = says status (whole words folder budget (is_noted case) c.skips case.questions x.answers)
-            (whole_said status x.answers (are_answers TakesFewer case words folder budget x.answers x.are) x.all
-            (status_is TakesFewer case words folder budget x.answers status x.are x.status_is));
-        delivered = later_delivers r.before middle r.now earlier _
-            (subst (λ l. Delivers middle r.now l) (whole_is TakesFewer case words folder budget x.answers x.are)
-            x.delivered);
-      }
+      whole_reported status x =
+          let list : List Delivery = whole words folder budget (is_noted case) c.skips case.questions x.answers in
+          let w : IsWhole q held words folder budget status list =
+          whole_said status x.answers (are_answers TakesFewer case words folder budget x.answers x.are) x.all
+          (status_is TakesFewer case words folder budget x.answers status x.are x.status_is) in
+          record {
+            report = list;
+            says = says status list w;
+            heard = heard ∙ ap (λ l. r.before.heard ++ l) (sym (says_of status list w));
+            delivered = later_delivers r.before middle r.now earlier list
+                (subst (λ l. Delivers middle r.now l) (whole_is TakesFewer case words folder budget x.answers x.are)
+                x.delivered);
+          }
 
       pub ends_concluded : (status : Status) → Concludes plan status middle r.now → Ends asked r status
       ends_concluded s.Passed x = whole_reported s.Passed x
@@ -203,15 +250,21 @@ module _ (law : JudgementsAreTheSources TakesFewer) (q : Request) (held : Told) 
       ends_concluded s.Source x = absurd x
       ends_concluded s.Absent x = absurd x
       ends_concluded s.ReadFault x = absurd x
-      ends_concluded s.WriteFault x = record {
-        report = x.report;
-        is = reported x.answers x.report x.are x.is;
-        fails = later_fails r.before middle r.now earlier x.report x.fails;
-      }
+      ends_concluded s.WriteFault x =
+          let h : IsHeardReport x.report = reported x.answers x.report x.are x.is in
+          record {
+            report = x.report;
+            is = h.0;
+            heard = h.1;
+            fails = later_fails r.before middle r.now earlier x.report x.fails;
+          }
       ends_concluded s.Heavy x = absurd x
       ends_concluded s.Refused x = absurd x
-      ends_concluded s.Memory x = record {
-        report = x.report;
-        is = reported x.answers x.report x.are x.is;
-        stops = later_stops r.before middle r.now earlier x.report x.stops;
-      }
+      ends_concluded s.Memory x =
+          let h : IsHeardReport x.report = reported x.answers x.report x.are x.is in
+          record {
+            report = x.report;
+            is = h.0;
+            heard = h.1;
+            stops = later_stops r.before middle r.now earlier x.report x.stops;
+          }

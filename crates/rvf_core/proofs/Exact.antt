@@ -1,9 +1,12 @@
 -- An answer has the only cause that is there.
-use Rattle.std.proofs.Common.{◌≡◌, ℕ, Bool, true, false, List, [], ◌∷◌, length, map, Option, Some, None}
+use Rattle.std.proofs.Common.{◌≡◌, ℕ, Bool, true, false, List, [], ◌∷◌, ◌++◌, length, map, Option, Some, None}
 use Rattle.std.proofs.Common.{refl, sym, ◌∙◌, subst, inl, inr, ◌⊎◌, arith}
 use Rattle.std.proofs.lemmas.List.Elements.{All-contains, All-from_recursion, recursion_from_All}
+use Rattle.std.proofs.lemmas.List.{append_cancel_left}
 use Rattle.std.specs.List.{All, AllByRecursion, Contains}
 use Rattle.fv_base.specs.Outside.{Names}
+use Rattle.fv_base.specs.declared.event.Event.{Event}
+use Rattle.fv_base.specs.declared.event.Event.TheVariants.{Failed}
 use Rattle.vl_size.specs.Size.{Values}
 use Rattle.ck_cfg.specs.declared.check.Check.{Check}
 use Rattle.ck_cfg.specs.declared.config.Config.{Config}
@@ -35,13 +38,15 @@ use Rattle.rvf_core.specs.Bench as bench
 use Rattle.rvf_core.specs.Run.{Answered, Answers, AreAccepted, Asks, Ends, HasCounts, IsAccepted, IsExact, Run, Says}
 use Rattle.rvf_core.specs.Run.{comes, of_bench, of_files}
 use Rattle.rvf_core.specs.Run.{comes_in_budget}
-use Rattle.rvf_core.specs.Run.{comes_judged, rose, seen_in}
+use Rattle.rvf_core.specs.Run.{comes_judged, rose, says_reads, seen_in}
 use Rattle.rvf_core.specs.Steps.{HaveStatus}
 use Rattle.rvf_core.specs.Tasks.{Task}
 use Rattle.rvf_core.specs.Verdicts.{AreJudged, Gives, IsGiven, IsUnmet, Judges, QuestionFails, Violates}
 use Rattle.rvf_core.specs.Verdicts.{check_questions, opts_in, text_for, text_of, wants_in}
+use Rattle.rvf_core.proofs.Apart.{true_false}
 use Rattle.rvf_core.proofs.Asking.{asked_says}
 use Rattle.rvf_core.proofs.Causes.{moved, uncaused}
+use Rattle.rvf_core.proofs.Failures.{failure_comes}
 use Rattle.rvf_core.proofs.Others.{same_said}
 use Rattle.rvf_core.proofs.Members.{from_contains, in_map, to_contains}
 use Rattle.rvf_core.proofs.Statuses.{IsClear, all_clear, by_verdict, comes_Memory, comes_WriteFault, comes_itself}
@@ -57,26 +62,42 @@ under r asked status is a = subst (λ line. Ends line r status) is a
 -- what holds of each status that has its cause, and of those that may take its place, holds of the answer
 module _ (test : Status → Bool) (on_write : test s.WriteFault ≡ true) (on_memory : test s.Memory ≡ true)
     (asked : Option Words) (r : Run) where
+  by_reads : (status : Status) → Ends asked r status
+      → ((report : List Delivery) (says : Says asked (seen_in r) status report)
+      → r.now.heard ≡ r.before.heard ++ says_reads asked (seen_in r) status report says → test status ≡ true)
+      → test status ≡ true
+  by_reads s.Passed e f = f e.report e.says e.heard
+  by_reads s.Failing e f = f e.report e.says e.heard
+  by_reads s.Spent e f = f e.report e.says e.heard
+  by_reads s.Usage e f = f e.report e.says e.heard
+  by_reads s.Config e f = f e.report e.says e.heard
+  by_reads s.Source e f = f e.report e.says e.heard
+  by_reads s.Absent e f = f e.report e.says e.heard
+  by_reads s.ReadFault e f = f e.report e.says e.heard
+  by_reads s.WriteFault e f = on_write
+  by_reads s.Heavy e f = f e.report e.says e.heard
+  by_reads s.Refused e f = f e.report e.says e.heard
+  by_reads s.Memory e f = on_memory
+
   by_cause : (status : Status) → Ends asked r status
       → ((report : List Delivery) → Says asked (seen_in r) status report → test status ≡ true) → test status ≡ true
-  by_cause s.Passed e f = f e.report e.says
-  by_cause s.Failing e f = f e.report e.says
-  by_cause s.Spent e f = f e.report e.says
-  by_cause s.Usage e f = f e.report e.says
-  by_cause s.Config e f = f e.report e.says
-  by_cause s.Source e f = f e.report e.says
-  by_cause s.Absent e f = f e.report e.says
-  by_cause s.ReadFault e f = f e.report e.says
-  by_cause s.WriteFault e f = on_write
-  by_cause s.Heavy e f = f e.report e.says
-  by_cause s.Refused e f = f e.report e.says
-  by_cause s.Memory e f = on_memory
+  by_cause status e f = by_reads status e (λ report says heard. f report says)
 
 usage_comes : (r : Run) (status : Status) → Answers status r → line_of r.words ≡ None
     → comes s.Usage status ≡ true
 usage_comes r status a none =
     by_cause (comes s.Usage) refl refl None r status (under r None status none a)
     (λ report says. comes_itself s.Usage status says.status_is)
+
+-- a read that failed is the last one of what a cause speaks of
+unread_comes : (r : Run) (status : Status) → Answers status r → (events : List Event) (name : List ℕ)
+    → r.now.heard ≡ r.before.heard ++ events → Contains events (Failed name) → comes s.ReadFault status ≡ true
+unread_comes r status a events name heard there =
+    by_reads (comes s.ReadFault) refl refl (line_of r.words) r status a
+    (λ report says is. failure_comes (line_of r.words) (seen_in r) status report says name
+    (subst (λ l. Contains l (Failed name))
+    (append_cancel_left r.before.heard events (says_reads (line_of r.words) (seen_in r) status report says)
+    (sym heard ∙ is)) there))
 
 -- ---- questions
 
@@ -112,16 +133,13 @@ found_given : (c : Config) (fs : List (List ℕ)) (qs : List Question) (budget :
 found_given c fs qs budget q dump g =
     (g.judged.run, record { reading = g.reading; is = g.is; found = g.judged.found })
 
-true_false : true ≡ false → ⊥
-true_false e = cc
-
 -- what a target's answer says, by whether it has a row
 clear_target : (row : Option RowId) (Given : Type 0) (j : Judged) → is_unmet row j ≡ false → is_spent j ≡ false
     → ((dump : List ℕ) → j ≡ judged.Found dump → Given) → IsUnmet row Given → ⊥
-clear_target None Given (judged.Never texts) e p found no = true_false e
-clear_target None Given (judged.Found dump) e p found no = no (found dump refl)
-clear_target None Given (judged.Spent texts) e p found no = true_false p
-clear_target (Some row) Given j e p found no = no
+clear_target None Given (judged.Never texts) e p found unmet = true_false e
+clear_target None Given (judged.Found dump) e p found unmet = unmet (found dump refl)
+clear_target None Given (judged.Spent texts) e p found unmet = true_false p
+clear_target (Some row) Given j e p found unmet = unmet
 
 unmet_target : (row : Option RowId) (Given : Type 0) (j : Judged) → is_unmet row j ≡ true
     → ((texts : CertificateTexts) → j ≡ judged.Never texts → Given → ⊥) → IsUnmet row Given
@@ -364,6 +382,7 @@ pub IsExact-answers : (r : Run) (status : Status) → Answers status r → HaveS
     → HasCounts status r.before r.now → IsExact status r
 IsExact-answers r status a statuses counts = record {
   counts = counts;
+  unread = λ events name heard there. unread_comes r status a events name heard there;
   usage = λ none. usage_comes r status a none;
   refusal = λ f h.
       statuses h.task h.asks.asked h.asks.names h.asks.told h.asks.no_fault f h.cause;

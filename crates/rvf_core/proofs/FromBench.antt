@@ -1,5 +1,5 @@
 -- From the files that `bench` makes to the end of a run over its checks.
-use Rattle.std.proofs.Common.{◌≡◌, ℕ, List, Some, None, Result, Err, IfOk, sym, ap, subst}
+use Rattle.std.proofs.Common.{◌≡◌, ℕ, List, [], Some, None, Result, Err, IfOk, refl, sym, ap, subst}
 use Rattle.fv_base.specs.Outside.{Names, SameFiles, Told}
 use Rattle.fv_text.specs.declared.memory.Memory.{Memory}
 use Rattle.bm_decide.specs.Searches.{TakesFewer}
@@ -22,7 +22,7 @@ use Rattle.rvf_core.specs.declared.report.Report.{Report}
 use Rattle.rvf_core.proofs.Endings.{Fits, IsOwn, ends_concluded, ends_put}
 use Rattle.rvf_core.proofs.FromChecks.{cause_of}
 use Rattle.rvf_core.proofs.FromFiles.{if_ok, own_refusal}
-use Rattle.rvf_core.proofs.FromWords.{at_once}
+use Rattle.rvf_core.proofs.FromWords.{at_once, none_heard}
 use Rattle.rvf_core.proofs.Refusals.{IsLineOf}
 
 -- what is told of files that hold the same
@@ -31,7 +31,7 @@ told_same (Some other) names same = λ i. Some (λ name. same name i)
 told_same None names same = absurd same
 
 module _ (size : ℕ) (asked : List (List ℕ)) (before now : Outside) (held : Told)
-    (same : SameFiles (Some (bench.held_of size)) held) where
+    (same : SameFiles (Some (bench.held_of size)) held) (unheard : now.heard ≡ before.heard) where
   abbrev line : Words
   line = words.Bench size
 
@@ -48,8 +48,10 @@ module _ (size : ℕ) (asked : List (List ℕ)) (before now : Outside) (held : T
   bench_case_ends law case status is ready x =
       ends_concluded law bench.request (Some (bench.held_of size)) (wording.Bench size) bench.folder bench.budget case
       (subst (λ h. IsCase bench.request h case) held_is is) ready (Some line) the_run
-      (λ told report w. record { misses = 0; misses_now = 0; checks = checks.judged w }) (λ report b. b) before
-      (at_once before) status x
+      (λ d files read. [])
+      (λ told report w. record { misses = 0; misses_now = 0; checks = checks.judged w }) (λ report b. b)
+      (λ told report w. refl) (λ report b. refl) (none_heard before.heard now.heard unheard) before (at_once before)
+      status x
 
   module _ (misses misses_now : ℕ) (f : Refusal) where
     abbrev seen : Told → Seen
@@ -69,6 +71,7 @@ module _ (size : ℕ) (asked : List (List ℕ)) (before now : Outside) (held : T
           report_is = ap (λ (r : Report). r.deliveries) p.0;
         });
       },
+      none_heard before.heard now.heard unheard,
       subst IsOwn (sym (ap (λ (r : Report). r.status) p.0)) (own_refusal f p.1),
     )
 
@@ -78,4 +81,5 @@ module _ (size : ℕ) (asked : List (List ℕ)) (before now : Outside) (held : T
     bench_refusal_ends made status came p put =
         ends_put (Some line) the_run before (at_once before) made status
         (if_ok (IsLineOf f) (Fits (Some line) the_run before (at_once before))
-        (λ report x. bench_fits report came x) made p) put
+        (λ report x. bench_fits report came x) made p)
+        (record { events = []; behind = none_heard before.heard now.heard unheard; are = refl }) put

@@ -1,10 +1,12 @@
 -- From what was read to the report on it.
-use Rattle.std.proofs.Common.{◌≡◌, ℕ, ◌≤◌, true, false, List, map, Some, None, Result, Ok, Err, IfOk}
+use Rattle.std.proofs.Common.{◌≡◌, ℕ, ◌≤◌, false, List, [], ◌∷◌, ◌++◌, map, Some, None, Result, Ok, Err, IfOk}
 use Rattle.std.proofs.Common.{refl, sym, ap, ◌∙◌, subst, arith}
-use Rattle.fv_base.specs.Outside.{Lacks, ReadGives, Rose, SameFiles, Told}
+use Rattle.fv_base.specs.Events.{read_events}
+use Rattle.fv_base.specs.Outside.{FilesState, Lacks, ReadGives, Rose, SameFiles, Told}
+use Rattle.fv_base.specs.declared.event.Event.{Event}
+use Rattle.fv_base.specs.declared.event.Event.TheVariants.{Gave, Lacked, Failed}
 use Rattle.fv_base.specs.declared.files.FileFault.{FileFault}
 use Rattle.fv_base.specs.declared.files.FileFault.TheVariants as file
-use Rattle.fv_text.specs.declared.memory.Memory.{Memory}
 use Rattle.ck_cfg.specs.declared.config.Config.{Config}
 use Rattle.ck_cfg.specs.Checks.{checks_of}
 use Rattle.cnf_form.specs.Cnf.{Cnf}
@@ -19,22 +21,26 @@ use Rattle.lrat_check.specs.declared.step.StepFault.{StepFault}
 use Rattle.lrat_texts.proofs.Formulas.{formula_law}
 use Rattle.lrat_texts.proofs.Steps.{steps_law}
 use Rattle.rvf_report.specs.Lines.{refusal_line}
-use Rattle.rvf_case.specs.Cases.{Seen}
+use Rattle.rvf_case.specs.Cases.{Seen, seen_between}
+use Rattle.rvf_case.specs.Hearing.{AreReadOn, HeardMore}
 use Rattle.rvf_case.specs.Steps.{Configures}
 use Rattle.rvf_case.specs.declared.refusal.Refusal.{Refusal}
 use Rattle.rvf_case.specs.declared.refusal.Refusal.TheVariants as refusal
+use Rattle.rvf_case.proofs.Files.{heard_both}
 use Rattle.rvf_report.specs.declared.delivery.Delivery.{Delivery}
 use Rattle.rvf_report.specs.declared.status.Status.{Status}
 use Rattle.rvf_report.specs.declared.status.Status.TheVariants as s
 use Rattle.rvf_core.specs.Certificate.{formula_report, judgement, one_line, outcome, proof_report}
-use Rattle.rvf_core.specs.Certifies.{AreReadRefuted, AreRefuted, Certifies, IsNext, IsProved, IsSaid, first, second}
+use Rattle.rvf_core.specs.Certifies.{AreReadRefuted, AreRefuted, Certifies, IsNext, IsProved, IsSaid, before_next}
+use Rattle.rvf_core.specs.Certifies.{first, second}
 use Rattle.rvf_core.specs.Certifies as certifies
 use Rattle.rvf_core.specs.Checks.{refused_status}
 use Rattle.rvf_core.specs.Lists.{Lists, name_line}
 use Rattle.rvf_core.specs.Lists as lists
-use Rattle.rvf_core.specs.Steps.{is_memory}
+use Rattle.rvf_core.specs.Steps.{CertifiesFor, ListsFor, is_memory}
 use Rattle.rvf_core.specs.Unread.{IsUnreadReport}
 use Rattle.rvf_core.specs.declared.report.Report.{Report}
+use Rattle.rvf_core.proofs.Apart.{true_false}
 use Rattle.rvf_core.proofs.Endings.{IsOwn}
 
 pub if_ok : {A E : Type 0} (P Q : A → Type 0) → ((a : A) → P a → Q a) → (r : Result A E) → IfOk r P → IfOk r Q
@@ -56,47 +62,90 @@ rose_earlier : (old before now : ℕ) → old ≤ before → Rose before now →
 rose_earlier old before now le rose = omega arith
 
 -- a file that is next gave no bytes
-module _ (cnf proof name : List ℕ) (seen : Seen) (report : Report) (next : IsNext cnf proof seen.held name) where
-  unread_said : (fault : FileFault) → (fault ≡ file.Absent → Lacks seen.held name)
-      → (fault ≡ file.Absent → Rose seen.misses seen.misses_now)
-      → (fault ≡ file.Failed → Rose seen.faults seen.faults_now) → IsUnreadReport fault name report
-      → Certifies cnf proof seen report.status report.deliveries
-  unread_said file.Absent lacks missed failed u = certifies.absent (record {
-    name = name;
-    next = next;
-    lacks = lacks refl;
-    counted = missed refl;
-    status_is = ap (λ (r : Report). r.status) u;
-    report_is = ap (λ (r : Report). r.deliveries) u;
-  })
-  unread_said file.Failed lacks missed failed u = certifies.unread (record {
-    name = name;
-    next = next;
-    counted = failed refl;
-    status_is = ap (λ (r : Report). r.status) u;
-    report_is = ap (λ (r : Report). r.deliveries) u;
-  })
-  unread_said file.Memory lacks missed failed u = absurd u
+module _ (cnf proof name : List ℕ) (before now : FilesState) (report : Report)
+    (next : IsNext cnf proof before.held name) where
+  unread_said : (fault : FileFault) → (fault ≡ file.Absent → Lacks before.held name)
+      → (fault ≡ file.Absent → Rose before.misses now.misses) → (fault ≡ file.Failed → Rose before.faults now.faults)
+      → now.heard
+      ≡ before.heard ++ (before_next cnf proof before.held name next ++ read_events name (Err fault))
+      → IsUnreadReport fault name report → CertifiesFor cnf proof before now report
+  unread_said file.Absent lacks missed failed heard u = (
+    certifies.absent (record {
+      name = name;
+      next = next;
+      lacks = lacks refl;
+      counted = missed refl;
+      status_is = ap (λ (r : Report). r.status) u;
+      report_is = ap (λ (r : Report). r.deliveries) u;
+    }),
+    heard,
+  )
+  unread_said file.Failed lacks missed failed heard u = (
+    certifies.unread (record {
+      name = name;
+      next = next;
+      counted = failed refl;
+      status_is = ap (λ (r : Report). r.status) u;
+      report_is = ap (λ (r : Report). r.deliveries) u;
+    }),
+    heard,
+  )
+  unread_said file.Memory lacks missed failed heard u = absurd u
 
-pub first_unread : (fault : FileFault) (cnf proof : List ℕ) (seen : Seen) (report : Report)
-    → (fault ≡ file.Absent → Lacks seen.held cnf) → (fault ≡ file.Absent → Rose seen.misses seen.misses_now)
-    → (fault ≡ file.Failed → Rose seen.faults seen.faults_now) → IsUnreadReport fault cnf report
-    → Certifies cnf proof seen report.status report.deliveries
-first_unread fault cnf proof seen report lacks missed failed u =
-    unread_said cnf proof cnf seen report (first refl) fault lacks missed failed u
+pub first_unread : (fault : FileFault) (cnf proof : List ℕ) (before now : FilesState) (report : Report)
+    → (fault ≡ file.Absent → Lacks before.held cnf) → (fault ≡ file.Absent → Rose before.misses now.misses)
+    → (fault ≡ file.Failed → Rose before.faults now.faults)
+    → now.heard ≡ before.heard ++ read_events cnf (Err fault) → IsUnreadReport fault cnf report
+    → CertifiesFor cnf proof before now report
+first_unread fault cnf proof before now report lacks missed failed heard u =
+    unread_said cnf proof cnf before now report (first refl) fault lacks missed failed heard u
 
 -- the first file gave bytes, as it was before the second one was read
-pub second_unread : (fault : FileFault) (cnf proof bytes : List ℕ) (seen : Seen) (held : Told) (misses faults : ℕ)
-    (report : Report) → ReadGives seen.held cnf bytes → SameFiles seen.held held → seen.misses ≤ misses
-    → seen.faults ≤ faults → (fault ≡ file.Absent → Lacks held proof)
-    → (fault ≡ file.Absent → Rose misses seen.misses_now) → (fault ≡ file.Failed → Rose faults seen.faults_now)
-    → IsUnreadReport fault proof report → Certifies cnf proof seen report.status report.deliveries
-second_unread fault cnf proof bytes seen held misses faults report gives same more_misses more_faults lacks missed
-    failed u =
-    unread_said cnf proof proof seen report (second bytes gives refl) fault
-    (λ e. lacks_earlier seen.held held proof same (lacks e))
-    (λ e. rose_earlier seen.misses misses seen.misses_now more_misses (missed e))
-    (λ e. rose_earlier seen.faults faults seen.faults_now more_faults (failed e)) u
+pub second_unread : (fault : FileFault) (cnf proof bytes : List ℕ) (before middle now : FilesState) (report : Report)
+    → ReadGives before.held cnf bytes → SameFiles before.held middle.held → before.misses ≤ middle.misses
+    → before.faults ≤ middle.faults → middle.heard ≡ before.heard ++ Gave cnf bytes ∷ []
+    → (fault ≡ file.Absent → Lacks middle.held proof) → (fault ≡ file.Absent → Rose middle.misses now.misses)
+    → (fault ≡ file.Failed → Rose middle.faults now.faults)
+    → now.heard ≡ middle.heard ++ read_events proof (Err fault) → IsUnreadReport fault proof report
+    → CertifiesFor cnf proof before now report
+second_unread fault cnf proof bytes before middle now report gives same more_misses more_faults first_heard lacks missed
+    failed heard u =
+    unread_said cnf proof proof before now report (second bytes gives refl) fault
+    (λ e. lacks_earlier before.held middle.held proof same (lacks e))
+    (λ e. rose_earlier before.misses middle.misses now.misses more_misses (missed e))
+    (λ e. rose_earlier before.faults middle.faults now.faults more_faults (failed e))
+    (heard_both before.heard middle.heard now.heard (Gave cnf bytes ∷ []) (read_events proof (Err fault)) first_heard
+    heard) u
+
+-- the files were read in their order, as far as it went
+unread_on : (name : List ℕ) (rest : List (List ℕ)) (fault : FileFault)
+    → AreReadOn (name ∷ rest) (read_events name (Err fault))
+unread_on name rest file.Absent = (refl, refl)
+unread_on name rest file.Failed = (refl, refl)
+unread_on name rest file.Memory = tt
+
+pub first_on : (fault : FileFault) (cnf proof : List ℕ) (before now : List Event)
+    → now ≡ before ++ read_events cnf (Err fault) → HeardMore before now (AreReadOn (cnf ∷ (proof ∷ [])))
+first_on fault cnf proof before now heard =
+    record { events = read_events cnf (Err fault); behind = heard; are = unread_on cnf (proof ∷ []) fault }
+
+pub second_on : (fault : FileFault) (cnf proof bytes : List ℕ) (before middle now : List Event)
+    → middle ≡ before ++ Gave cnf bytes ∷ [] → now ≡ middle ++ read_events proof (Err fault)
+    → HeardMore before now (AreReadOn (cnf ∷ (proof ∷ [])))
+second_on fault cnf proof bytes before middle now first_heard heard = record {
+  events = Gave cnf bytes ∷ read_events proof (Err fault);
+  behind = heard_both before middle now (Gave cnf bytes ∷ []) (read_events proof (Err fault)) first_heard heard;
+  are = (refl, unread_on proof [] fault);
+}
+
+pub both_on : (cnf proof clauses steps : List ℕ) (before middle now : List Event)
+    → middle ≡ before ++ Gave cnf clauses ∷ [] → now ≡ middle ++ Gave proof steps ∷ []
+    → HeardMore before now (AreReadOn (cnf ∷ (proof ∷ [])))
+both_on cnf proof clauses steps before middle now first_heard heard = record {
+  events = Gave cnf clauses ∷ (Gave proof steps ∷ []);
+  behind = heard_both before middle now (Gave cnf clauses ∷ []) (Gave proof steps ∷ []) first_heard heard;
+  are = (refl, (refl, tt));
+}
 
 gives_earlier : (old new : Told) (name bytes : List ℕ) → SameFiles old new → ReadGives new name bytes
     → ReadGives old name bytes
@@ -121,22 +170,27 @@ said s.Passed clauses steps report p = (p.0, said_refuted clauses steps p.0 p.1,
 said status clauses steps report p = tt
 
 -- both gave bytes, and these were certified
-pub both_read : (cnf proof clauses steps first_bytes second_bytes : List ℕ) (seen : Seen) (held : Told)
-    (report : Report) → ReadGives seen.held cnf clauses → SameFiles seen.held held → ReadGives held proof steps
-    → first_bytes ≡ clauses → second_bytes ≡ steps
+pub both_read : (cnf proof clauses steps first_bytes second_bytes : List ℕ) (before middle now : FilesState)
+    (report : Report) → ReadGives before.held cnf clauses → SameFiles before.held middle.held
+    → ReadGives middle.held proof steps → middle.heard ≡ before.heard ++ Gave cnf clauses ∷ []
+    → now.heard ≡ middle.heard ++ Gave proof steps ∷ [] → first_bytes ≡ clauses → second_bytes ≡ steps
     → (report ≡ outcome first_bytes second_bytes)
-    × IsProved report.status first_bytes second_bytes report.deliveries
-    → Certifies cnf proof seen report.status report.deliveries
-both_read cnf proof clauses steps first_bytes second_bytes seen held report gives same also one two p =
-    certifies.judged (record {
-      clauses = first_bytes;
-      gives_clauses = subst (λ bytes. ReadGives seen.held cnf bytes) (sym one) gives;
-      steps = second_bytes;
-      gives_steps = subst (λ bytes. ReadGives seen.held proof bytes) (sym two)
-          (gives_earlier seen.held held proof steps same also);
-      found = sym p.0;
-      proved = said report.status first_bytes second_bytes report.deliveries p.1;
-    })
+    × IsProved report.status first_bytes second_bytes report.deliveries → CertifiesFor cnf proof before now report
+both_read cnf proof clauses steps first_bytes second_bytes before middle now report gives same also first_heard heard
+    one two p = (
+      certifies.judged (record {
+        clauses = first_bytes;
+        gives_clauses = subst (λ bytes. ReadGives before.held cnf bytes) (sym one) gives;
+        steps = second_bytes;
+        gives_steps = subst (λ bytes. ReadGives before.held proof bytes) (sym two)
+            (gives_earlier before.held middle.held proof steps same also);
+        found = sym p.0;
+        proved = said report.status first_bytes second_bytes report.deliveries p.1;
+      }),
+      heard_both before.heard middle.heard now.heard (Gave cnf clauses ∷ []) (Gave proof steps ∷ []) first_heard heard
+          ∙ ap (λ bytes. before.heard ++ Gave cnf bytes ∷ (Gave proof steps ∷ [])) (sym one)
+          ∙ ap (λ bytes. before.heard ++ Gave cnf first_bytes ∷ (Gave proof bytes ∷ [])) (sym two),
+    )
 
 -- ---- the outcomes of certificates stand for causes of their own
 
@@ -161,9 +215,6 @@ own_certified cnf proof seen status report (certifies.unread x) = subst IsOwn (s
 
 -- ---- configurations
 
-true_false : true ≡ false → ⊥
-true_false e = cc
-
 pub own_refusal : (f : Refusal) → is_memory f ≡ false → IsOwn (refused_status f)
 own_refusal (refusal.Absent name) e = tt
 own_refusal (refusal.Unread name) e = tt
@@ -172,35 +223,54 @@ own_refusal (refusal.Source f names) e = tt
 own_refusal (refusal.Heavy name number) e = tt
 own_refusal refusal.Memory e = true_false e
 
-pub listed_said : (cfg : List ℕ) (seen : Seen) (c : Config) (report : Report) → Configures cfg seen (Ok c)
-    → (report.status ≡ s.Passed) × (report.deliveries ≡ map name_line (checks_of c))
-    → Lists cfg seen report.status report.deliveries
-listed_said cfg seen c report x p = lists.listed (record {
-  config = c;
-  configured = record { bytes = x.bytes; gives = x.gives; config_is = x.says };
-  status_is = p.0;
-  report_is = p.1;
-})
+pub listed_said : (cfg : List ℕ) (before now : FilesState) (c : Config) (report : Report)
+    → HeardMore before.heard now.heard (λ events. Configures cfg (seen_between before now) events (Ok c))
+    → (report.status ≡ s.Passed) × (report.deliveries ≡ map name_line (checks_of c)) → ListsFor cfg before now report
+listed_said cfg before now c report h p = (
+  lists.listed (record {
+    config = c;
+    configured = record { bytes = h.are.bytes; gives = h.are.gives; config_is = h.are.says };
+    status_is = p.0;
+    report_is = p.1;
+  }),
+  h.behind ∙ ap (λ l. before.heard ++ l) h.are.events_are,
+)
 
-listed_cause : (cfg : List ℕ) (seen : Seen) (f : Refusal) → Configures cfg seen (Err f) → is_memory f ≡ false
-    → lists.IsCause cfg seen f
-listed_cause cfg seen (refusal.Absent name) x e =
-    (x.0, subst (λ n. Lacks seen.held n) (sym x.0) x.1.lacks, x.1.counted)
-listed_cause cfg seen (refusal.Unread name) x e = x
-listed_cause cfg seen (refusal.Config f) x e = record { bytes = x.bytes; gives = x.gives; refused = x.says }
-listed_cause cfg seen (refusal.Source f names) x e = x
-listed_cause cfg seen (refusal.Heavy name number) x e = x
-listed_cause cfg seen refusal.Memory x e = absurd (true_false e)
+listed_cause : (cfg : List ℕ) (seen : Seen) (events : List Event) (f : Refusal) → Configures cfg seen events (Err f)
+    → is_memory f ≡ false → (cause : lists.IsCause cfg seen f) × (events ≡ lists.cause_reads cfg seen f cause)
+listed_cause cfg seen events (refusal.Absent name) x e =
+    ((x.0, subst (λ n. Lacks seen.held n) (sym x.0) x.1.lacks, x.1.counted), x.2 ∙ ap (λ n. Lacked n ∷ []) (sym x.0))
+listed_cause cfg seen events (refusal.Unread name) x e = ((x.0, x.1), x.2 ∙ ap (λ n. Failed n ∷ []) (sym x.0))
+listed_cause cfg seen events (refusal.Config f) x e =
+    (record { bytes = x.bytes; gives = x.gives; refused = x.says }, x.events_are)
+listed_cause cfg seen events (refusal.Source f names) x e = absurd x
+listed_cause cfg seen events (refusal.Heavy name number) x e = absurd x
+listed_cause cfg seen events refusal.Memory x e = absurd (true_false e)
 
-pub refused_said : (cfg : List ℕ) (seen : Seen) (f : Refusal) (report : Report) → Configures cfg seen (Err f)
-    → (report ≡ one_line (refused_status f) (refusal_line f)) × (is_memory f ≡ false)
-    → Lists cfg seen report.status report.deliveries
-refused_said cfg seen f report x p = lists.refused (record {
-  refusal = f;
-  cause = listed_cause cfg seen f x p.1;
-  status_is = ap (λ (r : Report). r.status) p.0;
-  report_is = ap (λ (r : Report). r.deliveries) p.0;
-})
+pub refused_said : (cfg : List ℕ) (before now : FilesState) (f : Refusal) (report : Report)
+    → HeardMore before.heard now.heard (λ events. Configures cfg (seen_between before now) events (Err f))
+    → (report ≡ one_line (refused_status f) (refusal_line f)) × (is_memory f ≡ false) → ListsFor cfg before now report
+refused_said cfg before now f report h p =
+    let x = listed_cause cfg (seen_between before now) h.events f h.are p.1 in (
+      lists.refused (record {
+        refusal = f;
+        cause = x.0;
+        status_is = ap (λ (r : Report). r.status) p.0;
+        report_is = ap (λ (r : Report). r.deliveries) p.0;
+      }),
+      h.behind ∙ ap (λ l. before.heard ++ l) x.1,
+    )
+
+-- the file was read, as far as it went
+pub config_on : (result : Result Config Refusal) (cfg : List ℕ) (seen : Seen) (events : List Event)
+    → Configures cfg seen events result → AreReadOn (cfg ∷ []) events
+config_on (Ok c) cfg seen events x = subst (AreReadOn (cfg ∷ [])) (sym x.events_are) (refl, tt)
+config_on (Err (refusal.Absent name)) cfg seen events x = subst (AreReadOn (cfg ∷ [])) (sym x.2) (refl, refl)
+config_on (Err (refusal.Unread name)) cfg seen events x = subst (AreReadOn (cfg ∷ [])) (sym x.2) (refl, refl)
+config_on (Err (refusal.Config f)) cfg seen events x = subst (AreReadOn (cfg ∷ [])) (sym x.events_are) (refl, tt)
+config_on (Err (refusal.Source f names)) cfg seen events x = absurd x
+config_on (Err (refusal.Heavy name number)) cfg seen events x = absurd x
+config_on (Err refusal.Memory) cfg seen events x = x
 
 -- a refusal of a list isn't want of memory
 cause_some : (cfg : List ℕ) (seen : Seen) (f : Refusal) → lists.IsCause cfg seen f → is_memory f ≡ false

@@ -1,21 +1,24 @@
 -- From what was made of the words to the end of a run.
-use Rattle.std.proofs.Common.{◌≡◌, ℕ, ◌≤◌, List, [], Option, Some, None, Result, IfOk, refl, sym, ap, ◌∙◌}
+use Rattle.std.proofs.Common.{◌≡◌, ℕ, ◌≤◌, List, [], ◌∷◌, ◌++◌, Option, Some, None, Result, IfOk, refl, sym, ap, ◌∙◌}
 use Rattle.std.proofs.Common.{arith, subst}
+use Rattle.std.proofs.lemmas.List.{append-nil}
 use Rattle.fv_base.specs.Outside.{SameFiles}
+use Rattle.fv_base.specs.declared.event.Event.{Event}
 use Rattle.fv_text.specs.declared.memory.Memory.{Memory}
 use Rattle.rvf_words.specs.Line.{line_of}
 use Rattle.rvf_words.specs.declared.line.Line.{Line as Words}
 use Rattle.rvf_words.specs.declared.line.Line.TheVariants as words
+use Rattle.rvf_case.specs.Hearing.{AreReadOn, HeardMore}
 use Rattle.rvf_report.specs.Outcome.{Outside}
 use Rattle.rvf_report.specs.declared.status.Status.{Status}
 use Rattle.rvf_report.specs.declared.status.Status.TheVariants as s
 use Rattle.rvf_report.proofs.Deliveries.{Delivers-nothing, SameFiles-refl}
 use Rattle.rvf_core.specs.Certificate.{one_line}
-use Rattle.rvf_core.specs.Certifies.{Certifies}
+use Rattle.rvf_core.specs.Certifies.{Certifies, certifies_reads}
 use Rattle.rvf_core.specs.Checks.{refused_status}
-use Rattle.rvf_core.specs.Lists.{Lists}
+use Rattle.rvf_core.specs.Lists.{Lists, lists_reads}
 use Rattle.rvf_core.specs.Puts.{Puts}
-use Rattle.rvf_core.specs.Run.{Answers, Ends, IsExact, Run, none_failed, usage_line}
+use Rattle.rvf_core.specs.Run.{Answers, Ends, IsExact, IsReadOn, Run, none_failed, usage_line}
 use Rattle.rvf_core.specs.Run as run
 use Rattle.rvf_core.specs.Steps.{HaveStatus}
 use Rattle.rvf_core.specs.Tasks.{task_asked, task_of}
@@ -25,57 +28,97 @@ use Rattle.rvf_core.proofs.Endings.{Fits, IsOwn, ends_put}
 use Rattle.rvf_core.proofs.Exact.{IsExact-answers}
 use Rattle.rvf_core.proofs.FromChecks.{seen_from}
 use Rattle.rvf_core.proofs.FromFiles.{if_ok, own_certified, own_listed}
-use Rattle.rvf_core.proofs.Later.{IsEarlier, certifies_later, lists_later}
+use Rattle.rvf_core.proofs.Later.{IsEarlier, certifies_later, certifies_reads_later, lists_later, lists_reads_later}
 use Rattle.rvf_core.proofs.Statuses.{comes_Memory}
 
 module _ (asked : List (List ℕ)) (before middle now : Outside) (held : SameFiles before.held middle.held)
-    (sent : middle.sent ≡ before.sent) (faults : before.faults ≤ middle.faults)
+    (sent : middle.sent ≡ before.sent) (written : middle.written ≡ before.written)
+    (taken : middle.taken ≡ before.taken) (faults : before.faults ≤ middle.faults)
     (out_faults : before.out_faults ≤ middle.out_faults) (more_misses : middle.misses ≤ now.misses)
-    (more_faults : middle.faults ≤ now.faults) where
+    (more_faults : middle.faults ≤ now.faults) (same : now.heard ≡ middle.heard) where
   abbrev the_run : Run
   the_run = record { words = asked; before = before; now = now }
 
   earlier : IsEarlier before middle
-  earlier = record { held = held; sent = sent; faults = faults; out_faults = out_faults }
+  earlier = record {
+    held = held;
+    sent = sent;
+    written = written;
+    taken = taken;
+    faults = faults;
+    out_faults = out_faults;
+  }
 
-  pub names_end : (cfg : List ℕ) (made : Result Report Memory) (status : Status)
-      → IfOk made (λ report. Lists cfg (seen_from before middle) report.status report.deliveries)
+  -- what was read by then was read in the end
+  front : (Is : List Event → Type 0) → HeardMore before.heard middle.heard Is → HeardMore before.heard now.heard Is
+  front Is h = record { events = h.events; behind = same ∙ h.behind; are = h.are }
+
+  heard_later : (events later : List Event) → middle.heard ≡ before.heard ++ events → later ≡ events
+      → now.heard ≡ before.heard ++ later
+  heard_later events later heard is = same ∙ heard ∙ ap (λ l. before.heard ++ l) (sym is)
+
+  abbrev pub ListsBy : List ℕ → Report → Type 0
+  ListsBy cfg report =
+      (says : Lists cfg (seen_from before middle) report.status report.deliveries)
+      × (middle.heard
+      ≡ before.heard ++ lists_reads cfg (seen_from before middle) report.status report.deliveries says)
+
+  pub names_end : (cfg : List ℕ) (made : Result Report Memory) (status : Status) → IfOk made (ListsBy cfg)
+      → HeardMore before.heard middle.heard (AreReadOn (cfg ∷ []))
       → Puts made status middle now → Ends (Some (words.List cfg)) the_run status
-  names_end cfg made status says put =
+  names_end cfg made status says on put =
       ends_put (Some (words.List cfg)) the_run middle earlier made status
-      (if_ok (λ (report : Report). Lists cfg (seen_from before middle) report.status report.deliveries)
-      (Fits (Some (words.List cfg)) the_run middle earlier) (λ report x. (
+      (if_ok (ListsBy cfg) (Fits (Some (words.List cfg)) the_run middle earlier) (λ report x. (
         lists_later (seen_from before middle) now.misses now.faults more_misses more_faults cfg report.status
-            report.deliveries x,
-        own_listed cfg (seen_from before middle) report.status report.deliveries x,
-      )) made says) put
+            report.deliveries x.0,
+        heard_later (lists_reads cfg (seen_from before middle) report.status report.deliveries x.0) _ x.1
+            (lists_reads_later (seen_from before middle) now.misses now.faults more_misses more_faults cfg report.status
+            report.deliveries x.0),
+        own_listed cfg (seen_from before middle) report.status report.deliveries x.0,
+      )) made says) (front (AreReadOn (cfg ∷ [])) on) put
+
+  abbrev pub CertifiesBy : List ℕ → List ℕ → Report → Type 0
+  CertifiesBy cnf proof report =
+      (says : Certifies cnf proof (seen_from before middle) report.status report.deliveries)
+      × (middle.heard
+      ≡ before.heard ++ certifies_reads cnf proof (seen_from before middle) report.status report.deliveries says)
 
   pub certificate_ends : (cnf proof : List ℕ) (made : Result Report Memory) (status : Status)
-      → IfOk made (λ report. Certifies cnf proof (seen_from before middle) report.status report.deliveries)
+      → IfOk made (CertifiesBy cnf proof)
+      → HeardMore before.heard middle.heard (AreReadOn (cnf ∷ (proof ∷ [])))
       → Puts made status middle now → Ends (Some (words.Lrat cnf proof)) the_run status
-  certificate_ends cnf proof made status says put =
+  certificate_ends cnf proof made status says on put =
       ends_put (Some (words.Lrat cnf proof)) the_run middle earlier made status
-      (if_ok (λ (report : Report). Certifies cnf proof (seen_from before middle) report.status report.deliveries)
-      (Fits (Some (words.Lrat cnf proof)) the_run middle earlier) (λ report x. (
+      (if_ok (CertifiesBy cnf proof) (Fits (Some (words.Lrat cnf proof)) the_run middle earlier) (λ report x. (
         certifies_later (seen_from before middle) now.misses now.faults more_misses more_faults cnf proof report.status
-            report.deliveries x,
-        own_certified cnf proof (seen_from before middle) report.status report.deliveries x,
-      )) made says) put
+            report.deliveries x.0,
+        heard_later (certifies_reads cnf proof (seen_from before middle) report.status report.deliveries x.0) _ x.1
+            (certifies_reads_later (seen_from before middle) now.misses now.faults more_misses more_faults cnf proof
+            report.status report.deliveries x.0),
+        own_certified cnf proof (seen_from before middle) report.status report.deliveries x.0,
+      )) made says) (front (AreReadOn (cnf ∷ (proof ∷ []))) on) put
 
 -- nothing happened yet
 pub at_once : (before : Outside) → IsEarlier before before
 at_once before = record {
   held = SameFiles-refl before.held;
   sent = refl;
+  written = refl;
+  taken = refl;
   faults = omega arith;
   out_faults = omega arith;
 }
 
+-- nothing was read
+pub none_heard : (before now : List Event) → now ≡ before → now ≡ before ++ []
+none_heard before now same = same ∙ sym (append-nil before)
+
 -- words that aren't understood
 pub misuse_ends : (asked : List (List ℕ)) (before now : Outside) (made : Result Report Memory) (status : Status)
+    → now.heard ≡ before.heard
     → IfOk made (λ report. report ≡ one_line s.Usage usage_line) → Puts made status before now
     → Ends None (record { words = asked; before = before; now = now }) status
-misuse_ends asked before now made status says put =
+misuse_ends asked before now made status same says put =
     let r : Run = record { words = asked; before = before; now = now } in
     ends_put None r before (at_once before) made status
     (if_ok (λ (report : Report). report ≡ one_line s.Usage usage_line) (Fits None r before (at_once before))
@@ -84,8 +127,18 @@ misuse_ends asked before now made status says put =
         status_is = ap (λ (f : Report). f.status) x;
         report_is = ap (λ (f : Report). f.deliveries) x;
       },
+      none_heard before.heard now.heard same,
       subst IsOwn (sym (ap (λ (f : Report). f.status) x)) tt,
-    )) made says) put
+    )) made says) (record { events = []; behind = none_heard before.heard now.heard same; are = refl }) put
+
+none_on : (line : Option Words) → IsReadOn line []
+none_on None = refl
+none_on (Some (words.Run cfg outdir core basedir budget jobs)) = tt
+none_on (Some (words.List cfg)) = tt
+none_on (Some (words.Lrat cnf proof)) = tt
+none_on (Some (words.Bench size)) = refl
+none_on (Some (words.Cover o)) = tt
+none_on (Some (words.Zb o)) = tt
 
 -- memory was wanted at once
 pub memory_ends : (line : Option Words) (asked : List (List ℕ)) (before : Outside)
@@ -93,6 +146,7 @@ pub memory_ends : (line : Option Words) (asked : List (List ℕ)) (before : Outs
 memory_ends line asked before = record {
   report = [];
   is = run.nothing refl;
+  heard = record { events = []; behind = none_heard before.heard before.heard refl; are = none_on line };
   stops = record { done = []; rest = []; order = refl; delivered = Delivers-nothing before };
 }
 

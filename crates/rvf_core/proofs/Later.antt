@@ -1,24 +1,27 @@
 -- What a call delivers behind another one, that only read, is what both deliver; and causes that were there as the
 -- first one ended are there as the second one ends.
-use Rattle.std.proofs.Common.{◌≡◌, ℕ, ◌≤◌, List, [], sym, subst, arith}
+use Rattle.std.proofs.Common.{◌≡◌, ℕ, ◌≤◌, List, [], refl, sym, subst, arith}
 use Rattle.fv_base.specs.Outside.{Appends, Rose, SameFiles}
 use Rattle.rvf_case.specs.Loading.load as load
 use Rattle.rvf_case.specs.Cases.{IsCause, Request, Seen}
+use Rattle.rvf_case.specs.Hearing.{cause_reads}
 use Rattle.rvf_case.specs.declared.refusal.Refusal.{Refusal}
 use Rattle.rvf_case.specs.declared.refusal.Refusal.TheVariants as refusal
 use Rattle.rvf_report.specs.Outcome.{Outside, Delivers, Fails, Stops}
 use Rattle.rvf_report.specs.declared.delivery.Delivery.{Delivery}
 use Rattle.rvf_report.specs.declared.status.Status.{Status}
-use Rattle.rvf_report.proofs.Deliveries.{Appends-nothing, Delivers-behind, LeavesPart-behind}
-use Rattle.rvf_core.specs.Certifies.{Certifies}
+use Rattle.rvf_report.proofs.Deliveries.{Appends-nothing, Delivers-behind, LeavesPart-behind, Pass-nothing}
+use Rattle.rvf_core.specs.Certifies.{Certifies, certifies_reads}
 use Rattle.rvf_core.specs.Certifies as certifies
-use Rattle.rvf_core.specs.Lists.{Lists}
+use Rattle.rvf_core.specs.Lists.{Lists, lists_reads}
 use Rattle.rvf_core.specs.Lists as lists
 
 -- files were read, and nothing else was done
 pub record IsEarlier (before middle : Outside) : Type 0 where
   pub held : SameFiles before.held middle.held
   pub sent : middle.sent ≡ before.sent
+  pub written : middle.written ≡ before.written
+  pub taken : middle.taken ≡ before.taken
   pub faults : before.faults ≤ middle.faults
   pub out_faults : before.out_faults ≤ middle.out_faults
 
@@ -26,6 +29,7 @@ nothing_yet : (a b : Outside) → IsEarlier a b → Delivers a b []
 nothing_yet a b e = record {
   files = e.held;
   lines = subst (λ sent. Appends a.sent sent []) (sym e.sent) (Appends-nothing a.sent);
+  pass = Pass-nothing a b e.written e.taken;
 }
 
 module _ (a b c : Outside) (e : IsEarlier a b) (report : List Delivery) where
@@ -66,13 +70,13 @@ seen_later seen misses faults = record {
 
 module _ (seen : Seen) (misses faults : ℕ) (more_misses : seen.misses_now ≤ misses)
     (more_faults : seen.faults_now ≤ faults) where
-  missed_later : Rose seen.misses seen.misses_now → Rose seen.misses misses
+  pub missed_later : Rose seen.misses seen.misses_now → Rose seen.misses misses
   missed_later rose = rose_later seen.misses seen.misses_now misses rose more_misses
 
-  failed_later : Rose seen.faults seen.faults_now → Rose seen.faults faults
+  pub failed_later : Rose seen.faults seen.faults_now → Rose seen.faults faults
   failed_later rose = rose_later seen.faults seen.faults_now faults rose more_faults
 
-  pub cause_later : (q : Request) (f : Refusal) → IsCause q seen f → IsCause q (seen_later seen misses faults) f
+  abbrev pub cause_later : (q : Request) (f : Refusal) → IsCause q seen f → IsCause q (seen_later seen misses faults) f
   cause_later q (refusal.Absent name) x =
       record { next = x.next; lacks = x.lacks; counted = missed_later x.counted }
   cause_later q (refusal.Unread name) x = record { next = x.next; counted = failed_later x.counted }
@@ -86,7 +90,22 @@ module _ (seen : Seen) (misses faults : ℕ) (more_misses : seen.misses_now ≤ 
   cause_later q (refusal.Heavy name number) x = x
   cause_later q refusal.Memory x = absurd x
 
-  listed_cause_later : (cfg : List ℕ) (f : Refusal) → lists.IsCause cfg seen f
+  -- it speaks of the same reads
+  pub reads_later : (q : Request) (f : Refusal) (x : IsCause q seen f)
+      → cause_reads q (seen_later seen misses faults) f (cause_later q f x) ≡ cause_reads q seen f x
+  reads_later q (refusal.Absent name) x = refl
+  reads_later q (refusal.Unread name) x = refl
+  reads_later q (refusal.Config f) x = refl
+  reads_later q (refusal.Source (load.Text f) names) x = refl
+  reads_later q (refusal.Source (load.Elab f) names) x = refl
+  reads_later q (refusal.Source (load.Flow f) names) x = refl
+  reads_later q (refusal.Source (load.Heavy place number) names) x = absurd x
+  reads_later q (refusal.Source (load.Port f) names) x = refl
+  reads_later q (refusal.Source load.Memory names) x = refl
+  reads_later q (refusal.Heavy name number) x = refl
+  reads_later q refusal.Memory x = absurd x
+
+  abbrev listed_cause_later : (cfg : List ℕ) (f : Refusal) → lists.IsCause cfg seen f
       → lists.IsCause cfg (seen_later seen misses faults) f
   listed_cause_later cfg (refusal.Absent name) x = (x.0, x.1, missed_later x.2)
   listed_cause_later cfg (refusal.Unread name) x = (x.0, failed_later x.1)
@@ -95,7 +114,17 @@ module _ (seen : Seen) (misses faults : ℕ) (more_misses : seen.misses_now ≤ 
   listed_cause_later cfg (refusal.Heavy name number) x = absurd x
   listed_cause_later cfg refusal.Memory x = absurd x
 
-  pub lists_later : (cfg : List ℕ) (status : Status) (report : List Delivery) → Lists cfg seen status report
+  listed_reads_later : (cfg : List ℕ) (f : Refusal) (x : lists.IsCause cfg seen f)
+      → lists.cause_reads cfg (seen_later seen misses faults) f (listed_cause_later cfg f x)
+      ≡ lists.cause_reads cfg seen f x
+  listed_reads_later cfg (refusal.Absent name) x = refl
+  listed_reads_later cfg (refusal.Unread name) x = refl
+  listed_reads_later cfg (refusal.Config f) x = refl
+  listed_reads_later cfg (refusal.Source f names) x = absurd x
+  listed_reads_later cfg (refusal.Heavy name number) x = absurd x
+  listed_reads_later cfg refusal.Memory x = absurd x
+
+  abbrev pub lists_later : (cfg : List ℕ) (status : Status) (report : List Delivery) → Lists cfg seen status report
       → Lists cfg (seen_later seen misses faults) status report
   lists_later cfg status report (lists.listed x) = lists.listed (record {
     config = x.config;
@@ -110,7 +139,14 @@ module _ (seen : Seen) (misses faults : ℕ) (more_misses : seen.misses_now ≤ 
     report_is = x.report_is;
   })
 
-  pub certifies_later : (cnf proof : List ℕ) (status : Status) (report : List Delivery)
+  pub lists_reads_later : (cfg : List ℕ) (status : Status) (report : List Delivery)
+      (x : Lists cfg seen status report)
+      → lists_reads cfg (seen_later seen misses faults) status report (lists_later cfg status report x)
+      ≡ lists_reads cfg seen status report x
+  lists_reads_later cfg status report (lists.listed x) = refl
+  lists_reads_later cfg status report (lists.refused x) = listed_reads_later cfg x.refusal x.cause
+
+  abbrev pub certifies_later : (cnf proof : List ℕ) (status : Status) (report : List Delivery)
       → Certifies cnf proof seen status report
       → Certifies cnf proof (seen_later seen misses faults) status report
   certifies_later cnf proof status report (certifies.judged x) = certifies.judged x
@@ -129,3 +165,11 @@ module _ (seen : Seen) (misses faults : ℕ) (more_misses : seen.misses_now ≤ 
     status_is = x.status_is;
     report_is = x.report_is;
   })
+
+  pub certifies_reads_later : (cnf proof : List ℕ) (status : Status) (report : List Delivery)
+      (x : Certifies cnf proof seen status report)
+      → certifies_reads cnf proof (seen_later seen misses faults) status report
+      (certifies_later cnf proof status report x) ≡ certifies_reads cnf proof seen status report x
+  certifies_reads_later cnf proof status report (certifies.judged x) = refl
+  certifies_reads_later cnf proof status report (certifies.absent x) = refl
+  certifies_reads_later cnf proof status report (certifies.unread x) = refl

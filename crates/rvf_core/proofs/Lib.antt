@@ -1,3 +1,4 @@
+pub mod Apart
 pub mod Judging
 pub mod Ranges
 pub mod Later
@@ -7,6 +8,7 @@ pub mod Refusals
 pub mod Endings
 pub mod Others
 pub mod Quiet
+pub mod Failures
 pub mod Exact
 pub mod FromFiles
 pub mod FromChecks

@@ -1,11 +1,12 @@
--- A delivered line `pass NAME` is of a check that passes.
-use Rattle.std.proofs.Common.{◌≡◌, ℕ, ◌==◌, Bool, true, false, if◌then◌else◌, List, [], ◌∷◌, ◌++◌, Some, length, map}
-use Rattle.std.proofs.Common.{refl, sym, ap, ◌∙◌, subst, append_assoc, true≢false, arith}
-use Rattle.std.proofs.lemmas.List.{append_cancel_left}
-use Rattle.std.proofs.lemmas.List.Elements.{All-contains, All-from_recursion, Contains-append_left}
-use Rattle.std.proofs.lemmas.List.Elements.{Contains-append_right}
+-- A line `pass NAME` that was put is of a check that passes.
+use Rattle.std.proofs.Common.{◌≡◌, ℕ, ◌==◌, Bool, true, false, List, [], ◌∷◌, ◌++◌, Some, length, map}
+use Rattle.std.proofs.Common.{Option, refl, sym, ap, ◌∙◌, subst, append_assoc, true≢false, arith}
+use Rattle.std.proofs.lemmas.List.{append-nil, append_cancel_left}
+use Rattle.std.proofs.lemmas.List.Elements.{All-contains, All-from_recursion, Contains-append_right}
 use Rattle.std.specs.Prelude.{codes}
 use Rattle.std.specs.List.{AllByRecursion, Contains}
+use Rattle.fv_base.specs.declared.event.Event.{Event}
+use Rattle.fv_base.specs.declared.event.Event.TheVariants.{Put}
 use Rattle.vl_text.specs.declared.fault.TextFault.TheVariants as text
 use Rattle.ck_cfg.specs.declared.check.Check.{Check}
 use Rattle.ck_cfg.specs.declared.config.Config.{Config}
@@ -18,11 +19,13 @@ use Rattle.rvf_case.specs.Loads.{design_of}
 use Rattle.rvf_judge.specs.declared.judged.CertificateTexts.{CertificateTexts}
 use Rattle.rvf_judge.specs.declared.judged.Judged.{Judged}
 use Rattle.rvf_judge.specs.declared.judged.Judged.TheVariants as judged
+use Rattle.rvf_words.specs.declared.line.Line.{Line as Words}
 use Rattle.rvf_words.specs.declared.line.Line.TheVariants as words
 use Rattle.rvf_words.specs.Line.{line_of}
 use Rattle.rvf_case.specs.Loading.{LoadFault}
 use Rattle.rvf_case.specs.Loading.load as load
 use Rattle.rvf_case.specs.Cases.{Request, Seen}
+use Rattle.rvf_case.specs.Hearing.{HeardMore}
 use Rattle.rvf_case.specs.declared.refusal.Refusal.{Refusal}
 use Rattle.rvf_case.specs.declared.refusal.Refusal.TheVariants as refusal
 use Rattle.rvf_checks.specs.Deliveries.{deliveries_in, path}
@@ -31,15 +34,16 @@ use Rattle.rvf_checks.specs.Checked.{answered, begun, head, note_of, skips_of, w
 use Rattle.rvf_checks.specs.CheckLines.{fail_line, note_line, pass_line, skip_line, spent_line, total_line}
 use Rattle.rvf_checks.specs.Counting.{counts_of}
 use Rattle.rvf_checks.specs.declared.wording.Wording.TheVariants as wording
+use Rattle.rvf_report.specs.Outcome.{LeavesPart, Outside, Pass, puts_of}
 use Rattle.rvf_report.specs.declared.delivery.Delivery.{Delivery}
 use Rattle.rvf_report.specs.declared.delivery.Delivery.TheVariants.{File, Line}
 use Rattle.rvf_report.specs.declared.status.Status.{Status}
 use Rattle.rvf_report.specs.declared.status.Status.TheVariants as s
-use Rattle.rvf_core.specs.Checks.{Checks, HasRead}
+use Rattle.rvf_core.specs.Checks.{Checks, HasRead, checks_reads, has_reads}
 use Rattle.rvf_core.specs.Checks as checks
 use Rattle.rvf_core.specs.Pass.{HasPassed, PassMeans}
 use Rattle.rvf_core.specs.PassLaw.{PassesAreMeant}
-use Rattle.rvf_core.specs.Run.{IsReport, Run, seen_in}
+use Rattle.rvf_core.specs.Run.{Hears, IsReport, Reports, Run, says_reads, seen_in}
 use Rattle.rvf_core.specs.Tasks.{request}
 use Rattle.rvf_core.specs.Run as run
 use Rattle.rvf_core.specs.Verdicts.{AreJudged, Judges, check_questions, opts_in, text_of, wants_in}
@@ -52,6 +56,9 @@ first (b ∷ bs) = b
 
 same_line : (a b : List ℕ) → Line a ≡ Line b → a ≡ b
 same_line a b e = cc
+
+same_put : (a b : List ℕ) → Put a ≡ Put b → a ≡ b
+same_put a b e = cc
 
 no_file : (name bytes line : List ℕ) → File name bytes ≡ Line line → ⊥
 no_file name bytes line e = cc
@@ -109,6 +116,20 @@ module _ (name : List ℕ) (Meant : Type 0) where
       → AllByRecursion IsMeant (ds ++ es)
   both [] es p q = q
   both (d ∷ ds) es p q = (p.0, both ds es p.1 q)
+
+  -- and if it is a put of the line
+  abbrev IsMeantPut : Event → Type 0
+  IsMeantPut e = e ≡ Put (pass_line name) → Meant
+
+  puts_meant : (ds : List Delivery) → AllByRecursion IsMeant ds → AllByRecursion IsMeantPut (puts_of ds)
+  puts_meant [] p = tt
+  puts_meant (File at bytes ∷ ds) p = puts_meant ds p.1
+  puts_meant (Line bytes ∷ ds) p =
+      ((λ e. p.0 (ap (λ l. Line l) (same_put bytes (pass_line name) e))), puts_meant ds p.1)
+
+  front_meant : (ds es : List Delivery) → AllByRecursion IsMeant (ds ++ es) → AllByRecursion IsMeant ds
+  front_meant [] es p = tt
+  front_meant (d ∷ ds) es p = (p.0, front_meant ds es p.1)
 
   -- another line
   other : (line : List ℕ) → (first line == 112) ≡ false → IsMeant (Line line)
@@ -208,87 +229,125 @@ module _ (name : List ℕ) (Meant : Type 0) where
 
 -- ---- reports
 
-module _ (cfg outdir core basedir : List ℕ) (budget jobs : ℕ) (seen : Seen) (name : List ℕ) where
+module _ (cfg outdir core basedir : List ℕ) (budget jobs : ℕ) (seen : Seen) (events : List Event) (name : List ℕ) where
   abbrev q : Request
   q = request cfg core basedir
 
-  abbrev Meant : Type 0
-  Meant = HasPassed q seen.held name
+  abbrev asked_for : Option Words
+  asked_for = Some (words.Run cfg outdir core basedir budget jobs)
 
-  passed : (c : Config) (files : List (List ℕ)) → HasRead q seen.held c files → (x : Check)
+  abbrev Meant : Type 0
+  Meant = HasPassed q seen.held events name
+
+  passed : (c : Config) (files : List (List ℕ)) (read : HasRead q seen.held c files)
+      → events ≡ has_reads q seen.held c files read → (x : Check)
       → Contains (checks_of c) x → x.name ≡ name → PassMeans c files x → Meant
-  passed c files read x among named means = record {
+  passed c files read heard x among named means = record {
     config = c;
     files = files;
     read = read;
+    heard = heard;
     check = x;
     among = among;
     named = named;
     means = means;
   }
 
-  checks_meant : (status : Status) (report : List Delivery) → Checks q seen wording.Run outdir budget status report
+  checks_meant : (status : Status) (report : List Delivery) (x : Checks q seen wording.Run outdir budget status report)
+      → events ≡ checks_reads q seen wording.Run outdir budget status report x
       → AllByRecursion (IsMeant name Meant) report
-  checks_meant status report (checks.judged w) =
+  checks_meant status report (checks.judged w) heard =
       subst (λ l. AllByRecursion (IsMeant name Meant) l) (sym w.report_is)
-      (whole_meant name Meant w.config w.files outdir budget (passed w.config w.files w.read) w.noted w.config.skips
-      w.answers w.judged)
-  checks_meant status report (checks.refused w) =
+      (whole_meant name Meant w.config w.files outdir budget (passed w.config w.files w.read heard) w.noted
+      w.config.skips w.answers w.judged)
+  checks_meant status report (checks.refused w) heard =
       subst (λ l. AllByRecursion (IsMeant name Meant) l) (sym w.report_is)
       (other name Meant (refusal_line w.refusal) (refused_other name Meant w.refusal), tt)
 
-  report_meant : (report : List Delivery)
-      → IsReport (Some (words.Run cfg outdir core basedir budget jobs)) seen report
+  report_meant : (report : List Delivery) (is : IsReport asked_for seen report) → Hears asked_for seen report is events
       → AllByRecursion (IsMeant name Meant) report
-  report_meant report (run.whole status says) = checks_meant status report says
-  report_meant report (run.begun w) =
+  report_meant report (run.whole status says) heard = checks_meant status report says heard
+  report_meant report (run.begun w) heard =
       subst (λ l. AllByRecursion (IsMeant name Meant) l) (sym w.report_is)
-      (begun_meant name Meant w.config w.files outdir budget (passed w.config w.files w.read) w.noted w.config.skips
-      w.answers w.judged)
-  report_meant report (run.nothing e) = subst (λ l. AllByRecursion (IsMeant name Meant) l) (sym e) tt
+      (begun_meant name Meant w.config w.files outdir budget (passed w.config w.files w.read heard) w.noted
+      w.config.skips w.answers w.judged)
+  report_meant report (run.nothing e) heard = subst (λ l. AllByRecursion (IsMeant name Meant) l) (sym e) tt
 
-  found : (report : List Delivery) → IsReport (Some (words.Run cfg outdir core basedir budget jobs)) seen report
-      → Contains report (Line (pass_line name)) → Meant
-  found report is there =
-      All-contains (IsMeant name Meant) report (Line (pass_line name))
-      (All-from_recursion (IsMeant name Meant) report (report_meant report is)) there refl
+  -- of what came through of a report, a put of the line has its meaning
+  found : (report done rest : List Delivery) (is : IsReport asked_for seen report)
+      → Hears asked_for seen report is events → done ++ rest ≡ report
+      → Contains (puts_of done) (Put (pass_line name)) → Meant
+  found report done rest is heard order there =
+      let all : AllByRecursion (IsMeant name Meant) (done ++ rest) =
+      subst (λ l. AllByRecursion (IsMeant name Meant) l) (sym order) (report_meant report is heard) in
+      All-contains (IsMeantPut name Meant) (puts_of done) (Put (pass_line name))
+      (All-from_recursion (IsMeantPut name Meant) (puts_of done)
+      (puts_meant name Meant done (front_meant name Meant done rest all))) there refl
 
-in_report : (done rest report : List Delivery) (d : Delivery) → done ++ rest ≡ report → Contains done d
-    → Contains report d
-in_report done rest report d e h = subst (λ l. Contains l d) e (Contains-append_left done rest d h)
+part_pass : (before now : Outside) (done : List Delivery) (failing : Delivery) → LeavesPart before now done failing
+    → Pass before now done
+part_pass before now done (File name bytes) p = p.3
+part_pass before now done (Line bytes) p = p.3
 
 module _ (r : Run) (cfg outdir core basedir : List ℕ) (budget jobs : ℕ)
-    (asked : line_of r.words ≡ Some (words.Run cfg outdir core basedir budget jobs)) (name : List ℕ) where
-  told : (report : List Delivery) → IsReport (line_of r.words) (seen_in r) report
-      → Contains report (Line (pass_line name)) → HasPassed (request cfg core basedir) r.before.held name
-  told report is there =
-      found cfg outdir core basedir budget jobs (seen_in r) name report
-      (subst (λ line. IsReport line (seen_in r) report) asked is) there
+    (asked : line_of r.words ≡ Some (words.Run cfg outdir core basedir budget jobs)) (reads puts : List Event)
+    (heard : r.now.heard ≡ r.before.heard ++ reads) (put : r.now.taken ≡ r.before.taken ++ puts) (name : List ℕ)
+    (there : Contains puts (Put (pass_line name))) where
+  abbrev Told : Type 0
+  Told = HasPassed (request cfg core basedir) r.before.held reads name
+
+  same_reads : (events : List Event) → r.now.heard ≡ r.before.heard ++ events → events ≡ reads
+  same_reads events is = append_cancel_left r.before.heard events reads (sym is ∙ heard)
+
+  told : (report done rest : List Delivery) (is : IsReport (line_of r.words) (seen_in r) report)
+      → HeardMore r.before.heard r.now.heard (Hears (line_of r.words) (seen_in r) report is) → done ++ rest ≡ report
+      → Pass r.before r.now done → Told
+  told report done rest is more order pass =
+      let hears : Hears (line_of r.words) (seen_in r) report is reads =
+      subst (Hears (line_of r.words) (seen_in r) report is) (same_reads more.events more.behind) more.are in
+      let both : (is : IsReport (Some (words.Run cfg outdir core basedir budget jobs)) (seen_in r) report)
+      × Hears (Some (words.Run cfg outdir core basedir budget jobs)) (seen_in r) report is reads =
+      subst (λ line. (is : IsReport line (seen_in r) report) × Hears line (seen_in r) report is reads) asked
+      (is, hears) in
+      let same : puts ≡ puts_of done =
+      append_cancel_left r.before.taken puts (puts_of done) (sym put ∙ pass.taken) in
+      found cfg outdir core basedir budget jobs (seen_in r) reads name report done rest both.0 both.1 order
+      (subst (λ l. Contains l (Put (pass_line name))) same there)
+
+  reported : (status : Status) → Reports (line_of r.words) r status → Told
+  reported status a =
+      told a.report a.report [] (run.whole status a.says)
+      (record {
+        events = says_reads (line_of r.words) (seen_in r) status a.report a.says;
+        behind = a.heard;
+        are = refl;
+      }) (append-nil a.report) a.delivered.pass
 
 pub passes : PassesAreMeant
-passes s.Passed r cfg outdir core basedir budget jobs asked a name h =
-    told r cfg outdir core basedir budget jobs asked name a.report (run.whole s.Passed a.says) h
-passes s.Failing r cfg outdir core basedir budget jobs asked a name h =
-    told r cfg outdir core basedir budget jobs asked name a.report (run.whole s.Failing a.says) h
-passes s.Spent r cfg outdir core basedir budget jobs asked a name h =
-    told r cfg outdir core basedir budget jobs asked name a.report (run.whole s.Spent a.says) h
-passes s.Usage r cfg outdir core basedir budget jobs asked a name h =
-    told r cfg outdir core basedir budget jobs asked name a.report (run.whole s.Usage a.says) h
-passes s.Config r cfg outdir core basedir budget jobs asked a name h =
-    told r cfg outdir core basedir budget jobs asked name a.report (run.whole s.Config a.says) h
-passes s.Source r cfg outdir core basedir budget jobs asked a name h =
-    told r cfg outdir core basedir budget jobs asked name a.report (run.whole s.Source a.says) h
-passes s.Absent r cfg outdir core basedir budget jobs asked a name h =
-    told r cfg outdir core basedir budget jobs asked name a.report (run.whole s.Absent a.says) h
-passes s.ReadFault r cfg outdir core basedir budget jobs asked a name h =
-    told r cfg outdir core basedir budget jobs asked name a.report (run.whole s.ReadFault a.says) h
-passes s.Heavy r cfg outdir core basedir budget jobs asked a name h =
-    told r cfg outdir core basedir budget jobs asked name a.report (run.whole s.Heavy a.says) h
-passes s.Refused r cfg outdir core basedir budget jobs asked a name h =
-    told r cfg outdir core basedir budget jobs asked name a.report (run.whole s.Refused a.says) h
-passes s.WriteFault r cfg outdir core basedir budget jobs asked a name h =
-    told r cfg outdir core basedir budget jobs asked name a.report a.is
-    (in_report a.fails.done (a.fails.failing ∷ a.fails.rest) a.report (Line (pass_line name)) a.fails.order h)
-passes s.Memory r cfg outdir core basedir budget jobs asked a name h =
-    told r cfg outdir core basedir budget jobs asked name a.report a.is
-    (in_report a.stops.done a.stops.rest a.report (Line (pass_line name)) a.stops.order h)
+passes s.Passed r cfg outdir core basedir budget jobs asked a reads puts heard put name there =
+    reported r cfg outdir core basedir budget jobs asked reads puts heard put name there s.Passed a
+passes s.Failing r cfg outdir core basedir budget jobs asked a reads puts heard put name there =
+    reported r cfg outdir core basedir budget jobs asked reads puts heard put name there s.Failing a
+passes s.Spent r cfg outdir core basedir budget jobs asked a reads puts heard put name there =
+    reported r cfg outdir core basedir budget jobs asked reads puts heard put name there s.Spent a
+passes s.Usage r cfg outdir core basedir budget jobs asked a reads puts heard put name there =
+    reported r cfg outdir core basedir budget jobs asked reads puts heard put name there s.Usage a
+passes s.Config r cfg outdir core basedir budget jobs asked a reads puts heard put name there =
+    reported r cfg outdir core basedir budget jobs asked reads puts heard put name there s.Config a
+passes s.Source r cfg outdir core basedir budget jobs asked a reads puts heard put name there =
+    reported r cfg outdir core basedir budget jobs asked reads puts heard put name there s.Source a
+passes s.Absent r cfg outdir core basedir budget jobs asked a reads puts heard put name there =
+    reported r cfg outdir core basedir budget jobs asked reads puts heard put name there s.Absent a
+passes s.ReadFault r cfg outdir core basedir budget jobs asked a reads puts heard put name there =
+    reported r cfg outdir core basedir budget jobs asked reads puts heard put name there s.ReadFault a
+passes s.Heavy r cfg outdir core basedir budget jobs asked a reads puts heard put name there =
+    reported r cfg outdir core basedir budget jobs asked reads puts heard put name there s.Heavy a
+passes s.Refused r cfg outdir core basedir budget jobs asked a reads puts heard put name there =
+    reported r cfg outdir core basedir budget jobs asked reads puts heard put name there s.Refused a
+passes s.WriteFault r cfg outdir core basedir budget jobs asked a reads puts heard put name there =
+    told r cfg outdir core basedir budget jobs asked reads puts heard put name there a.report a.fails.done
+    (a.fails.failing ∷ a.fails.rest) a.is a.heard a.fails.order
+    (part_pass r.before r.now a.fails.done a.fails.failing a.fails.part)
+passes s.Memory r cfg outdir core basedir budget jobs asked a reads puts heard put name there =
+    told r cfg outdir core basedir budget jobs asked reads puts heard put name there a.report a.stops.done
+    a.stops.rest a.is a.heard a.stops.order a.stops.delivered.pass

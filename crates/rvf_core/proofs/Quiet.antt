@@ -1,5 +1,5 @@
 -- Which calls failed, by the status.
-use Rattle.std.proofs.Common.{◌≡◌, ◌∙◌, ℕ, true, false, List, [], ◌∷◌, ◌++◌, Result, Ok, Err, IfOk, refl, sym, ap, subst}
+use Rattle.std.proofs.Common.{◌≡◌, ◌∙◌, ℕ, false, List, [], ◌∷◌, ◌++◌, Result, Ok, Err, IfOk, refl, sym, ap, subst}
 use Rattle.fv_base.specs.Outside.{UnlessFailed, UnlessNotPut}
 use Rattle.fv_base.specs.declared.files.FileFault.{FileFault}
 use Rattle.fv_base.specs.declared.files.FileFault.TheVariants as file
@@ -10,7 +10,7 @@ use Rattle.rvf_case.specs.Cases.{UnlessFault}
 use Rattle.rvf_case.specs.declared.refusal.Refusal.{Refusal}
 use Rattle.rvf_case.specs.declared.refusal.Refusal.TheVariants as refusal
 use Rattle.rvf_report.specs.Lines.{refusal_line, unread_line}
-use Rattle.rvf_report.specs.Outcome.{Outside, Delivers, LeavesOne, StopsBefore}
+use Rattle.rvf_report.specs.Outcome.{Outside, Delivers, IsQuiet, LeavesOne, StopsBefore}
 use Rattle.rvf_report.specs.Status.{UnlessBroken, ends}
 use Rattle.rvf_report.specs.declared.delivery.Delivery.{Delivery}
 use Rattle.rvf_report.specs.declared.delivery.Delivery.TheVariants.{Line}
@@ -19,10 +19,11 @@ use Rattle.rvf_report.specs.declared.status.Status.TheVariants as s
 use Rattle.rvf_core.specs.Certificate.{one_line}
 use Rattle.rvf_core.specs.Checks.{refused_status}
 use Rattle.rvf_core.specs.Puts.{Puts}
-use Rattle.rvf_core.specs.Run.{HasCounts, IsQuiet, none_delivered, none_failed}
+use Rattle.rvf_core.specs.Run.{HasCounts, none_delivered, none_failed}
 use Rattle.rvf_core.specs.Steps.{TellsReads, all_read, is_memory, told}
 use Rattle.rvf_core.specs.Unread.{IsUnreadReport}
 use Rattle.rvf_core.specs.declared.report.Report.{Report}
+use Rattle.rvf_core.proofs.Apart.{true_false}
 use Rattle.rvf_core.proofs.Later.{IsEarlier, later_delivers}
 
 -- none did
@@ -82,9 +83,6 @@ pub put_quiet : (d : Result (Unit {0}) OutFault) (wanted status : Status) (P : T
 put_quiet d wanted status P is p = subst (λ x. UnlessBroken x P) (sym is) (ends_quiet d wanted P p)
 
 -- ---- what reports tell of reads
-
-true_false : true ≡ false → ⊥
-true_false e = cc
 
 -- the report of a refusal
 pub refusal_tells : (f : Refusal) (faults now : ℕ) (report : Report) → UnlessFault f (now ≡ faults)

@@ -1,7 +1,9 @@
 -- Meaning: `lrat CNF PROOF`: whether the steps of a proof refute the clauses of a file, or why that isn't known. Rules
 -- of this project.
-use Rattle.std.specs.Prelude.{◌≡◌, ℕ, false, List, [], ◌∷◌, Ok, Bool, ℤ}
+use Rattle.std.specs.Prelude.{◌≡◌, ℕ, false, List, [], ◌∷◌, ◌++◌, Ok, Bool, ℤ}
 use Rattle.fv_base.specs.Outside.{Told, Lacks, ReadGives, Rose}
+use Rattle.fv_base.specs.declared.event.Event.{Event}
+use Rattle.fv_base.specs.declared.event.Event.TheVariants.{Gave, Lacked, Failed}
 use Rattle.cnf_form.specs.Cnf.{Cnf, formula_true}
 use Rattle.cnf_text.specs.Dimacs.{formula_of}
 use Rattle.lrat_check.specs.Steps.{Refutes}
@@ -74,6 +76,11 @@ pub data IsNext (cnf proof : List ℕ) (held : Told) (name : List ℕ) : Type 0 
   first : name ≡ cnf → IsNext cnf proof held name
   second : (clauses : List ℕ) → ReadGives held cnf clauses → name ≡ proof → IsNext cnf proof held name
 
+-- what was read before it
+abbrev pub before_next : (cnf proof : List ℕ) (held : Told) (name : List ℕ) → IsNext cnf proof held name → List Event
+before_next cnf proof held name (first is) = []
+before_next cnf proof held name (second clauses gives is) = Gave cnf clauses ∷ []
+
 -- it isn't held, which was counted
 pub record IsAbsent (cnf proof : List ℕ) (seen : Seen) (status : Status) (report : List Delivery) : Type 0 where
   pub name : List ℕ
@@ -95,3 +102,12 @@ pub data Certifies (cnf proof : List ℕ) (seen : Seen) (status : Status) (repor
   judged : IsJudged cnf proof seen.held status report → Certifies cnf proof seen status report
   absent : IsAbsent cnf proof seen status report → Certifies cnf proof seen status report
   unread : IsUnread cnf proof seen status report → Certifies cnf proof seen status report
+
+-- what was read for it
+abbrev pub certifies_reads : (cnf proof : List ℕ) (seen : Seen) (status : Status) (report : List Delivery)
+    → Certifies cnf proof seen status report → List Event
+certifies_reads cnf proof seen status report (judged h) = Gave cnf h.clauses ∷ (Gave proof h.steps ∷ [])
+certifies_reads cnf proof seen status report (absent h) =
+    before_next cnf proof seen.held h.name h.next ++ Lacked h.name ∷ []
+certifies_reads cnf proof seen status report (unread h) =
+    before_next cnf proof seen.held h.name h.next ++ Failed h.name ∷ []

@@ -2,9 +2,11 @@
 -- of this project.
 use Rattle.std.specs.Prelude.{◌≡◌, ℕ, Bool, List, [], ◌∷◌, length}
 use Rattle.fv_base.specs.Outside.{Told}
+use Rattle.fv_base.specs.declared.event.Event.{Event}
 use Rattle.ck_cfg.specs.declared.config.Config.{Config}
 use Rattle.rvf_judge.specs.declared.judged.Judged.{Judged}
 use Rattle.rvf_case.specs.Cases.{Request, Seen, IsConfigured, AreRead, AreUnrefused, IsCause, names_in, questions_in}
+use Rattle.rvf_case.specs.Hearing.{all_gave, cause_reads}
 use Rattle.rvf_case.specs.Texts.{leaders}
 use Rattle.rvf_case.specs.declared.refusal.Refusal.{Refusal}
 use Rattle.rvf_case.specs.declared.refusal.Refusal.TheVariants as refusal
@@ -22,6 +24,11 @@ use Rattle.rvf_core.specs.Verdicts.{AreJudged, IsNoted}
 pub record HasRead (q : Request) (held : Told) (c : Config) (files : List (List ℕ)) : Type 0 where
   pub configured : IsConfigured q held c
   pub read : AreRead held (names_in q c) files
+
+-- what was read for it: each of them by one read, in this order
+abbrev pub has_reads : (q : Request) (held : Told) (c : Config) (files : List (List ℕ)) → HasRead q held c files
+    → List Event
+has_reads q held c files read = all_gave q read.configured.bytes (names_in q c) files
 
 -- ---- reports
 
@@ -75,3 +82,9 @@ pub data Checks (q : Request) (seen : Seen) (words : Wording) (folder : List ℕ
     (report : List Delivery) : Type 0 where
   judged : IsWhole q seen.held words folder budget status report → Checks q seen words folder budget status report
   refused : IsRefusal q seen status report → Checks q seen words folder budget status report
+
+-- what was read for it
+abbrev pub checks_reads : (q : Request) (seen : Seen) (words : Wording) (folder : List ℕ) (budget : ℕ)
+    (status : Status) (report : List Delivery) → Checks q seen words folder budget status report → List Event
+checks_reads q seen words folder budget status report (judged h) = has_reads q seen.held h.config h.files h.read
+checks_reads q seen words folder budget status report (refused h) = cause_reads q seen h.refusal h.cause

@@ -1,6 +1,8 @@
 -- Meaning: `list CFG`: the names of the checks of a configuration, or why there are none. Rules of this project.
 use Rattle.std.specs.Prelude.{◌≡◌, ℕ, List, [], ◌∷◌, ◌++◌, map}
 use Rattle.fv_base.specs.Outside.{Lacks, Rose}
+use Rattle.fv_base.specs.declared.event.Event.{Event}
+use Rattle.fv_base.specs.declared.event.Event.TheVariants.{Gave, Lacked, Failed}
 use Rattle.ck_cfg.specs.declared.check.Check.{Check}
 use Rattle.ck_cfg.specs.declared.config.Config.{Config}
 use Rattle.ck_cfg.specs.Checks.{checks_of}
@@ -38,6 +40,13 @@ IsCause cfg seen (refusal.Unread name) = (name ≡ cfg) × Rose seen.faults seen
 IsCause cfg seen (refusal.Config f) = IsMisconfigured (alone cfg) seen.held f
 IsCause cfg seen r = ⊥
 
+-- what was read for it
+abbrev pub cause_reads : (cfg : List ℕ) (seen : Seen) (f : Refusal) → IsCause cfg seen f → List Event
+cause_reads cfg seen (refusal.Absent name) h = Lacked name ∷ []
+cause_reads cfg seen (refusal.Unread name) h = Failed name ∷ []
+cause_reads cfg seen (refusal.Config f) h = Gave cfg h.bytes ∷ []
+cause_reads cfg seen r h = []
+
 pub record IsRefusal (cfg : List ℕ) (seen : Seen) (status : Status) (report : List Delivery) : Type 0 where
   pub refusal : Refusal
   pub cause : IsCause cfg seen refusal
@@ -47,3 +56,9 @@ pub record IsRefusal (cfg : List ℕ) (seen : Seen) (status : Status) (report : 
 pub data Lists (cfg : List ℕ) (seen : Seen) (status : Status) (report : List Delivery) : Type 0 where
   listed : AreListed cfg seen status report → Lists cfg seen status report
   refused : IsRefusal cfg seen status report → Lists cfg seen status report
+
+-- what was read for it
+abbrev pub lists_reads : (cfg : List ℕ) (seen : Seen) (status : Status) (report : List Delivery)
+    → Lists cfg seen status report → List Event
+lists_reads cfg seen status report (listed h) = Gave cfg h.configured.bytes ∷ []
+lists_reads cfg seen status report (refused h) = cause_reads cfg seen h.refusal h.cause

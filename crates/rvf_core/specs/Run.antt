@@ -3,6 +3,8 @@ use Rattle.std.specs.Prelude.{◌≡◌, ℕ, ◌<◌, ◌≤◌, ◌+◌, ◌-�
 use Rattle.std.specs.Prelude.{◌∷◌, ◌++◌, Option, Some, None, codes}
 use Rattle.std.specs.List.{All, Contains}
 use Rattle.fv_base.specs.Outside.{Names, Told}
+use Rattle.fv_base.specs.declared.event.Event.{Event}
+use Rattle.fv_base.specs.declared.event.Event.TheVariants.{Failed}
 use Rattle.vl_size.specs.Size.{Values}
 use Rattle.ck_cfg.specs.declared.check.Check.{Check}
 use Rattle.ck_cfg.specs.declared.config.Config.{Config}
@@ -12,19 +14,21 @@ use Rattle.rvf_words.specs.declared.line.Line.{Line as Words}
 use Rattle.rvf_words.specs.declared.line.Line.TheVariants as words
 use Rattle.rvf_words.specs.Line.{line_of}
 use Rattle.rvf_case.specs.Cases.{Seen, AreUnrefused, IsCause, questions_in}
+use Rattle.rvf_case.specs.Hearing.{AreReadOn, HeardMore}
+use Rattle.rvf_case.specs.Hearing as hearing
 use Rattle.rvf_case.specs.Texts.{leaders}
 use Rattle.rvf_case.specs.declared.asking.Asking.TheVariants as asking
 use Rattle.rvf_case.specs.declared.refusal.Refusal.{Refusal}
-use Rattle.rvf_report.specs.Outcome.{Outside, Delivers, Fails, Stops}
+use Rattle.rvf_report.specs.Outcome.{Outside, Delivers, Fails, IsQuiet, Stops}
 use Rattle.rvf_report.specs.Status.{code_of}
 use Rattle.rvf_report.specs.declared.delivery.Delivery.{Delivery}
 use Rattle.rvf_report.specs.declared.delivery.Delivery.TheVariants.{Line}
 use Rattle.rvf_report.specs.declared.status.Status.{Status}
 use Rattle.rvf_report.specs.declared.status.Status.TheVariants as s
 use Rattle.rvf_core.specs.Bench as bench
-use Rattle.rvf_core.specs.Certifies.{Certifies}
-use Rattle.rvf_core.specs.Checks.{Checks, HasRead, IsBegun, refused_status}
-use Rattle.rvf_core.specs.Lists.{Lists}
+use Rattle.rvf_core.specs.Certifies.{Certifies, certifies_reads}
+use Rattle.rvf_core.specs.Checks.{Checks, HasRead, IsBegun, checks_reads, has_reads, refused_status}
+use Rattle.rvf_core.specs.Lists.{Lists, lists_reads}
 use Rattle.rvf_core.specs.Tasks.{Task, bench_task, cover_task, run_task, task_asked, zb_task}
 use Rattle.rvf_core.specs.Verdicts.{QuestionFails, Violates}
 
@@ -109,25 +113,77 @@ pub data IsReport (asked : Option Words) (seen : Seen) (report : List Delivery) 
   begun : Begins asked seen report → IsReport asked seen report
   nothing : report ≡ [] → IsReport asked seen report
 
+-- ---- what was read
+
+-- what a status and its report speak of where questions of a configuration are asked
+abbrev pub answered_reads : (t : Task) (seen : Seen) (status : Status) (report : List Delivery)
+    → Answered t seen status report → List Event
+answered_reads t seen status report says = checks_reads t.request seen t.wording t.folder t.budget status report says
+
+-- and what a report speaks of that has begun
+abbrev pub begun_reads : (t : Task) (held : Told) (report : List Delivery) → AnswersBegin t held report → List Event
+begun_reads t held report h = has_reads t.request held h.config h.files h.read
+
+-- what a status and its report speak of; `bench` reads only what it makes itself
+abbrev pub says_reads : (asked : Option Words) (seen : Seen) (status : Status) (report : List Delivery)
+    → Says asked seen status report → List Event
+says_reads None seen status report says = []
+says_reads (Some (words.Run cfg outdir core basedir budget jobs)) seen status report says =
+    answered_reads (run_task cfg outdir core basedir budget) seen status report says
+says_reads (Some (words.List cfg)) seen status report says = lists_reads cfg seen status report says
+says_reads (Some (words.Lrat cnf proof)) seen status report says = certifies_reads cnf proof seen status report says
+says_reads (Some (words.Bench size)) seen status report says = []
+says_reads (Some (words.Cover o)) seen status report says = answered_reads (cover_task o) seen status report says
+says_reads (Some (words.Zb o)) seen status report says = answered_reads (zb_task o) seen status report says
+
+-- what a report speaks of that has begun
+abbrev pub begins_reads : (asked : Option Words) (seen : Seen) (report : List Delivery) → Begins asked seen report
+    → List Event
+begins_reads (Some (words.Run cfg outdir core basedir budget jobs)) seen report h =
+    begun_reads (run_task cfg outdir core basedir budget) seen.held report h
+begins_reads (Some (words.Cover o)) seen report h = begun_reads (cover_task o) seen.held report h
+begins_reads (Some (words.Zb o)) seen report h = begun_reads (zb_task o) seen.held report h
+begins_reads asked seen report h = []
+
+-- of the files that are asked for the first ones were read, each by one read and in their order
+abbrev pub IsReadOn : Option Words → List Event → Type 0
+IsReadOn (Some (words.Run cfg outdir core basedir budget jobs)) events =
+    hearing.IsReadOn (run_task cfg outdir core basedir budget).request events
+IsReadOn (Some (words.List cfg)) events = AreReadOn (cfg ∷ []) events
+IsReadOn (Some (words.Lrat cnf proof)) events = AreReadOn (cnf ∷ (proof ∷ [])) events
+IsReadOn (Some (words.Cover o)) events = hearing.IsReadOn (cover_task o).request events
+IsReadOn (Some (words.Zb o)) events = hearing.IsReadOn (zb_task o).request events
+IsReadOn asked events = events ≡ []
+
+-- exactly what a report speaks of; where there is none, as far as it went
+abbrev pub Hears : (asked : Option Words) (seen : Seen) (report : List Delivery) → IsReport asked seen report
+    → List Event → Type 0
+Hears asked seen report (whole status says) events = events ≡ says_reads asked seen status report says
+Hears asked seen report (begun begins) events = events ≡ begins_reads asked seen report begins
+Hears asked seen report (nothing none) events = IsReadOn asked events
+
 -- ---- how a run ends
 
 module _ (asked : Option Words) (r : Run) where
-  -- the status has its cause, and all of its report was delivered
+  -- the status has its cause, exactly what it speaks of was read, and all of its report was delivered
   pub record Reports (status : Status) : Type 0 where
     pub report : List Delivery
     pub says : Says asked (seen_in r) status report
+    pub heard : r.now.heard ≡ r.before.heard ++ says_reads asked (seen_in r) status report says
     pub delivered : Delivers r.before r.now report
 
   -- something of a report could not be delivered
   pub record Breaks : Type 0 where
     pub report : List Delivery
     pub is : IsReport asked (seen_in r) report
+    pub heard : HeardMore r.before.heard r.now.heard (Hears asked (seen_in r) report is)
     pub fails : Fails r.before r.now report
 
   -- memory was wanted, behind a front of a report
   pub record WantsMemory : Type 0 where
     pub report : List Delivery
     pub is : IsReport asked (seen_in r) report
+    pub heard : HeardMore r.before.heard r.now.heard (Hears asked (seen_in r) report is)
     pub stops : Stops r.before r.now report
 
   abbrev pub Ends : Status → Type 0
@@ -194,10 +250,6 @@ comes wanted status = (code_of status == code_of wanted) || ((code_of status == 
 abbrev pub comes_in_budget : Status → Status → Bool
 comes_in_budget wanted status = comes wanted status || (code_of status == 2)
 
--- no call on the files and none on the output failed
-abbrev pub IsQuiet : Outside → Outside → Type 0
-IsQuiet before now = (now.faults ≡ before.faults) × (now.out_faults ≡ before.out_faults)
-
 -- no call on the files failed, or one did before anything was delivered
 pub data FailsFirst (before now : Outside) : Type 0 where
   none_failed : now.faults ≡ before.faults → FailsFirst before now
@@ -218,6 +270,9 @@ comes_judged status = comes_in_budget s.Passed status || comes s.Failing status
 pub record IsExact (status : Status) (r : Run) : Type 0 where
   -- a call that failed has its status, 7 or 8, or memory was wanted
   pub counts : HasCounts status r.before r.now
+  -- so has a file that could not be read, which its line names
+  pub unread : (events : List Event) (name : List ℕ) → r.now.heard ≡ r.before.heard ++ events
+      → Contains events (Failed name) → comes s.ReadFault status ≡ true
   pub usage : line_of r.words ≡ None → comes s.Usage status ≡ true
   pub refusal : (f : Refusal) → HasCause r f → comes (refused_status f) status ≡ true
   -- where no question fails, and where one does

@@ -1,10 +1,11 @@
 -- Meaning: What the questions of a configuration come to, said of the designs that their texts write. Rules of this
 -- project.
-use Rattle.std.specs.Prelude.{◌≡◌, ℕ, Bool, true, false, List, [], ◌∷◌, Option, Some, None}
+use Rattle.std.specs.Prelude.{◌≡◌, ℕ, Bool, true, false, List, [], ◌∷◌, Option, Some, None, map}
 use Rattle.std.specs.List.{list_any}
 use Rattle.vl_elab_spec.specs.Refused.{refusal}
 use Rattle.ck_cfg.specs.declared.check.Check.{Check}
 use Rattle.ck_cfg.specs.declared.config.Config.{Config}
+use Rattle.ck_cfg.specs.Checks.{checks_of}
 use Rattle.ck_cfg.specs.declared.kind.CheckKind.{CheckKind}
 use Rattle.ck_cfg.specs.declared.kind.CheckKind.TheVariants as kind
 use Rattle.ck_cfg.specs.Kind.{is_kind}
@@ -20,10 +21,9 @@ use Rattle.ck_design.specs.Retirements.{IsViolating}
 use Rattle.vl_text.specs.SourceText.{Reading}
 use Rattle.bm_decide.specs.Searches.{TakesFewer}
 use Rattle.rvf_case.specs.Loads.{Asked, Reads, design_of, opts_of, wants_of, top}
-use Rattle.rvf_case.specs.declared.asking.Asking.TheVariants as asking
 use Rattle.rvf_judge.specs.Judged.{IsJudged}
 use Rattle.rvf_judge.specs.declared.judged.Judged.{Judged}
-use Rattle.rvf_case.specs.Texts.{asked_for, leader_of, questions_of}
+use Rattle.rvf_case.specs.Texts.{asked_for, leader_of}
 
 -- the text of a kind where these questions are asked, with what is asked of it
 abbrev pub text_for : Config → List (List ℕ) → List Question → CheckKind → Asked
@@ -31,7 +31,7 @@ text_for c files qs kind = asked_for c files qs (leader_of c qs kind)
 
 -- a question for each check of the configuration
 abbrev pub check_questions : Config → List Question
-check_questions c = questions_of asking.Checks c
+check_questions c = map (λ x. question.Check x) (checks_of c)
 
 -- the text of the checks of a kind, with what is asked of it
 abbrev pub text_of : Config → List (List ℕ) → CheckKind → Asked

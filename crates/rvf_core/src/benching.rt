@@ -38,12 +38,11 @@ pub(crate) fn bench<R: Threads + Sync, F: Files, O: Out, G: Gate>(
 ) -> Status
     ensures ends { (asked : List (List ℕ)) → Ends (Some (words.Bench size)) (record {
       words = asked;
-      before = outside (F.held files.old) (F.misses files.old) (F.faults files.old) (O.sent out.old) (O.faults out.old);
-      now = outside (F.held files.new) (F.misses files.new) (F.faults files.new) (O.sent out.new) (O.faults out.new);
+      before = outside (F.state files.old) (O.state out.old);
+      now = outside (F.state files.new) (O.state out.new);
     }) result }
     ensures counts { HasCounts result
-        (outside (F.held files.old) (F.misses files.old) (F.faults files.old) (O.sent out.old) (O.faults out.old))
-        (outside (F.held files.new) (F.misses files.new) (F.faults files.new) (O.sent out.new) (O.faults out.new)) }
+        (outside (F.state files.old) (O.state out.old)) (outside (F.state files.new) (O.state out.new)) }
 {
     match bench_files(alloc, size) {
         Ok(own) => benched(rt, alloc, size, own, gate, files, out),
@@ -64,12 +63,11 @@ fn benched<R: Threads + Sync, F: Files, O: Out, G: Gate>(
     requires { SameFiles (Some (held_of size)) (Some (sure_names own)) }
     ensures ends { (asked : List (List ℕ)) → Ends (Some (words.Bench size)) (record {
       words = asked;
-      before = outside (F.held files.old) (F.misses files.old) (F.faults files.old) (O.sent out.old) (O.faults out.old);
-      now = outside (F.held files.new) (F.misses files.new) (F.faults files.new) (O.sent out.new) (O.faults out.new);
+      before = outside (F.state files.old) (O.state out.old);
+      now = outside (F.state files.new) (O.state out.new);
     }) result }
     ensures counts { HasCounts result
-        (outside (F.held files.old) (F.misses files.old) (F.faults files.old) (O.sent out.old) (O.faults out.old))
-        (outside (F.held files.new) (F.misses files.new) (F.faults files.new) (O.sent out.new) (O.faults out.new)) }
+        (outside (F.state files.old) (O.state out.old)) (outside (F.state files.new) (O.state out.new)) }
 {
     judgements_are_the_sources(&Plain);
     let mut own = own;

@@ -1,9 +1,9 @@
 //! `lrat CNF PROOF`
 
-ghost use Rattle.std.specs.Prelude.{◌≡◌, ◌≤◌, IfOk};
+ghost use Rattle.std.specs.Prelude.{◌≡◌, ◌≤◌, [], ◌∷◌, IfOk};
 ghost use Rattle.fv_base.specs.Outside.{SameFiles};
-ghost use Rattle.rvf_core.specs.Certifies.{Certifies};
-ghost use Rattle.rvf_core.specs.Steps.{TellsReads};
+ghost use Rattle.rvf_case.specs.Hearing.{AreReadOn, HeardMore};
+ghost use Rattle.rvf_core.specs.Steps.{CertifiesFor, TellsReads};
 ghost use Rattle.rvf_core.specs.Unread.{IsUnreadReport};
 
 use crate::certificate::certify;
@@ -33,17 +33,14 @@ pub(crate) fn refute<F: Files>(
     proof: &[u8],
     files: &mut F,
 ) -> Result<Report, Memory>
-    ensures says { IfOk result (λ report. Certifies cnf.now proof.now (record {
-      held = F.held files.old;
-      misses = F.misses files.old;
-      misses_now = F.misses files.new;
-      faults = F.faults files.old;
-      faults_now = F.faults files.new;
-    }) report.status report.deliveries) }
-    ensures kept { SameFiles (F.held files.old) (F.held files.new) }
-    ensures misses_grow { F.misses files.old ≤ F.misses files.new }
-    ensures faults_grow { F.faults files.old ≤ F.faults files.new }
-    ensures told { IfOk result (λ report. TellsReads report (F.faults files.old) (F.faults files.new)) }
+    ensures says { IfOk result (CertifiesFor cnf.now proof.now (F.state files.old) (F.state files.new)) }
+    ensures read_on { HeardMore (F.state files.old).heard (F.state files.new).heard
+        (AreReadOn (cnf.now ∷ (proof.now ∷ []))) }
+    ensures kept { SameFiles (F.state files.old).held (F.state files.new).held }
+    ensures unwritten { (F.state files.new).written ≡ (F.state files.old).written }
+    ensures misses_grow { (F.state files.old).misses ≤ (F.state files.new).misses }
+    ensures faults_grow { (F.state files.old).faults ≤ (F.state files.new).faults }
+    ensures told { IfOk result (λ report. TellsReads report (F.state files.old).faults (F.state files.new).faults) }
 {
     match files.read(alloc, cnf) {
         Ok(clauses) => match files.read(alloc, proof) {

@@ -36,21 +36,16 @@ pub(crate) fn check<R: Threads + Sync, F: Files, O: Out, G: Gate>(
     ensures ends { (line : Words) → task_of line ≡ Some (task_seen work.now) → (asked : List (List ℕ))
         → Ends (Some line) (record {
           words = asked;
-          before = outside (F.held files.old) (F.misses files.old) (F.faults files.old) (O.sent out.old)
-              (O.faults out.old);
-          now = outside (F.held files.new) (F.misses files.new) (F.faults files.new) (O.sent out.new)
-              (O.faults out.new);
+          before = outside (F.state files.old) (O.state out.old);
+          now = outside (F.state files.new) (O.state out.new);
         }) result }
     ensures causes { (asked : List (List ℕ)) → HaveCauses (task_seen work.now) (record {
       words = asked;
-      before = outside (F.held files.old) (F.misses files.old) (F.faults files.old) (O.sent out.old)
-          (O.faults out.old);
-      now = outside (F.held files.new) (F.misses files.new) (F.faults files.new) (O.sent out.new)
-          (O.faults out.new);
+      before = outside (F.state files.old) (O.state out.old);
+      now = outside (F.state files.new) (O.state out.new);
     }) result }
     ensures counts { HasCounts result
-        (outside (F.held files.old) (F.misses files.old) (F.faults files.old) (O.sent out.old) (O.faults out.old))
-        (outside (F.held files.new) (F.misses files.new) (F.faults files.new) (O.sent out.new) (O.faults out.new)) }
+        (outside (F.state files.old) (O.state out.old)) (outside (F.state files.new) (O.state out.new)) }
 {
     judgements_are_the_sources(&Plain);
     let request = Request {

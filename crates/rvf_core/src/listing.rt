@@ -1,10 +1,11 @@
 //! `list CFG`
 
-ghost use Rattle.std.specs.Prelude.{◌≡◌, ◌≤◌, map, IfOk};
+ghost use Rattle.std.specs.Prelude.{◌≡◌, ◌≤◌, [], ◌∷◌, map, IfOk};
 ghost use Rattle.fv_base.specs.Outside.{SameFiles};
 ghost use Rattle.ck_cfg.specs.Checks.{checks_of};
-ghost use Rattle.rvf_core.specs.Lists.{Lists, name_line};
-ghost use Rattle.rvf_core.specs.Steps.{TellsReads};
+ghost use Rattle.rvf_case.specs.Hearing.{AreReadOn, HeardMore};
+ghost use Rattle.rvf_core.specs.Lists.{name_line};
+ghost use Rattle.rvf_core.specs.Steps.{ListsFor, TellsReads};
 ghost use Rattle.rvf_report.specs.declared.status.Status.TheVariants.{Passed};
 
 use crate::refusing::refused;
@@ -50,17 +51,13 @@ fn listed(alloc: Global, config: &Config) -> Result<Report, Memory>
 
 /// `list CFG`
 pub(crate) fn list<F: Files>(alloc: Global, cfg: &[u8], files: &mut F) -> Result<Report, Memory>
-    ensures says { IfOk result (λ report. Lists cfg.now (record {
-      held = F.held files.old;
-      misses = F.misses files.old;
-      misses_now = F.misses files.new;
-      faults = F.faults files.old;
-      faults_now = F.faults files.new;
-    }) report.status report.deliveries) }
-    ensures kept { SameFiles (F.held files.old) (F.held files.new) }
-    ensures misses_grow { F.misses files.old ≤ F.misses files.new }
-    ensures faults_grow { F.faults files.old ≤ F.faults files.new }
-    ensures told { IfOk result (λ report. TellsReads report (F.faults files.old) (F.faults files.new)) }
+    ensures says { IfOk result (ListsFor cfg.now (F.state files.old) (F.state files.new)) }
+    ensures read_on { HeardMore (F.state files.old).heard (F.state files.new).heard (AreReadOn (cfg.now ∷ [])) }
+    ensures kept { SameFiles (F.state files.old).held (F.state files.new).held }
+    ensures unwritten { (F.state files.new).written ≡ (F.state files.old).written }
+    ensures misses_grow { (F.state files.old).misses ≤ (F.state files.new).misses }
+    ensures faults_grow { (F.state files.old).faults ≤ (F.state files.new).faults }
+    ensures told { IfOk result (λ report. TellsReads report (F.state files.old).faults (F.state files.new).faults) }
 {
     match read_config(alloc, cfg, files) {
         Ok(config) => listed(alloc, &config),

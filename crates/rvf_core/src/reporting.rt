@@ -3,7 +3,7 @@
 ghost use Rattle.std.specs.Prelude.{◌≡◌, ◌≤◌};
 ghost use Rattle.rvf_core.specs.Puts.{Puts};
 ghost use Rattle.rvf_report.specs.Status.{UnlessBroken, ends};
-ghost use Rattle.rvf_report.specs.Outcome.{outside};
+ghost use Rattle.rvf_report.specs.Outcome.{IsQuiet, outside};
 
 use crate::report::Report;
 use fv_base::{Files, Out, OutFault};
@@ -30,12 +30,12 @@ pub(crate) fn put_report<F: Files, O: Out>(
     out: &mut O,
 ) -> Status
     ensures puts { Puts report result
-        (outside (F.held files.old) (F.misses files.old) (F.faults files.old) (O.sent out.old) (O.faults out.old))
-        (outside (F.held files.new) (F.misses files.new) (F.faults files.new) (O.sent out.new) (O.faults out.new)) }
-    ensures misses_kept { F.misses files.new ≡ F.misses files.old }
-    ensures faults_grow { F.faults files.old ≤ F.faults files.new }
+        (outside (F.state files.old) (O.state out.old)) (outside (F.state files.new) (O.state out.new)) }
+    ensures unheard { (F.state files.new).heard ≡ (F.state files.old).heard }
+    ensures misses_kept { (F.state files.new).misses ≡ (F.state files.old).misses }
+    ensures faults_grow { (F.state files.old).faults ≤ (F.state files.new).faults }
     ensures quiet { UnlessBroken result
-        ((F.faults files.new ≡ F.faults files.old) × (O.faults out.new ≡ O.faults out.old)) }
+        (IsQuiet (outside (F.state files.old) (O.state out.old)) (outside (F.state files.new) (O.state out.new))) }
 {
     match report {
         Ok(report) => ended(

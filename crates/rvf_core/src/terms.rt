@@ -4,7 +4,7 @@ ghost use Rattle.std.specs.Prelude.{◌≡◌, ◌≤◌, ◌<◌};
 ghost use Rattle.bm_decide.specs.Searches.{TakesFewer};
 ghost use Rattle.rvf_case.specs.Cases.{IsReady};
 ghost use Rattle.rvf_checks.specs.Checked.{plan_of};
-ghost use Rattle.rvf_report.specs.Outcome.{outside};
+ghost use Rattle.rvf_report.specs.Outcome.{IsQuiet, outside};
 ghost use Rattle.rvf_report.specs.Reports.{Concludes};
 ghost use Rattle.rvf_report.specs.Status.{UnlessBroken};
 
@@ -43,13 +43,13 @@ pub(crate) fn judged<R: Threads + Sync, F: Files, O: Out, G: Gate>(
     requires jobs { 1 ≤ terms.now.jobs }
     ensures concluded { Concludes
         (plan_of TakesFewer case.now terms.now.wording terms.now.folder.now terms.now.budget) result
-        (outside (F.held files.old) (F.misses files.old) (F.faults files.old) (O.sent out.old) (O.faults out.old))
-        (outside (F.held files.new) (F.misses files.new) (F.faults files.new) (O.sent out.new) (O.faults out.new)) }
-    ensures misses_kept { F.misses files.new ≡ F.misses files.old }
-    ensures faults_grow { F.faults files.old ≤ F.faults files.new }
-    ensures out_faults_grow { O.faults out.old ≤ O.faults out.new }
+        (outside (F.state files.old) (O.state out.old)) (outside (F.state files.new) (O.state out.new)) }
+    ensures unheard { (F.state files.new).heard ≡ (F.state files.old).heard }
+    ensures misses_kept { (F.state files.new).misses ≡ (F.state files.old).misses }
+    ensures faults_grow { (F.state files.old).faults ≤ (F.state files.new).faults }
+    ensures out_faults_grow { (O.state out.old).faults ≤ (O.state out.new).faults }
     ensures quiet { UnlessBroken result
-        ((F.faults files.new ≡ F.faults files.old) × (O.faults out.new ≡ O.faults out.old)) }
+        (IsQuiet (outside (F.state files.old) (O.state out.old)) (outside (F.state files.new) (O.state out.new))) }
 {
     let checks = Checks {
         gate,

@@ -52,15 +52,15 @@ pub fn run<R: Threads + Sync, F: Files, O: Out>(
     // Each status has its cause, and exactly its files and lines were delivered.
     ensures answer { Answers result (record {
       words = map string_bytes words.now;
-      before = outside (F.held files.old) (F.misses files.old) (F.faults files.old) (O.sent out.old) (O.faults out.old);
-      now = outside (F.held files.new) (F.misses files.new) (F.faults files.new) (O.sent out.new) (O.faults out.new);
+      before = outside (F.state files.old) (O.state out.old);
+      now = outside (F.state files.new) (O.state out.new);
     }) }
 
     // Each cause has its status.
     ensures exact { IsExact result (record {
       words = map string_bytes words.now;
-      before = outside (F.held files.old) (F.misses files.old) (F.faults files.old) (O.sent out.old) (O.faults out.old);
-      now = outside (F.held files.new) (F.misses files.new) (F.faults files.new) (O.sent out.new) (O.faults out.new);
+      before = outside (F.state files.old) (O.state out.old);
+      now = outside (F.state files.new) (O.state out.new);
     }) }
 {
     run_gated(rt, alloc, words, files, out, &OpenGate)
@@ -77,13 +77,13 @@ pub fn run_gated<R: Threads + Sync, F: Files, O: Out, G: Gate>(
 ) -> Status
     ensures answer { Answers result (record {
       words = map string_bytes words.now;
-      before = outside (F.held files.old) (F.misses files.old) (F.faults files.old) (O.sent out.old) (O.faults out.old);
-      now = outside (F.held files.new) (F.misses files.new) (F.faults files.new) (O.sent out.new) (O.faults out.new);
+      before = outside (F.state files.old) (O.state out.old);
+      now = outside (F.state files.new) (O.state out.new);
     }) }
     ensures exact { IsExact result (record {
       words = map string_bytes words.now;
-      before = outside (F.held files.old) (F.misses files.old) (F.faults files.old) (O.sent out.old) (O.faults out.old);
-      now = outside (F.held files.new) (F.misses files.new) (F.faults files.new) (O.sent out.new) (O.faults out.new);
+      before = outside (F.state files.old) (O.state out.old);
+      now = outside (F.state files.new) (O.state out.new);
     }) }
 {
     answered(rt, alloc, words, files, out, gate)
@@ -107,17 +107,16 @@ fn answered<R: Threads + Sync, F: Files, O: Out, G: Gate>(
 ) -> Status
     ensures answer { Answers result (record {
       words = map string_bytes words.now;
-      before = outside (F.held files.old) (F.misses files.old) (F.faults files.old) (O.sent out.old) (O.faults out.old);
-      now = outside (F.held files.new) (F.misses files.new) (F.faults files.new) (O.sent out.new) (O.faults out.new);
+      before = outside (F.state files.old) (O.state out.old);
+      now = outside (F.state files.new) (O.state out.new);
     }) }
     ensures statuses { HaveStatus (line_of (map string_bytes words.now)) (record {
       words = map string_bytes words.now;
-      before = outside (F.held files.old) (F.misses files.old) (F.faults files.old) (O.sent out.old) (O.faults out.old);
-      now = outside (F.held files.new) (F.misses files.new) (F.faults files.new) (O.sent out.new) (O.faults out.new);
+      before = outside (F.state files.old) (O.state out.old);
+      now = outside (F.state files.new) (O.state out.new);
     }) result }
     ensures counts { HasCounts result
-        (outside (F.held files.old) (F.misses files.old) (F.faults files.old) (O.sent out.old) (O.faults out.old))
-        (outside (F.held files.new) (F.misses files.new) (F.faults files.new) (O.sent out.new) (O.faults out.new)) }
+        (outside (F.state files.old) (O.state out.old)) (outside (F.state files.new) (O.state out.new)) }
 {
     match read_words(alloc, words) {
         Ok(Some(line)) => done(rt, alloc, &line, gate, files, out),
@@ -138,17 +137,16 @@ fn done<R: Threads + Sync, F: Files, O: Out, G: Gate>(
     requires line { IsLine line.now }
     ensures ends { (asked : SpecList (SpecList ℕ)) → Ends (Some line.now) (record {
       words = asked;
-      before = outside (F.held files.old) (F.misses files.old) (F.faults files.old) (O.sent out.old) (O.faults out.old);
-      now = outside (F.held files.new) (F.misses files.new) (F.faults files.new) (O.sent out.new) (O.faults out.new);
+      before = outside (F.state files.old) (O.state out.old);
+      now = outside (F.state files.new) (O.state out.new);
     }) result }
     ensures statuses { (asked : SpecList (SpecList ℕ)) → HaveStatus (Some line.now) (record {
       words = asked;
-      before = outside (F.held files.old) (F.misses files.old) (F.faults files.old) (O.sent out.old) (O.faults out.old);
-      now = outside (F.held files.new) (F.misses files.new) (F.faults files.new) (O.sent out.new) (O.faults out.new);
+      before = outside (F.state files.old) (O.state out.old);
+      now = outside (F.state files.new) (O.state out.new);
     }) result }
     ensures counts { HasCounts result
-        (outside (F.held files.old) (F.misses files.old) (F.faults files.old) (O.sent out.old) (O.faults out.old))
-        (outside (F.held files.new) (F.misses files.new) (F.faults files.new) (O.sent out.new) (O.faults out.new)) }
+        (outside (F.state files.old) (O.state out.old)) (outside (F.state files.new) (O.state out.new)) }
 {
     match line {
         Line::Run {

@@ -6,8 +6,13 @@ use Rattle.std.proofs.lemmas.List.{append-nil}
 use Rattle.fv_base.specs.Outside.{Told, Rose, SameFiles, Holds, HoldsSome, HoldsPart, Appends}
 use Rattle.fv_base.specs.declared.out.OutFault.{OutFault}
 use Rattle.fv_base.specs.declared.out.OutFault.TheVariants as out
-use Rattle.rvf_report.specs.Outcome.{Outside, told_with, held_after, lines_of, Delivers, PutsPart, LeavesPart}
-use Rattle.rvf_report.specs.Outcome.{IsDelivered, IsDone, LeavesOne}
+use Rattle.std.specs.Prelude.{IsErrOf, OnOk}
+use Rattle.fv_base.specs.Events.{put_events}
+use Rattle.fv_base.specs.Outside.{AppendsPart, FilesState, OutState, UnlessNotPut}
+use Rattle.fv_base.specs.declared.event.Event.{Event}
+use Rattle.fv_base.specs.declared.event.Event.TheVariants.{Wrote, Put}
+use Rattle.rvf_report.specs.Outcome.{Outside, told_with, held_after, lines_of, Delivers, Pass, PutsPart, LeavesPart}
+use Rattle.rvf_report.specs.Outcome.{IsDelivered, IsDone, IsPut, IsWritten, LeavesOne, outside, puts_of, writes_of}
 use Rattle.rvf_report.specs.Steps.{CountsIn, AreUnmoved}
 use Rattle.rvf_report.specs.declared.delivery.Delivery.{Delivery}
 use Rattle.rvf_report.specs.declared.delivery.Delivery.TheVariants.{File, Line}
@@ -95,11 +100,44 @@ lines-behind a b c first second p q =
     subst (λ l. Appends a c l) (sym (lines_of-append first second))
     (Appends-both a b c (lines_of first) (lines_of second) p q)
 
+writes_of-append : (ds es : List Delivery) → writes_of (ds ++ es) ≡ writes_of ds ++ writes_of es
+writes_of-append [] es = refl
+writes_of-append (File name bytes ∷ ds) es = ap (λ l. Wrote name bytes ∷ l) (writes_of-append ds es)
+writes_of-append (Line bytes ∷ ds) es = writes_of-append ds es
+
+puts_of-append : (ds es : List Delivery) → puts_of (ds ++ es) ≡ puts_of ds ++ puts_of es
+puts_of-append [] es = refl
+puts_of-append (File name bytes ∷ ds) es = puts_of-append ds es
+puts_of-append (Line bytes ∷ ds) es = ap (λ l. Put bytes ∷ l) (puts_of-append ds es)
+
+-- what was added in two steps was added in one
+added-both : (a b c first second both : List Event) → b ≡ a ++ first → c ≡ b ++ second → both ≡ first ++ second
+    → c ≡ a ++ both
+added-both a b c first second both p q is =
+    q ∙ ap (λ l. l ++ second) p ∙ append_assoc a first second ∙ ap (λ l. a ++ l) (sym is)
+
+Pass-behind : (a b c : Outside) (first second : List Delivery) → Pass a b first → Pass b c second
+    → Pass a c (first ++ second)
+Pass-behind a b c first second p q = record {
+  written = added-both a.written b.written c.written (writes_of first) (writes_of second)
+      (writes_of (first ++ second)) p.written q.written (writes_of-append first second);
+  taken = added-both a.taken b.taken c.taken (puts_of first) (puts_of second) (puts_of (first ++ second)) p.taken
+      q.taken (puts_of-append first second);
+}
+
+-- nothing passed
+pub Pass-nothing : (a b : Outside) → b.written ≡ a.written → b.taken ≡ a.taken → Pass a b []
+Pass-nothing a b written taken = record {
+  written = written ∙ sym (append-nil a.written);
+  taken = taken ∙ sym (append-nil a.taken);
+}
+
 pub Delivers-behind : (a b c : Outside) (first second : List Delivery) → Delivers a b first → Delivers b c second
     → Delivers a c (first ++ second)
 Delivers-behind a b c first second p q = record {
   files = files-behind a.held b.held c.held first second p.files q.files;
   lines = lines-behind a.sent b.sent c.sent first second p.lines q.lines;
+  pass = Pass-behind a b c first second p.pass q.pass;
 }
 
 PutsPart-behind : (a b c : Option (List ℕ)) (first second : List Delivery) (line : List ℕ)
@@ -126,46 +164,21 @@ LeavesPart-behind a b c first done (File name bytes) p faults out_faults q = (
       (SameFiles-refl (held_after b.held done))) q.0,
   lines-behind a.sent b.sent c.sent first done p.lines q.1,
   Rose-later a.faults b.faults c.faults faults q.2,
+  Pass-behind a b c first done p.pass q.3,
 )
 LeavesPart-behind a b c first done (Line bytes) p faults out_faults q = (
   files-behind a.held b.held c.held first done p.files q.0,
   PutsPart-behind a.sent b.sent c.sent first done bytes p.lines q.1,
   Rose-later a.out_faults b.out_faults c.out_faults out_faults q.2,
+  Pass-behind a b c first done p.pass q.3,
 )
 
--- what comes through behind nothing that changed
-pub IsDelivered-later : (put : Result (Unit {0}) OutFault) (a b c : Outside) (ds : List Delivery)
-    → SameFiles a.held b.held → a.sent ≡ b.sent
-    → a.faults ≤ b.faults → a.out_faults ≤ b.out_faults → IsDelivered put b c ds → IsDelivered put a c ds
-IsDelivered-later (Ok u) a b c ds same sent faults out_faults q = Delivers-behind a b c [] ds (nothing a b same sent) q
-  where
-    nothing : (a b : Outside) → SameFiles a.held b.held → a.sent ≡ b.sent → Delivers a b []
-    nothing a b same sent =
-        record { files = same; lines = subst (λ s. Appends a.sent s []) sent (Appends-nothing a.sent) }
-IsDelivered-later (Err out.Failed) a b c ds same sent faults out_faults q = record {
-  done = q.done;
-  failing = q.failing;
-  rest = q.rest;
-  order = q.order;
-  part = LeavesPart-behind a b c [] q.done q.failing (nothing a b same sent) faults out_faults q.part;
-}
-  where
-    nothing : (a b : Outside) → SameFiles a.held b.held → a.sent ≡ b.sent → Delivers a b []
-    nothing a b same sent =
-        record { files = same; lines = subst (λ s. Appends a.sent s []) sent (Appends-nothing a.sent) }
-IsDelivered-later (Err out.Memory) a b c ds same sent faults out_faults q = record {
-  done = q.done;
-  rest = q.rest;
-  order = q.order;
-  delivered = Delivers-behind a b c [] q.done (nothing a b same sent) q.delivered;
-}
-  where
-    nothing : (a b : Outside) → SameFiles a.held b.held → a.sent ≡ b.sent → Delivers a b []
-    nothing a b same sent =
-        record { files = same; lines = subst (λ s. Appends a.sent s []) sent (Appends-nothing a.sent) }
-
 pub Delivers-nothing : (a : Outside) → Delivers a a []
-Delivers-nothing a = record { files = SameFiles-refl a.held; lines = Appends-nothing a.sent }
+Delivers-nothing a = record {
+  files = SameFiles-refl a.held;
+  lines = Appends-nothing a.sent;
+  pass = Pass-nothing a a refl refl;
+}
 
 -- a delivery that came to a fault, behind others that came through
 pub IsDelivered-behind : (fault : OutFault) (a b c : Outside) (first second : List Delivery) → Delivers a b first
@@ -191,6 +204,7 @@ IsDelivered-all a b ds p = record { done = ds; rest = []; order = append-nil ds;
 
 pub AreUnmoved-trans : (a b c : Outside) → AreUnmoved a b → AreUnmoved b c → AreUnmoved a c
 AreUnmoved-trans a b c p q = record {
+  heard = q.heard ∙ p.heard;
   misses = q.misses ∙ p.misses;
   faults = q.faults ∙ p.faults;
   out_faults = q.out_faults ∙ p.out_faults;
@@ -199,6 +213,7 @@ AreUnmoved-trans a b c p q = record {
 pub CountsIn-behind : (fault : OutFault) (a b c : Outside) → AreUnmoved a b → CountsIn (Err fault) b c
     → CountsIn (Err fault) a c
 CountsIn-behind out.Failed a b c p q = record {
+  heard = q.heard ∙ p.heard;
   misses = q.misses ∙ p.misses;
   faults = omega (arith, p.faults, q.faults);
   out_faults = omega (arith, p.out_faults, q.out_faults);
@@ -260,3 +275,63 @@ SoFar-leaves out.Memory a b c index ds d lt at so_far q = record {
   delivered = subst (λ l. Delivers a c l) (append-nil (take index ds))
       (Delivers-behind a b c (take index ds) [] so_far.delivered q);
 }
+
+-- ---- one delivery
+
+pub written_done : (put : Result (Unit {0}) OutFault) (a b : FilesState) (o : OutState) (name bytes : List ℕ)
+    → IsWritten put a b name bytes → IsDone put (outside a o) (outside b o) (File name bytes)
+written_done (Ok u) a b o name bytes w = record {
+  files = Holds-with a.held b.held name bytes w.0;
+  lines = Appends-nothing o.sent;
+  pass = record { written = w.1; taken = sym (append-nil o.taken) };
+}
+written_done (Err out.Failed) a b o name bytes w =
+    (w.0, Appends-nothing o.sent, w.1, Pass-nothing (outside a o) (outside b o) w.2 refl)
+written_done (Err out.Memory) a b o name bytes w = record {
+  files = w.0;
+  lines = Appends-nothing o.sent;
+  pass = Pass-nothing (outside a o) (outside b o) w.1 refl;
+}
+
+pub written_counts : (put : Result (Unit {0}) OutFault) (a b : FilesState) (o : OutState) → b.heard ≡ a.heard
+    → b.misses ≡ a.misses → a.faults ≤ b.faults → UnlessNotPut put (b.faults ≡ a.faults)
+    → CountsIn put (outside a o) (outside b o)
+written_counts (Ok u) a b o heard misses grow quiet =
+    record { heard = heard; misses = misses; faults = quiet; out_faults = refl }
+written_counts (Err out.Failed) a b o heard misses grow quiet =
+    record { heard = heard; misses = misses; faults = grow; out_faults = omega arith }
+written_counts (Err out.Memory) a b o heard misses grow quiet =
+    record { heard = heard; misses = misses; faults = quiet; out_faults = refl }
+
+pub put_done : (put : Result (Unit {0}) OutFault) (f : FilesState) (a b : OutState) (line : List ℕ)
+    → IsPut put a b line → IsDone put (outside f a) (outside f b) (Line line)
+put_done (Ok u) f a b line p = record {
+  files = SameFiles-refl f.held;
+  lines = subst (λ l. Appends a.sent b.sent l) (sym (append-nil line)) p.0;
+  pass = record { written = sym (append-nil f.written); taken = p.1 };
+}
+put_done (Err out.Failed) f a b line p = (
+  SameFiles-refl f.held,
+  record { part = p.0.part; is_part = p.0.is_part; put = p.0.now },
+  p.1,
+  Pass-nothing (outside f a) (outside f b) refl p.2,
+)
+put_done (Err out.Memory) f a b line p = record {
+  files = SameFiles-refl f.held;
+  lines = subst (λ s. Appends a.sent s []) (sym p.0) (Appends-nothing a.sent);
+  pass = Pass-nothing (outside f a) (outside f b) refl p.1;
+}
+
+pub put_counts : (put : Result (Unit {0}) OutFault) (f : FilesState) (a b : OutState) → a.faults ≤ b.faults
+    → UnlessNotPut put (b.faults ≡ a.faults) → CountsIn put (outside f a) (outside f b)
+put_counts (Ok u) f a b grow quiet = record { heard = refl; misses = refl; faults = refl; out_faults = quiet }
+put_counts (Err out.Failed) f a b grow quiet =
+    record { heard = refl; misses = refl; faults = omega arith; out_faults = grow }
+put_counts (Err out.Memory) f a b grow quiet = record { heard = refl; misses = refl; faults = refl; out_faults = quiet }
+
+pub is_put : (put : Result (Unit {0}) OutFault) (a b : OutState) (line : List ℕ) → OnOk put (Appends a.sent b.sent line)
+    → (IsErrOf put out.Failed → Rose a.faults b.faults) → (IsErrOf put out.Failed → AppendsPart a.sent b.sent line)
+    → (IsErrOf put out.Memory → b.sent ≡ a.sent) → b.taken ≡ a.taken ++ put_events line put → IsPut put a b line
+is_put (Ok u) a b line ok failed part memory taken = (ok, taken)
+is_put (Err out.Failed) a b line ok failed part memory taken = (part refl, failed refl, taken ∙ append-nil a.taken)
+is_put (Err out.Memory) a b line ok failed part memory taken = (memory refl, taken ∙ append-nil a.taken)

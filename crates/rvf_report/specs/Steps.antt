@@ -7,14 +7,16 @@ use Rattle.rvf_report.specs.Reports.{AreAnswersFrom, IsReport, Plan, Reports, be
 use Rattle.rvf_report.specs.declared.delivery.Delivery.{Delivery}
 use Rattle.rvf_report.specs.declared.progress.Progress.{Progress}
 
--- no count moved
+-- nothing was read, and no count moved
 pub record AreUnmoved (before now : Outside) : Type 0 where
+  pub heard : now.heard ≡ before.heard
   pub misses : now.misses ≡ before.misses
   pub faults : now.faults ≡ before.faults
   pub out_faults : now.out_faults ≡ before.out_faults
 
--- no count fell, and no name was missed
+-- nothing was read, no count fell, and no name was missed
 pub record IsCounted (before now : Outside) : Type 0 where
+  pub heard : now.heard ≡ before.heard
   pub misses : now.misses ≡ before.misses
   pub faults : before.faults ≤ now.faults
   pub out_faults : before.out_faults ≤ now.out_faults

@@ -2,7 +2,7 @@
 
 ghost use Rattle.std.specs.Prelude.{◌≡◌, ◌≤◌, List, IfOk};
 ghost use Rattle.fv_base.specs.Outside.{UnlessNotPut};
-ghost use Rattle.rvf_report.specs.Outcome.{outside, IsDelivered, IsDone, IsWritten, IsPut, LeavesOne};
+ghost use Rattle.rvf_report.specs.Outcome.{outside, IsDelivered, IsDone, IsQuiet, IsWritten, IsPut, LeavesOne};
 ghost use Rattle.rvf_report.specs.Steps.{CountsIn};
 ghost use Rattle.rvf_report.specs.declared.delivery.Delivery.{Delivery as SpecDelivery};
 
@@ -19,19 +19,18 @@ pub fn deliver<F: Files, O: Out>(
     out: &mut O,
 ) -> Result<(), OutFault>
     ensures delivered { IsDelivered result
-        (outside (F.held files.old) (F.misses files.old) (F.faults files.old) (O.sent out.old) (O.faults out.old))
-        (outside (F.held files.new) (F.misses files.new) (F.faults files.new) (O.sent out.new) (O.faults out.new))
+        (outside (F.state files.old) (O.state out.old)) (outside (F.state files.new) (O.state out.new))
         deliveries.now }
     // Want of memory left one of them.
     ensures left { LeavesOne result
-        (outside (F.held files.old) (F.misses files.old) (F.faults files.old) (O.sent out.old) (O.faults out.old))
-        (outside (F.held files.new) (F.misses files.new) (F.faults files.new) (O.sent out.new) (O.faults out.new))
+        (outside (F.state files.old) (O.state out.old)) (outside (F.state files.new) (O.state out.new))
         deliveries.now }
-    ensures misses_kept { F.misses files.new ≡ F.misses files.old }
-    ensures faults_grow { F.faults files.old ≤ F.faults files.new }
-    ensures out_faults_grow { O.faults out.old ≤ O.faults out.new }
+    ensures unheard { (F.state files.new).heard ≡ (F.state files.old).heard }
+    ensures misses_kept { (F.state files.new).misses ≡ (F.state files.old).misses }
+    ensures faults_grow { (F.state files.old).faults ≤ (F.state files.new).faults }
+    ensures out_faults_grow { (O.state out.old).faults ≤ (O.state out.new).faults }
     ensures quiet { UnlessNotPut result
-        ((F.faults files.new ≡ F.faults files.old) × (O.faults out.new ≡ O.faults out.old)) }
+        (IsQuiet (outside (F.state files.old) (O.state out.old)) (outside (F.state files.new) (O.state out.new))) }
 {
     for delivery in deliveries {
         if let Err(fault) = deliver_one(alloc, delivery, files, out) {
@@ -50,12 +49,10 @@ pub(crate) fn deliver_made<F: Files, O: Out>(
 ) -> Result<(), OutFault>
     ensures delivered { (deliveries : List SpecDelivery) → IfOk made (λ list. list ≡ deliveries)
         → IsDelivered result
-        (outside (F.held files.old) (F.misses files.old) (F.faults files.old) (O.sent out.old) (O.faults out.old))
-        (outside (F.held files.new) (F.misses files.new) (F.faults files.new) (O.sent out.new) (O.faults out.new))
+        (outside (F.state files.old) (O.state out.old)) (outside (F.state files.new) (O.state out.new))
         deliveries }
     ensures counts { CountsIn result
-        (outside (F.held files.old) (F.misses files.old) (F.faults files.old) (O.sent out.old) (O.faults out.old))
-        (outside (F.held files.new) (F.misses files.new) (F.faults files.new) (O.sent out.new) (O.faults out.new)) }
+        (outside (F.state files.old) (O.state out.old)) (outside (F.state files.new) (O.state out.new)) }
 {
     match made {
         Ok(list) => deliver(alloc, list.as_slice(), files, out),
@@ -70,12 +67,10 @@ fn deliver_one<F: Files, O: Out>(
     out: &mut O,
 ) -> Result<(), OutFault>
     ensures done { IsDone result
-        (outside (F.held files.old) (F.misses files.old) (F.faults files.old) (O.sent out.old) (O.faults out.old))
-        (outside (F.held files.new) (F.misses files.new) (F.faults files.new) (O.sent out.new) (O.faults out.new))
+        (outside (F.state files.old) (O.state out.old)) (outside (F.state files.new) (O.state out.new))
         delivery.now }
     ensures counts { CountsIn result
-        (outside (F.held files.old) (F.misses files.old) (F.faults files.old) (O.sent out.old) (O.faults out.old))
-        (outside (F.held files.new) (F.misses files.new) (F.faults files.new) (O.sent out.new) (O.faults out.new)) }
+        (outside (F.state files.old) (O.state out.old)) (outside (F.state files.new) (O.state out.new)) }
 {
     match delivery {
         Delivery::File { name, bytes } => write(alloc, name.bytes(), bytes.bytes(), files),
@@ -85,11 +80,11 @@ fn deliver_one<F: Files, O: Out>(
 
 /// Makes the file hold the bytes.
 fn write<F: Files>(alloc: Global, name: &[u8], bytes: &[u8], files: &mut F) -> Result<(), OutFault>
-    ensures written { IsWritten result (F.held files.old) (F.held files.new) (F.faults files.old)
-        (F.faults files.new) name.now bytes.now }
-    ensures quiet { UnlessNotPut result (F.faults files.new ≡ F.faults files.old) }
-    ensures faults_grow { F.faults files.old ≤ F.faults files.new }
-    ensures misses_kept { F.misses files.new ≡ F.misses files.old }
+    ensures written { IsWritten result (F.state files.old) (F.state files.new) name.now bytes.now }
+    ensures unheard { (F.state files.new).heard ≡ (F.state files.old).heard }
+    ensures quiet { UnlessNotPut result ((F.state files.new).faults ≡ (F.state files.old).faults) }
+    ensures faults_grow { (F.state files.old).faults ≤ (F.state files.new).faults }
+    ensures misses_kept { (F.state files.new).misses ≡ (F.state files.old).misses }
 {
     match files.write(alloc, name, bytes) {
         Ok(()) => Ok(()),
@@ -100,9 +95,9 @@ fn write<F: Files>(alloc: Global, name: &[u8], bytes: &[u8], files: &mut F) -> R
 
 /// Puts the line.
 fn put<O: Out>(line: &[u8], out: &mut O) -> Result<(), OutFault>
-    ensures put { IsPut result (O.sent out.old) (O.sent out.new) (O.faults out.old) (O.faults out.new) line.now }
-    ensures quiet { UnlessNotPut result (O.faults out.new ≡ O.faults out.old) }
-    ensures faults_grow { O.faults out.old ≤ O.faults out.new }
+    ensures put { IsPut result (O.state out.old) (O.state out.new) line.now }
+    ensures quiet { UnlessNotPut result ((O.state out.new).faults ≡ (O.state out.old).faults) }
+    ensures faults_grow { (O.state out.old).faults ≤ (O.state out.new).faults }
 {
     out.put(line)
 }

@@ -27,8 +27,7 @@ pub(crate) fn begin<F: Files, O: Out, Q: Inquiry>(
     out: &mut O,
 ) -> Result<Progress<Q::Tally>, OutFault>
     ensures proceeds { Proceeds (Q.plan inquiry.now) result
-        (outside (F.held files.old) (F.misses files.old) (F.faults files.old) (O.sent out.old) (O.faults out.old))
-        (outside (F.held files.new) (F.misses files.new) (F.faults files.new) (O.sent out.new) (O.faults out.new)) }
+        (outside (F.state files.old) (O.state out.old)) (outside (F.state files.new) (O.state out.new)) }
     ensures first { IfOk result (λ progress. progress.place ≡ 0) }
     ensures tallied { IfOk result (λ progress. Q.tallied inquiry.now progress.place progress.tally) }
 {
@@ -52,9 +51,9 @@ pub(crate) fn deliver_answers<F: Files, O: Out, Q: Inquiry>(
     requires room { before.place + length answers.items < 2 ^ 64 }
     requires tallied { Q.tallied inquiry.now before.place before.tally }
     ensures proceeds { (first : Outside) → Stands (Q.plan inquiry.now) first
-        (outside (F.held files.old) (F.misses files.old) (F.faults files.old) (O.sent out.old) (O.faults out.old))
+        (outside (F.state files.old) (O.state out.old))
         before.place before.tally → Proceeds (Q.plan inquiry.now) result first
-        (outside (F.held files.new) (F.misses files.new) (F.faults files.new) (O.sent out.new) (O.faults out.new)) }
+        (outside (F.state files.new) (O.state out.new)) }
     ensures more { IfOk result (λ progress. progress.place ≡ before.place + length answers.items) }
     ensures tallied { IfOk result (λ progress. Q.tallied inquiry.now progress.place progress.tally) }
 {
@@ -81,9 +80,9 @@ fn deliver_answer<F: Files, O: Out, Q: Inquiry>(
     requires room { before.place + 1 < 2 ^ 64 }
     requires tallied { Q.tallied inquiry.now before.place before.tally }
     ensures proceeds { (first : Outside) → Stands (Q.plan inquiry.now) first
-        (outside (F.held files.old) (F.misses files.old) (F.faults files.old) (O.sent out.old) (O.faults out.old))
+        (outside (F.state files.old) (O.state out.old))
         before.place before.tally → Proceeds (Q.plan inquiry.now) result first
-        (outside (F.held files.new) (F.misses files.new) (F.faults files.new) (O.sent out.new) (O.faults out.new)) }
+        (outside (F.state files.new) (O.state out.new)) }
     ensures more { IfOk result (λ progress. progress.place ≡ before.place + 1) }
     ensures tallied { IfOk result (λ progress. Q.tallied inquiry.now progress.place progress.tally) }
 {
@@ -108,9 +107,9 @@ pub(crate) fn finish<F: Files, O: Out, Q: Inquiry>(
 ) -> Result<Q::Tally, OutFault>
     requires all { progress.place ≡ (Q.plan inquiry.now).size }
     ensures { (first : Outside) → Stands (Q.plan inquiry.now) first
-        (outside (F.held files.old) (F.misses files.old) (F.faults files.old) (O.sent out.old) (O.faults out.old))
+        (outside (F.state files.old) (O.state out.old))
         progress.place progress.tally → Ends (Q.plan inquiry.now) result first
-        (outside (F.held files.new) (F.misses files.new) (F.faults files.new) (O.sent out.new) (O.faults out.new)) }
+        (outside (F.state files.new) (O.state out.new)) }
 {
     let tally = progress.tally;
     match deliver_made(alloc, inquiry.last(alloc, tally), files, out) {

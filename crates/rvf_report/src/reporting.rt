@@ -1,7 +1,7 @@
 //! From the jobs of an inquiry to the end of a run.
 
 ghost use Rattle.std.specs.Prelude.{◌≡◌, ◌+◌, ◌<◌, ◌≤◌, ◌^◌, IfOk};
-ghost use Rattle.rvf_report.specs.Outcome.{Outside, outside};
+ghost use Rattle.rvf_report.specs.Outcome.{IsQuiet, Outside, outside};
 ghost use Rattle.rvf_report.specs.Reports.{Concludes};
 ghost use Rattle.rvf_report.specs.Status.{UnlessBroken};
 ghost use Rattle.rvf_report.specs.Steps.{Ends, Proceeds, Stands};
@@ -29,13 +29,13 @@ pub fn conclude<R: Threads + Sync, F: Files, O: Out, Q: Inquiry>(
     requires ready { Q.can_work inquiry.now }
     requires jobs { 1 ≤ jobs }
     ensures concluded { Concludes (Q.plan inquiry.now) result
-        (outside (F.held files.old) (F.misses files.old) (F.faults files.old) (O.sent out.old) (O.faults out.old))
-        (outside (F.held files.new) (F.misses files.new) (F.faults files.new) (O.sent out.new) (O.faults out.new)) }
-    ensures misses_kept { F.misses files.new ≡ F.misses files.old }
-    ensures faults_grow { F.faults files.old ≤ F.faults files.new }
-    ensures out_faults_grow { O.faults out.old ≤ O.faults out.new }
+        (outside (F.state files.old) (O.state out.old)) (outside (F.state files.new) (O.state out.new)) }
+    ensures unheard { (F.state files.new).heard ≡ (F.state files.old).heard }
+    ensures misses_kept { (F.state files.new).misses ≡ (F.state files.old).misses }
+    ensures faults_grow { (F.state files.old).faults ≤ (F.state files.new).faults }
+    ensures out_faults_grow { (O.state out.old).faults ≤ (O.state out.new).faults }
     ensures quiet { UnlessBroken result
-        ((F.faults files.new ≡ F.faults files.old) × (O.faults out.new ≡ O.faults out.old)) }
+        (IsQuiet (outside (F.state files.old) (O.state out.old)) (outside (F.state files.new) (O.state out.new))) }
 {
     match report(rt, alloc, inquiry, jobs, files, out) {
         Ok(tally) => inquiry.status(tally),
@@ -56,8 +56,7 @@ fn report<R: Threads + Sync, F: Files, O: Out, Q: Inquiry>(
     requires ready { Q.can_work inquiry.now }
     requires jobs { 1 ≤ jobs }
     ensures { Ends (Q.plan inquiry.now) result
-        (outside (F.held files.old) (F.misses files.old) (F.faults files.old) (O.sent out.old) (O.faults out.old))
-        (outside (F.held files.new) (F.misses files.new) (F.faults files.new) (O.sent out.new) (O.faults out.new)) }
+        (outside (F.state files.old) (O.state out.old)) (outside (F.state files.new) (O.state out.new)) }
 {
     let size = inquiry.size();
     let mut progress = match begin(alloc, inquiry, files, out) {
@@ -92,9 +91,9 @@ fn deliver_batch<R: Threads + Sync, F: Files, O: Out, Q: Inquiry>(
     requires room { size < 2 ^ 64 }
     requires tallied { Q.tallied inquiry.now before.place before.tally }
     ensures proceeds { (first : Outside) → Stands (Q.plan inquiry.now) first
-        (outside (F.held files.old) (F.misses files.old) (F.faults files.old) (O.sent out.old) (O.faults out.old))
+        (outside (F.state files.old) (O.state out.old))
         before.place before.tally → Proceeds (Q.plan inquiry.now) result first
-        (outside (F.held files.new) (F.misses files.new) (F.faults files.new) (O.sent out.new) (O.faults out.new)) }
+        (outside (F.state files.new) (O.state out.new)) }
     ensures more { IfOk result (λ progress. before.place < progress.place) }
     ensures within { IfOk result (λ progress. progress.place ≤ size) }
     ensures tallied { IfOk result (λ progress. Q.tallied inquiry.now progress.place progress.tally) }

@@ -1,7 +1,8 @@
 use Rattle.std.proofs.Common.{Some, arith, refl}
 use Rattle.rvf_core.specs.Tasks.{run_task}
 use Rattle.rvf_core.specs.Works.{task_seen}
-use Rattle.rvf_core.proofs.Asking.{cover_asks, run_asks, task_statuses, zb_asks}
+use Rattle.rvf_core.specs.Run.{Run}
+use Rattle.rvf_core.proofs.Asking.{cover_asks, run_asks, run_between, task_statuses, zb_asks}
 use Rattle.rvf_core.proofs.FromChecks.{le_itself}
 use Rattle.rvf_core.proofs.FromWords.{bench_ends, bench_statuses, certificate_ends, list_ends, list_statuses, lrat_ends}
 use Rattle.rvf_core.proofs.FromWords.{lrat_statuses, names_end}
@@ -18,9 +19,12 @@ returns-in-Run-clause-ends g c =
 
 pub returns-in-Run-clause-statuses : goal.returns-in-Run-clause-statuses
 returns-in-Run-clause-statuses g c = λ asked.
+    let r : Run =
+    run_between asked (outside (g.F.Files.state c.args.files.now) (g.O.Out.state c.args.out.now))
+    (outside (g.F.Files.state c.check.new.files) (g.O.Out.state c.check.new.out)) in
     task_statuses (Some c.args.line.now)
     (run_task c.bytes.result.now c.bytes-in-Run-3.result.now c.bytes-in-Run.result.now c.bytes-in-Run-2.result.now
-    c.in-Run.budget) _ c.check.result
+    c.in-Run.budget) r c.check.result
     (run_asks c.args.line.now _ _ _ _ c.bytes.result.now c.bytes-in-Run-3.result.now c.bytes-in-Run.result.now
     c.bytes-in-Run-2.result.now c.in-Run.budget c.in-Run.jobs c.in-Run.is c.bytes.ensures c.bytes-in-Run-3.ensures
     c.bytes-in-Run.ensures c.bytes-in-Run-2.ensures) (c.check.ensures.causes asked)
@@ -32,7 +36,10 @@ returns-in-Cover-clause-ends g c =
 
 pub returns-in-Cover-clause-statuses : goal.returns-in-Cover-clause-statuses
 returns-in-Cover-clause-statuses g c = λ asked.
-    task_statuses (Some c.args.line.now) (task_seen c.of-work.result) _ c.check-in-Cover.result
+    let r : Run =
+    run_between asked (outside (g.F.Files.state c.args.files.now) (g.O.Out.state c.args.out.now))
+    (outside (g.F.Files.state c.check-in-Cover.new.files) (g.O.Out.state c.check-in-Cover.new.out)) in
+    task_statuses (Some c.args.line.now) (task_seen c.of-work.result) r c.check-in-Cover.result
     (cover_asks c.args.line.now _ (task_seen c.of-work.result) c.in-Cover.is c.of-work.ensures.task)
     (c.check-in-Cover.ensures.causes asked)
 
@@ -43,32 +50,54 @@ returns-in-Zb-clause-ends g c =
 
 pub returns-in-Zb-clause-statuses : goal.returns-in-Zb-clause-statuses
 returns-in-Zb-clause-statuses g c = λ asked.
-    task_statuses (Some c.args.line.now) (task_seen c.of-work-in-Zb.result) _ c.check-in-Zb.result
+    let r : Run =
+    run_between asked (outside (g.F.Files.state c.args.files.now) (g.O.Out.state c.args.out.now))
+    (outside (g.F.Files.state c.check-in-Zb.new.files) (g.O.Out.state c.check-in-Zb.new.out)) in
+    task_statuses (Some c.args.line.now) (task_seen c.of-work-in-Zb.result) r c.check-in-Zb.result
     (zb_asks c.args.line.now _ (task_seen c.of-work-in-Zb.result) c.in-Zb.is c.of-work-in-Zb.ensures.task)
     (c.check-in-Zb.ensures.causes asked)
 
 pub returns-in-List-clause-ends : goal.returns-in-List-clause-ends
 returns-in-List-clause-ends g c = λ asked.
     list_ends c.args.line.now _ c.put_report.result _ c.bytes-in-List.result.now c.in-List.is c.bytes-in-List.ensures
-    (names_end asked _ _ _ c.list.ensures.kept refl c.list.ensures.faults_grow (le_itself _)
-    (omega (arith, c.put_report.ensures.misses_kept)) c.put_report.ensures.faults_grow c.bytes-in-List.result.now
-    c.list.result c.put_report.result c.list.ensures.says c.put_report.ensures.puts)
+    (names_end asked
+    (outside (g.F.Files.state c.args.files.now) (g.O.Out.state c.args.out.now))
+    (outside (g.F.Files.state c.list.new.files) (g.O.Out.state c.args.out.now))
+    (outside (g.F.Files.state c.put_report.new.files) (g.O.Out.state c.put_report.new.out))
+    c.list.ensures.kept refl c.list.ensures.unwritten refl c.list.ensures.faults_grow
+    (le_itself (g.O.Out.state c.args.out.now).faults)
+    (omega (arith, c.put_report.ensures.misses_kept)) c.put_report.ensures.faults_grow c.put_report.ensures.unheard
+    c.bytes-in-List.result.now c.list.result c.put_report.result c.list.ensures.says c.list.ensures.read_on
+    c.put_report.ensures.puts)
 
 pub returns-in-List-clause-statuses : goal.returns-in-List-clause-statuses
-returns-in-List-clause-statuses g c = λ asked. list_statuses c.args.line.now _ c.put_report.result _ c.in-List.is
+returns-in-List-clause-statuses g c = λ asked.
+    let r : Run =
+    run_between asked (outside (g.F.Files.state c.args.files.now) (g.O.Out.state c.args.out.now))
+    (outside (g.F.Files.state c.put_report.new.files) (g.O.Out.state c.put_report.new.out)) in
+    list_statuses c.args.line.now r c.put_report.result _ c.in-List.is
 
 pub returns-in-Lrat-clause-ends : goal.returns-in-Lrat-clause-ends
 returns-in-Lrat-clause-ends g c = λ asked.
     lrat_ends c.args.line.now _ c.put_report-in-Lrat.result _ _ c.bytes-in-Lrat.result.now
     c.bytes-in-Lrat-2.result.now c.in-Lrat.is c.bytes-in-Lrat.ensures c.bytes-in-Lrat-2.ensures
-    (certificate_ends asked _ _ _ c.refute-report.ensures.kept refl c.refute-report.ensures.faults_grow (le_itself _)
+    (certificate_ends asked
+    (outside (g.F.Files.state c.args.files.now) (g.O.Out.state c.args.out.now))
+    (outside (g.F.Files.state c.refute-report.new.files) (g.O.Out.state c.args.out.now))
+    (outside (g.F.Files.state c.put_report-in-Lrat.new.files) (g.O.Out.state c.put_report-in-Lrat.new.out))
+    c.refute-report.ensures.kept refl c.refute-report.ensures.unwritten refl c.refute-report.ensures.faults_grow
+    (le_itself (g.O.Out.state c.args.out.now).faults)
     (omega (arith, c.put_report-in-Lrat.ensures.misses_kept)) c.put_report-in-Lrat.ensures.faults_grow
+    c.put_report-in-Lrat.ensures.unheard
     c.bytes-in-Lrat.result.now c.bytes-in-Lrat-2.result.now c.refute-report.result c.put_report-in-Lrat.result
-    c.refute-report.ensures.says c.put_report-in-Lrat.ensures.puts)
+    c.refute-report.ensures.says c.refute-report.ensures.read_on c.put_report-in-Lrat.ensures.puts)
 
 pub returns-in-Lrat-clause-statuses : goal.returns-in-Lrat-clause-statuses
 returns-in-Lrat-clause-statuses g c = λ asked.
-    lrat_statuses c.args.line.now _ c.put_report-in-Lrat.result _ _ c.in-Lrat.is
+    let r : Run =
+    run_between asked (outside (g.F.Files.state c.args.files.now) (g.O.Out.state c.args.out.now))
+    (outside (g.F.Files.state c.put_report-in-Lrat.new.files) (g.O.Out.state c.put_report-in-Lrat.new.out)) in
+    lrat_statuses c.args.line.now r c.put_report-in-Lrat.result _ _ c.in-Lrat.is
 
 pub returns-in-Bench-clause-ends : goal.returns-in-Bench-clause-ends
 returns-in-Bench-clause-ends g c = λ asked.
@@ -76,39 +105,40 @@ returns-in-Bench-clause-ends g c = λ asked.
 
 pub returns-in-Bench-clause-statuses : goal.returns-in-Bench-clause-statuses
 returns-in-Bench-clause-statuses g c = λ asked.
-    bench_statuses c.args.line.now _ c.bench.result c.in-Bench.size c.in-Bench.is
+    let r : Run =
+    run_between asked (outside (g.F.Files.state c.args.files.now) (g.O.Out.state c.args.out.now))
+    (outside (g.F.Files.state c.bench.new.files) (g.O.Out.state c.bench.new.out)) in
+    bench_statuses c.args.line.now r c.bench.result c.in-Bench.size c.in-Bench.is
 
 pub returns-in-List-clause-counts : goal.returns-in-List-clause-counts
 returns-in-List-clause-counts g c =
     put_counts
-    (outside (g.F.Files.held c.args.files.now) (g.F.Files.misses c.args.files.now) (g.F.Files.faults c.args.files.now)
-    (g.O.Out.sent c.args.out.now) (g.O.Out.faults c.args.out.now))
-    (outside (g.F.Files.held c.list.new.files) (g.F.Files.misses c.list.new.files) (g.F.Files.faults c.list.new.files)
-    (g.O.Out.sent c.args.out.now) (g.O.Out.faults c.args.out.now))
-    (outside (g.F.Files.held c.put_report.new.files) (g.F.Files.misses c.put_report.new.files) (g.F.Files.faults c.put_report.new.files)
-    (g.O.Out.sent c.put_report.new.out) (g.O.Out.faults c.put_report.new.out))
+    (outside (g.F.Files.state c.args.files.now) (g.O.Out.state c.args.out.now))
+    (outside (g.F.Files.state c.list.new.files) (g.O.Out.state c.args.out.now))
+    (outside (g.F.Files.state c.put_report.new.files) (g.O.Out.state c.put_report.new.out))
     (record {
       held = c.list.ensures.kept;
       sent = refl;
+      written = c.list.ensures.unwritten;
+      taken = refl;
       faults = c.list.ensures.faults_grow;
-      out_faults = le_itself (g.O.Out.faults c.args.out.now);
+      out_faults = le_itself (g.O.Out.state c.args.out.now).faults;
     })
     refl c.list.result c.put_report.result c.list.ensures.told c.put_report.ensures.puts c.put_report.ensures.quiet
 
 pub returns-in-Lrat-clause-counts : goal.returns-in-Lrat-clause-counts
 returns-in-Lrat-clause-counts g c =
     put_counts
-    (outside (g.F.Files.held c.args.files.now) (g.F.Files.misses c.args.files.now) (g.F.Files.faults c.args.files.now)
-    (g.O.Out.sent c.args.out.now) (g.O.Out.faults c.args.out.now))
-    (outside (g.F.Files.held c.refute-report.new.files) (g.F.Files.misses c.refute-report.new.files) (g.F.Files.faults c.refute-report.new.files)
-    (g.O.Out.sent c.args.out.now) (g.O.Out.faults c.args.out.now))
-    (outside (g.F.Files.held c.put_report-in-Lrat.new.files) (g.F.Files.misses c.put_report-in-Lrat.new.files) (g.F.Files.faults c.put_report-in-Lrat.new.files)
-    (g.O.Out.sent c.put_report-in-Lrat.new.out) (g.O.Out.faults c.put_report-in-Lrat.new.out))
+    (outside (g.F.Files.state c.args.files.now) (g.O.Out.state c.args.out.now))
+    (outside (g.F.Files.state c.refute-report.new.files) (g.O.Out.state c.args.out.now))
+    (outside (g.F.Files.state c.put_report-in-Lrat.new.files) (g.O.Out.state c.put_report-in-Lrat.new.out))
     (record {
       held = c.refute-report.ensures.kept;
       sent = refl;
+      written = c.refute-report.ensures.unwritten;
+      taken = refl;
       faults = c.refute-report.ensures.faults_grow;
-      out_faults = le_itself (g.O.Out.faults c.args.out.now);
+      out_faults = le_itself (g.O.Out.state c.args.out.now).faults;
     })
     refl c.refute-report.result c.put_report-in-Lrat.result c.refute-report.ensures.told
     c.put_report-in-Lrat.ensures.puts c.put_report-in-Lrat.ensures.quiet

@@ -6,8 +6,5 @@ use Rattle.rvf_report.proofs.delivering.deliver.Given as goal
 abbrev pub invariant-loop-delivery : goal.invariant-loop-delivery
 invariant-loop-delivery g l =
     SoFar
-    (outside (g.F.Files.held l.fn.files) (g.F.Files.misses l.fn.files) (g.F.Files.faults l.fn.files)
-    (g.O.Out.sent l.fn.out) (g.O.Out.faults l.fn.out))
-    (outside (g.F.Files.held l.files) (g.F.Files.misses l.files) (g.F.Files.faults l.files) (g.O.Out.sent l.out)
-    (g.O.Out.faults l.out))
-    l.delivery-index l.fn.deliveries
+    (outside (g.F.Files.state l.fn.files) (g.O.Out.state l.fn.out))
+    (outside (g.F.Files.state l.files) (g.O.Out.state l.out)) l.delivery-index l.fn.deliveries

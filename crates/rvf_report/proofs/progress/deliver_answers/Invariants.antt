@@ -10,9 +10,7 @@ invariant-loop-answer g l =
       placed : l.progress.place ≡ l.fn.before.place + length l.yielded;
       tallied : g.Q.Inquiry.tallied l.inquiry l.progress.place l.progress.tally;
       stands : (first : Outside) → Stands (g.Q.Inquiry.plan l.inquiry) first
-          (outside (g.F.Files.held l.fn.files) (g.F.Files.misses l.fn.files) (g.F.Files.faults l.fn.files)
-          (g.O.Out.sent l.fn.out) (g.O.Out.faults l.fn.out)) l.fn.before.place l.fn.before.tally
+          (outside (g.F.Files.state l.fn.files) (g.O.Out.state l.fn.out)) l.fn.before.place l.fn.before.tally
           → Stands (g.Q.Inquiry.plan l.inquiry) first
-          (outside (g.F.Files.held l.files) (g.F.Files.misses l.files) (g.F.Files.faults l.files)
-          (g.O.Out.sent l.out) (g.O.Out.faults l.out)) l.progress.place l.progress.tally;
+          (outside (g.F.Files.state l.files) (g.O.Out.state l.out)) l.progress.place l.progress.tally;
     }

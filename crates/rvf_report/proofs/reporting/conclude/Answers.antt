@@ -8,6 +8,7 @@ returns-in-Ok g c =
     record {
       concluded = concludes (g.Q.Inquiry.plan c.args.inquiry.now) c.status.result c.in-Ok.tally _ _
           c.status.ensures.value c.status.ensures.own c.in-Ok.ensures.0;
+      unheard = c.in-Ok.ensures.1.heard;
       misses_kept = c.in-Ok.ensures.1.misses;
       faults_grow = omega (arith, c.in-Ok.ensures.1.faults);
       out_faults_grow = omega (arith, c.in-Ok.ensures.1.out_faults);
@@ -22,6 +23,7 @@ returns-in-Err-Failed g c =
     cut_by plan _ _ c.in-Err-Failed.field-0 out.Failed c.in-Err-Failed.field-0-is c.in-Err-Failed.ensures in
     record {
       concluded = breaks plan _ _ cut;
+      unheard = cut.counts.heard;
       misses_kept = cut.counts.misses;
       faults_grow = cut.counts.faults;
       out_faults_grow = cut.counts.out_faults;
@@ -35,6 +37,7 @@ returns-in-Err-Memory g c =
     cut_by plan _ _ c.in-Err-Memory.field-0 out.Memory c.in-Err-Memory.field-0-is c.in-Err-Memory.ensures in
     record {
       concluded = wants plan _ _ cut;
+      unheard = cut.counts.heard;
       misses_kept = cut.counts.misses;
       faults_grow = omega (arith, cut.counts.faults);
       out_faults_grow = omega (arith, cut.counts.out_faults);

@@ -10,10 +10,8 @@ invariant-batches g l =
       within : l.progress.place ≤ l.size;
       tallied : g.Q.Inquiry.tallied l.inquiry l.progress.place l.progress.tally;
       stands : Stands (g.Q.Inquiry.plan l.inquiry)
-          (outside (g.F.Files.held l.fn.files) (g.F.Files.misses l.fn.files) (g.F.Files.faults l.fn.files)
-          (g.O.Out.sent l.fn.out) (g.O.Out.faults l.fn.out))
-          (outside (g.F.Files.held l.files) (g.F.Files.misses l.files) (g.F.Files.faults l.files)
-          (g.O.Out.sent l.out) (g.O.Out.faults l.out)) l.progress.place l.progress.tally;
+          (outside (g.F.Files.state l.fn.files) (g.O.Out.state l.fn.out))
+          (outside (g.F.Files.state l.files) (g.O.Out.state l.out)) l.progress.place l.progress.tally;
     }
 
 abbrev pub decreases-batches : goal.decreases-batches
