@@ -6,6 +6,8 @@ import re
 from dataclasses import dataclass, field
 from pathlib import Path
 
+from .text import MADE
+
 
 @dataclass
 class Configuration:
@@ -18,6 +20,11 @@ class Configuration:
         """The instruction set."""
         return self.options().get("isa", "rv32i")
 
+    @property
+    def channels(self) -> int:
+        """How many instructions may retire in a cycle."""
+        return 2 if self.options().get("nret") == "2" else 1
+
     def options(self) -> dict[str, str]:
         """The keys and values of `[options]`."""
         pairs = [line.split(None, 1) for _, line in self.sections.get("options", [])]
@@ -25,7 +32,7 @@ class Configuration:
 
     def kinds_with_defines(self) -> list[str]:
         """The kinds that have lines of their own in `[defines KIND]`."""
-        return [name.split(None, 1)[1] for name in self.sections if name.startswith("defines ")]
+        return [found[1] for found in (re.fullmatch(r"defines (\w+)", name) for name in self.sections) if found]
 
     def defines_of(self, kind: str | None) -> list[str]:
         """The lines before the text of a kind."""
@@ -60,7 +67,7 @@ def filled(name: str, core: str, basedir: str) -> str:
 
 def kind_of(name: str) -> tuple[str, int]:
     """The kind and the channel of a check's name, or of a depth line's first word."""
-    found = re.fullmatch(r"(.*)_ch(\d+)", name)
+    found = re.fullmatch(r"(.*)_ch(\d{1,9})", name)
     kind, channel = (found[1], int(found[2])) if found else (name, 0)
     return ("insn" if kind.startswith("insn_") else kind), channel
 
@@ -81,17 +88,18 @@ def over_one_file(configuration: Configuration, leave: set[str], path: Path) -> 
     """The configuration without the depth lines of some kinds, over one file in the place of all that it names; nothing
     where no depth line is left."""
     text, left = reduced(configuration, leave)
-    lines, spelled = text.splitlines(), str(path)
+    lines, spelled = text.split("\n"), str(path)
     for section, word in (("verilog-files", ""), ("script-sources", "read_verilog ")):
         for at, _ in configuration.sections.get(section, []):
             lines[at - 1] = word + spelled if spelled else "# left out: " + lines[at - 1]
             spelled = ""
-    return "\n".join(lines) + "\n" if left else ""
+    return "\n".join(lines) + f"# {MADE}.\n" if left else ""
 
 
 def read_configuration(path: Path) -> Configuration:
     """Reads the sections of a configuration."""
-    found = Configuration(lines=path.read_text(encoding="utf-8").splitlines())
+    # A line ends by LF alone, as the program has it: a CR or another sign that ends lines elsewhere stays where it is.
+    found = Configuration(lines=path.read_bytes().decode("utf-8").removesuffix("\n").split("\n"))
     section = ""
     for at, raw in enumerate(found.lines, 1):
         line = raw.strip(" \t\r")

@@ -14,7 +14,7 @@ from .memories import memory_problems, write_memory
 from .names import Names
 from .netlist import Bit, Cell, NamedNet, Netlist, Port
 from .registers import plain_registers
-from .text import (MOST_NAMES, MOST_REGISTER_BITS, MOST_WEIGHT, WIDEST, Refused, Signal, Start, Text, in_parts,
+from .text import (MADE, MOST_NAMES, MOST_REGISTER_BITS, MOST_WEIGHT, WIDEST, Refused, Signal, Start, Text, in_parts,
                    ranged)
 
 # Cells that say nothing of what a design does.
@@ -373,7 +373,7 @@ class Converter:
         """The whole text, and what is to be told."""
         text = self.text
         plain = "".join(sign if sign.isprintable() and sign.isascii() else "?" for sign in source)
-        lines = [f"// {plain}", "// Made by companion/from-yosys.py, of which nothing is trusted by a verdict.",
+        lines = [f"// {plain}", f"// {MADE}, of which nothing is trusted by a verdict.",
                  f"module {self.netlist.name} ("]
         lines += ["  " + port + ("," if index + 1 < len(text.ports) else "") for index, port in enumerate(text.ports)]
         lines += [");"] + ["  " + line for line in text.declared + text.items] + ["endmodule", ""]

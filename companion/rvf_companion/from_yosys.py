@@ -11,6 +11,7 @@ from pathlib import Path
 from .configuration import Configuration, kind_of, over_one_file, read_configuration
 from .convert import Converted, Refused, convert
 from .netlist import NoNetlist, read
+from .text import MADE
 from .yosys import Core, YosysFailed, run
 
 
@@ -76,19 +77,43 @@ def deliver_configurations(folder: Path, configuration: Configuration, kinds: li
             print(f"{base}.cfg: the configuration over it")
 
 
-def would_overwrite(folder: Path, names: list[str], given: list[str]) -> str:
-    """The first of the files to be written that is one of those that are read."""
+def would_overwrite(paths: list[Path], given: list[str]) -> str:
+    """The first of the files to be written that is read, or that somebody else made, and why it may not be written;
+    nothing where none is."""
     read_files = {Path(name).resolve() for name in given}
-    paths = [folder / (name + ending) for name in names for ending in (".v", ".names.json", ".cfg")]
-    return next((str(path) for path in paths if path.resolve() in read_files), "")
+    for path in paths:
+        if path.resolve() in read_files:
+            return f"{path} is one of the files that are read"
+        if path.exists() and not is_made_here(path):
+            return f"{path} stands there, and wasn't made by from-yosys.py"
+    return ""
+
+
+def is_made_here(path: Path) -> bool:
+    """Whether a file is one that this script wrote."""
+    try:
+        text = path.read_text(encoding="utf-8")
+        if path.suffix == ".json":
+            table = json.loads(text)
+            return isinstance(table, dict) and all(isinstance(old, str) for old in table.values())
+        return MADE in text
+    except (OSError, ValueError):
+        return False
+
+
+def of_netlist(path: Path, top: str) -> Converted:
+    """Converts a stored netlist, which somebody else may have made."""
+    try:
+        return convert(read(path, top), f"From {path}")
+    except (KeyError, IndexError, ValueError, TypeError, AttributeError) as fault:
+        raise NoNetlist(f"{path} isn't as write_json leaves a netlist: {fault!r}") from None
 
 
 def core_of(asked: argparse.Namespace, configuration: Configuration, kind: str | None) -> Core:
     """The files with what stands before them for a kind."""
     defines = [define_line(word) for word in asked.define] + configuration.defines_of(kind)
-    nret = configuration.options().get("nret", "1")
     return Core(asked.top, [Path(name) for name in asked.files], defines,
-                dict(asked.set), configuration.isa.endswith("c"), int(nret) if nret.isdigit() else 1)
+                dict(asked.set), configuration.isa.endswith("c"), configuration.channels)
 
 
 def main(words: list[str] | None = None) -> int:
@@ -105,13 +130,14 @@ def main(words: list[str] | None = None) -> int:
         configuration = read_configuration(Path(asked.cfg)) if asked.cfg else Configuration()
         kinds = [None, *configuration.kinds_with_defines()] if asked.top == "rvfi_wrapper" else [None]
         names = [asked.top if kind is None else f"{asked.top}.{kind}" for kind in kinds]
-        lost = would_overwrite(folder, names, [*asked.files, asked.netlist or "", asked.cfg or ""])
+        endings = [".v", ".names.json", *([".cfg"] if asked.cfg and asked.top == "rvfi_wrapper" else [])]
+        lost = would_overwrite([folder / (name + ending) for name in names for ending in endings],
+                               [*asked.files, asked.netlist or "", asked.cfg or ""])
         if lost:
-            print(f"from-yosys: {lost} is one of the files that are read: give another folder by --out",
-                  file=sys.stderr)
+            print(f"from-yosys: {lost}: give another folder by --out", file=sys.stderr)
             return 1
         if asked.netlist:
-            deliver(folder, asked.top, convert(read(Path(asked.netlist), asked.top), f"From {asked.netlist}"))
+            deliver(folder, asked.top, of_netlist(Path(asked.netlist), asked.top))
             return 0
         # All are converted before one is written.
         made = [converted(core_of(asked, configuration, kind)) for kind in kinds]
@@ -120,7 +146,7 @@ def main(words: list[str] | None = None) -> int:
         if asked.cfg and asked.top == "rvfi_wrapper":
             deliver_configurations(folder, configuration, kinds)
         return 0
-    except (Refused, YosysFailed, NoNetlist, OSError, UnicodeDecodeError) as refusal:
+    except (Refused, YosysFailed, NoNetlist, OSError, UnicodeError) as refusal:
         for line in str(refusal).splitlines():
             print(f"from-yosys: {line}", file=sys.stderr)
     return 1

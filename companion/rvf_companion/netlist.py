@@ -125,10 +125,15 @@ def read(path: Path, top: str) -> Netlist:
     """Reads the module of that name from a file of `write_json`."""
     try:
         module = json.loads(path.read_text())["modules"].get(top)
+        if module is None:
+            raise NoNetlist(f"{path} has no module {top}")
+        return of_module(top, module)
     except (ValueError, KeyError, TypeError, AttributeError):
         raise NoNetlist(f"{path} is no netlist of write_json") from None
-    if module is None:
-        raise NoNetlist(f"{path} has no module {top}")
+
+
+def of_module(top: str, module: dict) -> Netlist:
+    """A module as the file has it."""
     cells = []
     for name, cell in module["cells"].items():
         directions = cell.get("port_directions", {})

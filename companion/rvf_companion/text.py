@@ -17,6 +17,9 @@ MOST_NAMES = 200_000
 MOST_WEIGHT = 20_000_000
 
 
+# What stands in each file that the converter writes, so that it writes over no other.
+MADE = "Made by companion/from-yosys.py"
+
 # What a part-select finds past the range of its vector, and a division by 0 gives: an undefined bit that no netlist
 # has.
 PAST = "X"

@@ -97,4 +97,5 @@ def refusal(commands: Path) -> str:
     if not done.returncode:
         return ""
     lines = (done.stdout + done.stderr).splitlines()
-    return "\n".join(line for line in lines if re.search(r"ERROR|error", line)) or "\n".join(lines)[-2000:]
+    told = "\n".join(line for line in lines if re.search(r"ERROR|error", line)) or "\n".join(lines)[-2000:]
+    return told or f"yosys ended with the code {done.returncode}, and said nothing"

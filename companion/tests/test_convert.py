@@ -5,9 +5,10 @@ import re
 import unittest
 from dataclasses import replace
 from pathlib import Path
+from unittest import mock
 
 from rvf_companion.choices import merged_choices, shared, without_unreached
-from rvf_companion.convert import Converted, convert
+from rvf_companion.convert import REFUSED, Converted, convert
 from rvf_companion.names import RESERVED, Names, legal
 from rvf_companion.netlist import Cell, read
 from rvf_companion.text import Refused, Text
@@ -179,6 +180,26 @@ class RefusedByName(unittest.TestCase):
         for part in ("a division of 128 bits", "a power: p at data/refused/division.v:2"):
             self.assertIn(part, said)
         self.assertIn("arithmetic of 160 bits", "\n".join(refused("wide")))
+
+    def test_each_kind(self) -> None:
+        """Each kind of cells that has no meaning here is refused by its name, and so is one that isn't known."""
+        netlist = read(NETLISTS / "states.json", "states")
+        cell = next(cell for cell in netlist.cells if cell.kind == "$dff")
+        rest = [other for other in netlist.cells if other is not cell]
+        others = {kind: f"a cell of the kind {kind}" for kind in ("$lut", "other")}
+        for kind, words in {**REFUSED, **others}.items():
+            broken = replace(netlist, cells=[*rest, replace(cell, kind=kind)])
+            with self.subTest(kind), self.assertRaisesRegex(Refused, f"{re.escape(words)}: \\w+ at .*states.v:\\d+"):
+                convert(broken, "From a netlist")
+
+    def test_limits(self) -> None:
+        """What passes a limit of the subset is told with what takes most of it."""
+        names = r"\d+ names, above 100; 31 of them words of memories, the most: registers 31"
+        weight = r"a weight of \d+, too heavy for a check at cycle 1; the most: registers "
+        for limit, words in (("MOST_NAMES", names), ("MOST_WEIGHT", weight)):
+            with self.subTest(limit), mock.patch(f"rvf_companion.convert.{limit}", 100), \
+                    self.assertRaisesRegex(Refused, words):
+                converted("states")
 
     def test_place(self) -> None:
         """The place is that of the text, or of the nearest named net where the cell has none."""

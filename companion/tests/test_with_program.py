@@ -136,6 +136,25 @@ class Verdicts(unittest.TestCase):
                 lines = verdicts(f"[depth]\ninsn {depth}\n", [case.wrapper, made], Path(name))
                 self.assertEqual(lines[-1], f"total pass {many} fail {37 - many} spent 0 skip 0")
 
+    @needs("rvf", "yosys")
+    def test_kinds(self) -> None:
+        """A wrapper that is converted once for each kind with defines of its own: each has the kind's verdict."""
+        free = "".join(f"`rvformal_rand_reg [{width - 1}:0] {name};\nassign rvfi_{name} = {name};\n"
+                       for name, width in FIELDS[1:])
+        text = ("module rvfi_wrapper (input clock, input reset, `RVFI_OUTPUTS);\n"
+                f"`ifdef QUIET\nassign rvfi_valid = 0;\n`else\nassign rvfi_valid = 1;\n`endif\n{free}endmodule\n")
+        with tempfile.TemporaryDirectory() as name, contextlib.redirect_stdout(io.StringIO()):
+            folder = Path(name)
+            (folder / "out").mkdir()
+            cfg = "[depth]\nill 1\nreg 1 2\n[defines reg]\n`define QUIET\n"
+            self.assertEqual(verdicts(cfg, [text], folder)[:2], ["fail ill_ch0", "pass reg_ch0"])
+            words = ["--cfg", str(folder / "checks.cfg"), "--out", str(folder / "out"), str(folder / "text0.v")]
+            self.assertEqual(from_yosys(["--top", "rvfi_wrapper", *words]), 0)
+            for made, line in (("rvfi_wrapper.cfg", "fail ill_ch0"), ("rvfi_wrapper.reg.cfg", "pass reg_ch0")):
+                done = subprocess.run([program(), "run", str(folder / "out" / made), name], capture_output=True,
+                                      text=True, check=False)
+                self.assertEqual(done.stdout.splitlines()[0], line)
+
     def judge_picorv32(self, cfg: str, before: str, behind: str) -> set[str]:
         """The checks of PicoRV32, with a fault or as it stands, that fail; all others pass."""
         wrapper = (cores.CORES / "wrapper_picorv32.v").read_text()

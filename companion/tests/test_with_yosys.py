@@ -148,7 +148,8 @@ class Command(unittest.TestCase):
         for name, kinds in (("rvfi_wrapper", ["ill 1", "# left out: reg 1 2"]),
                             ("rvfi_wrapper.reg", ["# left out: ill 1", "reg 1 2"])):
             self.assertEqual((self.folder / f"{name}.cfg").read_text().splitlines()[5:],
-                             [*kinds, "[verilog-files]", f"{self.folder}/{name}.v", "# left out: other.v"])
+                             [*kinds, "[verilog-files]", f"{self.folder}/{name}.v", "# left out: other.v",
+                              "# Made by companion/from-yosys.py."])
         self.assertIn("assign q = a;", (self.folder / "rvfi_wrapper.v").read_text())
         self.assertIn("assign q = ~a;", (self.folder / "rvfi_wrapper.reg.v").read_text())
         self.assertEqual(json.loads((self.folder / "rvfi_wrapper.names.json").read_text())["a"], "a")
