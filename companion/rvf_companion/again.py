@@ -11,6 +11,7 @@ from pathlib import Path
 from .configuration import Configuration, kind_of
 from .run_lines import Check
 
+KEPT = {"name", "verdict", "seconds", "batch", "budget"}
 ENDINGS = {"pass": (".cnf", ".lrat"), "spent": (".cnf", ".lrat"), "fail": (".vcd",)}
 
 
@@ -38,12 +39,18 @@ def sum_of(path: Path) -> str:
     return found.hexdigest()
 
 
+def itself(program: Path) -> Path:
+    """The program itself: `./rvf` of this repository is a script that builds it and then runs it."""
+    built = program.resolve().parent / "crates" / "rvf" / "out" / "rvf"
+    return built if built.exists() else program
+
+
 def inputs_of(call: Call, configuration: Configuration) -> dict:
     """What the checks are made from: the sums of the program, of the configuration and of its files, and the
     options."""
     program = shutil.which(call.program)
     names = configuration.files(call.core, call.basedir)
-    return {"program": sum_of(Path(program)) if program else "", "cfg": sum_of(call.cfg),
+    return {"program": sum_of(itself(Path(program))) if program else "", "cfg": sum_of(call.cfg),
             "files": {name: sum_of(Path(name)) for name in names}, "core": call.core, "basedir": call.basedir}
 
 
@@ -66,10 +73,11 @@ def former(call: Call, inputs: dict) -> Former:
     try:
         report = json.loads((call.outdir / "report.json").read_text())
         checks = {one["name"]: one for one in [*report["before"], *report["checks"]]}
+        is_whole = all(KEPT <= one.keys() and one["verdict"] in ENDINGS for one in checks.values())
         sums = report["sums"]
-        if sums["inputs"] == inputs and "" not in inputs["files"].values():
-            return Former(checks, sums["outputs"])
-    except (OSError, ValueError, KeyError, TypeError):
+        if is_whole and sums["inputs"] == inputs and "" not in inputs["files"].values():
+            return Former(checks, dict(sums["outputs"]))
+    except (OSError, ValueError, KeyError, TypeError, AttributeError):
         pass
     return Former({}, {})
 

@@ -24,12 +24,12 @@ class Refusal:
 
 def parted(line: str) -> Refusal | None:
     """The parts of a refusal line; nothing where it is no refusal line."""
-    found = re.fullmatch(r"source (\w+) (\d+) (\S.*?|-) (\S+)", line)
+    found = re.fullmatch(r"source (\w+) (\d{1,9}) (\S.*?|-) (\S+)", line)
     if found and f"{found[1]} {found[2]}" in TABLE:
-        place = re.fullmatch(r"(.*):(\d+):(\d+)", found[3])
+        place = re.fullmatch(r"(.*):(\d{1,9}):(\d{1,9})", found[3])
         file, at, column = (place[1], int(place[2]), int(place[3])) if place else ("", 0, 0)
         return Refusal(f"{found[1]} {found[2]}", file, at, column, "" if found[4] == "-" else found[4])
-    found = re.fullmatch(r"config (\d+) (\d+) (.*)", line)
+    found = re.fullmatch(r"config (\d{1,9}) (\d{1,9}) (.*)", line)
     if found and f"config {found[1]}" in TABLE:
         return Refusal(f"config {found[1]}", "", int(found[2]), 0, "" if found[3] == "-" else found[3])
     found = re.fullmatch(r"code (\d+)", line)
@@ -46,7 +46,8 @@ def shown(text: str, line: int, column: int) -> list[str]:
     lines = text.split("\n")
     if not 1 <= line <= len(lines):
         return []
-    spelled = lines[line - 1].rstrip("\r").replace("\t", " ")
+    # A sign without a shape of its own takes one place, so that the caret stays under its own.
+    spelled = "".join(sign if sign.isprintable() else " " for sign in lines[line - 1].rstrip("\r"))
     mark = f"{line:5} | "
     found = [mark + spelled]
     return found + [" " * 5 + " | " + " " * (column - 1) + "^"] if column else found
@@ -55,8 +56,8 @@ def shown(text: str, line: int, column: int) -> list[str]:
 def text_of(path: str) -> str:
     """The text of a file, or nothing where it can't be read."""
     try:
-        return Path(path).read_text(encoding="utf-8", errors="replace")
-    except OSError:
+        return Path(path).read_bytes().decode("utf-8", "replace")
+    except (OSError, ValueError):
         return ""
 
 
@@ -77,6 +78,6 @@ def explain(line: str, cfg: str = "") -> list[str]:
         found = construct_at(text, refusal.line, refusal.column)
         if found:
             lines.append(f"this looks like {found.name}: {found.instead}")
-    for other in re.findall(r"([^,\s]+):(\d+):(\d+)", refusal.detail):
+    for other in re.findall(r"([^,\s]+):(\d{1,9}):(\d{1,9})", refusal.detail):
         lines += [f"and {other[0]}:{other[1]}:{other[2]}"] + shown(text_of(other[0]), int(other[1]), int(other[2]))
     return lines + [f"what to do: {entry['advice']}"]

@@ -65,15 +65,18 @@ def failing(shown: Shown) -> str:
             f'<div class="scroll">{shown.picture}</div>\n<p>All of the trace: <code>{escape(shown.command)}</code></p>')
 
 
-def page(run: Run, checks: list[Shown], explained: list[str], title: str) -> str:
-    """The whole page."""
+def page(run: Run, checks: list[Shown], explained: list[str], title: str, before: str = "") -> str:
+    """The whole page; where the one of a run before this one was moved, `before` is its new name."""
     parts = ["<!DOCTYPE html>", '<html lang="en"><head><meta charset="utf-8">', f"<title>{escape(title)}</title>",
              f"<style>{STYLE}</style></head><body>", f"<h1>{escape(title)}</h1>",
              f"<p>{run.count('pass')} pass, {run.count('fail')} fail, {run.count('spent')} spent, "
              f"{len(run.skipped)} skipped; {run.seconds:.1f} s. This page was made by the companion, of which nothing "
              "is trusted by a verdict.</p>"]
-    if run.code in (8, 11) or not run.ended() or run.refusal:
+    if not run.ended() or run.refusal:
         parts.append(f'<p class="notice">{escape(run.end())}</p>')
+    if before:
+        parts.append(f'<p class="notice">The page of a run before this one, which came to its end, is kept as '
+                     f'<a href="{before}">{before}</a>.</p>')
     if explained:
         parts.append("<pre>" + escape("\n".join(explained)) + "</pre>")
     parts += [f'<p class="notice">note {escape(note)}</p>' for note in run.notes]

@@ -2,6 +2,7 @@
 from __future__ import annotations
 
 import argparse
+import io
 import subprocess
 import sys
 import time
@@ -10,7 +11,9 @@ from typing import Iterable
 
 from .configuration import read_configuration
 from .reports import Setting, write_reports
-from .run_lines import Run
+from .run_lines import WITHOUT_A_LINE, Run
+from .screen import Screen
+from .written import NAMES, would_overwrite
 
 
 def beside() -> str:
@@ -43,44 +46,33 @@ def how_many(program: str, cfg: str) -> int | None:
     return len(done.stdout.splitlines()) if done.returncode == 0 else None
 
 
-def progress(run: Run, total: int | None, screen) -> None:
-    """One line on a terminal: checks done, of how many, and the time so far."""
-    if screen is None or not screen.isatty():
-        return
-    done = f"{len(run.checks)} of {total}" if total else str(len(run.checks))
-    minutes, seconds = divmod(int(run.seconds), 60)
-    screen.write(f"\r{done} checks, {run.count('fail')} fail, {minutes}:{seconds:02} \x1b[K")
-    screen.flush()
-
-
-def clear(screen) -> None:
-    """Takes the line of progress away, so that another one stands in its place."""
-    if screen is not None and screen.isatty():
-        screen.write("\r\x1b[K")
-        screen.flush()
-
-
-def follow(lines: Iterable[str], run: Run, total: int | None, screen, begun: float) -> None:
+def follow(lines: Iterable[str], run: Run, screen: Screen) -> None:
     """Takes lines as they come."""
     try:
-        for line in lines:
-            run.take(line.rstrip("\r\n"), time.monotonic() - begun)
-            progress(run, total, screen)
+        with screen:
+            for line in lines:
+                run.take(line.rstrip("\r\n"), time.monotonic() - screen.begun)
+                screen.show()
     except KeyboardInterrupt:
         run.others.append("the run was interrupted")
-    run.seconds = max(run.seconds, time.monotonic() - begun) if not run.ended() else run.seconds
-    if screen is not None and screen.isatty():
-        screen.write("\n")
+    if not run.ended():
+        run.seconds = time.monotonic() - screen.begun
 
 
-def problem(setting: Setting, run: Run) -> str:
-    """Why no report is made, if none is."""
+def no_place(setting: Setting) -> str:
+    """Why no report can be written into the folder; nothing where it can."""
     if not setting.outdir.is_dir():
         return f"{setting.outdir} is no folder, so nothing was written"
-    if not run.is_ours() and run.code not in (8, 11):
-        first = f": the first was {run.others[0]!r}" if run.others else ", and there was none"
-        return f"no line was one of rvf{first}; nothing was written"
-    return ""
+    lost = would_overwrite(setting.outdir, NAMES, setting.read())
+    return f"{lost}, so nothing was written: give another folder" if lost else ""
+
+
+def no_lines(run: Run) -> str:
+    """Why nothing can be said of the run; nothing where something can."""
+    if run.is_ours() or run.code in WITHOUT_A_LINE:
+        return ""
+    first = f": the first was {run.others[0]!r}" if run.others else ", and there was none"
+    return f"no line was one of rvf{first}; nothing was written"
 
 
 def main(words: list[str] | None = None) -> int:
@@ -91,14 +83,18 @@ def main(words: list[str] | None = None) -> int:
     try:
         configuration = read_configuration(Path(asked.cfg))
         setting = Setting(Path(asked.outdir), configuration, asked.cfg, asked.rvf, asked.core, asked.basedir)
-        if setting.outdir.is_dir():
-            follow(sys.stdin, run, how_many(asked.rvf, asked.cfg), sys.stderr, begun)
-        why = problem(setting, run)
+        why = no_place(setting)
+        if not why:
+            # A byte that is of no text is shown as such, and what comes behind it isn't lost.
+            if isinstance(sys.stdin, io.TextIOWrapper):
+                sys.stdin.reconfigure(errors="replace")
+            follow(sys.stdin, run, Screen(run, how_many(asked.rvf, asked.cfg), sys.stderr, begun))
+            why = no_lines(run)
         if not why:
             for path in write_reports(setting, run):
                 print(path)
             return 0
-    except (OSError, UnicodeDecodeError) as fault:
+    except (OSError, UnicodeError) as fault:
         why = str(fault)
     print(f"report: {why}", file=sys.stderr)
     return 1

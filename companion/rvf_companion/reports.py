@@ -18,6 +18,10 @@ from .instructions import Options
 from .page import Shown, page
 from .picture import picture
 from .run_lines import Check, Run
+from .written import NAMES, before
+
+# What may not stand in a text of XML.
+NOT_OF_XML = re.compile("[^\t\n\r\x20-\ud7ff\ue000-\ufffd\U00010000-\U0010ffff]")
 
 
 @dataclass(frozen=True)
@@ -31,6 +35,10 @@ class Setting:
     basedir: str = "."
     sums: dict = field(default_factory=dict)
     before: list[dict] = field(default_factory=list)
+
+    def read(self) -> list[str]:
+        """The names of the files that the run reads."""
+        return [self.cfg, *self.configuration.files(self.core, self.basedir)]
 
 
 def options_of(setting: Setting, run: Run, kind: str) -> Options:
@@ -51,9 +59,8 @@ def asked_of(setting: Setting, run: Run, name: str) -> Asked:
     depths: list[int] = []
     for _, first, numbers in setting.configuration.depths():
         if first == f"{kind}_ch{channel}" or first == kind and not depths:
-            depths = [int(word) for word in numbers if word.isdigit()]
-    nret = setting.configuration.options().get("nret", "1")
-    return Asked(kind, channel, int(nret) if nret.isdigit() else 1, depths, options_of(setting, run, kind))
+            depths = [int(word) for word in numbers if re.fullmatch(r"\d{1,9}", word)]
+    return Asked(kind, channel, setting.configuration.channels, depths, options_of(setting, run, kind))
 
 
 def shown(setting: Setting, run: Run, check: Check) -> Shown:
@@ -75,6 +82,9 @@ def shown(setting: Setting, run: Run, check: Check) -> Shown:
         return found
     asked = asked_of(setting, run, check.name)
     found.lines = findings(dump, asked)
+    if asked.depths and len(dump.cycles) != asked.depths[-1] + 1:
+        found.lines.insert(0, f"the trace has {len(dump.cycles)} cycles, and the check is at cycle {asked.depths[-1]}: "
+                              "is it of another run, or cut off?")
     found.picture = picture(dump, asked.channel, asked.channels)
     return found
 
@@ -82,7 +92,7 @@ def shown(setting: Setting, run: Run, check: Check) -> Shown:
 def clauses_of(path: Path) -> int | None:
     """How many clauses a clause file says that it has."""
     try:
-        with path.open() as file:
+        with path.open(errors="replace") as file:
             for line in file:
                 if line.startswith("p cnf "):
                     return int(line.split()[3])
@@ -94,7 +104,7 @@ def clauses_of(path: Path) -> int | None:
 def steps_of(path: Path) -> int | None:
     """How many clauses the steps of a proof add."""
     try:
-        with path.open() as file:
+        with path.open(errors="replace") as file:
             return sum(line.split(None, 2)[1:2] != ["d"] for line in file if line.strip())
     except OSError:
         return None
@@ -126,7 +136,8 @@ def junit(run: Run, checks: list[Shown], explained: list[str]) -> str:
         case = ElementTree.SubElement(suite, "testcase", classname="run", name="end", time="0")
         ElementTree.SubElement(case, "error", message=run.end()).text = "\n".join(explained)
     ElementTree.indent(suite)
-    return '<?xml version="1.0" encoding="UTF-8"?>\n' + ElementTree.tostring(suite, encoding="unicode") + "\n"
+    text = NOT_OF_XML.sub("?", ElementTree.tostring(suite, encoding="unicode"))
+    return f'<?xml version="1.0" encoding="UTF-8"?>\n{text}\n'
 
 
 def as_json(setting: Setting, run: Run, checks: list[Shown], explained: list[str]) -> str:
@@ -142,16 +153,34 @@ def as_json(setting: Setting, run: Run, checks: list[Shown], explained: list[str
     return json.dumps(whole, indent=1) + "\n"
 
 
+def is_of_ended_run(outdir: Path) -> bool:
+    """Whether the reports in the folder are of a run that came to its end."""
+    try:
+        return json.loads((outdir / "report.json").read_text(encoding="utf-8"))["ended"] is True
+    except (OSError, ValueError, KeyError, TypeError):
+        return False
+
+
 def write_reports(setting: Setting, run: Run) -> list[Path]:
-    """Writes the three files, each as a whole or not at all."""
+    """Writes the three files, each as a whole or not at all. Reports of a run that came to its end get other names
+    where this one was cut off."""
     checks = [shown(setting, run, check) for check in run.checks]
     explained = explain(run.refusal, setting.cfg) if run.refusal else []
-    texts = {"report.xml": junit(run, checks, explained), "report.json": as_json(setting, run, checks, explained),
-             "index.html": page(run, checks, explained, f"rvf run {setting.cfg}")}
-    written = []
-    for name, text in texts.items():
-        path, draft = setting.outdir / name, setting.outdir / f".{name}.new"
-        draft.write_text(text, encoding="utf-8")
-        os.replace(draft, path)
-        written.append(path)
-    return written
+    paths = [setting.outdir / name for name in NAMES]
+    moved = [path for path in paths if path.exists()] if not run.ended() and is_of_ended_run(setting.outdir) else []
+    page_before = before(paths[-1]).name if moved or not run.ended() and before(paths[-1]).exists() else ""
+    texts = [junit(run, checks, explained), as_json(setting, run, checks, explained),
+             page(run, checks, explained, f"rvf run {setting.cfg}", page_before)]
+    drafts = [path.with_name(f".{path.name}.new") for path in paths]
+    try:
+        for draft, text in zip(drafts, texts):
+            draft.write_bytes(text.encode("utf-8", "replace"))
+        for path in moved:
+            os.replace(path, before(path))
+        for draft, path in zip(drafts, paths):
+            os.replace(draft, path)
+    except OSError:
+        for draft in drafts:
+            draft.unlink(missing_ok=True)
+        raise
+    return paths

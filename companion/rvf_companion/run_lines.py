@@ -14,6 +14,7 @@ CODES = {
     11: "no memory was left: fewer jobs, a smaller cycle or budget",
 }
 
+WITHOUT_A_LINE = (8, 11)
 
 # The last lines of the subcommands.
 LAST = r"total pass \d+ fail \d+ spent \d+ skip \d+|bench \d+ pass \d+ fail \d+ spent \d+|refuted \d+"
@@ -49,18 +50,18 @@ class Run:
     def take(self, line: str, at: float) -> None:
         """Takes a line that came so many seconds after the run began; one that isn't known is kept as it is."""
         self.seconds = at
-        found = re.fullmatch(r"(pass|fail) (\S+)|(spent) (\S+) (\d+)", line)
+        found = re.fullmatch(r"(pass|fail) (\S+)|(spent) (\S+) (\d{1,18})", line)
         if found:
             self._check(found[2] or found[4], found[1] or found[3], int(found[5] or 0), at)
         elif line.startswith("note "):
             self.notes.append(line[5:])
         elif re.fullmatch(r"skip \S+", line):
             self.skipped.append(line[5:])
-        elif re.fullmatch(LAST, line):
+        elif not self.total and re.fullmatch(LAST, line):
             self.total = line
         elif re.fullmatch(r"[a-z_0-9]+_ch\d+", line):
             self.listed.append(line)
-        elif not self.checks and parted(line):
+        elif not self.checks and not self.refusal and parted(line):
             self.refusal = line
         elif line.strip():
             self.others.append(line)
@@ -77,16 +78,21 @@ class Run:
         return bool(self.checks or self.notes or self.skipped or self.listed or self.refusal or self.total)
 
     def ended(self) -> bool:
-        """Whether the last line came; a list of checks has none of its own."""
-        return bool(self.total or self.refusal or self.listed)
+        """Whether the run came to its end: its last line came, and its code is none of those that have no line. A list
+        of checks has no last line of its own."""
+        return self.code not in WITHOUT_A_LINE and bool(self.total or self.refusal or self.is_list())
+
+    def is_list(self) -> bool:
+        """Whether these are the lines of a list of checks."""
+        return bool(self.listed) and not self.checks
 
     def end(self) -> str:
         """How the run ended, in words."""
-        if self.code in (8, 11):
+        if self.code in WITHOUT_A_LINE:
             return f"code {self.code}: {CODES[self.code]}"
         if self.refusal:
             return f"refused: {self.refusal}"
-        if self.total or self.listed:
+        if self.total or self.is_list():
             return self.total or f"{len(self.listed)} checks are asked for"
         said = f" (code {self.code})" if self.code is not None else ""
         return (f"the run ended without its last line{said}: it was stopped, a file or the output could not be written "

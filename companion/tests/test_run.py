@@ -7,34 +7,17 @@ import json
 import os
 import pty
 import signal
-import stat
 import subprocess
 import sys
-import tempfile
 import time
-import unittest
 from pathlib import Path
 from unittest import mock
 from xml.etree import ElementTree
 
 from rvf_companion import report, run
 
+from .folder import CFG, SCRIPT, Folder
 from .needs import needs
-
-CFG = """# a comment
-[options]
-isa rv32i
-
-[depth]
-insn 1
-ill 1
-reg 1 1
-
-[verilog-files]
-core.v
-"""
-SCRIPT = ["skip hang", "pass insn_lui_ch0", "fail insn_addi_ch0", "pass ill_ch0", "spent reg_ch0 100",
-          "total pass 2 fail 1 spent 1 skip 1", "code 1"]
 
 
 def heard() -> None:
@@ -42,51 +25,8 @@ def heard() -> None:
     signal.signal(signal.SIGINT, signal.SIG_DFL)
 
 
-class Runs(unittest.TestCase):
-    """A folder with a configuration, a file, and a program."""
-
-    def setUp(self) -> None:
-        """Makes the folder and goes there."""
-        kept = tempfile.TemporaryDirectory()
-        self.addCleanup(kept.cleanup)
-        self.folder = Path(kept.name)
-        (self.folder / "checks.cfg").write_text(CFG)
-        (self.folder / "core.v").write_text("module rvfi_wrapper;\n  wire 3;\nendmodule\n")
-        (self.folder / "out").mkdir()
-        self.program = self.folder / "rvf"
-        self.program.write_text(f"#!/bin/sh\nexec {sys.executable} {Path(__file__).with_name('stand_in.py')} \"$@\"\n")
-        self.program.chmod(self.program.stat().st_mode | stat.S_IXUSR)
-        self.script(SCRIPT)
-        before = os.getcwd()
-        os.chdir(self.folder)
-        self.addCleanup(os.chdir, before)
-
-    def script(self, lines: list[str]) -> None:
-        """What the program answers."""
-        (self.folder / "script").write_text("\n".join(lines) + "\n")
-
-    def run_it(self, *words: str) -> tuple[int, str, str]:
-        """The code of run.py, and what it says."""
-        out, err = io.StringIO(), io.StringIO()
-        with contextlib.redirect_stdout(out), contextlib.redirect_stderr(err):
-            code = run.main(["checks.cfg", "out", "--rvf", str(self.program), *words])
-        return code, out.getvalue(), err.getvalue()
-
-    def report_it(self, lines: str, *words: str) -> tuple[int, str]:
-        """The code of report.py over these lines, and what it says of what is wrong."""
-        err = io.StringIO()
-        with contextlib.redirect_stdout(io.StringIO()), contextlib.redirect_stderr(err), \
-                mock.patch("sys.stdin", io.StringIO(lines)):
-            code = report.main(["out", "--cfg", "checks.cfg", "--rvf", str(self.program), *words])
-        return code, err.getvalue()
-
-    def json(self) -> dict:
-        """The written report."""
-        return json.loads((self.folder / "out" / "report.json").read_text())
-
-    def page(self) -> str:
-        """The written page."""
-        return (self.folder / "out" / "index.html").read_text()
+class Runs(Folder):
+    """What runs leave."""
 
     def test_whole(self) -> None:
         """All lines come through, and all three reports have each check."""
@@ -113,7 +53,9 @@ class Runs(unittest.TestCase):
         code, out, _ = self.run_it("--again", "--budget", "200")
         self.assertEqual([line for line in out.splitlines() if line.startswith(("pass", "fail", "spent"))],
                          ["spent reg_ch0 100"])
-        self.assertEqual(len((self.folder / "out" / "reduced.cfg").read_text().splitlines()), len(CFG.splitlines()))
+        lines = (self.folder / "out" / "reduced.cfg").read_text().splitlines()
+        self.assertEqual(lines, [("# left out: " if line in ("insn 1", "ill 1") else "") + line
+                                 for line in CFG.splitlines()] + ["# Made by companion/run.py."])
         (self.folder / "out" / "ill_ch0.lrat").write_text("")
         _, out, _ = self.run_it("--again", "--budget", "100")
         self.assertIn("pass ill_ch0", out)
@@ -212,7 +154,7 @@ class Runs(unittest.TestCase):
         enough = 1 + 2 * (time.monotonic() - begun)
         self.script(["pass insn_lui_ch0", f"sleep {60 + 2 * enough}"])
         code, _, err = self.run_it("--timeout", str(enough))
-        self.assertEqual(code, 1)
+        self.assertEqual(code, 128 + signal.SIGTERM)
         self.assertIn("ended without its last line", err)
         self.assertEqual([one["name"] for one in self.json()["checks"]], ["insn_lui_ch0"])
 
@@ -226,7 +168,7 @@ class Runs(unittest.TestCase):
             self.assertEqual(process.stdout.readline(), "pass insn_lui_ch0\n")
             process.send_signal(signal.SIGINT)
             _, err = process.communicate(timeout=500)
-        self.assertEqual(process.returncode, 1)
+        self.assertEqual(process.returncode, 128 + signal.SIGTERM)
         self.assertIn("ended without its last line", err)
         self.assertIn("the run was interrupted", self.json()["others"])
         self.assertEqual([one["name"] for one in self.json()["checks"]], ["insn_lui_ch0"])
