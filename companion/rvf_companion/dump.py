@@ -5,8 +5,7 @@ import re
 from dataclasses import dataclass
 from pathlib import Path
 
-FIELDS = ("valid", "order", "insn", "trap", "halt", "intr", "rs1_addr", "rs2_addr", "rs1_rdata", "rs2_rdata", "rd_addr",
-          "rd_wdata", "pc_rdata", "pc_wdata", "mem_addr", "mem_rmask", "mem_wmask", "mem_rdata", "mem_wdata")
+from .rvfi import FIELDS
 
 # Far more than the program's dumps have, whose checks are at cycles up to 100.
 MOST_CYCLES = 1_000

@@ -7,8 +7,9 @@ from __future__ import annotations
 
 from html import escape
 
-from .dump import FIELDS, Dump
+from .dump import Dump
 from .instructions import assembler
+from .rvfi import FIELDS
 
 LEFT, COLUMN, ROW, HEAD = 130, 170, 24, 30
 MOST_CYCLES = 6
@@ -58,6 +59,6 @@ def box(x: float, y: float, content: str, kind: str) -> str:
 
 
 def clock(cycles: int) -> str:
-    """The line of the clock, which rises at the end of each cycle."""
-    steps = "".join(f" h{COLUMN / 2:g} v-14 h{COLUMN / 2:g} v14" for _ in range(cycles))
+    """The line of the clock: with its rising edge a cycle's values come."""
+    steps = f" v-14 h{COLUMN / 2:g} v14 h{COLUMN / 2:g}" * cycles
     return f'<path d="M{LEFT},{HEAD + 18}{steps}" class="clock"/>'

@@ -6,11 +6,7 @@ import subprocess
 from dataclasses import dataclass, field
 from pathlib import Path
 
-# The fields of RVFI with their widths, in the order of the macros of docs/USER.md.
-FIELDS = [("valid", 1), ("order", 64), ("insn", 32), ("trap", 1), ("halt", 1), ("intr", 1), ("mode", 2), ("ixl", 2),
-          ("rs1_addr", 5), ("rs2_addr", 5), ("rs1_rdata", 32), ("rs2_rdata", 32), ("rd_addr", 5), ("rd_wdata", 32),
-          ("pc_rdata", 32), ("pc_wdata", 32), ("mem_addr", 32), ("mem_rmask", 4), ("mem_wmask", 4), ("mem_rdata", 32),
-          ("mem_wdata", 32)]
+from .rvfi import FIELDS
 
 # What makes a flat netlist of processes; no pass that chooses for an undefined bit.
 FLATTEN = "proc -norom; flatten; memory_collect; opt_clean"
@@ -36,7 +32,7 @@ def macros(core: Core) -> str:
     Yosys defines FORMAL and YOSYS by itself, which rvf doesn't; with FORMAL some cores assume more than they say
     else."""
     many = core.channels
-    names = [(f"rvfi_{name}", width) for name, width in FIELDS]
+    names = [(f"rvfi_{name}", width) for name, width in FIELDS.items()]
     outputs = ", ".join(f"output [{many * width - 1}:0] {name}" for name, width in names)
     wires = " ".join(f"wire [{many * width - 1}:0] {name};" for name, width in names)
     joined = ", ".join(f".{name}({name})" for name, _ in names)

@@ -3,14 +3,11 @@ from __future__ import annotations
 
 import unittest
 
-from rvf_companion.dump import FIELDS, Dump
+from rvf_companion.dump import Dump
 from rvf_companion.findings import Asked, findings
 from rvf_companion.instructions import Options, assembled
 from rvf_companion.picture import picture
-
-WIDTHS = {"valid": 1, "order": 64, "insn": 32, "trap": 1, "halt": 1, "intr": 1, "rs1_addr": 5, "rs2_addr": 5,
-          "rs1_rdata": 32, "rs2_rdata": 32, "rd_addr": 5, "rd_wdata": 32, "pc_rdata": 32, "pc_wdata": 32,
-          "mem_addr": 32, "mem_rmask": 4, "mem_wmask": 4, "mem_rdata": 32, "mem_wdata": 32}
+from rvf_companion.rvfi import FIELDS
 
 
 def dump(*cycles: list[dict[str, int]], **others: int) -> Dump:
@@ -19,14 +16,14 @@ def dump(*cycles: list[dict[str, int]], **others: int) -> Dump:
     found = []
     for retired in cycles:
         values = dict(others)
-        for name in FIELDS:
+        for name, width in FIELDS.items():
             number = 0
             for channel, fields in enumerate(retired):
                 value = fields.get(name, int(bool(fields)) if name == "valid" else 0)
-                number |= value << channel * WIDTHS[name]
+                number |= value << channel * width
             values[f"rvfi_{name}"] = number
         found.append(values)
-    widths = {f"rvfi_{name}": width * channels for name, width in WIDTHS.items()} | {name: 32 for name in others}
+    widths = {f"rvfi_{name}": width * channels for name, width in FIELDS.items()} | {name: 32 for name in others}
     return Dump(widths, found)
 
 

@@ -8,14 +8,14 @@ import unittest
 from pathlib import Path
 
 from rvf_companion.explanation import explain
-from rvf_companion.yosys import FIELDS
+from rvf_companion.rvfi import FIELDS
 
 from .manual import USER, rows
 from .needs import needs, program
 
 # What a wrapper has beside a piece of text.
 HEAD = "module rvfi_wrapper (input clock, input reset, `RVFI_OUTPUTS);\n`rvformal_rand_reg [7:0] a, b, c;\n"
-TAIL = "\n".join(f"assign rvfi_{name} = {width}'d0;" for name, width in FIELDS) + "\nendmodule\n"
+TAIL = "\n".join(f"assign rvfi_{name} = {width}'d0;" for name, width in FIELDS.items()) + "\nendmodule\n"
 PART = "module part (input [7:0] x, output [7:0] y);\nassign y = x;\nendmodule\n"
 
 # For each row of the table 'instead of .. write ..' what is refused, what is read, and a word of what is said of the

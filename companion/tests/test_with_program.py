@@ -10,7 +10,7 @@ import unittest
 from pathlib import Path
 
 from rvf_companion.from_yosys import main as from_yosys
-from rvf_companion.yosys import FIELDS
+from rvf_companion.rvfi import FIELDS
 
 from . import cases, cores, debian
 from .cases import Case, planted
@@ -117,7 +117,7 @@ class Verdicts(unittest.TestCase):
         text = (f"module rvfi_wrapper (input clock, input reset, `RVFI_OUTPUTS);\n{free}{wires}"
                 f"operators one ({joined});\nwire [127:0] heavy = left * right, heavier = heavy * left;\n"
                 f"assign rvfi_valid = {seen} ^ ^heavier;\n"
-                + "".join(f"assign rvfi_{name} = 0;\n" for name, _ in FIELDS[1:]) + "endmodule\n")
+                + "".join(f"assign rvfi_{name} = 0;\n" for name in list(FIELDS)[1:]) + "endmodule\n")
         with tempfile.TemporaryDirectory() as name, contextlib.redirect_stdout(io.StringIO()) as said:
             made = convert("rvfi_wrapper", text + (cores.CORES / "operators.v").read_text(), ".v", Path(name))
             lines = verdicts("[depth]\nill 100\n", [made], Path(name))
@@ -140,7 +140,7 @@ class Verdicts(unittest.TestCase):
     def test_kinds(self) -> None:
         """A wrapper that is converted once for each kind with defines of its own: each has the kind's verdict."""
         free = "".join(f"`rvformal_rand_reg [{width - 1}:0] {name};\nassign rvfi_{name} = {name};\n"
-                       for name, width in FIELDS[1:])
+                       for name, width in list(FIELDS.items())[1:])
         text = ("module rvfi_wrapper (input clock, input reset, `RVFI_OUTPUTS);\n"
                 f"`ifdef QUIET\nassign rvfi_valid = 0;\n`else\nassign rvfi_valid = 1;\n`endif\n{free}endmodule\n")
         with tempfile.TemporaryDirectory() as name, contextlib.redirect_stdout(io.StringIO()):
