@@ -128,13 +128,18 @@ class Verdicts(unittest.TestCase):
     @needs("rvf", "yosys")
     def test_hidden(self) -> None:
         """At a cycle in which nothing can retire all rows pass, also those of instructions that the core doesn't
-        know."""
+        know, and all kinds but those that look at their trigger; under assumptions that contradict each other all
+        pass. The core retires in the cycles 4 and 7, and in none before or between them."""
         case = cases.states()
+        kinds = "ill {0}\nreg 1 {0}\npc_fwd 1 {0}\npc_bwd 1 {0}\ncausal 1 {0}\n"
         with tempfile.TemporaryDirectory() as name:
             made = convert(case.top, case.text, case.suffix, Path(name))
-            for depth, many in ((3, 37), (4, 6)):
-                lines = verdicts(f"[depth]\ninsn {depth}\n", [case.wrapper, made], Path(name))
-                self.assertEqual(lines[-1], f"total pass {many} fail {37 - many} spent 0 skip 0")
+            for cfg, passed, failed in (("insn 3\n" + kinds.format(3) + "unique 1 2 3\nliveness 1 2 3\n", 44, 0),
+                                        ("insn 4\n", 6, 31), (kinds.format(6) + "liveness 1 4 6\n", 5, 1),
+                                        (kinds.format(7) + "liveness 1 4 7\n", 6, 0),
+                                        ("insn 4\nliveness 1 4 6\n[assume]\nword == 1\nword == 2\n", 38, 0)):
+                lines = verdicts(f"[depth]\n{cfg}", [case.wrapper, made], Path(name))
+                self.assertEqual(lines[-1], f"total pass {passed} fail {failed} spent 0 skip 0", cfg)
 
     @needs("rvf", "yosys")
     def test_kinds(self) -> None:
