@@ -1,11 +1,11 @@
 """Fetches a file of a source package of Debian, by apt, into a folder; nothing of it is stored here."""
 from __future__ import annotations
 
+import functools
 import subprocess
 import tarfile
+import tempfile
 from pathlib import Path
-
-PICORV32 = "ice40/benchmark/picorv32.v"
 
 
 def release() -> str:
@@ -30,3 +30,10 @@ def fetch(package: str, name: str, folder: Path) -> Path:
     path = folder / Path(name).name
     path.write_bytes(text)
     return path
+
+
+@functools.cache
+def picorv32() -> str:
+    """The text of PicoRV32, which is fetched once."""
+    with tempfile.TemporaryDirectory() as folder:
+        return fetch("nextpnr", "ice40/benchmark/picorv32.v", Path(folder)).read_text()

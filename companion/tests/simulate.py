@@ -128,3 +128,38 @@ def compare(folder: Path, core: Core, netlist: Netlist, made: Converted, values:
     if not found:
         raise AssertionError(done.stdout + done.stderr)
     return Comparison(*(int(word) for word in found.groups()), done.stdout)
+
+
+def first_cycles(folder: Path, core: Core, wrapper: str, words: list[int]) -> list[int | None]:
+    """For each word the first cycle in which it retires, where it is all that the wrapper's memory has, which answers
+    at once; the core is the wrapper's instance `core`. Nothing where it doesn't retire in the first 30 cycles."""
+    given = "".join(f"  defparam top.core.{name} = {value};\n" for name, value in core.parameters.items())
+    (folder / "first.v").write_text(macros(core) + "".join(path.read_text() for path in core.files) + wrapper + f"""
+module bench;
+  reg clock = 0, reset;
+  reg [31:0] words [0:{len(words) - 1}];
+  wire valid;
+  wire [31:0] insn;
+  integer row, cycle;
+  rvfi_wrapper top (.clock(clock), .reset(reset), .rvfi_valid(valid), .rvfi_insn(insn));
+{given}  initial begin
+    $readmemh("words.hex", words);
+    top.mem_ready = 1;
+    for (row = 0; row < {len(words)}; row = row + 1) begin
+      top.mem_rdata = words[row];
+      for (cycle = 0; cycle < 30; cycle = cycle + 1) begin
+        reset = cycle == 0;
+        #4;
+        if (cycle > 0 && valid === 1 && insn === words[row]) $display("first %0d %0d", row, cycle);
+        clock = 1; #4; clock = 0; #1;
+      end
+    end
+    $finish;
+  end
+endmodule
+""")
+    (folder / "words.hex").write_text("".join(f"{word:08x}\n" for word in words))
+    subprocess.run(["iverilog", "-g2012", "-s", "bench", "-o", "first.out", "first.v"], cwd=folder, check=True)
+    done = subprocess.run(["vvp", "-n", "first.out"], cwd=folder, check=True, capture_output=True, text=True)
+    found = [(int(row), int(cycle)) for row, cycle in re.findall(r"first (\d+) (\d+)", done.stdout)]
+    return [min((cycle for other, cycle in found if other == row), default=None) for row in range(len(words))]

@@ -10,9 +10,11 @@ import unittest
 from pathlib import Path
 
 from rvf_companion.from_yosys import main as from_yosys
+from rvf_companion.instructions import assembled
 from rvf_companion.rvfi import FIELDS
+from rvf_companion.yosys import Core
 
-from . import cases, cores, debian
+from . import cases, cores, debian, simulate
 from .cases import Case, planted
 from .needs import needs, program
 
@@ -160,15 +162,11 @@ class Verdicts(unittest.TestCase):
                                       text=True, check=False)
                 self.assertEqual(done.stdout.splitlines()[0], line)
 
-    def judge_picorv32(self, cfg: str, before: str, behind: str) -> set[str]:
+    def judge_picorv32(self, cfg: str, text: str) -> set[str]:
         """The checks of PicoRV32, with a fault or as it stands, that fail; all others pass."""
-        wrapper = (cores.CORES / "wrapper_picorv32.v").read_text()
         with tempfile.TemporaryDirectory() as name:
-            text = debian.fetch("nextpnr", debian.PICORV32, Path(name)).read_text()
-        with tempfile.TemporaryDirectory() as name:
-            text = planted(text, (before, behind)) if before else text
             made = convert("picorv32", text, ".v", Path(name), "--set", "BARREL_SHIFTER=1")
-            lines = verdicts(ALIGNED + cfg, [wrapper, made], Path(name))
+            lines = verdicts(ALIGNED + cfg, [PICORV32.read_text(), made], Path(name))
         self.assertTrue(lines[-1].startswith("total"), lines)
         self.assertFalse(of_verdict(lines, "spent"))
         return of_verdict(lines, "fail")
@@ -176,22 +174,35 @@ class Verdicts(unittest.TestCase):
     @needs("rvf", "yosys", "network", "time")
     def test_picorv32(self) -> None:
         """PicoRV32 as it stands: all rows and `reg` at cycle 10, and `reg` at 11, the first at which it can fail."""
-        self.assertEqual(self.judge_picorv32("[depth]\ninsn 10\nill 10\nreg 1 10\n", "", ""), set())
-        self.assertEqual(self.judge_picorv32("[depth]\nreg 1 11\n", "", ""), set())
+        text = debian.picorv32()
+        self.assertEqual(self.judge_picorv32("[depth]\ninsn 10\nill 10\nreg 1 10\n", text), set())
+        self.assertEqual(self.judge_picorv32("[depth]\nreg 1 11\n", text), set())
 
-    @needs("rvf", "yosys", "network", "time")
+    @needs("rvf", "yosys", "iverilog", "network", "time")
     def test_picorv32_sum(self) -> None:
-        """A wrong bit of sums: the rows that have one fail."""
-        failed = self.judge_picorv32("[depth]\ninsn 10\n", "alu_out = alu_add_sub;", "alu_out = alu_add_sub ^ 32'd4;")
-        self.assertEqual(failed, {"lui", "auipc", "jalr", "addi", "add", "sub"})
+        """A wrong bit of sums: of the rows whose result or target is one, those fail that can retire in the cycle. What
+        `jalr` goes on with is fetched only when the sum is known, so it retires later than the others."""
+        text = debian.picorv32()
+        sums = ["lui", "auipc", "jalr", "addi", "add", "sub"]
+        with tempfile.TemporaryDirectory() as name:
+            path = Path(name) / "picorv32.v"
+            path.write_text(text)
+            core = Core("picorv32", [path], parameters={"BARREL_SHIFTER": "1"})
+            first = simulate.first_cycles(Path(name), core, PICORV32.read_text(),
+                                          [assembled(row, rd=1) for row in sums])
+        broken = planted(text, ("alu_out = alu_add_sub;", "alu_out = alu_add_sub ^ 32'd4;"))
+        for cycle in (10, 11):
+            self.assertEqual(self.judge_picorv32(f"[depth]\ninsn {cycle}\n", broken),
+                             {row for row, begun in zip(sums, first) if begun <= cycle})
 
     @needs("rvf", "yosys", "network", "time")
     def test_picorv32_register(self) -> None:
         """A register that keeps another number than was said: `reg` fails."""
-        failed = self.judge_picorv32("[depth]\nreg 1 11\n", "cpuregs[latched_rd] <= cpuregs_wrdata;",
-                                     "cpuregs[latched_rd] <= cpuregs_wrdata + 1;")
-        self.assertEqual(failed, {"reg"})
+        broken = planted(debian.picorv32(), ("cpuregs[latched_rd] <= cpuregs_wrdata;",
+                                             "cpuregs[latched_rd] <= cpuregs_wrdata + 1;"))
+        self.assertEqual(self.judge_picorv32("[depth]\nreg 1 11\n", broken), {"reg"})
 
 
 # PicoRV32 reaches memory by whole words.
 ALIGNED = "[defines]\n`define RISCV_FORMAL_ALIGNED_MEM\n"
+PICORV32 = cores.CORES / "wrapper_picorv32.v"
