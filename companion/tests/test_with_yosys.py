@@ -28,6 +28,8 @@ class EqualInSimulation(unittest.TestCase):
             made = convert(netlist, f"From {core.top}")
             found = simulate.compare(Path(folder), core, netlist, made, values, cycles)
         self.assertEqual((found.cycles, found.different), (cycles, 0), found.said)
+        bits = sum(len(port.bits) for port in netlist.ports if port.direction == "output")
+        self.assertLess(2 * found.unknown, bits * cycles, "most of what is compared is undefined")
 
     def of_here(self, name: str, cycles: int = 10_000) -> None:
         """One of the cores of this repository."""
