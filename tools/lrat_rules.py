@@ -28,6 +28,8 @@ def is_comment(words):
 
 def value(word):
     """The number of a word, however long it is."""
+    if len(word) < 19:
+        return int(word)
     digits = word.lstrip(b"-").lstrip(b"0")
     size = int(digits or b"0") if len(digits) < 20 else 10 ** 20
     return -size if word.startswith(b"-") else size
