@@ -1,7 +1,7 @@
 #!/usr/bin/env python3
 """Refuses each request of the built program in turn, and has each read and write move a single byte.
 
-    tools/refuse-calls.py [--program PATH] [--most N] [--only WORD]
+    tools/refuse-calls.py [--program PATH] [--most N] [--only WORD] [--jobs J]
 
 A library (refuse-calls.c, by the C compiler) is put before the program, which counts requests for memory and threads,
 opened files, reads, writes and syncs. Of each case, every one is refused alone, and all from each one on:
@@ -13,10 +13,13 @@ opened files, reads, writes and syncs. Of each case, every one is refused alone,
 - a thread: as in the full run, or code 11 and nothing where none is to be had at first;
 - a read or a write of one byte alone: as in the full run.
 
-With --most at most so many of each kind and case: the first half of them, and the rest spread over all others.
+With --most at most so many of each kind and case: the first half of them, and the rest spread over all others. J (1)
+of them are tried beside each other; files are in memory where the system has /dev/shm.
 """
 import argparse
 import collections
+import concurrent.futures
+import itertools
 import os
 import re
 import shutil
@@ -62,25 +65,27 @@ CORE_FIELDS = dict(valid="valid", order="order", insn="word", rs1_addr="rs", rs1
                    rd_wdata="rd == 0 ? 0 : sum", pc_rdata="at", pc_wdata="at + 4")
 FOUR = "p cnf 2 4\n1 2 0\n1 -2 0\n-1 2 0\n-1 -2 0\n"
 
-# Title, depth lines or None, text, and the words behind the command.
-CASES = [
-    ("silent", ["ill 1", "reg 1 2", "liveness 1 1 2"], wrapper(), "run checks.cfg out"),
-    ("silent-64", ["ill 1", "reg 1 2", "liveness 1 1 2"], wrapper(), "run checks.cfg out --jobs 64"),
-    ("free", ["ill 1"], FREE, "run checks.cfg out"),
-    ("spent", ["ill 1"], wrapper(XY, valid=HARD), "run checks.cfg out --budget 1"),
-    ("refuted", ["ill 1"], wrapper(XY, valid=HARD), "run checks.cfg out --budget 100"),
-    ("core", ["ill 2", "reg 1 3"], wrapper(CORE, **CORE_FIELDS), "run checks.cfg out"),
-    ("refused", ["ill 1"], HEAD + "assign = 1;\n", "run checks.cfg out"),
-    ("list", ["insn 1"], "", "list checks.cfg"),
-    ("lrat", None, "5 1 0 1 2 0\n6 0 5 3 4 0\n", "lrat c.cnf w.v"),
-]
+RUNS_OF_A_PART = 200
+# By its title depth lines or None, the text, and the words behind the command of each case.
+CASES = {
+    "silent": (["ill 1", "reg 1 2", "liveness 1 1 2"], wrapper(), "run checks.cfg out"),
+    "silent-64": (["ill 1", "reg 1 2", "liveness 1 1 2"], wrapper(), "run checks.cfg out --jobs 64"),
+    "free": (["ill 1"], FREE, "run checks.cfg out"),
+    "spent": (["ill 1"], wrapper(XY, valid=HARD), "run checks.cfg out --budget 1"),
+    "refuted": (["ill 1"], wrapper(XY, valid=HARD), "run checks.cfg out --budget 100"),
+    "core": (["ill 2", "reg 1 3"], wrapper(CORE, **CORE_FIELDS), "run checks.cfg out"),
+    "refused": (["ill 1"], HEAD + "assign = 1;\n", "run checks.cfg out"),
+    "list": (["insn 1"], "", "list checks.cfg"),
+    "lrat": (None, "5 1 0 1 2 0\n6 0 5 3 4 0\n", "lrat c.cnf w.v"),
+}
 
 Result = collections.namedtuple("Result", "code out files counts")
 
 
 class Case:
-    def __init__(self, program, library, folder, title, depths, text, words):
-        self.program, self.library, self.title, self.words = program, library, title, words.split()
+    def __init__(self, program, library, folder, title):
+        depths, text, words = CASES[title]
+        self.program, self.library, self.words = program, library, words.split()
         self.folder = os.path.join(folder, title)
         os.makedirs(os.path.join(self.folder, "out"))
         self.write("w.v", text)
@@ -152,22 +157,40 @@ def chosen(count, most):
     if count <= most:
         return range(1, count + 1)
     near = most // 2
-    return sorted(set(range(1, near + 1)) | {near + (count - near) * at // (most - near) for at in range(1, most - near + 1)})
+    far = {near + (count - near) * at // (most - near) for at in range(1, most - near + 1)}
+    return sorted(set(range(1, near + 1)) | far)
 
 
-def tried(case, kind, name, count, most, on):
-    """Prints how many refusals were tried and what they came to."""
+def memory_folder():
+    return tempfile.TemporaryDirectory(dir="/dev/shm" if os.access("/dev/shm", os.W_OK) else None)
+
+
+def tried(job, numbers):
+    """What some refusals came to: how often each code, and what was wrong."""
+    program, library, title, kind, name, on = job
     codes, wrong = collections.Counter(), []
-    numbers = chosen(count, most)
-    for number in numbers:
-        got = case.ran(**{name: number, "refuse_on": int(on)})
-        codes["full" if case.is_full(got) else got.code] += 1
-        if not case.judge(kind, got):
-            wrong.append((number, got.code, got.out[-80:], sorted(got.files)))
-    told = ", ".join(f"{codes[code]} {'as the full run' if code == 'full' else f'code {code}'}"
+    with memory_folder() as folder:
+        case = Case(program, library, folder, title)
+        for number in numbers:
+            got = case.ran(**{name: number, "refuse_on": int(on)})
+            codes["full" if case.is_full(got) else got.code] += 1
+            if not case.judge(kind, got):
+                wrong.append((number, got.code, got.out[-80:], sorted(got.files)))
+    return codes, wrong
+
+
+def told(pool, job, count, most):
+    """Prints how many refusals were tried and what they came to; how many were wrong."""
+    _, _, title, kind, _, on = job
+    codes, wrong, numbers = collections.Counter(), [], chosen(count, most)
+    parts = [numbers[at:at + RUNS_OF_A_PART] for at in range(0, len(numbers), RUNS_OF_A_PART)]
+    for part_codes, part_wrong in pool.map(tried, itertools.repeat(job), parts):
+        codes.update(part_codes)
+        wrong += part_wrong
+    said = ", ".join(f"{codes[code]} {'as the full run' if code == 'full' else f'code {code}'}"
                      for code in sorted(codes, key=str))
-    label = f"{case.title}: {'all from each on' if on else 'each alone'}, {kind}"
-    print(f"{label}: {len(numbers)} of {count}: {told}" + (f"; WRONG {wrong[:5]}" if wrong else ""), flush=True)
+    label = f"{title}: {'all from each on' if on else 'each alone'}, {kind}"
+    print(f"{label}: {len(numbers)} of {count}: {said}" + (f"; WRONG {wrong[:5]}" if wrong else ""), flush=True)
     return len(wrong)
 
 
@@ -176,22 +199,22 @@ def main():
     parser.add_argument("--program", default=os.path.join(HERE, "..", "crates", "rvf", "out", "rvf"))
     parser.add_argument("--most", type=int, default=10 ** 9)
     parser.add_argument("--only", default="")
+    parser.add_argument("--jobs", type=int, default=1)
     words = parser.parse_args()
-    wrong = 0
-    with tempfile.TemporaryDirectory() as folder:
+    wrong, program = 0, os.path.abspath(words.program)
+    with tempfile.TemporaryDirectory() as folder, concurrent.futures.ProcessPoolExecutor(words.jobs) as pool:
         library = os.path.join(folder, "refuse.so")
         source = os.path.join(HERE, "refuse-calls.c")
         subprocess.run(["cc", "-O1", "-shared", "-fPIC", "-o", library, source, "-ldl", "-lpthread"], check=True)
-        for title, *rest in CASES:
-            if words.only in title:
-                case = Case(os.path.abspath(words.program), library, folder, title, *rest)
-                memory, calls, threads = case.full.counts
-                for on in (False, True):
-                    wrong += tried(case, "memory", "refuse_memory", memory, words.most, on)
-                    wrong += tried(case, "call", "refuse_call", calls, words.most, on)
-                    wrong += tried(case, "thread", "refuse_thread", threads, words.most, on)
-                wrong += tried(case, "short", "short_call", calls, words.most, False)
+        for title in [title for title in CASES if words.only in title]:
+            memory, calls, threads = Case(program, library, os.path.join(folder, "full"), title).full.counts
+            for on in (False, True):
+                for kind, name, count in (("memory", "refuse_memory", memory), ("call", "refuse_call", calls),
+                                          ("thread", "refuse_thread", threads)):
+                    wrong += told(pool, (program, library, title, kind, name, on), count, words.most)
+            wrong += told(pool, (program, library, title, "short", "short_call", False), calls, words.most)
     sys.exit(wrong > 0)
 
 
-main()
+if __name__ == "__main__":
+    main()
