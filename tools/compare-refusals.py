@@ -1,13 +1,17 @@
 #!/usr/bin/env python3
 """Compares what `rvf run` refuses in random designs with a second reading of the rules, number, place and detail.
 
-    tools/compare-refusals.py [--texts N] [--seed S] [--jobs J] [--rvf PROGRAM] [--kept FOLDER]
+    tools/compare-refusals.py [--texts N] [--seed S] [--first F] [--jobs J] [--rvf PROGRAM] [--kept FOLDER]
 
-N is 2000, S 1, J the number of processors, PROGRAM the built crates/rvf/out/rvf. Each text is a wrapper with its
+N is 2000, S 1, F 0, J the number of processors, PROGRAM the built crates/rvf/out/rvf. Each text is a wrapper with its
 modules, in which none to three faults were planted: refusals of elaboration, of the order of drivers, of the port, and
-of the weight. Prints how often each refusal was answered, and each kind of difference with a small text that shows it,
-made by leaving out what isn't needed for it; all of them are put into FOLDER where one is given. Ends with 1 where one
-is there.
+of the weight. A text is made by the seed and its number, from F on, so a count may be made in pieces. Prints how often
+each refusal was answered, and of each kind of difference one text that shows it, the shortest, without what isn't
+needed for it; all of them are put into FOLDER where one is given. Ends with 1 where one is there.
+
+The program has 20 seconds of processor time and 2 GB beside its stack: a design that is refused takes less, and one
+that isn't may be judged longer, by up to 100 cycles, so that it counts as accepted and not judged. The reading has 20
+seconds too: nested loops are walked turn by turn.
 
 The reading (refusal_values, refusal_names, refusal_rules, refusal_flow) is a walk over the trees that the text was
 printed from, so it has no parser. It was written from the rules in words, not from the definitions or the code of this
@@ -17,6 +21,7 @@ import argparse
 import concurrent.futures
 import os
 import random
+import signal
 import subprocess
 import sys
 import tempfile
@@ -33,7 +38,8 @@ from refusal_shrink import shrink
 from refusal_trees import show, unshared
 
 HEAVY = 20_000_000
-TOO_LONG = "no answer in 300 s"
+SECONDS, KILOBYTES = 20, 3_200_000
+UNJUDGED = "accepted, not judged"
 ORDER = ["ill", "reg", "pc_fwd", "unique", "imem", "dmem"]
 sys.setrecursionlimit(20_000)
 
@@ -86,7 +92,27 @@ def dash(value):
     return "-" if value is None else str(value)
 
 
+class TooLong(Exception):
+    """The reading takes too long."""
+
+
+def stop(*_):
+    raise TooLong
+
+
 def reading(text):
+    """What the rules ask for, None where it is unknown."""
+    signal.signal(signal.SIGPROF, stop)
+    signal.setitimer(signal.ITIMER_PROF, SECONDS)
+    try:
+        return line_of(text)
+    except TooLong:
+        return None
+    finally:
+        signal.setitimer(signal.ITIMER_PROF, 0)
+
+
+def line_of(text):
     """The line that the rules ask for, `accepted`, or a test of lines where several are right; None where unknown."""
     part = "elab"
     try:
@@ -137,17 +163,19 @@ class Program:
         for word, content in (("w.v", show(text.source)), ("checks.cfg", text.config())):
             with open(os.path.join(self.folder.name, word), "w", encoding="ascii") as file:
                 file.write(content)
-        words = [self.path, "run", "checks.cfg", "out", "--budget", "1"]
-        try:
-            done = subprocess.run(words, cwd=self.folder.name, capture_output=True, text=True, timeout=300, check=False)
-        except subprocess.TimeoutExpired:
-            return TOO_LONG
+        said = f"ulimit -S -t {SECONDS} -v {KILOBYTES} && exec \"$0\" \"$@\""
+        words = ["/bin/sh", "-c", said, self.path, "run", "checks.cfg", "out", "--budget", "1"]
+        done = subprocess.run(words, cwd=self.folder.name, capture_output=True, text=True, check=False)
         first = done.stdout.split("\n")[0]
-        return "accepted" if first.split(" ")[0] in ("pass", "fail", "spent") else first
+        if first.split(" ")[0] in ("pass", "fail", "spent"):
+            return "accepted"
+        return first or (UNJUDGED if done.returncode in (11, -signal.SIGXCPU) else f"code {done.returncode}")
 
 
 def agrees(wanted, got):
-    return wanted(got) if callable(wanted) else wanted == got
+    if callable(wanted):
+        return wanted(got)
+    return got in (wanted, UNJUDGED) if wanted == "accepted" else got == wanted
 
 
 def head(wanted):
@@ -161,68 +189,86 @@ def compare(program, text):
     return reading(text), got
 
 
+def kind_of(wanted, got):
+    """What is counted as one kind of difference: both refusals, and where these are the same what differs in them."""
+    parts = [] if callable(wanted) else zip(("", "", "", "place", "detail"), wanted.split(), got.split())
+    return head(wanted), head(got), next((part for part, one, other in parts if one != other), "")
+
+
 def differs(program, text, kind):
     wanted, got = compare(program, text)
-    return wanted is not None and not agrees(wanted, got) and (head(wanted), head(got)) == kind
+    return wanted is not None and not agrees(wanted, got) and kind_of(wanted, got) == kind
 
 
 def run_part(job):
-    """Compares some texts; answers counts of wanted heads and the differences."""
-    path, seeds, tries = job
+    """Compares some texts; answers counts of wanted heads and the differences, each with the size of its text."""
+    path, seeds = job
     program, counts, found = Program(path), Counter(), []
     for seed in seeds:
         text = make(seed)
         wanted, got = compare(program, text)
-        if wanted is None or got == TOO_LONG:
-            counts["unknown" if wanted is None else TOO_LONG] += 1
-            continue
-        counts[head(wanted)] += 1
-        if not agrees(wanted, got):
-            kind = head(wanted), head(got)
-            small = shrink(text, lambda each: differs(program, each, kind), tries)
-            wanted, got = compare(program, small)
-            wanted = "a loop of drivers" if callable(wanted) else wanted
-            found.append((seed, kind, wanted, got, small.config(), show(small.source)))
+        counts["unknown" if wanted is None else UNJUDGED if got == UNJUDGED else head(wanted)] += 1
+        if wanted is not None and not agrees(wanted, got):
+            found.append((kind_of(wanted, got), len(show(text.source)), seed, answers(wanted, got)))
     return counts, found
 
 
+def answers(wanted, got):
+    return f"the rules: {'a loop of drivers' if callable(wanted) else wanted}\nthe program: {got}\n"
+
+
+def shown(text):
+    return text.config() + show(text.source)
+
+
+def made_small(job):
+    """Both answers and the text of a difference, without what it doesn't need."""
+    path, (kind, _, seed, _), tries = job
+    program = Program(path)
+    small = shrink(make(seed), lambda each: differs(program, each, kind), tries)
+    return answers(*compare(program, small)) + shown(small)
+
+
 def main():
-    words = argparse.ArgumentParser()
+    words = argparse.ArgumentParser(description=__doc__, formatter_class=argparse.RawDescriptionHelpFormatter)
     words.add_argument("--texts", type=int, default=2000)
     words.add_argument("--seed", type=int, default=1)
+    words.add_argument("--first", type=int, default=0)
     words.add_argument("--jobs", type=int, default=os.cpu_count())
     words.add_argument("--tries", type=int, default=300, help="runs that a difference is made smaller by")
     words.add_argument("--rvf", default=os.path.join(HERE, "../crates/rvf/out/rvf"))
     words.add_argument("--kept")
     given = words.parse_args()
-    start, seeds = time.time(), range(given.seed * 1_000_000, given.seed * 1_000_000 + given.texts)
-    jobs = [(os.path.abspath(given.rvf), seeds[at:at + 50], given.tries) for at in range(0, len(seeds), 50)]
+    path, start, first = os.path.abspath(given.rvf), time.time(), given.seed * 1_000_000 + given.first
+    seeds = range(first, first + given.texts)
+    parts = [(path, seeds[at:at + 50]) for at in range(0, len(seeds), 50)]
     counts, found = Counter(), []
     with concurrent.futures.ProcessPoolExecutor(given.jobs) as pool:
-        for part_counts, part_found in pool.map(run_part, jobs):
+        for part_counts, part_found in pool.map(run_part, parts):
             counts.update(part_counts)
             found += part_found
-    for key, count in sorted(counts.items()):
-        print(f"{count:7} {key}")
-    print(f"{given.texts} texts, {len(found)} differences, {time.time() - start:.0f} s")
-    report(found, given.kept)
+        for key, count in sorted(counts.items()):
+            print(f"{count:7} {key}")
+        print(f"{given.texts} texts, {len(found)} differences, {time.time() - start:.0f} s", flush=True)
+        report(found, pool, path, given)
     sys.exit(1 if found else 0)
 
 
-def report(found, folder):
-    """Prints the shortest text of each kind of difference, and keeps all of them."""
+def report(found, pool, path, given):
+    """Prints a small text of each kind of difference, and keeps all of them."""
     kinds = {}
-    for each in found:
-        kinds.setdefault(each[1], []).append(each)
-    for kind, several in sorted(kinds.items()):
-        seed, _, wanted, got, config, text = min(several, key=lambda each: len(each[5]))
-        print(f"\n{len(several)} times: the rules say {kind[0]}, the program {kind[1]}; seed {seed}")
-        print(f"the rules: {wanted}\nthe program: {got}\n{config}{text}")
-    if folder:
-        os.makedirs(folder, exist_ok=True)
-        for seed, kind, wanted, got, config, text in found:
-            with open(os.path.join(folder, f"{seed}.txt"), "w", encoding="ascii") as file:
-                file.write(f"the rules: {wanted}\nthe program: {got}\n{config}{text}")
+    for each in sorted(found):
+        kinds.setdefault(each[0], []).append(each)
+    small = pool.map(made_small, [(path, several[0], given.tries) for several in kinds.values()])
+    for ((wanted, got, part), several), text in zip(kinds.items(), small):
+        seeds = " ".join(str(each[2]) for each in several[:20])
+        print(f"\n{len(several)} times: the rules say {wanted}, the program {got} {part}; {seeds}\n{text}", flush=True)
+    if given.kept:
+        os.makedirs(given.kept, exist_ok=True)
+        for _, _, seed, said in found:
+            text = make(seed)
+            with open(os.path.join(given.kept, f"{seed}.txt"), "w", encoding="ascii") as file:
+                file.write(said + shown(text))
 
 
 if __name__ == "__main__":
