@@ -10,8 +10,8 @@ each refusal was answered, and of each kind of difference one text that shows it
 needed for it; all of them are put into FOLDER where one is given. Ends with 1 where one is there.
 
 The program has 20 seconds of processor time and 2 GB beside its stack: a design that is refused takes less, and one
-that isn't may be judged longer, by up to 100 cycles, so that it counts as accepted and not judged. The reading has 20
-seconds too: nested loops are walked turn by turn.
+that isn't may be judged for longer, by up to 100 cycles, so that it counts as accepted and not judged. The reading has
+20 seconds too: nested loops are walked turn by turn.
 
 The reading (refusal_values, refusal_names, refusal_rules, refusal_flow) is a walk over the trees that the text was
 printed from, so it has no parser. It was written from the rules in words, not from the definitions or the code of this
@@ -38,7 +38,7 @@ from refusal_shrink import shrink
 from refusal_trees import show, unshared
 
 HEAVY = 20_000_000
-SECONDS, KILOBYTES = 20, 3_200_000
+SECONDS, KILOBYTES = 20, 4_100_000
 UNJUDGED = "accepted, not judged"
 ORDER = ["ill", "reg", "pc_fwd", "unique", "imem", "dmem"]
 sys.setrecursionlimit(20_000)
@@ -153,23 +153,21 @@ def is_right_loop(got, is_loop):
 
 
 class Program:
-    """The program in a folder of its own."""
+    """The program in a folder of its own. What isn't refused ends at the first file, as there is no folder for it."""
 
     def __init__(self, path):
         self.path, self.folder = path, tempfile.TemporaryDirectory(prefix="compare-refusals-")
-        os.mkdir(os.path.join(self.folder.name, "out"))
 
     def answer(self, text):
         for word, content in (("w.v", show(text.source)), ("checks.cfg", text.config())):
             with open(os.path.join(self.folder.name, word), "w", encoding="ascii") as file:
                 file.write(content)
         said = f"ulimit -S -t {SECONDS} -v {KILOBYTES} && exec \"$0\" \"$@\""
-        words = ["/bin/sh", "-c", said, self.path, "run", "checks.cfg", "out", "--budget", "1"]
+        words = ["/bin/sh", "-c", said, self.path, "run", "checks.cfg", "absent", "--budget", "1"]
         done = subprocess.run(words, cwd=self.folder.name, capture_output=True, text=True, check=False)
-        first = done.stdout.split("\n")[0]
-        if first.split(" ")[0] in ("pass", "fail", "spent"):
-            return "accepted"
-        return first or (UNJUDGED if done.returncode in (11, -signal.SIGXCPU) else f"code {done.returncode}")
+        if done.stdout:
+            return done.stdout.rstrip("\n")
+        return {8: "accepted", 11: UNJUDGED, -signal.SIGXCPU: UNJUDGED}.get(done.returncode, f"code {done.returncode}")
 
 
 def agrees(wanted, got):

@@ -412,7 +412,7 @@ def latch(design, place):
 
 def two_drivers(design, place):
     rng, word = design.rng, design.fresh("j")
-    form, shape = rng.randrange(7), bounds(num(3), num(0))
+    form, shape = rng.randrange(8), bounds(num(3), num(0))
     clock = place.clock
     if form == 0:
         put_in(design, place, decl("wire", [dname(word, num(0))], shape), assign(target(word, index(num(2))), num(1)))
@@ -433,6 +433,10 @@ def two_drivers(design, place):
         put_in(design, place, decl("reg", [word], shape),
                clocked(clock, put(target(word, index(name("reset"))), num(1), "<=")),
                clocked(clock, put(target(word, index(num(3))), num(1), "<=")))
+    elif form == 6 and design.modules:
+        for each in rng.choice(design.modules).ports:
+            if each.direction == "output" and each.net is None:
+                each.value = each.value or num(rng.randint(0, 1))
     else:
         for _, inst, _ in design.instances:
             nets = [each for each in inst.conns if each.value is not None and each.value.kind == "name"

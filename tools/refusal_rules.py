@@ -298,8 +298,18 @@ class Reader:
             self.drivers.append(Driver(place, "assign", entry.scope, value=entry.node.value, var=entry))
 
     def walk_items(self, items, scope, path):
-        for item in flat_items(items):
+        for item in items:
             getattr(self, "walk_" + item.kind)(item, scope, path)
+
+    def walk_region(self, item, scope, path):
+        self.walk_node(item)
+        self.walk_items(item.items, scope, path)
+
+    def walk_node(self, node):
+        """A node that is refused for nothing but being one too many."""
+        found = []
+        self.count([node], found)
+        self.judge(found)
 
     def walk_decl(self, item, scope, path):
         found, entries = [], []
@@ -504,14 +514,13 @@ class Reader:
         if chosen is None:
             return
         if is_nested(item, chosen):
+            self.walk_node(chosen)
             self.walk_genif(chosen.items[0], scope, path, default)
         else:
             self.walk_block(chosen, scope, path, chosen.label or default)
 
     def walk_block(self, node, scope, path, word, entry=None, turn=None):
-        found = []
-        self.count([node], found)
-        self.judge(found)
+        self.walk_node(node)
         inner = Scope(scope, f"{scope.prefix}{word}.")
         if entry is not None:
             inner.bound[entry] = turn
@@ -551,24 +560,20 @@ class Reader:
         while True:
             inner = self.at_turn(scope, entry, turn, True)
             test = judge_constant(item.test, inner, found)
-            nodes = nodes + self.counted(item.test) if len(turns) < 2 else self.more(nodes, item.test)
+            nodes += self.counted(item.test)
             if test is None or test == 0 or turn is None:
                 if not turns:
                     self.assigned(item.step, inner, found)
-                    nodes = nodes + self.counted(item.step)
+                    nodes += self.counted(item.step)
                 return turns, nodes
             if len(turns) == TURNS:
                 found.append((GEN_LOOP, item.place, None))
                 return turns, nodes
             turns.append(turn)
             turn = self.assigned(item.step, inner, found)
-            nodes = self.more(nodes, item.step)
+            nodes += self.counted(item.step)
             if turn is None:
                 return turns, nodes
-
-    def more(self, nodes, expr):
-        nodes.extend(self.counted(expr))
-        return nodes
 
     def at_turn(self, scope, entry, turn, within):
         inner = scope.child()
