@@ -19,7 +19,7 @@ use Rattle.vl_mean.specs.Declarations.{port_named, ports_of}
 use Rattle.vl_mean.specs.Runs.{Each}
 use Rattle.vl_mean.specs.Scopes.{Scope}
 use Rattle.vl_mean.specs.Walk.{Use, module_around, module_contents, module_scope, top_input, written_ports}
-use Rattle.vl_elab_spec.specs.Meanings.{Meaning, Names, all_later, all_meanings, is_input, is_known_shape}
+use Rattle.vl_elab_spec.specs.Meanings.{Meaning, Names, all_later, all_meanings, is_known_shape, role_of_port}
 use Rattle.vl_elab_spec.specs.Meanings.{is_undeclared, items_meanings, meaning_of, constant, object}
 use Rattle.vl_elab_spec.specs.Meanings.{object_or, port_meanings, undeclared, with_item_constants}
 use Rattle.rvf_simple.specs.SimpleTrees.{IsSimpleItem, IsSimpleKind, IsSimplePort}
@@ -94,7 +94,7 @@ module _ (text : List ℕ) (q : FullPort) where
     -- as it is declared
     abbrev as_declared : FullPort → Meaning
     as_declared p =
-        object_or (is_known_shape ns p.shape.range) (declared_as s.decls p.name) (is_input p.direction)
+        object_or (is_known_shape ns p.shape.range) (declared_as s.decls p.name) (role_of_port p.direction p.net)
         (is_none p.shape.range)
 
     meant_port : (more rest : Names) (ps : List FullPort) → port_named ps text ≡ Some q
@@ -152,16 +152,16 @@ module _ (pos : Pos) (ports : Option (List Port)) (xs : List Item) where
       port_meant text q e =
           let simple : IsSimplePort q = port_is text q IsSimplePort (ports_of ports) (simple_ports ports each) e in
           let d : Decl = port_decl around true top_input q in
-          let input = is_input q.direction in let scalar = is_none q.shape.range in
+          let role = role_of_port q.direction q.net in let scalar = is_none q.shape.range in
           let found : declared_as scope.decls q.name ≡ Some d
           = ap (λ t. declared_as scope.decls t) (sym (name_is text q (ports_of ports) e))
           ∙ declared_port text q around top_input (declared around (items xs)) (ports_of ports) e in
           let meant : meaning_of (own ++ port_meanings scope [] outer (ports_of ports) ++ of_items ++ of_constants) text
-          ≡ object d input scalar
+          ≡ object d role scalar
           = ap (λ o. meaning_of (o ++ port_meanings scope [] outer (ports_of ports) ++ of_items ++ of_constants) text)
           (item_constants scope [] [] behind [] (ports_of ports) xs assigns)
           ∙ meant_port text q scope [] outer of_items of_constants (ports_of ports) e
-          ∙ (λ i. object_or (known_shape outer q.shape.range simple.range i) (found i) input scalar) in
+          ∙ (λ i. object_or (known_shape outer q.shape.range simple.range i) (found i) role scalar) in
           record {
             decl = d;
             is = ap (λ m. if is_undeclared m then undeclared else m) meant;

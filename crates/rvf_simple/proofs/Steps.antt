@@ -10,12 +10,12 @@ use Rattle.vl_mean.specs.Parts.{Part, declares, parts_of_steps, step_parts}
 use Rattle.vl_mean.specs.Runs.{Each}
 use Rattle.vl_mean.specs.Walk.{Step}
 use Rattle.vl_elab_spec.specs.declared.elab_fault.ElabFault.TheVariants as f
-use Rattle.vl_elab_spec.specs.Counts.{step_names, step_nodes, step_pos}
+use Rattle.vl_elab_spec.specs.Counts.{step_names, step_nodes}
 use Rattle.vl_elab_spec.specs.Expressions.{refused_if}
 use Rattle.vl_elab_spec.specs.Items.{step_refusals}
 use Rattle.vl_elab_spec.specs.Meanings.{is_variable_class}
 use Rattle.vl_elab_spec.specs.Refused.{Totals, class_bits, counted, first_refused, lowest, or_later}
-use Rattle.vl_elab_spec.specs.Refused.{state_bits}
+use Rattle.vl_elab_spec.specs.Refused.{large_pos, state_bits}
 
 pub each_both : {A : Type 0} (P : A → Type 0) (xs ys : List A) → Each P xs → Each P ys → Each P (xs ++ ys)
 each_both P [] ys h k = k
@@ -57,7 +57,7 @@ unrefused_steps ms t (x ∷ xs) h few fewer =
     = not_past 4000000 (t.nodes + step_nodes x) (omega (arith, few)) in
     let names : nat_lt 200000 (t.names + step_names x) ≡ false
     = not_past 200000 (t.names + step_names x) (omega (arith, fewer)) in
-    (λ i. or_later (lowest (h.0 i ++ refused_if (nodes i || names i) (f.TooLarge (step_pos x))))
+    (λ i. or_later (lowest (h.0 i ++ refused_if (nodes i || names i) (f.TooLarge (large_pos t x))))
     (first_refused ms (counted t x) xs))
     ∙ unrefused_steps ms (counted t x) xs h.1 (omega (arith, few)) (omega (arith, fewer))
 

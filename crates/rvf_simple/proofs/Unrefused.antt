@@ -75,13 +75,13 @@ module _ (ms : List Module) (pos : Pos) (ports : Option (List Port)) (xs : List 
   abbrev top_place : List (List ℕ) → Place
   top_place earlier = with_earlier (module_place (wrapper pos ports xs) top_use [] []) earlier
 
-  port_unrefused : (earlier : List (List ℕ)) (p : Pos) (q : FullPort) → IsSimplePort q
+  port_unrefused : (earlier : List (List ℕ)) (p : Port) (q : FullPort) → IsSimplePort q
       → contains_name earlier q.name ≡ false → IsUnrefused ms (port (top_place earlier) top_use p q)
   port_unrefused earlier p q simple new =
       let ns : List Names = names pos ports xs in
-      λ i. refused_if (new i) (f.Twice q.name p) ++ range_fine ns q.shape.range simple.range i
-      ++ width_fine ns p q.shape.range simple.range i
-      ++ given_value ns p (port_net q.net) q.name (simple.no_value i)
+      λ i. refused_if (new i) (f.Twice q.name p.pos) ++ range_fine ns q.shape.range simple.range i
+      ++ width_fine ns p.pos q.shape.range simple.range i
+      ++ given_value ns p.pos (port_net q.net) q.name (simple.no_value i)
 
   ports_harmless : (earlier : List (List ℕ)) (last : Option FullPort) (ps : List Port)
       → Each (λ p. IsSimpleKind p.kind) ps → AreNew earlier (port_names (full_ports last ps))
@@ -103,7 +103,7 @@ module _ (ms : List Module) (pos : Pos) (ports : Option (List Port)) (xs : List 
       by p (Full q) simple new rest =
           let more = rest q new.1 in
           record {
-            unrefused = (port_unrefused earlier p q simple new.0, more.unrefused);
+            unrefused = (port_unrefused earlier (record { pos = p; kind = Full q }) q simple new.0, more.unrefused);
             held = (port_held q (top_place earlier).scopes simple, more.held);
             nodes_are = omega (arith, more.nodes_are);
             names_are = omega (arith, more.names_are);

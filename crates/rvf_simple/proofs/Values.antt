@@ -7,6 +7,8 @@ use Rattle.fv_text.specs.declared.pos.Pos.{Pos}
 use Rattle.vl_tree.specs.declared.declaration.Direction.{Direction}
 use Rattle.vl_tree.specs.declared.declaration.Direction.TheVariants as direction
 use Rattle.vl_tree.specs.declared.declaration.FullPort.{FullPort}
+use Rattle.vl_tree.specs.declared.declaration.NetKind.{NetKind}
+use Rattle.vl_tree.specs.declared.declaration.NetKind.TheVariants as net
 use Rattle.vl_tree.specs.declared.declaration.Range.{Range}
 use Rattle.vl_tree.specs.declared.part.Assignment.{Assignment}
 use Rattle.vl_tree.specs.Expr.{Expr, number, name, paren, unary, binary, conditional, cast, whole}
@@ -28,6 +30,7 @@ use Rattle.vl_mean.specs.Runs.{Each}
 use Rattle.vl_mean.specs.Scopes.{Scope, constant_in, is_clock_class}
 use Rattle.vl_mean.specs.Walk.{top_input}
 use Rattle.vl_elab_spec.specs.declared.elab_fault.ElabFault.TheVariants as f
+use Rattle.vl_elab_spec.specs.declared.role.Role.{Role}
 use Rattle.vl_elab_spec.specs.Expressions.{
   divided_by_zero,
   expr_refusals,
@@ -45,6 +48,7 @@ use Rattle.vl_elab_spec.specs.Expressions.{
 use Rattle.vl_elab_spec.specs.Items.{assignments_refusals, range_refusals, width_refusals}
 use Rattle.vl_elab_spec.specs.Meanings.{Names, bound, constants, declared_width, is_input, is_known}
 use Rattle.vl_elab_spec.specs.Meanings.{is_known_bound, is_known_range, is_known_shape, meaning_in, object, objects}
+use Rattle.vl_elab_spec.specs.Meanings.{role_of_port}
 use Rattle.vl_elab_spec.specs.Statements.{assigned_in, assigned_refusals, may_be_assigned}
 use Rattle.vl_elab_spec.specs.Statements.{target_refusals, target_selects, target_width}
 use Rattle.rvf_simple.specs.SimpleTrees.{IsAssignable, IsNumberUpTo, IsReadable, IsSimpleAssignment, IsSimpleExpr}
@@ -133,7 +137,7 @@ module _ (ns : List Names) where
 -- what the name of a port means
 pub record IsMeant (ns : List Names) (text : List ℕ) (q : FullPort) : Type 0 where
   pub decl : Decl
-  pub is : meaning_in ns text ≡ object decl (is_input q.direction) (is_none q.shape.range)
+  pub is : meaning_in ns text ≡ object decl (role_of_port q.direction q.net) (is_none q.shape.range)
   pub no_words : decl.words ≡ None
   pub few : decl.width ≤ 128
   pub class_is : decl.class ≡ class_of_port top_input q q.direction None
@@ -151,12 +155,15 @@ not_clock q direction.Input h =
     input_class (bytes_eq q.name (codes "clock")) (bytes_eq q.name (codes "reset")) h
 not_clock q direction.Output h = refl
 
-output_fine : (q : FullPort) (way : Direction) (p : Pos) (text : List ℕ) → is_output way ≡ true
+output_fine : (q : FullPort) (way : Direction) (kind : Option NetKind) (p : Pos) (text : List ℕ) → is_output way ≡ true
     → refused_if (is_clock_class (class_of_port top_input q way None)) (f.Clock p)
-    ++ refused_if (is_input way || not (may_be_assigned true (class_of_port top_input q way None))) (f.Kind text p)
+    ++ refused_if (is_input (role_of_port way kind) || not (may_be_assigned true (class_of_port top_input q way None)))
+    (f.Kind text p)
     ++ [] ++ [] ≡ []
-output_fine q direction.Input p text h = absurd (true≢false (sym h))
-output_fine q direction.Output p text h = refl
+output_fine q direction.Input kind p text h = absurd (true≢false (sym h))
+output_fine q direction.Output None p text h = refl
+output_fine q direction.Output (Some net.Wire) p text h = refl
+output_fine q direction.Output (Some net.Reg) p text h = refl
 
 module _ (ns : List Names) (ps : List FullPort)
     (meant : (text : List ℕ) (q : FullPort) → port_named ps text ≡ Some q → IsMeant ns text q)
@@ -169,15 +176,15 @@ module _ (ns : List Names) (ps : List FullPort)
       sized : name_width ns text (meaning_in ns text) whole ≡ Some width
       few : width ≤ 128
 
-    read_object : (p : Pos) (text : List ℕ) (d : Decl) (input scalar : Bool) → d.words ≡ None
-        → is_clock_class d.class ≡ false → read_refusals ns false p text (object d input scalar) whole ≡ []
-    read_object p text d input scalar w c =
+    read_object : (p : Pos) (text : List ℕ) (d : Decl) (role : Role) (scalar : Bool) → d.words ≡ None
+        → is_clock_class d.class ≡ false → read_refusals ns false p text (object d role scalar) whole ≡ []
+    read_object p text d role scalar w c =
         λ i. refused_if (c i) (f.Clock p) ++ refused_if false (f.NotConstant p)
         ++ (if is_none (w i) then vector_selects ns (not scalar) d whole else memory_selects ns p d whole)
 
-    object_width : (text : List ℕ) (d : Decl) (input scalar : Bool) → d.words ≡ None
-        → name_width ns text (object d input scalar) whole ≡ Some d.width
-    object_width text d input scalar w = λ i. if is_none (w i) then Some d.width else None
+    object_width : (text : List ℕ) (d : Decl) (role : Role) (scalar : Bool) → d.words ≡ None
+        → name_width ns text (object d role scalar) whole ≡ Some d.width
+    object_width text d role scalar w = λ i. if is_none (w i) then Some d.width else None
 
     read_port : (p : Pos) (text : List ℕ) (o : Option FullPort) → port_named ps text ≡ o → IsReadable o
         → IsRead p text
@@ -189,11 +196,11 @@ module _ (ns : List Names) (ps : List FullPort)
         record {
           refused =
               ap (λ x. read_refusals ns false p text x whole) m.is
-              ∙ read_object p text m.decl (is_input q.direction) (is_none q.shape.range) m.no_words clock;
+              ∙ read_object p text m.decl (role_of_port q.direction q.net) (is_none q.shape.range) m.no_words clock;
           width = m.decl.width;
           sized =
               ap (λ x. name_width ns text x whole) m.is
-              ∙ object_width text m.decl (is_input q.direction) (is_none q.shape.range) m.no_words;
+              ∙ object_width text m.decl (role_of_port q.direction q.net) (is_none q.shape.range) m.no_words;
           few = m.few;
         }
 
@@ -317,16 +324,16 @@ module _ (ns : List Names) (ps : List FullPort)
     target_named p text None e h = absurd h
     target_named p text (Some q) e h =
         let m = meant text q e in
-        let input = is_input q.direction in let scalar = is_none q.shape.range in
+        let role = role_of_port q.direction q.net in let scalar = is_none q.shape.range in
         ap (λ x. assigned_refusals ns true p text x ++ target_selects ns p x (named p text whole)
         ++ too_wide p (name_width ns text x whole)) m.is
         ∙ (λ i. refused_if (is_clock_class (m.class_is i)) (f.Clock p)
-        ++ refused_if (input || not (may_be_assigned true (m.class_is i))) (f.Kind text p)
+        ++ refused_if (is_input role || not (may_be_assigned true (m.class_is i))) (f.Kind text p)
         ++ (if is_none (m.no_words i) then vector_selects ns (not scalar) m.decl whole
         else memory_selects ns p m.decl whole)
-        ++ few_wide p (name_width ns text (object m.decl input scalar) whole) m.decl.width
-        (object_width text m.decl input scalar m.no_words) m.few i)
-        ∙ output_fine q q.direction p text h
+        ++ few_wide p (name_width ns text (object m.decl role scalar) whole) m.decl.width
+        (object_width text m.decl role scalar m.no_words) m.few i)
+        ∙ output_fine q q.direction q.net p text h
 
     target_fine : (l : Lval) → IsSimpleTarget ps l → target_refusals ns true true l ≡ []
     target_fine (named p text whole) h = target_named p text (port_named ps text) refl h

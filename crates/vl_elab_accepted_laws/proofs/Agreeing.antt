@@ -84,7 +84,7 @@ module _ (ns : List Names) (ss : List Scope) (meant : AreMeant ns ss) where
       by undeclared h = tt
       by (constant c selected) h = tt
       by loop_variable h = tt
-      by (object d input scalar) h = h.2
+      by (object d role scalar) h = h.2
       by faulty h = h
       by shapeless h = h
       by later h = tt
@@ -96,7 +96,7 @@ module _ (ns : List Names) (ss : List Scope) (meant : AreMeant ns ss) where
       by undeclared k h = absurd h
       by (constant c selected) k h = absurd h
       by loop_variable k h = absurd h
-      by (object d input scalar) k h = record { decl = d; declared = k.1 }
+      by (object d role scalar) k h = record { decl = d; declared = k.1 }
       by faulty k h = absurd h
       by shapeless k h = absurd h
       by later k h = absurd h
@@ -114,7 +114,7 @@ module _ (ns : List Names) (ss : List Scope) (meant : AreMeant ns ss) where
   name_agrees fixed p text xs inner wide loop_variable e h = absurd (refused_name inner wide _ h)
   name_agrees fixed p text xs inner wide (constant c selected) e h =
       ap value_of e ∙ sym (subst (MeansIn ss text) e (meant text))
-  name_agrees fixed p text xs inner wide (object d input scalar) e h =
+  name_agrees fixed p text xs inner wide (object d role scalar) e h =
       let means = subst (MeansIn ss text) e (meant text) in ap value_of e ∙ sym means.0
   name_agrees fixed p text xs inner wide faulty e h = absurd (subst (MeansIn ss text) e (meant text))
   name_agrees fixed p text xs inner wide shapeless e h = absurd (subst (MeansIn ss text) e (meant text))

@@ -166,7 +166,7 @@ module _ (head : LoopHead) (at : Place) (sound : AreSound (meanings_at at)) (w :
         condition = condition-valued first (none-front own second turn);
         next = step-valued first (either (begins head at first) step idle (none-back own second turn));
       }
-  head-valued p (object d input scalar) h = absurd (some-fault _ _ h)
+  head-valued p (object d role scalar) h = absurd (some-fault _ _ h)
   head-valued p faulty h = absurd (some-fault _ _ h)
   head-valued p shapeless h = absurd (some-fault _ _ h)
   head-valued p later h = absurd (some-fault _ _ h)
@@ -182,7 +182,7 @@ module _ (head : LoopHead) (at : Place) (sound : AreSound (meanings_at at)) (w :
       (begun-none (genvar_refusals (meanings_at at) head.start) (begun_refusals head at p first)
       (without_start head (meanings_at at)) (has_value (meanings_at at) head.start)
       (λ e. valued at _ head.start sound w.2 e) h))
-  head-ends p (object d input scalar) h = absurd (some-fault _ _ h)
+  head-ends p (object d role scalar) h = absurd (some-fault _ _ h)
   head-ends p faulty h = absurd (some-fault _ _ h)
   head-ends p shapeless h = absurd (some-fault _ _ h)
   head-ends p later h = absurd (some-fault _ _ h)

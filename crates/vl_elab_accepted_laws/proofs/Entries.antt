@@ -21,6 +21,8 @@ use Rattle.vl_mean.specs.Runs.{Each}
 use Rattle.vl_mean.specs.Scopes.{Scope}
 use Rattle.vl_mean.specs.Walk.{parameter_names, port_names}
 use Rattle.vl_mean_flat.proofs.EachOf.{both}
+use Rattle.vl_elab_spec.specs.declared.role.Role.{Role}
+use Rattle.vl_elab_spec.specs.declared.role.Role.TheVariants as roles
 use Rattle.vl_elab_spec.specs.Meanings.{Meaning, undeclared, constant, loop_variable, object, faulty, shapeless, later}
 use Rattle.vl_elab_spec.specs.Meanings.{Names, is_undeclared, constant_or, object_or, parameters_of}
 use Rattle.vl_elab_spec.specs.Meanings.{with_parameter_meanings, with_item_constants, port_meanings, name_meanings}
@@ -81,7 +83,7 @@ module _ (s : Scope) where
   FoundMeans text undeclared = Unit {0}
   FoundMeans text (constant c selected) = constant_of s.constants text ≡ Some c
   FoundMeans text loop_variable = Unit {0}
-  FoundMeans text (object d input scalar) = declared_as s.decls text ≡ Some d
+  FoundMeans text (object d role scalar) = declared_as s.decls text ≡ Some d
   FoundMeans text faulty = Unit {0}
   FoundMeans text shapeless = Unit {0}
   FoundMeans text later = ⊥
@@ -111,13 +113,13 @@ module _ (s : Scope) where
   constant_kind false None selected = tt
   constant_kind false (Some c) selected = tt
 
-  object_entry : (text : List ℕ) (known : Bool) (o : Option Decl) (input scalar : Bool)
-      → o ≡ declared_as s.decls text → IsEntry (text, object_or known o input scalar)
-  object_entry text true None input scalar e = record { means = tt; there = refl; named = tt }
-  object_entry text true (Some d) input scalar e =
+  object_entry : (text : List ℕ) (known : Bool) (o : Option Decl) (role : Role) (scalar : Bool)
+      → o ≡ declared_as s.decls text → IsEntry (text, object_or known o role scalar)
+  object_entry text true None role scalar e = record { means = tt; there = refl; named = tt }
+  object_entry text true (Some d) role scalar e =
       record { means = sym e; there = refl; named = own_name s.decls text d (sym e) }
-  object_entry text false None input scalar e = record { means = tt; there = refl; named = tt }
-  object_entry text false (Some d) input scalar e = record { means = tt; there = refl; named = tt }
+  object_entry text false None role scalar e = record { means = tt; there = refl; named = tt }
+  object_entry text false (Some d) role scalar e = record { means = tt; there = refl; named = tt }
 
   -- ---- parameters
 
@@ -211,16 +213,16 @@ module _ (s : Scope) where
     port_list ns [] = refl
     port_list ns (p ∷ ps) = ap (λ l. p.name ∷ l) (port_list ns ps)
 
-    name_entries : (ns : List Names) (c : Class) (known scalar : Bool) (xs : List DeclaredName)
-        → Each IsEntry (name_meanings s outer ns c known scalar xs)
-    name_entries ns c known scalar [] = tt
-    name_entries ns c known scalar (x ∷ xs) =
-        (object_entry x.name _ (declared_as s.decls x.name) _ _ refl, name_entries ns c known scalar xs)
+    name_entries : (ns : List Names) (c : Class) (role : Role) (known scalar : Bool) (xs : List DeclaredName)
+        → Each IsEntry (name_meanings s outer ns c role known scalar xs)
+    name_entries ns c role known scalar [] = tt
+    name_entries ns c role known scalar (x ∷ xs) =
+        (object_entry x.name _ (declared_as s.decls x.name) _ _ refl, name_entries ns c role known scalar xs)
 
-    name_list : (ns : List Names) (c : Class) (known scalar : Bool) (xs : List DeclaredName)
-        → names_in (name_meanings s outer ns c known scalar xs) ≡ declared_list xs
-    name_list ns c known scalar [] = refl
-    name_list ns c known scalar (x ∷ xs) = ap (λ l. x.name ∷ l) (name_list ns c known scalar xs)
+    name_list : (ns : List Names) (c : Class) (role : Role) (known scalar : Bool) (xs : List DeclaredName)
+        → names_in (name_meanings s outer ns c role known scalar xs) ≡ declared_list xs
+    name_list ns c role known scalar [] = refl
+    name_list ns c role known scalar (x ∷ xs) = ap (λ l. x.name ∷ l) (name_list ns c role known scalar xs)
 
     genvar_entries : (xs : List (List ℕ)) → Each IsEntry (map (λ text. (text, loop_variable)) xs)
     genvar_entries [] = tt
@@ -231,9 +233,9 @@ module _ (s : Scope) where
     genvar_list (x ∷ xs) = ap (λ l. x ∷ l) (genvar_list xs)
 
     item_entries : (ns : List Names) (x : Item) → Each IsEntry (item_meanings s outer ns x)
-    item_entries ns (declaration attrs p d) = name_entries ns _ _ _ d.names
+    item_entries ns (declaration attrs p d) = name_entries ns _ _ _ _ d.names
     item_entries ns (integer attrs p xs) =
-        name_entries ns (class_of_attributes class.Variable (joined_attributes attrs)) true false xs
+        name_entries ns (class_of_attributes class.Variable (joined_attributes attrs)) roles.Variable true false xs
     item_entries ns (genvar attrs p xs) = genvar_entries xs
     item_entries ns (parameter attrs p kind xs) = tt
     item_entries ns (assign attrs p xs) = tt
@@ -246,9 +248,9 @@ module _ (s : Scope) where
     item_entries ns (if_else attrs p c b d) = tt
 
     item_list : (ns : List Names) (x : Item) → names_in (item_meanings s outer ns x) ≡ item_objects x
-    item_list ns (declaration attrs p d) = name_list ns _ _ _ d.names
+    item_list ns (declaration attrs p d) = name_list ns _ _ _ _ d.names
     item_list ns (integer attrs p xs) =
-        name_list ns (class_of_attributes class.Variable (joined_attributes attrs)) true false xs
+        name_list ns (class_of_attributes class.Variable (joined_attributes attrs)) roles.Variable true false xs
     item_list ns (genvar attrs p xs) = genvar_list xs
     item_list ns (parameter attrs p kind xs) = refl
     item_list ns (assign attrs p xs) = refl

@@ -196,7 +196,7 @@ module _ (ms : List Module) where
 
   -- ---- ports
 
-  port-next : (at : Place) (u : Use) (p : Pos) (q : Option FullPort) (ns : List (List ℕ))
+  port-next : (at : Place) (u : Use) (p : Port) (q : Option FullPort) (ns : List (List ℕ))
       → Each IsFine (port_step at u p q)
       → AreNew (at.earlier ++ optional_name q) ns → AreNew at.earlier (port_names (option_to_list q) ++ ns)
   port-next at u p None ns h k =
@@ -219,5 +219,5 @@ module _ (ms : List Module) where
       let q : Option FullPort = full_port last p.kind in
       let more : List Step = port_steps (with_earlier at (optional_name q)) u q ps in
       subst (AreNew at.earlier) (sym (port-names q (full_ports q ps)))
-      (port-next at u p.pos q (port_names (full_ports q ps)) (front IsFine (port_step at u p.pos q) more h)
-      (ports-new (with_earlier at (optional_name q)) u q ps (back IsFine (port_step at u p.pos q) more h)))
+      (port-next at u p q (port_names (full_ports q ps)) (front IsFine (port_step at u p q) more h)
+      (ports-new (with_earlier at (optional_name q)) u q ps (back IsFine (port_step at u p q) more h)))

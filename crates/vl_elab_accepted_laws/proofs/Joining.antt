@@ -111,7 +111,7 @@ inside_known : (ss : List Scope) (text : List ℕ) (m : Meaning) → IsObject m 
 inside_known ss text undeclared o h = absurd o
 inside_known ss text (constant c selected) o h = absurd o
 inside_known ss text loop_variable o h = absurd o
-inside_known ss text (object d input scalar) o h =
+inside_known ss text (object d role scalar) o h =
     let is_seen : IsSeen ss text = record { decl = d; declared = h.1 } in
     record {
       target = (h.0, is_seen, tt);

@@ -42,6 +42,7 @@ use Rattle.vl_mean_flat.proofs.NamesMap.{expr_map, target_map, stmt_map}
 use Rattle.vl_elab_accepted_laws.proofs.Fresh.{NoneOf, none-front, none-back, not-refused}
 use Rattle.vl_elab_accepted_laws.proofs.Plain.{all-each}
 use Rattle.vl_elab_spec.specs.declared.elab_fault.ElabFault.TheVariants as f
+use Rattle.vl_elab_spec.specs.declared.role.Role.{Role}
 use Rattle.vl_elab_spec.specs.Expressions.{refused_if, too_wide, divided_by_zero, name_width, object_selects, refusals}
 use Rattle.vl_elab_spec.specs.Expressions.{select_refusals, is_constant_name, known, expr_refusals, own_refusals}
 use Rattle.vl_elab_spec.specs.Meanings.{Meaning, undeclared, constant, loop_variable, object, faulty, shapeless, later}
@@ -73,13 +74,13 @@ module _ (ns : List Names) (ss : List Scope) (named_so : AllNamed ns) (meant : A
   -- ---- targets
 
   -- a net or a variable with its selects
-  read_object : (fixed : Bool) (p : Pos) (text : List ℕ) (xs : Selects) (d : Decl) (input scalar : Bool)
-      → meaning_in ns text ≡ object d input scalar → is_clock_class d.class ≡ false → AreSelects xs
+  read_object : (fixed : Bool) (p : Pos) (text : List ℕ) (xs : Selects) (d : Decl) (role : Role) (scalar : Bool)
+      → meaning_in ns text ≡ object d role scalar → is_clock_class d.class ≡ false → AreSelects xs
       → NoneOf (select_refusals ns (fixed || false) xs)
       → selects_zero_divisor (objects ns) (settled_selects (constants ns) xs) ≡ None
       → NoneOf (object_selects ns p scalar d xs)
-      → NoneOf (too_wide p (name_width ns text (object d input scalar) xs)) → TargetNames Reads ss (named p text xs)
-  read_object fixed p text xs d input scalar e clock w inner z selects wide =
+      → NoneOf (too_wide p (name_width ns text (object d role scalar) xs)) → TargetNames Reads ss (named p text xs)
+  read_object fixed p text xs d role scalar e clock w inner z selects wide =
       let means = subst (MeansIn ss text) e (meant text) in
       let shaped = means.2 in
       let x = selected ns (is_none d.words) (fixed || false) (not scalar) p d xs
@@ -107,15 +108,15 @@ module _ (ns : List Names) (ss : List Scope) (named_so : AllNamed ns) (meant : A
   read_named continuous fixed p text xs faulty e w h = absurd (subst (MeansIn ss text) e (meant text))
   read_named continuous fixed p text xs shapeless e w h = absurd (subst (MeansIn ss text) e (meant text))
   read_named continuous fixed p text xs later e w h = absurd (subst (MeansIn ss text) e (meant text))
-  read_named continuous fixed p text xs (object d input scalar) e w h =
+  read_named continuous fixed p text xs (object d role scalar) e w h =
       let inner = select_refusals ns (fixed || false) xs in
       let divided = divided_by_zero (selects_zero_divisor (objects ns) (settled_selects (constants ns) xs)) in
-      let assigned = assigned_refusals ns continuous p text (object d input scalar) in
+      let assigned = assigned_refusals ns continuous p text (object d role scalar) in
       let selects = object_selects ns p scalar d xs in
       let narrow = none-front (inner ++ divided ++ assigned ++ selects) _ h in
       let front = none-front (inner ++ divided ++ assigned) selects narrow in
       let two = none-front (inner ++ divided) assigned front in
-      read_object fixed p text xs d input scalar e
+      read_object fixed p text xs d role scalar e
       (not-refused (is_clock_class d.class) _
       (none-front (refused_if (is_clock_class d.class) (f.Clock p)) _ (none-back (inner ++ divided) assigned front))) w
       (none-front inner divided two) (undivided _ (none-back inner divided two))

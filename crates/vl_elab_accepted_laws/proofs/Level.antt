@@ -12,6 +12,7 @@ use Rattle.vl_mean.specs.Runs.{Each}
 use Rattle.vl_mean.specs.Scopes.{Scope, constant_in, constant_unless, visible}
 use Rattle.vl_mean.specs.Walk.{Contents, parameter_names, port_names}
 use Rattle.vl_mean_flat.proofs.EachOf.{both}
+use Rattle.vl_elab_spec.specs.declared.role.Role.{Role}
 use Rattle.vl_elab_spec.specs.Meanings.{Meaning, undeclared, constant, loop_variable, object, faulty, shapeless, later}
 use Rattle.vl_elab_spec.specs.Meanings.{Names, is_undeclared, meaning_of, meaning_in, parameters_of}
 use Rattle.vl_elab_spec.specs.Meanings.{with_parameter_meanings, with_item_constants, port_meanings, items_meanings}
@@ -126,14 +127,15 @@ abbrev pub LevelMeans : Scope → List ℕ → Meaning → Type 0
 LevelMeans s text undeclared = (constant_of s.constants text ≡ None) × (is_declared s.decls text ≡ false)
 LevelMeans s text (constant c selected) = constant_of s.constants text ≡ Some c
 LevelMeans s text loop_variable = Unit {0}
-LevelMeans s text (object d input scalar) =
+LevelMeans s text (object d role scalar) =
     (constant_of s.constants text ≡ None) × (declared_as s.decls text ≡ Some d)
 LevelMeans s text faulty = Unit {0}
 LevelMeans s text shapeless = Unit {0}
 LevelMeans s text later = ⊥
 
-no_object : (s : Scope) (m : Meaning) (d : Decl) (input scalar : Bool) → m ≡ object d input scalar → IsParameter s m → ⊥
-no_object s m d input scalar e h = subst (IsParameter s) e h
+no_object : (s : Scope) (m : Meaning) (d : Decl) (role : Role) (scalar : Bool) → m ≡ object d role scalar
+    → IsParameter s m → ⊥
+no_object s m d role scalar e h = subst (IsParameter s) e h
 
 none_of : (o : Option Const) → is_undeclared (of_constant o) ≡ true → o ≡ None
 none_of None h = refl
@@ -211,7 +213,7 @@ module _ (s : Scope) (outer : List Names) (c : Contents) where
   from_own text undeclared u h k = absurd k
   from_own text (constant q selected) u h k = h
   from_own text loop_variable u h k = tt
-  from_own text (object d input scalar) u h k = absurd k
+  from_own text (object d role scalar) u h k = absurd k
   from_own text faulty u h k = tt
   from_own text shapeless u h k = absurd k
   from_own text later u h k = h
@@ -221,7 +223,7 @@ module _ (s : Scope) (outer : List Names) (c : Contents) where
   from_others text undeclared u h k = absurd (true≢false u)
   from_others text (constant q selected) u h k = h
   from_others text loop_variable u h k = tt
-  from_others text (object d input scalar) u h k = (k, h)
+  from_others text (object d role scalar) u h k = (k, h)
   from_others text faulty u h k = tt
   from_others text shapeless u h k = tt
   from_others text later u h k = h
@@ -317,7 +319,7 @@ outer_means s ss text undeclared e h k = tt
 outer_means s ss text (constant q selected) e h k =
     (λ i. constant_unless (e i) (h i) (constant_in ss text)) ∙ k
 outer_means s ss text loop_variable e h k = tt
-outer_means s ss text (object d input scalar) e h k = (
+outer_means s ss text (object d role scalar) e h k = (
   (λ i. constant_unless (e i) (h i) (constant_in ss text)) ∙ k.0,
   declared_past text s.decls (visible ss) h ∙ k.1,
   k.2,
@@ -332,7 +334,7 @@ inner_means s ss text undeclared h k = tt
 inner_means s ss text (constant q selected) h k =
     ap (λ o. constant_unless o (is_declared s.decls text) (constant_in ss text)) h
 inner_means s ss text loop_variable h k = tt
-inner_means s ss text (object d input scalar) h k = (
+inner_means s ss text (object d role scalar) h k = (
   (λ i. constant_unless (h.0 i) (declared_here text s.decls d h.1 i) (constant_in ss text)),
   declared_front text s.decls (visible ss) d h.1,
   k,
@@ -359,7 +361,7 @@ all_meant (s ∷ ss) (c ∷ cs) h text k =
     by undeclared l k next = outer_means s ss text (meaning_in outer text) l.0 l.1 (next k)
     by (constant q selected) l k next = inner_means s ss text (constant q selected) l k
     by loop_variable l k next = tt
-    by (object d input scalar) l k next = inner_means s ss text (object d input scalar) l k
+    by (object d role scalar) l k next = inner_means s ss text (object d role scalar) l k
     by faulty l k next = k
     by shapeless l k next = k
     by later l k next = l

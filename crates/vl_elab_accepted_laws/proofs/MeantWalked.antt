@@ -8,7 +8,6 @@ use Rattle.vl_tree.specs.declared.part.Connection.{Connection}
 use Rattle.vl_tree.specs.declared.part.Instance.{Instance}
 use Rattle.vl_tree.specs.declared.part.LoopHead.{LoopHead}
 use Rattle.vl_tree.specs.declared.source.Module.{Module}
-use Rattle.fv_text.specs.declared.pos.Pos.{Pos}
 use Rattle.vl_tree.specs.Item.{
   Item,
   Items,
@@ -66,7 +65,7 @@ headers : (at : Place) (xs : List Parameter) → AreLaid at.scopes at.contents �
 headers at [] h = tt
 headers at (x ∷ xs) h = (right_here at h, headers (with_earlier at (x.name ∷ [])) xs h)
 
-port_right : (at : Place) (u : Use) (p : Pos) (q : Option FullPort) → AreLaid at.scopes at.contents
+port_right : (at : Place) (u : Use) (p : Port) (q : Option FullPort) → AreLaid at.scopes at.contents
     → Right (port_step at u p q)
 port_right at u p None h = tt
 port_right at u p (Some q) h = (right_here at h, tt)
@@ -76,7 +75,7 @@ ports_right : (at : Place) (u : Use) (last : Option FullPort) (ps : List Port) �
 ports_right at u last [] h = tt
 ports_right at u last (p ∷ ps) h =
     let q : Option FullPort = full_port last p.kind in
-    join (port_step at u p.pos q) (port_steps (with_earlier at (optional_name q)) u q ps) (port_right at u p.pos q h)
+    join (port_step at u p q) (port_steps (with_earlier at (optional_name q)) u q ps) (port_right at u p q h)
     (ports_right (with_earlier at (optional_name q)) u q ps h)
 
 overrides_right : (at : Place) (m : Module) (u : Use) (given : List (List ℕ)) (xs : List Connection)

@@ -2,7 +2,6 @@
 use Rattle.std.specs.Prelude.{◌≡◌, refl, ℕ, zero, suc, List, [], ◌∷◌, ◌++◌}
 use Rattle.std.specs.Prelude.{Option, Some, None, option_to_list, All}
 use Rattle.std.proofs.Common.{ap, sym, ◌∙◌, subst, ⊎_elim}
-use Rattle.fv_text.specs.declared.pos.Pos.{Pos}
 use Rattle.vl_tree.specs.declared.declaration.FullPort.{FullPort}
 use Rattle.vl_tree.specs.declared.declaration.Parameter.{Parameter}
 use Rattle.vl_tree.specs.declared.declaration.Port.{Port}
@@ -38,7 +37,7 @@ headers-none : (at : Place) (xs : List Parameter) → full_names (header_steps a
 headers-none at [] = refl
 headers-none at (x ∷ xs) = headers-none (with_earlier at (x.name ∷ [])) xs
 
-port-under : (at : Place) (u : Use) (p : Pos) (q : Option FullPort)
+port-under : (at : Place) (u : Use) (p : Port) (q : Option FullPort)
     → full_names (port_step at u p q) ≡ under at.path (port_names (option_to_list q))
 port-under at u p None = refl
 port-under at u p (Some q)
@@ -59,8 +58,8 @@ ports-under at u last [] = refl
 ports-under at u last (p ∷ ps) =
     let q : Option FullPort = full_port last p.kind in
     let more : List FullPort = full_ports q ps in
-    full-append (port_step at u p.pos q) (port_steps (with_earlier at (optional_name q)) u q ps)
-    ∙ (λ i. port-under at u p.pos q i ++ ports-under (with_earlier at (optional_name q)) u q ps i)
+    full-append (port_step at u p q) (port_steps (with_earlier at (optional_name q)) u q ps)
+    ∙ (λ i. port-under at u p q i ++ ports-under (with_earlier at (optional_name q)) u q ps i)
     ∙ sym (under-append at.path (port_names (option_to_list q)) (port_names more))
     ∙ ap (under at.path) (sym (names-append q more))
 

@@ -6,6 +6,7 @@ use Rattle.vl_tree.specs.declared.declaration.DeclaredName.{DeclaredName}
 use Rattle.vl_tree.specs.declared.declaration.FullPort.{FullPort}
 use Rattle.vl_tree.specs.declared.declaration.NetKind.{NetKind}
 use Rattle.vl_tree.specs.declared.declaration.NetKind.TheVariants as net
+use Rattle.vl_tree.specs.declared.declaration.Port.{Port}
 use Rattle.vl_tree.specs.declared.declaration.Range.{Range}
 use Rattle.vl_tree.specs.declared.part.Assignment.{Assignment}
 use Rattle.vl_tree.specs.declared.part.EventKind.{EventKind}
@@ -206,13 +207,13 @@ known_item ms at (for_loop attrs p head b) r s w h = tt
 known_item ms at (if_only attrs p c b) r s w h = tt
 known_item ms at (if_else attrs p c b d) r s w h = tt
 
-pub known_port : (at : Place) (u : Use) (p : Pos) (q : FullPort) → AreRight (meanings_at at) at.scopes
-    → AreSound (meanings_at at) → IsName q.name → IsValue q.value → port_refusals at p q ≡ []
+pub known_port : (at : Place) (u : Use) (p : Port) (q : FullPort) → AreRight (meanings_at at) at.scopes
+    → AreSound (meanings_at at) → IsName q.name → IsValue q.value → port_refusals at p.pos q ≡ []
     → Each Known (step_parts (port at u p q))
 known_port at u p q r s wn w h =
     let ns = meanings_at at in (
       tt,
-      known_given ns at.scopes r.0 (r.1 s) p (port_kind q.net) q.name q.value wn w
-          (subst (λ kind. NoneOf (given_value ns p kind q.name q.value))
+      known_given ns at.scopes r.0 (r.1 s) p.pos (port_kind q.net) q.name q.value wn w
+          (subst (λ kind. NoneOf (given_value ns p.pos kind q.name q.value))
           (same_kind ns at.scopes r.0 (r.1 s) q.net) (none-back _ _ h)),
     )

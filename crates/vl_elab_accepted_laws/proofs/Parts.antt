@@ -479,7 +479,7 @@ module _ (ns : List Names) where
     named_fine fixed u c p text ss faulty e vector word h z = absurd (subst IsSure e (sure text))
     named_fine true u c p text ss shapeless e vector word h z = absurd (refused_name _ _ _ h)
     named_fine false u c p text ss shapeless e vector word h z = absurd (subst IsSound e (sound (u refl) text))
-    named_fine fixed u c p text ss (object d input scalar) e vector word h z =
+    named_fine fixed u c p text ss (object d role scalar) e vector word h z =
         let inner = select_refusals ns (fixed || false) ss in
         let clock = refused_if (is_clock_class d.class) (f.Clock p) in
         let constant_only = refused_if fixed (f.NotConstant p) in

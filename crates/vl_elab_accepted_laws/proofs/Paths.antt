@@ -11,7 +11,6 @@ use Rattle.vl_tree.specs.declared.part.Connection.{Connection}
 use Rattle.vl_tree.specs.declared.part.Instance.{Instance}
 use Rattle.vl_tree.specs.declared.part.LoopHead.{LoopHead}
 use Rattle.vl_tree.specs.declared.source.Module.{Module}
-use Rattle.fv_text.specs.declared.pos.Pos.{Pos}
 use Rattle.vl_tree.specs.DeclarationWellFormed.{IsOptionalRange, IsPort, IsPortKind}
 use Rattle.vl_tree.specs.ExprWellFormed.{IsName}
 use Rattle.vl_tree.specs.StmtWellFormed.{IsOptionalName}
@@ -89,7 +88,7 @@ port_named_so last (kinds.Full p) l w = (w.2, w.1)
 port_named_so None (kinds.Short text value) l w = tt
 port_named_so (Some p) (kinds.Short text value) l w = (w.0, l.1)
 
-port_clean : (at : Place) (u : Use) (p : Pos) (q : Option FullPort) → Clean at.path → IsNamedPort q
+port_clean : (at : Place) (u : Use) (p : Port) (q : Option FullPort) → Clean at.path → IsNamedPort q
     → AreClean (port_step at u p q)
 port_clean at u p None h w = tt
 port_clean at u p (Some q) h w = ((h, w.0, w.1), tt)
@@ -100,8 +99,8 @@ ports_clean at u last [] h l w = tt
 ports_clean at u last (p ∷ ps) h l w =
     let q : Option FullPort = full_port last p.kind in
     let next : IsNamedPort q = port_named_so last p.kind l w.0 in
-    join (port_step at u p.pos q) (port_steps (with_earlier at (optional_name q)) u q ps)
-    (port_clean at u p.pos q h next) (ports_clean (with_earlier at (optional_name q)) u q ps h next w.1)
+    join (port_step at u p q) (port_steps (with_earlier at (optional_name q)) u q ps)
+    (port_clean at u p q h next) (ports_clean (with_earlier at (optional_name q)) u q ps h next w.1)
 
 written_formed : (ps : Option (List Port)) → AreOptionalPorts ps → Each IsPort (written_ports ps)
 written_formed None h = tt

@@ -211,15 +211,15 @@ module _ (ms : List Module) (around scopes : List Scope) (contents : List Conten
   ns = all_meanings scopes contents
 
   port_narrow : ((p : Pos) (r : Option Range) → IsOptionalRange r → NoneOf (range_refusals ns r)
-      → NoneOf (width_refusals ns p r) → IsNarrow ns r) → (earlier : List (List ℕ)) (u : Use) (p : Pos)
+      → NoneOf (width_refusals ns p r) → IsNarrow ns r) → (earlier : List (List ℕ)) (u : Use) (p : Port)
       (q : Option FullPort) → IsFormedPort q → Each (IsFine ms) (port_step (place earlier) u p q)
       → Each (λ p. IsNarrow ns p.shape.range) (option_to_list q)
   port_narrow f earlier u p None w h = tt
   port_narrow f earlier u p (Some q) w h =
-      let front = none-front _ (given_value ns p (port_net q.net) q.name q.value) h.0 in (
-        f p q.shape.range w.0
-            (none-back _ (range_refusals ns q.shape.range) (none-front _ (width_refusals ns p q.shape.range) front))
-            (none-back _ (width_refusals ns p q.shape.range) front),
+      let front = none-front _ (given_value ns p.pos (port_net q.net) q.name q.value) h.0 in (
+        f p.pos q.shape.range w.0
+            (none-back _ (range_refusals ns q.shape.range) (none-front _ (width_refusals ns p.pos q.shape.range) front))
+            (none-back _ (width_refusals ns p.pos q.shape.range) front),
         tt,
       )
 
@@ -232,10 +232,10 @@ module _ (ms : List Module) (around scopes : List Scope) (contents : List Conten
   ports_narrow f earlier u last (p ∷ ps) l w h =
       let q : Option FullPort = full_port last p.kind in
       let formed : IsFormedPort q = port_formed last p.kind l w.0 in
-      let here : List Step = port_step (place earlier) u p.pos q in
+      let here : List Step = port_step (place earlier) u p q in
       let more : List Step = port_steps (place (earlier ++ optional_name q)) u q ps in
       both (λ p. IsNarrow ns p.shape.range) (option_to_list q) (full_ports q ps)
-      (port_narrow f earlier u p.pos q formed (front (IsFine ms) here more h))
+      (port_narrow f earlier u p q formed (front (IsFine ms) here more h))
       (ports_narrow f (earlier ++ optional_name q) u q ps formed w.1 (back (IsFine ms) here more h))
 
 -- ---- a module

@@ -46,7 +46,7 @@ sure_constant : (m : Meaning) → IsConstant m → IsSure m
 sure_constant undeclared h = absurd h
 sure_constant (constant c selected) h = tt
 sure_constant loop_variable h = absurd h
-sure_constant (object d input scalar) h = absurd h
+sure_constant (object d role scalar) h = absurd h
 sure_constant faulty h = absurd h
 sure_constant shapeless h = absurd h
 sure_constant later h = absurd h
@@ -55,7 +55,7 @@ sure_thing : (m : Meaning) → IsThing m → IsSure m
 sure_thing undeclared h = absurd h
 sure_thing (constant c selected) h = absurd h
 sure_thing loop_variable h = tt
-sure_thing (object d input scalar) h = tt
+sure_thing (object d role scalar) h = tt
 sure_thing faulty h = absurd h
 sure_thing shapeless h = tt
 sure_thing later h = absurd h
@@ -64,7 +64,7 @@ pub sure_sound : (m : Meaning) → IsSound m → IsSure m
 sure_sound undeclared h = tt
 sure_sound (constant c selected) h = tt
 sure_sound loop_variable h = tt
-sure_sound (object d input scalar) h = tt
+sure_sound (object d role scalar) h = tt
 sure_sound faulty h = h
 sure_sound shapeless h = tt
 sure_sound later h = tt
@@ -73,7 +73,7 @@ pub no_value : (m : Meaning) (c : Const) → IsThing m → value_of m ≡ Some c
 no_value undeclared c h k = h
 no_value (constant d selected) c h k = h
 no_value loop_variable c h k = cc
-no_value (object d input scalar) c h k = cc
+no_value (object d role scalar) c h k = cc
 no_value faulty c h k = h
 no_value shapeless c h k = cc
 no_value later c h k = h
@@ -82,7 +82,7 @@ declared_constant : (m : Meaning) → IsConstant m → is_undeclared m ≡ false
 declared_constant undeclared h = absurd h
 declared_constant (constant c selected) h = refl
 declared_constant loop_variable h = refl
-declared_constant (object d input scalar) h = refl
+declared_constant (object d role scalar) h = refl
 declared_constant faulty h = refl
 declared_constant shapeless h = refl
 declared_constant later h = refl
@@ -91,7 +91,7 @@ declared_thing : (m : Meaning) → IsThing m → is_undeclared m ≡ false
 declared_thing undeclared h = absurd h
 declared_thing (constant c selected) h = refl
 declared_thing loop_variable h = refl
-declared_thing (object d input scalar) h = refl
+declared_thing (object d role scalar) h = refl
 declared_thing faulty h = refl
 declared_thing shapeless h = refl
 declared_thing later h = refl

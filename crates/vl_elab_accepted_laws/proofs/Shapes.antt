@@ -30,13 +30,16 @@ use Rattle.vl_mean.specs.Walk.{Contents, Place, port_names}
 use Rattle.vl_mean_flat.proofs.EachOf.{both, each_map}
 use Rattle.vl_elab_spec.specs.declared.elab_fault.ElabFault.{ElabFault}
 use Rattle.vl_elab_spec.specs.declared.elab_fault.ElabFault.TheVariants as f
+use Rattle.vl_elab_spec.specs.declared.role.Role.{Role}
+use Rattle.vl_elab_spec.specs.declared.role.Role.TheVariants as roles
 use Rattle.vl_elab_spec.specs.Expressions.{refused_if}
 use Rattle.vl_elab_spec.specs.Items.{twice, placed_names, range_refusals, width_refusals, name_refusals, names_refusals}
 use Rattle.vl_elab_spec.specs.Items.{declared_value, item_refusals}
 use Rattle.vl_elab_spec.specs.Meanings.{Meaning, undeclared, constant, loop_variable, object, faulty, shapeless, later}
 use Rattle.vl_elab_spec.specs.Meanings.{Names, is_undeclared, meaning_of, meaning_in, value_of, constants, object_or}
 use Rattle.vl_elab_spec.specs.Meanings.{all_meanings, is_known_range, is_known_shape, declared_width, may_have_words}
-use Rattle.vl_elab_spec.specs.Meanings.{port_meanings, name_meanings, item_meanings, items_meanings, is_input}
+use Rattle.vl_elab_spec.specs.Meanings.{port_meanings, name_meanings, item_meanings, items_meanings, role_of_kind}
+use Rattle.vl_elab_spec.specs.Meanings.{role_of_port}
 use Rattle.vl_elab_accepted_laws.proofs.Contained.{Has, Lacks, clash, or_right, text_same, has-front, has-back}
 use Rattle.vl_elab_accepted_laws.proofs.Contained.{lacks-front}
 use Rattle.vl_elab_accepted_laws.proofs.Fresh.{NoneOf, none-front, none-back, not-refused}
@@ -133,17 +136,17 @@ pub record IsShapedObject (m : Meaning) : Type 0 where
 abbrev pub AreSoundNames : Names → Type 0
 AreSoundNames ns = Each (λ n. IsSound n.1) ns
 
-object_shaped : (known : Bool) (o : Option Decl) (input scalar : Bool) → known ≡ true → is_none o ≡ false
-    → ((d : Decl) → o ≡ Some d → IsShaped d) → IsShapedObject (object_or known o input scalar)
-object_shaped true (Some d) input scalar e h s = record { is_object = tt; is_sound = s d refl }
-object_shaped true None input scalar e h s = absurd (true≢false h)
-object_shaped false o input scalar e h s = absurd (true≢false (sym e))
+object_shaped : (known : Bool) (o : Option Decl) (role : Role) (scalar : Bool) → known ≡ true → is_none o ≡ false
+    → ((d : Decl) → o ≡ Some d → IsShaped d) → IsShapedObject (object_or known o role scalar)
+object_shaped true (Some d) role scalar e h s = record { is_object = tt; is_sound = s d refl }
+object_shaped true None role scalar e h s = absurd (true≢false h)
+object_shaped false o role scalar e h s = absurd (true≢false (sym e))
 
 sound_constant : (m : Meaning) → IsConstant m → IsSound m
 sound_constant undeclared h = absurd h
 sound_constant (constant c selected) h = tt
 sound_constant loop_variable h = absurd h
-sound_constant (object d input scalar) h = absurd h
+sound_constant (object d role scalar) h = absurd h
 sound_constant faulty h = absurd h
 sound_constant shapeless h = absurd h
 sound_constant later h = absurd h
@@ -153,7 +156,7 @@ found_constant : (s : Scope) (text : List ℕ) (m : Meaning) (k : Const) → Fou
 found_constant s text undeclared k h e = cc
 found_constant s text (constant c selected) k h e = h ∙ e
 found_constant s text loop_variable k h e = cc
-found_constant s text (object d input scalar) k h e = cc
+found_constant s text (object d role scalar) k h e = cc
 found_constant s text faulty k h e = cc
 found_constant s text shapeless k h e = cc
 found_constant s text later k h e = cc
@@ -163,7 +166,7 @@ meant_constant : (ss : List Scope) (text : List ℕ) (m : Meaning) (k : Const) �
 meant_constant ss text undeclared k h e = cc
 meant_constant ss text (constant c selected) k h e = h ∙ e
 meant_constant ss text loop_variable k h e = cc
-meant_constant ss text (object d input scalar) k h e = cc
+meant_constant ss text (object d role scalar) k h e = cc
 meant_constant ss text faulty k h e = cc
 meant_constant ss text shapeless k h e = cc
 meant_constant ss text later k h e = cc
@@ -172,7 +175,7 @@ declared_object : (m : Meaning) → IsObject m → is_undeclared m ≡ false
 declared_object undeclared h = absurd h
 declared_object (constant c selected) h = refl
 declared_object loop_variable h = refl
-declared_object (object d input scalar) h = refl
+declared_object (object d role scalar) h = refl
 declared_object faulty h = refl
 declared_object shapeless h = refl
 declared_object later h = refl
@@ -386,10 +389,11 @@ module _ (s : Scope) (ss : List Scope) (c : Contents) (cs : List Contents) (arou
     -- ---- what they mean
 
     module _ (ds : List Decl) (is : s.decls ≡ ds) (shaped : Each IsShaped ds) where
-      object_so : (known : Bool) (text : List ℕ) (input scalar : Bool) → known ≡ true → is_declared ds text ≡ true
-          → IsShapedObject (object_or known (declared_as s.decls text) input scalar)
-      object_so known text input scalar e h =
-          object_shaped known (declared_as s.decls text) input scalar e
+      object_so : (known : Bool) (text : List ℕ) (role : Role) (scalar : Bool) → known ≡ true
+          → is_declared ds text ≡ true
+          → IsShapedObject (object_or known (declared_as s.decls text) role scalar)
+      object_so known text role scalar e h =
+          object_shaped known (declared_as s.decls text) role scalar e
           (ap (λ l. is_none (declared_as l text)) is ∙ found_declared ds text h)
           (λ d k. found_shaped ds text d shaped (ap (λ l. declared_as l text) (sym is) ∙ k))
 
@@ -398,23 +402,24 @@ module _ (s : Scope) (ss : List Scope) (c : Contents) (cs : List Contents) (arou
           → Each (λ n. IsShapedObject n.1) (port_meanings s outer known_names ps)
       ports_sound [] n h = tt
       ports_sound (p ∷ ps) n h = (
-        object_so (is_known_shape known_names p.shape.range) p.name (is_input p.direction) (is_none p.shape.range)
+        object_so (is_known_shape known_names p.shape.range) p.name (role_of_port p.direction p.net)
+            (is_none p.shape.range)
             (shape_so p.shape.range n.0) h.0,
         ports_sound ps n.1 h.1,
       )
 
-      names_sound : (k : Class) (known scalar : Bool) (shape : Option Range) (xs : List DeclaredName)
+      names_sound : (k : Class) (role : Role) (known scalar : Bool) (shape : Option Range) (xs : List DeclaredName)
           → (is_known_shape known_names shape ≡ true → known ≡ true) → Each (λ x. IsFineName shape x k) xs
           → Each (λ x. is_declared ds x.name ≡ true) xs
-          → Each (λ n. IsSound n.1) (name_meanings s outer known_names k known scalar xs)
-      names_sound k known scalar shape [] e n h = tt
-      names_sound k known scalar shape (x ∷ xs) e n h =
+          → Each (λ n. IsSound n.1) (name_meanings s outer known_names k role known scalar xs)
+      names_sound k role known scalar shape [] e n h = tt
+      names_sound k role known scalar shape (x ∷ xs) e n h =
           let whole = e (shape_so shape n.0.narrow) in
           let words = n.0.words in
           let may = n.0.may in (
-            (object_so (known && (is_known_range known_names x.words && may_have_words k x.words x.value)) x.name false
+            (object_so (known && (is_known_range known_names x.words && may_have_words k x.words x.value)) x.name role
                 scalar (λ i. whole i && (words i && may i)) h.0).is_sound,
-            names_sound k known scalar shape xs e n.1 h.1,
+            names_sound k role known scalar shape xs e n.1 h.1,
           )
 
       genvars_sound : (xs : List (List ℕ)) → AreSoundNames (map (λ text. (text, loop_variable)) xs)
@@ -431,7 +436,8 @@ module _ (s : Scope) (ss : List Scope) (c : Contents) (cs : List Contents) (arou
           let front = none-front _ names h.0 in
           both (λ n. IsSound n.1) (item_meanings s outer known_names (declaration attrs p d))
           (items_meanings s outer known_names xs)
-          (names_sound k (is_known_shape known_names d.shape.range) (is_none d.shape.range) d.shape.range d.names
+          (names_sound k (role_of_kind d.net) (is_known_shape known_names d.shape.range) (is_none d.shape.range)
+          d.shape.range d.names
           (λ e. e) (fine_names d.net k d.shape.range d.names w.0.1.0
           (none-back _ (range_refusals ns d.shape.range) front) (all-each IsDeclaredName d.names w.0.1.1.1)
           (none-back _ names h.0))
@@ -445,7 +451,7 @@ module _ (s : Scope) (ss : List Scope) (c : Contents) (cs : List Contents) (arou
           let names = names_refusals ns net.Reg k None ys in
           both (λ n. IsSound n.1) (item_meanings s outer known_names (integer attrs p ys))
           (items_meanings s outer known_names xs)
-          (names_sound k true false None ys (λ e. refl)
+          (names_sound k roles.Variable true false None ys (λ e. refl)
           (fine_names net.Reg k None ys tt refl (all-each IsDeclaredName ys w.0.1.1) (none-back _ names h.0))
           (lists_names (declared_integers bounds k ys) ds
           (λ text l. f text (declares_front (declared_integers bounds k ys) (declared bounds xs) text l)) ys

@@ -301,7 +301,7 @@ module _ (ns : List Names) (named : AllNamed ns) (sound : AreSound ns) where
       by undeclared h = tt
       by (constant c selected) h = tt
       by loop_variable h = tt
-      by (object d input scalar) h = tt
+      by (object d role scalar) h = tt
       by faulty h = h
       by shapeless h = tt
       by later h = tt

@@ -9,7 +9,6 @@ use Rattle.vl_tree.specs.declared.part.Connection.{Connection}
 use Rattle.vl_tree.specs.declared.part.Instance.{Instance}
 use Rattle.vl_tree.specs.declared.part.LoopHead.{LoopHead}
 use Rattle.vl_tree.specs.declared.source.Module.{Module}
-use Rattle.fv_text.specs.declared.pos.Pos.{Pos}
 use Rattle.vl_tree.specs.DeclarationWellFormed.{IsPort}
 use Rattle.vl_tree.specs.Item.{
   Item,
@@ -90,7 +89,7 @@ headers at [] h = tt
 headers at (x ∷ xs) h =
     ((h.place.sound, tt, tt, tt), headers (with_earlier at (x.name ∷ [])) xs (further at (x.name ∷ []) h))
 
-port_good : (at : Place) (u : Use) (p : Pos) (q : Option FullPort) → IsSoundScope at → IsFormedPort q
+port_good : (at : Place) (u : Use) (p : Port) (q : Option FullPort) → IsSoundScope at → IsFormedPort q
     → Good (port_step at u p q)
 port_good at u p None h w = tt
 port_good at u p (Some q) h w = ((h.place.sound, (w.1, w.2), h.bounds, tt), tt)
@@ -101,8 +100,8 @@ ports_good at u last [] h l w = tt
 ports_good at u last (p ∷ ps) h l w =
     let q : Option FullPort = full_port last p.kind in
     let formed : IsFormedPort q = port_formed last p.kind l w.0 in
-    join (port_step at u p.pos q) (port_steps (with_earlier at (optional_name q)) u q ps)
-    (port_good at u p.pos q h formed)
+    join (port_step at u p q) (port_steps (with_earlier at (optional_name q)) u q ps)
+    (port_good at u p q h formed)
     (ports_good (with_earlier at (optional_name q)) u q ps (further at (optional_name q) h) formed w.1)
 
 overrides_good : (at : Place) (m : Module) (u : Use) (given : List (List ℕ)) (xs : List Connection)

@@ -18,6 +18,8 @@ use Rattle.vl_mean.specs.Runs.{Each}
 use Rattle.vl_mean.specs.Scopes.{Scope}
 use Rattle.vl_mean.specs.Walk.{Contents, parameter_names, port_names}
 use Rattle.vl_mean_flat.proofs.EachOf.{both}
+use Rattle.vl_elab_spec.specs.declared.role.Role.{Role}
+use Rattle.vl_elab_spec.specs.declared.role.Role.TheVariants as roles
 use Rattle.vl_elab_spec.specs.Meanings.{Meaning, undeclared, constant, loop_variable, object, faulty, shapeless, later}
 use Rattle.vl_elab_spec.specs.Meanings.{Names, is_undeclared, meaning_of, object_or, parameters_of, all_later}
 use Rattle.vl_elab_spec.specs.Meanings.{port_meanings, name_meanings, item_meanings, items_meanings, scope_meanings}
@@ -30,16 +32,16 @@ use Rattle.vl_elab_accepted_laws.proofs.Level.{steps_are, unlisted, listed, own_
 
 -- a net, a variable or a genvar
 abbrev pub IsThing : Meaning → Type 0
-IsThing (object d input scalar) = Unit {0}
+IsThing (object d role scalar) = Unit {0}
 IsThing shapeless = Unit {0}
 IsThing loop_variable = Unit {0}
 IsThing m = ⊥
 
-thing_object : (known : Bool) (o : Option Decl) (input scalar : Bool) → IsThing (object_or known o input scalar)
-thing_object true (Some d) input scalar = tt
-thing_object true None input scalar = tt
-thing_object false (Some d) input scalar = tt
-thing_object false None input scalar = tt
+thing_object : (known : Bool) (o : Option Decl) (role : Role) (scalar : Bool) → IsThing (object_or known o role scalar)
+thing_object true (Some d) role scalar = tt
+thing_object true None role scalar = tt
+thing_object false (Some d) role scalar = tt
+thing_object false None role scalar = tt
 
 abbrev Things : Names → Type 0
 Things ns = Each (λ n. IsThing n.1) ns
@@ -49,19 +51,19 @@ module _ (s : Scope) (outer : List Names) where
   thing_ports ns [] = tt
   thing_ports ns (p ∷ ps) = (thing_object _ _ _ _, thing_ports ns ps)
 
-  thing_names : (ns : List Names) (c : Class) (known scalar : Bool) (xs : List DeclaredName)
-      → Things (name_meanings s outer ns c known scalar xs)
-  thing_names ns c known scalar [] = tt
-  thing_names ns c known scalar (x ∷ xs) = (thing_object _ _ _ _, thing_names ns c known scalar xs)
+  thing_names : (ns : List Names) (c : Class) (role : Role) (known scalar : Bool) (xs : List DeclaredName)
+      → Things (name_meanings s outer ns c role known scalar xs)
+  thing_names ns c role known scalar [] = tt
+  thing_names ns c role known scalar (x ∷ xs) = (thing_object _ _ _ _, thing_names ns c role known scalar xs)
 
   thing_genvars : (xs : List (List ℕ)) → Things (map (λ text. (text, loop_variable)) xs)
   thing_genvars [] = tt
   thing_genvars (x ∷ xs) = (tt, thing_genvars xs)
 
   thing_item : (ns : List Names) (x : Item) → Things (item_meanings s outer ns x)
-  thing_item ns (declaration attrs p d) = thing_names ns _ _ _ d.names
+  thing_item ns (declaration attrs p d) = thing_names ns _ _ _ _ d.names
   thing_item ns (integer attrs p xs) =
-      thing_names ns (class_of_attributes class.Variable (joined_attributes attrs)) true false xs
+      thing_names ns (class_of_attributes class.Variable (joined_attributes attrs)) roles.Variable true false xs
   thing_item ns (genvar attrs p xs) = thing_genvars xs
   thing_item ns (parameter attrs p kind xs) = tt
   thing_item ns (assign attrs p xs) = tt

@@ -8,7 +8,7 @@ use Rattle.vl_elab_spec.specs.Items.{inner_meanings}
 use Rattle.vl_elab_spec.specs.Meanings.{Meaning, object, meaning_in}
 
 abbrev pub IsObject : Meaning → Type 0
-IsObject (object d input scalar) = Unit {0}
+IsObject (object d role scalar) = Unit {0}
 IsObject m = ⊥
 
 -- each port of the module is a net or a variable in it: no parameter has its name

@@ -11,7 +11,7 @@ abbrev pub MeansIn : List Scope → List ℕ → Meaning → Type 0
 MeansIn ss text undeclared = Unit {0}
 MeansIn ss text (constant c selected) = constant_in ss text ≡ Some c
 MeansIn ss text loop_variable = Unit {0}
-MeansIn ss text (object d input scalar) =
+MeansIn ss text (object d role scalar) =
     (constant_in ss text ≡ None) × (declared_as (visible ss) text ≡ Some d) × IsShaped d
 MeansIn ss text faulty = ⊥
 MeansIn ss text shapeless = ⊥

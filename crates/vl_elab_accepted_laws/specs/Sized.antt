@@ -14,7 +14,7 @@ abbrev pub IsSound : Meaning → Type 0
 IsSound undeclared = Unit {0}
 IsSound (constant c selected) = Unit {0}
 IsSound loop_variable = Unit {0}
-IsSound (object d input scalar) = IsShaped d
+IsSound (object d role scalar) = IsShaped d
 IsSound faulty = ⊥
 IsSound shapeless = ⊥
 IsSound later = Unit {0}
@@ -33,7 +33,7 @@ AreSound ns = (text : List ℕ) → IsSound (meaning_in ns text)
 
 -- the name is that of a net or a variable, and not of the clock
 abbrev pub IsRead : Meaning → Type 0
-IsRead (object d input scalar) = is_clock_class d.class ≡ false
+IsRead (object d role scalar) = is_clock_class d.class ≡ false
 IsRead m = ⊥
 
 -- with numbers in place of constants it has a size, which is that without a limit; it is constant where that is

@@ -1,7 +1,7 @@
 //! That the parts of items, ports and connections which aren't refused are known.
 ghost use Rattle.std.specs.Prelude.{◌≡◌, ℕ, List, []};
-ghost use Rattle.fv_text.specs.declared.pos.Pos.{Pos};
 ghost use Rattle.vl_tree.specs.declared.declaration.FullPort.{FullPort};
+ghost use Rattle.vl_tree.specs.declared.declaration.Port.{Port};
 ghost use Rattle.vl_tree.specs.declared.source.Module.{Module};
 ghost use Rattle.vl_tree.specs.ExprWellFormed.{IsName, IsValue};
 ghost use Rattle.vl_tree.specs.Item.{Item};
@@ -28,8 +28,8 @@ pub fn items_are_known()
 
 /// The same of a port.
 pub fn ports_are_known()
-    ensures { (at : Place) (u : Use) (p : Pos) (q : FullPort) → AreRight (meanings_at at) at.scopes
-        → AreSound (meanings_at at) → IsName q.name → IsValue q.value → port_refusals at p q ≡ []
+    ensures { (at : Place) (u : Use) (p : Port) (q : FullPort) → AreRight (meanings_at at) at.scopes
+        → AreSound (meanings_at at) → IsName q.name → IsValue q.value → port_refusals at p.pos q ≡ []
         → Each Known (step_parts (port at u p q)) }
 {}
 

@@ -5,7 +5,6 @@ use Rattle.std.proofs.Common.{ap, sym, ◌∙◌, subst}
 use Rattle.std.proofs.lemmas.List.{append-nil, append_assoc}
 use Rattle.fv_text.specs.declared.pos.Pos.{Pos}
 use Rattle.vl_tree.specs.declared.item.Block as declared
-use Rattle.vl_tree.specs.declared.item.ItemKind.{ItemKind}
 use Rattle.vl_tree.specs.declared.item.ItemKind.TheVariants as k
 use Rattle.vl_tree.specs.declared.part.LoopHead.{LoopHead}
 use Rattle.vl_tree.specs.declared.source.Module.{Module}
@@ -31,7 +30,6 @@ use Rattle.vl_tree.specs.ItemView.{shown}
 use Rattle.vl_mean.specs.Declarations.{names_of, labels_of}
 use Rattle.vl_mean.specs.Walk.{Place}
 use Rattle.vl_elab_spec.specs.declared.elab_fault.ElabFault.{ElabFault}
-use Rattle.vl_elab_spec.specs.Counts.{item_pos}
 use Rattle.vl_elab_spec.specs.Expressions.{own_refusals}
 use Rattle.vl_elab_spec.specs.Items.{head_refusals, item_refusals, labels_twice, placed_labels}
 use Rattle.vl_elab_spec.specs.Meanings.{item_names, meaning_in, meanings_at}
@@ -175,22 +173,6 @@ labels_behind (generate attrs p mark) h = refl
 labels_behind (for_loop attrs p head b) h = refl
 labels_behind (if_only attrs p c b) h = refl
 labels_behind (if_else attrs p c b d) h = refl
-
--- ---- its place
-
-pub shown_pos : (attrs : Attributes) (p : Pos) (kind : ItemKind) → item_pos (shown attrs p kind) ≡ p
-shown_pos attrs p (k.Declaration d) = refl
-shown_pos attrs p (k.Integer names) = refl
-shown_pos attrs p (k.Genvar names) = refl
-shown_pos attrs p (k.Parameter kind ps) = refl
-shown_pos attrs p (k.Assign xs) = refl
-shown_pos attrs p (k.Always event s) = refl
-shown_pos attrs p (k.Initial s) = refl
-shown_pos attrs p (k.Instance x) = refl
-shown_pos attrs p (k.Generate mark) = refl
-shown_pos attrs p (k.For head body) = refl
-shown_pos attrs p (k.If c first None) = refl
-shown_pos attrs p (k.If c first (Some second)) = refl
 
 -- ---- a loop
 

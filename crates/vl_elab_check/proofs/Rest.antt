@@ -125,7 +125,7 @@ same_steps at u last kind [] = refl
 same_steps at u last kind (p ∷ ps) = ap (λ q. behind q) (same_port last kind p.kind)
   where
     behind : Option FullPort → List Step
-    behind q = port_step at u p.pos q ++ port_steps (with_earlier at (optional_name q)) u q ps
+    behind q = port_step at u p q ++ port_steps (with_earlier at (optional_name q)) u q ps
 
 pub same_ports : (last : Option FullPort) (kind : PortKind) (ps : List Port)
     → full_ports (full_port last kind) ps ≡ full_ports (next_full last kind) ps

@@ -25,6 +25,7 @@ use vl_elab_check_instance::{
 };
 use vl_elab_count::{Added, optional_nodes};
 use vl_elab_names::NameSet;
+use vl_elab_places::given_place;
 use vl_elab_scope::Names;
 use vl_elab_spec::{ElabFault, Totals};
 use vl_mean::widths::plus;
@@ -61,7 +62,8 @@ fn walk_override(
         nodes: value_nodes(&given.value),
         names: 0,
     };
-    Ok(weighed(fault, added, given.pos, totals))
+    let pos = given_place(given.pos, &given.value, added, *totals);
+    Ok(weighed(fault, added, pos, totals))
 }
 
 /// What an instance gives to the parameters of its module: the first refusal. None exactly where none is refused; then
@@ -127,7 +129,8 @@ fn walk_connection(
         nodes: value_nodes(&given.value),
         names: 0,
     };
-    Ok(weighed(fault, added, given.pos, totals))
+    let pos = given_place(given.pos, &given.value, added, *totals);
+    Ok(weighed(fault, added, pos, totals))
 }
 
 /// The same of what it joins to the ports. `numbers`: the numbers of constants where it stands; `clocks`: the inputs of

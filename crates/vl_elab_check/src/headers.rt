@@ -21,6 +21,7 @@ use vl_elab_const::Given;
 use vl_elab_count::{Added, expr_nodes, range_nodes};
 use vl_elab_names::NameSet;
 use vl_elab_params::Reached;
+use vl_elab_places::header_place;
 use vl_elab_scope::Names;
 use vl_elab_spec::{ElabFault, Totals};
 use vl_mean::widths::plus;
@@ -58,7 +59,8 @@ fn walk_header(
         nodes: parameter_nodes(parameter),
         names: 0,
     };
-    Ok(weighed(fault, added, parameter.pos, totals))
+    let pos = header_place(parameter, added, *totals);
+    Ok(weighed(fault, added, pos, totals))
 }
 
 /// The parameters of a module's head: the first refusal of them. None exactly where none is refused; then they stand

@@ -26,6 +26,7 @@ use vl_elab_const::Given;
 use vl_elab_count::item_added;
 use vl_elab_names::{ModulePath, ModuleTable, NameSet};
 use vl_elab_params::Reached;
+use vl_elab_places::item_place;
 use vl_elab_scope::Names;
 use vl_elab_spec::{ElabFault, Totals};
 use vl_tree::{Item, ItemKind, Module};
@@ -120,9 +121,10 @@ pub fn walk_item(
         → IsReached reached.new at (at.earlier ++ item_names item.now)) }
 {
     let added = item_added(alloc, item, names, numbers)?;
+    let pos = item_place(alloc, item, added, names, numbers, *totals)?;
     let fault = item_fault(
         alloc, modules, all, path, item, names, numbers, earlier, reached, given,
     )?;
     pass_declared(alloc, item, names, reached)?;
-    Ok(weighed(fault, added, item.pos, totals))
+    Ok(weighed(fault, added, pos, totals))
 }

@@ -18,12 +18,13 @@ ghost use Rattle.vl_elab_check.specs.Ports as spec;
 
 use crate::passed::add_name;
 use crate::step::weighed;
-use fv_text::{Memory, Pos, Text};
+use fv_text::{Memory, Text};
 use std::alloc::Global;
 use vl_elab_check_scope::port_step_fault;
 use vl_elab_count::{Added, optional_nodes, range_nodes};
 use vl_elab_names::NameSet;
 use vl_elab_params::Reached;
+use vl_elab_places::port_place;
 use vl_elab_scope::Names;
 use vl_elab_spec::{ElabFault, Totals};
 use vl_mean::widths::plus;
@@ -69,7 +70,7 @@ fn port_nodes(full: &FullPort, value: &Option<Expr>) -> u64
 
 fn walk_full(
     alloc: Global,
-    pos: Pos,
+    written: &Port,
     full: &FullPort,
     text: &Text,
     value: &Option<Expr>,
@@ -80,20 +81,21 @@ fn walk_full(
 ) -> Result<Option<ElabFault>, Memory>
     ensures walked { IfOk result (λ g. (ms : List Module) (at : Place) (u : Use) (t : refused.Totals)
         → Alike names.now (meanings_at at) → AreNames earlier.old at.earlier → AreTotals totals.old t
-        → AreWalked ms t totals.new (port at u pos (renamed full.now text.now value.now) ∷ []) g) }
+        → AreWalked ms t totals.new (port at u written.now (renamed full.now text.now value.now) ∷ []) g) }
     ensures earlier { OnOk result ((before : List (List ℕ)) → AreNames earlier.old before
         → AreNames earlier.new (before ++ text.now ∷ [])) }
     ensures reached { OnOk result ((at : Place) (before : List (List ℕ)) → Alike names.now (meanings_at at)
         → IsReached reached.old at before → IsReached reached.new at (before ++ text.now ∷ [])) }
 {
-    let fault = port_step_fault(alloc, pos, full, text, value, names, earlier)?;
+    let fault = port_step_fault(alloc, written.pos, full, text, value, names, earlier)?;
     add_name(alloc, text, earlier)?;
     reached.pass(alloc, text, names)?;
     let added = Added {
         nodes: port_nodes(full, value),
         names: 1,
     };
-    Ok(weighed(fault, added, pos, totals))
+    let place = port_place(written.pos, &full.shape.range, value, added, *totals);
+    Ok(weighed(fault, added, place, totals))
 }
 
 /// One that is written short behind no other is none.
@@ -109,7 +111,7 @@ fn walk_port(
     ensures walked { IfOk result (λ g. (ms : List Module) (at : Place) (u : Use) (t : refused.Totals)
         → Alike names.now (meanings_at at) → AreNames earlier.old at.earlier → AreTotals totals.old t
         → AreWalked ms t totals.new
-        (port_step at u port.now.pos (full_port (option_copied last.entry) port.now.kind)) g) }
+        (port_step at u port.now (full_port (option_copied last.entry) port.now.kind)) g) }
     ensures earlier { OnOk result ((before : List (List ℕ)) → AreNames earlier.old before
         → AreNames earlier.new
         (before ++ optional_name (full_port (option_copied last.entry) port.now.kind))) }
@@ -123,7 +125,7 @@ fn walk_port(
             let text = port_text(&port.kind);
             let value = port_value(&port.kind);
             walk_full(
-                alloc, port.pos, full, text, value, names, earlier, reached, totals,
+                alloc, port, full, text, value, names, earlier, reached, totals,
             )
         }
     }

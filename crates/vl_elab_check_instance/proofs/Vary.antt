@@ -138,7 +138,7 @@ module _ (ns : List Names) where
   read false p text shapeless ss = refl
   read fixed p text later ss = refl
   read fixed p text (constant c selected) ss = sym (vector selected (vector_of text c) ss)
-  read fixed p text (object d input scalar) ss =
+  read fixed p text (object d role scalar) ss =
       demanded p (is_clock_class d.class) fixed (object_selects ns p scalar d ss) (selected p scalar d ss)
 
   mutual

@@ -19,6 +19,7 @@ port_with d text = record {
   net = None;
   shape = record { signed = false; range = None };
   name = text;
+  name_pos = record { file = 0; line = 1; col = 1 };
   value = None;
 }
 

@@ -30,7 +30,7 @@ use Rattle.vl_elab_spec.specs.Meanings.{Meaning, object, shapeless, later, Names
 -- a net or a variable does, where a constant is asked for
 abbrev pub name_varies : Bool → Meaning → Bool
 name_varies fixed later = true
-name_varies fixed (object d input scalar) = fixed
+name_varies fixed (object d role scalar) = fixed
 name_varies fixed shapeless = fixed
 name_varies fixed m = false
 

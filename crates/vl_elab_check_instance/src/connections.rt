@@ -15,7 +15,7 @@ ghost use Rattle.vl_elab_check_instance.specs.Ports.{AreDirectionsOf};
 use crate::clock::is_clock;
 use crate::connection::connection_fault;
 use crate::ports::PortTable;
-use fv_text::{List, Memory, Text};
+use fv_text::{List, Memory, Pos, Text};
 use std::alloc::Global;
 use vl_elab_names::NameSet;
 use vl_elab_scope::Names;
@@ -35,6 +35,11 @@ fn port_with(alloc: Global, direction: Direction, name: &Text) -> Result<FullPor
             range: None,
         },
         name: name.copied(alloc)?,
+        name_pos: Pos {
+            file: 0,
+            line: 1,
+            col: 1,
+        },
         value: None,
     })
 }

@@ -12,7 +12,7 @@ ghost use Rattle.vl_elab_scope.specs.Seen.{seen};
 use fv_text::Text;
 use vl_elab_check_expr::{either, is_constant};
 use vl_elab_scope::{Meaning, Names};
-use vl_size::Class;
+use vl_elab_spec::Role;
 use vl_size::way::divides;
 use vl_tree::{Expr, ExprKind, Lval, LvalKind, Select};
 
@@ -131,17 +131,17 @@ pub fn selects_vary(all: &[Select], names: &Names) -> bool
     any_select_varies(all, true, names)
 }
 
-fn is_variable(class: Class) -> bool
-    ensures { result ≡ meanings.is_variable_class class }
+fn is_variable(role: Role) -> bool
+    ensures { result ≡ meanings.is_declared_variable role }
 {
-    matches!(class, Class::Variable)
+    matches!(role, Role::Variable)
 }
 
 fn is_net_name(meaning: &Meaning) -> bool
     ensures { result ≡ items.is_net_name (seen meaning.now) }
 {
     match meaning {
-        Meaning::Object(object) => !is_variable(object.decl.class),
+        Meaning::Object(object) => !is_variable(object.role),
         Meaning::Faulty | Meaning::Shapeless => true,
         Meaning::Constant(_, _) | Meaning::LoopVariable | Meaning::Later => false,
     }

@@ -323,7 +323,7 @@ module _ (at : Place) (ns numbers : List Names) (same : Alike ns (meanings_at at
       ∙ ap (λ b. b && has_value (meanings_at at) head.start) (none_lowest start))
       (ap (begun_fault ns numbers head p) same_first ∙ same_begun first) same_without)
   same_kind (constant c selected) = other
-  same_kind (object d input scalar) = other
+  same_kind (object d role scalar) = other
   same_kind faulty = other
   same_kind shapeless = other
   same_kind later = other

@@ -104,7 +104,7 @@ module _ (ns : List Names) where
   read fixed p text shapeless ss = high_if fixed (f.NotConstant p) refl
   read fixed p text later ss = (refl, tt)
   read fixed p text (constant c selected) ss = vector selected (vector_of text c) ss
-  read fixed p text (object d input scalar) ss =
+  read fixed p text (object d role scalar) ss =
       let clock = refused_if (is_clock_class d.class) (f.Clock p) in
       let varies = refused_if fixed (f.NotConstant p) in
       join (clock ++ varies) (object_selects ns p scalar d ss)

@@ -21,7 +21,7 @@ use vl_elab_check_expr::{
     is_constant, judge_selects, kind_if, name_width, object_fault, plus, vector_fault, vector_of,
 };
 use vl_elab_scope::{Meaning, Names, own_zero_divisor_of};
-use vl_elab_spec::ElabFault;
+use vl_elab_spec::{ElabFault, Role};
 use vl_size::Class;
 use vl_size::earlier::earlier_place;
 use vl_tree::{Expr, Lval, LvalKind, Select};
@@ -45,6 +45,12 @@ fn may_be_assigned(continuous: bool, class: Class) -> bool
     }
 }
 
+fn is_input(role: Role) -> bool
+    ensures { result ≡ meanings.is_input role }
+{
+    matches!(role, Role::Input)
+}
+
 fn assigned_fault(
     alloc: Global,
     continuous: bool,
@@ -61,7 +67,7 @@ fn assigned_fault(
         Meaning::Object(object) => object_assigned(
             alloc,
             either(
-                object.input,
+                is_input(object.role),
                 !may_be_assigned(continuous, object.decl.class),
             ),
             object.decl.class,

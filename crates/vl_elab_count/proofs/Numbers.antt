@@ -42,7 +42,7 @@ use Rattle.vl_elab_count.specs.Counts.{if_has_block}
 -- ---- names
 
 module _ (ns : List Names) (ss : List Scope) (h : HaveNumbers ns ss) where
-  one_name : (r : Option Range) → name_count ns r ≡ count_of (word_bounds ss r)
+  pub one_name : (r : Option Range) → name_count ns r ≡ count_of (word_bounds ss r)
   one_name None = refl
   one_name (Some r) =
       λ i. span (index_of (constant_operand (λ text. h text i) r.left))
@@ -76,7 +76,7 @@ module _ (ns : List Names) (ss : List Scope) (h : HaveNumbers ns ss) where
 -- ---- turns
 
 module _ (ns : List Names) (at : Place) (h : HaveNumbers ns at.scopes) (head : LoopHead) where
-  inside : (c : Const) (text : List ℕ)
+  pub inside : (c : Const) (text : List ℕ)
       → constants (in_turn head.variable c ns) text ≡ constant_in (with_genvar head.variable c at.scopes) text
   inside c text = by (bytes_eq text head.variable)
     where
@@ -98,7 +98,7 @@ module _ (ns : List Names) (at : Place) (h : HaveNumbers ns at.scopes) (head : L
       ∙ ap (λ more. nodes head.condition + (if goes_on head at.scopes c then nodes head.next + 1 + more else 0))
       (same_turns n (next_turn head at.scopes c))
 
-  first : genvar_number ns head.start ≡ first_turn head at.scopes
+  pub first : genvar_number ns head.start ≡ first_turn head at.scopes
   first = λ i. genvar_value (constant_operand (λ text. h text i) head.start)
 
   all_turns : turn_nodes 4096 ns head (genvar_number ns head.start)

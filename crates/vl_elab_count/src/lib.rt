@@ -14,5 +14,7 @@ mod turns;
 
 pub use count_items::{optional_nodes, parameter_nodes, range_nodes};
 pub use exprs::{expr_nodes, target_nodes};
+pub use names::one_name;
 pub use stmts::stmt_nodes;
 pub use totals_items::{Added, item_added};
+pub use turns::next_turn;

@@ -24,7 +24,8 @@ fn range_words(alloc: Global, range: &Range, numbers: &Names) -> Result<u64, Mem
     Ok(plus(span_between(left, right), 1))
 }
 
-fn one_name(alloc: Global, words: &Option<Range>, numbers: &Names) -> Result<u64, Memory>
+/// A name, with the words of a memory.
+pub fn one_name(alloc: Global, words: &Option<Range>, numbers: &Names) -> Result<u64, Memory>
     ensures { IfOk result (λ n. n ≡ capped (spec.name_count numbers.now words.now)) }
 {
     match words {

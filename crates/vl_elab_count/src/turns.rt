@@ -20,7 +20,7 @@ use vl_mean::widths::plus;
 use vl_tree::LoopHead;
 
 /// The value of the turn behind the one with this value. None exactly where that one doesn't begin.
-fn next_turn(
+pub fn next_turn(
     alloc: Global,
     head: &LoopHead,
     value: Const,

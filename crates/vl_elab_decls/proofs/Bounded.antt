@@ -117,10 +117,10 @@ module _ (ns : List Names) (ss : List Scope) (among : AreAmong (constants ns) (c
 pub object_is : (k j : Bool) (f : Form) (e : Extent) (w : Option (ℤ × ℤ)) (text : List ℕ) (d : Decl)
     → is_plain text ≡ true → (k ≡ true → j ≡ true → decl_with f e text w ≡ d)
     → object_with f text (if k then Some e else None) (if j then Some w else None)
-    ≡ object_or (k && j) (Some d) f.input f.scalar
+    ≡ object_or (k && j) (Some d) f.role f.scalar
 object_is true true f e w text d p h =
-    ap (λ b. if b then object (decl_with f e text w) f.input f.scalar else shapeless) p
-    ∙ ap (λ d. object d f.input f.scalar) (h refl refl)
+    ap (λ b. if b then object (decl_with f e text w) f.role f.scalar else shapeless) p
+    ∙ ap (λ d. object d f.role f.scalar) (h refl refl)
 object_is true false f e w text d p h = refl
 object_is false true f e w text d p h = refl
 object_is false false f e w text d p h = refl
@@ -131,7 +131,7 @@ object_named f text None w = tt
 object_named f text (Some e) None = tt
 object_named f text (Some e) (Some w) = by (is_plain text)
   where
-    by : (b : Bool) → IsNamed (text, (if b then object (decl_with f e text w) f.input f.scalar else shapeless))
+    by : (b : Bool) → IsNamed (text, (if b then object (decl_with f e text w) f.role f.scalar else shapeless))
     by true = refl
     by false = tt
 

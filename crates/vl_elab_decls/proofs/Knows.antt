@@ -33,11 +33,13 @@ use Rattle.vl_mean.specs.declared.const_number.Const.{Const}
 use Rattle.vl_mean.specs.Constants.{Constants, constant_of}
 use Rattle.vl_mean.specs.Declarations.{Overrides, class_of_attributes, class_of_kind, joined_attributes}
 use Rattle.vl_mean.specs.Scopes.{Scope}
+use Rattle.vl_elab_spec.specs.declared.role.Role.{Role}
+use Rattle.vl_elab_spec.specs.declared.role.Role.TheVariants as roles
 use Rattle.vl_elab_spec.specs.Meanings.{Meaning, undeclared, constant, loop_variable, object, faulty, shapeless, later}
 use Rattle.vl_elab_spec.specs.Meanings.{Names, is_undeclared, meaning_of, value_of, is_known_parameter, may_be_selected}
 use Rattle.vl_elab_spec.specs.Meanings.{constant_or, object_or, with_parameter_meanings, with_item_constants}
 use Rattle.vl_elab_spec.specs.Meanings.{port_meanings, name_meanings, item_meanings, items_meanings, is_known_shape}
-use Rattle.vl_elab_spec.specs.Meanings.{is_known_range, may_have_words, is_input}
+use Rattle.vl_elab_spec.specs.Meanings.{is_known_range, may_have_words, role_of_kind, role_of_port}
 
 module _ (s : Scope) where
   -- each name that means a constant has the scope's
@@ -68,11 +70,12 @@ module _ (s : Scope) where
   or_right false None selected c e = cc
   or_right false (Some b) selected c e = cc
 
-  no_value : (known : Bool) (o : Option Decl) (input scalar : Bool) → value_of (object_or known o input scalar) ≡ None
-  no_value true None input scalar = refl
-  no_value true (Some d) input scalar = refl
-  no_value false None input scalar = refl
-  no_value false (Some d) input scalar = refl
+  no_value : (known : Bool) (o : Option Decl) (role : Role) (scalar : Bool)
+      → value_of (object_or known o role scalar) ≡ None
+  no_value true None role scalar = refl
+  no_value true (Some d) role scalar = refl
+  no_value false None role scalar = refl
+  no_value false (Some d) role scalar = refl
 
   not_there : (o : Option Const) (c : Const) → o ≡ None → o ≡ Some c → (p : Option Const) → p ≡ Some c
   not_there o c e f p = cc
@@ -127,14 +130,14 @@ module _ (s : Scope) where
       by false = k text
 
   module _ (outer known : List Names) where
-    names_before : (c : Class) (k scalar : Bool) (xs : List DeclaredName) (more : Names) → NoValue more
-        → NoValue (name_meanings s outer known c k scalar xs ++ more)
-    names_before c k scalar [] more h = h
-    names_before c k scalar (x ∷ xs) more h =
+    names_before : (c : Class) (role : Role) (k scalar : Bool) (xs : List DeclaredName) (more : Names) → NoValue more
+        → NoValue (name_meanings s outer known c role k scalar xs ++ more)
+    names_before c role k scalar [] more h = h
+    names_before c role k scalar (x ∷ xs) more h =
         let right = k && (is_known_range known x.words && may_have_words c x.words x.value) in
         let found = declared_as s.decls x.name in
-        one_more x.name (object_or right found false scalar) (name_meanings s outer known c k scalar xs ++ more)
-        (no_value right found false scalar) (names_before c k scalar xs more h)
+        one_more x.name (object_or right found role scalar) (name_meanings s outer known c role k scalar xs ++ more)
+        (no_value right found role scalar) (names_before c role k scalar xs more h)
 
     genvars_before : (xs : List (List ℕ)) (more : Names) → NoValue more
         → NoValue (map (λ text. (text, loop_variable)) xs ++ more)
@@ -144,10 +147,10 @@ module _ (s : Scope) where
 
     item_before : (x : Item) (more : Names) → NoValue more → NoValue (item_meanings s outer known x ++ more)
     item_before (declaration attrs p d) more h =
-        names_before (class_of_attributes (class_of_kind d.net) (joined_attributes attrs))
+        names_before (class_of_attributes (class_of_kind d.net) (joined_attributes attrs)) (role_of_kind d.net)
         (is_known_shape known d.shape.range) (is_none d.shape.range) d.names more h
     item_before (integer attrs p xs) more h =
-        names_before (class_of_attributes class.Variable (joined_attributes attrs)) true false xs more h
+        names_before (class_of_attributes class.Variable (joined_attributes attrs)) roles.Variable true false xs more h
     item_before (genvar attrs p xs) more h = genvars_before xs more h
     item_before (parameter attrs p kind xs) more h = h
     item_before (assign attrs p xs) more h = h
@@ -169,9 +172,9 @@ module _ (s : Scope) where
     objects_no_value (p ∷ ps) xs =
         let right = is_known_shape known p.shape.range in
         let found = declared_as s.decls p.name in
-        one_more p.name (object_or right found (is_input p.direction) (is_none p.shape.range))
+        one_more p.name (object_or right found (role_of_port p.direction p.net) (is_none p.shape.range))
         (port_meanings s outer known ps ++ items_meanings s outer known xs)
-        (no_value right found (is_input p.direction) (is_none p.shape.range)) (objects_no_value ps xs)
+        (no_value right found (role_of_port p.direction p.net) (is_none p.shape.range)) (objects_no_value ps xs)
 
 -- ---- constants as names
 

@@ -43,9 +43,12 @@ use Rattle.vl_mean.specs.Declarations.{declared_integers, declared_by, declared,
 use Rattle.vl_mean.specs.Declarations.{port_decl, full_port, full_ports, is_output, class_of_port, word_bounds}
 use Rattle.vl_mean.specs.Scopes.{Scope, constant_in}
 use Rattle.vl_mean.specs.Walk.{Use, port_names}
+use Rattle.vl_elab_spec.specs.declared.role.Role.{Role}
+use Rattle.vl_elab_spec.specs.declared.role.Role.TheVariants as roles
 use Rattle.vl_elab_spec.specs.Meanings.{value_of, Names, constants, object_or}
 use Rattle.vl_elab_spec.specs.Meanings.{is_known_range, is_known_shape, may_have_words, item_names}
-use Rattle.vl_elab_spec.specs.Meanings.{items_names, is_input, port_meanings, name_meanings, item_meanings}
+use Rattle.vl_elab_spec.specs.Meanings.{items_names, port_meanings, name_meanings, item_meanings}
+use Rattle.vl_elab_spec.specs.Meanings.{role_of_kind, role_of_port}
 use Rattle.vl_elab_spec.specs.Meanings.{items_meanings}
 use Rattle.vl_elab_scope.specs.Alike.{Alike}
 use Rattle.vl_elab_scope.proofs.Items.{same_known_range}
@@ -91,7 +94,7 @@ module _ (s : Scope) (outer ns ms : List Names) (h : Alike ns ms) (ss : List Sco
   vector_is : (f : Form) (shape : Shape) (text : List ℕ) (k : Bool) (words : Option Range) → is_plain text ≡ true
       → f.signed ≡ shape.signed
       → object_with f text (known_extent ns shape.range) (if k then Some (word_bounds ss words) else None)
-      ≡ object_or (is_known_shape ms shape.range && k) (Some (vector ss f.class f.output shape text words)) f.input
+      ≡ object_or (is_known_shape ms shape.range && k) (Some (vector ss f.class f.output shape text words)) f.role
       f.scalar
   vector_is f shape text k words p same =
       object_is (is_known_shape ns shape.range) k f (extent_of ns shape.range) (word_bounds ss words) text
@@ -106,7 +109,7 @@ module _ (s : Scope) (outer ns ms : List Names) (h : Alike ns ms) (ss : List Sco
         class = f.class;
         output = f.output;
       })
-      ∙ ap (λ known. object_or (known && k) (Some (vector ss f.class f.output shape text words)) f.input f.scalar)
+      ∙ ap (λ known. object_or (known && k) (Some (vector ss f.class f.output shape text words)) f.role f.scalar)
       (same_shape ns ms h shape.range)
 
   abbrev may : Class → DeclaredName → Bool
@@ -121,27 +124,28 @@ module _ (s : Scope) (outer ns ms : List Names) (h : Alike ns ms) (ss : List Sco
 
   -- ---- names that are declared together
 
-  module _ (f : Form) (c : Class) (known scalar : Bool) (dec : DeclaredName → Decl)
+  module _ (f : Form) (c : Class) (role : Role) (known scalar : Bool) (dec : DeclaredName → Decl)
       (named : (x : DeclaredName) → (dec x).name ≡ x.name)
       (one : (x : DeclaredName) → is_plain x.name ≡ true
       → object_with f x.name f.extent (words_if_known ns f.class x)
-      ≡ object_or (known && may c x) (Some (dec x)) false scalar) where
+      ≡ object_or (known && may c x) (Some (dec x)) role scalar) where
     all_shaped : (xs : List DeclaredName) (l m : Names) (before more : List Decl) → ArePlain (map (λ x. x.name) xs)
         → s.decls ≡ before ++ map dec xs ++ more → AreShaped l m before
-        → AreShaped (with_declared ns f l xs) (m ++ name_meanings s outer ms c known scalar xs) (before ++ map dec xs)
+        → AreShaped (with_declared ns f l xs) (m ++ name_meanings s outer ms c role known scalar xs)
+        (before ++ map dec xs)
     all_shaped [] l m before more p e k =
         shaped_to s l m _ before _ (sym (append-nil m)) (sym (append-nil before)) k
     all_shaped (x ∷ xs) l m before more p e k =
         let d = dec x in
         let ds = map dec xs in
         let kept = object_with f x.name f.extent (words_if_known ns f.class x) in
-        let meant = object_or (known && may c x) (declared_as s.decls x.name) false scalar in
+        let meant = object_or (known && may c x) (declared_as s.decls x.name) role scalar in
         shaped_to s (with_declared ns f l (x ∷ xs)) _ _ _ _
-        (append_assoc m ((x.name, meant) ∷ []) (name_meanings s outer ms c known scalar xs))
+        (append_assoc m ((x.name, meant) ∷ []) (name_meanings s outer ms c role known scalar xs))
         (append_assoc before (d ∷ []) ds)
         (all_shaped xs (with_one ns f l x) (m ++ (x.name, meant) ∷ []) (before ++ d ∷ []) more p.1
         (e ∙ ap (λ b. b ++ more) (sym (append_assoc before (d ∷ []) ds)))
-        (object_shaped s l m before k x.name d (named x) (ds ++ more) kept (known && may c x) false scalar
+        (object_shaped s l m before k x.name d (named x) (ds ++ more) kept (known && may c x) role scalar
         (e ∙ append_assoc before (d ∷ ds) more) (object_named f x.name f.extent (words_if_known ns f.class x))
         (one x p.0)))
 
@@ -164,14 +168,14 @@ module _ (s : Scope) (outer ns ms : List Names) (h : Alike ns ms) (ss : List Sco
       → AreShaped l m before
       → AreShaped (with_declared ns (declaration_form ns attrs d) l d.names)
       (m ++ name_meanings s outer ms (class_of_attributes (class_of_kind d.net) (joined_attributes attrs))
-      (is_known_shape ms d.shape.range) (is_none d.shape.range) d.names)
+      (role_of_kind d.net) (is_known_shape ms d.shape.range) (is_none d.shape.range) d.names)
       (before ++ declared_names ss (class_of_attributes (class_of_kind d.net) (joined_attributes attrs)) d.shape
       d.names)
   declaration_shaped attrs d l m before more p e k =
       let c = class_of_attributes (class_of_kind d.net) (joined_attributes attrs) in
       let f = declaration_form ns attrs d in
       shaped_to s (with_declared ns f l d.names) _ _ _ _ refl (ap (λ ds. before ++ ds) (names_map c d.shape d.names))
-      (all_shaped f c (is_known_shape ms d.shape.range) (is_none d.shape.range)
+      (all_shaped f c (role_of_kind d.net) (is_known_shape ms d.shape.range) (is_none d.shape.range)
       (λ x. vector ss c false d.shape x.name x.words) (λ x. refl)
       (λ x q. ap (object_with f x.name f.extent) (words_are c x) ∙ vector_is f d.shape x.name (may c x) x.words q refl)
       d.names l m before more p (e ∙ ap (λ ds. before ++ ds ++ more) (sym (names_map c d.shape d.names))) k)
@@ -179,7 +183,7 @@ module _ (s : Scope) (outer ns ms : List Names) (h : Alike ns ms) (ss : List Sco
   integer_is : (attrs : Attributes) (x : DeclaredName) → is_plain x.name ≡ true
       → (c : Class) → c ≡ class_of_attributes class.Variable (joined_attributes attrs)
       → object_with (integer_form attrs) x.name (integer_form attrs).extent (words_if_known ns c x)
-      ≡ object_or (may c x) (Some (integer_decl ss c x)) false false
+      ≡ object_or (may c x) (Some (integer_decl ss c x)) roles.Variable false
   integer_is attrs x q c e =
       let f = integer_form attrs in
       ap (object_with f x.name f.extent) (words_are c x)
@@ -201,13 +205,15 @@ module _ (s : Scope) (outer ns ms : List Names) (h : Alike ns ms) (ss : List Sco
       ++ more
       → AreShaped l m before
       → AreShaped (with_declared ns (integer_form attrs) l xs)
-      (m ++ name_meanings s outer ms (class_of_attributes class.Variable (joined_attributes attrs)) true false xs)
+      (m ++ name_meanings s outer ms (class_of_attributes class.Variable (joined_attributes attrs)) roles.Variable true
+      false xs)
       (before ++ declared_integers ss (class_of_attributes class.Variable (joined_attributes attrs)) xs)
   integer_shaped attrs xs l m before more p e k =
       let c = class_of_attributes class.Variable (joined_attributes attrs) in
       let f = integer_form attrs in
       shaped_to s (with_declared ns f l xs) _ _ _ _ refl (ap (λ ds. before ++ ds) (integers_map c xs))
-      (all_shaped f c true false (λ x. integer_decl ss c x) (λ x. refl) (λ x q. integer_is attrs x q c refl)
+      (all_shaped f c roles.Variable true false (λ x. integer_decl ss c x) (λ x. refl)
+      (λ x q. integer_is attrs x q c refl)
       xs l m before more p (e ∙ ap (λ ds. before ++ ds ++ more) (sym (integers_map c xs))) k)
 
   -- what declares no net and no variable, and no genvar
@@ -260,13 +266,14 @@ module _ (s : Scope) (outer ns ms : List Names) (h : Alike ns ms) (ss : List Sco
 
     port_is : (p : FullPort) → is_plain p.name ≡ true
         → object_with (form_of_port inputs (port_form ns p) p.name) p.name (known_extent ns p.shape.range) (Some None)
-        ≡ object_or (is_known_shape ms p.shape.range) (Some (port_decl ss u.is_top u.input p)) (is_input p.direction)
+        ≡ object_or (is_known_shape ms p.shape.range) (Some (port_decl ss u.is_top u.input p))
+        (role_of_port p.direction p.net)
         (is_none p.shape.range)
     port_is p q =
         vector_is (form_of_port inputs (port_form ns p) p.name) p.shape p.name true None q refl
         ∙ (λ i. object_or (true_behind (is_known_shape ms p.shape.range) i)
         (Some (vector ss (class_is p p.direction p.net i) (sym g.top i && is_output p.direction) p.shape p.name None))
-        (is_input p.direction) (is_none p.shape.range))
+        (role_of_port p.direction p.net) (is_none p.shape.range))
 
     abbrev form_behind : Option FullPort → Option PortForm
     form_behind None = None
@@ -299,9 +306,9 @@ module _ (s : Scope) (outer ns ms : List Names) (h : Alike ns ms) (ss : List Sco
             let d = port_decl ss u.is_top u.input p in
             let qs = full_ports (Some p) ps in
             let known = is_known_shape ms p.shape.range in
-            let input = is_input p.direction in
+            let role = role_of_port p.direction p.net in
             let scalar = is_none p.shape.range in
-            let meant = object_or known (declared_as s.decls p.name) input scalar in
+            let meant = object_or known (declared_as s.decls p.name) role scalar in
             let form = form_of_port inputs (port_form ns p) p.name in
             let kept = object_with form p.name (known_extent ns p.shape.range) (Some None) in
             shaped_to s _ _ _ _ _
@@ -309,7 +316,7 @@ module _ (s : Scope) (outer ns ms : List Names) (h : Alike ns ms) (ss : List Sco
             (append_assoc before (d ∷ []) (decls qs))
             (f (with_port inputs l (Some (port_form ns p)) p.name) (m ++ (p.name, meant) ∷ []) (before ++ d ∷ []) q.1
             (e ∙ ap (λ b. b ++ more) (sym (append_assoc before (d ∷ []) (decls qs))))
-            (object_shaped s l m before k p.name d refl (decls qs ++ more) kept known input scalar
+            (object_shaped s l m before k p.name d refl (decls qs ++ more) kept known role scalar
             (e ∙ append_assoc before (d ∷ decls qs) more)
             (object_named form p.name (known_extent ns p.shape.range) (Some None)) (port_is p q.0)))
 

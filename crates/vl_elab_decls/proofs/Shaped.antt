@@ -10,6 +10,7 @@ use Rattle.vl_size.specs.declared.decl.Class.{Class}
 use Rattle.vl_size.specs.declared.decl.Decl.{Decl}
 use Rattle.vl_size.specs.Table.{declared_as}
 use Rattle.vl_mean.specs.Scopes.{Scope}
+use Rattle.vl_elab_spec.specs.declared.role.Role.{Role}
 use Rattle.vl_elab_spec.specs.Meanings.{Meaning, undeclared, constant, loop_variable, object, faulty, shapeless, later}
 use Rattle.vl_elab_spec.specs.Meanings.{Names, is_undeclared, meaning_of, object_or}
 use Rattle.vl_elab_scope.specs.Seen.{IsNamed, AreNamed, with_name}
@@ -55,19 +56,19 @@ none_more (e ∷ ds) d text h k = by (bytes_eq text e.name) h (λ h. none_more d
     by true h f = cc
     by false h f = f h
 
-pub or_named : (known : Bool) (o : Option Decl) (text : List ℕ) (input scalar : Bool)
-    → ((d : Decl) → o ≡ Some d → d.name ≡ text) → IsNamed (text, object_or known o input scalar)
-or_named true None text input scalar h = tt
-or_named true (Some d) text input scalar h = h d refl
-or_named false None text input scalar h = tt
-or_named false (Some d) text input scalar h = tt
+pub or_named : (known : Bool) (o : Option Decl) (text : List ℕ) (role : Role) (scalar : Bool)
+    → ((d : Decl) → o ≡ Some d → d.name ≡ text) → IsNamed (text, object_or known o role scalar)
+or_named true None text role scalar h = tt
+or_named true (Some d) text role scalar h = h d refl
+or_named false None text role scalar h = tt
+or_named false (Some d) text role scalar h = tt
 
-or_there : (known : Bool) (o : Option Decl) (input scalar : Bool)
-    → is_undeclared (object_or known o input scalar) ≡ false
-or_there true None input scalar = refl
-or_there true (Some d) input scalar = refl
-or_there false None input scalar = refl
-or_there false (Some d) input scalar = refl
+or_there : (known : Bool) (o : Option Decl) (role : Role) (scalar : Bool)
+    → is_undeclared (object_or known o role scalar) ≡ false
+or_there true None role scalar = refl
+or_there true (Some d) role scalar = refl
+or_there false None role scalar = refl
+or_there false (Some d) role scalar = refl
 
 -- what is undeclared where both lists leave it so
 both_undeclared : (a b : Meaning) → is_undeclared (inner_or a b) ≡ true
@@ -75,7 +76,7 @@ both_undeclared : (a b : Meaning) → is_undeclared (inner_or a b) ≡ true
 both_undeclared undeclared b h = (refl, h)
 both_undeclared (constant c selected) b h = cc
 both_undeclared loop_variable b h = cc
-both_undeclared (object d input scalar) b h = cc
+both_undeclared (object d role scalar) b h = cc
 both_undeclared faulty b h = cc
 both_undeclared shapeless b h = cc
 both_undeclared later b h = cc
@@ -140,20 +141,20 @@ module _ (s : Scope) where
 
     -- a net or a variable
     pub object_shaped : (text : List ℕ) (d : Decl) → d.name ≡ text → (more : List Decl) (kept : Meaning)
-        (known input scalar : Bool) → s.decls ≡ before ++ d ∷ more → IsNamed (text, kept)
-        → kept ≡ object_or known (Some d) input scalar
+        (known : Bool) (role : Role) (scalar : Bool) → s.decls ≡ before ++ d ∷ more → IsNamed (text, kept)
+        → kept ≡ object_or known (Some d) role scalar
         → AreShaped (with_name l text kept)
-        (m ++ (text, object_or known (declared_as s.decls text) input scalar) ∷ []) (before ++ d ∷ [])
-    object_shaped text d is more kept known input scalar e named same =
+        (m ++ (text, object_or known (declared_as s.decls text) role scalar) ∷ []) (before ++ d ∷ [])
+    object_shaped text d is more kept known role scalar e named same =
         let found = declared_as s.decls text in
         let fresh : declared_as before text ≡ None → declared_as (before ++ d ∷ more) text ≡ Some d =
         subst (λ t. declared_as before t ≡ None → declared_as (before ++ d ∷ more) t ≡ Some d) is
         (fresh_found before more d) in
-        decl_shaped text kept (object_or known found input scalar) named
-        (or_named known found text input scalar (found_named s.decls text))
-        (λ k. same ∙ ap (λ o. object_or known o input scalar)
+        decl_shaped text kept (object_or known found role scalar) named
+        (or_named known found text role scalar (found_named s.decls text))
+        (λ k. same ∙ ap (λ o. object_or known o role scalar)
         (sym (ap (λ ds. declared_as ds text) e ∙ fresh (h.rest text k)))) d is
-        (or_there known found input scalar)
+        (or_there known found role scalar)
 
   pub shaped_to : (l m n : Names) (before after : List Decl) → m ≡ n → before ≡ after → AreShaped l m before
       → AreShaped l n after

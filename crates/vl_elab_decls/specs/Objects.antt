@@ -20,8 +20,9 @@ use Rattle.vl_size.specs.declared.decl.Decl.{Decl}
 use Rattle.vl_size.specs.Size.{is_bound}
 use Rattle.vl_size.specs.Table.{is_plain, span}
 use Rattle.vl_mean.specs.Declarations.{class_of_attributes, class_of_kind, joined_attributes, is_output}
+use Rattle.vl_elab_spec.specs.declared.role.Role.TheVariants as roles
 use Rattle.vl_elab_spec.specs.Meanings.{Meaning, loop_variable, object, faulty, shapeless, Names, bound, is_known_range}
-use Rattle.vl_elab_spec.specs.Meanings.{may_have_words, is_input}
+use Rattle.vl_elab_spec.specs.Meanings.{may_have_words, role_of_kind, role_of_port}
 use Rattle.vl_elab_scope.specs.Seen.{with_name}
 use Rattle.vl_elab_params.specs.declared.extents.Extent.{Extent}
 use Rattle.vl_elab_params.specs.Known.{known_extent}
@@ -54,7 +55,7 @@ abbrev pub object_with : Form → List ℕ → Option Extent → Option (Option 
 object_with f text None words = shapeless
 object_with f text (Some e) None = shapeless
 object_with f text (Some e) (Some words) =
-    if is_plain text then object (decl_with f e text words) f.input f.scalar else shapeless
+    if is_plain text then object (decl_with f e text words) f.role f.scalar else shapeless
 
 abbrev pub pair_between : ℤ → ℤ → Option (ℤ × ℤ)
 pair_between l r = if is_bound l && is_bound r then Some (l, r) else None
@@ -83,7 +84,7 @@ declaration_form ns attrs d = record {
   class = class_of_attributes (class_of_kind d.net) (joined_attributes attrs);
   signed = d.shape.signed;
   scalar = is_none d.shape.range;
-  input = false;
+  role = role_of_kind d.net;
   output = false;
   extent = known_extent ns d.shape.range;
 }
@@ -94,7 +95,7 @@ integer_form attrs = record {
   class = class_of_attributes class.Variable (joined_attributes attrs);
   signed = true;
   scalar = false;
-  input = false;
+  role = roles.Variable;
   output = false;
   extent = Some (record { bits = 32; left = pos 31; right = pos 0 });
 }
@@ -154,7 +155,7 @@ form_of_port inputs f text = record {
   class = port_class inputs f.direction f.net text;
   signed = f.signed;
   scalar = f.scalar;
-  input = is_input f.direction;
+  role = role_of_port f.direction f.net;
   output = is_top inputs && is_output f.direction;
   extent = f.extent;
 }

@@ -10,6 +10,7 @@ use fv_text::{Memory, Text};
 use std::alloc::Global;
 use vl_elab_params::Extent;
 use vl_elab_scope::{Level, Meaning, Object};
+use vl_elab_spec::Role;
 use vl_size::{Class, Decl};
 use vl_tree::{Direction, NetKind};
 
@@ -19,7 +20,7 @@ pub(crate) struct Form {
     pub class: Class,
     pub signed: bool,
     pub scalar: bool,
-    pub input: bool,
+    pub role: Role,
     pub output: bool,
     pub extent: Option<Extent>,
 }
@@ -65,11 +66,11 @@ fn decl_with(
 fn object(decl: Decl, form: Form) -> Meaning
     requires shaped { IsShaped decl }
     requires plain { IsPlain decl }
-    ensures { seen result ≡ meanings.object decl form.input form.scalar }
+    ensures { seen result ≡ meanings.object decl form.role form.scalar }
 {
     Meaning::Object(Object {
         decl,
-        input: form.input,
+        role: form.role,
         scalar: form.scalar,
     })
 }

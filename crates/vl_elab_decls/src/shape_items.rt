@@ -6,11 +6,12 @@ ghost use Rattle.vl_elab_scope.specs.Seen.{with_name};
 ghost use Rattle.vl_elab_decls.specs.Objects as spec;
 
 use crate::shape_forms::{Form, add_declared};
-use crate::words::{class_of_attributes, class_of_kind, words_if_known};
+use crate::words::{class_of_attributes, class_of_kind, role_of_kind, words_if_known};
 use fv_text::{Memory, Text};
 use std::alloc::Global;
 use vl_elab_params::{Extent, known_extent};
 use vl_elab_scope::{Level, Meaning, Names};
+use vl_elab_spec::Role;
 use vl_size::Class;
 use vl_tree::{AttributeInstance, Declaration, DeclaredName, Item, ItemKind};
 
@@ -27,7 +28,7 @@ fn declaration_form(
         class: class_of_attributes(class_of_kind(declaration.net), attributes),
         signed: declaration.shape.signed,
         scalar: declaration.shape.range.is_none(),
-        input: false,
+        role: role_of_kind(declaration.net),
         output: false,
         extent,
     })
@@ -40,7 +41,7 @@ fn integer_form(attributes: &[AttributeInstance]) -> Form
         class: class_of_attributes(Class::Variable, attributes),
         signed: true,
         scalar: false,
-        input: false,
+        role: Role::Variable,
         output: false,
         extent: Some(Extent {
             bits: 32,

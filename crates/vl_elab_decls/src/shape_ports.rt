@@ -6,18 +6,26 @@ ghost use Rattle.vl_elab_decls.specs.Objects as spec;
 
 use crate::inputs::Inputs;
 use crate::shape_forms::{Form, PortForm, add_declared};
-use crate::words::class_of_kind;
+use crate::words::{class_of_kind, role_of_kind};
 use fv_text::{Memory, Text};
 use std::alloc::Global;
 use vl_elab_params::known_extent;
 use vl_elab_scope::{Level, Names};
+use vl_elab_spec::Role;
 use vl_size::Class;
 use vl_tree::{Direction, FullPort, NetKind, Port, PortKind};
 
-fn is_input(direction: Direction) -> bool
-    ensures { result ≡ meanings.is_input direction }
+/// What a port is declared as: an output that isn't a `reg` is a net.
+fn role_of_port(direction: Direction, net: Option<NetKind>) -> Role
+    ensures { result ≡ meanings.role_of_port direction net }
 {
-    matches!(direction, Direction::Input)
+    match direction {
+        Direction::Input => Role::Input,
+        Direction::Output => match net {
+            None => Role::Net,
+            Some(kind) => role_of_kind(kind),
+        },
+    }
 }
 
 fn is_output(direction: Direction) -> bool
@@ -56,7 +64,7 @@ fn form_of_port(inputs: &Inputs, form: PortForm, name: &Text) -> Form
         class: port_class(inputs, form.direction, form.net, name),
         signed: form.signed,
         scalar: form.scalar,
-        input: is_input(form.direction),
+        role: role_of_port(form.direction, form.net),
         output: inputs.is_top() && is_output(form.direction),
         extent: form.extent,
     }

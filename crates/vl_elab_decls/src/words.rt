@@ -8,6 +8,7 @@ ghost use Rattle.vl_elab_decls.specs.Objects as spec;
 use fv_text::Memory;
 use std::alloc::Global;
 use vl_elab_scope::{Names, value_of};
+use vl_elab_spec::Role;
 use vl_mean::widths::bound;
 use vl_size::{Class, Own};
 use vl_tree::{Attribute, AttributeInstance, DeclaredName, Expr, NetKind, Range};
@@ -56,6 +57,15 @@ pub(crate) fn class_of_kind(kind: NetKind) -> Class
     match kind {
         NetKind::Wire => Class::Net,
         NetKind::Reg => Class::Variable,
+    }
+}
+
+pub(crate) fn role_of_kind(kind: NetKind) -> Role
+    ensures { result ≡ meanings.role_of_kind kind }
+{
+    match kind {
+        NetKind::Wire => Role::Net,
+        NetKind::Reg => Role::Variable,
     }
 }
 

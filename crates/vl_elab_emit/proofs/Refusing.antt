@@ -95,11 +95,11 @@ module _ (ns : List Names) (ss : List Scope) (named_so : AllNamed ns) (meant : A
   named_bits continuous p text xs faulty e w h = absurd (subst (MeansIn ss text) e (meant text))
   named_bits continuous p text xs shapeless e w h = absurd (subst (MeansIn ss text) e (meant text))
   named_bits continuous p text xs later e w h = absurd (subst (MeansIn ss text) e (meant text))
-  named_bits continuous p text xs (object d input scalar) e w h =
+  named_bits continuous p text xs (object d role scalar) e w h =
       let means = subst (MeansIn ss text) e (meant text) in
       let inner = select_refusals ns true xs in
       let divided = divided_by_zero (selects_zero_divisor (objects ns) (settled_selects (constants ns) xs)) in
-      let assigned = assigned_refusals ns continuous p text (object d input scalar) in
+      let assigned = assigned_refusals ns continuous p text (object d role scalar) in
       let selects = object_selects ns p scalar d xs in
       let all = none-front (inner ++ divided ++ assigned ++ selects) _ h in
       let front = none-front (inner ++ divided ++ assigned) selects all in

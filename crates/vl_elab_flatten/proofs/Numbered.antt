@@ -48,7 +48,7 @@ alone : (m : Meaning) → m ≡ inner_or m undeclared
 alone undeclared = refl
 alone (constant c selected) = refl
 alone loop_variable = refl
-alone (object d input scalar) = refl
+alone (object d role scalar) = refl
 alone faulty = refl
 alone shapeless = refl
 alone later = refl

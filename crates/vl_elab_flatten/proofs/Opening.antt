@@ -49,7 +49,7 @@ ports_open at u last (p ∷ ps) h = by (full_port last p.kind) (λ at q. ports_o
     by : (q : Option FullPort)
         → ((at : Place) (q : Option FullPort) → Each CanBeOpened (seen_steps (port_steps at u q ps))
         → (full_ports q ps ≡ []) ⊎ AreOpenable at.scopes)
-        → Each CanBeOpened (seen_steps (port_step at u p.pos q ++ port_steps (with_earlier at
+        → Each CanBeOpened (seen_steps (port_step at u p q ++ port_steps (with_earlier at
         (optional_name q)) u q ps))
         → (option_to_list q ++ full_ports q ps ≡ []) ⊎ AreOpenable at.scopes
     by None f h = f (with_earlier at []) None h

@@ -64,7 +64,7 @@ ports_parts at u last (p ∷ ps) = by (full_port last p.kind) (λ at q. ports_pa
         → ((at : Place) (q : Option FullPort) → parts_of_steps (port_steps at u q ps)
         ≡ all_port_parts at.scopes at.path (declared_ports at.around u.is_top u.input (full_ports q ps))
         (full_ports q ps))
-        → parts_of_steps (port_step at u p.pos q ++ port_steps (with_earlier at (optional_name q)) u q ps)
+        → parts_of_steps (port_step at u p q ++ port_steps (with_earlier at (optional_name q)) u q ps)
         ≡ all_port_parts at.scopes at.path
         (declared_ports at.around u.is_top u.input (option_to_list q ++ full_ports q ps))
         (option_to_list q ++ full_ports q ps)
@@ -105,7 +105,7 @@ one_port : (at : Place) (u : Use) (p : Pos) (k : PortKind) (last : Option FullPo
     (declared_ports at.around u.is_top u.input (full_ports last (port_at p k ∷ ps))) (kind_of last)
     (port_at p k ∷ ps)
 one_port at u p (kind.Full q) last ps f =
-    ap (λ qs. all_at p (optional_value at.scopes (port_kind q.net) q.name q.value) ++ qs)
+    ap (λ qs. all_at q.name_pos (optional_value at.scopes (port_kind q.net) q.name q.value) ++ qs)
     (f (with_earlier at (q.name ∷ [])) (Some q))
 one_port at u p (kind.Short text value) None ps f = f (with_earlier at []) None
 one_port at u p (kind.Short text value) (Some q) ps f =

@@ -8,7 +8,7 @@ use Rattle.vl_tree.specs.declared.declaration.Port.{Port}
 use Rattle.vl_tree.specs.declared.declaration.PortKind.{PortKind}
 use Rattle.vl_tree.specs.declared.declaration.PortKind.TheVariants as port
 use Rattle.vl_size.specs.declared.decl.Decl.{Decl}
-use Rattle.vl_mean.specs.Declarations.{full_port, full_ports}
+use Rattle.vl_mean.specs.Declarations.{full_port, full_ports, port_name_pos}
 use Rattle.vl_mean.specs.Parts.{Part, declares_all}
 use Rattle.vl_mean.specs.Scopes.{Scope}
 use Rattle.vl_mean_flat.specs.DriverPlaces.{all_at}
@@ -107,15 +107,15 @@ module _ (ss : List Scope) (path : List ℕ) where
         ++ parts (behind_first k ds) (full_ports (full_port go.port p.kind) rest)) net_is
 
     places_split : port_places ss path ds last left
-        ≡ all_at p.pos (first_parts ss path ds net (port_text p.kind) (port_value p.kind))
+        ≡ all_at (port_name_pos p) (first_parts ss path ds net (port_text p.kind) (port_value p.kind))
         ++ port_places ss path (behind_first net ds) net rest
     places_split =
         ap (port_places ss path ds last) e
-        ∙ ap (λ k. all_at p.pos (first_parts ss path ds k (port_text p.kind) (port_value p.kind))
+        ∙ ap (λ k. all_at (port_name_pos p) (first_parts ss path ds k (port_text p.kind) (port_value p.kind))
         ++ port_places ss path (behind_first k ds) k rest) (sym is)
 
     placed_split : placed ds go.port last left
-        ≡ followed_by (placed_at p.pos (first_parts ss path ds net (port_text p.kind) (port_value p.kind)))
+        ≡ followed_by (placed_at (port_name_pos p) (first_parts ss path ds net (port_text p.kind) (port_value p.kind)))
         (placed (behind_first net ds) (full_port go.port p.kind) net rest)
     placed_split = λ i. record { parts = split i; places = places_split i }
 
@@ -126,10 +126,11 @@ module _ (ss : List Scope) (path : List ℕ) where
         (parts (behind_first net ds) (full_ports (full_port go.port p.kind) rest)) go.may split
 
     pub ports_on : (v : Written) (es : List Decl) → es ≡ behind_first net ds
-        → StandBehind w (placed_at p.pos (first_parts ss path ds net (port_text p.kind) (port_value p.kind))) v
+        → StandBehind w
+        (placed_at (port_name_pos p) (first_parts ss path ds net (port_text p.kind) (port_value p.kind))) v
         → PortsLeft start all v net es rest
     ports_on v es es_are h =
-        let here = placed_at p.pos (first_parts ss path ds net (port_text p.kind) (port_value p.kind)) in
+        let here = placed_at (port_name_pos p) (first_parts ss path ds net (port_text p.kind) (port_value p.kind)) in
         let more = parts (behind_first net ds) (full_ports (full_port go.port p.kind) rest) in
         subst (λ es. PortsLeft start all v net es rest) (sym es_are) (record {
           port = full_port go.port p.kind;

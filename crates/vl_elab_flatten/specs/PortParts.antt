@@ -11,7 +11,7 @@ use Rattle.vl_tree.specs.declared.part.Connection.{Connection}
 use Rattle.vl_tree.specs.declared.source.Module.{Module}
 use Rattle.vl_tree.specs.Expr.{Expr}
 use Rattle.vl_size.specs.declared.decl.Decl.{Decl}
-use Rattle.vl_mean.specs.Declarations.{full_ports, port_named, ports_of}
+use Rattle.vl_mean.specs.Declarations.{full_ports, port_name_pos, port_named, ports_of}
 use Rattle.vl_mean.specs.Parts.{Part, declares_all, optional_value, port_kind, port_part}
 use Rattle.vl_mean.specs.Scopes.{Scope}
 use Rattle.vl_mean_flat.specs.DriverPlaces.{all_at}
@@ -77,12 +77,12 @@ all_port_parts ss path (d ∷ ds) [] = []
 all_port_parts ss path (d ∷ ds) (p ∷ ps) =
     port_parts ss path (d ∷ []) (port_kind p.net) p.name p.value ++ all_port_parts ss path ds ps
 
--- the values of ports that are written behind one of this kind, each at its port
+-- the values of ports that are written behind one of this kind, each at its name
 abbrev pub port_places : List Scope → List ℕ → List Decl → Option NetKind → List Port → List Pos
 port_places ss path ds last [] = []
 port_places ss path ds last (p ∷ ps) =
     let net = next_net last p.kind in
-    all_at p.pos (first_parts ss path ds net (port_text p.kind) (port_value p.kind))
+    all_at (port_name_pos p) (first_parts ss path ds net (port_text p.kind) (port_value p.kind))
     ++ port_places ss path (behind_first net ds) net ps
 
 abbrev pub placed_ports : List Scope → List ℕ → List Decl → List Port → Placed

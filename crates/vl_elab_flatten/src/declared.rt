@@ -6,7 +6,7 @@ ghost use Rattle.vl_elab_decls.specs.Objects as objects;
 ghost use Rattle.vl_elab_emit.specs.Behind as behind;
 ghost use Rattle.vl_elab_flatten.specs.PortParts as spec;
 
-use fv_text::{Memory, Text};
+use fv_text::{Memory, Pos, Text};
 use std::alloc::Global;
 use std::slice;
 use vl_elab_draft::{Draft, Scopes};
@@ -51,6 +51,16 @@ fn port_value(kind: &PortKind) -> &Option<Expr>
     }
 }
 
+/// Where the name of a port stands, which is at this place and of this kind.
+fn name_pos(pos: Pos, kind: &PortKind) -> Pos
+    ensures { result ≡ declarations.kind_name_pos pos kind.now }
+{
+    match kind {
+        PortKind::Full(port) => port.name_pos,
+        PortKind::Short(_, _) => pos,
+    }
+}
+
 /// A port, first as it is declared and then with its value.
 fn write_port(
     alloc: Global,
@@ -63,14 +73,15 @@ fn write_port(
 ) -> Result<(), Memory>
     requires { behind.MayStandBehind draft.old (spec.port_parts scopes.now path.now decls.now net
         (objects.port_text port.now.kind) (spec.port_value port.now.kind)) }
-    ensures { OnOk result (behind.StandBehind draft.old (behind.placed_at port.now.pos
+    ensures { OnOk result (behind.StandBehind draft.old (behind.placed_at (declarations.port_name_pos port.now)
         (spec.port_parts scopes.now path.now decls.now net (objects.port_text port.now.kind)
         (spec.port_value port.now.kind))) draft.new) }
 {
     write_declarations(alloc, path, decls, draft)?;
     let name = port_text(&port.kind);
     let value = port_value(&port.kind);
-    write_optional_value(alloc, port.pos, net, name, value, scopes, draft)
+    let pos = name_pos(port.pos, &port.kind);
+    write_optional_value(alloc, pos, net, name, value, scopes, draft)
 }
 
 /// A port of this kind, which declares the first one of these, if it is one; answers those behind it.
@@ -86,7 +97,7 @@ fn write_first<'a>(
     requires { behind.MayStandBehind draft.old (spec.first_parts scopes.now path.now decls.now net
         (objects.port_text port.now.kind) (spec.port_value port.now.kind)) }
     ensures rest { IfOk result (λ rest. rest.now ≡ spec.behind_first net decls.now) }
-    ensures written { OnOk result (behind.StandBehind draft.old (behind.placed_at port.now.pos
+    ensures written { OnOk result (behind.StandBehind draft.old (behind.placed_at (declarations.port_name_pos port.now)
         (spec.first_parts scopes.now path.now decls.now net (objects.port_text port.now.kind)
         (spec.port_value port.now.kind))) draft.new) }
 {
@@ -103,7 +114,7 @@ fn write_first<'a>(
     }
 }
 
-/// Writes ports in order, each with the value that it is declared with, at its place (IEEE 1364-2005, section 12.3.3).
+/// Writes ports in order, each with the value that it is declared with, at its name (IEEE 1364-2005, section 12.3.3).
 /// `decls`: what the ports declare: one for each, but none for a port that is written short before any other. `path`:
 /// that of the module, `scopes`: its scopes.
 pub fn write_ports(

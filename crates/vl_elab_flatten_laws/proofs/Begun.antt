@@ -9,6 +9,7 @@ use Rattle.vl_tree.specs.declared.declaration.Direction.TheVariants as direction
 use Rattle.vl_tree.specs.declared.declaration.FullPort.{FullPort}
 use Rattle.vl_tree.specs.declared.declaration.NetKind.{NetKind}
 use Rattle.vl_tree.specs.declared.declaration.NetKind.TheVariants as net
+use Rattle.vl_tree.specs.declared.declaration.Port.{Port}
 use Rattle.vl_tree.specs.declared.declaration.Range.{Range}
 use Rattle.vl_tree.specs.declared.part.Assignment.{Assignment}
 use Rattle.vl_tree.specs.declared.part.EventKind.{EventKind}
@@ -172,14 +173,14 @@ begun_item ms at (for_loop attrs p head b) r s w h = tt
 begun_item ms at (if_only attrs p c b) r s w h = tt
 begun_item ms at (if_else attrs p c b d) r s w h = tt
 
-begun_port : (at : Place) (u : Use) (p : Pos) (q : FullPort) → AreRight (meanings_at at) at.scopes
-    → AreSound (meanings_at at) → IsName q.name → IsValue q.value → port_refusals at p q ≡ []
+begun_port : (at : Place) (u : Use) (p : Port) (q : FullPort) → AreRight (meanings_at at) at.scopes
+    → AreSound (meanings_at at) → IsName q.name → IsValue q.value → port_refusals at p.pos q ≡ []
     → Each Begins (step_parts (port at u p q))
 begun_port at u p q r s wn w h =
     let ns = meanings_at at in (
       tt,
-      begun_given ns at.scopes r s p (port_kind q.net) q.name q.value wn w
-          (subst (λ kind. NoneOf (given_value ns p kind q.name q.value))
+      begun_given ns at.scopes r s p.pos (port_kind q.net) q.name q.value wn w
+          (subst (λ kind. NoneOf (given_value ns p.pos kind q.name q.value))
           (same_kind ns at.scopes r s q.net) (none-back _ _ h)),
     )
 

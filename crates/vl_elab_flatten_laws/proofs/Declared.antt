@@ -195,10 +195,10 @@ step_declarable : (ms : List Module) (x : Step) → IsRight x → HasSoundNames 
 step_declarable ms (header at x) r s b w k h = tt
 step_declarable ms (port at u p q) r s b w k h =
     let ns = meanings_at at in
-    let front = none-front _ (given_value ns p (port_net q.net) q.name q.value) h in
-    let narrow = shape_known ns r.0 (all_sure at s) p q.shape.range k.2
-    (none-back _ (range_refusals ns q.shape.range) (none-front _ (width_refusals ns p q.shape.range) front))
-    (none-back _ (width_refusals ns p q.shape.range) front) in
+    let front = none-front _ (given_value ns p.pos (port_net q.net) q.name q.value) h in
+    let narrow = shape_known ns r.0 (all_sure at s) p.pos q.shape.range k.2
+    (none-back _ (range_refusals ns q.shape.range) (none-front _ (width_refusals ns p.pos q.shape.range) front))
+    (none-back _ (width_refusals ns p.pos q.shape.range) front) in
     both_declarable (declares_all at.path (port_decl at.around u.is_top u.input q ∷ []))
     (optional_value at.scopes (port_kind q.net) q.name q.value)
     (under_declarable at.path (port_decl at.around u.is_top u.input q ∷ []) (

@@ -55,7 +55,7 @@ module _ (ns : List Names) (ss : List Scope) (es : List Decl) (named_so : AllNam
       by undeclared k h = absurd h
       by (constant c selected) k h = absurd h
       by loop_variable k h = absurd h
-      by (object d input scalar) k h = sym k.1
+      by (object d role scalar) k h = sym k.1
       by faulty k h = absurd h
       by shapeless k h = absurd h
       by later k h = absurd h
@@ -70,7 +70,7 @@ module _ (ns : List Names) (ss : List Scope) (es : List Decl) (named_so : AllNam
       by undeclared k h = absurd h
       by (constant c selected) k h = absurd h
       by loop_variable k h = absurd h
-      by (object d input scalar) k h =
+      by (object d role scalar) k h =
           let x : IsFound (full ss) (visible ss) es text = found es ss text d laid k.1 in
           ap is_clock_decl x.there ∙ ap (λ y. is_clock_class y.class) (same_Some x.decl d (sym x.here ∙ k.1)) ∙ h
       by faulty k h = absurd h

@@ -34,6 +34,7 @@ use Rattle.vl_mean_flat.specs.Found.{IsFound}
 use Rattle.vl_mean.specs.Targets.{is_decl}
 use Rattle.vl_mean_flat.specs.FullNames.{flat_expr, flat_lval, renamed}
 use Rattle.vl_mean_flat.proofs.FoundNames.{AreScopes, found}
+use Rattle.vl_elab_spec.specs.declared.role.Role.{Role}
 use Rattle.vl_elab_spec.specs.Expressions.{expr_refusals}
 use Rattle.vl_elab_spec.specs.Items.{connection_refusals, inner_meanings, joined_context, joined_refusals, joined_value}
 use Rattle.vl_elab_spec.specs.Items.{object_width, output_target}
@@ -83,33 +84,33 @@ port_text (q ∷ ps) text p e = by (bytes_eq text q.name) refl e (port_text ps t
     by true f e next = (bytes_eq-Decides text q.name).0 f ∙ ap (λ x. x.name) (same e)
     by false f e next = next e
 
-here_declared : (s : Scope) (text : List ℕ) (m : Meaning) (d : Decl) (input scalar : Bool)
-    → (if is_undeclared m then undeclared else m) ≡ object d input scalar → LevelMeans s text m
+here_declared : (s : Scope) (text : List ℕ) (m : Meaning) (d : Decl) (role : Role) (scalar : Bool)
+    → (if is_undeclared m then undeclared else m) ≡ object d role scalar → LevelMeans s text m
     → declared_as s.decls text ≡ Some d
-here_declared s text undeclared d input scalar e h = cc
-here_declared s text (constant c selected) d input scalar e h = cc
-here_declared s text loop_variable d input scalar e h = cc
-here_declared s text (object x i j) d input scalar e h =
+here_declared s text undeclared d role scalar e h = cc
+here_declared s text (constant c selected) d role scalar e h = cc
+here_declared s text loop_variable d role scalar e h = cc
+here_declared s text (object x i j) d role scalar e h =
     let same : x ≡ d = cc in h.1 ∙ ap Some same
-here_declared s text faulty d input scalar e h = cc
-here_declared s text shapeless d input scalar e h = cc
-here_declared s text later d input scalar e h = cc
+here_declared s text faulty d role scalar e h = cc
+here_declared s text shapeless d role scalar e h = cc
+here_declared s text later d role scalar e h = cc
 
 -- what a port means in its module is what the module declares
-inner_declared : (m : Module) (u : Use) (text : List ℕ) (d : Decl) (input scalar : Bool)
-    → meaning_in (inner_meanings m u) text ≡ object d input scalar
+inner_declared : (m : Module) (u : Use) (text : List ℕ) (d : Decl) (role : Role) (scalar : Bool)
+    → meaning_in (inner_meanings m u) text ≡ object d role scalar
     → declared_as (module_scope m u []).decls text ≡ Some d
-inner_declared m u text d input scalar e =
+inner_declared m u text d role scalar e =
     here_declared (module_scope m u []) text
-    (meaning_of (scope_meanings (module_scope m u []) [] (module_contents m u)) text) d input scalar e
+    (meaning_of (scope_meanings (module_scope m u []) [] (module_contents m u)) text) d role scalar e
     (level_means (module_scope m u []) [] (module_contents m u) (module_laid m u []) text)
 
-port_is : (m : Module) (u : Use) (text : List ℕ) (p : FullPort) (d : Decl) (input scalar : Bool)
-    → port_named (ports_of m.ports) text ≡ Some p → meaning_in (inner_meanings m u) text ≡ object d input scalar
+port_is : (m : Module) (u : Use) (text : List ℕ) (p : FullPort) (d : Decl) (role : Role) (scalar : Bool)
+    → port_named (ports_of m.ports) text ≡ Some p → meaning_in (inner_meanings m u) text ≡ object d role scalar
     → d ≡ port_decl (module_around m u) u.is_top u.input p
-port_is m u text p d input scalar e k =
+port_is m u text p d role scalar e k =
     same_Some d (port_decl (module_around m u) u.is_top u.input p)
-    (sym (inner_declared m u text d input scalar k)
+    (sym (inner_declared m u text d role scalar k)
     ∙ port_declared (module_around m u) u.is_top u.input _ (ports_of m.ports) text p e)
 
 output_no_clock : (input : List ℕ → Class) (p : FullPort) (o : Option NetKind)
@@ -205,19 +206,19 @@ module _ (at : Place) (m : Module) (u : Use) (inside : List Scope) (es : List De
       tt,
     )
 
-    drawn_joined : (k : Direction) (q : FullPort) (x : Connection) (e : Expr) (d : Decl) (input scalar : Bool)
-        → q.direction ≡ k → meaning_in (inner_meanings m u) q.name ≡ object d input scalar
+    drawn_joined : (k : Direction) (q : FullPort) (x : Connection) (e : Expr) (d : Decl) (role : Role) (scalar : Bool)
+        → q.direction ≡ k → meaning_in (inner_meanings m u) q.name ≡ object d role scalar
         → d ≡ port_decl (module_around m u) u.is_top u.input q → IsShaped d
         → IsPlainPort es inside laid_inside q.name d
         → u.input q.name ≡ (if is_clock at.scopes (Some e) then class.Clock else class.Net) → expr.IsWellFormed e
         → NoneOf (joined_value at ns (inner_meanings m u) q k x e)
         → Each (IsDrawnPart es) (connection_part at.scopes inside k q.name e)
-    drawn_joined direction.Input q x e d input scalar f is same s y own w h =
+    drawn_joined direction.Input q x e d role scalar f is same s y own w h =
         drawn_input (is_clock at.scopes (Some e)) q.name d e y s
         (ap (λ d. d.class) same ∙ ap (λ k. class_of_port u.input q k q.net) f ∙ own) w
         (subst (λ m. NoneOf (if is_clock at.scopes (Some e) then []
         else expr_refusals ns false (joined_context ns (object_width m) e) e)) is h)
-    drawn_joined direction.Output q x e d input scalar f is same s y own w h =
+    drawn_joined direction.Output q x e d role scalar f is same s y own w h =
         drawn_output x.port x.pos q.name d e (target_of e) refl y
         (ap (λ d. is_clock_class d.class) same ∙ ap (λ k. is_clock_class (class_of_port u.input q k q.net)) f
         ∙ output_no_clock u.input q q.net) w h
@@ -233,9 +234,9 @@ module _ (at : Place) (m : Module) (u : Use) (inside : List Scope) (es : List De
     drawn_object faulty q x e is o means found own w h = absurd o
     drawn_object shapeless q x e is o means found own w h = absurd o
     drawn_object later q x e is o means found own w h = absurd o
-    drawn_object (object d input scalar) q x e is o means found own w h =
-        let same : d ≡ port_decl (module_around m u) u.is_top u.input q = port_is m u q.name q d input scalar found is in
-        drawn_joined q.direction q x e d input scalar refl is same means.2
+    drawn_object (object d role scalar) q x e is o means found own w h =
+        let same : d ≡ port_decl (module_around m u) u.is_top u.input q = port_is m u q.name q d role scalar found is in
+        drawn_joined q.direction q x e d role scalar refl is same means.2
         (plain_port es inside laid_inside q.name d (ap (λ d. d.words) same) means.0 means.1) own w h
 
     drawn_port_part : (q : Option FullPort) (x : Connection) (value : Option Expr)

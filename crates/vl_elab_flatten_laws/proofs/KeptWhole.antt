@@ -89,12 +89,12 @@ fit_step : (ms : List Module) (x : Step) → IsRight x → HasSoundNames x → H
 fit_step ms (header at x) r s b w h = tt
 fit_step ms (port at u p q) r s b w h =
     let ns = meanings_at at in
-    let front = none-front _ (given_value ns p (port_net q.net) q.name q.value) h in
+    let front = none-front _ (given_value ns p.pos (port_net q.net) q.name q.value) h in
     both PartFits (declares_all at.path (port_decl at.around u.is_top u.input q ∷ []))
     (optional_value at.scopes (port_kind q.net) q.name q.value)
     (under_fit at.path (port_decl at.around u.is_top u.input q ∷ []) (
       port_decl_fits ns r.0 (all_sure at s) at.around b (class_of_port u.input q q.direction q.net) _ q.shape q.name w.2
-          (none-back _ (range_refusals ns q.shape.range) (none-front _ (width_refusals ns p q.shape.range) front)),
+          (none-back _ (range_refusals ns q.shape.range) (none-front _ (width_refusals ns p.pos q.shape.range) front)),
       tt,
     ))
     (optional_fits at.scopes (port_kind q.net) q.name q.value)

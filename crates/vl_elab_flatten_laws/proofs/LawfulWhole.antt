@@ -86,8 +86,8 @@ module _ (ms : List Module) (es : List Decl) where
   drawn_step (port at u p q) r s i w l h =
       let ns = meanings_at at in (
         tt,
-        drawn_given es ns at.scopes r.0 (r.1 s) l p (port_kind q.net) q.name q.value w.0 w.1
-            (subst (λ kind. NoneOf (given_value ns p kind q.name q.value)) (same_kind q.net) (none-back _ _ h)),
+        drawn_given es ns at.scopes r.0 (r.1 s) l p.pos (port_kind q.net) q.name q.value w.0 w.1
+            (subst (λ kind. NoneOf (given_value ns p.pos kind q.name q.value)) (same_kind q.net) (none-back _ _ h)),
       )
   drawn_step (item at x) r s i w l h = drawn_item at x r s l w h
   drawn_step (override at m u given x) r s i w l h = tt

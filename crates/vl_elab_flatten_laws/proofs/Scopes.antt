@@ -1,7 +1,6 @@
 -- The scopes of modules and blocks in which nothing is refused can be opened.
 use Rattle.std.specs.Prelude.{◌≡◌, refl, ℕ, List, [], ◌∷◌, ◌++◌, Bool, Option, Some, None, option_to_list}
 use Rattle.std.proofs.Common.{ap, sym, ◌∙◌, subst}
-use Rattle.fv_text.specs.declared.pos.Pos.{Pos}
 use Rattle.vl_tree.specs.declared.declaration.DeclaredName.{DeclaredName}
 use Rattle.vl_tree.specs.declared.declaration.FullPort.{FullPort}
 use Rattle.vl_tree.specs.declared.declaration.NetKind.TheVariants as net
@@ -211,13 +210,13 @@ module _ (ms : List Module) where
     each_port P None qs h k = k
     each_port P (Some q) qs h k = (h.0, k)
 
-  port_in_range : (at : Place) (u : Use) (p : Pos) (q : Option FullPort) → Each (IsKnown ms) (port_step at u p q)
+  port_in_range : (at : Place) (u : Use) (p : Port) (q : Option FullPort) → Each (IsKnown ms) (port_step at u p q)
       → Each IsInRange (declared_ports at.around u.is_top u.input (option_to_list q))
   port_in_range at u p None h = tt
   port_in_range at u p (Some q) h =
       (own_range (port_decl at.around u.is_top u.input q) (at.path ++ q.name) h.0.within.0, tt)
 
-  port_plain : (at : Place) (u : Use) (p : Pos) (q : Option FullPort) → Each (IsKnown ms) (port_step at u p q)
+  port_plain : (at : Place) (u : Use) (p : Port) (q : Option FullPort) → Each (IsKnown ms) (port_step at u p q)
       → Each IsPlain (declared_ports at.around u.is_top u.input (option_to_list q))
   port_plain at u p None h = tt
   port_plain at u p (Some q) h = (plain_name q.name h.0.formed.0, tt)
@@ -230,9 +229,9 @@ module _ (ms : List Module) where
       let q : Option FullPort = full_port last p.kind in
       let more : List Step = port_steps (with_earlier at (optional_name q)) u q ps in
       each_port at.around u.is_top u.input IsInRange q (full_ports q ps)
-      (port_in_range at u p.pos q (front (IsKnown ms) (port_step at u p.pos q) more h))
+      (port_in_range at u p q (front (IsKnown ms) (port_step at u p q) more h))
       (ports_in_range (with_earlier at (optional_name q)) u q ps
-      (back (IsKnown ms) (port_step at u p.pos q) more h))
+      (back (IsKnown ms) (port_step at u p q) more h))
 
   ports_plain : (at : Place) (u : Use) (last : Option FullPort) (ps : List Port)
       → Each (IsKnown ms) (port_steps at u last ps)
@@ -242,8 +241,8 @@ module _ (ms : List Module) where
       let q : Option FullPort = full_port last p.kind in
       let more : List Step = port_steps (with_earlier at (optional_name q)) u q ps in
       each_port at.around u.is_top u.input IsPlain q (full_ports q ps)
-      (port_plain at u p.pos q (front (IsKnown ms) (port_step at u p.pos q) more h))
-      (ports_plain (with_earlier at (optional_name q)) u q ps (back (IsKnown ms) (port_step at u p.pos q) more h))
+      (port_plain at u p q (front (IsKnown ms) (port_step at u p q) more h))
+      (ports_plain (with_earlier at (optional_name q)) u q ps (back (IsKnown ms) (port_step at u p q) more h))
 
   all_fine : (xs : List Step) → Each (IsKnown ms) xs → AreFine ms xs
   all_fine xs h = each_map (λ x k. k.fine) xs h

@@ -53,9 +53,11 @@ use Rattle.vl_mean_flat.proofs.NamesMap.{target_map}
 use Rattle.vl_mean_flat.proofs.SameExpr as same
 use Rattle.vl_flow_spec.proofs.Flat.{fixed as fixed_in, flat_fixed}
 use Rattle.vl_elab_spec.specs.declared.elab_fault.ElabFault.TheVariants as f
+use Rattle.vl_elab_spec.specs.declared.role.Role.{Role}
 use Rattle.vl_elab_spec.specs.Expressions.{divided_by_zero, expr_refusals, is_constant_name, known, name_width}
 use Rattle.vl_elab_spec.specs.Expressions.{object_selects, refused_if, select_refusals, too_wide}
 use Rattle.vl_elab_spec.specs.Meanings.{Meaning, undeclared, constant, loop_variable, object, faulty, shapeless, later}
+use Rattle.vl_elab_spec.specs.Meanings.{is_input}
 use Rattle.vl_elab_spec.specs.Meanings.{Names, constants, meaning_in, objects, value_of}
 use Rattle.vl_elab_spec.specs.Statements.{assigned_in, assigned_refusals, assignment_refusals, may_be_assigned}
 use Rattle.vl_elab_spec.specs.Statements.{target_refusals, target_selects, target_width, targets_refusals}
@@ -175,15 +177,15 @@ module _ (ns : List Names) (ss : List Scope) (es : List Decl) (named_so : AllNam
     reads : IsReadFlat es (name p (full ss text) (flat_selects ss xs))
     fixed_so : (not fixed || are_fixed (flat_scopes es) (flat_selects ss xs)) ≡ true
 
-  flat_name : (fixed : Bool) (p : Pos) (text : List ℕ) (xs : Selects) (d : Decl) (input scalar : Bool)
-      → meaning_in ns text ≡ object d input scalar → is_clock_class d.class ≡ false
+  flat_name : (fixed : Bool) (p : Pos) (text : List ℕ) (xs : Selects) (d : Decl) (role : Role) (scalar : Bool)
+      → meaning_in ns text ≡ object d role scalar → is_clock_class d.class ≡ false
       → NoneOf (select_refusals ns (fixed || false) xs)
       → selects_zero_divisor (objects ns) (settled_selects (constants ns) xs) ≡ None
       → AreSelected ns (fixed || false) xs (if is_none d.words
       then vector_size (objects ns) d (settled_selects (constants ns) xs)
-      else word_size (objects ns) d (settled_selects (constants ns) xs)) (name_width ns text (object d input scalar) xs)
+      else word_size (objects ns) d (settled_selects (constants ns) xs)) (name_width ns text (object d role scalar) xs)
       → (is : constant_in ss text ≡ None) → IsFlatName fixed p text xs
-  flat_name fixed p text xs d input scalar e clock inner z x is = record {
+  flat_name fixed p text xs d role scalar e clock inner z x is = record {
     bits = x.bits;
     sized = sized_so;
     wide = ap (λ m. name_width ns text m xs) e ∙ x.wide;
@@ -275,11 +277,11 @@ module _ (ns : List Names) (ss : List Scope) (es : List Decl) (named_so : AllNam
   flat_named continuous fixed p text xs faulty e w h = absurd (subst (MeansIn ss text) e (meant text))
   flat_named continuous fixed p text xs shapeless e w h = absurd (subst (MeansIn ss text) e (meant text))
   flat_named continuous fixed p text xs later e w h = absurd (subst (MeansIn ss text) e (meant text))
-  flat_named continuous fixed p text xs (object d input scalar) e w h =
+  flat_named continuous fixed p text xs (object d role scalar) e w h =
       let means = subst (MeansIn ss text) e (meant text) in
       let inner = select_refusals ns (fixed || false) xs in
       let divided = divided_by_zero (selects_zero_divisor (objects ns) (settled_selects (constants ns) xs)) in
-      let assigned = assigned_refusals ns continuous p text (object d input scalar) in
+      let assigned = assigned_refusals ns continuous p text (object d role scalar) in
       let selects = object_selects ns p scalar d xs in
       let narrow = none-front (inner ++ divided ++ assigned ++ selects) _ h in
       let front = none-front (inner ++ divided ++ assigned) selects narrow in
@@ -287,7 +289,7 @@ module _ (ns : List Names) (ss : List Scope) (es : List Decl) (named_so : AllNam
       let kinds = none-back (inner ++ divided) assigned front in
       let clock = not-refused (is_clock_class d.class) _
       (none-front (refused_if (is_clock_class d.class) (f.Clock p)) _ kinds) in
-      let may = not_wrong (may_be_assigned continuous d.class) (or_second input _
+      let may = not_wrong (may_be_assigned continuous d.class) (or_second (is_input role) _
       (not-refused _ _ (none-back (refused_if (is_clock_class d.class) (f.Clock p)) _ kinds))) in
       let z = undivided _ (none-back inner divided two) in
       let hs = none-front inner divided two in
@@ -296,7 +298,7 @@ module _ (ns : List Names) (ss : List Scope) (es : List Decl) (named_so : AllNam
       (λ d one few h k t z. word ns named_so (sound ns ss meant) (fixed || false) p d xs w one few h k t z)
       means.2.some_bits means.2.few_bits hs (none-back (inner ++ divided ++ assigned) selects narrow)
       (none-back (inner ++ divided ++ assigned ++ selects) _ h) z in
-      let y : IsFlatName fixed p text xs = flat_name fixed p text xs d input scalar e clock hs z x means.0 in
+      let y : IsFlatName fixed p text xs = flat_name fixed p text xs d role scalar e clock hs z x means.0 in
       let there : IsFound (full ss) (visible ss) es text = found es ss text d laid means.1 in
       record {
         bits = y.bits;

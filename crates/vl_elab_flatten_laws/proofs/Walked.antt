@@ -1,7 +1,6 @@
 -- Each scope of a walk in which nothing is refused can be opened.
 use Rattle.std.specs.Prelude.{refl, ℕ, zero, suc, ◌+◌, List, [], ◌∷◌, ◌++◌, length, codes}
 use Rattle.std.specs.Prelude.{Bool, true, false, Option, Some, None, All, if◌then◌else◌}
-use Rattle.fv_text.specs.declared.pos.Pos.{Pos}
 use Rattle.vl_tree.specs.declared.declaration.FullPort.{FullPort}
 use Rattle.vl_tree.specs.declared.declaration.Parameter.{Parameter}
 use Rattle.vl_tree.specs.declared.declaration.Port.{Port}
@@ -64,7 +63,7 @@ headers : (at : Place) (xs : List Parameter) → AreOpenable at.scopes → Good 
 headers at [] h = tt
 headers at (x ∷ xs) h = (h, headers (with_earlier at (x.name ∷ [])) xs h)
 
-one_port : (at : Place) (u : Use) (p : Pos) (q : Option FullPort) → AreOpenable at.scopes → Good (port_step at u p q)
+one_port : (at : Place) (u : Use) (p : Port) (q : Option FullPort) → AreOpenable at.scopes → Good (port_step at u p q)
 one_port at u p None h = tt
 one_port at u p (Some q) h = (h, tt)
 
@@ -73,7 +72,7 @@ all_ports : (at : Place) (u : Use) (last : Option FullPort) (ps : List Port) →
 all_ports at u last [] h = tt
 all_ports at u last (p ∷ ps) h =
     let q : Option FullPort = full_port last p.kind in
-    join (port_step at u p.pos q) (port_steps (with_earlier at (optional_name q)) u q ps) (one_port at u p.pos q h)
+    join (port_step at u p q) (port_steps (with_earlier at (optional_name q)) u q ps) (one_port at u p q h)
     (all_ports (with_earlier at (optional_name q)) u q ps h)
 
 overrides : (at : Place) (m : Module) (u : Use) (given : List (List ℕ)) (xs : List Connection)

@@ -20,7 +20,7 @@ named_there : (text : List ℕ) (m : Meaning) → IsNamed (text, m) → is_undec
 named_there text undeclared h = absurd h
 named_there text (constant c selected) h = refl
 named_there text loop_variable h = refl
-named_there text (object d input scalar) h = refl
+named_there text (object d role scalar) h = refl
 named_there text faulty h = refl
 named_there text shapeless h = refl
 named_there text later h = refl
@@ -29,7 +29,7 @@ not_undeclared : (m : Meaning) → is_undeclared m ≡ true → m ≡ undeclared
 not_undeclared undeclared h = refl
 not_undeclared (constant c selected) h = cc
 not_undeclared loop_variable h = cc
-not_undeclared (object d input scalar) h = cc
+not_undeclared (object d role scalar) h = cc
 not_undeclared faulty h = cc
 not_undeclared shapeless h = cc
 not_undeclared later h = cc
@@ -38,7 +38,7 @@ pub inner_assoc : (a b c : Meaning) → inner_or a (inner_or b c) ≡ inner_or (
 inner_assoc undeclared b c = refl
 inner_assoc (constant x selected) b c = refl
 inner_assoc loop_variable b c = refl
-inner_assoc (object x input scalar) b c = refl
+inner_assoc (object x role scalar) b c = refl
 inner_assoc faulty b c = refl
 inner_assoc shapeless b c = refl
 inner_assoc later b c = refl
@@ -85,7 +85,7 @@ meaning_with ns text m h other = by (is_undeclared (meaning_of ns text)) refl
         alone undeclared = refl
         alone (constant c selected) = refl
         alone loop_variable = refl
-        alone (object d input scalar) = refl
+        alone (object d role scalar) = refl
         alone faulty = refl
         alone shapeless = refl
         alone later = refl

@@ -24,7 +24,7 @@ without : (m : Meaning) → inner_or m undeclared ≡ m
 without undeclared = refl
 without (constant c selected) = refl
 without loop_variable = refl
-without (object d input scalar) = refl
+without (object d role scalar) = refl
 without faulty = refl
 without shapeless = refl
 without later = refl
@@ -72,7 +72,7 @@ pub parameter_named : (text : List ℕ) (m : Meaning) → IsNamed (text, paramet
 parameter_named text undeclared = tt
 parameter_named text (constant c selected) = tt
 parameter_named text loop_variable = tt
-parameter_named text (object d input scalar) = tt
+parameter_named text (object d role scalar) = tt
 parameter_named text faulty = tt
 parameter_named text shapeless = tt
 parameter_named text later = tt
@@ -206,7 +206,7 @@ is_its_meaning : (m around : Meaning) → is_parameter m ≡ true
 is_its_meaning undeclared around h = cc
 is_its_meaning (constant c selected) around h = refl
 is_its_meaning loop_variable around h = cc
-is_its_meaning (object d input scalar) around h = cc
+is_its_meaning (object d role scalar) around h = cc
 is_its_meaning faulty around h = refl
 is_its_meaning shapeless around h = cc
 is_its_meaning later around h = cc

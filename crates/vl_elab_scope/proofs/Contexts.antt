@@ -57,7 +57,7 @@ name_is ns p text h = sym (by (meaning_in ns text) refl)
     by faulty e = other faulty e refl
     by shapeless e = other shapeless e refl
     by later e = other later e refl
-    by (object d input scalar) e = other (object d input scalar) e refl ∙ of_object d.words d.width d.signed
+    by (object d role scalar) e = other (object d role scalar) e refl ∙ of_object d.words d.width d.signed
 
 pub choice_is : (ds : List Decl) (p : Pos) (k x y : Expr) (c l r : Context) → c ≡ own_context ds k
     → l ≡ own_context ds x → r ≡ own_context ds y → choice_context c l r ≡ own_context ds (conditional p k x y)

@@ -88,7 +88,7 @@ module _ (ns ms : List Names) (h : Alike ns ms) where
   read fixed p text shapeless ss = refl
   read fixed p text later ss = refl
   read fixed p text (constant c selected) ss = same_vector selected (vector_of text c) ss
-  read fixed p text (object d input scalar) ss =
+  read fixed p text (object d role scalar) ss =
       λ i. refused_if (is_clock_class d.class) (f.Clock p) ++ refused_if fixed (f.NotConstant p)
       ++ same_object p scalar d ss i
 
@@ -96,7 +96,7 @@ module _ (ns ms : List Names) (h : Alike ns ms) where
   is_constant undeclared = refl
   is_constant (constant c selected) = refl
   is_constant loop_variable = refl
-  is_constant (object d input scalar) = refl
+  is_constant (object d role scalar) = refl
   is_constant faulty = refl
   is_constant shapeless = refl
   is_constant later = refl

@@ -6,6 +6,7 @@ use Rattle.std.proofs.Common.{ap, sym, ◌∙◌}
 use Rattle.std.proofs.lemmas.Slice.Eq.{bytes_eq-Decides}
 use Rattle.vl_size.specs.declared.decl.Decl.{Decl}
 use Rattle.vl_size.specs.Table.{declared_as, is_declared}
+use Rattle.vl_elab_spec.specs.declared.role.Role.{Role}
 use Rattle.vl_elab_spec.specs.Meanings.{Meaning, undeclared, constant, loop_variable, object, faulty, shapeless, later}
 use Rattle.vl_elab_spec.specs.Meanings.{Names}
 use Rattle.vl_elab_spec.specs.Meanings.{is_undeclared, is_object, meaning_of, meaning_in, objects_of, objects_in}
@@ -52,7 +53,7 @@ module _ (all : List Names) (text : List ℕ) where
   none_of ((n, faulty) ∷ ns) h k = none_of ns h.1 k
   none_of ((n, shapeless) ∷ ns) h k = none_of ns h.1 k
   none_of ((n, later) ∷ ns) h k = none_of ns h.1 k
-  none_of ((n, object d input scalar) ∷ ns) h k =
+  none_of ((n, object d role scalar) ∷ ns) h k =
       step n d ns h.0 None (none_of ns h.1 k)
       ∙ by (bytes_eq text n) (is_object (meaning_in all n)) (same_name n)
       (λ e. sym (ap (λ t. is_object (meaning_in all t)) e) ∙ k)
@@ -80,7 +81,7 @@ module _ (all : List Names) (text : List ℕ) where
   skip n faulty ns r h e k = k
   skip n shapeless ns r h e k = k
   skip n later ns r h e k = k
-  skip n (object d input scalar) ns r h e k =
+  skip n (object d role scalar) ns r h e k =
       step n d ns h.0 r k ∙ ap (λ b. if is_object (meaning_in all n) then (if b then Some d else r) else r) e
       ∙ both (is_object (meaning_in all n))
     where
@@ -100,7 +101,7 @@ module _ (all : List Names) (text : List ℕ) where
       here faulty h k = cc
       here shapeless h k = cc
       here later h k = cc
-      here (object d input scalar) h k = cc
+      here (object d role scalar) h k = cc
 
       by : (b : Bool) → bytes_eq text n ≡ b → (if b then m else meaning_of ns text) ≡ undeclared
           → (meaning_of ns text ≡ undeclared → found ns ≡ None) → found ((n, m) ∷ ns) ≡ None
@@ -108,14 +109,14 @@ module _ (all : List Names) (text : List ℕ) where
       by false e k f = skip n m ns None h e (f k)
 
   -- in one that declares it as an object there is this one
-  seen_object : (ns : Names) (d : Decl) (input scalar : Bool) → AreNamed ns
+  seen_object : (ns : Names) (d : Decl) (role : Role) (scalar : Bool) → AreNamed ns
       → is_object (meaning_in all text) ≡ true
-      → meaning_of ns text ≡ object d input scalar → found ns ≡ Some d
-  seen_object [] d input scalar h p k = cc
-  seen_object ((n, m) ∷ ns) d input scalar h p k =
-      by (bytes_eq text n) refl k (λ k. seen_object ns d input scalar h.1 p k)
+      → meaning_of ns text ≡ object d role scalar → found ns ≡ Some d
+  seen_object [] d role scalar h p k = cc
+  seen_object ((n, m) ∷ ns) d role scalar h p k =
+      by (bytes_eq text n) refl k (λ k. seen_object ns d role scalar h.1 p k)
     where
-      here : (m : Meaning) → AreNamed ((n, m) ∷ ns) → bytes_eq text n ≡ true → m ≡ object d input scalar
+      here : (m : Meaning) → AreNamed ((n, m) ∷ ns) → bytes_eq text n ≡ true → m ≡ object d role scalar
           → found ((n, m) ∷ ns) ≡ Some d
       here undeclared h e k = absurd h.0
       here (constant c selected) h e k = cc
@@ -130,23 +131,23 @@ module _ (all : List Names) (text : List ℕ) where
           step n x ns h.0 (found ns) refl
           ∙ (λ j. if there j then (if e j then Some (same j) else found ns) else found ns)
 
-      by : (b : Bool) → bytes_eq text n ≡ b → (if b then m else meaning_of ns text) ≡ object d input scalar
-          → (meaning_of ns text ≡ object d input scalar → found ns ≡ Some d)
+      by : (b : Bool) → bytes_eq text n ≡ b → (if b then m else meaning_of ns text) ≡ object d role scalar
+          → (meaning_of ns text ≡ object d role scalar → found ns ≡ Some d)
           → found ((n, m) ∷ ns) ≡ Some d
       by true e k f = here m h e k
       by false e k f = skip n m ns (Some d) h e (f k)
 
-  some_in : (ls : List Names) (d : Decl) (input scalar : Bool) → AllNamed ls
+  some_in : (ls : List Names) (d : Decl) (role : Role) (scalar : Bool) → AllNamed ls
       → is_object (meaning_in all text) ≡ true
-      → meaning_in ls text ≡ object d input scalar → declared_as (objects_in all ls) text ≡ Some d
-  some_in [] d input scalar h p k = cc
-  some_in (ns ∷ ls) d input scalar h p k =
+      → meaning_in ls text ≡ object d role scalar → declared_as (objects_in all ls) text ≡ Some d
+  some_in [] d role scalar h p k = cc
+  some_in (ns ∷ ls) d role scalar h p k =
       declared_append (objects_of all ns) (objects_in all ls) text ∙ by (meaning_of ns text) refl k
-      (λ k. some_in ls d input scalar h.1 p k)
+      (λ k. some_in ls d role scalar h.1 p k)
     where
       by : (m : Meaning) → meaning_of ns text ≡ m
-          → (if is_undeclared m then meaning_in ls text else m) ≡ object d input scalar
-          → (meaning_in ls text ≡ object d input scalar → declared_as (objects_in all ls) text ≡ Some d)
+          → (if is_undeclared m then meaning_in ls text else m) ≡ object d role scalar
+          → (meaning_in ls text ≡ object d role scalar → declared_as (objects_in all ls) text ≡ Some d)
           → or_else (found ns) (declared_as (objects_in all ls) text) ≡ Some d
       by undeclared e k f = λ i. or_else (unseen ns h.0 e i) (f k i)
       by (constant c selected) e k f = cc
@@ -155,7 +156,7 @@ module _ (all : List Names) (text : List ℕ) where
       by shapeless e k f = cc
       by later e k f = cc
       by (object x i s) e k f =
-          ap (λ o. or_else o (declared_as (objects_in all ls) text)) (seen_object ns d input scalar h.0 p (e ∙ k))
+          ap (λ o. or_else o (declared_as (objects_in all ls) text)) (seen_object ns d role scalar h.0 p (e ∙ k))
 
 pub object_is : (ns : List Names) (text : List ℕ) → AllNamed ns
     → declared_as (objects ns) text ≡ object_of (meaning_in ns text)
@@ -168,17 +169,17 @@ object_is ns text h = by (meaning_in ns text) refl
     by faulty e = none_in ns text ns h (ap is_object e)
     by shapeless e = none_in ns text ns h (ap is_object e)
     by later e = none_in ns text ns h (ap is_object e)
-    by (object d input scalar) e = some_in ns text ns d input scalar h (ap is_object e) e
+    by (object d role scalar) e = some_in ns text ns d role scalar h (ap is_object e) e
 
 -- ---- what is declared under a name
 
-named_of : (ns : Names) (text : List ℕ) (d : Decl) (input scalar : Bool) → AreNamed ns
-    → meaning_of ns text ≡ object d input scalar → d.name ≡ text
-named_of [] text d input scalar h k = cc
-named_of ((n, m) ∷ ns) text d input scalar h k =
-    by (bytes_eq text n) refl k (λ k. named_of ns text d input scalar h.1 k)
+named_of : (ns : Names) (text : List ℕ) (d : Decl) (role : Role) (scalar : Bool) → AreNamed ns
+    → meaning_of ns text ≡ object d role scalar → d.name ≡ text
+named_of [] text d role scalar h k = cc
+named_of ((n, m) ∷ ns) text d role scalar h k =
+    by (bytes_eq text n) refl k (λ k. named_of ns text d role scalar h.1 k)
   where
-    here : (m : Meaning) → AreNamed ((n, m) ∷ ns) → m ≡ object d input scalar → d.name ≡ n
+    here : (m : Meaning) → AreNamed ((n, m) ∷ ns) → m ≡ object d role scalar → d.name ≡ n
     here undeclared h k = absurd h.0
     here (constant c selected) h k = cc
     here loop_variable h k = cc
@@ -187,27 +188,27 @@ named_of ((n, m) ∷ ns) text d input scalar h k =
     here later h k = cc
     here (object x i s) h k = let same : x ≡ d = cc in sym (ap (λ d. d.name) same) ∙ h.0
 
-    by : (b : Bool) → bytes_eq text n ≡ b → (if b then m else meaning_of ns text) ≡ object d input scalar
-        → (meaning_of ns text ≡ object d input scalar → d.name ≡ text) → d.name ≡ text
+    by : (b : Bool) → bytes_eq text n ≡ b → (if b then m else meaning_of ns text) ≡ object d role scalar
+        → (meaning_of ns text ≡ object d role scalar → d.name ≡ text) → d.name ≡ text
     by true e k f = here m h k ∙ sym ((bytes_eq-Decides text n).0 e)
     by false e k f = f k
 
-pub meaning_named : (ls : List Names) (text : List ℕ) (d : Decl) (input scalar : Bool) → AllNamed ls
-    → meaning_in ls text ≡ object d input scalar → d.name ≡ text
-meaning_named [] text d input scalar h k = cc
-meaning_named (ns ∷ ls) text d input scalar h k =
-    by (meaning_of ns text) refl k (λ k. meaning_named ls text d input scalar h.1 k)
+pub meaning_named : (ls : List Names) (text : List ℕ) (d : Decl) (role : Role) (scalar : Bool) → AllNamed ls
+    → meaning_in ls text ≡ object d role scalar → d.name ≡ text
+meaning_named [] text d role scalar h k = cc
+meaning_named (ns ∷ ls) text d role scalar h k =
+    by (meaning_of ns text) refl k (λ k. meaning_named ls text d role scalar h.1 k)
   where
     by : (m : Meaning) → meaning_of ns text ≡ m
-        → (if is_undeclared m then meaning_in ls text else m) ≡ object d input scalar
-        → (meaning_in ls text ≡ object d input scalar → d.name ≡ text) → d.name ≡ text
+        → (if is_undeclared m then meaning_in ls text else m) ≡ object d role scalar
+        → (meaning_in ls text ≡ object d role scalar → d.name ≡ text) → d.name ≡ text
     by undeclared e k f = f k
     by (constant c selected) e k f = cc
     by loop_variable e k f = cc
     by faulty e k f = cc
     by shapeless e k f = cc
     by later e k f = cc
-    by (object x i s) e k f = named_of ns text d input scalar h.0 (e ∙ k)
+    by (object x i s) e k f = named_of ns text d role scalar h.0 (e ∙ k)
 
 pub object_fresh : (ls : List Names) (text : List ℕ) (m : Meaning) (ds : List Decl) → AllNamed ls
     → m ≡ meaning_in ls text → is_declared ds text ≡ false
@@ -218,8 +219,8 @@ object_fresh ls text loop_variable ds h e k = tt
 object_fresh ls text faulty ds h e k = tt
 object_fresh ls text shapeless ds h e k = tt
 object_fresh ls text later ds h e k = tt
-object_fresh ls text (object d input scalar) ds h e k =
-    ap (is_declared ds) (meaning_named ls text d input scalar h (sym e)) ∙ k
+object_fresh ls text (object d role scalar) ds h e k =
+    ap (is_declared ds) (meaning_named ls text d role scalar h (sym e)) ∙ k
 
 -- what is declared, once the object that a name means is added
 pub object_added : (ls : List Names) (text other : List ℕ) (m : Meaning) (ds new : List Decl) → AllNamed ls
@@ -240,8 +241,8 @@ object_added ls text other m ds new h e made =
     alone faulty e k = refl
     alone shapeless e k = refl
     alone later e k = refl
-    alone (object d input scalar) e k =
-        ap (λ n. if bytes_eq other n then Some d else None) (meaning_named ls text d input scalar h (sym e))
+    alone (object d role scalar) e k =
+        ap (λ n. if bytes_eq other n then Some d else None) (meaning_named ls text d role scalar h (sym e))
         ∙ ap (λ b. if b then Some d else None) k
 
     itself : (m : Meaning) → m ≡ meaning_in ls text → bytes_eq other text ≡ true
@@ -252,8 +253,8 @@ object_added ls text other m ds new h e made =
     itself faulty e k = refl
     itself shapeless e k = refl
     itself later e k = refl
-    itself (object d input scalar) e k =
-        ap (λ n. if bytes_eq other n then Some d else None) (meaning_named ls text d input scalar h (sym e))
+    itself (object d role scalar) e k =
+        ap (λ n. if bytes_eq other n then Some d else None) (meaning_named ls text d role scalar h (sym e))
         ∙ ap (λ b. if b then Some d else None) k
 
     end : (x : Option Decl) → or_else x None ≡ x

@@ -124,7 +124,7 @@ module _ (ns ms : List Names) (h : Alike ns ms) where
   width_of text undeclared ss = refl
   width_of text (constant c selected) ss = same_vector_width (vector_of text c) ss
   width_of text loop_variable ss = refl
-  width_of text (object d input scalar) ss =
+  width_of text (object d role scalar) ss =
       λ i. if is_none d.words then same_vector_width d ss i else same_word_width d ss i
   width_of text faulty ss = refl
   width_of text shapeless ss = refl

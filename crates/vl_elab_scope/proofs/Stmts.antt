@@ -45,7 +45,7 @@ module _ (ns ms : List Names) (h : Alike ns ms) where
   taken continuous p text undeclared = refl
   taken continuous p text (constant c selected) = refl
   taken continuous p text loop_variable = refl
-  taken continuous p text (object d input scalar) = refl
+  taken continuous p text (object d role scalar) = refl
   taken continuous p text faulty = refl
   taken continuous p text shapeless = refl
   taken continuous p text later = refl
@@ -57,7 +57,7 @@ module _ (ns ms : List Names) (h : Alike ns ms) where
       taken continuous p text (meaning_in ns text) ∙ ap (assigned_refusals ms continuous p text) (h.meaning text)
 
   chosen : (p : Pos) (m : Meaning) (l : Lval) → target_selects ns p m l ≡ target_selects ms p m l
-  chosen p (object d input scalar) (named q text ss) = x.same_object ns ms h p scalar d ss
+  chosen p (object d role scalar) (named q text ss) = x.same_object ns ms h p scalar d ss
   chosen p (constant c selected) (named q text ss) = x.same_vector ns ms h selected (vector_of text c) ss
   chosen p undeclared (named q text ss) = refl
   chosen p loop_variable (named q text ss) = refl
@@ -67,7 +67,7 @@ module _ (ns ms : List Names) (h : Alike ns ms) where
   chosen p undeclared (joined q ls) = refl
   chosen p (constant c selected) (joined q ls) = refl
   chosen p loop_variable (joined q ls) = refl
-  chosen p (object d input scalar) (joined q ls) = refl
+  chosen p (object d role scalar) (joined q ls) = refl
   chosen p faulty (joined q ls) = refl
   chosen p shapeless (joined q ls) = refl
   chosen p later (joined q ls) = refl

@@ -21,7 +21,7 @@ object_context d = if is_none d.words then record { size = Some d.width; signed 
 -- a name without selects
 abbrev pub meant_context : Meaning → Context
 meant_context (constant c selected) = record { size = Some c.width; signed = c.signed }
-meant_context (object d input scalar) = object_context d
+meant_context (object d role scalar) = object_context d
 meant_context m = no_context
 
 abbrev pub unary_bits : UnaryOperator → Option ℕ → Option ℕ

@@ -13,7 +13,7 @@ use Rattle.vl_elab_scope.specs.declared.meaning.Named.{Named}
 abbrev pub seen : Kept → Meaning
 seen (k.Constant c selected) = constant c selected
 seen k.LoopVariable = loop_variable
-seen (k.Object o) = object o.decl o.input o.scalar
+seen (k.Object o) = object o.decl o.role o.scalar
 seen k.Faulty = faulty
 seen k.Shapeless = shapeless
 seen k.Later = later
@@ -61,13 +61,13 @@ with_name ns text m = if is_undeclared (meaning_of ns text) then ns ++ (text, m)
 
 -- the net or variable that a name means
 abbrev pub object_of : Meaning → Option Decl
-object_of (object d input scalar) = Some d
+object_of (object d role scalar) = Some d
 object_of m = None
 
 -- what is declared has the name under which it stands
 abbrev pub IsNamed : List ℕ × Meaning → Type 0
 IsNamed (text, undeclared) = ⊥
-IsNamed (text, object d input scalar) = d.name ≡ text
+IsNamed (text, object d role scalar) = d.name ≡ text
 IsNamed n = Unit {0}
 
 abbrev pub AreNamed : Names → Type 0

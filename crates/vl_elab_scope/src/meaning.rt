@@ -2,6 +2,7 @@ ghost use Rattle.vl_size.specs.Table.{IsPlain, IsShaped};
 
 use fv_text::Text;
 use indexmap::IndexMap;
+use vl_elab_spec::Role;
 use vl_mean::Const;
 use vl_size::Decl;
 
@@ -9,7 +10,7 @@ use vl_size::Decl;
 #[derive(Drop)]
 pub struct Object {
     pub decl: Decl,
-    pub input: bool,
+    pub role: Role,
     pub scalar: bool,
     pub ghost shaped: { IsShaped decl },
     pub ghost plain: { IsPlain decl },

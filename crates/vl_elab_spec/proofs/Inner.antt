@@ -24,11 +24,10 @@ use Rattle.vl_mean.specs.Walk.{Place, Step, Unfolding, Valued, item, with_earlie
 use Rattle.vl_mean.specs.Walk.{block_path, item_walk, items_walk, turn_walk, block_walk}
 use Rattle.vl_elab_spec.specs.declared.elab_fault.ElabFault.{ElabFault}
 use Rattle.vl_elab_spec.specs.declared.elab_fault.ElabFault.TheVariants as f
-use Rattle.vl_elab_spec.specs.Counts.{step_pos}
 use Rattle.vl_elab_spec.specs.Expressions.{refused_if}
 use Rattle.vl_elab_spec.specs.Items.{instance_refusals}
 use Rattle.vl_elab_spec.specs.Meanings.{item_names}
-use Rattle.vl_elab_spec.specs.Refused.{Totals, counted, is_too_large, lowest, or_later}
+use Rattle.vl_elab_spec.specs.Refused.{Totals, counted, is_too_large, large_pos, lowest, or_later}
 use Rattle.vl_elab_spec.specs.declared.totals.Totals as kept
 use Rattle.vl_elab_spec.specs.Walked.{AreWalked}
 use Rattle.vl_elab_spec.specs.Within.{block_items, nested_if, chosen_block, chosen_by, chosen_walk, inner_walk}
@@ -82,7 +81,7 @@ module _ (ms : List Module) where
       let second : List ElabFault = refused_if (contains_name at.earlier x.name) (f.Twice x.name p) in
       let third : List ElabFault =
       refused_if (contains_name at.modules x.definition) (f.Recursive at.modules) in
-      let size : List ElabFault = refused_if (is_too_large (counted t step)) (f.TooLarge (step_pos step)) in
+      let size : List ElabFault = refused_if (is_too_large (counted t step)) (f.TooLarge (large_pos t step)) in
       let all : some_fault (own ++ size) ≡ false = none_passed (own ++ size) h.fault in
       test_false (contains_name at.modules x.definition) (f.Recursive at.modules)
       (none_second (first ++ second) third (none_first own size all))

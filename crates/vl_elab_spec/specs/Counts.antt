@@ -120,7 +120,7 @@ item_pos (if_else attrs p c b d) = p
 
 abbrev pub step_pos : Step → Pos
 step_pos (header at x) = x.pos
-step_pos (port at u p q) = p
+step_pos (port at u p q) = p.pos
 step_pos (item at x) = item_pos x
 step_pos (override at m u given x) = x.pos
 step_pos (connection at m u inside given x) = x.pos

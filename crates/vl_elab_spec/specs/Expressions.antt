@@ -98,7 +98,7 @@ module _ (ns : List Names) where
 
   abbrev pub name_width : List ℕ → Meaning → Selects → Option ℕ
   name_width text (constant c selected) ss = vector_width (vector_of text c) ss
-  name_width text (object d input scalar) ss = if is_none d.words then vector_width d ss else word_width d ss
+  name_width text (object d role scalar) ss = if is_none d.words then vector_width d ss else word_width d ss
   name_width text m ss = None
 
   abbrev mutual
@@ -166,7 +166,7 @@ module _ (ns : List Names) where
   read_refusals fixed p text shapeless ss = refused_if fixed (f.NotConstant p)
   read_refusals fixed p text later ss = f.NotConstant p ∷ []
   read_refusals fixed p text (constant c selected) ss = vector_selects selected (vector_of text c) ss
-  read_refusals fixed p text (object d input scalar) ss =
+  read_refusals fixed p text (object d role scalar) ss =
       refused_if (is_clock_class d.class) (f.Clock p) ++ refused_if fixed (f.NotConstant p)
       ++ object_selects p scalar d ss
 

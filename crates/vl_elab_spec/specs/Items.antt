@@ -83,8 +83,8 @@ use Rattle.vl_elab_spec.specs.Expressions.{expr_refusals, known}
 use Rattle.vl_elab_spec.specs.Meanings.{Meaning, undeclared, loop_variable, object, faulty, shapeless, Names}
 use Rattle.vl_elab_spec.specs.Meanings.{meaning_in}
 use Rattle.vl_elab_spec.specs.Meanings.{is_known_range, declared_width, is_overridden}
-use Rattle.vl_elab_spec.specs.Meanings.{is_variable_class, may_have_words, all_meanings, meanings_at, meanings_before}
-use Rattle.vl_elab_spec.specs.Meanings.{objects}
+use Rattle.vl_elab_spec.specs.Meanings.{may_have_words, all_meanings, meanings_at, meanings_before}
+use Rattle.vl_elab_spec.specs.Meanings.{is_declared_variable, objects}
 use Rattle.vl_elab_spec.specs.Statements.{assignment_refusals, assigned_in, stmt_refusals, initial_refusals}
 use Rattle.vl_elab_spec.specs.Statements.{target_refusals}
 
@@ -214,7 +214,7 @@ edge_refusals p text undeclared = f.Unknown text p ∷ []
 edge_refusals p text loop_variable = f.Unknown text p ∷ []
 edge_refusals p text faulty = []
 edge_refusals p text shapeless = []
-edge_refusals p text (object d input scalar) = refused_if (not (is_clock_class d.class)) (f.Clock p)
+edge_refusals p text (object d role scalar) = refused_if (not (is_clock_class d.class)) (f.Clock p)
 edge_refusals p text m = f.Clock p ∷ []
 
 abbrev pub event_refusals : List Names → Pos → EventKind → List ElabFault
@@ -381,9 +381,9 @@ override_refusals at m u given x =
     refused_if (contains_name given x.port) (f.Twice x.port x.pos) ++ refused_if (is_none y) (f.Param x.port x.pos)
     ++ override_value (meanings_at at) (inner_meanings m u) y x.value
 
--- what an output may be joined to by name, as far as it may be assigned at all
+-- what an output may be joined to by name, as far as it may be assigned at all: no variable, also none with `anyseq`
 abbrev pub is_net_name : Meaning → Bool
-is_net_name (object d input scalar) = not (is_variable_class d.class)
+is_net_name (object d role scalar) = not (is_declared_variable role)
 is_net_name faulty = true
 is_net_name shapeless = true
 is_net_name m = false
@@ -409,7 +409,7 @@ output_target ns text p e (Some l) =
     refused_if (not (is_net_target ns l)) (f.Port text p) ++ target_refusals ns true true l
 
 abbrev pub object_width : Meaning → Option ℕ
-object_width (object d input scalar) = Some d.width
+object_width (object d role scalar) = Some d.width
 object_width m = None
 
 -- an equation with the port
@@ -440,7 +440,7 @@ connection_refusals at m u given x =
 
 abbrev pub step_refusals : List Module → Step → List ElabFault
 step_refusals ms (header at x) = parameter_refusals at (is_given at.contents x.name) at.earlier x
-step_refusals ms (port at u p q) = port_refusals at p q
+step_refusals ms (port at u p q) = port_refusals at p.pos q
 step_refusals ms (item at x) = item_refusals ms at x
 step_refusals ms (override at m u given x) = override_refusals at m u given x
 step_refusals ms (connection at m u inside given x) = connection_refusals at m u given x

@@ -3,6 +3,7 @@ pub mod Expressions
 pub mod Statements
 pub mod Items
 pub mod Counts
+pub mod NodePlaces
 pub mod Refused
 pub mod Walked
 pub mod Among

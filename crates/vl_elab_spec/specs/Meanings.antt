@@ -22,6 +22,8 @@ use Rattle.vl_tree.specs.declared.declaration.DeclaredName.{DeclaredName}
 use Rattle.vl_tree.specs.declared.declaration.Direction.{Direction}
 use Rattle.vl_tree.specs.declared.declaration.Direction.TheVariants as direction
 use Rattle.vl_tree.specs.declared.declaration.FullPort.{FullPort}
+use Rattle.vl_tree.specs.declared.declaration.NetKind.{NetKind}
+use Rattle.vl_tree.specs.declared.declaration.NetKind.TheVariants as net
 use Rattle.vl_tree.specs.declared.declaration.Parameter.{Parameter}
 use Rattle.vl_tree.specs.declared.declaration.ParameterKind.TheVariants as k
 use Rattle.vl_tree.specs.declared.declaration.Range.{Range}
@@ -41,6 +43,8 @@ use Rattle.vl_mean.specs.Constants.{constant_of, constant_operand, settled}
 use Rattle.vl_mean.specs.Declarations.{Overrides, class_of_attributes, class_of_kind, joined_attributes}
 use Rattle.vl_mean.specs.Scopes.{Scope}
 use Rattle.vl_mean.specs.Walk.{Contents, Place, parameter_names, port_names}
+use Rattle.vl_elab_spec.specs.declared.role.Role.{Role}
+use Rattle.vl_elab_spec.specs.declared.role.Role.TheVariants as roles
 
 pub data Meaning : Type 0 where
   -- no scope declares it
@@ -49,8 +53,8 @@ pub data Meaning : Type 0 where
   constant : Const → Bool → Meaning
   -- a genvar outside the loops whose heads name it
   loop_variable : Meaning
-  -- a net or a variable; whether it is an input, and whether it is a scalar
-  object : Decl → Bool → Bool → Meaning
+  -- a net or a variable; what it is declared as, and whether it is a scalar
+  object : Decl → Role → Bool → Meaning
   -- a parameter whose own declaration is refused for its value or its shape
   faulty : Meaning
   -- a net or a variable whose own declaration is refused for its shape; it is no constant, whatever that is
@@ -143,9 +147,9 @@ abbrev pub constant_or : Bool → Option Const → Bool → Meaning
 constant_or true (Some c) selected = constant c selected
 constant_or known c selected = faulty
 
-abbrev pub object_or : Bool → Option Decl → Bool → Bool → Meaning
-object_or true (Some d) input scalar = object d input scalar
-object_or known d input scalar = shapeless
+abbrev pub object_or : Bool → Option Decl → Role → Bool → Meaning
+object_or true (Some d) role scalar = object d role scalar
+object_or known d role scalar = shapeless
 
 abbrev pub is_variable_class : Class → Bool
 is_variable_class class.Variable = true
@@ -156,9 +160,23 @@ abbrev pub may_have_words : Class → Option Range → Option Expr → Bool
 may_have_words c None value = true
 may_have_words c (Some r) value = is_variable_class c && is_none value
 
-abbrev pub is_input : Direction → Bool
-is_input direction.Input = true
-is_input direction.Output = false
+abbrev pub role_of_kind : NetKind → Role
+role_of_kind net.Wire = roles.Net
+role_of_kind net.Reg = roles.Variable
+
+-- an output that isn't a `reg` is a net
+abbrev pub role_of_port : Direction → Option NetKind → Role
+role_of_port direction.Input kind = roles.Input
+role_of_port direction.Output None = roles.Net
+role_of_port direction.Output (Some kind) = role_of_kind kind
+
+abbrev pub is_input : Role → Bool
+is_input roles.Input = true
+is_input role = false
+
+abbrev pub is_declared_variable : Role → Bool
+is_declared_variable roles.Variable = true
+is_declared_variable role = false
 
 -- the names that an item declares and that may stand in expressions
 abbrev pub item_names : Item → List (List ℕ)
@@ -201,22 +219,23 @@ module _ (s : Scope) (outer : List Names) where
   port_meanings ns (p ∷ ps) =
       let shape = p.shape.range in (
         p.name,
-        object_or (is_known_shape ns shape) (declared_as s.decls p.name) (is_input p.direction)
+        object_or (is_known_shape ns shape) (declared_as s.decls p.name) (role_of_port p.direction p.net)
             (is_none shape),
       ) ∷ port_meanings ns ps
 
-  abbrev pub name_meanings : List Names → Class → Bool → Bool → List DeclaredName → Names
-  name_meanings ns c known scalar [] = []
-  name_meanings ns c known scalar (x ∷ xs) =
+  abbrev pub name_meanings : List Names → Class → Role → Bool → Bool → List DeclaredName → Names
+  name_meanings ns c role known scalar [] = []
+  name_meanings ns c role known scalar (x ∷ xs) =
       let is_right = known && (is_known_range ns x.words && may_have_words c x.words x.value) in
-      (x.name, object_or is_right (declared_as s.decls x.name) false scalar) ∷ name_meanings ns c known scalar xs
+      (x.name, object_or is_right (declared_as s.decls x.name) role scalar)
+      ∷ name_meanings ns c role known scalar xs
 
   abbrev pub item_meanings : List Names → Item → Names
   item_meanings ns (declaration attrs p d) =
-      name_meanings ns (class_of_attributes (class_of_kind d.net) (joined_attributes attrs))
+      name_meanings ns (class_of_attributes (class_of_kind d.net) (joined_attributes attrs)) (role_of_kind d.net)
       (is_known_shape ns d.shape.range) (is_none d.shape.range) d.names
   item_meanings ns (integer attrs p xs) =
-      name_meanings ns (class_of_attributes class.Variable (joined_attributes attrs)) true false xs
+      name_meanings ns (class_of_attributes class.Variable (joined_attributes attrs)) roles.Variable true false xs
   item_meanings ns (genvar attrs p xs) = map (λ text. (text, loop_variable)) xs
   item_meanings ns x = []
 
@@ -265,12 +284,12 @@ meanings_before at earlier = first_reached earlier at.contents (meanings_at at)
 -- ---- declarations whose shape is known, as far as no inner name hides them
 
 abbrev pub is_object : Meaning → Bool
-is_object (object d input scalar) = true
+is_object (object d role scalar) = true
 is_object m = false
 
 abbrev pub objects_of : List Names → Names → List Decl
 objects_of all [] = []
-objects_of all ((text, object d input scalar) ∷ ns) =
+objects_of all ((text, object d role scalar) ∷ ns) =
     let more = objects_of all ns in if is_object (meaning_in all text) then d ∷ more else more
 objects_of all (n ∷ ns) = objects_of all ns
 

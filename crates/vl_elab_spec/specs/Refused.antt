@@ -15,12 +15,14 @@ use Rattle.std.specs.Prelude.{
   false,
   ◌&&◌,
   ◌||◌,
+  ◌-◌,
   nat_lt,
+  slice_get,
 }
 use Rattle.std.specs.Prelude.{is_none, Option, Some, None, ◌⊎◌, if◌then◌else◌}
 use Rattle.fv_text.specs.declared.pos.Pos.{Pos}
 use Rattle.vl_tree.specs.declared.source.Module.{Module}
-use Rattle.vl_size.specs.Places.{is_earlier}
+use Rattle.vl_size.specs.Places.{is_earlier, earlier_place}
 use Rattle.vl_size.specs.declared.decl.Class.{Class}
 use Rattle.vl_size.specs.declared.decl.Class.TheVariants as class
 use Rattle.vl_size.specs.declared.decl.Decl.{Decl}
@@ -33,6 +35,7 @@ use Rattle.vl_elab_spec.specs.declared.elab_fault.ElabFault.TheVariants as f
 use Rattle.vl_elab_spec.specs.Counts.{step_nodes, step_names, step_pos}
 use Rattle.vl_elab_spec.specs.Expressions.{refused_if}
 use Rattle.vl_elab_spec.specs.Items.{is_valued, step_refusals}
+use Rattle.vl_elab_spec.specs.NodePlaces.{node_places, name_place}
 
 abbrev pub rank : ElabFault → ℕ
 rank (f.NoModule text) = 1
@@ -119,8 +122,20 @@ all_counted t (x ∷ xs) = all_counted (counted t x) xs
 abbrev pub is_too_large : Totals → Bool
 is_too_large t = nat_lt 4000000 t.nodes || nat_lt 200000 t.names
 
+-- the node, or the name, that is one too many, where there is one: the earlier of the two
+abbrev pub large_place : Totals → Step → Option Pos
+large_place t x = earlier_place (slice_get (node_places x) (4000000 - t.nodes)) (name_place (200000 - t.names) x)
+
+abbrev pub pos_or : Pos → Option Pos → Pos
+pos_or p None = p
+pos_or p (Some q) = q
+
+-- where a step stands that is too large
+abbrev pub large_pos : Totals → Step → Pos
+large_pos t x = pos_or (step_pos x) (large_place t x)
+
 abbrev pub refusals_at : List Module → Totals → Step → List ElabFault
-refusals_at ms t x = step_refusals ms x ++ refused_if (is_too_large (counted t x)) (f.TooLarge (step_pos x))
+refusals_at ms t x = step_refusals ms x ++ refused_if (is_too_large (counted t x)) (f.TooLarge (large_pos t x))
 
 abbrev pub first_refused : List Module → Totals → List Step → Option ElabFault
 first_refused ms t [] = None

@@ -54,7 +54,7 @@ use Rattle.vl_elab_spec.specs.Expressions.{refused_if, name_width, too_wide, obj
 use Rattle.vl_elab_spec.specs.Expressions.{divided_by_zero, is_constant_name, vector_selects}
 use Rattle.vl_elab_spec.specs.Expressions.{expr_refusals, own_refusals, known}
 use Rattle.vl_elab_spec.specs.Meanings.{Meaning, undeclared, constant, loop_variable, object, faulty, shapeless, later}
-use Rattle.vl_elab_spec.specs.Meanings.{Names, meaning_in, constants, objects}
+use Rattle.vl_elab_spec.specs.Meanings.{Names, meaning_in, constants, is_input, objects}
 
 -- by a continuous assignment, or by one of a block
 abbrev pub may_be_assigned : Bool → Class → Bool
@@ -77,12 +77,12 @@ module _ (ns : List Names) where
   assigned_refusals continuous p text faulty = []
   assigned_refusals continuous p text shapeless = []
   assigned_refusals continuous p text later = []
-  assigned_refusals continuous p text (object d input scalar) =
+  assigned_refusals continuous p text (object d role scalar) =
       refused_if (is_clock_class d.class) (f.Clock p)
-      ++ refused_if (input || not (may_be_assigned continuous d.class)) (f.Kind text p)
+      ++ refused_if (is_input role || not (may_be_assigned continuous d.class)) (f.Kind text p)
 
   abbrev pub target_selects : Pos → Meaning → Lval → List ElabFault
-  target_selects p (object d input scalar) (named q text ss) = object_selects ns p scalar d ss
+  target_selects p (object d role scalar) (named q text ss) = object_selects ns p scalar d ss
   target_selects p (constant c selected) (named q text ss) = vector_selects ns selected (vector_of text c) ss
   target_selects p m l = []
 

@@ -9,11 +9,13 @@
 mod elab_fault;
 mod fixed_law;
 pub mod order;
+mod role;
 mod totals;
 pub mod unfold_law;
 mod walked_law;
 
 pub use elab_fault::{ElabFault, refusal_number};
 pub use fixed_law::known_constants_stay;
+pub use role::Role;
 pub use totals::Totals;
 pub use walked_law::steps_are_walked_in_order;

@@ -1,5 +1,5 @@
 //! How much of a design was walked.
-ghost use Rattle.std.specs.Prelude.{◌≡◌, ◌+◌, ℕ};
+ghost use Rattle.std.specs.Prelude.{◌≡◌, ◌≤◌, ◌+◌, ◌-◌, ℕ};
 ghost use Rattle.vl_mean.specs.ConstantFaults.{capped};
 ghost use Rattle.vl_elab_spec.specs.Refused as refused;
 ghost use Rattle.vl_elab_spec.specs.Walked.{AreTotals};
@@ -41,5 +41,20 @@ impl Totals {
         ensures { (t : refused.Totals) → AreTotals self t → result ≡ refused.is_too_large t }
     {
         self.nodes > 4_000_000 || self.names > 200_000
+    }
+
+    /// How many nodes more it may have.
+    pub fn nodes_left(self) -> u64
+        ensures { (t : refused.Totals) → AreTotals self t → result ≡ 4000000 - t.nodes }
+    {
+        4_000_000u64.saturating_sub(self.nodes)
+    }
+
+    /// How many names more it may have.
+    pub fn names_left(self) -> u64
+        ensures few { result ≤ 200000 }
+        ensures left { (t : refused.Totals) → AreTotals self t → result ≡ 200000 - t.names }
+    {
+        200_000u64.saturating_sub(self.names)
     }
 }

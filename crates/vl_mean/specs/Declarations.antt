@@ -33,6 +33,7 @@ use Rattle.std.specs.Prelude.{
 }
 use Rattle.std.specs.Prelude.{bytes_eq, if◌then◌else◌}
 use Rattle.vl_tree.specs.declared.attribute.Attribute.{Attribute}
+use Rattle.fv_text.specs.declared.pos.Pos.{Pos}
 use Rattle.vl_tree.specs.declared.declaration.DeclaredName.{DeclaredName}
 use Rattle.vl_tree.specs.declared.declaration.Direction.{Direction}
 use Rattle.vl_tree.specs.declared.declaration.Direction.TheVariants as direction
@@ -195,6 +196,14 @@ abbrev pub full_port : Option FullPort → PortKind → Option FullPort
 full_port last (port.Full p) = Some p
 full_port None (port.Short text value) = None
 full_port (Some p) (port.Short text value) = Some (record p { name = text; value = value })
+
+-- where its name stands
+abbrev pub kind_name_pos : Pos → PortKind → Pos
+kind_name_pos p (port.Full q) = q.name_pos
+kind_name_pos p (port.Short text value) = p
+
+abbrev pub port_name_pos : Port → Pos
+port_name_pos p = kind_name_pos p.pos p.kind
 
 abbrev pub full_ports : Option FullPort → List Port → List FullPort
 full_ports last [] = []

@@ -22,7 +22,6 @@ use Rattle.std.specs.Prelude.{
 }
 use Rattle.std.specs.Prelude.{false, Option, Some, None, bytes_eq, if◌then◌else◌}
 use Rattle.std.specs.Fmt.{signed_decimal}
-use Rattle.fv_text.specs.declared.pos.Pos.{Pos}
 use Rattle.vl_tree.specs.declared.declaration.FullPort.{FullPort}
 use Rattle.vl_tree.specs.declared.declaration.HeaderParameter.{HeaderParameter}
 use Rattle.vl_tree.specs.declared.declaration.Parameter.{Parameter}
@@ -104,8 +103,8 @@ pub record Use : Type 0 where
 pub data Step : Type 0 where
   -- a parameter of a module's head
   header : Place → Parameter → Step
-  -- a port of a module that is used so, with all that it takes from the port before it
-  port : Place → Use → Pos → FullPort → Step
+  -- a port of a module that is used so, as it is written, and with all that it takes from the port before it
+  port : Place → Use → Port → FullPort → Step
   -- an item by itself: of a loop its head, of an `if` its condition, of an instance what it names
   item : Place → Item → Step
   -- what an instance gives to a parameter of its module, which is used so, behind what it gives to these
@@ -191,7 +190,7 @@ abbrev pub header_steps : Place → List Parameter → List Step
 header_steps at [] = []
 header_steps at (x ∷ xs) = header at x ∷ header_steps (with_earlier at (x.name ∷ [])) xs
 
-abbrev pub port_step : Place → Use → Pos → Option FullPort → List Step
+abbrev pub port_step : Place → Use → Port → Option FullPort → List Step
 port_step at u p None = []
 port_step at u p (Some q) = port at u p q ∷ []
 
@@ -203,7 +202,7 @@ optional_name (Some p) = p.name ∷ []
 abbrev pub port_steps : Place → Use → Option FullPort → List Port → List Step
 port_steps at u last [] = []
 port_steps at u last (p ∷ ps) =
-    let q = full_port last p.kind in port_step at u p.pos q ++ port_steps (with_earlier at (optional_name q)) u q ps
+    let q = full_port last p.kind in port_step at u p q ++ port_steps (with_earlier at (optional_name q)) u q ps
 
 -- ---- instances: sections 12.1.2, 12.2.2 and 12.3.6
 

@@ -72,6 +72,7 @@ input text = record {
     net = None;
     shape = scalar;
     name = text;
+    name_pos = here;
     value = None;
   });
 }
@@ -134,6 +135,7 @@ vector_input shape text = record {
     net = None;
     shape = shape;
     name = text;
+    name_pos = here;
     value = None;
   });
 }
@@ -190,6 +192,7 @@ output shape text = record {
     net = None;
     shape = shape;
     name = text;
+    name_pos = here;
     value = None;
   });
 }

@@ -5,7 +5,6 @@ use Rattle.std.proofs.Common.{ap, sym, ◌∙◌, true≢false}
 use Rattle.std.proofs.Math.Path.{transport}
 use Rattle.std.proofs.lemmas.Slice.Eq.{bytes_eq-Decides}
 use Rattle.std.proofs.lemmas.Bool.Decides.{same_from_decides, Decides-like}
-use Rattle.fv_text.specs.declared.pos.Pos.{Pos}
 use Rattle.vl_tree.specs.declared.declaration.NetKind.TheVariants as net
 use Rattle.vl_tree.specs.declared.declaration.FullPort.{FullPort}
 use Rattle.vl_tree.specs.declared.declaration.Parameter.{Parameter}
@@ -283,7 +282,7 @@ module _ (es : List Decl) where
   laid_header at [] s = tt
   laid_header at (x ∷ xs) s = (s, laid_header (with_earlier at (x.name ∷ [])) xs s)
 
-  laid_port : (at : Place) (u : Use) (p : Pos) (q : Option FullPort) → AreScopes es at.scopes
+  laid_port : (at : Place) (u : Use) (p : Port) (q : Option FullPort) → AreScopes es at.scopes
       → Laid (port_step at u p q)
   laid_port at u p None s = tt
   laid_port at u p (Some q) s = (s, tt)
@@ -293,10 +292,10 @@ module _ (es : List Decl) where
   laid_ports at u last [] s = tt
   laid_ports at u last (p ∷ ps) s =
       let q : Option FullPort = full_port last p.kind in
-      both (StepScopes (AreScopes es)) (port_step at u p.pos q) (port_steps (with_earlier at (optional_name q)) u q ps)
-      (laid_port at u p.pos q s) (laid_ports (with_earlier at (optional_name q)) u q ps s)
+      both (StepScopes (AreScopes es)) (port_step at u p q) (port_steps (with_earlier at (optional_name q)) u q ps)
+      (laid_port at u p q s) (laid_ports (with_earlier at (optional_name q)) u q ps s)
 
-  declared_port : (at : Place) (u : Use) (p : Pos) (q : Option FullPort) (qs : List FullPort) → In (port_step at u p q)
+  declared_port : (at : Place) (u : Use) (p : Port) (q : Option FullPort) (qs : List FullPort) → In (port_step at u p q)
       → AreOf es at.path (declared_ports at.around u.is_top u.input qs)
       → AreOf es at.path (declared_ports at.around u.is_top u.input (option_to_list q ++ qs))
   declared_port at u p None qs h k = k
@@ -308,8 +307,8 @@ module _ (es : List Decl) where
   declared_all_ports at u last (p ∷ ps) h =
       let q : Option FullPort = full_port last p.kind in
       let more : List Step = port_steps (with_earlier at (optional_name q)) u q ps in
-      declared_port at u p.pos q (full_ports q ps) (in_front (port_step at u p.pos q) more h)
-      (declared_all_ports (with_earlier at (optional_name q)) u q ps (in_back (port_step at u p.pos q) more h))
+      declared_port at u p q (full_ports q ps) (in_front (port_step at u p q) more h)
+      (declared_all_ports (with_earlier at (optional_name q)) u q ps (in_back (port_step at u p q) more h))
 
   declared_of_ports : (at : Place) (u : Use) (ps : Option (List Port)) → In (port_steps at u None (written_ports ps))
       → AreOf es at.path (declared_ports at.around u.is_top u.input (ports_of ps))

@@ -3,7 +3,6 @@ use Rattle.std.specs.Prelude.{◌≡◌, refl, ℕ, zero, suc, ◌+◌, List, []
 use Rattle.std.specs.Prelude.{Option, Some, None, if◌then◌else◌}
 use Rattle.std.proofs.Common.{ap, sym, ◌∙◌}
 use Rattle.std.proofs.lemmas.List.{map-append}
-use Rattle.fv_text.specs.declared.pos.Pos.{Pos}
 use Rattle.vl_tree.specs.declared.declaration.FullPort.{FullPort}
 use Rattle.vl_tree.specs.declared.declaration.Parameter.{Parameter}
 use Rattle.vl_tree.specs.declared.declaration.Port.{Port}
@@ -240,7 +239,7 @@ headers_alike at contents earlier modules (x ∷ xs) =
     ap (λ ys. seen_step (header at x) ∷ ys)
     (headers_alike (with_earlier at (x.name ∷ [])) contents (earlier ++ x.name ∷ []) modules xs)
 
-port_alike : (at : Place) (contents : List Contents) (earlier modules : List (List ℕ)) (u : Use) (p : Pos)
+port_alike : (at : Place) (contents : List Contents) (earlier modules : List (List ℕ)) (u : Use) (p : Port)
     (q : Option FullPort) → seen_steps (port_step at u p q)
     ≡ seen_steps (port_step (beside at contents earlier modules) u p q)
 port_alike at contents earlier modules u p None = refl
@@ -252,10 +251,10 @@ ports_alike : (at : Place) (contents : List Contents) (earlier modules : List (L
 ports_alike at contents earlier modules u last [] = refl
 ports_alike at contents earlier modules u last (p ∷ ps) =
     let q : Option FullPort = full_port last p.kind in
-    both (port_step at u p.pos q) (port_step (beside at contents earlier modules) u p.pos q)
+    both (port_step at u p q) (port_step (beside at contents earlier modules) u p q)
     (port_steps (with_earlier at (optional_name q)) u q ps)
     (port_steps (with_earlier (beside at contents earlier modules) (optional_name q)) u q ps)
-    (port_alike at contents earlier modules u p.pos q)
+    (port_alike at contents earlier modules u p q)
     (ports_alike (with_earlier at (optional_name q)) contents (earlier ++ optional_name q) modules u q ps)
 
 unfolded_alike : (n : ℕ) (ms : List Module) → IsAlike (inner n ms)

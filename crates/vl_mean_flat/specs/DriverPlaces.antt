@@ -1,6 +1,6 @@
 -- Meaning: Where a design's drivers stand, step by step, in the order of the drivers among its parts: a continuous
 -- assignment and a block at their item, a port connection at the connection, the value in a declaration at the
--- declared name or port. Refusals of drivers are told at these places. Rule of this project.
+-- declared name. Refusals of drivers are told at these places. Rule of this project.
 use Rattle.std.specs.Prelude.{List, [], ◌∷◌, ◌++◌, ℕ, map}
 use Rattle.fv_text.specs.declared.pos.Pos.{Pos}
 use Rattle.vl_tree.specs.declared.declaration.DeclaredName.{DeclaredName}
@@ -9,7 +9,7 @@ use Rattle.vl_tree.specs.declared.declaration.NetKind.TheVariants as net
 use Rattle.vl_tree.specs.declared.source.Module.{Module}
 use Rattle.vl_tree.specs.Item.{Item, declaration, integer, assign, always}
 use Rattle.vl_mean.specs.declared.driver.Driver.{Driver}
-use Rattle.vl_mean.specs.Declarations.{port_named, ports_of}
+use Rattle.vl_mean.specs.Declarations.{port_name_pos, port_named, ports_of}
 use Rattle.vl_mean.specs.Parts.{Part, declares, equation, combinational, clocked, starts}
 use Rattle.vl_mean.specs.Parts.{assignments, block_part, optional_value, port_kind, port_part}
 use Rattle.vl_mean.specs.Scopes.{Scope}
@@ -39,7 +39,8 @@ item_places ss x = []
 
 abbrev pub places_of_step : Step → List Pos
 places_of_step (header at x) = []
-places_of_step (port at u p q) = all_at p (optional_value at.scopes (port_kind q.net) q.name q.value)
+places_of_step (port at u p q) =
+    all_at (port_name_pos p) (optional_value at.scopes (port_kind q.net) q.name q.value)
 places_of_step (item at x) = item_places at.scopes x
 places_of_step (override at m u given x) = []
 places_of_step (connection at m u inside given x) =

@@ -216,6 +216,7 @@ fn read_full_port(alloc: Global, room: u32, tokens: &[Token]) -> Result<(Port, &
     let (direction, rest) = read_direction(tokens)?;
     let (net, rest) = read_net(rest);
     let (shape, rest) = read_shape(alloc, room, rest)?;
+    let name_pos = first_place(rest)?;
     let (name, value, rest) = read_named_value(alloc, room, rest)?;
     let port = FullPort {
         attributes,
@@ -223,6 +224,7 @@ fn read_full_port(alloc: Global, room: u32, tokens: &[Token]) -> Result<(Port, &
         net,
         shape,
         name,
+        name_pos,
         value,
     };
     Ok((

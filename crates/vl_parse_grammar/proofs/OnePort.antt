@@ -126,8 +126,8 @@ full_one : (x y : FullPort) (a b : Pos) (ts us r q : List Token) → ts ≡ us �
     → IsPortKind (p.Full y)
     → Spells (spell_port_kind a (p.Full x)) ts r → Spells (spell_port_kind b (p.Full y)) us q → After r → After q
     → (a ≡ b) × (x ≡ y) × (r ≡ q)
-full_one x y a b ts us r q e w v (m, h, (g, (m2, i, (m3, j, (m4, l, (m5, c, d))))))
-    (o, h2, (g2, (o2, i2, (o3, j2, (o4, l2, (o5, c2, d2)))))) f f2 =
+full_one x y a b ts us r q e w v (m, h, (g, (m2, i, (m3, j, (m4, l, (n, (m5, c, d)))))))
+    (o, h2, (g2, (o2, i2, (o3, j2, (o4, l2, (n2, (o5, c2, d2))))))) f f2 =
     let (attrs, start_same) = attributes_one x.attributes y.attributes ts us m o e w.0 v.0 h h2
     (by_first is_no_attribute _ m m2 i (no_attribute_word x.direction))
     (by_first is_no_attribute _ o o2 i2 (no_attribute_word y.direction)) in
@@ -144,6 +144,7 @@ full_one x y a b ts us r q e w v (m, h, (g, (m2, i, (m3, j, (m4, l, (m5, c, d)))
         net = net z;
         shape = shape z;
         name = name_same x.name y.name (one_kind _ _ m4 o4 m5 o5 shape_same c c2) z;
+        name_pos = one_place x.name_pos y.name_pos m4 o4 shape_same n n2 z;
         value = value z;
       }),
       end,

@@ -68,7 +68,15 @@ behind_direction d q ts rest (m, h, (m2, i, (m3, j, (m4, l, e)))) =
     let y = name_tree d m2 m3 j in
     let v = value_tree d m3 m4 l in
     record {
-      tree = record { attributes = []; direction = q; net = kind.tree; shape = x.tree; name = y.text; value = v.tree };
+      tree = record {
+        attributes = [];
+        direction = q;
+        net = kind.tree;
+        shape = x.tree;
+        name = y.text;
+        name_pos = nowhere;
+        value = v.tree;
+      };
       same = ap (λ u. k.Keyword (direction_word q) ∷ u)
           (kind.same ∙ ap (onto (spell_net kind.tree)) (x.same ∙ ap (onto (spell_shape x.tree))
           (y.same ∙ ap (λ u. k.Name y.text ∷ u) (v.same ∙ ap (λ r. onto (spell_value v.tree) (plain r)) e))));
@@ -86,6 +94,7 @@ full_by d one ((k.Symbol s.OpenAttribute, w) ∷ ts) rest h =
         net = x.tree.net;
         shape = x.tree.shape;
         name = x.tree.name;
+        name_pos = x.tree.name_pos;
         value = x.tree.value;
       };
       same = i.same ∙ ap (onto (spell_instance i.instance)) x.same;

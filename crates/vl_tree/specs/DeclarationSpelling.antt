@@ -84,8 +84,8 @@ spell_header_parameter x = spell_if x.keyword w.Parameter ▸ spell_parameter x.
 
 abbrev pub spell_full_port : FullPort → Phrase
 spell_full_port x =
-    word (direction_word x.direction) ▸ spell_net x.net ▸ spell_shape x.shape ▸ a_name x.name
-    ▸ spell_value x.value
+    word (direction_word x.direction) ▸ spell_net x.net ▸ spell_shape x.shape
+    ▸ at x.name_pos (a_name x.name ▸ spell_value x.value)
 
 -- attributes before a port aren't of its place
 abbrev pub spell_port_kind : Pos → PortKind → Phrase

@@ -204,6 +204,7 @@ head = module_of
       net = Some net.Wire;
       shape = vector;
       name = codes "a";
+      name_pos = here;
       value = None;
     }))
     ∷ port_of (port.Short (codes "b") (Some a))
@@ -213,6 +214,7 @@ head = module_of
       net = Some net.Reg;
       shape = scalar;
       name = codes "c";
+      name_pos = here;
       value = Some z;
     }))
     ∷ port_of (port.Short (codes "d") None) ∷ []))

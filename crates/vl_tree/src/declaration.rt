@@ -89,5 +89,7 @@ pub struct FullPort {
     pub net: Option<NetKind>,
     pub shape: Shape,
     pub name: Text,
+    /// The place of the name. One that is written short stands at its name itself.
+    pub name_pos: Pos,
     pub value: Option<Expr>,
 }

@@ -4,5 +4,6 @@ use Rattle.vl_elab_check.proofs.headers.walk_header.Goals as goal
 
 pub returns-clause-walked : goal.returns-clause-walked
 returns-clause-walked c ms at t same names reached gives known =
-    c.weighed.ensures ms (header at c.args.parameter.now) t
-    (c.in_ok-fault.ensures.fault at same names reached gives) c.parameter_nodes.ensures refl refl known
+    let x = header at c.args.parameter.now in
+    c.weighed.ensures ms x t (c.in_ok-fault.ensures.fault at same names reached gives) c.parameter_nodes.ensures refl
+    (c.header_place-pos.ensures x t refl (λ n. refl) refl c.parameter_nodes.ensures refl known) known

@@ -15,7 +15,7 @@ pub returns-in-None-clause-walked : goal.returns-in-None-clause-walked
 returns-in-None-clause-walked c ms at u t same names known =
     let gone = none_of (option_copied c.args.last) c.args.port.now.kind
     (sym c.next_full.ensures ∙ ap option_copied c.in-None.is) in
-    subst (λ q. AreWalked ms t c.args.totals.now (port_step at u c.args.port.now.pos q) None) (sym gone)
+    subst (λ q. AreWalked ms t c.args.totals.now (port_step at u c.args.port.now q) None) (sym gone)
     (none_walked ms t c.args.totals.now known)
 
 pub returns-in-None-clause-earlier : goal.returns-in-None-clause-earlier
@@ -38,7 +38,7 @@ returns-in-Some-clause-walked c =
     c.port_value-value.result.now (sym c.next_full.ensures ∙ ap option_copied c.in-Some.is) c.port_text-text.ensures
     c.port_value-value.ensures in
     IfOk-weaker c.walk_full.result _ _ (λ g h ms at u t same names known.
-    subst (λ q. AreWalked ms t c.walk_full.new.totals (port_step at u c.args.port.now.pos q) g) (sym full)
+    subst (λ q. AreWalked ms t c.walk_full.new.totals (port_step at u c.args.port.now q) g) (sym full)
     (h ms at u t same names known)) c.walk_full.ensures.walked
 
 pub returns-in-Some-clause-earlier : goal.returns-in-Some-clause-earlier

@@ -57,7 +57,7 @@ loop-port-preserved c =
                 (next_steps (with_earlier here (optional_name q)) u last p.kind (option_copied c.next_full-last.result)
                 rest c.next_full-last.ensures)
                 (left_on ms t (port_steps at u None c.args.ports.now) c.loop-port.totals c.walk_port.new.totals
-                (port_step here u p.pos q) behind c.in_ok-found.found
+                (port_step here u p q) behind c.in_ok-found.found
                 left
                 (c.in_ok-found.ensures.walked ms here u left.now same old.1 left.known) nothing),
           );
@@ -77,7 +77,7 @@ returns-then-is_some-clause-walked c ms at u t same names known =
     let left = subst (λ l. AreLeft ms t (port_steps at u None c.args.ports.now) c.loop-port.totals
     (port_steps here u last l)) front old.2 in
     left_stop ms t (port_steps at u None c.args.ports.now) c.loop-port.totals c.walk_port.new.totals
-    (port_step here u p.pos q) behind c.in_ok-found.found left
+    (port_step here u p q) behind c.in_ok-found.found left
     (c.in_ok-found.ensures.walked ms here u left.now same old.1 left.known) (sym c.is_some.ensures ∙ c.if-is_some.true)
 
 pub returns-then-is_some-clause-earlier : goal.returns-then-is_some-clause-earlier

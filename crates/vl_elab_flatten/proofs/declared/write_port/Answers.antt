@@ -1,5 +1,6 @@
 use Rattle.std.proofs.Common.{subst, sym}
 use Rattle.std.proofs.lemmas.Result.{on_ok_weaker}
+use Rattle.vl_mean.specs.Declarations.{port_name_pos}
 use Rattle.vl_mean.specs.Parts.{declares_all, optional_value}
 use Rattle.vl_elab_decls.specs.Objects.{port_text}
 use Rattle.vl_elab_emit.specs.Behind.{MayStandBehind, StandBehind, placed_at, unplaced}
@@ -34,9 +35,11 @@ returns c =
     let t = c.write_optional_value.new.draft in
     let name = port_text c.args.port.now.kind in
     let value = port_value c.args.port.now.kind in
-    let p = c.args.port.now.pos in
+    let p = port_name_pos c.args.port.now in
     on_ok_weaker c.write_optional_value.result (λ h. port_behind c.args.draft.now v t p c.args.path.now
     c.args.decls.now (optional_value ss net name value) c.in_ok-write_declarations.ensures
     (subst (λ x. StandBehind v (placed_at p (optional_value ss net name x)) t) c.port_value-value.ensures
     (subst (λ y. StandBehind v (placed_at p (optional_value ss net y c.port_value-value.result.now)) t)
-    c.port_text-name.ensures h))) c.write_optional_value.ensures
+    c.port_text-name.ensures
+    (subst (λ q. StandBehind v (placed_at q (optional_value ss net c.port_text-name.result.now
+    c.port_value-value.result.now)) t) c.name_pos-pos.ensures h)))) c.write_optional_value.ensures

@@ -1,0 +1,10 @@
+pub mod Lists
+pub mod Moved
+pub mod Nodes
+pub mod Declared
+pub mod Going
+pub mod TurnPlaces
+pub mod InnerPlaces
+pub mod Words
+pub mod Judging
+pub mod Lengths
