@@ -162,11 +162,11 @@ class Program:
         for word, content in (("w.v", show(text.source)), ("checks.cfg", text.config())):
             with open(os.path.join(self.folder.name, word), "w", encoding="ascii") as file:
                 file.write(content)
-        said = f"ulimit -S -t {SECONDS} -v {KILOBYTES} && exec \"$0\" \"$@\""
+        said = f"ulimit -S -t {SECONDS} && ulimit -S -v {KILOBYTES} && exec \"$0\" \"$@\""
         words = ["/bin/sh", "-c", said, self.path, "run", "checks.cfg", "absent", "--budget", "1"]
         done = subprocess.run(words, cwd=self.folder.name, capture_output=True, text=True, check=False)
-        if done.stdout:
-            return done.stdout.rstrip("\n")
+        if done.stdout or done.stderr:
+            return done.stdout.rstrip("\n") + done.stderr
         return {8: "accepted", 11: UNJUDGED, -signal.SIGXCPU: UNJUDGED}.get(done.returncode, f"code {done.returncode}")
 
 
