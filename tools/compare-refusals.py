@@ -9,9 +9,9 @@ of the weight. A text is made by the seed and its number, from F on, so a count 
 each refusal was answered, and of each kind of difference one text that shows it, the shortest, without what isn't
 needed for it; all of them are put into FOLDER where one is given. Ends with 1 where one is there.
 
-The program has 20 seconds of processor time and 2 GB beside its stack: a design that is refused takes less, and one
+The program has 5 seconds of processor time and 2 GB beside its stack: a design that is refused takes less, and one
 that isn't may be judged for longer, by up to 100 cycles, so that it counts as accepted and not judged. The reading has
-20 seconds too: nested loops are walked turn by turn.
+20 seconds: nested loops are walked turn by turn.
 
 The reading (refusal_values, refusal_names, refusal_rules, refusal_flow) is a walk over the trees that the text was
 printed from, so it has no parser. It was written from the rules in words, not from the definitions or the code of this
@@ -38,7 +38,7 @@ from refusal_shrink import shrink
 from refusal_trees import show, unshared
 
 HEAVY = 20_000_000
-SECONDS, KILOBYTES = 20, 4_100_000
+SECONDS, KILOBYTES, SECONDS_OF_READING = 5, 4_100_000, 20
 UNJUDGED = "accepted, not judged"
 ORDER = ["ill", "reg", "pc_fwd", "unique", "imem", "dmem"]
 sys.setrecursionlimit(20_000)
@@ -103,7 +103,7 @@ def stop(*_):
 def reading(text):
     """What the rules ask for, None where it is unknown."""
     signal.signal(signal.SIGPROF, stop)
-    signal.setitimer(signal.ITIMER_PROF, SECONDS)
+    signal.setitimer(signal.ITIMER_PROF, SECONDS_OF_READING)
     try:
         return line_of(text)
     except TooLong:

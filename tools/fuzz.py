@@ -11,8 +11,9 @@ end with what such a limit comes to.
 
 A refusal, and every run of `lrat`, has to take at most 2 seconds of processor time and 64 MB, and for each byte that it
 reads 10 microseconds and 2,000 bytes more. What a design takes that is judged goes by its weight, and is told apart.
-With --keep what was wrong, and the ten of at most 4,000 bytes that took the most, are written into the folder. Ends
-with 1 where a run was wrong.
+
+With --keep what was wrong, and the ten others of at most 4,000 bytes that took the most, are written into the folder.
+Ends with 1 where a run was wrong.
 
 The runs have numbers, from that of --first on (0 where it is left out), and each makes its texts by the seed and its
 number: so a count may be made in pieces, by any number of jobs (1), and one run alone by --first and --runs 1. A
@@ -122,7 +123,7 @@ class Tally:
         most = self.judged if is_judged else self.most
         most[:] = max(most[0], ended.seconds), max(most[1], ended.kilobytes)
         cost = ended.seconds + ended.kilobytes / 1e6
-        if run.size <= LONGEST_KEPT and (len(self.worst) < 10 or cost > self.worst[-1][0]):
+        if not is_judged and run.size <= LONGEST_KEPT and (len(self.worst) < 10 or cost > self.worst[-1][0]):
             self.keep_worst([(cost, run.number, run.texts)])
 
     def keep_worst(self, others):
