@@ -100,7 +100,7 @@ class Reader:
             raise Refused(min(found, key=lambda each: (each[0], each[1] or (0, 0))))
 
     def count(self, nodes, found, words=()):
-        """Counts nodes, and names with their places; what passes a limit is refused at its place."""
+        """Counts nodes and names, but no parameters and genvars; what passes a limit is refused at its place."""
         passed = []
         room = NODES - self.nodes
         self.nodes += len(nodes)
@@ -250,7 +250,7 @@ class Reader:
     def walk_module(self, module, scope, path):
         for each in module.params:
             found = []
-            self.count(self.counted(each), found, [(each.place, 1)])
+            self.count(self.counted(each), found)
             self.walk_pdef(each, scope, found)
             self.judge(found)
         for each in module.ports:
@@ -334,14 +334,14 @@ class Reader:
         found = []
         for word in item.words:
             declare(scope, word, item.place, found)
-        self.count(self.counted(item), found, [(item.place, 1)] * len(item.words))
+        self.count(self.counted(item), found)
         self.judge(found)
 
     def walk_param(self, item, scope, path):
         found = []
         for each in item.defs:
             self.walk_pdef(each, scope, found)
-        self.count(self.counted(item), found, [(each.place, 1) for each in item.defs])
+        self.count(self.counted(item), found)
         self.judge(found)
 
     def walk_assign(self, item, scope, path):
