@@ -9,8 +9,8 @@ use Rattle.rvf_case.specs.Hearing as hearing
 use Rattle.rvf_report.specs.Outcome.{Outside}
 use Rattle.rvf_report.specs.declared.delivery.Delivery.{Delivery}
 use Rattle.rvf_report.specs.declared.status.Status.{Status}
-use Rattle.rvf_core.specs.Run.{Answered, AnswersBegin, Begins, IsReadOn, Run, Says, answered_reads, begins_reads}
-use Rattle.rvf_core.specs.Run.{begun_reads, says_reads}
+use Rattle.rvf_core.specs.Run.{Answered, AnswersBegin, Begins, BeginsBy, IsReadOn, IsReadOnBy, Run, Says, SaysBy}
+use Rattle.rvf_core.specs.Run.{answered_reads, begins_reads, begun_by, begun_reads, reads_by, says_reads}
 use Rattle.rvf_core.specs.Steps.{HaveCauses, HaveStatus}
 use Rattle.rvf_core.specs.Tasks.{Task, cover_task, run_task, task_asked, task_of, zb_task}
 
@@ -20,83 +20,34 @@ same_task a b e = cc
 no_task : (t : Task) → ◌≡◌ {A = Option Task} None (Some t) → ⊥
 no_task t e = cc
 
--- a fact of the task of a line is one of the task that it is
-moved_to : (P : Task → Type 0) (own t : Task) → ◌≡◌ {A = Option Task} (Some own) (Some t) → P own → P t
-moved_to P own t e x = subst P (same_task own t e) x
-
-moved_back : (P : Task → Type 0) (own t : Task) → ◌≡◌ {A = Option Task} (Some own) (Some t) → P t → P own
-moved_back P own t e x = subst P (sym (same_task own t e)) x
-
 module _ (t : Task) (seen : Seen) where
   -- what is said of the task is said under the line, and speaks of the same reads
-  abbrev IsSaidBy : (line : Words) (status : Status) (report : List Delivery) (u : Task) → Answered u seen status report
-      → Type 0
-  IsSaidBy line status report u x =
-      (says : Says (Some line) seen status report)
-      × (says_reads (Some line) seen status report says ≡ answered_reads u seen status report x)
-
   pub says_asked : (line : Words) (status : Status) (report : List Delivery) → task_of line ≡ Some t
-      → (x : Answered t seen status report) → IsSaidBy line status report t x
-  says_asked (words.Run cfg outdir core basedir budget jobs) status report e x =
-      moved_to (λ u. (y : Answered u seen status report)
-      → IsSaidBy (words.Run cfg outdir core basedir budget jobs) status report u y)
-      (run_task cfg outdir core basedir budget) t e (λ y. (y, refl)) x
-  says_asked (words.List cfg) status report e x = absurd (no_task t e)
-  says_asked (words.Lrat cnf proof) status report e x = absurd (no_task t e)
-  says_asked (words.Bench size) status report e x = absurd (no_task t e)
-  says_asked (words.Cover o) status report e x =
-      moved_to (λ u. (y : Answered u seen status report) → IsSaidBy (words.Cover o) status report u y)
-      (cover_task o) t e (λ y. (y, refl)) x
-  says_asked (words.Zb o) status report e x =
-      moved_to (λ u. (y : Answered u seen status report) → IsSaidBy (words.Zb o) status report u y)
-      (zb_task o) t e (λ y. (y, refl)) x
+      → (x : Answered t seen status report)
+      → (says : Says (Some line) seen status report)
+      × (says_reads (Some line) seen status report says ≡ answered_reads t seen status report x)
+  says_asked line status report e x =
+      subst (λ o. (says : SaysBy o line seen status report)
+      × (reads_by o line seen status report says ≡ answered_reads t seen status report x)) (sym e) (x, refl)
 
   pub asked_says : (line : Option Words) (status : Status) (report : List Delivery) → task_asked line ≡ Some t
       → Says line seen status report → Answered t seen status report
   asked_says None status report e x = absurd (no_task t e)
-  asked_says (Some (words.Run cfg outdir core basedir budget jobs)) status report e x =
-      moved_to (λ u. Answered u seen status report) (run_task cfg outdir core basedir budget) t e x
-  asked_says (Some (words.List cfg)) status report e x = absurd (no_task t e)
-  asked_says (Some (words.Lrat cnf proof)) status report e x = absurd (no_task t e)
-  asked_says (Some (words.Bench size)) status report e x = absurd (no_task t e)
-  asked_says (Some (words.Cover o)) status report e x =
-      moved_to (λ u. Answered u seen status report) (cover_task o) t e x
-  asked_says (Some (words.Zb o)) status report e x =
-      moved_to (λ u. Answered u seen status report) (zb_task o) t e x
+  asked_says (Some line) status report e x = subst (λ o. SaysBy o line seen status report) e x
 
   -- the same of a report that has begun
-  abbrev IsBegunBy : (line : Words) (report : List Delivery) (u : Task) → AnswersBegin u seen.held report → Type 0
-  IsBegunBy line report u x =
-      (begins : Begins (Some line) seen report)
-      × (begins_reads (Some line) seen report begins ≡ begun_reads u seen.held report x)
-
   pub begins_asked : (line : Words) (report : List Delivery) → task_of line ≡ Some t
-      → (x : AnswersBegin t seen.held report) → IsBegunBy line report t x
-  begins_asked (words.Run cfg outdir core basedir budget jobs) report e x =
-      moved_to (λ u. (y : AnswersBegin u seen.held report)
-      → IsBegunBy (words.Run cfg outdir core basedir budget jobs) report u y)
-      (run_task cfg outdir core basedir budget) t e (λ y. (y, refl)) x
-  begins_asked (words.List cfg) report e x = absurd (no_task t e)
-  begins_asked (words.Lrat cnf proof) report e x = absurd (no_task t e)
-  begins_asked (words.Bench size) report e x = absurd (no_task t e)
-  begins_asked (words.Cover o) report e x =
-      moved_to (λ u. (y : AnswersBegin u seen.held report) → IsBegunBy (words.Cover o) report u y)
-      (cover_task o) t e (λ y. (y, refl)) x
-  begins_asked (words.Zb o) report e x =
-      moved_to (λ u. (y : AnswersBegin u seen.held report) → IsBegunBy (words.Zb o) report u y)
-      (zb_task o) t e (λ y. (y, refl)) x
+      → (x : AnswersBegin t seen.held report)
+      → (begins : Begins (Some line) seen report)
+      × (begins_reads (Some line) seen report begins ≡ begun_reads t seen.held report x)
+  begins_asked line report e x =
+      subst (λ o. (begins : BeginsBy o line seen report)
+      × (begun_by o line seen report begins ≡ begun_reads t seen.held report x)) (sym e) (x, refl)
 
 -- of the files that the task asks for the first ones were read
 pub read_asked : (t : Task) (line : Words) (events : List Event) → task_of line ≡ Some t
     → hearing.IsReadOn t.request events → IsReadOn (Some line) events
-read_asked t (words.Run cfg outdir core basedir budget jobs) events e x =
-    moved_back (λ u. hearing.IsReadOn u.request events) (run_task cfg outdir core basedir budget) t e x
-read_asked t (words.List cfg) events e x = absurd (no_task t e)
-read_asked t (words.Lrat cnf proof) events e x = absurd (no_task t e)
-read_asked t (words.Bench size) events e x = absurd (no_task t e)
-read_asked t (words.Cover o) events e x =
-    moved_back (λ u. hearing.IsReadOn u.request events) (cover_task o) t e x
-read_asked t (words.Zb o) events e x = moved_back (λ u. hearing.IsReadOn u.request events) (zb_task o) t e x
+read_asked t line events e x = subst (λ o. IsReadOnBy o line events) (sym e) x
 
 -- ---- statuses of causes
 

@@ -29,7 +29,7 @@ use Rattle.rvf_core.specs.Bench as bench
 use Rattle.rvf_core.specs.Certifies.{Certifies, certifies_reads}
 use Rattle.rvf_core.specs.Checks.{Checks, HasRead, IsBegun, checks_reads, has_reads, refused_status}
 use Rattle.rvf_core.specs.Lists.{Lists, lists_reads}
-use Rattle.rvf_core.specs.Tasks.{Task, bench_task, cover_task, run_task, task_asked, zb_task}
+use Rattle.rvf_core.specs.Tasks.{Task, bench_task, task_asked, task_of}
 use Rattle.rvf_core.specs.Verdicts.{QuestionFails, Violates}
 
 -- all that a run was given, and what it left
@@ -87,25 +87,32 @@ pub record Benches (size : ℕ) (status : Status) (report : List Delivery) : Typ
   pub misses_now : ℕ
   pub checks : Answered (bench_task size) (bench.seen_of size misses misses_now) status report
 
+-- the same of words that put no questions of given files
+abbrev pub SaysOther : Words → Seen → Status → List Delivery → Type 0
+SaysOther (words.List cfg) seen status report = Lists cfg seen status report
+SaysOther (words.Lrat cnf proof) seen status report = Certifies cnf proof seen status report
+SaysOther (words.Bench size) seen status report = Benches size status report
+SaysOther asked seen status report = ⊥
+
+-- of words with this task, if they have one
+abbrev pub SaysBy : Option Task → Words → Seen → Status → List Delivery → Type 0
+SaysBy (Some t) asked seen status report = Answered t seen status report
+SaysBy None asked seen status report = SaysOther asked seen status report
+
 -- a status has its cause, under what the words ask for, and this is its report
 abbrev pub Says : Option Words → Seen → Status → List Delivery → Type 0
 Says None seen status report = Misuses status report
-Says (Some (words.Run cfg outdir core basedir budget jobs)) seen status report =
-    Answered (run_task cfg outdir core basedir budget) seen status report
-Says (Some (words.List cfg)) seen status report = Lists cfg seen status report
-Says (Some (words.Lrat cnf proof)) seen status report = Certifies cnf proof seen status report
-Says (Some (words.Bench size)) seen status report = Benches size status report
-Says (Some (words.Cover o)) seen status report = Answered (cover_task o) seen status report
-Says (Some (words.Zb o)) seen status report = Answered (zb_task o) seen status report
+Says (Some asked) seen status report = SaysBy (task_of asked) asked seen status report
 
--- a report of which not all is known yet
+-- a report of which not all is known yet, of words with this task
+abbrev pub BeginsBy : Option Task → Words → Seen → List Delivery → Type 0
+BeginsBy (Some t) asked seen report = AnswersBegin t seen.held report
+BeginsBy None (words.Bench size) seen report = AnswersBegin (bench_task size) (Some (bench.held_of size)) report
+BeginsBy None asked seen report = ⊥
+
 abbrev pub Begins : Option Words → Seen → List Delivery → Type 0
-Begins (Some (words.Run cfg outdir core basedir budget jobs)) seen report =
-    AnswersBegin (run_task cfg outdir core basedir budget) seen.held report
-Begins (Some (words.Bench size)) seen report = AnswersBegin (bench_task size) (Some (bench.held_of size)) report
-Begins (Some (words.Cover o)) seen report = AnswersBegin (cover_task o) seen.held report
-Begins (Some (words.Zb o)) seen report = AnswersBegin (zb_task o) seen.held report
-Begins asked seen report = ⊥
+Begins None seen report = ⊥
+Begins (Some asked) seen report = BeginsBy (task_of asked) asked seen report
 
 -- the report of some status, or as far as it is known
 pub data IsReport (asked : Option Words) (seen : Seen) (report : List Delivery) : Type 0 where
@@ -124,36 +131,48 @@ answered_reads t seen status report says = checks_reads t.request seen t.wording
 abbrev pub begun_reads : (t : Task) (held : Told) (report : List Delivery) → AnswersBegin t held report → List Event
 begun_reads t held report h = has_reads t.request held h.config h.files h.read
 
--- what a status and its report speak of; `bench` reads only what it makes itself
+-- what the others speak of; `bench` reads only what it makes itself
+abbrev pub other_reads : (asked : Words) (seen : Seen) (status : Status) (report : List Delivery)
+    → SaysOther asked seen status report → List Event
+other_reads (words.List cfg) seen status report says = lists_reads cfg seen status report says
+other_reads (words.Lrat cnf proof) seen status report says = certifies_reads cnf proof seen status report says
+other_reads asked seen status report says = []
+
+abbrev pub reads_by : (task : Option Task) (asked : Words) (seen : Seen) (status : Status) (report : List Delivery)
+    → SaysBy task asked seen status report → List Event
+reads_by (Some t) asked seen status report says = answered_reads t seen status report says
+reads_by None asked seen status report says = other_reads asked seen status report says
+
+-- what a status and its report speak of
 abbrev pub says_reads : (asked : Option Words) (seen : Seen) (status : Status) (report : List Delivery)
     → Says asked seen status report → List Event
 says_reads None seen status report says = []
-says_reads (Some (words.Run cfg outdir core basedir budget jobs)) seen status report says =
-    answered_reads (run_task cfg outdir core basedir budget) seen status report says
-says_reads (Some (words.List cfg)) seen status report says = lists_reads cfg seen status report says
-says_reads (Some (words.Lrat cnf proof)) seen status report says = certifies_reads cnf proof seen status report says
-says_reads (Some (words.Bench size)) seen status report says = []
-says_reads (Some (words.Cover o)) seen status report says = answered_reads (cover_task o) seen status report says
-says_reads (Some (words.Zb o)) seen status report says = answered_reads (zb_task o) seen status report says
+says_reads (Some asked) seen status report says = reads_by (task_of asked) asked seen status report says
 
 -- what a report speaks of that has begun
+abbrev pub begun_by : (task : Option Task) (asked : Words) (seen : Seen) (report : List Delivery)
+    → BeginsBy task asked seen report → List Event
+begun_by (Some t) asked seen report h = begun_reads t seen.held report h
+begun_by None asked seen report h = []
+
 abbrev pub begins_reads : (asked : Option Words) (seen : Seen) (report : List Delivery) → Begins asked seen report
     → List Event
-begins_reads (Some (words.Run cfg outdir core basedir budget jobs)) seen report h =
-    begun_reads (run_task cfg outdir core basedir budget) seen.held report h
-begins_reads (Some (words.Cover o)) seen report h = begun_reads (cover_task o) seen.held report h
-begins_reads (Some (words.Zb o)) seen report h = begun_reads (zb_task o) seen.held report h
-begins_reads asked seen report h = []
+begins_reads None seen report h = []
+begins_reads (Some asked) seen report h = begun_by (task_of asked) asked seen report h
 
 -- of the files that are asked for the first ones were read, each by one read and in their order
+abbrev pub IsOtherReadOn : Words → List Event → Type 0
+IsOtherReadOn (words.List cfg) events = AreReadOn (cfg ∷ []) events
+IsOtherReadOn (words.Lrat cnf proof) events = AreReadOn (cnf ∷ (proof ∷ [])) events
+IsOtherReadOn asked events = events ≡ []
+
+abbrev pub IsReadOnBy : Option Task → Words → List Event → Type 0
+IsReadOnBy (Some t) asked events = hearing.IsReadOn t.request events
+IsReadOnBy None asked events = IsOtherReadOn asked events
+
 abbrev pub IsReadOn : Option Words → List Event → Type 0
-IsReadOn (Some (words.Run cfg outdir core basedir budget jobs)) events =
-    hearing.IsReadOn (run_task cfg outdir core basedir budget).request events
-IsReadOn (Some (words.List cfg)) events = AreReadOn (cfg ∷ []) events
-IsReadOn (Some (words.Lrat cnf proof)) events = AreReadOn (cnf ∷ (proof ∷ [])) events
-IsReadOn (Some (words.Cover o)) events = hearing.IsReadOn (cover_task o).request events
-IsReadOn (Some (words.Zb o)) events = hearing.IsReadOn (zb_task o).request events
-IsReadOn asked events = events ≡ []
+IsReadOn None events = events ≡ []
+IsReadOn (Some asked) events = IsReadOnBy (task_of asked) asked events
 
 -- exactly what a report speaks of; where there is none, as far as it went
 abbrev pub Hears : (asked : Option Words) (seen : Seen) (report : List Delivery) → IsReport asked seen report
