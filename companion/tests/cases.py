@@ -40,12 +40,27 @@ def planted(text: str, fault: tuple[str, str]) -> str:
     return text.replace(before, behind)
 
 
+def parts_of(lines: list[str]) -> dict[str, list[str]]:
+    """The parts of texts of cases, by name: one begins at `% NAME`, and has another at `%NAME`."""
+    parts: dict[str, list[str]] = {}
+    name = ""
+    for line in lines:
+        if line.startswith("% "):
+            name = line[2:]
+            parts[name] = []
+        elif line.startswith("%"):
+            parts[name] += parts[line[1:]]
+        elif name:
+            parts[name].append(line)
+    return parts
+
+
 def tiny() -> Case:
     """The core of two stages, as the repository's cases have it."""
     lines = (cores.REPOSITORY / "crates" / "tiny_cases" / "stdin").read_text().splitlines()
-    at = lines.index("% behind")
-    end = next(index for index in range(at, len(lines)) if lines[index].startswith("@ checks.cfg"))
-    whole = "\n".join([*lines[1:at], "          3: res = a < y;", *lines[at + 1:end], ""])
+    end = lines.index("@ checks.cfg")
+    parts = parts_of(lines[:end])
+    whole = "\n".join([*parts["before"], "          3: res = a < y;", *parts["behind"], ""])
     wrapper, core = whole.split("endmodule\n", 1)
     cfg = lines[end + 1:lines.index("[verilog-files]", end)]
     return Case("tiny", core, wrapper + "endmodule\n", "\n".join(cfg),
