@@ -1,6 +1,6 @@
 -- Meaning: Which graph a text says, behind what its lines say (AIGER; Biere, 2007, section 2): the variables that no
--- line defines, the gates that depend on themselves, and the value of the output. Which of them is refused, and at which
--- line, is a rule of this project.
+-- line defines, the gates that depend on themselves, and the value of the output. Which of them is refused, and at
+-- which line, is a rule of this project.
 use Rattle.std.specs.Prelude.{
   ◌≡◌,
   ℕ,

@@ -1,5 +1,5 @@
--- Between functions: The output and the gates of a text by nodes in place of variables: node 0 is false, behind it stand
--- the inputs and then the gates, in the order of lines. Rule of this project.
+-- Between functions: The output and the gates of a text by nodes in place of variables: node 0 is false, behind it
+-- stand the inputs and then the gates, in the order of lines. Rule of this project.
 use Rattle.std.specs.Prelude.{
   ◌≡◌,
   ℕ,

@@ -35,8 +35,8 @@ verdict_of c (found.Refuted steps) = v.Never (certificate_of c steps)
 verdict_of c (found.Spent steps) = v.Spent (certificate_of c steps)
 
 -- The verdict is that of what a search found of the clauses: values that make them true; or steps that refute them, of
--- which more is known; or valid steps, each a resolvent of its hints, that derive as many new clauses as the budget. None
--- stands behind the empty clause, and their numbers are short where few variables are.
+-- which more is known; or valid steps, each a resolvent of its hints, that derive as many new clauses as the budget.
+-- None stands behind the empty clause, and their numbers are short where few variables are.
 pub record Settles (more : Cnf → List Step → Type 0) (budget : ℕ) (c : RunClauses) (verdict : Verdict)
     : Type 0 where
   pub found : Found

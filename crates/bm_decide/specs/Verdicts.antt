@@ -1,5 +1,5 @@
--- Between functions: What a verdict on clauses of runs says of the runs of a net, and what one on a question says (rule of
--- this project).
+-- Between functions: What a verdict on clauses of runs says of the runs of a net, and what one on a question says (rule
+-- of this project).
 use Rattle.std.specs.Prelude.{◌≡◌, ℕ, ◌<◌, ◌^◌, Bool, true, false, List, [], length, map, slice_index_or}
 use Rattle.std.specs.List.{AllByRecursion}
 use Rattle.rv_table.specs.declared.retire.Opts.{Opts}

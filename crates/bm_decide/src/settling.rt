@@ -15,8 +15,8 @@ use std::alloc::Global;
 /// What clauses of runs come to by a search, within a budget of learnt clauses.
 ///
 /// Of whatever runs the clauses are, whichever of them are bad, and whatever is shown of them: no run is bad, and steps
-/// refute the clauses; or here are the choices of a bad run; or the budget is used up. (`settled` of the proofs leads from
-/// this contract there.)
+/// refute the clauses; or here are the choices of a bad run; or the budget is used up. (`settled` of the proofs leads
+/// from this contract there.)
 pub fn settle<S: Search>(
     alloc: Global,
     search: &S,

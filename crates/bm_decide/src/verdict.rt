@@ -21,8 +21,8 @@ pub struct Certificate {
     pub formula: Formula,
     pub steps: List<Step>,
     pub bits: ChoiceBits,
-    /// The literals of each node that is shown in the last cycle, the lowest bit first, in the order of these nodes: of a
-    /// question the fields of its channel.
+    /// The literals of each node that is shown in the last cycle, the lowest bit first, in the order of these nodes: of
+    /// a question the fields of its channel.
     pub fields: List<List<Lit>>,
 }
 

@@ -1,5 +1,5 @@
--- Meaning: What is to be reached, for a list of checks (rule of this project): for each kind that has a check whether its
--- assumptions can be met, and for each row of an insn check whether a word of it can retire.
+-- Meaning: What is to be reached, for a list of checks (rule of this project): for each kind that has a check whether
+-- its assumptions can be met, and for each row of an insn check whether a word of it can retire.
 use Rattle.std.specs.Prelude.{ℕ, max, if◌then◌else◌, List, [], ◌∷◌, ◌++◌, Option, Some, None, codes, decimal}
 use Rattle.std.specs.Prelude.{option_map, option_to_list}
 use Rattle.std.specs.List.{flat_map}

@@ -50,8 +50,8 @@ fn add_goal(net: &mut Net, port: &Port, target: &Target) -> Result<NodeId, Memor
     }
 }
 
-/// 1 in every cycle where the target has no row, and else exactly where its channel retires a word of the row; in a channel
-/// that the port doesn't have nothing retires. After want of memory the net is as before.
+/// 1 in every cycle where the target has no row, and else exactly where its channel retires a word of the row; in a
+/// channel that the port doesn't have nothing retires. After want of memory the net is as before.
 pub fn goal(net: &mut Net, port: &Port, target: &Target) -> Result<NodeId, Memory>
     requires { ArePortNodes net.old port.now }
     ensures adds { AddsNodes net.old net.new }

@@ -12,8 +12,8 @@ use Rattle.vl_lower_spec.specs.Evaluations.{IsLowered}
 use Rattle.ck_design.specs.Retirements.{values_at}
 
 -- Whether a bit of a name of a class is chosen in a cycle: of inputs of the top module, and of names that are free in
--- each cycle, in any one; of names that are free once, in the first one; and in the first one each bit of a variable that
--- no combinational block drives and that has no value at first.
+-- each cycle, in any one; of names that are free once, in the first one; and in the first one each bit of a variable
+-- that no combinational block drives and that has no value at first.
 abbrev pub is_free : List Part → Class → List ℕ → ℕ → ℕ → Bool
 is_free ps class.Input text k cycle = true
 is_free ps class.EachCycle text k cycle = true

@@ -1,5 +1,5 @@
--- Meaning: How the notes of a certificate stand: first the bits that are chosen, by rising variables, then the bits of a
--- channel's fields in a cycle, in the order of the table (rule of this project).
+-- Meaning: How the notes of a certificate stand: first the bits that are chosen, by rising variables, then the bits of
+-- a channel's fields in a cycle, in the order of the table (rule of this project).
 use Rattle.std.specs.Prelude.{◌≡◌, ℕ, ◌+◌, ◌*◌, ◌<◌, ◌≤◌, Bool, true, not, ◌&&◌, List, [], ◌∷◌, ◌++◌, map, pos}
 use Rattle.std.specs.List.{AllByRecursion, flat_map, list_any, range_with_len}
 use Rattle.vl_size.specs.declared.decl.Class.{Class}

@@ -1,4 +1,5 @@
-//! What properties of checks say of lists of retirements: types and definitions (documentation of riscv-formal, in this project's profile).
+//! What properties of checks say of lists of retirements: types and definitions (documentation of riscv-formal, in this
+//! project's profile).
 #![tactic(auto)]
 
 mod earlier;

@@ -1,5 +1,5 @@
--- Between functions: The circuit of a row over that of a row of RV32I, and when a retirement disagrees with a row (rule of
--- this project).
+-- Between functions: The circuit of a row over that of a row of RV32I, and when a retirement disagrees with a row (rule
+-- of this project).
 use Rattle.std.specs.Prelude.{ℕ, Bool, not, ◌&&◌}
 use Rattle.rv_table.specs.declared.retire.Retire.{Retire}
 use Rattle.rv_table.specs.declared.retire.Effect.{Effect}

@@ -1,5 +1,5 @@
--- Meaning: The rows of Zba and Zbs for words of 32 bits: RISC-V Bit-Manipulation ISA-extensions, version 1.0.0, sections
--- 1.1 and 1.4, and the instruction listings behind them, in this project's order; when a word matches one.
+-- Meaning: The rows of Zba and Zbs for words of 32 bits: RISC-V Bit-Manipulation ISA-extensions, version 1.0.0,
+-- sections 1.1 and 1.4, and the instruction listings behind them, in this project's order; when a word matches one.
 use Rattle.std.specs.Prelude.{◌≡◌, ℕ, Bool, true, List, [], ◌∷◌, codes}
 use Rattle.std.specs.List.{list_all}
 use Rattle.rv_table.specs.declared.demand.Demand.{Demand}

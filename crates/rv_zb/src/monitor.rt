@@ -41,8 +41,8 @@ fn add_monitor(net: &mut Net, channel: &Channel, row: ZbRow) -> Result<NodeId, M
     Ok(test)
 }
 
-/// 1 exactly where the channel retires a word of the row that doesn't agree with what the row does. After want of memory
-/// the net is as before.
+/// 1 exactly where the channel retires a word of the row that doesn't agree with what the row does. After want of
+/// memory the net is as before.
 pub fn zb_monitor(net: &mut Net, channel: &Channel, row: ZbRow) -> Result<NodeId, Memory>
     requires { AreChannelNodes net.old channel.now }
     ensures adds { AddsNodes net.old net.new }

@@ -15,8 +15,8 @@ use std::process::ExitCode;
 use std::thread::{Builder, Threads};
 use std::{io, rt};
 
-/// The bytes of the stack that the work gets: the first of these that are to be had. The walk through modules and blocks
-/// takes as much as a text is deep, and the least of them holds what 2,000,000 tokens can nest.
+/// The bytes of the stack that the work gets: the first of these that are to be had. The walk through modules and
+/// blocks takes as much as a text is deep, and the least of them holds what 2,000,000 tokens can nest.
 const STACKS: [usize; 3] = [1 << 32, 1 << 31, 1 << 30];
 
 /// Without such a stack nothing is read, since a deep text would end the process.

@@ -1,5 +1,5 @@
-//! What stands before the questions of a configuration are answered: the configuration, its files, and what is loaded of
-//! each of its texts.
+//! What stands before the questions of a configuration are answered: the configuration, its files, and what is loaded
+//! of each of its texts.
 #![tactic(auto)]
 
 mod asked;

@@ -130,8 +130,8 @@ fn load_all(alloc: Global, wanted: Wanted<'_>) -> Result<List<LoadedText>, Stop>
     load_kinds(alloc, wanted, kinds.as_slice())
 }
 
-/// The refusal of the text of a kind: a design that is too heavy is refused for a question by its name, and any other text
-/// by the names of the files, that of the configuration first.
+/// The refusal of the text of a kind: a design that is too heavy is refused for a question by its name, and any other
+/// text by the names of the files, that of the configuration first.
 fn refusal_of(
     alloc: Global,
     config: &Config,

@@ -19,8 +19,8 @@ use fv_base::Files;
 use fv_text::{List, Memory, Text};
 use std::alloc::Global;
 
-/// What a run is asked for that reads a configuration: its file, the names that are put into the names of files, and what is
-/// asked of it.
+/// What a run is asked for that reads a configuration: its file, the names that are put into the names of files, and
+/// what is asked of it.
 #[derive(Debug, Clone, Copy)]
 pub struct Request<'a> {
     pub cfg: &'a [u8],
@@ -71,7 +71,8 @@ fn prepared<F: Files>(alloc: Global, request: Request<'_>, files: &mut F) -> Res
     case_of(alloc, config, request.asking, all, texts.as_slice())
 }
 
-/// The questions of a configuration and what they are answered by; or the first cause in the order of work why they aren't.
+/// The questions of a configuration and what they are answered by; or the first cause in the order of work why they
+/// aren't.
 ///
 /// The configuration is read, then its Verilog files, in the order of their lines; then each distinct text is loaded
 /// once, in the order of their first questions. Nothing is written.

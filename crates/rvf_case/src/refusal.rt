@@ -14,8 +14,8 @@ pub enum Refusal {
     Config(CfgFault),
     /// A part refuses a text; beside it the names of the files by their numbers, that of the configuration first.
     Source(LoadFault, List<Text>),
-    /// A design is too heavy for the question with this name, by this number: its weight times one more than the question's
-    /// last cycle.
+    /// A design is too heavy for the question with this name, by this number: its weight times one more than the
+    /// question's last cycle.
     Heavy(Text, u64),
     Memory,
 }

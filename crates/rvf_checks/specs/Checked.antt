@@ -76,7 +76,8 @@ has_altops None = false
 -- and this is so of some check of the case
 abbrev pub is_noted : Case → Bool
 is_noted case =
-    list_any (λ q. if is_kind (question_kind q) kinds.Insn then has_altops (loaded_for case q) else false) case.questions
+    list_any (λ q. if is_kind (question_kind q) kinds.Insn then has_altops (loaded_for case q) else false)
+    case.questions
 
 -- all of this job by job
 abbrev pub plan_of : (ℕ → Cnf → List Step → Type 0) → Case → Wording → List ℕ → ℕ → Plan Judged Counts

@@ -58,7 +58,8 @@ pub record Violates (c : Config) (files : List (List ℕ)) (x : Check) (run : Li
 
 -- The run is one of the design of the question's text, is assumed, and gives what is sought, where these questions are
 -- asked: it violates the check, reaches the target, or retires a word of the row of Zba or Zbs and does otherwise.
-pub record Gives (c : Config) (files : List (List ℕ)) (qs : List Question) (q : Question) (run : List Values) : Type 0 where
+pub record Gives (c : Config) (files : List (List ℕ)) (qs : List Question) (q : Question) (run : List Values)
+    : Type 0 where
   pub reading : Reading
   pub is : IsReading (text_for c files qs (question_kind q)) reading
   pub found : IsFound (design_of reading.tree.modules) c.nret

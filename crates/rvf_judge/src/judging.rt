@@ -24,8 +24,8 @@ use wn_net::{Names, Net};
 
 /// What a question of the design of a net comes to, by a search within a budget of learnt clauses.
 ///
-/// Where no run gives what is sought, and where the budget is spent, it has the texts of a certificate, else a dump. All is
-/// said of the design that the net is loaded from.
+/// Where no run gives what is sought, and where the budget is spent, it has the texts of a certificate, else a dump.
+/// All is said of the design that the net is loaded from.
 #[tactic(auto, using(crate::proofs::Told::few_channels))]
 pub fn judge<S: Search>(
     alloc: Global,

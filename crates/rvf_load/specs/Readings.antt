@@ -22,9 +22,9 @@ abbrev pub end_to_end : List (List Token) → List Token
 end_to_end [] = []
 end_to_end (ts ∷ more) = ts ++ end_to_end more
 
--- The tokens of the texts, and behind them those of the lines of assumptions, are preprocessed in one list by the macros
--- that are predefined for the core. The tree is what the outcome spells, with the assumptions in their place as items,
--- and the macros are those that are defined at its end.
+-- The tokens of the texts, and behind them those of the lines of assumptions, are preprocessed in one list by the
+-- macros that are predefined for the core. The tree is what the outcome spells, with the assumptions in their place as
+-- items, and the macros are those that are defined at its end.
 pub record IsReadingOf (core : Core) (texts lines : List Text) (r : Reading) : Type 0 where
   pub of_texts : List (List Token)
   pub texts_have : HaveTokens texts of_texts

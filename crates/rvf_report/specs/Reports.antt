@@ -6,8 +6,8 @@ use Rattle.rvf_report.specs.declared.delivery.Delivery.{Delivery}
 use Rattle.rvf_report.specs.declared.status.Status.{Status}
 use Rattle.rvf_report.specs.declared.status.Status.TheVariants as s
 
--- What is answered, and what is delivered of it: A is what an answer is, and T what is counted of answers. Jobs go by their
--- places, from 0 on.
+-- What is answered, and what is delivered of it: A is what an answer is, and T what is counted of answers. Jobs go by
+-- their places, from 0 on.
 pub record Plan (A T : Type 0) : Type 1 where
   -- how many jobs there are
   pub size : ℕ

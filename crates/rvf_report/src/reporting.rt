@@ -72,8 +72,8 @@ fn report<R: Threads + Sync, F: Files, O: Out, Q: Inquiry>(
     finish(alloc, inquiry, progress, files, out)
 }
 
-/// Answers the jobs behind those that are answered, as many as are answered beside each other, and delivers what comes of
-/// them.
+/// Answers the jobs behind those that are answered, as many as are answered beside each other, and delivers what comes
+/// of them.
 fn deliver_batch<R: Threads + Sync, F: Files, O: Out, Q: Inquiry>(
     rt: &R,
     alloc: Global,

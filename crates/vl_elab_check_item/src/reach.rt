@@ -62,8 +62,8 @@ fn values_from(
     Ok(values)
 }
 
-/// Which parts of a loop's head have values. `names`: what names mean at the loop; `numbers`: the numbers that constants
-/// have there by the definitions, refused or not.
+/// Which parts of a loop's head have values. `names`: what names mean at the loop; `numbers`: the numbers that
+/// constants have there by the definitions, refused or not.
 pub fn head_values(
     alloc: Global,
     head: &LoopHead,

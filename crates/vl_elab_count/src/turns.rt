@@ -134,8 +134,8 @@ fn valued_nodes(
     Ok(expr_nodes(&head.condition))
 }
 
-/// The nodes of the turns of a loop that begin. `names`: what names mean at the loop; `numbers`: the numbers of constants
-/// there, refused or not.
+/// The nodes of the turns of a loop that begin. `names`: what names mean at the loop; `numbers`: the numbers of
+/// constants there, refused or not.
 pub(crate) fn loop_nodes(
     alloc: Global,
     head: &LoopHead,

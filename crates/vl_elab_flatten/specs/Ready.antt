@@ -103,7 +103,8 @@ module _ (ms : List Module) (depth : ℕ) where
   abbrev pub opened_seen : Module → Opened → List Seen
   opened_seen m o =
       let ports = placed_ports o.here.scopes o.here.path o.ports (written_ports m.ports) in
-      record { parts = ports.parts; places = ports.places; scopes = [] } ∷ items_seen (items m.items) (place_of o.here) 1
+      record { parts = ports.parts; places = ports.places; scopes = [] }
+      ∷ items_seen (items m.items) (place_of o.here) 1
 
 -- of the whole design
 abbrev pub design_seen : List Module → List ℕ → List Seen

@@ -3,8 +3,8 @@
 //! - Scopes of modules, of blocks and of turns of generate loops, as they are opened and left while a design is written
 //!   without hierarchy.
 //! - The ports of a module, and what an instance joins to them, written into a design without hierarchy.
-//! - The parts of a design, written into a design without hierarchy: instances are unfolded, each turn of a generate loop
-//!   is taken, and of an `if` the chosen block.
+//! - The parts of a design, written into a design without hierarchy: instances are unfolded, each turn of a generate
+//!   loop is taken, and of an `if` the chosen block.
 //! - A source that isn't refused, written as a design without hierarchy.
 #![tactic(auto)]
 

@@ -194,7 +194,8 @@ begun_passed further ns head p c =
     if further then turns_passed 4096 ns head p first c else turn_passed ns head p first c
 
 abbrev pub loop_passed : HeadValues → List Names → LoopHead → Pos → Cursor → Cursor
-loop_passed values ns head p c = if values.turns then begun_passed values.further ns head p c else expr_passed head.condition c
+loop_passed values ns head p c =
+    if values.turns then begun_passed values.further ns head p c else expr_passed head.condition c
 
 -- ---- the block that is chosen
 

@@ -7,8 +7,8 @@ ghost use Rattle.vl_flow_spec.specs.Weight.{design_weight};
 use fv_text::List;
 use vl_mean::Flat;
 
-/// A design in which no driver is refused, by specs/Refusals of vl_flow_spec, with the order of those that aren't clocked
-/// blocks: each stands once, behind all that drive what it reads.
+/// A design in which no driver is refused, by specs/Refusals of vl_flow_spec, with the order of those that aren't
+/// clocked blocks: each stands once, behind all that drive what it reads.
 #[derive(Drop)]
 pub struct Ordered {
     pub flat: Flat,

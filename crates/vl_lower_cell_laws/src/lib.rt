@@ -6,8 +6,8 @@
 //! - Cells in which drivers are settled one after the other, and then clocked blocks act: definitions and laws, without
 //!   code.
 //! - The entries of a design's names over the nodes of its cells: definitions and laws, without code.
-//! - The inputs, registers and memories that the declared names of a design come to, and the numbers of its cells at the
-//!   beginning of a cycle: definitions and laws, without code.
+//! - The inputs, registers and memories that the declared names of a design come to, and the numbers of its cells at
+//!   the beginning of a cycle: definitions and laws, without code.
 //! - How many inputs, registers and words of memories a design without hierarchy comes to: a law, without code.
 //! - Names of a net over the inputs, registers and memories of a design, and entries for its cells: laws, without code.
 #![tactic(auto)]

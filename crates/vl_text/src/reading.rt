@@ -124,10 +124,11 @@ fn read_tokens(
 
 /// The tree of Verilog texts, and the macros that are defined behind them.
 ///
-/// Each text, and behind the texts each line of assumptions, is lexed by itself. All are preprocessed in one list, behind
-/// the macros that are predefined for the core. Then what is left of each line of assumptions is put into an item
-/// `always @* assume (..);`, these are put in front of the first `endmodule` behind the first `module rvfi_wrapper`, or
-/// dropped where there is none, and the tokens are parsed. A fault is that of the first of these parts that refuses.
+/// Each text, and behind the texts each line of assumptions, is lexed by itself. All are preprocessed in one list,
+/// behind the macros that are predefined for the core. Then what is left of each line of assumptions is put into an
+/// item `always @* assume (..);`, these are put in front of the first `endmodule` behind the first `module
+/// rvfi_wrapper`, or dropped where there is none, and the tokens are parsed. A fault is that of the first of these
+/// parts that refuses.
 pub fn read_source(
     alloc: Global,
     core: Core,
