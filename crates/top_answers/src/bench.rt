@@ -99,6 +99,7 @@ impl Bench {
             Line::RunToMeet(words) => return Ok(Some(self.asked(words, Manner::ToMeet)?)),
             Line::RunWithDumps(words) => return Ok(Some(self.asked(words, Manner::WithDumps)?)),
             Line::Repeat(count, text) => self.repeat(count, text)?,
+            Line::Numbered(first, last, text) => self.repeat_numbered(first, last, text)?,
             Line::End => self.end(),
             Line::Comment => {}
             Line::Text(text) => {
@@ -134,6 +135,20 @@ impl Bench {
             self.append(text)?;
         }
         Ok(())
+    }
+
+    fn repeat_numbered(&mut self, first: u64, last: u64, text: &str) -> Result<(), AllocError> {
+        let mut lines = String::new(self.alloc);
+        for number in first..=last {
+            for letter in text.chars() {
+                match letter {
+                    '#' => write!(lines, "{number}")?,
+                    '|' => lines.push('\n')?,
+                    _ => lines.push(letter)?,
+                }
+            }
+        }
+        self.append(lines.as_str())
     }
 
     fn use_piece(&mut self, name: &str) -> Result<(), AllocError> {

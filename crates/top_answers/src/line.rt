@@ -25,6 +25,8 @@ pub enum Line<'a> {
     RunWithDumps(&'a str),
     /// `* N TEXT`: the text so many times, without an end of its line.
     Repeat(u64, &'a str),
+    /// `+ N M TEXT`: the text once for each number from N to M, which stands at each `#` of it; at each `|` a line ends.
+    Numbered(u64, u64, &'a str),
     /// `.`: the files go.
     End,
     /// `# ..`
@@ -71,6 +73,11 @@ pub(crate) fn line_of(text: &str) -> Line<'_> {
     if let Some(repeated) = text.strip_prefix("* ") {
         let (count, text) = repeated.split_once(' ').unwrap_or((repeated, ""));
         return Line::Repeat(number(count), text);
+    }
+    if let Some(numbered) = text.strip_prefix("+ ") {
+        let (first, rest) = numbered.split_once(' ').unwrap_or((numbered, ""));
+        let (last, text) = rest.split_once(' ').unwrap_or((rest, ""));
+        return Line::Numbered(number(first), number(last), text);
     }
     if text.starts_with("# ") {
         return Line::Comment;
