@@ -1,4 +1,5 @@
 pub mod Kept
+pub mod Linked
 pub mod Filled
 pub mod Drawn
 pub mod Ends

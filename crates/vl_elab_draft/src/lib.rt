@@ -15,6 +15,7 @@ mod flat_constants;
 mod full_constants;
 mod named;
 mod names;
+mod path;
 mod scope;
 mod scopes;
 mod stmts;
@@ -23,6 +24,7 @@ mod writing;
 
 pub use draft::Draft;
 pub use exprs::flat_expr;
+pub use path::Path;
 pub use scope::Scope;
 pub use scopes::Scopes;
 pub use targets::flat_lval;

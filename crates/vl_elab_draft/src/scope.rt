@@ -6,6 +6,7 @@ ghost use Rattle.vl_mean.specs.Constants.{constant_of};
 ghost use Rattle.vl_elab_draft.specs.Kept as spec;
 
 use crate::full_constants::ConstantTable;
+use crate::path::Path;
 use fv_text::{Memory, Text};
 use std::alloc::Global;
 use std::marker::Model;
@@ -16,7 +17,7 @@ use vl_size::{Decl, Decls};
 /// order. No bracket stands in a declared name.
 #[derive(Drop)]
 pub struct Scope {
-    path: Text,
+    path: Path,
     decls: Decls,
     constants: ConstantTable,
 }
@@ -39,7 +40,7 @@ impl Model for Scope {
 
 impl Scope {
     /// A scope that declares nothing. A path ends with a dot; that of the top module is empty.
-    pub fn new(alloc: Global, path: Text) -> Scope
+    pub fn new(alloc: Global, path: Path) -> Scope
         ensures { result ≡ spec.empty_scope path }
     {
         Scope {
@@ -49,7 +50,7 @@ impl Scope {
         }
     }
 
-    pub fn path(&self) -> &Text
+    pub fn path(&self) -> &Path
         ensures { result.now ≡ self.now.path }
     {
         &self.path

@@ -93,21 +93,12 @@ fn full_among(alloc: Global, scopes: &[Scope], name: &Text) -> Result<Text, Memo
         None => name.copied(alloc),
         Some((last, around)) => {
             if last.is_declared(name) {
-                joined(alloc, last.path(), name)
+                last.path().joined(alloc, name)
             } else {
                 full_among(alloc, around, name)
             }
         }
     }
-}
-
-/// One text behind the other.
-fn joined(alloc: Global, path: &Text, name: &Text) -> Result<Text, Memory>
-    ensures { IfOk result (λ text. text ≡ path.now ++ name.now) }
-{
-    let mut bytes = Vec::from_slice(alloc, path.bytes())?;
-    bytes.extend_from_slice(name.bytes())?;
-    Ok(Text::from_vec(bytes))
 }
 
 /// The innermost scope stands last.

@@ -3,16 +3,16 @@ ghost use Rattle.std.specs.Prelude.{◌≡◌, ◌++◌, ◌∷◌, [], IfOk, On
 ghost use Rattle.vl_mean.specs.Parts.{declares_all};
 ghost use Rattle.vl_elab_emit.specs.Behind as spec;
 
-use fv_text::{Memory, Text};
+use fv_text::Memory;
 use std::alloc::Global;
-use vl_elab_draft::Draft;
+use vl_elab_draft::{Draft, Path};
 use vl_size::Decl;
 
 /// Writes declarations under their full names, in order: the path of their scope stands before each name (IEEE
 /// 1364-2005, section 12.5). Where no memory is left the first ones may be written.
 pub fn write_declarations(
     alloc: Global,
-    path: &Text,
+    path: &Path,
     all: &[Decl],
     draft: &mut Draft,
 ) -> Result<(), Memory>
@@ -28,7 +28,7 @@ pub fn write_declarations(
 
 fn write_declaration(
     alloc: Global,
-    path: &Text,
+    path: &Path,
     decl: &Decl,
     draft: &mut Draft,
 ) -> Result<(), Memory>
@@ -41,10 +41,10 @@ fn write_declaration(
 }
 
 /// The declaration under its full name.
-fn under(alloc: Global, path: &Text, decl: &Decl) -> Result<Decl, Memory>
+fn under(alloc: Global, path: &Path, decl: &Decl) -> Result<Decl, Memory>
     ensures { IfOk result (λ d. d ≡ record decl.now { name = path.now ++ decl.now.name }) }
 {
-    let name = joined(alloc, path, &decl.name)?;
+    let name = path.joined(alloc, &decl.name)?;
     Ok(Decl {
         name,
         width: decl.width,
@@ -55,13 +55,4 @@ fn under(alloc: Global, path: &Text, decl: &Decl) -> Result<Decl, Memory>
         class: decl.class,
         output: decl.output,
     })
-}
-
-/// One text behind the other.
-fn joined(alloc: Global, path: &Text, name: &Text) -> Result<Text, Memory>
-    ensures { IfOk result (λ text. text ≡ path.now ++ name.now) }
-{
-    let mut bytes = Vec::from_slice(alloc, path.bytes())?;
-    bytes.extend_from_slice(name.bytes())?;
-    Ok(Text::from_vec(bytes))
 }

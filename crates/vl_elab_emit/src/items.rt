@@ -10,9 +10,9 @@ ghost use Rattle.vl_elab_emit.specs.OwnParts.{own_parts, own_placed, placed_valu
 use crate::blocks::{write_assignments, write_block, write_initial};
 use crate::declaring::write_declarations;
 use crate::values::write_values;
-use fv_text::{Memory, Text};
+use fv_text::Memory;
 use std::alloc::Global;
-use vl_elab_draft::{Draft, Scopes};
+use vl_elab_draft::{Draft, Path, Scopes};
 use vl_size::Decl;
 use vl_tree::{DeclaredName, Item, ItemKind, NetKind};
 
@@ -20,7 +20,7 @@ use vl_tree::{DeclaredName, Item, ItemKind, NetKind};
 fn write_declared(
     alloc: Global,
     kind: NetKind,
-    path: &Text,
+    path: &Path,
     decls: &[Decl],
     all: &[DeclaredName],
     scopes: &Scopes,
@@ -40,7 +40,7 @@ fn write_declared(
 #[tactic(auto, using(crate::proofs::Standing::nothing_more))]
 pub fn write_item(
     alloc: Global,
-    path: &Text,
+    path: &Path,
     decls: &[Decl],
     item: &Item,
     scopes: &Scopes,

@@ -6,10 +6,12 @@ ghost use Rattle.vl_mean.specs.Declarations as declarations;
 ghost use Rattle.vl_mean.specs.Scopes.{Scope};
 
 use crate::here::Here;
+use crate::paths::inside_path;
 use fv_text::{Memory, Text};
 use std::alloc::Global;
 use vl_elab_decls::declared_count;
-use vl_elab_names::{block_name, inside_path};
+use vl_elab_draft::Path;
+use vl_elab_names::block_name;
 use vl_size::Decl;
 use vl_tree::{Block, Item, ItemKind};
 
@@ -67,7 +69,7 @@ pub(crate) fn path_of(
     block: &Block,
     number: u64,
     here: &Here,
-) -> Result<Text, Memory>
+) -> Result<Path, Memory>
     ensures { IfOk result (λ path. path ≡ here.now.path
         ++ declarations.block_name here.now.names number (declarations.label_of (block_of block.now))
         ++ codes ".") }

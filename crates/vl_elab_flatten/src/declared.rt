@@ -6,10 +6,10 @@ ghost use Rattle.vl_elab_decls.specs.Objects as objects;
 ghost use Rattle.vl_elab_emit.specs.Behind as behind;
 ghost use Rattle.vl_elab_flatten.specs.PortParts as spec;
 
-use fv_text::{Memory, Pos, Text};
+use fv_text::{Memory, Pos};
 use std::alloc::Global;
 use std::slice;
-use vl_elab_draft::{Draft, Scopes};
+use vl_elab_draft::{Draft, Path, Scopes};
 use vl_elab_emit::{write_declarations, write_optional_value};
 use vl_size::Decl;
 use vl_tree::{Expr, NetKind, Port, PortKind};
@@ -66,7 +66,7 @@ fn write_port(
     alloc: Global,
     port: &Port,
     net: NetKind,
-    path: &Text,
+    path: &Path,
     decls: &[Decl],
     scopes: &Scopes,
     draft: &mut Draft,
@@ -89,7 +89,7 @@ fn write_first<'a>(
     alloc: Global,
     port: &Port,
     net: Option<NetKind>,
-    path: &Text,
+    path: &Path,
     decls: &'a [Decl],
     scopes: &Scopes,
     draft: &mut Draft,
@@ -120,7 +120,7 @@ fn write_first<'a>(
 pub fn write_ports(
     alloc: Global,
     all: &[Port],
-    path: &Text,
+    path: &Path,
     decls: &[Decl],
     scopes: &Scopes,
     draft: &mut Draft,

@@ -15,7 +15,7 @@ use fv_text::{List, Memory, Text};
 use std::alloc::Global;
 use vl_elab_const::Given;
 use vl_elab_decls::decls_of_items;
-use vl_elab_draft::{Scope, Scopes};
+use vl_elab_draft::{Path, Scope, Scopes};
 use vl_elab_names::ScopeNames;
 use vl_elab_scope::{Level, Names};
 use vl_mean::Const;
@@ -30,7 +30,7 @@ pub struct Here {
     /// The numbers of the constants in them.
     pub numbers: Names,
     /// The path of the innermost scope, but of turns.
-    pub path: Text,
+    pub path: Path,
     /// The names that are explicitly declared in it.
     pub names: ScopeNames,
 }
@@ -38,7 +38,7 @@ pub struct Here {
 /// What is kept of the scope around a block while the walk is in the block.
 #[derive(Drop)]
 pub struct Around {
-    pub path: Text,
+    pub path: Path,
     pub names: ScopeNames,
 }
 
@@ -47,7 +47,7 @@ pub struct Around {
 fn enter_block(
     alloc: Global,
     all: &[Item],
-    path: &Text,
+    path: &Path,
     scopes: &mut Scopes,
     numbers: &mut Names,
 ) -> Result<List<Decl>, Memory>
@@ -73,7 +73,7 @@ fn enter_block(
 pub fn open_block(
     alloc: Global,
     all: &[Item],
-    path: Text,
+    path: Path,
     here: &mut Here,
 ) -> Result<(Around, List<Decl>), Memory>
     requires numbers { HaveNumbers here.old.numbers here.old.scopes }
@@ -120,7 +120,7 @@ fn enter_turn(
     ensures scopes { OnOk result (scopes.new ≡ walk.with_genvar variable.now value scopes.old) }
     ensures numbers { OnOk result (numbers.new ≡ ((variable.now, meanings.constant value true) ∷ []) ∷ numbers.old) }
 {
-    let mut scope = Scope::new(alloc, Text::from_vec(Vec::new(alloc)));
+    let mut scope = Scope::new(alloc, Path::top(alloc));
     scope.add_constant(variable.copied(alloc)?, value)?;
     scopes.enter(scope)?;
     numbers.enter(Level::new(alloc))?;

@@ -11,12 +11,12 @@ use crate::connections::write_connections;
 use crate::here::Here;
 use crate::inputs::joined_inputs;
 use crate::modules::{Opened, open_module};
+use crate::paths::inside_path;
 use fv_text::{List, Memory};
 use std::alloc::Global;
 use vl_elab_check_instance::PortTable;
 use vl_elab_const::given_by;
 use vl_elab_draft::{Draft, Scopes};
-use vl_elab_names::inside_path;
 use vl_tree::{Connection, Instance, Module};
 
 fn connections_of(all: &Option<List<Connection>>) -> &[Connection]

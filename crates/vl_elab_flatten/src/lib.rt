@@ -17,6 +17,7 @@ mod here;
 mod inputs;
 mod instances;
 mod modules;
+mod paths;
 mod top;
 mod turns;
 mod walk;

@@ -12,11 +12,11 @@ ghost use Rattle.vl_elab_flatten.specs.Modules as spec;
 use crate::constants::{add_header, add_items};
 use crate::filling::fill;
 use crate::here::Here;
-use fv_text::{List, Memory, Text};
+use fv_text::{List, Memory};
 use std::alloc::Global;
 use vl_elab_const::Given;
 use vl_elab_decls::{Inputs, decls_of_items, decls_of_ports};
-use vl_elab_draft::{Scope, Scopes};
+use vl_elab_draft::{Path, Scope, Scopes};
 use vl_elab_names::ScopeNames;
 use vl_elab_scope::{Level, Names};
 use vl_size::Decl;
@@ -101,7 +101,7 @@ fn read_contents(
     all: &[Item],
     inputs: &Inputs,
     given: &Given,
-    path: &Text,
+    path: &Path,
 ) -> Result<Contents, Memory>
     requires { spec.CanOpen header.now ports.now (items all.now) inputs.now (value_given given.now) path.now }
     ensures { IfOk result (λ contents. (u : Use) → AreInputs inputs.now u
@@ -148,7 +148,7 @@ fn open_contents(
     all: &[Item],
     inputs: &Inputs,
     given: &Given,
-    path: Text,
+    path: Path,
 ) -> Result<Opened, Memory>
     requires { spec.CanOpen header.now ports.now (items all.now) inputs.now (value_given given.now) path }
     ensures { IfOk result (λ opened. (u : Use) → AreInputs inputs.now u → IsGiven (value_given given.now) u.overrides
@@ -180,7 +180,7 @@ pub fn open_module(
     module: &Module,
     inputs: &Inputs,
     given: &Given,
-    path: Text,
+    path: Path,
 ) -> Result<Opened, Memory>
     requires { spec.IsModuleOpenable module.now inputs.now (value_given given.now) path }
     ensures { IfOk result (λ opened. (u : Use) → AreInputs inputs.now u → IsGiven (value_given given.now) u.overrides

@@ -15,15 +15,9 @@ use fv_text::{Memory, Text};
 use std::alloc::Global;
 use vl_elab_const::Given;
 use vl_elab_decls::Inputs;
-use vl_elab_draft::Draft;
+use vl_elab_draft::{Draft, Path};
 use vl_elab_names::ModuleTable;
 use vl_tree::Module;
-
-fn no_path(alloc: Global) -> Text
-    ensures { result ≡ [] }
-{
-    Text::from_vec(Vec::new(alloc))
-}
 
 /// Writes the top module, under no path.
 fn write_top(
@@ -41,7 +35,7 @@ fn write_top(
         return Ok(());
     };
     let nothing = Given::new(alloc);
-    let opened = open_module(alloc, module, &Inputs::Top, &nothing, no_path(alloc))?;
+    let opened = open_module(alloc, module, &Inputs::Top, &nothing, Path::top(alloc))?;
     let depth = modules.len().saturating_sub(1);
     write_opened(alloc, table, modules, depth, module, opened, draft)
 }

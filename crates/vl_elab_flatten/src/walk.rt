@@ -16,13 +16,14 @@ use crate::declared::write_ports;
 use crate::here::{Here, leave_block, leave_turn, open_block, open_turn};
 use crate::instances::{open_instance, write_joined};
 use crate::modules::{Opened, written_ports};
+use crate::paths::turn_path;
 use crate::turns::{first_value, next_value};
 use fv_text::{Memory, Text};
 use std::alloc::Global;
 use vl_elab_const::is_true_in;
-use vl_elab_draft::Draft;
+use vl_elab_draft::{Draft, Path};
 use vl_elab_emit::write_item;
-use vl_elab_names::{ModuleTable, turn_path};
+use vl_elab_names::ModuleTable;
 use vl_elab_scope::blocks::{chosen, items_of, nested};
 use vl_mean::Const;
 use vl_size::Decl;
@@ -258,7 +259,7 @@ fn write_scope(
     modules: &[Module],
     depth: usize,
     all: &[Item],
-    path: Text,
+    path: Path,
     here: &mut Here,
     draft: &mut Draft,
 ) -> Result<(), Memory>

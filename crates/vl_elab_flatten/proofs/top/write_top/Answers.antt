@@ -26,7 +26,7 @@ open_module-requires c =
       used = top_use;
       inputs_are = record { top = refl; stands = λ text. refl };
       given_is = given_nothing (value_given c.new-nothing.result) c.new-nothing.ensures;
-      openable = subst (λ p. IsOpenable (module_scope m top_use p)) (sym c.no_path.ensures)
+      openable = subst (λ p. IsOpenable (module_scope m top_use p)) (sym c.top.ensures)
           (top_opens ms c.args.top.now m c.in-Some.ensures positive c.args.draft.now c.requires.ready);
     }
 
@@ -39,7 +39,7 @@ write_opened-requires c =
     let given : IsGiven (value_given c.new-nothing.result) [] =
     given_nothing (value_given c.new-nothing.result) c.new-nothing.ensures in
     let is : IsModuleOpened m top_use [] c.in_ok-opened.opened =
-    subst (λ p. IsModuleOpened m top_use p c.in_ok-opened.opened) c.no_path.ensures
+    subst (λ p. IsModuleOpened m top_use p c.in_ok-opened.opened) c.top.ensures
     (c.in_ok-opened.ensures top_use inputs given) in
     record {
       table = c.requires.table;
@@ -65,7 +65,7 @@ returns c =
     let given : IsGiven (value_given c.new-nothing.result) [] =
     given_nothing (value_given c.new-nothing.result) c.new-nothing.ensures in
     let is : IsModuleOpened m top_use [] c.in_ok-opened.opened =
-    subst (λ p. IsModuleOpened m top_use p c.in_ok-opened.opened) c.no_path.ensures
+    subst (λ p. IsModuleOpened m top_use p c.in_ok-opened.opened) c.top.ensures
     (c.in_ok-opened.ensures top_use inputs given) in
     on_ok_weaker c.write_opened.result (λ h. top_written ms c.args.top.now m c.in-Some.ensures positive
     c.in_ok-opened.opened is c.args.draft.now c.write_opened.new.draft
