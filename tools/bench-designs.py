@@ -2,11 +2,12 @@
 """Times elaboration, the order of drivers and lowering on large designs, over a program that is made, proved and built
 in a temporary folder (a long time, where nothing is kept), or over the proved program. Not part of the gate.
 
-    tools/bench-designs.py [--program PATH | --rvf PATH] [--stage elaborate|order|lower] [FILE.v ..]
+    tools/bench-designs.py [--program PATH | --rvf PATH] [--stage elaborate|order|lower] [--design NAME] [FILE.v ..]
 
 FILE has a module `top` with its modules, and no directives. Prints for each design what was made of it, the processor
 seconds of the stage, which are those of the run less those of a run that ends before it, and the memory of the whole
-run. The fastest of three runs counts. --text NAME writes the text of that design to standard output.
+run. The fastest of three runs counts. --design NAME leaves the other designs out. --text NAME writes the text of that
+design to standard output. Chains of modules want `ulimit -s unlimited` but for `rvf`, which has a stack of its own.
 
 PATH behind --rvf is `rvf` or the program that it builds. Its runs end where a stage ends because the text is refused
 there: it has no top module, or too many bits of registers, which are counted behind all else, or it is too heavy. What
@@ -188,6 +189,27 @@ def empty(count):
             f"for (j = 0; j < {count}; j = j + 1) begin : h end\nend\nendmodule\n")
 
 
+def chain(count):
+    """Modules that each hold one instance of the next one, and declare nothing."""
+    return "module top; m1 i(); endmodule\n" + \
+        lines(count - 2, lambda k: f"module m{k + 1}; m{k + 2} i(); endmodule\n") + f"module m{count - 1}; endmodule\n"
+
+
+def blocks(count):
+    """Modules that each hold one instance of the next one in an `if` within a turn of a loop, and declare nothing."""
+    inside = "genvar g; for (g = 0; g < 1; g = g + 1) begin : t if (1) begin : b m{} i(); end end"
+    return f"module top; {inside.format(1)} endmodule\n" + \
+        lines(count - 2, lambda k: f"module m{k + 1}; {inside.format(k + 2)} endmodule\n") + \
+        f"module m{count - 1}; endmodule\n"
+
+
+def declared(count):
+    """Modules that each hold one instance of the next one, and declare a net: full names of count * count bytes."""
+    return "module top; wire n; m1 i(); endmodule\n" + \
+        lines(count - 2, lambda k: f"module m{k + 1}; wire n; m{k + 2} i(); endmodule\n") + \
+        f"module m{count - 1}; wire n; endmodule\n"
+
+
 def reverse(count):
     """A chain of drivers, each of which stands before the one that it reads."""
     return "module top;\nwire " + ", ".join(f"n{k}" for k in range(count)) + ";\n" + \
@@ -243,6 +265,9 @@ MADE = [
     ("elaborate", "items", items, [25_000, 50_000, 100_000]),
     ("elaborate", "doubled", doubled, [24]),
     ("elaborate", "empty", empty, [500, 1_000]),
+    ("elaborate", "chain", chain, [10_000, 50_000, 200_000]),
+    ("elaborate", "blocks", blocks, [10_000, 50_000]),
+    ("elaborate", "declared", declared, [2_500, 5_000, 10_000]),
     ("order", "reverse", reverse, [50_000, 100_000, 200_000]),
     ("order", "block", block, [50_000, 100_000, 200_000]),
     ("order", "words", words, [2_500, 5_000, 10_000]),
@@ -302,6 +327,7 @@ def main():
     options.add_argument("--rvf")
     options.add_argument("--stage", choices=list(STAGES))
     options.add_argument("--text")
+    options.add_argument("--design")
     options.add_argument("files", nargs="*")
     options = options.parse_args()
     if options.text:
@@ -316,7 +342,7 @@ def main():
             with open(name) as file:
                 timed(program, stages[-1], name, file.read(), runs)
         for stage, title, make, sizes in [] if options.files else MADE:
-            for size in sizes if stage in stages else []:
+            for size in sizes if stage in stages and options.design in (None, title) else []:
                 timed(program, stage, f"{title} {size}", make(size - spare.get(title, 0)), runs)
 
 

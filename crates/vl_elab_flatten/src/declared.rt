@@ -6,7 +6,7 @@ ghost use Rattle.vl_elab_decls.specs.Objects as objects;
 ghost use Rattle.vl_elab_emit.specs.Behind as behind;
 ghost use Rattle.vl_elab_flatten.specs.PortParts as spec;
 
-use fv_text::{Memory, Pos};
+use fv_text::{Memory, Pos, Text};
 use std::alloc::Global;
 use std::slice;
 use vl_elab_draft::{Draft, Path, Scopes};
