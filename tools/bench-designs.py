@@ -23,14 +23,14 @@ import tempfile
 import made
 
 LIBRARIES = "vl_lower vl_lower_spec vl_elab vl_elab_spec vl_flow vl_flow_spec vl_mean vl_size vl_parse " \
-    "vl_token vl_tree wn_net fv_base anyhow"
+    "vl_token vl_tree wn_net fv_text anyhow"
 
 PROGRAM = r"""//! Reads a letter and a Verilog text, whose top module is `top`, and works on it as far as the letter
 //! says: parses, elaborates, orders or lowers it, or counts the kinds of its nodes behind that. Says what was made.
 #![tactic(auto)]
 
 use anyhow::Result;
-use fv_base::Text;
+use fv_text::Text;
 use std::alloc::Global;
 use std::io::Read;
 use vl_elab::elaborate;
