@@ -41,6 +41,11 @@ fn asked(alloc: Global, line: &Line) -> Result<String, Memory> {
         Line::Bench { size } => format!(in alloc; "bench {size}")?,
         Line::Cover(options) => with_options(alloc, "cover", options)?,
         Line::Zb(options) => with_options(alloc, "zb", options)?,
+        Line::Fromaig { aag, cnf } => format!(in alloc;
+            "fromaig [{}] [{}]",
+            shown(aag),
+            shown(cnf)
+        )?,
     })
 }
 

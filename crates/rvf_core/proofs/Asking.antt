@@ -11,7 +11,7 @@ use Rattle.rvf_report.specs.declared.delivery.Delivery.{Delivery}
 use Rattle.rvf_report.specs.declared.status.Status.{Status}
 use Rattle.rvf_core.specs.Run.{Answered, AnswersBegin, Begins, BeginsBy, IsReadOn, IsReadOnBy, Run, Says, SaysBy}
 use Rattle.rvf_core.specs.Run.{answered_reads, begins_reads, begun_by, begun_reads, reads_by, says_reads}
-use Rattle.rvf_core.specs.Steps.{HaveCauses, HaveStatus}
+use Rattle.rvf_core.specs.Steps.{HaveCauses, HaveStatus, Leaves}
 use Rattle.rvf_core.specs.Tasks.{Task, cover_task, run_task, task_asked, task_of, zb_task}
 
 pub same_task : (a b : Task) → ◌≡◌ {A = Option Task} (Some a) (Some b) → a ≡ b
@@ -51,9 +51,23 @@ read_asked t line events e x = subst (λ o. IsReadOnBy o line events) (sym e) x
 
 -- ---- statuses of causes
 
--- under words that ask for nothing of files that are given, there is nothing to say
-pub no_statuses : (line : Option Words) (r : Run) (status : Status) → task_asked line ≡ None → HaveStatus line r status
-no_statuses line r status none = λ t e. absurd (no_task t (sym none ∙ e))
+-- words that put no questions have no cause of these
+pub no_statuses : (line : Option Words) (r : Run) (status : Status) → task_asked line ≡ None → Leaves line r status
+    → HaveStatus line r status
+no_statuses line r status none left =
+    record { causes = λ t e. absurd (no_task t (sym none ∙ e)); leaves = left }
+
+-- words that put questions write no clauses of graphs
+task_leaves : (line : Option Words) (own : Task) (r : Run) (status : Status) → task_asked line ≡ Some own
+    → Leaves line r status
+task_leaves None own r status is = tt
+task_leaves (Some (words.Run cfg outdir core basedir budget jobs)) own r status is = tt
+task_leaves (Some (words.List cfg)) own r status is = tt
+task_leaves (Some (words.Lrat cnf proof)) own r status is = tt
+task_leaves (Some (words.Bench size)) own r status is = tt
+task_leaves (Some (words.Cover o)) own r status is = tt
+task_leaves (Some (words.Zb o)) own r status is = tt
+task_leaves (Some (words.Fromaig aag cnf)) own r status is = absurd (no_task own is)
 
 -- a run between two moments
 abbrev pub run_between : List (List ℕ) → Outside → Outside → Run
@@ -61,8 +75,10 @@ run_between words before now = record { words = words; before = before; now = no
 
 pub task_statuses : (line : Option Words) (own : Task) (r : Run) (status : Status) → task_asked line ≡ Some own
     → HaveCauses own r status → HaveStatus line r status
-task_statuses line own r status is causes = λ t e.
-    subst (λ u. HaveCauses u r status) (same_task own t (sym is ∙ e)) causes
+task_statuses line own r status is causes = record {
+  causes = λ t e. subst (λ u. HaveCauses u r status) (same_task own t (sym is ∙ e)) causes;
+  leaves = task_leaves line own r status is;
+}
 
 -- ---- the task of a line that was read, in other words
 

@@ -47,6 +47,7 @@ use Rattle.rvf_core.proofs.Apart.{true_false}
 use Rattle.rvf_core.proofs.Asking.{asked_says}
 use Rattle.rvf_core.proofs.Causes.{moved, uncaused}
 use Rattle.rvf_core.proofs.Failures.{failure_comes}
+use Rattle.rvf_core.proofs.Graphs.{encoded_exact}
 use Rattle.rvf_core.proofs.Others.{same_said}
 use Rattle.rvf_core.proofs.Members.{from_contains, in_map, to_contains}
 use Rattle.rvf_core.proofs.Statuses.{IsClear, all_clear, by_verdict, comes_Memory, comes_WriteFault, comes_itself}
@@ -385,7 +386,7 @@ IsExact-answers r status a statuses counts = record {
   unread = λ events name heard there. unread_comes r status a events name heard there;
   usage = λ none. usage_comes r status a none;
   refusal = λ f h.
-      statuses h.task h.asks.asked h.asks.names h.asks.told h.asks.no_fault f h.cause;
+      statuses.causes h.task h.asks.asked h.asks.names h.asks.told h.asks.no_fault f h.cause;
   none_fails = λ t c fs h clean. pass_comes r status a t c fs h clean;
   one_fails = λ t c fs q h there failing. fail_comes r status a t c fs q h there failing;
   judged = λ t c fs h. judged_comes r status a t c fs h;
@@ -402,6 +403,7 @@ IsExact-answers r status a statuses counts = record {
         check_failing c fs x run violates,
       ) in
       fail_comes r status a t c fs (question.Check x) h both.0 both.1;
+  encoded = λ graph cnf e. encoded_exact graph cnf r status a statuses e;
   other = λ asked wanted report h says.
       by_cause (comes wanted) (comes_WriteFault wanted) (comes_Memory wanted) (Some asked) r status
       (under r (Some asked) status h.asked_is a)

@@ -20,6 +20,7 @@ use Rattle.rvf_report.specs.declared.status.Status.TheVariants as s
 use Rattle.rvf_core.specs.Certifies as certifies
 use Rattle.rvf_core.specs.Checks.{Checks, checks_reads}
 use Rattle.rvf_core.specs.Checks as checks
+use Rattle.rvf_core.specs.Encodes as encodes
 use Rattle.rvf_core.specs.Lists.{Lists, lists_reads}
 use Rattle.rvf_core.specs.Lists as lists
 use Rattle.rvf_core.specs.Run.{Answered, Says, answered_reads, comes, says_reads}
@@ -149,6 +150,19 @@ certifies_comes cnf proof seen status report (certifies.absent x) name there =
 certifies_comes cnf proof seen status report (certifies.unread x) name there =
     comes_itself s.ReadFault status x.status_is
 
+-- ---- clauses of graphs
+
+encodes_comes : (graph cnf : List ℕ) (seen : Seen) (status : Status) (report : List Delivery)
+    (x : encodes.Encodes graph cnf seen status report) (name : List ℕ)
+    → Contains (encodes.encodes_reads graph cnf seen status report x) (Failed name)
+    → comes s.ReadFault status ≡ true
+encodes_comes graph cnf seen status report (encodes.read x) name there =
+    absurd (none_failed (Gave graph x.bytes ∷ []) name (tt, tt) there)
+encodes_comes graph cnf seen status report (encodes.absent x) name there =
+    absurd (none_failed (Lacked graph ∷ []) name (tt, tt) there)
+encodes_comes graph cnf seen status report (encodes.unread x) name there =
+    comes_itself s.ReadFault status x.status_is
+
 -- ---- all
 
 pub failure_comes : (asked : Option Words) (seen : Seen) (status : Status) (report : List Delivery)
@@ -166,3 +180,5 @@ failure_comes (Some (words.Cover o)) seen status report x name there =
     task_comes (cover_task o) seen status report x name there
 failure_comes (Some (words.Zb o)) seen status report x name there =
     task_comes (zb_task o) seen status report x name there
+failure_comes (Some (words.Fromaig aag cnf)) seen status report x name there =
+    encodes_comes aag cnf seen status report x name there

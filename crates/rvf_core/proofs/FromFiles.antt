@@ -118,7 +118,7 @@ second_unread fault cnf proof bytes before middle now report gives same more_mis
     heard) u
 
 -- the files were read in their order, as far as it went
-unread_on : (name : List ℕ) (rest : List (List ℕ)) (fault : FileFault)
+pub unread_on : (name : List ℕ) (rest : List (List ℕ)) (fault : FileFault)
     → AreReadOn (name ∷ rest) (read_events name (Err fault))
 unread_on name rest file.Absent = (refl, refl)
 unread_on name rest file.Failed = (refl, refl)

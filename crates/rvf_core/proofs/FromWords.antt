@@ -16,11 +16,12 @@ use Rattle.rvf_report.proofs.Deliveries.{Delivers-nothing, SameFiles-refl}
 use Rattle.rvf_core.specs.Certificate.{one_line}
 use Rattle.rvf_core.specs.Certifies.{Certifies, certifies_reads}
 use Rattle.rvf_core.specs.Checks.{refused_status}
+use Rattle.rvf_core.specs.Encodes.{Encodes, encodes_reads}
 use Rattle.rvf_core.specs.Lists.{Lists, lists_reads}
 use Rattle.rvf_core.specs.Puts.{Puts}
 use Rattle.rvf_core.specs.Run.{Answers, Ends, IsExact, IsReadOn, Run, none_failed, usage_line}
 use Rattle.rvf_core.specs.Run as run
-use Rattle.rvf_core.specs.Steps.{HaveStatus}
+use Rattle.rvf_core.specs.Steps.{HaveStatus, Leaves, LeavesGraph}
 use Rattle.rvf_core.specs.Tasks.{task_asked, task_of}
 use Rattle.rvf_core.specs.declared.report.Report.{Report}
 use Rattle.rvf_core.proofs.Asking.{no_statuses}
@@ -28,7 +29,10 @@ use Rattle.rvf_core.proofs.Endings.{Fits, IsOwn, ends_put}
 use Rattle.rvf_core.proofs.Exact.{IsExact-answers}
 use Rattle.rvf_core.proofs.FromChecks.{seen_from}
 use Rattle.rvf_core.proofs.FromFiles.{if_ok, own_certified, own_listed}
+use Rattle.rvf_core.proofs.FromGraphs.{own_encoded}
+use Rattle.rvf_core.proofs.Graphs.{graph_left, nothing_encoded}
 use Rattle.rvf_core.proofs.Later.{IsEarlier, certifies_later, certifies_reads_later, lists_later, lists_reads_later}
+use Rattle.rvf_core.proofs.Later.{encodes_later, encodes_reads_later}
 use Rattle.rvf_core.proofs.Statuses.{comes_Memory}
 
 module _ (asked : List (List ℕ)) (before middle now : Outside) (held : SameFiles before.held middle.held)
@@ -98,6 +102,36 @@ module _ (asked : List (List ℕ)) (before middle now : Outside) (held : SameFil
         own_certified cnf proof (seen_from before middle) report.status report.deliveries x.0,
       )) made says) (front (AreReadOn (cnf ∷ (proof ∷ []))) on) put
 
+  abbrev pub EncodesBy : List ℕ → List ℕ → Report → Type 0
+  EncodesBy graph cnf report =
+      (says : Encodes graph cnf (seen_from before middle) report.status report.deliveries)
+      × (middle.heard
+      ≡ before.heard ++ encodes_reads graph cnf (seen_from before middle) report.status report.deliveries says)
+
+  pub graph_ends : (graph cnf : List ℕ) (made : Result Report Memory) (status : Status)
+      → IfOk made (EncodesBy graph cnf)
+      → HeardMore before.heard middle.heard (AreReadOn (graph ∷ []))
+      → Puts made status middle now → Ends (Some (words.Fromaig graph cnf)) the_run status
+  graph_ends graph cnf made status says on put =
+      ends_put (Some (words.Fromaig graph cnf)) the_run middle earlier made status
+      (if_ok (EncodesBy graph cnf) (Fits (Some (words.Fromaig graph cnf)) the_run middle earlier) (λ report x. (
+        encodes_later (seen_from before middle) now.misses now.faults more_misses more_faults graph cnf report.status
+            report.deliveries x.0,
+        heard_later (encodes_reads graph cnf (seen_from before middle) report.status report.deliveries x.0) _ x.1
+            (encodes_reads_later (seen_from before middle) now.misses now.faults more_misses more_faults graph cnf
+            report.status report.deliveries x.0),
+        own_encoded graph cnf (seen_from before middle) report.status report.deliveries x.0,
+      )) made says) (front (AreReadOn (graph ∷ [])) on) put
+
+  -- want of memory left the file or the line
+  pub graph_leaves : (graph cnf : List ℕ) (made : Result Report Memory) (status : Status)
+      → IfOk made (EncodesBy graph cnf) → Puts made status middle now → LeavesGraph cnf the_run status
+  graph_leaves graph cnf made status says put =
+      graph_left before middle now earlier graph cnf (seen_from before middle) made status
+      (if_ok (EncodesBy graph cnf)
+      (λ (report : Report). Encodes graph cnf (seen_from before middle) report.status report.deliveries)
+      (λ report x. x.0) made says) put
+
 -- nothing happened yet
 pub at_once : (before : Outside) → IsEarlier before before
 at_once before = record {
@@ -139,6 +173,7 @@ none_on (Some (words.Lrat cnf proof)) = tt
 none_on (Some (words.Bench size)) = refl
 none_on (Some (words.Cover o)) = tt
 none_on (Some (words.Zb o)) = tt
+none_on (Some (words.Fromaig aag cnf)) = tt
 
 -- memory was wanted at once
 pub memory_ends : (line : Option Words) (asked : List (List ℕ)) (before : Outside)
@@ -150,8 +185,23 @@ memory_ends line asked before = record {
   stops = record { done = []; rest = []; order = refl; delivered = Delivers-nothing before };
 }
 
-pub memory_statuses : (line : Option Words) (r : Run) → HaveStatus line r s.Memory
-memory_statuses line r = λ t is names told no_fault f cause. comes_Memory (refused_status f)
+-- and nothing was written
+none_left : (line : Option Words) (r : Run) → r.now.written ≡ r.before.written → Leaves line r s.Memory
+none_left None r same = tt
+none_left (Some (words.Run cfg outdir core basedir budget jobs)) r same = tt
+none_left (Some (words.List cfg)) r same = tt
+none_left (Some (words.Lrat cnf proof)) r same = tt
+none_left (Some (words.Bench size)) r same = tt
+none_left (Some (words.Cover o)) r same = tt
+none_left (Some (words.Zb o)) r same = tt
+none_left (Some (words.Fromaig aag cnf)) r same = λ is said text d. nothing_encoded r.before r.now cnf said text same d
+
+pub memory_statuses : (line : Option Words) (r : Run) → r.now.written ≡ r.before.written
+    → HaveStatus line r s.Memory
+memory_statuses line r same = record {
+  causes = λ t is names told no_fault f cause. comes_Memory (refused_status f);
+  leaves = none_left line r same;
+}
 
 pub line_ends : (found line : Option Words) (r : Run) (status : Status) → found ≡ line → Ends found r status
     → Ends line r status
@@ -162,7 +212,8 @@ pub line_statuses : (found line : Option Words) (r : Run) (status : Status) → 
 line_statuses found line r status e x = subst (λ l. HaveStatus l r status) e x
 
 pub none_statuses : (line : Option Words) (r : Run) (status : Status) → None ≡ line → HaveStatus line r status
-none_statuses line r status e = no_statuses line r status (ap task_asked (sym e))
+none_statuses line r status e =
+    no_statuses line r status (ap task_asked (sym e)) (subst (λ l. Leaves l r status) e tt)
 
 -- so want of memory may be answered whatever the words ask for
 pub memory_at_once : (asked : List (List ℕ)) (before : Outside)
@@ -171,7 +222,7 @@ pub memory_at_once : (asked : List (List ℕ)) (before : Outside)
 memory_at_once asked before =
     let r : Run = record { words = asked; before = before; now = before } in
     let a : Answers s.Memory r = memory_ends (line_of asked) asked before in
-    (a, IsExact-answers r s.Memory a (memory_statuses (line_of asked) r) (refl, none_failed refl))
+    (a, IsExact-answers r s.Memory a (memory_statuses (line_of asked) r refl) (refl, none_failed refl))
 
 -- ---- the line that was read, in other words
 
@@ -182,7 +233,8 @@ module _ (l : Words) (r : Run) (status : Status) where
       subst (λ line. Ends (Some line) r status) (ap (λ z. words.List z) p ∙ sym e) x
 
   pub list_statuses : (cfg : List ℕ) → l ≡ words.List cfg → HaveStatus (Some l) r status
-  list_statuses cfg e = no_statuses (Some l) r status (ap task_of e)
+  list_statuses cfg e =
+      no_statuses (Some l) r status (ap task_of e) (subst (λ line. Leaves (Some line) r status) (sym e) tt)
 
   pub lrat_ends : (cnf proof a b : List ℕ) → l ≡ words.Lrat cnf proof → a ≡ cnf → b ≡ proof
       → Ends (Some (words.Lrat a b)) r status → Ends (Some l) r status
@@ -191,10 +243,24 @@ module _ (l : Words) (r : Run) (status : Status) where
       (ap (λ z. words.Lrat z b) p ∙ ap (λ z. words.Lrat cnf z) q ∙ sym e) x
 
   pub lrat_statuses : (cnf proof : List ℕ) → l ≡ words.Lrat cnf proof → HaveStatus (Some l) r status
-  lrat_statuses cnf proof e = no_statuses (Some l) r status (ap task_of e)
+  lrat_statuses cnf proof e =
+      no_statuses (Some l) r status (ap task_of e) (subst (λ line. Leaves (Some line) r status) (sym e) tt)
 
   pub bench_ends : (size : ℕ) → l ≡ words.Bench size → Ends (Some (words.Bench size)) r status → Ends (Some l) r status
   bench_ends size e x = subst (λ line. Ends (Some line) r status) (sym e) x
 
   pub bench_statuses : (size : ℕ) → l ≡ words.Bench size → HaveStatus (Some l) r status
-  bench_statuses size e = no_statuses (Some l) r status (ap task_of e)
+  bench_statuses size e =
+      no_statuses (Some l) r status (ap task_of e) (subst (λ line. Leaves (Some line) r status) (sym e) tt)
+
+  pub fromaig_ends : (graph cnf a b : List ℕ) → l ≡ words.Fromaig graph cnf → a ≡ graph → b ≡ cnf
+      → Ends (Some (words.Fromaig a b)) r status → Ends (Some l) r status
+  fromaig_ends graph cnf a b e p q x =
+      subst (λ line. Ends (Some line) r status)
+      (ap (λ z. words.Fromaig z b) p ∙ ap (λ z. words.Fromaig graph z) q ∙ sym e) x
+
+  pub fromaig_statuses : (graph cnf b : List ℕ) → l ≡ words.Fromaig graph cnf → b ≡ cnf → LeavesGraph b r status
+      → HaveStatus (Some l) r status
+  fromaig_statuses graph cnf b e q left =
+      no_statuses (Some l) r status (ap task_of e)
+      (subst (λ line. Leaves (Some line) r status) (ap (λ z. words.Fromaig graph z) q ∙ sym e) left)

@@ -7,12 +7,15 @@ use Rattle.rvf_case.specs.Cases.{IsCause, Request, Seen}
 use Rattle.rvf_case.specs.Hearing.{cause_reads}
 use Rattle.rvf_case.specs.declared.refusal.Refusal.{Refusal}
 use Rattle.rvf_case.specs.declared.refusal.Refusal.TheVariants as refusal
-use Rattle.rvf_report.specs.Outcome.{Outside, Delivers, Fails, Stops}
+use Rattle.rvf_report.specs.Outcome.{Outside, Delivers, Fails, LeavesPart, Pass, Stops}
 use Rattle.rvf_report.specs.declared.delivery.Delivery.{Delivery}
+use Rattle.rvf_report.specs.declared.delivery.Delivery.TheVariants.{File, Line}
 use Rattle.rvf_report.specs.declared.status.Status.{Status}
 use Rattle.rvf_report.proofs.Deliveries.{Appends-nothing, Delivers-behind, LeavesPart-behind, Pass-nothing}
 use Rattle.rvf_core.specs.Certifies.{Certifies, certifies_reads}
 use Rattle.rvf_core.specs.Certifies as certifies
+use Rattle.rvf_core.specs.Encodes.{Encodes, encodes_reads}
+use Rattle.rvf_core.specs.Encodes as encodes
 use Rattle.rvf_core.specs.Lists.{Lists, lists_reads}
 use Rattle.rvf_core.specs.Lists as lists
 
@@ -31,6 +34,12 @@ nothing_yet a b e = record {
   lines = subst (λ sent. Appends a.sent sent []) (sym e.sent) (Appends-nothing a.sent);
   pass = Pass-nothing a b e.written e.taken;
 }
+
+-- what came through before a delivery that failed
+pub part_pass : (before now : Outside) (done : List Delivery) (failing : Delivery) → LeavesPart before now done failing
+    → Pass before now done
+part_pass before now done (File name bytes) p = p.3
+part_pass before now done (Line bytes) p = p.3
 
 module _ (a b c : Outside) (e : IsEarlier a b) (report : List Delivery) where
   pub later_delivers : Delivers b c report → Delivers a c report
@@ -173,3 +182,26 @@ module _ (seen : Seen) (misses faults : ℕ) (more_misses : seen.misses_now ≤ 
   certifies_reads_later cnf proof status report (certifies.judged x) = refl
   certifies_reads_later cnf proof status report (certifies.absent x) = refl
   certifies_reads_later cnf proof status report (certifies.unread x) = refl
+
+  abbrev pub encodes_later : (graph cnf : List ℕ) (status : Status) (report : List Delivery)
+      → Encodes graph cnf seen status report → Encodes graph cnf (seen_later seen misses faults) status report
+  encodes_later graph cnf status report (encodes.read x) = encodes.read x
+  encodes_later graph cnf status report (encodes.absent x) = encodes.absent (record {
+    lacks = x.lacks;
+    counted = missed_later x.counted;
+    status_is = x.status_is;
+    report_is = x.report_is;
+  })
+  encodes_later graph cnf status report (encodes.unread x) = encodes.unread (record {
+    counted = failed_later x.counted;
+    status_is = x.status_is;
+    report_is = x.report_is;
+  })
+
+  pub encodes_reads_later : (graph cnf : List ℕ) (status : Status) (report : List Delivery)
+      (x : Encodes graph cnf seen status report)
+      → encodes_reads graph cnf (seen_later seen misses faults) status report
+      (encodes_later graph cnf status report x) ≡ encodes_reads graph cnf seen status report x
+  encodes_reads_later graph cnf status report (encodes.read x) = refl
+  encodes_reads_later graph cnf status report (encodes.absent x) = refl
+  encodes_reads_later graph cnf status report (encodes.unread x) = refl

@@ -11,6 +11,8 @@ pub mod Quiet
 pub mod Failures
 pub mod Exact
 pub mod FromFiles
+pub mod FromGraphs
+pub mod Graphs
 pub mod FromChecks
 pub mod FromWords
 pub mod FromBench

@@ -1,5 +1,9 @@
--- Where files are told, causes under the words of a list or of a certificate have one status.
+-- Where files are told, causes under the words of a list, of a certificate or of a graph have one status.
 use Rattle.std.proofs.Common.{◌≡◌, ℕ, false, List, Some, None, Ok, Err, refl, sym, ap, ◌∙◌, subst}
+use Rattle.aiger_text.proofs.AnswerLaws.{refused_by}
+use Rattle.aiger_text.specs.Profile.{HasCause, IsOfProfile}
+use Rattle.aiger_text.specs.Said.{Said}
+use Rattle.aiger_text.specs.declared.fault.AagFault.{AagFault}
 use Rattle.fv_base.specs.Outside.{Names}
 use Rattle.ck_cfg.specs.declared.config.Config.{Config}
 use Rattle.rvf_words.specs.declared.line.Line.{Line as Words}
@@ -13,11 +17,29 @@ use Rattle.rvf_core.specs.Certificate.{outcome}
 use Rattle.rvf_core.specs.Certifies.{Certifies, IsNext, first, second}
 use Rattle.rvf_core.specs.Certifies as certifies
 use Rattle.rvf_core.specs.Checks.{refused_status}
+use Rattle.rvf_core.specs.Encodes.{Encodes, IsEncoding}
+use Rattle.rvf_core.specs.Encodes as encodes
 use Rattle.rvf_core.specs.Lists.{Lists, alone}
 use Rattle.rvf_core.specs.Lists as lists
 use Rattle.rvf_core.specs.Run.{IsOther, Run, Says, rose, seen_in}
 use Rattle.rvf_core.specs.declared.report.Report.{Report}
 use Rattle.rvf_core.proofs.Causes.{not_both, ok_err, same_says, same_some, unrisen}
+
+-- a text that says a graph has no cause of a refusal
+said_uncaused : (bytes : List ℕ) (said : Said) (fault : AagFault) → IsOfProfile bytes said → HasCause bytes fault → ⊥
+said_uncaused bytes said fault is cause =
+    refused_by {X = Unit {0}} (λ s u. Unit {0}) bytes fault (Ok tt) (said, is, tt) cause
+
+same_encoding : (bytes cnf : List ℕ) (status wanted : Status) (report other : List Delivery)
+    → IsEncoding bytes cnf status report → IsEncoding bytes cnf wanted other → status ≡ wanted
+same_encoding bytes cnf status wanted report other (encodes.clauses said text is c e r)
+    (encodes.clauses said_too text_too is_too c_too e_too r_too) = e ∙ sym e_too
+same_encoding bytes cnf status wanted report other (encodes.clauses said text is c e r)
+    (encodes.refused fault cause e_too r_too) = absurd (said_uncaused bytes said fault is cause)
+same_encoding bytes cnf status wanted report other (encodes.refused fault cause e r)
+    (encodes.clauses said text is c e_too r_too) = absurd (said_uncaused bytes said fault is cause)
+same_encoding bytes cnf status wanted report other (encodes.refused fault cause e r)
+    (encodes.refused fault_too cause_too e_too r_too) = e ∙ sym e_too
 
 module _ (names : Names) (misses misses_now faults faults_now : ℕ) (no_fault : rose faults faults_now ≡ false) where
   abbrev told_seen : Seen
@@ -136,6 +158,27 @@ module _ (names : Names) (misses misses_now faults faults_now : ℕ) (no_fault :
   same_certificates cnf proof status wanted report other (certifies.unread x) y =
       absurd (unrisen faults faults_now no_fault x.counted)
 
+  -- ---- clauses of graphs
+
+  same_encodings : (graph cnf : List ℕ) (status wanted : Status) (report other : List Delivery)
+      → Encodes graph cnf told_seen status report → Encodes graph cnf told_seen wanted other → status ≡ wanted
+  same_encodings graph cnf status wanted report other (encodes.read x) (encodes.read y) =
+      same_encoding y.bytes cnf status wanted report other
+      (subst (λ bytes. IsEncoding bytes cnf status report) (same_some (names graph) x.bytes y.bytes x.gives y.gives)
+      x.encoding) y.encoding
+  same_encodings graph cnf status wanted report other (encodes.read x) (encodes.absent y) =
+      absurd (not_both (names graph) x.bytes x.gives y.lacks)
+  same_encodings graph cnf status wanted report other (encodes.read x) (encodes.unread y) =
+      absurd (unrisen faults faults_now no_fault y.counted)
+  same_encodings graph cnf status wanted report other (encodes.absent x) (encodes.read y) =
+      absurd (not_both (names graph) y.bytes y.gives x.lacks)
+  same_encodings graph cnf status wanted report other (encodes.absent x) (encodes.absent y) =
+      x.status_is ∙ sym y.status_is
+  same_encodings graph cnf status wanted report other (encodes.absent x) (encodes.unread y) =
+      absurd (unrisen faults faults_now no_fault y.counted)
+  same_encodings graph cnf status wanted report other (encodes.unread x) y =
+      absurd (unrisen faults faults_now no_fault x.counted)
+
   same_told : (asked : Words) → IsOther asked → (status wanted : Status) (report other : List Delivery)
       → Says (Some asked) told_seen status report → Says (Some asked) told_seen wanted other → status ≡ wanted
   same_told (words.Run cfg outdir core basedir budget jobs) is status wanted report other x y = absurd is
@@ -145,6 +188,8 @@ module _ (names : Names) (misses misses_now faults faults_now : ℕ) (no_fault :
   same_told (words.Bench size) is status wanted report other x y = absurd is
   same_told (words.Cover o) is status wanted report other x y = absurd is
   same_told (words.Zb o) is status wanted report other x y = absurd is
+  same_told (words.Fromaig aag cnf) is status wanted report other x y =
+      same_encodings aag cnf status wanted report other x y
 
 -- the same, of a run whose files are told
 module _ (r : Run) (names : Names) (told : r.before.held ≡ Some names)

@@ -34,7 +34,7 @@ use Rattle.rvf_checks.specs.Checked.{answered, begun, head, note_of, skips_of, w
 use Rattle.rvf_checks.specs.CheckLines.{fail_line, note_line, pass_line, skip_line, spent_line, total_line}
 use Rattle.rvf_checks.specs.Counting.{counts_of}
 use Rattle.rvf_checks.specs.declared.wording.Wording.TheVariants as wording
-use Rattle.rvf_report.specs.Outcome.{LeavesPart, Outside, Pass, puts_of}
+use Rattle.rvf_report.specs.Outcome.{Outside, Pass, puts_of}
 use Rattle.rvf_report.specs.declared.delivery.Delivery.{Delivery}
 use Rattle.rvf_report.specs.declared.delivery.Delivery.TheVariants.{File, Line}
 use Rattle.rvf_report.specs.declared.status.Status.{Status}
@@ -47,6 +47,7 @@ use Rattle.rvf_core.specs.Run.{Hears, IsReport, Reports, Run, says_reads, seen_i
 use Rattle.rvf_core.specs.Tasks.{request}
 use Rattle.rvf_core.specs.Run as run
 use Rattle.rvf_core.specs.Verdicts.{AreJudged, Judges, check_questions, opts_in, text_of, wants_in}
+use Rattle.rvf_core.proofs.Later.{part_pass}
 
 -- ---- lines by their first byte, and names before the end of a line
 
@@ -283,11 +284,6 @@ module _ (cfg outdir core basedir : List ℕ) (budget jobs : ℕ) (seen : Seen) 
       All-contains (IsMeantPut name Meant) (puts_of done) (Put (pass_line name))
       (All-from_recursion (IsMeantPut name Meant) (puts_of done)
       (puts_meant name Meant done (front_meant name Meant done rest all))) there refl
-
-part_pass : (before now : Outside) (done : List Delivery) (failing : Delivery) → LeavesPart before now done failing
-    → Pass before now done
-part_pass before now done (File name bytes) p = p.3
-part_pass before now done (Line bytes) p = p.3
 
 module _ (r : Run) (cfg outdir core basedir : List ℕ) (budget jobs : ℕ)
     (asked : line_of r.words ≡ Some (words.Run cfg outdir core basedir budget jobs)) (reads puts : List Event)

@@ -104,14 +104,14 @@ fault_tells A file.Memory name faults now P report h p is = absurd is
 
 -- ---- a report that is delivered behind what was read
 
-same_tail : (x y : Delivery) (xs ys : List Delivery) → x ∷ xs ≡ y ∷ ys → xs ≡ ys
+pub same_tail : (x y : Delivery) (xs ys : List Delivery) → x ∷ xs ≡ y ∷ ys → xs ≡ ys
 same_tail x y xs ys e = cc
 
-never_empty : (xs : List Delivery) (y : Delivery) (ys : List Delivery) → xs ++ y ∷ ys ≡ [] → ⊥
+pub never_empty : (xs : List Delivery) (y : Delivery) (ys : List Delivery) → xs ++ y ∷ ys ≡ [] → ⊥
 never_empty [] y ys e = cc
 never_empty (x ∷ xs) y ys e = cc
 
-none_done : (done : List Delivery) (next : Delivery) (rest : List Delivery) (line : Delivery)
+pub none_done : (done : List Delivery) (next : Delivery) (rest : List Delivery) (line : Delivery)
     → done ++ next ∷ rest ≡ line ∷ [] → done ≡ []
 none_done [] next rest line e = refl
 none_done (d ∷ done) next rest line e =

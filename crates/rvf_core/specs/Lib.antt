@@ -5,6 +5,7 @@ pub mod Bench
 pub mod Tasks
 pub mod Certificate
 pub mod Certifies
+pub mod Encodes
 pub mod Unread
 pub mod InsnLaw
 pub mod Pass

@@ -1,15 +1,18 @@
 -- Meaning: What an answer of the top call means: its cause, and its report. Rules of this project.
 use Rattle.std.specs.Prelude.{◌≡◌, ℕ, ◌<◌, ◌≤◌, ◌+◌, ◌-◌, ◌^◌, Bool, true, false, ◌||◌, ◌==◌, nat_le, min, List, []}
-use Rattle.std.specs.Prelude.{◌∷◌, ◌++◌, Option, Some, None, codes}
+use Rattle.std.specs.Prelude.{◌∷◌, ◌++◌, ◌↔◌, Option, Some, None, codes}
 use Rattle.std.specs.List.{All, Contains}
-use Rattle.fv_base.specs.Outside.{Names, Told}
+use Rattle.fv_base.specs.Outside.{Names, ReadGives, Told}
 use Rattle.fv_base.specs.declared.event.Event.{Event}
 use Rattle.fv_base.specs.declared.event.Event.TheVariants.{Failed}
+use Rattle.aiger_text.specs.Profile.{IsOfProfile}
+use Rattle.aiger_text.specs.Said.{Said}
 use Rattle.vl_size.specs.Size.{Values}
 use Rattle.ck_cfg.specs.declared.check.Check.{Check}
 use Rattle.ck_cfg.specs.declared.config.Config.{Config}
 use Rattle.ck_cfg.specs.Checks.{checks_of}
 use Rattle.ck_ask.specs.declared.question.Question.{Question}
+use Rattle.rvf_graph.specs.Clauses.{IsClauseText}
 use Rattle.rvf_words.specs.declared.line.Line.{Line as Words}
 use Rattle.rvf_words.specs.declared.line.Line.TheVariants as words
 use Rattle.rvf_words.specs.Line.{line_of}
@@ -28,6 +31,7 @@ use Rattle.rvf_report.specs.declared.status.Status.TheVariants as s
 use Rattle.rvf_core.specs.Bench as bench
 use Rattle.rvf_core.specs.Certifies.{Certifies, certifies_reads}
 use Rattle.rvf_core.specs.Checks.{Checks, HasRead, IsBegun, checks_reads, has_reads, refused_status}
+use Rattle.rvf_core.specs.Encodes.{Encodes, encodes_reads, graph_report}
 use Rattle.rvf_core.specs.Lists.{Lists, lists_reads}
 use Rattle.rvf_core.specs.Tasks.{Task, bench_task, task_asked, task_of}
 use Rattle.rvf_core.specs.Verdicts.{QuestionFails, Violates}
@@ -66,7 +70,7 @@ abbrev pub usage_line : List ℕ
 usage_line =
     codes "usage: rvf run " ++ (options_text
     ++ (codes " | list CFG | lrat CNF PROOF | bench N | cover " ++ (options_text
-    ++ (codes " | zb " ++ (options_text ++ codes "\n")))))
+    ++ (codes " | zb " ++ (options_text ++ codes " | fromaig AAG CNF\n")))))
 
 -- other words
 pub record Misuses (status : Status) (report : List Delivery) : Type 0 where
@@ -92,6 +96,7 @@ abbrev pub SaysOther : Words → Seen → Status → List Delivery → Type 0
 SaysOther (words.List cfg) seen status report = Lists cfg seen status report
 SaysOther (words.Lrat cnf proof) seen status report = Certifies cnf proof seen status report
 SaysOther (words.Bench size) seen status report = Benches size status report
+SaysOther (words.Fromaig aag cnf) seen status report = Encodes aag cnf seen status report
 SaysOther asked seen status report = ⊥
 
 -- of words with this task, if they have one
@@ -136,6 +141,7 @@ abbrev pub other_reads : (asked : Words) (seen : Seen) (status : Status) (report
     → SaysOther asked seen status report → List Event
 other_reads (words.List cfg) seen status report says = lists_reads cfg seen status report says
 other_reads (words.Lrat cnf proof) seen status report says = certifies_reads cnf proof seen status report says
+other_reads (words.Fromaig aag cnf) seen status report says = encodes_reads aag cnf seen status report says
 other_reads asked seen status report says = []
 
 abbrev pub reads_by : (task : Option Task) (asked : Words) (seen : Seen) (status : Status) (report : List Delivery)
@@ -164,6 +170,7 @@ begins_reads (Some asked) seen report h = begun_by (task_of asked) asked seen re
 abbrev pub IsOtherReadOn : Words → List Event → Type 0
 IsOtherReadOn (words.List cfg) events = AreReadOn (cfg ∷ []) events
 IsOtherReadOn (words.Lrat cnf proof) events = AreReadOn (cnf ∷ (proof ∷ [])) events
+IsOtherReadOn (words.Fromaig aag cnf) events = AreReadOn (aag ∷ []) events
 IsOtherReadOn asked events = events ≡ []
 
 abbrev pub IsReadOnBy : Option Task → Words → List Event → Type 0
@@ -246,7 +253,8 @@ pub data IsAccepted (r : Run) (t : Task) (c : Config) (files : List (List ℕ)) 
       → HasRead t.request (Some (bench.held_of size)) c files → AreAccepted c files (questions_in t.request c)
       → IsAccepted r t c files
 
--- the words ask for names of checks or for the check of a certificate, the files are told, and no read or write failed
+-- the words ask for names of checks, for the check of a certificate or for the clauses of a graph, the files are told,
+-- and no read or write failed
 abbrev pub IsOther : Words → Type 0
 IsOther (words.Run cfg outdir core basedir budget jobs) = ⊥
 IsOther (words.Bench size) = ⊥
@@ -260,6 +268,16 @@ pub record AsksOther (r : Run) (asked : Words) : Type 0 where
   pub names : Names
   pub told : r.before.held ≡ Some names
   pub no_fault : rose r.before.faults r.now.faults ≡ false
+
+-- the file of the clauses of a graph was made to hold them, and the line of the graph was put
+pub record IsEncoded (graph cnf : List ℕ) (r : Run) : Type 0 where
+  pub bytes : List ℕ
+  pub gives : ReadGives r.before.held graph bytes
+  pub said : Said
+  pub says : IsOfProfile bytes said
+  pub text : List ℕ
+  pub clauses : IsClauseText said text
+  pub delivered : Delivers r.before r.now (graph_report cnf said text)
 
 -- the wanted status came, or what may take its place: a delivery that failed (8), or want of memory (11)
 abbrev pub comes : Status → Status → Bool
@@ -309,6 +327,9 @@ pub record IsExact (status : Status) (r : Run) : Type 0 where
   pub fail : (t : Task) (c : Config) (files : List (List ℕ)) (x : Check) (run : List Values) → IsAccepted r t c files
       → t.request.asking ≡ asking.Checks → Contains (checks_of c) x → Violates c files x run
       → comes_in_budget s.Failing status ≡ true
+  -- the clauses of a graph pass exactly where their file and the line came through
+  pub encoded : (graph cnf : List ℕ) → line_of r.words ≡ Some (words.Fromaig graph cnf)
+      → (status ≡ s.Passed) ↔ IsEncoded graph cnf r
   -- a status that has its cause under the other words
   pub other : (asked : Words) (wanted : Status) (report : List Delivery) → AsksOther r asked
       → Says (Some asked) (seen_in r) wanted report → comes wanted status ≡ true

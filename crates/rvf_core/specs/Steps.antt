@@ -1,16 +1,22 @@
 -- Between functions: What the functions of the top call promise one another. Rules of this project.
 use Rattle.std.specs.Prelude.{◌≡◌, ℕ, true, false, Bool, List, ◌++◌, Option, Some}
+use Rattle.aiger_text.specs.Said.{Said}
+use Rattle.aiger_text.specs.declared.fault.AagFault.{AagFault}
+use Rattle.aiger_text.specs.declared.fault.AagFault.TheVariants as aag
 use Rattle.fv_base.specs.Outside.{FilesState, Names}
 use Rattle.rvf_words.specs.declared.line.Line.{Line as Words}
+use Rattle.rvf_words.specs.declared.line.Line.TheVariants as words
 use Rattle.rvf_case.specs.Cases.{IsCause, seen_between}
 use Rattle.rvf_case.specs.declared.refusal.Refusal.{Refusal}
 use Rattle.rvf_case.specs.declared.refusal.Refusal.TheVariants as refusal
+use Rattle.rvf_report.specs.Outcome.{Delivers}
 use Rattle.rvf_report.specs.declared.status.Status.{Status}
 use Rattle.rvf_report.specs.declared.status.Status.TheVariants as s
 use Rattle.rvf_core.specs.declared.report.Report.{Report}
 use Rattle.rvf_core.specs.Certificate.{one_line}
 use Rattle.rvf_core.specs.Certifies.{Certifies, certifies_reads}
 use Rattle.rvf_core.specs.Checks.{refused_status}
+use Rattle.rvf_core.specs.Encodes.{Encodes, IsEncoding, encodes_reads, graph_report}
 use Rattle.rvf_core.specs.Lists.{Lists, lists_reads}
 use Rattle.rvf_core.specs.Run.{Run, comes, rose, seen_in}
 use Rattle.rvf_core.specs.Tasks.{Task, task_asked}
@@ -26,9 +32,19 @@ HaveCauses t r status =
     (names : Names) → r.before.held ≡ Some names → rose r.before.faults r.now.faults ≡ false → (f : Refusal)
     → IsCause t.request (seen_in r) f → comes (refused_status f) status ≡ true
 
+-- want of memory left the file of a graph's clauses or the line
+abbrev pub LeavesGraph : List ℕ → Run → Status → Type 0
+LeavesGraph cnf r status =
+    status ≡ s.Memory → (said : Said) (text : List ℕ) → Delivers r.before r.now (graph_report cnf said text) → ⊥
+
+abbrev pub Leaves : Option Words → Run → Status → Type 0
+Leaves (Some (words.Fromaig aag cnf)) r status = LeavesGraph cnf r status
+Leaves asked r status = Unit {0}
+
 -- whatever the words ask for of files that are given
-abbrev pub HaveStatus : Option Words → Run → Status → Type 0
-HaveStatus asked r status = (t : Task) → task_asked asked ≡ Some t → HaveCauses t r status
+pub record HaveStatus (asked : Option Words) (r : Run) (status : Status) : Type 0 where
+  pub causes : (t : Task) → task_asked asked ≡ Some t → HaveCauses t r status
+  pub leaves : Leaves asked r status
 
 -- no read failed, or the report is the line of one that did
 pub data TellsReads (report : Report) (faults faults_now : ℕ) : Type 0 where
@@ -48,3 +64,25 @@ CertifiesFor cnf proof before now report =
     (says : Certifies cnf proof (seen_between before now) report.status report.deliveries)
     × (now.heard
     ≡ before.heard ++ certifies_reads cnf proof (seen_between before now) report.status report.deliveries says)
+
+-- and under `fromaig AAG CNF`
+abbrev pub EncodesFor : List ℕ → List ℕ → FilesState → FilesState → Report → Type 0
+EncodesFor graph cnf before now report =
+    (says : Encodes graph cnf (seen_between before now) report.status report.deliveries)
+    × (now.heard
+    ≡ before.heard ++ encodes_reads graph cnf (seen_between before now) report.status report.deliveries says)
+
+-- memory was wanted, and the text isn't refused
+abbrev pub wants_memory : AagFault → Bool
+wants_memory (aag.Header line) = false
+wants_memory (aag.Kind line) = false
+wants_memory (aag.Literal line) = false
+wants_memory (aag.Twice line) = false
+wants_memory (aag.Open line) = false
+wants_memory (aag.Undefined line) = false
+wants_memory (aag.Loop line) = false
+wants_memory aag.Memory = true
+
+-- what the bytes of a graph's file come to
+abbrev pub IsEncodingOf : List ℕ → List ℕ → Report → Type 0
+IsEncodingOf bytes cnf report = IsEncoding bytes cnf report.status report.deliveries

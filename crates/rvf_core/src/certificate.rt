@@ -18,7 +18,13 @@ use lrat_check::{LratFault, Step, StepFault, read_lrat, verify};
 use rvf_report::{Status, put_end, put_word};
 use std::alloc::Global;
 
-fn line_of_two(alloc: Global, front: &[u8], number: u8, value: u32) -> Result<Text, Memory>
+/// A word, a refusal's number, and a value.
+pub(crate) fn line_of_two(
+    alloc: Global,
+    front: &[u8],
+    number: u8,
+    value: u32,
+) -> Result<Text, Memory>
     ensures { IfOk result (λ line. line ≡ two_values front.now number (decimal value)) }
 {
     let mut buffer = Buffer::new();

@@ -15,7 +15,7 @@ use rvf_case::Refusal;
 use std::alloc::Global;
 
 /// The report on a file that gave no bytes.
-fn unread(alloc: Global, name: &[u8], fault: FileFault) -> Result<Report, Memory>
+pub(crate) fn unread(alloc: Global, name: &[u8], fault: FileFault) -> Result<Report, Memory>
     ensures { IfOk result (IsUnreadReport fault name.now) }
 {
     let name = Text::from_bytes(alloc, name)?;

@@ -6,6 +6,7 @@ mod benching;
 mod certificate;
 mod certifying;
 mod checking;
+mod encoding;
 pub mod insn_law;
 mod listing;
 pub mod pass_law;

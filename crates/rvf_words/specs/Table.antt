@@ -43,6 +43,10 @@ cover = with_options (new_app (codes "cover"))
 abbrev pub zb : App
 zb = with_options (new_app (codes "zb"))
 
+-- `fromaig AAG CNF`
+abbrev pub fromaig : App
+fromaig = with_rule (with_rule (new_app (codes "fromaig")) (operand (codes "aag"))) (operand (codes "cnf"))
+
 -- the words behind the program's name, of which the first has to be a subcommand
 abbrev pub top : Shape
 top = record (new_app (codes "rvf")).top { no_binary_name = true; subcommand_required = true }
@@ -54,4 +58,4 @@ alone = record { top = top; subs = [] }
 abbrev pub program : App
 program =
     with_subcommand (with_subcommand (with_subcommand (with_subcommand (with_subcommand (with_subcommand
-    alone run.top) list.top) lrat.top) bench.top) cover.top) zb.top
+    (with_subcommand alone run.top) list.top) lrat.top) bench.top) cover.top) zb.top) fromaig.top

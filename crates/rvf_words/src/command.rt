@@ -90,6 +90,14 @@ fn zb<'a>(alloc: Global) -> Result<Command<'a>, Memory>
     with_options(alloc, Command::new(alloc, "zb"))
 }
 
+fn fromaig<'a>(alloc: Global) -> Result<Command<'a>, Memory>
+    ensures shape { IfOk result (λ made. app_of made ≡ table.fromaig) }
+    ensures plain { IfOk result (λ made. (fields_of made).has_globals ≡ false) }
+{
+    let graph = with(Command::new(alloc, "fromaig"), operand(alloc, "aag"))?;
+    with(graph, operand(alloc, "cnf"))
+}
+
 fn below<'a>(command: Command<'a>, subcommand: Command<'a>) -> Result<Command<'a>, Memory>
     requires { (fields_of subcommand).has_globals ≡ false }
     ensures { IfOk result (λ made. app_of made ≡ with_subcommand (app_of command.entry) (shape_of subcommand.entry)) }
@@ -115,5 +123,6 @@ pub(crate) fn program<'a>(alloc: Global) -> Result<Command<'a>, Memory>
     let proofs = below(names, lrat(alloc)?)?;
     let benches = below(proofs, bench(alloc)?)?;
     let targets = below(benches, cover(alloc)?)?;
-    below(targets, zb(alloc)?)
+    let bits = below(targets, zb(alloc)?)?;
+    below(bits, fromaig(alloc)?)
 }

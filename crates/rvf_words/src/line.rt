@@ -39,6 +39,13 @@ pub enum Line {
     Cover(Options),
     /// `zb CFG OUTDIR`: the checks of the instructions of Zba and Zbs.
     Zb(Options),
+    /// `fromaig AAG CNF`: the clauses of a graph.
+    Fromaig {
+        /// The file of the graph, in the ASCII format AIGER.
+        aag: Text,
+        /// The file that the clauses are written to, in DIMACS.
+        cnf: Text,
+    },
 }
 
 /// What the words say behind the name of a subcommand that judges what a configuration asks for.

@@ -185,6 +185,18 @@ fn zb_line(alloc: Global, matches: &ArgMatches<'_>) -> Result<Option<Line>, Memo
     Ok(options_of(alloc, matches)?.map(Line::Zb))
 }
 
+fn fromaig_line(alloc: Global, matches: &ArgMatches<'_>) -> Result<Option<Line>, Memory>
+    ensures { IfOk result (λ made. made ≡ line.fromaig_line (rows_of (found_of matches.now))) }
+{
+    let Some(aag) = text_of(alloc, matches, "aag")? else {
+        return Ok(None)
+    };
+    let Some(cnf) = text_of(alloc, matches, "cnf")? else {
+        return Ok(None)
+    };
+    Ok(Some(Line::Fromaig { aag, cnf }))
+}
+
 fn asked(alloc: Global, matches: &ArgMatches<'_>) -> Result<Option<Line>, Memory>
     ensures { IfOk result (λ made. made
         ≡ option_and_then (λ used. line.asked used.0 used.1) (subcommand_rows_of matches.now)) }
@@ -196,6 +208,7 @@ fn asked(alloc: Global, matches: &ArgMatches<'_>) -> Result<Option<Line>, Memory
         Some((name, found)) if name == "bench" => Ok(bench_line(found)),
         Some((name, found)) if name == "cover" => cover_line(alloc, found),
         Some((name, found)) if name == "zb" => zb_line(alloc, found),
+        Some((name, found)) if name == "fromaig" => fromaig_line(alloc, found),
         _ => Ok(None),
     }
 }

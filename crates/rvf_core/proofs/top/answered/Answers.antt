@@ -54,7 +54,7 @@ returns-in-Err-clause-statuses g c =
     let r : Run =
     run_between (map string_bytes c.args.words.now) (outside (g.F.Files.state c.args.files.now) (g.O.Out.state c.args.out.now))
     (outside (g.F.Files.state c.args.files.now) (g.O.Out.state c.args.out.now)) in
-    memory_statuses (line_of (map string_bytes c.args.words.now)) r
+    memory_statuses (line_of (map string_bytes c.args.words.now)) r refl
 
 pub returns-in-Ok-None-clause-counts : goal.returns-in-Ok-None-clause-counts
 returns-in-Ok-None-clause-counts g c =

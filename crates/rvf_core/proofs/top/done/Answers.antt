@@ -5,7 +5,7 @@ use Rattle.rvf_core.specs.Run.{Run}
 use Rattle.rvf_core.proofs.Asking.{cover_asks, run_asks, run_between, task_statuses, zb_asks}
 use Rattle.rvf_core.proofs.FromChecks.{le_itself}
 use Rattle.rvf_core.proofs.FromWords.{bench_ends, bench_statuses, certificate_ends, list_ends, list_statuses, lrat_ends}
-use Rattle.rvf_core.proofs.FromWords.{lrat_statuses, names_end}
+use Rattle.rvf_core.proofs.FromWords.{fromaig_ends, fromaig_statuses, graph_ends, graph_leaves, lrat_statuses, names_end}
 use Rattle.rvf_report.specs.Outcome.{outside}
 use Rattle.rvf_core.proofs.Quiet.{put_counts}
 use Rattle.rvf_core.proofs.top.done.Goals as goal
@@ -142,3 +142,53 @@ returns-in-Lrat-clause-counts g c =
     })
     refl c.refute-report.result c.put_report-in-Lrat.result c.refute-report.ensures.told
     c.put_report-in-Lrat.ensures.puts c.put_report-in-Lrat.ensures.quiet
+
+pub returns-in-Fromaig-clause-ends : goal.returns-in-Fromaig-clause-ends
+returns-in-Fromaig-clause-ends g c = λ asked.
+    fromaig_ends c.args.line.now _ c.put_report-in-Fromaig.result _ _ c.bytes-in-Fromaig.result.now
+    c.bytes-in-Fromaig-2.result.now c.in-Fromaig.is c.bytes-in-Fromaig.ensures c.bytes-in-Fromaig-2.ensures
+    (graph_ends asked
+    (outside (g.F.Files.state c.args.files.now) (g.O.Out.state c.args.out.now))
+    (outside (g.F.Files.state c.encode-report.new.files) (g.O.Out.state c.args.out.now))
+    (outside (g.F.Files.state c.put_report-in-Fromaig.new.files) (g.O.Out.state c.put_report-in-Fromaig.new.out))
+    c.encode-report.ensures.kept refl c.encode-report.ensures.unwritten refl c.encode-report.ensures.faults_grow
+    (le_itself (g.O.Out.state c.args.out.now).faults)
+    (omega (arith, c.put_report-in-Fromaig.ensures.misses_kept)) c.put_report-in-Fromaig.ensures.faults_grow
+    c.put_report-in-Fromaig.ensures.unheard
+    c.bytes-in-Fromaig.result.now c.bytes-in-Fromaig-2.result.now c.encode-report.result c.put_report-in-Fromaig.result
+    c.encode-report.ensures.says c.encode-report.ensures.read_on c.put_report-in-Fromaig.ensures.puts)
+
+pub returns-in-Fromaig-clause-statuses : goal.returns-in-Fromaig-clause-statuses
+returns-in-Fromaig-clause-statuses g c = λ asked.
+    let r : Run =
+    run_between asked (outside (g.F.Files.state c.args.files.now) (g.O.Out.state c.args.out.now))
+    (outside (g.F.Files.state c.put_report-in-Fromaig.new.files) (g.O.Out.state c.put_report-in-Fromaig.new.out)) in
+    fromaig_statuses c.args.line.now r c.put_report-in-Fromaig.result _ _ c.bytes-in-Fromaig-2.result.now
+    c.in-Fromaig.is c.bytes-in-Fromaig-2.ensures
+    (graph_leaves asked
+    (outside (g.F.Files.state c.args.files.now) (g.O.Out.state c.args.out.now))
+    (outside (g.F.Files.state c.encode-report.new.files) (g.O.Out.state c.args.out.now))
+    (outside (g.F.Files.state c.put_report-in-Fromaig.new.files) (g.O.Out.state c.put_report-in-Fromaig.new.out))
+    c.encode-report.ensures.kept refl c.encode-report.ensures.unwritten refl c.encode-report.ensures.faults_grow
+    (le_itself (g.O.Out.state c.args.out.now).faults)
+    (omega (arith, c.put_report-in-Fromaig.ensures.misses_kept)) c.put_report-in-Fromaig.ensures.faults_grow
+    c.put_report-in-Fromaig.ensures.unheard
+    c.bytes-in-Fromaig.result.now c.bytes-in-Fromaig-2.result.now c.encode-report.result c.put_report-in-Fromaig.result
+    c.encode-report.ensures.says c.put_report-in-Fromaig.ensures.puts)
+
+pub returns-in-Fromaig-clause-counts : goal.returns-in-Fromaig-clause-counts
+returns-in-Fromaig-clause-counts g c =
+    put_counts
+    (outside (g.F.Files.state c.args.files.now) (g.O.Out.state c.args.out.now))
+    (outside (g.F.Files.state c.encode-report.new.files) (g.O.Out.state c.args.out.now))
+    (outside (g.F.Files.state c.put_report-in-Fromaig.new.files) (g.O.Out.state c.put_report-in-Fromaig.new.out))
+    (record {
+      held = c.encode-report.ensures.kept;
+      sent = refl;
+      written = c.encode-report.ensures.unwritten;
+      taken = refl;
+      faults = c.encode-report.ensures.faults_grow;
+      out_faults = le_itself (g.O.Out.state c.args.out.now).faults;
+    })
+    refl c.encode-report.result c.put_report-in-Fromaig.result c.encode-report.ensures.told
+    c.put_report-in-Fromaig.ensures.puts c.put_report-in-Fromaig.ensures.quiet

@@ -22,6 +22,9 @@ with_bench = with_subcommand with_lrat table.bench.top
 abbrev with_cover : App
 with_cover = with_subcommand with_bench table.cover.top
 
+abbrev with_zb : App
+with_zb = with_subcommand with_cover table.zb.top
+
 pub returns : goal.returns
 returns c =
     let run_is : app_of c.in_ok-checks.checks ≡ with_run =
@@ -34,5 +37,7 @@ returns c =
     c.in_ok-benches.ensures ∙ ap₂ with_subcommand lrat_is (ap top_of c.in_ok-bench.ensures.shape) in
     let cover_is : app_of c.in_ok-targets.targets ≡ with_cover =
     c.in_ok-targets.ensures ∙ ap₂ with_subcommand bench_is (ap top_of c.in_ok-cover.ensures.shape) in
-    IfOk-weaker c.below-6.result _ _ (λ m h. h ∙ ap₂ with_subcommand cover_is (ap top_of c.in_ok-zb.ensures.shape))
-    c.below-6.ensures
+    let zb_is : app_of c.in_ok-bits.bits ≡ with_zb =
+    c.in_ok-bits.ensures ∙ ap₂ with_subcommand cover_is (ap top_of c.in_ok-zb.ensures.shape) in
+    IfOk-weaker c.below-7.result _ _
+    (λ m h. h ∙ ap₂ with_subcommand zb_is (ap top_of c.in_ok-fromaig.ensures.shape)) c.below-7.ensures
