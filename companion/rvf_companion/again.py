@@ -12,7 +12,8 @@ from .configuration import Configuration, kind_of
 from .run_lines import Check
 
 KEPT = {"name", "verdict", "seconds", "batch", "budget"}
-ENDINGS = {"pass": (".cnf", ".lrat"), "spent": (".cnf", ".lrat"), "fail": (".vcd",)}
+CERTIFICATE = (".cnf", ".lrat")
+ENDINGS = {"pass": CERTIFICATE, "unreached": CERTIFICATE, "spent": CERTIFICATE, "fail": (".vcd",), "reached": (".vcd",)}
 
 
 @dataclass(frozen=True)

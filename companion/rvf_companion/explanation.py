@@ -35,8 +35,9 @@ def parted(line: str) -> Refusal | None:
     found = re.fullmatch(r"code (\d+)", line)
     if found and line in TABLE:
         return Refusal(line, "", 0, 0, "")
-    for key in ("refused cnf", "refused lrat", "refused step", "read fault", "absent", "heavy", "usage:"):
-        if line.startswith(key + " "):
+    for key in ("refused cnf", "refused lrat", "refused step", "refused aiger", "refused check", "read fault", "absent",
+                "heavy", "usage:"):
+        if key in TABLE and line.startswith(key + " "):
             return Refusal(key, "", 0, 0, line[len(key) + 1:])
     return None
 

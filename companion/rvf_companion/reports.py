@@ -17,7 +17,7 @@ from .findings import Asked, findings
 from .instructions import Options
 from .page import Shown, page
 from .picture import picture
-from .run_lines import Check, Run
+from .run_lines import TRACED, Check, Run
 from .written import NAMES, before
 
 # What may not stand in a text of XML.
@@ -64,14 +64,14 @@ def asked_of(setting: Setting, run: Run, name: str) -> Asked:
 
 
 def shown(setting: Setting, run: Run, check: Check) -> Shown:
-    """What the page shows of a check: its files, and for a fail its trace."""
+    """What the page shows of a check: its files, and its trace where it has one."""
     base = setting.outdir / check.name
     quoted = shlex.quote(str(base))
     found = Shown(check, kind=kind_of(check.name)[0])
-    if check.verdict != "fail":
+    if check.verdict not in TRACED:
         found.clauses = clauses_of(base.with_name(check.name + ".cnf"))
         found.steps = steps_of(base.with_name(check.name + ".lrat"))
-        if check.verdict == "pass":
+        if check.verdict != "spent":
             found.command = f"{setting.program} lrat {quoted}.cnf {quoted}.lrat"
         return found
     found.command = f"gtkwave {quoted}.vcd"
@@ -81,6 +81,9 @@ def shown(setting: Setting, run: Run, check: Check) -> Shown:
         found.lines = [f"the trace can't be shown: {fault}"]
         return found
     asked = asked_of(setting, run, check.name)
+    if check.verdict == "reached":
+        found.picture = picture(dump, asked.channel, asked.channels)
+        return found
     found.lines = findings(dump, asked)
     if asked.depths and len(dump.cycles) != asked.depths[-1] + 1:
         found.lines.insert(0, f"the trace has {len(dump.cycles)} cycles, and the check is at cycle {asked.depths[-1]}: "
@@ -114,8 +117,8 @@ def junit(run: Run, checks: list[Shown], explained: list[str]) -> str:
     """The report in the form of JUnit: one case a check."""
     broken = not run.ended() or bool(run.refusal)
     suite = ElementTree.Element("testsuite", name="rvf", tests=str(len(checks) + broken),
-                                failures=str(run.count("fail")), errors=str(run.count("spent") + broken), skipped="0",
-                                time=f"{run.seconds:.3f}")
+                                failures=str(run.count("fail") + len(run.unmet())),
+                                errors=str(run.count("spent") + broken), skipped="0", time=f"{run.seconds:.3f}")
     for one in checks:
         check = one.check
         case = ElementTree.SubElement(suite, "testcase", classname=one.kind, name=check.name,
@@ -123,9 +126,11 @@ def junit(run: Run, checks: list[Shown], explained: list[str]) -> str:
         if check.verdict == "fail":
             failure = ElementTree.SubElement(case, "failure", message="a run of the design violates the check")
             failure.text = "\n".join(one.lines)
+        elif check.name in run.unmet():
+            ElementTree.SubElement(case, "failure", message="no run meets the assumptions up to that cycle").text = ""
         elif check.verdict == "spent":
             ElementTree.SubElement(case, "error", message=f"the budget of {check.budget} clauses was used up").text = ""
-        told = []
+        told = [check.verdict] if run.of_cover() else []
         if check.batch:
             told.append(f"the time is that of a batch of up to {run.jobs} checks")
         if check.kept:
@@ -170,7 +175,7 @@ def write_reports(setting: Setting, run: Run) -> list[Path]:
     moved = [path for path in paths if path.exists()] if not run.ended() and is_of_ended_run(setting.outdir) else []
     page_before = before(paths[-1]).name if moved or not run.ended() and before(paths[-1]).exists() else ""
     texts = [junit(run, checks, explained), as_json(setting, run, checks, explained),
-             page(run, checks, explained, f"rvf run {setting.cfg}", page_before)]
+             page(run, checks, explained, f"rvf {'cover' if run.of_cover() else 'run'} {setting.cfg}", page_before)]
     drafts = [path.with_name(f".{path.name}.new") for path in paths]
     try:
         for draft, text in zip(drafts, texts):

@@ -7,22 +7,27 @@ from dataclasses import dataclass, field
 from .explanation import parted
 
 CODES = {
-    0: "all checks pass", 1: "a check fails", 2: "no check fails, and one is spent", 3: "the words are refused",
+    0: "all checks pass", 1: "a check fails, or no run meets the assumptions",
+    2: "no check fails, and one is spent", 3: "the words are refused",
     4: "the configuration is refused", 5: "the text is refused", 6: "a file isn't there", 7: "a file could not be read",
     8: "a file or the output could not be written: is there the folder, and room? What came before is whole",
-    9: "the design is too heavy for a check", 10: "the certificate is refused",
+    9: "the design is too heavy for a check", 10: "a certificate, a graph or the name of a check is refused",
     11: "no memory was left: fewer jobs, a smaller cycle or budget",
 }
 
 WITHOUT_A_LINE = (8, 11)
 
 # The last lines of the subcommands.
-LAST = r"total pass \d+ fail \d+ spent \d+ skip \d+|bench \d+ pass \d+ fail \d+ spent \d+|refuted \d+"
+LAST = (r"total pass \d+ fail \d+ spent \d+ skip \d+|total reached \d+ unreached \d+ spent \d+"
+        r"|bench \d+ pass \d+ fail \d+ spent \d+|refuted \d+|aiger \d+ \d+")
+
+# The verdicts that leave a trace; the others leave clauses and a proof.
+TRACED = ("fail", "reached")
 
 
 @dataclass
 class Check:
-    """A check with its verdict and the seconds that it took, or its batch."""
+    """A check, or a target of `cover`, with its verdict and the seconds that it took, or its batch."""
     name: str
     verdict: str
     seconds: float
@@ -50,7 +55,7 @@ class Run:
     def take(self, line: str, at: float) -> None:
         """Takes a line that came so many seconds after the run began; one that isn't known is kept as it is."""
         self.seconds = at
-        found = re.fullmatch(r"(pass|fail) (\S+)|(spent) (\S+) (\d{1,18})", line)
+        found = re.fullmatch(r"(pass|fail|reached|unreached) (\S+)|(spent) (\S+) (\d{1,18})", line)
         if found:
             self._check(found[2] or found[4], found[1] or found[3], int(found[5] or 0), at)
         elif line.startswith("note "):
@@ -101,3 +106,11 @@ class Run:
     def count(self, verdict: str) -> int:
         """How many checks have a verdict."""
         return sum(check.verdict == verdict for check in self.checks)
+
+    def of_cover(self) -> bool:
+        """Whether these are the lines of `cover`."""
+        return any("reached" in check.verdict for check in self.checks) or self.total.startswith("total reached")
+
+    def unmet(self) -> list[str]:
+        """The kinds of which no run meets the assumptions, by their targets."""
+        return [check.name for check in self.checks if check.verdict == "unreached" and check.name.startswith("any_")]

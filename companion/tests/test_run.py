@@ -18,6 +18,7 @@ from rvf_companion import report, run
 
 from .folder import CFG, SCRIPT, Folder
 from .needs import needs
+from .stand_in import DUMP
 
 
 def heard() -> None:
@@ -199,10 +200,30 @@ class Runs(Folder):
         self.assertEqual((code, self.json()["listed"]), (0, ["insn_lui_ch0", "reg_ch0"]))
         self.assertIn("insn_lui_ch0, reg_ch0", self.page())
         self.assertNotIn("without its last line", self.page())
-        for line in ("bench 8 pass 43 fail 0 spent 0", "refuted 6", "refused step 5 5 0"):
+        for line in ("bench 8 pass 43 fail 0 spent 0", "refuted 6", "refused step 5 5 0", "aiger 2 1",
+                     "refused aiger 7 5"):
             code, _ = self.report_it(line + "\n")
             self.assertEqual(code, 0)
             self.assertIn(line, self.json()["end"])
+
+    def test_cover(self) -> None:
+        """The lines of `cover`: a target that is reached has a picture, and one that isn't has a certificate."""
+        out = self.folder / "out"
+        (out / "any_insn.vcd").write_text(DUMP)
+        (out / "hit_add_ch0.cnf").write_text("p cnf 1 2\n1 0\n-1 0\n")
+        (out / "hit_add_ch0.lrat").write_text("3 0 1 2 0\n")
+        self.report_it("reached any_insn\nunreached any_reg\nunreached hit_add_ch0\nspent hit_sub_ch0 100\n"
+                       "total reached 1 unreached 2 spent 1\n")
+        report = self.json()
+        self.assertEqual([one["verdict"] for one in report["checks"]], ["reached", "unreached", "unreached", "spent"])
+        self.assertEqual((report["ended"], report["others"]), (True, []))
+        self.assertIn("lrat out/hit_add_ch0.cnf out/hit_add_ch0.lrat", report["checks"][2]["command"])
+        self.assertEqual((report["checks"][2]["clauses"], report["checks"][2]["steps"]), (2, 1))
+        for part in ("1 reached, 2 unreached, 1 spent", "rvf cover checks.cfg", "<svg", "addi x1, x0, 5",
+                     "No run meets the assumptions up to the cycle of any_reg"):
+            self.assertIn(part, self.page())
+        suite = ElementTree.parse(out / "report.xml").getroot()
+        self.assertEqual((suite.get("tests"), suite.get("failures"), suite.get("errors")), ("4", "1", "1"))
 
     def test_missing(self) -> None:
         """A missing folder, a missing configuration and a broken dump are told."""
