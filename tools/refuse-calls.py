@@ -7,7 +7,7 @@ A library (refuse-calls.c, by the C compiler) is put before the program, which c
 opened files, reads, writes and syncs. Of each case, every one is refused alone, and all from each one on:
 
 - memory: the code is 11, what was put is whole lines of the full run's, and each check whose line was put has its
-  files whole; or all is as in the full run;
+  files whole; or all is as in the full run, but that a proof may be another one that a second reading accepts;
 - a read: code 7, the line that names the file, and no file;
 - a write or a put: code 8, files and lines up to it whole, and of it at most a front;
 - a thread: as in the full run, or code 11 and nothing where none is to be had at first;
@@ -28,6 +28,7 @@ import subprocess
 import sys
 import tempfile
 
+import lrat_rules
 from clause_files import FIELDS
 
 HERE = os.path.dirname(os.path.abspath(__file__))
@@ -140,12 +141,22 @@ class Case:
     def is_full(self, got):
         return (got.code, got.out, got.files) == (self.full.code, self.full.out, self.full.files)
 
+    def has_other_proofs(self, got):
+        """Whether all is as in the full run but for proofs, each of which a second reading accepts for its clauses: a
+        search that isn't given room for something that it can do without goes another way."""
+        if (got.code, got.out, set(got.files)) != (self.full.code, self.full.out, set(self.full.files)):
+            return False
+        other = [name for name, text in got.files.items() if text != self.full.files[name]]
+        return all(name.endswith(".lrat")
+                   and lrat_rules.answer(got.files[name[:-4] + "cnf"], got.files[name])[0].startswith("refuted")
+                   for name in other)
+
     def judge(self, kind, got):
         """Whether what came out is one of the answers to such a refusal."""
         if self.is_full(got):
             return True
         if kind == "memory":
-            return got.code == 11 and self.is_front(got, True)
+            return got.code == 11 and self.is_front(got, True) or self.has_other_proofs(got)
         if kind == "call":
             is_unread = re.fullmatch(r"read fault [\w.]+\n", got.out) and not got.files
             return got.code == 7 and bool(is_unread) or got.code == 8 and self.is_front(got, False)
