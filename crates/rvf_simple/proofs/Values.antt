@@ -303,10 +303,10 @@ module _ (ns : List Names) (ps : List FullPort)
     undivided k ds c (unary p op x) h =
         undivided k ds (if keeps_size op then c else own_context ds (settled k x)) x h
     undivided k ds c (binary p op x y) h =
-        λ i. earlier_place (place_if (h.0 i && is_zero ds c (settled k y)) p)
-        (earlier_place
-        (undivided k ds (left_context ds (way op) op c (settled k x) (settled k y)) x h.1 i)
-        (undivided k ds (right_context ds (way op) op c (settled k x) (settled k y)) y h.2 i))
+        let first = undivided k ds (left_context ds (way op) op c (settled k x) (settled k y)) x h.1 in
+        let second = undivided k ds (right_context ds (way op) op c (settled k x) (settled k y)) y h.2 in
+        λ i. earlier_place (place_if (h.0 i && (is_none (second i) && is_zero ds c (settled k y))) p)
+        (earlier_place (first i) (second i))
     undivided k ds c (conditional p t x y) h =
         λ i. earlier_place (undivided k ds (own_context ds (settled k t)) t h.0 i)
         (earlier_place (undivided k ds c x h.1 i) (undivided k ds c y h.2 i))

@@ -1,5 +1,5 @@
 -- A divisor is 0 under other names where it is 0, each name being declared there in the same way.
-use Rattle.std.specs.Prelude.{◌≡◌, refl, ℕ, ◌==◌, List, Bool, ◌&&◌, if◌then◌else◌}
+use Rattle.std.specs.Prelude.{◌≡◌, refl, ℕ, ◌==◌, List, Bool, ◌&&◌, is_none, if◌then◌else◌}
 use Rattle.std.proofs.Common.{ap, ◌∙◌}
 use Rattle.vl_tree.specs.declared.operator.BinaryOperator.{BinaryOperator}
 use Rattle.vl_tree.specs.Expr.{
@@ -88,7 +88,8 @@ module _ (f : List ℕ → List ℕ) (ds es : List Decl) where
         ∙ same_divisor (left_context ds (way op) op c x y) x h.0 in
         let second = ap (λ k. zero_divisor es k (renamed f y)) (same_right (way op) op c x y h.0 h.1)
         ∙ same_divisor (right_context ds (way op) op c x y) y h.1 in
-        λ i. earlier_place (place_if (divides op && same_zero c y h.1 i) p) (earlier_place (first i) (second i))
+        λ i. earlier_place (place_if (divides op && (is_none (second i) && same_zero c y h.1 i)) p)
+        (earlier_place (first i) (second i))
     same_divisor c (conditional p k x y) h =
         λ i. earlier_place (own_step k h.0 (same_divisor (own_context ds k) k h.0) i)
         (earlier_place (same_divisor c x h.1.0 i) (same_divisor c y h.1.1 i))

@@ -364,7 +364,8 @@ module _ (ds es : List Decl) where
         ∙ same_divisor (left_context es (way op) op c x y) x xh in
         let second = ap (λ k. zero_divisor ds k y) (same_right (way op) op c x y xh yh)
         ∙ same_divisor (right_context es (way op) op c x y) y yh in
-        λ i. earlier_place (place_if (divides op && same_zero c y yh i) p) (earlier_place (first i) (second i))
+        λ i. earlier_place (place_if (divides op && (is_none (second i) && same_zero c y yh i)) p)
+        (earlier_place (first i) (second i))
     same_divisor c (conditional p k x y) h =
         let kh = lft (texts k) (texts x ++ texts y) h in
         let rest = rgt (texts k) (texts x ++ texts y) h in

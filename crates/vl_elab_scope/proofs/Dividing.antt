@@ -1,6 +1,6 @@
 -- Where no quotient and no remainder stands in an expression, no divisor in it is 0.
 use Rattle.std.specs.Prelude.{◌≡◌, refl, ℕ, List, [], ◌∷◌, Bool, true, false, ◌&&◌, ◌||◌, Option, Some, None}
-use Rattle.std.specs.Prelude.{if◌then◌else◌}
+use Rattle.std.specs.Prelude.{is_none, if◌then◌else◌}
 use Rattle.std.proofs.Common.{sym, ◌∙◌}
 use Rattle.fv_text.specs.declared.pos.Pos.{Pos}
 use Rattle.vl_tree.specs.declared.expr.Select.{Select}
@@ -94,7 +94,7 @@ module _ (f : List ℕ → Option Const) (ds : List Decl) where
         let second = undivided (right_context ds (way op) op c (settled f x) (settled f y)) y
         (or_right (has_division x) (has_division y) both) in
         λ i. earlier_place (place_if (or_left (divides op) (has_division x || has_division y) h i
-        && is_zero ds c (settled f y)) p) (earlier_place (first i) (second i))
+        && (is_none (second i) && is_zero ds c (settled f y))) p) (earlier_place (first i) (second i))
     undivided c (conditional p k x y) h =
         let both = or_right (has_division k) (has_division x || has_division y) h in
         let test = undivided (own_context ds (settled f k)) k

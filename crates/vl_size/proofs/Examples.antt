@@ -224,3 +224,19 @@ rest_in_nine = refl
 
 pub carry_by_itself : valid_size [] by_carry ≡ None
 carry_by_itself = refl
+
+-- `200 / (200 / (255 + 1))`, of which the inner division is refused: what it divides has no value, so it isn't by 0
+abbrev inside : Pos
+inside = record { file = 1; line = 1; col = 9 }
+
+abbrev by_refused : Expr
+by_refused =
+    binary here b.Divide (eight_bits 200 (lit< tt))
+    (paren here (binary inside b.Divide (eight_bits 200 (lit< tt)) (paren here carry)))
+
+pub refused_in_eight : zero_divisor [] (bits 8) by_refused ≡ Some inside
+refused_in_eight = refl
+
+-- where the inner one is none, its quotient 0 is a divisor
+pub refused_in_nine : zero_divisor [] (bits 9) by_refused ≡ Some here
+refused_in_nine = refl

@@ -1,6 +1,7 @@
 -- Meaning: Divisors that are 0. A divisor has the size and the sign of its context, which go down as those of a value
 -- do: in nine bits `8'd255 + 8'd1` isn't 0. IEEE 1364-2005, sections 5.1.5, 5.4 and 5.5; that a division by 0 is
--- refused, also in a branch that isn't taken, is a rule of this project.
+-- refused, also in a branch that isn't taken, and that what is refused has no value, so that of `1 / (1 / 0)` the inner
+-- division is refused alone, are rules of this project.
 use Rattle.std.specs.Prelude.{
   ℕ,
   ◌==◌,
@@ -13,6 +14,7 @@ use Rattle.std.specs.Prelude.{
   Option,
   Some,
   None,
+  is_none,
   if◌then◌else◌,
 }
 use Rattle.fv_text.specs.declared.pos.Pos.{Pos}
@@ -95,7 +97,8 @@ module _ (ds : List Decl) where
   is_zero c y = is_constant y && holds_of c.size
       (λ w. holds_of (size ds y) (λ n. value ds no_names w c.signed y == 0))
 
-  -- the earliest division by 0 in an expression, which has the size and the sign of a context
+  -- The earliest division by 0 in an expression, which has the size and the sign of a context. A divisor in which a
+  -- division is one has no value, and isn't 0.
   abbrev mutual
     pub zero_divisor : Context → Expr → Option Pos
     zero_divisor c (number p n) = None
@@ -103,9 +106,9 @@ module _ (ds : List Decl) where
     zero_divisor c (paren p x) = zero_divisor c x
     zero_divisor c (unary p op x) = zero_divisor (if keeps_size op then c else own_context x) x
     zero_divisor c (binary p op x y) =
-        earlier_place (place_if (divides op && is_zero c y) p)
-        (earlier_place (zero_divisor (left_context (way op) op c x y) x)
-        (zero_divisor (right_context (way op) op c x y) y))
+        let first = zero_divisor (left_context (way op) op c x y) x in
+        let second = zero_divisor (right_context (way op) op c x y) y in
+        earlier_place (place_if (divides op && (is_none second && is_zero c y)) p) (earlier_place first second)
     zero_divisor c (conditional p k x y) =
         earlier_place (zero_divisor (own_context k) k) (earlier_place (zero_divisor c x) (zero_divisor c y))
     zero_divisor c (concat p es) = parts_zero_divisor es

@@ -4,7 +4,6 @@ ghost use Rattle.vl_tree.specs.Expr.{exprs};
 ghost use Rattle.vl_tree.specs.ExprView.{selects};
 ghost use Rattle.vl_size.specs.Divisors as spec;
 ghost use Rattle.vl_size.specs.Size as size_spec;
-ghost use Rattle.vl_size.specs.Places as places;
 ghost use Rattle.vl_size.specs.Way.{way};
 
 use crate::constant::is_constant;
@@ -32,7 +31,7 @@ pub fn size_of(expr: &Expr, decls: &Decls) -> Option<u32>
 }
 
 /// The earliest division by 0 in an expression, which has the size and the sign of the context; at the division's
-/// first token. None where there is none.
+/// first token. None where there is none. A divisor in which a division is one has no value, and isn't 0.
 #[cycle(divisor)]
 #[tactic(auto, using(vl_tree::specs::ExprFalls::parts_fall))]
 pub fn zero_divisor(expr: &Expr, context: Context, decls: &Decls) -> Option<Pos>
@@ -51,9 +50,12 @@ pub fn zero_divisor(expr: &Expr, context: Context, decls: &Decls) -> Option<Pos>
             }
         }
         ExprKind::Binary(operator, left, right) => {
-            let inner = operands_zero_divisor(*operator, left, right, context, decls);
-            let is_zero = divides(*operator) && is_zero(right, context, decls);
-            earlier_place(place_if(is_zero, expr.pos), inner)
+            let first = left_context(*operator, left, right, context, decls);
+            let first = zero_divisor(left, first, decls);
+            let second = right_context(*operator, left, right, context, decls);
+            let second = zero_divisor(right, second, decls);
+            let is_zero = divides(*operator) && second.is_none() && is_zero(right, context, decls);
+            earlier_place(place_if(is_zero, expr.pos), earlier_place(first, second))
         }
         ExprKind::Conditional(condition, first, second) => {
             let first = zero_divisor(first, context, decls);
@@ -126,38 +128,53 @@ fn is_logical(operator: BinaryOperator) -> bool
     )
 }
 
-/// The earliest division by 0 in the operands of an operation that has the size and the sign of the context.
-#[cycle(divisor)]
-fn operands_zero_divisor(
+/// What the left operand of an operation has that has the size and the sign of the context.
+fn left_context(
     operator: BinaryOperator,
     left: &Expr,
     right: &Expr,
     context: Context,
     decls: &Decls,
-) -> Option<Pos>
+) -> Context
     requires { IfSome context.size (λ w. w ≤ 128) }
-    ensures { let l = spec.left_context decls.now (way operator) operator context left.now right.now in
-        let r = spec.right_context decls.now (way operator) operator context left.now right.now in
-        result ≡ places.earlier_place (spec.zero_divisor decls.now l left.now)
-        (spec.zero_divisor decls.now r right.now) }
+    ensures value { result
+        ≡ spec.left_context decls.now (way operator) operator context left.now right.now }
+    ensures few { IfSome result.size (λ w. w ≤ 128) }
 {
     match way_of(operator) {
-        Way::Larger => {
-            let left = zero_divisor(left, context, decls);
-            earlier_place(left, zero_divisor(right, context, decls))
-        }
-        Way::Left => {
-            let left = zero_divisor(left, context, decls);
-            earlier_place(left, own_zero_divisor(right, decls))
-        }
+        Way::Larger | Way::Left => context,
         Way::One => {
             if is_logical(operator) {
-                let left = own_zero_divisor(left, decls);
-                return earlier_place(left, own_zero_divisor(right, decls));
+                own_context(left, decls)
+            } else {
+                shared_context(left, right, decls)
             }
-            let context = shared_context(left, right, decls);
-            let left = zero_divisor(left, context, decls);
-            earlier_place(left, zero_divisor(right, context, decls))
+        }
+    }
+}
+
+/// What the right one has.
+fn right_context(
+    operator: BinaryOperator,
+    left: &Expr,
+    right: &Expr,
+    context: Context,
+    decls: &Decls,
+) -> Context
+    requires { IfSome context.size (λ w. w ≤ 128) }
+    ensures value { result
+        ≡ spec.right_context decls.now (way operator) operator context left.now right.now }
+    ensures few { IfSome result.size (λ w. w ≤ 128) }
+{
+    match way_of(operator) {
+        Way::Larger => context,
+        Way::Left => own_context(right, decls),
+        Way::One => {
+            if is_logical(operator) {
+                own_context(right, decls)
+            } else {
+                shared_context(left, right, decls)
+            }
         }
     }
 }

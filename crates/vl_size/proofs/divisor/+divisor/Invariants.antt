@@ -1,4 +1,4 @@
-use Rattle.std.proofs.Common.{◌≡◌, ◌≤◌, ◌*◌, ◌+◌, length, max}
+use Rattle.std.proofs.Common.{◌≡◌, ◌≤◌, ◌*◌, ◌+◌, length}
 use Rattle.std.specs.Prelude.{drop}
 use Rattle.vl_tree.specs.Expr.{exprs, depth, exprs_depth, selects_depth, whole}
 use Rattle.vl_tree.specs.ExprView.{selects, with_select}
@@ -10,9 +10,6 @@ decreases-zero_divisor l = 4 * depth l.expr.now
 
 abbrev pub decreases-own_zero_divisor : goal.decreases-own_zero_divisor
 decreases-own_zero_divisor l = 4 * depth l.expr.now + 1
-
-abbrev pub decreases-operands_zero_divisor : goal.decreases-operands_zero_divisor
-decreases-operands_zero_divisor l = 4 * max (depth l.left.now) (depth l.right.now) + 2
 
 abbrev pub decreases-parts_zero_divisor : goal.decreases-parts_zero_divisor
 decreases-parts_zero_divisor l = 4 * exprs_depth (exprs l.all.now) + 2
