@@ -24,6 +24,7 @@ use Rattle.vl_elab_decls.specs.declared.scopes.Inside.{Inside}
 use Rattle.vl_elab_decls.specs.Stands.{Stands}
 use Rattle.vl_elab_decls.proofs.TurnStands.{turn_stands}
 use Rattle.vl_elab_check_item.specs.TurnParts.{in_turn}
+use Rattle.vl_elab_check_scope.specs.Gives.{Gives}
 use Rattle.vl_elab_spec.proofs.Inner.{nothing_earlier}
 use Rattle.vl_elab_check.specs.declared.scopes.Here.{Here}
 use Rattle.vl_elab_check.specs.Standing.{HasScope, IsHere, IsWithin}
@@ -32,19 +33,19 @@ use Rattle.vl_elab_check.specs.Standing.{HasScope, IsHere, IsWithin}
 abbrev pub inside_with : Inside → List Names → List Names → Inside
 inside_with inside names numbers = record inside { names = names; numbers = numbers }
 
-pub same_inside : (inside : Inside) (names numbers : List Names) → names ≡ inside.names → numbers ≡ inside.numbers
-    → inside_with inside names numbers ≡ inside
-same_inside inside names numbers e f = λ i. record inside { names = e i; numbers = f i }
+pub same_inside : (inside new : Inside) → new.names ≡ inside.names → new.numbers ≡ inside.numbers
+    → new.clocks ≡ inside.clocks → new ≡ inside
+same_inside inside new e f g = λ i. record inside { names = e i; numbers = f i; clocks = g i }
 
 -- behind these
 abbrev pub here_with : Here → NameSet → Reached → Here
 here_with here earlier reached = record here { earlier = earlier; reached = reached }
 
 module _ (inside : Inside) (here : Here) (path : List (List ℕ)) (at : Place) where
-  pub goes_past : (xs : List (List ℕ)) (earlier : NameSet) (reached : Reached) → IsHere inside here path at
-      → AreNames earlier (at.earlier ++ xs) → IsReached reached at (at.earlier ++ xs)
-      → IsHere inside (here_with here earlier reached) path (with_earlier at xs)
-  goes_past xs earlier reached h e r = record {
+  pub goes_past : (xs : List (List ℕ)) (new : Here) → new.given ≡ here.given → IsHere inside here path at
+      → AreNames new.earlier (at.earlier ++ xs) → IsReached new.reached at (at.earlier ++ xs)
+      → IsHere inside new path (with_earlier at xs)
+  goes_past xs new same h e r = record {
     within = record { stands = h.within.stands; modules = h.within.modules };
     known = record {
       alike = h.known.alike;
@@ -52,7 +53,7 @@ module _ (inside : Inside) (here : Here) (path : List (List ℕ)) (at : Place) w
       shapes = h.known.shapes;
       before = e;
       parameters = r;
-      overrides = h.known.overrides;
+      overrides = subst (λ given. Gives given at) (sym same) h.known.overrides;
     };
   }
 

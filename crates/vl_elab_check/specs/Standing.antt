@@ -3,7 +3,8 @@
 use Rattle.std.specs.Prelude.{◌≡◌, ◌∷◌, ℕ, List, All, drop}
 use Rattle.vl_tree.specs.declared.source.Module.{Module}
 use Rattle.vl_tree.specs.WellFormed.{IsModule}
-use Rattle.vl_mean.specs.Walk.{Place}
+use Rattle.vl_mean.specs.Walk.{Place, Unfolding, module_walk}
+use Rattle.vl_elab_spec.specs.Items.{is_valued}
 use Rattle.vl_elab_spec.specs.Meanings.{meanings_at}
 use Rattle.vl_elab_spec.specs.Refused.{Totals}
 use Rattle.vl_elab_names.specs.Known.{contains}
@@ -13,7 +14,12 @@ use Rattle.vl_elab_decls.specs.Stands.{Stands}
 use Rattle.vl_elab_spec.specs.declared.totals.Totals as kept
 use Rattle.vl_elab_spec.specs.Walked.{AreTotals}
 use Rattle.vl_elab_check.specs.Here.{IsAt}
+use Rattle.vl_elab_check.specs.declared.progress.Source.{Source}
 use Rattle.vl_elab_check.specs.declared.scopes.Here.{Here}
+
+-- the steps of a module that an instance names, with modules in one another no deeper than they may be
+abbrev pub below : Source → Unfolding
+below source = module_walk is_valued source.fuel source.modules.now
 
 -- so much of well formed modules was walked
 pub record IsSoFar (ms : List Module) (walked : kept.Totals) (t : Totals) : Type 0 where

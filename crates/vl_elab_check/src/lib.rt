@@ -11,6 +11,7 @@ mod headers;
 mod items;
 mod passed;
 mod ports;
+mod progress;
 mod scopes;
 mod step;
 mod steps;

@@ -72,8 +72,6 @@ fn walk_full(
     alloc: Global,
     written: &Port,
     full: &FullPort,
-    text: &Text,
-    value: &Option<Expr>,
     names: &Names,
     earlier: &mut NameSet,
     reached: &mut Reached,
@@ -81,12 +79,16 @@ fn walk_full(
 ) -> Result<Option<ElabFault>, Memory>
     ensures walked { IfOk result (λ g. (ms : List Module) (at : Place) (u : Use) (t : refused.Totals)
         → Alike names.now (meanings_at at) → AreNames earlier.old at.earlier → AreTotals totals.old t
-        → AreWalked ms t totals.new (port at u written.now (renamed full.now text.now value.now) ∷ []) g) }
+        → AreWalked ms t totals.new (port at u written.now (renamed full.now (port_text written.now.kind)
+        (spec.port_value written.now.kind)) ∷ []) g) }
     ensures earlier { OnOk result ((before : List (List ℕ)) → AreNames earlier.old before
-        → AreNames earlier.new (before ++ text.now ∷ [])) }
+        → AreNames earlier.new (before ++ port_text written.now.kind ∷ [])) }
     ensures reached { OnOk result ((at : Place) (before : List (List ℕ)) → Alike names.now (meanings_at at)
-        → IsReached reached.old at before → IsReached reached.new at (before ++ text.now ∷ [])) }
+        → IsReached reached.old at before
+        → IsReached reached.new at (before ++ port_text written.now.kind ∷ [])) }
 {
+    let text = port_text(&written.kind);
+    let value = port_value(&written.kind);
     let fault = port_step_fault(alloc, written.pos, full, text, value, names, earlier)?;
     add_name(alloc, text, earlier)?;
     reached.pass(alloc, text, names)?;
@@ -121,13 +123,7 @@ fn walk_port(
 {
     match next_full(last, &port.kind) {
         None => Ok(None),
-        Some(full) => {
-            let text = port_text(&port.kind);
-            let value = port_value(&port.kind);
-            walk_full(
-                alloc, port, full, text, value, names, earlier, reached, totals,
-            )
-        }
+        Some(full) => walk_full(alloc, port, full, names, earlier, reached, totals),
     }
 }
 

@@ -1,64 +1,27 @@
 //! Steps of the walk that have no others within them.
-ghost use Rattle.std.specs.Prelude.{◌≡◌, ◌∷◌, ◌++◌, [], ℕ, List, None, IfOk, OnOk};
+ghost use Rattle.std.specs.Prelude.{◌≡◌, ◌++◌, ℕ, List, None, IfOk, OnOk};
 ghost use Rattle.vl_tree.specs.declared.source.Module.{Module as SpecModule};
 ghost use Rattle.vl_mean.specs.Declarations.{names_of};
-ghost use Rattle.vl_mean.specs.Walk.{Place, Use, item, module_place, with_earlier};
+ghost use Rattle.vl_mean.specs.Walk.{Place, Use, module_place, with_earlier};
 ghost use Rattle.vl_elab_spec.specs.Items.{inner_meanings};
 ghost use Rattle.vl_elab_spec.specs.Meanings.{item_names};
 ghost use Rattle.vl_elab_spec.specs.Refused as refused;
 ghost use Rattle.vl_elab_scope.specs.Alike.{Alike};
-ghost use Rattle.vl_elab_names.specs.Table.{AreModules};
 ghost use Rattle.vl_elab_spec.specs.Walked.{AreTotals, AreWalked};
 ghost use Rattle.vl_elab_spec.specs.Within.{behind_head, front_steps, head_steps};
-ghost use Rattle.vl_elab_check.specs.Standing.{HasScope, IsHere, IsWithin};
+ghost use Rattle.vl_elab_check.specs.Standing.{IsHere, IsWithin};
 
 use crate::connections::{walk_connections, walk_overrides};
 use crate::headers::walk_headers;
-use crate::items::walk_item;
 use crate::passed::pass_item;
 use crate::ports::walk_ports;
+use crate::progress::Walk;
 use crate::scopes::{Here, Used, connections_of, header_of, ports_of};
 use fv_text::Memory;
 use std::alloc::Global;
 use vl_elab_decls::Inside;
-use vl_elab_names::{ModulePath, ModuleTable};
-use vl_elab_spec::{ElabFault, Totals};
+use vl_elab_spec::ElabFault;
 use vl_tree::{Instance, Item, Module};
-
-/// An item by itself. The nets, variables, genvars and parameters that it declares stand before what follows then.
-pub(crate) fn own_step(
-    alloc: Global,
-    table: &ModuleTable,
-    modules: &[Module],
-    path: &ModulePath,
-    inside: &mut Inside,
-    here: &mut Here,
-    part: &Item,
-    totals: &mut Totals,
-) -> Result<Option<ElabFault>, Memory>
-    requires table { AreModules table.now modules.now }
-    requires scope { HasScope inside.old }
-    ensures inside { OnOk result (inside.new ≡ inside.old) }
-    ensures here { OnOk result ((at : Place) → IsHere inside.old here.old path.now at
-        → IsHere inside.new here.new path.now (with_earlier at (item_names part.now))) }
-    ensures walked { IfOk result (λ g. (at : Place) (t : refused.Totals)
-        → IsHere inside.old here.old path.now at → AreTotals totals.old t
-        → AreWalked modules.now t totals.new (item at part.now ∷ []) g) }
-{
-    Ok(walk_item(
-        alloc,
-        table,
-        modules,
-        path,
-        part,
-        &mut inside.names,
-        &mut inside.numbers,
-        &mut here.earlier,
-        &mut here.reached,
-        &here.given,
-        totals,
-    )?)
-}
 
 /// Goes past an item: its labels, and the name of an instance, stand before what follows too.
 pub(crate) fn pass(
@@ -83,16 +46,16 @@ pub(crate) fn pass(
 
 /// The head of a module.
 pub(crate) fn head(
-    alloc: Global,
+    walk: &mut Walk,
     module: &Module,
     used: &mut Used,
-    totals: &mut Totals,
 ) -> Result<Option<ElabFault>, Memory>
+    ensures path { OnOk result (walk.new.path ≡ walk.old.path) }
     ensures walked { IfOk result (λ g. (ms : List SpecModule) (t : refused.Totals) (u : Use) (text : List ℕ)
         (modules path : List (List ℕ))
-        → AreTotals totals.old t
+        → AreTotals walk.old.totals t
         → IsHere used.old.inside used.old.here path (module_place module.now u text modules)
-        → AreWalked ms t totals.new (head_steps (module_place module.now u text modules) module.now u) g) }
+        → AreWalked ms t walk.new.totals (head_steps (module_place module.now u text modules) module.now u) g) }
     ensures numbers { OnOk result (used.new.inside.numbers ≡ used.old.inside.numbers) }
     ensures here { IfOk result (λ g. g ≡ None → (u : Use) (text : List ℕ) (modules path : List (List ℕ))
         → IsHere used.old.inside used.old.here path (module_place module.now u text modules)
@@ -101,77 +64,73 @@ pub(crate) fn head(
 {
     let parameters = header_of(&module.parameters);
     let fault = walk_headers(
-        alloc,
+        walk.alloc,
         parameters,
         &mut used.inside.names,
         &mut used.here.earlier,
         &mut used.here.reached,
         &used.here.given,
-        totals,
+        &mut walk.totals,
     )?;
     if fault.is_some() {
         return Ok(fault);
     }
     Ok(walk_ports(
-        alloc,
+        walk.alloc,
         ports_of(&module.ports),
         &used.inside.names,
         &mut used.here.earlier,
         &mut used.here.reached,
-        totals,
+        &mut walk.totals,
     )?)
 }
 
 /// What an instance gives to its module and joins to it.
 fn front(
-    alloc: Global,
+    walk: &mut Walk,
     module: &Module,
     instance: &Instance,
     inside: &Inside,
     used: &Used,
-    totals: &mut Totals,
 ) -> Result<Option<ElabFault>, Memory>
-    ensures { IfOk result (λ g. (ms : List SpecModule) (t : refused.Totals) (at : Place) (u : Use) (text : List ℕ)
-        (modules : List (List ℕ)) → AreTotals totals.old t → IsWithin inside.now modules at
+    ensures path { OnOk result (walk.new.path ≡ walk.old.path) }
+    ensures walked { IfOk result (λ g. (ms : List SpecModule) (t : refused.Totals) (at : Place) (u : Use)
+        (text : List ℕ) (modules : List (List ℕ)) → AreTotals walk.old.totals t → IsWithin inside.now modules at
         → Alike used.now.inside.names (inner_meanings module.now u)
-        → AreWalked ms t totals.new (front_steps at module.now u text instance.now) g) }
+        → AreWalked ms t walk.new.totals (front_steps at module.now u text instance.now) g) }
 {
     let fault = walk_overrides(
-        alloc,
+        walk,
         connections_of(&instance.overrides),
         module,
         &inside.names,
         &used.inside.names,
-        totals,
     )?;
     if fault.is_some() {
         return Ok(fault);
     }
     Ok(walk_connections(
-        alloc,
+        walk,
         instance.connections.as_slice(),
         module,
-        &inside.names,
-        &inside.numbers,
-        &inside.clocks,
+        inside,
         &used.inside.names,
-        totals,
     )?)
 }
 
 /// An instance up to the items of its module, which is entered.
 pub(crate) fn open(
-    alloc: Global,
+    walk: &mut Walk,
     module: &Module,
     instance: &Instance,
     inside: &Inside,
     used: &mut Used,
-    totals: &mut Totals,
 ) -> Result<Option<ElabFault>, Memory>
+    ensures path { OnOk result (walk.new.path ≡ walk.old.path) }
     ensures walked { IfOk result (λ g. (ms : List SpecModule) (t : refused.Totals) (at : Place) (u : Use)
-        (text : List ℕ) (modules path : List (List ℕ)) → AreTotals totals.old t → IsWithin inside.now modules at
+        (text : List ℕ) (modules path : List (List ℕ)) → AreTotals walk.old.totals t → IsWithin inside.now modules at
         → ((other : List ℕ) → IsHere used.old.inside used.old.here path (module_place module.now u other modules))
-        → AreWalked ms t totals.new (front_steps at module.now u text instance.now
+        → AreWalked ms t walk.new.totals (front_steps at module.now u text instance.now
         ++ head_steps (module_place module.now u text modules) module.now u) g) }
     ensures numbers { OnOk result (used.new.inside.numbers ≡ used.old.inside.numbers) }
     ensures here { IfOk result (λ g. g ≡ None → (u : Use) (text : List ℕ) (modules path : List (List ℕ))
@@ -179,9 +138,9 @@ pub(crate) fn open(
         → IsHere used.new.inside used.new.here path
         (behind_head (module_place module.now u text modules) module.now)) }
 {
-    let fault = front(alloc, module, instance, inside, used, totals)?;
+    let fault = front(walk, module, instance, inside, used)?;
     if fault.is_some() {
         return Ok(fault);
     }
-    Ok(head(alloc, module, used, totals)?)
+    Ok(head(walk, module, used)?)
 }

@@ -7,6 +7,7 @@ ghost use Rattle.vl_elab_spec.specs.Refused.{first_refused, or_later, state_bits
 ghost use Rattle.vl_elab_names.specs.Table.{AreModules};
 ghost use Rattle.vl_elab_check.specs.Judged as spec;
 
+use crate::progress::{Source, Walk};
 use crate::scopes::enter_top;
 use crate::steps::head;
 use crate::walk::walk_items;
@@ -31,21 +32,27 @@ fn walk_top(
     let mut path = ModulePath::new(alloc);
     path.push(module.name.copied(alloc)?)?;
     let mut used = enter_top(alloc, module)?;
-    let mut totals = Totals::new();
-    let fault = head(alloc, module, &mut used, &mut totals)?;
+    let totals = Totals::new();
+    let mut walk = Walk {
+        alloc,
+        path,
+        totals,
+    };
+    let fault = head(&mut walk, module, &mut used)?;
     if fault.is_some() {
         return Ok(fault);
     }
-    Ok(walk_items(
-        alloc,
+    let source = Source {
         table,
         modules,
-        modules.len().saturating_sub(1),
-        &mut path,
+        fuel: modules.len().saturating_sub(1),
+    };
+    Ok(walk_items(
+        &source,
+        &mut walk,
         &mut used.inside,
         &mut used.here,
         module.items.as_slice(),
-        &mut totals,
     )?)
 }
 

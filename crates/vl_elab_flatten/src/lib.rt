@@ -18,6 +18,7 @@ mod inputs;
 mod instances;
 mod modules;
 mod paths;
+mod source;
 mod top;
 mod turns;
 mod walk;

@@ -10,6 +10,7 @@ ghost use Rattle.vl_elab_emit.specs.Behind.{MayStandBehind, StandBehind, placed_
 ghost use Rattle.vl_elab_flatten.specs.Ready.{IsReady, Writes, design_seen};
 
 use crate::modules::open_module;
+use crate::source::Source;
 use crate::walk::write_opened;
 use fv_text::{Memory, Text};
 use std::alloc::Global;
@@ -37,7 +38,13 @@ fn write_top(
     let nothing = Given::new(alloc);
     let opened = open_module(alloc, module, &Inputs::Top, &nothing, Path::top(alloc))?;
     let depth = modules.len().saturating_sub(1);
-    write_opened(alloc, table, modules, depth, module, opened, draft)
+    let source = Source {
+        alloc,
+        table,
+        modules,
+        depth,
+    };
+    write_opened(&source, module, opened, draft)
 }
 
 /// Writes the parts of the design of these modules with this top module behind what stands, each in order (IEEE

@@ -17,45 +17,41 @@ use crate::here::{Here, leave_block, leave_turn, open_block, open_turn};
 use crate::instances::{open_instance, write_joined};
 use crate::modules::{Opened, written_ports};
 use crate::paths::turn_path;
+use crate::source::Source;
 use crate::turns::{first_value, next_value};
 use fv_text::{Memory, Text};
-use std::alloc::Global;
 use vl_elab_const::is_true_in;
 use vl_elab_draft::{Draft, Path};
 use vl_elab_emit::write_item;
-use vl_elab_names::ModuleTable;
 use vl_elab_scope::blocks::{chosen, items_of, nested};
 use vl_mean::Const;
 use vl_size::Decl;
 use vl_tree::{Block, Expr, Instance, Item, ItemKind, LoopHead, Module};
 
-/// Writes the items of a scope, in order. `decls`: what they declare in order; `depth`: how deep instances may stand in
-/// one another.
+/// Writes the items of a scope, in order. `decls`: what they declare in order.
 #[cycle(walk)]
 pub(crate) fn write_items(
-    alloc: Global,
-    table: &ModuleTable,
-    modules: &[Module],
-    depth: usize,
+    source: &Source<'_>,
     all: &[Item],
     decls: &[Decl],
     here: &mut Here,
     draft: &mut Draft,
 ) -> Result<(), Memory>
-    requires table { AreModules table.now modules.now }
+    requires table { AreModules source.now.table.now source.now.modules.now }
     requires numbers { HaveNumbers here.old.numbers here.old.scopes }
     requires declared { decls.now ≡ declarations.declared (around_of here.old.scopes) (tree.items all.now) }
     requires ready { IsReady draft.old
-        (spec.items_seen modules.now depth (tree.items all.now) (place_of here.old) 1) }
+        (spec.items_seen source.now.modules.now source.now.depth (tree.items all.now) (place_of here.old) 1) }
     ensures written { OnOk result (Writes draft.old
-        (spec.items_seen modules.now depth (tree.items all.now) (place_of here.old) 1) draft.new) }
+        (spec.items_seen source.now.modules.now source.now.depth (tree.items all.now) (place_of here.old) 1)
+        draft.new) }
     ensures here { OnOk result (here.new ≡ here.old) }
 {
     let mut rest = decls;
     let mut number = 1u64;
     for part in all {
         let (own, behind) = split_declared(part, rest);
-        write_one(alloc, table, modules, depth, part, own, number, here, draft)?;
+        write_one(source, part, own, number, here, draft)?;
         rest = behind;
         number += constructs(part);
     }
@@ -65,56 +61,52 @@ pub(crate) fn write_items(
 /// Writes an item, and what is in it. `number`: that of the next generate construct of the scope.
 #[cycle(walk)]
 fn write_one(
-    alloc: Global,
-    table: &ModuleTable,
-    modules: &[Module],
-    depth: usize,
+    source: &Source<'_>,
     part: &Item,
     decls: &[Decl],
     number: u64,
     here: &mut Here,
     draft: &mut Draft,
 ) -> Result<(), Memory>
-    requires table { AreModules table.now modules.now }
+    requires table { AreModules source.now.table.now source.now.modules.now }
     requires numbers { HaveNumbers here.old.numbers here.old.scopes }
     requires declared { decls.now ≡ declarations.declared_by (around_of here.old.scopes) part.now }
-    requires ready { IsReady draft.old (spec.item_seen modules.now depth part.now (place_of here.old) number) }
+    requires ready { IsReady draft.old
+        (spec.item_seen source.now.modules.now source.now.depth part.now (place_of here.old) number) }
     ensures written { OnOk result (Writes draft.old
-        (spec.item_seen modules.now depth part.now (place_of here.old) number) draft.new) }
+        (spec.item_seen source.now.modules.now source.now.depth part.now (place_of here.old) number) draft.new) }
     ensures here { OnOk result (here.new ≡ here.old) }
 {
-    write_item(alloc, &here.path, decls, part, &here.scopes, draft)?;
-    write_within(alloc, table, modules, depth, part, number, here, draft)
+    write_item(source.alloc, &here.path, decls, part, &here.scopes, draft)?;
+    write_within(source, part, number, here, draft)
 }
 
 /// Writes what is in an item.
 #[cycle(walk)]
 fn write_within(
-    alloc: Global,
-    table: &ModuleTable,
-    modules: &[Module],
-    depth: usize,
+    source: &Source<'_>,
     part: &Item,
     number: u64,
     here: &mut Here,
     draft: &mut Draft,
 ) -> Result<(), Memory>
-    requires table { AreModules table.now modules.now }
+    requires table { AreModules source.now.table.now source.now.modules.now }
     requires numbers { HaveNumbers here.old.numbers here.old.scopes }
-    requires ready { IsReady draft.old (spec.inner_seen modules.now depth part.now (place_of here.old) number) }
+    requires ready { IsReady draft.old
+        (spec.inner_seen source.now.modules.now source.now.depth part.now (place_of here.old) number) }
     ensures written { OnOk result (Writes draft.old
-        (spec.inner_seen modules.now depth part.now (place_of here.old) number) draft.new) }
+        (spec.inner_seen source.now.modules.now source.now.depth part.now (place_of here.old) number) draft.new) }
     ensures here { OnOk result (here.new ≡ here.old) }
 {
     match &part.kind {
         ItemKind::Instance(instance) => Ok(write_instance(
-            alloc, table, modules, depth, instance, here, draft,
+            source, instance, here, draft,
         )?),
         ItemKind::For(head, block) => Ok(write_turns(
-            alloc, table, modules, depth, head, block, number, here, draft,
+            source, head, block, number, here, draft,
         )?),
         ItemKind::If(condition, first, second) => Ok(write_if(
-            alloc, table, modules, depth, condition, first, second, number, here, draft,
+            source, condition, first, second, number, here, draft,
         )?),
         ItemKind::Declaration(_) | ItemKind::Integer(_) | ItemKind::Genvar(_) => Ok(()),
         ItemKind::Parameter(_, _) | ItemKind::Assign(_) | ItemKind::Always(_, _) => Ok(()),
@@ -125,10 +117,7 @@ fn write_within(
 /// Writes the chosen block of an `if`.
 #[cycle(walk)]
 fn write_if(
-    alloc: Global,
-    table: &ModuleTable,
-    modules: &[Module],
-    depth: usize,
+    source: &Source<'_>,
     condition: &Expr,
     first: &Block,
     second: &Option<Block>,
@@ -136,48 +125,46 @@ fn write_if(
     here: &mut Here,
     draft: &mut Draft,
 ) -> Result<(), Memory>
-    requires table { AreModules table.now modules.now }
+    requires table { AreModules source.now.table.now source.now.modules.now }
     requires numbers { HaveNumbers here.old.numbers here.old.scopes }
-    requires ready { IsReady draft.old (spec.inner_seen modules.now depth
+    requires ready { IsReady draft.old (spec.inner_seen source.now.modules.now source.now.depth
         (shown [] nowhere (kind.If condition.now first.now second.now)) (place_of here.old) number) }
-    ensures written { OnOk result (Writes draft.old (spec.inner_seen modules.now depth
+    ensures written { OnOk result (Writes draft.old (spec.inner_seen source.now.modules.now source.now.depth
         (shown [] nowhere (kind.If condition.now first.now second.now)) (place_of here.old) number) draft.new) }
     ensures here { OnOk result (here.new ≡ here.old) }
 {
-    let holds = is_true_in(alloc, condition, &here.numbers)?;
+    let holds = is_true_in(source.alloc, condition, &here.numbers)?;
     match chosen(holds, first, second) {
         None => Ok(()),
-        Some(block) => Ok(write_block(alloc, table, modules, depth, block, number, here, draft)?),
+        Some(block) => Ok(write_block(source, block, number, here, draft)?),
     }
 }
 
 /// Writes a block of an `if`. An `if` alone in it makes no scope (IEEE 1364-2005, section 12.4.2).
 #[cycle(walk)]
 fn write_block(
-    alloc: Global,
-    table: &ModuleTable,
-    modules: &[Module],
-    depth: usize,
+    source: &Source<'_>,
     block: &Block,
     number: u64,
     here: &mut Here,
     draft: &mut Draft,
 ) -> Result<(), Memory>
-    requires table { AreModules table.now modules.now }
+    requires table { AreModules source.now.table.now source.now.modules.now }
     requires numbers { HaveNumbers here.old.numbers here.old.scopes }
     requires ready { IsReady draft.old
-        (spec.block_seen modules.now depth (block_of block.now) (place_of here.old) number) }
+        (spec.block_seen source.now.modules.now source.now.depth (block_of block.now) (place_of here.old) number) }
     ensures written { OnOk result (Writes draft.old
-        (spec.block_seen modules.now depth (block_of block.now) (place_of here.old) number) draft.new) }
+        (spec.block_seen source.now.modules.now source.now.depth (block_of block.now) (place_of here.old) number)
+        draft.new) }
     ensures here { OnOk result (here.new ≡ here.old) }
 {
     match nested(block) {
         None => {
-            let path = path_of(alloc, block, number, here)?;
+            let path = path_of(source.alloc, block, number, here)?;
             let all = items_of(block);
-            Ok(write_scope(alloc, table, modules, depth, all, path, here, draft)?)
+            Ok(write_scope(source, all, path, here, draft)?)
         }
-        Some(part) => Ok(write_one(alloc, table, modules, depth, part, &[], number, here, draft)?),
+        Some(part) => Ok(write_one(source, part, &[], number, here, draft)?),
     }
 }
 
@@ -185,33 +172,32 @@ fn write_block(
 /// rule of this project).
 #[cycle(walk)]
 fn write_turns(
-    alloc: Global,
-    table: &ModuleTable,
-    modules: &[Module],
-    depth: usize,
+    source: &Source<'_>,
     head: &LoopHead,
     block: &Block,
     number: u64,
     here: &mut Here,
     draft: &mut Draft,
 ) -> Result<(), Memory>
-    requires table { AreModules table.now modules.now }
+    requires table { AreModules source.now.table.now source.now.modules.now }
     requires numbers { HaveNumbers here.old.numbers here.old.scopes }
     requires ready { IsReady draft.old
-        (spec.turns_seen modules.now depth head.now (block_of block.now) (place_of here.old) number) }
+        (spec.turns_seen source.now.modules.now source.now.depth head.now (block_of block.now) (place_of here.old)
+        number) }
     ensures written { OnOk result (Writes draft.old
-        (spec.turns_seen modules.now depth head.now (block_of block.now) (place_of here.old) number) draft.new) }
+        (spec.turns_seen source.now.modules.now source.now.depth head.now (block_of block.now) (place_of here.old)
+        number) draft.new) }
     ensures here { OnOk result (here.new ≡ here.old) }
 {
-    let label = name_of(alloc, block, number, here)?;
-    let mut value = first_value(alloc, head, &here.numbers)?;
+    let label = name_of(source.alloc, block, number, here)?;
+    let mut value = first_value(source.alloc, head, &here.numbers)?;
     let mut left = 4096u32;
     while left > 0 {
-        let Some(next) = next_value(alloc, head, value, &mut here.numbers)? else {
+        let Some(next) = next_value(source.alloc, head, value, &mut here.numbers)? else {
             return Ok(());
         };
         write_turn(
-            alloc, table, modules, depth, head, block, &label, value, here, draft,
+            source, head, block, &label, value, here, draft,
         )?;
         value = next;
         left -= 1;
@@ -222,10 +208,7 @@ fn write_turns(
 /// Writes one turn.
 #[cycle(walk)]
 fn write_turn(
-    alloc: Global,
-    table: &ModuleTable,
-    modules: &[Module],
-    depth: usize,
+    source: &Source<'_>,
     head: &LoopHead,
     block: &Block,
     label: &Text,
@@ -233,20 +216,21 @@ fn write_turn(
     here: &mut Here,
     draft: &mut Draft,
 ) -> Result<(), Memory>
-    requires table { AreModules table.now modules.now }
+    requires table { AreModules source.now.table.now source.now.modules.now }
     requires numbers { HaveNumbers here.old.numbers here.old.scopes }
     requires bounded { IsTurn value }
     requires ready { IsReady draft.old
-        (spec.turn_seen modules.now depth head.now (block_of block.now) (place_of here.old) label.now value) }
+        (spec.turn_seen source.now.modules.now source.now.depth head.now (block_of block.now) (place_of here.old)
+        label.now value) }
     ensures written { OnOk result (Writes draft.old
-        (spec.turn_seen modules.now depth head.now (block_of block.now) (place_of here.old) label.now value)
-        draft.new) }
+        (spec.turn_seen source.now.modules.now source.now.depth head.now (block_of block.now) (place_of here.old)
+        label.now value) draft.new) }
     ensures here { OnOk result (here.new ≡ here.old) }
 {
-    open_turn(alloc, &head.variable, value, here)?;
-    let path = turn_path(alloc, &here.path, label, value)?;
+    open_turn(source.alloc, &head.variable, value, here)?;
+    let path = turn_path(source.alloc, &here.path, label, value)?;
     let all = items_of(block);
-    write_scope(alloc, table, modules, depth, all, path, here, draft)?;
+    write_scope(source, all, path, here, draft)?;
     leave_turn(here);
     Ok(())
 }
@@ -254,29 +238,24 @@ fn write_turn(
 /// Writes the items of a block that makes a scope under this path.
 #[cycle(walk)]
 fn write_scope(
-    alloc: Global,
-    table: &ModuleTable,
-    modules: &[Module],
-    depth: usize,
+    source: &Source<'_>,
     all: &[Item],
     path: Path,
     here: &mut Here,
     draft: &mut Draft,
 ) -> Result<(), Memory>
-    requires table { AreModules table.now modules.now }
+    requires table { AreModules source.now.table.now source.now.modules.now }
     requires numbers { HaveNumbers here.old.numbers here.old.scopes }
     requires ready { IsReady draft.old
-        (spec.scope_seen modules.now depth (tree.items all.now) (place_of here.old) path) }
+        (spec.scope_seen source.now.modules.now source.now.depth (tree.items all.now) (place_of here.old) path) }
     ensures written { OnOk result (Writes draft.old
-        (spec.scope_seen modules.now depth (tree.items all.now) (place_of here.old) path) draft.new) }
+        (spec.scope_seen source.now.modules.now source.now.depth (tree.items all.now) (place_of here.old) path)
+        draft.new) }
     ensures here { OnOk result (here.new ≡ here.old) }
 {
-    let opened = open_block(alloc, all, path, here)?;
+    let opened = open_block(source.alloc, all, path, here)?;
     write_items(
-        alloc,
-        table,
-        modules,
-        depth,
+        source,
         all,
         opened.1.as_slice(),
         here,
@@ -290,60 +269,62 @@ fn write_scope(
 /// 12.1.2).
 #[cycle(walk)]
 fn write_instance(
-    alloc: Global,
-    table: &ModuleTable,
-    modules: &[Module],
-    depth: usize,
+    source: &Source<'_>,
     instance: &Instance,
     here: &Here,
     draft: &mut Draft,
 ) -> Result<(), Memory>
-    requires table { AreModules table.now modules.now }
+    requires table { AreModules source.now.table.now source.now.modules.now }
     requires numbers { HaveNumbers here.now.numbers here.now.scopes }
     requires ready { IsReady draft.old
-        (spec.instance_seen modules.now depth instance.now (place_of here.now)) }
+        (spec.instance_seen source.now.modules.now source.now.depth instance.now (place_of here.now)) }
     ensures { OnOk result (Writes draft.old
-        (spec.instance_seen modules.now depth instance.now (place_of here.now)) draft.new) }
+        (spec.instance_seen source.now.modules.now source.now.depth instance.now (place_of here.now)) draft.new) }
 {
-    let Some(module) = table.find(modules, &instance.definition) else {
+    let Some(module) = source.table.find(source.modules, &instance.definition) else {
         return Ok(());
     };
-    if depth == 0 {
+    if source.depth == 0 {
         return Ok(());
     }
-    let opened = open_instance(alloc, module, instance, here)?;
+    let opened = open_instance(source.alloc, module, instance, here)?;
     write_joined(
-        alloc,
+        source.alloc,
         module,
         instance,
         &here.scopes,
         &opened.here.scopes,
         draft,
     )?;
-    write_opened(alloc, table, modules, depth - 1, module, opened, draft)
+    let inner = Source {
+        alloc: source.alloc,
+        table: source.table,
+        modules: source.modules,
+        depth: source.depth - 1,
+    };
+    write_opened(&inner, module, opened, draft)
 }
 
 /// Writes the ports and the items of a module that is opened so.
 #[cycle(walk)]
 pub(crate) fn write_opened(
-    alloc: Global,
-    table: &ModuleTable,
-    modules: &[Module],
-    depth: usize,
+    source: &Source<'_>,
     module: &Module,
     opened: Opened,
     draft: &mut Draft,
 ) -> Result<(), Memory>
-    requires table { AreModules table.now modules.now }
+    requires table { AreModules source.now.table.now source.now.modules.now }
     requires numbers { HaveNumbers opened.here.numbers opened.here.scopes }
     requires declared { opened.decls
         ≡ declarations.declared (around_of opened.here.scopes) (tree.items module.now.items) }
-    requires ready { IsReady draft.old (spec.opened_seen modules.now depth module.now opened) }
-    ensures { OnOk result (Writes draft.old (spec.opened_seen modules.now depth module.now opened) draft.new) }
+    requires ready { IsReady draft.old
+        (spec.opened_seen source.now.modules.now source.now.depth module.now opened) }
+    ensures { OnOk result (Writes draft.old
+        (spec.opened_seen source.now.modules.now source.now.depth module.now opened) draft.new) }
 {
     let mut used = opened;
     write_ports(
-        alloc,
+        source.alloc,
         written_ports(&module.ports),
         &used.here.path,
         used.ports.as_slice(),
@@ -351,10 +332,7 @@ pub(crate) fn write_opened(
         draft,
     )?;
     write_items(
-        alloc,
-        table,
-        modules,
-        depth,
+        source,
         module.items.as_slice(),
         used.decls.as_slice(),
         &mut used.here,

@@ -28,7 +28,7 @@ returns-in-Declaration-clause-fault c =
     let same = sym c.item.view_is ∙ ap (shown attrs p) c.in-Declaration.is
     ∙ ap (λ list. declaration list p c.in-Declaration.declaration) (sym c.as_slice-attributes.ensures) in
     IfOk-weaker c.declaration_fault.result _ _ (λ g h at here path.
-    refused_as x y same c.args.all.now at g
+    refused_as x y same c.args.source.now.modules.now at g
     (h (meanings_at at) at.earlier here.alike here.before)) c.declaration_fault.ensures.fault
 
 pub returns-in-Declaration-clause-earlier : goal.returns-in-Declaration-clause-earlier
@@ -51,7 +51,7 @@ returns-in-Declaration-clause-reached c =
     let same = sym c.item.view_is ∙ ap (shown attrs p) c.in-Declaration.is
     ∙ ap (λ list. declaration list p c.in-Declaration.declaration) (sym c.as_slice-attributes.ensures) in
     on_ok_always c.declaration_fault.result _ (λ at before alike reached.
-    reached_as x y same c.args.reached.now at before (none_reached c.args.reached.now at before reached))
+    reached_as x y same c.args.here.now.reached at before (none_reached c.args.here.now.reached at before reached))
 
 pub returns-in-Integer-clause-fault : goal.returns-in-Integer-clause-fault
 returns-in-Integer-clause-fault c =
@@ -62,7 +62,7 @@ returns-in-Integer-clause-fault c =
     let same = sym c.item.view_is ∙ ap (shown attrs p) c.in-Integer.is
     ∙ (λ i. integer (sym c.as_slice-attributes-in-Integer.ensures i) p (sym c.as_slice.ensures i)) in
     IfOk-weaker c.integer_fault.result _ _ (λ g h at here path.
-    refused_as x y same c.args.all.now at g
+    refused_as x y same c.args.source.now.modules.now at g
     (h (meanings_at at) at.earlier here.alike here.before)) c.integer_fault.ensures.fault
 
 pub returns-in-Integer-clause-earlier : goal.returns-in-Integer-clause-earlier
@@ -85,7 +85,7 @@ returns-in-Integer-clause-reached c =
     let same = sym c.item.view_is ∙ ap (shown attrs p) c.in-Integer.is
     ∙ (λ i. integer (sym c.as_slice-attributes-in-Integer.ensures i) p (sym c.as_slice.ensures i)) in
     on_ok_always c.integer_fault.result _ (λ at before alike reached.
-    reached_as x y same c.args.reached.now at before (none_reached c.args.reached.now at before reached))
+    reached_as x y same c.args.here.now.reached at before (none_reached c.args.here.now.reached at before reached))
 
 pub returns-in-Genvar-clause-fault : goal.returns-in-Genvar-clause-fault
 returns-in-Genvar-clause-fault c =
@@ -96,7 +96,7 @@ returns-in-Genvar-clause-fault c =
     let same = sym c.item.view_is ∙ ap (shown attrs p) c.in-Genvar.is
     ∙ ap (genvar attrs p) (sym c.as_slice-in-Genvar.ensures) in
     IfOk-weaker c.genvar_names_fault.result _ _ (λ g h at here path.
-    refused_as x y same c.args.all.now at g
+    refused_as x y same c.args.source.now.modules.now at g
     (h at.earlier here.before)) c.genvar_names_fault.ensures.fault
 
 pub returns-in-Genvar-clause-earlier : goal.returns-in-Genvar-clause-earlier
@@ -119,7 +119,7 @@ returns-in-Genvar-clause-reached c =
     let same = sym c.item.view_is ∙ ap (shown attrs p) c.in-Genvar.is
     ∙ ap (genvar attrs p) (sym c.as_slice-in-Genvar.ensures) in
     on_ok_always c.genvar_names_fault.result _ (λ at before alike reached.
-    reached_as x y same c.args.reached.now at before (none_reached c.args.reached.now at before reached))
+    reached_as x y same c.args.here.now.reached at before (none_reached c.args.here.now.reached at before reached))
 
 pub returns-in-Parameter-clause-fault : goal.returns-in-Parameter-clause-fault
 returns-in-Parameter-clause-fault c =
@@ -130,7 +130,7 @@ returns-in-Parameter-clause-fault c =
     let same = sym c.item.view_is ∙ ap (shown attrs p) c.in-Parameter.is
     ∙ ap (parameter attrs p c.in-Parameter.kind) (sym c.as_slice-in-Parameter.ensures) in
     IfOk-weaker c.parameters_fault.result _ _ (λ g h at here path.
-    refused_as x y same c.args.all.now at g
+    refused_as x y same c.args.source.now.modules.now at g
     (h at at.earlier here.alike here.before here.parameters here.overrides)) c.parameters_fault.ensures.fault
 
 pub returns-in-Parameter-clause-earlier : goal.returns-in-Parameter-clause-earlier
@@ -165,7 +165,7 @@ returns-in-Assign-clause-fault c =
     let same = sym c.item.view_is ∙ ap (shown attrs p) c.in-Assign.is
     ∙ ap (assign attrs p) (sym c.as_slice-in-Assign.ensures) in
     IfOk-weaker c.assign_fault.result _ _ (λ g h at here path.
-    refused_as x y same c.args.all.now at g
+    refused_as x y same c.args.source.now.modules.now at g
     (h (meanings_at at) here.alike)) c.assign_fault.ensures
 
 pub returns-in-Assign-clause-earlier : goal.returns-in-Assign-clause-earlier
@@ -177,7 +177,7 @@ returns-in-Assign-clause-earlier c =
     let same = sym c.item.view_is ∙ ap (shown attrs p) c.in-Assign.is
     ∙ ap (assign attrs p) (sym c.as_slice-in-Assign.ensures) in
     on_ok_always c.assign_fault.result _ (λ before names.
-    named_as x y same c.args.earlier.now before (no_names c.args.earlier.now before names))
+    named_as x y same c.args.here.now.earlier before (no_names c.args.here.now.earlier before names))
 
 pub returns-in-Assign-clause-reached : goal.returns-in-Assign-clause-reached
 returns-in-Assign-clause-reached c =
@@ -188,7 +188,7 @@ returns-in-Assign-clause-reached c =
     let same = sym c.item.view_is ∙ ap (shown attrs p) c.in-Assign.is
     ∙ ap (assign attrs p) (sym c.as_slice-in-Assign.ensures) in
     on_ok_always c.assign_fault.result _ (λ at before alike reached.
-    reached_as x y same c.args.reached.now at before (none_reached c.args.reached.now at before reached))
+    reached_as x y same c.args.here.now.reached at before (none_reached c.args.here.now.reached at before reached))
 
 pub returns-in-Always-clause-fault : goal.returns-in-Always-clause-fault
 returns-in-Always-clause-fault c =
@@ -198,7 +198,7 @@ returns-in-Always-clause-fault c =
     let y = always attrs p c.in-Always.event c.in-Always.stmt in
     let same = sym c.item.view_is ∙ ap (shown attrs p) c.in-Always.is in
     IfOk-weaker c.always_fault.result _ _ (λ g h at here path.
-    refused_as x y same c.args.all.now at g
+    refused_as x y same c.args.source.now.modules.now at g
     (h (meanings_at at) here.alike)) c.always_fault.ensures
 
 pub returns-in-Always-clause-earlier : goal.returns-in-Always-clause-earlier
@@ -209,7 +209,7 @@ returns-in-Always-clause-earlier c =
     let y = always attrs p c.in-Always.event c.in-Always.stmt in
     let same = sym c.item.view_is ∙ ap (shown attrs p) c.in-Always.is in
     on_ok_always c.always_fault.result _ (λ before names.
-    named_as x y same c.args.earlier.now before (no_names c.args.earlier.now before names))
+    named_as x y same c.args.here.now.earlier before (no_names c.args.here.now.earlier before names))
 
 pub returns-in-Always-clause-reached : goal.returns-in-Always-clause-reached
 returns-in-Always-clause-reached c =
@@ -219,7 +219,7 @@ returns-in-Always-clause-reached c =
     let y = always attrs p c.in-Always.event c.in-Always.stmt in
     let same = sym c.item.view_is ∙ ap (shown attrs p) c.in-Always.is in
     on_ok_always c.always_fault.result _ (λ at before alike reached.
-    reached_as x y same c.args.reached.now at before (none_reached c.args.reached.now at before reached))
+    reached_as x y same c.args.here.now.reached at before (none_reached c.args.here.now.reached at before reached))
 
 pub returns-in-Initial-clause-fault : goal.returns-in-Initial-clause-fault
 returns-in-Initial-clause-fault c =
@@ -229,7 +229,7 @@ returns-in-Initial-clause-fault c =
     let y = initial attrs p c.in-Initial.stmt in
     let same = sym c.item.view_is ∙ ap (shown attrs p) c.in-Initial.is in
     IfOk-weaker c.initial_block_fault.result _ _ (λ g h at here path.
-    refused_as x y same c.args.all.now at g
+    refused_as x y same c.args.source.now.modules.now at g
     (h (meanings_at at) here.alike)) c.initial_block_fault.ensures
 
 pub returns-in-Initial-clause-earlier : goal.returns-in-Initial-clause-earlier
@@ -240,7 +240,7 @@ returns-in-Initial-clause-earlier c =
     let y = initial attrs p c.in-Initial.stmt in
     let same = sym c.item.view_is ∙ ap (shown attrs p) c.in-Initial.is in
     on_ok_always c.initial_block_fault.result _ (λ before names.
-    named_as x y same c.args.earlier.now before (no_names c.args.earlier.now before names))
+    named_as x y same c.args.here.now.earlier before (no_names c.args.here.now.earlier before names))
 
 pub returns-in-Initial-clause-reached : goal.returns-in-Initial-clause-reached
 returns-in-Initial-clause-reached c =
@@ -250,7 +250,7 @@ returns-in-Initial-clause-reached c =
     let y = initial attrs p c.in-Initial.stmt in
     let same = sym c.item.view_is ∙ ap (shown attrs p) c.in-Initial.is in
     on_ok_always c.initial_block_fault.result _ (λ at before alike reached.
-    reached_as x y same c.args.reached.now at before (none_reached c.args.reached.now at before reached))
+    reached_as x y same c.args.here.now.reached at before (none_reached c.args.here.now.reached at before reached))
 
 pub returns-in-Instance-clause-fault : goal.returns-in-Instance-clause-fault
 returns-in-Instance-clause-fault c =
@@ -260,7 +260,7 @@ returns-in-Instance-clause-fault c =
     let y = instance attrs p c.in-Instance.instance in
     let same = sym c.item.view_is ∙ ap (shown attrs p) c.in-Instance.is in
     IfOk-weaker c.instance_fault.result _ _ (λ g h at here path.
-    refused_as x y same c.args.all.now at g
+    refused_as x y same c.args.source.now.modules.now at g
     (h at here.before path)) c.instance_fault.ensures
 
 pub returns-in-Instance-clause-earlier : goal.returns-in-Instance-clause-earlier
@@ -271,7 +271,7 @@ returns-in-Instance-clause-earlier c =
     let y = instance attrs p c.in-Instance.instance in
     let same = sym c.item.view_is ∙ ap (shown attrs p) c.in-Instance.is in
     on_ok_always c.instance_fault.result _ (λ before names.
-    named_as x y same c.args.earlier.now before (no_names c.args.earlier.now before names))
+    named_as x y same c.args.here.now.earlier before (no_names c.args.here.now.earlier before names))
 
 pub returns-in-Instance-clause-reached : goal.returns-in-Instance-clause-reached
 returns-in-Instance-clause-reached c =
@@ -281,7 +281,7 @@ returns-in-Instance-clause-reached c =
     let y = instance attrs p c.in-Instance.instance in
     let same = sym c.item.view_is ∙ ap (shown attrs p) c.in-Instance.is in
     on_ok_always c.instance_fault.result _ (λ at before alike reached.
-    reached_as x y same c.args.reached.now at before (none_reached c.args.reached.now at before reached))
+    reached_as x y same c.args.here.now.reached at before (none_reached c.args.here.now.reached at before reached))
 
 pub returns-in-Generate-clause-fault : goal.returns-in-Generate-clause-fault
 returns-in-Generate-clause-fault c at here path =
@@ -290,7 +290,7 @@ returns-in-Generate-clause-fault c at here path =
     let p = c.item.inside.pos in
     let y = generate attrs p c.in-Generate.field-0 in
     let same = sym c.item.view_is ∙ ap (shown attrs p) c.in-Generate.is in
-    refused_as x y same c.args.all.now at None refl
+    refused_as x y same c.args.source.now.modules.now at None refl
 
 pub returns-in-Generate-clause-earlier : goal.returns-in-Generate-clause-earlier
 returns-in-Generate-clause-earlier c before names =
@@ -299,7 +299,7 @@ returns-in-Generate-clause-earlier c before names =
     let p = c.item.inside.pos in
     let y = generate attrs p c.in-Generate.field-0 in
     let same = sym c.item.view_is ∙ ap (shown attrs p) c.in-Generate.is in
-    named_as x y same c.args.earlier.now before (no_names c.args.earlier.now before names)
+    named_as x y same c.args.here.now.earlier before (no_names c.args.here.now.earlier before names)
 
 pub returns-in-Generate-clause-reached : goal.returns-in-Generate-clause-reached
 returns-in-Generate-clause-reached c at before alike reached =
@@ -308,8 +308,8 @@ returns-in-Generate-clause-reached c at before alike reached =
     let p = c.item.inside.pos in
     let y = generate attrs p c.in-Generate.field-0 in
     let same = sym c.item.view_is ∙ ap (shown attrs p) c.in-Generate.is in
-    reached_as x y same c.args.reached.now at before
-    (none_reached c.args.reached.now at before reached)
+    reached_as x y same c.args.here.now.reached at before
+    (none_reached c.args.here.now.reached at before reached)
 
 pub returns-in-For-clause-fault : goal.returns-in-For-clause-fault
 returns-in-For-clause-fault c =
@@ -319,7 +319,7 @@ returns-in-For-clause-fault c =
     let y = for_loop attrs p c.in-For.head (block c.in-For.field-1) in
     let same = sym c.item.view_is ∙ ap (shown attrs p) c.in-For.is in
     IfOk-weaker c.loop_fault.result _ _ (λ g h at here path.
-    loop_refused x attrs p c.in-For.head (block c.in-For.field-1) same c.args.all.now at g
+    loop_refused x attrs p c.in-For.head (block c.in-For.field-1) same c.args.source.now.modules.now at g
     (h at here.alike here.constants here.before)) c.loop_fault.ensures.fault
 
 pub returns-in-For-clause-earlier : goal.returns-in-For-clause-earlier
@@ -330,7 +330,7 @@ returns-in-For-clause-earlier c =
     let y = for_loop attrs p c.in-For.head (block c.in-For.field-1) in
     let same = sym c.item.view_is ∙ ap (shown attrs p) c.in-For.is in
     on_ok_always c.loop_fault.result _ (λ before names.
-    named_as x y same c.args.earlier.now before (no_names c.args.earlier.now before names))
+    named_as x y same c.args.here.now.earlier before (no_names c.args.here.now.earlier before names))
 
 pub returns-in-For-clause-reached : goal.returns-in-For-clause-reached
 returns-in-For-clause-reached c =
@@ -340,7 +340,7 @@ returns-in-For-clause-reached c =
     let y = for_loop attrs p c.in-For.head (block c.in-For.field-1) in
     let same = sym c.item.view_is ∙ ap (shown attrs p) c.in-For.is in
     on_ok_always c.loop_fault.result _ (λ at before alike reached.
-    reached_as x y same c.args.reached.now at before (none_reached c.args.reached.now at before reached))
+    reached_as x y same c.args.here.now.reached at before (none_reached c.args.here.now.reached at before reached))
 
 pub returns-in-If-default-default-None-clause-fault : goal.returns-in-If-default-default-None-clause-fault
 returns-in-If-default-default-None-clause-fault c =
@@ -350,7 +350,7 @@ returns-in-If-default-default-None-clause-fault c =
     let p = c.item.inside.pos in
     let same = sym c.item.view_is ∙ ap (shown attrs p) arm.is in
     IfOk-weaker c.if_fault.result _ _ (λ g h at here path.
-    if_refused x attrs p arm.condition arm.field-1 arm.field-2 same c.args.all.now at g
+    if_refused x attrs p arm.condition arm.field-1 arm.field-2 same c.args.source.now.modules.now at g
     (h (meanings_at at) at.earlier here.alike here.before)) c.if_fault.ensures
 
 pub returns-in-If-default-default-None-clause-earlier : goal.returns-in-If-default-default-None-clause-earlier
@@ -361,7 +361,7 @@ returns-in-If-default-default-None-clause-earlier c =
     let p = c.item.inside.pos in
     let same = sym c.item.view_is ∙ ap (shown attrs p) arm.is in
     on_ok_always c.if_fault.result _ (λ before names.
-    if_named x attrs p arm.condition arm.field-1 arm.field-2 same c.args.earlier.now before names)
+    if_named x attrs p arm.condition arm.field-1 arm.field-2 same c.args.here.now.earlier before names)
 
 pub returns-in-If-default-default-None-clause-reached : goal.returns-in-If-default-default-None-clause-reached
 returns-in-If-default-default-None-clause-reached c =
@@ -371,7 +371,7 @@ returns-in-If-default-default-None-clause-reached c =
     let p = c.item.inside.pos in
     let same = sym c.item.view_is ∙ ap (shown attrs p) arm.is in
     on_ok_always c.if_fault.result _ (λ at before alike reached.
-    if_reached x attrs p arm.condition arm.field-1 arm.field-2 same c.args.reached.now at before reached)
+    if_reached x attrs p arm.condition arm.field-1 arm.field-2 same c.args.here.now.reached at before reached)
 
 pub returns-in-If-default-default-Some-clause-fault : goal.returns-in-If-default-default-Some-clause-fault
 returns-in-If-default-default-Some-clause-fault c =
@@ -381,7 +381,7 @@ returns-in-If-default-default-Some-clause-fault c =
     let p = c.item.inside.pos in
     let same = sym c.item.view_is ∙ ap (shown attrs p) arm.is in
     IfOk-weaker c.if_fault-in-If-default-default-Some.result _ _ (λ g h at here path.
-    if_refused x attrs p arm.condition arm.field-1 arm.field-2 same c.args.all.now at g
+    if_refused x attrs p arm.condition arm.field-1 arm.field-2 same c.args.source.now.modules.now at g
     (h (meanings_at at) at.earlier here.alike here.before)) c.if_fault-in-If-default-default-Some.ensures
 
 pub returns-in-If-default-default-Some-clause-earlier : goal.returns-in-If-default-default-Some-clause-earlier
@@ -392,7 +392,7 @@ returns-in-If-default-default-Some-clause-earlier c =
     let p = c.item.inside.pos in
     let same = sym c.item.view_is ∙ ap (shown attrs p) arm.is in
     on_ok_always c.if_fault-in-If-default-default-Some.result _ (λ before names.
-    if_named x attrs p arm.condition arm.field-1 arm.field-2 same c.args.earlier.now before names)
+    if_named x attrs p arm.condition arm.field-1 arm.field-2 same c.args.here.now.earlier before names)
 
 pub returns-in-If-default-default-Some-clause-reached : goal.returns-in-If-default-default-Some-clause-reached
 returns-in-If-default-default-Some-clause-reached c =
@@ -402,4 +402,4 @@ returns-in-If-default-default-Some-clause-reached c =
     let p = c.item.inside.pos in
     let same = sym c.item.view_is ∙ ap (shown attrs p) arm.is in
     on_ok_always c.if_fault-in-If-default-default-Some.result _ (λ at before alike reached.
-    if_reached x attrs p arm.condition arm.field-1 arm.field-2 same c.args.reached.now at before reached)
+    if_reached x attrs p arm.condition arm.field-1 arm.field-2 same c.args.here.now.reached at before reached)

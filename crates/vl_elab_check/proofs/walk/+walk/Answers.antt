@@ -44,14 +44,14 @@ walk_items-loop-part-init z c = record {
   scope = c.requires.scope;
   formed = λ w. w;
   left = λ t at n so w h.
-      all_items c.args.modules.now c.args.fuel c.args.inside.now c.args.here.now c.args.path.now
-      (items c.args.all.now) c.args.totals.now t at n so h;
+      all_items c.args.source.now.modules.now c.args.source.now.fuel c.args.inside.now c.args.here.now c.args.walk.now.path
+      (items c.args.all.now) c.args.walk.now.totals t at n so h;
 }
 
 pub walk_items-loop-part-preserved : goal.walk_items-loop-part-preserved
 walk_items-loop-part-preserved z c =
-    let ms = c.args.modules.now in
-    let inner = module_walk is_valued c.args.fuel ms in
+    let ms = c.args.source.now.modules.now in
+    let inner = module_walk is_valued c.args.source.now.fuel ms in
     let xs = c.args.all.now in
     let i = c.loop-part.part-index in
     let x = c.part-item.result in
@@ -62,16 +62,16 @@ walk_items-loop-part-preserved z c =
       scope = subst HasScope (sym c.in_ok-fault.ensures.inside) c.loop-part.invariant.scope;
       formed = λ w. (subst (λ ys. AreWellFormed (items ys)) front (c.loop-part.invariant.formed w)).1;
       left = λ t at n so w h.
-          items_on ms t (items_walk is_valued ms inner (items xs) at n) inner c.loop-part.totals c.walk_one.new.totals
-          (IsHere c.loop-part.inside c.loop-part.here c.loop-part.path)
-          (IsHere c.walk_one.new.inside c.pass.new.here c.walk_one.new.path) x (items (drop (i + 1) xs))
+          items_on ms t (items_walk is_valued ms inner (items xs) at n) inner c.loop-part.walk.totals c.walk_one.new.walk.totals
+          (IsHere c.loop-part.inside c.loop-part.here c.loop-part.walk.path)
+          (IsHere c.walk_one.new.inside c.pass.new.here c.walk_one.new.walk.path) x (items (drop (i + 1) xs))
           c.in_ok-fault.fault (sym c.is_some.ensures ∙ c.if-is_some.false)
           (subst (λ ys. ItemsAreLeft ms inner t (items_walk is_valued ms inner (items xs) at n)
-          (IsHere c.loop-part.inside c.loop-part.here c.loop-part.path) c.loop-part.totals (items ys)) front
+          (IsHere c.loop-part.inside c.loop-part.here c.loop-part.walk.path) c.loop-part.walk.totals (items ys)) front
           (c.loop-part.invariant.left t at n so w h))
           (λ p k here b totals. c.in_ok-fault.ensures.walked b p k (record { formed = so.formed; totals = totals })
           (subst (λ ys. AreWellFormed (items ys)) front (c.loop-part.invariant.formed w)).0 here)
-          (λ p here. c.in_ok-pass.ensures p c.walk_one.new.path (c.in_ok-fault.ensures.here p here));
+          (λ p here. c.in_ok-pass.ensures p c.walk_one.new.walk.path (c.in_ok-fault.ensures.here p here));
     }
 
 pub walk_items-returns-then-is_some-clause-inside : goal.walk_items-returns-then-is_some-clause-inside
@@ -83,17 +83,17 @@ walk_items-returns-then-is_some-clause-path z c = c.in_ok-fault.ensures.path ∙
 
 pub walk_items-returns-then-is_some-clause-walked : goal.walk_items-returns-then-is_some-clause-walked
 walk_items-returns-then-is_some-clause-walked z c t at n so w h =
-    let ms = c.args.modules.now in
-    let inner = module_walk is_valued c.args.fuel ms in
+    let ms = c.args.source.now.modules.now in
+    let inner = module_walk is_valued c.args.source.now.fuel ms in
     let xs = c.args.all.now in
     let i = c.loop-part.part-index in
     let x = c.part-item.result in
     let front : drop i xs ≡ x ∷ drop (i + 1) xs = grind (arith, common_steps) in
-    items_stop ms t (items_walk is_valued ms inner (items xs) at n) inner c.loop-part.totals c.walk_one.new.totals
-    (IsHere c.loop-part.inside c.loop-part.here c.loop-part.path) x (items (drop (i + 1) xs)) c.in_ok-fault.fault
+    items_stop ms t (items_walk is_valued ms inner (items xs) at n) inner c.loop-part.walk.totals c.walk_one.new.walk.totals
+    (IsHere c.loop-part.inside c.loop-part.here c.loop-part.walk.path) x (items (drop (i + 1) xs)) c.in_ok-fault.fault
     (sym c.is_some.ensures ∙ c.if-is_some.true)
     (subst (λ ys. ItemsAreLeft ms inner t (items_walk is_valued ms inner (items xs) at n)
-    (IsHere c.loop-part.inside c.loop-part.here c.loop-part.path) c.loop-part.totals (items ys)) front
+    (IsHere c.loop-part.inside c.loop-part.here c.loop-part.walk.path) c.loop-part.walk.totals (items ys)) front
     (c.loop-part.invariant.left t at n so w h))
     (λ p k here b totals. c.in_ok-fault.ensures.walked b p k (record { formed = so.formed; totals = totals })
     (subst (λ ys. AreWellFormed (items ys)) front (c.loop-part.invariant.formed w)).0 here)
@@ -106,21 +106,21 @@ walk_items-returns-clause-path z c = c.loop-part.invariant.path
 
 pub walk_items-returns-clause-walked : goal.walk_items-returns-clause-walked
 walk_items-returns-clause-walked z c t at n so w h =
-    let ms = c.args.modules.now in
-    let inner = module_walk is_valued c.args.fuel ms in
+    let ms = c.args.source.now.modules.now in
+    let inner = module_walk is_valued c.args.source.now.fuel ms in
     let xs = c.args.all.now in
     let gone : drop c.loop-part.part-index xs ≡ [] = grind (arith, common_steps) in
-    items_end ms t (items_walk is_valued ms inner (items xs) at n) inner c.loop-part.totals
-    (IsHere c.loop-part.inside c.loop-part.here c.loop-part.path)
+    items_end ms t (items_walk is_valued ms inner (items xs) at n) inner c.loop-part.walk.totals
+    (IsHere c.loop-part.inside c.loop-part.here c.loop-part.walk.path)
     (subst (λ ys. ItemsAreLeft ms inner t (items_walk is_valued ms inner (items xs) at n)
-    (IsHere c.loop-part.inside c.loop-part.here c.loop-part.path) c.loop-part.totals (items ys)) gone
+    (IsHere c.loop-part.inside c.loop-part.here c.loop-part.walk.path) c.loop-part.walk.totals (items ys)) gone
     (c.loop-part.invariant.left t at n so w h))
 
 -- ---- an item
 
 pub walk_one-returns-then-is_some-clause-walked : goal.walk_one-returns-then-is_some-clause-walked
 walk_one-returns-then-is_some-clause-walked z c t at n so w h =
-    own_stops c.args.modules.now c.args.fuel c.args.part.now at n t c.own_step.new.totals c.in_ok-fault.fault
+    own_stops c.args.source.now.modules.now c.args.source.now.fuel c.args.part.now at n t c.walk_item.new.walk.totals c.in_ok-fault.fault
     (sym c.is_some.ensures ∙ c.if-is_some.true) (c.in_ok-fault.ensures.walked at t h so.totals)
 
 pub walk_one-returns-clause-inside : goal.walk_one-returns-clause-inside
@@ -132,8 +132,8 @@ walk_one-returns-clause-here z c at h =
 
 pub walk_one-returns-clause-walked : goal.walk_one-returns-clause-walked
 walk_one-returns-clause-walked z c t at n so w h =
-    own_passes c.args.modules.now c.args.fuel c.args.part.now at n t c.own_step.new.totals
-    c.walk_within.new.totals c.in_ok-fault.fault c.in_ok-walk_within.field-0
+    own_passes c.args.source.now.modules.now c.args.source.now.fuel c.args.part.now at n t c.walk_item.new.walk.totals
+    c.walk_within.new.walk.totals c.in_ok-fault.fault c.in_ok-walk_within.field-0
     (sym c.is_some.ensures ∙ c.if-is_some.false) (c.in_ok-fault.ensures.walked at t h so.totals)
     (λ free b totals. c.in_ok-walk_within.ensures.walked b at n (record { formed = so.formed; totals = totals }) w
     free (c.in_ok-fault.ensures.here at h))
@@ -143,16 +143,16 @@ walk_one-returns-clause-walked z c t at n so w h =
 pub walk_within-returns-in_ok-walk_instance-in-Instance-clause-walked :
     goal.walk_within-returns-in_ok-walk_instance-in-Instance-clause-walked
 walk_within-returns-in_ok-walk_instance-in-Instance-clause-walked z c =
-    let ms = c.args.modules.now in
-    let inner = module_walk is_valued c.args.fuel ms in
+    let ms = c.args.source.now.modules.now in
+    let inner = module_walk is_valued c.args.source.now.fuel ms in
     let g = c.in_ok-walk_instance-in-Instance.field-0 in
     let same : instance c.part.inside.attributes c.part.inside.pos c.in-Instance.instance ≡ c.args.part.now =
     ap (shown c.part.inside.attributes c.part.inside.pos) (sym c.in-Instance.is) ∙ c.part.view_is in
-    subst (λ (x : Item). (t : Totals) (at : Place) (n : ℕ) → IsSoFar ms c.args.totals.now t → IsWellFormed x
-    → IsNotRecursive x at → IsHere c.args.inside.now c.args.here.now c.args.path.now (with_earlier at (item_names x))
-    → AreWalked ms t c.walk_instance.new.totals (inner_walk is_valued ms inner x at n) g) same
+    subst (λ (x : Item). (t : Totals) (at : Place) (n : ℕ) → IsSoFar ms c.args.walk.now.totals t → IsWellFormed x
+    → IsNotRecursive x at → IsHere c.args.inside.now c.args.here.now c.args.walk.now.path (with_earlier at (item_names x))
+    → AreWalked ms t c.walk_instance.new.walk.totals (inner_walk is_valued ms inner x at n) g) same
     (λ t at n so w free h. c.in_ok-walk_instance-in-Instance.ensures.walked t at so free
-    (stays_within c.args.inside.now c.args.path.now at [] h.within))
+    (stays_within c.args.inside.now c.args.walk.now.path at [] h.within))
 
 pub walk_within-returns-in_ok-walk_instance-in-Instance-clause-here :
     goal.walk_within-returns-in_ok-walk_instance-in-Instance-clause-here
@@ -162,30 +162,30 @@ walk_within-returns-in_ok-walk_instance-in-Instance-clause-here z c at h =
 pub walk_within-returns-in_ok-walk_turns-in-For-clause-walked :
     goal.walk_within-returns-in_ok-walk_turns-in-For-clause-walked
 walk_within-returns-in_ok-walk_turns-in-For-clause-walked z c =
-    let ms = c.args.modules.now in
-    let inner = module_walk is_valued c.args.fuel ms in
+    let ms = c.args.source.now.modules.now in
+    let inner = module_walk is_valued c.args.source.now.fuel ms in
     let g = c.in_ok-walk_turns-in-For.field-0 in
     let b = block c.in-For.block in
     let same : for_loop c.part.inside.attributes c.part.inside.pos c.in-For.head b ≡ c.args.part.now =
     ap (shown c.part.inside.attributes c.part.inside.pos) (sym c.in-For.is) ∙ c.part.view_is in
-    subst (λ (x : Item). (t : Totals) (at : Place) (n : ℕ) → IsSoFar ms c.args.totals.now t → IsWellFormed x
-    → IsNotRecursive x at → IsHere c.args.inside.now c.args.here.now c.args.path.now (with_earlier at (item_names x))
-    → AreWalked ms t c.walk_turns.new.totals (inner_walk is_valued ms inner x at n) g) same
+    subst (λ (x : Item). (t : Totals) (at : Place) (n : ℕ) → IsSoFar ms c.args.walk.now.totals t → IsWellFormed x
+    → IsNotRecursive x at → IsHere c.args.inside.now c.args.here.now c.args.walk.now.path (with_earlier at (item_names x))
+    → AreWalked ms t c.walk_turns.new.walk.totals (inner_walk is_valued ms inner x at n) g) same
     (λ t at n so w free h. c.in_ok-walk_turns-in-For.ensures.walked t at
     (λ v. turn_path at.path (block_name at.names n (label_of b)) v) so w.2
-    (stays_within c.args.inside.now c.args.path.now at [] h.within))
+    (stays_within c.args.inside.now c.args.walk.now.path at [] h.within))
 
 pub walk_within-returns-in_ok-walk_turns-in-For-clause-here :
     goal.walk_within-returns-in_ok-walk_turns-in-For-clause-here
 walk_within-returns-in_ok-walk_turns-in-For-clause-here z c at h =
     let here = c.args.here.now in
-    subst (λ i. IsHere i here c.walk_turns.new.path at) (sym c.in_ok-walk_turns-in-For.ensures.inside)
+    subst (λ i. IsHere i here c.walk_turns.new.walk.path at) (sym c.in_ok-walk_turns-in-For.ensures.inside)
     (subst (λ p. IsHere c.args.inside.now here p at) (sym c.in_ok-walk_turns-in-For.ensures.path) h)
 
 pub walk_within-returns-in_ok-walk_if-in-If-clause-walked : goal.walk_within-returns-in_ok-walk_if-in-If-clause-walked
 walk_within-returns-in_ok-walk_if-in-If-clause-walked z c =
-    let ms = c.args.modules.now in
-    let inner = module_walk is_valued c.args.fuel ms in
+    let ms = c.args.source.now.modules.now in
+    let inner = module_walk is_valued c.args.source.now.fuel ms in
     let g = c.in_ok-walk_if-in-If.field-0 in
     let a = c.part.inside.attributes in
     let p = c.part.inside.pos in
@@ -193,12 +193,12 @@ walk_within-returns-in_ok-walk_if-in-If-clause-walked z c =
     ap (shown a p) (sym c.in-If.is) ∙ c.part.view_is in
     let none : item_names (shown a p (kind.If c.in-If.condition c.in-If.first c.in-If.second)) ≡ [] =
     if_names a p c.in-If.condition c.in-If.first c.in-If.second in
-    subst (λ (x : Item). (t : Totals) (at : Place) (n : ℕ) → IsSoFar ms c.args.totals.now t → IsWellFormed x
-    → IsNotRecursive x at → IsHere c.args.inside.now c.args.here.now c.args.path.now (with_earlier at (item_names x))
-    → AreWalked ms t c.walk_if.new.totals (inner_walk is_valued ms inner x at n) g) same
+    subst (λ (x : Item). (t : Totals) (at : Place) (n : ℕ) → IsSoFar ms c.args.walk.now.totals t → IsWellFormed x
+    → IsNotRecursive x at → IsHere c.args.inside.now c.args.here.now c.args.walk.now.path (with_earlier at (item_names x))
+    → AreWalked ms t c.walk_if.new.walk.totals (inner_walk is_valued ms inner x at n) g) same
     (λ t at n so w free h. c.in_ok-walk_if-in-If.ensures.walked t at n a p so w
-    (stays_here c.args.inside.now c.args.here.now c.args.path.now at
-    (subst (λ xs. IsHere c.args.inside.now c.args.here.now c.args.path.now (with_earlier at xs)) none h)))
+    (stays_here c.args.inside.now c.args.here.now c.args.walk.now.path at
+    (subst (λ xs. IsHere c.args.inside.now c.args.here.now c.args.walk.now.path (with_earlier at xs)) none h)))
 
 pub walk_within-returns-in-Declaration-clause-inside : goal.walk_within-returns-in-Declaration-clause-inside
 walk_within-returns-in-Declaration-clause-inside z c = refl
@@ -211,21 +211,21 @@ walk_within-returns-in-Declaration-clause-here z c at h = h
 
 pub walk_within-returns-in-Declaration-clause-walked : goal.walk_within-returns-in-Declaration-clause-walked
 walk_within-returns-in-Declaration-clause-walked z c t at n so w free h =
-    let ms = c.args.modules.now in
+    let ms = c.args.source.now.modules.now in
     let a = c.part.inside.attributes in
     let p = c.part.inside.pos in
-    let none : (q : Place) (k : ℕ) → inner_walk is_valued ms (module_walk is_valued c.args.fuel ms) c.args.part.now q k ≡ [] =
+    let none : (q : Place) (k : ℕ) → inner_walk is_valued ms (module_walk is_valued c.args.source.now.fuel ms) c.args.part.now q k ≡ [] =
     elim c.in-Declaration.is [
-      | inl w ↦ none_within ms c.args.fuel c.args.part.now (declaration a p w.0)
+      | inl w ↦ none_within ms c.args.source.now.fuel c.args.part.now (declaration a p w.0)
           (ap (shown a p) (sym w.1) ∙ c.part.view_is) (λ q k. refl)
       | inr r ↦ elim r [
-        | inl w ↦ none_within ms c.args.fuel c.args.part.now (integer a p w.0)
+        | inl w ↦ none_within ms c.args.source.now.fuel c.args.part.now (integer a p w.0)
             (ap (shown a p) (sym w.1) ∙ c.part.view_is) (λ q k. refl)
-        | inr w ↦ none_within ms c.args.fuel c.args.part.now (genvar a p w.0)
+        | inr w ↦ none_within ms c.args.source.now.fuel c.args.part.now (genvar a p w.0)
             (ap (shown a p) (sym w.1) ∙ c.part.view_is) (λ q k. refl)
       ]
     ] in
-    leaf_walked ms c.args.fuel c.args.part.now none at n t c.args.totals.now so.totals
+    leaf_walked ms c.args.source.now.fuel c.args.part.now none at n t c.args.walk.now.totals so.totals
 
 pub walk_within-returns-in-Parameter-clause-inside : goal.walk_within-returns-in-Parameter-clause-inside
 walk_within-returns-in-Parameter-clause-inside z c = refl
@@ -238,21 +238,21 @@ walk_within-returns-in-Parameter-clause-here z c at h = h
 
 pub walk_within-returns-in-Parameter-clause-walked : goal.walk_within-returns-in-Parameter-clause-walked
 walk_within-returns-in-Parameter-clause-walked z c t at n so w free h =
-    let ms = c.args.modules.now in
+    let ms = c.args.source.now.modules.now in
     let a = c.part.inside.attributes in
     let p = c.part.inside.pos in
-    let none : (q : Place) (k : ℕ) → inner_walk is_valued ms (module_walk is_valued c.args.fuel ms) c.args.part.now q k ≡ [] =
+    let none : (q : Place) (k : ℕ) → inner_walk is_valued ms (module_walk is_valued c.args.source.now.fuel ms) c.args.part.now q k ≡ [] =
     elim c.in-Parameter.is [
-      | inl w ↦ none_within ms c.args.fuel c.args.part.now (parameter a p w.0 w.1)
+      | inl w ↦ none_within ms c.args.source.now.fuel c.args.part.now (parameter a p w.0 w.1)
           (ap (shown a p) (sym w.2) ∙ c.part.view_is) (λ q k. refl)
       | inr r ↦ elim r [
-        | inl w ↦ none_within ms c.args.fuel c.args.part.now (assign a p w.0)
+        | inl w ↦ none_within ms c.args.source.now.fuel c.args.part.now (assign a p w.0)
             (ap (shown a p) (sym w.1) ∙ c.part.view_is) (λ q k. refl)
-        | inr w ↦ none_within ms c.args.fuel c.args.part.now (always a p w.0 w.1)
+        | inr w ↦ none_within ms c.args.source.now.fuel c.args.part.now (always a p w.0 w.1)
             (ap (shown a p) (sym w.2) ∙ c.part.view_is) (λ q k. refl)
       ]
     ] in
-    leaf_walked ms c.args.fuel c.args.part.now none at n t c.args.totals.now so.totals
+    leaf_walked ms c.args.source.now.fuel c.args.part.now none at n t c.args.walk.now.totals so.totals
 
 pub walk_within-returns-in-Initial-clause-inside : goal.walk_within-returns-in-Initial-clause-inside
 walk_within-returns-in-Initial-clause-inside z c = refl
@@ -265,36 +265,36 @@ walk_within-returns-in-Initial-clause-here z c at h = h
 
 pub walk_within-returns-in-Initial-clause-walked : goal.walk_within-returns-in-Initial-clause-walked
 walk_within-returns-in-Initial-clause-walked z c t at n so w free h =
-    let ms = c.args.modules.now in
+    let ms = c.args.source.now.modules.now in
     let a = c.part.inside.attributes in
     let p = c.part.inside.pos in
-    let none : (q : Place) (k : ℕ) → inner_walk is_valued ms (module_walk is_valued c.args.fuel ms) c.args.part.now q k ≡ [] =
+    let none : (q : Place) (k : ℕ) → inner_walk is_valued ms (module_walk is_valued c.args.source.now.fuel ms) c.args.part.now q k ≡ [] =
     elim c.in-Initial.is [
-      | inl w ↦ none_within ms c.args.fuel c.args.part.now (initial a p w.0)
+      | inl w ↦ none_within ms c.args.source.now.fuel c.args.part.now (initial a p w.0)
           (ap (shown a p) (sym w.1) ∙ c.part.view_is) (λ q k. refl)
-      | inr w ↦ none_within ms c.args.fuel c.args.part.now (generate a p w.0)
+      | inr w ↦ none_within ms c.args.source.now.fuel c.args.part.now (generate a p w.0)
           (ap (shown a p) (sym w.1) ∙ c.part.view_is) (λ q k. refl)
     ] in
-    leaf_walked ms c.args.fuel c.args.part.now none at n t c.args.totals.now so.totals
+    leaf_walked ms c.args.source.now.fuel c.args.part.now none at n t c.args.walk.now.totals so.totals
 
 -- ---- an `if`
 
 pub walk_if-returns-in-None-clause-walked : goal.walk_if-returns-in-None-clause-walked
 walk_if-returns-in-None-clause-walked z c t at n a p so w h =
-    none_chosen c.args.modules.now c.args.fuel a p c.args.condition.now c.args.first.now c.args.second.now
+    none_chosen c.args.source.now.modules.now c.args.source.now.fuel a p c.args.condition.now c.args.first.now c.args.second.now
     c.in_ok-holds.holds c.args.inside.now.names c.args.inside.now.numbers c.in_ok-holds.ensures at
     h.known.alike h.within.stands.numbers n t
-    c.args.totals.now (sym (ap (λ o. option_map block (option_copied o)) c.in-None.is) ∙ c.chosen_by.ensures) so.totals
+    c.args.walk.now.totals (sym (ap (λ o. option_map block (option_copied o)) c.in-None.is) ∙ c.chosen_by.ensures) so.totals
 
 pub walk_if-returns-in_ok-walk_block-in-Some-clause-walked : goal.walk_if-returns-in_ok-walk_block-in-Some-clause-walked
 walk_if-returns-in_ok-walk_block-in-Some-clause-walked z c t at n a p so w h =
     let b = block c.in-Some.block.now in
     let some : Some b ≡ chosen_by c.in_ok-holds.holds (block c.args.first.now) (option_map block c.args.second.now) =
     c.in-Some.ensures in
-    some_chosen c.args.modules.now c.args.fuel a p c.args.condition.now c.args.first.now c.args.second.now
+    some_chosen c.args.source.now.modules.now c.args.source.now.fuel a p c.args.condition.now c.args.first.now c.args.second.now
     c.in_ok-holds.holds c.args.inside.now.names c.args.inside.now.numbers c.in_ok-holds.ensures at
     h.known.alike h.within.stands.numbers n b t
-    c.walk_block.new.totals c.in_ok-walk_block-in-Some.field-0 some
+    c.walk_block.new.walk.totals c.in_ok-walk_block-in-Some.field-0 some
     (c.in_ok-walk_block-in-Some.ensures.walked t at n so
     ((by_is a p c.args.condition.now c.args.first.now c.args.second.now c.in_ok-holds.holds b some).formed w) h)
 
@@ -305,17 +305,17 @@ pub walk_block-returns-in_ok-walk_scope-in-None-clause-walked :
 walk_block-returns-in_ok-walk_scope-in-None-clause-walked z c t at n so w h =
     let b = block c.args.block.now in
     let xs = items c.items_of.result.now in
-    scope_walked c.args.modules.now c.args.fuel b xs at n t c.walk_scope.new.totals
+    scope_walked c.args.source.now.modules.now c.args.source.now.fuel b xs at n t c.walk_scope.new.walk.totals
     c.in_ok-walk_scope-in-None.field-0 c.items_of.ensures
     (sym (sym (ap option_copied c.in-None.is) ∙ c.nested.ensures))
     (λ text. c.in_ok-walk_scope-in-None.ensures.walked t at text so
-    (items_formed c.args.modules.now c.args.fuel b xs c.items_of.ensures w) h.within)
+    (items_formed c.args.source.now.modules.now c.args.source.now.fuel b xs c.items_of.ensures w) h.within)
 
 pub walk_block-returns-in_ok-walk_scope-in-None-clause-here :
     goal.walk_block-returns-in_ok-walk_scope-in-None-clause-here
 walk_block-returns-in_ok-walk_scope-in-None-clause-here z c at h =
     let here = c.args.here.now in
-    subst (λ i. IsHere i here c.walk_scope.new.path at) (sym c.in_ok-walk_scope-in-None.ensures.inside)
+    subst (λ i. IsHere i here c.walk_scope.new.walk.path at) (sym c.in_ok-walk_scope-in-None.ensures.inside)
     (subst (λ p. IsHere c.args.inside.now here p at) (sym c.in_ok-walk_scope-in-None.ensures.path) h)
 
 pub walk_block-returns-in_ok-walk_one-in-Some-clause-walked :
@@ -324,7 +324,7 @@ walk_block-returns-in_ok-walk_one-in-Some-clause-walked z c t at n so w h =
     let b = block c.args.block.now in
     let x = c.in-Some.part.now in
     let some : nested_if b ≡ Some x = sym c.in-Some.ensures in
-    nested_walked c.args.modules.now c.args.fuel b x at n t c.walk_one.new.totals
+    nested_walked c.args.source.now.modules.now c.args.source.now.fuel b x at n t c.walk_one.new.walk.totals
     c.in_ok-walk_one-in-Some.field-0 some
     (c.in_ok-walk_one-in-Some.ensures.walked t at n so ((nested_is b x some).formed w) h)
 
@@ -333,8 +333,8 @@ walk_block-returns-in_ok-walk_one-in-Some-clause-here z c at h =
     let b = block c.args.block.now in
     let x = c.in-Some.part.now in
     let some : nested_if b ≡ Some x = sym c.in-Some.ensures in
-    stays_here c.walk_one.new.inside c.walk_one.new.here c.walk_one.new.path at
-    (subst (λ xs. IsHere c.walk_one.new.inside c.walk_one.new.here c.walk_one.new.path
+    stays_here c.walk_one.new.inside c.walk_one.new.here c.walk_one.new.walk.path at
+    (subst (λ xs. IsHere c.walk_one.new.inside c.walk_one.new.here c.walk_one.new.walk.path
     (with_earlier at xs)) (nested_is b x some).names (c.in_ok-walk_one-in-Some.ensures.here at h))
 
 -- ---- turns of a loop
@@ -344,15 +344,15 @@ walk_turns-loop-left-init z c = record {
   inside = c.in_ok-left.ensures.inside;
   path = refl;
   left = λ t at paths so w h.
-      first_turn_left c.args.modules.now c.args.fuel (block c.args.block.now) c.args.head.now at paths
-      c.args.totals.now t c.in_ok-value.value c.in_ok-left.left so.totals
-      (c.in_ok-value.ensures at.scopes h.stands.numbers) (c.in_ok-left.ensures.limit at c.args.path.now h);
+      first_turn_left c.args.source.now.modules.now c.args.source.now.fuel (block c.args.block.now) c.args.head.now at paths
+      c.args.walk.now.totals t c.in_ok-value.value c.in_ok-left.left so.totals
+      (c.in_ok-value.ensures at.scopes h.stands.numbers) (c.in_ok-left.ensures.limit at c.args.walk.now.path h);
 }
 
 pub walk_turns-loop-left-preserved : goal.walk_turns-loop-left-preserved
 walk_turns-loop-left-preserved z c =
-    let ms = c.args.modules.now in
-    let inner = module_walk is_valued c.args.fuel ms in
+    let ms = c.args.source.now.modules.now in
+    let inner = module_walk is_valued c.args.source.now.fuel ms in
     let head = c.args.head.now in
     let b = block c.args.block.now in
     let positive : 0 < c.loop-left.left = omega (arith, c.loop-left-test.true) in
@@ -361,19 +361,19 @@ walk_turns-loop-left-preserved z c =
       inside = c.in_ok-walk_turn.ensures.inside ∙ kept;
       path = c.in_ok-walk_turn.ensures.path ∙ c.loop-left.invariant.path;
       left = λ t at paths so w h.
-          let within : IsWithin c.loop-left.inside c.loop-left.path at =
-          within_again c.args.inside.now c.loop-left.inside c.args.path.now c.loop-left.path at
+          let within : IsWithin c.loop-left.inside c.loop-left.walk.path at =
+          within_again c.args.inside.now c.loop-left.inside c.args.walk.now.path c.loop-left.walk.path at
           c.loop-left.invariant.inside c.loop-left.invariant.path h in
           let body : Const → List Step = λ v. turn_walk is_valued ms inner b (turn_place at head.variable v) (paths v) in
           turns_on ms t (loop_walk is_valued head at body) (goes_on head at.scopes) (next_turn head at.scopes) body
-          c.loop-left.totals c.walk_turn.new.totals c.loop-left.left c.loop-left.value c.in-Some.next
+          c.loop-left.walk.totals c.walk_turn.new.walk.totals c.loop-left.left c.loop-left.value c.in-Some.next
           c.in_ok-walk_turn.field-0 positive
-          (sym c.in-Some.is ∙ c.in_ok-next.ensures.next at c.loop-left.path within)
+          (sym c.in-Some.is ∙ c.in_ok-next.ensures.next at c.loop-left.walk.path within)
           (ap is_some c.in-None.is)
           (c.loop-left.invariant.left t at paths so w h)
           (λ k totals. c.in_ok-walk_turn.ensures.walked k at (paths c.loop-left.value)
           (record { formed = so.formed; totals = totals }) w
-          (within_again c.loop-left.inside c.next_value.new.inside c.loop-left.path c.loop-left.path at
+          (within_again c.loop-left.inside c.next_value.new.inside c.loop-left.walk.path c.loop-left.walk.path at
           c.in_ok-next.ensures.inside refl within));
     }
 
@@ -385,18 +385,18 @@ walk_turns-returns-in_default-clause-path z c = c.loop-left.invariant.path
 
 pub walk_turns-returns-in_default-clause-walked : goal.walk_turns-returns-in_default-clause-walked
 walk_turns-returns-in_default-clause-walked z c t at paths so w h =
-    let ms = c.args.modules.now in
-    let inner = module_walk is_valued c.args.fuel ms in
+    let ms = c.args.source.now.modules.now in
+    let inner = module_walk is_valued c.args.source.now.fuel ms in
     let head = c.args.head.now in
     let b = block c.args.block.now in
     let positive : 0 < c.loop-left.left = omega (arith, c.loop-left-test.true) in
-    let within : IsWithin c.loop-left.inside c.loop-left.path at =
-    within_again c.args.inside.now c.loop-left.inside c.args.path.now c.loop-left.path at
+    let within : IsWithin c.loop-left.inside c.loop-left.walk.path at =
+    within_again c.args.inside.now c.loop-left.inside c.args.walk.now.path c.loop-left.walk.path at
     c.loop-left.invariant.inside c.loop-left.invariant.path h in
     let body : Const → List Step = λ v. turn_walk is_valued ms inner b (turn_place at head.variable v) (paths v) in
     turns_end ms t (loop_walk is_valued head at body) (goes_on head at.scopes) (next_turn head at.scopes) body
-    c.loop-left.totals c.loop-left.left c.loop-left.value positive
-    (sym c.in_default.is ∙ c.in_ok-next.ensures.next at c.loop-left.path within)
+    c.loop-left.walk.totals c.loop-left.left c.loop-left.value positive
+    (sym c.in_default.is ∙ c.in_ok-next.ensures.next at c.loop-left.walk.path within)
     (c.loop-left.invariant.left t at paths so w h)
 
 pub walk_turns-returns-in-Some-2-clause-inside : goal.walk_turns-returns-in-Some-2-clause-inside
@@ -408,25 +408,25 @@ walk_turns-returns-in-Some-2-clause-path z c = c.in_ok-walk_turn.ensures.path �
 
 pub walk_turns-returns-in-Some-2-clause-walked : goal.walk_turns-returns-in-Some-2-clause-walked
 walk_turns-returns-in-Some-2-clause-walked z c t at paths so w h =
-    let ms = c.args.modules.now in
-    let inner = module_walk is_valued c.args.fuel ms in
+    let ms = c.args.source.now.modules.now in
+    let inner = module_walk is_valued c.args.source.now.fuel ms in
     let head = c.args.head.now in
     let b = block c.args.block.now in
     let positive : 0 < c.loop-left.left = omega (arith, c.loop-left-test.true) in
-    let within : IsWithin c.loop-left.inside c.loop-left.path at =
-    within_again c.args.inside.now c.loop-left.inside c.args.path.now c.loop-left.path at
+    let within : IsWithin c.loop-left.inside c.loop-left.walk.path at =
+    within_again c.args.inside.now c.loop-left.inside c.args.walk.now.path c.loop-left.walk.path at
     c.loop-left.invariant.inside c.loop-left.invariant.path h in
     let body : Const → List Step = λ v. turn_walk is_valued ms inner b (turn_place at head.variable v) (paths v) in
-    subst (AreWalked ms t c.walk_turn.new.totals (loop_walk is_valued head at body)) c.in-Some-2.is
+    subst (AreWalked ms t c.walk_turn.new.walk.totals (loop_walk is_valued head at body)) c.in-Some-2.is
     (turns_stop ms t (loop_walk is_valued head at body) (goes_on head at.scopes) (next_turn head at.scopes) body
-    c.loop-left.totals c.walk_turn.new.totals c.loop-left.left c.loop-left.value c.in-Some.next
+    c.loop-left.walk.totals c.walk_turn.new.walk.totals c.loop-left.left c.loop-left.value c.in-Some.next
     c.in_ok-walk_turn.field-0 positive
-    (sym c.in-Some.is ∙ c.in_ok-next.ensures.next at c.loop-left.path within)
+    (sym c.in-Some.is ∙ c.in_ok-next.ensures.next at c.loop-left.walk.path within)
     (ap is_some c.in-Some-2.is)
     (c.loop-left.invariant.left t at paths so w h)
     (λ k totals. c.in_ok-walk_turn.ensures.walked k at (paths c.loop-left.value)
     (record { formed = so.formed; totals = totals }) w
-    (within_again c.loop-left.inside c.next_value.new.inside c.loop-left.path c.loop-left.path at
+    (within_again c.loop-left.inside c.next_value.new.inside c.loop-left.walk.path c.loop-left.walk.path at
     c.in_ok-next.ensures.inside refl within)))
 
 pub walk_turns-returns-clause-inside : goal.walk_turns-returns-clause-inside
@@ -437,14 +437,14 @@ walk_turns-returns-clause-path z c = c.loop-left.invariant.path
 
 pub walk_turns-returns-clause-walked : goal.walk_turns-returns-clause-walked
 walk_turns-returns-clause-walked z c t at paths so w h =
-    let ms = c.args.modules.now in
-    let inner = module_walk is_valued c.args.fuel ms in
+    let ms = c.args.source.now.modules.now in
+    let inner = module_walk is_valued c.args.source.now.fuel ms in
     let head = c.args.head.now in
     let body : Const → List Step = λ v.
     turn_walk is_valued ms inner (block c.args.block.now) (turn_place at head.variable v) (paths v) in
     let none : c.loop-left.left ≡ 0 = grind (arith, common_steps) in
     turns_gone ms t (loop_walk is_valued head at body) (goes_on head at.scopes) (next_turn head at.scopes) body
-    c.loop-left.totals c.loop-left.left c.loop-left.value none (c.loop-left.invariant.left t at paths so w h)
+    c.loop-left.walk.totals c.loop-left.left c.loop-left.value none (c.loop-left.invariant.left t at paths so w h)
 
 pub walk_turn-returns-clause-inside : goal.walk_turn-returns-clause-inside
 walk_turn-returns-clause-inside z c =
@@ -456,12 +456,12 @@ walk_turn-returns-clause-walked z c t at text so w h =
     let b = block c.args.block.now in
     let xs = items c.items_of.result.now in
     let place : Place = turn_place at c.args.head.now.variable c.args.value in
-    turn_walked c.args.modules.now c.args.fuel b xs place text t c.walk_scope.new.totals c.in_ok-fault.fault
+    turn_walked c.args.source.now.modules.now c.args.source.now.fuel b xs place text t c.walk_scope.new.walk.totals c.in_ok-fault.fault
     c.items_of.ensures
     (c.in_ok-fault.ensures.walked t place text so
-    (items_formed c.args.modules.now c.args.fuel b xs c.items_of.ensures w)
-    (subst (λ i. IsWithin i c.args.path.now place) (sym c.in_ok-enter.ensures)
-    (turn_entered c.args.inside.now c.args.path.now at h c.args.head.now c.args.value)))
+    (items_formed c.args.source.now.modules.now c.args.source.now.fuel b xs c.items_of.ensures w)
+    (subst (λ i. IsWithin i c.args.walk.now.path place) (sym c.in_ok-enter.ensures)
+    (turn_entered c.args.inside.now c.args.walk.now.path at h c.args.head.now c.args.value)))
 
 pub walk_scope-returns-clause-inside : goal.walk_scope-returns-clause-inside
 walk_scope-returns-clause-inside z c =
@@ -472,73 +472,73 @@ walk_scope-returns-clause-inside z c =
 pub walk_scope-returns-clause-walked : goal.walk_scope-returns-clause-walked
 walk_scope-returns-clause-walked z c t at text so w h =
     c.in_ok-fault.ensures.walked t (block_place at text (items c.args.all.now)) 1 so w
-    (c.in_ok-here.ensures.here at c.args.path.now text h w)
+    (c.in_ok-here.ensures.here at c.args.walk.now.path text h w)
 
 -- ---- instances
 
 pub walk_module-returns-then-is_some-clause-walked : goal.walk_module-returns-then-is_some-clause-walked
 walk_module-returns-then-is_some-clause-walked z c t at text so w e h =
     let u = use_of at.scopes c.args.instance.now in
-    opening_stops c.args.modules.now c.args.fuel at c.args.instance.now c.args.module.now u text t
-    c.open.new.totals c.in_ok-fault.fault (sym c.is_some.ensures ∙ c.if-is_some.true)
-    (c.in_ok-fault.ensures.walked c.args.modules.now t at u text at.modules c.args.path.now so.totals h
-    (λ other. c.in_ok-used.ensures.here at other c.args.path.now h w e))
+    opening_stops c.args.source.now.modules.now c.args.source.now.fuel at c.args.instance.now c.args.module.now u text t
+    c.open.new.walk.totals c.in_ok-fault.fault (sym c.is_some.ensures ∙ c.if-is_some.true)
+    (c.in_ok-fault.ensures.walked c.args.source.now.modules.now t at u text at.modules c.args.walk.now.path so.totals h
+    (λ other. c.in_ok-used.ensures.here at other c.args.walk.now.path h w e))
 
 pub walk_module-returns-clause-walked : goal.walk_module-returns-clause-walked
 walk_module-returns-clause-walked z c t at text so w e h =
     let u = use_of at.scopes c.args.instance.now in
     let m = c.args.module.now in
     let passed = sym c.is_some.ensures ∙ c.if-is_some.false in
-    opening_passes c.args.modules.now c.args.fuel at c.args.instance.now m u text t c.open.new.totals
-    c.walk_items.new.totals c.in_ok-fault.fault c.in_ok-walk_items.field-0 passed
-    (c.in_ok-fault.ensures.walked c.args.modules.now t at u text at.modules c.args.path.now so.totals h
-    (λ other. c.in_ok-used.ensures.here at other c.args.path.now h w e))
+    opening_passes c.args.source.now.modules.now c.args.source.now.fuel at c.args.instance.now m u text t c.open.new.walk.totals
+    c.walk_items.new.walk.totals c.in_ok-fault.fault c.in_ok-walk_items.field-0 passed
+    (c.in_ok-fault.ensures.walked c.args.source.now.modules.now t at u text at.modules c.args.walk.now.path so.totals h
+    (λ other. c.in_ok-used.ensures.here at other c.args.walk.now.path h w e))
     (λ b totals.
-    subst (λ xs. AreWalked c.args.modules.now b c.walk_items.new.totals
-    (items_walk is_valued c.args.modules.now (module_walk is_valued c.args.fuel c.args.modules.now) (items xs)
+    subst (λ xs. AreWalked c.args.source.now.modules.now b c.walk_items.new.walk.totals
+    (items_walk is_valued c.args.source.now.modules.now (module_walk is_valued c.args.source.now.fuel c.args.source.now.modules.now) (items xs)
     (behind_head (module_place m u text at.modules) m) 1) c.in_ok-walk_items.field-0) c.as_slice.ensures
     (c.in_ok-walk_items.ensures.walked b (behind_head (module_place m u text at.modules) m) 1
     (record { formed = so.formed; totals = totals })
     (subst (λ xs. AreWellFormed (items xs)) (sym c.as_slice.ensures) w.4)
-    (c.in_ok-fault.ensures.here (none_of c.in_ok-fault.fault passed) u text at.modules c.args.path.now
-    (c.in_ok-used.ensures.here at text c.args.path.now h w e))))
+    (c.in_ok-fault.ensures.here (none_of c.in_ok-fault.fault passed) u text at.modules c.open.new.walk.path
+    (c.in_ok-used.ensures.here at text c.open.new.walk.path h w (c.in_ok-fault.ensures.path ∙ e)))))
 
 pub walk_instance-returns-in_default-clause-walked : goal.walk_instance-returns-in_default-clause-walked
 walk_instance-returns-in_default-clause-walked z c t at so free h =
-    unnamed_walked c.args.modules.now c.args.fuel at c.args.instance.now t c.args.totals.now
+    unnamed_walked c.args.source.now.modules.now c.args.source.now.fuel at c.args.instance.now t c.args.walk.now.totals
     (sym (sym (ap option_copied c.in_default.is) ∙ c.find.ensures)) so.totals
 
-pub walk_instance-returns-then-fuel-eq0-clause-walked : goal.walk_instance-returns-then-fuel-eq0-clause-walked
-walk_instance-returns-then-fuel-eq0-clause-walked z c t at so free h =
-    deep_walked c.args.modules.now c.args.fuel at c.args.instance.now c.in-Some.module.now (sym c.in-Some.ensures) t
-    c.args.totals.now c.if-fuel-eq0.true so.totals
+pub walk_instance-returns-then-source-eq0-clause-walked : goal.walk_instance-returns-then-source-eq0-clause-walked
+walk_instance-returns-then-source-eq0-clause-walked z c t at so free h =
+    deep_walked c.args.source.now.modules.now c.args.source.now.fuel at c.args.instance.now c.in-Some.module.now (sym c.in-Some.ensures) t
+    c.args.walk.now.totals c.if-source-eq0.true so.totals
 
 pub walk_instance-returns-then-is_bare-clause-walked : goal.walk_instance-returns-then-is_bare-clause-walked
 walk_instance-returns-then-is_bare-clause-walked z c t at so free h =
-    let positive : 0 < c.args.fuel = grind (arith, c.if-fuel-eq0.false) in
-    bare_walked c.args.modules.now c.args.fuel at c.args.instance.now c.in-Some.module.now (sym c.in-Some.ensures) t
-    c.args.totals.now c.is_bare.result positive c.is_bare.ensures c.if-is_bare.true so.totals
+    let positive : 0 < c.args.source.now.fuel = grind (arith, c.if-source-eq0.false) in
+    bare_walked c.args.source.now.modules.now c.args.source.now.fuel at c.args.instance.now c.in-Some.module.now (sym c.in-Some.ensures) t
+    c.args.walk.now.totals c.is_bare.result positive c.is_bare.ensures c.if-is_bare.true so.totals
 
 pub walk_instance-returns-then-contains-clause-walked : goal.walk_instance-returns-then-contains-clause-walked
 walk_instance-returns-then-contains-clause-walked z c t at so free h =
     let m = c.in-Some.module.now in
     absurd (true≢false (sym (sym c.contains.ensures ∙ c.if-contains.true)
     ∙ ap (λ p. contains_name p m.name) h.modules
-    ∙ not_around c.args.modules.now c.args.fuel at c.args.instance.now m (sym c.in-Some.ensures) free))
+    ∙ not_around c.args.source.now.modules.now c.args.source.now.fuel at c.args.instance.now m (sym c.in-Some.ensures) free))
 
 pub walk_instance-returns-clause-path : goal.walk_instance-returns-clause-path
 walk_instance-returns-clause-path z c =
-    c.pop.ensures c.args.path.now c.in-Some.module.now.name
+    c.pop.ensures c.args.walk.now.path c.in-Some.module.now.name
     (c.in_ok-fault.ensures.path ∙ c.in_ok-enter.ensures.ok)
 
 pub walk_instance-returns-clause-walked : goal.walk_instance-returns-clause-walked
 walk_instance-returns-clause-walked z c t at so free h =
-    let ms = c.args.modules.now in
+    let ms = c.args.source.now.modules.now in
     let x = c.args.instance.now in
     let m = c.in-Some.module.now in
     let named : module_named ms x.definition ≡ Some m = sym c.in-Some.ensures in
-    let positive : 0 < c.args.fuel = grind (arith, c.if-fuel-eq0.false) in
-    module_walked ms c.args.fuel at x m named t c.walk_module.new.totals c.in_ok-fault.fault positive
+    let positive : 0 < c.args.source.now.fuel = grind (arith, c.if-source-eq0.false) in
+    module_walked ms c.args.source.now.fuel at x m named t c.walk_module.new.walk.totals c.in_ok-fault.fault positive
     (λ text. c.in_ok-fault.ensures.walked t at text so ((named_is ms x.definition m named).formed so.formed)
     (c.in_ok-enter.ensures.ok ∙ ap (λ texts. texts ++ m.name ∷ []) h.modules)
     (record { stands = h.stands; modules = refl }))
@@ -554,11 +554,11 @@ walk_items-walk_one-requires z c =
     let low : depth x ≤ items_depth (items xs) = part_depth i xs x (drop (i + 1) xs) front in
     (omega (arith, low), (c.requires.table, c.loop-part.invariant.scope))
 
-pub walk_one-own_step-requires-clause-table : goal.walk_one-own_step-requires-clause-table
-walk_one-own_step-requires-clause-table z c = c.requires.table
+pub walk_one-walk_item-requires-clause-table : goal.walk_one-walk_item-requires-clause-table
+walk_one-walk_item-requires-clause-table z c = c.requires.table
 
-pub walk_one-own_step-requires-clause-scope : goal.walk_one-own_step-requires-clause-scope
-walk_one-own_step-requires-clause-scope z c = c.requires.scope
+pub walk_one-walk_item-requires-clause-scope : goal.walk_one-walk_item-requires-clause-scope
+walk_one-walk_item-requires-clause-scope z c = c.requires.scope
 
 pub walk_one-walk_within-requires : goal.walk_one-walk_within-requires
 walk_one-walk_within-requires z c =
@@ -568,13 +568,13 @@ pub walk_one-returns-then-is_some-clause-inside : goal.walk_one-returns-then-is_
 walk_one-returns-then-is_some-clause-inside z c = c.in_ok-fault.ensures.inside
 
 pub walk_one-returns-then-is_some-clause-path : goal.walk_one-returns-then-is_some-clause-path
-walk_one-returns-then-is_some-clause-path z c = refl
+walk_one-returns-then-is_some-clause-path z c = c.in_ok-fault.ensures.path
 
 pub walk_one-returns-then-is_some-clause-here : goal.walk_one-returns-then-is_some-clause-here
 walk_one-returns-then-is_some-clause-here z c = c.in_ok-fault.ensures.here
 
 pub walk_one-returns-clause-path : goal.walk_one-returns-clause-path
-walk_one-returns-clause-path z c = c.in_ok-walk_within.ensures.path
+walk_one-returns-clause-path z c = c.in_ok-walk_within.ensures.path ∙ c.in_ok-fault.ensures.path
 
 pub walk_within-walk_instance-requires : goal.walk_within-walk_instance-requires
 walk_within-walk_instance-requires z c = (omega arith, c.requires.table)
@@ -708,18 +708,18 @@ walk_instance-enter-requires z c = sym c.contains.ensures ∙ c.if-contains.fals
 
 pub walk_instance-walk_module-requires : goal.walk_instance-walk_module-requires
 walk_instance-walk_module-requires z c =
-    let ms = c.args.modules.now in
+    let ms = c.args.source.now.modules.now in
     let m = c.in-Some.module.now in
-    let positive : 0 < c.args.fuel = grind (arith, c.if-fuel-eq0.false) in
-    let low = module_below c.args.fuel (deepest ms) (items_depth (items m.items)) positive
+    let positive : 0 < c.args.source.now.fuel = grind (arith, c.if-source-eq0.false) in
+    let low = module_below c.args.source.now.fuel (deepest ms) (items_depth (items m.items)) positive
     (named_is ms c.args.instance.now.definition m (sym c.in-Some.ensures)).falls in
     (omega (arith, low), c.requires)
 
 pub walk_instance-returns-in_default-clause-path : goal.walk_instance-returns-in_default-clause-path
 walk_instance-returns-in_default-clause-path z c = refl
 
-pub walk_instance-returns-then-fuel-eq0-clause-path : goal.walk_instance-returns-then-fuel-eq0-clause-path
-walk_instance-returns-then-fuel-eq0-clause-path z c = refl
+pub walk_instance-returns-then-source-eq0-clause-path : goal.walk_instance-returns-then-source-eq0-clause-path
+walk_instance-returns-then-source-eq0-clause-path z c = refl
 
 pub walk_instance-returns-then-is_bare-clause-path : goal.walk_instance-returns-then-is_bare-clause-path
 walk_instance-returns-then-is_bare-clause-path z c = refl
@@ -740,13 +740,13 @@ walk_module-walk_items-requires z c =
     )
 
 pub walk_module-returns-then-is_some-clause-path : goal.walk_module-returns-then-is_some-clause-path
-walk_module-returns-then-is_some-clause-path z c = refl
+walk_module-returns-then-is_some-clause-path z c = c.in_ok-fault.ensures.path
 
 pub walk_module-returns-clause-path : goal.walk_module-returns-clause-path
-walk_module-returns-clause-path z c = c.in_ok-walk_items.ensures.path
+walk_module-returns-clause-path z c = c.in_ok-walk_items.ensures.path ∙ c.in_ok-fault.ensures.path
 
-pub walk_instance-overflow_sub-fuel : goal.walk_instance-overflow_sub-fuel
-walk_instance-overflow_sub-fuel z c = omega (arith, c.if-fuel-eq0.false)
+pub walk_instance-overflow_sub-inner : goal.walk_instance-overflow_sub-inner
+walk_instance-overflow_sub-inner z c = omega (arith, c.if-source-eq0.false)
 
 pub walk_turns-overflow_sub-left : goal.walk_turns-overflow_sub-left
 walk_turns-overflow_sub-left z c = omega (arith, c.loop-left-test.true)

@@ -45,14 +45,14 @@ write_items-loop-part-init z c = record {
   declares = c.requires.declared;
   few = omega arith;
   left = left_all c.args.draft.now
-      (items_seen c.args.modules.now c.args.depth (items c.args.all.now) (place_of c.args.here.now) 1)
+      (items_seen c.args.source.now.modules.now c.args.source.now.depth (items c.args.all.now) (place_of c.args.here.now) 1)
       c.requires.ready;
 }
 
 pub write_items-write_one-requires : goal.write_items-write_one-requires
 write_items-write_one-requires z c =
-    let ms = c.args.modules.now in
-    let d = c.args.depth in
+    let ms = c.args.source.now.modules.now in
+    let d = c.args.source.now.depth in
     let at = place_of c.args.here.now in
     let xs = c.args.all.now in
     let i = c.loop-part.part-index in
@@ -86,8 +86,8 @@ write_items-write_one-requires z c =
 
 pub write_items-loop-part-preserved : goal.write_items-loop-part-preserved
 write_items-loop-part-preserved z c =
-    let ms = c.args.modules.now in
-    let d = c.args.depth in
+    let ms = c.args.source.now.modules.now in
+    let d = c.args.source.now.depth in
     let at = place_of c.args.here.now in
     let xs = c.args.all.now in
     let i = c.loop-part.part-index in
@@ -118,8 +118,8 @@ write_items-returns-clause-here z c = c.loop-part.invariant.here
 
 pub write_items-returns-clause-written : goal.write_items-returns-clause-written
 write_items-returns-clause-written z c =
-    let ms = c.args.modules.now in
-    let d = c.args.depth in
+    let ms = c.args.source.now.modules.now in
+    let d = c.args.source.now.depth in
     let at = place_of c.args.here.now in
     let xs = c.args.all.now in
     let i = c.loop-part.part-index in
@@ -132,7 +132,7 @@ write_items-returns-clause-written z c =
 
 pub write_one-write_item-requires : goal.write_one-write_item-requires
 write_one-write_item-requires z c =
-    own_may c.args.modules.now c.args.depth c.args.draft.now c.args.part.now (place_of c.args.here.now) c.args.number
+    own_may c.args.source.now.modules.now c.args.source.now.depth c.args.draft.now c.args.part.now (place_of c.args.here.now) c.args.number
     c.args.decls.now c.requires.declared c.requires.ready
 
 pub write_one-write_within-requires : goal.write_one-write_within-requires
@@ -142,7 +142,7 @@ write_one-write_within-requires z c = (
     c.requires.table,
     (
       c.requires.numbers,
-      inner_ready c.args.modules.now c.args.depth c.args.draft.now c.args.part.now (place_of c.args.here.now)
+      inner_ready c.args.source.now.modules.now c.args.source.now.depth c.args.draft.now c.args.part.now (place_of c.args.here.now)
           c.args.number c.args.decls.now c.requires.declared c.requires.ready c.write_item.new.draft
           c.in_ok-write_item.ensures,
     ),
@@ -151,7 +151,7 @@ write_one-write_within-requires z c = (
 
 pub write_one-returns-clause-written : goal.write_one-returns-clause-written
 write_one-returns-clause-written z c =
-    on_ok_weaker c.write_within.result (λ h. item_written c.args.modules.now c.args.depth c.args.draft.now
+    on_ok_weaker c.write_within.result (λ h. item_written c.args.source.now.modules.now c.args.source.now.depth c.args.draft.now
     c.args.part.now (place_of c.args.here.now) c.args.number c.args.decls.now c.requires.declared c.requires.ready
     c.write_item.new.draft c.write_within.new.draft c.in_ok-write_item.ensures h) c.write_within.ensures.written
 
@@ -172,7 +172,7 @@ write_within-write_instance-requires z c =
         (
           c.requires.numbers,
           subst (λ (x : Item). IsReady c.args.draft.now
-              (inner_seen c.args.modules.now c.args.depth x (place_of c.args.here.now) c.args.number)) (sym same)
+              (inner_seen c.args.source.now.modules.now c.args.source.now.depth x (place_of c.args.here.now) c.args.number)) (sym same)
               c.requires.ready,
         ),
       ),
@@ -186,7 +186,7 @@ write_within-returns-in_ok-write_instance-in-Instance-clause-written z c =
     let same : instance a p c.in-Instance.instance ≡ c.args.part.now =
     ap (shown a p) (sym c.in-Instance.is) ∙ c.part.view_is in
     subst (λ (x : Item). Writes c.args.draft.now
-    (inner_seen c.args.modules.now c.args.depth x (place_of c.args.here.now) c.args.number)
+    (inner_seen c.args.source.now.modules.now c.args.source.now.depth x (place_of c.args.here.now) c.args.number)
     c.write_instance.new.draft) same c.in_ok-write_instance-in-Instance.ensures
 
 pub write_within-returns-in_ok-write_instance-in-Instance-clause-here :
@@ -206,7 +206,7 @@ write_within-write_turns-requires z c =
         (
           c.requires.numbers,
           subst (λ (x : Item). IsReady c.args.draft.now
-              (inner_seen c.args.modules.now c.args.depth x (place_of c.args.here.now) c.args.number)) (sym same)
+              (inner_seen c.args.source.now.modules.now c.args.source.now.depth x (place_of c.args.here.now) c.args.number)) (sym same)
               c.requires.ready,
         ),
       ),
@@ -220,7 +220,7 @@ write_within-returns-in_ok-write_turns-in-For-clause-written z c =
     let b = block c.in-For.block in
     let same : for_loop a p c.in-For.head b ≡ c.args.part.now = ap (shown a p) (sym c.in-For.is) ∙ c.part.view_is in
     subst (λ (x : Item). Writes c.args.draft.now
-    (inner_seen c.args.modules.now c.args.depth x (place_of c.args.here.now) c.args.number)
+    (inner_seen c.args.source.now.modules.now c.args.source.now.depth x (place_of c.args.here.now) c.args.number)
     c.write_turns.new.draft) same c.in_ok-write_turns-in-For.ensures.written
 
 pub write_within-returns-in_ok-write_turns-in-For-clause-here :
@@ -243,9 +243,9 @@ write_within-write_if-requires z c =
         (
           c.requires.numbers,
           subst (IsReady c.args.draft.now)
-              (ap (λ (x : Item). inner_seen c.args.modules.now c.args.depth x (place_of c.args.here.now) c.args.number)
+              (ap (λ (x : Item). inner_seen c.args.source.now.modules.now c.args.source.now.depth x (place_of c.args.here.now) c.args.number)
               (sym same)
-              ∙ if_alike c.args.modules.now c.args.depth a p [] nowhere c.in-If.condition c.in-If.first c.in-If.second
+              ∙ if_alike c.args.source.now.modules.now c.args.source.now.depth a p [] nowhere c.in-If.condition c.in-If.first c.in-If.second
               (place_of c.args.here.now) c.args.number) c.requires.ready,
         ),
       ),
@@ -259,9 +259,9 @@ write_within-returns-in_ok-write_if-in-If-clause-written z c =
     let same : shown a p (kind.If c.in-If.condition c.in-If.first c.in-If.second) ≡ c.args.part.now =
     ap (shown a p) (sym c.in-If.is) ∙ c.part.view_is in
     subst (λ xs. Writes c.args.draft.now xs c.write_if.new.draft)
-    (if_alike c.args.modules.now c.args.depth [] nowhere a p c.in-If.condition c.in-If.first c.in-If.second
+    (if_alike c.args.source.now.modules.now c.args.source.now.depth [] nowhere a p c.in-If.condition c.in-If.first c.in-If.second
     (place_of c.args.here.now) c.args.number
-    ∙ ap (λ (x : Item). inner_seen c.args.modules.now c.args.depth x (place_of c.args.here.now) c.args.number) same)
+    ∙ ap (λ (x : Item). inner_seen c.args.source.now.modules.now c.args.source.now.depth x (place_of c.args.here.now) c.args.number) same)
     c.in_ok-write_if-in-If.ensures.written
 
 pub write_within-returns-in_ok-write_if-in-If-clause-here : goal.write_within-returns-in_ok-write_if-in-If-clause-here
@@ -272,8 +272,8 @@ write_within-returns-in-Declaration-clause-here z c = refl
 
 pub write_within-returns-in-Declaration-clause-written : goal.write_within-returns-in-Declaration-clause-written
 write_within-returns-in-Declaration-clause-written z c =
-    let ms = c.args.modules.now in
-    let d = c.args.depth in
+    let ms = c.args.source.now.modules.now in
+    let d = c.args.source.now.depth in
     let at = place_of c.args.here.now in
     let x = c.args.part.now in
     let a = c.part.inside.attributes in
@@ -297,8 +297,8 @@ write_within-returns-in-Parameter-clause-here z c = refl
 
 pub write_within-returns-in-Parameter-clause-written : goal.write_within-returns-in-Parameter-clause-written
 write_within-returns-in-Parameter-clause-written z c =
-    let ms = c.args.modules.now in
-    let d = c.args.depth in
+    let ms = c.args.source.now.modules.now in
+    let d = c.args.source.now.depth in
     let at = place_of c.args.here.now in
     let x = c.args.part.now in
     let a = c.part.inside.attributes in
@@ -322,8 +322,8 @@ write_within-returns-in-Initial-clause-here z c = refl
 
 pub write_within-returns-in-Initial-clause-written : goal.write_within-returns-in-Initial-clause-written
 write_within-returns-in-Initial-clause-written z c =
-    let ms = c.args.modules.now in
-    let d = c.args.depth in
+    let ms = c.args.source.now.modules.now in
+    let d = c.args.source.now.depth in
     let at = place_of c.args.here.now in
     let x = c.args.part.now in
     let a = c.part.inside.attributes in
@@ -355,7 +355,7 @@ write_if-write_block-requires z c =
         (
           c.requires.numbers,
           subst (IsReady c.args.draft.now)
-              (some_chosen c.args.modules.now c.args.depth [] nowhere c.args.condition.now c.args.first.now
+              (some_chosen c.args.source.now.modules.now c.args.source.now.depth [] nowhere c.args.condition.now c.args.first.now
               c.args.second.now at c.args.number c.args.here.now.numbers c.requires.numbers c.in_ok-holds.holds
               c.in_ok-holds.ensures b some) c.requires.ready,
         ),
@@ -366,9 +366,9 @@ pub write_if-returns-in-None-clause-written : goal.write_if-returns-in-None-clau
 write_if-returns-in-None-clause-written z c =
     let at = place_of c.args.here.now in
     writes_nothing c.args.draft.now
-    (inner_seen c.args.modules.now c.args.depth
+    (inner_seen c.args.source.now.modules.now c.args.source.now.depth
     (shown [] nowhere (kind.If c.args.condition.now c.args.first.now c.args.second.now)) at c.args.number)
-    (none_chosen c.args.modules.now c.args.depth [] nowhere c.args.condition.now c.args.first.now c.args.second.now at
+    (none_chosen c.args.source.now.modules.now c.args.source.now.depth [] nowhere c.args.condition.now c.args.first.now c.args.second.now at
     c.args.number c.args.here.now.numbers c.requires.numbers c.in_ok-holds.holds c.in_ok-holds.ensures
     (sym (ap (λ o. option_map block (option_copied o)) c.in-None.is) ∙ c.chosen.ensures))
 
@@ -383,7 +383,7 @@ write_if-returns-in_ok-write_block-in-Some-clause-written z c =
     let some : Some b ≡ chosen_block c.in_ok-holds.holds (block c.args.first.now) (option_map block c.args.second.now) =
     c.in-Some.ensures in
     subst (λ xs. Writes c.args.draft.now xs c.write_block.new.draft)
-    (sym (some_chosen c.args.modules.now c.args.depth [] nowhere c.args.condition.now c.args.first.now
+    (sym (some_chosen c.args.source.now.modules.now c.args.source.now.depth [] nowhere c.args.condition.now c.args.first.now
     c.args.second.now at c.args.number c.args.here.now.numbers c.requires.numbers c.in_ok-holds.holds
     c.in_ok-holds.ensures b some)) c.in_ok-write_block-in-Some.ensures.written
 
@@ -404,7 +404,7 @@ write_block-write_scope-requires z c =
         (
           c.requires.numbers,
           subst (IsReady c.args.draft.now)
-              (block_scoped c.args.modules.now c.args.depth b xs (place_of c.args.here.now) c.args.number
+              (block_scoped c.args.source.now.modules.now c.args.source.now.depth b xs (place_of c.args.here.now) c.args.number
               c.in_ok-path-in-None.path (sym (sym (ap option_copied c.in-None.is) ∙ c.nested.ensures))
               c.items_of-all.ensures
               c.in_ok-path-in-None.ensures) c.requires.ready,
@@ -418,7 +418,7 @@ write_block-returns-in_ok-write_scope-in-None-clause-written z c =
     let b = block c.args.block.now in
     let xs = items c.items_of-all.result.now in
     subst (λ ys. Writes c.args.draft.now ys c.write_scope.new.draft)
-    (sym (block_scoped c.args.modules.now c.args.depth b xs (place_of c.args.here.now) c.args.number
+    (sym (block_scoped c.args.source.now.modules.now c.args.source.now.depth b xs (place_of c.args.here.now) c.args.number
     c.in_ok-path-in-None.path (sym (sym (ap option_copied c.in-None.is) ∙ c.nested.ensures)) c.items_of-all.ensures
     c.in_ok-path-in-None.ensures)) c.in_ok-write_scope-in-None.ensures.written
 
@@ -440,7 +440,7 @@ write_block-write_one-requires z c =
           (
             nested_declares (around_of c.args.here.now.scopes) b x some,
             subst (IsReady c.args.draft.now)
-                (block_nested c.args.modules.now c.args.depth b x (place_of c.args.here.now) c.args.number some)
+                (block_nested c.args.source.now.modules.now c.args.source.now.depth b x (place_of c.args.here.now) c.args.number some)
                 c.requires.ready,
           ),
         ),
@@ -454,7 +454,7 @@ write_block-returns-in_ok-write_one-in-Some-clause-written z c =
     let x = c.in-Some.part.now in
     let some : nested_if b ≡ Some x = sym c.in-Some.ensures in
     subst (λ xs. Writes c.args.draft.now xs c.write_one.new.draft)
-    (sym (block_nested c.args.modules.now c.args.depth b x (place_of c.args.here.now) c.args.number some))
+    (sym (block_nested c.args.source.now.modules.now c.args.source.now.depth b x (place_of c.args.here.now) c.args.number some))
     c.in_ok-write_one-in-Some.ensures.written
 
 pub write_block-returns-in_ok-write_one-in-Some-clause-here :
@@ -465,8 +465,8 @@ write_block-returns-in_ok-write_one-in-Some-clause-here z c = c.in_ok-write_one-
 
 pub write_turns-loop-left-init : goal.write_turns-loop-left-init
 write_turns-loop-left-init z c =
-    let ms = c.args.modules.now in
-    let d = c.args.depth in
+    let ms = c.args.source.now.modules.now in
+    let d = c.args.source.now.depth in
     let head = c.args.head.now in
     let b = block c.args.block.now in
     let at = place_of c.args.here.now in
@@ -483,8 +483,8 @@ write_turns-loop-left-init z c =
 
 pub write_turns-write_turn-requires : goal.write_turns-write_turn-requires
 write_turns-write_turn-requires z c =
-    let ms = c.args.modules.now in
-    let d = c.args.depth in
+    let ms = c.args.source.now.modules.now in
+    let d = c.args.source.now.depth in
     let head = c.args.head.now in
     let b = block c.args.block.now in
     let at = place_of c.args.here.now in
@@ -525,8 +525,8 @@ write_turns-write_turn-requires z c =
 
 pub write_turns-loop-left-preserved : goal.write_turns-loop-left-preserved
 write_turns-loop-left-preserved z c =
-    let ms = c.args.modules.now in
-    let d = c.args.depth in
+    let ms = c.args.source.now.modules.now in
+    let d = c.args.source.now.depth in
     let head = c.args.head.now in
     let b = block c.args.block.now in
     let at = place_of c.args.here.now in
@@ -563,8 +563,8 @@ write_turns-returns-in_default-clause-here z c =
 
 pub write_turns-returns-in_default-clause-written : goal.write_turns-returns-in_default-clause-written
 write_turns-returns-in_default-clause-written z c =
-    let ms = c.args.modules.now in
-    let d = c.args.depth in
+    let ms = c.args.source.now.modules.now in
+    let d = c.args.source.now.depth in
     let head = c.args.head.now in
     let b = block c.args.block.now in
     let at = place_of c.args.here.now in
@@ -585,8 +585,8 @@ write_turns-returns-clause-here z c = c.loop-left.invariant.here
 
 pub write_turns-returns-clause-written : goal.write_turns-returns-clause-written
 write_turns-returns-clause-written z c =
-    let ms = c.args.modules.now in
-    let d = c.args.depth in
+    let ms = c.args.source.now.modules.now in
+    let d = c.args.source.now.depth in
     let head = c.args.head.now in
     let b = block c.args.block.now in
     let at = place_of c.args.here.now in
@@ -627,8 +627,8 @@ write_turn-turn_path-requires z c = c.requires.bounded
 
 pub write_turn-write_scope-requires : goal.write_turn-write_scope-requires
 write_turn-write_scope-requires z c =
-    let ms = c.args.modules.now in
-    let d = c.args.depth in
+    let ms = c.args.source.now.modules.now in
+    let d = c.args.source.now.depth in
     let h = c.args.here.now in
     let b = block c.args.block.now in
     let xs = items c.items_of-all.result.now in
@@ -653,8 +653,8 @@ write_turn-write_scope-requires z c =
 
 pub write_turn-returns-clause-written : goal.write_turn-returns-clause-written
 write_turn-returns-clause-written z c =
-    let ms = c.args.modules.now in
-    let d = c.args.depth in
+    let ms = c.args.source.now.modules.now in
+    let d = c.args.source.now.depth in
     let h = c.args.here.now in
     let b = block c.args.block.now in
     let xs = items c.items_of-all.result.now in
@@ -683,14 +683,14 @@ write_turn-returns-clause-here z c =
 pub write_scope-open_block-requires : goal.write_scope-open_block-requires
 write_scope-open_block-requires z c = record {
   numbers = c.requires.numbers;
-  openable = block_opens c.args.modules.now c.args.depth (items c.args.all.now) (place_of c.args.here.now) c.args.path
+  openable = block_opens c.args.source.now.modules.now c.args.source.now.depth (items c.args.all.now) (place_of c.args.here.now) c.args.path
       c.requires.ready.openable;
 }
 
 pub write_scope-write_items-requires : goal.write_scope-write_items-requires
 write_scope-write_items-requires z c =
-    let ms = c.args.modules.now in
-    let d = c.args.depth in
+    let ms = c.args.source.now.modules.now in
+    let d = c.args.source.now.depth in
     let h = c.args.here.now in
     let xs = items c.args.all.now in
     let so : scope_seen ms d xs (place_of h) c.args.path ≡ items_seen ms d xs (place_of c.open_block.new.here) 1 =
@@ -713,8 +713,8 @@ write_scope-write_items-requires z c =
 
 pub write_scope-returns-clause-written : goal.write_scope-returns-clause-written
 write_scope-returns-clause-written z c =
-    let ms = c.args.modules.now in
-    let d = c.args.depth in
+    let ms = c.args.source.now.modules.now in
+    let d = c.args.source.now.depth in
     let h = c.args.here.now in
     let xs = items c.args.all.now in
     let so : scope_seen ms d xs (place_of h) c.args.path ≡ items_seen ms d xs (place_of c.open_block.new.here) 1 =
@@ -739,25 +739,25 @@ write_instance-find-requires z c = c.requires.table
 
 pub write_instance-open_instance-requires : goal.write_instance-open_instance-requires
 write_instance-open_instance-requires z c =
-    let positive : 0 < c.args.depth = grind (arith, c.if-depth-eq0.false) in
+    let positive : 0 < c.args.source.now.depth = grind (arith, c.if-source-eq0.false) in
     record {
       numbers = c.requires.numbers;
-      openable = instance_opens c.args.modules.now c.args.depth c.args.instance.now (place_of c.args.here.now)
+      openable = instance_opens c.args.source.now.modules.now c.args.source.now.depth c.args.instance.now (place_of c.args.here.now)
           c.in-Some.module.now c.in-Some.ensures positive c.args.draft.now c.requires.ready;
     }
 
-pub write_instance-overflow_sub-depth : goal.write_instance-overflow_sub-depth
-write_instance-overflow_sub-depth z c = omega (arith, c.if-depth-eq0.false)
+pub write_instance-overflow_sub-inner : goal.write_instance-overflow_sub-inner
+write_instance-overflow_sub-inner z c = omega (arith, c.if-source-eq0.false)
 
 pub write_instance-write_opened-requires : goal.write_instance-write_opened-requires
 write_instance-write_opened-requires z c =
-    let ms = c.args.modules.now in
+    let ms = c.args.source.now.modules.now in
     let m = c.in-Some.module.now in
     let at = place_of c.args.here.now in
     let u = use_of at.scopes c.args.instance.now in
     let inside = at.path ++ c.args.instance.now.name ++ codes "." in
-    let positive : 0 < c.args.depth = grind (arith, c.if-depth-eq0.false) in
-    let low = module_falls c.args.depth (deepest ms) (items_depth (items m.items)) positive
+    let positive : 0 < c.args.source.now.depth = grind (arith, c.if-source-eq0.false) in
+    let low = module_falls c.args.source.now.depth (deepest ms) (items_depth (items m.items)) positive
     (named_is ms c.args.instance.now.definition m (sym c.in-Some.ensures)).falls in (
       omega (arith, low),
       (
@@ -765,9 +765,9 @@ write_instance-write_opened-requires z c =
         (
           c.in_ok-opened.ensures.numbers,
           (
-            opened_declares ms (c.args.depth - 1) m u inside at.modules c.in_ok-opened.opened
+            opened_declares ms (c.args.source.now.depth - 1) m u inside at.modules c.in_ok-opened.opened
                 c.in_ok-opened.ensures,
-            opened_ready ms c.args.depth c.args.instance.now at m c.in-Some.ensures positive c.in_ok-opened.opened
+            opened_ready ms c.args.source.now.depth c.args.instance.now at m c.in-Some.ensures positive c.in_ok-opened.opened
                 c.in_ok-opened.ensures c.args.draft.now c.write_joined.new.draft c.requires.ready
                 c.in_ok-write_joined.ensures,
           ),
@@ -778,22 +778,22 @@ write_instance-write_opened-requires z c =
 pub write_instance-returns-in_default : goal.write_instance-returns-in_default
 write_instance-returns-in_default z c =
     let at = place_of c.args.here.now in
-    writes_nothing c.args.draft.now (instance_seen c.args.modules.now c.args.depth c.args.instance.now at)
-    (none_found c.args.modules.now c.args.depth c.args.instance.now at
+    writes_nothing c.args.draft.now (instance_seen c.args.source.now.modules.now c.args.source.now.depth c.args.instance.now at)
+    (none_found c.args.source.now.modules.now c.args.source.now.depth c.args.instance.now at
     (sym (ap option_copied c.in_default.is) ∙ c.find.ensures))
 
-pub write_instance-returns-then-depth-eq0 : goal.write_instance-returns-then-depth-eq0
-write_instance-returns-then-depth-eq0 z c =
+pub write_instance-returns-then-source-eq0 : goal.write_instance-returns-then-source-eq0
+write_instance-returns-then-source-eq0 z c =
     let at = place_of c.args.here.now in
-    writes_nothing c.args.draft.now (instance_seen c.args.modules.now c.args.depth c.args.instance.now at)
-    (too_deep c.args.modules.now c.args.depth c.args.instance.now at c.in-Some.module.now c.in-Some.ensures
-    c.if-depth-eq0.true)
+    writes_nothing c.args.draft.now (instance_seen c.args.source.now.modules.now c.args.source.now.depth c.args.instance.now at)
+    (too_deep c.args.source.now.modules.now c.args.source.now.depth c.args.instance.now at c.in-Some.module.now c.in-Some.ensures
+    c.if-source-eq0.true)
 
 pub write_instance-returns : goal.write_instance-returns
 write_instance-returns z c =
     let at = place_of c.args.here.now in
-    let positive : 0 < c.args.depth = grind (arith, c.if-depth-eq0.false) in
-    on_ok_weaker c.write_opened.result (λ h. instance_written c.args.modules.now c.args.depth c.args.instance.now at
+    let positive : 0 < c.args.source.now.depth = grind (arith, c.if-source-eq0.false) in
+    on_ok_weaker c.write_opened.result (λ h. instance_written c.args.source.now.modules.now c.args.source.now.depth c.args.instance.now at
     c.in-Some.module.now c.in-Some.ensures positive c.in_ok-opened.opened c.in_ok-opened.ensures c.args.draft.now
     c.write_joined.new.draft c.write_opened.new.draft c.in_ok-write_joined.ensures h) c.write_opened.ensures
 
@@ -801,7 +801,7 @@ write_instance-returns z c =
 
 pub write_opened-write_ports-requires : goal.write_opened-write_ports-requires
 write_opened-write_ports-requires z c =
-    ports_may c.args.modules.now c.args.depth c.args.module.now c.args.opened c.written_ports.result.now
+    ports_may c.args.source.now.modules.now c.args.source.now.depth c.args.module.now c.args.opened c.written_ports.result.now
     c.as_slice.result.now c.written_ports.ensures c.as_slice.ensures c.args.draft.now c.requires.ready
 
 pub write_opened-write_items-requires : goal.write_opened-write_items-requires
@@ -817,7 +817,7 @@ write_opened-write_items-requires z c =
           (
             c.as_slice-3.ensures ∙ c.requires.declared
                 ∙ ap (λ ys. declared (around_of c.args.opened.here.scopes) (items ys)) (sym c.as_slice-2.ensures),
-            within_ready c.args.modules.now c.args.depth c.args.module.now c.args.opened c.written_ports.result.now
+            within_ready c.args.source.now.modules.now c.args.source.now.depth c.args.module.now c.args.opened c.written_ports.result.now
                 c.as_slice.result.now c.written_ports.ensures c.as_slice.ensures xs c.as_slice-2.ensures c.args.draft.now
                 c.write_ports.new.draft c.requires.ready c.in_ok-write_ports.ensures,
           ),
@@ -828,7 +828,7 @@ write_opened-write_items-requires z c =
 pub write_opened-returns : goal.write_opened-returns
 write_opened-returns z c =
     let xs = c.as_slice-2.result.now in
-    on_ok_weaker c.write_items.result (λ h. opened_written c.args.modules.now c.args.depth c.args.module.now
+    on_ok_weaker c.write_items.result (λ h. opened_written c.args.source.now.modules.now c.args.source.now.depth c.args.module.now
     c.args.opened c.written_ports.result.now c.as_slice.result.now c.written_ports.ensures c.as_slice.ensures xs
     c.as_slice-2.ensures c.args.draft.now c.write_ports.new.draft c.write_items.new.draft c.in_ok-write_ports.ensures h)
     c.write_items.ensures.written
