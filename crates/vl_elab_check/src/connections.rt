@@ -88,15 +88,7 @@ pub(crate) fn walk_overrides(
     let parameters = ParameterTable::new(walk.alloc, module)?;
     let mut earlier = NameSet::new(walk.alloc);
     for given in all {
-        let found = walk_override(
-            walk,
-            &parameters,
-            module,
-            given,
-            names,
-            inner,
-            &mut earlier,
-        )?;
+        let found = walk_override(walk, &parameters, module, given, names, inner, &mut earlier)?;
         if found.is_some() {
             return Ok(found);
         }

@@ -68,7 +68,15 @@ fn item_fault(
         ItemKind::Parameter(kind, list) => {
             let given = &here.given;
             let reached = &mut here.reached;
-            parameters_fault(alloc, *kind, list.as_slice(), given, names, earlier, reached)
+            parameters_fault(
+                alloc,
+                *kind,
+                list.as_slice(),
+                given,
+                names,
+                earlier,
+                reached,
+            )
         }
         ItemKind::Assign(list) => assign_fault(alloc, list.as_slice(), names),
         ItemKind::Always(event, stmt) => always_fault(alloc, event, stmt, names),
@@ -76,7 +84,15 @@ fn item_fault(
         ItemKind::Instance(instance) => {
             let table = source.table;
             let path = &walk.path;
-            instance_fault(alloc, table, source.modules, item.pos, instance, path, earlier)
+            instance_fault(
+                alloc,
+                table,
+                source.modules,
+                item.pos,
+                instance,
+                path,
+                earlier,
+            )
         }
         ItemKind::Generate(_) => Ok(None),
         ItemKind::For(head, _) => {

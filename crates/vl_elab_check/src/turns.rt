@@ -10,8 +10,8 @@ ghost use Rattle.vl_elab_check.specs.Standing.{IsWithin};
 
 use fv_text::Memory;
 use std::alloc::Global;
-use vl_elab_check_item::{HeadValues, enter_turn, head_values};
-use vl_elab_const::{genvar_value, value_in_turn};
+use vl_elab_check_item::{HeadValues, MOST_TURNS, enter_turn, head_values, next_turn};
+use vl_elab_const::genvar_value;
 use vl_elab_decls::Inside;
 use vl_mean::Const;
 use vl_tree::LoopHead;
@@ -25,12 +25,12 @@ pub(crate) fn first_value(alloc: Global, head: &LoopHead, inside: &Inside) -> Re
 }
 
 fn limit_by(values: HeadValues) -> u32
-    ensures { result ≡ (if values.turns then (if values.further then 4096 else 1) else 0) }
+    ensures { result ≡ (if values.turns then (if values.further then walk.most_turns else 1) else 0) }
 {
     if !values.turns {
         return 0;
     }
-    if values.further { 4096 } else { 1 }
+    if values.further { MOST_TURNS } else { 1 }
 }
 
 /// How many turns a loop may have, by what has a value in its head: at most 4,096.
@@ -55,10 +55,7 @@ pub(crate) fn next_value(
         → c ≡ (if walk.goes_on head.now at.scopes value then Some (walk.next_turn head.now at.scopes value)
         else None)) }
 {
-    enter_turn(alloc, &head.variable, value, &mut inside.numbers)?;
-    let next = value_in_turn(alloc, head, &inside.numbers)?;
-    inside.numbers.leave();
-    Ok(next)
+    Ok(next_turn(alloc, head, value, &mut inside.numbers)?)
 }
 
 /// Enters the scope of a turn.

@@ -6,7 +6,7 @@ use Rattle.std.specs.Prelude.{if◌then◌else◌}
 use Rattle.fv_text.specs.declared.pos.Pos.{Pos}
 use Rattle.vl_tree.specs.declared.part.LoopHead.{LoopHead}
 use Rattle.vl_mean.specs.declared.const_number.Const.{Const}
-use Rattle.vl_mean.specs.Walk.{Place, turn_place, first_turn}
+use Rattle.vl_mean.specs.Walk.{Place, turn_place, first_turn, most_turns}
 use Rattle.vl_elab_spec.specs.declared.elab_fault.ElabFault.{ElabFault}
 use Rattle.vl_elab_spec.specs.declared.elab_fault.ElabFault.TheVariants as f
 use Rattle.vl_elab_spec.specs.Expressions.{refused_if, own_refusals, refusals}
@@ -69,7 +69,7 @@ idle_fault ns numbers head c =
 -- from the first one on
 abbrev pub begun_fault : List Names → List Names → LoopHead → Pos → Const → Option ElabFault
 begun_fault ns numbers head p c =
-    lower_of (idle_fault ns numbers head c) (turns_fault 4096 ns numbers head p c)
+    lower_of (idle_fault ns numbers head c) (turns_fault most_turns ns numbers head p c)
 
 -- only a name that no scope declares counts
 abbrev pub if_unknown : Option ElabFault → Option ElabFault

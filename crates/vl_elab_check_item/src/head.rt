@@ -1,7 +1,7 @@
 //! Where the head of a generate loop is refused: with all its turns.
-ghost use Rattle.std.specs.Prelude.{◌≡◌, ◌++◌, ◌∷◌, [], List, true, None, IfOk, OnOk, OnErr};
+ghost use Rattle.std.specs.Prelude.{◌≡◌, ◌++◌, List, true, None, IfOk, OnOk, OnErr};
 ghost use Rattle.std.specs.Prelude.{◌&&◌, if◌then◌else◌, is_none};
-ghost use Rattle.vl_mean.specs.Walk.{Place};
+ghost use Rattle.vl_mean.specs.Walk.{Place, most_turns};
 ghost use Rattle.vl_elab_spec.specs.Expressions as expressions;
 ghost use Rattle.vl_elab_spec.specs.Items as items;
 ghost use Rattle.vl_elab_spec.specs.Meanings as meanings;
@@ -15,6 +15,7 @@ ghost use Rattle.vl_elab_check_item.specs.TurnParts as spec;
 ghost use Rattle.vl_elab_check_item.specs.declared.head.Variable.TheVariants as v;
 
 use crate::assigned::genvar_fault;
+use crate::turn::{MOST_TURNS, enter_turn};
 use fv_text::{Memory, Pos, Text};
 use std::alloc::Global;
 use vl_elab_check_expr::{expr_fault, first_of, own_fault};
@@ -23,28 +24,6 @@ use vl_elab_scope::{Level, Meaning, Names, context_of};
 use vl_elab_spec::ElabFault;
 use vl_mean::Const;
 use vl_tree::{Expr, LoopHead};
-
-fn one_name(alloc: Global, variable: &Text, value: Const) -> Result<Level, Memory>
-    ensures { IfOk result (λ l. l ≡ (variable.now, meanings.constant value true) ∷ []) }
-{
-    let mut level = Level::new(alloc);
-    level.add(variable.copied(alloc)?, Meaning::Constant(value, true))?;
-    Ok(level)
-}
-
-/// Enters the scope of a turn, in which the loop's variable is a constant.
-pub fn enter_turn(
-    alloc: Global,
-    variable: &Text,
-    value: Const,
-    names: &mut Names,
-) -> Result<(), Memory>
-    ensures ok { OnOk result (names.new ≡ spec.in_turn variable.now value names.old) }
-    ensures err { OnErr result (names.new ≡ names.old) }
-{
-    let level = one_name(alloc, variable, value)?;
-    names.enter(level)
-}
 
 /// What is found of a turn: which of its refusals is answered, and the value of the next turn. None exactly where it
 /// leads to none.
@@ -236,11 +215,11 @@ fn turns(
 ) -> Result<Option<ElabFault>, Memory>
     ensures names { OnOk result (names.new ≡ names.old) }
     ensures numbers { OnOk result (numbers.new ≡ numbers.old) }
-    ensures fault { IfOk result (λ g. g ≡ spec.turns_fault 4096 names.old numbers.old head.now pos start) }
+    ensures fault { IfOk result (λ g. g ≡ spec.turns_fault most_turns names.old numbers.old head.now pos start) }
 {
     let mut fault = None;
     let mut value = start;
-    let mut left = 4096u32;
+    let mut left = MOST_TURNS;
     while left > 0 {
         let found = turn(alloc, head, value, names, numbers)?;
         fault = first_of(fault, found.fault);

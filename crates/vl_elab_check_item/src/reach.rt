@@ -7,7 +7,8 @@ ghost use Rattle.vl_elab_scope.specs.Alike.{Alike};
 ghost use Rattle.vl_elab_const.specs.Numbers.{HaveNumbers};
 ghost use Rattle.vl_elab_check_item.specs.TurnParts as spec;
 
-use crate::head::{enter_turn, has_value};
+use crate::head::has_value;
+use crate::turn::enter_turn;
 use fv_text::Memory;
 use std::alloc::Global;
 use vl_elab_const::genvar_value;

@@ -10,6 +10,7 @@ use Rattle.vl_tree.specs.Item.{Item, declaration, integer}
 use Rattle.vl_size.specs.Table.{span}
 use Rattle.vl_mean.specs.declared.const_number.Const.{Const}
 use Rattle.vl_mean.specs.FlatLaw.{nodes}
+use Rattle.vl_mean.specs.Walk.{most_turns}
 use Rattle.vl_elab_spec.specs.Items.{has_value}
 use Rattle.vl_elab_spec.specs.Meanings.{Names, bound}
 use Rattle.vl_elab_const.specs.Numbers.{holds, genvar_number}
@@ -48,7 +49,7 @@ one_turn_nodes ns head c =
 abbrev pub begun_nodes : Bool → List Names → LoopHead → ℕ
 begun_nodes further ns head =
     let first = genvar_number ns head.start in
-    if further then turn_nodes 4096 ns head first else one_turn_nodes ns head first
+    if further then turn_nodes most_turns ns head first else one_turn_nodes ns head first
 
 -- an `if` with this condition, and perhaps an `else`, has a block to choose
 abbrev pub if_has_block : Option declared.Block → List Names → List Names → Expr → Bool

@@ -17,4 +17,3 @@ pub use exprs::{expr_nodes, target_nodes};
 pub use names::one_name;
 pub use stmts::stmt_nodes;
 pub use totals_items::{Added, item_added};
-pub use turns::next_turn;

@@ -1,51 +1,34 @@
 //! Nodes of the turns of a generate loop.
-ghost use Rattle.std.specs.Prelude.{◌≡◌, Some, None, IfOk, OnOk, if◌then◌else◌};
+ghost use Rattle.std.specs.Prelude.{◌≡◌, IfOk, OnOk};
 ghost use Rattle.vl_mean.specs.ConstantFaults.{capped};
-ghost use Rattle.vl_mean.specs.Walk.{Place};
+ghost use Rattle.vl_mean.specs.Walk.{Place, most_turns};
 ghost use Rattle.vl_elab_spec.specs.Counts as counts;
 ghost use Rattle.vl_elab_spec.specs.Meanings.{meanings_at};
 ghost use Rattle.vl_elab_scope.specs.Alike.{Alike};
-ghost use Rattle.vl_elab_const.specs.Numbers.{HaveNumbers, genvar_number, holds};
-ghost use Rattle.vl_elab_check_item.specs.TurnParts.{GoesBy, in_turn};
+ghost use Rattle.vl_elab_const.specs.Numbers.{HaveNumbers, genvar_number};
+ghost use Rattle.vl_elab_check_item.specs.TurnParts.{GoesBy};
 ghost use Rattle.vl_elab_count.specs.Counts as spec;
 
 use crate::exprs::expr_nodes;
 use fv_text::Memory;
 use std::alloc::Global;
-use vl_elab_check_item::{HeadValues, enter_turn, head_values};
-use vl_elab_const::{genvar_value, value_in_turn};
+use vl_elab_check_item::{HeadValues, MOST_TURNS, head_values, next_turn};
+use vl_elab_const::genvar_value;
 use vl_elab_scope::Names;
 use vl_mean::Const;
 use vl_mean::widths::plus;
 use vl_tree::LoopHead;
 
-/// The value of the turn behind the one with this value. None exactly where that one doesn't begin.
-pub fn next_turn(
-    alloc: Global,
-    head: &LoopHead,
-    value: Const,
-    numbers: &mut Names,
-) -> Result<Option<Const>, Memory>
-    ensures numbers { OnOk result (numbers.new ≡ numbers.old) }
-    ensures next { IfOk result (λ o. let inner = in_turn head.now.variable value numbers.old in
-        o ≡ (if holds inner head.now.condition then Some (genvar_number inner head.now.next) else None)) }
-{
-    enter_turn(alloc, &head.variable, value, numbers)?;
-    let next = value_in_turn(alloc, head, numbers)?;
-    numbers.leave();
-    Ok(next)
-}
-
 /// Each turn with what leads to the next one, from the one with this value on.
 fn turns(alloc: Global, head: &LoopHead, start: Const, numbers: &mut Names) -> Result<u64, Memory>
     ensures numbers { OnOk result (numbers.new ≡ numbers.old) }
-    ensures count { IfOk result (λ n. n ≡ capped (spec.turn_nodes 4096 numbers.old head.now start)) }
+    ensures count { IfOk result (λ n. n ≡ capped (spec.turn_nodes most_turns numbers.old head.now start)) }
 {
     let condition = expr_nodes(&head.condition);
     let step = plus(expr_nodes(&head.next), 1);
     let mut total = 0;
     let mut value = start;
-    let mut left = 4096u32;
+    let mut left = MOST_TURNS;
     while left > 0 {
         let next = next_turn(alloc, head, value, numbers)?;
         total = plus(total, condition);
@@ -64,7 +47,7 @@ fn turns(alloc: Global, head: &LoopHead, start: Const, numbers: &mut Names) -> R
 fn all_turns(alloc: Global, head: &LoopHead, numbers: &mut Names) -> Result<u64, Memory>
     ensures numbers { OnOk result (numbers.new ≡ numbers.old) }
     ensures count { IfOk result (λ n. n
-        ≡ capped (spec.turn_nodes 4096 numbers.old head.now (genvar_number numbers.old head.now.start))) }
+        ≡ capped (spec.turn_nodes most_turns numbers.old head.now (genvar_number numbers.old head.now.start))) }
 {
     let start = genvar_value(alloc, &head.start, numbers)?;
     turns(alloc, head, start, numbers)

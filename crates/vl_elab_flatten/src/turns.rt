@@ -9,8 +9,8 @@ ghost use Rattle.vl_elab_flatten.specs.Ready.{IsTurn};
 
 use fv_text::Memory;
 use std::alloc::Global;
-use vl_elab_check_item::enter_turn;
-use vl_elab_const::{genvar_value, value_in_turn};
+use vl_elab_check_item::next_turn;
+use vl_elab_const::genvar_value;
 use vl_elab_scope::Names;
 use vl_mean::Const;
 use vl_tree::LoopHead;
@@ -35,8 +35,5 @@ pub(crate) fn next_value(
     ensures next { IfOk result (λ c. (ss : List Scope) → HaveNumbers numbers.old ss
         → c ≡ (if walk.goes_on head.now ss value then Some (walk.next_turn head.now ss value) else None)) }
 {
-    enter_turn(alloc, &head.variable, value, numbers)?;
-    let next = value_in_turn(alloc, head, numbers)?;
-    numbers.leave();
-    Ok(next)
+    Ok(next_turn(alloc, head, value, numbers)?)
 }

@@ -20,6 +20,7 @@ use crate::paths::turn_path;
 use crate::source::Source;
 use crate::turns::{first_value, next_value};
 use fv_text::{Memory, Text};
+use vl_elab_check_item::MOST_TURNS;
 use vl_elab_const::is_true_in;
 use vl_elab_draft::{Draft, Path};
 use vl_elab_emit::write_item;
@@ -99,12 +100,8 @@ fn write_within(
     ensures here { OnOk result (here.new ≡ here.old) }
 {
     match &part.kind {
-        ItemKind::Instance(instance) => Ok(write_instance(
-            source, instance, here, draft,
-        )?),
-        ItemKind::For(head, block) => Ok(write_turns(
-            source, head, block, number, here, draft,
-        )?),
+        ItemKind::Instance(instance) => Ok(write_instance(source, instance, here, draft)?),
+        ItemKind::For(head, block) => Ok(write_turns(source, head, block, number, here, draft)?),
         ItemKind::If(condition, first, second) => Ok(write_if(
             source, condition, first, second, number, here, draft,
         )?),
@@ -191,14 +188,12 @@ fn write_turns(
 {
     let label = name_of(source.alloc, block, number, here)?;
     let mut value = first_value(source.alloc, head, &here.numbers)?;
-    let mut left = 4096u32;
+    let mut left = MOST_TURNS;
     while left > 0 {
         let Some(next) = next_value(source.alloc, head, value, &mut here.numbers)? else {
             return Ok(());
         };
-        write_turn(
-            source, head, block, &label, value, here, draft,
-        )?;
+        write_turn(source, head, block, &label, value, here, draft)?;
         value = next;
         left -= 1;
     }
@@ -254,13 +249,7 @@ fn write_scope(
     ensures here { OnOk result (here.new ≡ here.old) }
 {
     let opened = open_block(source.alloc, all, path, here)?;
-    write_items(
-        source,
-        all,
-        opened.1.as_slice(),
-        here,
-        draft,
-    )?;
+    write_items(source, all, opened.1.as_slice(), here, draft)?;
     leave_block(opened.0, here);
     Ok(())
 }

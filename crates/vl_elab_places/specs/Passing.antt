@@ -48,6 +48,7 @@ use Rattle.vl_tree.specs.Stmt.{Stmt, Stmts, Arms, begin, if_only, if_else, case,
 use Rattle.vl_tree.specs.Stmt.{more_stmts, no_arms, labels, default}
 use Rattle.vl_mean.specs.declared.const_number.Const.{Const}
 use Rattle.vl_mean.specs.ConstantFaults.{capped}
+use Rattle.vl_mean.specs.Walk.{most_turns}
 use Rattle.vl_elab_spec.specs.Meanings.{Names}
 use Rattle.vl_elab_spec.specs.NodePlaces.{block_pos}
 use Rattle.vl_elab_const.specs.Numbers.{holds, genvar_number}
@@ -191,7 +192,7 @@ turn_passed ns head p value c =
 abbrev pub begun_passed : Bool → List Names → LoopHead → Pos → Cursor → Cursor
 begun_passed further ns head p c =
     let first = genvar_number ns head.start in
-    if further then turns_passed 4096 ns head p first c else turn_passed ns head p first c
+    if further then turns_passed most_turns ns head p first c else turn_passed ns head p first c
 
 abbrev pub loop_passed : HeadValues → List Names → LoopHead → Pos → Cursor → Cursor
 loop_passed values ns head p c =

@@ -1,6 +1,6 @@
 //! The nodes of the turns of a generate loop, one behind the other.
 ghost use Rattle.std.specs.Prelude.{◌≡◌, IfOk, OnOk};
-ghost use Rattle.vl_mean.specs.Walk.{Place};
+ghost use Rattle.vl_mean.specs.Walk.{Place, most_turns};
 ghost use Rattle.vl_elab_spec.specs.Meanings.{meanings_at};
 ghost use Rattle.vl_elab_spec.specs.NodePlaces.{loop_places};
 ghost use Rattle.vl_elab_scope.specs.Alike.{Alike};
@@ -11,9 +11,8 @@ use crate::cursor::Cursor;
 use crate::exprs::pass_expr;
 use fv_text::{Memory, Pos};
 use std::alloc::Global;
-use vl_elab_check_item::{HeadValues, head_values};
+use vl_elab_check_item::{HeadValues, MOST_TURNS, head_values, next_turn};
 use vl_elab_const::genvar_value;
-use vl_elab_count::next_turn;
 use vl_elab_scope::Names;
 use vl_mean::Const;
 use vl_tree::LoopHead;
@@ -28,11 +27,11 @@ fn pass_turns(
     numbers: &mut Names,
 ) -> Result<Cursor, Memory>
     ensures numbers { OnOk result (numbers.new ≡ numbers.old) }
-    ensures behind { IfOk result (λ k. k ≡ spec.turns_passed 4096 numbers.old head.now block first start) }
+    ensures behind { IfOk result (λ k. k ≡ spec.turns_passed most_turns numbers.old head.now block first start) }
 {
     let mut at = start;
     let mut value = first;
-    let mut left = 4096u32;
+    let mut left = MOST_TURNS;
     while left > 0 {
         let next = next_turn(alloc, head, value, numbers)?;
         at = pass_expr(&head.condition, at);
@@ -57,7 +56,7 @@ fn pass_all_turns(
     numbers: &mut Names,
 ) -> Result<Cursor, Memory>
     ensures numbers { OnOk result (numbers.new ≡ numbers.old) }
-    ensures behind { IfOk result (λ k. k ≡ spec.turns_passed 4096 numbers.old head.now block
+    ensures behind { IfOk result (λ k. k ≡ spec.turns_passed most_turns numbers.old head.now block
         (genvar_number numbers.old head.now.start) start) }
 {
     let first = genvar_value(alloc, &head.start, numbers)?;

@@ -31,7 +31,7 @@ use Rattle.vl_mean.specs.Declarations.{declared_by}
 use Rattle.vl_mean.specs.FlatLaw.{all_names_count, nodes, target_nodes, stmt_nodes}
 use Rattle.vl_mean.specs.Scopes.{constant_in}
 use Rattle.vl_mean.specs.Walk.{Place, Step, header, port, item, override, connection, goes_on, next_turn, first_turn}
-use Rattle.vl_mean.specs.Walk.{turn_place}
+use Rattle.vl_mean.specs.Walk.{most_turns, turn_place}
 use Rattle.vl_elab_spec.specs.Items.{is_valued}
 
 abbrev pub value_nodes : Option Expr → ℕ
@@ -70,7 +70,8 @@ abbrev pub loop_nodes : LoopHead → Place → ℕ
 loop_nodes head at =
     let first = first_turn head at.scopes in
     let inside = turn_place at head.variable first in
-    let turns = if is_valued inside head.next then turn_nodes 4096 head at first else one_turn_nodes head at first in
+    let turns =
+    if is_valued inside head.next then turn_nodes most_turns head at first else one_turn_nodes head at first in
     if is_valued at head.start && is_valued inside head.condition then turns else nodes head.condition
 
 -- of an `if`, the chosen block

@@ -75,7 +75,7 @@ use Rattle.vl_mean.specs.Scopes.{is_clock, is_clock_class}
 use Rattle.vl_mean.specs.Walk.{Place, Contents, Use, Step, header, port, item, override, connection, module_named}
 use Rattle.vl_mean.specs.Walk.{Valued}
 use Rattle.vl_mean.specs.Walk.{module_parameters, module_scope, module_contents, turn_place, goes_on, next_turn}
-use Rattle.vl_mean.specs.Walk.{first_turn}
+use Rattle.vl_mean.specs.Walk.{first_turn, most_turns}
 use Rattle.vl_elab_spec.specs.declared.elab_fault.ElabFault.{ElabFault}
 use Rattle.vl_elab_spec.specs.declared.elab_fault.ElabFault.TheVariants as f
 use Rattle.vl_elab_spec.specs.Expressions.{refused_if, far, too_wide, select_refusals, refusals, own_refusals}
@@ -289,7 +289,7 @@ without_start head ns =
     own_refusals inside true head.condition ++ genvar_refusals inside head.next
 
 abbrev pub begun_refusals : LoopHead → Place → Pos → Const → List ElabFault
-begun_refusals head at p c = idle_refusals head at c ++ turns_refusals 4096 head at p c
+begun_refusals head at p c = idle_refusals head at c ++ turns_refusals most_turns head at p c
 
 abbrev pub is_unknown : ElabFault → Bool
 is_unknown (f.Unknown text p) = true

@@ -54,7 +54,7 @@ use Rattle.vl_mean.specs.Declarations.{word_bounds}
 use Rattle.vl_mean.specs.FlatLaw.{name_count}
 use Rattle.vl_mean.specs.Scopes.{Scope, constant_in}
 use Rattle.vl_mean.specs.Walk.{Place, Step, header, port, item, override, connection, goes_on, next_turn, first_turn}
-use Rattle.vl_mean.specs.Walk.{turn_place}
+use Rattle.vl_mean.specs.Walk.{most_turns, turn_place}
 use Rattle.vl_elab_spec.specs.Counts.{item_pos}
 use Rattle.vl_elab_spec.specs.Items.{is_valued}
 
@@ -161,7 +161,9 @@ abbrev pub loop_places : LoopHead → Pos → Place → List Pos
 loop_places head b at =
     let first = first_turn head at.scopes in
     let inside = turn_place at head.variable first in
-    let turns = if is_valued inside head.next then turn_places 4096 head b at first else one_turn_places head b at first
+    let turns =
+    if is_valued inside head.next then turn_places most_turns head b at first
+    else one_turn_places head b at first
     in if is_valued at head.start && is_valued inside head.condition then turns else expr_places head.condition
 
 -- ---- steps

@@ -273,7 +273,11 @@ with_genvar text c ss = with_constants ((text, c) ∷ []) ss
 abbrev pub turn_place : Place → List ℕ → Const → Place
 turn_place at text c = record at { scopes = with_genvar text c at.scopes; contents = no_contents ∷ at.contents }
 
--- each turn while the condition holds, at most 4,096
+-- a generate loop has at most so many turns; a rule of this project
+abbrev pub most_turns : ℕ
+most_turns = 4096
+
+-- each turn while the condition holds, at most so many
 abbrev pub turns : ℕ → (Const → Bool) → (Const → Const) → (Const → List Step) → Const → List Step
 turns zero goes next body c = []
 turns (suc n) goes next body c = let more = turns n goes next body (next c) in if goes c then body c ++ more else []
@@ -288,13 +292,13 @@ abbrev pub first_turn : LoopHead → List Scope → Const
 first_turn head ss = genvar_value (constant_operand (constant_in ss) head.start)
 
 abbrev pub loop_turns : LoopHead → List Scope → (Const → List Step) → List Step
-loop_turns head ss body = turns 4096 (goes_on head ss) (next_turn head ss) body (first_turn head ss)
+loop_turns head ss body = turns most_turns (goes_on head ss) (next_turn head ss) body (first_turn head ss)
 
--- at most 4,096 turns; none where the start or the condition has no value, and one where the step has none
+-- at most so many; none where the start or the condition has no value, and one where the step has none
 abbrev pub turn_limit : Valued → LoopHead → Place → ℕ
 turn_limit valued head at =
     let inside = turn_place at head.variable (first_turn head at.scopes) in
-    let most = if valued inside head.next then 4096 else 1 in
+    let most = if valued inside head.next then most_turns else 1 in
     if valued at head.start && valued inside head.condition then most else 0
 
 abbrev pub loop_walk : Valued → LoopHead → Place → (Const → List Step) → List Step

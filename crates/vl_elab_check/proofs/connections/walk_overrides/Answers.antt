@@ -15,31 +15,31 @@ pub loop-given-init : goal.loop-given-init
 loop-given-init c = record {
   path = refl;
   walked = λ ms at u t same inner known. (
-      [],
-      c.new-earlier.ensures,
-      left_start ms t (override_steps at c.args.module.now u [] c.args.all.now) c.args.walk.now.totals known,
-      );
+    [],
+    c.new-earlier.ensures,
+    left_start ms t (override_steps at c.args.module.now u [] c.args.all.now) c.args.walk.now.totals known,
+  );
 }
 
 pub loop-given-preserved : goal.loop-given-preserved
 loop-given-preserved c = record {
   path = c.in_ok-found.ensures.path ∙ c.loop-given.invariant.path;
   walked = λ ms at u t same inner known.
-          let m = c.args.module.now in
-          let x = c.given-item.result in
-          let all = override_steps at m u [] c.args.all.now in
-          let front : drop c.loop-given.given-index c.args.all.now ≡ c.given-item.result
-          ∷ drop (c.loop-given.given-index + 1) c.args.all.now = grind (arith, common_steps) in
-          let rest = drop (c.loop-given.given-index + 1) c.args.all.now in
-          let old = c.loop-given.invariant.walked ms at u t same inner known in
-          let left = subst (λ l. AreLeft ms t all c.loop-given.walk.totals (override_steps at m u old.0 l)) front old.2 in (
-            old.0 ++ x.port ∷ [],
-            c.in_ok-found.ensures.earlier old.0 old.1,
-            left_on ms t all c.loop-given.walk.totals c.walk_override.new.walk.totals (override at m u old.0 x ∷ [])
-                (override_steps at m u (old.0 ++ x.port ∷ []) rest) c.in_ok-found.found left
-                (c.in_ok-found.ensures.walked ms at u left.now old.0 same inner old.1 left.known)
-                (found_none c.in_ok-found.found c.is_some.result c.is_some.ensures c.if-is_some.false),
-          );
+      let m = c.args.module.now in
+      let x = c.given-item.result in
+      let all = override_steps at m u [] c.args.all.now in
+      let front : drop c.loop-given.given-index c.args.all.now ≡ c.given-item.result
+      ∷ drop (c.loop-given.given-index + 1) c.args.all.now = grind (arith, common_steps) in
+      let rest = drop (c.loop-given.given-index + 1) c.args.all.now in
+      let old = c.loop-given.invariant.walked ms at u t same inner known in
+      let left = subst (λ l. AreLeft ms t all c.loop-given.walk.totals (override_steps at m u old.0 l)) front old.2 in (
+        old.0 ++ x.port ∷ [],
+        c.in_ok-found.ensures.earlier old.0 old.1,
+        left_on ms t all c.loop-given.walk.totals c.walk_override.new.walk.totals (override at m u old.0 x ∷ [])
+            (override_steps at m u (old.0 ++ x.port ∷ []) rest) c.in_ok-found.found left
+            (c.in_ok-found.ensures.walked ms at u left.now old.0 same inner old.1 left.known)
+            (found_none c.in_ok-found.found c.is_some.result c.is_some.ensures c.if-is_some.false),
+      );
 }
 
 pub returns-then-is_some-clause-walked : goal.returns-then-is_some-clause-walked

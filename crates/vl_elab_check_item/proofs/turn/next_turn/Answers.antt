@@ -1,7 +1,7 @@
 use Rattle.std.proofs.Common.{◌∙◌}
 use Rattle.std.specs.Prelude.{Some, None, if◌then◌else◌}
 use Rattle.vl_elab_const.specs.Numbers.{holds, genvar_number}
-use Rattle.vl_elab_count.proofs.turns.next_turn.Goals as goal
+use Rattle.vl_elab_check_item.proofs.turn.next_turn.Goals as goal
 
 pub returns-clause-next : goal.returns-clause-next
 returns-clause-next c =
