@@ -41,6 +41,17 @@ fn asked(alloc: Global, line: &Line) -> Result<String, Memory> {
         Line::Bench { size } => format!(in alloc; "bench {size}")?,
         Line::Cover(options) => with_options(alloc, "cover", options)?,
         Line::Zb(options) => with_options(alloc, "zb", options)?,
+        Line::Toaig {
+            cfg,
+            check,
+            file,
+            core,
+            basedir,
+        } => {
+            let (cfg, check, file) = (shown(cfg), shown(check), shown(file));
+            let (core, basedir) = (shown(core), shown(basedir));
+            format!(in alloc; "toaig [{cfg}] [{check}] [{file}] core [{core}] basedir [{basedir}]")?
+        }
         Line::Fromaig { aag, cnf } => format!(in alloc;
             "fromaig [{}] [{}]",
             shown(aag),

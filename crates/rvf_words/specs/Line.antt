@@ -6,7 +6,7 @@ use Rattle.clap.specs.Words.{Row, Text, first_of, subcommand_of}
 use Rattle.clap.specs.Walk.{is_empty}
 use Rattle.clap.specs.Faults.{fault_of}
 use Rattle.rvf_words.specs.declared.line.Line.{Line}
-use Rattle.rvf_words.specs.declared.line.Line.TheVariants.{Run, List as Listed, Lrat, Bench, Cover, Zb, Fromaig}
+use Rattle.rvf_words.specs.declared.line.Line.TheVariants.{Run, List as Listed, Lrat, Bench, Cover, Zb, Toaig, Fromaig}
 use Rattle.rvf_words.specs.declared.line.Options.{Options}
 use Rattle.rvf_words.specs.Table.{program}
 
@@ -62,6 +62,13 @@ cover_line rows = option_map (λ options. Cover options) (options_in rows)
 abbrev pub zb_line : List Row → Option Line
 zb_line rows = option_map (λ options. Zb options) (options_in rows)
 
+abbrev pub toaig_line : List Row → Option Line
+toaig_line rows =
+    option_and_then (λ cfg. option_and_then (λ check. option_and_then (λ file. option_and_then (λ core.
+    option_map (λ basedir. Toaig cfg check file core basedir) (first_of (codes "basedir") rows))
+    (first_of (codes "core") rows)) (first_of (codes "file") rows)) (first_of (codes "check") rows))
+    (first_of (codes "cfg") rows)
+
 abbrev pub fromaig_line : List Row → Option Line
 fromaig_line rows =
     option_and_then (λ aag. option_map (λ cnf. Fromaig aag cnf) (first_of (codes "cnf") rows))
@@ -76,6 +83,7 @@ asked name rows =
     else if bytes_eq name (codes "bench") then bench_line rows
     else if bytes_eq name (codes "cover") then cover_line rows
     else if bytes_eq name (codes "zb") then zb_line rows
+    else if bytes_eq name (codes "toaig") then toaig_line rows
     else if bytes_eq name (codes "fromaig") then fromaig_line rows else None
 
 -- what words ask for; None where the table refuses them, or a number isn't in its range

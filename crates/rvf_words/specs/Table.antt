@@ -43,6 +43,13 @@ cover = with_options (new_app (codes "cover"))
 abbrev pub zb : App
 zb = with_options (new_app (codes "zb"))
 
+-- `toaig CFG CHECK FILE [--core NAME] [--basedir DIR]`
+abbrev pub toaig : App
+toaig =
+    with_rule (with_rule (with_rule (with_rule (with_rule (new_app (codes "toaig"))
+    (operand (codes "cfg"))) (operand (codes "check"))) (operand (codes "file")))
+    (choice (codes "core") (codes "core"))) (choice (codes "basedir") (codes "."))
+
 -- `fromaig AAG CNF`
 abbrev pub fromaig : App
 fromaig = with_rule (with_rule (new_app (codes "fromaig")) (operand (codes "aag"))) (operand (codes "cnf"))
@@ -58,4 +65,5 @@ alone = record { top = top; subs = [] }
 abbrev pub program : App
 program =
     with_subcommand (with_subcommand (with_subcommand (with_subcommand (with_subcommand (with_subcommand
-    (with_subcommand alone run.top) list.top) lrat.top) bench.top) cover.top) zb.top) fromaig.top
+    (with_subcommand (with_subcommand alone run.top) list.top) lrat.top) bench.top) cover.top) zb.top) toaig.top)
+    fromaig.top

@@ -90,6 +90,17 @@ fn zb<'a>(alloc: Global) -> Result<Command<'a>, Memory>
     with_options(alloc, Command::new(alloc, "zb"))
 }
 
+fn toaig<'a>(alloc: Global) -> Result<Command<'a>, Memory>
+    ensures shape { IfOk result (λ made. app_of made ≡ table.toaig) }
+    ensures plain { IfOk result (λ made. (fields_of made).has_globals ≡ false) }
+{
+    let config = with(Command::new(alloc, "toaig"), operand(alloc, "cfg"))?;
+    let check = with(config, operand(alloc, "check"))?;
+    let file = with(check, operand(alloc, "file"))?;
+    let core = with(file, choice(alloc, "core", "core"))?;
+    with(core, choice(alloc, "basedir", "."))
+}
+
 fn fromaig<'a>(alloc: Global) -> Result<Command<'a>, Memory>
     ensures shape { IfOk result (λ made. app_of made ≡ table.fromaig) }
     ensures plain { IfOk result (λ made. (fields_of made).has_globals ≡ false) }
@@ -124,5 +135,6 @@ pub(crate) fn program<'a>(alloc: Global) -> Result<Command<'a>, Memory>
     let benches = below(proofs, bench(alloc)?)?;
     let targets = below(benches, cover(alloc)?)?;
     let bits = below(targets, zb(alloc)?)?;
-    below(bits, fromaig(alloc)?)
+    let graphs = below(bits, toaig(alloc)?)?;
+    below(graphs, fromaig(alloc)?)
 }

@@ -39,6 +39,16 @@ pub enum Line {
     Cover(Options),
     /// `zb CFG OUTDIR`: the checks of the instructions of Zba and Zbs.
     Zb(Options),
+    /// `toaig CFG CHECK FILE`: the graph of a check.
+    Toaig {
+        cfg: Text,
+        /// The name of the check.
+        check: Text,
+        /// The file that the graph is written to, in the ASCII format AIGER.
+        file: Text,
+        core: Text,
+        basedir: Text,
+    },
     /// `fromaig AAG CNF`: the clauses of a graph.
     Fromaig {
         /// The file of the graph, in the ASCII format AIGER.

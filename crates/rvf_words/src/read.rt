@@ -185,6 +185,33 @@ fn zb_line(alloc: Global, matches: &ArgMatches<'_>) -> Result<Option<Line>, Memo
     Ok(options_of(alloc, matches)?.map(Line::Zb))
 }
 
+fn toaig_line(alloc: Global, matches: &ArgMatches<'_>) -> Result<Option<Line>, Memory>
+    ensures { IfOk result (λ made. made ≡ line.toaig_line (rows_of (found_of matches.now))) }
+{
+    let Some(cfg) = text_of(alloc, matches, "cfg")? else {
+        return Ok(None)
+    };
+    let Some(check) = text_of(alloc, matches, "check")? else {
+        return Ok(None)
+    };
+    let Some(file) = text_of(alloc, matches, "file")? else {
+        return Ok(None)
+    };
+    let Some(core) = text_of(alloc, matches, "core")? else {
+        return Ok(None)
+    };
+    let Some(basedir) = text_of(alloc, matches, "basedir")? else {
+        return Ok(None)
+    };
+    Ok(Some(Line::Toaig {
+        cfg,
+        check,
+        file,
+        core,
+        basedir,
+    }))
+}
+
 fn fromaig_line(alloc: Global, matches: &ArgMatches<'_>) -> Result<Option<Line>, Memory>
     ensures { IfOk result (λ made. made ≡ line.fromaig_line (rows_of (found_of matches.now))) }
 {
@@ -208,6 +235,7 @@ fn asked(alloc: Global, matches: &ArgMatches<'_>) -> Result<Option<Line>, Memory
         Some((name, found)) if name == "bench" => Ok(bench_line(found)),
         Some((name, found)) if name == "cover" => cover_line(alloc, found),
         Some((name, found)) if name == "zb" => zb_line(alloc, found),
+        Some((name, found)) if name == "toaig" => toaig_line(alloc, found),
         Some((name, found)) if name == "fromaig" => fromaig_line(alloc, found),
         _ => Ok(None),
     }
