@@ -150,9 +150,9 @@ fn source_note(
     }
 }
 
-/// One for each bit that is placed.
+/// The notes of choices: one for each bit that is placed, in the order of the places.
 #[tactic(auto, using(crate::proofs::Choices::choices_step, crate::proofs::Choices::choices_end))]
-pub(crate) fn choice_notes(
+pub fn choice_notes(
     alloc: Global,
     names: &Names,
     sources: &[Source],

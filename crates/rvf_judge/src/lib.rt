@@ -17,6 +17,7 @@ mod shared;
 pub mod sources_law;
 mod texts;
 
+pub use choice::choice_notes;
 pub use judged::{CertificateTexts, Judged};
 pub use judging::judge;
 pub use line::note_text;

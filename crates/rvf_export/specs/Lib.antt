@@ -1,0 +1,4 @@
+pub mod BitNames
+pub mod GraphTexts
+pub mod RunGraphs
+pub mod Sources
