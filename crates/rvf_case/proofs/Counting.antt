@@ -1,7 +1,7 @@
 -- There are few questions.
-use Rattle.std.proofs.Common.{◌≡◌, ℕ, zero, suc, ◌+◌, ◌*◌, ◌^◌, ◌<◌, ◌≤◌, Bool, not, List, [], ◌∷◌, length, Option}
+use Rattle.std.proofs.Common.{◌≡◌, ℕ, zero, suc, ◌+◌, ◌*◌, ◌^◌, ◌<◌, ◌≤◌, Bool, true, false, not, List, [], ◌∷◌, length, Option}
 use Rattle.std.proofs.Common.{Some, None, refl, sym, ◌∙◌, ap, subst, arith, lit≤}
-use Rattle.std.specs.Prelude.{find, option_map, option_to_list}
+use Rattle.std.specs.Prelude.{find, if◌then◌else◌, option_map, option_to_list}
 use Rattle.std.specs.List.{filter, flat_map, range_with_len}
 use Rattle.std.proofs.lemmas.List.{length-append, length-map}
 use Rattle.std.proofs.lemmas.List.Concat.{length-flat_map}
@@ -23,14 +23,14 @@ use Rattle.rv_zb.specs.Rows.{zb_rows}
 use Rattle.ck_cover.specs.Targets.{any_of, any_target, any_targets, greatest, hit_of, hit_row, hit_target, hit_targets}
 use Rattle.ck_cover.specs.Targets.{targets_of}
 use Rattle.ck_cover.specs.declared.target.Target.{Target}
-use Rattle.rvf_case.specs.Texts.{is_same_text, factors_of, questions_of, with_text}
+use Rattle.rvf_case.specs.Texts.{is_same_text, factors_of, only_named, questions_of, with_text}
 use Rattle.ck_ask.specs.Questions.{question_cycle, question_kind}
 use Rattle.ck_ask.specs.ZbChecks.{is_insn_at, zb_channel_check, zb_check_at, zb_checks_of, zb_row_checks}
 use Rattle.ck_ask.specs.declared.zb_check.ZbCheck.{ZbCheck}
 use Rattle.ck_ask.specs.declared.question.Question.{Question}
 use Rattle.ck_ask.specs.declared.question.Question.TheVariants as question
-use Rattle.rvf_case.specs.declared.asking.Asking.{Asking}
-use Rattle.rvf_case.specs.declared.asking.Asking.TheVariants as asking
+use Rattle.rvf_case.specs.Askings.{Asking}
+use Rattle.rvf_case.specs.Askings as asking
 
 -- what is kept of a list is no longer
 pub fewer : {X : Type 0} (p : X → Bool) (xs : List X) → length (filter p xs) ≤ length xs
@@ -139,6 +139,14 @@ few_zb_checks checks channels few =
     let eleven : length zb_rows ≡ 11 = refl in
     omega (arith, a, eleven)
 
+-- at most one check has a name
+one_named : (name : List ℕ) (xs : List Check) → length (only_named name xs) ≤ 1
+one_named name [] = omega arith
+one_named name (x ∷ xs) = step (is_named name x) (one_named name xs) where
+  step : (b : Bool) → length (only_named name xs) ≤ 1 → length (if b then x ∷ [] else only_named name xs) ≤ 1
+  step true h = omega arith
+  step false h = h
+
 -- and so there are few questions
 pub few_questions : (a : Asking) (c : Config) → c.nret ≤ 2 → length (questions_of a c) < 2 ^ 32
 few_questions asking.Checks c e =
@@ -156,6 +164,11 @@ few_questions asking.Zb c e =
     let many = length-map (zb_checks_of (checks_of c) c.nret) (λ (z : ZbCheck). question.Zb z) in
     let few = few_zb_checks (checks_of c) c.nret e in
     let most : 22 < 2 ^ 32 = lit≤ tt in
+    omega (arith, many, few, most)
+few_questions (asking.One name) c e =
+    let many = length-map (only_named name (checks_of c)) (λ (x : Check). question.Check x) in
+    let few = one_named name (checks_of c) in
+    let most : 1 < 2 ^ 32 = lit≤ tt in
     omega (arith, many, few, most)
 
 pub few_factors : (c : Config) (kind : CheckKind) (qs : List Question) (factors : List ℕ) → length qs < 2 ^ 32

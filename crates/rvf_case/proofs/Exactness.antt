@@ -1,5 +1,6 @@
 -- What an answer means, and that the same files give no other.
-use Rattle.std.proofs.Common.{◌≡◌, ℕ, List, [], ◌∷◌, ◌++◌, Some, None, Result, Ok, Err, refl, sym, ◌∙◌, ap, subst}
+use Rattle.std.proofs.Common.{◌≡◌, ℕ, true, List, [], ◌∷◌, ◌++◌, Some, None, Result, Ok, Err, refl, sym, ◌∙◌, ap}
+use Rattle.std.proofs.Common.{subst, true≢false}
 use Rattle.std.specs.Prelude.{map, slice_get}
 use Rattle.std.specs.List.{AllByRecursion}
 use Rattle.fv_base.specs.Outside.{Names, Told}
@@ -14,7 +15,8 @@ use Rattle.rvf_load.specs.declared.fault.LoadFault.TheVariants as load
 use Rattle.rvf_load.specs.declared.loaded.Loaded.{Loaded}
 use Rattle.rvf_case.specs.Cases.{Alike, AreLoaded, AreRead, Comes, IsCase, IsCause, IsConfigured, IsMisconfigured}
 use Rattle.rvf_case.specs.Cases.{IsNext, IsRefusedSource, IsRefusedText, Request, Seen, configuration, names_in}
-use Rattle.rvf_case.specs.Cases.{verilog, questions_in}
+use Rattle.rvf_case.specs.Cases.{IsUnnamed, verilog, questions_in}
+use Rattle.rvf_case.specs.Askings.{IsThere, One, has_check}
 use Rattle.rvf_case.specs.Hearing.{Answered, HeardMore, Hears, all_gave, before_refused, cause_reads}
 use Rattle.rvf_case.specs.Steps.{AreLoadedInTurn, IsNotHeavy, Prepares, Stands, StopsAt}
 use Rattle.rvf_case.specs.Texts.{asked_for, leaders, with_text}
@@ -134,6 +136,7 @@ case_said r held events case h =
           bytes = h.configured.bytes;
           gives = h.configured.gives;
           config_is = h.configured.config_is ∙ ap (λ c. Ok c) back;
+          there = subst (IsThere r.asking) back h.configured.there;
         };
         questions_are = h.loads.questions_are ∙ ap (questions_in r) back;
         files = h.files;
@@ -184,6 +187,7 @@ said (Err refusal.Memory) r seen events h = (tt, h)
 said (Err (refusal.Absent name)) r seen events h = h
 said (Err (refusal.Unread name)) r seen events h = h
 said (Err (refusal.Config f)) r seen events h = h
+said (Err (refusal.NoCheck name)) r seen events h = h
 said (Err (refusal.Source f names)) r seen events h =
     source_said f r seen names events h.loads.0.light (record {
       config = h.config;
@@ -224,6 +228,9 @@ same_ok x y e = cc
 
 same_err : {X E : Type 0} (x y : E) → ◌≡◌ {A = Result X E} (Err x) (Err y) → x ≡ y
 same_err x y e = cc
+
+same_one : (x y : List ℕ) → One x ≡ One y → x ≡ y
+same_one x y e = cc
 
 ok_or_err : {X E : Type 0} (x : X) (y : E) → ◌≡◌ {A = Result X E} (Ok x) (Err y) → ⊥
 ok_or_err x y e = cc
@@ -294,6 +301,22 @@ module _ (r : Request) (names : Names) (events : List Event) where
       let b : h.bytes ≡ k.bytes = same_some h.bytes k.bytes (sym h.gives ∙ k.gives) in
       ok_or_err c f (sym h.config_is ∙ ap config_of b ∙ k.refused)
 
+  no_check : (c : Config) (name : List ℕ) → IsConfigured r (Some names) c → IsUnnamed r (Some names) name → ⊥
+  no_check c name h k =
+      let b : h.bytes ≡ k.bytes = same_some h.bytes k.bytes (sym h.gives ∙ k.gives) in
+      let e : c ≡ k.config = same_ok c k.config (sym h.config_is ∙ ap config_of b ∙ k.config_is) in
+      let there : has_check name c ≡ true = subst (λ a. IsThere a c) k.asked h.there in
+      true≢false (sym there ∙ ap (has_check name) e ∙ k.none)
+
+  no_check_fault : (name : List ℕ) (f : CfgFault) → IsUnnamed r (Some names) name → IsMisconfigured r (Some names) f
+      → ⊥
+  no_check_fault name f h k =
+      let b : h.bytes ≡ k.bytes = same_some h.bytes k.bytes (sym h.gives ∙ k.gives) in
+      ok_or_err h.config f (sym h.config_is ∙ ap config_of b ∙ k.refused)
+
+  one_check : (name other : List ℕ) → IsUnnamed r (Some names) name → IsUnnamed r (Some names) other → other ≡ name
+  one_check name other h k = same_one other name (sym k.asked ∙ h.asked)
+
   one_reading : (ns fs gs : List (List ℕ)) → AreRead (Some names) ns fs → AreRead (Some names) ns gs → fs ≡ gs
   one_reading [] [] [] h k = refl
   one_reading [] [] (g ∷ gs) h k = absurd k
@@ -354,6 +377,10 @@ module _ (r : Request) (names : Names) (events : List Event) where
       → IsMisconfigured r (Some names) f → ⊥
   absent_or_fault m f (configuration e) p k = held_or_not m r.cfg k.bytes e k.gives p
   absent_or_fault m f (verilog c h xs more fs o i) p k = no_fault c f h k
+
+  absent_or_check : (m n : List ℕ) → IsNext r (Some names) m → names m ≡ None → IsUnnamed r (Some names) n → ⊥
+  absent_or_check m n (configuration e) p k = held_or_not m r.cfg k.bytes e k.gives p
+  absent_or_check m n (verilog c h xs more fs o i) p k = no_check c n h k
 
   abbrev text_read : (c : Config) (kind : CheckKind) (f : LoadFault) → IsRefusedText r (Some names) c kind f → IsRead
   text_read c kind f h = record { config = c; configured = h.configured; files = h.files; read = h.read }
@@ -416,6 +443,7 @@ module _ (r : Request) (names : Names) (events : List Event) where
     alike_case case (Err (refusal.Unread n)) h k = tt
     alike_case case (Err (refusal.Absent n)) h k = no_absent n k.next k.lacks (stands_read (Ok case) h)
     alike_case case (Err (refusal.Config f)) h k = no_fault h.config f h.configured k
+    alike_case case (Err (refusal.NoCheck name)) h k = no_check h.config name h.configured k
     alike_case case (Err (refusal.Source f others)) h k =
         let s : IsRefusedSource r (Some names) f others = source_of_cause f r seen others k in
         loaded_never_stops (asked_for h.config h.files (questions_in r h.config)) (leaders h.config (questions_in r h.config)) case.texts s.kind f h.loads.loaded
@@ -432,6 +460,7 @@ module _ (r : Request) (names : Names) (events : List Event) where
     alike_absent n (Err (refusal.Unread m)) h p k = tt
     alike_absent n (Err (refusal.Absent m)) h p k = one_absent n m h k.next p k.lacks
     alike_absent n (Err (refusal.Config f)) h p k = absent_or_fault n f h p k
+    alike_absent n (Err (refusal.NoCheck name)) h p k = absent_or_check n name h p k
     alike_absent n (Err (refusal.Source f others)) h p k =
         let s : IsRefusedSource r (Some names) f others = source_of_cause f r seen others k in
         no_absent n h p (text_read s.config s.kind f s.refused)
@@ -445,10 +474,24 @@ module _ (r : Request) (names : Names) (events : List Event) where
     alike_config f (Err (refusal.Unread m)) h k = tt
     alike_config f (Err (refusal.Absent m)) h k = absent_or_fault m f k.next k.lacks h
     alike_config f (Err (refusal.Config g)) h k = one_fault f g h k
+    alike_config f (Err (refusal.NoCheck name)) h k = no_check_fault name f k h
     alike_config f (Err (refusal.Source g others)) h k =
         let s : IsRefusedSource r (Some names) g others = source_of_cause g r seen others k in
         no_fault s.config f s.refused.configured h
     alike_config f (Err (refusal.Heavy name number)) h k = no_fault k.config f k.refused.configured h
+
+    alike_check : (name : List ℕ) (other : Result Case Refusal) → IsUnnamed r (Some names) name → Comes r seen other
+        → Alike (Err (refusal.NoCheck name)) other
+    alike_check name (Ok d) h k = no_check d.config name k.configured h
+    alike_check name (Err refusal.Memory) h k = tt
+    alike_check name (Err (refusal.Unread m)) h k = tt
+    alike_check name (Err (refusal.Absent m)) h k = absent_or_check m name k.next k.lacks h
+    alike_check name (Err (refusal.Config f)) h k = no_check_fault name f h k
+    alike_check name (Err (refusal.NoCheck other)) h k = one_check name other h k
+    alike_check name (Err (refusal.Source f others)) h k =
+        let s : IsRefusedSource r (Some names) f others = source_of_cause f r seen others k in
+        no_check s.config name s.refused.configured h
+    alike_check name (Err (refusal.Heavy other number)) h k = no_check k.config name k.refused.configured h
 
     alike_source : (f : LoadFault) (all : List (List ℕ)) (other : Result Case Refusal)
         → Stands r (Some names) events (Err (refusal.Source f all)) → Comes r seen other
@@ -463,6 +506,7 @@ module _ (r : Request) (names : Names) (events : List Event) where
     alike_source f all (Err (refusal.Absent m)) h k =
         no_absent m k.next k.lacks (stands_read (Err (refusal.Source f all)) h)
     alike_source f all (Err (refusal.Config g)) h k = no_fault h.config g h.configured k
+    alike_source f all (Err (refusal.NoCheck name)) h k = no_check h.config name h.configured k
     alike_source f all (Err (refusal.Source g others)) h k =
         let s : IsRefusedSource r (Some names) g others = source_of_cause g r seen others k in (
           (stops_once (asked_for h.config h.files (questions_in r h.config)) (leaders h.config (questions_in r h.config)) h.loads.0.kind s.kind f g h.loads.0.stops
@@ -491,6 +535,7 @@ module _ (r : Request) (names : Names) (events : List Event) where
     alike_heavy name number (Err (refusal.Absent m)) h k =
         no_absent m k.next k.lacks (stands_read (Err (refusal.Heavy name number)) h)
     alike_heavy name number (Err (refusal.Config g)) h k = no_fault h.config g h.configured k
+    alike_heavy name number (Err (refusal.NoCheck other)) h k = no_check h.config other h.configured k
     alike_heavy name number (Err (refusal.Source g others)) h k =
         let s : IsRefusedSource r (Some names) g others = source_of_cause g r seen others k in
         heavy_is_not g h.loads.place number (not_heavy g r seen others k)
@@ -520,5 +565,6 @@ module _ (r : Request) (names : Names) (events : List Event) where
     alike (Err (refusal.Unread name)) other h k = tt
     alike (Err (refusal.Absent name)) other h k = alike_absent name other h.0.next h.0.lacks k
     alike (Err (refusal.Config f)) other h k = alike_config f other h.0 k
+    alike (Err (refusal.NoCheck name)) other h k = alike_check name other h.0 k
     alike (Err (refusal.Source f all)) other h k = alike_source f all other h k
     alike (Err (refusal.Heavy name number)) other h k = alike_heavy name number other h k

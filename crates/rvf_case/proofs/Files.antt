@@ -15,7 +15,8 @@ use Rattle.ck_cfg.specs.Faults.{OrMemory}
 use Rattle.ck_cfg.specs.Reading.{config_of}
 use Rattle.rvf_case.specs.Cases.{AreRead, IsConfigured, Request, Seen, configuration, names_in, verilog, questions_in}
 use Rattle.rvf_case.specs.Hearing.{AreReadOn, HeardMore, IsReadOn, all_gave, gave, named_by}
-use Rattle.rvf_case.specs.Steps.{Becomes, Configures, Loads, Prepares, ReadsFile, ReadsFiles, Says, of_config}
+use Rattle.rvf_case.specs.Askings.{IsThere}
+use Rattle.rvf_case.specs.Steps.{Becomes, Configures, Finds, Loads, Prepares, ReadsFile, ReadsFiles, Says, of_config}
 use Rattle.rvf_case.specs.declared.case.Case.{Case}
 use Rattle.rvf_case.specs.declared.refusal.Refusal.{Refusal}
 use Rattle.rvf_case.specs.declared.refusal.Refusal.TheVariants as refusal
@@ -174,6 +175,7 @@ reads_fault (refusal.Unread other) file.Absent name seen b lacks missed failed =
 reads_fault (refusal.Unread other) file.Failed name seen b lacks missed failed = (b, failed refl, refl)
 reads_fault (refusal.Unread other) file.Memory name seen b lacks missed failed = absurd b
 reads_fault (refusal.Config f) fault name seen b lacks missed failed = absurd b
+reads_fault (refusal.NoCheck n) fault name seen b lacks missed failed = absurd b
 reads_fault (refusal.Source f names) fault name seen b lacks missed failed = absurd b
 reads_fault (refusal.Heavy n number) fault name seen b lacks missed failed = absurd b
 
@@ -285,8 +287,9 @@ misconfigures f name bytes text seen events r same is = record {
 -- ---- all of it
 
 abbrev pub is_configured : (r : Request) (held : Told) (events : List Event) (c : Config)
-    → Says r.cfg held events (Ok c) → IsConfigured r held c
-is_configured r held events c h = record { bytes = h.bytes; gives = h.gives; config_is = h.says }
+    → Says r.cfg held events (Ok c) → IsThere r.asking c → IsConfigured r held c
+is_configured r held events c h there =
+    record { bytes = h.bytes; gives = h.gives; config_is = h.says; there = there }
 
 -- of the configuration and its files the first ones were read
 pub one_first : (r : Request) (events : List Event) → AreReadOn (r.cfg ∷ []) events → IsReadOn r events
@@ -323,6 +326,7 @@ configuration_stops (refusal.Unread other) r seen events h =
     (record { next = configuration h.0; counted = h.1 }, h.2 ∙ ap (λ n. Failed n ∷ []) (sym h.0))
 configuration_stops (refusal.Config f) r seen events h =
     (record { bytes = h.bytes; gives = h.gives; refused = h.says }, h.events_are)
+configuration_stops (refusal.NoCheck name) r seen events h = absurd h
 configuration_stops (refusal.Source f names) r seen events h = absurd h
 configuration_stops (refusal.Heavy name number) r seen events h = absurd h
 
@@ -331,33 +335,55 @@ pub behind_config : (r : Request) (seen : Seen) (c : Config) (says : List Event)
     (h : Says r.cfg seen.held says (Ok c)) → says ++ events ≡ Gave r.cfg h.bytes ∷ events
 behind_config r seen c says events h = ap (λ l. l ++ events) h.events_are
 
+-- a check that is asked for isn't there
+pub check_stops : (f : Refusal) (r : Request) (seen : Seen) (c : Config) (events : List Event)
+    → Says r.cfg seen.held events (Ok c) → Finds r.asking c (Err f) → Prepares r seen events (Err f)
+check_stops (refusal.NoCheck name) r seen c events k h = (
+  record {
+    bytes = k.bytes;
+    gives = k.gives;
+    config = c;
+    config_is = k.says;
+    asked = h.asked_is;
+    none = h.none;
+  },
+  k.events_are,
+)
+check_stops refusal.Memory r seen c events k h = config_first r seen.held c events k
+check_stops (refusal.Absent name) r seen c events k h = absurd h
+check_stops (refusal.Unread name) r seen c events k h = absurd h
+check_stops (refusal.Config f) r seen c events k h = absurd h
+check_stops (refusal.Source f names) r seen c events k h = absurd h
+check_stops (refusal.Heavy name number) r seen c events k h = absurd h
+
 -- one of its files gave no bytes
 pub files_stop : (f : Refusal) (r : Request) (seen : Seen) (c : Config) (held : Told) (misses faults : ℕ)
-    (says events : List Event) (k : Says r.cfg seen.held says (Ok c)) → SameFiles seen.held held → seen.misses ≤ misses
-    → seen.faults ≤ faults → ReadsFiles (names_in r c) (seen_from seen held misses faults) events (Err f)
+    (says events : List Event) (k : Says r.cfg seen.held says (Ok c)) → IsThere r.asking c → SameFiles seen.held held
+    → seen.misses ≤ misses → seen.faults ≤ faults → ReadsFiles (names_in r c) (seen_from seen held misses faults) events (Err f)
     → Prepares r seen (says ++ events) (Err f)
-files_stop refusal.Memory r seen c held misses faults says events k s m n h =
+files_stop refusal.Memory r seen c held misses faults says events k there s m n h =
     subst (IsReadOn r) (sym (behind_config r seen c says events k)) (more_first r c k.bytes events k.says h)
-files_stop (refusal.Absent name) r seen c held misses faults says events k s m n h = (
+files_stop (refusal.Absent name) r seen c held misses faults says events k there s m n h = (
   record {
-    next = verilog c (is_configured r seen.held says c k) h.0.before h.0.behind h.0.files h.0.order
+    next = verilog c (is_configured r seen.held says c k there) h.0.before h.0.behind h.0.files h.0.order
         (read_earlier seen.held held h.0.before h.0.files s h.0.read);
     lacks = lacks_earlier seen.held held name s h.1.lacks;
     counted = rose_earlier seen.misses misses seen.misses_now m h.1.counted;
   },
   behind_config r seen c says events k ∙ ap (λ l. Gave r.cfg k.bytes ∷ l) h.0.events_are,
 )
-files_stop (refusal.Unread name) r seen c held misses faults says events k s m n h = (
+files_stop (refusal.Unread name) r seen c held misses faults says events k there s m n h = (
   record {
-    next = verilog c (is_configured r seen.held says c k) h.0.before h.0.behind h.0.files h.0.order
+    next = verilog c (is_configured r seen.held says c k there) h.0.before h.0.behind h.0.files h.0.order
         (read_earlier seen.held held h.0.before h.0.files s h.0.read);
     counted = rose_earlier seen.faults faults seen.faults_now n h.1;
   },
   behind_config r seen c says events k ∙ ap (λ l. Gave r.cfg k.bytes ∷ l) h.0.events_are,
 )
-files_stop (refusal.Config f) r seen c held misses faults says events k s m n h = absurd h
-files_stop (refusal.Source f names) r seen c held misses faults says events k s m n h = absurd h
-files_stop (refusal.Heavy name number) r seen c held misses faults says events k s m n h = absurd h
+files_stop (refusal.Config f) r seen c held misses faults says events k there s m n h = absurd h
+files_stop (refusal.NoCheck name) r seen c held misses faults says events k there s m n h = absurd h
+files_stop (refusal.Source f names) r seen c held misses faults says events k there s m n h = absurd h
+files_stop (refusal.Heavy name number) r seen c held misses faults says events k there s m n h = absurd h
 
 -- all files are read
 stands_with : (result : Result Case Refusal) (r : Request) (seen : Seen) (c : Config) (files : List (List ℕ))
@@ -372,15 +398,16 @@ stands_with (Err refusal.Memory) r seen c files events k h e l =
 stands_with (Err (refusal.Absent name)) r seen c files events k h e l = absurd l
 stands_with (Err (refusal.Unread name)) r seen c files events k h e l = absurd l
 stands_with (Err (refusal.Config f)) r seen c files events k h e l = absurd l
+stands_with (Err (refusal.NoCheck name)) r seen c files events k h e l = absurd l
 stands_with (Err (refusal.Source f names)) r seen c files events k h e l =
     record { config = c; configured = k; files = files; read = h; loads = l; events_are = e }
 stands_with (Err (refusal.Heavy name number)) r seen c files events k h e l =
     record { config = c; configured = k; files = files; read = h; loads = l; events_are = e }
 
 pub stands : (result : Result Case Refusal) (r : Request) (seen : Seen) (c : Config) (files : List (List ℕ))
-    (says events : List Event) → Says r.cfg seen.held says (Ok c) → AreRead seen.held (names_in r c) files
-    → events ≡ gave (names_in r c) files → Loads (r.cfg ∷ names_in r c) c files (questions_in r c) result
+    (says events : List Event) → Says r.cfg seen.held says (Ok c) → IsThere r.asking c
+    → AreRead seen.held (names_in r c) files → events ≡ gave (names_in r c) files → Loads (r.cfg ∷ names_in r c) c files (questions_in r c) result
     → Prepares r seen (says ++ events) result
-stands result r seen c files says events k h e l =
-    stands_with result r seen c files (says ++ events) (is_configured r seen.held says c k) h
+stands result r seen c files says events k there h e l =
+    stands_with result r seen c files (says ++ events) (is_configured r seen.held says c k there) h
     (behind_config r seen c says events k ∙ ap (λ l. Gave r.cfg k.bytes ∷ l) e) l

@@ -7,8 +7,10 @@ use Rattle.ck_cfg.specs.declared.config.Config.{Config}
 use Rattle.ck_cfg.specs.declared.kind.CheckKind.{CheckKind}
 use Rattle.rvf_load.specs.declared.fault.LoadFault.{LoadFault}
 use Rattle.rvf_load.specs.declared.fault.LoadFault.TheVariants as load
-use Rattle.rvf_case.specs.Cases.{Comes, IsCause, IsNext, IsRefusedText, Request, Seen, configuration, names_in, verilog}
-use Rattle.rvf_case.specs.Hearing.{AreReadOn, Hears, IsReadOn, before_next, before_refused, cause_reads, gave}
+use Rattle.rvf_case.specs.Cases.{Comes, IsCase, IsCause, IsNext, IsRefusedText, Request, Seen, configuration, names_in}
+use Rattle.rvf_case.specs.Cases.{verilog}
+use Rattle.rvf_case.specs.Hearing.{AreReadOn, Hears, IsReadOn, all_gave, before_next, before_refused, cause_reads, gave}
+use Rattle.rvf_case.specs.declared.case.Case.{Case}
 use Rattle.rvf_case.specs.declared.refusal.Refusal.{Refusal}
 use Rattle.rvf_case.specs.declared.refusal.Refusal.TheVariants as refusal
 use Rattle.rvf_case.proofs.Files.{all_read_on, more_first, read_on_behind}
@@ -36,6 +38,13 @@ module _ (r : Request) (held : Told) where
       more_first r c h.configured.bytes (gave (names_in r c) h.files) h.configured.config_is
       (all_read_on (names_in r c) h.files held h.read)
 
+-- and for a case all of them
+pub case_on : (r : Request) (held : Told) (case : Case) (is : IsCase r held case)
+    → IsReadOn r (all_gave r is.configured.bytes (names_in r case.config) is.files)
+case_on r held case is =
+    more_first r case.config is.configured.bytes (gave (names_in r case.config) is.files) is.configured.config_is
+    (all_read_on (names_in r case.config) is.files held is.read)
+
 source_on : (f : LoadFault) (r : Request) (seen : Seen) (names : List (List ℕ))
     (x : IsCause r seen (refusal.Source f names)) → IsReadOn r (cause_reads r seen (refusal.Source f names) x)
 source_on (load.Text f) r seen names x = refused_on r seen.held x.config x.kind (load.Text f) x.refused
@@ -49,6 +58,7 @@ cause_on : (f : Refusal) (r : Request) (seen : Seen) (x : IsCause r seen f) → 
 cause_on (refusal.Absent name) r seen x = lacked_on r seen.held name x.next
 cause_on (refusal.Unread name) r seen x = failed_on r seen.held name x.next
 cause_on (refusal.Config f) r seen x = (refl, tt)
+cause_on (refusal.NoCheck name) r seen x = (refl, tt)
 cause_on (refusal.Source f names) r seen x = source_on f r seen names x
 cause_on (refusal.Heavy name number) r seen x =
     refused_on r seen.held x.config x.kind (load.Heavy x.place number) x.refused
@@ -63,6 +73,8 @@ read_on (refusal.Unread name) r seen came events h =
     subst (IsReadOn r) (sym h) (cause_on (refusal.Unread name) r seen came)
 read_on (refusal.Config f) r seen came events h =
     subst (IsReadOn r) (sym h) (cause_on (refusal.Config f) r seen came)
+read_on (refusal.NoCheck name) r seen came events h =
+    subst (IsReadOn r) (sym h) (cause_on (refusal.NoCheck name) r seen came)
 read_on (refusal.Source f names) r seen came events h =
     subst (IsReadOn r) (sym h) (cause_on (refusal.Source f names) r seen came)
 read_on (refusal.Heavy name number) r seen came events h =

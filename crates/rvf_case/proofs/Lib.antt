@@ -8,3 +8,4 @@ pub mod Quiet
 pub mod Readiness
 pub mod Sames
 pub mod Turns
+pub mod OneNamed

@@ -13,6 +13,7 @@ pub in_any_case : (f : Refusal) (P : Type 0) → P → UnlessFault f P
 in_any_case (refusal.Absent name) P p = p
 in_any_case (refusal.Unread name) P p = tt
 in_any_case (refusal.Config f) P p = p
+in_any_case (refusal.NoCheck name) P p = p
 in_any_case (refusal.Source f names) P p = p
 in_any_case (refusal.Heavy name number) P p = p
 in_any_case refusal.Memory P p = tt
@@ -26,6 +27,7 @@ pub follows : (f : Refusal) (P Q : Type 0) → (P → Q) → UnlessFault f P →
 follows (refusal.Absent name) P Q h p = h p
 follows (refusal.Unread name) P Q h p = tt
 follows (refusal.Config f) P Q h p = h p
+follows (refusal.NoCheck name) P Q h p = h p
 follows (refusal.Source f names) P Q h p = h p
 follows (refusal.Heavy name number) P Q h p = h p
 follows refusal.Memory P Q h p = tt
@@ -39,5 +41,6 @@ becomes_quiet A (refusal.Absent other) file.Absent name P b p = p
 becomes_quiet A (refusal.Absent other) file.Failed name P b p = absurd b
 becomes_quiet A (refusal.Absent other) file.Memory name P b p = absurd b
 becomes_quiet A (refusal.Config f) fault name P b p = absurd b
+becomes_quiet A (refusal.NoCheck n) fault name P b p = absurd b
 becomes_quiet A (refusal.Source f names) fault name P b p = absurd b
 becomes_quiet A (refusal.Heavy n number) fault name P b p = absurd b

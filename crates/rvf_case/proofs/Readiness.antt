@@ -1,14 +1,14 @@
 -- What is loaded of each question's text is fit for the question.
 use Rattle.std.proofs.Common.{◌≡◌, ℕ, ◌≤◌, Bool, true, false, cond, ◌||◌, List, [], ◌∷◌, Some, Ok, refl, sym, ◌∙◌}
 use Rattle.std.proofs.Common.{ap, subst, inl, inr}
-use Rattle.std.specs.Prelude.{map}
+use Rattle.std.specs.Prelude.{if◌then◌else◌, map}
 use Rattle.std.specs.List.{AllByRecursion, filter, list_any}
 use Rattle.std.proofs.lemmas.Bool.{false≢true}
 use Rattle.ck_cfg.specs.declared.check.Check.{Check}
 use Rattle.ck_cfg.specs.declared.config.Config.{Config}
 use Rattle.ck_cfg.specs.declared.kind.CheckKind.{CheckKind}
 use Rattle.ck_cfg.specs.declared.kind.CheckKind.TheVariants as kind
-use Rattle.ck_cfg.specs.Checks.{checks_of}
+use Rattle.ck_cfg.specs.Checks.{checks_of, is_named}
 use Rattle.ck_cfg.specs.Kind.{is_kind, kind_name}
 use Rattle.ck_cfg.specs.Lawful.{HasLawfulChecks, IsCheck}
 use Rattle.ck_cover.specs.Laws.{IsTarget}
@@ -21,7 +21,7 @@ use Rattle.rvf_load.specs.Loads.{Answers, Asked, IsLoadedFrom}
 use Rattle.rvf_load.specs.declared.loaded.Loaded.{Loaded}
 use Rattle.rvf_case.specs.Cases.{IsFit, IsReady, text_among}
 use Rattle.rvf_case.specs.Steps.{AreLoadedInTurn, has_same}
-use Rattle.rvf_case.specs.Texts.{asked_for, is_same_text, leaders, questions_of}
+use Rattle.rvf_case.specs.Texts.{asked_for, is_same_text, leaders, only_named, questions_of}
 use Rattle.rvf_case.specs.declared.case.LoadedText.{LoadedText}
 use Rattle.rvf_case.proofs.Sames.{IsIn, equal_bytes, led}
 use Rattle.ck_ask.specs.Asked.{HasItsProbe, IsQuestion, IsZbCheck}
@@ -31,8 +31,8 @@ use Rattle.ck_ask.specs.declared.zb_check.ZbCheck.{ZbCheck}
 use Rattle.ck_ask.proofs.ZbLists.{zb_lawful}
 use Rattle.ck_ask.specs.declared.question.Question.{Question}
 use Rattle.ck_ask.specs.declared.question.Question.TheVariants as question
-use Rattle.rvf_case.specs.declared.asking.Asking.{Asking}
-use Rattle.rvf_case.specs.declared.asking.Asking.TheVariants as asking
+use Rattle.rvf_case.specs.Askings.{Asking}
+use Rattle.rvf_case.specs.Askings as asking
 
 or_false : (a b : Bool) → a ≡ false → (a || b) ≡ true → b ≡ true
 or_false true b f t = absurd (false≢true (sym f))
@@ -148,6 +148,25 @@ all_lawful : {X : Type 0} (n : ℕ) (make : X → Question) (P : X → Type 0) (
 all_lawful n make P [] f h = tt
 all_lawful n make P (x ∷ xs) f h = (f x h.0, all_lawful n make P xs f h.1)
 
+-- the check with a name is one of the checks
+named_in : (name : List ℕ) (xs : List Check) (x : Check) → IsIn x (only_named name xs) → IsIn x xs
+named_in name [] x i = absurd i
+named_in name (y ∷ ys) x i = step (is_named name y) (named_in name ys x) i where
+  step : (b : Bool) → (IsIn x (only_named name ys) → IsIn x ys)
+      → IsIn x (if b then y ∷ [] else only_named name ys) → IsIn x (y ∷ ys)
+  step true h (inl e) = inl e
+  step true h (inr none) = absurd none
+  step false h j = inr (h j)
+
+named_lawful : (P : Check → Type 0) (name : List ℕ) (xs : List Check) → AllByRecursion P xs
+    → AllByRecursion P (only_named name xs)
+named_lawful P name [] h = tt
+named_lawful P name (x ∷ xs) h = step (is_named name x) (named_lawful P name xs h.1) where
+  step : (b : Bool) → AllByRecursion P (only_named name xs)
+      → AllByRecursion P (if b then x ∷ [] else only_named name xs)
+  step true k = (h.0, tt)
+  step false k = k
+
 pub questions_lawful : (a : Asking) (c : Config) → HasLawfulChecks c
     → AllByRecursion (IsQuestion c.nret) (questions_of a c)
 questions_lawful asking.Checks c h =
@@ -158,6 +177,9 @@ questions_lawful asking.Targets c h =
 questions_lawful asking.Zb c h =
     all_lawful c.nret (λ z. question.Zb z) (IsZbCheck c.nret) (zb_checks_of (checks_of c) c.nret) (λ z k. k)
     (zb_lawful c.nret (checks_of c) h)
+questions_lawful (asking.One name) c h =
+    all_lawful c.nret (λ x. question.Check x) (IsCheck c.nret) (only_named name (checks_of c)) (λ x k. k)
+    (named_lawful (IsCheck c.nret) name (checks_of c) h)
 
 -- what is loaded of a text that a question has, has its probe
 check_has_probe : (a : Asking) (c : Config) (files : List (List ℕ)) (qs : List Question) (leader : CheckKind)
@@ -167,6 +189,9 @@ check_has_probe asking.Checks c files qs leader x l i s h =
     has_probe c files qs leader x l (check_in x (checks_of c) i) s h x.kind refl
 check_has_probe asking.Targets c files qs leader x l i s h = absurd (no_target x (targets_of (checks_of c)) i)
 check_has_probe asking.Zb c files qs leader x l i s h = absurd (no_zb x (zb_checks_of (checks_of c) c.nret) i)
+check_has_probe (asking.One name) c files qs leader x l i s h =
+    has_probe c files qs leader x l
+    (named_in name (checks_of c) x (check_in x (only_named name (checks_of c)) i)) s h x.kind refl
 
 has_its_probe : (a : Asking) (c : Config) (files : List (List ℕ)) (qs : List Question) (leader : CheckKind)
     (q : Question) (l : Loaded) → IsIn q (questions_of a c) → is_same_text c leader (question_kind q) ≡ true

@@ -1,7 +1,7 @@
 -- Meaning: What stands before the questions of a configuration are answered: the configuration, its files and what is
 -- loaded of each text; or the first cause in the order of work why that doesn't stand. Rules of this project.
-use Rattle.std.specs.Prelude.{◌≡◌, ℕ, ◌≤◌, ◌+◌, List, [], ◌∷◌, ◌++◌, length, map, sum, Option, Some, None, Result, Ok}
-use Rattle.std.specs.Prelude.{Err, slice_get, if◌then◌else◌}
+use Rattle.std.specs.Prelude.{◌≡◌, ℕ, ◌≤◌, ◌+◌, false, List, [], ◌∷◌, ◌++◌, length, map, sum, Option, Some, None, Result}
+use Rattle.std.specs.Prelude.{Ok, Err, slice_get, if◌then◌else◌}
 use Rattle.std.specs.List.{AllByRecursion}
 use Rattle.fv_base.specs.Outside.{FilesState, Told, Lacks, ReadGives, Rose}
 use Rattle.ck_cfg.specs.declared.config.Config.{Config}
@@ -19,7 +19,7 @@ use Rattle.rvf_load.specs.declared.loaded.Loaded.{Loaded}
 use Rattle.ck_ask.specs.Asked.{HasItsProbe, IsQuestion}
 use Rattle.ck_ask.specs.Questions.{question_kind, question_name}
 use Rattle.ck_ask.specs.declared.question.Question.{Question}
-use Rattle.rvf_case.specs.declared.asking.Asking.{Asking}
+use Rattle.rvf_case.specs.Askings.{Asking, IsThere, One, asking_seen, has_check}
 use Rattle.rvf_case.specs.Texts.{asked_for, is_same_text, leaders, questions_of, with_text}
 use Rattle.rvf_case.specs.declared.case.Case.{Case}
 use Rattle.rvf_case.specs.declared.case.LoadedText.{LoadedText}
@@ -36,7 +36,8 @@ pub record Request : Type 0 where
 
 -- as a call was given it
 abbrev pub request_seen : RunRequest → Request
-request_seen r = record { cfg = r.cfg.now; core = r.core.now; basedir = r.basedir.now; asking = r.asking }
+request_seen r =
+    record { cfg = r.cfg.now; core = r.core.now; basedir = r.basedir.now; asking = asking_seen r.asking }
 
 -- what a call saw of the files: what is told of them as it began, and how their counts moved
 pub record Seen : Type 0 where
@@ -58,11 +59,12 @@ seen_between before now = record {
 
 -- ---- the configuration and its files
 
--- the file of the configuration gave bytes, which say this
+-- the file of the configuration gave bytes, which say this; and what is asked of it is there
 pub record IsConfigured (r : Request) (held : Told) (c : Config) : Type 0 where
   pub bytes : List ℕ
   pub gives : ReadGives held r.cfg bytes
   pub config_is : config_of bytes ≡ Ok c
+  pub there : IsThere r.asking c
 
 -- each of these files gave these bytes
 abbrev pub AreRead : Told → List (List ℕ) → List (List ℕ) → Type 0
@@ -124,6 +126,15 @@ pub record IsMisconfigured (r : Request) (held : Told) (f : CfgFault) : Type 0 w
   pub gives : ReadGives held r.cfg bytes
   pub refused : config_of bytes ≡ Err f
 
+-- the configuration has no check of the name that is asked for
+pub record IsUnnamed (r : Request) (held : Told) (name : List ℕ) : Type 0 where
+  pub bytes : List ℕ
+  pub gives : ReadGives held r.cfg bytes
+  pub config : Config
+  pub config_is : config_of bytes ≡ Ok config
+  pub asked : r.asking ≡ One name
+  pub none : has_check name config ≡ false
+
 -- all files are read, no text before the one of this kind is refused, and this one is
 pub record IsRefusedText (r : Request) (held : Told) (c : Config) (kind : CheckKind) (f : LoadFault) : Type 0 where
   pub configured : IsConfigured r held c
@@ -157,6 +168,7 @@ abbrev pub IsCause : Request → Seen → Refusal → Type 0
 IsCause r seen (refusal.Absent name) = IsAbsent r seen name
 IsCause r seen (refusal.Unread name) = IsUnread r seen name
 IsCause r seen (refusal.Config f) = IsMisconfigured r seen.held f
+IsCause r seen (refusal.NoCheck name) = IsUnnamed r seen.held name
 IsCause r seen (refusal.Source (load.Heavy place number) names) = ⊥
 IsCause r seen (refusal.Source f names) = IsRefusedSource r seen.held f names
 IsCause r seen (refusal.Heavy name number) = IsHeavy r seen.held name number
@@ -179,6 +191,7 @@ Alike result (Err (refusal.Unread name)) = Unit {0}
 Alike (Ok case) (Ok other) = Unit {0}
 Alike (Err (refusal.Absent name)) (Err (refusal.Absent other)) = other ≡ name
 Alike (Err (refusal.Config f)) (Err (refusal.Config g)) = g ≡ f
+Alike (Err (refusal.NoCheck name)) (Err (refusal.NoCheck other)) = other ≡ name
 Alike (Err (refusal.Source f names)) (Err (refusal.Source g others)) = IsSame f g × (others ≡ names)
 Alike (Err (refusal.Heavy name number)) (Err (refusal.Heavy other n)) = (other ≡ name) × (n ≡ number)
 Alike result other = ⊥

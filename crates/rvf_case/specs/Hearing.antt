@@ -43,6 +43,7 @@ abbrev pub cause_reads : (r : Request) (seen : Seen) (f : Refusal) → IsCause r
 cause_reads r seen (refusal.Absent name) h = before_next r seen.held name h.next ++ Lacked name ∷ []
 cause_reads r seen (refusal.Unread name) h = before_next r seen.held name h.next ++ Failed name ∷ []
 cause_reads r seen (refusal.Config f) h = Gave r.cfg h.bytes ∷ []
+cause_reads r seen (refusal.NoCheck name) h = Gave r.cfg h.bytes ∷ []
 cause_reads r seen (refusal.Source (load.Heavy place number) names) h = []
 cause_reads r seen (refusal.Source f names) h = before_refused r seen.held h.config h.kind f h.refused
 cause_reads r seen (refusal.Heavy name number) h =

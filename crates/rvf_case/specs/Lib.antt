@@ -1,3 +1,4 @@
+pub mod Askings
 pub mod Cases
 pub mod Hearing
 pub mod Steps

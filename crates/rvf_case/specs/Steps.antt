@@ -1,5 +1,5 @@
 -- Between functions: What each step of the work comes to, for what stands above it. Rules of this project.
-use Rattle.std.specs.Prelude.{◌≡◌, ◌<◌, ℕ, ◌+◌, Bool, ◌&&◌, List, [], ◌∷◌, ◌++◌, length, map, slice_get, Some}
+use Rattle.std.specs.Prelude.{◌≡◌, ◌<◌, ℕ, Bool, false, ◌&&◌, List, [], ◌∷◌, ◌++◌, length, map, slice_get, Some}
 use Rattle.std.specs.Prelude.{Result, Ok, Err}
 use Rattle.std.specs.List.{AllByRecursion, filter, list_any}
 use Rattle.fv_base.specs.Outside.{Told, Lacks, ReadGives, Rose}
@@ -19,7 +19,8 @@ use Rattle.rvf_load.specs.Loads.{Answers, Asked, IsTheRefusal}
 use Rattle.rvf_load.specs.declared.fault.LoadFault.{LoadFault}
 use Rattle.rvf_load.specs.declared.fault.LoadFault.TheVariants as load
 use Rattle.rvf_case.specs.Cases.{AreRead, IsAbsent, IsConfigured, IsMisconfigured, IsUnread, Request, Seen, names_in}
-use Rattle.rvf_case.specs.Cases.{questions_in}
+use Rattle.rvf_case.specs.Askings.{Asking, IsThere, One, has_check}
+use Rattle.rvf_case.specs.Cases.{IsUnnamed, questions_in}
 use Rattle.ck_ask.specs.Questions.{question_name}
 use Rattle.ck_ask.specs.declared.question.Question.{Question}
 use Rattle.rvf_case.specs.Hearing.{AreReadOn, IsReadOn, all_gave, before_next, gave}
@@ -123,6 +124,24 @@ Configures name seen events (Err (refusal.Config f)) = Says name seen.held event
 Configures name seen events (Err refusal.Memory) = AreReadOn (name ∷ []) events
 Configures name seen events (Err f) = ⊥
 
+-- the configuration lacks the check of the name that is asked for
+pub record LacksCheck (asked : Asking) (c : Config) (name : List ℕ) : Type 0 where
+  pub asked_is : asked ≡ One name
+  pub none : has_check name c ≡ false
+
+-- whether what is asked of a configuration is there
+abbrev pub Finds : Asking → Config → Result (Unit {0}) Refusal → Type 0
+Finds asked c (Ok u) = IsThere asked c
+Finds asked c (Err (refusal.NoCheck name)) = LacksCheck asked c name
+Finds asked c (Err refusal.Memory) = Unit {0}
+Finds asked c (Err f) = ⊥
+
+-- memory may be wanted for the name
+abbrev pub IsRefusedName : Refusal → List ℕ → Type 0
+IsRefusedName (refusal.NoCheck other) name = other ≡ name
+IsRefusedName refusal.Memory name = Unit {0}
+IsRefusedName f name = ⊥
+
 -- ---- loading
 
 -- why the text of a kind isn't loaded
@@ -209,6 +228,8 @@ Prepares r seen events (Err (refusal.Unread name)) =
     (h : IsUnread r seen name) × (events ≡ before_next r seen.held name h.next ++ Failed name ∷ [])
 Prepares r seen events (Err (refusal.Config f)) =
     (h : IsMisconfigured r seen.held f) × (events ≡ Gave r.cfg h.bytes ∷ [])
+Prepares r seen events (Err (refusal.NoCheck name)) =
+    (h : IsUnnamed r seen.held name) × (events ≡ Gave r.cfg h.bytes ∷ [])
 Prepares r seen events (Err (refusal.Source f names)) = Stands r seen.held events (Err (refusal.Source f names))
 Prepares r seen events (Err (refusal.Heavy name number)) =
     Stands r seen.held events (Err (refusal.Heavy name number))

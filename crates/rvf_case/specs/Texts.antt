@@ -9,7 +9,7 @@ use Rattle.ck_cfg.specs.declared.config.Config.{Config}
 use Rattle.ck_cfg.specs.declared.config.Piece.{Piece}
 use Rattle.ck_cfg.specs.declared.kind.CheckKind.{CheckKind}
 use Rattle.ck_cfg.specs.declared.kind.CheckKind.TheVariants as kind
-use Rattle.ck_cfg.specs.Checks.{checks_of}
+use Rattle.ck_cfg.specs.Checks.{checks_of, is_named}
 use Rattle.ck_cfg.specs.Kind.{is_kind}
 use Rattle.ck_cover.specs.Targets.{targets_of}
 use Rattle.vl_text.specs.Texts.{Text}
@@ -22,16 +22,23 @@ use Rattle.ck_ask.specs.Questions.{question_cycle, question_kind}
 use Rattle.ck_ask.specs.ZbChecks.{zb_checks_of}
 use Rattle.ck_ask.specs.declared.question.Question.{Question}
 use Rattle.ck_ask.specs.declared.question.Question.TheVariants as question
-use Rattle.rvf_case.specs.declared.asking.Asking.{Asking}
-use Rattle.rvf_case.specs.declared.asking.Asking.TheVariants as asking
+use Rattle.rvf_case.specs.Askings.{Asking}
+use Rattle.rvf_case.specs.Askings as asking
 
 -- ---- which questions are asked
 
--- one for each of its checks, of the targets of these, or of the checks of Zba and Zbs beside them; in their order
+-- of these checks the first one with the name alone
+abbrev pub only_named : List ℕ → List Check → List Check
+only_named name [] = []
+only_named name (x ∷ xs) = if is_named name x then x ∷ [] else only_named name xs
+
+-- one for each of its checks, of the targets of these, or of the checks of Zba and Zbs beside them, in their order; or one
+-- for the check with a name
 abbrev pub questions_of : Asking → Config → List Question
 questions_of asking.Checks c = map (λ x. question.Check x) (checks_of c)
 questions_of asking.Targets c = map (λ t. question.Target t) (targets_of (checks_of c))
 questions_of asking.Zb c = map (λ z. question.Zb z) (zb_checks_of (checks_of c) c.nret)
+questions_of (asking.One name) c = map (λ x. question.Check x) (only_named name (checks_of c))
 
 -- ---- a question's text: lines of the configuration, and then the files
 

@@ -6,6 +6,7 @@ ghost use Rattle.ck_cfg.specs.Lawful.{HasLawfulChecks};
 ghost use Rattle.ck_ask.specs.Asked.{IsQuestion};
 ghost use Rattle.std.specs.List.{AllByRecursion};
 ghost use Rattle.rvf_load.specs.Loads.{Answers};
+ghost use Rattle.rvf_case.specs.Askings.{asking_seen};
 ghost use Rattle.rvf_case.specs.Cases.{IsReady};
 ghost use Rattle.rvf_case.specs.Steps.{IsAtQuestion, Loads, LoadsInTurn, LoadsOne, StopsAt, stop_of};
 ghost use Rattle.rvf_case.specs.Texts.{asked_for, leaders, questions_of, with_text};
@@ -158,13 +159,13 @@ fn refusal_of(
 pub(crate) fn case_of(
     alloc: Global,
     config: Config,
-    asking: Asking,
+    asking: Asking<'_>,
     names: List<Text>,
     files: &[Text],
 ) -> Result<Case, Refusal>
     requires lawful { HasLawfulChecks config }
     requires channels { 1 ≤ config.nret × config.nret ≤ 2 }
-    ensures loads { Loads names config files.now (questions_of asking config) result }
+    ensures loads { Loads names config files.now (questions_of (asking_seen asking.entry) config) result }
     ensures ready { IfOk result (λ case. IsReady case) }
 {
     let checks = checks(alloc, &config)?;

@@ -9,7 +9,7 @@ ghost use Rattle.rvf_case.specs.Cases.{Alike, Comes, IsReady, UnlessUnread, requ
 ghost use Rattle.rvf_case.specs.Hearing.{Answered, HeardMore};
 ghost use Rattle.rvf_case.specs.Steps.{Prepares};
 
-use crate::asking::Asking;
+use crate::asking::{Asking, find_asked};
 use crate::case::Case;
 use crate::loading::case_of;
 use crate::reading::{read_config, read_files};
@@ -26,7 +26,7 @@ pub struct Request<'a> {
     pub cfg: &'a [u8],
     pub core: &'a [u8],
     pub basedir: &'a [u8],
-    pub asking: Asking,
+    pub asking: Asking<'a>,
 }
 
 /// The names of the Verilog files.
@@ -65,6 +65,7 @@ fn prepared<F: Files>(alloc: Global, request: Request<'_>, files: &mut F) -> Res
     ensures quiet { UnlessUnread result ((F.state files.new).faults ≡ (F.state files.old).faults) }
 {
     let config = read_config(alloc, request.cfg, files)?;
+    find_asked(alloc, request.asking, &config)?;
     let names = names_of(alloc, &config, request.core, request.basedir)?;
     let texts = read_files(alloc, names.as_slice(), files)?;
     let all = with_first(alloc, request.cfg, names)?;
@@ -74,8 +75,8 @@ fn prepared<F: Files>(alloc: Global, request: Request<'_>, files: &mut F) -> Res
 /// The questions of a configuration and what they are answered by; or the first cause in the order of work why they
 /// aren't.
 ///
-/// The configuration is read, then its Verilog files, in the order of their lines; then each distinct text is loaded
-/// once, in the order of their first questions. Nothing is written.
+/// The configuration is read, and a check that is asked for has to be one of it; then its Verilog files are read, in the
+/// order of their lines; then each distinct text is loaded once, in the order of their first questions. Nothing is written.
 pub fn prepare<F: Files>(
     alloc: Global,
     request: Request<'_>,

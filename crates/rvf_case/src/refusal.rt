@@ -12,6 +12,8 @@ pub enum Refusal {
     /// The file with this name could not be read.
     Unread(Text),
     Config(CfgFault),
+    /// The configuration has no check with this name, which is asked for.
+    NoCheck(Text),
     /// A part refuses a text; beside it the names of the files by their numbers, that of the configuration first.
     Source(LoadFault, List<Text>),
     /// A design is too heavy for the question with this name, by this number: its weight times one more than the

@@ -29,6 +29,10 @@ unread_line name = spaced (codes "read fault") (ended name)
 abbrev pub heavy_line : List ℕ → ℕ → List ℕ
 heavy_line name number = spaced (codes "heavy") (spaced name (ended (decimal number)))
 
+-- `refused check CHECK`
+abbrev pub no_check_line : List ℕ → List ℕ
+no_check_line name = spaced (codes "refused check") (ended name)
+
 -- `source PART C PLACE DETAIL`, by the names of the files; want of memory has no line, and what is too heavy one of
 -- its own
 abbrev pub text_line : List (List ℕ) → TextFault → List ℕ
@@ -49,6 +53,7 @@ abbrev pub refusal_line : Refusal → List ℕ
 refusal_line (refusal.Absent name) = absent_line name
 refusal_line (refusal.Unread name) = unread_line name
 refusal_line (refusal.Config f) = config_line f
+refusal_line (refusal.NoCheck name) = no_check_line name
 refusal_line (refusal.Source f names) = load_line names f
 refusal_line (refusal.Heavy name number) = heavy_line name number
 refusal_line refusal.Memory = []

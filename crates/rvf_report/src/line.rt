@@ -86,6 +86,7 @@ pub fn refusal_line(alloc: Global, refusal: &Refusal) -> Result<Text, Memory>
         Refusal::Absent(name) => named_line(alloc, b"absent", name.bytes()),
         Refusal::Unread(name) => named_line(alloc, b"read fault", name.bytes()),
         Refusal::Config(fault) => config_line(alloc, fault),
+        Refusal::NoCheck(name) => named_line(alloc, b"refused check", name.bytes()),
         Refusal::Source(fault, names) => load_line(alloc, names.as_slice(), fault),
         Refusal::Heavy(name, number) => heavy_line(alloc, name.bytes(), *number),
         Refusal::Memory => Err(Memory),

@@ -3,6 +3,7 @@ use Rattle.std.specs.List.{AllByRecursion}
 use Rattle.std.proofs.lemmas.Result.{err_from_is_err_and}
 use Rattle.ck_ask.specs.Asked.{IsQuestion}
 use Rattle.ck_ask.specs.declared.question.Question.{Question}
+use Rattle.rvf_case.specs.Askings.{asking_seen}
 use Rattle.rvf_case.specs.Steps.{Loads, LoadsInTurn, StopsAt}
 use Rattle.rvf_case.specs.Texts.{asked_for, leaders, questions_of}
 use Rattle.rvf_case.specs.declared.loading.Stop.{Stop}
@@ -26,21 +27,21 @@ load_all-requires-clause-checks c = c.as_slice.ensures ∙ c.in_ok-checks.ensure
 
 pub load_all-requires-clause-lawful : goal.load_all-requires-clause-lawful
 load_all-requires-clause-lawful c =
-    let all : c.as_slice-2.result.now ≡ questions_of c.args.asking c.args.config =
+    let all : c.as_slice-2.result.now ≡ questions_of (asking_seen c.args.asking) c.args.config =
     c.as_slice-2.ensures ∙ c.in_ok-questions.ensures in
     subst (AllByRecursion (IsQuestion c.args.config.nret)) (sym all)
-    (questions_lawful c.args.asking c.args.config c.requires.lawful)
+    (questions_lawful (asking_seen c.args.asking) c.args.config c.requires.lawful)
 
 pub load_all-requires-clause-few : goal.load_all-requires-clause-few
 load_all-requires-clause-few c =
-    let all : c.as_slice-2.result.now ≡ questions_of c.args.asking c.args.config =
+    let all : c.as_slice-2.result.now ≡ questions_of (asking_seen c.args.asking) c.args.config =
     c.as_slice-2.ensures ∙ c.in_ok-questions.ensures in
     subst (λ (qs : List Question). length qs < 2 ^ 32) (sym all)
-    (few_questions c.args.asking c.args.config c.requires.channels.1)
+    (few_questions (asking_seen c.args.asking) c.args.config c.requires.channels.1)
 
 pub returns-in-Ok-clause-loads : goal.returns-in-Ok-clause-loads
 returns-in-Ok-clause-loads c =
-    let all : c.as_slice-2.result.now ≡ questions_of c.args.asking c.args.config =
+    let all : c.as_slice-2.result.now ≡ questions_of (asking_seen c.args.asking) c.args.config =
     c.as_slice-2.ensures ∙ c.in_ok-questions.ensures in
     record {
       config_is = refl;
@@ -51,7 +52,7 @@ returns-in-Ok-clause-loads c =
 
 pub returns-in-Ok-clause-ready : goal.returns-in-Ok-clause-ready
 returns-in-Ok-clause-ready c =
-    ready c.args.asking c.args.config c.args.files.now c.in_ok-questions.questions c.in-Ok.texts
+    ready (asking_seen c.args.asking) c.args.config c.args.files.now c.in_ok-questions.questions c.in-Ok.texts
     c.in_ok-questions.ensures
     (subst (λ (qs : List Question). LoadsInTurn (asked_for c.args.config c.args.files.now qs)
     (leaders c.args.config qs) (Ok c.in-Ok.texts)) c.as_slice-2.ensures c.in-Ok.ensures)
@@ -78,7 +79,7 @@ returns-in_err-refusal-in-Err-Refused-clause-loads c =
 pub returns-in-Err-Refused-clause-loads : goal.returns-in-Err-Refused-clause-loads
 returns-in-Err-Refused-clause-loads c =
     let qs = c.as_slice-in-Err-Refused.result.now in
-    let all : qs ≡ questions_of c.args.asking c.args.config =
+    let all : qs ≡ questions_of (asking_seen c.args.asking) c.args.config =
     c.as_slice-in-Err-Refused.ensures ∙ c.in_ok-questions.ensures in
     let h : StopsAt (asked_for c.args.config c.args.files.now qs) (leaders c.args.config qs)
     c.in-Err-Refused.kind c.in-Err-Refused.fault =

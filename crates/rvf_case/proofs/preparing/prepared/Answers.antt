@@ -6,9 +6,9 @@ use Rattle.rvf_case.specs.Hearing.{gave}
 use Rattle.rvf_case.specs.Steps.{Loads, ReadsFiles}
 use Rattle.rvf_case.specs.declared.refusal.Refusal.{Refusal}
 use Rattle.rvf_case.specs.declared.refusal.Refusal.TheVariants as refusal
-use Rattle.rvf_case.proofs.Files.{config_first, configuration_stops, files_stop, heard_behind, heard_so, no_less}
+use Rattle.rvf_case.proofs.Files.{check_stops, config_first, configuration_stops, files_stop, heard_behind, heard_so, no_less}
 use Rattle.rvf_case.proofs.Files.{read_earlier, same_in_turn, seen_from, stands}
-use Rattle.rvf_case.proofs.Quiet.{follows, in_any_answer}
+use Rattle.rvf_case.proofs.Quiet.{follows, in_any_answer, in_any_case}
 use Rattle.rvf_case.proofs.preparing.prepared.Goals as goal
 
 pub returns-in_err-config-clause-prepares : goal.returns-in_err-config-clause-prepares
@@ -19,6 +19,16 @@ returns-in_err-config-clause-prepares g c =
     rw left (heard_so _ _ c.in_err-config.ensures.configures
     (λ events h. configuration_stops c.in_err-config.field-0.0 (request_seen c.args.request) (seen_between first now)
     events h))
+
+pub returns-in_err-find_asked-clause-prepares : goal.returns-in_err-find_asked-clause-prepares
+returns-in_err-find_asked-clause-prepares g c =
+    let first : FilesState = g.F.Files.state c.args.files.now in
+    let now : FilesState = g.F.Files.state c.read_config.new.files in
+    let f : Refusal = c.in_err-find_asked.field-0.0 in
+    let left : c.from_residual-in_err-find_asked.result ≡ Err f = search rules in
+    rw left (heard_so _ _ c.in_ok-config.ensures.configures
+    (λ events h. check_stops f (request_seen c.args.request) (seen_between first now) c.in_ok-config.config events h
+    c.in_err-find_asked.ensures))
 
 pub returns-in_err-names-clause-prepares : goal.returns-in_err-names-clause-prepares
 returns-in_err-names-clause-prepares g c =
@@ -40,7 +50,7 @@ returns-in_err-texts-clause-prepares g c =
     rw left (heard_behind first.heard middle.heard now.heard _ _ _ c.in_ok-config.ensures.configures
     c.in_err-texts.ensures.reads
     (λ says events k h. files_stop f (request_seen c.args.request) seen c.in_ok-config.config middle.held middle.misses
-    middle.faults says events k c.in_ok-config.ensures.kept c.in_ok-config.ensures.misses_grow
+    middle.faults says events k c.in_ok-find_asked.ensures c.in_ok-config.ensures.kept c.in_ok-config.ensures.misses_grow
     c.in_ok-config.ensures.faults_grow
     (subst (λ (ns : List (List ℕ)). ReadsFiles ns (seen_from seen middle.held middle.misses middle.faults) events
     (Err f)) names h)))
@@ -57,6 +67,7 @@ returns-in_err-all-clause-prepares g c =
     rw left (heard_behind first.heard middle.heard now.heard _ _ _ c.in_ok-config.ensures.configures
     c.in_ok-texts.ensures.reads
     (λ says events k h. stands (Err refusal.Memory) r (seen_between first now) config c.in_ok-texts.texts says events k
+    c.in_ok-find_asked.ensures
     (read_earlier first.held middle.held (names_in r config) c.in_ok-texts.texts c.in_ok-config.ensures.kept
     (subst (λ (ns : List (List ℕ)). AreRead middle.held ns c.in_ok-texts.texts) names h.0))
     (h.1 ∙ ap (λ ns. gave ns c.in_ok-texts.texts) names) tt))
@@ -74,6 +85,7 @@ returns-clause-prepares g c =
     heard_behind first.heard middle.heard now.heard _ _ _ c.in_ok-config.ensures.configures
     c.in_ok-texts.ensures.reads
     (λ says events k h. stands c.case_of.result r (seen_between first now) config c.in_ok-texts.texts says events k
+    c.in_ok-find_asked.ensures
     (read_earlier first.held middle.held (names_in r config) c.in_ok-texts.texts c.in_ok-config.ensures.kept
     (subst (λ (ns : List (List ℕ)). AreRead middle.held ns c.in_ok-texts.texts) names h.0))
     (h.1 ∙ ap (λ ns. gave ns c.in_ok-texts.texts) names)
@@ -134,6 +146,12 @@ pub returns-in_err-config-clause-quiet : goal.returns-in_err-config-clause-quiet
 returns-in_err-config-clause-quiet g c =
     let left : c.from_residual.result ≡ Err c.in_err-config.field-0.0 = search rules in
     rw left c.in_err-config.ensures.quiet
+
+pub returns-in_err-find_asked-clause-quiet : goal.returns-in_err-find_asked-clause-quiet
+returns-in_err-find_asked-clause-quiet g c =
+    let f : Refusal = c.in_err-find_asked.field-0.0 in
+    let left : c.from_residual-in_err-find_asked.result ≡ Err f = search rules in
+    rw left (in_any_case f _ c.in_ok-config.ensures.quiet)
 
 pub returns-in_err-names-clause-quiet : goal.returns-in_err-names-clause-quiet
 returns-in_err-names-clause-quiet g c =
