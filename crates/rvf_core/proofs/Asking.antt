@@ -67,6 +67,7 @@ task_leaves (Some (words.Lrat cnf proof)) own r status is = tt
 task_leaves (Some (words.Bench size)) own r status is = tt
 task_leaves (Some (words.Cover o)) own r status is = tt
 task_leaves (Some (words.Zb o)) own r status is = tt
+task_leaves (Some (words.Toaig cfg check file core basedir)) own r status is = absurd (no_task own is)
 task_leaves (Some (words.Fromaig aag cnf)) own r status is = absurd (no_task own is)
 
 -- a run between two moments
@@ -74,9 +75,9 @@ abbrev pub run_between : List (List ℕ) → Outside → Outside → Run
 run_between words before now = record { words = words; before = before; now = now }
 
 pub task_statuses : (line : Option Words) (own : Task) (r : Run) (status : Status) → task_asked line ≡ Some own
-    → HaveCauses own r status → HaveStatus line r status
+    → HaveCauses own.request r status → HaveStatus line r status
 task_statuses line own r status is causes = record {
-  causes = λ t e. subst (λ u. HaveCauses u r status) (same_task own t (sym is ∙ e)) causes;
+  causes = λ t e. subst (λ (u : Task). HaveCauses u.request r status) (same_task own t (sym is ∙ e)) causes;
   leaves = task_leaves line own r status is;
 }
 

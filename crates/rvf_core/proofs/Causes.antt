@@ -1,5 +1,5 @@
 -- Where files are told, what they give is one, and what was read and isn't refused has no cause against it.
-use Rattle.std.proofs.Common.{◌≡◌, ℕ, false, List, [], ◌∷◌, ◌++◌, Option, Some, None, Result, Ok}
+use Rattle.std.proofs.Common.{◌≡◌, ℕ, true, false, List, [], ◌∷◌, ◌++◌, Option, Some, None, Result, Ok}
 use Rattle.std.proofs.Common.{Err, refl, sym, ap, ◌∙◌, subst, arith}
 use Rattle.std.proofs.lemmas.Bool.Decides.{nat_tests}
 use Rattle.std.specs.List.{AllByRecursion}
@@ -16,8 +16,10 @@ use Rattle.rvf_case.specs.Cases.{configuration, names_in, questions_in, verilog}
 use Rattle.rvf_case.specs.Texts.{asked_for, leaders}
 use Rattle.rvf_case.specs.declared.refusal.Refusal.{Refusal}
 use Rattle.rvf_case.specs.declared.refusal.Refusal.TheVariants as refusal
+use Rattle.rvf_case.specs.Askings.{Asking, IsThere, has_check}
 use Rattle.rvf_core.specs.Checks.{HasRead}
 use Rattle.rvf_core.specs.Run.{rose}
+use Rattle.rvf_core.proofs.Apart.{true_false}
 
 pub unrisen : (before now : ℕ) → rose before now ≡ false → Rose before now → ⊥
 unrisen before now not_rose is_risen = grind (arith, nat_tests)
@@ -113,6 +115,12 @@ module _ (q : Request) (names : Names) where
     uncaused c fs no_fault x unrefused (refusal.Config f) cause =
         ok_err c f (same_says (names q.cfg) x.configured.bytes cause.bytes (Ok c) (Err f) x.configured.gives
         cause.gives x.configured.config_is cause.refused)
+    uncaused c fs no_fault x unrefused (refusal.NoCheck name) cause =
+        let same : c ≡ cause.config =
+        same_ok c cause.config (same_says (names q.cfg) x.configured.bytes cause.bytes (Ok c) (Ok cause.config)
+        x.configured.gives cause.gives x.configured.config_is cause.config_is) in
+        let there : has_check name c ≡ true = subst (λ (a : Asking). IsThere a c) cause.asked x.configured.there in
+        true_false (sym there ∙ ap (has_check name) same ∙ cause.none)
     uncaused c fs no_fault x unrefused (refusal.Source (load.Text f) ns) cause =
         text_unrefused c cause.config fs cause.kind (load.Text f) x unrefused
         cause.refused

@@ -26,7 +26,7 @@ use Rattle.rvf_words.specs.declared.line.Line.{Line as Words}
 use Rattle.rvf_words.specs.declared.line.Line.TheVariants as words
 use Rattle.rvf_case.specs.Cases.{Request, Seen, questions_in}
 use Rattle.rvf_case.specs.Texts.{questions_of}
-use Rattle.rvf_case.specs.declared.asking.Asking.TheVariants as asking
+use Rattle.rvf_case.specs.Askings as asking
 use Rattle.rvf_checks.specs.Counting.{fails, is_found, is_spent, is_unmet, status_of}
 use Rattle.rvf_checks.specs.declared.wording.Wording.{Wording}
 use Rattle.rvf_report.specs.declared.delivery.Delivery.{Delivery}
@@ -35,7 +35,9 @@ use Rattle.rvf_report.specs.declared.status.Status.TheVariants as s
 use Rattle.rvf_core.specs.Checks.{Checks, HasRead}
 use Rattle.rvf_core.specs.Checks as checks
 use Rattle.rvf_core.specs.Bench as bench
-use Rattle.rvf_core.specs.Run.{Answered, Answers, AreAccepted, Asks, Ends, HasCounts, IsAccepted, IsExact, Run, Says}
+use Rattle.rvf_core.specs.Exports.{Exports, check_request}
+use Rattle.rvf_core.specs.Exports as exports
+use Rattle.rvf_core.specs.Run.{AsksGraph, Answered, Answers, AreAccepted, Asks, Ends, HasCounts, IsAccepted, IsExact, Run, Says}
 use Rattle.rvf_core.specs.Run.{comes, of_bench, of_files}
 use Rattle.rvf_core.specs.Run.{comes_in_budget}
 use Rattle.rvf_core.specs.Run.{comes_judged, rose, says_reads, seen_in}
@@ -47,6 +49,7 @@ use Rattle.rvf_core.proofs.Apart.{true_false}
 use Rattle.rvf_core.proofs.Asking.{asked_says}
 use Rattle.rvf_core.proofs.Causes.{moved, uncaused}
 use Rattle.rvf_core.proofs.Failures.{failure_comes}
+use Rattle.rvf_core.proofs.GraphMade.{graph_known, made_exact}
 use Rattle.rvf_core.proofs.Graphs.{encoded_exact}
 use Rattle.rvf_core.proofs.Others.{same_said}
 use Rattle.rvf_core.proofs.Members.{from_contains, in_map, to_contains}
@@ -336,6 +339,38 @@ fail_comes r status a t c fs x h there failing =
     fail_said t.request names misses misses_now faults faults_now no_fault c fs read unrefused t.wording t.folder
     t.budget found report x said there failing)
 
+-- ---- the graph of a check
+
+-- where nothing is refused the graph is made
+graph_comes : (cfg check file core basedir : List ℕ) (r : Run) (status : Status) → Answers status r
+    → AsksGraph r cfg check file core basedir → (c : Config) (fs : List (List ℕ))
+    → HasRead (check_request cfg check core basedir) r.before.held c fs
+    → AreAccepted c fs (questions_in (check_request cfg check core basedir) c) → comes s.Passed status ≡ true
+graph_comes cfg check file core basedir r status a asks c fs read unrefused =
+    by_cause (comes s.Passed) refl refl (Some (words.Toaig cfg check file core basedir)) r status
+    (under r (Some (words.Toaig cfg check file core basedir)) status asks.asked a)
+    (λ report says. of report (told_exports report says))
+  where
+    q : Request
+    q = check_request cfg check core basedir
+
+    told_exports : (report : List Delivery) → Exports cfg check file core basedir (seen_in r) status report
+        → Exports cfg check file core basedir (seen_told asks.names r) status report
+    told_exports report x = subst (λ held. Exports cfg check file core basedir (record {
+      held = held;
+      misses = r.before.misses;
+      misses_now = r.now.misses;
+      faults = r.before.faults;
+      faults_now = r.now.faults;
+    }) status report) asks.told x
+
+    of : (report : List Delivery) → Exports cfg check file core basedir (seen_told asks.names r) status report
+        → comes s.Passed status ≡ true
+    of report (exports.exported x) = comes_itself s.Passed status x.status_is
+    of report (exports.refused x) =
+        absurd (uncaused q asks.names r.before.misses r.now.misses r.before.faults r.now.faults c fs asks.no_fault
+        (subst (λ held. HasRead q held c fs) asks.told read) unrefused x.refusal x.cause)
+
 -- ---- checks
 
 -- a check fails exactly where a run violates it
@@ -404,6 +439,12 @@ IsExact-answers r status a statuses counts = record {
       ) in
       fail_comes r status a t c fs (question.Check x) h both.0 both.1;
   encoded = λ graph cnf e. encoded_exact graph cnf r status a statuses e;
+  exported = λ cfg check file core basedir e. made_exact cfg check file core basedir r status a statuses e;
+  no_graph = λ cfg check file core basedir f asks cause.
+      (graph_known cfg check file core basedir r status statuses asks.asked).causes asks.names asks.told asks.no_fault
+      f cause;
+  graph = λ cfg check file core basedir c fs asks read unrefused.
+      graph_comes cfg check file core basedir r status a asks c fs read unrefused;
   other = λ asked wanted report h says.
       by_cause (comes wanted) (comes_WriteFault wanted) (comes_Memory wanted) (Some asked) r status
       (under r (Some asked) status h.asked_is a)

@@ -21,6 +21,7 @@ use Rattle.rvf_core.specs.Certifies as certifies
 use Rattle.rvf_core.specs.Checks.{Checks, checks_reads}
 use Rattle.rvf_core.specs.Checks as checks
 use Rattle.rvf_core.specs.Encodes as encodes
+use Rattle.rvf_core.specs.Exports as exports
 use Rattle.rvf_core.specs.Lists.{Lists, lists_reads}
 use Rattle.rvf_core.specs.Lists as lists
 use Rattle.rvf_core.specs.Run.{Answered, Says, answered_reads, comes, says_reads}
@@ -86,6 +87,8 @@ refused_comes (refusal.Absent n) q seen status x name is there =
 refused_comes (refusal.Unread n) q seen status x name is there = comes_itself s.ReadFault status is
 refused_comes (refusal.Config f) q seen status x name is there =
     absurd (none_failed (Gave q.cfg x.bytes ∷ []) name (tt, tt) there)
+refused_comes (refusal.NoCheck n) q seen status x name is there =
+    absurd (none_failed (Gave q.cfg x.bytes ∷ []) name (tt, tt) there)
 refused_comes (refusal.Source f names) q seen status x name is there =
     absurd (none_failed (cause_reads q seen (refusal.Source f names) x) name (source_answered f q seen names x) there)
 refused_comes (refusal.Heavy n number) q seen status x name is there =
@@ -118,6 +121,7 @@ listed_comes (refusal.Absent n) cfg seen status x name is there =
 listed_comes (refusal.Unread n) cfg seen status x name is there = comes_itself s.ReadFault status is
 listed_comes (refusal.Config f) cfg seen status x name is there =
     absurd (none_failed (Gave cfg x.bytes ∷ []) name (tt, tt) there)
+listed_comes (refusal.NoCheck n) cfg seen status x name is there = absurd x
 listed_comes (refusal.Source f names) cfg seen status x name is there = absurd x
 listed_comes (refusal.Heavy n number) cfg seen status x name is there = absurd x
 listed_comes refusal.Memory cfg seen status x name is there = absurd x
@@ -163,6 +167,19 @@ encodes_comes graph cnf seen status report (encodes.absent x) name there =
 encodes_comes graph cnf seen status report (encodes.unread x) name there =
     comes_itself s.ReadFault status x.status_is
 
+-- ---- the graph of a check
+
+exports_comes : (cfg check file core basedir : List ℕ) (seen : Seen) (status : Status) (report : List Delivery)
+    (x : exports.Exports cfg check file core basedir seen status report) (name : List ℕ)
+    → Contains (exports.exports_reads cfg check file core basedir seen status report x) (Failed name)
+    → comes s.ReadFault status ≡ true
+exports_comes cfg check file core basedir seen status report (exports.exported x) name there =
+    let q = exports.check_request cfg check core basedir in
+    absurd (none_failed (all_gave q x.read.configured.bytes (names_in q x.config) x.files) name
+    (all_answered q x.read.configured.bytes (names_in q x.config) x.files) there)
+exports_comes cfg check file core basedir seen status report (exports.refused x) name there =
+    refused_comes x.refusal (exports.check_request cfg check core basedir) seen status x.cause name x.status_is there
+
 -- ---- all
 
 pub failure_comes : (asked : Option Words) (seen : Seen) (status : Status) (report : List Delivery)
@@ -180,5 +197,7 @@ failure_comes (Some (words.Cover o)) seen status report x name there =
     task_comes (cover_task o) seen status report x name there
 failure_comes (Some (words.Zb o)) seen status report x name there =
     task_comes (zb_task o) seen status report x name there
+failure_comes (Some (words.Toaig cfg check file core basedir)) seen status report x name there =
+    exports_comes cfg check file core basedir seen status report x name there
 failure_comes (Some (words.Fromaig aag cnf)) seen status report x name there =
     encodes_comes aag cnf seen status report x name there

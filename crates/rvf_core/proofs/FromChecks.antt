@@ -49,16 +49,18 @@ abbrev pub cause_of : (q : Request) (seen : Seen) (f : Refusal) → is_memory f 
 cause_of q seen (refusal.Absent name) e x = x
 cause_of q seen (refusal.Unread name) e x = x
 cause_of q seen (refusal.Config f) e x = x
+cause_of q seen (refusal.NoCheck name) e x = x
 cause_of q seen (refusal.Source f names) e x = x
 cause_of q seen (refusal.Heavy name number) e x = x
 cause_of q seen refusal.Memory e x = absurd (true_false e)
 
 -- what was read is what the cause speaks of
-hears_cause : (q : Request) (seen : Seen) (f : Refusal) (e : is_memory f ≡ false) (x : Comes q seen (Err f))
+pub hears_cause : (q : Request) (seen : Seen) (f : Refusal) (e : is_memory f ≡ false) (x : Comes q seen (Err f))
     (events : List Event) → Hears q seen (Err f) x events → events ≡ cause_reads q seen f (cause_of q seen f e x)
 hears_cause q seen (refusal.Absent name) e x events h = h
 hears_cause q seen (refusal.Unread name) e x events h = h
 hears_cause q seen (refusal.Config f) e x events h = h
+hears_cause q seen (refusal.NoCheck name) e x events h = h
 hears_cause q seen (refusal.Source f names) e x events h = h
 hears_cause q seen (refusal.Heavy name number) e x events h = h
 hears_cause q seen refusal.Memory e x events h = absurd (true_false e)
@@ -175,7 +177,7 @@ module _ (t : Task) (asked : List (List ℕ)) (before middle now : Outside)
   pub case_statuses : (case : Case) (status : Status) → ((names : Names) → before.held ≡ Some names
       → (other : Result Case Refusal)
       → Comes q (seen_of names before.misses middle.misses before.faults middle.faults) other → Alike (Ok case) other)
-      → now.misses ≡ middle.misses → HaveCauses t the_run status
+      → now.misses ≡ middle.misses → HaveCauses q the_run status
   case_statuses case status exact same = λ names told no_fault f x.
       right_case q names before.misses now.misses before.faults now.faults no_fault case f status
       (alike (Ok case) exact same names told no_fault f x)
@@ -185,7 +187,7 @@ module _ (t : Task) (asked : List (List ℕ)) (before middle now : Outside)
       → ((names : Names) → before.held ≡ Some names → (other : Result Case Refusal)
       → Comes q (seen_of names before.misses middle.misses before.faults middle.faults) other → Alike (Err g) other)
       → now.misses ≡ middle.misses → middle.faults ≤ now.faults → Comes q (seen_from before middle) (Err g)
-      → IfOk made (IsLineOf g) → Puts made status middle now → HaveCauses t the_run status
+      → IfOk made (IsLineOf g) → Puts made status middle now → HaveCauses q the_run status
   refusal_statuses g made status exact same more came p put = λ names told no_fault f x.
       right_refusal q names before.misses now.misses before.faults now.faults no_fault g f made status middle now more
       (subst (λ n. Comes q (seen_of names before.misses n before.faults middle.faults) (Err g)) (sym same)

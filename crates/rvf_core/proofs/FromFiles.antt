@@ -219,6 +219,7 @@ pub own_refusal : (f : Refusal) → is_memory f ≡ false → IsOwn (refused_sta
 own_refusal (refusal.Absent name) e = tt
 own_refusal (refusal.Unread name) e = tt
 own_refusal (refusal.Config f) e = tt
+own_refusal (refusal.NoCheck name) e = tt
 own_refusal (refusal.Source f names) e = tt
 own_refusal (refusal.Heavy name number) e = tt
 own_refusal refusal.Memory e = true_false e
@@ -229,7 +230,7 @@ pub listed_said : (cfg : List ℕ) (before now : FilesState) (c : Config) (repor
 listed_said cfg before now c report h p = (
   lists.listed (record {
     config = c;
-    configured = record { bytes = h.are.bytes; gives = h.are.gives; config_is = h.are.says };
+    configured = record { bytes = h.are.bytes; gives = h.are.gives; config_is = h.are.says; there = tt };
     status_is = p.0;
     report_is = p.1;
   }),
@@ -243,6 +244,7 @@ listed_cause cfg seen events (refusal.Absent name) x e =
 listed_cause cfg seen events (refusal.Unread name) x e = ((x.0, x.1), x.2 ∙ ap (λ n. Failed n ∷ []) (sym x.0))
 listed_cause cfg seen events (refusal.Config f) x e =
     (record { bytes = x.bytes; gives = x.gives; refused = x.says }, x.events_are)
+listed_cause cfg seen events (refusal.NoCheck name) x e = absurd x
 listed_cause cfg seen events (refusal.Source f names) x e = absurd x
 listed_cause cfg seen events (refusal.Heavy name number) x e = absurd x
 listed_cause cfg seen events refusal.Memory x e = absurd (true_false e)
@@ -268,6 +270,7 @@ config_on (Ok c) cfg seen events x = subst (AreReadOn (cfg ∷ [])) (sym x.event
 config_on (Err (refusal.Absent name)) cfg seen events x = subst (AreReadOn (cfg ∷ [])) (sym x.2) (refl, refl)
 config_on (Err (refusal.Unread name)) cfg seen events x = subst (AreReadOn (cfg ∷ [])) (sym x.2) (refl, refl)
 config_on (Err (refusal.Config f)) cfg seen events x = subst (AreReadOn (cfg ∷ [])) (sym x.events_are) (refl, tt)
+config_on (Err (refusal.NoCheck name)) cfg seen events x = absurd x
 config_on (Err (refusal.Source f names)) cfg seen events x = absurd x
 config_on (Err (refusal.Heavy name number)) cfg seen events x = absurd x
 config_on (Err refusal.Memory) cfg seen events x = x
@@ -277,6 +280,7 @@ cause_some : (cfg : List ℕ) (seen : Seen) (f : Refusal) → lists.IsCause cfg 
 cause_some cfg seen (refusal.Absent name) x = refl
 cause_some cfg seen (refusal.Unread name) x = refl
 cause_some cfg seen (refusal.Config f) x = refl
+cause_some cfg seen (refusal.NoCheck name) x = refl
 cause_some cfg seen (refusal.Source f names) x = refl
 cause_some cfg seen (refusal.Heavy name number) x = refl
 cause_some cfg seen refusal.Memory x = absurd x

@@ -9,6 +9,7 @@ use Rattle.rvf_words.specs.Line.{line_of}
 use Rattle.rvf_words.specs.declared.line.Line.{Line as Words}
 use Rattle.rvf_words.specs.declared.line.Line.TheVariants as words
 use Rattle.rvf_case.specs.Hearing.{AreReadOn, HeardMore}
+use Rattle.rvf_case.specs.Hearing as hearing
 use Rattle.rvf_report.specs.Outcome.{Outside}
 use Rattle.rvf_report.specs.declared.status.Status.{Status}
 use Rattle.rvf_report.specs.declared.status.Status.TheVariants as s
@@ -16,12 +17,13 @@ use Rattle.rvf_report.proofs.Deliveries.{Delivers-nothing, SameFiles-refl}
 use Rattle.rvf_core.specs.Certificate.{one_line}
 use Rattle.rvf_core.specs.Certifies.{Certifies, certifies_reads}
 use Rattle.rvf_core.specs.Checks.{refused_status}
-use Rattle.rvf_core.specs.Encodes.{Encodes, encodes_reads}
+use Rattle.rvf_core.specs.Encodes.{Encodes, encodes_reads, graph_line}
+use Rattle.rvf_core.specs.Exports.{Exports, check_request, exports_reads}
 use Rattle.rvf_core.specs.Lists.{Lists, lists_reads}
 use Rattle.rvf_core.specs.Puts.{Puts}
 use Rattle.rvf_core.specs.Run.{Answers, Ends, IsExact, IsReadOn, Run, none_failed, usage_line}
 use Rattle.rvf_core.specs.Run as run
-use Rattle.rvf_core.specs.Steps.{HaveStatus, Leaves, LeavesGraph}
+use Rattle.rvf_core.specs.Steps.{ExportsBy, HaveCauses, HaveStatus, Leaves, LeavesGraph}
 use Rattle.rvf_core.specs.Tasks.{task_asked, task_of}
 use Rattle.rvf_core.specs.declared.report.Report.{Report}
 use Rattle.rvf_core.proofs.Asking.{no_statuses}
@@ -30,7 +32,10 @@ use Rattle.rvf_core.proofs.Exact.{IsExact-answers}
 use Rattle.rvf_core.proofs.FromChecks.{seen_from}
 use Rattle.rvf_core.proofs.FromFiles.{if_ok, own_certified, own_listed}
 use Rattle.rvf_core.proofs.FromGraphs.{own_encoded}
+use Rattle.rvf_core.proofs.ExportLaws.{exports_later, exports_reads_later, own_exported}
+use Rattle.rvf_core.proofs.GraphMade.{file_left}
 use Rattle.rvf_core.proofs.Graphs.{graph_left, nothing_encoded}
+use Rattle.rvf_core.proofs.Halves.{nothing_written}
 use Rattle.rvf_core.proofs.Later.{IsEarlier, certifies_later, certifies_reads_later, lists_later, lists_reads_later}
 use Rattle.rvf_core.proofs.Later.{encodes_later, encodes_reads_later}
 use Rattle.rvf_core.proofs.Statuses.{comes_Memory}
@@ -132,6 +137,38 @@ module _ (asked : List (List ℕ)) (before middle now : Outside) (held : SameFil
       (λ (report : Report). Encodes graph cnf (seen_from before middle) report.status report.deliveries)
       (λ report x. x.0) made says) put
 
+  -- and the graph of a check
+  module _ (cfg name file core basedir : List ℕ) (made : Result Report Memory) (status : Status)
+      (says : IfOk made (ExportsBy cfg name file core basedir before.heard middle.heard (seen_from before middle)))
+      (put : Puts made status middle now) where
+    abbrev Is : Report → Type 0
+    Is report = ExportsBy cfg name file core basedir before.heard middle.heard (seen_from before middle) report
+
+    pub export_ends : HeardMore before.heard middle.heard (hearing.IsReadOn (check_request cfg name core basedir))
+        → Ends (Some (words.Toaig cfg name file core basedir)) the_run status
+    export_ends on =
+        ends_put (Some (words.Toaig cfg name file core basedir)) the_run middle earlier made status
+        (if_ok Is (Fits (Some (words.Toaig cfg name file core basedir)) the_run middle earlier) (λ report x. (
+          exports_later cfg name file core basedir (seen_from before middle) now.misses now.faults more_misses
+              more_faults report.status report.deliveries x.0,
+          heard_later (exports_reads cfg name file core basedir (seen_from before middle) report.status report.deliveries x.0)
+              _ x.1
+              (exports_reads_later cfg name file core basedir (seen_from before middle) now.misses now.faults
+              more_misses more_faults report.status report.deliveries x.0),
+          own_exported cfg name file core basedir (seen_from before middle) report.status report.deliveries x.0,
+        )) made says) (front (hearing.IsReadOn (check_request cfg name core basedir)) on) put
+
+    -- want of memory left the file or the line
+    pub export_leaves : HaveCauses (check_request cfg name core basedir) the_run status
+        → HaveStatus (Some (words.Toaig cfg name file core basedir)) the_run status
+    export_leaves causes =
+        no_statuses (Some (words.Toaig cfg name file core basedir)) the_run status refl (record {
+          causes = causes;
+          leaves = file_left cfg name file core basedir before middle now earlier (seen_from before middle) made status
+              (if_ok Is (λ (report : Report). Exports cfg name file core basedir (seen_from before middle) report.status
+              report.deliveries) (λ report x. x.0) made says) put;
+        })
+
 -- nothing happened yet
 pub at_once : (before : Outside) → IsEarlier before before
 at_once before = record {
@@ -173,6 +210,7 @@ none_on (Some (words.Lrat cnf proof)) = tt
 none_on (Some (words.Bench size)) = refl
 none_on (Some (words.Cover o)) = tt
 none_on (Some (words.Zb o)) = tt
+none_on (Some (words.Toaig cfg check file core basedir)) = tt
 none_on (Some (words.Fromaig aag cnf)) = tt
 
 -- memory was wanted at once
@@ -194,6 +232,10 @@ none_left (Some (words.Lrat cnf proof)) r same = tt
 none_left (Some (words.Bench size)) r same = tt
 none_left (Some (words.Cover o)) r same = tt
 none_left (Some (words.Zb o)) r same = tt
+none_left (Some (words.Toaig cfg check file core basedir)) r same = record {
+  causes = λ names told no_fault f cause. comes_Memory (refused_status f);
+  leaves = λ is t d. nothing_written r.before r.now file t.text (graph_line t.inputs t.gates) d same;
+}
 none_left (Some (words.Fromaig aag cnf)) r same = λ is said text d. nothing_encoded r.before r.now cnf said text same d
 
 pub memory_statuses : (line : Option Words) (r : Run) → r.now.written ≡ r.before.written
@@ -264,3 +306,17 @@ module _ (l : Words) (r : Run) (status : Status) where
   fromaig_statuses graph cnf b e q left =
       no_statuses (Some l) r status (ap task_of e)
       (subst (λ line. Leaves (Some line) r status) (ap (λ z. words.Fromaig graph z) q ∙ sym e) left)
+
+  module _ (cfg check file core basedir a b d e f : List ℕ) (is : l ≡ words.Toaig cfg check file core basedir)
+      (p : a ≡ cfg) (q : b ≡ check) (u : d ≡ file) (v : e ≡ core) (w : f ≡ basedir) where
+    seen_line : words.Toaig a b d e f ≡ l
+    seen_line =
+        ap (λ z. words.Toaig z b d e f) p ∙ ap (λ z. words.Toaig cfg z d e f) q
+        ∙ ap (λ z. words.Toaig cfg check z e f) u ∙ ap (λ z. words.Toaig cfg check file z f) v
+        ∙ ap (λ z. words.Toaig cfg check file core z) w ∙ sym is
+
+    pub toaig_ends : Ends (Some (words.Toaig a b d e f)) r status → Ends (Some l) r status
+    toaig_ends x = subst (λ line. Ends (Some line) r status) seen_line x
+
+    pub toaig_statuses : HaveStatus (Some (words.Toaig a b d e f)) r status → HaveStatus (Some l) r status
+    toaig_statuses x = subst (λ line. HaveStatus (Some line) r status) seen_line x

@@ -1,9 +1,7 @@
 -- The clauses of a graph pass exactly where their file and the line came through.
-use Rattle.std.proofs.Common.{◌≡◌, ℕ, List, [], ◌∷◌, ◌++◌, length, Some, Result, Ok, Err, IfOk, refl, sym, ap, ◌∙◌, subst}
+use Rattle.std.proofs.Common.{◌≡◌, ℕ, List, [], ◌∷◌, ◌++◌, Some, Result, Ok, Err, IfOk, refl, sym, ap, ◌∙◌, subst}
+use Rattle.std.proofs.Common.{length}
 use Rattle.std.specs.Prelude.{◌↔◌}
-use Rattle.std.proofs.lemmas.List.{append-nil, append_cancel_left}
-use Rattle.fv_base.specs.declared.event.Event.{Event}
-use Rattle.fv_base.specs.declared.event.Event.TheVariants.{Put, Wrote}
 use Rattle.fv_base.specs.declared.out.OutFault.{OutFault}
 use Rattle.fv_base.specs.declared.out.OutFault.TheVariants as out
 use Rattle.fv_text.specs.declared.memory.Memory.{Memory}
@@ -11,10 +9,9 @@ use Rattle.aiger_text.specs.Said.{Said}
 use Rattle.rvf_words.specs.Line.{line_of}
 use Rattle.rvf_words.specs.declared.line.Line.TheVariants as words
 use Rattle.rvf_case.specs.Cases.{Seen}
-use Rattle.rvf_report.specs.Outcome.{Outside, Delivers, LeavesOne, Pass, puts_of, writes_of}
+use Rattle.rvf_report.specs.Outcome.{Outside, Delivers, LeavesOne, puts_of, writes_of}
 use Rattle.rvf_report.specs.Status.{ends}
 use Rattle.rvf_report.specs.declared.delivery.Delivery.{Delivery}
-use Rattle.rvf_report.specs.declared.delivery.Delivery.TheVariants.{File, Line}
 use Rattle.rvf_report.specs.declared.status.Status.{Status}
 use Rattle.rvf_report.specs.declared.status.Status.TheVariants as s
 use Rattle.rvf_core.specs.Encodes.{Encodes, IsEncoding, graph_line, graph_report}
@@ -26,18 +23,10 @@ use Rattle.rvf_core.specs.declared.report.Report.{Report}
 use Rattle.rvf_core.proofs.Endings.{IsOwn}
 use Rattle.rvf_core.proofs.FromGraphs.{own_encoded}
 use Rattle.rvf_core.proofs.Later.{IsEarlier, later_delivers, part_pass}
-use Rattle.rvf_core.proofs.Quiet.{never_empty, none_done, same_tail}
+use Rattle.rvf_core.proofs.Halves.{front_of_two, nothing_written, some_put, some_written}
+use Rattle.rvf_core.proofs.Quiet.{never_empty, none_done}
 
 -- ---- reports
-
--- of a file and a line, without the last of them, no line was put
-front_of_two : (done : List Delivery) (next : Delivery) (rest : List Delivery) (name bytes line : List ℕ)
-    → done ++ next ∷ rest ≡ File name bytes ∷ (Line line ∷ []) → puts_of done ≡ []
-front_of_two [] next rest name bytes line e = refl
-front_of_two (d ∷ []) next rest name bytes line e = let is : d ≡ File name bytes = cc in ap (λ x. puts_of (x ∷ [])) is
-front_of_two (d ∷ (f ∷ done)) next rest name bytes line e =
-    absurd (never_empty done next rest (same_tail f (Line line) (done ++ next ∷ rest) []
-    (same_tail d (File name bytes) (f ∷ (done ++ next ∷ rest)) (Line line ∷ []) e)))
 
 front_puts : (bytes cnf : List ℕ) (status : Status) (report : List Delivery) → IsEncoding bytes cnf status report
     → (done : List Delivery) (next : Delivery) (rest : List Delivery) → done ++ next ∷ rest ≡ report
@@ -71,33 +60,10 @@ none_written graph cnf seen status report (encodes.read x) other =
 none_written graph cnf seen status report (encodes.absent x) other = ap writes_of x.report_is
 none_written graph cnf seen status report (encodes.unread x) other = ap writes_of x.report_is
 
--- ---- both came through
-
-some_event : (x : Event) → ◌≡◌ {A = List Event} [] (x ∷ []) → ⊥
-some_event x e = cc
-
-module _ (before now : Outside) (cnf : List ℕ) (said : Said) (text : List ℕ)
-    (d : Delivers before now (graph_report cnf said text)) where
-  -- so a line was put
-  some_put : (done : List Delivery) → Pass before now done → puts_of done ≡ [] → ⊥
-  some_put done p none =
-      some_event (Put (graph_line (length said.inputs) (length said.gates)))
-      (sym none ∙ append_cancel_left before.taken (puts_of done) (puts_of (graph_report cnf said text))
-      (sym p.taken ∙ d.pass.taken))
-
-  -- and a file was written
-  some_written : (done : List Delivery) → Pass before now done → writes_of done ≡ [] → ⊥
-  some_written done p none =
-      some_event (Wrote cnf text)
-      (sym none ∙ append_cancel_left before.written (writes_of done) (writes_of (graph_report cnf said text))
-      (sym p.written ∙ d.pass.written))
-
 pub nothing_encoded : (before now : Outside) (cnf : List ℕ) (said : Said) (text : List ℕ)
     → now.written ≡ before.written → Delivers before now (graph_report cnf said text) → ⊥
 nothing_encoded before now cnf said text same d =
-    some_event (Wrote cnf text)
-    (append_cancel_left before.written [] (Wrote cnf text ∷ [])
-    (append-nil before.written ∙ sym same ∙ d.pass.written))
+    nothing_written before now cnf text (graph_line (length said.inputs) (length said.gates)) d same
 
 -- ---- what want of memory left
 
@@ -110,7 +76,7 @@ module _ (before middle now : Outside) (earlier : IsEarlier before middle) (grap
       subst IsOwn is (own_encoded graph cnf seen report.status report.deliveries says)
   left_of (Err out.Failed) report says left is said text d = let no : s.WriteFault ≡ s.Memory = is in cc
   left_of (Err out.Memory) report says left is said text d =
-      some_put before now cnf said text d left.done
+      some_put before now cnf text (graph_line (length said.inputs) (length said.gates)) d left.done
       (later_delivers before middle now earlier left.done left.delivered).pass
       (none_put graph cnf seen report.status report.deliveries says left.done left.next left.rest left.order)
 
@@ -120,7 +86,8 @@ module _ (before middle now : Outside) (earlier : IsEarlier before middle) (grap
   graph_left (Ok report) status says put is said text d =
       left_of put.delivered report says put.left (sym put.status_is ∙ is) said text d
   graph_left (Err fault) status says put is said text d =
-      some_put before now cnf said text d [] (later_delivers before middle now earlier [] put.1).pass refl
+      some_put before now cnf text (graph_line (length said.inputs) (length said.gates)) d []
+      (later_delivers before middle now earlier [] put.1).pass refl
 
 -- ---- both ways
 
@@ -146,7 +113,7 @@ module _ (graph cnf : List ℕ) (r : Run) where
   other_status : (status : Status) → (status ≡ s.Passed → ⊥)
       → Reports (Some (words.Fromaig graph cnf)) r status → IsEncoded graph cnf r → ⊥
   other_status status other x h =
-      some_written r.before r.now cnf h.said h.text h.delivered x.report x.delivered.pass
+      some_written r.before r.now cnf h.text (graph_line (length h.said.inputs) (length h.said.gates)) h.delivered x.report x.delivered.pass
       (none_written graph cnf (seen_in r) status x.report x.says other)
 
   broken_puts : (report : List Delivery) → IsReport (Some (words.Fromaig graph cnf)) (seen_in r) report
@@ -168,7 +135,7 @@ module _ (graph cnf : List ℕ) (r : Run) where
   passes_encoded s.Absent x left h = absurd (other_status s.Absent (λ e. cc) x h)
   passes_encoded s.ReadFault x left h = absurd (other_status s.ReadFault (λ e. cc) x h)
   passes_encoded s.WriteFault x left h =
-      absurd (some_put r.before r.now cnf h.said h.text h.delivered x.fails.done
+      absurd (some_put r.before r.now cnf h.text (graph_line (length h.said.inputs) (length h.said.gates)) h.delivered x.fails.done
       (part_pass r.before r.now x.fails.done x.fails.failing x.fails.part)
       (broken_puts x.report x.is x.fails.done x.fails.failing x.fails.rest x.fails.order))
   passes_encoded s.Heavy x left h = absurd (other_status s.Heavy (λ e. cc) x h)

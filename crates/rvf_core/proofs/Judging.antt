@@ -50,7 +50,7 @@ loaded_among c files qs kind l (t ∷ ts) each e =
     (leader_among c kind (map (λ u. u.kind) ts)) t.loaded l (text_among c kind ts) each.0
     (loaded_among c files qs kind l ts each.1) e
 
-loaded_of : (case : Case) (files : List (List ℕ)) (q : Question) (l : Loaded)
+pub loaded_of : (case : Case) (files : List (List ℕ)) (q : Question) (l : Loaded)
     → AreLoaded case.config files case.questions case.texts → loaded_for case q ≡ Some l
     → IsLoadedFrom (text_for case.config files case.questions (question_kind q)) l
 loaded_of case files q l loaded there =

@@ -90,6 +90,7 @@ module _ (seen : Seen) (misses faults : ℕ) (more_misses : seen.misses_now ≤ 
       record { next = x.next; lacks = x.lacks; counted = missed_later x.counted }
   cause_later q (refusal.Unread name) x = record { next = x.next; counted = failed_later x.counted }
   cause_later q (refusal.Config f) x = x
+  cause_later q (refusal.NoCheck name) x = x
   cause_later q (refusal.Source (load.Text f) names) x = x
   cause_later q (refusal.Source (load.Elab f) names) x = x
   cause_later q (refusal.Source (load.Flow f) names) x = x
@@ -105,6 +106,7 @@ module _ (seen : Seen) (misses faults : ℕ) (more_misses : seen.misses_now ≤ 
   reads_later q (refusal.Absent name) x = refl
   reads_later q (refusal.Unread name) x = refl
   reads_later q (refusal.Config f) x = refl
+  reads_later q (refusal.NoCheck name) x = refl
   reads_later q (refusal.Source (load.Text f) names) x = refl
   reads_later q (refusal.Source (load.Elab f) names) x = refl
   reads_later q (refusal.Source (load.Flow f) names) x = refl
@@ -119,6 +121,7 @@ module _ (seen : Seen) (misses faults : ℕ) (more_misses : seen.misses_now ≤ 
   listed_cause_later cfg (refusal.Absent name) x = (x.0, x.1, missed_later x.2)
   listed_cause_later cfg (refusal.Unread name) x = (x.0, failed_later x.1)
   listed_cause_later cfg (refusal.Config f) x = x
+  listed_cause_later cfg (refusal.NoCheck name) x = absurd x
   listed_cause_later cfg (refusal.Source f names) x = absurd x
   listed_cause_later cfg (refusal.Heavy name number) x = absurd x
   listed_cause_later cfg refusal.Memory x = absurd x
@@ -129,6 +132,7 @@ module _ (seen : Seen) (misses faults : ℕ) (more_misses : seen.misses_now ≤ 
   listed_reads_later cfg (refusal.Absent name) x = refl
   listed_reads_later cfg (refusal.Unread name) x = refl
   listed_reads_later cfg (refusal.Config f) x = refl
+  listed_reads_later cfg (refusal.NoCheck name) x = absurd x
   listed_reads_later cfg (refusal.Source f names) x = absurd x
   listed_reads_later cfg (refusal.Heavy name number) x = absurd x
   listed_reads_later cfg refusal.Memory x = absurd x

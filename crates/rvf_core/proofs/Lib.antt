@@ -13,6 +13,9 @@ pub mod Exact
 pub mod FromFiles
 pub mod FromGraphs
 pub mod Graphs
+pub mod Halves
+pub mod ExportLaws
+pub mod GraphMade
 pub mod FromChecks
 pub mod FromWords
 pub mod FromBench

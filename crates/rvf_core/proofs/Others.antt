@@ -62,6 +62,7 @@ module _ (names : Names) (misses misses_now faults faults_now : ℕ) (no_fault :
   listed_refused cfg c x (refusal.Unread name) y = unrisen faults faults_now no_fault y.1
   listed_refused cfg c x (refusal.Config f) y =
       ok_err c f (same_says (names cfg) x.bytes y.bytes (Ok c) (Err f) x.gives y.gives x.config_is y.refused)
+  listed_refused cfg c x (refusal.NoCheck name) y = y
   listed_refused cfg c x (refusal.Source f ns) y = y
   listed_refused cfg c x (refusal.Heavy name number) y = y
   listed_refused cfg c x refusal.Memory y = y
@@ -74,6 +75,7 @@ module _ (names : Names) (misses misses_now faults faults_now : ℕ) (no_fault :
         absurd (unrisen faults faults_now no_fault y.1)
     same_refusals (refusal.Absent name) (refusal.Config other_f) x y =
         absurd (absent_says cfg name y.bytes x.0 x.1 y.gives)
+    same_refusals (refusal.Absent name) (refusal.NoCheck other_name) x y = absurd y
     same_refusals (refusal.Absent name) (refusal.Source other_f other_names) x y = absurd y
     same_refusals (refusal.Absent name) (refusal.Heavy other_name other_number) x y = absurd y
     same_refusals (refusal.Absent name) refusal.Memory x y = absurd y
@@ -82,6 +84,7 @@ module _ (names : Names) (misses misses_now faults faults_now : ℕ) (no_fault :
     same_refusals (refusal.Unread name) (refusal.Unread other_name) x y =
         absurd (unrisen faults faults_now no_fault x.1)
     same_refusals (refusal.Unread name) (refusal.Config other_f) x y = absurd (unrisen faults faults_now no_fault x.1)
+    same_refusals (refusal.Unread name) (refusal.NoCheck other_name) x y = absurd (unrisen faults faults_now no_fault x.1)
     same_refusals (refusal.Unread name) (refusal.Source other_f other_names) x y =
         absurd (unrisen faults faults_now no_fault x.1)
     same_refusals (refusal.Unread name) (refusal.Heavy other_name other_number) x y =
@@ -91,24 +94,35 @@ module _ (names : Names) (misses misses_now faults faults_now : ℕ) (no_fault :
         absurd (absent_says cfg other_name x.bytes y.0 y.1 x.gives)
     same_refusals (refusal.Config f) (refusal.Unread other_name) x y = absurd (unrisen faults faults_now no_fault y.1)
     same_refusals (refusal.Config f) (refusal.Config other_f) x y = refl
+    same_refusals (refusal.Config f) (refusal.NoCheck other_name) x y = absurd y
     same_refusals (refusal.Config f) (refusal.Source other_f other_names) x y = absurd y
     same_refusals (refusal.Config f) (refusal.Heavy other_name other_number) x y = absurd y
     same_refusals (refusal.Config f) refusal.Memory x y = absurd y
+    same_refusals (refusal.NoCheck name) (refusal.Absent other_name) x y = absurd x
+    same_refusals (refusal.NoCheck name) (refusal.Unread other_name) x y = absurd x
+    same_refusals (refusal.NoCheck name) (refusal.Config other_f) x y = absurd x
+    same_refusals (refusal.NoCheck name) (refusal.NoCheck other_name) x y = absurd x
+    same_refusals (refusal.NoCheck name) (refusal.Source other_f other_names) x y = absurd x
+    same_refusals (refusal.NoCheck name) (refusal.Heavy other_name other_number) x y = absurd x
+    same_refusals (refusal.NoCheck name) refusal.Memory x y = absurd x
     same_refusals (refusal.Source f names) (refusal.Absent other_name) x y = absurd x
     same_refusals (refusal.Source f names) (refusal.Unread other_name) x y = absurd x
     same_refusals (refusal.Source f names) (refusal.Config other_f) x y = absurd x
+    same_refusals (refusal.Source f names) (refusal.NoCheck other_name) x y = absurd x
     same_refusals (refusal.Source f names) (refusal.Source other_f other_names) x y = absurd x
     same_refusals (refusal.Source f names) (refusal.Heavy other_name other_number) x y = absurd x
     same_refusals (refusal.Source f names) refusal.Memory x y = absurd x
     same_refusals (refusal.Heavy name number) (refusal.Absent other_name) x y = absurd x
     same_refusals (refusal.Heavy name number) (refusal.Unread other_name) x y = absurd x
     same_refusals (refusal.Heavy name number) (refusal.Config other_f) x y = absurd x
+    same_refusals (refusal.Heavy name number) (refusal.NoCheck other_name) x y = absurd x
     same_refusals (refusal.Heavy name number) (refusal.Source other_f other_names) x y = absurd x
     same_refusals (refusal.Heavy name number) (refusal.Heavy other_name other_number) x y = absurd x
     same_refusals (refusal.Heavy name number) refusal.Memory x y = absurd x
     same_refusals refusal.Memory (refusal.Absent other_name) x y = absurd x
     same_refusals refusal.Memory (refusal.Unread other_name) x y = absurd x
     same_refusals refusal.Memory (refusal.Config other_f) x y = absurd x
+    same_refusals refusal.Memory (refusal.NoCheck other_name) x y = absurd x
     same_refusals refusal.Memory (refusal.Source other_f other_names) x y = absurd x
     same_refusals refusal.Memory (refusal.Heavy other_name other_number) x y = absurd x
     same_refusals refusal.Memory refusal.Memory x y = absurd x
@@ -188,6 +202,7 @@ module _ (names : Names) (misses misses_now faults faults_now : ℕ) (no_fault :
   same_told (words.Bench size) is status wanted report other x y = absurd is
   same_told (words.Cover o) is status wanted report other x y = absurd is
   same_told (words.Zb o) is status wanted report other x y = absurd is
+  same_told (words.Toaig cfg check file core basedir) is status wanted report other x y = absurd is
   same_told (words.Fromaig aag cnf) is status wanted report other x y =
       same_encodings aag cnf status wanted report other x y
 

@@ -182,6 +182,7 @@ module _ (name : List ℕ) (Meant : Type 0) where
   refused_other (refusal.Absent n) = refl
   refused_other (refusal.Unread n) = refl
   refused_other (refusal.Config f) = refl
+  refused_other (refusal.NoCheck n) = refl
   refused_other (refusal.Source f names) = source_other names f
   refused_other (refusal.Heavy n number) = refl
   refused_other refusal.Memory = refl

@@ -90,6 +90,7 @@ pub refusal_tells : (f : Refusal) (faults now : ℕ) (report : Report) → Unles
 refusal_tells (refusal.Absent name) faults now report p is = all_read p
 refusal_tells (refusal.Unread name) faults now report p is = told (unread_line name) is.0
 refusal_tells (refusal.Config f) faults now report p is = all_read p
+refusal_tells (refusal.NoCheck name) faults now report p is = all_read p
 refusal_tells (refusal.Source f names) faults now report p is = all_read p
 refusal_tells (refusal.Heavy name number) faults now report p is = all_read p
 refusal_tells refusal.Memory faults now report p is = absurd (true_false is.1)

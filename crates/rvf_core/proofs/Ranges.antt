@@ -11,7 +11,7 @@ use Rattle.rvf_words.specs.declared.line.Line.{Line}
 use Rattle.rvf_words.specs.declared.line.Line.TheVariants as line
 use Rattle.rvf_words.specs.declared.line.Options.{Options}
 use Rattle.rvf_words.specs.Line.{asked, bench_line, budget_of, count_of, cover_line, jobs_of, line_of, list_line}
-use Rattle.rvf_words.specs.Line.{fromaig_line, lrat_line, options_in, run_line, size_of, zb_line}
+use Rattle.rvf_words.specs.Line.{fromaig_line, lrat_line, options_in, run_line, size_of, toaig_line, zb_line}
 use Rattle.rvf_words.specs.Table.{program}
 use Rattle.rvf_core.specs.Run.{IsLine}
 
@@ -127,6 +127,13 @@ zb_in_range : (rows : List Row) → IfSome (zb_line rows) IsLine
 zb_in_range rows =
     if_mapped AreInRange IsLine (λ o. line.Zb o) (options_in rows) (options_in_range rows) (λ o is. is)
 
+toaig_in_range : (rows : List Row) → IfSome (toaig_line rows) IsLine
+toaig_in_range rows =
+    if_next IsLine _ (first_of (codes "cfg") rows) (λ cfg. if_next IsLine _ (first_of (codes "check") rows) (λ check.
+    if_next IsLine _ (first_of (codes "file") rows) (λ file. if_next IsLine _ (first_of (codes "core") rows) (λ core.
+    if_mapped (λ basedir. Unit {0}) IsLine (λ basedir. line.Toaig cfg check file core basedir)
+    (first_of (codes "basedir") rows) (if_any (first_of (codes "basedir") rows)) (λ basedir u. tt)))))
+
 fromaig_in_range : (rows : List Row) → IfSome (fromaig_line rows) IsLine
 fromaig_in_range rows =
     if_next IsLine _ (first_of (codes "aag") rows) (λ aag.
@@ -141,28 +148,36 @@ asked_in_range name rows =
     else if bytes_eq name (codes "bench") then bench_line rows
     else if bytes_eq name (codes "cover") then cover_line rows
     else if bytes_eq name (codes "zb") then zb_line rows
+    else if bytes_eq name (codes "toaig") then toaig_line rows
     else if bytes_eq name (codes "fromaig") then fromaig_line rows else None) (run_in_range rows)
     (if_chosen IsLine (bytes_eq name (codes "list")) (list_line rows)
     (if bytes_eq name (codes "lrat") then lrat_line rows
     else if bytes_eq name (codes "bench") then bench_line rows
     else if bytes_eq name (codes "cover") then cover_line rows
     else if bytes_eq name (codes "zb") then zb_line rows
+    else if bytes_eq name (codes "toaig") then toaig_line rows
     else if bytes_eq name (codes "fromaig") then fromaig_line rows else None) (list_in_range rows)
     (if_chosen IsLine (bytes_eq name (codes "lrat")) (lrat_line rows)
     (if bytes_eq name (codes "bench") then bench_line rows
     else if bytes_eq name (codes "cover") then cover_line rows
     else if bytes_eq name (codes "zb") then zb_line rows
+    else if bytes_eq name (codes "toaig") then toaig_line rows
     else if bytes_eq name (codes "fromaig") then fromaig_line rows else None) (lrat_in_range rows)
     (if_chosen IsLine (bytes_eq name (codes "bench")) (bench_line rows)
     (if bytes_eq name (codes "cover") then cover_line rows
     else if bytes_eq name (codes "zb") then zb_line rows
+    else if bytes_eq name (codes "toaig") then toaig_line rows
     else if bytes_eq name (codes "fromaig") then fromaig_line rows else None) (bench_in_range rows)
     (if_chosen IsLine (bytes_eq name (codes "cover")) (cover_line rows)
     (if bytes_eq name (codes "zb") then zb_line rows
+    else if bytes_eq name (codes "toaig") then toaig_line rows
     else if bytes_eq name (codes "fromaig") then fromaig_line rows else None) (cover_in_range rows)
     (if_chosen IsLine (bytes_eq name (codes "zb")) (zb_line rows)
-    (if bytes_eq name (codes "fromaig") then fromaig_line rows else None) (zb_in_range rows)
-    (if_kept IsLine (bytes_eq name (codes "fromaig")) (fromaig_line rows) (fromaig_in_range rows)))))))
+    (if bytes_eq name (codes "toaig") then toaig_line rows
+    else if bytes_eq name (codes "fromaig") then fromaig_line rows else None) (zb_in_range rows)
+    (if_chosen IsLine (bytes_eq name (codes "toaig")) (toaig_line rows)
+    (if bytes_eq name (codes "fromaig") then fromaig_line rows else None) (toaig_in_range rows)
+    (if_kept IsLine (bytes_eq name (codes "fromaig")) (fromaig_line rows) (fromaig_in_range rows))))))))
 
 line_in_range : (words : List (List ℕ)) → IfSome (line_of words) IsLine
 line_in_range words =

@@ -4,7 +4,7 @@ use Rattle.std.specs.Prelude.{ℕ, List, ◌++◌, Some, codes, decimal}
 use Rattle.fv_base.specs.Outside.{Names, with_file}
 use Rattle.fv_base.specs.Store.{no_files}
 use Rattle.rvf_case.specs.Cases.{Request, Seen}
-use Rattle.rvf_case.specs.declared.asking.Asking.TheVariants as asking
+use Rattle.rvf_case.specs.Askings as asking
 
 abbrev pub config_name : List ℕ
 config_name = codes "checks.cfg"

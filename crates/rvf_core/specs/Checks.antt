@@ -67,6 +67,7 @@ abbrev pub refused_status : Refusal → Status
 refused_status (refusal.Absent name) = s.Absent
 refused_status (refusal.Unread name) = s.ReadFault
 refused_status (refusal.Config f) = s.Config
+refused_status (refusal.NoCheck name) = s.Refused
 refused_status (refusal.Source f names) = s.Source
 refused_status (refusal.Heavy name number) = s.Heavy
 refused_status refusal.Memory = s.Memory

@@ -6,6 +6,7 @@ pub mod Tasks
 pub mod Certificate
 pub mod Certifies
 pub mod Encodes
+pub mod Exports
 pub mod Unread
 pub mod InsnLaw
 pub mod Pass

@@ -20,7 +20,7 @@ use Rattle.rvf_case.specs.Cases.{Seen, AreUnrefused, IsCause, questions_in}
 use Rattle.rvf_case.specs.Hearing.{AreReadOn, HeardMore}
 use Rattle.rvf_case.specs.Hearing as hearing
 use Rattle.rvf_case.specs.Texts.{leaders}
-use Rattle.rvf_case.specs.declared.asking.Asking.TheVariants as asking
+use Rattle.rvf_case.specs.Askings as asking
 use Rattle.rvf_case.specs.declared.refusal.Refusal.{Refusal}
 use Rattle.rvf_report.specs.Outcome.{Outside, Delivers, Fails, IsQuiet, Stops}
 use Rattle.rvf_report.specs.Status.{code_of}
@@ -32,6 +32,7 @@ use Rattle.rvf_core.specs.Bench as bench
 use Rattle.rvf_core.specs.Certifies.{Certifies, certifies_reads}
 use Rattle.rvf_core.specs.Checks.{Checks, HasRead, IsBegun, checks_reads, has_reads, refused_status}
 use Rattle.rvf_core.specs.Encodes.{Encodes, encodes_reads, graph_report}
+use Rattle.rvf_core.specs.Exports.{Exports, IsExported, check_request, exports_reads}
 use Rattle.rvf_core.specs.Lists.{Lists, lists_reads}
 use Rattle.rvf_core.specs.Tasks.{Task, bench_task, task_asked, task_of}
 use Rattle.rvf_core.specs.Verdicts.{QuestionFails, Violates}
@@ -70,7 +71,8 @@ abbrev pub usage_line : List ℕ
 usage_line =
     codes "usage: rvf run " ++ (options_text
     ++ (codes " | list CFG | lrat CNF PROOF | bench N | cover " ++ (options_text
-    ++ (codes " | zb " ++ (options_text ++ codes " | fromaig AAG CNF\n")))))
+    ++ (codes " | zb " ++ (options_text
+    ++ codes " | toaig CFG CHECK FILE [--core NAME] [--basedir DIR] | fromaig AAG CNF\n")))))
 
 -- other words
 pub record Misuses (status : Status) (report : List Delivery) : Type 0 where
@@ -96,6 +98,8 @@ abbrev pub SaysOther : Words → Seen → Status → List Delivery → Type 0
 SaysOther (words.List cfg) seen status report = Lists cfg seen status report
 SaysOther (words.Lrat cnf proof) seen status report = Certifies cnf proof seen status report
 SaysOther (words.Bench size) seen status report = Benches size status report
+SaysOther (words.Toaig cfg check file core basedir) seen status report =
+    Exports cfg check file core basedir seen status report
 SaysOther (words.Fromaig aag cnf) seen status report = Encodes aag cnf seen status report
 SaysOther asked seen status report = ⊥
 
@@ -141,6 +145,8 @@ abbrev pub other_reads : (asked : Words) (seen : Seen) (status : Status) (report
     → SaysOther asked seen status report → List Event
 other_reads (words.List cfg) seen status report says = lists_reads cfg seen status report says
 other_reads (words.Lrat cnf proof) seen status report says = certifies_reads cnf proof seen status report says
+other_reads (words.Toaig cfg check file core basedir) seen status report says =
+    exports_reads cfg check file core basedir seen status report says
 other_reads (words.Fromaig aag cnf) seen status report says = encodes_reads aag cnf seen status report says
 other_reads asked seen status report says = []
 
@@ -170,6 +176,8 @@ begins_reads (Some asked) seen report h = begun_by (task_of asked) asked seen re
 abbrev pub IsOtherReadOn : Words → List Event → Type 0
 IsOtherReadOn (words.List cfg) events = AreReadOn (cfg ∷ []) events
 IsOtherReadOn (words.Lrat cnf proof) events = AreReadOn (cnf ∷ (proof ∷ [])) events
+IsOtherReadOn (words.Toaig cfg check file core basedir) events =
+    hearing.IsReadOn (check_request cfg check core basedir) events
 IsOtherReadOn (words.Fromaig aag cnf) events = AreReadOn (aag ∷ []) events
 IsOtherReadOn asked events = events ≡ []
 
@@ -260,6 +268,7 @@ IsOther (words.Run cfg outdir core basedir budget jobs) = ⊥
 IsOther (words.Bench size) = ⊥
 IsOther (words.Cover o) = ⊥
 IsOther (words.Zb o) = ⊥
+IsOther (words.Toaig cfg check file core basedir) = ⊥
 IsOther asked = Unit {0}
 
 pub record AsksOther (r : Run) (asked : Words) : Type 0 where
@@ -268,6 +277,19 @@ pub record AsksOther (r : Run) (asked : Words) : Type 0 where
   pub names : Names
   pub told : r.before.held ≡ Some names
   pub no_fault : rose r.before.faults r.now.faults ≡ false
+
+-- the words ask for the graph of a check, the files are told, and no read or write failed
+pub record AsksGraph (r : Run) (cfg check file core basedir : List ℕ) : Type 0 where
+  pub asked : line_of r.words ≡ Some (words.Toaig cfg check file core basedir)
+  pub names : Names
+  pub told : r.before.held ≡ Some names
+  pub no_fault : rose r.before.faults r.now.faults ≡ false
+
+-- the file of the graph of a check was made to hold its text, and the line of the graph was put
+pub record IsMade (cfg check file core basedir : List ℕ) (r : Run) : Type 0 where
+  pub report : List Delivery
+  pub exported : IsExported cfg check file core basedir r.before.held s.Passed report
+  pub delivered : Delivers r.before r.now report
 
 -- the file of the clauses of a graph was made to hold them, and the line of the graph was put
 pub record IsEncoded (graph cnf : List ℕ) (r : Run) : Type 0 where
@@ -333,3 +355,15 @@ pub record IsExact (status : Status) (r : Run) : Type 0 where
   -- a status that has its cause under the other words
   pub other : (asked : Words) (wanted : Status) (report : List Delivery) → AsksOther r asked
       → Says (Some asked) (seen_in r) wanted report → comes wanted status ≡ true
+  -- the graph of a check passes exactly where its file and the line came through
+  pub exported : (cfg check file core basedir : List ℕ)
+      → line_of r.words ≡ Some (words.Toaig cfg check file core basedir)
+      → (status ≡ s.Passed) ↔ IsMade cfg check file core basedir r
+  -- each cause why there is none has its status, that the check isn't there among them
+  pub no_graph : (cfg check file core basedir : List ℕ) (f : Refusal) → AsksGraph r cfg check file core basedir
+      → IsCause (check_request cfg check core basedir) (seen_in r) f → comes (refused_status f) status ≡ true
+  -- and where no cause is there, there is one
+  pub graph : (cfg check file core basedir : List ℕ) (c : Config) (files : List (List ℕ))
+      → AsksGraph r cfg check file core basedir
+      → HasRead (check_request cfg check core basedir) r.before.held c files
+      → AreAccepted c files (questions_in (check_request cfg check core basedir) c) → comes s.Passed status ≡ true

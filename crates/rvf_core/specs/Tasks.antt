@@ -5,8 +5,8 @@ use Rattle.rvf_words.specs.declared.line.Line.{Line as Words}
 use Rattle.rvf_words.specs.declared.line.Line.TheVariants as words
 use Rattle.rvf_words.specs.declared.line.Options.{Options}
 use Rattle.rvf_case.specs.Cases.{Request}
-use Rattle.rvf_case.specs.declared.asking.Asking.{Asking}
-use Rattle.rvf_case.specs.declared.asking.Asking.TheVariants as asking
+use Rattle.rvf_case.specs.Askings.{Asking}
+use Rattle.rvf_case.specs.Askings as asking
 use Rattle.rvf_checks.specs.declared.wording.Wording.{Wording}
 use Rattle.rvf_checks.specs.declared.wording.Wording.TheVariants as wording
 use Rattle.rvf_core.specs.Bench as bench

@@ -21,6 +21,8 @@ use Rattle.ck_design.specs.Retirements.{IsViolating}
 use Rattle.vl_text.specs.SourceText.{Reading}
 use Rattle.bm_decide.specs.Searches.{TakesFewer}
 use Rattle.rvf_case.specs.Loads.{Asked, Reads, design_of, opts_of, wants_of, top}
+use Rattle.rvf_export.specs.GraphTexts.{TellsRuns}
+use Rattle.rvf_export.specs.declared.text.GraphText.{GraphText}
 use Rattle.rvf_judge.specs.Judged.{IsJudged}
 use Rattle.rvf_judge.specs.declared.judged.Judged.{Judged}
 use Rattle.rvf_case.specs.Texts.{asked_for, leader_of}
@@ -92,6 +94,16 @@ pub record Judges (c : Config) (files : List (List ℕ)) (qs : List Question) (b
   pub judged : IsJudged TakesFewer (design_of reading.tree.modules) c.nret
       (wants_in (text_for c files qs (question_kind q)) reading) q
       (opts_in (text_for c files qs (question_kind q)) reading) budget j
+
+-- The text of a question's graph is said of the design of its text, where these questions are asked.
+pub record Tells (c : Config) (files : List (List ℕ)) (qs : List Question) (q : Question) (t : GraphText) : Type 0 where
+  pub reading : Reading
+  pub is : IsReading (text_for c files qs (question_kind q)) reading
+  -- and the text has no other reading
+  pub one : (other : Reading) → Reads (text_for c files qs (question_kind q)) other → other ≡ reading
+  pub tells : TellsRuns (design_of reading.tree.modules) c.nret
+      (wants_in (text_for c files qs (question_kind q)) reading) q
+      (opts_in (text_for c files qs (question_kind q)) reading) t
 
 -- of the first of some questions, as many as there are answers
 abbrev pub AreJudged : Config → List (List ℕ) → List Question → ℕ → List Question → List Judged → Type 0

@@ -39,7 +39,7 @@ pub(crate) fn check<R: Threads + Sync, F: Files, O: Out, G: Gate>(
           before = outside (F.state files.old) (O.state out.old);
           now = outside (F.state files.new) (O.state out.new);
         }) result }
-    ensures causes { (asked : List (List ℕ)) → HaveCauses (task_seen work.now) (record {
+    ensures causes { (asked : List (List ℕ)) → HaveCauses (task_seen work.now).request (record {
       words = asked;
       before = outside (F.state files.old) (O.state out.old);
       now = outside (F.state files.new) (O.state out.new);

@@ -15,7 +15,7 @@ use aiger_text::AagFault;
 use fv_base::Files;
 use fv_text::{List, Memory, Text};
 use itoa::Buffer;
-use rvf_graph::{GraphClauses, clauses_of_text};
+use rvf_graph::clauses_of_text;
 use rvf_report::{Delivery, Status, put_end, put_word};
 use std::alloc::Global;
 
@@ -69,15 +69,20 @@ fn graph_line(alloc: Global, inputs: u64, gates: u64) -> Result<Text, Memory>
     Ok(Text::from_vec(line))
 }
 
-/// The clauses as the file of this name, and behind it the line of the graph.
-fn with_file(alloc: Global, cnf: &[u8], made: GraphClauses) -> Result<Report, Memory>
+/// A text as the file of this name, and behind it the line of the graph that it is made of or says.
+pub(crate) fn with_file(
+    alloc: Global,
+    file: &[u8],
+    bytes: Text,
+    inputs: u64,
+    gates: u64,
+) -> Result<Report, Memory>
     ensures status { IfOk result (λ report. report.status ≡ Passed) }
     ensures deliveries { IfOk result (λ report. report.deliveries
-        ≡ File cnf.now made.clauses ∷ (Line (encodes.graph_line made.inputs made.gates) ∷ [])) }
+        ≡ File file.now bytes ∷ (Line (encodes.graph_line inputs gates) ∷ [])) }
 {
-    let line = graph_line(alloc, made.inputs, made.gates)?;
-    let name = Text::from_bytes(alloc, cnf)?;
-    let bytes = made.clauses;
+    let line = graph_line(alloc, inputs, gates)?;
+    let name = Text::from_bytes(alloc, file)?;
     let mut deliveries = List::new(alloc);
     deliveries.push(Delivery::File { name, bytes })?;
     deliveries.push(Delivery::Line(line))?;
@@ -92,7 +97,7 @@ fn encoded(alloc: Global, bytes: &[u8], cnf: &[u8]) -> Result<Report, Memory>
     ensures { IfOk result (IsEncodingOf bytes.now cnf.now) }
 {
     match clauses_of_text(alloc, bytes) {
-        Ok(made) => with_file(alloc, cnf, made),
+        Ok(made) => with_file(alloc, cnf, made.clauses, made.inputs, made.gates),
         Err(fault) => {
             if wants_memory(fault) {
                 return Err(Memory);

@@ -7,6 +7,7 @@ mod certificate;
 mod certifying;
 mod checking;
 mod encoding;
+mod exporting;
 pub mod insn_law;
 mod listing;
 pub mod pass_law;

@@ -20,6 +20,7 @@ fn refused_status(refusal: &Refusal) -> Status
         Refusal::Absent(_) => Status::Absent,
         Refusal::Unread(_) => Status::ReadFault,
         Refusal::Config(_) => Status::Config,
+        Refusal::NoCheck(_) => Status::Refused,
         Refusal::Source(_, _) => Status::Source,
         Refusal::Heavy(_, _) => Status::Heavy,
         Refusal::Memory => Status::Memory,

@@ -12,6 +12,7 @@ use crate::benching::bench;
 use crate::certifying::refute;
 use crate::checking::check;
 use crate::encoding::encode;
+use crate::exporting::{ExportRequest, export};
 use crate::listing::list;
 use crate::report::Report;
 use crate::reporting::put_report;
@@ -32,7 +33,7 @@ const USAGE: &[u8] =
 | list CFG | lrat CNF PROOF | bench N \
 | cover CFG OUTDIR [--core NAME] [--basedir DIR] [--budget N] [--jobs N] \
 | zb CFG OUTDIR [--core NAME] [--basedir DIR] [--budget N] [--jobs N] \
-| fromaig AAG CNF\n";
+| toaig CFG CHECK FILE [--core NAME] [--basedir DIR] | fromaig AAG CNF\n";
 
 /// Does what the words ask for, delivers what it found, and answers how it ended.
 ///
@@ -42,8 +43,9 @@ const USAGE: &[u8] =
 /// of the checks. `lrat CNF PROOF` checks that the steps of a proof refute the clauses of a file. `bench N` judges the
 /// checks of a design with N registers that it makes, and puts how many came to what. `cover CFG OUTDIR` says of each
 /// target of the configuration's checks whether a run reaches it, behind the trace of one, or behind clauses and steps.
-/// `zb CFG OUTDIR` judges the checks of the instructions of Zba and Zbs as `run` does its own. `fromaig AAG CNF` writes
-/// the clauses of a graph. A refusal has one line that names its cause.
+/// `zb CFG OUTDIR` judges the checks of the instructions of Zba and Zbs as `run` does its own. `toaig CFG CHECK FILE`
+/// writes the graph of a check, whose output is 1 exactly in the runs that violate it, and `fromaig AAG CNF` the clauses
+/// of a graph. A refusal has one line that names its cause.
 pub fn run<R: Threads + Sync, F: Files, O: Out>(
     rt: &R,
     alloc: Global,
@@ -184,6 +186,22 @@ fn done<R: Threads + Sync, F: Files, O: Out, G: Gate>(
         Line::Zb(options) => {
             let work = Work::of(options, Asking::Zb, Wording::Zb);
             check(rt, alloc, &work, gate, files, out)
+        }
+        Line::Toaig {
+            cfg,
+            check,
+            file,
+            core,
+            basedir,
+        } => {
+            let order = ExportRequest {
+                cfg: cfg.bytes(),
+                check: check.bytes(),
+                file: file.bytes(),
+                core: core.bytes(),
+                basedir: basedir.bytes(),
+            };
+            export(alloc, &order, files, out)
         }
         Line::Fromaig { aag, cnf } => {
             let report = encode(alloc, aag.bytes(), cnf.bytes(), files);

@@ -1,4 +1,5 @@
 ghost use Rattle.std.specs.Prelude.{◌≡◌};
+ghost use Rattle.rvf_case.specs.Askings.{asking_seen};
 ghost use Rattle.rvf_core.specs.Tasks as tasks;
 ghost use Rattle.rvf_core.specs.Works.{task_seen};
 
@@ -16,7 +17,7 @@ pub(crate) struct Work<'a> {
     /// The folder that `@basedir@` stands for in the configuration.
     pub(crate) basedir: &'a [u8],
     /// Which questions are asked.
-    pub(crate) asking: Asking,
+    pub(crate) asking: Asking<'a>,
     /// In which words they are reported.
     pub(crate) wording: Wording,
     /// The folder of the files, without a slash behind it.
@@ -29,8 +30,8 @@ pub(crate) struct Work<'a> {
 
 impl<'a> Work<'a> {
     /// What words ask for with these operands and options.
-    pub(crate) fn of(options: &'a Options, asking: Asking, wording: Wording) -> Work<'a>
-        ensures task { task_seen result ≡ tasks.task_with asking wording options.now }
+    pub(crate) fn of(options: &'a Options, asking: Asking<'a>, wording: Wording) -> Work<'a>
+        ensures task { task_seen result ≡ tasks.task_with (asking_seen asking.entry) wording options.now }
         ensures budget { result.budget ≡ options.now.budget }
         ensures jobs { result.jobs ≡ options.now.jobs }
     {

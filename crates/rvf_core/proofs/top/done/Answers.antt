@@ -5,6 +5,7 @@ use Rattle.rvf_core.specs.Run.{Run}
 use Rattle.rvf_core.proofs.Asking.{cover_asks, run_asks, run_between, task_statuses, zb_asks}
 use Rattle.rvf_core.proofs.FromChecks.{le_itself}
 use Rattle.rvf_core.proofs.FromWords.{bench_ends, bench_statuses, certificate_ends, list_ends, list_statuses, lrat_ends}
+use Rattle.rvf_core.proofs.FromWords.{toaig_ends, toaig_statuses}
 use Rattle.rvf_core.proofs.FromWords.{fromaig_ends, fromaig_statuses, graph_ends, graph_leaves, lrat_statuses, names_end}
 use Rattle.rvf_report.specs.Outcome.{outside}
 use Rattle.rvf_core.proofs.Quiet.{put_counts}
@@ -192,3 +193,17 @@ returns-in-Fromaig-clause-counts g c =
     })
     refl c.encode-report.result c.put_report-in-Fromaig.result c.encode-report.ensures.told
     c.put_report-in-Fromaig.ensures.puts c.put_report-in-Fromaig.ensures.quiet
+
+pub returns-in-Toaig-clause-ends : goal.returns-in-Toaig-clause-ends
+returns-in-Toaig-clause-ends g c = λ asked.
+    toaig_ends c.args.line.now _ c.export.result _ _ _ _ _ c.bytes-in-Toaig.result.now c.bytes-in-Toaig-2.result.now
+    c.bytes-in-Toaig-3.result.now c.bytes-in-Toaig-4.result.now c.bytes-in-Toaig-5.result.now c.in-Toaig.is
+    c.bytes-in-Toaig.ensures c.bytes-in-Toaig-2.ensures c.bytes-in-Toaig-3.ensures c.bytes-in-Toaig-4.ensures
+    c.bytes-in-Toaig-5.ensures (c.export.ensures.ends asked)
+
+pub returns-in-Toaig-clause-statuses : goal.returns-in-Toaig-clause-statuses
+returns-in-Toaig-clause-statuses g c = λ asked.
+    toaig_statuses c.args.line.now _ c.export.result _ _ _ _ _ c.bytes-in-Toaig.result.now c.bytes-in-Toaig-2.result.now
+    c.bytes-in-Toaig-3.result.now c.bytes-in-Toaig-4.result.now c.bytes-in-Toaig-5.result.now c.in-Toaig.is
+    c.bytes-in-Toaig.ensures c.bytes-in-Toaig-2.ensures c.bytes-in-Toaig-3.ensures c.bytes-in-Toaig-4.ensures
+    c.bytes-in-Toaig-5.ensures (c.export.ensures.statuses asked)
