@@ -78,6 +78,8 @@ CASES = {
     "refused": (["ill 1"], HEAD + "assign = 1;\n", "run checks.cfg out"),
     "list": (["insn 1"], "", "list checks.cfg"),
     "lrat": (None, "5 1 0 1 2 0\n6 0 5 3 4 0\n", "lrat c.cnf w.v"),
+    "toaig": (["ill 1"], wrapper(CORE, **CORE_FIELDS), "toaig checks.cfg ill_ch0 out/ill_ch0.aag"),
+    "fromaig": (None, "aag 3 2 0 1 1\n2\n4\n6\n6 2 5\n", "fromaig w.v out/g.cnf"),
 }
 
 Result = collections.namedtuple("Result", "code out files counts")
@@ -95,7 +97,7 @@ class Case:
             lines = ["[options]", "isa rv32i", "[depth]", *depths, "[verilog-files]", "w.v"]
             self.write("checks.cfg", "".join(line + "\n" for line in lines))
         self.full = self.ran()
-        self.reported = re.findall(r"^(pass|fail|spent) (\w+)", self.full.out, re.M)
+        self.reported = re.findall(r"^(pass|fail|spent|aiger) (\w+)", self.full.out, re.M)
 
     def write(self, name, text):
         with open(os.path.join(self.folder, name), "w") as file:
@@ -121,13 +123,15 @@ class Case:
 
     def files_of(self, line):
         kind, name = line
+        if kind == "aiger":
+            return [os.path.basename(self.words[-1])]
         return [f"{name}.{end}" for end in (["vcd"] if kind == "fail" else ["cnf", "lrat"])]
 
     def is_front(self, got, whole_lines):
         """Whether checks whose lines were put have their files, and of what comes next there is at most a front."""
         if not self.full.out.startswith(got.out) or whole_lines and got.out and not got.out.endswith("\n"):
             return False
-        put = len(re.findall(r"^(?:pass|fail|spent) \w+.*\n", got.out, re.M))
+        put = len(re.findall(r"^(?:pass|fail|spent|aiger) \w+.*\n", got.out, re.M))
         due = [name for line in self.reported[:put] for name in self.files_of(line)]
         begun = self.files_of(self.reported[put]) if put < len(self.reported) else []
         if any(got.files.get(name) != self.full.files[name] for name in due) or set(got.files) - set(due + begun):

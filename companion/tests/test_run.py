@@ -201,7 +201,7 @@ class Runs(Folder):
         self.assertIn("insn_lui_ch0, reg_ch0", self.page())
         self.assertNotIn("without its last line", self.page())
         for line in ("bench 8 pass 43 fail 0 spent 0", "refuted 6", "refused step 5 5 0", "aiger 2 1",
-                     "refused aiger 7 5"):
+                     "refused aiger 7 5", "refused check nope"):
             code, _ = self.report_it(line + "\n")
             self.assertEqual(code, 0)
             self.assertIn(line, self.json()["end"])
