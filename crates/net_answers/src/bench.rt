@@ -1,7 +1,7 @@
 //! The net of a line, the numbers in its registers and memories, and what a line says.
 
 use crate::part::{node_at, numbers_from, word};
-use crate::{make, runs, show, store};
+use crate::{make, rebuild, runs, show, store};
 use fv_text::{List, Memory};
 use std::alloc::Global;
 use wn_net::{Net, NodeId, State};
@@ -47,6 +47,10 @@ impl Bench {
             "regs" => self.set_regs(part),
             "words" => self.add_words(part),
             "copy" => self.copied(),
+            "share" => self.shared(out),
+            "cone" => self.coned(out, part),
+            "node" => self.told(out, node_at(part, 1)),
+            "parts" => self.told_parts(out),
             "undo" => self.undone(out, node_at(part, 1)),
             "eval" => self.evaluated(out, part),
             "step" => self.stepped(out, part),
@@ -78,6 +82,45 @@ impl Bench {
     /// The rest of the line is about a copy.
     fn copied(&mut self) -> Result<bool, Memory> {
         self.net = self.net.copy()?;
+        Ok(true)
+    }
+
+    /// The rest of the line is about the net with equal nodes once.
+    fn shared(&mut self, out: &mut String) -> Result<bool, Memory> {
+        let Some((net, table)) = rebuild::shared(self.alloc, &self.net)? else {
+            return Ok(false);
+        };
+        for (index, id) in table.as_slice().iter().enumerate() {
+            let blank = if index > 0 { " " } else { "" };
+            write!(out, "{blank}{id}")?;
+        }
+        self.net = net;
+        Ok(true)
+    }
+
+    /// The rest of the line is about the part on which some nodes rest.
+    fn coned(&mut self, out: &mut String, part: &str) -> Result<bool, Memory> {
+        match rebuild::part_of(self.alloc, &self.net, out, part)? {
+            Some(net) => {
+                self.net = net;
+                Ok(true)
+            }
+            None => Ok(false),
+        }
+    }
+
+    fn told(&self, out: &mut String, node: NodeId) -> Result<bool, Memory> {
+        match self.net.nodes().get(node as usize) {
+            Some(node) => {
+                rebuild::put_node(out, *node)?;
+                Ok(true)
+            }
+            None => Ok(false),
+        }
+    }
+
+    fn told_parts(&self, out: &mut String) -> Result<bool, Memory> {
+        rebuild::put_parts(out, &self.net)?;
         Ok(true)
     }
 

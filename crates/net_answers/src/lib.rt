@@ -13,11 +13,15 @@
 //! | `mem WIDTH INIT ..`, `write MEMORY ENABLE ADDR MASK VALUE` | a memory of as many words, and a write to it |
 //! | `assume A` | an assumption |
 //! | `copy` | a copy of the net, which the rest of the line is about |
+//! | `share` | its nodes once more, equal ones once, which the rest is about; answers the new number of each |
+//! | `cone A ..` | the part on which these nodes rest, which the rest is about; answers the new number of each, or `-` |
 //! | `regs NUMBER ..`, `words NUMBER ..` | the numbers of the registers, and of the words of one memory more |
 //!
 //! | part | what it asks |
 //! |---|---|
 //! | `undo A` | how many nodes there are with one more behind it, and how many when that is taken back |
+//! | `node A` | the part that would make the node, an input or a register by its number |
+//! | `parts` | the next nodes of the registers, how many writes each memory has, and the assumptions |
 //! | `eval A NUMBER ..` | width and number of a node where the inputs have these numbers |
 //! | `step A NUMBER ..` | the same, and the registers and memories behind the cycle |
 //! | `sources CYCLE BAD A` | what may be chosen in runs up to a cycle |
@@ -34,6 +38,7 @@
 mod bench;
 mod make;
 mod part;
+mod rebuild;
 mod runs;
 mod show;
 mod store;

@@ -41,6 +41,11 @@ pub(crate) fn node_at(part: &str, place: usize) -> u64 {
     u64::from(short_at(part, place))
 }
 
+/// The node that a word names.
+pub(crate) fn node_of(word: &str) -> u64 {
+    node_at(word, 0)
+}
+
 /// The numbers from a place on.
 pub(crate) fn numbers_from(alloc: Global, part: &str, place: usize) -> Result<Vec<u128>, Memory> {
     let mut numbers = Vec::new(alloc);

@@ -1,0 +1,9 @@
+pub mod Cone
+pub mod Folding
+pub mod Hashing
+pub mod Laws
+pub mod Marks
+pub mod Needed
+pub mod Parts
+pub mod Sound
+pub mod Table

@@ -1,0 +1,26 @@
+//! Nets in which equal nodes are one, and the part of a net on which some nodes rest.
+//!
+//! - Builders that answer one number for equal nodes, fold constants, and fold operators of equal operands.
+//! - The part of a net on which some nodes rest.
+#![tactic(auto)]
+
+mod build;
+mod copy;
+mod fold;
+mod frame;
+mod hashed;
+mod join;
+mod kept;
+mod known;
+mod law;
+mod marks;
+mod once;
+mod operands;
+mod operators;
+mod parts;
+mod table;
+mod top;
+
+pub use hashed::Hashed;
+pub use law::equal_calls_answer_one_number;
+pub use top::cone;
