@@ -1,0 +1,6 @@
+use Rattle.std.specs.Prelude.{◌≡◌}
+use Rattle.bm_induct.specs.Stages as stages
+use Rattle.bm_induct.proofs.begin.put_regs.Given as goal
+
+abbrev pub invariant-loop-own : goal.invariant-loop-own
+invariant-loop-own l = l.made ≡ stages.with_regs l.how l.net l.own-index

@@ -1,0 +1,9 @@
+pub mod Halves
+pub mod MovedNames
+pub mod Past
+pub mod Steps
+pub mod Laws
+pub mod Lengths
+pub mod StepRuns
+pub mod Rebuilt
+pub mod Stages
