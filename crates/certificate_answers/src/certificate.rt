@@ -22,7 +22,8 @@ fn put_answer(alloc: Global, out: &mut String, cnf: &[u8], proof: &[u8]) -> Resu
     }
 }
 
-fn put_proof(
+/// What the checker says of a proof: `refuted` and the id of the empty clause, or what is refused.
+pub(crate) fn put_proof(
     alloc: Global,
     out: &mut String,
     formula: &Formula,

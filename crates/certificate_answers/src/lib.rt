@@ -29,6 +29,7 @@ fn put(alloc: Global, out: &mut String, word: &str, text: &[u8]) -> Result<bool,
         "store" => certificate::put_stored(alloc, out)?,
         "many-stored" => stored::put_many(alloc, out)?,
         "search" => search::put_found(alloc, out, text)?,
+        "guess" => search::put_guessed(alloc, out, text)?,
         "random" => search::put_random(alloc, out, text)?,
         _ => return Ok(false),
     }

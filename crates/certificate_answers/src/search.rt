@@ -1,10 +1,12 @@
 //! Searches over clause files.
 
+use crate::certificate::put_proof;
 use crate::escape;
 use cnf_form::{Formula, clause_at};
 use cnf_text::read_dimacs;
 use fv_text::{List, Memory};
-use lrat_check::{Step, verify};
+use lrat_check::{Step, lrat, verify};
+use sat_quick::{Guess, guess_answer};
 use sat_search::{Found, solve};
 use std::alloc::Global;
 
@@ -12,6 +14,31 @@ use std::alloc::Global;
 pub(crate) fn put_found(alloc: Global, out: &mut String, text: &[u8]) -> Result<(), Memory> {
     let (budget, cnf) = escape::parted(text);
     put_answer(alloc, out, number(budget), cnf)
+}
+
+/// What is guessed over `BUDGET|CLAUSES`: `model`, or what the checker says of the steps as a text; else `none`.
+pub(crate) fn put_guessed(alloc: Global, out: &mut String, text: &[u8]) -> Result<(), Memory> {
+    let (budget, cnf) = escape::parted(text);
+    match read_dimacs(alloc, cnf) {
+        Ok(formula) => put_guess(alloc, out, number(budget), &formula),
+        Err(_) => put(out, "no clauses"),
+    }
+}
+
+fn put_guess(
+    alloc: Global,
+    out: &mut String,
+    budget: u64,
+    formula: &Formula,
+) -> Result<(), Memory> {
+    match guess_answer(alloc, formula, budget) {
+        None => put(out, "none"),
+        Some(Guess::Model(values)) => put_checked(out, all_true(&values, formula), "model"),
+        Some(Guess::Steps(steps)) => {
+            let proof = lrat(alloc, steps.as_slice())?;
+            put_proof(alloc, out, formula, &proof)
+        }
+    }
 }
 
 /// The number of digits.

@@ -7,6 +7,8 @@ pub mod Starting
 pub mod Walks
 pub mod Added
 pub mod Comes
+pub mod Ended
+pub mod Judged
 pub mod Counts
 pub mod Literals
 pub mod Models

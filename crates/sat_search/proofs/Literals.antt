@@ -21,7 +21,7 @@ pub literals_from : (vars : ℕ) (c : List ℤ) → ((x : ℤ) → has c x ≡ t
 literals_from vars [] h = tt
 literals_from vars (l ∷ ls) h = (h l (has_head l ls), literals_from vars ls (λ x k. h x (has_tail x l ls k)))
 
-abs_neg : (x : ℤ) → unsigned_abs (neg_ℤ x) ≡ unsigned_abs x
+pub abs_neg : (x : ℤ) → unsigned_abs (neg_ℤ x) ≡ unsigned_abs x
 abs_neg (pos zero) = refl
 abs_neg (pos (suc n)) = refl
 abs_neg (negsuc n) = refl

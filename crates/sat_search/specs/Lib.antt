@@ -4,3 +4,5 @@ pub mod Order
 pub mod Found
 pub mod Searching
 pub mod Turns
+pub mod Ended
+pub mod Judging

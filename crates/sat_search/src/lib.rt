@@ -3,6 +3,7 @@
 //! - The clauses that a search holds, with the steps that add and delete them, and which of those that it learns are
 //!   new.
 //! - Which variable a search decides next, and how.
+//! - What another search guessed, where it holds.
 //! - A search that learns clauses: values that make a formula true, or steps that refute it, or, where the budget is
 //!   used up, steps that derive as many clauses as the budget.
 #![tactic(auto)]
@@ -10,6 +11,7 @@
 mod found;
 mod heap;
 mod ids;
+mod judging;
 mod ledger;
 mod order;
 mod search;

@@ -4,9 +4,11 @@ ghost use Rattle.lrat_check.specs.Steps.{Refutes, Valid, AreSteps};
 ghost use Rattle.lrat_check.specs.Resolved.{Resolved, derived};
 ghost use Rattle.lrat_check.specs.Texts.{AreShort};
 ghost use Rattle.sat_search.specs.Added.{AreAdded};
+ghost use Rattle.sat_search.specs.Ended.{Ends};
 ghost use Rattle.sat_search.specs.Found.{EndsEmpty, IfModel, IfRefuted, IfSpent, IfSteps, nonempty};
 
 use crate::found::Found;
+use crate::judging::guessed;
 use crate::search::Search;
 use crate::turn::Turn;
 use cnf_form::Formula;
@@ -36,6 +38,26 @@ pub fn solve(alloc: Global, formula: &Formula, budget: u64) -> Result<Found, Mem
     ensures steps { IfOk result (λ found. IfSteps found AreSteps) }
     // No id, literal or hint has more than 18 digits.
     ensures short { IfOk result (λ found. IfSteps found (λ steps. formula.now.vars < 10 ^ 18 → AreShort steps)) }
+{
+    let found = find(alloc, formula, budget)?;
+    Ok(found)
+}
+
+/// An answer that was guessed, if it holds; else the search goes through the formula, and it alone uses the budget up.
+fn find(alloc: Global, formula: &Formula, budget: u64) -> Result<Found, Memory>
+    requires { 0 < budget }
+    ensures { IfOk result (λ found. Ends budget formula.now.vars formula.now.clauses found) }
+{
+    match guessed(alloc, formula, budget) {
+        Some(found) => Ok(found),
+        None => go_through(alloc, formula, budget),
+    }
+}
+
+/// The search from its beginning to its end.
+fn go_through(alloc: Global, formula: &Formula, budget: u64) -> Result<Found, Memory>
+    requires { 0 < budget }
+    ensures { IfOk result (λ found. Ends budget formula.now.vars formula.now.clauses found) }
 {
     let mut search = match Search::new(alloc, formula, budget) {
         Ok(search) => search,
