@@ -75,8 +75,9 @@ fn prepared<F: Files>(alloc: Global, request: Request<'_>, files: &mut F) -> Res
 /// The questions of a configuration and what they are answered by; or the first cause in the order of work why they
 /// aren't.
 ///
-/// The configuration is read, and a check that is asked for has to be one of it; then its Verilog files are read, in the
-/// order of their lines; then each distinct text is loaded once, in the order of their first questions. Nothing is written.
+/// The configuration is read, and a check that is asked for has to be one of it; then its Verilog files are read, in
+/// the order of their lines; then each distinct text is loaded once, in the order of their first questions. Nothing is
+/// written.
 pub fn prepare<F: Files>(
     alloc: Global,
     request: Request<'_>,
