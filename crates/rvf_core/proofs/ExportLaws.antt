@@ -23,9 +23,9 @@ use Rattle.rvf_case.specs.Texts.{leaders, only_named}
 use Rattle.rvf_case.specs.declared.case.Case.{Case}
 use Rattle.rvf_case.specs.declared.refusal.Refusal.{Refusal}
 use Rattle.rvf_case.specs.declared.refusal.Refusal.TheVariants as refusal
-use Rattle.rvf_export.specs.GraphTexts.{TellsRuns}
-use Rattle.rvf_export.specs.Sources.{GraphsAreTheSources}
-use Rattle.rvf_export.specs.declared.text.GraphText.{GraphText}
+use Rattle.rvf_graph.specs.GraphTexts.{TellsRuns}
+use Rattle.rvf_graph.specs.Sources.{GraphsAreTheSources}
+use Rattle.rvf_graph.specs.declared.text.GraphText.{GraphText}
 use Rattle.ck_ask.specs.Questions.{question_kind}
 use Rattle.ck_ask.specs.declared.question.Question.{Question}
 use Rattle.ck_ask.specs.declared.question.Question.TheVariants as question

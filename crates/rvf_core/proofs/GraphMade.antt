@@ -10,7 +10,7 @@ use Rattle.rvf_words.specs.declared.line.Line.TheVariants as words
 use Rattle.rvf_case.specs.Cases.{Request, Seen}
 use Rattle.rvf_case.specs.declared.refusal.Refusal.{Refusal}
 use Rattle.rvf_case.specs.declared.refusal.Refusal.TheVariants as refusal
-use Rattle.rvf_export.specs.declared.text.GraphText.{GraphText}
+use Rattle.rvf_graph.specs.declared.text.GraphText.{GraphText}
 use Rattle.rvf_report.specs.Outcome.{Outside, Delivers, LeavesOne, puts_of, writes_of}
 use Rattle.rvf_report.specs.Status.{ends}
 use Rattle.rvf_report.specs.declared.delivery.Delivery.{Delivery}

@@ -10,7 +10,7 @@ use Rattle.rvf_case.specs.Askings as asking
 use Rattle.rvf_case.specs.Cases.{AreUnrefused, Request, Seen, questions_in}
 use Rattle.rvf_case.specs.Hearing.{cause_reads}
 use Rattle.rvf_case.specs.Texts.{leaders, only_named}
-use Rattle.rvf_export.specs.declared.text.GraphText.{GraphText}
+use Rattle.rvf_graph.specs.declared.text.GraphText.{GraphText}
 use Rattle.rvf_report.specs.declared.delivery.Delivery.{Delivery}
 use Rattle.rvf_report.specs.declared.delivery.Delivery.TheVariants.{File, Line}
 use Rattle.rvf_report.specs.declared.status.Status.{Status}

@@ -16,8 +16,8 @@ use Rattle.rvf_case.specs.Loading.{Loaded}
 use Rattle.rvf_case.specs.declared.case.Case.{Case}
 use Rattle.rvf_case.specs.declared.refusal.Refusal.{Refusal}
 use Rattle.rvf_case.specs.declared.refusal.Refusal.TheVariants as refusal
-use Rattle.rvf_export.specs.GraphTexts.{TellsRuns}
-use Rattle.rvf_export.specs.declared.text.GraphText.{GraphText}
+use Rattle.rvf_graph.specs.GraphTexts.{TellsRuns}
+use Rattle.rvf_graph.specs.declared.text.GraphText.{GraphText}
 use Rattle.rvf_report.specs.Outcome.{Delivers}
 use Rattle.rvf_report.specs.declared.status.Status.{Status}
 use Rattle.rvf_report.specs.declared.status.Status.TheVariants as s

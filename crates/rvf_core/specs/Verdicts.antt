@@ -21,8 +21,8 @@ use Rattle.ck_design.specs.Retirements.{IsViolating}
 use Rattle.vl_text.specs.SourceText.{Reading}
 use Rattle.bm_decide.specs.Searches.{TakesFewer}
 use Rattle.rvf_case.specs.Loads.{Asked, Reads, design_of, opts_of, wants_of, top}
-use Rattle.rvf_export.specs.GraphTexts.{TellsRuns}
-use Rattle.rvf_export.specs.declared.text.GraphText.{GraphText}
+use Rattle.rvf_graph.specs.GraphTexts.{TellsRuns}
+use Rattle.rvf_graph.specs.declared.text.GraphText.{GraphText}
 use Rattle.rvf_judge.specs.Judged.{IsJudged}
 use Rattle.rvf_judge.specs.declared.judged.Judged.{Judged}
 use Rattle.rvf_case.specs.Texts.{asked_for, leader_of}

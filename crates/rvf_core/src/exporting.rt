@@ -16,8 +16,8 @@ use crate::reporting::put_report;
 use fv_base::{Files, Out};
 use fv_text::Memory;
 use rvf_case::{Asking, Case, Request, prepare};
-use rvf_export::graph_text;
-use rvf_export::graphs_law::graphs_are_the_sources;
+use rvf_graph::graph_text;
+use rvf_graph::graphs_law::graphs_are_the_sources;
 use rvf_report::Status;
 use std::alloc::Global;
 

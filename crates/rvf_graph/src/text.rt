@@ -7,8 +7,8 @@ ghost use Rattle.rvfi_port.specs.declared.port.Wants.{Wants};
 ghost use Rattle.rvfi_port.specs.Ports.{ArePortNodes};
 ghost use Rattle.ck_ask.specs.Asked.{HasItsProbe, IsQuestion};
 ghost use Rattle.ck_design.specs.Loaded.{IsLoaded};
-ghost use Rattle.rvf_export.specs.GraphTexts.{TellsRuns};
-ghost use Rattle.rvf_export.specs.RunGraphs.{IsTextOf};
+ghost use Rattle.rvf_graph.specs.GraphTexts.{TellsRuns};
+ghost use Rattle.rvf_graph.specs.RunGraphs.{IsTextOf};
 
 use crate::bit_name::bit_names;
 use crate::graph::{RunGraph, graph_of};

@@ -16,7 +16,7 @@ use Rattle.ck_design.specs.Notes.{source_note}
 use Rattle.ck_design.specs.NotesForm.{bit_named}
 use Rattle.ck_design.specs.Tight.{Agree, note_value}
 use Rattle.ck_design.proofs.NotesWhole.{source_literal}
-use Rattle.rvf_export.specs.GraphTexts.{bit_in}
+use Rattle.rvf_graph.specs.GraphTexts.{bit_in}
 
 -- ---- places
 

@@ -45,13 +45,13 @@ use Rattle.ck_design.specs.Tight.{Agree}
 use Rattle.ck_design.proofs.Found.{IsRunOf, choices_of_run, run_of_choices, same_found}
 use Rattle.ck_design.proofs.NotesForm.{in_form}
 use Rattle.ck_design.proofs.NotesWhole.{choices_agree, read_alike}
-use Rattle.rvf_export.specs.BitNames.{bit_name}
-use Rattle.rvf_export.specs.GraphTexts.{TellsRuns, bit_in, bits_in}
-use Rattle.rvf_export.specs.RunGraphs.{IsGraphOfRuns, IsTextOf}
-use Rattle.rvf_export.specs.declared.graph.RunGraph.{RunGraph}
-use Rattle.rvf_export.specs.declared.text.GraphText.{GraphText}
-use Rattle.rvf_export.proofs.BitLines.{name_of}
-use Rattle.rvf_export.proofs.Numbered.{AreNumbered, agree_of, all_numbered, values_of, variables}
+use Rattle.rvf_graph.specs.BitNames.{bit_name}
+use Rattle.rvf_graph.specs.GraphTexts.{TellsRuns, bit_in, bits_in}
+use Rattle.rvf_graph.specs.RunGraphs.{IsGraphOfRuns, IsTextOf}
+use Rattle.rvf_graph.specs.declared.graph.RunGraph.{RunGraph}
+use Rattle.rvf_graph.specs.declared.text.GraphText.{GraphText}
+use Rattle.rvf_graph.proofs.BitLines.{name_of}
+use Rattle.rvf_graph.proofs.Numbered.{AreNumbered, agree_of, all_numbered, values_of, variables}
 
 -- ---- lists
 

@@ -9,8 +9,8 @@ use Rattle.vl_lower_spec.proofs.Declaring.{parts_declare}
 use Rattle.ck_ask.specs.Questions.{question_cycle}
 use Rattle.ck_design.specs.Findings.{IsFound}
 use Rattle.ck_design.specs.NotesForm.{IsChosenBit}
-use Rattle.rvf_export.specs.GraphTexts.{TellsRuns}
-use Rattle.rvf_export.specs.Sources.{GraphsAreTheSources, GraphsDependOnMaps}
+use Rattle.rvf_graph.specs.GraphTexts.{TellsRuns}
+use Rattle.rvf_graph.specs.Sources.{GraphsAreTheSources, GraphsDependOnMaps}
 
 pub by_maps : GraphsDependOnMaps
 by_maps ps qs channels wants q opts t same e h = record {

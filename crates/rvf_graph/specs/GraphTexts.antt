@@ -19,8 +19,8 @@ use Rattle.ck_ask.specs.declared.question.Question.{Question}
 use Rattle.ck_design.specs.Findings.{IsFound}
 use Rattle.ck_design.specs.NotesForm.{IsChosenBit, NamedBit}
 use Rattle.ck_design.specs.Retirements.{values_at}
-use Rattle.rvf_export.specs.BitNames.{bit_name}
-use Rattle.rvf_export.specs.declared.text.GraphText.{GraphText}
+use Rattle.rvf_graph.specs.BitNames.{bit_name}
+use Rattle.rvf_graph.specs.declared.text.GraphText.{GraphText}
 
 -- the bit of a name in its cycle of a run
 abbrev pub bit_in : List Values → NamedBit → Bool

@@ -23,8 +23,8 @@ use Rattle.bm_unroll.specs.Frames.{values_under}
 use Rattle.bm_decide.specs.Runs.{ModelsAreRuns, values_in}
 use Rattle.bm_decide.specs.Verdicts.{AreBitsOf}
 use Rattle.bm_decide.proofs.Joining.{all_tested, models_are_runs, tested_all}
-use Rattle.rvf_export.specs.RunGraphs.{IsGraphOfRuns, run_graph_of}
-use Rattle.rvf_export.proofs.Numbered.{all_many}
+use Rattle.rvf_graph.specs.RunGraphs.{IsGraphOfRuns, run_graph_of}
+use Rattle.rvf_graph.proofs.Numbered.{all_many}
 
 module _ (net : Netlist) (bad cycle : ℕ) (watch : List ℕ) (f : Frames) (b : Blasted) (whole : IsGraph b.graph)
     (places : b.places ≡ all_places 0 0 f.widths) (first : InputsAreFirst b.graph)

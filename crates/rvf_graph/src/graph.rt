@@ -7,7 +7,7 @@ ghost use Rattle.bm_decide.specs.Verdicts.{Gives};
 ghost use Rattle.rvfi_port.specs.Ports.{ArePortNodes};
 ghost use Rattle.ck_ask.specs.Asked.{HasItsProbe, IsQuestion};
 ghost use Rattle.ck_ask.specs.Questions.{question_cycle};
-ghost use Rattle.rvf_export.specs.RunGraphs.{IsGraphOfRuns, run_graph_of};
+ghost use Rattle.rvf_graph.specs.RunGraphs.{IsGraphOfRuns, run_graph_of};
 
 use bb_aig::{Aig, Lit};
 use bb_blast::{Blasted, blast};

@@ -6,9 +6,9 @@ use Rattle.bb_words.specs.Words.{AreWords}
 use Rattle.bb_blast.specs.Choice.{all_places, numbers_of}
 use Rattle.bb_blast.specs.Walk.{all_other_than_0, values_by, widths_by}
 use Rattle.bm_unroll.specs.Frames.{IsBadRun}
-use Rattle.rvf_export.specs.RunGraphs.{IsGraphOfRuns}
-use Rattle.rvf_export.proofs.FramesGraph.{is_graph}
-use Rattle.rvf_export.proofs.graph.graph_of_runs.Goals as goal
+use Rattle.rvf_graph.specs.RunGraphs.{IsGraphOfRuns}
+use Rattle.rvf_graph.proofs.FramesGraph.{is_graph}
+use Rattle.rvf_graph.proofs.graph.graph_of_runs.Goals as goal
 
 pub returns : goal.returns
 returns c =

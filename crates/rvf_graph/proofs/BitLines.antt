@@ -4,7 +4,7 @@ use Rattle.std.proofs.Common.{ap, sym, ◌∙◌, append_assoc, get_or, drop}
 use Rattle.std.proofs.lemmas.List.{at_drop_more, at_drop_all, append-nil}
 use Rattle.ck_design.specs.declared.note.Note.{Note}
 use Rattle.ck_design.specs.NotesForm.{bit_named}
-use Rattle.rvf_export.specs.BitNames.{bit_name}
+use Rattle.rvf_graph.specs.BitNames.{bit_name}
 
 abbrev pub name_of : Note → List ℕ
 name_of note = bit_name (bit_named note)

@@ -1,6 +1,6 @@
 use Rattle.std.proofs.Common.{arith}
 use Rattle.aiger_text.proofs.InputsCounted.{inputs_below}
-use Rattle.rvf_export.proofs.text.written.Goals as goal
+use Rattle.rvf_graph.proofs.text.written.Goals as goal
 
 pub overflow_sub-result-2 : goal.overflow_sub-result-2
 overflow_sub-result-2 c =

@@ -1,6 +1,6 @@
 //! That what a graph says of a design without hierarchy it says of the design that the source writes: a law, without
 //! code.
-ghost use Rattle.rvf_export.specs.Sources.{GraphsAreTheSources, GraphsDependOnMaps};
+ghost use Rattle.rvf_graph.specs.Sources.{GraphsAreTheSources, GraphsDependOnMaps};
 
 /// Parts with the same maps and the same declarations have the same graphs.
 #[tactic(auto, using(crate::proofs::SourceGraphs::by_maps))]

@@ -10,8 +10,8 @@ use Rattle.vl_mean_flat.specs.SameMaps.{AreSameMaps}
 use Rattle.vl_elab_draft.specs.Drawn.{IsDrawn}
 use Rattle.rvfi_port.specs.declared.port.Wants.{Wants}
 use Rattle.ck_ask.specs.declared.question.Question.{Question}
-use Rattle.rvf_export.specs.GraphTexts.{TellsRuns}
-use Rattle.rvf_export.specs.declared.text.GraphText.{GraphText}
+use Rattle.rvf_graph.specs.GraphTexts.{TellsRuns}
+use Rattle.rvf_graph.specs.declared.text.GraphText.{GraphText}
 
 -- a graph speaks of maps and of declarations alone
 abbrev pub GraphsDependOnMaps : Type 0

@@ -1,6 +1,6 @@
 use Rattle.std.proofs.lemmas.Result.{IfOk-weaker}
-use Rattle.rvf_export.proofs.Telling.{tells}
-use Rattle.rvf_export.proofs.text.graph_text.Goals as goal
+use Rattle.rvf_graph.proofs.Telling.{tells}
+use Rattle.rvf_graph.proofs.text.graph_text.Goals as goal
 
 pub returns : goal.returns
 returns c =

@@ -14,9 +14,9 @@ use Rattle.aiger_text.specs.Profile.{SaysGraph}
 use Rattle.aiger_text.specs.Written.{aag_text}
 use Rattle.ck_design.specs.Notes.{choice_notes}
 use Rattle.ck_design.specs.NotesForm.{bit_named}
-use Rattle.rvf_export.specs.BitNames.{bit_name}
-use Rattle.rvf_export.specs.declared.graph.RunGraph.{RunGraph}
-use Rattle.rvf_export.specs.declared.text.GraphText.{GraphText}
+use Rattle.rvf_graph.specs.BitNames.{bit_name}
+use Rattle.rvf_graph.specs.declared.graph.RunGraph.{RunGraph}
+use Rattle.rvf_graph.specs.declared.text.GraphText.{GraphText}
 
 abbrev pub run_graph_of : Frames → Blasted → RunGraph
 run_graph_of f b = record {

@@ -4,10 +4,10 @@ use Rattle.std.proofs.lemmas.Result.{IfOk-weaker}
 use Rattle.wn_net.specs.Net.{Netlist}
 use Rattle.bm_unroll.specs.Frames.{IsBadRun}
 use Rattle.ck_gen.specs.Monitors.{AddsFew}
-use Rattle.rvf_export.specs.RunGraphs.{IsGraphOfRuns}
-use Rattle.rvf_export.specs.declared.graph.RunGraph.{RunGraph}
-use Rattle.rvf_export.proofs.OwnGraph.{own_graph}
-use Rattle.rvf_export.proofs.graph.graph_of.Goals as goal
+use Rattle.rvf_graph.specs.RunGraphs.{IsGraphOfRuns}
+use Rattle.rvf_graph.specs.declared.graph.RunGraph.{RunGraph}
+use Rattle.rvf_graph.proofs.OwnGraph.{own_graph}
+use Rattle.rvf_graph.proofs.graph.graph_of.Goals as goal
 
 few : (old mid new : Netlist) → mid ≡ old → AddsFew mid new → AddsFew old new
 few old mid new e h = let P : Netlist → Type 0 = λ n. AddsFew n new in subst P e h

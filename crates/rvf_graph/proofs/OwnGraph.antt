@@ -21,8 +21,8 @@ use Rattle.bm_decide.specs.Verdicts.{Gives}
 use Rattle.bm_decide.proofs.Carried.{bad_gives}
 use Rattle.bm_decide.proofs.Sources.{choices_more, fewer_choices, first_is, first_of, more_choices, old_choices, old_widths}
 use Rattle.bm_decide.proofs.Sources.{same_chosen}
-use Rattle.rvf_export.specs.RunGraphs.{IsGraphOfRuns}
-use Rattle.rvf_export.specs.declared.graph.RunGraph.{RunGraph}
+use Rattle.rvf_graph.specs.RunGraphs.{IsGraphOfRuns}
+use Rattle.rvf_graph.specs.declared.graph.RunGraph.{RunGraph}
 
 -- ---- the same start
 

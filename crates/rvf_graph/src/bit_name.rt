@@ -2,7 +2,7 @@
 
 ghost use Rattle.std.specs.Prelude.{◌≡◌, ◌++◌, ◌∷◌, [], decimal, map, IfOk, OnOk};
 ghost use Rattle.ck_design.specs.NotesForm.{bit_named};
-ghost use Rattle.rvf_export.specs.BitNames.{bit_name};
+ghost use Rattle.rvf_graph.specs.BitNames.{bit_name};
 
 use ck_design::Note;
 use fv_text::{List, Memory, Text};

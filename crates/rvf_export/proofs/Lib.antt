@@ -1,6 +1,0 @@
-pub mod BitLines
-pub mod Numbered
-pub mod FramesGraph
-pub mod OwnGraph
-pub mod Telling
-pub mod SourceGraphs

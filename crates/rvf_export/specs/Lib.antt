@@ -1,4 +1,0 @@
-pub mod BitNames
-pub mod GraphTexts
-pub mod RunGraphs
-pub mod Sources
