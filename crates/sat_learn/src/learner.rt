@@ -7,8 +7,8 @@ ghost use Rattle.sat_learn.specs.Learning.{Learns};
 use crate::analysis::{Learnt, to_empty};
 use crate::learning::learn;
 use crate::lit_set::LitSet;
-use crate::restarts::Restarts;
 use fv_text::Memory;
+use sat_quick::Restarts;
 use sat_trail::{ClauseList, ClauseSet, Trail};
 use std::alloc::Global;
 

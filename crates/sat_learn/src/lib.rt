@@ -6,7 +6,6 @@ mod analysis;
 mod learner;
 mod learning;
 mod lit_set;
-mod restarts;
 mod shortening;
 
 pub use analysis::Learnt;

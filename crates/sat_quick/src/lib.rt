@@ -28,3 +28,4 @@ mod watches;
 
 pub use guess::Guess;
 pub use guessing::guess_answer;
+pub use restarts::Restarts;

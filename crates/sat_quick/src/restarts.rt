@@ -3,8 +3,10 @@ const CONFLICTS: u64 = 100;
 
 /// When the search begins anew: after as many conflicts as Luby's sequence 1, 1, 2, 1, 1, 2, 4, .. says, times a
 /// hundred (Luby, Sinclair and Zuckerman: Optimal Speedup of Las Vegas Algorithms).
+///
+/// No clause says so: a search may begin anew after any conflict.
 #[derive(Debug, Drop)]
-pub(crate) struct Restarts {
+pub struct Restarts {
     /// How many conflicts are left.
     left: u64,
     /// Knuth's pair, whose second number goes through the sequence.
@@ -13,7 +15,8 @@ pub(crate) struct Restarts {
 }
 
 impl Restarts {
-    pub(crate) fn new() -> Restarts {
+    /// Before the first conflict.
+    pub fn new() -> Restarts {
         Restarts {
             left: CONFLICTS,
             turn: 1,
@@ -22,7 +25,7 @@ impl Restarts {
     }
 
     /// A conflict is over: whether to begin anew.
-    pub(crate) fn is_due(&mut self) -> bool {
+    pub fn is_due(&mut self) -> bool {
         if self.left > 1 {
             self.left -= 1;
             return false;
