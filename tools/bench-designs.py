@@ -210,6 +210,14 @@ def declared(count):
         f"module m{count - 1}; wire n; endmodule\n"
 
 
+def mentioned(count):
+    """A chain of 5,000 modules, the last of which mentions a net so many times: by a full name of 10,000 bytes."""
+    total = " ^ ".join("b" * 100)
+    whole = chain(5_000)
+    return whole[:whole.rindex("endmodule")] + "wire b; reg a; always @* begin\n" + \
+        lines(count // 100, lambda _: f"a = {total};\n") + "end endmodule\n"
+
+
 def reverse(count):
     """A chain of drivers, each of which stands before the one that it reads."""
     return "module top;\nwire " + ", ".join(f"n{k}" for k in range(count)) + ";\n" + \
@@ -268,6 +276,7 @@ MADE = [
     ("elaborate", "chain", chain, [10_000, 50_000, 200_000]),
     ("elaborate", "blocks", blocks, [10_000, 50_000]),
     ("elaborate", "declared", declared, [2_500, 5_000, 10_000]),
+    ("elaborate", "mentioned", mentioned, [25_000, 50_000, 100_000]),
     ("order", "reverse", reverse, [50_000, 100_000, 200_000]),
     ("order", "block", block, [50_000, 100_000, 200_000]),
     ("order", "words", words, [2_500, 5_000, 10_000]),

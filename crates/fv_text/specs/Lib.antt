@@ -1,3 +1,4 @@
+pub mod Held
 pub mod Keyword
 pub mod Name
 pub mod Named

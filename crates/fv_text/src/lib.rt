@@ -1,6 +1,7 @@
 //! Texts and lists that contracts see as lists, numbers, places, tokens and traces: what every other crate stands on.
 #![tactic(auto)]
 
+mod held;
 mod keyword;
 mod kind;
 mod list;

@@ -63,7 +63,8 @@ impl ParameterTable {
         ensures { OnOk result ((other : List ℕ) → spec.spot_in self.new other
             ≡ (if bytes_eq name other then Some spot else spec.spot_in self.old other)) }
     {
-        self.spots.insert(name.into_vec(), spot)?;
+        let key = name.into_vec()?;
+        self.spots.insert(key, spot)?;
         Ok(())
     }
 

@@ -88,7 +88,8 @@ impl PortTable {
         if self.directions.get(name.bytes()).is_some() {
             return Ok(());
         }
-        self.directions.insert(name.into_vec(), direction)?;
+        let key = name.into_vec()?;
+        self.directions.insert(key, direction)?;
         Ok(())
     }
 

@@ -116,7 +116,8 @@ fn add_behind(written: &mut Written, name: Text, value: Expr) -> Result<(), Memo
     if written.map.get(name.bytes()).is_some() {
         return Ok(());
     }
-    put(&mut written.map, name.into_vec(), value)
+    let key = name.into_vec()?;
+    put(&mut written.map, key, value)
 }
 
 fn put(map: &mut IndexMap<Vec<u8>, Expr>, key: Vec<u8>, value: Expr) -> Result<(), Memory>

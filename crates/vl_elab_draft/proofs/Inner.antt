@@ -8,6 +8,7 @@ use Rattle.vl_size.specs.Table.{is_declared, declared_as}
 use Rattle.vl_mean.specs.declared.const_number.Const.{Const}
 use Rattle.vl_mean.specs.Constants.{constant_of}
 use Rattle.vl_mean.specs.Scopes.{Scope, full, constant_in, constant_unless, declared_in, unless_constant, visible}
+use Rattle.vl_elab_draft.specs.Kept.{own_full}
 
 reverse_last : (all rest : List Scope) (s : Scope) → all ≡ rest ++ s ∷ [] → reverse all ≡ s ∷ reverse rest
 reverse_last all rest s e = ap reverse e ∙ reverse-append rest (s ∷ [])
@@ -21,22 +22,27 @@ full_none (Err f) all text e k = k
 module _ (all rest : List Scope) (s : Scope) (text : List ℕ) (e : all ≡ rest ++ s ∷ []) where
   -- ---- full names
 
-  full_last : full (reverse all) text ≡ (if is_declared s.decls text then s.path ++ text else full (reverse rest) text)
-  full_last = ap (λ ss. full ss text) (reverse_last all rest s e)
+  abbrev or_outer : Option (List ℕ) → List ℕ → List ℕ
+  or_outer None outer = outer
+  or_outer (Some name) outer = name
 
-  pub full_here : {F : Type 0} (r : Result (List ℕ) F) (path : List ℕ) (b : Bool) → path ≡ s.path
-      → b ≡ is_declared s.decls text → b ≡ true → IfOk r (λ t. t ≡ path ++ text)
-      → IfOk r (λ t. t ≡ full (reverse all) text)
-  full_here (Ok t) path b p d h k =
-      k ∙ ap (λ p. p ++ text) p ∙ ap (λ b. if b then s.path ++ text else full (reverse rest) text) (sym h ∙ d)
-      ∙ sym full_last
-  full_here (Err f) path b p d h k = k
+  full_last : full (reverse all) text ≡ or_outer (own_full s text) (full (reverse rest) text)
+  full_last = ap (λ ss. full ss text) (reverse_last all rest s e) ∙ by (is_declared s.decls text)
+    where
+      by : (b : Bool) → (if b then s.path ++ text else full (reverse rest) text)
+          ≡ or_outer (if b then Some (s.path ++ text) else None) (full (reverse rest) text)
+      by true = refl
+      by false = refl
 
-  pub full_around : {F : Type 0} (r : Result (List ℕ) F) (b : Bool) → b ≡ is_declared s.decls text → b ≡ false
+  pub full_here : {F : Type 0} (r : Result (List ℕ) F) (name : List ℕ) → Some name ≡ own_full s text
+      → IfOk r (λ t. t ≡ name) → IfOk r (λ t. t ≡ full (reverse all) text)
+  full_here (Ok t) name h k = k ∙ ap (λ o. or_outer o (full (reverse rest) text)) h ∙ sym full_last
+  full_here (Err f) name h k = k
+
+  pub full_around : {F : Type 0} (r : Result (List ℕ) F) → None ≡ own_full s text
       → IfOk r (λ t. t ≡ full (reverse rest) text) → IfOk r (λ t. t ≡ full (reverse all) text)
-  full_around (Ok t) b d h k =
-      k ∙ ap (λ b. if b then s.path ++ text else full (reverse rest) text) (sym h ∙ d) ∙ sym full_last
-  full_around (Err f) b d h k = k
+  full_around (Ok t) h k = k ∙ ap (λ o. or_outer o (full (reverse rest) text)) h ∙ sym full_last
+  full_around (Err f) h k = k
 
   -- ---- constants
 

@@ -1,3 +1,4 @@
+pub mod FullNames
 pub mod Inner
 pub mod Tables
 pub mod Laid

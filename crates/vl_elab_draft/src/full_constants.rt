@@ -124,7 +124,8 @@ fn add_among(
         *leading = Some(Named { text: name, value });
         return Ok(());
     }
-    put(others, name.into_vec(), value)
+    let key = name.into_vec()?;
+    put(others, key, value)
 }
 
 /// A new key goes behind the others.

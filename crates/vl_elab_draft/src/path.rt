@@ -84,7 +84,7 @@ impl Path {
     }
 
     /// The full name of a name in the scope.
-    pub fn joined(&self, alloc: Global, name: &Text) -> Result<Text, Memory>
+    pub(crate) fn joined(&self, alloc: Global, name: &Text) -> Result<Text, Memory>
         ensures { IfOk result (λ text. text ≡ self.now ++ name.now) }
     {
         match &self.around {

@@ -1,7 +1,7 @@
 //! One scope, with the names that it declares.
-ghost use Rattle.std.specs.Prelude.{◌≡◌, false, None, OnOk, OnErr};
+ghost use Rattle.std.specs.Prelude.{◌≡◌, ◌++◌, ◌∷◌, [], ◌-◌, ◌<◌, ◌^◌, false, None, length, slice_get, OnOk, OnErr};
 ghost use Rattle.std.specs.Option.{option_copied};
-ghost use Rattle.vl_size.specs.Table.{declared_as, is_declared, IsPlain, IsShaped};
+ghost use Rattle.vl_size.specs.Table.{declared_as, is_declared, AreApart, IsPlain, IsShaped};
 ghost use Rattle.vl_mean.specs.Constants.{constant_of};
 ghost use Rattle.vl_elab_draft.specs.Kept as spec;
 
@@ -14,18 +14,22 @@ use vl_mean::Const;
 use vl_size::{Decl, Decls};
 
 /// A module's instance, a generate block or a turn of a generate loop: its path, and its declarations and constants in
-/// order. No bracket stands in a declared name.
+/// order. No bracket stands in a declared name. The full name of each declaration is made once, and all that mention it
+/// share its text.
 #[derive(Drop)]
 pub struct Scope {
     path: Path,
     decls: Decls,
+    /// Those of the declarations, in order.
+    full_names: Vec<Text>,
     constants: ConstantTable,
 }
 
 impl Model for Scope {
-    ghost use Rattle.std.specs.Prelude.{All};
+    ghost use Rattle.std.specs.Prelude.{◌≡◌, All};
     ghost use Rattle.vl_size.specs.Table.{IsPlain};
     ghost use Rattle.vl_mean.specs.Scopes as scopes;
+    ghost use Rattle.vl_elab_draft.specs.Kept.{names_under};
 
     ghost Value = { scopes.Scope };
 
@@ -35,7 +39,7 @@ impl Model for Scope {
       constants = s.constants;
     } };
 
-    ghost invariant = { λ s. All IsPlain s.decls };
+    ghost invariant = { λ s. All IsPlain s.decls × (s.full_names.items ≡ names_under s.path s.decls) };
 }
 
 impl Scope {
@@ -46,14 +50,9 @@ impl Scope {
         Scope {
             path,
             decls: Decls::new(alloc),
+            full_names: Vec::new(alloc),
             constants: ConstantTable::new(alloc),
         }
-    }
-
-    pub fn path(&self) -> &Path
-        ensures { result.now ≡ self.now.path }
-    {
-        &self.path
     }
 
     /// None exactly where the scope has no constant of the name.
@@ -77,6 +76,17 @@ impl Scope {
         self.decls.is_declared(name)
     }
 
+    /// The full name of a name. None exactly where the scope has no net and no variable of the name.
+    #[tactic(auto, using(crate::proofs::FullNames::own_names))]
+    pub fn full(&self, name: &Text) -> Option<&Text>
+        ensures { option_copied result ≡ spec.own_full self.now name.now }
+    {
+        match self.decls.find(name) {
+            None => None,
+            Some(place) => text_at(self.full_names.as_slice(), place),
+        }
+    }
+
     /// Adds a constant behind the others. Where no memory is left nothing is added.
     pub fn add_constant(&mut self, name: Text, value: Const) -> Result<(), Memory>
         requires { constant_of self.old.constants name ≡ None }
@@ -88,8 +98,8 @@ impl Scope {
 
     /// Adds a net or a variable behind the others. Where no memory is left it is dropped; so many that a table has no
     /// place for one more don't stand in memory.
-    #[tactic(auto, using(vl_size::proofs::Plain::plain_names))]
-    pub fn declare(&mut self, decl: Decl) -> Result<(), Memory>
+    #[tactic(auto, using(vl_size::proofs::Plain::plain_names, crate::proofs::FullNames::own_names))]
+    pub fn declare(&mut self, alloc: Global, decl: Decl) -> Result<(), Memory>
         requires fresh { is_declared self.old.decls decl.name ≡ false }
         requires plain { IsPlain decl }
         requires shaped { IsShaped decl }
@@ -99,6 +109,41 @@ impl Scope {
         if self.decls.len() >= 4_294_967_295 {
             return Err(Memory);
         }
-        self.decls.push(decl)
+        let full_name = self.path.joined(alloc, &decl.name)?.shared(alloc)?;
+        add(&mut self.decls, &mut self.full_names, decl, full_name)?;
+        Ok(())
+    }
+}
+
+/// None exactly where there are no more texts than the place says.
+fn text_at(all: &[Text], place: u32) -> Option<&Text>
+    ensures { option_copied result ≡ slice_get all.now place }
+{
+    all.get(place as usize)
+}
+
+/// Adds a declaration and its full name, each behind the others, or neither.
+fn add(
+    decls: &mut Decls,
+    full_names: &mut Vec<Text>,
+    decl: Decl,
+    full_name: Text,
+) -> Result<(), Memory>
+    requires fresh { is_declared decls.old decl.name ≡ false }
+    requires apart { AreApart (decls.old ++ decl ∷ []) }
+    requires shaped { IsShaped decl }
+    requires few { length decls.old < 2 ^ 32 - 1 }
+    ensures declared { OnOk result (decls.new ≡ decls.old ++ decl ∷ []) }
+    ensures named { OnOk result (full_names.new.items ≡ full_names.old.items ++ full_name ∷ []) }
+    ensures err { OnErr result ((decls.new ≡ decls.old) × (full_names.new.items ≡ full_names.old.items)) }
+{
+    let count = full_names.len();
+    full_names.push(full_name)?;
+    match decls.push(decl) {
+        Ok(()) => Ok(()),
+        Err(fault) => {
+            full_names.truncate(count);
+            Err(fault)
+        }
     }
 }

@@ -3,6 +3,7 @@ ghost use Rattle.std.specs.Prelude.{◌≡◌, ◌++◌, ◌∷◌, [], drop, re
 ghost use Rattle.std.specs.Option.{option_copied};
 ghost use Rattle.vl_mean.specs.Scopes as spec;
 
+use crate::path::Path;
 use crate::scope::Scope;
 use fv_text::{Memory, Text};
 use std::alloc::Global;
@@ -51,12 +52,25 @@ impl Scopes {
         self.scopes.pop()
     }
 
-    /// The full name of a name: the innermost scope that declares it stands before it by its path. A name that no
-    /// scope declares as a net or a variable stays as it is.
+    /// The full name of a name: the innermost scope that declares it stands before it by its path, and shares its text.
+    /// A name that no scope declares as a net or a variable stays as it is.
     pub fn full(&self, alloc: Global, name: &Text) -> Result<Text, Memory>
         ensures { IfOk result (λ text. text ≡ spec.full self.now name.now) }
     {
         full_among(alloc, self.scopes.as_slice(), name)
+    }
+
+    /// The full name of a name under a path. Where the scopes hold it for the name, their text is shared.
+    pub fn under(&self, alloc: Global, path: &Path, name: &Text) -> Result<Text, Memory>
+        ensures { IfOk result (λ text. text ≡ path.now ++ name.now) }
+    {
+        let made = path.joined(alloc, name)?;
+        let known = self.full(alloc, name)?;
+        if known.is(made.bytes()) {
+            Ok(known)
+        } else {
+            Ok(made)
+        }
     }
 
     /// The constant that a name means. None exactly where it means none.
@@ -91,13 +105,10 @@ fn full_among(alloc: Global, scopes: &[Scope], name: &Text) -> Result<Text, Memo
 {
     match scopes.split_last() {
         None => name.copied(alloc),
-        Some((last, around)) => {
-            if last.is_declared(name) {
-                last.path().joined(alloc, name)
-            } else {
-                full_among(alloc, around, name)
-            }
-        }
+        Some((last, around)) => match last.full(name) {
+            Some(text) => text.copied(alloc),
+            None => full_among(alloc, around, name),
+        },
     }
 }
 

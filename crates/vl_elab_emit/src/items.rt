@@ -31,7 +31,7 @@ fn write_declared(
     ensures { OnOk result (spec.StandBehind draft.old (spec.followed_by
         (spec.unplaced (parts.declares_all path.now decls.now)) (placed_values scopes.now kind all.now)) draft.new) }
 {
-    write_declarations(alloc, path, decls, draft)?;
+    write_declarations(alloc, path, scopes, decls, draft)?;
     write_values(alloc, kind, all, scopes, draft)
 }
 

@@ -77,7 +77,7 @@ fn write_port(
         (spec.port_parts scopes.now path.now decls.now net (objects.port_text port.now.kind)
         (spec.port_value port.now.kind))) draft.new) }
 {
-    write_declarations(alloc, path, decls, draft)?;
+    write_declarations(alloc, path, scopes, decls, draft)?;
     let name = port_text(&port.kind);
     let value = port_value(&port.kind);
     let pos = name_pos(port.pos, &port.kind);

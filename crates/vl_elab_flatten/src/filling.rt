@@ -60,7 +60,7 @@ fn declare_all(alloc: Global, decls: &[Decl], scope: &mut Scope) -> Result<(), M
 {
     for decl in decls {
         let decl = copied(alloc, decl)?;
-        scope.declare(decl)?;
+        scope.declare(alloc, decl)?;
     }
     Ok(())
 }

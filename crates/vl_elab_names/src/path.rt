@@ -51,7 +51,8 @@ impl ModulePath {
         ensures ok { OnOk result (self.new ≡ self.old ++ name ∷ []) }
         ensures err { OnErr result (self.new ≡ self.old) }
     {
-        put(&mut self.map, name.into_vec())
+        let key = name.into_vec()?;
+        put(&mut self.map, key)
     }
 
     /// The same with a copy of the name, in the room of one that left.

@@ -120,6 +120,7 @@ fn put(others: &mut Others, name: Text) -> Result<(), Memory>
         → spec.is_in others.new other ≡ (bytes_eq other name || spec.is_in others.old other)) }
     ensures err { OnErr result ((other : List ℕ) → spec.is_in others.new other ≡ spec.is_in others.old other) }
 {
-    others.map.insert(name.into_vec(), ())?;
+    let key = name.into_vec()?;
+    others.map.insert(key, ())?;
     Ok(())
 }

@@ -36,7 +36,8 @@ impl ModuleTable {
         ensures { OnOk result ((other : List ℕ) → spec.place_in self.new other
             ≡ (if bytes_eq name other then Some place else spec.place_in self.old other)) }
     {
-        self.places.insert(name.into_vec(), place)?;
+        let key = name.into_vec()?;
+        self.places.insert(key, place)?;
         Ok(())
     }
 

@@ -149,7 +149,8 @@ fn add_behind(filled: &mut Filled, name: Text, meaning: Meaning) -> Result<(), M
     if meaning_behind(filled, &name).is_some() {
         return Ok(());
     }
-    put(&mut filled.others, name.into_vec(), meaning)
+    let key = name.into_vec()?;
+    put(&mut filled.others, key, meaning)
 }
 
 /// A new key goes behind the others.

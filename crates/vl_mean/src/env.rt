@@ -37,8 +37,8 @@ impl Env {
             → values_of self.new other ≡ with_number name.now value (values_of self.old) other) }
         ensures err { OnErr result ((other : List ℕ) → values_of self.new other ≡ values_of self.old other) }
     {
-        let key = name.copied(self.alloc)?;
-        self.numbers.insert(key.into_vec(), value)?;
+        let key = Vec::from_slice(self.alloc, name.bytes())?;
+        self.numbers.insert(key, value)?;
         Ok(())
     }
 

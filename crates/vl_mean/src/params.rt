@@ -28,7 +28,8 @@ impl Params {
             → constant self.new other ≡ with_constant name value (constant self.old) other) }
         ensures err { OnErr result ((other : List ℕ) → constant self.new other ≡ constant self.old other) }
     {
-        self.map.insert(name.into_vec(), value)?;
+        let key = name.into_vec()?;
+        self.map.insert(key, value)?;
         Ok(())
     }
 

@@ -85,7 +85,8 @@ impl Macros {
             → held self.new other ≡ with_text name (option_map (λ t. t.value) text) (held self.old) other) }
         ensures err { OnErr result ((other : List ℕ) → held self.new other ≡ held self.old other) }
     {
-        self.texts.insert(name.into_vec(), text)?;
+        let key = name.into_vec()?;
+        self.texts.insert(key, text)?;
         Ok(())
     }
 }

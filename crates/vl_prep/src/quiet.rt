@@ -56,8 +56,8 @@ impl Quiet {
     {
         self.keep(alloc, place);
         let seen = with_level(self.seen(name), levels);
-        let name = name.copied(alloc)?;
-        self.levels.insert(name.into_vec(), seen)?;
+        let key = Vec::from_slice(alloc, name.bytes())?;
+        self.levels.insert(key, seen)?;
         Ok(())
     }
 

@@ -16,4 +16,4 @@ returns c =
     on_ok_weaker c.put.result (λ made other. value_put values c.args.name other c.args.value _
     (said_by values c.bytes.result.now c.args.name c.is_some.result _ c.get.result c.is_some.ensures
     c.if-is_some.false c.get.ensures.value c.bytes.ensures)
-    (lookup_after (λ key. key.items) _ c.args.value other _ _ _ made c.into_vec.ensures)) c.put.ensures
+    (lookup_after (λ key. key.items) _ c.args.value other _ _ _ made c.in_ok-key.ensures)) c.put.ensures

@@ -8,13 +8,13 @@ returns-then-is_none-clause-ok c =
 
 pub put-requires : goal.put-requires
 put-requires c =
-    no_constant c.args.leading.now c.args.others.now.entries c.args.name c.into_vec.result.items c.requires.fresh
-    c.into_vec.ensures
+    no_constant c.args.leading.now c.args.others.now.entries c.args.name c.in_ok-key.key.items c.requires.fresh
+    c.in_ok-key.ensures
 
 pub returns-clause-ok : goal.returns-clause-ok
 returns-clause-ok c =
-    constant_added c.put.result c.args.leading.now c.args.others.now.entries c.put.new.map.entries c.into_vec.result
-    c.args.value c.args.name c.into_vec.ensures c.put.ensures.ok
+    constant_added c.put.result c.args.leading.now c.args.others.now.entries c.put.new.map.entries c.in_ok-key.key
+    c.args.value c.args.name c.in_ok-key.ensures c.put.ensures.ok
 
 pub returns-clause-err : goal.returns-clause-err
 returns-clause-err c =

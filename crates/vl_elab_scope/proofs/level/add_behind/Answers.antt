@@ -8,15 +8,15 @@ returns-then-is_some-clause-ok c =
 
 pub put-requires : goal.put-requires
 put-requires c =
-    no_key c.args.filled.now.first c.args.filled.now.others.entries c.args.name c.into_vec.result.items
+    no_key c.args.filled.now.first c.args.filled.now.others.entries c.args.name c.in_ok-key.key.items
     c.meaning_behind.result c.is_some.result c.meaning_behind.ensures c.is_some.ensures c.if-is_some.false
-    c.into_vec.ensures
+    c.in_ok-key.ensures
 
 pub returns-clause-ok : goal.returns-clause-ok
 returns-clause-ok c =
     name_added c.put.result c.args.filled.now.first c.args.filled.now.others.entries c.put.new.map.entries
-    c.into_vec.result c.args.meaning c.args.name c.meaning_behind.result c.is_some.result c.meaning_behind.ensures
-    c.is_some.ensures c.if-is_some.false c.into_vec.ensures c.put.ensures.ok
+    c.in_ok-key.key c.args.meaning c.args.name c.meaning_behind.result c.is_some.result c.meaning_behind.ensures
+    c.is_some.ensures c.if-is_some.false c.in_ok-key.ensures c.put.ensures.ok
 
 pub returns-clause-err : goal.returns-clause-err
 returns-clause-err c =

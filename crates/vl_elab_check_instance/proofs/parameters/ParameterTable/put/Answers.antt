@@ -3,4 +3,4 @@ use Rattle.vl_elab_check_instance.proofs.parameters.ParameterTable.put.Goals as 
 
 pub returns : goal.returns
 returns c other =
-    lookup_after (λ key. key.items) _ c.args.spot other _ _ _ c.in_ok-insert.ensures.entries c.into_vec.ensures
+    lookup_after (λ key. key.items) _ c.args.spot other _ _ _ c.in_ok-insert.ensures.entries c.in_ok-key.ensures

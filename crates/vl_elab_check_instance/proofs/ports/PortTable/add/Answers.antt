@@ -14,4 +14,4 @@ returns c other =
     direction_put (direction_in c.args.self.now) c.args.name other c.args.direction _
     (said c.args.self.now c.bytes.result.now c.args.name c.is_some.result _ c.get.result c.is_some.ensures
     c.if-is_some.false c.get.ensures.value c.bytes.ensures)
-    (lookup_after (λ key. key.items) _ c.args.direction other _ _ _ c.in_ok-insert.ensures.entries c.into_vec.ensures)
+    (lookup_after (λ key. key.items) _ c.args.direction other _ _ _ c.in_ok-insert.ensures.entries c.in_ok-key.ensures)

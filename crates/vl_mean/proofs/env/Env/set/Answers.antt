@@ -5,4 +5,4 @@ use Rattle.vl_mean.proofs.env.Env.set.Goals as goal
 pub returns-clause-ok : goal.returns-clause-ok
 returns-clause-ok c other =
     number_after (λ key. key.items) _ c.args.value other _ _ _ c.in_ok-insert.ensures.entries
-    (c.into_vec.ensures ∙ c.in_ok-key.ensures)
+    (c.in_ok-key.ensures.items ∙ c.bytes.ensures)

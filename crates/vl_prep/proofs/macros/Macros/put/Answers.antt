@@ -5,4 +5,4 @@ use Rattle.vl_prep.proofs.macros.Macros.put.Goals as goal
 pub returns-clause-ok : goal.returns-clause-ok
 returns-clause-ok c other =
     held_after (λ key. key.items) _ c.args.text other _ _ _
-    (λ text. arc_value text) c.in_ok-insert.ensures.entries c.into_vec.ensures
+    (λ text. arc_value text) c.in_ok-insert.ensures.entries c.in_ok-key.ensures

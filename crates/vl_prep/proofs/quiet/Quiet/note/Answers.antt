@@ -10,5 +10,5 @@ returns-clause-ok c =
       same = λ other n e l. c.keep.ensures.same other n
           (seen_before c.keep.new.self _ other c.args.levels n _ _ _
           (lookup_after (λ key. key.items) _ _ other _ _ _ c.in_ok-insert.ensures.entries
-          (c.into_vec.ensures ∙ c.in_ok-name.ensures)) c.seen.ensures c.with_level-seen.ensures e l);
+          (c.in_ok-key.ensures.items ∙ c.bytes.ensures)) c.seen.ensures c.with_level-seen.ensures e l);
     }
